@@ -1,0 +1,5 @@
+pub mod Tokens
+pub mod Tree
+pub mod View
+pub mod Values
+pub mod Lines
