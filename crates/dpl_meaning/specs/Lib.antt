@@ -1,0 +1,9 @@
+pub mod Outcome
+pub mod Meaning
+pub mod Names
+pub mod Program
+pub mod Slots
+pub mod Renamed
+pub mod Scopes
+pub mod Agreement
+pub mod Resolved

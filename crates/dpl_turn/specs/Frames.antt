@@ -1,0 +1,23 @@
+-- What contracts see of a frame, and how a turn ends.
+-- A turn prints nothing: its run begins and ends with no output.
+use Rattle.std.specs.Prelude.{◌≡◌, ℕ, List, [], Result, Ok, Err}
+use Rattle.dpl_syntax.specs.declared.value.Value.{Value}
+use Rattle.dpl_syntax.specs.declared.fault.Fault.{Fault}
+use Rattle.dpl_syntax.specs.Tree.{StmtTree, Assigned}
+use Rattle.dpl_meaning.specs.Outcome.{Outcome, Done, Stop}
+
+-- the values of the slots, the budget of a loop and the number of locales
+pub record Slots : Type 0 where
+  pub values : List Value
+  pub budget : ℕ
+  pub locales : ℕ
+
+-- a forall's body is an assignment
+abbrev pub IsTurnBody : {N : Type 0} → StmtTree N → Type 0
+IsTurnBody (Assigned x at op e semicolon) = Unit {0}
+IsTurnBody _ = ⊥
+
+-- a turn's answer, and the values that it leaves, are how a run without output ends
+abbrev pub TurnEnds : Result (Unit {0}) Fault → List Value → Outcome (List Value) → Type 0
+TurnEnds (Ok v) values o = o ≡ Done values []
+TurnEnds (Err f) values o = o ≡ Stop f []

@@ -1,0 +1,37 @@
+// A turn of a forall's body.
+// It changes the slots of the frame alone, and prints nothing.
+
+ghost use Rattle.std.specs.Prelude.{◌≡◌, []};
+ghost use Rattle.dpl_meaning.specs.Meaning.{exec};
+ghost use Rattle.dpl_meaning.specs.Slots.{by_slot};
+ghost use Rattle.dpl_syntax.specs.View.{bound, stmt_view};
+ghost use Rattle.dpl_turn.specs.Frames.{IsTurnBody, TurnEnds};
+
+use crate::frame::Frame;
+use crate::expression::value;
+use dpl_syntax::Fault;
+use dpl_syntax::tree::Stmt;
+
+/// Runs a forall's body once, at the values of a frame, the loop's variable among them.
+///
+/// A reduce variable is a slot like any other: what the body gives to it is folded into what the slot holds.
+/// A body is an assignment, which is a condition.
+///
+/// # Errors
+/// The fault of the body; the frame is then as it was.
+pub fn turn(body: &Stmt, frame: &mut Frame) -> Result<(), Fault>
+    requires { IsTurnBody (stmt_view bound body.now) }
+    ensures ends { TurnEnds result frame.new.values (exec by_slot (stmt_view bound body.now) frame.old.budget frame.old.values []) }
+    ensures budget { frame.new.budget ≡ frame.old.budget }
+    ensures locales { frame.new.locales ≡ frame.old.locales }
+{
+    match body {
+        Stmt::Assign { name, op, value: right, .. } => {
+            let v = value(right, frame)?;
+            let old = frame.get(name.slot);
+            frame.set(name.slot, op.apply(old, v));
+            Ok(())
+        }
+        _ => unreachable!(),
+    }
+}
