@@ -1,7 +1,7 @@
 -- Lists read by places: a list that keeps each n-th element, a list in reverse, and a length that places tell.
-use Rattle.std.proofs.Common.{◌≡◌, ℕ, zero, suc, ◌+◌, ◌-◌, ◌*◌, ◌<◌, ◌≤◌, List, [], ◌∷◌, length, reverse, get_or, refl, ap, sym, ◌∙◌, arith, Option, Some, None, ℤ, inl, inr, slice_get, ⊎_elim}
-use Rattle.std.proofs.lemmas.Option.{slice_get-get_or, slice_get_past, slice_get_within, slice_get_cases, none-some}
-use Rattle.std.proofs.lemmas.List.{get_or-reverse, length-reverse}
+use Rattle.std.proofs.Common.{◌≡◌, ℕ, zero, suc, ◌+◌, ◌-◌, ◌*◌, ◌<◌, List, [], ◌∷◌, length, reverse, get_or, refl, ap, sym, ◌∙◌, arith, Some, None, ℤ, slice_get, take, drop, ◌++◌}
+use Rattle.std.proofs.lemmas.Option.{slice_get-get_or, slice_get_within, get_or_from_slice_get}
+use Rattle.std.proofs.lemmas.List.{get_or-reverse, length-reverse, drop_more, take_more}
 use Rattle.std.proofs.Math.Nat.{suc-mul}
 use Rattle.dpl_range.specs.Members.{spaced}
 
@@ -21,9 +21,9 @@ pub slice_get-reverse : (is : List ℤ) (k : ℕ) → k < length is → slice_ge
 slice_get-reverse [] k within = absurd (omega arith)
 slice_get-reverse (i ∷ is) k within =
     let a : slice_get (reverse (i ∷ is)) k ≡ Some (get_or (reverse (i ∷ is)) k i) =
-        slice_get-get_or (reverse (i ∷ is)) k i (omega (arith, length-reverse (i ∷ is))) in
+    slice_get-get_or (reverse (i ∷ is)) k i (omega (arith, length-reverse (i ∷ is))) in
     let b : slice_get (i ∷ is) (length (i ∷ is) - 1 - k) ≡ Some (get_or (i ∷ is) (length (i ∷ is) - 1 - k) i) =
-        slice_get-get_or (i ∷ is) (length (i ∷ is) - 1 - k) i (omega arith) in
+    slice_get-get_or (i ∷ is) (length (i ∷ is) - 1 - k) i (omega arith) in
     a ∙ ap Some (get_or-reverse (i ∷ is) k i within) ∙ sym b
 
 -- a list is as long as its first place with no element
@@ -33,3 +33,12 @@ length-by_places [] (suc n) within past = absurd (within 0 (omega arith) refl)
 length-by_places (i ∷ is) zero within past = cc
 length-by_places (i ∷ is) (suc n) within past =
     ap suc (length-by_places is n (λ k below none. within (suc k) (omega arith) none) past)
+
+-- a walk by places takes the list's elements one by one
+pub drop-slice_get : {X : Type 0} (xs : List X) (k : ℕ) (x : X) → slice_get xs k ≡ Some x → drop k xs ≡ x ∷ drop (k + 1) xs
+drop-slice_get xs k x found =
+    drop_more xs k x (slice_get_within xs k x found) ∙ ap (λ y. y ∷ drop (k + 1) xs) (get_or_from_slice_get xs k x x found)
+
+pub take-slice_get : {X : Type 0} (xs : List X) (k : ℕ) (x : X) → slice_get xs k ≡ Some x → take (k + 1) xs ≡ take k xs ++ x ∷ []
+take-slice_get xs k x found =
+    take_more xs k x (slice_get_within xs k x found) ∙ ap (λ y. take k xs ++ y ∷ []) (get_or_from_slice_get xs k x x found)

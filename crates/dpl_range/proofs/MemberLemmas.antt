@@ -1,12 +1,12 @@
 -- The closed form of a range's members: how many there are, and which one stands at a place.
 -- `span` is how far the high bound lies above the low one, and `n` the size of the stride.
-use Rattle.std.proofs.Common.{◌≡◌, ℕ, zero, suc, ◌+◌, ◌-◌, ◌*◌, ◌/◌, ◌<◌, ◌≤◌, List, [], ◌∷◌, length, reverse, get_or, refl, ap, sym, ◌∙◌, arith, Option, Some, None, ℤ, pos, negsuc, ◌+ℤ◌, ◌-ℤ◌, ◌<ℤ◌, ◌≤ℤ◌, inl, inr, slice_get, ⊎_elim, ◌↔◌, ◌⊎◌, ◌%◌, ◌^◌, Fits, w64, unsigned_abs}
-use Rattle.std.proofs.lemmas.Option.{slice_get-get_or, slice_get_past, slice_get_within, slice_get_cases, none-some, same_Some}
+use Rattle.std.proofs.Common.{◌≡◌, ℕ, zero, suc, ◌+◌, ◌-◌, ◌*◌, ◌/◌, ◌<◌, ◌≤◌, List, [], length, reverse, get_or, refl, ap, sym, ◌∙◌, arith, Some, None, ℤ, pos, negsuc, ◌+ℤ◌, ◌-ℤ◌, ◌<ℤ◌, ◌≤ℤ◌, slice_get, ⊎_elim, ◌↔◌, ◌⊎◌, ◌%◌, ◌^◌, Fits, w64, All, unsigned_abs}
+use Rattle.std.proofs.lemmas.Option.{slice_get-get_or, slice_get_past, none-some, same_Some}
 use Rattle.std.proofs.lemmas.Int.{ints, by_lt_z}
 use Rattle.std.proofs.lemmas.List.{length-reverse}
-use Rattle.std.proofs.Math.Nat.{le-div_iff_mul-le, div-lt_iff_lt-mul, div-add-mod, mul-div_cancel, mul-mod_left}
+use Rattle.std.proofs.Math.Nat.{le-div_iff_mul-le, div-lt_iff_lt-mul, div-add-mod, mul-div_cancel, mul-mod_left, div-le_self}
 use Rattle.std.proofs.lemmas.Bool.{cases_lt}
-use Rattle.dpl_range.specs.Members.{members, between, rising, every, spaced, count_of}
+use Rattle.dpl_range.specs.Members.{members, between, rising, spaced, count_of}
 use Rattle.dpl_range.specs.Range.{RangeValue, members_of, IsRange}
 use Rattle.dpl_range.specs.Walk.{walked}
 use Rattle.dpl_range.proofs.Lists.{slice_get-spaced, slice_get-reverse, length-by_places}
@@ -92,16 +92,16 @@ members-past low high stride span (suc n) k e size positive past =
 pub length-members : (low high stride : ℤ) (span n : ℕ) → low +ℤ pos span ≡ high → unsigned_abs stride ≡ n → 0 < n → length (members low high stride) ≡ span / n + 1
 length-members low high stride span n e size positive =
     length-by_places (members low high stride) (span / n + 1)
-      (λ k below none. none-some (walked low high stride (k * n)) (sym none ∙ slice_get-members low high stride span n k e size positive ((le-div_iff_mul-le positive).0 (omega arith))))
-      (members-past low high stride span n (span / n + 1) e size positive ((div-lt_iff_lt-mul positive).0 (omega arith)))
+    (λ k below none. none-some (walked low high stride (k * n)) (sym none ∙ slice_get-members low high stride span n k e size positive ((le-div_iff_mul-le positive).0 (omega arith))))
+    (members-past low high stride span n (span / n + 1) e size positive ((div-lt_iff_lt-mul positive).0 (omega arith)))
 
 -- where a member stands
 pub member-walked : (low high stride : ℤ) (span n k : ℕ) (i : ℤ) → low +ℤ pos span ≡ high → unsigned_abs stride ≡ n → 0 < n → slice_get (members low high stride) k ≡ Some i → (k * n ≤ span) × (i ≡ walked low high stride (k * n))
 member-walked low high stride span n k i e size positive found =
     ⊎_elim
-      (λ past. absurd (none-some i (sym (members-past low high stride span n k e size positive past) ∙ found)))
-      (λ within. (within, same_Some i (walked low high stride (k * n)) (sym found ∙ slice_get-members low high stride span n k e size positive within)))
-      (cases_lt span (k * n))
+    (λ past. absurd (none-some i (sym (members-past low high stride span n k e size positive past) ∙ found)))
+    (λ within. (within, same_Some i (walked low high stride (k * n)) (sym found ∙ slice_get-members low high stride span n k e size positive within)))
+    (cases_lt span (k * n))
 
 -- a range with its high bound below its low one has no members
 pub members-empty : (low high stride : ℤ) → high <ℤ low → members low high stride ≡ []
@@ -128,9 +128,9 @@ walked-injective low high (negsuc s) a b e = omega (arith, ints)
 pub member-within : (low high stride : ℤ) (k : ℕ) (i : ℤ) → 0 < unsigned_abs stride → slice_get (members low high stride) k ≡ Some i → (low ≤ℤ i) × (i ≤ℤ high)
 member-within low high stride k i positive found =
     by_lt_z high low
-      (λ below. absurd (none-some i (ap (λ is. slice_get is k) (sym (members-empty low high stride below)) ∙ found)))
-      (λ ordered. let d = span_of low high ordered in
-        walked-within low high stride d.0 (k * unsigned_abs stride) i d.1 (member-walked low high stride d.0 (unsigned_abs stride) k i d.1 refl positive found))
+    (λ below. absurd (none-some i (ap (λ is. slice_get is k) (sym (members-empty low high stride below)) ∙ found)))
+    (λ ordered. let d = span_of low high ordered in
+    walked-within low high stride d.0 (k * unsigned_abs stride) i d.1 (member-walked low high stride d.0 (unsigned_abs stride) k i d.1 refl positive found))
   where
     walked-within : (low high stride : ℤ) (span offset : ℕ) (i : ℤ) → low +ℤ pos span ≡ high → (offset ≤ span) × (i ≡ walked low high stride offset) → (low ≤ℤ i) × (i ≤ℤ high)
     walked-within low high (pos s) span offset i e h = (omega (arith, ints), omega (arith, ints))
@@ -140,11 +140,11 @@ member-within low high stride k i positive found =
 pub walk-within : (r : RangeValue) (k : ℕ) → IsRange r → k < length (members_of r) → (r.low +ℤ pos (k * unsigned_abs r.stride)) ≤ℤ r.high
 walk-within r k limits within =
     by_lt_z r.high r.low
-      (λ below. absurd (omega (arith, ap length (members-empty r.low r.high r.stride below))))
-      (λ ordered. let d = span_of r.low r.high ordered in
-        let near : k * unsigned_abs r.stride ≤ d.0 =
-          (le-div_iff_mul-le limits.stride_is_not_zero).0 (omega (arith, length-members r.low r.high r.stride d.0 (unsigned_abs r.stride) d.1 refl limits.stride_is_not_zero)) in
-        omega (arith, ints))
+    (λ below. absurd (omega (arith, ap length (members-empty r.low r.high r.stride below))))
+    (λ ordered. let d = span_of r.low r.high ordered in
+    let near : k * unsigned_abs r.stride ≤ d.0 =
+    (le-div_iff_mul-le limits.stride_is_not_zero).0 (omega (arith, length-members r.low r.high r.stride d.0 (unsigned_abs r.stride) d.1 refl limits.stride_is_not_zero)) in
+    omega (arith, ints))
 
 -- and so its offset is short
 pub walk-short : (r : RangeValue) (n k : ℕ) → IsRange r → unsigned_abs r.stride ≡ n → k < length (members_of r) → Fits w64 (k * n)
@@ -162,27 +162,57 @@ nth-walked r k limits within =
 -- where a walk is at i, i's place is the number of strides up to there, if they are whole
 pub place-walked : (r : RangeValue) (offset k : ℕ) (i : ℤ) → IsRange r → (r.low +ℤ pos offset) ≤ℤ r.high → i ≡ walked r.low r.high r.stride offset → (slice_get (members_of r) k ≡ Some i) ↔ (offset ≡ k * unsigned_abs r.stride)
 place-walked r offset k i limits within at =
-    let d = span_of r.low r.high (omega (arith, ints)) in
-    ((λ found. walked-injective r.low r.high r.stride offset (k * unsigned_abs r.stride) (sym at ∙ (member-walked r.low r.high r.stride d.0 (unsigned_abs r.stride) k i d.1 refl limits.stride_is_not_zero found).1))
-    , (λ whole. slice_get-members r.low r.high r.stride d.0 (unsigned_abs r.stride) k d.1 refl limits.stride_is_not_zero (omega (arith, ints)) ∙ ap Some (ap (walked r.low r.high r.stride) (sym whole) ∙ sym at)))
+    let d = span_of r.low r.high (omega (arith, ints)) in (
+      (λ found. walked-injective r.low r.high r.stride offset (k * unsigned_abs r.stride) (sym at ∙ (member-walked r.low r.high r.stride d.0 (unsigned_abs r.stride) k i d.1 refl limits.stride_is_not_zero found).1)),
+      (λ whole. slice_get-members r.low r.high r.stride d.0 (unsigned_abs r.stride) k d.1 refl limits.stride_is_not_zero (omega (arith, ints)) ∙ ap Some (ap (walked r.low r.high r.stride) (sym whole) ∙ sym at)),
+    )
 
 -- which is the quotient, where the stride divides the offset
 pub place-whole : (r : RangeValue) (n offset : ℕ) (i : ℤ) → IsRange r → unsigned_abs r.stride ≡ n → (r.low +ℤ pos offset) ≤ℤ r.high → i ≡ walked r.low r.high r.stride offset → offset % n ≡ 0 → (k : ℕ) → (Some (offset / n) ≡ Some k) ↔ (slice_get (members_of r) k ≡ Some i)
 place-whole r n offset i limits size within at whole k =
     let positive : 0 < n = rw size at limits.stride_is_not_zero in
-    let exact : offset ≡ offset / n * n = omega (arith, div-add-mod offset n) in
-    ((λ here. (place-walked r offset k i limits within at).1 (exact ∙ ap (λ m. m * n) (same_Some (offset / n) k here) ∙ ap (λ m. k * m) (sym size)))
-    , (λ found. ap Some (ap (λ m. m / n) ((place-walked r offset k i limits within at).0 found ∙ ap (λ m. k * m) size) ∙ mul-div_cancel k positive)))
+    let exact : offset ≡ offset / n * n = omega (arith, div-add-mod offset n) in (
+      (λ here. (place-walked r offset k i limits within at).1 (exact ∙ ap (λ m. m * n) (same_Some (offset / n) k here) ∙ ap (λ m. k * m) (sym size))),
+      (λ found. ap Some (ap (λ m. m / n) ((place-walked r offset k i limits within at).0 found ∙ ap (λ m. k * m) size) ∙ mul-div_cancel k positive)),
+    )
 
 -- and there is no such place where it does not
 pub place-broken : (r : RangeValue) (n offset : ℕ) (i : ℤ) → IsRange r → unsigned_abs r.stride ≡ n → (r.low +ℤ pos offset) ≤ℤ r.high → i ≡ walked r.low r.high r.stride offset → (offset % n ≡ 0 → ⊥) → (k : ℕ) → (None ≡ Some k) ↔ (slice_get (members_of r) k ≡ Some i)
-place-broken r n offset i limits size within at broken k =
-    ((λ here. absurd (none-some k here))
-    , (λ found. absurd (broken (ap (λ m. m % n) ((place-walked r offset k i limits within at).0 found ∙ ap (λ m. k * m) size) ∙ mul-mod_left k n))))
+place-broken r n offset i limits size within at broken k = (
+  (λ here. absurd (none-some k here)),
+  (λ found. absurd (broken (ap (λ m. m % n) ((place-walked r offset k i limits within at).0 found ∙ ap (λ m. k * m) size) ∙ mul-mod_left k n))),
+)
 
 -- an integer outside the bounds has no place
 pub place-outside : (r : RangeValue) (i : ℤ) → IsRange r → (i <ℤ r.low) ⊎ (r.high <ℤ i) → (k : ℕ) → (None ≡ Some k) ↔ (slice_get (members_of r) k ≡ Some i)
-place-outside r i limits outside k =
-    ((λ here. absurd (none-some k here))
-    , (λ found. let h = member-within r.low r.high r.stride k i limits.stride_is_not_zero found in
-        ⊎_elim (λ below. absurd (omega (arith, ints))) (λ above. absurd (omega (arith, ints))) outside))
+place-outside r i limits outside k = (
+  (λ here. absurd (none-some k here)),
+  (λ found. let h = member-within r.low r.high r.stride k i limits.stride_is_not_zero found in
+      ⊎_elim (λ below. absurd (omega (arith, ints))) (λ above. absurd (omega (arith, ints))) outside),
+)
+
+-- no integer is a member twice
+pub members-distinct : (r : RangeValue) (j k : ℕ) (i : ℤ) → IsRange r → slice_get (members_of r) j ≡ Some i → slice_get (members_of r) k ≡ Some i → j ≡ k
+members-distinct r j k i limits here there =
+    let within = member-within r.low r.high r.stride j i limits.stride_is_not_zero here in
+    let d = span_of r.low r.high (omega (arith, ints)) in
+    let a = (member-walked r.low r.high r.stride d.0 (unsigned_abs r.stride) j i d.1 refl limits.stride_is_not_zero here).1 in
+    let b = (member-walked r.low r.high r.stride d.0 (unsigned_abs r.stride) k i d.1 refl limits.stride_is_not_zero there).1 in
+    mul_cancel j k (unsigned_abs r.stride) limits.stride_is_not_zero (walked-injective r.low r.high r.stride (j * unsigned_abs r.stride) (k * unsigned_abs r.stride) (sym a ∙ b))
+  where
+    mul_cancel : (j k n : ℕ) → 0 < n → j * n ≡ k * n → j ≡ k
+    mul_cancel j k n positive e = sym (mul-div_cancel j positive) ∙ ap (λ m. m / n) e ∙ mul-div_cancel k positive
+
+-- every member lies between the bounds
+pub members-within : (r : RangeValue) → IsRange r → All (λ i. (r.low ≤ℤ i) × (i ≤ℤ r.high)) (members_of r)
+members-within r limits = λ k d within.
+    member-within r.low r.high r.stride k (get_or (members_of r) k d) limits.stride_is_not_zero (slice_get-get_or (members_of r) k d within)
+
+-- and there are no more than from -2^60 to 2^60
+pub length-members_limit : (r : RangeValue) → IsRange r → length (members_of r) ≤ 2 ^ 61 + 1
+length-members_limit r limits =
+    by_lt_z r.high r.low
+    (λ below. omega (arith, ap length (members-empty r.low r.high r.stride below)))
+    (λ ordered. let d = span_of r.low r.high ordered in
+    let long = length-members r.low r.high r.stride d.0 (unsigned_abs r.stride) d.1 refl limits.stride_is_not_zero in
+    omega (arith, ints, div-le_self d.0 (unsigned_abs r.stride), limits.low_is_bound, limits.high_is_bound))

@@ -1,5 +1,5 @@
 -- What a contract sees of a range, and the limits of the language's ranges.
-use Rattle.std.specs.Prelude.{◌≡◌, ℕ, ◌^◌, ◌<◌, ◌≤◌, List, ℤ, pos, negsuc, neg_ℤ, ◌≤ℤ◌, unsigned_abs, Option, Some, None}
+use Rattle.std.specs.Prelude.{◌^◌, ◌<◌, ◌≤◌, List, ℤ, pos, neg_ℤ, ◌≤ℤ◌, unsigned_abs}
 use Rattle.dpl_range.specs.Members.{members}
 
 -- a range value: its two bounds and its stride

@@ -1,7 +1,6 @@
 -- The member at a place stands a whole number of strides along the walk.
-use Rattle.std.proofs.Common.{◌≡◌, ℕ, ℤ, pos, ◌+ℤ◌, ◌≤ℤ◌, ◌<◌, ◌≤◌, ◌*◌, ◌^◌, length, ap, sym, ◌∙◌, arith, unsigned_abs, Some, slice_get, Fits, w64, rules, FitsSigned as SFits}
+use Rattle.std.proofs.Common.{◌≡◌, pos, ◌*◌, ap, sym, ◌∙◌, arith, unsigned_abs, Some, w64, rules, FitsSigned as SFits}
 use Rattle.std.proofs.lemmas.Int.{ints, to_z-of_z}
-use Rattle.dpl_range.specs.Range.{members_of, IsRange}
 use Rattle.dpl_range.specs.Walk.{walked}
 use Rattle.dpl_range.proofs.MemberLemmas.{walk-within, walk-short, nth-walked}
 use Rattle.dpl_range.proofs.Range.nth.Goals as goal
@@ -10,12 +9,12 @@ use Rattle.dpl_range.proofs.Range.nth.Goals.{then-self-eq1, else-self-eq1, Joine
 -- the offset is the stride k times, also where the stride is 1 and the code leaves the product out
 offset-is : (c : Joined-self-eq1) → c.if-self-eq1.offset ≡ c.args.k * unsigned_abs c.args.self.now.stride
 offset-is c = elim c.if-self-eq1.branch [
-    then-self-eq1 w ↦
+  | then-self-eq1 w ↦
       let one : c.self.inside.stride ≡ pos 1 = omega (arith, ints) in
       let size : unsigned_abs c.args.self.now.stride ≡ 1 = rw (← c.self.view_is) (ap unsigned_abs one) in
       rw (w.offset-is, size) (omega arith)
   | else-self-eq1 w ↦ rw (w.offset-is, w.step.ensures.size)
-  ]
+]
 
 pub overflow_mul-offset : goal.overflow_mul-offset
 overflow_mul-offset c =
@@ -29,5 +28,5 @@ pub returns : goal.returns
 returns c =
     let fits : SFits w64 c.walked.result = search rules in
     let at : c.walked.result ≡ walked c.args.self.now.low c.args.self.now.high c.args.self.now.stride (c.args.k * unsigned_abs c.args.self.now.stride) =
-      c.walked.ensures ∙ ap (walked c.args.self.now.low c.args.self.now.high c.args.self.now.stride) (offset-is (goal.at.returns c).Joined-self-eq1) in
+    c.walked.ensures ∙ ap (walked c.args.self.now.low c.args.self.now.high c.args.self.now.stride) (offset-is (goal.at.returns c).Joined-self-eq1) in
     ap Some (to_z-of_z w64 c.walked.result fits ∙ at) ∙ sym (nth-walked c.args.self.now c.args.k c.size.ensures.limits (omega arith))

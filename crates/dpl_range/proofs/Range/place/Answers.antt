@@ -1,7 +1,7 @@
 -- A place is the number of strides up to it.
-use Rattle.std.proofs.Common.{◌≡◌, ℕ, ℤ, pos, ◌<ℤ◌, ◌%◌, ◌/◌, ap, sym, ◌∙◌, arith, unsigned_abs, ◌⊎◌, inl, inr, Some}
+use Rattle.std.proofs.Common.{◌≡◌, pos, ◌<ℤ◌, ◌/◌, ap, arith, unsigned_abs, ◌⊎◌, inl, inr}
 use Rattle.std.proofs.lemmas.Int.{ints}
-use Rattle.dpl_range.specs.Range.{members_of, IsRange}
+use Rattle.dpl_range.specs.Range.{IsRange}
 use Rattle.dpl_range.specs.Walk.{walked}
 use Rattle.dpl_range.proofs.MemberLemmas.{place-whole, place-broken, place-outside}
 use Rattle.dpl_range.proofs.Range.place.Goals as goal
@@ -11,10 +11,10 @@ pub returns-then-i-self : goal.returns-then-i-self
 returns-then-i-self c =
     let limits : IsRange c.args.self.now = rw (← c.self.view_is) c.self.invariant in
     let outside : (c.args.i <ℤ c.args.self.now.low) ⊎ (c.args.self.now.high <ℤ c.args.i) =
-      rw (← c.self.view_is) (elim c.then-i-self.branch [
-          then-i-self-via-then-i-self w ↦ inl (omega (arith, ints))
-        | then-i-self-via-else-i-self+then-self-i w ↦ inr (omega (arith, ints))
-        ]) in
+    rw (← c.self.view_is) (elim c.then-i-self.branch [
+      | then-i-self-via-then-i-self w ↦ inl (omega (arith, ints))
+      | then-i-self-via-else-i-self+then-self-i w ↦ inr (omega (arith, ints))
+    ]) in
     place-outside c.args.self.now c.args.i limits outside
 
 pub returns-then-self-eq1 : goal.returns-then-self-eq1
