@@ -2,7 +2,7 @@
 // Every call is of constant cost: none walks the list, and none takes memory.
 #![tactic(auto)]
 
-ghost use Rattle.std.specs.Prelude.{◌≡◌, ◌↔◌, ◌⊎◌, ◌≤◌, ◌<◌, ◌^◌, ℕ, ℤ, pos, ◌+ℤ◌, ◌-ℤ◌, ◌<ℤ◌, ◌≤ℤ◌, length, slice_get, IsTrue, IsOk, IfOk, IfSome, IfNone, MatchOption, unsigned_abs};
+ghost use Rattle.std.specs.Prelude.{◌≡◌, ◌↔◌, ◌⊎◌, ◌≤◌, ◌<◌, ◌^◌, ℕ, ℤ, pos, ◌+ℤ◌, ◌-ℤ◌, ◌-◌, [], All, Contains, IsNone, ◌<ℤ◌, ◌≤ℤ◌, length, slice_get, IsTrue, IsOk, IfOk, IfSome, IfNone, MatchOption, unsigned_abs};
 ghost use Rattle.dpl_range.specs.Range.{members_of, IsBound, IsStride, IsRange};
 ghost use Rattle.dpl_range.specs.Walk.{walked};
 
@@ -103,6 +103,53 @@ impl Range {
             Some(offset / step)
         } else {
             None
+        }
+    }
+
+    /// Whether `i` is a member.
+    pub fn contains(&self, i: i64) -> bool
+        ensures { IsTrue result ↔ Contains (members_of self.now) i }
+    {
+        self.place(i).is_some()
+    }
+
+    /// The member that the list begins with, if there is one.
+    pub fn first(&self) -> Option<i64>
+        ensures { result ≡ slice_get (members_of self.now) 0 }
+    {
+        self.nth(0)
+    }
+
+    /// The member that the list ends with, if there is one.
+    pub fn last(&self) -> Option<i64>
+        ensures { result ≡ slice_get (members_of self.now) (length (members_of self.now) - 1) }
+    {
+        self.nth(self.size().saturating_sub(1))
+    }
+
+    /// The smallest member, if there is one. A stride may keep the low bound from being a member.
+    pub fn low(&self) -> Option<i64>
+        ensures empty { IsNone result ↔ (members_of self.now ≡ []) }
+        ensures member { IfSome result (Contains (members_of self.now)) }
+        ensures least { IfSome result (λ i. All (λ j. i ≤ℤ j) (members_of self.now)) }
+    {
+        if self.stride > 0 {
+            self.first()
+        } else {
+            self.last()
+        }
+    }
+
+    /// The greatest member, if there is one. A stride may keep the high bound from being a member.
+    pub fn high(&self) -> Option<i64>
+        ensures empty { IsNone result ↔ (members_of self.now ≡ []) }
+        ensures member { IfSome result (Contains (members_of self.now)) }
+        ensures greatest { IfSome result (λ i. All (λ j. j ≤ℤ i) (members_of self.now)) }
+    {
+        if self.stride > 0 {
+            self.last()
+        } else {
+            self.first()
         }
     }
 
