@@ -1,0 +1,4 @@
+pub mod Lists
+pub mod MemberLemmas
+mod Worked
+pub mod Ends

@@ -1,0 +1,206 @@
+// The ranges of the language: a low bound, a high bound and a stride, which stand for a list of integers.
+// Every call is of constant cost: none walks the list, and none takes memory.
+#![tactic(auto)]
+
+ghost use Rattle.std.specs.Prelude.{◌≡◌, ◌↔◌, ◌⊎◌, ◌≤◌, ◌<◌, ◌^◌, ℕ, ℤ, pos, ◌+ℤ◌, ◌-ℤ◌, ◌-◌, [], All, Contains, IsNone, ◌<ℤ◌, ◌≤ℤ◌, length, slice_get, IsTrue, IsOk, IfOk, IfSome, IfNone, MatchOption, unsigned_abs};
+ghost use Rattle.dpl_range.specs.Range.{members_of, IsBound, IsStride, IsRange};
+ghost use Rattle.dpl_range.specs.Walk.{walked};
+
+use std::marker::Model;
+use thiserror::Error;
+
+/// The greatest size of a bound, and of a stride that is handed in: 2^60.
+pub const LIMIT: i64 = 1 << 60;
+
+/// Why three numbers are no range.
+#[derive(Clone, Copy, Debug, PartialEq, Eq, Error)]
+pub enum RangeFault {
+    /// A bound lies outside -2^60..2^60.
+    #[error("a bound is outside -2^60..2^60")]
+    Bound,
+    /// Both bounds lie within -2^60..2^60, and the stride is 0 or past 2^60 in size.
+    #[error("the stride is not from 1 to 2^60 in size")]
+    Stride,
+}
+
+/// A range of integers: those from a low bound to a high bound, of which a stride above 0 keeps every
+/// stride-th from the lowest up, and a stride below 0 from the highest down.
+#[derive(Clone, Copy, Debug, PartialEq, Eq)]
+pub struct Range {
+    low: i64,
+    high: i64,
+    stride: i64,
+}
+
+impl Model for Range {
+    ghost use Rattle.dpl_range.specs.Range.{RangeValue, IsRange};
+
+    ghost Value = { RangeValue };
+
+    ghost view = { λ r. record { low = r.low; high = r.high; stride = r.stride } };
+
+    ghost invariant = { λ r. IsRange (record { low = r.low; high = r.high; stride = r.stride }) };
+
+    ghost inverse = { λ v. record { low = v.low; high = v.high; stride = v.stride } };
+}
+
+impl Range {
+    /// The range with these bounds and this stride, which are kept as they are handed in.
+    pub fn new(low: i64, high: i64, stride: i64) -> Result<Range, RangeFault>
+        ensures ok { IsOk result ↔ (IsBound low × IsBound high × IsStride stride) }
+        ensures held { IfOk result (λ r. r ≡ record { low = low; high = high; stride = stride }) }
+        ensures bound { (result ≡ Err RangeFault.Bound) ↔ (¬ (IsBound low × IsBound high)) }
+        ensures stride { (result ≡ Err RangeFault.Stride) ↔ (IsBound low × IsBound high × ¬ IsStride stride) }
+    {
+        if !is_bound(low) || !is_bound(high) {
+            return Err(RangeFault::Bound);
+        }
+        if stride == 0 || stride < -LIMIT || LIMIT < stride {
+            return Err(RangeFault::Stride);
+        }
+        Ok(Range { low, high, stride })
+    }
+
+    /// How many members the range has.
+    pub fn size(&self) -> u64
+        ensures length { result ≡ length (members_of self.now) }
+        ensures limits { IsRange self.now }
+    {
+        if self.high < self.low {
+            return 0;
+        }
+        if self.stride == 1 {
+            self.span() + 1
+        } else {
+            self.span() / self.step() + 1
+        }
+    }
+
+    /// The member at place `k`, counted from 0, if there are that many.
+    pub fn nth(&self, k: u64) -> Option<i64>
+        ensures { result ≡ slice_get (members_of self.now) k }
+    {
+        if self.size() <= k {
+            return None;
+        }
+        let offset = if self.stride == 1 { k } else { k * self.step() };
+        Some(self.walked(offset))
+    }
+
+    /// The place of the member `i`, counted from 0, if `i` is a member.
+    pub fn place(&self, i: i64) -> Option<u64>
+        ensures { (k : ℕ) → (result ≡ Some k) ↔ (slice_get (members_of self.now) k ≡ Some i) }
+    {
+        if i < self.low || self.high < i {
+            return None;
+        }
+        let offset = self.offset(i);
+        if self.stride == 1 {
+            return Some(offset);
+        }
+        let step = self.step();
+        if offset % step == 0 {
+            Some(offset / step)
+        } else {
+            None
+        }
+    }
+
+    /// Whether `i` is a member.
+    pub fn contains(&self, i: i64) -> bool
+        ensures { IsTrue result ↔ Contains (members_of self.now) i }
+    {
+        self.place(i).is_some()
+    }
+
+    /// The member that the list begins with, if there is one.
+    pub fn first(&self) -> Option<i64>
+        ensures { result ≡ slice_get (members_of self.now) 0 }
+    {
+        self.nth(0)
+    }
+
+    /// The member that the list ends with, if there is one.
+    pub fn last(&self) -> Option<i64>
+        ensures { result ≡ slice_get (members_of self.now) (length (members_of self.now) - 1) }
+    {
+        self.nth(self.size().saturating_sub(1))
+    }
+
+    /// The smallest member, if there is one. A stride may keep the low bound from being a member.
+    pub fn low(&self) -> Option<i64>
+        ensures empty { IsNone result ↔ (members_of self.now ≡ []) }
+        ensures member { IfSome result (Contains (members_of self.now)) }
+        ensures least { IfSome result (λ i. All (λ j. i ≤ℤ j) (members_of self.now)) }
+    {
+        if self.stride > 0 {
+            self.first()
+        } else {
+            self.last()
+        }
+    }
+
+    /// The greatest member, if there is one. A stride may keep the high bound from being a member.
+    pub fn high(&self) -> Option<i64>
+        ensures empty { IsNone result ↔ (members_of self.now ≡ []) }
+        ensures member { IfSome result (Contains (members_of self.now)) }
+        ensures greatest { IfSome result (λ i. All (λ j. j ≤ℤ i) (members_of self.now)) }
+    {
+        if self.stride > 0 {
+            self.last()
+        } else {
+            self.first()
+        }
+    }
+
+    // How far the high bound lies above the low one.
+    fn span(&self) -> u64
+        requires { self.now.low ≤ℤ self.now.high }
+        ensures span { self.now.low +ℤ pos result ≡ self.now.high }
+        ensures limits { IsRange self.now }
+    {
+        (self.high - self.low) as u64
+    }
+
+    // The size of the stride.
+    fn step(&self) -> u64
+        ensures size { unsigned_abs self.now.stride ≡ result }
+        ensures positive { 0 < result }
+        ensures short { result ≤ 2 ^ 61 }
+    {
+        self.stride.unsigned_abs()
+    }
+
+    // The integer that stands `offset` after the first one of a walk from bound to bound.
+    fn walked(&self, offset: u64) -> i64
+        requires { (self.now.low +ℤ pos offset) ≤ℤ self.now.high }
+        ensures { result ≡ walked self.now.low self.now.high self.now.stride offset }
+    {
+        if self.stride > 0 {
+            self.low + offset as i64
+        } else {
+            self.high - offset as i64
+        }
+    }
+
+    // How far `i` stands after the first integer of a walk from bound to bound.
+    fn offset(&self, i: i64) -> u64
+        requires low { self.now.low ≤ℤ i }
+        requires high { i ≤ℤ self.now.high }
+        ensures walked { i ≡ walked self.now.low self.now.high self.now.stride result }
+        ensures within { (self.now.low +ℤ pos result) ≤ℤ self.now.high }
+    {
+        if self.stride > 0 {
+            (i - self.low) as u64
+        } else {
+            (self.high - i) as u64
+        }
+    }
+}
+
+/// Whether `i` may be a bound of a range.
+fn is_bound(i: i64) -> bool
+    ensures { IsTrue result ↔ IsBound i }
+{
+    -LIMIT <= i && i <= LIMIT
+}
