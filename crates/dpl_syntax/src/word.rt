@@ -1,9 +1,15 @@
 // The text of a name.
 // Contracts see it as the list of its bytes.
 
-ghost use Rattle.std.specs.Prelude.{◌≡◌, ℕ, List, IfOk};
+ghost use Rattle.std.specs.Prelude.{◌≡◌, ℕ, List, IfOk, bytes_eq};
+ghost use Rattle.std.proofs.Common.{rules};
+ghost use Rattle.std.specs.Hash as fed;
+ghost use Rattle.std.specs.Cmp.{partial_equiv_from_equiv};
+ghost use Rattle.std.specs.Cmp.Lexicographic.{nat_list_eq_equiv};
+ghost use Rattle.std.specs.Cmp.Rules.{hashing};
 
 use std::alloc::{AllocError, Global};
+use std::hash::{Hash, Hasher};
 use std::marker::Model;
 
 /// The bytes of a name, as they stand in the text.
@@ -37,14 +43,38 @@ impl Word {
     {
         self.bytes.as_slice()
     }
+}
 
-    /// The same word once more.
-    ///
-    /// # Errors
-    /// No memory for it.
-    pub fn copy(&self, alloc: Global) -> Result<Word, AllocError>
-        ensures { IfOk result (λ word. word ≡ self.now) }
-    {
-        Word::from_bytes(alloc, self.as_bytes())
+impl Clone for Word {
+    ghost is_clone = { λ word copy. copy ≡ word };
+
+    fn clone(&self) -> Result<Word, AllocError> {
+        Ok(Word {
+            bytes: self.bytes.clone()?,
+        })
+    }
+}
+
+impl PartialEq for Word {
+    ghost eq = { bytes_eq };
+
+    ghost laws = { partial_equiv_from_equiv nat_list_eq_equiv };
+
+    fn eq(&self, other: &Word) -> bool {
+        self.as_bytes() == other.as_bytes()
+    }
+}
+
+impl Eq for Word {
+    ghost laws = { nat_list_eq_equiv };
+}
+
+impl Hash for Word {
+    ghost hash_input = { λ word. fed.slice (λ byte. fed.u8 byte) word };
+
+    ghost respects_eq = { Prim.search (hashing, rules) };
+
+    fn hash<H: Hasher>(&self, state: &mut H) {
+        self.as_bytes().hash(state);
     }
 }

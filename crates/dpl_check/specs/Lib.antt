@@ -1,0 +1,5 @@
+pub mod Sights
+pub mod Breaches
+pub mod Sound
+pub mod Slots
+pub mod Around

@@ -1,0 +1,39 @@
+// A breach of a rule on names, and the first of several.
+// Of two at one place the one with the lower code is first.
+
+ghost use Rattle.std.specs.Prelude.{◌≡◌};
+ghost use Rattle.dpl_check.specs.Breaches.{place_before, rank as rank_of};
+
+use dpl_syntax::{Code, Place};
+
+/// Which rule a program breaks, and where.
+#[derive(Clone, Copy, PartialEq, Eq, Debug)]
+pub struct Breach {
+    pub at: Place,
+    pub code: Code,
+}
+
+// The codes in their order.
+pub(crate) fn rank(code: Code) -> u8
+    ensures { result ≡ rank_of code }
+{
+    match code {
+        Code::NotText => 0,
+        Code::BadCharacter => 1,
+        Code::NumberTooLarge => 2,
+        Code::Unexpected => 3,
+        Code::TooDeep => 4,
+        Code::UnknownName => 5,
+        Code::NameTwice => 6,
+        Code::ConstantWritten => 7,
+        Code::OuterChanged => 8,
+        Code::BadSet => 9,
+    }
+}
+
+// Whether a place stands before another.
+pub(crate) fn place_before(a: Place, b: Place) -> bool
+    ensures { result ≡ place_before a b }
+{
+    a.line < b.line || (a.line == b.line && a.column < b.column)
+}
