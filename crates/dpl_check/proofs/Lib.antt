@@ -5,3 +5,4 @@ pub mod Empty
 pub mod Passes
 pub mod Respelled
 pub mod Resolving
+pub mod Checks

@@ -3,3 +3,4 @@ pub mod Breaches
 pub mod Sound
 pub mod Slots
 pub mod Around
+pub mod Stops

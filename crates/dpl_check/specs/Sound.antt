@@ -58,3 +58,7 @@ IsAdmitted _ = Unit {0}
 abbrev pub AreAdmitted : List (StmtTree (List ℕ)) → Type 0
 AreAdmitted [] = Unit {0}
 AreAdmitted (t ∷ ts) = IsAdmitted t × AreAdmitted ts
+
+-- all that a program owes
+abbrev pub IsGood : ProgramTree (List ℕ) → Type 0
+IsGood t = IsSound t × AreAdmitted t.stmts

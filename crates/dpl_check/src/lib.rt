@@ -2,9 +2,59 @@
 // A checked tree has a slot for each name, and stands for the tree that it was.
 #![tactic(auto)]
 
-pub mod breach;
+ghost use Rattle.std.specs.Prelude.{◌≡◌, None, [], length, IfOk, IfErr};
+ghost use Rattle.dpl_syntax.specs.View.{tree_view, spelled};
+ghost use Rattle.dpl_check.specs.Breaches.{tree_refusal};
+ghost use Rattle.dpl_check.specs.Sound.{IsGood};
+ghost use Rattle.dpl_check.specs.Stops.{Refuses};
+
 mod around;
 mod bind;
+pub mod breach;
+pub mod checked;
 mod first;
 mod names;
 mod search;
+pub mod stop;
+
+pub use breach::Breach;
+pub use checked::Checked;
+pub use stop::CheckStop;
+
+use bind::bind_stmts;
+use dpl_syntax::tree::Tree;
+use dpl_syntax::{Code, Refusal};
+use first::refusal;
+use names::Names;
+use search::first_breach;
+use std::alloc::Global;
+
+/// Checks a program, and gives its names their slots. The sets are values that are given to config consts.
+///
+/// # Errors
+/// The refusal of the tree's first breach, by place and then by code; where it has none, `C14` if there is a set,
+/// since no config const can be declared. No memory for the names.
+pub fn check(alloc: Global, mut tree: Tree, sets: &[&str]) -> Result<Checked, CheckStop>
+    // A checked tree spells what it spelled, and owes nothing.
+    ensures same { IfOk result (λ checked. tree_view spelled checked ≡ tree_view spelled tree) }
+    ensures good { IfOk result (λ checked. IsGood (tree_view spelled tree)) }
+    // What owes nothing is checked, unless memory runs out.
+    ensures complete { IfErr result (λ stop. IsGood (tree_view spelled tree) → sets.now ≡ [] → stop ≡ CheckStop.Memory) }
+    // A refusal is the one that the tree has, and a tree that has one is not checked.
+    ensures refused { IfErr result (λ stop. Refuses (tree_refusal (tree_view spelled tree) (length sets.now)) stop) }
+    ensures unrefused { IfOk result (λ checked. tree_refusal (tree_view spelled tree) (length sets.now) ≡ None) }
+{
+    let mut names = Names::new(alloc);
+    match first_breach(&tree.stmts, &mut names)? {
+        Some(breach) => return Err(CheckStop::Refused(refusal(breach))),
+        None => {}
+    }
+    if !sets.is_empty() {
+        return Err(CheckStop::Refused(Refusal {
+            code: Code::BadSet,
+            place: None,
+        }));
+    }
+    bind_stmts(&mut tree.stmts, &names);
+    Ok(Checked::new(tree, names.slots()))
+}

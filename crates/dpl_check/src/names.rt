@@ -1,7 +1,7 @@
 // The names of the top level, in order of declaration.
 // Each is there once; the place of a name is its slot.
 
-ghost use Rattle.std.specs.Prelude.{◌≡◌, OnOk, OnErr, length, []};
+ghost use Rattle.std.specs.Prelude.{◌≡◌, OnOk, OnErr, length, [], ◌+◌};
 ghost use Rattle.dpl_check.specs.Sights.{Scope, knows, has_constant, declared};
 ghost use Rattle.dpl_check.specs.Slots.{place_in};
 
@@ -37,6 +37,13 @@ impl Names {
         ensures { result ≡ length self.now }
     {
         self.constants.len()
+    }
+
+    /// How many slots serve a program with these names: one for each, and one for the variables of its loops.
+    pub(crate) fn slots(&self) -> usize
+        ensures { result ≡ length self.now + 1 }
+    {
+        self.constants.len() + 1
     }
 
     /// Whether the name is declared.

@@ -59,7 +59,7 @@ renamed_stmt-view (Forall' at x within r intent doing p body) =
     ∙ ap (λ i. Forall at (placed spelled x) within (bounds_view spelled r) i doing (renamed_stmt text_of_name (stmt_view bound body))) (renamed_intent-view intent)
     ∙ ap (Forall at (placed spelled x) within (bounds_view spelled r) (intent_view spelled intent) doing) (renamed_stmt-view body)
 
-renamed_stmts-view : (ts : List Stmt) → map (renamed_stmt text_of_name) (map (stmt_view bound) ts) ≡ map (stmt_view spelled) ts
+pub renamed_stmts-view : (ts : List Stmt) → map (renamed_stmt text_of_name) (map (stmt_view bound) ts) ≡ map (stmt_view spelled) ts
 renamed_stmts-view [] = refl
 renamed_stmts-view (t ∷ ts) =
     ap (λ x. x ∷ map (renamed_stmt text_of_name) (map (stmt_view bound) ts)) (renamed_stmt-view t) ∙ ap (λ xs. stmt_view spelled t ∷ xs) (renamed_stmts-view ts)

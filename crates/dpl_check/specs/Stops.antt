@@ -1,0 +1,10 @@
+-- What a stop says of the refusal that a tree has.
+-- Want of memory says nothing.
+use Rattle.std.specs.Prelude.{◌≡◌, Option, Some}
+use Rattle.dpl_syntax.specs.declared.refusal.Refusal.{Refusal}
+use Rattle.dpl_check.specs.declared.stop.CheckStop.{CheckStop}
+use Rattle.dpl_check.specs.declared.stop.CheckStop.TheVariants.{Refused, Memory}
+
+abbrev pub Refuses : Option Refusal → CheckStop → Type 0
+Refuses r (Refused refusal) = r ≡ Some refusal
+Refuses r Memory = Unit {0}
