@@ -3,7 +3,9 @@
 
 pub mod config;
 pub mod gate;
+mod loops;
 pub mod refused;
+mod stop;
 pub mod writer;
 
 use std::io;

@@ -1,6 +1,6 @@
 -- What contracts see of a frame, and how a turn ends.
--- A turn prints nothing: its run begins and ends with no output.
-use Rattle.std.specs.Prelude.{◌≡◌, ℕ, List, [], Result, Ok, Err}
+-- A turn prints nothing.
+use Rattle.std.specs.Prelude.{◌≡◌, ℕ, List, Result, Ok, Err}
 use Rattle.dpl_syntax.specs.declared.value.Value.{Value}
 use Rattle.dpl_syntax.specs.declared.fault.Fault.{Fault}
 use Rattle.dpl_syntax.specs.Tree.{StmtTree, Assigned}
@@ -17,7 +17,7 @@ abbrev pub IsTurnBody : {N : Type 0} → StmtTree N → Type 0
 IsTurnBody (Assigned x at op e semicolon) = Unit {0}
 IsTurnBody _ = ⊥
 
--- a turn's answer, and the values that it leaves, are how a run without output ends
-abbrev pub TurnEnds : Result (Unit {0}) Fault → List Value → Outcome (List Value) → Type 0
-TurnEnds (Ok v) values o = o ≡ Done values []
-TurnEnds (Err f) values o = o ≡ Stop f []
+-- a turn's answer, and the values that it leaves, are how its run ends; behind it is printed what was before
+abbrev pub TurnEnds : Result (Unit {0}) Fault → List Value → List ℕ → Outcome (List Value) → Type 0
+TurnEnds (Ok v) values out o = o ≡ Done values out
+TurnEnds (Err f) values out o = o ≡ Stop f out
