@@ -1,3 +1,4 @@
 pub mod Taking
 pub mod Bounds
 pub mod Turning
+pub mod Foralls

@@ -1,6 +1,6 @@
 -- How the answers of a run's parts are how the meaning ends.
 -- Where memory ran out nothing is said.
-use Rattle.std.specs.Prelude.{◌≡◌, ℕ, ℤ, List, Result, Ok, Err}
+use Rattle.std.specs.Prelude.{◌≡◌, ℕ, ℤ, List, [], ◌∷◌, Result, Ok, Err}
 use Rattle.dpl_range.specs.Range.{RangeValue, members_of}
 use Rattle.dpl_syntax.specs.declared.value.Value.{Value}
 use Rattle.dpl_syntax.specs.declared.fault.Fault.{Fault as FaultValue}
@@ -25,3 +25,7 @@ RunEnds (Err Memory) values out o = Unit {0}
 abbrev pub HasTurnBody : {N : Type 0} → StmtTree N → Type 0
 HasTurnBody (Forall at x within r intent doing body) = IsTurnBody body
 HasTurnBody _ = Unit {0}
+
+abbrev pub HaveTurnBodies : {N : Type 0} → List (StmtTree N) → Type 0
+HaveTurnBodies [] = Unit {0}
+HaveTurnBodies (t ∷ ts) = HasTurnBody t × HaveTurnBodies ts

@@ -5,6 +5,7 @@ pub mod config;
 pub mod gate;
 mod loops;
 pub mod refused;
+mod statements;
 mod stop;
 pub mod writer;
 
