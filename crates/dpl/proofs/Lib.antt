@@ -2,3 +2,4 @@ pub mod Taking
 pub mod Bounds
 pub mod Turning
 pub mod Foralls
+pub mod LineEnds

@@ -1,3 +1,4 @@
 pub mod Settings
 pub mod Writers
 pub mod Runs
+pub mod Leaving

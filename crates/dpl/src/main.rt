@@ -3,7 +3,10 @@
 
 pub mod config;
 pub mod gate;
+pub mod left;
+mod lines;
 mod loops;
+pub mod outcome;
 pub mod refused;
 mod statements;
 mod stop;

@@ -1,0 +1,16 @@
+// How a run comes out.
+// Each outcome is one of the language's meaning.
+
+use crate::left::Left;
+use dpl_syntax::{Fault, Refusal};
+
+/// How a run came out.
+#[derive(Drop)]
+pub enum Outcome {
+    /// The program ran to its end, and left these variables.
+    Done(Left),
+    /// A fault stopped it.
+    Stopped(Fault),
+    /// The text is no program.
+    Rejected(Refusal),
+}
