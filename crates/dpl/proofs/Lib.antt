@@ -3,3 +3,4 @@ pub mod Bounds
 pub mod Turning
 pub mod Foralls
 pub mod LineEnds
+pub mod Meaning

@@ -2,3 +2,4 @@ pub mod Settings
 pub mod Writers
 pub mod Runs
 pub mod Leaving
+pub mod Headline

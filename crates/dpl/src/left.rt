@@ -1,16 +1,10 @@
 // What a program leaves: the variables of its top level.
 // They are seen as a map from names to values, in order of declaration.
 
-ghost use Rattle.std.specs.Prelude.{◌≡◌, ◌++◌, ◌∷◌, [], IfOk, map};
-ghost use Rattle.dpl_syntax.specs.View.{bound, stmt_view};
+ghost use Rattle.std.specs.Prelude.{◌≡◌, map};
 ghost use Rattle.dpl_meaning.specs.Names.{in_frame};
-ghost use Rattle.dpl_meaning.specs.Resolved.{frame_at};
-ghost use Rattle.dpl.specs.Leaving.{declared_names};
 
-use dpl_syntax::tree::{Name, Stmt};
 use dpl_syntax::{Value, Word};
-use dpl_turn::Frame;
-use std::alloc::{AllocError, Global};
 use std::marker::Model;
 
 /// A variable of the top level, with the value that it has when the run ends.
@@ -23,7 +17,7 @@ pub struct Variable {
 /// The variables that a program leaves.
 #[derive(Drop)]
 pub struct Left {
-    variables: Vec<Variable>,
+    pub(crate) variables: Vec<Variable>,
 }
 
 impl Model for Left {

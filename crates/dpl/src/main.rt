@@ -1,6 +1,7 @@
 // The program `dpl`: it reads a text on standard input and prints what it means.
 #![tactic(auto)]
 
+mod collect;
 pub mod config;
 pub mod gate;
 pub mod left;
@@ -8,6 +9,7 @@ mod lines;
 mod loops;
 pub mod outcome;
 pub mod refused;
+mod run;
 mod statements;
 mod stop;
 pub mod writer;
