@@ -158,12 +158,3 @@ module _ {T : Type 0} (X F : Class) (M : Language T) (q : Reader T)
       none : (u v : List Token) → u ++ v ≡ [] → u ≡ []
       none [] v e = refl
       none (k ∷ u) v e = absurd cc
-
--- no room for a token that goes deeper, and what follows it
-pub room_reads : {T : Type 0} (X F : Class) (B : Token → Language T) (r : Token → Reader T) (C : T → Class) → Reads X never (token F >>= B) (no_room F) (reader.◌>>=◌ (token_at F) r) false F C
-unfolding token ◌>>=◌
-room_reads X F B r C = no_room_reads X F (token F >>= B) (reader.◌>>=◌ (token_at F) r) (λ k h. inl (inr (k, refl, h))) (inl (inl refl)) refuses C
-  where
-    refuses : (ts : List Token) → next_in F ts ≡ false → on_read (token_at F ts) (λ x. r x.0 x.1) ≡ Err (Unexpected, ts)
-    refuses [] h = refl
-    refuses (k ∷ ts) h = rw h refl

@@ -16,7 +16,8 @@ use Rattle.dpl_grammar.specs.Same.{Same}
 use Rattle.std.specs.Prelude.{Some, None}
 use Rattle.dpl_grammar.proofs.Classes.{next_within, lacks_none, apart_none, within_self, within_front, within_append}
 use Rattle.dpl_grammar.proofs.Basic.{token_reads, done_reads, bind_reads}
-use Rattle.dpl_grammar.proofs.Choice.{choose_reads}
+use Rattle.dpl_grammar.proofs.Choice.{choose_reads, no_room_reads}
+use Rattle.dpl_grammar.proofs.Same.{same_itself, reads_along, never_bind}
 use Rattle.dpl_grammar.proofs.Many.{many_reads}
 
 empty_or : (n w : Bool) → cond n w true ≡ true → (n ≡ false → ⊥) → w ≡ true
@@ -113,6 +114,17 @@ then_reads {nA = nA} {F = F} {C = C} {nB = nB} {G = G} {E = E} one two a c =
     begins_two true = within_append F G G (within_self G)
     begins_two false = refl
 
+-- a value made of what is read
+pub made_reads : {T U : Type 0} {X : Class} {A A' : Language T} {p p' : Reader T} {n : Bool} {F C : Class} (f : T → U)
+    → Reads X A A' p p' n F (λ x. C)
+    → Reads X (A >>= λ x. done (f x)) (A' >>= λ x. done (f x)) (reader.◌>>=◌ p (λ x. done_at (f x))) (reader.◌>>=◌ p' (λ x. done_at (f x))) (cond n true false) F (λ y. C)
+made_reads {n = n} {F = F} {C = C} f one =
+    and_then_at one (λ x. done_reads (f x)) F (λ y. C) (λ x. refl) (λ x y. within_self C) (λ x y h. within_self C) (within_self F) (λ x. at n)
+  where
+    at : (n : Bool) → cond n true true ≡ true
+    at true = refl
+    at false = refl
+
 -- a token, and then the other
 pub token_then : {U : Type 0} {X : Class} {B B' : Token → Language U} {r r' : Token → Reader U} {nB : Bool} {G E : Class} (F : Class)
     → apart F X ≡ true → ((k : Token) → Reads X (B k) (B' k) (r k) (r' k) nB G (λ y. E))
@@ -148,6 +160,20 @@ pub maybe_reads : {T : Type 0} {X : Class} {A A' : Language T} {p p' : Reader T}
 maybe_reads {F = F} {C = C} one =
     or_else_at (then_reads one (λ x. done_reads (Some x)) refl (within_append F C C (within_self C))) (done_reads None) F (λ x. F ++ C)
       refl (λ x. within_self (F ++ C)) (λ x. within_self (F ++ C)) (λ x s. within_front F C) (within_self F) refl
+
+-- no room for a token that goes deeper, and what follows it, where the wider language has room for it
+pub room_reads : {T : Type 0} (X F : Class) (B B' : Token → Language T) (r r' : Token → Reader T) (C : T → Class)
+    → Reads X (never >>= B) (token F >>= B') (reader.◌>>=◌ (no_room F) r) (reader.◌>>=◌ (token_at F) r') false F C
+unfolding token ◌>>=◌
+room_reads X F B B' r r' C = reads_by (λ ts. stays ts (next_in F ts)) (λ ts. refl)
+    (reads_along (never_bind B) (same_itself (token F >>= B')) (no_room_reads X F (token F >>= B') (reader.◌>>=◌ (token_at F) r') (λ k h. inl (inr (k, refl, h))) (inl (inl refl)) refuses C))
+  where
+    stays : (ts : List Token) (b : Bool) → on_read (cond b (Err (TooDeep, ts)) (Err (Unexpected, ts))) (λ x. r x.0 x.1) ≡ cond b (Err (TooDeep, ts)) (Err (Unexpected, ts))
+    stays ts true = refl
+    stays ts false = refl
+    refuses : (ts : List Token) → next_in F ts ≡ false → on_read (token_at F ts) (λ x. r' x.0 x.1) ≡ Err (Unexpected, ts)
+    refuses [] h = refl
+    refuses (k ∷ ts) h = rw h refl
 
 -- what lacks a class lacks the empty one
 pub lacks_nothing : {T : Type 0} {X : Class} {L M : Language T} {p q : Reader T} {n : Bool} {F : Class} {C : T → Class} → Reads X L M p q n F C → Reads [] L M p q n F C

@@ -47,6 +47,15 @@ reads_along {p = p} e f r = record {
   same = r.same;
 }
 
+pub never_bind : {T U : Type 0} (B : T → Language U) → Same (never >>= B) never
+unfolding never ◌>>=◌
+never_bind B = record {
+  there = λ u y h. let (a, b, x, is, s, t) = h in absurd s;
+  back = λ u y h. absurd h;
+  front_there = λ u h. elim h [ inl f ↦ f | inr f ↦ let (a, b, x, is, s, t) = f in absurd s ];
+  front_back = λ u h. inl h;
+}
+
 pub bind_left : {T U : Type 0} {A A' : Language T} (B : T → Language U) → Same A A' → Same (A >>= B) (A' >>= B)
 unfolding ◌>>=◌
 bind_left B e = record {

@@ -9,7 +9,7 @@ use Rattle.dpl_syntax.specs.declared.token.Kind.{Kind}
 use Rattle.dpl_syntax.specs.declared.token.Kind.TheVariants.{Name, Number, Keyword as KeywordKind, Sign as SignKind, End}
 
 -- the number of a sign, from 10 on
-unfoldable pub sign_number : Sign → ℕ
+abbrev pub sign_number : Sign → ℕ
 sign_number DotDot = 10
 sign_number PlusAssign = 11
 sign_number StarAssign = 12
@@ -24,7 +24,7 @@ sign_number Semicolon = 20
 sign_number Colon = 21
 
 -- the number of a reserved word, from 100 on
-unfoldable pub keyword_number : Keyword → ℕ
+abbrev pub keyword_number : Keyword → ℕ
 keyword_number Bool = 100
 keyword_number By = 101
 keyword_number BlockCycDist = 102

@@ -1,0 +1,2 @@
+// Parsing.
+#![tactic(auto)]
