@@ -4,13 +4,11 @@ use Rattle.std.proofs.Common.{◌≡◌, ◌⊎◌, inl, inr, ℕ, zero, suc, �
 use Rattle.std.proofs.lemmas.Bool.{eqb-true, eq-eqb}
 use Rattle.std.proofs.lemmas.List.{append-nil}
 use Rattle.dpl_syntax.specs.declared.token.Token.{Token}
-use Rattle.dpl_syntax.specs.declared.refusal.Code.{Code}
-use Rattle.dpl_syntax.specs.declared.refusal.Code.TheVariants.{Unexpected, TooDeep}
 use Rattle.dpl_grammar.specs.Numbers.{kind_number}
 use Rattle.dpl_grammar.specs.Classes.{Class, has, in_class, Lacks, apart, within}
 use Rattle.dpl_grammar.specs.Language.{Language, never, done, token, ◌>>=◌, either, maybe, means, many, SpellsEach, run, SpellsRun, LetsMore, EachLetsMore}
 use Rattle.dpl_grammar.specs.Reader as reader
-use Rattle.dpl_grammar.specs.Reader.{Read, Reader, rest_of, on_read, done_at, next_in, token_at, choose, decide, maybe_at, means_at, each_at, many_at, run_turns_at, run_at, no_room}
+use Rattle.dpl_grammar.specs.Reader.{Cause, Unexpected, NoRoom, Read, Reader, rest_of, on_read, done_at, next_in, token_at, choose, decide, maybe_at, means_at, each_at, many_at, run_turns_at, run_at, no_room}
 use Rattle.dpl_grammar.specs.Laws.{IsFrontDeeper, Tells, Settles, Reads}
 use Rattle.dpl_grammar.specs.Same.{Same}
 use Rattle.dpl_grammar.proofs.Classes.{within_is, next_within, next_apart, lacks_append}
@@ -107,7 +105,7 @@ pub tells_shorter : {T : Type 0} (L M : Language T) (ts : List Token) (r : Read 
 tells_shorter L M ts (Ok x) h = ends_shorter ts h.0 x.1 h.1
 tells_shorter L M ts (Err e) h = ends_shorter ts h.0 e.1 h.1
 
-bind_deep : {T U : Type 0} (A' : Language T) (B' : T → Language U) (u : List Token) (e : Code × List Token) → IsFrontDeeper A' u e → IsFrontDeeper (A' >>= B') u e
+bind_deep : {T U : Type 0} (A' : Language T) (B' : T → Language U) (u : List Token) (e : Cause × List Token) → IsFrontDeeper A' u e → IsFrontDeeper (A' >>= B') u e
 unfolding ◌>>=◌
 bind_deep A' B' u e h is = let d = h is in (d.0, d.1, d.2, inl d.3)
 

@@ -4,13 +4,11 @@ use Rattle.std.proofs.Common.{◌≡◌, ◌⊎◌, inl, inr, ℕ, zero, suc, �
 use Rattle.std.proofs.lemmas.Bool.{eqb-true, eq-eqb}
 use Rattle.std.proofs.lemmas.List.{append-nil}
 use Rattle.dpl_syntax.specs.declared.token.Token.{Token}
-use Rattle.dpl_syntax.specs.declared.refusal.Code.{Code}
-use Rattle.dpl_syntax.specs.declared.refusal.Code.TheVariants.{Unexpected, TooDeep}
 use Rattle.dpl_grammar.specs.Numbers.{kind_number}
 use Rattle.dpl_grammar.specs.Classes.{Class, has, in_class, Lacks, apart, within}
 use Rattle.dpl_grammar.specs.Language.{Language, never, done, token, ◌>>=◌, either, maybe, means, many, SpellsEach, run, SpellsRun, LetsMore, EachLetsMore}
 use Rattle.dpl_grammar.specs.Reader as reader
-use Rattle.dpl_grammar.specs.Reader.{Read, Reader, rest_of, on_read, done_at, next_in, token_at, choose, decide, maybe_at, means_at, each_at, many_at, run_turns_at, run_at, no_room}
+use Rattle.dpl_grammar.specs.Reader.{Cause, Unexpected, NoRoom, Read, Reader, rest_of, on_read, done_at, next_in, token_at, choose, decide, maybe_at, means_at, each_at, many_at, run_turns_at, run_at, no_room}
 use Rattle.dpl_grammar.specs.Laws.{IsFrontDeeper, Tells, Settles, Reads}
 use Rattle.dpl_grammar.specs.Same.{Same}
 use Rattle.dpl_grammar.proofs.Classes.{within_is, next_within, next_apart}
@@ -126,15 +124,15 @@ module _ {T : Type 0} (X F : Class) (M : Language T) (q : Reader T)
   no_room_tells [] = ([], refl, refl, λ e. absurd cc)
   no_room_tells (k ∷ ts) = at (in_class F k) refl
     where
-      at : (b : Bool) → in_class F k ≡ b → Tells never M (k ∷ ts) (cond b (Err (TooDeep, k ∷ ts)) (Err (Unexpected, k ∷ ts)))
+      at : (b : Bool) → in_class F k ≡ b → Tells never M (k ∷ ts) (cond b (Err (NoRoom, k ∷ ts)) (Err (Unexpected, k ∷ ts)))
       at true e = ([], refl, refl, λ is. (k, ts, refl, opens k e))
       at false e = ([], refl, refl, λ is. absurd cc)
 
-  no_room_same : (ts : List Token) (b : Bool) → next_in F ts ≡ b → Settles (cond b (Err (TooDeep, ts)) (Err (Unexpected, ts))) (q ts)
+  no_room_same : (ts : List Token) (b : Bool) → next_in F ts ≡ b → Settles (cond b (Err (NoRoom, ts)) (Err (Unexpected, ts))) (q ts)
   no_room_same ts true e = inr (ts, refl)
   no_room_same ts false e = inl (sym (refuses ts e))
 
-  no_room_rest : (ts : List Token) (b : Bool) → length (rest_of {T = T} (cond b (Err (TooDeep, ts)) (Err (Unexpected, ts)))) ≤ length ts
+  no_room_rest : (ts : List Token) (b : Bool) → length (rest_of {T = T} (cond b (Err (NoRoom, ts)) (Err (Unexpected, ts)))) ≤ length ts
   no_room_rest ts true = omega arith
   no_room_rest ts false = omega arith
 

@@ -4,13 +4,11 @@ use Rattle.std.proofs.Common.{◌≡◌, ◌⊎◌, inl, inr, ℕ, zero, suc, �
 use Rattle.std.proofs.lemmas.Bool.{eqb-true, eq-eqb}
 use Rattle.std.proofs.lemmas.List.{append-nil}
 use Rattle.dpl_syntax.specs.declared.token.Token.{Token}
-use Rattle.dpl_syntax.specs.declared.refusal.Code.{Code}
-use Rattle.dpl_syntax.specs.declared.refusal.Code.TheVariants.{Unexpected, TooDeep}
 use Rattle.dpl_grammar.specs.Numbers.{kind_number}
 use Rattle.dpl_grammar.specs.Classes.{Class, has, in_class, Lacks, apart, within}
 use Rattle.dpl_grammar.specs.Language.{Language, never, done, token, ◌>>=◌, either, maybe, means, many, SpellsEach, run, SpellsRun, LetsMore, EachLetsMore}
 use Rattle.dpl_grammar.specs.Reader as reader
-use Rattle.dpl_grammar.specs.Reader.{Read, Reader, rest_of, on_read, done_at, next_in, token_at, choose, decide, maybe_at, means_at, each_at, many_at, run_turns_at, run_at, no_room}
+use Rattle.dpl_grammar.specs.Reader.{Cause, Unexpected, NoRoom, Read, Reader, rest_of, on_read, done_at, next_in, token_at, choose, decide, maybe_at, means_at, each_at, many_at, run_turns_at, run_at, no_room}
 use Rattle.dpl_grammar.specs.Laws.{IsFrontDeeper, Tells, Settles, Reads}
 use Rattle.dpl_grammar.specs.Same.{Same}
 use Rattle.std.specs.Prelude.{Some, None}
@@ -168,7 +166,7 @@ unfolding token ◌>>=◌
 room_reads X F B B' r r' C = reads_by (λ ts. stays ts (next_in F ts)) (λ ts. refl)
     (reads_along (never_bind B) (same_itself (token F >>= B')) (no_room_reads X F (token F >>= B') (reader.◌>>=◌ (token_at F) r') (λ k h. inl (inr (k, refl, h))) (inl (inl refl)) refuses C))
   where
-    stays : (ts : List Token) (b : Bool) → on_read (cond b (Err (TooDeep, ts)) (Err (Unexpected, ts))) (λ x. r x.0 x.1) ≡ cond b (Err (TooDeep, ts)) (Err (Unexpected, ts))
+    stays : (ts : List Token) (b : Bool) → on_read (cond b (Err (NoRoom, ts)) (Err (Unexpected, ts))) (λ x. r x.0 x.1) ≡ cond b (Err (NoRoom, ts)) (Err (Unexpected, ts))
     stays ts true = refl
     stays ts false = refl
     refuses : (ts : List Token) → next_in F ts ≡ false → on_read (token_at F ts) (λ x. r' x.0 x.1) ≡ Err (Unexpected, ts)

@@ -2,15 +2,13 @@
 -- The language comes with a wider one, which has one more level of nesting, and the reader with that one's reader.
 use Rattle.std.specs.Prelude.{◌≡◌, ◌≤◌, List, [], ◌∷◌, ◌++◌, length, ◌⊎◌, Bool, true, false, Result, Ok, Err}
 use Rattle.dpl_syntax.specs.declared.token.Token.{Token}
-use Rattle.dpl_syntax.specs.declared.refusal.Code.{Code}
-use Rattle.dpl_syntax.specs.declared.refusal.Code.TheVariants.{TooDeep}
 use Rattle.dpl_grammar.specs.Classes.{Class, in_class, Lacks}
 use Rattle.dpl_grammar.specs.Language.{Language}
-use Rattle.dpl_grammar.specs.Reader.{Read, Reader, rest_of, next_in}
+use Rattle.dpl_grammar.specs.Reader.{Cause, NoRoom, Read, Reader, rest_of, next_in}
 
 -- where reading stopped for want of room, the tokens read and the next one are a front of M
-abbrev pub IsFrontDeeper : {T : Type 0} → Language T → List Token → Code × List Token → Type 0
-IsFrontDeeper M u e = (e.0 ≡ TooDeep) → (k : Token) × (r : List Token) × (e.1 ≡ k ∷ r) × M.Front (u ++ k ∷ [])
+abbrev pub IsFrontDeeper : {T : Type 0} → Language T → List Token → Cause × List Token → Type 0
+IsFrontDeeper M u e = (e.0 ≡ NoRoom) → (k : Token) × (r : List Token) × (e.1 ≡ k ∷ r) × M.Front (u ++ k ∷ [])
 
 -- the tokens read spell the value, or are a front
 abbrev pub Tells : {T : Type 0} → Language T → Language T → List Token → Read T → Type 0
@@ -19,7 +17,7 @@ Tells L M ts (Err e) = (u : List Token) × (ts ≡ u ++ e.1) × L.Front u × IsF
 
 -- the two readings are the same, or the first one wants room
 abbrev pub Settles : {T : Type 0} → Read T → Read T → Type 0
-Settles r s = (r ≡ s) ⊎ ((ts : List Token) × (r ≡ Err (TooDeep, ts)))
+Settles r s = (r ≡ s) ⊎ ((ts : List Token) × (r ≡ Err (NoRoom, ts)))
 
 -- p reads L, and q reads M, which is L with one more level.
 -- X: no front has a token of it. nullable: whether no token may spell a value. F: what the first token may be.

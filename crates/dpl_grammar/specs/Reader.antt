@@ -3,13 +3,16 @@
 use Rattle.std.specs.Prelude.{◌≡◌, ℕ, zero, suc, List, [], ◌∷◌, length, Bool, true, false, cond, Result, Ok, Err, Option, Some, None}
 use Rattle.dpl_syntax.specs.declared.token.Token.{Token}
 use Rattle.dpl_syntax.specs.declared.place.Place.{Place}
-use Rattle.dpl_syntax.specs.declared.refusal.Code.{Code}
-use Rattle.dpl_syntax.specs.declared.refusal.Code.TheVariants.{Unexpected, TooDeep}
 use Rattle.dpl_grammar.specs.Classes.{Class, in_class}
+
+-- why reading stops at a token: nothing goes on with it, or it wants one more level of nesting than there is room for
+pub data Cause : Type 0 where
+  Unexpected : Cause
+  NoRoom : Cause
 
 -- a value and the tokens after it, or why reading stops and the tokens from the one on at which it does
 abbrev pub Read : Type 0 → Type 0
-Read T = Result (T × List Token) (Code × List Token)
+Read T = Result (T × List Token) (Cause × List Token)
 
 abbrev pub Reader : Type 0 → Type 0
 Reader T = List Token → Read T
@@ -80,6 +83,6 @@ run_turns_at class more one (suc n) ts =
 abbrev pub run_at : {T : Type 0} → Class → (T → Bool) → Reader T → Reader (List T)
 run_at class more one ts = run_turns_at class more one (length ts) ts
 
--- stops at the next token: too deep, if it is of the class
+-- stops at the next token: for want of room, if it is of the class
 abbrev pub no_room : {T : Type 0} → Class → Reader T
-no_room class ts = cond (next_in class ts) (Err (TooDeep, ts)) (Err (Unexpected, ts))
+no_room class ts = cond (next_in class ts) (Err (NoRoom, ts)) (Err (Unexpected, ts))

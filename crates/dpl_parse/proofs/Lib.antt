@@ -1,1 +1,3 @@
 pub mod Rules
+pub mod Fronts
+pub mod Refusals

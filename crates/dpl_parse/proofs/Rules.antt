@@ -5,7 +5,6 @@ use Rattle.dpl_syntax.specs.declared.place.Place.{Place}
 use Rattle.dpl_syntax.specs.declared.token.Keyword.TheVariants.{Var, Const, Int, Writeln as WritelnWord, Forall as ForallWord, In, By, With, Reduce, Do}
 use Rattle.dpl_syntax.specs.declared.token.Sign.TheVariants.{DotDot, PlusAssign, StarAssign, Assign, Plus, Minus, Star, OpenRound, CloseRound, Comma, Semicolon, Colon}
 use Rattle.dpl_syntax.specs.declared.token.Token.{Token}
-use Rattle.dpl_syntax.specs.declared.refusal.Code.TheVariants.{Unexpected}
 use Rattle.dpl_syntax.specs.declared.operator.Prefix.TheVariants.{Minus as MinusOp}
 use Rattle.dpl_syntax.specs.declared.operator.Infix.{Infix}
 use Rattle.dpl_syntax.specs.declared.operator.Infix.TheVariants.{Add, Subtract, Multiply}
@@ -15,7 +14,7 @@ use Rattle.dpl_syntax.specs.Tree.{Number, Named, Bracketed, Prefixed, Declare, A
 use Rattle.dpl_grammar.specs.Classes.{Class, names, numbers, end, sign, keyword, in_class, apart, within}
 use Rattle.dpl_grammar.specs.Language.{Language, never, done, token, ◌>>=◌, either, maybe, means, many}
 use Rattle.dpl_grammar.specs.Reader as reader
-use Rattle.dpl_grammar.specs.Reader.{Reader, done_at, next_in, token_at}
+use Rattle.dpl_grammar.specs.Reader.{Unexpected, Reader, done_at, next_in, token_at}
 use Rattle.dpl_grammar.specs.Laws.{Reads}
 use Rattle.dpl_grammar.proofs.Classes.{apart_none, within_self, within_append}
 use Rattle.dpl_grammar.proofs.Basic.{done_reads}

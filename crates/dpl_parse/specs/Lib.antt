@@ -1,2 +1,4 @@
 pub mod Grammar
+pub mod Theorem
 pub mod Reading
+pub mod Gives

@@ -5,7 +5,6 @@ use Rattle.dpl_syntax.specs.declared.place.Place.{Place}
 use Rattle.dpl_syntax.specs.declared.token.Keyword.TheVariants.{Var, Const, Int, Writeln as WritelnWord, Forall as ForallWord, In, By, With, Reduce, Do}
 use Rattle.dpl_syntax.specs.declared.token.Sign.TheVariants.{DotDot, PlusAssign, StarAssign, Assign, Plus, Minus, Star, OpenRound, CloseRound, Comma, Semicolon, Colon}
 use Rattle.dpl_syntax.specs.declared.token.Token.{Token}
-use Rattle.dpl_syntax.specs.declared.refusal.Code.TheVariants.{Unexpected, TooDeep}
 use Rattle.dpl_syntax.specs.declared.operator.Prefix.TheVariants.{Minus as MinusOp}
 use Rattle.dpl_syntax.specs.declared.operator.Infix.{Infix}
 use Rattle.dpl_syntax.specs.declared.operator.Infix.TheVariants.{Add, Subtract, Multiply}

@@ -1,2 +1,7 @@
-// Parsing.
+// Parsing: tokens to the tree that they spell, or to their refusal.
+// specs/Grammar.antt is the grammar, specs/Theorem.antt what a parse says; code and grammar have the same shape.
 #![tactic(auto)]
+
+mod stop;
+
+pub use stop::ParseStop;
