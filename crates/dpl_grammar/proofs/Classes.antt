@@ -67,6 +67,17 @@ next_within F C (k ∷ ts) h m = at (in_class F k) refl
 pub next_apart : (F C : Class) (k : Token) → apart F C ≡ true → in_class F k ≡ true → in_class C k ≡ false
 next_apart F C k h m = apart_is F C (kind_number k.kind) h m
 
+-- the next token is of two classes together, if it is of the one or of the other
+pub next_in_either : (C D : Class) (ts : List Token) → next_in (C ++ D) ts ≡ cond (next_in C ts) true (next_in D ts)
+next_in_either C D [] = refl
+next_in_either [] D (k ∷ ts) = refl
+next_in_either (j ∷ C) D (k ∷ ts) = at (eqb (kind_number k.kind) j) (next_in_either C D (k ∷ ts))
+  where
+    at : (b : Bool) → has (C ++ D) (kind_number k.kind) ≡ cond (has C (kind_number k.kind)) true (has D (kind_number k.kind))
+        → cond b true (has (C ++ D) (kind_number k.kind)) ≡ cond (cond b true (has C (kind_number k.kind))) true (has D (kind_number k.kind))
+    at true h = refl
+    at false h = h
+
 -- the empty class has no token
 pub lacks_none : (u : List Token) → Lacks [] u
 lacks_none [] = tt

@@ -1,3 +1,5 @@
 pub mod Rules
 pub mod Fronts
 pub mod Refusals
+pub mod Levels
+pub mod Turns

@@ -2,3 +2,4 @@ pub mod Grammar
 pub mod Theorem
 pub mod Reading
 pub mod Gives
+pub mod Levels

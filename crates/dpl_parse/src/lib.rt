@@ -2,6 +2,8 @@
 // specs/Grammar.antt is the grammar, specs/Theorem.antt what a parse says; code and grammar have the same shape.
 #![tactic(auto)]
 
+mod expression;
 mod stop;
+mod token;
 
 pub use stop::ParseStop;

@@ -1,0 +1,33 @@
+-- What stands one level deeper, where there is room for it.
+use Rattle.std.proofs.Common.{◌≡◌, ℕ, zero, suc, ◌+◌, ◌<◌, List, refl, arith}
+use Rattle.dpl_syntax.specs.declared.token.Token.{Token}
+use Rattle.dpl_grammar.specs.Classes.{Class}
+use Rattle.dpl_grammar.specs.Reader.{token_at, no_room}
+use Rattle.dpl_parse.specs.Reading.{deeper_at, below_at, expression_at, term_at, assignment_at, arguments_at}
+
+module _ (ts : List Token) where
+  pub deeper_with_room : (d : ℕ) (class : Class) → 0 < d → deeper_at (below_at d) class ts ≡ token_at class ts
+  unfolding below_at
+  deeper_with_room zero class h = absurd (omega arith)
+  deeper_with_room (suc d) class h = refl
+
+  pub deeper_without_room : (d : ℕ) (class : Class) → d ≡ 0 → deeper_at (below_at d) class ts ≡ no_room class ts
+  unfolding below_at
+  deeper_without_room zero class h = refl
+  deeper_without_room (suc d) class h = absurd (omega arith)
+
+  pub below_expression : (d e : ℕ) → e + 1 ≡ d → (below_at d).expression ts ≡ expression_at (below_at e) ts
+  unfolding below_at
+  below_expression d e h = let n : d ≡ suc e = omega arith in rw n refl
+
+  pub below_term : (d e : ℕ) → e + 1 ≡ d → (below_at d).term ts ≡ term_at (below_at e) ts
+  unfolding below_at
+  below_term d e h = let n : d ≡ suc e = omega arith in rw n refl
+
+  pub below_assignment : (d e : ℕ) → e + 1 ≡ d → (below_at d).assignment ts ≡ assignment_at (below_at e) ts
+  unfolding below_at
+  below_assignment d e h = let n : d ≡ suc e = omega arith in rw n refl
+
+  pub below_arguments : (d e : ℕ) → e + 1 ≡ d → arguments_at (below_at d).expression ts ≡ arguments_at (expression_at (below_at e)) ts
+  unfolding below_at
+  below_arguments d e h = let n : d ≡ suc e = omega arith in rw n refl

@@ -1,0 +1,145 @@
+// One token at a time: what the parser asks of the next token, and what it takes.
+// Each function gives what the reader of its class gives, and refuses at the next token.
+
+ghost use Rattle.std.specs.Prelude.{◌≡◌, ◌<◌, ◌+◌, length, IfOk};
+ghost use Rattle.dpl_syntax.specs.View.{placed, spelled, expr_view};
+ghost use Rattle.dpl_grammar.specs.Classes.{sign, keyword, end};
+ghost use Rattle.dpl_grammar.specs.Reader.{next_in, token_at, means_at};
+ghost use Rattle.dpl_parse.specs.Gives.{Gives, place_of};
+ghost use Rattle.dpl_parse.specs.Reading.{name_at, number_at, deeper_at, below_at};
+
+use crate::stop::ParseStop;
+use dpl_syntax::tree::{Expr, Name};
+use dpl_syntax::{Code, Keyword, Kind, Place, Refusal, Sign, Token};
+use std::alloc::Global;
+
+/// The refusal at the next token.
+fn refused(code: Code, tokens: &[Token]) -> ParseStop
+    ensures { result ≡ ParseStop.Refused (record { code = code; place = place_of tokens.now }) }
+{
+    let place = match tokens {
+        [next, ..] => Some(next.at),
+        [] => None,
+    };
+    ParseStop::Refused(Refusal { code, place })
+}
+
+/// The refusal of the next token: no program goes on with it.
+pub fn unexpected(tokens: &[Token]) -> ParseStop
+    ensures { result ≡ ParseStop.Refused (record { code = Code.Unexpected; place = place_of tokens.now }) }
+{
+    refused(Code::Unexpected, tokens)
+}
+
+/// Whether the next token is the sign.
+pub fn is_sign(tokens: &[Token], wanted: Sign) -> bool
+    ensures { result ≡ next_in (sign wanted) tokens.now }
+{
+    match tokens {
+        [Token { kind: Kind::Sign(found), .. }, ..] => *found == wanted,
+        _ => false,
+    }
+}
+
+/// Whether the next token is the reserved word.
+pub fn is_keyword(tokens: &[Token], wanted: Keyword) -> bool
+    ensures { result ≡ next_in (keyword wanted) tokens.now }
+{
+    match tokens {
+        [Token { kind: Kind::Keyword(found), .. }, ..] => *found == wanted,
+        _ => false,
+    }
+}
+
+/// The sign, and the tokens after it.
+pub fn sign(wanted: Sign, tokens: &[Token]) -> Result<(&Token, &[Token]), ParseStop>
+    ensures gives { Gives (λ x. (x.0.now, x.1.now)) result (token_at (sign wanted) tokens.now) }
+    ensures shorter { IfOk result (λ x. length x.1.now < length tokens.now) }
+{
+    match tokens {
+        [next, rest @ ..] if is_sign(tokens, wanted) => Ok((next, rest)),
+        _ => Err(unexpected(tokens)),
+    }
+}
+
+/// The reserved word, and the tokens after it.
+pub fn keyword(wanted: Keyword, tokens: &[Token]) -> Result<(&Token, &[Token]), ParseStop>
+    ensures gives { Gives (λ x. (x.0.now, x.1.now)) result (token_at (keyword wanted) tokens.now) }
+    ensures shorter { IfOk result (λ x. length x.1.now < length tokens.now) }
+{
+    match tokens {
+        [next, rest @ ..] if is_keyword(tokens, wanted) => Ok((next, rest)),
+        _ => Err(unexpected(tokens)),
+    }
+}
+
+/// The end of the text, and the tokens after it.
+pub fn end(tokens: &[Token]) -> Result<(&Token, &[Token]), ParseStop>
+    ensures { Gives (λ x. (x.0.now, x.1.now)) result (token_at end tokens.now) }
+{
+    match tokens {
+        [next, rest @ ..] if matches!(next.kind, Kind::End) => Ok((next, rest)),
+        _ => Err(unexpected(tokens)),
+    }
+}
+
+/// A sign that goes one level deeper, the room that is left there, and the tokens after it.
+/// Where there is no room, the sign is refused as too deep.
+#[tactic(auto, using(crate::proofs::Levels::deeper_with_room, crate::proofs::Levels::deeper_without_room))]
+pub fn deeper(room: u32, wanted: Sign, tokens: &[Token]) -> Result<(&Token, u32, &[Token]), ParseStop>
+    ensures gives { Gives (λ x. (x.0.now, x.2.now)) result (deeper_at (below_at room) (sign wanted) tokens.now) }
+    ensures shorter { IfOk result (λ x. length x.2.now < length tokens.now) }
+    ensures room { IfOk result (λ x. x.1 + 1 ≡ room) }
+{
+    if room > 0 {
+        let (next, rest) = sign(wanted, tokens)?;
+        return Ok((next, room - 1, rest));
+    }
+    if is_sign(tokens, wanted) {
+        Err(refused(Code::TooDeep, tokens))
+    } else {
+        Err(unexpected(tokens))
+    }
+}
+
+/// A name, and the tokens after it.
+#[tactic(auto, unfolding(crate::specs::Reading::name_at))]
+pub fn name(alloc: Global, tokens: &[Token]) -> Result<(Name, &[Token]), ParseStop>
+    ensures gives { Gives (λ x. (placed spelled x.0, x.1.now)) result (name_at tokens.now) }
+    ensures shorter { IfOk result (λ x. length x.1.now < length tokens.now) }
+{
+    match tokens {
+        [next, rest @ ..] => match &next.kind {
+            Kind::Name(text) => {
+                let text = text.copy(alloc)?;
+                Ok((Name { at: next.at, text, slot: 0 }, rest))
+            }
+            _ => Err(unexpected(tokens)),
+        },
+        [] => Err(unexpected(tokens)),
+    }
+}
+
+/// A sign that stands for a value: its place with the value, and the tokens after it.
+pub fn means<T: Copy>(wanted: Sign, value: T, tokens: &[Token]) -> Result<((Place, T), &[Token]), ParseStop>
+    ensures gives { Gives (λ x. (x.0, x.1.now)) result (means_at (sign wanted) value tokens.now) }
+    ensures shorter { IfOk result (λ x. length x.1.now < length tokens.now) }
+{
+    let (next, rest) = sign(wanted, tokens)?;
+    Ok(((next.at, value), rest))
+}
+
+/// A number as an expression, and the tokens after it.
+#[tactic(auto, unfolding(crate::specs::Reading::number_at))]
+pub fn number(tokens: &[Token]) -> Result<(Expr, &[Token]), ParseStop>
+    ensures gives { Gives (λ x. (expr_view spelled x.0, x.1.now)) result (number_at tokens.now) }
+    ensures shorter { IfOk result (λ x. length x.1.now < length tokens.now) }
+{
+    match tokens {
+        [next, rest @ ..] => match next.kind {
+            Kind::Number(value) => Ok((Expr::Number(next.at, value), rest)),
+            _ => Err(unexpected(tokens)),
+        },
+        [] => Err(unexpected(tokens)),
+    }
+}
