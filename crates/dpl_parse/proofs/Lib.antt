@@ -3,3 +3,4 @@ pub mod Fronts
 pub mod Refusals
 pub mod Levels
 pub mod Turns
+pub mod Rows
