@@ -1,7 +1,7 @@
 -- What stands one level deeper, where there is room for it.
 use Rattle.std.proofs.Common.{◌≡◌, ℕ, zero, suc, ◌+◌, ◌<◌, List, refl, arith}
 use Rattle.dpl_syntax.specs.declared.token.Token.{Token}
-use Rattle.dpl_grammar.specs.Classes.{Class}
+use Rattle.dpl_grammar.specs.Classes.{Class, names}
 use Rattle.dpl_grammar.specs.Reader.{token_at, no_room}
 use Rattle.dpl_parse.specs.Reading.{deeper_at, below_at, expression_at, term_at, assignment_at, arguments_at}
 
@@ -31,3 +31,8 @@ module _ (ts : List Token) where
   pub below_arguments : (d e : ℕ) → e + 1 ≡ d → arguments_at (below_at d).expression ts ≡ arguments_at (expression_at (below_at e)) ts
   unfolding below_at
   below_arguments d e h = let n : d ≡ suc e = omega arith in rw n refl
+
+  pub body_without_room : (d : ℕ) → d ≡ 0 → (below_at d).assignment ts ≡ no_room names ts
+  unfolding below_at
+  body_without_room zero h = refl
+  body_without_room (suc d) h = absurd (omega arith)

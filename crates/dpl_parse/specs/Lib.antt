@@ -3,3 +3,4 @@ pub mod Theorem
 pub mod Reading
 pub mod Gives
 pub mod Levels
+pub mod Parts

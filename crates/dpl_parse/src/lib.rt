@@ -2,7 +2,9 @@
 // specs/Grammar.antt is the grammar, specs/Theorem.antt what a parse says; code and grammar have the same shape.
 #![tactic(auto)]
 
+mod argument;
 mod expression;
+mod statement;
 mod stop;
 mod token;
 

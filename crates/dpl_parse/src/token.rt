@@ -1,9 +1,9 @@
 // One token at a time: what the parser asks of the next token, and what it takes.
 // Each function gives what the reader of its class gives, and refuses at the next token.
 
-ghost use Rattle.std.specs.Prelude.{◌≡◌, ◌<◌, ◌+◌, length, IfOk};
+ghost use Rattle.std.specs.Prelude.{◌≡◌, ◌<◌, ◌+◌, length, IfOk, IfErr};
 ghost use Rattle.dpl_syntax.specs.View.{placed, spelled, expr_view};
-ghost use Rattle.dpl_grammar.specs.Classes.{sign, keyword, end};
+ghost use Rattle.dpl_grammar.specs.Classes.{sign, keyword, names, end};
 ghost use Rattle.dpl_grammar.specs.Reader.{next_in, token_at, means_at};
 ghost use Rattle.dpl_parse.specs.Gives.{Gives, place_of};
 ghost use Rattle.dpl_parse.specs.Reading.{name_at, number_at, deeper_at, below_at};
@@ -83,23 +83,37 @@ pub fn end(tokens: &[Token]) -> Result<(&Token, &[Token]), ParseStop>
     }
 }
 
+/// The room that is left one level deeper, where the next token goes. With no room it is refused as too deep.
+pub fn descend(room: u32, tokens: &[Token]) -> Result<u32, ParseStop>
+    ensures below { IfOk result (λ below. below + 1 ≡ room) }
+    ensures refused { IfErr result (λ stop. (room ≡ 0) × (stop ≡ ParseStop.Refused (record { code = Code.TooDeep; place = place_of tokens.now }))) }
+{
+    if room == 0 {
+        return Err(refused(Code::TooDeep, tokens));
+    }
+    Ok(room - 1)
+}
+
 /// A sign that goes one level deeper, the room that is left there, and the tokens after it.
-/// Where there is no room, the sign is refused as too deep.
 #[tactic(auto, using(crate::proofs::Levels::deeper_with_room, crate::proofs::Levels::deeper_without_room))]
 pub fn deeper(room: u32, wanted: Sign, tokens: &[Token]) -> Result<(&Token, u32, &[Token]), ParseStop>
     ensures gives { Gives (λ x. (x.0.now, x.2.now)) result (deeper_at (below_at room) (sign wanted) tokens.now) }
     ensures shorter { IfOk result (λ x. length x.2.now < length tokens.now) }
-    ensures room { IfOk result (λ x. x.1 + 1 ≡ room) }
+    ensures below { IfOk result (λ x. x.1 + 1 ≡ room) }
 {
-    if room > 0 {
-        let (next, rest) = sign(wanted, tokens)?;
-        return Ok((next, room - 1, rest));
+    if !is_sign(tokens, wanted) {
+        return Err(unexpected(tokens));
     }
-    if is_sign(tokens, wanted) {
-        Err(refused(Code::TooDeep, tokens))
-    } else {
-        Err(unexpected(tokens))
-    }
+    let room = descend(room, tokens)?;
+    let (next, rest) = sign(wanted, tokens)?;
+    Ok((next, room, rest))
+}
+
+/// Whether the next token is a name.
+pub fn is_name(tokens: &[Token]) -> bool
+    ensures { result ≡ next_in names tokens.now }
+{
+    matches!(tokens, [Token { kind: Kind::Name(_), .. }, ..])
 }
 
 /// A name, and the tokens after it.
