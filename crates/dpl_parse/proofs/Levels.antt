@@ -1,9 +1,10 @@
 -- What stands one level deeper, where there is room for it.
-use Rattle.std.proofs.Common.{◌≡◌, ℕ, zero, suc, ◌+◌, ◌<◌, List, refl, arith}
+use Rattle.std.proofs.Common.{◌≡◌, ℕ, zero, suc, ◌+◌, ◌<◌, false, List, Err, refl, arith}
 use Rattle.dpl_syntax.specs.declared.token.Token.{Token}
 use Rattle.dpl_grammar.specs.Classes.{Class, names}
-use Rattle.dpl_grammar.specs.Reader.{token_at, no_room}
+use Rattle.dpl_grammar.specs.Reader.{Unexpected, next_in, token_at, no_room}
 use Rattle.dpl_parse.specs.Reading.{deeper_at, below_at, expression_at, term_at, assignment_at, arguments_at}
+use Rattle.dpl_parse.proofs.Rules.{body_refuses}
 
 module _ (ts : List Token) where
   pub deeper_with_room : (d : ℕ) (class : Class) → 0 < d → deeper_at (below_at d) class ts ≡ token_at class ts
@@ -36,3 +37,8 @@ module _ (ts : List Token) where
   unfolding below_at
   body_without_room zero h = refl
   body_without_room (suc d) h = absurd (omega arith)
+
+  pub body_not_begun : (d : ℕ) → next_in names ts ≡ false → (below_at d).assignment ts ≡ Err (Unexpected, ts)
+  unfolding below_at
+  body_not_begun zero h = rw h refl
+  body_not_begun (suc d) h = body_refuses (below_at d) ts h

@@ -4,3 +4,5 @@ pub mod Refusals
 pub mod Levels
 pub mod Turns
 pub mod Rows
+pub mod Arguments
+pub mod Results

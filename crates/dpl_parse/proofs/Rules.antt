@@ -194,7 +194,7 @@ body_nothing : (b : Below) → (assignment b).Front []
 unfolding assignment name token ◌>>=◌
 body_nothing b = inl (inl (inl refl))
 
-body_refuses : (b : BelowAt) (ts : List Token) → next_in names ts ≡ false → assignment_at b ts ≡ Err (Unexpected, ts)
+pub body_refuses : (b : BelowAt) (ts : List Token) → next_in names ts ≡ false → assignment_at b ts ≡ Err (Unexpected, ts)
 unfolding assignment_at name_at
 body_refuses b [] h = refl
 body_refuses b (k ∷ ts) h = rw h refl

@@ -4,7 +4,7 @@
 ghost use Rattle.std.specs.Prelude.{◌≡◌, ◌<◌, ◌≤◌, length, map, IfOk};
 ghost use Rattle.dpl_syntax.specs.View.{expr_view, spelled};
 ghost use Rattle.dpl_parse.specs.Gives.{Gives};
-ghost use Rattle.dpl_parse.specs.Reading.{below_at, expression_at, operands_after_at, operands_at, arguments_at};
+ghost use Rattle.dpl_parse.specs.Reading.{below_at, expression_at, after_comma_at, operands_after_at, operands_at, arguments_at};
 
 use crate::expression::{begins_expression, expression};
 use crate::stop::ParseStop;

@@ -4,8 +4,10 @@
 
 mod argument;
 mod expression;
+mod program;
 mod statement;
 mod stop;
 mod token;
 
+pub use program::parse;
 pub use stop::ParseStop;

@@ -170,7 +170,7 @@ fn forall(alloc: Global, room: u32, tokens: &[Token]) -> Result<(Stmt, &[Token])
 }
 
 /// assign, as a loop's body: its first token goes one level deeper
-#[tactic(auto, using(crate::proofs::Levels::below_assignment, crate::proofs::Levels::body_without_room))]
+#[tactic(auto, using(crate::proofs::Levels::below_assignment, crate::proofs::Levels::body_without_room, crate::proofs::Levels::body_not_begun))]
 fn body(alloc: Global, room: u32, tokens: &[Token]) -> Result<(Stmt, &[Token]), ParseStop>
     ensures gives { Gives (λ x. (stmt_view spelled x.0, x.1.now)) result ((below_at room).assignment tokens.now) }
     ensures shorter { IfOk result (λ x. length x.1.now < length tokens.now) }
