@@ -1,5 +1,5 @@
 -- What the parser's results say: the tree of a program that is read to its end, or the tokens' refusal.
-use Rattle.std.proofs.Common.{◌≡◌, ℕ, zero, suc, List, [], ◌∷◌, length, Result, Ok, Err, refl, sym, ap, ◌∙◌}
+use Rattle.std.proofs.Common.{◌≡◌, ◌⊎◌, inl, inr, ℕ, zero, suc, List, [], ◌∷◌, length, Result, Ok, Err, refl, sym, ap, subst, ◌∙◌}
 use Rattle.dpl_syntax.specs.declared.token.Token.{Token}
 use Rattle.dpl_syntax.specs.declared.refusal.Code.TheVariants.{Unexpected as UnexpectedCode}
 use Rattle.dpl_syntax.specs.declared.refusal.Refusal.{Refusal}
@@ -10,7 +10,7 @@ use Rattle.dpl_parse.specs.Gives.{place_of, code_of, Fails}
 use Rattle.dpl_parse.specs.declared.stop.ParseStop.{ParseStop}
 use Rattle.dpl_parse.specs.declared.stop.ParseStop.TheVariants.{Memory, Refused}
 use Rattle.dpl_parse.proofs.Fronts.{read, read_spelled, read_only}
-use Rattle.dpl_parse.proofs.Refusals.{refused_unspelled, stopped_refused, left_refused}
+use Rattle.dpl_parse.proofs.Refusals.{refusal_one, refused_unspelled, stopped_refused, left_refused}
 
 -- a program that is read with nothing left behind it
 
@@ -47,3 +47,15 @@ not_spelled ts (Refused refusal) h t s = absurd (refused_unspelled ts refusal t 
 
 pub fails_is : (ts : List Token) (e : ParseStop) → Fails e (read 64 ts) → (refusal : Refusal) → e ≡ Refused refusal → Refuses ts refusal
 fails_is ts e f refusal is = fails_refused ts refusal (rw is at f)
+
+refused_is : (r s : Refusal) → Refused r ≡ Refused s → r ≡ s
+refused_is r s h = cc
+
+pub left_is : (ts : List Token) (e : ParseStop) (r : Refusal) → e ≡ Refused r → Refuses ts r → (refusal : Refusal) → e ≡ Refused refusal → Refuses ts refusal
+left_is ts e r is h refusal as_well = subst (Refuses ts) (refused_is r refusal (sym is ∙ as_well)) h
+
+-- the refusal of the tokens is told, unless memory ran out
+pub told : {X : Type 0} (ts : List Token) (e : ParseStop) → ((refusal : Refusal) → e ≡ Refused refusal → Refuses ts refusal) → (refusal : Refusal) → Refuses ts refusal
+    → (bad {X = X} e ≡ bad (Refused refusal)) ⊎ (bad {X = X} e ≡ bad Memory)
+told ts Memory h refusal g = inr refl
+told {X = X} ts (Refused s) h refusal g = inl (ap (λ (r : Refusal). bad {X = X} (Refused r)) (refusal_one ts s refusal (h s refl) g))

@@ -1,6 +1,6 @@
 // Programs: the rule of the grammar that the whole text is read by, and what a parse promises.
 
-ghost use Rattle.std.specs.Prelude.{◌≡◌, ◌≤◌, length, map, ℕ, Option, IfOk, IfErr, IsErrOf};
+ghost use Rattle.std.specs.Prelude.{◌≡◌, ◌⊎◌, map, ℕ, IfOk, IfErr, IsErrOf};
 ghost use Rattle.dpl_syntax.specs.View.{spelled, stmt_view, tree_view};
 ghost use Rattle.dpl_syntax.specs.declared.refusal.Refusal.{Refusal};
 ghost use Rattle.dpl_grammar.specs.Reader.{next_in, many_at};
@@ -34,14 +34,17 @@ pub fn parse(alloc: Global, tokens: &[Token]) -> Result<Tree, ParseStop>
     ensures only { IfOk result (λ tree. (d : ℕ) (t : Program) → Spells d tokens.now t → tree_view spelled tree ≡ t) }
     // What is spelled is read, unless memory runs out.
     ensures complete { IfErr result (λ stop. (t : Program) → Spells 64 tokens.now t → stop ≡ ParseStop.Memory) }
-    // What is refused has that refusal.
+    // A refusal is that of the tokens.
     ensures refused { (refusal : Refusal) → IsErrOf result (ParseStop.Refused refusal) → Refuses tokens.now refusal }
+    // The refusal of the tokens is told, unless memory runs out.
+    ensures told { (refusal : Refusal) → Refuses tokens.now refusal → IsErrOf result (ParseStop.Refused refusal) ⊎ IsErrOf result ParseStop.Memory }
 {
     let (tree, rest) = program(alloc, LEVELS, tokens)?;
-    if !rest.is_empty() {
-        return Err(unexpected(rest));
+    if rest.is_empty() {
+        Ok(tree)
+    } else {
+        Err(unexpected(rest))
     }
-    Ok(tree)
 }
 
 /// program = { stmt } END
