@@ -11,3 +11,6 @@ mod token;
 
 pub use program::parse;
 pub use stop::ParseStop;
+
+#[cfg(test)]
+mod tests;
