@@ -10,7 +10,7 @@ ghost use Rattle.dpl_parse.specs.Reading.{BelowAt, below_at, further_at, chain_a
 ghost use Rattle.dpl_parse.specs.Levels.{signs_of, operator_at, operand_at, further_view};
 
 use crate::stop::ParseStop;
-use crate::token::{deeper, is_sign, means, name, number, sign};
+use crate::token::{Parsed, deeper, is_sign, means, name, number, sign};
 use dpl_syntax::tree::{Expr, Link};
 use dpl_syntax::{Infix, Kind, Place, Prefix, Sign, Token};
 use std::alloc::Global;
@@ -38,7 +38,7 @@ impl Level {
 
     /// An operator of the level, with its place.
     #[tactic(auto, unfolding(crate::specs::Reading::sum_operator_at, crate::specs::Reading::product_operator_at))]
-    fn operator(self, tokens: &[Token]) -> Result<((Place, Infix), &[Token]), ParseStop>
+    fn operator(self, tokens: &[Token]) -> Parsed<'_, (Place, Infix)>
         ensures gives { Gives (λ x. (x.0, x.1.now)) result (operator_at self tokens.now) }
         ensures shorter { IfOk result (λ x. length x.1.now < length tokens.now) }
     {
@@ -53,7 +53,7 @@ impl Level {
 /// e = t { ("+" | "-") t }
 #[cycle(expression)]
 #[tactic(auto, unfolding(crate::specs::Reading::expression_at))]
-pub fn expression(alloc: Global, room: u32, tokens: &[Token]) -> Result<(Expr, &[Token]), ParseStop>
+pub fn expression(alloc: Global, room: u32, tokens: &[Token]) -> Parsed<'_, Expr>
     ensures gives { Gives (λ x. (expr_view spelled x.0, x.1.now)) result (expression_at (below_at room) tokens.now) }
     ensures shorter { IfOk result (λ x. length x.1.now < length tokens.now) }
 {
@@ -63,7 +63,7 @@ pub fn expression(alloc: Global, room: u32, tokens: &[Token]) -> Result<(Expr, &
 /// t = "-" t | f { "*" f }
 #[cycle(expression)]
 #[tactic(auto, using(crate::proofs::Levels::below_term), unfolding(crate::specs::Reading::term_at, crate::specs::Reading::negative_at, crate::specs::Reading::product_at))]
-fn term(alloc: Global, room: u32, tokens: &[Token]) -> Result<(Expr, &[Token]), ParseStop>
+fn term(alloc: Global, room: u32, tokens: &[Token]) -> Parsed<'_, Expr>
     ensures gives { Gives (λ x. (expr_view spelled x.0, x.1.now)) result (term_at (below_at room) tokens.now) }
     ensures shorter { IfOk result (λ x. length x.1.now < length tokens.now) }
 {
@@ -78,7 +78,7 @@ fn term(alloc: Global, room: u32, tokens: &[Token]) -> Result<(Expr, &[Token]), 
 /// f = name | number | "(" e ")"
 #[cycle(expression)]
 #[tactic(auto, unfolding(crate::specs::Reading::factor_at))]
-fn factor(alloc: Global, room: u32, tokens: &[Token]) -> Result<(Expr, &[Token]), ParseStop>
+fn factor(alloc: Global, room: u32, tokens: &[Token]) -> Parsed<'_, Expr>
     ensures gives { Gives (λ x. (expr_view spelled x.0, x.1.now)) result (factor_at (below_at room) tokens.now) }
     ensures shorter { IfOk result (λ x. length x.1.now < length tokens.now) }
 {
@@ -95,7 +95,7 @@ fn factor(alloc: Global, room: u32, tokens: &[Token]) -> Result<(Expr, &[Token])
 /// "(" e ")"
 #[cycle(expression)]
 #[tactic(auto, using(crate::proofs::Levels::below_expression), unfolding(crate::specs::Reading::bracketed_at))]
-fn bracketed(alloc: Global, room: u32, tokens: &[Token]) -> Result<(Expr, &[Token]), ParseStop>
+fn bracketed(alloc: Global, room: u32, tokens: &[Token]) -> Parsed<'_, Expr>
     ensures gives { Gives (λ x. (expr_view spelled x.0, x.1.now)) result (bracketed_at (below_at room) tokens.now) }
     ensures shorter { IfOk result (λ x. length x.1.now < length tokens.now) }
 {
@@ -109,7 +109,7 @@ fn bracketed(alloc: Global, room: u32, tokens: &[Token]) -> Result<(Expr, &[Toke
 /// operand { operator operand }
 #[cycle(expression)]
 #[tactic(auto, unfolding(crate::specs::Reading::chain_at))]
-fn chain(alloc: Global, level: Level, room: u32, tokens: &[Token]) -> Result<(Expr, &[Token]), ParseStop>
+fn chain(alloc: Global, level: Level, room: u32, tokens: &[Token]) -> Parsed<'_, Expr>
     ensures gives { Gives (λ x. (expr_view spelled x.0, x.1.now)) result (chain_at (signs_of level) (operator_at level) (operand_at level (below_at room)) tokens.now) }
     ensures shorter { IfOk result (λ x. length x.1.now < length tokens.now) }
 {
@@ -121,7 +121,7 @@ fn chain(alloc: Global, level: Level, room: u32, tokens: &[Token]) -> Result<(Ex
 
 /// What stands between the operators of a level.
 #[cycle(expression)]
-fn operand(alloc: Global, level: Level, room: u32, tokens: &[Token]) -> Result<(Expr, &[Token]), ParseStop>
+fn operand(alloc: Global, level: Level, room: u32, tokens: &[Token]) -> Parsed<'_, Expr>
     ensures gives { Gives (λ x. (expr_view spelled x.0, x.1.now)) result (operand_at level (below_at room) tokens.now) }
     ensures shorter { IfOk result (λ x. length x.1.now < length tokens.now) }
 {
@@ -134,7 +134,7 @@ fn operand(alloc: Global, level: Level, room: u32, tokens: &[Token]) -> Result<(
 /// operator operand
 #[cycle(expression)]
 #[tactic(auto, unfolding(crate::specs::Reading::further_at))]
-fn further(alloc: Global, level: Level, room: u32, tokens: &[Token]) -> Result<(Link, &[Token]), ParseStop>
+fn further(alloc: Global, level: Level, room: u32, tokens: &[Token]) -> Parsed<'_, Link>
     ensures gives { Gives (λ x. (further_view x.0, x.1.now)) result (further_at (operator_at level) (operand_at level (below_at room)) tokens.now) }
     ensures shorter { IfOk result (λ x. length x.1.now < length tokens.now) }
 {
@@ -145,7 +145,7 @@ fn further(alloc: Global, level: Level, room: u32, tokens: &[Token]) -> Result<(
 
 /// { operator operand }
 #[cycle(expression)]
-fn others(alloc: Global, level: Level, room: u32, tokens: &[Token]) -> Result<(Vec<Link>, &[Token]), ParseStop>
+fn others(alloc: Global, level: Level, room: u32, tokens: &[Token]) -> Parsed<'_, Vec<Link>>
     ensures gives { Gives (λ x. (map further_view x.0.items, x.1.now)) result (many_at (signs_of level) (further_at (operator_at level) (operand_at level (below_at room))) tokens.now) }
     ensures shorter { IfOk result (λ x. length x.1.now ≤ length tokens.now) }
 {

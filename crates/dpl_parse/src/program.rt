@@ -11,7 +11,7 @@ ghost use Rattle.dpl_parse.specs.Theorem.{Spells, Refuses};
 
 use crate::statement::statement;
 use crate::stop::ParseStop;
-use crate::token::{end, unexpected};
+use crate::token::{Parsed, end, unexpected};
 use dpl_syntax::tree::{Stmt, Tree};
 use dpl_syntax::{Keyword, Kind, Refusal, Token};
 use std::alloc::Global;
@@ -49,7 +49,7 @@ pub fn parse(alloc: Global, tokens: &[Token]) -> Result<Tree, ParseStop>
 
 /// program = { stmt } END
 #[tactic(auto, unfolding(crate::specs::Reading::program_at))]
-fn program(alloc: Global, room: u32, tokens: &[Token]) -> Result<(Tree, &[Token]), ParseStop>
+fn program(alloc: Global, room: u32, tokens: &[Token]) -> Parsed<'_, Tree>
     ensures { Gives (λ x. (tree_view spelled x.0, x.1.now)) result (program_at (below_at room) tokens.now) }
 {
     let (stmts, rest) = statements(alloc, room, tokens)?;
@@ -58,7 +58,7 @@ fn program(alloc: Global, room: u32, tokens: &[Token]) -> Result<(Tree, &[Token]
 }
 
 /// { stmt }
-fn statements(alloc: Global, room: u32, tokens: &[Token]) -> Result<(Vec<Stmt>, &[Token]), ParseStop>
+fn statements(alloc: Global, room: u32, tokens: &[Token]) -> Parsed<'_, Vec<Stmt>>
     ensures { Gives (λ x. (map (stmt_view spelled) x.0.items, x.1.now)) result (many_at begins (statement_at (below_at room)) tokens.now) }
 {
     let mut stmts = Vec::new(alloc);

@@ -11,15 +11,14 @@ ghost use Rattle.dpl_parse.specs.Parts.{initial_part, intent_part};
 
 use crate::argument::arguments;
 use crate::expression::expression;
-use crate::stop::ParseStop;
-use crate::token::{deeper, descend, is_keyword, is_name, is_sign, keyword, means, name, sign, unexpected};
+use crate::token::{Parsed, deeper, descend, is_keyword, is_name, is_sign, keyword, means, name, sign, unexpected};
 use dpl_syntax::tree::{Bounds, DeclaredType, Initial, Intent, Stmt, Stride};
 use dpl_syntax::{Assign, Keyword, Kind, Op, Place, Sign, Token};
 use std::alloc::Global;
 
 /// stmt = ("var" | "const") .. | assign | "writeln" .. | "forall" ..
 #[tactic(auto, unfolding(crate::specs::Reading::statement_at))]
-pub fn statement(alloc: Global, room: u32, tokens: &[Token]) -> Result<(Stmt, &[Token]), ParseStop>
+pub fn statement(alloc: Global, room: u32, tokens: &[Token]) -> Parsed<'_, Stmt>
     ensures gives { Gives (λ x. (stmt_view spelled x.0, x.1.now)) result (statement_at (below_at room) tokens.now) }
     ensures shorter { IfOk result (λ x. length x.1.now < length tokens.now) }
 {
@@ -33,7 +32,7 @@ pub fn statement(alloc: Global, room: u32, tokens: &[Token]) -> Result<(Stmt, &[
 
 /// assign = name ("=" | "+=" | "*=") e ";"
 #[tactic(auto, unfolding(crate::specs::Reading::assignment_at))]
-fn assignment(alloc: Global, room: u32, tokens: &[Token]) -> Result<(Stmt, &[Token]), ParseStop>
+fn assignment(alloc: Global, room: u32, tokens: &[Token]) -> Parsed<'_, Stmt>
     ensures gives { Gives (λ x. (stmt_view spelled x.0, x.1.now)) result (assignment_at (below_at room) tokens.now) }
     ensures shorter { IfOk result (λ x. length x.1.now < length tokens.now) }
 {
@@ -46,7 +45,7 @@ fn assignment(alloc: Global, room: u32, tokens: &[Token]) -> Result<(Stmt, &[Tok
 
 /// "=" | "+=" | "*="
 #[tactic(auto, unfolding(crate::specs::Reading::assign_operator_at))]
-fn assign_operator(tokens: &[Token]) -> Result<((Place, Assign), &[Token]), ParseStop>
+fn assign_operator(tokens: &[Token]) -> Parsed<'_, (Place, Assign)>
     ensures gives { Gives (λ x. (x.0, x.1.now)) result (assign_operator_at tokens.now) }
     ensures shorter { IfOk result (λ x. length x.1.now < length tokens.now) }
 {
@@ -61,7 +60,7 @@ fn assign_operator(tokens: &[Token]) -> Result<((Place, Assign), &[Token]), Pars
 
 /// ("var" | "const") name ( ":" "int" [ "=" e ] | "=" e ) ";"
 #[tactic(auto, unfolding(crate::specs::Reading::declaration_at))]
-fn declaration(alloc: Global, room: u32, tokens: &[Token]) -> Result<(Stmt, &[Token]), ParseStop>
+fn declaration(alloc: Global, room: u32, tokens: &[Token]) -> Parsed<'_, Stmt>
     ensures gives { Gives (λ x. (stmt_view spelled x.0, x.1.now)) result (declaration_at (below_at room) tokens.now) }
     ensures shorter { IfOk result (λ x. length x.1.now < length tokens.now) }
 {
@@ -74,7 +73,7 @@ fn declaration(alloc: Global, room: u32, tokens: &[Token]) -> Result<(Stmt, &[To
 
 /// "var" | "const"
 #[tactic(auto, unfolding(crate::specs::Reading::declaration_word_at))]
-fn declaration_word(tokens: &[Token]) -> Result<((Place, bool), &[Token]), ParseStop>
+fn declaration_word(tokens: &[Token]) -> Parsed<'_, (Place, bool)>
     ensures gives { Gives (λ x. (x.0, x.1.now)) result (declaration_word_at tokens.now) }
     ensures shorter { IfOk result (λ x. length x.1.now < length tokens.now) }
 {
@@ -88,7 +87,7 @@ fn declaration_word(tokens: &[Token]) -> Result<((Place, bool), &[Token]), Parse
 
 /// ":" "int" [ "=" e ] | "=" e
 #[tactic(auto, unfolding(crate::specs::Reading::declared_at, crate::specs::Reading::typed_at))]
-fn declared(alloc: Global, room: u32, tokens: &[Token]) -> Result<((Option<DeclaredType>, Option<Initial>), &[Token]), ParseStop>
+fn declared(alloc: Global, room: u32, tokens: &[Token]) -> Parsed<'_, (Option<DeclaredType>, Option<Initial>)>
     ensures gives { Gives (λ x. ((x.0.0, initial_view spelled x.0.1), x.1.now)) result (declared_at (below_at room) tokens.now) }
     ensures shorter { IfOk result (λ x. length x.1.now < length tokens.now) }
 {
@@ -103,7 +102,7 @@ fn declared(alloc: Global, room: u32, tokens: &[Token]) -> Result<((Option<Decla
 
 /// ":" "int"
 #[tactic(auto, unfolding(crate::specs::Reading::declared_type_at))]
-fn declared_type(tokens: &[Token]) -> Result<(DeclaredType, &[Token]), ParseStop>
+fn declared_type(tokens: &[Token]) -> Parsed<'_, DeclaredType>
     ensures gives { Gives (λ x. (x.0, x.1.now)) result (declared_type_at tokens.now) }
     ensures shorter { IfOk result (λ x. length x.1.now < length tokens.now) }
 {
@@ -113,7 +112,7 @@ fn declared_type(tokens: &[Token]) -> Result<(DeclaredType, &[Token]), ParseStop
 }
 
 /// [ "=" e ]
-fn maybe_initial(alloc: Global, room: u32, tokens: &[Token]) -> Result<(Option<Initial>, &[Token]), ParseStop>
+fn maybe_initial(alloc: Global, room: u32, tokens: &[Token]) -> Parsed<'_, Option<Initial>>
     ensures gives { Gives (λ x. (initial_view spelled x.0, x.1.now)) result (maybe_at (sign_class Sign.Assign) (initial_at (below_at room)) tokens.now) }
     ensures shorter { IfOk result (λ x. length x.1.now ≤ length tokens.now) }
 {
@@ -126,7 +125,7 @@ fn maybe_initial(alloc: Global, room: u32, tokens: &[Token]) -> Result<(Option<I
 
 /// "=" e
 #[tactic(auto, unfolding(crate::specs::Reading::initial_at))]
-fn initial(alloc: Global, room: u32, tokens: &[Token]) -> Result<(Initial, &[Token]), ParseStop>
+fn initial(alloc: Global, room: u32, tokens: &[Token]) -> Parsed<'_, Initial>
     ensures gives { Gives (λ x. (initial_part x.0, x.1.now)) result (initial_at (below_at room) tokens.now) }
     ensures shorter { IfOk result (λ x. length x.1.now < length tokens.now) }
 {
@@ -137,7 +136,7 @@ fn initial(alloc: Global, room: u32, tokens: &[Token]) -> Result<(Initial, &[Tok
 
 /// "writeln" "(" [ e { "," e } ] ")" ";"
 #[tactic(auto, using(crate::proofs::Levels::below_arguments), unfolding(crate::specs::Reading::print_at))]
-fn print(alloc: Global, room: u32, tokens: &[Token]) -> Result<(Stmt, &[Token]), ParseStop>
+fn print(alloc: Global, room: u32, tokens: &[Token]) -> Parsed<'_, Stmt>
     ensures gives { Gives (λ x. (stmt_view spelled x.0, x.1.now)) result (print_at (below_at room) tokens.now) }
     ensures shorter { IfOk result (λ x. length x.1.now < length tokens.now) }
 {
@@ -154,7 +153,7 @@ fn print(alloc: Global, room: u32, tokens: &[Token]) -> Result<(Stmt, &[Token]),
 
 /// "forall" name "in" e ".." e [ "by" e ] [ "with" "(" ("+" | "*") "reduce" name ")" ] "do" assign
 #[tactic(auto, unfolding(crate::specs::Reading::loop_at))]
-fn forall(alloc: Global, room: u32, tokens: &[Token]) -> Result<(Stmt, &[Token]), ParseStop>
+fn forall(alloc: Global, room: u32, tokens: &[Token]) -> Parsed<'_, Stmt>
     ensures gives { Gives (λ x. (stmt_view spelled x.0, x.1.now)) result (loop_at (below_at room) tokens.now) }
     ensures shorter { IfOk result (λ x. length x.1.now < length tokens.now) }
 {
@@ -171,7 +170,7 @@ fn forall(alloc: Global, room: u32, tokens: &[Token]) -> Result<(Stmt, &[Token])
 
 /// assign, as a loop's body: its first token goes one level deeper
 #[tactic(auto, using(crate::proofs::Levels::below_assignment, crate::proofs::Levels::body_without_room, crate::proofs::Levels::body_not_begun))]
-fn body(alloc: Global, room: u32, tokens: &[Token]) -> Result<(Stmt, &[Token]), ParseStop>
+fn body(alloc: Global, room: u32, tokens: &[Token]) -> Parsed<'_, Stmt>
     ensures gives { Gives (λ x. (stmt_view spelled x.0, x.1.now)) result ((below_at room).assignment tokens.now) }
     ensures shorter { IfOk result (λ x. length x.1.now < length tokens.now) }
 {
@@ -184,7 +183,7 @@ fn body(alloc: Global, room: u32, tokens: &[Token]) -> Result<(Stmt, &[Token]), 
 
 /// e ".." e [ "by" e ]
 #[tactic(auto, unfolding(crate::specs::Reading::bounds_at))]
-fn bounds(alloc: Global, room: u32, tokens: &[Token]) -> Result<(Bounds, &[Token]), ParseStop>
+fn bounds(alloc: Global, room: u32, tokens: &[Token]) -> Parsed<'_, Bounds>
     ensures gives { Gives (λ x. (bounds_view spelled x.0, x.1.now)) result (bounds_at (below_at room) tokens.now) }
     ensures shorter { IfOk result (λ x. length x.1.now < length tokens.now) }
 {
@@ -197,7 +196,7 @@ fn bounds(alloc: Global, room: u32, tokens: &[Token]) -> Result<(Bounds, &[Token
 
 /// [ "by" e ]
 #[tactic(auto, unfolding(crate::specs::Reading::stride_at))]
-fn maybe_stride(alloc: Global, room: u32, tokens: &[Token]) -> Result<(Option<Stride>, &[Token]), ParseStop>
+fn maybe_stride(alloc: Global, room: u32, tokens: &[Token]) -> Parsed<'_, Option<Stride>>
     ensures gives { Gives (λ x. (by_view spelled x.0, x.1.now)) result (maybe_at (keyword_class Keyword.By) (stride_at (below_at room)) tokens.now) }
     ensures shorter { IfOk result (λ x. length x.1.now ≤ length tokens.now) }
 {
@@ -210,7 +209,7 @@ fn maybe_stride(alloc: Global, room: u32, tokens: &[Token]) -> Result<(Option<St
 }
 
 /// [ "with" "(" ("+" | "*") "reduce" name ")" ]
-fn maybe_intent(alloc: Global, room: u32, tokens: &[Token]) -> Result<(Option<Intent>, &[Token]), ParseStop>
+fn maybe_intent(alloc: Global, room: u32, tokens: &[Token]) -> Parsed<'_, Option<Intent>>
     ensures gives { Gives (λ x. (intent_view spelled x.0, x.1.now)) result (maybe_at (keyword_class Keyword.With) (intent_at (below_at room)) tokens.now) }
     ensures shorter { IfOk result (λ x. length x.1.now ≤ length tokens.now) }
 {
@@ -223,7 +222,7 @@ fn maybe_intent(alloc: Global, room: u32, tokens: &[Token]) -> Result<(Option<In
 
 /// "with" "(" ("+" | "*") "reduce" name ")"
 #[tactic(auto, unfolding(crate::specs::Reading::intent_at))]
-fn intent(alloc: Global, room: u32, tokens: &[Token]) -> Result<(Intent, &[Token]), ParseStop>
+fn intent(alloc: Global, room: u32, tokens: &[Token]) -> Parsed<'_, Intent>
     ensures gives { Gives (λ x. (intent_part x.0, x.1.now)) result (intent_at (below_at room) tokens.now) }
     ensures shorter { IfOk result (λ x. length x.1.now < length tokens.now) }
 {
@@ -239,7 +238,7 @@ fn intent(alloc: Global, room: u32, tokens: &[Token]) -> Result<(Intent, &[Token
 
 /// "+" | "*"
 #[tactic(auto, unfolding(crate::specs::Reading::reduce_operator_at))]
-fn reduce_operator(tokens: &[Token]) -> Result<((Place, Op), &[Token]), ParseStop>
+fn reduce_operator(tokens: &[Token]) -> Parsed<'_, (Place, Op)>
     ensures gives { Gives (λ x. (x.0, x.1.now)) result (reduce_operator_at tokens.now) }
     ensures shorter { IfOk result (λ x. length x.1.now < length tokens.now) }
 {

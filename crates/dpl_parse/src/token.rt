@@ -13,6 +13,9 @@ use dpl_syntax::tree::{Expr, Name};
 use dpl_syntax::{Code, Keyword, Kind, Place, Refusal, Sign, Token};
 use std::alloc::Global;
 
+/// A value and the tokens after it, or why there is none.
+pub type Parsed<'a, T> = Result<(T, &'a [Token]), ParseStop>;
+
 /// The refusal at the next token.
 fn refused(code: Code, tokens: &[Token]) -> ParseStop
     ensures { result ≡ ParseStop.Refused (record { code = code; place = place_of tokens.now }) }
@@ -52,7 +55,7 @@ pub fn is_keyword(tokens: &[Token], wanted: Keyword) -> bool
 }
 
 /// The sign, and the tokens after it.
-pub fn sign(wanted: Sign, tokens: &[Token]) -> Result<(&Token, &[Token]), ParseStop>
+pub fn sign(wanted: Sign, tokens: &[Token]) -> Parsed<'_, &Token>
     ensures gives { Gives (λ x. (x.0.now, x.1.now)) result (token_at (sign wanted) tokens.now) }
     ensures shorter { IfOk result (λ x. length x.1.now < length tokens.now) }
 {
@@ -63,7 +66,7 @@ pub fn sign(wanted: Sign, tokens: &[Token]) -> Result<(&Token, &[Token]), ParseS
 }
 
 /// The reserved word, and the tokens after it.
-pub fn keyword(wanted: Keyword, tokens: &[Token]) -> Result<(&Token, &[Token]), ParseStop>
+pub fn keyword(wanted: Keyword, tokens: &[Token]) -> Parsed<'_, &Token>
     ensures gives { Gives (λ x. (x.0.now, x.1.now)) result (token_at (keyword wanted) tokens.now) }
     ensures shorter { IfOk result (λ x. length x.1.now < length tokens.now) }
 {
@@ -74,7 +77,7 @@ pub fn keyword(wanted: Keyword, tokens: &[Token]) -> Result<(&Token, &[Token]), 
 }
 
 /// The end of the text, and the tokens after it.
-pub fn end(tokens: &[Token]) -> Result<(&Token, &[Token]), ParseStop>
+pub fn end(tokens: &[Token]) -> Parsed<'_, &Token>
     ensures { Gives (λ x. (x.0.now, x.1.now)) result (token_at end tokens.now) }
 {
     match tokens {
@@ -118,7 +121,7 @@ pub fn is_name(tokens: &[Token]) -> bool
 
 /// A name, and the tokens after it.
 #[tactic(auto, unfolding(crate::specs::Reading::name_at))]
-pub fn name(alloc: Global, tokens: &[Token]) -> Result<(Name, &[Token]), ParseStop>
+pub fn name(alloc: Global, tokens: &[Token]) -> Parsed<'_, Name>
     ensures gives { Gives (λ x. (placed spelled x.0, x.1.now)) result (name_at tokens.now) }
     ensures shorter { IfOk result (λ x. length x.1.now < length tokens.now) }
 {
@@ -135,7 +138,7 @@ pub fn name(alloc: Global, tokens: &[Token]) -> Result<(Name, &[Token]), ParseSt
 }
 
 /// A sign that stands for a value: its place with the value, and the tokens after it.
-pub fn means<T: Copy>(wanted: Sign, value: T, tokens: &[Token]) -> Result<((Place, T), &[Token]), ParseStop>
+pub fn means<T: Copy>(wanted: Sign, value: T, tokens: &[Token]) -> Parsed<'_, (Place, T)>
     ensures gives { Gives (λ x. (x.0, x.1.now)) result (means_at (sign wanted) value tokens.now) }
     ensures shorter { IfOk result (λ x. length x.1.now < length tokens.now) }
 {
@@ -145,7 +148,7 @@ pub fn means<T: Copy>(wanted: Sign, value: T, tokens: &[Token]) -> Result<((Plac
 
 /// A number as an expression, and the tokens after it.
 #[tactic(auto, unfolding(crate::specs::Reading::number_at))]
-pub fn number(tokens: &[Token]) -> Result<(Expr, &[Token]), ParseStop>
+pub fn number(tokens: &[Token]) -> Parsed<'_, Expr>
     ensures gives { Gives (λ x. (expr_view spelled x.0, x.1.now)) result (number_at tokens.now) }
     ensures shorter { IfOk result (λ x. length x.1.now < length tokens.now) }
 {
