@@ -2,13 +2,14 @@
 -- One more level changes nothing but a stop for want of room, so what holds with d levels holds with more.
 use Rattle.std.proofs.Common.{◌≡◌, ◌⊎◌, inl, inr, ℕ, zero, suc, ◌+◌, ◌≤◌, Bool, true, false, List, [], ◌∷◌, ◌++◌, length, Result, Ok, Err, refl, sym, ap, ◌∙◌, append_assoc, arith}
 use Rattle.std.proofs.lemmas.List.{append-nil}
+use Rattle.dpl_syntax.specs.declared.token.Kind.TheVariants.{End}
 use Rattle.dpl_syntax.specs.declared.token.Token.{Token}
 use Rattle.dpl_grammar.specs.Classes.{in_class, end}
 use Rattle.dpl_grammar.specs.Language.{token, ◌>>=◌, done, many}
 use Rattle.dpl_grammar.specs.Reader.{Cause, Unexpected, NoRoom, Read, rest_of, next_in}
 use Rattle.dpl_grammar.specs.Laws.{Tells, Settles}
 use Rattle.dpl_grammar.proofs.Classes.{lacks_last}
-use Rattle.dpl_parse.specs.Grammar.{Program, Statement, program, below}
+use Rattle.dpl_parse.specs.Grammar.{Program, program, statement, below}
 use Rattle.dpl_parse.specs.Reading.{program_at, below_at}
 use Rattle.dpl_parse.specs.Theorem.{Spells, IsFront}
 use Rattle.dpl_parse.proofs.Rules.{program_reads, statements_read}
@@ -103,13 +104,24 @@ read_unspelled d e ts rest t is s =
     let two = spelled_read (e + d) ts t (rw same at (wider e d ts t s)) in
     read_not (t, []) (Unexpected, rest) (sym two ∙ one)
 
+-- two programs that the same tokens spell are the same
+pub spelled_one : (d e : ℕ) (ts : List Token) (x t : Program) → Spells d ts x → Spells e ts t → x ≡ t
+spelled_one d e ts x t r s = (read_only d e ts x t [] (spelled_read d ts x r) s).0
+
+-- statements never have END as their last token
+statements_open : (d : ℕ) (u : List Token) (k : Token) → k.kind ≡ End → (many (statement (below d))).Front (u ++ k ∷ []) → ⊥
+statements_open d u k is f =
+    let not = lacks_last end u k ((statements_read d).lacks (u ++ k ∷ []) f) in
+    let ended : in_class end k ≡ true = rw is refl in
+    absurd cc
+
 -- a front whose last token is END is a whole program
-pub ended_spelled : (d : ℕ) (u : List Token) (k : Token) → in_class end k ≡ true → IsFront d (u ++ k ∷ []) → (t : Program) × Spells d (u ++ k ∷ []) t
+pub ended_spelled : (d : ℕ) (u : List Token) (k : Token) → k.kind ≡ End → IsFront d (u ++ k ∷ []) → (t : Program) × Spells d (u ++ k ∷ []) t
 unfolding program token ◌>>=◌ done
-ended_spelled d u k is (inl f) = let no = lacks_last end u k ((statements_read d).lacks (u ++ k ∷ []) f) in absurd cc
+ended_spelled d u k is (inl f) = absurd (statements_open d u k is f)
 ended_spelled d u k is (inr (a, b, ss, e, s, inl (inl none))) =
     let whole : u ++ k ∷ [] ≡ a = e ∙ ap (λ (l : List Token). a ++ l) none ∙ append-nil a in
-    let no = lacks_last end u k ((statements_read d).lacks (u ++ k ∷ []) (rw whole ((statements_read d).whole a ss s))) in absurd cc
+    absurd (statements_open d u k is (rw whole ((statements_read d).whole a ss s)))
 ended_spelled d u k is (inr (a, b, ss, e, s, inl (inr (j, one, h)))) =
     (record { stmts = ss; end = j.at }, (a, b, ss, e, s, (b, [], j, sym (append-nil b), (one, h), (refl, refl))))
 ended_spelled d u k is (inr (a, b, ss, e, s, inr (c, f, j, cut, one, none))) =

@@ -1,10 +1,18 @@
--- What stands one level deeper, where there is room for it.
+-- The levels of operators in the order of calls, and what stands one level of nesting deeper.
+-- Each equation has a reader at a nesting level on its left side, and what it is there on its right.
 use Rattle.std.proofs.Common.{◌≡◌, ℕ, zero, suc, ◌+◌, ◌<◌, false, List, Err, refl, arith}
 use Rattle.dpl_syntax.specs.declared.token.Token.{Token}
 use Rattle.dpl_grammar.specs.Classes.{Class, names}
 use Rattle.dpl_grammar.specs.Reader.{Unexpected, next_in, token_at, no_room}
 use Rattle.dpl_parse.specs.Reading.{deeper_at, below_at, expression_at, term_at, assignment_at, arguments_at}
+use Rattle.dpl_parse.specs.declared.expression.Level.{Level}
+use Rattle.dpl_parse.specs.declared.expression.Level.TheVariants.{Sum, Product}
 use Rattle.dpl_parse.proofs.Rules.{body_refuses}
+
+-- a function for the chains of a level calls those for the levels before it
+abbrev pub rank : Level → ℕ
+rank Product = 2
+rank Sum = 7
 
 module _ (ts : List Token) where
   pub deeper_with_room : (d : ℕ) (class : Class) → 0 < d → deeper_at (below_at d) class ts ≡ token_at class ts

@@ -6,3 +6,4 @@ pub mod Turns
 pub mod Rows
 pub mod Arguments
 pub mod Results
+pub mod Worked

@@ -3,6 +3,7 @@
 use Rattle.std.proofs.Common.{◌≡◌, ◌⊎◌, inl, inr, ℕ, zero, suc, ◌+◌, true, List, [], ◌∷◌, ◌++◌, Option, Some, None, Result, Ok, Err, refl, sym, ap, ◌∙◌, append_assoc, arith}
 use Rattle.std.proofs.lemmas.List.{append-nil}
 use Rattle.dpl_syntax.specs.declared.place.Place.{Place}
+use Rattle.dpl_syntax.specs.declared.token.Kind.TheVariants.{End}
 use Rattle.dpl_syntax.specs.declared.token.Token.{Token}
 use Rattle.dpl_syntax.specs.declared.refusal.Code.{Code}
 use Rattle.dpl_syntax.specs.declared.refusal.Code.TheVariants.{Unexpected as UnexpectedCode, TooDeep}
@@ -106,7 +107,7 @@ refused_unspelled ts r t g s = at (causes ts r.code r.place g) (spelled_front 64
     at (inr (inr (a, e, x))) f = stop_end ts x.before x.token (deep_stop ts a x) f
 
 -- A refusal of tokens whose last one is END has a place.
-pub refusal_placed : (u : List Token) (k : Token) (r : Refusal) → in_class end k ≡ true → Refuses (u ++ k ∷ []) r → (at : Place) × (r.place ≡ Some at)
+pub refusal_placed : (u : List Token) (k : Token) (r : Refusal) → k.kind ≡ End → Refuses (u ++ k ∷ []) r → (at : Place) × (r.place ≡ Some at)
 refusal_placed u k r is g = at (causes (u ++ k ∷ []) r.code r.place g)
   where
     at : Causes (u ++ k ∷ []) r → (at : Place) × (r.place ≡ Some at)

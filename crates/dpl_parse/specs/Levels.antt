@@ -1,5 +1,4 @@
 -- The levels of operators, as the parser's one function for chains takes them.
-use Rattle.std.specs.Prelude.{ℕ}
 use Rattle.dpl_syntax.specs.declared.place.Place.{Place}
 use Rattle.dpl_syntax.specs.declared.operator.Infix.{Infix}
 use Rattle.dpl_syntax.specs.declared.tree.Link.{Link}
@@ -25,11 +24,6 @@ operator_at Product = product_operator_at
 abbrev pub operand_at : Level → BelowAt → Reader Expression
 operand_at Sum b = term_at b
 operand_at Product b = factor_at b
-
--- the place of a level in the order of calls
-abbrev pub rank : Level → ℕ
-rank Product = 2
-rank Sum = 7
 
 -- a link of the tree, as it is spelled
 abbrev pub further_view : Link → Further
