@@ -1,16 +1,14 @@
 -- The laws of one token, of no token, and of one thing after another.
 -- The parts and the whole are of any language and reader that keep the laws.
-use Rattle.std.proofs.Common.{◌≡◌, ◌⊎◌, inl, inr, ℕ, zero, suc, ◌+◌, ◌≤◌, Bool, true, false, cond, eqb, List, [], ◌∷◌, ◌++◌, length, Result, Ok, Err, refl, sym, ap, subst, ◌∙◌, append_assoc, arith, length-append}
-use Rattle.std.proofs.lemmas.Bool.{eqb-true, eq-eqb}
+use Rattle.std.proofs.Common.{◌≡◌, inl, inr, ℕ, suc, ◌≤◌, Bool, true, false, cond, List, [], ◌∷◌, ◌++◌, length, Ok, Err, refl, sym, ap, ◌∙◌, append_assoc, arith}
 use Rattle.std.proofs.lemmas.List.{append-nil}
 use Rattle.dpl_syntax.specs.declared.token.Token.{Token}
 use Rattle.dpl_grammar.specs.Numbers.{kind_number}
-use Rattle.dpl_grammar.specs.Classes.{Class, has, in_class, Lacks, apart, within}
-use Rattle.dpl_grammar.specs.Language.{Language, never, done, token, ◌>>=◌, either, maybe, means, many, SpellsEach, run, SpellsRun, LetsMore, EachLetsMore}
+use Rattle.dpl_grammar.specs.Classes.{Class, in_class, Lacks, apart, within}
+use Rattle.dpl_grammar.specs.Language.{Language, done, token, ◌>>=◌}
 use Rattle.dpl_grammar.specs.Reader as reader
 use Rattle.dpl_grammar.specs.Reader.{Cause, Unexpected, NoRoom, Read, Reader, rest_of, on_read, done_at, next_in, token_at, choose, decide, maybe_at, means_at, each_at, many_at, run_turns_at, run_at, no_room}
 use Rattle.dpl_grammar.specs.Laws.{IsFrontDeeper, Tells, Settles, Reads}
-use Rattle.dpl_grammar.specs.Same.{Same}
 use Rattle.dpl_grammar.proofs.Classes.{within_is, next_within, next_apart, lacks_append}
 use Rattle.dpl_grammar.proofs.Lists.{cuts, ends_shorter}
 
@@ -113,10 +111,13 @@ module _ {T U : Type 0} (A A' : Language T) (B B' : T → Language U) (wider : (
   after_tells : (ts u : List Token) (x : T) (mid : List Token) → ts ≡ u ++ mid → A.Spells u x → (r : Read U) → Tells (B x) (B' x) mid r → Tells (A >>= B) (A' >>= B') ts r
   unfolding ◌>>=◌
   after_tells ts u x mid e s (Ok y) h =
-    (u ++ h.0, e ∙ ap (λ (l : List Token). u ++ l) h.1 ∙ sym (append_assoc u h.0 y.1), (u, h.0, x, refl, s, h.2))
-  after_tells ts u x mid e s (Err y) h =
-    (u ++ h.0, e ∙ ap (λ (l : List Token). u ++ l) h.1 ∙ sym (append_assoc u h.0 y.1), inr (u, h.0, x, refl, s, h.2),
-      λ is. let d = h.3 is in (d.0, d.1, d.2, inr (u, h.0 ++ d.0 ∷ [], x, append_assoc u h.0 (d.0 ∷ []), wider u x s, d.3)))
+      (u ++ h.0, e ∙ ap (λ (l : List Token). u ++ l) h.1 ∙ sym (append_assoc u h.0 y.1), (u, h.0, x, refl, s, h.2))
+  after_tells ts u x mid e s (Err y) h = (
+    u ++ h.0,
+    e ∙ ap (λ (l : List Token). u ++ l) h.1 ∙ sym (append_assoc u h.0 y.1),
+    inr (u, h.0, x, refl, s, h.2),
+    λ is. let d = h.3 is in (d.0, d.1, d.2, inr (u, h.0 ++ d.0 ∷ [], x, append_assoc u h.0 (d.0 ∷ []), wider u x s, d.3)),
+  )
 
   bind_tells : (ts : List Token) (r : Read T) (f : T × List Token → Read U) → Tells A A' ts r → ((x : T × List Token) → Tells (B x.0) (B' x.0) x.1 (f x)) → Tells (A >>= B) (A' >>= B') ts (on_read r f)
   unfolding ◌>>=◌
@@ -140,7 +141,6 @@ module _ {T U : Type 0} (X : Class) (A A' : Language T) (p p' : Reader T) (nA : 
     (ends_one : (x : T) (y : U) → (B x).Spells [] y → within (C x) (E y) ≡ true)
     (begins : within F FF ≡ true)
     (begins_two : (x : T) → cond nA (within (G x) FF) true ≡ true) where
-
   -- what comes after the first part isn't more of it
   bind_ended : (x : T) (b : List Token) (w : List Token) (k : Token) → (B x).Front (k ∷ b) → next_in (C x) ((k ∷ b) ++ w) ≡ false
   bind_ended x b w k h = next_apart (G x) (C x) k (not_more x) ((two x).first k b h)
@@ -152,21 +152,21 @@ module _ {T U : Type 0} (X : Class) (A A' : Language T) (p p' : Reader T) (nA : 
   bind_again : (u : List Token) (y : U) (rest : List Token) → (A >>= B).Spells u y → next_in (E y) rest ≡ false → on_read (p (u ++ rest)) (λ x. r x.0 x.1) ≡ Ok (y, rest)
   unfolding ◌>>=◌
   bind_again u y rest (a, b, x, e, s, t) ended =
-    let whole : u ++ rest ≡ a ++ (b ++ rest) = ap (λ (l : List Token). l ++ rest) e ∙ append_assoc a b rest in
-    let first = one.again a x (b ++ rest) s (bind_ended_spelled x y b rest t ended) in
-    let second = (two x).again b y rest t (next_within (D x y) (E y) rest (ends x y) ended) in
-    rw (whole, first) second
+      let whole : u ++ rest ≡ a ++ (b ++ rest) = ap (λ (l : List Token). l ++ rest) e ∙ append_assoc a b rest in
+      let first = one.again a x (b ++ rest) s (bind_ended_spelled x y b rest t ended) in
+      let second = (two x).again b y rest t (next_within (D x y) (E y) rest (ends x y) ended) in
+      rw (whole, first) second
 
   bind_reaches : (u w : List Token) → (A >>= B).Front u → length (rest_of (on_read (p (u ++ w)) (λ x. r x.0 x.1))) ≤ length w
   unfolding ◌>>=◌
   bind_reaches u w (inl h) = bind_shorter (p (u ++ w)) (λ x. r x.0 x.1) (length w) (λ x. tells_shorter (B x.0) (B' x.0) x.1 (r x.0 x.1) ((two x.0).tells x.1)) (one.reaches u w h)
   bind_reaches u w (inr (a, [], x, e, s, t)) =
-    let h : A.Front u = rw (e, append-nil a) (one.whole a x s) in
-    bind_shorter (p (u ++ w)) (λ x. r x.0 x.1) (length w) (λ x. tells_shorter (B x.0) (B' x.0) x.1 (r x.0 x.1) ((two x.0).tells x.1)) (one.reaches u w h)
+      let h : A.Front u = rw (e, append-nil a) (one.whole a x s) in
+      bind_shorter (p (u ++ w)) (λ x. r x.0 x.1) (length w) (λ x. tells_shorter (B x.0) (B' x.0) x.1 (r x.0 x.1) ((two x.0).tells x.1)) (one.reaches u w h)
   bind_reaches u w (inr (a, k ∷ b, x, e, s, t)) =
-    let whole : u ++ w ≡ a ++ ((k ∷ b) ++ w) = ap (λ (l : List Token). l ++ w) e ∙ append_assoc a (k ∷ b) w in
-    let first = one.again a x ((k ∷ b) ++ w) s (bind_ended x b w k t) in
-    rw (whole, first) ((two x).reaches (k ∷ b) w t)
+      let whole : u ++ w ≡ a ++ ((k ∷ b) ++ w) = ap (λ (l : List Token). l ++ w) e ∙ append_assoc a (k ∷ b) w in
+      let first = one.again a x ((k ∷ b) ++ w) s (bind_ended x b w k t) in
+      rw (whole, first) ((two x).reaches (k ∷ b) w t)
 
   bind_solid : cond nA nB false ≡ false → (y : U) → (A >>= B).Spells [] y → ⊥
   unfolding ◌>>=◌
@@ -187,8 +187,8 @@ module _ {T U : Type 0} (X : Class) (A A' : Language T) (p p' : Reader T) (nA : 
       at true is m = within_is (G x) FF (kind_number k.kind) m ((two x).first k u (rw e t))
       at false is m = absurd (one.solid is x s)
   bind_first k u (inr (j ∷ a, b, x, e, s, t)) =
-    let same : k ≡ j = cc in
-    within_is F FF (kind_number k.kind) begins (one.first k a (rw same (one.whole (j ∷ a) x s)))
+      let same : k ≡ j = cc in
+      within_is F FF (kind_number k.kind) begins (one.first k a (rw same (one.whole (j ∷ a) x s)))
 
   bind_before : (u v : List Token) → (A >>= B).Front (u ++ v) → (A >>= B).Front u
   unfolding ◌>>=◌
@@ -222,4 +222,3 @@ module _ {T U : Type 0} (X : Class) (A A' : Language T) (p p' : Reader T) (nA : 
     reaches = bind_reaches;
     same = λ ts. bind_same (p ts) (p' ts) (λ x. r x.0 x.1) (λ x. r' x.0 x.1) (one.same ts) (λ x. (two x.0).same x.1);
   }
-

@@ -1,18 +1,13 @@
 -- The laws of a choice by a test, of a choice by the next token, and of want of room for one more level.
 -- A choice by the next token is one whose test looks at that token alone.
-use Rattle.std.proofs.Common.{◌≡◌, ◌⊎◌, inl, inr, ℕ, zero, suc, ◌+◌, ◌≤◌, Bool, true, false, cond, eqb, List, [], ◌∷◌, ◌++◌, length, Result, Ok, Err, refl, sym, ap, subst, ◌∙◌, append_assoc, arith, length-append}
-use Rattle.std.proofs.lemmas.Bool.{eqb-true, eq-eqb}
-use Rattle.std.proofs.lemmas.List.{append-nil}
+use Rattle.std.proofs.Common.{◌≡◌, ◌⊎◌, inl, inr, ◌≤◌, Bool, true, false, cond, List, [], ◌∷◌, ◌++◌, length, Ok, Err, refl, sym, arith}
 use Rattle.dpl_syntax.specs.declared.token.Token.{Token}
 use Rattle.dpl_grammar.specs.Numbers.{kind_number}
-use Rattle.dpl_grammar.specs.Classes.{Class, has, in_class, Lacks, apart, within}
-use Rattle.dpl_grammar.specs.Language.{Language, never, done, token, ◌>>=◌, either, maybe, means, many, SpellsEach, run, SpellsRun, LetsMore, EachLetsMore}
-use Rattle.dpl_grammar.specs.Reader as reader
-use Rattle.dpl_grammar.specs.Reader.{Cause, Unexpected, NoRoom, Read, Reader, rest_of, on_read, done_at, next_in, token_at, choose, decide, maybe_at, means_at, each_at, many_at, run_turns_at, run_at, no_room}
-use Rattle.dpl_grammar.specs.Laws.{IsFrontDeeper, Tells, Settles, Reads}
-use Rattle.dpl_grammar.specs.Same.{Same}
+use Rattle.dpl_grammar.specs.Classes.{Class, in_class, apart, within}
+use Rattle.dpl_grammar.specs.Language.{Language, never, either}
+use Rattle.dpl_grammar.specs.Reader.{Unexpected, NoRoom, Read, Reader, rest_of, next_in, choose, decide, no_room}
+use Rattle.dpl_grammar.specs.Laws.{Tells, Settles, Reads}
 use Rattle.dpl_grammar.proofs.Classes.{within_is, next_within, next_apart}
-use Rattle.dpl_grammar.proofs.Basic.{tells_shorter}
 
 -- The test is true of what spells the one, and false of what spells the other with nothing more of it behind;
 -- where it takes the one for a front, that is a front of the other too.
@@ -27,7 +22,6 @@ module _ {T : Type 0} (X : Class) (test : List Token → Bool) (A A' : Language 
     (ends_two : (x : T) → within (D x) (E x) ≡ true)
     (begins_one : within F FF ≡ true)
     (begins_two : within G FF ≡ true) where
-
   decide_tells : (ts : List Token) (b : Bool) → Tells (either A B) (either A' B') ts (cond b (p ts) (r ts))
   unfolding either
   decide_tells ts true = at (p ts) (one.tells ts)
@@ -93,7 +87,6 @@ module _ {T : Type 0} (X : Class) (A A' : Language T) (p p' : Reader T) (F : Cla
     (not_other : (x : T) → B.Spells [] x → within F (E x) ≡ true)
     (begins_one : within F FF ≡ true)
     (begins_two : within G FF ≡ true) where
-
   choose_one : (u w : List Token) (x : T) → A.Spells u x → next_in F (u ++ w) ≡ true
   choose_one [] w x s = absurd (one.solid refl x s)
   choose_one (k ∷ u) w x s = one.first k u (one.whole (k ∷ u) x s)

@@ -1,15 +1,6 @@
 -- Two ways to cut one list, and lists that end others.
-use Rattle.std.proofs.Common.{◌≡◌, ◌⊎◌, inl, inr, ℕ, zero, suc, ◌+◌, ◌≤◌, Bool, true, false, cond, eqb, List, [], ◌∷◌, ◌++◌, length, Result, Ok, Err, refl, sym, ap, subst, ◌∙◌, append_assoc, arith, length-append}
-use Rattle.std.proofs.lemmas.Bool.{eqb-true, eq-eqb}
-use Rattle.std.proofs.lemmas.List.{append-nil}
+use Rattle.std.proofs.Common.{◌≡◌, ◌⊎◌, inl, inr, ◌≤◌, List, [], ◌∷◌, ◌++◌, length, refl, sym, ap, arith, length-append}
 use Rattle.dpl_syntax.specs.declared.token.Token.{Token}
-use Rattle.dpl_grammar.specs.Numbers.{kind_number}
-use Rattle.dpl_grammar.specs.Classes.{Class, has, in_class, Lacks, apart, within}
-use Rattle.dpl_grammar.specs.Language.{Language, never, done, token, ◌>>=◌, either, maybe, means, many, SpellsEach, run, SpellsRun, LetsMore, EachLetsMore}
-use Rattle.dpl_grammar.specs.Reader as reader
-use Rattle.dpl_grammar.specs.Reader.{Cause, Unexpected, NoRoom, Read, Reader, rest_of, on_read, done_at, next_in, token_at, choose, decide, maybe_at, means_at, each_at, many_at, run_turns_at, run_at, no_room}
-use Rattle.dpl_grammar.specs.Laws.{IsFrontDeeper, Tells, Settles, Reads}
-use Rattle.dpl_grammar.specs.Same.{Same}
 
 -- a list is cut into u and v, and into a and b: the one front goes on to the other
 abbrev pub AreCuts : List Token → List Token → List Token → List Token → Type 0

@@ -1,16 +1,12 @@
 -- The laws as a grammar's rules use them, one call for each combinator.
 -- The conditions on classes come last; for classes that are written out each of them is `refl`.
-use Rattle.std.proofs.Common.{◌≡◌, ◌⊎◌, inl, inr, ℕ, zero, suc, ◌+◌, ◌≤◌, Bool, true, false, cond, eqb, List, [], ◌∷◌, ◌++◌, length, Result, Ok, Err, refl, sym, ap, subst, ◌∙◌, append_assoc, arith, length-append}
-use Rattle.std.proofs.lemmas.Bool.{eqb-true, eq-eqb}
-use Rattle.std.proofs.lemmas.List.{append-nil}
+use Rattle.std.proofs.Common.{◌≡◌, inl, inr, Bool, true, false, cond, List, [], ◌∷◌, ◌++◌, Err, refl, ◌∙◌}
 use Rattle.dpl_syntax.specs.declared.token.Token.{Token}
-use Rattle.dpl_grammar.specs.Numbers.{kind_number}
-use Rattle.dpl_grammar.specs.Classes.{Class, has, in_class, Lacks, apart, within}
-use Rattle.dpl_grammar.specs.Language.{Language, never, done, token, ◌>>=◌, either, maybe, means, many, SpellsEach, run, SpellsRun, LetsMore, EachLetsMore}
+use Rattle.dpl_grammar.specs.Classes.{Class, apart, within}
+use Rattle.dpl_grammar.specs.Language.{Language, never, done, token, ◌>>=◌, either, maybe, means, many}
 use Rattle.dpl_grammar.specs.Reader as reader
 use Rattle.dpl_grammar.specs.Reader.{Cause, Unexpected, NoRoom, Read, Reader, rest_of, on_read, done_at, next_in, token_at, choose, decide, maybe_at, means_at, each_at, many_at, run_turns_at, run_at, no_room}
-use Rattle.dpl_grammar.specs.Laws.{IsFrontDeeper, Tells, Settles, Reads}
-use Rattle.dpl_grammar.specs.Same.{Same}
+use Rattle.dpl_grammar.specs.Laws.{Reads}
 use Rattle.std.specs.Prelude.{Some, None}
 use Rattle.dpl_grammar.proofs.Classes.{next_within, lacks_none, apart_none, within_self, within_front, within_append}
 use Rattle.dpl_grammar.proofs.Basic.{token_reads, done_reads, bind_reads}
@@ -92,7 +88,6 @@ ends_more {C = C} E w r = record {
   same = r.same;
 }
 
-
 -- the rules where no class depends on a value
 
 -- one after the other: what the second begins with doesn't go on with the first
@@ -108,6 +103,7 @@ then_reads {nA = nA} {F = F} {C = C} {nB = nB} {G = G} {E = E} one two a c =
     begins : (n : Bool) → within F (cond n (F ++ G) F) ≡ true
     begins true = within_front F G
     begins false = within_self F
+
     begins_two : (n : Bool) → cond n (within G (cond n (F ++ G) F)) true ≡ true
     begins_two true = within_append F G G (within_self G)
     begins_two false = refl
@@ -157,7 +153,7 @@ pub maybe_reads : {T : Type 0} {X : Class} {A A' : Language T} {p p' : Reader T}
     → Reads X A A' p p' false F (λ x. C) → Reads X (maybe A) (maybe A') (maybe_at F p) (maybe_at F p') true F (λ x. F ++ C)
 maybe_reads {F = F} {C = C} one =
     or_else_at (then_reads one (λ x. done_reads (Some x)) refl (within_append F C C (within_self C))) (done_reads None) F (λ x. F ++ C)
-      refl (λ x. within_self (F ++ C)) (λ x. within_self (F ++ C)) (λ x s. within_front F C) (within_self F) refl
+    refl (λ x. within_self (F ++ C)) (λ x. within_self (F ++ C)) (λ x s. within_front F C) (within_self F) refl
 
 -- no room for a token that goes deeper, and what follows it, where the wider language has room for it
 pub room_reads : {T : Type 0} (X F : Class) (B B' : Token → Language T) (r r' : Token → Reader T) (C : T → Class)
@@ -169,6 +165,7 @@ room_reads X F B B' r r' C = reads_by (λ ts. stays ts (next_in F ts)) (λ ts. r
     stays : (ts : List Token) (b : Bool) → on_read (cond b (Err (NoRoom, ts)) (Err (Unexpected, ts))) (λ x. r x.0 x.1) ≡ cond b (Err (NoRoom, ts)) (Err (Unexpected, ts))
     stays ts true = refl
     stays ts false = refl
+
     refuses : (ts : List Token) → next_in F ts ≡ false → on_read (token_at F ts) (λ x. r' x.0 x.1) ≡ Err (Unexpected, ts)
     refuses [] h = refl
     refuses (k ∷ ts) h = rw h refl

@@ -1,16 +1,12 @@
 -- The laws of repetition up to a value that lets no other follow.
 -- The reader's number of turns is no less than the number of tokens, so it never ends the repetition.
-use Rattle.std.proofs.Common.{◌≡◌, ◌⊎◌, inl, inr, ℕ, zero, suc, ◌+◌, ◌≤◌, Bool, true, false, cond, eqb, List, [], ◌∷◌, ◌++◌, length, Result, Ok, Err, refl, sym, ap, subst, ◌∙◌, append_assoc, arith, length-append}
-use Rattle.std.proofs.lemmas.Bool.{eqb-true, eq-eqb}
+use Rattle.std.proofs.Common.{◌≡◌, inl, inr, ℕ, zero, suc, ◌≤◌, Bool, true, false, cond, List, [], ◌∷◌, ◌++◌, length, Ok, Err, refl, sym, ap, subst, ◌∙◌, append_assoc, arith, length-append}
 use Rattle.std.proofs.lemmas.List.{append-nil}
 use Rattle.dpl_syntax.specs.declared.token.Token.{Token}
-use Rattle.dpl_grammar.specs.Numbers.{kind_number}
-use Rattle.dpl_grammar.specs.Classes.{Class, has, in_class, Lacks, apart, within}
-use Rattle.dpl_grammar.specs.Language.{Language, never, done, token, ◌>>=◌, either, maybe, means, many, SpellsEach, run, SpellsRun, LetsMore, EachLetsMore}
-use Rattle.dpl_grammar.specs.Reader as reader
-use Rattle.dpl_grammar.specs.Reader.{Cause, Unexpected, NoRoom, Read, Reader, rest_of, on_read, done_at, next_in, token_at, choose, decide, maybe_at, means_at, each_at, many_at, run_turns_at, run_at, no_room}
-use Rattle.dpl_grammar.specs.Laws.{IsFrontDeeper, Tells, Settles, Reads}
-use Rattle.dpl_grammar.specs.Same.{Same}
+use Rattle.dpl_grammar.specs.Classes.{Class, in_class, Lacks, apart, within}
+use Rattle.dpl_grammar.specs.Language.{Language, SpellsEach, run, SpellsRun, LetsMore, EachLetsMore}
+use Rattle.dpl_grammar.specs.Reader.{Read, Reader, rest_of, on_read, next_in, run_turns_at, run_at}
+use Rattle.dpl_grammar.specs.Laws.{Tells, Settles, Reads}
 use Rattle.dpl_grammar.proofs.Classes.{next_within, next_apart, lacks_append}
 use Rattle.dpl_grammar.proofs.Lists.{cuts}
 use Rattle.dpl_grammar.proofs.Basic.{tells_shorter, bind_same, bind_shorter}
@@ -28,7 +24,7 @@ unfolding run_turns_at
 run_same F more p p' same zero ts = inl refl
 run_same {T = T} F more p p' same (suc n) ts = at_same ts (next_in F ts) _ _
     (bind_same (p ts) (p' ts) (λ x. run_more F more p n x (more x.0)) (λ x. run_more F more p' n x (more x.0)) (same ts)
-      (λ x. at x (more x.0) (bind_same (run_turns_at F more p n x.1) (run_turns_at F more p' n x.1) (λ xs. Ok (x.0 ∷ xs.0, xs.1)) (λ xs. Ok (x.0 ∷ xs.0, xs.1)) (run_same F more p p' same n x.1) (λ xs. inl refl))))
+    (λ x. at x (more x.0) (bind_same (run_turns_at F more p n x.1) (run_turns_at F more p' n x.1) (λ xs. Ok (x.0 ∷ xs.0, xs.1)) (λ xs. Ok (x.0 ∷ xs.0, xs.1)) (run_same F more p p' same n x.1) (λ xs. inl refl))))
   where
     at : (x : T × List Token) (b : Bool) → Settles (run_more F more p n x true) (run_more F more p' n x true) → Settles (run_more F more p n x b) (run_more F more p' n x b)
     at x true h = h
@@ -39,7 +35,6 @@ module _ {T : Type 0} (X : Class) (more : T → Bool) (A A' : Language T) (p p' 
     (not_more : (x : T) → more x ≡ true → apart F (C x) ≡ true)
     (ends : (x : T) → within (C x) E ≡ true)
     (not_again : within F E ≡ true) where
-
   goes_on : (x : T) (xs : List T) → more x ≡ true → LetsMore more x xs
   goes_on x [] h = tt
   goes_on x (y ∷ ys) h = h
@@ -47,9 +42,12 @@ module _ {T : Type 0} (X : Class) (more : T → Bool) (A A' : Language T) (p p' 
   run_after : (ts u : List Token) (x : T) (mid : List Token) → ts ≡ u ++ mid → A.Spells u x → more x ≡ true → (r : Read (List T)) → Tells (run more A) (run more A') mid r → Tells (run more A) (run more A') ts (on_read r (λ xs. Ok (x ∷ xs.0, xs.1)))
   unfolding run
   run_after ts u x mid e s m (Ok y) h = (u ++ h.0, e ∙ ap (λ (l : List Token). u ++ l) h.1 ∙ sym (append_assoc u h.0 y.1), (u, h.0, refl, s, goes_on x y.0 m, h.2))
-  run_after ts u x mid e s m (Err y) h =
-    (u ++ h.0, e ∙ ap (λ (l : List Token). u ++ l) h.1 ∙ sym (append_assoc u h.0 y.1), front_after A h.0 s h.2,
-      λ deep. let d = h.3 deep in (d.0, d.1, d.2, subst (λ (l : List Token). (run more A').Front l) (sym (append_assoc u h.0 (d.0 ∷ []))) (front_after A' (h.0 ++ d.0 ∷ []) (one.wider u x s) d.3)))
+  run_after ts u x mid e s m (Err y) h = (
+    u ++ h.0,
+    e ∙ ap (λ (l : List Token). u ++ l) h.1 ∙ sym (append_assoc u h.0 y.1),
+    front_after A h.0 s h.2,
+    λ deep. let d = h.3 deep in (d.0, d.1, d.2, subst (λ (l : List Token). (run more A').Front l) (sym (append_assoc u h.0 (d.0 ∷ []))) (front_after A' (h.0 ++ d.0 ∷ []) (one.wider u x s) d.3)),
+  )
     where
       front_after : (L : Language T) (v : List Token) → L.Spells u x → (run more L).Front v → (run more L).Front (u ++ v)
       front_after L v s (inl g) = inl (x ∷ g.0, (u, v, refl, s, goes_on x g.0 m, g.1))
@@ -86,8 +84,8 @@ module _ {T : Type 0} (X : Class) (more : T → Bool) (A A' : Language T) (p p' 
   run_ended x (k ∷ b) [] rest m h e = absurd cc
   run_ended x (k ∷ b) (y ∷ ys) rest m ([], d, is, s, g, each) e = absurd (one.solid refl y s)
   run_ended x (k ∷ b) (y ∷ ys) rest m (j ∷ c, d, is, s, g, each) e =
-    let same : k ≡ j = cc in
-    next_apart F (C x) k (not_more x m) (one.first k c (rw same (one.whole (j ∷ c) y s)))
+      let same : k ≡ j = cc in
+      next_apart F (C x) k (not_more x m) (one.first k c (rw same (one.whole (j ∷ c) y s)))
 
   -- with a next token of an item, and enough turns, reading goes on as one item and what follows
   run_turn : (n : ℕ) (k : Token) (ts : List Token) → in_class F k ≡ true → run_turns_at F more p (suc n) (k ∷ ts) ≡ on_read (p (k ∷ ts)) (λ x. run_more F more p n x (more x.0))
@@ -109,36 +107,36 @@ module _ {T : Type 0} (X : Class) (more : T → Bool) (A A' : Language T) (p p' 
   run_again (x ∷ xs) u rest n le ([], b, is, s, g, each) e = absurd (one.solid refl x s)
   run_again (x ∷ xs) u rest zero le (k ∷ a, b, is, s, g, each) e = absurd (omega (arith, ap length is, length-append u rest))
   run_again (x ∷ []) u rest (suc n) le (k ∷ a, b, is, s, g, each) e =
-    let begins = one.first k a (one.whole (k ∷ a) x s) in
-    let whole : u ++ rest ≡ (k ∷ a) ++ rest = ap (λ (l : List Token). l ++ rest) (is ∙ ap (λ (l : List Token). (k ∷ a) ++ l) each ∙ append-nil (k ∷ a)) in
-    let first = one.again (k ∷ a) x rest s (next_within (C x) E rest (ends x) e) in
-    whole_is whole ∙ run_turn n k (a ++ rest) begins ∙ ap (λ (r : Read T). on_read r (λ x. run_more F more p n x (more x.0))) first ∙ last_read n x rest (more x) (none_read n rest (next_within F E rest not_again e))
+      let begins = one.first k a (one.whole (k ∷ a) x s) in
+      let whole : u ++ rest ≡ (k ∷ a) ++ rest = ap (λ (l : List Token). l ++ rest) (is ∙ ap (λ (l : List Token). (k ∷ a) ++ l) each ∙ append-nil (k ∷ a)) in
+      let first = one.again (k ∷ a) x rest s (next_within (C x) E rest (ends x) e) in
+      whole_is whole ∙ run_turn n k (a ++ rest) begins ∙ ap (λ (r : Read T). on_read r (λ x. run_more F more p n x (more x.0))) first ∙ last_read n x rest (more x) (none_read n rest (next_within F E rest not_again e))
     where
       whole_is : u ++ rest ≡ (k ∷ a) ++ rest → run_turns_at F more p (suc n) (u ++ rest) ≡ run_turns_at F more p (suc n) ((k ∷ a) ++ rest)
       whole_is w = ap (run_turns_at F more p (suc n)) w
   run_again (x ∷ (y ∷ ys)) u rest (suc n) le (k ∷ a, b, is, s, g, each) e =
-    let begins = one.first k a (one.whole (k ∷ a) x s) in
-    let whole : u ++ rest ≡ (k ∷ a) ++ (b ++ rest) = ap (λ (l : List Token). l ++ rest) is ∙ append_assoc (k ∷ a) b rest in
-    let first = one.again (k ∷ a) x (b ++ rest) s (run_ended x b (y ∷ ys) rest g each e) in
-    let fewer : length (b ++ rest) ≤ n = omega (arith, ap length whole, length-append a (b ++ rest)) in
-    let others = run_again (y ∷ ys) b rest n fewer each e in
-    ap (run_turns_at F more p (suc n)) whole ∙ run_turn n k (a ++ (b ++ rest)) begins ∙ ap (λ (r : Read T). on_read r (λ x. run_more F more p n x (more x.0))) first ∙ rw (g, others) refl
+      let begins = one.first k a (one.whole (k ∷ a) x s) in
+      let whole : u ++ rest ≡ (k ∷ a) ++ (b ++ rest) = ap (λ (l : List Token). l ++ rest) is ∙ append_assoc (k ∷ a) b rest in
+      let first = one.again (k ∷ a) x (b ++ rest) s (run_ended x b (y ∷ ys) rest g each e) in
+      let fewer : length (b ++ rest) ≤ n = omega (arith, ap length whole, length-append a (b ++ rest)) in
+      let others = run_again (y ∷ ys) b rest n fewer each e in
+      ap (run_turns_at F more p (suc n)) whole ∙ run_turn n k (a ++ (b ++ rest)) begins ∙ ap (λ (r : Read T). on_read r (λ x. run_more F more p n x (more x.0))) first ∙ rw (g, others) refl
 
   -- items spelled are a front: all but the last, and the last as a front
   run_front : (xs : List T) (u : List Token) → SpellsRun A more u xs → (ys : List T) × (a b : List Token) × (u ≡ a ++ b) × SpellsEach A a ys × EachLetsMore more ys × A.Front b
   run_front [] u h = ([], [], [], h, refl, tt, one.empty)
   run_front (x ∷ []) u (a, b, is, s, g, each) = ([], [], a, is ∙ ap (λ (l : List Token). a ++ l) each ∙ append-nil a, refl, tt, one.whole a x s)
   run_front (x ∷ (y ∷ ys)) u (a, b, is, s, g, each) =
-    let (zs, c, d, e, all, m, f) = run_front (y ∷ ys) b each in
-    (x ∷ zs, a ++ c, d, is ∙ ap (λ (l : List Token). a ++ l) e ∙ sym (append_assoc a c d), (a, c, refl, s, all), (g, m), f)
+      let (zs, c, d, e, all, m, f) = run_front (y ∷ ys) b each in
+      (x ∷ zs, a ++ c, d, is ∙ ap (λ (l : List Token). a ++ l) e ∙ sym (append_assoc a c d), (a, c, refl, s, all), (g, m), f)
 
   each_first : (xs : List T) (k : Token) (u a b : List Token) → k ∷ u ≡ a ++ b → SpellsEach A a xs → A.Front b → in_class F k ≡ true
   each_first [] k u a b is each f = one.first k u (rw (is, each) f)
   each_first (x ∷ xs) k u a b is ([], d, e, s, each) f = absurd (one.solid refl x s)
   each_first (x ∷ xs) k u a b is (j ∷ c, d, e, s, each) f =
-    let whole : k ∷ u ≡ (j ∷ c) ++ d ++ b = is ∙ ap (λ (l : List Token). l ++ b) e in
-    let same : k ≡ j = cc in
-    one.first k c (rw same (one.whole (j ∷ c) x s))
+      let whole : k ∷ u ≡ (j ∷ c) ++ d ++ b = is ∙ ap (λ (l : List Token). l ++ b) e in
+      let same : k ≡ j = cc in
+      one.first k c (rw same (one.whole (j ∷ c) x s))
 
   run_first : (k : Token) (u : List Token) → (run more A).Front (k ∷ u) → in_class F k ≡ true
   unfolding run
@@ -149,32 +147,32 @@ module _ {T : Type 0} (X : Class) (more : T → Bool) (A A' : Language T) (p p' 
   reaches_one n [] w le f = run_shorter n w
   reaches_one zero (k ∷ b) w le f = absurd (omega arith)
   reaches_one (suc n) (k ∷ b) w le f =
-    rw (run_turn n k (b ++ w) (one.first k b f)) (bind_shorter (p ((k ∷ b) ++ w)) (λ x. run_more F more p n x (more x.0)) (length w) (λ x. then_shorter n x (more x.0)) (one.reaches (k ∷ b) w f))
+      rw (run_turn n k (b ++ w) (one.first k b f)) (bind_shorter (p ((k ∷ b) ++ w)) (λ x. run_more F more p n x (more x.0)) (length w) (λ x. then_shorter n x (more x.0)) (one.reaches (k ∷ b) w f))
 
   after_front : (x : T) (xs : List T) (k : Token) (c d b w : List Token) (n : ℕ) (l : List Token) → d ++ b ≡ l → A.Spells (k ∷ c) x → more x ≡ true → SpellsEach A d xs → A.Front b
-    → length (rest_of (run_turns_at F more p n ((d ++ b) ++ w))) ≤ length w
-    → length (rest_of (on_read (p ((k ∷ c) ++ ((d ++ b) ++ w))) (λ x. run_more F more p n x (more x.0)))) ≤ length w
+      → length (rest_of (run_turns_at F more p n ((d ++ b) ++ w))) ≤ length w
+      → length (rest_of (on_read (p ((k ∷ c) ++ ((d ++ b) ++ w))) (λ x. run_more F more p n x (more x.0)))) ≤ length w
   after_front x xs k c d b w n [] e s m each f ih =
-    let one_more = bind_shorter (p ((k ∷ c) ++ w)) (λ x. run_more F more p n x (more x.0)) (length w) (λ x. then_shorter n x (more x.0)) (one.reaches (k ∷ c) w (one.whole (k ∷ c) x s)) in
-    rw e one_more
+      let one_more = bind_shorter (p ((k ∷ c) ++ w)) (λ x. run_more F more p n x (more x.0)) (length w) (λ x. then_shorter n x (more x.0)) (one.reaches (k ∷ c) w (one.whole (k ∷ c) x s)) in
+      rw e one_more
   after_front x xs k c d b w n (j ∷ l) e s m each f ih =
-    let is = each_first xs j l d b (sym e) each f in
-    let ended : next_in (C x) ((d ++ b) ++ w) ≡ false = rw e (next_apart F (C x) j (not_more x m) is) in
-    let first = one.again (k ∷ c) x ((d ++ b) ++ w) s ended in
-    rw (first, m) (bind_shorter (run_turns_at F more p n ((d ++ b) ++ w)) (λ xs. Ok (x ∷ xs.0, xs.1)) (length w) (λ xs. omega arith) ih)
+      let is = each_first xs j l d b (sym e) each f in
+      let ended : next_in (C x) ((d ++ b) ++ w) ≡ false = rw e (next_apart F (C x) j (not_more x m) is) in
+      let first = one.again (k ∷ c) x ((d ++ b) ++ w) s ended in
+      rw (first, m) (bind_shorter (run_turns_at F more p n ((d ++ b) ++ w)) (λ xs. Ok (x ∷ xs.0, xs.1)) (length w) (λ xs. omega arith) ih)
 
   reaches_each : (xs : List T) (a b w : List Token) (n : ℕ) → length ((a ++ b) ++ w) ≤ n → SpellsEach A a xs → EachLetsMore more xs → A.Front b → length (rest_of (run_turns_at F more p n ((a ++ b) ++ w))) ≤ length w
   reaches_each [] a b w n le h m f = let P : List Token → Type 0 = λ l. length (l ++ w) ≤ n → length (rest_of (run_turns_at F more p n (l ++ w))) ≤ length w in
-    subst P (sym (ap (λ (l : List Token). l ++ b) h)) (λ less. reaches_one n b w less f) le
+      subst P (sym (ap (λ (l : List Token). l ++ b) h)) (λ less. reaches_one n b w less f) le
   reaches_each (x ∷ xs) a b w n le ([], d, is, s, each) m f = absurd (one.solid refl x s)
   reaches_each (x ∷ xs) a b w zero le (k ∷ c, d, is, s, each) m f = absurd (omega (arith, ap length is, length-append (a ++ b) w, length-append a b))
   reaches_each (x ∷ xs) a b w (suc n) le (k ∷ c, d, is, s, each) m f =
-    let begins = one.first k c (one.whole (k ∷ c) x s) in
-    let whole : (a ++ b) ++ w ≡ (k ∷ c) ++ ((d ++ b) ++ w) = ap (λ (l : List Token). (l ++ b) ++ w) is ∙ ap (λ (l : List Token). l ++ w) (append_assoc (k ∷ c) d b) ∙ append_assoc (k ∷ c) (d ++ b) w in
-    let fewer : length ((d ++ b) ++ w) ≤ n = omega (arith, ap length whole, length-append c ((d ++ b) ++ w)) in
-    let turn = run_turn n k (c ++ ((d ++ b) ++ w)) begins in
-    let after = after_front x xs k c d b w n (d ++ b) refl s m.0 each f (reaches_each xs d b w n fewer each m.1 f) in
-    rw (whole, turn) after
+      let begins = one.first k c (one.whole (k ∷ c) x s) in
+      let whole : (a ++ b) ++ w ≡ (k ∷ c) ++ ((d ++ b) ++ w) = ap (λ (l : List Token). (l ++ b) ++ w) is ∙ ap (λ (l : List Token). l ++ w) (append_assoc (k ∷ c) d b) ∙ append_assoc (k ∷ c) (d ++ b) w in
+      let fewer : length ((d ++ b) ++ w) ≤ n = omega (arith, ap length whole, length-append c ((d ++ b) ++ w)) in
+      let turn = run_turn n k (c ++ ((d ++ b) ++ w)) begins in
+      let after = after_front x xs k c d b w n (d ++ b) refl s m.0 each f (reaches_each xs d b w n fewer each m.1 f) in
+      rw (whole, turn) after
 
   wider_run : (u : List Token) (xs : List T) → SpellsRun A more u xs → SpellsRun A' more u xs
   wider_run u [] h = h
@@ -196,12 +194,12 @@ module _ {T : Type 0} (X : Class) (more : T → Bool) (A A' : Language T) (p p' 
   run_before : (xs : List T) (u v a b : List Token) → u ++ v ≡ a ++ b → SpellsEach A a xs → EachLetsMore more xs → A.Front b → (ys : List T) × (c d : List Token) × (u ≡ c ++ d) × SpellsEach A c ys × EachLetsMore more ys × A.Front d
   run_before [] u v a b e each m f = ([], [], u, refl, refl, tt, one.before u v (rw (sym (e ∙ ap (λ (l : List Token). l ++ b) each)) at f))
   run_before (x ∷ xs) u v a b e (c, d, is, s, each) m f =
-    elim (cuts u v c (d ++ b) (e ∙ ap (λ (l : List Token). l ++ b) is ∙ append_assoc c d b)) [
-      | inl h ↦ ([], [], u, refl, refl, tt, one.before u h.0 (rw h.1 at (one.whole c x s)))
-      | inr h ↦
-        let (ys, a2, b2, e2, each2, m2, f2) = run_before xs h.0 v d b (sym h.2) each m.1 f in
-        (x ∷ ys, c ++ a2, b2, h.1 ∙ ap (λ (l : List Token). c ++ l) e2 ∙ sym (append_assoc c a2 b2), (c, a2, refl, s, each2), (m.0, m2), f2)
-    ]
+      elim (cuts u v c (d ++ b) (e ∙ ap (λ (l : List Token). l ++ b) is ∙ append_assoc c d b)) [
+        | inl h ↦ ([], [], u, refl, refl, tt, one.before u h.0 (rw h.1 at (one.whole c x s)))
+        | inr h ↦
+            let (ys, a2, b2, e2, each2, m2, f2) = run_before xs h.0 v d b (sym h.2) each m.1 f in
+            (x ∷ ys, c ++ a2, b2, h.1 ∙ ap (λ (l : List Token). c ++ l) e2 ∙ sym (append_assoc c a2 b2), (c, a2, refl, s, each2), (m.0, m2), f2)
+      ]
 
   run_front_before : (u v : List Token) → (run more A).Front (u ++ v) → (run more A).Front u
   unfolding run
@@ -236,4 +234,3 @@ module _ {T : Type 0} (X : Class) (more : T → Bool) (A A' : Language T) (p p' 
     reaches = reaches_front;
     same = λ ts. run_same F more p p' one.same (length ts) ts;
   }
-

@@ -1,17 +1,12 @@
 -- Languages that are the same, and what reads them.
 -- A rule whose parts begin alike is read as the same language with what they have in common in front.
-use Rattle.std.proofs.Common.{◌≡◌, ◌⊎◌, inl, inr, ℕ, zero, suc, ◌+◌, ◌≤◌, Bool, true, false, cond, eqb, List, [], ◌∷◌, ◌++◌, length, Result, Ok, Err, refl, sym, ap, subst, ◌∙◌, append_assoc, arith, length-append}
-use Rattle.std.proofs.lemmas.Bool.{eqb-true, eq-eqb}
-use Rattle.std.proofs.lemmas.List.{append-nil}
+use Rattle.std.proofs.Common.{inl, inr, Bool, List, [], ◌∷◌, ◌++◌, Ok, Err, refl, sym, ap, ◌∙◌, append_assoc}
 use Rattle.dpl_syntax.specs.declared.token.Token.{Token}
-use Rattle.dpl_grammar.specs.Numbers.{kind_number}
-use Rattle.dpl_grammar.specs.Classes.{Class, has, in_class, Lacks, apart, within}
-use Rattle.dpl_grammar.specs.Language.{Language, never, done, token, ◌>>=◌, either, maybe, means, many, SpellsEach, run, SpellsRun, LetsMore, EachLetsMore}
-use Rattle.dpl_grammar.specs.Reader as reader
-use Rattle.dpl_grammar.specs.Reader.{Cause, Unexpected, NoRoom, Read, Reader, rest_of, on_read, done_at, next_in, token_at, choose, decide, maybe_at, means_at, each_at, many_at, run_turns_at, run_at, no_room}
-use Rattle.dpl_grammar.specs.Laws.{IsFrontDeeper, Tells, Settles, Reads}
+use Rattle.dpl_grammar.specs.Classes.{Class}
+use Rattle.dpl_grammar.specs.Language.{Language, never, ◌>>=◌, either}
+use Rattle.dpl_grammar.specs.Reader.{Read, Reader}
+use Rattle.dpl_grammar.specs.Laws.{Tells, Reads}
 use Rattle.dpl_grammar.specs.Same.{Same}
-
 
 pub same_itself : {T : Type 0} (L : Language T) → Same L L
 same_itself L = record { there = λ u x h. h; back = λ u x h. h; front_there = λ u h. h; front_back = λ u h. h }
@@ -76,9 +71,9 @@ pub bind_assoc : {T U V : Type 0} (A : Language T) (B : T → Language U) (C : U
 unfolding ◌>>=◌
 bind_assoc A B C = record {
   there = λ u z h. let (ab, c, y, is, s, t) = h in let (a, b, x, e, p, q) = s in
-    (a, b ++ c, x, is ∙ ap (λ (l : List Token). l ++ c) e ∙ append_assoc a b c, p, (b, c, y, refl, q, t));
+      (a, b ++ c, x, is ∙ ap (λ (l : List Token). l ++ c) e ∙ append_assoc a b c, p, (b, c, y, refl, q, t));
   back = λ u z h. let (a, bc, x, is, p, s) = h in let (b, c, y, e, q, t) = s in
-    (a ++ b, c, y, is ∙ ap (λ (l : List Token). a ++ l) e ∙ sym (append_assoc a b c), (a, b, x, refl, p, q), t);
+      (a ++ b, c, y, is ∙ ap (λ (l : List Token). a ++ l) e ∙ sym (append_assoc a b c), (a, b, x, refl, p, q), t);
   front_there = λ u h. elim h [
     | inl f ↦ elim f [ inl g ↦ inl g | inr g ↦ let (a, b, x, e, p, q) = g in inr (a, b, x, e, p, inl q) ]
     | inr f ↦ let (ab, c, y, is, s, t) = f in let (a, b, x, e, p, q) = s in
@@ -87,9 +82,9 @@ bind_assoc A B C = record {
   front_back = λ u h. elim h [
     | inl f ↦ inl (inl f)
     | inr f ↦ let (a, bc, x, is, p, s) = f in elim s [
-        | inl g ↦ inl (inr (a, bc, x, is, p, g))
-        | inr g ↦ let (b, c, y, e, q, t) = g in inr (a ++ b, c, y, is ∙ ap (λ (l : List Token). a ++ l) e ∙ sym (append_assoc a b c), (a, b, x, refl, p, q), t)
-      ]
+      | inl g ↦ inl (inr (a, bc, x, is, p, g))
+      | inr g ↦ let (b, c, y, e, q, t) = g in inr (a ++ b, c, y, is ∙ ap (λ (l : List Token). a ++ l) e ∙ sym (append_assoc a b c), (a, b, x, refl, p, q), t)
+    ]
   ];
 }
 
@@ -145,4 +140,3 @@ bind_either X Y B = record {
     | inr f ↦ elim f [ inl g ↦ inl (inr g) | inr g ↦ let (a, b, x, e, p, q) = g in inr (a, b, x, e, inr p, q) ]
   ];
 }
-

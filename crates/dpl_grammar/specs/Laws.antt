@@ -1,6 +1,6 @@
 -- What a reader owes to the language that it reads.
 -- The language comes with a wider one, which has one more level of nesting, and the reader with that one's reader.
-use Rattle.std.specs.Prelude.{◌≡◌, ◌≤◌, List, [], ◌∷◌, ◌++◌, length, ◌⊎◌, Bool, true, false, Result, Ok, Err}
+use Rattle.std.specs.Prelude.{◌≡◌, ◌≤◌, List, [], ◌∷◌, ◌++◌, length, ◌⊎◌, Bool, true, false, Ok, Err}
 use Rattle.dpl_syntax.specs.declared.token.Token.{Token}
 use Rattle.dpl_grammar.specs.Classes.{Class, in_class, Lacks}
 use Rattle.dpl_grammar.specs.Language.{Language}

@@ -1,6 +1,6 @@
 -- Readers of tokens, from left to right.
 -- A reader is written as its language is, and where two ways part a class of next tokens says which one is taken.
-use Rattle.std.specs.Prelude.{◌≡◌, ℕ, zero, suc, List, [], ◌∷◌, length, Bool, true, false, cond, Result, Ok, Err, Option, Some, None}
+use Rattle.std.specs.Prelude.{ℕ, zero, suc, List, [], ◌∷◌, length, Bool, false, cond, Result, Ok, Err, Option, Some, None}
 use Rattle.dpl_syntax.specs.declared.token.Token.{Token}
 use Rattle.dpl_syntax.specs.declared.place.Place.{Place}
 use Rattle.dpl_grammar.specs.Classes.{Class, in_class}
@@ -76,8 +76,8 @@ unfoldable pub run_turns_at : {T : Type 0} → Class → (T → Bool) → Reader
 run_turns_at class more one zero ts = Ok ([], ts)
 run_turns_at class more one (suc n) ts =
     cond (next_in class ts)
-      (on_read (one ts) (λ x. cond (more x.0) (on_read (run_turns_at class more one n x.1) (λ xs. Ok (x.0 ∷ xs.0, xs.1))) (Ok (x.0 ∷ [], x.1))))
-      (Ok ([], ts))
+    (on_read (one ts) (λ x. cond (more x.0) (on_read (run_turns_at class more one n x.1) (λ xs. Ok (x.0 ∷ xs.0, xs.1))) (Ok (x.0 ∷ [], x.1))))
+    (Ok ([], ts))
 
 -- as many as begin with a token of the class, up to one that lets no other follow
 abbrev pub run_at : {T : Type 0} → Class → (T → Bool) → Reader T → Reader (List T)

@@ -1,11 +1,11 @@
 -- Operands with commas between them, as the loop over them has read them so far.
-use Rattle.std.proofs.Common.{◌≡◌, ◌<◌, true, false, List, [], ◌∷◌, ◌++◌, map, length, Ok, Err, refl, sym, ap, ◌∙◌, append_assoc}
+use Rattle.std.proofs.Common.{◌≡◌, ◌<◌, true, false, List, [], ◌∷◌, ◌++◌, map, length, Ok, refl, sym, ap, append_assoc}
 use Rattle.std.proofs.lemmas.List.{map_push, append-nil}
 use Rattle.dpl_syntax.specs.declared.place.Place.{Place}
 use Rattle.dpl_syntax.specs.declared.token.Token.{Token}
 use Rattle.dpl_syntax.specs.declared.token.Sign.TheVariants.{Comma}
 use Rattle.dpl_grammar.specs.Classes.{sign}
-use Rattle.dpl_grammar.specs.Reader.{Reader, next_in, on_read, many_at}
+use Rattle.dpl_grammar.specs.Reader.{Reader, next_in, on_read}
 use Rattle.dpl_parse.specs.Grammar.{Expression, listed}
 use Rattle.dpl_parse.specs.Reading.{after_comma_at, operands_after_at}
 use Rattle.dpl_parse.specs.Gives.{Fails}

@@ -1,12 +1,12 @@
 -- Fronts and spellings of programs over all depths, from the laws that the program's reader keeps.
 -- One more level changes nothing but a stop for want of room, so what holds with d levels holds with more.
-use Rattle.std.proofs.Common.{◌≡◌, ◌⊎◌, inl, inr, ℕ, zero, suc, ◌+◌, ◌≤◌, Bool, true, false, List, [], ◌∷◌, ◌++◌, length, Result, Ok, Err, refl, sym, ap, ◌∙◌, append_assoc, arith}
+use Rattle.std.proofs.Common.{◌≡◌, inl, inr, ℕ, zero, suc, ◌+◌, ◌≤◌, true, List, [], ◌∷◌, ◌++◌, length, Ok, Err, refl, sym, ap, ◌∙◌, append_assoc, arith}
 use Rattle.std.proofs.lemmas.List.{append-nil}
 use Rattle.dpl_syntax.specs.declared.token.Kind.TheVariants.{End}
 use Rattle.dpl_syntax.specs.declared.token.Token.{Token}
 use Rattle.dpl_grammar.specs.Classes.{in_class, end}
 use Rattle.dpl_grammar.specs.Language.{token, ◌>>=◌, done, many}
-use Rattle.dpl_grammar.specs.Reader.{Cause, Unexpected, NoRoom, Read, rest_of, next_in}
+use Rattle.dpl_grammar.specs.Reader.{Cause, Unexpected, NoRoom, Read, rest_of}
 use Rattle.dpl_grammar.specs.Laws.{Tells, Settles}
 use Rattle.dpl_grammar.proofs.Classes.{lacks_last}
 use Rattle.dpl_parse.specs.Grammar.{Program, program, statement, below}

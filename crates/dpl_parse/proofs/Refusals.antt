@@ -1,6 +1,6 @@
 -- Tokens have one refusal at the most, and then spell no program of at most 64 levels.
 -- With the reader's own answer: they have one or the other.
-use Rattle.std.proofs.Common.{◌≡◌, ◌⊎◌, inl, inr, ℕ, zero, suc, ◌+◌, true, List, [], ◌∷◌, ◌++◌, Option, Some, None, Result, Ok, Err, refl, sym, ap, ◌∙◌, append_assoc, arith}
+use Rattle.std.proofs.Common.{◌≡◌, ◌⊎◌, inl, inr, List, [], ◌∷◌, ◌++◌, Option, Some, None, Ok, Err, refl, sym, ap, ◌∙◌, append_assoc}
 use Rattle.std.proofs.lemmas.List.{append-nil}
 use Rattle.dpl_syntax.specs.declared.place.Place.{Place}
 use Rattle.dpl_syntax.specs.declared.token.Kind.TheVariants.{End}
@@ -8,7 +8,6 @@ use Rattle.dpl_syntax.specs.declared.token.Token.{Token}
 use Rattle.dpl_syntax.specs.declared.refusal.Code.{Code}
 use Rattle.dpl_syntax.specs.declared.refusal.Code.TheVariants.{Unexpected as UnexpectedCode, TooDeep}
 use Rattle.dpl_syntax.specs.declared.refusal.Refusal.{Refusal}
-use Rattle.dpl_grammar.specs.Classes.{in_class, end}
 use Rattle.dpl_grammar.specs.Reader.{Cause, Unexpected, NoRoom, Read, rest_of}
 use Rattle.dpl_grammar.specs.Laws.{Tells}
 use Rattle.dpl_grammar.proofs.Lists.{cuts}
@@ -16,7 +15,7 @@ use Rattle.dpl_parse.specs.Grammar.{Program, program, below}
 use Rattle.dpl_parse.specs.Theorem.{Spells, IsFront, IsUnexpected, IsTooDeep, IsUnended, RefusesBy, Refuses}
 use Rattle.dpl_parse.specs.Gives.{place_of, code_of}
 use Rattle.dpl_parse.proofs.Rules.{program_reads}
-use Rattle.dpl_parse.proofs.Fronts.{read, stays, stops_no_front, stops_no_front_at_all, front_before, spelled_front, read_spelled, read_unspelled, ended_spelled, not_room}
+use Rattle.dpl_parse.proofs.Fronts.{read, stops_no_front, stops_no_front_at_all, front_before, spelled_front, read_spelled, read_unspelled, ended_spelled, not_room}
 
 -- the tokens before a token are a front within 64 levels, and with it they are none
 record IsStop (tokens before : List Token) (token : Token) : Type 0 where
@@ -45,9 +44,9 @@ stop_behind u v c w k not e f =
 -- there is one stop
 stop_one : (ts u v : List Token) (k j : Token) → IsStop ts u k → IsStop ts v j → (u ≡ v) × (k ≡ j)
 stop_one ts u v k j g h = elim (cuts u (k ∷ g.after) v (j ∷ h.after) (sym g.split ∙ h.split)) [
-    | inl x ↦ forward u v k j g.after h.after x.0 x.1 x.2 g.ends h.begins
-    | inr x ↦ let same = forward v u j k h.after g.after x.0 x.1 x.2 h.ends g.begins in (sym same.0, sym same.1)
-  ]
+  | inl x ↦ forward u v k j g.after h.after x.0 x.1 x.2 g.ends h.begins
+  | inr x ↦ let same = forward v u j k h.after g.after x.0 x.1 x.2 h.ends g.begins in (sym same.0, sym same.1)
+]
   where
     forward : (u v : List Token) (k j : Token) (w x c : List Token) → v ≡ u ++ c → k ∷ w ≡ c ++ j ∷ x → (IsFront 64 (u ++ k ∷ []) → ⊥) → IsFront 64 v → (u ≡ v) × (k ≡ j)
     forward u v k j w x [] e is not f = (sym (e ∙ append-nil u), cc)
@@ -127,7 +126,12 @@ stopped_refused ts rest Unexpected is = at rest (rw is at ((program_reads 64).te
       no_program = λ d t s. read_unspelled 64 d ts [] t is s;
     }
     at (k ∷ rest) h is = record {
-      before = h.0; token = k; after = rest; split = h.1; place = refl; begins = h.2;
+      before = h.0;
+      token = k;
+      after = rest;
+      split = h.1;
+      place = refl;
+      begins = h.2;
       no_front = λ d f. stops_no_front_at_all 64 d h.0 rest k (Err (Unexpected, k ∷ rest)) (λ l e. not_room (k ∷ rest) l e) refl (ap (read 64) (sym h.1) ∙ is) f;
     }
 stopped_refused ts rest NoRoom is = at rest (rw is at ((program_reads 64).tells ts)) is
@@ -135,20 +139,30 @@ stopped_refused ts rest NoRoom is = at rest (rw is at ((program_reads 64).tells 
     at : (rest : List Token) → Tells (program (below 64)) (program (below 65)) ts (Err (NoRoom, rest)) → read 64 ts ≡ Err (NoRoom, rest) → Refuses ts (record { code = TooDeep; place = place_of rest })
     at [] h is = let x = h.3 refl in absurd cc
     at (k ∷ rest) h is =
-      let x = h.3 refl in
-      let same : k ≡ x.0 = cc in
-      record {
-        before = h.0; token = k; after = rest; split = h.1; place = refl; begins = h.2;
-        no_room = λ f. stops_no_front 64 h.0 rest k (ap (λ (l : List Token). rest_of (read 64 l)) (sym h.1) ∙ ap rest_of is) f;
-        deeper = rw same x.3;
-      }
+        let x = h.3 refl in
+        let same : k ≡ x.0 = cc in
+        record {
+          before = h.0;
+          token = k;
+          after = rest;
+          split = h.1;
+          place = refl;
+          begins = h.2;
+          no_room = λ f. stops_no_front 64 h.0 rest k (ap (λ (l : List Token). rest_of (read 64 l)) (sym h.1) ∙ ap rest_of is) f;
+          deeper = rw same x.3;
+        }
 
 -- where tokens are left behind the END, the first of them is the refusal
 pub left_refused : (ts rest : List Token) (t : Program) (k : Token) → read 64 ts ≡ Ok (t, k ∷ rest) → Refuses ts (record { code = UnexpectedCode; place = Some k.at })
 left_refused ts rest t k is =
     let h : Tells (program (below 64)) (program (below 65)) ts (Ok (t, k ∷ rest)) = rw is at ((program_reads 64).tells ts) in
     record {
-      before = h.0; token = k; after = rest; split = h.1; place = refl; begins = spelled_front 64 h.0 t h.2;
+      before = h.0;
+      token = k;
+      after = rest;
+      split = h.1;
+      place = refl;
+      begins = spelled_front 64 h.0 t h.2;
       no_front = λ d f. stops_no_front_at_all 64 d h.0 rest k (Ok (t, k ∷ rest)) (λ l e. absurd cc) refl (ap (read 64) (sym h.1) ∙ is) f;
     }
 

@@ -1,12 +1,11 @@
 -- What the parser's results say: the tree of a program that is read to its end, or the tokens' refusal.
-use Rattle.std.proofs.Common.{◌≡◌, ◌⊎◌, inl, inr, ℕ, zero, suc, List, [], ◌∷◌, length, Result, Ok, Err, refl, sym, ap, subst, ◌∙◌}
+use Rattle.std.proofs.Common.{◌≡◌, ◌⊎◌, inl, inr, ℕ, List, [], ◌∷◌, length, Result, Ok, Err, refl, sym, ap, subst, ◌∙◌}
 use Rattle.dpl_syntax.specs.declared.token.Token.{Token}
 use Rattle.dpl_syntax.specs.declared.refusal.Code.TheVariants.{Unexpected as UnexpectedCode}
 use Rattle.dpl_syntax.specs.declared.refusal.Refusal.{Refusal}
-use Rattle.dpl_grammar.specs.Reader.{Read}
 use Rattle.dpl_parse.specs.Grammar.{Program}
 use Rattle.dpl_parse.specs.Theorem.{Spells, Refuses}
-use Rattle.dpl_parse.specs.Gives.{place_of, code_of, Fails}
+use Rattle.dpl_parse.specs.Gives.{place_of, Fails}
 use Rattle.dpl_parse.specs.declared.stop.ParseStop.{ParseStop}
 use Rattle.dpl_parse.specs.declared.stop.ParseStop.TheVariants.{Memory, Refused}
 use Rattle.dpl_parse.proofs.Fronts.{read, read_spelled, read_only}

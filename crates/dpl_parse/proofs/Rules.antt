@@ -1,6 +1,6 @@
 -- Each rule's reader reads the rule: one term for each rule, from the innermost on.
 -- The conditions that are `refl` say that one token of look-ahead tells the ways apart.
-use Rattle.std.proofs.Common.{◌≡◌, ℕ, zero, suc, Bool, true, false, cond, List, [], ◌∷◌, ◌++◌, Option, Some, None, Ok, Err, inl, inr, refl}
+use Rattle.std.proofs.Common.{◌≡◌, ℕ, zero, suc, Bool, true, false, List, [], ◌∷◌, ◌++◌, Some, None, Err, inl, inr, refl}
 use Rattle.dpl_syntax.specs.declared.place.Place.{Place}
 use Rattle.dpl_syntax.specs.declared.token.Keyword.TheVariants.{Var, Const, Int, Writeln as WritelnWord, Forall as ForallWord, In, By, With, Reduce, Do}
 use Rattle.dpl_syntax.specs.declared.token.Sign.TheVariants.{DotDot, PlusAssign, StarAssign, Assign, Plus, Minus, Star, OpenRound, CloseRound, Comma, Semicolon, Colon}
@@ -11,8 +11,8 @@ use Rattle.dpl_syntax.specs.declared.operator.Infix.TheVariants.{Add, Subtract, 
 use Rattle.dpl_syntax.specs.declared.operator.Op.TheVariants.{Add as AddOp, Multiply as MultiplyOp}
 use Rattle.dpl_syntax.specs.declared.operator.Assign.TheVariants.{Set, Add as AddTo, Multiply as MultiplyBy}
 use Rattle.dpl_syntax.specs.Tree.{Number, Named, Bracketed, Prefixed, Declare, Assigned, Writeln, Forall}
-use Rattle.dpl_grammar.specs.Classes.{Class, names, numbers, end, sign, keyword, in_class, apart, within}
-use Rattle.dpl_grammar.specs.Language.{Language, never, done, token, ◌>>=◌, either, maybe, means, many}
+use Rattle.dpl_grammar.specs.Classes.{Class, names, numbers, end, sign, keyword, in_class, apart}
+use Rattle.dpl_grammar.specs.Language.{Language, done, token, ◌>>=◌, many}
 use Rattle.dpl_grammar.specs.Reader as reader
 use Rattle.dpl_grammar.specs.Reader.{Unexpected, Reader, done_at, next_in, token_at}
 use Rattle.dpl_grammar.specs.Laws.{Reads}
@@ -20,7 +20,7 @@ use Rattle.dpl_grammar.proofs.Classes.{apart_none, within_self, within_append}
 use Rattle.dpl_grammar.proofs.Basic.{done_reads}
 use Rattle.dpl_grammar.proofs.Choice.{no_room_reads}
 use Rattle.dpl_grammar.proofs.Rules.{then_reads, made_reads, token_then, means_reads, else_reads, many_read, maybe_reads, ends_more, room_reads, lacks_nothing}
-use Rattle.dpl_parse.specs.Grammar.{Expression, Statement, Program, text_of, value_of, Below, deeper, Further, chain_of, further, chain, name, number, bracketed, factor, product_operator, product, negative, term, sum_operator, expression, assign_operator, assignment, declared_type, initial, typed, declared, declaration_word, declaration, after_comma, listed, operands, arguments, print, stride, bounds, reduce_operator, intent, loop, statement, program, below}
+use Rattle.dpl_parse.specs.Grammar.{Expression, text_of, value_of, Below, deeper, chain_of, further, chain, name, number, bracketed, factor, product_operator, product, negative, term, sum_operator, expression, assign_operator, assignment, declared_type, initial, typed, declared, declaration_word, declaration, after_comma, listed, operands, arguments, print, stride, bounds, reduce_operator, intent, loop, statement, program, below}
 use Rattle.dpl_parse.specs.Reading.{sum_signs, product_signs, begins_factor, begins_expression, declaration_words, begins_statement, BelowAt, deeper_at, further_at, chain_at, name_at, number_at, bracketed_at, factor_at, product_operator_at, product_at, negative_at, term_at, sum_operator_at, expression_at, assign_operator_at, assignment_at, declared_type_at, initial_at, typed_at, declared_at, declaration_word_at, declaration_at, after_comma_at, operands_after_at, operands_at, arguments_at, print_at, stride_at, bounds_at, reduce_operator_at, intent_at, loop_at, statement_at, program_at, below_at}
 
 -- what goes on with a term, an expression, an initial value, arguments and bounds
@@ -67,7 +67,7 @@ module _ {operator : Language (Place × Infix)} {operator_at : Reader (Place × 
   unfolding chain chain_at further further_at
   chain_reads one two a =
       then_reads two (λ first. made_reads (chain_of first) (many_read (then_reads one (λ o. made_reads (λ x. record { at = o.0; op = o.1; right = x }) two) (apart_none F) refl) a))
-        a (within_append signs C C (within_self C))
+      a (within_append signs C C (within_self C))
 
 name_reads : Reads end name name name_at name_at false names (λ x. [])
 unfolding name name_at
@@ -165,7 +165,7 @@ module _ (d : ℕ) (room : Room d) where
       (λ b k. reduce_operator >>= λ o. token (keyword Reduce) >>= λ r. name >>= λ x. token (sign CloseRound) >>= λ l. done (record { with = w.at; from = k.at; at = o.0; op = o.1; reduce = r.at; name = x; upto = l.at }))
       (λ b k. reader.◌>>=◌ reduce_operator_at (λ o. reader.◌>>=◌ (token_at (keyword Reduce)) (λ r. reader.◌>>=◌ name_at (λ x. reader.◌>>=◌ (token_at (sign CloseRound)) (λ l. done_at (record { with = w.at; from = k.at; at = o.0; op = o.1; reduce = r.at; name = x; upto = l.at })))))) d room refl
       (λ e h k. then_reads reduce_operator_reads (λ o. token_then (keyword Reduce) refl (λ r. then_reads name_reads (λ x. token_then (sign CloseRound) refl (λ l.
-          done_reads (record { with = w.at; from = k.at; at = o.0; op = o.1; reduce = r.at; name = x; upto = l.at }))) refl refl)) refl refl))
+      done_reads (record { with = w.at; from = k.at; at = o.0; op = o.1; reduce = r.at; name = x; upto = l.at }))) refl refl)) refl refl))
 
 -- operands with commas between them
 module _ {N N' : Language Expression} {p p' : Reader Expression} where

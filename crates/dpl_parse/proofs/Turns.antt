@@ -1,6 +1,6 @@
 -- Loops that read as many values as there are.
 -- Where the loop stands, the values read before go in front of what is still read, and together these are what the whole reads.
-use Rattle.std.proofs.Common.{◌≡◌, ℕ, zero, suc, ◌+◌, ◌≤◌, ◌<◌, Bool, true, false, cond, List, [], ◌∷◌, ◌++◌, length, Result, Ok, Err, refl, sym, ap, subst, ◌∙◌, append_assoc, arith}
+use Rattle.std.proofs.Common.{◌≡◌, ℕ, zero, suc, ◌≤◌, ◌<◌, true, false, List, [], ◌∷◌, ◌++◌, length, Ok, Err, refl, sym, ap, ◌∙◌, append_assoc, arith}
 use Rattle.std.proofs.lemmas.List.{append-nil}
 use Rattle.dpl_syntax.specs.declared.token.Token.{Token}
 use Rattle.dpl_grammar.specs.Classes.{Class}
@@ -32,23 +32,23 @@ module _ {T : Type 0} (F : Class) (p : Reader T) (tokens : List Token) where
   begins = record { turns = length tokens; enough = omega arith; whole = front_none (many_at F p tokens); shorter = omega arith }
 
   goes_on_at : (n : ℕ) (front : List T) (rest : List Token) (x : T) (after : List Token) → length rest ≤ n → with_front front (each_at F p n rest) ≡ many_at F p tokens → length rest ≤ length tokens
-    → next_in F rest ≡ true → p rest ≡ Ok (x, after) → length after < length rest → IsSoFar F p tokens (front ++ x ∷ []) after
+      → next_in F rest ≡ true → p rest ≡ Ok (x, after) → length after < length rest → IsSoFar F p tokens (front ++ x ∷ []) after
   unfolding each_at
   goes_on_at zero front rest x after le w s is e lt = absurd (omega arith)
   goes_on_at (suc n) front rest x after le w s is e lt =
-    let one : each_at F p (suc n) rest ≡ on_read (each_at F p n after) (λ xs. Ok (x ∷ xs.0, xs.1)) = rw (is, e) refl in
-    record { turns = n; enough = omega arith; whole = sym (regroup front x (each_at F p n after)) ∙ sym (ap (with_front front) one) ∙ w; shorter = omega arith }
+      let one : each_at F p (suc n) rest ≡ on_read (each_at F p n after) (λ xs. Ok (x ∷ xs.0, xs.1)) = rw (is, e) refl in
+      record { turns = n; enough = omega arith; whole = sym (regroup front x (each_at F p n after)) ∙ sym (ap (with_front front) one) ∙ w; shorter = omega arith }
 
   pub goes_on : (front : List T) (rest : List Token) (x : T) (after : List Token) → IsSoFar F p tokens front rest
-    → next_in F rest ≡ true → p rest ≡ Ok (x, after) → length after < length rest → IsSoFar F p tokens (front ++ x ∷ []) after
+      → next_in F rest ≡ true → p rest ≡ Ok (x, after) → length after < length rest → IsSoFar F p tokens (front ++ x ∷ []) after
   goes_on front rest x after h is e lt = goes_on_at h.turns front rest x after h.enough h.whole h.shorter is e lt
 
   ends_at : (n : ℕ) (front : List T) (rest : List Token) → with_front front (each_at F p n rest) ≡ many_at F p tokens → next_in F rest ≡ false → many_at F p tokens ≡ Ok (front, rest)
   unfolding each_at
   ends_at zero front rest w not = sym w ∙ ap (λ (l : List T). Ok (l, rest)) (append-nil front)
   ends_at (suc n) front rest w not =
-    let none : each_at F p (suc n) rest ≡ Ok ([], rest) = rw not refl in
-    sym w ∙ ap (with_front front) none ∙ ap (λ (l : List T). Ok (l, rest)) (append-nil front)
+      let none : each_at F p (suc n) rest ≡ Ok ([], rest) = rw not refl in
+      sym w ∙ ap (with_front front) none ∙ ap (λ (l : List T). Ok (l, rest)) (append-nil front)
 
   pub ends : (front : List T) (rest : List Token) → IsSoFar F p tokens front rest → next_in F rest ≡ false → many_at F p tokens ≡ Ok (front, rest)
   ends front rest h not = ends_at h.turns front rest h.whole not
@@ -58,8 +58,8 @@ module _ {T : Type 0} (F : Class) (p : Reader T) (tokens : List Token) where
   fails_at zero front [] e le w is er = absurd cc
   fails_at zero front (k ∷ rest) e le w is er = absurd (omega arith)
   fails_at (suc n) front rest e le w is er =
-    let one : each_at F p (suc n) rest ≡ Err e = rw (is, er) refl in
-    sym w ∙ ap (with_front front) one
+      let one : each_at F p (suc n) rest ≡ Err e = rw (is, er) refl in
+      sym w ∙ ap (with_front front) one
 
   pub fails : (front : List T) (rest : List Token) (e : Cause × List Token) → IsSoFar F p tokens front rest → next_in F rest ≡ true → p rest ≡ Err e → many_at F p tokens ≡ Err e
   fails front rest e h is er = fails_at h.turns front rest e h.enough h.whole is er

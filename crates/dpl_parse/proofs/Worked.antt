@@ -1,5 +1,5 @@
 -- Rows of tokens, worked out against the definitions. The n-th token of a row stands at 1:n.
-use Rattle.std.proofs.Common.{◌≡◌, ℕ, zero, suc, ◌+◌, ◌-◌, ◌*◌, true, false, List, [], ◌∷◌, ◌++◌, codes, drop, Some, None, Ok, Err, refl}
+use Rattle.std.proofs.Common.{◌≡◌, ℕ, zero, suc, ◌+◌, ◌-◌, ◌*◌, false, List, [], ◌∷◌, ◌++◌, codes, drop, Some, None, Ok, Err, refl}
 use Rattle.std.specs.Prelude.{pos}
 use Rattle.dpl_syntax.specs.declared.place.Place.{Place}
 use Rattle.dpl_syntax.specs.declared.refusal.Code.TheVariants.{Unexpected as UnexpectedCode, TooDeep}
@@ -8,11 +8,10 @@ use Rattle.dpl_syntax.specs.declared.token.Sign.TheVariants.{DotDot, PlusAssign,
 use Rattle.dpl_syntax.specs.declared.token.Kind.{Kind}
 use Rattle.dpl_syntax.specs.declared.token.Kind.TheVariants.{Name, Number as NumberKind, Keyword, Sign, End}
 use Rattle.dpl_syntax.specs.declared.token.Token.{Token}
-use Rattle.dpl_syntax.specs.declared.operator.Prefix.TheVariants.{Minus as MinusOp}
-use Rattle.dpl_syntax.specs.declared.operator.Infix.TheVariants.{Add, Subtract, Multiply}
+use Rattle.dpl_syntax.specs.declared.operator.Infix.TheVariants.{Subtract, Multiply}
 use Rattle.dpl_syntax.specs.declared.operator.Op.TheVariants.{Add as AddOp}
 use Rattle.dpl_syntax.specs.declared.operator.Assign.TheVariants.{Add as AddTo}
-use Rattle.dpl_syntax.specs.Tree.{Placed, Number, Named, Bracketed, Prefixed, Chain, NoLinks, Link, Declare, Assigned, Writeln, Forall}
+use Rattle.dpl_syntax.specs.Tree.{Placed, Number, Named, Bracketed, Chain, NoLinks, Link, Declare, Assigned, Writeln, Forall}
 use Rattle.dpl_grammar.specs.Reader.{Unexpected, NoRoom, each_at}
 use Rattle.dpl_parse.specs.Grammar.{Expression, Program, chain_of}
 use Rattle.dpl_parse.specs.Reading.{further_at, chain_at, name_at, number_at, bracketed_at, factor_at, product_operator_at, product_at, negative_at, term_at, sum_operator_at, expression_at, assign_operator_at, assignment_at, declared_type_at, initial_at, typed_at, declared_at, declaration_word_at, declaration_at, after_comma_at, operands_after_at, operands_at, arguments_at, print_at, stride_at, bounds_at, reduce_operator_at, intent_at, loop_at, statement_at, program_at, below_at}
@@ -44,8 +43,8 @@ abbrev products_tree : Program
 products_tree = record {
   stmts = Writeln (at 1) (at 2)
       (Chain (Number (at 3) (pos 1))
-        (Link (at 4) Subtract (Chain (Number (at 5) (pos 2)) (Link (at 6) Multiply (Number (at 7) (pos 3)) NoLinks))
-        (Link (at 8) Subtract (Number (at 9) (pos 4)) NoLinks)) ∷ [])
+      (Link (at 4) Subtract (Chain (Number (at 5) (pos 2)) (Link (at 6) Multiply (Number (at 7) (pos 3)) NoLinks))
+      (Link (at 8) Subtract (Number (at 9) (pos 4)) NoLinks)) ∷ [])
       [] (at 10) (at 11) ∷ [];
   end = at 12;
 }
@@ -54,21 +53,21 @@ products_tree = record {
 abbrev squares : List Token
 squares = row (
     Keyword Var ∷ Name (codes "s") ∷ Sign Colon ∷ Keyword Int ∷ Sign Semicolon
-  ∷ Keyword ForallWord ∷ Name (codes "i") ∷ Keyword In ∷ NumberKind (pos 1) ∷ Sign DotDot ∷ NumberKind (pos 8) ∷ Keyword By ∷ NumberKind (pos 2)
-  ∷ Keyword With ∷ Sign OpenRound ∷ Sign Plus ∷ Keyword Reduce ∷ Name (codes "s") ∷ Sign CloseRound
-  ∷ Keyword Do ∷ Name (codes "s") ∷ Sign PlusAssign ∷ Name (codes "i") ∷ Sign Star ∷ Name (codes "i") ∷ Sign Semicolon
-  ∷ Keyword WritelnWord ∷ Sign OpenRound ∷ Name (codes "s") ∷ Sign CloseRound ∷ Sign Semicolon ∷ [])
+    ∷ Keyword ForallWord ∷ Name (codes "i") ∷ Keyword In ∷ NumberKind (pos 1) ∷ Sign DotDot ∷ NumberKind (pos 8) ∷ Keyword By ∷ NumberKind (pos 2)
+    ∷ Keyword With ∷ Sign OpenRound ∷ Sign Plus ∷ Keyword Reduce ∷ Name (codes "s") ∷ Sign CloseRound
+    ∷ Keyword Do ∷ Name (codes "s") ∷ Sign PlusAssign ∷ Name (codes "i") ∷ Sign Star ∷ Name (codes "i") ∷ Sign Semicolon
+    ∷ Keyword WritelnWord ∷ Sign OpenRound ∷ Name (codes "s") ∷ Sign CloseRound ∷ Sign Semicolon ∷ [])
 
 abbrev squares_tree : Program
 squares_tree = record {
   stmts = Declare (at 1) false (named 2 (codes "s")) (Some (record { colon = at 3; int = at 4 })) None (at 5)
-    ∷ Forall (at 6) (named 7 (codes "i")) (at 8)
-        (record { low = Number (at 9) (pos 1); dots = at 10; high = Number (at 11) (pos 8); by = Some (record { at = at 12; value = Number (at 13) (pos 2) }) })
-        (Some (record { with = at 14; from = at 15; at = at 16; op = AddOp; reduce = at 17; name = named 18 (codes "s"); upto = at 19 }))
-        (at 20)
-        (Assigned (named 21 (codes "s")) (at 22) AddTo (Chain (Named (named 23 (codes "i"))) (Link (at 24) Multiply (Named (named 25 (codes "i"))) NoLinks)) (at 26))
-    ∷ Writeln (at 27) (at 28) (Named (named 29 (codes "s")) ∷ []) [] (at 30) (at 31)
-    ∷ [];
+      ∷ Forall (at 6) (named 7 (codes "i")) (at 8)
+      (record { low = Number (at 9) (pos 1); dots = at 10; high = Number (at 11) (pos 8); by = Some (record { at = at 12; value = Number (at 13) (pos 2) }) })
+      (Some (record { with = at 14; from = at 15; at = at 16; op = AddOp; reduce = at 17; name = named 18 (codes "s"); upto = at 19 }))
+      (at 20)
+      (Assigned (named 21 (codes "s")) (at 22) AddTo (Chain (Named (named 23 (codes "i"))) (Link (at 24) Multiply (Named (named 25 (codes "i"))) NoLinks)) (at 26))
+      ∷ Writeln (at 27) (at 28) (Named (named 29 (codes "s")) ∷ []) [] (at 30) (at 31)
+      ∷ [];
   end = at 32;
 }
 

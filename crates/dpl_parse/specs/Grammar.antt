@@ -1,6 +1,6 @@
 -- The grammar: what spells a program, rule by rule. Above each rule stands its line of the grammar;
 -- braces mean any number, square brackets at most one, words in quotes are tokens.
-use Rattle.std.specs.Prelude.{ℕ, zero, suc, ℤ, pos, Bool, true, false, List, [], ◌∷◌, ◌++◌, map, Option, Some, None}
+use Rattle.std.specs.Prelude.{ℕ, zero, suc, ℤ, pos, Bool, true, false, List, [], ◌∷◌, map, Option, Some, None}
 use Rattle.dpl_syntax.specs.declared.place.Place.{Place}
 use Rattle.dpl_syntax.specs.declared.token.Kind.{Kind}
 use Rattle.dpl_syntax.specs.declared.token.Kind.TheVariants.{Name as NameKind, Number as NumberKind}

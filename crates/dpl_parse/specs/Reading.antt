@@ -1,6 +1,6 @@
 -- Reading by the grammar: each rule's reader has the shape of the rule.
 -- Where ways part, the class of the next token that takes the first of them stands beside.
-use Rattle.std.specs.Prelude.{ℕ, zero, suc, Bool, true, false, List, [], ◌∷◌, ◌++◌, Option, Some, None, Ok, Err}
+use Rattle.std.specs.Prelude.{ℕ, zero, suc, Bool, true, false, List, [], ◌++◌, Option, Some, None}
 use Rattle.dpl_syntax.specs.declared.place.Place.{Place}
 use Rattle.dpl_syntax.specs.declared.token.Keyword.TheVariants.{Var, Const, Int, Writeln as WritelnWord, Forall as ForallWord, In, By, With, Reduce, Do}
 use Rattle.dpl_syntax.specs.declared.token.Sign.TheVariants.{DotDot, PlusAssign, StarAssign, Assign, Plus, Minus, Star, OpenRound, CloseRound, Comma, Semicolon, Colon}

@@ -26,7 +26,12 @@ pub fn arguments(alloc: Global, room: u32, tokens: &[Token]) -> Parsed<'_, (Vec<
 }
 
 /// { "," e }, after a first e
-fn operands_after(alloc: Global, room: u32, first: Expr, tokens: &[Token]) -> Parsed<'_, (Vec<Expr>, Vec<Place>)>
+fn operands_after(
+    alloc: Global,
+    room: u32,
+    first: Expr,
+    tokens: &[Token],
+) -> Parsed<'_, (Vec<Expr>, Vec<Place>)>
     ensures gives { Gives (λ x. ((map (expr_view spelled) x.0.0.items, x.0.1.items), x.1.now)) result (operands_after_at (expression_at (below_at room)) (expr_view spelled first) tokens.now) }
     ensures shorter { IfOk result (λ x. length x.1.now ≤ length tokens.now) }
 {

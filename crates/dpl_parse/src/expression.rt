@@ -72,7 +72,10 @@ fn term(alloc: Global, room: u32, tokens: &[Token]) -> Parsed<'_, Expr>
     }
     let (minus, room, rest) = deeper(room, Sign::Minus, tokens)?;
     let (operand, rest) = term(alloc, room, rest)?;
-    Ok((Expr::Prefixed(minus.at, Prefix::Minus, Box::new(alloc, operand)?), rest))
+    Ok((
+        Expr::Prefixed(minus.at, Prefix::Minus, Box::new(alloc, operand)?),
+        rest,
+    ))
 }
 
 /// f = name | number | "(" e ")"
@@ -83,11 +86,23 @@ fn factor(alloc: Global, room: u32, tokens: &[Token]) -> Parsed<'_, Expr>
     ensures shorter { IfOk result (λ x. length x.1.now < length tokens.now) }
 {
     match tokens {
-        [Token { kind: Kind::Name(_), .. }, ..] => {
+        [
+            Token {
+                kind: Kind::Name(_),
+                ..
+            },
+            ..
+        ] => {
             let (named, rest) = name(alloc, tokens)?;
             Ok((Expr::Named(named), rest))
         }
-        [Token { kind: Kind::Number(_), .. }, ..] => number(tokens),
+        [
+            Token {
+                kind: Kind::Number(_),
+                ..
+            },
+            ..
+        ] => number(tokens),
         _ => bracketed(alloc, room, tokens),
     }
 }
@@ -103,7 +118,14 @@ fn bracketed(alloc: Global, room: u32, tokens: &[Token]) -> Parsed<'_, Expr>
     let (inner, rest) = expression(alloc, room, rest)?;
     let (close, rest) = sign(Sign::CloseRound, rest)?;
     let inner = Box::new(alloc, inner)?;
-    Ok((Expr::Bracketed { open: open.at, inner, close: close.at }, rest))
+    Ok((
+        Expr::Bracketed {
+            open: open.at,
+            inner,
+            close: close.at,
+        },
+        rest,
+    ))
 }
 
 /// operand { operator operand }
@@ -176,7 +198,10 @@ pub fn begins_expression(tokens: &[Token]) -> bool
     ensures { result ≡ next_in begins_expression tokens.now }
 {
     match tokens {
-        [next, ..] => matches!(next.kind, Kind::Name(_) | Kind::Number(_) | Kind::Sign(Sign::OpenRound | Sign::Minus)),
+        [next, ..] => matches!(
+            next.kind,
+            Kind::Name(_) | Kind::Number(_) | Kind::Sign(Sign::OpenRound | Sign::Minus)
+        ),
         [] => false,
     }
 }

@@ -78,7 +78,8 @@ fn begins_statement(tokens: &[Token]) -> bool
     match tokens {
         [next, ..] => matches!(
             next.kind,
-            Kind::Name(_) | Kind::Keyword(Keyword::Var | Keyword::Const | Keyword::Writeln | Keyword::Forall)
+            Kind::Name(_)
+                | Kind::Keyword(Keyword::Var | Keyword::Const | Keyword::Writeln | Keyword::Forall)
         ),
         [] => false,
     }

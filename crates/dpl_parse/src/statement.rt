@@ -11,7 +11,9 @@ ghost use Rattle.dpl_parse.specs.Parts.{initial_part, intent_part};
 
 use crate::argument::arguments;
 use crate::expression::expression;
-use crate::token::{Parsed, deeper, descend, is_keyword, is_name, is_sign, keyword, means, name, sign, unexpected};
+use crate::token::{
+    Parsed, deeper, descend, is_keyword, is_name, is_sign, keyword, means, name, sign, unexpected,
+};
 use dpl_syntax::tree::{Bounds, DeclaredType, Initial, Intent, Stmt, Stride};
 use dpl_syntax::{Assign, Keyword, Kind, Op, Place, Sign, Token};
 use std::alloc::Global;
@@ -23,9 +25,27 @@ pub fn statement(alloc: Global, room: u32, tokens: &[Token]) -> Parsed<'_, Stmt>
     ensures shorter { IfOk result (λ x. length x.1.now < length tokens.now) }
 {
     match tokens {
-        [Token { kind: Kind::Keyword(Keyword::Var | Keyword::Const), .. }, ..] => declaration(alloc, room, tokens),
-        [Token { kind: Kind::Name(_), .. }, ..] => assignment(alloc, room, tokens),
-        [Token { kind: Kind::Keyword(Keyword::Writeln), .. }, ..] => print(alloc, room, tokens),
+        [
+            Token {
+                kind: Kind::Keyword(Keyword::Var | Keyword::Const),
+                ..
+            },
+            ..
+        ] => declaration(alloc, room, tokens),
+        [
+            Token {
+                kind: Kind::Name(_),
+                ..
+            },
+            ..
+        ] => assignment(alloc, room, tokens),
+        [
+            Token {
+                kind: Kind::Keyword(Keyword::Writeln),
+                ..
+            },
+            ..
+        ] => print(alloc, room, tokens),
         _ => forall(alloc, room, tokens),
     }
 }
@@ -40,7 +60,16 @@ fn assignment(alloc: Global, room: u32, tokens: &[Token]) -> Parsed<'_, Stmt>
     let ((at, op), rest) = assign_operator(rest)?;
     let (value, rest) = expression(alloc, room, rest)?;
     let (semicolon, rest) = sign(Sign::Semicolon, rest)?;
-    Ok((Stmt::Assign { name, at, op, value, semicolon: semicolon.at }, rest))
+    Ok((
+        Stmt::Assign {
+            name,
+            at,
+            op,
+            value,
+            semicolon: semicolon.at,
+        },
+        rest,
+    ))
 }
 
 /// "=" | "+=" | "*="
@@ -68,7 +97,17 @@ fn declaration(alloc: Global, room: u32, tokens: &[Token]) -> Parsed<'_, Stmt>
     let (name, rest) = name(alloc, rest)?;
     let ((declared, initial), rest) = declared(alloc, room, rest)?;
     let (semicolon, rest) = sign(Sign::Semicolon, rest)?;
-    Ok((Stmt::Declare { at, constant, name, declared, initial, semicolon: semicolon.at }, rest))
+    Ok((
+        Stmt::Declare {
+            at,
+            constant,
+            name,
+            declared,
+            initial,
+            semicolon: semicolon.at,
+        },
+        rest,
+    ))
 }
 
 /// "var" | "const"
@@ -87,7 +126,11 @@ fn declaration_word(tokens: &[Token]) -> Parsed<'_, (Place, bool)>
 
 /// ":" "int" [ "=" e ] | "=" e
 #[tactic(auto, unfolding(crate::specs::Reading::declared_at, crate::specs::Reading::typed_at))]
-fn declared(alloc: Global, room: u32, tokens: &[Token]) -> Parsed<'_, (Option<DeclaredType>, Option<Initial>)>
+fn declared(
+    alloc: Global,
+    room: u32,
+    tokens: &[Token],
+) -> Parsed<'_, (Option<DeclaredType>, Option<Initial>)>
     ensures gives { Gives (λ x. ((x.0.0, initial_view spelled x.0.1), x.1.now)) result (declared_at (below_at room) tokens.now) }
     ensures shorter { IfOk result (λ x. length x.1.now < length tokens.now) }
 {
@@ -108,7 +151,13 @@ fn declared_type(tokens: &[Token]) -> Parsed<'_, DeclaredType>
 {
     let (colon, rest) = sign(Sign::Colon, tokens)?;
     let (int, rest) = keyword(Keyword::Int, rest)?;
-    Ok((DeclaredType { colon: colon.at, int: int.at }, rest))
+    Ok((
+        DeclaredType {
+            colon: colon.at,
+            int: int.at,
+        },
+        rest,
+    ))
 }
 
 /// [ "=" e ]
@@ -131,7 +180,13 @@ fn initial(alloc: Global, room: u32, tokens: &[Token]) -> Parsed<'_, Initial>
 {
     let (equals, rest) = sign(Sign::Assign, tokens)?;
     let (value, rest) = expression(alloc, room, rest)?;
-    Ok((Initial { equals: equals.at, value }, rest))
+    Ok((
+        Initial {
+            equals: equals.at,
+            value,
+        },
+        rest,
+    ))
 }
 
 /// "writeln" "(" [ e { "," e } ] ")" ";"
@@ -146,7 +201,14 @@ fn print(alloc: Global, room: u32, tokens: &[Token]) -> Parsed<'_, Stmt>
     let (close, rest) = sign(Sign::CloseRound, rest)?;
     let (semicolon, rest) = sign(Sign::Semicolon, rest)?;
     Ok((
-        Stmt::Writeln { at: word.at, open: open.at, arguments, commas, close: close.at, semicolon: semicolon.at },
+        Stmt::Writeln {
+            at: word.at,
+            open: open.at,
+            arguments,
+            commas,
+            close: close.at,
+            semicolon: semicolon.at,
+        },
         rest,
     ))
 }
@@ -165,7 +227,18 @@ fn forall(alloc: Global, room: u32, tokens: &[Token]) -> Parsed<'_, Stmt>
     let (doing, rest) = keyword(Keyword::Do, rest)?;
     let (body, rest) = body(alloc, room, rest)?;
     let body = Box::new(alloc, body)?;
-    Ok((Stmt::Forall { at: word.at, variable, within: within.at, over, intent, doing: doing.at, body }, rest))
+    Ok((
+        Stmt::Forall {
+            at: word.at,
+            variable,
+            within: within.at,
+            over,
+            intent,
+            doing: doing.at,
+            body,
+        },
+        rest,
+    ))
 }
 
 /// assign, as a loop's body: its first token goes one level deeper
@@ -191,7 +264,15 @@ fn bounds(alloc: Global, room: u32, tokens: &[Token]) -> Parsed<'_, Bounds>
     let (dots, rest) = sign(Sign::DotDot, rest)?;
     let (high, rest) = expression(alloc, room, rest)?;
     let (by, rest) = maybe_stride(alloc, room, rest)?;
-    Ok((Bounds { low, dots: dots.at, high, by }, rest))
+    Ok((
+        Bounds {
+            low,
+            dots: dots.at,
+            high,
+            by,
+        },
+        rest,
+    ))
 }
 
 /// [ "by" e ]
@@ -232,7 +313,15 @@ fn intent(alloc: Global, room: u32, tokens: &[Token]) -> Parsed<'_, Intent>
     let (reduce, rest) = keyword(Keyword::Reduce, rest)?;
     let (name, rest) = name(alloc, rest)?;
     let (close, rest) = sign(Sign::CloseRound, rest)?;
-    let intent = Intent { with: with.at, open: open.at, at, op, reduce: reduce.at, name, close: close.at };
+    let intent = Intent {
+        with: with.at,
+        open: open.at,
+        at,
+        op,
+        reduce: reduce.at,
+        name,
+        close: close.at,
+    };
     Ok((intent, rest))
 }
 

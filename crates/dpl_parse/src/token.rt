@@ -39,7 +39,13 @@ pub fn is_sign(tokens: &[Token], wanted: Sign) -> bool
     ensures { result ≡ next_in (sign wanted) tokens.now }
 {
     match tokens {
-        [Token { kind: Kind::Sign(found), .. }, ..] => *found == wanted,
+        [
+            Token {
+                kind: Kind::Sign(found),
+                ..
+            },
+            ..
+        ] => *found == wanted,
         _ => false,
     }
 }
@@ -49,7 +55,13 @@ pub fn is_keyword(tokens: &[Token], wanted: Keyword) -> bool
     ensures { result ≡ next_in (keyword wanted) tokens.now }
 {
     match tokens {
-        [Token { kind: Kind::Keyword(found), .. }, ..] => *found == wanted,
+        [
+            Token {
+                kind: Kind::Keyword(found),
+                ..
+            },
+            ..
+        ] => *found == wanted,
         _ => false,
     }
 }
@@ -99,7 +111,11 @@ pub fn descend(room: u32, tokens: &[Token]) -> Result<u32, ParseStop>
 
 /// A sign that goes one level deeper, the room that is left there, and the tokens after it.
 #[tactic(auto, using(crate::proofs::Levels::deeper_with_room, crate::proofs::Levels::deeper_without_room))]
-pub fn deeper(room: u32, wanted: Sign, tokens: &[Token]) -> Result<(&Token, u32, &[Token]), ParseStop>
+pub fn deeper(
+    room: u32,
+    wanted: Sign,
+    tokens: &[Token],
+) -> Result<(&Token, u32, &[Token]), ParseStop>
     ensures gives { Gives (λ x. (x.0.now, x.2.now)) result (deeper_at (below_at room) (sign wanted) tokens.now) }
     ensures shorter { IfOk result (λ x. length x.2.now < length tokens.now) }
     ensures below { IfOk result (λ x. x.1 + 1 ≡ room) }
@@ -116,7 +132,16 @@ pub fn deeper(room: u32, wanted: Sign, tokens: &[Token]) -> Result<(&Token, u32,
 pub fn is_name(tokens: &[Token]) -> bool
     ensures { result ≡ next_in names tokens.now }
 {
-    matches!(tokens, [Token { kind: Kind::Name(_), .. }, ..])
+    matches!(
+        tokens,
+        [
+            Token {
+                kind: Kind::Name(_),
+                ..
+            },
+            ..
+        ]
+    )
 }
 
 /// A name, and the tokens after it.
@@ -129,7 +154,14 @@ pub fn name(alloc: Global, tokens: &[Token]) -> Parsed<'_, Name>
         [next, rest @ ..] => match &next.kind {
             Kind::Name(text) => {
                 let text = text.copy(alloc)?;
-                Ok((Name { at: next.at, text, slot: 0 }, rest))
+                Ok((
+                    Name {
+                        at: next.at,
+                        text,
+                        slot: 0,
+                    },
+                    rest,
+                ))
             }
             _ => Err(unexpected(tokens)),
         },

@@ -1,4 +1,4 @@
-use Rattle.std.proofs.Common.{◌≡◌, ℕ, ◌+◌, ◌*◌, length, map}
+use Rattle.std.proofs.Common.{◌+◌, ◌*◌, length, map}
 use Rattle.dpl_parse.specs.Reading.{below_at, further_at}
 use Rattle.dpl_parse.specs.Levels.{signs_of, operator_at, operand_at, further_view}
 use Rattle.dpl_parse.proofs.Levels.{rank}

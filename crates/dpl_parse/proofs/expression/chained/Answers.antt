@@ -1,7 +1,7 @@
-use Rattle.std.proofs.Common.{◌≡◌, ap, ◌∙◌, map, length, arith}
+use Rattle.std.proofs.Common.{ap, ◌∙◌, map, arith}
 use Rattle.std.proofs.lemmas.Grind.{common_steps}
 use Rattle.dpl_syntax.specs.View.{expr_view, spelled}
-use Rattle.dpl_parse.specs.Grammar.{Expression, chain_of}
+use Rattle.dpl_parse.specs.Grammar.{chain_of}
 use Rattle.dpl_parse.specs.Levels.{further_view}
 use Rattle.dpl_parse.proofs.Rows.{chain_view}
 use Rattle.dpl_parse.proofs.expression.chained.Goals as goal
