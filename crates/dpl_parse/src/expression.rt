@@ -86,24 +86,15 @@ fn factor(alloc: Global, room: u32, tokens: &[Token]) -> Parsed<'_, Expr>
     ensures shorter { IfOk result (λ x. length x.1.now < length tokens.now) }
 {
     match tokens {
-        [
-            Token {
-                kind: Kind::Name(_),
-                ..
-            },
-            ..
-        ] => {
-            let (named, rest) = name(alloc, tokens)?;
-            Ok((Expr::Named(named), rest))
-        }
-        [
-            Token {
-                kind: Kind::Number(_),
-                ..
-            },
-            ..
-        ] => number(tokens),
-        _ => bracketed(alloc, room, tokens),
+        [next, ..] => match next.kind {
+            Kind::Name(_) => {
+                let (named, rest) = name(alloc, tokens)?;
+                Ok((Expr::Named(named), rest))
+            }
+            Kind::Number(_) => number(tokens),
+            _ => bracketed(alloc, room, tokens),
+        },
+        [] => bracketed(alloc, room, tokens),
     }
 }
 

@@ -25,28 +25,13 @@ pub fn statement(alloc: Global, room: u32, tokens: &[Token]) -> Parsed<'_, Stmt>
     ensures shorter { IfOk result (λ x. length x.1.now < length tokens.now) }
 {
     match tokens {
-        [
-            Token {
-                kind: Kind::Keyword(Keyword::Var | Keyword::Const),
-                ..
-            },
-            ..
-        ] => declaration(alloc, room, tokens),
-        [
-            Token {
-                kind: Kind::Name(_),
-                ..
-            },
-            ..
-        ] => assignment(alloc, room, tokens),
-        [
-            Token {
-                kind: Kind::Keyword(Keyword::Writeln),
-                ..
-            },
-            ..
-        ] => print(alloc, room, tokens),
-        _ => forall(alloc, room, tokens),
+        [next, ..] => match next.kind {
+            Kind::Keyword(Keyword::Var | Keyword::Const) => declaration(alloc, room, tokens),
+            Kind::Name(_) => assignment(alloc, room, tokens),
+            Kind::Keyword(Keyword::Writeln) => print(alloc, room, tokens),
+            _ => forall(alloc, room, tokens),
+        },
+        [] => forall(alloc, room, tokens),
     }
 }
 

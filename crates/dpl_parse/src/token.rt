@@ -39,14 +39,11 @@ pub fn is_sign(tokens: &[Token], wanted: Sign) -> bool
     ensures { result ≡ next_in (sign wanted) tokens.now }
 {
     match tokens {
-        [
-            Token {
-                kind: Kind::Sign(found),
-                ..
-            },
-            ..
-        ] => *found == wanted,
-        _ => false,
+        [next, ..] => match next.kind {
+            Kind::Sign(found) => found == wanted,
+            _ => false,
+        },
+        [] => false,
     }
 }
 
@@ -55,14 +52,11 @@ pub fn is_keyword(tokens: &[Token], wanted: Keyword) -> bool
     ensures { result ≡ next_in (keyword wanted) tokens.now }
 {
     match tokens {
-        [
-            Token {
-                kind: Kind::Keyword(found),
-                ..
-            },
-            ..
-        ] => *found == wanted,
-        _ => false,
+        [next, ..] => match next.kind {
+            Kind::Keyword(found) => found == wanted,
+            _ => false,
+        },
+        [] => false,
     }
 }
 
@@ -132,16 +126,10 @@ pub fn deeper(
 pub fn is_name(tokens: &[Token]) -> bool
     ensures { result ≡ next_in names tokens.now }
 {
-    matches!(
-        tokens,
-        [
-            Token {
-                kind: Kind::Name(_),
-                ..
-            },
-            ..
-        ]
-    )
+    match tokens {
+        [next, ..] => matches!(next.kind, Kind::Name(_)),
+        [] => false,
+    }
 }
 
 /// A name, and the tokens after it.
