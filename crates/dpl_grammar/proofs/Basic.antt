@@ -7,7 +7,7 @@ use Rattle.dpl_grammar.specs.Numbers.{kind_number}
 use Rattle.dpl_grammar.specs.Classes.{Class, in_class, Lacks, apart, within}
 use Rattle.dpl_grammar.specs.Language.{Language, done, token, ◌>>=◌}
 use Rattle.dpl_grammar.specs.Reader as reader
-use Rattle.dpl_grammar.specs.Reader.{Cause, Unexpected, NoRoom, Read, Reader, rest_of, on_read, done_at, next_in, token_at, choose, decide, maybe_at, means_at, each_at, many_at, run_turns_at, run_at, no_room}
+use Rattle.dpl_grammar.specs.Reader.{Cause, Unexpected, Read, Reader, rest_of, on_read, done_at, next_in, token_at}
 use Rattle.dpl_grammar.specs.Laws.{IsFrontDeeper, Tells, Settles, Reads}
 use Rattle.dpl_grammar.proofs.Classes.{within_is, next_within, next_apart, lacks_append}
 use Rattle.dpl_grammar.proofs.Lists.{cuts, ends_shorter}

@@ -5,7 +5,7 @@ use Rattle.dpl_syntax.specs.declared.token.Token.{Token}
 use Rattle.dpl_grammar.specs.Classes.{Class, apart, within}
 use Rattle.dpl_grammar.specs.Language.{Language, never, done, token, ◌>>=◌, either, maybe, means, many}
 use Rattle.dpl_grammar.specs.Reader as reader
-use Rattle.dpl_grammar.specs.Reader.{Cause, Unexpected, NoRoom, Read, Reader, rest_of, on_read, done_at, next_in, token_at, choose, decide, maybe_at, means_at, each_at, many_at, run_turns_at, run_at, no_room}
+use Rattle.dpl_grammar.specs.Reader.{Unexpected, NoRoom, Reader, on_read, done_at, next_in, token_at, choose, maybe_at, means_at, many_at, no_room}
 use Rattle.dpl_grammar.specs.Laws.{Reads}
 use Rattle.std.specs.Prelude.{Some, None}
 use Rattle.dpl_grammar.proofs.Classes.{next_within, lacks_none, apart_none, within_self, within_front, within_append}

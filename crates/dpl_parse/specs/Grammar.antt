@@ -1,5 +1,6 @@
 -- The grammar: what spells a program, rule by rule. Above each rule stands its line of the grammar;
 -- braces mean any number, square brackets at most one, words in quotes are tokens.
+-- There e, t and f are `expression`, `term` and `factor`, stmt is `statement` and assign is `assignment`.
 use Rattle.std.specs.Prelude.{ℕ, zero, suc, ℤ, pos, Bool, true, false, List, [], ◌∷◌, map, Option, Some, None}
 use Rattle.dpl_syntax.specs.declared.place.Place.{Place}
 use Rattle.dpl_syntax.specs.declared.token.Kind.{Kind}
