@@ -1,0 +1,55 @@
+-- Classes of tokens, by their kinds.
+-- Whether a token is of a class, and how two classes lie to each other, computes.
+use Rattle.std.specs.Prelude.{◌≡◌, ℕ, List, [], ◌∷◌, Bool, true, false, cond, ◌==◌}
+use Rattle.dpl_syntax.specs.declared.token.Keyword.{Keyword}
+use Rattle.dpl_syntax.specs.declared.token.Sign.{Sign}
+use Rattle.dpl_syntax.specs.declared.token.Token.{Token}
+use Rattle.dpl_grammar.specs.Numbers.{sign_number, keyword_number, kind_number}
+
+-- a class: the numbers of its kinds
+abbrev pub Class : Type 0
+Class = List ℕ
+
+-- every name
+abbrev pub names : Class
+names = 0 ∷ []
+
+-- every number
+abbrev pub numbers : Class
+numbers = 1 ∷ []
+
+-- the end of the text
+abbrev pub end : Class
+end = 2 ∷ []
+
+-- one sign
+abbrev pub sign : Sign → Class
+sign s = sign_number s ∷ []
+
+-- one reserved word
+abbrev pub keyword : Keyword → Class
+keyword w = keyword_number w ∷ []
+
+-- whether a class has the kind with the number
+abbrev pub has : Class → ℕ → Bool
+has [] n = false
+has (k ∷ ks) n = cond (n == k) true (has ks n)
+
+-- whether a token is of a class
+abbrev pub in_class : Class → Token → Bool
+in_class class k = has class (kind_number k.kind)
+
+-- no token of a list is of the class
+abbrev pub Lacks : Class → List Token → Type 0
+Lacks class [] = Unit {0}
+Lacks class (k ∷ ks) = (in_class class k ≡ false) × Lacks class ks
+
+-- whether no kind of the first class is in the second
+abbrev pub apart : Class → Class → Bool
+apart [] D = true
+apart (k ∷ C) D = cond (has D k) false (apart C D)
+
+-- whether each kind of the first class is in the second
+abbrev pub within : Class → Class → Bool
+within [] D = true
+within (k ∷ C) D = cond (has D k) (within C D) false

@@ -1,0 +1,9 @@
+pub mod Rules
+pub mod Fronts
+pub mod Refusals
+pub mod Levels
+pub mod Turns
+pub mod Rows
+pub mod Arguments
+pub mod Results
+pub mod Worked

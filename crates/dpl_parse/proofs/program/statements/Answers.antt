@@ -1,0 +1,26 @@
+use Rattle.std.proofs.Common.{◌≡◌, [], ◌∷◌, ◌++◌, map, true, false}
+use Rattle.std.proofs.lemmas.Result.{err_from_is_err_and}
+use Rattle.std.proofs.lemmas.List.{map_push}
+use Rattle.dpl_syntax.specs.View.{stmt_view, spelled}
+use Rattle.dpl_grammar.specs.Reader.{next_in}
+use Rattle.dpl_parse.specs.Reading.{below_at, begins_statement, statement_at}
+use Rattle.dpl_parse.proofs.Turns.{goes_on, ends, so_fails}
+use Rattle.dpl_parse.proofs.program.statements.Goals as goal
+
+pub returns-in_err-stmt : goal.returns-in_err-stmt
+returns-in_err-stmt c =
+    let p = err_from_is_err_and c.from_residual.result c.from_residual.ensures.1 in
+    let is : next_in begins_statement c.each.rest.now ≡ true = cc in
+    rw (p.1, p.2) (so_fails begins_statement (statement_at (below_at c.args.room)) c.args.tokens.now (map (stmt_view spelled) c.each.stmts.items) c.each.rest.now c.in_err-stmt.field-0.0 c.each.invariant is c.in_err-stmt.ensures.gives)
+
+pub each-preserved : goal.each-preserved
+each-preserved c =
+    let x = c.in_ok-stmt.stmt in
+    let e : map (stmt_view spelled) c.push.new.self.items ≡ map (stmt_view spelled) c.each.stmts.items ++ stmt_view spelled x ∷ [] = rw c.in_ok-push.ensures.items (map_push _ c.each.stmts.items x) in
+    let is : next_in begins_statement c.each.rest.now ≡ true = cc in
+    rw e (goes_on begins_statement (statement_at (below_at c.args.room)) c.args.tokens.now (map (stmt_view spelled) c.each.stmts.items) c.each.rest.now (stmt_view spelled x) c.in_ok-stmt.after.now c.each.invariant is c.in_ok-stmt.ensures.gives c.in_ok-stmt.ensures.shorter)
+
+pub returns : goal.returns
+returns c =
+    let not : next_in begins_statement c.each.rest.now ≡ false = cc in
+    ends begins_statement (statement_at (below_at c.args.room)) c.args.tokens.now (map (stmt_view spelled) c.each.stmts.items) c.each.rest.now c.each.invariant not
