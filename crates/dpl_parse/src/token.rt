@@ -141,7 +141,7 @@ pub fn name(alloc: Global, tokens: &[Token]) -> Parsed<'_, Name>
     match tokens {
         [next, rest @ ..] => match &next.kind {
             Kind::Name(text) => {
-                let text = text.copy(alloc)?;
+                let text = text.clone()?;
                 Ok((
                     Name {
                         at: next.at,
