@@ -1,4 +1,5 @@
 -- Rows of tokens, worked out against the definitions. The n-th token of a row stands at 1:n.
+-- The reader computes on each, and what it reads is so by the laws.
 use Rattle.std.proofs.Common.{◌≡◌, ℕ, zero, suc, ◌+◌, ◌-◌, ◌*◌, false, List, [], ◌∷◌, ◌++◌, codes, drop, Some, None, Ok, Err, refl}
 use Rattle.std.specs.Prelude.{pos}
 use Rattle.dpl_syntax.specs.declared.place.Place.{Place}
