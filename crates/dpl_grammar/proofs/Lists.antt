@@ -1,4 +1,5 @@
 -- Two ways to cut one list, and lists that end others.
+-- They serve the laws of fronts, which are lists that others begin with.
 use Rattle.std.proofs.Common.{◌≡◌, ◌⊎◌, inl, inr, ◌≤◌, List, [], ◌∷◌, ◌++◌, length, refl, sym, ap, arith, length-append}
 use Rattle.dpl_syntax.specs.declared.token.Token.{Token}
 

@@ -1,4 +1,5 @@
 -- Operands with commas between them, as the loop over them has read them so far.
+-- The tree has operands and commas in two lists; the grammar reads each comma with the operand behind it.
 use Rattle.std.proofs.Common.{◌≡◌, ◌<◌, true, false, List, [], ◌∷◌, ◌++◌, map, length, Ok, refl, sym, ap, append_assoc}
 use Rattle.std.proofs.lemmas.List.{map_push, append-nil}
 use Rattle.dpl_syntax.specs.declared.place.Place.{Place}

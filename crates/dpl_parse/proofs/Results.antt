@@ -1,4 +1,5 @@
 -- What the parser's results say: the tree of a program that is read to its end, or the tokens' refusal.
+-- These are the steps from what the program's reader gives to the clauses of `parse`.
 use Rattle.std.proofs.Common.{◌≡◌, ◌⊎◌, inl, inr, ℕ, List, [], ◌∷◌, length, Result, Ok, Err, refl, sym, ap, subst, ◌∙◌}
 use Rattle.dpl_syntax.specs.declared.token.Token.{Token}
 use Rattle.dpl_syntax.specs.declared.refusal.Code.TheVariants.{Unexpected as UnexpectedCode}

@@ -1,4 +1,5 @@
 -- A chain whose links a `Vec` holds, as it is spelled.
+-- It alone names how the links of a chain lie in memory.
 use Rattle.std.proofs.Common.{◌≡◌, List, [], ◌∷◌, length, map, refl, ap, ◌∙◌}
 use Rattle.std.specs.Global.{Vec, Box}
 use Rattle.dpl_syntax.specs.declared.tree.Expr.{Expr, Chain as ChainNode, Row_of-Link, end_of-Link, more_of-Link, items-the_row-Link, items_hidden-the_row-Link-0}

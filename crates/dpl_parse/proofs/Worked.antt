@@ -1,10 +1,11 @@
 -- Rows of tokens, worked out against the definitions. The n-th token of a row stands at 1:n.
+-- The reader computes on each, and what it reads is so by the laws.
 use Rattle.std.proofs.Common.{◌≡◌, ℕ, zero, suc, ◌+◌, ◌-◌, ◌*◌, false, List, [], ◌∷◌, ◌++◌, codes, drop, Some, None, Ok, Err, refl}
 use Rattle.std.specs.Prelude.{pos}
 use Rattle.dpl_syntax.specs.declared.place.Place.{Place}
 use Rattle.dpl_syntax.specs.declared.refusal.Code.TheVariants.{Unexpected as UnexpectedCode, TooDeep}
 use Rattle.dpl_syntax.specs.declared.token.Keyword.TheVariants.{Var, Int, Writeln as WritelnWord, Forall as ForallWord, In, By, With, Reduce, Do}
-use Rattle.dpl_syntax.specs.declared.token.Sign.TheVariants.{DotDot, PlusAssign, Plus, Minus, Star, OpenRound, CloseRound, Semicolon, Colon}
+use Rattle.dpl_syntax.specs.declared.token.Sign.TheVariants.{DotDot, PlusAssign, Assign, Plus, Minus, Star, OpenRound, CloseRound, Semicolon, Colon}
 use Rattle.dpl_syntax.specs.declared.token.Kind.{Kind}
 use Rattle.dpl_syntax.specs.declared.token.Kind.TheVariants.{Name, Number as NumberKind, Keyword, Sign, End}
 use Rattle.dpl_syntax.specs.declared.token.Token.{Token}
@@ -129,3 +130,28 @@ brackets_spelled = read_spelled 64 (brackets 63) (brackets_tree 63) brackets_rea
 
 too_deep_refused : Refuses (brackets 64) (record { code = TooDeep; place = Some (at 66) })
 too_deep_refused = stopped_refused (brackets 64) (drop 65 (brackets 64)) NoRoom too_deep_read
+
+-- a prefix is a level, and a loop's body is one
+
+-- writeln(--..-1); with n signs
+abbrev minuses : ℕ → List Token
+minuses n = row (Keyword WritelnWord ∷ Sign OpenRound ∷ (signs n (Sign Minus) ++ NumberKind (pos 1) ∷ Sign CloseRound ∷ Sign Semicolon ∷ []))
+
+-- forall i in 1..2 do x = ((..1..)); with n brackets
+abbrev body_brackets : ℕ → List Token
+body_brackets n = row (Keyword ForallWord ∷ Name (codes "i") ∷ Keyword In ∷ NumberKind (pos 1) ∷ Sign DotDot ∷ NumberKind (pos 2) ∷ Keyword Do ∷ Name (codes "x") ∷ Sign Assign
+    ∷ (signs n (Sign OpenRound) ++ NumberKind (pos 1) ∷ (signs n (Sign CloseRound) ++ Sign Semicolon ∷ [])))
+
+minuses_read : read 64 (minuses 64) ≡ Err (NoRoom, drop 65 (minuses 64))
+unfolding each_at chain_of further_at chain_at name_at number_at bracketed_at factor_at product_operator_at product_at negative_at term_at sum_operator_at expression_at assign_operator_at assignment_at declared_type_at initial_at typed_at declared_at declaration_word_at declaration_at after_comma_at operands_after_at operands_at arguments_at print_at stride_at bounds_at reduce_operator_at intent_at loop_at statement_at program_at below_at
+minuses_read = refl
+
+body_brackets_read : read 64 (body_brackets 64) ≡ Err (NoRoom, drop 72 (body_brackets 64))
+unfolding each_at chain_of further_at chain_at name_at number_at bracketed_at factor_at product_operator_at product_at negative_at term_at sum_operator_at expression_at assign_operator_at assignment_at declared_type_at initial_at typed_at declared_at declaration_word_at declaration_at after_comma_at operands_after_at operands_at arguments_at print_at stride_at bounds_at reduce_operator_at intent_at loop_at statement_at program_at below_at
+body_brackets_read = refl
+
+minuses_refused : Refuses (minuses 64) (record { code = TooDeep; place = Some (at 66) })
+minuses_refused = stopped_refused (minuses 64) (drop 65 (minuses 64)) NoRoom minuses_read
+
+body_brackets_refused : Refuses (body_brackets 64) (record { code = TooDeep; place = Some (at 73) })
+body_brackets_refused = stopped_refused (body_brackets 64) (drop 72 (body_brackets 64)) NoRoom body_brackets_read

@@ -1,4 +1,5 @@
 -- What a function of the parser returned is what reading gives, unless memory ran out.
+-- Each private function of the parser has this clause, with the reader of its rule.
 use Rattle.std.specs.Prelude.{◌≡◌, List, [], ◌∷◌, Option, Some, None, Result, Ok, Err}
 use Rattle.dpl_syntax.specs.declared.place.Place.{Place}
 use Rattle.dpl_syntax.specs.declared.token.Token.{Token}

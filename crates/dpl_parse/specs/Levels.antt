@@ -1,4 +1,5 @@
 -- The levels of operators, as the parser's one function for chains takes them.
+-- Nothing of the grammar is defined here: each level names the readers of its rule.
 use Rattle.dpl_syntax.specs.declared.place.Place.{Place}
 use Rattle.dpl_syntax.specs.declared.operator.Infix.{Infix}
 use Rattle.dpl_syntax.specs.declared.tree.Link.{Link}

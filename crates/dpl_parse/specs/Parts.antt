@@ -1,4 +1,5 @@
 -- Parts of statements as they are spelled: an initial value and a reduce intent, each of which is there or not.
+-- The views of trees have them only where they may be missing.
 use Rattle.std.specs.Prelude.{ℕ, List}
 use Rattle.dpl_syntax.specs.declared.tree.Initial.{Initial}
 use Rattle.dpl_syntax.specs.declared.tree.Intent.{Intent}

@@ -1,4 +1,5 @@
-// Why there is no tree.
+// Why there is no tree: a refusal, or no memory.
+// Every allocation that fails becomes `Memory` by `?`.
 
 ghost use Rattle.dpl_parse.specs.declared.stop.ParseStop.TheVariants.{Memory};
 ghost use Rattle.std.specs.Prelude.{◌≡◌};
