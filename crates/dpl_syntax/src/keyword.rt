@@ -48,6 +48,7 @@ const KEYWORDS: [Keyword; 36] = [
 ];
 
 /// How a reserved word is spelled.
+#[tactic(auto, unfolding(crate::specs::Tokens::keyword_text))]
 fn text_of(keyword: Keyword) -> &'static [u8]
     ensures { result.now ≡ keyword_text keyword }
 {
