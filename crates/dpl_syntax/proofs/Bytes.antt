@@ -1,5 +1,6 @@
 -- Bytes that pass a test, and the value of digits.
-use Rattle.std.proofs.Common.{◌≡◌, ◌⊎◌, inl, inr, ℕ, zero, suc, ◌+◌, ◌-◌, ◌*◌, ◌<◌, ◌≤◌, Bool, true, false, ◌&&◌, List, [], ◌∷◌, ◌++◌, length, take, drop, get_or, refl, sym, ap, subst, ◌∙◌, add-one, arith, length-append}
+use Rattle.std.proofs.Common.{◌≡◌, ◌⊎◌, inl, inr, ℕ, zero, suc, ◌+◌, ◌-◌, ◌*◌, ◌<◌, ◌≤◌, Bool, true, false, ◌&&◌, List, [], ◌∷◌, ◌++◌, length, take, drop, get_or, refl, sym, ap, subst, ◌∙◌, eqb, eq-eqb, arith}
+use Rattle.std.specs.Prelude.{bytes_eq}
 use Rattle.std.proofs.lemmas.Bool.Decides.{nat_tests}
 use Rattle.dpl_syntax.specs.Text.{is_letter, is_digit, goes_on, is_space, all_are, next_is, value_after}
 
@@ -59,6 +60,14 @@ module _ (p : ℕ → Bool) where
       let others : u ++ rest ≡ v ++ w = cc in
       let ih = no_further u rest v w stop (all_are-tail d v h) others in
       omega (arith, ih)
+
+-- the same bytes pass the test that compares them
+pub bytes_eq-same : (a b : List ℕ) → a ≡ b → bytes_eq a b ≡ true
+bytes_eq-same a b e = subst (λ (l : List ℕ). bytes_eq a l ≡ true) e (with_itself a)
+  where
+    with_itself : (l : List ℕ) → bytes_eq l l ≡ true
+    with_itself [] = refl
+    with_itself (c ∷ l) = both (eqb c c) (bytes_eq l l) (eq-eqb c c refl) (with_itself l)
 
 -- ---- kinds of bytes
 

@@ -86,16 +86,16 @@ abbrev NoPair : List ℕ → Type 0
 NoPair text = 2 ≤ length text → (s : Sign) → sign_text s ≢ get_or text 0 0 ∷ get_or text 1 0 ∷ []
 
 pub no_sign_at_end : (text : List ℕ) → length text < 1 → IsSignAt text None
-no_sign_at_end [] le s w e = let t = is_sign_text s in absurd (cc (t.is))
+no_sign_at_end [] le s w e = let t = is_sign_text s in absurd (cc (e ∙ ap (λ (l : List ℕ). l ++ w) t.is))
 no_sign_at_end (c ∷ cs) le s w e = absurd (omega arith)
 
 pub one_byte : (text : List ℕ) (o : Option Sign) → 1 ≤ length text → NoPair text → IfSome o (λ s. sign_text s ≡ get_or text 0 0 ∷ []) → IfNone o ((s : Sign) → sign_text s ≢ get_or text 0 0 ∷ []) → IsSignAt text o
 one_byte [] o le pair some none = absurd (omega arith)
-one_byte (c ∷ cs) None le pair some none s w e = at (sign_front s w c cs e)
+one_byte (c ∷ cs) None le pair some none = λ s w e. at s (sign_front s w c cs e)
   where
-    at : (sign_text s ≡ c ∷ []) ⊎ ((d : ℕ) × (ds : List ℕ) × (cs ≡ d ∷ ds) × (sign_text s ≡ c ∷ d ∷ [])) → ⊥
-    at (inl h) = none s h
-    at (inr (d, ds, left, h)) = pair (omega (arith, ap (length {A = ℕ}) left)) s (h ∙ ap (λ (l : List ℕ). c ∷ get_or l 0 0 ∷ []) (sym left))
+    at : (s : Sign) → (sign_text s ≡ c ∷ []) ⊎ ((d : ℕ) × (ds : List ℕ) × (cs ≡ d ∷ ds) × (sign_text s ≡ c ∷ d ∷ [])) → ⊥
+    at s (inl h) = none s h
+    at s (inr (d, ds, left, h)) = pair (omega (arith, ap (length {A = ℕ}) left)) s (h ∙ ap (λ (l : List ℕ). c ∷ get_or l 0 0 ∷ []) (sym left))
 one_byte (c ∷ cs) (Some s) le pair some none = (subst (λ (u : List ℕ). c ∷ cs ≡ u ++ drop (length u) (c ∷ cs)) (sym some) refl, λ t w e. at t (sign_front t w c cs e))
   where
     at : (t : Sign) → (sign_text t ≡ c ∷ []) ⊎ ((d : ℕ) × (ds : List ℕ) × (cs ≡ d ∷ ds) × (sign_text t ≡ c ∷ d ∷ [])) → length (sign_text t) ≤ length (sign_text s)
