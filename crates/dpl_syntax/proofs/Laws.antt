@@ -1,12 +1,14 @@
 -- A text has one list of tokens or one refusal at the most.
 -- Two readings of one text agree as far as both can go.
-use Rattle.std.proofs.Common.{◌≡◌, ◌⊎◌, inl, inr, ℕ, zero, suc, ◌+◌, ◌<◌, ◌≤◌, Bool, true, false, List, [], ◌∷◌, ◌++◌, length, take, Some, refl, sym, ap, subst, ◌∙◌, arith}
+use Rattle.std.proofs.Common.{◌≡◌, ◌⊎◌, inl, inr, ℕ, zero, suc, ◌+◌, ◌<◌, ◌≤◌, Bool, true, false, List, [], ◌∷◌, ◌++◌, length, take, Some, ◌≢◌, refl, sym, ap, subst, ◌∙◌, arith}
 use Rattle.std.specs.Prelude.{IsUtf8}
 use Rattle.std.specs.Str.{IsValidUpTo}
-use Rattle.dpl_syntax.specs.Text.{is_space, is_number, goes_on, next_is, all_are, number_value, greatest, IsToken, IsText, start, after, end_at, IsLexeme, Ends, Begins, Lexes}
+use Rattle.std.specs.List.{AllByRecursion}
+use Rattle.dpl_syntax.specs.Text.{is_space, is_number, goes_on, next_is, all_are, number_value, greatest, IsToken, IsText, start, after, end_at, IsLexeme, Ends, Begins, Lexes, EndsOnce}
 use Rattle.dpl_syntax.specs.Refused.{refusal_at, IsBadByte, IsNumberAt, IsFlaw, IsUnread, IsNoUtf8, LexRefuses}
 use Rattle.dpl_syntax.specs.declared.place.Place.{Place}
 use Rattle.dpl_syntax.specs.declared.token.Kind.{Kind}
+use Rattle.dpl_syntax.specs.declared.token.Kind.TheVariants.{End}
 use Rattle.dpl_syntax.specs.declared.token.Token.{Token}
 use Rattle.dpl_syntax.specs.declared.refusal.Code.{Code}
 use Rattle.dpl_syntax.specs.declared.refusal.Code.TheVariants.{NotText}
@@ -110,6 +112,16 @@ pub lexes_once : (text : List ℕ) (ks js : List Token) → Lexes text ks → Le
 lexes_once text ks js a b =
     let same = same_reading a.front b.front start a.end b.end text [] [] a.reads b.reads halts_end halts_end in
     a.tokens_are ∙ ap (λ (l : List Token). l ++ end_at a.end ∷ []) same.tokens ∙ ap (λ (q : Place). b.front ++ end_at q ∷ []) same.place ∙ sym b.tokens_are
+
+-- ---- the end
+
+no_end : (ks : List Token) (p q : Place) (text rest : List ℕ) → Begins p text ks q rest → AllByRecursion (λ k. k.kind ≢ End) ks
+no_end [] p q text rest h = tt
+no_end (k ∷ ks) p q text rest (g, u, m, e, gs, at, is, ends, h) = (λ end. subst (λ (j : Kind). IsLexeme j u) end is, no_end ks (after p (g ++ u)) q m rest h)
+
+-- the end is the last token and no other
+pub lexes_ends : (text : List ℕ) (ks : List Token) → Lexes text ks → EndsOnce ks
+lexes_ends text ks h = record { front = h.front; end = h.end; is = h.tokens_are; no_other = no_end h.front start h.end text [] h.reads }
 
 -- ---- refusals
 

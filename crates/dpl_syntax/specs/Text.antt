@@ -1,6 +1,7 @@
 -- The tokens of a text.
 -- Read `IsToken`, `Ends` and `IsLexeme`, which speak of one token, and then `Begins` and `Lexes`, which speak of a whole text.
 use Rattle.std.specs.Prelude.{◌≡◌, ◌≢◌, ◌⊎◌, ℕ, ℤ, pos, ◌+◌, ◌-◌, ◌*◌, ◌≤◌, List, [], ◌∷◌, ◌++◌, length, Bool, true, false, nat_le, ◌==◌, ◌&&◌, ◌||◌, if◌then◌else◌, IsUtf8}
+use Rattle.std.specs.List.{AllByRecursion}
 use Rattle.dpl_syntax.specs.Tokens.{keyword_text, sign_text}
 use Rattle.dpl_syntax.specs.declared.place.Place.{Place}
 use Rattle.dpl_syntax.specs.declared.token.Keyword.{Keyword}
@@ -119,3 +120,10 @@ pub record Lexes (text : List ℕ) (tokens : List Token) : Type 0 where
   pub end : Place
   pub reads : Begins start text front end []
   pub tokens_are : tokens ≡ front ++ end_at end ∷ []
+
+-- The last token is the end of a text, and no other one is.
+pub record EndsOnce (tokens : List Token) : Type 0 where
+  pub front : List Token
+  pub end : Place
+  pub is : tokens ≡ front ++ end_at end ∷ []
+  pub no_other : AllByRecursion (λ k. k.kind ≢ End) front

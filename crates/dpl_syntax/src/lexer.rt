@@ -2,7 +2,7 @@
 // The definition of both stands in specs/Text.antt, and that of the refusals in specs/Refused.antt.
 
 ghost use Rattle.std.specs.Prelude.{◌≡◌, ◌⊎◌, ◌+◌, ◌^◌, ◌<◌, ◌≤◌, List, length, IsOk, IfOk, IfErr, Err};
-ghost use Rattle.dpl_syntax.specs.Text.{IsLexeme, IsText, Lexes, longest_text, start, after};
+ghost use Rattle.dpl_syntax.specs.Text.{IsLexeme, IsText, Lexes, EndsOnce, after};
 ghost use Rattle.dpl_syntax.specs.Refused.{LexRefuses, Tells};
 ghost use Rattle.dpl_syntax.specs.Scan.{IsShape};
 ghost use Rattle.dpl_syntax.specs.declared.token.Token.{Token};
@@ -130,9 +130,10 @@ fn check_text(text: &[u8]) -> Result<(), Refusal>
 /// UTF-8 character; else whichever comes first of `L2` at a bad character, `L2` at a letter, `_` or `$` straight after
 /// a number, and `L3` at a number past the greatest one. Or memory ran out.
 pub fn lex(alloc: Global, text: &[u8]) -> Result<Vec<Token>, LexStop>
-    // The tokens are those of the text, and the text has no others and no refusal.
+    // The tokens are those of the text, up to its end; the text has no others and no refusal.
     ensures found { IfOk result (λ v. Lexes text.now v.items) }
     ensures only { IfOk result (λ v. (tokens : List Token) → Lexes text.now tokens → tokens ≡ v.items) }
+    ensures ended { IfOk result (λ v. EndsOnce v.items) }
     ensures unrefused { IsOk result → (refusal : Refusal) → ¬ (LexRefuses text.now refusal) }
 
     // A refusal is the text's own, and the text has no other.

@@ -1,13 +1,13 @@
 -- A text has one list of tokens or one refusal, so what was found is all that there is.
 use Rattle.std.proofs.Common.{◌≡◌, Result, Ok, Err, List, refl, sym, ap, subst, ◌∙◌, Vec, Global}
 use Rattle.std.specs.Prelude.{IfOk, IfErr, IsOk}
-use Rattle.dpl_syntax.specs.Text.{Lexes}
+use Rattle.dpl_syntax.specs.Text.{Lexes, EndsOnce}
 use Rattle.dpl_syntax.specs.Refused.{LexRefuses, Tells}
 use Rattle.dpl_syntax.specs.declared.token.Token.{Token}
 use Rattle.dpl_syntax.specs.declared.refusal.Refusal.{Refusal}
 use Rattle.dpl_syntax.specs.declared.stop.LexStop.{LexStop}
 use Rattle.dpl_syntax.specs.declared.stop.LexStop.TheVariants.{Refused, Memory}
-use Rattle.dpl_syntax.proofs.Laws.{lexes_once, lexes_unrefused, refuses_once}
+use Rattle.dpl_syntax.proofs.Laws.{lexes_once, lexes_ends, lexes_unrefused, refuses_once}
 use Rattle.dpl_syntax.proofs.lexer.lex.Goals as goal
 
 abbrev Outcome : Type 0
@@ -16,6 +16,10 @@ Outcome = Result (Vec Token Global) LexStop
 only : (text : List _) (r : Outcome) → IfOk r (λ v. Lexes text v.items) → IfOk r (λ v. (tokens : List Token) → Lexes text tokens → tokens ≡ v.items)
 only text (Ok v) h = λ tokens is. lexes_once text tokens v.items is h
 only text (Err e) h = tt
+
+ended : (text : List _) (r : Outcome) → IfOk r (λ v. Lexes text v.items) → IfOk r (λ v. EndsOnce v.items)
+ended text (Ok v) h = lexes_ends text v.items h
+ended text (Err e) h = tt
 
 unrefused : (text : List _) (r : Outcome) → IfOk r (λ v. Lexes text v.items) → IsOk r → (refusal : Refusal) → LexRefuses text refusal → ⊥
 unrefused text (Ok v) h ok refusal is = lexes_unrefused text v.items refusal h is
@@ -39,6 +43,9 @@ returns-in-Err-clause-complete c = complete c.args.text.now (Err (Refused c.in-E
 
 pub returns-clause-only : goal.returns-clause-only
 returns-clause-only c = only c.args.text.now c.tokens_of.result c.tokens_of.ensures.found
+
+pub returns-clause-ended : goal.returns-clause-ended
+returns-clause-ended c = ended c.args.text.now c.tokens_of.result c.tokens_of.ensures.found
 
 pub returns-clause-unrefused : goal.returns-clause-unrefused
 returns-clause-unrefused c = unrefused c.args.text.now c.tokens_of.result c.tokens_of.ensures.found
