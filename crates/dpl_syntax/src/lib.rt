@@ -24,3 +24,6 @@ pub use stop::LexStop;
 pub use token::{Keyword, Kind, Sign, Token};
 pub use value::Value;
 pub use word::Word;
+
+#[cfg(test)]
+mod tests;
