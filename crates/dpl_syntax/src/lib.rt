@@ -3,18 +3,27 @@
 #![tactic(auto)]
 
 pub mod fault;
+mod keyword;
+pub mod lexer;
 pub mod operator;
 pub mod place;
 pub mod refusal;
+mod scan;
+pub mod stop;
 pub mod token;
 pub mod tree;
 pub mod value;
 pub mod word;
 
 pub use fault::{Fault, FaultCode};
+pub use lexer::lex;
 pub use operator::{Assign, Infix, Op, Prefix};
 pub use place::Place;
 pub use refusal::{Code, Refusal};
+pub use stop::LexStop;
 pub use token::{Keyword, Kind, Sign, Token};
 pub use value::Value;
 pub use word::Word;
+
+#[cfg(test)]
+mod tests;

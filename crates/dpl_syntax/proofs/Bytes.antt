@@ -1,0 +1,97 @@
+-- Bytes that pass a test, and the value of digits.
+use Rattle.std.proofs.Common.{◌≡◌, ◌⊎◌, inl, inr, ℕ, zero, suc, ◌+◌, ◌-◌, ◌*◌, ◌<◌, ◌≤◌, Bool, true, false, ◌&&◌, List, [], ◌∷◌, ◌++◌, length, take, drop, get_or, refl, sym, ap, subst, ◌∙◌, eqb, eq-eqb, arith}
+use Rattle.std.specs.Prelude.{bytes_eq}
+use Rattle.std.proofs.lemmas.Bool.Decides.{nat_tests}
+use Rattle.dpl_syntax.specs.Text.{is_letter, is_digit, goes_on, is_space, all_are, next_is, value_after}
+
+-- ---- one test after another
+
+pub both : (a b : Bool) → a ≡ true → b ≡ true → a && b ≡ true
+both a b p q = rw (p, q) refl
+
+pub and-left : (a b : Bool) → a && b ≡ true → a ≡ true
+and-left true b h = refl
+and-left false b h = absurd cc
+
+pub and-right : (a b : Bool) → a && b ≡ true → b ≡ true
+and-right true b h = h
+and-right false b h = absurd cc
+
+module _ (p : ℕ → Bool) where
+  pub all_are-cons : (c : ℕ) (cs : List ℕ) → p c ≡ true → all_are p cs ≡ true → all_are p (c ∷ cs) ≡ true
+  all_are-cons c cs h hs = both (p c) (all_are p cs) h hs
+
+  pub all_are-head : (c : ℕ) (cs : List ℕ) → all_are p (c ∷ cs) ≡ true → p c ≡ true
+  all_are-head c cs h = and-left (p c) (all_are p cs) h
+
+  pub all_are-tail : (c : ℕ) (cs : List ℕ) → all_are p (c ∷ cs) ≡ true → all_are p cs ≡ true
+  all_are-tail c cs h = and-right (p c) (all_are p cs) h
+
+  pub all_are-append : (a b : List ℕ) → all_are p a ≡ true → all_are p b ≡ true → all_are p (a ++ b) ≡ true
+  all_are-append [] b h hs = hs
+  all_are-append (c ∷ a) b h hs = all_are-cons c (a ++ b) (all_are-head c a h) (all_are-append a b (all_are-tail c a h) hs)
+
+  pub all_are-take_more : (cs : List ℕ) (n : ℕ) → n < length cs → all_are p (take n cs) ≡ true → p (get_or cs n 0) ≡ true → all_are p (take (suc n) cs) ≡ true
+  all_are-take_more [] n lt h e = absurd (omega arith)
+  all_are-take_more (c ∷ cs) zero lt h e = all_are-cons c [] e refl
+  all_are-take_more (c ∷ cs) (suc n) lt h e = all_are-cons c (take (suc n) cs) (all_are-head c (take n cs) h) (all_are-take_more cs n (omega arith) (all_are-tail c (take n cs) h) e)
+
+  pub next_is-drop_end : (cs : List ℕ) (n : ℕ) → length cs ≤ n → next_is p (drop n cs) ≡ false
+  next_is-drop_end [] zero le = refl
+  next_is-drop_end [] (suc n) le = refl
+  next_is-drop_end (c ∷ cs) zero le = absurd (omega arith)
+  next_is-drop_end (c ∷ cs) (suc n) le = next_is-drop_end cs n (omega arith)
+
+  pub next_is-drop : (cs : List ℕ) (n : ℕ) → p (get_or cs n 0) ≡ false → next_is p (drop n cs) ≡ false
+  next_is-drop [] zero e = refl
+  next_is-drop [] (suc n) e = refl
+  next_is-drop (c ∷ cs) zero e = e
+  next_is-drop (c ∷ cs) (suc n) e = next_is-drop cs n e
+
+  -- bytes that pass the test reach no further than to one that fails it
+  pub no_further : (u rest v w : List ℕ) → next_is p rest ≡ false → all_are p v ≡ true → u ++ rest ≡ v ++ w → length v ≤ length u
+  no_further u rest [] w stop h e = omega arith
+  no_further [] [] (d ∷ v) w stop h e = absurd cc
+  no_further [] (c ∷ rest) (d ∷ v) w stop h e =
+      let yes : p d ≡ true = all_are-head d v h in
+      let same : c ≡ d = cc in
+      absurd (cc (stop, yes, ap p same))
+  no_further (c ∷ u) rest (d ∷ v) w stop h e =
+      let others : u ++ rest ≡ v ++ w = cc in
+      let ih = no_further u rest v w stop (all_are-tail d v h) others in
+      omega (arith, ih)
+
+-- the same bytes pass the test that compares them
+pub bytes_eq-same : (a b : List ℕ) → a ≡ b → bytes_eq a b ≡ true
+bytes_eq-same a b e = subst (λ (l : List ℕ). bytes_eq a l ≡ true) e (with_itself a)
+  where
+    with_itself : (l : List ℕ) → bytes_eq l l ≡ true
+    with_itself [] = refl
+    with_itself (c ∷ l) = both (eqb c c) (bytes_eq l l) (eq-eqb c c refl) (with_itself l)
+
+-- ---- kinds of bytes
+
+pub letter_no_digit : (c : ℕ) → is_letter c ≡ true → is_digit c ≡ true → ⊥
+letter_no_digit c h k = grind (arith, nat_tests)
+
+pub letter_no_space : (c : ℕ) → is_letter c ≡ true → is_space c ≡ false
+letter_no_space c h = grind (arith, nat_tests)
+
+pub digit_no_space : (c : ℕ) → is_digit c ≡ true → is_space c ≡ false
+digit_no_space c h = grind (arith, nat_tests)
+
+pub digit_goes_on : (c : ℕ) → is_digit c ≡ true → goes_on c ≡ true
+digit_goes_on c h = at (is_letter c)
+  where
+    at : (b : Bool) → goes_on c ≡ true
+    at b = grind (arith, nat_tests)
+
+pub letter_goes_on : (c : ℕ) → is_letter c ≡ true → goes_on c ≡ true
+letter_goes_on c h = rw h refl
+
+-- ---- the value of digits
+
+-- it only grows with each further digit
+pub value_after-grows : (n : ℕ) (cs : List ℕ) → n ≤ value_after n cs
+value_after-grows n [] = omega arith
+value_after-grows n (c ∷ cs) = let ih = value_after-grows (n * 10 + (c - 48)) cs in omega (arith, ih)

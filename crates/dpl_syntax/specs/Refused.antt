@@ -1,0 +1,67 @@
+-- The texts that have no tokens, each with its refusal.
+-- A text is refused as too long, else as no UTF-8, else at the first place where it can't be read on.
+use Rattle.std.specs.Prelude.{◌≡◌, ◌⊎◌, ℕ, ◌≤◌, ◌<◌, List, [], ◌∷◌, ◌++◌, length, take, Bool, true, false, Some, ⊤}
+use Rattle.std.specs.Str.{IsValidUpTo}
+use Rattle.dpl_syntax.specs.Text.{is_space, is_number, goes_on, next_is, number_value, greatest, longest_text, IsToken, Longest, IsText, start, after, Begins}
+use Rattle.dpl_syntax.specs.declared.place.Place.{Place}
+use Rattle.dpl_syntax.specs.declared.token.Token.{Token}
+use Rattle.dpl_syntax.specs.declared.refusal.Code.{Code}
+use Rattle.dpl_syntax.specs.declared.refusal.Code.TheVariants.{NotText, BadCharacter, NumberTooLarge}
+use Rattle.dpl_syntax.specs.declared.refusal.Refusal.{Refusal}
+use Rattle.dpl_syntax.specs.declared.stop.LexStop.{LexStop}
+use Rattle.dpl_syntax.specs.declared.stop.LexStop.TheVariants.{Refused, Memory}
+
+abbrev pub refusal_at : Code → Place → Refusal
+refusal_at code at = record { code = code; place = Some at }
+
+-- a bad character: a byte that is no white space and begins no token
+pub record IsBadByte (text : List ℕ) : Type 0 where
+  pub some : 0 < length text
+  pub dark : next_is is_space text ≡ false
+  pub none : (u rest : List ℕ) → text ≡ u ++ rest → IsToken u → ⊥
+
+-- a number at the front of the text, with all of its digits
+pub record IsNumberAt (text u rest : List ℕ) : Type 0 where
+  pub is : text ≡ u ++ rest
+  pub number : is_number u ≡ true
+  pub longest : Longest u rest
+
+-- What keeps a text from being read on, by its code and by the bytes before its place.
+abbrev pub IsFlaw : List ℕ → Code → List ℕ → Type 0
+IsFlaw text code before =
+    -- a bad character, at that byte
+    ((code ≡ BadCharacter) × (before ≡ []) × IsBadByte text)
+    -- a letter, _ or $ straight after a number, at that byte
+    ⊎ (((code ≡ BadCharacter) × ((rest : List ℕ) × IsNumberAt text before rest × (next_is goes_on rest ≡ true) × (number_value before ≤ greatest)))
+    -- a number past the greatest one, at its first digit
+    ⊎ ((code ≡ NumberTooLarge) × (before ≡ []) × ((u rest : List ℕ) × IsNumberAt text u rest × (greatest < number_value u))))
+
+-- the text begins with tokens, and then it can't be read on
+pub record IsUnread (text : List ℕ) (refusal : Refusal) : Type 0 where
+  pub is_text : IsText text
+  pub front : List Token
+  pub at : Place
+  pub rest : List ℕ
+  pub reads : Begins start text front at rest
+  pub code : Code
+  pub before : List ℕ
+  pub flaw : IsFlaw rest code before
+  pub refusal_is : refusal ≡ refusal_at code (after at before)
+
+-- the bytes are no UTF-8 from this one on: those before it are the longest front that is
+pub record IsNoUtf8 (text : List ℕ) (refusal : Refusal) : Type 0 where
+  pub short : length text ≤ longest_text
+  pub valid : ℕ
+  pub first : IsValidUpTo text valid
+  pub refusal_is : refusal ≡ refusal_at NotText (after start (take valid text))
+
+-- The text is refused so.
+abbrev pub LexRefuses : List ℕ → Refusal → Type 0
+LexRefuses text refusal =
+    ((longest_text < length text) × (refusal ≡ refusal_at NotText start))
+    ⊎ (IsNoUtf8 text refusal ⊎ IsUnread text refusal)
+
+-- what the lexer says of a text that it gives no tokens of; that memory ran out says nothing of the text
+abbrev pub Tells : List ℕ → LexStop → Type 0
+Tells text (Refused refusal) = LexRefuses text refusal
+Tells text Memory = ⊤
