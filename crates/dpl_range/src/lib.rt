@@ -2,9 +2,10 @@
 // Every call is of constant cost: none walks the list, and none takes memory.
 #![tactic(auto)]
 
-ghost use Rattle.std.specs.Prelude.{◌≡◌, ◌↔◌, ◌⊎◌, ◌≤◌, ◌<◌, ◌^◌, ℕ, ℤ, pos, ◌+ℤ◌, ◌-ℤ◌, ◌-◌, [], All, Contains, IsNone, ◌<ℤ◌, ◌≤ℤ◌, length, slice_get, IsTrue, IsOk, IfOk, IfSome, IfNone, MatchOption, unsigned_abs};
+ghost use Rattle.std.specs.Prelude.{◌≡◌, ◌↔◌, ◌⊎◌, ◌≤◌, ◌<◌, ◌^◌, ℕ, ℤ, pos, ◌+ℤ◌, ◌-ℤ◌, ◌-◌, ◌&&◌, filter, int_le, [], All, Contains, IsNone, ◌<ℤ◌, ◌≤ℤ◌, length, slice_get, IsTrue, IsOk, IfOk, IfSome, IfNone, MatchOption, unsigned_abs};
+ghost use Rattle.std.specs.Int.{int_max, int_min};
 ghost use Rattle.dpl_range.specs.Range.{members_of, IsBound, IsStride, IsRange};
-ghost use Rattle.dpl_range.specs.Walk.{walked};
+ghost use Rattle.dpl_range.specs.Walk.{walked, nearer, begun};
 
 use std::marker::Model;
 use thiserror::Error;
@@ -153,6 +154,70 @@ impl Range {
         }
     }
 
+    /// The members between `low` and `high`, in the order of the range. A range of stride 1 keeps, of its own
+    /// bounds and these two, the greater low and the lesser high one, also where no member is left.
+    pub fn slice(&self, low: i64, high: i64) -> Range
+        requires low_is_bound { IsBound low }
+        requires high_is_bound { IsBound high }
+        ensures members { members_of result ≡ filter (λ i. int_le low i && int_le i high) (members_of self.now) }
+        ensures stride { result.stride ≡ self.now.stride }
+        ensures low { self.now.stride ≡ pos 1 → result.low ≡ int_max self.now.low low }
+        ensures high { self.now.stride ≡ pos 1 → result.high ≡ int_min self.now.high high }
+        ensures limits { IsRange result }
+    {
+        let low = self.low.max(low);
+        let high = self.high.min(high);
+        if self.stride == 1 {
+            return Range::unit(low, high);
+        }
+        if high < low {
+            return self.none();
+        }
+        self.cut(low, high)
+    }
+
+    // The members between two bounds that lie within the range's own.
+    fn cut(&self, low: i64, high: i64) -> Range
+        requires low { self.now.low ≤ℤ low }
+        requires ordered { low ≤ℤ high }
+        requires high { high ≤ℤ self.now.high }
+        ensures members { members_of result ≡ filter (λ i. int_le low i && int_le i high) (members_of self.now) }
+        ensures stride { result.stride ≡ self.now.stride }
+        ensures limits { IsRange result }
+    {
+        let far = self.nearer(high, low);
+        let begin = self.offset(self.nearer(low, high)).next_multiple_of(self.step());
+        if self.offset(far) < begin {
+            return self.none();
+        }
+        self.begun(begin, far, self.stride)
+    }
+
+    // The integers from `low` to `high`.
+    fn unit(low: i64, high: i64) -> Range
+        requires low_is_bound { IsBound low }
+        requires high_is_bound { IsBound high }
+        ensures value { result ≡ record { low = low; high = high; stride = pos 1 } }
+        ensures limits { IsRange result }
+    {
+        Range { low, high, stride: 1 }
+    }
+
+    // A range of the same stride with no members.
+    fn none(&self) -> Range
+        ensures value { result ≡ record { low = pos 1; high = pos 0; stride = self.now.stride } }
+        ensures limits { IsRange result }
+    {
+        Range { low: 1, high: 0, stride: self.stride }
+    }
+
+    // The one of two bounds at which a walk between them begins.
+    fn nearer(&self, low: i64, high: i64) -> i64
+        ensures { result ≡ nearer self.now.stride low high }
+    {
+        if self.stride > 0 { low } else { high }
+    }
+
     // How far the high bound lies above the low one.
     fn span(&self) -> u64
         requires { self.now.low ≤ℤ self.now.high }
@@ -183,12 +248,30 @@ impl Range {
         }
     }
 
+    // The range that begins `offset` after this one, ends at the bound `far` and goes the same way.
+    fn begun(&self, offset: u64, far: i64, stride: i64) -> Range
+        requires within { (self.now.low +ℤ pos offset) ≤ℤ self.now.high }
+        requires far_is_bound { IsBound far }
+        requires stride_is_not_zero { 0 < unsigned_abs stride }
+        requires stride_is_short { unsigned_abs stride ≤ 2 ^ 61 }
+        ensures value { result ≡ begun self.now offset far stride }
+        ensures limits { IsRange result }
+    {
+        let near = self.walked(offset);
+        if self.stride > 0 {
+            Range { low: near, high: far, stride }
+        } else {
+            Range { low: far, high: near, stride }
+        }
+    }
+
     // How far `i` stands after the first integer of a walk from bound to bound.
     fn offset(&self, i: i64) -> u64
         requires low { self.now.low ≤ℤ i }
         requires high { i ≤ℤ self.now.high }
         ensures walked { i ≡ walked self.now.low self.now.high self.now.stride result }
         ensures within { (self.now.low +ℤ pos result) ≤ℤ self.now.high }
+        ensures limits { IsRange self.now }
     {
         if self.stride > 0 {
             (i - self.low) as u64
