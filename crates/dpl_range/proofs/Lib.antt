@@ -4,3 +4,5 @@ mod Worked
 pub mod Ends
 pub mod Ordered
 pub mod SliceLemmas
+pub mod Congruence
+pub mod ClassLemmas

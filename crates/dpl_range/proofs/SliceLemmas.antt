@@ -4,16 +4,9 @@ use Rattle.std.proofs.lemmas.Int.{ints, clamps}
 use Rattle.std.specs.Int.{int_max, int_min}
 use Rattle.std.proofs.Math.Nat.{add-mul, le_of_mul-le-mul_right, div-add-mod, lt_of_mul-lt-mul_right, mul-le-mul_right}
 use Rattle.dpl_range.specs.Range.{RangeValue, members_of, IsBound, IsRange}
-use Rattle.dpl_range.specs.Walk.{walked, nearer, begun}
+use Rattle.dpl_range.specs.Walk.{walked, nearer, begun, SameWay}
 use Rattle.dpl_range.proofs.MemberLemmas.{span_of}
 use Rattle.dpl_range.proofs.Ordered.{IsMember, IsMember-from_place, Precedes, filter-members}
-
--- two strides go the same way
-abbrev pub SameWay : ℤ → ℤ → Type 0
-SameWay (pos _) (pos _) = Unit {0}
-SameWay (pos _) (negsuc _) = ⊥
-SameWay (negsuc _) (pos _) = ⊥
-SameWay (negsuc _) (negsuc _) = Unit {0}
 
 pub SameWay_self : (stride : ℤ) → SameWay stride stride
 SameWay_self (pos s) = tt
@@ -33,7 +26,7 @@ between-walked low high (negsuc s) from to i a b o near far at =
     ((λ h. (omega (arith, ints), omega (arith, ints))), (λ h. (omega (arith, ints), omega (arith, ints))))
 
 -- the walk of what was begun later
-walked-begun : (low high way stride near far : ℤ) (begin o : ℕ) → SameWay way stride → near ≡ walked low high way begin → walked (nearer way near far) (nearer way far near) stride o ≡ walked low high way (begin + o)
+pub walked-begun : (low high way stride near far : ℤ) (begin o : ℕ) → SameWay way stride → near ≡ walked low high way begin → walked (nearer way near far) (nearer way far near) stride o ≡ walked low high way (begin + o)
 walked-begun low high (pos w) (pos s) near far begin o same at = omega (arith, ints)
 walked-begun low high (pos w) (negsuc s) near far begin o same at = absurd same
 walked-begun low high (negsuc w) (pos s) near far begin o same at = absurd same

@@ -19,3 +19,15 @@ begun r offset far stride = record {
   high = nearer r.stride far (walked r.low r.high r.stride offset);
   stride = stride
   }
+
+-- how far the first integer of a walk lies past c in the direction of the walk
+abbrev pub ahead : ℤ → ℤ → ℤ → ℤ → ℤ
+ahead low high (pos _) c = low -ℤ c
+ahead low high (negsuc _) c = c -ℤ high
+
+-- two strides go the same way
+abbrev pub SameWay : ℤ → ℤ → Type 0
+SameWay (pos _) (pos _) = Unit {0}
+SameWay (pos _) (negsuc _) = ⊥
+SameWay (negsuc _) (pos _) = ⊥
+SameWay (negsuc _) (negsuc _) = Unit {0}

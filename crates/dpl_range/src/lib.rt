@@ -2,11 +2,16 @@
 // Every call is of constant cost: none walks the list, and none takes memory.
 #![tactic(auto)]
 
-ghost use Rattle.std.specs.Prelude.{◌≡◌, ◌↔◌, ◌⊎◌, ◌≤◌, ◌<◌, ◌^◌, ℕ, ℤ, pos, ◌+ℤ◌, ◌-ℤ◌, ◌-◌, ◌&&◌, filter, int_le, [], All, Contains, IsNone, ◌<ℤ◌, ◌≤ℤ◌, length, slice_get, IsTrue, IsOk, IfOk, IfSome, IfNone, MatchOption, unsigned_abs};
-ghost use Rattle.std.specs.Int.{int_max, int_min};
+ghost use Rattle.std.specs.Prelude.{◌≡◌, ◌*◌, neg_ℤ, drop, ◌↔◌, ◌⊎◌, ◌≤◌, ◌<◌, ◌^◌, ℕ, ℤ, pos, ◌+ℤ◌, ◌-ℤ◌, ◌-◌, ◌&&◌, filter, int_le, [], All, Contains, IsNone, ◌<ℤ◌, ◌≤ℤ◌, length, slice_get, IsTrue, IsOk, IfOk, IfSome, IfNone, MatchOption, unsigned_abs};
+ghost use Rattle.std.specs.Int.{int_max, int_min, int_rem_euclid};
+ghost use Rattle.dpl_range.specs.Congruence.{is_congruent};
+ghost use Rattle.dpl_range.specs.Members.{every};
 ghost use Rattle.dpl_range.specs.Range.{members_of, IsBound, IsStride, IsRange};
-ghost use Rattle.dpl_range.specs.Walk.{walked, nearer, begun};
+ghost use Rattle.dpl_range.specs.Walk.{walked, nearer, begun, ahead, SameWay};
 
+mod progression;
+
+use progression::{first_multiple, period};
 use std::marker::Model;
 use thiserror::Error;
 
@@ -218,6 +223,74 @@ impl Range {
         if self.stride > 0 { low } else { high }
     }
 
+    /// The members that are congruent to `start + r` modulo `n`, in the order of the range. The stride of the
+    /// result is at most 2^61 in size, and 1 or -1 where it has fewer than two members.
+    pub fn class(&self, start: i64, n: u32, r: u32) -> Range
+        requires start_is_bound { IsBound start }
+        requires modulus { n ≤ 64 }
+        requires remainder { r < n }
+        ensures members { members_of result ≡ filter (is_congruent n (start +ℤ pos r)) (members_of self.now) }
+        ensures short { length (members_of result) < 2 → unsigned_abs result.stride ≡ 1 }
+        ensures limits { IsRange result }
+    {
+        let n = n as u64;
+        let step = self.step() % n;
+        let gap = self.gap(start + r as i64, n);
+        match first_multiple(gap, step, n) {
+            Some(skipped) if skipped < self.size() => self.every(skipped, period(step, n)),
+            _ => Range::unit(1, 0),
+        }
+    }
+
+    // The member at `skipped` and each `period`-th after it.
+    fn every(&self, skipped: u64, period: u64) -> Range
+        requires skipped { skipped < length (members_of self.now) }
+        requires positive { 0 < period }
+        requires small { period ≤ 64 }
+        ensures members { members_of result ≡ every period (drop skipped (members_of self.now)) }
+        ensures short { length (members_of result) < 2 → unsigned_abs result.stride ≡ 1 }
+        ensures limits { IsRange result }
+    {
+        let offset = skipped * self.step();
+        if self.size() - skipped <= period {
+            let only = self.walked(offset);
+            return Range::unit(only, only);
+        }
+        self.begun(offset, self.nearer(self.high, self.low), self.lengthened(period))
+    }
+
+    // The stride `period` times.
+    fn lengthened(&self, period: u64) -> i64
+        requires positive { 0 < period }
+        requires small { period ≤ 64 }
+        requires short { unsigned_abs self.now.stride * period ≤ 2 ^ 61 }
+        ensures size { unsigned_abs result ≡ unsigned_abs self.now.stride * period }
+        ensures way { SameWay self.now.stride result }
+    {
+        self.stride * period as i64
+    }
+
+    // How far, modulo `n`, the first integer of a walk lies past one that is congruent to `c`.
+    fn gap(&self, c: i64, n: u64) -> u64
+        requires positive { 0 < n }
+        requires small { n ≤ 64 }
+        requires low { neg_ℤ (pos (2 ^ 61)) ≤ℤ c }
+        requires high { c ≤ℤ pos (2 ^ 61) }
+        ensures gap { int_rem_euclid (ahead self.now.low self.now.high self.now.stride c) (pos n) ≡ pos result }
+        ensures below { result < n }
+    {
+        self.ahead(c).rem_euclid(n as i64) as u64
+    }
+
+    // How far the first integer of a walk lies past `c` in the direction of the walk.
+    fn ahead(&self, c: i64) -> i64
+        requires low { neg_ℤ (pos (2 ^ 61)) ≤ℤ c }
+        requires high { c ≤ℤ pos (2 ^ 61) }
+        ensures { result ≡ ahead self.now.low self.now.high self.now.stride c }
+    {
+        if self.stride > 0 { self.low - c } else { c - self.high }
+    }
+
     // How far the high bound lies above the low one.
     fn span(&self) -> u64
         requires { self.now.low ≤ℤ self.now.high }
@@ -232,6 +305,7 @@ impl Range {
         ensures size { unsigned_abs self.now.stride ≡ result }
         ensures positive { 0 < result }
         ensures short { result ≤ 2 ^ 61 }
+        ensures limits { IsRange self.now }
     {
         self.stride.unsigned_abs()
     }
