@@ -91,15 +91,15 @@ module _ (r : RangeValue) (skipped period : ℕ) (limits : IsRange r) (begins : 
         let apart = begun-span r.low r.high r.stride (skipped * unsigned_abs r.stride) span.0 span.1 begins-within in
         let e = along k in
         ⊎_elim
-          (λ past.
-            members-past s.low s.high stride (span.0 - skipped * unsigned_abs r.stride) (unsigned_abs r.stride * period) k apart size step-positive (omega (arith, along k, begins-within))
-            ∙ sym (members-past r.low r.high r.stride span.0 (unsigned_abs r.stride) (skipped + k * period) span.1 refl limits.stride_is_not_zero past))
-          (λ within.
-            slice_get-members s.low s.high stride (span.0 - skipped * unsigned_abs r.stride) (unsigned_abs r.stride * period) k apart size step-positive (omega (arith, along k, begins-within))
-            ∙ ap Some (walked-begun r.low r.high r.stride stride (walked r.low r.high r.stride (skipped * unsigned_abs r.stride)) (nearer r.stride r.high r.low) (skipped * unsigned_abs r.stride) (k * (unsigned_abs r.stride * period)) same refl)
-            ∙ ap (λ o. Some (walked r.low r.high r.stride o)) (sym e)
-            ∙ sym (slice_get-members r.low r.high r.stride span.0 (unsigned_abs r.stride) (skipped + k * period) span.1 refl limits.stride_is_not_zero within))
-          (cases_lt span.0 ((skipped + k * period) * unsigned_abs r.stride))
+        (λ past.
+        members-past s.low s.high stride (span.0 - skipped * unsigned_abs r.stride) (unsigned_abs r.stride * period) k apart size step-positive (omega (arith, along k, begins-within))
+        ∙ sym (members-past r.low r.high r.stride span.0 (unsigned_abs r.stride) (skipped + k * period) span.1 refl limits.stride_is_not_zero past))
+        (λ within.
+        slice_get-members s.low s.high stride (span.0 - skipped * unsigned_abs r.stride) (unsigned_abs r.stride * period) k apart size step-positive (omega (arith, along k, begins-within))
+        ∙ ap Some (walked-begun r.low r.high r.stride stride (walked r.low r.high r.stride (skipped * unsigned_abs r.stride)) (nearer r.stride r.high r.low) (skipped * unsigned_abs r.stride) (k * (unsigned_abs r.stride * period)) same refl)
+        ∙ ap (λ o. Some (walked r.low r.high r.stride o)) (sym e)
+        ∙ sym (slice_get-members r.low r.high r.stride span.0 (unsigned_abs r.stride) (skipped + k * period) span.1 refl limits.stride_is_not_zero within))
+        (cases_lt span.0 ((skipped + k * period) * unsigned_abs r.stride))
 
     pub begun-members : members_of (begun r (skipped * unsigned_abs r.stride) (nearer r.stride r.high r.low) stride) ≡ every period (drop skipped (members_of r))
     begun-members = same_places _ _ (λ k. begun-at k ∙ sym (slice_get-every skipped period (members_of r) k positive))
@@ -115,8 +115,8 @@ module _ (r : RangeValue) (c : ℤ) (n gap size : ℕ) (limits : IsRange r) (pos
   member-congruent : (k : ℕ) (i : ℤ) → slice_get (members_of r) k ≡ Some i → (is_congruent n c i ≡ true) ↔ ((gap + k * (size % n)) % n ≡ 0)
   member-congruent k i found =
       let at : i ≡ walked r.low r.high r.stride (k * size) =
-        same_Some i _ (sym found ∙ nth-walked r k limits (slice_get_within (members_of r) k i found))
-        ∙ ap (λ m. walked r.low r.high r.stride (k * m)) size-is in
+      same_Some i _ (sym found ∙ nth-walked r k limits (slice_get_within (members_of r) k i found))
+      ∙ ap (λ m. walked r.low r.high r.stride (k * m)) size-is in
       let d = congruent-walked r.low r.high r.stride c n gap (k * size) positive gap-is in
       let e = step-remainder n gap k size in
       ((λ h. e ∙ d.0 (ap (is_congruent n c) (sym at) ∙ h)), (λ h. ap (is_congruent n c) at ∙ d.1 (sym e ∙ h)))
@@ -127,12 +127,12 @@ module _ (r : RangeValue) (c : ℤ) (n gap size : ℕ) (limits : IsRange r) (pos
       ap (λ g. spaced g 0 (drop first (members_of r))) (omega arith)
       ∙ sym (spaced-drop p first (members_of r))
       ∙ sym (filter-spaced (is_congruent n c) p first (members_of r) (λ k i found.
-          let a = member-congruent k i found in
-          let b = periodic n gap (size % n) first (suc p) meets least some returns soonest k in
-          ((λ h. b.0 (a.0 h)), (λ h. a.1 (b.1 h)))))
+      let a = member-congruent k i found in
+      let b = periodic n gap (size % n) first (suc p) meets least some returns soonest k in
+      ((λ h. b.0 (a.0 h)), (λ h. a.1 (b.1 h)))))
 
   pub class-none : ((k : ℕ) → k < length (members_of r) → (gap + k * (size % n)) % n ≡ 0 → ⊥) → members_of (record { low = pos 1; high = pos 0; stride = pos 1 }) ≡ filter (is_congruent n c) (members_of r)
   class-none never =
       members-empty (pos 1) (pos 0) (pos 1) (omega (arith, ints))
       ∙ sym (filter-none (is_congruent n c) (members_of r) (λ k i found passes.
-          never k (slice_get_within (members_of r) k i found) ((member-congruent k i found).0 passes)))
+      never k (slice_get_within (members_of r) k i found) ((member-congruent k i found).0 passes)))

@@ -70,9 +70,10 @@ filter-spaced test gap wait [] periodic = refl
 filter-spaced test gap zero (i ∷ is) periodic =
     let here : test i ≡ true = (periodic 0 i refl).1 (0, omega arith) in
     let rest : filter test is ≡ spaced gap gap is =
-      filter-spaced test gap gap is (λ k j found.
-        ((λ passes. let h = (periodic (suc k) j found).0 passes in later k h.0 h.1)
-        , (λ h. (periodic (suc k) j found).1 (suc h.0, omega (arith, suc-mul h.0 (suc gap), h.1))))) in
+    filter-spaced test gap gap is (λ k j found. (
+      (λ passes. let h = (periodic (suc k) j found).0 passes in later k h.0 h.1),
+      (λ h. (periodic (suc k) j found).1 (suc h.0, omega (arith, suc-mul h.0 (suc gap), h.1))),
+    )) in
     rw here (ap (λ js. i ∷ js) rest)
   where
     later : (k j : ℕ) → suc k ≡ 0 + j * suc gap → (j' : ℕ) × (k ≡ gap + j' * suc gap)
@@ -80,9 +81,10 @@ filter-spaced test gap zero (i ∷ is) periodic =
     later k (suc j) e = (j, omega (arith, suc-mul j (suc gap)))
 filter-spaced test gap (suc wait) (i ∷ is) periodic =
     rw (false_unless (test i) (λ passes. let h = (periodic 0 i refl).0 passes in omega (arith, h.1)))
-      (filter-spaced test gap wait is (λ k j found.
-        ((λ passes. let h = (periodic (suc k) j found).0 passes in (h.0, omega (arith, h.1)))
-        , (λ h. (periodic (suc k) j found).1 (h.0, omega (arith, h.1))))))
+    (filter-spaced test gap wait is (λ k j found. (
+      (λ passes. let h = (periodic (suc k) j found).0 passes in (h.0, omega (arith, h.1))),
+      (λ h. (periodic (suc k) j found).1 (h.0, omega (arith, h.1))),
+    )))
 
 -- a filter that passes nothing
 pub filter-none : (test : ℤ → Bool) (is : List ℤ) → ((k : ℕ) (i : ℤ) → slice_get is k ≡ Some i → test i ≡ true → ⊥) → filter test is ≡ []

@@ -23,12 +23,13 @@ StandsIn-filter p (x ∷ xs) i s = go (p x) refl (StandsIn-filter p xs i) s
   where
     behind : (StandsIn (filter p xs) i → StandsIn xs i × (p i ≡ true)) → StandsIn (filter p xs) i → StandsIn (x ∷ xs) i × (p i ≡ true)
     behind rest s = let h = rest s in ((suc h.0.0, h.0.1), h.1)
+
     go : (b : Bool) → p x ≡ b → (StandsIn (filter p xs) i → StandsIn xs i × (p i ≡ true)) → StandsIn (cond b (x ∷ filter p xs) (filter p xs)) i → StandsIn (x ∷ xs) i × (p i ≡ true)
     go true passes rest s =
         ⊎_elim
-          (λ here. ((0, ap Some here), subst (λ y. p y ≡ true) here passes))
-          (behind rest)
-          (StandsIn-cons x (filter p xs) i s)
+        (λ here. ((0, ap Some here), subst (λ y. p y ≡ true) here passes))
+        (behind rest)
+        (StandsIn-cons x (filter p xs) i s)
     go false fails rest s = behind rest s
 
 StandsIn-filtered : (p : ℤ → Bool) (xs : List ℤ) (i : ℤ) → StandsIn xs i → p i ≡ true → StandsIn (filter p xs) i
@@ -53,22 +54,22 @@ module _ (R : ℤ → ℤ → Type 0) (one_way : (a b : ℤ) → R a b → R b a
   same_head : (x : ℤ) (xs : List ℤ) (y : ℤ) (ys : List ℤ) → AllPairs R (x ∷ xs) → AllPairs R (y ∷ ys) → StandsIn (y ∷ ys) x → StandsIn (x ∷ xs) y → x ≡ y
   same_head x xs y ys in_xs in_ys there back =
       ⊎_elim
-        (λ here. sym here)
-        (λ x_later. ⊎_elim
-          (λ here. here)
-          (λ y_later. absurd (one_way x y (AllPairs-head x xs y in_xs y_later) (AllPairs-head y ys x in_ys x_later)))
-          (StandsIn-cons x xs y back))
-        (StandsIn-cons y ys x there)
+      (λ here. sym here)
+      (λ x_later. ⊎_elim
+      (λ here. here)
+      (λ y_later. absurd (one_way x y (AllPairs-head x xs y in_xs y_later) (AllPairs-head y ys x in_ys x_later)))
+      (StandsIn-cons x xs y back))
+      (StandsIn-cons y ys x there)
 
   -- and what stands behind the one head stands behind the other
   same_behind : (x : ℤ) (xs : List ℤ) (y : ℤ) (ys : List ℤ) → AllPairs R (x ∷ xs) → x ≡ y → ((i : ℤ) → StandsIn (x ∷ xs) i → StandsIn (y ∷ ys) i) → (i : ℤ) → StandsIn xs i → StandsIn ys i
   same_behind x xs y ys in_xs heads there i s =
       ⊎_elim
-        (λ here. let e : x ≡ i = heads ∙ here in
-          let after : R x i = AllPairs-head x xs i in_xs s in
-          absurd (one_way i i (subst (λ z. R z i) e after) (subst (λ z. R z i) e after)))
-        (λ later. later)
-        (StandsIn-cons y ys i (there i (suc s.0, s.1)))
+      (λ here. let e : x ≡ i = heads ∙ here in
+      let after : R x i = AllPairs-head x xs i in_xs s in
+      absurd (one_way i i (subst (λ z. R z i) e after) (subst (λ z. R z i) e after)))
+      (λ later. later)
+      (StandsIn-cons y ys i (there i (suc s.0, s.1)))
 
   pub same_ordered : (xs ys : List ℤ) → AllPairs R xs → AllPairs R ys → ((i : ℤ) → StandsIn xs i → StandsIn ys i) → ((i : ℤ) → StandsIn ys i → StandsIn xs i) → xs ≡ ys
   same_ordered [] [] in_xs in_ys there back = refl
@@ -77,9 +78,9 @@ module _ (R : ℤ → ℤ → Type 0) (one_way : (a b : ℤ) → R a b → R b a
   same_ordered (x ∷ xs) (y ∷ ys) in_xs in_ys there back =
       let heads : x ≡ y = same_head x xs y ys in_xs in_ys (there x (0, refl)) (back y (0, refl)) in
       let tails : xs ≡ ys =
-        same_ordered xs ys (AllPairs-tail x xs in_xs) (AllPairs-tail y ys in_ys)
-          (same_behind x xs y ys in_xs heads there)
-          (same_behind y ys x xs in_ys (sym heads) back) in
+      same_ordered xs ys (AllPairs-tail x xs in_xs) (AllPairs-tail y ys in_ys)
+      (same_behind x xs y ys in_xs heads there)
+      (same_behind y ys x xs in_ys (sym heads) back) in
       cc
 
 -- an integer stands before another in the order of a stride
@@ -124,16 +125,16 @@ walked-bounded low high (negsuc s) offset i above below at = omega (arith, ints)
 pub place-IsMember : (r : RangeValue) (i : ℤ) → IsRange r → (m : IsMember r i) → slice_get (members_of r) m.strides ≡ Some i
 place-IsMember r i limits m =
     (place-walked r (m.strides * unsigned_abs r.stride) m.strides i limits
-      (walked-bounded r.low r.high r.stride (m.strides * unsigned_abs r.stride) i m.low m.high m.walk) m.walk).1 refl
+    (walked-bounded r.low r.high r.stride (m.strides * unsigned_abs r.stride) i m.low m.high m.walk) m.walk).1 refl
 
 -- a range that goes the way of another and has those of its members that pass is its filter
 pub filter-members : (r s : RangeValue) (p : ℤ → Bool) → IsRange r → IsRange s → ((a b : ℤ) → Precedes s.stride a b → Precedes r.stride a b) → ((i : ℤ) → IsMember s i → IsMember r i × (p i ≡ true)) → ((i : ℤ) → IsMember r i → p i ≡ true → IsMember s i) → members_of s ≡ filter p (members_of r)
 filter-members r s p r_limits s_limits same_way there back =
     same_ordered (Precedes r.stride) (Precedes-one_way r.stride) (members_of s) (filter p (members_of r))
-      (λ j k d before within. same_way _ _ (AllPairs-members s s_limits j k d before within))
-      (AllPairs-filter (Precedes r.stride) p (members_of r) (AllPairs-members r r_limits))
-      (λ i stands. let m = there i (IsMember-from_place s stands.0 i s_limits stands.1) in
-        StandsIn-filtered p (members_of r) i (m.0.strides, place-IsMember r i r_limits m.0) m.1)
-      (λ i stands. let h = StandsIn-filter p (members_of r) i stands in
-        let m = back i (IsMember-from_place r h.0.0 i r_limits h.0.1) h.1 in
-        (m.strides, place-IsMember s i s_limits m))
+    (λ j k d before within. same_way _ _ (AllPairs-members s s_limits j k d before within))
+    (AllPairs-filter (Precedes r.stride) p (members_of r) (AllPairs-members r r_limits))
+    (λ i stands. let m = there i (IsMember-from_place s stands.0 i s_limits stands.1) in
+    StandsIn-filtered p (members_of r) i (m.0.strides, place-IsMember r i r_limits m.0) m.1)
+    (λ i stands. let h = StandsIn-filter p (members_of r) i stands in
+    let m = back i (IsMember-from_place r h.0.0 i r_limits h.0.1) h.1 in
+    (m.strides, place-IsMember s i s_limits m))

@@ -63,7 +63,7 @@ module _ (r : RangeValue) (begin end : ℕ) (far stride : ℤ) (i : ℤ) (same :
         low = h.0;
         high = h.1;
         strides = a.strides;
-        walk = a.walk ∙ sym (walked-begun r.low r.high r.stride stride near far begin (a.strides * unsigned_abs stride) same refl)
+        walk = a.walk ∙ sym (walked-begun r.low r.high r.stride stride near far begin (a.strides * unsigned_abs stride) same refl);
       }
 
 -- the test of a slice
@@ -86,10 +86,10 @@ least_multiple n a begin k positive whole least reached =
 pub none-members : (r : RangeValue) (p : ℤ → Bool) → IsRange r → ((i : ℤ) → IsMember r i → p i ≡ true → ⊥) → members_of (record { low = pos 1; high = pos 0; stride = r.stride }) ≡ filter p (members_of r)
 none-members r p limits rejected =
     filter-members r (record { low = pos 1; high = pos 0; stride = r.stride }) p limits
-      (record { low_is_bound = (omega (arith, ints), omega (arith, ints)); high_is_bound = (omega (arith, ints), omega (arith, ints)); stride_is_not_zero = limits.stride_is_not_zero; stride_is_short = limits.stride_is_short })
-      (λ a b order. order)
-      (λ i m. absurd (omega (arith, ints, m.low, m.high)))
-      (λ i m passes. absurd (rejected i m passes))
+    (record { low_is_bound = (omega (arith, ints), omega (arith, ints)); high_is_bound = (omega (arith, ints), omega (arith, ints)); stride_is_not_zero = limits.stride_is_not_zero; stride_is_short = limits.stride_is_short })
+    (λ a b order. order)
+    (λ i m. absurd (omega (arith, ints, m.low, m.high)))
+    (λ i m passes. absurd (rejected i m passes))
 
 -- a slice between bounds `from` and `to` that lie within the range's own, at the offsets a and b
 module _ (r : RangeValue) (from to : ℤ) (a b begin : ℕ) (limits : IsRange r) (near : nearer r.stride from to ≡ walked r.low r.high r.stride a) (far : nearer r.stride to from ≡ walked r.low r.high r.stride b) (whole : begin % unsigned_abs r.stride ≡ 0) (reaches : a ≤ begin) (least : begin < a + unsigned_abs r.stride) where
@@ -102,30 +102,31 @@ module _ (r : RangeValue) (from to : ℤ) (a b begin : ℕ) (limits : IsRange r)
   pub cut-none : b < begin → members_of (record { low = pos 1; high = pos 0; stride = r.stride }) ≡ filter (λ i. int_le from i && int_le i to) (members_of r)
   cut-none past =
       none-members r (λ i. int_le from i && int_le i to) limits
-        (λ i m passes. let h = passed from to i passes in
-          let o = member-offset i m h.0 h.1 in
-          omega arith)
+      (λ i m passes. let h = passed from to i passes in
+      let o = member-offset i m h.0 h.1 in
+      omega arith)
 
   pub cut-members : begin ≤ b → IsRange (begun r begin (nearer r.stride to from) r.stride) → r.low ≤ℤ from → to ≤ℤ r.high → members_of (begun r begin (nearer r.stride to from) r.stride) ≡ filter (λ i. int_le from i && int_le i to) (members_of r)
   cut-members within result_limits from_within to_within =
       let n = unsigned_abs r.stride in
       let exact : begin / n * n ≡ begin = omega (arith, div-add-mod begin n) in
       filter-members r (begun r begin (nearer r.stride to from) r.stride) (λ i. int_le from i && int_le i to) limits result_limits
-        (λ x y order. order)
-        (λ i m.
-          let along = IsAlong-begun r begin b (nearer r.stride to from) r.stride i (SameWay_self r.stride) far m in
-          let offset : begin + along.strides * n ≡ (begin / n + along.strides) * n = omega (arith, add-mul (begin / n) along.strides n) in
-          let h = (between-walked r.low r.high r.stride from to i a b (begin + along.strides * n) near far along.walk).1 (omega arith, along.within) in
-          (record { low = omega (arith, ints); high = omega (arith, ints); strides = begin / n + along.strides; walk = along.walk ∙ ap (walked r.low r.high r.stride) offset }
-          , passes from to i h.0 h.1))
-        (λ i m held.
-          let h = passed from to i held in
-          let o = member-offset i m h.0 h.1 in
-          let t = m.strides - begin / n in
-          let more : begin / n ≤ m.strides = le_of_mul-le-mul_right (omega arith) limits.stride_is_not_zero in
-          let offset : m.strides * n ≡ begin + t * n = ap (λ k. k * n) (omega arith) ∙ add-mul (begin / n) t n ∙ omega arith in
-          IsMember-begun r begin b (nearer r.stride to from) r.stride i (SameWay_self r.stride) far
-            (record { strides = t; walk = m.walk ∙ ap (walked r.low r.high r.stride) offset; within = omega arith }))
+      (λ x y order. order)
+      (λ i m.
+      let along = IsAlong-begun r begin b (nearer r.stride to from) r.stride i (SameWay_self r.stride) far m in
+      let offset : begin + along.strides * n ≡ (begin / n + along.strides) * n = omega (arith, add-mul (begin / n) along.strides n) in
+      let h = (between-walked r.low r.high r.stride from to i a b (begin + along.strides * n) near far along.walk).1 (omega arith, along.within) in (
+        record { low = omega (arith, ints); high = omega (arith, ints); strides = begin / n + along.strides; walk = along.walk ∙ ap (walked r.low r.high r.stride) offset },
+        passes from to i h.0 h.1,
+      ))
+      (λ i m held.
+      let h = passed from to i held in
+      let o = member-offset i m h.0 h.1 in
+      let t = m.strides - begin / n in
+      let more : begin / n ≤ m.strides = le_of_mul-le-mul_right (omega arith) limits.stride_is_not_zero in
+      let offset : m.strides * n ≡ begin + t * n = ap (λ k. k * n) (omega arith) ∙ add-mul (begin / n) t n ∙ omega arith in
+      IsMember-begun r begin b (nearer r.stride to from) r.stride i (SameWay_self r.stride) far
+      (record { strides = t; walk = m.walk ∙ ap (walked r.low r.high r.stride) offset; within = omega arith }))
 
 -- every integer between its bounds is a member of a range of stride 1
 IsMember-unit : (low high i : ℤ) → low ≤ℤ i → i ≤ℤ high → IsMember (record { low = low; high = high; stride = pos 1 }) i
@@ -137,11 +138,13 @@ IsMember-unit low high i above below =
 pub unit-members : (r : RangeValue) (from to low high : ℤ) → IsRange r → r.stride ≡ pos 1 → IsRange (record { low = low; high = high; stride = pos 1 }) → ((i : ℤ) → (low ≤ℤ i) ↔ ((r.low ≤ℤ i) × (from ≤ℤ i))) → ((i : ℤ) → (i ≤ℤ high) ↔ ((i ≤ℤ r.high) × (i ≤ℤ to))) → members_of (record { low = low; high = high; stride = pos 1 }) ≡ filter (λ i. int_le from i && int_le i to) (members_of r)
 unit-members r from to low high limits unit result_limits lower upper =
     filter-members r (record { low = low; high = high; stride = pos 1 }) (λ i. int_le from i && int_le i to) limits result_limits
-      (λ a b order. subst (λ s. Precedes s a b) (sym unit) order)
-      (λ i m. (subst (λ s. IsMember (record { low = r.low; high = r.high; stride = s }) i) (sym unit) (IsMember-unit r.low r.high i ((lower i).0 m.low).0 ((upper i).0 m.high).0)
-        , passes from to i ((lower i).0 m.low).1 ((upper i).0 m.high).1))
-      (λ i m held. let h = passed from to i held in
-        IsMember-unit low high i ((lower i).1 (m.low, h.0)) ((upper i).1 (m.high, h.1)))
+    (λ a b order. subst (λ s. Precedes s a b) (sym unit) order)
+    (λ i m. (
+      subst (λ s. IsMember (record { low = r.low; high = r.high; stride = s }) i) (sym unit) (IsMember-unit r.low r.high i ((lower i).0 m.low).0 ((upper i).0 m.high).0),
+      passes from to i ((lower i).0 m.low).1 ((upper i).0 m.high).1,
+    ))
+    (λ i m held. let h = passed from to i held in
+    IsMember-unit low high i ((lower i).1 (m.low, h.0)) ((upper i).1 (m.high, h.1)))
 
 pub nearer-high : (way a b high : ℤ) → a ≤ℤ high → b ≤ℤ high → nearer way a b ≤ℤ high
 nearer-high (pos w) a b high a_below b_below = a_below
@@ -177,30 +180,30 @@ module _ (r : RangeValue) (from to : ℤ) (limits : IsRange r) where
   pub slice-unit : IsBound from → IsBound to → r.stride ≡ pos 1 → members_of (record { low = int_max r.low from; high = int_min r.high to; stride = pos 1 }) ≡ filter (λ i. int_le from i && int_le i to) (members_of r)
   slice-unit from_bound to_bound unit =
       unit-members r from to (int_max r.low from) (int_min r.high to) limits unit
-        (record {
-          low_is_bound = IsBound-int_max r.low from limits.low_is_bound from_bound;
-          high_is_bound = IsBound-int_min r.high to limits.high_is_bound to_bound;
-          stride_is_not_zero = omega arith;
-          stride_is_short = omega arith
-        })
-        (int_max-le r.low from) (le-int_min r.high to)
+      (record {
+        low_is_bound = IsBound-int_max r.low from limits.low_is_bound from_bound;
+        high_is_bound = IsBound-int_min r.high to limits.high_is_bound to_bound;
+        stride_is_not_zero = omega arith;
+        stride_is_short = omega arith;
+      })
+      (int_max-le r.low from) (le-int_min r.high to)
 
   pub slice-none : int_min r.high to <ℤ int_max r.low from → members_of (record { low = pos 1; high = pos 0; stride = r.stride }) ≡ filter (λ i. int_le from i && int_le i to) (members_of r)
   slice-none apart =
       none-members r (λ i. int_le from i && int_le i to) limits
-        (λ i m held. let h = passed from to i held in
-          let above : int_max r.low from ≤ℤ i = (int_max-le r.low from i).1 (m.low, h.0) in
-          let below : i ≤ℤ int_min r.high to = (le-int_min r.high to i).1 (m.high, h.1) in
-          omega (arith, ints))
+      (λ i m held. let h = passed from to i held in
+      let above : int_max r.low from ≤ℤ i = (int_max-le r.low from i).1 (m.low, h.0) in
+      let below : i ≤ℤ int_min r.high to = (le-int_min r.high to i).1 (m.high, h.1) in
+      omega (arith, ints))
 
   -- the members are within the range's own bounds, so a test by the nearer bounds says the same
   pub slice-cut : filter (λ i. int_le (int_max r.low from) i && int_le i (int_min r.high to)) (members_of r) ≡ filter (λ i. int_le from i && int_le i to) (members_of r)
   slice-cut =
       filter_alike (λ i. int_le (int_max r.low from) i && int_le i (int_min r.high to)) (λ i. int_le from i && int_le i to) (members_of r)
-        (λ k i found.
-          let m = IsMember-from_place r k i limits found in
-          same_test (int_le (int_max r.low from) i && int_le i (int_min r.high to)) (int_le from i && int_le i to)
-            (λ held. let h = passed (int_max r.low from) (int_min r.high to) i held in
-              passes from to i ((int_max-le r.low from i).0 h.0).1 ((le-int_min r.high to i).0 h.1).1)
-            (λ held. let h = passed from to i held in
-              passes (int_max r.low from) (int_min r.high to) i ((int_max-le r.low from i).1 (m.low, h.0)) ((le-int_min r.high to i).1 (m.high, h.1))))
+      (λ k i found.
+      let m = IsMember-from_place r k i limits found in
+      same_test (int_le (int_max r.low from) i && int_le i (int_min r.high to)) (int_le from i && int_le i to)
+      (λ held. let h = passed (int_max r.low from) (int_min r.high to) i held in
+      passes from to i ((int_max-le r.low from i).0 h.0).1 ((le-int_min r.high to i).0 h.1).1)
+      (λ held. let h = passed from to i held in
+      passes (int_max r.low from) (int_min r.high to) i ((int_max-le r.low from i).1 (m.low, h.0)) ((le-int_min r.high to i).1 (m.high, h.1))))

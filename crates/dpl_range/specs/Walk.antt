@@ -17,8 +17,8 @@ abbrev pub begun : RangeValue → ℕ → ℤ → ℤ → RangeValue
 begun r offset far stride = record {
   low = nearer r.stride (walked r.low r.high r.stride offset) far;
   high = nearer r.stride far (walked r.low r.high r.stride offset);
-  stride = stride
-  }
+  stride = stride;
+}
 
 -- how far the first integer of a walk lies past c in the direction of the walk
 abbrev pub ahead : ℤ → ℤ → ℤ → ℤ → ℤ

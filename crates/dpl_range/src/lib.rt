@@ -159,6 +159,30 @@ impl Range {
         }
     }
 
+    /// The low bound, which a stride may keep from being a member.
+    pub fn low_bound(&self) -> i64
+        ensures bound { result ≡ self.now.low }
+        ensures limits { IsRange self.now }
+    {
+        self.low
+    }
+
+    /// The high bound, which a stride may keep from being a member.
+    pub fn high_bound(&self) -> i64
+        ensures bound { result ≡ self.now.high }
+        ensures limits { IsRange self.now }
+    {
+        self.high
+    }
+
+    /// The stride: above 0 the members rise, below 0 they fall.
+    pub fn stride(&self) -> i64
+        ensures stride { result ≡ self.now.stride }
+        ensures limits { IsRange self.now }
+    {
+        self.stride
+    }
+
     /// The members between `low` and `high`, in the order of the range. A range of stride 1 keeps, of its own
     /// bounds and these two, the greater low and the lesser high one, also where no member is left.
     pub fn slice(&self, low: i64, high: i64) -> Range
@@ -191,7 +215,9 @@ impl Range {
         ensures limits { IsRange result }
     {
         let far = self.nearer(high, low);
-        let begin = self.offset(self.nearer(low, high)).next_multiple_of(self.step());
+        let begin = self
+            .offset(self.nearer(low, high))
+            .next_multiple_of(self.step());
         if self.offset(far) < begin {
             return self.none();
         }
@@ -205,7 +231,11 @@ impl Range {
         ensures value { result ≡ record { low = low; high = high; stride = pos 1 } }
         ensures limits { IsRange result }
     {
-        Range { low, high, stride: 1 }
+        Range {
+            low,
+            high,
+            stride: 1,
+        }
     }
 
     // A range of the same stride with no members.
@@ -213,7 +243,11 @@ impl Range {
         ensures value { result ≡ record { low = pos 1; high = pos 0; stride = self.now.stride } }
         ensures limits { IsRange result }
     {
-        Range { low: 1, high: 0, stride: self.stride }
+        Range {
+            low: 1,
+            high: 0,
+            stride: self.stride,
+        }
     }
 
     // The one of two bounds at which a walk between them begins.
@@ -256,7 +290,11 @@ impl Range {
             let only = self.walked(offset);
             return Range::unit(only, only);
         }
-        self.begun(offset, self.nearer(self.high, self.low), self.lengthened(period))
+        self.begun(
+            offset,
+            self.nearer(self.high, self.low),
+            self.lengthened(period),
+        )
     }
 
     // The stride `period` times.
@@ -288,7 +326,11 @@ impl Range {
         requires high { c ≤ℤ pos (2 ^ 61) }
         ensures { result ≡ ahead self.now.low self.now.high self.now.stride c }
     {
-        if self.stride > 0 { self.low - c } else { c - self.high }
+        if self.stride > 0 {
+            self.low - c
+        } else {
+            c - self.high
+        }
     }
 
     // How far the high bound lies above the low one.
@@ -333,9 +375,17 @@ impl Range {
     {
         let near = self.walked(offset);
         if self.stride > 0 {
-            Range { low: near, high: far, stride }
+            Range {
+                low: near,
+                high: far,
+                stride,
+            }
         } else {
-            Range { low: far, high: near, stride }
+            Range {
+                low: far,
+                high: near,
+                stride,
+            }
         }
     }
 

@@ -19,17 +19,17 @@ pub returns-in-Some-clause-members : goal.returns-in-Some-clause-members
 returns-in-Some-clause-members c =
     c.every.ensures.members
     ∙ class-members c.args.self.now (c.args.start +ℤ pos c.args.r) c.args.n c.gap-gap.result c.step.result c.step.ensures.limits (omega arith) c.step.ensures.size
-        (gap-is (goal.at.returns-in-Some-clause-members c).After-first_multiple)
-        c.in-Some.skipped c.period.result c.in-Some.ensures.meets c.in-Some.ensures.least c.period.ensures.positive c.period.ensures.meets c.period.ensures.least
+    (gap-is (goal.at.returns-in-Some-clause-members c).After-first_multiple)
+    c.in-Some.skipped c.period.result c.in-Some.ensures.meets c.in-Some.ensures.least c.period.ensures.positive c.period.ensures.meets c.period.ensures.least
 
 pub returns-in_default-clause-members : goal.returns-in_default-clause-members
 returns-in_default-clause-members c =
     let never : (k : ℕ) → k < length (members_of c.args.self.now) → (c.gap-gap.result + k * (c.step.result % c.args.n)) % c.args.n ≡ 0 → ⊥ =
-      λ k within meets. elim c.in_default.branch [
-          in_default-via-in-Some+else-skipped-size w ↦ w.in-Some.ensures.least k (omega arith) meets
-        | in_default-via-in_default w ↦
-            never-multiple c.args.n c.gap-gap.result (c.step.result % c.args.n) (omega arith) w.in_default.ensures.none k meets
-        ] in
+    λ k within meets. elim c.in_default.branch [
+      | in_default-via-in-Some+else-skipped-size w ↦ w.in-Some.ensures.least k (omega arith) meets
+      | in_default-via-in_default w ↦
+          never-multiple c.args.n c.gap-gap.result (c.step.result % c.args.n) (omega arith) w.in_default.ensures.none k meets
+    ] in
     rw c.unit.ensures.value
-      (class-none c.args.self.now (c.args.start +ℤ pos c.args.r) c.args.n c.gap-gap.result c.step.result c.step.ensures.limits (omega arith) c.step.ensures.size
-        (gap-is (goal.at.returns-in_default-clause-members c).After-first_multiple) never)
+    (class-none c.args.self.now (c.args.start +ℤ pos c.args.r) c.args.n c.gap-gap.result c.step.result c.step.ensures.limits (omega arith) c.step.ensures.size
+    (gap-is (goal.at.returns-in_default-clause-members c).After-first_multiple) never)

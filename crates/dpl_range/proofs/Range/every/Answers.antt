@@ -22,8 +22,8 @@ walked-only-requires c = within (goal.at.walked-only-requires c).After-step
 only-bound : (c : After-walked-only) → (c.args.self.now.low +ℤ pos (c.args.skipped * c.step.result)) ≤ℤ c.args.self.now.high → IsBound c.walked-only.result
 only-bound c near =
     rw c.walked-only.ensures
-      (IsBound-walked c.args.self.now.low c.args.self.now.high c.args.self.now.stride (c.args.skipped * c.step.result)
-        c.step.ensures.limits.low_is_bound c.step.ensures.limits.high_is_bound near)
+    (IsBound-walked c.args.self.now.low c.args.self.now.high c.args.self.now.stride (c.args.skipped * c.step.result)
+    c.step.ensures.limits.low_is_bound c.step.ensures.limits.high_is_bound near)
 
 pub unit-requires-clause-low_is_bound : goal.unit-requires-clause-low_is_bound
 unit-requires-clause-low_is_bound c =
@@ -43,7 +43,7 @@ returns-then-size-skipped-clause-members c =
     let fits : FitsSigned w64 c.walked-only.result = search rules in
     let is = simp to_z-of_z at c.unit.ensures.value in
     let at : c.walked-only.result ≡ walked c.args.self.now.low c.args.self.now.high c.args.self.now.stride (c.args.skipped * unsigned_abs c.args.self.now.stride) =
-      rw c.step.ensures.size c.walked-only.ensures in
+    rw c.step.ensures.size c.walked-only.ensures in
     rw is (only-members c.args.self.now c.args.skipped c.args.period c.step.ensures.limits c.requires.skipped c.requires.positive c.walked-only.result at (omega arith))
 
 -- more than one is left
@@ -61,14 +61,14 @@ pub begun-requires-clause-stride_is_not_zero : goal.begun-requires-clause-stride
 begun-requires-clause-stride_is_not_zero c =
     let fits : FitsSigned w64 c.lengthened.result = search rules in
     rw (to_z-of_z w64 c.lengthened.result fits, c.lengthened.ensures.size)
-      (mul-le-mul {n₁ = 1} {m₁ = 1} c.step.ensures.limits.stride_is_not_zero c.requires.positive)
+    (mul-le-mul {n₁ = 1} {m₁ = 1} c.step.ensures.limits.stride_is_not_zero c.requires.positive)
 
 pub begun-requires-clause-stride_is_short : goal.begun-requires-clause-stride_is_short
 begun-requires-clause-stride_is_short c =
     let fits : FitsSigned w64 c.lengthened.result = search rules in
     rw (to_z-of_z w64 c.lengthened.result fits, c.lengthened.ensures.size)
-      (begun-short c.args.self.now c.args.skipped c.args.period c.step.ensures.limits c.requires.skipped c.requires.positive
-        (more (goal.at.begun-requires-clause-stride_is_short c).After-nearer))
+    (begun-short c.args.self.now c.args.skipped c.args.period c.step.ensures.limits c.requires.skipped c.requires.positive
+    (more (goal.at.begun-requires-clause-stride_is_short c).After-nearer))
 
 -- what is begun, in the words of the lemmas
 begun-is : (c : After-begun) → c.begun.result ≡ begun c.args.self.now (c.args.skipped * unsigned_abs c.args.self.now.stride) (nearer c.args.self.now.stride c.args.self.now.high c.args.self.now.low) c.lengthened.result
@@ -86,10 +86,10 @@ begun-is c =
 pub returns-clause-members : goal.returns-clause-members
 returns-clause-members c =
     rw (begun-is c)
-      (begun-members c.args.self.now c.args.skipped c.args.period c.step.ensures.limits c.requires.skipped c.requires.positive c.lengthened.result c.lengthened.ensures.way c.lengthened.ensures.size)
+    (begun-members c.args.self.now c.args.skipped c.args.period c.step.ensures.limits c.requires.skipped c.requires.positive c.lengthened.result c.lengthened.ensures.way c.lengthened.ensures.size)
 
 pub returns-clause-short : goal.returns-clause-short
 returns-clause-short c =
     let two : 2 ≤ length (members_of c.begun.result) =
-      rw (begun-is c) (begun-two c.args.self.now c.args.skipped c.args.period c.step.ensures.limits c.requires.skipped c.requires.positive c.lengthened.result c.lengthened.ensures.way c.lengthened.ensures.size (more (goal.at.returns-clause-short c).After-nearer)) in
+    rw (begun-is c) (begun-two c.args.self.now c.args.skipped c.args.period c.step.ensures.limits c.requires.skipped c.requires.positive c.lengthened.result c.lengthened.ensures.way c.lengthened.ensures.size (more (goal.at.returns-clause-short c).After-nearer)) in
     λ fewer. absurd (omega arith)

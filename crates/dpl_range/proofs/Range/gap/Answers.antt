@@ -17,5 +17,5 @@ returns c =
     let natural : c.rem_euclid.result ≡ pos (unsigned_abs c.rem_euclid.result) = omega (arith, ints) in
     rw (to_z-of_z w64 c.rem_euclid.result rem_fits) (record {
       gap = ap (λ d. int_rem_euclid d (pos c.args.n)) (sym ahead_is) ∙ sym value ∙ natural;
-      below = below
+      below = below;
     })

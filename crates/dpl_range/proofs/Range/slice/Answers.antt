@@ -48,9 +48,9 @@ returns-then-self-eq1-clause-members c =
     let high_fits : FitsSigned w64 c.min-high.result = search rules in
     let unit : c.self.inside.stride ≡ pos 1 = omega (arith, ints) in
     let is : c.unit.result ≡ record { low = int_max c.args.self.now.low c.args.low; high = int_min c.args.self.now.high c.args.high; stride = pos 1 } =
-      simp to_z-of_z at c.unit.ensures.value
-      ∙ ap (λ (low : ℤ). range low c.min-high.result (pos 1)) (low-is cut)
-      ∙ ap (λ (high : ℤ). range (int_max c.args.self.now.low c.args.low) high (pos 1)) (high-is cut) in
+    simp to_z-of_z at c.unit.ensures.value
+    ∙ ap (λ (low : ℤ). range low c.min-high.result (pos 1)) (low-is cut)
+    ∙ ap (λ (high : ℤ). range (int_max c.args.self.now.low c.args.low) high (pos 1)) (high-is cut) in
     rw is (slice-unit c.args.self.now c.args.low c.args.high (limits-of cut) c.requires.low_is_bound c.requires.high_is_bound (sym (ap (λ (v : RangeValue). v.stride) c.self.view_is) ∙ unit))
 
 pub returns-then-self-eq1-clause-stride : goal.returns-then-self-eq1-clause-stride
