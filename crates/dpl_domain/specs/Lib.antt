@@ -1,0 +1,4 @@
+pub mod Indices
+pub mod Ranks
+pub mod Tuple
+pub mod Product
