@@ -1,1 +1,2 @@
 pub mod TupleLemmas
+pub mod PlaceLemmas
