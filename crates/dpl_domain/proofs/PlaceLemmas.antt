@@ -1,13 +1,13 @@
 -- The place of an index: the places of its coordinates, row by row, and no other.
-use Rattle.std.proofs.Common.{◌≡◌, ℕ, zero, suc, ◌+◌, ◌*◌, ◌/◌, ◌%◌, ◌^◌, ◌<◌, ◌≤◌, List, length, refl, ap, sym, ◌∙◌, arith, Option, Some, None, ℤ, pos, slice_get, ◌↔◌, ◌⊎◌, inl, inr, ⊎_elim, Contains, is_some, true, false, Fits, w64}
+use Rattle.std.proofs.Common.{◌≡◌, ℕ, zero, suc, ◌+◌, ◌*◌, ◌/◌, ◌%◌, ◌^◌, ◌<◌, ◌≤◌, List, length, refl, ap, sym, ◌∙◌, arith, Option, Some, None, ℤ, pos, slice_get, ◌↔◌, ◌⊎◌, inl, inr, ⊎_elim, Contains, is_some, true, false, Fits, w64, Bool, filter, [], ◌∷◌, cond, subst}
 use Rattle.std.proofs.lemmas.Bool.{cases_lt}
 use Rattle.std.proofs.lemmas.Nat.{mod_below}
 use Rattle.std.proofs.lemmas.Option.{none-some, same_Some, slice_get_within}
-use Rattle.std.proofs.Math.Nat.{add-mul, mul-le-mul_right, mul-le-mul_left}
+use Rattle.std.proofs.Math.Nat.{add-mul, mul-le-mul_right, mul-le-mul_left, mul-le-mul}
 use Rattle.dpl_range.proofs.Ends.{Contains-slice_get, slice_get-Contains}
 use Rattle.dpl_range.specs.Range.{RangeValue, members_of}
-use Rattle.dpl_domain.specs.Indices.{indices}
-use Rattle.dpl_domain.specs.Ranks.{last_of, point, IsPadded}
+use Rattle.dpl_domain.specs.Indices.{indices, IsSmall}
+use Rattle.dpl_domain.specs.Ranks.{last_of, point, IsPadded, IsKept}
 use Rattle.dpl_domain.proofs.TupleLemmas.{tuple_at, tuple_at-some, tuple_at-parts, last_of-parts, length-last_of, slice_get-indices, slice_get-indices_at, indices-empty, place-indices, length-indices, IsPadded-coordinates}
 
 -- the three numbers of a tuple at a place of a domain are members at the parts of that place
@@ -98,3 +98,39 @@ pub contains-place : {X : Type 0} (xs : List X) (x : X) (place : Option ℕ) →
 contains-place xs x None inverse =
     ((λ there. cc), (λ held. let found = slice_get-Contains xs x held in let e : None ≡ Some found.0 = (inverse found.0).1 found.1 in cc))
 contains-place xs x (Some k) inverse = ((λ there. Contains-slice_get xs k x ((inverse k).0 refl)), (λ held. refl))
+
+-- a filter keeps no more than there was
+pub length-filter_le : {X : Type 0} (p : X → Bool) (xs : List X) → length (filter p xs) ≤ length xs
+length-filter_le p [] = omega arith
+length-filter_le p (x ∷ xs) = go (p x) (length-filter_le p xs)
+  where
+    go : (b : Bool) → length (filter p xs) ≤ length xs → length (cond b (x ∷ filter p xs) (filter p xs)) ≤ suc (length xs)
+    go true rest = omega arith
+    go false rest = omega arith
+
+-- where each of three dimensions has no more members, the domain has no more indices
+pub fewer-indices : (rank : ℕ) (o m i o' m' i' : RangeValue) → IsPadded point rank o m → IsPadded point rank o' m' → length (members_of o') ≤ length (members_of o) → length (members_of m') ≤ length (members_of m) → length (members_of i') ≤ length (members_of i) → length (indices (last_of rank o m i)) ≤ 2 ^ 40 → length (indices (last_of rank o' m' i')) ≤ 2 ^ 40
+fewer-indices rank o m i o' m' i' padded padded' outer middle inner small =
+    let planes = mul-le-mul outer middle in
+    let all = mul-le-mul planes inner in
+    omega (arith, all, length-indices rank o m i padded, length-indices rank o' m' i' padded')
+
+-- the same for what a domain keeps, by its rank
+pub fewer-one : (rank : ℕ) (o m i i' : RangeValue) → 1 ≡ rank → IsKept rank o m i → length (members_of i') ≤ length (members_of i) → IsSmall (last_of 1 o m i')
+fewer-one rank o m i i' same kept inner =
+    let k = subst (λ n. IsKept n o m i) (sym same) kept in
+    fewer-indices 1 o m i o m i' k.padded k.padded (omega arith) (omega arith) inner k.small
+
+pub fewer-two : (rank : ℕ) (o m i m' i' : RangeValue) → 2 ≡ rank → IsKept rank o m i → length (members_of m') ≤ length (members_of m) → length (members_of i') ≤ length (members_of i) → IsSmall (last_of 2 o m' i')
+fewer-two rank o m i m' i' same kept middle inner =
+    let k = subst (λ n. IsKept n o m i) (sym same) kept in
+    fewer-indices 2 o m i o m' i' k.padded
+      (record { from_one = omega arith; to_three = omega arith; first = k.padded.first; second = λ below. absurd (omega arith) })
+      (omega arith) middle inner k.small
+
+pub fewer-three : (rank : ℕ) (o m i o' m' i' : RangeValue) → 3 ≡ rank → IsKept rank o m i → length (members_of o') ≤ length (members_of o) → length (members_of m') ≤ length (members_of m) → length (members_of i') ≤ length (members_of i) → IsSmall (last_of 3 o' m' i')
+fewer-three rank o m i o' m' i' same kept outer middle inner =
+    let k = subst (λ n. IsKept n o m i) (sym same) kept in
+    fewer-indices 3 o m i o' m' i' k.padded
+      (record { from_one = omega arith; to_three = omega arith; first = λ below. absurd (omega arith); second = λ below. absurd (omega arith) })
+      outer middle inner k.small

@@ -2,3 +2,4 @@ pub mod Indices
 pub mod Ranks
 pub mod Tuple
 pub mod Product
+pub mod Slices

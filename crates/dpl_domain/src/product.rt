@@ -1,9 +1,10 @@
 // A domain: the product of one to three ranges.
 
-ghost use Rattle.std.specs.Prelude.{◌*◌, ◌≡◌, ◌≤◌, ◌<◌, ◌↔◌, ◌^◌, ℕ, pos, [], ◌∷◌, length, slice_get, Contains, IsTrue, IsOk, IfOk};
+ghost use Rattle.std.specs.Prelude.{All, ◌≢◌, ◌*◌, ◌≡◌, ◌≤◌, ◌<◌, ◌↔◌, ◌^◌, ℕ, pos, [], ◌∷◌, length, slice_get, Contains, IsTrue, IsOk, IfOk};
 ghost use Rattle.dpl_range.specs.Range.{members_of, IsRange};
 ghost use Rattle.dpl_domain.specs.Indices.{indices, IsRank, IsSmall};
 ghost use Rattle.dpl_domain.specs.Ranks.{last_of, point, IsPadded};
+ghost use Rattle.dpl_domain.specs.Slices.{IsSlice, AreSlices, AreBounds};
 
 use crate::Index;
 use dpl_range::Range;
@@ -154,6 +155,36 @@ impl Domain {
     {
         self.place(index).is_some()
     }
+
+    /// The domain whose dimensions are those of this one, each sliced between its own low and high bound.
+    pub fn slice(&self, bounds: &[(i64, i64)]) -> Result<Domain, DomainFault>
+        requires { All AreBounds bounds.now }
+        ensures ok { IsOk result ↔ (length bounds.now ≡ length self.now) }
+        ensures slices { IfOk result (AreSlices self.now bounds.now) }
+        ensures rank { (result ≡ Err DomainFault.Rank) ↔ (length bounds.now ≢ length self.now) }
+    {
+        if bounds.len() != self.rank as usize {
+            return Err(DomainFault::Rank);
+        }
+        let (outer, middle, inner) = (self.outer, self.middle, self.inner);
+        match bounds {
+            [last] => Domain::checked(1, outer, middle, sliced(&inner, *last)),
+            [second, last] => Domain::checked(2, outer, sliced(&middle, *second), sliced(&inner, *last)),
+            [first, second, last] => {
+                Domain::checked(3, sliced(&outer, *first), sliced(&middle, *second), sliced(&inner, *last))
+            }
+            _ => Err(DomainFault::Rank),
+        }
+    }
+}
+
+// The slice of a range between two bounds.
+fn sliced(range: &Range, bounds: (i64, i64)) -> Range
+    requires { AreBounds bounds }
+    ensures slice { IsSlice range.now bounds.0 bounds.1 result }
+    ensures fewer { length (members_of result) ≤ length (members_of range.now) }
+{
+    range.slice(bounds.0, bounds.1)
 }
 
 // How many tuples three ranges have, or 2^64 - 1 where there are more.
