@@ -1,2 +1,3 @@
 pub mod TupleLemmas
 pub mod PlaceLemmas
+pub mod ProgressionLemmas

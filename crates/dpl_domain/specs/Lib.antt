@@ -3,3 +3,4 @@ pub mod Ranks
 pub mod Tuple
 pub mod Product
 pub mod Slices
+pub mod Progression
