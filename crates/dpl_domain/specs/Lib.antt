@@ -4,3 +4,4 @@ pub mod Tuple
 pub mod Product
 pub mod Slices
 pub mod Progression
+pub mod Cursor

@@ -6,7 +6,7 @@ ghost use Rattle.dpl_domain.specs.Indices.{indices, IsRank, IsSmall};
 ghost use Rattle.dpl_domain.specs.Ranks.{last_of, point, IsPadded};
 ghost use Rattle.dpl_domain.specs.Slices.{IsSlice, AreSlices, AreBounds};
 
-use crate::Index;
+use crate::{Cursor, Index};
 use dpl_range::Range;
 use std::marker::Model;
 use thiserror::Error;
@@ -154,6 +154,13 @@ impl Domain {
         ensures { IsTrue result ↔ Contains (indices self.now) index }
     {
         self.place(index).is_some()
+    }
+
+    /// A walk over the indices, one after another.
+    pub fn cursor(&self) -> Cursor
+        ensures { result ≡ indices self.now }
+    {
+        Cursor::over(self.rank, &self.outer, &self.middle, &self.inner)
     }
 
     /// The domain whose dimensions are those of this one, each sliced between its own low and high bound.

@@ -4,8 +4,8 @@ use Rattle.std.proofs.lemmas.Int.{ints}
 use Rattle.dpl_range.specs.Range.{IsBound}
 use Rattle.dpl_domain.specs.Progression.{progression}
 use Rattle.dpl_domain.proofs.ProgressionLemmas.{first-bound, rest-bounds, progression-rest}
-use Rattle.dpl_domain.proofs.cursor.Track.take.Goals as goal
-use Rattle.dpl_domain.proofs.cursor.Track.take.Goals.{Start}
+use Rattle.dpl_domain.proofs.walk.Track.take.Goals as goal
+use Rattle.dpl_domain.proofs.walk.Track.take.Goals.{Start}
 
 pub overflow_add-self : goal.overflow_add-self
 overflow_add-self c =

@@ -4,8 +4,8 @@ use Rattle.std.proofs.lemmas.Int.{ints, to_z-of_z}
 use Rattle.dpl_range.specs.Range.{members_of, IsBound, IsRange}
 use Rattle.dpl_domain.specs.Progression.{progression}
 use Rattle.dpl_domain.proofs.ProgressionLemmas.{progression-members, members-bounds, none-empty}
-use Rattle.dpl_domain.proofs.cursor.Track.over.Goals as goal
-use Rattle.dpl_domain.proofs.cursor.Track.over.Goals.{After-size}
+use Rattle.dpl_domain.proofs.walk.Track.over.Goals as goal
+use Rattle.dpl_domain.proofs.walk.Track.over.Goals.{After-size}
 
 pub returns-in_default : goal.returns-in_default
 returns-in_default c = record { terms = none-empty (members_of c.args.range.now) (sym c.first.ensures ∙ c.in_default.is) }
