@@ -1,5 +1,5 @@
 -- The steps of a walk over the indices, and the indices as what a walk goes over.
-use Rattle.std.proofs.Common.{◌≡◌, ℕ, zero, suc, ◌+◌, ◌-◌, ◌*◌, ◌<◌, ◌≤◌, List, [], ◌∷◌, ◌++◌, length, refl, ap, sym, ◌∙◌, arith, Some, None, ℤ, pos, slice_get, drop, All, map, flat_map, subst, ◌⊎◌, ⊎_elim}
+use Rattle.std.proofs.Common.{◌≡◌, ℕ, zero, suc, ◌<◌, List, [], ◌∷◌, ◌++◌, length, refl, ap, sym, ◌∙◌, arith, ℤ, pos, drop, All, map, flat_map, subst}
 use Rattle.std.proofs.lemmas.List.{map-append, append-nil}
 use Rattle.dpl_range.specs.Range.{RangeValue, members_of}
 use Rattle.dpl_domain.specs.declared.walk.Track.{Track}
@@ -8,7 +8,7 @@ use Rattle.dpl_domain.specs.Cursor.{terms_of, rest_of, IsCursor}
 use Rattle.dpl_domain.specs.Indices.{tuples, indices}
 use Rattle.dpl_domain.specs.Progression.{progression, line_of, plane_of, space_of}
 use Rattle.dpl_domain.specs.Ranks.{last_of, point, IsPadded}
-use Rattle.dpl_domain.proofs.TupleLemmas.{length-indices, members-point}
+use Rattle.dpl_domain.proofs.TupleLemmas.{members-point}
 
 -- what a track has left
 terms-none : (t : Track) → t.left ≡ 0 → terms_of t ≡ []
@@ -55,10 +55,10 @@ pub IsAtLine-to_plane : (c : Inside) (taken : ℤ) (rest : Track) → IsCursor c
 IsAtLine-to_plane c taken rest cursor no_inner no_middle some at after =
     record {
       same =
-        ap (λ is. left_of c.rank taken c.middle_at is (terms_of c.lines) (terms_of rest) (terms_of c.lines) (terms_of c.line)) (terms-none c.inner no_inner)
-        ∙ ap (λ os. left_of c.rank taken c.middle_at [] (terms_of c.lines) os (terms_of c.lines) (terms_of c.line)) after
-        ∙ ap (λ x. left_of c.rank x c.middle_at [] (terms_of c.lines) (drop 1 (terms_of c.outer)) (terms_of c.lines) (terms_of c.line)) at
-        ∙ sym (ap (λ is. left_of c.rank c.outer_at c.middle_at is (terms_of c.middle) (terms_of c.outer) (terms_of c.lines) (terms_of c.line)) (terms-none c.inner no_inner)
+          ap (λ is. left_of c.rank taken c.middle_at is (terms_of c.lines) (terms_of rest) (terms_of c.lines) (terms_of c.line)) (terms-none c.inner no_inner)
+          ∙ ap (λ os. left_of c.rank taken c.middle_at [] (terms_of c.lines) os (terms_of c.lines) (terms_of c.line)) after
+          ∙ ap (λ x. left_of c.rank x c.middle_at [] (terms_of c.lines) (drop 1 (terms_of c.outer)) (terms_of c.lines) (terms_of c.line)) at
+          ∙ sym (ap (λ is. left_of c.rank c.outer_at c.middle_at is (terms_of c.middle) (terms_of c.outer) (terms_of c.lines) (terms_of c.line)) (terms-none c.inner no_inner)
           ∙ ap (λ ms. left_of c.rank c.outer_at c.middle_at [] ms (terms_of c.outer) (terms_of c.lines) (terms_of c.line)) (terms-none c.middle no_middle)
           ∙ ap (λ os. left_of c.rank c.outer_at c.middle_at [] [] os (terms_of c.lines) (terms_of c.line)) (terms-some c.outer some));
       cursor = record {
@@ -71,21 +71,21 @@ IsAtLine-to_plane c taken rest cursor no_inner no_middle some at after =
         lines_terms = cursor.lines_terms;
         lines_come = λ _. cursor.lines_come some;
         line_comes = λ _. cursor.line_comes some;
-        line_of_plane = λ _. cursor.line_comes some
+        line_of_plane = λ _. cursor.line_comes some;
       };
       none = no_inner;
-      some = cursor.lines_come some
+      some = cursor.lines_come some;
     }
 
 pub IsReady-to_line : (c : Inside) (v : List (List ℤ)) (taken : ℤ) (rest : Track) → IsAtLine c v → taken ≡ c.middle.next → terms_of rest ≡ drop 1 (terms_of c.middle) → IsReady (to_line c taken rest) v
 IsReady-to_line c v taken rest at_line at after =
     record {
       same =
-        ap (λ ms. left_of c.rank c.outer_at taken (terms_of c.line) ms (terms_of c.outer) (terms_of c.lines) (terms_of c.line)) after
-        ∙ ap (λ y. left_of c.rank c.outer_at y (terms_of c.line) (drop 1 (terms_of c.middle)) (terms_of c.outer) (terms_of c.lines) (terms_of c.line)) at
-        ∙ sym (ap (λ is. left_of c.rank c.outer_at c.middle_at is (terms_of c.middle) (terms_of c.outer) (terms_of c.lines) (terms_of c.line)) (terms-none c.inner at_line.none)
+          ap (λ ms. left_of c.rank c.outer_at taken (terms_of c.line) ms (terms_of c.outer) (terms_of c.lines) (terms_of c.line)) after
+          ∙ ap (λ y. left_of c.rank c.outer_at y (terms_of c.line) (drop 1 (terms_of c.middle)) (terms_of c.outer) (terms_of c.lines) (terms_of c.line)) at
+          ∙ sym (ap (λ is. left_of c.rank c.outer_at c.middle_at is (terms_of c.middle) (terms_of c.outer) (terms_of c.lines) (terms_of c.line)) (terms-none c.inner at_line.none)
           ∙ ap (λ ms. left_of c.rank c.outer_at c.middle_at [] ms (terms_of c.outer) (terms_of c.lines) (terms_of c.line)) (terms-some c.middle at_line.some))
-        ∙ at_line.same;
+          ∙ at_line.same;
       cursor = record {
         from_one = at_line.cursor.from_one;
         to_three = at_line.cursor.to_three;
@@ -96,9 +96,9 @@ IsReady-to_line c v taken rest at_line at after =
         lines_terms = at_line.cursor.lines_terms;
         lines_come = at_line.cursor.lines_come;
         line_comes = at_line.cursor.line_comes;
-        line_of_plane = λ _. at_line.cursor.line_of_plane at_line.some
+        line_of_plane = λ _. at_line.cursor.line_of_plane at_line.some;
       };
-      some = at_line.cursor.line_of_plane at_line.some
+      some = at_line.cursor.line_of_plane at_line.some;
     }
 
 -- a cursor with nothing left anywhere is at the end
@@ -157,13 +157,13 @@ space-indices (suc (suc zero)) o m i padded =
     ap (λ os. space_of 2 os (members_of m) (members_of i)) (point-members o (padded.first (omega arith)))
     ∙ append-nil (plane_of 2 (pos 0) (members_of m) (members_of i))
     ∙ flat_map-alike (λ y. line_of 2 (pos 0) y (members_of i)) (λ y. map (λ t. y ∷ t) (tuples (members_of i ∷ []))) (members_of m)
-        (λ y. sym (map-line (λ t. y ∷ t) (members_of i)))
+    (λ y. sym (map-line (λ t. y ∷ t) (members_of i)))
 space-indices (suc (suc (suc zero))) o m i padded =
     flat_map-alike (λ x. plane_of 3 x (members_of m) (members_of i)) (λ x. map (λ t. x ∷ t) (tuples (members_of m ∷ members_of i ∷ []))) (members_of o)
-      (λ x.
-        flat_map-alike (λ y. line_of 3 x y (members_of i)) (λ y. map (λ t. x ∷ t) (map (λ t. y ∷ t) (tuples (members_of i ∷ [])))) (members_of m)
-          (λ y. sym (ap (map (λ t. x ∷ t)) (map-line (λ t. y ∷ t) (members_of i)) ∙ map-map (λ t. x ∷ t) (λ z. y ∷ z ∷ []) (members_of i)))
-        ∙ sym (map-flat_map (λ t. x ∷ t) (λ y. map (λ t. y ∷ t) (tuples (members_of i ∷ []))) (members_of m)))
+    (λ x.
+    flat_map-alike (λ y. line_of 3 x y (members_of i)) (λ y. map (λ t. x ∷ t) (map (λ t. y ∷ t) (tuples (members_of i ∷ [])))) (members_of m)
+    (λ y. sym (ap (map (λ t. x ∷ t)) (map-line (λ t. y ∷ t) (members_of i)) ∙ map-map (λ t. x ∷ t) (λ z. y ∷ z ∷ []) (members_of i)))
+    ∙ sym (map-flat_map (λ t. x ∷ t) (λ y. map (λ t. y ∷ t) (tuples (members_of i ∷ []))) (members_of m)))
 space-indices (suc (suc (suc (suc n)))) o m i padded = absurd (omega (arith, padded.to_three))
 
 -- no list of no length has an element

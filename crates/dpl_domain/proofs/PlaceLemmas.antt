@@ -1,14 +1,13 @@
 -- The place of an index: the places of its coordinates, row by row, and no other.
-use Rattle.std.proofs.Common.{◌≡◌, ℕ, zero, suc, ◌+◌, ◌*◌, ◌/◌, ◌%◌, ◌^◌, ◌<◌, ◌≤◌, List, length, refl, ap, sym, ◌∙◌, arith, Option, Some, None, ℤ, pos, slice_get, ◌↔◌, ◌⊎◌, inl, inr, ⊎_elim, Contains, is_some, true, false, Fits, w64, Bool, filter, [], ◌∷◌, cond, subst}
+use Rattle.std.proofs.Common.{◌≡◌, ℕ, suc, ◌+◌, ◌*◌, ◌/◌, ◌%◌, ◌^◌, ◌<◌, ◌≤◌, List, length, refl, ap, sym, ◌∙◌, arith, Option, Some, None, ℤ, pos, slice_get, ◌↔◌, inl, inr, ⊎_elim, Contains, is_some, true, false, Fits, w64, Bool, filter, [], ◌∷◌, cond, subst}
 use Rattle.std.proofs.lemmas.Bool.{cases_lt}
-use Rattle.std.proofs.lemmas.Nat.{mod_below}
 use Rattle.std.proofs.lemmas.Option.{none-some, same_Some, slice_get_within}
 use Rattle.std.proofs.Math.Nat.{add-mul, mul-le-mul_right, mul-le-mul_left, mul-le-mul}
 use Rattle.dpl_range.proofs.Ends.{Contains-slice_get, slice_get-Contains}
 use Rattle.dpl_range.specs.Range.{RangeValue, members_of}
 use Rattle.dpl_domain.specs.Indices.{indices, IsSmall}
 use Rattle.dpl_domain.specs.Ranks.{last_of, point, IsPadded, IsKept}
-use Rattle.dpl_domain.proofs.TupleLemmas.{tuple_at, tuple_at-some, tuple_at-parts, last_of-parts, length-last_of, slice_get-indices, slice_get-indices_at, indices-empty, place-indices, length-indices, IsPadded-coordinates}
+use Rattle.dpl_domain.proofs.TupleLemmas.{tuple_at-some, tuple_at-parts, last_of-parts, length-last_of, slice_get-indices, slice_get-indices_at, indices-empty, place-indices, length-indices, IsPadded-coordinates}
 
 -- the three numbers of a tuple at a place of a domain are members at the parts of that place
 pub record StandsAt (o m i : RangeValue) (k : ℕ) (x y z : ℤ) : Type 0 where
@@ -36,14 +35,14 @@ module _ (rank : ℕ) (o m i : RangeValue) (padded : IsPadded point rank o m) wh
   parts : (k : ℕ) (t : List ℤ) → slice_get (indices (last_of rank o m i)) k ≡ Some t → (x : ℤ) × (y : ℤ) × (z : ℤ) × StandsAt o m i k x y z × (last_of rank x y z ≡ t)
   parts k t found =
       ⊎_elim
-        (λ lines. ⊎_elim
-          (λ line.
-            let h = tuple_at-parts rank _ _ _ t (sym (slice_get-indices_at rank o m i k padded lines line) ∙ found) in
-            (h.0, h.1, h.2, record { lines = lines; line = line; outer = h.3; middle = h.4; inner = h.5 }, h.6))
-          (λ no_line. absurd (none-some t (sym (indices-empty rank o m i k padded (inr (omega arith))) ∙ found)))
-          (cases_lt 0 (length (members_of i))))
-        (λ no_lines. absurd (none-some t (sym (indices-empty rank o m i k padded (inl (omega arith))) ∙ found)))
-        (cases_lt 0 (length (members_of m)))
+      (λ lines. ⊎_elim
+      (λ line.
+      let h = tuple_at-parts rank _ _ _ t (sym (slice_get-indices_at rank o m i k padded lines line) ∙ found) in
+      (h.0, h.1, h.2, record { lines = lines; line = line; outer = h.3; middle = h.4; inner = h.5 }, h.6))
+      (λ no_line. absurd (none-some t (sym (indices-empty rank o m i k padded (inr (omega arith))) ∙ found)))
+      (cases_lt 0 (length (members_of i))))
+      (λ no_lines. absurd (none-some t (sym (indices-empty rank o m i k padded (inl (omega arith))) ∙ found)))
+      (cases_lt 0 (length (members_of m)))
 
   -- every index has the domain's rank
   pub length-index : (k : ℕ) (t : List ℤ) → slice_get (indices (last_of rank o m i)) k ≡ Some t → length t ≡ rank
@@ -76,17 +75,18 @@ module _ (rank : ℕ) (o m i : RangeValue) (padded : IsPadded point rank o m) wh
           let y_at = (middle q).0 refl in
           let z_at = (inner r).0 refl in
           let q_within = slice_get_within (members_of m) q y y_at in
-          let r_within = slice_get_within (members_of i) r z z_at in
-          ((λ here.
-            ap (slice_get (indices (last_of rank o m i))) (sym (same_Some ((p * length (members_of m) + q) * length (members_of i) + r) k here))
-            ∙ slice_get-indices rank o m i p q r padded q_within r_within
-            ∙ tuple_at-some rank _ _ _ x y z x_at y_at z_at
-            ∙ ap Some (sym is))
-          , (λ found. let s = stands k found in
-              ap Some (sym (place-indices rank o m i k p q r padded q_within r_within s.lines
+          let r_within = slice_get_within (members_of i) r z z_at in (
+            (λ here.
+                ap (slice_get (indices (last_of rank o m i))) (sym (same_Some ((p * length (members_of m) + q) * length (members_of i) + r) k here))
+                ∙ slice_get-indices rank o m i p q r padded q_within r_within
+                ∙ tuple_at-some rank _ _ _ x y z x_at y_at z_at
+                ∙ ap Some (sym is)),
+            (λ found. let s = stands k found in
+                ap Some (sym (place-indices rank o m i k p q r padded q_within r_within s.lines
                 (sym (same_Some p _ ((outer _).1 s.outer)))
                 (sym (same_Some q _ ((middle _).1 s.middle)))
-                (sym (same_Some r _ ((inner _).1 s.inner)))))))
+                (sym (same_Some r _ ((inner _).1 s.inner)))))),
+          )
 
 -- an index of another rank has no place
 pub place-other : (rank : ℕ) (o m i : RangeValue) → IsPadded point rank o m → (t : List ℤ) → (length t ≡ rank → ⊥) → (k : ℕ) → (None ≡ Some k) ↔ (slice_get (indices (last_of rank o m i)) k ≡ Some t)
@@ -125,12 +125,12 @@ pub fewer-two : (rank : ℕ) (o m i m' i' : RangeValue) → 2 ≡ rank → IsKep
 fewer-two rank o m i m' i' same kept middle inner =
     let k = subst (λ n. IsKept n o m i) (sym same) kept in
     fewer-indices 2 o m i o m' i' k.padded
-      (record { from_one = omega arith; to_three = omega arith; first = k.padded.first; second = λ below. absurd (omega arith) })
-      (omega arith) middle inner k.small
+    (record { from_one = omega arith; to_three = omega arith; first = k.padded.first; second = λ below. absurd (omega arith) })
+    (omega arith) middle inner k.small
 
 pub fewer-three : (rank : ℕ) (o m i o' m' i' : RangeValue) → 3 ≡ rank → IsKept rank o m i → length (members_of o') ≤ length (members_of o) → length (members_of m') ≤ length (members_of m) → length (members_of i') ≤ length (members_of i) → IsSmall (last_of 3 o' m' i')
 fewer-three rank o m i o' m' i' same kept outer middle inner =
     let k = subst (λ n. IsKept n o m i) (sym same) kept in
     fewer-indices 3 o m i o' m' i' k.padded
-      (record { from_one = omega arith; to_three = omega arith; first = λ below. absurd (omega arith); second = λ below. absurd (omega arith) })
-      outer middle inner k.small
+    (record { from_one = omega arith; to_three = omega arith; first = λ below. absurd (omega arith); second = λ below. absurd (omega arith) })
+    outer middle inner k.small

@@ -1,5 +1,5 @@
 -- Arithmetic progressions: the rest after one term, and the members of a range as one.
-use Rattle.std.proofs.Common.{◌≡◌, ℕ, zero, suc, ◌+◌, ◌-◌, ◌*◌, ◌<◌, ◌≤◌, List, [], ◌∷◌, length, refl, ap, sym, ◌∙◌, arith, Some, None, ℤ, pos, negsuc, ◌+ℤ◌, ◌-ℤ◌, slice_get, drop, All, get_or, unsigned_abs, ⊎_elim, subst}
+use Rattle.std.proofs.Common.{◌≡◌, ℕ, zero, suc, ◌-◌, ◌*◌, ◌<◌, List, [], ◌∷◌, length, refl, ap, sym, ◌∙◌, arith, Some, None, ℤ, pos, negsuc, ◌+ℤ◌, ◌-ℤ◌, slice_get, drop, All, unsigned_abs, ⊎_elim}
 use Rattle.std.proofs.lemmas.Bool.{cases_lt}
 use Rattle.std.proofs.lemmas.Int.{ints}
 use Rattle.std.proofs.lemmas.Option.{slice_get_past, slice_get_within, same_Some}
@@ -35,18 +35,18 @@ slice_get-progression low high (negsuc s) n k within = slice_get-falling (high -
 pub progression-members : (r : RangeValue) (first : ℤ) → IsRange r → slice_get (members_of r) 0 ≡ Some first → progression first r.stride (length (members_of r)) ≡ members_of r
 progression-members r first limits found =
     let begins : walked r.low r.high r.stride (0 * unsigned_abs r.stride) ≡ first =
-      same_Some _ first (sym (nth-walked r 0 limits (slice_get_within (members_of r) 0 first found)) ∙ found) in
+    same_Some _ first (sym (nth-walked r 0 limits (slice_get_within (members_of r) 0 first found)) ∙ found) in
     let at_start : walked r.low r.high r.stride 0 ≡ first = ap (walked r.low r.high r.stride) (omega arith) ∙ begins in
     same_places _ _ (λ k.
-      ⊎_elim
-        (λ within.
-          ap (λ f. slice_get (progression f r.stride (length (members_of r))) k) (sym at_start)
-          ∙ slice_get-progression r.low r.high r.stride (length (members_of r)) k within
-          ∙ sym (nth-walked r k limits within))
-        (λ past.
-          slice_get_past _ k (omega (arith, length-progression first r.stride (length (members_of r)), past))
-          ∙ sym (slice_get_past (members_of r) k past))
-        (cases_lt k (length (members_of r))))
+    ⊎_elim
+    (λ within.
+    ap (λ f. slice_get (progression f r.stride (length (members_of r))) k) (sym at_start)
+    ∙ slice_get-progression r.low r.high r.stride (length (members_of r)) k within
+    ∙ sym (nth-walked r k limits within))
+    (λ past.
+    slice_get_past _ k (omega (arith, length-progression first r.stride (length (members_of r)), past))
+    ∙ sym (slice_get_past (members_of r) k past))
+    (cases_lt k (length (members_of r))))
 
 -- all members are bounds
 pub members-bounds : (r : RangeValue) → IsRange r → All IsBound (members_of r)

@@ -1,5 +1,5 @@
 -- The closed form of a domain's indices: how many there are, and which one stands at a place.
-use Rattle.std.proofs.Common.{◌≡◌, ℕ, zero, suc, ◌+◌, ◌-◌, ◌*◌, ◌<◌, ◌≤◌, List, [], ◌∷◌, ◌++◌, length, refl, ap, sym, ◌∙◌, arith, Option, Some, None, ℤ, pos, slice_get, map, drop, option_map, flat_map, length-append, ◌/◌, ◌%◌, ◌⊎◌, ⊎_elim}
+use Rattle.std.proofs.Common.{◌≡◌, ℕ, zero, suc, ◌+◌, ◌*◌, ◌<◌, ◌≤◌, List, [], ◌∷◌, ◌++◌, length, refl, ap, sym, ◌∙◌, arith, Option, Some, None, ℤ, pos, slice_get, map, drop, option_map, flat_map, length-append, ◌/◌, ◌%◌, ◌⊎◌, ⊎_elim}
 use Rattle.std.proofs.lemmas.List.{length-map, append-nil}
 use Rattle.std.proofs.lemmas.Option.{slice_get-map, slice_get_past, none-some, same_Some}
 use Rattle.std.proofs.lemmas.Nat.{div-add-mod', mod_below}
@@ -51,7 +51,7 @@ slice_get-rows (i ∷ is) rows zero r within =
     ∙ slice_get-map (λ t. i ∷ t) rows r
 slice_get-rows (i ∷ is) rows (suc q) r within =
     ap (slice_get (map (λ t. i ∷ t) rows ++ flat_map (λ i. map (λ t. i ∷ t) rows) is))
-      (omega (arith, length-map rows (λ (t : List ℤ). i ∷ t), suc-mul q (length rows)))
+    (omega (arith, length-map rows (λ (t : List ℤ). i ∷ t), suc-mul q (length rows)))
     ∙ slice_get-append_right (map (λ t. i ∷ t) rows) (flat_map (λ i. map (λ t. i ∷ t) rows) is) (q * length rows + r)
     ∙ slice_get-rows is rows q r within
 
@@ -87,9 +87,11 @@ slice_get-space os ms is p q r q_within r_within =
   where
     row_within : q * length is + r < length ms * length is
     row_within = omega (arith, mul-le-mul_right {m = q + 1} {n = length ms} (length is) (omega arith), add-mul q 1 (length is))
+
     place : (p * length ms + q) * length is + r ≡ p * length (tuples (ms ∷ is ∷ [])) + (q * length is + r)
     place =
         omega (arith, add-mul (p * length ms) q (length is), mul_assoc p (length ms) (length is), ap (λ n. p * n) (length-plane ms is))
+
     joined : (a b c : Option ℤ) → cons_at a (cons_at b (cons_at c (Some []))) ≡ tuple_at 3 a b c
     joined None b c = refl
     joined (Some a) None c = refl
@@ -174,13 +176,13 @@ slice_get-indices_at rank o m i k padded lines line =
 pub indices-empty : (rank : ℕ) (o m i : RangeValue) (k : ℕ) → IsPadded point rank o m → (length (members_of m) ≡ 0) ⊎ (length (members_of i) ≡ 0) → slice_get (indices (last_of rank o m i)) k ≡ None
 indices-empty rank o m i k padded empty =
     slice_get_past (indices (last_of rank o m i)) k
-      (⊎_elim
-        (λ (none : length (members_of m) ≡ 0).
-          let e : length (members_of o) * 0 * length (members_of i) ≡ 0 = omega arith in
-          omega (arith, length-indices rank o m i padded ∙ ap (λ z. length (members_of o) * z * length (members_of i)) none ∙ e))
-        (λ (none : length (members_of i) ≡ 0).
-          omega (arith, length-indices rank o m i padded ∙ ap (λ z. length (members_of o) * length (members_of m) * z) none))
-        empty)
+    (⊎_elim
+    (λ (none : length (members_of m) ≡ 0).
+    let e : length (members_of o) * 0 * length (members_of i) ≡ 0 = omega arith in
+    omega (arith, length-indices rank o m i padded ∙ ap (λ z. length (members_of o) * z * length (members_of i)) none ∙ e))
+    (λ (none : length (members_of i) ≡ 0).
+    omega (arith, length-indices rank o m i padded ∙ ap (λ z. length (members_of o) * length (members_of m) * z) none))
+    empty)
 
 -- the one member of the point is 0
 point-member : (r : RangeValue) (k : ℕ) (a : ℤ) → r ≡ point → slice_get (members_of r) k ≡ Some a → a ≡ pos 0
@@ -197,7 +199,7 @@ IsPadded-coordinates rank o m p q a b padded outer middle =
       from_one = padded.from_one;
       to_three = padded.to_three;
       first = λ below. point-member o p a (padded.first below) outer;
-      second = λ below. point-member m q b (padded.second below) middle
+      second = λ below. point-member m q b (padded.second below) middle;
     }
 
 -- a tuple is there where all its coordinates are

@@ -1,5 +1,5 @@
 -- What a cursor has still to give, and what holds of it.
-use Rattle.std.specs.Prelude.{◌≡◌, ◌<◌, ◌≤◌, ℕ, List, ◌++◌, ℤ, pos, All}
+use Rattle.std.specs.Prelude.{◌≡◌, ◌<◌, ◌≤◌, List, ◌++◌, ℤ, pos, All}
 use Rattle.dpl_domain.specs.declared.walk.Track.{Track}
 use Rattle.dpl_domain.specs.declared.walk.Cursor.TheInside.{Inside}
 use Rattle.dpl_domain.specs.Progression.{progression, line_of, plane_of, space_of}

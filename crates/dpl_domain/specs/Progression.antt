@@ -1,5 +1,5 @@
 -- Arithmetic progressions, and what is left of a walk over the tuples of three.
-use Rattle.std.specs.Prelude.{◌≤◌, ℕ, zero, suc, List, [], ◌∷◌, ◌++◌, ℤ, ◌+ℤ◌, map, flat_map}
+use Rattle.std.specs.Prelude.{ℕ, zero, suc, List, [], ◌∷◌, ℤ, ◌+ℤ◌, map, flat_map}
 use Rattle.dpl_domain.specs.Ranks.{last_of}
 
 -- the first n terms of an arithmetic progression

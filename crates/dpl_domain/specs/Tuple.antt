@@ -1,5 +1,5 @@
 -- The fields of an index that has given coordinates.
-use Rattle.std.specs.Prelude.{◌≡◌, ℕ, zero, suc, ◌≤◌, ◌<◌, List, [], ◌∷◌, ℤ, pos, refl}
+use Rattle.std.specs.Prelude.{◌≡◌, ℕ, zero, suc, List, [], ◌∷◌, ℤ, pos, refl}
 use Rattle.std.proofs.Common.{arith}
 use Rattle.dpl_domain.specs.declared.tuple.Index.TheInside.{Inside}
 use Rattle.dpl_domain.specs.Ranks.{last_of, IsPadded}

@@ -86,7 +86,12 @@ impl Domain {
         if MOST_INDICES < tuples(&outer, &middle, &inner) {
             return Err(DomainFault::Size);
         }
-        Ok(Domain { rank, outer, middle, inner })
+        Ok(Domain {
+            rank,
+            outer,
+            middle,
+            inner,
+        })
     }
 
     /// How many dimensions the domain has.
@@ -176,9 +181,19 @@ impl Domain {
         let (outer, middle, inner) = (self.outer, self.middle, self.inner);
         match bounds {
             [last] => Domain::checked(1, outer, middle, sliced(&inner, *last)),
-            [second, last] => Domain::checked(2, outer, sliced(&middle, *second), sliced(&inner, *last)),
+            [second, last] => Domain::checked(
+                2,
+                outer,
+                sliced(&middle, *second),
+                sliced(&inner, *last),
+            ),
             [first, second, last] => {
-                Domain::checked(3, sliced(&outer, *first), sliced(&middle, *second), sliced(&inner, *last))
+                Domain::checked(
+                    3,
+                    sliced(&outer, *first),
+                    sliced(&middle, *second),
+                    sliced(&inner, *last),
+                )
             }
             _ => Err(DomainFault::Rank),
         }
@@ -202,7 +217,10 @@ fn tuples(outer: &Range, middle: &Range, inner: &Range) -> u64
     ensures middle_limits { IsRange middle.now }
     ensures inner_limits { IsRange inner.now }
 {
-    outer.size().saturating_mul(middle.size()).saturating_mul(inner.size())
+    outer
+        .size()
+        .saturating_mul(middle.size())
+        .saturating_mul(inner.size())
 }
 
 // What stands in the place of a range that a domain does not have.

@@ -41,9 +41,24 @@ impl Index {
         ensures held { IfSome result (λ index. index ≡ coordinates.now) }
     {
         match coordinates {
-            [inner] => Some(Index { rank: 1, outer: 0, middle: 0, inner: *inner }),
-            [middle, inner] => Some(Index { rank: 2, outer: 0, middle: *middle, inner: *inner }),
-            [outer, middle, inner] => Some(Index { rank: 3, outer: *outer, middle: *middle, inner: *inner }),
+            [inner] => Some(Index {
+                rank: 1,
+                outer: 0,
+                middle: 0,
+                inner: *inner,
+            }),
+            [middle, inner] => Some(Index {
+                rank: 2,
+                outer: 0,
+                middle: *middle,
+                inner: *inner,
+            }),
+            [outer, middle, inner] => Some(Index {
+                rank: 3,
+                outer: *outer,
+                middle: *middle,
+                inner: *inner,
+            }),
             _ => None,
         }
     }
@@ -83,6 +98,11 @@ impl Index {
         requires { IsPadded (pos 0) rank outer middle }
         ensures { result ≡ last_of rank outer middle inner }
     {
-        Index { rank, outer, middle, inner }
+        Index {
+            rank,
+            outer,
+            middle,
+            inner,
+        }
     }
 }

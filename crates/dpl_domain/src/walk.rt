@@ -26,9 +26,17 @@ impl Track {
         ensures terms { progression result.next result.step result.left ≡ members_of range.now }
     {
         let Some(next) = range.first() else {
-            return Track { next: 0, step: 1, left: 0 };
+            return Track {
+                next: 0,
+                step: 1,
+                left: 0,
+            };
         };
-        Track { next, step: range.stride(), left: range.size() }
+        Track {
+            next,
+            step: range.stride(),
+            left: range.size(),
+        }
     }
 
     // The next member, which is gone over.
@@ -76,14 +84,36 @@ impl Cursor {
         requires { IsPadded point rank outer.now middle.now }
         ensures { result ≡ indices (last_of rank outer.now middle.now inner.now) }
     {
-        let none = Track { next: 0, step: 1, left: 0 };
+        let none = Track {
+            next: 0,
+            step: 1,
+            left: 0,
+        };
         let lines = Track::over(middle);
         let line = Track::over(inner);
         if lines.left == 0 || line.left == 0 {
-            return Cursor { rank, outer_at: 0, middle_at: 0, outer: none, middle: none, inner: none, lines, line };
+            return Cursor {
+                rank,
+                outer_at: 0,
+                middle_at: 0,
+                outer: none,
+                middle: none,
+                inner: none,
+                lines,
+                line,
+            };
         }
         let outer = Track::over(outer);
-        Cursor { rank, outer_at: 0, middle_at: 0, outer, middle: none, inner: none, lines, line }
+        Cursor {
+            rank,
+            outer_at: 0,
+            middle_at: 0,
+            outer,
+            middle: none,
+            inner: none,
+            lines,
+            line,
+        }
     }
 
     /// The next index, which is then gone over, or `None` at the end and from then on.

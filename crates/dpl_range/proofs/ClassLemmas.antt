@@ -1,5 +1,5 @@
 -- Each `period`-th member of a range, from one of them on, are the members of a range of its own.
-use Rattle.std.proofs.Common.{◌≡◌, ℕ, zero, suc, ◌+◌, ◌-◌, ◌*◌, ◌/◌, ◌%◌, true, filter, ◌<◌, ◌≤◌, ap, sym, ◌∙◌, arith, ℤ, pos, negsuc, ◌+ℤ◌, ◌*ℤ◌, neg_ℤ, ◌^◌, ◌<ℤ◌, ◌≤ℤ◌, ◌↔◌, unsigned_abs, refl, List, length, drop, slice_get, Some, None, subst, ⊎_elim, [], ◌∷◌}
+use Rattle.std.proofs.Common.{◌≡◌, ℕ, zero, suc, ◌+◌, ◌-◌, ◌*◌, ◌%◌, true, filter, ◌<◌, ◌≤◌, ap, sym, ◌∙◌, arith, ℤ, pos, negsuc, ◌+ℤ◌, ◌^◌, ◌≤ℤ◌, ◌↔◌, unsigned_abs, refl, List, length, drop, slice_get, Some, None, ⊎_elim, [], ◌∷◌}
 use Rattle.std.proofs.lemmas.Int.{ints}
 use Rattle.std.proofs.lemmas.Bool.{cases_lt}
 use Rattle.std.proofs.lemmas.Option.{slice_get_past, slice_get_within, slice_get-get_or, same_Some}

@@ -1,6 +1,6 @@
 -- The members of a range are in order, so the least and the greatest of them are its two ends.
-use Rattle.std.proofs.Common.{◌≡◌, ℕ, ◌-◌, ◌*◌, ◌<◌, ◌≤◌, List, [], ◌∷◌, length, ap, sym, ◌∙◌, arith, Some, None, ℤ, pos, negsuc, ◌<ℤ◌, ◌≤ℤ◌, slice_get, ◌↔◌, unsigned_abs, All, Contains, IsNone, IfSome, refl, get_or, Option, is_some, true, false, subst}
-use Rattle.std.proofs.lemmas.Option.{slice_get-get_or, slice_get_past, slice_get_within, get_or_from_slice_get, same_Some, IfSome_then}
+use Rattle.std.proofs.Common.{◌≡◌, ℕ, ◌-◌, ◌*◌, ◌<◌, ◌≤◌, List, [], ◌∷◌, length, ap, sym, ◌∙◌, arith, Some, None, ℤ, pos, negsuc, ◌<ℤ◌, ◌≤ℤ◌, slice_get, ◌↔◌, unsigned_abs, All, Contains, IsNone, IfSome, refl, get_or, Option, is_some, true, subst}
+use Rattle.std.proofs.lemmas.Option.{slice_get-get_or, slice_get_within, get_or_from_slice_get, same_Some, IfSome_then}
 use Rattle.std.proofs.lemmas.Int.{ints}
 use Rattle.std.proofs.Math.Nat.{mul-le-mul_right}
 use Rattle.dpl_range.specs.Range.{RangeValue, members_of, IsRange}

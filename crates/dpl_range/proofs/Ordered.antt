@@ -1,6 +1,6 @@
 -- Two lists in one strict order with the same elements are one list. So a range is the filter of another
 -- as soon as both go the same way and the one has those members of the other that pass.
-use Rattle.std.proofs.Common.{◌≡◌, ℕ, zero, suc, ◌+◌, ◌*◌, ◌<◌, ◌≤◌, List, [], ◌∷◌, length, ap, sym, ◌∙◌, arith, Option, Some, None, ℤ, pos, negsuc, ◌<ℤ◌, ◌≤ℤ◌, ◌+ℤ◌, slice_get, ◌↔◌, ◌⊎◌, inl, inr, ⊎_elim, unsigned_abs, refl, get_or, Bool, true, false, cond, subst, filter, AllPairs}
+use Rattle.std.proofs.Common.{◌≡◌, ℕ, zero, suc, ◌*◌, ◌<◌, List, [], ◌∷◌, ap, sym, ◌∙◌, arith, Some, None, ℤ, pos, negsuc, ◌<ℤ◌, ◌≤ℤ◌, ◌+ℤ◌, slice_get, ◌⊎◌, inl, inr, ⊎_elim, unsigned_abs, refl, Bool, true, false, cond, subst, filter, AllPairs}
 use Rattle.std.proofs.lemmas.Option.{slice_get_within, get_or_from_slice_get, same_Some}
 use Rattle.std.proofs.lemmas.List.Kept.{AllPairs-filter}
 use Rattle.std.proofs.lemmas.Int.{ints}

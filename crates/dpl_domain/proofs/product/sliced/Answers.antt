@@ -13,7 +13,7 @@ returns-clause-slice c =
       members = simp to_z-of_z at c.slice.ensures.members;
       stride = c.slice.ensures.stride;
       low_bound = simp to_z-of_z at c.slice.ensures.low;
-      high_bound = simp to_z-of_z at c.slice.ensures.high
+      high_bound = simp to_z-of_z at c.slice.ensures.high;
     }
 
 pub returns-clause-fewer : goal.returns-clause-fewer

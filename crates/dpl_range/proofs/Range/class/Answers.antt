@@ -1,6 +1,6 @@
 -- The class is each `period`-th member from the first that is congruent.
-use Rattle.std.proofs.Common.{◌≡◌, ap, sym, ◌∙◌, arith, FitsSigned, w64, rules, ℤ, pos, ◌<◌, ◌≤◌, ◌*◌, ◌+◌, ◌+ℤ◌, ◌%◌, ℕ, unsigned_abs, length, to_z, of_z, None}
-use Rattle.std.proofs.lemmas.Int.{ints, to_z-of_z}
+use Rattle.std.proofs.Common.{◌≡◌, ap, sym, ◌∙◌, arith, w64, pos, ◌<◌, ◌*◌, ◌+◌, ◌+ℤ◌, ◌%◌, ℕ, length, to_z, of_z}
+use Rattle.std.proofs.lemmas.Int.{ints}
 use Rattle.std.specs.Int.{int_rem_euclid}
 use Rattle.dpl_range.specs.Range.{members_of}
 use Rattle.dpl_range.specs.Walk.{ahead}

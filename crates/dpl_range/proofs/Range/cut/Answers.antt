@@ -1,8 +1,8 @@
 -- What is cut out begins at the first whole number of strides that reaches it.
-use Rattle.std.proofs.Common.{◌≡◌, ℤ, ◌≤ℤ◌, ℕ, ◌<◌, ◌≤◌, ◌+◌, ◌%◌, ap, sym, ◌∙◌, arith, FitsSigned, w64, rules, subst, unsigned_abs}
+use Rattle.std.proofs.Common.{◌≡◌, ap, sym, ◌∙◌, arith, FitsSigned, w64, rules}
 use Rattle.std.proofs.lemmas.Int.{ints, to_z-of_z}
-use Rattle.dpl_range.specs.Range.{RangeValue, members_of, IsRange}
-use Rattle.dpl_range.specs.Walk.{walked, nearer, begun}
+use Rattle.dpl_range.specs.Range.{RangeValue}
+use Rattle.dpl_range.specs.Walk.{nearer, begun}
 use Rattle.dpl_range.proofs.SliceLemmas.{cut-none, cut-members, nearer-high}
 use Rattle.dpl_range.proofs.Range.cut.Goals as goal
 

@@ -1,8 +1,7 @@
 -- The remainder of the distance that a walk's first integer is ahead.
-use Rattle.std.proofs.Common.{◌≡◌, ap, sym, ◌∙◌, arith, FitsSigned, w64, rules, ℤ, pos, to_z, ◌<◌, unsigned_abs}
+use Rattle.std.proofs.Common.{◌≡◌, ap, sym, ◌∙◌, arith, FitsSigned, w64, rules, pos, to_z, unsigned_abs}
 use Rattle.std.specs.Int.{int_rem_euclid}
 use Rattle.std.proofs.lemmas.Int.{ints, to_z-of_z}
-use Rattle.dpl_range.specs.Walk.{ahead}
 use Rattle.dpl_range.proofs.Range.gap.Goals as goal
 
 pub returns : goal.returns

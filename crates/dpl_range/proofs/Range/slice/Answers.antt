@@ -1,8 +1,8 @@
 -- A slice is what is cut out between the nearer of the two pairs of bounds.
-use Rattle.std.proofs.Common.{◌≡◌, ℤ, pos, ◌≤ℤ◌, ◌<ℤ◌, ap, sym, ◌∙◌, arith, FitsSigned, w64, rules, subst}
+use Rattle.std.proofs.Common.{◌≡◌, ℤ, pos, ◌<ℤ◌, ap, sym, ◌∙◌, arith, FitsSigned, w64, rules}
 use Rattle.std.proofs.lemmas.Int.{ints, to_z-of_z}
 use Rattle.std.specs.Int.{int_max, int_min}
-use Rattle.dpl_range.specs.Range.{RangeValue, members_of, IsBound, IsRange}
+use Rattle.dpl_range.specs.Range.{RangeValue, IsBound, IsRange}
 use Rattle.dpl_range.proofs.SliceLemmas.{slice-unit, slice-none, slice-cut, IsBound-int_max, IsBound-int_min}
 use Rattle.dpl_range.proofs.Range.slice.Goals as goal
 use Rattle.dpl_range.proofs.Range.slice.Goals.{After-min-high}

@@ -1,5 +1,5 @@
 -- The indices of a domain are as many as the tuples of its three ranges.
-use Rattle.std.proofs.Common.{◌≡◌, ℕ, ◌≤◌, ◌<◌, ◌*◌, ◌^◌, length, arith, refl, sym, ◌∙◌}
+use Rattle.std.proofs.Common.{◌≡◌, ◌≤◌, ◌<◌, ◌*◌, ◌^◌, length, arith, refl}
 use Rattle.dpl_range.specs.Range.{members_of}
 use Rattle.dpl_domain.specs.Indices.{indices}
 use Rattle.dpl_domain.specs.Ranks.{last_of}
@@ -34,7 +34,7 @@ invariant_of-result c =
       outer_limits = c.tuples.ensures.outer_limits;
       middle_limits = c.tuples.ensures.middle_limits;
       inner_limits = c.tuples.ensures.inner_limits;
-      small = small (goal.at.invariant_of-result c).After-tuples c.if-tuples-gt-MOST_INDICES.false
+      small = small (goal.at.invariant_of-result c).After-tuples c.if-tuples-gt-MOST_INDICES.false;
     }
 
 pub returns-clause-ok : goal.returns-clause-ok

@@ -1,10 +1,9 @@
 -- The place of an index is made of the places of its coordinates.
-use Rattle.std.proofs.Common.{◌≡◌, ℕ, sym, ◌∙◌, arith, ap, length, inl, inr, slice_get, Some, None, FitsSigned, w64, rules, ℤ, pos, ◌↔◌, List, ◌<◌, ◌*◌, ◌+◌, ◌^◌, refl, Fits}
+use Rattle.std.proofs.Common.{◌≡◌, sym, ◌∙◌, arith, ap, length, FitsSigned, w64, rules, pos, ◌*◌, ◌+◌, refl, Fits}
 use Rattle.std.proofs.lemmas.Int.{to_z-of_z}
 use Rattle.std.proofs.lemmas.Option.{slice_get_within}
 use Rattle.dpl_domain.proofs.TupleLemmas.{length-indices}
 use Rattle.dpl_range.specs.Range.{members_of}
-use Rattle.dpl_domain.specs.Indices.{indices}
 use Rattle.dpl_domain.specs.Ranks.{last_of, IsPadded}
 use Rattle.dpl_domain.proofs.PlaceLemmas.{no-outer, no-middle, no-inner, place-some, place-steps, place-other}
 use Rattle.dpl_domain.proofs.product.Domain.place.Goals as goal
@@ -13,7 +12,7 @@ use Rattle.dpl_domain.proofs.product.Domain.place.Goals.{After-numbers-outer, Af
 pub returns-then-rank-self : goal.returns-then-rank-self
 returns-then-rank-self c =
     rw (← c.self.view_is)
-      (place-other c.self.inside.rank c.self.inside.outer c.self.inside.middle c.self.inside.inner c.self.invariant.padded c.args.index (λ same. c.if-rank-self.true (c.rank.ensures.rank ∙ same)))
+    (place-other c.self.inside.rank c.self.inside.outer c.self.inside.middle c.self.inside.inner c.self.invariant.padded c.args.index (λ same. c.if-rank-self.true (c.rank.ensures.rank ∙ same)))
 
 -- the index is the last `rank` of its three numbers
 numbers-are : (c : After-numbers-outer) → (c.rank.result ≡ c.self.inside.rank) → c.args.index ≡ last_of c.self.inside.rank c.numbers-outer.result.0 c.numbers-outer.result.1 c.numbers-outer.result.2
@@ -28,8 +27,8 @@ returns-in_err-outer c =
     let fits : FitsSigned w64 c.numbers-outer.result.0 = search rules in
     let none = simp to_z-of_z at c.in_err-outer.ensures in
     rw (← c.self.view_is, c.from_residual.ensures)
-      (no-outer c.self.inside.rank c.self.inside.outer c.self.inside.middle c.self.inside.inner c.self.invariant.padded c.args.index _ _ _
-        (numbers-are before c.if-rank-self.false) (padded before c.if-rank-self.false) none)
+    (no-outer c.self.inside.rank c.self.inside.outer c.self.inside.middle c.self.inside.inner c.self.invariant.padded c.args.index _ _ _
+    (numbers-are before c.if-rank-self.false) (padded before c.if-rank-self.false) none)
 
 pub returns-in_err-middle : goal.returns-in_err-middle
 returns-in_err-middle c =
@@ -37,8 +36,8 @@ returns-in_err-middle c =
     let fits : FitsSigned w64 c.numbers-outer.result.1 = search rules in
     let none = simp to_z-of_z at c.in_err-middle.ensures in
     rw (← c.self.view_is, c.from_residual-in_err-middle.ensures)
-      (no-middle c.self.inside.rank c.self.inside.outer c.self.inside.middle c.self.inside.inner c.self.invariant.padded c.args.index _ _ _
-        (numbers-are before c.if-rank-self.false) (padded before c.if-rank-self.false) none)
+    (no-middle c.self.inside.rank c.self.inside.outer c.self.inside.middle c.self.inside.inner c.self.invariant.padded c.args.index _ _ _
+    (numbers-are before c.if-rank-self.false) (padded before c.if-rank-self.false) none)
 
 pub returns-in_err-inner : goal.returns-in_err-inner
 returns-in_err-inner c =
@@ -46,18 +45,18 @@ returns-in_err-inner c =
     let fits : FitsSigned w64 c.numbers-outer.result.2 = search rules in
     let none = simp to_z-of_z at c.in_err-inner.ensures in
     rw (← c.self.view_is, c.from_residual-in_err-inner.ensures)
-      (no-inner c.self.inside.rank c.self.inside.outer c.self.inside.middle c.self.inside.inner c.self.invariant.padded c.args.index _ _ _
-        (numbers-are before c.if-rank-self.false) (padded before c.if-rank-self.false) none)
+    (no-inner c.self.inside.rank c.self.inside.outer c.self.inside.middle c.self.inside.inner c.self.invariant.padded c.args.index _ _ _
+    (numbers-are before c.if-rank-self.false) (padded before c.if-rank-self.false) none)
 
 -- each step on the way to the place fits
 steps : (c : After-size) → Fits w64 (c.in_ok-outer.outer * length (members_of c.self.inside.middle)) × Fits w64 (c.in_ok-outer.outer * length (members_of c.self.inside.middle) + c.in_ok-middle.middle) × Fits w64 ((c.in_ok-outer.outer * length (members_of c.self.inside.middle) + c.in_ok-middle.middle) * length (members_of c.self.inside.inner)) × Fits w64 ((c.in_ok-outer.outer * length (members_of c.self.inside.middle) + c.in_ok-middle.middle) * length (members_of c.self.inside.inner) + c.in_ok-inner.inner)
 steps c =
     place-steps (length (members_of c.self.inside.outer)) (length (members_of c.self.inside.middle)) (length (members_of c.self.inside.inner))
-      c.in_ok-outer.outer c.in_ok-middle.middle c.in_ok-inner.inner
-      (slice_get_within _ _ _ ((c.in_ok-outer.ensures c.in_ok-outer.outer).0 refl))
-      (slice_get_within _ _ _ ((c.in_ok-middle.ensures c.in_ok-middle.middle).0 refl))
-      (slice_get_within _ _ _ ((c.in_ok-inner.ensures c.in_ok-inner.inner).0 refl))
-      (omega (arith, c.self.invariant.small, length-indices c.self.inside.rank c.self.inside.outer c.self.inside.middle c.self.inside.inner c.self.invariant.padded))
+    c.in_ok-outer.outer c.in_ok-middle.middle c.in_ok-inner.inner
+    (slice_get_within _ _ _ ((c.in_ok-outer.ensures c.in_ok-outer.outer).0 refl))
+    (slice_get_within _ _ _ ((c.in_ok-middle.ensures c.in_ok-middle.middle).0 refl))
+    (slice_get_within _ _ _ ((c.in_ok-inner.ensures c.in_ok-inner.inner).0 refl))
+    (omega (arith, c.self.invariant.small, length-indices c.self.inside.rank c.self.inside.outer c.self.inside.middle c.self.inside.inner c.self.invariant.padded))
 
 pub overflow_mul-result : goal.overflow_mul-result
 overflow_mul-result c = rw c.size.ensures.length (steps c).0
@@ -81,6 +80,6 @@ returns c =
     let middle = simp to_z-of_z at c.in_ok-middle.ensures in
     let inner = simp to_z-of_z at c.in_ok-inner.ensures in
     rw (← c.self.view_is, c.size.ensures.length, c.size-2.ensures.length)
-      (place-some c.self.inside.rank c.self.inside.outer c.self.inside.middle c.self.inside.inner c.self.invariant.padded c.args.index
-        c.numbers-outer.result.0 c.numbers-outer.result.1 c.numbers-outer.result.2 (numbers-are before c.if-rank-self.false) (padded before c.if-rank-self.false)
-        c.in_ok-outer.outer c.in_ok-middle.middle c.in_ok-inner.inner outer middle inner)
+    (place-some c.self.inside.rank c.self.inside.outer c.self.inside.middle c.self.inside.inner c.self.invariant.padded c.args.index
+    c.numbers-outer.result.0 c.numbers-outer.result.1 c.numbers-outer.result.2 (numbers-are before c.if-rank-self.false) (padded before c.if-rank-self.false)
+    c.in_ok-outer.outer c.in_ok-middle.middle c.in_ok-inner.inner outer middle inner)

@@ -1,10 +1,10 @@
 -- The walk goes over to the next line or plane where the last one is gone over, and gives the next index.
-use Rattle.std.proofs.Common.{◌≡◌, ℕ, ap, sym, ◌∙◌, arith, FitsSigned, w64, rules, ℤ, pos, ◌<◌, slice_get, drop, Some, subst, List, ◌++◌}
-use Rattle.std.proofs.lemmas.Int.{ints, to_z-of_z}
-use Rattle.dpl_domain.specs.Ranks.{last_of, IsPadded}
-use Rattle.dpl_domain.specs.Cursor.{rest_of, terms_of, IsCursor}
+use Rattle.std.proofs.Common.{ap, sym, ◌∙◌, arith, FitsSigned, w64, rules, slice_get, drop, Some, ◌++◌}
+use Rattle.std.proofs.lemmas.Int.{to_z-of_z}
+use Rattle.dpl_domain.specs.Ranks.{last_of}
+use Rattle.dpl_domain.specs.Cursor.{terms_of}
 use Rattle.dpl_domain.specs.Progression.{line_of, plane_of, space_of}
-use Rattle.dpl_domain.proofs.CursorLemmas.{IsReady, IsAtLine, IsAtLine-to_plane, IsReady-to_line, rest-none, rest-next, IsPadded-cursor}
+use Rattle.dpl_domain.proofs.CursorLemmas.{IsReady, IsAtLine, IsAtLine-to_plane, IsReady-to_line, rest-next, IsPadded-cursor}
 use Rattle.dpl_domain.proofs.walk.Cursor.next.Goals as goal
 use Rattle.dpl_domain.proofs.walk.Cursor.next.Goals.{Joined-self-eq0, then-self-eq0, then-self-eq0-2+else-self-eq0-3, else-self-eq0-2, else-self-eq0}
 
@@ -12,23 +12,23 @@ use Rattle.dpl_domain.proofs.walk.Cursor.next.Goals.{Joined-self-eq0, then-self-
 ready : (c : Joined-self-eq0) → IsReady c.if-self-eq0.self-inside c.args.self.now
 ready c =
     elim c.if-self-eq0.branch [
-      then-self-eq0 w ↦
-        let line : IsAtLine w.if-self-eq0-2.self-inside c.args.self.now =
+      | then-self-eq0 w ↦
+          let line : IsAtLine w.if-self-eq0-2.self-inside c.args.self.now =
           elim w.if-self-eq0-2.branch [
-              then-self-eq0-2+else-self-eq0-3 u ↦
+            | then-self-eq0-2+else-self-eq0-3 u ↦
                 let fits : FitsSigned w64 u.take-self-inside.result = search rules in
                 let is = simp to_z-of_z at u.self-inside-is in
                 rw (is, ← c.self.view_is)
-                  (IsAtLine-to_plane c.self.inside u.take-self-inside.result u.take-self-inside.new.self c.self.invariant w.if-self-eq0.true u.if-self-eq0-2.true (omega arith) u.take-self-inside.ensures.next u.take-self-inside.ensures.rest)
+                (IsAtLine-to_plane c.self.inside u.take-self-inside.result u.take-self-inside.new.self c.self.invariant w.if-self-eq0.true u.if-self-eq0-2.true (omega arith) u.take-self-inside.ensures.next u.take-self-inside.ensures.rest)
             | else-self-eq0-2 u ↦
                 rw u.self-inside-is (record { same = c.self.view_is; cursor = c.self.invariant; none = w.if-self-eq0.true; some = omega arith })
-            ] in
-        let fits : FitsSigned w64 w.take-self-inside-then-self-eq0.result = search rules in
-        let is = simp to_z-of_z at w.self-inside-is in
-        rw is
+          ] in
+          let fits : FitsSigned w64 w.take-self-inside-then-self-eq0.result = search rules in
+          let is = simp to_z-of_z at w.self-inside-is in
+          rw is
           (IsReady-to_line w.if-self-eq0-2.self-inside c.args.self.now w.take-self-inside-then-self-eq0.result w.take-self-inside-then-self-eq0.new.self line w.take-self-inside-then-self-eq0.ensures.next w.take-self-inside-then-self-eq0.ensures.rest)
-    | else-self-eq0 w ↦
-        rw w.self-inside-is (record { same = c.self.view_is; cursor = c.self.invariant; some = omega arith })
+      | else-self-eq0 w ↦
+          rw w.self-inside-is (record { same = c.self.view_is; cursor = c.self.invariant; some = omega arith })
     ]
 
 pub padded-requires : goal.padded-requires
@@ -37,7 +37,7 @@ padded-requires c =
     let outer_fits : FitsSigned w64 c.if-self-eq0.self-inside.outer_at = search rules in
     let middle_fits : FitsSigned w64 c.if-self-eq0.self-inside.middle_at = search rules in
     rw (to_z-of_z w64 c.if-self-eq0.self-inside.outer_at outer_fits, to_z-of_z w64 c.if-self-eq0.self-inside.middle_at middle_fits)
-      (IsPadded-cursor c.if-self-eq0.self-inside now.cursor)
+    (IsPadded-cursor c.if-self-eq0.self-inside now.cursor)
 
 pub invariant_of-self : goal.invariant_of-self
 invariant_of-self c =
@@ -52,7 +52,7 @@ invariant_of-self c =
       lines_terms = now.lines_terms;
       lines_come = now.lines_come;
       line_comes = now.line_comes;
-      line_of_plane = now.line_of_plane
+      line_of_plane = now.line_of_plane;
     }
 
 pub returns-clause-next : goal.returns-clause-next

@@ -1,7 +1,7 @@
 -- The members of a range are a progression from its first on.
-use Rattle.std.proofs.Common.{◌≡◌, ap, sym, ◌∙◌, arith, FitsSigned, w64, rules, slice_get, Some, None, All, ℤ}
-use Rattle.std.proofs.lemmas.Int.{ints, to_z-of_z}
-use Rattle.dpl_range.specs.Range.{members_of, IsBound, IsRange}
+use Rattle.std.proofs.Common.{◌≡◌, ap, sym, ◌∙◌, FitsSigned, w64, rules}
+use Rattle.std.proofs.lemmas.Int.{to_z-of_z}
+use Rattle.dpl_range.specs.Range.{members_of}
 use Rattle.dpl_domain.specs.Progression.{progression}
 use Rattle.dpl_domain.proofs.ProgressionLemmas.{progression-members, members-bounds, none-empty}
 use Rattle.dpl_domain.proofs.walk.Track.over.Goals as goal
@@ -22,7 +22,7 @@ invariant_of-result-2 c =
     let stride_fits : FitsSigned w64 c.stride.result = search rules in
     record {
       bounded = rw (to_z-of_z w64 c.in-Some.next next_fits, to_z-of_z w64 c.stride.result stride_fits, terms (goal.at.invariant_of-result-2 c).After-size) (members-bounds c.args.range.now c.size.ensures.limits);
-      short = rw (to_z-of_z w64 c.stride.result stride_fits, c.stride.ensures.stride) c.size.ensures.limits.stride_is_short
+      short = rw (to_z-of_z w64 c.stride.result stride_fits, c.stride.ensures.stride) c.size.ensures.limits.stride_is_short;
     }
 
 pub returns : goal.returns

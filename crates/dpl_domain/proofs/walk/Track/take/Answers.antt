@@ -1,8 +1,6 @@
 -- The next term comes one step later.
-use Rattle.std.proofs.Common.{◌≡◌, ap, sym, ◌∙◌, arith, ℤ, ◌+ℤ◌, FitsSigned, w64, to_z, of_z, ◌-◌, All, subst}
+use Rattle.std.proofs.Common.{◌≡◌, arith, ◌+ℤ◌, w64, to_z, of_z}
 use Rattle.std.proofs.lemmas.Int.{ints}
-use Rattle.dpl_range.specs.Range.{IsBound}
-use Rattle.dpl_domain.specs.Progression.{progression}
 use Rattle.dpl_domain.proofs.ProgressionLemmas.{first-bound, rest-bounds, progression-rest}
 use Rattle.dpl_domain.proofs.walk.Track.take.Goals as goal
 use Rattle.dpl_domain.proofs.walk.Track.take.Goals.{Start}
@@ -23,7 +21,7 @@ invariant_of-self c =
     let e = stepped (goal.at.invariant_of-self c).Start in
     record {
       bounded = rw e (rest-bounds c.args.self.now.next c.args.self.now.step c.args.self.now.left c.args.self.now.bounded);
-      short = c.args.self.now.short
+      short = c.args.self.now.short;
     }
 
 pub returns-clause-rest : goal.returns-clause-rest
