@@ -8,3 +8,6 @@ mod walk;
 pub use product::{Domain, DomainFault, MOST_INDICES};
 pub use tuple::Index;
 pub use walk::Cursor;
+
+#[cfg(test)]
+mod tests;
