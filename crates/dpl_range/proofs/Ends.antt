@@ -1,6 +1,6 @@
 -- The members of a range are in order, so the least and the greatest of them are its two ends.
-use Rattle.std.proofs.Common.{◌≡◌, ℕ, ◌-◌, ◌*◌, ◌<◌, ◌≤◌, List, [], ◌∷◌, length, ap, sym, ◌∙◌, arith, Some, None, ℤ, pos, negsuc, ◌<ℤ◌, ◌≤ℤ◌, slice_get, ◌↔◌, unsigned_abs, All, Contains, IsNone, IfSome, refl, get_or, Option, is_some, true, false, subst}
-use Rattle.std.proofs.lemmas.Option.{slice_get-get_or, slice_get_past, slice_get_within, get_or_from_slice_get, same_Some, IfSome_then}
+use Rattle.std.proofs.Common.{◌≡◌, ℕ, ◌-◌, ◌*◌, ◌<◌, ◌≤◌, List, [], ◌∷◌, length, ap, sym, ◌∙◌, arith, Some, None, ℤ, pos, negsuc, ◌<ℤ◌, ◌≤ℤ◌, slice_get, ◌↔◌, unsigned_abs, All, Contains, IsNone, IfSome, refl, get_or, Option, is_some, true, subst}
+use Rattle.std.proofs.lemmas.Option.{slice_get-get_or, slice_get_within, get_or_from_slice_get, same_Some, IfSome_then}
 use Rattle.std.proofs.lemmas.Int.{ints}
 use Rattle.std.proofs.Math.Nat.{mul-le-mul_right}
 use Rattle.dpl_range.specs.Range.{RangeValue, members_of, IsRange}
@@ -83,22 +83,22 @@ falling_order (negsuc s) h positive a b order = order
 pub least-first : (r : RangeValue) → IsRange r → pos 0 <ℤ r.stride → IfSome (slice_get (members_of r) 0) (λ i. All (λ j. i ≤ℤ j) (members_of r))
 least-first r limits rises =
     IfSome_then (slice_get (members_of r) 0) (InOrder-first r limits)
-      (λ i all k d within. rising_order r.stride rises i (get_or (members_of r) k d) (all k d within))
+    (λ i all k d within. rising_order r.stride rises i (get_or (members_of r) k d) (all k d within))
 
 pub least-last : (r : RangeValue) → IsRange r → r.stride ≤ℤ pos 0 → IfSome (slice_get (members_of r) (length (members_of r) - 1)) (λ i. All (λ j. i ≤ℤ j) (members_of r))
 least-last r limits falls =
     IfSome_then (slice_get (members_of r) (length (members_of r) - 1)) (InOrder-last r limits)
-      (λ i all k d within. falling_order r.stride falls limits.stride_is_not_zero (get_or (members_of r) k d) i (all k d within))
+    (λ i all k d within. falling_order r.stride falls limits.stride_is_not_zero (get_or (members_of r) k d) i (all k d within))
 
 pub greatest-last : (r : RangeValue) → IsRange r → pos 0 <ℤ r.stride → IfSome (slice_get (members_of r) (length (members_of r) - 1)) (λ i. All (λ j. j ≤ℤ i) (members_of r))
 greatest-last r limits rises =
     IfSome_then (slice_get (members_of r) (length (members_of r) - 1)) (InOrder-last r limits)
-      (λ i all k d within. rising_order r.stride rises (get_or (members_of r) k d) i (all k d within))
+    (λ i all k d within. rising_order r.stride rises (get_or (members_of r) k d) i (all k d within))
 
 pub greatest-first : (r : RangeValue) → IsRange r → r.stride ≤ℤ pos 0 → IfSome (slice_get (members_of r) 0) (λ i. All (λ j. j ≤ℤ i) (members_of r))
 greatest-first r limits falls =
     IfSome_then (slice_get (members_of r) 0) (InOrder-first r limits)
-      (λ i all k d within. falling_order r.stride falls limits.stride_is_not_zero i (get_or (members_of r) k d) (all k d within))
+    (λ i all k d within. falling_order r.stride falls limits.stride_is_not_zero i (get_or (members_of r) k d) (all k d within))
 
 -- a place that was found says that its integer is contained, and one that was not, that it isn't
 pub contains-place : (is : List ℤ) (i : ℤ) (place : Option ℕ) → ((k : ℕ) → (place ≡ Some k) ↔ (slice_get is k ≡ Some i)) → (is_some place ≡ true) ↔ Contains is i

@@ -2,3 +2,7 @@ pub mod Lists
 pub mod MemberLemmas
 mod Worked
 pub mod Ends
+pub mod Ordered
+pub mod SliceLemmas
+pub mod Congruence
+pub mod ClassLemmas

@@ -1,6 +1,6 @@
 -- Lists read by places: a list that keeps each n-th element, a list in reverse, and a length that places tell.
-use Rattle.std.proofs.Common.{◌≡◌, ℕ, zero, suc, ◌+◌, ◌-◌, ◌*◌, ◌<◌, List, [], ◌∷◌, length, reverse, get_or, refl, ap, sym, ◌∙◌, arith, Some, None, ℤ, slice_get, take, drop, ◌++◌}
-use Rattle.std.proofs.lemmas.Option.{slice_get-get_or, slice_get_within, get_or_from_slice_get}
+use Rattle.std.proofs.Common.{◌≡◌, ℕ, zero, suc, ◌+◌, ◌-◌, ◌*◌, ◌<◌, List, [], ◌∷◌, length, reverse, get_or, refl, ap, sym, ◌∙◌, arith, Some, None, ℤ, slice_get, take, drop, ◌++◌, Bool, true, false, filter, ◌↔◌}
+use Rattle.std.proofs.lemmas.Option.{same_Some, slice_get-get_or, slice_get_within, get_or_from_slice_get}
 use Rattle.std.proofs.lemmas.List.{get_or-reverse, length-reverse, drop_more, take_more}
 use Rattle.std.proofs.Math.Nat.{suc-mul}
 use Rattle.dpl_range.specs.Members.{spaced}
@@ -42,3 +42,52 @@ drop-slice_get xs k x found =
 pub take-slice_get : {X : Type 0} (xs : List X) (k : ℕ) (x : X) → slice_get xs k ≡ Some x → take (k + 1) xs ≡ take k xs ++ x ∷ []
 take-slice_get xs k x found =
     take_more xs k x (slice_get_within xs k x found) ∙ ap (λ y. take k xs ++ y ∷ []) (get_or_from_slice_get xs k x x found)
+
+-- two lists with the same element at each place, or none at both
+pub same_places : (xs ys : List ℤ) → ((k : ℕ) → slice_get xs k ≡ slice_get ys k) → xs ≡ ys
+same_places [] [] same = refl
+same_places [] (y ∷ ys) same = absurd (let e : None ≡ Some y = same 0 in cc)
+same_places (x ∷ xs) [] same = absurd (let e : Some x ≡ None = same 0 in cc)
+same_places (x ∷ xs) (y ∷ ys) same =
+    let heads : x ≡ y = same_Some x y (same 0) in
+    let tails : xs ≡ ys = same_places xs ys (λ k. same (suc k)) in
+    cc
+
+-- to pass over some elements first is to drop them
+pub spaced-drop : (gap wait : ℕ) (is : List ℤ) → spaced gap wait is ≡ spaced gap 0 (drop wait is)
+spaced-drop gap zero is = refl
+spaced-drop gap (suc wait) [] = refl
+spaced-drop gap (suc wait) (i ∷ is) = spaced-drop gap wait is
+
+-- what can't be true is false
+false_unless : (b : Bool) → (b ≡ true → ⊥) → b ≡ false
+false_unless true never = absurd (never refl)
+false_unless false never = refl
+
+-- a filter that passes one element in `suc gap`, the first of them at `wait`
+pub filter-spaced : (test : ℤ → Bool) (gap wait : ℕ) (is : List ℤ) → ((k : ℕ) (i : ℤ) → slice_get is k ≡ Some i → (test i ≡ true) ↔ ((j : ℕ) × (k ≡ wait + j * suc gap))) → filter test is ≡ spaced gap wait is
+filter-spaced test gap wait [] periodic = refl
+filter-spaced test gap zero (i ∷ is) periodic =
+    let here : test i ≡ true = (periodic 0 i refl).1 (0, omega arith) in
+    let rest : filter test is ≡ spaced gap gap is =
+    filter-spaced test gap gap is (λ k j found. (
+      (λ passes. let h = (periodic (suc k) j found).0 passes in later k h.0 h.1),
+      (λ h. (periodic (suc k) j found).1 (suc h.0, omega (arith, suc-mul h.0 (suc gap), h.1))),
+    )) in
+    rw here (ap (λ js. i ∷ js) rest)
+  where
+    later : (k j : ℕ) → suc k ≡ 0 + j * suc gap → (j' : ℕ) × (k ≡ gap + j' * suc gap)
+    later k zero e = absurd (omega arith)
+    later k (suc j) e = (j, omega (arith, suc-mul j (suc gap)))
+filter-spaced test gap (suc wait) (i ∷ is) periodic =
+    rw (false_unless (test i) (λ passes. let h = (periodic 0 i refl).0 passes in omega (arith, h.1)))
+    (filter-spaced test gap wait is (λ k j found. (
+      (λ passes. let h = (periodic (suc k) j found).0 passes in (h.0, omega (arith, h.1))),
+      (λ h. (periodic (suc k) j found).1 (h.0, omega (arith, h.1))),
+    )))
+
+-- a filter that passes nothing
+pub filter-none : (test : ℤ → Bool) (is : List ℤ) → ((k : ℕ) (i : ℤ) → slice_get is k ≡ Some i → test i ≡ true → ⊥) → filter test is ≡ []
+filter-none test [] never = refl
+filter-none test (i ∷ is) never =
+    rw (false_unless (test i) (never 0 i refl)) (filter-none test is (λ k j found. never (suc k) j found))

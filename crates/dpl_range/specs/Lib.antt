@@ -1,3 +1,4 @@
 pub mod Members
 pub mod Range
 pub mod Walk
+pub mod Congruence

@@ -2,10 +2,16 @@
 // Every call is of constant cost: none walks the list, and none takes memory.
 #![tactic(auto)]
 
-ghost use Rattle.std.specs.Prelude.{◌≡◌, ◌↔◌, ◌⊎◌, ◌≤◌, ◌<◌, ◌^◌, ℕ, ℤ, pos, ◌+ℤ◌, ◌-ℤ◌, ◌-◌, [], All, Contains, IsNone, ◌<ℤ◌, ◌≤ℤ◌, length, slice_get, IsTrue, IsOk, IfOk, IfSome, IfNone, MatchOption, unsigned_abs};
+ghost use Rattle.std.specs.Prelude.{◌≡◌, ◌*◌, neg_ℤ, drop, ◌↔◌, ◌⊎◌, ◌≤◌, ◌<◌, ◌^◌, ℕ, ℤ, pos, ◌+ℤ◌, ◌-ℤ◌, ◌-◌, ◌&&◌, filter, int_le, [], All, Contains, IsNone, ◌<ℤ◌, ◌≤ℤ◌, length, slice_get, IsTrue, IsOk, IfOk, IfSome, IfNone, MatchOption, unsigned_abs};
+ghost use Rattle.std.specs.Int.{int_max, int_min, int_rem_euclid};
+ghost use Rattle.dpl_range.specs.Congruence.{is_congruent};
+ghost use Rattle.dpl_range.specs.Members.{every};
 ghost use Rattle.dpl_range.specs.Range.{members_of, IsBound, IsStride, IsRange};
-ghost use Rattle.dpl_range.specs.Walk.{walked};
+ghost use Rattle.dpl_range.specs.Walk.{walked, nearer, begun, ahead, SameWay};
 
+mod progression;
+
+use progression::{first_multiple, period};
 use std::marker::Model;
 use thiserror::Error;
 
@@ -153,6 +159,180 @@ impl Range {
         }
     }
 
+    /// The low bound, which a stride may keep from being a member.
+    pub fn low_bound(&self) -> i64
+        ensures bound { result ≡ self.now.low }
+        ensures limits { IsRange self.now }
+    {
+        self.low
+    }
+
+    /// The high bound, which a stride may keep from being a member.
+    pub fn high_bound(&self) -> i64
+        ensures bound { result ≡ self.now.high }
+        ensures limits { IsRange self.now }
+    {
+        self.high
+    }
+
+    /// The stride: above 0 the members rise, below 0 they fall.
+    pub fn stride(&self) -> i64
+        ensures stride { result ≡ self.now.stride }
+        ensures limits { IsRange self.now }
+    {
+        self.stride
+    }
+
+    /// The members between `low` and `high`, in the order of the range. A range of stride 1 keeps, of its own
+    /// bounds and these two, the greater low and the lesser high one, also where no member is left.
+    pub fn slice(&self, low: i64, high: i64) -> Range
+        requires low_is_bound { IsBound low }
+        requires high_is_bound { IsBound high }
+        ensures members { members_of result ≡ filter (λ i. int_le low i && int_le i high) (members_of self.now) }
+        ensures stride { result.stride ≡ self.now.stride }
+        ensures low { self.now.stride ≡ pos 1 → result.low ≡ int_max self.now.low low }
+        ensures high { self.now.stride ≡ pos 1 → result.high ≡ int_min self.now.high high }
+        ensures limits { IsRange result }
+    {
+        let low = self.low.max(low);
+        let high = self.high.min(high);
+        if self.stride == 1 {
+            return Range::unit(low, high);
+        }
+        if high < low {
+            return self.none();
+        }
+        self.cut(low, high)
+    }
+
+    // The members between two bounds that lie within the range's own.
+    fn cut(&self, low: i64, high: i64) -> Range
+        requires low { self.now.low ≤ℤ low }
+        requires ordered { low ≤ℤ high }
+        requires high { high ≤ℤ self.now.high }
+        ensures members { members_of result ≡ filter (λ i. int_le low i && int_le i high) (members_of self.now) }
+        ensures stride { result.stride ≡ self.now.stride }
+        ensures limits { IsRange result }
+    {
+        let far = self.nearer(high, low);
+        let begin = self
+            .offset(self.nearer(low, high))
+            .next_multiple_of(self.step());
+        if self.offset(far) < begin {
+            return self.none();
+        }
+        self.begun(begin, far, self.stride)
+    }
+
+    // The integers from `low` to `high`.
+    fn unit(low: i64, high: i64) -> Range
+        requires low_is_bound { IsBound low }
+        requires high_is_bound { IsBound high }
+        ensures value { result ≡ record { low = low; high = high; stride = pos 1 } }
+        ensures limits { IsRange result }
+    {
+        Range {
+            low,
+            high,
+            stride: 1,
+        }
+    }
+
+    // A range of the same stride with no members.
+    fn none(&self) -> Range
+        ensures value { result ≡ record { low = pos 1; high = pos 0; stride = self.now.stride } }
+        ensures limits { IsRange result }
+    {
+        Range {
+            low: 1,
+            high: 0,
+            stride: self.stride,
+        }
+    }
+
+    // The one of two bounds at which a walk between them begins.
+    fn nearer(&self, low: i64, high: i64) -> i64
+        ensures { result ≡ nearer self.now.stride low high }
+    {
+        if self.stride > 0 { low } else { high }
+    }
+
+    /// The members that are congruent to `start + r` modulo `n`, in the order of the range. The stride of the
+    /// result is at most 2^61 in size, and 1 or -1 where it has fewer than two members.
+    pub fn class(&self, start: i64, n: u32, r: u32) -> Range
+        requires start_is_bound { IsBound start }
+        requires modulus { n ≤ 64 }
+        requires remainder { r < n }
+        ensures members { members_of result ≡ filter (is_congruent n (start +ℤ pos r)) (members_of self.now) }
+        ensures short { length (members_of result) < 2 → unsigned_abs result.stride ≡ 1 }
+        ensures limits { IsRange result }
+    {
+        let n = n as u64;
+        let step = self.step() % n;
+        let gap = self.gap(start + r as i64, n);
+        match first_multiple(gap, step, n) {
+            Some(skipped) if skipped < self.size() => self.every(skipped, period(step, n)),
+            _ => Range::unit(1, 0),
+        }
+    }
+
+    // The member at `skipped` and each `period`-th after it.
+    fn every(&self, skipped: u64, period: u64) -> Range
+        requires skipped { skipped < length (members_of self.now) }
+        requires positive { 0 < period }
+        requires small { period ≤ 64 }
+        ensures members { members_of result ≡ every period (drop skipped (members_of self.now)) }
+        ensures short { length (members_of result) < 2 → unsigned_abs result.stride ≡ 1 }
+        ensures limits { IsRange result }
+    {
+        let offset = skipped * self.step();
+        if self.size() - skipped <= period {
+            let only = self.walked(offset);
+            return Range::unit(only, only);
+        }
+        self.begun(
+            offset,
+            self.nearer(self.high, self.low),
+            self.lengthened(period),
+        )
+    }
+
+    // The stride `period` times.
+    fn lengthened(&self, period: u64) -> i64
+        requires positive { 0 < period }
+        requires small { period ≤ 64 }
+        requires short { unsigned_abs self.now.stride * period ≤ 2 ^ 61 }
+        ensures size { unsigned_abs result ≡ unsigned_abs self.now.stride * period }
+        ensures way { SameWay self.now.stride result }
+    {
+        self.stride * period as i64
+    }
+
+    // How far, modulo `n`, the first integer of a walk lies past one that is congruent to `c`.
+    fn gap(&self, c: i64, n: u64) -> u64
+        requires positive { 0 < n }
+        requires small { n ≤ 64 }
+        requires low { neg_ℤ (pos (2 ^ 61)) ≤ℤ c }
+        requires high { c ≤ℤ pos (2 ^ 61) }
+        ensures gap { int_rem_euclid (ahead self.now.low self.now.high self.now.stride c) (pos n) ≡ pos result }
+        ensures below { result < n }
+    {
+        self.ahead(c).rem_euclid(n as i64) as u64
+    }
+
+    // How far the first integer of a walk lies past `c` in the direction of the walk.
+    fn ahead(&self, c: i64) -> i64
+        requires low { neg_ℤ (pos (2 ^ 61)) ≤ℤ c }
+        requires high { c ≤ℤ pos (2 ^ 61) }
+        ensures { result ≡ ahead self.now.low self.now.high self.now.stride c }
+    {
+        if self.stride > 0 {
+            self.low - c
+        } else {
+            c - self.high
+        }
+    }
+
     // How far the high bound lies above the low one.
     fn span(&self) -> u64
         requires { self.now.low ≤ℤ self.now.high }
@@ -167,6 +347,7 @@ impl Range {
         ensures size { unsigned_abs self.now.stride ≡ result }
         ensures positive { 0 < result }
         ensures short { result ≤ 2 ^ 61 }
+        ensures limits { IsRange self.now }
     {
         self.stride.unsigned_abs()
     }
@@ -183,12 +364,38 @@ impl Range {
         }
     }
 
+    // The range that begins `offset` after this one, ends at the bound `far` and goes the same way.
+    fn begun(&self, offset: u64, far: i64, stride: i64) -> Range
+        requires within { (self.now.low +ℤ pos offset) ≤ℤ self.now.high }
+        requires far_is_bound { IsBound far }
+        requires stride_is_not_zero { 0 < unsigned_abs stride }
+        requires stride_is_short { unsigned_abs stride ≤ 2 ^ 61 }
+        ensures value { result ≡ begun self.now offset far stride }
+        ensures limits { IsRange result }
+    {
+        let near = self.walked(offset);
+        if self.stride > 0 {
+            Range {
+                low: near,
+                high: far,
+                stride,
+            }
+        } else {
+            Range {
+                low: far,
+                high: near,
+                stride,
+            }
+        }
+    }
+
     // How far `i` stands after the first integer of a walk from bound to bound.
     fn offset(&self, i: i64) -> u64
         requires low { self.now.low ≤ℤ i }
         requires high { i ≤ℤ self.now.high }
         ensures walked { i ≡ walked self.now.low self.now.high self.now.stride result }
         ensures within { (self.now.low +ℤ pos result) ≤ℤ self.now.high }
+        ensures limits { IsRange self.now }
     {
         if self.stride > 0 {
             (i - self.low) as u64

@@ -1,5 +1,5 @@
 -- The least member is an end of the list, by the stride's sign.
-use Rattle.std.proofs.Common.{ℤ, pos, ◌<ℤ◌, ◌≤ℤ◌, arith}
+use Rattle.std.proofs.Common.{pos, ◌<ℤ◌, ◌≤ℤ◌, arith}
 use Rattle.std.proofs.lemmas.Int.{ints}
 use Rattle.dpl_range.specs.Range.{members_of, IsRange}
 use Rattle.dpl_range.proofs.Ends.{IsNone-first, IsNone-last, IfSome-slice_get, least-first, least-last}

@@ -1,0 +1,4 @@
+pub mod TupleLemmas
+pub mod PlaceLemmas
+pub mod ProgressionLemmas
+pub mod CursorLemmas

@@ -1,0 +1,46 @@
+-- The indices of a domain are as many as the tuples of its three ranges.
+use Rattle.std.proofs.Common.{◌≡◌, ◌≤◌, ◌<◌, ◌*◌, ◌^◌, length, arith, refl}
+use Rattle.dpl_range.specs.Range.{members_of}
+use Rattle.dpl_domain.specs.Indices.{indices}
+use Rattle.dpl_domain.specs.Ranks.{last_of}
+use Rattle.dpl_domain.proofs.TupleLemmas.{length-indices}
+use Rattle.dpl_domain.proofs.product.Domain.checked.Goals as goal
+use Rattle.dpl_domain.proofs.product.Domain.checked.Goals.{After-tuples}
+
+many : (c : After-tuples) → length (indices (last_of c.args.rank c.args.outer c.args.middle c.args.inner)) ≡ length (members_of c.args.outer) * length (members_of c.args.middle) * length (members_of c.args.inner)
+many c = length-indices c.args.rank c.args.outer c.args.middle c.args.inner c.requires
+
+-- the test says whether there are too many
+large : (c : After-tuples) → 2 ^ 40 < c.tuples.result → length (indices (last_of c.args.rank c.args.outer c.args.middle c.args.inner)) ≤ 2 ^ 40 → ⊥
+large c more small = omega (arith, many c, c.tuples.ensures.exact (omega (arith, many c)))
+
+small : (c : After-tuples) → c.tuples.result ≤ 2 ^ 40 → length (indices (last_of c.args.rank c.args.outer c.args.middle c.args.inner)) ≤ 2 ^ 40
+small c fewer = grind (arith, many c, c.tuples.ensures.more)
+
+pub returns-then-tuples-gt-MOST_INDICES-clause-ok : goal.returns-then-tuples-gt-MOST_INDICES-clause-ok
+returns-then-tuples-gt-MOST_INDICES-clause-ok c =
+    let never = large (goal.at.returns-then-tuples-gt-MOST_INDICES-clause-ok c).After-tuples c.if-tuples-gt-MOST_INDICES.true in
+    ((λ e. absurd cc), (λ fits. absurd (never fits)))
+
+pub returns-then-tuples-gt-MOST_INDICES-clause-size : goal.returns-then-tuples-gt-MOST_INDICES-clause-size
+returns-then-tuples-gt-MOST_INDICES-clause-size c =
+    let never = large (goal.at.returns-then-tuples-gt-MOST_INDICES-clause-size c).After-tuples c.if-tuples-gt-MOST_INDICES.true in
+    ((λ e. never), (λ h. refl))
+
+pub invariant_of-result : goal.invariant_of-result
+invariant_of-result c =
+    record {
+      padded = c.requires;
+      outer_limits = c.tuples.ensures.outer_limits;
+      middle_limits = c.tuples.ensures.middle_limits;
+      inner_limits = c.tuples.ensures.inner_limits;
+      small = small (goal.at.invariant_of-result c).After-tuples c.if-tuples-gt-MOST_INDICES.false;
+    }
+
+pub returns-clause-ok : goal.returns-clause-ok
+returns-clause-ok c = ((λ e. small (goal.at.returns-clause-ok c).After-tuples c.if-tuples-gt-MOST_INDICES.false), (λ fits. refl))
+
+pub returns-clause-size : goal.returns-clause-size
+returns-clause-size c =
+    let fits = small (goal.at.returns-clause-size c).After-tuples c.if-tuples-gt-MOST_INDICES.false in
+    ((λ e. absurd cc), (λ never. absurd (never fits)))

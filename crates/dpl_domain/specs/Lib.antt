@@ -1,0 +1,7 @@
+pub mod Indices
+pub mod Ranks
+pub mod Tuple
+pub mod Product
+pub mod Slices
+pub mod Progression
+pub mod Cursor

@@ -1,0 +1,30 @@
+-- One to three things in three places: those of a lower rank leave the places in front unused.
+use Rattle.std.specs.Prelude.{ℕ, zero, suc, ◌≤◌, ◌≡◌, ◌<◌, List, [], ◌∷◌, pos}
+use Rattle.dpl_range.specs.Range.{RangeValue, IsRange}
+use Rattle.dpl_domain.specs.Indices.{IsSmall}
+
+-- the last one, two or all three of three things
+abbrev pub last_of : {A : Type 0} → ℕ → A → A → A → List A
+last_of zero a b c = []
+last_of (suc zero) a b c = c ∷ []
+last_of (suc (suc zero)) a b c = b ∷ c ∷ []
+last_of (suc (suc (suc n))) a b c = a ∷ b ∷ c ∷ []
+
+-- the rank is 1 to 3, and what it leaves unused is as given
+pub record IsPadded {A : Type 0} (unused : A) (rank : ℕ) (a b : A) : Type 0 where
+  pub from_one : 1 ≤ rank
+  pub to_three : rank ≤ 3
+  pub first : rank < 3 → a ≡ unused
+  pub second : rank < 2 → b ≡ unused
+
+-- the range with the one member 0, which stands in the places that a domain leaves unused
+abbrev pub point : RangeValue
+point = record { low = pos 0; high = pos 0; stride = pos 1 }
+
+-- what holds of the rank and the three ranges that a domain keeps
+pub record IsKept (rank : ℕ) (outer middle inner : RangeValue) : Type 0 where
+  pub padded : IsPadded point rank outer middle
+  pub outer_limits : IsRange outer
+  pub middle_limits : IsRange middle
+  pub inner_limits : IsRange inner
+  pub small : IsSmall (last_of rank outer middle inner)

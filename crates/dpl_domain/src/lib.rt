@@ -1,0 +1,13 @@
+// Domains: products of one to three ranges, seen as the list of their index tuples row by row.
+#![tactic(auto)]
+
+mod product;
+mod tuple;
+mod walk;
+
+pub use product::{Domain, DomainFault, MOST_INDICES};
+pub use tuple::Index;
+pub use walk::Cursor;
+
+#[cfg(test)]
+mod tests;

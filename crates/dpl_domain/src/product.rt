@@ -1,0 +1,231 @@
+// A domain: the product of one to three ranges.
+
+ghost use Rattle.std.specs.Prelude.{All, ◌≢◌, ◌*◌, ◌≡◌, ◌≤◌, ◌<◌, ◌↔◌, ◌^◌, ℕ, pos, [], ◌∷◌, length, slice_get, Contains, IsTrue, IsOk, IfOk};
+ghost use Rattle.dpl_range.specs.Range.{members_of, IsRange};
+ghost use Rattle.dpl_domain.specs.Indices.{indices, IsRank, IsSmall};
+ghost use Rattle.dpl_domain.specs.Ranks.{last_of, point, IsPadded};
+ghost use Rattle.dpl_domain.specs.Slices.{IsSlice, AreSlices, AreBounds};
+
+use crate::{Cursor, Index};
+use dpl_range::Range;
+use std::marker::Model;
+use thiserror::Error;
+
+/// The most indices that a domain may have: 2^40.
+pub const MOST_INDICES: u64 = 1 << 40;
+
+/// Why something makes no domain.
+#[derive(Clone, Copy, Debug, PartialEq, Eq, Error)]
+pub enum DomainFault {
+    /// There are not one to three ranges, or not as many as the domain has dimensions.
+    #[error("a domain has one to three dimensions")]
+    Rank,
+    /// There would be more than 2^40 indices.
+    #[error("a domain has at most 2^40 indices")]
+    Size,
+    /// A domain to be expanded has a dimension whose stride is not 1.
+    #[error("only a domain of stride 1 can be expanded")]
+    Stride,
+    /// A moved bound lies outside -2^60..2^60.
+    #[error("a bound is outside -2^60..2^60")]
+    Bound,
+}
+
+/// A product of one to three ranges, seen as the list of these ranges; its indices are the tuples of their
+/// members, row by row with the last dimension fastest.
+#[derive(Clone, Copy, Debug, PartialEq, Eq)]
+pub struct Domain {
+    rank: u32,
+    outer: Range,
+    middle: Range,
+    inner: Range,
+}
+
+impl Model for Domain {
+    ghost use Rattle.std.specs.Prelude.{List};
+    ghost use Rattle.dpl_range.specs.Range.{RangeValue};
+
+    ghost Value = { List RangeValue };
+
+    ghost use Rattle.dpl_domain.specs.Ranks.{last_of, IsKept};
+    ghost use Rattle.dpl_domain.specs.Product.{domain_of, domain_of-last_of};
+
+    ghost view = { λ d. last_of d.rank d.outer d.middle d.inner };
+
+    ghost invariant = { λ d. IsKept d.rank d.outer d.middle d.inner };
+
+    ghost inverse = { domain_of };
+
+    ghost inverse_ok = { domain_of-last_of };
+}
+
+impl Domain {
+    /// The domain with these ranges, if there are one to three of them with at most 2^40 tuples.
+    pub fn new(ranges: &[Range]) -> Result<Domain, DomainFault>
+        ensures ok { IsOk result ↔ (IsRank ranges.now × IsSmall ranges.now) }
+        ensures held { IfOk result (λ d. d ≡ ranges.now) }
+        ensures rank { (result ≡ Err DomainFault.Rank) ↔ (¬ IsRank ranges.now) }
+        ensures size { (result ≡ Err DomainFault.Size) ↔ (IsRank ranges.now × ¬ IsSmall ranges.now) }
+    {
+        let unused = unused();
+        match ranges {
+            [inner] => Domain::checked(1, unused, unused, *inner),
+            [middle, inner] => Domain::checked(2, unused, *middle, *inner),
+            [outer, middle, inner] => Domain::checked(3, *outer, *middle, *inner),
+            _ => Err(DomainFault::Rank),
+        }
+    }
+
+    // The last `rank` of three ranges as a domain, if they have at most 2^40 tuples.
+    fn checked(rank: u32, outer: Range, middle: Range, inner: Range) -> Result<Domain, DomainFault>
+        requires { IsPadded point rank outer middle }
+        ensures ok { IsOk result ↔ IsSmall (last_of rank outer middle inner) }
+        ensures held { IfOk result (λ d. d ≡ last_of rank outer middle inner) }
+        ensures size { (result ≡ Err DomainFault.Size) ↔ (¬ IsSmall (last_of rank outer middle inner)) }
+    {
+        if MOST_INDICES < tuples(&outer, &middle, &inner) {
+            return Err(DomainFault::Size);
+        }
+        Ok(Domain {
+            rank,
+            outer,
+            middle,
+            inner,
+        })
+    }
+
+    /// How many dimensions the domain has.
+    pub fn rank(&self) -> u32
+        ensures rank { result ≡ length self.now }
+        ensures limits { IsRank self.now }
+    {
+        self.rank
+    }
+
+    /// The range of dimension `d`, counted from 0, if there is one.
+    pub fn dim(&self, d: u32) -> Option<Range>
+        ensures { result ≡ slice_get self.now d }
+    {
+        if self.rank <= d {
+            return None;
+        }
+        Some(match self.rank - d {
+            1 => self.inner,
+            2 => self.middle,
+            _ => self.outer,
+        })
+    }
+
+    /// How many indices the domain has.
+    pub fn size(&self) -> u64
+        ensures size { result ≡ length (indices self.now) }
+        ensures small { IsSmall self.now }
+    {
+        tuples(&self.outer, &self.middle, &self.inner)
+    }
+
+    /// The index at place `k`, counted from 0, if there are that many.
+    pub fn nth(&self, k: u64) -> Option<Index>
+        ensures { result ≡ slice_get (indices self.now) k }
+    {
+        let line = self.inner.size();
+        let lines = self.middle.size();
+        if line == 0 || lines == 0 {
+            return None;
+        }
+        let row = k / line;
+        let outer = self.outer.nth(row / lines)?;
+        let middle = self.middle.nth(row % lines)?;
+        let inner = self.inner.nth(k % line)?;
+        Some(Index::padded(self.rank, outer, middle, inner))
+    }
+
+    /// The place of `index`, counted from 0, if it is an index of the domain.
+    pub fn place(&self, index: Index) -> Option<u64>
+        ensures { (k : ℕ) → (result ≡ Some k) ↔ (slice_get (indices self.now) k ≡ Some index) }
+    {
+        if index.rank() != self.rank {
+            return None;
+        }
+        let (outer, middle, inner) = index.numbers();
+        let outer = self.outer.place(outer)?;
+        let middle = self.middle.place(middle)?;
+        let inner = self.inner.place(inner)?;
+        Some((outer * self.middle.size() + middle) * self.inner.size() + inner)
+    }
+
+    /// Whether `index` is an index of the domain.
+    pub fn contains(&self, index: Index) -> bool
+        ensures { IsTrue result ↔ Contains (indices self.now) index }
+    {
+        self.place(index).is_some()
+    }
+
+    /// A walk over the indices, one after another.
+    pub fn cursor(&self) -> Cursor
+        ensures { result ≡ indices self.now }
+    {
+        Cursor::over(self.rank, &self.outer, &self.middle, &self.inner)
+    }
+
+    /// The domain whose dimensions are those of this one, each sliced between its own low and high bound.
+    pub fn slice(&self, bounds: &[(i64, i64)]) -> Result<Domain, DomainFault>
+        requires { All AreBounds bounds.now }
+        ensures ok { IsOk result ↔ (length bounds.now ≡ length self.now) }
+        ensures slices { IfOk result (AreSlices self.now bounds.now) }
+        ensures rank { (result ≡ Err DomainFault.Rank) ↔ (length bounds.now ≢ length self.now) }
+    {
+        if bounds.len() != self.rank as usize {
+            return Err(DomainFault::Rank);
+        }
+        let (outer, middle, inner) = (self.outer, self.middle, self.inner);
+        match bounds {
+            [last] => Domain::checked(1, outer, middle, sliced(&inner, *last)),
+            [second, last] => Domain::checked(
+                2,
+                outer,
+                sliced(&middle, *second),
+                sliced(&inner, *last),
+            ),
+            [first, second, last] => {
+                Domain::checked(
+                    3,
+                    sliced(&outer, *first),
+                    sliced(&middle, *second),
+                    sliced(&inner, *last),
+                )
+            }
+            _ => Err(DomainFault::Rank),
+        }
+    }
+}
+
+// The slice of a range between two bounds.
+fn sliced(range: &Range, bounds: (i64, i64)) -> Range
+    requires { AreBounds bounds }
+    ensures slice { IsSlice range.now bounds.0 bounds.1 result }
+    ensures fewer { length (members_of result) ≤ length (members_of range.now) }
+{
+    range.slice(bounds.0, bounds.1)
+}
+
+// How many tuples three ranges have, or 2^64 - 1 where there are more.
+fn tuples(outer: &Range, middle: &Range, inner: &Range) -> u64
+    ensures exact { length (members_of outer.now) * length (members_of middle.now) * length (members_of inner.now) ≤ 2 ^ 40 → result ≡ length (members_of outer.now) * length (members_of middle.now) * length (members_of inner.now) }
+    ensures more { 2 ^ 40 < length (members_of outer.now) * length (members_of middle.now) * length (members_of inner.now) → 2 ^ 40 < result }
+    ensures outer_limits { IsRange outer.now }
+    ensures middle_limits { IsRange middle.now }
+    ensures inner_limits { IsRange inner.now }
+{
+    outer
+        .size()
+        .saturating_mul(middle.size())
+        .saturating_mul(inner.size())
+}
+
+// What stands in the place of a range that a domain does not have.
+fn unused() -> Range
+    ensures { result ≡ point }
+{
+    Range::new(0, 0, 1).unwrap()
+}
