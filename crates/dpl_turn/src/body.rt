@@ -7,8 +7,8 @@ ghost use Rattle.dpl_meaning.specs.Slots.{by_slot};
 ghost use Rattle.dpl_syntax.specs.View.{bound, stmt_view};
 ghost use Rattle.dpl_turn.specs.Frames.{IsTurnBody, TurnEnds};
 
-use crate::frame::Frame;
 use crate::expression::value;
+use crate::frame::Frame;
 use dpl_syntax::Fault;
 use dpl_syntax::tree::Stmt;
 
@@ -26,7 +26,12 @@ pub fn turn(body: &Stmt, frame: &mut Frame) -> Result<(), Fault>
     ensures locales { frame.new.locales ≡ frame.old.locales }
 {
     match body {
-        Stmt::Assign { name, op, value: right, .. } => {
+        Stmt::Assign {
+            name,
+            op,
+            value: right,
+            ..
+        } => {
             let v = value(right, frame)?;
             let old = frame.get(name.slot);
             frame.set(name.slot, op.apply(old, v));
