@@ -1,6 +1,6 @@
 -- Lists whose elements are bound to slots one by one.
 -- What each element became is known, so what the list became is.
-use Rattle.std.proofs.Common.{◌≡◌, ◌≢◌, ℕ, zero, suc, ◌+◌, ◌<◌, ◌≤◌, List, [], ◌∷◌, length, get_or, set, map, refl, sym, ap, ◌∙◌, subst, arith, ⊎_elim, get_or-set_same, get_or-set_other, Vec, Global, Box}
+use Rattle.std.proofs.Common.{◌≡◌, ℕ, zero, suc, ◌+◌, ◌<◌, List, [], ◌∷◌, length, get_or, set, map, refl, sym, ap, ◌∙◌, subst, arith, ⊎_elim, get_or-set_same, get_or-set_other, Vec, Global, Box}
 use Rattle.std.proofs.lemmas.Bool.Decides.{eqb_tells}
 use Rattle.dpl_syntax.specs.declared.tree.Link.{Link as LinkNode}
 use Rattle.dpl_syntax.specs.declared.tree.Expr.{Expr, Chain as ChainNode}
@@ -43,9 +43,9 @@ links_of-each f (x ∷ xs) (y ∷ ys) len each =
 pub each-set : {A : Type 0} (P : ℕ → A → Type 0) (xs : List A) (i : ℕ) (x : A) → i < length xs → ((k : ℕ) (d : A) → k < i → P k (get_or xs k d)) → P i x → (k : ℕ) (d : A) → k < i + 1 → P k (get_or (set xs i x) k d)
 each-set P xs i x within before here k d lt =
     ⊎_elim
-      (λ at. subst (λ j. P j (get_or (set xs i x) j d)) (sym at.1) (subst (P i) (sym (get_or-set_same xs i x d within)) here))
-      (λ ne. subst (P k) (sym (get_or-set_other xs i k x d ne.1)) (before k d (omega (arith, ne.1))))
-      (eqb_tells k i)
+    (λ at. subst (λ j. P j (get_or (set xs i x) j d)) (sym at.1) (subst (P i) (sym (get_or-set_same xs i x d within)) here))
+    (λ ne. subst (P k) (sym (get_or-set_other xs i k x d ne.1)) (before k d (omega (arith, ne.1))))
+    (eqb_tells k i)
 
 -- a chain whose first operand and links are bound
 pub expr_view-bound_chain : (f : List ℕ → Bound) (e : Expr) (b b2 : Box Expr Global) (v v2 : Vec LinkNode Global) → e ≡ ChainNode b v

@@ -1,11 +1,10 @@
 -- A tree without a breach, before and after its names are bound.
 -- It is good, its slots resolve it, and it spells what it spelled.
-use Rattle.std.proofs.Common.{◌≡◌, ℕ, ◌+◌, List, [], ◌∷◌, length, refl, sym, ap, ◌∙◌, subst, map, Option, Some, None, Vec, Global, take, drop, ◌++◌}
+use Rattle.std.proofs.Common.{◌≡◌, ℕ, ◌+◌, List, [], ◌∷◌, length, refl, sym, ap, ◌∙◌, subst, map, Some, None, Vec, Global, take, drop, ◌++◌}
 use Rattle.std.specs.Prelude.{if◌then◌else◌}
 use Rattle.std.specs.Vec.{with_items}
 use Rattle.std.proofs.Math.Seq.{take-append_seam}
 use Rattle.dpl_syntax.specs.declared.tree.Stmt.{Stmt}
-use Rattle.dpl_syntax.specs.declared.tree.Tree.{Tree}
 use Rattle.dpl_syntax.specs.declared.place.Place.{Place}
 use Rattle.dpl_syntax.specs.Tree.{StmtTree}
 use Rattle.dpl_syntax.specs.View.{stmt_view, tree_view, spelled, bound}
@@ -35,7 +34,7 @@ pub none-good : (scope : Scope) (items all : List Stmt) → scope ≡ [] → ite
     → AreSound [] (map (stmt_view spelled) all) × AreAdmitted (map (stmt_view spelled) all)
 none-good scope items all empty same none =
     stmts-sound [] (map (stmt_view spelled) all)
-      (first_from-none _ (sym (ap (λ s. first_from None (stmts_breaches s (map (stmt_view spelled) items))) empty ∙ ap (λ ts. first_from None (stmts_breaches [] (map (stmt_view spelled) ts))) same) ∙ none))
+    (first_from-none _ (sym (ap (λ s. first_from None (stmts_breaches s (map (stmt_view spelled) items))) empty ∙ ap (λ ts. first_from None (stmts_breaches [] (map (stmt_view spelled) ts))) same) ∙ none))
 
 pub good-none : (scope : Scope) (items all : List Stmt) → scope ≡ [] → items ≡ all → AreSound [] (map (stmt_view spelled) all) → AreAdmitted (map (stmt_view spelled) all)
     → first_from None (stmts_breaches scope (map (stmt_view spelled) items)) ≡ None
@@ -73,9 +72,9 @@ module _ (stmts : Vec Stmt Global) (scope final : Scope) (read lent new : List S
   pub bound-resolved : (slots : ℕ) → slots ≡ length final + 1 → fits_all (resolving slots) (map (stmt_view bound) (with_items stmts new).items) ([] ∷ [])
   bound-resolved slots count =
       let fit : fits_all (resolving (length final + 1)) (map (bound_stmt final) spelling) ([] ∷ []) =
-          subst (λ scope. fits_all (resolving (length scope + 1)) (map (bound_stmt scope) spelling) ([] ∷ [])) (sym final_is) (sound-resolved spelling good.0) in
+      subst (λ scope. fits_all (resolving (length scope + 1)) (map (bound_stmt scope) spelling) ([] ∷ [])) (sym final_is) (sound-resolved spelling good.0) in
       subst (λ n. fits_all (resolving n) (map (stmt_view bound) (with_items stmts new).items) ([] ∷ [])) (sym count)
-        (subst (λ ts. fits_all (resolving (length final + 1)) ts ([] ∷ [])) (sym (ap (map (stmt_view bound)) (items-with_items stmts new len) ∙ new_is)) fit)
+      (subst (λ ts. fits_all (resolving (length final + 1)) ts ([] ∷ [])) (sym (ap (map (stmt_view bound)) (items-with_items stmts new len) ∙ new_is)) fit)
 
   pub bound-good : AreSound [] (map (stmt_view spelled) (with_items stmts new).items) × AreAdmitted (map (stmt_view spelled) (with_items stmts new).items)
   bound-good = subst (λ ts. AreSound [] ts × AreAdmitted ts) (sym spelled_again) good

@@ -1,6 +1,6 @@
 -- The first of breaches that are found part by part.
 -- Code that notes the breaches of one part and then those of the next has noted those of both.
-use Rattle.std.proofs.Common.{◌≡◌, List, [], ◌∷◌, ◌++◌, refl, sym, ap, ◌∙◌, Option}
+use Rattle.std.proofs.Common.{◌≡◌, List, [], ◌∷◌, ◌++◌, refl, ap, ◌∙◌, Option}
 use Rattle.dpl_syntax.specs.Tree.{Placed}
 use Rattle.dpl_check.specs.declared.breach.Breach.{Breach}
 use Rattle.dpl_check.specs.Breaches.{first_of, first_from, of_each}

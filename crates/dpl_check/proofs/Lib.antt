@@ -6,3 +6,4 @@ pub mod Passes
 pub mod Respelled
 pub mod Resolving
 pub mod Checks
+pub mod Worked

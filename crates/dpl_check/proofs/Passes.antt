@@ -3,11 +3,11 @@
 use Rattle.std.proofs.Common.{◌≡◌, ℕ, Bool, true, false, not, ◌&&◌, List, [], ◌∷◌, ◌++◌, refl, sym, ap, ◌∙◌, Option, Some, None}
 use Rattle.std.specs.Prelude.{if◌then◌else◌}
 use Rattle.dpl_syntax.specs.declared.operator.Assign.{Assign}
-use Rattle.dpl_syntax.specs.declared.refusal.Code.TheVariants.{UnknownName, NameTwice, ConstantWritten, OuterChanged, Unexpected}
-use Rattle.dpl_syntax.specs.Tree.{Placed, IntentTree, StmtTree, Declare, Assigned, Writeln, Forall, ProgramTree}
+use Rattle.dpl_syntax.specs.declared.refusal.Code.TheVariants.{UnknownName, NameTwice, ConstantWritten, OuterChanged}
+use Rattle.dpl_syntax.specs.Tree.{Placed, IntentTree, StmtTree, Declare, Assigned, Writeln, Forall}
 use Rattle.dpl_check.specs.declared.breach.Breach.{Breach}
 use Rattle.dpl_check.specs.Sights.{Scope, knows, has_constant, behind, Loop, is_variable, reduces, goes_on}
-use Rattle.dpl_check.specs.Breaches.{reads, all_reads, bounds_reads, initial_reads, breach_if, of_each, use_breaches, read_breaches, write_breaches, loop_write_breaches, intent_breaches, first_place, body_breaches, stmt_breaches, stmts_breaches}
+use Rattle.dpl_check.specs.Breaches.{reads, all_reads, bounds_reads, initial_reads, breach_if, of_each, use_breaches, read_breaches, write_breaches, loop_write_breaches, intent_breaches, body_breaches, stmt_breaches, stmts_breaches}
 use Rattle.dpl_check.specs.Sound.{Each, IsKnown, IsWritable, IsWritableIntent, Outside, IsSoundBody, IsSoundStmt, AreSound, IsAdmittedBody, IsAdmitted, AreAdmitted}
 use Rattle.dpl_check.proofs.Empty.{empty_left, empty_right, empty_both, breach_if-empty, breach_if-false, each-empty, empty-each}
 
@@ -73,15 +73,15 @@ loop_read-admitted : (scope : Scope) (loop : Loop) (x : Placed (List ℕ)) → r
 loop_read-admitted scope loop x e out =
     let left : read_outside scope loop x ≡ [] = sym (ap (λ t. if t then [] else read_outside scope loop x) out) ∙ e in
     and-left (knows scope x.name) (reduces (Some loop) x.name) (use-known scope x (empty_left (use_breaches scope x) _ left))
-      (breach_if-empty (knows scope x.name && reduces (Some loop) x.name) x.at OuterChanged (empty_right (use_breaches scope x) _ left))
+    (breach_if-empty (knows scope x.name && reduces (Some loop) x.name) x.at OuterChanged (empty_right (use_breaches scope x) _ left))
 
 admitted-loop_read : (scope : Scope) (loop : Loop) (x : Placed (List ℕ)) → Outside loop x (IsKnown scope x) × Outside loop x (reduces (Some loop) x.name ≡ false) → read_breaches scope (Some loop) x ≡ []
 admitted-loop_read scope loop x all =
-    (elim (is_variable (Some loop) x.name) as (λ t. (t ≡ false → IsKnown scope x) → (t ≡ false → reduces (Some loop) x.name ≡ false) → (if t then [] else read_outside scope loop x) ≡ [])
-      [ true ↦ λ k r. refl
+    (elim (is_variable (Some loop) x.name) as (λ t. (t ≡ false → IsKnown scope x) → (t ≡ false → reduces (Some loop) x.name ≡ false) → (if t then [] else read_outside scope loop x) ≡ []) [
+      | true ↦ λ k r. refl
       | false ↦ λ k r. empty_both (use_breaches scope x) _ (known-use scope x (k refl))
           (breach_if-false (knows scope x.name && reduces (Some loop) x.name) x.at OuterChanged (and-false_right (knows scope x.name) (reduces (Some loop) x.name) (r refl)))
-      ]) all.0 all.1
+    ]) all.0 all.1
 
 abbrev write_outside : Scope → Loop → Placed (List ℕ) → Assign → List Breach
 write_outside scope loop x op = write_breaches scope x ++ breach_if (knows scope x.name && not (reduces (Some loop) x.name && goes_on loop.intent op)) x.at OuterChanged
@@ -89,7 +89,7 @@ write_outside scope loop x op = write_breaches scope x ++ breach_if (knows scope
 pub loop_write-outside : (scope : Scope) (loop : Loop) (x : Placed (List ℕ)) (op : Assign) → loop_write_breaches scope loop x op ≡ [] → is_variable (Some loop) x.name ≡ false
 loop_write-outside scope loop x op =
     elim (is_variable (Some loop) x.name) as (λ t. (if t then breach_if true x.at ConstantWritten else write_outside scope loop x op) ≡ [] → t ≡ false)
-      [ true ↦ λ e. cc | false ↦ λ e. refl ]
+    [ true ↦ λ e. cc | false ↦ λ e. refl ]
 
 loop_write-left : (scope : Scope) (loop : Loop) (x : Placed (List ℕ)) (op : Assign) → loop_write_breaches scope loop x op ≡ [] → write_outside scope loop x op ≡ []
 loop_write-left scope loop x op e =
@@ -102,15 +102,15 @@ loop_write-admitted : (scope : Scope) (loop : Loop) (x : Placed (List ℕ)) (op 
 loop_write-admitted scope loop x op e =
     let none = breach_if-empty (knows scope x.name && not (reduces (Some loop) x.name && goes_on loop.intent op)) x.at OuterChanged (empty_right (write_breaches scope x) _ (loop_write-left scope loop x op e)) in
     and-both (reduces (Some loop) x.name) (goes_on loop.intent op)
-      (not-false (reduces (Some loop) x.name && goes_on loop.intent op) (and-left (knows scope x.name) _ (loop_write-writable scope loop x op e).0 none))
+    (not-false (reduces (Some loop) x.name && goes_on loop.intent op) (and-left (knows scope x.name) _ (loop_write-writable scope loop x op e).0 none))
 
 admitted-loop_write : (scope : Scope) (loop : Loop) (x : Placed (List ℕ)) (op : Assign) → is_variable (Some loop) x.name ≡ false → IsWritable scope x
     → (reduces (Some loop) x.name ≡ true) × (goes_on loop.intent op ≡ true) → loop_write_breaches scope loop x op ≡ []
 admitted-loop_write scope loop x op out w a =
     ap (λ t. if t then breach_if true x.at ConstantWritten else write_outside scope loop x op) out
     ∙ empty_both (write_breaches scope x) _ (writable-write scope x w)
-        (breach_if-false (knows scope x.name && not (reduces (Some loop) x.name && goes_on loop.intent op)) x.at OuterChanged
-          (and-false_right (knows scope x.name) _ (not-true _ (both-and (reduces (Some loop) x.name) (goes_on loop.intent op) a.0 a.1))))
+    (breach_if-false (knows scope x.name && not (reduces (Some loop) x.name && goes_on loop.intent op)) x.at OuterChanged
+    (and-false_right (knows scope x.name) _ (not-true _ (both-and (reduces (Some loop) x.name) (goes_on loop.intent op) a.0 a.1))))
 
 -- ---- an intent, a body, a statement, all of them
 intent-writable : (scope : Scope) (i : Option (IntentTree (List ℕ))) → intent_breaches scope i ≡ [] → IsWritableIntent scope i
@@ -124,9 +124,10 @@ writable-intent scope (Some i) w = writable-write scope i.name w
 body-sound : (scope : Scope) (loop : Loop) (t : StmtTree (List ℕ)) → body_breaches scope loop t ≡ [] → IsSoundBody scope loop t × IsAdmittedBody loop t
 body-sound scope loop (Assigned x at op e semicolon) none =
     let w = empty_left (loop_write_breaches scope loop x op) _ none in
-    let r = empty_right (loop_write_breaches scope loop x op) _ none in
-    ((loop_write-outside scope loop x op w, loop_write-writable scope loop x op w, each-empty (read_breaches scope (Some loop)) _ (loop_read-known scope loop) (reads e) r),
-     (λ out. loop_write-admitted scope loop x op w, each-empty (read_breaches scope (Some loop)) _ (loop_read-admitted scope loop) (reads e) r))
+    let r = empty_right (loop_write_breaches scope loop x op) _ none in (
+      (loop_write-outside scope loop x op w, loop_write-writable scope loop x op w, each-empty (read_breaches scope (Some loop)) _ (loop_read-known scope loop) (reads e) r),
+      (λ out. loop_write-admitted scope loop x op w, each-empty (read_breaches scope (Some loop)) _ (loop_read-admitted scope loop) (reads e) r),
+    )
 body-sound scope loop (Declare at constant x declares initial semicolon) none = absurd (cc)
 body-sound scope loop (Writeln at from arguments commas upto semicolon) none = absurd (cc)
 body-sound scope loop (Forall at x within r intent doing body) none = absurd (cc)
@@ -138,16 +139,20 @@ each-both P Q (x ∷ xs) p q = ((p.0, q.0), each-both P Q xs p.1 q.1)
 sound-body : (scope : Scope) (loop : Loop) (t : StmtTree (List ℕ)) → IsSoundBody scope loop t → IsAdmittedBody loop t → body_breaches scope loop t ≡ []
 sound-body scope loop (Assigned x at op e semicolon) s a =
     empty_both (loop_write_breaches scope loop x op) _ (admitted-loop_write scope loop x op s.0 s.1 (a.0 s.0))
-      (empty-each (read_breaches scope (Some loop)) _ (admitted-loop_read scope loop) (reads e)
-        (each-both (λ y. Outside loop y (IsKnown scope y)) (λ y. Outside loop y (reduces (Some loop) y.name ≡ false)) (reads e) s.2 a.1))
+    (empty-each (read_breaches scope (Some loop)) _ (admitted-loop_read scope loop) (reads e)
+    (each-both (λ y. Outside loop y (IsKnown scope y)) (λ y. Outside loop y (reduces (Some loop) y.name ≡ false)) (reads e) s.2 a.1))
 sound-body scope loop (Declare at constant x declares initial semicolon) s a = absurd s
 sound-body scope loop (Writeln at from arguments commas upto semicolon) s a = absurd s
 sound-body scope loop (Forall at x within r intent doing body) s a = absurd s
 
 pub stmt-sound : (scope : Scope) (t : StmtTree (List ℕ)) → stmt_breaches scope t ≡ [] → IsSoundStmt scope t × IsAdmitted t
-stmt-sound scope (Declare at constant x declares initial semicolon) none =
-    ((breach_if-empty (knows scope x.name) x.at NameTwice (empty_left (breach_if (knows scope x.name) x.at NameTwice) _ none),
-      each-empty (read_breaches scope None) _ (read-known scope) (initial_reads initial) (empty_right (breach_if (knows scope x.name) x.at NameTwice) _ none)), tt)
+stmt-sound scope (Declare at constant x declares initial semicolon) none = (
+  (
+    breach_if-empty (knows scope x.name) x.at NameTwice (empty_left (breach_if (knows scope x.name) x.at NameTwice) _ none),
+    each-empty (read_breaches scope None) _ (read-known scope) (initial_reads initial) (empty_right (breach_if (knows scope x.name) x.at NameTwice) _ none),
+  ),
+  tt,
+)
 stmt-sound scope (Assigned x at op e semicolon) none =
     ((write-writable scope x (empty_left (write_breaches scope x) _ none), each-empty (read_breaches scope None) _ (read-known scope) (reads e) (empty_right (write_breaches scope x) _ none)), tt)
 stmt-sound scope (Writeln at from arguments commas upto semicolon) none = (each-empty (read_breaches scope None) _ (read-known scope) (all_reads arguments) none, tt)
@@ -165,7 +170,7 @@ sound-stmt scope (Assigned x at op e semicolon) s a =
 sound-stmt scope (Writeln at from arguments commas upto semicolon) s a = empty-each (read_breaches scope None) _ (known-read scope) (all_reads arguments) s
 sound-stmt scope (Forall at x within r intent doing body) s a =
     empty_both (of_each (read_breaches scope None) (bounds_reads r)) _ (empty-each (read_breaches scope None) _ (known-read scope) (bounds_reads r) s.0)
-      (empty_both (intent_breaches scope intent) _ (writable-intent scope intent s.1) (sound-body scope (record { variable = x.name; intent = intent }) body s.2 a))
+    (empty_both (intent_breaches scope intent) _ (writable-intent scope intent s.1) (sound-body scope (record { variable = x.name; intent = intent }) body s.2 a))
 
 pub stmts-sound : (scope : Scope) (ts : List (StmtTree (List ℕ))) → stmts_breaches scope ts ≡ [] → AreSound scope ts × AreAdmitted ts
 stmts-sound scope [] none = (tt, tt)

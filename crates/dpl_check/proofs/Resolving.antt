@@ -1,17 +1,16 @@
 -- Where a program is sound, the slots that the check gives resolve its names.
 -- What is in sight at the top level is the scope, each name numbered by its place.
-use Rattle.std.proofs.Common.{◌≡◌, ◌≢◌, ℕ, zero, suc, ◌+◌, ◌<◌, ◌≤◌, Bool, true, false, List, [], ◌∷◌, ◌++◌, length, refl, sym, ap, ◌∙◌, subst, arith, map, Option, Some, None, append_assoc, append-nil, length-append, zero-add}
+use Rattle.std.proofs.Common.{◌≡◌, ℕ, suc, ◌+◌, ◌≤◌, Bool, true, false, List, [], ◌∷◌, ◌++◌, length, refl, sym, ap, ◌∙◌, subst, arith, map, Option, Some, None, append_assoc, append-nil, length-append, zero-add}
 use Rattle.std.proofs.lemmas.Cmp.{nat_list_eq_equiv}
 use Rattle.std.specs.Prelude.{bytes_eq, if◌then◌else◌}
 use Rattle.dpl_syntax.specs.Tree.{Bound, Placed, BoundsTree, StrideTree, InitialTree, IntentTree, ExprTree, Number, Named, Bracketed, Prefixed, Chain, Links, NoLinks, Link, StmtTree, Declare, Assigned, Writeln, Forall}
 use Rattle.dpl_meaning.specs.Renamed.{renamed_expr, renamed_links, renamed_stride, renamed_bounds, renamed_initial, renamed_intent, renamed_stmt}
-use Rattle.dpl_meaning.specs.Scopes.{fits_expr, fits_links, fits_each, fits_stride, fits_bounds, fits_initial, fits_intent, fits, fits_all, after, after_all, inside}
-use Rattle.dpl_meaning.specs.Resolved.{Sight, slot_in, or_slot, slot_of, IsFreshIn, IsFresh, bind, resolving}
-use Rattle.dpl_check.specs.Sights.{Scope, knows, behind, behind_all, declared, Loop, is_variable}
+use Rattle.dpl_meaning.specs.Scopes.{fits_expr, fits_links, fits_each, fits_stride, fits_bounds, fits_initial, fits_intent, fits, fits_all, after}
+use Rattle.dpl_meaning.specs.Resolved.{Sight, slot_in, or_slot, slot_of, IsFreshIn, resolving}
+use Rattle.dpl_check.specs.Sights.{Scope, knows, behind, behind_all, declared, Loop}
 use Rattle.dpl_check.specs.Breaches.{reads, link_reads, all_reads, stride_reads, bounds_reads, initial_reads}
-use Rattle.dpl_check.specs.Sound.{Each, IsKnown, IsWritable, IsWritableIntent, Outside, IsSoundBody, IsSoundStmt, AreSound}
+use Rattle.dpl_check.specs.Sound.{Each, IsKnown, IsWritableIntent, Outside, IsSoundBody, IsSoundStmt, AreSound}
 use Rattle.dpl_check.specs.Slots.{place_in, top, in_loop, loop_variable, bound_stmt, IsBody, HasBody, HaveBodies}
-use Rattle.dpl_check.proofs.Lookups.{place_in-absent}
 
 abbrev numbered : ℕ → Scope → List Bound
 numbered k [] = []
@@ -22,7 +21,7 @@ knows-append : (scope rest : Scope) (x : List ℕ) → knows scope x ≡ true �
 knows-append [] rest x = λ e. cc
 knows-append (d ∷ ds) rest x =
     elim (bytes_eq x d.0) as (λ t. (if t then true else knows ds x) ≡ true → (if t then 0 else suc (place_in (ds ++ rest) x)) ≡ (if t then 0 else suc (place_in ds x)))
-      [ true ↦ λ e. refl | false ↦ λ e. ap suc (knows-append ds rest x e) ]
+    [ true ↦ λ e. refl | false ↦ λ e. ap suc (knows-append ds rest x e) ]
 
 bytes_eq-refl : (x : List ℕ) → bytes_eq x x ≡ true
 bytes_eq-refl x = nat_list_eq_equiv.refl x
@@ -32,7 +31,7 @@ place_in-declared : (scope rest : Scope) (x : List ℕ) (constant : Bool) → kn
 place_in-declared [] rest x constant = λ e. ap (λ t. if t then 0 else suc (place_in rest x)) (bytes_eq-refl x)
 place_in-declared (d ∷ ds) rest x constant =
     elim (bytes_eq x d.0) as (λ t. (if t then true else knows ds x) ≡ false → (if t then 0 else suc (place_in ((ds ++ (x, constant) ∷ []) ++ rest) x)) ≡ suc (length ds))
-      [ true ↦ λ e. cc | false ↦ λ e. ap suc (place_in-declared ds rest x constant e) ]
+    [ true ↦ λ e. cc | false ↦ λ e. ap suc (place_in-declared ds rest x constant e) ]
 
 -- ---- what is in sight
 slot_in-numbered : (k : ℕ) (scope : Scope) (x : List ℕ) → knows scope x ≡ true → slot_in x (numbered k scope) ≡ Some (k + place_in scope x)
@@ -41,7 +40,7 @@ slot_in-numbered k (d ∷ ds) x =
     let here : k ≡ k + 0 = omega arith in
     let there : suc k + place_in ds x ≡ k + suc (place_in ds x) = omega arith in
     elim (bytes_eq x d.0) as (λ t. (if t then true else knows ds x) ≡ true → (if t then Some k else slot_in x (numbered (suc k) ds)) ≡ Some (k + (if t then 0 else suc (place_in ds x))))
-      [ true ↦ λ e. ap (λ n. Some n) here | false ↦ λ e. slot_in-numbered (suc k) ds x e ∙ ap (λ n. Some n) there ]
+    [ true ↦ λ e. ap (λ n. Some n) here | false ↦ λ e. slot_in-numbered (suc k) ds x e ∙ ap (λ n. Some n) there ]
 
 numbered-append : (k : ℕ) (scope : Scope) (x : List ℕ) (constant : Bool) → numbered k (scope ++ (x, constant) ∷ []) ≡ numbered k scope ++ record { text = x; slot = k + length scope } ∷ []
 numbered-append k [] x constant = let here : k ≡ k + 0 = omega arith in ap (λ n. record { text = x; slot = n } ∷ []) here
@@ -95,9 +94,11 @@ module _ (n : ℕ) (g : Sight) (f : List ℕ → Bound) (P : Placed (List ℕ) �
 
   bounds-fit : (r : BoundsTree (List ℕ)) → Each P (bounds_reads r) → fits_bounds (resolving n) (renamed_bounds f r) g
   bounds-fit r all =
-      let rest = each-right (reads r.low) (reads r.high ++ stride_reads r.by) all in
-      (expr-fits r.low (each-left (reads r.low) (reads r.high ++ stride_reads r.by) all), expr-fits r.high (each-left (reads r.high) (stride_reads r.by) rest),
-       stride-fits r.by (each-right (reads r.high) (stride_reads r.by) rest))
+      let rest = each-right (reads r.low) (reads r.high ++ stride_reads r.by) all in (
+        expr-fits r.low (each-left (reads r.low) (reads r.high ++ stride_reads r.by) all),
+        expr-fits r.high (each-left (reads r.high) (stride_reads r.by) rest),
+        stride-fits r.by (each-right (reads r.high) (stride_reads r.by) rest),
+      )
 
   initial-fits : (i : Option (InitialTree (List ℕ))) → Each P (initial_reads i) → fits_initial (resolving n) (renamed_initial f i) g
   initial-fits None all = tt
@@ -118,8 +119,8 @@ module _ (final : Scope) where
       → slot_of x.name (around scope loop.variable) ≡ Some (in_loop final loop.variable x.name).slot
   loop-stands scope rest loop is x k =
       (elim (bytes_eq x.name loop.variable) as (λ t. (t ≡ false → IsKnown scope x) →
-          or_slot (if t then Some (length final) else None) (slot_of x.name (sight scope)) ≡ Some (if t then length final else place_in final x.name))
-        [ true ↦ λ k. refl | false ↦ λ k. top-stands scope rest is x (k refl) ]) k
+      or_slot (if t then Some (length final) else None) (slot_of x.name (sight scope)) ≡ Some (if t then length final else place_in final x.name))
+      [ true ↦ λ k. refl | false ↦ λ k. top-stands scope rest is x (k refl) ]) k
 
   length-prefix : (scope rest : Scope) → final ≡ scope ++ rest → length scope ≤ length final
   length-prefix scope rest is = let len : length final ≡ length scope + length rest = ap length is ∙ length-append scope rest in omega (arith, len)
@@ -130,9 +131,10 @@ module _ (final : Scope) where
 
   body-fits : (scope rest : Scope) (loop : Loop) → final ≡ scope ++ rest → (t : StmtTree (List ℕ)) → IsSoundBody scope loop t
       → fits (resolving slots) (renamed_stmt (in_loop final loop.variable) t) (around scope loop.variable)
-  body-fits scope rest loop is (Assigned x at op e semicolon) s =
-      (expr-fits slots (around scope loop.variable) (in_loop final loop.variable) (λ y. Outside loop y (IsKnown scope y)) (loop-stands scope rest loop is) e s.2,
-       loop-stands scope rest loop is x (λ out. s.1.0))
+  body-fits scope rest loop is (Assigned x at op e semicolon) s = (
+    expr-fits slots (around scope loop.variable) (in_loop final loop.variable) (λ y. Outside loop y (IsKnown scope y)) (loop-stands scope rest loop is) e s.2,
+    loop-stands scope rest loop is x (λ out. s.1.0),
+  )
   body-fits scope rest loop is (Declare at constant x declares initial semicolon) s = absurd s
   body-fits scope rest loop is (Writeln at from arguments commas upto semicolon) s = absurd s
   body-fits scope rest loop is (Forall at x within r intent doing body) s = absurd s
@@ -144,18 +146,20 @@ module _ (final : Scope) where
       let whole : final ≡ (scope ++ (x.name, constant) ∷ []) ++ rest = is ∙ ap (λ d. d ++ rest) behind_is in
       let prefix : final ≡ scope ++ ((x.name, constant) ∷ [] ++ rest) = whole ∙ append_assoc scope ((x.name, constant) ∷ []) rest in
       let place : place_in final x.name ≡ length scope = ap (λ d. place_in d x.name) whole ∙ place_in-declared scope rest x.name constant s.0 in
-      let short : length scope ≤ length final = length-prefix scope _ prefix in
-      (initial-fits slots (sight scope) (top final) (IsKnown scope) (top-stands scope _ prefix) initial s.1,
-       ((IsFreshIn-numbered (place_in final x.name) 0 scope (omega (arith, place)), tt), omega (arith, place, short)))
+      let short : length scope ≤ length final = length-prefix scope _ prefix in (
+        initial-fits slots (sight scope) (top final) (IsKnown scope) (top-stands scope _ prefix) initial s.1,
+        ((IsFreshIn-numbered (place_in final x.name) 0 scope (omega (arith, place)), tt), omega (arith, place, short)),
+      )
   stmt-fits scope rest (Assigned x at op e semicolon) is s =
       (expr-fits slots (sight scope) (top final) (IsKnown scope) (top-stands scope rest is) e s.1, top-stands scope rest is x s.0.0)
   stmt-fits scope rest (Writeln at from arguments commas upto semicolon) is s = each-fits slots (sight scope) (top final) (IsKnown scope) (top-stands scope rest is) arguments s
   stmt-fits scope rest (Forall at x within r intent doing body) is s =
-      let short : length scope ≤ length final = length-prefix scope rest is in
-      (bounds-fit slots (sight scope) (top final) (IsKnown scope) (top-stands scope rest is) r s.0,
-       intent-fits scope rest is intent s.1,
-       ((tt, (IsFreshIn-numbered (length final) 0 scope (omega (arith, short)), tt)), omega arith),
-       body-fits scope rest (record { variable = x.name; intent = intent }) is body s.2)
+      let short : length scope ≤ length final = length-prefix scope rest is in (
+        bounds-fit slots (sight scope) (top final) (IsKnown scope) (top-stands scope rest is) r s.0,
+        intent-fits scope rest is intent s.1,
+        ((tt, (IsFreshIn-numbered (length final) 0 scope (omega (arith, short)), tt)), omega arith),
+        body-fits scope rest (record { variable = x.name; intent = intent }) is body s.2,
+      )
 
   -- what is in sight behind it
   after-sight : (scope rest : Scope) (t : StmtTree (List ℕ)) → final ≡ behind scope t ++ rest → IsSoundStmt scope t → after (resolving slots) (bound_stmt final t) (sight scope) ≡ sight (behind scope t)
@@ -173,7 +177,7 @@ module _ (final : Scope) where
   behind-prefix : (scope : Scope) (t : StmtTree (List ℕ)) → (rest : Scope) × (behind scope t ≡ scope ++ rest)
   behind-prefix scope (Declare at constant x declares initial semicolon) =
       elim (knows scope x.name) as (λ t. (rest : Scope) × ((if t then scope else scope ++ (x.name, constant) ∷ []) ≡ scope ++ rest))
-        [ true ↦ ([], sym (append-nil scope)) | false ↦ ((x.name, constant) ∷ [], refl) ]
+      [ true ↦ ([], sym (append-nil scope)) | false ↦ ((x.name, constant) ∷ [], refl) ]
   behind-prefix scope (Assigned x at op e semicolon) = ([], sym (append-nil scope))
   behind-prefix scope (Writeln at from arguments commas upto semicolon) = ([], sym (append-nil scope))
   behind-prefix scope (Forall at x within r intent doing body) = ([], sym (append-nil scope))
@@ -189,9 +193,10 @@ module _ (final : Scope) where
   stmts-fit scope [] is s = tt
   stmts-fit scope (t ∷ ts) is s =
       let more = behind_all-prefix (behind scope t) ts in
-      let whole : final ≡ behind scope t ++ more.0 = is ∙ more.1 in
-      (stmt-fits scope more.0 t whole s.0,
-       subst (λ g. fits_all (resolving slots) (map (bound_stmt final) ts) g) (sym (after-sight scope more.0 t whole s.0)) (stmts-fit (behind scope t) ts is s.1))
+      let whole : final ≡ behind scope t ++ more.0 = is ∙ more.1 in (
+        stmt-fits scope more.0 t whole s.0,
+        subst (λ g. fits_all (resolving slots) (map (bound_stmt final) ts) g) (sym (after-sight scope more.0 t whole s.0)) (stmts-fit (behind scope t) ts is s.1),
+      )
 
 -- the whole program, from no name
 pub sound-resolved : (ts : List (StmtTree (List ℕ))) → AreSound [] ts → fits_all (resolving (length (behind_all [] ts) + 1)) (map (bound_stmt (behind_all [] ts)) ts) ([] ∷ [])

@@ -1,6 +1,6 @@
 -- A tree with slots, without them again, is the tree that it was.
 -- A slot says nothing of what is spelled.
-use Rattle.std.proofs.Common.{◌≡◌, ℕ, List, [], ◌∷◌, refl, sym, ap, ◌∙◌, map, Option, Some, None}
+use Rattle.std.proofs.Common.{◌≡◌, ℕ, List, [], ◌∷◌, refl, ap, ◌∙◌, map, Option, Some, None}
 use Rattle.dpl_syntax.specs.Tree.{Bound, Placed, BoundsTree, StrideTree, InitialTree, IntentTree, ExprTree, Number, Named, Bracketed, Prefixed, Chain, Links, NoLinks, Link, StmtTree, Declare, Assigned, Writeln, Forall}
 use Rattle.dpl_meaning.specs.Renamed.{text_of_name, renamed, renamed_expr, renamed_links, renamed_stride, renamed_bounds, renamed_initial, renamed_intent, renamed_stmt}
 use Rattle.dpl_check.specs.Sights.{Scope}

@@ -4,8 +4,8 @@ use Rattle.std.specs.Prelude.{ℕ, Bool, true, false, bytes_eq, if◌then◌else
 use Rattle.dpl_syntax.specs.declared.operator.Op.{Op}
 use Rattle.dpl_syntax.specs.declared.operator.Op.TheVariants.{Add, Multiply}
 use Rattle.dpl_syntax.specs.declared.operator.Assign.{Assign}
-use Rattle.dpl_syntax.specs.declared.operator.Assign.TheVariants.{Set, Add as AddTo, Multiply as MultiplyBy}
-use Rattle.dpl_syntax.specs.Tree.{Placed, IntentTree, StmtTree, Declare}
+use Rattle.dpl_syntax.specs.declared.operator.Assign.TheVariants.{Add as AddTo, Multiply as MultiplyBy}
+use Rattle.dpl_syntax.specs.Tree.{IntentTree, StmtTree, Declare}
 
 -- the names that are declared so far, in order, each once; true where it is a constant
 abbrev pub Scope : Type 0

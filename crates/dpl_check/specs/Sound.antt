@@ -1,7 +1,6 @@
 -- What a program owes: each name is known where it is used and declared once, no constant is written, and its foralls are admitted.
 -- A forall that is admitted gives the same in whatever order its turns are made.
-use Rattle.std.specs.Prelude.{◌≡◌, ℕ, Bool, true, false, List, [], ◌∷◌, Option, Some, None}
-use Rattle.dpl_syntax.specs.declared.operator.Assign.{Assign}
+use Rattle.std.specs.Prelude.{◌≡◌, ℕ, true, false, List, [], ◌∷◌, Option, Some, None}
 use Rattle.dpl_syntax.specs.Tree.{Placed, IntentTree, StmtTree, Declare, Assigned, Writeln, Forall, ProgramTree}
 use Rattle.dpl_check.specs.Sights.{Scope, knows, has_constant, behind, Loop, is_variable, reduces, goes_on}
 use Rattle.dpl_check.specs.Breaches.{reads, all_reads, bounds_reads, initial_reads}

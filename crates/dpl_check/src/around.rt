@@ -52,5 +52,8 @@ pub(crate) fn goes_on(intent: &Option<Intent>, op: Assign) -> bool
 fn goes_on_by(op: Op, assign: Assign) -> bool
     ensures { result ≡ goes_on_by op assign }
 {
-    matches!((op, assign), (Op::Add, Assign::Add) | (Op::Multiply, Assign::Multiply))
+    matches!(
+        (op, assign),
+        (Op::Add, Assign::Add) | (Op::Multiply, Assign::Multiply)
+    )
 }

@@ -116,7 +116,13 @@ fn bind_stmt(stmt: &mut Stmt, names: &Names)
             bind(value, names, None);
         }
         Stmt::Writeln { arguments, .. } => bind_all(arguments, names),
-        Stmt::Forall { variable, over, intent, body, .. } => {
+        Stmt::Forall {
+            variable,
+            over,
+            intent,
+            body,
+            ..
+        } => {
             variable.slot = names.len();
             bind_bounds(over, names);
             bind_intent(intent, names);

@@ -13,6 +13,7 @@ pub struct Checked {
 
 impl Model for Checked {
     ghost use Rattle.dpl_syntax.specs.declared.tree.Tree.{Tree};
+
     ghost Value = { Tree };
 
     ghost use Rattle.dpl_syntax.specs.contracts.tree.Stmt as stmt;

@@ -11,7 +11,8 @@ use dpl_syntax::{Code, Place, Refusal};
 fn is_before(a: Breach, b: Breach) -> bool
     ensures { result ≡ before a b }
 {
-    place_before(a.at, b.at) || (a.at.line == b.at.line && a.at.column == b.at.column && rank(a.code) < rank(b.code))
+    place_before(a.at, b.at)
+        || (a.at.line == b.at.line && a.at.column == b.at.column && rank(a.code) < rank(b.code))
 }
 
 /// Notes one more breach.

@@ -17,17 +17,16 @@ mod names;
 mod search;
 pub mod stop;
 
+use bind::bind_stmts;
 pub use breach::Breach;
 pub use checked::Checked;
-pub use stop::CheckStop;
-
-use bind::bind_stmts;
 use dpl_syntax::tree::Tree;
 use dpl_syntax::{Code, Refusal};
 use first::refusal;
 use names::Names;
 use search::first_breach;
 use std::alloc::Global;
+pub use stop::CheckStop;
 
 /// Checks a program, and gives its names their slots. The sets are values that are given to config consts.
 ///

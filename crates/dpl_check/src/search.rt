@@ -101,7 +101,13 @@ fn name_intent(intent: &Option<Intent>, names: &Names, first: &mut Option<Breach
 
 // A name that a forall's body writes.
 #[tactic(auto, using(crate::proofs::FirstOf::first_from_append, crate::proofs::FirstOf::first_from_of_each))]
-fn write_in_loop(name: &Name, op: Assign, names: &Names, forall: Around<'_>, first: &mut Option<Breach>)
+fn write_in_loop(
+    name: &Name,
+    op: Assign,
+    names: &Names,
+    forall: Around<'_>,
+    first: &mut Option<Breach>,
+)
     ensures { first.new ≡ first_from first.old (loop_write_breaches names.now (loop_view forall.entry) (placed spelled name.now) op) }
 {
     if is_variable(Some(forall), &name.text) {
@@ -121,7 +127,12 @@ fn body(stmt: &Stmt, names: &Names, forall: Around<'_>, first: &mut Option<Breac
     ensures { first.new ≡ first_from first.old (body_breaches names.now (loop_view forall.entry) (stmt_view spelled stmt.now)) }
 {
     match stmt {
-        Stmt::Assign { name, op, value, .. } => {
+        Stmt::Assign {
+            name,
+            op,
+            value,
+            ..
+        } => {
             write_in_loop(name, *op, names, forall, first);
             read(value, names, Some(forall), first);
         }
@@ -153,10 +164,24 @@ fn statement(stmt: &Stmt, names: &Names, first: &mut Option<Breach>)
             read(value, names, None, first);
         }
         Stmt::Writeln { arguments, .. } => read_all(arguments, names, first),
-        Stmt::Forall { variable, over, intent, body: stmt, .. } => {
+        Stmt::Forall {
+            variable,
+            over,
+            intent,
+            body: stmt,
+            ..
+        } => {
             read_bounds(over, names, first);
             name_intent(intent, names, first);
-            body(stmt, names, Around { variable: &variable.text, intent }, first);
+            body(
+                stmt,
+                names,
+                Around {
+                    variable: &variable.text,
+                    intent,
+                },
+                first,
+            );
         }
     }
 }

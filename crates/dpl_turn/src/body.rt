@@ -1,14 +1,14 @@
 // A turn of a forall's body.
 // It changes the slots of the frame alone, and prints nothing.
 
-ghost use Rattle.std.specs.Prelude.{◌≡◌, ℕ, List};
+ghost use Rattle.std.specs.Prelude.{◌≡◌, ℕ, List, OnErr};
 ghost use Rattle.dpl_meaning.specs.Meaning.{exec};
 ghost use Rattle.dpl_meaning.specs.Slots.{by_slot};
 ghost use Rattle.dpl_syntax.specs.View.{bound, stmt_view};
 ghost use Rattle.dpl_turn.specs.Frames.{IsTurnBody, TurnEnds};
 
-use crate::frame::Frame;
 use crate::expression::value;
+use crate::frame::Frame;
 use dpl_syntax::Fault;
 use dpl_syntax::tree::Stmt;
 
@@ -22,11 +22,17 @@ use dpl_syntax::tree::Stmt;
 pub fn turn(body: &Stmt, frame: &mut Frame) -> Result<(), Fault>
     requires { IsTurnBody (stmt_view bound body.now) }
     ensures ends { (out : List ℕ) → TurnEnds result frame.new.values out (exec by_slot (stmt_view bound body.now) frame.old.budget frame.old.values out) }
+    ensures unchanged { OnErr result (frame.new ≡ frame.old) }
     ensures budget { frame.new.budget ≡ frame.old.budget }
     ensures locales { frame.new.locales ≡ frame.old.locales }
 {
     match body {
-        Stmt::Assign { name, op, value: right, .. } => {
+        Stmt::Assign {
+            name,
+            op,
+            value: right,
+            ..
+        } => {
             let v = value(right, frame)?;
             let old = frame.get(name.slot);
             frame.set(name.slot, op.apply(old, v));

@@ -1,4 +1,4 @@
-use Rattle.std.proofs.Common.{◌≡◌, sym, ap, ◌∙◌, subst, map, [], None}
+use Rattle.std.proofs.Common.{sym, ap, ◌∙◌, subst, map, []}
 use Rattle.dpl_syntax.specs.View.{stmt_view, tree_view, spelled}
 use Rattle.dpl_check.specs.Slots.{HaveBodies}
 use Rattle.dpl_check.proofs.Checks.{none-good, good-none, bound-resolved, bound-good, bound-spelled}
@@ -18,21 +18,21 @@ bind_stmts-requires c =
 pub new-requires-clause-resolved : goal.new-requires-clause-resolved
 new-requires-clause-resolved c =
     bound-resolved c.args.tree.stmts c.new-names.result c.first_breach.new.names c.deref.result.now c.deref_mut.result.now c.bind_stmts.new.stmts
-      c.new-names.ensures c.deref.ensures.value c.deref_mut.ensures.value (sym c.in_ok-breach.ensures.first ∙ c.in-None.is) c.in_ok-breach.ensures.names
-      c.bind_stmts.ensures (c.bind_stmts.auto.stmts ∙ c.deref_mut.ensures.len) c.slots.result c.slots.ensures
+    c.new-names.ensures c.deref.ensures.value c.deref_mut.ensures.value (sym c.in_ok-breach.ensures.first ∙ c.in-None.is) c.in_ok-breach.ensures.names
+    c.bind_stmts.ensures (c.bind_stmts.auto.stmts ∙ c.deref_mut.ensures.len) c.slots.result c.slots.ensures
 
 pub new-requires-clause-good : goal.new-requires-clause-good
 new-requires-clause-good c =
     bound-good c.args.tree.stmts c.new-names.result c.first_breach.new.names c.deref.result.now c.deref_mut.result.now c.bind_stmts.new.stmts
-      c.new-names.ensures c.deref.ensures.value c.deref_mut.ensures.value (sym c.in_ok-breach.ensures.first ∙ c.in-None.is) c.in_ok-breach.ensures.names
-      c.bind_stmts.ensures (c.bind_stmts.auto.stmts ∙ c.deref_mut.ensures.len)
+    c.new-names.ensures c.deref.ensures.value c.deref_mut.ensures.value (sym c.in_ok-breach.ensures.first ∙ c.in-None.is) c.in_ok-breach.ensures.names
+    c.bind_stmts.ensures (c.bind_stmts.auto.stmts ∙ c.deref_mut.ensures.len)
 
 pub returns-clause-same : goal.returns-clause-same
 returns-clause-same c =
     ap (tree_view spelled) c.new.ensures
     ∙ bound-spelled c.args.tree.stmts c.new-names.result c.first_breach.new.names c.deref.result.now c.deref_mut.result.now c.bind_stmts.new.stmts
-        c.new-names.ensures c.deref.ensures.value c.deref_mut.ensures.value (sym c.in_ok-breach.ensures.first ∙ c.in-None.is) c.in_ok-breach.ensures.names
-        c.bind_stmts.ensures (c.bind_stmts.auto.stmts ∙ c.deref_mut.ensures.len) c.args.tree.end
+    c.new-names.ensures c.deref.ensures.value c.deref_mut.ensures.value (sym c.in_ok-breach.ensures.first ∙ c.in-None.is) c.in_ok-breach.ensures.names
+    c.bind_stmts.ensures (c.bind_stmts.auto.stmts ∙ c.deref_mut.ensures.len) c.args.tree.end
 
 pub returns-clause-good : goal.returns-clause-good
 returns-clause-good c =

@@ -1,4 +1,4 @@
-use Rattle.std.proofs.Common.{◌≡◌, ℕ, ◌<◌, get_or}
+use Rattle.std.proofs.Common.{ℕ, ◌<◌, get_or}
 use Rattle.dpl_syntax.specs.declared.tree.Link.{Link}
 use Rattle.dpl_check.specs.Slots.{slot_for}
 use Rattle.dpl_check.specs.Around.{variable_view}

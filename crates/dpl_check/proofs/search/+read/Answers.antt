@@ -1,4 +1,4 @@
-use Rattle.std.proofs.Common.{◌≡◌, drop, sym, ap, ◌∙◌, ◌+◌}
+use Rattle.std.proofs.Common.{drop, sym, ap, ◌∙◌, ◌+◌}
 use Rattle.dpl_syntax.specs.View.{spelled, expr_view, links_of}
 use Rattle.dpl_syntax.proofs.Rows.{expr_view-chain}
 use Rattle.dpl_syntax.proofs.Walks.{drop-at, drop-end}

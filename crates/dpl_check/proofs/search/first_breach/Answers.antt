@@ -1,4 +1,4 @@
-use Rattle.std.proofs.Common.{◌≡◌, None, map, drop, sym, ap, ◌∙◌, ◌+◌, ◌∷◌}
+use Rattle.std.proofs.Common.{map, drop, sym, ap, ◌∙◌, ◌+◌}
 use Rattle.dpl_syntax.specs.View.{spelled, stmt_view}
 use Rattle.dpl_syntax.proofs.Walks.{drop-at}
 use Rattle.dpl_check.specs.Sights.{behind, behind_all}
@@ -14,13 +14,13 @@ loop-stmt-preserved c =
     let at = drop-at c.args.stmts.now c.loop-stmt.stmt-index c.stmt-item.result c.loop-stmt-test.true c.stmt-item.is in
     record {
       first =
-        ap (λ scope. first_from c.statement.new.first (stmts_breaches scope left)) c.in_ok-declare.ensures.ok
-        ∙ ap (λ o. first_from o (stmts_breaches (behind names t) left)) c.statement.ensures
-        ∙ sym (first_from_append c.loop-stmt.first (stmt_breaches names t) (stmts_breaches (behind names t) left))
-        ∙ ap (λ stmts. first_from c.loop-stmt.first (stmts_breaches names (map (stmt_view spelled) stmts))) (sym at)
-        ∙ c.loop-stmt.invariant.first;
+          ap (λ scope. first_from c.statement.new.first (stmts_breaches scope left)) c.in_ok-declare.ensures.ok
+          ∙ ap (λ o. first_from o (stmts_breaches (behind names t) left)) c.statement.ensures
+          ∙ sym (first_from_append c.loop-stmt.first (stmt_breaches names t) (stmts_breaches (behind names t) left))
+          ∙ ap (λ stmts. first_from c.loop-stmt.first (stmts_breaches names (map (stmt_view spelled) stmts))) (sym at)
+          ∙ c.loop-stmt.invariant.first;
       names =
-        ap (λ scope. behind_all scope left) c.in_ok-declare.ensures.ok
-        ∙ ap (λ stmts. behind_all names (map (stmt_view spelled) stmts)) (sym at)
-        ∙ c.loop-stmt.invariant.names;
+          ap (λ scope. behind_all scope left) c.in_ok-declare.ensures.ok
+          ∙ ap (λ stmts. behind_all names (map (stmt_view spelled) stmts)) (sym at)
+          ∙ c.loop-stmt.invariant.names;
     }

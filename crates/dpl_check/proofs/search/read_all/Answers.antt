@@ -1,4 +1,4 @@
-use Rattle.std.proofs.Common.{◌≡◌, None, map, drop, sym, ap, ◌∙◌, ◌+◌}
+use Rattle.std.proofs.Common.{None, map, drop, sym, ap, ◌∙◌, ◌+◌}
 use Rattle.dpl_syntax.specs.View.{spelled, expr_view}
 use Rattle.dpl_syntax.proofs.Walks.{drop-at}
 use Rattle.dpl_check.specs.Breaches.{first_from, of_each, reads, all_reads, read_breaches}

@@ -1,4 +1,4 @@
-use Rattle.std.proofs.Common.{◌≡◌, sym, ap, ◌∙◌}
+use Rattle.std.proofs.Common.{sym, ap, ◌∙◌}
 use Rattle.dpl_check.specs.Sights.{has_constant}
 use Rattle.dpl_check.proofs.Lookups.{has_constant-found, has_constant-absent}
 use Rattle.dpl_check.proofs.names.Names.has_constant.Goals as goal

@@ -1,4 +1,4 @@
-use Rattle.std.proofs.Common.{◌≡◌, ap, ◌∙◌}
+use Rattle.std.proofs.Common.{ap, ◌∙◌}
 use Rattle.dpl_check.specs.Sights.{knows}
 use Rattle.dpl_check.proofs.Lookups.{knows-lookup}
 use Rattle.dpl_check.proofs.names.Names.knows.Goals as goal

@@ -1,4 +1,4 @@
-use Rattle.std.proofs.Common.{◌≡◌, sym, ap, ◌∙◌, is_some, false}
+use Rattle.std.proofs.Common.{◌≡◌, sym, ap, ◌∙◌, false}
 use Rattle.dpl_check.specs.Sights.{knows}
 use Rattle.dpl_check.specs.Slots.{place_in}
 use Rattle.dpl_check.proofs.Lookups.{place_in-found, place_in-absent, knows-lookup}
@@ -12,6 +12,6 @@ returns-in-Some c =
 pub returns-in-None : goal.returns-in-None
 returns-in-None c =
     let unknown : knows c.self.inside.constants.entries c.args.name.now ≡ false =
-        sym (knows-lookup c.self.inside.constants.entries c.args.name.now) ∙ sym c.in-None.ensures.found in
+    sym (knows-lookup c.self.inside.constants.entries c.args.name.now) ∙ sym c.in-None.ensures.found in
     c.len.ensures.len ∙ place_in-absent c.self.inside.constants.entries c.args.name.now unknown
     ∙ ap (λ scope. place_in scope c.args.name.now) c.self.view_is
