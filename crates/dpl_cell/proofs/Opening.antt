@@ -1,0 +1,96 @@
+-- The words and the first view of a board keep its rule, and its numbers are given away one by one.
+use Rattle.std.proofs.Common.{◌≡◌, ◌≢◌, ℕ, zero, suc, ◌+◌, ◌-◌, ◌<◌, ◌≤◌, List, [], ◌∷◌, length, Some, None, sym, refl, ap, ◌∙◌, subst, arith}
+use Rattle.std.proofs.lemmas.List.Elements.{All-nil}
+use mathlib.Core.Option.{some, some-injective, some-ne-none}
+use lib.ListN.{get_elem?}
+use Rattle.dpl_cell.specs.declared.cell.CellState.{CellState}
+use Rattle.dpl_cell.specs.declared.history.Event.{Event}
+use Rattle.dpl_cell.specs.declared.view.Hold.{Hold}
+use Rattle.dpl_cell.specs.declared.view.View.{View}
+use Rattle.dpl_cell.specs.declared.rule.Plan.{Plan}
+use Rattle.dpl_cell.specs.declared.words.Words.{Words}
+use Rattle.dpl_cell.specs.declared.seat.Seat.{Seat}
+use Rattle.dpl_cell.specs.Histories.{cell_at}
+use Rattle.dpl_cell.specs.Views.{Has, IsFresh}
+use Rattle.dpl_cell.specs.Seats.{known}
+use Rattle.dpl_cell.specs.Rule.{cell_of, Grows, IsTrueMiss, Knows, IsKept, numbers_from, first_view, AreOpening}
+use Rattle.dpl_cell.specs.Steps.{first_of, rest_of, without_first, with_first}
+use Rattle.dpl_cell.proofs.Numbers.{Has-head, Has-numbers_from}
+use Rattle.dpl_cell.proofs.Views.{no_hold}
+use Rattle.dpl_cell.proofs.Looking.{word_at}
+
+-- the words of the first i cells are written, and the state words after them are 0
+pub record AreOpeningUpTo (cells : List CellState) (ws : List ℕ) (i : ℕ) : Type 0 where
+  pub wide : length ws ≡ length cells + length cells + 1
+  pub small : (c : ℕ) → c < i → word_at ws c < 2
+  pub are : (c : ℕ) → c < i → cell_at cells c ≡ cell_of (word_at ws c) (word_at ws (length cells + c))
+  pub rest : (c : ℕ) → i ≤ c → c < length cells → word_at ws c ≡ 0
+
+pub IsKept-first_view : (p : Plan) (ws : List ℕ) → AreOpening p.cells.items ws → IsKept p.cells.items p.tasks ws (first_view p ∷ [])
+IsKept-first_view p ws a = record {
+  log = [];
+  holder = λ _. 0;
+  seat_of = λ _. 0;
+  wide = a.wide;
+  legal = tt;
+  ours = All-nil (λ (e : Event). e.task ≤ p.tasks);
+  free = λ c l _. record { small = a.small c l; is = a.are c l };
+  busy = λ c l b. let small = a.small c l in absurd (omega arith);
+  each = each;
+}
+  where
+    first : Knows p.cells.items p.tasks ws [] (λ _. 0) (λ _. 0) 0 (first_view p)
+    first = record {
+      numbered = λ k h. let t = (Has-numbers_from k 0 (p.tasks + 1) h).1 in record { by = refl; ours = omega arith; events = refl; opening = refl; tasks_is = refl };
+      begins = ([], refl);
+      missed = All-nil (IsTrueMiss p.cells.items p.tasks ws []);
+      grew = All-nil Grows;
+      holds = λ h q. absurd (no_hold h q);
+      acts = λ h q. absurd (no_hold h q);
+    }
+
+    each : (j : ℕ) (v : View) → get_elem? (first_view p ∷ []) j ≡ some v → Knows p.cells.items p.tasks ws [] (λ _. 0) (λ _. 0) j v
+    each zero v e = subst (Knows p.cells.items p.tasks ws [] (λ _. 0) (λ _. 0) 0) (some-injective (first_view p) v e) first
+    each (suc j) v e = absurd (some-ne-none v (sym e))
+
+-- the numbers after the first are other ones
+pub Has-numbers_after : (k n q : ℕ) → Has q (numbers_from (k + 1) n) → q ≢ k
+Has-numbers_after k n q h e = let t = (Has-numbers_from q (k + 1) n h).0 in omega arith
+
+-- the first view, once the numbers below i are given away
+abbrev pub first_view_from : Plan → ℕ → View
+first_view_from p i = record (first_view p) { numbers = numbers_from i ((p.tasks + 1) - i) }
+
+pub numbers_from-suc : (t i : ℕ) → i < t → numbers_from i ((t + 1) - i) ≡ i ∷ numbers_from (i + 1) ((t + 1) - (i + 1))
+numbers_from-suc t i h = let e : (t + 1) - i ≡ suc ((t + 1) - (i + 1)) = omega arith in ap (numbers_from i) e
+
+pub without_first-first_view_from : (p : Plan) (i : ℕ) → i < p.tasks → without_first (first_view_from p i) ≡ first_view_from p (i + 1)
+without_first-first_view_from p i h = ap (λ ns. record (first_view p) { numbers = rest_of ns }) (numbers_from-suc p.tasks i h)
+
+pub first_of-numbers_from : (t i : ℕ) → i < t → first_of (numbers_from i ((t + 1) - i)) ≡ i
+first_of-numbers_from t i h = ap first_of (numbers_from-suc t i h)
+
+pub IsFresh-with_first : (p : Plan) (i : ℕ) → i < p.tasks → IsFresh i (with_first (first_view_from p i))
+IsFresh-with_first p i h = let e = first_of-numbers_from p.tasks i h in record { number = e; numbers = ap (λ k. k ∷ []) e; history = refl; misses = refl }
+
+pub IsFresh-last : (p : Plan) → IsFresh p.tasks (first_view_from p p.tasks)
+IsFresh-last p = let e : (p.tasks + 1) - p.tasks ≡ 1 = omega arith in record { number = refl; numbers = ap (numbers_from p.tasks) e; history = refl; misses = refl }
+
+pub Has-last : (p : Plan) → Has p.tasks (first_view_from p p.tasks).numbers
+Has-last p = let e : (p.tasks + 1) - p.tasks ≡ 1 = omega arith in subst (λ (m : ℕ). Has p.tasks (numbers_from p.tasks m)) (sym e) (Has-head p.tasks [])
+
+-- a seat of these words, fresh with the number k
+pub record IsDealt (w : Words) (k : ℕ) (s : Seat) : Type 0 where
+  pub own : s.token.table_id ≡ w.table.shared.table_id
+  pub opening : (known s).opening ≡ w.table.shared.key.cells.items
+  pub tasks_is : (known s).tasks ≡ w.table.shared.key.tasks
+  pub fresh : IsFresh k (known s)
+
+-- a seat whose token has a view that was dealt
+pub IsDealt-view : (w : Words) (k : ℕ) (s : Seat) (v : View) → s.token.table_id ≡ w.table.shared.table_id → known s ≡ v → v.opening ≡ w.table.shared.key.cells.items → v.tasks ≡ w.table.shared.key.tasks → IsFresh k v → IsDealt w k s
+IsDealt-view w k s v own is opening tasks_is fresh = record {
+  own = own;
+  opening = ap (λ (u : View). u.opening) is ∙ opening;
+  tasks_is = ap (λ (u : View). u.tasks) is ∙ tasks_is;
+  fresh = subst (IsFresh k) (sym is) fresh;
+}

@@ -1,0 +1,19 @@
+//! Full/empty cells that tasks on any threads share, with one legal history of all that was done to them.
+//! Read `apply` for one thread, then `Board` and its calls; the words of their clauses stand in `specs/`, in reading order.
+#![tactic(auto)]
+
+mod board;
+mod cell;
+mod history;
+mod rule;
+mod seat;
+mod steps;
+mod view;
+mod words;
+
+pub use board::{Board, NoMemory, Stuck, Tried};
+pub use cell::{CellOp, CellState, Reply, apply};
+pub use history::{Event, Miss};
+pub use seat::Seat;
+pub use view::{Growth, Hold, View};
+
