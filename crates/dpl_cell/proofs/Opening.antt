@@ -8,11 +8,8 @@ use Rattle.dpl_cell.specs.declared.history.Event.{Event}
 use Rattle.dpl_cell.specs.declared.view.Hold.{Hold}
 use Rattle.dpl_cell.specs.declared.view.View.{View}
 use Rattle.dpl_cell.specs.declared.rule.Plan.{Plan}
-use Rattle.dpl_cell.specs.declared.words.Words.{Words}
-use Rattle.dpl_cell.specs.declared.seat.Seat.{Seat}
 use Rattle.dpl_cell.specs.Histories.{cell_at}
-use Rattle.dpl_cell.specs.Views.{Has, IsFresh}
-use Rattle.dpl_cell.specs.Seats.{known}
+use Rattle.dpl_cell.specs.Views.{Has}
 use Rattle.dpl_cell.specs.Rule.{cell_of, Grows, IsTrueMiss, Knows, IsKept, numbers_from, first_view, AreOpening}
 use Rattle.dpl_cell.specs.Steps.{first_of, rest_of, without_first, with_first}
 use Rattle.dpl_cell.proofs.Numbers.{Has-head, Has-numbers_from}
@@ -70,27 +67,12 @@ without_first-first_view_from p i h = ap (λ ns. record (first_view p) { numbers
 pub first_of-numbers_from : (t i : ℕ) → i < t → first_of (numbers_from i ((t + 1) - i)) ≡ i
 first_of-numbers_from t i h = ap first_of (numbers_from-suc t i h)
 
-pub IsFresh-with_first : (p : Plan) (i : ℕ) → i < p.tasks → IsFresh i (with_first (first_view_from p i))
-IsFresh-with_first p i h = let e = first_of-numbers_from p.tasks i h in record { number = e; numbers = ap (λ k. k ∷ []) e; history = refl; misses = refl }
+-- what a new board hands out as the seat k
+abbrev pub fresh_view : Plan → ℕ → View
+fresh_view p k = record { opening = p.cells.items; tasks = p.tasks; number = k; numbers = k ∷ []; history = []; misses = []; held = None; joins = [] }
 
-pub IsFresh-last : (p : Plan) → IsFresh p.tasks (first_view_from p p.tasks)
-IsFresh-last p = let e : (p.tasks + 1) - p.tasks ≡ 1 = omega arith in record { number = refl; numbers = ap (numbers_from p.tasks) e; history = refl; misses = refl }
+pub with_first-first_view_from : (p : Plan) (i : ℕ) → i < p.tasks → with_first (first_view_from p i) ≡ fresh_view p i
+with_first-first_view_from p i h = ap (fresh_view p) (first_of-numbers_from p.tasks i h)
 
-pub Has-last : (p : Plan) → Has p.tasks (first_view_from p p.tasks).numbers
-Has-last p = let e : (p.tasks + 1) - p.tasks ≡ 1 = omega arith in subst (λ (m : ℕ). Has p.tasks (numbers_from p.tasks m)) (sym e) (Has-head p.tasks [])
-
--- a seat of these words, fresh with the number k
-pub record IsDealt (w : Words) (k : ℕ) (s : Seat) : Type 0 where
-  pub own : s.token.table_id ≡ w.table.shared.table_id
-  pub opening : (known s).opening ≡ w.table.shared.key.cells.items
-  pub tasks_is : (known s).tasks ≡ w.table.shared.key.tasks
-  pub fresh : IsFresh k (known s)
-
--- a seat whose token has a view that was dealt
-pub IsDealt-view : (w : Words) (k : ℕ) (s : Seat) (v : View) → s.token.table_id ≡ w.table.shared.table_id → known s ≡ v → v.opening ≡ w.table.shared.key.cells.items → v.tasks ≡ w.table.shared.key.tasks → IsFresh k v → IsDealt w k s
-IsDealt-view w k s v own is opening tasks_is fresh = record {
-  own = own;
-  opening = ap (λ (u : View). u.opening) is ∙ opening;
-  tasks_is = ap (λ (u : View). u.tasks) is ∙ tasks_is;
-  fresh = subst (IsFresh k) (sym is) fresh;
-}
+pub first_view_from-last : (p : Plan) → first_view_from p p.tasks ≡ fresh_view p p.tasks
+first_view_from-last p = let e : (p.tasks + 1) - p.tasks ≡ 1 = omega arith in ap (λ (m : ℕ). record (first_view p) { numbers = numbers_from p.tasks m }) e

@@ -1,32 +1,33 @@
 -- What the contracts see of a board, of a seat, and of one try.
-use Rattle.std.specs.Prelude.{◌≡◌, ℕ, List, length}
+use Rattle.std.specs.Prelude.{◌≡◌, ℕ, List, [], ◌∷◌, None}
+use Rattle.atomic_table.specs.Seated.{TableId}
 use Rattle.dpl_cell.specs.declared.cell.CellState.{CellState}
 use Rattle.dpl_cell.specs.declared.cell.Reply.{Reply}
 use Rattle.dpl_cell.specs.declared.view.View.{View}
-use Rattle.dpl_cell.specs.declared.seat.Seat.{Seat}
-use Rattle.dpl_cell.specs.declared.board.Board.{Board}
-use Rattle.dpl_cell.specs.declared.board.Tried.{Tried}
-use Rattle.dpl_cell.specs.declared.board.Tried.TheVariants.{Done, Missed}
+use Rattle.dpl_cell.specs.declared.tried.Tried.{Tried}
+use Rattle.dpl_cell.specs.declared.tried.Tried.TheVariants.{Done, Missed}
 
--- the cells with which the board was opened
-abbrev pub opening_of : Board → List CellState
-opening_of b = b.words.table.shared.key.cells.items
+-- a board: which one it is, the cells with which it was opened, and the number of its tasks, which is also the gatherer's number
+pub record BoardValue : Type 0 where
+  pub board : TableId
+  pub opening : List CellState
+  pub tasks : ℕ
 
--- the number of the board's tasks, which is also the gatherer's number
-abbrev pub tasks_of : Board → ℕ
-tasks_of b = b.words.table.shared.key.tasks
-
--- how many cells the board has
-abbrev pub cell_count : Board → ℕ
-cell_count b = length (opening_of b)
-
--- what the seat knows
-abbrev pub known : Seat → View
-known s = s.token.me.0
+-- a seat: the board that it is of, and what it knows
+pub record SeatValue : Type 0 where
+  pub board : TableId
+  pub knows : View
 
 -- the seat is one of this board, and knows its opening cells and its number of tasks
-abbrev pub IsSeatOf : Board → Seat → Type 0
-IsSeatOf b s = (s.token.table_id ≡ b.words.table.shared.table_id) × ((known s).opening ≡ opening_of b) × ((known s).tasks ≡ tasks_of b)
+abbrev pub IsSeatOf : BoardValue → SeatValue → Type 0
+IsSeatOf b s = (s.board ≡ b.board) × (s.knows.opening ≡ b.opening) × (s.knows.tasks ≡ b.tasks)
+
+-- a seat of the board that acts as number k, answers for k alone, and has seen nothing
+abbrev pub fresh_seat : BoardValue → ℕ → SeatValue
+fresh_seat b k = record {
+  board = b.board;
+  knows = record { opening = b.opening; tasks = b.tasks; number = k; numbers = k ∷ []; history = []; misses = []; held = None; joins = [] };
+}
 
 -- the fact holds of the reply, if the try was done
 abbrev pub IfDone : Tried → (Reply → Type 0) → Type 0

@@ -22,13 +22,6 @@ AnswersForAll v = (k : ℕ) → k ≤ v.tasks → Has k v.numbers
 abbrev pub KeepsNumbers : View → View → Type 0
 KeepsNumbers v w = (w.number ≡ v.number) × (w.numbers ≡ v.numbers)
 
--- a seat that answers for number k alone, and has seen nothing
-pub record IsFresh (k : ℕ) (v : View) : Type 0 where
-  pub number : v.number ≡ k
-  pub numbers : v.numbers ≡ k ∷ []
-  pub history : v.history ≡ []
-  pub misses : v.misses ≡ []
-
 -- The operation was done, once: the new history begins with the old one and ends with the operation's event.
 -- The number's events are those from before and this one, and nothing else that the seat answers for has changed.
 pub record Did (v : View) (cell : ℕ) (op : CellOp) (r : Reply) (w : View) : Type 0 where

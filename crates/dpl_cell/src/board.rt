@@ -1,51 +1,38 @@
 //! A board of cells and its calls: `new` opens it, `try_op` and `op` act on a cell, `join` puts what two seats know
 //! together, and `close` gives the cells back. No call waits and no lock stands behind one; `new` alone takes memory.
-ghost use Rattle.std.specs.Prelude.{◌≡◌, ℕ, ◌+◌, ◌<◌, ◌≤◌, length, vec_len, vec_capacity, All, Some, slice_get, IfOk, IfErr};
+ghost use Rattle.std.specs.Prelude.{◌≡◌, ℕ, ◌+◌, ◌<◌, ◌≤◌, length, vec_len, All, Some, slice_get, IfOk, IfErr};
 ghost use Rattle.dpl_cell.specs.Histories.{legal, Legal, AllUpTo};
 ghost use Rattle.dpl_cell.specs.Looks.{Agrees};
-ghost use Rattle.dpl_cell.specs.Views.{AnswersForAll, KeepsNumbers, IsFresh, Did, DidAfter, Missed, Waited, Joined};
-ghost use Rattle.dpl_cell.specs.declared.seat.Seat.{Seat};
+ghost use Rattle.dpl_cell.specs.Views.{AnswersForAll, KeepsNumbers, Did, DidAfter, Missed, Waited, Joined};
+ghost use Rattle.dpl_cell.specs.Seats.{SeatValue, IsSeatOf, fresh_seat, IfDone, IfMissed};
 
 use crate::cell::{CellOp, CellState, Reply};
 use crate::rule::Plan;
 use crate::seat::Seat;
+use crate::tried::{NoMemory, Stuck, Tried};
 use crate::words::Words;
-use std::alloc::{AllocError, Global};
-
-/// There was no memory for a board.
-#[derive(Clone, Copy, Debug, PartialEq)]
-pub struct NoMemory;
-
-impl From<AllocError> for NoMemory {
-    fn from(_: AllocError) -> NoMemory {
-        NoMemory
-    }
-}
-
-/// Every try of an operation missed.
-#[derive(Clone, Copy, Debug, PartialEq)]
-pub struct Stuck;
-
-/// What one try of an operation came to.
-#[derive(Clone, Copy, Debug, PartialEq)]
-pub enum Tried {
-    /// The operation was done, with this reply.
-    Done(Reply),
-    /// The operation would have to wait. The state word that was seen: 0 is empty, 1 full, 2 busy.
-    Missed(u64),
-}
+use std::alloc::Global;
+use std::marker::Model;
 
 /// Cells that any number of threads share, each by a seat of its own.
 #[derive(Drop)]
 pub struct Board {
     words: Words,
     cells: Vec<CellState>,
-    ghost sized: { vec_len cells ≡ words.count },
+}
+
+impl Model for Board {
+    ghost use Rattle.std.specs.Prelude.{◌≡◌, vec_len};
+    ghost use Rattle.dpl_cell.specs.Seats.{BoardValue};
+
+    ghost Value = { BoardValue };
+
+    ghost view = { λ b. record { board = b.words.table.shared.table_id; opening = b.words.table.shared.key.cells.items; tasks = b.words.table.shared.key.tasks } };
+
+    ghost invariant = { λ b. vec_len b.cells ≡ b.words.count };
 }
 
 impl Board {
-    ghost use Rattle.dpl_cell.specs.Seats.{opening_of, tasks_of, cell_count, known, IsSeatOf, IfDone, IfMissed};
-
     /// A board of these cells, with a seat for each task, in order, and a last one for the gatherer, whose number is `tasks`.
     pub fn new(
         alloc: Global,
@@ -53,11 +40,10 @@ impl Board {
         tasks: u64,
     ) -> Result<(Board, Vec<Seat>), NoMemory>
         requires { tasks ≤ 64 }
-        ensures opening { IfOk result (λ b. opening_of b.0 ≡ cells.items) }
-        ensures tasks { IfOk result (λ b. tasks_of b.0 ≡ tasks) }
+        ensures opening { IfOk result (λ b. b.0.opening ≡ cells.items) }
+        ensures tasks { IfOk result (λ b. b.0.tasks ≡ tasks) }
         ensures count { IfOk result (λ b. vec_len b.1 ≡ tasks + 1) }
-        ensures own { IfOk result (λ b. (k : ℕ) (s : Seat) → slice_get b.1.items k ≡ Some s → IsSeatOf b.0 s) }
-        ensures fresh { IfOk result (λ b. (k : ℕ) (s : Seat) → slice_get b.1.items k ≡ Some s → IsFresh k (known s)) }
+        ensures seats { IfOk result (λ b. (k : ℕ) (s : SeatValue) → slice_get b.1.items k ≡ Some s → s ≡ fresh_seat b.0 k) }
     {
         let plan = Plan { cells, tasks };
         let (words, mut rest) = Words::new(alloc, &plan)?;
@@ -73,7 +59,7 @@ impl Board {
 
     /// The number of cells.
     pub fn count(&self) -> usize
-        ensures { result ≡ cell_count self.now }
+        ensures { result ≡ length self.now.opening }
     {
         self.cells.len()
     }
@@ -81,13 +67,13 @@ impl Board {
     /// Tries an operation once, as the seat's number. Where it would have to wait, nothing is done.
     pub fn try_op(&self, seat: &mut Seat, cell: usize, op: CellOp) -> Tried
         requires own { IsSeatOf self.now seat.old }
-        requires cell { cell < cell_count self.now }
+        requires cell { cell < length self.now.opening }
         ensures own { IsSeatOf self.now seat.new }
-        ensures numbers { KeepsNumbers (known seat.old) (known seat.new) }
-        ensures legal { Legal (opening_of self.now) (known seat.new).history }
-        ensures ours { AllUpTo (tasks_of self.now) (known seat.new).history }
-        ensures done { IfDone result (λ r. Did (known seat.old) cell op r (known seat.new)) }
-        ensures missed { IfMissed result (λ w. Missed (known seat.old) cell op w (known seat.new)) }
+        ensures numbers { KeepsNumbers seat.old.knows seat.new.knows }
+        ensures legal { Legal self.now.opening seat.new.knows.history }
+        ensures ours { AllUpTo self.now.tasks seat.new.knows.history }
+        ensures done { IfDone result (λ r. Did seat.old.knows cell op r seat.new.knows) }
+        ensures missed { IfMissed result (λ w. Missed seat.old.knows cell op w seat.new.knows) }
     {
         match self.words.grab(&mut seat.token, cell, op) {
             Ok(state) => Tried::Done(self.words.finish(&mut seat.token, cell, state, op)),
@@ -98,14 +84,14 @@ impl Board {
     /// Tries an operation until it is done, `tries` times at most. `Stuck` where every try missed: nothing is done then.
     pub fn op(&self, seat: &mut Seat, cell: usize, op: CellOp, tries: u64) -> Result<Reply, Stuck>
         requires own { IsSeatOf self.now seat.old }
-        requires cell { cell < cell_count self.now }
+        requires cell { cell < length self.now.opening }
         requires tries { 0 < tries }
         ensures own { IsSeatOf self.now seat.new }
-        ensures numbers { KeepsNumbers (known seat.old) (known seat.new) }
-        ensures legal { Legal (opening_of self.now) (known seat.new).history }
-        ensures ours { AllUpTo (tasks_of self.now) (known seat.new).history }
-        ensures done { IfOk result (λ r. DidAfter tries (known seat.old) cell op r (known seat.new)) }
-        ensures stuck { IfErr result (λ _. Waited tries (known seat.old) cell op (known seat.new)) }
+        ensures numbers { KeepsNumbers seat.old.knows seat.new.knows }
+        ensures legal { Legal self.now.opening seat.new.knows.history }
+        ensures ours { AllUpTo self.now.tasks seat.new.knows.history }
+        ensures done { IfOk result (λ r. DidAfter tries seat.old.knows cell op r seat.new.knows) }
+        ensures stuck { IfErr result (λ _. Waited tries seat.old.knows cell op seat.new.knows) }
     {
         for made in 0..tries {
             match self.try_op(seat, cell, op) {
@@ -121,9 +107,9 @@ impl Board {
         requires own { IsSeatOf self.now seat.old }
         requires other { IsSeatOf self.now other }
         ensures own { IsSeatOf self.now seat.new }
-        ensures legal { Legal (opening_of self.now) (known seat.new).history }
-        ensures ours { AllUpTo (tasks_of self.now) (known seat.new).history }
-        ensures joined { Joined (known seat.old) (known other) (known seat.new) }
+        ensures legal { Legal self.now.opening seat.new.knows.history }
+        ensures ours { AllUpTo self.now.tasks seat.new.knows.history }
+        ensures joined { Joined seat.old.knows other.knows seat.new.knows }
     {
         let Seat { token } = other;
         self.words.join(&mut seat.token, token);
@@ -133,10 +119,10 @@ impl Board {
     /// tasks and the gatherer, so no other is left.
     pub fn close(self, seat: Seat) -> Vec<CellState>
         requires own { IsSeatOf self seat }
-        requires all { AnswersForAll (known seat) }
-        ensures legal { legal (opening_of self) (known seat).history result.items }
-        ensures ours { AllUpTo (tasks_of self) (known seat).history }
-        ensures misses { All (Agrees (opening_of self) (known seat).history) (known seat).misses }
+        requires all { AnswersForAll seat.knows }
+        ensures legal { legal self.opening seat.knows.history result.items }
+        ensures ours { AllUpTo self.tasks seat.knows.history }
+        ensures misses { All (Agrees self.opening seat.knows.history) seat.knows.misses }
     {
         let Seat { token } = seat;
         let Board { words, mut cells } = self;

@@ -8,12 +8,16 @@ mod history;
 mod rule;
 mod seat;
 mod steps;
+mod tried;
 mod view;
 mod words;
 
-pub use board::{Board, NoMemory, Stuck, Tried};
+pub use board::Board;
 pub use cell::{CellOp, CellState, Reply, apply};
 pub use history::{Event, Miss};
 pub use seat::Seat;
+pub use tried::{NoMemory, Stuck, Tried};
 pub use view::{Growth, Hold, View};
 
+#[cfg(test)]
+mod tests;

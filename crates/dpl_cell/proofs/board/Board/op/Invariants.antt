@@ -1,14 +1,14 @@
 use Rattle.std.proofs.Common.{◌<◌}
 use Rattle.dpl_cell.specs.Histories.{Legal, AllUpTo}
 use Rattle.dpl_cell.specs.Views.{KeepsNumbers, Waited}
-use Rattle.dpl_cell.specs.Seats.{known, opening_of, tasks_of, IsSeatOf}
+use Rattle.dpl_cell.specs.Seats.{IsSeatOf}
 use Rattle.dpl_cell.proofs.board.Board.op.Given as goal
 
 abbrev pub invariant-loop-made : goal.invariant-loop-made
 invariant-loop-made l = record {
   own : IsSeatOf l.self l.seat;
-  numbers : KeepsNumbers (known l.initial.seat) (known l.seat);
-  legal : 0 < l.made → Legal (opening_of l.self) (known l.seat).history;
-  ours : 0 < l.made → AllUpTo (tasks_of l.self) (known l.seat).history;
-  waited : Waited l.made (known l.initial.seat) l.cell l.op (known l.seat);
+  numbers : KeepsNumbers l.initial.seat.knows l.seat.knows;
+  legal : 0 < l.made → Legal l.self.opening l.seat.knows.history;
+  ours : 0 < l.made → AllUpTo l.self.tasks l.seat.knows.history;
+  waited : Waited l.made l.initial.seat.knows l.cell l.op l.seat.knows;
 }
