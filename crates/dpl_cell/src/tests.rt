@@ -1,13 +1,13 @@
 //! The worked rows of cells and boards, on one thread and on many.
 //! What the clauses say isn't tested again; the rows show that they say what is meant, and that the calls end.
 ghost use Rattle.std.specs.Prelude.{◌≡◌, ℕ, ◌+◌, ◌<◌, ◌≤◌, [], ◌∷◌, length, vec_len, Some, slice_get, IfSome};
-ghost use Rattle.dpl_cell.specs.Views.{KeepsNumbers, AnswersForAll};
-ghost use Rattle.dpl_cell.specs.Seats.{BoardValue, SeatValue, IsSeatOf, fresh_seat};
+ghost use Rattle.dpl_cell.specs.Views.{Has, KeepsNumbers};
+ghost use Rattle.dpl_cell.specs.Seats.{SeatValue, IsSeatOf, fresh_seat};
 
 use crate::{Board, CellOp, CellState, Reply, Seat, Stuck, Tried, apply};
 use std::alloc::Global;
 use std::test::Fail;
-use std::thread::join;
+use std::thread::{Threads, for_each_mut, join};
 
 const TRIES: u64 = 100_000_000;
 
@@ -50,6 +50,57 @@ fn pair(
     let one = board.op(&mut seat, first.0, first.1, TRIES);
     let two = board.op(&mut seat, second.0, second.1, TRIES);
     (one, two, seat)
+}
+
+// Adds 1 to the cell 0, `rounds` times, or stops early where it is stuck.
+fn count_up(board: &Board, seat: &mut Seat, rounds: u64)
+    requires own { IsSeatOf board.now seat.old }
+    requires cell { 0 < length board.now.opening }
+    ensures own { IsSeatOf board.now seat.new }
+    ensures numbers { KeepsNumbers seat.old.knows seat.new.knows }
+{
+    for _ in 0..rounds {
+        let Ok(Reply::Value(value)) = board.op(seat, 0, CellOp::ReadFE, TRIES) else {
+            return;
+        };
+        let next = CellOp::WriteEF(value.wrapping_add(1));
+        let Ok(Reply::Done) = board.op(seat, 0, next, TRIES) else {
+            return;
+        };
+    }
+}
+
+// Joins the seats of all tasks to the gatherer's, the last task first.
+fn gather(board: &Board, gatherer: &mut Seat, mut seats: Vec<Seat>)
+    requires own { IsSeatOf board.now gatherer.old }
+    requires numbers { gatherer.old.knows.numbers ≡ vec_len seats ∷ [] }
+    requires seats { (k : ℕ) (s : SeatValue) → slice_get seats.items k ≡ Some s → IsSeatOf board.now s × (s.knows.numbers ≡ k ∷ []) }
+    ensures own { IsSeatOf board.now gatherer.new }
+    ensures all { (k : ℕ) → k ≤ vec_len seats → Has k gatherer.new.knows.numbers }
+{
+    while let Some(seat) = seats.pop() {
+        board.join(gatherer, seat);
+    }
+}
+
+// The cell that is left where so many tasks, each on a thread of its own, count up from 0.
+fn count_together<R: Threads + Sync>(rt: &R, alloc: Global, tasks: u64, rounds: u64) -> Option<CellState>
+    requires { (0 < tasks) × (tasks ≤ 64) }
+{
+    let mut cells = Vec::new(alloc);
+    cells.push(CellState::Full(0)).ok()?;
+    let Ok((board, mut seats)) = Board::new(alloc, cells, tasks) else {
+        return None;
+    };
+    let mut gatherer = seats.pop()?;
+    let shared = &board;
+    let task = |_: usize, seat: &mut Seat|
+        requires { IsSeatOf shared.now seat.now × (0 < length shared.now.opening) }
+        ensures { IsSeatOf shared.entry.now seat.exit.now × KeepsNumbers seat.entry.now.knows seat.exit.now.knows }
+    { count_up(shared, seat, rounds) };
+    for_each_mut(rt, seats.as_mut_slice(), tasks as usize, &task);
+    gather(&board, &mut gatherer, seats);
+    board.close(gatherer).pop()
 }
 
 #[test]
@@ -146,4 +197,14 @@ fn two_threads(rt: HostRuntime) -> Result<(), Fail> {
     assert_eq!(rt; cells.len(), 2);
     assert!(rt; cells[0] == CellState::Empty && cells[1] == CellState::Empty);
     Ok(())
+}
+
+#[test]
+fn eight_threads_a_thousand_times(rt: HostRuntime) {
+    assert!(rt; count_together(&rt, rt.alloc(), 8, 1000) == Some(CellState::Full(8000)));
+}
+
+#[test]
+fn sixty_four_threads(rt: HostRuntime) {
+    assert!(rt; count_together(&rt, rt.alloc(), 64, 1) == Some(CellState::Full(64)));
 }
