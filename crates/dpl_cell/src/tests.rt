@@ -59,7 +59,7 @@ fn count_up(board: &Board, seat: &mut Seat, rounds: u64)
     ensures own { IsSeatOf board.now seat.new }
     ensures numbers { KeepsNumbers seat.old.knows seat.new.knows }
 {
-    for _ in 0..rounds {
+    for made in 0..rounds {
         let Ok(Reply::Value(value)) = board.op(seat, 0, CellOp::ReadFE, TRIES) else {
             return;
         };

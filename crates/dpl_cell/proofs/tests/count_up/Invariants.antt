@@ -1,0 +1,6 @@
+use Rattle.dpl_cell.specs.Views.{KeepsNumbers}
+use Rattle.dpl_cell.specs.Seats.{IsSeatOf}
+use Rattle.dpl_cell.proofs.tests.count_up.Given as goal
+
+abbrev pub invariant-loop-made : goal.invariant-loop-made
+invariant-loop-made l = IsSeatOf l.board l.seat × KeepsNumbers l.initial.seat.knows l.seat.knows
