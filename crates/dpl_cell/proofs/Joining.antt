@@ -1,6 +1,6 @@
 -- Joining two seats keeps the rule, and the step after it tells what the rule says of the seat.
 -- Of two histories that seats know, both beginnings of the log, one begins with the other.
-use Rattle.std.proofs.Common.{◌≡◌, ◌≢◌, ℕ, ◌≤◌, ◌⊎◌, List, [], ◌∷◌, ◌++◌, length, set, Bool, true, false, cond, eqb, nat_le, if◌then◌else◌, Some, None, All, sym, refl, ap, ◌∙◌, subst, ⊎_elim, arith, eq-eqb, ne_eqb}
+use Rattle.std.proofs.Common.{◌≡◌, ◌≢◌, ℕ, ◌≤◌, List, [], ◌∷◌, length, set, Bool, true, false, cond, eqb, nat_le, if◌then◌else◌, None, sym, refl, ap, ◌∙◌, subst, ⊎_elim, arith, eq-eqb, ne_eqb}
 use Rattle.std.proofs.lemmas.Bool.Decides.{nat_tests}
 use Rattle.std.proofs.lemmas.List.Elements.{All-append, All-nil, All-cons}
 use mathlib.Core.Option.{some, none}
@@ -12,7 +12,7 @@ use Rattle.dpl_cell.specs.declared.history.Event.{Event}
 use Rattle.dpl_cell.specs.declared.view.View.{View}
 use Rattle.dpl_cell.specs.Histories.{Legal, of_task, AllUpTo, StartsWith}
 use Rattle.dpl_cell.specs.Views.{Has, longer}
-use Rattle.dpl_cell.specs.Rule.{Grows, IsTrueMiss, Knows, IsKept}
+use Rattle.dpl_cell.specs.Rule.{Grows, IsTrueMiss, Knows}
 use Rattle.dpl_cell.specs.Steps.{TokenState, growth, gathered, spent, vouched}
 use Rattle.dpl_cell.proofs.Histories.{StartsWith-same, StartsWith-between, of_task-between, Legal-append_left, All-append_left}
 use Rattle.dpl_cell.proofs.Numbers.{Has-nil, Has-append_cases}

@@ -1,18 +1,17 @@
 -- The words and the first view of a board keep its rule, and its numbers are given away one by one.
-use Rattle.std.proofs.Common.{◌≡◌, ◌≢◌, ℕ, zero, suc, ◌+◌, ◌-◌, ◌<◌, ◌≤◌, List, [], ◌∷◌, length, Some, None, sym, refl, ap, ◌∙◌, subst, arith}
+use Rattle.std.proofs.Common.{◌≡◌, ◌≢◌, ℕ, zero, suc, ◌+◌, ◌-◌, ◌<◌, ◌≤◌, List, [], ◌∷◌, length, None, sym, refl, ap, subst, arith}
 use Rattle.std.proofs.lemmas.List.Elements.{All-nil}
 use mathlib.Core.Option.{some, some-injective, some-ne-none}
 use lib.ListN.{get_elem?}
 use Rattle.dpl_cell.specs.declared.cell.CellState.{CellState}
 use Rattle.dpl_cell.specs.declared.history.Event.{Event}
-use Rattle.dpl_cell.specs.declared.view.Hold.{Hold}
 use Rattle.dpl_cell.specs.declared.view.View.{View}
 use Rattle.dpl_cell.specs.declared.rule.Plan.{Plan}
 use Rattle.dpl_cell.specs.Histories.{cell_at}
 use Rattle.dpl_cell.specs.Views.{Has}
 use Rattle.dpl_cell.specs.Rule.{cell_of, Grows, IsTrueMiss, Knows, IsKept, numbers_from, first_view, AreOpening}
 use Rattle.dpl_cell.specs.Steps.{first_of, rest_of, without_first, with_first}
-use Rattle.dpl_cell.proofs.Numbers.{Has-head, Has-numbers_from}
+use Rattle.dpl_cell.proofs.Numbers.{Has-numbers_from}
 use Rattle.dpl_cell.proofs.Views.{no_hold}
 use Rattle.dpl_cell.proofs.Looking.{word_at}
 

@@ -84,7 +84,12 @@ fn gather(board: &Board, gatherer: &mut Seat, mut seats: Vec<Seat>)
 }
 
 // The cell that is left where so many tasks, each on a thread of its own, count up from 0.
-fn count_together<R: Threads + Sync>(rt: &R, alloc: Global, tasks: u64, rounds: u64) -> Option<CellState>
+fn count_together<R: Threads + Sync>(
+    rt: &R,
+    alloc: Global,
+    tasks: u64,
+    rounds: u64,
+) -> Option<CellState>
     requires { (0 < tasks) × (tasks ≤ 64) }
 {
     let mut cells = Vec::new(alloc);
@@ -108,16 +113,46 @@ fn each_operation_on_each_state(rt: HostRuntime) {
     let full = CellState::Full(5);
     let rows = [
         (CellOp::ReadFE, CellState::Empty, None, CellState::Empty),
-        (CellOp::ReadFE, full, Some(Reply::Value(5)), CellState::Empty),
+        (
+            CellOp::ReadFE,
+            full,
+            Some(Reply::Value(5)),
+            CellState::Empty,
+        ),
         (CellOp::ReadFF, CellState::Empty, None, CellState::Empty),
         (CellOp::ReadFF, full, Some(Reply::Value(5)), full),
-        (CellOp::WriteEF(7), CellState::Empty, Some(Reply::Done), CellState::Full(7)),
+        (
+            CellOp::WriteEF(7),
+            CellState::Empty,
+            Some(Reply::Done),
+            CellState::Full(7),
+        ),
         (CellOp::WriteEF(7), full, None, full),
         (CellOp::WriteFF(7), CellState::Empty, None, CellState::Empty),
-        (CellOp::WriteFF(7), full, Some(Reply::Done), CellState::Full(7)),
-        (CellOp::WriteXF(7), CellState::Empty, Some(Reply::Done), CellState::Full(7)),
-        (CellOp::WriteXF(7), full, Some(Reply::Done), CellState::Full(7)),
-        (CellOp::Reset, CellState::Empty, Some(Reply::Done), CellState::Empty),
+        (
+            CellOp::WriteFF(7),
+            full,
+            Some(Reply::Done),
+            CellState::Full(7),
+        ),
+        (
+            CellOp::WriteXF(7),
+            CellState::Empty,
+            Some(Reply::Done),
+            CellState::Full(7),
+        ),
+        (
+            CellOp::WriteXF(7),
+            full,
+            Some(Reply::Done),
+            CellState::Full(7),
+        ),
+        (
+            CellOp::Reset,
+            CellState::Empty,
+            Some(Reply::Done),
+            CellState::Empty,
+        ),
         (CellOp::Reset, full, Some(Reply::Done), CellState::Empty),
     ];
     for (op, before, reply, after) in rows {

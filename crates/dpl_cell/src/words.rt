@@ -22,7 +22,9 @@ use std::alloc::{AllocError, Global};
 
 // The words of a state: empty, full, and busy while a seat holds the cell.
 const EMPTY: u64 = 0;
+
 const FULL: u64 = 1;
+
 const BUSY: u64 = 2;
 
 #[derive(Drop)]
@@ -215,10 +217,7 @@ impl Words {
         ensures ours { AllUpTo token.me.0.tasks token.me.0.history }
         ensures misses { All (Agrees token.me.0.opening token.me.0.history) token.me.0.misses }
     {
-        let Words {
-            table,
-            count,
-        } = self;
+        let Words { table, count } = self;
         let closed = table.close_with(token);
         for cell in 0..count {
             cells[cell] = to_cell(closed.word(cell), closed.word(count + cell));

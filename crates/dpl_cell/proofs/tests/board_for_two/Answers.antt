@@ -1,4 +1,4 @@
-use Rattle.std.proofs.Common.{rules, ◌≡◌, ℕ, length, subst}
+use Rattle.std.proofs.Common.{rules, ◌≡◌, ℕ, length}
 use Rattle.dpl_cell.specs.Seats.{SeatValue, fresh_seat}
 use Rattle.dpl_cell.proofs.SeatLists.{each_pop}
 use Rattle.dpl_cell.proofs.tests.board_for_two.Goals as goal

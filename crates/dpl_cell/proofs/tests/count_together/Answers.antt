@@ -1,10 +1,10 @@
-use Rattle.std.proofs.Common.{rules, ◌≡◌, ℕ, zero, suc, ◌<◌, ◌≤◌, List, [], ◌∷◌, ◌++◌, take, drop, vec_len, length, get_or, refl, sym, ap, ◌∙◌, subst, arith, None, Some, slice_get}
+use Rattle.std.proofs.Common.{rules, ◌≡◌, ℕ, zero, suc, ◌<◌, List, [], ◌∷◌, ◌++◌, take, drop, vec_len, length, get_or, sym, ap, ◌∙◌, subst, arith, None, Some, slice_get}
 use Rattle.std.proofs.Math.ListN.{drop_of_length-le}
 use Rattle.std.proofs.lemmas.List.{take_all}
 use Rattle.std.proofs.lemmas.Option.{slice_get-get_or, get_or_from_slice_get}
 use mathlib.Core.List.{append-nil}
 use Rattle.dpl_cell.specs.Views.{KeepsNumbers}
-use Rattle.dpl_cell.specs.Seats.{SeatValue, BoardValue, IsSeatOf, fresh_seat}
+use Rattle.dpl_cell.specs.Seats.{SeatValue, IsSeatOf, fresh_seat}
 use Rattle.dpl_cell.proofs.SeatLists.{each_pop}
 use Rattle.dpl_cell.proofs.tests.count_together.Goals as goal
 

@@ -1,5 +1,4 @@
-use Rattle.std.proofs.Common.{◌≡◌, ℕ, Some, refl, ap, ◌∙◌, subst}
-use Rattle.dpl_cell.specs.Cells.{effect}
+use Rattle.std.proofs.Common.{ℕ, Some, refl, ap, ◌∙◌, subst}
 use Rattle.dpl_cell.specs.Rule.{cell_of}
 use Rattle.dpl_cell.specs.Steps.{TokenState, hold, Ends}
 use Rattle.dpl_cell.specs.declared.cell.CellState.{CellState}
