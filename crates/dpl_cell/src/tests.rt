@@ -36,6 +36,19 @@ fn close_all(board: Board, mut gatherer: Seat, one: Seat, zero: Seat) -> Vec<Cel
     board.close(gatherer)
 }
 
+// Opens a board with one cell, uses it and closes it. Whether there was memory for it.
+fn opens_and_closes(alloc: Global) -> bool {
+    let mut cells = Vec::new(alloc);
+    let Ok(()) = cells.push(CellState::Full(1)) else {
+        return false;
+    };
+    let Some((board, mut zero, one, gatherer)) = board_for_two(alloc, cells) else {
+        return false;
+    };
+    board.try_op(&mut zero, 0, CellOp::WriteXF(2)) == Tried::Done(Reply::Done)
+        && close_all(board, gatherer, one, zero).len() == 1
+}
+
 // Two operations of one task, up to many times each.
 fn pair(
     board: &Board,
@@ -210,6 +223,14 @@ fn no_cells(rt: HostRuntime) -> Result<(), Fail> {
     assert!(rt; board.count() == 0);
     assert!(rt; close_all(board, gatherer, one, zero).is_empty());
     Ok(())
+}
+
+// Under `rt try --test --fail-alloc N` the Nth growth is refused: then one of the two boards is not made, and the other is.
+#[test]
+fn a_growth_refused(rt: HostRuntime) {
+    let first = opens_and_closes(rt.alloc());
+    let second = opens_and_closes(rt.alloc());
+    assert!(rt; first || second);
 }
 
 #[test]
