@@ -1,4 +1,5 @@
--- The words and the first view of a board keep its rule, and its numbers are given away one by one.
+-- The words and the first view of a board keep its rule.
+-- The first seat answers for all numbers, and gives them away one by one.
 use Rattle.std.proofs.Common.{◌≡◌, ◌≢◌, ℕ, zero, suc, ◌+◌, ◌-◌, ◌<◌, ◌≤◌, List, [], ◌∷◌, length, None, sym, refl, ap, subst, arith}
 use Rattle.std.proofs.lemmas.List.Elements.{All-nil}
 use mathlib.Core.Option.{some, some-injective, some-ne-none}

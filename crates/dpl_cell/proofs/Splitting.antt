@@ -1,4 +1,5 @@
 -- Cutting a seat off keeps the rule: the first of a seat's numbers goes to a new seat.
+-- The new seat knows the same history and no misses.
 use Rattle.std.proofs.Common.{◌≡◌, ◌≢◌, ℕ, List, [], ◌∷◌, length, set, None, sym, refl, ap, ◌∙◌, subst, ⊎_elim}
 use Rattle.std.proofs.lemmas.List.Elements.{All-nil}
 use mathlib.Core.Option.{some}

@@ -1,6 +1,6 @@
 -- What a call tells its caller, from what its steps told.
+-- A try is a taking and a publishing, or a miss; `op` is some misses and then a try; a join is followed by what the rule vouches for.
 use Rattle.std.proofs.Common.{◌≡◌, ℕ, ◌+◌, ◌≤◌, List, [], ◌∷◌, ◌++◌, length, Some, sym, refl, ap, ◌∙◌, subst, arith, append_assoc, length-append, All}
-use mathlib.Core.List.{append-nil}
 use Rattle.std.proofs.lemmas.List.Elements.{All-append, All-weaker, All-nil, All-cons, All-head, All-tail}
 use Rattle.dpl_cell.specs.declared.cell.CellState.{CellState}
 use Rattle.dpl_cell.specs.declared.cell.CellOp.{CellOp}
@@ -16,7 +16,7 @@ use Rattle.dpl_cell.specs.Looks.{miss}
 use Rattle.dpl_cell.specs.Views.{Has, KeepsNumbers, Did, Missed, IsMissAt, Waited, longer, Joined}
 use Rattle.dpl_cell.specs.Rule.{cell_of, Grows}
 use Rattle.dpl_cell.specs.Steps.{TokenState, hold, Took, Ends, growth, gathered}
-use Rattle.dpl_cell.proofs.Histories.{of_task-push_same, of_task-push_other, StartsWith-same, StartsWith-trans, StartsWith-length}
+use Rattle.dpl_cell.proofs.Histories.{of_task-push_same, of_task-push_other, StartsWith-trans, StartsWith-length}
 use Rattle.dpl_cell.proofs.Taking.{holding}
 
 Did-holding : (v : View) (h : Hold) (m m' : TokenState) (c : ℕ) (op : CellOp) (r : Reply) → Has v.number v.numbers → Ends (holding v h, m.1) c op r m' → Did v c op r m'.0
@@ -48,13 +48,6 @@ Did-ends v m m' c op r w acts t e = Did-holding v (hold c (cell_of w t.value) t.
 
 pub KeepsNumbers-trans : (v u w : View) → KeepsNumbers v u → KeepsNumbers u w → KeepsNumbers v w
 KeepsNumbers-trans v u w a b = (b.0 ∙ a.0, b.1 ∙ a.1)
-
-pub Waited-zero : (v : View) (c : ℕ) (op : CellOp) → Waited 0 v c op v
-Waited-zero v c op = record {
-  begins = StartsWith-same v.history;
-  quiet = λ _ _. refl;
-  missed = ([], sym (append-nil v.misses), refl, All-nil _);
-}
 
 pub Waited-suc : (n : ℕ) (v u w : View) (c : ℕ) (op : CellOp) (word : ℕ) → Waited n v c op u → KeepsNumbers v u → Missed u c op word w → Waited (n + 1) v c op w
 Waited-suc n v u w c op word a same b = let x = a.missed in

@@ -1,4 +1,5 @@
--- The definitions that the contracts cite, in reading order: cells, histories, looks, what a seat knows, and the rule.
+-- The definitions that the contracts cite, in reading order: cells, histories, looks, what a seat knows, and what calls tell.
+-- `Rule` and `Steps` are for the private functions alone: how all of it is kept.
 pub mod Cells
 pub mod Histories
 pub mod Looks

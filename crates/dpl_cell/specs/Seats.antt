@@ -1,4 +1,5 @@
 -- What the contracts see of a board, of a seat, and of one try.
+-- A board and a seat are seen by these values alone, and by no field.
 use Rattle.std.specs.Prelude.{◌≡◌, ℕ, List, [], ◌∷◌, None}
 use Rattle.atomic_table.specs.Seated.{TableId}
 use Rattle.dpl_cell.specs.declared.cell.CellState.{CellState}

@@ -27,7 +27,8 @@ impl Model for Board {
 
     ghost Value = { BoardValue };
 
-    ghost view = { λ b. record { board = b.words.table.shared.table_id; opening = b.words.table.shared.key.cells.items; tasks = b.words.table.shared.key.tasks } };
+    ghost view = { λ b. let shared = b.words.table.shared in
+        record { board = shared.table_id; opening = shared.key.cells.items; tasks = shared.key.tasks } };
 
     ghost invariant = { λ b. vec_len b.cells ≡ b.words.count };
 }
@@ -43,7 +44,8 @@ impl Board {
         ensures opening { IfOk result (λ b. b.0.opening ≡ cells.items) }
         ensures tasks { IfOk result (λ b. b.0.tasks ≡ tasks) }
         ensures count { IfOk result (λ b. vec_len b.1 ≡ tasks + 1) }
-        ensures seats { IfOk result (λ b. (k : ℕ) (s : SeatValue) → slice_get b.1.items k ≡ Some s → s ≡ fresh_seat b.0 k) }
+        ensures seats { IfOk result (λ b. (k : ℕ) (s : SeatValue) → slice_get b.1.items k ≡ Some s
+            → s ≡ fresh_seat b.0 k) }
     {
         let plan = Plan { cells, tasks };
         let (words, mut rest) = Words::new(alloc, &plan)?;

@@ -72,7 +72,9 @@ impl Words {
         requires cell { cell < self.now.count }
         requires acts { Has token.old.me.0.number token.old.me.0.numbers }
         ensures same { (token.new.table_id ≡ token.old.table_id) × (token.new.me.1 ≡ token.old.me.1) }
-        ensures told { MatchResult result (λ _. token.new.me.0 ≡ token.old.me.0) (λ w. (w ≢ FIT) × SeesMiss token.old.me.0 cell w token.new.me.0) }
+        ensures told { MatchResult result
+            (λ _. token.new.me.0 ≡ token.old.me.0)
+            (λ w. (w ≢ FIT) × SeesMiss token.old.me.0 cell w token.new.me.0) }
     {
         let found = self.table.shared.load::<Look<FIT>>(token, cell);
         if found == FIT { Ok(()) } else { Err(found) }
@@ -87,7 +89,9 @@ impl Words {
         requires idle { token.old.me.0.held ≡ None }
         requires acts { Has token.old.me.0.number token.old.me.0.numbers }
         ensures same { (token.new.table_id ≡ token.old.table_id) × (token.new.me.1 ≡ token.old.me.1) }
-        ensures told { MatchResult result (λ w. (w ≡ FIT) × Took token.old.me.0 cell w token.new.me.0) (λ w. (w ≢ FIT) × SeesMiss token.old.me.0 cell w token.new.me.0) }
+        ensures told { MatchResult result
+            (λ w. (w ≡ FIT) × Took token.old.me.0 cell w token.new.me.0)
+            (λ w. (w ≢ FIT) × SeesMiss token.old.me.0 cell w token.new.me.0) }
     {
         self.look::<FIT>(token, cell)?;
         let found = self
@@ -104,7 +108,9 @@ impl Words {
         requires idle { token.old.me.0.held ≡ None }
         requires acts { Has token.old.me.0.number token.old.me.0.numbers }
         ensures same { (token.new.table_id ≡ token.old.table_id) × (token.new.me.1 ≡ token.old.me.1) }
-        ensures told { MatchResult result (λ w. (w < 2) × Took token.old.me.0 cell w token.new.me.0) (λ w. (w ≡ 2) × SeesMiss token.old.me.0 cell w token.new.me.0) }
+        ensures told { MatchResult result
+            (λ w. (w < 2) × Took token.old.me.0 cell w token.new.me.0)
+            (λ w. (w ≡ 2) × SeesMiss token.old.me.0 cell w token.new.me.0) }
     {
         let found = self.table.shared.swap::<Seize>(token, cell, BUSY);
         if found == BUSY { Err(found) } else { Ok(found) }
@@ -117,7 +123,9 @@ impl Words {
         requires idle { token.old.me.0.held ≡ None }
         requires acts { Has token.old.me.0.number token.old.me.0.numbers }
         ensures same { (token.new.table_id ≡ token.old.table_id) × (token.new.me.1 ≡ token.old.me.1) }
-        ensures told { MatchResult result (λ w. fits w op × Took token.old.me.0 cell w token.new.me.0) (λ w. (fits w op → ⊥) × SeesMiss token.old.me.0 cell w token.new.me.0) }
+        ensures told { MatchResult result
+            (λ w. fits w op × Took token.old.me.0 cell w token.new.me.0)
+            (λ w. (fits w op → ⊥) × SeesMiss token.old.me.0 cell w token.new.me.0) }
     {
         match op {
             CellOp::ReadFE | CellOp::ReadFF | CellOp::WriteFF(_) => self.take::<FULL>(token, cell),
@@ -145,7 +153,8 @@ impl Words {
         requires cell { cell < self.now.count }
         requires held { (h : Hold) × (token.old.me.0.held ≡ Some h) × (h.cell ≡ cell) }
         ensures same { token.new.table_id ≡ token.old.table_id }
-        ensures held { (h : Hold) → token.old.me.0.held ≡ Some h → token.new.me ≡ (record token.old.me.0 { held = Some (record h { value = value }) }, token.old.me.1) }
+        ensures held { (h : Hold) → token.old.me.0.held ≡ Some h
+            → token.new.me ≡ (record token.old.me.0 { held = Some (record h { value = value }) }, token.old.me.1) }
     {
         self.table
             .shared
@@ -157,7 +166,9 @@ impl Words {
         requires own { token.old.table_id ≡ self.now.table.shared.table_id }
         requires cell { cell < self.now.count }
         requires state { state < 2 }
-        requires held { (h : Hold) × (c : CellState) × (r : Reply) × (token.old.me.0.held ≡ Some h) × (h.cell ≡ cell) × (effect op.now h.before ≡ Some (c, r)) × (c ≡ cell_of state h.value) }
+        requires held { (h : Hold) × (c : CellState) × (r : Reply)
+            × (token.old.me.0.held ≡ Some h) × (h.cell ≡ cell)
+            × (effect op.now h.before ≡ Some (c, r)) × (c ≡ cell_of state h.value) }
         ensures same { token.new.table_id ≡ token.old.table_id }
         ensures told { Publishes token.old.me op.now token.new.me }
     {
@@ -192,12 +203,14 @@ impl Words {
 
     // The token takes in what another knows, and is told what the rule says of it.
     pub(crate) fn join(&self, token: &mut Token, other: Token)
-        requires own { (token.old.table_id ≡ self.now.table.shared.table_id) × (other.table_id ≡ self.now.table.shared.table_id) }
+        requires own { token.old.table_id ≡ self.now.table.shared.table_id }
+        requires other { other.table_id ≡ self.now.table.shared.table_id }
         requires idle { (token.old.me.0.held ≡ None) × (other.me.0.held ≡ None) × (other.me.1 ≡ []) }
         requires acts { Has token.old.me.0.number token.old.me.0.numbers }
         ensures own { token.new.table_id ≡ token.old.table_id }
         ensures idle { (token.new.me.0.held ≡ None) × (token.new.me.1 ≡ token.old.me.1) }
-        ensures board { (token.new.me.0.opening ≡ token.old.me.0.opening) × (token.new.me.0.tasks ≡ token.old.me.0.tasks) }
+        ensures opening { token.new.me.0.opening ≡ token.old.me.0.opening }
+        ensures tasks { token.new.me.0.tasks ≡ token.old.me.0.tasks }
         ensures joined { Joined token.old.me.0 other.me.0 token.new.me.0 }
         ensures legal { Legal token.new.me.0.opening token.new.me.0.history }
         ensures ours { AllUpTo token.new.me.0.tasks token.new.me.0.history }

@@ -1,3 +1,5 @@
+-- `board_for_two`: the seats come off the list from its end.
+-- By `SeatLists`.
 use Rattle.std.proofs.Common.{rules, ◌≡◌, ℕ, length}
 use Rattle.dpl_cell.specs.Seats.{SeatValue, fresh_seat}
 use Rattle.dpl_cell.proofs.SeatLists.{each_pop}

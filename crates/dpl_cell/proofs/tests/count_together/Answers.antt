@@ -1,3 +1,5 @@
+-- `count_together`: each thread leaves its seat one of the board, with its number.
+-- The list that was lent to the threads has as many seats after as before.
 use Rattle.std.proofs.Common.{rules, ◌≡◌, ℕ, zero, suc, ◌<◌, List, [], ◌∷◌, ◌++◌, take, drop, vec_len, length, get_or, sym, ap, ◌∙◌, subst, arith, None, Some, slice_get}
 use Rattle.std.proofs.Math.ListN.{drop_of_length-le}
 use Rattle.std.proofs.lemmas.List.{take_all}

@@ -1,3 +1,5 @@
+-- `gather`: the seat that is joined has the number of seats that are left.
+-- By `SeatLists` and `Numbers`.
 use Rattle.std.proofs.Common.{rules, ◌≡◌, ℕ, ◌+◌, List, [], ◌∷◌, vec_len, sym, ap, ◌∙◌, subst, arith}
 use mathlib.Core.Logic.{dite}
 use native.Mathlib.Decide.{ℕ_discrete}

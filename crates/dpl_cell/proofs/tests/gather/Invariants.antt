@@ -1,3 +1,5 @@
+-- `gather`: the gatherer answers for all numbers from that of the seats that are left.
+-- Each of these answers for its own.
 use Rattle.std.proofs.Common.{◌≡◌, ℕ, ◌≤◌, [], ◌∷◌, Some, slice_get, vec_len}
 use Rattle.dpl_cell.specs.Views.{Has}
 use Rattle.dpl_cell.specs.Seats.{SeatValue, IsSeatOf}

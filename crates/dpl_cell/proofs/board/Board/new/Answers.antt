@@ -1,3 +1,5 @@
+-- `Board::new`: seat k has the number k alone, and the last seat the gatherer's.
+-- Each turn of the loop gives the next number away.
 use Rattle.std.proofs.Common.{rules, ◌≡◌, ℕ, ◌+◌, ◌-◌, ◌<◌, List, [], length, sym, ap, ◌∙◌, subst, arith, Some}
 use Rattle.std.specs.List.{slice_get}
 use Rattle.dpl_cell.specs.declared.view.View.{View}

@@ -1,3 +1,5 @@
+-- `Board::new`: the seats before the loop's number are dealt, and the rest of the numbers are left.
+-- There is room for all of them.
 use Rattle.std.proofs.Common.{◌≡◌, ℕ, ◌+◌, ◌≤◌, [], Some, slice_get, vec_len}
 use Rattle.std.specs.Vec.{vec_capacity}
 use Rattle.dpl_cell.specs.Seats.{SeatValue}

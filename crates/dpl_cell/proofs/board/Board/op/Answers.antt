@@ -1,3 +1,5 @@
+-- `op`: a try that misses is one miss more.
+-- By `Telling`.
 use Rattle.dpl_cell.proofs.Telling.{KeepsNumbers-trans, Waited-suc}
 use Rattle.dpl_cell.proofs.board.Board.op.Goals as goal
 

@@ -1,3 +1,5 @@
+-- `op`: all tries so far missed.
+-- After the first, the seat knows a legal history.
 use Rattle.std.proofs.Common.{◌<◌}
 use Rattle.dpl_cell.specs.Histories.{Legal, AllUpTo}
 use Rattle.dpl_cell.specs.Views.{KeepsNumbers, Waited}

@@ -1,3 +1,5 @@
+-- `try_op`: a taking and a publishing are the operation done.
+-- By `Telling`.
 use Rattle.std.proofs.Common.{subst}
 use Rattle.dpl_cell.specs.Seats.{SeatValue}
 use Rattle.dpl_cell.specs.Views.{Did}

@@ -1,3 +1,5 @@
+-- `close`: the cells that are filled from the words are those that the seat's history leaves.
+-- By `Closing`.
 use Rattle.std.proofs.Common.{rules, ◌≡◌, ℕ, ◌+◌, ◌<◌, ◌≤◌, length, sym, ◌∙◌, subst, arith}
 use Rattle.dpl_cell.specs.Histories.{cell_at}
 use Rattle.dpl_cell.specs.Rule.{cell_of}

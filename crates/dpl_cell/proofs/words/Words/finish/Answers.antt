@@ -1,3 +1,5 @@
+-- `finish`: the cell that `apply` gets is the one that was taken, so its effect is the one that is published.
+-- One answer where the cell is left empty and one where it is left full.
 use Rattle.std.proofs.Common.{ℕ, Some, refl, ap, ◌∙◌, subst}
 use Rattle.dpl_cell.specs.Rule.{cell_of}
 use Rattle.dpl_cell.specs.Steps.{TokenState, hold, Ends}

@@ -1,3 +1,5 @@
+-- `join`: putting two seats together keeps the rule, and the load after it tells what came of it.
+-- By `Joining` and `Telling`.
 use Rattle.std.proofs.Common.{rules, sym, subst, ap}
 use Rattle.dpl_cell.specs.declared.view.View.{View}
 use Rattle.dpl_cell.specs.Views.{Has, Joined}

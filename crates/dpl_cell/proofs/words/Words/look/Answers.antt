@@ -1,3 +1,5 @@
+-- `look`: the load keeps the rule, whatever it finds.
+-- By `Looking`.
 use Rattle.std.proofs.Common.{rules}
 use Rattle.dpl_cell.proofs.Looking.{Allows-look}
 use Rattle.dpl_cell.proofs.words.Words.look.Goals as goal

@@ -1,3 +1,5 @@
+-- `Words::new`: the opening words and the first view keep the rule.
+-- By `Opening`.
 use Rattle.std.proofs.Common.{ℕ, List, sym, subst}
 use Rattle.dpl_cell.specs.Rule.{AreOpening}
 use Rattle.dpl_cell.proofs.Opening.{IsKept-first_view}

@@ -1,3 +1,5 @@
+-- `publish`: giving the held cell back keeps the rule.
+-- By `Publishing`.
 use Rattle.std.proofs.Common.{rules}
 use Rattle.dpl_cell.proofs.Publishing.{Allows-publish}
 use Rattle.dpl_cell.proofs.words.Words.publish.Goals as goal

@@ -1,3 +1,5 @@
+-- `read`: the load of the held cell's value word keeps the rule.
+-- By `Writing`.
 use Rattle.std.proofs.Common.{rules, ◌+◌, sym}
 use Rattle.dpl_cell.proofs.Writing.{Allows-read}
 use Rattle.dpl_cell.proofs.words.Words.read.Goals as goal

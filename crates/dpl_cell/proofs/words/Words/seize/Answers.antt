@@ -1,3 +1,5 @@
+-- `seize`: the swap keeps the rule, whether it takes the cell or misses.
+-- By `Taking`.
 use Rattle.std.proofs.Common.{rules}
 use Rattle.dpl_cell.proofs.Taking.{Allows-seize}
 use Rattle.dpl_cell.proofs.words.Words.seize.Goals as goal

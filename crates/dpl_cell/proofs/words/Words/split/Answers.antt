@@ -1,3 +1,5 @@
+-- `split`: giving the first number away keeps the rule.
+-- By `Splitting`.
 use Rattle.std.proofs.Common.{rules}
 use Rattle.dpl_cell.proofs.Opening.{Has-numbers_after}
 use Rattle.dpl_cell.proofs.Splitting.{Splits-first}

@@ -1,3 +1,5 @@
+-- `take`: the compare-exchange keeps the rule, whether it takes the cell or misses.
+-- By `Taking`.
 use Rattle.std.proofs.Common.{rules}
 use Rattle.dpl_cell.proofs.Taking.{Allows-take}
 use Rattle.dpl_cell.proofs.words.Words.take.Goals as goal

@@ -1,3 +1,5 @@
+-- `write`: the store into the held cell's value word keeps the rule.
+-- By `Writing`.
 use Rattle.std.proofs.Common.{rules, ◌+◌, sym}
 use Rattle.dpl_cell.proofs.Writing.{Allows-write}
 use Rattle.dpl_cell.proofs.words.Words.write.Goals as goal
