@@ -28,8 +28,14 @@ fits w Reset = w < 2
 abbrev pub miss : ℕ → ℕ → ℕ → ℕ → Miss
 miss k p c w = record { task = k; place = p; cell = c; word = w }
 
--- Empty or full: the events before the look leave the cell so. Busy: an event of that cell comes after the look.
+-- the cell was seen as the events before the look leave it: empty or full
+abbrev pub IsLeftSo : List CellState → List Event → Miss → Type 0
+IsLeftSo cs es m = state_word (cell_at (after cs (take m.place es)) m.cell) ≡ m.word
+
+-- the cell was seen busy, and an event of it comes after the look
+abbrev pub IsBusyThen : List Event → Miss → Type 0
+IsBusyThen es m = (m.word ≡ 2) × Any (λ e. e.cell ≡ m.cell) (drop m.place es)
+
+-- what was seen agrees with the history
 abbrev pub Agrees : List CellState → List Event → Miss → Type 0
-Agrees cs es m =
-    (m.place ≤ length es)
-    × ((state_word (cell_at (after cs (take m.place es)) m.cell) ≡ m.word) ⊎ ((m.word ≡ 2) × Any (λ e. e.cell ≡ m.cell) (drop m.place es)))
+Agrees cs es m = (m.place ≤ length es) × (IsLeftSo cs es m ⊎ IsBusyThen es m)

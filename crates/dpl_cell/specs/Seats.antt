@@ -8,7 +8,8 @@ use Rattle.dpl_cell.specs.declared.view.View.{View}
 use Rattle.dpl_cell.specs.declared.tried.Tried.{Tried}
 use Rattle.dpl_cell.specs.declared.tried.Tried.TheVariants.{Done, Missed}
 
--- a board: which one it is, the cells with which it was opened, and the number of its tasks, which is also the gatherer's number
+-- a board: which one it is, the cells with which it was opened, and the number of its tasks, which is also the
+-- gatherer's number
 pub record BoardValue : Type 0 where
   pub board : TableId
   pub opening : List CellState
@@ -27,7 +28,16 @@ IsSeatOf b s = (s.board ≡ b.board) × (s.knows.opening ≡ b.opening) × (s.kn
 abbrev pub fresh_seat : BoardValue → ℕ → SeatValue
 fresh_seat b k = record {
   board = b.board;
-  knows = record { opening = b.opening; tasks = b.tasks; number = k; numbers = k ∷ []; history = []; misses = []; held = None; joins = [] };
+  knows = record {
+    opening = b.opening;
+    tasks = b.tasks;
+    number = k;
+    numbers = k ∷ [];
+    history = [];
+    misses = [];
+    held = None;
+    joins = [];
+  };
 }
 
 -- the fact holds of the reply, if the try was done

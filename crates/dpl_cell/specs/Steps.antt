@@ -48,11 +48,17 @@ looked fit st m found m' = (m'.1 ≡ m.1) × (found ≡ fit → m'.0 ≡ m.0) ×
 
 -- a compare-exchange of a state word from the one that fits to busy: the cell is taken, or a miss
 abbrev pub taken : Step CellOp → TokenState → ℕ → TokenState → Type 0
-taken st m found m' = (m'.1 ≡ m.1) × (found ≡ st.first → Took m.0 st.word found m'.0) × (found ≢ st.first → SeesMiss m.0 st.word found m'.0)
+taken st m found m' =
+    (m'.1 ≡ m.1)
+    × (found ≡ st.first → Took m.0 st.word found m'.0)
+    × (found ≢ st.first → SeesMiss m.0 st.word found m'.0)
 
 -- a swap of busy into a state word: the cell is taken, or was busy, which is a miss
 abbrev pub seized : Step CellOp → TokenState → ℕ → TokenState → Type 0
-seized st m found m' = (m'.1 ≡ m.1) × (found < 3) × (found ≢ 2 → Took m.0 st.word found m'.0) × (found ≡ 2 → SeesMiss m.0 st.word found m'.0)
+seized st m found m' =
+    (m'.1 ≡ m.1) × (found < 3)
+    × (found ≢ 2 → Took m.0 st.word found m'.0)
+    × (found ≡ 2 → SeesMiss m.0 st.word found m'.0)
 
 -- a load of the held cell's value word finds the value that the seat knows
 abbrev pub was_read : Step CellOp → TokenState → ℕ → TokenState → Type 0
@@ -78,7 +84,9 @@ pub record Ends (m : TokenState) (c : ℕ) (op : CellOp) (r : Reply) (m' : Token
 
 -- the held cell was given back, with the event of the operation on the cell as it was
 abbrev pub Publishes : TokenState → CellOp → TokenState → Type 0
-Publishes m op m' = (h : Hold) (c : CellState) (r : Reply) → m.0.held ≡ Some h → effect op h.before ≡ Some (c, r) → Ends m h.cell op r m'
+Publishes m op m' =
+    (h : Hold) (c : CellState) (r : Reply) → m.0.held ≡ Some h → effect op h.before ≡ Some (c, r)
+    → Ends m h.cell op r m'
 
 -- a compare-exchange of the held cell's state word from busy to what the operation leaves, which was announced
 abbrev pub published : Step CellOp → TokenState → ℕ → TokenState → Type 0

@@ -31,8 +31,8 @@ pub record Did (v : View) (cell : ℕ) (op : CellOp) (r : Reply) (w : View) : Ty
   pub others : (k : ℕ) → Has k v.numbers → k ≢ v.number → of_task k w.history ≡ of_task k v.history
   pub misses : w.misses ≡ v.misses
 
--- The operation missed: the word that was seen does not fit it, and is one miss more, at the length of the history known then.
--- That history begins with the old one, and has no new event of the seat's numbers.
+-- The operation missed: the word that was seen does not fit it, and is one miss more, at the length of the history known
+-- then. That history begins with the old one, and has no new event of the seat's numbers.
 pub record Missed (v : View) (cell : ℕ) (op : CellOp) (word : ℕ) (w : View) : Type 0 where
   pub begins : StartsWith w.history v.history
   pub quiet : (k : ℕ) → Has k v.numbers → of_task k w.history ≡ of_task k v.history
@@ -51,7 +51,9 @@ pub record IsMissAt (number cell : ℕ) (op : CellOp) (low high : ℕ) (m : Miss
 pub record Waited (n : ℕ) (v : View) (cell : ℕ) (op : CellOp) (w : View) : Type 0 where
   pub begins : StartsWith w.history v.history
   pub quiet : (k : ℕ) → Has k v.numbers → of_task k w.history ≡ of_task k v.history
-  pub missed : (ms : List Miss) × (w.misses ≡ v.misses ++ ms) × (length ms ≡ n) × All (IsMissAt v.number cell op (length v.history) (length w.history)) ms
+  pub missed :
+      (ms : List Miss) × (w.misses ≡ v.misses ++ ms) × (length ms ≡ n)
+      × All (IsMissAt v.number cell op (length v.history) (length w.history)) ms
 
 -- some tries missed, fewer than `tries`, and then the operation was done
 pub record DidAfter (tries : ℕ) (v : View) (cell : ℕ) (op : CellOp) (r : Reply) (w : View) : Type 0 where

@@ -34,7 +34,8 @@ impl Model for Board {
 }
 
 impl Board {
-    /// A board of these cells, with a seat for each task, in order, and a last one for the gatherer, whose number is `tasks`.
+    /// A board of these cells, with a seat for each task, in order, and a last one for the gatherer, whose number is
+    /// `tasks`. Cells and tasks are numbered from 0. `NoMemory` drops the cells.
     pub fn new(
         alloc: Global,
         cells: Vec<CellState>,
@@ -66,7 +67,8 @@ impl Board {
         self.cells.len()
     }
 
-    /// Tries an operation once, as the seat's number. Where it would have to wait, nothing is done.
+    /// Tries an operation once, as the seat's number, on the cell with this number. Where it would have to wait, it
+    /// is not done.
     pub fn try_op(&self, seat: &mut Seat, cell: usize, op: CellOp) -> Tried
         requires own { IsSeatOf self.now seat.old }
         requires cell { cell < length self.now.opening }

@@ -80,8 +80,8 @@ impl Words {
         if found == FIT { Ok(()) } else { Err(found) }
     }
 
-    // Takes a cell whose state word is `FIT`, or misses. The look before the exchange leaves the word's cache line shared
-    // while a task waits.
+    // Takes a cell whose state word is `FIT`, or misses. While a task waits it only looks, which leaves the word's cache
+    // line shared.
     fn take<const FIT: u64>(&self, token: &mut Token, cell: usize) -> Result<u64, u64>
         requires own { token.old.table_id ≡ self.now.table.shared.table_id }
         requires cell { cell < self.now.count }
