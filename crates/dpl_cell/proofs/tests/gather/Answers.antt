@@ -9,14 +9,6 @@ use Rattle.dpl_cell.proofs.Numbers.{Has-head, Has-append_left, Has-append_right}
 use Rattle.dpl_cell.proofs.SeatLists.{each_pop}
 use Rattle.dpl_cell.proofs.tests.gather.Goals as goal
 
-pub loop-seat-init : goal.loop-seat-init
-loop-seat-init c = record {
-  own = c.requires.own;
-  joined = λ k low high. let same : k ≡ vec_len c.args.seats = omega arith in
-      subst (λ (ns : List ℕ). Has k ns) (ap (λ (n : ℕ). n ∷ []) same ∙ sym c.requires.numbers) (Has-head k []);
-  seats = c.requires.seats;
-}
-
 pub loop-seat-preserved : goal.loop-seat-preserved
 loop-seat-preserved c = let n : ℕ = vec_len c.pop.new.self in let inv = c.loop-seat.invariant in
     let P : ℕ → SeatValue → Type 0 = λ k s. IsSeatOf c.args.board.now s × (s.knows.numbers ≡ k ∷ []) in
