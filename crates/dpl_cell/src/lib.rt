@@ -1,0 +1,23 @@
+//! Full/empty cells that tasks on any threads share, with one legal history of all that was done to them.
+//! Read `apply` for one thread, then `Board` and its calls; the words of their clauses stand in `specs/`, in reading order.
+#![tactic(auto)]
+
+mod board;
+mod cell;
+mod history;
+mod rule;
+mod seat;
+mod steps;
+mod tried;
+mod view;
+mod words;
+
+pub use board::Board;
+pub use cell::{CellOp, CellState, Reply, apply};
+pub use history::{Event, Miss};
+pub use seat::Seat;
+pub use tried::{NoMemory, Stuck, Tried};
+pub use view::{Growth, Hold, View};
+
+#[cfg(test)]
+mod tests;

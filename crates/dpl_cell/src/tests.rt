@@ -1,0 +1,266 @@
+//! The worked rows of cells and boards, on one thread and on many.
+//! What the clauses say isn't tested again; the rows show that they say what is meant, and that the calls end.
+ghost use Rattle.std.specs.Prelude.{◌≡◌, ℕ, ◌+◌, ◌<◌, ◌≤◌, [], ◌∷◌, length, vec_len, Some, slice_get, IfSome};
+ghost use Rattle.dpl_cell.specs.Views.{Has, KeepsNumbers};
+ghost use Rattle.dpl_cell.specs.Seats.{SeatValue, IsSeatOf, fresh_seat};
+
+use crate::{Board, CellOp, CellState, Reply, Seat, Stuck, Tried, apply};
+use std::alloc::Global;
+use std::test::Fail;
+use std::thread::{Threads, for_each_mut, join};
+
+const TRIES: u64 = 100_000_000;
+
+// A board for two tasks, with the seats of task 0, of task 1 and of the gatherer.
+fn board_for_two(alloc: Global, cells: Vec<CellState>) -> Option<(Board, Seat, Seat, Seat)>
+    ensures board { IfSome result (λ r. (r.0.opening ≡ cells.items) × (r.0.tasks ≡ 2)) }
+    ensures seats { IfSome result (λ r. (r.1 ≡ fresh_seat r.0 0) × (r.2 ≡ fresh_seat r.0 1) × (r.3 ≡ fresh_seat r.0 2)) }
+{
+    let Ok((board, mut seats)) = Board::new(alloc, cells, 2) else {
+        return None;
+    };
+    let gatherer = seats.pop()?;
+    let one = seats.pop()?;
+    let zero = seats.pop()?;
+    Some((board, zero, one, gatherer))
+}
+
+// Joins the seats of two tasks to the gatherer's and closes.
+fn close_all(board: Board, mut gatherer: Seat, one: Seat, zero: Seat) -> Vec<CellState>
+    requires board { board.tasks ≡ 2 }
+    requires seats { IsSeatOf board gatherer × IsSeatOf board one × IsSeatOf board zero }
+    requires numbers { (gatherer.knows.numbers ≡ 2 ∷ []) × (one.knows.numbers ≡ 1 ∷ []) × (zero.knows.numbers ≡ 0 ∷ []) }
+{
+    board.join(&mut gatherer, zero);
+    board.join(&mut gatherer, one);
+    board.close(gatherer)
+}
+
+// Opens a board with one cell, uses it and closes it. Whether there was memory for it.
+fn opens_and_closes(alloc: Global) -> bool {
+    let mut cells = Vec::new(alloc);
+    let Ok(()) = cells.push(CellState::Full(1)) else {
+        return false;
+    };
+    let Some((board, mut zero, one, gatherer)) = board_for_two(alloc, cells) else {
+        return false;
+    };
+    board.try_op(&mut zero, 0, CellOp::WriteXF(2)) == Tried::Done(Reply::Done)
+        && close_all(board, gatherer, one, zero).len() == 1
+}
+
+// Two operations of one task, up to many times each.
+fn pair(
+    board: &Board,
+    mut seat: Seat,
+    first: (usize, CellOp),
+    second: (usize, CellOp),
+) -> (Result<Reply, Stuck>, Result<Reply, Stuck>, Seat)
+    requires seat { IsSeatOf board.now seat }
+    requires cells { (first.0 < length board.now.opening) × (second.0 < length board.now.opening) }
+    ensures { IsSeatOf board.entry.now result.2 × KeepsNumbers seat.knows result.2.knows }
+{
+    let one = board.op(&mut seat, first.0, first.1, TRIES);
+    let two = board.op(&mut seat, second.0, second.1, TRIES);
+    (one, two, seat)
+}
+
+// Adds 1 to the cell 0, `rounds` times, or stops early where it is stuck.
+fn count_up(board: &Board, seat: &mut Seat, rounds: u64)
+    requires own { IsSeatOf board.now seat.old }
+    requires cell { 0 < length board.now.opening }
+    ensures own { IsSeatOf board.now seat.new }
+    ensures numbers { KeepsNumbers seat.old.knows seat.new.knows }
+{
+    for made in 0..rounds {
+        let Ok(Reply::Value(value)) = board.op(seat, 0, CellOp::ReadFE, TRIES) else {
+            return;
+        };
+        let next = CellOp::WriteEF(value.wrapping_add(1));
+        let Ok(Reply::Done) = board.op(seat, 0, next, TRIES) else {
+            return;
+        };
+    }
+}
+
+// Joins the seats of all tasks to the gatherer's, the last task first.
+fn gather(board: &Board, gatherer: &mut Seat, mut seats: Vec<Seat>)
+    requires own { IsSeatOf board.now gatherer.old }
+    requires numbers { gatherer.old.knows.numbers ≡ vec_len seats ∷ [] }
+    requires seats { (k : ℕ) (s : SeatValue) → slice_get seats.items k ≡ Some s → IsSeatOf board.now s × (s.knows.numbers ≡ k ∷ []) }
+    ensures own { IsSeatOf board.now gatherer.new }
+    ensures all { (k : ℕ) → k ≤ vec_len seats → Has k gatherer.new.knows.numbers }
+{
+    while let Some(seat) = seats.pop() {
+        board.join(gatherer, seat);
+    }
+}
+
+// The cell that is left where so many tasks, each on a thread of its own, count up from 0.
+fn count_together<R: Threads + Sync>(
+    rt: &R,
+    alloc: Global,
+    tasks: u64,
+    rounds: u64,
+) -> Option<CellState>
+    requires { (0 < tasks) × (tasks ≤ 64) }
+{
+    let mut cells = Vec::new(alloc);
+    cells.push(CellState::Full(0)).ok()?;
+    let Ok((board, mut seats)) = Board::new(alloc, cells, tasks) else {
+        return None;
+    };
+    let mut gatherer = seats.pop()?;
+    let shared = &board;
+    let task = |_: usize, seat: &mut Seat|
+        requires { IsSeatOf shared.now seat.now × (0 < length shared.now.opening) }
+        ensures { IsSeatOf shared.entry.now seat.exit.now × KeepsNumbers seat.entry.now.knows seat.exit.now.knows }
+    { count_up(shared, seat, rounds) };
+    for_each_mut(rt, seats.as_mut_slice(), tasks as usize, &task);
+    gather(&board, &mut gatherer, seats);
+    board.close(gatherer).pop()
+}
+
+#[test]
+fn each_operation_on_each_state(rt: HostRuntime) {
+    let full = CellState::Full(5);
+    let rows = [
+        (CellOp::ReadFE, CellState::Empty, None, CellState::Empty),
+        (
+            CellOp::ReadFE,
+            full,
+            Some(Reply::Value(5)),
+            CellState::Empty,
+        ),
+        (CellOp::ReadFF, CellState::Empty, None, CellState::Empty),
+        (CellOp::ReadFF, full, Some(Reply::Value(5)), full),
+        (
+            CellOp::WriteEF(7),
+            CellState::Empty,
+            Some(Reply::Done),
+            CellState::Full(7),
+        ),
+        (CellOp::WriteEF(7), full, None, full),
+        (CellOp::WriteFF(7), CellState::Empty, None, CellState::Empty),
+        (
+            CellOp::WriteFF(7),
+            full,
+            Some(Reply::Done),
+            CellState::Full(7),
+        ),
+        (
+            CellOp::WriteXF(7),
+            CellState::Empty,
+            Some(Reply::Done),
+            CellState::Full(7),
+        ),
+        (
+            CellOp::WriteXF(7),
+            full,
+            Some(Reply::Done),
+            CellState::Full(7),
+        ),
+        (
+            CellOp::Reset,
+            CellState::Empty,
+            Some(Reply::Done),
+            CellState::Empty,
+        ),
+        (CellOp::Reset, full, Some(Reply::Done), CellState::Empty),
+    ];
+    for (op, before, reply, after) in rows {
+        let mut cell = before;
+        assert!(rt; apply(&mut cell, op) == reply);
+        assert!(rt; cell == after);
+    }
+}
+
+#[test]
+fn one_thread(rt: HostRuntime) -> Result<(), Fail> {
+    let mut cells = Vec::new(rt.alloc());
+    cells.push(CellState::Empty)?;
+    cells.push(CellState::Full(4))?;
+    let Some((board, mut zero, mut one, gatherer)) = board_for_two(rt.alloc(), cells) else {
+        panic!(rt; "no memory")
+    };
+    assert!(rt; board.count() == 2);
+    assert!(rt; board.try_op(&mut zero, 0, CellOp::ReadFE) == Tried::Missed(0));
+    assert!(rt; board.try_op(&mut zero, 1, CellOp::WriteEF(9)) == Tried::Missed(1));
+    assert!(rt; board.try_op(&mut one, 0, CellOp::WriteEF(9)) == Tried::Done(Reply::Done));
+    assert!(rt; board.op(&mut zero, 0, CellOp::ReadFE, 1) == Ok(Reply::Value(9)));
+    assert!(rt; board.op(&mut zero, 0, CellOp::ReadFE, 3) == Err(Stuck));
+    let cells = close_all(board, gatherer, one, zero);
+    assert_eq!(rt; cells.len(), 2);
+    assert!(rt; cells[0] == CellState::Empty && cells[1] == CellState::Full(4));
+    Ok(())
+}
+
+#[test]
+fn least_and_greatest_value(rt: HostRuntime) -> Result<(), Fail> {
+    let mut cells = Vec::new(rt.alloc());
+    cells.push(CellState::Full(i64::MIN))?;
+    let Some((board, mut zero, one, gatherer)) = board_for_two(rt.alloc(), cells) else {
+        panic!(rt; "no memory")
+    };
+    assert!(rt; board.try_op(&mut zero, 0, CellOp::ReadFE) == Tried::Done(Reply::Value(i64::MIN)));
+    assert!(rt; board.try_op(&mut zero, 0, CellOp::WriteEF(i64::MAX)) == Tried::Done(Reply::Done));
+    assert!(rt; board.try_op(&mut zero, 0, CellOp::ReadFF) == Tried::Done(Reply::Value(i64::MAX)));
+    assert!(rt; board.try_op(&mut zero, 0, CellOp::WriteFF(-1)) == Tried::Done(Reply::Done));
+    assert!(rt; board.try_op(&mut zero, 0, CellOp::ReadFF) == Tried::Done(Reply::Value(-1)));
+    assert!(rt; board.try_op(&mut zero, 0, CellOp::Reset) == Tried::Done(Reply::Done));
+    assert!(rt; board.try_op(&mut zero, 0, CellOp::WriteXF(i64::MIN)) == Tried::Done(Reply::Done));
+    let cells = close_all(board, gatherer, one, zero);
+    assert_eq!(rt; cells.len(), 1);
+    assert!(rt; cells[0] == CellState::Full(i64::MIN));
+    Ok(())
+}
+
+#[test]
+fn no_cells(rt: HostRuntime) -> Result<(), Fail> {
+    let Some((board, zero, one, gatherer)) = board_for_two(rt.alloc(), Vec::new(rt.alloc())) else {
+        panic!(rt; "no memory")
+    };
+    assert!(rt; board.count() == 0);
+    assert!(rt; close_all(board, gatherer, one, zero).is_empty());
+    Ok(())
+}
+
+// Under `rt try --test --fail-alloc N` the Nth growth is refused: then one of the two boards is not made, and the other is.
+#[test]
+fn a_growth_refused(rt: HostRuntime) {
+    let first = opens_and_closes(rt.alloc());
+    let second = opens_and_closes(rt.alloc());
+    assert!(rt; first || second);
+}
+
+#[test]
+fn two_threads(rt: HostRuntime) -> Result<(), Fail> {
+    let mut cells = Vec::new(rt.alloc());
+    cells.push(CellState::Empty)?;
+    cells.push(CellState::Empty)?;
+    let Some((board, zero, one, gatherer)) = board_for_two(rt.alloc(), cells) else {
+        panic!(rt; "no memory")
+    };
+    let shared = &board;
+    let (left, right) = join(
+        &rt,
+        move || { pair(shared, zero, (0, CellOp::WriteEF(1)), (1, CellOp::ReadFE)) },
+        move || { pair(shared, one, (0, CellOp::ReadFE), (1, CellOp::WriteEF(2))) },
+    );
+    assert!(rt; left.0 == Ok(Reply::Done) && left.1 == Ok(Reply::Value(2)));
+    assert!(rt; right.0 == Ok(Reply::Value(1)) && right.1 == Ok(Reply::Done));
+    let cells = close_all(board, gatherer, right.2, left.2);
+    assert_eq!(rt; cells.len(), 2);
+    assert!(rt; cells[0] == CellState::Empty && cells[1] == CellState::Empty);
+    Ok(())
+}
+
+#[test]
+fn eight_threads_a_thousand_times(rt: HostRuntime) {
+    assert!(rt; count_together(&rt, rt.alloc(), 8, 1000) == Some(CellState::Full(8000)));
+}
+
+#[test]
+fn sixty_four_threads(rt: HostRuntime) {
+    assert!(rt; count_together(&rt, rt.alloc(), 64, 1) == Some(CellState::Full(64)));
+}

@@ -1,0 +1,35 @@
+#!/bin/sh
+# Times cells beside a Mutex with Condvars that does the same, both in this one run, and prints the best of some rounds.
+# usage: scripts/bench-cells.sh [ROUNDS]. Needs rt and rustc. The benchmark's crate is built in a copy of the repository.
+set -eu
+
+rounds=${1:-9}
+top=$(cd "$(dirname "$0")/.." && pwd)
+work=$(mktemp -d)
+trap 'rm -rf "$work"' EXIT
+
+mkdir -p "$work/crates/cell_bench/src"
+cp "$top/HANDLES" "$work"
+cp -r "$top/crates/dpl_cell" "$work/crates"
+printf 'dpl_cell: atomic_table\ncell_bench: dpl_cell atomic_table\n' > "$work/crates.txt"
+cp "$top/benches/cells/cells.rt.txt" "$work/crates/cell_bench/src/main.rt"
+for function in exchange answer; do
+    mkdir -p "$work/crates/cell_bench/proofs/$function"
+    sed "s/FUNCTION/$function/" "$top/benches/cells/invariants.antt.txt" > "$work/crates/cell_bench/proofs/$function/Invariants.antt"
+done
+
+(cd "$work/crates/cell_bench" && rt run --jobs 2) > "$work/log" 2>&1 || { tail -n 20 "$work/log"; exit 1; }
+rustc -O -o "$work/mutex" "$top/benches/cells/mutex.rs"
+
+for _ in $(seq "$rounds"); do
+    printf '%s %s\n' "$("$work/crates/cell_bench/out/cell_bench")" "$("$work/mutex")"
+done | awk '
+    { for (i = 1; i <= 6; i++) if (NR == 1 || $i < best[i]) best[i] = $i }
+    END {
+        printf "%-34s %10s %10s\n", "ns, best of " NR " rounds", "pair", "round trip"
+        printf "%-34s %10d %10d\n", "cells", best[1], best[2]
+        printf "%-34s %10d %10d\n", "Mutex and Condvars", best[3], best[4]
+        printf "%-34s %10d %10d\n", "the same, notifying only waiters", best[5], best[6]
+        printf "%-34s %10.2f %10.1f\n", "lock / cells", best[3] / best[1], best[4] / best[2]
+        printf "%-34s %10.2f %10.1f\n", "lock notifying only waiters / cells", best[5] / best[1], best[6] / best[2]
+    }'
