@@ -3,3 +3,4 @@ pub mod Writers
 pub mod Runs
 pub mod Leaving
 pub mod Headline
+pub mod Refusing

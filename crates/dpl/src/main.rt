@@ -12,6 +12,7 @@ pub mod refused;
 mod run;
 mod statements;
 mod stop;
+mod text;
 pub mod writer;
 
 use std::io;
