@@ -1,4 +1,5 @@
 // The program `dpl`: it reads a text on standard input and prints what it means.
+// What it stands on is the public call `run_text`, whose contract is the theorem.
 #![tactic(auto)]
 
 mod collect;
@@ -9,15 +10,87 @@ mod lines;
 mod loops;
 pub mod outcome;
 pub mod refused;
-mod run;
+pub mod run;
 mod statements;
 mod stop;
-mod text;
+pub mod text;
 pub mod writer;
 
-use std::io;
+#[cfg(test)]
+mod tests;
 
-fn main(rt: HostRuntime) -> io::Result<()> {
-    println!(rt; "84")?;
-    Ok(())
+use config::{Config, Maps};
+use gate::OpenGate;
+use outcome::Outcome;
+use refused::Refused;
+use std::env;
+use std::io::{ErrorKind, Read};
+use std::process::ExitCode;
+use text::run_text;
+use writer::Plain;
+
+/// The greatest length of a text, in bytes. One byte more is read, so that a longer text is told from it.
+const LONGEST_TEXT: u64 = 1048576;
+
+/// How the process ends.
+#[derive(Clone, Copy, PartialEq, Eq, Debug)]
+enum Status {
+    Done = 0,
+    Fault = 1,
+    Rejected = 2,
+    Refused = 3,
+    Transfer = 4,
+    CommandLine = 5,
+}
+
+fn main(rt: HostRuntime) -> ExitCode {
+    ExitCode::from(read_and_run(&rt) as u8)
+}
+
+// Any word is one too many.
+fn has_words(rt: &HostRuntime) -> bool {
+    match env::args(rt) {
+        Ok(words) => words.count() != 1,
+        Err(_) => true,
+    }
+}
+
+// Reads the text, runs it, and tells on standard error what kept it from an outcome.
+fn read_and_run(rt: &HostRuntime) -> Status {
+    if has_words(rt) {
+        let _ = eprintln!(rt; "usage: dpl < PROGRAM");
+        return Status::CommandLine;
+    }
+    let mut text = Vec::new(rt.alloc());
+    match rt.stdin().take(LONGEST_TEXT + 1).read_to_end(&mut text) {
+        Ok(_) => run_bytes(rt, &text),
+        Err(e) if e.kind() == ErrorKind::OutOfMemory => {
+            let _ = eprintln!(rt; "dpl: M1");
+            Status::Refused
+        }
+        Err(_) => {
+            let _ = eprintln!(rt; "dpl: cannot read");
+            Status::Transfer
+        }
+    }
+}
+
+// Runs the text on one locale, with the budget and the tries that are the default.
+fn run_bytes(rt: &HostRuntime, text: &[u8]) -> Status {
+    let Ok(config) = Config::new(1, 16777216, 100000000, [1, 1], [1, 1, 1], Maps::AsIs) else {
+        return Status::CommandLine;
+    };
+    let mut out = Plain::new(rt.stdout());
+    match run_text(rt, rt.alloc(), text, &[], &config, &OpenGate, &mut out) {
+        Ok(Outcome::Done(_)) => Status::Done,
+        Ok(Outcome::Stopped(_)) => Status::Fault,
+        Ok(Outcome::Rejected(_)) => Status::Rejected,
+        Err(refused) => {
+            let _ = eprintln!(rt; "dpl: {refused}");
+            match refused {
+                Refused::Memory => Status::Refused,
+                Refused::Writer => Status::Transfer,
+            }
+        }
+    }
 }

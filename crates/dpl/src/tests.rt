@@ -1,0 +1,104 @@
+// Texts through `run_text`: what each writes, and what it leaves.
+// The bytes are those of the language's worked examples.
+
+use crate::config::{Config, ConfigFault, Maps};
+use crate::gate::OpenGate;
+use crate::outcome::Outcome;
+use crate::refused::Refused;
+use crate::text::run_text;
+use crate::writer::Plain;
+use dpl_syntax::Value;
+use std::process::Abort;
+use std::test::Fail;
+
+const SQUARES: &str = "var s: int; forall i in 1..8 by 2 with (+ reduce s) do s += i*i; writeln(s);";
+
+// Each text with its budget, and the bytes that are written of it.
+const ROWS: [(&str, u64, &str); 16] = [
+    (SQUARES, 16777216, "84\n"),
+    (SQUARES, 4, "84\n"),
+    (SQUARES, 3, "! F5 at 1:13\n"),
+    ("var s: int; forall i in 1..3 do s += i;", 9, "! C8 at 1:33\n"),
+    ("writeln(9223372036854775807 + 1);", 9, "-9223372036854775808\n"),
+    ("var s: int; forall i in 1..8 by 0 with (+ reduce s) do s += 1;", 9, "! F3 at 1:30\n"),
+    ("writeln(5); forall i in 1..8 do i = 1;", 9, "! C4 at 1:33\n"),
+    ("writeln(5);\nvar s = 1;\nforall i in 1..8 with (+ reduce s) do s += 1;", 7, "5\n! F5 at 3:1\n"),
+    ("writeln(1) @", 9, "! L2 at 1:12\n"),
+    ("var x = 9223372036854775808;", 9, "! L3 at 1:9\n"),
+    ("writeln(1", 9, "! P1 at 1:10\n"),
+    ("const c = 1; forall i in 1..2 with (+ reduce c) do c += i;", 9, "! C4 at 1:46\n"),
+    ("const c = 1; forall i in 1..2 do c = i;", 9, "! C4 at 1:34\n"),
+    ("var a = 1; var a = 2; a = b;", 9, "! C2 at 1:16\n"),
+    ("var m: int = -7; forall i in 5..4 with (+ reduce m) do m += i; writeln(m, 2);", 9, "-72\n"),
+    ("", 9, ""),
+];
+
+fn written(rt: &HostRuntime, text: &[u8], budget: u64) -> Result<Vec<u8>, Fail> {
+    let config = Config::new(1, budget, 9, [1, 1], [1, 1, 1], Maps::AsIs)?;
+    let mut out = Plain::new(Vec::new(rt.alloc()));
+    run_text(rt, rt.alloc(), text, &[], &config, &OpenGate, &mut out)?;
+    Ok(out.writer)
+}
+
+#[test]
+fn rows(rt: HostRuntime) -> Result<(), Fail> {
+    for (text, budget, bytes) in &ROWS {
+        let out = written(&rt, text.as_bytes(), *budget)?;
+        assert_eq!(rt; out.as_slice(), bytes.as_bytes(), "{text}");
+    }
+    let out = written(&rt, b"var s\xff", 9)?;
+    assert_eq!(rt; out.as_slice(), b"! L1 at 1:6\n".as_slice());
+    Ok(())
+}
+
+// `writeln`, so many brackets, 1, as many brackets, and `;`.
+fn nested(rt: &HostRuntime, brackets: usize) -> Result<Vec<u8>, Fail> {
+    let mut text = b"writeln".to_vec(rt.alloc())?;
+    for _ in 0..brackets {
+        text.push(b'(')?;
+    }
+    text.push(b'1')?;
+    for _ in 0..brackets {
+        text.push(b')')?;
+    }
+    text.push(b';')?;
+    written(rt, &text, 9)
+}
+
+#[test]
+fn nesting(rt: HostRuntime) -> Result<(), Fail> {
+    assert_eq!(rt; nested(&rt, 64)?.as_slice(), b"1\n".as_slice());
+    assert_eq!(rt; nested(&rt, 65)?.as_slice(), b"! P2 at 1:72\n".as_slice());
+    Ok(())
+}
+
+#[test]
+fn leaves(rt: HostRuntime) -> Result<(), Fail> {
+    let config = Config::new(1, 9, 9, [1, 1], [1, 1, 1], Maps::AsIs)?;
+    let mut out = Plain::new(Vec::new(rt.alloc()));
+    match run_text(&rt, rt.alloc(), SQUARES.as_bytes(), &[], &config, &OpenGate, &mut out)? {
+        Outcome::Done(left) => {
+            assert_eq!(rt; left.variables().len(), 1);
+            assert_eq!(rt; left.get(b"s"), Some(Value::Int(84)));
+            assert_eq!(rt; left.get(b"i"), None);
+        }
+        _ => assert!(rt; false, "the program runs to its end"),
+    }
+    let mut out = Plain::new(Vec::new(rt.alloc()));
+    run_text(&rt, rt.alloc(), SQUARES.as_bytes(), &["s=7"], &config, &OpenGate, &mut out)?;
+    assert_eq!(rt; out.writer.as_slice(), b"! C14\n".as_slice());
+    Ok(())
+}
+
+#[test]
+fn refusals(rt: HostRuntime) -> Result<(), Fail> {
+    let config = Config::new(1, 9, 9, [1, 1], [1, 1, 1], Maps::AsIs)?;
+    let mut room = [0u8; 2];
+    let mut out = Plain::new(room.as_mut_slice());
+    let result = run_text(&rt, rt.alloc(), SQUARES.as_bytes(), &[], &config, &OpenGate, &mut out);
+    assert!(rt; matches!(result, Err(Refused::Writer)));
+    assert!(rt; out.failed);
+    assert!(rt; matches!(Config::new(65, 9, 9, [1, 1], [1, 1, 1], Maps::AsIs), Err(ConfigFault::Locales)));
+    assert!(rt; matches!(Config::new(4, 9, 9, [2, 2], [2, 1, 1], Maps::AsIs), Err(ConfigFault::Grid3)));
+    Ok(())
+}
