@@ -86,23 +86,40 @@ fn indexed(rt: &impl Abort, domain: Domain, rows: &[&[i64]]) {
 #[test]
 fn domains(rt: HostRuntime) -> Result<(), Fail> {
     let strided = Domain::new(&[Range::new(1, 10, 4)?, Range::new(0, 1, 1)?])?;
-    indexed(&rt, strided, &[&[1, 0], &[1, 1], &[5, 0], &[5, 1], &[9, 0], &[9, 1]]);
+    indexed(
+        &rt,
+        strided,
+        &[&[1, 0], &[1, 1], &[5, 0], &[5, 1], &[9, 0], &[9, 1]],
+    );
     indexed(&rt, strided.slice(&[(2, 9), (1, 1)])?, &[&[5, 1], &[9, 1]]);
     assert_eq!(rt; strided.slice(&[(2, 9)]), Err(DomainFault::Rank));
 
     let two = Range::new(1, 2, 1)?;
     let cube = Domain::new(&[two, Range::new(3, 3, 1)?, Range::new(4, 5, -1)?])?;
     indexed(&rt, cube, &[&[1, 3, 5], &[1, 3, 4], &[2, 3, 5], &[2, 3, 4]]);
-    assert_eq!(rt; (cube.rank(), cube.dim(2), cube.dim(3)), (3, Some(Range::new(4, 5, -1)?), None));
-    assert_eq!(rt; Index::new(&[1, 3]).map(|index| cube.contains(index)), Some(false));
+    assert_eq!(rt;
+        (cube.rank(), cube.dim(2), cube.dim(3)),
+        (3, Some(Range::new(4, 5, -1)?), None)
+    );
+    assert_eq!(rt;
+        Index::new(&[1, 3]).map(|index| cube.contains(index)),
+        Some(false)
+    );
 
     let none = Domain::new(&[two, Range::new(1, 0, 1)?])?;
     indexed(&rt, none, &[]);
-    indexed(&rt, Domain::new(&[Range::new(1, 6, 1)?])?.slice(&[(2, 9)])?, &[&[2], &[3], &[4], &[5], &[6]]);
+    indexed(
+        &rt,
+        Domain::new(&[Range::new(1, 6, 1)?])?.slice(&[(2, 9)])?,
+        &[&[2], &[3], &[4], &[5], &[6]],
+    );
 
     let long = Range::new(1, 1048576, 1)?;
     assert_eq!(rt; Domain::new(&[long, long])?.size(), 1099511627776);
-    assert_eq!(rt; Domain::new(&[long, Range::new(1, 1048577, 1)?]), Err(DomainFault::Size));
+    assert_eq!(rt;
+        Domain::new(&[long, Range::new(1, 1048577, 1)?]),
+        Err(DomainFault::Size)
+    );
     assert_eq!(rt; Domain::new(&[]), Err(DomainFault::Rank));
     assert_eq!(rt; Domain::new(&[two, two, two, two]), Err(DomainFault::Rank));
     Ok(())
