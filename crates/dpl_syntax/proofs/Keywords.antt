@@ -1,5 +1,5 @@
 -- Reserved words: each is a word, no two are spelled alike, and the lexer's table has them all.
-use Rattle.std.proofs.Common.{◌≡◌, ◌≢◌, ℕ, ◌<◌, ◌≤◌, Bool, true, false, cond, eqb, eq-eqb, List, [], ◌∷◌, length, get_or, refl, sym, ap, ◌∙◌, arith}
+use Rattle.std.proofs.Common.{◌≡◌, ◌≢◌, ℕ, ◌<◌, Bool, true, false, cond, eqb, eq-eqb, List, [], ◌∷◌, get_or, refl, sym, ap, ◌∙◌, arith}
 use Rattle.dpl_syntax.specs.Tokens.{keyword_text}
 use Rattle.dpl_syntax.specs.Text.{is_word}
 use Rattle.dpl_syntax.specs.declared.token.Keyword.{Keyword}

@@ -1,7 +1,7 @@
 -- Signs: how each begins, how long it is, and that no two are spelled alike.
-use Rattle.std.proofs.Common.{◌≡◌, ◌≢◌, ◌⊎◌, inl, inr, ℕ, zero, suc, ◌+◌, ◌<◌, ◌≤◌, Bool, true, false, cond, eqb, List, [], ◌∷◌, ◌++◌, length, refl, sym, ap, ◌∙◌, arith}
+use Rattle.std.proofs.Common.{◌≡◌, ℕ, ◌≤◌, Bool, true, false, cond, eqb, List, [], ◌∷◌, length, refl, sym, ap, ◌∙◌, arith}
 use Rattle.dpl_syntax.specs.Tokens.{sign_text}
-use Rattle.dpl_syntax.specs.Text.{is_letter, is_digit, is_space, is_number, is_word}
+use Rattle.dpl_syntax.specs.Text.{is_letter, is_digit, is_space}
 use Rattle.dpl_syntax.specs.declared.token.Sign.{Sign}
 use Rattle.dpl_syntax.specs.declared.token.Sign.TheVariants.{DotDot, PlusAssign, StarAssign, Assign, Plus, Minus, Star, OpenRound, CloseRound, Comma, Semicolon, Colon}
 

@@ -1,11 +1,10 @@
 -- Texts worked out by the definition of their tokens.
-use Rattle.std.proofs.Common.{◌≡◌, ◌≢◌, ◌⊎◌, inl, inr, ℕ, pos, ◌≤◌, Bool, true, false, List, [], ◌∷◌, ◌++◌, length, get_or, refl, sym, ap, ◌∙◌, arith}
+use Rattle.std.proofs.Common.{◌≡◌, inl, inr, ℕ, pos, ◌≤◌, true, false, List, [], ◌∷◌, ◌++◌, length, get_or, refl, ap, ◌∙◌, arith}
 use Rattle.std.specs.Prelude.{codes}
 use Rattle.dpl_syntax.specs.Tokens.{keyword_text, sign_text}
-use Rattle.dpl_syntax.specs.Text.{is_word, is_number, goes_on, is_digit, next_is, IsText, Ends, Lexes, start, end_at, IsToken}
-use Rattle.dpl_syntax.specs.Refused.{refusal_at, IsBadByte, LexRefuses}
+use Rattle.dpl_syntax.specs.Text.{is_word, is_number, goes_on, is_digit, next_is, Ends, Lexes, end_at, IsToken}
+use Rattle.dpl_syntax.specs.Refused.{refusal_at, LexRefuses}
 use Rattle.dpl_syntax.specs.declared.place.Place.{Place}
-use Rattle.dpl_syntax.specs.declared.token.Keyword.{Keyword}
 use Rattle.dpl_syntax.specs.declared.token.Keyword.TheVariants.{Var}
 use Rattle.dpl_syntax.specs.declared.token.Sign.{Sign}
 use Rattle.dpl_syntax.specs.declared.token.Sign.TheVariants.{DotDot, PlusAssign, StarAssign, Assign, Plus, Minus, Star, OpenRound, CloseRound, Comma, Semicolon, Colon}
@@ -43,10 +42,27 @@ var_s = record {
   is_text = record { short = omega arith; utf8 = (codes "var s", (refl, refl)) };
   front = token 1 1 (Reserved Var) ∷ token 1 5 (Name (codes "s")) ∷ [];
   end = place 1 6;
-  reads =
-    ( [], codes "var", codes " s", refl, refl, refl, refl, word_ends (codes "var") (codes " s") refl refl
-    , ( codes " ", codes "s", [], refl, refl, refl, (refl, refl, no_keyword (codes "s") refl), word_ends (codes "s") [] refl refl
-      , ([], refl, refl, refl) ) );
+  reads = (
+    [],
+    codes "var",
+    codes " s",
+    refl,
+    refl,
+    refl,
+    refl,
+    word_ends (codes "var") (codes " s") refl refl,
+    (
+      codes " ",
+      codes "s",
+      [],
+      refl,
+      refl,
+      refl,
+      (refl, refl, no_keyword (codes "s") refl),
+      word_ends (codes "s") [] refl refl,
+      ([], refl, refl, refl),
+    ),
+  );
   tokens_are = refl;
 }
 
@@ -57,11 +73,37 @@ a_plus_1 = record {
   is_text = record { short = omega arith; utf8 = (codes "a+=1", (refl, refl)) };
   front = token 1 1 (Name (codes "a")) ∷ token 1 2 (Signed PlusAssign) ∷ token 1 4 (Number (pos 1)) ∷ [];
   end = place 1 5;
-  reads =
-    ( [], codes "a", codes "+=1", refl, refl, refl, (refl, refl, no_keyword (codes "a") refl), word_ends (codes "a") (codes "+=1") refl refl
-    , ( [], codes "+=", codes "1", refl, refl, refl, refl, pair_ends PlusAssign (codes "1") (omega arith)
-      , ( [], codes "1", [], refl, refl, refl, (refl, refl, omega arith), number_ends (codes "1") [] refl refl refl
-        , ([], refl, refl, refl) ) ) );
+  reads = (
+    [],
+    codes "a",
+    codes "+=1",
+    refl,
+    refl,
+    refl,
+    (refl, refl, no_keyword (codes "a") refl),
+    word_ends (codes "a") (codes "+=1") refl refl,
+    (
+      [],
+      codes "+=",
+      codes "1",
+      refl,
+      refl,
+      refl,
+      refl,
+      pair_ends PlusAssign (codes "1") (omega arith),
+      (
+        [],
+        codes "1",
+        [],
+        refl,
+        refl,
+        refl,
+        (refl, refl, omega arith),
+        number_ends (codes "1") [] refl refl refl,
+        ([], refl, refl, refl),
+      ),
+    ),
+  );
   tokens_are = refl;
 }
 
@@ -72,10 +114,27 @@ two_lines = record {
   is_text = record { short = omega arith; utf8 = (codes "s" ++ 10 ∷ codes "t", (refl, refl)) };
   front = token 1 1 (Name (codes "s")) ∷ token 2 1 (Name (codes "t")) ∷ [];
   end = place 2 2;
-  reads =
-    ( [], codes "s", 10 ∷ codes "t", refl, refl, refl, (refl, refl, no_keyword (codes "s") refl), word_ends (codes "s") (10 ∷ codes "t") refl refl
-    , ( 10 ∷ [], codes "t", [], refl, refl, refl, (refl, refl, no_keyword (codes "t") refl), word_ends (codes "t") [] refl refl
-      , ([], refl, refl, refl) ) );
+  reads = (
+    [],
+    codes "s",
+    10 ∷ codes "t",
+    refl,
+    refl,
+    refl,
+    (refl, refl, no_keyword (codes "s") refl),
+    word_ends (codes "s") (10 ∷ codes "t") refl refl,
+    (
+      10 ∷ [],
+      codes "t",
+      [],
+      refl,
+      refl,
+      refl,
+      (refl, refl, no_keyword (codes "t") refl),
+      word_ends (codes "t") [] refl refl,
+      ([], refl, refl, refl),
+    ),
+  );
   tokens_are = refl;
 }
 
