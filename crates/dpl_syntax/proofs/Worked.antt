@@ -3,7 +3,7 @@ use Rattle.std.proofs.Common.{◌≡◌, inl, inr, ℕ, pos, ◌≤◌, true, fa
 use Rattle.std.specs.Prelude.{codes}
 use Rattle.dpl_syntax.specs.Tokens.{keyword_text, sign_text}
 use Rattle.dpl_syntax.specs.Text.{is_word, is_number, goes_on, is_digit, next_is, Ends, Lexes, end_at, IsToken}
-use Rattle.dpl_syntax.specs.Refused.{refusal_at, LexRefuses}
+use Rattle.dpl_syntax.specs.Refused.{refusal_at, IsNumberAt, LexRefuses}
 use Rattle.dpl_syntax.specs.declared.place.Place.{Place}
 use Rattle.dpl_syntax.specs.declared.token.Keyword.TheVariants.{Var}
 use Rattle.dpl_syntax.specs.declared.token.Sign.{Sign}
@@ -11,7 +11,7 @@ use Rattle.dpl_syntax.specs.declared.token.Sign.TheVariants.{DotDot, PlusAssign,
 use Rattle.dpl_syntax.specs.declared.token.Kind.{Kind}
 use Rattle.dpl_syntax.specs.declared.token.Kind.TheVariants.{Name, Number, Keyword as Reserved, Sign as Signed}
 use Rattle.dpl_syntax.specs.declared.token.Token.{Token}
-use Rattle.dpl_syntax.specs.declared.refusal.Code.TheVariants.{BadCharacter}
+use Rattle.dpl_syntax.specs.declared.refusal.Code.TheVariants.{BadCharacter, NumberTooLarge}
 use Rattle.dpl_syntax.proofs.Keywords.{no_keyword}
 use Rattle.dpl_syntax.proofs.Signs.{is_sign_text}
 use Rattle.dpl_syntax.proofs.Lexemes.{word_no_number, number_no_sign, word_longest, number_longest, sign_longest}
@@ -176,5 +176,38 @@ dots_less = inr (inr (record {
   code = BadCharacter;
   before = [];
   flaw = inl (refl, refl, record { some = omega arith; dark = refl; none = λ u rest e is. no_less u rest [] e is });
+  refusal_is = refl;
+}))
+
+number_here : (u rest : List ℕ) → is_number u ≡ true → next_is is_digit rest ≡ false → IsNumberAt (u ++ rest) u rest
+number_here u rest number stop = record { is = refl; number = number; longest = number_longest u rest number stop }
+
+-- `12a`: the letter straight after the number
+letter_after_number : LexRefuses (codes "12a") (refusal_at BadCharacter (place 1 3))
+unfolding lib.Utf8.encode
+letter_after_number = inr (inr (record {
+  is_text = record { short = omega arith; utf8 = (codes "12a", (refl, refl)) };
+  front = [];
+  at = place 1 1;
+  rest = codes "12a";
+  reads = ([], refl, refl, refl);
+  code = BadCharacter;
+  before = codes "12";
+  flaw = inr (inl (refl, (codes "a", number_here (codes "12") (codes "a") refl refl, refl, omega arith)));
+  refusal_is = refl;
+}))
+
+-- a number past the greatest one is told at its first digit, also where a letter stands behind it
+number_too_large : LexRefuses (codes " 9223372036854775808x") (refusal_at NumberTooLarge (place 1 2))
+unfolding lib.Utf8.encode
+number_too_large = inr (inr (record {
+  is_text = record { short = omega arith; utf8 = (codes " 9223372036854775808x", (refl, refl)) };
+  front = [];
+  at = place 1 2;
+  rest = codes "9223372036854775808x";
+  reads = (codes " ", refl, refl, refl);
+  code = NumberTooLarge;
+  before = [];
+  flaw = inr (inr (refl, refl, (codes "9223372036854775808", codes "x", number_here (codes "9223372036854775808") (codes "x") refl refl, omega arith)));
   refusal_is = refl;
 }))
