@@ -1,5 +1,5 @@
 -- Bytes that pass a test, and the value of digits.
-use Rattle.std.proofs.Common.{◌≡◌, ◌⊎◌, inl, inr, ℕ, zero, suc, ◌+◌, ◌-◌, ◌*◌, ◌<◌, ◌≤◌, Bool, true, false, ◌&&◌, List, [], ◌∷◌, ◌++◌, length, take, drop, get_or, refl, sym, ap, subst, ◌∙◌, eqb, eq-eqb, arith}
+use Rattle.std.proofs.Common.{◌≡◌, ℕ, ◌+◌, ◌-◌, ◌*◌, ◌≤◌, Bool, true, false, ◌&&◌, List, [], ◌∷◌, ◌++◌, length, refl, ap, subst, eqb, eq-eqb, arith}
 use Rattle.std.specs.Prelude.{bytes_eq}
 use Rattle.std.proofs.lemmas.Bool.Decides.{nat_tests}
 use Rattle.dpl_syntax.specs.Text.{is_letter, is_digit, goes_on, is_space, all_are, next_is, value_after}
@@ -30,23 +30,6 @@ module _ (p : ℕ → Bool) where
   pub all_are-append : (a b : List ℕ) → all_are p a ≡ true → all_are p b ≡ true → all_are p (a ++ b) ≡ true
   all_are-append [] b h hs = hs
   all_are-append (c ∷ a) b h hs = all_are-cons c (a ++ b) (all_are-head c a h) (all_are-append a b (all_are-tail c a h) hs)
-
-  pub all_are-take_more : (cs : List ℕ) (n : ℕ) → n < length cs → all_are p (take n cs) ≡ true → p (get_or cs n 0) ≡ true → all_are p (take (suc n) cs) ≡ true
-  all_are-take_more [] n lt h e = absurd (omega arith)
-  all_are-take_more (c ∷ cs) zero lt h e = all_are-cons c [] e refl
-  all_are-take_more (c ∷ cs) (suc n) lt h e = all_are-cons c (take (suc n) cs) (all_are-head c (take n cs) h) (all_are-take_more cs n (omega arith) (all_are-tail c (take n cs) h) e)
-
-  pub next_is-drop_end : (cs : List ℕ) (n : ℕ) → length cs ≤ n → next_is p (drop n cs) ≡ false
-  next_is-drop_end [] zero le = refl
-  next_is-drop_end [] (suc n) le = refl
-  next_is-drop_end (c ∷ cs) zero le = absurd (omega arith)
-  next_is-drop_end (c ∷ cs) (suc n) le = next_is-drop_end cs n (omega arith)
-
-  pub next_is-drop : (cs : List ℕ) (n : ℕ) → p (get_or cs n 0) ≡ false → next_is p (drop n cs) ≡ false
-  next_is-drop [] zero e = refl
-  next_is-drop [] (suc n) e = refl
-  next_is-drop (c ∷ cs) zero e = e
-  next_is-drop (c ∷ cs) (suc n) e = next_is-drop cs n e
 
   -- bytes that pass the test reach no further than to one that fails it
   pub no_further : (u rest v w : List ℕ) → next_is p rest ≡ false → all_are p v ≡ true → u ++ rest ≡ v ++ w → length v ≤ length u
@@ -79,12 +62,6 @@ letter_no_space c h = grind (arith, nat_tests)
 
 pub digit_no_space : (c : ℕ) → is_digit c ≡ true → is_space c ≡ false
 digit_no_space c h = grind (arith, nat_tests)
-
-pub digit_goes_on : (c : ℕ) → is_digit c ≡ true → goes_on c ≡ true
-digit_goes_on c h = at (is_letter c)
-  where
-    at : (b : Bool) → goes_on c ≡ true
-    at b = grind (arith, nat_tests)
 
 pub letter_goes_on : (c : ℕ) → is_letter c ≡ true → goes_on c ≡ true
 letter_goes_on c h = rw h refl

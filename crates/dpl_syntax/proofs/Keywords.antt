@@ -1,10 +1,12 @@
 -- Reserved words: each is a word, no two are spelled alike, and the lexer's table has them all.
-use Rattle.std.proofs.Common.{◌≡◌, ◌≢◌, ℕ, ◌<◌, ◌≤◌, Bool, true, false, cond, ◌&&◌, eqb, List, [], ◌∷◌, length, get_or, refl, sym, ap, ◌∙◌, arith}
+use Rattle.std.proofs.Common.{◌≡◌, ◌≢◌, ℕ, ◌<◌, true, false, cond, List, [], ◌∷◌, get_or, refl, sym, ap, ◌∙◌, arith}
+use Rattle.std.specs.Prelude.{bytes_eq}
 use Rattle.dpl_syntax.specs.Tokens.{keyword_text}
 use Rattle.dpl_syntax.specs.Text.{is_word}
 use Rattle.dpl_syntax.specs.declared.token.Keyword.{Keyword}
 use Rattle.dpl_syntax.specs.declared.token.Keyword.TheVariants.{Bool as BoolWord, By, BlockCycDist, BlockDist, Config, Const, Coforall, CyclicDist, Dmapped, Do, Domain, Else, False, For, Forall, Here, If, In, Int, Locales, Max, Min, New, NumLocales, On, Reduce, Ref, Sync, Then, True, Use, Var, While, With, Write, Writeln}
 use Rattle.dpl_syntax.specs.declared.keyword.TheConstants.{KEYWORDS}
+use Rattle.dpl_syntax.proofs.Bytes.{bytes_eq-same}
 
 -- each is a word
 pub keyword_text-word : (k : Keyword) → is_word (keyword_text k) ≡ true
@@ -46,20 +48,13 @@ keyword_text-word With = refl
 keyword_text-word Write = refl
 keyword_text-word Writeln = refl
 
--- whether two lists of bytes are the same
-abbrev same : List ℕ → List ℕ → Bool
-same [] [] = true
-same [] (d ∷ ds) = false
-same (c ∷ cs) [] = false
-same (c ∷ cs) (d ∷ ds) = cond (eqb c d) (same cs ds) false
-
-abbrev all : List Keyword
+abbrev pub all : List Keyword
 all = BoolWord ∷ By ∷ BlockCycDist ∷ BlockDist ∷ Config ∷ Const ∷ Coforall ∷ CyclicDist ∷ Dmapped ∷ Do ∷ Domain ∷ Else ∷ False ∷ For ∷ Forall ∷ Here ∷ If ∷ In ∷ Int ∷ Locales ∷ Max ∷ Min ∷ New ∷ NumLocales ∷ On ∷ Reduce ∷ Ref ∷ Sync ∷ Then ∷ True ∷ Use ∷ Var ∷ While ∷ With ∷ Write ∷ Writeln ∷ []
 
 -- the first reserved word of a list that is spelled so
-abbrev first_of_text : List Keyword → List ℕ → Keyword
+abbrev pub first_of_text : List Keyword → List ℕ → Keyword
 first_of_text [] u = Writeln
-first_of_text (k ∷ ks) u = cond (same (keyword_text k) u) k (first_of_text ks u)
+first_of_text (k ∷ ks) u = cond (bytes_eq (keyword_text k) u) k (first_of_text ks u)
 
 read : (k : Keyword) → first_of_text all (keyword_text k) ≡ k
 unfolding keyword_text
@@ -103,6 +98,14 @@ read Writeln = refl
 -- no two are spelled alike
 pub keyword_text-injective : (j k : Keyword) → keyword_text j ≡ keyword_text k → j ≡ k
 keyword_text-injective j k e = sym (read j) ∙ ap (first_of_text all) e ∙ read k
+
+-- a word is none of them where it isn't the one that is looked up for it
+pub no_keyword : (u : List ℕ) → bytes_eq (keyword_text (first_of_text all u)) u ≡ false → (k : Keyword) → u ≢ keyword_text k
+no_keyword u other k e =
+    let found : first_of_text all u ≡ k = ap (first_of_text all) e ∙ read k in
+    let text : keyword_text (first_of_text all u) ≡ u = ap keyword_text found ∙ sym e in
+    let yes : bytes_eq (keyword_text (first_of_text all u)) u ≡ true = bytes_eq-same (keyword_text (first_of_text all u)) u text in
+    absurd (cc (other, yes))
 
 -- where a reserved word stands in the lexer's table
 pub record IsListed (k : Keyword) : Type 0 where

@@ -1,11 +1,11 @@
 -- A text has one list of tokens or one refusal at the most.
 -- Two readings of one text agree as far as both can go.
-use Rattle.std.proofs.Common.{◌≡◌, ◌⊎◌, inl, inr, ℕ, zero, suc, ◌+◌, ◌<◌, ◌≤◌, Bool, true, false, List, [], ◌∷◌, ◌++◌, length, take, Some, ◌≢◌, refl, sym, ap, subst, ◌∙◌, arith}
+use Rattle.std.proofs.Common.{◌≡◌, inl, inr, ℕ, ◌<◌, true, false, List, [], ◌∷◌, ◌++◌, length, take, ◌≢◌, refl, sym, ap, subst, ◌∙◌, arith}
 use Rattle.std.specs.Prelude.{IsUtf8}
 use Rattle.std.specs.Str.{IsValidUpTo}
 use Rattle.std.specs.List.{AllByRecursion}
-use Rattle.dpl_syntax.specs.Text.{is_space, is_number, goes_on, next_is, all_are, number_value, greatest, IsToken, IsText, start, after, end_at, IsLexeme, Ends, Begins, Lexes, EndsOnce}
-use Rattle.dpl_syntax.specs.Refused.{refusal_at, IsBadByte, IsNumberAt, IsFlaw, IsUnread, IsNoUtf8, LexRefuses}
+use Rattle.dpl_syntax.specs.Text.{is_space, is_number, goes_on, next_is, all_are, number_value, IsToken, start, after, end_at, IsLexeme, Ends, Begins, Lexes, EndsOnce}
+use Rattle.dpl_syntax.specs.Refused.{refusal_at, IsNumberAt, IsFlaw, IsUnread, LexRefuses}
 use Rattle.dpl_syntax.specs.declared.place.Place.{Place}
 use Rattle.dpl_syntax.specs.declared.token.Kind.{Kind}
 use Rattle.dpl_syntax.specs.declared.token.Kind.TheVariants.{End}

@@ -1,12 +1,12 @@
 -- One token: what ends where it should is the longest, and no other token stands there.
-use Rattle.std.proofs.Common.{◌≡◌, ◌≢◌, ◌⊎◌, inl, inr, ℕ, zero, suc, pos, ◌+◌, ◌<◌, ◌≤◌, Bool, true, false, ◌&&◌, List, [], ◌∷◌, ◌++◌, length, take, drop, refl, sym, ap, subst, ◌∙◌, append_assoc, arith, length-append}
+use Rattle.std.proofs.Common.{◌≡◌, inl, inr, ℕ, ◌≤◌, true, false, List, [], ◌∷◌, ◌++◌, length, refl, sym, ap, ◌∙◌, arith}
 use Rattle.dpl_syntax.specs.Tokens.{keyword_text, sign_text}
-use Rattle.dpl_syntax.specs.Text.{is_letter, is_digit, goes_on, is_space, all_are, next_is, is_word, is_number, number_value, greatest, IsToken, Longest, Ends, IsLexeme}
+use Rattle.dpl_syntax.specs.Text.{is_letter, is_digit, goes_on, is_space, all_are, next_is, is_word, is_number, number_value, greatest, IsToken, Longest, IsLexeme}
 use Rattle.dpl_syntax.specs.declared.token.Keyword.{Keyword}
 use Rattle.dpl_syntax.specs.declared.token.Sign.{Sign}
 use Rattle.dpl_syntax.specs.declared.token.Kind.{Kind}
 use Rattle.dpl_syntax.specs.declared.token.Kind.TheVariants.{Name, Number, Keyword as Reserved, Sign as Signed, End}
-use Rattle.dpl_syntax.proofs.Bytes.{all_are-cons, all_are-head, all_are-tail, no_further, letter_no_digit, letter_no_space, digit_no_space, letter_goes_on, digit_goes_on, and-left, and-right}
+use Rattle.dpl_syntax.proofs.Bytes.{no_further, letter_no_digit, letter_no_space, digit_no_space, and-left, and-right}
 use Rattle.dpl_syntax.proofs.Keywords.{keyword_text-word, keyword_text-injective}
 use Rattle.dpl_syntax.proofs.Signs.{is_sign_text, sign_text-injective}
 

@@ -1,6 +1,6 @@
 -- A chain in memory, whose links lie in a `Vec`, and the plain tree that it stands for.
 -- These lemmas alone name the rows in which a `Vec` of a recursive type is kept.
-use Rattle.std.proofs.Common.{◌≡◌, List, [], ◌∷◌, refl, sym, ap, ◌∙◌, Vec, Global, Box}
+use Rattle.std.proofs.Common.{◌≡◌, List, refl, sym, ap, ◌∙◌, Vec, Global, Box}
 use mathlib.Core.Former.{Count}
 use Rattle.dpl_syntax.specs.declared.tree.Name.{Name}
 use Rattle.dpl_syntax.specs.declared.tree.Link.{Link as LinkNode}

@@ -1,15 +1,14 @@
 -- What the lexer finds at the front of a text, from what its parts find.
-use Rattle.std.proofs.Common.{◌≡◌, ◌≢◌, ◌⊎◌, inl, inr, ℕ, zero, suc, pos, ◌+◌, ◌<◌, ◌≤◌, Bool, true, false, ◌&&◌, List, [], ◌∷◌, ◌++◌, length, take, drop, get_or, Option, Some, None, refl, sym, ap, subst, ◌∙◌, arith, length-append}
+use Rattle.std.proofs.Common.{◌≡◌, ◌≢◌, ◌⊎◌, inl, inr, ℕ, zero, suc, pos, ◌<◌, ◌≤◌, true, false, List, [], ◌∷◌, ◌++◌, length, take, drop, get_or, Option, Some, None, refl, sym, ap, subst, ◌∙◌, arith, length-append}
 use Rattle.std.specs.Prelude.{IfSome, IfNone}
-use Rattle.std.proofs.lemmas.List.{take-append-drop, take_at, drop_at}
+use Rattle.std.proofs.lemmas.List.{take-append-drop, take_at}
 use Rattle.dpl_syntax.specs.Tokens.{sign_text}
-use Rattle.dpl_syntax.specs.Text.{is_letter, is_digit, goes_on, is_space, all_are, next_is, is_word, is_number, number_value, greatest, Longest, Ends}
+use Rattle.dpl_syntax.specs.Text.{is_letter, is_digit, goes_on, all_are, next_is, is_word, is_number, number_value, greatest, Longest}
 use Rattle.dpl_syntax.specs.Refused.{IsNumberAt}
-use Rattle.dpl_syntax.specs.Scan.{IsShape, IsLexemeAt, IsSignAt}
+use Rattle.dpl_syntax.specs.Scan.{IsLexemeAt, IsSignAt}
 use Rattle.dpl_syntax.specs.declared.token.Sign.{Sign}
-use Rattle.dpl_syntax.specs.declared.scan.Shape.{Shape}
 use Rattle.dpl_syntax.specs.declared.scan.Shape.TheVariants.{Word, Number, Sign as Signed}
-use Rattle.dpl_syntax.proofs.Bytes.{all_are-head, all_are-tail, both, letter_goes_on}
+use Rattle.dpl_syntax.proofs.Bytes.{all_are-tail, both, letter_goes_on}
 use Rattle.dpl_syntax.proofs.Signs.{is_sign_text}
 use Rattle.dpl_syntax.proofs.Lexemes.{word_no_number, number_no_sign, word_longest, number_longest, sign_longest}
 

@@ -1,7 +1,8 @@
 -- Signs: how each begins, how long it is, and that no two are spelled alike.
-use Rattle.std.proofs.Common.{◌≡◌, ◌≢◌, ◌⊎◌, inl, inr, ℕ, zero, suc, ◌+◌, ◌<◌, ◌≤◌, Bool, true, false, cond, eqb, List, [], ◌∷◌, ◌++◌, length, refl, sym, ap, ◌∙◌, arith}
+use Rattle.std.proofs.Common.{◌≡◌, ℕ, ◌≤◌, false, cond, List, [], ◌∷◌, length, refl, sym, ap, ◌∙◌, arith}
+use Rattle.std.specs.Prelude.{bytes_eq}
 use Rattle.dpl_syntax.specs.Tokens.{sign_text}
-use Rattle.dpl_syntax.specs.Text.{is_letter, is_digit, is_space, is_number, is_word}
+use Rattle.dpl_syntax.specs.Text.{is_letter, is_digit, is_space}
 use Rattle.dpl_syntax.specs.declared.token.Sign.{Sign}
 use Rattle.dpl_syntax.specs.declared.token.Sign.TheVariants.{DotDot, PlusAssign, StarAssign, Assign, Plus, Minus, Star, OpenRound, CloseRound, Comma, Semicolon, Colon}
 
@@ -30,19 +31,13 @@ is_sign_text Comma = record { first = 44; others = []; is = refl; no_letter = re
 is_sign_text Semicolon = record { first = 59; others = []; is = refl; no_letter = refl; no_digit = refl; no_space = refl; short = omega arith }
 is_sign_text Colon = record { first = 58; others = []; is = refl; no_letter = refl; no_digit = refl; no_space = refl; short = omega arith }
 
-abbrev same : List ℕ → List ℕ → Bool
-same [] [] = true
-same [] (d ∷ ds) = false
-same (c ∷ cs) [] = false
-same (c ∷ cs) (d ∷ ds) = cond (eqb c d) (same cs ds) false
-
 abbrev all : List Sign
 all = DotDot ∷ PlusAssign ∷ StarAssign ∷ Assign ∷ Plus ∷ Minus ∷ Star ∷ OpenRound ∷ CloseRound ∷ Comma ∷ Semicolon ∷ Colon ∷ []
 
 -- the first sign of a list that is spelled so
 abbrev first_of_text : List Sign → List ℕ → Sign
 first_of_text [] u = Colon
-first_of_text (s ∷ ss) u = cond (same (sign_text s) u) s (first_of_text ss u)
+first_of_text (s ∷ ss) u = cond (bytes_eq (sign_text s) u) s (first_of_text ss u)
 
 read : (s : Sign) → first_of_text all (sign_text s) ≡ s
 unfolding sign_text

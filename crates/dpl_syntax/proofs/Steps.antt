@@ -1,7 +1,7 @@
 -- Reading a text byte by byte and token by token, as the lexer does.
-use Rattle.std.proofs.Common.{◌≡◌, ℕ, zero, suc, ◌+◌, ◌<◌, ◌≤◌, Bool, true, false, ◌&&◌, List, [], ◌∷◌, ◌++◌, length, take, drop, get_or, refl, sym, ap, subst, ◌∙◌, append_assoc, arith, length-append}
-use Rattle.std.proofs.lemmas.List.{append-nil, take-append-drop}
-use Rattle.dpl_syntax.specs.Text.{is_space, all_are, after, Begins, IsLexeme, Ends}
+use Rattle.std.proofs.Common.{◌≡◌, ℕ, ◌<◌, true, List, [], ◌∷◌, ◌++◌, length, take, drop, get_or, refl, sym, ap, subst, ◌∙◌, append_assoc, arith}
+use Rattle.std.proofs.lemmas.List.{take-append-drop}
+use Rattle.dpl_syntax.specs.Text.{is_space, after, Begins, IsLexeme, Ends}
 use Rattle.dpl_syntax.specs.declared.place.Place.{Place}
 use Rattle.dpl_syntax.specs.declared.token.Kind.{Kind}
 use Rattle.dpl_syntax.specs.declared.token.Token.{Token}
@@ -13,11 +13,12 @@ after-append (c ∷ a) b p = after-append a b (after p (c ∷ []))
 
 -- more white space
 pub skips : (ks : List Token) (p q : Place) (text : List ℕ) (c : ℕ) (cs : List ℕ) → is_space c ≡ true → Begins p text ks q (c ∷ cs) → Begins p text ks (after q (c ∷ [])) cs
-skips [] p q text c cs space (gap, e, each, at) =
-    ( gap ++ c ∷ []
-    , e ∙ sym (append_assoc gap (c ∷ []) cs)
-    , all_are-append is_space gap (c ∷ []) each (all_are-cons is_space c [] space refl)
-    , ap (λ (r : Place). after r (c ∷ [])) at ∙ sym (after-append gap (c ∷ []) p) )
+skips [] p q text c cs space (gap, e, each, at) = (
+  gap ++ c ∷ [],
+  e ∙ sym (append_assoc gap (c ∷ []) cs),
+  all_are-append is_space gap (c ∷ []) each (all_are-cons is_space c [] space refl),
+  ap (λ (r : Place). after r (c ∷ [])) at ∙ sym (after-append gap (c ∷ []) p),
+)
 skips (k ∷ ks) p q text c cs space (gap, u, more, e, each, at, is, ends, h) =
     (gap, u, more, e, each, at, is, ends, skips ks (after p (gap ++ u)) q more c cs space h)
 

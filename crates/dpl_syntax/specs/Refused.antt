@@ -1,6 +1,6 @@
 -- The texts that have no tokens, each with its refusal.
 -- A text is refused as too long, else as no UTF-8, else at the first place where it can't be read on.
-use Rattle.std.specs.Prelude.{◌≡◌, ◌⊎◌, ℕ, ◌≤◌, ◌<◌, List, [], ◌∷◌, ◌++◌, length, take, Bool, true, false, Some, ⊤}
+use Rattle.std.specs.Prelude.{◌≡◌, ◌⊎◌, ℕ, ◌≤◌, ◌<◌, List, [], ◌++◌, length, take, true, false, Some, ⊤}
 use Rattle.std.specs.Str.{IsValidUpTo}
 use Rattle.dpl_syntax.specs.Text.{is_space, is_number, goes_on, next_is, number_value, greatest, longest_text, IsToken, Longest, IsText, start, after, Begins}
 use Rattle.dpl_syntax.specs.declared.place.Place.{Place}

@@ -1,6 +1,6 @@
 -- What the lexer finds at the front of a text.
 -- It finds a token's shape first, without memory, and then its kind.
-use Rattle.std.specs.Prelude.{◌≡◌, ◌≢◌, ℕ, pos, ◌<◌, ◌≤◌, List, [], ◌∷◌, ◌++◌, length, take, drop, true, Option, Some, None}
+use Rattle.std.specs.Prelude.{◌≡◌, ◌≢◌, ℕ, pos, ◌<◌, ◌≤◌, List, ◌++◌, length, take, drop, true, Option, Some, None}
 use Rattle.dpl_syntax.specs.Text.{is_word, is_number, number_value, greatest, Ends}
 use Rattle.dpl_syntax.specs.Tokens.{sign_text}
 use Rattle.dpl_syntax.specs.Refused.{IsFlaw}

@@ -1,6 +1,6 @@
 -- The tokens of a text.
 -- Read `IsToken`, `Ends` and `IsLexeme`, which speak of one token, and then `Begins` and `Lexes`, which speak of a whole text.
-use Rattle.std.specs.Prelude.{◌≡◌, ◌≢◌, ◌⊎◌, ℕ, ℤ, pos, ◌+◌, ◌-◌, ◌*◌, ◌≤◌, List, [], ◌∷◌, ◌++◌, length, Bool, true, false, nat_le, ◌==◌, ◌&&◌, ◌||◌, if◌then◌else◌, IsUtf8}
+use Rattle.std.specs.Prelude.{◌≡◌, ◌≢◌, ◌⊎◌, ℕ, pos, ◌+◌, ◌-◌, ◌*◌, ◌≤◌, List, [], ◌∷◌, ◌++◌, length, Bool, true, false, nat_le, ◌==◌, ◌&&◌, ◌||◌, if◌then◌else◌, IsUtf8}
 use Rattle.std.specs.List.{AllByRecursion}
 use Rattle.dpl_syntax.specs.Tokens.{keyword_text, sign_text}
 use Rattle.dpl_syntax.specs.declared.place.Place.{Place}

@@ -12,7 +12,7 @@ ghost use Rattle.dpl_syntax.specs.declared.stop.LexStop.TheVariants.{Refused, Me
 use crate::keyword::keyword_of;
 use crate::place::Place;
 use crate::refusal::{Code, Refusal};
-use crate::scan::{is_space, scan, Shape};
+use crate::scan::{Shape, is_space, scan};
 use crate::stop::LexStop;
 use crate::token::{Kind, Token};
 use crate::word::Word;

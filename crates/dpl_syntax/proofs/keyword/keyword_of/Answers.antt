@@ -1,6 +1,5 @@
 -- No word of the table that was tried is this one, and the table has all reserved words.
-use Rattle.std.proofs.Common.{◌≡◌, ◌≢◌, ℕ, ◌<◌, ◌+◌, Bool, true, false, List, [], ◌∷◌, get_or, refl, sym, ap, subst, ◌∙◌, arith}
-use Rattle.std.specs.Prelude.{bytes_eq}
+use Rattle.std.proofs.Common.{◌≡◌, ◌≢◌, ℕ, get_or, sym, ap, ◌∙◌, arith}
 use Rattle.std.proofs.lemmas.List.{get_or_default}
 use borrow.Author.Count.{below_more}
 use Rattle.dpl_syntax.specs.Tokens.{keyword_text}
@@ -15,8 +14,8 @@ loop-keyword-preserved c =
     let n = c.loop-keyword.keyword-index in
     let word = c.args.word.now in
     let here : (k : Keyword) → word ≢ keyword_text (get_or KEYWORDS n k) = λ k e.
-      let text : c.text_of.result.now ≡ keyword_text (get_or KEYWORDS n k) = c.text_of.ensures ∙ ap keyword_text (get_or_default KEYWORDS n _ k c.loop-keyword-test.true) in
-      absurd (cc (bytes_eq-same c.text_of.result.now word (text ∙ sym e), c.eq.ensures, c.if-eq.false)) in
+    let text : c.text_of.result.now ≡ keyword_text (get_or KEYWORDS n k) = c.text_of.ensures ∙ ap keyword_text (get_or_default KEYWORDS n _ k c.loop-keyword-test.true) in
+    absurd (cc (bytes_eq-same c.text_of.result.now word (text ∙ sym e), c.eq.ensures, c.if-eq.false)) in
     λ i k lt. below_more (λ (j : ℕ). (k : Keyword) → word ≢ keyword_text (get_or KEYWORDS j k)) n (λ j below k. c.loop-keyword.invariant j k below) here i lt k
 
 pub returns-clause-none : goal.returns-clause-none

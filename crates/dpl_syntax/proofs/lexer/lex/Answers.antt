@@ -1,5 +1,5 @@
 -- A text has one list of tokens or one refusal, so what was found is all that there is.
-use Rattle.std.proofs.Common.{◌≡◌, Result, Ok, Err, List, refl, sym, ap, subst, ◌∙◌, Vec, Global}
+use Rattle.std.proofs.Common.{◌≡◌, Result, Ok, Err, List, refl, ◌∙◌, Vec, Global}
 use Rattle.std.specs.Prelude.{IfOk, IfErr, IsOk}
 use Rattle.dpl_syntax.specs.Text.{Lexes, EndsOnce}
 use Rattle.dpl_syntax.specs.Refused.{LexRefuses, Tells}

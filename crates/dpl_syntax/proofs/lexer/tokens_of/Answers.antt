@@ -1,5 +1,5 @@
 -- Each turn reads one byte of white space or one token more.
-use Rattle.std.proofs.Common.{◌≡◌, ◌≤◌, ◌<◌, ◌+◌, List, length, take, drop, get_or, true, false, ap, subst, ◌∙◌, arith}
+use Rattle.std.proofs.Common.{◌≡◌, ◌<◌, length, take, get_or, true, ap, subst, ◌∙◌, arith}
 use Rattle.std.proofs.lemmas.Grind.{common_steps}
 use Rattle.dpl_syntax.specs.Text.{is_space, after, start, IsLexeme}
 use Rattle.dpl_syntax.proofs.Steps.{skips_one, takes_one}

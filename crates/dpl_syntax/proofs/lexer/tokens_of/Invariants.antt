@@ -1,4 +1,4 @@
-use Rattle.std.proofs.Common.{◌≡◌, ◌≤◌, ◌+◌, length}
+use Rattle.std.proofs.Common.{◌≤◌, ◌+◌, length}
 use Rattle.dpl_syntax.specs.Text.{Begins, start}
 use Rattle.dpl_syntax.proofs.lexer.tokens_of.Given as goal
 

@@ -1,5 +1,5 @@
 -- A word or a sign was found as its part says.
-use Rattle.std.proofs.Common.{◌≡◌, get_or, true, arith}
+use Rattle.std.proofs.Common.{◌≡◌, get_or, true}
 use Rattle.dpl_syntax.specs.Text.{is_letter}
 use Rattle.dpl_syntax.proofs.Scans.{word_found, sign_found}
 use Rattle.dpl_syntax.proofs.scan.scan.Goals as goal

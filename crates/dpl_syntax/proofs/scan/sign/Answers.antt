@@ -1,5 +1,5 @@
 -- The sign at the front is of two bytes, or else of one.
-use Rattle.std.proofs.Common.{◌≡◌, arith}
+use Rattle.std.proofs.Common.{arith}
 use Rattle.dpl_syntax.proofs.Scans.{no_sign_at_end, one_byte, two_bytes}
 use Rattle.dpl_syntax.proofs.scan.sign.Goals as goal
 

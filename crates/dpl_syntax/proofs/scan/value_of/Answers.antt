@@ -1,5 +1,5 @@
 -- Past the limit once, past it for good: further digits make no number smaller.
-use Rattle.std.proofs.Common.{◌≡◌, ℕ, ◌+◌, ◌-◌, ◌*◌, ◌/◌, ◌<◌, ◌≤◌, ◌∷◌, drop, get_or, refl, sym, ap, ◌∙◌, arith}
+use Rattle.std.proofs.Common.{◌≡◌, ℕ, ◌+◌, ◌-◌, ◌*◌, ◌/◌, ◌<◌, ◌≤◌, drop, get_or, sym, ap, ◌∙◌, arith}
 use Rattle.dpl_syntax.specs.Text.{number_value, value_after, greatest}
 use Rattle.dpl_syntax.proofs.Bytes.{value_after-grows}
 use Rattle.std.proofs.lemmas.List.{get_or_default}
