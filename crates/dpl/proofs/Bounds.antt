@@ -1,15 +1,10 @@
 -- The limits of a range, as tests that compute and as facts.
 -- The code's range and the meaning's indices agree on them.
-use Rattle.std.proofs.Common.{◌≡◌, ℕ, zero, suc, ◌<◌, ◌≤◌, ◌^◌, Bool, true, false, ◌||◌, refl, sym, ap, ◌∙◌, arith, ℤ, pos, negsuc, neg_ℤ, ◌≤ℤ◌, nat_lt, unsigned_abs, Ok, Err, ⊎_elim}
-use Rattle.std.specs.Prelude.{if◌then◌else◌}
+use Rattle.std.proofs.Common.{◌≡◌, ◌≤◌, false, arith, ℤ, pos, negsuc, unsigned_abs}
 use Rattle.std.proofs.lemmas.Int.{ints}
 use Rattle.std.proofs.lemmas.Bool.{le-ltb}
-use Rattle.dpl_range.specs.Members.{members}
-use Rattle.dpl_range.specs.Range.{IsBound, IsStride}
-use Rattle.dpl_syntax.specs.declared.place.Place.{Place}
-use Rattle.dpl_syntax.specs.declared.fault.FaultCode.TheVariants.{PastLimit}
-use Rattle.dpl_meaning.specs.Outcome.{fault}
-use Rattle.dpl_meaning.specs.Meaning.{past_limit, bad_stride, indices_of}
+use Rattle.dpl_range.specs.Range.{IsBound}
+use Rattle.dpl_meaning.specs.Meaning.{past_limit}
 
 abs_le : (z : ℤ) → IsBound z → unsigned_abs z ≤ 1152921504606846976
 abs_le (pos n) b = omega (arith, ints, b.1)

@@ -1,7 +1,7 @@
 -- Where a text ends.
 -- It is within a line where its last byte is no newline.
-use Rattle.std.proofs.Common.{◌≡◌, ℕ, zero, suc, ◌-◌, ◌≤◌, List, [], ◌∷◌, length, refl, ap, ◌∙◌, sym, not, nat_eq, slice_index_or, true, false, Bool, arith}
-use Rattle.std.specs.Prelude.{if◌then◌else◌, ◌==◌}
+use Rattle.std.proofs.Common.{◌≡◌, ℕ, suc, ◌-◌, ◌≤◌, List, [], ◌∷◌, length, refl, ap, ◌∙◌, not, nat_eq, slice_index_or, true, false, arith}
+use Rattle.std.specs.Prelude.{if◌then◌else◌}
 use Rattle.dpl_meaning.specs.Program.{line_end}
 
 abbrev mid_line : ℕ → List ℕ

@@ -1,6 +1,6 @@
 -- A run over slots is the meaning of what the checked tree spells.
 -- From the agreement of slots with names, and from what the check gives.
-use Rattle.std.proofs.Common.{◌≡◌, ℕ, List, [], ◌∷◌, ◌++◌, length, map, refl, sym, ap, ◌∙◌, subst, append_assoc, append-nil, Vec, Global}
+use Rattle.std.proofs.Common.{◌≡◌, ℕ, List, [], ◌∷◌, ◌++◌, length, map, refl, sym, ap, ◌∙◌, subst, append_assoc, append-nil}
 use Rattle.dpl_syntax.specs.declared.value.Value.{Value}
 use Rattle.dpl_syntax.specs.declared.fault.Fault.{Fault}
 use Rattle.dpl_syntax.specs.declared.tree.Tree.{Tree}
@@ -13,14 +13,13 @@ use Rattle.dpl_meaning.specs.Names.{Store, Frame}
 use Rattle.dpl_meaning.specs.Program.{meaning, written, top_level}
 use Rattle.dpl_meaning.specs.Slots.{by_slot}
 use Rattle.dpl_meaning.specs.Scopes.{after, after_all}
-use Rattle.dpl_meaning.specs.Resolved.{Sight, IsResolved, resolving, frame_at, store_at, Stands}
+use Rattle.dpl_meaning.specs.Resolved.{IsResolved, resolving, frame_at, store_at, Stands}
 use Rattle.dpl_meaning.specs.Agreement.{EndsAlike}
 use Rattle.dpl_meaning.proofs.Views.{renamed_program-view}
 use Rattle.dpl_meaning.proofs.Whole.{meaning-alike}
 use Rattle.dpl_check.specs.Sights.{Scope, behind, Loop}
 use Rattle.dpl_check.specs.Sound.{IsSoundBody, IsSoundStmt, AreSound}
 use Rattle.dpl_turn.specs.Frames.{IsTurnBody}
-use Rattle.dpl.specs.declared.outcome.Outcome.{Outcome}
 use Rattle.dpl.specs.declared.outcome.Outcome.TheVariants.{Done as DoneWith, Stopped}
 use Rattle.dpl.specs.Runs.{HasTurnBody, HaveTurnBodies}
 use Rattle.dpl.specs.Leaving.{names_of, declared_names}
@@ -84,14 +83,14 @@ module _ (t : Tree) (budget limit n : ℕ) (read : List Stmt) (slots : List Valu
       → EndsAlike (Stands n (after_all (resolving n) (map (stmt_view bound) t.stmts.items) ([] ∷ []))) (meaning (tree_view spelled t) budget) r
   alike r e =
       subst (EndsAlike _ (meaning (tree_view spelled t) budget)) (sym runs ∙ e)
-        (meaning-alike (tree_view bound t) (tree_view spelled t) budget n slots fit (renamed_program-view t) len)
+      (meaning-alike (tree_view bound t) (tree_view spelled t) budget n slots fit (renamed_program-view t) len)
 
   pub means-done : (values : List Value) (out : List ℕ) (left : Frame) (declaring : List Stmt) → exec_all by_slot (map (stmt_view bound) read) limit slots none ≡ Done values out
       → left ≡ frame_at values (declared_names (map (stmt_view bound) declaring)) → declaring ≡ t.stmts.items → Means (tree_view spelled t) budget (DoneWith left) out
   means-done values out left declaring e are same =
       let d = done-alike _ (meaning (tree_view spelled t) budget) (Done values out) values out (alike (Done values out) e) refl in
       let store : top_level d.0 ≡ frame_at values (declared_names (map (stmt_view bound) t.stmts.items)) =
-          ap top_level (d.2.values ∙ ap (store_at values) (after_all-names n (map (stmt_view bound) t.stmts.items) [])) in
+      ap top_level (d.2.values ∙ ap (store_at values) (after_all-names n (map (stmt_view bound) t.stmts.items) [])) in
       record {
         writes = ap written (sym d.1);
         ends = subst (λ o. EndsAs o (DoneWith left)) (sym d.1) (are ∙ ap (λ ts. frame_at values (declared_names (map (stmt_view bound) ts))) same ∙ sym store);

@@ -1,10 +1,8 @@
 -- A text comes to one outcome, and one list of bytes is written of it.
 -- Its tokens, its tree and its refusal are the only ones that it has.
-use Rattle.std.proofs.Common.{◌≡◌, ◌⊎◌, inl, inr, ⊎_elim, ℕ, List, [], ◌∷◌, ◌++◌, refl, sym, ap, ◌∙◌, subst, Some, None, Option}
-use Rattle.std.specs.Prelude.{if◌then◌else◌, ◌==◌}
+use Rattle.std.proofs.Common.{◌≡◌, ◌⊎◌, ⊎_elim, ℕ, List, [], ◌∷◌, ◌++◌, sym, ap, ◌∙◌, subst, Some, None}
 use Rattle.dpl_syntax.specs.declared.token.Token.{Token}
 use Rattle.dpl_syntax.specs.declared.refusal.Refusal.{Refusal}
-use Rattle.dpl_syntax.specs.Text.{Lexes}
 use Rattle.dpl_syntax.proofs.Laws.{lexes_once, lexes_unrefused, refuses_once}
 use Rattle.dpl_syntax.specs.Lines.{refusal_text}
 use Rattle.dpl_syntax.specs.Tree.{ProgramTree}
@@ -16,7 +14,7 @@ use Rattle.dpl_check.specs.Sound.{IsGood}
 use Rattle.dpl_check.proofs.Passes.{sound-stmts}
 use Rattle.dpl_meaning.specs.Outcome.{Outcome as Meant, Done as DoneAt, Stop as StopAt}
 use Rattle.dpl_meaning.specs.Names.{Store}
-use Rattle.dpl_meaning.specs.Program.{meaning, written}
+use Rattle.dpl_meaning.specs.Program.{meaning}
 use Rattle.dpl.specs.declared.outcome.Outcome.{Outcome}
 use Rattle.dpl.specs.declared.outcome.Outcome.TheVariants.{Done, Stopped, Rejected}
 use Rattle.dpl.specs.Headline.{EndsAs, Means, IsProgram, IsRefused, ComesTo, IsOnlyOutcome}
@@ -53,15 +51,15 @@ module _ (text : List ℕ) (sets budget : ℕ) where
   program_unrefused : (t : Program) (r : Refusal) → IsProgram text sets t → IsRefused text sets r → ⊥
   program_unrefused t r a refused =
       ⊎_elim (lexes_unrefused text a.tokens r a.lexes)
-        (λ b.
-          let spells : Spells 64 b.0 t = subst (λ ks. Spells 64 ks t) (lexes_once text a.tokens b.0 a.lexes b.1) a.spells in
-          ⊎_elim (λ p. refused_unspelled b.0 r t p spells)
-            (λ c.
-              let same : c.0 ≡ t = spelled_one 64 64 b.0 c.0 t c.1 spells in
-              let none : Some r ≡ None = sym c.2 ∙ ap (λ u. tree_refusal u sets) same ∙ good-unrefused t sets a.good a.unset in
-              cc)
-            b.2)
-        refused
+      (λ b.
+      let spells : Spells 64 b.0 t = subst (λ ks. Spells 64 ks t) (lexes_once text a.tokens b.0 a.lexes b.1) a.spells in
+      ⊎_elim (λ p. refused_unspelled b.0 r t p spells)
+      (λ c.
+      let same : c.0 ≡ t = spelled_one 64 64 b.0 c.0 t c.1 spells in
+      let none : Some r ≡ None = sym c.2 ∙ ap (λ u. tree_refusal u sets) same ∙ good-unrefused t sets a.good a.unset in
+      cc)
+      b.2)
+      refused
 
   tree_refusal_one : (ks : List Token) (t u : Program) (r q : Refusal) → Spells 64 ks t → Spells 64 ks u → tree_refusal t sets ≡ Some r → tree_refusal u sets ≡ Some q → r ≡ q
   tree_refusal_one ks t u r q a b e f =
@@ -72,16 +70,16 @@ module _ (text : List ℕ) (sets budget : ℕ) where
       → (Refuses ks q ⊎ ((t : Program) × Spells 64 ks t × (tree_refusal t sets ≡ Some q))) → r ≡ q
   token_refusal_one ks r q a b =
       ⊎_elim (λ x. ⊎_elim (λ y. refusal_one ks r q x y) (λ y. absurd (refused_unspelled ks r y.0 x y.1)) b)
-        (λ x. ⊎_elim (λ y. absurd (refused_unspelled ks q x.0 y x.1)) (λ y. tree_refusal_one ks x.0 y.0 r q x.1 y.1 x.2 y.2) b) a
+      (λ x. ⊎_elim (λ y. absurd (refused_unspelled ks q x.0 y x.1)) (λ y. tree_refusal_one ks x.0 y.0 r q x.1 y.1 x.2 y.2) b) a
 
   text_refusal_one : (r q : Refusal) → IsRefused text sets r → IsRefused text sets q → r ≡ q
   text_refusal_one r q a b =
       ⊎_elim
-        (λ x. ⊎_elim (λ y. refuses_once text r q x y) (λ y. absurd (lexes_unrefused text y.0 r y.1 x)) b)
-        (λ x. ⊎_elim (λ y. absurd (lexes_unrefused text x.0 q x.1 y))
-          (λ y. token_refusal_one y.0 r q
-            (subst (λ ks. Refuses ks r ⊎ ((t : Program) × Spells 64 ks t × (tree_refusal t sets ≡ Some r))) (lexes_once text x.0 y.0 x.1 y.1) x.2) y.2) b)
-        a
+      (λ x. ⊎_elim (λ y. refuses_once text r q x y) (λ y. absurd (lexes_unrefused text y.0 r y.1 x)) b)
+      (λ x. ⊎_elim (λ y. absurd (lexes_unrefused text x.0 q x.1 y))
+      (λ y. token_refusal_one y.0 r q
+      (subst (λ ks. Refuses ks r ⊎ ((t : Program) × Spells 64 ks t × (tree_refusal t sets ≡ Some r))) (lexes_once text x.0 y.0 x.1 y.1) x.2) y.2) b)
+      a
 
   programs-one : (o p : Outcome) (said says : List ℕ) → ((t : Program) × IsProgram text sets t × Means t budget o said) → ((t : Program) × IsProgram text sets t × Means t budget p says) → (p ≡ o) × (says ≡ said)
   programs-one o p said says a b =

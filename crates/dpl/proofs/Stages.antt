@@ -1,6 +1,6 @@
 -- The stages of a run, put together.
 -- What the tokens of a text come to is what the text comes to.
-use Rattle.std.proofs.Common.{◌≡◌, ◌⊎◌, inl, inr, ⊎_elim, ℕ, List, [], ◌∷◌, ◌++◌, refl, sym, ap, ◌∙◌, subst, Some, None, Option, Result, Ok, Err}
+use Rattle.std.proofs.Common.{◌≡◌, inl, inr, ⊎_elim, ℕ, List, [], sym, ap, ◌∙◌, subst, Some, None, Option, Result, Ok, Err}
 use Rattle.std.specs.Prelude.{IfOk, OnOk, if◌then◌else◌}
 use Rattle.std.proofs.lemmas.Bool.Decides.{eqb_tells}
 use Rattle.std.specs.Io.KnownBytes.{Appends}
@@ -9,7 +9,6 @@ use Rattle.dpl_syntax.specs.declared.refusal.Refusal.{Refusal}
 use Rattle.dpl_syntax.specs.declared.refusal.Code.TheVariants.{BadSet}
 use Rattle.dpl_syntax.specs.Text.{Lexes}
 use Rattle.dpl_syntax.specs.Tree.{ProgramTree}
-use Rattle.dpl_parse.specs.Theorem.{Spells, Refuses}
 use Rattle.dpl_check.specs.Breaches.{tree_refusal, set_refusal, first_from, refusal_by}
 use Rattle.dpl_check.specs.Sound.{IsGood}
 use Rattle.dpl_check.proofs.Passes.{sound-stmts}
@@ -21,7 +20,7 @@ use Rattle.dpl.specs.declared.outcome.Outcome.TheVariants.{Done, Stopped, Reject
 use Rattle.dpl.specs.declared.refused.Refused.{Refused}
 use Rattle.dpl.proofs.OneOutcome.{one_outcome}
 use Rattle.dpl.specs.Headline.{EndsAs, Means, IsProgram, IsRefused, ComesTo}
-use Rattle.dpl.specs.Refusing.{IsRejection, TreeComesTo, TokensComeTo}
+use Rattle.dpl.specs.Refusing.{IsRejection, TokensComeTo}
 
 -- a refused text comes to its refusal
 pub refused-comes : (text : List ℕ) (sets budget : ℕ) (r : Refusal) (o : Outcome) (said : List ℕ) → IsRefused text sets r → IsRejection r o said → ComesTo text sets budget o said
@@ -40,11 +39,11 @@ program-comes text sets budget t (Rejected r) said is means = absurd (no_rejecti
 pub tokens-come : (text : List ℕ) (sets budget : ℕ) (ks : List Token) (o : Outcome) (said : List ℕ) → Lexes text ks → TokensComeTo ks sets budget o said → ComesTo text sets budget o said
 tokens-come text sets budget ks o said lexes come =
     ⊎_elim
-      (λ a. refused-comes text sets budget a.0 o said (inr (ks, lexes, inl a.1)) a.2)
-      (λ a. ⊎_elim
-        (λ b. refused-comes text sets budget b.0 o said (inr (ks, lexes, inr (a.0, a.1, b.1))) b.2)
-        (λ b. program-comes text sets budget a.0 o said (record { tokens = ks; lexes = lexes; spells = a.1; good = b.0; unset = b.1 }) b.2) a.2)
-      come
+    (λ a. refused-comes text sets budget a.0 o said (inr (ks, lexes, inl a.1)) a.2)
+    (λ a. ⊎_elim
+    (λ b. refused-comes text sets budget b.0 o said (inr (ks, lexes, inr (a.0, a.1, b.1))) b.2)
+    (λ b. program-comes text sets budget a.0 o said (record { tokens = ks; lexes = lexes; spells = a.1; good = b.0; unset = b.1 }) b.2) a.2)
+    come
 
 abbrev bad_set : Refusal
 bad_set = record { code = BadSet; place = None }
@@ -52,8 +51,8 @@ bad_set = record { code = BadSet; place = None }
 set_refusal-none : (sets : ℕ) → set_refusal sets ≡ None → sets ≡ 0
 set_refusal-none sets e =
     ⊎_elim (λ is. is.1)
-      (λ no. absurd (let set : Some bad_set ≡ None = sym (ap (λ b. if b then None else Some bad_set) no.0) ∙ e in cc))
-      (eqb_tells sets 0)
+    (λ no. absurd (let set : Some bad_set ≡ None = sym (ap (λ b. if b then None else Some bad_set) no.0) ∙ e in cc))
+    (eqb_tells sets 0)
 
 -- where no set is refused there is none
 pub unrefused-unset : (t : ProgramTree (List ℕ)) (sets : ℕ) → IsGood t → tree_refusal t sets ≡ None → sets ≡ 0

@@ -1,10 +1,10 @@
 -- A loop's turns, made one by one.
 -- What is left of them at a place begins with the turn there.
-use Rattle.std.proofs.Common.{◌≡◌, ℕ, ◌+◌, ℤ, List, ◌∷◌, drop, Some, Ok, Err, sym, ap, ◌∙◌, slice_get}
+use Rattle.std.proofs.Common.{◌≡◌, ℕ, ◌+◌, ℤ, List, drop, Some, sym, ap, ◌∙◌, slice_get}
 use Rattle.dpl_range.proofs.Lists.{drop-slice_get}
 use Rattle.dpl_syntax.specs.declared.fault.Fault.{Fault}
 use Rattle.dpl_syntax.specs.declared.value.Value.{Value}
-use Rattle.dpl_meaning.specs.Outcome.{Run, Outcome, Done, Stop, then_do, in_turn}
+use Rattle.dpl_meaning.specs.Outcome.{Run, Done, Stop, then_do, in_turn}
 
 module _ (turn : ℤ → Run (List Value)) (is : List ℤ) (k : ℕ) (i : ℤ) (at : slice_get is k ≡ Some i) (values next : List Value) (out : List ℕ) where
   -- the turn is done, so the others are left

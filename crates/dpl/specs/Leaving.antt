@@ -1,5 +1,5 @@
 -- The variables that a run leaves, as entries of a frame.
-use Rattle.std.specs.Prelude.{ℕ, List, [], ◌∷◌, ◌++◌}
+use Rattle.std.specs.Prelude.{List, [], ◌∷◌, ◌++◌}
 use Rattle.dpl_syntax.specs.Tree.{Bound, StmtTree, Declare}
 use Rattle.dpl_meaning.specs.Names.{Entry}
 use Rattle.dpl.specs.declared.left.Variable.{Variable}

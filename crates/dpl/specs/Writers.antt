@@ -1,5 +1,5 @@
 -- When a writer has failed, and what is left of a write that ends early.
-use Rattle.std.specs.Prelude.{◌≡◌, ℕ, ◌≤◌, Bool, true, false, ◌||◌, ◌&&◌, not, ◌==◌, List, length, take, Result, Ok, Err, Option}
+use Rattle.std.specs.Prelude.{ℕ, ◌≤◌, Bool, true, ◌||◌, ◌&&◌, not, ◌==◌, List, length, take, Result, Ok, Err, Option}
 use Rattle.std.specs.Io.KnownBytes.{Appends}
 
 -- it fails at an error, or where it takes none of some bytes; once it has failed it stays so

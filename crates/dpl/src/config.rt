@@ -66,7 +66,14 @@ impl Config {
     ///
     /// # Errors
     /// The first cause, in the order of [`ConfigFault`].
-    pub fn new(locales: u32, budget: u64, tries: u64, grid2: [u32; 2], grid3: [u32; 3], maps: Maps) -> Result<Config, ConfigFault>
+    pub fn new(
+        locales: u32,
+        budget: u64,
+        tries: u64,
+        grid2: [u32; 2],
+        grid3: [u32; 3],
+        maps: Maps,
+    ) -> Result<Config, ConfigFault>
         ensures ok { IsOk result ↔ (AreLocales locales × IsCount budget × IsCount tries × IsGrid2 locales grid2 × IsGrid3 locales grid3) }
         ensures held { IfOk result (λ config. config ≡ record { locales = locales; budget = budget; tries = tries; grid2 = grid2; grid3 = grid3; maps = maps }) }
         ensures locales { (result ≡ Err ConfigFault.Locales) ↔ (¬ AreLocales locales) }
@@ -90,7 +97,14 @@ impl Config {
         if !is_grid3(locales, grid3) {
             return Err(ConfigFault::Grid3);
         }
-        Ok(Config { locales, budget, tries, grid2, grid3, maps })
+        Ok(Config {
+            locales,
+            budget,
+            tries,
+            grid2,
+            grid3,
+            maps,
+        })
     }
 
     /// How many locales there are, from 1 to 64.

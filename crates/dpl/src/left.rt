@@ -22,6 +22,7 @@ pub struct Left {
 
 impl Model for Left {
     ghost use Rattle.dpl_meaning.specs.Names.{Frame};
+
     ghost Value = { Frame };
 
     ghost use Rattle.std.specs.Prelude.{map};

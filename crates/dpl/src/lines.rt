@@ -37,7 +37,11 @@ pub(crate) fn tell_fault(alloc: Global, fault: Fault, text: &mut Vec<u8>) -> Res
 ///
 /// # Errors
 /// No memory for it.
-pub(crate) fn tell_refusal(alloc: Global, refusal: Refusal, text: &mut Vec<u8>) -> Result<(), AllocError>
+pub(crate) fn tell_refusal(
+    alloc: Global,
+    refusal: Refusal,
+    text: &mut Vec<u8>,
+) -> Result<(), AllocError>
     ensures { OnOk result (text.new.items ≡ text.old.items ++ refusal_text refusal ++ 10 ∷ []) }
 {
     let line = format!(in alloc; "{refusal}\n")?;

@@ -64,17 +64,31 @@ fn indices(over: &Bounds, frame: &Frame) -> Result<Range, Fault>
     let low = value(&over.low, frame)?;
     let high = value(&over.high, frame)?;
     let stride = stride(&over.by, frame)?;
-    tested(over.dots, stride_place(over.dots, &over.by), low.number(), high.number(), stride.number())
+    tested(
+        over.dots,
+        stride_place(over.dots, &over.by),
+        low.number(),
+        high.number(),
+        stride.number(),
+    )
 }
 
 // The turn at a place of a range, whose fault names its index.
-fn turn_at(k: u64, range: Range, variable: &Name, body: &Stmt, frame: &mut Frame) -> Result<(), Fault>
+fn turn_at(
+    k: u64,
+    range: Range,
+    variable: &Name,
+    body: &Stmt,
+    frame: &mut Frame,
+) -> Result<(), Fault>
     requires within { k < length (members_of range) }
     requires body { IsTurnBody (stmt_view bound body.now) }
     ensures ends { (i : ℤ) (out : List ℕ) → slice_get (members_of range) k ≡ Some i → TurnEnds result frame.new.values out (named_turn_of by_slot (placed bound variable.now) (exec by_slot (stmt_view bound body.now) frame.old.budget) i frame.old.values out) }
     ensures budget { frame.new.budget ≡ frame.old.budget }
 {
-    let Some(i) = range.nth(k) else { unreachable!() };
+    let Some(i) = range.nth(k) else {
+        unreachable!()
+    };
     frame.set(variable.slot, Value::Int(i));
     match turn(body, frame) {
         Ok(()) => Ok(()),
@@ -103,7 +117,13 @@ fn turns(range: Range, variable: &Name, body: &Stmt, frame: &mut Frame) -> Resul
 ///
 /// # Errors
 /// The fault of the bounds, of the budget, or of the first turn that has one.
-pub(crate) fn forall(at: Place, variable: &Name, over: &Bounds, body: &Stmt, frame: &mut Frame) -> Result<(), Fault>
+pub(crate) fn forall(
+    at: Place,
+    variable: &Name,
+    over: &Bounds,
+    body: &Stmt,
+    frame: &mut Frame,
+) -> Result<(), Fault>
     requires { IsTurnBody (stmt_view bound body.now) }
     ensures ends { (out : List ℕ) → TurnEnds result frame.new.values out (with_value (over_of by_slot (bounds_view bound over.now) frame.old.values) out (λ is. budgeted frame.old.budget at is (in_turn (named_turn_of by_slot (placed bound variable.now) (exec by_slot (stmt_view bound body.now) frame.old.budget)) is) frame.old.values out)) }
     ensures budget { frame.new.budget ≡ frame.old.budget }

@@ -13,11 +13,10 @@ pub mod refused;
 pub mod run;
 mod statements;
 mod stop;
-pub mod text;
-pub mod writer;
-
 #[cfg(test)]
 mod tests;
+pub mod text;
+pub mod writer;
 
 use config::{Config, Maps};
 use gate::OpenGate;

@@ -58,7 +58,14 @@ pub(crate) fn run(alloc: Global, program: &Checked, config: &Config) -> Result<E
 ///
 /// # Errors
 /// No memory, and nothing was written; or the writer failed, and it holds the first bytes of what the run writes.
-pub fn run_checked<R: Sync, G: Gate + Sync, W: Out>(rt: &R, alloc: Global, program: &Checked, config: &Config, gate: &G, out: &mut W) -> Result<Outcome, Refused>
+pub fn run_checked<R: Sync, G: Gate + Sync, W: Out>(
+    rt: &R,
+    alloc: Global,
+    program: &Checked,
+    config: &Config,
+    gate: &G,
+    out: &mut W,
+) -> Result<Outcome, Refused>
     requires { W.has_failed out.old ≡ false }
     // What is written, and the outcome, are those of the meaning.
     ensures means { IfOk result (λ outcome. (said : List ℕ) × Means (tree_view spelled program.now) config.now.budget outcome said × Appends (W.contents out.old) (W.contents out.new) said) }

@@ -33,7 +33,12 @@ fn print(value: Value, text: &mut Vec<u8>) -> Result<(), AllocError>
 }
 
 // A `writeln`: all values first, and then the line.
-fn write_line(alloc: Global, arguments: &[Expr], frame: &Frame, out: &mut Vec<u8>) -> Result<(), Stop>
+fn write_line(
+    alloc: Global,
+    arguments: &[Expr],
+    frame: &Frame,
+    out: &mut Vec<u8>,
+) -> Result<(), Stop>
     ensures { RunEnds result frame.now.values out.new.items (with_value (text_of by_slot (map (expr_view bound) arguments.now) frame.now.values []) out.old.items (λ text. Done frame.now.values (out.old.items ++ (text ++ 10 ∷ [])))) }
 {
     let mut text = Vec::new(alloc);
@@ -67,14 +72,25 @@ fn statement(alloc: Global, stmt: &Stmt, frame: &mut Frame, out: &mut Vec<u8>) -
             frame.set(name.slot, v);
             Ok(())
         }
-        Stmt::Assign { name, op, value: right, .. } => {
+        Stmt::Assign {
+            name,
+            op,
+            value: right,
+            ..
+        } => {
             let v = value(right, frame)?;
             let old = frame.get(name.slot);
             frame.set(name.slot, op.apply(old, v));
             Ok(())
         }
         Stmt::Writeln { arguments, .. } => write_line(alloc, arguments, frame, out),
-        Stmt::Forall { at, variable, over, body, .. } => {
+        Stmt::Forall {
+            at,
+            variable,
+            over,
+            body,
+            ..
+        } => {
             forall(*at, variable, over, body, frame)?;
             Ok(())
         }
@@ -87,7 +103,12 @@ fn statement(alloc: Global, stmt: &Stmt, frame: &mut Frame, out: &mut Vec<u8>) -
 ///
 /// # Errors
 /// The first fault, behind what was printed before it; or no memory for what is printed.
-pub(crate) fn statements(alloc: Global, stmts: &[Stmt], frame: &mut Frame, out: &mut Vec<u8>) -> Result<(), Stop>
+pub(crate) fn statements(
+    alloc: Global,
+    stmts: &[Stmt],
+    frame: &mut Frame,
+    out: &mut Vec<u8>,
+) -> Result<(), Stop>
     requires { HaveTurnBodies (map (stmt_view bound) stmts.now) }
     ensures { RunEnds result frame.new.values out.new.items (exec_all by_slot (map (stmt_view bound) stmts.now) frame.old.budget frame.old.values out.old.items) }
 {

@@ -11,25 +11,58 @@ use dpl_syntax::Value;
 use std::process::Abort;
 use std::test::Fail;
 
-const SQUARES: &str = "var s: int; forall i in 1..8 by 2 with (+ reduce s) do s += i*i; writeln(s);";
+const SQUARES: &str =
+    "var s: int; forall i in 1..8 by 2 with (+ reduce s) do s += i*i; writeln(s);";
 
 // Each text with its budget, and the bytes that are written of it.
 const ROWS: [(&str, u64, &str); 16] = [
     (SQUARES, 16777216, "84\n"),
     (SQUARES, 4, "84\n"),
     (SQUARES, 3, "! F5 at 1:13\n"),
-    ("var s: int; forall i in 1..3 do s += i;", 9, "! C8 at 1:33\n"),
-    ("writeln(9223372036854775807 + 1);", 9, "-9223372036854775808\n"),
-    ("var s: int; forall i in 1..8 by 0 with (+ reduce s) do s += 1;", 9, "! F3 at 1:30\n"),
-    ("writeln(5); forall i in 1..8 do i = 1;", 9, "! C4 at 1:33\n"),
-    ("writeln(5);\nvar s = 1;\nforall i in 1..8 with (+ reduce s) do s += 1;", 7, "5\n! F5 at 3:1\n"),
+    (
+        "var s: int; forall i in 1..3 do s += i;",
+        9,
+        "! C8 at 1:33\n",
+    ),
+    (
+        "writeln(9223372036854775807 + 1);",
+        9,
+        "-9223372036854775808\n",
+    ),
+    (
+        "var s: int; forall i in 1..8 by 0 with (+ reduce s) do s += 1;",
+        9,
+        "! F3 at 1:30\n",
+    ),
+    (
+        "writeln(5); forall i in 1..8 do i = 1;",
+        9,
+        "! C4 at 1:33\n",
+    ),
+    (
+        "writeln(5);\nvar s = 1;\nforall i in 1..8 with (+ reduce s) do s += 1;",
+        7,
+        "5\n! F5 at 3:1\n",
+    ),
     ("writeln(1) @", 9, "! L2 at 1:12\n"),
     ("var x = 9223372036854775808;", 9, "! L3 at 1:9\n"),
     ("writeln(1", 9, "! P1 at 1:10\n"),
-    ("const c = 1; forall i in 1..2 with (+ reduce c) do c += i;", 9, "! C4 at 1:46\n"),
-    ("const c = 1; forall i in 1..2 do c = i;", 9, "! C4 at 1:34\n"),
+    (
+        "const c = 1; forall i in 1..2 with (+ reduce c) do c += i;",
+        9,
+        "! C4 at 1:46\n",
+    ),
+    (
+        "const c = 1; forall i in 1..2 do c = i;",
+        9,
+        "! C4 at 1:34\n",
+    ),
     ("var a = 1; var a = 2; a = b;", 9, "! C2 at 1:16\n"),
-    ("var m: int = -7; forall i in 5..4 with (+ reduce m) do m += i; writeln(m, 2);", 9, "-72\n"),
+    (
+        "var m: int = -7; forall i in 5..4 with (+ reduce m) do m += i; writeln(m, 2);",
+        9,
+        "-72\n",
+    ),
     ("", 9, ""),
 ];
 
@@ -76,7 +109,15 @@ fn nesting(rt: HostRuntime) -> Result<(), Fail> {
 fn leaves(rt: HostRuntime) -> Result<(), Fail> {
     let config = Config::new(1, 9, 9, [1, 1], [1, 1, 1], Maps::AsIs)?;
     let mut out = Plain::new(Vec::new(rt.alloc()));
-    match run_text(&rt, rt.alloc(), SQUARES.as_bytes(), &[], &config, &OpenGate, &mut out)? {
+    match run_text(
+        &rt,
+        rt.alloc(),
+        SQUARES.as_bytes(),
+        &[],
+        &config,
+        &OpenGate,
+        &mut out,
+    )? {
         Outcome::Done(left) => {
             assert_eq!(rt; left.variables().len(), 1);
             assert_eq!(rt; left.get(b"s"), Some(Value::Int(84)));
@@ -85,7 +126,15 @@ fn leaves(rt: HostRuntime) -> Result<(), Fail> {
         _ => assert!(rt; false, "the program runs to its end"),
     }
     let mut out = Plain::new(Vec::new(rt.alloc()));
-    run_text(&rt, rt.alloc(), SQUARES.as_bytes(), &["s=7"], &config, &OpenGate, &mut out)?;
+    run_text(
+        &rt,
+        rt.alloc(),
+        SQUARES.as_bytes(),
+        &["s=7"],
+        &config,
+        &OpenGate,
+        &mut out,
+    )?;
     assert_eq!(rt; out.writer.as_slice(), b"! C14\n".as_slice());
     Ok(())
 }
@@ -95,10 +144,28 @@ fn refusals(rt: HostRuntime) -> Result<(), Fail> {
     let config = Config::new(1, 9, 9, [1, 1], [1, 1, 1], Maps::AsIs)?;
     let mut room = [0u8; 2];
     let mut out = Plain::new(room.as_mut_slice());
-    let result = run_text(&rt, rt.alloc(), SQUARES.as_bytes(), &[], &config, &OpenGate, &mut out);
+    let result = run_text(
+        &rt,
+        rt.alloc(),
+        SQUARES.as_bytes(),
+        &[],
+        &config,
+        &OpenGate,
+        &mut out,
+    );
     assert!(rt; matches!(result, Err(Refused::Writer)));
     assert!(rt; out.failed);
-    assert!(rt; matches!(Config::new(65, 9, 9, [1, 1], [1, 1, 1], Maps::AsIs), Err(ConfigFault::Locales)));
-    assert!(rt; matches!(Config::new(4, 9, 9, [2, 2], [2, 1, 1], Maps::AsIs), Err(ConfigFault::Grid3)));
+    assert!(rt;
+        matches!(
+            Config::new(65, 9, 9, [1, 1], [1, 1, 1], Maps::AsIs),
+            Err(ConfigFault::Locales)
+        )
+    );
+    assert!(rt;
+        matches!(
+            Config::new(4, 9, 9, [2, 2], [2, 1, 1], Maps::AsIs),
+            Err(ConfigFault::Grid3)
+        )
+    );
     Ok(())
 }

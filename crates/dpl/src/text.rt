@@ -48,7 +48,12 @@ fn tree_outcome(alloc: Global, tree: Tree, sets: &[&str], config: &Config) -> Re
 }
 
 // What tokens come to: their refusal, or what the tree that they spell comes to.
-fn tokens_outcome(alloc: Global, tokens: &[Token], sets: &[&str], config: &Config) -> Result<Ended, Refused>
+fn tokens_outcome(
+    alloc: Global,
+    tokens: &[Token],
+    sets: &[&str],
+    config: &Config,
+) -> Result<Ended, Refused>
     ensures comes { IfOk result (λ ended. TokensComeTo tokens.now (length sets.now) config.now.budget ended.outcome ended.text.items) }
     ensures memory { IfErr result (λ e. e ≡ Refused.Memory) }
 {
@@ -60,7 +65,12 @@ fn tokens_outcome(alloc: Global, tokens: &[Token], sets: &[&str], config: &Confi
 }
 
 // What a text comes to: its refusal, or what its tokens come to.
-fn text_outcome(alloc: Global, text: &[u8], sets: &[&str], config: &Config) -> Result<Ended, Refused>
+fn text_outcome(
+    alloc: Global,
+    text: &[u8],
+    sets: &[&str],
+    config: &Config,
+) -> Result<Ended, Refused>
     ensures comes { IfOk result (λ ended. ComesTo text.now (length sets.now) config.now.budget ended.outcome ended.text.items) }
     ensures memory { IfErr result (λ e. e ≡ Refused.Memory) }
 {
@@ -79,7 +89,15 @@ fn text_outcome(alloc: Global, text: &[u8], sets: &[&str], config: &Config) -> R
 ///
 /// # Errors
 /// No memory, and nothing was written; or the writer failed, and it holds the first bytes of what the text writes.
-pub fn run_text<R: Sync, G: Gate + Sync, W: Out>(rt: &R, alloc: Global, text: &[u8], sets: &[&str], config: &Config, gate: &G, out: &mut W) -> Result<Outcome, Refused>
+pub fn run_text<R: Sync, G: Gate + Sync, W: Out>(
+    rt: &R,
+    alloc: Global,
+    text: &[u8],
+    sets: &[&str],
+    config: &Config,
+    gate: &G,
+    out: &mut W,
+) -> Result<Outcome, Refused>
     requires { W.has_failed out.old ≡ false }
     // What is written, and the outcome, are what the text comes to.
     ensures written { IfOk result (λ outcome. (said : List ℕ) × ComesTo text.now (length sets.now) config.now.budget outcome said × Appends (W.contents out.old) (W.contents out.new) said) }

@@ -19,5 +19,5 @@ pub meaning-alike : (t : ProgramTree Bound) (program : ProgramTree (List ℕ)) (
     → EndsAlike (Stands n (after_all (resolving n) t.stmts ([] ∷ []))) (meaning program budget) (exec_all by_slot t.stmts budget slots [])
 meaning-alike t program budget n slots fit same len =
     subst (λ p. EndsAlike (Stands n (after_all (resolving n) t.stmts ([] ∷ []))) (meaning p budget) (exec_all by_slot t.stmts budget slots [])) same
-      (exec_all-alike text_of_name (resolving n) by_name by_slot (Stands n) (slots_simulate n) t.stmts budget ([] ∷ []) fit ([] ∷ []) slots []
-        (record { values = refl; count = len; apart = (tt, tt) }))
+    (exec_all-alike text_of_name (resolving n) by_name by_slot (Stands n) (slots_simulate n) t.stmts budget ([] ∷ []) fit ([] ∷ []) slots []
+    (record { values = refl; count = len; apart = (tt, tt) }))

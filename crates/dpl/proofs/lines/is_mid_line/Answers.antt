@@ -1,4 +1,3 @@
-use Rattle.std.proofs.Common.{◌≡◌, ◌∙◌, sym, ap}
 use Rattle.dpl.proofs.LineEnds.{line_end-at}
 use Rattle.dpl.proofs.lines.is_mid_line.Goals as goal
 

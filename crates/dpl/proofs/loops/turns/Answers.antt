@@ -1,4 +1,4 @@
-use Rattle.std.proofs.Common.{◌≡◌, ◌<◌, ◌≤◌, ℕ, ℤ, pos, ◌∙◌, sym, ap, subst, Err, Ok, Some, slice_get, drop, length, get_or, List}
+use Rattle.std.proofs.Common.{◌≡◌, ◌<◌, ◌≤◌, ℤ, pos, ◌∙◌, sym, ap, subst, Some, slice_get, length, get_or, List}
 use Rattle.std.proofs.lemmas.Result.{err_from_is_err_and}
 use Rattle.std.proofs.lemmas.Option.{slice_get-get_or}
 use Rattle.dpl_syntax.proofs.Walks.{drop-end}
@@ -19,7 +19,7 @@ returns-in_err-turn_at-clause-ends c out =
     let within : c.loop-k.k < length is = subst (λ n. c.loop-k.k < n) c.size-k-end.ensures.length c.loop-k-test.true in
     let at : slice_get is c.loop-k.k ≡ Some i = slice_get-get_or is c.loop-k.k (pos 0) within in
     let stop : turn i c.loop-k.frame.values out ≡ Stop c.in_err-turn_at.field-0.0 out =
-        ap (λ n. named_turn by_slot (placed bound c.args.variable.now) (exec by_slot (stmt_view bound c.args.body.now) n) i c.loop-k.frame.values out) (sym c.loop-k.invariant.budget) ∙ c.in_err-turn_at.ensures.ends i out at in
+    ap (λ n. named_turn by_slot (placed bound c.args.variable.now) (exec by_slot (stmt_view bound c.args.body.now) n) i c.loop-k.frame.values out) (sym c.loop-k.invariant.budget) ∙ c.in_err-turn_at.ensures.ends i out at in
     let p = err_from_is_err_and c.from_residual.result c.from_residual.ensures.1 in
     rw (p.1, p.2) (sym (c.loop-k.invariant.ends out) ∙ in_turn-stop turn is c.loop-k.k i at c.loop-k.frame.values c.loop-k.frame.values out c.in_err-turn_at.field-0.0 stop)
 
@@ -32,9 +32,9 @@ loop-k-preserved c =
     let at : slice_get is c.loop-k.k ≡ Some i = slice_get-get_or is c.loop-k.k (pos 0) within in
     record {
       ends = λ out.
-        let done : turn i c.loop-k.frame.values out ≡ Done c.turn_at.new.frame.values out =
-            ap (λ n. named_turn by_slot (placed bound c.args.variable.now) (exec by_slot (stmt_view bound c.args.body.now) n) i c.loop-k.frame.values out) (sym c.loop-k.invariant.budget) ∙ c.in_ok-turn_at.ensures.ends i out at in
-        in_turn-done turn is c.loop-k.k i at c.loop-k.frame.values c.turn_at.new.frame.values out done ∙ c.loop-k.invariant.ends out;
+          let done : turn i c.loop-k.frame.values out ≡ Done c.turn_at.new.frame.values out =
+          ap (λ n. named_turn by_slot (placed bound c.args.variable.now) (exec by_slot (stmt_view bound c.args.body.now) n) i c.loop-k.frame.values out) (sym c.loop-k.invariant.budget) ∙ c.in_ok-turn_at.ensures.ends i out at in
+          in_turn-done turn is c.loop-k.k i at c.loop-k.frame.values c.turn_at.new.frame.values out done ∙ c.loop-k.invariant.ends out;
       budget = c.in_ok-turn_at.ensures.budget ∙ c.loop-k.invariant.budget;
     }
 

@@ -1,4 +1,4 @@
-use Rattle.std.proofs.Common.{◌≡◌, length, subst, sym, ap, ◌∙◌, rules}
+use Rattle.std.proofs.Common.{◌∙◌, rules}
 use Rattle.dpl.proofs.Taking.{taken_more}
 use Rattle.dpl.proofs.writer.write_all.Goals as goal
 
