@@ -1,13 +1,13 @@
 -- Two ways to keep variables that agree give the same meaning to every tree that fits.
 -- One lemma for each way in which runs are put together, and then one for each kind of node.
-use Rattle.std.proofs.Common.{◌≡◌, ℕ, ℤ, Bool, true, false, List, [], ◌∷◌, ◌++◌, refl, sym, ap, ◌∙◌, subst, Ok, Err, Some, None, Result, Option, nat_lt, length, pos, map}
+use Rattle.std.proofs.Common.{◌≡◌, ℕ, ℤ, Bool, true, false, List, [], ◌∷◌, ◌++◌, refl, sym, ap, ◌∙◌, subst, Ok, Err, Some, None, Result, Option, nat_lt, length, map}
 use Rattle.dpl_syntax.specs.declared.place.Place.{Place}
 use Rattle.dpl_syntax.specs.declared.value.Value.{Value}
 use Rattle.dpl_syntax.specs.declared.value.Value.TheVariants.{Int}
 use Rattle.dpl_syntax.specs.declared.fault.Fault.{Fault}
 use Rattle.dpl_syntax.specs.Values.{number, prefix_of, infix_of, printed}
 use Rattle.dpl_syntax.specs.Tree.{Placed, BoundsTree, StrideTree, InitialTree, ExprTree, Number, Named, Bracketed, Prefixed, Chain, Links, NoLinks, Link, StmtTree, Declare, Assigned, Writeln, Forall}
-use Rattle.dpl_meaning.specs.Outcome.{Outcome, Run, Done, Stop, with_ok, with_value, then_do, in_turn, naming, unless_over, budgeted}
+use Rattle.dpl_meaning.specs.Outcome.{Outcome, Run, Done, Stop, with_ok, with_value, then_do, in_turn, naming, unless_over}
 use Rattle.dpl_meaning.specs.Meaning.{Keeping, value_of, chained, text_of, stride_of, stride_at, indices_of, over, first_value, leaving, scoped, turn_of, named_turn, exec, exec_all}
 use Rattle.dpl_meaning.specs.Renamed.{renamed, renamed_expr, renamed_links, renamed_stride, renamed_bounds, renamed_initial, renamed_stmt}
 use Rattle.dpl_meaning.specs.Scopes.{Scoping, fits_expr, fits_links, fits_each, fits_stride, fits_bounds, fits_initial, after, after_all, inside, fits, fits_all}
@@ -83,14 +83,14 @@ module _ {M N G S1 S2 : Type 0} (name : N → M) (scoping : Scoping N G) (first 
   scoped-alike : (g h : G) (a : Run S1) (b : Run S2) → scoping.leave h ≡ g → RunAlike (R (scoping.enter g)) (R h) a b → RunAlike (R g) (R g) (scoped first a) (scoped second b)
   scoped-alike g h a b e p s1 s2 out r =
       subst (λ x. EndsAlike (R x) (scoped first a s1 out) (scoped second b s2 out)) e
-        (leaving-alike h (a (first.enter s1) out) (b (second.enter s2) out) (p (first.enter s1) (second.enter s2) out (sim.enters g s1 s2 r)))
+      (leaving-alike h (a (first.enter s1) out) (b (second.enter s2) out) (p (first.enter s1) (second.enter s2) out (sim.enters g s1 s2 r)))
 
   turn_of-alike : (x : Placed N) (g h : G) (a : Run S1) (b : Run S2) → scoping.leave h ≡ scoping.add x.name (scoping.enter g) → scoping.declares x.name (scoping.enter g)
       → RunAlike (R (inside scoping x.name g)) (R h) a b → (i : ℤ) → RunAlike (R g) (R g) (turn_of first (renamed name x) a i) (turn_of second x b i)
   turn_of-alike x g h a b e d p i =
       scoped-alike g (scoping.add x.name (scoping.enter g)) (λ s out. scoped first a (first.declare (name x.name) (Int i) s) out) (λ s out. scoped second b (second.declare x.name (Int i) s) out)
-        (sim.leave-add x.name (scoping.enter g) ∙ sim.leave-enter g)
-        (λ s1 s2 out r. scoped-alike (scoping.add x.name (scoping.enter g)) h a b e p (first.declare (name x.name) (Int i) s1) (second.declare x.name (Int i) s2) out (sim.declares x.name (Int i) (scoping.enter g) s1 s2 r d))
+      (sim.leave-add x.name (scoping.enter g) ∙ sim.leave-enter g)
+      (λ s1 s2 out r. scoped-alike (scoping.add x.name (scoping.enter g)) h a b e p (first.declare (name x.name) (Int i) s1) (second.declare x.name (Int i) s2) out (sim.declares x.name (Int i) (scoping.enter g) s1 s2 r d))
 
   leave-after : (t : StmtTree N) (g : G) → scoping.leave (after scoping t g) ≡ scoping.leave g
   leave-after (Declare at constant x declared initial semicolon) g = sim.leave-add x.name g
@@ -108,9 +108,9 @@ module _ {M N G S1 S2 : Type 0} (name : N → M) (scoping : Scoping N G) (first 
       with_value-alike g _ _ out _ _ (ap (λ (go : List ℕ → Result (List ℕ) Fault). go []) (text_of-renamed arguments g s1 s2 r f)) (λ text. (s2, r, refl))
   exec-alike (Forall at x within b intent doing body) budget g f s1 s2 out r =
       with_value-alike g _ _ out _ _ (over-renamed b g s1 s2 r f.0) (λ is.
-        unless_over-alike (nat_lt budget (length is)) at g (in_turn (named_turn first (renamed name x) (exec first (renamed_stmt name body) budget)) is) (in_turn (named_turn second x (exec second body budget)) is)
-          (in_turn-alike is g _ _ (λ i s1 s2 out r.
-            naming-alike g i _ _ (turn_of-alike x g _ _ _ (leave-after_inside body x.name g) f.2 (exec-alike body budget (inside scoping x.name g) f.3) i s1 s2 out r))) s1 s2 out r)
+      unless_over-alike (nat_lt budget (length is)) at g (in_turn (named_turn first (renamed name x) (exec first (renamed_stmt name body) budget)) is) (in_turn (named_turn second x (exec second body budget)) is)
+      (in_turn-alike is g _ _ (λ i s1 s2 out r.
+      naming-alike g i _ _ (turn_of-alike x g _ _ _ (leave-after_inside body x.name g) f.2 (exec-alike body budget (inside scoping x.name g) f.3) i s1 s2 out r))) s1 s2 out r)
 
   pub exec_all-alike : (ts : List (StmtTree N)) (budget : ℕ) (g : G) → fits_all scoping ts g → RunAlike (R g) (R (after_all scoping ts g)) (exec_all first (map (renamed_stmt name) ts) budget) (exec_all second ts budget)
   exec_all-alike [] budget g f s1 s2 out r = (s2, r, refl)

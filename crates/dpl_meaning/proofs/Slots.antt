@@ -1,6 +1,6 @@
 -- Variables kept in slots agree with variables kept by names, where each name has the slot of its declaration.
 -- The store that slots stand for is a function of what is in sight, so each step is an equation.
-use Rattle.std.proofs.Common.{◌≡◌, ◌≢◌, ℕ, ◌<◌, pos, List, [], ◌∷◌, ◌++◌, length, get_or, set, map, refl, sym, ap, ◌∙◌, subst, Some, None, Option, Bool, true, false, get_or-set_other, get_or-set_same, arith, ◌⊎◌, inl, inr, ⊎_elim}
+use Rattle.std.proofs.Common.{◌≡◌, ◌≢◌, ℕ, ◌<◌, pos, List, [], ◌∷◌, ◌++◌, length, get_or, set, refl, sym, ap, ◌∙◌, subst, Some, None, Option, true, false, get_or-set_other, get_or-set_same, arith, ◌⊎◌, inl, inr, ⊎_elim}
 use Rattle.std.specs.Prelude.{bytes_eq, if◌then◌else◌}
 use Rattle.std.proofs.Math.ListN.{length-set}
 use Rattle.dpl_syntax.specs.declared.value.Value.{Value}
@@ -8,7 +8,7 @@ use Rattle.dpl_syntax.specs.declared.value.Value.TheVariants.{Int}
 use Rattle.dpl_syntax.specs.declared.operator.Assign.{Assign}
 use Rattle.dpl_syntax.specs.Values.{assigned}
 use Rattle.dpl_syntax.specs.Tree.{Bound}
-use Rattle.dpl_meaning.specs.Names.{Entry, Frame, Store, in_frame, or_else, look_up, under, changed, or_outside, assign, add, without_innermost as without_frame, by_name}
+use Rattle.dpl_meaning.specs.Names.{Frame, Store, in_frame, or_else, look_up, under, changed, or_outside, assign, add, without_innermost as without_frame, by_name}
 use Rattle.dpl_meaning.specs.Slots.{in_slot, with_slot, by_slot}
 use Rattle.dpl_meaning.specs.Renamed.{text_of_name}
 use Rattle.dpl_meaning.specs.Resolved.{Sight, slot_in, or_slot, slot_of, IsFreshIn, IsFresh, IsApartFrame, IsApart, bind, without_innermost, resolving, entry_at, frame_at, store_at, Stands}
@@ -38,14 +38,14 @@ in_frame-frame_at : (x : List ℕ) (bs : List Bound) (s : List Value) → in_fra
 in_frame-frame_at x [] s = refl
 in_frame-frame_at x (b ∷ bs) s =
     elim (bytes_eq x b.text) as (λ t. (if t then Some (get_or s b.slot none) else in_frame x (frame_at s bs)) ≡ value_in s (if t then Some b.slot else slot_in x bs))
-      [ true ↦ refl | false ↦ in_frame-frame_at x bs s ]
+    [ true ↦ refl | false ↦ in_frame-frame_at x bs s ]
 
 look_up-store_at : (x : List ℕ) (g : Sight) (s : List Value) → look_up x (store_at s g) ≡ or_else (value_in s (slot_of x g)) none
 look_up-store_at x [] s = refl
 look_up-store_at x (f ∷ fs) s =
     ap (λ o. or_else o (look_up x (store_at s fs))) (in_frame-frame_at x f s)
     ∙ (elim (slot_in x f) as (λ o. or_else (value_in s o) (look_up x (store_at s fs)) ≡ or_else (value_in s (or_slot o (slot_of x fs))) none)
-      [ None ↦ look_up-store_at x fs s | Some k ↦ refl ])
+    [ None ↦ look_up-store_at x fs s | Some k ↦ refl ])
 
 look_up-slot : (x : List ℕ) (k : ℕ) (g : Sight) (s : List Value) → slot_of x g ≡ Some k → look_up x (store_at s g) ≡ get_or s k none
 look_up-slot x k g s e = look_up-store_at x g s ∙ ap (λ o. or_else (value_in s o) none) e
@@ -55,20 +55,20 @@ fresh_apart : (x : List ℕ) (bs : List Bound) (j k : ℕ) → IsFreshIn j bs �
 fresh_apart x [] j k f = λ e. cc
 fresh_apart x (b ∷ bs) j k f =
     elim (bytes_eq x b.text) as (λ t. (if t then Some b.slot else slot_in x bs) ≡ Some k → j ≢ k)
-      [ true ↦ λ e same. f.0 (cc) | false ↦ λ e. fresh_apart x bs j k f.1 e ]
+    [ true ↦ λ e same. f.0 (cc) | false ↦ λ e. fresh_apart x bs j k f.1 e ]
 
 changed-absent : (x : List ℕ) (bs : List Bound) (s : List Value) (v : Value) → slot_in x bs ≡ None → changed x v (frame_at s bs) ≡ None
 changed-absent x [] s v = λ e. refl
 changed-absent x (b ∷ bs) s v =
     elim (bytes_eq x b.text) as (λ t. (if t then Some b.slot else slot_in x bs) ≡ None → (if t then Some (record { name = b.text; value = v } ∷ frame_at s bs) else under (entry_at s b) (changed x v (frame_at s bs))) ≡ None)
-      [ true ↦ λ e. cc | false ↦ λ e. ap (under (entry_at s b)) (changed-absent x bs s v e) ]
+    [ true ↦ λ e. cc | false ↦ λ e. ap (under (entry_at s b)) (changed-absent x bs s v e) ]
 
 changed_here : (n : ℕ) (b : Bound) (bs : List Bound) (s : List Value) (v : Value) (k : ℕ) → b.slot < n → IsFreshIn b.slot bs → length s ≡ n → b.slot ≡ k → Some (record { name = b.text; value = v } ∷ frame_at s bs) ≡ Some (frame_at (set s k v) (b ∷ bs))
 changed_here n b bs s v k lt fresh len at =
     let within : b.slot < length s = omega arith in
     let here : get_or (set s b.slot v) b.slot none ≡ v = rw get_or-set_same refl in
     let all : (record { name = b.text; value = v } ∷ frame_at s bs) ≡ frame_at (set s b.slot v) (b ∷ bs) =
-        ap (λ w. record { name = b.text; value = w } ∷ frame_at s bs) (sym here) ∙ ap (λ r. entry_at (set s b.slot v) b ∷ r) (sym (frame_at-set bs s b.slot v fresh)) in
+    ap (λ w. record { name = b.text; value = w } ∷ frame_at s bs) (sym here) ∙ ap (λ r. entry_at (set s b.slot v) b ∷ r) (sym (frame_at-set bs s b.slot v fresh)) in
     ap (λ r. Some r) (all ∙ ap (λ j. frame_at (set s j v) (b ∷ bs)) at)
 
 changed_behind : (r : Option Frame) (b : Bound) (bs : List Bound) (s : List Value) (v : Value) (k : ℕ) → b.slot ≢ k → r ≡ Some (frame_at (set s k v) bs) → under (entry_at s b) r ≡ Some (frame_at (set s k v) (b ∷ bs))
@@ -80,15 +80,15 @@ changed-present : (n : ℕ) (x : List ℕ) (bs : List Bound) (fs : Sight) (s : L
 changed-present n x [] fs s v k g len = λ e. cc
 changed-present n x (b ∷ bs) fs s v k g len =
     elim (bytes_eq x b.text) as (λ t. (if t then Some b.slot else slot_in x bs) ≡ Some k →
-        (if t then Some (record { name = b.text; value = v } ∷ frame_at s bs) else under (entry_at s b) (changed x v (frame_at s bs))) ≡ Some (frame_at (set s k v) (b ∷ bs)))
-      [ true ↦ λ e. changed_here n b bs s v k g.0 g.1 len (cc) | false ↦ λ e. changed_behind _ b bs s v k (fresh_apart x bs b.slot k g.1 e) (changed-present n x bs fs s v k g.3 len e) ]
+    (if t then Some (record { name = b.text; value = v } ∷ frame_at s bs) else under (entry_at s b) (changed x v (frame_at s bs))) ≡ Some (frame_at (set s k v) (b ∷ bs)))
+    [ true ↦ λ e. changed_here n b bs s v k g.0 g.1 len (cc) | false ↦ λ e. changed_behind _ b bs s v k (fresh_apart x bs b.slot k g.1 e) (changed-present n x bs fs s v k g.3 len e) ]
 
 -- a slot that is found in a frame is in none further out
 fresh_outside : (n : ℕ) (x : List ℕ) (bs : List Bound) (fs : Sight) (k : ℕ) → IsApartFrame n bs fs → slot_in x bs ≡ Some k → IsFresh k fs
 fresh_outside n x [] fs k g = λ e. cc
 fresh_outside n x (b ∷ bs) fs k g =
     elim (bytes_eq x b.text) as (λ t. (if t then Some b.slot else slot_in x bs) ≡ Some k → IsFresh k fs)
-      [ true ↦ λ e. let at : b.slot ≡ k = cc in subst (λ j. IsFresh j fs) at g.2 | false ↦ λ e. fresh_outside n x bs fs k g.3 e ]
+    [ true ↦ λ e. let at : b.slot ≡ k = cc in subst (λ j. IsFresh j fs) at g.2 | false ↦ λ e. fresh_outside n x bs fs k g.3 e ]
 
 or_slot_cases : (a b : Option ℕ) (k : ℕ) → or_slot a b ≡ Some k → (a ≡ Some k) ⊎ ((a ≡ None) × (b ≡ Some k))
 or_slot_cases None b k e = inr (refl, e)
@@ -108,12 +108,12 @@ assign-store_at : (n : ℕ) (x : List ℕ) (g : Sight) (s : List Value) (v : Val
 assign-store_at n x [] s v k g len e = cc
 assign-store_at n x (f ∷ fs) s v k g len e =
     ⊎_elim
-      (λ a. ap (λ o. or_outside o (frame_at s f) (store_at s fs) (assign x v (store_at s fs))) (changed-present n x f fs s v k g.0 len a)
-        ∙ ap (λ r. frame_at (set s k v) f ∷ r) (sym (store_at-set fs s k v (fresh_outside n x f fs k g.0 a))))
-      (λ b. ap (λ o. or_outside o (frame_at s f) (store_at s fs) (assign x v (store_at s fs))) (changed-absent x f s v b.0)
-        ∙ ap (λ r. frame_at s f ∷ r) (assign-store_at n x fs s v k g.1 len b.1)
-        ∙ ap (λ r. r ∷ store_at (set s k v) fs) (sym (frame_at-set f s k v (fresh_before k x f n fs g.0 b.1))))
-      (or_slot_cases (slot_in x f) (slot_of x fs) k e)
+    (λ a. ap (λ o. or_outside o (frame_at s f) (store_at s fs) (assign x v (store_at s fs))) (changed-present n x f fs s v k g.0 len a)
+    ∙ ap (λ r. frame_at (set s k v) f ∷ r) (sym (store_at-set fs s k v (fresh_outside n x f fs k g.0 a))))
+    (λ b. ap (λ o. or_outside o (frame_at s f) (store_at s fs) (assign x v (store_at s fs))) (changed-absent x f s v b.0)
+    ∙ ap (λ r. frame_at s f ∷ r) (assign-store_at n x fs s v k g.1 len b.1)
+    ∙ ap (λ r. r ∷ store_at (set s k v) fs) (sym (frame_at-set f s k v (fresh_before k x f n fs g.0 b.1))))
+    (or_slot_cases (slot_in x f) (slot_of x fs) k e)
 
 -- ---- a declaration
 frame_at-append : (s : List Value) (bs cs : List Bound) → frame_at s (bs ++ cs) ≡ frame_at s bs ++ frame_at s cs

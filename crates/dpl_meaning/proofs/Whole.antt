@@ -1,10 +1,9 @@
 -- A run of a checked program over slots is the meaning of what it spells.
 -- Where it is done, the store that is left is the one that the slots stand for.
-use Rattle.std.proofs.Common.{◌≡◌, ℕ, List, [], ◌∷◌, length, sym, ap, ◌∙◌, refl, subst}
+use Rattle.std.proofs.Common.{◌≡◌, ℕ, List, [], ◌∷◌, length, refl, subst}
 use Rattle.dpl_syntax.specs.declared.value.Value.{Value}
 use Rattle.dpl_syntax.specs.Tree.{ProgramTree, Bound}
 use Rattle.dpl_meaning.specs.Meaning.{exec_all}
-use Rattle.dpl_meaning.specs.Names.{Store}
 use Rattle.dpl_meaning.specs.Slots.{by_slot}
 use Rattle.dpl_meaning.specs.Names.{by_name}
 use Rattle.dpl_meaning.specs.Scopes.{after_all}
@@ -19,5 +18,5 @@ pub meaning-alike : (t : ProgramTree Bound) (program : ProgramTree (List ℕ)) (
     → EndsAlike (Stands n (after_all (resolving n) t.stmts ([] ∷ []))) (meaning program budget) (exec_all by_slot t.stmts budget slots [])
 meaning-alike t program budget n slots fit same len =
     subst (λ p. EndsAlike (Stands n (after_all (resolving n) t.stmts ([] ∷ []))) (meaning p budget) (exec_all by_slot t.stmts budget slots [])) same
-      (exec_all-alike text_of_name (resolving n) by_name by_slot (Stands n) (slots_simulate n) t.stmts budget ([] ∷ []) fit ([] ∷ []) slots []
-        (record { values = refl; count = len; apart = (tt, tt) }))
+    (exec_all-alike text_of_name (resolving n) by_name by_slot (Stands n) (slots_simulate n) t.stmts budget ([] ∷ []) fit ([] ∷ []) slots []
+    (record { values = refl; count = len; apart = (tt, tt) }))

@@ -72,7 +72,7 @@ module _ {N S : Type 0} (keep : Keeping N S) where
   abbrev pub over : BoundsTree N → S → Result (List ℤ) Fault
   over r s =
       with_ok (value_of r.low s) (λ low. with_ok (value_of r.high s) (λ high. with_ok (stride_of r.by s) (λ stride.
-        indices_of r.dots (stride_at r.dots r.by) (number low) (number high) (number stride))))
+      indices_of r.dots (stride_at r.dots r.by) (number low) (number high) (number stride))))
 
   -- the value that a variable is declared with, 0 where none is written
   abbrev pub first_value : Option (InitialTree N) → S → Result Value Fault
