@@ -1,13 +1,13 @@
 -- Two ways to keep variables that agree give the same meaning to every tree that fits.
 -- One lemma for each way in which runs are put together, and then one for each kind of node.
-use Rattle.std.proofs.Common.{◌≡◌, ℕ, ℤ, Bool, true, false, List, [], ◌∷◌, ◌++◌, refl, sym, ap, ◌∙◌, subst, Ok, Err, Some, None, Result, Option, nat_lt, length, pos, map}
+use Rattle.std.proofs.Common.{◌≡◌, ℕ, ℤ, Bool, true, false, List, [], ◌∷◌, ◌++◌, refl, sym, ap, ◌∙◌, subst, Ok, Err, Some, None, Result, Option, nat_lt, length, map}
 use Rattle.dpl_syntax.specs.declared.place.Place.{Place}
 use Rattle.dpl_syntax.specs.declared.value.Value.{Value}
 use Rattle.dpl_syntax.specs.declared.value.Value.TheVariants.{Int}
 use Rattle.dpl_syntax.specs.declared.fault.Fault.{Fault}
 use Rattle.dpl_syntax.specs.Values.{number, prefix_of, infix_of, printed}
 use Rattle.dpl_syntax.specs.Tree.{Placed, BoundsTree, StrideTree, InitialTree, ExprTree, Number, Named, Bracketed, Prefixed, Chain, Links, NoLinks, Link, StmtTree, Declare, Assigned, Writeln, Forall}
-use Rattle.dpl_meaning.specs.Outcome.{Outcome, Run, Done, Stop, with_ok, with_value, then_do, in_turn, naming, unless_over, budgeted}
+use Rattle.dpl_meaning.specs.Outcome.{Outcome, Run, Done, Stop, with_ok, with_value, then_do, in_turn, naming, unless_over}
 use Rattle.dpl_meaning.specs.Meaning.{Keeping, value_of, chained, text_of, stride_of, stride_at, indices_of, over, first_value, leaving, scoped, turn_of, named_turn, exec, exec_all}
 use Rattle.dpl_meaning.specs.Renamed.{renamed, renamed_expr, renamed_links, renamed_stride, renamed_bounds, renamed_initial, renamed_stmt}
 use Rattle.dpl_meaning.specs.Scopes.{Scoping, fits_expr, fits_links, fits_each, fits_stride, fits_bounds, fits_initial, after, after_all, inside, fits, fits_all}

@@ -1,8 +1,7 @@
 -- The value of a chain, as a walk along its links computes it.
 -- Code that begins with the first operand's value has all of the chain's value left to do.
-use Rattle.std.proofs.Common.{◌≡◌, Ok, Result, refl, sym, ap, ◌∙◌}
+use Rattle.std.proofs.Common.{◌≡◌, Ok, sym, ap, ◌∙◌}
 use Rattle.dpl_syntax.specs.declared.value.Value.{Value}
-use Rattle.dpl_syntax.specs.declared.fault.Fault.{Fault}
 use Rattle.dpl_syntax.specs.Tree.{ExprTree, Chain, Links}
 use Rattle.dpl_meaning.specs.Outcome.{with_ok}
 use Rattle.dpl_meaning.specs.Meaning.{Keeping, value_of, chained}

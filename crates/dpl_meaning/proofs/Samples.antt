@@ -1,13 +1,13 @@
 -- Sample programs, as trees with the places of their tokens.
 -- Definitions are computed on them, here and in the crates above.
-use Rattle.std.proofs.Common.{ℕ, ℤ, pos, List, [], ◌∷◌, Some, None, true, false}
+use Rattle.std.proofs.Common.{ℕ, pos, List, [], ◌∷◌, Some, None, true, false}
 use Rattle.std.specs.Prelude.{codes}
 use Rattle.dpl_syntax.specs.declared.place.Place.{Place}
 use Rattle.dpl_syntax.specs.declared.operator.Prefix.TheVariants.{Minus as MinusPrefix}
 use Rattle.dpl_syntax.specs.declared.operator.Infix.TheVariants.{Add, Subtract, Multiply}
 use Rattle.dpl_syntax.specs.declared.operator.Op.TheVariants.{Add as AddOp, Multiply as MultiplyOp}
 use Rattle.dpl_syntax.specs.declared.operator.Assign.TheVariants.{Set, Add as AddTo, Multiply as MultiplyBy}
-use Rattle.dpl_syntax.specs.Tree.{Placed, ExprTree, Number, Named, Bracketed, Prefixed, Chain, NoLinks, Link, StmtTree, Declare, Assigned, Writeln, Forall, ProgramTree}
+use Rattle.dpl_syntax.specs.Tree.{Placed, Number, Named, Bracketed, Prefixed, Chain, NoLinks, Link, Declare, Assigned, Writeln, Forall, ProgramTree}
 
 abbrev pub Program : Type 0
 Program = ProgramTree (List ℕ)

@@ -1,6 +1,6 @@
 -- Variables kept in slots agree with variables kept by names, where each name has the slot of its declaration.
 -- The store that slots stand for is a function of what is in sight, so each step is an equation.
-use Rattle.std.proofs.Common.{◌≡◌, ◌≢◌, ℕ, ◌<◌, pos, List, [], ◌∷◌, ◌++◌, length, get_or, set, map, refl, sym, ap, ◌∙◌, subst, Some, None, Option, Bool, true, false, get_or-set_other, get_or-set_same, arith, ◌⊎◌, inl, inr, ⊎_elim}
+use Rattle.std.proofs.Common.{◌≡◌, ◌≢◌, ℕ, ◌<◌, pos, List, [], ◌∷◌, ◌++◌, length, get_or, set, refl, sym, ap, ◌∙◌, subst, Some, None, Option, true, false, get_or-set_other, get_or-set_same, arith, ◌⊎◌, inl, inr, ⊎_elim}
 use Rattle.std.specs.Prelude.{bytes_eq, if◌then◌else◌}
 use Rattle.std.proofs.Math.ListN.{length-set}
 use Rattle.dpl_syntax.specs.declared.value.Value.{Value}
@@ -8,7 +8,7 @@ use Rattle.dpl_syntax.specs.declared.value.Value.TheVariants.{Int}
 use Rattle.dpl_syntax.specs.declared.operator.Assign.{Assign}
 use Rattle.dpl_syntax.specs.Values.{assigned}
 use Rattle.dpl_syntax.specs.Tree.{Bound}
-use Rattle.dpl_meaning.specs.Names.{Entry, Frame, Store, in_frame, or_else, look_up, under, changed, or_outside, assign, add, without_innermost as without_frame, by_name}
+use Rattle.dpl_meaning.specs.Names.{Frame, Store, in_frame, or_else, look_up, under, changed, or_outside, assign, add, without_innermost as without_frame, by_name}
 use Rattle.dpl_meaning.specs.Slots.{in_slot, with_slot, by_slot}
 use Rattle.dpl_meaning.specs.Renamed.{text_of_name}
 use Rattle.dpl_meaning.specs.Resolved.{Sight, slot_in, or_slot, slot_of, IsFreshIn, IsFresh, IsApartFrame, IsApart, bind, without_innermost, resolving, entry_at, frame_at, store_at, Stands}

@@ -1,10 +1,9 @@
 -- A run of a checked program over slots is the meaning of what it spells.
 -- Where it is done, the store that is left is the one that the slots stand for.
-use Rattle.std.proofs.Common.{◌≡◌, ℕ, List, [], ◌∷◌, length, sym, ap, ◌∙◌, refl, subst}
+use Rattle.std.proofs.Common.{◌≡◌, ℕ, List, [], ◌∷◌, length, refl, subst}
 use Rattle.dpl_syntax.specs.declared.value.Value.{Value}
 use Rattle.dpl_syntax.specs.Tree.{ProgramTree, Bound}
 use Rattle.dpl_meaning.specs.Meaning.{exec_all}
-use Rattle.dpl_meaning.specs.Names.{Store}
 use Rattle.dpl_meaning.specs.Slots.{by_slot}
 use Rattle.dpl_meaning.specs.Names.{by_name}
 use Rattle.dpl_meaning.specs.Scopes.{after_all}

@@ -1,9 +1,8 @@
 -- Variables kept by their names: the language's own way.
 -- A store is a list of frames, the innermost scope's first; a frame has its names in order of declaration, each with its value.
-use Rattle.std.specs.Prelude.{ℕ, pos, Bool, true, false, bytes_eq, if◌then◌else◌, List, [], ◌∷◌, ◌++◌, Option, Some, None}
+use Rattle.std.specs.Prelude.{ℕ, pos, bytes_eq, if◌then◌else◌, List, [], ◌∷◌, ◌++◌, Option, Some, None}
 use Rattle.dpl_syntax.specs.declared.value.Value.{Value}
 use Rattle.dpl_syntax.specs.declared.value.Value.TheVariants.{Int}
-use Rattle.dpl_syntax.specs.declared.operator.Assign.{Assign}
 use Rattle.dpl_syntax.specs.Values.{assigned}
 use Rattle.dpl_meaning.specs.Meaning.{Keeping}
 

@@ -1,6 +1,6 @@
 -- How a run ends, and how runs follow one another.
 -- A run goes from a state, and from all that is printed before it, to its end.
-use Rattle.std.specs.Prelude.{ℕ, nat_lt, ℤ, Bool, true, false, Option, Some, None, Result, Ok, Err, List, [], ◌∷◌, length}
+use Rattle.std.specs.Prelude.{ℕ, nat_lt, ℤ, Bool, true, false, Some, None, Result, Ok, Err, List, [], ◌∷◌, length}
 use Rattle.dpl_syntax.specs.declared.fault.Fault.{Fault}
 use Rattle.dpl_syntax.specs.declared.fault.FaultCode.{FaultCode}
 use Rattle.dpl_syntax.specs.declared.fault.FaultCode.TheVariants.{Budget}

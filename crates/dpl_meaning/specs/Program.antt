@@ -1,7 +1,6 @@
 -- What a program means, writes and leaves.
 -- A program starts with one empty frame, the top level's; what it leaves is that frame.
 use Rattle.std.specs.Prelude.{ℕ, ◌==◌, if◌then◌else◌, List, [], ◌∷◌, ◌++◌}
-use Rattle.dpl_syntax.specs.declared.fault.Fault.{Fault}
 use Rattle.dpl_syntax.specs.Lines.{fault_text}
 use Rattle.dpl_syntax.specs.Tree.{ProgramTree}
 use Rattle.dpl_meaning.specs.Outcome.{Outcome, Done, Stop}

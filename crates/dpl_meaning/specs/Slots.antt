@@ -1,6 +1,6 @@
 -- Variables kept in slots: a list of values, in which each declaration in sight has a slot of its own.
 -- It is what a checked program does; that it does what the names say is proved.
-use Rattle.std.specs.Prelude.{ℕ, pos, List, get_or, set}
+use Rattle.std.specs.Prelude.{pos, List, get_or, set}
 use Rattle.dpl_syntax.specs.declared.value.Value.{Value}
 use Rattle.dpl_syntax.specs.declared.value.Value.TheVariants.{Int}
 use Rattle.dpl_syntax.specs.Values.{assigned}
