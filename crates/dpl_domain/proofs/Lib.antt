@@ -2,3 +2,5 @@ pub mod TupleLemmas
 pub mod PlaceLemmas
 pub mod ProgressionLemmas
 pub mod CursorLemmas
+pub mod ExpansionLemmas
+mod Worked
