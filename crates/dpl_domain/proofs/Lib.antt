@@ -3,4 +3,5 @@ pub mod PlaceLemmas
 pub mod ProgressionLemmas
 pub mod CursorLemmas
 pub mod ExpansionLemmas
+pub mod OrderLemmas
 mod Worked
