@@ -159,6 +159,9 @@ impl Domain {
             return None;
         }
         let (outer, middle, inner) = index.numbers();
+        if self.rank == 1 {
+            return self.inner.place(inner);
+        }
         let outer = self.outer.place(outer)?;
         let middle = self.middle.place(middle)?;
         let inner = self.inner.place(inner)?;
