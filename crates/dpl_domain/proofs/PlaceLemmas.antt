@@ -1,5 +1,5 @@
 -- The place of an index: the places of its coordinates, row by row, and no other.
-use Rattle.std.proofs.Common.{◌≡◌, ℕ, suc, ◌+◌, ◌*◌, ◌/◌, ◌%◌, ◌^◌, ◌<◌, ◌≤◌, List, length, refl, ap, sym, ◌∙◌, arith, Option, Some, None, ℤ, pos, slice_get, ◌↔◌, inl, inr, ⊎_elim, Contains, is_some, true, false, Fits, w64, Bool, filter, [], ◌∷◌, cond, subst}
+use Rattle.std.proofs.Common.{◌≡◌, ℕ, zero, suc, ◌+◌, ◌*◌, ◌/◌, ◌%◌, ◌^◌, ◌<◌, ◌≤◌, List, length, refl, ap, sym, ◌∙◌, arith, Option, Some, None, ℤ, pos, slice_get, ◌↔◌, inl, inr, ⊎_elim, Contains, is_some, true, false, Fits, w64, Bool, filter, [], ◌∷◌, cond, subst}
 use Rattle.std.proofs.lemmas.Bool.{cases_lt}
 use Rattle.std.proofs.lemmas.Option.{none-some, same_Some, slice_get_within}
 use Rattle.std.proofs.Math.Nat.{add-mul, mul-le-mul_right, mul-le-mul_left, mul-le-mul}
@@ -7,7 +7,7 @@ use Rattle.dpl_range.proofs.Ends.{Contains-slice_get, slice_get-Contains}
 use Rattle.dpl_range.specs.Range.{RangeValue, members_of}
 use Rattle.dpl_domain.specs.Indices.{indices, IsSmall}
 use Rattle.dpl_domain.specs.Ranks.{last_of, point, IsPadded, IsKept}
-use Rattle.dpl_domain.proofs.TupleLemmas.{tuple_at-some, tuple_at-parts, last_of-parts, length-last_of, slice_get-indices, slice_get-indices_at, indices-empty, place-indices, length-indices, IsPadded-coordinates}
+use Rattle.dpl_domain.proofs.TupleLemmas.{cons_at, slice_get-line, tuple_at-some, tuple_at-parts, last_of-parts, length-last_of, slice_get-indices, slice_get-indices_at, indices-empty, place-indices, length-indices, IsPadded-coordinates}
 
 -- the three numbers of a tuple at a place of a domain are members at the parts of that place
 pub record StandsAt (o m i : RangeValue) (k : ℕ) (x y z : ℤ) : Type 0 where
@@ -87,6 +87,21 @@ module _ (rank : ℕ) (o m i : RangeValue) (padded : IsPadded point rank o m) wh
                 (sym (same_Some q _ ((middle _).1 s.middle)))
                 (sym (same_Some r _ ((inner _).1 s.inner)))))),
           )
+
+-- an index of one coordinate stands where the coordinate does
+cons_at-one : (o : Option ℤ) (z : ℤ) → (o ≡ Some z) ↔ (cons_at o (Some []) ≡ Some (z ∷ []))
+cons_at-one None z = ((λ e. absurd (none-some z e)), (λ e. absurd (none-some (z ∷ []) e)))
+cons_at-one (Some a) z = ((λ e. let same : a ≡ z = same_Some a z e in cc), (λ e. cc))
+
+pub place-one : (rank : ℕ) (o m i : RangeValue) (x y z : ℤ) (place : Option ℕ) → rank ≡ 1 → ((k : ℕ) → (place ≡ Some k) ↔ (slice_get (members_of i) k ≡ Some z)) → (k : ℕ) → (place ≡ Some k) ↔ (slice_get (indices (last_of rank o m i)) k ≡ Some (last_of rank x y z))
+unfolding indices
+place-one zero o m i x y z place one inverse k = absurd (omega arith)
+place-one (suc zero) o m i x y z place one inverse k =
+    let at = slice_get-line (members_of i) k in (
+      (λ here. at ∙ (cons_at-one (slice_get (members_of i) k) z).0 ((inverse k).0 here)),
+      (λ found. (inverse k).1 ((cons_at-one (slice_get (members_of i) k) z).1 (sym at ∙ found))),
+    )
+place-one (suc (suc n)) o m i x y z place one inverse k = absurd (omega arith)
 
 -- an index of another rank has no place
 pub place-other : (rank : ℕ) (o m i : RangeValue) → IsPadded point rank o m → (t : List ℤ) → (length t ≡ rank → ⊥) → (k : ℕ) → (None ≡ Some k) ↔ (slice_get (indices (last_of rank o m i)) k ≡ Some t)

@@ -69,7 +69,7 @@ length-space os ms is =
     ∙ sym (mul_assoc (length os) (length ms) (length is))
 
 -- the tuple at a place of one, two or three
-slice_get-line : (is : List ℤ) (r : ℕ) → slice_get (tuples (is ∷ [])) r ≡ cons_at (slice_get is r) (Some [])
+pub slice_get-line : (is : List ℤ) (r : ℕ) → slice_get (tuples (is ∷ [])) r ≡ cons_at (slice_get is r) (Some [])
 slice_get-line is r = ap (slice_get (tuples (is ∷ []))) (omega arith) ∙ slice_get-rows is ([] ∷ []) r 0 (omega arith)
 
 slice_get-plane : (ms is : List ℤ) (q r : ℕ) → r < length is → slice_get (tuples (ms ∷ is ∷ [])) (q * length is + r) ≡ cons_at (slice_get ms q) (cons_at (slice_get is r) (Some []))

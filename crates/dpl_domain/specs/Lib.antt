@@ -2,6 +2,8 @@ pub mod Indices
 pub mod Ranks
 pub mod Tuple
 pub mod Product
+pub mod Order
 pub mod Slices
+pub mod Expansions
 pub mod Progression
 pub mod Cursor

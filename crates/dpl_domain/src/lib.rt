@@ -1,6 +1,7 @@
 // Domains: products of one to three ranges, seen as the list of their index tuples row by row.
 #![tactic(auto)]
 
+mod expansion;
 mod product;
 mod tuple;
 mod walk;

@@ -1,11 +1,13 @@
 // A domain: the product of one to three ranges.
 
-ghost use Rattle.std.specs.Prelude.{All, ◌≢◌, ◌*◌, ◌≡◌, ◌≤◌, ◌<◌, ◌↔◌, ◌^◌, ℕ, pos, [], ◌∷◌, length, slice_get, Contains, IsTrue, IsOk, IfOk};
+ghost use Rattle.std.specs.Prelude.{All, min, ◌≢◌, ◌*◌, ◌-◌, ◌≡◌, ◌≤◌, ◌<◌, ◌↔◌, ◌^◌, ℕ, pos, [], ◌∷◌, length, slice_get, Contains, IsTrue, IsOk, IfOk};
 ghost use Rattle.dpl_range.specs.Range.{members_of, IsRange};
 ghost use Rattle.dpl_domain.specs.Indices.{indices, IsRank, IsSmall};
 ghost use Rattle.dpl_domain.specs.Ranks.{last_of, point, IsPadded};
 ghost use Rattle.dpl_domain.specs.Slices.{IsSlice, AreSlices, AreBounds};
+ghost use Rattle.dpl_domain.specs.Expansions.{expanded, AreUnit, AreBounded};
 
+use crate::expansion::Expansion;
 use crate::{Cursor, Index};
 use dpl_range::Range;
 use std::marker::Model;
@@ -86,12 +88,21 @@ impl Domain {
         if MOST_INDICES < tuples(&outer, &middle, &inner) {
             return Err(DomainFault::Size);
         }
-        Ok(Domain {
+        Ok(Domain::kept(rank, outer, middle, inner))
+    }
+
+    // The domain with the last `rank` of three ranges.
+    pub(crate) fn kept(rank: u32, outer: Range, middle: Range, inner: Range) -> Domain
+        requires padded { IsPadded point rank outer middle }
+        requires small { IsSmall (last_of rank outer middle inner) }
+        ensures { result ≡ last_of rank outer middle inner }
+    {
+        Domain {
             rank,
             outer,
             middle,
             inner,
-        })
+        }
     }
 
     /// How many dimensions the domain has.
@@ -148,6 +159,9 @@ impl Domain {
             return None;
         }
         let (outer, middle, inner) = index.numbers();
+        if self.rank == 1 {
+            return self.inner.place(inner);
+        }
         let outer = self.outer.place(outer)?;
         let middle = self.middle.place(middle)?;
         let inner = self.inner.place(inner)?;
@@ -166,6 +180,26 @@ impl Domain {
         ensures { result ≡ indices self.now }
     {
         Cursor::over(self.rank, &self.outer, &self.middle, &self.inner)
+    }
+
+    /// The domain with each low bound moved down by `k` and each high bound moved up by `k`, which may be below
+    /// 0. Whether the moved bounds make too many indices is asked first, as though there were no limits to
+    /// bounds; then whether each stride is 1, and at last whether the moved bounds lie within the limits.
+    pub fn expand(&self, k: i64) -> Result<Domain, DomainFault>
+        ensures ok { IsOk result ↔ (IsSmall (expanded k self.now) × AreUnit (expanded k self.now) × AreBounded (expanded k self.now)) }
+        ensures held { IfOk result (λ d. d ≡ expanded k self.now) }
+        ensures size { (result ≡ Err DomainFault.Size) ↔ (¬ IsSmall (expanded k self.now)) }
+        ensures stride { (result ≡ Err DomainFault.Stride) ↔ (IsSmall (expanded k self.now) × ¬ AreUnit (expanded k self.now)) }
+        ensures bound { (result ≡ Err DomainFault.Bound) ↔ (IsSmall (expanded k self.now) × AreUnit (expanded k self.now) × ¬ AreBounded (expanded k self.now)) }
+    {
+        let moved = Expansion::over(self.rank, &self.outer, &self.middle, &self.inner, k);
+        if !moved.is_small() {
+            return Err(DomainFault::Size);
+        }
+        if !moved.is_unit() {
+            return Err(DomainFault::Stride);
+        }
+        moved.domain().ok_or(DomainFault::Bound)
     }
 
     /// The domain whose dimensions are those of this one, each sliced between its own low and high bound.
@@ -217,10 +251,14 @@ fn tuples(outer: &Range, middle: &Range, inner: &Range) -> u64
     ensures middle_limits { IsRange middle.now }
     ensures inner_limits { IsRange inner.now }
 {
-    outer
-        .size()
-        .saturating_mul(middle.size())
-        .saturating_mul(inner.size())
+    product(outer.size(), middle.size(), inner.size())
+}
+
+// The product of three numbers, or 2^64 - 1 where it is more.
+pub(crate) fn product(outer: u64, middle: u64, inner: u64) -> u64
+    ensures { result ≡ min (outer * middle * inner) (2 ^ 64 - 1) }
+{
+    outer.saturating_mul(middle).saturating_mul(inner)
 }
 
 // What stands in the place of a range that a domain does not have.

@@ -132,3 +132,74 @@ fn domains(rt: HostRuntime) -> Result<(), Fail> {
     assert_eq!(rt; Domain::new(&[two, two, two, two]), Err(DomainFault::Rank));
     Ok(())
 }
+
+#[test]
+fn expansions(rt: HostRuntime) -> Result<(), Fail> {
+    let six = Domain::new(&[Range::new(1, 6, 1)?])?;
+    indexed(&rt, six.expand(-2)?, &[&[3], &[4]]);
+    indexed(&rt, six.expand(-3)?, &[]);
+    indexed(&rt, six.expand(-LIMIT + 1)?, &[]);
+    assert_eq!(rt; six.expand(0), Ok(six));
+
+    let none = Domain::new(&[Range::new(1, 0, 1)?, Range::new(5, 5, 1)?])?;
+    indexed(&rt, none.expand(0)?, &[]);
+    indexed(&rt, none.expand(-1)?, &[]);
+    indexed(
+        &rt,
+        none.expand(1)?,
+        &[&[0, 4], &[0, 5], &[0, 6], &[1, 4], &[1, 5], &[1, 6]],
+    );
+    let cube = Domain::new(&[
+        Range::new(3, 2, 1)?,
+        Range::new(4, 4, 1)?,
+        Range::new(5, 5, 1)?,
+    ])?;
+    assert_eq!(rt; cube.expand(1)?.size(), 18);
+
+    let square = |range: Range| Domain::new(&[range, range]);
+    assert_eq!(rt;
+        square(Range::new(1, 1048574, 1)?)?.expand(1)?.size(),
+        1099511627776
+    );
+    let twos = Range::new(1, 6, 2)?;
+    let far = Range::new(1, 6, LIMIT)?;
+    let refused = [
+        (square(Range::new(1, 1048574, 1)?)?, 2, DomainFault::Size),
+        (six, i64::MAX, DomainFault::Size),
+        (six, i64::MIN, DomainFault::Bound),
+        (six, -LIMIT, DomainFault::Bound),
+        (
+            Domain::new(&[Range::new(LIMIT, LIMIT, 1)?])?,
+            1,
+            DomainFault::Bound,
+        ),
+        (
+            Domain::new(&[Range::new(-LIMIT, -LIMIT, 1)?])?,
+            1,
+            DomainFault::Bound,
+        ),
+        (Domain::new(&[twos])?, 0, DomainFault::Stride),
+        (
+            Domain::new(&[Range::new(1, 6, -1)?])?,
+            0,
+            DomainFault::Stride,
+        ),
+        (
+            Domain::new(&[twos, Range::new(0, 1, 1)?])?,
+            1,
+            DomainFault::Stride,
+        ),
+        (Domain::new(&[twos])?, i64::MAX, DomainFault::Size),
+        (Domain::new(&[twos])?, i64::MIN, DomainFault::Stride),
+        (Domain::new(&[far])?, i64::MAX, DomainFault::Stride),
+        (
+            Domain::new(&[Range::new(1, 6, 1)?, Range::new(LIMIT, LIMIT, 1)?])?,
+            1 << 30,
+            DomainFault::Size,
+        ),
+    ];
+    for (domain, k, fault) in refused {
+        assert_eq!(rt; domain.expand(k), Err(fault));
+    }
+    Ok(())
+}

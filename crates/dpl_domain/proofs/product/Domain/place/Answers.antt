@@ -5,7 +5,7 @@ use Rattle.std.proofs.lemmas.Option.{slice_get_within}
 use Rattle.dpl_domain.proofs.TupleLemmas.{length-indices}
 use Rattle.dpl_range.specs.Range.{members_of}
 use Rattle.dpl_domain.specs.Ranks.{last_of, IsPadded}
-use Rattle.dpl_domain.proofs.PlaceLemmas.{no-outer, no-middle, no-inner, place-some, place-steps, place-other}
+use Rattle.dpl_domain.proofs.PlaceLemmas.{place-one, no-outer, no-middle, no-inner, place-some, place-steps, place-other}
 use Rattle.dpl_domain.proofs.product.Domain.place.Goals as goal
 use Rattle.dpl_domain.proofs.product.Domain.place.Goals.{After-numbers-outer, After-size}
 
@@ -20,6 +20,14 @@ numbers-are c same = c.numbers-outer.ensures.coordinates ∙ ap (λ n. last_of n
 
 padded : (c : After-numbers-outer) → (c.rank.result ≡ c.self.inside.rank) → IsPadded (pos 0) c.self.inside.rank c.numbers-outer.result.0 c.numbers-outer.result.1
 padded c same = rw (← (sym c.rank.ensures.rank ∙ same)) c.numbers-outer.ensures.unused
+
+pub returns-then-self-eq1 : goal.returns-then-self-eq1
+returns-then-self-eq1 c =
+    let before = (goal.at.returns-then-self-eq1 c).After-numbers-outer in
+    let fits : FitsSigned w64 c.numbers-outer.result.2 = search rules in
+    let inner = simp to_z-of_z at c.place.ensures in
+    rw (← c.self.view_is, numbers-are before c.if-rank-self.false)
+    (place-one c.self.inside.rank c.self.inside.outer c.self.inside.middle c.self.inside.inner _ _ c.numbers-outer.result.2 c.place.result c.if-self-eq1.true inner)
 
 pub returns-in_err-outer : goal.returns-in_err-outer
 returns-in_err-outer c =

@@ -1,0 +1,36 @@
+-- Expanded domains: each low bound moved down, each high bound moved up.
+use Rattle.std.specs.Prelude.{◌≡◌, ◌<◌, ◌^◌, ◌≤ℤ◌, List, ℤ, pos, neg_ℤ, ◌+ℤ◌, ◌-ℤ◌, map, All, unsigned_abs}
+use Rattle.dpl_range.specs.Range.{RangeValue, IsBound}
+
+-- A range with its low bound moved down by k, its high bound moved up by k, and its stride as it was. The bounds
+-- are whole numbers without a limit, so what is moved has its members whether it is a range or not.
+abbrev pub moved : ℤ → RangeValue → RangeValue
+moved k r = record { low = r.low -ℤ k; high = r.high +ℤ k; stride = r.stride }
+
+-- each dimension of a domain is moved by the same number
+abbrev pub expanded : ℤ → List RangeValue → List RangeValue
+expanded k ranges = map (moved k) ranges
+
+-- a range has the stride 1
+abbrev pub IsUnit : RangeValue → Type 0
+IsUnit r = r.stride ≡ pos 1
+
+-- both bounds of a range are within the limits
+abbrev pub IsBounded : RangeValue → Type 0
+IsBounded r = IsBound r.low × IsBound r.high
+
+-- only a domain whose dimensions have the stride 1 is expanded
+abbrev pub AreUnit : List RangeValue → Type 0
+AreUnit ranges = All IsUnit ranges
+
+-- and only where each moved bound is within the limits
+abbrev pub AreBounded : List RangeValue → Type 0
+AreBounded ranges = All IsBounded ranges
+
+-- What holds of every range that is moved by a machine number: its bounds stay within -2^64..2^64.
+pub record IsMoved (r : RangeValue) : Type 0 where
+  pub low_from : neg_ℤ (pos (2 ^ 64)) ≤ℤ r.low
+  pub low_to : r.low ≤ℤ pos (2 ^ 64)
+  pub high_from : neg_ℤ (pos (2 ^ 64)) ≤ℤ r.high
+  pub high_to : r.high ≤ℤ pos (2 ^ 64)
+  pub stride_is_not_zero : 0 < unsigned_abs r.stride
