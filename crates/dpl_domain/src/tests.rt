@@ -32,6 +32,9 @@ fn ranges(rt: HostRuntime) -> Result<(), Fail> {
     lists(&rt, falling.class(1, 3, 1), &[]);
     lists(&rt, Range::new(1, 9, -3)?, &[9, 6, 3]);
 
+    let sevens = Range::new(0, 1000000, 7)?;
+    lists(&rt, sevens.class(3, 300000, 1), &[900004]);
+
     let even = Range::new(0, 9, 2)?;
     lists(&rt, even, &[0, 2, 4, 6, 8]);
     lists(&rt, even.class(1, 3, 0), &[4]);
@@ -53,6 +56,11 @@ fn limits(rt: HostRuntime) -> Result<(), Fail> {
     lists(&rt, Range::new(-LIMIT, LIMIT, LIMIT)?, &[-LIMIT, 0, LIMIT]);
     lists(&rt, Range::new(-LIMIT, LIMIT, -LIMIT)?, &[LIMIT, 0, -LIMIT]);
     lists(&rt, Range::new(-LIMIT, LIMIT, LIMIT)?.class(0, 64, 1), &[]);
+    lists(
+        &rt,
+        Range::new(-LIMIT, LIMIT, 1)?.class(-LIMIT, 1 << 61, 0),
+        &[-LIMIT, LIMIT],
+    );
     let refused = [
         (-LIMIT - 1, 0, 1, RangeFault::Bound),
         (0, LIMIT + 1, 1, RangeFault::Bound),

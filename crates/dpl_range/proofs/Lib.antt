@@ -5,4 +5,5 @@ pub mod Ends
 pub mod Ordered
 pub mod SliceLemmas
 pub mod Congruence
+pub mod Multiples
 pub mod ClassLemmas

@@ -259,15 +259,14 @@ impl Range {
 
     /// The members that are congruent to `start + r` modulo `n`, in the order of the range. The stride of the
     /// result is at most 2^61 in size, and 1 or -1 where it has fewer than two members.
-    pub fn class(&self, start: i64, n: u32, r: u32) -> Range
+    pub fn class(&self, start: i64, n: u64, r: u64) -> Range
         requires start_is_bound { IsBound start }
-        requires modulus { n ≤ 64 }
+        requires modulus { n ≤ 2 ^ 61 }
         requires remainder { r < n }
         ensures members { members_of result ≡ filter (is_congruent n (start +ℤ pos r)) (members_of self.now) }
         ensures short { length (members_of result) < 2 → unsigned_abs result.stride ≡ 1 }
         ensures limits { IsRange result }
     {
-        let n = n as u64;
         let step = self.step() % n;
         let gap = self.gap(start + r as i64, n);
         match first_multiple(gap, step, n) {
@@ -280,7 +279,6 @@ impl Range {
     fn every(&self, skipped: u64, period: u64) -> Range
         requires skipped { skipped < length (members_of self.now) }
         requires positive { 0 < period }
-        requires small { period ≤ 64 }
         ensures members { members_of result ≡ every period (drop skipped (members_of self.now)) }
         ensures short { length (members_of result) < 2 → unsigned_abs result.stride ≡ 1 }
         ensures limits { IsRange result }
@@ -300,7 +298,6 @@ impl Range {
     // The stride `period` times.
     fn lengthened(&self, period: u64) -> i64
         requires positive { 0 < period }
-        requires small { period ≤ 64 }
         requires short { unsigned_abs self.now.stride * period ≤ 2 ^ 61 }
         ensures size { unsigned_abs result ≡ unsigned_abs self.now.stride * period }
         ensures way { SameWay self.now.stride result }
@@ -311,9 +308,9 @@ impl Range {
     // How far, modulo `n`, the first integer of a walk lies past one that is congruent to `c`.
     fn gap(&self, c: i64, n: u64) -> u64
         requires positive { 0 < n }
-        requires small { n ≤ 64 }
-        requires low { neg_ℤ (pos (2 ^ 61)) ≤ℤ c }
-        requires high { c ≤ℤ pos (2 ^ 61) }
+        requires modulus { n ≤ 2 ^ 61 }
+        requires low { neg_ℤ (pos (2 ^ 62)) ≤ℤ c }
+        requires high { c ≤ℤ pos (2 ^ 62) }
         ensures gap { int_rem_euclid (ahead self.now.low self.now.high self.now.stride c) (pos n) ≡ pos result }
         ensures below { result < n }
     {
@@ -322,8 +319,8 @@ impl Range {
 
     // How far the first integer of a walk lies past `c` in the direction of the walk.
     fn ahead(&self, c: i64) -> i64
-        requires low { neg_ℤ (pos (2 ^ 61)) ≤ℤ c }
-        requires high { c ≤ℤ pos (2 ^ 61) }
+        requires low { neg_ℤ (pos (2 ^ 62)) ≤ℤ c }
+        requires high { c ≤ℤ pos (2 ^ 62) }
         ensures { result ≡ ahead self.now.low self.now.high self.now.stride c }
     {
         if self.stride > 0 {
