@@ -193,6 +193,8 @@ fn refusals(rt: HostRuntime) -> Result<(), Fail> {
     );
     assert!(rt; matches!(result, Err(Refused::Writer)));
     assert!(rt; out.failed);
+    let told = format!(in rt.alloc(); "{} {}", Refused::Memory, Refused::Writer)?;
+    assert_eq!(rt; told.as_str(), "M1 W1");
     assert!(rt;
         matches!(
             Config::new(65, 9, 9, [1, 1], [1, 1, 1], Maps::AsIs),
