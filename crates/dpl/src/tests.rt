@@ -1,6 +1,9 @@
 // Texts through `run_text`: what each writes, and what it leaves.
 // The bytes are those of the language's worked examples.
 
+mod growths;
+mod layers;
+
 use crate::config::{Config, ConfigFault, Maps};
 use crate::gate::OpenGate;
 use crate::outcome::Outcome;
@@ -15,7 +18,7 @@ const SQUARES: &str =
     "var s: int; forall i in 1..8 by 2 with (+ reduce s) do s += i*i; writeln(s);";
 
 // Each text with its budget, and the bytes that are written of it.
-const ROWS: [(&str, u64, &str); 16] = [
+const ROWS: [(&str, u64, &str); 27] = [
     (SQUARES, 16777216, "84\n"),
     (SQUARES, 4, "84\n"),
     (SQUARES, 3, "! F5 at 1:13\n"),
@@ -64,6 +67,41 @@ const ROWS: [(&str, u64, &str); 16] = [
         "-72\n",
     ),
     ("", 9, ""),
+    (
+        "var i = 5; var s = 0; forall i in 1..2 with (+ reduce s) do s += i; i = i - 1; writeln(i, s);",
+        2,
+        "43\n",
+    ),
+    (
+        "var p: int = 3; const two = 2; forall i in 1..5 by -1 with (* reduce p) do p *= two; writeln(p, -p * (1 - two));",
+        5,
+        "9696\n",
+    ),
+    (
+        "var s: int; forall i in 0..1152921504606846977 with (+ reduce s) do s += 1;",
+        9,
+        "! F3 at 1:26\n",
+    ),
+    ("var s = s; s = t;", 9, "! C1 at 1:9\n"),
+    ("forall i in 1..3 do x = i;", 9, "! C1 at 1:21\n"),
+    (
+        "var s: int; forall i in s..t do s = u;",
+        9,
+        "! C1 at 1:28\n",
+    ),
+    ("var s: int; var s = 1;", 9, "! C2 at 1:17\n"),
+    ("forall i in 1..3 do i = 1;", 9, "! C4 at 1:21\n"),
+    (
+        "var s: int; forall i in 1..3 with (+ reduce s) do s += s;",
+        9,
+        "! C8 at 1:56\n",
+    ),
+    (
+        "var s: int; forall i in 1..3 with (+ reduce s) do s *= i;",
+        9,
+        "! C8 at 1:51\n",
+    ),
+    ("writeln(1);\nwriteln(1, );", 9, "! P1 at 2:12\n"),
 ];
 
 fn written(rt: &HostRuntime, text: &[u8], budget: u64) -> Result<Vec<u8>, Fail> {
@@ -155,6 +193,8 @@ fn refusals(rt: HostRuntime) -> Result<(), Fail> {
     );
     assert!(rt; matches!(result, Err(Refused::Writer)));
     assert!(rt; out.failed);
+    let told = format!(in rt.alloc(); "{} {}", Refused::Memory, Refused::Writer)?;
+    assert_eq!(rt; told.as_str(), "M1 W1");
     assert!(rt;
         matches!(
             Config::new(65, 9, 9, [1, 1], [1, 1, 1], Maps::AsIs),

@@ -1,9 +1,9 @@
 -- The slots that the check gives: each name of the top level its place in the order of declaration,
 -- and each loop's variable the one behind them all, since no two loops are in sight at once.
-use Rattle.std.specs.Prelude.{ℕ, suc, bytes_eq, if◌then◌else◌, List, [], ◌∷◌, length, Option, Some, None}
-use Rattle.dpl_syntax.specs.Tree.{Bound, StmtTree, Assigned, Forall}
+use Rattle.std.specs.Prelude.{ℕ, suc, ◌+◌, bytes_eq, if◌then◌else◌, List, [], ◌∷◌, length, Option, Some, None}
+use Rattle.dpl_syntax.specs.Tree.{Bound, StmtTree, Assigned, Forall, ProgramTree}
 use Rattle.dpl_meaning.specs.Renamed.{renamed, renamed_bounds, renamed_intent, renamed_stmt}
-use Rattle.dpl_check.specs.Sights.{Scope}
+use Rattle.dpl_check.specs.Sights.{Scope, behind_all}
 
 -- the place of a name, or how many there are
 abbrev pub place_in : Scope → List ℕ → ℕ
@@ -32,6 +32,10 @@ abbrev pub bound_stmt : Scope → StmtTree (List ℕ) → StmtTree Bound
 bound_stmt scope (Forall at x within r intent doing body) =
     Forall at (renamed (loop_variable scope) x) within (renamed_bounds (top scope) r) (renamed_intent (top scope) intent) doing (renamed_stmt (in_loop scope x.name) body)
 bound_stmt scope t = renamed_stmt (top scope) t
+
+-- how many slots a program has: one for each name of its top level, and one for the variables of its loops
+abbrev pub slot_count : ProgramTree (List ℕ) → ℕ
+slot_count t = length (behind_all [] t.stmts) + 1
 
 -- a forall's body is an assignment
 abbrev pub IsBody : StmtTree (List ℕ) → Type 0

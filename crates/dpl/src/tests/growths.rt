@@ -1,0 +1,51 @@
+// The squares with a growth of memory refused: `rt try --test --fail-alloc N` refuses the Nth.
+// The run then tells want of memory and writes nothing, and the next run is whole.
+// growths.sh, beside src/, refuses those of the whole program, one after another.
+
+use super::SQUARES;
+use crate::config::{Config, Maps};
+use crate::gate::OpenGate;
+use crate::outcome::Outcome;
+use crate::refused::Refused;
+use crate::text::run_text;
+use crate::writer::Plain;
+use std::test::Fail;
+
+// How a run of the squares ended.
+#[derive(Clone, Copy, PartialEq, Eq, Debug)]
+enum Ran {
+    Whole,
+    WithoutMemory,
+    Otherwise,
+}
+
+// Runs the squares into room for eight bytes, which takes no memory.
+fn squares(rt: &HostRuntime, config: &Config) -> Ran {
+    let mut room = [0u8; 8];
+    let mut out = Plain::new(room.as_mut_slice());
+    let result = run_text(
+        rt,
+        rt.alloc(),
+        SQUARES.as_bytes(),
+        &[],
+        config,
+        &OpenGate,
+        &mut out,
+    );
+    let left = out.writer.len();
+    match result {
+        Ok(Outcome::Done(_)) if left == 5 && room == *b"84\n\0\0\0\0\0" => Ran::Whole,
+        Err(Refused::Memory) if left == 8 && room == [0; 8] => Ran::WithoutMemory,
+        _ => Ran::Otherwise,
+    }
+}
+
+#[test]
+fn a_growth_refused(rt: HostRuntime) -> Result<(), Fail> {
+    let config = Config::new(1, 4, 9, [1, 1], [1, 1, 1], Maps::AsIs)?;
+    let first = squares(&rt, &config);
+    let second = squares(&rt, &config);
+    assert!(rt; first != Ran::Otherwise && second != Ran::Otherwise);
+    assert!(rt; first == Ran::Whole || second == Ran::Whole);
+    Ok(())
+}
