@@ -46,27 +46,30 @@ fn main(rt: HostRuntime) -> ExitCode {
     ExitCode::from(read_and_run(&rt) as u8)
 }
 
-// Any word is one too many.
-fn has_words(rt: &HostRuntime) -> bool {
+// Tells on standard error that there is no memory.
+fn no_memory(rt: &HostRuntime) -> Status {
+    let _ = eprintln!(rt; "dpl: M1");
+    Status::Refused
+}
+
+// The program takes no words but its own name.
+fn read_and_run(rt: &HostRuntime) -> Status {
     match env::args(rt) {
-        Ok(words) => words.count() != 1,
-        Err(_) => true,
+        Ok(words) if words.len() <= 1 => read_text(rt),
+        Err(e) if e.kind() == ErrorKind::OutOfMemory => no_memory(rt),
+        _ => {
+            let _ = eprintln!(rt; "usage: dpl < PROGRAM");
+            Status::CommandLine
+        }
     }
 }
 
-// Reads the text, runs it, and tells on standard error what kept it from an outcome.
-fn read_and_run(rt: &HostRuntime) -> Status {
-    if has_words(rt) {
-        let _ = eprintln!(rt; "usage: dpl < PROGRAM");
-        return Status::CommandLine;
-    }
+// Reads the text and runs it.
+fn read_text(rt: &HostRuntime) -> Status {
     let mut text = Vec::new(rt.alloc());
     match rt.stdin().take(LONGEST_TEXT + 1).read_to_end(&mut text) {
         Ok(_) => run_bytes(rt, &text),
-        Err(e) if e.kind() == ErrorKind::OutOfMemory => {
-            let _ = eprintln!(rt; "dpl: M1");
-            Status::Refused
-        }
+        Err(e) if e.kind() == ErrorKind::OutOfMemory => no_memory(rt),
         Err(_) => {
             let _ = eprintln!(rt; "dpl: cannot read");
             Status::Transfer
