@@ -1,0 +1,5 @@
+pub mod Places
+pub mod Grids
+pub mod Maps
+pub mod Parts
+pub mod GridFields
