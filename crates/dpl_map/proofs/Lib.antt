@@ -1,1 +1,3 @@
+pub mod Cuts
+pub mod Blocks
 mod Worked
