@@ -1,1 +1,6 @@
 mod Worked
+pub mod PlaceLemmas
+pub mod OwnerLemmas
+pub mod ProductLemmas
+pub mod BoxLemmas
+pub mod StartLemmas
