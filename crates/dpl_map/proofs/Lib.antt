@@ -1,3 +1,8 @@
 pub mod Cuts
 pub mod Blocks
 mod Worked
+pub mod PlaceLemmas
+pub mod OwnerLemmas
+pub mod ProductLemmas
+pub mod BoxLemmas
+pub mod StartLemmas

@@ -1,6 +1,7 @@
 -- Where an integer lies in blocks that are dealt out in rounds. Private functions of the crate speak of it.
-use Rattle.std.specs.Prelude.{◌≡◌, ◌⊎◌, ◌<◌, ◌≤◌, ◌+◌, ◌*◌, ◌/◌, ◌%◌, ℕ, ℤ, pos, ◌+ℤ◌, ◌-ℤ◌, ◌≤ℤ◌}
+use Rattle.std.specs.Prelude.{◌≡◌, ◌⊎◌, ◌<◌, ◌≤◌, ◌*◌, ◌/◌, ◌%◌, ◌^◌, ℕ, ℤ, pos, ◌+ℤ◌, ◌-ℤ◌, ◌≤ℤ◌}
 use Rattle.dpl_range.specs.Members.{count_of}
+use Rattle.dpl_range.specs.Range.{RangeValue, IsBound}
 
 -- how far an integer lies past an origin
 abbrev pub past : ℤ → ℤ → ℕ
@@ -17,3 +18,14 @@ block_offset origin size i = past origin i % size
 -- an origin lies a number of whole rounds past a start, or before it
 abbrev pub BeginsRound : ℤ → ℕ → ℤ → Type 0
 BeginsRound start round origin = (k : ℕ) × ((origin ≡ start +ℤ pos (k * round)) ⊎ (start ≡ origin +ℤ pos (k * round)))
+
+-- a place of some has every block of a size of its own, from the beginning of the round that has a range's low bound
+pub record IsDeal (range : RangeValue) (origin : ℤ) (size extent place : ℕ) : Type 0 where
+  pub low_limit : IsBound range.low
+  pub high_limit : IsBound range.high
+  pub some : 0 < size
+  pub machine : size < 2 ^ 63
+  pub few : extent ≤ 64
+  pub place : place < extent
+  pub begins : origin ≤ℤ range.low
+  pub soon : range.low ≤ℤ (origin +ℤ pos (extent * size))

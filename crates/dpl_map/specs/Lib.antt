@@ -5,3 +5,5 @@ pub mod Cuts
 pub mod Blocks
 pub mod Parts
 pub mod GridFields
+pub mod AxisFields
+pub mod MapFields

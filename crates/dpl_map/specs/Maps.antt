@@ -56,11 +56,14 @@ pub record IsBox (r : RangeValue) (low high : ℤ) : Type 0 where
   pub high_is_member : Contains (members_of r) high
   pub high_is_greatest : All (λ i. i ≤ℤ high) (members_of r)
 
+-- a range's box is dealt out over an extent
+abbrev pub IsBoxed : RangeValue → ℕ → AxisValue → Type 0
+IsBoxed r n axis = (low : ℤ) × (high : ℤ) × IsBox r low high × (axis ≡ record { rule = Block low high; extent = n })
+
 -- each dimension of a domain is the box of an axis over an extent of the grid
 abbrev pub IsBlockMap : List RangeValue → List ℕ → List AxisValue → Type 0
 IsBlockMap [] [] [] = Unit {0}
-IsBlockMap (r ∷ rs) (n ∷ ns) (axis ∷ axes) =
-    ((low : ℤ) × (high : ℤ) × IsBox r low high × (axis ≡ record { rule = Block low high; extent = n })) × IsBlockMap rs ns axes
+IsBlockMap (r ∷ rs) (n ∷ ns) (axis ∷ axes) = IsBoxed r n axis × IsBlockMap rs ns axes
 IsBlockMap _ _ _ = ⊥
 
 -- Cyclic: each coordinate of the start begins an axis over an extent of the grid

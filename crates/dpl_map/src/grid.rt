@@ -90,4 +90,16 @@ impl Grid {
     {
         self.rank
     }
+
+    /// The extents as three numbers, the last one last. Those in front that the grid does not have are 1.
+    pub fn extents(&self) -> (u32, u32, u32)
+        ensures extents { self.now ≡ last_of (length self.now) result.0 result.1 result.2 }
+        ensures unused { IsPadded 1 (length self.now) result.0 result.1 }
+        ensures outer { IsGridSize result.0 }
+        ensures middle { IsGridSize result.1 }
+        ensures inner { IsGridSize result.2 }
+        ensures size { IsGridSize (result.0 * result.1 * result.2) }
+    {
+        (self.outer, self.middle, self.inner)
+    }
 }

@@ -1,6 +1,11 @@
 // The maps of the language: who owns an index of a domain, and a locale's part of a domain in closed form.
 #![tactic(auto)]
 
+mod axis;
+mod blocks;
+mod dimensions;
 mod grid;
+mod map;
 
 pub use grid::{Grid, GridFault};
+pub use map::{Map, MapFault};

@@ -1,0 +1,134 @@
+// One dimension of a map: by which rule its indices are dealt out over how many places.
+
+ghost use Rattle.std.specs.Prelude.{◌≡◌, ◌≢◌, ◌≤◌, ◌<◌, ◌≤ℤ◌, []};
+ghost use Rattle.dpl_range.specs.Range.{members_of, IsBound};
+ghost use Rattle.dpl_map.specs.AxisFields.{IsAxis};
+ghost use Rattle.dpl_map.specs.Grids.{IsGridSize};
+ghost use Rattle.dpl_map.specs.Maps.{axis_place, IsBoxed, Block, Cyclic};
+ghost use Rattle.dpl_map.specs.Places.{block_place, cyclic_place};
+
+use dpl_range::Range;
+use std::marker::Model;
+
+#[derive(Clone, Copy, Debug, PartialEq, Eq)]
+enum Rule {
+    Block { low: i64, high: i64 },
+    Cyclic { start: i64 },
+}
+
+/// A rule and an extent: 1 to 64 places, and numbers of the rule within the limits of ranges.
+#[derive(Clone, Copy, Debug, PartialEq, Eq)]
+pub struct Axis {
+    rule: Rule,
+    extent: u32,
+}
+
+impl Model for Axis {
+    ghost use Rattle.dpl_map.specs.Maps.{AxisValue};
+
+    ghost Value = { AxisValue };
+
+    ghost use Rattle.dpl_map.specs.AxisFields.{IsAxis, axis_of, kept_axis, kept_axis-axis_of};
+
+    ghost view = { axis_of };
+
+    ghost invariant = { λ a. IsAxis (axis_of a) };
+
+    ghost inverse = { kept_axis };
+
+    ghost inverse_ok = { kept_axis-axis_of };
+}
+
+impl Axis {
+    /// The places of a box, cut into blocks that are as equal as can be.
+    pub fn block(low: i64, high: i64, extent: u32) -> Axis
+        requires low_is_bound { IsBound low }
+        requires high_is_bound { IsBound high }
+        requires ordered { low ≤ℤ high }
+        requires extent { IsGridSize extent }
+        ensures axis { result ≡ record { rule = Block low high; extent = extent } }
+        ensures limits { IsAxis result }
+    {
+        Axis {
+            rule: Rule::Block { low, high },
+            extent,
+        }
+    }
+
+    /// The places of the box from a range's least member to its greatest.
+    pub fn boxed(range: &Range, extent: u32) -> Axis
+        requires some { members_of range.now ≢ [] }
+        requires extent { IsGridSize extent }
+        ensures box_is { IsBoxed range.now extent result }
+        ensures limits { IsAxis result }
+    {
+        let low = range.low().unwrap_or(range.low_bound());
+        let high = range.high().unwrap_or(range.high_bound());
+        Axis::block(low, high, extent)
+    }
+
+    /// The places that go round from a start.
+    pub fn cyclic(start: i64, extent: u32) -> Axis
+        requires start_is_bound { IsBound start }
+        requires extent { IsGridSize extent }
+        ensures axis { result ≡ record { rule = Cyclic start; extent = extent } }
+        ensures limits { IsAxis result }
+    {
+        Axis {
+            rule: Rule::Cyclic { start },
+            extent,
+        }
+    }
+
+    /// Over how many places the indices are dealt out.
+    pub fn extent(&self) -> u32
+        ensures extent { result ≡ self.now.extent }
+        ensures limits { IsAxis self.now }
+    {
+        self.extent
+    }
+
+    /// The place of an index, which may be any number.
+    pub fn place(&self, i: i64) -> u32
+        ensures place { result ≡ axis_place self.now i }
+        ensures below { result < self.now.extent }
+        ensures limits { IsAxis self.now }
+    {
+        match self.rule {
+            Rule::Block { low, high } => block_place(low, high, self.extent, i),
+            Rule::Cyclic { start } => cyclic_place(start, self.extent, i),
+        }
+    }
+}
+
+// The place of an index by the block rule. A box may hold 2^61 + 1 indices, so that the product needs more
+// than 64 bits.
+fn block_place(low: i64, high: i64, extent: u32, i: i64) -> u32
+    requires low_is_bound { IsBound low }
+    requires high_is_bound { IsBound high }
+    requires ordered { low ≤ℤ high }
+    requires extent { IsGridSize extent }
+    ensures place { result ≡ block_place low high extent i }
+    ensures below { result < extent }
+{
+    if i < low {
+        return 0;
+    }
+    if high < i {
+        return extent - 1;
+    }
+    let offset = (i - low) as u128;
+    let size = (high - low) as u128 + 1;
+    (offset * extent as u128 / size) as u32
+}
+
+// The place of an index by the cyclic rule. An index may be any number, so that the difference needs more
+// than 64 bits.
+fn cyclic_place(start: i64, extent: u32, i: i64) -> u32
+    requires start_is_bound { IsBound start }
+    requires extent { IsGridSize extent }
+    ensures place { result ≡ cyclic_place start extent i }
+    ensures below { result < extent }
+{
+    (i as i128 - start as i128).rem_euclid(extent as i128) as u32
+}

@@ -1,0 +1,176 @@
+// Maps: who owns an index.
+
+ghost use Rattle.std.specs.Prelude.{◌≡◌, ◌≢◌, ◌*◌, ◌≤◌, ◌<◌, ◌↔◌, [], length, All, IsTrue, IsOk, IfOk};
+ghost use Rattle.dpl_domain.specs.Indices.{indices, IsRank};
+ghost use Rattle.dpl_domain.specs.Ranks.{last_of};
+ghost use Rattle.dpl_range.specs.Range.{IsBound};
+ghost use Rattle.dpl_map.specs.AxisFields.{IsAxis};
+ghost use Rattle.dpl_map.specs.Maps.{owner, places, whole_map, cyclic_map, IsBlockMap};
+
+use crate::Grid;
+use crate::axis::Axis;
+use crate::dimensions::padded;
+use dpl_domain::{Domain, Index};
+use dpl_range::LIMIT;
+use std::marker::Model;
+use thiserror::Error;
+
+/// Why something makes no map.
+#[derive(Clone, Copy, Debug, PartialEq, Eq, Error)]
+pub enum MapFault {
+    /// The box of a block map is empty.
+    #[error("the box is empty")]
+    Empty,
+    /// A coordinate of a start lies outside -2^60..2^60.
+    #[error("the start is outside -2^60..2^60")]
+    Start,
+    /// There are not as many dimensions as the grid has.
+    #[error("the grid has another number of dimensions")]
+    Rank,
+}
+
+/// Who owns an index, seen as the list of the map's axes: how each dimension is dealt out over an extent of a
+/// grid. The whole map has none.
+#[derive(Clone, Copy, Debug, PartialEq, Eq)]
+pub struct Map {
+    rank: u32,
+    outer: Axis,
+    middle: Axis,
+    inner: Axis,
+}
+
+impl Model for Map {
+    ghost use Rattle.std.specs.Prelude.{List};
+    ghost use Rattle.dpl_map.specs.Maps.{AxisValue};
+
+    ghost Value = { List AxisValue };
+
+    ghost use Rattle.dpl_domain.specs.Ranks.{last_of};
+    ghost use Rattle.dpl_map.specs.MapFields.{IsMap, map_of, map_of-last_of};
+
+    ghost view = { λ m. last_of m.rank m.outer m.middle m.inner };
+
+    ghost invariant = { λ m. IsMap m.rank m.outer m.middle m.inner };
+
+    ghost inverse = { map_of };
+
+    ghost inverse_ok = { map_of-last_of };
+}
+
+impl Map {
+    /// The map that puts every index on place 0, the only one that it has.
+    pub fn whole() -> Map
+        ensures { result ≡ whole_map }
+    {
+        let idle = Axis::cyclic(0, 1);
+        Map {
+            rank: 0,
+            outer: idle,
+            middle: idle,
+            inner: idle,
+        }
+    }
+
+    /// Block: the domain's least and greatest members in each dimension are a box, which is dealt out in blocks
+    /// over the grid.
+    pub fn block(domain: &Domain, grid: Grid) -> Result<Map, MapFault>
+        ensures ok { IsOk result ↔ ((indices domain.now ≢ []) × (length domain.now ≡ length grid)) }
+        ensures held { IfOk result (IsBlockMap domain.now grid) }
+        ensures empty { (result ≡ Err MapFault.Empty) ↔ (indices domain.now ≡ []) }
+        ensures rank { (result ≡ Err MapFault.Rank) ↔ ((indices domain.now ≢ []) × (length domain.now ≢ length grid)) }
+    {
+        if domain.size() == 0 {
+            return Err(MapFault::Empty);
+        }
+        if domain.rank() != grid.rank() {
+            return Err(MapFault::Rank);
+        }
+        let (outer, middle, inner) = grid.extents();
+        let (first, second, last) = padded(domain);
+        Ok(Map::of(
+            domain.rank(),
+            Axis::boxed(&first, outer),
+            Axis::boxed(&second, middle),
+            Axis::boxed(&last, inner),
+        ))
+    }
+
+    /// Cyclic: each dimension goes round the places of the grid from a coordinate of the start.
+    pub fn cyclic(start: Index, grid: Grid) -> Result<Map, MapFault>
+        ensures ok { IsOk result ↔ (All IsBound start × (length start ≡ length grid)) }
+        ensures held { IfOk result (λ axes. axes ≡ cyclic_map start grid) }
+        ensures start { (result ≡ Err MapFault.Start) ↔ (¬ All IsBound start) }
+        ensures rank { (result ≡ Err MapFault.Rank) ↔ (All IsBound start × (length start ≢ length grid)) }
+    {
+        let (first, second, last) = start.numbers();
+        if !are_bounds(first, second, last) {
+            return Err(MapFault::Start);
+        }
+        if start.rank() != grid.rank() {
+            return Err(MapFault::Rank);
+        }
+        let (outer, middle, inner) = grid.extents();
+        Ok(Map::of(
+            start.rank(),
+            Axis::cyclic(first, outer),
+            Axis::cyclic(second, middle),
+            Axis::cyclic(last, inner),
+        ))
+    }
+
+    // The map with the last `rank` of three axes.
+    fn of(rank: u32, outer: Axis, middle: Axis, inner: Axis) -> Map
+        requires from_one { 1 ≤ rank }
+        requires to_three { rank ≤ 3 }
+        requires outer_limits { IsAxis outer }
+        requires middle_limits { IsAxis middle }
+        requires inner_limits { IsAxis inner }
+        requires size { outer.extent * middle.extent * inner.extent ≤ 64 }
+        ensures { result ≡ last_of rank outer middle inner }
+    {
+        let idle = Axis::cyclic(0, 1);
+        Map {
+            rank,
+            outer: if rank < 3 { idle } else { outer },
+            middle: if rank < 2 { idle } else { middle },
+            inner,
+        }
+    }
+
+    /// How many places the map has: those of its grid, or one.
+    pub fn places(&self) -> u32
+        ensures places { result ≡ places self.now }
+        ensures some { 1 ≤ result }
+        ensures most { result ≤ 64 }
+    {
+        self.outer.extent() * self.middle.extent() * self.inner.extent()
+    }
+
+    /// The place that owns an index, which may be of any rank and have any coordinates. One of another rank
+    /// than the map's is owned by place 0.
+    pub fn owner(&self, index: Index) -> u32
+        ensures owner { result ≡ owner self.now index }
+        ensures below { result < places self.now }
+    {
+        if index.rank() != self.rank {
+            return 0;
+        }
+        let (outer, middle, inner) = index.numbers();
+        let row = self.outer.place(outer) * self.middle.extent() + self.middle.place(middle);
+        row * self.inner.extent() + self.inner.place(inner)
+    }
+}
+
+// Whether each of three numbers may be a bound of a range.
+fn are_bounds(first: i64, second: i64, last: i64) -> bool
+    ensures { IsTrue result ↔ (IsBound first × IsBound second × IsBound last) }
+{
+    is_bound(first) && is_bound(second) && is_bound(last)
+}
+
+// Whether a number may be a bound of a range.
+fn is_bound(i: i64) -> bool
+    ensures { IsTrue result ↔ IsBound i }
+{
+    -LIMIT <= i && i <= LIMIT
+}
