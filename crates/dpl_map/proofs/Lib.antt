@@ -1,5 +1,6 @@
-pub mod Cuts
-pub mod Blocks
+pub mod CutLemmas
+pub mod BlockLemmas
+pub mod DealLemmas
 mod Worked
 pub mod PlaceLemmas
 pub mod OwnerLemmas

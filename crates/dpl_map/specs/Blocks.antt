@@ -1,7 +1,7 @@
 -- Where an integer lies in blocks that are dealt out in rounds. Private functions of the crate speak of it.
 use Rattle.std.specs.Prelude.{◌≡◌, ◌⊎◌, ◌<◌, ◌≤◌, ◌*◌, ◌/◌, ◌%◌, ◌^◌, ℕ, ℤ, pos, ◌+ℤ◌, ◌-ℤ◌, ◌≤ℤ◌}
 use Rattle.dpl_range.specs.Members.{count_of}
-use Rattle.dpl_range.specs.Range.{RangeValue, IsBound}
+use Rattle.dpl_range.specs.Range.{RangeValue, IsRange}
 
 -- how far an integer lies past an origin
 abbrev pub past : ℤ → ℤ → ℕ
@@ -21,11 +21,10 @@ BeginsRound start round origin = (k : ℕ) × ((origin ≡ start +ℤ pos (k * r
 
 -- a place of some has every block of a size of its own, from the beginning of the round that has a range's low bound
 pub record IsDeal (range : RangeValue) (origin : ℤ) (size extent place : ℕ) : Type 0 where
-  pub low_limit : IsBound range.low
-  pub high_limit : IsBound range.high
+  pub limits : IsRange range
   pub some : 0 < size
   pub machine : size < 2 ^ 63
   pub few : extent ≤ 64
-  pub place : place < extent
+  pub among : place < extent
   pub begins : origin ≤ℤ range.low
   pub soon : range.low ≤ℤ (origin +ℤ pos (extent * size))

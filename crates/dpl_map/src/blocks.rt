@@ -1,7 +1,7 @@
 // The block-cyclic rule along one dimension: the members of a range that a place gets, as ranges.
 // Blocks are counted from an origin at which a round of them begins, one block for each place.
 
-ghost use Rattle.std.specs.Prelude.{◌≡◌, ◌≤◌, ◌<◌, ◌+◌, ◌*◌, ◌/◌, ◌%◌, ◌==◌, ◌&&◌, ◌^◌, ℕ, pos, ◌≤ℤ◌, ◌+ℤ◌, ◌-ℤ◌, neg_ℤ, int_le, filter, length, IfOk, OnOk};
+ghost use Rattle.std.specs.Prelude.{◌≡◌, ◌≤◌, ◌<◌, ◌+◌, ◌-◌, ◌*◌, ◌/◌, ◌%◌, ◌==◌, ◌&&◌, ◌^◌, ℕ, pos, ◌≤ℤ◌, ◌+ℤ◌, ◌-ℤ◌, neg_ℤ, int_le, filter, length, IfOk, OnOk};
 ghost use Rattle.dpl_range.specs.Range.{members_of, IsBound};
 ghost use Rattle.dpl_map.specs.Grids.{IsGridSize};
 ghost use Rattle.dpl_map.specs.Places.{block_cyclic_place};
@@ -34,16 +34,9 @@ pub fn dealt(
     if range.size() == 0 {
         return Ok(Vec::new(alloc));
     }
-    let size = size as u64;
-    let deal = Deal {
-        range: *range,
-        origin: round_of(range.low_bound(), start, extent as i128 * size as i128),
-        size,
-        extent: extent as u64,
-        place: place as u64,
-    };
+    let deal = Deal::new(*range, start, size as u64, extent as u64, place as u64);
     let rounds = deal.rounds();
-    if rounds <= size {
+    if rounds <= deal.size {
         deal.by_blocks(alloc, rounds)
     } else {
         deal.by_offsets(alloc, start)
@@ -68,8 +61,8 @@ fn round_of(low: i64, start: i64, round: i128) -> i128
 fn between(range: &Range, low: i128, high: i128) -> Range
     ensures { members_of result ≡ filter (λ i. int_le low i && int_le i high) (members_of range.now) }
 {
-    let low = low.max(range.low_bound() as i128);
-    let high = high.min(range.high_bound() as i128);
+    let low = (range.low_bound() as i128).max(low);
+    let high = (range.high_bound() as i128).min(high);
     if high < low {
         return range.slice(1, 0);
     }
@@ -83,7 +76,8 @@ fn keep(pieces: &mut Vec<Range>, piece: Range) -> Result<(), AllocError>
     if piece.size() == 0 {
         return Ok(());
     }
-    pieces.push(piece)
+    pieces.push(piece)?;
+    Ok(())
 }
 
 // A range, and the blocks of it that a place gets: those number `place`, `place + extent` and so on from the origin.
@@ -97,28 +91,92 @@ struct Deal {
 }
 
 impl Deal {
+    // The deal of a place, from the beginning of the round that has the range's low bound.
+    fn new(range: Range, start: i64, size: u64, extent: u64, place: u64) -> Deal
+        requires start_limit { IsBound start }
+        requires some { 0 < size }
+        requires machine { size < 2 ^ 63 }
+        requires extent { extent ≤ 64 }
+        requires place { place < extent }
+        ensures deal { IsDeal result.range result.origin result.size result.extent result.place }
+        ensures begins { BeginsRound start (result.extent * result.size) result.origin }
+        ensures range { result.range ≡ range }
+        ensures size { result.size ≡ size }
+        ensures extent { result.extent ≡ extent }
+        ensures place { result.place ≡ place }
+    {
+        let round = extent as u128 * size as u128;
+        Deal {
+            range,
+            origin: round_of(range.low_bound(), start, round as i128),
+            size,
+            extent,
+            place,
+        }
+    }
+
+    // How far the range's high bound lies past the origin.
+    fn way(&self) -> u128
+        requires deal { IsDeal self.now.range self.now.origin self.now.size self.now.extent self.now.place }
+        requires ordered { self.now.range.low ≤ℤ self.now.range.high }
+        ensures way { result ≡ past self.now.origin self.now.range.high }
+        ensures near { result ≤ 2 ^ 61 + self.now.extent * self.now.size }
+    {
+        (self.range.high_bound() as i128 - self.origin) as u128
+    }
+
+    // The number of the block that has the range's high bound.
+    fn last(&self) -> u64
+        requires deal { IsDeal self.now.range self.now.origin self.now.size self.now.extent self.now.place }
+        requires ordered { self.now.range.low ≤ℤ self.now.range.high }
+        ensures number { result ≡ block_number self.now.origin self.now.size self.now.range.high }
+        ensures near { result ≤ 2 ^ 61 + 64 }
+    {
+        (self.way() / self.size as u128) as u64
+    }
+
     // How many of the place's blocks begin at the range's high bound or before it.
     fn rounds(&self) -> u64
         requires deal { IsDeal self.now.range self.now.origin self.now.size self.now.extent self.now.place }
         requires ordered { self.now.range.low ≤ℤ self.now.range.high }
         ensures all { (j : ℕ) → j < result → j * self.now.extent + self.now.place ≤ block_number self.now.origin self.now.size self.now.range.high }
         ensures enough { (j : ℕ) → j * self.now.extent + self.now.place ≤ block_number self.now.origin self.now.size self.now.range.high → j < result }
+        ensures near { block_number self.now.origin self.now.size self.now.range.high ≤ 2 ^ 61 + 64 }
+        ensures short { self.now.size < result → self.now.extent * self.now.size ≤ 2 ^ 61 }
     {
-        let last = (self.range.high_bound() as i128 - self.origin) as u128 / self.size as u128;
-        if last < self.place as u128 {
+        let last = self.last();
+        if last < self.place {
             return 0;
         }
-        ((last - self.place as u128) / self.extent as u128 + 1) as u64
+        (last - self.place) / self.extent + 1
+    }
+
+    // Where the block of a number begins.
+    fn begin(&self, number: u64) -> i128
+        requires deal { IsDeal self.now.range self.now.origin self.now.size self.now.extent self.now.place }
+        requires near { number ≤ 2 ^ 62 }
+        ensures begin { result ≡ self.now.origin +ℤ pos (number * self.now.size) }
+        ensures limit { result ≤ℤ pos (2 ^ 126) }
+    {
+        self.origin + (number as u128 * self.size as u128) as i128
+    }
+
+    // Where the block of a number ends.
+    fn end(&self, number: u64) -> i128
+        requires deal { IsDeal self.now.range self.now.origin self.now.size self.now.extent self.now.place }
+        requires near { number ≤ 2 ^ 62 }
+        ensures { result ≡ self.now.origin +ℤ pos (number * self.now.size) +ℤ pos (self.now.size - 1) }
+    {
+        self.begin(number) + (self.size - 1) as i128
     }
 
     // The members in the block of a number.
     fn block(&self, number: u64) -> Range
         requires deal { IsDeal self.now.range self.now.origin self.now.size self.now.extent self.now.place }
-        requires near { number < 2 ^ 63 }
+        requires near { number ≤ 2 ^ 62 }
         ensures { members_of result ≡ filter (λ i. block_number self.now.origin self.now.size i == number) (members_of self.now.range) }
     {
-        let low = self.origin + number as i128 * self.size as i128;
-        between(&self.range, low, low + (self.size as i128 - 1))
+        between(&self.range, self.begin(number), self.end(number))
     }
 
     // The place's blocks, one after another.
@@ -126,6 +184,7 @@ impl Deal {
         requires deal { IsDeal self.now.range self.now.origin self.now.size self.now.extent self.now.place }
         requires all { (j : ℕ) → j < rounds → j * self.now.extent + self.now.place ≤ block_number self.now.origin self.now.size self.now.range.high }
         requires enough { (j : ℕ) → j * self.now.extent + self.now.place ≤ block_number self.now.origin self.now.size self.now.range.high → j < rounds }
+        requires near { block_number self.now.origin self.now.size self.now.range.high ≤ 2 ^ 61 + 64 }
         ensures cut { IfOk result (λ v. AreCut members_of (filter (λ i. block_number self.now.origin self.now.size i % self.now.extent == self.now.place) (members_of self.now.range)) v.items) }
         ensures few { IfOk result (λ v. length v.items ≤ rounds) }
     {
@@ -145,12 +204,24 @@ impl Deal {
         ensures cut { IfOk result (λ v. AreCut members_of (filter (λ i. block_number self.now.origin self.now.size i % self.now.extent == self.now.place) (members_of self.now.range)) v.items) }
         ensures few { IfOk result (λ v. length v.items ≤ self.now.size) }
     {
-        let round = self.extent * self.size;
-        let before = self.place * self.size;
         let mut pieces = Vec::new(alloc);
         for offset in 0..self.size {
-            keep(&mut pieces, self.range.class(start, round, before + offset))?;
+            keep(&mut pieces, self.offset(start, offset))?;
         }
         Ok(pieces)
+    }
+
+    // The members of the place's blocks that lie at an offset in them.
+    fn offset(&self, start: i64, offset: u64) -> Range
+        requires deal { IsDeal self.now.range self.now.origin self.now.size self.now.extent self.now.place }
+        requires start_is_bound { IsBound start }
+        requires within { offset < self.now.size }
+        requires short { self.now.extent * self.now.size ≤ 2 ^ 61 }
+        requires begins { BeginsRound start (self.now.extent * self.now.size) self.now.origin }
+        ensures { members_of result ≡ filter (λ i. block_offset self.now.origin self.now.size i == offset) (filter (λ i. block_number self.now.origin self.now.size i % self.now.extent == self.now.place) (members_of self.now.range)) }
+    {
+        let before = self.place * self.size;
+        self.range
+            .class(start, self.extent * self.size, before + offset)
     }
 }

@@ -1,5 +1,5 @@
 -- The block-cyclic rule by blocks that are counted from the beginning of a round.
-use Rattle.std.proofs.Common.{◌≡◌, ◌⊎◌, ◌↔◌, ◌<◌, ◌≤◌, ◌+◌, ◌-◌, ◌*◌, ◌/◌, ◌%◌, ◌==◌, ◌&&◌, ℕ, zero, suc, Bool, true, false, ℤ, pos, negsuc, ◌+ℤ◌, ◌-ℤ◌, ◌≤ℤ◌, inl, inr, refl, ap, sym, ◌∙◌, arith, ⊎_elim, subst, unsigned_abs}
+use Rattle.std.proofs.Common.{◌≡◌, ◌↔◌, ◌<◌, ◌≤◌, ◌+◌, ◌-◌, ◌*◌, ◌/◌, ◌%◌, ℕ, zero, suc, true, ℤ, pos, negsuc, ◌+ℤ◌, ◌-ℤ◌, inl, inr, refl, ap, sym, ◌∙◌, arith, ⊎_elim, unsigned_abs}
 use Rattle.std.proofs.lemmas.Bool.{eq-eqb, eqb-true}
 use Rattle.std.specs.Int.{int_div_euclid, int_rem_euclid}
 use Rattle.std.proofs.lemmas.Int.{ints, int_rem_euclid_is}
@@ -112,8 +112,7 @@ left-of_round b n m p o some places within = (there, back)
   where
     there : m % (n * b) ≡ p * b + o → (m / b % n ≡ p) × (m % b ≡ o)
     there is =
-        let e : m / b % n * b + m % b ≡ p * b + o = sym (mod-of_round b n m some places) ∙ is in
-        (
+        let e : m / b % n * b + m % b ≡ p * b + o = sym (mod-of_round b n m some places) ∙ is in (
           sym (div-mul-add (m / b % n) b (m % b) (mod_below m b some)) ∙ ap (λ x. x / b) e ∙ div-mul-add p b o within,
           sym (mod-mul-add (m / b % n) b (m % b) (mod_below m b some)) ∙ ap (λ x. x % b) e ∙ mod-mul-add p b o within,
         )
@@ -125,11 +124,11 @@ left-of_round b n m p o some places within = (there, back)
 pub in-block : (b m number : ℕ) → 0 < b → (m / b ≡ number) ↔ ((number * b ≤ m) × (m ≤ number * b + (b - 1)))
 in-block b m number some = (
   (λ is. let low = (le-div_iff_mul-le {k = b} {x = number} {y = m} some).0 (omega (arith, is)) in
-  let high = (div-lt_iff_lt-mul {k = b} {x = m} {y = number + 1} some).0 (omega (arith, is)) in
-  (low, omega (arith, high, add-mul number 1 b))),
+      let high = (div-lt_iff_lt-mul {k = b} {x = m} {y = number + 1} some).0 (omega (arith, is)) in
+      (low, omega (arith, high, add-mul number 1 b))),
   (λ h. let low = (le-div_iff_mul-le {k = b} {x = number} {y = m} some).1 h.0 in
-  let high = (div-lt_iff_lt-mul {k = b} {x = m} {y = number + 1} some).1 (omega (arith, h.1, some, add-mul number 1 b)) in
-  omega (arith, low, high)),
+      let high = (div-lt_iff_lt-mul {k = b} {x = m} {y = number + 1} some).1 (omega (arith, h.1, some, add-mul number 1 b)) in
+      omega (arith, low, high)),
 )
 
 -- the block of a place in a round
