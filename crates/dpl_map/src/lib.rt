@@ -5,6 +5,8 @@ mod axis;
 mod dimensions;
 mod grid;
 mod map;
+mod part;
 
 pub use grid::{Grid, GridFault};
 pub use map::{Map, MapFault};
+pub use part::NoMemory;
