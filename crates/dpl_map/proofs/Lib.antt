@@ -7,3 +7,7 @@ pub mod OwnerLemmas
 pub mod ProductLemmas
 pub mod BoxLemmas
 pub mod StartLemmas
+pub mod FilterLemmas
+pub mod AxisLemmas
+pub mod PartLemmas
+pub mod LawLemmas

@@ -1,13 +1,13 @@
 // One dimension of a map: by which rule its indices are dealt out over how many places.
 
-ghost use Rattle.std.specs.Prelude.{◌≡◌, ◌≢◌, ◌≤◌, ◌<◌, ◌≤ℤ◌, []};
-ghost use Rattle.dpl_range.specs.Range.{members_of, IsBound};
+ghost use Rattle.std.specs.Prelude.{◌≡◌, ◌≢◌, ◌↔◌, ◌+◌, ◌*◌, ◌^◌, ◌≤◌, ◌<◌, ◌≤ℤ◌, ◌==◌, ◌&&◌, ℕ, ℤ, pos, neg_ℤ, int_le, filter, []};
+ghost use Rattle.dpl_range.specs.Range.{members_of, IsBound, IsRange};
 ghost use Rattle.dpl_map.specs.AxisFields.{IsAxis};
 ghost use Rattle.dpl_map.specs.Grids.{IsGridSize};
 ghost use Rattle.dpl_map.specs.Maps.{axis_place, IsBoxed, Block, Cyclic};
 ghost use Rattle.dpl_map.specs.Places.{block_place, cyclic_place};
 
-use dpl_range::Range;
+use dpl_range::{LIMIT, Range};
 use std::marker::Model;
 
 #[derive(Clone, Copy, Debug, PartialEq, Eq)]
@@ -88,6 +88,21 @@ impl Axis {
         self.extent
     }
 
+    /// The members of a range that a place owns, in the order of the range.
+    pub fn part(&self, range: &Range, place: u32) -> Range
+        requires { place < self.now.extent }
+        ensures members { members_of result ≡ filter (λ i. axis_place self.now i == place) (members_of range.now) }
+        ensures limits { IsRange result }
+    {
+        if range.size() == 0 {
+            return *range;
+        }
+        match self.rule {
+            Rule::Block { low, high } => block_part(range, low, high, self.extent, place),
+            Rule::Cyclic { start } => range.class(start, self.extent, place),
+        }
+    }
+
     /// The place of an index, which may be any number.
     pub fn place(&self, i: i64) -> u32
         ensures place { result ≡ axis_place self.now i }
@@ -120,6 +135,84 @@ fn block_place(low: i64, high: i64, extent: u32, i: i64) -> u32
     let offset = (i - low) as u128;
     let size = (high - low) as u128 + 1;
     (offset * extent as u128 / size) as u32
+}
+
+// The members of a range that a place owns by the block rule.
+fn block_part(range: &Range, low: i64, high: i64, extent: u32, place: u32) -> Range
+    requires low_is_bound { IsBound low }
+    requires high_is_bound { IsBound high }
+    requires ordered { low ≤ℤ high }
+    requires extent { IsGridSize extent }
+    requires place { place < extent }
+    requires range_limits { IsRange range.now }
+    ensures members { members_of result ≡ filter (λ i. block_place low high extent i == place) (members_of range.now) }
+    ensures limits { IsRange result }
+{
+    let from = block_from(low, high, extent, place);
+    let to = block_to(low, high, extent, place);
+    between(range, from, to)
+}
+
+// From which integer on the bounds of ranges go to a place or to a later one by the block rule. What lies
+// below the box goes to the first place.
+fn block_from(low: i64, high: i64, extent: u32, place: u32) -> i64
+    requires low_is_bound { IsBound low }
+    requires high_is_bound { IsBound high }
+    requires ordered { low ≤ℤ high }
+    requires extent { IsGridSize extent }
+    requires place { place < extent }
+    ensures from { neg_ℤ (pos (2 ^ 60)) ≤ℤ result }
+    ensures to { result ≤ℤ pos (2 ^ 60 + 1) }
+    ensures owned { (i : ℤ) → IsBound i → (place ≤ block_place low high extent i) ↔ (result ≤ℤ i) }
+{
+    if place == 0 {
+        return -LIMIT;
+    }
+    let size = (high - low) as u64 + 1;
+    low + block_start(size, extent, place) as i64
+}
+
+// Up to which integer the bounds of ranges go to a place or to an earlier one by the block rule. What lies
+// above the box goes to the last place.
+fn block_to(low: i64, high: i64, extent: u32, place: u32) -> i64
+    requires low_is_bound { IsBound low }
+    requires high_is_bound { IsBound high }
+    requires ordered { low ≤ℤ high }
+    requires extent { IsGridSize extent }
+    requires place { place < extent }
+    ensures to { result ≤ℤ pos (2 ^ 60) }
+    ensures owned { (i : ℤ) → IsBound i → (block_place low high extent i ≤ place) ↔ (i ≤ℤ result) }
+{
+    if place + 1 == extent {
+        return LIMIT;
+    }
+    block_from(low, high, extent, place + 1) - 1
+}
+
+// How far above the low bound of a box the block of a place begins.
+fn block_start(size: u64, extent: u32, place: u32) -> u64
+    requires size { size ≤ 2 ^ 61 + 1 }
+    requires extent { IsGridSize extent }
+    requires place { place ≤ extent }
+    ensures reached { place * size ≤ result * extent }
+    ensures least { (d : ℕ) → place * size ≤ d * extent → result ≤ d }
+    ensures within { result ≤ size }
+{
+    (place as u128 * size as u128).div_ceil(extent as u128) as u64
+}
+
+// The members of a range between two integers, of which one may be past the limits where none are left.
+fn between(range: &Range, from: i64, to: i64) -> Range
+    requires from { neg_ℤ (pos (2 ^ 60)) ≤ℤ from }
+    requires to { to ≤ℤ pos (2 ^ 60) }
+    ensures members { members_of result ≡ filter (λ i. int_le from i && int_le i to) (members_of range.now) }
+    ensures limits { IsRange result }
+{
+    if to < from {
+        range.slice(1, 0)
+    } else {
+        range.slice(from, to)
+    }
 }
 
 // The place of an index by the cyclic rule. An index may be any number, so that the difference needs more

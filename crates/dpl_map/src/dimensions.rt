@@ -23,6 +23,20 @@ pub fn padded(domain: &Domain) -> (Range, Range, Range)
     }
 }
 
+/// The domain with the last `rank` of three ranges.
+pub fn product(rank: u32, outer: Range, middle: Range, inner: Range) -> Domain
+    requires from_one { 1 ≤ rank }
+    requires to_three { rank ≤ 3 }
+    requires small { IsSmall (last_of rank outer middle inner) }
+    ensures { result ≡ last_of rank outer middle inner }
+{
+    match rank {
+        1 => Domain::new(&[inner]).unwrap(),
+        2 => Domain::new(&[middle, inner]).unwrap(),
+        _ => Domain::new(&[outer, middle, inner]).unwrap(),
+    }
+}
+
 // What stands in the place of a range that a domain does not have.
 fn unused() -> Range
     ensures { result ≡ point }

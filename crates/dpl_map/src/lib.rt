@@ -6,6 +6,8 @@ mod blocks;
 mod dimensions;
 mod grid;
 mod map;
+mod part;
 
 pub use grid::{Grid, GridFault};
 pub use map::{Map, MapFault};
+pub use part::NoMemory;

@@ -1,10 +1,11 @@
 // Maps: who owns an index.
 
-ghost use Rattle.std.specs.Prelude.{◌≡◌, ◌≢◌, ◌*◌, ◌≤◌, ◌<◌, ◌↔◌, [], length, All, IsTrue, IsOk, IfOk};
+ghost use Rattle.std.specs.Prelude.{◌≡◌, ◌≢◌, ◌*◌, ◌≤◌, ◌<◌, ◌↔◌, List, [], ℤ, length, All, IsTrue, IsOk, IfOk};
 ghost use Rattle.dpl_domain.specs.Indices.{indices, IsRank};
 ghost use Rattle.dpl_domain.specs.Ranks.{last_of};
 ghost use Rattle.dpl_range.specs.Range.{IsBound};
 ghost use Rattle.dpl_map.specs.AxisFields.{IsAxis};
+ghost use Rattle.dpl_map.specs.MapFields.{IsMap};
 ghost use Rattle.dpl_map.specs.Maps.{owner, places, whole_map, cyclic_map, IsBlockMap};
 
 use crate::Grid;
@@ -137,10 +138,25 @@ impl Map {
         }
     }
 
+    /// The axes in three places, the last one last. Those in front that the map does not have have one place.
+    pub(crate) fn axes(&self) -> (Axis, Axis, Axis)
+        ensures axes { self.now ≡ last_of (length self.now) result.0 result.1 result.2 }
+        ensures limits { IsMap (length self.now) result.0 result.1 result.2 }
+    {
+        (self.outer, self.middle, self.inner)
+    }
+
+    /// How many dimensions the map deals out: the rank of its grid, or 0.
+    pub fn rank(&self) -> u32
+        ensures { result ≡ length self.now }
+    {
+        self.rank
+    }
+
     /// How many places the map has: those of its grid, or one.
     pub fn places(&self) -> u32
         ensures places { result ≡ places self.now }
-        ensures some { 1 ≤ result }
+        ensures owners { (t : List ℤ) → owner self.now t < result }
         ensures most { result ≤ 64 }
     {
         self.outer.extent() * self.middle.extent() * self.inner.extent()

@@ -1,0 +1,45 @@
+-- Every tuple has one owner, so each index of a domain is in one part.
+use Rattle.std.proofs.Common.{◌≡◌, ℕ, zero, suc, ◌*◌, ◌<◌, List, [], ◌∷◌, length, refl, ◌∙◌, arith, ℤ, pos, ⊎_elim}
+use Rattle.std.proofs.lemmas.Bool.{cases_eq}
+use Rattle.dpl_domain.specs.Ranks.{last_of}
+use Rattle.dpl_map.specs.MapFields.{IsMap}
+use Rattle.dpl_map.specs.Maps.{AxisValue, owner}
+use Rattle.dpl_map.proofs.AxisLemmas.{axis-below}
+use Rattle.dpl_map.proofs.OwnerLemmas.{owner-padded, owner-other, places-padded, places-positive, length-last_of, row-below}
+
+module _ (o m i : AxisValue) where
+  -- a tuple of the map's rank is owned by a place of the map
+  owner-ranked : (rank : ℕ) (t : List ℤ) → IsMap rank o m i → length t ≡ rank → owner (last_of rank o m i) t < o.extent * m.extent * i.extent
+  unfolding owner
+  owner-ranked zero [] is same = omega (arith, places-positive 0 o m i is, places-padded 0 o m i is)
+  owner-ranked zero (z ∷ t) is same = absurd (omega arith)
+  owner-ranked (suc zero) [] is same = absurd (omega arith)
+  owner-ranked (suc zero) (z ∷ []) is same =
+      rw (owner-padded 1 o m i (pos 0) (pos 0) z is (record { from_one = omega arith; to_three = omega arith; first = λ _. refl; second = λ _. refl }))
+      (row-below o.extent m.extent i.extent _ _ _ (axis-below o (pos 0) is.outer_limits) (axis-below m (pos 0) is.middle_limits) (axis-below i z is.inner_limits))
+  owner-ranked (suc zero) (y ∷ z ∷ t) is same = absurd (omega arith)
+  owner-ranked (suc (suc zero)) [] is same = absurd (omega arith)
+  owner-ranked (suc (suc zero)) (y ∷ []) is same = absurd (omega arith)
+  owner-ranked (suc (suc zero)) (y ∷ z ∷ []) is same =
+      rw (owner-padded 2 o m i (pos 0) y z is (record { from_one = omega arith; to_three = omega arith; first = λ _. refl; second = λ h. absurd (omega arith) }))
+      (row-below o.extent m.extent i.extent _ _ _ (axis-below o (pos 0) is.outer_limits) (axis-below m y is.middle_limits) (axis-below i z is.inner_limits))
+  owner-ranked (suc (suc zero)) (x ∷ y ∷ z ∷ t) is same = absurd (omega arith)
+  owner-ranked (suc (suc (suc zero))) [] is same = absurd (omega arith)
+  owner-ranked (suc (suc (suc zero))) (x ∷ []) is same = absurd (omega arith)
+  owner-ranked (suc (suc (suc zero))) (x ∷ y ∷ []) is same = absurd (omega arith)
+  owner-ranked (suc (suc (suc zero))) (x ∷ y ∷ z ∷ []) is same =
+      rw (owner-padded 3 o m i x y z is (record { from_one = omega arith; to_three = omega arith; first = λ h. absurd (omega arith); second = λ h. absurd (omega arith) }))
+      (row-below o.extent m.extent i.extent _ _ _ (axis-below o x is.outer_limits) (axis-below m y is.middle_limits) (axis-below i z is.inner_limits))
+  owner-ranked (suc (suc (suc zero))) (w ∷ x ∷ y ∷ z ∷ t) is same = absurd (omega arith)
+  owner-ranked (suc (suc (suc (suc n)))) t is same = absurd (omega (arith, is.to_three))
+
+  -- and so is every other
+  pub owner-below : (rank : ℕ) (t : List ℤ) → IsMap rank o m i → owner (last_of rank o m i) t < o.extent * m.extent * i.extent
+  owner-below rank t is =
+      let long = length-last_of rank o m i is.to_three in
+      ⊎_elim
+      (λ (same : length t ≡ rank). owner-ranked rank t is same)
+      (λ (other : length t ≡ rank → ⊥).
+      let none = owner-other (last_of rank o m i) t (λ same. other (same ∙ long)) in
+      omega (arith, none, places-positive rank o m i is, places-padded rank o m i is))
+      (cases_eq (length t) rank)
