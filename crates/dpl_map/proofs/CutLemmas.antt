@@ -91,7 +91,7 @@ slice_get-push_past [] p (suc k) past = refl
 slice_get-push_past (q ∷ ps) p zero past = absurd (omega arith)
 slice_get-push_past (q ∷ ps) p (suc k) past = slice_get-push_past ps p k (omega arith)
 
-length-push : {P : Type 0} (ps : List P) (p : P) → length (ps ++ p ∷ []) ≡ length ps + 1
+pub length-push : {P : Type 0} (ps : List P) (p : P) → length (ps ++ p ∷ []) ≡ length ps + 1
 length-push [] p = refl
 length-push (q ∷ ps) p = let e = length-push ps p in omega (arith, e)
 
@@ -107,6 +107,18 @@ module _ {X P : Type 0} (elements : P → List X) where
   -- nothing is cut out of nothing
   pub AreCut-none : AreCut elements [] []
   AreCut-none = record { number = λ x. 0; numbered = All-nil (λ x. 0 < 0); listed = λ k. tt }
+
+  -- one piece is a cut of its own elements
+  pub AreCut-one : (xs : List X) (p : P) → elements p ≡ xs → AreCut elements xs (p ∷ [])
+  AreCut-one xs p lists = record { number = λ x. 0; numbered = All-each (λ x. 0 < 1) (λ x. omega arith) xs; listed = listed }
+    where
+      every : (ys : List X) → ys ≡ filter (λ x. 0 == 0) ys
+      every [] = refl
+      every (y ∷ ys) = ap (λ zs. y ∷ zs) (every ys)
+
+      listed : (k : ℕ) → IfSome (slice_get (p ∷ []) k) (λ q. elements q ≡ filter (λ x. 0 == k) xs)
+      listed zero = lists ∙ every xs
+      listed (suc k) = tt
 
   module _ (num : X → ℕ) (xs : List X) (pieces : List P) (k : ℕ) (p : P) (cut : AreCut elements (filter (λ x. nat_lt (num x) k) xs) pieces) (lists : elements p ≡ filter (λ x. num x == k) xs) where
     -- a piece without elements changes nothing
@@ -204,7 +216,7 @@ module _ {X P : Type 0} (elements : P → List X) where
         (cases_eq j (length pieces)))
         (cases_lt j (length pieces))
 
-    AreCut-more : AreCut elements (filter (λ x. nat_lt (num x) (k + 1)) xs) (pieces ++ p ∷ [])
+    pub AreCut-more : AreCut elements (filter (λ x. nat_lt (num x) (k + 1)) xs) (pieces ++ p ∷ [])
     AreCut-more = record { number = renumber; numbered = numbered-grown; listed = listed-grown }
 
     -- the cut with one more piece, where that has elements

@@ -11,3 +11,4 @@ pub mod FilterLemmas
 pub mod AxisLemmas
 pub mod PartLemmas
 pub mod LawLemmas
+pub mod ProductCuts

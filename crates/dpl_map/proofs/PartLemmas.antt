@@ -10,7 +10,7 @@ use Rattle.dpl_domain.specs.Ranks.{last_of}
 use Rattle.dpl_map.specs.AxisFields.{IsAxis}
 use Rattle.dpl_map.specs.MapFields.{IsMap, idle}
 use Rattle.dpl_map.specs.Maps.{AxisValue, axis_place, owner}
-use Rattle.dpl_map.specs.Parts.{part, AreCut}
+use Rattle.dpl_map.specs.Parts.{part}
 use Rattle.dpl_map.proofs.FilterLemmas.{filter-alike}
 use Rattle.dpl_map.proofs.OwnerLemmas.{owner-padded, owner-other, place_of}
 use Rattle.dpl_map.proofs.AxisLemmas.{axis-below}
@@ -255,19 +255,3 @@ part-other_rest ranges axes locale different some =
     filter-alike (λ t. owner axes t == locale) (λ t. false) (indices ranges)
     (λ k t at. both_ways _ _ (λ h. absurd (some (sym (eqb-true _ _ h) ∙ other-rank ranges axes different k t at))) (λ h. absurd cc))
     ∙ filter-nothing (indices ranges)
-
--- nothing is cut into nothing, and one domain is a cut of its own tuples
-pub AreCut-none : (ts : List (List ℤ)) → ts ≡ [] → AreCut ts []
-AreCut-none ts none =
-    record {
-      number = λ t. 0;
-      numbered = λ k d within. absurd (omega (arith, ap length none));
-      listed = λ k. tt;
-    }
-
-pub AreCut-one : (ts : List (List ℤ)) (d : List RangeValue) → indices d ≡ ts → AreCut ts (d ∷ [])
-AreCut-one ts d is = record { number = λ t. 0; numbered = λ k e within. omega arith; listed = listed }
-  where
-    listed : (k : ℕ) → IfSome (slice_get (d ∷ []) k) (λ d. indices d ≡ filter (λ t. 0 == k) ts)
-    listed zero = is ∙ sym (filter-every ts)
-    listed (suc k) = tt

@@ -10,7 +10,7 @@ flat_map-nothing : (is : List ℤ) (f : ℤ → List (List ℤ)) → ((i : ℤ) 
 flat_map-nothing [] f nothing = refl
 flat_map-nothing (i ∷ is) f nothing = rw (nothing i) (flat_map-nothing is f nothing)
 
-tuples-empty : (is : List ℤ) (rest : List (List ℤ)) → tuples rest ≡ [] → tuples (is ∷ rest) ≡ []
+pub tuples-empty : (is : List ℤ) (rest : List (List ℤ)) → tuples rest ≡ [] → tuples (is ∷ rest) ≡ []
 tuples-empty is rest empty = flat_map-nothing is (λ i. map (λ t. i ∷ t) (tuples rest)) (λ i. ap (map (λ t. i ∷ t)) empty)
 
 tuples-empty_first : (is : List ℤ) (rest : List (List ℤ)) → is ≡ [] → tuples (is ∷ rest) ≡ []

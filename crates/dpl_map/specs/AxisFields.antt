@@ -4,17 +4,18 @@ use Rattle.dpl_range.specs.Range.{IsBound}
 use Rattle.dpl_map.specs.Grids.{IsGridSize}
 use Rattle.dpl_map.specs.Maps.{RuleValue, Block, Cyclic, BlockCyclic, AxisValue}
 use Rattle.dpl_map.specs.declared.axis.Rule.{Rule}
-use Rattle.dpl_map.specs.declared.axis.Rule.TheVariants.{Block as KeptBlock, Cyclic as KeptCyclic}
+use Rattle.dpl_map.specs.declared.axis.Rule.TheVariants.{Block as KeptBlock, Cyclic as KeptCyclic, BlockCyclic as KeptBlockCyclic}
 use Rattle.dpl_map.specs.declared.axis.Axis.TheInside.{Inside}
 
 abbrev pub rule_of : Rule → RuleValue
 rule_of (KeptBlock low high) = Block low high
 rule_of (KeptCyclic start) = Cyclic start
+rule_of (KeptBlockCyclic start size) = BlockCyclic start size
 
 abbrev pub kept_rule : RuleValue → Rule
 kept_rule (Block low high) = KeptBlock low high
 kept_rule (Cyclic start) = KeptCyclic start
-kept_rule (BlockCyclic start size) = KeptCyclic start
+kept_rule (BlockCyclic start size) = KeptBlockCyclic start size
 
 abbrev pub axis_of : Inside → AxisValue
 axis_of a = record { rule = rule_of a.rule; extent = a.extent }
@@ -38,3 +39,4 @@ kept_axis-axis_of a limits = go a.rule a.extent
     go : (rule : Rule) (extent : ℕ) → kept_axis (axis_of (record { rule = rule; extent = extent })) ≡ record { rule = rule; extent = extent }
     go (KeptBlock low high) extent = refl
     go (KeptCyclic start) extent = refl
+    go (KeptBlockCyclic start size) extent = refl

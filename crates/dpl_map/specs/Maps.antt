@@ -18,6 +18,12 @@ pub record AxisValue : Type 0 where
   pub rule : RuleValue
   pub extent : ℕ
 
+-- a rule by which each place has its indices of a range in one range
+abbrev pub IsSingle : RuleValue → Type 0
+IsSingle (Block low high) = Unit {0}
+IsSingle (Cyclic start) = Unit {0}
+IsSingle (BlockCyclic start blocksize) = ⊥
+
 -- the place, of n, that a rule gives an index
 abbrev pub rule_place : RuleValue → ℕ → ℤ → ℕ
 rule_place (Block low high) n i = block_place low high n i
@@ -26,6 +32,11 @@ rule_place (BlockCyclic start blocksize) n i = block_cyclic_place start blocksiz
 
 abbrev pub axis_place : AxisValue → ℤ → ℕ
 axis_place axis i = rule_place axis.rule axis.extent i
+
+-- a map all of whose rules are such
+abbrev pub AreSingle : List AxisValue → Type 0
+AreSingle [] = Unit {0}
+AreSingle (axis ∷ axes) = IsSingle axis.rule × AreSingle axes
 
 -- the grid of a map
 abbrev pub extents : List AxisValue → List ℕ

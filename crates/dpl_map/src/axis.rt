@@ -1,19 +1,23 @@
 // One dimension of a map: by which rule its indices are dealt out over how many places.
 
-ghost use Rattle.std.specs.Prelude.{◌≡◌, ◌≢◌, ◌↔◌, ◌+◌, ◌*◌, ◌^◌, ◌≤◌, ◌<◌, ◌≤ℤ◌, ◌==◌, ◌&&◌, ℕ, ℤ, pos, neg_ℤ, int_le, filter, []};
+ghost use Rattle.std.specs.Prelude.{◌≡◌, ◌≢◌, ◌↔◌, ◌+◌, ◌*◌, ◌^◌, ◌≤◌, ◌<◌, ◌≤ℤ◌, ◌==◌, ◌&&◌, ℕ, ℤ, pos, neg_ℤ, int_le, filter, length, IfOk, []};
 ghost use Rattle.dpl_range.specs.Range.{members_of, IsBound, IsRange};
 ghost use Rattle.dpl_map.specs.AxisFields.{IsAxis};
 ghost use Rattle.dpl_map.specs.Grids.{IsGridSize};
-ghost use Rattle.dpl_map.specs.Maps.{axis_place, IsBoxed, Block, Cyclic};
-ghost use Rattle.dpl_map.specs.Places.{block_place, cyclic_place};
+ghost use Rattle.dpl_map.specs.Cuts.{AreCut};
+ghost use Rattle.dpl_map.specs.Maps.{axis_place, IsBoxed, IsSingle, Block, Cyclic, BlockCyclic};
+ghost use Rattle.dpl_map.specs.Places.{block_place, cyclic_place, block_cyclic_place};
 
+use crate::blocks::dealt;
 use dpl_range::{LIMIT, Range};
+use std::alloc::{AllocError, Global};
 use std::marker::Model;
 
 #[derive(Clone, Copy, Debug, PartialEq, Eq)]
 enum Rule {
     Block { low: i64, high: i64 },
     Cyclic { start: i64 },
+    BlockCyclic { start: i64, size: i64 },
 }
 
 /// A rule and an extent: 1 to 64 places, and numbers of the rule within the limits of ranges.
@@ -80,6 +84,20 @@ impl Axis {
         }
     }
 
+    /// The places that go round from a start, each with a block of a size at a time.
+    pub fn block_cyclic(start: i64, size: i64, extent: u32) -> Axis
+        requires start_is_bound { IsBound start }
+        requires size { pos 1 ≤ℤ size }
+        requires extent { IsGridSize extent }
+        ensures axis { result ≡ record { rule = BlockCyclic start size; extent = extent } }
+        ensures limits { IsAxis result }
+    {
+        Axis {
+            rule: Rule::BlockCyclic { start, size },
+            extent,
+        }
+    }
+
     /// Over how many places the indices are dealt out.
     pub fn extent(&self) -> u32
         ensures extent { result ≡ self.now.extent }
@@ -88,9 +106,28 @@ impl Axis {
         self.extent
     }
 
-    /// The members of a range that a place owns, in the order of the range.
-    pub fn part(&self, range: &Range, place: u32) -> Range
+    /// The members of a range that a place owns, as ranges, each in the order of the range: one range, or for the
+    /// block-cyclic rule one for each block or one for each offset in a block, whichever are fewer.
+    ///
+    /// # Errors
+    /// No memory for them.
+    pub fn parts(&self, alloc: Global, range: &Range, place: u32) -> Result<Vec<Range>, AllocError>
         requires { place < self.now.extent }
+        ensures cut { IfOk result (λ v. AreCut members_of (filter (λ i. axis_place self.now i == place) (members_of range.now)) v.items) }
+        ensures one { IsSingle self.now.rule → IfOk result (λ v. length v.items ≡ 1) }
+    {
+        if let Rule::BlockCyclic { start, size } = self.rule {
+            return dealt(alloc, range, start, size, self.extent, place);
+        }
+        let mut parts = Vec::with_capacity(alloc, 1)?;
+        parts.push(self.part(range, place))?;
+        Ok(parts)
+    }
+
+    // The members of a range that a place owns by a rule that gives it one range.
+    fn part(&self, range: &Range, place: u32) -> Range
+        requires place { place < self.now.extent }
+        requires single { IsSingle self.now.rule }
         ensures members { members_of result ≡ filter (λ i. axis_place self.now i == place) (members_of range.now) }
         ensures limits { IsRange result }
     {
@@ -99,7 +136,8 @@ impl Axis {
         }
         match self.rule {
             Rule::Block { low, high } => block_part(range, low, high, self.extent, place),
-            Rule::Cyclic { start } => range.class(start, self.extent, place),
+            Rule::Cyclic { start } => range.class(start, self.extent as u64, place as u64),
+            Rule::BlockCyclic { .. } => unreachable!(),
         }
     }
 
@@ -112,6 +150,7 @@ impl Axis {
         match self.rule {
             Rule::Block { low, high } => block_place(low, high, self.extent, i),
             Rule::Cyclic { start } => cyclic_place(start, self.extent, i),
+            Rule::BlockCyclic { start, size } => block_cyclic_place(start, size, self.extent, i),
         }
     }
 }
@@ -224,4 +263,17 @@ fn cyclic_place(start: i64, extent: u32, i: i64) -> u32
     ensures below { result < extent }
 {
     (i as i128 - start as i128).rem_euclid(extent as i128) as u32
+}
+
+// The place of an index by the block-cyclic rule.
+fn block_cyclic_place(start: i64, size: i64, extent: u32, i: i64) -> u32
+    requires start_is_bound { IsBound start }
+    requires size { pos 1 ≤ℤ size }
+    requires extent { IsGridSize extent }
+    ensures place { result ≡ block_cyclic_place start size extent i }
+    ensures below { result < extent }
+{
+    (i as i128 - start as i128)
+        .div_euclid(size as i128)
+        .rem_euclid(extent as i128) as u32
 }

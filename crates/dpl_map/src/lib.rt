@@ -7,6 +7,7 @@ mod dimensions;
 mod grid;
 mod map;
 mod part;
+mod products;
 
 pub use grid::{Grid, GridFault};
 pub use map::{Map, MapFault};

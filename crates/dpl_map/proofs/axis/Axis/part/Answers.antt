@@ -12,7 +12,7 @@ use Rattle.dpl_map.proofs.axis.Axis.part.Goals as goal
 pub returns-in-Cyclic-clause-members : goal.returns-in-Cyclic-clause-members
 returns-in-Cyclic-clause-members c =
     let start_fits : FitsSigned w64 c.in-Cyclic.start = search rules in
-    let below : c.args.place < c.self.inside.extent = omega (arith, ap (λ (a : AxisValue). a.extent) c.self.view_is, c.requires) in
+    let below : c.args.place < c.self.inside.extent = omega (arith, ap (λ (a : AxisValue). a.extent) c.self.view_is, c.requires.place) in
     let members = simp to_z-of_z at c.class.ensures.members in
     rw (← c.self.view_is, c.in-Cyclic.is)
     (members
