@@ -10,3 +10,6 @@ mod part;
 pub use grid::{Grid, GridFault};
 pub use map::{Map, MapFault};
 pub use part::NoMemory;
+
+#[cfg(test)]
+mod tests;
