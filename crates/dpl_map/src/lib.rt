@@ -12,3 +12,6 @@ mod products;
 pub use grid::{Grid, GridFault};
 pub use map::{Map, MapFault};
 pub use part::NoMemory;
+
+#[cfg(test)]
+mod tests;

@@ -1,12 +1,13 @@
 // Maps: who owns an index.
 
-ghost use Rattle.std.specs.Prelude.{◌≡◌, ◌≢◌, ◌*◌, ◌≤◌, ◌<◌, ◌↔◌, List, [], ℤ, length, All, IsTrue, IsOk, IfOk};
+ghost use Rattle.std.specs.Prelude.{◌≡◌, ◌≢◌, ◌*◌, ◌≤◌, ◌<◌, ◌↔◌, List, [], ℕ, ℤ, Contains, length, All, IsTrue, IsOk, IfOk};
 ghost use Rattle.dpl_domain.specs.Indices.{indices, IsRank};
 ghost use Rattle.dpl_domain.specs.Ranks.{last_of};
-ghost use Rattle.dpl_range.specs.Range.{IsBound};
+ghost use Rattle.dpl_range.specs.Range.{RangeValue, IsBound};
 ghost use Rattle.dpl_map.specs.AxisFields.{IsAxis};
 ghost use Rattle.dpl_map.specs.MapFields.{IsMap};
 ghost use Rattle.dpl_map.specs.Maps.{owner, places, whole_map, cyclic_map, IsBlockMap};
+ghost use Rattle.dpl_map.specs.Parts.{part};
 
 use crate::Grid;
 use crate::axis::Axis;
@@ -153,10 +154,13 @@ impl Map {
         self.rank
     }
 
-    /// How many places the map has: those of its grid, or one.
+    /// How many places the map has: those of its grid, or one. Each tuple is owned by one of them, so the parts of a
+    /// domain have no tuple in common and together are the domain.
     pub fn places(&self) -> u32
         ensures places { result ≡ places self.now }
         ensures owners { (t : List ℤ) → owner self.now t < result }
+        ensures apart { (ranges : List RangeValue) (t : List ℤ) (j k : ℕ) → Contains (part ranges self.now j) t → Contains (part ranges self.now k) t → j ≡ k }
+        ensures together { (ranges : List RangeValue) (t : List ℤ) → Contains (indices ranges) t → (k : ℕ) × (k < result) × Contains (part ranges self.now k) t }
         ensures most { result ≤ 64 }
     {
         self.outer.extent() * self.middle.extent() * self.inner.extent()
