@@ -12,3 +12,4 @@ pub mod AxisLemmas
 pub mod PartLemmas
 pub mod LawLemmas
 pub mod ProductCuts
+pub mod MapLemmas

@@ -1,5 +1,5 @@
 -- The part of a locale is the product of what it owns of each dimension.
-use Rattle.std.proofs.Common.{◌≡◌, ℕ, zero, suc, ◌+◌, ◌*◌, ◌/◌, ◌%◌, ◌<◌, ◌≤◌, List, [], ◌∷◌, ◌++◌, length, refl, ap, sym, ◌∙◌, arith, ℤ, pos, Bool, true, false, cond, ◌&&◌, ◌==◌, filter, map, flat_map, slice_get, Some, IfSome, subst, eqb-true, eq-eqb}
+use Rattle.std.proofs.Common.{◌≡◌, ℕ, zero, suc, ◌+◌, ◌*◌, ◌/◌, ◌%◌, ◌<◌, ◌≤◌, List, [], ◌∷◌, ◌++◌, length, refl, ap, sym, ◌∙◌, arith, ℤ, pos, Bool, true, false, cond, ◌&&◌, ◌==◌, filter, map, flat_map, slice_get, Some, subst, eqb-true, eq-eqb}
 use Rattle.std.specs.Cmp.{both_ways}
 use Rattle.std.specs.List.{AllByRecursion}
 use Rattle.std.proofs.lemmas.List.{length-map, nil_from_length}
@@ -105,6 +105,10 @@ and-true : (b : Bool) → b ≡ (b && true)
 and-true true = refl
 and-true false = refl
 
+-- what a place of an axis owns of a range
+abbrev pub owned_of : AxisValue → ℕ → RangeValue → List ℤ
+owned_of axis c r = filter (λ i. axis_place axis i == c) (members_of r)
+
 -- a place of the grid by its coordinates
 module _ (o m i : AxisValue) (o_limits : IsAxis o) (m_limits : IsAxis m) (i_limits : IsAxis i) (cx cy cz locale : ℕ) (cx_below : cx < o.extent) (cy_below : cy < m.extent) (cz_below : cz < i.extent) (locale-is : (cx * m.extent + cy) * i.extent + cz ≡ locale) where
   same-place : (x y z : ℤ) → place_of o m i x y z ≡ locale → (axis_place o x ≡ cx) × (axis_place m y ≡ cy) × (axis_place i z ≡ cz)
@@ -174,17 +178,14 @@ module _ (o m i : AxisValue) (o_limits : IsAxis o) (m_limits : IsAxis m) (i_limi
       (λ k t at. owner-tests rank t is some (each-at (λ t. length t ≡ length iss) (tuples iss) (each-length iss) k t at ∙ same))
       ∙ filter-tuples (tests rank) iss (tested ∙ sym same))
 
-  module _ (f s l f' s' l' : RangeValue) (f-is : members_of f' ≡ filter (λ x. axis_place o x == cx) (members_of f)) (s-is : members_of s' ≡ filter (λ y. axis_place m y == cy) (members_of s)) (l-is : members_of l' ≡ filter (λ z. axis_place i z == cz) (members_of l)) where
-    pub indices-part : (rank : ℕ) → IsMap rank o m i → 1 ≤ rank → indices (last_of rank f' s' l') ≡ part (last_of rank f s l) (last_of rank o m i) locale
-    unfolding indices part
-    indices-part zero is some = absurd (omega arith)
-    indices-part (suc zero) is some =
-        rw l-is (owned-tuples 1 (members_of l ∷ []) is some refl refl)
-    indices-part (suc (suc zero)) is some =
-        rw (s-is, l-is) (owned-tuples 2 (members_of s ∷ members_of l ∷ []) is some refl refl)
-    indices-part (suc (suc (suc zero))) is some =
-        rw (f-is, s-is, l-is) (owned-tuples 3 (members_of f ∷ members_of s ∷ members_of l ∷ []) is some refl refl)
-    indices-part (suc (suc (suc (suc n)))) is some = absurd (omega (arith, is.to_three))
+  -- the part is the product of what is owned of each dimension
+  pub tuples-part : (f s l : RangeValue) (rank : ℕ) → IsMap rank o m i → 1 ≤ rank → tuples (last_of rank (owned_of o cx f) (owned_of m cy s) (owned_of i cz l)) ≡ part (last_of rank f s l) (last_of rank o m i) locale
+  unfolding indices part
+  tuples-part f s l zero is some = absurd (omega arith)
+  tuples-part f s l (suc zero) is some = owned-tuples 1 (members_of l ∷ []) is some refl refl
+  tuples-part f s l (suc (suc zero)) is some = owned-tuples 2 (members_of s ∷ members_of l ∷ []) is some refl refl
+  tuples-part f s l (suc (suc (suc zero))) is some = owned-tuples 3 (members_of f ∷ members_of s ∷ members_of l ∷ []) is some refl refl
+  tuples-part f s l (suc (suc (suc (suc n)))) is some = absurd (omega (arith, is.to_three))
 
 -- the coordinates of a place of the grid
 pub record IsSeat (l a m n x y z : ℕ) : Type 0 where

@@ -1,5 +1,5 @@
 -- Products of ranges that are cut out of lists: each is cut out of the product of the lists.
-use Rattle.std.proofs.Common.{◌≡◌, ◌⊎◌, inl, inr, ◌<◌, ◌≤◌, ◌+◌, ◌*◌, ◌==◌, ◌&&◌, ℕ, zero, suc, Bool, true, false, ℤ, List, [], ◌∷◌, length, filter, slice_get, All, IfSome, Some, nat_lt, if◌then◌else◌, refl, ap, sym, subst, ◌∙◌, arith, ⊎_elim, eqb-true, eq-eqb}
+use Rattle.std.proofs.Common.{◌≡◌, ◌⊎◌, inl, inr, ◌<◌, ◌≤◌, ◌+◌, ◌*◌, ◌==◌, ◌&&◌, ℕ, zero, suc, Bool, true, false, ℤ, List, [], ◌∷◌, length, filter, slice_get, IfSome, Some, nat_lt, if◌then◌else◌, refl, ap, sym, subst, ◌∙◌, arith, ⊎_elim, eqb-true, eq-eqb}
 use Rattle.std.specs.Cmp.{both_ways}
 use Rattle.std.proofs.lemmas.Bool.{and_from, and_parts}
 use Rattle.std.proofs.lemmas.Nat.{same_from_place, mul-add-lt}
@@ -10,10 +10,10 @@ use Rattle.dpl_range.specs.Range.{RangeValue, members_of}
 use Rattle.dpl_domain.specs.Indices.{tuples, indices}
 use Rattle.dpl_domain.specs.Ranks.{last_of}
 use Rattle.dpl_map.specs.Cuts.{AreCut}
-use Rattle.dpl_map.proofs.CutLemmas.{tells, filter-same, All-each}
+use Rattle.dpl_map.proofs.CutLemmas.{tells, filter-same}
 use Rattle.dpl_map.proofs.FilterLemmas.{filter-alike}
 use Rattle.dpl_map.proofs.ProductLemmas.{tuples-empty}
-use Rattle.dpl_map.proofs.PartLemmas.{all_pass, filter_each, filter-tuples, each-at, each-length}
+use Rattle.dpl_map.proofs.PartLemmas.{all_pass, filter_each, filter-tuples, each-at, each-length, length-filter}
 
 -- a cut whose numbers are those of pieces for every element, whether it is in the list or not
 pub record IsCutWhole {X P : Type 0} (elements : P → List X) (xs : List X) (pieces : List P) : Type 0 where
@@ -45,10 +45,10 @@ module _ {X P : Type 0} (elements : P → List X) (xs : List X) (pieces : List P
     number = bounded;
     below = bounded-below;
     listed = λ k p found.
-    at-piece k p found
-    ∙ filter-same (λ x. cut.number x == k) (λ x. bounded x == k) xs
-    (All-weaker (λ x. cut.number x < length pieces) (λ x. (cut.number x == k) ≡ (bounded x == k))
-    (λ x within. ap (λ n. n == k) (sym (bounded-same x within))) xs cut.numbered);
+        at-piece k p found
+        ∙ filter-same (λ x. cut.number x == k) (λ x. bounded x == k) xs
+        (All-weaker (λ x. cut.number x < length pieces) (λ x. (cut.number x == k) ≡ (bounded x == k))
+        (λ x within. ap (λ n. n == k) (sym (bounded-same x within))) xs cut.numbered);
   }
 
 -- nothing is cut into no pieces
@@ -222,3 +222,13 @@ tuples-nothing xs ys zs ps qs rs first second third none rank one_first one_seco
     no-third e (suc (suc zero)) least most = tuples-empty ys (zs ∷ []) (rw e refl)
     no-third e (suc (suc (suc zero))) least most = tuples-empty xs (ys ∷ zs ∷ []) (tuples-empty ys (zs ∷ []) (rw e refl))
     no-third e (suc (suc (suc (suc n)))) least most = absurd (omega (arith, most))
+
+-- a product of three pieces has no more tuples than the lists have
+pub length-product : (xs ys zs : List ℤ) (ps qs rs : List RangeValue) → AreCut members_of xs ps → AreCut members_of ys qs → AreCut members_of zs rs → (rank : ℕ) → (rank < 3 → length ps ≡ 1) → (rank < 2 → length qs ≡ 1) → 1 ≤ rank → rank ≤ 3 → (a b c : ℕ) (o m i : RangeValue) → slice_get ps a ≡ Some o → slice_get qs b ≡ Some m → slice_get rs c ≡ Some i → length (indices (last_of rank o m i)) ≤ length (tuples (last_of rank xs ys zs))
+length-product xs ys zs ps qs rs first second third rank one_first one_second from to a b c o m i o-at m-at i-at =
+    let x = AreCut-whole members_of xs ps (omega (arith, slice_get_within ps a o o-at)) first in
+    let y = AreCut-whole members_of ys qs (omega (arith, slice_get_within qs b m m-at)) second in
+    let z = AreCut-whole members_of zs rs (omega (arith, slice_get_within rs c i i-at)) third in
+    let num = number-at xs ys zs ps qs rs x y z rank in
+    omega
+    (arith, ap length (product-listed xs ys zs ps qs rs x y z a b c o m i o-at m-at i-at rank one_first one_second from to), length-filter (λ t. num t == (a * length qs + b) * length rs + c) (tuples (last_of rank xs ys zs)))

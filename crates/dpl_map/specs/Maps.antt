@@ -1,5 +1,5 @@
 -- Maps: a map deals out each dimension by a rule over an extent of a grid. The whole map deals out none.
-use Rattle.std.specs.Prelude.{◌≡◌, ℕ, List, [], ◌∷◌, ℤ, map, length, nat_eq, if◌then◌else◌, Contains, All, ◌≤ℤ◌}
+use Rattle.std.specs.Prelude.{◌≡◌, ℕ, List, [], ◌∷◌, ℤ, pos, map, length, nat_eq, if◌then◌else◌, Contains, All, ◌≤ℤ◌}
 use Rattle.dpl_range.specs.Range.{RangeValue, members_of}
 use Rattle.dpl_map.specs.Grids.{grid_size, grid_place}
 use Rattle.dpl_map.specs.Places.{block_place, cyclic_place, block_cyclic_place}
@@ -81,6 +81,10 @@ IsBlockMap _ _ _ = ⊥
 abbrev pub cyclic_map : List ℤ → List ℕ → List AxisValue
 cyclic_map (start ∷ starts) (n ∷ ns) = record { rule = Cyclic start; extent = n } ∷ cyclic_map starts ns
 cyclic_map _ _ = []
+
+-- a block has at least one index
+abbrev pub IsBlocksize : ℤ → Type 0
+IsBlocksize size = pos 1 ≤ℤ size
 
 -- block-cyclic: the same, each with its own size of a block
 abbrev pub block_cyclic_map : List ℤ → List ℤ → List ℕ → List AxisValue

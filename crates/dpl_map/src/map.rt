@@ -1,12 +1,12 @@
 // Maps: who owns an index.
 
-ghost use Rattle.std.specs.Prelude.{◌≡◌, ◌≢◌, ◌*◌, ◌≤◌, ◌<◌, ◌↔◌, List, [], ℕ, ℤ, Contains, length, All, IsTrue, IsOk, IfOk};
+ghost use Rattle.std.specs.Prelude.{◌≡◌, ◌≢◌, ◌*◌, ◌≤◌, ◌<◌, ◌↔◌, List, [], ℕ, ℤ, pos, Contains, length, All, IsTrue, IsOk, IfOk};
 ghost use Rattle.dpl_domain.specs.Indices.{indices, IsRank};
-ghost use Rattle.dpl_domain.specs.Ranks.{last_of};
+ghost use Rattle.dpl_domain.specs.Ranks.{last_of, IsPadded};
 ghost use Rattle.dpl_range.specs.Range.{RangeValue, IsBound};
 ghost use Rattle.dpl_map.specs.AxisFields.{IsAxis};
 ghost use Rattle.dpl_map.specs.MapFields.{IsMap};
-ghost use Rattle.dpl_map.specs.Maps.{owner, places, whole_map, cyclic_map, IsBlockMap};
+ghost use Rattle.dpl_map.specs.Maps.{owner, places, whole_map, cyclic_map, block_cyclic_map, IsBlocksize, IsBlockMap};
 ghost use Rattle.dpl_map.specs.Parts.{part};
 
 use crate::Grid;
@@ -29,6 +29,9 @@ pub enum MapFault {
     /// There are not as many dimensions as the grid has.
     #[error("the grid has another number of dimensions")]
     Rank,
+    /// A block is to have fewer than one index.
+    #[error("a block has at least one index")]
+    Blocksize,
 }
 
 /// Who owns an index, seen as the list of the map's axes: how each dimension is dealt out over an extent of a
@@ -47,7 +50,7 @@ impl Model for Map {
 
     ghost Value = { List AxisValue };
 
-    ghost use Rattle.dpl_domain.specs.Ranks.{last_of};
+    ghost use Rattle.dpl_domain.specs.Ranks.{last_of, IsPadded};
     ghost use Rattle.dpl_map.specs.MapFields.{IsMap, map_of, map_of-last_of};
 
     ghost view = { λ m. last_of m.rank m.outer m.middle m.inner };
@@ -118,6 +121,46 @@ impl Map {
             Axis::cyclic(second, middle),
             Axis::cyclic(last, inner),
         ))
+    }
+
+    /// Block-cyclic: each dimension goes round the places of the grid from a coordinate of the start, in blocks of a
+    /// size of its own.
+    pub fn block_cyclic(start: Index, sizes: Index, grid: Grid) -> Result<Map, MapFault>
+        ensures ok { IsOk result ↔ (All IsBound start × (length start ≡ length grid) × (length sizes ≡ length grid) × All IsBlocksize sizes) }
+        ensures held { IfOk result (λ axes. axes ≡ block_cyclic_map start sizes grid) }
+        ensures start { (result ≡ Err MapFault.Start) ↔ (¬ All IsBound start) }
+        ensures rank { (result ≡ Err MapFault.Rank) ↔ (All IsBound start × ¬ ((length start ≡ length grid) × (length sizes ≡ length grid))) }
+        ensures blocksize { (result ≡ Err MapFault.Blocksize) ↔ (All IsBound start × (length start ≡ length grid) × (length sizes ≡ length grid) × ¬ All IsBlocksize sizes) }
+    {
+        if !is_start(start) {
+            return Err(MapFault::Start);
+        }
+        if start.rank() != grid.rank() || sizes.rank() != grid.rank() {
+            return Err(MapFault::Rank);
+        }
+        if !are_sizes(sizes) {
+            return Err(MapFault::Blocksize);
+        }
+        Ok(Map::in_blocks(start, sizes, grid))
+    }
+
+    // The block-cyclic map from a start, in blocks of these sizes.
+    fn in_blocks(start: Index, sizes: Index, grid: Grid) -> Map
+        requires start { All IsBound start }
+        requires sizes { All IsBlocksize sizes }
+        requires rank { length start ≡ length grid }
+        requires rank_of_sizes { length sizes ≡ length grid }
+        ensures { result ≡ block_cyclic_map start sizes grid }
+    {
+        let (outer, middle, inner) = grid.extents();
+        let (first, second, last) = start.numbers();
+        let (high, wide, long) = padded_sizes(sizes);
+        Map::of(
+            start.rank(),
+            Axis::block_cyclic(first, high, outer),
+            Axis::block_cyclic(second, wide, middle),
+            Axis::block_cyclic(last, long, inner),
+        )
     }
 
     // The map with the last `rank` of three axes.
@@ -193,4 +236,40 @@ fn is_bound(i: i64) -> bool
     ensures { IsTrue result ↔ IsBound i }
 {
     -LIMIT <= i && i <= LIMIT
+}
+
+// The sizes of blocks as three numbers, the last one last. Those in front that an index does not have are 1.
+fn padded_sizes(sizes: Index) -> (i64, i64, i64)
+    ensures sizes { sizes ≡ last_of (length sizes) result.0 result.1 result.2 }
+    ensures unused { IsPadded (pos 1) (length sizes) result.0 result.1 }
+{
+    let (outer, middle, inner) = sizes.numbers();
+    match sizes.rank() {
+        1 => (1, 1, inner),
+        2 => (1, middle, inner),
+        _ => (outer, middle, inner),
+    }
+}
+
+// Whether each coordinate may be a bound of a range.
+fn is_start(start: Index) -> bool
+    ensures { IsTrue result ↔ All IsBound start }
+{
+    let (first, second, last) = start.numbers();
+    are_bounds(first, second, last)
+}
+
+// Whether each coordinate may be the size of a block.
+fn are_sizes(sizes: Index) -> bool
+    ensures { IsTrue result ↔ All IsBlocksize sizes }
+{
+    let (high, wide, long) = padded_sizes(sizes);
+    are_blocksizes(high, wide, long)
+}
+
+// Whether each of three numbers may be the size of a block.
+fn are_blocksizes(high: i64, wide: i64, long: i64) -> bool
+    ensures { IsTrue result ↔ (IsBlocksize high × IsBlocksize wide × IsBlocksize long) }
+{
+    1 <= high && 1 <= wide && 1 <= long
 }

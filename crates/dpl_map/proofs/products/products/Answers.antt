@@ -1,15 +1,14 @@
 -- Each number of a product is that of its three ranges, row by row.
-use Rattle.std.proofs.Common.{◌≡◌, ◌<◌, ◌+◌, ◌*◌, ◌/◌, ◌%◌, ◌==◌, ◌++◌, [], ◌∷◌, ℕ, ℤ, List, length, slice_get, Some, nat_lt, filter, ap, sym, subst, ◌∙◌, arith, ⊎_elim}
+use Rattle.std.proofs.Common.{◌≡◌, ◌<◌, ◌*◌, ◌/◌, ◌%◌, ◌==◌, [], length, slice_get, Some, filter, ap, sym, ◌∙◌, arith, ⊎_elim}
 use Rattle.std.proofs.lemmas.Bool.{cases_lt}
 use Rattle.std.proofs.lemmas.List.{nil_from_length}
 use Rattle.std.proofs.lemmas.Option.{slice_get-get_or}
-use Rattle.dpl_range.specs.Range.{RangeValue, members_of}
+use Rattle.dpl_range.specs.Range.{members_of}
 use Rattle.dpl_domain.specs.Indices.{tuples, indices}
 use Rattle.dpl_domain.specs.Ranks.{last_of}
-use Rattle.dpl_map.specs.Cuts.{AreCut}
 use Rattle.dpl_map.proofs.CutLemmas.{AreCut-none, AreCut-begin, AreCut-more, AreCut-end, All-each, length-push}
 use Rattle.dpl_map.proofs.PartLemmas.{IsSeat, seat}
-use Rattle.dpl_map.proofs.ProductCuts.{IsCutWhole, AreCut-whole, number-at, number-below, product-listed, some-each, tuples-nothing}
+use Rattle.dpl_map.proofs.ProductCuts.{AreCut-whole, number-at, number-below, product-listed, some-each, tuples-nothing}
 use Rattle.dpl_map.proofs.products.products.Goals as goal
 use Rattle.dpl_map.proofs.products.products.Goals.{In-loop-k, After-index-inners-k}
 
@@ -25,10 +24,9 @@ bounds-outers-k c = (seated c).outer
 
 pub loop-k-init : goal.loop-k-init
 loop-k-init c =
-    rw c.in_ok-domains.ensures.items
-    (
+    rw c.in_ok-domains.ensures.items (
       (λ xs ys zs first second third.
-      AreCut-begin indices (number-at xs ys zs c.args.outers.now c.args.middles.now c.args.inners.now first second third c.args.rank) (tuples (last_of c.args.rank xs ys zs))),
+          AreCut-begin indices (number-at xs ys zs c.args.outers.now c.args.middles.now c.args.inners.now first second third c.args.rank) (tuples (last_of c.args.rank xs ys zs))),
       omega arith,
     )
 
@@ -54,17 +52,16 @@ loop-k-preserved c =
     let k = c.loop-k.k in
     let m = length c.args.middles.now in
     let n = length c.args.inners.now in
-    rw c.in_ok-push.ensures.items
-    (
+    rw c.in_ok-push.ensures.items (
       (λ xs ys zs first second third.
-      let num = number-at xs ys zs c.args.outers.now c.args.middles.now c.args.inners.now first second third c.args.rank in
-      let lists : indices c.product-domain.result ≡ filter (λ t. num t == k) (tuples (last_of c.args.rank xs ys zs)) =
-      ap indices c.product-domain.ensures
-      ∙ product-listed xs ys zs c.args.outers.now c.args.middles.now c.args.inners.now first second third (k / n / m) (k / n % m) (k % n)
-      c.index-outers-k.result c.index-middles-k.result c.index-inners-k.result (outer-at d) (middle-at d) (inner-at d)
-      c.args.rank c.requires.one_outer c.requires.one_middle c.requires.from_one c.requires.to_three
-      ∙ ap (λ j. filter (λ t. num t == j) (tuples (last_of c.args.rank xs ys zs))) s.place in
-      AreCut-more indices num (tuples (last_of c.args.rank xs ys zs)) c.loop-k.domains.items k c.product-domain.result (c.loop-k.invariant.0 xs ys zs first second third) lists),
+          let num = number-at xs ys zs c.args.outers.now c.args.middles.now c.args.inners.now first second third c.args.rank in
+          let lists : indices c.product-domain.result ≡ filter (λ t. num t == k) (tuples (last_of c.args.rank xs ys zs)) =
+          ap indices c.product-domain.ensures
+          ∙ product-listed xs ys zs c.args.outers.now c.args.middles.now c.args.inners.now first second third (k / n / m) (k / n % m) (k % n)
+          c.index-outers-k.result c.index-middles-k.result c.index-inners-k.result (outer-at d) (middle-at d) (inner-at d)
+          c.args.rank c.requires.one_outer c.requires.one_middle c.requires.from_one c.requires.to_three
+          ∙ ap (λ j. filter (λ t. num t == j) (tuples (last_of c.args.rank xs ys zs))) s.place in
+          AreCut-more indices num (tuples (last_of c.args.rank xs ys zs)) c.loop-k.domains.items k c.product-domain.result (c.loop-k.invariant.0 xs ys zs first second third) lists),
       omega (arith, c.loop-k.invariant.1, length-push c.loop-k.domains.items c.product-domain.result),
     )
 

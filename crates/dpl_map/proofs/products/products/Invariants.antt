@@ -1,5 +1,5 @@
 -- The products so far are cut out of the tuples of their numbers, whatever lists the ranges are cut out of.
-use Rattle.std.proofs.Common.{◌≡◌, ◌<◌, ◌*◌, ℕ, ℤ, List, filter, length, nat_lt}
+use Rattle.std.proofs.Common.{◌≡◌, ℤ, List, filter, length, nat_lt}
 use Rattle.dpl_range.specs.Range.{members_of}
 use Rattle.dpl_domain.specs.Indices.{tuples, indices}
 use Rattle.dpl_domain.specs.Ranks.{last_of}
