@@ -1,5 +1,7 @@
 // Rows of the language's maps, by tables of what is handed in and what must come out.
 
+mod blocks;
+
 use crate::{Grid, GridFault, Map, MapFault};
 use dpl_domain::{Domain, Index};
 use dpl_range::Range;
