@@ -1,0 +1,135 @@
+-- The members of a range by the blocks that a place gets.
+use Rattle.std.proofs.Common.{◌≡◌, ◌<◌, ◌≤◌, ◌+◌, ◌-◌, ◌*◌, ◌/◌, ◌%◌, ◌==◌, ◌&&◌, ℕ, true, ℤ, pos, negsuc, ◌+ℤ◌, ◌-ℤ◌, ◌≤ℤ◌, int_le, List, [], ◌∷◌, ◌++◌, filter, length, All, refl, ap, sym, ◌∙◌, arith}
+use Rattle.std.proofs.lemmas.Int.{ints}
+use Rattle.std.proofs.lemmas.Bool.{eq-eqb, eqb-true, and_from, and_parts}
+use Rattle.std.proofs.lemmas.Nat.{mod_below, mul-add-lt}
+use Rattle.std.proofs.lemmas.List.Elements.{All-weaker}
+use Rattle.std.proofs.Math.Nat.{mul_comm, div-add-mod, div-mul-le_self, le-div_iff_mul-le}
+use Rattle.dpl_range.specs.Congruence.{is_congruent}
+use Rattle.dpl_range.specs.Members.{count_of}
+use Rattle.dpl_range.specs.Range.{RangeValue, members_of}
+use Rattle.dpl_range.proofs.MemberLemmas.{members-within}
+use Rattle.dpl_map.specs.Places.{block_cyclic_place}
+use Rattle.dpl_map.specs.Cuts.{behind}
+use Rattle.dpl_map.specs.Blocks.{past, block_number, block_offset, BeginsRound, IsDeal}
+use Rattle.dpl_map.proofs.CutLemmas.{filter-filter, filter-same, All-each, All-filter_passed, same_test}
+use Rattle.dpl_map.proofs.BlockLemmas.{block_cyclic_place-past, congruent-past, left-of_round, in-block, block-of_round}
+
+-- one piece more at the most
+pub length-behind : {X P : Type 0} (xs : List X) (p : P) (pieces : List P) → length (behind xs p pieces) ≤ length pieces + 1
+length-behind [] p pieces = omega arith
+length-behind (x ∷ xs) p pieces = go pieces
+  where
+    go : (ps : List _) → length (ps ++ p ∷ []) ≤ length ps + 1
+    go [] = omega arith
+    go (q ∷ ps) = let e = go ps in omega (arith, e)
+
+-- a whole number that isn't negative is as many as it counts
+count_of-natural : (z : ℤ) → pos 0 ≤ℤ z → pos (count_of z) ≡ z
+count_of-natural (pos n) some = refl
+count_of-natural (negsuc n) some = absurd (omega (arith, ints, some))
+
+-- a greater whole number counts no less
+count_of-le : (y z : ℤ) → y ≤ℤ z → count_of y ≤ count_of z
+count_of-le (pos m) (pos n) before = omega (arith, ints, before)
+count_of-le (pos m) (negsuc n) before = absurd (omega (arith, ints, before))
+count_of-le (negsuc m) (pos n) before = omega arith
+count_of-le (negsuc m) (negsuc n) before = omega arith
+
+-- a test by two bounds
+passes : (from to i : ℤ) → from ≤ℤ i → i ≤ℤ to → (int_le from i && int_le i to) ≡ true
+passes from to i low high = grind (arith, ints)
+
+passed : (from to i : ℤ) → (int_le from i && int_le i to) ≡ true → (from ≤ℤ i) × (i ≤ℤ to)
+passed from to i held = (grind (arith, ints), grind (arith, ints))
+
+module _ (r : RangeValue) (origin : ℤ) (size extent place : ℕ) (deal : IsDeal r origin size extent place) where
+  -- the members lie past the origin
+  pub members-past : All (λ i. (i ≡ origin +ℤ pos (past origin i)) × (i ≤ℤ r.high)) (members_of r)
+  members-past =
+      All-weaker (λ i. (r.low ≤ℤ i) × (i ≤ℤ r.high)) (λ i. (i ≡ origin +ℤ pos (past origin i)) × (i ≤ℤ r.high))
+      (λ i w. (at i w.0, w.1)) (members_of r) (members-within r deal.limits)
+    where
+      at : (i : ℤ) → r.low ≤ℤ i → i ≡ origin +ℤ pos (past origin i)
+      at i low = omega (arith, ints, count_of-natural (i -ℤ origin) (omega (arith, ints, low, deal.begins)))
+
+  -- those that the rule deals to the place are in its blocks
+  pub place-members : (start : ℤ) → BeginsRound start (extent * size) origin → filter (λ i. block_cyclic_place start (pos size) extent i == place) (members_of r) ≡ filter (λ i. block_number origin size i % extent == place) (members_of r)
+  place-members start begins =
+      filter-same (λ i. block_cyclic_place start (pos size) extent i == place) (λ i. block_number origin size i % extent == place) (members_of r)
+      (All-weaker (λ i. (i ≡ origin +ℤ pos (past origin i)) × (i ≤ℤ r.high)) (λ i. (block_cyclic_place start (pos size) extent i == place) ≡ (block_number origin size i % extent == place))
+      (λ i w. ap (λ x. x == place) (block_cyclic_place-past start origin i size extent (past origin i) deal.some (omega (arith, deal.among)) begins w.0))
+      (members_of r) members-past)
+
+  -- those between the ends of a block are in it
+  pub between-members : (number : ℕ) → filter (λ i. int_le (origin +ℤ pos (number * size)) i && int_le i (origin +ℤ pos (number * size) +ℤ pos (size - 1))) (members_of r) ≡ filter (λ i. block_number origin size i == number) (members_of r)
+  between-members number =
+      filter-same (λ i. int_le (origin +ℤ pos (number * size)) i && int_le i (origin +ℤ pos (number * size) +ℤ pos (size - 1))) (λ i. block_number origin size i == number) (members_of r)
+      (All-weaker (λ i. (i ≡ origin +ℤ pos (past origin i)) × (i ≤ℤ r.high)) (λ i. (int_le (origin +ℤ pos (number * size)) i && int_le i (origin +ℤ pos (number * size) +ℤ pos (size - 1))) ≡ (block_number origin size i == number))
+      (λ i w.
+      let e = in-block size (past origin i) number deal.some in
+      let low = origin +ℤ pos (number * size) in
+      let high = origin +ℤ pos (number * size) +ℤ pos (size - 1) in
+      same_test (int_le low i && int_le i high) (block_number origin size i == number)
+      (λ held. let h = passed low high i held in eq-eqb (block_number origin size i) number (e.1 (omega (arith, ints, h.0, w.0), omega (arith, ints, h.1, w.0))))
+      (λ held. let h = e.0 (eqb-true (block_number origin size i) number held) in passes low high i (omega (arith, ints, h.0, w.0)) (omega (arith, ints, h.1, w.0))))
+      (members_of r) members-past)
+
+  -- a place's block in a round
+  pub block-members : (j : ℕ) → filter (λ i. block_number origin size i == j * extent + place) (members_of r) ≡ filter (λ i. block_number origin size i / extent == j) (filter (λ i. block_number origin size i % extent == place) (members_of r))
+  block-members j =
+      filter-same (λ i. block_number origin size i == j * extent + place) (λ i. (block_number origin size i % extent == place) && (block_number origin size i / extent == j)) (members_of r)
+      (All-each (λ i. (block_number origin size i == j * extent + place) ≡ ((block_number origin size i % extent == place) && (block_number origin size i / extent == j)))
+      (λ i.
+      let e = block-of_round extent place j (block_number origin size i) deal.among in
+      let number = block_number origin size i in
+      same_test (number == j * extent + place) ((number % extent == place) && (number / extent == j))
+      (λ held.
+      let h = e.1 (eqb-true number (j * extent + place) held) in
+      and_from (number % extent == place) (number / extent == j) (eq-eqb (number % extent) place h.0) (eq-eqb (number / extent) j h.1))
+      (λ held.
+      let h = and_parts (number % extent == place) (number / extent == j) held in
+      eq-eqb number (j * extent + place) (e.0 (eqb-true (number % extent) place h.0, eqb-true (number / extent) j h.1))))
+      (members_of r))
+      ∙ sym (filter-filter (λ i. block_number origin size i / extent == j) (λ i. block_number origin size i % extent == place) (members_of r))
+
+  -- and all of them are in the rounds up to the high bound
+  pub blocks-end : (rounds : ℕ) → ((j : ℕ) → j * extent + place ≤ block_number origin size r.high → j < rounds) → All (λ i. block_number origin size i / extent < rounds) (filter (λ i. block_number origin size i % extent == place) (members_of r))
+  blocks-end rounds enough =
+      All-filter_passed (λ i. block_number origin size i / extent < rounds) (λ i. block_number origin size i % extent == place) (members_of r)
+      (All-weaker (λ i. (i ≡ origin +ℤ pos (past origin i)) × (i ≤ℤ r.high)) (λ i. (block_number origin size i % extent == place) ≡ true → block_number origin size i / extent < rounds)
+      (λ i w held.
+      let number = block_number origin size i in
+      let split : number / extent * extent + place ≡ number =
+      omega (arith, div-add-mod number extent, mul_comm extent (number / extent), eqb-true (number % extent) place held) in
+      let before : number ≤ block_number origin size r.high =
+      (le-div_iff_mul-le {k = size} {x = number} {y = past origin r.high} deal.some).1
+      (omega (arith, div-mul-le_self (past origin i) size, count_of-le (i -ℤ origin) (r.high -ℤ origin) (omega (arith, ints, w.1)))) in
+      enough (number / extent) (omega (arith, split, before)))
+      (members_of r) members-past)
+
+  -- those of one offset are a class of congruence
+  pub offset-members : (start : ℤ) (offset : ℕ) → BeginsRound start (extent * size) origin → offset < size → filter (is_congruent (extent * size) (start +ℤ pos (place * size + offset))) (members_of r) ≡ filter (λ i. block_offset origin size i == offset) (filter (λ i. block_number origin size i % extent == place) (members_of r))
+  offset-members start offset begins within =
+      filter-same (is_congruent (extent * size) (start +ℤ pos (place * size + offset))) (λ i. (block_number origin size i % extent == place) && (block_offset origin size i == offset)) (members_of r)
+      (All-weaker (λ i. (i ≡ origin +ℤ pos (past origin i)) × (i ≤ℤ r.high)) (λ i. is_congruent (extent * size) (start +ℤ pos (place * size + offset)) i ≡ ((block_number origin size i % extent == place) && (block_offset origin size i == offset)))
+      (λ i w.
+      let m = past origin i in
+      let short : place * size + offset < extent * size = omega (arith, mul_comm size extent, mul-add-lt place size offset extent deal.among within) in
+      let e = congruent-past start origin i (extent * size) (place * size + offset) m short begins w.0 in
+      let f = left-of_round size extent m place offset deal.some (omega (arith, deal.among)) within in
+      let number = block_number origin size i in
+      same_test (is_congruent (extent * size) (start +ℤ pos (place * size + offset)) i) ((number % extent == place) && (block_offset origin size i == offset))
+      (λ held.
+      let h = f.0 (e.0 held) in
+      and_from (number % extent == place) (block_offset origin size i == offset) (eq-eqb (number % extent) place h.0) (eq-eqb (block_offset origin size i) offset h.1))
+      (λ held.
+      let h = and_parts (number % extent == place) (block_offset origin size i == offset) held in
+      e.1 (f.1 (eqb-true (number % extent) place h.0, eqb-true (block_offset origin size i) offset h.1))))
+      (members_of r) members-past)
+      ∙ sym (filter-filter (λ i. block_offset origin size i == offset) (λ i. block_number origin size i % extent == place) (members_of r))
+
+  -- and all of them have an offset below the size
+  pub offsets-end : All (λ i. block_offset origin size i < size) (filter (λ i. block_number origin size i % extent == place) (members_of r))
+  offsets-end =
+      All-each (λ i. block_offset origin size i < size) (λ i. mod_below (past origin i) size deal.some) (filter (λ i. block_number origin size i % extent == place) (members_of r))

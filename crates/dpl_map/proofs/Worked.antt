@@ -1,0 +1,74 @@
+-- Worked rows of the definitions, each by computation.
+use Rattle.std.proofs.Common.{◌≡◌, ℤ, pos, negsuc, List, [], ◌∷◌, refl, map}
+use Rattle.dpl_range.specs.Members.{members}
+use Rattle.dpl_range.specs.Range.{RangeValue}
+use Rattle.dpl_domain.specs.Indices.{indices}
+use Rattle.dpl_map.specs.Maps.{AxisValue, owner, cyclic_map, block_cyclic_map, Block}
+use Rattle.dpl_map.specs.Parts.{part}
+use Rattle.dpl_map.specs.Places.{block_place, cyclic_place, block_cyclic_place}
+
+-- box 1..8 over three places
+block_of_eight : map (block_place (pos 1) (pos 8) 3) (pos 1 ∷ pos 3 ∷ pos 4 ∷ pos 6 ∷ pos 7 ∷ pos 8 ∷ []) ≡ 0 ∷ 0 ∷ 1 ∷ 1 ∷ 2 ∷ 2 ∷ []
+unfolding block_place
+block_of_eight = refl
+
+-- box 1..4 over three places
+block_of_four : map (block_place (pos 1) (pos 4) 3) (pos 1 ∷ pos 2 ∷ pos 3 ∷ pos 4 ∷ []) ≡ 0 ∷ 0 ∷ 1 ∷ 2 ∷ []
+unfolding block_place
+block_of_four = refl
+
+-- below the box 3..4 and above it
+outside_the_box : map (block_place (pos 3) (pos 4) 2) (pos 1 ∷ pos 3 ∷ pos 4 ∷ pos 6 ∷ []) ≡ 0 ∷ 0 ∷ 1 ∷ 1 ∷ []
+unfolding block_place
+outside_the_box = refl
+
+-- the box -2^60..2^60 over 64 places
+widest_box : map (block_place (negsuc 1152921504606846975) (pos 1152921504606846976) 64) (pos 0 ∷ pos 1152921504606846976 ∷ []) ≡ 31 ∷ 63 ∷ []
+unfolding block_place
+widest_box = refl
+
+-- from the start 2^60 over three places
+cyclic_far_below : cyclic_place (pos 1152921504606846976) 3 (negsuc 1152921504606846975) ≡ 1
+unfolding cyclic_place
+cyclic_far_below = refl
+
+-- from 1 in blocks of 2 over two places, below the start too
+blocks_of_two : map (block_cyclic_place (pos 1) (pos 2) 2) (negsuc 1 ∷ negsuc 0 ∷ pos 0 ∷ pos 1 ∷ pos 2 ∷ pos 3 ∷ pos 4 ∷ pos 5 ∷ []) ≡ 0 ∷ 1 ∷ 1 ∷ 0 ∷ 0 ∷ 1 ∷ 1 ∷ 0 ∷ []
+unfolding block_cyclic_place
+blocks_of_two = refl
+
+-- the box {1..4, 1..6} on a grid 2x3
+boxes : List AxisValue
+boxes = record { rule = Block (pos 1) (pos 4); extent = 2 } ∷ record { rule = Block (pos 1) (pos 6); extent = 3 } ∷ []
+
+owner_on_a_grid : map (owner boxes) ((pos 3 ∷ pos 4 ∷ []) ∷ (pos 0 ∷ pos 7 ∷ []) ∷ []) ≡ 4 ∷ 2 ∷ []
+unfolding owner block_place boxes
+owner_on_a_grid = refl
+
+-- a tuple of another rank
+owner_of_another_rank : owner boxes (pos 4 ∷ []) ≡ 0
+unfolding owner block_place boxes
+owner_of_another_rank = refl
+
+range : ℤ → ℤ → ℤ → RangeValue
+range low high stride = record { low = low; high = high; stride = stride }
+
+-- from 1 over three places, the domain `0..9 by 2`
+cyclic_parts : map (part (range (pos 0) (pos 9) (pos 2) ∷ []) (cyclic_map (pos 1 ∷ []) (3 ∷ []))) (0 ∷ 1 ∷ 2 ∷ 3 ∷ []) ≡ ((pos 4 ∷ []) ∷ []) ∷ ((pos 2 ∷ []) ∷ (pos 8 ∷ []) ∷ []) ∷ ((pos 0 ∷ []) ∷ (pos 6 ∷ []) ∷ []) ∷ [] ∷ []
+unfolding part owner cyclic_place indices members range
+cyclic_parts = refl
+
+-- box 1..12 over three places, the domain `1..12 by 5`
+block_parts : map (part (range (pos 1) (pos 12) (pos 5) ∷ []) (record { rule = Block (pos 1) (pos 12); extent = 3 } ∷ [])) (0 ∷ 1 ∷ 2 ∷ []) ≡ ((pos 1 ∷ []) ∷ []) ∷ ((pos 6 ∷ []) ∷ []) ∷ ((pos 11 ∷ []) ∷ []) ∷ []
+unfolding part owner block_place indices members range
+block_parts = refl
+
+-- from 1 in blocks of 2 over two places, the domain 1..8
+block_cyclic_parts : map (part (range (pos 1) (pos 8) (pos 1) ∷ []) (block_cyclic_map (pos 1 ∷ []) (pos 2 ∷ []) (2 ∷ []))) (0 ∷ 1 ∷ []) ≡ ((pos 1 ∷ []) ∷ (pos 2 ∷ []) ∷ (pos 5 ∷ []) ∷ (pos 6 ∷ []) ∷ []) ∷ ((pos 3 ∷ []) ∷ (pos 4 ∷ []) ∷ (pos 7 ∷ []) ∷ (pos 8 ∷ []) ∷ []) ∷ []
+unfolding part owner block_cyclic_place indices members range
+block_cyclic_parts = refl
+
+-- the whole map
+whole_parts : map (part (range (pos 1) (pos 2) (pos 1) ∷ []) []) (0 ∷ 1 ∷ []) ≡ ((pos 1 ∷ []) ∷ (pos 2 ∷ []) ∷ []) ∷ [] ∷ []
+unfolding part owner indices members range
+whole_parts = refl

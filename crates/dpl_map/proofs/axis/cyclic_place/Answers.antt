@@ -1,0 +1,22 @@
+-- The remainder of the difference.
+use Rattle.std.proofs.Common.{rules, ◌≡◌, ap, ◌∙◌, arith, ◌-ℤ◌, ℤ, pos, FitsSigned, w64, unsigned_abs}
+use Rattle.std.specs.Int.{int_rem_euclid, w128}
+use Rattle.std.proofs.lemmas.Int.{ints, to_z-of_z, to_z_pos}
+use Rattle.dpl_map.specs.Places.{cyclic_place}
+use Rattle.dpl_map.proofs.PlaceLemmas.{size-rem}
+use Rattle.dpl_map.proofs.axis.cyclic_place.Goals as goal
+
+pub returns-clause-place : goal.returns-clause-place
+unfolding cyclic_place
+returns-clause-place c =
+    let i_fits : FitsSigned w64 c.args.i = c.ranges.i in
+    let start_fits : FitsSigned w64 c.args.start = c.ranges.start in
+    let i_wide : FitsSigned w128 c.args.i = search (rules, ints) in
+    let start_wide : FitsSigned w128 c.args.start = search (rules, ints) in
+    let wide : FitsSigned w128 (c.args.i -ℤ c.args.start) = search (rules, ints) in
+    let result_wide : FitsSigned w128 c.rem_euclid.result = search rules in
+    let value = simp to_z-of_z at c.rem_euclid.ensures.value in
+    let extent = to_z_pos w128 c.args.extent (omega arith) in
+    let is : c.rem_euclid.result ≡ int_rem_euclid (c.args.i -ℤ c.args.start) (pos c.args.extent) =
+    value ∙ ap (λ (n : ℤ). int_rem_euclid (c.args.i -ℤ c.args.start) n) extent in
+    simp to_z-of_z (ap unsigned_abs is ∙ size-rem (c.args.i -ℤ c.args.start) c.args.extent)

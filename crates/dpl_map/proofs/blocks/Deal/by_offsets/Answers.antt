@@ -1,0 +1,36 @@
+-- Offset by offset, the members that lie there are cut out.
+use Rattle.std.proofs.Common.{◌<◌, ◌+◌, ◌%◌, ◌==◌, ap, sym, subst, filter, length, nat_lt, arith}
+use Rattle.std.proofs.lemmas.List.Elements.{All-weaker}
+use Rattle.dpl_range.specs.Range.{members_of}
+use Rattle.dpl_map.specs.Cuts.{AreCut}
+use Rattle.dpl_map.specs.Blocks.{block_number, block_offset}
+use Rattle.dpl_map.proofs.CutLemmas.{AreCut-begin, AreCut-behind, AreCut-end}
+use Rattle.dpl_map.proofs.DealLemmas.{length-behind, offsets-end}
+use Rattle.dpl_map.proofs.blocks.Deal.by_offsets.Goals as goal
+
+pub loop-offset-init : goal.loop-offset-init
+loop-offset-init c =
+    let deal = c.args.self.now in
+    rw c.new-pieces.ensures.items (
+      AreCut-begin members_of (block_offset deal.origin deal.size) (filter (λ i. block_number deal.origin deal.size i % deal.extent == deal.place) (members_of deal.range)),
+      omega arith,
+    )
+
+pub loop-offset-preserved : goal.loop-offset-preserved
+loop-offset-preserved c =
+    let deal = c.args.self.now in
+    let dealt = filter (λ i. block_number deal.origin deal.size i % deal.extent == deal.place) (members_of deal.range) in
+    let lists = c.offset.ensures in
+    let cut = AreCut-behind members_of (block_offset deal.origin deal.size) dealt c.loop-offset.pieces.items c.loop-offset.offset c.offset.result c.loop-offset.invariant.0 lists in (
+      subst (λ pieces. AreCut members_of (filter (λ i. nat_lt (block_offset deal.origin deal.size i) (c.loop-offset.offset + 1)) dealt) pieces) (sym c.in_ok-keep.ensures) cut,
+      omega (arith, ap length c.in_ok-keep.ensures, length-behind (members_of c.offset.result) c.offset.result c.loop-offset.pieces.items, c.loop-offset.invariant.1),
+    )
+
+pub returns-clause-cut : goal.returns-clause-cut
+returns-clause-cut c =
+    let deal = c.args.self.now in
+    let dealt = filter (λ i. block_number deal.origin deal.size i % deal.extent == deal.place) (members_of deal.range) in
+    AreCut-end members_of (block_offset deal.origin deal.size) dealt c.loop-offset.offset c.loop-offset.pieces.items
+    (All-weaker (λ i. block_offset deal.origin deal.size i < deal.size) (λ i. block_offset deal.origin deal.size i < c.loop-offset.offset) (λ i below. omega (arith, below, c.loop-offset-test.false)) dealt
+    (offsets-end deal.range deal.origin deal.size deal.extent deal.place c.requires.deal))
+    c.loop-offset.invariant.0

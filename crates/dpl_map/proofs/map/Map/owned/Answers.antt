@@ -1,0 +1,113 @@
+-- The place's coordinates, and what is owned by it.
+use Rattle.std.proofs.Common.{◌≡◌, ◌≤◌, ◌<◌, ◌*◌, ◌/◌, ◌%◌, ap, sym, subst, ◌∙◌, refl, arith, length, ℕ, List, IfOk}
+use Rattle.dpl_range.specs.Range.{RangeValue, members_of}
+use Rattle.dpl_domain.specs.Indices.{tuples, indices}
+use Rattle.dpl_domain.specs.Ranks.{last_of}
+use Rattle.dpl_map.specs.Cuts.{AreCut}
+use Rattle.dpl_map.specs.MapFields.{IsMap}
+use Rattle.dpl_map.specs.Maps.{AxisValue, places, AreSingle}
+use Rattle.dpl_map.specs.Parts.{part}
+use Rattle.dpl_map.proofs.OwnerLemmas.{places-padded}
+use Rattle.dpl_map.proofs.PartLemmas.{IsSeat, seat, owned_of, tuples-part, part-small}
+use Rattle.dpl_map.proofs.ProductCuts.{length-product}
+use Rattle.dpl_map.proofs.MapLemmas.{single-idle, AreSingle-last_of}
+use Rattle.std.proofs.lemmas.Result.{IfOk-weaker}
+use Rattle.dpl_map.proofs.map.Map.owned.Goals as goal
+use Rattle.dpl_map.proofs.map.Map.owned.Goals.{After-deref-3}
+
+seated : (axes : List AxisValue) (locale rank : ℕ) (o m i : AxisValue) → axes ≡ last_of rank o m i → IsMap rank o m i → locale < places axes → IsSeat locale o.extent m.extent i.extent (locale / i.extent / m.extent) (locale / i.extent % m.extent) (locale % i.extent)
+seated axes locale rank o m i is limits below =
+    seat locale o.extent m.extent i.extent limits.middle_limits.extent.0 limits.inner_limits.extent.0
+    (omega (arith, ap places is ∙ places-padded rank o m i limits, below))
+
+pub parts-requires : goal.parts-requires
+parts-requires c =
+    let s =
+    seated c.args.self.now c.args.locale (length c.args.self.now) c.axes-outer.result.0 c.axes-outer.result.1 c.axes-outer.result.2
+    c.axes-outer.ensures.axes c.axes-outer.ensures.limits c.requires.locale in
+    rw (c.extent.ensures.extent, c.extent-2.ensures.extent) s.outer
+
+-- the coordinates of the locale
+abbrev plane : After-deref-3 → ℕ
+plane c = c.args.locale / c.axes-outer.result.2.extent / c.axes-outer.result.1.extent
+
+abbrev row : After-deref-3 → ℕ
+row c = c.args.locale / c.axes-outer.result.2.extent % c.axes-outer.result.1.extent
+
+abbrev column : After-deref-3 → ℕ
+column c = c.args.locale % c.axes-outer.result.2.extent
+
+-- the three dimensions are cut out of what the locale owns of them
+outer-cut : (c : After-deref-3) → AreCut members_of (owned_of c.axes-outer.result.0 (plane c) c.padded-first.result.0) c.deref.result.now
+outer-cut c =
+    let cut = rw (c.extent.ensures.extent, c.extent-2.ensures.extent) at c.in_ok-outers.ensures.cut in
+    subst (λ ranges. AreCut members_of (owned_of c.axes-outer.result.0 (plane c) c.padded-first.result.0) ranges) (sym c.deref.ensures.value) cut
+
+middle-cut : (c : After-deref-3) → AreCut members_of (owned_of c.axes-outer.result.1 (row c) c.padded-first.result.1) c.deref-2.result.now
+middle-cut c =
+    let cut = rw (c.extent.ensures.extent, c.extent-3.ensures.extent) at c.in_ok-middles.ensures.cut in
+    subst (λ ranges. AreCut members_of (owned_of c.axes-outer.result.1 (row c) c.padded-first.result.1) ranges) (sym c.deref-2.ensures.value) cut
+
+inner-cut : (c : After-deref-3) → AreCut members_of (owned_of c.axes-outer.result.2 (column c) c.padded-first.result.2) c.deref-3.result.now
+inner-cut c =
+    let cut = rw c.extent-4.ensures.extent at c.in_ok-inners.ensures.cut in
+    subst (λ ranges. AreCut members_of (owned_of c.axes-outer.result.2 (column c) c.padded-first.result.2) ranges) (sym c.deref-3.ensures.value) cut
+
+-- together their tuples are the part
+tuples-owned : (c : After-deref-3) → tuples (last_of c.rank.result (owned_of c.axes-outer.result.0 (plane c) c.padded-first.result.0) (owned_of c.axes-outer.result.1 (row c) c.padded-first.result.1) (owned_of c.axes-outer.result.2 (column c) c.padded-first.result.2)) ≡ part c.args.domain.now c.args.self.now c.args.locale
+tuples-owned c =
+    let limits = c.axes-outer.ensures.limits in
+    let s =
+    seated c.args.self.now c.args.locale (length c.args.self.now) c.axes-outer.result.0 c.axes-outer.result.1 c.axes-outer.result.2
+    c.axes-outer.ensures.axes limits c.requires.locale in
+    let domain = c.padded-first.ensures.ranges ∙ ap (λ (n : ℕ). last_of n c.padded-first.result.0 c.padded-first.result.1 c.padded-first.result.2) c.requires.rank in
+    let rank = c.rank.ensures.rank ∙ c.requires.rank in
+    let some : 1 ≤ length c.args.self.now = omega (arith, c.rank.ensures.limits.0, c.requires.rank) in
+    ap (λ (n : ℕ). tuples (last_of n (owned_of c.axes-outer.result.0 (plane c) c.padded-first.result.0) (owned_of c.axes-outer.result.1 (row c) c.padded-first.result.1) (owned_of c.axes-outer.result.2 (column c) c.padded-first.result.2))) rank
+    ∙ tuples-part c.axes-outer.result.0 c.axes-outer.result.1 c.axes-outer.result.2 limits.outer_limits limits.middle_limits limits.inner_limits
+    (plane c) (row c) (column c) c.args.locale s.outer s.middle s.inner s.place
+    c.padded-first.result.0 c.padded-first.result.1 c.padded-first.result.2 (length c.args.self.now) limits some
+    ∙ sym (ap (λ (d : List RangeValue). part d (last_of (length c.args.self.now) c.axes-outer.result.0 c.axes-outer.result.1 c.axes-outer.result.2) c.args.locale) domain)
+    ∙ sym (ap (λ (axes : List AxisValue). part c.args.domain.now axes c.args.locale) c.axes-outer.ensures.axes)
+
+-- below rank 3 the dimensions in front have one range
+one-outer : (c : After-deref-3) → c.rank.result < 3 → length c.deref.result.now ≡ 1
+one-outer c below =
+    ap length c.deref.ensures.value
+    ∙ c.in_ok-outers.ensures.one (single-idle c.axes-outer.result.0 (c.axes-outer.ensures.limits.first (omega (arith, below, c.rank.ensures.rank, c.requires.rank))))
+
+one-middle : (c : After-deref-3) → c.rank.result < 2 → length c.deref-2.result.now ≡ 1
+one-middle c below =
+    ap length c.deref-2.ensures.value
+    ∙ c.in_ok-middles.ensures.one (single-idle c.axes-outer.result.1 (c.axes-outer.ensures.limits.second (omega (arith, below, c.rank.ensures.rank, c.requires.rank))))
+
+pub products-requires-clause-small : goal.products-requires-clause-small
+products-requires-clause-small c =
+    let d = (goal.at.products-requires-clause-small c).After-deref-3 in
+    λ a b k o m i o-at m-at i-at.
+    let few =
+    length-product (owned_of c.axes-outer.result.0 (plane d) c.padded-first.result.0) (owned_of c.axes-outer.result.1 (row d) c.padded-first.result.1) (owned_of c.axes-outer.result.2 (column d) c.padded-first.result.2)
+    c.deref.result.now c.deref-2.result.now c.deref-3.result.now (outer-cut d) (middle-cut d) (inner-cut d) c.rank.result (one-outer d) (one-middle d)
+    (omega (arith, c.rank.ensures.limits.0, c.rank.ensures.rank)) (omega (arith, c.rank.ensures.limits.1, c.rank.ensures.rank)) a b k o m i o-at m-at i-at in
+    omega (arith, few, ap length (tuples-owned d), part-small c.args.domain.now c.args.self.now c.args.locale, c.requires.small)
+
+pub returns-clause-cut : goal.returns-clause-cut
+returns-clause-cut c =
+    let d = (goal.at.returns-clause-cut c).After-deref-3 in
+    subst (λ ts. IfOk c.products.result (λ v. AreCut indices ts v.items)) (tuples-owned d)
+    (c.products.ensures.cut (owned_of c.axes-outer.result.0 (plane d) c.padded-first.result.0) (owned_of c.axes-outer.result.1 (row d) c.padded-first.result.1) (owned_of c.axes-outer.result.2 (column d) c.padded-first.result.2)
+    (outer-cut d) (middle-cut d) (inner-cut d))
+
+pub returns-clause-one : goal.returns-clause-one
+returns-clause-one c =
+    λ single.
+    let some : 1 ≤ length c.args.self.now = omega (arith, c.rank.ensures.limits.0, c.requires.rank) in
+    let rules =
+    AreSingle-last_of (length c.args.self.now) c.axes-outer.result.0 c.axes-outer.result.1 c.axes-outer.result.2 c.axes-outer.ensures.limits some
+    (subst AreSingle c.axes-outer.ensures.axes single) in
+    let first : length c.deref.result.now ≡ 1 = ap length c.deref.ensures.value ∙ c.in_ok-outers.ensures.one rules.0 in
+    let second : length c.deref-2.result.now ≡ 1 = ap length c.deref-2.ensures.value ∙ c.in_ok-middles.ensures.one rules.1 in
+    let third : length c.deref-3.result.now ≡ 1 = ap length c.deref-3.ensures.value ∙ c.in_ok-inners.ensures.one rules.2 in
+    let one : length c.deref.result.now * length c.deref-2.result.now * length c.deref-3.result.now ≡ 1 = rw (first, second, third) refl in
+    IfOk-weaker c.products.result (λ v. length v.items ≡ length c.deref.result.now * length c.deref-2.result.now * length c.deref-3.result.now) (λ v. length v.items ≤ 1)
+    (λ v count. omega (arith, count, one)) c.products.ensures.count

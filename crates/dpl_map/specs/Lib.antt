@@ -1,0 +1,9 @@
+pub mod Places
+pub mod Grids
+pub mod Maps
+pub mod Cuts
+pub mod Blocks
+pub mod Parts
+pub mod GridFields
+pub mod AxisFields
+pub mod MapFields

@@ -1,0 +1,279 @@
+// One dimension of a map: by which rule its indices are dealt out over how many places.
+
+ghost use Rattle.std.specs.Prelude.{◌≡◌, ◌≢◌, ◌↔◌, ◌+◌, ◌*◌, ◌^◌, ◌≤◌, ◌<◌, ◌≤ℤ◌, ◌==◌, ◌&&◌, ℕ, ℤ, pos, neg_ℤ, int_le, filter, length, IfOk, []};
+ghost use Rattle.dpl_range.specs.Range.{members_of, IsBound, IsRange};
+ghost use Rattle.dpl_map.specs.AxisFields.{IsAxis};
+ghost use Rattle.dpl_map.specs.Grids.{IsGridSize};
+ghost use Rattle.dpl_map.specs.Cuts.{AreCut};
+ghost use Rattle.dpl_map.specs.Maps.{axis_place, IsBoxed, IsSingle, Block, Cyclic, BlockCyclic};
+ghost use Rattle.dpl_map.specs.Places.{block_place, cyclic_place, block_cyclic_place};
+
+use crate::blocks::dealt;
+use dpl_range::{LIMIT, Range};
+use std::alloc::{AllocError, Global};
+use std::marker::Model;
+
+#[derive(Clone, Copy, Debug, PartialEq, Eq)]
+enum Rule {
+    Block { low: i64, high: i64 },
+    Cyclic { start: i64 },
+    BlockCyclic { start: i64, size: i64 },
+}
+
+/// A rule and an extent: 1 to 64 places, and numbers of the rule within the limits of ranges.
+#[derive(Clone, Copy, Debug, PartialEq, Eq)]
+pub struct Axis {
+    rule: Rule,
+    extent: u32,
+}
+
+impl Model for Axis {
+    ghost use Rattle.dpl_map.specs.Maps.{AxisValue};
+
+    ghost Value = { AxisValue };
+
+    ghost use Rattle.dpl_map.specs.AxisFields.{IsAxis, axis_of, kept_axis, kept_axis-axis_of};
+
+    ghost view = { axis_of };
+
+    ghost invariant = { λ a. IsAxis (axis_of a) };
+
+    ghost inverse = { kept_axis };
+
+    ghost inverse_ok = { kept_axis-axis_of };
+}
+
+impl Axis {
+    /// The places of a box, cut into blocks that are as equal as can be.
+    pub fn block(low: i64, high: i64, extent: u32) -> Axis
+        requires low_is_bound { IsBound low }
+        requires high_is_bound { IsBound high }
+        requires ordered { low ≤ℤ high }
+        requires extent { IsGridSize extent }
+        ensures axis { result ≡ record { rule = Block low high; extent = extent } }
+        ensures limits { IsAxis result }
+    {
+        Axis {
+            rule: Rule::Block { low, high },
+            extent,
+        }
+    }
+
+    /// The places of the box from a range's least member to its greatest.
+    pub fn boxed(range: &Range, extent: u32) -> Axis
+        requires some { members_of range.now ≢ [] }
+        requires extent { IsGridSize extent }
+        ensures box_is { IsBoxed range.now extent result }
+        ensures limits { IsAxis result }
+    {
+        let low = range.low().unwrap_or(range.low_bound());
+        let high = range.high().unwrap_or(range.high_bound());
+        Axis::block(low, high, extent)
+    }
+
+    /// The places that go round from a start.
+    pub fn cyclic(start: i64, extent: u32) -> Axis
+        requires start_is_bound { IsBound start }
+        requires extent { IsGridSize extent }
+        ensures axis { result ≡ record { rule = Cyclic start; extent = extent } }
+        ensures limits { IsAxis result }
+    {
+        Axis {
+            rule: Rule::Cyclic { start },
+            extent,
+        }
+    }
+
+    /// The places that go round from a start, each with a block of a size at a time.
+    pub fn block_cyclic(start: i64, size: i64, extent: u32) -> Axis
+        requires start_is_bound { IsBound start }
+        requires size { pos 1 ≤ℤ size }
+        requires extent { IsGridSize extent }
+        ensures axis { result ≡ record { rule = BlockCyclic start size; extent = extent } }
+        ensures limits { IsAxis result }
+    {
+        Axis {
+            rule: Rule::BlockCyclic { start, size },
+            extent,
+        }
+    }
+
+    /// Over how many places the indices are dealt out.
+    pub fn extent(&self) -> u32
+        ensures extent { result ≡ self.now.extent }
+        ensures limits { IsAxis self.now }
+    {
+        self.extent
+    }
+
+    /// The members of a range that a place owns, as ranges, each in the order of the range: one range, or for the
+    /// block-cyclic rule one for each block or one for each offset in a block, whichever are fewer.
+    ///
+    /// # Errors
+    /// No memory for them.
+    pub fn parts(&self, alloc: Global, range: &Range, place: u32) -> Result<Vec<Range>, AllocError>
+        requires { place < self.now.extent }
+        ensures cut { IfOk result (λ v. AreCut members_of (filter (λ i. axis_place self.now i == place) (members_of range.now)) v.items) }
+        ensures one { IsSingle self.now.rule → IfOk result (λ v. length v.items ≡ 1) }
+    {
+        if let Rule::BlockCyclic { start, size } = self.rule {
+            return dealt(alloc, range, start, size, self.extent, place);
+        }
+        let mut parts = Vec::with_capacity(alloc, 1)?;
+        parts.push(self.part(range, place))?;
+        Ok(parts)
+    }
+
+    // The members of a range that a place owns by a rule that gives it one range.
+    fn part(&self, range: &Range, place: u32) -> Range
+        requires place { place < self.now.extent }
+        requires single { IsSingle self.now.rule }
+        ensures members { members_of result ≡ filter (λ i. axis_place self.now i == place) (members_of range.now) }
+        ensures limits { IsRange result }
+    {
+        if range.size() == 0 {
+            return *range;
+        }
+        match self.rule {
+            Rule::Block { low, high } => block_part(range, low, high, self.extent, place),
+            Rule::Cyclic { start } => range.class(start, self.extent as u64, place as u64),
+            Rule::BlockCyclic { .. } => unreachable!(),
+        }
+    }
+
+    /// The place of an index, which may be any number.
+    pub fn place(&self, i: i64) -> u32
+        ensures place { result ≡ axis_place self.now i }
+        ensures below { result < self.now.extent }
+        ensures limits { IsAxis self.now }
+    {
+        match self.rule {
+            Rule::Block { low, high } => block_place(low, high, self.extent, i),
+            Rule::Cyclic { start } => cyclic_place(start, self.extent, i),
+            Rule::BlockCyclic { start, size } => block_cyclic_place(start, size, self.extent, i),
+        }
+    }
+}
+
+// The place of an index by the block rule. A box may hold 2^61 + 1 indices, so that the product needs more
+// than 64 bits.
+fn block_place(low: i64, high: i64, extent: u32, i: i64) -> u32
+    requires low_is_bound { IsBound low }
+    requires high_is_bound { IsBound high }
+    requires ordered { low ≤ℤ high }
+    requires extent { IsGridSize extent }
+    ensures place { result ≡ block_place low high extent i }
+    ensures below { result < extent }
+{
+    if i < low {
+        return 0;
+    }
+    if high < i {
+        return extent - 1;
+    }
+    let offset = (i - low) as u128;
+    let size = (high - low) as u128 + 1;
+    (offset * extent as u128 / size) as u32
+}
+
+// The members of a range that a place owns by the block rule.
+fn block_part(range: &Range, low: i64, high: i64, extent: u32, place: u32) -> Range
+    requires low_is_bound { IsBound low }
+    requires high_is_bound { IsBound high }
+    requires ordered { low ≤ℤ high }
+    requires extent { IsGridSize extent }
+    requires place { place < extent }
+    requires range_limits { IsRange range.now }
+    ensures members { members_of result ≡ filter (λ i. block_place low high extent i == place) (members_of range.now) }
+    ensures limits { IsRange result }
+{
+    let from = block_from(low, high, extent, place);
+    let to = block_to(low, high, extent, place);
+    between(range, from, to)
+}
+
+// From which integer on the bounds of ranges go to a place or to a later one by the block rule. What lies
+// below the box goes to the first place.
+fn block_from(low: i64, high: i64, extent: u32, place: u32) -> i64
+    requires low_is_bound { IsBound low }
+    requires high_is_bound { IsBound high }
+    requires ordered { low ≤ℤ high }
+    requires extent { IsGridSize extent }
+    requires place { place < extent }
+    ensures from { neg_ℤ (pos (2 ^ 60)) ≤ℤ result }
+    ensures to { result ≤ℤ pos (2 ^ 60 + 1) }
+    ensures owned { (i : ℤ) → IsBound i → (place ≤ block_place low high extent i) ↔ (result ≤ℤ i) }
+{
+    if place == 0 {
+        return -LIMIT;
+    }
+    let size = (high - low) as u64 + 1;
+    low + block_start(size, extent, place) as i64
+}
+
+// Up to which integer the bounds of ranges go to a place or to an earlier one by the block rule. What lies
+// above the box goes to the last place.
+fn block_to(low: i64, high: i64, extent: u32, place: u32) -> i64
+    requires low_is_bound { IsBound low }
+    requires high_is_bound { IsBound high }
+    requires ordered { low ≤ℤ high }
+    requires extent { IsGridSize extent }
+    requires place { place < extent }
+    ensures to { result ≤ℤ pos (2 ^ 60) }
+    ensures owned { (i : ℤ) → IsBound i → (block_place low high extent i ≤ place) ↔ (i ≤ℤ result) }
+{
+    if place + 1 == extent {
+        return LIMIT;
+    }
+    block_from(low, high, extent, place + 1) - 1
+}
+
+// How far above the low bound of a box the block of a place begins.
+fn block_start(size: u64, extent: u32, place: u32) -> u64
+    requires size { size ≤ 2 ^ 61 + 1 }
+    requires extent { IsGridSize extent }
+    requires place { place ≤ extent }
+    ensures reached { place * size ≤ result * extent }
+    ensures least { (d : ℕ) → place * size ≤ d * extent → result ≤ d }
+    ensures within { result ≤ size }
+{
+    (place as u128 * size as u128).div_ceil(extent as u128) as u64
+}
+
+// The members of a range between two integers, of which one may be past the limits where none are left.
+fn between(range: &Range, from: i64, to: i64) -> Range
+    requires from { neg_ℤ (pos (2 ^ 60)) ≤ℤ from }
+    requires to { to ≤ℤ pos (2 ^ 60) }
+    ensures members { members_of result ≡ filter (λ i. int_le from i && int_le i to) (members_of range.now) }
+    ensures limits { IsRange result }
+{
+    if to < from {
+        range.slice(1, 0)
+    } else {
+        range.slice(from, to)
+    }
+}
+
+// The place of an index by the cyclic rule. An index may be any number, so that the difference needs more
+// than 64 bits.
+fn cyclic_place(start: i64, extent: u32, i: i64) -> u32
+    requires start_is_bound { IsBound start }
+    requires extent { IsGridSize extent }
+    ensures place { result ≡ cyclic_place start extent i }
+    ensures below { result < extent }
+{
+    (i as i128 - start as i128).rem_euclid(extent as i128) as u32
+}
+
+// The place of an index by the block-cyclic rule.
+fn block_cyclic_place(start: i64, size: i64, extent: u32, i: i64) -> u32
+    requires start_is_bound { IsBound start }
+    requires size { pos 1 ≤ℤ size }
+    requires extent { IsGridSize extent }
+    ensures place { result ≡ block_cyclic_place start size extent i }
+    ensures below { result < extent }
+{
+    (i as i128 - start as i128)
+        .div_euclid(size as i128)
+        .rem_euclid(extent as i128) as u32
+}

@@ -1,0 +1,227 @@
+// The block-cyclic rule along one dimension: the members of a range that a place gets, as ranges.
+// Blocks are counted from an origin at which a round of them begins, one block for each place.
+
+ghost use Rattle.std.specs.Prelude.{◌≡◌, ◌≤◌, ◌<◌, ◌+◌, ◌-◌, ◌*◌, ◌/◌, ◌%◌, ◌==◌, ◌&&◌, ◌^◌, ℕ, pos, ◌≤ℤ◌, ◌+ℤ◌, ◌-ℤ◌, neg_ℤ, int_le, filter, length, IfOk, OnOk};
+ghost use Rattle.dpl_range.specs.Range.{members_of, IsBound};
+ghost use Rattle.dpl_map.specs.Grids.{IsGridSize};
+ghost use Rattle.dpl_map.specs.Places.{block_cyclic_place};
+ghost use Rattle.dpl_map.specs.Cuts.{AreCut, behind};
+ghost use Rattle.dpl_map.specs.Blocks.{past, block_number, block_offset, BeginsRound, IsDeal};
+
+use dpl_range::Range;
+use std::alloc::{AllocError, Global};
+
+/// The members of a range that the block-cyclic rule deals to a place, as ranges: one for each of the place's
+/// blocks, or one for each offset in a block, whichever are fewer. Ranges without members are left out.
+///
+/// # Errors
+/// No memory for them.
+pub fn dealt(
+    alloc: Global,
+    range: &Range,
+    start: i64,
+    size: i64,
+    extent: u32,
+    place: u32,
+) -> Result<Vec<Range>, AllocError>
+    requires start_is_bound { IsBound start }
+    requires some { pos 1 ≤ℤ size }
+    requires extent { IsGridSize extent }
+    requires place { place < extent }
+    ensures cut { IfOk result (λ v. AreCut members_of (filter (λ i. block_cyclic_place start size extent i == place) (members_of range.now)) v.items) }
+    ensures few { IfOk result (λ v. pos (length v.items) ≤ℤ size) }
+{
+    if range.size() == 0 {
+        return Ok(Vec::new(alloc));
+    }
+    let deal = Deal::new(*range, start, size as u64, extent as u64, place as u64);
+    let rounds = deal.rounds();
+    if rounds <= deal.size {
+        deal.by_blocks(alloc, rounds)
+    } else {
+        deal.by_offsets(alloc, start)
+    }
+}
+
+// Where the round begins that has `low`, of rounds that begin at `start`, after it and before it.
+fn round_of(low: i64, start: i64, round: i128) -> i128
+    requires low_limit { IsBound low }
+    requires start_limit { IsBound start }
+    requires some { pos 1 ≤ℤ round }
+    requires short { round ≤ℤ pos (2 ^ 69) }
+    ensures begins { (n : ℕ) → round ≡ pos n → BeginsRound start n result }
+    ensures low { result ≤ℤ low }
+    ensures soon { low ≤ℤ (result +ℤ round) }
+{
+    let low = low as i128;
+    low - (low - start as i128).rem_euclid(round)
+}
+
+// The members between two whole numbers, which may lie outside the limits of bounds.
+fn between(range: &Range, low: i128, high: i128) -> Range
+    ensures { members_of result ≡ filter (λ i. int_le low i && int_le i high) (members_of range.now) }
+{
+    let low = (range.low_bound() as i128).max(low);
+    let high = (range.high_bound() as i128).min(high);
+    if high < low {
+        return range.slice(1, 0);
+    }
+    range.slice(low as i64, high as i64)
+}
+
+// Puts a range behind others, if it has members.
+fn keep(pieces: &mut Vec<Range>, piece: Range) -> Result<(), AllocError>
+    ensures { OnOk result (pieces.new.items ≡ behind (members_of piece) piece pieces.old.items) }
+{
+    if piece.size() == 0 {
+        return Ok(());
+    }
+    pieces.push(piece)?;
+    Ok(())
+}
+
+// A range, and the blocks of it that a place gets: those number `place`, `place + extent` and so on from the origin.
+#[derive(Clone, Copy)]
+struct Deal {
+    range: Range,
+    origin: i128,
+    size: u64,
+    extent: u64,
+    place: u64,
+}
+
+impl Deal {
+    // The deal of a place, from the beginning of the round that has the range's low bound.
+    fn new(range: Range, start: i64, size: u64, extent: u64, place: u64) -> Deal
+        requires start_limit { IsBound start }
+        requires some { 0 < size }
+        requires machine { size < 2 ^ 63 }
+        requires extent { extent ≤ 64 }
+        requires place { place < extent }
+        ensures deal { IsDeal result.range result.origin result.size result.extent result.place }
+        ensures begins { BeginsRound start (result.extent * result.size) result.origin }
+        ensures range { result.range ≡ range }
+        ensures size { result.size ≡ size }
+        ensures extent { result.extent ≡ extent }
+        ensures place { result.place ≡ place }
+    {
+        let round = extent as u128 * size as u128;
+        Deal {
+            range,
+            origin: round_of(range.low_bound(), start, round as i128),
+            size,
+            extent,
+            place,
+        }
+    }
+
+    // How far the range's high bound lies past the origin.
+    fn way(&self) -> u128
+        requires deal { IsDeal self.now.range self.now.origin self.now.size self.now.extent self.now.place }
+        requires ordered { self.now.range.low ≤ℤ self.now.range.high }
+        ensures way { result ≡ past self.now.origin self.now.range.high }
+        ensures near { result ≤ 2 ^ 61 + self.now.extent * self.now.size }
+    {
+        (self.range.high_bound() as i128 - self.origin) as u128
+    }
+
+    // The number of the block that has the range's high bound.
+    fn last(&self) -> u64
+        requires deal { IsDeal self.now.range self.now.origin self.now.size self.now.extent self.now.place }
+        requires ordered { self.now.range.low ≤ℤ self.now.range.high }
+        ensures number { result ≡ block_number self.now.origin self.now.size self.now.range.high }
+        ensures near { result ≤ 2 ^ 61 + 64 }
+    {
+        (self.way() / self.size as u128) as u64
+    }
+
+    // How many of the place's blocks begin at the range's high bound or before it.
+    fn rounds(&self) -> u64
+        requires deal { IsDeal self.now.range self.now.origin self.now.size self.now.extent self.now.place }
+        requires ordered { self.now.range.low ≤ℤ self.now.range.high }
+        ensures all { (j : ℕ) → j < result → j * self.now.extent + self.now.place ≤ block_number self.now.origin self.now.size self.now.range.high }
+        ensures enough { (j : ℕ) → j * self.now.extent + self.now.place ≤ block_number self.now.origin self.now.size self.now.range.high → j < result }
+        ensures near { block_number self.now.origin self.now.size self.now.range.high ≤ 2 ^ 61 + 64 }
+        ensures short { self.now.size < result → self.now.extent * self.now.size ≤ 2 ^ 61 }
+    {
+        let last = self.last();
+        if last < self.place {
+            return 0;
+        }
+        (last - self.place) / self.extent + 1
+    }
+
+    // Where the block of a number begins.
+    fn begin(&self, number: u64) -> i128
+        requires deal { IsDeal self.now.range self.now.origin self.now.size self.now.extent self.now.place }
+        requires near { number ≤ 2 ^ 62 }
+        ensures begin { result ≡ self.now.origin +ℤ pos (number * self.now.size) }
+        ensures limit { result ≤ℤ pos (2 ^ 126) }
+    {
+        self.origin + (number as u128 * self.size as u128) as i128
+    }
+
+    // Where the block of a number ends.
+    fn end(&self, number: u64) -> i128
+        requires deal { IsDeal self.now.range self.now.origin self.now.size self.now.extent self.now.place }
+        requires near { number ≤ 2 ^ 62 }
+        ensures { result ≡ self.now.origin +ℤ pos (number * self.now.size) +ℤ pos (self.now.size - 1) }
+    {
+        self.begin(number) + (self.size - 1) as i128
+    }
+
+    // The members in the block of a number.
+    fn block(&self, number: u64) -> Range
+        requires deal { IsDeal self.now.range self.now.origin self.now.size self.now.extent self.now.place }
+        requires near { number ≤ 2 ^ 62 }
+        ensures { members_of result ≡ filter (λ i. block_number self.now.origin self.now.size i == number) (members_of self.now.range) }
+    {
+        between(&self.range, self.begin(number), self.end(number))
+    }
+
+    // The place's blocks, one after another.
+    fn by_blocks(&self, alloc: Global, rounds: u64) -> Result<Vec<Range>, AllocError>
+        requires deal { IsDeal self.now.range self.now.origin self.now.size self.now.extent self.now.place }
+        requires all { (j : ℕ) → j < rounds → j * self.now.extent + self.now.place ≤ block_number self.now.origin self.now.size self.now.range.high }
+        requires enough { (j : ℕ) → j * self.now.extent + self.now.place ≤ block_number self.now.origin self.now.size self.now.range.high → j < rounds }
+        requires near { block_number self.now.origin self.now.size self.now.range.high ≤ 2 ^ 61 + 64 }
+        ensures cut { IfOk result (λ v. AreCut members_of (filter (λ i. block_number self.now.origin self.now.size i % self.now.extent == self.now.place) (members_of self.now.range)) v.items) }
+        ensures few { IfOk result (λ v. length v.items ≤ rounds) }
+    {
+        let mut pieces = Vec::new(alloc);
+        for round in 0..rounds {
+            keep(&mut pieces, self.block(round * self.extent + self.place))?;
+        }
+        Ok(pieces)
+    }
+
+    // The members of the place's blocks by their offsets: those of one offset are a class of congruence.
+    fn by_offsets(&self, alloc: Global, start: i64) -> Result<Vec<Range>, AllocError>
+        requires deal { IsDeal self.now.range self.now.origin self.now.size self.now.extent self.now.place }
+        requires start_is_bound { IsBound start }
+        requires short { self.now.extent * self.now.size ≤ 2 ^ 61 }
+        requires begins { BeginsRound start (self.now.extent * self.now.size) self.now.origin }
+        ensures cut { IfOk result (λ v. AreCut members_of (filter (λ i. block_number self.now.origin self.now.size i % self.now.extent == self.now.place) (members_of self.now.range)) v.items) }
+        ensures few { IfOk result (λ v. length v.items ≤ self.now.size) }
+    {
+        let mut pieces = Vec::new(alloc);
+        for offset in 0..self.size {
+            keep(&mut pieces, self.offset(start, offset))?;
+        }
+        Ok(pieces)
+    }
+
+    // The members of the place's blocks that lie at an offset in them.
+    fn offset(&self, start: i64, offset: u64) -> Range
+        requires deal { IsDeal self.now.range self.now.origin self.now.size self.now.extent self.now.place }
+        requires start_is_bound { IsBound start }
+        requires within { offset < self.now.size }
+        requires short { self.now.extent * self.now.size ≤ 2 ^ 61 }
+        requires begins { BeginsRound start (self.now.extent * self.now.size) self.now.origin }
+        ensures { members_of result ≡ filter (λ i. block_offset self.now.origin self.now.size i == offset) (filter (λ i. block_number self.now.origin self.now.size i % self.now.extent == self.now.place) (members_of self.now.range)) }
+    {
+        let before = self.place * self.size;
+        self.range
+            .class(start, self.extent * self.size, before + offset)
+    }
+}

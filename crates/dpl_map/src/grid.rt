@@ -1,0 +1,105 @@
+// A grid: the places that a map deals indices out to, in one to three dimensions.
+
+ghost use Rattle.std.specs.Prelude.{◌≡◌, ◌≤◌, ◌*◌, ◌↔◌, length, IsOk, IfOk};
+ghost use Rattle.dpl_domain.specs.Indices.{IsRank};
+ghost use Rattle.dpl_domain.specs.Ranks.{last_of, IsPadded};
+ghost use Rattle.dpl_map.specs.Grids.{grid_size, IsGridSize};
+
+use std::marker::Model;
+use thiserror::Error;
+
+/// The most places that a grid may have.
+pub const MOST_PLACES: u32 = 64;
+
+/// Why some extents are no grid.
+#[derive(Clone, Copy, Debug, PartialEq, Eq, Error)]
+pub enum GridFault {
+    /// There are not one to three extents.
+    #[error("a grid has one to three dimensions")]
+    Rank,
+    /// There are one to three extents, and their product is not from 1 to 64.
+    #[error("a grid has 1 to 64 places")]
+    Places,
+}
+
+/// A grid of places, seen as the list of its one to three extents. Places are numbered from 0, row by row.
+#[derive(Clone, Copy, Debug, PartialEq, Eq)]
+pub struct Grid {
+    rank: u32,
+    outer: u32,
+    middle: u32,
+    inner: u32,
+}
+
+impl Model for Grid {
+    ghost use Rattle.std.specs.Prelude.{List, ℕ};
+
+    ghost Value = { List ℕ };
+
+    ghost use Rattle.dpl_domain.specs.Ranks.{last_of};
+    ghost use Rattle.dpl_map.specs.GridFields.{IsGrid, grid_of, grid_of-last_of};
+
+    ghost view = { λ g. last_of g.rank g.outer g.middle g.inner };
+
+    ghost invariant = { λ g. IsGrid g.rank g.outer g.middle g.inner };
+
+    ghost inverse = { grid_of };
+
+    ghost inverse_ok = { grid_of-last_of };
+}
+
+impl Grid {
+    /// The grid with these extents, if there are one to three of them with 1 to 64 places.
+    pub fn new(extents: &[u32]) -> Result<Grid, GridFault>
+        ensures ok { IsOk result ↔ (IsRank extents.now × IsGridSize (grid_size extents.now)) }
+        ensures held { IfOk result (λ grid. grid ≡ extents.now) }
+        ensures rank { (result ≡ Err GridFault.Rank) ↔ (¬ IsRank extents.now) }
+        ensures places { (result ≡ Err GridFault.Places) ↔ (IsRank extents.now × ¬ IsGridSize (grid_size extents.now)) }
+    {
+        match extents {
+            [inner] => Grid::checked(1, 1, 1, *inner),
+            [middle, inner] => Grid::checked(2, 1, *middle, *inner),
+            [outer, middle, inner] => Grid::checked(3, *outer, *middle, *inner),
+            _ => Err(GridFault::Rank),
+        }
+    }
+
+    // The last `rank` of three extents as a grid, if they have 1 to 64 places.
+    fn checked(rank: u32, outer: u32, middle: u32, inner: u32) -> Result<Grid, GridFault>
+        requires { IsPadded 1 rank outer middle }
+        ensures ok { IsOk result ↔ IsGridSize (grid_size (last_of rank outer middle inner)) }
+        ensures held { IfOk result (λ grid. grid ≡ last_of rank outer middle inner) }
+        ensures places { (result ≡ Err GridFault.Places) ↔ (¬ IsGridSize (grid_size (last_of rank outer middle inner))) }
+    {
+        let places = outer as u128 * middle as u128 * inner as u128;
+        if places < 1 || places > MOST_PLACES as u128 {
+            return Err(GridFault::Places);
+        }
+        Ok(Grid {
+            rank,
+            outer,
+            middle,
+            inner,
+        })
+    }
+
+    /// How many extents it has.
+    pub fn rank(&self) -> u32
+        ensures rank { result ≡ length self.now }
+        ensures limits { IsRank self.now }
+    {
+        self.rank
+    }
+
+    /// The extents as three numbers, the last one last. Those in front that the grid does not have are 1.
+    pub fn extents(&self) -> (u32, u32, u32)
+        ensures extents { self.now ≡ last_of (length self.now) result.0 result.1 result.2 }
+        ensures unused { IsPadded 1 (length self.now) result.0 result.1 }
+        ensures outer { IsGridSize result.0 }
+        ensures middle { IsGridSize result.1 }
+        ensures inner { IsGridSize result.2 }
+        ensures size { IsGridSize (result.0 * result.1 * result.2) }
+    {
+        (self.outer, self.middle, self.inner)
+    }
+}

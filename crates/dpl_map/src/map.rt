@@ -1,0 +1,275 @@
+// Maps: who owns an index.
+
+ghost use Rattle.std.specs.Prelude.{◌≡◌, ◌≢◌, ◌*◌, ◌≤◌, ◌<◌, ◌↔◌, List, [], ℕ, ℤ, pos, Contains, length, All, IsTrue, IsOk, IfOk};
+ghost use Rattle.dpl_domain.specs.Indices.{indices, IsRank};
+ghost use Rattle.dpl_domain.specs.Ranks.{last_of, IsPadded};
+ghost use Rattle.dpl_range.specs.Range.{RangeValue, IsBound};
+ghost use Rattle.dpl_map.specs.AxisFields.{IsAxis};
+ghost use Rattle.dpl_map.specs.MapFields.{IsMap};
+ghost use Rattle.dpl_map.specs.Maps.{owner, places, whole_map, cyclic_map, block_cyclic_map, IsBlocksize, IsBlockMap};
+ghost use Rattle.dpl_map.specs.Parts.{part};
+
+use crate::Grid;
+use crate::axis::Axis;
+use crate::dimensions::padded;
+use dpl_domain::{Domain, Index};
+use dpl_range::LIMIT;
+use std::marker::Model;
+use thiserror::Error;
+
+/// Why something makes no map.
+#[derive(Clone, Copy, Debug, PartialEq, Eq, Error)]
+pub enum MapFault {
+    /// The box of a block map is empty.
+    #[error("the box is empty")]
+    Empty,
+    /// A coordinate of a start lies outside -2^60..2^60.
+    #[error("the start is outside -2^60..2^60")]
+    Start,
+    /// There are not as many dimensions as the grid has.
+    #[error("the grid has another number of dimensions")]
+    Rank,
+    /// A block is to have fewer than one index.
+    #[error("a block has at least one index")]
+    Blocksize,
+}
+
+/// Who owns an index, seen as the list of the map's axes: how each dimension is dealt out over an extent of a
+/// grid. The whole map has none.
+#[derive(Clone, Copy, Debug, PartialEq, Eq)]
+pub struct Map {
+    rank: u32,
+    outer: Axis,
+    middle: Axis,
+    inner: Axis,
+}
+
+impl Model for Map {
+    ghost use Rattle.std.specs.Prelude.{List};
+    ghost use Rattle.dpl_map.specs.Maps.{AxisValue};
+
+    ghost Value = { List AxisValue };
+
+    ghost use Rattle.dpl_domain.specs.Ranks.{last_of, IsPadded};
+    ghost use Rattle.dpl_map.specs.MapFields.{IsMap, map_of, map_of-last_of};
+
+    ghost view = { λ m. last_of m.rank m.outer m.middle m.inner };
+
+    ghost invariant = { λ m. IsMap m.rank m.outer m.middle m.inner };
+
+    ghost inverse = { map_of };
+
+    ghost inverse_ok = { map_of-last_of };
+}
+
+impl Map {
+    /// The map that puts every index on place 0, the only one that it has.
+    pub fn whole() -> Map
+        ensures { result ≡ whole_map }
+    {
+        let idle = Axis::cyclic(0, 1);
+        Map {
+            rank: 0,
+            outer: idle,
+            middle: idle,
+            inner: idle,
+        }
+    }
+
+    /// Block: the domain's least and greatest members in each dimension are a box, which is dealt out in blocks
+    /// over the grid.
+    pub fn block(domain: &Domain, grid: Grid) -> Result<Map, MapFault>
+        ensures ok { IsOk result ↔ ((indices domain.now ≢ []) × (length domain.now ≡ length grid)) }
+        ensures held { IfOk result (IsBlockMap domain.now grid) }
+        ensures empty { (result ≡ Err MapFault.Empty) ↔ (indices domain.now ≡ []) }
+        ensures rank { (result ≡ Err MapFault.Rank) ↔ ((indices domain.now ≢ []) × (length domain.now ≢ length grid)) }
+    {
+        if domain.size() == 0 {
+            return Err(MapFault::Empty);
+        }
+        if domain.rank() != grid.rank() {
+            return Err(MapFault::Rank);
+        }
+        let (outer, middle, inner) = grid.extents();
+        let (first, second, last) = padded(domain);
+        Ok(Map::of(
+            domain.rank(),
+            Axis::boxed(&first, outer),
+            Axis::boxed(&second, middle),
+            Axis::boxed(&last, inner),
+        ))
+    }
+
+    /// Cyclic: each dimension goes round the places of the grid from a coordinate of the start.
+    pub fn cyclic(start: Index, grid: Grid) -> Result<Map, MapFault>
+        ensures ok { IsOk result ↔ (All IsBound start × (length start ≡ length grid)) }
+        ensures held { IfOk result (λ axes. axes ≡ cyclic_map start grid) }
+        ensures start { (result ≡ Err MapFault.Start) ↔ (¬ All IsBound start) }
+        ensures rank { (result ≡ Err MapFault.Rank) ↔ (All IsBound start × (length start ≢ length grid)) }
+    {
+        let (first, second, last) = start.numbers();
+        if !are_bounds(first, second, last) {
+            return Err(MapFault::Start);
+        }
+        if start.rank() != grid.rank() {
+            return Err(MapFault::Rank);
+        }
+        let (outer, middle, inner) = grid.extents();
+        Ok(Map::of(
+            start.rank(),
+            Axis::cyclic(first, outer),
+            Axis::cyclic(second, middle),
+            Axis::cyclic(last, inner),
+        ))
+    }
+
+    /// Block-cyclic: each dimension goes round the places of the grid from a coordinate of the start, in blocks of a
+    /// size of its own.
+    pub fn block_cyclic(start: Index, sizes: Index, grid: Grid) -> Result<Map, MapFault>
+        ensures ok { IsOk result ↔ (All IsBound start × (length start ≡ length grid) × (length sizes ≡ length grid) × All IsBlocksize sizes) }
+        ensures held { IfOk result (λ axes. axes ≡ block_cyclic_map start sizes grid) }
+        ensures start { (result ≡ Err MapFault.Start) ↔ (¬ All IsBound start) }
+        ensures rank { (result ≡ Err MapFault.Rank) ↔ (All IsBound start × ¬ ((length start ≡ length grid) × (length sizes ≡ length grid))) }
+        ensures blocksize { (result ≡ Err MapFault.Blocksize) ↔ (All IsBound start × (length start ≡ length grid) × (length sizes ≡ length grid) × ¬ All IsBlocksize sizes) }
+    {
+        if !is_start(start) {
+            return Err(MapFault::Start);
+        }
+        if start.rank() != grid.rank() || sizes.rank() != grid.rank() {
+            return Err(MapFault::Rank);
+        }
+        if !are_sizes(sizes) {
+            return Err(MapFault::Blocksize);
+        }
+        Ok(Map::in_blocks(start, sizes, grid))
+    }
+
+    // The block-cyclic map from a start, in blocks of these sizes.
+    fn in_blocks(start: Index, sizes: Index, grid: Grid) -> Map
+        requires start { All IsBound start }
+        requires sizes { All IsBlocksize sizes }
+        requires rank { length start ≡ length grid }
+        requires rank_of_sizes { length sizes ≡ length grid }
+        ensures { result ≡ block_cyclic_map start sizes grid }
+    {
+        let (outer, middle, inner) = grid.extents();
+        let (first, second, last) = start.numbers();
+        let (high, wide, long) = padded_sizes(sizes);
+        Map::of(
+            start.rank(),
+            Axis::block_cyclic(first, high, outer),
+            Axis::block_cyclic(second, wide, middle),
+            Axis::block_cyclic(last, long, inner),
+        )
+    }
+
+    // The map with the last `rank` of three axes.
+    fn of(rank: u32, outer: Axis, middle: Axis, inner: Axis) -> Map
+        requires from_one { 1 ≤ rank }
+        requires to_three { rank ≤ 3 }
+        requires outer_limits { IsAxis outer }
+        requires middle_limits { IsAxis middle }
+        requires inner_limits { IsAxis inner }
+        requires size { outer.extent * middle.extent * inner.extent ≤ 64 }
+        ensures { result ≡ last_of rank outer middle inner }
+    {
+        let idle = Axis::cyclic(0, 1);
+        Map {
+            rank,
+            outer: if rank < 3 { idle } else { outer },
+            middle: if rank < 2 { idle } else { middle },
+            inner,
+        }
+    }
+
+    /// The axes in three places, the last one last. Those in front that the map does not have have one place.
+    pub(crate) fn axes(&self) -> (Axis, Axis, Axis)
+        ensures axes { self.now ≡ last_of (length self.now) result.0 result.1 result.2 }
+        ensures limits { IsMap (length self.now) result.0 result.1 result.2 }
+    {
+        (self.outer, self.middle, self.inner)
+    }
+
+    /// How many dimensions the map deals out: the rank of its grid, or 0.
+    pub fn rank(&self) -> u32
+        ensures { result ≡ length self.now }
+    {
+        self.rank
+    }
+
+    /// How many places the map has: those of its grid, or one. Each tuple is owned by one of them, so the parts of a
+    /// domain have no tuple in common and together are the domain.
+    pub fn places(&self) -> u32
+        ensures places { result ≡ places self.now }
+        ensures owners { (t : List ℤ) → owner self.now t < result }
+        ensures apart { (ranges : List RangeValue) (t : List ℤ) (j k : ℕ) → Contains (part ranges self.now j) t → Contains (part ranges self.now k) t → j ≡ k }
+        ensures together { (ranges : List RangeValue) (t : List ℤ) → Contains (indices ranges) t → (k : ℕ) × (k < result) × Contains (part ranges self.now k) t }
+        ensures most { result ≤ 64 }
+    {
+        self.outer.extent() * self.middle.extent() * self.inner.extent()
+    }
+
+    /// The place that owns an index, which may be of any rank and have any coordinates. One of another rank
+    /// than the map's is owned by place 0.
+    pub fn owner(&self, index: Index) -> u32
+        ensures owner { result ≡ owner self.now index }
+        ensures below { result < places self.now }
+    {
+        if index.rank() != self.rank {
+            return 0;
+        }
+        let (outer, middle, inner) = index.numbers();
+        let row = self.outer.place(outer) * self.middle.extent() + self.middle.place(middle);
+        row * self.inner.extent() + self.inner.place(inner)
+    }
+}
+
+// Whether each of three numbers may be a bound of a range.
+fn are_bounds(first: i64, second: i64, last: i64) -> bool
+    ensures { IsTrue result ↔ (IsBound first × IsBound second × IsBound last) }
+{
+    is_bound(first) && is_bound(second) && is_bound(last)
+}
+
+// Whether a number may be a bound of a range.
+fn is_bound(i: i64) -> bool
+    ensures { IsTrue result ↔ IsBound i }
+{
+    -LIMIT <= i && i <= LIMIT
+}
+
+// The sizes of blocks as three numbers, the last one last. Those in front that an index does not have are 1.
+fn padded_sizes(sizes: Index) -> (i64, i64, i64)
+    ensures sizes { sizes ≡ last_of (length sizes) result.0 result.1 result.2 }
+    ensures unused { IsPadded (pos 1) (length sizes) result.0 result.1 }
+{
+    let (outer, middle, inner) = sizes.numbers();
+    match sizes.rank() {
+        1 => (1, 1, inner),
+        2 => (1, middle, inner),
+        _ => (outer, middle, inner),
+    }
+}
+
+// Whether each coordinate may be a bound of a range.
+fn is_start(start: Index) -> bool
+    ensures { IsTrue result ↔ All IsBound start }
+{
+    let (first, second, last) = start.numbers();
+    are_bounds(first, second, last)
+}
+
+// Whether each coordinate may be the size of a block.
+fn are_sizes(sizes: Index) -> bool
+    ensures { IsTrue result ↔ All IsBlocksize sizes }
+{
+    let (high, wide, long) = padded_sizes(sizes);
+    are_blocksizes(high, wide, long)
+}
+
+// Whether each of three numbers may be the size of a block.
+fn are_blocksizes(high: i64, wide: i64, long: i64) -> bool
+    ensures { IsTrue result ↔ (IsBlocksize high × IsBlocksize wide × IsBlocksize long) }
+{
+    1 <= high && 1 <= wide && 1 <= long
+}

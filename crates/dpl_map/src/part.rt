@@ -1,0 +1,67 @@
+// A locale's part of a domain in closed form: no call walks the domain.
+
+ghost use Rattle.std.specs.Prelude.{◌≡◌, ◌≤◌, ◌<◌, ◌*◌, ◌+◌, [], length, IfOk, IfSome, IfNone, OnErr};
+ghost use Rattle.dpl_domain.specs.Indices.{indices, IsSmall};
+ghost use Rattle.dpl_map.specs.Maps.{places, AreSingle};
+ghost use Rattle.dpl_map.specs.Cuts.{AreCut};
+ghost use Rattle.dpl_map.specs.Parts.{part};
+
+use crate::Map;
+use crate::dimensions::padded;
+use crate::products::products;
+use dpl_domain::Domain;
+use std::alloc::{AllocError, Global};
+
+/// There was no memory for the list of domains.
+#[derive(Clone, Copy, Debug, PartialEq, Eq)]
+pub struct NoMemory;
+
+impl From<AllocError> for NoMemory {
+    fn from(_: AllocError) -> NoMemory {
+        NoMemory
+    }
+}
+
+impl Map {
+    /// The part of a domain that a locale owns: domains that have no index in common and together hold exactly
+    /// the indices that it owns, each in the domain's order. It is one domain, but by the block-cyclic rule: there a
+    /// dimension is cut into the locale's blocks, or by the offsets in a block, whichever are fewer. There is none for
+    /// a locale that is no place of the map.
+    ///
+    /// # Errors
+    /// No memory for the domains.
+    pub fn part(&self, alloc: Global, domain: &Domain, locale: u32) -> Result<Vec<Domain>, NoMemory>
+        ensures cut { IfOk result (λ domains. AreCut indices (part domain.now self.now locale) domains.items) }
+        ensures one { AreSingle self.now → IfOk result (λ domains. length domains.items ≤ 1) }
+        ensures none { IfOk result (λ domains. places self.now ≤ locale → domains.items ≡ []) }
+    {
+        if domain.size() == 0 || self.places() <= locale {
+            return Ok(Vec::new(alloc));
+        }
+        if domain.rank() == self.rank() {
+            return Ok(self.owned(alloc, domain, locale)?);
+        }
+        let mut domains = Vec::new(alloc);
+        if locale == 0 {
+            domains.push(*domain).map_err(AllocError::from)?;
+        }
+        Ok(domains)
+    }
+
+    // The part of a domain of the map's rank.
+    fn owned(&self, alloc: Global, domain: &Domain, locale: u32) -> Result<Vec<Domain>, AllocError>
+        requires rank { length domain.now ≡ length self.now }
+        requires locale { locale < places self.now }
+        requires small { IsSmall domain.now }
+        ensures cut { IfOk result (λ domains. AreCut indices (part domain.now self.now locale) domains.items) }
+        ensures one { AreSingle self.now → IfOk result (λ domains. length domains.items ≤ 1) }
+    {
+        let (outer, middle, inner) = self.axes();
+        let (first, second, last) = padded(domain);
+        let row = locale / inner.extent();
+        let outers = outer.parts(alloc, &first, row / middle.extent())?;
+        let middles = middle.parts(alloc, &second, row % middle.extent())?;
+        let inners = inner.parts(alloc, &last, locale % inner.extent())?;
+        products(alloc, domain.rank(), &outers, &middles, &inners)
+    }
+}
