@@ -1,6 +1,6 @@
 // The squares with a growth of memory refused: `rt try --test --fail-alloc N` refuses the Nth.
 // The run then tells want of memory and writes nothing, and the next run is whole.
-// growths.sh, beside src/, refuses those of the whole program, one after another.
+// scripts/growths.sh refuses those of the whole program, one after another.
 
 use super::SQUARES;
 use crate::config::{Config, Maps};

@@ -1,10 +1,10 @@
 #!/bin/sh
 # Refuses the growths of memory of the program's stored run, one after another: each such run ends with M1 and writes nothing.
-# It ends at the first run of which no growth is left to refuse, which is whole. usage: crates/dpl/growths.sh [FIRST]
+# It ends at the first run of which no growth is left to refuse, which is whole. usage: scripts/growths.sh [FIRST]
 # A run takes half a minute, since the program is built anew for each growth.
 set -eu
 
-cd "$(dirname "$0")"
+cd "$(dirname "$0")/../crates/dpl"
 growth=${1:-1}
 messages=$(mktemp)
 trap 'rm -f "$messages"' EXIT
