@@ -5,7 +5,8 @@
 set -eu
 
 cd "$(dirname "$0")/../crates/dpl"
-growth=${1:-1}
+first=${1:-1}
+growth=$first
 messages=$(mktemp)
 trap 'rm -f "$messages"' EXIT
 
@@ -24,4 +25,4 @@ if [ "$status" != 0 ] || [ "$written" != "$(cat stdout)" ] || [ "$growth" -lt 10
     echo "growth $growth: status $status with '$written'"
     exit 1
 fi
-echo "$((growth - 1)) growths refused, and then '$written'"
+echo "growths $first to $((growth - 1)) refused, and then '$written'"
