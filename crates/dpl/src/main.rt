@@ -1,32 +1,14 @@
 // The program `dpl`: it reads a text on standard input and prints what it means.
-// What it stands on is the public call `run_text`, whose contract is the theorem.
+// What it stands on is the public call `run_text` of dpl_run, whose contract is the theorem.
 #![tactic(auto)]
 
-mod collect;
-pub mod config;
-pub mod gate;
-pub mod left;
-mod lines;
-mod loops;
-pub mod outcome;
-pub mod refused;
-pub mod run;
-mod statements;
-mod stop;
 #[cfg(test)]
 mod tests;
-pub mod text;
-pub mod writer;
 
-use config::{Config, Maps};
-use gate::OpenGate;
-use outcome::Outcome;
-use refused::Refused;
+use dpl_run::{Config, Maps, OpenGate, Outcome, Plain, Refused, run_text};
 use std::env;
 use std::io::{ErrorKind, Read};
 use std::process::ExitCode;
-use text::run_text;
-use writer::Plain;
 
 /// The greatest length of a text, in bytes. One byte more is read, so that a longer text is told from it.
 const LONGEST_TEXT: u64 = 1048576;

@@ -4,12 +4,7 @@
 mod growths;
 mod layers;
 
-use crate::config::{Config, ConfigFault, Maps};
-use crate::gate::OpenGate;
-use crate::outcome::Outcome;
-use crate::refused::Refused;
-use crate::text::run_text;
-use crate::writer::Plain;
+use dpl_run::{Config, ConfigFault, Maps, OpenGate, Outcome, Plain, Refused, run_text};
 use dpl_syntax::Value;
 use std::process::Abort;
 use std::test::Fail;

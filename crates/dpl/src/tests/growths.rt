@@ -3,12 +3,7 @@
 // scripts/growths.sh refuses those of the whole program, one after another.
 
 use super::SQUARES;
-use crate::config::{Config, Maps};
-use crate::gate::OpenGate;
-use crate::outcome::Outcome;
-use crate::refused::Refused;
-use crate::text::run_text;
-use crate::writer::Plain;
+use dpl_run::{Config, Maps, OpenGate, Outcome, Plain, Refused, run_text};
 use std::test::Fail;
 
 // How a run of the squares ended.

@@ -1,5 +1,0 @@
-use Rattle.dpl.proofs.LineEnds.{line_end-at}
-use Rattle.dpl.proofs.lines.is_mid_line.Goals as goal
-
-pub returns-in-len1-up : goal.returns-in-len1-up
-returns-in-len1-up c = line_end-at c.args.text.now c.in-len1-up.len_at_least

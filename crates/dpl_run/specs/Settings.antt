@@ -1,0 +1,26 @@
+-- What contracts see of a run's settings, and which numbers are settings.
+use Rattle.std.specs.Prelude.{◌≡◌, ℕ, ◌≤◌, ◌^◌, List, ◌*◌, slice_index}
+use Rattle.dpl_run.specs.declared.config.Maps.{Maps}
+
+pub record Settings : Type 0 where
+  pub locales : ℕ
+  pub budget : ℕ
+  pub tries : ℕ
+  pub grid2 : List ℕ
+  pub grid3 : List ℕ
+  pub maps : Maps
+
+-- from 1 to 64 locales
+abbrev pub AreLocales : ℕ → Type 0
+AreLocales n = (1 ≤ n) × (n ≤ 64)
+
+-- a budget, or a number of tries, is from 1 to 2^32
+abbrev pub IsCount : ℕ → Type 0
+IsCount n = (1 ≤ n) × (n ≤ 2 ^ 32)
+
+-- a grid has as many places as there are locales
+abbrev pub IsGrid2 : ℕ → List ℕ → Type 0
+IsGrid2 locales grid = slice_index grid 0 * slice_index grid 1 ≡ locales
+
+abbrev pub IsGrid3 : ℕ → List ℕ → Type 0
+IsGrid3 locales grid = slice_index grid 0 * slice_index grid 1 * slice_index grid 2 ≡ locales

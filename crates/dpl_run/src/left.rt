@@ -1,0 +1,57 @@
+// What a program leaves: the variables of its top level.
+// They are seen as a map from names to values, in order of declaration.
+
+ghost use Rattle.std.specs.Prelude.{◌≡◌, map};
+ghost use Rattle.dpl_meaning.specs.Names.{in_frame};
+
+use dpl_syntax::{Value, Word};
+use std::marker::Model;
+
+/// A variable of the top level, with the value that it has when the run ends.
+#[derive(Drop)]
+pub struct Variable {
+    /// The name that it is declared by.
+    pub name: Word,
+    /// Its last value.
+    pub value: Value,
+}
+
+/// The variables that a program leaves.
+#[derive(Drop)]
+pub struct Left {
+    pub(crate) variables: Vec<Variable>,
+}
+
+impl Model for Left {
+    ghost use Rattle.dpl_meaning.specs.Names.{Frame};
+
+    ghost Value = { Frame };
+
+    ghost use Rattle.std.specs.Prelude.{map};
+    ghost use Rattle.dpl_run.specs.Leaving.{entry_of};
+
+    ghost view = { λ left. map entry_of left.variables.items };
+}
+
+impl Left {
+    ghost use Rattle.dpl_run.specs.Leaving.{entry_of};
+
+    /// The variables, in order of declaration.
+    pub fn variables(&self) -> &[Variable]
+        ensures { map entry_of result.now ≡ self.now }
+    {
+        self.variables.as_slice()
+    }
+
+    /// The value of a name, if it is a variable of the top level.
+    pub fn get(&self, name: &[u8]) -> Option<Value>
+        ensures { result ≡ in_frame name.now self.now }
+    {
+        for variable in &self.variables {
+            if name == variable.name.as_bytes() {
+                return Some(variable.value);
+            }
+        }
+        None
+    }
+}
