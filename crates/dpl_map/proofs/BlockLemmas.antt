@@ -56,6 +56,36 @@ block_cyclic_place-past start origin i b n m some places begins at = ⊎_elim af
         let distance : (i -ℤ start) +ℤ pos (begins.0 * n * b) ≡ pos m = omega (arith, ints, at, e, rounds) in
         ap count_of (int_rem_euclid_is (int_div_euclid (i -ℤ start) (pos b)) (pos n) n begins.0 (m / b) places refl (div_euclid-shifted (i -ℤ start) b (begins.0 * n) m some distance))
 
+-- The block that has an integer, counted from the start, is so many blocks before or behind the one that is counted from the
+-- beginning of a round.
+pub block-shift : (start origin : ℤ) (b n : ℕ) → 0 < b → BeginsRound start (n * b) origin → (shift : ℤ) × ((i : ℤ) (m : ℕ) → i ≡ origin +ℤ pos m → int_div_euclid (i -ℤ start) (pos b) +ℤ shift ≡ pos (m / b))
+block-shift start origin b n some begins = ⊎_elim after before begins.1
+  where
+    rounds : begins.0 * (n * b) ≡ begins.0 * n * b
+    rounds = sym (mul_assoc begins.0 n b)
+
+    after : origin ≡ start +ℤ pos (begins.0 * (n * b)) → (shift : ℤ) × ((i : ℤ) (m : ℕ) → i ≡ origin +ℤ pos m → int_div_euclid (i -ℤ start) (pos b) +ℤ shift ≡ pos (m / b))
+    after e = (
+      pos 0 -ℤ pos (begins.0 * n),
+      (λ i m at.
+          let distance : i -ℤ start ≡ pos (m + begins.0 * n * b) = omega (arith, ints, at, e, rounds) in
+          let divided : (m + begins.0 * n * b) / b ≡ m / b + begins.0 * n = add-mul-div_right m (begins.0 * n) some in
+          let block : int_div_euclid (i -ℤ start) (pos b) ≡ pos (m / b + begins.0 * n) = ap (λ z. int_div_euclid z (pos b)) distance ∙ ap pos divided in
+          omega (arith, ints, block)),
+    )
+
+    before : start ≡ origin +ℤ pos (begins.0 * (n * b)) → (shift : ℤ) × ((i : ℤ) (m : ℕ) → i ≡ origin +ℤ pos m → int_div_euclid (i -ℤ start) (pos b) +ℤ shift ≡ pos (m / b))
+    before e = (
+      pos (begins.0 * n),
+      (λ i m at. let distance : (i -ℤ start) +ℤ pos (begins.0 * n * b) ≡ pos m = omega (arith, ints, at, e, rounds) in
+          div_euclid-shifted (i -ℤ start) b (begins.0 * n) m some distance),
+    )
+
+-- two ways that end in one block are less than its size apart
+pub same-block : (b m k : ℕ) → 0 < b → m / b ≡ k / b → m < k + b
+same-block b m k some same =
+    omega (arith, div-add-mod m b, div-add-mod k b, ap (λ q. b * q) same, mod_below m b some)
+
 -- an integer is congruent to one that lies c past the start, where c is left of its way past the beginning of a round
 pub congruent-past : (start origin i : ℤ) (round c m : ℕ) → c < round → BeginsRound start round origin → i ≡ origin +ℤ pos m → (is_congruent round (start +ℤ pos c) i ≡ true) ↔ (m % round ≡ c)
 congruent-past start origin i round c m within begins at =

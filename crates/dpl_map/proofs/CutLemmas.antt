@@ -120,6 +120,11 @@ module _ {X P : Type 0} (elements : P → List X) where
       listed zero = lists ∙ every xs
       listed (suc k) = tt
 
+  -- and so it is where it is left out for want of elements
+  pub AreCut-behind_none : (xs ys : List X) (p : P) → elements p ≡ xs → elements p ≡ ys → AreCut elements xs (behind ys p [])
+  AreCut-behind_none xs [] p lists none = subst (λ zs. AreCut elements zs []) (sym none ∙ lists) AreCut-none
+  AreCut-behind_none xs (y ∷ ys) p lists some = AreCut-one xs p lists
+
   module _ (num : X → ℕ) (xs : List X) (pieces : List P) (k : ℕ) (p : P) (cut : AreCut elements (filter (λ x. nat_lt (num x) k) xs) pieces) (lists : elements p ≡ filter (λ x. num x == k) xs) where
     -- a piece without elements changes nothing
     AreCut-empty : elements p ≡ [] → AreCut elements (filter (λ x. nat_lt (num x) (k + 1)) xs) pieces

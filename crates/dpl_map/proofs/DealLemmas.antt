@@ -1,19 +1,25 @@
 -- The members of a range by the blocks that a place gets.
-use Rattle.std.proofs.Common.{◌≡◌, ◌<◌, ◌≤◌, ◌+◌, ◌-◌, ◌*◌, ◌/◌, ◌%◌, ◌==◌, ◌&&◌, ℕ, true, ℤ, pos, negsuc, ◌+ℤ◌, ◌-ℤ◌, ◌≤ℤ◌, int_le, List, [], ◌∷◌, ◌++◌, filter, length, All, refl, ap, sym, ◌∙◌, arith}
+use Rattle.std.proofs.Common.{◌≡◌, ◌⊎◌, ◌<◌, ◌≤◌, ◌+◌, ◌-◌, ◌*◌, ◌/◌, ◌%◌, ◌==◌, ◌&&◌, ℕ, true, ℤ, pos, negsuc, ◌+ℤ◌, ◌-ℤ◌, ◌≤ℤ◌, int_le, List, [], ◌∷◌, ◌++◌, filter, length, All, AllPairs, get_or, inl, inr, unsigned_abs, refl, ap, sym, ◌∙◌, arith, ⊎_elim}
+use Rattle.std.specs.Int.{int_div_euclid}
+use Rattle.std.proofs.lemmas.Option.{get_or_from_slice_get}
+use Rattle.std.proofs.lemmas.List.Kept.{AllPairs-filter}
 use Rattle.std.proofs.lemmas.Int.{ints}
 use Rattle.std.proofs.lemmas.Bool.{eq-eqb, eqb-true, and_from, and_parts}
 use Rattle.std.proofs.lemmas.Nat.{mod_below, mul-add-lt}
-use Rattle.std.proofs.lemmas.List.Elements.{All-weaker}
-use Rattle.std.proofs.Math.Nat.{mul_comm, div-add-mod, div-mul-le_self, le-div_iff_mul-le}
+use Rattle.std.proofs.lemmas.List.Elements.{All-weaker, All-filter}
+use Rattle.std.proofs.Math.Nat.{mul_comm, mul-le-mul, add-mul, div-add-mod, div-mul-le_self, le-div_iff_mul-le}
 use Rattle.dpl_range.specs.Congruence.{is_congruent}
 use Rattle.dpl_range.specs.Members.{count_of}
 use Rattle.dpl_range.specs.Range.{RangeValue, members_of}
-use Rattle.dpl_range.proofs.MemberLemmas.{members-within}
+use Rattle.dpl_range.specs.Walk.{walked}
+use Rattle.dpl_range.proofs.MemberLemmas.{members-within, nth-walked}
 use Rattle.dpl_map.specs.Places.{block_cyclic_place}
 use Rattle.dpl_map.specs.Cuts.{behind}
+use Rattle.dpl_map.specs.Counts.{IsWithinValues}
 use Rattle.dpl_map.specs.Blocks.{past, block_number, block_offset, BeginsRound, IsDeal}
 use Rattle.dpl_map.proofs.CutLemmas.{filter-filter, filter-same, All-each, All-filter_passed, same_test}
-use Rattle.dpl_map.proofs.BlockLemmas.{block_cyclic_place-past, congruent-past, left-of_round, in-block, block-of_round}
+use Rattle.dpl_map.proofs.BlockLemmas.{block_cyclic_place-past, congruent-past, left-of_round, in-block, block-of_round, block-shift, same-block}
+use Rattle.dpl_map.proofs.ValueLemmas.{IsWithinValues-through, IsWithinValues-less, IsWithinValues-length, IsWithinValues-apart}
 
 -- one piece more at the most
 pub length-behind : {X P : Type 0} (xs : List X) (p : P) (pieces : List P) → length (behind xs p pieces) ≤ length pieces + 1
@@ -42,6 +48,11 @@ passes from to i low high = grind (arith, ints)
 
 passed : (from to i : ℤ) → (int_le from i && int_le i to) ≡ true → (from ≤ℤ i) × (i ≤ℤ to)
 passed from to i held = (grind (arith, ints), grind (arith, ints))
+
+-- walks of which one goes some way past the other's end
+walked-apart : (low high stride : ℤ) (a b way : ℕ) → a + way ≤ b → ((walked low high stride a +ℤ pos way) ≤ℤ walked low high stride b) ⊎ ((walked low high stride b +ℤ pos way) ≤ℤ walked low high stride a)
+walked-apart low high (pos s) a b way farther = inl (omega (arith, ints, farther))
+walked-apart low high (negsuc s) a b way farther = inr (omega (arith, ints, farther))
 
 module _ (r : RangeValue) (origin : ℤ) (size extent place : ℕ) (deal : IsDeal r origin size extent place) where
   -- the members lie past the origin
@@ -133,3 +144,46 @@ module _ (r : RangeValue) (origin : ℤ) (size extent place : ℕ) (deal : IsDea
   pub offsets-end : All (λ i. block_offset origin size i < size) (filter (λ i. block_number origin size i % extent == place) (members_of r))
   offsets-end =
       All-each (λ i. block_offset origin size i < size) (λ i. mod_below (past origin i) size deal.some) (filter (λ i. block_number origin size i % extent == place) (members_of r))
+
+  -- the blocks of the place's members, counted from the start, are as many as counted from the beginning of a round
+  numbers-blocks : (start : ℤ) (n : ℕ) → BeginsRound start (extent * size) origin → IsWithinValues (block_number origin size) (filter (λ i. block_number origin size i % extent == place) (members_of r)) n → IsWithinValues (λ i. int_div_euclid (i -ℤ start) (pos size)) (filter (λ i. block_number origin size i % extent == place) (members_of r)) n
+  numbers-blocks start n begins within =
+      let shift = block-shift start origin size extent deal.some begins in
+      IsWithinValues-through (λ i. int_div_euclid (i -ℤ start) (pos size)) (block_number origin size) (λ z. count_of (z +ℤ shift.0)) (filter (λ i. block_number origin size i % extent == place) (members_of r)) n
+      (All-filter (λ i. block_number origin size i % extent == place) (λ i. count_of (int_div_euclid (i -ℤ start) (pos size) +ℤ shift.0) ≡ block_number origin size i) (members_of r)
+      (All-weaker (λ i. (i ≡ origin +ℤ pos (past origin i)) × (i ≤ℤ r.high)) (λ i. count_of (int_div_euclid (i -ℤ start) (pos size) +ℤ shift.0) ≡ block_number origin size i)
+      (λ i w. ap count_of (shift.1 i (past origin i) w.0)) (members_of r) members-past))
+      within
+
+  -- and no fewer than the rounds that have some
+  pub rounds-blocks : (start : ℤ) (n : ℕ) → BeginsRound start (extent * size) origin → IsWithinValues (λ i. block_number origin size i / extent) (filter (λ i. block_number origin size i % extent == place) (members_of r)) n → IsWithinValues (λ i. int_div_euclid (i -ℤ start) (pos size)) (filter (λ i. block_number origin size i % extent == place) (members_of r)) n
+  rounds-blocks start n begins within =
+      let dealt = filter (λ i. block_number origin size i % extent == place) (members_of r) in
+      numbers-blocks start n begins
+      (IsWithinValues-through (block_number origin size) (λ i. block_number origin size i / extent) (λ number. number / extent) dealt n
+      (All-each (λ i. block_number origin size i / extent ≡ block_number origin size i / extent) (λ i. refl) dealt) within)
+
+  -- where a stride passes over more than a block, no two members are in one
+  members-apart : size < unsigned_abs r.stride → AllPairs (λ i j. block_number origin size i ≡ block_number origin size j → ⊥) (members_of r)
+  members-apart sparse j k d before within =
+      λ same.
+      let i_at = get_or_from_slice_get (members_of r) j _ d (nth-walked r j deal.limits (omega (arith, before, within))) in
+      let j_at = get_or_from_slice_get (members_of r) k _ d (nth-walked r k deal.limits within) in
+      let i_past = members-past j d (omega (arith, before, within)) in
+      let j_past = members-past k d within in
+      let way : j * unsigned_abs r.stride + unsigned_abs r.stride ≤ k * unsigned_abs r.stride =
+      omega (arith, mul-le-mul {n₁ = j + 1} {m₁ = unsigned_abs r.stride} {n₂ = k} {m₂ = unsigned_abs r.stride} (omega (arith, before)) (omega arith), add-mul j 1 (unsigned_abs r.stride)) in
+      let near = same-block size (past origin (get_or (members_of r) j d)) (past origin (get_or (members_of r) k d)) deal.some same in
+      let nigh = same-block size (past origin (get_or (members_of r) k d)) (past origin (get_or (members_of r) j d)) deal.some (sym same) in
+      ⊎_elim
+      (λ ahead. omega (arith, ints, ahead, i_at, j_at, i_past.0, j_past.0, near, nigh, sparse))
+      (λ behind. omega (arith, ints, behind, i_at, j_at, i_past.0, j_past.0, near, nigh, sparse))
+      (walked-apart r.low r.high r.stride (j * unsigned_abs r.stride) (k * unsigned_abs r.stride) (unsigned_abs r.stride) way)
+
+  -- so its blocks that have members are no fewer than its members, and than the offsets at which they lie
+  pub offsets-blocks : (start : ℤ) (n : ℕ) → size < unsigned_abs r.stride → BeginsRound start (extent * size) origin → IsWithinValues (block_offset origin size) (filter (λ i. block_number origin size i % extent == place) (members_of r)) n → IsWithinValues (λ i. int_div_euclid (i -ℤ start) (pos size)) (filter (λ i. block_number origin size i % extent == place) (members_of r)) n
+  offsets-blocks start n sparse begins within =
+      let dealt = filter (λ i. block_number origin size i % extent == place) (members_of r) in
+      numbers-blocks start n begins
+      (IsWithinValues-less (block_number origin size) dealt n (length dealt) (IsWithinValues-length (block_offset origin size) dealt n within)
+      (IsWithinValues-apart (block_number origin size) dealt (AllPairs-filter (λ i j. block_number origin size i ≡ block_number origin size j → ⊥) (λ i. block_number origin size i % extent == place) (members_of r) (members-apart sparse))))

@@ -1,4 +1,5 @@
 pub mod CutLemmas
+pub mod ValueLemmas
 pub mod BlockLemmas
 pub mod DealLemmas
 mod Worked
@@ -10,6 +11,7 @@ pub mod StartLemmas
 pub mod FilterLemmas
 pub mod AxisLemmas
 pub mod PartLemmas
+pub mod FewLemmas
 pub mod LawLemmas
 pub mod ProductCuts
 pub mod MapLemmas

@@ -2,6 +2,7 @@ pub mod Places
 pub mod Grids
 pub mod Maps
 pub mod Cuts
+pub mod Counts
 pub mod Blocks
 pub mod Parts
 pub mod GridFields

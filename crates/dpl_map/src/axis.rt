@@ -5,10 +5,11 @@ ghost use Rattle.dpl_range.specs.Range.{members_of, IsBound, IsRange};
 ghost use Rattle.dpl_map.specs.AxisFields.{IsAxis};
 ghost use Rattle.dpl_map.specs.Grids.{IsGridSize};
 ghost use Rattle.dpl_map.specs.Cuts.{AreCut};
+ghost use Rattle.dpl_map.specs.Counts.{AreFewRanges};
 ghost use Rattle.dpl_map.specs.Maps.{axis_place, IsBoxed, IsSingle, Block, Cyclic, BlockCyclic};
 ghost use Rattle.dpl_map.specs.Places.{block_place, cyclic_place, block_cyclic_place};
 
-use crate::blocks::dealt;
+use crate::blocks::{dealt, keep};
 use dpl_range::{LIMIT, Range};
 use std::alloc::{AllocError, Global};
 use std::marker::Model;
@@ -106,21 +107,21 @@ impl Axis {
         self.extent
     }
 
-    /// The members of a range that a place owns, as ranges, each in the order of the range: one range, or for the
-    /// block-cyclic rule one for each block or one for each offset in a block, whichever are fewer.
+    /// The members of a range that a place owns, as ranges with members, each in the order of the range: one range, or for
+    /// the block-cyclic rule one for each block that has some, or one for each offset in a block, whichever are fewer.
     ///
     /// # Errors
     /// No memory for them.
     pub fn parts(&self, alloc: Global, range: &Range, place: u32) -> Result<Vec<Range>, AllocError>
         requires { place < self.now.extent }
         ensures cut { IfOk result (λ v. AreCut members_of (filter (λ i. axis_place self.now i == place) (members_of range.now)) v.items) }
-        ensures one { IsSingle self.now.rule → IfOk result (λ v. length v.items ≡ 1) }
+        ensures few { IfOk result (λ v. AreFewRanges self.now.rule (filter (λ i. axis_place self.now i == place) (members_of range.now)) (length v.items)) }
     {
         if let Rule::BlockCyclic { start, size } = self.rule {
             return dealt(alloc, range, start, size, self.extent, place);
         }
-        let mut parts = Vec::with_capacity(alloc, 1)?;
-        parts.push(self.part(range, place))?;
+        let mut parts = Vec::new(alloc);
+        keep(&mut parts, self.part(range, place))?;
         Ok(parts)
     }
 

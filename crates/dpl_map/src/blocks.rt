@@ -1,11 +1,13 @@
 // The block-cyclic rule along one dimension: the members of a range that a place gets, as ranges.
 // Blocks are counted from an origin at which a round of them begins, one block for each place.
 
-ghost use Rattle.std.specs.Prelude.{◌≡◌, ◌≤◌, ◌<◌, ◌+◌, ◌-◌, ◌*◌, ◌/◌, ◌%◌, ◌==◌, ◌&&◌, ◌^◌, ℕ, pos, ◌≤ℤ◌, ◌+ℤ◌, ◌-ℤ◌, neg_ℤ, int_le, filter, length, IfOk, OnOk};
+ghost use Rattle.std.specs.Prelude.{◌≡◌, ◌≤◌, ◌<◌, ◌+◌, ◌-◌, ◌*◌, ◌/◌, ◌%◌, ◌==◌, ◌&&◌, ◌^◌, ℕ, pos, ◌≤ℤ◌, ◌+ℤ◌, ◌-ℤ◌, neg_ℤ, int_le, filter, length, IfOk, IfSome, IsNone, OnOk};
+ghost use Rattle.std.specs.Int.{int_div_euclid};
 ghost use Rattle.dpl_range.specs.Range.{members_of, IsBound};
 ghost use Rattle.dpl_map.specs.Grids.{IsGridSize};
 ghost use Rattle.dpl_map.specs.Places.{block_cyclic_place};
 ghost use Rattle.dpl_map.specs.Cuts.{AreCut, behind};
+ghost use Rattle.dpl_map.specs.Counts.{IsWithinValues};
 ghost use Rattle.dpl_map.specs.Blocks.{past, block_number, block_offset, BeginsRound, IsDeal};
 
 use dpl_range::Range;
@@ -30,16 +32,19 @@ pub fn dealt(
     requires place { place < extent }
     ensures cut { IfOk result (λ v. AreCut members_of (filter (λ i. block_cyclic_place start size extent i == place) (members_of range.now)) v.items) }
     ensures few { IfOk result (λ v. pos (length v.items) ≤ℤ size) }
+    ensures blocks { IfOk result (λ v. IsWithinValues (λ i. int_div_euclid (i -ℤ start) size) (filter (λ i. block_cyclic_place start size extent i == place) (members_of range.now)) (length v.items)) }
 {
     if range.size() == 0 {
         return Ok(Vec::new(alloc));
     }
     let deal = Deal::new(*range, start, size as u64, extent as u64, place as u64);
     let rounds = deal.rounds();
-    if rounds <= deal.size {
-        deal.by_blocks(alloc, rounds)
-    } else {
-        deal.by_offsets(alloc, start)
+    if deal.size < rounds && deal.size < range.stride().unsigned_abs() {
+        return deal.by_offsets(alloc, start);
+    }
+    match deal.by_blocks(alloc, rounds)? {
+        Some(pieces) => Ok(pieces),
+        None => deal.by_offsets(alloc, start),
     }
 }
 
@@ -69,8 +74,11 @@ fn between(range: &Range, low: i128, high: i128) -> Range
     range.slice(low as i64, high as i64)
 }
 
-// Puts a range behind others, if it has members.
-fn keep(pieces: &mut Vec<Range>, piece: Range) -> Result<(), AllocError>
+/// Puts a range behind others, if it has members.
+///
+/// # Errors
+/// No memory for it.
+pub fn keep(pieces: &mut Vec<Range>, piece: Range) -> Result<(), AllocError>
     ensures { OnOk result (pieces.new.items ≡ behind (members_of piece) piece pieces.old.items) }
 {
     if piece.size() == 0 {
@@ -179,20 +187,27 @@ impl Deal {
         between(&self.range, self.begin(number), self.end(number))
     }
 
-    // The place's blocks, one after another.
-    fn by_blocks(&self, alloc: Global, rounds: u64) -> Result<Vec<Range>, AllocError>
+    // The members in each of the place's blocks, one block after another. There is no such list where more of the blocks
+    // have members than a block has offsets.
+    fn by_blocks(&self, alloc: Global, rounds: u64) -> Result<Option<Vec<Range>>, AllocError>
         requires deal { IsDeal self.now.range self.now.origin self.now.size self.now.extent self.now.place }
         requires all { (j : ℕ) → j < rounds → j * self.now.extent + self.now.place ≤ block_number self.now.origin self.now.size self.now.range.high }
         requires enough { (j : ℕ) → j * self.now.extent + self.now.place ≤ block_number self.now.origin self.now.size self.now.range.high → j < rounds }
         requires near { block_number self.now.origin self.now.size self.now.range.high ≤ 2 ^ 61 + 64 }
-        ensures cut { IfOk result (λ v. AreCut members_of (filter (λ i. block_number self.now.origin self.now.size i % self.now.extent == self.now.place) (members_of self.now.range)) v.items) }
-        ensures few { IfOk result (λ v. length v.items ≤ rounds) }
+        ensures cut { IfOk result (λ found. IfSome found (λ v. AreCut members_of (filter (λ i. block_number self.now.origin self.now.size i % self.now.extent == self.now.place) (members_of self.now.range)) v.items)) }
+        ensures few { IfOk result (λ found. IfSome found (λ v. length v.items ≤ self.now.size)) }
+        ensures blocks { IfOk result (λ found. IfSome found (λ v. IsWithinValues (λ i. block_number self.now.origin self.now.size i / self.now.extent) (filter (λ i. block_number self.now.origin self.now.size i % self.now.extent == self.now.place) (members_of self.now.range)) (length v.items))) }
+        ensures many { IfOk result (λ found. IsNone found → IsWithinValues (λ i. block_number self.now.origin self.now.size i / self.now.extent) (filter (λ i. block_number self.now.origin self.now.size i % self.now.extent == self.now.place) (members_of self.now.range)) (self.now.size + 1)) }
+        ensures later { IfOk result (λ found. IsNone found → self.now.size < rounds) }
     {
         let mut pieces = Vec::new(alloc);
         for round in 0..rounds {
             keep(&mut pieces, self.block(round * self.extent + self.place))?;
+            if self.size < pieces.len() as u64 {
+                return Ok(None);
+            }
         }
-        Ok(pieces)
+        Ok(Some(pieces))
     }
 
     // The members of the place's blocks by their offsets: those of one offset are a class of congruence.
@@ -203,6 +218,7 @@ impl Deal {
         requires begins { BeginsRound start (self.now.extent * self.now.size) self.now.origin }
         ensures cut { IfOk result (λ v. AreCut members_of (filter (λ i. block_number self.now.origin self.now.size i % self.now.extent == self.now.place) (members_of self.now.range)) v.items) }
         ensures few { IfOk result (λ v. length v.items ≤ self.now.size) }
+        ensures offsets { IfOk result (λ v. IsWithinValues (block_offset self.now.origin self.now.size) (filter (λ i. block_number self.now.origin self.now.size i % self.now.extent == self.now.place) (members_of self.now.range)) (length v.items)) }
     {
         let mut pieces = Vec::new(alloc);
         for offset in 0..self.size {

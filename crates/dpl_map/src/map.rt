@@ -205,6 +205,7 @@ impl Map {
         ensures apart { (ranges : List RangeValue) (t : List ℤ) (j k : ℕ) → Contains (part ranges self.now j) t → Contains (part ranges self.now k) t → j ≡ k }
         ensures together { (ranges : List RangeValue) (t : List ℤ) → Contains (indices ranges) t → (k : ℕ) × (k < result) × Contains (part ranges self.now k) t }
         ensures most { result ≤ 64 }
+        ensures limits { All IsAxis self.now }
     {
         self.outer.extent() * self.middle.extent() * self.inner.extent()
     }

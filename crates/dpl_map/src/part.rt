@@ -3,6 +3,7 @@
 ghost use Rattle.std.specs.Prelude.{◌≡◌, ◌≤◌, ◌<◌, ◌*◌, ◌+◌, [], length, IfOk, IfSome, IfNone, OnErr};
 ghost use Rattle.dpl_domain.specs.Indices.{indices, IsSmall};
 ghost use Rattle.dpl_map.specs.Maps.{places, AreSingle};
+ghost use Rattle.dpl_map.specs.Counts.{AreFew};
 ghost use Rattle.dpl_map.specs.Cuts.{AreCut};
 ghost use Rattle.dpl_map.specs.Parts.{part};
 
@@ -24,18 +25,19 @@ impl From<AllocError> for NoMemory {
 
 impl Map {
     /// The part of a domain that a locale owns: domains that have no index in common and together hold exactly
-    /// the indices that it owns, each in the domain's order. It is one domain, but by the block-cyclic rule: there a
-    /// dimension is cut into the locale's blocks, or by the offsets in a block, whichever are fewer. There is none for
-    /// a locale that is no place of the map.
+    /// the indices that it owns, each in the domain's order. It is one domain at the most, but by the block-cyclic rule:
+    /// there each dimension is cut into no more ranges than a block has offsets, and no more than the locale has blocks
+    /// with an index of the part. There is none for a locale that is no place of the map.
     ///
     /// # Errors
     /// No memory for the domains.
     pub fn part(&self, alloc: Global, domain: &Domain, locale: u32) -> Result<Vec<Domain>, NoMemory>
         ensures cut { IfOk result (λ domains. AreCut indices (part domain.now self.now locale) domains.items) }
         ensures one { AreSingle self.now → IfOk result (λ domains. length domains.items ≤ 1) }
+        ensures few { IfOk result (λ domains. AreFew self.now (part domain.now self.now locale) (length domains.items)) }
         ensures none { IfOk result (λ domains. places self.now ≤ locale → domains.items ≡ []) }
     {
-        if domain.size() == 0 || self.places() <= locale {
+        if self.places() <= locale || domain.size() == 0 {
             return Ok(Vec::new(alloc));
         }
         if domain.rank() == self.rank() {
@@ -55,6 +57,7 @@ impl Map {
         requires small { IsSmall domain.now }
         ensures cut { IfOk result (λ domains. AreCut indices (part domain.now self.now locale) domains.items) }
         ensures one { AreSingle self.now → IfOk result (λ domains. length domains.items ≤ 1) }
+        ensures few { IfOk result (λ domains. AreFew self.now (part domain.now self.now locale) (length domains.items)) }
     {
         let (outer, middle, inner) = self.axes();
         let (first, second, last) = padded(domain);

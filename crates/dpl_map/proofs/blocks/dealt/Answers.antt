@@ -1,14 +1,17 @@
 -- The members that the rule deals to the place are those of its blocks, however they are cut out.
-use Rattle.std.proofs.Common.{◌≡◌, ◌≤◌, ◌≤ℤ◌, ◌==◌, ◌%◌, ℤ, pos, int_le, List, [], ◌∷◌, filter, FitsSigned, w64, length, IfOk, ap, sym, subst, ◌∙◌, arith, ⊎_elim}
+use Rattle.std.proofs.Common.{◌≡◌, ◌<◌, ◌≤◌, ◌≤ℤ◌, ◌-ℤ◌, ◌==◌, ◌+◌, ◌*◌, ◌%◌, ℕ, ℤ, pos, unsigned_abs, int_le, List, [], ◌∷◌, filter, FitsSigned, w64, length, IfOk, refl, ap, sym, subst, ◌∙◌, arith, ⊎_elim}
+use Rattle.std.specs.Int.{int_div_euclid}
 use Rattle.std.proofs.lemmas.Int.{ints, to_z-of_z}
 use Rattle.std.proofs.lemmas.Result.{IfOk-weaker}
 use Rattle.dpl_range.specs.Range.{RangeValue, members_of}
 use Rattle.dpl_range.proofs.MemberLemmas.{members-empty}
 use Rattle.dpl_map.specs.Places.{block_cyclic_place}
 use Rattle.dpl_map.specs.Cuts.{AreCut}
-use Rattle.dpl_map.specs.Blocks.{block_number}
+use Rattle.dpl_map.specs.Counts.{IsWithinValues}
+use Rattle.dpl_map.specs.Blocks.{block_number, block_offset, BeginsRound}
 use Rattle.dpl_map.proofs.CutLemmas.{tells, AreCut-none}
-use Rattle.dpl_map.proofs.DealLemmas.{place-members}
+use Rattle.dpl_map.proofs.DealLemmas.{place-members, rounds-blocks, offsets-blocks}
+use Rattle.dpl_map.proofs.ValueLemmas.{IsWithinValues-less}
 use Rattle.dpl_map.proofs.blocks.dealt.Goals as goal
 use Rattle.dpl_map.proofs.blocks.dealt.Goals.{After-new-deal}
 
@@ -42,20 +45,77 @@ dealt-is c =
     ∙ ap (λ p. filter (λ i. block_cyclic_place c.args.start c.args.size c.args.extent i == p) (members_of d.range)) c.new-deal.ensures.place
     ∙ ap (λ (r : RangeValue). filter (λ i. block_cyclic_place c.args.start c.args.size c.args.extent i == c.args.place) (members_of r)) c.new-deal.ensures.range
 
-pub returns-then-rounds-deal-clause-cut : goal.returns-then-rounds-deal-clause-cut
-returns-then-rounds-deal-clause-cut c =
-    subst (λ is. IfOk c.by_blocks.result (λ v. AreCut members_of is v.items)) (dealt-is (goal.at.returns-then-rounds-deal-clause-cut c).After-new-deal) c.by_blocks.ensures.cut
+-- and the blocks that have some of it, by those of the deal
+blocks-are : (c : After-new-deal) (n : ℕ) → IsWithinValues (λ i. int_div_euclid (i -ℤ c.args.start) (pos c.new-deal.result.size)) (filter (λ i. block_number c.new-deal.result.origin c.new-deal.result.size i % c.new-deal.result.extent == c.new-deal.result.place) (members_of c.new-deal.result.range)) n → IsWithinValues (λ i. int_div_euclid (i -ℤ c.args.start) c.args.size) (filter (λ i. block_cyclic_place c.args.start c.args.size c.args.extent i == c.args.place) (members_of c.args.range.now)) n
+blocks-are c n within =
+    let d = c.new-deal.result in
+    let dealt = filter (λ i. block_number d.origin d.size i % d.extent == d.place) (members_of d.range) in
+    let size : pos d.size ≡ c.args.size = omega (arith, ints, c.new-deal.ensures.size, c.requires.some) in
+    let sized : IsWithinValues (λ i. int_div_euclid (i -ℤ c.args.start) c.args.size) dealt n = subst (λ (s : ℤ). IsWithinValues (λ i. int_div_euclid (i -ℤ c.args.start) s) dealt n) size within in
+    subst (λ (is : List ℤ). IsWithinValues (λ i. int_div_euclid (i -ℤ c.args.start) c.args.size) is n) (dealt-is c) sized
 
-pub returns-then-rounds-deal-clause-few : goal.returns-then-rounds-deal-clause-few
-returns-then-rounds-deal-clause-few c =
-    IfOk-weaker c.by_blocks.result (λ v. length v.items ≤ c.rounds-rounds.result) (λ v. pos (length v.items) ≤ℤ c.args.size)
-    (λ v few. omega (arith, ints, few, c.if-rounds-deal.true, c.new-deal.ensures.size, c.requires.some)) c.by_blocks.ensures.few
+-- where the rounds of the deal begin
+begins-at : (c : After-new-deal) → BeginsRound c.args.start (c.new-deal.result.extent * c.new-deal.result.size) c.new-deal.result.origin
+begins-at c =
+    let start_fits : FitsSigned w64 c.args.start = c.ranges.start in
+    simp to_z-of_z at c.new-deal.ensures.begins
 
-pub returns-else-rounds-deal-clause-cut : goal.returns-else-rounds-deal-clause-cut
-returns-else-rounds-deal-clause-cut c =
-    subst (λ is. IfOk c.by_offsets.result (λ v. AreCut members_of is v.items)) (dealt-is (goal.at.returns-else-rounds-deal-clause-cut c).After-new-deal) c.by_offsets.ensures.cut
+pub returns-then-deal-unsigned_abs-clause-cut : goal.returns-then-deal-unsigned_abs-clause-cut
+returns-then-deal-unsigned_abs-clause-cut c =
+    subst (λ is. IfOk c.by_offsets.result (λ v. AreCut members_of is v.items)) (dealt-is (goal.at.returns-then-deal-unsigned_abs-clause-cut c).After-new-deal) c.by_offsets.ensures.cut
 
-pub returns-else-rounds-deal-clause-few : goal.returns-else-rounds-deal-clause-few
-returns-else-rounds-deal-clause-few c =
+pub returns-then-deal-unsigned_abs-clause-few : goal.returns-then-deal-unsigned_abs-clause-few
+returns-then-deal-unsigned_abs-clause-few c =
     IfOk-weaker c.by_offsets.result (λ v. length v.items ≤ c.new-deal.result.size) (λ v. pos (length v.items) ≤ℤ c.args.size)
     (λ v few. omega (arith, ints, few, c.new-deal.ensures.size, c.requires.some)) c.by_offsets.ensures.few
+
+pub returns-then-deal-unsigned_abs-clause-blocks : goal.returns-then-deal-unsigned_abs-clause-blocks
+returns-then-deal-unsigned_abs-clause-blocks c =
+    let d = c.new-deal.result in
+    let before = (goal.at.returns-then-deal-unsigned_abs-clause-blocks c).After-new-deal in
+    let sparse : d.size < unsigned_abs d.range.stride =
+    omega (arith, ints, c.if-deal-unsigned_abs.true, c.unsigned_abs.ensures.value, c.stride.ensures.stride, ap (λ (r : RangeValue). r.stride) c.new-deal.ensures.range) in
+    IfOk-weaker c.by_offsets.result
+    (λ v. IsWithinValues (block_offset d.origin d.size) (filter (λ i. block_number d.origin d.size i % d.extent == d.place) (members_of d.range)) (length v.items))
+    (λ v. IsWithinValues (λ i. int_div_euclid (i -ℤ c.args.start) c.args.size) (filter (λ i. block_cyclic_place c.args.start c.args.size c.args.extent i == c.args.place) (members_of c.args.range.now)) (length v.items))
+    (λ v within. blocks-are before (length v.items) (offsets-blocks d.range d.origin d.size d.extent d.place c.new-deal.ensures.deal c.args.start (length v.items) sparse (begins-at before) within))
+    c.by_offsets.ensures.offsets
+
+pub returns-in-Some-clause-cut : goal.returns-in-Some-clause-cut
+returns-in-Some-clause-cut c =
+    let cut = rw c.in-Some.is at c.in_ok-pieces.ensures.cut in
+    subst (λ is. AreCut members_of is c.in-Some.pieces.items) (dealt-is (goal.at.returns-in-Some-clause-cut c).After-new-deal) cut
+
+pub returns-in-Some-clause-few : goal.returns-in-Some-clause-few
+returns-in-Some-clause-few c =
+    let few = rw c.in-Some.is at c.in_ok-pieces.ensures.few in
+    omega (arith, ints, few, c.new-deal.ensures.size, c.requires.some)
+
+pub returns-in-Some-clause-blocks : goal.returns-in-Some-clause-blocks
+returns-in-Some-clause-blocks c =
+    let d = c.new-deal.result in
+    let before = (goal.at.returns-in-Some-clause-blocks c).After-new-deal in
+    let within = rw c.in-Some.is at c.in_ok-pieces.ensures.blocks in
+    blocks-are before (length c.in-Some.pieces.items)
+    (rounds-blocks d.range d.origin d.size d.extent d.place c.new-deal.ensures.deal c.args.start (length c.in-Some.pieces.items) (begins-at before) within)
+
+pub returns-in-None-clause-cut : goal.returns-in-None-clause-cut
+returns-in-None-clause-cut c =
+    subst (λ is. IfOk c.by_offsets-in-None.result (λ v. AreCut members_of is v.items)) (dealt-is (goal.at.returns-in-None-clause-cut c).After-new-deal) c.by_offsets-in-None.ensures.cut
+
+pub returns-in-None-clause-few : goal.returns-in-None-clause-few
+returns-in-None-clause-few c =
+    IfOk-weaker c.by_offsets-in-None.result (λ v. length v.items ≤ c.new-deal.result.size) (λ v. pos (length v.items) ≤ℤ c.args.size)
+    (λ v few. omega (arith, ints, few, c.new-deal.ensures.size, c.requires.some)) c.by_offsets-in-None.ensures.few
+
+pub returns-in-None-clause-blocks : goal.returns-in-None-clause-blocks
+returns-in-None-clause-blocks c =
+    let d = c.new-deal.result in
+    let before = (goal.at.returns-in-None-clause-blocks c).After-new-deal in
+    let dealt = filter (λ i. block_number d.origin d.size i % d.extent == d.place) (members_of d.range) in
+    let many = (rw c.in-None.is at c.in_ok-pieces.ensures.many) refl in
+    let blocks = rounds-blocks d.range d.origin d.size d.extent d.place c.new-deal.ensures.deal c.args.start (d.size + 1) (begins-at before) many in
+    IfOk-weaker c.by_offsets-in-None.result (λ v. length v.items ≤ d.size)
+    (λ v. IsWithinValues (λ i. int_div_euclid (i -ℤ c.args.start) c.args.size) (filter (λ i. block_cyclic_place c.args.start c.args.size c.args.extent i == c.args.place) (members_of c.args.range.now)) (length v.items))
+    (λ v few. blocks-are before (length v.items) (IsWithinValues-less (λ i. int_div_euclid (i -ℤ c.args.start) (pos d.size)) dealt (length v.items) (d.size + 1) (omega (arith, few)) blocks))
+    c.by_offsets-in-None.ensures.few

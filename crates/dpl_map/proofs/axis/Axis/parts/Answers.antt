@@ -1,15 +1,29 @@
--- One range is a cut of its own members.
-use Rattle.std.proofs.Common.{◌≡◌, [], ◌∷◌, ◌++◌, ◌==◌, ap, refl, filter, ◌∙◌}
-use Rattle.dpl_range.specs.Range.{members_of}
-use Rattle.dpl_map.specs.Maps.{axis_place}
-use Rattle.dpl_map.proofs.CutLemmas.{AreCut-one}
+-- One range is a cut of its own members, and so is none of nothing.
+use Rattle.std.proofs.Common.{rules, ◌≡◌, [], ◌==◌, ℤ, List, ap, subst, refl, filter, length, ◌∙◌, FitsSigned, w64}
+use Rattle.std.proofs.lemmas.Int.{to_z-of_z}
+use Rattle.dpl_range.specs.Range.{RangeValue, members_of}
+use Rattle.dpl_map.specs.Cuts.{behind}
+use Rattle.dpl_map.specs.Counts.{AreFewRanges}
+use Rattle.dpl_map.specs.Maps.{axis_place, IsSingle}
+use Rattle.dpl_map.proofs.CutLemmas.{AreCut-behind_none}
+use Rattle.dpl_map.proofs.FewLemmas.{IfOk-both, AreFewRanges-single}
 use Rattle.dpl_map.proofs.axis.Axis.parts.Goals as goal
+
+pub returns-in-BlockCyclic-clause-few : goal.returns-in-BlockCyclic-clause-few
+returns-in-BlockCyclic-clause-few c =
+    let start_fits : FitsSigned w64 c.in-BlockCyclic.start = search rules in
+    let size_fits : FitsSigned w64 c.in-BlockCyclic.size = search rules in
+    let few = simp to_z-of_z at c.dealt.ensures.few in
+    let blocks = simp to_z-of_z at c.dealt.ensures.blocks in
+    rw (← c.self.view_is, c.in-BlockCyclic.is) (IfOk-both c.dealt.result _ _ few blocks)
 
 pub returns : goal.returns
 returns c =
-    let items : c.push.new.self.items ≡ c.part.result ∷ [] =
-    c.in_ok-push.ensures.items ∙ ap (λ parts. parts ++ c.part.result ∷ []) c.in_ok-parts.ensures.items in
+    let owned = filter (λ i. axis_place c.args.self.now i == c.args.place) (members_of c.args.range.now) in
+    let items : c.keep.new.pieces.items ≡ behind (members_of c.part.result) c.part.result [] =
+    c.in_ok-keep.ensures ∙ ap (λ (parts : List RangeValue). behind (members_of c.part.result) c.part.result parts) c.new-parts.ensures.items in
+    let single : IsSingle c.args.self.now.rule = search rules in
     rw items (record {
-      cut = AreCut-one members_of (filter (λ i. axis_place c.args.self.now i == c.args.place) (members_of c.args.range.now)) c.part.result c.part.ensures.members;
-      one = λ _. refl;
+      cut = AreCut-behind_none members_of owned (members_of c.part.result) c.part.result c.part.ensures.members refl;
+      few = subst (λ (is : List ℤ). AreFewRanges c.args.self.now.rule is (length (behind (members_of c.part.result) c.part.result []))) c.part.ensures.members (AreFewRanges-single c.args.self.now.rule (members_of c.part.result) c.part.result single);
     })

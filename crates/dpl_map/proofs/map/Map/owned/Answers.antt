@@ -1,8 +1,9 @@
 -- The place's coordinates, and what is owned by it.
-use Rattle.std.proofs.Common.{◌≡◌, ◌≤◌, ◌<◌, ◌*◌, ◌/◌, ◌%◌, ap, sym, subst, ◌∙◌, refl, arith, length, ℕ, List, IfOk}
+use Rattle.std.proofs.Common.{◌≡◌, ◌≤◌, ◌<◌, ◌*◌, ◌/◌, ◌%◌, ap, sym, subst, ◌∙◌, arith, length, ℕ, ℤ, List, IfOk}
 use Rattle.dpl_range.specs.Range.{RangeValue, members_of}
 use Rattle.dpl_domain.specs.Indices.{tuples, indices}
 use Rattle.dpl_domain.specs.Ranks.{last_of}
+use Rattle.dpl_map.specs.Counts.{AreFewRanges, AreFew}
 use Rattle.dpl_map.specs.Cuts.{AreCut}
 use Rattle.dpl_map.specs.MapFields.{IsMap}
 use Rattle.dpl_map.specs.Maps.{AxisValue, places, AreSingle}
@@ -10,7 +11,8 @@ use Rattle.dpl_map.specs.Parts.{part}
 use Rattle.dpl_map.proofs.OwnerLemmas.{places-padded}
 use Rattle.dpl_map.proofs.PartLemmas.{IsSeat, seat, owned_of, tuples-part, part-small}
 use Rattle.dpl_map.proofs.ProductCuts.{length-product}
-use Rattle.dpl_map.proofs.MapLemmas.{single-idle, AreSingle-last_of}
+use Rattle.dpl_map.proofs.MapLemmas.{AreSingle-last_of, one-unused, one-single, one-product}
+use Rattle.dpl_map.proofs.FewLemmas.{FewEach, FewEach-last_of, AreFew-tuples, All-axes}
 use Rattle.std.proofs.lemmas.Result.{IfOk-weaker}
 use Rattle.dpl_map.proofs.map.Map.owned.Goals as goal
 use Rattle.dpl_map.proofs.map.Map.owned.Goals.{After-deref-3}
@@ -70,16 +72,47 @@ tuples-owned c =
     ∙ sym (ap (λ (d : List RangeValue). part d (last_of (length c.args.self.now) c.axes-outer.result.0 c.axes-outer.result.1 c.axes-outer.result.2) c.args.locale) domain)
     ∙ sym (ap (λ (axes : List AxisValue). part c.args.domain.now axes c.args.locale) c.axes-outer.ensures.axes)
 
+-- and each is in few ranges
+outer-few : (c : After-deref-3) → AreFewRanges c.axes-outer.result.0.rule (owned_of c.axes-outer.result.0 (plane c) c.padded-first.result.0) (length c.deref.result.now)
+outer-few c =
+    let few = rw (c.extent.ensures.extent, c.extent-2.ensures.extent) at c.in_ok-outers.ensures.few in
+    subst (λ (ranges : List RangeValue). AreFewRanges c.axes-outer.result.0.rule (owned_of c.axes-outer.result.0 (plane c) c.padded-first.result.0) (length ranges)) (sym c.deref.ensures.value) few
+
+middle-few : (c : After-deref-3) → AreFewRanges c.axes-outer.result.1.rule (owned_of c.axes-outer.result.1 (row c) c.padded-first.result.1) (length c.deref-2.result.now)
+middle-few c =
+    let few = rw (c.extent.ensures.extent, c.extent-3.ensures.extent) at c.in_ok-middles.ensures.few in
+    subst (λ (ranges : List RangeValue). AreFewRanges c.axes-outer.result.1.rule (owned_of c.axes-outer.result.1 (row c) c.padded-first.result.1) (length ranges)) (sym c.deref-2.ensures.value) few
+
+inner-few : (c : After-deref-3) → AreFewRanges c.axes-outer.result.2.rule (owned_of c.axes-outer.result.2 (column c) c.padded-first.result.2) (length c.deref-3.result.now)
+inner-few c =
+    let few = rw c.extent-4.ensures.extent at c.in_ok-inners.ensures.few in
+    subst (λ (ranges : List RangeValue). AreFewRanges c.axes-outer.result.2.rule (owned_of c.axes-outer.result.2 (column c) c.padded-first.result.2) (length ranges)) (sym c.deref-3.ensures.value) few
+
+seat-of : (c : After-deref-3) → IsSeat c.args.locale c.axes-outer.result.0.extent c.axes-outer.result.1.extent c.axes-outer.result.2.extent (plane c) (row c) (column c)
+seat-of c =
+    seated c.args.self.now c.args.locale (length c.args.self.now) c.axes-outer.result.0 c.axes-outer.result.1 c.axes-outer.result.2
+    c.axes-outer.ensures.axes c.axes-outer.ensures.limits c.requires.locale
+
 -- below rank 3 the dimensions in front have one range
 one-outer : (c : After-deref-3) → c.rank.result < 3 → length c.deref.result.now ≡ 1
 one-outer c below =
-    ap length c.deref.ensures.value
-    ∙ c.in_ok-outers.ensures.one (single-idle c.axes-outer.result.0 (c.axes-outer.ensures.limits.first (omega (arith, below, c.rank.ensures.rank, c.requires.rank))))
+    let limits = c.axes-outer.ensures.limits in
+    one-unused c.axes-outer.result.0 (plane c) c.padded-first.result.0 c.deref.result.now limits.outer_limits
+    (limits.first (omega (arith, below, c.rank.ensures.rank, c.requires.rank))) (c.padded-first.ensures.unused.first (omega (arith, below, c.rank.ensures.rank)))
+    (seat-of c).outer (outer-cut c) (outer-few c)
 
 one-middle : (c : After-deref-3) → c.rank.result < 2 → length c.deref-2.result.now ≡ 1
 one-middle c below =
-    ap length c.deref-2.ensures.value
-    ∙ c.in_ok-middles.ensures.one (single-idle c.axes-outer.result.1 (c.axes-outer.ensures.limits.second (omega (arith, below, c.rank.ensures.rank, c.requires.rank))))
+    let limits = c.axes-outer.ensures.limits in
+    one-unused c.axes-outer.result.1 (row c) c.padded-first.result.1 c.deref-2.result.now limits.middle_limits
+    (limits.second (omega (arith, below, c.rank.ensures.rank, c.requires.rank))) (c.padded-first.ensures.unused.second (omega (arith, below, c.rank.ensures.rank)))
+    (seat-of c).middle (middle-cut c) (middle-few c)
+
+pub products-requires-clause-one_outer : goal.products-requires-clause-one_outer
+products-requires-clause-one_outer c = λ below. one-outer (goal.at.products-requires-clause-one_outer c).After-deref-3 below
+
+pub products-requires-clause-one_middle : goal.products-requires-clause-one_middle
+products-requires-clause-one_middle c = λ below. one-middle (goal.at.products-requires-clause-one_middle c).After-deref-3 below
 
 pub products-requires-clause-small : goal.products-requires-clause-small
 products-requires-clause-small c =
@@ -101,13 +134,34 @@ returns-clause-cut c =
 pub returns-clause-one : goal.returns-clause-one
 returns-clause-one c =
     λ single.
+    let d = (goal.at.returns-clause-one c).After-deref-3 in
     let some : 1 ≤ length c.args.self.now = omega (arith, c.rank.ensures.limits.0, c.requires.rank) in
     let rules =
     AreSingle-last_of (length c.args.self.now) c.axes-outer.result.0 c.axes-outer.result.1 c.axes-outer.result.2 c.axes-outer.ensures.limits some
     (subst AreSingle c.axes-outer.ensures.axes single) in
-    let first : length c.deref.result.now ≡ 1 = ap length c.deref.ensures.value ∙ c.in_ok-outers.ensures.one rules.0 in
-    let second : length c.deref-2.result.now ≡ 1 = ap length c.deref-2.ensures.value ∙ c.in_ok-middles.ensures.one rules.1 in
-    let third : length c.deref-3.result.now ≡ 1 = ap length c.deref-3.ensures.value ∙ c.in_ok-inners.ensures.one rules.2 in
-    let one : length c.deref.result.now * length c.deref-2.result.now * length c.deref-3.result.now ≡ 1 = rw (first, second, third) refl in
+    let first = one-single c.axes-outer.result.0.rule (owned_of c.axes-outer.result.0 (plane d) c.padded-first.result.0) (length c.deref.result.now) rules.0 (outer-few d) in
+    let second = one-single c.axes-outer.result.1.rule (owned_of c.axes-outer.result.1 (row d) c.padded-first.result.1) (length c.deref-2.result.now) rules.1 (middle-few d) in
+    let third = one-single c.axes-outer.result.2.rule (owned_of c.axes-outer.result.2 (column d) c.padded-first.result.2) (length c.deref-3.result.now) rules.2 (inner-few d) in
+    let one = one-product (length c.deref.result.now) (length c.deref-2.result.now) (length c.deref-3.result.now) first second third in
     IfOk-weaker c.products.result (λ v. length v.items ≡ length c.deref.result.now * length c.deref-2.result.now * length c.deref-3.result.now) (λ v. length v.items ≤ 1)
     (λ v count. omega (arith, count, one)) c.products.ensures.count
+
+-- so the part is in few domains
+pub returns-clause-few : goal.returns-clause-few
+returns-clause-few c =
+    let d = (goal.at.returns-clause-few c).After-deref-3 in
+    let axes = last_of (length c.args.self.now) c.axes-outer.result.0 c.axes-outer.result.1 c.axes-outer.result.2 in
+    let owned = last_of c.rank.result (owned_of c.axes-outer.result.0 (plane d) c.padded-first.result.0) (owned_of c.axes-outer.result.1 (row d) c.padded-first.result.1) (owned_of c.axes-outer.result.2 (column d) c.padded-first.result.2) in
+    let count = length c.deref.result.now * length c.deref-2.result.now * length c.deref-3.result.now in
+    let rank : c.rank.result ≡ length c.args.self.now = c.rank.ensures.rank ∙ c.requires.rank in
+    let each =
+    FewEach-last_of c.rank.result c.axes-outer.result.0 c.axes-outer.result.1 c.axes-outer.result.2
+    (owned_of c.axes-outer.result.0 (plane d) c.padded-first.result.0) (owned_of c.axes-outer.result.1 (row d) c.padded-first.result.1) (owned_of c.axes-outer.result.2 (column d) c.padded-first.result.2)
+    (length c.deref.result.now) (length c.deref-2.result.now) (length c.deref-3.result.now)
+    (omega (arith, c.rank.ensures.limits.0, c.rank.ensures.rank)) (omega (arith, c.rank.ensures.limits.1, c.rank.ensures.rank)) (one-outer d) (one-middle d) (outer-few d) (middle-few d) (inner-few d) in
+    let ranked = subst (λ (n : ℕ). FewEach (last_of n c.axes-outer.result.0 c.axes-outer.result.1 c.axes-outer.result.2) owned count) rank each in
+    let few = AreFew-tuples axes owned count (All-axes (length c.args.self.now) c.axes-outer.result.0 c.axes-outer.result.1 c.axes-outer.result.2 c.axes-outer.ensures.limits) ranked in
+    let of_part = subst (λ (ts : List (List ℤ)). AreFew axes ts count) (tuples-owned d) few in
+    let of_map = subst (λ (dealt : List AxisValue). AreFew dealt (part c.args.domain.now c.args.self.now c.args.locale) count) (sym c.axes-outer.ensures.axes) of_part in
+    IfOk-weaker c.products.result (λ v. length v.items ≡ count) (λ v. AreFew c.args.self.now (part c.args.domain.now c.args.self.now c.args.locale) (length v.items))
+    (λ v is. subst (AreFew c.args.self.now (part c.args.domain.now c.args.self.now c.args.locale)) (sym is) of_map) c.products.ensures.count

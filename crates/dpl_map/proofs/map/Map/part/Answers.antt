@@ -1,20 +1,39 @@
 -- A domain that is empty or of another rank, and a locale that is no place.
-use Rattle.std.proofs.Common.{rules, ◌≡◌, [], ◌∷◌, sym, ◌∙◌, arith, length}
+use Rattle.std.proofs.Common.{rules, ◌≡◌, [], ◌∷◌, ap, sym, ◌∙◌, arith, length}
 use Rattle.dpl_domain.specs.Indices.{indices}
 use Rattle.dpl_map.specs.Parts.{part}
 use Rattle.dpl_map.proofs.CutLemmas.{AreCut-none, AreCut-one}
+use Rattle.dpl_map.proofs.FewLemmas.{AreFew-none, AreFew-some}
 use Rattle.dpl_map.proofs.PartLemmas.{part-empty, part-unowned, part-other_first, part-other_rest}
 use Rattle.dpl_map.proofs.map.Map.part.Goals as goal
-use Rattle.dpl_map.proofs.map.Map.part.Goals.{then-size-eq0-via-then-size-eq0, then-size-eq0-via-else-size-eq0+then-places-locale, then-locale-eq0+in_ok-map_err, else-locale-eq0}
+use Rattle.dpl_map.proofs.map.Map.part.Goals.{then-places-locale-via-then-places-locale, then-places-locale-via-else-places-locale+then-size-eq0, then-locale-eq0+in_ok-map_err, else-locale-eq0}
 
-pub returns-then-size-eq0-clause-cut : goal.returns-then-size-eq0-clause-cut
-returns-then-size-eq0-clause-cut c =
+pub returns-then-places-locale-clause-cut : goal.returns-then-places-locale-clause-cut
+returns-then-places-locale-clause-cut c =
     let none : part c.args.domain.now c.args.self.now c.args.locale ≡ [] =
-    elim c.then-size-eq0.branch [
-      | then-size-eq0-via-then-size-eq0 w ↦ part-empty c.args.domain.now c.args.self.now c.args.locale (omega arith)
-      | then-size-eq0-via-else-size-eq0+then-places-locale w ↦ part-unowned c.args.domain.now c.args.self.now c.args.locale (λ t e. omega (arith, w.places.ensures.owners t, e))
+    elim c.then-places-locale.branch [
+      | then-places-locale-via-then-places-locale w ↦ part-unowned c.args.domain.now c.args.self.now c.args.locale (λ t e. omega (arith, c.places.ensures.owners t, e, w.if-places-locale.true))
+      | then-places-locale-via-else-places-locale+then-size-eq0 w ↦ part-empty c.args.domain.now c.args.self.now c.args.locale (omega (arith, w.size.ensures.size, w.if-size-eq0.true))
     ] in
     rw (c.new.ensures.items, none) (AreCut-none indices)
+
+pub returns-then-places-locale-clause-few : goal.returns-then-places-locale-clause-few
+returns-then-places-locale-clause-few c =
+    rw c.new.ensures.items (AreFew-none c.args.self.now (part c.args.domain.now c.args.self.now c.args.locale) c.places.ensures.limits)
+
+pub returns-clause-few : goal.returns-clause-few
+returns-clause-few c =
+    let other : length c.args.domain.now ≡ length c.args.self.now → ⊥ = λ same. c.if-rank.false (c.rank.ensures.rank ∙ same ∙ sym c.rank-2.ensures) in
+    elim c.if-locale-eq0.branch [
+      | then-locale-eq0+in_ok-map_err w ↦
+          let items : c.if-locale-eq0.domains.items ≡ c.args.domain.now ∷ [] = search rules in
+          let whole = part-other_first c.args.domain.now c.args.self.now other in
+          rw (items, w.if-locale-eq0.true)
+          (AreFew-some c.args.self.now (part c.args.domain.now c.args.self.now 0) (omega (arith, ap length whole, c.size.ensures.size, c.if-size-eq0.false)) c.places.ensures.limits)
+      | else-locale-eq0 w ↦
+          let items : c.if-locale-eq0.domains.items ≡ [] = search rules in
+          rw items (AreFew-none c.args.self.now (part c.args.domain.now c.args.self.now c.args.locale) c.places.ensures.limits)
+    ]
 
 pub returns-clause-cut : goal.returns-clause-cut
 returns-clause-cut c =

@@ -1,6 +1,7 @@
 -- Every tuple is owned by a place.
 use Rattle.dpl_map.specs.Maps.{owner}
 use Rattle.dpl_map.proofs.LawLemmas.{owner-below, parts-apart, parts-together}
+use Rattle.dpl_map.proofs.FewLemmas.{All-axes}
 use Rattle.dpl_map.proofs.map.Map.places.Goals as goal
 
 pub returns-clause-owners : goal.returns-clause-owners
@@ -15,3 +16,6 @@ pub returns-clause-together : goal.returns-clause-together
 returns-clause-together c =
     let below = returns-clause-owners c in
     λ ranges t member. (owner c.args.self.now t, below t, parts-together ranges c.args.self.now t member)
+
+pub returns-clause-limits : goal.returns-clause-limits
+returns-clause-limits c = rw (← c.self.view_is) (All-axes c.self.inside.rank c.self.inside.outer c.self.inside.middle c.self.inside.inner c.self.invariant)
