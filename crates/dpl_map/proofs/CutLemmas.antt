@@ -1,8 +1,8 @@
 -- Pieces that are cut out of a list one after another, each with the elements of one number.
-use Rattle.std.proofs.Common.{◌≡◌, ◌⊎◌, ◌<◌, ◌+◌, ◌==◌, ◌&&◌, ℕ, zero, suc, Bool, true, false, cond, List, [], ◌∷◌, ◌++◌, filter, length, slice_get, All, IfSome, Some, None, inl, inr, nat_lt, if◌then◌else◌, refl, ap, sym, subst, ◌∙◌, arith, ⊎_elim}
+use Rattle.std.proofs.Common.{◌≡◌, ◌≢◌, ◌⊎◌, ◌<◌, ◌+◌, ◌==◌, ◌&&◌, ℕ, zero, suc, Bool, true, false, cond, List, [], ◌∷◌, ◌++◌, filter, length, slice_get, All, IfSome, Some, None, inl, inr, nat_lt, if◌then◌else◌, refl, ap, sym, subst, ◌∙◌, arith, ⊎_elim}
 use Rattle.std.proofs.lemmas.Bool.{cases_lt, cases_eq}
 use Rattle.std.proofs.lemmas.Option.{IfSome_then}
-use Rattle.std.proofs.lemmas.List.Elements.{All-nil, All-cons, All-head, All-tail, All-weaker}
+use Rattle.std.proofs.lemmas.List.Elements.{All-nil, All-cons, All-head, All-tail, All-push, All-weaker}
 use Rattle.dpl_map.specs.Cuts.{AreCut, behind}
 
 -- a test is true or false
@@ -231,6 +231,14 @@ module _ {X P : Type 0} (elements : P → List X) where
         go : (ys : List X) → elements p ≡ ys → AreCut elements (filter (λ x. nat_lt (num x) (k + 1)) xs) (behind ys p pieces)
         go [] none = AreCut-empty none
         go (y ∷ ys) some = AreCut-more
+
+  -- where each piece has elements, each still does with one more put behind them
+  pub All-behind : (p : P) (pieces : List P) → All (λ q. elements q ≢ []) pieces → All (λ q. elements q ≢ []) (behind (elements p) p pieces)
+  All-behind p pieces some = go (elements p) refl
+    where
+      go : (xs : List X) → elements p ≡ xs → All (λ q. elements q ≢ []) (behind xs p pieces)
+      go [] none = some
+      go (x ∷ xs) is = All-push (λ q. elements q ≢ []) pieces p some (λ none. absurd (let e : x ∷ xs ≡ [] = sym is ∙ none in cc))
 
   -- where no number is below 0
   pub AreCut-begin : (num : X → ℕ) (xs : List X) → AreCut elements (filter (λ x. nat_lt (num x) 0) xs) []

@@ -1,7 +1,7 @@
 // The block-cyclic rule along one dimension: the members of a range that a place gets, as ranges.
 // Blocks are counted from an origin at which a round of them begins, one block for each place.
 
-ghost use Rattle.std.specs.Prelude.{◌≡◌, ◌≤◌, ◌<◌, ◌+◌, ◌-◌, ◌*◌, ◌/◌, ◌%◌, ◌==◌, ◌&&◌, ◌^◌, ℕ, pos, ◌≤ℤ◌, ◌+ℤ◌, ◌-ℤ◌, neg_ℤ, int_le, filter, length, IfOk, IfSome, IsNone, OnOk};
+ghost use Rattle.std.specs.Prelude.{◌≡◌, ◌≢◌, ◌≤◌, ◌<◌, ◌+◌, ◌-◌, ◌*◌, ◌/◌, ◌%◌, ◌==◌, ◌&&◌, ◌^◌, ℕ, pos, ◌≤ℤ◌, ◌+ℤ◌, ◌-ℤ◌, neg_ℤ, int_le, [], filter, length, All, IfOk, IfSome, IsNone, OnOk};
 ghost use Rattle.std.specs.Int.{int_div_euclid};
 ghost use Rattle.dpl_range.specs.Range.{members_of, IsBound};
 ghost use Rattle.dpl_map.specs.Grids.{IsGridSize};
@@ -218,6 +218,7 @@ impl Deal {
         requires begins { BeginsRound start (self.now.extent * self.now.size) self.now.origin }
         ensures cut { IfOk result (λ v. AreCut members_of (filter (λ i. block_number self.now.origin self.now.size i % self.now.extent == self.now.place) (members_of self.now.range)) v.items) }
         ensures few { IfOk result (λ v. length v.items ≤ self.now.size) }
+        ensures some { IfOk result (λ v. All (λ r. members_of r ≢ []) v.items) }
         ensures offsets { IfOk result (λ v. IsWithinValues (block_offset self.now.origin self.now.size) (filter (λ i. block_number self.now.origin self.now.size i % self.now.extent == self.now.place) (members_of self.now.range)) (length v.items)) }
     {
         let mut pieces = Vec::new(alloc);

@@ -1,10 +1,10 @@
 -- Offset by offset, the members that lie there are cut out.
-use Rattle.std.proofs.Common.{◌<◌, ◌+◌, ◌%◌, ◌==◌, ap, sym, subst, List, filter, length, nat_lt, arith}
-use Rattle.std.proofs.lemmas.List.Elements.{All-weaker}
+use Rattle.std.proofs.Common.{◌≢◌, ◌<◌, ◌+◌, ◌%◌, ◌==◌, ap, sym, subst, List, [], filter, length, All, nat_lt, arith}
+use Rattle.std.proofs.lemmas.List.Elements.{All-nil, All-weaker}
 use Rattle.dpl_range.specs.Range.{RangeValue, members_of}
 use Rattle.dpl_map.specs.Cuts.{AreCut}
 use Rattle.dpl_map.specs.Blocks.{block_number, block_offset}
-use Rattle.dpl_map.proofs.CutLemmas.{AreCut-begin, AreCut-behind, AreCut-end}
+use Rattle.dpl_map.proofs.CutLemmas.{AreCut-begin, AreCut-behind, AreCut-end, All-behind}
 use Rattle.dpl_map.proofs.DealLemmas.{length-behind, offsets-end}
 use Rattle.dpl_map.proofs.ValueLemmas.{IsWithinBelow, IsWithinBelow-begin, IsWithinBelow-behind, IsWithinBelow-end}
 use Rattle.dpl_map.proofs.blocks.Deal.by_offsets.Goals as goal
@@ -16,6 +16,7 @@ loop-offset-init c =
       AreCut-begin members_of (block_offset deal.origin deal.size) (filter (λ i. block_number deal.origin deal.size i % deal.extent == deal.place) (members_of deal.range)),
       omega arith,
       IsWithinBelow-begin (block_offset deal.origin deal.size) (filter (λ i. block_number deal.origin deal.size i % deal.extent == deal.place) (members_of deal.range)),
+      All-nil (λ r. members_of r ≢ []),
     )
 
 pub loop-offset-preserved : goal.loop-offset-preserved
@@ -28,6 +29,7 @@ loop-offset-preserved c =
       omega (arith, ap length c.in_ok-keep.ensures, length-behind (members_of c.offset.result) c.offset.result c.loop-offset.pieces.items, c.loop-offset.invariant.1),
       subst (λ (pieces : List RangeValue). IsWithinBelow (block_offset deal.origin deal.size) dealt (c.loop-offset.offset + 1) (length pieces)) (sym c.in_ok-keep.ensures)
           (IsWithinBelow-behind (block_offset deal.origin deal.size) dealt c.loop-offset.pieces.items c.loop-offset.offset c.offset.result (members_of c.offset.result) c.loop-offset.invariant.2 lists),
+      subst (All (λ r. members_of r ≢ [])) (sym c.in_ok-keep.ensures) (All-behind members_of c.offset.result c.loop-offset.pieces.items c.loop-offset.invariant.3),
     )
 
 pub returns-clause-cut : goal.returns-clause-cut
