@@ -196,6 +196,7 @@ impl Deal {
         requires near { block_number self.now.origin self.now.size self.now.range.high ≤ 2 ^ 61 + 64 }
         ensures cut { IfOk result (λ found. IfSome found (λ v. AreCut members_of (filter (λ i. block_number self.now.origin self.now.size i % self.now.extent == self.now.place) (members_of self.now.range)) v.items)) }
         ensures few { IfOk result (λ found. IfSome found (λ v. length v.items ≤ self.now.size)) }
+        ensures some { IfOk result (λ found. IfSome found (λ v. All (λ r. members_of r ≢ []) v.items)) }
         ensures blocks { IfOk result (λ found. IfSome found (λ v. IsWithinValues (λ i. block_number self.now.origin self.now.size i / self.now.extent) (filter (λ i. block_number self.now.origin self.now.size i % self.now.extent == self.now.place) (members_of self.now.range)) (length v.items))) }
         ensures many { IfOk result (λ found. IsNone found → IsWithinValues (λ i. block_number self.now.origin self.now.size i / self.now.extent) (filter (λ i. block_number self.now.origin self.now.size i % self.now.extent == self.now.place) (members_of self.now.range)) (self.now.size + 1)) }
         ensures later { IfOk result (λ found. IsNone found → self.now.size < rounds) }

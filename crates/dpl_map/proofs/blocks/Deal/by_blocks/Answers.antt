@@ -1,9 +1,10 @@
 -- Round by round, the place's block of the round is cut out.
-use Rattle.std.proofs.Common.{◌+◌, ◌/◌, ◌%◌, ◌==◌, ◌∙◌, ap, sym, subst, List, filter, length, nat_lt, arith}
+use Rattle.std.proofs.Common.{◌≢◌, ◌+◌, ◌/◌, ◌%◌, ◌==◌, ◌∙◌, ap, sym, subst, List, [], filter, length, All, nat_lt, arith}
+use Rattle.std.proofs.lemmas.List.Elements.{All-nil}
 use Rattle.dpl_range.specs.Range.{RangeValue, members_of}
 use Rattle.dpl_map.specs.Cuts.{AreCut}
 use Rattle.dpl_map.specs.Blocks.{block_number}
-use Rattle.dpl_map.proofs.CutLemmas.{AreCut-begin, AreCut-behind, AreCut-end}
+use Rattle.dpl_map.proofs.CutLemmas.{AreCut-begin, AreCut-behind, AreCut-end, All-behind}
 use Rattle.dpl_map.proofs.DealLemmas.{length-behind, block-members, blocks-end}
 use Rattle.dpl_map.proofs.ValueLemmas.{IsWithinBelow, IsWithinBelow-begin, IsWithinBelow-behind, IsWithinBelow-end, IsWithinValues-less}
 use Rattle.dpl_map.proofs.blocks.Deal.by_blocks.Goals as goal
@@ -18,6 +19,7 @@ loop-round-init c =
       omega arith,
       omega arith,
       IsWithinBelow-begin (λ i. block_number deal.origin deal.size i / deal.extent) dealt,
+      All-nil (λ r. members_of r ≢ []),
     )
 
 -- one block more, of a piece with its members
@@ -39,6 +41,7 @@ loop-round-preserved c =
       omega (arith, ap length c.in_ok-keep.ensures, length-behind (members_of c.block.result) c.block.result c.loop-round.pieces.items, c.loop-round.invariant.1),
       omega (arith, c.len.ensures, c.if-self-len.false),
       within-more (goal.at.loop-round-preserved c).After-len,
+      subst (All (λ r. members_of r ≢ [])) (sym c.in_ok-keep.ensures) (All-behind members_of c.block.result c.loop-round.pieces.items c.loop-round.invariant.4),
     )
 
 pub returns-then-self-len-clause-many : goal.returns-then-self-len-clause-many

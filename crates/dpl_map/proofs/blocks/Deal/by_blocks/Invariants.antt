@@ -1,5 +1,5 @@
 -- What is cut out so far.
-use Rattle.std.proofs.Common.{◌≤◌, ◌/◌, ◌%◌, ◌==◌, nat_lt, filter, length}
+use Rattle.std.proofs.Common.{◌≢◌, ◌≤◌, ◌/◌, ◌%◌, ◌==◌, [], nat_lt, filter, length, All}
 use Rattle.dpl_range.specs.Range.{members_of}
 use Rattle.dpl_map.specs.Cuts.{AreCut}
 use Rattle.dpl_map.specs.Blocks.{block_number}
@@ -12,3 +12,4 @@ invariant-loop-round l =
     × (length l.pieces.items ≤ l.round)
     × (length l.pieces.items ≤ l.self.size)
     × IsWithinBelow (λ i. block_number l.self.origin l.self.size i / l.self.extent) (filter (λ i. block_number l.self.origin l.self.size i % l.self.extent == l.self.place) (members_of l.self.range)) l.round (length l.pieces.items)
+    × All (λ r. members_of r ≢ []) l.pieces.items
