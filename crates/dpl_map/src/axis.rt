@@ -1,6 +1,6 @@
 // One dimension of a map: by which rule its indices are dealt out over how many places.
 
-ghost use Rattle.std.specs.Prelude.{◌≡◌, ◌≢◌, ◌↔◌, ◌+◌, ◌*◌, ◌^◌, ◌≤◌, ◌<◌, ◌≤ℤ◌, ◌==◌, ◌&&◌, ℕ, ℤ, pos, neg_ℤ, int_le, filter, length, IfOk, []};
+ghost use Rattle.std.specs.Prelude.{◌≡◌, ◌≢◌, ◌↔◌, ◌+◌, ◌*◌, ◌^◌, ◌≤◌, ◌<◌, ◌≤ℤ◌, ◌==◌, ◌&&◌, ℕ, ℤ, pos, neg_ℤ, int_le, filter, length, All, IfOk, []};
 ghost use Rattle.dpl_range.specs.Range.{members_of, IsBound, IsRange};
 ghost use Rattle.dpl_map.specs.AxisFields.{IsAxis};
 ghost use Rattle.dpl_map.specs.Grids.{IsGridSize};
@@ -107,14 +107,16 @@ impl Axis {
         self.extent
     }
 
-    /// The members of a range that a place owns, as ranges with members, each in the order of the range: one range, or for
-    /// the block-cyclic rule one for each block that has some, or one for each offset in a block, whichever are fewer.
+    /// The members of a range that a place owns, as ranges that each have a member, in the order of the range: one range, or
+    /// for the block-cyclic rule one for each block that has some, or one for each offset in a block, whichever are fewer.
+    /// There is none where the place owns no member.
     ///
     /// # Errors
     /// No memory for them.
     pub fn parts(&self, alloc: Global, range: &Range, place: u32) -> Result<Vec<Range>, AllocError>
         requires { place < self.now.extent }
         ensures cut { IfOk result (λ v. AreCut members_of (filter (λ i. axis_place self.now i == place) (members_of range.now)) v.items) }
+        ensures some { IfOk result (λ v. All (λ r. members_of r ≢ []) v.items) }
         ensures few { IfOk result (λ v. AreFewRanges self.now.rule (filter (λ i. axis_place self.now i == place) (members_of range.now)) (length v.items)) }
     {
         if let Rule::BlockCyclic { start, size } = self.rule {

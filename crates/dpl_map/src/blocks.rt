@@ -14,7 +14,7 @@ use dpl_range::Range;
 use std::alloc::{AllocError, Global};
 
 /// The members of a range that the block-cyclic rule deals to a place, as ranges: one for each of the place's
-/// blocks, or one for each offset in a block, whichever are fewer. Ranges without members are left out.
+/// blocks, or one for each offset in a block, whichever are fewer. Each range has a member.
 ///
 /// # Errors
 /// No memory for them.
@@ -31,6 +31,7 @@ pub fn dealt(
     requires extent { IsGridSize extent }
     requires place { place < extent }
     ensures cut { IfOk result (λ v. AreCut members_of (filter (λ i. block_cyclic_place start size extent i == place) (members_of range.now)) v.items) }
+    ensures some { IfOk result (λ v. All (λ r. members_of r ≢ []) v.items) }
     ensures few { IfOk result (λ v. pos (length v.items) ≤ℤ size) }
     ensures blocks { IfOk result (λ v. IsWithinValues (λ i. int_div_euclid (i -ℤ start) size) (filter (λ i. block_cyclic_place start size extent i == place) (members_of range.now)) (length v.items)) }
 {

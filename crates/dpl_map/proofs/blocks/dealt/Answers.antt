@@ -1,7 +1,8 @@
 -- The members that the rule deals to the place are those of its blocks, however they are cut out.
-use Rattle.std.proofs.Common.{◌≡◌, ◌<◌, ◌≤◌, ◌≤ℤ◌, ◌-ℤ◌, ◌==◌, ◌+◌, ◌*◌, ◌%◌, ℕ, ℤ, pos, unsigned_abs, int_le, List, [], ◌∷◌, filter, FitsSigned, w64, length, IfOk, refl, ap, sym, subst, ◌∙◌, arith, ⊎_elim}
+use Rattle.std.proofs.Common.{◌≡◌, ◌≢◌, ◌<◌, ◌≤◌, ◌≤ℤ◌, ◌-ℤ◌, ◌==◌, ◌+◌, ◌*◌, ◌%◌, ℕ, ℤ, pos, unsigned_abs, int_le, List, [], ◌∷◌, filter, FitsSigned, w64, length, IfOk, refl, ap, sym, subst, ◌∙◌, arith, ⊎_elim}
 use Rattle.std.specs.Int.{int_div_euclid}
 use Rattle.std.proofs.lemmas.Int.{ints, to_z-of_z}
+use Rattle.std.proofs.lemmas.List.Elements.{All-nil}
 use Rattle.std.proofs.lemmas.Result.{IfOk-weaker}
 use Rattle.dpl_range.specs.Range.{RangeValue, members_of}
 use Rattle.dpl_range.proofs.MemberLemmas.{members-empty}
@@ -21,6 +22,9 @@ returns-then-size-eq0-clause-cut c = go (members_of c.args.range.now) (omega (ar
     go : (is : List ℤ) → length is ≡ 0 → AreCut members_of (filter (λ i. block_cyclic_place c.args.start c.args.size c.args.extent i == c.args.place) is) c.new.result.items
     go [] none = rw c.new.ensures.items (AreCut-none members_of)
     go (i ∷ is) none = absurd (omega (arith, none))
+
+pub returns-then-size-eq0-clause-some : goal.returns-then-size-eq0-clause-some
+returns-then-size-eq0-clause-some c = rw c.new.ensures.items (All-nil (λ r. members_of r ≢ []))
 
 pub rounds-rounds-requires-clause-ordered : goal.rounds-rounds-requires-clause-ordered
 rounds-rounds-requires-clause-ordered c =
@@ -90,6 +94,9 @@ pub returns-in-Some-clause-few : goal.returns-in-Some-clause-few
 returns-in-Some-clause-few c =
     let few = rw c.in-Some.is at c.in_ok-pieces.ensures.few in
     omega (arith, ints, few, c.new-deal.ensures.size, c.requires.some)
+
+pub returns-in-Some-clause-some : goal.returns-in-Some-clause-some
+returns-in-Some-clause-some c = rw c.in-Some.is at c.in_ok-pieces.ensures.some
 
 pub returns-in-Some-clause-blocks : goal.returns-in-Some-clause-blocks
 returns-in-Some-clause-blocks c =

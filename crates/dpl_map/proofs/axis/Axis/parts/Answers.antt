@@ -1,11 +1,12 @@
 -- One range is a cut of its own members, and so is none of nothing.
-use Rattle.std.proofs.Common.{rules, ◌≡◌, [], ◌==◌, ℤ, List, ap, subst, refl, filter, length, ◌∙◌, FitsSigned, w64}
+use Rattle.std.proofs.Common.{rules, ◌≡◌, ◌≢◌, [], ◌==◌, ℤ, List, ap, subst, refl, filter, length, ◌∙◌, FitsSigned, w64}
 use Rattle.std.proofs.lemmas.Int.{to_z-of_z}
+use Rattle.std.proofs.lemmas.List.Elements.{All-nil}
 use Rattle.dpl_range.specs.Range.{RangeValue, members_of}
 use Rattle.dpl_map.specs.Cuts.{behind}
 use Rattle.dpl_map.specs.Counts.{AreFewRanges}
 use Rattle.dpl_map.specs.Maps.{axis_place, IsSingle}
-use Rattle.dpl_map.proofs.CutLemmas.{AreCut-behind_none}
+use Rattle.dpl_map.proofs.CutLemmas.{AreCut-behind_none, All-behind}
 use Rattle.dpl_map.proofs.FewLemmas.{IfOk-both, AreFewRanges-single}
 use Rattle.dpl_map.proofs.axis.Axis.parts.Goals as goal
 
@@ -25,5 +26,6 @@ returns c =
     let single : IsSingle c.args.self.now.rule = search rules in
     rw items (record {
       cut = AreCut-behind_none members_of owned (members_of c.part.result) c.part.result c.part.ensures.members refl;
+      some = All-behind members_of c.part.result [] (All-nil (λ r. members_of r ≢ []));
       few = subst (λ (is : List ℤ). AreFewRanges c.args.self.now.rule is (length (behind (members_of c.part.result) c.part.result []))) c.part.ensures.members (AreFewRanges-single c.args.self.now.rule (members_of c.part.result) c.part.result single);
     })
