@@ -91,7 +91,8 @@ FewEach-last_of (suc (suc (suc zero))) o m i os ms is a b c some most first seco
     (a, b * c, outer, (b, c, middle, (c, 1, inner, refl, omega arith), refl), mul_assoc a b c)
 FewEach-last_of (suc (suc (suc (suc n)))) o m i os ms is a b c some most first second outer middle inner = absurd (omega (arith, most))
 
-row-nothing : (i : ℤ) (rows rest : List (List ℤ)) → map (λ t. i ∷ t) rows ++ rest ≡ [] → rows ≡ []
+-- where a row has no tuple, there is none behind its element
+pub row-nothing : (i : ℤ) (rows rest : List (List ℤ)) → map (λ t. i ∷ t) rows ++ rest ≡ [] → rows ≡ []
 row-nothing i [] rest none = refl
 row-nothing i (t ∷ rows) rest none = absurd cc
 

@@ -12,6 +12,7 @@ pub mod FilterLemmas
 pub mod AxisLemmas
 pub mod PartLemmas
 pub mod FewLemmas
+pub mod SomeLemmas
 pub mod LawLemmas
 pub mod ProductCuts
 pub mod MapLemmas

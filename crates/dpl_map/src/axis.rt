@@ -107,9 +107,9 @@ impl Axis {
         self.extent
     }
 
-    /// The members of a range that a place owns, as ranges that each have a member, in the order of the range: one range, or
-    /// for the block-cyclic rule one for each block that has some, or one for each offset in a block, whichever are fewer.
-    /// There is none where the place owns no member.
+    /// The members of a range that a place owns, as ranges that each have members, in the order of the range. That is one
+    /// range, or for the block-cyclic rule one for each block that has some, or one for each offset in a block, whichever
+    /// are fewer; and it is none where the place owns no member.
     ///
     /// # Errors
     /// No memory for them.

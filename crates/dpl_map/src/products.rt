@@ -1,6 +1,6 @@
 // Products of ranges that are cut out of the dimensions of a domain: domains that are cut out of it.
 
-ghost use Rattle.std.specs.Prelude.{◌≡◌, ◌≤◌, ◌<◌, ◌*◌, ◌/◌, ◌%◌, ℕ, ℤ, List, length, slice_get, Some, IfOk};
+ghost use Rattle.std.specs.Prelude.{◌≡◌, ◌≢◌, ◌≤◌, ◌<◌, ◌*◌, ◌/◌, ◌%◌, ℕ, ℤ, List, [], length, slice_get, Some, All, IfOk};
 ghost use Rattle.dpl_range.specs.Range.{RangeValue, members_of};
 ghost use Rattle.dpl_domain.specs.Indices.{tuples, indices, IsSmall};
 ghost use Rattle.dpl_domain.specs.Ranks.{last_of};
@@ -12,7 +12,7 @@ use dpl_range::Range;
 use std::alloc::{AllocError, Global};
 
 /// The products of one range of each list, as domains of a rank, row by row. Below rank 3 the lists in front have one
-/// range, which no domain shows.
+/// range, which no domain shows. Of ranges that each have a member, each product has an index.
 ///
 /// # Errors
 /// No memory for them.
@@ -29,6 +29,7 @@ pub fn products(
     requires one_middle { rank < 2 → length middles.now ≡ 1 }
     requires small { (a b c : ℕ) (o m i : RangeValue) → slice_get outers.now a ≡ Some o → slice_get middles.now b ≡ Some m → slice_get inners.now c ≡ Some i → IsSmall (last_of rank o m i) }
     ensures cut { (xs ys zs : List ℤ) → AreCut members_of xs outers.now → AreCut members_of ys middles.now → AreCut members_of zs inners.now → IfOk result (λ v. AreCut indices (tuples (last_of rank xs ys zs)) v.items) }
+    ensures some { All (λ r. members_of r ≢ []) outers.now → All (λ r. members_of r ≢ []) middles.now → All (λ r. members_of r ≢ []) inners.now → IfOk result (λ v. All (λ domain. indices domain ≢ []) v.items) }
     ensures count { IfOk result (λ v. length v.items ≡ length outers.now * length middles.now * length inners.now) }
 {
     let (rows, row) = (middles.len(), inners.len());

@@ -1,7 +1,8 @@
 -- Each number of a product is that of its three ranges, row by row.
-use Rattle.std.proofs.Common.{◌≡◌, ◌<◌, ◌*◌, ◌/◌, ◌%◌, ◌==◌, [], length, slice_get, Some, filter, ap, sym, ◌∙◌, arith, ⊎_elim}
+use Rattle.std.proofs.Common.{◌≡◌, ◌≢◌, ◌<◌, ◌*◌, ◌/◌, ◌%◌, ◌==◌, [], length, slice_get, Some, filter, ap, sym, ◌∙◌, arith, ⊎_elim}
 use Rattle.std.proofs.lemmas.Bool.{cases_lt}
 use Rattle.std.proofs.lemmas.List.{nil_from_length}
+use Rattle.std.proofs.lemmas.List.Elements.{All-nil, All-push}
 use Rattle.std.proofs.lemmas.Option.{slice_get-get_or}
 use Rattle.dpl_range.specs.Range.{members_of}
 use Rattle.dpl_domain.specs.Indices.{tuples, indices}
@@ -9,6 +10,7 @@ use Rattle.dpl_domain.specs.Ranks.{last_of}
 use Rattle.dpl_map.proofs.CutLemmas.{AreCut-none, AreCut-begin, AreCut-more, AreCut-end, All-each, length-push}
 use Rattle.dpl_map.proofs.PartLemmas.{IsSeat, seat}
 use Rattle.dpl_map.proofs.ProductCuts.{AreCut-whole, number-at, number-below, product-listed, some-each, tuples-nothing}
+use Rattle.dpl_map.proofs.SomeLemmas.{All-slice_get, indices-some}
 use Rattle.dpl_map.proofs.products.products.Goals as goal
 use Rattle.dpl_map.proofs.products.products.Goals.{In-loop-k, After-index-inners-k}
 
@@ -28,6 +30,7 @@ loop-k-init c =
       (λ xs ys zs first second third.
           AreCut-begin indices (number-at xs ys zs c.args.outers.now c.args.middles.now c.args.inners.now first second third c.args.rank) (tuples (last_of c.args.rank xs ys zs))),
       omega arith,
+      (λ outers middles inners. All-nil (λ domain. indices domain ≢ [])),
     )
 
 -- the three ranges stand at these coordinates
@@ -63,6 +66,13 @@ loop-k-preserved c =
           ∙ ap (λ j. filter (λ t. num t == j) (tuples (last_of c.args.rank xs ys zs))) s.place in
           AreCut-more indices num (tuples (last_of c.args.rank xs ys zs)) c.loop-k.domains.items k c.product-domain.result (c.loop-k.invariant.0 xs ys zs first second third) lists),
       omega (arith, c.loop-k.invariant.1, length-push c.loop-k.domains.items c.product-domain.result),
+      (λ outers middles inners.
+          All-push (λ domain. indices domain ≢ []) c.loop-k.domains.items c.product-domain.result (c.loop-k.invariant.2 outers middles inners)
+          (rw c.product-domain.ensures
+          (indices-some c.args.rank c.index-outers-k.result c.index-middles-k.result c.index-inners-k.result
+          (All-slice_get (λ r. members_of r ≢ []) c.args.outers.now (k / n / m) c.index-outers-k.result outers (outer-at d))
+          (All-slice_get (λ r. members_of r ≢ []) c.args.middles.now (k / n % m) c.index-middles-k.result middles (middle-at d))
+          (All-slice_get (λ r. members_of r ≢ []) c.args.inners.now (k % n) c.index-inners-k.result inners (inner-at d))))),
     )
 
 pub returns-clause-cut : goal.returns-clause-cut

@@ -1,0 +1,30 @@
+-- Products of ranges with members have tuples.
+use Rattle.std.proofs.Common.{◌≡◌, ◌≢◌, ℕ, zero, suc, List, [], ◌∷◌, ℤ, map, flat_map, slice_get, Some, All, refl, subst}
+use Rattle.std.proofs.lemmas.Option.{get_or_from_slice_get, slice_get_within}
+use Rattle.dpl_range.specs.Range.{RangeValue, members_of}
+use Rattle.dpl_domain.specs.Indices.{tuples, indices}
+use Rattle.dpl_domain.specs.Ranks.{last_of}
+use Rattle.dpl_map.proofs.FewLemmas.{row-nothing}
+
+-- what holds of each element holds of the one at a place
+pub All-slice_get : {X : Type 0} (P : X → Type 0) (xs : List X) (k : ℕ) (x : X) → All P xs → slice_get xs k ≡ Some x → P x
+All-slice_get P xs k x all found = subst P (get_or_from_slice_get xs k x x found) (all k x (slice_get_within xs k x found))
+
+tuples-nil_some : tuples [] ≢ []
+tuples-nil_some = λ none. absurd cc
+
+-- a product with a list more has tuples, where it had some and the list has elements
+tuples-some : (is : List ℤ) (rest : List (List ℤ)) → is ≢ [] → tuples rest ≢ [] → tuples (is ∷ rest) ≢ []
+tuples-some [] rest some others = absurd (some refl)
+tuples-some (i ∷ is) rest some others = λ none. others (row-nothing i (tuples rest) (flat_map (λ i. map (λ t. i ∷ t) (tuples rest)) is) none)
+
+-- a product of ranges with members has an index
+pub indices-some : (rank : ℕ) (o m i : RangeValue) → members_of o ≢ [] → members_of m ≢ [] → members_of i ≢ [] → indices (last_of rank o m i) ≢ []
+unfolding indices
+indices-some zero o m i outer middle inner = tuples-nil_some
+indices-some (suc zero) o m i outer middle inner = tuples-some (members_of i) [] inner tuples-nil_some
+indices-some (suc (suc zero)) o m i outer middle inner =
+    tuples-some (members_of m) (members_of i ∷ []) middle (tuples-some (members_of i) [] inner tuples-nil_some)
+indices-some (suc (suc (suc n))) o m i outer middle inner =
+    tuples-some (members_of o) (members_of m ∷ members_of i ∷ []) outer
+    (tuples-some (members_of m) (members_of i ∷ []) middle (tuples-some (members_of i) [] inner tuples-nil_some))
