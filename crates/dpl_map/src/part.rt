@@ -1,6 +1,6 @@
 // A locale's part of a domain in closed form: no call walks the domain.
 
-ghost use Rattle.std.specs.Prelude.{◌≡◌, ◌≤◌, ◌<◌, ◌*◌, ◌+◌, [], length, IfOk, IfSome, IfNone, OnErr};
+ghost use Rattle.std.specs.Prelude.{◌≡◌, ◌≢◌, ◌≤◌, ◌<◌, ◌*◌, ◌+◌, [], length, All, IfOk, IfSome, IfNone, OnErr};
 ghost use Rattle.dpl_domain.specs.Indices.{indices, IsSmall};
 ghost use Rattle.dpl_map.specs.Maps.{places, AreSingle};
 ghost use Rattle.dpl_map.specs.Counts.{AreFew};
@@ -24,15 +24,16 @@ impl From<AllocError> for NoMemory {
 }
 
 impl Map {
-    /// The part of a domain that a locale owns: domains that have no index in common and together hold exactly
-    /// the indices that it owns, each in the domain's order. It is one domain at the most, but by the block-cyclic rule:
-    /// there each dimension is cut into no more ranges than a block has offsets, and no more than the locale has blocks
-    /// with an index of the part. There is none for a locale that is no place of the map.
+    /// The part of a domain that a locale owns: domains that each have an index, have none in common and together hold
+    /// exactly the indices that it owns, each in the domain's order. It is one domain at the most, but by the block-cyclic
+    /// rule: there each dimension is cut into no more ranges than a block has offsets, and no more than the locale has
+    /// blocks with an index of the part. There is none where the locale owns no index, as where it is no place of the map.
     ///
     /// # Errors
     /// No memory for the domains.
     pub fn part(&self, alloc: Global, domain: &Domain, locale: u32) -> Result<Vec<Domain>, NoMemory>
         ensures cut { IfOk result (λ domains. AreCut indices (part domain.now self.now locale) domains.items) }
+        ensures some { IfOk result (λ domains. All (λ domain. indices domain ≢ []) domains.items) }
         ensures one { AreSingle self.now → IfOk result (λ domains. length domains.items ≤ 1) }
         ensures few { IfOk result (λ domains. AreFew self.now (part domain.now self.now locale) (length domains.items)) }
         ensures none { IfOk result (λ domains. places self.now ≤ locale → domains.items ≡ []) }
@@ -56,6 +57,7 @@ impl Map {
         requires locale { locale < places self.now }
         requires small { IsSmall domain.now }
         ensures cut { IfOk result (λ domains. AreCut indices (part domain.now self.now locale) domains.items) }
+        ensures some { IfOk result (λ domains. All (λ domain. indices domain ≢ []) domains.items) }
         ensures one { AreSingle self.now → IfOk result (λ domains. length domains.items ≤ 1) }
         ensures few { IfOk result (λ domains. AreFew self.now (part domain.now self.now locale) (length domains.items)) }
     {

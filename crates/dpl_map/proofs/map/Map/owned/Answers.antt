@@ -1,5 +1,5 @@
 -- The place's coordinates, and what is owned by it.
-use Rattle.std.proofs.Common.{◌≡◌, ◌≤◌, ◌<◌, ◌*◌, ◌/◌, ◌%◌, ap, sym, subst, ◌∙◌, arith, length, ℕ, ℤ, List, IfOk}
+use Rattle.std.proofs.Common.{◌≡◌, ◌≢◌, ◌≤◌, ◌<◌, ◌*◌, ◌/◌, ◌%◌, ap, sym, subst, ◌∙◌, arith, length, ℕ, ℤ, List, [], All, IfOk}
 use Rattle.dpl_range.specs.Range.{RangeValue, members_of}
 use Rattle.dpl_domain.specs.Indices.{tuples, indices}
 use Rattle.dpl_domain.specs.Ranks.{last_of}
@@ -130,6 +130,14 @@ returns-clause-cut c =
     subst (λ ts. IfOk c.products.result (λ v. AreCut indices ts v.items)) (tuples-owned d)
     (c.products.ensures.cut (owned_of c.axes-outer.result.0 (plane d) c.padded-first.result.0) (owned_of c.axes-outer.result.1 (row d) c.padded-first.result.1) (owned_of c.axes-outer.result.2 (column d) c.padded-first.result.2)
     (outer-cut d) (middle-cut d) (inner-cut d))
+
+-- each range of a dimension has members, and so each product has an index
+pub returns-clause-some : goal.returns-clause-some
+returns-clause-some c =
+    c.products.ensures.some
+    (subst (All (λ r. members_of r ≢ [])) (sym c.deref.ensures.value) c.in_ok-outers.ensures.some)
+    (subst (All (λ r. members_of r ≢ [])) (sym c.deref-2.ensures.value) c.in_ok-middles.ensures.some)
+    (subst (All (λ r. members_of r ≢ [])) (sym c.deref-3.ensures.value) c.in_ok-inners.ensures.some)
 
 pub returns-clause-one : goal.returns-clause-one
 returns-clause-one c =

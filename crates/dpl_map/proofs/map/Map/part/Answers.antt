@@ -1,5 +1,6 @@
 -- A domain that is empty or of another rank, and a locale that is no place.
-use Rattle.std.proofs.Common.{rules, ◌≡◌, [], ◌∷◌, ap, sym, ◌∙◌, arith, length}
+use Rattle.std.proofs.Common.{rules, ◌≡◌, ◌≢◌, [], ◌∷◌, ap, sym, ◌∙◌, arith, length}
+use Rattle.std.proofs.lemmas.List.Elements.{All-nil, All-cons}
 use Rattle.dpl_domain.specs.Indices.{indices}
 use Rattle.dpl_map.specs.Parts.{part}
 use Rattle.dpl_map.proofs.CutLemmas.{AreCut-none, AreCut-one}
@@ -46,4 +47,19 @@ returns-clause-cut c =
           let items : c.if-locale-eq0.domains.items ≡ [] = search rules in
           let none = part-other_rest c.args.domain.now c.args.self.now c.args.locale other w.if-locale-eq0.false in
           rw (items, none) (AreCut-none indices)
+    ]
+
+pub returns-then-places-locale-clause-some : goal.returns-then-places-locale-clause-some
+returns-then-places-locale-clause-some c = rw c.new.ensures.items (All-nil (λ domain. indices domain ≢ []))
+
+pub returns-clause-some : goal.returns-clause-some
+returns-clause-some c =
+    elim c.if-locale-eq0.branch [
+      | then-locale-eq0+in_ok-map_err w ↦
+          let items : c.if-locale-eq0.domains.items ≡ c.args.domain.now ∷ [] = search rules in
+          rw items
+          (All-cons (λ domain. indices domain ≢ []) c.args.domain.now [] (λ none. omega (arith, ap length none, c.size.ensures.size, c.if-size-eq0.false)) (All-nil (λ domain. indices domain ≢ [])))
+      | else-locale-eq0 w ↦
+          let items : c.if-locale-eq0.domains.items ≡ [] = search rules in
+          rw items (All-nil (λ domain. indices domain ≢ []))
     ]
