@@ -1,5 +1,5 @@
 -- Pieces that are cut out of a list one after another, each with the elements of one number.
-use Rattle.std.proofs.Common.{◌≡◌, ◌≢◌, ◌⊎◌, ◌<◌, ◌+◌, ◌==◌, ◌&&◌, ℕ, zero, suc, Bool, true, false, cond, List, [], ◌∷◌, ◌++◌, filter, length, slice_get, All, IfSome, Some, None, inl, inr, nat_lt, if◌then◌else◌, refl, ap, sym, subst, ◌∙◌, arith, ⊎_elim}
+use Rattle.std.proofs.Common.{◌≡◌, ◌≢◌, ◌⊎◌, ◌<◌, ◌≤◌, ◌+◌, ◌==◌, ◌&&◌, ℕ, zero, suc, Bool, true, false, cond, List, [], ◌∷◌, ◌++◌, filter, length, slice_get, All, IfSome, Some, None, inl, inr, nat_lt, if◌then◌else◌, refl, ap, sym, subst, ◌∙◌, arith, ⊎_elim}
 use Rattle.std.proofs.lemmas.Bool.{cases_lt, cases_eq}
 use Rattle.std.proofs.lemmas.Option.{IfSome_then}
 use Rattle.std.proofs.lemmas.List.Elements.{All-nil, All-cons, All-head, All-tail, All-push, All-weaker}
@@ -74,6 +74,22 @@ module _ {X : Type 0} where
       let rest : filter p xs ≡ [] = subst (λ b. cond b (x ∷ filter p xs) (filter p xs) ≡ []) no none in
       All-cons (λ y. p y ≡ false) x xs no (none-passed p xs rest))
       (tells (p x))
+
+-- where no number lies between two bounds, the same ones are below each
+pub filter-between_none : {X : Type 0} (num : X → ℕ) (xs : List X) (j k : ℕ) → j ≤ k → All (λ x. num x < k → num x < j) xs → filter (λ x. nat_lt (num x) j) xs ≡ filter (λ x. nat_lt (num x) k) xs
+filter-between_none num xs j k before none =
+    filter-same (λ x. nat_lt (num x) j) (λ x. nat_lt (num x) k) xs
+    (All-weaker (λ x. num x < k → num x < j) (λ x. nat_lt (num x) j ≡ nat_lt (num x) k)
+    (λ x passed.
+    ⊎_elim
+    (λ (less : num x < j). grind (arith, less, before))
+    (λ past.
+    ⊎_elim
+    (λ less. let sooner = passed less in absurd (omega (arith, sooner, past)))
+    (λ over. grind (arith, past, over))
+    (cases_lt (num x) k))
+    (cases_lt (num x) j))
+    xs none)
 
 -- the places of a list with one more element
 slice_get-push : {P : Type 0} (ps : List P) (p : P) (k : ℕ) → k < length ps → slice_get (ps ++ p ∷ []) k ≡ slice_get ps k

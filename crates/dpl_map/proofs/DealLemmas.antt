@@ -36,17 +36,17 @@ count_of-natural (pos n) some = refl
 count_of-natural (negsuc n) some = absurd (omega (arith, ints, some))
 
 -- a greater whole number counts no less
-count_of-le : (y z : ℤ) → y ≤ℤ z → count_of y ≤ count_of z
+pub count_of-le : (y z : ℤ) → y ≤ℤ z → count_of y ≤ count_of z
 count_of-le (pos m) (pos n) before = omega (arith, ints, before)
 count_of-le (pos m) (negsuc n) before = absurd (omega (arith, ints, before))
 count_of-le (negsuc m) (pos n) before = omega arith
 count_of-le (negsuc m) (negsuc n) before = omega arith
 
 -- a test by two bounds
-passes : (from to i : ℤ) → from ≤ℤ i → i ≤ℤ to → (int_le from i && int_le i to) ≡ true
+pub passes : (from to i : ℤ) → from ≤ℤ i → i ≤ℤ to → (int_le from i && int_le i to) ≡ true
 passes from to i low high = grind (arith, ints)
 
-passed : (from to i : ℤ) → (int_le from i && int_le i to) ≡ true → (from ≤ℤ i) × (i ≤ℤ to)
+pub passed : (from to i : ℤ) → (int_le from i && int_le i to) ≡ true → (from ≤ℤ i) × (i ≤ℤ to)
 passed from to i held = (grind (arith, ints), grind (arith, ints))
 
 -- walks of which one goes some way past the other's end

@@ -2,6 +2,7 @@ pub mod CutLemmas
 pub mod ValueLemmas
 pub mod BlockLemmas
 pub mod DealLemmas
+pub mod RoundLemmas
 mod Worked
 pub mod PlaceLemmas
 pub mod OwnerLemmas

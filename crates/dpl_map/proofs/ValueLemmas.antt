@@ -1,10 +1,10 @@
 -- How many values a function has on a list: what a list that has them all is no shorter than.
-use Rattle.std.proofs.Common.{◌≡◌, ◌⊎◌, ◌≤◌, ◌+◌, ◌==◌, ℕ, zero, suc, Bool, true, false, cond, not, List, [], ◌∷◌, filter, map, length, All, AllPairs, Contains, get_or, inl, inr, nat_lt, refl, ap, sym, subst, ◌∙◌, arith, ⊎_elim, eqb-true}
+use Rattle.std.proofs.Common.{◌≡◌, ◌⊎◌, ◌<◌, ◌≤◌, ◌+◌, ◌-◌, ◌==◌, ℕ, zero, suc, Bool, true, false, cond, not, List, [], ◌∷◌, filter, map, length, All, AllPairs, Contains, get_or, inl, inr, nat_lt, refl, ap, sym, subst, ◌∙◌, arith, ⊎_elim, eqb-true}
 use Rattle.std.proofs.lemmas.List.{length-map}
 use Rattle.std.proofs.lemmas.List.Elements.{All-head, All-tail, All-weaker, All-contains, Contains-get_or, Contains-append_right}
 use Rattle.dpl_map.specs.Cuts.{behind}
 use Rattle.dpl_map.specs.Counts.{IsWithinValues}
-use Rattle.dpl_map.proofs.CutLemmas.{tells, All-passed, All-filter_passed, length-push}
+use Rattle.dpl_map.proofs.CutLemmas.{tells, filter-between_none, All-passed, All-filter_passed, length-push}
 
 module _ {X : Type 0} where
   -- what holds of whatever a list has holds of each of its elements
@@ -171,6 +171,15 @@ count_below-grows k (v ∷ values) =
     (tells (nat_lt v (k + 1))))
     (tells (nat_lt v k))
 
+count_below-later : (j k : ℕ) (values : List ℕ) → j ≤ k → count_below j values ≤ count_below k values
+count_below-later j k values before = let same : j + (k - j) ≡ k = omega (arith, before) in subst (λ n. count_below j values ≤ count_below n values) same (go (k - j))
+  where
+    go : (d : ℕ) → count_below j values ≤ count_below (j + d) values
+    go zero = let same : j ≡ j + 0 = omega arith in subst (λ n. count_below j values ≤ count_below n values) same (omega arith)
+    go (suc d) =
+        let next : j + d + 1 ≡ j + suc d = omega arith in
+        subst (λ n. count_below j values ≤ count_below n values) next (let e = go d in omega (arith, e, count_below-grows (j + d) values))
+
 -- and it is counted where it is in the list
 count_below-more : (k : ℕ) (values : List ℕ) → Contains values k → count_below k values + 1 ≤ count_below (k + 1) values
 count_below-more k [] member = absurd (Contains-nothing k member)
@@ -218,6 +227,13 @@ module _ {X : Type 0} (num : X → ℕ) (xs : List X) where
       go (y ∷ ys) values before new =
           let e = count_below-more k values (All-head (λ x. Contains values k) y ys new) in
           omega (arith, e, before, length-push pieces p)
+
+  -- a greater bound, where no number lies between
+  pub IsWithinBelow-later : (j k n : ℕ) → j ≤ k → All (λ x. num x < k → num x < j) xs → IsWithinBelow num xs j n → IsWithinBelow num xs k n
+  IsWithinBelow-later j k n before none within =
+      λ values has.
+      let few = within values (subst (All (λ x. Contains values (num x))) (sym (filter-between_none num xs j k before none)) has) in
+      omega (arith, few, count_below-later j k values before)
 
   pub IsWithinBelow-end : (k n : ℕ) → IsWithinBelow num xs k n → IsWithinValues num xs n
   IsWithinBelow-end k n within =

@@ -1,7 +1,7 @@
 // The block-cyclic rule along one dimension: the members of a range that a place gets, as ranges.
 // Blocks are counted from an origin at which a round of them begins, one block for each place.
 
-ghost use Rattle.std.specs.Prelude.{◌≡◌, ◌≢◌, ◌≤◌, ◌<◌, ◌+◌, ◌-◌, ◌*◌, ◌/◌, ◌%◌, ◌==◌, ◌&&◌, ◌^◌, ℕ, pos, ◌≤ℤ◌, ◌+ℤ◌, ◌-ℤ◌, neg_ℤ, int_le, [], filter, length, All, IfOk, IfSome, IsNone, OnOk};
+ghost use Rattle.std.specs.Prelude.{◌≡◌, ◌≢◌, ◌≤◌, ◌<◌, ◌+◌, ◌-◌, ◌*◌, ◌/◌, ◌%◌, ◌==◌, ◌&&◌, ◌^◌, ℕ, pos, ◌≤ℤ◌, ◌+ℤ◌, ◌-ℤ◌, neg_ℤ, int_le, [], filter, length, IfOk, IfSome, IsNone, OnOk, All};
 ghost use Rattle.std.specs.Int.{int_div_euclid};
 ghost use Rattle.dpl_range.specs.Range.{members_of, IsBound};
 ghost use Rattle.dpl_map.specs.Grids.{IsGridSize};
@@ -14,7 +14,8 @@ use dpl_range::Range;
 use std::alloc::{AllocError, Global};
 
 /// The members of a range that the block-cyclic rule deals to a place, as ranges: one for each of the place's
-/// blocks, or one for each offset in a block, whichever are fewer. Each range has a member.
+/// blocks that has members, or one for each offset in a block at which some lie. Each has a member, and they are no more
+/// than these blocks, and no more than a block has offsets.
 ///
 /// # Errors
 /// No memory for them.
@@ -40,7 +41,9 @@ pub fn dealt(
     }
     let deal = Deal::new(*range, start, size as u64, extent as u64, place as u64);
     let rounds = deal.rounds();
-    if deal.size < rounds && deal.size < range.stride().unsigned_abs() {
+    // A stride that passes over more than a block leaves no two members in one, so that the offsets are no more than the
+    // blocks with members; and many rounds are not gone through for few of them.
+    if deal.size < rounds && deal.size < range.size() && deal.size < range.stride().unsigned_abs() {
         return deal.by_offsets(alloc, start);
     }
     match deal.by_blocks(alloc, rounds)? {
@@ -124,14 +127,26 @@ impl Deal {
         }
     }
 
-    // How far the range's high bound lies past the origin.
-    fn way(&self) -> u128
+    // How far an integer between the range's bounds lies past the origin.
+    fn way(&self, i: i64) -> u128
         requires deal { IsDeal self.now.range self.now.origin self.now.size self.now.extent self.now.place }
-        requires ordered { self.now.range.low ≤ℤ self.now.range.high }
-        ensures way { result ≡ past self.now.origin self.now.range.high }
+        requires low { self.now.range.low ≤ℤ i }
+        requires high { i ≤ℤ self.now.range.high }
+        ensures way { result ≡ past self.now.origin i }
         ensures near { result ≤ 2 ^ 61 + self.now.extent * self.now.size }
     {
-        (self.range.high_bound() as i128 - self.origin) as u128
+        (i as i128 - self.origin) as u128
+    }
+
+    // The number of the block that has an integer between the range's bounds.
+    fn number(&self, i: i64) -> u64
+        requires deal { IsDeal self.now.range self.now.origin self.now.size self.now.extent self.now.place }
+        requires low { self.now.range.low ≤ℤ i }
+        requires high { i ≤ℤ self.now.range.high }
+        ensures number { result ≡ block_number self.now.origin self.now.size i }
+        ensures near { result ≤ 2 ^ 61 + 64 }
+    {
+        (self.way(i) / self.size as u128) as u64
     }
 
     // The number of the block that has the range's high bound.
@@ -141,7 +156,7 @@ impl Deal {
         ensures number { result ≡ block_number self.now.origin self.now.size self.now.range.high }
         ensures near { result ≤ 2 ^ 61 + 64 }
     {
-        (self.way() / self.size as u128) as u64
+        self.number(self.range.high_bound())
     }
 
     // How many of the place's blocks begin at the range's high bound or before it.
@@ -188,11 +203,32 @@ impl Deal {
         between(&self.range, self.begin(number), self.end(number))
     }
 
+    // The first of the place's rounds, from this one on, whose block has the least member that is left or begins behind it. None
+    // where the place has no member left.
+    fn next_round(&self, round: u64) -> Option<u64>
+        requires deal { IsDeal self.now.range self.now.origin self.now.size self.now.extent self.now.place }
+        requires ordered { self.now.range.low ≤ℤ self.now.range.high }
+        requires near { round * self.now.extent + self.now.place ≤ 2 ^ 62 }
+        ensures later { IfSome result (λ found. round ≤ found) }
+        ensures within { IfSome result (λ found. found * self.now.extent + self.now.place ≤ block_number self.now.origin self.now.size self.now.range.high) }
+        ensures passed { IfSome result (λ found. All (λ i. block_number self.now.origin self.now.size i / self.now.extent < found → block_number self.now.origin self.now.size i / self.now.extent < round) (filter (λ i. block_number self.now.origin self.now.size i % self.now.extent == self.now.place) (members_of self.now.range))) }
+        ensures none { IsNone result → All (λ i. block_number self.now.origin self.now.size i / self.now.extent < round) (filter (λ i. block_number self.now.origin self.now.size i % self.now.extent == self.now.place) (members_of self.now.range)) }
+    {
+        let begin = self.begin(round * self.extent + self.place);
+        let left = between(&self.range, begin, self.range.high_bound() as i128);
+        let least = left.low()?;
+        let found = (self.number(least) + (self.extent - 1 - self.place)) / self.extent;
+        if self.last() < found * self.extent + self.place {
+            return None;
+        }
+        Some(found)
+    }
+
     // The members in each of the place's blocks, one block after another. There is no such list where more of the blocks
     // have members than a block has offsets.
     fn by_blocks(&self, alloc: Global, rounds: u64) -> Result<Option<Vec<Range>>, AllocError>
         requires deal { IsDeal self.now.range self.now.origin self.now.size self.now.extent self.now.place }
-        requires all { (j : ℕ) → j < rounds → j * self.now.extent + self.now.place ≤ block_number self.now.origin self.now.size self.now.range.high }
+        requires ordered { self.now.range.low ≤ℤ self.now.range.high }
         requires enough { (j : ℕ) → j * self.now.extent + self.now.place ≤ block_number self.now.origin self.now.size self.now.range.high → j < rounds }
         requires near { block_number self.now.origin self.now.size self.now.range.high ≤ 2 ^ 61 + 64 }
         ensures cut { IfOk result (λ found. IfSome found (λ v. AreCut members_of (filter (λ i. block_number self.now.origin self.now.size i % self.now.extent == self.now.place) (members_of self.now.range)) v.items)) }
@@ -203,11 +239,13 @@ impl Deal {
         ensures later { IfOk result (λ found. IsNone found → self.now.size < rounds) }
     {
         let mut pieces = Vec::new(alloc);
-        for round in 0..rounds {
-            keep(&mut pieces, self.block(round * self.extent + self.place))?;
+        let mut round = 0;
+        'rounds: while let Some(found) = self.next_round(round) {
+            keep(&mut pieces, self.block(found * self.extent + self.place))?;
             if self.size < pieces.len() as u64 {
                 return Ok(None);
             }
+            round = found + 1;
         }
         Ok(Some(pieces))
     }

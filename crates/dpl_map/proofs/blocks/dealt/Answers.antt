@@ -1,5 +1,5 @@
 -- The members that the rule deals to the place are those of its blocks, however they are cut out.
-use Rattle.std.proofs.Common.{◌≡◌, ◌≢◌, ◌<◌, ◌≤◌, ◌≤ℤ◌, ◌-ℤ◌, ◌==◌, ◌+◌, ◌*◌, ◌%◌, ℕ, ℤ, pos, unsigned_abs, int_le, List, [], ◌∷◌, filter, FitsSigned, w64, length, IfOk, refl, ap, sym, subst, ◌∙◌, arith, ⊎_elim}
+use Rattle.std.proofs.Common.{◌≡◌, ◌≢◌, ◌<◌, ◌≤◌, ◌≤ℤ◌, ◌-ℤ◌, ◌==◌, ◌+◌, ◌*◌, ◌%◌, ℕ, ℤ, pos, true, unsigned_abs, int_le, List, [], ◌∷◌, filter, FitsSigned, w64, length, IfOk, refl, ap, sym, subst, ◌∙◌, arith, ⊎_elim}
 use Rattle.std.specs.Int.{int_div_euclid}
 use Rattle.std.proofs.lemmas.Int.{ints, to_z-of_z}
 use Rattle.std.proofs.lemmas.List.Elements.{All-nil}
@@ -26,15 +26,22 @@ returns-then-size-eq0-clause-cut c = go (members_of c.args.range.now) (omega (ar
 pub returns-then-size-eq0-clause-some : goal.returns-then-size-eq0-clause-some
 returns-then-size-eq0-clause-some c = rw c.new.ensures.items (All-nil (λ r. members_of r ≢ []))
 
-pub rounds-rounds-requires-clause-ordered : goal.rounds-rounds-requires-clause-ordered
-rounds-rounds-requires-clause-ordered c =
+-- a range with a member has its bounds in order
+ordered : (c : After-new-deal) → c.new-deal.result.range.low ≤ℤ c.new-deal.result.range.high
+ordered c =
     let r = c.new-deal.result.range in
     ⊎_elim
-    (λ ordered. grind (arith, ints, ordered))
+    (λ (least : int_le r.low r.high ≡ true). grind (arith, ints, least))
     (λ apart.
     let none : members_of r ≡ [] = members-empty r.low r.high r.stride (grind (arith, ints, apart)) in
     absurd (omega (arith, ap length none, c.size.ensures.length, ap (λ (q : RangeValue). length (members_of q)) c.new-deal.ensures.range, c.if-size-eq0.false)))
     (tells (int_le r.low r.high))
+
+pub rounds-rounds-requires-clause-ordered : goal.rounds-rounds-requires-clause-ordered
+rounds-rounds-requires-clause-ordered c = ordered (goal.at.rounds-rounds-requires-clause-ordered c).After-new-deal
+
+pub by_blocks-requires-clause-ordered : goal.by_blocks-requires-clause-ordered
+by_blocks-requires-clause-ordered c = ordered (goal.at.by_blocks-requires-clause-ordered c).After-new-deal
 
 -- what the rule deals to the place, by the blocks of the deal
 dealt-is : (c : After-new-deal) → filter (λ i. block_number c.new-deal.result.origin c.new-deal.result.size i % c.new-deal.result.extent == c.new-deal.result.place) (members_of c.new-deal.result.range) ≡ filter (λ i. block_cyclic_place c.args.start c.args.size c.args.extent i == c.args.place) (members_of c.args.range.now)
