@@ -1,9 +1,13 @@
 -- Worked rows of the definitions, each by computation.
-use Rattle.std.proofs.Common.{◌≡◌, ℤ, pos, negsuc, List, [], ◌∷◌, refl, map}
+use Rattle.std.proofs.Common.{◌≡◌, ℤ, pos, negsuc, ◌-ℤ◌, List, [], ◌∷◌, Contains, refl, map, arith}
+use Rattle.std.specs.Int.{int_div_euclid}
+use Rattle.std.proofs.lemmas.Int.{ints}
+use Rattle.std.proofs.lemmas.List.Elements.{All-nil, All-from_recursion}
 use Rattle.dpl_range.specs.Members.{members}
 use Rattle.dpl_range.specs.Range.{RangeValue}
 use Rattle.dpl_domain.specs.Indices.{indices}
-use Rattle.dpl_map.specs.Maps.{AxisValue, owner, cyclic_map, block_cyclic_map, Block}
+use Rattle.dpl_map.specs.Maps.{AxisValue, owner, cyclic_map, block_cyclic_map, Block, BlockCyclic}
+use Rattle.dpl_map.specs.Counts.{AreFewRanges}
 use Rattle.dpl_map.specs.Parts.{part}
 use Rattle.dpl_map.specs.Places.{block_place, cyclic_place, block_cyclic_place}
 
@@ -72,3 +76,23 @@ block_cyclic_parts = refl
 whole_parts : map (part (range (pos 1) (pos 2) (pos 1) ∷ []) []) (0 ∷ 1 ∷ []) ≡ ((pos 1 ∷ []) ∷ (pos 2 ∷ []) ∷ []) ∷ [] ∷ []
 unfolding part owner indices members range
 whole_parts = refl
+
+-- Place 0 of three has {10} and {18, 20} of `4..27 by 2`, from 0 in blocks of 3: members at all three offsets, in two blocks.
+-- So it is not in three ranges.
+no_more_than_blocks : AreFewRanges (BlockCyclic (pos 0) (pos 3)) (pos 10 ∷ pos 18 ∷ pos 20 ∷ []) 3 → ⊥
+no_more_than_blocks few =
+    let two = few.1 (pos 3 ∷ pos 6 ∷ [])
+    (All-from_recursion (λ i. Contains (pos 3 ∷ pos 6 ∷ []) (int_div_euclid (i -ℤ pos 0) (pos 3))) (pos 10 ∷ pos 18 ∷ pos 20 ∷ [])
+    ((0, omega arith, refl), ((1, omega arith, refl), ((1, omega arith, refl), tt)))) in
+    omega (arith, two)
+
+-- from 1 in blocks of 2, no more than two
+no_more_than_offsets : (is : List ℤ) → AreFewRanges (BlockCyclic (pos 1) (pos 2)) is 3 → ⊥
+no_more_than_offsets is few = omega (arith, ints, few.0)
+
+-- by Block, no more than one, and none of nothing
+no_more_than_one : (is : List ℤ) → AreFewRanges (Block (pos 1) (pos 4)) is 2 → ⊥
+no_more_than_one is few = omega (arith, ints, few.0)
+
+none_of_nothing : AreFewRanges (Block (pos 1) (pos 4)) [] 1 → ⊥
+none_of_nothing few = let none = few.1 [] (All-nil (λ i. Contains [] (pos 0))) in omega (arith, none)
