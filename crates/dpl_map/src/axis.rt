@@ -108,8 +108,8 @@ impl Axis {
     }
 
     /// The members of a range that a place owns, as ranges that each have members, in the order of the range. That is one
-    /// range, or for the block-cyclic rule one for each block that has some, or one for each offset in a block, whichever
-    /// are fewer; and it is none where the place owns no member.
+    /// range, or by the block-cyclic rule no more than a block has offsets, and no more than there are blocks with members
+    /// of the place; and it is none where the place owns no member.
     ///
     /// # Errors
     /// No memory for them.
