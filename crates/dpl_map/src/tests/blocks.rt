@@ -1,9 +1,10 @@
 // Rows of block-cyclic maps.
 
-use super::{LIMIT, hold, line, parts};
+use super::{LIMIT, block, cyclic, hold, line, parts};
 use crate::{Grid, Map, MapFault};
 use dpl_domain::{Domain, Index};
 use dpl_range::Range;
+use std::alloc::Global;
 use std::process::Abort;
 use std::test::Fail;
 
@@ -64,6 +65,79 @@ fn few(rt: HostRuntime) -> Result<(), Fail> {
         assert!(rt; !part.is_empty());
     }
     Ok(())
+}
+
+// In how many domains each place has its part of a domain.
+fn counts(
+    rt: &impl Abort,
+    alloc: Global,
+    map: Map,
+    domain: Domain,
+    domains: &[usize],
+) -> Result<(), Fail> {
+    assert_eq!(rt; map.places() as usize, domains.len());
+    for (locale, count) in domains.iter().enumerate() {
+        let part = map.part(alloc, &domain, locale as u32)?;
+        assert_eq!(rt; part.len(), *count);
+    }
+    Ok(())
+}
+
+// Place 0 has {10} and {18, 20}. Its first block and its last one have no member, so it has fewer blocks than offsets:
+// those of 10, 18 and 20 differ.
+#[test]
+fn fewer_blocks(rt: HostRuntime) -> Result<(), Fail> {
+    let alloc = rt.alloc();
+    let map = in_blocks(&rt, &[0], &[3], &[3])?;
+    let domain = line(4, 27, 2)?;
+    parts(
+        &rt,
+        alloc,
+        map,
+        domain,
+        &[&[10, 18, 20], &[4, 12, 14, 22], &[6, 8, 16, 24, 26]],
+    )?;
+    counts(&rt, alloc, map, domain, &[2, 3, 3])
+}
+
+// A place has more blocks than a block has offsets, by one at 1..24. Even members lie at two of four offsets.
+#[test]
+fn fewer_offsets(rt: HostRuntime) -> Result<(), Fail> {
+    let alloc = rt.alloc();
+    let threes = in_blocks(&rt, &[1], &[3], &[2])?;
+    counts(&rt, alloc, threes, line(1, 24, 1)?, &[3, 3])?;
+    counts(&rt, alloc, threes, line(1, 1 << 40, 1)?, &[3, 3])?;
+    let fours = in_blocks(&rt, &[0], &[4], &[2])?;
+    counts(&rt, alloc, fours, line(2, 1 << 40, 2)?, &[2, 2])
+}
+
+// A stride that is longer than a block passes over whole blocks: those with a member may lie far apart.
+#[test]
+fn long_strides(rt: HostRuntime) -> Result<(), Fail> {
+    let alloc = rt.alloc();
+    let map = in_blocks(&rt, &[1], &[3], &[2])?;
+    counts(&rt, alloc, map, line(1, 1 << 40, 1000)?, &[2, 1])?;
+    let far = line(1, 1 << 40, 1 << 39)?;
+    parts(&rt, alloc, map, far, &[&[1, (1 << 39) + 1], &[]])?;
+    counts(&rt, alloc, map, far, &[2, 0])
+}
+
+// By the other rules a part is one domain, and none where it is empty.
+#[test]
+fn one_or_none(rt: HostRuntime) -> Result<(), Fail> {
+    let alloc = rt.alloc();
+    let pair = line(1, 2, 1)?;
+    let nothing = line(2, 1, 1)?;
+    let blocks = block(1, 4, 1, 3)?;
+    let around = cyclic(&rt, 1, 3)?;
+    counts(&rt, alloc, blocks, pair, &[1, 0, 0])?;
+    counts(&rt, alloc, around, pair, &[1, 1, 0])?;
+    counts(&rt, alloc, Map::whole(), pair, &[1])?;
+    counts(&rt, alloc, blocks, nothing, &[0, 0, 0])?;
+    counts(&rt, alloc, around, nothing, &[0, 0, 0])?;
+    counts(&rt, alloc, Map::whole(), nothing, &[0])?;
+    let plane = Domain::new(&[Range::new(1, 2, 1)?, Range::new(1, 2, 1)?])?;
+    counts(&rt, alloc, blocks, plane, &[1, 0, 0])
 }
 
 #[test]
