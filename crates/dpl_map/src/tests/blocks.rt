@@ -137,7 +137,9 @@ fn one_or_none(rt: HostRuntime) -> Result<(), Fail> {
     counts(&rt, alloc, around, nothing, &[0, 0, 0])?;
     counts(&rt, alloc, Map::whole(), nothing, &[0])?;
     let plane = Domain::new(&[Range::new(1, 2, 1)?, Range::new(1, 2, 1)?])?;
-    counts(&rt, alloc, blocks, plane, &[1, 0, 0])
+    counts(&rt, alloc, blocks, plane, &[1, 0, 0])?;
+    let flat = Domain::new(&[Range::new(1, 2, 1)?, Range::new(2, 1, 1)?])?;
+    counts(&rt, alloc, blocks, flat, &[0, 0, 0])
 }
 
 #[test]
