@@ -119,7 +119,9 @@ fn long_strides(rt: HostRuntime) -> Result<(), Fail> {
     counts(&rt, alloc, map, line(1, 1 << 40, 1000)?, &[2, 1])?;
     let far = line(1, 1 << 40, 1 << 39)?;
     parts(&rt, alloc, map, far, &[&[1, (1 << 39) + 1], &[]])?;
-    counts(&rt, alloc, map, far, &[2, 0])
+    counts(&rt, alloc, map, far, &[2, 0])?;
+    let long = in_blocks(&rt, &[0], &[1 << 30], &[2])?;
+    counts(&rt, alloc, long, line(-LIMIT, LIMIT, 1 << 55)?, &[65, 0])
 }
 
 // By the other rules a part is one domain, and none where it is empty.
