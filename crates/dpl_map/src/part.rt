@@ -27,7 +27,8 @@ impl Map {
     /// The part of a domain that a locale owns: domains that each have an index, have none in common and together hold
     /// exactly the indices that it owns, each in the domain's order. It is one domain at the most, but by the block-cyclic
     /// rule: there each dimension is cut into no more ranges than a block has offsets, and no more than the locale has
-    /// blocks with an index of the part. There is none where the locale owns no index, as where it is no place of the map.
+    /// blocks with an index of the part. A domain of another rank than the map's is not cut. There is no domain where the
+    /// locale owns no index, as where it is no place of the map.
     ///
     /// # Errors
     /// No memory for the domains.
@@ -36,6 +37,7 @@ impl Map {
         ensures some { IfOk result (λ domains. All (λ domain. indices domain ≢ []) domains.items) }
         ensures one { AreSingle self.now → IfOk result (λ domains. length domains.items ≤ 1) }
         ensures few { IfOk result (λ domains. AreFew self.now (part domain.now self.now locale) (length domains.items)) }
+        ensures other { length domain.now ≢ length self.now → IfOk result (λ domains. length domains.items ≤ 1) }
         ensures none { IfOk result (λ domains. places self.now ≤ locale → domains.items ≡ []) }
     {
         if self.places() <= locale || domain.size() == 0 {
