@@ -3,22 +3,15 @@
 # usage: scripts/bench-cells.sh [ROUNDS]. Needs rt and rustc. The benchmark's crate is built in a copy of the repository.
 set -eu
 
-rounds=${1:-9}
-top=$(cd "$(dirname "$0")/.." && pwd)
-work=$(mktemp -d)
-trap 'rm -rf "$work"' EXIT
+. "$(dirname "$0")/bench-crate.sh"
 
-mkdir -p "$work/crates/cell_bench/src"
-cp "$top/HANDLES" "$work"
-cp -r "$top/crates/dpl_cell" "$work/crates"
-printf 'dpl_cell: atomic_table\ncell_bench: dpl_cell atomic_table\n' > "$work/crates.txt"
-cp "$top/benches/cells/cells.rt.txt" "$work/crates/cell_bench/src/main.rt"
+bench_crate cell_bench "$top/benches/cells/cells.rt.txt" 'dpl_cell atomic_table' dpl_cell
 for function in exchange answer; do
     mkdir -p "$work/crates/cell_bench/proofs/$function"
     sed "s/FUNCTION/$function/" "$top/benches/cells/invariants.antt.txt" > "$work/crates/cell_bench/proofs/$function/Invariants.antt"
 done
 
-(cd "$work/crates/cell_bench" && rt run --jobs 2) > "$work/log" 2>&1 || { tail -n 20 "$work/log"; exit 1; }
+bench_build cell_bench
 rustc -O -o "$work/mutex" "$top/benches/cells/mutex.rs"
 
 for _ in $(seq "$rounds"); do

@@ -3,18 +3,10 @@
 # usage: scripts/bench-maps.sh [ROUNDS]. Needs rt and gcc. The benchmark's crate is built in a copy of the repository.
 set -eu
 
-rounds=${1:-9}
-top=$(cd "$(dirname "$0")/.." && pwd)
-work=$(mktemp -d)
-trap 'rm -rf "$work"' EXIT
+. "$(dirname "$0")/bench-crate.sh"
 
-mkdir -p "$work/crates/map_bench/src"
-cp "$top/HANDLES" "$work"
-cp -r "$top/crates/dpl_range" "$top/crates/dpl_domain" "$top/crates/dpl_map" "$work/crates"
-printf 'dpl_range: thiserror\ndpl_domain: dpl_range thiserror\ndpl_map: dpl_range dpl_domain thiserror\nmap_bench: dpl_map dpl_domain dpl_range\n' > "$work/crates.txt"
-cp "$top/benches/maps/maps.rt.txt" "$work/crates/map_bench/src/main.rt"
-
-(cd "$work/crates/map_bench" && rt run --jobs 2) > "$work/log" 2>&1 || { tail -n 20 "$work/log"; exit 1; }
+bench_crate map_bench "$top/benches/maps/maps.rt.txt" 'dpl_map dpl_domain dpl_range' dpl_range dpl_domain dpl_map
+bench_build map_bench
 gcc -O2 -o "$work/formulas" "$top/benches/maps/formulas.c"
 
 for _ in $(seq "$rounds"); do

@@ -4,19 +4,12 @@
 # usage: scripts/bench-ranges.sh [ROUNDS]. Needs rt and rustc. The benchmark's crate is built in a copy of the repository.
 set -eu
 
-rounds=${1:-9}
-top=$(cd "$(dirname "$0")/.." && pwd)
-work=$(mktemp -d)
-trap 'rm -rf "$work"' EXIT
+. "$(dirname "$0")/bench-crate.sh"
 
-mkdir -p "$work/crates/range_bench/src" "$work/crates/range_bench/proofs/walk"
-cp "$top/HANDLES" "$work"
-cp -r "$top/crates/dpl_range" "$top/crates/dpl_domain" "$work/crates"
-printf 'dpl_range: thiserror\ndpl_domain: dpl_range thiserror\nrange_bench: dpl_domain dpl_range\n' > "$work/crates.txt"
-cp "$top/benches/ranges/ranges.rt.txt" "$work/crates/range_bench/src/main.rt"
+bench_crate range_bench "$top/benches/ranges/ranges.rt.txt" 'dpl_domain dpl_range' dpl_range dpl_domain
+mkdir -p "$work/crates/range_bench/proofs/walk"
 cp "$top/benches/ranges/invariants.antt.txt" "$work/crates/range_bench/proofs/walk/Invariants.antt"
-
-(cd "$work/crates/range_bench" && rt run --jobs 2) > "$work/log" 2>&1 || { tail -n 20 "$work/log"; exit 1; }
+bench_build range_bench
 rustc -O -o "$work/loops" "$top/benches/ranges/loops.rs"
 
 for _ in $(seq "$rounds"); do
