@@ -1,5 +1,6 @@
 -- The members of a range by the blocks that a place gets.
 use Rattle.std.proofs.Common.{◌≡◌, ◌⊎◌, ◌<◌, ◌≤◌, ◌+◌, ◌-◌, ◌*◌, ◌/◌, ◌%◌, ◌==◌, ◌&&◌, ℕ, true, ℤ, pos, negsuc, ◌+ℤ◌, ◌-ℤ◌, ◌≤ℤ◌, int_le, List, [], ◌∷◌, ◌++◌, filter, length, All, AllPairs, get_or, inl, inr, unsigned_abs, refl, ap, sym, ◌∙◌, arith, ⊎_elim}
+use Rattle.std.specs.Cmp.{both_ways}
 use Rattle.std.specs.Int.{int_div_euclid}
 use Rattle.std.proofs.lemmas.Option.{get_or_from_slice_get}
 use Rattle.std.proofs.lemmas.List.Kept.{AllPairs-filter}
@@ -17,7 +18,7 @@ use Rattle.dpl_map.specs.Places.{block_cyclic_place}
 use Rattle.dpl_map.specs.Cuts.{behind}
 use Rattle.dpl_map.specs.Counts.{IsWithinValues}
 use Rattle.dpl_map.specs.Blocks.{past, block_number, block_offset, BeginsRound, IsDeal}
-use Rattle.dpl_map.proofs.CutLemmas.{filter-filter, filter-same, All-each, All-filter_passed, same_test}
+use Rattle.dpl_map.proofs.CutLemmas.{filter-filter, filter-same, All-each, All-filter_passed}
 use Rattle.dpl_map.proofs.BlockLemmas.{block_cyclic_place-past, congruent-past, left-of_round, in-block, block-of_round, block-shift, same-block}
 use Rattle.dpl_map.proofs.ValueLemmas.{IsWithinValues-through, IsWithinValues-less, IsWithinValues-length, IsWithinValues-apart}
 
@@ -81,7 +82,7 @@ module _ (r : RangeValue) (origin : ℤ) (size extent place : ℕ) (deal : IsDea
       let e = in-block size (past origin i) number deal.some in
       let low = origin +ℤ pos (number * size) in
       let high = origin +ℤ pos (number * size) +ℤ pos (size - 1) in
-      same_test (int_le low i && int_le i high) (block_number origin size i == number)
+      both_ways (int_le low i && int_le i high) (block_number origin size i == number)
       (λ held. let h = passed low high i held in eq-eqb (block_number origin size i) number (e.1 (omega (arith, ints, h.0, w.0), omega (arith, ints, h.1, w.0))))
       (λ held. let h = e.0 (eqb-true (block_number origin size i) number held) in passes low high i (omega (arith, ints, h.0, w.0)) (omega (arith, ints, h.1, w.0))))
       (members_of r) members-past)
@@ -94,7 +95,7 @@ module _ (r : RangeValue) (origin : ℤ) (size extent place : ℕ) (deal : IsDea
       (λ i.
       let e = block-of_round extent place j (block_number origin size i) deal.among in
       let number = block_number origin size i in
-      same_test (number == j * extent + place) ((number % extent == place) && (number / extent == j))
+      both_ways (number == j * extent + place) ((number % extent == place) && (number / extent == j))
       (λ held.
       let h = e.1 (eqb-true number (j * extent + place) held) in
       and_from (number % extent == place) (number / extent == j) (eq-eqb (number % extent) place h.0) (eq-eqb (number / extent) j h.1))
@@ -130,7 +131,7 @@ module _ (r : RangeValue) (origin : ℤ) (size extent place : ℕ) (deal : IsDea
       let e = congruent-past start origin i (extent * size) (place * size + offset) m short begins w.0 in
       let f = left-of_round size extent m place offset deal.some (omega (arith, deal.among)) within in
       let number = block_number origin size i in
-      same_test (is_congruent (extent * size) (start +ℤ pos (place * size + offset)) i) ((number % extent == place) && (block_offset origin size i == offset))
+      both_ways (is_congruent (extent * size) (start +ℤ pos (place * size + offset)) i) ((number % extent == place) && (block_offset origin size i == offset))
       (λ held.
       let h = f.0 (e.0 held) in
       and_from (number % extent == place) (block_offset origin size i == offset) (eq-eqb (number % extent) place h.0) (eq-eqb (block_offset origin size i) offset h.1))

@@ -1,15 +1,15 @@
 -- Every tuple has one owner, so each index of a domain is in one part.
-use Rattle.std.proofs.Common.{◌≡◌, ℕ, zero, suc, ◌*◌, ◌<◌, List, [], ◌∷◌, length, refl, ap, sym, ◌∙◌, arith, ℤ, pos, ⊎_elim, Contains, Bool, true, false, cond, filter, slice_get, Some, ◌==◌, eqb-true, eq-eqb}
+use Rattle.std.proofs.Common.{◌≡◌, ℕ, zero, suc, ◌*◌, ◌<◌, List, [], ◌∷◌, length, refl, sym, ◌∙◌, arith, ℤ, pos, ⊎_elim, Contains, true, ◌==◌, eqb-true, eq-eqb}
 use Rattle.std.proofs.lemmas.Bool.{cases_eq}
-use Rattle.std.proofs.lemmas.List.Elements.{All-contains, filter_passes, Contains-append_left, Contains-append_right}
+use Rattle.std.proofs.lemmas.List.Elements.{All-contains, filter_passes}
 use Rattle.dpl_range.specs.Range.{RangeValue}
-use Rattle.dpl_range.proofs.Ends.{slice_get-Contains}
 use Rattle.dpl_domain.specs.Indices.{indices}
 use Rattle.dpl_map.specs.Parts.{part}
 use Rattle.dpl_domain.specs.Ranks.{last_of}
 use Rattle.dpl_map.specs.MapFields.{IsMap}
 use Rattle.dpl_map.specs.Maps.{AxisValue, owner}
 use Rattle.dpl_map.proofs.AxisLemmas.{axis-below}
+use Rattle.dpl_map.proofs.ValueLemmas.{Contains-filter}
 use Rattle.dpl_map.proofs.OwnerLemmas.{owner-padded, owner-other, places-padded, places-positive, length-last_of, row-below}
 
 module _ (o m i : AxisValue) where
@@ -49,19 +49,6 @@ module _ (o m i : AxisValue) where
       omega (arith, none, places-positive rank o m i is, places-padded rank o m i is))
       (cases_eq (length t) rank)
 
--- what passes a test is kept by its filter
-kept : {X : Type 0} (p : X → Bool) (xs : List X) (x : X) → p x ≡ true → (k : ℕ) → slice_get xs k ≡ Some x → Contains (filter p xs) x
-kept p [] x passes k at = absurd cc
-kept p (y ∷ ys) x passes zero at =
-    let e : y ≡ x = cc in
-    let first : p y ≡ true = ap p e ∙ passes in
-    rw first (Contains-append_left (y ∷ []) (filter p ys) x (0, omega arith, e))
-kept p (y ∷ ys) x passes (suc k) at = go (p y) (kept p ys x passes k at)
-  where
-    go : (b : Bool) → Contains (filter p ys) x → Contains (cond b (y ∷ filter p ys) (filter p ys)) x
-    go true later = Contains-append_right (y ∷ []) (filter p ys) x later
-    go false later = later
-
 -- a tuple of a part is owned by its locale
 pub part-owned : (ranges : List RangeValue) (axes : List AxisValue) (locale : ℕ) (t : List ℤ) → Contains (part ranges axes locale) t → owner axes t ≡ locale
 unfolding part
@@ -76,5 +63,4 @@ parts-apart ranges axes t j k first second = sym (part-owned ranges axes j t fir
 pub parts-together : (ranges : List RangeValue) (axes : List AxisValue) (t : List ℤ) → Contains (indices ranges) t → Contains (part ranges axes (owner axes t)) t
 unfolding part
 parts-together ranges axes t member =
-    let at = slice_get-Contains (indices ranges) t member in
-    kept (λ u. owner axes u == owner axes t) (indices ranges) t (eq-eqb _ _ refl) at.0 at.1
+    Contains-filter (λ u. owner axes u == owner axes t) (indices ranges) t (eq-eqb _ _ refl) member

@@ -5,6 +5,7 @@ use Rattle.std.specs.List.{AllByRecursion}
 use Rattle.std.proofs.lemmas.List.{length-map, nil_from_length}
 use Rattle.std.proofs.lemmas.Nat.{same_from_place, div_below, mod_below, div-add-mod'}
 use Rattle.dpl_range.specs.Range.{RangeValue, members_of}
+use Rattle.dpl_domain.proofs.PlaceLemmas.{length-filter_le}
 use Rattle.dpl_domain.specs.Indices.{tuples, indices}
 use Rattle.dpl_domain.specs.Ranks.{last_of}
 use Rattle.dpl_map.specs.AxisFields.{IsAxis}
@@ -206,18 +207,10 @@ seat l a m n rows columns below =
       place = ap (λ z. z * n + l % n) split ∙ whole;
     }
 
-pub length-filter : {X : Type 0} (p : X → Bool) (xs : List X) → length (filter p xs) ≤ length xs
-length-filter p [] = omega arith
-length-filter p (x ∷ xs) = kept (p x) (length-filter p xs)
-  where
-    kept : (b : Bool) → length (filter p xs) ≤ length xs → length (cond b (x ∷ filter p xs) (filter p xs)) ≤ suc (length xs)
-    kept true fewer = omega arith
-    kept false fewer = omega arith
-
 -- a part is no larger than its domain
 pub part-small : (ranges : List RangeValue) (axes : List AxisValue) (locale : ℕ) → length (part ranges axes locale) ≤ length (indices ranges)
 unfolding part
-part-small ranges axes locale = length-filter (λ t. owner axes t == locale) (indices ranges)
+part-small ranges axes locale = length-filter_le (λ t. owner axes t == locale) (indices ranges)
 
 filter-every : {X : Type 0} (xs : List X) → filter (λ x. true) xs ≡ xs
 filter-every [] = refl

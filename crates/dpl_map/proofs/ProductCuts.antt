@@ -13,7 +13,8 @@ use Rattle.dpl_map.specs.Cuts.{AreCut}
 use Rattle.dpl_map.proofs.CutLemmas.{tells, filter-same}
 use Rattle.dpl_map.proofs.FilterLemmas.{filter-alike}
 use Rattle.dpl_map.proofs.ProductLemmas.{tuples-empty}
-use Rattle.dpl_map.proofs.PartLemmas.{all_pass, filter_each, filter-tuples, each-at, each-length, length-filter}
+use Rattle.dpl_map.proofs.PartLemmas.{all_pass, filter_each, filter-tuples, each-at, each-length}
+use Rattle.dpl_domain.proofs.PlaceLemmas.{length-filter_le}
 
 -- a cut whose numbers are those of pieces for every element, whether it is in the list or not
 pub record IsCutWhole {X P : Type 0} (elements : P → List X) (xs : List X) (pieces : List P) : Type 0 where
@@ -231,4 +232,4 @@ length-product xs ys zs ps qs rs first second third rank one_first one_second fr
     let z = AreCut-whole members_of zs rs (omega (arith, slice_get_within rs c i i-at)) third in
     let num = number-at xs ys zs ps qs rs x y z rank in
     omega
-    (arith, ap length (product-listed xs ys zs ps qs rs x y z a b c o m i o-at m-at i-at rank one_first one_second from to), length-filter (λ t. num t == (a * length qs + b) * length rs + c) (tuples (last_of rank xs ys zs)))
+    (arith, ap length (product-listed xs ys zs ps qs rs x y z a b c o m i o-at m-at i-at rank one_first one_second from to), length-filter_le (λ t. num t == (a * length qs + b) * length rs + c) (tuples (last_of rank xs ys zs)))

@@ -2,6 +2,7 @@
 use Rattle.std.proofs.Common.{◌≡◌, ◌⊎◌, ◌<◌, ◌≤◌, ◌+◌, ◌-◌, ◌==◌, ℕ, zero, suc, Bool, true, false, cond, not, List, [], ◌∷◌, filter, map, length, All, AllPairs, Contains, get_or, inl, inr, nat_lt, refl, ap, sym, subst, ◌∙◌, arith, ⊎_elim, eqb-true}
 use Rattle.std.proofs.lemmas.List.{length-map}
 use Rattle.std.proofs.lemmas.List.Elements.{All-head, All-tail, All-weaker, All-contains, Contains-get_or, Contains-append_right}
+use Rattle.dpl_domain.proofs.PlaceLemmas.{length-filter_le}
 use Rattle.dpl_map.specs.Cuts.{behind}
 use Rattle.dpl_map.specs.Counts.{IsWithinValues}
 use Rattle.dpl_map.proofs.CutLemmas.{tells, filter-between_none, All-passed, All-filter_passed, length-push}
@@ -96,15 +97,6 @@ IsWithinValues-through f g h xs n same within =
 others : ℕ → List ℕ → List ℕ
 others n values = filter (λ v. not (v == n)) values
 
-length-others_le : (n : ℕ) (values : List ℕ) → length (others n values) ≤ length values
-unfolding others
-length-others_le n [] = omega arith
-length-others_le n (v ∷ values) = kept (not (v == n)) (length-others_le n values)
-  where
-    kept : (b : Bool) → length (filter (λ v. not (v == n)) values) ≤ length values → length (cond b (v ∷ filter (λ v. not (v == n)) values) (filter (λ v. not (v == n)) values)) ≤ suc (length values)
-    kept true fewer = omega arith
-    kept false fewer = omega arith
-
 length-others : (n : ℕ) (values : List ℕ) → Contains values n → length (others n values) + 1 ≤ length values
 unfolding others
 length-others n [] member = absurd (Contains-nothing n member)
@@ -112,7 +104,7 @@ length-others n (v ∷ values) member =
     ⊎_elim
     (λ (here : v ≡ n).
     let gone : not (v == n) ≡ false = grind (arith, here) in
-    rw gone (let fewer = length-others_le n values in omega (arith, fewer)))
+    rw gone (let fewer = length-filter_le (λ v. not (v == n)) values in omega (arith, fewer)))
     (λ later. kept (not (v == n)) (length-others n values later))
     (Contains-cases v values n member)
   where
@@ -150,12 +142,6 @@ count_below-counted k v values below =
 
 count_below-passed : (k v : ℕ) (values : List ℕ) → nat_lt v k ≡ false → count_below k (v ∷ values) ≡ count_below k values
 count_below-passed k v values past = ap (λ b. length (cond b (v ∷ filter (λ v. nat_lt v k) values) (filter (λ v. nat_lt v k) values))) past
-
-count_below-le : (k : ℕ) (values : List ℕ) → count_below k values ≤ length values
-count_below-le k [] = omega arith
-count_below-le k (v ∷ values) =
-    let rest = count_below-le k values in
-    ⊎_elim (λ below. omega (arith, rest, count_below-counted k v values below)) (λ past. omega (arith, rest, count_below-passed k v values past)) (tells (nat_lt v k))
 
 -- one number more to count
 count_below-grows : (k : ℕ) (values : List ℕ) → count_below k values ≤ count_below (k + 1) values
@@ -239,4 +225,4 @@ module _ {X : Type 0} (num : X → ℕ) (xs : List X) where
   IsWithinBelow-end k n within =
       λ values has.
       let few = within values (All-filter_passed (λ x. Contains values (num x)) (λ x. nat_lt (num x) k) xs (All-weaker (λ x. Contains values (num x)) (λ x. nat_lt (num x) k ≡ true → Contains values (num x)) (λ x held _. held) xs has)) in
-      omega (arith, few, count_below-le k values)
+      omega (arith, few, length-filter_le (λ v. nat_lt v k) values)

@@ -14,7 +14,8 @@ rule_block (Block low high) i = pos 0
 rule_block (Cyclic start) i = pos 0
 rule_block (BlockCyclic start blocksize) i = int_div_euclid (i -ℤ start) blocksize
 
--- how many offsets there are in a block of the block-cyclic rule
+-- How many offsets there are in a block of the block-cyclic rule. By the other rules all that a place has of a range is one
+-- range.
 abbrev pub rule_offsets : RuleValue → ℤ
 rule_offsets (Block low high) = pos 1
 rule_offsets (Cyclic start) = pos 1

@@ -41,8 +41,8 @@ pub fn dealt(
     }
     let deal = Deal::new(*range, start, size as u64, extent as u64, place as u64);
     let rounds = deal.rounds();
-    // A stride that passes over more than a block leaves no two members in one, so that the offsets are no more than the
-    // blocks with members; and many rounds are not gone through for few of them.
+    // Where a stride passes over more than a block, no block has two members: the offsets at which some lie are no more than
+    // the blocks that have some. Where these may be many, going through the offsets takes fewer steps.
     if deal.size < rounds && deal.size < range.size() && deal.size < range.stride().unsigned_abs() {
         return deal.by_offsets(alloc, start);
     }

@@ -85,8 +85,9 @@ fn text_outcome(
 /// loop. Settings but the budget change neither.
 ///
 /// `text` is any bytes. `sets` are values that are given to config consts; no text can declare one yet, so a text that
-/// has no other refusal is refused by `C14` where there is a set. `rt` and `gate` serve loops on workers; here each loop runs on the caller's thread, and
-/// the gate isn't asked. Output is held until the run has ended, and goes to `out`, which must not have failed before.
+/// has no other refusal is refused by `C14` where there is a set. `rt` and `gate` serve loops on workers; here each loop
+/// runs on the caller's thread, and the gate isn't asked. Output is held until the run has ended, and goes to `out`, which
+/// must not have failed before.
 ///
 /// # Errors
 /// No memory, and nothing was written; or the writer failed, and it holds the first bytes of what the text writes.
