@@ -2,9 +2,9 @@
 -- Want of memory says nothing.
 use Rattle.std.specs.Prelude.{◌≡◌, Option, Some}
 use Rattle.dpl_syntax.specs.declared.refusal.Refusal.{Refusal}
-use Rattle.dpl_check.specs.declared.stop.CheckStop.{CheckStop}
-use Rattle.dpl_check.specs.declared.stop.CheckStop.TheVariants.{Refused, Memory}
+use Rattle.dpl_syntax.specs.declared.stop.Stop.{Stop}
+use Rattle.dpl_syntax.specs.declared.stop.Stop.TheVariants.{Refused, Memory}
 
-abbrev pub Refuses : Option Refusal → CheckStop → Type 0
+abbrev pub Refuses : Option Refusal → Stop → Type 0
 Refuses r (Refused refusal) = r ≡ Some refusal
 Refuses r Memory = Unit {0}

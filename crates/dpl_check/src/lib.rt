@@ -15,18 +15,19 @@ pub mod checked;
 mod first;
 mod names;
 mod search;
-pub mod stop;
 
 use bind::bind_stmts;
 pub use breach::Breach;
 pub use checked::Checked;
 use dpl_syntax::tree::Tree;
-use dpl_syntax::{Code, Refusal};
+use dpl_syntax::{Code, Refusal, Stop};
 use first::refusal;
 use names::Names;
 use search::first_breach;
 use std::alloc::Global;
-pub use stop::CheckStop;
+
+/// Why a tree isn't checked: the first rule that it breaks, `C1` to `C14`, or out of memory.
+pub type CheckStop = Stop;
 
 /// Checks a program, and gives its names their slots. The sets are values that are given to config consts.
 ///
@@ -38,18 +39,18 @@ pub fn check(alloc: Global, mut tree: Tree, sets: &[&str]) -> Result<Checked, Ch
     ensures same { IfOk result (λ checked. tree_view spelled checked ≡ tree_view spelled tree) }
     ensures good { IfOk result (λ checked. IsGood (tree_view spelled tree)) }
     // What owes nothing is checked, unless memory runs out.
-    ensures complete { IfErr result (λ stop. IsGood (tree_view spelled tree) → sets.now ≡ [] → stop ≡ CheckStop.Memory) }
+    ensures complete { IfErr result (λ stop. IsGood (tree_view spelled tree) → sets.now ≡ [] → stop ≡ Stop.Memory) }
     // A refusal is the one that the tree has, and a tree that has one is not checked.
     ensures refused { IfErr result (λ stop. Refuses (tree_refusal (tree_view spelled tree) (length sets.now)) stop) }
     ensures unrefused { IfOk result (λ checked. tree_refusal (tree_view spelled tree) (length sets.now) ≡ None) }
 {
     let mut names = Names::new(alloc);
     match first_breach(&tree.stmts, &mut names)? {
-        Some(breach) => return Err(CheckStop::Refused(refusal(breach))),
+        Some(breach) => return Err(Stop::Refused(refusal(breach))),
         None => {}
     }
     if !sets.is_empty() {
-        return Err(CheckStop::Refused(Refusal {
+        return Err(Stop::Refused(Refusal {
             code: Code::BadSet,
             place: None,
         }));

@@ -10,8 +10,8 @@ use Rattle.dpl_grammar.specs.Reader.{Reader, next_in, on_read}
 use Rattle.dpl_parse.specs.Grammar.{Expression, listed}
 use Rattle.dpl_parse.specs.Reading.{after_comma_at, operands_after_at}
 use Rattle.dpl_parse.specs.Gives.{Fails}
-use Rattle.dpl_parse.specs.declared.stop.ParseStop.{ParseStop}
-use Rattle.dpl_parse.specs.declared.stop.ParseStop.TheVariants.{Memory, Refused}
+use Rattle.dpl_syntax.specs.declared.stop.Stop.{Stop}
+use Rattle.dpl_syntax.specs.declared.stop.Stop.TheVariants.{Memory, Refused}
 use Rattle.dpl_parse.proofs.Turns.{IsSoFar, begins, goes_on, ends, so_fails}
 
 module _ (N : Reader Expression) (start : List Expression) (tokens : List Token) where
@@ -40,7 +40,7 @@ module _ (N : Reader Expression) (start : List Expression) (tokens : List Token)
       let e = ends (sign Comma) (after_comma_at N) tokens h.front rest h.so_far is in
       rw (e, h.operands_are, h.commas_are, one) refl
 
-  pub read_fails : (first : Expression) (operands : List Expression) (commas : List Place) (rest : List Token) (e : ParseStop) → AreRead operands commas rest → next_in (sign Comma) rest ≡ true → Fails e (after_comma_at N rest)
+  pub read_fails : (first : Expression) (operands : List Expression) (commas : List Place) (rest : List Token) (e : Stop) → AreRead operands commas rest → next_in (sign Comma) rest ≡ true → Fails e (after_comma_at N rest)
       → Fails e (operands_after_at N first tokens)
   unfolding operands_after_at
   read_fails first operands commas rest Memory h is f = tt

@@ -6,8 +6,8 @@ use Rattle.dpl_syntax.specs.declared.token.Token.{Token}
 use Rattle.dpl_grammar.specs.Classes.{Class}
 use Rattle.dpl_grammar.specs.Reader.{Cause, Read, Reader, on_read, next_in, each_at, many_at}
 use Rattle.dpl_parse.specs.Gives.{Fails}
-use Rattle.dpl_parse.specs.declared.stop.ParseStop.{ParseStop}
-use Rattle.dpl_parse.specs.declared.stop.ParseStop.TheVariants.{Memory, Refused}
+use Rattle.dpl_syntax.specs.declared.stop.Stop.{Stop}
+use Rattle.dpl_syntax.specs.declared.stop.Stop.TheVariants.{Memory, Refused}
 
 abbrev pub with_front : {T : Type 0} → List T → Read (List T) → Read (List T)
 with_front front r = on_read r (λ x. Ok (front ++ x.0, x.1))
@@ -64,6 +64,6 @@ module _ {T : Type 0} (F : Class) (p : Reader T) (tokens : List Token) where
   pub fails : (front : List T) (rest : List Token) (e : Cause × List Token) → IsSoFar F p tokens front rest → next_in F rest ≡ true → p rest ≡ Err e → many_at F p tokens ≡ Err e
   fails front rest e h is er = fails_at h.turns front rest e h.enough h.whole is er
 
-pub so_fails : {T : Type 0} (F : Class) (p : Reader T) (tokens : List Token) (front : List T) (rest : List Token) (e : ParseStop) → IsSoFar F p tokens front rest → next_in F rest ≡ true → Fails e (p rest) → Fails e (many_at F p tokens)
+pub so_fails : {T : Type 0} (F : Class) (p : Reader T) (tokens : List Token) (front : List T) (rest : List Token) (e : Stop) → IsSoFar F p tokens front rest → next_in F rest ≡ true → Fails e (p rest) → Fails e (many_at F p tokens)
 so_fails F p tokens front rest Memory h is f = tt
 so_fails F p tokens front rest (Refused refusal) h is f = (f.0, f.1, fails F p tokens front rest (f.0, f.1) h is f.2, f.3)

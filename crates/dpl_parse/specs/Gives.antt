@@ -6,8 +6,8 @@ use Rattle.dpl_syntax.specs.declared.token.Token.{Token}
 use Rattle.dpl_syntax.specs.declared.refusal.Code.{Code}
 use Rattle.dpl_syntax.specs.declared.refusal.Code.TheVariants.{Unexpected as UnexpectedCode, TooDeep}
 use Rattle.dpl_grammar.specs.Reader.{Cause, Unexpected, NoRoom, Read}
-use Rattle.dpl_parse.specs.declared.stop.ParseStop.{ParseStop}
-use Rattle.dpl_parse.specs.declared.stop.ParseStop.TheVariants.{Memory, Refused}
+use Rattle.dpl_syntax.specs.declared.stop.Stop.{Stop}
+use Rattle.dpl_syntax.specs.declared.stop.Stop.TheVariants.{Memory, Refused}
 
 -- the place of the next token, if there is one
 abbrev pub place_of : List Token → Option Place
@@ -20,11 +20,11 @@ code_of Unexpected = UnexpectedCode
 code_of NoRoom = TooDeep
 
 -- reading stops so: for the refusal's code, at its place
-abbrev pub Fails : {Y : Type 0} → ParseStop → Read Y → Type 0
+abbrev pub Fails : {Y : Type 0} → Stop → Read Y → Type 0
 Fails Memory read = Unit {0}
 Fails (Refused refusal) read = (cause : Cause) × (rest : List Token) × (read ≡ Err (cause, rest)) × (refusal ≡ record { code = code_of cause; place = place_of rest })
 
 -- reading gives the value, as a view shows it with the tokens after it
-abbrev pub Gives : {X Y : Type 0} → (X → Y × List Token) → Result X ParseStop → Read Y → Type 0
+abbrev pub Gives : {X Y : Type 0} → (X → Y × List Token) → Result X Stop → Read Y → Type 0
 Gives view (Ok x) read = read ≡ Ok (view x)
 Gives view (Err e) read = Fails e read

@@ -9,10 +9,9 @@ ghost use Rattle.dpl_parse.specs.Grammar.{chain_of};
 ghost use Rattle.dpl_parse.specs.Reading.{BelowAt, below_at, further_at, chain_at, bracketed_at, factor_at, term_at, expression_at, begins_expression};
 ghost use Rattle.dpl_parse.specs.Levels.{signs_of, operator_at, operand_at, further_view};
 
-use crate::stop::ParseStop;
 use crate::token::{Parsed, deeper, is_sign, means, name, number, sign};
 use dpl_syntax::tree::{Expr, Link};
-use dpl_syntax::{Infix, Kind, Place, Prefix, Sign, Token};
+use dpl_syntax::{Infix, Kind, Place, Prefix, Sign, Stop, Token};
 use std::alloc::Global;
 
 /// A level of operators between operands.
@@ -174,9 +173,9 @@ fn others(alloc: Global, level: Level, room: u32, tokens: &[Token]) -> Parsed<'_
 
 /// The first operand with all others, or alone where there are no others.
 #[tactic(auto, unfolding(crate::specs::Grammar::chain_of))]
-fn chained(alloc: Global, first: Expr, others: Vec<Link>) -> Result<Expr, ParseStop>
+fn chained(alloc: Global, first: Expr, others: Vec<Link>) -> Result<Expr, Stop>
     ensures made { IfOk result (λ x. expr_view spelled x ≡ chain_of (expr_view spelled first) (map further_view others.items)) }
-    ensures memory { OnErr result (IsErrOf result ParseStop.Memory) }
+    ensures memory { OnErr result (IsErrOf result Stop.Memory) }
 {
     if others.is_empty() {
         return Ok(first);

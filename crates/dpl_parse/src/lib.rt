@@ -6,11 +6,9 @@ mod argument;
 mod expression;
 mod program;
 mod statement;
-mod stop;
 mod token;
 
-pub use program::parse;
-pub use stop::ParseStop;
+pub use program::{ParseStop, parse};
 
 #[cfg(test)]
 mod tests;

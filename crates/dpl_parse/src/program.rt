@@ -10,11 +10,14 @@ ghost use Rattle.dpl_parse.specs.Reading.{below_at, begins_statement as begins, 
 ghost use Rattle.dpl_parse.specs.Theorem.{Spells, Refuses};
 
 use crate::statement::statement;
-use crate::stop::ParseStop;
 use crate::token::{Parsed, end, unexpected};
 use dpl_syntax::tree::{Stmt, Tree};
-use dpl_syntax::{Keyword, Kind, Refusal, Token};
+use dpl_syntax::{Keyword, Kind, Refusal, Stop, Token};
 use std::alloc::Global;
+
+/// Why tokens give no tree: `P1` or `P2`, or out of memory. The refusal has no place where the tokens stop without the
+/// end of the text.
+pub type ParseStop = Stop;
 
 /// How many levels of nesting a program may have.
 const LEVELS: u32 = 64;
@@ -33,11 +36,11 @@ pub fn parse(alloc: Global, tokens: &[Token]) -> Result<Tree, ParseStop>
     // Nothing else is spelled so, in whatever number of levels.
     ensures only { IfOk result (λ tree. (d : ℕ) (t : Program) → Spells d tokens.now t → tree_view spelled tree ≡ t) }
     // What is spelled is read, unless memory runs out.
-    ensures complete { IfErr result (λ stop. (t : Program) → Spells 64 tokens.now t → stop ≡ ParseStop.Memory) }
+    ensures complete { IfErr result (λ stop. (t : Program) → Spells 64 tokens.now t → stop ≡ Stop.Memory) }
     // A refusal is that of the tokens.
-    ensures refused { (refusal : Refusal) → IsErrOf result (ParseStop.Refused refusal) → Refuses tokens.now refusal }
+    ensures refused { (refusal : Refusal) → IsErrOf result (Stop.Refused refusal) → Refuses tokens.now refusal }
     // The refusal of the tokens is told, unless memory runs out.
-    ensures told { (refusal : Refusal) → Refuses tokens.now refusal → IsErrOf result (ParseStop.Refused refusal) ⊎ IsErrOf result ParseStop.Memory }
+    ensures told { (refusal : Refusal) → Refuses tokens.now refusal → IsErrOf result (Stop.Refused refusal) ⊎ IsErrOf result Stop.Memory }
 {
     let (tree, rest) = program(alloc, LEVELS, tokens)?;
     if rest.is_empty() {

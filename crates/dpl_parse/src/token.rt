@@ -8,28 +8,27 @@ ghost use Rattle.dpl_grammar.specs.Reader.{next_in, token_at, means_at};
 ghost use Rattle.dpl_parse.specs.Gives.{Gives, place_of};
 ghost use Rattle.dpl_parse.specs.Reading.{name_at, number_at, deeper_at, below_at};
 
-use crate::stop::ParseStop;
 use dpl_syntax::tree::{Expr, Name};
-use dpl_syntax::{Code, Keyword, Kind, Place, Refusal, Sign, Token};
+use dpl_syntax::{Code, Keyword, Kind, Place, Refusal, Sign, Stop, Token};
 use std::alloc::Global;
 
 /// A value and the tokens after it, or why there is none.
-pub type Parsed<'a, T> = Result<(T, &'a [Token]), ParseStop>;
+pub type Parsed<'a, T> = Result<(T, &'a [Token]), Stop>;
 
 /// The refusal at the next token.
-fn refused(code: Code, tokens: &[Token]) -> ParseStop
-    ensures { result ≡ ParseStop.Refused (record { code = code; place = place_of tokens.now }) }
+fn refused(code: Code, tokens: &[Token]) -> Stop
+    ensures { result ≡ Stop.Refused (record { code = code; place = place_of tokens.now }) }
 {
     let place = match tokens {
         [next, ..] => Some(next.at),
         [] => None,
     };
-    ParseStop::Refused(Refusal { code, place })
+    Stop::Refused(Refusal { code, place })
 }
 
 /// The refusal of the next token: no program goes on with it.
-pub fn unexpected(tokens: &[Token]) -> ParseStop
-    ensures { result ≡ ParseStop.Refused (record { code = Code.Unexpected; place = place_of tokens.now }) }
+pub fn unexpected(tokens: &[Token]) -> Stop
+    ensures { result ≡ Stop.Refused (record { code = Code.Unexpected; place = place_of tokens.now }) }
 {
     refused(Code::Unexpected, tokens)
 }
@@ -93,9 +92,9 @@ pub fn end(tokens: &[Token]) -> Parsed<'_, &Token>
 }
 
 /// The room that is left one level deeper, where the next token goes. With no room it is refused as too deep.
-pub fn descend(room: u32, tokens: &[Token]) -> Result<u32, ParseStop>
+pub fn descend(room: u32, tokens: &[Token]) -> Result<u32, Stop>
     ensures below { IfOk result (λ below. below + 1 ≡ room) }
-    ensures refused { IfErr result (λ stop. (room ≡ 0) × (stop ≡ ParseStop.Refused (record { code = Code.TooDeep; place = place_of tokens.now }))) }
+    ensures refused { IfErr result (λ stop. (room ≡ 0) × (stop ≡ Stop.Refused (record { code = Code.TooDeep; place = place_of tokens.now }))) }
 {
     if room == 0 {
         return Err(refused(Code::TooDeep, tokens));
@@ -109,7 +108,7 @@ pub fn deeper(
     room: u32,
     wanted: Sign,
     tokens: &[Token],
-) -> Result<(&Token, u32, &[Token]), ParseStop>
+) -> Result<(&Token, u32, &[Token]), Stop>
     ensures gives { Gives (λ x. (x.0.now, x.2.now)) result (deeper_at (below_at room) (sign wanted) tokens.now) }
     ensures shorter { IfOk result (λ x. length x.2.now < length tokens.now) }
     ensures below { IfOk result (λ x. x.1 + 1 ≡ room) }

@@ -1,5 +1,6 @@
 -- Bytes that pass a test, and the value of digits.
 use Rattle.std.proofs.Common.{◌≡◌, ℕ, ◌+◌, ◌-◌, ◌*◌, ◌≤◌, Bool, true, false, ◌&&◌, List, [], ◌∷◌, ◌++◌, length, refl, ap, subst, eqb, eq-eqb, arith}
+use Rattle.std.proofs.lemmas.Bool.{eqb-true}
 use Rattle.std.specs.Prelude.{bytes_eq}
 use Rattle.std.proofs.lemmas.Bool.Decides.{nat_tests}
 use Rattle.dpl_syntax.specs.Text.{is_letter, is_digit, goes_on, is_space, all_are, next_is, value_after}
@@ -51,6 +52,16 @@ bytes_eq-same a b e = subst (λ (l : List ℕ). bytes_eq a l ≡ true) e (with_i
     with_itself : (l : List ℕ) → bytes_eq l l ≡ true
     with_itself [] = refl
     with_itself (c ∷ l) = both (eqb c c) (bytes_eq l l) (eq-eqb c c refl) (with_itself l)
+
+-- and bytes that pass it are the same
+pub bytes_eq-true : (a b : List ℕ) → bytes_eq a b ≡ true → a ≡ b
+bytes_eq-true [] [] h = refl
+bytes_eq-true [] (d ∷ b) h = absurd cc
+bytes_eq-true (c ∷ a) [] h = absurd cc
+bytes_eq-true (c ∷ a) (d ∷ b) h =
+    let first : c ≡ d = eqb-true c d (and-left (eqb c d) (bytes_eq a b) h) in
+    let others : a ≡ b = bytes_eq-true a b (and-right (eqb c d) (bytes_eq a b) h) in
+    cc
 
 -- ---- kinds of bytes
 

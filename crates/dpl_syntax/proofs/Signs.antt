@@ -1,10 +1,11 @@
 -- Signs: how each begins, how long it is, and that no two are spelled alike.
-use Rattle.std.proofs.Common.{◌≡◌, ℕ, ◌≤◌, false, cond, List, [], ◌∷◌, length, refl, sym, ap, ◌∙◌, arith}
+use Rattle.std.proofs.Common.{◌≡◌, ◌≢◌, ℕ, ◌≤◌, true, false, cond, List, [], ◌∷◌, length, refl, sym, ap, ◌∙◌, arith}
 use Rattle.std.specs.Prelude.{bytes_eq}
 use Rattle.dpl_syntax.specs.Tokens.{sign_text}
 use Rattle.dpl_syntax.specs.Text.{is_letter, is_digit, is_space}
 use Rattle.dpl_syntax.specs.declared.token.Sign.{Sign}
 use Rattle.dpl_syntax.specs.declared.token.Sign.TheVariants.{DotDot, PlusAssign, StarAssign, Assign, Plus, Minus, Star, OpenRound, CloseRound, Comma, Semicolon, Colon}
+use Rattle.dpl_syntax.proofs.Bytes.{bytes_eq-same}
 
 -- a sign is one byte or two, and begins no word, no number and no white space
 pub record IsSignText (u : List ℕ) : Type 0 where
@@ -31,11 +32,11 @@ is_sign_text Comma = record { first = 44; others = []; is = refl; no_letter = re
 is_sign_text Semicolon = record { first = 59; others = []; is = refl; no_letter = refl; no_digit = refl; no_space = refl; short = omega arith }
 is_sign_text Colon = record { first = 58; others = []; is = refl; no_letter = refl; no_digit = refl; no_space = refl; short = omega arith }
 
-abbrev all : List Sign
+abbrev pub all : List Sign
 all = DotDot ∷ PlusAssign ∷ StarAssign ∷ Assign ∷ Plus ∷ Minus ∷ Star ∷ OpenRound ∷ CloseRound ∷ Comma ∷ Semicolon ∷ Colon ∷ []
 
 -- the first sign of a list that is spelled so
-abbrev first_of_text : List Sign → List ℕ → Sign
+abbrev pub first_of_text : List Sign → List ℕ → Sign
 first_of_text [] u = Colon
 first_of_text (s ∷ ss) u = cond (bytes_eq (sign_text s) u) s (first_of_text ss u)
 
@@ -57,3 +58,11 @@ read Colon = refl
 -- no two are spelled alike
 pub sign_text-injective : (s t : Sign) → sign_text s ≡ sign_text t → s ≡ t
 sign_text-injective s t e = sym (read s) ∙ ap (first_of_text all) e ∙ read t
+
+-- a spelling is no sign's where it isn't that of the one which is looked up for it
+pub no_sign : (u : List ℕ) → bytes_eq (sign_text (first_of_text all u)) u ≡ false → (s : Sign) → sign_text s ≢ u
+no_sign u other s e =
+    let found : first_of_text all u ≡ s = ap (first_of_text all) (sym e) ∙ read s in
+    let text : sign_text (first_of_text all u) ≡ u = ap sign_text found ∙ e in
+    let yes : bytes_eq (sign_text (first_of_text all u)) u ≡ true = bytes_eq-same (sign_text (first_of_text all u)) u text in
+    absurd (cc (other, yes))

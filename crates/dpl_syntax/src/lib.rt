@@ -20,7 +20,7 @@ pub use lexer::lex;
 pub use operator::{Assign, Infix, Op, Prefix};
 pub use place::Place;
 pub use refusal::{Code, Refusal};
-pub use stop::LexStop;
+pub use stop::{LexStop, Stop};
 pub use token::{Keyword, Kind, Sign, Token};
 pub use value::Value;
 pub use word::Word;

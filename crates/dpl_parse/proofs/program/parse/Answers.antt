@@ -2,7 +2,7 @@ use Rattle.std.proofs.Common.{arith}
 use Rattle.std.proofs.lemmas.Result.{err_from_is_err_and}
 use Rattle.std.proofs.lemmas.Grind.{common_steps}
 use Rattle.dpl_syntax.specs.View.{tree_view, spelled}
-use Rattle.dpl_parse.specs.declared.stop.ParseStop.TheVariants.{Refused}
+use Rattle.dpl_syntax.specs.declared.stop.Stop.TheVariants.{Refused}
 use Rattle.dpl_parse.proofs.Results.{whole_spelled, whole_only, left_over, fails_is, bad_is, not_spelled, left_is, told}
 use Rattle.dpl_parse.proofs.Refusals.{refused_unspelled}
 use Rattle.dpl_parse.proofs.program.parse.Goals as goal

@@ -5,13 +5,13 @@ use Rattle.dpl_syntax.specs.Text.{Lexes, EndsOnce}
 use Rattle.dpl_syntax.specs.Refused.{LexRefuses, Tells}
 use Rattle.dpl_syntax.specs.declared.token.Token.{Token}
 use Rattle.dpl_syntax.specs.declared.refusal.Refusal.{Refusal}
-use Rattle.dpl_syntax.specs.declared.stop.LexStop.{LexStop}
-use Rattle.dpl_syntax.specs.declared.stop.LexStop.TheVariants.{Refused, Memory}
+use Rattle.dpl_syntax.specs.declared.stop.Stop.{Stop}
+use Rattle.dpl_syntax.specs.declared.stop.Stop.TheVariants.{Refused, Memory}
 use Rattle.dpl_syntax.proofs.Laws.{lexes_once, lexes_ends, lexes_unrefused, refuses_once}
 use Rattle.dpl_syntax.proofs.lexer.lex.Goals as goal
 
 abbrev Outcome : Type 0
-Outcome = Result (Vec Token Global) LexStop
+Outcome = Result (Vec Token Global) Stop
 
 only : (text : List _) (r : Outcome) → IfOk r (λ v. Lexes text v.items) → IfOk r (λ v. (tokens : List Token) → Lexes text tokens → tokens ≡ v.items)
 only text (Ok v) h = λ tokens is. lexes_once text tokens v.items is h
