@@ -9,7 +9,7 @@ use Rattle.dpl_syntax.specs.Tree.{Bound, Chain, Link}
 use Rattle.dpl_syntax.specs.View.{expr_view, links_of, stmt_view, spelled, bound}
 use Rattle.dpl_syntax.proofs.Rows.{expr_view-chain}
 use Rattle.dpl_meaning.specs.Renamed.{renamed_expr, renamed_links}
-use Rattle.dpl_check.specs.Slots.{HasBody, HaveBodies}
+use Rattle.dpl_meaning.specs.Bodies.{HasBody, HaveBodies}
 
 -- two lists of one length, whose elements agree place by place
 pub map-each : {A B : Type 0} (f g : A → B) (new old : List A) → length new ≡ length old → ((k : ℕ) (d : A) → k < length new → f (get_or new k d) ≡ g (get_or old k d)) → map f new ≡ map g old

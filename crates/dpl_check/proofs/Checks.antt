@@ -26,7 +26,7 @@ first_from-some b [] e = cc
 first_from-some b (c ∷ bs) e = first_from-some (if before c b then c else b) bs e
 
 -- where no breach is the first, there is none
-first_from-none : (bs : List Breach) → first_from None bs ≡ None → bs ≡ []
+pub first_from-none : (bs : List Breach) → first_from None bs ≡ None → bs ≡ []
 first_from-none [] e = refl
 first_from-none (b ∷ bs) e = absurd (first_from-some b bs e)
 
@@ -75,9 +75,6 @@ module _ (stmts : Vec Stmt Global) (scope final : Scope) (read lent new : List S
       subst (λ scope. fits_all (resolving (length scope + 1)) (map (bound_stmt scope) spelling) ([] ∷ [])) (sym final_is) (sound-resolved spelling good.0) in
       subst (λ n. fits_all (resolving n) (map (stmt_view bound) (with_items stmts new).items) ([] ∷ [])) (sym count)
       (subst (λ ts. fits_all (resolving (length final + 1)) ts ([] ∷ [])) (sym (ap (map (stmt_view bound)) (items-with_items stmts new len) ∙ new_is)) fit)
-
-  pub bound-counted : (slots : ℕ) → slots ≡ length final + 1 → slots ≡ length (behind_all [] (map (stmt_view spelled) (with_items stmts new).items)) + 1
-  bound-counted slots count = count ∙ ap (λ scope. length scope + 1) (final_is ∙ ap (behind_all []) (sym spelled_again))
 
   pub bound-good : AreSound [] (map (stmt_view spelled) (with_items stmts new).items) × AreAdmitted (map (stmt_view spelled) (with_items stmts new).items)
   bound-good = subst (λ ts. AreSound [] ts × AreAdmitted ts) (sym spelled_again) good

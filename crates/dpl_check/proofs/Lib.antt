@@ -6,4 +6,5 @@ pub mod Passes
 pub mod Respelled
 pub mod Resolving
 pub mod Checks
+pub mod Unrefused
 pub mod Worked

@@ -10,7 +10,8 @@ use Rattle.dpl_meaning.specs.Resolved.{Sight, slot_in, or_slot, slot_of, IsFresh
 use Rattle.dpl_check.specs.Sights.{Scope, knows, behind, behind_all, declared, Loop}
 use Rattle.dpl_check.specs.Breaches.{reads, link_reads, all_reads, stride_reads, bounds_reads, initial_reads}
 use Rattle.dpl_check.specs.Sound.{Each, IsKnown, IsWritableIntent, Outside, IsSoundBody, IsSoundStmt, AreSound}
-use Rattle.dpl_check.specs.Slots.{place_in, top, in_loop, loop_variable, bound_stmt, IsBody, HasBody, HaveBodies}
+use Rattle.dpl_meaning.specs.Bodies.{IsBody, HasBody, HaveBodies}
+use Rattle.dpl_check.specs.Slots.{place_in, top, in_loop, loop_variable, bound_stmt}
 
 abbrev numbered : ℕ → Scope → List Bound
 numbered k [] = []

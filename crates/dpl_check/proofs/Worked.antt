@@ -11,7 +11,7 @@ use Rattle.dpl_syntax.specs.Tree.{Number, Named, Declare, Assigned, Forall}
 use Rattle.dpl_meaning.proofs.Samples.{Program, at, name, sum_of_squares, product, over_nothing, hidden, empty}
 use Rattle.dpl_check.specs.declared.breach.Breach.{Breach}
 use Rattle.dpl_check.specs.Breaches.{breaches, first_from, tree_refusal}
-use Rattle.dpl_check.specs.Slots.{slot_count}
+
 
 abbrev breach : Code → ℕ → Breach
 breach code column = record { at = at column; code = code }
@@ -195,19 +195,3 @@ sum_of_squares_refusal_of_a_set = refl
 -- a breach is told before a set
 outer_changed_refusal_before_a_set : tree_refusal outer_changed 1 ≡ refused OuterChanged 33
 outer_changed_refusal_before_a_set = refl
-
--- ---- the slots
-sum_of_squares_slots : slot_count sum_of_squares ≡ 2
-sum_of_squares_slots = refl
-
--- a loop's variable that hides a name has no slot of the name's
-hidden_slots : slot_count hidden ≡ 3
-hidden_slots = refl
-
--- a constant has a slot as a variable has
-product_slots : slot_count product ≡ 3
-product_slots = refl
-
--- the slot of loop variables is there without a loop
-empty_slots : slot_count empty ≡ 1
-empty_slots = refl

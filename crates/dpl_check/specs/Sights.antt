@@ -4,8 +4,8 @@ use Rattle.std.specs.Prelude.{ℕ, Bool, true, false, bytes_eq, if◌then◌else
 use Rattle.dpl_syntax.specs.declared.operator.Op.{Op}
 use Rattle.dpl_syntax.specs.declared.operator.Op.TheVariants.{Add, Multiply}
 use Rattle.dpl_syntax.specs.declared.operator.Assign.{Assign}
-use Rattle.dpl_syntax.specs.declared.operator.Assign.TheVariants.{Add as AddTo, Multiply as MultiplyBy}
-use Rattle.dpl_syntax.specs.Tree.{IntentTree, StmtTree, Declare}
+use Rattle.dpl_syntax.specs.declared.operator.Assign.TheVariants.{Set, Add as AddTo, Multiply as MultiplyBy}
+use Rattle.dpl_syntax.specs.Tree.{IntentTree, StmtTree, Declare, Assigned, Writeln, Forall}
 
 -- the names that are declared so far, in order, each once; true where it is a constant
 abbrev pub Scope : Type 0
@@ -27,7 +27,9 @@ declared scope x constant = if knows scope x then scope else scope ++ (x, consta
 -- a name is known from the end of its declaration
 abbrev pub behind : Scope → StmtTree (List ℕ) → Scope
 behind scope (Declare at constant x declares initial semicolon) = declared scope x.name constant
-behind scope _ = scope
+behind scope (Assigned x at op e semicolon) = scope
+behind scope (Writeln at from arguments commas upto semicolon) = scope
+behind scope (Forall at x within r intent doing body) = scope
 
 abbrev pub behind_all : Scope → List (StmtTree (List ℕ)) → Scope
 behind_all scope [] = scope
@@ -54,9 +56,12 @@ reduces (Some loop) x = is_named loop.intent x
 
 -- is an assignment the one by which a reduction goes on
 abbrev pub goes_on_by : Op → Assign → Bool
+goes_on_by Add Set = false
 goes_on_by Add AddTo = true
+goes_on_by Add MultiplyBy = false
+goes_on_by Multiply Set = false
+goes_on_by Multiply AddTo = false
 goes_on_by Multiply MultiplyBy = true
-goes_on_by _ _ = false
 
 abbrev pub goes_on : Option (IntentTree (List ℕ)) → Assign → Bool
 goes_on None op = false

@@ -1,7 +1,7 @@
 -- The slots that the check gives: each name of the top level its place in the order of declaration,
 -- and each loop's variable the one behind them all, since no two loops are in sight at once.
 use Rattle.std.specs.Prelude.{ℕ, suc, ◌+◌, bytes_eq, if◌then◌else◌, List, [], ◌∷◌, length, Option, Some, None}
-use Rattle.dpl_syntax.specs.Tree.{Bound, StmtTree, Assigned, Forall, ProgramTree}
+use Rattle.dpl_syntax.specs.Tree.{Bound, StmtTree, Declare, Assigned, Writeln, Forall}
 use Rattle.dpl_meaning.specs.Renamed.{renamed, renamed_bounds, renamed_intent, renamed_stmt}
 use Rattle.dpl_check.specs.Sights.{Scope, behind_all}
 
@@ -31,21 +31,6 @@ slot_for scope (Some variable) x = in_loop scope variable x
 abbrev pub bound_stmt : Scope → StmtTree (List ℕ) → StmtTree Bound
 bound_stmt scope (Forall at x within r intent doing body) =
     Forall at (renamed (loop_variable scope) x) within (renamed_bounds (top scope) r) (renamed_intent (top scope) intent) doing (renamed_stmt (in_loop scope x.name) body)
-bound_stmt scope t = renamed_stmt (top scope) t
-
--- how many slots a program has: one for each name of its top level, and one for the variables of its loops
-abbrev pub slot_count : ProgramTree (List ℕ) → ℕ
-slot_count t = length (behind_all [] t.stmts) + 1
-
--- a forall's body is an assignment
-abbrev pub IsBody : StmtTree (List ℕ) → Type 0
-IsBody (Assigned x at op e semicolon) = Unit {0}
-IsBody _ = ⊥
-
-abbrev pub HasBody : StmtTree (List ℕ) → Type 0
-HasBody (Forall at x within r intent doing body) = IsBody body
-HasBody _ = Unit {0}
-
-abbrev pub HaveBodies : List (StmtTree (List ℕ)) → Type 0
-HaveBodies [] = Unit {0}
-HaveBodies (t ∷ ts) = HasBody t × HaveBodies ts
+bound_stmt scope (Declare at constant x declares initial semicolon) = renamed_stmt (top scope) (Declare at constant x declares initial semicolon)
+bound_stmt scope (Assigned x at op e semicolon) = renamed_stmt (top scope) (Assigned x at op e semicolon)
+bound_stmt scope (Writeln at from arguments commas upto semicolon) = renamed_stmt (top scope) (Writeln at from arguments commas upto semicolon)

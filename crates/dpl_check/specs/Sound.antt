@@ -28,7 +28,9 @@ Outside loop x P = is_variable (Some loop) x.name ≡ false → P
 abbrev pub IsSoundBody : Scope → Loop → StmtTree (List ℕ) → Type 0
 IsSoundBody scope loop (Assigned x at op e semicolon) =
     (is_variable (Some loop) x.name ≡ false) × IsWritable scope x × Each (λ y. Outside loop y (IsKnown scope y)) (reads e)
-IsSoundBody scope loop _ = ⊥
+IsSoundBody scope loop (Declare at constant x declares initial semicolon) = ⊥
+IsSoundBody scope loop (Writeln at from arguments commas upto semicolon) = ⊥
+IsSoundBody scope loop (Forall at x within r intent doing body) = ⊥
 
 abbrev pub IsSoundStmt : Scope → StmtTree (List ℕ) → Type 0
 IsSoundStmt scope (Declare at constant x declares initial semicolon) = (knows scope x.name ≡ false) × Each (IsKnown scope) (initial_reads initial)
@@ -48,11 +50,15 @@ IsSound t = AreSound [] t.stmts
 abbrev pub IsAdmittedBody : Loop → StmtTree (List ℕ) → Type 0
 IsAdmittedBody loop (Assigned x at op e semicolon) =
     Outside loop x ((reduces (Some loop) x.name ≡ true) × (goes_on loop.intent op ≡ true)) × Each (λ y. Outside loop y (reduces (Some loop) y.name ≡ false)) (reads e)
-IsAdmittedBody loop _ = Unit {0}
+IsAdmittedBody loop (Declare at constant x declares initial semicolon) = Unit {0}
+IsAdmittedBody loop (Writeln at from arguments commas upto semicolon) = Unit {0}
+IsAdmittedBody loop (Forall at x within r intent doing body) = Unit {0}
 
 abbrev pub IsAdmitted : StmtTree (List ℕ) → Type 0
 IsAdmitted (Forall at x within r intent doing body) = IsAdmittedBody (record { variable = x.name; intent = intent }) body
-IsAdmitted _ = Unit {0}
+IsAdmitted (Declare at constant x declares initial semicolon) = Unit {0}
+IsAdmitted (Assigned x at op e semicolon) = Unit {0}
+IsAdmitted (Writeln at from arguments commas upto semicolon) = Unit {0}
 
 abbrev pub AreAdmitted : List (StmtTree (List ℕ)) → Type 0
 AreAdmitted [] = Unit {0}

@@ -4,7 +4,8 @@
 ghost use Rattle.std.specs.Prelude.{◌≡◌, None, Some, map};
 ghost use Rattle.dpl_syntax.specs.View.{spelled, bound, placed, expr_view, bounds_view, by_view, initial_view, intent_view, stmt_view};
 ghost use Rattle.dpl_meaning.specs.Renamed.{renamed, renamed_expr, renamed_bounds, renamed_stride, renamed_initial, renamed_intent, renamed_stmt};
-ghost use Rattle.dpl_check.specs.Slots.{slot_for, top, in_loop, bound_stmt, IsBody, HasBody, HaveBodies};
+ghost use Rattle.dpl_meaning.specs.Bodies.{IsBody, HasBody, HaveBodies};
+ghost use Rattle.dpl_check.specs.Slots.{slot_for, top, in_loop, bound_stmt};
 ghost use Rattle.dpl_check.specs.Around.{variable_view};
 
 use crate::names::Names;

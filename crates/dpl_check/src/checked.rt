@@ -24,25 +24,22 @@ impl Model for Checked {
     ghost use Rattle.std.specs.Prelude.{◌≡◌};
     ghost use Rattle.dpl_syntax.specs.View.{tree_view, bound, spelled};
     ghost use Rattle.dpl_meaning.specs.Resolved.{IsResolved};
-    ghost use Rattle.dpl_check.specs.Slots.{slot_count};
     ghost use Rattle.dpl_check.specs.Sound.{IsGood};
 
     ghost view = { λ c. c.tree };
 
-    ghost invariant = { λ c. IsResolved c.slots (tree_view bound c.tree) × (c.slots ≡ slot_count (tree_view spelled c.tree)) × IsGood (tree_view spelled c.tree) };
+    ghost invariant = { λ c. IsResolved c.slots (tree_view bound c.tree) × IsGood (tree_view spelled c.tree) };
 }
 
 impl Checked {
     ghost use Rattle.std.specs.Prelude.{◌≡◌};
     ghost use Rattle.dpl_syntax.specs.View.{tree_view, bound, spelled};
     ghost use Rattle.dpl_meaning.specs.Resolved.{IsResolved};
-    ghost use Rattle.dpl_check.specs.Slots.{slot_count};
     ghost use Rattle.dpl_check.specs.Sound.{IsGood};
 
     /// A tree whose names have their slots, of so many, and that owes nothing more.
     pub(crate) fn new(tree: Tree, slots: usize) -> Checked
         requires resolved { IsResolved slots (tree_view bound tree) }
-        requires counted { slots ≡ slot_count (tree_view spelled tree) }
         requires good { IsGood (tree_view spelled tree) }
         ensures { result ≡ tree }
     {
@@ -57,10 +54,9 @@ impl Checked {
         self.tree.stmts.as_slice()
     }
 
-    /// How many slots its names have: one for each name of the top level, and one for the variables of its loops.
+    /// How many slots its names have: enough that each name has the one of its innermost declaration.
     pub fn slots(&self) -> usize
-        ensures resolved { IsResolved result (tree_view bound self.now) }
-        ensures counted { result ≡ slot_count (tree_view spelled self.now) }
+        ensures { IsResolved result (tree_view bound self.now) }
     {
         self.slots
     }

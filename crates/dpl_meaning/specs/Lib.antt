@@ -4,6 +4,7 @@ pub mod Names
 pub mod Program
 pub mod Slots
 pub mod Renamed
+pub mod Bodies
 pub mod Scopes
 pub mod Agreement
 pub mod Resolved

@@ -19,26 +19,25 @@ use Rattle.dpl_meaning.proofs.Views.{renamed_program-view}
 use Rattle.dpl_meaning.proofs.Whole.{meaning-alike}
 use Rattle.dpl_check.specs.Sights.{Scope, behind, Loop}
 use Rattle.dpl_check.specs.Sound.{IsSoundBody, IsSoundStmt, AreSound}
-use Rattle.dpl_turn.specs.Frames.{IsTurnBody}
 use Rattle.dpl_run.specs.declared.outcome.Outcome.TheVariants.{Done as DoneWith, Stopped}
-use Rattle.dpl_run.specs.Runs.{HasTurnBody, HaveTurnBodies}
+use Rattle.dpl_meaning.specs.Bodies.{IsBody, HasBody, HaveBodies}
 use Rattle.dpl_run.specs.Leaving.{names_of, declared_names}
 use Rattle.dpl_run.specs.Headline.{EndsAs, Means}
 
 -- ---- in a sound program each forall has a turn's body
-body-turns : (scope : Scope) (loop : Loop) (t : Stmt) → IsSoundBody scope loop (stmt_view spelled t) → IsTurnBody (stmt_view bound t)
+body-turns : (scope : Scope) (loop : Loop) (t : Stmt) → IsSoundBody scope loop (stmt_view spelled t) → IsBody (stmt_view bound t)
 body-turns scope loop (AssignNode x at op e semicolon) s = tt
 body-turns scope loop (DeclareNode at constant x declared initial semicolon) s = s
 body-turns scope loop (WritelnNode at from arguments commas upto semicolon) s = s
 body-turns scope loop (Forall' at x within r intent doing p body) s = s
 
-stmt-turns : (scope : Scope) (t : Stmt) → IsSoundStmt scope (stmt_view spelled t) → HasTurnBody (stmt_view bound t)
+stmt-turns : (scope : Scope) (t : Stmt) → IsSoundStmt scope (stmt_view spelled t) → HasBody (stmt_view bound t)
 stmt-turns scope (AssignNode x at op e semicolon) s = tt
 stmt-turns scope (DeclareNode at constant x declared initial semicolon) s = tt
 stmt-turns scope (WritelnNode at from arguments commas upto semicolon) s = tt
 stmt-turns scope (Forall' at x within r intent doing p body) s = body-turns scope (record { variable = x.text; intent = intent_view spelled intent }) body s.2
 
-pub sound-turns : (scope : Scope) (ts : List Stmt) → AreSound scope (map (stmt_view spelled) ts) → HaveTurnBodies (map (stmt_view bound) ts)
+pub sound-turns : (scope : Scope) (ts : List Stmt) → AreSound scope (map (stmt_view spelled) ts) → HaveBodies (map (stmt_view bound) ts)
 sound-turns scope [] s = tt
 sound-turns scope (t ∷ ts) s = (stmt-turns scope t s.0, sound-turns (behind scope (stmt_view spelled t)) ts s.1)
 

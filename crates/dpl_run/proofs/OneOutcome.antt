@@ -1,31 +1,27 @@
--- A text comes to one outcome, and one list of bytes is written of it.
--- Its tokens, its tree and its refusal are the only ones that it has.
-use Rattle.std.proofs.Common.{◌≡◌, ◌⊎◌, ⊎_elim, ℕ, List, [], ◌∷◌, ◌++◌, sym, ap, ◌∙◌, subst, Some, None}
+-- Each text comes to exactly one outcome, and one list of bytes is written of it.
+-- Its tokens, its tree and its refusal are the only ones that it has, and where it has no refusal it is a program.
+use Rattle.std.proofs.Common.{◌≡◌, ◌⊎◌, inl, inr, ⊎_elim, ℕ, List, [], ◌∷◌, ◌++◌, sym, ap, ◌∙◌, subst, Some, None, Option, refl}
 use Rattle.dpl_syntax.specs.declared.token.Token.{Token}
 use Rattle.dpl_syntax.specs.declared.refusal.Refusal.{Refusal}
+use Rattle.dpl_syntax.specs.Text.{Lexes}
 use Rattle.dpl_syntax.proofs.Laws.{lexes_once, lexes_unrefused, refuses_once}
+use Rattle.dpl_syntax.proofs.Total.{lexes_or_refuses}
 use Rattle.dpl_syntax.specs.Lines.{refusal_text}
 use Rattle.dpl_syntax.specs.Tree.{ProgramTree}
 use Rattle.dpl_parse.specs.Theorem.{Spells, Refuses}
 use Rattle.dpl_parse.proofs.Fronts.{spelled_one}
-use Rattle.dpl_parse.proofs.Refusals.{refusal_one, refused_unspelled}
-use Rattle.dpl_check.specs.Breaches.{first_from, refusal_by, tree_refusal}
-use Rattle.dpl_check.specs.Sound.{IsGood}
-use Rattle.dpl_check.proofs.Passes.{sound-stmts}
+use Rattle.dpl_parse.proofs.Refusals.{refusal_one, refused_unspelled, spelled_or_refused}
+use Rattle.dpl_check.specs.Breaches.{tree_refusal}
+use Rattle.dpl_check.proofs.Unrefused.{tree_refusal-none, good-tree_refusal}
 use Rattle.dpl_meaning.specs.Outcome.{Outcome as Meant, Done as DoneAt, Stop as StopAt}
 use Rattle.dpl_meaning.specs.Names.{Store}
-use Rattle.dpl_meaning.specs.Program.{meaning}
+use Rattle.dpl_meaning.specs.Program.{meaning, written, top_level}
 use Rattle.dpl_run.specs.declared.outcome.Outcome.{Outcome}
 use Rattle.dpl_run.specs.declared.outcome.Outcome.TheVariants.{Done, Stopped, Rejected}
-use Rattle.dpl_run.specs.Headline.{EndsAs, Means, IsProgram, IsRefused, ComesTo, IsOnlyOutcome}
+use Rattle.dpl_run.specs.Headline.{EndsAs, Means, IsProgram, IsRefused, ComesTo, ComesToOnly, HasOneOutcome}
 
 abbrev Program : Type 0
 Program = ProgramTree (List ℕ)
-
--- a tree that owes nothing has no refusal, where no set is given
-good-unrefused : (t : Program) (sets : ℕ) → IsGood t → sets ≡ 0 → tree_refusal t sets ≡ None
-good-unrefused t sets good unset =
-    ap (λ bs. refusal_by (first_from None bs) sets) (sound-stmts [] t.stmts good.0 good.1) ∙ ap (refusal_by None) unset
 
 -- an end of the meaning is that of one outcome
 EndsAs-one : (m : Meant Store) (o p : Outcome) → EndsAs m o → EndsAs m p → p ≡ o
@@ -56,7 +52,7 @@ module _ (text : List ℕ) (sets budget : ℕ) where
       ⊎_elim (λ p. refused_unspelled b.0 r t p spells)
       (λ c.
       let same : c.0 ≡ t = spelled_one 64 64 b.0 c.0 t c.1 spells in
-      let none : Some r ≡ None = sym c.2 ∙ ap (λ u. tree_refusal u sets) same ∙ good-unrefused t sets a.good a.unset in
+      let none : Some r ≡ None = sym c.2 ∙ ap (λ u. tree_refusal u sets) same ∙ good-tree_refusal t sets a.good a.unset in
       cc)
       b.2)
       refused
@@ -85,7 +81,7 @@ module _ (text : List ℕ) (sets budget : ℕ) where
   programs-one o p said says a b =
       Means-one b.0 budget o p said says (subst (λ t. Means t budget o said) (program_one a.0 b.0 a.1 b.1) a.2) b.2
 
-  pub one_outcome : (o : Outcome) (said : List ℕ) → ComesTo text sets budget o said → IsOnlyOutcome text sets budget o said
+  pub one_outcome : (o : Outcome) (said : List ℕ) → ComesTo text sets budget o said → (p : Outcome) (says : List ℕ) → ComesTo text sets budget p says → (p ≡ o) × (says ≡ said)
   one_outcome (Rejected r) said a (Rejected q) says b =
       let same : q ≡ r = text_refusal_one q r b.0 a.0 in
       (ap Rejected same, b.1 ∙ ap (λ r. refusal_text r ++ 10 ∷ []) same ∙ sym a.1)
@@ -97,3 +93,37 @@ module _ (text : List ℕ) (sets budget : ℕ) where
   one_outcome (Stopped f) said a (Rejected q) says b = absurd (program_unrefused a.0 q a.1 b.0)
   one_outcome (Stopped f) said a (Done other) says b = programs-one (Stopped f) (Done other) said says a b
   one_outcome (Stopped f) said a (Stopped g) says b = programs-one (Stopped f) (Stopped g) said says a b
+
+  -- ---- that there is one
+  -- what a program means is an outcome
+  program-outcome : (t : Program) → IsProgram text sets t → (o : Outcome) × (said : List ℕ) × ComesTo text sets budget o said
+  program-outcome t is = at (meaning t budget) refl
+    where
+      at : (m : Meant Store) → meaning t budget ≡ m → (o : Outcome) × (said : List ℕ) × ComesTo text sets budget o said
+      at (DoneAt s out) e = (Done (top_level s), written (meaning t budget), (t, is, record { writes = refl; ends = subst (λ m. EndsAs m (Done (top_level s))) (sym e) refl }))
+      at (StopAt f out) e = (Stopped f, written (meaning t budget), (t, is, record { writes = refl; ends = subst (λ m. EndsAs m (Stopped f)) (sym e) refl }))
+
+  refused-outcome : (r : Refusal) → IsRefused text sets r → (o : Outcome) × (said : List ℕ) × ComesTo text sets budget o said
+  refused-outcome r refused = (Rejected r, refusal_text r ++ 10 ∷ [], (refused, refl))
+
+  -- a tree that its tokens spell is refused, or is a program
+  tree-outcome : (ks : List Token) (t : Program) → Lexes text ks → Spells 64 ks t → (o : Outcome) × (said : List ℕ) × ComesTo text sets budget o said
+  tree-outcome ks t lexes spells = at (tree_refusal t sets) refl
+    where
+      at : (r : Option Refusal) → tree_refusal t sets ≡ r → (o : Outcome) × (said : List ℕ) × ComesTo text sets budget o said
+      at (Some r) e = refused-outcome r (inr (ks, lexes, inr (t, spells, e)))
+      at None e =
+          let owes = tree_refusal-none t sets e in
+          program-outcome t (record { tokens = ks; lexes = lexes; spells = spells; good = owes.0; unset = owes.1 })
+
+  some_outcome : (o : Outcome) × (said : List ℕ) × ComesTo text sets budget o said
+  some_outcome =
+      ⊎_elim
+      (λ a. ⊎_elim (λ b. tree-outcome a.0 b.0 a.1 b.1) (λ b. refused-outcome b.0 (inr (a.0, a.1, inl b.1))) (spelled_or_refused a.0))
+      (λ a. refused-outcome a.0 (inl a.1))
+      (lexes_or_refuses text)
+
+  pub has_one_outcome : HasOneOutcome text sets budget
+  has_one_outcome =
+      let s = some_outcome in
+      (s.0, s.1, record { comes = s.2; only = one_outcome s.0 s.1 s.2 })

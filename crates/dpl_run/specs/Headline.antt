@@ -19,8 +19,11 @@ use Rattle.dpl_run.specs.declared.outcome.Outcome.TheVariants.{Done, Stopped, Re
 -- done, with the variables of the top level, exactly where the meaning is done; stopped, by that fault, exactly where it stopped
 abbrev pub EndsAs : Meant Store → Outcome → Type 0
 EndsAs (DoneAt s out) (Done left) = left ≡ top_level s
+EndsAs (DoneAt s out) (Stopped fault) = ⊥
+EndsAs (DoneAt s out) (Rejected r) = ⊥
+EndsAs (StopAt f out) (Done left) = ⊥
 EndsAs (StopAt f out) (Stopped fault) = fault ≡ f
-EndsAs _ _ = ⊥
+EndsAs (StopAt f out) (Rejected r) = ⊥
 
 -- a program's run wrote just this, and came to this outcome
 pub record Means (t : ProgramTree (List ℕ)) (budget : ℕ) (o : Outcome) (said : List ℕ) : Type 0 where
@@ -47,6 +50,11 @@ ComesTo text sets budget (Rejected r) said = IsRefused text sets r × (said ≡ 
 ComesTo text sets budget (Done left) said = (t : ProgramTree (List ℕ)) × IsProgram text sets t × Means t budget (Done left) said
 ComesTo text sets budget (Stopped f) said = (t : ProgramTree (List ℕ)) × IsProgram text sets t × Means t budget (Stopped f) said
 
--- no outcome but this one, and no bytes but these
-abbrev pub IsOnlyOutcome : List ℕ → ℕ → ℕ → Outcome → List ℕ → Type 0
-IsOnlyOutcome text sets budget o said = (p : Outcome) (says : List ℕ) → ComesTo text sets budget p says → (p ≡ o) × (says ≡ said)
+-- The text comes to this outcome and these bytes, and to no others.
+pub record ComesToOnly (text : List ℕ) (sets budget : ℕ) (o : Outcome) (said : List ℕ) : Type 0 where
+  pub comes : ComesTo text sets budget o said
+  pub only : (p : Outcome) (says : List ℕ) → ComesTo text sets budget p says → (p ≡ o) × (says ≡ said)
+
+-- Every text comes to exactly one outcome, and exactly one list of bytes is written of it.
+abbrev pub HasOneOutcome : List ℕ → ℕ → ℕ → Type 0
+HasOneOutcome text sets budget = (o : Outcome) × (said : List ℕ) × ComesToOnly text sets budget o said

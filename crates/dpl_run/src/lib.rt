@@ -5,6 +5,7 @@
 mod collect;
 mod config;
 mod gate;
+mod halt;
 mod left;
 mod lines;
 mod loops;
@@ -12,7 +13,6 @@ mod outcome;
 mod refused;
 mod run;
 mod statements;
-mod stop;
 mod text;
 mod writer;
 

@@ -7,7 +7,8 @@ ghost use Rattle.dpl_range.specs.Range.{members_of};
 ghost use Rattle.dpl_meaning.specs.Outcome.{fault as fault_of, with_value, in_turn, budgeted};
 ghost use Rattle.dpl_meaning.specs.Meaning.{over as over_of, stride_of, stride_at, indices_of, named_turn as named_turn_of, exec};
 ghost use Rattle.dpl_meaning.specs.Slots.{by_slot};
-ghost use Rattle.dpl_turn.specs.Frames.{IsTurnBody, TurnEnds};
+ghost use Rattle.dpl_meaning.specs.Bodies.{IsBody};
+ghost use Rattle.dpl_turn.specs.Frames.{TurnEnds};
 ghost use Rattle.dpl_run.specs.Runs.{RangeGives};
 
 use dpl_range::{Range, RangeFault};
@@ -82,7 +83,7 @@ fn turn_at(
     frame: &mut Frame,
 ) -> Result<(), Fault>
     requires within { k < length (members_of range) }
-    requires body { IsTurnBody (stmt_view bound body.now) }
+    requires body { IsBody (stmt_view bound body.now) }
     ensures ends { (i : ℤ) (out : List ℕ) → slice_get (members_of range) k ≡ Some i → TurnEnds result frame.new.values out (named_turn_of by_slot (placed bound variable.now) (exec by_slot (stmt_view bound body.now) frame.old.budget) i frame.old.values out) }
     ensures budget { frame.new.budget ≡ frame.old.budget }
 {
@@ -101,7 +102,7 @@ fn turn_at(
 
 // The turns of a range, in its order.
 fn turns(range: Range, variable: &Name, body: &Stmt, frame: &mut Frame) -> Result<(), Fault>
-    requires { IsTurnBody (stmt_view bound body.now) }
+    requires { IsBody (stmt_view bound body.now) }
     ensures ends { (out : List ℕ) → TurnEnds result frame.new.values out (in_turn (named_turn_of by_slot (placed bound variable.now) (exec by_slot (stmt_view bound body.now) frame.old.budget)) (members_of range) frame.old.values out) }
     ensures budget { frame.new.budget ≡ frame.old.budget }
 {
@@ -124,7 +125,7 @@ pub(crate) fn forall(
     body: &Stmt,
     frame: &mut Frame,
 ) -> Result<(), Fault>
-    requires { IsTurnBody (stmt_view bound body.now) }
+    requires { IsBody (stmt_view bound body.now) }
     ensures ends { (out : List ℕ) → TurnEnds result frame.new.values out (with_value (over_of by_slot (bounds_view bound over.now) frame.old.values) out (λ is. budgeted frame.old.budget at is (in_turn (named_turn_of by_slot (placed bound variable.now) (exec by_slot (stmt_view bound body.now) frame.old.budget)) is) frame.old.values out)) }
     ensures budget { frame.new.budget ≡ frame.old.budget }
 {

@@ -1,22 +1,35 @@
 // Runs that are refused: what a program can't be blamed for.
 // A refused run is no outcome of the language's meaning.
 
-ghost use Rattle.std.specs.Prelude.{◌≡◌};
+ghost use Rattle.std.specs.Prelude.{◌≡◌, Some};
 ghost use Rattle.dpl_run.specs.declared.refused.Refused.TheVariants.{Memory};
+ghost use Rattle.dpl_run.specs.Refusals.{refused_text};
 
 use std::alloc::{AllocError, AllocFailed};
-use thiserror::Error;
+use std::error::Error;
+use std::fmt;
 
 /// Why a run came to no outcome. It prints as its code.
-#[derive(Clone, Copy, PartialEq, Eq, Debug, Error)]
+#[derive(Clone, Copy, PartialEq, Eq, Debug)]
 pub enum Refused {
-    /// `M1`: no memory. Nothing was written.
-    #[error("M1")]
+    /// `M1`: out of memory. Nothing was written.
     Memory,
     /// `W1`: the writer failed. It had taken the first bytes of what the run writes, perhaps none.
-    #[error("W1")]
     Writer,
 }
+
+impl fmt::Display for Refused {
+    ghost output = { λ refused. Some (refused_text refused) };
+
+    fn fmt<W: fmt::Write>(&self, f: &mut fmt::Formatter<W>) -> fmt::Result {
+        match self {
+            Refused::Memory => f.write_str("M1"),
+            Refused::Writer => f.write_str("W1"),
+        }
+    }
+}
+
+impl Error for Refused {}
 
 impl From<AllocError> for Refused {
     ghost from_gives = { λ _ e. e ≡ Memory };

@@ -15,11 +15,11 @@ use crate::lines::tell_fault;
 use crate::outcome::Outcome;
 use crate::refused::Refused;
 use crate::statements::statements;
-use crate::stop::Stop;
+use crate::halt::Halt;
 use crate::writer::{Out, write_all};
 use dpl_check::Checked;
 use dpl_turn::Frame;
-use std::alloc::Global;
+use std::alloc::{AllocError, Global};
 
 /// What a run came to, and all that it writes.
 #[derive(Drop)]
@@ -31,10 +31,9 @@ pub(crate) struct Ended {
 /// Runs a program to its end, and writes nothing.
 ///
 /// # Errors
-/// No memory.
-pub(crate) fn run(alloc: Global, program: &Checked, config: &Config) -> Result<Ended, Refused>
-    ensures means { IfOk result (λ ended. Means (tree_view spelled program.now) config.now.budget ended.outcome ended.text.items) }
-    ensures memory { IfErr result (λ e. e ≡ Refused.Memory) }
+/// Out of memory.
+pub(crate) fn run(alloc: Global, program: &Checked, config: &Config) -> Result<Ended, AllocError>
+    ensures { IfOk result (λ ended. Means (tree_view spelled program.now) config.now.budget ended.outcome ended.text.items) }
 {
     let mut frame = Frame::new(alloc, program.slots(), config.budget(), config.locales())?;
     let mut text = Vec::new(alloc);
@@ -43,12 +42,12 @@ pub(crate) fn run(alloc: Global, program: &Checked, config: &Config) -> Result<E
             let outcome = Outcome::Done(collect(alloc, program.stmts(), &frame)?);
             Ok(Ended { outcome, text })
         }
-        Err(Stop::Fault(fault)) => {
+        Err(Halt::Fault(fault)) => {
             tell_fault(alloc, fault, &mut text)?;
             let outcome = Outcome::Stopped(fault);
             Ok(Ended { outcome, text })
         }
-        Err(Stop::Memory) => Err(Refused::Memory),
+        Err(Halt::Memory) => Err(AllocError),
     }
 }
 
@@ -58,7 +57,7 @@ pub(crate) fn run(alloc: Global, program: &Checked, config: &Config) -> Result<E
 /// thread, and the gate isn't asked. `out` must not have failed before.
 ///
 /// # Errors
-/// No memory, and nothing was written; or the writer failed, and it holds the first bytes of what the run writes.
+/// Out of memory, and nothing was written; or the writer failed, and it holds the first bytes of what the run writes.
 pub fn run_checked<R: Sync, G: Gate + Sync, W: Out>(
     rt: &R,
     alloc: Global,

@@ -7,10 +7,11 @@ ghost use Rattle.dpl_syntax.specs.View.{bound, expr_view, initial_view, stmt_vie
 ghost use Rattle.dpl_meaning.specs.Outcome.{Done, with_value};
 ghost use Rattle.dpl_meaning.specs.Meaning.{text_of, first_value, exec, exec_all};
 ghost use Rattle.dpl_meaning.specs.Slots.{by_slot};
-ghost use Rattle.dpl_run.specs.Runs.{RunEnds, HasTurnBody, HaveTurnBodies};
+ghost use Rattle.dpl_meaning.specs.Bodies.{HasBody, HaveBodies};
+ghost use Rattle.dpl_run.specs.Runs.{RunEnds};
 
 use crate::loops::forall;
-use crate::stop::Stop;
+use crate::halt::Halt;
 use dpl_syntax::tree::{Expr, Initial, Stmt};
 use dpl_syntax::{Fault, Value};
 use dpl_turn::{Frame, value};
@@ -38,7 +39,7 @@ fn write_line(
     arguments: &[Expr],
     frame: &Frame,
     out: &mut Vec<u8>,
-) -> Result<(), Stop>
+) -> Result<(), Halt>
     ensures { RunEnds result frame.now.values out.new.items (with_value (text_of by_slot (map (expr_view bound) arguments.now) frame.now.values []) out.old.items (λ text. Done frame.now.values (out.old.items ++ (text ++ 10 ∷ [])))) }
 {
     let mut text = Vec::new(alloc);
@@ -61,8 +62,8 @@ fn initial_value(initial: &Option<Initial>, frame: &Frame) -> Result<Value, Faul
 }
 
 // One statement. The body of a forall is an assignment, which is a condition.
-fn statement(alloc: Global, stmt: &Stmt, frame: &mut Frame, out: &mut Vec<u8>) -> Result<(), Stop>
-    requires { HasTurnBody (stmt_view bound stmt.now) }
+fn statement(alloc: Global, stmt: &Stmt, frame: &mut Frame, out: &mut Vec<u8>) -> Result<(), Halt>
+    requires { HasBody (stmt_view bound stmt.now) }
     ensures ends { RunEnds result frame.new.values out.new.items (exec by_slot (stmt_view bound stmt.now) frame.old.budget frame.old.values out.old.items) }
     ensures budget { frame.new.budget ≡ frame.old.budget }
 {
@@ -108,8 +109,8 @@ pub(crate) fn statements(
     stmts: &[Stmt],
     frame: &mut Frame,
     out: &mut Vec<u8>,
-) -> Result<(), Stop>
-    requires { HaveTurnBodies (map (stmt_view bound) stmts.now) }
+) -> Result<(), Halt>
+    requires { HaveBodies (map (stmt_view bound) stmts.now) }
     ensures { RunEnds result frame.new.values out.new.items (exec_all by_slot (map (stmt_view bound) stmts.now) frame.old.budget frame.old.values out.old.items) }
 {
     for stmt in stmts {

@@ -3,9 +3,8 @@
 
 ghost use Rattle.std.specs.Prelude.{◌≡◌, ℕ, List, length, IfOk, IfErr, OnOk, false, true};
 ghost use Rattle.std.specs.Io.KnownBytes.{Appends, Keeps};
-ghost use Rattle.dpl_syntax.specs.View.{tree_view, spelled};
-ghost use Rattle.dpl_run.specs.Headline.{ComesTo};
-ghost use Rattle.dpl_run.specs.Refusing.{IsRejection, TreeComesTo, TokensComeTo};
+ghost use Rattle.dpl_run.specs.Headline.{ComesTo, ComesToOnly, HasOneOutcome};
+ghost use Rattle.dpl_run.specs.Refusing.{IsRejection, StopsAs};
 ghost use Rattle.dpl_run.specs.declared.outcome.Outcome.{Outcome};
 ghost use Rattle.dpl_run.specs.Writers.{Partly};
 
@@ -16,16 +15,14 @@ use crate::outcome::Outcome;
 use crate::refused::Refused;
 use crate::run::{Ended, deliver, run};
 use crate::writer::Out;
-use dpl_check::{CheckStop, check};
-use dpl_parse::{ParseStop, parse};
-use dpl_syntax::tree::Tree;
-use dpl_syntax::{LexStop, Refusal, Token, lex};
-use std::alloc::Global;
+use dpl_check::check;
+use dpl_parse::parse;
+use dpl_syntax::{Refusal, Stop, lex};
+use std::alloc::{AllocError, Global};
 
 // A refused text writes its refusal's line alone.
-fn reject(alloc: Global, refusal: Refusal) -> Result<Ended, Refused>
-    ensures line { IfOk result (λ ended. IsRejection refusal ended.outcome ended.text.items) }
-    ensures memory { IfErr result (λ e. e ≡ Refused.Memory) }
+fn reject(alloc: Global, refusal: Refusal) -> Result<Ended, AllocError>
+    ensures { IfOk result (λ ended. IsRejection refusal ended.outcome ended.text.items) }
 {
     let mut text = Vec::new(alloc);
     tell_refusal(alloc, refusal, &mut text)?;
@@ -35,49 +32,26 @@ fn reject(alloc: Global, refusal: Refusal) -> Result<Ended, Refused>
     })
 }
 
-// What a tree comes to: its refusal, or its run.
-fn tree_outcome(alloc: Global, tree: Tree, sets: &[&str], config: &Config) -> Result<Ended, Refused>
-    ensures comes { IfOk result (λ ended. TreeComesTo (tree_view spelled tree) (length sets.now) config.now.budget ended.outcome ended.text.items) }
-    ensures memory { IfErr result (λ e. e ≡ Refused.Memory) }
-{
-    match check(alloc, tree, sets) {
-        Ok(program) => run(alloc, &program, config),
-        Err(CheckStop::Refused(refusal)) => reject(alloc, refusal),
-        Err(CheckStop::Memory) => Err(Refused::Memory),
-    }
-}
-
-// What tokens come to: their refusal, or what the tree that they spell comes to.
-fn tokens_outcome(
-    alloc: Global,
-    tokens: &[Token],
-    sets: &[&str],
-    config: &Config,
-) -> Result<Ended, Refused>
-    ensures comes { IfOk result (λ ended. TokensComeTo tokens.now (length sets.now) config.now.budget ended.outcome ended.text.items) }
-    ensures memory { IfErr result (λ e. e ≡ Refused.Memory) }
-{
-    match parse(alloc, tokens) {
-        Ok(tree) => tree_outcome(alloc, tree, sets, config),
-        Err(ParseStop::Refused(refusal)) => reject(alloc, refusal),
-        Err(ParseStop::Memory) => Err(Refused::Memory),
-    }
-}
-
-// What a text comes to: its refusal, or what its tokens come to.
-fn text_outcome(
-    alloc: Global,
-    text: &[u8],
-    sets: &[&str],
-    config: &Config,
-) -> Result<Ended, Refused>
+// The run of a text that is a program. The tokens are dropped once the tree stands.
+fn run_program(alloc: Global, text: &[u8], sets: &[&str], config: &Config) -> Result<Ended, Stop>
     ensures comes { IfOk result (λ ended. ComesTo text.now (length sets.now) config.now.budget ended.outcome ended.text.items) }
-    ensures memory { IfErr result (λ e. e ≡ Refused.Memory) }
+    ensures stops { IfErr result (StopsAs text.now (length sets.now)) }
 {
-    match lex(alloc, text) {
-        Ok(tokens) => tokens_outcome(alloc, &tokens, sets, config),
-        Err(LexStop::Refused(refusal)) => reject(alloc, refusal),
-        Err(LexStop::Memory) => Err(Refused::Memory),
+    let tokens = lex(alloc, text)?;
+    let tree = parse(alloc, &tokens)?;
+    drop(tokens);
+    let program = check(alloc, tree, sets)?;
+    Ok(run(alloc, &program, config)?)
+}
+
+// What a text comes to: the run of its program, or its refusal.
+fn outcome(alloc: Global, text: &[u8], sets: &[&str], config: &Config) -> Result<Ended, AllocError>
+    ensures { IfOk result (λ ended. ComesTo text.now (length sets.now) config.now.budget ended.outcome ended.text.items) }
+{
+    match run_program(alloc, text, sets, config) {
+        Ok(ended) => Ok(ended),
+        Err(Stop::Refused(refusal)) => reject(alloc, refusal),
+        Err(Stop::Memory) => Err(AllocError),
     }
 }
 
@@ -90,7 +64,7 @@ fn text_outcome(
 /// must not have failed before.
 ///
 /// # Errors
-/// No memory, and nothing was written; or the writer failed, and it holds the first bytes of what the text writes.
+/// Out of memory, and nothing was written; or the writer failed, and it holds the first bytes of what the text writes.
 pub fn run_text<R: Sync, G: Gate + Sync, W: Out>(
     rt: &R,
     alloc: Global,
@@ -101,18 +75,22 @@ pub fn run_text<R: Sync, G: Gate + Sync, W: Out>(
     out: &mut W,
 ) -> Result<Outcome, Refused>
     requires { W.has_failed out.old ≡ false }
-    // What is written, and the outcome, are what the text comes to.
-    ensures written { IfOk result (λ outcome. (said : List ℕ) × ComesTo text.now (length sets.now) config.now.budget outcome said × Appends (W.contents out.old) (W.contents out.new) said) }
-    // The text comes to no other outcome, and no other bytes are written of it.
-    ensures only { IfOk result (λ outcome. (other : Outcome) (said : List ℕ) → ComesTo text.now (length sets.now) config.now.budget other said → (other ≡ outcome) × Appends (W.contents out.old) (W.contents out.new) said) }
+    // What is written, and the outcome, are what the text comes to, and it comes to no other.
+    ensures written { IfOk result (λ outcome. (said : List ℕ) × Appends (W.contents out.old) (W.contents out.new) said
+        × ComesToOnly text.now (length sets.now) config.now.budget outcome said) }
     ensures unfailed { OnOk result (W.has_failed out.new ≡ false) }
+    // Whether the run is refused or not, the text has exactly one outcome, and one list of bytes.
+    ensures one { HasOneOutcome text.now (length sets.now) config.now.budget }
     // Without memory nothing was written.
-    ensures memory { result ≡ Err Refused.Memory → Keeps (W.contents out.old) (W.contents out.new) × (W.has_failed out.new ≡ false) }
+    ensures memory { result ≡ Err Refused.Memory
+        → Keeps (W.contents out.old) (W.contents out.new) × (W.has_failed out.new ≡ false) }
     // A writer that failed holds the first bytes of what the text writes.
-    ensures writer { result ≡ Err Refused.Writer → (W.has_failed out.new ≡ true) × ((outcome : Outcome) × (said : List ℕ) × ComesTo text.now (length sets.now) config.now.budget outcome said × Partly (W.contents out.old) (W.contents out.new) said) }
+    ensures writer { result ≡ Err Refused.Writer → (W.has_failed out.new ≡ true)
+        × ((outcome : Outcome) × (said : List ℕ) × ComesTo text.now (length sets.now) config.now.budget outcome said
+        × Partly (W.contents out.old) (W.contents out.new) said) }
 {
     let _ = rt;
     let _ = gate;
-    let ended = text_outcome(alloc, text, sets, config)?;
+    let ended = outcome(alloc, text, sets, config)?;
     deliver(ended, out)
 }

@@ -3,7 +3,6 @@
 use Rattle.std.specs.Prelude.{◌≡◌, ℕ, List, Result, Ok, Err}
 use Rattle.dpl_syntax.specs.declared.value.Value.{Value}
 use Rattle.dpl_syntax.specs.declared.fault.Fault.{Fault}
-use Rattle.dpl_syntax.specs.Tree.{StmtTree, Assigned}
 use Rattle.dpl_meaning.specs.Outcome.{Outcome, Done, Stop}
 
 -- the values of the slots, the budget of a loop and the number of locales
@@ -11,11 +10,6 @@ pub record Slots : Type 0 where
   pub values : List Value
   pub budget : ℕ
   pub locales : ℕ
-
--- a forall's body is an assignment
-abbrev pub IsTurnBody : {N : Type 0} → StmtTree N → Type 0
-IsTurnBody (Assigned x at op e semicolon) = Unit {0}
-IsTurnBody _ = ⊥
 
 -- a turn's answer, and the values that it leaves, are how its run ends; behind it is printed what was before
 abbrev pub TurnEnds : Result (Unit {0}) Fault → List Value → List ℕ → Outcome (List Value) → Type 0

@@ -1,11 +1,12 @@
 // A turn of a forall's body.
 // It changes the slots of the frame alone, and prints nothing.
 
-ghost use Rattle.std.specs.Prelude.{◌≡◌, ℕ, List, OnErr};
+ghost use Rattle.std.specs.Prelude.{◌≡◌, ℕ, List};
 ghost use Rattle.dpl_meaning.specs.Meaning.{exec};
 ghost use Rattle.dpl_meaning.specs.Slots.{by_slot};
 ghost use Rattle.dpl_syntax.specs.View.{bound, stmt_view};
-ghost use Rattle.dpl_turn.specs.Frames.{IsTurnBody, TurnEnds};
+ghost use Rattle.dpl_meaning.specs.Bodies.{IsBody};
+ghost use Rattle.dpl_turn.specs.Frames.{TurnEnds};
 
 use crate::expression::value;
 use crate::frame::Frame;
@@ -18,11 +19,10 @@ use dpl_syntax::tree::Stmt;
 /// A body is an assignment, which is a condition.
 ///
 /// # Errors
-/// The fault of the body; the frame is then as it was.
+/// The fault of the body.
 pub fn turn(body: &Stmt, frame: &mut Frame) -> Result<(), Fault>
-    requires { IsTurnBody (stmt_view bound body.now) }
+    requires { IsBody (stmt_view bound body.now) }
     ensures ends { (out : List ℕ) → TurnEnds result frame.new.values out (exec by_slot (stmt_view bound body.now) frame.old.budget frame.old.values out) }
-    ensures unchanged { OnErr result (frame.new ≡ frame.old) }
     ensures budget { frame.new.budget ≡ frame.old.budget }
     ensures locales { frame.new.locales ≡ frame.old.locales }
 {

@@ -1,7 +1,7 @@
 use Rattle.std.proofs.Common.{sym, ap, ◌∙◌, subst, map, []}
 use Rattle.dpl_syntax.specs.View.{stmt_view, tree_view, spelled}
-use Rattle.dpl_check.specs.Slots.{HaveBodies}
-use Rattle.dpl_check.proofs.Checks.{none-good, good-none, bound-resolved, bound-counted, bound-good, bound-spelled}
+use Rattle.dpl_meaning.specs.Bodies.{HaveBodies}
+use Rattle.dpl_check.proofs.Checks.{none-good, good-none, bound-resolved, bound-good, bound-spelled}
 use Rattle.dpl_check.proofs.Resolving.{sound-have_bodies}
 use Rattle.dpl_check.proofs.check.Goals as goal
 
@@ -18,12 +18,6 @@ bind_stmts-requires c =
 pub new-requires-clause-resolved : goal.new-requires-clause-resolved
 new-requires-clause-resolved c =
     bound-resolved c.args.tree.stmts c.new-names.result c.first_breach.new.names c.deref.result.now c.deref_mut.result.now c.bind_stmts.new.stmts
-    c.new-names.ensures c.deref.ensures.value c.deref_mut.ensures.value (sym c.in_ok-breach.ensures.first ∙ c.in-None.is) c.in_ok-breach.ensures.names
-    c.bind_stmts.ensures (c.bind_stmts.auto.stmts ∙ c.deref_mut.ensures.len) c.slots.result c.slots.ensures
-
-pub new-requires-clause-counted : goal.new-requires-clause-counted
-new-requires-clause-counted c =
-    bound-counted c.args.tree.stmts c.new-names.result c.first_breach.new.names c.deref.result.now c.deref_mut.result.now c.bind_stmts.new.stmts
     c.new-names.ensures c.deref.ensures.value c.deref_mut.ensures.value (sym c.in_ok-breach.ensures.first ∙ c.in-None.is) c.in_ok-breach.ensures.names
     c.bind_stmts.ensures (c.bind_stmts.auto.stmts ∙ c.deref_mut.ensures.len) c.slots.result c.slots.ensures
 

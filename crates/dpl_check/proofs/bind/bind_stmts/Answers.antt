@@ -1,6 +1,7 @@
 use Rattle.std.proofs.Common.{◌∙◌, arith, subst, sym}
 use Rattle.dpl_syntax.specs.View.{stmt_view, spelled, bound}
-use Rattle.dpl_check.specs.Slots.{bound_stmt, HasBody}
+use Rattle.dpl_meaning.specs.Bodies.{HasBody}
+use Rattle.dpl_check.specs.Slots.{bound_stmt}
 use Rattle.dpl_check.proofs.Binding.{map-each, map-map, HasBody-at}
 use Rattle.dpl_check.proofs.bind.bind_stmts.Goals as goal
 
