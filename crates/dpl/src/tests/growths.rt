@@ -1,5 +1,5 @@
 // The squares with a growth of memory refused: `rt try --test --fail-alloc N` refuses the Nth.
-// The run then tells want of memory and writes nothing, and the next run is whole.
+// The run then tells that memory ran out, and writes nothing, and the next run is whole.
 // scripts/growths.sh refuses those of the whole program, one after another.
 
 use super::SQUARES;

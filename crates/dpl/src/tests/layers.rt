@@ -16,7 +16,7 @@ fn checked(alloc: Global, text: &str) -> Result<Checked, Fail> {
     Ok(check(alloc, tree, &[])?)
 }
 
-// Each text, and how many slots it has.
+// Each text, and how many slots it has: one for each name of the top level, and one for the loops' variables.
 #[test]
 fn slots(rt: HostRuntime) -> Result<(), Fail> {
     let rows = [

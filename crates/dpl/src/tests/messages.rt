@@ -1,0 +1,45 @@
+// What the error types of the calls print, every variant of each.
+
+use dpl_run::{ConfigFault, OutFault, Refused};
+use dpl_syntax::{Code, Place, Refusal, Stop};
+use std::test::Fail;
+
+#[test]
+fn settings(rt: HostRuntime) -> Result<(), Fail> {
+    let rows = [
+        (ConfigFault::Locales, "there are not 1 to 64 locales"),
+        (ConfigFault::Budget, "the budget is not from 1 to 4294967296"),
+        (ConfigFault::Tries, "the tries are not from 1 to 4294967296"),
+        (
+            ConfigFault::Grid2,
+            "the grid of two dimensions has not as many places as there are locales",
+        ),
+        (
+            ConfigFault::Grid3,
+            "the grid of three dimensions has not as many places as there are locales",
+        ),
+    ];
+    for (fault, want) in &rows {
+        let told = format!(in rt.alloc(); "{fault}")?;
+        assert_eq!(rt; told.as_str(), *want);
+    }
+    Ok(())
+}
+
+#[test]
+fn runs(rt: HostRuntime) -> Result<(), Fail> {
+    let told = format!(in rt.alloc(); "{}, {}, {OutFault}", Refused::Memory, Refused::Writer)?;
+    assert_eq!(rt; told.as_str(), "M1, W1, the writer failed");
+    Ok(())
+}
+
+#[test]
+fn stops(rt: HostRuntime) -> Result<(), Fail> {
+    let refusal = Refusal {
+        code: Code::TooDeep,
+        place: Some(Place { line: 3, column: 4 }),
+    };
+    let told = format!(in rt.alloc(); "{}, {}", Stop::Refused(refusal), Stop::Memory)?;
+    assert_eq!(rt; told.as_str(), "! P2 at 3:4, out of memory");
+    Ok(())
+}
