@@ -122,18 +122,18 @@ front_sign c cs dark letter digit = pair cs refl
 
     single : (2 ≤ length (c ∷ cs) → (s : Sign) → sign_text s ≢ c ∷ get_or (c ∷ cs) 1 0 ∷ []) → Front (c ∷ cs)
     single no_pair =
-        elim (sign_cases (c ∷ []))
-        [ inl is ↦ found is.0 (one_byte (c ∷ cs) (Some is.0) (omega arith) no_pair is.1 tt)
-        | inr not ↦ missed (one_byte (c ∷ cs) None (omega arith) no_pair tt not)
+        elim (sign_cases (c ∷ [])) [
+          | inl is ↦ found is.0 (one_byte (c ∷ cs) (Some is.0) (omega arith) no_pair is.1 tt)
+          | inr not ↦ missed (one_byte (c ∷ cs) None (omega arith) no_pair tt not)
         ]
 
     pair : (ds : List ℕ) → cs ≡ ds → Front (c ∷ cs)
     pair [] none = single (λ two. absurd (omega (arith, ap (length {A = ℕ}) none)))
     pair (d ∷ ds) is =
         let second : get_or (c ∷ cs) 1 0 ≡ d = ap (λ (l : List ℕ). get_or (c ∷ l) 1 0) is in
-        elim (sign_cases (c ∷ d ∷ []))
-        [ inl passes ↦ found passes.0 (two_bytes (c ∷ cs) passes.0 (omega (arith, ap (length {A = ℕ}) is)) (passes.1 ∙ ap (λ x. c ∷ x ∷ []) (sym second)))
-        | inr fails ↦ single (λ two s e. fails s (e ∙ ap (λ x. c ∷ x ∷ []) second))
+        elim (sign_cases (c ∷ d ∷ [])) [
+          | inl passes ↦ found passes.0 (two_bytes (c ∷ cs) passes.0 (omega (arith, ap (length {A = ℕ}) is)) (passes.1 ∙ ap (λ x. c ∷ x ∷ []) (sym second)))
+          | inr fails ↦ single (λ two s e. fails s (e ∙ ap (λ x. c ∷ x ∷ []) second))
         ]
 
 front : (c : ℕ) (cs : List ℕ) → is_space c ≡ false → Front (c ∷ cs)
@@ -183,9 +183,9 @@ valid_up_to text (suc n) short longer = at (is_utf8 (take (suc n) text)) refl (v
   where
     shorter : is_utf8 (take (suc n) text) ≡ false → (m : ℕ) → n < m → ¬ (IsUtf8 (take m text))
     shorter fails m lt valid =
-        elim (cases_eq m (suc n))
-        [ inl same ↦ absurd (cc (fails, is_utf8-from_IsUtf8 (take (suc n) text) (subst (λ k. IsUtf8 (take k text)) same valid)))
-        | inr other ↦ longer m (omega arith) valid
+        elim (cases_eq m (suc n)) [
+          | inl same ↦ absurd (cc (fails, is_utf8-from_IsUtf8 (take (suc n) text) (subst (λ k. IsUtf8 (take k text)) same valid)))
+          | inr other ↦ longer m (omega arith) valid
         ]
 
     at : (b : Bool) → is_utf8 (take (suc n) text) ≡ b → (((m : ℕ) → n < m → ¬ (IsUtf8 (take m text))) → (k : ℕ) × IsValidUpTo text k) → (k : ℕ) × IsValidUpTo text k

@@ -1,6 +1,6 @@
 // The lexer on texts. A text's tokens are shown as `kind@place`, one after the other; a refused text as its refusal.
 
-use crate::{Infix, Kind, Token, Value, lex};
+use crate::{Infix, Keyword, Kind, Token, Value, lex};
 use std::alloc::{AllocError, Global};
 use std::test::Fail;
 
@@ -74,6 +74,57 @@ fn refusals(rt: HostRuntime) -> Result<(), Fail> {
     for (text, want) in &rows {
         let got = shown(rt.alloc(), text)?;
         assert_eq!(rt; got.as_str(), *want);
+    }
+    Ok(())
+}
+
+// Each reserved word is its token, and with one letter more it is a name.
+#[test]
+fn reserved_words(rt: HostRuntime) -> Result<(), Fail> {
+    let rows: [(&str, Keyword); 36] = [
+        ("bool", Keyword::Bool),
+        ("by", Keyword::By),
+        ("blockCycDist", Keyword::BlockCycDist),
+        ("blockDist", Keyword::BlockDist),
+        ("config", Keyword::Config),
+        ("const", Keyword::Const),
+        ("coforall", Keyword::Coforall),
+        ("cyclicDist", Keyword::CyclicDist),
+        ("dmapped", Keyword::Dmapped),
+        ("do", Keyword::Do),
+        ("domain", Keyword::Domain),
+        ("else", Keyword::Else),
+        ("false", Keyword::False),
+        ("for", Keyword::For),
+        ("forall", Keyword::Forall),
+        ("here", Keyword::Here),
+        ("if", Keyword::If),
+        ("in", Keyword::In),
+        ("int", Keyword::Int),
+        ("Locales", Keyword::Locales),
+        ("max", Keyword::Max),
+        ("min", Keyword::Min),
+        ("new", Keyword::New),
+        ("numLocales", Keyword::NumLocales),
+        ("on", Keyword::On),
+        ("reduce", Keyword::Reduce),
+        ("ref", Keyword::Ref),
+        ("sync", Keyword::Sync),
+        ("then", Keyword::Then),
+        ("true", Keyword::True),
+        ("use", Keyword::Use),
+        ("var", Keyword::Var),
+        ("while", Keyword::While),
+        ("with", Keyword::With),
+        ("write", Keyword::Write),
+        ("writeln", Keyword::Writeln),
+    ];
+    for (text, keyword) in &rows {
+        let both = format!(in rt.alloc(); "{text}\n{text}s")?;
+        let got = shown(rt.alloc(), both.as_bytes())?;
+        let end = text.len() + 2;
+        let want = format!(in rt.alloc(); " {keyword:?}@1:1 {text}s@2:1 End@2:{end}")?;
+        assert_eq!(rt; got.as_str(), want.as_str());
     }
     Ok(())
 }
