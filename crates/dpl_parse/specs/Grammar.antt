@@ -4,7 +4,7 @@
 use Rattle.std.specs.Prelude.{ℕ, zero, suc, ℤ, pos, Bool, true, false, List, [], ◌∷◌, map, Option, Some, None}
 use Rattle.dpl_syntax.specs.declared.place.Place.{Place}
 use Rattle.dpl_syntax.specs.declared.token.Kind.{Kind}
-use Rattle.dpl_syntax.specs.declared.token.Kind.TheVariants.{Name as NameKind, Number as NumberKind}
+use Rattle.dpl_syntax.specs.declared.token.Kind.TheVariants.{Name as NameKind, Number as NumberKind, Keyword as KeywordKind, Sign as SignKind, End as EndKind}
 use Rattle.dpl_syntax.specs.declared.token.Keyword.TheVariants.{Var, Const, Int, Writeln as WritelnWord, Forall as ForallWord, In, By, With, Reduce, Do}
 use Rattle.dpl_syntax.specs.declared.token.Sign.TheVariants.{DotDot, PlusAssign, StarAssign, Assign, Plus, Minus, Star, OpenRound, CloseRound, Comma, Semicolon, Colon}
 use Rattle.dpl_syntax.specs.declared.token.Token.{Token}
@@ -33,12 +33,18 @@ Program = ProgramTree (List ℕ)
 -- the text of a name; no other kind is asked
 abbrev pub text_of : Kind → List ℕ
 text_of (NameKind text) = text
-text_of _ = []
+text_of (NumberKind n) = []
+text_of (KeywordKind w) = []
+text_of (SignKind s) = []
+text_of EndKind = []
 
 -- the value of a number; no other kind is asked
 abbrev pub value_of : Kind → ℤ
+value_of (NameKind text) = pos 0
 value_of (NumberKind n) = n
-value_of _ = pos 0
+value_of (KeywordKind w) = pos 0
+value_of (SignKind s) = pos 0
+value_of EndKind = pos 0
 
 -- Nesting. What stands one level deeper, and whether there is room for it.
 pub record Below : Type 1 where

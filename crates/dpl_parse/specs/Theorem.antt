@@ -4,7 +4,7 @@ use Rattle.std.specs.Prelude.{◌≡◌, ℕ, List, [], ◌∷◌, ◌++◌, Opt
 use Rattle.dpl_syntax.specs.declared.place.Place.{Place}
 use Rattle.dpl_syntax.specs.declared.token.Token.{Token}
 use Rattle.dpl_syntax.specs.declared.refusal.Code.{Code}
-use Rattle.dpl_syntax.specs.declared.refusal.Code.TheVariants.{Unexpected, TooDeep}
+use Rattle.dpl_syntax.specs.declared.refusal.Code.TheVariants.{NotText, BadCharacter, NumberTooLarge, Unexpected, TooDeep, UnknownName, NameTwice, ConstantWritten, OuterChanged, BadSet}
 use Rattle.dpl_syntax.specs.declared.refusal.Refusal.{Refusal}
 use Rattle.dpl_parse.specs.Grammar.{Program, program, below}
 
@@ -48,7 +48,15 @@ abbrev pub RefusesBy : List Token → Code → Option Place → Type 0
 RefusesBy tokens Unexpected (Some at) = IsUnexpected tokens at
 RefusesBy tokens Unexpected None = IsUnended tokens
 RefusesBy tokens TooDeep (Some at) = IsTooDeep tokens at
-RefusesBy tokens _ _ = ⊥
+RefusesBy tokens TooDeep None = ⊥
+RefusesBy tokens NotText place = ⊥
+RefusesBy tokens BadCharacter place = ⊥
+RefusesBy tokens NumberTooLarge place = ⊥
+RefusesBy tokens UnknownName place = ⊥
+RefusesBy tokens NameTwice place = ⊥
+RefusesBy tokens ConstantWritten place = ⊥
+RefusesBy tokens OuterChanged place = ⊥
+RefusesBy tokens BadSet place = ⊥
 
 abbrev pub Refuses : List Token → Refusal → Type 0
 Refuses tokens refusal = RefusesBy tokens refusal.code refusal.place

@@ -8,7 +8,7 @@ use Rattle.dpl_syntax.specs.declared.refusal.Refusal.{Refusal}
 use Rattle.dpl_syntax.specs.declared.stop.Stop.{Stop}
 use Rattle.dpl_syntax.specs.declared.stop.Stop.TheVariants.{Refused as RefusedStop, Memory}
 use Rattle.dpl_syntax.specs.Text.{Lexes}
-use Rattle.dpl_syntax.specs.Refused.{Tells}
+use Rattle.dpl_syntax.specs.Stops.{Tells}
 use Rattle.dpl_syntax.specs.Tree.{ProgramTree}
 use Rattle.dpl_parse.specs.Theorem.{Spells, Refuses}
 use Rattle.dpl_check.specs.Breaches.{tree_refusal}

@@ -1,8 +1,12 @@
+-- The language: tokens, the text of which they are, texts without tokens, trees, values, and the lines that tell.
 pub mod Tokens
-pub mod Tree
-pub mod View
-pub mod Values
-pub mod Lines
 pub mod Text
 pub mod Refused
+pub mod Tree
+pub mod Values
+pub mod Lines
+
+-- What serves contracts and proofs alone.
+pub mod View
+pub mod Stops
 pub mod Scan

@@ -1,6 +1,6 @@
 -- The texts that have no tokens, each with its refusal.
 -- A text is refused as too long, else as no UTF-8, else at the first place where it can't be read on.
-use Rattle.std.specs.Prelude.{◌≡◌, ◌⊎◌, ℕ, ◌≤◌, ◌<◌, List, [], ◌++◌, length, take, true, false, Some, ⊤}
+use Rattle.std.specs.Prelude.{◌≡◌, ◌⊎◌, ℕ, ◌≤◌, ◌<◌, List, [], ◌++◌, length, take, true, false, Some}
 use Rattle.std.specs.Str.{IsValidUpTo}
 use Rattle.dpl_syntax.specs.Text.{is_space, is_number, goes_on, next_is, number_value, greatest, longest_text, IsToken, Longest, IsText, start, after, Begins}
 use Rattle.dpl_syntax.specs.declared.place.Place.{Place}
@@ -8,8 +8,6 @@ use Rattle.dpl_syntax.specs.declared.token.Token.{Token}
 use Rattle.dpl_syntax.specs.declared.refusal.Code.{Code}
 use Rattle.dpl_syntax.specs.declared.refusal.Code.TheVariants.{NotText, BadCharacter, NumberTooLarge}
 use Rattle.dpl_syntax.specs.declared.refusal.Refusal.{Refusal}
-use Rattle.dpl_syntax.specs.declared.stop.Stop.{Stop}
-use Rattle.dpl_syntax.specs.declared.stop.Stop.TheVariants.{Refused, Memory}
 
 abbrev pub refusal_at : Code → Place → Refusal
 refusal_at code at = record { code = code; place = Some at }
@@ -60,8 +58,3 @@ abbrev pub LexRefuses : List ℕ → Refusal → Type 0
 LexRefuses text refusal =
     ((longest_text < length text) × (refusal ≡ refusal_at NotText start))
     ⊎ (IsNoUtf8 text refusal ⊎ IsUnread text refusal)
-
--- what the lexer says of a text that it gives no tokens of; that memory ran out says nothing of the text
-abbrev pub Tells : List ℕ → Stop → Type 0
-Tells text (Refused refusal) = LexRefuses text refusal
-Tells text Memory = ⊤

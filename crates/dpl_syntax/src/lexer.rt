@@ -3,7 +3,8 @@
 
 ghost use Rattle.std.specs.Prelude.{◌≡◌, ◌⊎◌, ◌+◌, ◌^◌, ◌<◌, ◌≤◌, List, length, IsOk, IfOk, IfErr, Err};
 ghost use Rattle.dpl_syntax.specs.Text.{IsLexeme, IsText, Lexes, EndsOnce, after};
-ghost use Rattle.dpl_syntax.specs.Refused.{LexRefuses, Tells};
+ghost use Rattle.dpl_syntax.specs.Refused.{LexRefuses};
+ghost use Rattle.dpl_syntax.specs.Stops.{Tells};
 ghost use Rattle.dpl_syntax.specs.Scan.{IsShape};
 ghost use Rattle.dpl_syntax.specs.declared.token.Token.{Token};
 ghost use Rattle.dpl_syntax.specs.declared.refusal.Refusal.{Refusal};

@@ -2,7 +2,8 @@
 use Rattle.std.proofs.Common.{◌≡◌, Result, Ok, Err, List, refl, ◌∙◌, Vec, Global}
 use Rattle.std.specs.Prelude.{IfOk, IfErr, IsOk}
 use Rattle.dpl_syntax.specs.Text.{Lexes, EndsOnce}
-use Rattle.dpl_syntax.specs.Refused.{LexRefuses, Tells}
+use Rattle.dpl_syntax.specs.Refused.{LexRefuses}
+use Rattle.dpl_syntax.specs.Stops.{Tells}
 use Rattle.dpl_syntax.specs.declared.token.Token.{Token}
 use Rattle.dpl_syntax.specs.declared.refusal.Refusal.{Refusal}
 use Rattle.dpl_syntax.specs.declared.stop.Stop.{Stop}
