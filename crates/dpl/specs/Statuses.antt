@@ -5,7 +5,7 @@ use Rattle.dpl_run.specs.declared.outcome.Outcome.TheVariants.{Done, Stopped, Re
 use Rattle.dpl_run.specs.declared.refused.Refused.{Refused}
 use Rattle.dpl_run.specs.declared.refused.Refused.TheVariants.{Memory, Writer}
 
--- done, stopped by a fault, no program; out of memory, and a writer that failed
+-- done, stopped by a fault, and a text that isn't a program; out of memory, and a writer that failed
 abbrev pub status_of : Result Outcome Refused → ℕ
 status_of (Ok (Done left)) = 0
 status_of (Ok (Stopped f)) = 1

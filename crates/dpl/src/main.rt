@@ -20,7 +20,9 @@ const LONGEST_TEXT: u64 = 1048576;
 /// The statuses of a process that ends without a run: out of memory, standard input can't be read, and there are
 /// arguments.
 const OUT_OF_MEMORY: u8 = 3;
+
 const CANNOT_READ: u8 = 4;
+
 const USAGE: u8 = 5;
 
 fn main(rt: HostRuntime) -> ExitCode {

@@ -12,7 +12,6 @@ use Rattle.dpl_meaning.proofs.Samples.{Program, at, name, sum_of_squares, produc
 use Rattle.dpl_check.specs.declared.breach.Breach.{Breach}
 use Rattle.dpl_check.specs.Breaches.{breaches, first_from, tree_refusal}
 
-
 abbrev breach : Code → ℕ → Breach
 breach code column = record { at = at column; code = code }
 

@@ -2,7 +2,6 @@
 pub mod Sights
 pub mod Breaches
 pub mod Sound
-
 -- What serves contracts and proofs alone.
 pub mod Slots
 pub mod Around

@@ -1,5 +1,5 @@
 -- What a stop says of the refusal that a tree has.
--- Want of memory says nothing.
+-- That memory ran out says nothing.
 use Rattle.std.specs.Prelude.{◌≡◌, Option, Some}
 use Rattle.dpl_syntax.specs.declared.refusal.Refusal.{Refusal}
 use Rattle.dpl_syntax.specs.declared.stop.Stop.{Stop}

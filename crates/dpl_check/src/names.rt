@@ -76,7 +76,7 @@ impl Names {
     /// Declares the name, if it isn't declared yet.
     ///
     /// # Errors
-    /// No memory for it; the names are then as they were.
+    /// Out of memory for it; the names are then as they were.
     pub(crate) fn declare(&mut self, name: &Word, constant: bool) -> Result<(), AllocError>
         ensures ok { OnOk result (self.new ≡ declared self.old name.now constant) }
         ensures err { OnErr result (self.new ≡ self.old) }

@@ -231,7 +231,7 @@ fn declare(stmt: &Stmt, names: &mut Names) -> Result<(), AllocError>
 /// The first breach of a program's statements, from the names that are known before them, which are known behind them too.
 ///
 /// # Errors
-/// No memory for a name.
+/// Out of memory for a name.
 #[tactic(auto, using(crate::proofs::FirstOf::first_from_append, crate::proofs::FirstOf::first_from_of_each))]
 pub(crate) fn first_breach(stmts: &[Stmt], names: &mut Names) -> Result<Option<Breach>, AllocError>
     ensures first { IfOk result (λ first. first ≡ first_from None (stmts_breaches names.old (map (stmt_view spelled) stmts.now))) }

@@ -29,7 +29,7 @@ const LEVELS: u32 = 64;
 ///
 /// # Errors
 /// The refusal of the tokens: `P1` at the first one with which they begin no program, or `P2` at the first one
-/// that goes 65 levels deep, whichever is earlier, and `P1` where both are at one token. Or no memory.
+/// that goes 65 levels deep, whichever is earlier, and `P1` where both are at one token. Or out of memory.
 pub fn parse(alloc: Global, tokens: &[Token]) -> Result<Tree, ParseStop>
     // What is read is spelled so.
     ensures found { IfOk result (λ tree. Spells 64 tokens.now (tree_view spelled tree)) }

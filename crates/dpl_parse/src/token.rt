@@ -104,11 +104,7 @@ pub fn descend(room: u32, tokens: &[Token]) -> Result<u32, Stop>
 
 /// A sign that goes one level deeper, the room that is left there, and the tokens after it.
 #[tactic(auto, using(crate::proofs::Levels::deeper_with_room, crate::proofs::Levels::deeper_without_room))]
-pub fn deeper(
-    room: u32,
-    wanted: Sign,
-    tokens: &[Token],
-) -> Result<(&Token, u32, &[Token]), Stop>
+pub fn deeper(room: u32, wanted: Sign, tokens: &[Token]) -> Result<(&Token, u32, &[Token]), Stop>
     ensures gives { Gives (λ x. (x.0.now, x.2.now)) result (deeper_at (below_at room) (sign wanted) tokens.now) }
     ensures shorter { IfOk result (λ x. length x.2.now < length tokens.now) }
     ensures below { IfOk result (λ x. x.1 + 1 ≡ room) }

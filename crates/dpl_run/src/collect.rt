@@ -27,7 +27,7 @@ fn note(stmt: &Stmt, frame: &Frame, variables: &mut Vec<Variable>) -> Result<(),
 /// The variables that statements declare, with their values in a frame.
 ///
 /// # Errors
-/// No memory for them.
+/// Out of memory for them.
 pub(crate) fn collect(alloc: Global, stmts: &[Stmt], frame: &Frame) -> Result<Left, AllocError>
     ensures { IfOk result (λ left. left ≡ frame_at frame.now.values (declared_names (map (stmt_view bound) stmts.now))) }
 {

@@ -16,9 +16,8 @@ mod statements;
 mod text;
 mod writer;
 
-pub use dpl_syntax::{Code, Fault, FaultCode, Place, Refusal, Value};
-
 pub use config::{Config, ConfigFault, MOST_TURNS, Maps};
+pub use dpl_syntax::{Code, Fault, FaultCode, Place, Refusal, Value};
 pub use gate::{Gate, OpenGate};
 pub use left::{Left, Variable};
 pub use outcome::Outcome;

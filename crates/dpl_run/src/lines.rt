@@ -21,7 +21,7 @@ fn is_mid_line(text: &[u8]) -> bool
 /// Appends a fault's line, behind a newline where the text doesn't end a line.
 ///
 /// # Errors
-/// No memory for it.
+/// Out of memory for it.
 pub(crate) fn tell_fault(alloc: Global, fault: Fault, text: &mut Vec<u8>) -> Result<(), AllocError>
     ensures { OnOk result (text.new.items ≡ text.old.items ++ line_end text.old.items ++ fault_text fault ++ 10 ∷ []) }
 {
@@ -36,7 +36,7 @@ pub(crate) fn tell_fault(alloc: Global, fault: Fault, text: &mut Vec<u8>) -> Res
 /// Appends a refusal's line.
 ///
 /// # Errors
-/// No memory for it.
+/// Out of memory for it.
 pub(crate) fn tell_refusal(
     alloc: Global,
     refusal: Refusal,

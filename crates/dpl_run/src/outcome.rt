@@ -11,6 +11,6 @@ pub enum Outcome {
     Done(Left),
     /// A fault stopped it.
     Stopped(Fault),
-    /// The text is no program.
+    /// The text isn't a program.
     Rejected(Refusal),
 }

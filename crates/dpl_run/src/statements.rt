@@ -10,8 +10,8 @@ ghost use Rattle.dpl_meaning.specs.Slots.{by_slot};
 ghost use Rattle.dpl_meaning.specs.Bodies.{HasBody, HaveBodies};
 ghost use Rattle.dpl_run.specs.Runs.{RunEnds};
 
-use crate::loops::forall;
 use crate::halt::Halt;
+use crate::loops::forall;
 use dpl_syntax::tree::{Expr, Initial, Stmt};
 use dpl_syntax::{Fault, Value};
 use dpl_turn::{Frame, value};
@@ -103,7 +103,7 @@ fn statement(alloc: Global, stmt: &Stmt, frame: &mut Frame, out: &mut Vec<u8>) -
 /// The body of each forall is an assignment, which is a condition.
 ///
 /// # Errors
-/// The first fault, behind what was printed before it; or no memory for what is printed.
+/// The first fault, behind what was printed before it; or out of memory for what is printed.
 pub(crate) fn statements(
     alloc: Global,
     stmts: &[Stmt],

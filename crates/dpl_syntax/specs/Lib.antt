@@ -5,7 +5,6 @@ pub mod Refused
 pub mod Tree
 pub mod Values
 pub mod Lines
-
 -- What serves contracts and proofs alone.
 pub mod View
 pub mod Stops

@@ -141,7 +141,7 @@ pub fn lex(alloc: Global, text: &[u8]) -> Result<Vec<Token>, LexStop>
     ensures refused { IfErr result (Tells text.now) }
     ensures one_refusal { (told refusal : Refusal) → result ≡ Err (Refused told) → LexRefuses text.now refusal → refusal ≡ told }
 
-    // What has tokens is refused for want of memory alone.
+    // For a text that has tokens the only error is that memory ran out.
     ensures complete { (tokens : List Token) → Lexes text.now tokens → IfErr result (λ stop. stop ≡ Memory) }
 {
     if let Err(refusal) = check_text(text) {

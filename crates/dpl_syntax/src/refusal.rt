@@ -1,4 +1,4 @@
-// Refusals: why a text is no program.
+// Refusals: why a text isn't a program.
 // A text has one refusal at the most: that of its first stage that fails, at the earliest place there.
 
 ghost use Rattle.std.specs.Prelude.{Some};
@@ -10,7 +10,7 @@ use std::fmt;
 /// Which rule of the language a text breaks. It prints as its code.
 #[derive(Clone, Copy, PartialEq, Eq, Debug)]
 pub enum Code {
-    /// `L1`: the text is too long, at 1:1, or is no UTF-8, at the first byte that begins no character.
+    /// `L1`: the text is too long, at 1:1, or isn't UTF-8, at the first byte that begins no character.
     NotText,
     /// `L2`: a byte that begins no token, or a letter, `_` or `$` straight after a number. Its place is that byte.
     BadCharacter,

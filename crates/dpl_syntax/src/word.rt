@@ -28,7 +28,7 @@ impl Word {
     /// The word with these bytes.
     ///
     /// # Errors
-    /// No memory for them.
+    /// Out of memory for them.
     pub fn from_bytes(alloc: Global, bytes: &[u8]) -> Result<Word, AllocError>
         ensures { IfOk result (λ word. word ≡ bytes.now) }
     {

@@ -27,7 +27,7 @@ impl Frame {
     /// A frame of so many slots, each of which holds 0, with a budget and a number of locales.
     ///
     /// # Errors
-    /// No memory for the slots.
+    /// Out of memory for the slots.
     pub fn new(alloc: Global, slots: usize, budget: u64, locales: u32) -> Result<Frame, AllocError>
         ensures { IfOk result (λ frame. frame ≡ record { values = replicate slots (Int (pos 0)); budget = budget; locales = locales }) }
     {

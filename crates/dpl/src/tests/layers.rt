@@ -87,7 +87,7 @@ fn turns(rt: HostRuntime) -> Result<(), Fail> {
     Ok(())
 }
 
-// Past the last slot there is 0, and a write is none. For too many slots there is no memory.
+// Past the last slot there is 0, and a write is none. Too many slots are out of memory.
 #[test]
 fn a_frame(rt: HostRuntime) -> Result<(), Fail> {
     let mut frame = Frame::new(rt.alloc(), 2, 9, 3)?;

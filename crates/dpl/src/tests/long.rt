@@ -6,6 +6,7 @@ use super::written;
 use std::test::Fail;
 
 const NAMES: usize = 20;
+
 const STATEMENTS: u8 = 150;
 
 // One of the names that statement `k` has: it writes the one at step 7, and reads those at steps 11 and 13.

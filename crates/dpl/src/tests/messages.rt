@@ -8,7 +8,10 @@ use std::test::Fail;
 fn settings(rt: HostRuntime) -> Result<(), Fail> {
     let rows = [
         (ConfigFault::Locales, "there are not 1 to 64 locales"),
-        (ConfigFault::Budget, "the budget is not from 1 to 4294967296"),
+        (
+            ConfigFault::Budget,
+            "the budget is not from 1 to 4294967296",
+        ),
         (ConfigFault::Tries, "the tries are not from 1 to 4294967296"),
         (
             ConfigFault::Grid2,
