@@ -9,7 +9,7 @@ ghost use Rattle.dpl_meaning.specs.Meaning.{over as over_of, stride_of, stride_a
 ghost use Rattle.dpl_meaning.specs.Slots.{by_slot};
 ghost use Rattle.dpl_meaning.specs.Bodies.{IsBody};
 ghost use Rattle.dpl_turn.specs.Frames.{TurnEnds};
-ghost use Rattle.dpl_run.specs.Runs.{RangeGives};
+ghost use Rattle.dpl_run.specs.Runs.{RangeGives, turn_by_slot, forall_by_slot};
 
 use dpl_range::{Range, RangeFault};
 use dpl_syntax::tree::{Bounds, Name, Stmt, Stride};
@@ -84,7 +84,8 @@ fn turn_at(
 ) -> Result<(), Fault>
     requires within { k < length (members_of range) }
     requires body { IsBody (stmt_view bound body.now) }
-    ensures ends { (i : ℤ) (out : List ℕ) → slice_get (members_of range) k ≡ Some i → TurnEnds result frame.new.values out (named_turn_of by_slot (placed bound variable.now) (exec by_slot (stmt_view bound body.now) frame.old.budget) i frame.old.values out) }
+    ensures ends { (i : ℤ) (out : List ℕ) → slice_get (members_of range) k ≡ Some i
+        → TurnEnds result frame.new.values out (turn_by_slot variable.now body.now frame.old.budget i frame.old.values out) }
     ensures budget { frame.new.budget ≡ frame.old.budget }
 {
     let Some(i) = range.nth(k) else {
@@ -103,7 +104,8 @@ fn turn_at(
 // The turns of a range, in its order.
 fn turns(range: Range, variable: &Name, body: &Stmt, frame: &mut Frame) -> Result<(), Fault>
     requires { IsBody (stmt_view bound body.now) }
-    ensures ends { (out : List ℕ) → TurnEnds result frame.new.values out (in_turn (named_turn_of by_slot (placed bound variable.now) (exec by_slot (stmt_view bound body.now) frame.old.budget)) (members_of range) frame.old.values out) }
+    ensures ends { (out : List ℕ) → let turn = turn_by_slot variable.now body.now frame.old.budget in
+        TurnEnds result frame.new.values out (in_turn turn (members_of range) frame.old.values out) }
     ensures budget { frame.new.budget ≡ frame.old.budget }
 {
     for k in 0..range.size() {
@@ -126,7 +128,8 @@ pub(crate) fn forall(
     frame: &mut Frame,
 ) -> Result<(), Fault>
     requires { IsBody (stmt_view bound body.now) }
-    ensures ends { (out : List ℕ) → TurnEnds result frame.new.values out (with_value (over_of by_slot (bounds_view bound over.now) frame.old.values) out (λ is. budgeted frame.old.budget at is (in_turn (named_turn_of by_slot (placed bound variable.now) (exec by_slot (stmt_view bound body.now) frame.old.budget)) is) frame.old.values out)) }
+    ensures ends { (out : List ℕ) → TurnEnds result frame.new.values out
+        (forall_by_slot at variable.now over.now body.now frame.old.budget frame.old.values out) }
     ensures budget { frame.new.budget ≡ frame.old.budget }
 {
     let range = indices(over, frame)?;

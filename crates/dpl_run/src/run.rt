@@ -68,12 +68,16 @@ pub fn run_checked<R: Sync, G: Gate + Sync, W: Out>(
 ) -> Result<Outcome, Refused>
     requires { W.has_failed out.old ≡ false }
     // What is written, and the outcome, are those of the meaning.
-    ensures means { IfOk result (λ outcome. (said : List ℕ) × Means (tree_view spelled program.now) config.now.budget outcome said × Appends (W.contents out.old) (W.contents out.new) said) }
+    ensures means { IfOk result (λ outcome. (said : List ℕ) × Appends (W.contents out.old) (W.contents out.new) said
+        × Means (tree_view spelled program.now) config.now.budget outcome said) }
     ensures unfailed { OnOk result (W.has_failed out.new ≡ false) }
     // Without memory nothing was written.
-    ensures memory { result ≡ Err Refused.Memory → Keeps (W.contents out.old) (W.contents out.new) × (W.has_failed out.new ≡ false) }
+    ensures memory { result ≡ Err Refused.Memory
+        → Keeps (W.contents out.old) (W.contents out.new) × (W.has_failed out.new ≡ false) }
     // A writer that failed holds the first bytes of what the meaning writes.
-    ensures writer { result ≡ Err Refused.Writer → (W.has_failed out.new ≡ true) × Partly (W.contents out.old) (W.contents out.new) (written (meaning (tree_view spelled program.now) config.now.budget)) }
+    ensures writer { result ≡ Err Refused.Writer → (W.has_failed out.new ≡ true)
+        × Partly (W.contents out.old) (W.contents out.new)
+        (written (meaning (tree_view spelled program.now) config.now.budget)) }
 {
     let _ = rt;
     let _ = gate;

@@ -40,7 +40,9 @@ fn write_line(
     frame: &Frame,
     out: &mut Vec<u8>,
 ) -> Result<(), Halt>
-    ensures { RunEnds result frame.now.values out.new.items (with_value (text_of by_slot (map (expr_view bound) arguments.now) frame.now.values []) out.old.items (λ text. Done frame.now.values (out.old.items ++ (text ++ 10 ∷ [])))) }
+    ensures { RunEnds result frame.now.values out.new.items
+        (with_value (text_of by_slot (map (expr_view bound) arguments.now) frame.now.values []) out.old.items
+        (λ text. Done frame.now.values (out.old.items ++ (text ++ 10 ∷ [])))) }
 {
     let mut text = Vec::new(alloc);
     for e in arguments {
