@@ -8,17 +8,17 @@ use mathlib.Core.Logic.{dite}
 use native.Mathlib.Decide.{ℕ_discrete}
 use lib.ListN.{get_elem?}
 use Rattle.atomic_table.specs.Table.{Final, Seen}
-use Rattle.dpl_cell.specs.declared.cell.CellState.{CellState}
-use Rattle.dpl_cell.specs.declared.cell.CellState.TheVariants.{Empty}
-use Rattle.dpl_cell.specs.declared.cell.CellOp.{CellOp}
-use Rattle.dpl_cell.specs.declared.history.Event.{Event}
-use Rattle.dpl_cell.specs.declared.history.Miss.{Miss}
+use Rattle.dpl_history.specs.declared.cell.CellState.{CellState}
+use Rattle.dpl_history.specs.declared.cell.CellState.TheVariants.{Empty}
+use Rattle.dpl_history.specs.declared.cell.CellOp.{CellOp}
+use Rattle.dpl_history.specs.declared.history.Event.{Event}
+use Rattle.dpl_history.specs.declared.history.Miss.{Miss}
 use Rattle.dpl_cell.specs.declared.view.View.{View}
-use Rattle.dpl_cell.specs.Histories.{cell_at, after, Legal, AllUpTo}
-use Rattle.dpl_cell.specs.Looks.{Agrees}
+use Rattle.dpl_history.specs.Histories.{cell_at, after, Legal, AllUpTo}
+use Rattle.dpl_history.specs.Looks.{Agrees}
 use Rattle.dpl_cell.specs.Views.{Has, AnswersForAll}
 use Rattle.dpl_cell.specs.Rule.{cell_of, IsPending, IsTrueMiss, IsKept}
-use Rattle.dpl_cell.proofs.Histories.{whole, length-after}
+use Rattle.dpl_history.proofs.Histories.{whole, length-after}
 use Rattle.dpl_cell.proofs.Views.{holds_nothing}
 use Rattle.dpl_cell.proofs.Looking.{Rule, word_at}
 

@@ -7,14 +7,14 @@ use mathlib.Core.Option.{some, none}
 use lib.ListN.{get_elem?}
 use Rattle.atomic_table.specs.Table.{step, keeps, Allows, Joins}
 use Rattle.atomic_table.proofs.Lists.{at_set, set_else}
-use Rattle.dpl_cell.specs.declared.cell.CellState.{CellState}
-use Rattle.dpl_cell.specs.declared.history.Event.{Event}
+use Rattle.dpl_history.specs.declared.cell.CellState.{CellState}
+use Rattle.dpl_history.specs.declared.history.Event.{Event}
 use Rattle.dpl_cell.specs.declared.view.View.{View}
-use Rattle.dpl_cell.specs.Histories.{Legal, of_task, AllUpTo, StartsWith}
+use Rattle.dpl_history.specs.Histories.{Legal, of_task, AllUpTo, StartsWith}
 use Rattle.dpl_cell.specs.Views.{Has, longer}
 use Rattle.dpl_cell.specs.Rule.{Grows, IsTrueMiss, Knows}
 use Rattle.dpl_cell.specs.Steps.{TokenState, growth, gathered, spent, vouched}
-use Rattle.dpl_cell.proofs.Histories.{StartsWith-same, StartsWith-between, of_task-between, Legal-append_left, All-append_left}
+use Rattle.dpl_history.proofs.Histories.{StartsWith-same, StartsWith-between, of_task-between, Legal-append_left, All-append_left}
 use Rattle.dpl_cell.proofs.Numbers.{Has-nil, Has-append_cases}
 use Rattle.dpl_cell.proofs.Views.{each_set, no_hold, holds_nothing, HeldBy-set_other}
 use Rattle.dpl_cell.proofs.Looking.{Rule, Rule-same}

@@ -1,6 +1,5 @@
 -- The lemmas, from plain lists up to the steps of a board and what its calls tell.
 -- `SeatLists` is for callers too, who take seats from the list that `new` hands out.
-pub mod Histories
 pub mod Numbers
 pub mod Views
 pub mod Looking

@@ -10,17 +10,17 @@ use native.Mathlib.Decide.{ℕ_discrete}
 use lib.ListN.{get_elem?}
 use Rattle.atomic_table.specs.Table.{State, step, keeps, stepped, Allows}
 use Rattle.atomic_table.proofs.Lists.{set_again}
-use Rattle.dpl_cell.specs.declared.cell.CellState.{CellState}
-use Rattle.dpl_cell.specs.declared.cell.CellOp.{CellOp}
-use Rattle.dpl_cell.specs.declared.history.Event.{Event}
-use Rattle.dpl_cell.specs.declared.history.Miss.{Miss}
+use Rattle.dpl_history.specs.declared.cell.CellState.{CellState}
+use Rattle.dpl_history.specs.declared.cell.CellOp.{CellOp}
+use Rattle.dpl_history.specs.declared.history.Event.{Event}
+use Rattle.dpl_history.specs.declared.history.Miss.{Miss}
 use Rattle.dpl_cell.specs.declared.view.View.{View}
-use Rattle.dpl_cell.specs.Histories.{cell_at, after, Legal, AllUpTo}
-use Rattle.dpl_cell.specs.Looks.{state_word, miss}
+use Rattle.dpl_history.specs.Histories.{cell_at, after, Legal, AllUpTo}
+use Rattle.dpl_history.specs.Looks.{state_word, miss}
 use Rattle.dpl_cell.specs.Views.{Has}
 use Rattle.dpl_cell.specs.Rule.{cell_of, IsTrueMiss, Knows, IsKept}
 use Rattle.dpl_cell.specs.Steps.{TokenState, Sees, looked}
-use Rattle.dpl_cell.proofs.Histories.{StartsWith-same}
+use Rattle.dpl_history.proofs.Histories.{StartsWith-same}
 use Rattle.dpl_cell.proofs.Views.{each_set, HeldBy-set_same}
 
 state_word-cell_of : (w n : ℕ) → w < 2 → state_word (cell_of w n) ≡ w

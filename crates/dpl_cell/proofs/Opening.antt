@@ -4,11 +4,11 @@ use Rattle.std.proofs.Common.{◌≡◌, ◌≢◌, ℕ, zero, suc, ◌+◌, ◌
 use Rattle.std.proofs.lemmas.List.Elements.{All-nil}
 use mathlib.Core.Option.{some, some-injective, some-ne-none}
 use lib.ListN.{get_elem?}
-use Rattle.dpl_cell.specs.declared.cell.CellState.{CellState}
-use Rattle.dpl_cell.specs.declared.history.Event.{Event}
+use Rattle.dpl_history.specs.declared.cell.CellState.{CellState}
+use Rattle.dpl_history.specs.declared.history.Event.{Event}
 use Rattle.dpl_cell.specs.declared.view.View.{View}
 use Rattle.dpl_cell.specs.declared.rule.Plan.{Plan}
-use Rattle.dpl_cell.specs.Histories.{cell_at}
+use Rattle.dpl_history.specs.Histories.{cell_at}
 use Rattle.dpl_cell.specs.Views.{Has}
 use Rattle.dpl_cell.specs.Rule.{cell_of, Grows, IsTrueMiss, Knows, IsKept, numbers_from, first_view, AreOpening}
 use Rattle.dpl_cell.specs.Steps.{first_of, rest_of, without_first, with_first}

@@ -8,18 +8,18 @@ use native.Mathlib.Decide.{ℕ_discrete}
 use lib.ListN.{get_elem?}
 use prog.Atomic.{either}
 use Rattle.atomic_table.specs.Table.{step, keeps, stepped, Allows}
-use Rattle.dpl_cell.specs.declared.cell.CellState.{CellState}
-use Rattle.dpl_cell.specs.declared.cell.CellOp.{CellOp}
-use Rattle.dpl_cell.specs.declared.cell.Reply.{Reply}
-use Rattle.dpl_cell.specs.declared.history.Event.{Event}
-use Rattle.dpl_cell.specs.declared.history.Miss.{Miss}
+use Rattle.dpl_history.specs.declared.cell.CellState.{CellState}
+use Rattle.dpl_history.specs.declared.cell.CellOp.{CellOp}
+use Rattle.dpl_history.specs.declared.cell.Reply.{Reply}
+use Rattle.dpl_history.specs.declared.history.Event.{Event}
+use Rattle.dpl_history.specs.declared.history.Miss.{Miss}
 use Rattle.dpl_cell.specs.declared.view.Hold.{Hold}
 use Rattle.dpl_cell.specs.declared.view.View.{View}
-use Rattle.dpl_cell.specs.Cells.{effect}
-use Rattle.dpl_cell.specs.Histories.{cell_at, after, Legal, of_task, event, AllUpTo}
+use Rattle.dpl_history.specs.Cells.{effect}
+use Rattle.dpl_history.specs.Histories.{cell_at, after, Legal, of_task, event, AllUpTo}
 use Rattle.dpl_cell.specs.Rule.{cell_of, IsPending, IsTrueMiss, Knows, IsKept}
 use Rattle.dpl_cell.specs.Steps.{TokenState, Adds, published}
-use Rattle.dpl_cell.proofs.Histories.{StartsWith-same, StartsWith-append, Legal-push, cell_at-push_same, cell_at-push_other, of_task-push_other, AllUpTo-push, Agrees-append, Agrees-push}
+use Rattle.dpl_history.proofs.Histories.{StartsWith-same, StartsWith-append, Legal-push, cell_at-push_same, cell_at-push_other, of_task-push_other, AllUpTo-push, Agrees-append, Agrees-push}
 use Rattle.dpl_cell.proofs.Views.{each_set, no_hold, holds_other, HeldBy-set_other}
 use Rattle.dpl_cell.proofs.Looking.{Rule, word_at}
 

@@ -6,7 +6,7 @@ use mathlib.Core.Option.{some}
 use lib.ListN.{get_elem?}
 use Rattle.atomic_table.specs.Table.{Splits}
 use Rattle.atomic_table.proofs.Lists.{at_longer}
-use Rattle.dpl_cell.specs.declared.cell.CellState.{CellState}
+use Rattle.dpl_history.specs.declared.cell.CellState.{CellState}
 use Rattle.dpl_cell.specs.declared.view.View.{View}
 use Rattle.dpl_cell.specs.Views.{Has}
 use Rattle.dpl_cell.specs.Rule.{Grows, IsTrueMiss, Knows}

@@ -8,12 +8,12 @@ use native.Mathlib.Decide.{ℕ_discrete}
 use lib.ListN.{get_elem?}
 use prog.Atomic.{either}
 use Rattle.atomic_table.specs.Table.{step, keeps, stepped, Allows}
-use Rattle.dpl_cell.specs.declared.cell.CellState.{CellState}
-use Rattle.dpl_cell.specs.declared.history.Event.{Event}
-use Rattle.dpl_cell.specs.declared.history.Miss.{Miss}
+use Rattle.dpl_history.specs.declared.cell.CellState.{CellState}
+use Rattle.dpl_history.specs.declared.history.Event.{Event}
+use Rattle.dpl_history.specs.declared.history.Miss.{Miss}
 use Rattle.dpl_cell.specs.declared.view.Hold.{Hold}
 use Rattle.dpl_cell.specs.declared.view.View.{View}
-use Rattle.dpl_cell.specs.Looks.{miss}
+use Rattle.dpl_history.specs.Looks.{miss}
 use Rattle.dpl_cell.specs.Views.{Has}
 use Rattle.dpl_cell.specs.Rule.{cell_of, AnswersFor, Holds, HeldBy, IsPending, IsTrueMiss, Knows, IsKept}
 use Rattle.dpl_cell.specs.Steps.{TokenState, hold, taken, seized}

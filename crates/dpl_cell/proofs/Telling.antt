@@ -2,21 +2,21 @@
 -- A try is a taking and a publishing, or a miss; `op` is some misses and then a try; a join is followed by what the rule vouches for.
 use Rattle.std.proofs.Common.{◌≡◌, ℕ, ◌+◌, ◌≤◌, List, [], ◌∷◌, ◌++◌, length, Some, sym, refl, ap, ◌∙◌, subst, arith, append_assoc, length-append, All}
 use Rattle.std.proofs.lemmas.List.Elements.{All-append, All-weaker, All-nil, All-cons, All-head, All-tail}
-use Rattle.dpl_cell.specs.declared.cell.CellState.{CellState}
-use Rattle.dpl_cell.specs.declared.cell.CellOp.{CellOp}
-use Rattle.dpl_cell.specs.declared.cell.Reply.{Reply}
-use Rattle.dpl_cell.specs.declared.history.Event.{Event}
-use Rattle.dpl_cell.specs.declared.history.Miss.{Miss}
+use Rattle.dpl_history.specs.declared.cell.CellState.{CellState}
+use Rattle.dpl_history.specs.declared.cell.CellOp.{CellOp}
+use Rattle.dpl_history.specs.declared.cell.Reply.{Reply}
+use Rattle.dpl_history.specs.declared.history.Event.{Event}
+use Rattle.dpl_history.specs.declared.history.Miss.{Miss}
 use Rattle.dpl_cell.specs.declared.view.Growth.{Growth}
 use Rattle.dpl_cell.specs.declared.view.Hold.{Hold}
 use Rattle.dpl_cell.specs.declared.view.View.{View}
-use Rattle.dpl_cell.specs.Cells.{effect}
-use Rattle.dpl_cell.specs.Histories.{of_task, event, StartsWith}
-use Rattle.dpl_cell.specs.Looks.{miss}
+use Rattle.dpl_history.specs.Cells.{effect}
+use Rattle.dpl_history.specs.Histories.{of_task, event, StartsWith}
+use Rattle.dpl_history.specs.Looks.{miss}
 use Rattle.dpl_cell.specs.Views.{Has, KeepsNumbers, Did, Missed, IsMissAt, Waited, longer, Joined}
 use Rattle.dpl_cell.specs.Rule.{cell_of, Grows}
 use Rattle.dpl_cell.specs.Steps.{TokenState, hold, Took, Ends, growth, gathered}
-use Rattle.dpl_cell.proofs.Histories.{of_task-push_same, of_task-push_other, StartsWith-trans, StartsWith-length}
+use Rattle.dpl_history.proofs.Histories.{of_task-push_same, of_task-push_other, StartsWith-trans, StartsWith-length}
 use Rattle.dpl_cell.proofs.Taking.{holding}
 
 Did-holding : (v : View) (h : Hold) (m m' : TokenState) (c : ℕ) (op : CellOp) (r : Reply) → Has v.number v.numbers → Ends (holding v h, m.1) c op r m' → Did v c op r m'.0

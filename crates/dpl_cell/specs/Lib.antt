@@ -1,8 +1,6 @@
--- The definitions that the contracts cite, in reading order: cells, histories, looks, what a seat knows and is told.
+-- The definitions that the contracts cite, in reading order: what a seat knows and is told. They stand on the cells, histories
+-- and looks of dpl_history.
 -- `Rule` and `Steps` are for the private functions alone: how all of it is kept.
-pub mod Cells
-pub mod Histories
-pub mod Looks
 pub mod Views
 pub mod Seats
 pub mod Rule

@@ -5,17 +5,17 @@ use Rattle.std.specs.Int.{w64, cast_signed}
 use mathlib.Core.Option.{some}
 use lib.ListN.{get_elem?}
 use Rattle.atomic_table.specs.Table.{State}
-use Rattle.dpl_cell.specs.declared.cell.CellState.{CellState}
-use Rattle.dpl_cell.specs.declared.cell.CellState.TheVariants.{Empty, Full}
-use Rattle.dpl_cell.specs.declared.cell.CellOp.{CellOp}
-use Rattle.dpl_cell.specs.declared.history.Event.{Event}
-use Rattle.dpl_cell.specs.declared.history.Miss.{Miss}
+use Rattle.dpl_history.specs.declared.cell.CellState.{CellState}
+use Rattle.dpl_history.specs.declared.cell.CellState.TheVariants.{Empty, Full}
+use Rattle.dpl_history.specs.declared.cell.CellOp.{CellOp}
+use Rattle.dpl_history.specs.declared.history.Event.{Event}
+use Rattle.dpl_history.specs.declared.history.Miss.{Miss}
 use Rattle.dpl_cell.specs.declared.view.Growth.{Growth}
 use Rattle.dpl_cell.specs.declared.view.Hold.{Hold}
 use Rattle.dpl_cell.specs.declared.view.View.{View}
 use Rattle.dpl_cell.specs.declared.rule.Plan.{Plan}
-use Rattle.dpl_cell.specs.Histories.{cell_at, after, Legal, of_task, AllUpTo, StartsWith}
-use Rattle.dpl_cell.specs.Looks.{Agrees}
+use Rattle.dpl_history.specs.Histories.{cell_at, after, Legal, of_task, AllUpTo, StartsWith}
+use Rattle.dpl_history.specs.Looks.{Agrees}
 use Rattle.dpl_cell.specs.Views.{Has}
 
 -- the cell that a state word and a value word stand for

@@ -2,8 +2,8 @@
 -- A board and a seat are seen by these values alone, and by no field.
 use Rattle.std.specs.Prelude.{◌≡◌, ℕ, List, [], ◌∷◌, None}
 use Rattle.atomic_table.specs.Seated.{TableId}
-use Rattle.dpl_cell.specs.declared.cell.CellState.{CellState}
-use Rattle.dpl_cell.specs.declared.cell.Reply.{Reply}
+use Rattle.dpl_history.specs.declared.cell.CellState.{CellState}
+use Rattle.dpl_history.specs.declared.cell.Reply.{Reply}
 use Rattle.dpl_cell.specs.declared.view.View.{View}
 use Rattle.dpl_cell.specs.declared.tried.Tried.{Tried}
 use Rattle.dpl_cell.specs.declared.tried.Tried.TheVariants.{Done, Missed}

@@ -3,16 +3,16 @@
 use Rattle.std.specs.Prelude.{◌≡◌, ◌≢◌, ℕ, ◌<◌, List, [], ◌∷◌, ◌++◌, All, length, Some, None}
 use mathlib.Core.Option.{some}
 use Rattle.atomic_table.specs.Table.{Me, Step}
-use Rattle.dpl_cell.specs.declared.cell.CellState.{CellState}
-use Rattle.dpl_cell.specs.declared.cell.CellOp.{CellOp}
-use Rattle.dpl_cell.specs.declared.cell.Reply.{Reply}
-use Rattle.dpl_cell.specs.declared.history.Event.{Event}
+use Rattle.dpl_history.specs.declared.cell.CellState.{CellState}
+use Rattle.dpl_history.specs.declared.cell.CellOp.{CellOp}
+use Rattle.dpl_history.specs.declared.cell.Reply.{Reply}
+use Rattle.dpl_history.specs.declared.history.Event.{Event}
 use Rattle.dpl_cell.specs.declared.view.Growth.{Growth}
 use Rattle.dpl_cell.specs.declared.view.Hold.{Hold}
 use Rattle.dpl_cell.specs.declared.view.View.{View}
-use Rattle.dpl_cell.specs.Cells.{effect}
-use Rattle.dpl_cell.specs.Histories.{Legal, of_task, event, StartsWith, AllUpTo}
-use Rattle.dpl_cell.specs.Looks.{miss}
+use Rattle.dpl_history.specs.Cells.{effect}
+use Rattle.dpl_history.specs.Histories.{Legal, of_task, event, StartsWith, AllUpTo}
+use Rattle.dpl_history.specs.Looks.{miss}
 use Rattle.dpl_cell.specs.Views.{Has, longer}
 use Rattle.dpl_cell.specs.Rule.{cell_of, Grows}
 

@@ -2,13 +2,13 @@
 -- A seat acts as one number, answers for some, and knows a history, its own numbers' events in it, and their misses.
 use Rattle.std.specs.Prelude.{◌≡◌, ◌≢◌, ℕ, ◌<◌, ◌≤◌, List, [], ◌∷◌, ◌++◌, All, length, true, if◌then◌else◌, nat_le, ◌==◌}
 use Rattle.std.specs.List.{list_any}
-use Rattle.dpl_cell.specs.declared.cell.CellOp.{CellOp}
-use Rattle.dpl_cell.specs.declared.cell.Reply.{Reply}
-use Rattle.dpl_cell.specs.declared.history.Event.{Event}
-use Rattle.dpl_cell.specs.declared.history.Miss.{Miss}
+use Rattle.dpl_history.specs.declared.cell.CellOp.{CellOp}
+use Rattle.dpl_history.specs.declared.cell.Reply.{Reply}
+use Rattle.dpl_history.specs.declared.history.Event.{Event}
+use Rattle.dpl_history.specs.declared.history.Miss.{Miss}
 use Rattle.dpl_cell.specs.declared.view.View.{View}
-use Rattle.dpl_cell.specs.Histories.{event, of_task, StartsWith}
-use Rattle.dpl_cell.specs.Looks.{fits, miss}
+use Rattle.dpl_history.specs.Histories.{event, of_task, StartsWith}
+use Rattle.dpl_history.specs.Looks.{fits, miss}
 
 -- k is among the numbers
 abbrev pub Has : ℕ → List ℕ → Type 0

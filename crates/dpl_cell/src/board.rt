@@ -1,16 +1,16 @@
 //! A board of cells and its calls: `new` opens it, `try_op` and `op` act on a cell, `join` puts what two seats know
 //! together, and `close` gives the cells back. No call waits and no lock stands behind one; `new` alone takes memory.
 ghost use Rattle.std.specs.Prelude.{◌≡◌, ℕ, ◌+◌, ◌<◌, ◌≤◌, length, vec_len, All, Some, slice_get, IfOk, IfErr};
-ghost use Rattle.dpl_cell.specs.Histories.{legal, Legal, AllUpTo};
-ghost use Rattle.dpl_cell.specs.Looks.{Agrees};
+ghost use Rattle.dpl_history.specs.Histories.{legal, Legal, AllUpTo};
+ghost use Rattle.dpl_history.specs.Looks.{Agrees};
 ghost use Rattle.dpl_cell.specs.Views.{AnswersForAll, KeepsNumbers, Did, DidAfter, Missed, Waited, Joined};
 ghost use Rattle.dpl_cell.specs.Seats.{SeatValue, IsSeatOf, fresh_seat, IfDone, IfMissed};
 
-use crate::cell::{CellOp, CellState, Reply};
 use crate::rule::Plan;
 use crate::seat::Seat;
 use crate::tried::{NoMemory, Stuck, Tried};
 use crate::words::Words;
+use dpl_history::{CellOp, CellState, Reply};
 use std::alloc::Global;
 use std::marker::Model;
 

@@ -1,39 +1,9 @@
-//! A cell and its operations, for one thread.
-//! `apply` is the language's rule of each operation; a board does the same for many threads.
+//! What an operation does to a cell of one thread.
+//! It is the language's rule of each operation; a board does the same for many threads.
 ghost use Rattle.std.specs.Prelude.{◌≡◌, IfSome, IfNone, None, Some};
-ghost use Rattle.dpl_cell.specs.Cells.{effect};
+ghost use Rattle.dpl_history.specs.Cells.{effect};
 
-/// A cell is empty, or full of one value.
-#[derive(Clone, Copy, Debug, PartialEq)]
-pub enum CellState {
-    Empty,
-    Full(i64),
-}
-
-/// An operation on a cell. The letters say for which state it waits and in which it leaves the cell: full (`F`),
-/// empty (`E`), or whatever the state (`X`).
-#[derive(Clone, Copy, Debug, PartialEq)]
-pub enum CellOp {
-    /// Waits for full, reads, leaves empty.
-    ReadFE,
-    /// Waits for full, reads, leaves full.
-    ReadFF,
-    /// Waits for empty, writes, leaves full.
-    WriteEF(i64),
-    /// Waits for full, writes, leaves full.
-    WriteFF(i64),
-    /// Writes whatever the state, leaves full.
-    WriteXF(i64),
-    /// Leaves empty whatever the state.
-    Reset,
-}
-
-/// What an operation answers: the value that it read, or that it was done.
-#[derive(Clone, Copy, Debug, PartialEq)]
-pub enum Reply {
-    Value(i64),
-    Done,
-}
+use dpl_history::{CellOp, CellState, Reply};
 
 /// Does the operation on a cell of one thread. `None` where it would wait, and the cell is then as it was.
 pub fn apply(cell: &mut CellState, op: CellOp) -> Option<Reply>

@@ -4,7 +4,6 @@
 
 mod board;
 mod cell;
-mod history;
 mod rule;
 mod seat;
 mod steps;
@@ -13,8 +12,8 @@ mod view;
 mod words;
 
 pub use board::Board;
-pub use cell::{CellOp, CellState, Reply, apply};
-pub use history::{Event, Miss};
+pub use cell::apply;
+pub use dpl_history::{CellOp, CellState, Event, Miss, Reply};
 pub use seat::Seat;
 pub use tried::{NoMemory, Stuck, Tried};
 pub use view::{Growth, Hold, View};

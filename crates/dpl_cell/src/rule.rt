@@ -1,8 +1,8 @@
 //! The rule of a board's words, told to the table that has them.
 //! `specs/Rule.antt` says what it is.
-use crate::cell::{CellOp, CellState};
 use crate::view::View;
 use atomic_table::TableRule;
+use dpl_history::{CellOp, CellState};
 use std::alloc::Global;
 
 /// What a board is made with.

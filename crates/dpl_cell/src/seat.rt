@@ -1,7 +1,7 @@
 //! A seat at a board: what a task acts with.
 //! It has no bytes. What it knows of the board is for the proofs.
-use crate::cell::CellOp;
 use crate::view::View;
+use dpl_history::CellOp;
 use std::marker::Model;
 
 pub(crate) type Token = atomic_table::Seat<CellOp, View>;

@@ -1,8 +1,8 @@
 //! The steps of a seat on the words, each with what it tells, and how seats are cut off and joined.
 //! `specs/Steps.antt` has the definitions.
-use crate::cell::CellOp;
 use crate::view::View;
 use atomic_table::{Join, Play, Split};
+use dpl_history::CellOp;
 
 // A load of a state word, which fits where it is `FIT`.
 pub(crate) struct Look<const FIT: u64>;

@@ -1,6 +1,6 @@
 //! What a call on a board can come to beside success.
 //! No call but `Board::new` takes memory.
-use crate::cell::Reply;
+use dpl_history::Reply;
 use std::alloc::AllocError;
 
 /// There was no memory for a board.

@@ -1,7 +1,6 @@
 //! What a seat knows, as plain data.
 //! The proofs alone have such values; no code makes one.
-use crate::cell::CellState;
-use crate::history::{Event, Miss};
+use dpl_history::{CellState, Event, Miss};
 use std::collections::LinkedList;
 
 /// What a seat knows of its board.

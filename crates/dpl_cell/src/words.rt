@@ -2,22 +2,23 @@
 //! Of n cells, word c is the state of cell c, word n + c its value, and one last word is there for a board without cells.
 ghost use Rattle.std.specs.Prelude.{◌≡◌, ◌≢◌, ℕ, ◌+◌, ◌<◌, List, [], ◌∷◌, length, vec_len, All, None, Some, MatchResult, IfOk};
 ghost use Rattle.std.specs.Int.{w64, cast_signed};
-ghost use Rattle.dpl_cell.specs.Cells.{effect};
-ghost use Rattle.dpl_cell.specs.Histories.{legal, Legal, AllUpTo};
-ghost use Rattle.dpl_cell.specs.Looks.{fits, Agrees};
+ghost use Rattle.dpl_history.specs.Cells.{effect};
+ghost use Rattle.dpl_history.specs.Histories.{legal, Legal, AllUpTo};
+ghost use Rattle.dpl_history.specs.Looks.{fits, Agrees};
 ghost use Rattle.dpl_cell.specs.Views.{Has, AnswersForAll, Joined};
 ghost use Rattle.dpl_cell.specs.Rule.{cell_of, first_view, numbers_from, AreOpening};
 ghost use Rattle.dpl_cell.specs.Steps.{hold, SeesMiss, Took, Ends, Publishes, without_first, with_first};
-ghost use Rattle.dpl_cell.specs.declared.cell.CellState.{CellState};
-ghost use Rattle.dpl_cell.specs.declared.cell.Reply.{Reply};
+ghost use Rattle.dpl_history.specs.declared.cell.CellState.{CellState};
+ghost use Rattle.dpl_history.specs.declared.cell.Reply.{Reply};
 ghost use Rattle.dpl_cell.specs.declared.view.Hold.{Hold};
 
-use crate::cell::{CellOp, CellState, Reply, apply};
+use crate::cell::apply;
 use crate::rule::{CellRule, Plan};
 use crate::seat::Token;
 use crate::steps::{Gather, GiveFirst, Look, Publish, ReadValue, Seize, Take, Vouch, WriteValue};
 use crate::view::View;
 use atomic_table::Table;
+use dpl_history::{CellOp, CellState, Reply};
 use std::alloc::{AllocError, Global};
 
 // The words of a state: empty, full, and busy while a seat holds the cell.

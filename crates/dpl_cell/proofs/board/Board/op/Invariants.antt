@@ -1,7 +1,7 @@
 -- `op`: all tries so far missed.
 -- After the first, the seat knows a legal history.
 use Rattle.std.proofs.Common.{◌<◌}
-use Rattle.dpl_cell.specs.Histories.{Legal, AllUpTo}
+use Rattle.dpl_history.specs.Histories.{Legal, AllUpTo}
 use Rattle.dpl_cell.specs.Views.{KeepsNumbers, Waited}
 use Rattle.dpl_cell.specs.Seats.{IsSeatOf}
 use Rattle.dpl_cell.proofs.board.Board.op.Given as goal

@@ -1,7 +1,7 @@
 -- `close`: the cells that are filled from the words are those that the seat's history leaves.
 -- By `Closing`.
 use Rattle.std.proofs.Common.{rules, ◌≡◌, ℕ, ◌+◌, ◌<◌, ◌≤◌, length, sym, ◌∙◌, subst, arith}
-use Rattle.dpl_cell.specs.Histories.{cell_at}
+use Rattle.dpl_history.specs.Histories.{cell_at}
 use Rattle.dpl_cell.specs.Rule.{cell_of}
 use Rattle.dpl_cell.proofs.Looking.{word_at}
 use Rattle.dpl_cell.proofs.Closing.{Closes-final, get_or-get_elem?, cell_at-set, after-filled}

@@ -1,7 +1,7 @@
 -- `close`: the cells before the loop's are filled from their words.
 -- The words stay as they are.
 use Rattle.std.proofs.Common.{◌≡◌, ℕ, ◌+◌, ◌<◌, vec_len}
-use Rattle.dpl_cell.specs.Histories.{cell_at}
+use Rattle.dpl_history.specs.Histories.{cell_at}
 use Rattle.dpl_cell.specs.Rule.{cell_of}
 use Rattle.dpl_cell.proofs.Looking.{word_at}
 use Rattle.dpl_cell.proofs.words.Words.close.Given as goal

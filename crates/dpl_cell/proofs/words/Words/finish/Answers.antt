@@ -3,8 +3,8 @@
 use Rattle.std.proofs.Common.{ℕ, Some, refl, ap, ◌∙◌, subst}
 use Rattle.dpl_cell.specs.Rule.{cell_of}
 use Rattle.dpl_cell.specs.Steps.{TokenState, hold, Ends}
-use Rattle.dpl_cell.specs.declared.cell.CellState.{CellState}
-use Rattle.dpl_cell.specs.declared.cell.CellState.TheVariants.{Empty, Full}
+use Rattle.dpl_history.specs.declared.cell.CellState.{CellState}
+use Rattle.dpl_history.specs.declared.cell.CellState.TheVariants.{Empty, Full}
 use Rattle.dpl_cell.specs.declared.view.Hold.{Hold}
 use Rattle.dpl_cell.proofs.Telling.{Ends-holding, effect-read}
 use Rattle.dpl_cell.proofs.words.Words.finish.Goals as goal

@@ -1,13 +1,13 @@
 -- Looks at a cell's state, and when what was seen agrees with a history.
 -- A state is seen as a word: 0 is empty, 1 is full, and 2 is busy, in the midst of an operation.
 use Rattle.std.specs.Prelude.{◌≡◌, ℕ, ◌<◌, ◌≤◌, ◌⊎◌, List, Any, length, take, drop}
-use Rattle.dpl_cell.specs.declared.cell.CellState.{CellState}
-use Rattle.dpl_cell.specs.declared.cell.CellState.TheVariants.{Empty, Full}
-use Rattle.dpl_cell.specs.declared.cell.CellOp.{CellOp}
-use Rattle.dpl_cell.specs.declared.cell.CellOp.TheVariants.{ReadFE, ReadFF, WriteEF, WriteFF, WriteXF, Reset}
-use Rattle.dpl_cell.specs.declared.history.Event.{Event}
-use Rattle.dpl_cell.specs.declared.history.Miss.{Miss}
-use Rattle.dpl_cell.specs.Histories.{cell_at, after}
+use Rattle.dpl_history.specs.declared.cell.CellState.{CellState}
+use Rattle.dpl_history.specs.declared.cell.CellState.TheVariants.{Empty, Full}
+use Rattle.dpl_history.specs.declared.cell.CellOp.{CellOp}
+use Rattle.dpl_history.specs.declared.cell.CellOp.TheVariants.{ReadFE, ReadFF, WriteEF, WriteFF, WriteXF, Reset}
+use Rattle.dpl_history.specs.declared.history.Event.{Event}
+use Rattle.dpl_history.specs.declared.history.Miss.{Miss}
+use Rattle.dpl_history.specs.Histories.{cell_at, after}
 
 -- the word of a cell that is not busy
 abbrev pub state_word : CellState → ℕ

@@ -1,12 +1,12 @@
 -- Cells, and what an operation does to one.
 -- Nothing here knows of histories, words or threads.
 use Rattle.std.specs.Prelude.{Option, Some, None}
-use Rattle.dpl_cell.specs.declared.cell.CellState.{CellState}
-use Rattle.dpl_cell.specs.declared.cell.CellState.TheVariants.{Empty, Full}
-use Rattle.dpl_cell.specs.declared.cell.CellOp.{CellOp}
-use Rattle.dpl_cell.specs.declared.cell.CellOp.TheVariants.{ReadFE, ReadFF, WriteEF, WriteFF, WriteXF, Reset}
-use Rattle.dpl_cell.specs.declared.cell.Reply.{Reply}
-use Rattle.dpl_cell.specs.declared.cell.Reply.TheVariants.{Value, Done}
+use Rattle.dpl_history.specs.declared.cell.CellState.{CellState}
+use Rattle.dpl_history.specs.declared.cell.CellState.TheVariants.{Empty, Full}
+use Rattle.dpl_history.specs.declared.cell.CellOp.{CellOp}
+use Rattle.dpl_history.specs.declared.cell.CellOp.TheVariants.{ReadFE, ReadFF, WriteEF, WriteFF, WriteXF, Reset}
+use Rattle.dpl_history.specs.declared.cell.Reply.{Reply}
+use Rattle.dpl_history.specs.declared.cell.Reply.TheVariants.{Value, Done}
 
 -- The cell afterwards and the reply, or None where the operation waits.
 -- readFE and readFF wait for a full cell, whose value they reply; readFE leaves it empty and readFF as it was.

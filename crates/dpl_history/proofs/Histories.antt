@@ -5,15 +5,15 @@ use Rattle.std.specs.Prelude.{Any}
 use Rattle.std.proofs.lemmas.List.{take-append-le, drop-append-le, get_or_append_left, get_or_push}
 use Rattle.std.proofs.lemmas.List.Elements.{filter-append, All-push, All-nil, All-cons, All-head, All-tail}
 use mathlib.Core.List.{append-nil}
-use Rattle.dpl_cell.specs.declared.cell.CellState.{CellState}
-use Rattle.dpl_cell.specs.declared.cell.CellState.TheVariants.{Empty}
-use Rattle.dpl_cell.specs.declared.cell.CellOp.{CellOp}
-use Rattle.dpl_cell.specs.declared.cell.Reply.{Reply}
-use Rattle.dpl_cell.specs.declared.history.Event.{Event}
-use Rattle.dpl_cell.specs.declared.history.Miss.{Miss}
-use Rattle.dpl_cell.specs.Cells.{effect}
-use Rattle.dpl_cell.specs.Histories.{event, cell_at, left_by, after_event, after, Legal, of_task, AllUpTo, StartsWith}
-use Rattle.dpl_cell.specs.Looks.{state_word, Agrees}
+use Rattle.dpl_history.specs.declared.cell.CellState.{CellState}
+use Rattle.dpl_history.specs.declared.cell.CellState.TheVariants.{Empty}
+use Rattle.dpl_history.specs.declared.cell.CellOp.{CellOp}
+use Rattle.dpl_history.specs.declared.cell.Reply.{Reply}
+use Rattle.dpl_history.specs.declared.history.Event.{Event}
+use Rattle.dpl_history.specs.declared.history.Miss.{Miss}
+use Rattle.dpl_history.specs.Cells.{effect}
+use Rattle.dpl_history.specs.Histories.{event, cell_at, left_by, after_event, after, Legal, of_task, AllUpTo, StartsWith}
+use Rattle.dpl_history.specs.Looks.{state_word, Agrees}
 
 -- Lists of any kind
 

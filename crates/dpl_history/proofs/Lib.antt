@@ -1,0 +1,5 @@
+-- The lemmas: what an event more does to a history, and that a channel hands its values on.
+-- `Worked` has rows of each definition, by computation.
+pub mod Histories
+pub mod Values
+pub mod Worked
