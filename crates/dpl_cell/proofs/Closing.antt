@@ -16,7 +16,7 @@ use Rattle.dpl_history.specs.declared.history.Miss.{Miss}
 use Rattle.dpl_cell.specs.declared.view.View.{View}
 use Rattle.dpl_history.specs.Histories.{cell_at, after, Legal, AllUpTo}
 use Rattle.dpl_history.specs.Looks.{Agrees}
-use Rattle.dpl_cell.specs.Views.{Has, AnswersForAll}
+use Rattle.dpl_cell.specs.Seats.{Has}
 use Rattle.dpl_cell.specs.Rule.{cell_of, IsPending, IsTrueMiss, IsKept}
 use Rattle.dpl_history.proofs.Histories.{whole, length-after}
 use Rattle.dpl_cell.proofs.Views.{holds_nothing}
@@ -50,7 +50,7 @@ module _ (cells : List CellState) (tasks : ℕ) where
         cells = λ c l. subst (λ (z : List CellState × List Event). cell_at (after z.0 z.1) c ≡ cell_of (word_at ws c) (word_at ws (length cells + c))) (λ i. (sym same_cells i, is i)) (k.free c l (not_busy c l)).is;
       }
 
-  pub Closes-final : (id : ℕ) (v : View) (ws : List ℕ) (xs : List CellOp) → Final (Seen (Rule cells tasks) id v) ws xs → v.held ≡ None → Has v.number v.numbers → AnswersForAll v → Closes (length cells) v ws
+  pub Closes-final : (id : ℕ) (v : View) (ws : List ℕ) (xs : List CellOp) → Final (Seen (Rule cells tasks) id v) ws xs → v.held ≡ None → Has v.number v.numbers → ((q : ℕ) → q ≤ v.tasks → Has q v.numbers) → Closes (length cells) v ws
   Closes-final id v ws xs f idle acts all = let s = f.0 in let k = f.1.0 in let t = (k.each id v f.1.1).numbered v.number acts in
       subst (λ (l : List ℕ). Closes (length cells) v l) f.2
       (Closes-kept s.words s.views k id v f.1.1 idle t.opening t.tasks_is (λ q h. all q (subst (λ (m : ℕ). q ≤ m) (sym t.tasks_is) h)))

@@ -11,7 +11,8 @@ use Rattle.dpl_history.specs.declared.cell.CellState.{CellState}
 use Rattle.dpl_history.specs.declared.history.Event.{Event}
 use Rattle.dpl_cell.specs.declared.view.View.{View}
 use Rattle.dpl_history.specs.Histories.{Legal, of_task, AllUpTo, StartsWith}
-use Rattle.dpl_cell.specs.Views.{Has, longer}
+use Rattle.dpl_cell.specs.Seats.{Has}
+use Rattle.dpl_cell.specs.Calls.{longer}
 use Rattle.dpl_cell.specs.Rule.{Grows, IsTrueMiss, Knows}
 use Rattle.dpl_cell.specs.Steps.{TokenState, growth, gathered, spent, vouched}
 use Rattle.dpl_history.proofs.Histories.{StartsWith-same, StartsWith-between, of_task-between, Legal-append_left, All-append_left}

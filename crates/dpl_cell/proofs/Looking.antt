@@ -17,7 +17,7 @@ use Rattle.dpl_history.specs.declared.history.Miss.{Miss}
 use Rattle.dpl_cell.specs.declared.view.View.{View}
 use Rattle.dpl_history.specs.Histories.{cell_at, after, Legal, AllUpTo}
 use Rattle.dpl_history.specs.Looks.{state_word, miss}
-use Rattle.dpl_cell.specs.Views.{Has}
+use Rattle.dpl_cell.specs.Seats.{Has}
 use Rattle.dpl_cell.specs.Rule.{cell_of, IsTrueMiss, Knows, IsKept}
 use Rattle.dpl_cell.specs.Steps.{TokenState, Sees, looked}
 use Rattle.dpl_history.proofs.Histories.{StartsWith-same}
@@ -112,5 +112,5 @@ module _ (cells : List CellState) (tasks : ℕ) where
         keeps,
         tt,
         Rule-missed s k id me at c inside,
-        (refl, (λ hit. absurd (not hit)), λ _. record { log = k.log; sees = sees s.words s.views k id me.0 at acts; is = refl }),
+        (refl, (λ hit. absurd (not hit)), λ _. record { small = state_word_small s.words s.views k c inside; log = k.log; sees = sees s.words s.views k id me.0 at acts; is = refl }),
       ))

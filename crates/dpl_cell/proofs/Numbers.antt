@@ -4,7 +4,7 @@ use Rattle.std.proofs.Common.{◌≡◌, ℕ, zero, suc, ◌+◌, ◌<◌, ◌�
 use Rattle.std.specs.List.{list_any}
 use Rattle.std.proofs.Math.Bool.{or-true}
 use Rattle.std.proofs.lemmas.List.Folds.{list_any-append}
-use Rattle.dpl_cell.specs.Views.{Has}
+use Rattle.dpl_cell.specs.Seats.{Has}
 use Rattle.dpl_cell.specs.Rule.{numbers_from}
 
 pub no_true : false ≡ true → ⊥

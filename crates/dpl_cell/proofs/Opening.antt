@@ -9,7 +9,7 @@ use Rattle.dpl_history.specs.declared.history.Event.{Event}
 use Rattle.dpl_cell.specs.declared.view.View.{View}
 use Rattle.dpl_cell.specs.declared.rule.Plan.{Plan}
 use Rattle.dpl_history.specs.Histories.{cell_at}
-use Rattle.dpl_cell.specs.Views.{Has}
+use Rattle.dpl_cell.specs.Seats.{Has}
 use Rattle.dpl_cell.specs.Rule.{cell_of, Grows, IsTrueMiss, Knows, IsKept, numbers_from, first_view, AreOpening}
 use Rattle.dpl_cell.specs.Steps.{first_of, rest_of, without_first, with_first}
 use Rattle.dpl_cell.proofs.Numbers.{Has-numbers_from}

@@ -8,7 +8,7 @@ use Rattle.atomic_table.specs.Table.{Splits}
 use Rattle.atomic_table.proofs.Lists.{at_longer}
 use Rattle.dpl_history.specs.declared.cell.CellState.{CellState}
 use Rattle.dpl_cell.specs.declared.view.View.{View}
-use Rattle.dpl_cell.specs.Views.{Has}
+use Rattle.dpl_cell.specs.Seats.{Has}
 use Rattle.dpl_cell.specs.Rule.{Grows, IsTrueMiss, Knows}
 use Rattle.dpl_cell.specs.Steps.{first_of, rest_of, without_first, with_first}
 use Rattle.dpl_cell.proofs.Numbers.{Has-head, Has-tail, Has-one}

@@ -14,7 +14,7 @@ use Rattle.dpl_history.specs.declared.history.Miss.{Miss}
 use Rattle.dpl_cell.specs.declared.view.Hold.{Hold}
 use Rattle.dpl_cell.specs.declared.view.View.{View}
 use Rattle.dpl_history.specs.Looks.{miss}
-use Rattle.dpl_cell.specs.Views.{Has}
+use Rattle.dpl_cell.specs.Seats.{Has}
 use Rattle.dpl_cell.specs.Rule.{cell_of, AnswersFor, Holds, HeldBy, IsPending, IsTrueMiss, Knows, IsKept}
 use Rattle.dpl_cell.specs.Steps.{TokenState, hold, taken, seized}
 use Rattle.dpl_cell.proofs.Views.{get_elem?-set_same, changed_at, changed_at-same, changed_at-other, each_set, holds_nothing, HeldBy-set_other}
@@ -112,7 +112,7 @@ module _ (cells : List CellState) (tasks : ℕ) where
         keeps,
         tt,
         subst (λ b. Rule cells tasks (stepped s c (either b 2 x) id me.1 u keeps)) (sym (ne_eqb x fit not)) (Rule-missed cells tasks s k id me at c inside),
-        (refl, (λ hit. absurd (not hit)), λ _. record { log = k.log; sees = sees cells tasks s.words s.views k id me.0 at acts; is = refl }),
+        (refl, (λ hit. absurd (not hit)), λ _. record { small = state_word_small cells tasks s.words s.views k c inside; log = k.log; sees = sees cells tasks s.words s.views k id me.0 at acts; is = refl }),
       ))
 
   pub Allows-seize : (slots id : ℕ) (me : TokenState) (c : ℕ) → c < length cells → me.0.held ≡ None → Has me.0.number me.0.numbers
@@ -123,7 +123,7 @@ module _ (cells : List CellState) (tasks : ℕ) where
         keeps,
         tt,
         subst (λ (z : ℕ). Rule cells tasks (stepped s c z id me.1 u keeps)) hit (Rule-missed cells tasks s k id me at c inside),
-        (refl, state_word_small cells tasks s.words s.views k c inside, (λ not. absurd (not hit)), λ _. record { log = k.log; sees = sees cells tasks s.words s.views k id me.0 at acts; is = refl }),
+        (refl, state_word_small cells tasks s.words s.views k c inside, (λ not. absurd (not hit)), λ _. record { small = state_word_small cells tasks s.words s.views k c inside; log = k.log; sees = sees cells tasks s.words s.views k id me.0 at acts; is = refl }),
       ))
       (λ not. (
         holding me.0 (hold c (cell_of x y) y),

@@ -9,20 +9,24 @@ use Rattle.dpl_history.specs.declared.history.Event.{Event}
 use Rattle.dpl_history.specs.declared.history.Miss.{Miss}
 use Rattle.dpl_cell.specs.declared.view.Growth.{Growth}
 use Rattle.dpl_cell.specs.declared.view.Hold.{Hold}
+use Rattle.atomic_table.specs.Seated.{TableId}
 use Rattle.dpl_cell.specs.declared.view.View.{View}
+use Rattle.dpl_cell.specs.Seats.{SeatValue}
+use Rattle.dpl_cell.specs.Shown.{shown_seat}
 use Rattle.dpl_history.specs.Cells.{effect}
 use Rattle.dpl_history.specs.Histories.{of_task, event, StartsWith}
 use Rattle.dpl_history.specs.Looks.{miss}
-use Rattle.dpl_cell.specs.Views.{Has, KeepsNumbers, Did, Missed, IsMissAt, Waited, longer, Joined}
+use Rattle.dpl_cell.specs.Seats.{Has}
+use Rattle.dpl_cell.specs.Calls.{KeepsNumbers, Did, Missed, IsMissAt, Waited, longer, Joined}
 use Rattle.dpl_cell.specs.Rule.{cell_of, Grows}
 use Rattle.dpl_cell.specs.Steps.{TokenState, hold, Took, Ends, growth, gathered}
 use Rattle.dpl_history.proofs.Histories.{of_task-push_same, of_task-push_other, StartsWith-trans, StartsWith-length}
 use Rattle.dpl_cell.proofs.Taking.{holding}
 
-Did-holding : (v : View) (h : Hold) (m m' : TokenState) (c : ℕ) (op : CellOp) (r : Reply) → Has v.number v.numbers → Ends (holding v h, m.1) c op r m' → Did v c op r m'.0
-Did-holding v h m m' c op r acts e = let es : List Event = e.history in let a = e.adds in
+Did-holding : (i j : TableId) (v : View) (h : Hold) (m m' : TokenState) (c : ℕ) (op : CellOp) (r : Reply) → Has v.number v.numbers → Ends (holding v h, m.1) c op r m' → Did (shown_seat i v) c op r (shown_seat j m'.0)
+Did-holding i j v h m m' c op r acts e = let es : List Event = e.history in let a = e.adds in
     let new : Event = event v.number c op r in let before : List Event = v.history ++ a.between in
-    subst (λ (u : View). Did v c op r u) (sym (ap (λ (x : TokenState). x.0) e.is)) record {
+    subst (λ (u : View). Did (shown_seat i v) c op r (shown_seat j u)) (sym (ap (λ (x : TokenState). x.0) e.is)) record {
       begins = (a.between ++ new ∷ [], a.is ∙ append_assoc v.history a.between (new ∷ []));
       ends = (before, a.is);
       mine = ap (of_task v.number) a.is ∙ (of_task-push_same v.number before c op r ∙ ap (λ l. l ++ new ∷ []) (a.quiet v.number acts));
@@ -43,13 +47,13 @@ pub effect-read : (op : CellOp) (state n value : ℕ) (x y : CellState) (r : Rep
 effect-read op state n value x y r same is does = ap (effect op) (sym (is ∙ ap (cell_of state) same)) ∙ does
 
 -- a cell was taken, and given back with the operation done
-pub Did-ends : (v : View) (m m' : TokenState) (c : ℕ) (op : CellOp) (r : Reply) (w : ℕ) → Has v.number v.numbers → Took v c w m.0 → Ends m c op r m' → Did v c op r m'.0
-Did-ends v m m' c op r w acts t e = Did-holding v (hold c (cell_of w t.value) t.value) m m' c op r acts (subst (λ (u : View). Ends (u, m.1) c op r m') t.is e)
+pub Did-ends : (i j : TableId) (v : View) (m m' : TokenState) (c : ℕ) (op : CellOp) (r : Reply) (w : ℕ) → Has v.number v.numbers → Took v c w m.0 → Ends m c op r m' → Did (shown_seat i v) c op r (shown_seat j m'.0)
+Did-ends i j v m m' c op r w acts t e = Did-holding i j v (hold c (cell_of w t.value) t.value) m m' c op r acts (subst (λ (u : View). Ends (u, m.1) c op r m') t.is e)
 
-pub KeepsNumbers-trans : (v u w : View) → KeepsNumbers v u → KeepsNumbers u w → KeepsNumbers v w
+pub KeepsNumbers-trans : (v u w : SeatValue) → KeepsNumbers v u → KeepsNumbers u w → KeepsNumbers v w
 KeepsNumbers-trans v u w a b = (b.0 ∙ a.0, b.1 ∙ a.1)
 
-pub Waited-suc : (n : ℕ) (v u w : View) (c : ℕ) (op : CellOp) (word : ℕ) → Waited n v c op u → KeepsNumbers v u → Missed u c op word w → Waited (n + 1) v c op w
+pub Waited-suc : (n : ℕ) (v u w : SeatValue) (c : ℕ) (op : CellOp) (word : ℕ) → Waited n v c op u → KeepsNumbers v u → Missed u c op word w → Waited (n + 1) v c op w
 Waited-suc n v u w c op word a same b = let x = a.missed in
     let m : Miss = miss u.number (length w.history) c word in
     let low : length v.history ≤ length u.history = StartsWith-length v.history u.history a.begins in
@@ -57,8 +61,8 @@ Waited-suc n v u w c op word a same b = let x = a.missed in
     let many : length x.0 ≡ n = x.2 in
     let At : Miss → Type 0 = IsMissAt v.number c op (length v.history) (length w.history) in
     let later : (m : Miss) → IsMissAt v.number c op (length v.history) (length u.history) m → At m = λ m t. let p = t.until in
-    record { task = t.task; cell_is = t.cell_is; since = t.since; until = omega arith; unfit = t.unfit } in
-    let last : At m = record { task = same.0; cell_is = refl; since = omega arith; until = omega arith; unfit = b.unfit } in record {
+    record { task = t.task; cell_is = t.cell_is; since = t.since; until = omega arith; seen = t.seen; unfit = t.unfit } in
+    let last : At m = record { task = same.0; cell_is = refl; since = omega arith; until = omega arith; seen = b.seen; unfit = b.unfit } in record {
       begins = StartsWith-trans v.history u.history w.history a.begins b.begins;
       quiet = λ k has. b.quiet k (subst (λ ns. Has k ns) (sym same.1) has) ∙ a.quiet k has;
       missed = (
@@ -69,8 +73,8 @@ Waited-suc n v u w c op word a same b = let x = a.missed in
       );
     }
 
-pub Joined-gathered : (v w u : View) → u ≡ gathered v w → All Grows u.joins → Joined v w u
-Joined-gathered v w u is grew = let es : List Event = longer v.history w.history in
+pub Joined-gathered : (i j n : TableId) (v w u : View) → u ≡ gathered v w → All Grows u.joins → Joined (shown_seat i v) (shown_seat j w) (shown_seat n u)
+Joined-gathered i j n v w u is grew = let es : List Event = longer v.history w.history in
     let a : Growth = growth v.numbers v.history es in let b : Growth = growth w.numbers w.history es in
     let all : All Grows (a ∷ b ∷ []) = subst (λ (x : View). All Grows x.joins) is grew in
     let left : Grows a = All-head Grows a (b ∷ []) all in

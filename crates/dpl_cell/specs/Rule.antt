@@ -16,7 +16,7 @@ use Rattle.dpl_cell.specs.declared.view.View.{View}
 use Rattle.dpl_cell.specs.declared.rule.Plan.{Plan}
 use Rattle.dpl_history.specs.Histories.{cell_at, after, Legal, of_task, AllUpTo, StartsWith}
 use Rattle.dpl_history.specs.Looks.{Agrees}
-use Rattle.dpl_cell.specs.Views.{Has}
+use Rattle.dpl_cell.specs.Seats.{Has}
 
 -- the cell that a state word and a value word stand for
 abbrev pub cell_of : ℕ → ℕ → CellState

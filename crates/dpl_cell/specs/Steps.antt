@@ -13,7 +13,8 @@ use Rattle.dpl_cell.specs.declared.view.View.{View}
 use Rattle.dpl_history.specs.Cells.{effect}
 use Rattle.dpl_history.specs.Histories.{Legal, of_task, event, StartsWith, AllUpTo}
 use Rattle.dpl_history.specs.Looks.{miss}
-use Rattle.dpl_cell.specs.Views.{Has, longer}
+use Rattle.dpl_cell.specs.Seats.{Has}
+use Rattle.dpl_cell.specs.Calls.{longer}
 use Rattle.dpl_cell.specs.Rule.{cell_of, Grows}
 
 abbrev pub TokenState : Type 0
@@ -31,8 +32,9 @@ pub record Sees (v : View) (es : List Event) : Type 0 where
   pub ours : AllUpTo v.tasks es
   pub quiet : (k : ℕ) → Has k v.numbers → of_task k es ≡ of_task k v.history
 
--- the log was seen, and one miss is added
+-- the log was seen, and one miss is added: the cell was empty, full or busy
 pub record SeesMiss (v : View) (c w : ℕ) (u : View) : Type 0 where
+  pub small : w < 3
   pub log : List Event
   pub sees : Sees v log
   pub is : u ≡ record v { history = log; misses = v.misses ++ miss v.number (length log) c w ∷ [] }

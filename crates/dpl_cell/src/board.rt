@@ -3,8 +3,9 @@
 ghost use Rattle.std.specs.Prelude.{◌≡◌, ℕ, ◌+◌, ◌<◌, ◌≤◌, length, vec_len, All, Some, slice_get, IfOk, IfErr};
 ghost use Rattle.dpl_history.specs.Histories.{legal, Legal, AllUpTo};
 ghost use Rattle.dpl_history.specs.Looks.{Agrees};
-ghost use Rattle.dpl_cell.specs.Views.{AnswersForAll, KeepsNumbers, Did, DidAfter, Missed, Waited, Joined};
-ghost use Rattle.dpl_cell.specs.Seats.{SeatValue, IsSeatOf, fresh_seat, IfDone, IfMissed};
+ghost use Rattle.dpl_cell.specs.Seats.{AnswersForAll};
+ghost use Rattle.dpl_cell.specs.Calls.{KeepsNumbers, Did, DidAfter, Missed, Waited, Joined, IfDone, IfMissed};
+ghost use Rattle.dpl_cell.specs.Seats.{IsSeatOf, AreFresh, fresh_seat};
 
 use crate::rule::Plan;
 use crate::seat::Seat;
@@ -13,6 +14,10 @@ use crate::words::Words;
 use dpl_history::{CellOp, CellState, Reply};
 use std::alloc::Global;
 use std::marker::Model;
+use std::thread::yield_now;
+
+// A task that waits yields after so many misses: where there is one processor, the task that it waits for needs it.
+const TRIES_IN_A_ROW: u64 = 1024;
 
 /// Cells that any number of threads share, each by a seat of its own.
 #[derive(Drop)]
@@ -24,11 +29,12 @@ pub struct Board {
 impl Model for Board {
     ghost use Rattle.std.specs.Prelude.{◌≡◌, vec_len};
     ghost use Rattle.dpl_cell.specs.Seats.{BoardValue};
+    ghost use Rattle.dpl_cell.specs.Shown.{shown_board};
 
     ghost Value = { BoardValue };
 
     ghost view = { λ b. let shared = b.words.table.shared in
-        record { board = shared.table_id; opening = shared.key.cells.items; tasks = shared.key.tasks } };
+        shown_board shared.table_id shared.key.cells.items shared.key.tasks };
 
     ghost invariant = { λ b. vec_len b.cells ≡ b.words.count };
 }
@@ -45,8 +51,7 @@ impl Board {
         ensures opening { IfOk result (λ b. b.0.opening ≡ cells.items) }
         ensures tasks { IfOk result (λ b. b.0.tasks ≡ tasks) }
         ensures count { IfOk result (λ b. vec_len b.1 ≡ tasks + 1) }
-        ensures seats { IfOk result (λ b. (k : ℕ) (s : SeatValue) → slice_get b.1.items k ≡ Some s
-            → s ≡ fresh_seat b.0 k) }
+        ensures seats { IfOk result (λ b. AreFresh b.0 b.1.items) }
     {
         let plan = Plan { cells, tasks };
         let (words, mut rest) = Words::new(alloc, &plan)?;
@@ -58,6 +63,20 @@ impl Board {
         seats.push_reserved(Seat { token: rest });
         let Plan { cells, tasks: _ } = plan;
         Ok((Board { words, cells }, seats))
+    }
+
+    /// Hands out the last of fresh seats: first the gatherer's, then that of the last task, and so on down to task 0's.
+    pub fn last_seat(&self, seats: &mut Vec<Seat>) -> Seat
+        requires some { 0 < vec_len seats.old }
+        requires fresh { AreFresh self.now seats.old.items }
+        ensures seat { result ≡ fresh_seat self.now (vec_len seats.new) }
+        ensures count { vec_len seats.old ≡ vec_len seats.new + 1 }
+        ensures fresh { AreFresh self.now seats.new.items }
+    {
+        let Some(seat) = seats.pop() else {
+            unreachable!()
+        };
+        seat
     }
 
     /// The number of cells.
@@ -73,11 +92,11 @@ impl Board {
         requires own { IsSeatOf self.now seat.old }
         requires cell { cell < length self.now.opening }
         ensures own { IsSeatOf self.now seat.new }
-        ensures numbers { KeepsNumbers seat.old.knows seat.new.knows }
-        ensures legal { Legal self.now.opening seat.new.knows.history }
-        ensures ours { AllUpTo self.now.tasks seat.new.knows.history }
-        ensures done { IfDone result (λ r. Did seat.old.knows cell op r seat.new.knows) }
-        ensures missed { IfMissed result (λ w. Missed seat.old.knows cell op w seat.new.knows) }
+        ensures numbers { KeepsNumbers seat.old seat.new }
+        ensures legal { Legal self.now.opening seat.new.history }
+        ensures ours { AllUpTo self.now.tasks seat.new.history }
+        ensures done { IfDone result (λ r. Did seat.old cell op r seat.new) }
+        ensures missed { IfMissed result (λ w. Missed seat.old cell op w seat.new) }
     {
         match self.words.grab(&mut seat.token, cell, op) {
             Ok(state) => Tried::Done(self.words.finish(&mut seat.token, cell, state, op)),
@@ -86,20 +105,22 @@ impl Board {
     }
 
     /// Tries an operation until it is done, `tries` times at most. `Stuck` where every try missed: nothing is done then.
+    /// After every 1,024 misses it lets other threads run.
     pub fn op(&self, seat: &mut Seat, cell: usize, op: CellOp, tries: u64) -> Result<Reply, Stuck>
         requires own { IsSeatOf self.now seat.old }
         requires cell { cell < length self.now.opening }
         requires tries { 0 < tries }
         ensures own { IsSeatOf self.now seat.new }
-        ensures numbers { KeepsNumbers seat.old.knows seat.new.knows }
-        ensures legal { Legal self.now.opening seat.new.knows.history }
-        ensures ours { AllUpTo self.now.tasks seat.new.knows.history }
-        ensures done { IfOk result (λ r. DidAfter tries seat.old.knows cell op r seat.new.knows) }
-        ensures stuck { IfErr result (λ _. Waited tries seat.old.knows cell op seat.new.knows) }
+        ensures numbers { KeepsNumbers seat.old seat.new }
+        ensures legal { Legal self.now.opening seat.new.history }
+        ensures ours { AllUpTo self.now.tasks seat.new.history }
+        ensures done { IfOk result (λ r. DidAfter tries seat.old cell op r seat.new) }
+        ensures stuck { IfErr result (λ _. Waited tries seat.old cell op seat.new) }
     {
         for made in 0..tries {
             match self.try_op(seat, cell, op) {
                 Tried::Done(reply) => return Ok(reply),
+                Tried::Missed(_) if made % TRIES_IN_A_ROW == TRIES_IN_A_ROW - 1 => yield_now(),
                 Tried::Missed(_) => {}
             }
         }
@@ -111,9 +132,9 @@ impl Board {
         requires own { IsSeatOf self.now seat.old }
         requires other { IsSeatOf self.now other }
         ensures own { IsSeatOf self.now seat.new }
-        ensures legal { Legal self.now.opening seat.new.knows.history }
-        ensures ours { AllUpTo self.now.tasks seat.new.knows.history }
-        ensures joined { Joined seat.old.knows other.knows seat.new.knows }
+        ensures legal { Legal self.now.opening seat.new.history }
+        ensures ours { AllUpTo self.now.tasks seat.new.history }
+        ensures joined { Joined seat.old other seat.new }
     {
         let Seat { token } = other;
         self.words.join(&mut seat.token, token);
@@ -123,10 +144,10 @@ impl Board {
     /// tasks and the gatherer, so no other is left.
     pub fn close(self, seat: Seat) -> Vec<CellState>
         requires own { IsSeatOf self seat }
-        requires all { AnswersForAll seat.knows }
-        ensures legal { legal self.opening seat.knows.history result.items }
-        ensures ours { AllUpTo self.tasks seat.knows.history }
-        ensures misses { All (Agrees self.opening seat.knows.history) seat.knows.misses }
+        requires all { AnswersForAll seat }
+        ensures legal { legal self.opening seat.history result.items }
+        ensures ours { AllUpTo self.tasks seat.history }
+        ensures misses { All (Agrees self.opening seat.history) seat.misses }
     {
         let Seat { token } = seat;
         let Board { words, mut cells } = self;

@@ -16,7 +16,6 @@ pub use cell::apply;
 pub use dpl_history::{CellOp, CellState, Event, Miss, Reply};
 pub use seat::Seat;
 pub use tried::{NoMemory, Stuck, Tried};
-pub use view::{Growth, Hold, View};
 
 #[cfg(test)]
 mod tests;

@@ -15,12 +15,12 @@ pub struct Seat {
 // Between two calls a seat holds no cell, and acts as one of the numbers for which it answers.
 impl Model for Seat {
     ghost use Rattle.std.specs.Prelude.{◌≡◌, None, []};
-    ghost use Rattle.dpl_cell.specs.Views.{Has};
-    ghost use Rattle.dpl_cell.specs.Seats.{SeatValue};
+    ghost use Rattle.dpl_cell.specs.Seats.{SeatValue, Has};
+    ghost use Rattle.dpl_cell.specs.Shown.{shown_seat};
 
     ghost Value = { SeatValue };
 
-    ghost view = { λ s. record { board = s.token.table_id; knows = s.token.me.0 } };
+    ghost view = { λ s. shown_seat s.token.table_id s.token.me.0 };
 
     ghost invariant = { λ s. (s.token.me.0.held ≡ None) × (s.token.me.1 ≡ []) × Has s.token.me.0.number s.token.me.0.numbers };
 }

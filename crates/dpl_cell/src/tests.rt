@@ -1,7 +1,8 @@
 //! The worked rows of cells and boards, on one thread and on many.
 //! What the clauses say isn't tested again; the rows show that they say what is meant, and that the calls end.
 ghost use Rattle.std.specs.Prelude.{◌≡◌, ℕ, ◌+◌, ◌<◌, ◌≤◌, [], ◌∷◌, length, vec_len, Some, slice_get, IfSome};
-ghost use Rattle.dpl_cell.specs.Views.{Has, KeepsNumbers};
+ghost use Rattle.dpl_cell.specs.Seats.{Has};
+ghost use Rattle.dpl_cell.specs.Calls.{KeepsNumbers};
 ghost use Rattle.dpl_cell.specs.Seats.{SeatValue, IsSeatOf, fresh_seat};
 
 use crate::{Board, CellOp, CellState, Reply, Seat, Stuck, Tried, apply};
@@ -29,7 +30,7 @@ fn board_for_two(alloc: Global, cells: Vec<CellState>) -> Option<(Board, Seat, S
 fn close_all(board: Board, mut gatherer: Seat, one: Seat, zero: Seat) -> Vec<CellState>
     requires board { board.tasks ≡ 2 }
     requires seats { IsSeatOf board gatherer × IsSeatOf board one × IsSeatOf board zero }
-    requires numbers { (gatherer.knows.numbers ≡ 2 ∷ []) × (one.knows.numbers ≡ 1 ∷ []) × (zero.knows.numbers ≡ 0 ∷ []) }
+    requires numbers { (gatherer.numbers ≡ 2 ∷ []) × (one.numbers ≡ 1 ∷ []) × (zero.numbers ≡ 0 ∷ []) }
 {
     board.join(&mut gatherer, zero);
     board.join(&mut gatherer, one);
@@ -58,7 +59,7 @@ fn pair(
 ) -> (Result<Reply, Stuck>, Result<Reply, Stuck>, Seat)
     requires seat { IsSeatOf board.now seat }
     requires cells { (first.0 < length board.now.opening) × (second.0 < length board.now.opening) }
-    ensures { IsSeatOf board.entry.now result.2 × KeepsNumbers seat.knows result.2.knows }
+    ensures { IsSeatOf board.entry.now result.2 × KeepsNumbers seat result.2 }
 {
     let one = board.op(&mut seat, first.0, first.1, TRIES);
     let two = board.op(&mut seat, second.0, second.1, TRIES);
@@ -70,7 +71,7 @@ fn count_up(board: &Board, seat: &mut Seat, rounds: u64)
     requires own { IsSeatOf board.now seat.old }
     requires cell { 0 < length board.now.opening }
     ensures own { IsSeatOf board.now seat.new }
-    ensures numbers { KeepsNumbers seat.old.knows seat.new.knows }
+    ensures numbers { KeepsNumbers seat.old seat.new }
 {
     for made in 0..rounds {
         let Ok(Reply::Value(value)) = board.op(seat, 0, CellOp::ReadFE, TRIES) else {
@@ -86,10 +87,10 @@ fn count_up(board: &Board, seat: &mut Seat, rounds: u64)
 // Joins the seats of all tasks to the gatherer's, the last task first.
 fn gather(board: &Board, gatherer: &mut Seat, mut seats: Vec<Seat>)
     requires own { IsSeatOf board.now gatherer.old }
-    requires numbers { gatherer.old.knows.numbers ≡ vec_len seats ∷ [] }
-    requires seats { (k : ℕ) (s : SeatValue) → slice_get seats.items k ≡ Some s → IsSeatOf board.now s × (s.knows.numbers ≡ k ∷ []) }
+    requires numbers { gatherer.old.numbers ≡ vec_len seats ∷ [] }
+    requires seats { (k : ℕ) (s : SeatValue) → slice_get seats.items k ≡ Some s → IsSeatOf board.now s × (s.numbers ≡ k ∷ []) }
     ensures own { IsSeatOf board.now gatherer.new }
-    ensures all { (k : ℕ) → k ≤ vec_len seats → Has k gatherer.new.knows.numbers }
+    ensures all { (k : ℕ) → k ≤ vec_len seats → Has k gatherer.new.numbers }
 {
     while let Some(seat) = seats.pop() {
         board.join(gatherer, seat);
@@ -114,7 +115,7 @@ fn count_together<R: Threads + Sync>(
     let shared = &board;
     let task = |_: usize, seat: &mut Seat|
         requires { IsSeatOf shared.now seat.now × (0 < length shared.now.opening) }
-        ensures { IsSeatOf shared.entry.now seat.exit.now × KeepsNumbers seat.entry.now.knows seat.exit.now.knows }
+        ensures { IsSeatOf shared.entry.now seat.exit.now × KeepsNumbers seat.entry.now seat.exit.now }
     { count_up(shared, seat, rounds) };
     for_each_mut(rt, seats.as_mut_slice(), tasks as usize, &task);
     gather(&board, &mut gatherer, seats);

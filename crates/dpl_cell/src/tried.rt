@@ -2,9 +2,11 @@
 //! No call but `Board::new` takes memory.
 use dpl_history::Reply;
 use std::alloc::AllocError;
+use thiserror::Error;
 
 /// There was no memory for a board.
-#[derive(Clone, Copy, Debug, PartialEq)]
+#[derive(Clone, Copy, Debug, PartialEq, Error)]
+#[error("out of memory for a board of cells")]
 pub struct NoMemory;
 
 impl From<AllocError> for NoMemory {
@@ -13,8 +15,9 @@ impl From<AllocError> for NoMemory {
     }
 }
 
-/// Every try of an operation missed.
-#[derive(Clone, Copy, Debug, PartialEq)]
+/// Every try of an operation missed: in none of them was the cell in the state for which the operation waits.
+#[derive(Clone, Copy, Debug, PartialEq, Error)]
+#[error("every try found the cell in a state in which the operation waits")]
 pub struct Stuck;
 
 /// What one try of an operation came to.

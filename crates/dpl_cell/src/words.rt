@@ -5,11 +5,13 @@ ghost use Rattle.std.specs.Int.{w64, cast_signed};
 ghost use Rattle.dpl_history.specs.Cells.{effect};
 ghost use Rattle.dpl_history.specs.Histories.{legal, Legal, AllUpTo};
 ghost use Rattle.dpl_history.specs.Looks.{fits, Agrees};
-ghost use Rattle.dpl_cell.specs.Views.{Has, AnswersForAll, Joined};
+ghost use Rattle.dpl_cell.specs.Seats.{Has, AnswersForAll};
+ghost use Rattle.dpl_cell.specs.Calls.{Joined};
 ghost use Rattle.dpl_cell.specs.Rule.{cell_of, first_view, numbers_from, AreOpening};
 ghost use Rattle.dpl_cell.specs.Steps.{hold, SeesMiss, Took, Ends, Publishes, without_first, with_first};
 ghost use Rattle.dpl_history.specs.declared.cell.CellState.{CellState};
 ghost use Rattle.dpl_history.specs.declared.cell.Reply.{Reply};
+ghost use Rattle.dpl_cell.specs.Shown.{shown_seat};
 ghost use Rattle.dpl_cell.specs.declared.view.Hold.{Hold};
 
 use crate::cell::apply;
@@ -212,7 +214,8 @@ impl Words {
         ensures idle { (token.new.me.0.held ≡ None) × (token.new.me.1 ≡ token.old.me.1) }
         ensures opening { token.new.me.0.opening ≡ token.old.me.0.opening }
         ensures tasks { token.new.me.0.tasks ≡ token.old.me.0.tasks }
-        ensures joined { Joined token.old.me.0 other.me.0 token.new.me.0 }
+        ensures joined { Joined (shown_seat token.old.table_id token.old.me.0) (shown_seat other.table_id other.me.0)
+            (shown_seat token.new.table_id token.new.me.0) }
         ensures legal { Legal token.new.me.0.opening token.new.me.0.history }
         ensures ours { AllUpTo token.new.me.0.tasks token.new.me.0.history }
     {
@@ -225,7 +228,7 @@ impl Words {
         requires own { token.table_id ≡ self.table.shared.table_id }
         requires idle { token.me.0.held ≡ None }
         requires acts { Has token.me.0.number token.me.0.numbers }
-        requires all { AnswersForAll token.me.0 }
+        requires all { AnswersForAll (shown_seat token.table_id token.me.0) }
         requires cells { vec_len cells.old ≡ self.count }
         ensures legal { legal token.me.0.opening token.me.0.history cells.new.items }
         ensures ours { AllUpTo token.me.0.tasks token.me.0.history }

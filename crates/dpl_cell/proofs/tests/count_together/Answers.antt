@@ -5,7 +5,7 @@ use Rattle.std.proofs.Math.ListN.{drop_of_length-le}
 use Rattle.std.proofs.lemmas.List.{take_all}
 use Rattle.std.proofs.lemmas.Option.{slice_get-get_or, get_or_from_slice_get}
 use mathlib.Core.List.{append-nil}
-use Rattle.dpl_cell.specs.Views.{KeepsNumbers}
+use Rattle.dpl_cell.specs.Calls.{KeepsNumbers}
 use Rattle.dpl_cell.specs.Seats.{SeatValue, IsSeatOf, fresh_seat}
 use Rattle.dpl_cell.proofs.SeatLists.{each_pop}
 use Rattle.dpl_cell.proofs.tests.count_together.Goals as goal
@@ -25,12 +25,12 @@ slice_get-lt (y ∷ ys) (suc k) x e = let below = slice_get-lt ys k x e in omega
 pub gather-requires-clause-own : goal.gather-requires-clause-own
 gather-requires-clause-own g c = let b = c.in-Ok.board in
     let e = (each_pop (λ (k : ℕ) (s : SeatValue). s ≡ fresh_seat b k) c.in-Ok.seats.items c.pop.new.self.items c.in_ok-gatherer.gatherer c.args.tasks c.in_ok-gatherer.ensures.items (search rules) c.in-Ok.ensures.seats).0 in
-    (ap (λ (s : SeatValue). s.board) e, ap (λ (s : SeatValue). s.knows.opening) e, ap (λ (s : SeatValue). s.knows.tasks) e)
+    (ap (λ (s : SeatValue). s.board) e, ap (λ (s : SeatValue). s.board.opening) e, ap (λ (s : SeatValue). s.board.tasks) e)
 
 pub gather-requires-clause-numbers : goal.gather-requires-clause-numbers
 gather-requires-clause-numbers g c = let b = c.in-Ok.board in let n : c.args.tasks ≡ vec_len c.pop.new.self = search rules in
     let e = (each_pop (λ (k : ℕ) (s : SeatValue). s ≡ fresh_seat b k) c.in-Ok.seats.items c.pop.new.self.items c.in_ok-gatherer.gatherer c.args.tasks c.in_ok-gatherer.ensures.items (search rules) c.in-Ok.ensures.seats).0 in
-    ap (λ (s : SeatValue). s.knows.numbers) e ∙ ap (λ (m : ℕ). m ∷ []) n
+    ap (λ (s : SeatValue). s.numbers) e ∙ ap (λ (m : ℕ). m ∷ []) n
 
 pub gather-requires-clause-seats : goal.gather-requires-clause-seats
 gather-requires-clause-seats g c = λ k s got. let b = c.in-Ok.board in let xs : List SeatValue = c.pop.new.self.items in let ys : List SeatValue = c.for_each_mut.new.s in
@@ -45,5 +45,5 @@ gather-requires-clause-seats g c = λ k s got. let b = c.in-Ok.board in let xs :
     let change = (c.for_each_mut.ensures k s (subst (λ (l : List SeatValue). k < length l) (sym lent) inside)).1 in
     let is : change.after_call.now ≡ s = change.left ∙ get_or_from_slice_get ys k s s at in
     let before : change.argument.now ≡ fresh_seat b k = change.argument_is ∙ was in
-    let did : IsSeatOf b change.after_call.now × KeepsNumbers change.argument.now.knows change.after_call.now.knows = change.call in
-    (subst (IsSeatOf b) is did.0, ap (λ (t : SeatValue). t.knows.numbers) (sym is) ∙ (did.1.1 ∙ ap (λ (t : SeatValue). t.knows.numbers) before))
+    let did : IsSeatOf b change.after_call.now × KeepsNumbers change.argument.now change.after_call.now = change.call in
+    (subst (IsSeatOf b) is did.0, ap (λ (t : SeatValue). t.numbers) (sym is) ∙ (did.1.1 ∙ ap (λ (t : SeatValue). t.numbers) before))

@@ -3,6 +3,7 @@
 use Rattle.std.proofs.Common.{◌≡◌, ℕ, ◌+◌, ◌≤◌, [], Some, slice_get, vec_len}
 use Rattle.std.specs.Vec.{vec_capacity}
 use Rattle.dpl_cell.specs.Seats.{SeatValue}
+use Rattle.dpl_cell.specs.Shown.{shown_seat}
 use Rattle.dpl_cell.proofs.Opening.{first_view_from, fresh_view}
 use Rattle.dpl_cell.proofs.board.Board.new.Given as goal
 
@@ -12,5 +13,5 @@ invariant-loop-number l = record {
   rest : l.rest.me ≡ (first_view_from l.words.table.shared.key l.number, []);
   count : vec_len l.seats ≡ l.number;
   room : l.fn.tasks + 1 ≤ vec_capacity l.seats;
-  seats : (k : ℕ) (s : SeatValue) → slice_get l.seats.items k ≡ Some s → s ≡ record { board = l.words.table.shared.table_id; knows = fresh_view l.words.table.shared.key k };
+  seats : (k : ℕ) (s : SeatValue) → slice_get l.seats.items k ≡ Some s → s ≡ shown_seat l.words.table.shared.table_id (fresh_view l.words.table.shared.key k);
 }

@@ -5,7 +5,7 @@ use Rattle.dpl_cell.proofs.board.Board.op.Goals as goal
 
 pub loop-made-preserved : goal.loop-made-preserved
 loop-made-preserved c = let i = c.loop-made.invariant in let told = c.in-Missed.ensures in
-    let v = c.args.seat.now.knows in let u = c.loop-made.seat.knows in let w = c.try_op.new.seat.knows in record {
+    let v = c.args.seat.now in let u = c.loop-made.seat in let w = c.try_op.new.seat in record {
       own = told.own;
       numbers = KeepsNumbers-trans v u w i.numbers told.numbers;
       legal = λ _. told.legal;
