@@ -11,4 +11,5 @@ pub mod Joining
 pub mod Closing
 pub mod Opening
 pub mod Telling
+pub mod Counting
 pub mod SeatLists

@@ -13,13 +13,14 @@ use Rattle.atomic_table.specs.Seated.{TableId}
 use Rattle.dpl_cell.specs.declared.view.View.{View}
 use Rattle.dpl_cell.specs.Seats.{SeatValue}
 use Rattle.dpl_cell.specs.Shown.{shown_seat}
-use Rattle.dpl_history.specs.Cells.{effect}
-use Rattle.dpl_history.specs.Histories.{of_task, event, StartsWith}
+use Rattle.dpl_history.specs.Cells.{effect, IsReplyTo}
+use Rattle.dpl_history.specs.Histories.{Legal, of_task, event, StartsWith}
 use Rattle.dpl_history.specs.Looks.{miss}
 use Rattle.dpl_cell.specs.Seats.{Has}
 use Rattle.dpl_cell.specs.Calls.{KeepsNumbers, Did, Missed, IsMissAt, Waited, longer, Joined}
 use Rattle.dpl_cell.specs.Rule.{cell_of, Grows}
 use Rattle.dpl_cell.specs.Steps.{TokenState, hold, Took, Ends, growth, gathered}
+use Rattle.dpl_history.proofs.Replies.{IsReplyTo-last}
 use Rattle.dpl_history.proofs.Histories.{of_task-push_same, of_task-push_other, StartsWith-trans, StartsWith-length}
 use Rattle.dpl_cell.proofs.Taking.{holding}
 
@@ -41,6 +42,11 @@ Ends-holding m m' h c op r e = let a = e.adds in record {
   adds = record { between = a.between; is = a.is; legal = a.legal; ours = a.ours; quiet = a.quiet };
   is = e.is;
 }
+
+-- an operation that ended has replied what such an operation replies
+pub IsReplyTo-ends : (m m' : TokenState) (c : ℕ) (op : CellOp) (r : Reply) → Ends m c op r m' → IsReplyTo op r
+IsReplyTo-ends m m' c op r e = let a = e.adds in let before : List Event = m.0.history ++ a.between in let new : Event = event m.0.number c op r in
+    IsReplyTo-last m.0.opening before new (subst (λ (es : List Event). Legal m.0.opening es) a.is a.legal)
 
 -- the operation's effect on the cell that was read is its effect on the cell that was taken
 pub effect-read : (op : CellOp) (state n value : ℕ) (x y : CellState) (r : Reply) → value ≡ n → x ≡ cell_of state value → effect op x ≡ Some (y, r) → effect op (cell_of state n) ≡ Some (y, r)

@@ -6,3 +6,5 @@ pub mod Calls
 pub mod Rule
 pub mod Steps
 pub mod Shown
+-- What the clients in the tests promise.
+pub mod Counting

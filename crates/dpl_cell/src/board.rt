@@ -2,7 +2,9 @@
 //! together, and `close` gives the cells back. No call waits and no lock stands behind one; `new` alone takes memory.
 ghost use Rattle.std.specs.Prelude.{◌≡◌, ℕ, ◌+◌, ◌<◌, ◌≤◌, length, vec_len, All, Some, slice_get, IfOk, IfErr};
 ghost use Rattle.dpl_history.specs.Histories.{legal, Legal, AllUpTo};
+ghost use Rattle.dpl_history.specs.Cells.{IsReplyTo};
 ghost use Rattle.dpl_history.specs.Looks.{Agrees};
+ghost use Rattle.dpl_history.specs.Values.{IsChannel, HandsOn};
 ghost use Rattle.dpl_cell.specs.Seats.{AnswersForAll};
 ghost use Rattle.dpl_cell.specs.Calls.{KeepsNumbers, Did, DidAfter, Missed, Waited, Joined, IfDone, IfMissed};
 ghost use Rattle.dpl_cell.specs.Seats.{IsSeatOf, AreFresh, fresh_seat};
@@ -96,6 +98,7 @@ impl Board {
         ensures legal { Legal self.now.opening seat.new.history }
         ensures ours { AllUpTo self.now.tasks seat.new.history }
         ensures done { IfDone result (λ r. Did seat.old cell op r seat.new) }
+        ensures reply { IfDone result (λ r. IsReplyTo op r) }
         ensures missed { IfMissed result (λ w. Missed seat.old cell op w seat.new) }
     {
         match self.words.grab(&mut seat.token, cell, op) {
@@ -115,6 +118,7 @@ impl Board {
         ensures legal { Legal self.now.opening seat.new.history }
         ensures ours { AllUpTo self.now.tasks seat.new.history }
         ensures done { IfOk result (λ r. DidAfter tries seat.old cell op r seat.new) }
+        ensures reply { IfOk result (λ r. IsReplyTo op r) }
         ensures stuck { IfErr result (λ _. Waited tries seat.old cell op seat.new) }
     {
         for made in 0..tries {
@@ -148,6 +152,7 @@ impl Board {
         ensures legal { legal self.opening seat.history result.items }
         ensures ours { AllUpTo self.tasks seat.history }
         ensures misses { All (Agrees self.opening seat.history) seat.misses }
+        ensures channels { (c : ℕ) → IsChannel c seat.history → HandsOn self.opening c seat.history }
     {
         let Seat { token } = seat;
         let Board { words, mut cells } = self;

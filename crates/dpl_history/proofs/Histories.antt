@@ -12,7 +12,7 @@ use Rattle.dpl_history.specs.declared.cell.Reply.{Reply}
 use Rattle.dpl_history.specs.declared.history.Event.{Event}
 use Rattle.dpl_history.specs.declared.history.Miss.{Miss}
 use Rattle.dpl_history.specs.Cells.{effect}
-use Rattle.dpl_history.specs.Histories.{event, cell_at, left_by, after_event, after, Legal, of_task, AllUpTo, StartsWith}
+use Rattle.dpl_history.specs.Histories.{event, cell_at, left_by, after_event, after, Happens, Legal, of_task, AllUpTo, StartsWith}
 use Rattle.dpl_history.specs.Looks.{state_word, Agrees}
 
 -- Lists of any kind
@@ -88,6 +88,11 @@ Legal-append cs (e ∷ es) fs p q = (p.0, Legal-append (after_event cs e) es fs 
 pub Legal-append_left : (cs : List CellState) (es fs : List Event) → Legal cs (es ++ fs) → Legal cs es
 Legal-append_left cs [] fs p = tt
 Legal-append_left cs (e ∷ es) fs p = (p.0, Legal-append_left (after_event cs e) es fs p.1)
+
+-- the last event of a legal history happens on the cells that those before it leave
+pub Legal-last : (cs : List CellState) (es : List Event) (e : Event) → Legal cs (es ++ e ∷ []) → Happens (after cs es) e
+Legal-last cs [] e p = p.0
+Legal-last cs (x ∷ es) e p = Legal-last (after_event cs x) es e p.1
 
 -- one event more, which has its effect on the cell that the history leaves
 module _ (cs : List CellState) (es : List Event) (k c : ℕ) (op : CellOp) (x y : CellState) (r : Reply) where

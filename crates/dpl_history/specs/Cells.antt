@@ -23,3 +23,18 @@ effect (WriteFF v) (Full u) = Some (Full v, Done)
 effect (WriteFF v) Empty = None
 effect (WriteXF v) c = Some (Full v, Done)
 effect Reset c = Some (Empty, Done)
+
+-- the replies that an operation can have: a read replies a value, and every other operation that it was done
+abbrev pub IsReplyTo : CellOp → Reply → Type 0
+IsReplyTo ReadFE (Value v) = Unit {0}
+IsReplyTo ReadFE Done = ⊥
+IsReplyTo ReadFF (Value v) = Unit {0}
+IsReplyTo ReadFF Done = ⊥
+IsReplyTo (WriteEF v) (Value u) = ⊥
+IsReplyTo (WriteEF v) Done = Unit {0}
+IsReplyTo (WriteFF v) (Value u) = ⊥
+IsReplyTo (WriteFF v) Done = Unit {0}
+IsReplyTo (WriteXF v) (Value u) = ⊥
+IsReplyTo (WriteXF v) Done = Unit {0}
+IsReplyTo Reset (Value u) = ⊥
+IsReplyTo Reset Done = Unit {0}
