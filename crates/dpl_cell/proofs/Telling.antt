@@ -17,7 +17,7 @@ use Rattle.dpl_history.specs.Cells.{effect, IsReplyTo}
 use Rattle.dpl_history.specs.Histories.{Legal, of_task, event, StartsWith}
 use Rattle.dpl_history.specs.Looks.{miss}
 use Rattle.dpl_cell.specs.Seats.{Has}
-use Rattle.dpl_cell.specs.Calls.{KeepsNumbers, Did, Missed, IsMissAt, Waited, longer, Joined}
+use Rattle.dpl_cell.specs.Calls.{KeepsNumbers, Did, DidAfter, Missed, IsMissAt, Waited, longer, Joined}
 use Rattle.dpl_cell.specs.Rule.{cell_of, Grows}
 use Rattle.dpl_cell.specs.Steps.{TokenState, hold, Took, Ends, growth, gathered}
 use Rattle.dpl_history.proofs.Replies.{IsReplyTo-last}
@@ -58,6 +58,13 @@ Did-ends i j v m m' c op r w acts t e = Did-holding i j v (hold c (cell_of w t.v
 
 pub KeepsNumbers-trans : (v u w : SeatValue) → KeepsNumbers v u → KeepsNumbers u w → KeepsNumbers v w
 KeepsNumbers-trans v u w a b = (b.0 ∙ a.0, b.1 ∙ a.1)
+
+-- the operation's event is all that the number did meanwhile
+pub DidAfter-mine : (n : ℕ) (v w : SeatValue) (c : ℕ) (op : CellOp) (r : Reply) → Has v.number v.numbers → DidAfter n v c op r w
+    → of_task v.number w.history ≡ of_task v.number v.history ++ event v.number c op r ∷ []
+DidAfter-mine n v w c op r acts d = let u = d.between in let k : ℕ = v.number in
+    subst (λ (j : ℕ). of_task j w.history ≡ of_task j u.history ++ event j c op r ∷ []) d.numbers.0 d.did.mine
+    ∙ ap (λ l. l ++ event k c op r ∷ []) (d.waited.quiet k acts)
 
 pub Waited-suc : (n : ℕ) (v u w : SeatValue) (c : ℕ) (op : CellOp) (word : ℕ) → Waited n v c op u → KeepsNumbers v u → Missed u c op word w → Waited (n + 1) v c op w
 Waited-suc n v u w c op word a same b = let x = a.missed in

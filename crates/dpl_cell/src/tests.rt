@@ -1,14 +1,16 @@
 //! The worked rows of cells and boards, on one thread and on many.
 //! What the clauses say isn't tested again; the rows show that they say what is meant, and that the calls end.
-ghost use Rattle.std.specs.Prelude.{◌≡◌, ℕ, ◌+◌, ◌<◌, ◌≤◌, [], ◌∷◌, length, vec_len, Some, slice_get, IfSome};
-ghost use Rattle.dpl_cell.specs.Seats.{Has};
+ghost use Rattle.std.specs.Prelude.{◌≡◌, ◌<◌, [], ◌∷◌, length, IfSome};
 ghost use Rattle.dpl_cell.specs.Calls.{KeepsNumbers};
-ghost use Rattle.dpl_cell.specs.Seats.{SeatValue, IsSeatOf, fresh_seat};
+ghost use Rattle.dpl_cell.specs.Seats.{IsSeatOf, fresh_seat};
 
-use crate::{Board, CellOp, CellState, Reply, Seat, Stuck, Tried, apply};
+mod counting;
+
+use crate::{Board, CellOp, CellState, NoMemory, Reply, Seat, Stuck, Tried, apply};
+use counting::count_together;
 use std::alloc::Global;
 use std::test::Fail;
-use std::thread::{Threads, for_each_mut, join};
+use std::thread::join;
 
 const TRIES: u64 = 100_000_000;
 
@@ -20,9 +22,9 @@ fn board_for_two(alloc: Global, cells: Vec<CellState>) -> Option<(Board, Seat, S
     let Ok((board, mut seats)) = Board::new(alloc, cells, 2) else {
         return None;
     };
-    let gatherer = seats.pop()?;
-    let one = seats.pop()?;
-    let zero = seats.pop()?;
+    let gatherer = board.last_seat(&mut seats);
+    let one = board.last_seat(&mut seats);
+    let zero = board.last_seat(&mut seats);
     Some((board, zero, one, gatherer))
 }
 
@@ -64,62 +66,6 @@ fn pair(
     let one = board.op(&mut seat, first.0, first.1, TRIES);
     let two = board.op(&mut seat, second.0, second.1, TRIES);
     (one, two, seat)
-}
-
-// Adds 1 to the cell 0, `rounds` times, or stops early where it is stuck.
-fn count_up(board: &Board, seat: &mut Seat, rounds: u64)
-    requires own { IsSeatOf board.now seat.old }
-    requires cell { 0 < length board.now.opening }
-    ensures own { IsSeatOf board.now seat.new }
-    ensures numbers { KeepsNumbers seat.old seat.new }
-{
-    for made in 0..rounds {
-        let Ok(Reply::Value(value)) = board.op(seat, 0, CellOp::ReadFE, TRIES) else {
-            return;
-        };
-        let next = CellOp::WriteEF(value.wrapping_add(1));
-        let Ok(Reply::Done) = board.op(seat, 0, next, TRIES) else {
-            return;
-        };
-    }
-}
-
-// Joins the seats of all tasks to the gatherer's, the last task first.
-fn gather(board: &Board, gatherer: &mut Seat, mut seats: Vec<Seat>)
-    requires own { IsSeatOf board.now gatherer.old }
-    requires numbers { gatherer.old.numbers ≡ vec_len seats ∷ [] }
-    requires seats { (k : ℕ) (s : SeatValue) → slice_get seats.items k ≡ Some s → IsSeatOf board.now s × (s.numbers ≡ k ∷ []) }
-    ensures own { IsSeatOf board.now gatherer.new }
-    ensures all { (k : ℕ) → k ≤ vec_len seats → Has k gatherer.new.numbers }
-{
-    while let Some(seat) = seats.pop() {
-        board.join(gatherer, seat);
-    }
-}
-
-// The cell that is left where so many tasks, each on a thread of its own, count up from 0.
-fn count_together<R: Threads + Sync>(
-    rt: &R,
-    alloc: Global,
-    tasks: u64,
-    rounds: u64,
-) -> Option<CellState>
-    requires { (0 < tasks) × (tasks ≤ 64) }
-{
-    let mut cells = Vec::new(alloc);
-    cells.push(CellState::Full(0)).ok()?;
-    let Ok((board, mut seats)) = Board::new(alloc, cells, tasks) else {
-        return None;
-    };
-    let mut gatherer = seats.pop()?;
-    let shared = &board;
-    let task = |_: usize, seat: &mut Seat|
-        requires { IsSeatOf shared.now seat.now × (0 < length shared.now.opening) }
-        ensures { IsSeatOf shared.entry.now seat.exit.now × KeepsNumbers seat.entry.now seat.exit.now }
-    { count_up(shared, seat, rounds) };
-    for_each_mut(rt, seats.as_mut_slice(), tasks as usize, &task);
-    gather(&board, &mut gatherer, seats);
-    board.close(gatherer).pop()
 }
 
 #[test]
@@ -223,6 +169,54 @@ fn no_cells(rt: HostRuntime) -> Result<(), Fail> {
     };
     assert!(rt; board.count() == 0);
     assert!(rt; close_all(board, gatherer, one, zero).is_empty());
+    Ok(())
+}
+
+#[test]
+fn three_cells(rt: HostRuntime) -> Result<(), Fail> {
+    let mut cells = Vec::new(rt.alloc());
+    cells.push(CellState::Full(1))?;
+    cells.push(CellState::Empty)?;
+    cells.push(CellState::Full(3))?;
+    let Some((board, mut zero, one, gatherer)) = board_for_two(rt.alloc(), cells) else {
+        panic!(rt; "no memory")
+    };
+    assert!(rt; board.count() == 3);
+    assert!(rt; board.try_op(&mut zero, 2, CellOp::ReadFE) == Tried::Done(Reply::Value(3)));
+    assert!(rt; board.try_op(&mut zero, 1, CellOp::WriteEF(2)) == Tried::Done(Reply::Done));
+    let cells = close_all(board, gatherer, one, zero);
+    assert_eq!(rt; cells.len(), 3);
+    assert!(rt; cells[0] == CellState::Full(1) && cells[1] == CellState::Full(2));
+    assert!(rt; cells[2] == CellState::Empty);
+    Ok(())
+}
+
+// The gatherer's seat is the only one, and answers for all.
+#[test]
+fn no_tasks(rt: HostRuntime) -> Result<(), Fail> {
+    let mut cells = Vec::new(rt.alloc());
+    cells.push(CellState::Full(5))?;
+    let Ok((board, mut seats)) = Board::new(rt.alloc(), cells, 0) else {
+        panic!(rt; "no memory")
+    };
+    let mut gatherer = board.last_seat(&mut seats);
+    assert!(rt; seats.is_empty());
+    assert!(rt; board.try_op(&mut gatherer, 0, CellOp::ReadFF) == Tried::Done(Reply::Value(5)));
+    let cells = board.close(gatherer);
+    assert_eq!(rt; cells.len(), 1);
+    assert!(rt; cells[0] == CellState::Full(5));
+    Ok(())
+}
+
+#[test]
+fn printed_errors(rt: HostRuntime) -> Result<(), Fail> {
+    let memory = format!(in rt.alloc(); "{}", NoMemory)?;
+    assert_eq!(rt; memory.as_str(), "out of memory for a board of cells");
+    let stuck = format!(in rt.alloc(); "{}", Stuck)?;
+    assert_eq!(rt;
+        stuck.as_str(),
+        "every try found the cell in a state in which the operation waits"
+    );
     Ok(())
 }
 
