@@ -8,13 +8,13 @@ use mathlib.Core.Logic.{dite}
 use native.Mathlib.Decide.{ℕ_discrete}
 use Rattle.dpl_history.specs.declared.cell.CellState.{CellState}
 use Rattle.dpl_history.specs.declared.cell.CellState.TheVariants.{Empty, Full}
-use Rattle.dpl_history.specs.declared.cell.CellOp.{CellOp}
 use Rattle.dpl_history.specs.declared.cell.CellOp.TheVariants.{ReadFE, WriteEF}
 use Rattle.dpl_history.specs.declared.cell.Reply.{Reply}
 use Rattle.dpl_history.specs.declared.cell.Reply.TheVariants.{Value, Done}
 use Rattle.dpl_history.specs.declared.history.Event.{Event}
 use Rattle.dpl_history.specs.Cells.{effect, IsReplyTo}
 use Rattle.dpl_history.specs.Histories.{event, cell_at, after_event, after, legal, Legal, of_task, AllUpTo}
+use Rattle.dpl_history.proofs.Histories.{head_same, tail_same}
 use Rattle.dpl_history.proofs.Replies.{no_effect}
 use Rattle.dpl_cell.specs.declared.tried.Stuck.{Stuck}
 use Rattle.dpl_cell.specs.Seats.{BoardValue, SeatValue, IsSeatOf, Has, AnswersForAll, fresh_seat}
@@ -23,12 +23,6 @@ use Rattle.dpl_cell.specs.Counting.{next, counted, takes, puts_next, Counts, Has
 use Rattle.dpl_cell.proofs.Numbers.{Has-head, Has-append_left, Has-append_right}
 use Rattle.dpl_cell.proofs.Telling.{DidAfter-mine}
 use Rattle.dpl_cell.proofs.Views.{changed_at, changed_at-same, changed_at-other}
-
-cons_head : (a b : Event) (x y : List Event) → a ∷ x ≡ b ∷ y → a ≡ b
-cons_head a b x y e = cc
-
-cons_tail : (a b : Event) (x y : List Event) → a ∷ x ≡ b ∷ y → x ≡ y
-cons_tail a b x y e = cc
 
 nil_cons : (a : Event) (x : List Event) → [] ≡ a ∷ x → ⊥
 nil_cons a x e = cc
@@ -69,7 +63,7 @@ sum_to-but_last f (suc t) n h last = let b = sum_to-all f t n (λ k l. h k (omeg
 first_round : (k n : ℕ) (e : Event) (es : List Event) → Counts k n (e ∷ es)
     → (m : ℕ) × (v : ℤ) × (rest : List Event) × (n ≡ suc m) × (e ≡ takes k v) × (es ≡ puts_next k v ∷ rest) × Counts k m rest
 first_round k zero e es c = absurd (nil_cons e es (sym c))
-first_round k (suc m) e es c = (m, c.0, c.1, refl, cons_head e (takes k c.0) es (puts_next k c.0 ∷ c.1) c.2, cons_tail e (takes k c.0) es (puts_next k c.0 ∷ c.1) c.2, c.3)
+first_round k (suc m) e es c = (m, c.0, c.1, refl, head_same e (takes k c.0) es (puts_next k c.0 ∷ c.1) c.2, tail_same e (takes k c.0) es (puts_next k c.0 ∷ c.1) c.2, c.3)
 
 no_rounds : (k n : ℕ) → Counts k n [] → n ≡ 0
 no_rounds k zero c = refl
@@ -146,8 +140,8 @@ FromEmpty-cons t e es more left j v low p a b =
     (λ same.
     let mine : of_task j (e ∷ es) ≡ e ∷ of_task j es = subst (λ (k : ℕ). of_task k (e ∷ es) ≡ e ∷ of_task k es) same (of_task-same e es) in
     let both : e ∷ of_task j es ≡ puts_next j v ∷ b.rest = sym mine ∙ b.next_is in
-    let is : e ≡ puts_next j v = cons_head e (puts_next j v) (of_task j es) b.rest both in
-    let later : of_task j es ≡ b.rest = cons_tail e (puts_next j v) (of_task j es) b.rest both in
+    let is : e ≡ puts_next j v = head_same e (puts_next j v) (of_task j es) b.rest both in
+    let later : of_task j es ≡ b.rest = tail_same e (puts_next j v) (of_task j es) b.rest both in
     let left_is : after_event (Empty ∷ []) e ≡ Full (next v) ∷ [] = ap (λ (x : Event). after_event (Empty ∷ []) x) is in
     ap (λ (xs : List CellState). after xs es) left_is
     ∙ more left (next v) (subst (λ (xs : List CellState). Legal xs es) left_is p.1) (All-tail P e es a)
@@ -181,9 +175,9 @@ after-counted t n es p a c none =
 
 -- What the calls on a board told
 
-is_done : (op : CellOp) (v : ℤ) (r : Reply) → IsReplyTo (WriteEF v) r → r ≡ Done
-is_done op v (Value u) p = absurd p
-is_done op v Done p = refl
+is_done : (v : ℤ) (r : Reply) → IsReplyTo (WriteEF v) r → r ≡ Done
+is_done v (Value u) p = absurd p
+is_done v Done p = refl
 
 -- one round more
 pub HasCounted-suc : (n t : ℕ) (v u x w : SeatValue) (val : ℤ) (r q : Reply) → v.numbers ≡ v.number ∷ [] → KeepsNumbers v u → HasCounted n v u
@@ -196,7 +190,7 @@ HasCounted-suc n t v u x w val r q alone keeps h still read is wrote fits =
     let first = subst (λ (z : ℕ × Reply). of_task z.0 x.history ≡ of_task z.0 u.history ++ event z.0 0 ReadFE z.1 ∷ []) (λ i. (keeps.0 i, is i))
     (DidAfter-mine t u x 0 ReadFE r has_u read) in
     let second = subst (λ (z : ℕ × Reply). of_task z.0 w.history ≡ of_task z.0 x.history ++ event z.0 0 (WriteEF (next val)) z.1 ∷ [])
-    (λ i. ((still.0 ∙ keeps.0) i, is_done ReadFE (next val) q fits i)) (DidAfter-mine t x w 0 (WriteEF (next val)) q has_x wrote) in
+    (λ i. ((still.0 ∙ keeps.0) i, is_done (next val) q fits i)) (DidAfter-mine t x w 0 (WriteEF (next val)) q has_x wrote) in
     let one_more : suc n ≡ n + 1 = omega arith in (
       h.0 ++ new,
       second ∙ (ap (λ (l : List Event). l ++ puts_next k val ∷ []) first

@@ -1,5 +1,5 @@
 -- The lemmas, from plain lists up to the steps of a board and what its calls tell.
--- `SeatLists` is for callers too, who take seats from the list that `new` hands out.
+-- `Counting` and `Passing` are those of the clients in the tests.
 pub mod Numbers
 pub mod Views
 pub mod Looking
@@ -12,4 +12,5 @@ pub mod Closing
 pub mod Opening
 pub mod Telling
 pub mod Counting
+pub mod Passing
 pub mod SeatLists

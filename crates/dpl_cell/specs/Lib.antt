@@ -8,3 +8,4 @@ pub mod Steps
 pub mod Shown
 -- What the clients in the tests promise.
 pub mod Counting
+pub mod Passing

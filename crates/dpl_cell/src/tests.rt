@@ -5,9 +5,11 @@ ghost use Rattle.dpl_cell.specs.Calls.{KeepsNumbers};
 ghost use Rattle.dpl_cell.specs.Seats.{IsSeatOf, fresh_seat};
 
 mod counting;
+mod passing;
 
 use crate::{Board, CellOp, CellState, NoMemory, Reply, Seat, Stuck, Tried, apply};
 use counting::count_together;
+use passing::pass_on;
 use std::alloc::Global;
 use std::test::Fail;
 use std::thread::join;
@@ -253,6 +255,18 @@ fn two_threads(rt: HostRuntime) -> Result<(), Fail> {
 #[test]
 fn eight_threads_a_thousand_times(rt: HostRuntime) {
     assert!(rt; count_together(&rt, rt.alloc(), 8, 1000) == Some(CellState::Full(8000)));
+}
+
+#[test]
+fn values_passed_on(rt: HostRuntime) -> Result<(), Fail> {
+    let values = [3, 1, 4, 1, 5, 9, 2, 6, i64::MIN, i64::MAX];
+    let Some((got, cells)) = pass_on(&rt, rt.alloc(), &values) else {
+        panic!(rt; "no memory")
+    };
+    assert!(rt; got.as_slice() == values.as_slice());
+    assert_eq!(rt; cells.len(), 1);
+    assert!(rt; cells[0] == CellState::Empty);
+    Ok(())
 }
 
 #[test]

@@ -53,10 +53,10 @@ StartsWith-length es fs a = let e : length fs ≡ length es + length a.0 = ap le
 suc-le : (a b : ℕ) → suc a ≤ suc b → a ≤ b
 suc-le a b h = omega arith
 
-head_same : (a b : Event) (x y : List Event) → a ∷ x ≡ b ∷ y → a ≡ b
+pub head_same : (a b : Event) (x y : List Event) → a ∷ x ≡ b ∷ y → a ≡ b
 head_same a b x y e = cc
 
-tail_same : (a b : Event) (x y : List Event) → a ∷ x ≡ b ∷ y → x ≡ y
+pub tail_same : (a b : Event) (x y : List Event) → a ∷ x ≡ b ∷ y → x ≡ y
 tail_same a b x y e = cc
 
 -- of two beginnings of one history, the longer begins with the shorter

@@ -12,9 +12,7 @@ use Rattle.dpl_history.specs.Cells.{effect}
 use Rattle.dpl_history.specs.Histories.{event, after, Legal, of_task, AllUpTo}
 use Rattle.dpl_history.specs.Looks.{miss, Agrees}
 use Rattle.dpl_history.specs.Values.{values_in, values_out}
-
-no_effect : {X : Type 0} (x : X) → None ≡ Some x → ⊥
-no_effect x e = cc
+use Rattle.dpl_history.proofs.Replies.{no_effect}
 
 -- the value that an effect replies, if it replies one
 abbrev value_of : Option (CellState × Reply) → ℕ
