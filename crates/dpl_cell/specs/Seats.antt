@@ -7,7 +7,8 @@ use Rattle.dpl_history.specs.declared.cell.CellState.{CellState}
 use Rattle.dpl_history.specs.declared.history.Event.{Event}
 use Rattle.dpl_history.specs.declared.history.Miss.{Miss}
 
--- Which board it is: no two boards that exist at one time have the same. Nothing else is ever said of it.
+-- Which board it is: no two boards that exist at one time have the same. No clause says anything else of it; its field is
+-- public since the prover has to tell two of them apart.
 pub record BoardId : Type 0 where
   pub table : TableId
 

@@ -70,58 +70,27 @@ fn pair(
     (one, two, seat)
 }
 
+// Whether the operation, on a cell of one thread, replies this and leaves this.
+fn does(op: CellOp, mut cell: CellState, reply: Option<Reply>, after: CellState) -> bool {
+    apply(&mut cell, op) == reply && cell == after
+}
+
 #[test]
 fn each_operation_on_each_state(rt: HostRuntime) {
-    let full = CellState::Full(5);
-    let rows = [
-        (CellOp::ReadFE, CellState::Empty, None, CellState::Empty),
-        (
-            CellOp::ReadFE,
-            full,
-            Some(Reply::Value(5)),
-            CellState::Empty,
-        ),
-        (CellOp::ReadFF, CellState::Empty, None, CellState::Empty),
-        (CellOp::ReadFF, full, Some(Reply::Value(5)), full),
-        (
-            CellOp::WriteEF(7),
-            CellState::Empty,
-            Some(Reply::Done),
-            CellState::Full(7),
-        ),
-        (CellOp::WriteEF(7), full, None, full),
-        (CellOp::WriteFF(7), CellState::Empty, None, CellState::Empty),
-        (
-            CellOp::WriteFF(7),
-            full,
-            Some(Reply::Done),
-            CellState::Full(7),
-        ),
-        (
-            CellOp::WriteXF(7),
-            CellState::Empty,
-            Some(Reply::Done),
-            CellState::Full(7),
-        ),
-        (
-            CellOp::WriteXF(7),
-            full,
-            Some(Reply::Done),
-            CellState::Full(7),
-        ),
-        (
-            CellOp::Reset,
-            CellState::Empty,
-            Some(Reply::Done),
-            CellState::Empty,
-        ),
-        (CellOp::Reset, full, Some(Reply::Done), CellState::Empty),
-    ];
-    for (op, before, reply, after) in rows {
-        let mut cell = before;
-        assert!(rt; apply(&mut cell, op) == reply);
-        assert!(rt; cell == after);
-    }
+    let (empty, five, seven) = (CellState::Empty, CellState::Full(5), CellState::Full(7));
+    let (value, done) = (Some(Reply::Value(5)), Some(Reply::Done));
+    assert!(rt; does(CellOp::ReadFE, empty, None, empty));
+    assert!(rt; does(CellOp::ReadFE, five, value, empty));
+    assert!(rt; does(CellOp::ReadFF, empty, None, empty));
+    assert!(rt; does(CellOp::ReadFF, five, value, five));
+    assert!(rt; does(CellOp::WriteEF(7), empty, done, seven));
+    assert!(rt; does(CellOp::WriteEF(7), five, None, five));
+    assert!(rt; does(CellOp::WriteFF(7), empty, None, empty));
+    assert!(rt; does(CellOp::WriteFF(7), five, done, seven));
+    assert!(rt; does(CellOp::WriteXF(7), empty, done, seven));
+    assert!(rt; does(CellOp::WriteXF(7), five, done, seven));
+    assert!(rt; does(CellOp::Reset, empty, done, empty));
+    assert!(rt; does(CellOp::Reset, five, done, empty));
 }
 
 #[test]
@@ -130,7 +99,7 @@ fn one_thread(rt: HostRuntime) -> Result<(), Fail> {
     cells.push(CellState::Empty)?;
     cells.push(CellState::Full(4))?;
     let Some((board, mut zero, mut one, gatherer)) = board_for_two(rt.alloc(), cells) else {
-        panic!(rt; "no memory")
+        panic!(rt; "out of memory")
     };
     assert!(rt; board.count() == 2);
     assert!(rt; board.try_op(&mut zero, 0, CellOp::ReadFE) == Tried::Missed(0));
@@ -149,7 +118,7 @@ fn least_and_greatest_value(rt: HostRuntime) -> Result<(), Fail> {
     let mut cells = Vec::new(rt.alloc());
     cells.push(CellState::Full(i64::MIN))?;
     let Some((board, mut zero, one, gatherer)) = board_for_two(rt.alloc(), cells) else {
-        panic!(rt; "no memory")
+        panic!(rt; "out of memory")
     };
     assert!(rt; board.try_op(&mut zero, 0, CellOp::ReadFE) == Tried::Done(Reply::Value(i64::MIN)));
     assert!(rt; board.try_op(&mut zero, 0, CellOp::WriteEF(i64::MAX)) == Tried::Done(Reply::Done));
@@ -167,7 +136,7 @@ fn least_and_greatest_value(rt: HostRuntime) -> Result<(), Fail> {
 #[test]
 fn no_cells(rt: HostRuntime) -> Result<(), Fail> {
     let Some((board, zero, one, gatherer)) = board_for_two(rt.alloc(), Vec::new(rt.alloc())) else {
-        panic!(rt; "no memory")
+        panic!(rt; "out of memory")
     };
     assert!(rt; board.count() == 0);
     assert!(rt; close_all(board, gatherer, one, zero).is_empty());
@@ -181,7 +150,7 @@ fn three_cells(rt: HostRuntime) -> Result<(), Fail> {
     cells.push(CellState::Empty)?;
     cells.push(CellState::Full(3))?;
     let Some((board, mut zero, one, gatherer)) = board_for_two(rt.alloc(), cells) else {
-        panic!(rt; "no memory")
+        panic!(rt; "out of memory")
     };
     assert!(rt; board.count() == 3);
     assert!(rt; board.try_op(&mut zero, 2, CellOp::ReadFE) == Tried::Done(Reply::Value(3)));
@@ -199,7 +168,7 @@ fn no_tasks(rt: HostRuntime) -> Result<(), Fail> {
     let mut cells = Vec::new(rt.alloc());
     cells.push(CellState::Full(5))?;
     let Ok((board, mut seats)) = Board::new(rt.alloc(), cells, 0) else {
-        panic!(rt; "no memory")
+        panic!(rt; "out of memory")
     };
     let mut gatherer = board.last_seat(&mut seats);
     assert!(rt; seats.is_empty());
@@ -236,7 +205,7 @@ fn two_threads(rt: HostRuntime) -> Result<(), Fail> {
     cells.push(CellState::Empty)?;
     cells.push(CellState::Empty)?;
     let Some((board, zero, one, gatherer)) = board_for_two(rt.alloc(), cells) else {
-        panic!(rt; "no memory")
+        panic!(rt; "out of memory")
     };
     let shared = &board;
     let (left, right) = join(
@@ -261,7 +230,7 @@ fn eight_threads_a_thousand_times(rt: HostRuntime) {
 fn values_passed_on(rt: HostRuntime) -> Result<(), Fail> {
     let values = [3, 1, 4, 1, 5, 9, 2, 6, i64::MIN, i64::MAX];
     let Some((got, cells)) = pass_on(&rt, rt.alloc(), &values) else {
-        panic!(rt; "no memory")
+        panic!(rt; "out of memory")
     };
     assert!(rt; got.as_slice() == values.as_slice());
     assert_eq!(rt; cells.len(), 1);

@@ -4,7 +4,7 @@ use dpl_history::Reply;
 use std::alloc::AllocError;
 use thiserror::Error;
 
-/// There was no memory for a board.
+/// Out of memory for a board.
 #[derive(Clone, Copy, Debug, PartialEq, Error)]
 #[error("out of memory for a board of cells")]
 pub struct NoMemory;

@@ -28,7 +28,7 @@ fn send(board: &Board, seat: &mut Seat, values: &[i64]) -> Result<(), Stuck>
     Ok(())
 }
 
-// Takes so many values out of the cell 0. `None` where the task was stuck, or there was no memory.
+// Takes so many values out of the cell 0. `None` where the task was stuck or out of memory.
 fn receive(board: &Board, seat: &mut Seat, alloc: Global, count: usize) -> Option<Vec<i64>>
     requires own { IsSeatOf board.now seat.old }
     requires alone { seat.old.numbers ≡ seat.old.number ∷ [] }
