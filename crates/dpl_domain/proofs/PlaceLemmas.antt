@@ -6,7 +6,7 @@ use Rattle.std.proofs.Math.Nat.{add-mul, mul-le-mul_right, mul-le-mul_left, mul-
 use Rattle.dpl_range.proofs.Ends.{Contains-slice_get, slice_get-Contains}
 use Rattle.dpl_range.specs.Range.{RangeValue, members_of}
 use Rattle.dpl_domain.specs.Indices.{indices, IsSmall}
-use Rattle.dpl_domain.specs.Ranks.{last_of, point, IsPadded, IsKept}
+use Rattle.dpl_domain.specs.Ranks.{last_of, point, IsPadded}
 use Rattle.dpl_domain.proofs.TupleLemmas.{cons_at, slice_get-line, tuple_at-some, tuple_at-parts, last_of-parts, length-last_of, slice_get-indices, slice_get-indices_at, indices-empty, place-indices, length-indices, IsPadded-coordinates}
 
 -- the three numbers of a tuple at a place of a domain are members at the parts of that place
@@ -130,22 +130,22 @@ fewer-indices rank o m i o' m' i' padded padded' outer middle inner small =
     let all = mul-le-mul planes inner in
     omega (arith, all, length-indices rank o m i padded, length-indices rank o' m' i' padded')
 
--- the same for what a domain keeps, by its rank
-pub fewer-one : (rank : ℕ) (o m i i' : RangeValue) → 1 ≡ rank → IsKept rank o m i → length (members_of i') ≤ length (members_of i) → IsSmall (last_of 1 o m i')
-fewer-one rank o m i i' same kept inner =
-    let k = subst (λ n. IsKept n o m i) (sym same) kept in
-    fewer-indices 1 o m i o m i' k.padded k.padded (omega arith) (omega arith) inner k.small
+-- the same for ranges of which some are slices, by the rank
+pub fewer-one : (rank : ℕ) (o m i i' : RangeValue) → rank ≡ 1 → IsPadded point rank o m → IsSmall (last_of rank o m i) → length (members_of i') ≤ length (members_of i) → IsSmall (last_of 1 o m i')
+fewer-one rank o m i i' same padded small inner =
+    let p = subst (λ n. IsPadded point n o m) same padded in
+    fewer-indices 1 o m i o m i' p p (omega arith) (omega arith) inner (subst (λ n. IsSmall (last_of n o m i)) same small)
 
-pub fewer-two : (rank : ℕ) (o m i m' i' : RangeValue) → 2 ≡ rank → IsKept rank o m i → length (members_of m') ≤ length (members_of m) → length (members_of i') ≤ length (members_of i) → IsSmall (last_of 2 o m' i')
-fewer-two rank o m i m' i' same kept middle inner =
-    let k = subst (λ n. IsKept n o m i) (sym same) kept in
-    fewer-indices 2 o m i o m' i' k.padded
-    (record { from_one = omega arith; to_three = omega arith; first = k.padded.first; second = λ below. absurd (omega arith) })
-    (omega arith) middle inner k.small
+pub fewer-two : (rank : ℕ) (o m i m' i' : RangeValue) → rank ≡ 2 → IsPadded point rank o m → IsSmall (last_of rank o m i) → length (members_of m') ≤ length (members_of m) → length (members_of i') ≤ length (members_of i) → IsSmall (last_of 2 o m' i')
+fewer-two rank o m i m' i' same padded small middle inner =
+    let p = subst (λ n. IsPadded point n o m) same padded in
+    fewer-indices 2 o m i o m' i' p
+    (record { from_one = omega arith; to_three = omega arith; first = p.first; second = λ below. absurd (omega arith) })
+    (omega arith) middle inner (subst (λ n. IsSmall (last_of n o m i)) same small)
 
-pub fewer-three : (rank : ℕ) (o m i o' m' i' : RangeValue) → 3 ≡ rank → IsKept rank o m i → length (members_of o') ≤ length (members_of o) → length (members_of m') ≤ length (members_of m) → length (members_of i') ≤ length (members_of i) → IsSmall (last_of 3 o' m' i')
-fewer-three rank o m i o' m' i' same kept outer middle inner =
-    let k = subst (λ n. IsKept n o m i) (sym same) kept in
-    fewer-indices 3 o m i o' m' i' k.padded
+pub fewer-three : (rank : ℕ) (o m i o' m' i' : RangeValue) → rank ≡ 3 → IsPadded point rank o m → IsSmall (last_of rank o m i) → length (members_of o') ≤ length (members_of o) → length (members_of m') ≤ length (members_of m) → length (members_of i') ≤ length (members_of i) → IsSmall (last_of 3 o' m' i')
+fewer-three rank o m i o' m' i' same padded small outer middle inner =
+    let p = subst (λ n. IsPadded point n o m) same padded in
+    fewer-indices 3 o m i o' m' i' p
     (record { from_one = omega arith; to_three = omega arith; first = λ below. absurd (omega arith); second = λ below. absurd (omega arith) })
-    outer middle inner k.small
+    outer middle inner (subst (λ n. IsSmall (last_of n o m i)) same small)

@@ -7,11 +7,16 @@ use Rattle.std.proofs.Math.Nat.{suc-mul, add-mul, mul_assoc, mul-le-mul_right}
 use Rattle.dpl_range.specs.Members.{members}
 use Rattle.dpl_range.specs.Range.{RangeValue, members_of}
 use Rattle.dpl_domain.specs.Indices.{tuples, indices}
-use Rattle.dpl_domain.specs.Ranks.{last_of, point, IsPadded}
+use Rattle.dpl_domain.specs.Ranks.{last_of, point, IsFilled, IsPadded}
 
 pub members-point : members (pos 0) (pos 0) (pos 1) ≡ pos 0 ∷ []
 unfolding members
 members-point = refl
+
+-- what has a dimension, and three places for up to three, has one to three
+pub IsPadded-IsFilled : {A : Type 0} {unused : A} {rank : ℕ} {a b c : A} → 1 ≤ rank → IsFilled unused rank a b c → IsPadded unused rank a b
+IsPadded-IsFilled from_one filled =
+    record { from_one = from_one; to_three = filled.to_three; first = filled.first; second = filled.second }
 
 -- an element before a tuple, where both are there
 abbrev pub cons_at : Option ℤ → Option (List ℤ) → Option (List ℤ)

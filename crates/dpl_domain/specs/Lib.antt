@@ -1,7 +1,6 @@
 pub mod Indices
 pub mod Ranks
-pub mod Tuple
-pub mod Product
+pub mod DimensionFields
 pub mod Order
 pub mod Slices
 pub mod Expansions

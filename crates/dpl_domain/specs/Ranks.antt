@@ -1,7 +1,7 @@
--- One to three things in three places: those of a lower rank leave the places in front unused.
+-- Up to three things in three places: those of a lower rank leave the places in front unused.
 use Rattle.std.specs.Prelude.{ℕ, zero, suc, ◌≤◌, ◌≡◌, ◌<◌, List, [], ◌∷◌, pos}
-use Rattle.dpl_range.specs.Range.{RangeValue, IsRange}
-use Rattle.dpl_domain.specs.Indices.{IsSmall}
+use Rattle.dpl_range.specs.Range.{RangeValue}
+use Rattle.dpl_domain.specs.Indices.{IsRank, IsSmall}
 
 -- the last one, two or all three of three things
 abbrev pub last_of : {A : Type 0} → ℕ → A → A → A → List A
@@ -10,7 +10,14 @@ last_of (suc zero) a b c = c ∷ []
 last_of (suc (suc zero)) a b c = b ∷ c ∷ []
 last_of (suc (suc (suc n))) a b c = a ∷ b ∷ c ∷ []
 
--- the rank is 1 to 3, and what it leaves unused is as given
+-- the rank is 0 to 3, and in the places that it leaves unused stands what is given
+pub record IsFilled {A : Type 0} (unused : A) (rank : ℕ) (a b c : A) : Type 0 where
+  pub to_three : rank ≤ 3
+  pub first : rank < 3 → a ≡ unused
+  pub second : rank < 2 → b ≡ unused
+  pub third : rank < 1 → c ≡ unused
+
+-- the same of a rank from 1 to 3
 pub record IsPadded {A : Type 0} (unused : A) (rank : ℕ) (a b : A) : Type 0 where
   pub from_one : 1 ≤ rank
   pub to_three : rank ≤ 3
@@ -21,10 +28,7 @@ pub record IsPadded {A : Type 0} (unused : A) (rank : ℕ) (a b : A) : Type 0 wh
 abbrev pub point : RangeValue
 point = record { low = pos 0; high = pos 0; stride = pos 1 }
 
--- what holds of the rank and the three ranges that a domain keeps
-pub record IsKept (rank : ℕ) (outer middle inner : RangeValue) : Type 0 where
-  pub padded : IsPadded point rank outer middle
-  pub outer_limits : IsRange outer
-  pub middle_limits : IsRange middle
-  pub inner_limits : IsRange inner
-  pub small : IsSmall (last_of rank outer middle inner)
+-- what holds of the ranges that a domain keeps
+pub record IsDomain (ranges : List RangeValue) : Type 0 where
+  pub rank : IsRank ranges
+  pub small : IsSmall ranges

@@ -158,6 +158,6 @@ impl Expansion {
         let outer = self.outer.range()?;
         let middle = self.middle.range()?;
         let inner = self.inner.range()?;
-        Some(Domain::kept(self.rank, outer, middle, inner))
+        Some(Domain::last_of(self.rank, outer, middle, inner))
     }
 }

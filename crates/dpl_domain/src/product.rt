@@ -8,7 +8,7 @@ ghost use Rattle.dpl_domain.specs.Slices.{IsSlice, AreSlices, AreBounds};
 ghost use Rattle.dpl_domain.specs.Expansions.{expanded, AreUnit, AreBounded};
 
 use crate::expansion::Expansion;
-use crate::{Cursor, Index};
+use crate::{Cursor, Dimensions, Index};
 use dpl_range::Range;
 use std::marker::Model;
 use thiserror::Error;
@@ -37,10 +37,7 @@ pub enum DomainFault {
 /// members, row by row with the last dimension fastest.
 #[derive(Clone, Copy, Debug, PartialEq, Eq)]
 pub struct Domain {
-    rank: u32,
-    outer: Range,
-    middle: Range,
-    inner: Range,
+    ranges: Dimensions<Range>,
 }
 
 impl Model for Domain {
@@ -49,16 +46,13 @@ impl Model for Domain {
 
     ghost Value = { List RangeValue };
 
-    ghost use Rattle.dpl_domain.specs.Ranks.{last_of, IsKept};
-    ghost use Rattle.dpl_domain.specs.Product.{domain_of, domain_of-last_of};
+    ghost use Rattle.dpl_domain.specs.Ranks.{IsDomain};
 
-    ghost view = { λ d. last_of d.rank d.outer d.middle d.inner };
+    ghost view = { λ d. d.ranges };
 
-    ghost invariant = { λ d. IsKept d.rank d.outer d.middle d.inner };
+    ghost invariant = { λ d. IsDomain d.ranges };
 
-    ghost inverse = { domain_of };
-
-    ghost inverse_ok = { domain_of-last_of };
+    ghost inverse = { λ v. record { ranges = v } };
 }
 
 impl Domain {
@@ -69,39 +63,35 @@ impl Domain {
         ensures rank { (result ≡ Err DomainFault.Rank) ↔ (¬ IsRank ranges.now) }
         ensures size { (result ≡ Err DomainFault.Size) ↔ (IsRank ranges.now × ¬ IsSmall ranges.now) }
     {
-        let unused = unused();
-        match ranges {
-            [inner] => Domain::checked(1, unused, unused, *inner),
-            [middle, inner] => Domain::checked(2, unused, *middle, *inner),
-            [outer, middle, inner] => Domain::checked(3, *outer, *middle, *inner),
+        match Dimensions::new(ranges) {
+            Some(ranges) if ranges.rank() > 0 => Domain::checked(ranges),
             _ => Err(DomainFault::Rank),
         }
     }
 
-    // The last `rank` of three ranges as a domain, if they have at most 2^40 tuples.
-    fn checked(rank: u32, outer: Range, middle: Range, inner: Range) -> Result<Domain, DomainFault>
-        requires { IsPadded point rank outer middle }
-        ensures ok { IsOk result ↔ IsSmall (last_of rank outer middle inner) }
-        ensures held { IfOk result (λ d. d ≡ last_of rank outer middle inner) }
-        ensures size { (result ≡ Err DomainFault.Size) ↔ (¬ IsSmall (last_of rank outer middle inner)) }
+    // The domain with these ranges, if they have at most 2^40 tuples.
+    fn checked(ranges: Dimensions<Range>) -> Result<Domain, DomainFault>
+        requires { IsRank ranges }
+        ensures ok { IsOk result ↔ IsSmall ranges }
+        ensures held { IfOk result (λ d. d ≡ ranges) }
+        ensures size { (result ≡ Err DomainFault.Size) ↔ (¬ IsSmall ranges) }
     {
+        let (outer, middle, inner) = ranges.places();
         if MOST_INDICES < tuples(&outer, &middle, &inner) {
             return Err(DomainFault::Size);
         }
-        Ok(Domain::kept(rank, outer, middle, inner))
+        Ok(Domain { ranges })
     }
 
-    // The domain with the last `rank` of three ranges.
-    pub(crate) fn kept(rank: u32, outer: Range, middle: Range, inner: Range) -> Domain
-        requires padded { IsPadded point rank outer middle }
+    /// The domain with the last `rank` of three ranges.
+    pub fn last_of(rank: u32, outer: Range, middle: Range, inner: Range) -> Domain
+        requires from_one { 1 ≤ rank }
+        requires to_three { rank ≤ 3 }
         requires small { IsSmall (last_of rank outer middle inner) }
         ensures { result ≡ last_of rank outer middle inner }
     {
         Domain {
-            rank,
-            outer,
-            middle,
-            inner,
+            ranges: Dimensions::last_of(rank, outer, middle, inner),
         }
     }
 
@@ -110,21 +100,23 @@ impl Domain {
         ensures rank { result ≡ length self.now }
         ensures limits { IsRank self.now }
     {
-        self.rank
+        self.ranges.rank()
     }
 
     /// The range of dimension `d`, counted from 0, if there is one.
     pub fn dim(&self, d: u32) -> Option<Range>
         ensures { result ≡ slice_get self.now d }
     {
-        if self.rank <= d {
-            return None;
-        }
-        Some(match self.rank - d {
-            1 => self.inner,
-            2 => self.middle,
-            _ => self.outer,
-        })
+        self.ranges.get(d)
+    }
+
+    /// The ranges in three places, the last one last. Those in front that the domain does not have are `0..0`.
+    pub fn ranges(&self) -> (Range, Range, Range)
+        ensures ranges { self.now ≡ last_of (length self.now) result.0 result.1 result.2 }
+        ensures unused { IsPadded point (length self.now) result.0 result.1 }
+        ensures small { IsSmall self.now }
+    {
+        self.ranges.places()
     }
 
     /// How many indices the domain has.
@@ -132,40 +124,44 @@ impl Domain {
         ensures size { result ≡ length (indices self.now) }
         ensures small { IsSmall self.now }
     {
-        tuples(&self.outer, &self.middle, &self.inner)
+        let (outer, middle, inner) = self.ranges();
+        tuples(&outer, &middle, &inner)
     }
 
     /// The index at place `k`, counted from 0, if there are that many.
     pub fn nth(&self, k: u64) -> Option<Index>
         ensures { result ≡ slice_get (indices self.now) k }
     {
-        let line = self.inner.size();
-        let lines = self.middle.size();
+        let (outer, middle, inner) = self.ranges();
+        let line = inner.size();
+        let lines = middle.size();
         if line == 0 || lines == 0 {
             return None;
         }
         let row = k / line;
-        let outer = self.outer.nth(row / lines)?;
-        let middle = self.middle.nth(row % lines)?;
-        let inner = self.inner.nth(k % line)?;
-        Some(Index::padded(self.rank, outer, middle, inner))
+        let outer = outer.nth(row / lines)?;
+        let middle = middle.nth(row % lines)?;
+        let inner = inner.nth(k % line)?;
+        Some(Index::padded(self.rank(), outer, middle, inner))
     }
 
     /// The place of `index`, counted from 0, if it is an index of the domain.
     pub fn place(&self, index: Index) -> Option<u64>
         ensures { (k : ℕ) → (result ≡ Some k) ↔ (slice_get (indices self.now) k ≡ Some index) }
     {
-        if index.rank() != self.rank {
+        let (outer, middle, inner) = self.ranges();
+        let rank = self.rank();
+        if index.rank() != rank {
             return None;
         }
-        let (outer, middle, inner) = index.numbers();
-        if self.rank == 1 {
-            return self.inner.place(inner);
+        let (x, y, z) = index.numbers();
+        if rank == 1 {
+            return inner.place(z);
         }
-        let outer = self.outer.place(outer)?;
-        let middle = self.middle.place(middle)?;
-        let inner = self.inner.place(inner)?;
-        Some((outer * self.middle.size() + middle) * self.inner.size() + inner)
+        let p = outer.place(x)?;
+        let q = middle.place(y)?;
+        let r = inner.place(z)?;
+        Some((p * middle.size() + q) * inner.size() + r)
     }
 
     /// Whether `index` is an index of the domain.
@@ -179,7 +175,8 @@ impl Domain {
     pub fn cursor(&self) -> Cursor
         ensures { result ≡ indices self.now }
     {
-        Cursor::over(self.rank, &self.outer, &self.middle, &self.inner)
+        let (outer, middle, inner) = self.ranges();
+        Cursor::over(self.rank(), &outer, &middle, &inner)
     }
 
     /// The domain with each low bound moved down by `k` and each high bound moved up by `k`, which may be below
@@ -192,7 +189,8 @@ impl Domain {
         ensures stride { (result ≡ Err DomainFault.Stride) ↔ (IsSmall (expanded k self.now) × ¬ AreUnit (expanded k self.now)) }
         ensures bound { (result ≡ Err DomainFault.Bound) ↔ (IsSmall (expanded k self.now) × AreUnit (expanded k self.now) × ¬ AreBounded (expanded k self.now)) }
     {
-        let moved = Expansion::over(self.rank, &self.outer, &self.middle, &self.inner, k);
+        let (outer, middle, inner) = self.ranges();
+        let moved = Expansion::over(self.rank(), &outer, &middle, &inner, k);
         if !moved.is_small() {
             return Err(DomainFault::Size);
         }
@@ -209,25 +207,25 @@ impl Domain {
         ensures slices { IfOk result (AreSlices self.now bounds.now) }
         ensures rank { (result ≡ Err DomainFault.Rank) ↔ (length bounds.now ≢ length self.now) }
     {
-        if bounds.len() != self.rank as usize {
+        if bounds.len() != self.rank() as usize {
             return Err(DomainFault::Rank);
         }
-        let (outer, middle, inner) = (self.outer, self.middle, self.inner);
+        let (outer, middle, inner) = self.ranges();
         match bounds {
-            [last] => Domain::checked(1, outer, middle, sliced(&inner, *last)),
-            [second, last] => Domain::checked(
+            [last] => Ok(Domain::last_of(1, outer, middle, sliced(&inner, *last))),
+            [second, last] => Ok(Domain::last_of(
                 2,
                 outer,
                 sliced(&middle, *second),
                 sliced(&inner, *last),
-            ),
+            )),
             [first, second, last] => {
-                Domain::checked(
+                Ok(Domain::last_of(
                     3,
                     sliced(&outer, *first),
                     sliced(&middle, *second),
                     sliced(&inner, *last),
-                )
+                ))
             }
             _ => Err(DomainFault::Rank),
         }
@@ -247,9 +245,6 @@ fn sliced(range: &Range, bounds: (i64, i64)) -> Range
 fn tuples(outer: &Range, middle: &Range, inner: &Range) -> u64
     ensures exact { length (members_of outer.now) * length (members_of middle.now) * length (members_of inner.now) ≤ 2 ^ 40 → result ≡ length (members_of outer.now) * length (members_of middle.now) * length (members_of inner.now) }
     ensures more { 2 ^ 40 < length (members_of outer.now) * length (members_of middle.now) * length (members_of inner.now) → 2 ^ 40 < result }
-    ensures outer_limits { IsRange outer.now }
-    ensures middle_limits { IsRange middle.now }
-    ensures inner_limits { IsRange inner.now }
 {
     product(outer.size(), middle.size(), inner.size())
 }
@@ -259,11 +254,4 @@ pub(crate) fn product(outer: u64, middle: u64, inner: u64) -> u64
     ensures { result ≡ min (outer * middle * inner) (2 ^ 64 - 1) }
 {
     outer.saturating_mul(middle).saturating_mul(inner)
-}
-
-// What stands in the place of a range that a domain does not have.
-fn unused() -> Range
-    ensures { result ≡ point }
-{
-    Range::new(0, 0, 1).unwrap()
 }

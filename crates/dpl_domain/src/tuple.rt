@@ -4,6 +4,7 @@ ghost use Rattle.std.specs.Prelude.{pos, ◌≡◌, ◌≤◌, ◌↔◌, [], �
 ghost use Rattle.dpl_domain.specs.Indices.{IsRank};
 ghost use Rattle.dpl_domain.specs.Ranks.{last_of, IsPadded};
 
+use crate::Dimensions;
 use std::marker::Model;
 
 /// A tuple of one to three coordinates. Indices of one rank are ordered row by row: by their first
@@ -11,27 +12,21 @@ use std::marker::Model;
 /// before one of a higher.
 #[derive(Clone, Copy, Debug, PartialEq, Eq, PartialOrd, Ord, Hash)]
 pub struct Index {
-    rank: u32,
-    outer: i64,
-    middle: i64,
-    inner: i64,
+    coordinates: Dimensions<i64>,
 }
 
 impl Model for Index {
-    ghost use Rattle.std.specs.Prelude.{List, ℤ, pos};
+    ghost use Rattle.std.specs.Prelude.{List, ℤ};
 
     ghost Value = { List ℤ };
 
-    ghost use Rattle.dpl_domain.specs.Ranks.{last_of, IsPadded};
-    ghost use Rattle.dpl_domain.specs.Tuple.{index_of, index_of-last_of};
+    ghost use Rattle.dpl_domain.specs.Indices.{IsRank};
 
-    ghost view = { λ x. last_of x.rank x.outer x.middle x.inner };
+    ghost view = { λ x. x.coordinates };
 
-    ghost invariant = { λ x. IsPadded (pos 0) x.rank x.outer x.middle };
+    ghost invariant = { λ x. IsRank x.coordinates };
 
-    ghost inverse = { index_of };
-
-    ghost inverse_ok = { index_of-last_of };
+    ghost inverse = { λ v. record { coordinates = v } };
 }
 
 impl Index {
@@ -40,27 +35,11 @@ impl Index {
         ensures rank { IsSome result ↔ IsRank coordinates.now }
         ensures held { IfSome result (λ index. index ≡ coordinates.now) }
     {
-        match coordinates {
-            [inner] => Some(Index {
-                rank: 1,
-                outer: 0,
-                middle: 0,
-                inner: *inner,
-            }),
-            [middle, inner] => Some(Index {
-                rank: 2,
-                outer: 0,
-                middle: *middle,
-                inner: *inner,
-            }),
-            [outer, middle, inner] => Some(Index {
-                rank: 3,
-                outer: *outer,
-                middle: *middle,
-                inner: *inner,
-            }),
-            _ => None,
+        let coordinates = Dimensions::new(coordinates)?;
+        if coordinates.rank() == 0 {
+            return None;
         }
+        Some(Index { coordinates })
     }
 
     /// How many coordinates it has.
@@ -68,21 +47,14 @@ impl Index {
         ensures rank { result ≡ length self.now }
         ensures limits { IsRank self.now }
     {
-        self.rank
+        self.coordinates.rank()
     }
 
     /// The coordinate in dimension `d`, counted from 0, if there is one.
     pub fn coordinate(&self, d: u32) -> Option<i64>
         ensures { result ≡ slice_get self.now d }
     {
-        if self.rank <= d {
-            return None;
-        }
-        Some(match self.rank - d {
-            1 => self.inner,
-            2 => self.middle,
-            _ => self.outer,
-        })
+        self.coordinates.get(d)
     }
 
     /// The coordinates as three numbers, the last one last. Those in front that the index does not have are 0.
@@ -90,7 +62,7 @@ impl Index {
         ensures coordinates { self.now ≡ last_of (length self.now) result.0 result.1 result.2 }
         ensures unused { IsPadded (pos 0) (length self.now) result.0 result.1 }
     {
-        (self.outer, self.middle, self.inner)
+        self.coordinates.places()
     }
 
     // The index with the last `rank` of three coordinates.
@@ -99,10 +71,7 @@ impl Index {
         ensures { result ≡ last_of rank outer middle inner }
     {
         Index {
-            rank,
-            outer,
-            middle,
-            inner,
+            coordinates: Dimensions::padded(rank, outer, middle, inner),
         }
     }
 }

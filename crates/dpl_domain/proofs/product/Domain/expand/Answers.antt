@@ -27,8 +27,9 @@ ranges : (c : After-over-moved) → c.over-moved.result ≡ expanded c.args.k c.
 ranges c =
     let by : to_z w64 (of_z w64 c.args.k) ≡ c.args.k = omega (arith, ints) in
     c.over-moved.ensures
-    ∙ ap (λ k. expanded k (last_of c.self.inside.rank c.self.inside.outer c.self.inside.middle c.self.inside.inner)) by
-    ∙ ap (expanded c.args.k) c.self.view_is
+    ∙ ap (λ k. expanded k (last_of c.rank.result c.ranges-outer.result.0 c.ranges-outer.result.1 c.ranges-outer.result.2)) by
+    ∙ ap (λ n. expanded c.args.k (last_of n c.ranges-outer.result.0 c.ranges-outer.result.1 c.ranges-outer.result.2)) c.rank.ensures.rank
+    ∙ ap (expanded c.args.k) (sym c.ranges-outer.ensures.ranges)
 
 -- too many indices
 large : (c : Then-not-is_small) → IsSmall (expanded c.args.k c.args.self.now) → ⊥

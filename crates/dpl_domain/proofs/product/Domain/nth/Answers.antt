@@ -3,49 +3,51 @@ use Rattle.std.proofs.Common.{◌≡◌, sym, ◌∙◌, arith, ap, length, ◌/
 use Rattle.std.proofs.lemmas.Int.{to_z-of_z}
 use Rattle.dpl_range.specs.Range.{members_of}
 use Rattle.dpl_domain.specs.Indices.{indices}
+use Rattle.dpl_domain.specs.Ranks.{last_of}
 use Rattle.dpl_domain.proofs.TupleLemmas.{slice_get-indices_at, indices-empty, tuple_at, tuple_at-some, tuple_at-no_outer, tuple_at-no_middle, tuple_at-no_inner, IsPadded-coordinates}
 use Rattle.dpl_domain.proofs.product.Domain.nth.Goals as goal
 use Rattle.dpl_domain.proofs.product.Domain.nth.Goals.{After-size-lines, then-line-eq0-via-then-line-eq0, then-line-eq0-via-else-line-eq0+then-lines-eq0}
 
-at : (c : After-size-lines) → (c.size-line.result ≡ 0 → ⊥) → (c.size-lines.result ≡ 0 → ⊥) → slice_get (indices c.args.self.now) c.args.k ≡ tuple_at c.self.inside.rank (slice_get (members_of c.self.inside.outer) (c.args.k / c.size-line.result / c.size-lines.result)) (slice_get (members_of c.self.inside.middle) (c.args.k / c.size-line.result % c.size-lines.result)) (slice_get (members_of c.self.inside.inner) (c.args.k % c.size-line.result))
+at : (c : After-size-lines) → (c.size-line.result ≡ 0 → ⊥) → (c.size-lines.result ≡ 0 → ⊥) → slice_get (indices c.args.self.now) c.args.k ≡ tuple_at (length c.args.self.now) (slice_get (members_of c.ranges-outer.result.0) (c.args.k / c.size-line.result / c.size-lines.result)) (slice_get (members_of c.ranges-outer.result.1) (c.args.k / c.size-line.result % c.size-lines.result)) (slice_get (members_of c.ranges-outer.result.2) (c.args.k % c.size-line.result))
 at c line lines =
-    rw (← c.self.view_is, c.size-line.ensures.length, c.size-lines.ensures.length)
-    (slice_get-indices_at c.self.inside.rank c.self.inside.outer c.self.inside.middle c.self.inside.inner c.args.k c.self.invariant.padded (omega arith) (omega arith))
+    rw (c.size-line.ensures.length, c.size-lines.ensures.length)
+    (ap (λ rs. slice_get (indices rs) c.args.k) c.ranges-outer.ensures.ranges
+    ∙ slice_get-indices_at (length c.args.self.now) c.ranges-outer.result.0 c.ranges-outer.result.1 c.ranges-outer.result.2 c.args.k c.ranges-outer.ensures.unused (omega arith) (omega arith))
 
 pub returns-then-line-eq0 : goal.returns-then-line-eq0
 returns-then-line-eq0 c =
-    let empty : (length (members_of c.self.inside.middle) ≡ 0) ⊎ (length (members_of c.self.inside.inner) ≡ 0) =
+    let empty : (length (members_of c.ranges-outer.result.1) ≡ 0) ⊎ (length (members_of c.ranges-outer.result.2) ≡ 0) =
     elim c.then-line-eq0.branch [
       | then-line-eq0-via-then-line-eq0 w ↦ inr (omega arith)
       | then-line-eq0-via-else-line-eq0+then-lines-eq0 w ↦ inl (omega arith)
     ] in
-    rw (← c.self.view_is)
-    (sym (indices-empty c.self.inside.rank c.self.inside.outer c.self.inside.middle c.self.inside.inner c.args.k c.self.invariant.padded empty))
+    rw c.ranges-outer.ensures.ranges
+    (sym (indices-empty (length c.args.self.now) c.ranges-outer.result.0 c.ranges-outer.result.1 c.ranges-outer.result.2 c.args.k c.ranges-outer.ensures.unused empty))
 
 pub returns-in_err-outer : goal.returns-in_err-outer
 returns-in_err-outer c =
     c.from_residual.ensures
     ∙ sym (at (goal.at.returns-in_err-outer c).After-size-lines c.if-line-eq0.false c.if-lines-eq0.false
-    ∙ tuple_at-no_outer c.self.inside.rank _ _ _ (sym c.nth.ensures ∙ c.in_err-outer.was))
+    ∙ tuple_at-no_outer (length c.args.self.now) _ _ _ (sym c.nth.ensures ∙ c.in_err-outer.was))
 
 pub returns-in_err-middle : goal.returns-in_err-middle
 returns-in_err-middle c =
     c.from_residual-in_err-middle.ensures
     ∙ sym (at (goal.at.returns-in_err-middle c).After-size-lines c.if-line-eq0.false c.if-lines-eq0.false
-    ∙ tuple_at-no_middle c.self.inside.rank _ _ _ (sym c.nth-2.ensures ∙ c.in_err-middle.was))
+    ∙ tuple_at-no_middle (length c.args.self.now) _ _ _ (sym c.nth-2.ensures ∙ c.in_err-middle.was))
 
 pub returns-in_err-inner : goal.returns-in_err-inner
 returns-in_err-inner c =
     c.from_residual-in_err-inner.ensures
     ∙ sym (at (goal.at.returns-in_err-inner c).After-size-lines c.if-line-eq0.false c.if-lines-eq0.false
-    ∙ tuple_at-no_inner c.self.inside.rank _ _ _ (sym c.nth-3.ensures ∙ c.in_err-inner.was))
+    ∙ tuple_at-no_inner (length c.args.self.now) _ _ _ (sym c.nth-3.ensures ∙ c.in_err-inner.was))
 
 pub padded-requires : goal.padded-requires
 padded-requires c =
     let outer_fits : FitsSigned w64 c.in_ok-outer.outer = search rules in
     let middle_fits : FitsSigned w64 c.in_ok-middle.middle = search rules in
-    rw (to_z-of_z w64 c.in_ok-outer.outer outer_fits, to_z-of_z w64 c.in_ok-middle.middle middle_fits)
-    (IsPadded-coordinates c.self.inside.rank c.self.inside.outer c.self.inside.middle _ _ c.in_ok-outer.outer c.in_ok-middle.middle c.self.invariant.padded
+    rw (c.rank.ensures.rank, to_z-of_z w64 c.in_ok-outer.outer outer_fits, to_z-of_z w64 c.in_ok-middle.middle middle_fits)
+    (IsPadded-coordinates (length c.args.self.now) c.ranges-outer.result.0 c.ranges-outer.result.1 _ _ c.in_ok-outer.outer c.in_ok-middle.middle c.ranges-outer.ensures.unused
     (sym c.nth.ensures ∙ c.in_ok-outer.was) (sym c.nth-2.ensures ∙ c.in_ok-middle.was))
 
 pub returns : goal.returns
@@ -54,7 +56,7 @@ returns c =
     let middle_fits : FitsSigned w64 c.in_ok-middle.middle = search rules in
     let inner_fits : FitsSigned w64 c.in_ok-inner.inner = search rules in
     let is = simp to_z-of_z at c.padded.ensures in
-    ap Some is
+    ap Some (is ∙ ap (λ n. last_of n c.in_ok-outer.outer c.in_ok-middle.middle c.in_ok-inner.inner) c.rank.ensures.rank)
     ∙ sym (at (goal.at.returns c).After-size-lines c.if-line-eq0.false c.if-lines-eq0.false
-    ∙ tuple_at-some c.self.inside.rank _ _ _ c.in_ok-outer.outer c.in_ok-middle.middle c.in_ok-inner.inner
+    ∙ tuple_at-some (length c.args.self.now) _ _ _ c.in_ok-outer.outer c.in_ok-middle.middle c.in_ok-inner.inner
     (sym c.nth.ensures ∙ c.in_ok-outer.was) (sym c.nth-2.ensures ∙ c.in_ok-middle.was) (sym c.nth-3.ensures ∙ c.in_ok-inner.was))

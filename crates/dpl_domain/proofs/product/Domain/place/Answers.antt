@@ -1,70 +1,79 @@
 -- The place of an index is made of the places of its coordinates.
-use Rattle.std.proofs.Common.{◌≡◌, sym, ◌∙◌, arith, ap, length, FitsSigned, w64, rules, pos, ◌*◌, ◌+◌, refl, Fits}
+use Rattle.std.proofs.Common.{◌≡◌, sym, ◌∙◌, arith, ap, length, FitsSigned, w64, rules, pos, ◌*◌, ◌+◌, refl, Fits, subst}
 use Rattle.std.proofs.lemmas.Int.{to_z-of_z}
 use Rattle.std.proofs.lemmas.Option.{slice_get_within}
 use Rattle.dpl_domain.proofs.TupleLemmas.{length-indices}
 use Rattle.dpl_range.specs.Range.{members_of}
+use Rattle.dpl_domain.specs.Indices.{IsSmall}
 use Rattle.dpl_domain.specs.Ranks.{last_of, IsPadded}
 use Rattle.dpl_domain.proofs.PlaceLemmas.{place-one, no-outer, no-middle, no-inner, place-some, place-steps, place-other}
 use Rattle.dpl_domain.proofs.product.Domain.place.Goals as goal
-use Rattle.dpl_domain.proofs.product.Domain.place.Goals.{After-numbers-outer, After-size}
+use Rattle.dpl_domain.proofs.product.Domain.place.Goals.{After-numbers-x, After-size}
 
-pub returns-then-rank-self : goal.returns-then-rank-self
-returns-then-rank-self c =
-    rw (← c.self.view_is)
-    (place-other c.self.inside.rank c.self.inside.outer c.self.inside.middle c.self.inside.inner c.self.invariant.padded c.args.index (λ same. c.if-rank-self.true (c.rank.ensures.rank ∙ same)))
+pub returns-then-rank : goal.returns-then-rank
+returns-then-rank c =
+    rw c.ranges-outer.ensures.ranges
+    (place-other (length c.args.self.now) c.ranges-outer.result.0 c.ranges-outer.result.1 c.ranges-outer.result.2 c.ranges-outer.ensures.unused c.args.index
+    (λ same. c.if-rank.true (c.rank.ensures.rank ∙ same ∙ sym c.rank-rank.ensures.rank)))
+
+same-rank : (c : After-numbers-x) → (c.rank.result ≡ c.rank-rank.result) → length c.args.index ≡ length c.args.self.now
+same-rank c same = sym c.rank.ensures.rank ∙ same ∙ c.rank-rank.ensures.rank
 
 -- the index is the last `rank` of its three numbers
-numbers-are : (c : After-numbers-outer) → (c.rank.result ≡ c.self.inside.rank) → c.args.index ≡ last_of c.self.inside.rank c.numbers-outer.result.0 c.numbers-outer.result.1 c.numbers-outer.result.2
-numbers-are c same = c.numbers-outer.ensures.coordinates ∙ ap (λ n. last_of n c.numbers-outer.result.0 c.numbers-outer.result.1 c.numbers-outer.result.2) (sym c.rank.ensures.rank ∙ same)
+numbers-are : (c : After-numbers-x) → (c.rank.result ≡ c.rank-rank.result) → c.args.index ≡ last_of (length c.args.self.now) c.numbers-x.result.0 c.numbers-x.result.1 c.numbers-x.result.2
+numbers-are c same = c.numbers-x.ensures.coordinates ∙ ap (λ n. last_of n c.numbers-x.result.0 c.numbers-x.result.1 c.numbers-x.result.2) (same-rank c same)
 
-padded : (c : After-numbers-outer) → (c.rank.result ≡ c.self.inside.rank) → IsPadded (pos 0) c.self.inside.rank c.numbers-outer.result.0 c.numbers-outer.result.1
-padded c same = rw (← (sym c.rank.ensures.rank ∙ same)) c.numbers-outer.ensures.unused
+padded : (c : After-numbers-x) → (c.rank.result ≡ c.rank-rank.result) → IsPadded (pos 0) (length c.args.self.now) c.numbers-x.result.0 c.numbers-x.result.1
+padded c same = subst (λ n. IsPadded (pos 0) n c.numbers-x.result.0 c.numbers-x.result.1) (same-rank c same) c.numbers-x.ensures.unused
 
-pub returns-then-self-eq1 : goal.returns-then-self-eq1
-returns-then-self-eq1 c =
-    let before = (goal.at.returns-then-self-eq1 c).After-numbers-outer in
-    let fits : FitsSigned w64 c.numbers-outer.result.2 = search rules in
+pub returns-then-rank-eq1 : goal.returns-then-rank-eq1
+returns-then-rank-eq1 c =
+    let before = (goal.at.returns-then-rank-eq1 c).After-numbers-x in
+    let fits : FitsSigned w64 c.numbers-x.result.2 = search rules in
     let inner = simp to_z-of_z at c.place.ensures in
-    rw (← c.self.view_is, numbers-are before c.if-rank-self.false)
-    (place-one c.self.inside.rank c.self.inside.outer c.self.inside.middle c.self.inside.inner _ _ c.numbers-outer.result.2 c.place.result c.if-self-eq1.true inner)
+    rw (c.ranges-outer.ensures.ranges, numbers-are before c.if-rank.false)
+    (place-one (length c.args.self.now) c.ranges-outer.result.0 c.ranges-outer.result.1 c.ranges-outer.result.2 _ _ c.numbers-x.result.2 c.place.result (sym c.rank-rank.ensures.rank ∙ c.if-rank-eq1.true) inner)
 
-pub returns-in_err-outer : goal.returns-in_err-outer
-returns-in_err-outer c =
-    let before = (goal.at.returns-in_err-outer c).After-numbers-outer in
-    let fits : FitsSigned w64 c.numbers-outer.result.0 = search rules in
-    let none = simp to_z-of_z at c.in_err-outer.ensures in
-    rw (← c.self.view_is, c.from_residual.ensures)
-    (no-outer c.self.inside.rank c.self.inside.outer c.self.inside.middle c.self.inside.inner c.self.invariant.padded c.args.index _ _ _
-    (numbers-are before c.if-rank-self.false) (padded before c.if-rank-self.false) none)
+pub returns-in_err-p : goal.returns-in_err-p
+returns-in_err-p c =
+    let before = (goal.at.returns-in_err-p c).After-numbers-x in
+    let fits : FitsSigned w64 c.numbers-x.result.0 = search rules in
+    let none = simp to_z-of_z at c.in_err-p.ensures in
+    rw (c.ranges-outer.ensures.ranges, c.from_residual.ensures)
+    (no-outer (length c.args.self.now) c.ranges-outer.result.0 c.ranges-outer.result.1 c.ranges-outer.result.2 c.ranges-outer.ensures.unused c.args.index _ _ _
+    (numbers-are before c.if-rank.false) (padded before c.if-rank.false) none)
 
-pub returns-in_err-middle : goal.returns-in_err-middle
-returns-in_err-middle c =
-    let before = (goal.at.returns-in_err-middle c).After-numbers-outer in
-    let fits : FitsSigned w64 c.numbers-outer.result.1 = search rules in
-    let none = simp to_z-of_z at c.in_err-middle.ensures in
-    rw (← c.self.view_is, c.from_residual-in_err-middle.ensures)
-    (no-middle c.self.inside.rank c.self.inside.outer c.self.inside.middle c.self.inside.inner c.self.invariant.padded c.args.index _ _ _
-    (numbers-are before c.if-rank-self.false) (padded before c.if-rank-self.false) none)
+pub returns-in_err-q : goal.returns-in_err-q
+returns-in_err-q c =
+    let before = (goal.at.returns-in_err-q c).After-numbers-x in
+    let fits : FitsSigned w64 c.numbers-x.result.1 = search rules in
+    let none = simp to_z-of_z at c.in_err-q.ensures in
+    rw (c.ranges-outer.ensures.ranges, c.from_residual-in_err-q.ensures)
+    (no-middle (length c.args.self.now) c.ranges-outer.result.0 c.ranges-outer.result.1 c.ranges-outer.result.2 c.ranges-outer.ensures.unused c.args.index _ _ _
+    (numbers-are before c.if-rank.false) (padded before c.if-rank.false) none)
 
-pub returns-in_err-inner : goal.returns-in_err-inner
-returns-in_err-inner c =
-    let before = (goal.at.returns-in_err-inner c).After-numbers-outer in
-    let fits : FitsSigned w64 c.numbers-outer.result.2 = search rules in
-    let none = simp to_z-of_z at c.in_err-inner.ensures in
-    rw (← c.self.view_is, c.from_residual-in_err-inner.ensures)
-    (no-inner c.self.inside.rank c.self.inside.outer c.self.inside.middle c.self.inside.inner c.self.invariant.padded c.args.index _ _ _
-    (numbers-are before c.if-rank-self.false) (padded before c.if-rank-self.false) none)
+pub returns-in_err-r : goal.returns-in_err-r
+returns-in_err-r c =
+    let before = (goal.at.returns-in_err-r c).After-numbers-x in
+    let fits : FitsSigned w64 c.numbers-x.result.2 = search rules in
+    let none = simp to_z-of_z at c.in_err-r.ensures in
+    rw (c.ranges-outer.ensures.ranges, c.from_residual-in_err-r.ensures)
+    (no-inner (length c.args.self.now) c.ranges-outer.result.0 c.ranges-outer.result.1 c.ranges-outer.result.2 c.ranges-outer.ensures.unused c.args.index _ _ _
+    (numbers-are before c.if-rank.false) (padded before c.if-rank.false) none)
+
+-- there are few indices
+small : (c : After-size) → IsSmall (last_of (length c.args.self.now) c.ranges-outer.result.0 c.ranges-outer.result.1 c.ranges-outer.result.2)
+small c = subst IsSmall c.ranges-outer.ensures.ranges c.ranges-outer.ensures.small
 
 -- each step on the way to the place fits
-steps : (c : After-size) → Fits w64 (c.in_ok-outer.outer * length (members_of c.self.inside.middle)) × Fits w64 (c.in_ok-outer.outer * length (members_of c.self.inside.middle) + c.in_ok-middle.middle) × Fits w64 ((c.in_ok-outer.outer * length (members_of c.self.inside.middle) + c.in_ok-middle.middle) * length (members_of c.self.inside.inner)) × Fits w64 ((c.in_ok-outer.outer * length (members_of c.self.inside.middle) + c.in_ok-middle.middle) * length (members_of c.self.inside.inner) + c.in_ok-inner.inner)
+steps : (c : After-size) → Fits w64 (c.in_ok-p.p * length (members_of c.ranges-outer.result.1)) × Fits w64 (c.in_ok-p.p * length (members_of c.ranges-outer.result.1) + c.in_ok-q.q) × Fits w64 ((c.in_ok-p.p * length (members_of c.ranges-outer.result.1) + c.in_ok-q.q) * length (members_of c.ranges-outer.result.2)) × Fits w64 ((c.in_ok-p.p * length (members_of c.ranges-outer.result.1) + c.in_ok-q.q) * length (members_of c.ranges-outer.result.2) + c.in_ok-r.r)
 steps c =
-    place-steps (length (members_of c.self.inside.outer)) (length (members_of c.self.inside.middle)) (length (members_of c.self.inside.inner))
-    c.in_ok-outer.outer c.in_ok-middle.middle c.in_ok-inner.inner
-    (slice_get_within _ _ _ ((c.in_ok-outer.ensures c.in_ok-outer.outer).0 refl))
-    (slice_get_within _ _ _ ((c.in_ok-middle.ensures c.in_ok-middle.middle).0 refl))
-    (slice_get_within _ _ _ ((c.in_ok-inner.ensures c.in_ok-inner.inner).0 refl))
-    (omega (arith, c.self.invariant.small, length-indices c.self.inside.rank c.self.inside.outer c.self.inside.middle c.self.inside.inner c.self.invariant.padded))
+    place-steps (length (members_of c.ranges-outer.result.0)) (length (members_of c.ranges-outer.result.1)) (length (members_of c.ranges-outer.result.2))
+    c.in_ok-p.p c.in_ok-q.q c.in_ok-r.r
+    (slice_get_within _ _ _ ((c.in_ok-p.ensures c.in_ok-p.p).0 refl))
+    (slice_get_within _ _ _ ((c.in_ok-q.ensures c.in_ok-q.q).0 refl))
+    (slice_get_within _ _ _ ((c.in_ok-r.ensures c.in_ok-r.r).0 refl))
+    (omega (arith, small c, length-indices (length c.args.self.now) c.ranges-outer.result.0 c.ranges-outer.result.1 c.ranges-outer.result.2 c.ranges-outer.ensures.unused))
 
 pub overflow_mul-result : goal.overflow_mul-result
 overflow_mul-result c = rw c.size.ensures.length (steps c).0
@@ -80,14 +89,14 @@ overflow_add-result-2 c = rw (c.size.ensures.length, c.size-2.ensures.length) (s
 
 pub returns : goal.returns
 returns c =
-    let before = (goal.at.returns c).After-numbers-outer in
-    let outer_fits : FitsSigned w64 c.numbers-outer.result.0 = search rules in
-    let middle_fits : FitsSigned w64 c.numbers-outer.result.1 = search rules in
-    let inner_fits : FitsSigned w64 c.numbers-outer.result.2 = search rules in
-    let outer = simp to_z-of_z at c.in_ok-outer.ensures in
-    let middle = simp to_z-of_z at c.in_ok-middle.ensures in
-    let inner = simp to_z-of_z at c.in_ok-inner.ensures in
-    rw (← c.self.view_is, c.size.ensures.length, c.size-2.ensures.length)
-    (place-some c.self.inside.rank c.self.inside.outer c.self.inside.middle c.self.inside.inner c.self.invariant.padded c.args.index
-    c.numbers-outer.result.0 c.numbers-outer.result.1 c.numbers-outer.result.2 (numbers-are before c.if-rank-self.false) (padded before c.if-rank-self.false)
-    c.in_ok-outer.outer c.in_ok-middle.middle c.in_ok-inner.inner outer middle inner)
+    let before = (goal.at.returns c).After-numbers-x in
+    let outer_fits : FitsSigned w64 c.numbers-x.result.0 = search rules in
+    let middle_fits : FitsSigned w64 c.numbers-x.result.1 = search rules in
+    let inner_fits : FitsSigned w64 c.numbers-x.result.2 = search rules in
+    let outer = simp to_z-of_z at c.in_ok-p.ensures in
+    let middle = simp to_z-of_z at c.in_ok-q.ensures in
+    let inner = simp to_z-of_z at c.in_ok-r.ensures in
+    rw (c.ranges-outer.ensures.ranges, c.size.ensures.length, c.size-2.ensures.length)
+    (place-some (length c.args.self.now) c.ranges-outer.result.0 c.ranges-outer.result.1 c.ranges-outer.result.2 c.ranges-outer.ensures.unused c.args.index
+    c.numbers-x.result.0 c.numbers-x.result.1 c.numbers-x.result.2 (numbers-are before c.if-rank.false) (padded before c.if-rank.false)
+    c.in_ok-p.p c.in_ok-q.q c.in_ok-r.r outer middle inner)

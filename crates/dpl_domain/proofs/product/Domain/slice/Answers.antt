@@ -1,30 +1,25 @@
 -- Slices have no more members than what they are slices of, so their product is small enough.
-use Rattle.std.proofs.Common.{◌≡◌, length, arith, sym, ◌∙◌}
-use Rattle.dpl_domain.proofs.TupleLemmas.{length-last_of}
+use Rattle.std.proofs.Common.{length, arith, subst}
+use Rattle.dpl_domain.specs.Indices.{IsSmall}
+use Rattle.dpl_domain.specs.Ranks.{last_of}
 use Rattle.dpl_domain.proofs.PlaceLemmas.{fewer-one, fewer-two, fewer-three}
 use Rattle.dpl_domain.proofs.product.Domain.slice.Goals as goal
-use Rattle.dpl_domain.proofs.product.Domain.slice.Goals.{After-self}
+use Rattle.dpl_domain.proofs.product.Domain.slice.Goals.{After-ranges-outer}
 
-same-rank : (c : After-self) → length c.args.self.now ≡ c.self.inside.rank
-same-rank c = rw (← c.self.view_is) (length-last_of c.self.inside.rank c.self.inside.outer c.self.inside.middle c.self.inside.inner c.self.invariant.padded.to_three)
+small : (c : After-ranges-outer) → IsSmall (last_of (length c.args.self.now) c.ranges-outer.result.0 c.ranges-outer.result.1 c.ranges-outer.result.2)
+small c = subst IsSmall c.ranges-outer.ensures.ranges c.ranges-outer.ensures.small
 
-pub returns-in-len1-clause-ok : goal.returns-in-len1-clause-ok
-returns-in-len1-clause-ok c =
-    let rank = same-rank (goal.at.returns-in-len1-clause-ok c).After-self in (
-      (λ ok. c.if-bounds-self.false ∙ sym rank),
-      (λ same. c.checked.ensures.ok.1 (fewer-one c.self.inside.rank c.self.inside.outer c.self.inside.middle c.self.inside.inner c.sliced.result (omega arith) c.self.invariant c.sliced.ensures.fewer)),
-    )
+pub last_of-requires-clause-small : goal.last_of-requires-clause-small
+last_of-requires-clause-small c =
+    fewer-one (length c.args.self.now) c.ranges-outer.result.0 c.ranges-outer.result.1 c.ranges-outer.result.2 c.sliced.result (omega arith) c.ranges-outer.ensures.unused
+    (small (goal.at.last_of-requires-clause-small c).After-ranges-outer) c.sliced.ensures.fewer
 
-pub returns-in-len2-clause-ok : goal.returns-in-len2-clause-ok
-returns-in-len2-clause-ok c =
-    let rank = same-rank (goal.at.returns-in-len2-clause-ok c).After-self in (
-      (λ ok. c.if-bounds-self.false ∙ sym rank),
-      (λ same. c.checked-in-len2.ensures.ok.1 (fewer-two c.self.inside.rank c.self.inside.outer c.self.inside.middle c.self.inside.inner c.sliced-in-len2.result c.sliced-in-len2-2.result (omega arith) c.self.invariant c.sliced-in-len2.ensures.fewer c.sliced-in-len2-2.ensures.fewer)),
-    )
+pub last_of-requires-in-len2-clause-small : goal.last_of-requires-in-len2-clause-small
+last_of-requires-in-len2-clause-small c =
+    fewer-two (length c.args.self.now) c.ranges-outer.result.0 c.ranges-outer.result.1 c.ranges-outer.result.2 c.sliced-in-len2.result c.sliced-in-len2-2.result (omega arith) c.ranges-outer.ensures.unused
+    (small (goal.at.last_of-requires-in-len2-clause-small c).After-ranges-outer) c.sliced-in-len2.ensures.fewer c.sliced-in-len2-2.ensures.fewer
 
-pub returns-in-len3-clause-ok : goal.returns-in-len3-clause-ok
-returns-in-len3-clause-ok c =
-    let rank = same-rank (goal.at.returns-in-len3-clause-ok c).After-self in (
-      (λ ok. c.if-bounds-self.false ∙ sym rank),
-      (λ same. c.checked-in-len3.ensures.ok.1 (fewer-three c.self.inside.rank c.self.inside.outer c.self.inside.middle c.self.inside.inner c.sliced-in-len3.result c.sliced-in-len3-2.result c.sliced-in-len3-3.result (omega arith) c.self.invariant c.sliced-in-len3.ensures.fewer c.sliced-in-len3-2.ensures.fewer c.sliced-in-len3-3.ensures.fewer)),
-    )
+pub last_of-requires-in-len3-clause-small : goal.last_of-requires-in-len3-clause-small
+last_of-requires-in-len3-clause-small c =
+    fewer-three (length c.args.self.now) c.ranges-outer.result.0 c.ranges-outer.result.1 c.ranges-outer.result.2 c.sliced-in-len3.result c.sliced-in-len3-2.result c.sliced-in-len3-3.result (omega arith) c.ranges-outer.ensures.unused
+    (small (goal.at.last_of-requires-in-len3-clause-small c).After-ranges-outer) c.sliced-in-len3.ensures.fewer c.sliced-in-len3-2.ensures.fewer c.sliced-in-len3-3.ensures.fewer
