@@ -7,7 +7,7 @@ use Rattle.dpl_range.proofs.Ends.{Contains-slice_get, slice_get-Contains}
 use Rattle.dpl_range.specs.Range.{RangeValue, members_of}
 use Rattle.dpl_domain.specs.Indices.{indices, IsSmall}
 use Rattle.dpl_domain.specs.Ranks.{last_of, point, IsPadded}
-use Rattle.dpl_domain.proofs.TupleLemmas.{cons_at, slice_get-line, tuple_at-some, tuple_at-parts, last_of-parts, length-last_of, slice_get-indices, slice_get-indices_at, indices-empty, place-indices, length-indices, IsPadded-coordinates}
+use Rattle.dpl_domain.proofs.TupleLemmas.{cons_at, point-members, slice_get-line, tuple_at-some, tuple_at-parts, last_of-parts, length-last_of, slice_get-indices, slice_get-indices_at, indices-empty, place-indices, length-indices, IsPadded-coordinates}
 
 -- the three numbers of a tuple at a place of a domain are members at the parts of that place
 pub record StandsAt (o m i : RangeValue) (k : ℕ) (x y z : ℤ) : Type 0 where
@@ -30,6 +30,26 @@ place-steps a m n p q r p_below q_below r_below small =
     let whole = place-below a m n p q r p_below q_below r_below in
     let line : (p * m + q) * 1 ≤ (p * m + q) * n = mul-le-mul_left (p * m + q) (omega arith) in
     (record { fits = omega (arith, whole, line) }, record { fits = omega (arith, whole, line) }, record { fits = omega (arith, whole, line) }, record { fits = omega (arith, whole, line) })
+
+-- the same of a plane
+pub plane-steps : (rank : ℕ) (o m i : RangeValue) (q r : ℕ) → rank ≡ 2 → IsPadded point rank o m → q < length (members_of m) → r < length (members_of i) → IsSmall (last_of rank o m i) → Fits w64 (q * length (members_of i)) × Fits w64 (q * length (members_of i) + r)
+plane-steps rank o m i q r two padded q_below r_below small =
+    let one : length (members_of o) ≡ 1 = ap length (point-members o (padded.first (omega arith))) in
+    let many : length (indices (last_of rank o m i)) ≡ 1 * length (members_of m) * length (members_of i) =
+    length-indices rank o m i padded ∙ ap (λ n. n * length (members_of m) * length (members_of i)) one in
+    let below : (0 * length (members_of m) + q) * length (members_of i) + r < 1 * length (members_of m) * length (members_of i) = place-below 1 (length (members_of m)) (length (members_of i)) 0 q r (omega arith) q_below r_below in
+    let row : 0 * length (members_of m) + q ≡ q = omega arith in
+    let same : (0 * length (members_of m) + q) * length (members_of i) ≡ q * length (members_of i) = ap (λ n. n * length (members_of i)) row in
+    (record { fits = omega (arith, below, same, small, many) }, record { fits = omega (arith, below, same, small, many) })
+
+-- a coordinate that an index does not have is the only member of a range that its domain does not have
+pub place-unused : (o : RangeValue) (x : ℤ) → o ≡ point → x ≡ pos 0 → (k : ℕ) → (Some 0 ≡ Some k) ↔ (slice_get (members_of o) k ≡ Some x)
+place-unused o x range number k =
+    rw (point-members o range, number) (go k)
+  where
+    go : (k : ℕ) → (Some 0 ≡ Some k) ↔ (slice_get (pos 0 ∷ []) k ≡ Some (pos 0))
+    go zero = ((λ _. refl), (λ _. refl))
+    go (suc k) = ((λ here. absurd (let e : 0 ≡ suc k = same_Some 0 (suc k) here in omega (arith, e))), (λ found. absurd (none-some (pos 0) found)))
 
 module _ (rank : ℕ) (o m i : RangeValue) (padded : IsPadded point rank o m) where
   parts : (k : ℕ) (t : List ℤ) → slice_get (indices (last_of rank o m i)) k ≡ Some t → (x : ℤ) × (y : ℤ) × (z : ℤ) × StandsAt o m i k x y z × (last_of rank x y z ≡ t)
@@ -87,6 +107,12 @@ module _ (rank : ℕ) (o m i : RangeValue) (padded : IsPadded point rank o m) wh
                 (sym (same_Some q _ ((middle _).1 s.middle)))
                 (sym (same_Some r _ ((inner _).1 s.inner)))))),
           )
+
+      -- in a domain of rank 2 the first of the three places is 0
+      pub place-two : p ≡ 0 → (k : ℕ) → (Some (q * length (members_of i) + r) ≡ Some k) ↔ (slice_get (indices (last_of rank o m i)) k ≡ Some t)
+      place-two none k =
+          let row : p * length (members_of m) + q ≡ q = ap (λ n. n * length (members_of m) + q) none ∙ omega arith in
+          subst (λ n. (Some (n * length (members_of i) + r) ≡ Some k) ↔ (slice_get (indices (last_of rank o m i)) k ≡ Some t)) row (place-some k)
 
 -- an index of one coordinate stands where the coordinate does
 cons_at-one : (o : Option ℤ) (z : ℤ) → (o ≡ Some z) ↔ (cons_at o (Some []) ≡ Some (z ∷ []))

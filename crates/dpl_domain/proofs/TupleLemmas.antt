@@ -7,6 +7,8 @@ use Rattle.std.proofs.Math.Nat.{suc-mul, add-mul, mul_assoc, mul-le-mul_right}
 use Rattle.dpl_range.specs.Members.{members}
 use Rattle.dpl_range.specs.Range.{RangeValue, members_of}
 use Rattle.dpl_domain.specs.Indices.{tuples, indices}
+use Rattle.dpl_domain.specs.DimensionFields.{fields_of-last_of}
+use Rattle.dpl_domain.specs.DomainFields.{line_count, line_size}
 use Rattle.dpl_domain.specs.Ranks.{last_of, point, IsFilled, IsPadded}
 
 pub members-point : members (pos 0) (pos 0) (pos 1) ≡ pos 0 ∷ []
@@ -17,6 +19,19 @@ members-point = refl
 pub IsPadded-IsFilled : {A : Type 0} {unused : A} {rank : ℕ} {a b c : A} → 1 ≤ rank → IsFilled unused rank a b c → IsPadded unused rank a b
 IsPadded-IsFilled from_one filled =
     record { from_one = from_one; to_three = filled.to_three; first = filled.first; second = filled.second }
+
+pub IsFilled-IsPadded : {A : Type 0} {unused : A} {rank : ℕ} {a b c : A} → IsPadded unused rank a b → IsFilled unused rank a b c
+IsFilled-IsPadded padded =
+    record { to_three = padded.to_three; first = padded.first; second = padded.second; third = λ below. absurd (omega (arith, padded.from_one)) }
+
+-- the sizes of the last two dimensions are those of the ranges in the last two places
+pub line_count-places : (rank : ℕ) (o m i : RangeValue) (ranges : List RangeValue) → IsFilled point rank o m i → ranges ≡ last_of rank o m i → line_count ranges ≡ length (members_of m)
+line_count-places rank o m i ranges filled are =
+    ap line_count are ∙ ap (λ f. length (members_of f.middle)) (fields_of-last_of point (record { rank = rank; outer = o; middle = m; inner = i }) filled)
+
+pub line_size-places : (rank : ℕ) (o m i : RangeValue) (ranges : List RangeValue) → IsFilled point rank o m i → ranges ≡ last_of rank o m i → line_size ranges ≡ length (members_of i)
+line_size-places rank o m i ranges filled are =
+    ap line_size are ∙ ap (λ f. length (members_of f.inner)) (fields_of-last_of point (record { rank = rank; outer = o; middle = m; inner = i }) filled)
 
 -- an element before a tuple, where both are there
 abbrev pub cons_at : Option ℤ → Option (List ℤ) → Option (List ℤ)
@@ -126,7 +141,7 @@ drop_two (Some a) None c = refl
 drop_two (Some a) (Some b) None = refl
 drop_two (Some a) (Some b) (Some c) = refl
 
-point-members : (r : RangeValue) → r ≡ point → members_of r ≡ pos 0 ∷ []
+pub point-members : (r : RangeValue) → r ≡ point → members_of r ≡ pos 0 ∷ []
 point-members r is = ap members_of is ∙ members-point
 
 -- the index at a place of a domain of any rank

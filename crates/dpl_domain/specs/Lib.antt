@@ -1,6 +1,7 @@
 pub mod Indices
 pub mod Ranks
 pub mod DimensionFields
+pub mod DomainFields
 pub mod Order
 pub mod Slices
 pub mod Expansions

@@ -1,7 +1,6 @@
 -- Up to three things in three places: those of a lower rank leave the places in front unused.
 use Rattle.std.specs.Prelude.{ℕ, zero, suc, ◌≤◌, ◌≡◌, ◌<◌, List, [], ◌∷◌, pos}
 use Rattle.dpl_range.specs.Range.{RangeValue}
-use Rattle.dpl_domain.specs.Indices.{IsRank, IsSmall}
 
 -- the last one, two or all three of three things
 abbrev pub last_of : {A : Type 0} → ℕ → A → A → A → List A
@@ -27,8 +26,3 @@ pub record IsPadded {A : Type 0} (unused : A) (rank : ℕ) (a b : A) : Type 0 wh
 -- the range with the one member 0, which stands in the places that a domain leaves unused
 abbrev pub point : RangeValue
 point = record { low = pos 0; high = pos 0; stride = pos 1 }
-
--- what holds of the ranges that a domain keeps
-pub record IsDomain (ranges : List RangeValue) : Type 0 where
-  pub rank : IsRank ranges
-  pub small : IsSmall ranges

@@ -4,6 +4,7 @@ ghost use Rattle.std.specs.Prelude.{All, min, ◌≢◌, ◌*◌, ◌-◌, ◌�
 ghost use Rattle.dpl_range.specs.Range.{members_of, IsRange};
 ghost use Rattle.dpl_domain.specs.Indices.{indices, IsRank, IsSmall};
 ghost use Rattle.dpl_domain.specs.Ranks.{last_of, point, IsPadded};
+ghost use Rattle.dpl_domain.specs.DomainFields.{line_count, line_size};
 ghost use Rattle.dpl_domain.specs.Slices.{IsSlice, AreSlices, AreBounds};
 ghost use Rattle.dpl_domain.specs.Expansions.{expanded, AreUnit, AreBounded};
 
@@ -35,9 +36,16 @@ pub enum DomainFault {
 
 /// A product of one to three ranges, seen as the list of these ranges; its indices are the tuples of their
 /// members, row by row with the last dimension fastest.
-#[derive(Clone, Copy, Debug, PartialEq, Eq)]
+#[derive(Clone, Copy, Debug)]
+#[derive_where(PartialEq, Eq)]
 pub struct Domain {
     ranges: Dimensions<Range>,
+    #[derive_where(skip(EqHashOrd))]
+    lines: u64,
+    #[derive_where(skip(EqHashOrd))]
+    line: u64,
+    #[derive_where(skip(EqHashOrd))]
+    size: u64,
 }
 
 impl Model for Domain {
@@ -46,13 +54,15 @@ impl Model for Domain {
 
     ghost Value = { List RangeValue };
 
-    ghost use Rattle.dpl_domain.specs.Ranks.{IsDomain};
+    ghost use Rattle.std.specs.Prelude.{length};
+    ghost use Rattle.dpl_domain.specs.Indices.{indices};
+    ghost use Rattle.dpl_domain.specs.DomainFields.{line_count, line_size, IsDomain};
 
     ghost view = { λ d. d.ranges };
 
-    ghost invariant = { λ d. IsDomain d.ranges };
+    ghost invariant = { λ d. IsDomain d.ranges d.lines d.line d.size };
 
-    ghost inverse = { λ v. record { ranges = v } };
+    ghost inverse = { λ v. record { ranges = v; lines = line_count v; line = line_size v; size = length (indices v) } };
 }
 
 impl Domain {
@@ -80,7 +90,22 @@ impl Domain {
         if MOST_INDICES < tuples(&outer, &middle, &inner) {
             return Err(DomainFault::Size);
         }
-        Ok(Domain { ranges })
+        Ok(Domain::kept(ranges))
+    }
+
+    // The domain with these ranges.
+    fn kept(ranges: Dimensions<Range>) -> Domain
+        requires rank { IsRank ranges }
+        requires small { IsSmall ranges }
+        ensures { result ≡ ranges }
+    {
+        let (outer, middle, inner) = ranges.places();
+        Domain {
+            ranges,
+            lines: middle.size(),
+            line: inner.size(),
+            size: tuples(&outer, &middle, &inner),
+        }
     }
 
     /// The domain with the last `rank` of three ranges.
@@ -90,9 +115,7 @@ impl Domain {
         requires small { IsSmall (last_of rank outer middle inner) }
         ensures { result ≡ last_of rank outer middle inner }
     {
-        Domain {
-            ranges: Dimensions::last_of(rank, outer, middle, inner),
-        }
+        Domain::kept(Dimensions::last_of(rank, outer, middle, inner))
     }
 
     /// How many dimensions the domain has.
@@ -124,8 +147,7 @@ impl Domain {
         ensures size { result ≡ length (indices self.now) }
         ensures small { IsSmall self.now }
     {
-        let (outer, middle, inner) = self.ranges();
-        tuples(&outer, &middle, &inner)
+        self.size
     }
 
     /// The index at place `k`, counted from 0, if there are that many.
@@ -133,9 +155,9 @@ impl Domain {
         ensures { result ≡ slice_get (indices self.now) k }
     {
         let (outer, middle, inner) = self.ranges();
-        let line = inner.size();
-        let lines = middle.size();
-        if line == 0 || lines == 0 {
+        let lines = self.lines();
+        let line = self.line();
+        if lines == 0 || line == 0 {
             return None;
         }
         let row = k / line;
@@ -158,10 +180,27 @@ impl Domain {
         if rank == 1 {
             return inner.place(z);
         }
-        let p = outer.place(x)?;
         let q = middle.place(y)?;
         let r = inner.place(z)?;
-        Some((p * middle.size() + q) * inner.size() + r)
+        if rank == 2 {
+            return Some(q * self.line() + r);
+        }
+        let p = outer.place(x)?;
+        Some((p * self.lines() + q) * self.line() + r)
+    }
+
+    // How many lines a plane has: the size of the last dimension but one.
+    fn lines(&self) -> u64
+        ensures { result ≡ line_count self.now }
+    {
+        self.lines
+    }
+
+    // How many indices a line has: the size of the last dimension.
+    fn line(&self) -> u64
+        ensures { result ≡ line_size self.now }
+    {
+        self.line
     }
 
     /// Whether `index` is an index of the domain.

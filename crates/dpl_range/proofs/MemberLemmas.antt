@@ -176,6 +176,14 @@ place-whole r n offset i limits size within at whole k =
       (λ found. ap Some (ap (λ m. m / n) ((place-walked r offset k i limits within at).0 found ∙ ap (λ m. k * m) size) ∙ mul-div_cancel k positive)),
     )
 
+-- in a range of stride 1 an integer's place is how far it lies above the low bound
+pub place-unit : (r : RangeValue) (n : ℕ) (i : ℤ) → IsRange r → r.stride ≡ pos 1 → i ≤ℤ r.high → r.low +ℤ pos n ≡ i → (k : ℕ) → (Some n ≡ Some k) ↔ (slice_get (members_of r) k ≡ Some i)
+place-unit r n i limits unit below at =
+    let within : (r.low +ℤ pos n) ≤ℤ r.high = omega (arith, ints) in
+    let walk : i ≡ walked r.low r.high r.stride n = sym at ∙ ap (λ s. walked r.low r.high s n) (sym unit) in
+    let whole : n / 1 ≡ n = omega arith in
+    rw whole at (place-whole r 1 n i limits (ap unsigned_abs unit) within walk (omega arith))
+
 -- and there is no such place where it does not
 pub place-broken : (r : RangeValue) (n offset : ℕ) (i : ℤ) → IsRange r → unsigned_abs r.stride ≡ n → (r.low +ℤ pos offset) ≤ℤ r.high → i ≡ walked r.low r.high r.stride offset → (offset % n ≡ 0 → ⊥) → (k : ℕ) → (None ≡ Some k) ↔ (slice_get (members_of r) k ≡ Some i)
 place-broken r n offset i limits size within at broken k = (

@@ -100,10 +100,10 @@ impl Range {
         if i < self.low || self.high < i {
             return None;
         }
-        let offset = self.offset(i);
         if self.stride == 1 {
-            return Some(offset);
+            return Some((i - self.low) as u64);
         }
+        let offset = self.offset(i);
         let step = self.step();
         if offset % step == 0 {
             Some(offset / step)

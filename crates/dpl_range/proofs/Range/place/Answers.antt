@@ -1,9 +1,9 @@
 -- A place is the number of strides up to it.
-use Rattle.std.proofs.Common.{◌≡◌, pos, ◌<ℤ◌, ◌/◌, ap, arith, unsigned_abs, ◌⊎◌, inl, inr}
+use Rattle.std.proofs.Common.{◌≡◌, pos, ◌<ℤ◌, ◌≤ℤ◌, arith, ◌⊎◌, inl, inr}
 use Rattle.std.proofs.lemmas.Int.{ints}
 use Rattle.dpl_range.specs.Range.{IsRange}
 use Rattle.dpl_range.specs.Walk.{walked}
-use Rattle.dpl_range.proofs.MemberLemmas.{place-whole, place-broken, place-outside}
+use Rattle.dpl_range.proofs.MemberLemmas.{place-unit, place-whole, place-broken, place-outside}
 use Rattle.dpl_range.proofs.Range.place.Goals as goal
 use Rattle.dpl_range.proofs.Range.place.Goals.{then-i-self-via-then-i-self, then-i-self-via-else-i-self+then-self-i}
 
@@ -21,10 +21,9 @@ pub returns-then-self-eq1 : goal.returns-then-self-eq1
 returns-then-self-eq1 c =
     let limits : IsRange c.args.self.now = rw (← c.self.view_is) c.self.invariant in
     let one : c.self.inside.stride ≡ pos 1 = omega (arith, ints) in
-    let size : unsigned_abs c.args.self.now.stride ≡ 1 = rw (← c.self.view_is) (ap unsigned_abs one) in
-    let at : c.args.i ≡ walked c.args.self.now.low c.args.self.now.high c.args.self.now.stride c.offset-offset.result = omega (arith, ints) in
-    let whole : c.offset-offset.result / 1 ≡ c.offset-offset.result = omega arith in
-    rw whole at (place-whole c.args.self.now 1 c.offset-offset.result c.args.i limits size c.offset-offset.ensures.within at (omega arith))
+    let unit : c.args.self.now.stride ≡ pos 1 = rw (← c.self.view_is) one in
+    let below : c.args.i ≤ℤ c.args.self.now.high = rw (← c.self.view_is) (omega (arith, ints)) in
+    place-unit c.args.self.now _ c.args.i limits unit below (rw (← c.self.view_is) (omega (arith, ints)))
 
 pub returns-then-offset-step-eq0 : goal.returns-then-offset-step-eq0
 returns-then-offset-step-eq0 c =

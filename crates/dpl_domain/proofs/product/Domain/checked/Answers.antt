@@ -28,8 +28,8 @@ returns-then-tuples-gt-MOST_INDICES-clause-size c =
     let never = large (goal.at.returns-then-tuples-gt-MOST_INDICES-clause-size c).After-tuples c.if-tuples-gt-MOST_INDICES.true in
     ((λ e. never), (λ h. refl))
 
-pub invariant_of-result : goal.invariant_of-result
-invariant_of-result c = record { rank = c.requires; small = small (goal.at.invariant_of-result c).After-tuples c.if-tuples-gt-MOST_INDICES.false }
+pub kept-requires-clause-small : goal.kept-requires-clause-small
+kept-requires-clause-small c = small (goal.at.kept-requires-clause-small c).After-tuples c.if-tuples-gt-MOST_INDICES.false
 
 pub returns-clause-ok : goal.returns-clause-ok
 returns-clause-ok c = ((λ e. small (goal.at.returns-clause-ok c).After-tuples c.if-tuples-gt-MOST_INDICES.false), (λ fits. refl))
