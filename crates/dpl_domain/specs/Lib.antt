@@ -3,6 +3,7 @@ pub mod Ranks
 pub mod DimensionFields
 pub mod DomainFields
 pub mod Order
+pub mod Texts
 pub mod Slices
 pub mod Expansions
 pub mod Progression

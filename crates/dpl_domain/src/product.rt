@@ -1,7 +1,8 @@
 // A domain: the product of one to three ranges.
 
 ghost use Rattle.std.specs.Prelude.{All, min, ◌≢◌, ◌*◌, ◌-◌, ◌≡◌, ◌≤◌, ◌<◌, ◌↔◌, ◌^◌, ℕ, pos, [], ◌∷◌, length, slice_get, Contains, IsTrue, IsOk, IfOk};
-ghost use Rattle.dpl_range.specs.Range.{members_of, IsRange};
+ghost use Rattle.dpl_range.specs.Range.{members_of};
+ghost use Rattle.dpl_range.specs.Invariant.{IsRange};
 ghost use Rattle.dpl_domain.specs.Indices.{indices, IsRank, IsSmall};
 ghost use Rattle.dpl_domain.specs.Ranks.{last_of, point, IsPadded};
 ghost use Rattle.dpl_domain.specs.DomainFields.{line_count, line_size};

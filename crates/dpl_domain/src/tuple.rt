@@ -1,15 +1,17 @@
 // An index: a tuple of one to three whole numbers.
 
-ghost use Rattle.std.specs.Prelude.{pos, ◌≡◌, ◌≤◌, ◌↔◌, [], ◌∷◌, length, slice_get, IsSome, IfSome};
+ghost use Rattle.std.specs.Prelude.{pos, ◌≡◌, ◌≤◌, ◌↔◌, [], ◌∷◌, length, slice_get, Some, IsSome, IfSome};
 ghost use Rattle.dpl_domain.specs.Indices.{IsRank};
 ghost use Rattle.dpl_domain.specs.Ranks.{last_of, IsPadded};
+ghost use Rattle.dpl_domain.specs.Texts.{index_text};
 
 use crate::Dimensions;
+use std::fmt;
 use std::marker::Model;
 
 /// A tuple of one to three coordinates. Indices of one rank are ordered row by row: by their first
 /// coordinates, where these are equal by their second, and then by their third. One of a lower rank comes
-/// before one of a higher.
+/// before one of a higher. It prints as its coordinates with commas between them: `2,1`.
 #[derive(Clone, Copy, Debug, PartialEq, Eq, PartialOrd, Ord, Hash)]
 pub struct Index {
     coordinates: Dimensions<i64>,
@@ -72,6 +74,19 @@ impl Index {
     {
         Index {
             coordinates: Dimensions::padded(rank, outer, middle, inner),
+        }
+    }
+}
+
+impl fmt::Display for Index {
+    ghost output = { λ index. Some (index_text index) };
+
+    fn fmt<W: fmt::Write>(&self, f: &mut fmt::Formatter<W>) -> fmt::Result {
+        let (outer, middle, inner) = self.numbers();
+        match self.rank() {
+            1 => write!(f, "{inner}"),
+            2 => write!(f, "{middle},{inner}"),
+            _ => write!(f, "{outer},{middle},{inner}"),
         }
     }
 }

@@ -1,7 +1,8 @@
 // One dimension of a map: by which rule its indices are dealt out over how many places.
 
 ghost use Rattle.std.specs.Prelude.{◌≡◌, ◌≢◌, ◌↔◌, ◌+◌, ◌*◌, ◌^◌, ◌≤◌, ◌<◌, ◌≤ℤ◌, ◌==◌, ◌&&◌, ℕ, ℤ, pos, neg_ℤ, int_le, filter, length, All, IfOk, []};
-ghost use Rattle.dpl_range.specs.Range.{members_of, IsBound, IsRange};
+ghost use Rattle.dpl_range.specs.Range.{members_of, IsBound};
+ghost use Rattle.dpl_range.specs.Invariant.{IsRange};
 ghost use Rattle.dpl_map.specs.AxisFields.{IsAxis};
 ghost use Rattle.dpl_map.specs.Grids.{IsGridSize};
 ghost use Rattle.dpl_map.specs.Cuts.{AreCut};

@@ -8,7 +8,8 @@ use Rattle.std.specs.Int.{int_rem_euclid}
 use Rattle.dpl_range.specs.Congruence.{is_congruent}
 use Rattle.dpl_range.proofs.Congruence.{congruent-walked, step-remainder, periodic}
 use Rattle.dpl_range.specs.Members.{every, spaced}
-use Rattle.dpl_range.specs.Range.{RangeValue, members_of, IsBound, IsRange}
+use Rattle.dpl_range.specs.Range.{RangeValue, members_of, IsBound}
+use Rattle.dpl_range.specs.Invariant.{IsRange}
 use Rattle.dpl_range.specs.Walk.{walked, nearer, begun, ahead, SameWay}
 use Rattle.dpl_range.proofs.Lists.{slice_get-spaced, same_places, spaced-drop, filter-spaced, filter-none}
 use Rattle.dpl_range.proofs.MemberLemmas.{span_of, slice_get-members, members-past, walk-within, nth-walked, members-empty}

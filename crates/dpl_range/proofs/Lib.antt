@@ -7,3 +7,5 @@ pub mod SliceLemmas
 pub mod Congruence
 pub mod Multiples
 pub mod ClassLemmas
+pub mod EqualityLemmas
+pub mod LimitLemmas

@@ -60,7 +60,7 @@ spaced-drop gap (suc wait) [] = refl
 spaced-drop gap (suc wait) (i ∷ is) = spaced-drop gap wait is
 
 -- what can't be true is false
-false_unless : (b : Bool) → (b ≡ true → ⊥) → b ≡ false
+pub false_unless : (b : Bool) → (b ≡ true → ⊥) → b ≡ false
 false_unless true never = absurd (never refl)
 false_unless false never = refl
 

@@ -6,7 +6,9 @@ ghost use Rattle.std.specs.Prelude.{◌≡◌, ◌*◌, neg_ℤ, drop, ◌↔◌
 ghost use Rattle.std.specs.Int.{int_max, int_min, int_rem_euclid};
 ghost use Rattle.dpl_range.specs.Congruence.{is_congruent};
 ghost use Rattle.dpl_range.specs.Members.{every};
-ghost use Rattle.dpl_range.specs.Range.{members_of, IsBound, IsStride, IsRange};
+ghost use Rattle.dpl_range.specs.Range.{members_of, IsBound, IsStride};
+ghost use Rattle.dpl_range.specs.Slices.{members_within, begun_with, sliced};
+ghost use Rattle.dpl_range.specs.Invariant.{IsRange};
 ghost use Rattle.dpl_range.specs.Walk.{walked, nearer, begun, ahead, SameWay};
 
 mod progression;
@@ -39,7 +41,8 @@ pub struct Range {
 }
 
 impl Model for Range {
-    ghost use Rattle.dpl_range.specs.Range.{RangeValue, IsRange};
+    ghost use Rattle.dpl_range.specs.Range.{RangeValue};
+    ghost use Rattle.dpl_range.specs.Invariant.{IsRange};
 
     ghost Value = { RangeValue };
 
@@ -61,7 +64,7 @@ impl Range {
         if !is_bound(low) || !is_bound(high) {
             return Err(RangeFault::Bound);
         }
-        if stride == 0 || stride < -LIMIT || LIMIT < stride {
+        if !is_stride(stride) {
             return Err(RangeFault::Stride);
         }
         Ok(Range { low, high, stride })
@@ -188,7 +191,8 @@ impl Range {
     pub fn slice(&self, low: i64, high: i64) -> Range
         requires low_is_bound { IsBound low }
         requires high_is_bound { IsBound high }
-        ensures members { members_of result ≡ filter (λ i. int_le low i && int_le i high) (members_of self.now) }
+        ensures value { result ≡ sliced low high self.now }
+        ensures members { members_of result ≡ members_within low high self.now }
         ensures stride { result.stride ≡ self.now.stride }
         ensures low { self.now.stride ≡ pos 1 → result.low ≡ int_max self.now.low low }
         ensures high { self.now.stride ≡ pos 1 → result.high ≡ int_min self.now.high high }
@@ -210,7 +214,8 @@ impl Range {
         requires low { self.now.low ≤ℤ low }
         requires ordered { low ≤ℤ high }
         requires high { high ≤ℤ self.now.high }
-        ensures members { members_of result ≡ filter (λ i. int_le low i && int_le i high) (members_of self.now) }
+        ensures value { result ≡ begun_with (members_within low high self.now) (record self.now { low = low; high = high }) }
+        ensures members { members_of result ≡ members_within low high self.now }
         ensures stride { result.stride ≡ self.now.stride }
         ensures limits { IsRange result }
     {
@@ -402,9 +407,16 @@ impl Range {
     }
 }
 
-/// Whether `i` may be a bound of a range.
-fn is_bound(i: i64) -> bool
+/// Whether `i` may be a bound of a range: whether it is from -2^60 to 2^60.
+pub fn is_bound(i: i64) -> bool
     ensures { IsTrue result ↔ IsBound i }
 {
     -LIMIT <= i && i <= LIMIT
+}
+
+/// Whether `s` may be the stride of a range that is handed in: whether it is from 1 to 2^60 in size.
+pub fn is_stride(s: i64) -> bool
+    ensures { IsTrue result ↔ IsStride s }
+{
+    s != 0 && is_bound(s)
 }

@@ -1,7 +1,7 @@
 -- A place is the number of strides up to it.
 use Rattle.std.proofs.Common.{◌≡◌, pos, ◌<ℤ◌, ◌≤ℤ◌, arith, ◌⊎◌, inl, inr}
 use Rattle.std.proofs.lemmas.Int.{ints}
-use Rattle.dpl_range.specs.Range.{IsRange}
+use Rattle.dpl_range.specs.Invariant.{IsRange}
 use Rattle.dpl_range.specs.Walk.{walked}
 use Rattle.dpl_range.proofs.MemberLemmas.{place-unit, place-whole, place-broken, place-outside}
 use Rattle.dpl_range.proofs.Range.place.Goals as goal

@@ -2,10 +2,12 @@
 use Rattle.std.proofs.Common.{◌≡◌, ℤ, pos, ◌<ℤ◌, ap, sym, ◌∙◌, arith, FitsSigned, w64, rules}
 use Rattle.std.proofs.lemmas.Int.{ints, to_z-of_z}
 use Rattle.std.specs.Int.{int_max, int_min}
-use Rattle.dpl_range.specs.Range.{RangeValue, IsBound, IsRange}
-use Rattle.dpl_range.proofs.SliceLemmas.{slice-unit, slice-none, slice-cut, IsBound-int_max, IsBound-int_min}
+use Rattle.dpl_range.specs.Range.{RangeValue, IsBound}
+use Rattle.dpl_range.specs.Invariant.{IsRange}
+use Rattle.dpl_range.specs.Slices.{narrowed, begun_with}
+use Rattle.dpl_range.proofs.SliceLemmas.{slice-unit, slice-none, slice-cut, sliced-unit, sliced-none, sliced-other, IsBound-int_max, IsBound-int_min}
 use Rattle.dpl_range.proofs.Range.slice.Goals as goal
-use Rattle.dpl_range.proofs.Range.slice.Goals.{After-min-high}
+use Rattle.dpl_range.proofs.Range.slice.Goals.{After-min-high, After-unit}
 
 abbrev range : ℤ → ℤ → ℤ → RangeValue
 range low high stride = record { low = low; high = high; stride = stride }
@@ -41,17 +43,27 @@ unit-requires-clause-high_is_bound c =
     let fits : FitsSigned w64 c.min-high.result = search rules in
     rw (to_z-of_z w64 c.min-high.result fits) (high-bound (goal.at.unit-requires-clause-high_is_bound c).After-min-high)
 
-pub returns-then-self-eq1-clause-members : goal.returns-then-self-eq1-clause-members
-returns-then-self-eq1-clause-members c =
+-- what is made of stride 1
+narrowed-is : (c : After-unit) → c.unit.result ≡ record { low = int_max c.args.self.now.low c.args.low; high = int_min c.args.self.now.high c.args.high; stride = pos 1 }
+narrowed-is c =
     let cut = (goal.at.returns-then-self-eq1-clause-members c).After-min-high in
     let low_fits : FitsSigned w64 c.max-low.result = search rules in
     let high_fits : FitsSigned w64 c.min-high.result = search rules in
-    let unit : c.self.inside.stride ≡ pos 1 = omega (arith, ints) in
-    let is : c.unit.result ≡ record { low = int_max c.args.self.now.low c.args.low; high = int_min c.args.self.now.high c.args.high; stride = pos 1 } =
     simp to_z-of_z at c.unit.ensures.value
     ∙ ap (λ (low : ℤ). range low c.min-high.result (pos 1)) (low-is cut)
-    ∙ ap (λ (high : ℤ). range (int_max c.args.self.now.low c.args.low) high (pos 1)) (high-is cut) in
-    rw is (slice-unit c.args.self.now c.args.low c.args.high (limits-of cut) c.requires.low_is_bound c.requires.high_is_bound (sym (ap (λ (v : RangeValue). v.stride) c.self.view_is) ∙ unit))
+    ∙ ap (λ (high : ℤ). range (int_max c.args.self.now.low c.args.low) high (pos 1)) (high-is cut)
+
+pub returns-then-self-eq1-clause-value : goal.returns-then-self-eq1-clause-value
+returns-then-self-eq1-clause-value c =
+    let cut = (goal.at.returns-then-self-eq1-clause-value c).After-min-high in
+    let unit : c.self.inside.stride ≡ pos 1 = omega (arith, ints) in
+    narrowed-is c ∙ sliced-unit c.args.self.now c.args.low c.args.high (limits-of cut) (sym (ap (λ (v : RangeValue). v.stride) c.self.view_is) ∙ unit)
+
+pub returns-then-self-eq1-clause-members : goal.returns-then-self-eq1-clause-members
+returns-then-self-eq1-clause-members c =
+    let cut = (goal.at.returns-then-self-eq1-clause-members c).After-min-high in
+    let unit : c.self.inside.stride ≡ pos 1 = omega (arith, ints) in
+    rw (narrowed-is c) (slice-unit c.args.self.now c.args.low c.args.high (limits-of cut) c.requires.low_is_bound c.requires.high_is_bound (sym (ap (λ (v : RangeValue). v.stride) c.self.view_is) ∙ unit))
 
 pub returns-then-self-eq1-clause-stride : goal.returns-then-self-eq1-clause-stride
 returns-then-self-eq1-clause-stride c =
@@ -66,6 +78,31 @@ returns-then-high-low-clause-members c =
     let apart : c.min-high.result <ℤ c.max-low.result = omega (arith, ints) in
     let apart_by : int_min c.args.self.now.high c.args.high <ℤ int_max c.args.self.now.low c.args.low = rw (← high-is cut, ← low-is cut) apart in
     rw c.none.ensures.value (slice-none c.args.self.now c.args.low c.args.high (limits-of cut) apart_by)
+
+-- a stride other than 1
+other : (c : After-min-high) → (c.self.inside.stride ≡ pos 1 → ⊥) → c.args.self.now.stride ≡ pos 1 → ⊥
+other c not_one same = not_one (ap (λ (v : RangeValue). v.stride) c.self.view_is ∙ same)
+
+pub returns-then-high-low-clause-value : goal.returns-then-high-low-clause-value
+returns-then-high-low-clause-value c =
+    let cut = (goal.at.returns-then-high-low-clause-value c).After-min-high in
+    let low_fits : FitsSigned w64 c.max-low.result = search rules in
+    let high_fits : FitsSigned w64 c.min-high.result = search rules in
+    let apart : c.min-high.result <ℤ c.max-low.result = omega (arith, ints) in
+    let apart_by : int_min c.args.self.now.high c.args.high <ℤ int_max c.args.self.now.low c.args.low = rw (← high-is cut, ← low-is cut) apart in
+    c.none.ensures.value
+    ∙ sliced-none c.args.self.now c.args.low c.args.high (limits-of cut) apart_by (other cut (λ one. omega (arith, ints)))
+
+pub returns-clause-value : goal.returns-clause-value
+returns-clause-value c =
+    let cut = (goal.at.returns-clause-value c).After-min-high in
+    let low_fits : FitsSigned w64 c.max-low.result = search rules in
+    let high_fits : FitsSigned w64 c.min-high.result = search rules in
+    let value = simp to_z-of_z at c.cut.ensures.value in
+    let by_bounds = rw (low-is cut, high-is cut) at value in
+    by_bounds
+    ∙ ap (λ is. begun_with is (narrowed c.args.low c.args.high c.args.self.now)) (slice-cut c.args.self.now c.args.low c.args.high (limits-of cut))
+    ∙ sliced-other c.args.self.now c.args.low c.args.high (limits-of cut) (other cut (λ one. omega (arith, ints)))
 
 pub returns-clause-members : goal.returns-clause-members
 returns-clause-members c =
