@@ -1,7 +1,8 @@
 -- What expressions and statements mean, over any way to keep variables.
 -- Kept by names it is the language's meaning; kept otherwise, as in slots, it is what some machine does.
-use Rattle.std.specs.Prelude.{ℕ, nat_lt, ℤ, pos, unsigned_abs, Bool, ◌||◌, if◌then◌else◌, Option, Some, None, Result, Ok, Err, List, [], ◌∷◌, ◌++◌}
+use Rattle.std.specs.Prelude.{ℕ, ℤ, pos, Bool, not, ◌||◌, if◌then◌else◌, Option, Some, None, Result, Ok, Err, List, [], ◌∷◌, ◌++◌}
 use Rattle.dpl_range.specs.Members.{members}
+use Rattle.dpl_range.specs.Range.{is_bound, is_stride}
 use Rattle.dpl_syntax.specs.declared.place.Place.{Place}
 use Rattle.dpl_syntax.specs.declared.value.Value.{Value}
 use Rattle.dpl_syntax.specs.declared.value.Value.TheVariants.{Int}
@@ -24,13 +25,13 @@ pub record Keeping (N S : Type 0) : Type 0 where
   pub enter : S → S
   pub leave : S → S
 
--- a bound lies outside -2^60 .. 2^60
+-- a bound of a range is past the limits of bounds
 abbrev pub past_limit : ℤ → Bool
-past_limit z = nat_lt 1152921504606846976 (unsigned_abs z)
+past_limit z = not (is_bound z)
 
--- a stride is not from 1 to 2^60 in size
+-- a stride of a range is none within the limits of strides
 abbrev pub bad_stride : ℤ → Bool
-bad_stride z = nat_lt (unsigned_abs z) 1 || past_limit z
+bad_stride z = not (is_stride z)
 
 -- the indices of a range, whose bounds are tested and then its stride
 abbrev pub indices_of : Place → Place → ℤ → ℤ → ℤ → Result (List ℤ) Fault

@@ -1,5 +1,4 @@
 pub mod Taking
-pub mod Bounds
 pub mod Turning
 pub mod Foralls
 pub mod LineEnds
