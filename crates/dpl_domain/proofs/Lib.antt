@@ -5,3 +5,4 @@ pub mod CursorLemmas
 pub mod ExpansionLemmas
 pub mod OrderLemmas
 mod Worked
+pub mod EqualityLemmas

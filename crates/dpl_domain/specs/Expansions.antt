@@ -1,5 +1,5 @@
 -- Expanded domains: each low bound moved down, each high bound moved up.
-use Rattle.std.specs.Prelude.{◌≡◌, ◌<◌, ◌^◌, ◌≤ℤ◌, List, ℤ, pos, neg_ℤ, ◌+ℤ◌, ◌-ℤ◌, map, All, unsigned_abs}
+use Rattle.std.specs.Prelude.{◌≡◌, List, ℤ, pos, ◌+ℤ◌, ◌-ℤ◌, map, All}
 use Rattle.dpl_range.specs.Range.{RangeValue, IsBound}
 
 -- A range with its low bound moved down by k, its high bound moved up by k, and its stride as it was. The bounds
@@ -26,11 +26,3 @@ AreUnit ranges = All IsUnit ranges
 -- and only where each moved bound is within the limits
 abbrev pub AreBounded : List RangeValue → Type 0
 AreBounded ranges = All IsBounded ranges
-
--- What holds of every range that is moved by a machine number: its bounds stay within -2^64..2^64.
-pub record IsMoved (r : RangeValue) : Type 0 where
-  pub low_from : neg_ℤ (pos (2 ^ 64)) ≤ℤ r.low
-  pub low_to : r.low ≤ℤ pos (2 ^ 64)
-  pub high_from : neg_ℤ (pos (2 ^ 64)) ≤ℤ r.high
-  pub high_to : r.high ≤ℤ pos (2 ^ 64)
-  pub stride_is_not_zero : 0 < unsigned_abs r.stride

@@ -8,7 +8,7 @@ ghost use Rattle.dpl_domain.specs.Expansions.{moved, expanded, IsUnit, IsBounded
 
 use crate::product::product;
 use crate::{Domain, MOST_INDICES};
-use dpl_range::{LIMIT, Range};
+use dpl_range::Range;
 use std::marker::Model;
 
 /// A range with moved bounds. An `i128` holds the bound of each range moved by each `i64`.
@@ -21,7 +21,7 @@ struct Moved {
 
 impl Model for Moved {
     ghost use Rattle.dpl_range.specs.Range.{RangeValue};
-    ghost use Rattle.dpl_domain.specs.Expansions.{IsMoved};
+    ghost use Rattle.dpl_domain.specs.Moved.{IsMoved};
 
     ghost Value = { RangeValue };
 
@@ -84,19 +84,10 @@ impl Moved {
         ensures bounded { IsSome result ↔ IsBounded self.now }
         ensures held { IfSome result (λ r. r ≡ self.now) }
     {
-        if is_bound(self.low) && is_bound(self.high) {
-            Range::new(self.low as i64, self.high as i64, 1).ok()
-        } else {
-            None
-        }
+        let low = i64::try_from(self.low).ok()?;
+        let high = i64::try_from(self.high).ok()?;
+        Range::new(low, high, 1).ok()
     }
-}
-
-// Whether `i` may be a bound of a range.
-fn is_bound(i: i128) -> bool
-    ensures { IsTrue result ↔ IsBound i }
-{
-    -(LIMIT as i128) <= i && i <= LIMIT as i128
 }
 
 /// The ranges of an expanded domain, of which a rank below 3 leaves the places in front as they were.

@@ -2,11 +2,11 @@
 
 ghost use Rattle.std.specs.Prelude.{All, min, ◌≢◌, ◌*◌, ◌-◌, ◌≡◌, ◌≤◌, ◌<◌, ◌↔◌, ◌^◌, ℕ, pos, [], ◌∷◌, length, slice_get, Contains, IsTrue, IsOk, IfOk};
 ghost use Rattle.dpl_range.specs.Range.{members_of};
-ghost use Rattle.dpl_range.specs.Invariant.{IsRange};
 ghost use Rattle.dpl_domain.specs.Indices.{indices, IsRank, IsSmall};
 ghost use Rattle.dpl_domain.specs.Ranks.{last_of, point, IsPadded};
 ghost use Rattle.dpl_domain.specs.DomainFields.{line_count, line_size};
-ghost use Rattle.dpl_domain.specs.Slices.{IsSlice, AreSlices, AreBounds};
+ghost use Rattle.dpl_domain.specs.Slices.{sliced_by, AreBounds};
+ghost use Rattle.dpl_range.specs.Slices.{sliced};
 ghost use Rattle.dpl_domain.specs.Expansions.{expanded, AreUnit, AreBounded};
 
 use crate::expansion::Expansion;
@@ -244,7 +244,7 @@ impl Domain {
     pub fn slice(&self, bounds: &[(i64, i64)]) -> Result<Domain, DomainFault>
         requires { All AreBounds bounds.now }
         ensures ok { IsOk result ↔ (length bounds.now ≡ length self.now) }
-        ensures slices { IfOk result (AreSlices self.now bounds.now) }
+        ensures slices { IfOk result (λ d. d ≡ sliced_by self.now bounds.now) }
         ensures rank { (result ≡ Err DomainFault.Rank) ↔ (length bounds.now ≢ length self.now) }
     {
         if bounds.len() != self.rank() as usize {
@@ -252,19 +252,19 @@ impl Domain {
         }
         let (outer, middle, inner) = self.ranges();
         match bounds {
-            [last] => Ok(Domain::last_of(1, outer, middle, sliced(&inner, *last))),
+            [last] => Ok(Domain::last_of(1, outer, middle, slice_of(&inner, *last))),
             [second, last] => Ok(Domain::last_of(
                 2,
                 outer,
-                sliced(&middle, *second),
-                sliced(&inner, *last),
+                slice_of(&middle, *second),
+                slice_of(&inner, *last),
             )),
             [first, second, last] => {
                 Ok(Domain::last_of(
                     3,
-                    sliced(&outer, *first),
-                    sliced(&middle, *second),
-                    sliced(&inner, *last),
+                    slice_of(&outer, *first),
+                    slice_of(&middle, *second),
+                    slice_of(&inner, *last),
                 ))
             }
             _ => Err(DomainFault::Rank),
@@ -273,9 +273,9 @@ impl Domain {
 }
 
 // The slice of a range between two bounds.
-fn sliced(range: &Range, bounds: (i64, i64)) -> Range
+fn slice_of(range: &Range, bounds: (i64, i64)) -> Range
     requires { AreBounds bounds }
-    ensures slice { IsSlice range.now bounds.0 bounds.1 result }
+    ensures slice { result ≡ sliced bounds.0 bounds.1 range.now }
     ensures fewer { length (members_of result) ≤ length (members_of range.now) }
 {
     range.slice(bounds.0, bounds.1)
