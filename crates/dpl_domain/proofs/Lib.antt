@@ -6,3 +6,4 @@ pub mod ExpansionLemmas
 pub mod OrderLemmas
 mod Worked
 pub mod EqualityLemmas
+pub mod DistinctLemmas

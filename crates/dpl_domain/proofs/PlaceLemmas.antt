@@ -134,12 +134,6 @@ pub place-other : (rank : ℕ) (o m i : RangeValue) → IsPadded point rank o m 
 place-other rank o m i padded t other k =
     ((λ here. absurd (none-some k here)), (λ found. absurd (other (length-index rank o m i padded k t found))))
 
--- what has a place is contained, and what has none is not
-pub contains-place : {X : Type 0} (xs : List X) (x : X) (place : Option ℕ) → ((k : ℕ) → (place ≡ Some k) ↔ (slice_get xs k ≡ Some x)) → (is_some place ≡ true) ↔ Contains xs x
-contains-place xs x None inverse =
-    ((λ there. cc), (λ held. let found = slice_get-Contains xs x held in let e : None ≡ Some found.0 = (inverse found.0).1 found.1 in cc))
-contains-place xs x (Some k) inverse = ((λ there. Contains-slice_get xs k x ((inverse k).0 refl)), (λ held. refl))
-
 -- a filter keeps no more than there was
 pub length-filter_le : {X : Type 0} (p : X → Bool) (xs : List X) → length (filter p xs) ≤ length xs
 length-filter_le p [] = omega arith

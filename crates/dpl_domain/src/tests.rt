@@ -75,6 +75,41 @@ fn limits(rt: HostRuntime) -> Result<(), Fail> {
     Ok(())
 }
 
+// What the faults of ranges and domains and an index print as.
+#[test]
+fn texts(rt: HostRuntime) -> Result<(), Fail> {
+    let ranges = [
+        (RangeFault::Bound, "a bound is outside -2^60..2^60"),
+        (
+            RangeFault::Stride,
+            "the stride is not from 1 to 2^60 in size",
+        ),
+    ];
+    for (fault, text) in ranges {
+        assert_eq!(rt; format!(in rt.alloc(); "{fault}")?.as_str(), text);
+    }
+    let domains = [
+        (DomainFault::Rank, "a domain has one to three dimensions"),
+        (DomainFault::Size, "a domain has at most 2^40 indices"),
+        (
+            DomainFault::Stride,
+            "only a domain of stride 1 can be expanded",
+        ),
+        (DomainFault::Bound, "a bound is outside -2^60..2^60"),
+    ];
+    for (fault, text) in domains {
+        assert_eq!(rt; format!(in rt.alloc(); "{fault}")?.as_str(), text);
+    }
+    let indices: [(&[i64], &str); 3] = [(&[-3], "-3"), (&[2, 1], "2,1"), (&[0, -1, 5], "0,-1,5")];
+    for (coordinates, text) in indices {
+        let Some(index) = Index::new(coordinates) else {
+            panic!(rt; "one to three coordinates make an index")
+        };
+        assert_eq!(rt; format!(in rt.alloc(); "{index}")?.as_str(), text);
+    }
+    Ok(())
+}
+
 // The domain has these indices, row by row.
 fn indexed(rt: &impl Abort, domain: Domain, rows: &[&[i64]]) {
     assert_eq!(rt; domain.size(), rows.len() as u64);

@@ -101,8 +101,8 @@ greatest-first r limits falls =
     IfSome_then (slice_get (members_of r) 0) (InOrder-first r limits)
     (λ i all k d within. falling_order r.stride falls limits.stride_is_not_zero i (get_or (members_of r) k d) (all k d within))
 
--- a place that was found says that its integer is contained, and one that was not, that it isn't
-pub contains-place : (is : List ℤ) (i : ℤ) (place : Option ℕ) → ((k : ℕ) → (place ≡ Some k) ↔ (slice_get is k ≡ Some i)) → (is_some place ≡ true) ↔ Contains is i
-contains-place is i None inverse =
-    ((λ there. cc), (λ held. let found = slice_get-Contains is i held in let e : None ≡ Some found.0 = (inverse found.0).1 found.1 in cc))
-contains-place is i (Some k) inverse = ((λ there. Contains-slice_get is k i ((inverse k).0 refl)), (λ held. refl))
+-- what has a place in a list is contained, and what has none is not
+pub contains-place : {X : Type 0} (xs : List X) (x : X) (place : Option ℕ) → ((k : ℕ) → (place ≡ Some k) ↔ (slice_get xs k ≡ Some x)) → (is_some place ≡ true) ↔ Contains xs x
+contains-place xs x None inverse =
+    ((λ there. cc), (λ held. let found = slice_get-Contains xs x held in let e : None ≡ Some found.0 = (inverse found.0).1 found.1 in cc))
+contains-place xs x (Some k) inverse = ((λ there. Contains-slice_get xs k x ((inverse k).0 refl)), (λ held. refl))

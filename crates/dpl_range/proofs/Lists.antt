@@ -1,5 +1,5 @@
 -- Lists read by places: a list that keeps each n-th element, a list in reverse, and a length that places tell.
-use Rattle.std.proofs.Common.{◌≡◌, ℕ, zero, suc, ◌+◌, ◌-◌, ◌*◌, ◌<◌, List, [], ◌∷◌, length, reverse, get_or, refl, ap, sym, ◌∙◌, arith, Some, None, ℤ, slice_get, take, drop, ◌++◌, Bool, true, false, filter, ◌↔◌}
+use Rattle.std.proofs.Common.{◌≡◌, ℕ, zero, suc, ◌+◌, ◌-◌, ◌*◌, ◌<◌, List, [], ◌∷◌, length, reverse, get_or, refl, ap, sym, ◌∙◌, arith, Some, None, ℤ, slice_get, take, drop, ◌++◌, Bool, true, false, filter, cond, ◌↔◌}
 use Rattle.std.proofs.lemmas.Option.{same_Some, slice_get-get_or, slice_get_within, get_or_from_slice_get}
 use Rattle.std.proofs.lemmas.List.{get_or-reverse, length-reverse, drop_more, take_more}
 use Rattle.std.proofs.Math.Nat.{suc-mul}
@@ -91,3 +91,10 @@ pub filter-none : (test : ℤ → Bool) (is : List ℤ) → ((k : ℕ) (i : ℤ)
 filter-none test [] never = refl
 filter-none test (i ∷ is) never =
     rw (false_unless (test i) (never 0 i refl)) (filter-none test is (λ k j found. never (suc k) j found))
+
+-- tests that agree on each element of a list keep the same elements
+pub filter-alike : {X : Type 0} (p q : X → Bool) (xs : List X) → ((k : ℕ) (x : X) → slice_get xs k ≡ Some x → p x ≡ q x) → filter p xs ≡ filter q xs
+filter-alike p q [] alike = refl
+filter-alike p q (x ∷ xs) alike =
+    ap (λ b. cond b (x ∷ filter p xs) (filter p xs)) (alike 0 x refl)
+    ∙ ap (λ ys. cond (q x) (x ∷ ys) ys) (filter-alike p q xs (λ k y at. alike (suc k) y at))

@@ -110,7 +110,8 @@ unfolding members
 members-empty low high (pos s) below = rw (between-empty low high below)
 members-empty low high (negsuc s) below = rw (between-empty low high below)
 
-count_of-natural : (z : ℤ) → pos 0 ≤ℤ z → pos (count_of z) ≡ z
+-- a whole number from 0 on counts itself
+pub count_of-natural : (z : ℤ) → pos 0 ≤ℤ z → pos (count_of z) ≡ z
 count_of-natural (pos n) h = refl
 count_of-natural (negsuc n) h = absurd (omega (arith, ints))
 

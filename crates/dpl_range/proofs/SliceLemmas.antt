@@ -1,5 +1,6 @@
 -- The part of a range's walk from one offset to another, and so the slice of a range.
 use Rattle.std.proofs.Common.{◌≡◌, ℕ, ◌+◌, ◌-◌, ◌*◌, ◌<◌, ◌≤◌, ◌%◌, ◌/◌, ap, sym, ◌∙◌, arith, ℤ, pos, negsuc, ◌+ℤ◌, ◌-ℤ◌, ◌<ℤ◌, ◌≤ℤ◌, ◌↔◌, unsigned_abs, refl, Bool, true, false, filter, ◌&&◌, int_le, List, [], ◌∷◌, cond, suc, slice_get, Some, None, subst, ⊎_elim}
+use Rattle.std.specs.Cmp.{both_ways}
 use Rattle.std.proofs.lemmas.Bool.{cases_lt}
 use Rattle.std.proofs.lemmas.Option.{same_Some}
 use Rattle.std.proofs.lemmas.Int.{ints, clamps, by_lt_z}
@@ -14,7 +15,7 @@ use Rattle.dpl_range.specs.Slices.{members_within, narrowed, begun_with, sliced}
 use Rattle.dpl_range.specs.Invariant.{IsRange}
 use Rattle.dpl_range.specs.Walk.{walked, nearer, begun, SameWay}
 use Rattle.dpl_range.proofs.MemberLemmas.{span_of, slice_get-members, members-empty}
-use Rattle.dpl_range.proofs.Lists.{false_unless}
+use Rattle.dpl_range.proofs.Lists.{false_unless, filter-alike}
 use Rattle.dpl_range.proofs.Ordered.{IsMember, IsMember-from_place, Precedes, filter-members}
 
 pub SameWay_self : (stride : ℤ) → SameWay stride stride
@@ -76,10 +77,10 @@ module _ (r : RangeValue) (begin end : ℕ) (far stride : ℤ) (i : ℤ) (same :
       }
 
 -- the test of a slice
-passes : (from to i : ℤ) → from ≤ℤ i → i ≤ℤ to → (int_le from i && int_le i to) ≡ true
+pub passes : (from to i : ℤ) → from ≤ℤ i → i ≤ℤ to → (int_le from i && int_le i to) ≡ true
 passes from to i above below = grind (arith, ints)
 
-passed : (from to i : ℤ) → (int_le from i && int_le i to) ≡ true → (from ≤ℤ i) × (i ≤ℤ to)
+pub passed : (from to i : ℤ) → (int_le from i && int_le i to) ≡ true → (from ≤ℤ i) × (i ≤ℤ to)
 passed from to i h = (grind (arith, ints), grind (arith, ints))
 
 -- the least multiple of n from a on is no more than any other from a on
@@ -234,19 +235,6 @@ reaching n a positive =
     let below = mod_below (a + n - 1) n positive in
     (q * n, mul-mod_left q n, omega (arith, whole, below), omega (arith, whole, below))
 
--- two tests that pass the same elements of a list keep the same
-filter_alike : (p q : ℤ → Bool) (xs : List ℤ) → ((k : ℕ) (i : ℤ) → slice_get xs k ≡ Some i → p i ≡ q i) → filter p xs ≡ filter q xs
-filter_alike p q [] alike = refl
-filter_alike p q (x ∷ xs) alike =
-    let rest : filter p xs ≡ filter q xs = filter_alike p q xs (λ k i found. alike (suc k) i found) in
-    ap (λ b. cond b (x ∷ filter p xs) (filter p xs)) (alike 0 x refl) ∙ ap (λ ys. cond (q x) (x ∷ ys) ys) rest
-
--- two tests that pass each where the other does
-same_test : (a b : Bool) → (a ≡ true → b ≡ true) → (b ≡ true → a ≡ true) → a ≡ b
-same_test true b there back = sym (there refl)
-same_test false true there back = back refl
-same_test false false there back = refl
-
 module _ (r : RangeValue) (from to : ℤ) (limits : IsRange r) where
   pub slice-unit : IsBound from → IsBound to → r.stride ≡ pos 1 → members_of (record { low = int_max r.low from; high = int_min r.high to; stride = pos 1 }) ≡ filter (λ i. int_le from i && int_le i to) (members_of r)
   slice-unit from_bound to_bound unit =
@@ -270,10 +258,10 @@ module _ (r : RangeValue) (from to : ℤ) (limits : IsRange r) where
   -- the members are within the range's own bounds, so a test by the nearer bounds says the same
   pub slice-cut : filter (λ i. int_le (int_max r.low from) i && int_le i (int_min r.high to)) (members_of r) ≡ filter (λ i. int_le from i && int_le i to) (members_of r)
   slice-cut =
-      filter_alike (λ i. int_le (int_max r.low from) i && int_le i (int_min r.high to)) (λ i. int_le from i && int_le i to) (members_of r)
+      filter-alike (λ i. int_le (int_max r.low from) i && int_le i (int_min r.high to)) (λ i. int_le from i && int_le i to) (members_of r)
       (λ k i found.
       let m = IsMember-from_place r k i limits found in
-      same_test (int_le (int_max r.low from) i && int_le i (int_min r.high to)) (int_le from i && int_le i to)
+      both_ways (int_le (int_max r.low from) i && int_le i (int_min r.high to)) (int_le from i && int_le i to)
       (λ held. let h = passed (int_max r.low from) (int_min r.high to) i held in
       passes from to i ((int_max-le r.low from i).0 h.0).1 ((le-int_min r.high to i).0 h.1).1)
       (λ held. let h = passed from to i held in

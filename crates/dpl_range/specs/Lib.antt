@@ -3,7 +3,6 @@ pub mod Members
 pub mod Range
 pub mod Slices
 pub mod Equality
-
 -- What only contracts and proofs speak of.
 pub mod Congruence
 pub mod Invariant
