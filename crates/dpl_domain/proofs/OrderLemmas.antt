@@ -10,7 +10,7 @@ use Rattle.dpl_domain.specs.Indices.{IsRank}
 use Rattle.dpl_domain.specs.Order.{row_order}
 use Rattle.dpl_domain.specs.contracts.tuple.IndexOrd.TheImpl.{cmp-value}
 
--- the order that the derive makes: of the ranks, and then of the numbers in the three places
+-- the order that the derive makes: of the ranks, and then of the three numbers
 abbrev pub index_order : List ℤ → List ℤ → Ordering
 index_order = cmp-value.it
 

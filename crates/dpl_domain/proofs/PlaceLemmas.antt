@@ -1,9 +1,8 @@
 -- The place of an index: the places of its coordinates, row by row, and no other.
-use Rattle.std.proofs.Common.{◌≡◌, ℕ, zero, suc, ◌+◌, ◌*◌, ◌/◌, ◌%◌, ◌^◌, ◌<◌, ◌≤◌, List, length, refl, ap, sym, ◌∙◌, arith, Option, Some, None, ℤ, pos, slice_get, ◌↔◌, inl, inr, ⊎_elim, Contains, is_some, true, false, Fits, w64, Bool, filter, [], ◌∷◌, cond, subst}
+use Rattle.std.proofs.Common.{◌≡◌, ℕ, zero, suc, ◌+◌, ◌*◌, ◌/◌, ◌%◌, ◌^◌, ◌<◌, ◌≤◌, List, length, refl, ap, sym, ◌∙◌, arith, Option, Some, None, ℤ, pos, slice_get, ◌↔◌, inl, inr, ⊎_elim, true, false, Fits, w64, Bool, filter, [], ◌∷◌, cond, subst}
 use Rattle.std.proofs.lemmas.Bool.{cases_lt}
 use Rattle.std.proofs.lemmas.Option.{none-some, same_Some, slice_get_within}
 use Rattle.std.proofs.Math.Nat.{add-mul, mul-le-mul_right, mul-le-mul_left, mul-le-mul}
-use Rattle.dpl_range.proofs.Ends.{Contains-slice_get, slice_get-Contains}
 use Rattle.dpl_range.specs.Range.{RangeValue, members_of}
 use Rattle.dpl_domain.specs.Indices.{indices, IsSmall}
 use Rattle.dpl_domain.specs.Ranks.{last_of, point, IsPadded}

@@ -15,7 +15,7 @@ pub members-point : members (pos 0) (pos 0) (pos 1) ≡ pos 0 ∷ []
 unfolding members
 members-point = refl
 
--- what has a dimension, and three places for up to three, has one to three
+-- of zero to three things, at least one is one to three
 pub IsPadded-IsFilled : {A : Type 0} {unused : A} {rank : ℕ} {a b c : A} → 1 ≤ rank → IsFilled unused rank a b c → IsPadded unused rank a b
 IsPadded-IsFilled from_one filled =
     record { from_one = from_one; to_three = filled.to_three; first = filled.first; second = filled.second }
@@ -24,7 +24,7 @@ pub IsFilled-IsPadded : {A : Type 0} {unused : A} {rank : ℕ} {a b c : A} → I
 IsFilled-IsPadded padded =
     record { to_three = padded.to_three; first = padded.first; second = padded.second; third = λ below. absurd (omega (arith, padded.from_one)) }
 
--- the sizes of the last two dimensions are those of the ranges in the last two places
+-- the sizes of the last two dimensions are those of the last two of three ranges
 pub line_count-places : (rank : ℕ) (o m i : RangeValue) (ranges : List RangeValue) → IsFilled point rank o m i → ranges ≡ last_of rank o m i → line_count ranges ≡ length (members_of m)
 line_count-places rank o m i ranges filled are =
     ap line_count are ∙ ap (λ f. length (members_of f.middle)) (fields_of-last_of point (record { rank = rank; outer = o; middle = m; inner = i }) filled)

@@ -1,4 +1,4 @@
--- The fields of the up to three things of a list, kept in three places.
+-- The fields that keep the up to three things of a list.
 use Rattle.std.specs.Prelude.{◌≡◌, ℕ, zero, suc, List, [], ◌∷◌, refl}
 use Rattle.std.proofs.Common.{arith}
 use Rattle.dpl_domain.specs.declared.dimensions.Dimensions.TheInside.{Inside}

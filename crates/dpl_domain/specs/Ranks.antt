@@ -1,4 +1,4 @@
--- Up to three things in three places: those of a lower rank leave the places in front unused.
+-- Up to three things as three, the last one last: a lower rank leaves the first ones unused.
 use Rattle.std.specs.Prelude.{ℕ, zero, suc, ◌≤◌, ◌≡◌, ◌<◌, List, [], ◌∷◌, pos}
 use Rattle.dpl_range.specs.Range.{RangeValue}
 
@@ -9,7 +9,7 @@ last_of (suc zero) a b c = c ∷ []
 last_of (suc (suc zero)) a b c = b ∷ c ∷ []
 last_of (suc (suc (suc n))) a b c = a ∷ b ∷ c ∷ []
 
--- the rank is 0 to 3, and in the places that it leaves unused stands what is given
+-- the rank is 0 to 3, and what it leaves unused is as given
 pub record IsFilled {A : Type 0} (unused : A) (rank : ℕ) (a b c : A) : Type 0 where
   pub to_three : rank ≤ 3
   pub first : rank < 3 → a ≡ unused
@@ -23,6 +23,6 @@ pub record IsPadded {A : Type 0} (unused : A) (rank : ℕ) (a b : A) : Type 0 wh
   pub first : rank < 3 → a ≡ unused
   pub second : rank < 2 → b ≡ unused
 
--- the range with the one member 0, which stands in the places that a domain leaves unused
+-- the range with the one member 0, which stands where a domain has no range
 abbrev pub point : RangeValue
 point = record { low = pos 0; high = pos 0; stride = pos 1 }

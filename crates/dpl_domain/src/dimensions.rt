@@ -1,5 +1,5 @@
-// What stands in each dimension of something: up to three things, in three places.
-// Index, Domain and, in the crate of maps, Grid and Map keep theirs so.
+// What stands in each dimension of something: up to three things, kept in three fields.
+// An index keeps its coordinates so, and a domain its ranges; a grid can keep its extents so, and a map its rules.
 
 ghost use Rattle.std.specs.Prelude.{pos, ⊤, ◌≡◌, ◌≤◌, ◌↔◌, [], length, slice_get, IsSome, IfSome};
 ghost use Rattle.dpl_domain.specs.Ranks.{last_of, point, IsFilled};
@@ -8,11 +8,11 @@ use dpl_range::Range;
 use std::alloc::AllocError;
 use std::marker::Model;
 
-/// What stands in the place of a dimension that there is none of.
+/// What is kept for a dimension that there is none of.
 pub trait Unused: Copy {
     ghost unused: { Self };
 
-    /// The thing that stands there. It is always the same.
+    /// The thing that is kept there, which is always the same.
     fn unused() -> Self
         ensures { result ≡ unused };
 }
@@ -26,7 +26,7 @@ impl Unused for i64 {
     }
 }
 
-/// An extent that a grid does not have is 1, so that it has no part in the number of places.
+/// An extent that a grid does not have is 1, so that it doesn't change the product of the extents.
 impl Unused for u32 {
     ghost unused = { 1 };
 
@@ -35,7 +35,7 @@ impl Unused for u32 {
     }
 }
 
-/// A range that a domain does not have is `0..0`, so that it has no part in the number of indices.
+/// A range that a domain does not have is `0..0`, so that it doesn't change the number of indices.
 impl Unused for Range {
     ghost unused = { point };
 
@@ -46,11 +46,12 @@ impl Unused for Range {
 
 /// Up to three things, one for each dimension, seen as the list of them.
 ///
-/// They are kept in three places, the last one last, and `Unused::unused` stands in the places in front. So
-/// code that goes by three dimensions serves each rank without asking for it.
+/// The last of them is always kept last, and what is unused stands in front. So code for three dimensions serves
+/// each rank without asking for it.
 ///
-/// A type with one to three dimensions has one of these for a field and says in its invariant that the list is
-/// not empty, as `Index` does: its `view` is the field, and its `inverse` the record with the list in that field.
+/// A type that keeps its dimensions so has a model by this one field, as `Index` has: its `view` is the field, its
+/// `invariant` says what holds of the list, such as that it isn't empty, and its `inverse` is the record with the
+/// list in that field, which needs no proof.
 #[derive(Copy, Debug, PartialEq, Eq, PartialOrd, Ord, Hash)]
 pub struct Dimensions<T: Unused> {
     rank: u32,
@@ -122,7 +123,7 @@ impl<T: Unused> Dimensions<T> {
         Dimensions::padded(rank, outer, middle, inner)
     }
 
-    /// The last `rank` of three things, where those in front are already what stands in unused places.
+    /// The last `rank` of three things, where those in front are already what is kept for none.
     pub fn padded(rank: u32, outer: T, middle: T, inner: T) -> Dimensions<T>
         requires { IsFilled T.unused rank outer middle inner }
         ensures { result ≡ last_of rank outer middle inner }
@@ -157,7 +158,7 @@ impl<T: Unused> Dimensions<T> {
         })
     }
 
-    /// The things in three places, the last one last, and what stands in unused places in front of them.
+    /// The things as three, the last one last. In front stands `Unused::unused` for each that there is none of.
     pub fn places(&self) -> (T, T, T)
         ensures places { self.now ≡ last_of (length self.now) result.0 result.1 result.2 }
         ensures unused { IsFilled T.unused (length self.now) result.0 result.1 result.2 }

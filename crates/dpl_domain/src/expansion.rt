@@ -90,7 +90,7 @@ impl Moved {
     }
 }
 
-/// The ranges of an expanded domain, of which a rank below 3 leaves the places in front as they were.
+/// The ranges of an expanded domain. Those that a rank below 3 leaves unused stay as they were.
 #[derive(Drop)]
 pub(crate) struct Expansion {
     rank: u32,

@@ -37,6 +37,8 @@ pub enum DomainFault {
 
 /// A product of one to three ranges, seen as the list of these ranges; its indices are the tuples of their
 /// members, row by row with the last dimension fastest.
+///
+/// `==` compares bounds and strides, so it tells apart some domains that are equal in the language (`SameDomain`).
 #[derive(Clone, Copy, Debug)]
 #[derive_where(PartialEq, Eq)]
 pub struct Domain {
@@ -134,7 +136,7 @@ impl Domain {
         self.ranges.get(d)
     }
 
-    /// The ranges in three places, the last one last. Those in front that the domain does not have are `0..0`.
+    /// The ranges as three, the last one last. Those in front that the domain does not have are `0..0`.
     pub fn ranges(&self) -> (Range, Range, Range)
         ensures ranges { self.now ≡ last_of (length self.now) result.0 result.1 result.2 }
         ensures unused { IsPadded point (length self.now) result.0 result.1 }

@@ -1,4 +1,4 @@
-// A walk over the indices of a domain, one by one and without a division.
+// A walk over the indices of a domain, one by one.
 
 ghost use Rattle.std.specs.Prelude.{◌≡◌, ◌≤◌, ◌<◌, ◌^◌, pos, ◌+ℤ◌, ◌-◌, All, drop, slice_get, unsigned_abs};
 ghost use Rattle.dpl_range.specs.Range.{members_of, IsBound};

@@ -1,5 +1,5 @@
 // The ranges of the language: a low bound, a high bound and a stride, which stand for a list of integers.
-// Every call is of constant cost: none walks the list, and none takes memory.
+// Contracts speak of that list. The code never makes it, and goes by the three numbers.
 #![tactic(auto)]
 
 ghost use Rattle.std.specs.Prelude.{◌≡◌, ◌*◌, neg_ℤ, drop, ◌↔◌, ◌⊎◌, ◌≤◌, ◌<◌, ◌^◌, ℕ, ℤ, pos, ◌+ℤ◌, ◌-ℤ◌, ◌-◌, ◌&&◌, filter, int_le, [], All, Contains, IsNone, ◌<ℤ◌, ◌≤ℤ◌, length, slice_get, IsTrue, IsOk, IfOk, IfSome, IfNone, MatchOption, unsigned_abs};
@@ -33,6 +33,8 @@ pub enum RangeFault {
 
 /// A range of integers: those from a low bound to a high bound, of which a stride above 0 keeps every
 /// stride-th from the lowest up, and a stride below 0 from the highest down.
+///
+/// `==` compares the three numbers, so it tells apart some ranges that are equal in the language (`SameRange`).
 #[derive(Clone, Copy, Debug, PartialEq, Eq)]
 pub struct Range {
     low: i64,
@@ -187,7 +189,8 @@ impl Range {
     }
 
     /// The members between `low` and `high`, in the order of the range. A range of stride 1 keeps, of its own
-    /// bounds and these two, the greater low and the lesser high one, also where no member is left.
+    /// bounds and these two, the greater low and the lesser high one, also where no member is left. Any other
+    /// begins with the first member that is left, and is `1..0` by its stride where none is.
     pub fn slice(&self, low: i64, high: i64) -> Range
         requires low_is_bound { IsBound low }
         requires high_is_bound { IsBound high }

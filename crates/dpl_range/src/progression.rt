@@ -1,4 +1,4 @@
-// Where an arithmetic progression meets the multiples of a number. Each search takes as many steps as Euclid's algorithm.
+// Where an arithmetic progression meets the multiples of a number, by the steps of Euclid's algorithm.
 
 ghost use Rattle.std.specs.Prelude.{◌≡◌, ◌≤◌, ◌<◌, ◌+◌, ◌*◌, ◌%◌, ◌^◌, ℕ, IfSome, IfNone};
 

@@ -1,4 +1,4 @@
--- The places that a rank leaves unused are moved by 0, which leaves them as they were.
+-- The ranges that a rank leaves unused are moved by 0, which leaves them as they were.
 use Rattle.std.proofs.Common.{◌≡◌, ◌<◌, arith, w64, to_z, of_z, pos, ap, ◌∙◌}
 use Rattle.std.proofs.lemmas.Int.{ints}
 use Rattle.dpl_domain.specs.Ranks.{last_of}
