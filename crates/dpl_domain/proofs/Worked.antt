@@ -3,6 +3,7 @@ use Rattle.std.proofs.Common.{◌≡◌, ℤ, pos, negsuc, [], ◌∷◌, refl}
 use Rattle.dpl_range.specs.Members.{members}
 use Rattle.dpl_range.specs.Range.{RangeValue}
 use Rattle.dpl_domain.specs.Indices.{indices}
+use Rattle.dpl_domain.specs.Slices.{sliced_by}
 use Rattle.dpl_domain.specs.Expansions.{expanded}
 
 by : ℤ → ℤ → ℤ → RangeValue
@@ -32,3 +33,8 @@ expanded_to_nothing = refl
 expanded_from_nothing : indices (expanded (pos 1) (by (pos 1) (pos 0) (pos 1) ∷ by (pos 5) (pos 5) (pos 1) ∷ [])) ≡ (pos 0 ∷ pos 4 ∷ []) ∷ (pos 0 ∷ pos 5 ∷ []) ∷ (pos 0 ∷ pos 6 ∷ []) ∷ (pos 1 ∷ pos 4 ∷ []) ∷ (pos 1 ∷ pos 5 ∷ []) ∷ (pos 1 ∷ pos 6 ∷ []) ∷ []
 unfolding indices members by
 expanded_from_nothing = refl
+
+-- `{1..10 by 4, 0..1}[2..9, 1..1]`
+sliced_rows : sliced_by (by (pos 1) (pos 10) (pos 4) ∷ by (pos 0) (pos 1) (pos 1) ∷ []) ((pos 2, pos 9) ∷ (pos 1, pos 1) ∷ []) ≡ by (pos 5) (pos 9) (pos 4) ∷ by (pos 1) (pos 1) (pos 1) ∷ []
+unfolding members by
+sliced_rows = refl

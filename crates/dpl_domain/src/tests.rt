@@ -1,6 +1,6 @@
 // Rows of the language's ranges and domains, by tables of what is handed in and what must come out.
 
-use crate::{Domain, DomainFault, Index};
+use crate::{Dimensions, Domain, DomainFault, Index};
 use dpl_range::{Range, RangeFault};
 use std::process::Abort;
 use std::test::Fail;
@@ -72,6 +72,29 @@ fn limits(rt: HostRuntime) -> Result<(), Fail> {
     for (low, high, stride, fault) in refused {
         assert_eq!(rt; Range::new(low, high, stride), Err(fault));
     }
+    Ok(())
+}
+
+// Up to three things, one for each dimension.
+#[test]
+fn dimensions(rt: HostRuntime) -> Result<(), Fail> {
+    let none: Dimensions<u32> = Dimensions::none();
+    assert_eq!(rt;
+        (none.rank(), none.get(0), none.places()),
+        (0, None, (1, 1, 1))
+    );
+    assert_eq!(rt; Dimensions::<u32>::new(&[]), Some(none));
+    assert_eq!(rt; Dimensions::<u32>::new(&[1, 2, 3, 4]), None);
+    let two: Dimensions<i64> = Dimensions::last_of(2, 7, 8, 9);
+    assert_eq!(rt;
+        (two.rank(), two.get(0), two.places()),
+        (2, Some(8), (0, 8, 9))
+    );
+    assert_eq!(rt; Dimensions::new(&[8, 9]), Some(two));
+
+    let (point, row) = (Range::new(0, 0, 1)?, Range::new(1, 4, 1)?);
+    let plane = Domain::new(&[row, point])?;
+    assert_eq!(rt; (plane.ranges(), plane.size()), ((point, row, point), 4));
     Ok(())
 }
 

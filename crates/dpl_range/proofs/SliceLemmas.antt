@@ -305,7 +305,7 @@ module _ (r : RangeValue) (from to : ℤ) (limits : IsRange r) where
           let near = offset_of r.low r.high r.stride (nearer r.stride (int_max r.low from) (int_min r.high to)) (low-nearer r.stride (int_max r.low from) (int_min r.high to) r.low above (omega (arith, ints))) (nearer-high r.stride (int_max r.low from) (int_min r.high to) r.high (omega (arith, ints)) below) in
           let far = offset_of r.low r.high r.stride (nearer r.stride (int_min r.high to) (int_max r.low from)) (low-nearer r.stride (int_min r.high to) (int_max r.low from) r.low (omega (arith, ints)) above) (nearer-high r.stride (int_min r.high to) (int_max r.low from) r.high below (omega (arith, ints))) in
           let begin = reaching (unsigned_abs r.stride) near.0 limits.stride_is_not_zero in
-          ⊎_elim
+          ⊎_elim {A = far.0 < begin.0} {B = begin.0 ≤ far.0}
           (λ past.
           let none = cut-none r (int_max r.low from) (int_min r.high to) near.0 far.0 begin.0 limits near.1 far.1 begin.1 begin.2 begin.3 past in
           picked (record { low = pos 1; high = pos 0; stride = r.stride }) other
