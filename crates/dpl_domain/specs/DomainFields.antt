@@ -1,4 +1,4 @@
--- What a domain keeps beside its ranges, so that no call works it out anew.
+-- The sizes that a domain keeps beside its ranges.
 use Rattle.std.specs.Prelude.{◌≡◌, ℕ, List, length}
 use Rattle.dpl_range.specs.Range.{RangeValue, members_of}
 use Rattle.dpl_domain.specs.Indices.{indices, IsRank, IsSmall}

@@ -18,7 +18,7 @@ use thiserror::Error;
 /// The most indices that a domain may have: 2^40.
 pub const MOST_INDICES: u64 = 1 << 40;
 
-/// Why something makes no domain.
+/// Why something doesn't make a domain.
 #[derive(Clone, Copy, Debug, PartialEq, Eq, Error)]
 pub enum DomainFault {
     /// There are not one to three ranges, or not as many as the domain has dimensions.

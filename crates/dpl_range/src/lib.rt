@@ -20,7 +20,7 @@ use thiserror::Error;
 /// The greatest size of a bound, and of a stride that is handed in: 2^60.
 pub const LIMIT: i64 = 1 << 60;
 
-/// Why three numbers are no range.
+/// Why three numbers don't make a range.
 #[derive(Clone, Copy, Debug, PartialEq, Eq, Error)]
 pub enum RangeFault {
     /// A bound lies outside -2^60..2^60.
