@@ -1,4 +1,4 @@
--- Which members of a range a place owns, in closed form.
+-- Which members of a range a coordinate owns, in closed form.
 use Rattle.std.proofs.Common.{◌≡◌, ℕ, zero, suc, ◌+◌, ◌-◌, ◌*◌, ◌/◌, ◌%◌, ◌<◌, ◌≤◌, List, ap, ◌∙◌, arith, ℤ, pos, negsuc, ◌+ℤ◌, ◌-ℤ◌, ◌<ℤ◌, ◌≤ℤ◌, ◌↔◌, true, ◌==◌, ◌&&◌, int_le, filter, unsigned_abs, ⊎_elim, eqb-true, eq-eqb}
 use Rattle.std.specs.Int.{int_rem_euclid, int_div_euclid}
 use Rattle.std.specs.Cmp.{both_ways}
@@ -12,7 +12,7 @@ use Rattle.dpl_range.specs.Range.{RangeValue, members_of, IsBound}
 use Rattle.dpl_range.specs.Invariant.{IsRange}
 use Rattle.dpl_range.proofs.MemberLemmas.{member-within}
 use Rattle.dpl_map.specs.AxisFields.{IsAxis, IsRule}
-use Rattle.dpl_map.specs.Maps.{AxisValue, RuleValue, Block, Cyclic, BlockCyclic, axis_place, rule_place}
+use Rattle.dpl_map.specs.Maps.{AxisValue, RuleValue, Block, Cyclic, BlockCyclic, axis_coordinate, rule_coordinate}
 use Rattle.dpl_map.specs.Places.{block_place, cyclic_place, block_cyclic_place}
 use Rattle.dpl_map.proofs.FilterLemmas.{filter-alike, eq-tests}
 use Rattle.dpl_map.proofs.PlaceLemmas.{block-below, block-above, block-at}
@@ -25,7 +25,7 @@ le-quotient c x s positive = (
 )
 
 module _ (low high : ℤ) (n span : ℕ) (wide : high -ℤ low ≡ pos span) (positive : 0 < n) where
-  -- the block of a place from 1 on begins `start` above the low bound
+  -- the block of a coordinate from 1 on begins `start` above the low bound
   pub block-from : (c start : ℕ) (i : ℤ) → 0 < c → c < n → c * (span + 1) ≤ start * n → ((d : ℕ) → c * (span + 1) ≤ d * n → start ≤ d) → start ≤ span + 1 → (c ≤ block_place low high n i) ↔ ((low +ℤ pos start) ≤ℤ i)
   block-from c start i some below reached least within =
       by_lt_z i low
@@ -46,7 +46,7 @@ module _ (low high : ℤ) (n span : ℕ) (wide : high -ℤ low ≡ pos span) (po
             let enough = quotient.1 (omega (arith, rows)) in omega (arith, is, enough)),
       )))
 
-  -- no place is past the last
+  -- no coordinate is past the last
   pub block-last : (i : ℤ) → low ≤ℤ high → block_place low high n i < n
   block-last i ordered =
       by_lt_z i low
@@ -76,7 +76,7 @@ between-none from to is apart =
     (λ h. absurd (let w = test-between (pos 1) (pos 0) i h in omega (arith, ints, w.0, w.1)))
     (λ h. absurd (let w = test-between from to i h in omega (arith, ints, w.0, w.1))))
 
--- what lies between the ends of a block goes to its place
+-- what lies between the ends of a block goes to its coordinate
 pub block-between : (r : RangeValue) (low high from to : ℤ) (n c : ℕ) → IsRange r → ((i : ℤ) → IsBound i → (c ≤ block_place low high n i) ↔ (from ≤ℤ i)) → ((i : ℤ) → IsBound i → (block_place low high n i ≤ c) ↔ (i ≤ℤ to)) → filter (λ i. int_le from i && int_le i to) (members_of r) ≡ filter (λ i. block_place low high n i == c) (members_of r)
 block-between r low high from to n c limits begins ends =
     filter-alike _ _ (members_of r) (λ k i at.
@@ -150,12 +150,12 @@ rem-below : (z : ℤ) (n : ℕ) → 0 < n → count_of (int_rem_euclid z (pos n)
 rem-below (pos a) n positive = mod_below a n positive
 rem-below (negsuc a) n positive = omega arith
 
--- no axis gives a place past its last one
-pub axis-below : (axis : AxisValue) (i : ℤ) → IsAxis axis → axis_place axis i < axis.extent
+-- no axis gives a coordinate past its last one
+pub axis-below : (axis : AxisValue) (i : ℤ) → IsAxis axis → axis_coordinate axis i < axis.extent
 unfolding cyclic_place block_cyclic_place
 axis-below axis i limits = go axis.rule limits.rule
   where
-    go : (rule : RuleValue) → IsRule rule → rule_place rule axis.extent i < axis.extent
+    go : (rule : RuleValue) → IsRule rule → rule_coordinate rule axis.extent i < axis.extent
     go (Block low high) rule =
         let wide : high -ℤ low ≡ pos (unsigned_abs (high -ℤ low)) = omega (arith, ints, rule.2) in
         block-last low high axis.extent (unsigned_abs (high -ℤ low)) wide limits.extent.0 i rule.2

@@ -35,10 +35,10 @@ div_euclid-shifted (negsuc a) b k m some e = go (k - (a / b + 1)) (omega (arith,
         let m-is : m ≡ t * b + (b - 1 - a % b) = omega (arith, total, split, below, ap (λ x. x * b) is, add-mul t (a / b + 1) b, add-mul (a / b) 1 b) in
         omega (arith, ints, is, ap (λ x. x / b) m-is, div-mul-add t b (b - 1 - a % b) (omega (arith, below)))
 
--- the block-cyclic place of an integer that lies m past the beginning of a round
+-- the block-cyclic coordinate of an integer that lies m past the beginning of a round
 pub block_cyclic_place-past : (start origin i : ℤ) (b n m : ℕ) → 0 < b → 0 < n → BeginsRound start (n * b) origin → i ≡ origin +ℤ pos m → block_cyclic_place start (pos b) n i ≡ m / b % n
 unfolding block_cyclic_place
-block_cyclic_place-past start origin i b n m some places begins at = ⊎_elim after before begins.1
+block_cyclic_place-past start origin i b n m some locales begins at = ⊎_elim after before begins.1
   where
     rounds : begins.0 * (n * b) ≡ begins.0 * n * b
     rounds = sym (mul_assoc begins.0 n b)
@@ -54,7 +54,7 @@ block_cyclic_place-past start origin i b n m some places begins at = ⊎_elim af
     before : start ≡ origin +ℤ pos (begins.0 * (n * b)) → count_of (int_rem_euclid (int_div_euclid (i -ℤ start) (pos b)) (pos n)) ≡ m / b % n
     before e =
         let distance : (i -ℤ start) +ℤ pos (begins.0 * n * b) ≡ pos m = omega (arith, ints, at, e, rounds) in
-        ap count_of (int_rem_euclid_is (int_div_euclid (i -ℤ start) (pos b)) (pos n) n begins.0 (m / b) places refl (div_euclid-shifted (i -ℤ start) b (begins.0 * n) m some distance))
+        ap count_of (int_rem_euclid_is (int_div_euclid (i -ℤ start) (pos b)) (pos n) n begins.0 (m / b) locales refl (div_euclid-shifted (i -ℤ start) b (begins.0 * n) m some distance))
 
 -- The block that has an integer, counted from the start, is so many blocks before or behind the one that is counted from the
 -- beginning of a round.
@@ -128,27 +128,27 @@ congruent-past start origin i round c m within begins at =
 
 -- what is left of a way in its round, by the block and by where it ends there
 pub mod-of_round : (b n m : ℕ) → 0 < b → 0 < n → m % (n * b) ≡ m / b % n * b + m % b
-mod-of_round b n m some places =
+mod-of_round b n m some locales =
     let block : m ≡ m / b * b + m % b = omega (arith, div-add-mod m b, mul_comm b (m / b)) in
     let number : m / b ≡ m / b / n * n + m / b % n = omega (arith, div-add-mod (m / b) n, mul_comm n (m / b / n)) in
-    let short : m / b % n * b + m % b < n * b = omega (arith, mul_comm n b, mul-add-lt (m / b % n) b (m % b) n (mod_below (m / b) n places) (mod_below m b some)) in
+    let short : m / b % n * b + m % b < n * b = omega (arith, mul_comm n b, mul-add-lt (m / b % n) b (m % b) n (mod_below (m / b) n locales) (mod_below m b some)) in
     let split : m ≡ m / b / n * (n * b) + (m / b % n * b + m % b) =
     omega (arith, block, ap (λ x. x * b) number, add-mul (m / b / n * n) (m / b % n) b, mul_assoc (m / b / n) n b) in
     ap (λ x. x % (n * b)) split ∙ mod-mul-add (m / b / n) (n * b) (m / b % n * b + m % b) short
 
--- it says which place has the block, and where in the block the way ends
+-- it says which coordinate has the block, and where in the block the way ends
 pub left-of_round : (b n m p o : ℕ) → 0 < b → 0 < n → o < b → (m % (n * b) ≡ p * b + o) ↔ ((m / b % n ≡ p) × (m % b ≡ o))
-left-of_round b n m p o some places within = (there, back)
+left-of_round b n m p o some locales within = (there, back)
   where
     there : m % (n * b) ≡ p * b + o → (m / b % n ≡ p) × (m % b ≡ o)
     there is =
-        let e : m / b % n * b + m % b ≡ p * b + o = sym (mod-of_round b n m some places) ∙ is in (
+        let e : m / b % n * b + m % b ≡ p * b + o = sym (mod-of_round b n m some locales) ∙ is in (
           sym (div-mul-add (m / b % n) b (m % b) (mod_below m b some)) ∙ ap (λ x. x / b) e ∙ div-mul-add p b o within,
           sym (mod-mul-add (m / b % n) b (m % b) (mod_below m b some)) ∙ ap (λ x. x % b) e ∙ mod-mul-add p b o within,
         )
 
     back : (m / b % n ≡ p) × (m % b ≡ o) → m % (n * b) ≡ p * b + o
-    back is = mod-of_round b n m some places ∙ ap (λ x. x * b + m % b) is.0 ∙ ap (λ x. p * b + x) is.1
+    back is = mod-of_round b n m some locales ∙ ap (λ x. x * b + m % b) is.0 ∙ ap (λ x. p * b + x) is.1
 
 -- a way ends in the block of a number where it is no shorter than the blocks before, and ends before the next one
 pub in-block : (b m number : ℕ) → 0 < b → (m / b ≡ number) ↔ ((number * b ≤ m) × (m ≤ number * b + (b - 1)))
@@ -161,7 +161,7 @@ in-block b m number some = (
       omega (arith, low, high)),
 )
 
--- the block of a place in a round
+-- the block of a coordinate in a round
 pub block-of_round : (n p j number : ℕ) → p < n → ((number % n ≡ p) × (number / n ≡ j)) ↔ (number ≡ j * n + p)
 block-of_round n p j number within = (
   (λ is. omega (arith, div-add-mod number n, mul_comm n (number / n), is.0, ap (λ x. x * n) is.1)),

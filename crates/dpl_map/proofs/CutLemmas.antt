@@ -85,7 +85,7 @@ filter-between_none num xs j k before none =
     (cases_lt (num x) j))
     xs none)
 
--- the places of a list with one more element
+-- the locales of a list with one more element
 slice_get-push : {P : Type 0} (ps : List P) (p : P) (k : ℕ) → k < length ps → slice_get (ps ++ p ∷ []) k ≡ slice_get ps k
 slice_get-push [] p k within = absurd (omega arith)
 slice_get-push (q ∷ ps) p zero within = refl

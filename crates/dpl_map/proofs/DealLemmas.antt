@@ -1,4 +1,4 @@
--- The members of a range by the blocks that a place gets.
+-- The members of a range by the blocks that a coordinate gets.
 use Rattle.std.proofs.Common.{◌≡◌, ◌⊎◌, ◌<◌, ◌≤◌, ◌+◌, ◌-◌, ◌*◌, ◌/◌, ◌%◌, ◌==◌, ◌&&◌, ℕ, true, ℤ, pos, negsuc, ◌+ℤ◌, ◌-ℤ◌, ◌≤ℤ◌, int_le, List, [], ◌∷◌, ◌++◌, filter, length, All, AllPairs, get_or, inl, inr, unsigned_abs, refl, ap, sym, ◌∙◌, arith, ⊎_elim}
 use Rattle.std.specs.Cmp.{both_ways}
 use Rattle.std.specs.Int.{int_div_euclid}
@@ -55,7 +55,7 @@ walked-apart : (low high stride : ℤ) (a b way : ℕ) → a + way ≤ b → ((w
 walked-apart low high (pos s) a b way farther = inl (omega (arith, ints, farther))
 walked-apart low high (negsuc s) a b way farther = inr (omega (arith, ints, farther))
 
-module _ (r : RangeValue) (origin : ℤ) (size extent place : ℕ) (deal : IsDeal r origin size extent place) where
+module _ (r : RangeValue) (origin : ℤ) (size extent coordinate : ℕ) (deal : IsDeal r origin size extent coordinate) where
   -- the members lie past the origin
   pub members-past : All (λ i. (i ≡ origin +ℤ pos (past origin i)) × (i ≤ℤ r.high)) (members_of r)
   members-past =
@@ -65,12 +65,12 @@ module _ (r : RangeValue) (origin : ℤ) (size extent place : ℕ) (deal : IsDea
       at : (i : ℤ) → r.low ≤ℤ i → i ≡ origin +ℤ pos (past origin i)
       at i low = omega (arith, ints, count_of-natural (i -ℤ origin) (omega (arith, ints, low, deal.begins)))
 
-  -- those that the rule deals to the place are in its blocks
-  pub place-members : (start : ℤ) → BeginsRound start (extent * size) origin → filter (λ i. block_cyclic_place start (pos size) extent i == place) (members_of r) ≡ filter (λ i. block_number origin size i % extent == place) (members_of r)
-  place-members start begins =
-      filter-same (λ i. block_cyclic_place start (pos size) extent i == place) (λ i. block_number origin size i % extent == place) (members_of r)
-      (All-weaker (λ i. (i ≡ origin +ℤ pos (past origin i)) × (i ≤ℤ r.high)) (λ i. (block_cyclic_place start (pos size) extent i == place) ≡ (block_number origin size i % extent == place))
-      (λ i w. ap (λ x. x == place) (block_cyclic_place-past start origin i size extent (past origin i) deal.some (omega (arith, deal.among)) begins w.0))
+  -- those that the rule deals to the coordinate are in its blocks
+  pub coordinate-members : (start : ℤ) → BeginsRound start (extent * size) origin → filter (λ i. block_cyclic_place start (pos size) extent i == coordinate) (members_of r) ≡ filter (λ i. block_number origin size i % extent == coordinate) (members_of r)
+  coordinate-members start begins =
+      filter-same (λ i. block_cyclic_place start (pos size) extent i == coordinate) (λ i. block_number origin size i % extent == coordinate) (members_of r)
+      (All-weaker (λ i. (i ≡ origin +ℤ pos (past origin i)) × (i ≤ℤ r.high)) (λ i. (block_cyclic_place start (pos size) extent i == coordinate) ≡ (block_number origin size i % extent == coordinate))
+      (λ i w. ap (λ x. x == coordinate) (block_cyclic_place-past start origin i size extent (past origin i) deal.some (omega (arith, deal.among)) begins w.0))
       (members_of r) members-past)
 
   -- those between the ends of a block are in it
@@ -87,33 +87,33 @@ module _ (r : RangeValue) (origin : ℤ) (size extent place : ℕ) (deal : IsDea
       (λ held. let h = e.0 (eqb-true (block_number origin size i) number held) in passes low high i (omega (arith, ints, h.0, w.0)) (omega (arith, ints, h.1, w.0))))
       (members_of r) members-past)
 
-  -- a place's block in a round
-  pub block-members : (j : ℕ) → filter (λ i. block_number origin size i == j * extent + place) (members_of r) ≡ filter (λ i. block_number origin size i / extent == j) (filter (λ i. block_number origin size i % extent == place) (members_of r))
+  -- a coordinate's block in a round
+  pub block-members : (j : ℕ) → filter (λ i. block_number origin size i == j * extent + coordinate) (members_of r) ≡ filter (λ i. block_number origin size i / extent == j) (filter (λ i. block_number origin size i % extent == coordinate) (members_of r))
   block-members j =
-      filter-same (λ i. block_number origin size i == j * extent + place) (λ i. (block_number origin size i % extent == place) && (block_number origin size i / extent == j)) (members_of r)
-      (All-each (λ i. (block_number origin size i == j * extent + place) ≡ ((block_number origin size i % extent == place) && (block_number origin size i / extent == j)))
+      filter-same (λ i. block_number origin size i == j * extent + coordinate) (λ i. (block_number origin size i % extent == coordinate) && (block_number origin size i / extent == j)) (members_of r)
+      (All-each (λ i. (block_number origin size i == j * extent + coordinate) ≡ ((block_number origin size i % extent == coordinate) && (block_number origin size i / extent == j)))
       (λ i.
-      let e = block-of_round extent place j (block_number origin size i) deal.among in
+      let e = block-of_round extent coordinate j (block_number origin size i) deal.among in
       let number = block_number origin size i in
-      both_ways (number == j * extent + place) ((number % extent == place) && (number / extent == j))
+      both_ways (number == j * extent + coordinate) ((number % extent == coordinate) && (number / extent == j))
       (λ held.
-      let h = e.1 (eqb-true number (j * extent + place) held) in
-      and_from (number % extent == place) (number / extent == j) (eq-eqb (number % extent) place h.0) (eq-eqb (number / extent) j h.1))
+      let h = e.1 (eqb-true number (j * extent + coordinate) held) in
+      and_from (number % extent == coordinate) (number / extent == j) (eq-eqb (number % extent) coordinate h.0) (eq-eqb (number / extent) j h.1))
       (λ held.
-      let h = and_parts (number % extent == place) (number / extent == j) held in
-      eq-eqb number (j * extent + place) (e.0 (eqb-true (number % extent) place h.0, eqb-true (number / extent) j h.1))))
+      let h = and_parts (number % extent == coordinate) (number / extent == j) held in
+      eq-eqb number (j * extent + coordinate) (e.0 (eqb-true (number % extent) coordinate h.0, eqb-true (number / extent) j h.1))))
       (members_of r))
-      ∙ sym (filter-filter (λ i. block_number origin size i / extent == j) (λ i. block_number origin size i % extent == place) (members_of r))
+      ∙ sym (filter-filter (λ i. block_number origin size i / extent == j) (λ i. block_number origin size i % extent == coordinate) (members_of r))
 
   -- and all of them are in the rounds up to the high bound
-  pub blocks-end : (rounds : ℕ) → ((j : ℕ) → j * extent + place ≤ block_number origin size r.high → j < rounds) → All (λ i. block_number origin size i / extent < rounds) (filter (λ i. block_number origin size i % extent == place) (members_of r))
+  pub blocks-end : (rounds : ℕ) → ((j : ℕ) → j * extent + coordinate ≤ block_number origin size r.high → j < rounds) → All (λ i. block_number origin size i / extent < rounds) (filter (λ i. block_number origin size i % extent == coordinate) (members_of r))
   blocks-end rounds enough =
-      All-filter_passed (λ i. block_number origin size i / extent < rounds) (λ i. block_number origin size i % extent == place) (members_of r)
-      (All-weaker (λ i. (i ≡ origin +ℤ pos (past origin i)) × (i ≤ℤ r.high)) (λ i. (block_number origin size i % extent == place) ≡ true → block_number origin size i / extent < rounds)
+      All-filter_passed (λ i. block_number origin size i / extent < rounds) (λ i. block_number origin size i % extent == coordinate) (members_of r)
+      (All-weaker (λ i. (i ≡ origin +ℤ pos (past origin i)) × (i ≤ℤ r.high)) (λ i. (block_number origin size i % extent == coordinate) ≡ true → block_number origin size i / extent < rounds)
       (λ i w held.
       let number = block_number origin size i in
-      let split : number / extent * extent + place ≡ number =
-      omega (arith, div-add-mod number extent, mul_comm extent (number / extent), eqb-true (number % extent) place held) in
+      let split : number / extent * extent + coordinate ≡ number =
+      omega (arith, div-add-mod number extent, mul_comm extent (number / extent), eqb-true (number % extent) coordinate held) in
       let before : number ≤ block_number origin size r.high =
       (le-div_iff_mul-le {k = size} {x = number} {y = past origin r.high} deal.some).1
       (omega (arith, div-mul-le_self (past origin i) size, count_of-le (i -ℤ origin) (r.high -ℤ origin) (omega (arith, ints, w.1)))) in
@@ -121,45 +121,45 @@ module _ (r : RangeValue) (origin : ℤ) (size extent place : ℕ) (deal : IsDea
       (members_of r) members-past)
 
   -- those of one offset are a class of congruence
-  pub offset-members : (start : ℤ) (offset : ℕ) → BeginsRound start (extent * size) origin → offset < size → filter (is_congruent (extent * size) (start +ℤ pos (place * size + offset))) (members_of r) ≡ filter (λ i. block_offset origin size i == offset) (filter (λ i. block_number origin size i % extent == place) (members_of r))
+  pub offset-members : (start : ℤ) (offset : ℕ) → BeginsRound start (extent * size) origin → offset < size → filter (is_congruent (extent * size) (start +ℤ pos (coordinate * size + offset))) (members_of r) ≡ filter (λ i. block_offset origin size i == offset) (filter (λ i. block_number origin size i % extent == coordinate) (members_of r))
   offset-members start offset begins within =
-      filter-same (is_congruent (extent * size) (start +ℤ pos (place * size + offset))) (λ i. (block_number origin size i % extent == place) && (block_offset origin size i == offset)) (members_of r)
-      (All-weaker (λ i. (i ≡ origin +ℤ pos (past origin i)) × (i ≤ℤ r.high)) (λ i. is_congruent (extent * size) (start +ℤ pos (place * size + offset)) i ≡ ((block_number origin size i % extent == place) && (block_offset origin size i == offset)))
+      filter-same (is_congruent (extent * size) (start +ℤ pos (coordinate * size + offset))) (λ i. (block_number origin size i % extent == coordinate) && (block_offset origin size i == offset)) (members_of r)
+      (All-weaker (λ i. (i ≡ origin +ℤ pos (past origin i)) × (i ≤ℤ r.high)) (λ i. is_congruent (extent * size) (start +ℤ pos (coordinate * size + offset)) i ≡ ((block_number origin size i % extent == coordinate) && (block_offset origin size i == offset)))
       (λ i w.
       let m = past origin i in
-      let short : place * size + offset < extent * size = omega (arith, mul_comm size extent, mul-add-lt place size offset extent deal.among within) in
-      let e = congruent-past start origin i (extent * size) (place * size + offset) m short begins w.0 in
-      let f = left-of_round size extent m place offset deal.some (omega (arith, deal.among)) within in
+      let short : coordinate * size + offset < extent * size = omega (arith, mul_comm size extent, mul-add-lt coordinate size offset extent deal.among within) in
+      let e = congruent-past start origin i (extent * size) (coordinate * size + offset) m short begins w.0 in
+      let f = left-of_round size extent m coordinate offset deal.some (omega (arith, deal.among)) within in
       let number = block_number origin size i in
-      both_ways (is_congruent (extent * size) (start +ℤ pos (place * size + offset)) i) ((number % extent == place) && (block_offset origin size i == offset))
+      both_ways (is_congruent (extent * size) (start +ℤ pos (coordinate * size + offset)) i) ((number % extent == coordinate) && (block_offset origin size i == offset))
       (λ held.
       let h = f.0 (e.0 held) in
-      and_from (number % extent == place) (block_offset origin size i == offset) (eq-eqb (number % extent) place h.0) (eq-eqb (block_offset origin size i) offset h.1))
+      and_from (number % extent == coordinate) (block_offset origin size i == offset) (eq-eqb (number % extent) coordinate h.0) (eq-eqb (block_offset origin size i) offset h.1))
       (λ held.
-      let h = and_parts (number % extent == place) (block_offset origin size i == offset) held in
-      e.1 (f.1 (eqb-true (number % extent) place h.0, eqb-true (block_offset origin size i) offset h.1))))
+      let h = and_parts (number % extent == coordinate) (block_offset origin size i == offset) held in
+      e.1 (f.1 (eqb-true (number % extent) coordinate h.0, eqb-true (block_offset origin size i) offset h.1))))
       (members_of r) members-past)
-      ∙ sym (filter-filter (λ i. block_offset origin size i == offset) (λ i. block_number origin size i % extent == place) (members_of r))
+      ∙ sym (filter-filter (λ i. block_offset origin size i == offset) (λ i. block_number origin size i % extent == coordinate) (members_of r))
 
   -- and all of them have an offset below the size
-  pub offsets-end : All (λ i. block_offset origin size i < size) (filter (λ i. block_number origin size i % extent == place) (members_of r))
+  pub offsets-end : All (λ i. block_offset origin size i < size) (filter (λ i. block_number origin size i % extent == coordinate) (members_of r))
   offsets-end =
-      All-each (λ i. block_offset origin size i < size) (λ i. mod_below (past origin i) size deal.some) (filter (λ i. block_number origin size i % extent == place) (members_of r))
+      All-each (λ i. block_offset origin size i < size) (λ i. mod_below (past origin i) size deal.some) (filter (λ i. block_number origin size i % extent == coordinate) (members_of r))
 
-  -- the blocks of the place's members, counted from the start, are as many as counted from the beginning of a round
-  numbers-blocks : (start : ℤ) (n : ℕ) → BeginsRound start (extent * size) origin → IsWithinValues (block_number origin size) (filter (λ i. block_number origin size i % extent == place) (members_of r)) n → IsWithinValues (λ i. int_div_euclid (i -ℤ start) (pos size)) (filter (λ i. block_number origin size i % extent == place) (members_of r)) n
+  -- the blocks of the coordinate's members, counted from the start, are as many as counted from the beginning of a round
+  numbers-blocks : (start : ℤ) (n : ℕ) → BeginsRound start (extent * size) origin → IsWithinValues (block_number origin size) (filter (λ i. block_number origin size i % extent == coordinate) (members_of r)) n → IsWithinValues (λ i. int_div_euclid (i -ℤ start) (pos size)) (filter (λ i. block_number origin size i % extent == coordinate) (members_of r)) n
   numbers-blocks start n begins within =
       let shift = block-shift start origin size extent deal.some begins in
-      IsWithinValues-through (λ i. int_div_euclid (i -ℤ start) (pos size)) (block_number origin size) (λ z. count_of (z +ℤ shift.0)) (filter (λ i. block_number origin size i % extent == place) (members_of r)) n
-      (All-filter (λ i. block_number origin size i % extent == place) (λ i. count_of (int_div_euclid (i -ℤ start) (pos size) +ℤ shift.0) ≡ block_number origin size i) (members_of r)
+      IsWithinValues-through (λ i. int_div_euclid (i -ℤ start) (pos size)) (block_number origin size) (λ z. count_of (z +ℤ shift.0)) (filter (λ i. block_number origin size i % extent == coordinate) (members_of r)) n
+      (All-filter (λ i. block_number origin size i % extent == coordinate) (λ i. count_of (int_div_euclid (i -ℤ start) (pos size) +ℤ shift.0) ≡ block_number origin size i) (members_of r)
       (All-weaker (λ i. (i ≡ origin +ℤ pos (past origin i)) × (i ≤ℤ r.high)) (λ i. count_of (int_div_euclid (i -ℤ start) (pos size) +ℤ shift.0) ≡ block_number origin size i)
       (λ i w. ap count_of (shift.1 i (past origin i) w.0)) (members_of r) members-past))
       within
 
   -- and no fewer than the rounds that have some
-  pub rounds-blocks : (start : ℤ) (n : ℕ) → BeginsRound start (extent * size) origin → IsWithinValues (λ i. block_number origin size i / extent) (filter (λ i. block_number origin size i % extent == place) (members_of r)) n → IsWithinValues (λ i. int_div_euclid (i -ℤ start) (pos size)) (filter (λ i. block_number origin size i % extent == place) (members_of r)) n
+  pub rounds-blocks : (start : ℤ) (n : ℕ) → BeginsRound start (extent * size) origin → IsWithinValues (λ i. block_number origin size i / extent) (filter (λ i. block_number origin size i % extent == coordinate) (members_of r)) n → IsWithinValues (λ i. int_div_euclid (i -ℤ start) (pos size)) (filter (λ i. block_number origin size i % extent == coordinate) (members_of r)) n
   rounds-blocks start n begins within =
-      let dealt = filter (λ i. block_number origin size i % extent == place) (members_of r) in
+      let dealt = filter (λ i. block_number origin size i % extent == coordinate) (members_of r) in
       numbers-blocks start n begins
       (IsWithinValues-through (block_number origin size) (λ i. block_number origin size i / extent) (λ number. number / extent) dealt n
       (All-each (λ i. block_number origin size i / extent ≡ block_number origin size i / extent) (λ i. refl) dealt) within)
@@ -182,9 +182,9 @@ module _ (r : RangeValue) (origin : ℤ) (size extent place : ℕ) (deal : IsDea
       (walked-apart r.low r.high r.stride (j * unsigned_abs r.stride) (k * unsigned_abs r.stride) (unsigned_abs r.stride) way)
 
   -- so its blocks that have members are no fewer than its members, and than the offsets at which they lie
-  pub offsets-blocks : (start : ℤ) (n : ℕ) → size < unsigned_abs r.stride → BeginsRound start (extent * size) origin → IsWithinValues (block_offset origin size) (filter (λ i. block_number origin size i % extent == place) (members_of r)) n → IsWithinValues (λ i. int_div_euclid (i -ℤ start) (pos size)) (filter (λ i. block_number origin size i % extent == place) (members_of r)) n
+  pub offsets-blocks : (start : ℤ) (n : ℕ) → size < unsigned_abs r.stride → BeginsRound start (extent * size) origin → IsWithinValues (block_offset origin size) (filter (λ i. block_number origin size i % extent == coordinate) (members_of r)) n → IsWithinValues (λ i. int_div_euclid (i -ℤ start) (pos size)) (filter (λ i. block_number origin size i % extent == coordinate) (members_of r)) n
   offsets-blocks start n sparse begins within =
-      let dealt = filter (λ i. block_number origin size i % extent == place) (members_of r) in
+      let dealt = filter (λ i. block_number origin size i % extent == coordinate) (members_of r) in
       numbers-blocks start n begins
       (IsWithinValues-less (block_number origin size) dealt n (length dealt) (IsWithinValues-length (block_offset origin size) dealt n within)
-      (IsWithinValues-apart (block_number origin size) dealt (AllPairs-filter (λ i j. block_number origin size i ≡ block_number origin size j → ⊥) (λ i. block_number origin size i % extent == place) (members_of r) (members-apart sparse))))
+      (IsWithinValues-apart (block_number origin size) dealt (AllPairs-filter (λ i j. block_number origin size i ≡ block_number origin size j → ⊥) (λ i. block_number origin size i % extent == coordinate) (members_of r) (members-apart sparse))))

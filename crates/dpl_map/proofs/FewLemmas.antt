@@ -153,7 +153,7 @@ single-offsets (Block low high) single z few = few
 single-offsets (Cyclic start) single z few = few
 single-offsets (BlockCyclic start size) single z few = absurd single
 
--- by a rule by which a place has its indices of a range in one range, that one is few
+-- by a rule by which a coordinate has its indices of a range in one range, that one is few
 pub AreFewRanges-single : {P : Type 0} (rule : RuleValue) (is : List ℤ) (p : P) → IsSingle rule → AreFewRanges rule is (length (behind is p []))
 AreFewRanges-single rule [] p single = (single-offsets rule single (pos 0) (omega (arith, ints)), IsWithinValues-none (rule_block rule) [])
 AreFewRanges-single rule (i ∷ is) p single =

@@ -10,13 +10,13 @@ use Rattle.dpl_map.specs.MapFields.{IsMap}
 use Rattle.dpl_map.specs.Maps.{AxisValue, owner}
 use Rattle.dpl_map.proofs.AxisLemmas.{axis-below}
 use Rattle.dpl_map.proofs.ValueLemmas.{Contains-filter}
-use Rattle.dpl_map.proofs.OwnerLemmas.{owner-padded, owner-other, places-padded, places-positive, length-last_of, row-below}
+use Rattle.dpl_map.proofs.OwnerLemmas.{owner-padded, owner-other, locales-padded, locales-positive, length-last_of, row-below}
 
 module _ (o m i : AxisValue) where
   -- a tuple of the map's rank is owned by a place of the map
   owner-ranked : (rank : ℕ) (t : List ℤ) → IsMap rank o m i → length t ≡ rank → owner (last_of rank o m i) t < o.extent * m.extent * i.extent
   unfolding owner
-  owner-ranked zero [] is same = omega (arith, places-positive 0 o m i is, places-padded 0 o m i is)
+  owner-ranked zero [] is same = omega (arith, locales-positive 0 o m i is, locales-padded 0 o m i is)
   owner-ranked zero (z ∷ t) is same = absurd (omega arith)
   owner-ranked (suc zero) [] is same = absurd (omega arith)
   owner-ranked (suc zero) (z ∷ []) is same =
@@ -46,7 +46,7 @@ module _ (o m i : AxisValue) where
       (λ (same : length t ≡ rank). owner-ranked rank t is same)
       (λ (other : length t ≡ rank → ⊥).
       let none = owner-other (last_of rank o m i) t (λ same. other (same ∙ long)) in
-      omega (arith, none, places-positive rank o m i is, places-padded rank o m i is))
+      omega (arith, none, locales-positive rank o m i is, locales-padded rank o m i is))
       (cases_eq (length t) rank)
 
 -- a tuple of a part is owned by its locale

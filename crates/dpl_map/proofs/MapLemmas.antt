@@ -1,4 +1,4 @@
--- Maps whose rules give each place one range of each dimension, and the dimensions that a map does not have.
+-- Maps whose rules give each coordinate one range of each dimension, and the dimensions that a map does not have.
 use Rattle.std.proofs.Common.{◌≡◌, ◌≤◌, ◌<◌, ◌*◌, ◌==◌, ℕ, zero, suc, true, ℤ, pos, List, length, Contains, refl, ap, sym, subst, arith, eq-eqb}
 use Rattle.std.proofs.Math.Nat.{mul-le-mul}
 use Rattle.std.proofs.lemmas.Int.{ints}
@@ -11,7 +11,7 @@ use Rattle.dpl_map.specs.AxisFields.{IsAxis}
 use Rattle.dpl_map.specs.Counts.{rule_offsets, AreFewRanges}
 use Rattle.dpl_map.specs.Cuts.{AreCut}
 use Rattle.dpl_map.specs.MapFields.{IsMap, idle}
-use Rattle.dpl_map.specs.Maps.{RuleValue, Block, Cyclic, BlockCyclic, AxisValue, axis_place, IsSingle, AreSingle}
+use Rattle.dpl_map.specs.Maps.{RuleValue, Block, Cyclic, BlockCyclic, AxisValue, axis_coordinate, IsSingle, AreSingle}
 use Rattle.dpl_map.proofs.AxisLemmas.{axis-below}
 use Rattle.dpl_map.proofs.PartLemmas.{owned_of}
 use Rattle.dpl_map.proofs.ValueLemmas.{Contains-filter}
@@ -33,13 +33,13 @@ AreCut-some elements xs pieces x member cut =
     let below = All-contains (λ x. cut.number x < length pieces) xs x cut.numbered member in
     omega (arith, below)
 
--- the one place of the axis that stands where a map has none owns the index that stands where a domain has none
+-- the one coordinate of the axis that stands where a map has none owns the index that stands where a domain has none
 unused-owned : (axis : AxisValue) (c : ℕ) → IsAxis axis → axis ≡ idle → c < axis.extent → Contains (owned_of axis c point) (pos 0)
 unused-owned axis c limits unused among =
     let one : axis.extent ≡ 1 = ap (λ (a : AxisValue). a.extent) unused in
-    let owned : (axis_place axis (pos 0) == c) ≡ true = eq-eqb _ _ (omega (arith, axis-below axis (pos 0) limits, one, among)) in
+    let owned : (axis_coordinate axis (pos 0) == c) ≡ true = eq-eqb _ _ (omega (arith, axis-below axis (pos 0) limits, one, among)) in
     let member = Contains-slice_get (members_of point) 0 (pos 0) (slice_get-members (pos 0) (pos 0) (pos 1) 0 1 0 refl refl (omega arith) (omega arith)) in
-    Contains-filter (λ i. axis_place axis i == c) (members_of point) (pos 0) owned member
+    Contains-filter (λ i. axis_coordinate axis i == c) (members_of point) (pos 0) owned member
 
 -- which is one range
 pub one-unused : (axis : AxisValue) (c : ℕ) (r : RangeValue) (pieces : List RangeValue) → IsAxis axis → axis ≡ idle → r ≡ point → c < axis.extent → AreCut members_of (owned_of axis c r) pieces → AreFewRanges axis.rule (owned_of axis c r) (length pieces) → length pieces ≡ 1

@@ -1,9 +1,9 @@
--- The owner of a tuple by its numbers, with places in front that a map doesn't have.
+-- The owner of a tuple by its numbers, with locales in front that a map doesn't have.
 use Rattle.std.proofs.Common.{◌≡◌, ℕ, zero, suc, ◌+◌, ◌*◌, ◌<◌, ◌≤◌, List, length, refl, arith, ℤ, pos, false, nat_eq}
 use Rattle.std.proofs.lemmas.Nat.{mul-add-lt}
 use Rattle.std.proofs.Math.Nat.{mul-le-mul}
 use Rattle.dpl_domain.specs.Ranks.{last_of, IsPadded}
-use Rattle.dpl_map.specs.Maps.{AxisValue, axis_place, places, owner}
+use Rattle.dpl_map.specs.Maps.{AxisValue, axis_coordinate, locales, owner}
 use Rattle.dpl_map.specs.MapFields.{IsMap, idle}
 use Rattle.dpl_map.specs.Places.{cyclic_place}
 
@@ -21,32 +21,32 @@ length-last_of (suc (suc zero)) a b c small = refl
 length-last_of (suc (suc (suc zero))) a b c small = refl
 length-last_of (suc (suc (suc (suc n)))) a b c small = absurd (omega arith)
 
--- the one place of an idle axis
-pub idle-place : axis_place idle (pos 0) ≡ 0
+-- the one coordinate of an idle axis
+pub idle-coordinate : axis_coordinate idle (pos 0) ≡ 0
 unfolding cyclic_place
-idle-place = refl
+idle-coordinate = refl
 
-pub places-padded : (rank : ℕ) (o m i : AxisValue) → IsMap rank o m i → places (last_of rank o m i) ≡ o.extent * m.extent * i.extent
-places-padded zero o m i is =
+pub locales-padded : (rank : ℕ) (o m i : AxisValue) → IsMap rank o m i → locales (last_of rank o m i) ≡ o.extent * m.extent * i.extent
+locales-padded zero o m i is =
     let front : o ≡ idle = is.first (omega arith) in
     let next : m ≡ idle = is.second (omega arith) in
     let last : i ≡ idle = is.third (omega arith) in
     rw (front, next, last) refl
-places-padded (suc zero) o m i is =
+locales-padded (suc zero) o m i is =
     let front : o ≡ idle = is.first (omega arith) in
     let next : m ≡ idle = is.second (omega arith) in
     rw (front, next) (omega arith)
-places-padded (suc (suc zero)) o m i is =
+locales-padded (suc (suc zero)) o m i is =
     let front : o ≡ idle = is.first (omega arith) in
     rw front (omega arith)
-places-padded (suc (suc (suc zero))) o m i is = omega arith
-places-padded (suc (suc (suc (suc n)))) o m i is = absurd (omega (arith, is.to_three))
+locales-padded (suc (suc (suc zero))) o m i is = omega arith
+locales-padded (suc (suc (suc (suc n)))) o m i is = absurd (omega (arith, is.to_three))
 
--- the place in the grid
-abbrev pub place_of : AxisValue → AxisValue → AxisValue → ℤ → ℤ → ℤ → ℕ
-place_of o m i x y z = (axis_place o x * m.extent + axis_place m y) * i.extent + axis_place i z
+-- the coordinate in the grid
+abbrev pub locale_of : AxisValue → AxisValue → AxisValue → ℤ → ℤ → ℤ → ℕ
+locale_of o m i x y z = (axis_coordinate o x * m.extent + axis_coordinate m y) * i.extent + axis_coordinate i z
 
-pub owner-padded : (rank : ℕ) (o m i : AxisValue) (x y z : ℤ) → IsMap rank o m i → IsPadded (pos 0) rank x y → owner (last_of rank o m i) (last_of rank x y z) ≡ place_of o m i x y z
+pub owner-padded : (rank : ℕ) (o m i : AxisValue) (x y z : ℤ) → IsMap rank o m i → IsPadded (pos 0) rank x y → owner (last_of rank o m i) (last_of rank x y z) ≡ locale_of o m i x y z
 unfolding owner
 owner-padded zero o m i x y z is padded = absurd (omega (arith, padded.from_one))
 owner-padded (suc zero) o m i x y z is padded =
@@ -54,25 +54,25 @@ owner-padded (suc zero) o m i x y z is padded =
     let next : m ≡ idle = is.second (omega arith) in
     let x_is : x ≡ pos 0 = padded.first (omega arith) in
     let y_is : y ≡ pos 0 = padded.second (omega arith) in
-    rw (front, next, x_is, y_is, idle-place) (omega arith)
+    rw (front, next, x_is, y_is, idle-coordinate) (omega arith)
 owner-padded (suc (suc zero)) o m i x y z is padded =
     let front : o ≡ idle = is.first (omega arith) in
     let x_is : x ≡ pos 0 = padded.first (omega arith) in
-    rw (front, x_is, idle-place) (omega arith)
+    rw (front, x_is, idle-coordinate) (omega arith)
 owner-padded (suc (suc (suc zero))) o m i x y z is padded = omega arith
 owner-padded (suc (suc (suc (suc n)))) o m i x y z is padded = absurd (omega (arith, padded.to_three))
 
--- a place in the grid is below the number of places
+-- a coordinate in the grid is below the number of locales
 pub row-below : (a m n p q r : ℕ) → p < a → q < m → r < n → (p * m + q) * n + r < a * m * n
 row-below a m n p q r p_below q_below r_below =
     let row = mul-add-lt p m q a p_below q_below in
     let e = mul-add-lt (p * m + q) n r (a * m) (omega (arith, row)) r_below in
     omega (arith, e)
 
--- there is a place
-pub places-positive : (rank : ℕ) (o m i : AxisValue) → IsMap rank o m i → 0 < places (last_of rank o m i)
-places-positive rank o m i is =
+-- there is a coordinate
+pub locales-positive : (rank : ℕ) (o m i : AxisValue) → IsMap rank o m i → 0 < locales (last_of rank o m i)
+locales-positive rank o m i is =
     let row : 1 * 1 ≤ o.extent * m.extent = mul-le-mul is.outer_limits.extent.0 is.middle_limits.extent.0 in
     let one : 1 ≤ o.extent * m.extent = omega (arith, row) in
     let all : 1 * 1 ≤ o.extent * m.extent * i.extent = mul-le-mul {n₁ = 1} {m₁ = 1} one is.inner_limits.extent.0 in
-    omega (arith, all, places-padded rank o m i is)
+    omega (arith, all, locales-padded rank o m i is)

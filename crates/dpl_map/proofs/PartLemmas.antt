@@ -10,10 +10,10 @@ use Rattle.dpl_domain.specs.Indices.{tuples, indices}
 use Rattle.dpl_domain.specs.Ranks.{last_of}
 use Rattle.dpl_map.specs.AxisFields.{IsAxis}
 use Rattle.dpl_map.specs.MapFields.{IsMap, idle}
-use Rattle.dpl_map.specs.Maps.{AxisValue, axis_place, owner}
+use Rattle.dpl_map.specs.Maps.{AxisValue, axis_coordinate, owner}
 use Rattle.dpl_map.specs.Parts.{part}
 use Rattle.dpl_map.proofs.FilterLemmas.{filter-alike}
-use Rattle.dpl_map.proofs.OwnerLemmas.{owner-padded, owner-other, place_of}
+use Rattle.dpl_map.proofs.OwnerLemmas.{owner-padded, owner-other, locale_of}
 use Rattle.dpl_map.proofs.AxisLemmas.{axis-below}
 
 -- each coordinate of a tuple passes the test of its dimension
@@ -108,43 +108,43 @@ and-true false = refl
 
 -- what a place of an axis owns of a range
 abbrev pub owned_of : AxisValue → ℕ → RangeValue → List ℤ
-owned_of axis c r = filter (λ i. axis_place axis i == c) (members_of r)
+owned_of axis c r = filter (λ i. axis_coordinate axis i == c) (members_of r)
 
 -- a place of the grid by its coordinates
 module _ (o m i : AxisValue) (o_limits : IsAxis o) (m_limits : IsAxis m) (i_limits : IsAxis i) (cx cy cz locale : ℕ) (cx_below : cx < o.extent) (cy_below : cy < m.extent) (cz_below : cz < i.extent) (locale-is : (cx * m.extent + cy) * i.extent + cz ≡ locale) where
-  same-place : (x y z : ℤ) → place_of o m i x y z ≡ locale → (axis_place o x ≡ cx) × (axis_place m y ≡ cy) × (axis_place i z ≡ cz)
-  same-place x y z e =
-      let last = same_from_place (axis_place o x * m.extent + axis_place m y) (axis_place i z) (cx * m.extent + cy) cz i.extent (axis-below i z i_limits) cz_below (e ∙ sym locale-is) in
-      let first = same_from_place (axis_place o x) (axis_place m y) cx cy m.extent (axis-below m y m_limits) cy_below last.0 in
+  same-coordinates : (x y z : ℤ) → locale_of o m i x y z ≡ locale → (axis_coordinate o x ≡ cx) × (axis_coordinate m y ≡ cy) × (axis_coordinate i z ≡ cz)
+  same-coordinates x y z e =
+      let last = same_from_place (axis_coordinate o x * m.extent + axis_coordinate m y) (axis_coordinate i z) (cx * m.extent + cy) cz i.extent (axis-below i z i_limits) cz_below (e ∙ sym locale-is) in
+      let first = same_from_place (axis_coordinate o x) (axis_coordinate m y) cx cy m.extent (axis-below m y m_limits) cy_below last.0 in
       (first.0, first.1, last.1)
 
-  place-same : (x y z : ℤ) → axis_place o x ≡ cx → axis_place m y ≡ cy → axis_place i z ≡ cz → place_of o m i x y z ≡ locale
-  place-same x y z first second third = rw (first, second, third) locale-is
+  coordinates-same : (x y z : ℤ) → axis_coordinate o x ≡ cx → axis_coordinate m y ≡ cy → axis_coordinate i z ≡ cz → locale_of o m i x y z ≡ locale
+  coordinates-same x y z first second third = rw (first, second, third) locale-is
 
-  three-tests : (x y z : ℤ) → (place_of o m i x y z == locale) ≡ ((axis_place o x == cx) && ((axis_place m y == cy) && (axis_place i z == cz)))
+  three-tests : (x y z : ℤ) → (locale_of o m i x y z == locale) ≡ ((axis_coordinate o x == cx) && ((axis_coordinate m y == cy) && (axis_coordinate i z == cz)))
   three-tests x y z =
-      both_ways (place_of o m i x y z == locale) ((axis_place o x == cx) && ((axis_place m y == cy) && (axis_place i z == cz)))
+      both_ways (locale_of o m i x y z == locale) ((axis_coordinate o x == cx) && ((axis_coordinate m y == cy) && (axis_coordinate i z == cz)))
       (λ h.
-      let places = same-place x y z (eqb-true _ _ h) in
-      rw (eq-eqb _ _ places.0, eq-eqb _ _ places.1, eq-eqb _ _ places.2) refl)
+      let locales = same-coordinates x y z (eqb-true _ _ h) in
+      rw (eq-eqb _ _ locales.0, eq-eqb _ _ locales.1, eq-eqb _ _ locales.2) refl)
       (λ h.
       let first = eqb-true _ _ (and-first _ _ h) in
       let rest = and-second _ _ h in
-      eq-eqb _ _ (place-same x y z first (eqb-true _ _ (and-first _ _ rest)) (eqb-true _ _ (and-second _ _ rest))))
+      eq-eqb _ _ (coordinates-same x y z first (eqb-true _ _ (and-first _ _ rest)) (eqb-true _ _ (and-second _ _ rest))))
 
   -- an idle axis has one place
-  idle-outer : (x : ℤ) → o ≡ idle → (axis_place o x == cx) ≡ true
+  idle-outer : (x : ℤ) → o ≡ idle → (axis_coordinate o x == cx) ≡ true
   idle-outer x is =
       let one : o.extent ≡ 1 = ap (λ (a : AxisValue). a.extent) is in
       eq-eqb _ _ (omega (arith, axis-below o x o_limits, one))
 
-  idle-middle : (y : ℤ) → m ≡ idle → (axis_place m y == cy) ≡ true
+  idle-middle : (y : ℤ) → m ≡ idle → (axis_coordinate m y == cy) ≡ true
   idle-middle y is =
       let one : m.extent ≡ 1 = ap (λ (a : AxisValue). a.extent) is in
       eq-eqb _ _ (omega (arith, axis-below m y m_limits, one))
 
   abbrev pub tests : ℕ → List (ℤ → Bool)
-  tests rank = last_of rank (λ x. axis_place o x == cx) (λ y. axis_place m y == cy) (λ z. axis_place i z == cz)
+  tests rank = last_of rank (λ x. axis_coordinate o x == cx) (λ y. axis_coordinate m y == cy) (λ z. axis_coordinate i z == cz)
 
   -- a tuple's owner is the place where each coordinate's answer is that of the place
   owner-tests : (rank : ℕ) (t : List ℤ) → IsMap rank o m i → 1 ≤ rank → length t ≡ rank → (owner (last_of rank o m i) t == locale) ≡ all_pass (tests rank) t
@@ -153,14 +153,14 @@ module _ (o m i : AxisValue) (o_limits : IsAxis o) (m_limits : IsAxis m) (i_limi
   owner-tests (suc zero) (z ∷ []) is some same =
       ap (λ n. n == locale) (owner-padded 1 o m i (pos 0) (pos 0) z is (record { from_one = omega arith; to_three = omega arith; first = λ _. refl; second = λ _. refl }))
       ∙ three-tests (pos 0) (pos 0) z
-      ∙ rw (idle-outer (pos 0) (is.first (omega arith)), idle-middle (pos 0) (is.second (omega arith))) (and-true (axis_place i z == cz))
+      ∙ rw (idle-outer (pos 0) (is.first (omega arith)), idle-middle (pos 0) (is.second (omega arith))) (and-true (axis_coordinate i z == cz))
   owner-tests (suc zero) (y ∷ z ∷ t) is some same = absurd (omega arith)
   owner-tests (suc (suc zero)) [] is some same = absurd (omega arith)
   owner-tests (suc (suc zero)) (y ∷ []) is some same = absurd (omega arith)
   owner-tests (suc (suc zero)) (y ∷ z ∷ []) is some same =
       ap (λ n. n == locale) (owner-padded 2 o m i (pos 0) y z is (record { from_one = omega arith; to_three = omega arith; first = λ _. refl; second = λ h. absurd (omega arith) }))
       ∙ three-tests (pos 0) y z
-      ∙ rw (idle-outer (pos 0) (is.first (omega arith))) (ap (λ b. (axis_place m y == cy) && b) (and-true (axis_place i z == cz)))
+      ∙ rw (idle-outer (pos 0) (is.first (omega arith))) (ap (λ b. (axis_coordinate m y == cy) && b) (and-true (axis_coordinate i z == cz)))
   owner-tests (suc (suc zero)) (x ∷ y ∷ z ∷ t) is some same = absurd (omega arith)
   owner-tests (suc (suc (suc zero))) [] is some same = absurd (omega arith)
   owner-tests (suc (suc (suc zero))) (x ∷ []) is some same = absurd (omega arith)
@@ -168,7 +168,7 @@ module _ (o m i : AxisValue) (o_limits : IsAxis o) (m_limits : IsAxis m) (i_limi
   owner-tests (suc (suc (suc zero))) (x ∷ y ∷ z ∷ []) is some same =
       ap (λ n. n == locale) (owner-padded 3 o m i x y z is (record { from_one = omega arith; to_three = omega arith; first = λ h. absurd (omega arith); second = λ h. absurd (omega arith) }))
       ∙ three-tests x y z
-      ∙ ap (λ b. (axis_place o x == cx) && ((axis_place m y == cy) && b)) (and-true (axis_place i z == cz))
+      ∙ ap (λ b. (axis_coordinate o x == cx) && ((axis_coordinate m y == cy) && b)) (and-true (axis_coordinate i z == cz))
   owner-tests (suc (suc (suc zero))) (w ∷ x ∷ y ∷ z ∷ t) is some same = absurd (omega arith)
   owner-tests (suc (suc (suc (suc n)))) t is some same = absurd (omega (arith, is.to_three))
 
@@ -193,7 +193,7 @@ pub record IsSeat (l a m n x y z : ℕ) : Type 0 where
   pub outer : x < a
   pub middle : y < m
   pub inner : z < n
-  pub place : (x * m + y) * n + z ≡ l
+  pub number : (x * m + y) * n + z ≡ l
 
 pub seat : (l a m n : ℕ) → 0 < m → 0 < n → l < a * m * n → IsSeat l a m n (l / n / m) (l / n % m) (l % n)
 seat l a m n rows columns below =
@@ -204,7 +204,7 @@ seat l a m n rows columns below =
       outer = div_below (l / n) m a rows row;
       middle = mod_below (l / n) m rows;
       inner = mod_below l n columns;
-      place = ap (λ z. z * n + l % n) split ∙ whole;
+      number = ap (λ z. z * n + l % n) split ∙ whole;
     }
 
 -- a part is no larger than its domain

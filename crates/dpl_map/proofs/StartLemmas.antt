@@ -13,7 +13,7 @@ factors zero b some = absurd (omega arith)
 factors (suc a) zero some = absurd (omega arith)
 factors (suc a) (suc b) some = (omega arith, omega arith)
 
--- an extent of a grid is no more than the places of the grid
+-- an extent of a grid is no more than the locales of the grid
 pub extents-small : (a b c : ℕ) → IsGridSize (a * b * c) → IsGridSize a × IsGridSize b × IsGridSize c
 extents-small a b c size =
     let outer = factors (a * b) c size.0 in

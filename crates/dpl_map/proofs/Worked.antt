@@ -26,7 +26,7 @@ outside_the_box : map (block_place (pos 3) (pos 4) 2) (pos 1 ∷ pos 3 ∷ pos 4
 unfolding block_place
 outside_the_box = refl
 
--- the box -2^60..2^60 over 64 places
+-- the box -2^60..2^60 over 64 locales
 widest_box : map (block_place (negsuc 1152921504606846975) (pos 1152921504606846976) 64) (pos 0 ∷ pos 1152921504606846976 ∷ []) ≡ 31 ∷ 63 ∷ []
 unfolding block_place
 widest_box = refl
@@ -36,7 +36,7 @@ cyclic_far_below : cyclic_place (pos 1152921504606846976) 3 (negsuc 115292150460
 unfolding cyclic_place
 cyclic_far_below = refl
 
--- from 1 in blocks of 2 over two places, below the start too
+-- from 1 in blocks of 2 over two locales, below the start too
 blocks_of_two : map (block_cyclic_place (pos 1) (pos 2) 2) (negsuc 1 ∷ negsuc 0 ∷ pos 0 ∷ pos 1 ∷ pos 2 ∷ pos 3 ∷ pos 4 ∷ pos 5 ∷ []) ≡ 0 ∷ 1 ∷ 1 ∷ 0 ∷ 0 ∷ 1 ∷ 1 ∷ 0 ∷ []
 unfolding block_cyclic_place
 blocks_of_two = refl
@@ -67,7 +67,7 @@ block_parts : map (part (range (pos 1) (pos 12) (pos 5) ∷ []) (record { rule =
 unfolding part owner block_place indices members range
 block_parts = refl
 
--- from 1 in blocks of 2 over two places, the domain 1..8
+-- from 1 in blocks of 2 over two locales, the domain 1..8
 block_cyclic_parts : map (part (range (pos 1) (pos 8) (pos 1) ∷ []) (block_cyclic_map (pos 1 ∷ []) (pos 2 ∷ []) (2 ∷ []))) (0 ∷ 1 ∷ []) ≡ ((pos 1 ∷ []) ∷ (pos 2 ∷ []) ∷ (pos 5 ∷ []) ∷ (pos 6 ∷ []) ∷ []) ∷ ((pos 3 ∷ []) ∷ (pos 4 ∷ []) ∷ (pos 7 ∷ []) ∷ (pos 8 ∷ []) ∷ []) ∷ []
 unfolding part owner block_cyclic_place indices members range
 block_cyclic_parts = refl

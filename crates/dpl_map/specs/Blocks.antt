@@ -20,12 +20,12 @@ block_offset origin size i = past origin i % size
 abbrev pub BeginsRound : ℤ → ℕ → ℤ → Type 0
 BeginsRound start round origin = (k : ℕ) × ((origin ≡ start +ℤ pos (k * round)) ⊎ (start ≡ origin +ℤ pos (k * round)))
 
--- a place of some has every block of a size of its own, from the beginning of the round that has a range's low bound
-pub record IsDeal (range : RangeValue) (origin : ℤ) (size extent place : ℕ) : Type 0 where
+-- a coordinate of some has every block of a size of its own, from the beginning of the round that has a range's low bound
+pub record IsDeal (range : RangeValue) (origin : ℤ) (size extent coordinate : ℕ) : Type 0 where
   pub limits : IsRange range
   pub some : 0 < size
   pub machine : size < 2 ^ 63
   pub few : extent ≤ 64
-  pub among : place < extent
+  pub among : coordinate < extent
   pub begins : origin ≤ℤ range.low
   pub soon : range.low ≤ℤ (origin +ℤ pos (extent * size))

@@ -6,7 +6,7 @@ use Rattle.dpl_map.specs.Maps.{AxisValue, Cyclic}
 use Rattle.dpl_map.specs.AxisFields.{IsAxis}
 use Rattle.dpl_map.specs.declared.map.Map.TheInside.{Inside}
 
--- the axis with one place, which stands where a map has none
+-- the axis with one coordinate, which stands where a map has none
 abbrev pub idle : AxisValue
 idle = record { rule = Cyclic (pos 0); extent = 1 }
 

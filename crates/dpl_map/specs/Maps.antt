@@ -1,10 +1,10 @@
 -- Maps: a map deals out each dimension by a rule over an extent of a grid. The whole map deals out none.
 use Rattle.std.specs.Prelude.{◌≡◌, ℕ, List, [], ◌∷◌, ℤ, pos, map, length, nat_eq, if◌then◌else◌, Contains, All, ◌≤ℤ◌}
 use Rattle.dpl_range.specs.Range.{RangeValue, members_of}
-use Rattle.dpl_map.specs.Grids.{grid_size, grid_place}
+use Rattle.dpl_map.specs.Grids.{grid_size, grid_locale}
 use Rattle.dpl_map.specs.Places.{block_place, cyclic_place, block_cyclic_place}
 
--- how the indices of a dimension are dealt out over its places
+-- how the indices of a dimension are dealt out over its coordinates
 pub data RuleValue : Type 0 where
   -- Block, with the box low..high
   Block : ℤ → ℤ → RuleValue
@@ -13,25 +13,25 @@ pub data RuleValue : Type 0 where
   -- block-cyclic, from a start in blocks of a size
   BlockCyclic : ℤ → ℤ → RuleValue
 
--- a dimension of a map: its rule, and over how many places of the grid it is dealt out
+-- a dimension of a map: its rule, and over how many coordinates of the grid it is dealt out
 pub record AxisValue : Type 0 where
   pub rule : RuleValue
   pub extent : ℕ
 
--- a rule by which each place has its indices of a range in one range
+-- a rule by which each coordinate has its indices of a range in one range
 abbrev pub IsSingle : RuleValue → Type 0
 IsSingle (Block low high) = Unit {0}
 IsSingle (Cyclic start) = Unit {0}
 IsSingle (BlockCyclic start blocksize) = ⊥
 
--- the place, of n, that a rule gives an index
-abbrev pub rule_place : RuleValue → ℕ → ℤ → ℕ
-rule_place (Block low high) n i = block_place low high n i
-rule_place (Cyclic start) n i = cyclic_place start n i
-rule_place (BlockCyclic start blocksize) n i = block_cyclic_place start blocksize n i
+-- the coordinate, of n, that a rule gives an index
+abbrev pub rule_coordinate : RuleValue → ℕ → ℤ → ℕ
+rule_coordinate (Block low high) n i = block_place low high n i
+rule_coordinate (Cyclic start) n i = cyclic_place start n i
+rule_coordinate (BlockCyclic start blocksize) n i = block_cyclic_place start blocksize n i
 
-abbrev pub axis_place : AxisValue → ℤ → ℕ
-axis_place axis i = rule_place axis.rule axis.extent i
+abbrev pub axis_coordinate : AxisValue → ℤ → ℕ
+axis_coordinate axis i = rule_coordinate axis.rule axis.extent i
 
 -- a map all of whose rules are such
 abbrev pub AreSingle : List AxisValue → Type 0
@@ -42,19 +42,19 @@ AreSingle (axis ∷ axes) = IsSingle axis.rule × AreSingle axes
 abbrev pub extents : List AxisValue → List ℕ
 extents axes = map (λ axis. axis.extent) axes
 
--- how many places a map has: those of its grid, and the whole map has one
-abbrev pub places : List AxisValue → ℕ
-places axes = grid_size (extents axes)
+-- how many locales a map has: those of its grid, and the whole map has one
+abbrev pub locales : List AxisValue → ℕ
+locales axes = grid_size (extents axes)
 
 -- what the axes give the coordinates of a tuple
 abbrev pub answers : List AxisValue → List ℤ → List ℕ
-answers (axis ∷ axes) (i ∷ is) = axis_place axis i ∷ answers axes is
+answers (axis ∷ axes) (i ∷ is) = axis_coordinate axis i ∷ answers axes is
 answers _ _ = []
 
--- The owner of a tuple is the grid place of its coordinates' answers. A tuple of another rank than the map's
+-- The owner of a tuple is the number in the grid of its coordinates' answers. A tuple of another rank than the map's
 -- goes to 0, and so does every tuple by the whole map.
 unfoldable pub owner : List AxisValue → List ℤ → ℕ
-owner axes t = if nat_eq (length t) (length axes) then grid_place (extents axes) (answers axes t) else 0
+owner axes t = if nat_eq (length t) (length axes) then grid_locale (extents axes) (answers axes t) else 0
 
 -- the whole map
 abbrev pub whole_map : List AxisValue

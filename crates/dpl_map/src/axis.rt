@@ -1,4 +1,4 @@
-// One dimension of a map: by which rule its indices are dealt out over how many places.
+// One dimension of a map: by which rule its indices are dealt out over how many coordinates.
 
 ghost use Rattle.std.specs.Prelude.{◌≡◌, ◌≢◌, ◌↔◌, ◌+◌, ◌*◌, ◌^◌, ◌≤◌, ◌<◌, ◌≤ℤ◌, ◌==◌, ◌&&◌, ℕ, ℤ, pos, neg_ℤ, int_le, filter, length, All, IfOk, []};
 ghost use Rattle.dpl_range.specs.Range.{members_of, IsBound};
@@ -7,7 +7,7 @@ ghost use Rattle.dpl_map.specs.AxisFields.{IsAxis};
 ghost use Rattle.dpl_map.specs.Grids.{IsGridSize};
 ghost use Rattle.dpl_map.specs.Cuts.{AreCut};
 ghost use Rattle.dpl_map.specs.Counts.{AreFewRanges};
-ghost use Rattle.dpl_map.specs.Maps.{axis_place, IsBoxed, IsSingle, Block, Cyclic, BlockCyclic};
+ghost use Rattle.dpl_map.specs.Maps.{axis_coordinate, IsBoxed, IsSingle, Block, Cyclic, BlockCyclic};
 ghost use Rattle.dpl_map.specs.Places.{block_place, cyclic_place, block_cyclic_place};
 
 use crate::blocks::{dealt, keep};
@@ -22,7 +22,7 @@ enum Rule {
     BlockCyclic { start: i64, size: i64 },
 }
 
-/// A rule and an extent: 1 to 64 places, and numbers of the rule within the limits of ranges.
+/// A rule and an extent: 1 to 64 coordinates, and numbers of the rule within the limits of ranges.
 #[derive(Clone, Copy, Debug, PartialEq, Eq)]
 pub struct Axis {
     rule: Rule,
@@ -46,7 +46,7 @@ impl Model for Axis {
 }
 
 impl Axis {
-    /// The places of a box, cut into blocks that are as equal as can be.
+    /// The coordinates of a box, cut into blocks that are as equal as can be.
     pub fn block(low: i64, high: i64, extent: u32) -> Axis
         requires low_is_bound { IsBound low }
         requires high_is_bound { IsBound high }
@@ -61,7 +61,7 @@ impl Axis {
         }
     }
 
-    /// The places of the box from a range's least member to its greatest.
+    /// The coordinates of the box from a range's least member to its greatest.
     pub fn boxed(range: &Range, extent: u32) -> Axis
         requires some { members_of range.now ≢ [] }
         requires extent { IsGridSize extent }
@@ -73,7 +73,7 @@ impl Axis {
         Axis::block(low, high, extent)
     }
 
-    /// The places that go round from a start.
+    /// The coordinates that go round from a start.
     pub fn cyclic(start: i64, extent: u32) -> Axis
         requires start_is_bound { IsBound start }
         requires extent { IsGridSize extent }
@@ -86,7 +86,7 @@ impl Axis {
         }
     }
 
-    /// The places that go round from a start, each with a block of a size at a time.
+    /// The coordinates that go round from a start, each with a block of a size at a time.
     pub fn block_cyclic(start: i64, size: i64, extent: u32) -> Axis
         requires start_is_bound { IsBound start }
         requires size { pos 1 ≤ℤ size }
@@ -100,7 +100,7 @@ impl Axis {
         }
     }
 
-    /// Over how many places the indices are dealt out.
+    /// Over how many coordinates the indices are dealt out.
     pub fn extent(&self) -> u32
         ensures extent { result ≡ self.now.extent }
         ensures limits { IsAxis self.now }
@@ -108,46 +108,46 @@ impl Axis {
         self.extent
     }
 
-    /// The members of a range that a place owns, as ranges that each have members, in the order of the range. That is one
+    /// The members of a range that a coordinate owns, as ranges that each have members, in the order of the range. That is one
     /// range, or by the block-cyclic rule no more than a block has offsets, and no more than there are blocks with members
-    /// of the place; and it is none where the place owns no member.
+    /// of the coordinate; and it is none where the coordinate owns no member.
     ///
     /// # Errors
     /// No memory for them.
-    pub fn parts(&self, alloc: Global, range: &Range, place: u32) -> Result<Vec<Range>, AllocError>
-        requires { place < self.now.extent }
-        ensures cut { IfOk result (λ v. AreCut members_of (filter (λ i. axis_place self.now i == place) (members_of range.now)) v.items) }
+    pub fn parts(&self, alloc: Global, range: &Range, coordinate: u32) -> Result<Vec<Range>, AllocError>
+        requires { coordinate < self.now.extent }
+        ensures cut { IfOk result (λ v. AreCut members_of (filter (λ i. axis_coordinate self.now i == coordinate) (members_of range.now)) v.items) }
         ensures some { IfOk result (λ v. All (λ r. members_of r ≢ []) v.items) }
-        ensures few { IfOk result (λ v. AreFewRanges self.now.rule (filter (λ i. axis_place self.now i == place) (members_of range.now)) (length v.items)) }
+        ensures few { IfOk result (λ v. AreFewRanges self.now.rule (filter (λ i. axis_coordinate self.now i == coordinate) (members_of range.now)) (length v.items)) }
     {
         if let Rule::BlockCyclic { start, size } = self.rule {
-            return dealt(alloc, range, start, size, self.extent, place);
+            return dealt(alloc, range, start, size, self.extent, coordinate);
         }
         let mut parts = Vec::new(alloc);
-        keep(&mut parts, self.part(range, place))?;
+        keep(&mut parts, self.part(range, coordinate))?;
         Ok(parts)
     }
 
-    // The members of a range that a place owns by a rule that gives it one range.
-    fn part(&self, range: &Range, place: u32) -> Range
-        requires place { place < self.now.extent }
+    // The members of a range that a coordinate owns by a rule that gives it one range.
+    fn part(&self, range: &Range, coordinate: u32) -> Range
+        requires coordinate { coordinate < self.now.extent }
         requires single { IsSingle self.now.rule }
-        ensures members { members_of result ≡ filter (λ i. axis_place self.now i == place) (members_of range.now) }
+        ensures members { members_of result ≡ filter (λ i. axis_coordinate self.now i == coordinate) (members_of range.now) }
         ensures limits { IsRange result }
     {
         if range.size() == 0 {
             return *range;
         }
         match self.rule {
-            Rule::Block { low, high } => block_part(range, low, high, self.extent, place),
-            Rule::Cyclic { start } => range.class(start, self.extent as u64, place as u64),
+            Rule::Block { low, high } => block_part(range, low, high, self.extent, coordinate),
+            Rule::Cyclic { start } => range.class(start, self.extent as u64, coordinate as u64),
             Rule::BlockCyclic { .. } => unreachable!(),
         }
     }
 
-    /// The place of an index, which may be any number.
-    pub fn place(&self, i: i64) -> u32
-        ensures place { result ≡ axis_place self.now i }
+    /// The coordinate of an index, which may be any number.
+    pub fn coordinate(&self, i: i64) -> u32
+        ensures coordinate { result ≡ axis_coordinate self.now i }
         ensures below { result < self.now.extent }
         ensures limits { IsAxis self.now }
     {
@@ -159,14 +159,14 @@ impl Axis {
     }
 }
 
-// The place of an index by the block rule. A box may hold 2^61 + 1 indices, so that the product needs more
+// The coordinate of an index by the block rule. A box may hold 2^61 + 1 indices, so that the product needs more
 // than 64 bits.
 fn block_place(low: i64, high: i64, extent: u32, i: i64) -> u32
     requires low_is_bound { IsBound low }
     requires high_is_bound { IsBound high }
     requires ordered { low ≤ℤ high }
     requires extent { IsGridSize extent }
-    ensures place { result ≡ block_place low high extent i }
+    ensures coordinate { result ≡ block_place low high extent i }
     ensures below { result < extent }
 {
     if i < low {
@@ -180,68 +180,68 @@ fn block_place(low: i64, high: i64, extent: u32, i: i64) -> u32
     (offset * extent as u128 / size) as u32
 }
 
-// The members of a range that a place owns by the block rule.
-fn block_part(range: &Range, low: i64, high: i64, extent: u32, place: u32) -> Range
+// The members of a range that a coordinate owns by the block rule.
+fn block_part(range: &Range, low: i64, high: i64, extent: u32, coordinate: u32) -> Range
     requires low_is_bound { IsBound low }
     requires high_is_bound { IsBound high }
     requires ordered { low ≤ℤ high }
     requires extent { IsGridSize extent }
-    requires place { place < extent }
+    requires coordinate { coordinate < extent }
     requires range_limits { IsRange range.now }
-    ensures members { members_of result ≡ filter (λ i. block_place low high extent i == place) (members_of range.now) }
+    ensures members { members_of result ≡ filter (λ i. block_place low high extent i == coordinate) (members_of range.now) }
     ensures limits { IsRange result }
 {
-    let from = block_from(low, high, extent, place);
-    let to = block_to(low, high, extent, place);
+    let from = block_from(low, high, extent, coordinate);
+    let to = block_to(low, high, extent, coordinate);
     between(range, from, to)
 }
 
-// From which integer on the bounds of ranges go to a place or to a later one by the block rule. What lies
-// below the box goes to the first place.
-fn block_from(low: i64, high: i64, extent: u32, place: u32) -> i64
+// From which integer on the bounds of ranges go to a coordinate or to a later one by the block rule. What lies
+// below the box goes to the first coordinate.
+fn block_from(low: i64, high: i64, extent: u32, coordinate: u32) -> i64
     requires low_is_bound { IsBound low }
     requires high_is_bound { IsBound high }
     requires ordered { low ≤ℤ high }
     requires extent { IsGridSize extent }
-    requires place { place < extent }
+    requires coordinate { coordinate < extent }
     ensures from { neg_ℤ (pos (2 ^ 60)) ≤ℤ result }
     ensures to { result ≤ℤ pos (2 ^ 60 + 1) }
-    ensures owned { (i : ℤ) → IsBound i → (place ≤ block_place low high extent i) ↔ (result ≤ℤ i) }
+    ensures owned { (i : ℤ) → IsBound i → (coordinate ≤ block_place low high extent i) ↔ (result ≤ℤ i) }
 {
-    if place == 0 {
+    if coordinate == 0 {
         return -LIMIT;
     }
     let size = (high - low) as u64 + 1;
-    low + block_start(size, extent, place) as i64
+    low + block_start(size, extent, coordinate) as i64
 }
 
-// Up to which integer the bounds of ranges go to a place or to an earlier one by the block rule. What lies
-// above the box goes to the last place.
-fn block_to(low: i64, high: i64, extent: u32, place: u32) -> i64
+// Up to which integer the bounds of ranges go to a coordinate or to an earlier one by the block rule. What lies
+// above the box goes to the last coordinate.
+fn block_to(low: i64, high: i64, extent: u32, coordinate: u32) -> i64
     requires low_is_bound { IsBound low }
     requires high_is_bound { IsBound high }
     requires ordered { low ≤ℤ high }
     requires extent { IsGridSize extent }
-    requires place { place < extent }
+    requires coordinate { coordinate < extent }
     ensures to { result ≤ℤ pos (2 ^ 60) }
-    ensures owned { (i : ℤ) → IsBound i → (block_place low high extent i ≤ place) ↔ (i ≤ℤ result) }
+    ensures owned { (i : ℤ) → IsBound i → (block_place low high extent i ≤ coordinate) ↔ (i ≤ℤ result) }
 {
-    if place + 1 == extent {
+    if coordinate + 1 == extent {
         return LIMIT;
     }
-    block_from(low, high, extent, place + 1) - 1
+    block_from(low, high, extent, coordinate + 1) - 1
 }
 
-// How far above the low bound of a box the block of a place begins.
-fn block_start(size: u64, extent: u32, place: u32) -> u64
+// How far above the low bound of a box the block of a coordinate begins.
+fn block_start(size: u64, extent: u32, coordinate: u32) -> u64
     requires size { size ≤ 2 ^ 61 + 1 }
     requires extent { IsGridSize extent }
-    requires place { place ≤ extent }
-    ensures reached { place * size ≤ result * extent }
-    ensures least { (d : ℕ) → place * size ≤ d * extent → result ≤ d }
+    requires coordinate { coordinate ≤ extent }
+    ensures reached { coordinate * size ≤ result * extent }
+    ensures least { (d : ℕ) → coordinate * size ≤ d * extent → result ≤ d }
     ensures within { result ≤ size }
 {
-    (place as u128 * size as u128).div_ceil(extent as u128) as u64
+    (coordinate as u128 * size as u128).div_ceil(extent as u128) as u64
 }
 
 // The members of a range between two integers, of which one may be past the limits where none are left.
@@ -258,23 +258,23 @@ fn between(range: &Range, from: i64, to: i64) -> Range
     }
 }
 
-// The place of an index by the cyclic rule. An index may be any number, so that the difference needs more
+// The coordinate of an index by the cyclic rule. An index may be any number, so that the difference needs more
 // than 64 bits.
 fn cyclic_place(start: i64, extent: u32, i: i64) -> u32
     requires start_is_bound { IsBound start }
     requires extent { IsGridSize extent }
-    ensures place { result ≡ cyclic_place start extent i }
+    ensures coordinate { result ≡ cyclic_place start extent i }
     ensures below { result < extent }
 {
     (i as i128 - start as i128).rem_euclid(extent as i128) as u32
 }
 
-// The place of an index by the block-cyclic rule.
+// The coordinate of an index by the block-cyclic rule.
 fn block_cyclic_place(start: i64, size: i64, extent: u32, i: i64) -> u32
     requires start_is_bound { IsBound start }
     requires size { pos 1 ≤ℤ size }
     requires extent { IsGridSize extent }
-    ensures place { result ≡ block_cyclic_place start size extent i }
+    ensures coordinate { result ≡ block_cyclic_place start size extent i }
     ensures below { result < extent }
 {
     (i as i128 - start as i128)

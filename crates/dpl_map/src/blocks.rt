@@ -1,5 +1,5 @@
-// The block-cyclic rule along one dimension: the members of a range that a place gets, as ranges.
-// Blocks are counted from an origin at which a round of them begins, one block for each place.
+// The block-cyclic rule along one dimension: the members of a range that a coordinate gets, as ranges.
+// Blocks are counted from an origin at which a round of them begins, one block for each coordinate.
 
 ghost use Rattle.std.specs.Prelude.{◌≡◌, ◌≢◌, ◌≤◌, ◌<◌, ◌+◌, ◌-◌, ◌*◌, ◌/◌, ◌%◌, ◌==◌, ◌&&◌, ◌^◌, ℕ, pos, ◌≤ℤ◌, ◌+ℤ◌, ◌-ℤ◌, neg_ℤ, int_le, [], filter, length, IfOk, IfSome, IsNone, OnOk, All};
 ghost use Rattle.std.specs.Int.{int_div_euclid};
@@ -13,7 +13,7 @@ ghost use Rattle.dpl_map.specs.Blocks.{past, block_number, block_offset, BeginsR
 use dpl_range::Range;
 use std::alloc::{AllocError, Global};
 
-/// The members of a range that the block-cyclic rule deals to a place, as ranges: one for each of the place's
+/// The members of a range that the block-cyclic rule deals to a coordinate, as ranges: one for each of the coordinate's
 /// blocks that has members, or one for each offset in a block at which some lie. Each has a member, and they are no more
 /// than these blocks, and no more than a block has offsets.
 ///
@@ -25,21 +25,21 @@ pub fn dealt(
     start: i64,
     size: i64,
     extent: u32,
-    place: u32,
+    coordinate: u32,
 ) -> Result<Vec<Range>, AllocError>
     requires start_is_bound { IsBound start }
     requires some { pos 1 ≤ℤ size }
     requires extent { IsGridSize extent }
-    requires place { place < extent }
-    ensures cut { IfOk result (λ v. AreCut members_of (filter (λ i. block_cyclic_place start size extent i == place) (members_of range.now)) v.items) }
+    requires coordinate { coordinate < extent }
+    ensures cut { IfOk result (λ v. AreCut members_of (filter (λ i. block_cyclic_place start size extent i == coordinate) (members_of range.now)) v.items) }
     ensures some { IfOk result (λ v. All (λ r. members_of r ≢ []) v.items) }
     ensures few { IfOk result (λ v. pos (length v.items) ≤ℤ size) }
-    ensures blocks { IfOk result (λ v. IsWithinValues (λ i. int_div_euclid (i -ℤ start) size) (filter (λ i. block_cyclic_place start size extent i == place) (members_of range.now)) (length v.items)) }
+    ensures blocks { IfOk result (λ v. IsWithinValues (λ i. int_div_euclid (i -ℤ start) size) (filter (λ i. block_cyclic_place start size extent i == coordinate) (members_of range.now)) (length v.items)) }
 {
     if range.size() == 0 {
         return Ok(Vec::new(alloc));
     }
-    let deal = Deal::new(*range, start, size as u64, extent as u64, place as u64);
+    let deal = Deal::new(*range, start, size as u64, extent as u64, coordinate as u64);
     let rounds = deal.rounds();
     // Where a stride passes over more than a block, no block has two members: the offsets at which some lie are no more than
     // the blocks that have some. Where these may be many, going through the offsets takes fewer steps.
@@ -92,30 +92,30 @@ pub fn keep(pieces: &mut Vec<Range>, piece: Range) -> Result<(), AllocError>
     Ok(())
 }
 
-// A range, and the blocks of it that a place gets: those number `place`, `place + extent` and so on from the origin.
+// A range, and the blocks of it that a coordinate gets: those number `coordinate`, `coordinate + extent` and so on from the origin.
 #[derive(Clone, Copy)]
 struct Deal {
     range: Range,
     origin: i128,
     size: u64,
     extent: u64,
-    place: u64,
+    coordinate: u64,
 }
 
 impl Deal {
-    // The deal of a place, from the beginning of the round that has the range's low bound.
-    fn new(range: Range, start: i64, size: u64, extent: u64, place: u64) -> Deal
+    // The deal of a coordinate, from the beginning of the round that has the range's low bound.
+    fn new(range: Range, start: i64, size: u64, extent: u64, coordinate: u64) -> Deal
         requires start_limit { IsBound start }
         requires some { 0 < size }
         requires machine { size < 2 ^ 63 }
         requires extent { extent ≤ 64 }
-        requires place { place < extent }
-        ensures deal { IsDeal result.range result.origin result.size result.extent result.place }
+        requires coordinate { coordinate < extent }
+        ensures deal { IsDeal result.range result.origin result.size result.extent result.coordinate }
         ensures begins { BeginsRound start (result.extent * result.size) result.origin }
         ensures range { result.range ≡ range }
         ensures size { result.size ≡ size }
         ensures extent { result.extent ≡ extent }
-        ensures place { result.place ≡ place }
+        ensures coordinate { result.coordinate ≡ coordinate }
     {
         let round = extent as u128 * size as u128;
         Deal {
@@ -123,13 +123,13 @@ impl Deal {
             origin: round_of(range.low_bound(), start, round as i128),
             size,
             extent,
-            place,
+            coordinate,
         }
     }
 
     // How far an integer between the range's bounds lies past the origin.
     fn way(&self, i: i64) -> u128
-        requires deal { IsDeal self.now.range self.now.origin self.now.size self.now.extent self.now.place }
+        requires deal { IsDeal self.now.range self.now.origin self.now.size self.now.extent self.now.coordinate }
         requires low { self.now.range.low ≤ℤ i }
         requires high { i ≤ℤ self.now.range.high }
         ensures way { result ≡ past self.now.origin i }
@@ -140,7 +140,7 @@ impl Deal {
 
     // The number of the block that has an integer between the range's bounds.
     fn number(&self, i: i64) -> u64
-        requires deal { IsDeal self.now.range self.now.origin self.now.size self.now.extent self.now.place }
+        requires deal { IsDeal self.now.range self.now.origin self.now.size self.now.extent self.now.coordinate }
         requires low { self.now.range.low ≤ℤ i }
         requires high { i ≤ℤ self.now.range.high }
         ensures number { result ≡ block_number self.now.origin self.now.size i }
@@ -151,7 +151,7 @@ impl Deal {
 
     // The number of the block that has the range's high bound.
     fn last(&self) -> u64
-        requires deal { IsDeal self.now.range self.now.origin self.now.size self.now.extent self.now.place }
+        requires deal { IsDeal self.now.range self.now.origin self.now.size self.now.extent self.now.coordinate }
         requires ordered { self.now.range.low ≤ℤ self.now.range.high }
         ensures number { result ≡ block_number self.now.origin self.now.size self.now.range.high }
         ensures near { result ≤ 2 ^ 61 + 64 }
@@ -159,25 +159,25 @@ impl Deal {
         self.number(self.range.high_bound())
     }
 
-    // How many of the place's blocks begin at the range's high bound or before it.
+    // How many of the coordinate's blocks begin at the range's high bound or before it.
     fn rounds(&self) -> u64
-        requires deal { IsDeal self.now.range self.now.origin self.now.size self.now.extent self.now.place }
+        requires deal { IsDeal self.now.range self.now.origin self.now.size self.now.extent self.now.coordinate }
         requires ordered { self.now.range.low ≤ℤ self.now.range.high }
-        ensures all { (j : ℕ) → j < result → j * self.now.extent + self.now.place ≤ block_number self.now.origin self.now.size self.now.range.high }
-        ensures enough { (j : ℕ) → j * self.now.extent + self.now.place ≤ block_number self.now.origin self.now.size self.now.range.high → j < result }
+        ensures all { (j : ℕ) → j < result → j * self.now.extent + self.now.coordinate ≤ block_number self.now.origin self.now.size self.now.range.high }
+        ensures enough { (j : ℕ) → j * self.now.extent + self.now.coordinate ≤ block_number self.now.origin self.now.size self.now.range.high → j < result }
         ensures near { block_number self.now.origin self.now.size self.now.range.high ≤ 2 ^ 61 + 64 }
         ensures short { self.now.size < result → self.now.extent * self.now.size ≤ 2 ^ 61 }
     {
         let last = self.last();
-        if last < self.place {
+        if last < self.coordinate {
             return 0;
         }
-        (last - self.place) / self.extent + 1
+        (last - self.coordinate) / self.extent + 1
     }
 
     // Where the block of a number begins.
     fn begin(&self, number: u64) -> i128
-        requires deal { IsDeal self.now.range self.now.origin self.now.size self.now.extent self.now.place }
+        requires deal { IsDeal self.now.range self.now.origin self.now.size self.now.extent self.now.coordinate }
         requires near { number ≤ 2 ^ 62 }
         ensures begin { result ≡ self.now.origin +ℤ pos (number * self.now.size) }
         ensures limit { result ≤ℤ pos (2 ^ 126) }
@@ -187,7 +187,7 @@ impl Deal {
 
     // Where the block of a number ends.
     fn end(&self, number: u64) -> i128
-        requires deal { IsDeal self.now.range self.now.origin self.now.size self.now.extent self.now.place }
+        requires deal { IsDeal self.now.range self.now.origin self.now.size self.now.extent self.now.coordinate }
         requires near { number ≤ 2 ^ 62 }
         ensures { result ≡ self.now.origin +ℤ pos (number * self.now.size) +ℤ pos (self.now.size - 1) }
     {
@@ -196,52 +196,52 @@ impl Deal {
 
     // The members in the block of a number.
     fn block(&self, number: u64) -> Range
-        requires deal { IsDeal self.now.range self.now.origin self.now.size self.now.extent self.now.place }
+        requires deal { IsDeal self.now.range self.now.origin self.now.size self.now.extent self.now.coordinate }
         requires near { number ≤ 2 ^ 62 }
         ensures { members_of result ≡ filter (λ i. block_number self.now.origin self.now.size i == number) (members_of self.now.range) }
     {
         between(&self.range, self.begin(number), self.end(number))
     }
 
-    // The first of the place's rounds, from this one on, whose block has the least member that is left or begins behind it. None
-    // where the place has no member left.
+    // The first of the coordinate's rounds, from this one on, whose block has the least member that is left or begins behind it. None
+    // where the coordinate has no member left.
     fn next_round(&self, round: u64) -> Option<u64>
-        requires deal { IsDeal self.now.range self.now.origin self.now.size self.now.extent self.now.place }
+        requires deal { IsDeal self.now.range self.now.origin self.now.size self.now.extent self.now.coordinate }
         requires ordered { self.now.range.low ≤ℤ self.now.range.high }
-        requires near { round * self.now.extent + self.now.place ≤ 2 ^ 62 }
+        requires near { round * self.now.extent + self.now.coordinate ≤ 2 ^ 62 }
         ensures later { IfSome result (λ found. round ≤ found) }
-        ensures within { IfSome result (λ found. found * self.now.extent + self.now.place ≤ block_number self.now.origin self.now.size self.now.range.high) }
-        ensures passed { IfSome result (λ found. All (λ i. block_number self.now.origin self.now.size i / self.now.extent < found → block_number self.now.origin self.now.size i / self.now.extent < round) (filter (λ i. block_number self.now.origin self.now.size i % self.now.extent == self.now.place) (members_of self.now.range))) }
-        ensures none { IsNone result → All (λ i. block_number self.now.origin self.now.size i / self.now.extent < round) (filter (λ i. block_number self.now.origin self.now.size i % self.now.extent == self.now.place) (members_of self.now.range)) }
+        ensures within { IfSome result (λ found. found * self.now.extent + self.now.coordinate ≤ block_number self.now.origin self.now.size self.now.range.high) }
+        ensures passed { IfSome result (λ found. All (λ i. block_number self.now.origin self.now.size i / self.now.extent < found → block_number self.now.origin self.now.size i / self.now.extent < round) (filter (λ i. block_number self.now.origin self.now.size i % self.now.extent == self.now.coordinate) (members_of self.now.range))) }
+        ensures none { IsNone result → All (λ i. block_number self.now.origin self.now.size i / self.now.extent < round) (filter (λ i. block_number self.now.origin self.now.size i % self.now.extent == self.now.coordinate) (members_of self.now.range)) }
     {
-        let begin = self.begin(round * self.extent + self.place);
+        let begin = self.begin(round * self.extent + self.coordinate);
         let left = between(&self.range, begin, self.range.high_bound() as i128);
         let least = left.low()?;
-        let found = (self.number(least) + (self.extent - 1 - self.place)) / self.extent;
-        if self.last() < found * self.extent + self.place {
+        let found = (self.number(least) + (self.extent - 1 - self.coordinate)) / self.extent;
+        if self.last() < found * self.extent + self.coordinate {
             return None;
         }
         Some(found)
     }
 
-    // The members in each of the place's blocks, one block after another. There is no such list where more of the blocks
+    // The members in each of the coordinate's blocks, one block after another. There is no such list where more of the blocks
     // have members than a block has offsets.
     fn by_blocks(&self, alloc: Global, rounds: u64) -> Result<Option<Vec<Range>>, AllocError>
-        requires deal { IsDeal self.now.range self.now.origin self.now.size self.now.extent self.now.place }
+        requires deal { IsDeal self.now.range self.now.origin self.now.size self.now.extent self.now.coordinate }
         requires ordered { self.now.range.low ≤ℤ self.now.range.high }
-        requires enough { (j : ℕ) → j * self.now.extent + self.now.place ≤ block_number self.now.origin self.now.size self.now.range.high → j < rounds }
+        requires enough { (j : ℕ) → j * self.now.extent + self.now.coordinate ≤ block_number self.now.origin self.now.size self.now.range.high → j < rounds }
         requires near { block_number self.now.origin self.now.size self.now.range.high ≤ 2 ^ 61 + 64 }
-        ensures cut { IfOk result (λ found. IfSome found (λ v. AreCut members_of (filter (λ i. block_number self.now.origin self.now.size i % self.now.extent == self.now.place) (members_of self.now.range)) v.items)) }
+        ensures cut { IfOk result (λ found. IfSome found (λ v. AreCut members_of (filter (λ i. block_number self.now.origin self.now.size i % self.now.extent == self.now.coordinate) (members_of self.now.range)) v.items)) }
         ensures few { IfOk result (λ found. IfSome found (λ v. length v.items ≤ self.now.size)) }
         ensures some { IfOk result (λ found. IfSome found (λ v. All (λ r. members_of r ≢ []) v.items)) }
-        ensures blocks { IfOk result (λ found. IfSome found (λ v. IsWithinValues (λ i. block_number self.now.origin self.now.size i / self.now.extent) (filter (λ i. block_number self.now.origin self.now.size i % self.now.extent == self.now.place) (members_of self.now.range)) (length v.items))) }
-        ensures many { IfOk result (λ found. IsNone found → IsWithinValues (λ i. block_number self.now.origin self.now.size i / self.now.extent) (filter (λ i. block_number self.now.origin self.now.size i % self.now.extent == self.now.place) (members_of self.now.range)) (self.now.size + 1)) }
+        ensures blocks { IfOk result (λ found. IfSome found (λ v. IsWithinValues (λ i. block_number self.now.origin self.now.size i / self.now.extent) (filter (λ i. block_number self.now.origin self.now.size i % self.now.extent == self.now.coordinate) (members_of self.now.range)) (length v.items))) }
+        ensures many { IfOk result (λ found. IsNone found → IsWithinValues (λ i. block_number self.now.origin self.now.size i / self.now.extent) (filter (λ i. block_number self.now.origin self.now.size i % self.now.extent == self.now.coordinate) (members_of self.now.range)) (self.now.size + 1)) }
         ensures later { IfOk result (λ found. IsNone found → self.now.size < rounds) }
     {
         let mut pieces = Vec::new(alloc);
         let mut round = 0;
         'rounds: while let Some(found) = self.next_round(round) {
-            keep(&mut pieces, self.block(found * self.extent + self.place))?;
+            keep(&mut pieces, self.block(found * self.extent + self.coordinate))?;
             if self.size < pieces.len() as u64 {
                 return Ok(None);
             }
@@ -250,16 +250,16 @@ impl Deal {
         Ok(Some(pieces))
     }
 
-    // The members of the place's blocks by their offsets: those of one offset are a class of congruence.
+    // The members of the coordinate's blocks by their offsets: those of one offset are a class of congruence.
     fn by_offsets(&self, alloc: Global, start: i64) -> Result<Vec<Range>, AllocError>
-        requires deal { IsDeal self.now.range self.now.origin self.now.size self.now.extent self.now.place }
+        requires deal { IsDeal self.now.range self.now.origin self.now.size self.now.extent self.now.coordinate }
         requires start_is_bound { IsBound start }
         requires short { self.now.extent * self.now.size ≤ 2 ^ 61 }
         requires begins { BeginsRound start (self.now.extent * self.now.size) self.now.origin }
-        ensures cut { IfOk result (λ v. AreCut members_of (filter (λ i. block_number self.now.origin self.now.size i % self.now.extent == self.now.place) (members_of self.now.range)) v.items) }
+        ensures cut { IfOk result (λ v. AreCut members_of (filter (λ i. block_number self.now.origin self.now.size i % self.now.extent == self.now.coordinate) (members_of self.now.range)) v.items) }
         ensures few { IfOk result (λ v. length v.items ≤ self.now.size) }
         ensures some { IfOk result (λ v. All (λ r. members_of r ≢ []) v.items) }
-        ensures offsets { IfOk result (λ v. IsWithinValues (block_offset self.now.origin self.now.size) (filter (λ i. block_number self.now.origin self.now.size i % self.now.extent == self.now.place) (members_of self.now.range)) (length v.items)) }
+        ensures offsets { IfOk result (λ v. IsWithinValues (block_offset self.now.origin self.now.size) (filter (λ i. block_number self.now.origin self.now.size i % self.now.extent == self.now.coordinate) (members_of self.now.range)) (length v.items)) }
     {
         let mut pieces = Vec::new(alloc);
         for offset in 0..self.size {
@@ -268,16 +268,16 @@ impl Deal {
         Ok(pieces)
     }
 
-    // The members of the place's blocks that lie at an offset in them.
+    // The members of the coordinate's blocks that lie at an offset in them.
     fn offset(&self, start: i64, offset: u64) -> Range
-        requires deal { IsDeal self.now.range self.now.origin self.now.size self.now.extent self.now.place }
+        requires deal { IsDeal self.now.range self.now.origin self.now.size self.now.extent self.now.coordinate }
         requires start_is_bound { IsBound start }
         requires within { offset < self.now.size }
         requires short { self.now.extent * self.now.size ≤ 2 ^ 61 }
         requires begins { BeginsRound start (self.now.extent * self.now.size) self.now.origin }
-        ensures { members_of result ≡ filter (λ i. block_offset self.now.origin self.now.size i == offset) (filter (λ i. block_number self.now.origin self.now.size i % self.now.extent == self.now.place) (members_of self.now.range)) }
+        ensures { members_of result ≡ filter (λ i. block_offset self.now.origin self.now.size i == offset) (filter (λ i. block_number self.now.origin self.now.size i % self.now.extent == self.now.coordinate) (members_of self.now.range)) }
     {
-        let before = self.place * self.size;
+        let before = self.coordinate * self.size;
         self.range
             .class(start, self.extent * self.size, before + offset)
     }

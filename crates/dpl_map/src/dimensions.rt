@@ -1,4 +1,4 @@
-// The ranges of a domain in three places: those of a lower rank leave the places in front to the range 0..0.
+// The ranges of a domain in three places: those of a lower rank leave the locales in front to the range 0..0.
 
 ghost use Rattle.std.specs.Prelude.{◌≡◌, ◌≤◌, length};
 ghost use Rattle.dpl_domain.specs.Indices.{IsSmall};

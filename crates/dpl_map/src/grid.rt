@@ -1,4 +1,4 @@
-// A grid: the places that a map deals indices out to, in one to three dimensions.
+// A grid: the locales that a map deals indices out to, in one to three dimensions.
 
 ghost use Rattle.std.specs.Prelude.{◌≡◌, ◌≤◌, ◌*◌, ◌↔◌, length, IsOk, IfOk};
 ghost use Rattle.dpl_domain.specs.Indices.{IsRank};
@@ -8,8 +8,8 @@ ghost use Rattle.dpl_map.specs.Grids.{grid_size, IsGridSize};
 use std::marker::Model;
 use thiserror::Error;
 
-/// The most places that a grid may have.
-pub const MOST_PLACES: u32 = 64;
+/// The most locales that a grid may have.
+pub const MOST_LOCALES: u32 = 64;
 
 /// Why some extents are no grid.
 #[derive(Clone, Copy, Debug, PartialEq, Eq, Error)]
@@ -18,11 +18,11 @@ pub enum GridFault {
     #[error("a grid has one to three dimensions")]
     Rank,
     /// There are one to three extents, and their product is not from 1 to 64.
-    #[error("a grid has 1 to 64 places")]
-    Places,
+    #[error("a grid has 1 to 64 locales")]
+    Locales,
 }
 
-/// A grid of places, seen as the list of its one to three extents. Places are numbered from 0, row by row.
+/// A grid of locales, seen as the list of its one to three extents. Places are numbered from 0, row by row.
 #[derive(Clone, Copy, Debug, PartialEq, Eq)]
 pub struct Grid {
     rank: u32,
@@ -49,12 +49,12 @@ impl Model for Grid {
 }
 
 impl Grid {
-    /// The grid with these extents, if there are one to three of them with 1 to 64 places.
+    /// The grid with these extents, if there are one to three of them with 1 to 64 locales.
     pub fn new(extents: &[u32]) -> Result<Grid, GridFault>
         ensures ok { IsOk result ↔ (IsRank extents.now × IsGridSize (grid_size extents.now)) }
         ensures held { IfOk result (λ grid. grid ≡ extents.now) }
         ensures rank { (result ≡ Err GridFault.Rank) ↔ (¬ IsRank extents.now) }
-        ensures places { (result ≡ Err GridFault.Places) ↔ (IsRank extents.now × ¬ IsGridSize (grid_size extents.now)) }
+        ensures locales { (result ≡ Err GridFault.Locales) ↔ (IsRank extents.now × ¬ IsGridSize (grid_size extents.now)) }
     {
         match extents {
             [inner] => Grid::checked(1, 1, 1, *inner),
@@ -64,16 +64,16 @@ impl Grid {
         }
     }
 
-    // The last `rank` of three extents as a grid, if they have 1 to 64 places.
+    // The last `rank` of three extents as a grid, if they have 1 to 64 locales.
     fn checked(rank: u32, outer: u32, middle: u32, inner: u32) -> Result<Grid, GridFault>
         requires { IsPadded 1 rank outer middle }
         ensures ok { IsOk result ↔ IsGridSize (grid_size (last_of rank outer middle inner)) }
         ensures held { IfOk result (λ grid. grid ≡ last_of rank outer middle inner) }
-        ensures places { (result ≡ Err GridFault.Places) ↔ (¬ IsGridSize (grid_size (last_of rank outer middle inner))) }
+        ensures locales { (result ≡ Err GridFault.Locales) ↔ (¬ IsGridSize (grid_size (last_of rank outer middle inner))) }
     {
-        let places = outer as u128 * middle as u128 * inner as u128;
-        if places < 1 || places > MOST_PLACES as u128 {
-            return Err(GridFault::Places);
+        let locales = outer as u128 * middle as u128 * inner as u128;
+        if locales < 1 || locales > MOST_LOCALES as u128 {
+            return Err(GridFault::Locales);
         }
         Ok(Grid {
             rank,

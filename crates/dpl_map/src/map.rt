@@ -6,7 +6,7 @@ ghost use Rattle.dpl_domain.specs.Ranks.{last_of, IsPadded};
 ghost use Rattle.dpl_range.specs.Range.{RangeValue, IsBound};
 ghost use Rattle.dpl_map.specs.AxisFields.{IsAxis};
 ghost use Rattle.dpl_map.specs.MapFields.{IsMap};
-ghost use Rattle.dpl_map.specs.Maps.{owner, places, whole_map, cyclic_map, block_cyclic_map, IsBlocksize, IsBlockMap};
+ghost use Rattle.dpl_map.specs.Maps.{owner, locales, whole_map, cyclic_map, block_cyclic_map, IsBlocksize, IsBlockMap};
 ghost use Rattle.dpl_map.specs.Parts.{part};
 
 use crate::Grid;
@@ -63,7 +63,7 @@ impl Model for Map {
 }
 
 impl Map {
-    /// The map that puts every index on place 0, the only one that it has.
+    /// The map that puts every index on locale 0, the only one that it has.
     pub fn whole() -> Map
         ensures { result ≡ whole_map }
     {
@@ -100,7 +100,7 @@ impl Map {
         ))
     }
 
-    /// Cyclic: each dimension goes round the places of the grid from a coordinate of the start.
+    /// Cyclic: each dimension goes round the locales of the grid from a coordinate of the start.
     pub fn cyclic(start: Index, grid: Grid) -> Result<Map, MapFault>
         ensures ok { IsOk result ↔ (All IsBound start × (length start ≡ length grid)) }
         ensures held { IfOk result (λ axes. axes ≡ cyclic_map start grid) }
@@ -123,7 +123,7 @@ impl Map {
         ))
     }
 
-    /// Block-cyclic: each dimension goes round the places of the grid from a coordinate of the start, in blocks of a
+    /// Block-cyclic: each dimension goes round the locales of the grid from a coordinate of the start, in blocks of a
     /// size of its own.
     pub fn block_cyclic(start: Index, sizes: Index, grid: Grid) -> Result<Map, MapFault>
         ensures ok { IsOk result ↔ (All IsBound start × (length start ≡ length grid) × (length sizes ≡ length grid) × All IsBlocksize sizes) }
@@ -182,7 +182,7 @@ impl Map {
         }
     }
 
-    /// The axes in three places, the last one last. Those in front that the map does not have have one place.
+    /// The axes in three places, the last one last. Those in front that the map does not have have one coordinate.
     pub(crate) fn axes(&self) -> (Axis, Axis, Axis)
         ensures axes { self.now ≡ last_of (length self.now) result.0 result.1 result.2 }
         ensures limits { IsMap (length self.now) result.0 result.1 result.2 }
@@ -197,10 +197,10 @@ impl Map {
         self.rank
     }
 
-    /// How many places the map has: those of its grid, or one. Each tuple is owned by one of them, so the parts of a
+    /// How many locales the map has: those of its grid, or one. Each tuple is owned by one of them, so the parts of a
     /// domain have no tuple in common and together are the domain.
-    pub fn places(&self) -> u32
-        ensures places { result ≡ places self.now }
+    pub fn locales(&self) -> u32
+        ensures locales { result ≡ locales self.now }
         ensures owners { (t : List ℤ) → owner self.now t < result }
         ensures apart { (ranges : List RangeValue) (t : List ℤ) (j k : ℕ) → Contains (part ranges self.now j) t → Contains (part ranges self.now k) t → j ≡ k }
         ensures together { (ranges : List RangeValue) (t : List ℤ) → Contains (indices ranges) t → (k : ℕ) × (k < result) × Contains (part ranges self.now k) t }
@@ -210,18 +210,18 @@ impl Map {
         self.outer.extent() * self.middle.extent() * self.inner.extent()
     }
 
-    /// The place that owns an index, which may be of any rank and have any coordinates. One of another rank
-    /// than the map's is owned by place 0.
+    /// The locale that owns an index, which may be of any rank and have any coordinates. One of another rank
+    /// than the map's is owned by locale 0.
     pub fn owner(&self, index: Index) -> u32
         ensures owner { result ≡ owner self.now index }
-        ensures below { result < places self.now }
+        ensures below { result < locales self.now }
     {
         if index.rank() != self.rank {
             return 0;
         }
         let (outer, middle, inner) = index.numbers();
-        let row = self.outer.place(outer) * self.middle.extent() + self.middle.place(middle);
-        row * self.inner.extent() + self.inner.place(inner)
+        let row = self.outer.coordinate(outer) * self.middle.extent() + self.middle.coordinate(middle);
+        row * self.inner.extent() + self.inner.coordinate(inner)
     }
 }
 

@@ -2,7 +2,7 @@
 
 ghost use Rattle.std.specs.Prelude.{◌≡◌, ◌≢◌, ◌≤◌, ◌<◌, ◌*◌, ◌+◌, [], length, All, IfOk, IfSome, IfNone, OnErr};
 ghost use Rattle.dpl_domain.specs.Indices.{indices, IsSmall};
-ghost use Rattle.dpl_map.specs.Maps.{places, AreSingle};
+ghost use Rattle.dpl_map.specs.Maps.{locales, AreSingle};
 ghost use Rattle.dpl_map.specs.Counts.{AreFew};
 ghost use Rattle.dpl_map.specs.Cuts.{AreCut};
 ghost use Rattle.dpl_map.specs.Parts.{part};
@@ -38,9 +38,9 @@ impl Map {
         ensures one { AreSingle self.now → IfOk result (λ domains. length domains.items ≤ 1) }
         ensures few { IfOk result (λ domains. AreFew self.now (part domain.now self.now locale) (length domains.items)) }
         ensures other { length domain.now ≢ length self.now → IfOk result (λ domains. length domains.items ≤ 1) }
-        ensures none { IfOk result (λ domains. places self.now ≤ locale → domains.items ≡ []) }
+        ensures none { IfOk result (λ domains. locales self.now ≤ locale → domains.items ≡ []) }
     {
-        if self.places() <= locale || domain.size() == 0 {
+        if self.locales() <= locale || domain.size() == 0 {
             return Ok(Vec::new(alloc));
         }
         if domain.rank() == self.rank() {
@@ -56,7 +56,7 @@ impl Map {
     // The part of a domain of the map's rank.
     fn owned(&self, alloc: Global, domain: &Domain, locale: u32) -> Result<Vec<Domain>, AllocError>
         requires rank { length domain.now ≡ length self.now }
-        requires locale { locale < places self.now }
+        requires locale { locale < locales self.now }
         requires small { IsSmall domain.now }
         ensures cut { IfOk result (λ domains. AreCut indices (part domain.now self.now locale) domains.items) }
         ensures some { IfOk result (λ domains. All (λ domain. indices domain ≢ []) domains.items) }

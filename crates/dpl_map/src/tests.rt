@@ -31,7 +31,7 @@ fn hold(rt: &impl Abort, domains: &[Domain], rows: &[&[i64]]) {
     }
 }
 
-// The parts of a domain of one dimension, place by place, and the owner of each index.
+// The parts of a domain of one dimension, coordinate by coordinate, and the owner of each index.
 fn parts(
     rt: &impl Abort,
     alloc: Global,
@@ -39,7 +39,7 @@ fn parts(
     domain: Domain,
     members: &[&[i64]],
 ) -> Result<(), Fail> {
-    assert_eq!(rt; map.places() as usize, members.len());
+    assert_eq!(rt; map.locales() as usize, members.len());
     for (locale, part) in members.iter().enumerate() {
         let domains = map.part(alloc, &domain, locale as u32)?;
         let mut rows = Vec::new(alloc);
@@ -64,15 +64,15 @@ fn line(low: i64, high: i64, stride: i64) -> Result<Domain, Fail> {
     Ok(Domain::new(&[Range::new(low, high, stride)?])?)
 }
 
-fn block(low: i64, high: i64, stride: i64, places: u32) -> Result<Map, Fail> {
-    Ok(Map::block(&line(low, high, stride)?, Grid::new(&[places])?)?)
+fn block(low: i64, high: i64, stride: i64, locales: u32) -> Result<Map, Fail> {
+    Ok(Map::block(&line(low, high, stride)?, Grid::new(&[locales])?)?)
 }
 
-fn cyclic(rt: &impl Abort, start: i64, places: u32) -> Result<Map, Fail> {
+fn cyclic(rt: &impl Abort, start: i64, locales: u32) -> Result<Map, Fail> {
     let Some(start) = Index::new(&[start]) else {
         panic!(rt; "one coordinate makes an index")
     };
-    Ok(Map::cyclic(start, Grid::new(&[places])?)?)
+    Ok(Map::cyclic(start, Grid::new(&[locales])?)?)
 }
 
 #[test]
@@ -187,11 +187,11 @@ fn grids(rt: HostRuntime) -> Result<(), Fail> {
     assert!(rt; map.part(rt.alloc(), &line(1, 3, 1)?, 1)?.is_empty());
     assert_eq!(rt; Grid::new(&[]), Err(GridFault::Rank));
     assert_eq!(rt; Grid::new(&[1, 1, 1, 1]), Err(GridFault::Rank));
-    assert_eq!(rt; Grid::new(&[8, 0, 2]), Err(GridFault::Places));
-    assert_eq!(rt; Grid::new(&[65]), Err(GridFault::Places));
+    assert_eq!(rt; Grid::new(&[8, 0, 2]), Err(GridFault::Locales));
+    assert_eq!(rt; Grid::new(&[65]), Err(GridFault::Locales));
     assert_eq!(rt;
         Grid::new(&[4294967295, 4294967295, 4294967295]),
-        Err(GridFault::Places)
+        Err(GridFault::Locales)
     );
     assert_eq!(rt; Grid::new(&[4, 4, 4])?.rank(), 3);
     Ok(())

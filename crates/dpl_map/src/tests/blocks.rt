@@ -67,7 +67,7 @@ fn few(rt: HostRuntime) -> Result<(), Fail> {
     Ok(())
 }
 
-// In how many domains each place has its part of a domain.
+// In how many domains each coordinate has its part of a domain.
 fn counts(
     rt: &impl Abort,
     alloc: Global,
@@ -75,7 +75,7 @@ fn counts(
     domain: Domain,
     domains: &[usize],
 ) -> Result<(), Fail> {
-    assert_eq!(rt; map.places() as usize, domains.len());
+    assert_eq!(rt; map.locales() as usize, domains.len());
     for (locale, count) in domains.iter().enumerate() {
         let part = map.part(alloc, &domain, locale as u32)?;
         assert_eq!(rt; part.len(), *count);
@@ -100,7 +100,7 @@ fn fewer_blocks(rt: HostRuntime) -> Result<(), Fail> {
     counts(&rt, alloc, map, domain, &[2, 3, 3])
 }
 
-// A place has more blocks than a block has offsets, by one at 1..24. Even members lie at two of four offsets.
+// A coordinate has more blocks than a block has offsets, by one at 1..24. Even members lie at two of four offsets.
 #[test]
 fn fewer_offsets(rt: HostRuntime) -> Result<(), Fail> {
     let alloc = rt.alloc();
@@ -147,23 +147,23 @@ fn one_or_none(rt: HostRuntime) -> Result<(), Fail> {
 #[test]
 fn ends(rt: HostRuntime) -> Result<(), Fail> {
     let alloc = rt.alloc();
-    for (start, size, places) in [
+    for (start, size, locales) in [
         (LIMIT, 1, 64),
         (-LIMIT, LIMIT, 1),
         (LIMIT, i64::MAX, 64),
         (-LIMIT, 3, 1),
     ] {
-        let map = in_blocks(&rt, &[start], &[size], &[places])?;
+        let map = in_blocks(&rt, &[start], &[size], &[locales])?;
         let domain = line(-LIMIT, LIMIT, LIMIT)?;
         let mut indices = 0u64;
-        for locale in 0..places {
+        for locale in 0..locales {
             for domain in &map.part(alloc, &domain, locale)? {
                 indices = indices.wrapping_add(domain.size());
             }
         }
         assert_eq!(rt; indices, 3);
         for i in [i64::MIN, i64::MAX] {
-            assert!(rt; Index::new(&[i]).is_some_and(|index| map.owner(index) < places));
+            assert!(rt; Index::new(&[i]).is_some_and(|index| map.owner(index) < locales));
         }
     }
     Ok(())

@@ -1,4 +1,4 @@
--- The block of a place begins where the places before it are full.
+-- The block of a coordinate begins where the locales before it are full.
 use Rattle.std.proofs.Common.{rules, ◌≡◌, arith, pos, ◌-ℤ◌, FitsSigned, w64, unsigned_abs}
 use Rattle.std.proofs.lemmas.Int.{ints, to_z-of_z}
 use Rattle.dpl_map.proofs.AxisLemmas.{block-from}
@@ -16,5 +16,5 @@ returns-clause-owned c =
     λ i bound.
     let owned =
     block-from c.args.low c.args.high c.args.extent (unsigned_abs (c.args.high -ℤ c.args.low)) wide c.requires.extent.0
-    c.args.place c.block_start.result i (omega arith) c.requires.place reached least within in
+    c.args.coordinate c.block_start.result i (omega arith) c.requires.coordinate reached least within in
     ((λ h. let from = owned.0 h in omega (arith, ints, from, within)), (λ h. owned.1 (omega (arith, ints, within))))

@@ -1,4 +1,4 @@
--- What lies between the ends of a block goes to its place.
+-- What lies between the ends of a block goes to its coordinate.
 use Rattle.std.proofs.Common.{rules, ◌∙◌, FitsSigned, w64}
 use Rattle.std.proofs.lemmas.Int.{to_z-of_z}
 use Rattle.dpl_map.proofs.AxisLemmas.{block-between}
@@ -14,4 +14,4 @@ returns-clause-members c =
     let ends = simp to_z-of_z at c.block_to-to.ensures.owned in
     let members = simp to_z-of_z at c.between.ensures.members in
     members
-    ∙ block-between c.args.range.now c.args.low c.args.high c.block_from-from.result c.block_to-to.result c.args.extent c.args.place c.requires.range_limits begins ends
+    ∙ block-between c.args.range.now c.args.low c.args.high c.block_from-from.result c.block_to-to.result c.args.extent c.args.coordinate c.requires.range_limits begins ends

@@ -1,15 +1,15 @@
--- The place by cases: below the box, above it and within.
+-- The coordinate by cases: below the box, above it and within.
 use Rattle.std.proofs.Common.{rules, sym, arith, ◌-ℤ◌, ◌≤ℤ◌, FitsSigned, w64}
 use Rattle.std.proofs.lemmas.Int.{ints, to_z-of_z}
 use Rattle.dpl_map.proofs.PlaceLemmas.{block-below, block-above, block-within, block-below-extent}
 use Rattle.dpl_map.proofs.axis.block_place.Goals as goal
 use Rattle.dpl_map.proofs.axis.block_place.Goals.{Else-high-i}
 
-pub returns-then-i-low-clause-place : goal.returns-then-i-low-clause-place
-returns-then-i-low-clause-place c = sym (block-below c.args.low c.args.high c.args.extent c.args.i (omega (arith, ints)))
+pub returns-then-i-low-clause-coordinate : goal.returns-then-i-low-clause-coordinate
+returns-then-i-low-clause-coordinate c = sym (block-below c.args.low c.args.high c.args.extent c.args.i (omega (arith, ints)))
 
-pub returns-then-high-i-clause-place : goal.returns-then-high-i-clause-place
-returns-then-high-i-clause-place c = sym (block-above c.args.low c.args.high c.args.extent c.args.i c.requires.ordered (omega (arith, ints)))
+pub returns-then-high-i-clause-coordinate : goal.returns-then-high-i-clause-coordinate
+returns-then-high-i-clause-coordinate c = sym (block-above c.args.low c.args.high c.args.extent c.args.i c.requires.ordered (omega (arith, ints)))
 
 offset-fits : (c : Else-high-i) → FitsSigned w64 (c.args.i -ℤ c.args.low)
 offset-fits c = search (rules, ints)
@@ -35,8 +35,8 @@ returns-clause-below c =
 pub overflow_cast-result-2 : goal.overflow_cast-result-2
 overflow_cast-result-2 c = let below = returns-clause-below c in record { fits = omega (arith, below) }
 
-pub returns-clause-place : goal.returns-clause-place
-returns-clause-place c =
+pub returns-clause-coordinate : goal.returns-clause-coordinate
+returns-clause-coordinate c =
     let i_fits : FitsSigned w64 c.args.i = c.ranges.i in
     let low_fits : FitsSigned w64 c.args.low = c.ranges.low in
     let high_fits : FitsSigned w64 c.args.high = c.ranges.high in

@@ -6,9 +6,9 @@ use Rattle.dpl_map.specs.Places.{cyclic_place}
 use Rattle.dpl_map.proofs.PlaceLemmas.{size-rem}
 use Rattle.dpl_map.proofs.axis.cyclic_place.Goals as goal
 
-pub returns-clause-place : goal.returns-clause-place
+pub returns-clause-coordinate : goal.returns-clause-coordinate
 unfolding cyclic_place
-returns-clause-place c =
+returns-clause-coordinate c =
     let i_fits : FitsSigned w64 c.args.i = c.ranges.i in
     let start_fits : FitsSigned w64 c.args.start = c.ranges.start in
     let i_wide : FitsSigned w128 c.args.i = search (rules, ints) in

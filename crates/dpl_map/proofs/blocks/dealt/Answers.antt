@@ -1,4 +1,4 @@
--- The members that the rule deals to the place are those of its blocks, however they are cut out.
+-- The members that the rule deals to the coordinate are those of its blocks, however they are cut out.
 use Rattle.std.proofs.Common.{◌≡◌, ◌≢◌, ◌<◌, ◌≤◌, ◌≤ℤ◌, ◌-ℤ◌, ◌==◌, ◌+◌, ◌*◌, ◌%◌, ℕ, ℤ, pos, true, unsigned_abs, int_le, List, [], ◌∷◌, filter, FitsSigned, w64, length, IfOk, refl, ap, sym, subst, ◌∙◌, arith, ⊎_elim}
 use Rattle.std.specs.Int.{int_div_euclid}
 use Rattle.std.proofs.lemmas.Int.{ints, to_z-of_z}
@@ -11,7 +11,7 @@ use Rattle.dpl_map.specs.Cuts.{AreCut}
 use Rattle.dpl_map.specs.Counts.{IsWithinValues}
 use Rattle.dpl_map.specs.Blocks.{block_number, block_offset, BeginsRound}
 use Rattle.dpl_map.proofs.CutLemmas.{tells, AreCut-none}
-use Rattle.dpl_map.proofs.DealLemmas.{place-members, rounds-blocks, offsets-blocks}
+use Rattle.dpl_map.proofs.DealLemmas.{coordinate-members, rounds-blocks, offsets-blocks}
 use Rattle.dpl_map.proofs.ValueLemmas.{IsWithinValues-less}
 use Rattle.dpl_map.proofs.blocks.dealt.Goals as goal
 use Rattle.dpl_map.proofs.blocks.dealt.Goals.{After-new-deal}
@@ -19,7 +19,7 @@ use Rattle.dpl_map.proofs.blocks.dealt.Goals.{After-new-deal}
 pub returns-then-size-eq0-clause-cut : goal.returns-then-size-eq0-clause-cut
 returns-then-size-eq0-clause-cut c = go (members_of c.args.range.now) (omega (arith, c.size.ensures.length, c.if-size-eq0.true))
   where
-    go : (is : List ℤ) → length is ≡ 0 → AreCut members_of (filter (λ i. block_cyclic_place c.args.start c.args.size c.args.extent i == c.args.place) is) c.new.result.items
+    go : (is : List ℤ) → length is ≡ 0 → AreCut members_of (filter (λ i. block_cyclic_place c.args.start c.args.size c.args.extent i == c.args.coordinate) is) c.new.result.items
     go [] none = rw c.new.ensures.items (AreCut-none members_of)
     go (i ∷ is) none = absurd (omega (arith, none))
 
@@ -43,24 +43,24 @@ rounds-rounds-requires-clause-ordered c = ordered (goal.at.rounds-rounds-require
 pub by_blocks-requires-clause-ordered : goal.by_blocks-requires-clause-ordered
 by_blocks-requires-clause-ordered c = ordered (goal.at.by_blocks-requires-clause-ordered c).After-new-deal
 
--- what the rule deals to the place, by the blocks of the deal
-dealt-is : (c : After-new-deal) → filter (λ i. block_number c.new-deal.result.origin c.new-deal.result.size i % c.new-deal.result.extent == c.new-deal.result.place) (members_of c.new-deal.result.range) ≡ filter (λ i. block_cyclic_place c.args.start c.args.size c.args.extent i == c.args.place) (members_of c.args.range.now)
+-- what the rule deals to the coordinate, by the blocks of the deal
+dealt-is : (c : After-new-deal) → filter (λ i. block_number c.new-deal.result.origin c.new-deal.result.size i % c.new-deal.result.extent == c.new-deal.result.coordinate) (members_of c.new-deal.result.range) ≡ filter (λ i. block_cyclic_place c.args.start c.args.size c.args.extent i == c.args.coordinate) (members_of c.args.range.now)
 dealt-is c =
     let d = c.new-deal.result in
     let start_fits : FitsSigned w64 c.args.start = c.ranges.start in
     let begins = simp to_z-of_z at c.new-deal.ensures.begins in
     let size : pos d.size ≡ c.args.size = omega (arith, ints, c.new-deal.ensures.size, c.requires.some) in
-    sym (place-members d.range d.origin d.size d.extent d.place c.new-deal.ensures.deal c.args.start begins)
-    ∙ ap (λ s. filter (λ i. block_cyclic_place c.args.start s d.extent i == d.place) (members_of d.range)) size
-    ∙ ap (λ x. filter (λ i. block_cyclic_place c.args.start c.args.size x i == d.place) (members_of d.range)) c.new-deal.ensures.extent
-    ∙ ap (λ p. filter (λ i. block_cyclic_place c.args.start c.args.size c.args.extent i == p) (members_of d.range)) c.new-deal.ensures.place
-    ∙ ap (λ (r : RangeValue). filter (λ i. block_cyclic_place c.args.start c.args.size c.args.extent i == c.args.place) (members_of r)) c.new-deal.ensures.range
+    sym (coordinate-members d.range d.origin d.size d.extent d.coordinate c.new-deal.ensures.deal c.args.start begins)
+    ∙ ap (λ s. filter (λ i. block_cyclic_place c.args.start s d.extent i == d.coordinate) (members_of d.range)) size
+    ∙ ap (λ x. filter (λ i. block_cyclic_place c.args.start c.args.size x i == d.coordinate) (members_of d.range)) c.new-deal.ensures.extent
+    ∙ ap (λ p. filter (λ i. block_cyclic_place c.args.start c.args.size c.args.extent i == p) (members_of d.range)) c.new-deal.ensures.coordinate
+    ∙ ap (λ (r : RangeValue). filter (λ i. block_cyclic_place c.args.start c.args.size c.args.extent i == c.args.coordinate) (members_of r)) c.new-deal.ensures.range
 
 -- and the blocks that have some of it, by those of the deal
-blocks-are : (c : After-new-deal) (n : ℕ) → IsWithinValues (λ i. int_div_euclid (i -ℤ c.args.start) (pos c.new-deal.result.size)) (filter (λ i. block_number c.new-deal.result.origin c.new-deal.result.size i % c.new-deal.result.extent == c.new-deal.result.place) (members_of c.new-deal.result.range)) n → IsWithinValues (λ i. int_div_euclid (i -ℤ c.args.start) c.args.size) (filter (λ i. block_cyclic_place c.args.start c.args.size c.args.extent i == c.args.place) (members_of c.args.range.now)) n
+blocks-are : (c : After-new-deal) (n : ℕ) → IsWithinValues (λ i. int_div_euclid (i -ℤ c.args.start) (pos c.new-deal.result.size)) (filter (λ i. block_number c.new-deal.result.origin c.new-deal.result.size i % c.new-deal.result.extent == c.new-deal.result.coordinate) (members_of c.new-deal.result.range)) n → IsWithinValues (λ i. int_div_euclid (i -ℤ c.args.start) c.args.size) (filter (λ i. block_cyclic_place c.args.start c.args.size c.args.extent i == c.args.coordinate) (members_of c.args.range.now)) n
 blocks-are c n within =
     let d = c.new-deal.result in
-    let dealt = filter (λ i. block_number d.origin d.size i % d.extent == d.place) (members_of d.range) in
+    let dealt = filter (λ i. block_number d.origin d.size i % d.extent == d.coordinate) (members_of d.range) in
     let size : pos d.size ≡ c.args.size = omega (arith, ints, c.new-deal.ensures.size, c.requires.some) in
     let sized : IsWithinValues (λ i. int_div_euclid (i -ℤ c.args.start) c.args.size) dealt n = subst (λ (s : ℤ). IsWithinValues (λ i. int_div_euclid (i -ℤ c.args.start) s) dealt n) size within in
     subst (λ (is : List ℤ). IsWithinValues (λ i. int_div_euclid (i -ℤ c.args.start) c.args.size) is n) (dealt-is c) sized
@@ -87,9 +87,9 @@ returns-then-deal-unsigned_abs-clause-blocks c =
     let sparse : d.size < unsigned_abs d.range.stride =
     omega (arith, ints, c.if-deal-unsigned_abs.true, c.unsigned_abs.ensures.value, c.stride.ensures.stride, ap (λ (r : RangeValue). r.stride) c.new-deal.ensures.range) in
     IfOk-weaker c.by_offsets.result
-    (λ v. IsWithinValues (block_offset d.origin d.size) (filter (λ i. block_number d.origin d.size i % d.extent == d.place) (members_of d.range)) (length v.items))
-    (λ v. IsWithinValues (λ i. int_div_euclid (i -ℤ c.args.start) c.args.size) (filter (λ i. block_cyclic_place c.args.start c.args.size c.args.extent i == c.args.place) (members_of c.args.range.now)) (length v.items))
-    (λ v within. blocks-are before (length v.items) (offsets-blocks d.range d.origin d.size d.extent d.place c.new-deal.ensures.deal c.args.start (length v.items) sparse (begins-at before) within))
+    (λ v. IsWithinValues (block_offset d.origin d.size) (filter (λ i. block_number d.origin d.size i % d.extent == d.coordinate) (members_of d.range)) (length v.items))
+    (λ v. IsWithinValues (λ i. int_div_euclid (i -ℤ c.args.start) c.args.size) (filter (λ i. block_cyclic_place c.args.start c.args.size c.args.extent i == c.args.coordinate) (members_of c.args.range.now)) (length v.items))
+    (λ v within. blocks-are before (length v.items) (offsets-blocks d.range d.origin d.size d.extent d.coordinate c.new-deal.ensures.deal c.args.start (length v.items) sparse (begins-at before) within))
     c.by_offsets.ensures.offsets
 
 pub returns-in-Some-clause-cut : goal.returns-in-Some-clause-cut
@@ -111,7 +111,7 @@ returns-in-Some-clause-blocks c =
     let before = (goal.at.returns-in-Some-clause-blocks c).After-new-deal in
     let within = rw c.in-Some.is at c.in_ok-pieces.ensures.blocks in
     blocks-are before (length c.in-Some.pieces.items)
-    (rounds-blocks d.range d.origin d.size d.extent d.place c.new-deal.ensures.deal c.args.start (length c.in-Some.pieces.items) (begins-at before) within)
+    (rounds-blocks d.range d.origin d.size d.extent d.coordinate c.new-deal.ensures.deal c.args.start (length c.in-Some.pieces.items) (begins-at before) within)
 
 pub returns-in-None-clause-cut : goal.returns-in-None-clause-cut
 returns-in-None-clause-cut c =
@@ -126,10 +126,10 @@ pub returns-in-None-clause-blocks : goal.returns-in-None-clause-blocks
 returns-in-None-clause-blocks c =
     let d = c.new-deal.result in
     let before = (goal.at.returns-in-None-clause-blocks c).After-new-deal in
-    let dealt = filter (λ i. block_number d.origin d.size i % d.extent == d.place) (members_of d.range) in
+    let dealt = filter (λ i. block_number d.origin d.size i % d.extent == d.coordinate) (members_of d.range) in
     let many = (rw c.in-None.is at c.in_ok-pieces.ensures.many) refl in
-    let blocks = rounds-blocks d.range d.origin d.size d.extent d.place c.new-deal.ensures.deal c.args.start (d.size + 1) (begins-at before) many in
+    let blocks = rounds-blocks d.range d.origin d.size d.extent d.coordinate c.new-deal.ensures.deal c.args.start (d.size + 1) (begins-at before) many in
     IfOk-weaker c.by_offsets-in-None.result (λ v. length v.items ≤ d.size)
-    (λ v. IsWithinValues (λ i. int_div_euclid (i -ℤ c.args.start) c.args.size) (filter (λ i. block_cyclic_place c.args.start c.args.size c.args.extent i == c.args.place) (members_of c.args.range.now)) (length v.items))
+    (λ v. IsWithinValues (λ i. int_div_euclid (i -ℤ c.args.start) c.args.size) (filter (λ i. block_cyclic_place c.args.start c.args.size c.args.extent i == c.args.coordinate) (members_of c.args.range.now)) (length v.items))
     (λ v few. blocks-are before (length v.items) (IsWithinValues-less (λ i. int_div_euclid (i -ℤ c.args.start) (pos d.size)) dealt (length v.items) (d.size + 1) (omega (arith, few)) blocks))
     c.by_offsets-in-None.ensures.few

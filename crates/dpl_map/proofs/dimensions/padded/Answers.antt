@@ -1,4 +1,4 @@
--- A domain's ranges by their places.
+-- A domain's ranges by their locales.
 use Rattle.std.proofs.Common.{arith}
 use Rattle.dpl_map.proofs.ProductLemmas.{one-range, two-ranges, three-ranges}
 use Rattle.dpl_map.proofs.dimensions.padded.Goals as goal

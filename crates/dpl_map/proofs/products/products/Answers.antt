@@ -63,7 +63,7 @@ loop-k-preserved c =
           ∙ product-listed xs ys zs c.args.outers.now c.args.middles.now c.args.inners.now first second third (k / n / m) (k / n % m) (k % n)
           c.index-outers-k.result c.index-middles-k.result c.index-inners-k.result (outer-at d) (middle-at d) (inner-at d)
           c.args.rank c.requires.one_outer c.requires.one_middle c.requires.from_one c.requires.to_three
-          ∙ ap (λ j. filter (λ t. num t == j) (tuples (last_of c.args.rank xs ys zs))) s.place in
+          ∙ ap (λ j. filter (λ t. num t == j) (tuples (last_of c.args.rank xs ys zs))) s.number in
           AreCut-more indices num (tuples (last_of c.args.rank xs ys zs)) c.loop-k.domains.items k c.product-domain.result (c.loop-k.invariant.0 xs ys zs first second third) lists),
       omega (arith, c.loop-k.invariant.1, length-push c.loop-k.domains.items c.product-domain.result),
       (λ outers middles inners.

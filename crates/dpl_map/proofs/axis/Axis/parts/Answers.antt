@@ -5,7 +5,7 @@ use Rattle.std.proofs.lemmas.List.Elements.{All-nil}
 use Rattle.dpl_range.specs.Range.{RangeValue, members_of}
 use Rattle.dpl_map.specs.Cuts.{behind}
 use Rattle.dpl_map.specs.Counts.{AreFewRanges}
-use Rattle.dpl_map.specs.Maps.{axis_place, IsSingle}
+use Rattle.dpl_map.specs.Maps.{axis_coordinate, IsSingle}
 use Rattle.dpl_map.proofs.CutLemmas.{AreCut-behind_none, All-behind}
 use Rattle.dpl_map.proofs.FewLemmas.{IfOk-both, AreFewRanges-single}
 use Rattle.dpl_map.proofs.axis.Axis.parts.Goals as goal
@@ -20,7 +20,7 @@ returns-in-BlockCyclic-clause-few c =
 
 pub returns : goal.returns
 returns c =
-    let owned = filter (λ i. axis_place c.args.self.now i == c.args.place) (members_of c.args.range.now) in
+    let owned = filter (λ i. axis_coordinate c.args.self.now i == c.args.coordinate) (members_of c.args.range.now) in
     let items : c.keep.new.pieces.items ≡ behind (members_of c.part.result) c.part.result [] =
     c.in_ok-keep.ensures ∙ ap (λ (parts : List RangeValue). behind (members_of c.part.result) c.part.result parts) c.new-parts.ensures.items in
     let single : IsSingle c.args.self.now.rule = search rules in

@@ -1,4 +1,4 @@
--- From one round with members to the next, the place's block of the round is cut out.
+-- From one round with members to the next, the coordinate's block of the round is cut out.
 use Rattle.std.proofs.Common.{◌≡◌, ◌≢◌, ◌+◌, ◌/◌, ◌%◌, ◌==◌, ◌∙◌, ap, refl, sym, subst, List, [], filter, length, All, nat_lt, arith}
 use Rattle.std.proofs.Math.Nat.{add-mul}
 use Rattle.std.proofs.lemmas.List.Elements.{All-nil}
@@ -14,7 +14,7 @@ use Rattle.dpl_map.proofs.blocks.Deal.by_blocks.Goals.{After-len}
 pub rounds-init : goal.rounds-init
 rounds-init c =
     let deal = c.args.self.now in
-    let dealt = filter (λ i. block_number deal.origin deal.size i % deal.extent == deal.place) (members_of deal.range) in
+    let dealt = filter (λ i. block_number deal.origin deal.size i % deal.extent == deal.coordinate) (members_of deal.range) in
     rw c.new-pieces.ensures.items (
       AreCut-begin members_of (λ i. block_number deal.origin deal.size i / deal.extent) dealt,
       omega arith,
@@ -25,16 +25,16 @@ rounds-init c =
     )
 
 -- the members of the round's block
-lists-are : (c : After-len) → members_of c.block.result ≡ filter (λ i. block_number c.args.self.now.origin c.args.self.now.size i / c.args.self.now.extent == c.in-Some.found) (filter (λ i. block_number c.args.self.now.origin c.args.self.now.size i % c.args.self.now.extent == c.args.self.now.place) (members_of c.args.self.now.range))
+lists-are : (c : After-len) → members_of c.block.result ≡ filter (λ i. block_number c.args.self.now.origin c.args.self.now.size i / c.args.self.now.extent == c.in-Some.found) (filter (λ i. block_number c.args.self.now.origin c.args.self.now.size i % c.args.self.now.extent == c.args.self.now.coordinate) (members_of c.args.self.now.range))
 lists-are c =
     let deal = c.args.self.now in
-    c.block.ensures ∙ block-members deal.range deal.origin deal.size deal.extent deal.place c.requires.deal c.in-Some.found
+    c.block.ensures ∙ block-members deal.range deal.origin deal.size deal.extent deal.coordinate c.requires.deal c.in-Some.found
 
 -- one block more that may have members
-within-more : (c : After-len) → IsWithinBelow (λ i. block_number c.args.self.now.origin c.args.self.now.size i / c.args.self.now.extent) (filter (λ i. block_number c.args.self.now.origin c.args.self.now.size i % c.args.self.now.extent == c.args.self.now.place) (members_of c.args.self.now.range)) (c.in-Some.found + 1) (length c.keep.new.pieces.items)
+within-more : (c : After-len) → IsWithinBelow (λ i. block_number c.args.self.now.origin c.args.self.now.size i / c.args.self.now.extent) (filter (λ i. block_number c.args.self.now.origin c.args.self.now.size i % c.args.self.now.extent == c.args.self.now.coordinate) (members_of c.args.self.now.range)) (c.in-Some.found + 1) (length c.keep.new.pieces.items)
 within-more c =
     let deal = c.args.self.now in
-    let dealt = filter (λ i. block_number deal.origin deal.size i % deal.extent == deal.place) (members_of deal.range) in
+    let dealt = filter (λ i. block_number deal.origin deal.size i % deal.extent == deal.coordinate) (members_of deal.range) in
     let before =
     IsWithinBelow-later (λ i. block_number deal.origin deal.size i / deal.extent) dealt c.rounds.round c.in-Some.found (length c.rounds.pieces.items)
     c.in-Some.ensures.later c.in-Some.ensures.passed c.rounds.invariant.3 in
@@ -42,10 +42,10 @@ within-more c =
     (IsWithinBelow-behind (λ i. block_number deal.origin deal.size i / deal.extent) dealt c.rounds.pieces.items c.in-Some.found c.block.result (members_of c.block.result) before (lists-are c))
 
 -- which is cut out
-cut-more : (c : After-len) → AreCut members_of (filter (λ i. nat_lt (block_number c.args.self.now.origin c.args.self.now.size i / c.args.self.now.extent) (c.in-Some.found + 1)) (filter (λ i. block_number c.args.self.now.origin c.args.self.now.size i % c.args.self.now.extent == c.args.self.now.place) (members_of c.args.self.now.range))) c.keep.new.pieces.items
+cut-more : (c : After-len) → AreCut members_of (filter (λ i. nat_lt (block_number c.args.self.now.origin c.args.self.now.size i / c.args.self.now.extent) (c.in-Some.found + 1)) (filter (λ i. block_number c.args.self.now.origin c.args.self.now.size i % c.args.self.now.extent == c.args.self.now.coordinate) (members_of c.args.self.now.range))) c.keep.new.pieces.items
 cut-more c =
     let deal = c.args.self.now in
-    let dealt = filter (λ i. block_number deal.origin deal.size i % deal.extent == deal.place) (members_of deal.range) in
+    let dealt = filter (λ i. block_number deal.origin deal.size i % deal.extent == deal.coordinate) (members_of deal.range) in
     let before =
     subst (λ is. AreCut members_of is c.rounds.pieces.items)
     (filter-between_none (λ i. block_number deal.origin deal.size i / deal.extent) dealt c.rounds.round c.in-Some.found c.in-Some.ensures.later c.in-Some.ensures.passed) c.rounds.invariant.0 in
@@ -66,7 +66,7 @@ rounds-preserved c =
 pub returns-then-self-len-clause-many : goal.returns-then-self-len-clause-many
 returns-then-self-len-clause-many c =
     let deal = c.args.self.now in
-    let dealt = filter (λ i. block_number deal.origin deal.size i % deal.extent == deal.place) (members_of deal.range) in
+    let dealt = filter (λ i. block_number deal.origin deal.size i % deal.extent == deal.coordinate) (members_of deal.range) in
     λ _.
     IsWithinValues-less (λ i. block_number deal.origin deal.size i / deal.extent) dealt (deal.size + 1) (length c.keep.new.pieces.items) (omega (arith, c.len.ensures, c.if-self-len.true))
     (IsWithinBelow-end (λ i. block_number deal.origin deal.size i / deal.extent) dealt (c.in-Some.found + 1) (length c.keep.new.pieces.items) (within-more (goal.at.returns-then-self-len-clause-many c).After-len))
@@ -74,11 +74,11 @@ returns-then-self-len-clause-many c =
 pub returns-clause-cut : goal.returns-clause-cut
 returns-clause-cut c =
     let deal = c.args.self.now in
-    let dealt = filter (λ i. block_number deal.origin deal.size i % deal.extent == deal.place) (members_of deal.range) in
+    let dealt = filter (λ i. block_number deal.origin deal.size i % deal.extent == deal.coordinate) (members_of deal.range) in
     AreCut-end members_of (λ i. block_number deal.origin deal.size i / deal.extent) dealt c.rounds.round c.rounds.pieces.items (c.in_default.ensures.none refl) c.rounds.invariant.0
 
 pub returns-clause-blocks : goal.returns-clause-blocks
 returns-clause-blocks c =
     let deal = c.args.self.now in
-    let dealt = filter (λ i. block_number deal.origin deal.size i % deal.extent == deal.place) (members_of deal.range) in
+    let dealt = filter (λ i. block_number deal.origin deal.size i % deal.extent == deal.coordinate) (members_of deal.range) in
     IsWithinBelow-end (λ i. block_number deal.origin deal.size i / deal.extent) dealt c.rounds.round (length c.rounds.pieces.items) c.rounds.invariant.3

@@ -8,11 +8,11 @@ use Rattle.dpl_map.proofs.blocks.Deal.by_blocks.Given as goal
 
 abbrev pub invariant-rounds : goal.invariant-rounds
 invariant-rounds l =
-    AreCut members_of (filter (λ i. nat_lt (block_number l.self.origin l.self.size i / l.self.extent) l.round) (filter (λ i. block_number l.self.origin l.self.size i % l.self.extent == l.self.place) (members_of l.self.range))) l.pieces.items
+    AreCut members_of (filter (λ i. nat_lt (block_number l.self.origin l.self.size i / l.self.extent) l.round) (filter (λ i. block_number l.self.origin l.self.size i % l.self.extent == l.self.coordinate) (members_of l.self.range))) l.pieces.items
     × (length l.pieces.items ≤ l.round)
     × (length l.pieces.items ≤ l.self.size)
-    × IsWithinBelow (λ i. block_number l.self.origin l.self.size i / l.self.extent) (filter (λ i. block_number l.self.origin l.self.size i % l.self.extent == l.self.place) (members_of l.self.range)) l.round (length l.pieces.items)
-    × (l.round * l.self.extent + l.self.place ≤ block_number l.self.origin l.self.size l.self.range.high + l.self.extent)
+    × IsWithinBelow (λ i. block_number l.self.origin l.self.size i / l.self.extent) (filter (λ i. block_number l.self.origin l.self.size i % l.self.extent == l.self.coordinate) (members_of l.self.range)) l.round (length l.pieces.items)
+    × (l.round * l.self.extent + l.self.coordinate ≤ block_number l.self.origin l.self.size l.self.range.high + l.self.extent)
     × All (λ r. members_of r ≢ []) l.pieces.items
 
 abbrev pub decreases-rounds : goal.decreases-rounds

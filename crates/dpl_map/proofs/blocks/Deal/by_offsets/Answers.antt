@@ -13,16 +13,16 @@ pub loop-offset-init : goal.loop-offset-init
 loop-offset-init c =
     let deal = c.args.self.now in
     rw c.new-pieces.ensures.items (
-      AreCut-begin members_of (block_offset deal.origin deal.size) (filter (λ i. block_number deal.origin deal.size i % deal.extent == deal.place) (members_of deal.range)),
+      AreCut-begin members_of (block_offset deal.origin deal.size) (filter (λ i. block_number deal.origin deal.size i % deal.extent == deal.coordinate) (members_of deal.range)),
       omega arith,
-      IsWithinBelow-begin (block_offset deal.origin deal.size) (filter (λ i. block_number deal.origin deal.size i % deal.extent == deal.place) (members_of deal.range)),
+      IsWithinBelow-begin (block_offset deal.origin deal.size) (filter (λ i. block_number deal.origin deal.size i % deal.extent == deal.coordinate) (members_of deal.range)),
       All-nil (λ r. members_of r ≢ []),
     )
 
 pub loop-offset-preserved : goal.loop-offset-preserved
 loop-offset-preserved c =
     let deal = c.args.self.now in
-    let dealt = filter (λ i. block_number deal.origin deal.size i % deal.extent == deal.place) (members_of deal.range) in
+    let dealt = filter (λ i. block_number deal.origin deal.size i % deal.extent == deal.coordinate) (members_of deal.range) in
     let lists = c.offset.ensures in
     let cut = AreCut-behind members_of (block_offset deal.origin deal.size) dealt c.loop-offset.pieces.items c.loop-offset.offset c.offset.result c.loop-offset.invariant.0 lists in (
       subst (λ pieces. AreCut members_of (filter (λ i. nat_lt (block_offset deal.origin deal.size i) (c.loop-offset.offset + 1)) dealt) pieces) (sym c.in_ok-keep.ensures) cut,
@@ -35,14 +35,14 @@ loop-offset-preserved c =
 pub returns-clause-cut : goal.returns-clause-cut
 returns-clause-cut c =
     let deal = c.args.self.now in
-    let dealt = filter (λ i. block_number deal.origin deal.size i % deal.extent == deal.place) (members_of deal.range) in
+    let dealt = filter (λ i. block_number deal.origin deal.size i % deal.extent == deal.coordinate) (members_of deal.range) in
     AreCut-end members_of (block_offset deal.origin deal.size) dealt c.loop-offset.offset c.loop-offset.pieces.items
     (All-weaker (λ i. block_offset deal.origin deal.size i < deal.size) (λ i. block_offset deal.origin deal.size i < c.loop-offset.offset) (λ i below. omega (arith, below, c.loop-offset-test.false)) dealt
-    (offsets-end deal.range deal.origin deal.size deal.extent deal.place c.requires.deal))
+    (offsets-end deal.range deal.origin deal.size deal.extent deal.coordinate c.requires.deal))
     c.loop-offset.invariant.0
 
 pub returns-clause-offsets : goal.returns-clause-offsets
 returns-clause-offsets c =
     let deal = c.args.self.now in
-    let dealt = filter (λ i. block_number deal.origin deal.size i % deal.extent == deal.place) (members_of deal.range) in
+    let dealt = filter (λ i. block_number deal.origin deal.size i % deal.extent == deal.coordinate) (members_of deal.range) in
     IsWithinBelow-end (block_offset deal.origin deal.size) dealt c.loop-offset.offset (length c.loop-offset.pieces.items) c.loop-offset.invariant.2

@@ -8,7 +8,7 @@ use Rattle.dpl_map.proofs.blocks.Deal.by_offsets.Given as goal
 
 abbrev pub invariant-loop-offset : goal.invariant-loop-offset
 invariant-loop-offset l =
-    AreCut members_of (filter (λ i. nat_lt (block_offset l.self.origin l.self.size i) l.offset) (filter (λ i. block_number l.self.origin l.self.size i % l.self.extent == l.self.place) (members_of l.self.range))) l.pieces.items
+    AreCut members_of (filter (λ i. nat_lt (block_offset l.self.origin l.self.size i) l.offset) (filter (λ i. block_number l.self.origin l.self.size i % l.self.extent == l.self.coordinate) (members_of l.self.range))) l.pieces.items
     × (length l.pieces.items ≤ l.offset)
-    × IsWithinBelow (block_offset l.self.origin l.self.size) (filter (λ i. block_number l.self.origin l.self.size i % l.self.extent == l.self.place) (members_of l.self.range)) l.offset (length l.pieces.items)
+    × IsWithinBelow (block_offset l.self.origin l.self.size) (filter (λ i. block_number l.self.origin l.self.size i % l.self.extent == l.self.coordinate) (members_of l.self.range)) l.offset (length l.pieces.items)
     × All (λ r. members_of r ≢ []) l.pieces.items

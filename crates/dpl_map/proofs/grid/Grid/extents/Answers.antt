@@ -1,4 +1,4 @@
--- An extent is no more than the places of the grid.
+-- An extent is no more than the locales of the grid.
 use Rattle.dpl_map.proofs.StartLemmas.{extents-small}
 use Rattle.dpl_map.proofs.grid.Grid.extents.Goals as goal
 

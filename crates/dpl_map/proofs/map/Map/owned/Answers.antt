@@ -6,9 +6,9 @@ use Rattle.dpl_domain.specs.Ranks.{last_of}
 use Rattle.dpl_map.specs.Counts.{AreFewRanges, AreFew}
 use Rattle.dpl_map.specs.Cuts.{AreCut}
 use Rattle.dpl_map.specs.MapFields.{IsMap}
-use Rattle.dpl_map.specs.Maps.{AxisValue, places, AreSingle}
+use Rattle.dpl_map.specs.Maps.{AxisValue, locales, AreSingle}
 use Rattle.dpl_map.specs.Parts.{part}
-use Rattle.dpl_map.proofs.OwnerLemmas.{places-padded}
+use Rattle.dpl_map.proofs.OwnerLemmas.{locales-padded}
 use Rattle.dpl_map.proofs.PartLemmas.{IsSeat, seat, owned_of, tuples-part, part-small}
 use Rattle.dpl_map.proofs.ProductCuts.{length-product}
 use Rattle.dpl_map.proofs.MapLemmas.{AreSingle-last_of, one-unused, one-single, one-product}
@@ -17,10 +17,10 @@ use Rattle.std.proofs.lemmas.Result.{IfOk-weaker}
 use Rattle.dpl_map.proofs.map.Map.owned.Goals as goal
 use Rattle.dpl_map.proofs.map.Map.owned.Goals.{After-deref-3}
 
-seated : (axes : List AxisValue) (locale rank : ℕ) (o m i : AxisValue) → axes ≡ last_of rank o m i → IsMap rank o m i → locale < places axes → IsSeat locale o.extent m.extent i.extent (locale / i.extent / m.extent) (locale / i.extent % m.extent) (locale % i.extent)
+seated : (axes : List AxisValue) (locale rank : ℕ) (o m i : AxisValue) → axes ≡ last_of rank o m i → IsMap rank o m i → locale < locales axes → IsSeat locale o.extent m.extent i.extent (locale / i.extent / m.extent) (locale / i.extent % m.extent) (locale % i.extent)
 seated axes locale rank o m i is limits below =
     seat locale o.extent m.extent i.extent limits.middle_limits.extent.0 limits.inner_limits.extent.0
-    (omega (arith, ap places is ∙ places-padded rank o m i limits, below))
+    (omega (arith, ap locales is ∙ locales-padded rank o m i limits, below))
 
 pub parts-requires : goal.parts-requires
 parts-requires c =
@@ -67,7 +67,7 @@ tuples-owned c =
     let some : 1 ≤ length c.args.self.now = omega (arith, c.rank.ensures.limits.0, c.requires.rank) in
     ap (λ (n : ℕ). tuples (last_of n (owned_of c.axes-outer.result.0 (plane c) c.padded-first.result.0) (owned_of c.axes-outer.result.1 (row c) c.padded-first.result.1) (owned_of c.axes-outer.result.2 (column c) c.padded-first.result.2))) rank
     ∙ tuples-part c.axes-outer.result.0 c.axes-outer.result.1 c.axes-outer.result.2 limits.outer_limits limits.middle_limits limits.inner_limits
-    (plane c) (row c) (column c) c.args.locale s.outer s.middle s.inner s.place
+    (plane c) (row c) (column c) c.args.locale s.outer s.middle s.inner s.number
     c.padded-first.result.0 c.padded-first.result.1 c.padded-first.result.2 (length c.args.self.now) limits some
     ∙ sym (ap (λ (d : List RangeValue). part d (last_of (length c.args.self.now) c.axes-outer.result.0 c.axes-outer.result.1 c.axes-outer.result.2) c.args.locale) domain)
     ∙ sym (ap (λ (axes : List AxisValue). part c.args.domain.now axes c.args.locale) c.axes-outer.ensures.axes)

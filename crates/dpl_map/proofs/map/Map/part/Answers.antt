@@ -7,20 +7,20 @@ use Rattle.dpl_map.proofs.CutLemmas.{AreCut-none, AreCut-one}
 use Rattle.dpl_map.proofs.FewLemmas.{AreFew-none, AreFew-some}
 use Rattle.dpl_map.proofs.PartLemmas.{part-empty, part-unowned, part-other_first, part-other_rest}
 use Rattle.dpl_map.proofs.map.Map.part.Goals as goal
-use Rattle.dpl_map.proofs.map.Map.part.Goals.{then-places-locale-via-then-places-locale, then-places-locale-via-else-places-locale+then-size-eq0, then-locale-eq0+in_ok-map_err, else-locale-eq0}
+use Rattle.dpl_map.proofs.map.Map.part.Goals.{then-locales-locale-via-then-locales-locale, then-locales-locale-via-else-locales-locale+then-size-eq0, then-locale-eq0+in_ok-map_err, else-locale-eq0}
 
-pub returns-then-places-locale-clause-cut : goal.returns-then-places-locale-clause-cut
-returns-then-places-locale-clause-cut c =
+pub returns-then-locales-locale-clause-cut : goal.returns-then-locales-locale-clause-cut
+returns-then-locales-locale-clause-cut c =
     let none : part c.args.domain.now c.args.self.now c.args.locale ≡ [] =
-    elim c.then-places-locale.branch [
-      | then-places-locale-via-then-places-locale w ↦ part-unowned c.args.domain.now c.args.self.now c.args.locale (λ t e. omega (arith, c.places.ensures.owners t, e, w.if-places-locale.true))
-      | then-places-locale-via-else-places-locale+then-size-eq0 w ↦ part-empty c.args.domain.now c.args.self.now c.args.locale (omega (arith, w.size.ensures.size, w.if-size-eq0.true))
+    elim c.then-locales-locale.branch [
+      | then-locales-locale-via-then-locales-locale w ↦ part-unowned c.args.domain.now c.args.self.now c.args.locale (λ t e. omega (arith, c.locales.ensures.owners t, e, w.if-locales-locale.true))
+      | then-locales-locale-via-else-locales-locale+then-size-eq0 w ↦ part-empty c.args.domain.now c.args.self.now c.args.locale (omega (arith, w.size.ensures.size, w.if-size-eq0.true))
     ] in
     rw (c.new.ensures.items, none) (AreCut-none indices)
 
-pub returns-then-places-locale-clause-few : goal.returns-then-places-locale-clause-few
-returns-then-places-locale-clause-few c =
-    rw c.new.ensures.items (AreFew-none c.args.self.now (part c.args.domain.now c.args.self.now c.args.locale) c.places.ensures.limits)
+pub returns-then-locales-locale-clause-few : goal.returns-then-locales-locale-clause-few
+returns-then-locales-locale-clause-few c =
+    rw c.new.ensures.items (AreFew-none c.args.self.now (part c.args.domain.now c.args.self.now c.args.locale) c.locales.ensures.limits)
 
 pub returns-clause-few : goal.returns-clause-few
 returns-clause-few c =
@@ -30,10 +30,10 @@ returns-clause-few c =
           let items : c.if-locale-eq0.domains.items ≡ c.args.domain.now ∷ [] = search rules in
           let whole = part-other_first c.args.domain.now c.args.self.now other in
           rw (items, w.if-locale-eq0.true)
-          (AreFew-some c.args.self.now (part c.args.domain.now c.args.self.now 0) (omega (arith, ap length whole, c.size.ensures.size, c.if-size-eq0.false)) c.places.ensures.limits)
+          (AreFew-some c.args.self.now (part c.args.domain.now c.args.self.now 0) (omega (arith, ap length whole, c.size.ensures.size, c.if-size-eq0.false)) c.locales.ensures.limits)
       | else-locale-eq0 w ↦
           let items : c.if-locale-eq0.domains.items ≡ [] = search rules in
-          rw items (AreFew-none c.args.self.now (part c.args.domain.now c.args.self.now c.args.locale) c.places.ensures.limits)
+          rw items (AreFew-none c.args.self.now (part c.args.domain.now c.args.self.now c.args.locale) c.locales.ensures.limits)
     ]
 
 pub returns-clause-cut : goal.returns-clause-cut
@@ -49,8 +49,8 @@ returns-clause-cut c =
           rw (items, none) (AreCut-none indices)
     ]
 
-pub returns-then-places-locale-clause-some : goal.returns-then-places-locale-clause-some
-returns-then-places-locale-clause-some c = rw c.new.ensures.items (All-nil (λ domain. indices domain ≢ []))
+pub returns-then-locales-locale-clause-some : goal.returns-then-locales-locale-clause-some
+returns-then-locales-locale-clause-some c = rw c.new.ensures.items (All-nil (λ domain. indices domain ≢ []))
 
 pub returns-clause-some : goal.returns-clause-some
 returns-clause-some c =

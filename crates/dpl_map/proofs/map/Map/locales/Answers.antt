@@ -2,7 +2,7 @@
 use Rattle.dpl_map.specs.Maps.{owner}
 use Rattle.dpl_map.proofs.LawLemmas.{owner-below, parts-apart, parts-together}
 use Rattle.dpl_map.proofs.FewLemmas.{All-axes}
-use Rattle.dpl_map.proofs.map.Map.places.Goals as goal
+use Rattle.dpl_map.proofs.map.Map.locales.Goals as goal
 
 pub returns-clause-owners : goal.returns-clause-owners
 returns-clause-owners c =
