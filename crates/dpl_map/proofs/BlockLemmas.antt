@@ -1,10 +1,10 @@
 -- The block-cyclic rule by blocks that are counted from the beginning of a round.
 use Rattle.std.proofs.Common.{◌≡◌, ◌↔◌, ◌<◌, ◌≤◌, ◌+◌, ◌-◌, ◌*◌, ◌/◌, ◌%◌, ℕ, zero, suc, true, ℤ, pos, negsuc, ◌+ℤ◌, ◌-ℤ◌, inl, inr, refl, ap, sym, ◌∙◌, arith, ⊎_elim, unsigned_abs}
-use Rattle.std.proofs.lemmas.Bool.{eq-eqb, eqb-true}
+use Rattle.std.proofs.lemmas.Bool.{cases_lt, eq-eqb, eqb-true}
 use Rattle.std.specs.Int.{int_div_euclid, int_rem_euclid}
 use Rattle.std.proofs.lemmas.Int.{ints, int_rem_euclid_is}
 use Rattle.std.proofs.lemmas.Nat.{mod_below, div-mul-add, mod-mul-add, mul-add-lt}
-use Rattle.std.proofs.Math.Nat.{add-mul-div_right, add-mul-mod_self_right, mod-add-mod, div-add-mod, mul_comm, mul_assoc, add-mul, suc-mul, mul-mod_left, div-lt_iff_lt-mul, le-div_iff_mul-le}
+use Rattle.std.proofs.Math.Nat.{mul-le-mul_right, add-mul-div_right, add-mul-mod_self_right, mod-add-mod, div-add-mod, mul_comm, mul_assoc, add-mul, suc-mul, mul-mod_left, div-lt_iff_lt-mul, le-div_iff_mul-le}
 use Rattle.dpl_range.specs.Members.{count_of}
 use Rattle.dpl_range.specs.Congruence.{is_congruent}
 use Rattle.dpl_range.proofs.Congruence.{divides-ahead}
@@ -79,6 +79,36 @@ block-shift start origin b n some begins = ⊎_elim after before begins.1
       pos (begins.0 * n),
       (λ i m at. let distance : (i -ℤ start) +ℤ pos (begins.0 * n * b) ≡ pos m = omega (arith, ints, at, e, rounds) in
           div_euclid-shifted (i -ℤ start) b (begins.0 * n) m some distance),
+    )
+
+-- and where an integer lies in its block is the same, counted from the start
+pub offset-same : (start origin i : ℤ) (b n m : ℕ) → 0 < b → BeginsRound start (n * b) origin → i ≡ origin +ℤ pos m → int_rem_euclid (i -ℤ start) (pos b) ≡ pos (m % b)
+offset-same start origin i b n m some begins at = ⊎_elim after before begins.1
+  where
+    rounds : begins.0 * (n * b) ≡ begins.0 * n * b
+    rounds = sym (mul_assoc begins.0 n b)
+
+    after : origin ≡ start +ℤ pos (begins.0 * (n * b)) → int_rem_euclid (i -ℤ start) (pos b) ≡ pos (m % b)
+    after e =
+        let distance : (i -ℤ start) +ℤ pos (0 * b) ≡ pos (m + begins.0 * n * b) = omega (arith, ints, at, e, rounds) in
+        int_rem_euclid_is (i -ℤ start) (pos b) b 0 (m + begins.0 * n * b) some refl distance ∙ ap pos (add-mul-mod_self_right m (begins.0 * n) b)
+
+    before : start ≡ origin +ℤ pos (begins.0 * (n * b)) → int_rem_euclid (i -ℤ start) (pos b) ≡ pos (m % b)
+    before e =
+        let distance : (i -ℤ start) +ℤ pos (begins.0 * n * b) ≡ pos m = omega (arith, ints, at, e, rounds) in
+        int_rem_euclid_is (i -ℤ start) (pos b) b (begins.0 * n) m some refl distance
+
+-- of two numbers that leave one remainder, the one with the lesser quotient is less
+pub rounds-less : (n p q c : ℕ) → 0 < n → p % n ≡ c → q % n ≡ c → (p / n < q / n) ↔ (p < q)
+rounds-less n p q c some first second =
+    let p-is : p ≡ p / n * n + c = omega (arith, div-add-mod p n, mul_comm n (p / n), first) in
+    let q-is : q ≡ q / n * n + c = omega (arith, div-add-mod q n, mul_comm n (q / n), second) in
+    (
+      (λ less. let steps : (p / n + 1) * n ≤ q / n * n = mul-le-mul_right n (omega (arith, less)) in omega (arith, p-is, q-is, steps, add-mul (p / n) 1 n, some)),
+      (λ less. ⊎_elim
+          (λ (sooner : p / n < q / n). sooner)
+          (λ later. let steps : q / n * n ≤ p / n * n = mul-le-mul_right n (omega (arith, later)) in absurd (omega (arith, p-is, q-is, steps, less)))
+          (cases_lt (p / n) (q / n))),
     )
 
 -- two ways that end in one block are less than its size apart

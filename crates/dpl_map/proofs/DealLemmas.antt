@@ -1,13 +1,13 @@
 -- The members of a range by the blocks that a coordinate gets.
-use Rattle.std.proofs.Common.{◌≡◌, ◌⊎◌, ◌<◌, ◌≤◌, ◌+◌, ◌-◌, ◌*◌, ◌/◌, ◌%◌, ◌==◌, ◌&&◌, ℕ, true, ℤ, pos, negsuc, ◌+ℤ◌, ◌-ℤ◌, ◌≤ℤ◌, int_le, List, [], ◌∷◌, ◌++◌, filter, length, All, AllPairs, get_or, inl, inr, unsigned_abs, refl, ap, sym, ◌∙◌, arith, ⊎_elim}
+use Rattle.std.proofs.Common.{◌≡◌, ◌⊎◌, ◌<◌, ◌≤◌, ◌+◌, ◌-◌, ◌*◌, ◌/◌, ◌%◌, ◌==◌, ◌&&◌, ℕ, true, ℤ, pos, negsuc, ◌+ℤ◌, ◌-ℤ◌, ◌≤ℤ◌, ◌<ℤ◌, Contains, int_le, List, [], ◌∷◌, ◌++◌, filter, length, All, AllPairs, get_or, inl, inr, unsigned_abs, refl, ap, sym, ◌∙◌, arith, ⊎_elim}
 use Rattle.std.specs.Cmp.{both_ways}
-use Rattle.std.specs.Int.{int_div_euclid}
+use Rattle.std.specs.Int.{int_div_euclid, int_rem_euclid}
 use Rattle.std.proofs.lemmas.Option.{get_or_from_slice_get}
 use Rattle.std.proofs.lemmas.List.Kept.{AllPairs-filter}
 use Rattle.std.proofs.lemmas.Int.{ints}
 use Rattle.std.proofs.lemmas.Bool.{eq-eqb, eqb-true, and_from, and_parts}
 use Rattle.std.proofs.lemmas.Nat.{mod_below, mul-add-lt}
-use Rattle.std.proofs.lemmas.List.Elements.{All-weaker, All-filter}
+use Rattle.std.proofs.lemmas.List.Elements.{All-weaker, All-filter, All-contains}
 use Rattle.std.proofs.Math.Nat.{mul_comm, mul-le-mul, add-mul, div-add-mod, div-mul-le_self, le-div_iff_mul-le}
 use Rattle.dpl_range.specs.Congruence.{is_congruent}
 use Rattle.dpl_range.specs.Members.{count_of}
@@ -15,12 +15,14 @@ use Rattle.dpl_range.specs.Range.{RangeValue, members_of}
 use Rattle.dpl_range.specs.Walk.{walked}
 use Rattle.dpl_range.proofs.MemberLemmas.{members-within, nth-walked}
 use Rattle.dpl_map.specs.Places.{block_cyclic_place}
-use Rattle.dpl_map.specs.Cuts.{behind}
+use Rattle.dpl_map.specs.Cuts.{AreSorted, behind}
+use Rattle.dpl_map.specs.Orders.{AreSortedBy}
+use Rattle.dpl_map.proofs.CutLemmas.{AreSorted-same}
 use Rattle.dpl_map.specs.Counts.{IsWithinValues}
 use Rattle.dpl_map.specs.Blocks.{past, block_number, block_offset, BeginsRound, IsDeal}
-use Rattle.dpl_map.proofs.CutLemmas.{filter-filter, filter-same, All-each, All-filter_passed}
-use Rattle.dpl_map.proofs.BlockLemmas.{block_cyclic_place-past, congruent-past, left-of_round, in-block, block-of_round, block-shift, same-block}
+use Rattle.dpl_map.proofs.BlockLemmas.{block_cyclic_place-past, congruent-past, left-of_round, in-block, block-of_round, block-shift, same-block, offset-same, rounds-less}
 use Rattle.dpl_map.proofs.ValueLemmas.{IsWithinValues-through, IsWithinValues-less, IsWithinValues-length, IsWithinValues-apart}
+use Rattle.dpl_map.proofs.ListLemmas.{Contains-filter_parts, All-each, All-filter_passed, filter-filter, filter-same}
 
 -- one piece more at the most
 pub length-behind : {X P : Type 0} (xs : List X) (p : P) (pieces : List P) → length (behind xs p pieces) ≤ length pieces + 1
@@ -35,6 +37,11 @@ length-behind (x ∷ xs) p pieces = go pieces
 count_of-natural : (z : ℤ) → pos 0 ≤ℤ z → pos (count_of z) ≡ z
 count_of-natural (pos n) some = refl
 count_of-natural (negsuc n) some = absurd (omega (arith, ints, some))
+
+-- and so much is its size
+pub size-natural : (z : ℤ) → pos 0 ≤ℤ z → unsigned_abs z ≡ count_of z
+size-natural (pos n) some = refl
+size-natural (negsuc n) some = absurd (omega (arith, ints, some))
 
 -- a greater whole number counts no less
 pub count_of-le : (y z : ℤ) → y ≤ℤ z → count_of y ≤ count_of z
@@ -163,6 +170,38 @@ module _ (r : RangeValue) (origin : ℤ) (size extent coordinate : ℕ) (deal : 
       numbers-blocks start n begins
       (IsWithinValues-through (block_number origin size) (λ i. block_number origin size i / extent) (λ number. number / extent) dealt n
       (All-each (λ i. block_number origin size i / extent ≡ block_number origin size i / extent) (λ i. refl) dealt) within)
+
+  -- a member that the coordinate gets, by its way from the origin and its block
+  in-dealt : (i : ℤ) → Contains (filter (λ i. block_number origin size i % extent == coordinate) (members_of r)) i → (i ≡ origin +ℤ pos (past origin i)) × (block_number origin size i % extent ≡ coordinate)
+  in-dealt i member =
+      let dealt = filter (λ i. block_number origin size i % extent == coordinate) (members_of r) in
+      let way = All-contains (λ i. (i ≡ origin +ℤ pos (past origin i)) × (i ≤ℤ r.high)) dealt i (All-filter (λ i. block_number origin size i % extent == coordinate) (λ i. (i ≡ origin +ℤ pos (past origin i)) × (i ≤ℤ r.high)) (members_of r) members-past) member in
+      let passes = (Contains-filter_parts (λ i. block_number origin size i % extent == coordinate) (members_of r) i member).1 in
+      (way.0, eqb-true (block_number origin size i % extent) coordinate passes)
+
+  -- what is cut by rising rounds is cut by rising blocks, counted from the start
+  pub rounds-sorted : (start : ℤ) (ranges : List RangeValue) → BeginsRound start (extent * size) origin → AreSorted members_of (λ i j. block_number origin size i / extent < block_number origin size j / extent) (filter (λ i. block_number origin size i % extent == coordinate) (members_of r)) ranges → AreSortedBy (λ i. int_div_euclid (i -ℤ start) (pos size)) (filter (λ i. block_number origin size i % extent == coordinate) (members_of r)) ranges
+  rounds-sorted start ranges begins are =
+      let shift = block-shift start origin size extent deal.some begins in
+      AreSorted-same members_of _ (λ i j. int_div_euclid (i -ℤ start) (pos size) <ℤ int_div_euclid (j -ℤ start) (pos size)) _ ranges
+      (λ i j i-in j-in.
+      let i-at = in-dealt i i-in in
+      let j-at = in-dealt j j-in in
+      let first = shift.1 i (past origin i) i-at.0 in
+      let second = shift.1 j (past origin j) j-at.0 in
+      let less = rounds-less extent (block_number origin size i) (block_number origin size j) coordinate (omega (arith, deal.among)) i-at.1 j-at.1 in
+      ((λ sooner. let before = less.0 sooner in omega (arith, ints, before, first, second)), (λ sooner. less.1 (omega (arith, ints, sooner, first, second)))))
+      are
+
+  -- and what is cut by rising offsets is so, counted from the start
+  pub offsets-sorted : (start : ℤ) (ranges : List RangeValue) → BeginsRound start (extent * size) origin → AreSorted members_of (λ i j. block_offset origin size i < block_offset origin size j) (filter (λ i. block_number origin size i % extent == coordinate) (members_of r)) ranges → AreSortedBy (λ i. int_rem_euclid (i -ℤ start) (pos size)) (filter (λ i. block_number origin size i % extent == coordinate) (members_of r)) ranges
+  offsets-sorted start ranges begins are =
+      AreSorted-same members_of _ (λ i j. int_rem_euclid (i -ℤ start) (pos size) <ℤ int_rem_euclid (j -ℤ start) (pos size)) _ ranges
+      (λ i j i-in j-in.
+      let first = offset-same start origin i size extent (past origin i) deal.some begins (in-dealt i i-in).0 in
+      let second = offset-same start origin j size extent (past origin j) deal.some begins (in-dealt j j-in).0 in
+      ((λ less. omega (arith, ints, less, first, second)), (λ less. omega (arith, ints, less, first, second))))
+      are
 
   -- where a stride passes over more than a block, no two members are in one
   members-apart : size < unsigned_abs r.stride → AllPairs (λ i j. block_number origin size i ≡ block_number origin size j → ⊥) (members_of r)

@@ -10,7 +10,8 @@ use Rattle.dpl_map.specs.AxisFields.{IsAxis, IsRule}
 use Rattle.dpl_map.specs.MapFields.{IsMap}
 use Rattle.dpl_map.specs.Cuts.{behind}
 use Rattle.dpl_map.specs.Counts.{rule_block, rule_offsets, AreFewRanges, AreFew, first_of, rest_of}
-use Rattle.dpl_map.proofs.ValueLemmas.{Contains-here, Contains-cases, Contains-nothing, Contains-map, map-Contains, IsWithinValues-more, IsWithinValues-length, IsWithinValues-none, IsWithinValues-one}
+use Rattle.dpl_map.proofs.ValueLemmas.{IsWithinValues-more, IsWithinValues-length, IsWithinValues-none, IsWithinValues-one}
+use Rattle.dpl_map.proofs.ListLemmas.{Contains-cases, Contains-here, Contains-map, Contains-nothing, map-Contains}
 
 -- what holds of a result by one clause and by another
 pub IfOk-both : {X E : Type 0} (r : Result X E) (P Q : X → Type 0) → IfOk r P → IfOk r Q → IfOk r (λ x. P x × Q x)

@@ -9,8 +9,8 @@ use Rattle.dpl_domain.specs.Ranks.{last_of}
 use Rattle.dpl_map.specs.MapFields.{IsMap}
 use Rattle.dpl_map.specs.Maps.{AxisValue, owner}
 use Rattle.dpl_map.proofs.AxisLemmas.{axis-below}
-use Rattle.dpl_map.proofs.ValueLemmas.{Contains-filter}
 use Rattle.dpl_map.proofs.OwnerLemmas.{owner-padded, owner-other, locales-padded, locales-positive, length-last_of, row-below}
+use Rattle.dpl_map.proofs.ListLemmas.{Contains-filter}
 
 module _ (o m i : AxisValue) where
   -- a tuple of the map's rank is owned by a place of the map

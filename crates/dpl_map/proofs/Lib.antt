@@ -1,3 +1,4 @@
+pub mod ListLemmas
 pub mod CutLemmas
 pub mod ValueLemmas
 pub mod BlockLemmas
@@ -16,4 +17,6 @@ pub mod FewLemmas
 pub mod SomeLemmas
 pub mod LawLemmas
 pub mod ProductCuts
+pub mod OrderLemmas
+pub mod FindLemmas
 pub mod MapLemmas

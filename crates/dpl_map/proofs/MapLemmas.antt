@@ -13,8 +13,8 @@ use Rattle.dpl_map.specs.Cuts.{AreCut}
 use Rattle.dpl_map.specs.MapFields.{IsMap, idle}
 use Rattle.dpl_map.specs.Maps.{RuleValue, Block, Cyclic, BlockCyclic, AxisValue, axis_coordinate, IsSingle, AreSingle}
 use Rattle.dpl_map.proofs.AxisLemmas.{axis-below}
-use Rattle.dpl_map.proofs.PartLemmas.{owned_of}
-use Rattle.dpl_map.proofs.ValueLemmas.{Contains-filter}
+use Rattle.dpl_map.specs.Parts.{owned_of}
+use Rattle.dpl_map.proofs.ListLemmas.{Contains-filter}
 
 -- the axis that stands where a map has none is such
 pub single-idle : (axis : AxisValue) → axis ≡ idle → IsSingle axis.rule

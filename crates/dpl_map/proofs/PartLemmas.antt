@@ -11,7 +11,7 @@ use Rattle.dpl_domain.specs.Ranks.{last_of}
 use Rattle.dpl_map.specs.AxisFields.{IsAxis}
 use Rattle.dpl_map.specs.MapFields.{IsMap, idle}
 use Rattle.dpl_map.specs.Maps.{AxisValue, axis_coordinate, owner}
-use Rattle.dpl_map.specs.Parts.{part}
+use Rattle.dpl_map.specs.Parts.{part, owned_of}
 use Rattle.dpl_map.proofs.FilterLemmas.{filter-alike}
 use Rattle.dpl_map.proofs.OwnerLemmas.{owner-padded, owner-other, locale_of}
 use Rattle.dpl_map.proofs.AxisLemmas.{axis-below}
@@ -105,10 +105,6 @@ and-second false b holds = absurd cc
 and-true : (b : Bool) → b ≡ (b && true)
 and-true true = refl
 and-true false = refl
-
--- what a place of an axis owns of a range
-abbrev pub owned_of : AxisValue → ℕ → RangeValue → List ℤ
-owned_of axis c r = filter (λ i. axis_coordinate axis i == c) (members_of r)
 
 -- a place of the grid by its coordinates
 module _ (o m i : AxisValue) (o_limits : IsAxis o) (m_limits : IsAxis m) (i_limits : IsAxis i) (cx cy cz locale : ℕ) (cx_below : cx < o.extent) (cy_below : cy < m.extent) (cz_below : cz < i.extent) (locale-is : (cx * m.extent + cy) * i.extent + cz ≡ locale) where

@@ -1,20 +1,22 @@
 -- Products of ranges that are cut out of lists: each is cut out of the product of the lists.
-use Rattle.std.proofs.Common.{◌≡◌, ◌⊎◌, inl, inr, ◌<◌, ◌≤◌, ◌+◌, ◌*◌, ◌==◌, ◌&&◌, ℕ, zero, suc, Bool, true, false, ℤ, List, [], ◌∷◌, length, filter, slice_get, IfSome, Some, nat_lt, if◌then◌else◌, refl, ap, sym, subst, ◌∙◌, arith, ⊎_elim, eqb-true, eq-eqb}
+use Rattle.std.proofs.Common.{◌≡◌, ◌⊎◌, ◌↔◌, ◌<ℤ◌, int_lt, Contains, map, flat_map, inl, inr, ◌<◌, ◌≤◌, ◌+◌, ◌*◌, ◌==◌, ◌&&◌, ℕ, zero, suc, Bool, true, false, ℤ, List, [], ◌∷◌, length, filter, slice_get, IfSome, Some, nat_lt, if◌then◌else◌, refl, ap, sym, subst, ◌∙◌, arith, ⊎_elim, eqb-true, eq-eqb}
 use Rattle.std.specs.Cmp.{both_ways}
-use Rattle.std.proofs.lemmas.Bool.{and_from, and_parts}
+use Rattle.std.proofs.lemmas.Bool.{cases_lt, and_from, and_parts}
 use Rattle.std.proofs.lemmas.Nat.{same_from_place, mul-add-lt}
-use Rattle.std.proofs.lemmas.List.Elements.{All-weaker}
+use Rattle.std.proofs.lemmas.List.Elements.{All-weaker, All-contains, Contains-append_cases}
+use Rattle.std.proofs.lemmas.Int.{ints}
 use Rattle.std.proofs.lemmas.Option.{slice_get_within}
-use Rattle.std.proofs.Math.Nat.{mul_comm}
+use Rattle.std.proofs.Math.Nat.{mul_comm, mul_assoc, add-mul, mul-le-mul_right}
 use Rattle.dpl_range.specs.Range.{RangeValue, members_of}
 use Rattle.dpl_domain.specs.Indices.{tuples, indices}
 use Rattle.dpl_domain.specs.Ranks.{last_of}
-use Rattle.dpl_map.specs.Cuts.{AreCut}
-use Rattle.dpl_map.proofs.CutLemmas.{tells, filter-same}
+use Rattle.dpl_map.specs.Cuts.{AreCut, AreSorted}
+use Rattle.dpl_map.specs.Orders.{IsBefore}
 use Rattle.dpl_map.proofs.FilterLemmas.{filter-alike}
 use Rattle.dpl_map.proofs.ProductLemmas.{tuples-empty}
 use Rattle.dpl_map.proofs.PartLemmas.{all_pass, filter_each, filter-tuples, each-at, each-length}
 use Rattle.dpl_domain.proofs.PlaceLemmas.{length-filter_le}
+use Rattle.dpl_map.proofs.ListLemmas.{Contains-cases, Contains-here, Contains-later, Contains-nothing, map-Contains, filter-same, tells}
 
 -- a cut whose numbers are those of pieces for every element, whether it is in the list or not
 pub record IsCutWhole {X P : Type 0} (elements : P → List X) (xs : List X) (pieces : List P) : Type 0 where
@@ -51,6 +53,80 @@ module _ {X P : Type 0} (elements : P → List X) (xs : List X) (pieces : List P
         (All-weaker (λ x. cut.number x < length pieces) (λ x. (cut.number x == k) ≡ (bounded x == k))
         (λ x within. ap (λ n. n == k) (sym (bounded-same x within))) xs cut.numbered);
   }
+
+-- in the same order
+pub whole-sorted : {X P : Type 0} (elements : P → List X) (before : X → X → Type 0) (xs : List X) (pieces : List P) (some : 0 < length pieces) (are : AreSorted elements before xs pieces) (x y : X) → Contains xs x → Contains xs y → ((AreCut-whole elements xs pieces some are.cut).number x < (AreCut-whole elements xs pieces some are.cut).number y) ↔ before x y
+unfolding AreCut-whole
+whole-sorted elements before xs pieces some are x y x-in y-in =
+    let first = bounded-same elements xs pieces some are.cut x (All-contains (λ x. are.cut.number x < length pieces) xs x are.cut.numbered x-in) in
+    let second = bounded-same elements xs pieces some are.cut y (All-contains (λ x. are.cut.number x < length pieces) xs y are.cut.numbered y-in) in
+    let sorted = are.sorted x y x-in y-in in
+    ((λ less. sorted.0 (omega (arith, less, first, second))), (λ sooner. let less = sorted.1 sooner in omega (arith, less, first, second)))
+
+-- of two numbers of which neither is less, one is the other
+int-same : (u v : ℤ) → (u <ℤ v → ⊥) → (v <ℤ u → ⊥) → u ≡ v
+int-same u v no_less no_more =
+    ⊎_elim
+    (λ (less : int_lt u v ≡ true). absurd (no_less (grind (arith, ints, less))))
+    (λ (low : int_lt u v ≡ false). ⊎_elim
+    (λ (more : int_lt v u ≡ true). absurd (no_more (grind (arith, ints, more))))
+    (λ (high : int_lt v u ≡ false). grind (arith, ints, low, high))
+    (tells (int_lt v u)))
+    (tells (int_lt u v))
+
+-- numbers of rows and places in them are less where the row is, or where it is the same one and the place is
+pub row-less : (b b' c c' n : ℕ) (u v : ℤ) (Rest : Type 0) → c < n → c' < n → (b < b') ↔ (u <ℤ v) → (b' < b) ↔ (v <ℤ u) → (c < c') ↔ Rest → (b * n + c < b' * n + c') ↔ ((u <ℤ v) ⊎ ((u ≡ v) × Rest))
+row-less b b' c c' n u v Rest within within' less more rest = (there, back)
+  where
+    no-less : b ≡ b' → u <ℤ v → ⊥
+    no-less same sooner = let below = less.1 sooner in omega (arith, below, same)
+
+    no-more : b ≡ b' → v <ℤ u → ⊥
+    no-more same later = let above = more.1 later in omega (arith, above, same)
+
+    there : b * n + c < b' * n + c' → (u <ℤ v) ⊎ ((u ≡ v) × Rest)
+    there e =
+        ⊎_elim
+        (λ (first : b < b'). inl (less.0 first))
+        (λ other. ⊎_elim
+        (λ (second : b' < b). absurd (let steps : (b' + 1) * n ≤ b * n = mul-le-mul_right n (omega (arith, second)) in omega (arith, e, steps, add-mul b' 1 n, within')))
+        (λ same.
+        let is : b ≡ b' = omega (arith, other, same) in
+        inr (int-same u v (no-less is) (no-more is), rest.0 (omega (arith, e, ap (λ x. x * n) is))))
+        (cases_lt b' b))
+        (cases_lt b b')
+
+    back : (u <ℤ v) ⊎ ((u ≡ v) × Rest) → b * n + c < b' * n + c'
+    back e =
+        ⊎_elim
+        (λ sooner. let steps : (b + 1) * n ≤ b' * n = mul-le-mul_right n (let below = less.1 sooner in omega (arith, below)) in omega (arith, steps, add-mul b 1 n, within))
+        (λ (h : (u ≡ v) × Rest).
+        ⊎_elim
+        (λ (first : b < b'). absurd (let sooner = less.0 first in omega (arith, ints, sooner, h.0)))
+        (λ other. ⊎_elim
+        (λ (second : b' < b). absurd (let later = more.0 second in omega (arith, ints, later, h.0)))
+        (λ same.
+        let is : b ≡ b' = omega (arith, other, same) in
+        let below = rest.1 h.1 in
+        omega (arith, below, ap (λ x. x * n) is))
+        (cases_lt b' b))
+        (cases_lt b b'))
+        e
+
+-- a tuple of a product has an element of each list
+pub tuples-parts : (is : List ℤ) (rest : List (List ℤ)) (t : List ℤ) → Contains (tuples (is ∷ rest)) t → (i : ℤ) × (u : List ℤ) × (t ≡ i ∷ u) × Contains is i × Contains (tuples rest) u
+tuples-parts is rest t member = go is member
+  where
+    go : (js : List ℤ) → Contains (flat_map (λ i. map (λ t. i ∷ t) (tuples rest)) js) t → (i : ℤ) × (u : List ℤ) × (t ≡ i ∷ u) × Contains js i × Contains (tuples rest) u
+    go [] none = absurd (Contains-nothing t none)
+    go (j ∷ js) there =
+        ⊎_elim
+        (λ first. let at = map-Contains (λ t. j ∷ t) (tuples rest) t first in (j, at.0, sym at.2, Contains-here j js, at.1))
+        (λ later. let at = go js later in (at.0, at.1, at.2, Contains-later j js at.0 at.3, at.4))
+        (Contains-append_cases (map (λ t. j ∷ t) (tuples rest)) (flat_map (λ i. map (λ t. i ∷ t) (tuples rest)) js) t there)
+
+nothing-left : (t : List ℤ) → Contains ([] ∷ []) t → t ≡ []
+nothing-left t member = ⊎_elim (λ here. sym here) (λ later. absurd (Contains-nothing t later)) (Contains-cases [] [] t member)
 
 -- nothing is cut into no pieces
 pub AreCut-nothing : {X P : Type 0} (elements : P → List X) (xs : List X) (pieces : List P) → length pieces ≡ 0 → AreCut elements xs pieces → xs ≡ []
@@ -90,6 +166,60 @@ module _ (xs ys zs : List ℤ) (ps qs rs : List RangeValue) (first : IsCutWhole 
         omega (arith, mul_comm (length rs) (length ps * length qs), mul-add-lt (first.number x * length qs + second.number y) (length rs) (third.number z) (length ps * length qs) plane (third.below z))
     number-below (suc (suc (suc zero))) one_first one_second (w ∷ x ∷ y ∷ z ∷ t) = some
     number-below (suc (suc (suc (suc n)))) one_first one_second t = some
+
+  -- the numbers of tuples rise row by row
+  module _ (f g h : ℤ → ℤ) (first-sorted : (i j : ℤ) → Contains xs i → Contains xs j → (first.number i < first.number j) ↔ (f i <ℤ f j)) (second-sorted : (i j : ℤ) → Contains ys i → Contains ys j → (second.number i < second.number j) ↔ (g i <ℤ g j)) (third-sorted : (i j : ℤ) → Contains zs i → Contains zs j → (third.number i < third.number j) ↔ (h i <ℤ h j)) where
+    line-sorted : (z z' : ℤ) → Contains zs z → Contains zs z' → (third.number z < third.number z') ↔ IsBefore (h ∷ []) (z ∷ []) (z' ∷ [])
+    line-sorted z z' z-in z'-in =
+        let sorted = third-sorted z z' z-in z'-in in
+        ((λ less. inl (sorted.0 less)), (λ sooner. ⊎_elim (λ key. sorted.1 key) (λ (rest : (h z ≡ h z') × ⊥). absurd rest.1) sooner))
+
+    plane-sorted : (y z y' z' : ℤ) → Contains ys y → Contains zs z → Contains ys y' → Contains zs z' → (second.number y * length rs + third.number z < second.number y' * length rs + third.number z') ↔ IsBefore (g ∷ h ∷ []) (y ∷ z ∷ []) (y' ∷ z' ∷ [])
+    plane-sorted y z y' z' y-in z-in y'-in z'-in =
+        row-less (second.number y) (second.number y') (third.number z) (third.number z') (length rs) (g y) (g y') (IsBefore (h ∷ []) (z ∷ []) (z' ∷ []))
+        (third.below z) (third.below z') (second-sorted y y' y-in y'-in) (second-sorted y' y y'-in y-in) (line-sorted z z' z-in z'-in)
+
+    space-sorted : (x y z x' y' z' : ℤ) → Contains xs x → Contains ys y → Contains zs z → Contains xs x' → Contains ys y' → Contains zs z' → ((first.number x * length qs + second.number y) * length rs + third.number z < (first.number x' * length qs + second.number y') * length rs + third.number z') ↔ IsBefore (f ∷ g ∷ h ∷ []) (x ∷ y ∷ z ∷ []) (x' ∷ y' ∷ z' ∷ [])
+    space-sorted x y z x' y' z' x-in y-in z-in x'-in y'-in z'-in =
+        let row : (y z : ℤ) → second.number y * length rs + third.number z < length qs * length rs =
+        λ y z. omega (arith, mul_comm (length rs) (length qs), mul-add-lt (second.number y) (length rs) (third.number z) (length qs) (second.below y) (third.below z)) in
+        let sorted =
+        row-less (first.number x) (first.number x') (second.number y * length rs + third.number z) (second.number y' * length rs + third.number z') (length qs * length rs) (f x) (f x') (IsBefore (g ∷ h ∷ []) (y ∷ z ∷ []) (y' ∷ z' ∷ []))
+        (row y z) (row y' z') (first-sorted x x' x-in x'-in) (first-sorted x' x x'-in x-in) (plane-sorted y z y' z' y-in z-in y'-in z'-in) in
+        let here = number-rows (first.number x) (second.number y) (third.number z) in
+        let there = number-rows (first.number x') (second.number y') (third.number z') in
+        ((λ less. sorted.0 (omega (arith, less, here, there))), (λ sooner. let less = sorted.1 sooner in omega (arith, less, here, there)))
+      where
+        number-rows : (a b c : ℕ) → (a * length qs + b) * length rs + c ≡ a * (length qs * length rs) + (b * length rs + c)
+        number-rows a b c = omega (arith, add-mul (a * length qs) b (length rs), mul_assoc a (length qs) (length rs))
+
+    pub number-sorted : (rank : ℕ) → 1 ≤ rank → rank ≤ 3 → (s t : List ℤ) → Contains (tuples (last_of rank xs ys zs)) s → Contains (tuples (last_of rank xs ys zs)) t → (number-at rank s < number-at rank t) ↔ IsBefore (last_of rank f g h) s t
+    number-sorted zero from to s t s-in t-in = absurd (omega (arith, from))
+    number-sorted (suc zero) from to s t s-in t-in =
+        let a = tuples-parts zs [] s s-in in
+        let d = tuples-parts zs [] t t-in in
+        let s-is : s ≡ a.0 ∷ [] = a.2 ∙ ap (λ u. a.0 ∷ u) (nothing-left a.1 a.4) in
+        let t-is : t ≡ d.0 ∷ [] = d.2 ∙ ap (λ u. d.0 ∷ u) (nothing-left d.1 d.4) in
+        rw (s-is, t-is) (line-sorted a.0 d.0 a.3 d.3)
+    number-sorted (suc (suc zero)) from to s t s-in t-in =
+        let a = tuples-parts ys (zs ∷ []) s s-in in
+        let b = tuples-parts zs [] a.1 a.4 in
+        let d = tuples-parts ys (zs ∷ []) t t-in in
+        let e = tuples-parts zs [] d.1 d.4 in
+        let s-is : s ≡ a.0 ∷ b.0 ∷ [] = a.2 ∙ ap (λ u. a.0 ∷ u) (b.2 ∙ ap (λ u. b.0 ∷ u) (nothing-left b.1 b.4)) in
+        let t-is : t ≡ d.0 ∷ e.0 ∷ [] = d.2 ∙ ap (λ u. d.0 ∷ u) (e.2 ∙ ap (λ u. e.0 ∷ u) (nothing-left e.1 e.4)) in
+        rw (s-is, t-is) (plane-sorted a.0 b.0 d.0 e.0 a.3 b.3 d.3 e.3)
+    number-sorted (suc (suc (suc zero))) from to s t s-in t-in =
+        let a = tuples-parts xs (ys ∷ zs ∷ []) s s-in in
+        let b = tuples-parts ys (zs ∷ []) a.1 a.4 in
+        let c = tuples-parts zs [] b.1 b.4 in
+        let d = tuples-parts xs (ys ∷ zs ∷ []) t t-in in
+        let e = tuples-parts ys (zs ∷ []) d.1 d.4 in
+        let i = tuples-parts zs [] e.1 e.4 in
+        let s-is : s ≡ a.0 ∷ b.0 ∷ c.0 ∷ [] = a.2 ∙ ap (λ u. a.0 ∷ u) (b.2 ∙ ap (λ u. b.0 ∷ u) (c.2 ∙ ap (λ u. c.0 ∷ u) (nothing-left c.1 c.4))) in
+        let t-is : t ≡ d.0 ∷ e.0 ∷ i.0 ∷ [] = d.2 ∙ ap (λ u. d.0 ∷ u) (e.2 ∙ ap (λ u. e.0 ∷ u) (i.2 ∙ ap (λ u. i.0 ∷ u) (nothing-left i.1 i.4))) in
+        rw (s-is, t-is) (space-sorted a.0 b.0 c.0 d.0 e.0 i.0 a.3 b.3 c.3 d.3 e.3 i.3)
+    number-sorted (suc (suc (suc (suc n)))) from to s t s-in t-in = absurd (omega (arith, to))
 
   -- the product of three pieces lists the tuples of its number
   module _ (a b c : ℕ) (o m i : RangeValue) (o-at : slice_get ps a ≡ Some o) (m-at : slice_get qs b ≡ Some m) (i-at : slice_get rs c ≡ Some i) where

@@ -5,55 +5,8 @@ use Rattle.std.proofs.lemmas.List.Elements.{All-head, All-tail, All-weaker, All-
 use Rattle.dpl_domain.proofs.PlaceLemmas.{length-filter_le}
 use Rattle.dpl_map.specs.Cuts.{behind}
 use Rattle.dpl_map.specs.Counts.{IsWithinValues}
-use Rattle.dpl_map.proofs.CutLemmas.{tells, filter-between_none, All-passed, All-filter_passed, length-push}
-
-module _ {X : Type 0} where
-  -- what holds of whatever a list has holds of each of its elements
-  pub All-members : (P : X → Type 0) (xs : List X) → ((x : X) → Contains xs x → P x) → All P xs
-  All-members P xs each = λ k d within. each (get_or xs k d) (Contains-get_or xs k d within)
-
-  pub Contains-here : (x : X) (xs : List X) → Contains (x ∷ xs) x
-  Contains-here x xs = (0, omega arith, refl)
-
-  pub Contains-later : (y : X) (xs : List X) (x : X) → Contains xs x → Contains (y ∷ xs) x
-  Contains-later y xs x later = Contains-append_right (y ∷ []) xs x later
-
-  pub Contains-cases : (y : X) (xs : List X) (x : X) → Contains (y ∷ xs) x → (y ≡ x) ⊎ Contains xs x
-  Contains-cases y xs x (zero, within, is) = inl is
-  Contains-cases y xs x (suc k, within, is) = inr (k, omega arith, is)
-
-  pub Contains-nothing : (x : X) → Contains [] x → ⊥
-  Contains-nothing x (k, within, is) = absurd (omega arith)
-
-  -- what passes a test is kept by its filter
-  pub Contains-filter : (p : X → Bool) (xs : List X) (x : X) → p x ≡ true → Contains xs x → Contains (filter p xs) x
-  Contains-filter p [] x passes member = absurd (Contains-nothing x member)
-  Contains-filter p (y ∷ ys) x passes member =
-      ⊎_elim
-      (λ here. let first : p y ≡ true = ap p here ∙ passes in rw first (subst (Contains (y ∷ filter p ys)) here (Contains-here y (filter p ys))))
-      (λ later. kept (p y) (Contains-filter p ys x passes later))
-      (Contains-cases y ys x member)
-    where
-      kept : (b : Bool) → Contains (filter p ys) x → Contains (cond b (y ∷ filter p ys) (filter p ys)) x
-      kept true later = Contains-later y (filter p ys) x later
-      kept false later = later
-
-pub Contains-map : {X Y : Type 0} (f : X → Y) (xs : List X) (x : X) → Contains xs x → Contains (map f xs) (f x)
-Contains-map f [] x member = absurd (Contains-nothing x member)
-Contains-map f (y ∷ ys) x member =
-    ⊎_elim
-    (λ here. subst (λ z. Contains (f y ∷ map f ys) (f z)) here (Contains-here (f y) (map f ys)))
-    (λ later. Contains-later (f y) (map f ys) (f x) (Contains-map f ys x later))
-    (Contains-cases y ys x member)
-
--- and each value is that of an element
-pub map-Contains : {X Y : Type 0} (f : X → Y) (xs : List X) (y : Y) → Contains (map f xs) y → (x : X) × Contains xs x × (f x ≡ y)
-map-Contains f [] y member = absurd (Contains-nothing y member)
-map-Contains f (x ∷ xs) y member =
-    ⊎_elim
-    (λ here. (x, Contains-here x xs, here))
-    (λ later. let at = map-Contains f xs y later in (at.0, Contains-later x xs at.0 at.1, at.2))
-    (Contains-cases (f x) (map f xs) y member)
+use Rattle.dpl_map.proofs.CutLemmas.{filter-between_none}
+use Rattle.dpl_map.proofs.ListLemmas.{All-filter_passed, All-members, All-passed, Contains-cases, Contains-filter, Contains-map, Contains-nothing, length-push, tells}
 
 module _ {X Y : Type 0} (f : X → Y) where
   -- a longer list has no fewer values

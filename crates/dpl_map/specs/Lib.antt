@@ -3,7 +3,9 @@ pub mod Grids
 pub mod Maps
 pub mod Cuts
 pub mod Counts
+pub mod Orders
 pub mod Blocks
+pub mod Deals
 pub mod Parts
 pub mod GridFields
 pub mod AxisFields

@@ -18,6 +18,10 @@ pub record AxisValue : Type 0 where
   pub rule : RuleValue
   pub extent : ℕ
 
+-- a dimension that is dealt out in blocks of a size, from a start
+abbrev pub block_cyclic_axis : ℤ → ℤ → ℕ → AxisValue
+block_cyclic_axis start blocksize extent = record { rule = BlockCyclic start blocksize; extent = extent }
+
 -- a rule by which each coordinate has its indices of a range in one range
 abbrev pub IsSingle : RuleValue → Type 0
 IsSingle (Block low high) = Unit {0}

@@ -1,16 +1,19 @@
 // One dimension of a map: by which rule its indices are dealt out over how many coordinates.
 
-ghost use Rattle.std.specs.Prelude.{◌≡◌, ◌≢◌, ◌↔◌, ◌+◌, ◌*◌, ◌^◌, ◌≤◌, ◌<◌, ◌≤ℤ◌, ◌==◌, ◌&&◌, ℕ, ℤ, pos, neg_ℤ, int_le, filter, length, All, IfOk, []};
+ghost use Rattle.std.specs.Prelude.{◌≡◌, ◌≢◌, ◌↔◌, ◌+◌, ◌*◌, ◌^◌, ◌≤◌, ◌<◌, ◌≤ℤ◌, ◌-ℤ◌, IsTrue, ◌==◌, ◌&&◌, ℕ, ℤ, pos, neg_ℤ, int_le, filter, length, All, IfOk, []};
+ghost use Rattle.std.specs.Int.{int_div_euclid, int_rem_euclid};
 ghost use Rattle.dpl_range.specs.Range.{members_of, IsBound};
 ghost use Rattle.dpl_range.specs.Invariant.{IsRange};
 ghost use Rattle.dpl_map.specs.AxisFields.{IsAxis};
 ghost use Rattle.dpl_map.specs.Grids.{IsGridSize};
-ghost use Rattle.dpl_map.specs.Cuts.{AreCut};
+ghost use Rattle.dpl_map.specs.Orders.{AreListed, rule_key};
+ghost use Rattle.dpl_map.specs.Parts.{owned_of};
 ghost use Rattle.dpl_map.specs.Counts.{AreFewRanges};
 ghost use Rattle.dpl_map.specs.Maps.{axis_coordinate, IsBoxed, IsSingle, Block, Cyclic, BlockCyclic};
 ghost use Rattle.dpl_map.specs.Places.{block_place, cyclic_place, block_cyclic_place};
 
 use crate::blocks::{dealt, keep};
+use crate::find::Order;
 use dpl_range::{LIMIT, Range};
 use std::alloc::{AllocError, Global};
 use std::marker::Model;
@@ -116,9 +119,9 @@ impl Axis {
     /// No memory for them.
     pub fn parts(&self, alloc: Global, range: &Range, coordinate: u32) -> Result<Vec<Range>, AllocError>
         requires { coordinate < self.now.extent }
-        ensures cut { IfOk result (λ v. AreCut members_of (filter (λ i. axis_coordinate self.now i == coordinate) (members_of range.now)) v.items) }
+        ensures cut { IfOk result (λ v. AreListed self.now.rule (owned_of self.now coordinate range.now) v.items) }
         ensures some { IfOk result (λ v. All (λ r. members_of r ≢ []) v.items) }
-        ensures few { IfOk result (λ v. AreFewRanges self.now.rule (filter (λ i. axis_coordinate self.now i == coordinate) (members_of range.now)) (length v.items)) }
+        ensures few { IfOk result (λ v. AreFewRanges self.now.rule (owned_of self.now coordinate range.now) (length v.items)) }
     {
         if let Rule::BlockCyclic { start, size } = self.rule {
             return dealt(alloc, range, start, size, self.extent, coordinate);
@@ -132,7 +135,7 @@ impl Axis {
     fn part(&self, range: &Range, coordinate: u32) -> Range
         requires coordinate { coordinate < self.now.extent }
         requires single { IsSingle self.now.rule }
-        ensures members { members_of result ≡ filter (λ i. axis_coordinate self.now i == coordinate) (members_of range.now) }
+        ensures members { members_of result ≡ owned_of self.now coordinate range.now }
         ensures limits { IsRange result }
     {
         if range.size() == 0 {
@@ -155,6 +158,26 @@ impl Axis {
             Rule::Block { low, high } => block_place(low, high, self.extent, i),
             Rule::Cyclic { start } => cyclic_place(start, self.extent, i),
             Rule::BlockCyclic { start, size } => block_cyclic_place(start, size, self.extent, i),
+        }
+    }
+
+    /// Whether each coordinate has its indices of a range in one range.
+    pub fn is_single(&self) -> bool
+        ensures { IsTrue result → IsSingle self.now.rule }
+    {
+        !matches!(self.rule, Rule::BlockCyclic { .. })
+    }
+
+    /// The number by which the range of an index stands in the list of ranges that a coordinate has.
+    pub fn key(&self, order: Order, i: i64) -> i128
+        ensures { result ≡ rule_key order self.now.rule i }
+    {
+        let Rule::BlockCyclic { start, size } = self.rule else {
+            return 0;
+        };
+        match order {
+            Order::Blocks => block_of(start, size, i),
+            Order::Offsets => offset_of(start, size, i),
         }
     }
 }
@@ -269,6 +292,24 @@ fn cyclic_place(start: i64, extent: u32, i: i64) -> u32
     (i as i128 - start as i128).rem_euclid(extent as i128) as u32
 }
 
+// The block that has an index by the block-cyclic rule, counted from the start.
+fn block_of(start: i64, size: i64, i: i64) -> i128
+    requires start_is_bound { IsBound start }
+    requires size { pos 1 ≤ℤ size }
+    ensures { result ≡ int_div_euclid (i -ℤ start) size }
+{
+    (i as i128 - start as i128).div_euclid(size as i128)
+}
+
+// Where an index lies in its block by the block-cyclic rule.
+fn offset_of(start: i64, size: i64, i: i64) -> i128
+    requires start_is_bound { IsBound start }
+    requires size { pos 1 ≤ℤ size }
+    ensures { result ≡ int_rem_euclid (i -ℤ start) size }
+{
+    (i as i128 - start as i128).rem_euclid(size as i128)
+}
+
 // The coordinate of an index by the block-cyclic rule.
 fn block_cyclic_place(start: i64, size: i64, extent: u32, i: i64) -> u32
     requires start_is_bound { IsBound start }
@@ -277,7 +318,5 @@ fn block_cyclic_place(start: i64, size: i64, extent: u32, i: i64) -> u32
     ensures coordinate { result ≡ block_cyclic_place start size extent i }
     ensures below { result < extent }
 {
-    (i as i128 - start as i128)
-        .div_euclid(size as i128)
-        .rem_euclid(extent as i128) as u32
+    block_of(start, size, i).rem_euclid(extent as i128) as u32
 }

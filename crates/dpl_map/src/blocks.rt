@@ -5,10 +5,12 @@ ghost use Rattle.std.specs.Prelude.{◌≡◌, ◌≢◌, ◌≤◌, ◌<◌, �
 ghost use Rattle.std.specs.Int.{int_div_euclid};
 ghost use Rattle.dpl_range.specs.Range.{members_of, IsBound};
 ghost use Rattle.dpl_map.specs.Grids.{IsGridSize};
-ghost use Rattle.dpl_map.specs.Places.{block_cyclic_place};
-ghost use Rattle.dpl_map.specs.Cuts.{AreCut, behind};
-ghost use Rattle.dpl_map.specs.Counts.{IsWithinValues};
-ghost use Rattle.dpl_map.specs.Blocks.{past, block_number, block_offset, BeginsRound, IsDeal};
+ghost use Rattle.dpl_map.specs.Maps.{BlockCyclic, block_cyclic_axis};
+ghost use Rattle.dpl_map.specs.Parts.{owned_of};
+ghost use Rattle.dpl_map.specs.Cuts.{behind};
+ghost use Rattle.dpl_map.specs.Orders.{AreListed};
+ghost use Rattle.dpl_map.specs.Counts.{IsWithinValues, rule_block};
+ghost use Rattle.dpl_map.specs.Blocks.{past, BeginsRound, IsDeal};
 
 use dpl_range::Range;
 use std::alloc::{AllocError, Global};
@@ -31,10 +33,10 @@ pub fn dealt(
     requires some { pos 1 ≤ℤ size }
     requires extent { IsGridSize extent }
     requires coordinate { coordinate < extent }
-    ensures cut { IfOk result (λ v. AreCut members_of (filter (λ i. block_cyclic_place start size extent i == coordinate) (members_of range.now)) v.items) }
+    ensures cut { IfOk result (λ v. AreListed (BlockCyclic start size) (owned_of (block_cyclic_axis start size extent) coordinate range.now) v.items) }
     ensures some { IfOk result (λ v. All (λ r. members_of r ≢ []) v.items) }
     ensures few { IfOk result (λ v. pos (length v.items) ≤ℤ size) }
-    ensures blocks { IfOk result (λ v. IsWithinValues (λ i. int_div_euclid (i -ℤ start) size) (filter (λ i. block_cyclic_place start size extent i == coordinate) (members_of range.now)) (length v.items)) }
+    ensures blocks { IfOk result (λ v. IsWithinValues (rule_block (BlockCyclic start size)) (owned_of (block_cyclic_axis start size extent) coordinate range.now) (length v.items)) }
 {
     if range.size() == 0 {
         return Ok(Vec::new(alloc));
@@ -92,7 +94,8 @@ pub fn keep(pieces: &mut Vec<Range>, piece: Range) -> Result<(), AllocError>
     Ok(())
 }
 
-// A range, and the blocks of it that a coordinate gets: those number `coordinate`, `coordinate + extent` and so on from the origin.
+// A range, and the blocks of it that a coordinate gets: those number `coordinate`, `coordinate + extent` and so on from the
+// origin, which is the beginning of the round that has the range's low bound.
 #[derive(Clone, Copy)]
 struct Deal {
     range: Range,
@@ -100,9 +103,12 @@ struct Deal {
     size: u64,
     extent: u64,
     coordinate: u64,
+    ghost deal: { IsDeal range origin size extent coordinate },
 }
 
 impl Deal {
+    ghost use Rattle.dpl_map.specs.Deals.{number_in, last_in, offset_in, round_in, turn_in, dealt_of, AreCutBy};
+
     // The deal of a coordinate, from the beginning of the round that has the range's low bound.
     fn new(range: Range, start: i64, size: u64, extent: u64, coordinate: u64) -> Deal
         requires start_limit { IsBound start }
@@ -110,7 +116,6 @@ impl Deal {
         requires machine { size < 2 ^ 63 }
         requires extent { extent ≤ 64 }
         requires coordinate { coordinate < extent }
-        ensures deal { IsDeal result.range result.origin result.size result.extent result.coordinate }
         ensures begins { BeginsRound start (result.extent * result.size) result.origin }
         ensures range { result.range ≡ range }
         ensures size { result.size ≡ size }
@@ -129,7 +134,6 @@ impl Deal {
 
     // How far an integer between the range's bounds lies past the origin.
     fn way(&self, i: i64) -> u128
-        requires deal { IsDeal self.now.range self.now.origin self.now.size self.now.extent self.now.coordinate }
         requires low { self.now.range.low ≤ℤ i }
         requires high { i ≤ℤ self.now.range.high }
         ensures way { result ≡ past self.now.origin i }
@@ -140,10 +144,9 @@ impl Deal {
 
     // The number of the block that has an integer between the range's bounds.
     fn number(&self, i: i64) -> u64
-        requires deal { IsDeal self.now.range self.now.origin self.now.size self.now.extent self.now.coordinate }
         requires low { self.now.range.low ≤ℤ i }
         requires high { i ≤ℤ self.now.range.high }
-        ensures number { result ≡ block_number self.now.origin self.now.size i }
+        ensures number { result ≡ number_in self.now i }
         ensures near { result ≤ 2 ^ 61 + 64 }
     {
         (self.way(i) / self.size as u128) as u64
@@ -151,9 +154,8 @@ impl Deal {
 
     // The number of the block that has the range's high bound.
     fn last(&self) -> u64
-        requires deal { IsDeal self.now.range self.now.origin self.now.size self.now.extent self.now.coordinate }
         requires ordered { self.now.range.low ≤ℤ self.now.range.high }
-        ensures number { result ≡ block_number self.now.origin self.now.size self.now.range.high }
+        ensures number { result ≡ last_in self.now }
         ensures near { result ≤ 2 ^ 61 + 64 }
     {
         self.number(self.range.high_bound())
@@ -161,11 +163,10 @@ impl Deal {
 
     // How many of the coordinate's blocks begin at the range's high bound or before it.
     fn rounds(&self) -> u64
-        requires deal { IsDeal self.now.range self.now.origin self.now.size self.now.extent self.now.coordinate }
         requires ordered { self.now.range.low ≤ℤ self.now.range.high }
-        ensures all { (j : ℕ) → j < result → j * self.now.extent + self.now.coordinate ≤ block_number self.now.origin self.now.size self.now.range.high }
-        ensures enough { (j : ℕ) → j * self.now.extent + self.now.coordinate ≤ block_number self.now.origin self.now.size self.now.range.high → j < result }
-        ensures near { block_number self.now.origin self.now.size self.now.range.high ≤ 2 ^ 61 + 64 }
+        ensures all { (j : ℕ) → j < result → turn_in self.now j ≤ last_in self.now }
+        ensures enough { (j : ℕ) → turn_in self.now j ≤ last_in self.now → j < result }
+        ensures near { last_in self.now ≤ 2 ^ 61 + 64 }
         ensures short { self.now.size < result → self.now.extent * self.now.size ≤ 2 ^ 61 }
     {
         let last = self.last();
@@ -177,7 +178,6 @@ impl Deal {
 
     // Where the block of a number begins.
     fn begin(&self, number: u64) -> i128
-        requires deal { IsDeal self.now.range self.now.origin self.now.size self.now.extent self.now.coordinate }
         requires near { number ≤ 2 ^ 62 }
         ensures begin { result ≡ self.now.origin +ℤ pos (number * self.now.size) }
         ensures limit { result ≤ℤ pos (2 ^ 126) }
@@ -187,7 +187,6 @@ impl Deal {
 
     // Where the block of a number ends.
     fn end(&self, number: u64) -> i128
-        requires deal { IsDeal self.now.range self.now.origin self.now.size self.now.extent self.now.coordinate }
         requires near { number ≤ 2 ^ 62 }
         ensures { result ≡ self.now.origin +ℤ pos (number * self.now.size) +ℤ pos (self.now.size - 1) }
     {
@@ -196,9 +195,8 @@ impl Deal {
 
     // The members in the block of a number.
     fn block(&self, number: u64) -> Range
-        requires deal { IsDeal self.now.range self.now.origin self.now.size self.now.extent self.now.coordinate }
         requires near { number ≤ 2 ^ 62 }
-        ensures { members_of result ≡ filter (λ i. block_number self.now.origin self.now.size i == number) (members_of self.now.range) }
+        ensures { members_of result ≡ filter (λ i. number_in self.now i == number) (members_of self.now.range) }
     {
         between(&self.range, self.begin(number), self.end(number))
     }
@@ -206,13 +204,12 @@ impl Deal {
     // The first of the coordinate's rounds, from this one on, whose block has the least member that is left or begins behind it. None
     // where the coordinate has no member left.
     fn next_round(&self, round: u64) -> Option<u64>
-        requires deal { IsDeal self.now.range self.now.origin self.now.size self.now.extent self.now.coordinate }
         requires ordered { self.now.range.low ≤ℤ self.now.range.high }
-        requires near { round * self.now.extent + self.now.coordinate ≤ 2 ^ 62 }
+        requires near { turn_in self.now round ≤ 2 ^ 62 }
         ensures later { IfSome result (λ found. round ≤ found) }
-        ensures within { IfSome result (λ found. found * self.now.extent + self.now.coordinate ≤ block_number self.now.origin self.now.size self.now.range.high) }
-        ensures passed { IfSome result (λ found. All (λ i. block_number self.now.origin self.now.size i / self.now.extent < found → block_number self.now.origin self.now.size i / self.now.extent < round) (filter (λ i. block_number self.now.origin self.now.size i % self.now.extent == self.now.coordinate) (members_of self.now.range))) }
-        ensures none { IsNone result → All (λ i. block_number self.now.origin self.now.size i / self.now.extent < round) (filter (λ i. block_number self.now.origin self.now.size i % self.now.extent == self.now.coordinate) (members_of self.now.range)) }
+        ensures within { IfSome result (λ found. turn_in self.now found ≤ last_in self.now) }
+        ensures passed { IfSome result (λ found. All (λ i. round_in self.now i < found → round_in self.now i < round) (dealt_of self.now)) }
+        ensures none { IsNone result → All (λ i. round_in self.now i < round) (dealt_of self.now) }
     {
         let begin = self.begin(round * self.extent + self.coordinate);
         let left = between(&self.range, begin, self.range.high_bound() as i128);
@@ -227,15 +224,14 @@ impl Deal {
     // The members in each of the coordinate's blocks, one block after another. There is no such list where more of the blocks
     // have members than a block has offsets.
     fn by_blocks(&self, alloc: Global, rounds: u64) -> Result<Option<Vec<Range>>, AllocError>
-        requires deal { IsDeal self.now.range self.now.origin self.now.size self.now.extent self.now.coordinate }
         requires ordered { self.now.range.low ≤ℤ self.now.range.high }
-        requires enough { (j : ℕ) → j * self.now.extent + self.now.coordinate ≤ block_number self.now.origin self.now.size self.now.range.high → j < rounds }
-        requires near { block_number self.now.origin self.now.size self.now.range.high ≤ 2 ^ 61 + 64 }
-        ensures cut { IfOk result (λ found. IfSome found (λ v. AreCut members_of (filter (λ i. block_number self.now.origin self.now.size i % self.now.extent == self.now.coordinate) (members_of self.now.range)) v.items)) }
+        requires enough { (j : ℕ) → turn_in self.now j ≤ last_in self.now → j < rounds }
+        requires near { last_in self.now ≤ 2 ^ 61 + 64 }
+        ensures cut { IfOk result (λ found. IfSome found (λ v. AreCutBy self.now (round_in self.now) v.items)) }
         ensures few { IfOk result (λ found. IfSome found (λ v. length v.items ≤ self.now.size)) }
         ensures some { IfOk result (λ found. IfSome found (λ v. All (λ r. members_of r ≢ []) v.items)) }
-        ensures blocks { IfOk result (λ found. IfSome found (λ v. IsWithinValues (λ i. block_number self.now.origin self.now.size i / self.now.extent) (filter (λ i. block_number self.now.origin self.now.size i % self.now.extent == self.now.coordinate) (members_of self.now.range)) (length v.items))) }
-        ensures many { IfOk result (λ found. IsNone found → IsWithinValues (λ i. block_number self.now.origin self.now.size i / self.now.extent) (filter (λ i. block_number self.now.origin self.now.size i % self.now.extent == self.now.coordinate) (members_of self.now.range)) (self.now.size + 1)) }
+        ensures blocks { IfOk result (λ found. IfSome found (λ v. IsWithinValues (round_in self.now) (dealt_of self.now) (length v.items))) }
+        ensures many { IfOk result (λ found. IsNone found → IsWithinValues (round_in self.now) (dealt_of self.now) (self.now.size + 1)) }
         ensures later { IfOk result (λ found. IsNone found → self.now.size < rounds) }
     {
         let mut pieces = Vec::new(alloc);
@@ -252,14 +248,13 @@ impl Deal {
 
     // The members of the coordinate's blocks by their offsets: those of one offset are a class of congruence.
     fn by_offsets(&self, alloc: Global, start: i64) -> Result<Vec<Range>, AllocError>
-        requires deal { IsDeal self.now.range self.now.origin self.now.size self.now.extent self.now.coordinate }
         requires start_is_bound { IsBound start }
         requires short { self.now.extent * self.now.size ≤ 2 ^ 61 }
         requires begins { BeginsRound start (self.now.extent * self.now.size) self.now.origin }
-        ensures cut { IfOk result (λ v. AreCut members_of (filter (λ i. block_number self.now.origin self.now.size i % self.now.extent == self.now.coordinate) (members_of self.now.range)) v.items) }
+        ensures cut { IfOk result (λ v. AreCutBy self.now (offset_in self.now) v.items) }
         ensures few { IfOk result (λ v. length v.items ≤ self.now.size) }
         ensures some { IfOk result (λ v. All (λ r. members_of r ≢ []) v.items) }
-        ensures offsets { IfOk result (λ v. IsWithinValues (block_offset self.now.origin self.now.size) (filter (λ i. block_number self.now.origin self.now.size i % self.now.extent == self.now.coordinate) (members_of self.now.range)) (length v.items)) }
+        ensures offsets { IfOk result (λ v. IsWithinValues (offset_in self.now) (dealt_of self.now) (length v.items)) }
     {
         let mut pieces = Vec::new(alloc);
         for offset in 0..self.size {
@@ -270,12 +265,11 @@ impl Deal {
 
     // The members of the coordinate's blocks that lie at an offset in them.
     fn offset(&self, start: i64, offset: u64) -> Range
-        requires deal { IsDeal self.now.range self.now.origin self.now.size self.now.extent self.now.coordinate }
         requires start_is_bound { IsBound start }
         requires within { offset < self.now.size }
         requires short { self.now.extent * self.now.size ≤ 2 ^ 61 }
         requires begins { BeginsRound start (self.now.extent * self.now.size) self.now.origin }
-        ensures { members_of result ≡ filter (λ i. block_offset self.now.origin self.now.size i == offset) (filter (λ i. block_number self.now.origin self.now.size i % self.now.extent == self.now.coordinate) (members_of self.now.range)) }
+        ensures { members_of result ≡ filter (λ i. offset_in self.now i == offset) (dealt_of self.now) }
     {
         let before = self.coordinate * self.size;
         self.range

@@ -4,6 +4,7 @@
 mod axis;
 mod blocks;
 mod dimensions;
+mod find;
 mod grid;
 mod map;
 mod part;

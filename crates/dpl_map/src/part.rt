@@ -5,6 +5,7 @@ ghost use Rattle.dpl_domain.specs.Indices.{indices, IsSmall};
 ghost use Rattle.dpl_map.specs.Maps.{locales, AreSingle};
 ghost use Rattle.dpl_map.specs.Counts.{AreFew};
 ghost use Rattle.dpl_map.specs.Cuts.{AreCut};
+ghost use Rattle.dpl_map.specs.Orders.{ArePart};
 ghost use Rattle.dpl_map.specs.Parts.{part};
 
 use crate::Map;
@@ -38,6 +39,7 @@ impl Map {
         ensures one { AreSingle self.now → IfOk result (λ domains. length domains.items ≤ 1) }
         ensures few { IfOk result (λ domains. AreFew self.now (part domain.now self.now locale) (length domains.items)) }
         ensures other { length domain.now ≢ length self.now → IfOk result (λ domains. length domains.items ≤ 1) }
+        ensures rows { IfOk result (λ domains. ArePart self.now domains.items) }
         ensures none { IfOk result (λ domains. locales self.now ≤ locale → domains.items ≡ []) }
     {
         if self.locales() <= locale || domain.size() == 0 {
@@ -62,6 +64,7 @@ impl Map {
         ensures some { IfOk result (λ domains. All (λ domain. indices domain ≢ []) domains.items) }
         ensures one { AreSingle self.now → IfOk result (λ domains. length domains.items ≤ 1) }
         ensures few { IfOk result (λ domains. AreFew self.now (part domain.now self.now locale) (length domains.items)) }
+        ensures rows { IfOk result (λ domains. ArePart self.now domains.items) }
     {
         let (outer, middle, inner) = self.axes();
         let (first, second, last) = padded(domain);

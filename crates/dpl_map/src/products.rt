@@ -4,7 +4,7 @@ ghost use Rattle.std.specs.Prelude.{◌≡◌, ◌≢◌, ◌≤◌, ◌<◌, �
 ghost use Rattle.dpl_range.specs.Range.{RangeValue, members_of};
 ghost use Rattle.dpl_domain.specs.Indices.{tuples, indices, IsSmall};
 ghost use Rattle.dpl_domain.specs.Ranks.{last_of};
-ghost use Rattle.dpl_map.specs.Cuts.{AreCut};
+ghost use Rattle.dpl_map.specs.Orders.{AreProducts};
 
 use crate::dimensions::product;
 use dpl_domain::Domain;
@@ -28,7 +28,7 @@ pub fn products(
     requires one_outer { rank < 3 → length outers.now ≡ 1 }
     requires one_middle { rank < 2 → length middles.now ≡ 1 }
     requires small { (a b c : ℕ) (o m i : RangeValue) → slice_get outers.now a ≡ Some o → slice_get middles.now b ≡ Some m → slice_get inners.now c ≡ Some i → IsSmall (last_of rank o m i) }
-    ensures cut { (xs ys zs : List ℤ) → AreCut members_of xs outers.now → AreCut members_of ys middles.now → AreCut members_of zs inners.now → IfOk result (λ v. AreCut indices (tuples (last_of rank xs ys zs)) v.items) }
+    ensures cut { IfOk result (λ v. AreProducts rank outers.now middles.now inners.now v.items) }
     ensures some { All (λ r. members_of r ≢ []) outers.now → All (λ r. members_of r ≢ []) middles.now → All (λ r. members_of r ≢ []) inners.now → IfOk result (λ v. All (λ domain. indices domain ≢ []) v.items) }
     ensures count { IfOk result (λ v. length v.items ≡ length outers.now * length middles.now * length inners.now) }
 {

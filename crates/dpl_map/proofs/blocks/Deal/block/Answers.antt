@@ -14,4 +14,4 @@ returns c =
     simp to_z-of_z at c.between.ensures
     ∙ ap (λ b. filter (λ i. int_le b i && int_le i c.end.result) (members_of deal.range)) c.begin.ensures.begin
     ∙ ap (λ e. filter (λ i. int_le (deal.origin +ℤ pos (c.args.number * deal.size)) i && int_le i e) (members_of deal.range)) c.end.ensures
-    ∙ between-members deal.range deal.origin deal.size deal.extent deal.coordinate c.requires.deal c.args.number
+    ∙ between-members deal.range deal.origin deal.size deal.extent deal.coordinate c.args.self.now.deal c.args.number

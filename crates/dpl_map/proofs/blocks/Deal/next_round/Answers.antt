@@ -25,7 +25,7 @@ least-at : (c : In_ok-least) → members_of c.between-left.result ≡ filter (λ
 least-at c left =
     let deal = c.args.self.now in
     All-contains (λ i. (c.args.round * deal.extent + deal.coordinate ≤ block_number deal.origin deal.size i) × (deal.range.low ≤ℤ i) × (i ≤ℤ deal.range.high)) (members_of c.between-left.result) c.in_ok-least.least
-    (left-members deal.range deal.origin deal.size deal.extent deal.coordinate c.requires.deal c.args.round (members_of c.between-left.result) left)
+    (left-members deal.range deal.origin deal.size deal.extent deal.coordinate c.args.self.now.deal c.args.round (members_of c.between-left.result) left)
     c.in_ok-least.ensures.member
 
 -- the number of its block
@@ -38,7 +38,7 @@ pub returns-in_err-least-clause-none : goal.returns-in_err-least-clause-none
 returns-in_err-least-clause-none c =
     let deal = c.args.self.now in
     λ _.
-    left-none deal.range deal.origin deal.size deal.extent deal.coordinate c.requires.deal c.args.round (members_of c.between-left.result) (left-is (goal.at.returns-in_err-least-clause-none c).After-between-left)
+    left-none deal.range deal.origin deal.size deal.extent deal.coordinate c.args.self.now.deal c.args.round (members_of c.between-left.result) (left-is (goal.at.returns-in_err-least-clause-none c).After-between-left)
     (c.in_err-least.ensures.empty.0 refl)
 
 pub number-requires-clause-low : goal.number-requires-clause-low
@@ -58,19 +58,19 @@ returns-then-last-found-clause-none c =
     let beyond : block_number deal.origin deal.size deal.range.high < (block_number deal.origin deal.size c.in_ok-least.least + (deal.extent - 1 - deal.coordinate)) / deal.extent * deal.extent + deal.coordinate =
     subst (λ (b : ℕ). block_number deal.origin deal.size deal.range.high < (b + (deal.extent - 1 - deal.coordinate)) / deal.extent * deal.extent + deal.coordinate) number (omega (arith, c.if-last-found.true, c.last.ensures.number)) in
     λ _.
-    left-past deal.range deal.origin deal.size deal.extent deal.coordinate c.requires.deal c.args.round (members_of c.between-left.result) (left-is (goal.at.returns-then-last-found-clause-none c).After-between-left)
+    left-past deal.range deal.origin deal.size deal.extent deal.coordinate c.args.self.now.deal c.args.round (members_of c.between-left.result) (left-is (goal.at.returns-then-last-found-clause-none c).After-between-left)
     c.in_ok-least.least c.in_ok-least.ensures.least beyond
 
 pub returns-clause-later : goal.returns-clause-later
 returns-clause-later c =
     let deal = c.args.self.now in
     let at = least-at (goal.at.returns-clause-later c).In_ok-least (left-is (goal.at.returns-clause-later c).After-between-left) in
-    le-found deal.extent deal.coordinate c.number.result c.args.round c.requires.deal.among (omega (arith, at.0, number-is (goal.at.returns-clause-later c).After-number))
+    le-found deal.extent deal.coordinate c.number.result c.args.round c.args.self.now.deal.among (omega (arith, at.0, number-is (goal.at.returns-clause-later c).After-number))
 
 pub returns-clause-passed : goal.returns-clause-passed
 returns-clause-passed c =
     let deal = c.args.self.now in
     let number = number-is (goal.at.returns-clause-passed c).After-number in
     rw number
-    (left-passed deal.range deal.origin deal.size deal.extent deal.coordinate c.requires.deal c.args.round (members_of c.between-left.result) (left-is (goal.at.returns-clause-passed c).After-between-left)
+    (left-passed deal.range deal.origin deal.size deal.extent deal.coordinate c.args.self.now.deal c.args.round (members_of c.between-left.result) (left-is (goal.at.returns-clause-passed c).After-between-left)
     c.in_ok-least.least c.in_ok-least.ensures.least)

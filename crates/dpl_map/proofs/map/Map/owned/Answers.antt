@@ -1,21 +1,24 @@
 -- The place's coordinates, and what is owned by it.
-use Rattle.std.proofs.Common.{◌≡◌, ◌≢◌, ◌≤◌, ◌<◌, ◌*◌, ◌/◌, ◌%◌, ap, sym, subst, ◌∙◌, arith, length, ℕ, ℤ, List, [], All, IfOk}
+use Rattle.std.proofs.Common.{◌≡◌, ◌≢◌, ◌≤◌, ◌<◌, ◌*◌, ◌/◌, ◌%◌, ap, sym, subst, ◌∙◌, arith, length, ℕ, ℤ, List, [], All, IfOk, inr}
 use Rattle.dpl_range.specs.Range.{RangeValue, members_of}
 use Rattle.dpl_domain.specs.Indices.{tuples, indices}
 use Rattle.dpl_domain.specs.Ranks.{last_of}
 use Rattle.dpl_map.specs.Counts.{AreFewRanges, AreFew}
-use Rattle.dpl_map.specs.Cuts.{AreCut}
+use Rattle.dpl_map.specs.Cuts.{AreCut, AreSorted}
+use Rattle.dpl_map.specs.declared.find.Order.{Order}
+use Rattle.dpl_map.specs.Orders.{rule_key, keys, IsBefore, AreListed, AreProducts, ArePart}
+use Rattle.dpl_map.proofs.OrderLemmas.{keys-last_of, same-length, rows}
 use Rattle.dpl_map.specs.MapFields.{IsMap}
 use Rattle.dpl_map.specs.Maps.{AxisValue, locales, AreSingle}
-use Rattle.dpl_map.specs.Parts.{part}
+use Rattle.dpl_map.specs.Parts.{part, owned_of}
 use Rattle.dpl_map.proofs.OwnerLemmas.{locales-padded}
-use Rattle.dpl_map.proofs.PartLemmas.{IsSeat, seat, owned_of, tuples-part, part-small}
+use Rattle.dpl_map.proofs.PartLemmas.{IsSeat, seat, tuples-part, part-small}
 use Rattle.dpl_map.proofs.ProductCuts.{length-product}
 use Rattle.dpl_map.proofs.MapLemmas.{AreSingle-last_of, one-unused, one-single, one-product}
-use Rattle.dpl_map.proofs.FewLemmas.{FewEach, FewEach-last_of, AreFew-tuples, All-axes}
+use Rattle.dpl_map.proofs.FewLemmas.{IfOk-both, FewEach, FewEach-last_of, AreFew-tuples, All-axes}
 use Rattle.std.proofs.lemmas.Result.{IfOk-weaker}
 use Rattle.dpl_map.proofs.map.Map.owned.Goals as goal
-use Rattle.dpl_map.proofs.map.Map.owned.Goals.{After-deref-3}
+use Rattle.dpl_map.proofs.map.Map.owned.Goals.{After-deref-3, After-products}
 
 seated : (axes : List AxisValue) (locale rank : ℕ) (o m i : AxisValue) → axes ≡ last_of rank o m i → IsMap rank o m i → locale < locales axes → IsSeat locale o.extent m.extent i.extent (locale / i.extent / m.extent) (locale / i.extent % m.extent) (locale % i.extent)
 seated axes locale rank o m i is limits below =
@@ -40,20 +43,29 @@ abbrev column : After-deref-3 → ℕ
 column c = c.args.locale % c.axes-outer.result.2.extent
 
 -- the three dimensions are cut out of what the locale owns of them
-outer-cut : (c : After-deref-3) → AreCut members_of (owned_of c.axes-outer.result.0 (plane c) c.padded-first.result.0) c.deref.result.now
-outer-cut c =
+outer-listed : (c : After-deref-3) → AreListed c.axes-outer.result.0.rule (owned_of c.axes-outer.result.0 (plane c) c.padded-first.result.0) c.deref.result.now
+outer-listed c =
     let cut = rw (c.extent.ensures.extent, c.extent-2.ensures.extent) at c.in_ok-outers.ensures.cut in
-    subst (λ ranges. AreCut members_of (owned_of c.axes-outer.result.0 (plane c) c.padded-first.result.0) ranges) (sym c.deref.ensures.value) cut
+    subst (λ (ranges : List RangeValue). AreListed c.axes-outer.result.0.rule (owned_of c.axes-outer.result.0 (plane c) c.padded-first.result.0) ranges) (sym c.deref.ensures.value) cut
+
+outer-cut : (c : After-deref-3) → AreCut members_of (owned_of c.axes-outer.result.0 (plane c) c.padded-first.result.0) c.deref.result.now
+outer-cut c = (outer-listed c).1.cut
+
+middle-listed : (c : After-deref-3) → AreListed c.axes-outer.result.1.rule (owned_of c.axes-outer.result.1 (row c) c.padded-first.result.1) c.deref-2.result.now
+middle-listed c =
+    let cut = rw (c.extent.ensures.extent, c.extent-3.ensures.extent) at c.in_ok-middles.ensures.cut in
+    subst (λ (ranges : List RangeValue). AreListed c.axes-outer.result.1.rule (owned_of c.axes-outer.result.1 (row c) c.padded-first.result.1) ranges) (sym c.deref-2.ensures.value) cut
 
 middle-cut : (c : After-deref-3) → AreCut members_of (owned_of c.axes-outer.result.1 (row c) c.padded-first.result.1) c.deref-2.result.now
-middle-cut c =
-    let cut = rw (c.extent.ensures.extent, c.extent-3.ensures.extent) at c.in_ok-middles.ensures.cut in
-    subst (λ ranges. AreCut members_of (owned_of c.axes-outer.result.1 (row c) c.padded-first.result.1) ranges) (sym c.deref-2.ensures.value) cut
+middle-cut c = (middle-listed c).1.cut
+
+inner-listed : (c : After-deref-3) → AreListed c.axes-outer.result.2.rule (owned_of c.axes-outer.result.2 (column c) c.padded-first.result.2) c.deref-3.result.now
+inner-listed c =
+    let cut = rw c.extent-4.ensures.extent at c.in_ok-inners.ensures.cut in
+    subst (λ (ranges : List RangeValue). AreListed c.axes-outer.result.2.rule (owned_of c.axes-outer.result.2 (column c) c.padded-first.result.2) ranges) (sym c.deref-3.ensures.value) cut
 
 inner-cut : (c : After-deref-3) → AreCut members_of (owned_of c.axes-outer.result.2 (column c) c.padded-first.result.2) c.deref-3.result.now
-inner-cut c =
-    let cut = rw c.extent-4.ensures.extent at c.in_ok-inners.ensures.cut in
-    subst (λ ranges. AreCut members_of (owned_of c.axes-outer.result.2 (column c) c.padded-first.result.2) ranges) (sym c.deref-3.ensures.value) cut
+inner-cut c = (inner-listed c).1.cut
 
 -- together their tuples are the part
 tuples-owned : (c : After-deref-3) → tuples (last_of c.rank.result (owned_of c.axes-outer.result.0 (plane c) c.padded-first.result.0) (owned_of c.axes-outer.result.1 (row c) c.padded-first.result.1) (owned_of c.axes-outer.result.2 (column c) c.padded-first.result.2)) ≡ part c.args.domain.now c.args.self.now c.args.locale
@@ -124,20 +136,59 @@ products-requires-clause-small c =
     (omega (arith, c.rank.ensures.limits.0, c.rank.ensures.rank)) (omega (arith, c.rank.ensures.limits.1, c.rank.ensures.rank)) a b k o m i o-at m-at i-at in
     omega (arith, few, ap length (tuples-owned d), part-small c.args.domain.now c.args.self.now c.args.locale, c.requires.small)
 
-pub returns-clause-cut : goal.returns-clause-cut
-returns-clause-cut c =
-    let d = (goal.at.returns-clause-cut c).After-deref-3 in
-    subst (λ ts. IfOk c.products.result (λ v. AreCut indices ts v.items)) (tuples-owned d)
-    (c.products.ensures.cut (owned_of c.axes-outer.result.0 (plane d) c.padded-first.result.0) (owned_of c.axes-outer.result.1 (row d) c.padded-first.result.1) (owned_of c.axes-outer.result.2 (column d) c.padded-first.result.2)
-    (outer-cut d) (middle-cut d) (inner-cut d))
-
 -- each range of a dimension has members, and so each product has an index
-pub returns-clause-some : goal.returns-clause-some
-returns-clause-some c =
+products-some : (c : After-products) → IfOk c.products.result (λ v. All (λ domain. indices domain ≢ []) v.items)
+products-some c =
     c.products.ensures.some
     (subst (All (λ r. members_of r ≢ [])) (sym c.deref.ensures.value) c.in_ok-outers.ensures.some)
     (subst (All (λ r. members_of r ≢ [])) (sym c.deref-2.ensures.value) c.in_ok-middles.ensures.some)
     (subst (All (λ r. members_of r ≢ [])) (sym c.deref-3.ensures.value) c.in_ok-inners.ensures.some)
+
+pub returns-clause-some : goal.returns-clause-some
+returns-clause-some c = products-some (goal.at.returns-clause-some c).After-products
+
+-- and what is made of them is cut row by row out of it
+cut-rows : (c : After-products) → IfOk c.products.result (λ v. (orders : List Order) × (length orders ≡ length c.args.self.now) × AreSorted indices (IsBefore (keys orders c.args.self.now)) (part c.args.domain.now c.args.self.now c.args.locale) v.items)
+cut-rows c =
+    let d = (goal.at.After-products c).After-deref-3 in
+    let n = length c.args.self.now in
+    let o = c.axes-outer.result.0 in
+    let m = c.axes-outer.result.1 in
+    let i = c.axes-outer.result.2 in
+    let first = outer-listed d in
+    let second = middle-listed d in
+    let third = inner-listed d in
+    let orders = last_of n first.0 second.0 third.0 in
+    let rank : c.rank.result ≡ n = c.rank.ensures.rank ∙ c.requires.rank in
+    let by : last_of c.rank.result (rule_key first.0 o.rule) (rule_key second.0 m.rule) (rule_key third.0 i.rule) ≡ keys orders c.args.self.now =
+    ap (λ (r : ℕ). last_of r (rule_key first.0 o.rule) (rule_key second.0 m.rule) (rule_key third.0 i.rule)) rank
+    ∙ keys-last_of n first.0 second.0 third.0 o m i
+    ∙ ap (λ (axes : List AxisValue). keys orders axes) (sym c.axes-outer.ensures.axes) in
+    let long : length orders ≡ length c.args.self.now = same-length n first.0 second.0 third.0 o m i ∙ ap length (sym c.axes-outer.ensures.axes) in
+    IfOk-weaker c.products.result (λ v. AreProducts c.rank.result c.deref.result.now c.deref-2.result.now c.deref-3.result.now v.items)
+    (λ v. (orders : List Order) × (length orders ≡ length c.args.self.now) × AreSorted indices (IsBefore (keys orders c.args.self.now)) (part c.args.domain.now c.args.self.now c.args.locale) v.items)
+    (λ v are.
+    let made =
+    are (rule_key first.0 o.rule) (rule_key second.0 m.rule) (rule_key third.0 i.rule)
+    (owned_of o (plane d) c.padded-first.result.0) (owned_of m (row d) c.padded-first.result.1) (owned_of i (column d) c.padded-first.result.2) first.1 second.1 third.1 in
+    let of_part = subst (λ (ts : List (List ℤ)). AreSorted indices (IsBefore (last_of c.rank.result (rule_key first.0 o.rule) (rule_key second.0 m.rule) (rule_key third.0 i.rule))) ts v.items) (tuples-owned d) made in
+    (orders, long, subst (λ (ks : List (ℤ → ℤ)). AreSorted indices (IsBefore ks) (part c.args.domain.now c.args.self.now c.args.locale) v.items) by of_part))
+    c.products.ensures.cut
+
+pub returns-clause-cut : goal.returns-clause-cut
+returns-clause-cut c =
+    IfOk-weaker c.products.result
+    (λ v. (orders : List Order) × (length orders ≡ length c.args.self.now) × AreSorted indices (IsBefore (keys orders c.args.self.now)) (part c.args.domain.now c.args.self.now c.args.locale) v.items)
+    (λ v. AreCut indices (part c.args.domain.now c.args.self.now c.args.locale) v.items)
+    (λ v are. are.2.cut) (cut-rows (goal.at.returns-clause-cut c).After-products)
+
+pub returns-clause-rows : goal.returns-clause-rows
+returns-clause-rows c =
+    IfOk-weaker c.products.result
+    (λ v. ((orders : List Order) × (length orders ≡ length c.args.self.now) × AreSorted indices (IsBefore (keys orders c.args.self.now)) (part c.args.domain.now c.args.self.now c.args.locale) v.items) × All (λ domain. indices domain ≢ []) v.items)
+    (λ v. ArePart c.args.self.now v.items)
+    (λ v are. inr (are.0.0, are.0.1, rows are.0.0 c.args.self.now c.args.domain.now c.args.locale v.items c.requires.rank are.1 are.0.2))
+    (IfOk-both c.products.result _ _ (cut-rows (goal.at.returns-clause-rows c).After-products) (products-some (goal.at.returns-clause-rows c).After-products))
 
 pub returns-clause-one : goal.returns-clause-one
 returns-clause-one c =

@@ -1,5 +1,5 @@
 -- A domain that is empty or of another rank, and a locale that is no place.
-use Rattle.std.proofs.Common.{rules, ◌≡◌, ◌≢◌, [], ◌∷◌, ap, sym, ◌∙◌, arith, length}
+use Rattle.std.proofs.Common.{rules, inl, ◌≡◌, ◌≢◌, [], ◌∷◌, ap, sym, ◌∙◌, arith, length}
 use Rattle.std.proofs.lemmas.List.Elements.{All-nil, All-cons}
 use Rattle.dpl_domain.specs.Indices.{indices}
 use Rattle.dpl_map.specs.Parts.{part}
@@ -63,3 +63,13 @@ returns-clause-some c =
           let items : c.if-locale-eq0.domains.items ≡ [] = search rules in
           rw items (All-nil (λ domain. indices domain ≢ []))
     ]
+
+pub returns-then-locales-locale-clause-rows : goal.returns-then-locales-locale-clause-rows
+returns-then-locales-locale-clause-rows c = rw c.new.ensures.items (inl (omega arith))
+
+pub returns-clause-rows : goal.returns-clause-rows
+returns-clause-rows c =
+    inl (elim c.if-locale-eq0.branch [
+      | then-locale-eq0+in_ok-map_err w ↦ let items : c.if-locale-eq0.domains.items ≡ c.args.domain.now ∷ [] = search rules in rw items (omega arith)
+      | else-locale-eq0 w ↦ let items : c.if-locale-eq0.domains.items ≡ [] = search rules in rw items (omega arith)
+    ])
