@@ -19,4 +19,6 @@ pub mod LawLemmas
 pub mod ProductCuts
 pub mod OrderLemmas
 pub mod FindLemmas
+pub mod OnceLemmas
+pub mod SizeLemmas
 pub mod MapLemmas

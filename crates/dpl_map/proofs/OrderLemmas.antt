@@ -1,5 +1,5 @@
 -- The domains of a part stand row by row.
-use Rattle.std.proofs.Common.{◌≡◌, ◌≢◌, ◌<◌, ◌==◌, ◌↔◌, ℕ, zero, suc, List, [], ◌∷◌, ℤ, map, filter, length, slice_get, Some, All, Contains, IfSome, refl, ap, sym, subst, ◌∙◌, arith, eqb-true}
+use Rattle.std.proofs.Common.{◌≡◌, ◌≢◌, ◌==◌, ℕ, zero, suc, List, [], ◌∷◌, ℤ, map, filter, length, slice_get, Some, All, Contains, IfSome, refl, sym, subst, ◌∙◌, arith, eqb-true}
 use Rattle.std.proofs.lemmas.List.{length-map}
 use Rattle.dpl_range.specs.Range.{RangeValue, members_of}
 use Rattle.dpl_range.proofs.Ends.{Contains-slice_get, slice_get-Contains}

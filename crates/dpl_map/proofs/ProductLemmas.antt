@@ -1,5 +1,5 @@
 -- Products of lists, and so the indices of a domain.
-use Rattle.std.proofs.Common.{◌≡◌, ℕ, zero, suc, List, [], ◌∷◌, length, refl, ap, sym, ◌∙◌, arith, ℤ, pos, map, flat_map, slice_get, unwrap_or}
+use Rattle.std.proofs.Common.{◌≡◌, ℕ, zero, suc, List, [], ◌∷◌, refl, ap, sym, ◌∙◌, arith, ℤ, pos, map, flat_map}
 use Rattle.dpl_range.specs.Members.{members}
 use Rattle.dpl_range.specs.Range.{RangeValue, members_of}
 use Rattle.dpl_domain.specs.Indices.{tuples, indices}
@@ -46,26 +46,3 @@ outer-some (suc zero) o m i padded some empty = point-some o (padded.first (omeg
 outer-some (suc (suc zero)) o m i padded some empty = point-some o (padded.first (omega arith)) empty
 outer-some (suc (suc (suc zero))) o m i padded some empty = some (tuples-empty_first (members_of o) (members_of m ∷ members_of i ∷ []) empty)
 outer-some (suc (suc (suc (suc n)))) o m i padded some empty = absurd (omega (arith, padded.to_three))
-
--- the element at a place, or the point
-abbrev at : List RangeValue → ℕ → RangeValue
-at rs k = unwrap_or (slice_get rs k) point
-
--- a list of one, two or three ranges by its elements
-pub one-range : (rs : List RangeValue) → length rs ≡ 1 → rs ≡ last_of (length rs) point point (at rs 0)
-one-range (r ∷ []) is = refl
-one-range [] is = absurd (omega arith)
-one-range (r ∷ s ∷ rs) is = absurd (omega arith)
-
-pub two-ranges : (rs : List RangeValue) → length rs ≡ 2 → rs ≡ last_of (length rs) point (at rs 0) (at rs 1)
-two-ranges (r ∷ s ∷ []) is = refl
-two-ranges [] is = absurd (omega arith)
-two-ranges (r ∷ []) is = absurd (omega arith)
-two-ranges (r ∷ s ∷ t ∷ rs) is = absurd (omega arith)
-
-pub three-ranges : (rs : List RangeValue) → length rs ≡ 3 → rs ≡ last_of (length rs) (at rs 0) (at rs 1) (at rs 2)
-three-ranges (r ∷ s ∷ t ∷ []) is = refl
-three-ranges [] is = absurd (omega arith)
-three-ranges (r ∷ []) is = absurd (omega arith)
-three-ranges (r ∷ s ∷ []) is = absurd (omega arith)
-three-ranges (r ∷ s ∷ t ∷ u ∷ rs) is = absurd (omega arith)

@@ -1,7 +1,7 @@
 -- How many values a function has on a list: what a list that has them all is no shorter than.
-use Rattle.std.proofs.Common.{◌≡◌, ◌⊎◌, ◌<◌, ◌≤◌, ◌+◌, ◌-◌, ◌==◌, ℕ, zero, suc, Bool, true, false, cond, not, List, [], ◌∷◌, filter, map, length, All, AllPairs, Contains, get_or, inl, inr, nat_lt, refl, ap, sym, subst, ◌∙◌, arith, ⊎_elim, eqb-true}
+use Rattle.std.proofs.Common.{◌≡◌, ◌<◌, ◌≤◌, ◌+◌, ◌-◌, ◌==◌, ℕ, zero, suc, Bool, true, false, cond, not, List, [], ◌∷◌, filter, map, length, All, AllPairs, Contains, nat_lt, ap, sym, subst, ◌∙◌, arith, ⊎_elim, eqb-true}
 use Rattle.std.proofs.lemmas.List.{length-map}
-use Rattle.std.proofs.lemmas.List.Elements.{All-head, All-tail, All-weaker, All-contains, Contains-get_or, Contains-append_right}
+use Rattle.std.proofs.lemmas.List.Elements.{All-head, All-tail, All-weaker, All-contains}
 use Rattle.dpl_domain.proofs.PlaceLemmas.{length-filter_le}
 use Rattle.dpl_map.specs.Cuts.{behind}
 use Rattle.dpl_map.specs.Counts.{IsWithinValues}

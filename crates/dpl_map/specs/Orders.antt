@@ -1,5 +1,5 @@
 -- In what order the domains of a part stand.
-use Rattle.std.specs.Prelude.{◌≡◌, ◌⊎◌, ◌↔◌, ◌≤◌, ◌<◌, ◌≢◌, ◌*◌, ℕ, List, [], ◌∷◌, ℤ, pos, ◌-ℤ◌, ◌<ℤ◌, length, slice_get, Some, All}
+use Rattle.std.specs.Prelude.{◌≡◌, ◌⊎◌, ◌↔◌, ◌≤◌, ◌<◌, ◌≢◌, ℕ, List, [], ◌∷◌, ℤ, pos, ◌-ℤ◌, ◌<ℤ◌, length, slice_get, Some, All}
 use Rattle.std.specs.Int.{int_rem_euclid}
 use Rattle.dpl_range.specs.Range.{RangeValue, members_of}
 use Rattle.dpl_domain.specs.Indices.{tuples, indices}
@@ -52,6 +52,10 @@ AreProducts rank outers middles inners domains =
 -- the j-th index of the k-th domain is a tuple
 abbrev pub IsAt : List (List RangeValue) → ℕ → ℕ → List ℤ → Type 0
 IsAt domains k j t = (domain : List RangeValue) × (slice_get domains k ≡ Some domain) × (slice_get (indices domain) j ≡ Some t)
+
+-- a tuple stands in one of the domains alone
+abbrev pub StandsInOne : List (List RangeValue) → List ℤ → Type 0
+StandsInOne domains t = (k : ℕ) × ((j : ℕ) × IsAt domains k j t) × ((l : ℕ) → (j : ℕ) × IsAt domains l j t → l ≡ k)
 
 -- Domains of a map's rank stand row by row, in an order of each dimension: one stands before another where its indices come
 -- before those of the other. Each has an index.

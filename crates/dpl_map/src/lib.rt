@@ -3,7 +3,6 @@
 
 mod axis;
 mod blocks;
-mod dimensions;
 mod find;
 mod grid;
 mod map;

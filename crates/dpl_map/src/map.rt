@@ -1,9 +1,10 @@
 // Maps: who owns an index.
 
-ghost use Rattle.std.specs.Prelude.{◌≡◌, ◌≢◌, ◌*◌, ◌≤◌, ◌<◌, ◌↔◌, List, [], ℕ, ℤ, pos, Contains, length, All, IsTrue, IsOk, IfOk};
+ghost use Rattle.std.specs.Prelude.{◌≡◌, ◌≢◌, ◌*◌, ◌≤◌, ◌<◌, ◌↔◌, List, [], ℕ, ℤ, pos, Contains, slice_get, Some, length, All, IsTrue, IsOk, IfOk};
 ghost use Rattle.dpl_domain.specs.Indices.{indices, IsRank};
 ghost use Rattle.dpl_domain.specs.Ranks.{last_of, IsPadded};
 ghost use Rattle.dpl_range.specs.Range.{RangeValue, IsBound};
+ghost use Rattle.dpl_range.specs.Invariant.{IsRange};
 ghost use Rattle.dpl_map.specs.AxisFields.{IsAxis};
 ghost use Rattle.dpl_map.specs.MapFields.{IsMap};
 ghost use Rattle.dpl_map.specs.Maps.{owner, locales, whole_map, cyclic_map, block_cyclic_map, IsBlocksize, IsBlockMap};
@@ -11,7 +12,6 @@ ghost use Rattle.dpl_map.specs.Parts.{part};
 
 use crate::Grid;
 use crate::axis::Axis;
-use crate::dimensions::padded;
 use dpl_domain::{Domain, Index};
 use dpl_range::LIMIT;
 use std::marker::Model;
@@ -91,7 +91,7 @@ impl Map {
             return Err(MapFault::Rank);
         }
         let (outer, middle, inner) = grid.extents();
-        let (first, second, last) = padded(domain);
+        let (first, second, last) = domain.ranges();
         Ok(Map::of(
             domain.rank(),
             Axis::boxed(&first, outer),
@@ -204,6 +204,7 @@ impl Map {
         ensures owners { (t : List ℤ) → owner self.now t < result }
         ensures apart { (ranges : List RangeValue) (t : List ℤ) (j k : ℕ) → Contains (part ranges self.now j) t → Contains (part ranges self.now k) t → j ≡ k }
         ensures together { (ranges : List RangeValue) (t : List ℤ) → Contains (indices ranges) t → (k : ℕ) × (k < result) × Contains (part ranges self.now k) t }
+        ensures once { (ranges : List RangeValue) (j k : ℕ) (t : List ℤ) → All IsRange ranges → slice_get (indices ranges) j ≡ Some t → slice_get (indices ranges) k ≡ Some t → j ≡ k }
         ensures most { result ≤ 64 }
         ensures limits { All IsAxis self.now }
     {

@@ -1,15 +1,15 @@
 // A locale's part of a domain in closed form: no call walks the domain.
 
 ghost use Rattle.std.specs.Prelude.{◌≡◌, ◌≢◌, ◌≤◌, ◌<◌, ◌*◌, ◌+◌, [], length, All, IfOk, IfSome, IfNone, OnErr};
+ghost use Rattle.std.specs.List.{sum_by};
 ghost use Rattle.dpl_domain.specs.Indices.{indices, IsSmall};
 ghost use Rattle.dpl_map.specs.Maps.{locales, AreSingle};
 ghost use Rattle.dpl_map.specs.Counts.{AreFew};
 ghost use Rattle.dpl_map.specs.Cuts.{AreCut};
-ghost use Rattle.dpl_map.specs.Orders.{ArePart};
+ghost use Rattle.dpl_map.specs.Orders.{ArePart, StandsInOne};
 ghost use Rattle.dpl_map.specs.Parts.{part};
 
 use crate::Map;
-use crate::dimensions::padded;
 use crate::products::products;
 use dpl_domain::Domain;
 use std::alloc::{AllocError, Global};
@@ -40,6 +40,8 @@ impl Map {
         ensures few { IfOk result (λ domains. AreFew self.now (part domain.now self.now locale) (length domains.items)) }
         ensures other { length domain.now ≢ length self.now → IfOk result (λ domains. length domains.items ≤ 1) }
         ensures rows { IfOk result (λ domains. ArePart self.now domains.items) }
+        ensures apart { IfOk result (λ domains. All (StandsInOne domains.items) (part domain.now self.now locale)) }
+        ensures sizes { IfOk result (λ domains. sum_by (λ d. length (indices d)) domains.items ≡ length (part domain.now self.now locale)) }
         ensures none { IfOk result (λ domains. locales self.now ≤ locale → domains.items ≡ []) }
     {
         if self.locales() <= locale || domain.size() == 0 {
@@ -67,7 +69,7 @@ impl Map {
         ensures rows { IfOk result (λ domains. ArePart self.now domains.items) }
     {
         let (outer, middle, inner) = self.axes();
-        let (first, second, last) = padded(domain);
+        let (first, second, last) = domain.ranges();
         let row = locale / inner.extent();
         let outers = outer.parts(alloc, &first, row / middle.extent())?;
         let middles = middle.parts(alloc, &second, row % middle.extent())?;

@@ -6,7 +6,6 @@ ghost use Rattle.dpl_domain.specs.Indices.{tuples, indices, IsSmall};
 ghost use Rattle.dpl_domain.specs.Ranks.{last_of};
 ghost use Rattle.dpl_map.specs.Orders.{AreProducts};
 
-use crate::dimensions::product;
 use dpl_domain::Domain;
 use dpl_range::Range;
 use std::alloc::{AllocError, Global};
@@ -36,7 +35,7 @@ pub fn products(
     let count = count_of(outers.len(), rows, row)?;
     let mut domains = Vec::with_capacity(alloc, count)?;
     for k in 0..count {
-        let domain = product(
+        let domain = Domain::last_of(
             rank,
             outers[k / row / rows],
             middles[k / row % rows],

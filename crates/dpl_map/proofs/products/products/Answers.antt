@@ -45,9 +45,9 @@ middle-at c = slice_get-get_or c.args.middles.now _ c.index-middles-k.result (se
 inner-at : (c : After-index-inners-k) → slice_get c.args.inners.now (c.loop-k.k % length c.args.inners.now) ≡ Some c.index-inners-k.result
 inner-at c = slice_get-get_or c.args.inners.now _ c.index-inners-k.result (seated (goal.at.After-index-inners-k c).In-loop-k).inner ∙ ap Some (sym c.index-inners-k.is)
 
-pub product-domain-requires-clause-small : goal.product-domain-requires-clause-small
-product-domain-requires-clause-small c =
-    let d = (goal.at.product-domain-requires-clause-small c).After-index-inners-k in
+pub last_of-domain-requires-clause-small : goal.last_of-domain-requires-clause-small
+last_of-domain-requires-clause-small c =
+    let d = (goal.at.last_of-domain-requires-clause-small c).After-index-inners-k in
     c.requires.small _ _ _ c.index-outers-k.result c.index-middles-k.result c.index-inners-k.result (outer-at d) (middle-at d) (inner-at d)
 
 pub loop-k-preserved : goal.loop-k-preserved
@@ -60,17 +60,17 @@ loop-k-preserved c =
     rw c.in_ok-push.ensures.items (
       (λ xs ys zs first second third.
           let num = number-at xs ys zs c.args.outers.now c.args.middles.now c.args.inners.now first second third c.args.rank in
-          let lists : indices c.product-domain.result ≡ filter (λ t. num t == k) (tuples (last_of c.args.rank xs ys zs)) =
-          ap indices c.product-domain.ensures
+          let lists : indices c.last_of-domain.result ≡ filter (λ t. num t == k) (tuples (last_of c.args.rank xs ys zs)) =
+          ap indices c.last_of-domain.ensures
           ∙ product-listed xs ys zs c.args.outers.now c.args.middles.now c.args.inners.now first second third (k / n / m) (k / n % m) (k % n)
           c.index-outers-k.result c.index-middles-k.result c.index-inners-k.result (outer-at d) (middle-at d) (inner-at d)
           c.args.rank c.requires.one_outer c.requires.one_middle c.requires.from_one c.requires.to_three
           ∙ ap (λ j. filter (λ t. num t == j) (tuples (last_of c.args.rank xs ys zs))) s.number in
-          AreSorted-more indices num (tuples (last_of c.args.rank xs ys zs)) c.loop-k.domains.items k c.product-domain.result (c.loop-k.invariant.0 xs ys zs first second third) lists),
-      omega (arith, c.loop-k.invariant.1, length-push c.loop-k.domains.items c.product-domain.result),
+          AreSorted-more indices num (tuples (last_of c.args.rank xs ys zs)) c.loop-k.domains.items k c.last_of-domain.result (c.loop-k.invariant.0 xs ys zs first second third) lists),
+      omega (arith, c.loop-k.invariant.1, length-push c.loop-k.domains.items c.last_of-domain.result),
       (λ outers middles inners.
-          All-push (λ domain. indices domain ≢ []) c.loop-k.domains.items c.product-domain.result (c.loop-k.invariant.2 outers middles inners)
-          (rw c.product-domain.ensures
+          All-push (λ domain. indices domain ≢ []) c.loop-k.domains.items c.last_of-domain.result (c.loop-k.invariant.2 outers middles inners)
+          (rw c.last_of-domain.ensures
           (indices-some c.args.rank c.index-outers-k.result c.index-middles-k.result c.index-inners-k.result
           (All-slice_get (λ r. members_of r ≢ []) c.args.outers.now (k / n / m) c.index-outers-k.result outers (outer-at d))
           (All-slice_get (λ r. members_of r ≢ []) c.args.middles.now (k / n % m) c.index-middles-k.result middles (middle-at d))

@@ -1,5 +1,5 @@
 -- One range is a cut of its own members, and so is none of nothing.
-use Rattle.std.proofs.Common.{rules, arith, ◌<ℤ◌, ◌≡◌, ◌≢◌, [], ◌==◌, ℤ, List, ap, subst, refl, filter, length, ◌∙◌, FitsSigned, w64}
+use Rattle.std.proofs.Common.{rules, arith, ◌<ℤ◌, ◌≡◌, ◌≢◌, [], ℤ, List, ap, subst, refl, length, ◌∙◌, FitsSigned, w64}
 use Rattle.std.proofs.lemmas.Int.{ints, to_z-of_z}
 use Rattle.std.proofs.lemmas.List.Elements.{All-nil}
 use Rattle.dpl_range.specs.Range.{RangeValue, members_of}

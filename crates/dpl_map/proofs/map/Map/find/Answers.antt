@@ -1,10 +1,10 @@
 -- One domain is asked itself; of more, each order is tried in which they may stand.
-use Rattle.std.proofs.Common.{◌≡◌, ◌≤◌, ◌<◌, ◌↔◌, ◌∙◌, ℕ, Some, None, length, refl, ap, sym, subst, arith, IfSome, IsNone}
+use Rattle.std.proofs.Common.{◌≡◌, ◌↔◌, ◌∙◌, ℕ, length, refl, sym, subst, arith, IfSome}
 use Rattle.std.proofs.lemmas.Option.{none-some, slice_get_within}
 use Rattle.dpl_domain.specs.Ranks.{last_of}
 use Rattle.dpl_map.specs.declared.find.Order.{Order}
 use Rattle.dpl_map.specs.declared.find.Order.TheVariants.{Blocks}
-use Rattle.dpl_map.specs.Orders.{IsAt, AreRowByRow, HasNone}
+use Rattle.dpl_map.specs.Orders.{IsAt, HasNone}
 use Rattle.dpl_map.proofs.SomeLemmas.{All-slice_get}
 use Rattle.dpl_map.proofs.OrderLemmas.{length-index}
 use Rattle.dpl_map.proofs.FindLemmas.{single-key, each-order, none-same, found-only, none-only, either-only, part-rows}

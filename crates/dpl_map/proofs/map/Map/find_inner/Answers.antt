@@ -1,5 +1,5 @@
 -- The domain that the search stops at has the index, if any has.
-use Rattle.std.proofs.Common.{◌≡◌, ◌↔◌, ℕ, Some, refl, ap, sym, ◌∙◌}
+use Rattle.std.proofs.Common.{◌≡◌, ◌↔◌, ℕ, sym}
 use Rattle.dpl_map.specs.Orders.{IsAt}
 use Rattle.dpl_map.proofs.FindLemmas.{found-at, none-at, same-place}
 use Rattle.dpl_map.proofs.map.Map.find_inner.Goals as goal

@@ -43,62 +43,62 @@ abbrev column : After-deref-3 → ℕ
 column c = c.args.locale % c.axes-outer.result.2.extent
 
 -- the three dimensions are cut out of what the locale owns of them
-outer-listed : (c : After-deref-3) → AreListed c.axes-outer.result.0.rule (owned_of c.axes-outer.result.0 (plane c) c.padded-first.result.0) c.deref.result.now
+outer-listed : (c : After-deref-3) → AreListed c.axes-outer.result.0.rule (owned_of c.axes-outer.result.0 (plane c) c.ranges-first.result.0) c.deref.result.now
 outer-listed c =
     let cut = rw (c.extent.ensures.extent, c.extent-2.ensures.extent) at c.in_ok-outers.ensures.cut in
-    subst (λ (ranges : List RangeValue). AreListed c.axes-outer.result.0.rule (owned_of c.axes-outer.result.0 (plane c) c.padded-first.result.0) ranges) (sym c.deref.ensures.value) cut
+    subst (λ (ranges : List RangeValue). AreListed c.axes-outer.result.0.rule (owned_of c.axes-outer.result.0 (plane c) c.ranges-first.result.0) ranges) (sym c.deref.ensures.value) cut
 
-outer-cut : (c : After-deref-3) → AreCut members_of (owned_of c.axes-outer.result.0 (plane c) c.padded-first.result.0) c.deref.result.now
+outer-cut : (c : After-deref-3) → AreCut members_of (owned_of c.axes-outer.result.0 (plane c) c.ranges-first.result.0) c.deref.result.now
 outer-cut c = (outer-listed c).1.cut
 
-middle-listed : (c : After-deref-3) → AreListed c.axes-outer.result.1.rule (owned_of c.axes-outer.result.1 (row c) c.padded-first.result.1) c.deref-2.result.now
+middle-listed : (c : After-deref-3) → AreListed c.axes-outer.result.1.rule (owned_of c.axes-outer.result.1 (row c) c.ranges-first.result.1) c.deref-2.result.now
 middle-listed c =
     let cut = rw (c.extent.ensures.extent, c.extent-3.ensures.extent) at c.in_ok-middles.ensures.cut in
-    subst (λ (ranges : List RangeValue). AreListed c.axes-outer.result.1.rule (owned_of c.axes-outer.result.1 (row c) c.padded-first.result.1) ranges) (sym c.deref-2.ensures.value) cut
+    subst (λ (ranges : List RangeValue). AreListed c.axes-outer.result.1.rule (owned_of c.axes-outer.result.1 (row c) c.ranges-first.result.1) ranges) (sym c.deref-2.ensures.value) cut
 
-middle-cut : (c : After-deref-3) → AreCut members_of (owned_of c.axes-outer.result.1 (row c) c.padded-first.result.1) c.deref-2.result.now
+middle-cut : (c : After-deref-3) → AreCut members_of (owned_of c.axes-outer.result.1 (row c) c.ranges-first.result.1) c.deref-2.result.now
 middle-cut c = (middle-listed c).1.cut
 
-inner-listed : (c : After-deref-3) → AreListed c.axes-outer.result.2.rule (owned_of c.axes-outer.result.2 (column c) c.padded-first.result.2) c.deref-3.result.now
+inner-listed : (c : After-deref-3) → AreListed c.axes-outer.result.2.rule (owned_of c.axes-outer.result.2 (column c) c.ranges-first.result.2) c.deref-3.result.now
 inner-listed c =
     let cut = rw c.extent-4.ensures.extent at c.in_ok-inners.ensures.cut in
-    subst (λ (ranges : List RangeValue). AreListed c.axes-outer.result.2.rule (owned_of c.axes-outer.result.2 (column c) c.padded-first.result.2) ranges) (sym c.deref-3.ensures.value) cut
+    subst (λ (ranges : List RangeValue). AreListed c.axes-outer.result.2.rule (owned_of c.axes-outer.result.2 (column c) c.ranges-first.result.2) ranges) (sym c.deref-3.ensures.value) cut
 
-inner-cut : (c : After-deref-3) → AreCut members_of (owned_of c.axes-outer.result.2 (column c) c.padded-first.result.2) c.deref-3.result.now
+inner-cut : (c : After-deref-3) → AreCut members_of (owned_of c.axes-outer.result.2 (column c) c.ranges-first.result.2) c.deref-3.result.now
 inner-cut c = (inner-listed c).1.cut
 
 -- together their tuples are the part
-tuples-owned : (c : After-deref-3) → tuples (last_of c.rank.result (owned_of c.axes-outer.result.0 (plane c) c.padded-first.result.0) (owned_of c.axes-outer.result.1 (row c) c.padded-first.result.1) (owned_of c.axes-outer.result.2 (column c) c.padded-first.result.2)) ≡ part c.args.domain.now c.args.self.now c.args.locale
+tuples-owned : (c : After-deref-3) → tuples (last_of c.rank.result (owned_of c.axes-outer.result.0 (plane c) c.ranges-first.result.0) (owned_of c.axes-outer.result.1 (row c) c.ranges-first.result.1) (owned_of c.axes-outer.result.2 (column c) c.ranges-first.result.2)) ≡ part c.args.domain.now c.args.self.now c.args.locale
 tuples-owned c =
     let limits = c.axes-outer.ensures.limits in
     let s =
     seated c.args.self.now c.args.locale (length c.args.self.now) c.axes-outer.result.0 c.axes-outer.result.1 c.axes-outer.result.2
     c.axes-outer.ensures.axes limits c.requires.locale in
-    let domain = c.padded-first.ensures.ranges ∙ ap (λ (n : ℕ). last_of n c.padded-first.result.0 c.padded-first.result.1 c.padded-first.result.2) c.requires.rank in
+    let domain = c.ranges-first.ensures.ranges ∙ ap (λ (n : ℕ). last_of n c.ranges-first.result.0 c.ranges-first.result.1 c.ranges-first.result.2) c.requires.rank in
     let rank = c.rank.ensures.rank ∙ c.requires.rank in
     let some : 1 ≤ length c.args.self.now = omega (arith, c.rank.ensures.limits.0, c.requires.rank) in
-    ap (λ (n : ℕ). tuples (last_of n (owned_of c.axes-outer.result.0 (plane c) c.padded-first.result.0) (owned_of c.axes-outer.result.1 (row c) c.padded-first.result.1) (owned_of c.axes-outer.result.2 (column c) c.padded-first.result.2))) rank
+    ap (λ (n : ℕ). tuples (last_of n (owned_of c.axes-outer.result.0 (plane c) c.ranges-first.result.0) (owned_of c.axes-outer.result.1 (row c) c.ranges-first.result.1) (owned_of c.axes-outer.result.2 (column c) c.ranges-first.result.2))) rank
     ∙ tuples-part c.axes-outer.result.0 c.axes-outer.result.1 c.axes-outer.result.2 limits.outer_limits limits.middle_limits limits.inner_limits
     (plane c) (row c) (column c) c.args.locale s.outer s.middle s.inner s.number
-    c.padded-first.result.0 c.padded-first.result.1 c.padded-first.result.2 (length c.args.self.now) limits some
+    c.ranges-first.result.0 c.ranges-first.result.1 c.ranges-first.result.2 (length c.args.self.now) limits some
     ∙ sym (ap (λ (d : List RangeValue). part d (last_of (length c.args.self.now) c.axes-outer.result.0 c.axes-outer.result.1 c.axes-outer.result.2) c.args.locale) domain)
     ∙ sym (ap (λ (axes : List AxisValue). part c.args.domain.now axes c.args.locale) c.axes-outer.ensures.axes)
 
 -- and each is in few ranges
-outer-few : (c : After-deref-3) → AreFewRanges c.axes-outer.result.0.rule (owned_of c.axes-outer.result.0 (plane c) c.padded-first.result.0) (length c.deref.result.now)
+outer-few : (c : After-deref-3) → AreFewRanges c.axes-outer.result.0.rule (owned_of c.axes-outer.result.0 (plane c) c.ranges-first.result.0) (length c.deref.result.now)
 outer-few c =
     let few = rw (c.extent.ensures.extent, c.extent-2.ensures.extent) at c.in_ok-outers.ensures.few in
-    subst (λ (ranges : List RangeValue). AreFewRanges c.axes-outer.result.0.rule (owned_of c.axes-outer.result.0 (plane c) c.padded-first.result.0) (length ranges)) (sym c.deref.ensures.value) few
+    subst (λ (ranges : List RangeValue). AreFewRanges c.axes-outer.result.0.rule (owned_of c.axes-outer.result.0 (plane c) c.ranges-first.result.0) (length ranges)) (sym c.deref.ensures.value) few
 
-middle-few : (c : After-deref-3) → AreFewRanges c.axes-outer.result.1.rule (owned_of c.axes-outer.result.1 (row c) c.padded-first.result.1) (length c.deref-2.result.now)
+middle-few : (c : After-deref-3) → AreFewRanges c.axes-outer.result.1.rule (owned_of c.axes-outer.result.1 (row c) c.ranges-first.result.1) (length c.deref-2.result.now)
 middle-few c =
     let few = rw (c.extent.ensures.extent, c.extent-3.ensures.extent) at c.in_ok-middles.ensures.few in
-    subst (λ (ranges : List RangeValue). AreFewRanges c.axes-outer.result.1.rule (owned_of c.axes-outer.result.1 (row c) c.padded-first.result.1) (length ranges)) (sym c.deref-2.ensures.value) few
+    subst (λ (ranges : List RangeValue). AreFewRanges c.axes-outer.result.1.rule (owned_of c.axes-outer.result.1 (row c) c.ranges-first.result.1) (length ranges)) (sym c.deref-2.ensures.value) few
 
-inner-few : (c : After-deref-3) → AreFewRanges c.axes-outer.result.2.rule (owned_of c.axes-outer.result.2 (column c) c.padded-first.result.2) (length c.deref-3.result.now)
+inner-few : (c : After-deref-3) → AreFewRanges c.axes-outer.result.2.rule (owned_of c.axes-outer.result.2 (column c) c.ranges-first.result.2) (length c.deref-3.result.now)
 inner-few c =
     let few = rw c.extent-4.ensures.extent at c.in_ok-inners.ensures.few in
-    subst (λ (ranges : List RangeValue). AreFewRanges c.axes-outer.result.2.rule (owned_of c.axes-outer.result.2 (column c) c.padded-first.result.2) (length ranges)) (sym c.deref-3.ensures.value) few
+    subst (λ (ranges : List RangeValue). AreFewRanges c.axes-outer.result.2.rule (owned_of c.axes-outer.result.2 (column c) c.ranges-first.result.2) (length ranges)) (sym c.deref-3.ensures.value) few
 
 seat-of : (c : After-deref-3) → IsSeat c.args.locale c.axes-outer.result.0.extent c.axes-outer.result.1.extent c.axes-outer.result.2.extent (plane c) (row c) (column c)
 seat-of c =
@@ -109,15 +109,15 @@ seat-of c =
 one-outer : (c : After-deref-3) → c.rank.result < 3 → length c.deref.result.now ≡ 1
 one-outer c below =
     let limits = c.axes-outer.ensures.limits in
-    one-unused c.axes-outer.result.0 (plane c) c.padded-first.result.0 c.deref.result.now limits.outer_limits
-    (limits.first (omega (arith, below, c.rank.ensures.rank, c.requires.rank))) (c.padded-first.ensures.unused.first (omega (arith, below, c.rank.ensures.rank)))
+    one-unused c.axes-outer.result.0 (plane c) c.ranges-first.result.0 c.deref.result.now limits.outer_limits
+    (limits.first (omega (arith, below, c.rank.ensures.rank, c.requires.rank))) (c.ranges-first.ensures.unused.first (omega (arith, below, c.rank.ensures.rank)))
     (seat-of c).outer (outer-cut c) (outer-few c)
 
 one-middle : (c : After-deref-3) → c.rank.result < 2 → length c.deref-2.result.now ≡ 1
 one-middle c below =
     let limits = c.axes-outer.ensures.limits in
-    one-unused c.axes-outer.result.1 (row c) c.padded-first.result.1 c.deref-2.result.now limits.middle_limits
-    (limits.second (omega (arith, below, c.rank.ensures.rank, c.requires.rank))) (c.padded-first.ensures.unused.second (omega (arith, below, c.rank.ensures.rank)))
+    one-unused c.axes-outer.result.1 (row c) c.ranges-first.result.1 c.deref-2.result.now limits.middle_limits
+    (limits.second (omega (arith, below, c.rank.ensures.rank, c.requires.rank))) (c.ranges-first.ensures.unused.second (omega (arith, below, c.rank.ensures.rank)))
     (seat-of c).middle (middle-cut c) (middle-few c)
 
 pub products-requires-clause-one_outer : goal.products-requires-clause-one_outer
@@ -131,7 +131,7 @@ products-requires-clause-small c =
     let d = (goal.at.products-requires-clause-small c).After-deref-3 in
     λ a b k o m i o-at m-at i-at.
     let few =
-    length-product (owned_of c.axes-outer.result.0 (plane d) c.padded-first.result.0) (owned_of c.axes-outer.result.1 (row d) c.padded-first.result.1) (owned_of c.axes-outer.result.2 (column d) c.padded-first.result.2)
+    length-product (owned_of c.axes-outer.result.0 (plane d) c.ranges-first.result.0) (owned_of c.axes-outer.result.1 (row d) c.ranges-first.result.1) (owned_of c.axes-outer.result.2 (column d) c.ranges-first.result.2)
     c.deref.result.now c.deref-2.result.now c.deref-3.result.now (outer-cut d) (middle-cut d) (inner-cut d) c.rank.result (one-outer d) (one-middle d)
     (omega (arith, c.rank.ensures.limits.0, c.rank.ensures.rank)) (omega (arith, c.rank.ensures.limits.1, c.rank.ensures.rank)) a b k o m i o-at m-at i-at in
     omega (arith, few, ap length (tuples-owned d), part-small c.args.domain.now c.args.self.now c.args.locale, c.requires.small)
@@ -170,7 +170,7 @@ cut-rows c =
     (λ v are.
     let made =
     are (rule_key first.0 o.rule) (rule_key second.0 m.rule) (rule_key third.0 i.rule)
-    (owned_of o (plane d) c.padded-first.result.0) (owned_of m (row d) c.padded-first.result.1) (owned_of i (column d) c.padded-first.result.2) first.1 second.1 third.1 in
+    (owned_of o (plane d) c.ranges-first.result.0) (owned_of m (row d) c.ranges-first.result.1) (owned_of i (column d) c.ranges-first.result.2) first.1 second.1 third.1 in
     let of_part = subst (λ (ts : List (List ℤ)). AreSorted indices (IsBefore (last_of c.rank.result (rule_key first.0 o.rule) (rule_key second.0 m.rule) (rule_key third.0 i.rule))) ts v.items) (tuples-owned d) made in
     (orders, long, subst (λ (ks : List (ℤ → ℤ)). AreSorted indices (IsBefore ks) (part c.args.domain.now c.args.self.now c.args.locale) v.items) by of_part))
     c.products.ensures.cut
@@ -198,9 +198,9 @@ returns-clause-one c =
     let rules =
     AreSingle-last_of (length c.args.self.now) c.axes-outer.result.0 c.axes-outer.result.1 c.axes-outer.result.2 c.axes-outer.ensures.limits some
     (subst AreSingle c.axes-outer.ensures.axes single) in
-    let first = one-single c.axes-outer.result.0.rule (owned_of c.axes-outer.result.0 (plane d) c.padded-first.result.0) (length c.deref.result.now) rules.0 (outer-few d) in
-    let second = one-single c.axes-outer.result.1.rule (owned_of c.axes-outer.result.1 (row d) c.padded-first.result.1) (length c.deref-2.result.now) rules.1 (middle-few d) in
-    let third = one-single c.axes-outer.result.2.rule (owned_of c.axes-outer.result.2 (column d) c.padded-first.result.2) (length c.deref-3.result.now) rules.2 (inner-few d) in
+    let first = one-single c.axes-outer.result.0.rule (owned_of c.axes-outer.result.0 (plane d) c.ranges-first.result.0) (length c.deref.result.now) rules.0 (outer-few d) in
+    let second = one-single c.axes-outer.result.1.rule (owned_of c.axes-outer.result.1 (row d) c.ranges-first.result.1) (length c.deref-2.result.now) rules.1 (middle-few d) in
+    let third = one-single c.axes-outer.result.2.rule (owned_of c.axes-outer.result.2 (column d) c.ranges-first.result.2) (length c.deref-3.result.now) rules.2 (inner-few d) in
     let one = one-product (length c.deref.result.now) (length c.deref-2.result.now) (length c.deref-3.result.now) first second third in
     IfOk-weaker c.products.result (λ v. length v.items ≡ length c.deref.result.now * length c.deref-2.result.now * length c.deref-3.result.now) (λ v. length v.items ≤ 1)
     (λ v count. omega (arith, count, one)) c.products.ensures.count
@@ -210,12 +210,12 @@ pub returns-clause-few : goal.returns-clause-few
 returns-clause-few c =
     let d = (goal.at.returns-clause-few c).After-deref-3 in
     let axes = last_of (length c.args.self.now) c.axes-outer.result.0 c.axes-outer.result.1 c.axes-outer.result.2 in
-    let owned = last_of c.rank.result (owned_of c.axes-outer.result.0 (plane d) c.padded-first.result.0) (owned_of c.axes-outer.result.1 (row d) c.padded-first.result.1) (owned_of c.axes-outer.result.2 (column d) c.padded-first.result.2) in
+    let owned = last_of c.rank.result (owned_of c.axes-outer.result.0 (plane d) c.ranges-first.result.0) (owned_of c.axes-outer.result.1 (row d) c.ranges-first.result.1) (owned_of c.axes-outer.result.2 (column d) c.ranges-first.result.2) in
     let count = length c.deref.result.now * length c.deref-2.result.now * length c.deref-3.result.now in
     let rank : c.rank.result ≡ length c.args.self.now = c.rank.ensures.rank ∙ c.requires.rank in
     let each =
     FewEach-last_of c.rank.result c.axes-outer.result.0 c.axes-outer.result.1 c.axes-outer.result.2
-    (owned_of c.axes-outer.result.0 (plane d) c.padded-first.result.0) (owned_of c.axes-outer.result.1 (row d) c.padded-first.result.1) (owned_of c.axes-outer.result.2 (column d) c.padded-first.result.2)
+    (owned_of c.axes-outer.result.0 (plane d) c.ranges-first.result.0) (owned_of c.axes-outer.result.1 (row d) c.ranges-first.result.1) (owned_of c.axes-outer.result.2 (column d) c.ranges-first.result.2)
     (length c.deref.result.now) (length c.deref-2.result.now) (length c.deref-3.result.now)
     (omega (arith, c.rank.ensures.limits.0, c.rank.ensures.rank)) (omega (arith, c.rank.ensures.limits.1, c.rank.ensures.rank)) (one-outer d) (one-middle d) (outer-few d) (middle-few d) (inner-few d) in
     let ranked = subst (λ (n : ℕ). FewEach (last_of n c.axes-outer.result.0 c.axes-outer.result.1 c.axes-outer.result.2) owned count) rank each in

@@ -6,6 +6,7 @@ use Rattle.dpl_map.specs.Parts.{part}
 use Rattle.dpl_map.proofs.CutLemmas.{AreCut-none, AreCut-one}
 use Rattle.dpl_map.proofs.FewLemmas.{AreFew-none, AreFew-some}
 use Rattle.dpl_map.proofs.PartLemmas.{part-empty, part-unowned, part-other_first, part-other_rest}
+use Rattle.dpl_map.proofs.SizeLemmas.{sizes, in-one}
 use Rattle.dpl_map.proofs.map.Map.part.Goals as goal
 use Rattle.dpl_map.proofs.map.Map.part.Goals.{then-locales-locale-via-then-locales-locale, then-locales-locale-via-else-locales-locale+then-size-eq0, then-locale-eq0+in_ok-map_err, else-locale-eq0}
 
@@ -73,3 +74,22 @@ returns-clause-rows c =
       | then-locale-eq0+in_ok-map_err w ↦ let items : c.if-locale-eq0.domains.items ≡ c.args.domain.now ∷ [] = search rules in rw items (omega arith)
       | else-locale-eq0 w ↦ let items : c.if-locale-eq0.domains.items ≡ [] = search rules in rw items (omega arith)
     ])
+
+-- what is cut out of the part has its sizes, and each of its tuples in one domain
+pub returns-then-locales-locale-clause-apart : goal.returns-then-locales-locale-clause-apart
+returns-then-locales-locale-clause-apart c = in-one (part c.args.domain.now c.args.self.now c.args.locale) c.new.result.items (returns-then-locales-locale-clause-cut c)
+
+pub returns-then-locales-locale-clause-sizes : goal.returns-then-locales-locale-clause-sizes
+returns-then-locales-locale-clause-sizes c = sizes indices (part c.args.domain.now c.args.self.now c.args.locale) c.new.result.items (returns-then-locales-locale-clause-cut c)
+
+pub returns-clause-apart : goal.returns-clause-apart
+returns-clause-apart c = in-one (part c.args.domain.now c.args.self.now c.args.locale) c.if-locale-eq0.domains.items (returns-clause-cut c)
+
+pub returns-clause-sizes : goal.returns-clause-sizes
+returns-clause-sizes c = sizes indices (part c.args.domain.now c.args.self.now c.args.locale) c.if-locale-eq0.domains.items (returns-clause-cut c)
+
+pub returns-then-rank-clause-apart : goal.returns-then-rank-clause-apart
+returns-then-rank-clause-apart c = in-one (part c.args.domain.now c.args.self.now c.args.locale) c.in_ok-owned.field-0.items c.in_ok-owned.ensures.cut
+
+pub returns-then-rank-clause-sizes : goal.returns-then-rank-clause-sizes
+returns-then-rank-clause-sizes c = sizes indices (part c.args.domain.now c.args.self.now c.args.locale) c.in_ok-owned.field-0.items c.in_ok-owned.ensures.cut
