@@ -14,7 +14,8 @@ use Rattle.dpl_range.proofs.MemberLemmas.{member-within}
 use Rattle.dpl_map.specs.AxisFields.{IsAxis, IsRule}
 use Rattle.dpl_map.specs.Maps.{AxisValue, RuleValue, Block, Cyclic, BlockCyclic, axis_coordinate, rule_coordinate}
 use Rattle.dpl_map.specs.Places.{block_place, cyclic_place, block_cyclic_place}
-use Rattle.dpl_map.proofs.FilterLemmas.{filter-alike, eq-tests}
+use Rattle.dpl_range.proofs.Lists.{filter-alike}
+use Rattle.dpl_map.proofs.FilterLemmas.{eq-tests}
 use Rattle.dpl_map.proofs.PlaceLemmas.{block-below, block-above, block-at}
 
 -- a quotient is at least c where the dividend is at least c divisors

@@ -102,8 +102,7 @@ offset-same start origin i b n m some begins at = ⊎_elim after before begins.1
 pub rounds-less : (n p q c : ℕ) → 0 < n → p % n ≡ c → q % n ≡ c → (p / n < q / n) ↔ (p < q)
 rounds-less n p q c some first second =
     let p-is : p ≡ p / n * n + c = omega (arith, div-add-mod p n, mul_comm n (p / n), first) in
-    let q-is : q ≡ q / n * n + c = omega (arith, div-add-mod q n, mul_comm n (q / n), second) in
-    (
+    let q-is : q ≡ q / n * n + c = omega (arith, div-add-mod q n, mul_comm n (q / n), second) in (
       (λ less. let steps : (p / n + 1) * n ≤ q / n * n = mul-le-mul_right n (omega (arith, less)) in omega (arith, p-is, q-is, steps, add-mul (p / n) 1 n, some)),
       (λ less. ⊎_elim
           (λ (sooner : p / n < q / n). sooner)

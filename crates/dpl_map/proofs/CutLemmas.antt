@@ -47,7 +47,6 @@ module _ {X P : Type 0} (elements : P → List X) where
       listed zero = lists ∙ every xs
       listed (suc k) = tt
 
-
 -- cuts in an order
 module _ {X P : Type 0} (elements : P → List X) where
   -- nothing is cut out of nothing

@@ -13,7 +13,8 @@ use Rattle.dpl_range.specs.Congruence.{is_congruent}
 use Rattle.dpl_range.specs.Members.{count_of}
 use Rattle.dpl_range.specs.Range.{RangeValue, members_of}
 use Rattle.dpl_range.specs.Walk.{walked}
-use Rattle.dpl_range.proofs.MemberLemmas.{members-within, nth-walked}
+use Rattle.dpl_range.proofs.MemberLemmas.{count_of-natural, members-within, nth-walked}
+use Rattle.dpl_range.proofs.SliceLemmas.{passes, passed}
 use Rattle.dpl_map.specs.Places.{block_cyclic_place}
 use Rattle.dpl_map.specs.Cuts.{AreSorted, behind}
 use Rattle.dpl_map.specs.Orders.{AreSortedBy}
@@ -33,12 +34,7 @@ length-behind (x ∷ xs) p pieces = go pieces
     go [] = omega arith
     go (q ∷ ps) = let e = go ps in omega (arith, e)
 
--- a whole number that isn't negative is as many as it counts
-count_of-natural : (z : ℤ) → pos 0 ≤ℤ z → pos (count_of z) ≡ z
-count_of-natural (pos n) some = refl
-count_of-natural (negsuc n) some = absurd (omega (arith, ints, some))
-
--- and so much is its size
+-- the size of a whole number that is not negative
 pub size-natural : (z : ℤ) → pos 0 ≤ℤ z → unsigned_abs z ≡ count_of z
 size-natural (pos n) some = refl
 size-natural (negsuc n) some = absurd (omega (arith, ints, some))
@@ -49,13 +45,6 @@ count_of-le (pos m) (pos n) before = omega (arith, ints, before)
 count_of-le (pos m) (negsuc n) before = absurd (omega (arith, ints, before))
 count_of-le (negsuc m) (pos n) before = omega arith
 count_of-le (negsuc m) (negsuc n) before = omega arith
-
--- a test by two bounds
-pub passes : (from to i : ℤ) → from ≤ℤ i → i ≤ℤ to → (int_le from i && int_le i to) ≡ true
-passes from to i low high = grind (arith, ints)
-
-pub passed : (from to i : ℤ) → (int_le from i && int_le i to) ≡ true → (from ≤ℤ i) × (i ≤ℤ to)
-passed from to i held = (grind (arith, ints), grind (arith, ints))
 
 -- walks of which one goes some way past the other's end
 walked-apart : (low high stride : ℤ) (a b way : ℕ) → a + way ≤ b → ((walked low high stride a +ℤ pos way) ≤ℤ walked low high stride b) ⊎ ((walked low high stride b +ℤ pos way) ≤ℤ walked low high stride a)

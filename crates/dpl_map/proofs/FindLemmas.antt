@@ -9,7 +9,7 @@ use Rattle.dpl_map.specs.Maps.{RuleValue, Block, Cyclic, BlockCyclic, AxisValue,
 use Rattle.dpl_map.specs.declared.find.Order.{Order}
 use Rattle.dpl_map.specs.declared.find.Order.TheVariants.{Blocks, Offsets}
 use Rattle.dpl_map.specs.Orders.{three, rule_key, keys, IsBefore, IsAt, AreRowByRow, ArePart, HasNone}
-use Rattle.dpl_map.proofs.SomeLemmas.{All-slice_get}
+use Rattle.dpl_map.proofs.ListLemmas.{All-slice_get}
 use Rattle.dpl_map.proofs.OrderLemmas.{keys-last_of, first-some, length-index}
 
 -- a dimension in which two tuples agree says nothing of their order

@@ -19,6 +19,5 @@ pub mod LawLemmas
 pub mod ProductCuts
 pub mod OrderLemmas
 pub mod FindLemmas
-pub mod OnceLemmas
 pub mod SizeLemmas
 pub mod MapLemmas

@@ -1,6 +1,12 @@
 -- Lists: what a filter keeps, what a list has, and what stands where.
 use Rattle.std.proofs.Common.{◌≡◌, ◌⊎◌, ◌<◌, ◌+◌, ◌&&◌, ℕ, zero, suc, Bool, true, false, cond, List, [], ◌∷◌, ◌++◌, filter, map, length, slice_get, get_or, All, Contains, Some, None, inl, inr, refl, ap, sym, subst, ◌∙◌, arith, ⊎_elim}
 use Rattle.std.proofs.lemmas.List.Elements.{All-nil, All-cons, All-head, All-tail, All-contains, All-contains_itself, All-filter, filter_passes, Contains-get_or, Contains-append_right}
+use Rattle.std.proofs.lemmas.Option.{get_or_from_slice_get, slice_get_within}
+use Rattle.dpl_range.proofs.Lists.{filter-alike}
+
+-- what holds of each element holds of the one at a place
+pub All-slice_get : {X : Type 0} (P : X → Type 0) (xs : List X) (k : ℕ) (x : X) → All P xs → slice_get xs k ≡ Some x → P x
+All-slice_get P xs k x all found = subst P (get_or_from_slice_get xs k x x found) (all k x (slice_get_within xs k x found))
 
 -- a test is true or false
 pub tells : (b : Bool) → (b ≡ true) ⊎ (b ≡ false)
@@ -19,10 +25,7 @@ module _ {X : Type 0} where
 
   -- tests that agree on a list's elements keep the same ones
   pub filter-same : (p q : X → Bool) (xs : List X) → All (λ x. p x ≡ q x) xs → filter p xs ≡ filter q xs
-  filter-same p q [] same = refl
-  filter-same p q (x ∷ xs) same =
-      ap (λ b. cond b (x ∷ filter p xs) (filter p xs)) (All-head (λ y. p y ≡ q y) x xs same)
-      ∙ ap (λ ys. cond (q x) (x ∷ ys) ys) (filter-same p q xs (All-tail (λ y. p y ≡ q y) x xs same))
+  filter-same p q xs same = filter-alike p q xs (λ k x at. All-slice_get (λ y. p y ≡ q y) xs k x same at)
 
   pub All-each : (P : X → Type 0) → ((x : X) → P x) → (xs : List X) → All P xs
   All-each P each [] = All-nil P
@@ -140,4 +143,3 @@ slice_get-push_past (q ∷ ps) p (suc k) past = slice_get-push_past ps p k (omeg
 pub length-push : {P : Type 0} (ps : List P) (p : P) → length (ps ++ p ∷ []) ≡ length ps + 1
 length-push [] p = refl
 length-push (q ∷ ps) p = let e = length-push ps p in omega (arith, e)
-

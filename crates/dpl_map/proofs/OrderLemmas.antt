@@ -10,9 +10,8 @@ use Rattle.dpl_map.specs.Parts.{part}
 use Rattle.dpl_map.specs.Cuts.{AreCut, AreSorted}
 use Rattle.dpl_map.specs.declared.find.Order.{Order}
 use Rattle.dpl_map.specs.Orders.{rule_key, keys, IsBefore, IsAt, AreRowByRow}
-use Rattle.dpl_map.proofs.ListLemmas.{All-members, Contains-filter_parts}
+use Rattle.dpl_map.proofs.ListLemmas.{All-members, All-slice_get, Contains-filter_parts}
 use Rattle.dpl_map.proofs.PartLemmas.{each-at, each-length}
-use Rattle.dpl_map.proofs.SomeLemmas.{All-slice_get}
 
 -- the keys of three axes, of which a map has the last ones
 pub keys-last_of : (rank : ℕ) (a b c : Order) (o m i : AxisValue) → last_of rank (rule_key a o.rule) (rule_key b m.rule) (rule_key c i.rule) ≡ keys (last_of rank a b c) (last_of rank o m i)

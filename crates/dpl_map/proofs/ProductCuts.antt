@@ -12,7 +12,7 @@ use Rattle.dpl_domain.specs.Indices.{tuples, indices}
 use Rattle.dpl_domain.specs.Ranks.{last_of}
 use Rattle.dpl_map.specs.Cuts.{AreCut, AreSorted}
 use Rattle.dpl_map.specs.Orders.{IsBefore}
-use Rattle.dpl_map.proofs.FilterLemmas.{filter-alike}
+use Rattle.dpl_range.proofs.Lists.{filter-alike}
 use Rattle.dpl_map.proofs.ProductLemmas.{tuples-empty}
 use Rattle.dpl_map.proofs.PartLemmas.{all_pass, filter_each, filter-tuples, each-at, each-length}
 use Rattle.dpl_domain.proofs.PlaceLemmas.{length-filter_le}

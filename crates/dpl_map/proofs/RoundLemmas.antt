@@ -7,7 +7,8 @@ use Rattle.std.proofs.Math.Nat.{mul_comm, mul-le-mul, add-mul, div-add-mod, div-
 use Rattle.dpl_range.specs.Range.{RangeValue, members_of}
 use Rattle.dpl_range.proofs.MemberLemmas.{members-within}
 use Rattle.dpl_map.specs.Blocks.{past, block_number, IsDeal}
-use Rattle.dpl_map.proofs.DealLemmas.{members-past, count_of-le, passes, passed}
+use Rattle.dpl_range.proofs.SliceLemmas.{passes, passed}
+use Rattle.dpl_map.proofs.DealLemmas.{members-past, count_of-le}
 use Rattle.dpl_map.proofs.ListLemmas.{All-both, All-filter_passed, All-passed}
 
 -- the first round of a coordinate whose block is of some number or a later one

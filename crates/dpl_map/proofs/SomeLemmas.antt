@@ -6,10 +6,6 @@ use Rattle.dpl_domain.specs.Indices.{tuples, indices}
 use Rattle.dpl_domain.specs.Ranks.{last_of}
 use Rattle.dpl_map.proofs.FewLemmas.{row-nothing}
 
--- what holds of each element holds of the one at a place
-pub All-slice_get : {X : Type 0} (P : X → Type 0) (xs : List X) (k : ℕ) (x : X) → All P xs → slice_get xs k ≡ Some x → P x
-All-slice_get P xs k x all found = subst P (get_or_from_slice_get xs k x x found) (all k x (slice_get_within xs k x found))
-
 tuples-nil_some : tuples [] ≢ []
 tuples-nil_some = λ none. absurd cc
 

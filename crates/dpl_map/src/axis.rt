@@ -117,7 +117,12 @@ impl Axis {
     ///
     /// # Errors
     /// No memory for them.
-    pub fn parts(&self, alloc: Global, range: &Range, coordinate: u32) -> Result<Vec<Range>, AllocError>
+    pub fn parts(
+        &self,
+        alloc: Global,
+        range: &Range,
+        coordinate: u32,
+    ) -> Result<Vec<Range>, AllocError>
         requires { coordinate < self.now.extent }
         ensures cut { IfOk result (λ v. AreListed self.now.rule (owned_of self.now coordinate range.now) v.items) }
         ensures some { IfOk result (λ v. All (λ r. members_of r ≢ []) v.items) }

@@ -237,7 +237,10 @@ impl Deal {
         let mut pieces = Vec::new(alloc);
         let mut round = 0;
         'rounds: while let Some(found) = self.next_round(round) {
-            keep(&mut pieces, self.block(found * self.extent + self.coordinate))?;
+            keep(
+                &mut pieces,
+                self.block(found * self.extent + self.coordinate),
+            )?;
             if self.size < pieces.len() as u64 {
                 return Ok(None);
             }

@@ -136,8 +136,16 @@ impl Map {
         let (x, y, z) = first.numbers();
         let (u, v, w) = index.numbers();
         let axes = self.axes();
-        let here = (axes.0.key(outer, x), axes.1.key(middle, y), axes.2.key(inner, z));
-        let there = (axes.0.key(outer, u), axes.1.key(middle, v), axes.2.key(inner, w));
+        let here = (
+            axes.0.key(outer, x),
+            axes.1.key(middle, y),
+            axes.2.key(inner, z),
+        );
+        let there = (
+            axes.0.key(outer, u),
+            axes.1.key(middle, v),
+            axes.2.key(inner, w),
+        );
         comes_before(here, there)
     }
 }

@@ -1,10 +1,9 @@
 // Maps: who owns an index.
 
-ghost use Rattle.std.specs.Prelude.{◌≡◌, ◌≢◌, ◌*◌, ◌≤◌, ◌<◌, ◌↔◌, List, [], ℕ, ℤ, pos, Contains, slice_get, Some, length, All, IsTrue, IsOk, IfOk};
+ghost use Rattle.std.specs.Prelude.{◌≡◌, ◌≢◌, ◌*◌, ◌≤◌, ◌<◌, ◌↔◌, List, [], ℕ, ℤ, pos, Contains, length, All, IsTrue, IsOk, IfOk};
 ghost use Rattle.dpl_domain.specs.Indices.{indices, IsRank};
 ghost use Rattle.dpl_domain.specs.Ranks.{last_of, IsPadded};
 ghost use Rattle.dpl_range.specs.Range.{RangeValue, IsBound};
-ghost use Rattle.dpl_range.specs.Invariant.{IsRange};
 ghost use Rattle.dpl_map.specs.AxisFields.{IsAxis};
 ghost use Rattle.dpl_map.specs.MapFields.{IsMap};
 ghost use Rattle.dpl_map.specs.Maps.{owner, locales, whole_map, cyclic_map, block_cyclic_map, IsBlocksize, IsBlockMap};
@@ -154,12 +153,12 @@ impl Map {
     {
         let (outer, middle, inner) = grid.extents();
         let (first, second, last) = start.numbers();
-        let (high, wide, long) = padded_sizes(sizes);
+        let (outer_size, middle_size, inner_size) = padded_sizes(sizes);
         Map::of(
             start.rank(),
-            Axis::block_cyclic(first, high, outer),
-            Axis::block_cyclic(second, wide, middle),
-            Axis::block_cyclic(last, long, inner),
+            Axis::block_cyclic(first, outer_size, outer),
+            Axis::block_cyclic(second, middle_size, middle),
+            Axis::block_cyclic(last, inner_size, inner),
         )
     }
 
@@ -204,7 +203,6 @@ impl Map {
         ensures owners { (t : List ℤ) → owner self.now t < result }
         ensures apart { (ranges : List RangeValue) (t : List ℤ) (j k : ℕ) → Contains (part ranges self.now j) t → Contains (part ranges self.now k) t → j ≡ k }
         ensures together { (ranges : List RangeValue) (t : List ℤ) → Contains (indices ranges) t → (k : ℕ) × (k < result) × Contains (part ranges self.now k) t }
-        ensures once { (ranges : List RangeValue) (j k : ℕ) (t : List ℤ) → All IsRange ranges → slice_get (indices ranges) j ≡ Some t → slice_get (indices ranges) k ≡ Some t → j ≡ k }
         ensures most { result ≤ 64 }
         ensures limits { All IsAxis self.now }
     {
@@ -221,7 +219,8 @@ impl Map {
             return 0;
         }
         let (outer, middle, inner) = index.numbers();
-        let row = self.outer.coordinate(outer) * self.middle.extent() + self.middle.coordinate(middle);
+        let row = self.outer.coordinate(outer) * self.middle.extent()
+            + self.middle.coordinate(middle);
         row * self.inner.extent() + self.inner.coordinate(inner)
     }
 }
@@ -265,13 +264,13 @@ fn is_start(start: Index) -> bool
 fn are_sizes(sizes: Index) -> bool
     ensures { IsTrue result ↔ All IsBlocksize sizes }
 {
-    let (high, wide, long) = padded_sizes(sizes);
-    are_blocksizes(high, wide, long)
+    let (outer, middle, inner) = padded_sizes(sizes);
+    are_blocksizes(outer, middle, inner)
 }
 
 // Whether each of three numbers may be the size of a block.
-fn are_blocksizes(high: i64, wide: i64, long: i64) -> bool
-    ensures { IsTrue result ↔ (IsBlocksize high × IsBlocksize wide × IsBlocksize long) }
+fn are_blocksizes(outer: i64, middle: i64, inner: i64) -> bool
+    ensures { IsTrue result ↔ (IsBlocksize outer × IsBlocksize middle × IsBlocksize inner) }
 {
-    1 <= high && 1 <= wide && 1 <= long
+    1 <= outer && 1 <= middle && 1 <= inner
 }

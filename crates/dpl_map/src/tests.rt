@@ -1,6 +1,7 @@
 // Rows of the language's maps, by tables of what is handed in and what must come out.
 
 mod blocks;
+mod finds;
 
 use crate::{Grid, GridFault, Map, MapFault};
 use dpl_domain::{Domain, Index};
@@ -31,7 +32,7 @@ fn hold(rt: &impl Abort, domains: &[Domain], rows: &[&[i64]]) {
     }
 }
 
-// The parts of a domain of one dimension, coordinate by coordinate, and the owner of each index.
+// The parts of a domain of one dimension, locale by locale, and the owner of each index.
 fn parts(
     rt: &impl Abort,
     alloc: Global,
@@ -212,6 +213,28 @@ fn refused(rt: HostRuntime) -> Result<(), Fail> {
             Index::new(start).map(|start| Map::cyclic(start, grid)),
             Some(Err(fault))
         );
+    }
+    Ok(())
+}
+
+// What the faults of grids and maps print as.
+#[test]
+fn texts(rt: HostRuntime) -> Result<(), Fail> {
+    let grids = [
+        (GridFault::Rank, "a grid has one to three dimensions"),
+        (GridFault::Locales, "a grid has 1 to 64 locales"),
+    ];
+    for (fault, text) in grids {
+        assert_eq!(rt; format!(in rt.alloc(); "{fault}")?.as_str(), text);
+    }
+    let maps = [
+        (MapFault::Empty, "the box is empty"),
+        (MapFault::Start, "the start is outside -2^60..2^60"),
+        (MapFault::Rank, "the grid has another number of dimensions"),
+        (MapFault::Blocksize, "a block has at least one index"),
+    ];
+    for (fault, text) in maps {
+        assert_eq!(rt; format!(in rt.alloc(); "{fault}")?.as_str(), text);
     }
     Ok(())
 }

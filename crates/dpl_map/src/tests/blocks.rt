@@ -8,7 +8,12 @@ use std::alloc::Global;
 use std::process::Abort;
 use std::test::Fail;
 
-fn in_blocks(rt: &impl Abort, start: &[i64], sizes: &[i64], grid: &[u32]) -> Result<Map, Fail> {
+pub(super) fn in_blocks(
+    rt: &impl Abort,
+    start: &[i64],
+    sizes: &[i64],
+    grid: &[u32],
+) -> Result<Map, Fail> {
     let (Some(start), Some(sizes)) = (Index::new(start), Index::new(sizes)) else {
         panic!(rt; "one to three coordinates make an index")
     };
@@ -83,7 +88,7 @@ fn counts(
     Ok(())
 }
 
-// Place 0 has {10} and {18, 20}. Its first block and its last one have no member, so it has fewer blocks than offsets:
+// Coordinate 0 has {10} and {18, 20}. Its first block and its last one have no member, so it has fewer blocks than offsets:
 // those of 10, 18 and 20 differ.
 #[test]
 fn fewer_blocks(rt: HostRuntime) -> Result<(), Fail> {

@@ -11,10 +11,10 @@ use Rattle.dpl_map.specs.Orders.{IsBefore}
 use Rattle.dpl_map.proofs.CutLemmas.{AreSorted-none, AreSorted-same, AreSorted-begin, AreSorted-more, AreSorted-end}
 use Rattle.dpl_map.proofs.PartLemmas.{IsSeat, seat}
 use Rattle.dpl_map.proofs.ProductCuts.{AreCut-whole, whole-sorted, number-at, number-below, number-sorted, product-listed, some-each, tuples-nothing}
-use Rattle.dpl_map.proofs.SomeLemmas.{All-slice_get, indices-some}
+use Rattle.dpl_map.proofs.ListLemmas.{All-each, All-slice_get, length-push}
+use Rattle.dpl_map.proofs.SomeLemmas.{indices-some}
 use Rattle.dpl_map.proofs.products.products.Goals as goal
 use Rattle.dpl_map.proofs.products.products.Goals.{In-loop-k, After-index-inners-k}
-use Rattle.dpl_map.proofs.ListLemmas.{All-each, length-push}
 
 -- the coordinates of a number
 seated : (c : In-loop-k) → IsSeat c.loop-k.k (length c.args.outers.now) (length c.args.middles.now) (length c.args.inners.now) (c.loop-k.k / length c.args.inners.now / length c.args.middles.now) (c.loop-k.k / length c.args.inners.now % length c.args.middles.now) (c.loop-k.k % length c.args.inners.now)

@@ -6,7 +6,7 @@ use Rattle.dpl_range.specs.Range.{members_of}
 use Rattle.dpl_map.specs.Maps.{AxisValue}
 use Rattle.dpl_map.specs.Places.{cyclic_place}
 use Rattle.dpl_map.proofs.AxisLemmas.{class-cyclic}
-use Rattle.dpl_map.proofs.FilterLemmas.{filter-alike}
+use Rattle.dpl_range.proofs.Lists.{filter-alike}
 use Rattle.dpl_map.proofs.axis.Axis.part.Goals as goal
 
 pub returns-in-Cyclic-clause-members : goal.returns-in-Cyclic-clause-members

@@ -5,7 +5,7 @@ use Rattle.dpl_domain.specs.Ranks.{last_of}
 use Rattle.dpl_map.specs.declared.find.Order.{Order}
 use Rattle.dpl_map.specs.declared.find.Order.TheVariants.{Blocks}
 use Rattle.dpl_map.specs.Orders.{IsAt, HasNone}
-use Rattle.dpl_map.proofs.SomeLemmas.{All-slice_get}
+use Rattle.dpl_map.proofs.ListLemmas.{All-slice_get}
 use Rattle.dpl_map.proofs.OrderLemmas.{length-index}
 use Rattle.dpl_map.proofs.FindLemmas.{single-key, each-order, none-same, found-only, none-only, either-only, part-rows}
 use Rattle.dpl_map.proofs.map.Map.find.Goals as goal

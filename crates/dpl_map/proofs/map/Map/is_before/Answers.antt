@@ -38,8 +38,7 @@ returns c =
     before-keys c.args.self.now c.axes-axes.result.0 c.axes-axes.result.1 c.axes-axes.result.2 c.args.outer c.args.middle c.args.inner c.in-Some.first c.args.index
     c.numbers-x.result.0 c.numbers-x.result.1 c.numbers-x.result.2 c.numbers-u.result.0 c.numbers-u.result.1 c.numbers-u.result.2
     axes c.numbers-x.ensures.coordinates c.numbers-u.ensures.coordinates c.numbers-x.ensures.unused c.numbers-u.ensures.unused (ap length is ∙ rank) c.requires in
-    let orders = keys (last_of (length c.args.self.now) c.args.outer c.args.middle c.args.inner) c.args.self.now in
-    (
+    let orders = keys (last_of (length c.args.self.now) c.args.outer c.args.middle c.args.inner) c.args.self.now in (
       (λ yes. subst (λ (r : List ℤ). IsBefore orders r c.args.index) is (rows.0 (test.0 yes))),
       (λ before. test.1 (rows.1 (subst (λ (r : List ℤ). IsBefore orders r c.args.index) (sym is) before))),
     )

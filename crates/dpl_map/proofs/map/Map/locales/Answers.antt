@@ -2,7 +2,6 @@
 use Rattle.dpl_map.specs.Maps.{owner}
 use Rattle.dpl_map.proofs.LawLemmas.{owner-below, parts-apart, parts-together}
 use Rattle.dpl_map.proofs.FewLemmas.{All-axes}
-use Rattle.dpl_map.proofs.OnceLemmas.{indices-once}
 use Rattle.dpl_map.proofs.map.Map.locales.Goals as goal
 
 pub returns-clause-owners : goal.returns-clause-owners
@@ -20,6 +19,3 @@ returns-clause-together c =
 
 pub returns-clause-limits : goal.returns-clause-limits
 returns-clause-limits c = rw (← c.self.view_is) (All-axes c.self.inside.rank c.self.inside.outer c.self.inside.middle c.self.inside.inner c.self.invariant)
-
-pub returns-clause-once : goal.returns-clause-once
-returns-clause-once c = λ ranges j k t limits. indices-once ranges limits j k t
