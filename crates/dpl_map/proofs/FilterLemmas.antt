@@ -1,5 +1,5 @@
 -- Tests by facts that agree.
-use Rattle.std.proofs.Common.{◌≡◌, ℕ, suc, List, [], ◌∷◌, refl, ap, ◌∙◌, Bool, cond, filter, Some, slice_get, ◌==◌, eqb-true, eq-eqb}
+use Rattle.std.proofs.Common.{◌≡◌, ℕ, ◌==◌, eqb-true, eq-eqb}
 use Rattle.std.specs.Cmp.{both_ways}
 
 -- a test of two numbers by a fact about them

@@ -5,7 +5,8 @@ use Rattle.std.proofs.lemmas.Option.{none-some, same_Some}
 use Rattle.dpl_range.specs.Range.{RangeValue}
 use Rattle.dpl_domain.specs.Indices.{indices}
 use Rattle.dpl_domain.specs.Ranks.{last_of, IsPadded}
-use Rattle.dpl_map.specs.Maps.{RuleValue, Block, Cyclic, BlockCyclic, AxisValue, IsSingle}
+use Rattle.dpl_map.specs.Maps.{RuleValue, Block, Cyclic, BlockCyclic, AxisValue}
+use Rattle.dpl_map.specs.Axes.{IsSingle}
 use Rattle.dpl_map.specs.declared.find.Order.{Order}
 use Rattle.dpl_map.specs.declared.find.Order.TheVariants.{Blocks, Offsets}
 use Rattle.dpl_map.specs.Orders.{three, rule_key, keys, IsBefore, IsAt, AreRowByRow, ArePart, HasNone}

@@ -11,9 +11,9 @@ use Rattle.dpl_map.specs.AxisFields.{IsAxis}
 use Rattle.dpl_map.specs.Counts.{rule_offsets, AreFewRanges}
 use Rattle.dpl_map.specs.Cuts.{AreCut}
 use Rattle.dpl_map.specs.MapFields.{IsMap, idle}
-use Rattle.dpl_map.specs.Maps.{RuleValue, Block, Cyclic, BlockCyclic, AxisValue, axis_coordinate, IsSingle, AreSingle}
+use Rattle.dpl_map.specs.Maps.{RuleValue, Block, Cyclic, BlockCyclic, AxisValue, axis_coordinate}
+use Rattle.dpl_map.specs.Axes.{AreSingle, IsSingle, owned_of}
 use Rattle.dpl_map.proofs.AxisLemmas.{axis-below}
-use Rattle.dpl_map.specs.Parts.{owned_of}
 use Rattle.dpl_map.proofs.ListLemmas.{Contains-filter}
 
 -- the axis that stands where a map has none is such

@@ -11,7 +11,8 @@ use Rattle.dpl_domain.specs.Ranks.{last_of}
 use Rattle.dpl_map.specs.AxisFields.{IsAxis}
 use Rattle.dpl_map.specs.MapFields.{IsMap, idle}
 use Rattle.dpl_map.specs.Maps.{AxisValue, axis_coordinate, owner}
-use Rattle.dpl_map.specs.Parts.{part, owned_of}
+use Rattle.dpl_map.specs.Parts.{part}
+use Rattle.dpl_map.specs.Axes.{owned_of}
 use Rattle.dpl_range.proofs.Lists.{filter-alike}
 use Rattle.dpl_map.proofs.OwnerLemmas.{owner-padded, owner-other, locale_of}
 use Rattle.dpl_map.proofs.AxisLemmas.{axis-below}

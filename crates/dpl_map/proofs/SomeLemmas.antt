@@ -1,6 +1,5 @@
 -- Products of ranges with members have tuples.
-use Rattle.std.proofs.Common.{◌≡◌, ◌≢◌, ℕ, zero, suc, List, [], ◌∷◌, ℤ, map, flat_map, slice_get, Some, All, refl, subst}
-use Rattle.std.proofs.lemmas.Option.{get_or_from_slice_get, slice_get_within}
+use Rattle.std.proofs.Common.{◌≢◌, ℕ, zero, suc, List, [], ◌∷◌, ℤ, map, flat_map, refl}
 use Rattle.dpl_range.specs.Range.{RangeValue, members_of}
 use Rattle.dpl_domain.specs.Indices.{tuples, indices}
 use Rattle.dpl_domain.specs.Ranks.{last_of}

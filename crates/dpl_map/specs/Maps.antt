@@ -18,16 +18,6 @@ pub record AxisValue : Type 0 where
   pub rule : RuleValue
   pub extent : ℕ
 
--- a dimension that is dealt out in blocks of a size, from a start
-abbrev pub block_cyclic_axis : ℤ → ℤ → ℕ → AxisValue
-block_cyclic_axis start blocksize extent = record { rule = BlockCyclic start blocksize; extent = extent }
-
--- a rule by which each coordinate has its indices of a range in one range
-abbrev pub IsSingle : RuleValue → Type 0
-IsSingle (Block low high) = Unit {0}
-IsSingle (Cyclic start) = Unit {0}
-IsSingle (BlockCyclic start blocksize) = ⊥
-
 -- the coordinate, of n, that a rule gives an index
 abbrev pub rule_coordinate : RuleValue → ℕ → ℤ → ℕ
 rule_coordinate (Block low high) n i = block_place low high n i
@@ -36,11 +26,6 @@ rule_coordinate (BlockCyclic start blocksize) n i = block_cyclic_place start blo
 
 abbrev pub axis_coordinate : AxisValue → ℤ → ℕ
 axis_coordinate axis i = rule_coordinate axis.rule axis.extent i
-
--- a map all of whose rules are such
-abbrev pub AreSingle : List AxisValue → Type 0
-AreSingle [] = Unit {0}
-AreSingle (axis ∷ axes) = IsSingle axis.rule × AreSingle axes
 
 -- the grid of a map
 abbrev pub extents : List AxisValue → List ℕ

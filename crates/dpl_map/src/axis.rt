@@ -7,9 +7,9 @@ ghost use Rattle.dpl_range.specs.Invariant.{IsRange};
 ghost use Rattle.dpl_map.specs.AxisFields.{IsAxis};
 ghost use Rattle.dpl_map.specs.Grids.{IsGridSize};
 ghost use Rattle.dpl_map.specs.Orders.{AreListed, rule_key};
-ghost use Rattle.dpl_map.specs.Parts.{owned_of};
+ghost use Rattle.dpl_map.specs.Axes.{IsSingle, owned_of};
 ghost use Rattle.dpl_map.specs.Counts.{AreFewRanges};
-ghost use Rattle.dpl_map.specs.Maps.{axis_coordinate, IsBoxed, IsSingle, Block, Cyclic, BlockCyclic};
+ghost use Rattle.dpl_map.specs.Maps.{axis_coordinate, IsBoxed, Block, Cyclic, BlockCyclic};
 ghost use Rattle.dpl_map.specs.Places.{block_place, cyclic_place, block_cyclic_place};
 
 use crate::blocks::{dealt, keep};
@@ -116,7 +116,7 @@ impl Axis {
     /// of the coordinate; and it is none where the coordinate owns no member.
     ///
     /// # Errors
-    /// No memory for them.
+    /// Out of memory.
     pub fn parts(
         &self,
         alloc: Global,

@@ -5,8 +5,8 @@ ghost use Rattle.std.specs.Prelude.{◌≡◌, ◌≢◌, ◌≤◌, ◌<◌, �
 ghost use Rattle.std.specs.Int.{int_div_euclid};
 ghost use Rattle.dpl_range.specs.Range.{members_of, IsBound};
 ghost use Rattle.dpl_map.specs.Grids.{IsGridSize};
-ghost use Rattle.dpl_map.specs.Maps.{BlockCyclic, block_cyclic_axis};
-ghost use Rattle.dpl_map.specs.Parts.{owned_of};
+ghost use Rattle.dpl_map.specs.Maps.{BlockCyclic};
+ghost use Rattle.dpl_map.specs.Axes.{block_cyclic_axis, owned_of};
 ghost use Rattle.dpl_map.specs.Cuts.{behind};
 ghost use Rattle.dpl_map.specs.Orders.{AreListed};
 ghost use Rattle.dpl_map.specs.Counts.{IsWithinValues, rule_block};
@@ -20,7 +20,7 @@ use std::alloc::{AllocError, Global};
 /// than these blocks, and no more than a block has offsets.
 ///
 /// # Errors
-/// No memory for them.
+/// Out of memory.
 pub fn dealt(
     alloc: Global,
     range: &Range,
@@ -83,7 +83,7 @@ fn between(range: &Range, low: i128, high: i128) -> Range
 /// Puts a range behind others, if it has members.
 ///
 /// # Errors
-/// No memory for it.
+/// Out of memory.
 pub fn keep(pieces: &mut Vec<Range>, piece: Range) -> Result<(), AllocError>
     ensures { OnOk result (pieces.new.items ≡ behind (members_of piece) piece pieces.old.items) }
 {

@@ -3,7 +3,8 @@
 ghost use Rattle.std.specs.Prelude.{◌≡◌, ◌≢◌, ◌≤◌, ◌<◌, ◌*◌, ◌+◌, [], length, All, IfOk, IfSome, IfNone, OnErr};
 ghost use Rattle.std.specs.List.{sum_by};
 ghost use Rattle.dpl_domain.specs.Indices.{indices, IsSmall};
-ghost use Rattle.dpl_map.specs.Maps.{locales, AreSingle};
+ghost use Rattle.dpl_map.specs.Maps.{locales};
+ghost use Rattle.dpl_map.specs.Axes.{AreSingle};
 ghost use Rattle.dpl_map.specs.Counts.{AreFew};
 ghost use Rattle.dpl_map.specs.Cuts.{AreCut};
 ghost use Rattle.dpl_map.specs.Orders.{ArePart, StandsInOne};
@@ -14,7 +15,7 @@ use crate::products::products;
 use dpl_domain::Domain;
 use std::alloc::{AllocError, Global};
 
-/// There was no memory for the list of domains.
+/// Out of memory for the list of domains.
 #[derive(Clone, Copy, Debug, PartialEq, Eq)]
 pub struct NoMemory;
 
@@ -32,7 +33,7 @@ impl Map {
     /// locale owns no index, as where it is no place of the map.
     ///
     /// # Errors
-    /// No memory for the domains.
+    /// Out of memory for the domains.
     pub fn part(&self, alloc: Global, domain: &Domain, locale: u32) -> Result<Vec<Domain>, NoMemory>
         ensures cut { IfOk result (λ domains. AreCut indices (part domain.now self.now locale) domains.items) }
         ensures some { IfOk result (λ domains. All (λ domain. indices domain ≢ []) domains.items) }

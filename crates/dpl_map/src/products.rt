@@ -14,7 +14,7 @@ use std::alloc::{AllocError, Global};
 /// range, which no domain shows. Of ranges that each have a member, each product has an index.
 ///
 /// # Errors
-/// No memory for them.
+/// Out of memory.
 pub fn products(
     alloc: Global,
     rank: u32,

@@ -5,9 +5,9 @@ use Rattle.std.proofs.lemmas.List.Elements.{All-nil}
 use Rattle.dpl_range.specs.Range.{RangeValue, members_of}
 use Rattle.dpl_map.specs.Cuts.{behind}
 use Rattle.dpl_map.specs.Counts.{rule_block, AreFewRanges}
-use Rattle.dpl_map.specs.Maps.{RuleValue, Block, Cyclic, BlockCyclic, IsSingle}
+use Rattle.dpl_map.specs.Maps.{RuleValue, Block, Cyclic, BlockCyclic}
+use Rattle.dpl_map.specs.Axes.{IsSingle, owned_of}
 use Rattle.dpl_map.specs.declared.find.Order.TheVariants.{Blocks}
-use Rattle.dpl_map.specs.Parts.{owned_of}
 use Rattle.dpl_map.proofs.CutLemmas.{AreSorted-behind_none, All-behind}
 use Rattle.dpl_map.proofs.FewLemmas.{IfOk-both, AreFewRanges-single}
 use Rattle.dpl_map.proofs.axis.Axis.parts.Goals as goal

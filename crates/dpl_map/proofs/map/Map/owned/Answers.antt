@@ -9,8 +9,9 @@ use Rattle.dpl_map.specs.declared.find.Order.{Order}
 use Rattle.dpl_map.specs.Orders.{rule_key, keys, IsBefore, AreListed, AreProducts, ArePart}
 use Rattle.dpl_map.proofs.OrderLemmas.{keys-last_of, same-length, rows}
 use Rattle.dpl_map.specs.MapFields.{IsMap}
-use Rattle.dpl_map.specs.Maps.{AxisValue, locales, AreSingle}
-use Rattle.dpl_map.specs.Parts.{part, owned_of}
+use Rattle.dpl_map.specs.Maps.{AxisValue, locales}
+use Rattle.dpl_map.specs.Axes.{AreSingle, owned_of}
+use Rattle.dpl_map.specs.Parts.{part}
 use Rattle.dpl_map.proofs.OwnerLemmas.{locales-padded}
 use Rattle.dpl_map.proofs.PartLemmas.{IsSeat, seat, tuples-part, part-small}
 use Rattle.dpl_map.proofs.ProductCuts.{length-product}

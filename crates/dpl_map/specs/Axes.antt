@@ -1,0 +1,23 @@
+-- One dimension of a map by itself.
+use Rattle.std.specs.Prelude.{◌==◌, ℕ, List, [], ◌∷◌, ℤ, filter}
+use Rattle.dpl_range.specs.Range.{RangeValue, members_of}
+use Rattle.dpl_map.specs.Maps.{RuleValue, Block, Cyclic, BlockCyclic, AxisValue, axis_coordinate}
+
+-- what a coordinate of one dimension owns of a range: the members that the dimension's rule gives it
+abbrev pub owned_of : AxisValue → ℕ → RangeValue → List ℤ
+owned_of axis coordinate range = filter (λ i. axis_coordinate axis i == coordinate) (members_of range)
+
+-- a dimension that is dealt out in blocks of a size, from a start
+abbrev pub block_cyclic_axis : ℤ → ℤ → ℕ → AxisValue
+block_cyclic_axis start blocksize extent = record { rule = BlockCyclic start blocksize; extent = extent }
+
+-- a rule by which each coordinate has its indices of a range in one range
+abbrev pub IsSingle : RuleValue → Type 0
+IsSingle (Block low high) = Unit {0}
+IsSingle (Cyclic start) = Unit {0}
+IsSingle (BlockCyclic start blocksize) = ⊥
+
+-- a map all of whose rules are such
+abbrev pub AreSingle : List AxisValue → Type 0
+AreSingle [] = Unit {0}
+AreSingle (axis ∷ axes) = IsSingle axis.rule × AreSingle axes
