@@ -1,10 +1,10 @@
 -- What a map is made of, by three numbers, extents or ranges of which the last ones count.
-use Rattle.std.proofs.Common.{◌≡◌, ℕ, zero, suc, ◌*◌, ◌≤◌, refl, arith, ℤ, pos, All}
+use Rattle.std.proofs.Common.{◌≡◌, ℕ, zero, suc, ◌*◌, ◌≤◌, List, refl, arith, ℤ, pos, All}
 use Rattle.std.proofs.lemmas.Int.{ints}
 use Rattle.std.proofs.Math.Nat.{mul-le-mul_left, mul-le-mul_right}
 use Rattle.dpl_range.specs.Range.{RangeValue, IsBound}
-use Rattle.dpl_domain.specs.Ranks.{last_of, IsPadded}
-use Rattle.dpl_map.specs.Grids.{IsGridSize}
+use Rattle.dpl_domain.specs.Ranks.{last_of, IsPadded, IsFilled}
+use Rattle.dpl_map.specs.Grids.{grid_size, IsGridSize}
 use Rattle.dpl_map.specs.Maps.{AxisValue, Cyclic, BlockCyclic, cyclic_map, block_cyclic_map, IsBlocksize, IsBoxed, IsBlockMap}
 
 -- the factors of a product from 1 on are from 1 on
@@ -99,3 +99,20 @@ IsBlockMap-last_of zero o m i x y z a b c outer middle inner = tt
 IsBlockMap-last_of (suc zero) o m i x y z a b c outer middle inner = (inner, tt)
 IsBlockMap-last_of (suc (suc zero)) o m i x y z a b c outer middle inner = (middle, (inner, tt))
 IsBlockMap-last_of (suc (suc (suc n))) o m i x y z a b c outer middle inner = (outer, (middle, (inner, tt)))
+
+-- the locales of a grid are the product of its three extents
+pub size-filled : (extents : List ℕ) (rank o m i : ℕ) → extents ≡ last_of rank o m i → IsFilled 1 rank o m i → grid_size extents ≡ o * m * i
+size-filled extents zero o m i is filled =
+    let first : o ≡ 1 = filled.first (omega arith) in
+    let second : m ≡ 1 = filled.second (omega arith) in
+    let third : i ≡ 1 = filled.third (omega arith) in
+    rw (is, first, second, third) refl
+size-filled extents (suc zero) o m i is filled =
+    let first : o ≡ 1 = filled.first (omega arith) in
+    let second : m ≡ 1 = filled.second (omega arith) in
+    rw (is, first, second) (omega arith)
+size-filled extents (suc (suc zero)) o m i is filled =
+    let first : o ≡ 1 = filled.first (omega arith) in
+    rw (is, first) (omega arith)
+size-filled extents (suc (suc (suc zero))) o m i is filled = rw is (omega arith)
+size-filled extents (suc (suc (suc (suc n)))) o m i is filled = absurd (omega (arith, filled.to_three))

@@ -5,6 +5,7 @@ ghost use Rattle.dpl_domain.specs.Indices.{IsRank};
 ghost use Rattle.dpl_domain.specs.Ranks.{last_of, IsPadded};
 ghost use Rattle.dpl_map.specs.Grids.{grid_size, IsGridSize};
 
+use dpl_domain::Dimensions;
 use std::marker::Model;
 use thiserror::Error;
 
@@ -22,13 +23,10 @@ pub enum GridFault {
     Locales,
 }
 
-/// A grid of locales, seen as the list of its one to three extents. Places are numbered from 0, row by row.
+/// A grid of locales, seen as the list of its one to three extents. Locales are numbered from 0, row by row.
 #[derive(Clone, Copy, Debug, PartialEq, Eq)]
 pub struct Grid {
-    rank: u32,
-    outer: u32,
-    middle: u32,
-    inner: u32,
+    extents: Dimensions<u32>,
 }
 
 impl Model for Grid {
@@ -36,16 +34,13 @@ impl Model for Grid {
 
     ghost Value = { List ℕ };
 
-    ghost use Rattle.dpl_domain.specs.Ranks.{last_of};
-    ghost use Rattle.dpl_map.specs.GridFields.{IsGrid, grid_of, grid_of-last_of};
+    ghost use Rattle.dpl_map.specs.GridFields.{IsGrid};
 
-    ghost view = { λ g. last_of g.rank g.outer g.middle g.inner };
+    ghost view = { λ g. g.extents };
 
-    ghost invariant = { λ g. IsGrid g.rank g.outer g.middle g.inner };
+    ghost invariant = { λ g. IsGrid g.extents };
 
-    ghost inverse = { grid_of };
-
-    ghost inverse_ok = { grid_of-last_of };
+    ghost inverse = { λ v. record { extents = v } };
 }
 
 impl Grid {
@@ -56,31 +51,25 @@ impl Grid {
         ensures rank { (result ≡ Err GridFault.Rank) ↔ (¬ IsRank extents.now) }
         ensures locales { (result ≡ Err GridFault.Locales) ↔ (IsRank extents.now × ¬ IsGridSize (grid_size extents.now)) }
     {
-        match extents {
-            [inner] => Grid::checked(1, 1, 1, *inner),
-            [middle, inner] => Grid::checked(2, 1, *middle, *inner),
-            [outer, middle, inner] => Grid::checked(3, *outer, *middle, *inner),
+        match Dimensions::new(extents) {
+            Some(extents) if extents.rank() > 0 => Grid::checked(extents),
             _ => Err(GridFault::Rank),
         }
     }
 
-    // The last `rank` of three extents as a grid, if they have 1 to 64 locales.
-    fn checked(rank: u32, outer: u32, middle: u32, inner: u32) -> Result<Grid, GridFault>
-        requires { IsPadded 1 rank outer middle }
-        ensures ok { IsOk result ↔ IsGridSize (grid_size (last_of rank outer middle inner)) }
-        ensures held { IfOk result (λ grid. grid ≡ last_of rank outer middle inner) }
-        ensures locales { (result ≡ Err GridFault.Locales) ↔ (¬ IsGridSize (grid_size (last_of rank outer middle inner))) }
+    // The grid with these extents, if they have 1 to 64 locales.
+    fn checked(extents: Dimensions<u32>) -> Result<Grid, GridFault>
+        requires { IsRank extents }
+        ensures ok { IsOk result ↔ IsGridSize (grid_size extents) }
+        ensures held { IfOk result (λ grid. grid ≡ extents) }
+        ensures locales { (result ≡ Err GridFault.Locales) ↔ (¬ IsGridSize (grid_size extents)) }
     {
+        let (outer, middle, inner) = extents.places();
         let locales = outer as u128 * middle as u128 * inner as u128;
         if locales < 1 || locales > MOST_LOCALES as u128 {
             return Err(GridFault::Locales);
         }
-        Ok(Grid {
-            rank,
-            outer,
-            middle,
-            inner,
-        })
+        Ok(Grid { extents })
     }
 
     /// How many extents it has.
@@ -88,7 +77,7 @@ impl Grid {
         ensures rank { result ≡ length self.now }
         ensures limits { IsRank self.now }
     {
-        self.rank
+        self.extents.rank()
     }
 
     /// The extents as three numbers, the last one last. Those in front that the grid does not have are 1.
@@ -100,6 +89,6 @@ impl Grid {
         ensures inner { IsGridSize result.2 }
         ensures size { IsGridSize (result.0 * result.1 * result.2) }
     {
-        (self.outer, self.middle, self.inner)
+        self.extents.places()
     }
 }
