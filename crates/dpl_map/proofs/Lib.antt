@@ -21,3 +21,4 @@ pub mod OrderLemmas
 pub mod FindLemmas
 pub mod SizeLemmas
 pub mod MapLemmas
+pub mod AxesLemmas

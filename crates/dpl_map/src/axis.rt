@@ -14,6 +14,7 @@ ghost use Rattle.dpl_map.specs.Places.{block_place, cyclic_place, block_cyclic_p
 
 use crate::blocks::{dealt, keep};
 use crate::find::Order;
+use dpl_domain::Unused;
 use dpl_range::{LIMIT, Range};
 use std::alloc::{AllocError, Global};
 use std::marker::Model;
@@ -46,6 +47,17 @@ impl Model for Axis {
     ghost inverse = { kept_axis };
 
     ghost inverse_ok = { kept_axis-axis_of };
+}
+
+/// An axis that a map does not have has one coordinate, so that it has no part in the number of locales.
+impl Unused for Axis {
+    ghost use Rattle.dpl_map.specs.MapFields.{idle};
+
+    ghost unused = { idle };
+
+    fn unused() -> Axis {
+        Axis::cyclic(0, 1)
+    }
 }
 
 impl Axis {

@@ -11,7 +11,7 @@ ghost use Rattle.dpl_map.specs.Parts.{part};
 
 use crate::Grid;
 use crate::axis::Axis;
-use dpl_domain::{Domain, Index};
+use dpl_domain::{Dimensions, Domain, Index};
 use dpl_range::LIMIT;
 use std::marker::Model;
 use thiserror::Error;
@@ -37,10 +37,7 @@ pub enum MapFault {
 /// grid. The whole map has none.
 #[derive(Clone, Copy, Debug, PartialEq, Eq)]
 pub struct Map {
-    rank: u32,
-    outer: Axis,
-    middle: Axis,
-    inner: Axis,
+    axes: Dimensions<Axis>,
 }
 
 impl Model for Map {
@@ -49,16 +46,13 @@ impl Model for Map {
 
     ghost Value = { List AxisValue };
 
-    ghost use Rattle.dpl_domain.specs.Ranks.{last_of, IsPadded};
-    ghost use Rattle.dpl_map.specs.MapFields.{IsMap, map_of, map_of-last_of};
+    ghost use Rattle.dpl_map.specs.MapFields.{AreAxes};
 
-    ghost view = { λ m. last_of m.rank m.outer m.middle m.inner };
+    ghost view = { λ m. m.axes };
 
-    ghost invariant = { λ m. IsMap m.rank m.outer m.middle m.inner };
+    ghost invariant = { λ m. AreAxes m.axes };
 
-    ghost inverse = { map_of };
-
-    ghost inverse_ok = { map_of-last_of };
+    ghost inverse = { λ v. record { axes = v } };
 }
 
 impl Map {
@@ -66,12 +60,8 @@ impl Map {
     pub fn whole() -> Map
         ensures { result ≡ whole_map }
     {
-        let idle = Axis::cyclic(0, 1);
         Map {
-            rank: 0,
-            outer: idle,
-            middle: idle,
-            inner: idle,
+            axes: Dimensions::none(),
         }
     }
 
@@ -172,12 +162,8 @@ impl Map {
         requires size { outer.extent * middle.extent * inner.extent ≤ 64 }
         ensures { result ≡ last_of rank outer middle inner }
     {
-        let idle = Axis::cyclic(0, 1);
         Map {
-            rank,
-            outer: if rank < 3 { idle } else { outer },
-            middle: if rank < 2 { idle } else { middle },
-            inner,
+            axes: Dimensions::last_of(rank, outer, middle, inner),
         }
     }
 
@@ -186,14 +172,14 @@ impl Map {
         ensures axes { self.now ≡ last_of (length self.now) result.0 result.1 result.2 }
         ensures limits { IsMap (length self.now) result.0 result.1 result.2 }
     {
-        (self.outer, self.middle, self.inner)
+        self.axes.places()
     }
 
     /// How many dimensions the map deals out: the rank of its grid, or 0.
     pub fn rank(&self) -> u32
         ensures { result ≡ length self.now }
     {
-        self.rank
+        self.axes.rank()
     }
 
     /// How many locales the map has: those of its grid, or one. Each tuple is owned by one of them, so the parts of a
@@ -206,7 +192,8 @@ impl Map {
         ensures most { result ≤ 64 }
         ensures limits { All IsAxis self.now }
     {
-        self.outer.extent() * self.middle.extent() * self.inner.extent()
+        let (outer, middle, inner) = self.axes();
+        outer.extent() * middle.extent() * inner.extent()
     }
 
     /// The locale that owns an index, which may be of any rank and have any coordinates. One of another rank
@@ -215,13 +202,13 @@ impl Map {
         ensures owner { result ≡ owner self.now index }
         ensures below { result < locales self.now }
     {
-        if index.rank() != self.rank {
+        let (outer, middle, inner) = self.axes();
+        if index.rank() != self.rank() {
             return 0;
         }
-        let (outer, middle, inner) = index.numbers();
-        let row = self.outer.coordinate(outer) * self.middle.extent()
-            + self.middle.coordinate(middle);
-        row * self.inner.extent() + self.inner.coordinate(inner)
+        let (x, y, z) = index.numbers();
+        let row = outer.coordinate(x) * middle.extent() + middle.coordinate(y);
+        row * inner.extent() + inner.coordinate(z)
     }
 }
 

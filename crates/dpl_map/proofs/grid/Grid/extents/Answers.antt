@@ -1,6 +1,5 @@
 -- An extent is no more than the locales of the grid.
-use Rattle.std.proofs.Common.{◌*◌, sym, subst, length, ap}
-use Rattle.dpl_domain.proofs.TupleLemmas.{IsPadded-IsFilled}
+use Rattle.std.proofs.Common.{◌*◌, subst, length}
 use Rattle.dpl_map.specs.Grids.{IsGridSize}
 use Rattle.dpl_map.proofs.StartLemmas.{extents-small, size-filled}
 use Rattle.dpl_map.proofs.grid.Grid.extents.Goals as goal
