@@ -1,11 +1,11 @@
 -- The axes of a map in three places.
-use Rattle.std.proofs.Common.{◌≡◌, ◌≤◌, ◌*◌, ℕ, zero, suc, List, [], ◌∷◌, All, refl, sym, subst, arith}
+use Rattle.std.proofs.Common.{◌≡◌, ◌≤◌, ◌*◌, ℕ, zero, suc, List, [], ◌∷◌, sym, subst, arith}
 use Rattle.std.proofs.lemmas.Int.{ints}
 use Rattle.std.proofs.lemmas.List.Elements.{All-nil, All-cons, All-head, All-tail}
-use Rattle.std.proofs.Math.Nat.{mul-le-mul_right, mul-le-mul_left}
+use Rattle.std.proofs.Math.Nat.{mul-le-mul_right}
 use Rattle.dpl_domain.specs.Ranks.{last_of, IsFilled}
 use Rattle.dpl_map.specs.AxisFields.{IsAxis}
-use Rattle.dpl_map.specs.Maps.{AxisValue, locales}
+use Rattle.dpl_map.specs.Maps.{AxisValue}
 use Rattle.dpl_map.specs.MapFields.{idle, AreAxes, IsMap}
 
 IsAxis-idle : (axis : AxisValue) → axis ≡ idle → IsAxis axis

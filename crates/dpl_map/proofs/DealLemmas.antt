@@ -1,5 +1,5 @@
 -- The members of a range by the blocks that a coordinate gets.
-use Rattle.std.proofs.Common.{◌≡◌, ◌⊎◌, ◌<◌, ◌≤◌, ◌+◌, ◌-◌, ◌*◌, ◌/◌, ◌%◌, ◌==◌, ◌&&◌, ℕ, true, ℤ, pos, negsuc, ◌+ℤ◌, ◌-ℤ◌, ◌≤ℤ◌, ◌<ℤ◌, Contains, int_le, List, [], ◌∷◌, ◌++◌, filter, length, All, AllPairs, get_or, inl, inr, unsigned_abs, refl, ap, sym, ◌∙◌, arith, ⊎_elim}
+use Rattle.std.proofs.Common.{◌≡◌, ◌⊎◌, ◌<◌, ◌≤◌, ◌+◌, ◌-◌, ◌*◌, ◌/◌, ◌%◌, ◌^◌, ◌==◌, ◌&&◌, ℕ, true, ℤ, pos, negsuc, ◌+ℤ◌, ◌-ℤ◌, ◌≤ℤ◌, ◌<ℤ◌, Contains, int_le, List, [], ◌∷◌, ◌++◌, filter, length, All, AllPairs, get_or, inl, inr, unsigned_abs, refl, ap, sym, ◌∙◌, arith, ⊎_elim}
 use Rattle.std.specs.Cmp.{both_ways}
 use Rattle.std.specs.Int.{int_div_euclid, int_rem_euclid}
 use Rattle.std.proofs.lemmas.Option.{get_or_from_slice_get}
@@ -60,6 +60,15 @@ module _ (r : RangeValue) (origin : ℤ) (size extent coordinate : ℕ) (deal : 
     where
       at : (i : ℤ) → r.low ≤ℤ i → i ≡ origin +ℤ pos (past origin i)
       at i low = omega (arith, ints, count_of-natural (i -ℤ origin) (omega (arith, ints, low, deal.begins)))
+
+  -- and not far past it
+  pub way-near : (i : ℤ) → r.low ≤ℤ i → i ≤ℤ r.high → (pos 0 ≤ℤ (i -ℤ origin)) × ((i -ℤ origin) ≤ℤ pos (2 ^ 70))
+  way-near i low high =
+      let limits = deal.limits in
+      let from = limits.low_is_bound in
+      let to = limits.high_is_bound in
+      let round : extent * size ≤ 64 * 2 ^ 63 = mul-le-mul {n₁ = extent} {m₁ = size} {n₂ = 64} {m₂ = 2 ^ 63} deal.few (omega (arith, deal.machine)) in
+      (omega (arith, ints, low, deal.begins), omega (arith, ints, low, high, from.0, to.1, deal.soon, round))
 
   -- those that the rule deals to the coordinate are in its blocks
   pub coordinate-members : (start : ℤ) → BeginsRound start (extent * size) origin → filter (λ i. block_cyclic_place start (pos size) extent i == coordinate) (members_of r) ≡ filter (λ i. block_number origin size i % extent == coordinate) (members_of r)

@@ -180,7 +180,7 @@ impl Axis {
 
     /// Whether each coordinate has its indices of a range in one range.
     pub fn is_single(&self) -> bool
-        ensures { IsTrue result → IsSingle self.now.rule }
+        ensures { IsTrue result ↔ IsSingle self.now.rule }
     {
         !matches!(self.rule, Rule::BlockCyclic { .. })
     }

@@ -167,7 +167,7 @@ impl Map {
         }
     }
 
-    /// The axes in three places, the last one last. Those in front that the map does not have have one coordinate.
+    /// Three axes, of which the map has the last ones. Those in front have one coordinate.
     pub(crate) fn axes(&self) -> (Axis, Axis, Axis)
         ensures axes { self.now ≡ last_of (length self.now) result.0 result.1 result.2 }
         ensures limits { IsMap (length self.now) result.0 result.1 result.2 }

@@ -10,7 +10,7 @@ pub returns-then-is_single-clause-none : goal.returns-then-is_single-clause-none
 returns-then-is_single-clause-none c =
     λ _ inner.
     none-same c.args.self.now c.axes.result.0 c.axes.result.1 c.axes.result.2 c.args.outer c.args.middle inner c.args.outer c.args.middle Blocks c.args.domains.now c.args.index
-    c.axes.ensures.axes refl refl (single-key inner c.axes.result.2.rule (c.is_single.ensures c.if-is_single.true)) (c.in_default.ensures.none refl)
+    c.axes.ensures.axes refl refl (single-key inner c.axes.result.2.rule (c.is_single.ensures.0 c.if-is_single.true)) (c.in_default.ensures.none refl)
 
 pub returns-clause-none : goal.returns-clause-none
 returns-clause-none c =

@@ -11,7 +11,7 @@ pub returns-then-is_single-clause-none : goal.returns-then-is_single-clause-none
 returns-then-is_single-clause-none c =
     λ _ middle inner.
     none-same c.args.self.now c.axes.result.0 c.axes.result.1 c.axes.result.2 c.args.outer middle inner c.args.outer Blocks inner c.args.domains.now c.args.index
-    c.axes.ensures.axes refl (single-key middle c.axes.result.1.rule (c.is_single.ensures c.if-is_single.true)) refl (c.in_default.ensures.none refl inner)
+    c.axes.ensures.axes refl (single-key middle c.axes.result.1.rule (c.is_single.ensures.0 c.if-is_single.true)) refl (c.in_default.ensures.none refl inner)
 
 pub returns-clause-none : goal.returns-clause-none
 returns-clause-none c =
