@@ -18,7 +18,7 @@ AreLocales n = (1 ≤ n) × (n ≤ 64)
 abbrev pub IsCount : ℕ → Type 0
 IsCount n = (1 ≤ n) × (n ≤ 2 ^ 32)
 
--- a grid has as many places as there are locales
+-- the extents of a grid multiply to the number of locales
 abbrev pub IsGrid2 : ℕ → List ℕ → Type 0
 IsGrid2 locales grid = slice_index grid 0 * slice_index grid 1 ≡ locales
 

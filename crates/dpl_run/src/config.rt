@@ -33,11 +33,11 @@ pub enum ConfigFault {
     /// The number of tries is not from 1 to 2^32.
     #[error("the tries are not from 1 to 4294967296")]
     Tries,
-    /// The grid of two dimensions has not as many places as there are locales.
-    #[error("the grid of two dimensions has not as many places as there are locales")]
+    /// The extents of the grid of two dimensions do not multiply to the number of locales.
+    #[error("the extents of the grid of two dimensions do not multiply to the number of locales")]
     Grid2,
-    /// The grid of three dimensions has not as many places as there are locales.
-    #[error("the grid of three dimensions has not as many places as there are locales")]
+    /// The extents of the grid of three dimensions do not multiply to the number of locales.
+    #[error("the extents of the grid of three dimensions do not multiply to the number of locales")]
     Grid3,
 }
 
@@ -63,7 +63,7 @@ impl Model for Config {
 
 impl Config {
     /// Settings of these numbers, which are held as they are handed in: 1 to 64 locales, a budget and tries from 1 to
-    /// [`MOST_TURNS`] each, and grids that have as many places as there are locales.
+    /// [`MOST_TURNS`] each, and grids whose extents multiply to the number of locales.
     ///
     /// # Errors
     /// The first cause, in the order of [`ConfigFault`].
@@ -123,7 +123,7 @@ impl Config {
     }
 }
 
-// Whether a grid of two dimensions has as many places as there are locales.
+// Whether the extents of a grid of two dimensions multiply to the number of locales.
 fn is_grid2(locales: u32, grid: [u32; 2]) -> bool
     ensures { IsTrue result ↔ IsGrid2 locales grid }
 {
@@ -131,7 +131,7 @@ fn is_grid2(locales: u32, grid: [u32; 2]) -> bool
     rows as u64 * columns as u64 == locales as u64
 }
 
-// Whether a grid of three dimensions has as many places as there are locales.
+// Whether the extents of a grid of three dimensions multiply to the number of locales.
 fn is_grid3(locales: u32, grid: [u32; 3]) -> bool
     ensures { IsTrue result ↔ IsGrid3 locales grid }
 {

@@ -15,11 +15,11 @@ fn settings(rt: HostRuntime) -> Result<(), Fail> {
         (ConfigFault::Tries, "the tries are not from 1 to 4294967296"),
         (
             ConfigFault::Grid2,
-            "the grid of two dimensions has not as many places as there are locales",
+            "the extents of the grid of two dimensions do not multiply to the number of locales",
         ),
         (
             ConfigFault::Grid3,
-            "the grid of three dimensions has not as many places as there are locales",
+            "the extents of the grid of three dimensions do not multiply to the number of locales",
         ),
     ];
     for (fault, want) in &rows {
