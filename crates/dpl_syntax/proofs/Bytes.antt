@@ -1,32 +1,21 @@
 -- Bytes that pass a test, and the value of digits.
 use Rattle.std.proofs.Common.{◌≡◌, ℕ, ◌+◌, ◌-◌, ◌*◌, ◌≤◌, Bool, true, false, ◌&&◌, List, [], ◌∷◌, ◌++◌, length, refl, ap, subst, eqb, eq-eqb, arith}
-use Rattle.std.proofs.lemmas.Bool.{eqb-true}
+use Rattle.std.proofs.lemmas.Bool.{eqb-true, and_from, and_parts}
 use Rattle.std.specs.Prelude.{bytes_eq}
 use Rattle.std.proofs.lemmas.Bool.Decides.{nat_tests}
 use Rattle.dpl_syntax.specs.Text.{is_letter, is_digit, goes_on, is_space, all_are, next_is, value_after}
 
--- ---- one test after another
-
-pub both : (a b : Bool) → a ≡ true → b ≡ true → a && b ≡ true
-both a b p q = rw (p, q) refl
-
-pub and-left : (a b : Bool) → a && b ≡ true → a ≡ true
-and-left true b h = refl
-and-left false b h = absurd cc
-
-pub and-right : (a b : Bool) → a && b ≡ true → b ≡ true
-and-right true b h = h
-and-right false b h = absurd cc
+-- ---- bytes that each pass a test
 
 module _ (p : ℕ → Bool) where
   pub all_are-cons : (c : ℕ) (cs : List ℕ) → p c ≡ true → all_are p cs ≡ true → all_are p (c ∷ cs) ≡ true
-  all_are-cons c cs h hs = both (p c) (all_are p cs) h hs
+  all_are-cons c cs h hs = and_from (p c) (all_are p cs) h hs
 
   pub all_are-head : (c : ℕ) (cs : List ℕ) → all_are p (c ∷ cs) ≡ true → p c ≡ true
-  all_are-head c cs h = and-left (p c) (all_are p cs) h
+  all_are-head c cs h = (and_parts (p c) (all_are p cs) h).0
 
   pub all_are-tail : (c : ℕ) (cs : List ℕ) → all_are p (c ∷ cs) ≡ true → all_are p cs ≡ true
-  all_are-tail c cs h = and-right (p c) (all_are p cs) h
+  all_are-tail c cs h = (and_parts (p c) (all_are p cs) h).1
 
   pub all_are-append : (a b : List ℕ) → all_are p a ≡ true → all_are p b ≡ true → all_are p (a ++ b) ≡ true
   all_are-append [] b h hs = hs
@@ -51,7 +40,7 @@ bytes_eq-same a b e = subst (λ (l : List ℕ). bytes_eq a l ≡ true) e (with_i
   where
     with_itself : (l : List ℕ) → bytes_eq l l ≡ true
     with_itself [] = refl
-    with_itself (c ∷ l) = both (eqb c c) (bytes_eq l l) (eq-eqb c c refl) (with_itself l)
+    with_itself (c ∷ l) = and_from (eqb c c) (bytes_eq l l) (eq-eqb c c refl) (with_itself l)
 
 -- and bytes that pass it are the same
 pub bytes_eq-true : (a b : List ℕ) → bytes_eq a b ≡ true → a ≡ b
@@ -59,8 +48,8 @@ bytes_eq-true [] [] h = refl
 bytes_eq-true [] (d ∷ b) h = absurd cc
 bytes_eq-true (c ∷ a) [] h = absurd cc
 bytes_eq-true (c ∷ a) (d ∷ b) h =
-    let first : c ≡ d = eqb-true c d (and-left (eqb c d) (bytes_eq a b) h) in
-    let others : a ≡ b = bytes_eq-true a b (and-right (eqb c d) (bytes_eq a b) h) in
+    let first : c ≡ d = eqb-true c d ((and_parts (eqb c d) (bytes_eq a b) h).0) in
+    let others : a ≡ b = bytes_eq-true a b ((and_parts (eqb c d) (bytes_eq a b) h).1) in
     cc
 
 -- ---- kinds of bytes

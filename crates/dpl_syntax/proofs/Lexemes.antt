@@ -6,7 +6,8 @@ use Rattle.dpl_syntax.specs.declared.token.Keyword.{Keyword}
 use Rattle.dpl_syntax.specs.declared.token.Sign.{Sign}
 use Rattle.dpl_syntax.specs.declared.token.Kind.{Kind}
 use Rattle.dpl_syntax.specs.declared.token.Kind.TheVariants.{Name, Number, Keyword as Reserved, Sign as Signed, End}
-use Rattle.dpl_syntax.proofs.Bytes.{no_further, letter_no_digit, letter_no_space, digit_no_space, and-left, and-right}
+use Rattle.dpl_syntax.proofs.Bytes.{no_further, letter_no_digit, letter_no_space, digit_no_space}
+use Rattle.std.proofs.lemmas.Bool.{and_parts}
 use Rattle.dpl_syntax.proofs.Keywords.{keyword_text-word, keyword_text-injective}
 use Rattle.dpl_syntax.proofs.Signs.{is_sign_text, sign_text-injective}
 
@@ -22,20 +23,20 @@ pub record HasFirst (u : List ℕ) : Type 0 where
 pub has_first : (u : List ℕ) → IsToken u → HasFirst u
 has_first [] (inl h) = absurd cc
 has_first [] (inr (inl h)) = absurd cc
-has_first (c ∷ cs) (inl h) = record { first = c; others = cs; is = refl; dark = letter_no_space c (and-left (is_letter c) (all_are goes_on cs) h) }
-has_first (c ∷ cs) (inr (inl h)) = record { first = c; others = cs; is = refl; dark = digit_no_space c (and-left (is_digit c) (all_are is_digit cs) h) }
+has_first (c ∷ cs) (inl h) = record { first = c; others = cs; is = refl; dark = letter_no_space c ((and_parts (is_letter c) (all_are goes_on cs) h).0) }
+has_first (c ∷ cs) (inr (inl h)) = record { first = c; others = cs; is = refl; dark = digit_no_space c ((and_parts (is_digit c) (all_are is_digit cs) h).0) }
 has_first u (inr (inr (s, e))) = let t = is_sign_text s in record { first = t.first; others = t.others; is = e ∙ t.is; dark = t.no_space }
 
 -- a word is no number, and neither is a sign
 pub word_no_number : (u : List ℕ) → is_word u ≡ true → is_number u ≡ true → ⊥
 word_no_number [] h k = absurd cc
-word_no_number (c ∷ cs) h k = letter_no_digit c (and-left (is_letter c) (all_are goes_on cs) h) (and-left (is_digit c) (all_are is_digit cs) k)
+word_no_number (c ∷ cs) h k = letter_no_digit c ((and_parts (is_letter c) (all_are goes_on cs) h).0) ((and_parts (is_digit c) (all_are is_digit cs) k).0)
 
 pub word_no_sign : (s : Sign) (u w v : List ℕ) → is_word v ≡ true → v ++ w ≡ sign_text s ++ u → ⊥
 word_no_sign s u w [] h e = absurd cc
 word_no_sign s u w (c ∷ cs) h e =
     let t = is_sign_text s in
-    let yes : is_letter c ≡ true = and-left (is_letter c) (all_are goes_on cs) h in
+    let yes : is_letter c ≡ true = (and_parts (is_letter c) (all_are goes_on cs) h).0 in
     let whole : c ∷ (cs ++ w) ≡ t.first ∷ (t.others ++ u) = e ∙ ap (λ (l : List ℕ). l ++ u) t.is in
     let same : c ≡ t.first = cc in
     absurd (cc (t.no_letter, yes, ap is_letter same))
@@ -44,7 +45,7 @@ pub number_no_sign : (s : Sign) (u w v : List ℕ) → is_number v ≡ true → 
 number_no_sign s u w [] h e = absurd cc
 number_no_sign s u w (c ∷ cs) h e =
     let t = is_sign_text s in
-    let yes : is_digit c ≡ true = and-left (is_digit c) (all_are is_digit cs) h in
+    let yes : is_digit c ≡ true = (and_parts (is_digit c) (all_are is_digit cs) h).0 in
     let whole : c ∷ (cs ++ w) ≡ t.first ∷ (t.others ++ u) = e ∙ ap (λ (l : List ℕ). l ++ u) t.is in
     let same : c ≡ t.first = cc in
     absurd (cc (t.no_digit, yes, ap is_digit same))
@@ -56,12 +57,12 @@ word_longest [] rest h stop v w e is = absurd cc
 word_longest (c ∷ cs) rest h stop [] w e is = omega arith
 word_longest (c ∷ cs) rest h stop (d ∷ v) w e (inl word) =
     let others : cs ++ rest ≡ v ++ w = cc in
-    let le = no_further goes_on cs rest v w stop (and-right (is_letter d) (all_are goes_on v) word) others in
+    let le = no_further goes_on cs rest v w stop ((and_parts (is_letter d) (all_are goes_on v) word).1) others in
     omega (arith, le)
 word_longest (c ∷ cs) rest h stop (d ∷ v) w e (inr (inl number)) =
     let same : c ≡ d = cc in
-    let yes : is_letter c ≡ true = and-left (is_letter c) (all_are goes_on cs) h in
-    let digit : is_digit d ≡ true = and-left (is_digit d) (all_are is_digit v) number in
+    let yes : is_letter c ≡ true = (and_parts (is_letter c) (all_are goes_on cs) h).0 in
+    let digit : is_digit d ≡ true = (and_parts (is_digit d) (all_are is_digit v) number).0 in
     absurd (letter_no_digit c yes (ap is_digit same ∙ digit))
 word_longest (c ∷ cs) rest h stop (d ∷ v) w e (inr (inr (s, is))) =
     absurd (word_no_sign s w rest (c ∷ cs) h (e ∙ ap (λ (l : List ℕ). l ++ w) is))
@@ -71,12 +72,12 @@ number_longest [] rest h stop v w e is = absurd cc
 number_longest (c ∷ cs) rest h stop [] w e is = omega arith
 number_longest (c ∷ cs) rest h stop (d ∷ v) w e (inl word) =
     let same : c ≡ d = cc in
-    let yes : is_digit c ≡ true = and-left (is_digit c) (all_are is_digit cs) h in
-    let letter : is_letter d ≡ true = and-left (is_letter d) (all_are goes_on v) word in
+    let yes : is_digit c ≡ true = (and_parts (is_digit c) (all_are is_digit cs) h).0 in
+    let letter : is_letter d ≡ true = (and_parts (is_letter d) (all_are goes_on v) word).0 in
     absurd (letter_no_digit c (ap is_letter same ∙ letter) yes)
 number_longest (c ∷ cs) rest h stop (d ∷ v) w e (inr (inl number)) =
     let others : cs ++ rest ≡ v ++ w = cc in
-    let le = no_further is_digit cs rest v w stop (and-right (is_digit d) (all_are is_digit v) number) others in
+    let le = no_further is_digit cs rest v w stop ((and_parts (is_digit d) (all_are is_digit v) number).1) others in
     omega (arith, le)
 number_longest (c ∷ cs) rest h stop (d ∷ v) w e (inr (inr (s, is))) =
     absurd (number_no_sign s w rest (c ∷ cs) h (e ∙ ap (λ (l : List ℕ). l ++ w) is))

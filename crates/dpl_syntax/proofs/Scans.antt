@@ -8,7 +8,8 @@ use Rattle.dpl_syntax.specs.Refused.{IsNumberAt}
 use Rattle.dpl_syntax.specs.Scan.{IsLexemeAt, IsSignAt}
 use Rattle.dpl_syntax.specs.declared.token.Sign.{Sign}
 use Rattle.dpl_syntax.specs.declared.scan.Shape.TheVariants.{Word, Number, Sign as Signed}
-use Rattle.dpl_syntax.proofs.Bytes.{all_are-tail, both, letter_goes_on}
+use Rattle.dpl_syntax.proofs.Bytes.{all_are-tail, letter_goes_on}
+use Rattle.std.proofs.lemmas.Bool.{and_from}
 use Rattle.dpl_syntax.proofs.Signs.{is_sign_text}
 use Rattle.dpl_syntax.proofs.Lexemes.{word_no_number, number_no_sign, word_longest, number_longest, sign_longest}
 
@@ -17,7 +18,7 @@ use Rattle.dpl_syntax.proofs.Lexemes.{word_no_number, number_no_sign, word_longe
 word_front : (text : List ℕ) (n : ℕ) → 0 < length text → is_letter (get_or text 0 0) ≡ true → all_are goes_on (take n text) ≡ true → next_is goes_on (drop n text) ≡ false → (0 < n) × (is_word (take n text) ≡ true)
 word_front [] n some letter all ended = absurd (omega arith)
 word_front (c ∷ cs) zero some letter all ended = absurd (cc (letter_goes_on c letter, ended))
-word_front (c ∷ cs) (suc n) some letter all ended = (omega arith, both (is_letter c) (all_are goes_on (take n cs)) letter (all_are-tail goes_on c (take n cs) all))
+word_front (c ∷ cs) (suc n) some letter all ended = (omega arith, and_from (is_letter c) (all_are goes_on (take n cs)) letter (all_are-tail goes_on c (take n cs) all))
 
 -- a word, as long as it can be
 pub word_found : (text : List ℕ) (n : ℕ) → 0 < length text → n ≤ length text → is_letter (get_or text 0 0) ≡ true → all_are goes_on (take n text) ≡ true → next_is goes_on (drop n text) ≡ false
@@ -39,7 +40,7 @@ word_found text n some within letter all ended =
 number_front : (text : List ℕ) (n : ℕ) → next_is is_digit text ≡ true → all_are is_digit (take n text) ≡ true → next_is is_digit (drop n text) ≡ false → (0 < n) × (is_number (take n text) ≡ true)
 number_front [] n digit all ended = absurd cc
 number_front (c ∷ cs) zero digit all ended = absurd cc
-number_front (c ∷ cs) (suc n) digit all ended = (omega arith, both (is_digit c) (all_are is_digit (take n cs)) digit (all_are-tail is_digit c (take n cs) all))
+number_front (c ∷ cs) (suc n) digit all ended = (omega arith, and_from (is_digit c) (all_are is_digit (take n cs)) digit (all_are-tail is_digit c (take n cs) all))
 
 -- the digits at the front are the number there
 pub number_at : (text : List ℕ) (n : ℕ) → next_is is_digit text ≡ true → all_are is_digit (take n text) ≡ true → next_is is_digit (drop n text) ≡ false → IsNumberAt text (take n text) (drop n text)

@@ -3,7 +3,7 @@
 use Rattle.std.proofs.Common.{◌≡◌, ◌≢◌, ◌⊎◌, inl, inr, ℕ, zero, suc, pos, ◌<◌, ◌≤◌, Bool, true, false, List, [], ◌∷◌, ◌++◌, length, take, drop, get_or, Some, None, refl, sym, ap, subst, ◌∙◌, arith}
 use Rattle.std.specs.Str.{is_utf8, IsUtf8, IsValidUpTo}
 use Rattle.std.specs.Prelude.{bytes_eq}
-use Rattle.std.proofs.lemmas.Bool.{cases_lt, cases_eq}
+use Rattle.std.proofs.lemmas.Bool.{cases_lt, cases_eq, and_parts}
 use Rattle.std.proofs.lemmas.List.{take_all, length-drop}
 use Rattle.std.proofs.lemmas.Str.{IsUtf8-from_is_utf8, is_utf8-from_IsUtf8, IsUtf8-nil}
 use Rattle.dpl_syntax.specs.Tokens.{keyword_text, sign_text}
@@ -21,7 +21,7 @@ use Rattle.dpl_syntax.specs.declared.scan.Lexeme.{Lexeme}
 use Rattle.dpl_syntax.specs.declared.refusal.Code.{Code}
 use Rattle.dpl_syntax.specs.declared.refusal.Code.TheVariants.{NotText, BadCharacter, NumberTooLarge}
 use Rattle.dpl_syntax.specs.declared.refusal.Refusal.{Refusal}
-use Rattle.dpl_syntax.proofs.Bytes.{all_are-cons, and-left, bytes_eq-true}
+use Rattle.dpl_syntax.proofs.Bytes.{all_are-cons, bytes_eq-true}
 use Rattle.dpl_syntax.proofs.Keywords.{all as all_keywords, first_of_text as keyword_of, no_keyword}
 use Rattle.dpl_syntax.proofs.Signs.{all as all_signs, first_of_text as sign_of, no_sign}
 use Rattle.dpl_syntax.proofs.Scans.{word_found, number_at, number_found, no_sign_at_end, one_byte, two_bytes, sign_found}
@@ -102,12 +102,12 @@ no_token : (c : ℕ) (cs : List ℕ) → is_letter c ≡ false → is_digit c �
 no_token c cs letter digit none [] rest e (inl word) = absurd cc
 no_token c cs letter digit none (d ∷ u) rest e (inl word) =
     let same : c ≡ d = cc in
-    let passes : is_letter d ≡ true = and-left (is_letter d) (all_are goes_on u) word in
+    let passes : is_letter d ≡ true = (and_parts (is_letter d) (all_are goes_on u) word).0 in
     absurd (cc (letter, passes, ap is_letter same))
 no_token c cs letter digit none [] rest e (inr (inl number)) = absurd cc
 no_token c cs letter digit none (d ∷ u) rest e (inr (inl number)) =
     let same : c ≡ d = cc in
-    let passes : is_digit d ≡ true = and-left (is_digit d) (all_are is_digit u) number in
+    let passes : is_digit d ≡ true = (and_parts (is_digit d) (all_are is_digit u) number).0 in
     absurd (cc (digit, passes, ap is_digit same))
 no_token c cs letter digit none u rest e (inr (inr (s, is))) = none s rest (e ∙ ap (λ (l : List ℕ). l ++ rest) is)
 
