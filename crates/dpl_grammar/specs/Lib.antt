@@ -2,7 +2,6 @@
 pub mod Numbers
 pub mod Classes
 pub mod Language
-
 -- What serves contracts and proofs alone.
 pub mod Reader
 pub mod Laws

@@ -3,7 +3,6 @@ pub mod Outcome
 pub mod Meaning
 pub mod Names
 pub mod Program
-
 -- What serves contracts and proofs alone: other environments, and when two agree.
 pub mod Slots
 pub mod Renamed
