@@ -1,0 +1,132 @@
+-- What is seen of a part of a tree by itself, without a state: bare names, cell reads, reduce intents.
+-- A bare name stands by itself; a name in round brackets is none, but `(A)[1]` is an element of A like `A[1]`.
+use Rattle.std.specs.Prelude.{ℤ, Option, Some, None, List, [], ◌∷◌, map}
+use Rattle.dpl_syntax.specs.declared.place.Place.{Place}
+use Rattle.dpl_history.specs.declared.cell.CellOp.{CellOp}
+use Rattle.dpl_history.specs.declared.cell.CellOp.TheVariants.{ReadFE, ReadFF, WriteEF, WriteFF, WriteXF}
+use Rattle.dpl_language.specs.Tree.{Placed, AfterComma, Listed, Op, ReadWord, ReadFEWord, ReadFFWord, WriteWord, WriteEFWord, WriteFFWord, WriteXFWord, ExprTree, Number, TruthWord, Named, LocalesWord, LocaleCount, HereWord, Grouped, DomainLiteral, Prefixed, Reduced, Chain, Postfixed, ItemTree, One, RangeItem, Posts, NoPosts, Post, PostTree, Brackets, Rounds, Dotted, MethodTree, Plainly, Dim, Contains, Expand, CellRead, Items, FirstItem, NoItems, NextItem, IntentTree, ReduceIntent, RefIntent, WithTree}
+
+-- the parts of a list with commas
+abbrev pub parts : {A : Type 0} → Listed A → List A
+parts {A} xs = xs.first ∷ map {A = AfterComma A} {B = A} (λ x. x.part) xs.others
+
+-- What stands before brackets, as a fault tells it: a name, the word `Locales`, or something else.
+pub data Base (N : Type 0) : Type 0 where
+  BaseName : Placed N → Base N
+  BaseLocales : Place → Base N
+  OtherBase : Base N
+
+abbrev mutual
+  pub base_of : {N : Type 0} → ExprTree N → Base N
+  base_of (Number at n) = OtherBase
+  base_of (TruthWord at b) = OtherBase
+  base_of (Named x) = BaseName x
+  base_of (LocalesWord at) = BaseLocales at
+  base_of (LocaleCount at) = OtherBase
+  base_of (HereWord at) = OtherBase
+  base_of (Grouped from item upto) = item_base item
+  base_of (DomainLiteral from items upto) = OtherBase
+  base_of (Prefixed at op e) = OtherBase
+  base_of (Reduced at op word e) = OtherBase
+  base_of (Chain e rest) = OtherBase
+  base_of (Postfixed e posts) = OtherBase
+
+  pub item_base : {N : Type 0} → ItemTree N → Base N
+  item_base (One e) = base_of e
+  item_base (RangeItem low at dots high by) = OtherBase
+
+-- the bare name that an expression is
+abbrev pub bare_name : {N : Type 0} → ExprTree N → Option (Placed N)
+bare_name (Number at n) = None
+bare_name (TruthWord at b) = None
+bare_name (Named x) = Some x
+bare_name (LocalesWord at) = None
+bare_name (LocaleCount at) = None
+bare_name (HereWord at) = None
+bare_name (Grouped from item upto) = None
+bare_name (DomainLiteral from items upto) = None
+bare_name (Prefixed at op e) = None
+bare_name (Reduced at op word e) = None
+bare_name (Chain e rest) = None
+bare_name (Postfixed e posts) = None
+
+-- the operation on a cell that a method's word stands for
+abbrev pub read_op : ReadWord → CellOp
+read_op ReadFEWord = ReadFE
+read_op ReadFFWord = ReadFF
+
+abbrev pub write_op : WriteWord → ℤ → CellOp
+write_op WriteEFWord z = WriteEF z
+write_op WriteFFWord z = WriteFF z
+write_op WriteXFWord z = WriteXF z
+
+abbrev pub method_read : {N : Type 0} → MethodTree N → Option CellOp
+method_read (Plainly at w) = None
+method_read (Dim at from rank_at d upto) = None
+method_read (Contains at from es upto) = None
+method_read (Expand at from e upto) = None
+method_read (CellRead at w from upto) = Some (read_op w)
+
+abbrev pub post_read : {N : Type 0} → PostTree N → Option CellOp
+post_read (Brackets from items upto) = None
+post_read (Rounds from es upto) = None
+post_read (Dotted dot m) = method_read m
+
+-- a cell read stands behind a bare name alone
+abbrev pub posts_read : {N : Type 0} → Posts N → Option CellOp
+posts_read NoPosts = None
+posts_read (Post p NoPosts) = post_read p
+posts_read (Post p (Post q rest)) = None
+
+-- a read of a cell: `c.readFE()` or `c.readFF()`
+pub record ReadTree (N : Type 0) : Type 0 where
+  pub name : Placed N
+  pub op : CellOp
+
+abbrev pub read_by : {N : Type 0} → Option (Placed N) → Option CellOp → Option (ReadTree N)
+read_by None op = None
+read_by (Some x) None = None
+read_by (Some x) (Some op) = Some (record { name = x; op = op })
+
+-- the cell read that an expression is as a whole
+abbrev pub cell_read : {N : Type 0} → ExprTree N → Option (ReadTree N)
+cell_read (Number at n) = None
+cell_read (TruthWord at b) = None
+cell_read (Named x) = None
+cell_read (LocalesWord at) = None
+cell_read (LocaleCount at) = None
+cell_read (HereWord at) = None
+cell_read (Grouped from item upto) = None
+cell_read (DomainLiteral from items upto) = None
+cell_read (Prefixed at op e) = None
+cell_read (Reduced at op word e) = None
+cell_read (Chain e rest) = None
+cell_read (Postfixed e posts) = read_by (bare_name e) (posts_read posts)
+
+abbrev pub item_read : {N : Type 0} → ItemTree N → Option (ReadTree N)
+item_read (One e) = cell_read e
+item_read (RangeItem low at dots high by) = None
+
+-- the name, without its place
+abbrev pub name_of : {N : Type 0} → Option (Placed N) → Option N
+name_of None = None
+name_of (Some x) = Some x.name
+
+abbrev pub item_over : {N : Type 0} → ItemTree N → Option N
+item_over (One e) = name_of (bare_name e)
+item_over (RangeItem low at dots high by) = None
+
+-- the bare domain name over which an array is declared: it stands alone between the brackets
+abbrev pub declared_over : {N : Type 0} → Items N → Option N
+declared_over (FirstItem i NoItems) = item_over i
+declared_over (FirstItem i (NextItem comma j more)) = None
+
+-- the reduce variables of a loop and their operators; `ref` changes nothing
+abbrev pub reduce_intents : {N : Type 0} → List (IntentTree N) → List (N × Op)
+reduce_intents [] = []
+reduce_intents (ReduceIntent at op word x ∷ rest) = (x.name, op) ∷ reduce_intents rest
+reduce_intents (RefIntent at x ∷ rest) = reduce_intents rest
+
+abbrev pub intents_of : {N : Type 0} → Option (WithTree N) → List (N × Op)
+intents_of None = []
+intents_of (Some w) = reduce_intents (parts w.intents)

@@ -1,0 +1,168 @@
+-- The language's values, its faults, and what a value is where another kind of value is asked for.
+-- No sound program asks for another kind; each such case has an answer so that every program has a meaning.
+use Rattle.std.specs.Prelude.{ℕ, ℤ, pos, Bool, true, false, Option, Some, None, List, [], ◌∷◌, ◌++◌, int_lt}
+use Rattle.dpl_syntax.specs.declared.place.Place.{Place}
+use Rattle.dpl_range.specs.Equality.{TextRange}
+use Rattle.dpl_language.specs.Tree.{Kind, IntKind, BoolKind}
+
+-- an index: the list of its one to three coordinates
+abbrev pub Index : Type 0
+Index = List ℤ
+
+-- What a name or an expression is. A domain is the list of its ranges, a locale its number, and a tuple the index
+-- that a loop's tuple name stands for. `AllLocales` is the word `Locales`. Of an array the value holds the kind of
+-- its elements and its domain alone, and of a cell the kind alone: elements and states are asked for one by one.
+pub data Value : Type 0 where
+  Int : ℤ → Value
+  Truth : Bool → Value
+  Range : TextRange → Value
+  Domain : List TextRange → Value
+  Array : Kind → List TextRange → Value
+  Cell : Kind → Value
+  Locale : ℤ → Value
+  AllLocales : Value
+  Tuple : Index → Value
+
+-- the faults F1 to F8, in this order
+pub data FaultCode : Type 0 where
+  Outside : FaultCode
+  ZeroDivisor : FaultCode
+  PastLimit : FaultCode
+  EmptyEnd : FaultCode
+  Budget : FaultCode
+  NoLocale : FaultCode
+  CellStuck : FaultCode
+  ArrayTooLarge : FaultCode
+
+-- In which turn a fault arose: in none; in that of an index, of a forall, a whole-array assignment or a reduction;
+-- or in a task, of which its number alone is told.
+pub data Turn : Type 0 where
+  InNone : Turn
+  InTurn : Index → Turn
+  InTask : ℕ → Turn
+
+pub record Fault : Type 0 where
+  pub code : FaultCode
+  pub at : Place
+  pub turn : Turn
+
+-- a fault, as it arises outside any turn
+abbrev pub fault : FaultCode → Place → Fault
+fault code at = record { code = code; at = at; turn = InNone }
+
+-- the same fault, in a turn
+abbrev pub in_the_turn : Turn → Fault → Fault
+in_the_turn t f = record f { turn = t }
+
+-- what a declaration without an initial value gives: 0, or false
+abbrev pub default : Kind → Value
+default IntKind = Int (pos 0)
+default BoolKind = Truth false
+
+-- the number of a value; of a locale its `id`
+abbrev pub number : Value → ℤ
+number (Int n) = n
+number (Truth b) = pos 0
+number (Range r) = pos 0
+number (Domain rs) = pos 0
+number (Array k rs) = pos 0
+number (Cell k) = pos 0
+number (Locale k) = k
+number AllLocales = pos 0
+number (Tuple t) = pos 0
+
+abbrev pub truth : Value → Bool
+truth (Int n) = false
+truth (Truth b) = b
+truth (Range r) = false
+truth (Domain rs) = false
+truth (Array k rs) = false
+truth (Cell k) = false
+truth (Locale k) = false
+truth AllLocales = false
+truth (Tuple t) = false
+
+-- the ranges that a value adds to a domain or a slice: a range itself, those of a domain, and those of an array's domain
+abbrev pub ranges_in : Value → List TextRange
+ranges_in (Int n) = []
+ranges_in (Truth b) = []
+ranges_in (Range r) = r ∷ []
+ranges_in (Domain rs) = rs
+ranges_in (Array k rs) = rs
+ranges_in (Cell k) = []
+ranges_in (Locale k) = []
+ranges_in AllLocales = []
+ranges_in (Tuple t) = []
+
+abbrev pub all_ranges : List Value → List TextRange
+all_ranges [] = []
+all_ranges (v ∷ vs) = ranges_in v ++ all_ranges vs
+
+-- the coordinates that a value adds to an index: a number itself, and those of a tuple
+abbrev pub coordinates : Value → Index
+coordinates (Int n) = n ∷ []
+coordinates (Truth b) = []
+coordinates (Range r) = []
+coordinates (Domain rs) = []
+coordinates (Array k rs) = []
+coordinates (Cell k) = []
+coordinates (Locale k) = []
+coordinates AllLocales = []
+coordinates (Tuple t) = t
+
+abbrev pub index_of : List Value → Index
+index_of [] = []
+index_of (v ∷ vs) = coordinates v ++ index_of vs
+
+-- the domain of a whole array
+abbrev pub array_domain : Value → Option (List TextRange)
+array_domain (Int n) = None
+array_domain (Truth b) = None
+array_domain (Range r) = None
+array_domain (Domain rs) = None
+array_domain (Array k rs) = Some rs
+array_domain (Cell k) = None
+array_domain (Locale k) = None
+array_domain AllLocales = None
+array_domain (Tuple t) = None
+
+abbrev pub is_domain : Value → Bool
+is_domain (Int n) = false
+is_domain (Truth b) = false
+is_domain (Range r) = false
+is_domain (Domain rs) = true
+is_domain (Array k rs) = false
+is_domain (Cell k) = false
+is_domain (Locale k) = false
+is_domain AllLocales = false
+is_domain (Tuple t) = false
+
+-- a cell keeps a number: an int itself, and a truth value as 0 or 1
+abbrev pub kept_number : Value → ℤ
+kept_number (Int n) = n
+kept_number (Truth true) = pos 1
+kept_number (Truth false) = pos 0
+kept_number (Range r) = pos 0
+kept_number (Domain rs) = pos 0
+kept_number (Array k rs) = pos 0
+kept_number (Cell k) = pos 0
+kept_number (Locale k) = pos 0
+kept_number AllLocales = pos 0
+kept_number (Tuple t) = pos 0
+
+-- the value that a cell's number stands for, by the cell's kind
+abbrev pub value_kept : Kind → ℤ → Value
+value_kept IntKind z = Int z
+value_kept BoolKind z = Truth (int_lt (pos 0) z)
+
+-- the kind of the values in a cell
+abbrev pub cell_kind : Value → Kind
+cell_kind (Int n) = IntKind
+cell_kind (Truth b) = IntKind
+cell_kind (Range r) = IntKind
+cell_kind (Domain rs) = IntKind
+cell_kind (Array k rs) = IntKind
+cell_kind (Cell k) = k
+cell_kind (Locale k) = IntKind
+cell_kind AllLocales = IntKind
+cell_kind (Tuple t) = IntKind
