@@ -16,7 +16,7 @@ const SQUARES: &str =
     "var s: int; forall i in 1..8 by 2 with (+ reduce s) do s += i*i; writeln(s);";
 
 // Each text with its budget, and the bytes that are written of it.
-const ROWS: [(&str, u64, &str); 29] = [
+const ROWS: [(&str, u64, &str); 34] = [
     (SQUARES, 16777216, "84\n"),
     (SQUARES, 4, "84\n"),
     (SQUARES, 3, "! F5 at 1:13\n"),
@@ -46,6 +46,11 @@ const ROWS: [(&str, u64, &str); 29] = [
         "5\n! F5 at 3:1\n",
     ),
     ("writeln(1) @", 9, "! L2 at 1:12\n"),
+    ("writeln(1) 'a", 9, "! L2 at 1:12\n"),
+    ("/* a /* b */ */ writeln(0x10); // 16", 9, "16\n"),
+    ("var size = 1_0; writeln(size);", 9, "10\n"),
+    ("writeln('a');", 9, "! P1 at 1:9\n"),
+    ("forall i in 1..<8 do i = 1;", 9, "! P1 at 1:14\n"),
     ("var x = 9223372036854775808;", 9, "! L3 at 1:9\n"),
     ("writeln(1", 9, "! P1 at 1:10\n"),
     (

@@ -6,3 +6,16 @@ pub mod Many
 pub mod Run
 pub mod Same
 pub mod Rules
+pub mod Faults
+pub mod Begins
+pub mod Late
+pub mod Grammars
+pub mod Depths
+pub mod Deeper
+pub mod Flat
+pub mod Example
+pub mod Turns
+pub mod RunTurns
+pub mod Refusals
+pub mod Results
+pub mod Ended

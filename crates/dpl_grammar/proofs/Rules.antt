@@ -3,9 +3,9 @@
 use Rattle.std.proofs.Common.{◌≡◌, inl, inr, Bool, true, false, cond, List, [], ◌∷◌, ◌++◌, Err, refl, ◌∙◌}
 use Rattle.dpl_syntax.specs.declared.token.Token.{Token}
 use Rattle.dpl_grammar.specs.Classes.{Class, apart, within}
-use Rattle.dpl_grammar.specs.Language.{Language, never, done, token, ◌>>=◌, either, maybe, means, many}
+use Rattle.dpl_grammar.specs.Language.{Language, never, done, token, ◌>>=◌, either, maybe, means, many, run}
 use Rattle.dpl_grammar.specs.Reader as reader
-use Rattle.dpl_grammar.specs.Reader.{Unexpected, NoRoom, Reader, on_read, done_at, next_in, token_at, choose, maybe_at, means_at, many_at, no_room}
+use Rattle.dpl_grammar.specs.Reader.{Unexpected, NoRoom, Reader, on_read, done_at, next_in, token_at, choose, maybe_at, means_at, many_at, run_at, no_room}
 use Rattle.dpl_grammar.specs.Laws.{Reads}
 use Rattle.std.specs.Prelude.{Some, None}
 use Rattle.dpl_grammar.proofs.Classes.{next_within, lacks_none, apart_none, within_self, within_front, within_append}
@@ -13,6 +13,7 @@ use Rattle.dpl_grammar.proofs.Basic.{token_reads, done_reads, bind_reads}
 use Rattle.dpl_grammar.proofs.Choice.{choose_reads, no_room_reads}
 use Rattle.dpl_grammar.proofs.Same.{same_itself, reads_along, never_bind}
 use Rattle.dpl_grammar.proofs.Many.{many_reads}
+use Rattle.dpl_grammar.proofs.Run.{run_reads}
 
 empty_or : (n w : Bool) → cond n w true ≡ true → (n ≡ false → ⊥) → w ≡ true
 empty_or true w h not = h
@@ -53,6 +54,15 @@ pub as_many : {T : Type 0} {X : Class} {A A' : Language T} {p p' : Reader T} {F 
     → within F E ≡ true
     → Reads X (many A) (many A') (many_at F p) (many_at F p') true F (λ xs. E)
 as_many {X = X} {A = A} {A' = A'} {p = p} {p' = p'} {F = F} {C = C} one E a b c = many_reads X A A' p p' F C one E a b c
+
+-- any number, of which one that lets no other follow is the last, where what ends one depends on its value
+pub as_run : {T : Type 0} {X : Class} {A A' : Language T} {p p' : Reader T} {F : Class} {C : T → Class} (more : T → Bool)
+    → Reads X A A' p p' false F C → (E : Class)
+    → ((x : T) → more x ≡ true → apart F (C x) ≡ true)
+    → ((x : T) → within (C x) E ≡ true)
+    → within F E ≡ true
+    → Reads X (run more A) (run more A') (run_at F more p) (run_at F more p') true F (λ xs. E)
+as_run {X = X} {A = A} {A' = A'} {p = p} {p' = p'} {F = F} {C = C} more one E a b c = run_reads X more A A' p p' F C one E a b c
 
 -- what answers the same reads the same
 pub reads_by : {T : Type 0} {X : Class} {L M : Language T} {p q p' q' : Reader T} {n : Bool} {F : Class} {C : T → Class} → ((ts : List Token) → p' ts ≡ p ts) → ((ts : List Token) → q' ts ≡ q ts) → Reads X L M p q n F C → Reads X L M p' q' n F C

@@ -2,21 +2,26 @@
 -- Whether a token is of a class, and how two classes lie to each other, computes.
 use Rattle.std.specs.Prelude.{◌≡◌, ℕ, List, [], ◌∷◌, Bool, true, false, cond, ◌==◌}
 use Rattle.dpl_syntax.specs.declared.token.Keyword.{Keyword}
+use Rattle.dpl_syntax.specs.declared.token.Contextual.{Contextual}
 use Rattle.dpl_syntax.specs.declared.token.Sign.{Sign}
 use Rattle.dpl_syntax.specs.declared.token.Token.{Token}
-use Rattle.dpl_grammar.specs.Numbers.{sign_number, keyword_number, kind_number}
+use Rattle.dpl_grammar.specs.Numbers.{sign_number, keyword_number, contextual_number, kind_number}
 
 -- a class: the numbers of its kinds
 abbrev pub Class : Type 0
 Class = List ℕ
 
--- every name
+-- every name, contextual words among them
 abbrev pub names : Class
-names = 0 ∷ []
+names = 0 ∷ 200 ∷ 201 ∷ 202 ∷ 203 ∷ 204 ∷ 205 ∷ 206 ∷ 207 ∷ 208 ∷ 209 ∷ 210 ∷ 211 ∷ 212 ∷ 213 ∷ 214 ∷ 215 ∷ 216 ∷ 217 ∷ 218 ∷ 219 ∷ 220 ∷ 221 ∷ 222 ∷ []
 
 -- every number
 abbrev pub numbers : Class
 numbers = 1 ∷ []
+
+-- every text in quotes
+abbrev pub texts : Class
+texts = 3 ∷ []
 
 -- the end of the text
 abbrev pub end : Class
@@ -29,6 +34,10 @@ sign s = sign_number s ∷ []
 -- one reserved word
 abbrev pub keyword : Keyword → Class
 keyword w = keyword_number w ∷ []
+
+-- one contextual word
+abbrev pub contextual : Contextual → Class
+contextual w = contextual_number w ∷ []
 
 -- whether a class has the kind with the number
 abbrev pub has : Class → ℕ → Bool

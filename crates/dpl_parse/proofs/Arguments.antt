@@ -9,10 +9,10 @@ use Rattle.dpl_grammar.specs.Classes.{sign}
 use Rattle.dpl_grammar.specs.Reader.{Reader, next_in, on_read}
 use Rattle.dpl_parse.specs.Grammar.{Expression, listed}
 use Rattle.dpl_parse.specs.Reading.{after_comma_at, operands_after_at}
-use Rattle.dpl_parse.specs.Gives.{Fails}
+use Rattle.dpl_grammar.specs.Gives.{Fails}
 use Rattle.dpl_syntax.specs.declared.stop.Stop.{Stop}
 use Rattle.dpl_syntax.specs.declared.stop.Stop.TheVariants.{Memory, Refused}
-use Rattle.dpl_parse.proofs.Turns.{IsSoFar, begins, goes_on, ends, so_fails}
+use Rattle.dpl_grammar.proofs.Turns.{IsSoFar, begins, goes_on, ends, so_fails}
 
 module _ (N : Reader Expression) (start : List Expression) (tokens : List Token) where
   -- those that were there at the start, and those read since, each with a comma before it

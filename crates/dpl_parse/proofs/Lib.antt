@@ -2,8 +2,6 @@ pub mod Rules
 pub mod Fronts
 pub mod Refusals
 pub mod Levels
-pub mod Turns
 pub mod Rows
 pub mod Arguments
-pub mod Results
 pub mod Worked

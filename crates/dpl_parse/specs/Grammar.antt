@@ -4,10 +4,11 @@
 use Rattle.std.specs.Prelude.{ℕ, zero, suc, ℤ, pos, Bool, true, false, List, [], ◌∷◌, map, Option, Some, None}
 use Rattle.dpl_syntax.specs.declared.place.Place.{Place}
 use Rattle.dpl_syntax.specs.declared.token.Kind.{Kind}
-use Rattle.dpl_syntax.specs.declared.token.Kind.TheVariants.{Name as NameKind, Number as NumberKind, Keyword as KeywordKind, Sign as SignKind, End as EndKind}
+use Rattle.dpl_syntax.specs.declared.token.Kind.TheVariants.{Name as NameKind, Contextual as ContextualKind, Number as NumberKind, Text as TextKind, Keyword as KeywordKind, Sign as SignKind, End as EndKind}
 use Rattle.dpl_syntax.specs.declared.token.Keyword.TheVariants.{Var, Const, Int, Writeln as WritelnWord, Forall as ForallWord, In, By, With, Reduce, Do}
 use Rattle.dpl_syntax.specs.declared.token.Sign.TheVariants.{DotDot, PlusAssign, StarAssign, Assign, Plus, Minus, Star, OpenRound, CloseRound, Comma, Semicolon, Colon}
 use Rattle.dpl_syntax.specs.declared.token.Token.{Token}
+use Rattle.dpl_syntax.specs.Tokens.{contextual_text}
 use Rattle.dpl_syntax.specs.declared.operator.Prefix.TheVariants.{Minus as MinusOp}
 use Rattle.dpl_syntax.specs.declared.operator.Infix.{Infix}
 use Rattle.dpl_syntax.specs.declared.operator.Infix.TheVariants.{Add, Subtract, Multiply}
@@ -30,10 +31,12 @@ Statement = StmtTree (List ℕ)
 abbrev pub Program : Type 0
 Program = ProgramTree (List ℕ)
 
--- the text of a name; no other kind is asked
+-- the text of a name, also where the name is a contextual word; no other kind is asked
 abbrev pub text_of : Kind → List ℕ
 text_of (NameKind text) = text
+text_of (ContextualKind w) = contextual_text w
 text_of (NumberKind n) = []
+text_of (TextKind text) = []
 text_of (KeywordKind w) = []
 text_of (SignKind s) = []
 text_of EndKind = []
@@ -41,7 +44,9 @@ text_of EndKind = []
 -- the value of a number; no other kind is asked
 abbrev pub value_of : Kind → ℤ
 value_of (NameKind text) = pos 0
+value_of (ContextualKind w) = pos 0
 value_of (NumberKind n) = n
+value_of (TextKind text) = pos 0
 value_of (KeywordKind w) = pos 0
 value_of (SignKind s) = pos 0
 value_of EndKind = pos 0

@@ -3,6 +3,5 @@ pub mod Grammar
 pub mod Theorem
 -- What serves contracts and proofs alone.
 pub mod Reading
-pub mod Gives
 pub mod Levels
 pub mod Parts

@@ -4,12 +4,14 @@
 ghost use Rattle.std.specs.Prelude.{◌≡◌, ◌<◌, ◌≤◌, length, map, IfOk, OnErr, IsErrOf};
 ghost use Rattle.dpl_syntax.specs.View.{expr_view, spelled};
 ghost use Rattle.dpl_grammar.specs.Reader.{next_in, many_at};
-ghost use Rattle.dpl_parse.specs.Gives.{Gives};
+ghost use Rattle.dpl_grammar.specs.Gives.{Gives};
 ghost use Rattle.dpl_parse.specs.Grammar.{chain_of};
 ghost use Rattle.dpl_parse.specs.Reading.{BelowAt, below_at, further_at, chain_at, bracketed_at, factor_at, term_at, expression_at, begins_expression};
 ghost use Rattle.dpl_parse.specs.Levels.{signs_of, operator_at, operand_at, further_view};
 
-use crate::token::{Parsed, deeper, is_sign, means, name, number, sign};
+use crate::token::{
+    Parsed, Tokens, deeper, is_name, is_sign, means, name, number, passed_on, sign,
+};
 use dpl_syntax::tree::{Expr, Link};
 use dpl_syntax::{Infix, Kind, Place, Prefix, Sign, Stop, Token};
 use std::alloc::Global;
@@ -26,7 +28,7 @@ enum Level {
 impl Level {
     /// Whether the next token is an operator of the level.
     #[tactic(auto, using(dpl_grammar::proofs::Classes::next_in_either))]
-    fn is_next(self, tokens: &[Token]) -> bool
+    fn is_next(self, tokens: Tokens<'_>) -> bool
         ensures { result ≡ next_in (signs_of self) tokens.now }
     {
         match self {
@@ -37,7 +39,7 @@ impl Level {
 
     /// An operator of the level, with its place.
     #[tactic(auto, unfolding(crate::specs::Reading::sum_operator_at, crate::specs::Reading::product_operator_at))]
-    fn operator(self, tokens: &[Token]) -> Parsed<'_, (Place, Infix)>
+    fn operator(self, tokens: Tokens<'_>) -> Parsed<'_, (Place, Infix)>
         ensures gives { Gives (λ x. (x.0, x.1.now)) result (operator_at self tokens.now) }
         ensures shorter { IfOk result (λ x. length x.1.now < length tokens.now) }
     {
@@ -52,7 +54,7 @@ impl Level {
 /// e = t { ("+" | "-") t }
 #[cycle(expression)]
 #[tactic(auto, unfolding(crate::specs::Reading::expression_at))]
-pub fn expression(alloc: Global, room: u32, tokens: &[Token]) -> Parsed<'_, Expr>
+pub fn expression(alloc: Global, room: u32, tokens: Tokens<'_>) -> Parsed<'_, Expr>
     ensures gives { Gives (λ x. (expr_view spelled x.0, x.1.now)) result (expression_at (below_at room) tokens.now) }
     ensures shorter { IfOk result (λ x. length x.1.now < length tokens.now) }
 {
@@ -62,7 +64,7 @@ pub fn expression(alloc: Global, room: u32, tokens: &[Token]) -> Parsed<'_, Expr
 /// t = "-" t | f { "*" f }
 #[cycle(expression)]
 #[tactic(auto, using(crate::proofs::Levels::below_term), unfolding(crate::specs::Reading::term_at, crate::specs::Reading::negative_at, crate::specs::Reading::product_at))]
-fn term(alloc: Global, room: u32, tokens: &[Token]) -> Parsed<'_, Expr>
+fn term(alloc: Global, room: u32, tokens: Tokens<'_>) -> Parsed<'_, Expr>
     ensures gives { Gives (λ x. (expr_view spelled x.0, x.1.now)) result (term_at (below_at room) tokens.now) }
     ensures shorter { IfOk result (λ x. length x.1.now < length tokens.now) }
 {
@@ -80,16 +82,16 @@ fn term(alloc: Global, room: u32, tokens: &[Token]) -> Parsed<'_, Expr>
 /// f = name | number | "(" e ")"
 #[cycle(expression)]
 #[tactic(auto, unfolding(crate::specs::Reading::factor_at))]
-fn factor(alloc: Global, room: u32, tokens: &[Token]) -> Parsed<'_, Expr>
+fn factor(alloc: Global, room: u32, tokens: Tokens<'_>) -> Parsed<'_, Expr>
     ensures gives { Gives (λ x. (expr_view spelled x.0, x.1.now)) result (factor_at (below_at room) tokens.now) }
     ensures shorter { IfOk result (λ x. length x.1.now < length tokens.now) }
 {
+    if is_name(tokens) {
+        let (named, rest) = name(alloc, tokens)?;
+        return Ok((Expr::Named(named), rest));
+    }
     match tokens {
         [next, ..] => match next.kind {
-            Kind::Name(_) => {
-                let (named, rest) = name(alloc, tokens)?;
-                Ok((Expr::Named(named), rest))
-            }
             Kind::Number(_) => number(tokens),
             _ => bracketed(alloc, room, tokens),
         },
@@ -100,7 +102,7 @@ fn factor(alloc: Global, room: u32, tokens: &[Token]) -> Parsed<'_, Expr>
 /// "(" e ")"
 #[cycle(expression)]
 #[tactic(auto, using(crate::proofs::Levels::below_expression), unfolding(crate::specs::Reading::bracketed_at))]
-fn bracketed(alloc: Global, room: u32, tokens: &[Token]) -> Parsed<'_, Expr>
+fn bracketed(alloc: Global, room: u32, tokens: Tokens<'_>) -> Parsed<'_, Expr>
     ensures gives { Gives (λ x. (expr_view spelled x.0, x.1.now)) result (bracketed_at (below_at room) tokens.now) }
     ensures shorter { IfOk result (λ x. length x.1.now < length tokens.now) }
 {
@@ -121,7 +123,7 @@ fn bracketed(alloc: Global, room: u32, tokens: &[Token]) -> Parsed<'_, Expr>
 /// operand { operator operand }
 #[cycle(expression)]
 #[tactic(auto, unfolding(crate::specs::Reading::chain_at))]
-fn chain(alloc: Global, level: Level, room: u32, tokens: &[Token]) -> Parsed<'_, Expr>
+fn chain(alloc: Global, level: Level, room: u32, tokens: Tokens<'_>) -> Parsed<'_, Expr>
     ensures gives { Gives (λ x. (expr_view spelled x.0, x.1.now)) result (chain_at (signs_of level) (operator_at level) (operand_at level (below_at room)) tokens.now) }
     ensures shorter { IfOk result (λ x. length x.1.now < length tokens.now) }
 {
@@ -133,7 +135,7 @@ fn chain(alloc: Global, level: Level, room: u32, tokens: &[Token]) -> Parsed<'_,
 
 /// What stands between the operators of a level.
 #[cycle(expression)]
-fn operand(alloc: Global, level: Level, room: u32, tokens: &[Token]) -> Parsed<'_, Expr>
+fn operand(alloc: Global, level: Level, room: u32, tokens: Tokens<'_>) -> Parsed<'_, Expr>
     ensures gives { Gives (λ x. (expr_view spelled x.0, x.1.now)) result (operand_at level (below_at room) tokens.now) }
     ensures shorter { IfOk result (λ x. length x.1.now < length tokens.now) }
 {
@@ -146,7 +148,7 @@ fn operand(alloc: Global, level: Level, room: u32, tokens: &[Token]) -> Parsed<'
 /// operator operand
 #[cycle(expression)]
 #[tactic(auto, unfolding(crate::specs::Reading::further_at))]
-fn further(alloc: Global, level: Level, room: u32, tokens: &[Token]) -> Parsed<'_, Link>
+fn further(alloc: Global, level: Level, room: u32, tokens: Tokens<'_>) -> Parsed<'_, Link>
     ensures gives { Gives (λ x. (further_view x.0, x.1.now)) result (further_at (operator_at level) (operand_at level (below_at room)) tokens.now) }
     ensures shorter { IfOk result (λ x. length x.1.now < length tokens.now) }
 {
@@ -157,7 +159,7 @@ fn further(alloc: Global, level: Level, room: u32, tokens: &[Token]) -> Parsed<'
 
 /// { operator operand }
 #[cycle(expression)]
-fn others(alloc: Global, level: Level, room: u32, tokens: &[Token]) -> Parsed<'_, Vec<Link>>
+fn others(alloc: Global, level: Level, room: u32, tokens: Tokens<'_>) -> Parsed<'_, Vec<Link>>
     ensures gives { Gives (λ x. (map further_view x.0.items, x.1.now)) result (many_at (signs_of level) (further_at (operator_at level) (operand_at level (below_at room))) tokens.now) }
     ensures shorter { IfOk result (λ x. length x.1.now ≤ length tokens.now) }
 {
@@ -166,7 +168,7 @@ fn others(alloc: Global, level: Level, room: u32, tokens: &[Token]) -> Parsed<'_
     'each: while level.is_next(rest) {
         let (other, after) = further(alloc, level, room, rest)?;
         others.push(other)?;
-        rest = after;
+        rest = passed_on(after);
     }
     Ok((others, rest))
 }
@@ -184,13 +186,16 @@ fn chained(alloc: Global, first: Expr, others: Vec<Link>) -> Result<Expr, Stop>
 }
 
 /// Whether the next token begins an expression.
-pub fn begins_expression(tokens: &[Token]) -> bool
+pub fn begins_expression(tokens: Tokens<'_>) -> bool
     ensures { result ≡ next_in begins_expression tokens.now }
 {
     match tokens {
         [next, ..] => matches!(
             next.kind,
-            Kind::Name(_) | Kind::Number(_) | Kind::Sign(Sign::OpenRound | Sign::Minus)
+            Kind::Name(_)
+                | Kind::Contextual(_)
+                | Kind::Number(_)
+                | Kind::Sign(Sign::OpenRound | Sign::Minus)
         ),
         [] => false,
     }

@@ -4,13 +4,13 @@ ghost use Rattle.std.specs.Prelude.{◌≡◌, ◌⊎◌, map, ℕ, IfOk, IfErr,
 ghost use Rattle.dpl_syntax.specs.View.{spelled, stmt_view, tree_view};
 ghost use Rattle.dpl_syntax.specs.declared.refusal.Refusal.{Refusal};
 ghost use Rattle.dpl_grammar.specs.Reader.{next_in, many_at};
-ghost use Rattle.dpl_parse.specs.Gives.{Gives};
+ghost use Rattle.dpl_grammar.specs.Gives.{Gives};
 ghost use Rattle.dpl_parse.specs.Grammar.{Program};
 ghost use Rattle.dpl_parse.specs.Reading.{below_at, begins_statement as begins, statement_at, program_at};
 ghost use Rattle.dpl_parse.specs.Theorem.{Spells, Refuses};
 
 use crate::statement::statement;
-use crate::token::{Parsed, end, unexpected};
+use crate::token::{Parsed, Tokens, end, passed_on, unexpected};
 use dpl_syntax::tree::{Stmt, Tree};
 use dpl_syntax::{Keyword, Kind, Refusal, Stop, Token};
 use std::alloc::Global;
@@ -30,7 +30,7 @@ const LEVELS: u32 = 64;
 /// # Errors
 /// The refusal of the tokens: `P1` at the first one with which they begin no program, or `P2` at the first one
 /// that goes 65 levels deep, whichever is earlier, and `P1` where both are at one token. Or out of memory.
-pub fn parse(alloc: Global, tokens: &[Token]) -> Result<Tree, ParseStop>
+pub fn parse(alloc: Global, tokens: Tokens<'_>) -> Result<Tree, ParseStop>
     // What is read is spelled so.
     ensures found { IfOk result (λ tree. Spells 64 tokens.now (tree_view spelled tree)) }
     // Nothing else is spelled so, in whatever number of levels.
@@ -52,7 +52,7 @@ pub fn parse(alloc: Global, tokens: &[Token]) -> Result<Tree, ParseStop>
 
 /// program = { stmt } END
 #[tactic(auto, unfolding(crate::specs::Reading::program_at))]
-fn program(alloc: Global, room: u32, tokens: &[Token]) -> Parsed<'_, Tree>
+fn program(alloc: Global, room: u32, tokens: Tokens<'_>) -> Parsed<'_, Tree>
     ensures { Gives (λ x. (tree_view spelled x.0, x.1.now)) result (program_at (below_at room) tokens.now) }
 {
     let (stmts, rest) = statements(alloc, room, tokens)?;
@@ -61,7 +61,7 @@ fn program(alloc: Global, room: u32, tokens: &[Token]) -> Parsed<'_, Tree>
 }
 
 /// { stmt }
-fn statements(alloc: Global, room: u32, tokens: &[Token]) -> Parsed<'_, Vec<Stmt>>
+fn statements(alloc: Global, room: u32, tokens: Tokens<'_>) -> Parsed<'_, Vec<Stmt>>
     ensures { Gives (λ x. (map (stmt_view spelled) x.0.items, x.1.now)) result (many_at begins (statement_at (below_at room)) tokens.now) }
 {
     let mut stmts = Vec::new(alloc);
@@ -69,19 +69,20 @@ fn statements(alloc: Global, room: u32, tokens: &[Token]) -> Parsed<'_, Vec<Stmt
     'each: while begins_statement(rest) {
         let (stmt, after) = statement(alloc, room, rest)?;
         stmts.push(stmt)?;
-        rest = after;
+        rest = passed_on(after);
     }
     Ok((stmts, rest))
 }
 
 /// Whether the next token begins a statement.
-fn begins_statement(tokens: &[Token]) -> bool
+fn begins_statement(tokens: Tokens<'_>) -> bool
     ensures { result ≡ next_in begins tokens.now }
 {
     match tokens {
         [next, ..] => matches!(
             next.kind,
             Kind::Name(_)
+                | Kind::Contextual(_)
                 | Kind::Keyword(Keyword::Var | Keyword::Const | Keyword::Writeln | Keyword::Forall)
         ),
         [] => false,

@@ -5,14 +5,15 @@ ghost use Rattle.std.specs.Prelude.{◌≡◌, ◌<◌, ◌≤◌, length, IfOk}
 ghost use Rattle.dpl_syntax.specs.View.{spelled, stmt_view, initial_view, intent_view, bounds_view, by_view, stride_view};
 ghost use Rattle.dpl_grammar.specs.Classes.{sign as sign_class, keyword as keyword_class};
 ghost use Rattle.dpl_grammar.specs.Reader.{maybe_at};
-ghost use Rattle.dpl_parse.specs.Gives.{Gives};
+ghost use Rattle.dpl_grammar.specs.Gives.{Gives};
 ghost use Rattle.dpl_parse.specs.Reading.{below_at, assign_operator_at, assignment_at, declared_type_at, initial_at, typed_at, declared_at, declaration_word_at, declaration_at, print_at, stride_at, bounds_at, reduce_operator_at, intent_at, loop_at, statement_at};
 ghost use Rattle.dpl_parse.specs.Parts.{initial_part, intent_part};
 
 use crate::argument::arguments;
 use crate::expression::expression;
 use crate::token::{
-    Parsed, deeper, descend, is_keyword, is_name, is_sign, keyword, means, name, sign, unexpected,
+    Parsed, Tokens, deeper, descend, is_keyword, is_name, is_sign, keyword, means, name, sign,
+    unexpected,
 };
 use dpl_syntax::tree::{Bounds, DeclaredType, Initial, Intent, Stmt, Stride};
 use dpl_syntax::{Assign, Keyword, Kind, Op, Place, Sign, Token};
@@ -20,14 +21,14 @@ use std::alloc::Global;
 
 /// stmt = ("var" | "const") .. | assign | "writeln" .. | "forall" ..
 #[tactic(auto, unfolding(crate::specs::Reading::statement_at))]
-pub fn statement(alloc: Global, room: u32, tokens: &[Token]) -> Parsed<'_, Stmt>
+pub fn statement(alloc: Global, room: u32, tokens: Tokens<'_>) -> Parsed<'_, Stmt>
     ensures gives { Gives (λ x. (stmt_view spelled x.0, x.1.now)) result (statement_at (below_at room) tokens.now) }
     ensures shorter { IfOk result (λ x. length x.1.now < length tokens.now) }
 {
     match tokens {
         [next, ..] => match next.kind {
             Kind::Keyword(Keyword::Var | Keyword::Const) => declaration(alloc, room, tokens),
-            Kind::Name(_) => assignment(alloc, room, tokens),
+            Kind::Name(_) | Kind::Contextual(_) => assignment(alloc, room, tokens),
             Kind::Keyword(Keyword::Writeln) => print(alloc, room, tokens),
             _ => forall(alloc, room, tokens),
         },
@@ -37,7 +38,7 @@ pub fn statement(alloc: Global, room: u32, tokens: &[Token]) -> Parsed<'_, Stmt>
 
 /// assign = name ("=" | "+=" | "*=") e ";"
 #[tactic(auto, unfolding(crate::specs::Reading::assignment_at))]
-fn assignment(alloc: Global, room: u32, tokens: &[Token]) -> Parsed<'_, Stmt>
+fn assignment(alloc: Global, room: u32, tokens: Tokens<'_>) -> Parsed<'_, Stmt>
     ensures gives { Gives (λ x. (stmt_view spelled x.0, x.1.now)) result (assignment_at (below_at room) tokens.now) }
     ensures shorter { IfOk result (λ x. length x.1.now < length tokens.now) }
 {
@@ -59,7 +60,7 @@ fn assignment(alloc: Global, room: u32, tokens: &[Token]) -> Parsed<'_, Stmt>
 
 /// "=" | "+=" | "*="
 #[tactic(auto, unfolding(crate::specs::Reading::assign_operator_at))]
-fn assign_operator(tokens: &[Token]) -> Parsed<'_, (Place, Assign)>
+fn assign_operator(tokens: Tokens<'_>) -> Parsed<'_, (Place, Assign)>
     ensures gives { Gives (λ x. (x.0, x.1.now)) result (assign_operator_at tokens.now) }
     ensures shorter { IfOk result (λ x. length x.1.now < length tokens.now) }
 {
@@ -74,7 +75,7 @@ fn assign_operator(tokens: &[Token]) -> Parsed<'_, (Place, Assign)>
 
 /// ("var" | "const") name ( ":" "int" [ "=" e ] | "=" e ) ";"
 #[tactic(auto, unfolding(crate::specs::Reading::declaration_at))]
-fn declaration(alloc: Global, room: u32, tokens: &[Token]) -> Parsed<'_, Stmt>
+fn declaration(alloc: Global, room: u32, tokens: Tokens<'_>) -> Parsed<'_, Stmt>
     ensures gives { Gives (λ x. (stmt_view spelled x.0, x.1.now)) result (declaration_at (below_at room) tokens.now) }
     ensures shorter { IfOk result (λ x. length x.1.now < length tokens.now) }
 {
@@ -97,7 +98,7 @@ fn declaration(alloc: Global, room: u32, tokens: &[Token]) -> Parsed<'_, Stmt>
 
 /// "var" | "const"
 #[tactic(auto, unfolding(crate::specs::Reading::declaration_word_at))]
-fn declaration_word(tokens: &[Token]) -> Parsed<'_, (Place, bool)>
+fn declaration_word(tokens: Tokens<'_>) -> Parsed<'_, (Place, bool)>
     ensures gives { Gives (λ x. (x.0, x.1.now)) result (declaration_word_at tokens.now) }
     ensures shorter { IfOk result (λ x. length x.1.now < length tokens.now) }
 {
@@ -114,7 +115,7 @@ fn declaration_word(tokens: &[Token]) -> Parsed<'_, (Place, bool)>
 fn declared(
     alloc: Global,
     room: u32,
-    tokens: &[Token],
+    tokens: Tokens<'_>,
 ) -> Parsed<'_, (Option<DeclaredType>, Option<Initial>)>
     ensures gives { Gives (λ x. ((x.0.0, initial_view spelled x.0.1), x.1.now)) result (declared_at (below_at room) tokens.now) }
     ensures shorter { IfOk result (λ x. length x.1.now < length tokens.now) }
@@ -130,7 +131,7 @@ fn declared(
 
 /// ":" "int"
 #[tactic(auto, unfolding(crate::specs::Reading::declared_type_at))]
-fn declared_type(tokens: &[Token]) -> Parsed<'_, DeclaredType>
+fn declared_type(tokens: Tokens<'_>) -> Parsed<'_, DeclaredType>
     ensures gives { Gives (λ x. (x.0, x.1.now)) result (declared_type_at tokens.now) }
     ensures shorter { IfOk result (λ x. length x.1.now < length tokens.now) }
 {
@@ -146,7 +147,7 @@ fn declared_type(tokens: &[Token]) -> Parsed<'_, DeclaredType>
 }
 
 /// [ "=" e ]
-fn maybe_initial(alloc: Global, room: u32, tokens: &[Token]) -> Parsed<'_, Option<Initial>>
+fn maybe_initial(alloc: Global, room: u32, tokens: Tokens<'_>) -> Parsed<'_, Option<Initial>>
     ensures gives { Gives (λ x. (initial_view spelled x.0, x.1.now)) result (maybe_at (sign_class Sign.Assign) (initial_at (below_at room)) tokens.now) }
     ensures shorter { IfOk result (λ x. length x.1.now ≤ length tokens.now) }
 {
@@ -159,7 +160,7 @@ fn maybe_initial(alloc: Global, room: u32, tokens: &[Token]) -> Parsed<'_, Optio
 
 /// "=" e
 #[tactic(auto, unfolding(crate::specs::Reading::initial_at))]
-fn initial(alloc: Global, room: u32, tokens: &[Token]) -> Parsed<'_, Initial>
+fn initial(alloc: Global, room: u32, tokens: Tokens<'_>) -> Parsed<'_, Initial>
     ensures gives { Gives (λ x. (initial_part x.0, x.1.now)) result (initial_at (below_at room) tokens.now) }
     ensures shorter { IfOk result (λ x. length x.1.now < length tokens.now) }
 {
@@ -176,7 +177,7 @@ fn initial(alloc: Global, room: u32, tokens: &[Token]) -> Parsed<'_, Initial>
 
 /// "writeln" "(" [ e { "," e } ] ")" ";"
 #[tactic(auto, using(crate::proofs::Levels::below_arguments), unfolding(crate::specs::Reading::print_at))]
-fn print(alloc: Global, room: u32, tokens: &[Token]) -> Parsed<'_, Stmt>
+fn print(alloc: Global, room: u32, tokens: Tokens<'_>) -> Parsed<'_, Stmt>
     ensures gives { Gives (λ x. (stmt_view spelled x.0, x.1.now)) result (print_at (below_at room) tokens.now) }
     ensures shorter { IfOk result (λ x. length x.1.now < length tokens.now) }
 {
@@ -200,7 +201,7 @@ fn print(alloc: Global, room: u32, tokens: &[Token]) -> Parsed<'_, Stmt>
 
 /// "forall" name "in" e ".." e [ "by" e ] [ "with" "(" ("+" | "*") "reduce" name ")" ] "do" assign
 #[tactic(auto, unfolding(crate::specs::Reading::loop_at))]
-fn forall(alloc: Global, room: u32, tokens: &[Token]) -> Parsed<'_, Stmt>
+fn forall(alloc: Global, room: u32, tokens: Tokens<'_>) -> Parsed<'_, Stmt>
     ensures gives { Gives (λ x. (stmt_view spelled x.0, x.1.now)) result (loop_at (below_at room) tokens.now) }
     ensures shorter { IfOk result (λ x. length x.1.now < length tokens.now) }
 {
@@ -228,7 +229,7 @@ fn forall(alloc: Global, room: u32, tokens: &[Token]) -> Parsed<'_, Stmt>
 
 /// assign, as a loop's body: its first token goes one level deeper
 #[tactic(auto, using(crate::proofs::Levels::below_assignment, crate::proofs::Levels::body_without_room, crate::proofs::Levels::body_not_begun))]
-fn body(alloc: Global, room: u32, tokens: &[Token]) -> Parsed<'_, Stmt>
+fn body(alloc: Global, room: u32, tokens: Tokens<'_>) -> Parsed<'_, Stmt>
     ensures gives { Gives (λ x. (stmt_view spelled x.0, x.1.now)) result ((below_at room).assignment tokens.now) }
     ensures shorter { IfOk result (λ x. length x.1.now < length tokens.now) }
 {
@@ -241,7 +242,7 @@ fn body(alloc: Global, room: u32, tokens: &[Token]) -> Parsed<'_, Stmt>
 
 /// e ".." e [ "by" e ]
 #[tactic(auto, unfolding(crate::specs::Reading::bounds_at))]
-fn bounds(alloc: Global, room: u32, tokens: &[Token]) -> Parsed<'_, Bounds>
+fn bounds(alloc: Global, room: u32, tokens: Tokens<'_>) -> Parsed<'_, Bounds>
     ensures gives { Gives (λ x. (bounds_view spelled x.0, x.1.now)) result (bounds_at (below_at room) tokens.now) }
     ensures shorter { IfOk result (λ x. length x.1.now < length tokens.now) }
 {
@@ -262,7 +263,7 @@ fn bounds(alloc: Global, room: u32, tokens: &[Token]) -> Parsed<'_, Bounds>
 
 /// [ "by" e ]
 #[tactic(auto, unfolding(crate::specs::Reading::stride_at))]
-fn maybe_stride(alloc: Global, room: u32, tokens: &[Token]) -> Parsed<'_, Option<Stride>>
+fn maybe_stride(alloc: Global, room: u32, tokens: Tokens<'_>) -> Parsed<'_, Option<Stride>>
     ensures gives { Gives (λ x. (by_view spelled x.0, x.1.now)) result (maybe_at (keyword_class Keyword.By) (stride_at (below_at room)) tokens.now) }
     ensures shorter { IfOk result (λ x. length x.1.now ≤ length tokens.now) }
 {
@@ -275,7 +276,7 @@ fn maybe_stride(alloc: Global, room: u32, tokens: &[Token]) -> Parsed<'_, Option
 }
 
 /// [ "with" "(" ("+" | "*") "reduce" name ")" ]
-fn maybe_intent(alloc: Global, room: u32, tokens: &[Token]) -> Parsed<'_, Option<Intent>>
+fn maybe_intent(alloc: Global, room: u32, tokens: Tokens<'_>) -> Parsed<'_, Option<Intent>>
     ensures gives { Gives (λ x. (intent_view spelled x.0, x.1.now)) result (maybe_at (keyword_class Keyword.With) (intent_at (below_at room)) tokens.now) }
     ensures shorter { IfOk result (λ x. length x.1.now ≤ length tokens.now) }
 {
@@ -288,7 +289,7 @@ fn maybe_intent(alloc: Global, room: u32, tokens: &[Token]) -> Parsed<'_, Option
 
 /// "with" "(" ("+" | "*") "reduce" name ")"
 #[tactic(auto, unfolding(crate::specs::Reading::intent_at))]
-fn intent(alloc: Global, room: u32, tokens: &[Token]) -> Parsed<'_, Intent>
+fn intent(alloc: Global, room: u32, tokens: Tokens<'_>) -> Parsed<'_, Intent>
     ensures gives { Gives (λ x. (intent_part x.0, x.1.now)) result (intent_at (below_at room) tokens.now) }
     ensures shorter { IfOk result (λ x. length x.1.now < length tokens.now) }
 {
@@ -312,7 +313,7 @@ fn intent(alloc: Global, room: u32, tokens: &[Token]) -> Parsed<'_, Intent>
 
 /// "+" | "*"
 #[tactic(auto, unfolding(crate::specs::Reading::reduce_operator_at))]
-fn reduce_operator(tokens: &[Token]) -> Parsed<'_, (Place, Op)>
+fn reduce_operator(tokens: Tokens<'_>) -> Parsed<'_, (Place, Op)>
     ensures gives { Gives (λ x. (x.0, x.1.now)) result (reduce_operator_at tokens.now) }
     ensures shorter { IfOk result (λ x. length x.1.now < length tokens.now) }
 {

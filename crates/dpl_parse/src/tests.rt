@@ -2,19 +2,19 @@
 
 use crate::{ParseStop, parse};
 use dpl_syntax::tree::{Expr, Stmt};
-use dpl_syntax::{Code, Keyword, Kind, Place, Refusal, Sign, Token, Word};
+use dpl_syntax::{Bytes, Code, Keyword, Kind, Place, Refusal, Sign, Token};
 use std::alloc::{AllocError, Global};
 use std::test::Fail;
 
 /// A row of tokens, made one by one.
 #[derive(Drop)]
-struct Row {
+struct Row<'a> {
     alloc: Global,
-    tokens: Vec<Token>,
+    tokens: Vec<Token<'a>>,
     column: u32,
 }
 
-impl Row {
+impl<'a> Row<'a> {
     fn new(alloc: Global) -> Self {
         Row {
             alloc,
@@ -23,7 +23,7 @@ impl Row {
         }
     }
 
-    fn token(self, kind: Kind) -> Result<Row, AllocError> {
+    fn token(self, kind: Kind<'a>) -> Result<Row<'a>, AllocError> {
         let Row {
             alloc,
             mut tokens,
@@ -40,24 +40,23 @@ impl Row {
         })
     }
 
-    fn name(self, text: &[u8]) -> Result<Row, AllocError> {
-        let word = Word::from_bytes(self.alloc, text)?;
-        self.token(Kind::Name(word))
+    fn name(self, text: &'a [u8]) -> Result<Row<'a>, AllocError> {
+        self.token(Kind::Name(Bytes::new(text)))
     }
 
-    fn number(self, value: i64) -> Result<Row, AllocError> {
+    fn number(self, value: i64) -> Result<Row<'a>, AllocError> {
         self.token(Kind::Number(value))
     }
 
-    fn keyword(self, word: Keyword) -> Result<Row, AllocError> {
+    fn keyword(self, word: Keyword) -> Result<Row<'a>, AllocError> {
         self.token(Kind::Keyword(word))
     }
 
-    fn sign(self, sign: Sign) -> Result<Row, AllocError> {
+    fn sign(self, sign: Sign) -> Result<Row<'a>, AllocError> {
         self.token(Kind::Sign(sign))
     }
 
-    fn signs(self, sign: Sign, count: u32) -> Result<Row, AllocError> {
+    fn signs(self, sign: Sign, count: u32) -> Result<Row<'a>, AllocError> {
         let mut row = self;
         for _ in 0..count {
             row = row.sign(sign)?;
@@ -67,7 +66,7 @@ impl Row {
 }
 
 /// The code and the column of the refusal.
-fn refusal(alloc: Global, row: &Row) -> Option<(Code, u32)> {
+fn refusal(alloc: Global, row: &Row<'_>) -> Option<(Code, u32)> {
     match parse(alloc, &row.tokens) {
         Err(
             ParseStop::Refused(

@@ -1,5 +1,6 @@
 -- The language: tokens, the text of which they are, texts without tokens, trees, values, and the lines that tell.
 pub mod Tokens
+pub mod Gaps
 pub mod Text
 pub mod Refused
 pub mod Tree

@@ -1,10 +1,12 @@
--- The texts of reserved words and signs.
+-- The texts of reserved words, contextual words and signs.
 -- A token that is one of them stands in a text as just these bytes.
 use Rattle.std.specs.Prelude.{ℕ, List, codes}
 use Rattle.dpl_syntax.specs.declared.token.Keyword.{Keyword}
 use Rattle.dpl_syntax.specs.declared.token.Keyword.TheVariants.{Bool, By, BlockCycDist, BlockDist, Config, Const, Coforall, CyclicDist, Dmapped, Do, Domain, Else, False, For, Forall, Here, If, In, Int, Locales, Max, Min, New, NumLocales, On, Reduce, Ref, Sync, Then, True, Use, Var, While, With, Write, Writeln}
+use Rattle.dpl_syntax.specs.declared.token.Contextual.{Contextual}
+use Rattle.dpl_syntax.specs.declared.token.Contextual.TheVariants.{BlockDist as BlockDistWord, CyclicDist as CyclicDistWord, BlockCycDist as BlockCycDistWord, CreateDomain, BoundingBox, StartIdx, Blocksize, WriteEF, WriteFF, WriteXF, Reset, ReadFE, ReadFF, Size, First, Last, Low, High, LowBound, Id, Dim, Contains, Expand}
 use Rattle.dpl_syntax.specs.declared.token.Sign.{Sign}
-use Rattle.dpl_syntax.specs.declared.token.Sign.TheVariants.{DotDot, PlusAssign, StarAssign, Assign, Plus, Minus, Star, OpenRound, CloseRound, Comma, Semicolon, Colon}
+use Rattle.dpl_syntax.specs.declared.token.Sign.TheVariants.{DotDotLess, DotDot, Dot, Equal, NotEqual, LessEqual, GreaterEqual, AndAnd, OrOr, PlusAssign, MinusAssign, StarAssign, SlashAssign, PercentAssign, Assign, Less, Greater, Not, Plus, Minus, Star, Slash, Percent, And, Or, Caret, Hash, OpenRound, CloseRound, OpenSquare, CloseSquare, OpenCurly, CloseCurly, Comma, Semicolon, Colon}
 
 -- how a reserved word is spelled
 unfoldable pub keyword_text : Keyword → List ℕ
@@ -45,17 +47,67 @@ keyword_text With = codes "with"
 keyword_text Write = codes "write"
 keyword_text Writeln = codes "writeln"
 
+-- how a contextual word is spelled
+unfoldable pub contextual_text : Contextual → List ℕ
+contextual_text BlockDistWord = codes "BlockDist"
+contextual_text CyclicDistWord = codes "CyclicDist"
+contextual_text BlockCycDistWord = codes "BlockCycDist"
+contextual_text CreateDomain = codes "createDomain"
+contextual_text BoundingBox = codes "boundingBox"
+contextual_text StartIdx = codes "startIdx"
+contextual_text Blocksize = codes "blocksize"
+contextual_text WriteEF = codes "writeEF"
+contextual_text WriteFF = codes "writeFF"
+contextual_text WriteXF = codes "writeXF"
+contextual_text Reset = codes "reset"
+contextual_text ReadFE = codes "readFE"
+contextual_text ReadFF = codes "readFF"
+contextual_text Size = codes "size"
+contextual_text First = codes "first"
+contextual_text Last = codes "last"
+contextual_text Low = codes "low"
+contextual_text High = codes "high"
+contextual_text LowBound = codes "lowBound"
+contextual_text Id = codes "id"
+contextual_text Dim = codes "dim"
+contextual_text Contains = codes "contains"
+contextual_text Expand = codes "expand"
+
 -- how a sign is spelled
 unfoldable pub sign_text : Sign → List ℕ
+sign_text DotDotLess = codes "..<"
 sign_text DotDot = codes ".."
+sign_text Dot = codes "."
+sign_text Equal = codes "=="
+sign_text NotEqual = codes "!="
+sign_text LessEqual = codes "<="
+sign_text GreaterEqual = codes ">="
+sign_text AndAnd = codes "&&"
+sign_text OrOr = codes "||"
 sign_text PlusAssign = codes "+="
+sign_text MinusAssign = codes "-="
 sign_text StarAssign = codes "*="
+sign_text SlashAssign = codes "/="
+sign_text PercentAssign = codes "%="
 sign_text Assign = codes "="
+sign_text Less = codes "<"
+sign_text Greater = codes ">"
+sign_text Not = codes "!"
 sign_text Plus = codes "+"
 sign_text Minus = codes "-"
 sign_text Star = codes "*"
+sign_text Slash = codes "/"
+sign_text Percent = codes "%"
+sign_text And = codes "&"
+sign_text Or = codes "|"
+sign_text Caret = codes "^"
+sign_text Hash = codes "#"
 sign_text OpenRound = codes "("
 sign_text CloseRound = codes ")"
+sign_text OpenSquare = codes "["
+sign_text CloseSquare = codes "]"
+sign_text OpenCurly = codes "{"
+sign_text CloseCurly = codes "}"
 sign_text Comma = codes ","
 sign_text Semicolon = codes ";"
 sign_text Colon = codes ":"

@@ -1,8 +1,8 @@
 // The lexer: the tokens of a text, each with its place.
 // The definition of both stands in specs/Text.antt, and that of the refusals in specs/Refused.antt.
 
-ghost use Rattle.std.specs.Prelude.{◌≡◌, ◌⊎◌, ◌+◌, ◌^◌, ◌<◌, ◌≤◌, List, length, IsOk, IfOk, IfErr, Err};
-ghost use Rattle.dpl_syntax.specs.Text.{IsLexeme, IsText, Lexes, EndsOnce, after};
+ghost use Rattle.std.specs.Prelude.{true, ◌≡◌, ◌⊎◌, ◌+◌, ◌^◌, ◌<◌, ◌≤◌, List, length, IsOk, IfOk, IfErr, Err};
+ghost use Rattle.dpl_syntax.specs.Text.{is_word, IsLexeme, IsText, Lexes, EndsOnce, after};
 ghost use Rattle.dpl_syntax.specs.Refused.{LexRefuses};
 ghost use Rattle.dpl_syntax.specs.Stops.{Tells};
 ghost use Rattle.dpl_syntax.specs.Scan.{IsShape};
@@ -10,14 +10,16 @@ ghost use Rattle.dpl_syntax.specs.declared.token.Token.{Token};
 ghost use Rattle.dpl_syntax.specs.declared.refusal.Refusal.{Refusal};
 ghost use Rattle.dpl_syntax.specs.declared.stop.Stop.TheVariants.{Refused, Memory};
 
-use crate::keyword::keyword_of;
+use crate::bytes::Bytes;
+use crate::gap::piece_len;
+use crate::keyword::{Special, special_of};
 use crate::place::Place;
+use crate::quoted::between;
 use crate::refusal::{Code, Refusal};
-use crate::scan::{Shape, is_space, scan};
+use crate::scan::{Shape, scan};
 use crate::stop::{LexStop, Stop};
 use crate::token::{Kind, Token};
-use crate::word::Word;
-use std::alloc::{AllocError, Global};
+use std::alloc::Global;
 
 /// The greatest length of a text, in bytes.
 const LONGEST_TEXT: usize = 1048576;
@@ -46,23 +48,33 @@ fn after(at: Place, bytes: &[u8]) -> Place
     Place { line, column }
 }
 
-/// The kind of a token with these bytes, whose shape is known. A name takes memory.
-fn kind_of(alloc: Global, shape: Shape, bytes: &[u8]) -> Result<Kind, AllocError>
+/// The kind of a token with these bytes, whose shape is known.
+fn kind_of(shape: Shape, bytes: &[u8]) -> Kind<'_>
     requires { IsShape shape bytes.now }
-    ensures { IfOk result (λ kind. IsLexeme kind bytes.now) }
+    ensures { IsLexeme result bytes.now }
 {
     match shape {
-        Shape::Word => match keyword_of(bytes) {
-            Some(keyword) => Ok(Kind::Keyword(keyword)),
-            None => Ok(Kind::Name(Word::from_bytes(alloc, bytes)?)),
-        },
-        Shape::Number(n) => Ok(Kind::Number(n)),
-        Shape::Sign(sign) => Ok(Kind::Sign(sign)),
+        Shape::Word => word_kind(bytes),
+        Shape::Number(n) => Kind::Number(n),
+        Shape::Text => Kind::Text(Bytes::new(between(bytes))),
+        Shape::Sign(sign) => Kind::Sign(sign),
+    }
+}
+
+/// The kind of a word.
+fn word_kind(bytes: &[u8]) -> Kind<'_>
+    requires { is_word bytes.now ≡ true }
+    ensures { IsLexeme result bytes.now }
+{
+    match special_of(bytes) {
+        Some(Special::Keyword(keyword)) => Kind::Keyword(keyword),
+        Some(Special::Contextual(word)) => Kind::Contextual(word),
+        None => Kind::Name(Bytes::new(bytes)),
     }
 }
 
 /// The tokens of a text that isn't too long and is UTF-8.
-fn tokens_of(alloc: Global, text: &[u8]) -> Result<Vec<Token>, Stop>
+fn tokens_of(alloc: Global, text: &[u8]) -> Result<Vec<Token<'_>>, Stop>
     requires { IsText text.now }
     ensures found { IfOk result (λ v. Lexes text.now v.items) }
     ensures refused { IfErr result (Tells text.now) }
@@ -71,15 +83,16 @@ fn tokens_of(alloc: Global, text: &[u8]) -> Result<Vec<Token>, Stop>
     let mut at = START;
     let mut rest = text;
     'tokens: while !rest.is_empty() {
-        if is_space(rest[0]) {
-            let (gap, left) = rest.split_at(1);
-            at = after(at, gap);
-            rest = left;
-        } else {
-            match scan(rest) {
+        match piece_len(rest) {
+            Some(len) => {
+                let (gap, left) = rest.split_at(len);
+                at = after(at, gap);
+                rest = left;
+            }
+            None => match scan(rest) {
                 Ok(found) => {
                     let (used, left) = rest.split_at(found.len);
-                    let kind = kind_of(alloc, found.shape, used)?;
+                    let kind = kind_of(found.shape, used);
                     tokens.push(Token { kind, at })?;
                     at = after(at, used);
                     rest = left;
@@ -91,7 +104,7 @@ fn tokens_of(alloc: Global, text: &[u8]) -> Result<Vec<Token>, Stop>
                         place: Some(after(at, before)),
                     }));
                 }
-            }
+            },
         }
     }
     tokens.push(Token {
@@ -128,9 +141,10 @@ fn check_text(text: &[u8]) -> Result<(), Refusal>
 ///
 /// # Errors
 /// The text's refusal: `L1` at 1:1 if it is longer than 1,048,576 bytes; else `L1` at the first byte that begins no
-/// UTF-8 character; else whichever comes first of `L2` at a bad character, `L2` at a letter, `_` or `$` straight after
-/// a number, and `L3` at a number past the greatest one. Or memory ran out.
-pub fn lex(alloc: Global, text: &[u8]) -> Result<Vec<Token>, LexStop>
+/// UTF-8 character; else whichever comes first of `L2` at a bad character, at a `/*` or a quote that isn't ended, at
+/// the backslash of a bad escape, or at a letter or `$` straight after a number, and `L3` at a number past the greatest
+/// one. Or memory ran out.
+pub fn lex(alloc: Global, text: &[u8]) -> Result<Vec<Token<'_>>, LexStop>
     // The tokens are those of the text, up to its end; the text has no others and no refusal.
     ensures found { IfOk result (λ v. Lexes text.now v.items) }
     ensures only { IfOk result (λ v. (tokens : List Token) → Lexes text.now tokens → tokens ≡ v.items) }

@@ -12,7 +12,8 @@ use std::fmt;
 pub enum Code {
     /// `L1`: the text is too long, at 1:1, or isn't UTF-8, at the first byte that begins no character.
     NotText,
-    /// `L2`: a byte that begins no token, or a letter, `_` or `$` straight after a number. Its place is that byte.
+    /// `L2`: a byte that begins no token, a `/*` or a quote that isn't ended, the backslash of a bad escape, or a letter
+    /// or `$` straight after a number. Its place is that byte.
     BadCharacter,
     /// `L3`: a number past the greatest int. Its place is the number.
     NumberTooLarge,

@@ -1,17 +1,19 @@
-// What stands at the front of a text: a word, a number or a sign, each as long as it can be.
+// What stands at the front of a text: a word, a number, a text in quotes or a sign, each as long as it can be.
 // Nothing here takes memory.
 
-ghost use Rattle.std.specs.Prelude.{◌≡◌, ◌≢◌, ◌<◌, ◌≤◌, ◌∷◌, [], List, length, take, drop, true, false, pos, IfOk, IfErr, IfSome, IfNone};
+ghost use Rattle.std.specs.Prelude.{◌≡◌, ◌≢◌, ◌<◌, ◌≤◌, ◌∷◌, [], length, take, drop, true, false, codes, eqb, IfOk, IfErr, IfSome, IfNone};
+ghost use Rattle.std.specs.List.{starts_with};
 ghost use Rattle.dpl_syntax.specs.Tokens.{sign_text};
-ghost use Rattle.dpl_syntax.specs.Text.{is_letter, is_digit, goes_on, is_space, all_are, next_is, is_number, number_value, greatest};
-ghost use Rattle.dpl_syntax.specs.Scan.{IsLexemeAt, IsFlawAt, IsSignAt};
+ghost use Rattle.dpl_syntax.specs.Gaps.{all_are, next_is};
+ghost use Rattle.dpl_syntax.specs.Text.{goes_on};
+ghost use Rattle.dpl_syntax.specs.Scan.{IsDark, IsBare, IsLexemeAt, IsFlawAt, IsSignAt};
 ghost use Rattle.dpl_syntax.specs.declared.token.Sign.{Sign};
 
+use crate::ascii::{begins_with, goes_on, is_digit, is_letter, is_quote};
+use crate::number::number;
+use crate::quoted::quoted;
 use crate::refusal::Code;
 use crate::token::Sign;
-
-/// The greatest number.
-const GREATEST: u64 = 9223372036854775807;
 
 /// What a token looks like.
 #[derive(Clone, Copy)]
@@ -20,6 +22,8 @@ pub enum Shape {
     Word,
     /// A number, at most the greatest one.
     Number(i64),
+    /// A text in quotes, whose escapes are good.
+    Text,
     /// A sign.
     Sign(Sign),
 }
@@ -40,32 +44,6 @@ pub struct Flaw {
     pub offset: usize,
 }
 
-/// Whether the byte is white space.
-pub fn is_space(byte: u8) -> bool
-    ensures { result ≡ is_space byte }
-{
-    byte == b' ' || byte == b'\t' || byte == b'\n' || byte == b'\r'
-}
-
-fn is_letter(byte: u8) -> bool
-    ensures { result ≡ is_letter byte }
-{
-    (b'a' <= byte && byte <= b'z') || (b'A' <= byte && byte <= b'Z') || byte == b'_'
-}
-
-fn is_digit(byte: u8) -> bool
-    ensures { result ≡ is_digit byte }
-{
-    b'0' <= byte && byte <= b'9'
-}
-
-/// Whether a word goes on with the byte.
-fn goes_on(byte: u8) -> bool
-    ensures { result ≡ goes_on byte }
-{
-    is_letter(byte) || is_digit(byte) || byte == b'$'
-}
-
 /// How many bytes there are that a word goes on with.
 fn word_len(bytes: &[u8]) -> usize
     ensures within { result ≤ length bytes.now }
@@ -79,72 +57,6 @@ fn word_len(bytes: &[u8]) -> usize
     n
 }
 
-/// How many digits there are.
-fn digits_len(bytes: &[u8]) -> usize
-    ensures within { result ≤ length bytes.now }
-    ensures all { all_are is_digit (take result bytes.now) ≡ true }
-    ensures ended { next_is is_digit (drop result bytes.now) ≡ false }
-{
-    let mut n = 0;
-    while n < bytes.len() && is_digit(bytes[n]) {
-        n += 1;
-    }
-    n
-}
-
-/// Whether a byte comes that a word goes on with.
-fn next_goes_on(bytes: &[u8]) -> bool
-    ensures { result ≡ next_is goes_on bytes.now }
-{
-    match bytes {
-        [first, ..] => goes_on(*first),
-        [] => false,
-    }
-}
-
-/// The value of digits, if it isn't past the greatest number.
-fn value_of(digits: &[u8]) -> Option<i64>
-    requires { all_are is_digit digits.now ≡ true }
-    ensures some { IfSome result (λ n. (n ≡ pos (number_value digits.now)) × (number_value digits.now ≤ greatest)) }
-    ensures none { IfNone result (greatest < number_value digits.now) }
-{
-    let mut value: u64 = 0;
-    for byte in digits {
-        let digit = u64::from(*byte - b'0');
-        if value > (GREATEST - digit) / 10 {
-            return None;
-        }
-        value = value * 10 + digit;
-    }
-    Some(value as i64)
-}
-
-/// The number at the front, whose first byte is a digit.
-fn number(bytes: &[u8]) -> Result<Lexeme, Flaw>
-    requires { next_is is_digit bytes.now ≡ true }
-    ensures ok { IfOk result (IsLexemeAt bytes.now) }
-    ensures err { IfErr result (IsFlawAt bytes.now) }
-{
-    let len = digits_len(bytes);
-    let (digits, rest) = bytes.split_at(len);
-    let Some(value) = value_of(digits) else {
-        return Err(Flaw {
-            code: Code::NumberTooLarge,
-            offset: 0,
-        });
-    };
-    if next_goes_on(rest) {
-        return Err(Flaw {
-            code: Code::BadCharacter,
-            offset: len,
-        });
-    }
-    Ok(Lexeme {
-        shape: Shape::Number(value),
-        len,
-    })
-}
-
 /// The sign of two bytes.
 #[tactic(auto, unfolding(crate::specs::Tokens::sign_text))]
 fn pair(first: u8, second: u8) -> Option<Sign>
@@ -153,8 +65,17 @@ fn pair(first: u8, second: u8) -> Option<Sign>
 {
     match (first, second) {
         (b'.', b'.') => Some(Sign::DotDot),
+        (b'=', b'=') => Some(Sign::Equal),
+        (b'!', b'=') => Some(Sign::NotEqual),
+        (b'<', b'=') => Some(Sign::LessEqual),
+        (b'>', b'=') => Some(Sign::GreaterEqual),
+        (b'&', b'&') => Some(Sign::AndAnd),
+        (b'|', b'|') => Some(Sign::OrOr),
         (b'+', b'=') => Some(Sign::PlusAssign),
+        (b'-', b'=') => Some(Sign::MinusAssign),
         (b'*', b'=') => Some(Sign::StarAssign),
+        (b'/', b'=') => Some(Sign::SlashAssign),
+        (b'%', b'=') => Some(Sign::PercentAssign),
         _ => None,
     }
 }
@@ -166,12 +87,26 @@ fn single(byte: u8) -> Option<Sign>
     ensures none { IfNone result ((s : Sign) → sign_text s ≢ byte ∷ []) }
 {
     match byte {
+        b'.' => Some(Sign::Dot),
         b'=' => Some(Sign::Assign),
+        b'<' => Some(Sign::Less),
+        b'>' => Some(Sign::Greater),
+        b'!' => Some(Sign::Not),
         b'+' => Some(Sign::Plus),
         b'-' => Some(Sign::Minus),
         b'*' => Some(Sign::Star),
+        b'/' => Some(Sign::Slash),
+        b'%' => Some(Sign::Percent),
+        b'&' => Some(Sign::And),
+        b'|' => Some(Sign::Or),
+        b'^' => Some(Sign::Caret),
+        b'#' => Some(Sign::Hash),
         b'(' => Some(Sign::OpenRound),
         b')' => Some(Sign::CloseRound),
+        b'[' => Some(Sign::OpenSquare),
+        b']' => Some(Sign::CloseSquare),
+        b'{' => Some(Sign::OpenCurly),
+        b'}' => Some(Sign::CloseCurly),
         b',' => Some(Sign::Comma),
         b';' => Some(Sign::Semicolon),
         b':' => Some(Sign::Colon),
@@ -179,10 +114,20 @@ fn single(byte: u8) -> Option<Sign>
     }
 }
 
+/// Whether the sign of three bytes stands at the front.
+fn begins_triple(bytes: &[u8]) -> bool
+    ensures { result ≡ starts_with eqb bytes.now (codes "..<") }
+{
+    bytes.starts_with(b"..<")
+}
+
 /// The longest sign at the front.
 fn sign(bytes: &[u8]) -> Option<Sign>
     ensures { IsSignAt bytes.now result }
 {
+    if begins_triple(bytes) {
+        return Some(Sign::DotDotLess);
+    }
     match bytes {
         [first, second, ..] => match pair(*first, *second) {
             Some(sign) => Some(sign),
@@ -199,23 +144,75 @@ fn sign_len(sign: Sign) -> usize
     ensures { result ≡ length (sign_text sign) }
 {
     match sign {
-        Sign::DotDot | Sign::PlusAssign | Sign::StarAssign => 2,
-        Sign::Assign
+        Sign::DotDotLess => 3,
+        Sign::DotDot
+        | Sign::Equal
+        | Sign::NotEqual
+        | Sign::LessEqual
+        | Sign::GreaterEqual
+        | Sign::AndAnd
+        | Sign::OrOr
+        | Sign::PlusAssign
+        | Sign::MinusAssign
+        | Sign::StarAssign
+        | Sign::SlashAssign
+        | Sign::PercentAssign => 2,
+        Sign::Dot
+        | Sign::Assign
+        | Sign::Less
+        | Sign::Greater
+        | Sign::Not
         | Sign::Plus
         | Sign::Minus
         | Sign::Star
+        | Sign::Slash
+        | Sign::Percent
+        | Sign::And
+        | Sign::Or
+        | Sign::Caret
+        | Sign::Hash
         | Sign::OpenRound
         | Sign::CloseRound
+        | Sign::OpenSquare
+        | Sign::CloseSquare
+        | Sign::OpenCurly
+        | Sign::CloseCurly
         | Sign::Comma
         | Sign::Semicolon
         | Sign::Colon => 1,
     }
 }
 
-/// The token at the front, or what keeps the text from being read on. White space doesn't stand there.
+/// The sign at the front, or what keeps the text from being read on. Neither a word, a number nor a text in quotes
+/// stands there.
+fn signed(bytes: &[u8]) -> Result<Lexeme, Flaw>
+    requires dark { IsDark bytes.now }
+    requires bare { IsBare bytes.now }
+    ensures ok { IfOk result (IsLexemeAt bytes.now) }
+    ensures err { IfErr result (IsFlawAt bytes.now) }
+{
+    if begins_with(bytes, b'/', b'*') {
+        return Err(Flaw {
+            code: Code::BadCharacter,
+            offset: 0,
+        });
+    }
+    match sign(bytes) {
+        Some(sign) => Ok(Lexeme {
+            shape: Shape::Sign(sign),
+            len: sign_len(sign),
+        }),
+        None => Err(Flaw {
+            code: Code::BadCharacter,
+            offset: 0,
+        }),
+    }
+}
+
+/// The token at the front, or what keeps the text from being read on. No gap stands there.
 pub fn scan(bytes: &[u8]) -> Result<Lexeme, Flaw>
     requires some { 0 < length bytes.now }
-    requires dark { next_is is_space bytes.now ≡ false }
+    requires dark { IsDark bytes.now }
     ensures ok { IfOk result (IsLexemeAt bytes.now) }
     ensures err { IfErr result (IsFlawAt bytes.now) }
 {
@@ -229,14 +226,8 @@ pub fn scan(bytes: &[u8]) -> Result<Lexeme, Flaw>
     if is_digit(first) {
         return number(bytes);
     }
-    match sign(bytes) {
-        Some(sign) => Ok(Lexeme {
-            shape: Shape::Sign(sign),
-            len: sign_len(sign),
-        }),
-        None => Err(Flaw {
-            code: Code::BadCharacter,
-            offset: 0,
-        }),
+    if is_quote(first) {
+        return quoted(bytes);
     }
+    signed(bytes)
 }

@@ -24,7 +24,7 @@ each-preserved c =
     let operand = c.in_ok-comma.operand in
     let operands : map (expr_view spelled) c.push-in-each.new.self.items ≡ map (expr_view spelled) c.each.operands.items ++ expr_view spelled operand ∷ [] = rw c.in_ok-push-2.ensures.items (map_push _ c.each.operands.items operand) in
     let is : next_in (sign Comma) c.each.rest.now ≡ true = cc in
-    rw (operands, c.in_ok-push-3.ensures.items) (next_read (expression_at (below_at c.args.room)) (map (expr_view spelled) c.push.new.self.items) c.args.tokens.now
+    rw (c.passed_on-rest.ensures, operands, c.in_ok-push-3.ensures.items) (next_read (expression_at (below_at c.args.room)) (map (expr_view spelled) c.push.new.self.items) c.args.tokens.now
     (map (expr_view spelled) c.each.operands.items) c.each.commas.items c.each.rest.now c.in_ok-comma.after.now c.in_ok-comma.comma (expr_view spelled operand) c.each.invariant is c.in_ok-comma.ensures.gives c.in_ok-comma.ensures.shorter)
 
 pub returns-clause-gives : goal.returns-clause-gives

@@ -2,7 +2,7 @@ use Rattle.std.proofs.Common.{◌+◌, ◌*◌, length, map}
 use Rattle.dpl_parse.specs.Reading.{below_at, further_at}
 use Rattle.dpl_parse.specs.Levels.{signs_of, operator_at, operand_at, further_view}
 use Rattle.dpl_parse.proofs.Levels.{rank}
-use Rattle.dpl_parse.proofs.Turns.{IsSoFar}
+use Rattle.dpl_grammar.proofs.Turns.{IsSoFar}
 use Rattle.dpl_parse.proofs.expression.+expression.Given as goal
 
 abbrev pub decreases-bracketed : goal.decreases-bracketed

@@ -3,46 +3,47 @@ use Rattle.std.proofs.lemmas.Result.{err_from_is_err_and}
 use Rattle.std.proofs.lemmas.Grind.{common_steps}
 use Rattle.dpl_syntax.specs.View.{tree_view, spelled}
 use Rattle.dpl_syntax.specs.declared.stop.Stop.TheVariants.{Refused}
-use Rattle.dpl_parse.proofs.Results.{whole_spelled, whole_only, left_over, fails_is, bad_is, not_spelled, left_is, told}
-use Rattle.dpl_parse.proofs.Refusals.{refused_unspelled}
+use Rattle.dpl_grammar.proofs.Results.{whole_spelled, whole_only, left_over, fails_is, bad_is, not_spelled, left_is, told}
+use Rattle.dpl_grammar.proofs.Refusals.{refused_unspelled}
+use Rattle.dpl_parse.proofs.Rules.{program_reads}
 use Rattle.dpl_parse.proofs.program.parse.Goals as goal
 
 pub returns-then-is_empty-clause-found : goal.returns-then-is_empty-clause-found
-returns-then-is_empty-clause-found c = whole_spelled c.args.tokens.now c.in_ok-tree.rest.now (tree_view spelled c.in_ok-tree.tree) (grind (arith, common_steps)) c.in_ok-tree.ensures
+returns-then-is_empty-clause-found c = whole_spelled program_reads 64 c.args.tokens.now c.in_ok-tree.rest.now (tree_view spelled c.in_ok-tree.tree) (grind (arith, common_steps)) c.in_ok-tree.ensures
 
 pub returns-then-is_empty-clause-only : goal.returns-then-is_empty-clause-only
-returns-then-is_empty-clause-only c = λ d t s. whole_only d c.args.tokens.now c.in_ok-tree.rest.now (tree_view spelled c.in_ok-tree.tree) t c.in_ok-tree.ensures s
+returns-then-is_empty-clause-only c = λ d t s. whole_only program_reads 64 d c.args.tokens.now c.in_ok-tree.rest.now (tree_view spelled c.in_ok-tree.tree) t c.in_ok-tree.ensures s
 
 pub returns-in_err-tree-clause-complete : goal.returns-in_err-tree-clause-complete
 returns-in_err-tree-clause-complete c =
     let p = err_from_is_err_and c.from_residual.result c.from_residual.ensures.1 in
-    rw (p.1, p.2) (λ t s. not_spelled c.args.tokens.now c.in_err-tree.field-0.0 (fails_is c.args.tokens.now c.in_err-tree.field-0.0 c.in_err-tree.ensures) t s)
+    rw (p.1, p.2) (λ t s. not_spelled program_reads 64 c.args.tokens.now c.in_err-tree.field-0.0 (fails_is program_reads 64 c.args.tokens.now c.in_err-tree.field-0.0 c.in_err-tree.ensures) t s)
 
 pub returns-in_err-tree-clause-refused : goal.returns-in_err-tree-clause-refused
 returns-in_err-tree-clause-refused c =
     let p = err_from_is_err_and c.from_residual.result c.from_residual.ensures.1 in
-    rw (p.1, p.2) (λ refusal is. fails_is c.args.tokens.now c.in_err-tree.field-0.0 c.in_err-tree.ensures refusal (bad_is c.in_err-tree.field-0.0 (Refused refusal) is))
+    rw (p.1, p.2) (λ refusal is. fails_is program_reads 64 c.args.tokens.now c.in_err-tree.field-0.0 c.in_err-tree.ensures refusal (bad_is c.in_err-tree.field-0.0 (Refused refusal) is))
 
 pub returns-in_err-tree-clause-told : goal.returns-in_err-tree-clause-told
 returns-in_err-tree-clause-told c =
     let p = err_from_is_err_and c.from_residual.result c.from_residual.ensures.1 in
-    rw (p.1, p.2) (λ refusal g. told c.args.tokens.now c.in_err-tree.field-0.0 (fails_is c.args.tokens.now c.in_err-tree.field-0.0 c.in_err-tree.ensures) refusal g)
+    rw (p.1, p.2) (λ refusal g. told program_reads 64 c.args.tokens.now c.in_err-tree.field-0.0 (fails_is program_reads 64 c.args.tokens.now c.in_err-tree.field-0.0 c.in_err-tree.ensures) refusal g)
 
 pub returns-then-is_empty-clause-told : goal.returns-then-is_empty-clause-told
-returns-then-is_empty-clause-told c = λ refusal g. absurd (refused_unspelled c.args.tokens.now refusal (tree_view spelled c.in_ok-tree.tree) g
-    (whole_spelled c.args.tokens.now c.in_ok-tree.rest.now (tree_view spelled c.in_ok-tree.tree) (grind (arith, common_steps)) c.in_ok-tree.ensures))
+returns-then-is_empty-clause-told c = λ refusal g. absurd (refused_unspelled program_reads 64 c.args.tokens.now refusal (tree_view spelled c.in_ok-tree.tree) g
+    (whole_spelled program_reads 64 c.args.tokens.now c.in_ok-tree.rest.now (tree_view spelled c.in_ok-tree.tree) (grind (arith, common_steps)) c.in_ok-tree.ensures))
 
 pub returns-else-is_empty-clause-complete : goal.returns-else-is_empty-clause-complete
 returns-else-is_empty-clause-complete c =
-    let here = left_over c.args.tokens.now c.in_ok-tree.rest.now (tree_view spelled c.in_ok-tree.tree) (λ e. grind (arith, common_steps)) c.in_ok-tree.ensures in
-    λ t s. not_spelled c.args.tokens.now c.unexpected.result (left_is c.args.tokens.now c.unexpected.result _ c.unexpected.ensures here) t s
+    let here = left_over program_reads 64 c.args.tokens.now c.in_ok-tree.rest.now (tree_view spelled c.in_ok-tree.tree) (λ e. grind (arith, common_steps)) c.in_ok-tree.ensures in
+    λ t s. not_spelled program_reads 64 c.args.tokens.now c.unexpected.result (left_is program_reads 64 c.args.tokens.now c.unexpected.result _ c.unexpected.ensures here) t s
 
 pub returns-else-is_empty-clause-refused : goal.returns-else-is_empty-clause-refused
 returns-else-is_empty-clause-refused c =
-    let here = left_over c.args.tokens.now c.in_ok-tree.rest.now (tree_view spelled c.in_ok-tree.tree) (λ e. grind (arith, common_steps)) c.in_ok-tree.ensures in
-    λ refusal is. left_is c.args.tokens.now c.unexpected.result _ c.unexpected.ensures here refusal (bad_is c.unexpected.result (Refused refusal) is)
+    let here = left_over program_reads 64 c.args.tokens.now c.in_ok-tree.rest.now (tree_view spelled c.in_ok-tree.tree) (λ e. grind (arith, common_steps)) c.in_ok-tree.ensures in
+    λ refusal is. left_is program_reads 64 c.args.tokens.now c.unexpected.result _ c.unexpected.ensures here refusal (bad_is c.unexpected.result (Refused refusal) is)
 
 pub returns-else-is_empty-clause-told : goal.returns-else-is_empty-clause-told
 returns-else-is_empty-clause-told c =
-    let here = left_over c.args.tokens.now c.in_ok-tree.rest.now (tree_view spelled c.in_ok-tree.tree) (λ e. grind (arith, common_steps)) c.in_ok-tree.ensures in
-    λ refusal g. told c.args.tokens.now c.unexpected.result (left_is c.args.tokens.now c.unexpected.result _ c.unexpected.ensures here) refusal g
+    let here = left_over program_reads 64 c.args.tokens.now c.in_ok-tree.rest.now (tree_view spelled c.in_ok-tree.tree) (λ e. grind (arith, common_steps)) c.in_ok-tree.ensures in
+    λ refusal g. told program_reads 64 c.args.tokens.now c.unexpected.result (left_is program_reads 64 c.args.tokens.now c.unexpected.result _ c.unexpected.ensures here) refusal g

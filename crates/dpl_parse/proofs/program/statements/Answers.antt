@@ -4,7 +4,7 @@ use Rattle.std.proofs.lemmas.List.{map_push}
 use Rattle.dpl_syntax.specs.View.{stmt_view, spelled}
 use Rattle.dpl_grammar.specs.Reader.{next_in}
 use Rattle.dpl_parse.specs.Reading.{below_at, begins_statement, statement_at}
-use Rattle.dpl_parse.proofs.Turns.{goes_on, ends, so_fails}
+use Rattle.dpl_grammar.proofs.Turns.{goes_on, ends, so_fails}
 use Rattle.dpl_parse.proofs.program.statements.Goals as goal
 
 pub returns-in_err-stmt : goal.returns-in_err-stmt
@@ -18,7 +18,7 @@ each-preserved c =
     let x = c.in_ok-stmt.stmt in
     let e : map (stmt_view spelled) c.push.new.self.items ≡ map (stmt_view spelled) c.each.stmts.items ++ stmt_view spelled x ∷ [] = rw c.in_ok-push.ensures.items (map_push _ c.each.stmts.items x) in
     let is : next_in begins_statement c.each.rest.now ≡ true = cc in
-    rw e (goes_on begins_statement (statement_at (below_at c.args.room)) c.args.tokens.now (map (stmt_view spelled) c.each.stmts.items) c.each.rest.now (stmt_view spelled x) c.in_ok-stmt.after.now c.each.invariant is c.in_ok-stmt.ensures.gives c.in_ok-stmt.ensures.shorter)
+    rw (c.passed_on-rest.ensures, e) (goes_on begins_statement (statement_at (below_at c.args.room)) c.args.tokens.now (map (stmt_view spelled) c.each.stmts.items) c.each.rest.now (stmt_view spelled x) c.in_ok-stmt.after.now c.each.invariant is c.in_ok-stmt.ensures.gives c.in_ok-stmt.ensures.shorter)
 
 pub returns : goal.returns
 returns c =

@@ -1,7 +1,7 @@
 use Rattle.std.proofs.Common.{length, map}
 use Rattle.dpl_syntax.specs.View.{stmt_view, spelled}
 use Rattle.dpl_parse.specs.Reading.{below_at, begins_statement, statement_at}
-use Rattle.dpl_parse.proofs.Turns.{IsSoFar}
+use Rattle.dpl_grammar.proofs.Turns.{IsSoFar}
 use Rattle.dpl_parse.proofs.program.statements.Given as goal
 
 abbrev pub invariant-each : goal.invariant-each

@@ -1,5 +1,6 @@
 use Rattle.std.proofs.Common.{◌≡◌, ◌≤◌, ◌-◌, take, length, true}
-use Rattle.dpl_syntax.specs.Text.{goes_on, all_are}
+use Rattle.dpl_syntax.specs.Gaps.{all_are}
+use Rattle.dpl_syntax.specs.Text.{goes_on}
 use Rattle.dpl_syntax.proofs.scan.word_len.Given as goal
 
 abbrev pub invariant-loop-n : goal.invariant-loop-n
