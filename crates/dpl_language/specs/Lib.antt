@@ -18,3 +18,7 @@ pub mod Statements
 pub mod Names
 pub mod Program
 pub mod Together
+-- What serves proofs alone: trees with other names, which names a tree may use where, and when two environments agree.
+pub mod Renamed
+pub mod Scopes
+pub mod Agreement

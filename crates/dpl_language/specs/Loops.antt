@@ -1,6 +1,6 @@
 -- Scopes, and the turns of loops.
 -- A block, a loop and a body open a scope; a loop's variables stand in one, and its body in another inside it.
-use Rattle.std.specs.Prelude.{nat_lt, List, [], ◌∷◌}
+use Rattle.std.specs.Prelude.{nat_lt, pos, List, [], ◌∷◌}
 use Rattle.dpl_syntax.specs.declared.place.Place.{Place}
 use Rattle.dpl_language.specs.Tree.{Placed, VariablesTree, OneVariable, ManyVariables}
 use Rattle.dpl_range.specs.Equality.{TextRange}
@@ -24,10 +24,10 @@ module _ {N S : Type 0} (env : Environment N S) where
   abbrev pub scoped : Run S → Run S
   scoped body s done = then_do (body (env.enter s) done) (λ s done. Done (env.leave s) done)
 
-  -- a name for each coordinate
+  -- a name for each coordinate; a name without one, which no sound program has, is 0
   abbrev pub declare_each : List (Placed N) → Index → S → S
   declare_each [] t s = s
-  declare_each (x ∷ xs) [] s = s
+  declare_each (x ∷ xs) [] s = declare_each xs [] (env.declare x.name (Plain (Int (pos 0))) s)
   declare_each (x ∷ xs) (i ∷ t) s = declare_each xs t (env.declare x.name (Plain (Int i)) s)
 
   -- a loop's variables in a turn: one, whose value is by what the loop runs over, or one for each coordinate

@@ -1,0 +1,107 @@
+-- Two environments that agree step by step give the same meaning to every tree that fits.
+-- The whole theorem: for each statement, for statements in order, and for a program's statements.
+use Rattle.std.proofs.Common.{◌≡◌, List, [], refl, sym, subst, None, nat_lt}
+use Rattle.dpl_language.specs.Tree.{Op, ExprTree, VariablesTree, StmtTree, Nothing, Declare, Assigned, Call, Write, Block, If, While, For, Forall, Coforall, On, Body, WordBody, BlockBody, Stmts, NoStmts, Then, Else, NoElse, ElseDo}
+use Rattle.dpl_language.specs.Values.{Value, Index, number, fault, PastLimit}
+use Rattle.dpl_language.specs.Ranges.{indices_in, size_in, loop_ranges}
+use Rattle.dpl_language.specs.Outcome.{Done, Run, then_do}
+use Rattle.dpl_language.specs.Environment.{Environment, Limits}
+use Rattle.dpl_language.specs.Phrases.{intents_of}
+use Rattle.dpl_language.specs.Loops.{within_budget, named_turn, turn_of}
+use Rattle.dpl_language.specs.Statements.{task_limit, holds, exec, exec_body, exec_all, exec_else}
+use Rattle.dpl_language.specs.Renamed.{renamed_expr, renamed_variables, renamed_stmt, renamed_body, renamed_stmts, renamed_else, renamed_intents}
+use Rattle.dpl_language.specs.Scopes.{Scoping, add_variables, inside, fits_expr, fits_variables, after, after_all, after_body, fits, fits_body, fits_all, fits_else}
+use Rattle.dpl_language.specs.Agreement.{Simulates, EndsAlike, RunAlike}
+use Rattle.dpl_language.proofs.RunsAlike.{with_ok-same, then_do-alike, with_value-alike, choose-alike, unless-alike, repeated-alike, within_budget-alike, named_turn-alike}
+use Rattle.dpl_language.proofs.RenamedParts.{intents_of-renamed}
+use Rattle.dpl_language.proofs.ExpressionsAlike.{value_of-renamed, item_of-renamed}
+use Rattle.dpl_language.proofs.LoopsAlike.{leave-after_stmt_in, leave-after_all_in, leave-after_body_in, scoped-alike, turn_of-alike, tasks_of-alike}
+use Rattle.dpl_language.proofs.AssignmentsAlike.{assign-alike, cell_call-alike, write-alike}
+use Rattle.dpl_language.proofs.DeclarationsAlike.{declare-alike}
+
+module _ {M N G S1 S2 : Type 0} (limits : Limits) (name : N → M) (scoping : Scoping N G) (first : Environment M S1) (second : Environment N S2) (R : G → S1 → S2 → Type 0) (sim : Simulates limits name scoping first second R) where
+  holds-renamed : (e : ExprTree N) (g : G) (s1 : S1) (s2 : S2) → R g s1 s2 → fits_expr scoping None e g → holds limits first (renamed_expr name e) s1 ≡ holds limits second e s2
+  holds-renamed e g s1 s2 r f = with_ok-same _ _ _ _ (value_of-renamed limits name scoping first second R sim e None g s1 s2 r f) (λ v. refl)
+
+  -- a loop's turns, where the body ends alike
+  turns-alike : (xs : VariablesTree N) (over : Value) (g : G) (b : Body N) (a1 : Run S1) (a2 : Run S2) → fits_variables scoping xs (scoping.enter g)
+      → RunAlike (R (inside scoping xs g)) (R (after_body scoping b (inside scoping xs g))) a1 a2
+      → (t : Index) → RunAlike (R g) (R g) (turn_of first (renamed_variables name xs) over a1 t) (turn_of second xs over a2 t)
+  turns-alike xs over g b a1 a2 f p =
+      turn_of-alike limits name scoping first second R sim xs over g (after_body scoping b (inside scoping xs g)) a1 a2 f
+      (leave-after_body_in scoping sim.lawful b (add_variables scoping xs (scoping.enter g))) p
+
+  -- a forall's turns, with its intents
+  forall-alike : (g : G) (is : List (N × Op)) (a1 : Run S1) (a2 : Run S2) → scoping.intends is g → RunAlike (R (scoping.intend is g)) (R (scoping.intend is g)) a1 a2
+      → RunAlike (R g) (R g) (λ s done. then_do (a1 (first.intend (renamed_intents name is) s) done) (λ s done. Done (first.intend [] s) done))
+      (λ s done. then_do (a2 (second.intend is s) done) (λ s done. Done (second.intend [] s) done))
+  forall-alike g is a1 a2 f p s1 s2 done r =
+      then_do-alike (R (scoping.intend is g)) (R g) (a1 (first.intend (renamed_intents name is) s1) done) (a2 (second.intend is s2) done) _ _
+      (p (first.intend (renamed_intents name is) s1) (second.intend is s2) done (sim.intends is g s1 s2 r f))
+      (λ u1 u2 done q. (second.intend [] u2, sim.ends_forall is g u1 u2 q f, refl))
+
+  -- on a locale, and back
+  on-alike : (g : G) (v : Value) (a1 : Run S1) (a2 : Run S2) → RunAlike (R g) (R g) a1 a2
+      → RunAlike (R g) (R g) (λ s done. then_do (a1 (first.move (number v) s) done) (λ after done. Done (first.move (first.here s) after) done))
+      (λ s done. then_do (a2 (second.move (number v) s) done) (λ after done. Done (second.move (second.here s) after) done))
+  on-alike g v a1 a2 p s1 s2 done r =
+      then_do-alike (R g) (R g) (a1 (first.move (number v) s1) done) (a2 (second.move (number v) s2) done) _ _
+      (p (first.move (number v) s1) (second.move (number v) s2) done (sim.moves (number v) g s1 s2 r))
+      (λ u1 u2 done q. (second.move (second.here s2) u2, subst (λ k. R g (first.move (first.here s1) u1) (second.move k u2)) (sim.heres g s1 s2 r) (sim.moves (first.here s1) g u1 u2 q), refl))
+
+  mutual
+    pub exec-alike : (t : StmtTree N) (g : G) → fits scoping t g → RunAlike (R g) (R (after scoping t g)) (exec limits first (renamed_stmt name t)) (exec limits second t)
+    exec-alike (Nothing at) g f s1 s2 done r = (s2, r, refl)
+    exec-alike (Declare d) g f s1 s2 done r = declare-alike limits name scoping first second R sim d g f s1 s2 done r
+    exec-alike (Assigned target sign item semicolon) g f s1 s2 done r = assign-alike limits name scoping first second R sim target sign item g f.0 f.1 s1 s2 done r
+    exec-alike (Call x dot call semicolon) g f s1 s2 done r = cell_call-alike limits name scoping first second R sim x call g f.0 f.1 f.2 s1 s2 done r
+    exec-alike (Write w) g f s1 s2 done r = write-alike limits name scoping first second R sim w g f s1 s2 done r
+    exec-alike (Block from body upto) g f s1 s2 done r =
+        scoped-alike limits name scoping first second R sim g (after_all scoping body (scoping.enter g)) _ _ (leave-after_all_in scoping sim.lawful body g) (exec_all-alike body (scoping.enter g) f) s1 s2 done r
+    exec-alike (If at e a b) g f s1 s2 done r =
+        with_value-alike (R g) _ _ _ _ s1 s2 done (holds-renamed e g s1 s2 r f.0)
+        (λ c. choose-alike c (R g) (R g) _ _ _ _
+        (scoped-alike limits name scoping first second R sim g (after_body scoping a (scoping.enter g)) _ _ (leave-after_body_in scoping sim.lawful a g) (exec_body-alike a (scoping.enter g) f.1))
+        (exec_else-alike b g f.2) s1 s2 done r)
+    exec-alike (While at e body) g f s1 s2 done r =
+        repeated-alike limits.budget at (R g) _ _ _ _ (λ s1 s2 r. holds-renamed e g s1 s2 r f.0)
+        (scoped-alike limits name scoping first second R sim g (after_body scoping body (scoping.enter g)) _ _ (leave-after_body_in scoping sim.lawful body g) (exec_body-alike body (scoping.enter g) f.1)) s1 s2 done r
+    exec-alike (For at xs word item body) g f s1 s2 done r =
+        with_value-alike (R g) _ _ _ _ s1 s2 done (item_of-renamed limits name scoping first second R sim item None g s1 s2 r f.0)
+        (λ v. within_budget-alike limits at (loop_ranges limits.locales v) (R g) _ _
+        (turns-alike xs v g body _ _ f.1 (exec_body-alike body (inside scoping xs g) f.2)) s1 s2 done r)
+    exec-alike (Forall at xs word item intents body) g f s1 s2 done r =
+        with_value-alike (R g) _ _ _ _ s1 s2 done (item_of-renamed limits name scoping first second R sim item None g s1 s2 r f.0)
+        (λ v. subst (λ is. EndsAlike (R g)
+        (then_do (within_budget limits at (loop_ranges limits.locales v) (named_turn (turn_of first (renamed_variables name xs) v (exec_body limits first (renamed_body name body)))) (first.intend is s1) done)
+        (λ s done. Done (first.intend [] s) done))
+        (then_do (within_budget limits at (loop_ranges limits.locales v) (named_turn (turn_of second xs v (exec_body limits second body))) (second.intend (intents_of intents) s2) done)
+        (λ s done. Done (second.intend [] s) done)))
+        (sym (intents_of-renamed name intents))
+        (forall-alike g (intents_of intents) _ _ f.1
+        (within_budget-alike limits at (loop_ranges limits.locales v) (R (scoping.intend (intents_of intents) g)) _ _
+        (named_turn-alike (R (scoping.intend (intents_of intents) g)) _ _
+        (turns-alike xs v (scoping.intend (intents_of intents) g) body _ _ f.2 (exec_body-alike body (inside scoping xs (scoping.intend (intents_of intents) g)) f.3)))) s1 s2 done r))
+    exec-alike (Coforall at xs word item intents body) g f s1 s2 done r =
+        with_value-alike (R g) _ _ _ _ s1 s2 done (item_of-renamed limits name scoping first second R sim item None g s1 s2 r f.0)
+        (λ v. unless-alike (nat_lt task_limit (size_in (loop_ranges limits.locales v))) (fault PastLimit at) (R g) (R g) _ _
+        (tasks_of-alike limits name scoping first second R sim g (scoping.begin g) _ _ (indices_in (loop_ranges limits.locales v)) f.1
+        (turns-alike xs v (scoping.begin g) body _ _ f.2 (exec_body-alike body (inside scoping xs (scoping.begin g)) f.3))) s1 s2 done r)
+    exec-alike (On at e body) g f s1 s2 done r =
+        with_value-alike (R g) _ _ _ _ s1 s2 done (value_of-renamed limits name scoping first second R sim e None g s1 s2 r f.0)
+        (λ v. on-alike g v _ _
+        (scoped-alike limits name scoping first second R sim g (after_body scoping body (scoping.enter g)) _ _ (leave-after_body_in scoping sim.lawful body g) (exec_body-alike body (scoping.enter g) f.1)) s1 s2 done r)
+
+    exec_body-alike : (b : Body N) (g : G) → fits_body scoping b g → RunAlike (R g) (R (after_body scoping b g)) (exec_body limits first (renamed_body name b)) (exec_body limits second b)
+    exec_body-alike (WordBody at t) g f s1 s2 done r = exec-alike t g f s1 s2 done r
+    exec_body-alike (BlockBody from ts upto) g f s1 s2 done r = exec_all-alike ts g f s1 s2 done r
+
+    pub exec_all-alike : (ts : Stmts N) (g : G) → fits_all scoping ts g → RunAlike (R g) (R (after_all scoping ts g)) (exec_all limits first (renamed_stmts name ts)) (exec_all limits second ts)
+    exec_all-alike NoStmts g f s1 s2 done r = (s2, r, refl)
+    exec_all-alike (Then t rest) g f s1 s2 done r =
+        then_do-alike (R (after scoping t g)) (R (after_all scoping rest (after scoping t g))) _ _ _ _ (exec-alike t g f.0 s1 s2 done r) (exec_all-alike rest (after scoping t g) f.1)
+
+    exec_else-alike : (o : Else N) (g : G) → fits_else scoping o g → RunAlike (R g) (R g) (exec_else limits first (renamed_else name o)) (exec_else limits second o)
+    exec_else-alike NoElse g f s1 s2 done r = (s2, r, refl)
+    exec_else-alike (ElseDo at t) g f s1 s2 done r =
+        scoped-alike limits name scoping first second R sim g (after scoping t (scoping.enter g)) _ _ (leave-after_stmt_in scoping sim.lawful t g) (exec-alike t (scoping.enter g) f) s1 s2 done r

@@ -1,0 +1,190 @@
+-- Assignments, operations on cells and writes end alike in environments that agree.
+-- A right side comes first: it is an expression, or a cell read, which changes the state.
+use Rattle.std.proofs.Common.{◌≡◌, ℕ, Bool, true, false, List, [], ◌∷◌, ◌++◌, refl, sym, ap, ◌∙◌, subst, Some, None, Option, map}
+use Rattle.std.specs.Prelude.{◌&&◌, option_map}
+use Rattle.dpl_history.specs.declared.cell.CellOp.{CellOp}
+use Rattle.dpl_history.specs.declared.cell.CellOp.TheVariants.{Reset}
+use Rattle.dpl_range.specs.Equality.{TextRange}
+use Rattle.dpl_language.specs.Tree.{Placed, Kind, AssignTree, ItemTree, One, Exprs, TargetTree, Whole, Element, CallTree, ReadCall, ResetCall, WriteCall, ArgumentTree, TextArgument, ExprArgument, WriteTree}
+use Rattle.dpl_language.specs.Values.{Value, Index, index_of, ranges_in, array_domain, is_domain, cell_kind, kept_number, fault, ArrayTooLarge}
+use Rattle.dpl_language.specs.Arithmetic.{assigned, assign_divides, tested_divisor}
+use Rattle.dpl_language.specs.Ranges.{indices_in, too_large}
+use Rattle.dpl_language.specs.Printing.{printed_array}
+use Rattle.dpl_language.specs.Outcome.{Deeds, Run, Done, with_text, with_operation, with_value, unless}
+use Rattle.dpl_language.specs.Environment.{Environment, Answer, Replied, Unanswered, Limits}
+use Rattle.dpl_language.specs.Phrases.{ReadTree, item_read, read_op, write_op, bare_name}
+use Rattle.dpl_language.specs.Expressions.{found, item_of, values_of, whole_item}
+use Rattle.dpl_language.specs.Assignments.{reply_value, and_no_more, answered, called, read_or, evaluated, change, assign_array, assign_domain, assign_plain, assign_name, assign, cell_call}
+use Rattle.dpl_language.specs.Writing.{or_zero, line_end, arguments_of, name_shown, shown, arguments_then, write}
+use Rattle.dpl_language.specs.Renamed.{renamed, renamed_expr, renamed_item, renamed_exprs, renamed_target, renamed_call, renamed_argument, renamed_write, renamed_read}
+use Rattle.dpl_language.specs.Scopes.{Scoping, items_in, fits_item, fits_exprs, fits_read, fits_side, fits_whole_side, side_for, fits_target, fits_call, fits_shown, fits_arguments}
+use Rattle.dpl_language.specs.Agreement.{Simulates, EndsAlike, RunAlike, AnswersAlike}
+use Rattle.dpl_language.proofs.RunsAlike.{with_value-alike, with_value-alike_by, unless-alike, within_budget-alike, named_turn-alike}
+use Rattle.dpl_language.proofs.RenamedParts.{item_read-renamed, bare_name-renamed, arguments_of-renamed}
+use Rattle.dpl_language.proofs.ExpressionsAlike.{items_of-in, fits_item-once, value_of-renamed, item_of-renamed, values_of-renamed, whole_item-renamed}
+
+module _ {M N G S1 S2 : Type 0} (limits : Limits) (name : N → M) (scoping : Scoping N G) (first : Environment M S1) (second : Environment N S2) (R : G → S1 → S2 → Type 0) (sim : Simulates limits name scoping first second R) where
+  -- AN OPERATION ON A CELL
+  answered-alike : (x : Placed N) (op : CellOp) (k : Kind) (g h : G) (go1 : Value → Run S1) (go2 : Value → Run S2) (a : Answer S1) (b : Answer S2) (done : Deeds)
+      → AnswersAlike (R g) a b → ((v : Value) → RunAlike (R g) (R h) (go1 v) (go2 v))
+      → EndsAlike (R h) (answered limits first (renamed name x) op k go1 a done) (answered limits second x op k go2 b done)
+  answered-alike x op k g h go1 go2 (Replied c r s) b done al p =
+      subst (λ b. EndsAlike (R h) (go1 (reply_value k r) s (with_operation c op r done)) (answered limits second x op k go2 b done)) (sym al.2)
+      (p (reply_value k r) s al.0 (with_operation c op r done) al.1)
+  answered-alike x op k g h go1 go2 (Unanswered c) b done al p = ap (λ b. answered limits second x op k go2 b done) al
+
+  pub called-alike : (x : Placed N) (op : CellOp) (g h : G) (go1 : Value → Run S1) (go2 : Value → Run S2) → scoping.reads x.name g → scoping.calls x.name g
+      → ((v : Value) → RunAlike (R g) (R h) (go1 v) (go2 v)) → RunAlike (R g) (R h) (called limits first (renamed name x) op go1) (called limits second x op go2)
+  called-alike x op g h go1 go2 f c p s1 s2 done r =
+      subst (λ k. EndsAlike (R h) (called limits first (renamed name x) op go1 s1 done) (answered limits second x op k go2 (second.call x.name op s2) done))
+      (ap cell_kind (sim.gets x.name g s1 s2 r f))
+      (answered-alike x op (cell_kind (first.get (name x.name) s1)) g h go1 go2 (first.call (name x.name) op s1) (second.call x.name op s2) done (sim.calls x.name op g s1 s2 r c) p)
+
+  -- A RIGHT SIDE
+  read_or-alike : (o : Option (ReadTree N)) (item : ItemTree N) (g h : G) (go1 : Value → Run S1) (go2 : Value → Run S2) → fits_read scoping o g → fits_item scoping None item g
+      → ((v : Value) → RunAlike (R g) (R h) (go1 v) (go2 v))
+      → RunAlike (R g) (R h) (read_or limits first (option_map (renamed_read name) o) (renamed_item name item) go1) (read_or limits second o item go2)
+  read_or-alike None item g h go1 go2 c f p s1 s2 done r =
+      with_value-alike (R h) _ _ go1 go2 s1 s2 done (item_of-renamed limits name scoping first second R sim item None g s1 s2 r f) (λ v. p v s1 s2 done r)
+  read_or-alike (Some o) item g h go1 go2 c f p s1 s2 done r = called-alike o.name o.op g h go1 go2 c.0 c.1 p s1 s2 done r
+
+  pub evaluated-alike : (item : ItemTree N) (g h : G) (go1 : Value → Run S1) (go2 : Value → Run S2) → fits_side scoping item g
+      → ((v : Value) → RunAlike (R g) (R h) (go1 v) (go2 v)) → RunAlike (R g) (R h) (evaluated limits first (renamed_item name item) go1) (evaluated limits second item go2)
+  evaluated-alike item g h go1 go2 f p s1 s2 done r =
+      subst (λ o. EndsAlike (R h) (read_or limits first o (renamed_item name item) go1 s1 done) (evaluated limits second item go2 s2 done)) (sym (item_read-renamed name item))
+      (read_or-alike (item_read item) item g h go1 go2 f.1 f.0 p s1 s2 done r)
+
+  -- AN ELEMENT
+  -- a change, where the old element is the same and the store of a new one is alike
+  change-alike : (x : Placed N) (sign : AssignTree) (t : Index) (w : Value) (g : G) (s1 : S1) (s2 : S2) (done : Deeds)
+      → first.element (name x.name) t s1 ≡ second.element x.name t s2
+      → ((v : Value) → R g (first.put_element (name x.name) t v s1) (second.put_element x.name t v s2))
+      → EndsAlike (R g) (change limits first (renamed name x) sign t w s1 done) (change limits second x sign t w s2 done)
+  change-alike x sign t w g s1 s2 done e p =
+      with_value-alike (R g) _ _ _ _ s1 s2 done (ap (found x.at) e)
+      (λ old. with_value-alike (R g) (tested_divisor (assign_divides sign.op) sign.at w) _ _ _ s1 s2 done refl
+      (λ w. (second.put_element x.name t (assigned sign.op None old w) s2, p (assigned sign.op None old w), refl)))
+
+  change_whole-alike : (x : Placed N) (sign : AssignTree) (t : Index) (w : Value) (g : G) → scoping.reads_at x.name t g → scoping.assigns_at x.name t g
+      → RunAlike (R g) (R g) (change limits first (renamed name x) sign t w) (change limits second x sign t w)
+  change_whole-alike x sign t w g e a s1 s2 done r =
+      change-alike x sign t w g s1 s2 done (sim.elements_at x.name t g s1 s2 r e) (λ v. sim.puts_at x.name t v g s1 s2 r a)
+
+  change_element-alike : (x : Placed N) (sign : AssignTree) (es : Exprs N) (w : Value) (g : G) → fits_exprs scoping es g
+      → scoping.reads_element x.name (items_in es) g → scoping.assigns_element x.name (items_in es) g
+      → RunAlike (R g) (R g) (λ s done. with_value (values_of limits first (renamed_exprs name es) s) (λ is. change limits first (renamed name x) sign (index_of is) w) s done)
+      (λ s done. with_value (values_of limits second es s) (λ is. change limits second x sign (index_of is) w) s done)
+  change_element-alike x sign es w g f e a s1 s2 done r =
+      with_value-alike_by (R g) _ _ _ _ s1 s2 done (values_of-renamed limits name scoping first second R sim es g s1 s2 r f)
+      (λ vs is. change-alike x sign (index_of vs) w g s1 s2 done
+      (sim.elements x.name (items_in es) vs g s1 s2 r e (items_of-in limits second es s2 ∙ is))
+      (λ v. sim.puts x.name (items_in es) vs v g s1 s2 r a (items_of-in limits second es s2 ∙ is)))
+
+  -- A WHOLE ARRAY
+  assign_array-alike : (x : Placed N) (sign : AssignTree) (item : ItemTree N) (rs : List TextRange) (o : Option (List TextRange)) (g : G)
+      → scoping.assigns x.name sign.op g → ((t : Index) → scoping.reads_at x.name t g × scoping.assigns_at x.name t g) → fits_whole_side scoping item g
+      → RunAlike (R g) (R g) (assign_array limits first (renamed name x) sign (renamed_item name item) rs o) (assign_array limits second x sign item rs o)
+  assign_array-alike x sign item rs None g a e f s1 s2 done r =
+      evaluated-alike item g g _ _ (fits_item-once scoping [] item g (f.0 []), f.1)
+      (λ w. within_budget-alike limits sign.at rs (R g) _ _ (named_turn-alike (R g) (λ t. change limits first (renamed name x) sign t w) (λ t. change limits second x sign t w) (λ t. change_whole-alike x sign t w g (e t).0 (e t).1))) s1 s2 done r
+  assign_array-alike x sign item rs (Some arrays) g a e f s1 s2 done r =
+      within_budget-alike limits sign.at rs (R g) _ _ (named_turn-alike (R g)
+      (λ t s done. with_value (item_of limits first (renamed_item name item) (Some t) s) (change limits first (renamed name x) sign t) s done)
+      (λ t s done. with_value (item_of limits second item (Some t) s) (change limits second x sign t) s done)
+      (λ t s1 s2 done r. with_value-alike (R g) _ _ _ _ s1 s2 done (item_of-renamed limits name scoping first second R sim item (Some t) g s1 s2 r (f.0 t))
+      (λ w. change_whole-alike x sign t w g (e t).0 (e t).1 s1 s2 done r))) s1 s2 done r
+
+  -- A DOMAIN
+  redomained-alike : (x : Placed N) (sign : AssignTree) (v : Value) (g : G) → scoping.assigns x.name sign.op g → (b : Bool)
+      → RunAlike (R g) (R g) (unless b (fault ArrayTooLarge x.at) (λ s done. Done (first.redomain (name x.name) (ranges_in v) s) done))
+      (unless b (fault ArrayTooLarge x.at) (λ s done. Done (second.redomain x.name (ranges_in v) s) done))
+  redomained-alike x sign v g a b =
+      unless-alike b (fault ArrayTooLarge x.at) (R g) (R g) _ _ (λ s1 s2 done r. (second.redomain x.name (ranges_in v) s2, sim.redomains x.name sign.op (ranges_in v) g s1 s2 r a, refl))
+
+  assign_domain-alike : (x : Placed N) (sign : AssignTree) (item : ItemTree N) (g : G) → scoping.assigns x.name sign.op g → fits_side scoping item g
+      → RunAlike (R g) (R g) (assign_domain limits first (renamed name x) (renamed_item name item)) (assign_domain limits second x item)
+  assign_domain-alike x sign item g a f =
+      evaluated-alike item g g _ _ f (λ v s1 s2 done r.
+      subst (λ b. EndsAlike (R g)
+      (unless (too_large (ranges_in v) && first.has_arrays (name x.name) s1) (fault ArrayTooLarge x.at) (λ s done. Done (first.redomain (name x.name) (ranges_in v) s) done) s1 done)
+      (unless (too_large (ranges_in v) && b) (fault ArrayTooLarge x.at) (λ s done. Done (second.redomain x.name (ranges_in v) s) done) s2 done))
+      (sim.has x.name sign.op g s1 s2 r a)
+      (redomained-alike x sign v g a (too_large (ranges_in v) && first.has_arrays (name x.name) s1) s1 s2 done r))
+
+  -- A PLAIN VARIABLE
+  assign_plain-alike : (x : Placed N) (sign : AssignTree) (item : ItemTree N) (g : G) → scoping.assigns x.name sign.op g → fits_side scoping item g
+      → RunAlike (R g) (R g) (assign_plain limits first (renamed name x) sign (renamed_item name item)) (assign_plain limits second x sign item)
+  assign_plain-alike x sign item g a f =
+      evaluated-alike item g g _ _ f (λ v s1 s2 done r.
+      with_value-alike (R g) (tested_divisor (assign_divides sign.op) sign.at v) _ _ _ s1 s2 done refl
+      (λ w. (second.update x.name sign.op w s2, sim.updates x.name sign.op w g s1 s2 r a, refl)))
+
+  assign_name-alike : (x : Placed N) (sign : AssignTree) (item : ItemTree N) (o : Option (List TextRange)) (b : Bool) (g : G)
+      → scoping.assigns x.name sign.op g → ((t : Index) → scoping.reads_at x.name t g × scoping.assigns_at x.name t g) → fits_whole_side scoping item g
+      → RunAlike (R g) (R g) (assign_name limits first (renamed name x) sign (renamed_item name item) o b) (assign_name limits second x sign item o b)
+  assign_name-alike x sign item (Some rs) b g a e f s1 s2 done r =
+      subst (λ o. EndsAlike (R g) (assign_array limits first (renamed name x) sign (renamed_item name item) rs (whole_item limits first (renamed_item name item) s1) s1 done)
+      (assign_array limits second x sign item rs o s2 done))
+      (whole_item-renamed limits name scoping first second R sim item (Some []) g s1 s2 r (f.0 []))
+      (assign_array-alike x sign item rs (whole_item limits first (renamed_item name item) s1) g a e f s1 s2 done r)
+  assign_name-alike x sign item None true g a e f s1 s2 done r = assign_domain-alike x sign item g a (fits_item-once scoping [] item g (f.0 []), f.1) s1 s2 done r
+  assign_name-alike x sign item None false g a e f s1 s2 done r = assign_plain-alike x sign item g a (fits_item-once scoping [] item g (f.0 []), f.1) s1 s2 done r
+
+  pub assign-alike : (target : TargetTree N) (sign : AssignTree) (item : ItemTree N) (g : G) → fits_target scoping target sign.op g → side_for scoping target item g
+      → RunAlike (R g) (R g) (assign limits first (renamed_target name target) sign (renamed_item name item)) (assign limits second target sign item)
+  assign-alike (Whole x) sign item g a f s1 s2 done r =
+      subst (λ o. EndsAlike (R g) (assign limits first (Whole (renamed name x)) sign (renamed_item name item) s1 done) (assign_name limits second x sign item o (is_domain (second.get x.name s2)) s2 done))
+      (sim.whole_targets x.name sign.op g s1 s2 r a.0)
+      (subst (λ b. EndsAlike (R g) (assign limits first (Whole (renamed name x)) sign (renamed_item name item) s1 done) (assign_name limits second x sign item (array_domain (first.get (name x.name) s1)) b s2 done))
+      (sim.domain_targets x.name sign.op g s1 s2 r a.0)
+      (assign_name-alike x sign item (array_domain (first.get (name x.name) s1)) (is_domain (first.get (name x.name) s1)) g a.0 a.1 f s1 s2 done r))
+  assign-alike (Element x shape from es upto) sign item g a f s1 s2 done r =
+      evaluated-alike item g g _ _ f (λ w. change_element-alike x sign es w g a.0 a.1 a.2) s1 s2 done r
+
+  -- A CELL'S CALL
+  and_no_more-alike : (v : Value) (g : G) → RunAlike (R g) (R g) (and_no_more v) (and_no_more v)
+  and_no_more-alike v g s1 s2 done r = (s2, r, refl)
+
+  pub cell_call-alike : (x : Placed N) (call : CallTree N) (g : G) → fits_call scoping call g → scoping.reads x.name g → scoping.calls x.name g
+      → RunAlike (R g) (R g) (cell_call limits first (renamed name x) (renamed_call name call)) (cell_call limits second x call)
+  cell_call-alike x (ReadCall at w from upto) g f e c s1 s2 done r = called-alike x (read_op w) g g and_no_more and_no_more e c (λ v. and_no_more-alike v g) s1 s2 done r
+  cell_call-alike x (ResetCall at from upto) g f e c s1 s2 done r = called-alike x Reset g g and_no_more and_no_more e c (λ v. and_no_more-alike v g) s1 s2 done r
+  cell_call-alike x (WriteCall at w from y upto) g f e c s1 s2 done r =
+      with_value-alike (R g) _ _ _ _ s1 s2 done (value_of-renamed limits name scoping first second R sim y None g s1 s2 r f)
+      (λ v. called-alike x (write_op w (kept_number v)) g g and_no_more and_no_more e c (λ v. and_no_more-alike v g) s1 s2 done r)
+
+  -- A WRITE
+  name_shown-same : (x : Placed N) (v : Value) (o : Option (List TextRange)) (g : G) (s1 : S1) (s2 : S2) → R g s1 s2 → ((t : Index) → scoping.reads_at x.name t g)
+      → name_shown limits first (renamed name x) v o s1 ≡ name_shown limits second x v o s2
+  name_shown-same x v None g s1 s2 r f = refl
+  name_shown-same x v (Some rs) g s1 s2 r f = ap (printed_array rs) (each (indices_in rs))
+    where
+      each : (ts : List Index) → map (λ t. or_zero (first.element (name x.name) t s1)) ts ≡ map (λ t. or_zero (second.element x.name t s2)) ts
+      each [] = refl
+      each (t ∷ ts) =
+          ap (λ o. or_zero o ∷ map (λ t. or_zero (first.element (name x.name) t s1)) ts) (sim.elements_at x.name t g s1 s2 r (f t))
+          ∙ ap (λ vs. or_zero (second.element x.name t s2) ∷ vs) (each ts)
+
+  shown-same : (o : Option (Placed N)) (v : Value) (g : G) (s1 : S1) (s2 : S2) → R g s1 s2 → fits_shown scoping o g
+      → shown limits first (option_map (renamed name) o) v s1 ≡ shown limits second o v s2
+  shown-same None v g s1 s2 r f = refl
+  shown-same (Some x) v g s1 s2 r f = name_shown-same x v (array_domain v) g s1 s2 r f
+
+  arguments_then-alike : (xs : List (ArgumentTree N)) (text : List ℕ) (g : G) (go1 : List ℕ → Run S1) (go2 : List ℕ → Run S2) → fits_arguments scoping xs g
+      → ((text : List ℕ) → RunAlike (R g) (R g) (go1 text) (go2 text))
+      → RunAlike (R g) (R g) (arguments_then limits first (map (renamed_argument name) xs) text go1) (arguments_then limits second xs text go2)
+  arguments_then-alike [] text g go1 go2 f p = p text
+  arguments_then-alike (TextArgument at cs ∷ rest) text g go1 go2 f p = arguments_then-alike rest (text ++ cs) g go1 go2 f p
+  arguments_then-alike (ExprArgument e ∷ rest) text g go1 go2 f p =
+      evaluated-alike (One e) g g _ _ f.0
+      (λ v u1 u2 done q. subst (λ more. EndsAlike (R g) (arguments_then limits first (map (renamed_argument name) rest) (text ++ shown limits first (bare_name (renamed_expr name e)) v u1) go1 u1 done)
+      (arguments_then limits second rest (text ++ more) go2 u2 done))
+      (ap (λ o. shown limits first o v u1) (bare_name-renamed name e) ∙ shown-same (bare_name e) v g u1 u2 q f.1)
+      (arguments_then-alike rest (text ++ shown limits first (bare_name (renamed_expr name e)) v u1) g go1 go2 f.2 p u1 u2 done q))
+
+  pub write-alike : (w : WriteTree N) (g : G) → fits_arguments scoping (arguments_of w.arguments) g → RunAlike (R g) (R g) (write limits first (renamed_write name w)) (write limits second w)
+  write-alike w g f s1 s2 done r =
+      subst (λ xs. EndsAlike (R g) (arguments_then limits first xs [] (λ text s done. Done s (with_text (text ++ line_end w.ends_line) done)) s1 done) (write limits second w s2 done))
+      (sym (arguments_of-renamed name w.arguments))
+      (arguments_then-alike (arguments_of w.arguments) [] g (λ text s done. Done s (with_text (text ++ line_end w.ends_line) done)) (λ text s done. Done s (with_text (text ++ line_end w.ends_line) done)) f
+      (λ text s1 s2 done r. (s2, r, refl)) s1 s2 done r)

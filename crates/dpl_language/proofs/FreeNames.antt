@@ -1,0 +1,199 @@
+-- Where any name may be used in any way, each tree fits.
+-- For environments that agree of all names, wherever they stand.
+use Rattle.std.proofs.Common.{List, [], ◌∷◌, refl, Some, None, Option}
+use Rattle.dpl_syntax.specs.declared.place.Place.{Place}
+use Rattle.dpl_language.specs.Tree.{Placed, ExprTree, Number, TruthWord, Named, LocalesWord, LocaleCount, HereWord, Grouped, DomainLiteral, Prefixed, Reduced, Chain, Postfixed, ItemTree, One, RangeItem, Stride, NoStride, By, Links, NoLinks, Link, Posts, NoPosts, Post, PostTree, Brackets, Rounds, Dotted, MethodTree, Plainly, Dim, Contains, Expand, CellRead, Items, FirstItem, MoreItems, NoItems, NextItem, Exprs, FirstExpr, MoreExprs, NoExprs, NextExpr}
+use Rattle.dpl_language.specs.Tree.{TypeTree, ScalarType, SyncType, DomainType, ArrayType, InitTree, ItemInit, CreateInit, InitialTree, DeclareTree, ArgumentTree, TextArgument, ExprArgument, VariablesTree, OneVariable, ManyVariables, TargetTree, Whole, Element, CallTree, ReadCall, ResetCall, WriteCall, StmtTree, Nothing, Declare, Assigned, Call, Write, Block, If, While, For, Forall, Coforall, On, Body, WordBody, BlockBody, Stmts, NoStmts, Then, Else, NoElse, ElseDo}
+use Rattle.dpl_language.specs.Values.{Index}
+use Rattle.dpl_language.specs.Phrases.{Base, BaseName, BaseLocales, OtherBase, base_of, bare_name, ReadTree, item_read, parts}
+use Rattle.dpl_language.specs.Declarations.{type_of}
+use Rattle.dpl_language.specs.Writing.{arguments_of}
+use Rattle.dpl_language.specs.Scopes.{Sort, sort_by, Scoping, IsLawful, items_in, fits_name, fits_element, fits_expr, fits_item, fits_stride, fits_links, fits_posts, fits_post, fits_method, fits_items, fits_more_items, fits_exprs, fits_more_exprs, fits_read, fits_side, fits_whole_side, fits_type, side_by, fits_init, fits_initial, fits_given, fits_declare, fits_target, side_for, fits_call, fits_shown, fits_arguments, fits_each, fits_variables, fits, fits_body, fits_all, fits_else}
+
+-- any name may be used in any way, and nothing is kept of what is in sight
+abbrev pub anything : {N : Type 0} → Scoping N (Unit {0})
+anything = record {
+  reads = λ x g. Unit {0};
+  reads_at = λ x t g. Unit {0};
+  reads_element = λ x items g. Unit {0};
+  assigns = λ x op g. Unit {0};
+  assigns_at = λ x t g. Unit {0};
+  assigns_element = λ x items g. Unit {0};
+  calls = λ x g. Unit {0};
+  declares = λ x sort g. Unit {0};
+  gives = λ x g. Unit {0};
+  intends = λ is g. Unit {0};
+  coforalls = λ g. Unit {0};
+  add = λ x sort g. g;
+  enter = λ g. g;
+  leave = λ g. g;
+  intend = λ is g. g;
+  begin = λ g. g;
+}
+
+pub anything-lawful : {N : Type 0} → IsLawful (anything {N = N})
+anything-lawful = record { leave-enter = λ g. refl; leave-add = λ x sort g. refl }
+
+module _ {N : Type 0} where
+  name_fits : (t : Option Index) (x : N) → fits_name anything t x tt
+  name_fits None x = tt
+  name_fits (Some t) x = (tt, tt)
+
+  element_fits : (b : Base N) (items : Items N) → fits_element anything b items tt
+  element_fits (BaseName x) items = tt
+  element_fits (BaseLocales at) items = tt
+  element_fits OtherBase items = tt
+
+  mutual
+    expr_fits : (e : ExprTree N) (t : Option Index) → fits_expr anything t e tt
+    expr_fits (Number at n) t = tt
+    expr_fits (TruthWord at b) t = tt
+    expr_fits (Named x) t = name_fits t x.name
+    expr_fits (LocalesWord at) t = tt
+    expr_fits (LocaleCount at) t = tt
+    expr_fits (HereWord at) t = tt
+    expr_fits (Grouped from item upto) t = item_fits item t
+    expr_fits (DomainLiteral from items upto) t = items_fit items
+    expr_fits (Prefixed at op e) t = expr_fits e t
+    expr_fits (Reduced at op word e) t = λ i. expr_fits e (Some i)
+    expr_fits (Chain e rest) t = (expr_fits e t, links_fit rest t)
+    expr_fits (Postfixed e posts) t = (expr_fits e None, posts_fit posts (base_of e))
+
+    item_fits : (i : ItemTree N) (t : Option Index) → fits_item anything t i tt
+    item_fits (One e) t = expr_fits e t
+    item_fits (RangeItem low at dots high by) t = (expr_fits low None, expr_fits high None, stride_fits by)
+
+    stride_fits : (by : Stride N) → fits_stride anything by tt
+    stride_fits NoStride = tt
+    stride_fits (By at e) = expr_fits e None
+
+    links_fit : (l : Links N) (t : Option Index) → fits_links anything t l tt
+    links_fit NoLinks t = tt
+    links_fit (Link at op e rest) t = (expr_fits e t, links_fit rest t)
+
+    posts_fit : (ps : Posts N) (b : Base N) → fits_posts anything ps b tt
+    posts_fit NoPosts b = tt
+    posts_fit (Post p rest) b = (post_fits p b, posts_fit rest OtherBase)
+
+    post_fits : (p : PostTree N) (b : Base N) → fits_post anything p b tt
+    post_fits (Brackets from items upto) b = (items_fit items, element_fits b items)
+    post_fits (Rounds from es upto) b = (exprs_fit es, element_fits b (items_in es))
+    post_fits (Dotted dot m) b = method_fits m
+
+    method_fits : (m : MethodTree N) → fits_method anything m tt
+    method_fits (Plainly at w) = tt
+    method_fits (Dim at from rank_at d upto) = tt
+    method_fits (Contains at from es upto) = exprs_fit es
+    method_fits (Expand at from e upto) = expr_fits e None
+    method_fits (CellRead at w from upto) = tt
+
+    items_fit : (is : Items N) → fits_items anything is tt
+    items_fit (FirstItem i more) = (item_fits i None, more_items_fit more)
+
+    more_items_fit : (is : MoreItems N) → fits_more_items anything is tt
+    more_items_fit NoItems = tt
+    more_items_fit (NextItem comma i more) = (item_fits i None, more_items_fit more)
+
+    exprs_fit : (es : Exprs N) → fits_exprs anything es tt
+    exprs_fit (FirstExpr e more) = (expr_fits e None, more_exprs_fit more)
+
+    more_exprs_fit : (es : MoreExprs N) → fits_more_exprs anything es tt
+    more_exprs_fit NoExprs = tt
+    more_exprs_fit (NextExpr comma e more) = (expr_fits e None, more_exprs_fit more)
+
+  read_fits : (o : Option (ReadTree N)) → fits_read anything o tt
+  read_fits None = tt
+  read_fits (Some r) = (tt, tt)
+
+  side_fits : (i : ItemTree N) → fits_side anything i tt
+  side_fits i = (item_fits i None, read_fits (item_read i))
+
+  whole_side_fits : (i : ItemTree N) → fits_whole_side anything i tt
+  whole_side_fits i = (λ t. item_fits i (Some t), read_fits (item_read i))
+
+  type_fits : (t : Option (TypeTree N)) → fits_type anything t tt
+  type_fits None = tt
+  type_fits (Some (ScalarType at k)) = tt
+  type_fits (Some (SyncType at kind_at k)) = tt
+  type_fits (Some (DomainType d)) = tt
+  type_fits (Some (ArrayType a)) = items_fit a.over
+
+  side_by_fits : (t : Option (TypeTree N)) (i : ItemTree N) → side_by anything t i tt
+  side_by_fits None i = side_fits i
+  side_by_fits (Some (ScalarType at k)) i = side_fits i
+  side_by_fits (Some (SyncType at kind_at k)) i = side_fits i
+  side_by_fits (Some (DomainType d)) i = side_fits i
+  side_by_fits (Some (ArrayType a)) i = whole_side_fits i
+
+  init_fits : (t : Option (TypeTree N)) (i : InitTree N) → fits_init anything (side_by anything t) i tt
+  init_fits t (ItemInit item mapped) = side_by_fits t item
+  init_fits t (CreateInit c) = items_fit c.items
+
+  initial_fits : (t : Option (TypeTree N)) (i : Option (InitialTree N)) → fits_initial anything (side_by anything t) i tt
+  initial_fits t None = tt
+  initial_fits t (Some i) = init_fits t i.init
+
+  given_fits : (c : Option Place) (x : N) (sort : Sort N) → fits_given anything c x sort tt
+  given_fits None x sort = tt
+  given_fits (Some config) x sort = (tt, tt, refl)
+
+  declare_fits : (d : DeclareTree N) → fits_declare anything d tt
+  declare_fits d =
+      (type_fits (type_of d.typed), initial_fits (type_of d.typed) d.initial, tt, given_fits d.config d.name.name (sort_by (type_of d.typed)))
+
+  target_fits : (t : TargetTree N) (op : _) → fits_target anything t op tt
+  target_fits (Whole x) op = (tt, λ t. (tt, tt))
+  target_fits (Element x shape from es upto) op = (exprs_fit es, tt, tt)
+
+  side_for_fits : (t : TargetTree N) (i : ItemTree N) → side_for anything t i tt
+  side_for_fits (Whole x) i = whole_side_fits i
+  side_for_fits (Element x shape from es upto) i = side_fits i
+
+  call_fits : (c : CallTree N) → fits_call anything c tt
+  call_fits (ReadCall at w from upto) = tt
+  call_fits (ResetCall at from upto) = tt
+  call_fits (WriteCall at w from e upto) = expr_fits e None
+
+  shown_fits : (o : Option (Placed N)) → fits_shown anything o tt
+  shown_fits None = tt
+  shown_fits (Some x) = λ t. tt
+
+  arguments_fit : (xs : List (ArgumentTree N)) → fits_arguments anything xs tt
+  arguments_fit [] = tt
+  arguments_fit (TextArgument at cs ∷ rest) = arguments_fit rest
+  arguments_fit (ExprArgument e ∷ rest) = (side_fits (One e), shown_fits (bare_name e), arguments_fit rest)
+
+  each_fits : (xs : List (Placed N)) → fits_each anything xs tt
+  each_fits [] = tt
+  each_fits (x ∷ xs) = (tt, each_fits xs)
+
+  variables_fit : (xs : VariablesTree N) → fits_variables anything xs tt
+  variables_fit (OneVariable x) = tt
+  variables_fit (ManyVariables from xs upto) = each_fits (parts xs)
+
+  mutual
+    pub stmt_fits : (t : StmtTree N) → fits anything t tt
+    stmt_fits (Nothing at) = tt
+    stmt_fits (Declare d) = declare_fits d
+    stmt_fits (Assigned target sign item semicolon) = (target_fits target sign.op, side_for_fits target item)
+    stmt_fits (Call x dot call semicolon) = (call_fits call, tt, tt)
+    stmt_fits (Write w) = arguments_fit (arguments_of w.arguments)
+    stmt_fits (Block from body upto) = stmts_fit body
+    stmt_fits (If at e first second) = (expr_fits e None, body_fits first, else_fits second)
+    stmt_fits (While at e body) = (expr_fits e None, body_fits body)
+    stmt_fits (For at xs word item body) = (item_fits item None, variables_fit xs, body_fits body)
+    stmt_fits (Forall at xs word item intents body) = (item_fits item None, tt, variables_fit xs, body_fits body)
+    stmt_fits (Coforall at xs word item intents body) = (item_fits item None, tt, variables_fit xs, body_fits body)
+    stmt_fits (On at e body) = (expr_fits e None, body_fits body)
+
+    body_fits : (b : Body N) → fits_body anything b tt
+    body_fits (WordBody at t) = stmt_fits t
+    body_fits (BlockBody from ts upto) = stmts_fit ts
+
+    pub stmts_fit : (ts : Stmts N) → fits_all anything ts tt
+    stmts_fit NoStmts = tt
+    stmts_fit (Then t rest) = (stmt_fits t, stmts_fit rest)
+
+    else_fits : (o : Else N) → fits_else anything o tt
+    else_fits NoElse = tt
+    else_fits (ElseDo at t) = stmt_fits t

@@ -1,0 +1,327 @@
+-- A program of which each name is spelled otherwise, no two names alike, means the same.
+-- An environment by names agrees with itself over other spellings: each of its laws is met here by names that differ.
+use Rattle.std.proofs.Common.{◌≡◌, Bool, true, false, List, [], ◌∷◌, ◌++◌, refl, sym, ap, ◌∙◌, subst, Some, None, Option, map, length, drop}
+use Rattle.std.specs.Prelude.{bytes_eq, ◌||◌, if◌then◌else◌, option_map}
+use Rattle.std.proofs.lemmas.List.{map-append}
+use Rattle.dpl_history.specs.declared.cell.CellState.{CellState}
+use Rattle.dpl_history.specs.declared.cell.CellOp.{CellOp}
+use Rattle.dpl_history.specs.declared.cell.Reply.{Reply}
+use Rattle.dpl_history.specs.declared.history.Event.{Event}
+use Rattle.dpl_history.specs.Cells.{effect}
+use Rattle.dpl_history.specs.Histories.{after}
+use Rattle.dpl_range.specs.Equality.{TextRange}
+use Rattle.dpl_language.specs.Tree.{Op, Assign, ProgramTree}
+use Rattle.dpl_language.specs.Values.{Value, Domain, Index, index_of, array_domain, is_domain}
+use Rattle.dpl_language.specs.Environment.{Content, Plain, ArrayOf, CellOf, Answer, Replied, Unanswered, Limits}
+use Rattle.dpl_language.specs.Names.{Text, Entry, Frame, Store, State, paired, in_frame, or_content, look_up, behind_entry, changed, or_store, change_in, declare_in, without_innermost, value_in, update_in, element_in, put_in, redomained, is_over, redomain_content, redomain_all, redomain_behind, redomain_in, is_array_over, has_over, has_over_behind, or_further, arrays_over, cell_in, frame_cells, store_cells, plus, cells_before, or_number, cell_number, set_cell, set_cells, with_cells, state_in, effect_on, call_in, by_name}
+use Rattle.dpl_language.specs.Program.{first_state, meaning, written}
+use Rattle.dpl_language.specs.Renamed.{renamed_content, renamed_intents, renamed_program}
+use Rattle.dpl_language.specs.Agreement.{AnswersAlike, Simulates}
+use Rattle.dpl_language.proofs.FreeNames.{anything, anything-lawful, stmts_fit}
+use Rattle.dpl_language.proofs.ProgramsAlike.{written-same}
+
+-- two tests that are the same, with parts of which the one's are made from the other's
+pub by_test : {A B : Type 0} (h : A → B) (b c : Bool) (x y : B) (u v : A) → b ≡ c → x ≡ h u → y ≡ h v → (if b then x else y) ≡ h (if c then u else v)
+by_test h true c x y u v e p q = p ∙ ap (λ c. h (if c then u else v)) e
+by_test h false c x y u v e p q = q ∙ ap (λ c. h (if c then u else v)) e
+
+-- `same` says that f spells no two names alike
+module _ (f : Text → Text) (same : (x y : Text) → bytes_eq (f x) (f y) ≡ bytes_eq x y) where
+  abbrev respelled : Content Text → Content Text
+  respelled c = renamed_content f c
+
+  abbrev respelled_entry : Entry → Entry
+  respelled_entry e = record { name = f e.name; content = respelled e.content }
+
+  abbrev respelled_frame : Frame → Frame
+  respelled_frame es = map {A = Entry} {B = Entry} respelled_entry es
+
+  abbrev respelled_store : Store → Store
+  respelled_store s = map {A = Frame} {B = Frame} respelled_frame s
+
+  abbrev pub respelled_sets : List (Text × Value) → List (Text × Value)
+  respelled_sets [] = []
+  respelled_sets (p ∷ ps) = (f p.0, p.1) ∷ respelled_sets ps
+
+  abbrev respelled_state : State → State
+  respelled_state s = record {
+    store = respelled_store s.store;
+    intents = renamed_intents f s.intents;
+    here = s.here;
+    sets = respelled_sets s.sets;
+    replies = s.replies;
+    histories = s.histories;
+  }
+
+  -- PAIRS
+  paired-intents : (x : Text) (is : List (Text × Op)) → paired (f x) (renamed_intents f is) ≡ paired x is
+  paired-intents x [] = refl
+  paired-intents x (p ∷ ps) = by_test (λ o. o) _ _ _ _ (Some p.1) (paired x ps) (same x p.0) refl (paired-intents x ps)
+
+  paired-sets : (x : Text) (ps : List (Text × Value)) → paired (f x) (respelled_sets ps) ≡ paired x ps
+  paired-sets x [] = refl
+  paired-sets x (p ∷ ps) = by_test (λ o. o) _ _ _ _ (Some p.1) (paired x ps) (same x p.0) refl (paired-sets x ps)
+
+  -- WHAT A NAME HOLDS
+  value_in-respelled : (c : Content Text) → value_in (respelled c) ≡ value_in c
+  value_in-respelled (Plain v) = refl
+  value_in-respelled (ArrayOf over k rs vs) = refl
+  value_in-respelled (CellOf k c) = refl
+
+  element_in-respelled : (t : Index) (c : Content Text) → element_in t (respelled c) ≡ element_in t c
+  element_in-respelled t (Plain v) = refl
+  element_in-respelled t (ArrayOf over k rs vs) = refl
+  element_in-respelled t (CellOf k c) = refl
+
+  cell_in-respelled : (c : Content Text) → cell_in (respelled c) ≡ cell_in c
+  cell_in-respelled (Plain v) = refl
+  cell_in-respelled (ArrayOf over k rs vs) = refl
+  cell_in-respelled (CellOf k c) = refl
+
+  state_in-respelled : (c : Content Text) → state_in (respelled c) ≡ state_in c
+  state_in-respelled (Plain v) = refl
+  state_in-respelled (ArrayOf over k rs vs) = refl
+  state_in-respelled (CellOf k c) = refl
+
+  update_in-respelled : (op : Assign) (intent : Option Op) (v : Value) (c : Content Text) → update_in op intent v (respelled c) ≡ respelled (update_in op intent v c)
+  update_in-respelled op intent v (Plain w) = refl
+  update_in-respelled op intent v (ArrayOf over k rs vs) = refl
+  update_in-respelled op intent v (CellOf k c) = refl
+
+  put_in-respelled : (t : Index) (v : Value) (c : Content Text) → put_in t v (respelled c) ≡ respelled (put_in t v c)
+  put_in-respelled t v (Plain w) = refl
+  put_in-respelled t v (ArrayOf over k rs vs) = refl
+  put_in-respelled t v (CellOf k c) = refl
+
+  set_cell-respelled : (cs : List CellState) (c : Content Text) → set_cell cs (respelled c) ≡ respelled (set_cell cs c)
+  set_cell-respelled cs (Plain w) = refl
+  set_cell-respelled cs (ArrayOf over k rs vs) = refl
+  set_cell-respelled [] (CellOf k c) = refl
+  set_cell-respelled (new ∷ cs) (CellOf k c) = refl
+
+  is_over-respelled : (x : Text) (over : Option Text) → is_over (f x) (option_map f over) ≡ is_over x over
+  is_over-respelled x None = refl
+  is_over-respelled x (Some y) = same x y
+
+  redomain_content-respelled : (x : Text) (new : List TextRange) (c : Content Text) → redomain_content (f x) new (respelled c) ≡ respelled (redomain_content x new c)
+  redomain_content-respelled x new (Plain v) = refl
+  redomain_content-respelled x new (ArrayOf over k rs vs) =
+      by_test respelled _ _ _ _ (ArrayOf over k new (redomained k rs vs new)) (ArrayOf over k rs vs) (is_over-respelled x over) refl refl
+  redomain_content-respelled x new (CellOf k c) = refl
+
+  is_array_over-respelled : (x : Text) (c : Content Text) → is_array_over (f x) (respelled c) ≡ is_array_over x c
+  is_array_over-respelled x (Plain v) = refl
+  is_array_over-respelled x (ArrayOf over k rs vs) = is_over-respelled x over
+  is_array_over-respelled x (CellOf k c) = refl
+
+  -- LOOKED UP, CHANGED AND DECLARED
+  in_frame-respelled : (x : Text) (es : Frame) → in_frame (f x) (respelled_frame es) ≡ option_map respelled (in_frame x es)
+  in_frame-respelled x [] = refl
+  in_frame-respelled x (e ∷ es) = by_test (option_map respelled) _ _ _ _ (Some e.content) (in_frame x es) (same x e.name) refl (in_frame-respelled x es)
+
+  or_content-respelled : (o : Option (Content Text)) (c : Content Text) → or_content (option_map respelled o) (respelled c) ≡ respelled (or_content o c)
+  or_content-respelled None c = refl
+  or_content-respelled (Some d) c = refl
+
+  look_up-respelled : (x : Text) (s : Store) → look_up (f x) (respelled_store s) ≡ respelled (look_up x s)
+  look_up-respelled x [] = refl
+  look_up-respelled x (es ∷ s) =
+      ap (λ o. or_content o (look_up (f x) (respelled_store s))) (in_frame-respelled x es)
+      ∙ ap (or_content (option_map respelled (in_frame x es))) (look_up-respelled x s)
+      ∙ or_content-respelled (in_frame x es) (look_up x s)
+
+  behind_entry-respelled : (e : Entry) (o : Option Frame) → behind_entry (respelled_entry e) (option_map respelled_frame o) ≡ option_map respelled_frame (behind_entry e o)
+  behind_entry-respelled e None = refl
+  behind_entry-respelled e (Some es) = refl
+
+  changed-respelled : (x : Text) (a b : Content Text → Content Text) → ((c : Content Text) → a (respelled c) ≡ respelled (b c)) → (es : Frame)
+      → changed (f x) a (respelled_frame es) ≡ option_map respelled_frame (changed x b es)
+  changed-respelled x a b p [] = refl
+  changed-respelled x a b p (e ∷ es) =
+      by_test (option_map respelled_frame) _ _ _ _ (Some (record e { content = b e.content } ∷ es)) (behind_entry e (changed x b es)) (same x e.name)
+      (ap (λ c. Some (record { name = f e.name; content = c } ∷ respelled_frame es)) (p e.content))
+      (ap (behind_entry (respelled_entry e)) (changed-respelled x a b p es) ∙ behind_entry-respelled e (changed x b es))
+
+  or_store-respelled : (o : Option Frame) (s other : Store) → or_store (option_map respelled_frame o) (respelled_store s) (respelled_store other) ≡ respelled_store (or_store o s other)
+  or_store-respelled None s other = refl
+  or_store-respelled (Some es) s other = refl
+
+  change_in-respelled : (x : Text) (a b : Content Text → Content Text) → ((c : Content Text) → a (respelled c) ≡ respelled (b c)) → (s : Store)
+      → change_in (f x) a (respelled_store s) ≡ respelled_store (change_in x b s)
+  change_in-respelled x a b p [] = refl
+  change_in-respelled x a b p (es ∷ s) =
+      ap (λ o. or_store o (respelled_store s) (respelled_frame es ∷ change_in (f x) a (respelled_store s))) (changed-respelled x a b p es)
+      ∙ ap (λ t. or_store (option_map respelled_frame (changed x b es)) (respelled_store s) (respelled_frame es ∷ t)) (change_in-respelled x a b p s)
+      ∙ or_store-respelled (changed x b es) s (es ∷ change_in x b s)
+
+  declare_in-respelled : (x : Text) (c : Content Text) (s : Store) → declare_in (f x) (respelled c) (respelled_store s) ≡ respelled_store (declare_in x c s)
+  declare_in-respelled x c [] = refl
+  declare_in-respelled x c (es ∷ s) = ap (λ fs. fs ∷ respelled_store s) (sym (map-append respelled_entry es (record { name = x; content = c } ∷ [])))
+
+  without_innermost-respelled : (s : Store) → without_innermost (respelled_store s) ≡ respelled_store (without_innermost s)
+  without_innermost-respelled [] = refl
+  without_innermost-respelled (es ∷ s) = refl
+
+  -- DOMAINS
+  redomain_all-respelled : (x : Text) (new : List TextRange) (es : Frame) → redomain_all (f x) new (respelled_frame es) ≡ respelled_frame (redomain_all x new es)
+  redomain_all-respelled x new [] = refl
+  redomain_all-respelled x new (e ∷ es) =
+      ap (λ c. record { name = f e.name; content = c } ∷ redomain_all (f x) new (respelled_frame es)) (redomain_content-respelled x new e.content)
+      ∙ ap (λ fs. respelled_entry (record e { content = redomain_content x new e.content }) ∷ fs) (redomain_all-respelled x new es)
+
+  redomain_behind-respelled : (x : Text) (new : List TextRange) (es : Frame) → redomain_behind (f x) new (respelled_frame es) ≡ option_map respelled_frame (redomain_behind x new es)
+  redomain_behind-respelled x new [] = refl
+  redomain_behind-respelled x new (e ∷ es) =
+      by_test (option_map respelled_frame) _ _ _ _ (Some (record e { content = Plain (Domain new) } ∷ redomain_all x new es)) (behind_entry e (redomain_behind x new es)) (same x e.name)
+      (ap (λ fs. Some (record { name = f e.name; content = Plain (Domain new) } ∷ fs)) (redomain_all-respelled x new es))
+      (ap (behind_entry (respelled_entry e)) (redomain_behind-respelled x new es) ∙ behind_entry-respelled e (redomain_behind x new es))
+
+  redomain_in-respelled : (x : Text) (new : List TextRange) (s : Store) → redomain_in (f x) new (respelled_store s) ≡ respelled_store (redomain_in x new s)
+  redomain_in-respelled x new [] = refl
+  redomain_in-respelled x new (es ∷ s) =
+      ap (λ o. or_store o (respelled_store s) (redomain_all (f x) new (respelled_frame es) ∷ redomain_in (f x) new (respelled_store s))) (redomain_behind-respelled x new es)
+      ∙ ap (λ fs. or_store (option_map respelled_frame (redomain_behind x new es)) (respelled_store s) (fs ∷ redomain_in (f x) new (respelled_store s))) (redomain_all-respelled x new es)
+      ∙ ap (λ t. or_store (option_map respelled_frame (redomain_behind x new es)) (respelled_store s) (respelled_frame (redomain_all x new es) ∷ t)) (redomain_in-respelled x new s)
+      ∙ or_store-respelled (redomain_behind x new es) s (redomain_all x new es ∷ redomain_in x new s)
+
+  has_over-respelled : (x : Text) (es : Frame) → has_over (f x) (respelled_frame es) ≡ has_over x es
+  has_over-respelled x [] = refl
+  has_over-respelled x (e ∷ es) =
+      ap (λ b. b || has_over (f x) (respelled_frame es)) (is_array_over-respelled x e.content) ∙ ap (λ b. is_array_over x e.content || b) (has_over-respelled x es)
+
+  has_over_behind-respelled : (x : Text) (es : Frame) → has_over_behind (f x) (respelled_frame es) ≡ has_over_behind x es
+  has_over_behind-respelled x [] = refl
+  has_over_behind-respelled x (e ∷ es) =
+      by_test (λ o. o) _ _ _ _ (Some (has_over x es)) (has_over_behind x es) (same x e.name) (ap (λ b. Some b) (has_over-respelled x es)) (has_over_behind-respelled x es)
+
+  arrays_over-respelled : (x : Text) (s : Store) → arrays_over (f x) (respelled_store s) ≡ arrays_over x s
+  arrays_over-respelled x [] = refl
+  arrays_over-respelled x (es ∷ s) =
+      ap (λ o. or_further o (has_over (f x) (respelled_frame es) || arrays_over (f x) (respelled_store s))) (has_over_behind-respelled x es)
+      ∙ ap (λ b. or_further (has_over_behind x es) (b || arrays_over (f x) (respelled_store s))) (has_over-respelled x es)
+      ∙ ap (λ b. or_further (has_over_behind x es) (has_over x es || b)) (arrays_over-respelled x s)
+
+  -- CELLS
+  frame_cells-respelled : (es : Frame) → frame_cells (respelled_frame es) ≡ frame_cells es
+  frame_cells-respelled [] = refl
+  frame_cells-respelled (e ∷ es) =
+      ap (λ cs. cs ++ frame_cells (respelled_frame es)) (cell_in-respelled e.content) ∙ ap (λ cs. cell_in e.content ++ cs) (frame_cells-respelled es)
+
+  store_cells-respelled : (s : Store) → store_cells (respelled_store s) ≡ store_cells s
+  store_cells-respelled [] = refl
+  store_cells-respelled (es ∷ s) =
+      ap (λ cs. cs ++ frame_cells (respelled_frame es)) (store_cells-respelled s) ∙ ap (λ cs. store_cells s ++ cs) (frame_cells-respelled es)
+
+  cells_before-respelled : (x : Text) (es : Frame) → cells_before (f x) (respelled_frame es) ≡ cells_before x es
+  cells_before-respelled x [] = refl
+  cells_before-respelled x (e ∷ es) =
+      by_test (λ o. o) _ _ _ _ (Some 0) (plus (length (cell_in e.content)) (cells_before x es)) (same x e.name) refl
+      (ap (λ cs. plus (length cs) (cells_before (f x) (respelled_frame es))) (cell_in-respelled e.content) ∙ ap (plus (length (cell_in e.content))) (cells_before-respelled x es))
+
+  cell_number-respelled : (x : Text) (s : Store) → cell_number (f x) (respelled_store s) ≡ cell_number x s
+  cell_number-respelled x [] = refl
+  cell_number-respelled x (es ∷ s) =
+      ap (λ o. or_number o (length (store_cells (respelled_store s))) (cell_number (f x) (respelled_store s))) (cells_before-respelled x es)
+      ∙ ap (λ cs. or_number (cells_before x es) (length cs) (cell_number (f x) (respelled_store s))) (store_cells-respelled s)
+      ∙ ap (or_number (cells_before x es) (length (store_cells s))) (cell_number-respelled x s)
+
+  set_cells-respelled : (cs : List CellState) (es : Frame) → set_cells cs (respelled_frame es) ≡ respelled_frame (set_cells cs es)
+  set_cells-respelled cs [] = refl
+  set_cells-respelled cs (e ∷ es) =
+      ap (λ c. record { name = f e.name; content = c } ∷ set_cells (drop (length (cell_in (respelled e.content))) cs) (respelled_frame es)) (set_cell-respelled cs e.content)
+      ∙ ap (λ ds. respelled_entry (record e { content = set_cell cs e.content }) ∷ set_cells (drop (length ds) cs) (respelled_frame es)) (cell_in-respelled e.content)
+      ∙ ap (λ fs. respelled_entry (record e { content = set_cell cs e.content }) ∷ fs) (set_cells-respelled (drop (length (cell_in e.content)) cs) es)
+
+  with_cells-respelled : (cs : List CellState) (s : Store) → with_cells cs (respelled_store s) ≡ respelled_store (with_cells cs s)
+  with_cells-respelled cs [] = refl
+  with_cells-respelled cs (es ∷ s) =
+      ap (λ ds. set_cells (drop (length ds) cs) (respelled_frame es) ∷ with_cells cs (respelled_store s)) (store_cells-respelled s)
+      ∙ ap (λ fs. fs ∷ with_cells cs (respelled_store s)) (set_cells-respelled (drop (length (store_cells s)) cs) es)
+      ∙ ap (λ t. respelled_frame (set_cells (drop (length (store_cells s)) cs) es) ∷ t) (with_cells-respelled cs s)
+
+  abbrev respelled_answer : Answer State → Answer State
+  respelled_answer (Replied c r s) = Replied c r (respelled_state s)
+  respelled_answer (Unanswered c) = Unanswered c
+
+  effect_on-respelled : (x : Text) (s : State) (o : Option (CellState × Reply)) → effect_on (f x) (respelled_state s) o ≡ respelled_answer (effect_on x s o)
+  effect_on-respelled x s None = ap (λ n. Unanswered n) (cell_number-respelled x s.store)
+  effect_on-respelled x s (Some a) =
+      ap (λ n. Replied n a.1 (record (respelled_state s) { store = change_in (f x) (set_cell (a.0 ∷ [])) (respelled_store s.store) })) (cell_number-respelled x s.store)
+      ∙ ap (λ t. Replied (cell_number x s.store) a.1 (record (respelled_state s) { store = t })) (change_in-respelled x (set_cell (a.0 ∷ [])) (set_cell (a.0 ∷ [])) (set_cell-respelled (a.0 ∷ [])) s.store)
+
+  call_in-respelled : (x : Text) (op : CellOp) (s : State) (o : Option (List Reply)) → call_in (f x) op (respelled_state s) o ≡ respelled_answer (call_in x op s o)
+  call_in-respelled x op s None =
+      ap (λ c. effect_on (f x) (respelled_state s) (effect op (state_in c))) (look_up-respelled x s.store)
+      ∙ ap (λ c. effect_on (f x) (respelled_state s) (effect op c)) (state_in-respelled (look_up x s.store))
+      ∙ effect_on-respelled x s (effect op (state_in (look_up x s.store)))
+  call_in-respelled x op s (Some []) = ap (λ n. Unanswered n) (cell_number-respelled x s.store)
+  call_in-respelled x op s (Some (r ∷ rs)) = ap (λ n. Replied n r (record (respelled_state s) { replies = Some rs })) (cell_number-respelled x s.store)
+
+  -- ALL TOGETHER
+  -- a state by the other spellings
+  abbrev pub Respells : Unit {0} → State → State → Type 0
+  Respells g s1 s2 = s1 ≡ respelled_state s2
+
+  answers_alike : (a : Answer State) → AnswersAlike (Respells tt) (respelled_answer a) a
+  answers_alike (Replied c r s) = (s, refl, refl)
+  answers_alike (Unanswered c) = refl
+
+  -- from equal states before, and the law for a state itself
+  then_so : (a b : State → State) → ((s : State) → a (respelled_state s) ≡ respelled_state (b s)) → (s1 s2 : State) → s1 ≡ respelled_state s2 → a s1 ≡ respelled_state (b s2)
+  then_so a b p s1 s2 r = ap a r ∙ p s2
+
+  pub respelled_simulates : (limits : Limits) → Simulates limits f anything by_name by_name Respells
+  respelled_simulates limits = record {
+    lawful = anything-lawful;
+    gets = λ x g s1 s2 r a. ap (by_name.get (f x)) r ∙ value_of_name x s2;
+    whole_targets = λ x op g s1 s2 r a. ap (λ s. array_domain (by_name.get (f x) s)) r ∙ ap array_domain (value_of_name x s2);
+    domain_targets = λ x op g s1 s2 r a. ap (λ s. is_domain (by_name.get (f x) s)) r ∙ ap is_domain (value_of_name x s2);
+    updates = λ x op v g s1 s2 r a. then_so (by_name.update (f x) op v) (by_name.update x op v) (update_of_name x op v) s1 s2 r;
+    elements_at = λ x t g s1 s2 r a. ap (by_name.element (f x) t) r ∙ element_of_name x t s2;
+    elements = λ x items vs g s1 s2 r a e. ap (by_name.element (f x) (index_of vs)) r ∙ element_of_name x (index_of vs) s2;
+    puts_at = λ x t v g s1 s2 r a. then_so (by_name.put_element (f x) t v) (by_name.put_element x t v) (put_of_name x t v) s1 s2 r;
+    puts = λ x items vs v g s1 s2 r a e. then_so (by_name.put_element (f x) (index_of vs) v) (by_name.put_element x (index_of vs) v) (put_of_name x (index_of vs) v) s1 s2 r;
+    declares = λ x c g s1 s2 r a. then_so (by_name.declare (f x) (respelled c)) (by_name.declare x c)
+        (λ s. ap (λ t. record (respelled_state s) { store = t }) (declare_in-respelled x c s.store)) s1 s2 r;
+    gives = λ x g s1 s2 r a. ap (by_name.given (f x)) r ∙ paired-sets x s2.sets;
+    enters = λ g s1 s2 r. ap by_name.enter r;
+    leaves = λ g s1 s2 r. then_so by_name.leave by_name.leave (λ s. ap (λ t. record (respelled_state s) { store = t }) (without_innermost-respelled s.store)) s1 s2 r;
+    intends = λ is g s1 s2 r a. ap (by_name.intend (renamed_intents f is)) r;
+    ends_forall = λ is g s1 s2 r a. ap (by_name.intend []) r;
+    has = λ x op g s1 s2 r a. ap (by_name.has_arrays (f x)) r ∙ arrays_over-respelled x s2.store;
+    redomains = λ x op rs g s1 s2 r a. then_so (by_name.redomain (f x) rs) (by_name.redomain x rs)
+        (λ s. ap (λ t. record (respelled_state s) { store = t }) (redomain_in-respelled x rs s.store)) s1 s2 r;
+    heres = λ g s1 s2 r. ap by_name.here r;
+    moves = λ k g s1 s2 r. ap (by_name.move k) r;
+    calls = λ x op g s1 s2 r a. subst (λ o. AnswersAlike (Respells tt) o (by_name.call x op s2))
+        (sym (ap (by_name.call (f x) op) r ∙ call_in-respelled x op s2 s2.replies)) (answers_alike (by_name.call x op s2));
+    cells = λ g s1 s2 r c. ap by_name.cells r ∙ store_cells-respelled s2.store;
+    histories = λ g s1 s2 r c. ap by_name.history r;
+    begins = λ rs g s1 s2 r c. ap (by_name.begin rs) r;
+    settles = λ h g s1 s2 r c. then_so (by_name.settle h) (by_name.settle h) (settle_of h) s1 s2 r;
+  }
+    where
+      value_of_name : (x : Text) (s : State) → by_name.get (f x) (respelled_state s) ≡ by_name.get x s
+      value_of_name x s = ap value_in (look_up-respelled x s.store) ∙ value_in-respelled (look_up x s.store)
+
+      element_of_name : (x : Text) (t : Index) (s : State) → by_name.element (f x) t (respelled_state s) ≡ by_name.element x t s
+      element_of_name x t s = ap (element_in t) (look_up-respelled x s.store) ∙ element_in-respelled t (look_up x s.store)
+
+      update_of_name : (x : Text) (op : Assign) (v : Value) (s : State) → by_name.update (f x) op v (respelled_state s) ≡ respelled_state (by_name.update x op v s)
+      update_of_name x op v s =
+          ap (λ o. record (respelled_state s) { store = change_in (f x) (update_in op o v) (respelled_store s.store) }) (paired-intents x s.intents)
+          ∙ ap (λ t. record (respelled_state s) { store = t }) (change_in-respelled x (update_in op (paired x s.intents) v) (update_in op (paired x s.intents) v) (update_in-respelled op (paired x s.intents) v) s.store)
+
+      put_of_name : (x : Text) (t : Index) (v : Value) (s : State) → by_name.put_element (f x) t v (respelled_state s) ≡ respelled_state (by_name.put_element x t v s)
+      put_of_name x t v s = ap (λ u. record (respelled_state s) { store = u }) (change_in-respelled x (put_in t v) (put_in t v) (put_in-respelled t v) s.store)
+
+      settle_of : (h : List Event) (s : State) → by_name.settle h (respelled_state s) ≡ respelled_state (by_name.settle h s)
+      settle_of h s =
+          ap (λ cs. record (respelled_state s) { store = with_cells (after cs h) (respelled_store s.store); histories = drop 1 s.histories }) (store_cells-respelled s.store)
+          ∙ ap (λ t. record (respelled_state s) { store = t; histories = drop 1 s.histories }) (with_cells-respelled (after (store_cells s.store) h) s.store)
+
+  -- a program means the same with other names, and writes the same, what the command line sets going by the other names
+  pub respelled-written : (t : ProgramTree Text) (sets : List (Text × Value)) (limits : Limits) (histories : List (List Event))
+      → written (meaning (renamed_program f t) (respelled_sets sets) limits histories) ≡ written (meaning t sets limits histories)
+  respelled-written t sets limits histories =
+      written-same limits f anything by_name Respells (respelled_simulates limits) t (renamed_program f t) (respelled_sets sets) histories tt (first_state sets histories) refl (stmts_fit t.stmts) refl

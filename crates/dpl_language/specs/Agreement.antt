@@ -1,0 +1,81 @@
+-- When two ways to keep variables agree: where each step of the one is a step of the other.
+-- Then each run by the one is a run by the other, which proofs/Agreement.antt shows.
+use Rattle.std.specs.Prelude.{◌≡◌, Ok, ℤ, List, []}
+use Rattle.dpl_history.specs.declared.cell.CellOp.{CellOp}
+use Rattle.dpl_history.specs.declared.cell.Reply.{Reply}
+use Rattle.dpl_history.specs.declared.history.Event.{Event}
+use Rattle.dpl_range.specs.Equality.{TextRange}
+use Rattle.dpl_language.specs.Tree.{Op, Assign, Items}
+use Rattle.dpl_language.specs.Values.{Value, Index, index_of, array_domain, is_domain}
+use Rattle.dpl_language.specs.Outcome.{Deeds, Outcome, Done, Stop, Waits, Run}
+use Rattle.dpl_language.specs.Environment.{Content, Answer, Replied, Unanswered, Environment, Limits}
+use Rattle.dpl_language.specs.Expressions.{items_of}
+use Rattle.dpl_language.specs.Renamed.{renamed_content, renamed_intents}
+use Rattle.dpl_language.specs.Scopes.{Scoping, IsLawful, sort_of}
+
+-- the same answer to an operation, with related states behind it
+abbrev pub AnswersAlike : {S1 S2 : Type 0} → (S1 → S2 → Type 0) → Answer S1 → Answer S2 → Type 0
+AnswersAlike R (Replied c r s) a = (s2 : _) × R s s2 × (a ≡ Replied c r s2)
+AnswersAlike R (Unanswered c) a = a ≡ Unanswered c
+
+-- One law for each field of the record of variables. R relates the states of the two where a g is in sight; `name`
+-- gives the first one's name for each name of the second. What a law asks of a name is what `fits` asks of a tree.
+-- By slots (proofs/SlotsAgree.antt) a g has the frames of the names in sight, each with its slot, and the reduce variables
+-- of the forall around; R says that the store is what these slots stand for, and that all else is the same. What is to be
+-- shown there is that a name's slot is that of its innermost declaration, of domain names that arrays are over and of
+-- reduce variables too; and that `has_arrays`, `redomain`, `cells` and `call` speak of what stands in the frames now: a
+-- slot whose scope was left doesn't count, and a hidden name's slot does. A machine that knows before the run which
+-- slots these are has that to show besides.
+pub record Simulates {M N G S1 S2 : Type 0} (limits : Limits) (name : N → M) (scoping : Scoping N G) (first : Environment M S1) (second : Environment N S2) (R : G → S1 → S2 → Type 0) : Type 0 where
+  pub lawful : IsLawful scoping
+  -- values; and of a name that is assigned, whether it is a whole array and of which domain, and whether it is a domain
+  pub gets : (x : N) (g : G) (s1 : S1) (s2 : S2) → R g s1 s2 → scoping.reads x g → first.get (name x) s1 ≡ second.get x s2
+  pub whole_targets : (x : N) (op : Assign) (g : G) (s1 : S1) (s2 : S2) → R g s1 s2 → scoping.assigns x op g
+      → array_domain (first.get (name x) s1) ≡ array_domain (second.get x s2)
+  pub domain_targets : (x : N) (op : Assign) (g : G) (s1 : S1) (s2 : S2) → R g s1 s2 → scoping.assigns x op g
+      → is_domain (first.get (name x) s1) ≡ is_domain (second.get x s2)
+  pub updates : (x : N) (op : Assign) (v : Value) (g : G) (s1 : S1) (s2 : S2) → R g s1 s2 → scoping.assigns x op g
+      → R g (first.update (name x) op v s1) (second.update x op v s2)
+  -- elements: of a whole array at an index, else at the index that the items give by the second one
+  pub elements_at : (x : N) (t : Index) (g : G) (s1 : S1) (s2 : S2) → R g s1 s2 → scoping.reads_at x t g
+      → first.element (name x) t s1 ≡ second.element x t s2
+  pub elements : (x : N) (items : Items N) (vs : List Value) (g : G) (s1 : S1) (s2 : S2) → R g s1 s2 → scoping.reads_element x items g
+      → items_of limits second items s2 ≡ Ok vs → first.element (name x) (index_of vs) s1 ≡ second.element x (index_of vs) s2
+  pub puts_at : (x : N) (t : Index) (v : Value) (g : G) (s1 : S1) (s2 : S2) → R g s1 s2 → scoping.assigns_at x t g
+      → R g (first.put_element (name x) t v s1) (second.put_element x t v s2)
+  pub puts : (x : N) (items : Items N) (vs : List Value) (v : Value) (g : G) (s1 : S1) (s2 : S2) → R g s1 s2 → scoping.assigns_element x items g
+      → items_of limits second items s2 ≡ Ok vs → R g (first.put_element (name x) (index_of vs) v s1) (second.put_element x (index_of vs) v s2)
+  -- declarations
+  pub declares : (x : N) (c : Content N) (g : G) (s1 : S1) (s2 : S2) → R g s1 s2 → scoping.declares x (sort_of c) g
+      → R (scoping.add x (sort_of c) g) (first.declare (name x) (renamed_content name c) s1) (second.declare x c s2)
+  pub gives : (x : N) (g : G) (s1 : S1) (s2 : S2) → R g s1 s2 → scoping.gives x g → first.given (name x) s1 ≡ second.given x s2
+  -- scopes and foralls
+  pub enters : (g : G) (s1 : S1) (s2 : S2) → R g s1 s2 → R (scoping.enter g) (first.enter s1) (second.enter s2)
+  pub leaves : (g : G) (s1 : S1) (s2 : S2) → R g s1 s2 → R (scoping.leave g) (first.leave s1) (second.leave s2)
+  pub intends : (is : List (N × Op)) (g : G) (s1 : S1) (s2 : S2) → R g s1 s2 → scoping.intends is g
+      → R (scoping.intend is g) (first.intend (renamed_intents name is) s1) (second.intend is s2)
+  pub ends_forall : (is : List (N × Op)) (g : G) (s1 : S1) (s2 : S2) → R (scoping.intend is g) s1 s2 → scoping.intends is g
+      → R g (first.intend [] s1) (second.intend [] s2)
+  -- domains
+  pub has : (x : N) (op : Assign) (g : G) (s1 : S1) (s2 : S2) → R g s1 s2 → scoping.assigns x op g → first.has_arrays (name x) s1 ≡ second.has_arrays x s2
+  pub redomains : (x : N) (op : Assign) (rs : List TextRange) (g : G) (s1 : S1) (s2 : S2) → R g s1 s2 → scoping.assigns x op g
+      → R g (first.redomain (name x) rs s1) (second.redomain x rs s2)
+  -- locales
+  pub heres : (g : G) (s1 : S1) (s2 : S2) → R g s1 s2 → first.here s1 ≡ second.here s2
+  pub moves : (k : ℤ) (g : G) (s1 : S1) (s2 : S2) → R g s1 s2 → R g (first.move k s1) (second.move k s2)
+  -- cells and tasks
+  pub calls : (x : N) (op : CellOp) (g : G) (s1 : S1) (s2 : S2) → R g s1 s2 → scoping.calls x g → AnswersAlike (R g) (first.call (name x) op s1) (second.call x op s2)
+  pub cells : (g : G) (s1 : S1) (s2 : S2) → R g s1 s2 → scoping.coforalls g → first.cells s1 ≡ second.cells s2
+  pub histories : (g : G) (s1 : S1) (s2 : S2) → R g s1 s2 → scoping.coforalls g → first.history s1 ≡ second.history s2
+  pub begins : (rs : List Reply) (g : G) (s1 : S1) (s2 : S2) → R g s1 s2 → scoping.coforalls g → R (scoping.begin g) (first.begin rs s1) (second.begin rs s2)
+  pub settles : (h : List Event) (g : G) (s1 : S1) (s2 : S2) → R g s1 s2 → scoping.coforalls g → R g (first.settle h s1) (second.settle h s2)
+
+-- The second run ends as the first, with the same deeds; where they are done, in a state that is related to the first one's.
+abbrev pub EndsAlike : {S1 S2 : Type 0} → (S1 → S2 → Type 0) → Outcome S1 → Outcome S2 → Type 0
+EndsAlike R (Done s done) o = (s2 : _) × R s s2 × (o ≡ Done s2 done)
+EndsAlike R (Stop f done) o = o ≡ Stop f done
+EndsAlike R (Waits at c op done) o = o ≡ Waits at c op done
+
+-- from related states, and from the same deeds, the two runs end alike
+abbrev pub RunAlike : {S1 S2 : Type 0} → (S1 → S2 → Type 0) → (S1 → S2 → Type 0) → Run S1 → Run S2 → Type 0
+RunAlike {S1 = S1} {S2 = S2} P Q a b = (s1 : S1) (s2 : S2) (done : Deeds) → P s1 s2 → EndsAlike Q (a s1 done) (b s2 done)

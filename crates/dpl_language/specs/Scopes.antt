@@ -1,0 +1,296 @@
+-- Which names a tree may use where, over any way to keep what is in sight.
+-- A tree fits where each of its names is read, assigned, called and declared as that way allows.
+use Rattle.std.specs.Prelude.{◌≡◌, Option, Some, None, List, [], ◌∷◌}
+use Rattle.dpl_syntax.specs.declared.place.Place.{Place}
+use Rattle.dpl_language.specs.Tree.{Placed, Op, Assign, ExprTree, Number, TruthWord, Named, LocalesWord, LocaleCount, HereWord, Grouped, DomainLiteral, Prefixed, Reduced, Chain, Postfixed, ItemTree, One, RangeItem, Stride, NoStride, By, Links, NoLinks, Link, Posts, NoPosts, Post, PostTree, Brackets, Rounds, Dotted, MethodTree, Plainly, Dim, Contains, Expand, CellRead, Items, FirstItem, MoreItems, NoItems, NextItem, Exprs, FirstExpr, MoreExprs, NoExprs, NextExpr}
+use Rattle.dpl_language.specs.Tree.{TypeTree, ScalarType, SyncType, DomainType, ArrayType, InitTree, ItemInit, CreateInit, InitialTree, DeclareTree, ArgumentTree, TextArgument, ExprArgument, VariablesTree, OneVariable, ManyVariables, TargetTree, Whole, Element, CallTree, ReadCall, ResetCall, WriteCall, StmtTree, Nothing, Declare, Assigned, Call, Write, Block, If, While, For, Forall, Coforall, On, Body, WordBody, BlockBody, Stmts, NoStmts, Then, Else, NoElse, ElseDo}
+use Rattle.dpl_language.specs.Values.{Index}
+use Rattle.dpl_language.specs.Environment.{Content, Plain, ArrayOf, CellOf}
+use Rattle.dpl_language.specs.Phrases.{Base, BaseName, BaseLocales, OtherBase, base_of, bare_name, ReadTree, item_read, declared_over, intents_of, parts}
+use Rattle.dpl_language.specs.Declarations.{type_of}
+use Rattle.dpl_language.specs.Writing.{arguments_of}
+
+-- what a name is declared as: a plain variable, an array and over which bare domain name, or a cell
+pub data Sort (N : Type 0) : Type 0 where
+  PlainSort : Sort N
+  ArraySort : Option N → Sort N
+  CellSort : Sort N
+
+abbrev pub sort_of : {N : Type 0} → Content N → Sort N
+sort_of (Plain v) = PlainSort
+sort_of (ArrayOf over k rs vs) = ArraySort over
+sort_of (CellOf k c) = CellSort
+
+-- the same, as a declaration's type tells it
+abbrev pub sort_by : {N : Type 0} → Option (TypeTree N) → Sort N
+sort_by None = PlainSort
+sort_by (Some (ScalarType at k)) = PlainSort
+sort_by (Some (SyncType at kind_at k)) = CellSort
+sort_by (Some (DomainType d)) = PlainSort
+sort_by (Some (ArrayType a)) = ArraySort (declared_over a.over)
+
+-- A way to keep what is in sight in a G, and what may be done with a name there.
+pub record Scoping (N G : Type 0) : Type 1 where
+  -- a name's value is read: of an array its domain alone
+  pub reads : N → G → Type 0
+  -- an element of a whole array is read, at an index; and the element at the index that these items give
+  pub reads_at : N → Index → G → Type 0
+  pub reads_element : N → Items N → G → Type 0
+  -- a name is assigned; an element of a whole array, at an index; and the element at the index that these items give
+  pub assigns : N → Assign → G → Type 0
+  pub assigns_at : N → Index → G → Type 0
+  pub assigns_element : N → Items N → G → Type 0
+  -- a name's cell is operated on
+  pub calls : N → G → Type 0
+  -- a name is declared
+  pub declares : N → Sort N → G → Type 0
+  -- the command line is asked for a name's value
+  pub gives : N → G → Type 0
+  -- a forall with these reduce variables is run, and a coforall
+  pub intends : List (N × Op) → G → Type 0
+  pub coforalls : G → Type 0
+  -- what is in sight behind a declaration, in a scope, and behind the scope
+  pub add : N → Sort N → G → G
+  pub enter : G → G
+  pub leave : G → G
+  -- what is in sight in a forall with these reduce variables, and in a task
+  pub intend : List (N × Op) → G → G
+  pub begin : G → G
+
+-- a scope is left as it was entered, whatever was declared in it
+pub record IsLawful {N G : Type 0} (scoping : Scoping N G) : Type 0 where
+  pub leave-enter : (g : G) → scoping.leave (scoping.enter g) ≡ g
+  pub leave-add : (x : N) (sort : Sort N) (g : G) → scoping.leave (scoping.add x sort g) ≡ scoping.leave g
+
+-- expressions between round brackets, as the items that they are
+abbrev pub more_items_in : {N : Type 0} → MoreExprs N → MoreItems N
+more_items_in NoExprs = NoItems
+more_items_in (NextExpr comma e more) = NextItem comma (One e) (more_items_in more)
+
+abbrev pub items_in : {N : Type 0} → Exprs N → Items N
+items_in (FirstExpr e more) = FirstItem (One e) (more_items_in more)
+
+module _ {N G : Type 0} (scoping : Scoping N G) where
+  -- a bare name: its value, and at an index of a promoted expression its element
+  abbrev pub fits_name : Option Index → N → G → Type 0
+  fits_name None x g = scoping.reads x g
+  fits_name (Some t) x g = scoping.reads x g × scoping.reads_at x t g
+
+  -- a name before indices
+  abbrev pub fits_element : Base N → Items N → G → Type 0
+  fits_element (BaseName x) items g = scoping.reads_element x.name items g
+  fits_element (BaseLocales at) items g = Unit {0}
+  fits_element OtherBase items g = Unit {0}
+
+  -- an expression that is evaluated once, or at an index
+  abbrev mutual
+    pub fits_expr : Option Index → ExprTree N → G → Type 0
+    fits_expr t (Number at n) g = Unit {0}
+    fits_expr t (TruthWord at b) g = Unit {0}
+    fits_expr t (Named x) g = fits_name t x.name g
+    fits_expr t (LocalesWord at) g = Unit {0}
+    fits_expr t (LocaleCount at) g = Unit {0}
+    fits_expr t (HereWord at) g = Unit {0}
+    fits_expr t (Grouped from item upto) g = fits_item t item g
+    fits_expr t (DomainLiteral from items upto) g = fits_items items g
+    fits_expr t (Prefixed at op e) g = fits_expr t e g
+    fits_expr t (Reduced at op word e) g = (i : Index) → fits_expr (Some i) e g
+    fits_expr t (Chain e rest) g = fits_expr t e g × fits_links t rest g
+    fits_expr t (Postfixed e posts) g = fits_expr None e g × fits_posts posts (base_of e) g
+
+    pub fits_item : Option Index → ItemTree N → G → Type 0
+    fits_item t (One e) g = fits_expr t e g
+    fits_item t (RangeItem low at dots high by) g = fits_expr None low g × fits_expr None high g × fits_stride by g
+
+    pub fits_stride : Stride N → G → Type 0
+    fits_stride NoStride g = Unit {0}
+    fits_stride (By at e) g = fits_expr None e g
+
+    pub fits_links : Option Index → Links N → G → Type 0
+    fits_links t NoLinks g = Unit {0}
+    fits_links t (Link at op e rest) g = fits_expr t e g × fits_links t rest g
+
+    pub fits_posts : Posts N → Base N → G → Type 0
+    fits_posts NoPosts b g = Unit {0}
+    fits_posts (Post p rest) b g = fits_post p b g × fits_posts rest OtherBase g
+
+    pub fits_post : PostTree N → Base N → G → Type 0
+    fits_post (Brackets from items upto) b g = fits_items items g × fits_element b items g
+    fits_post (Rounds from es upto) b g = fits_exprs es g × fits_element b (items_in es) g
+    fits_post (Dotted dot m) b g = fits_method m g
+
+    pub fits_method : MethodTree N → G → Type 0
+    fits_method (Plainly at w) g = Unit {0}
+    fits_method (Dim at from rank_at d upto) g = Unit {0}
+    fits_method (Contains at from es upto) g = fits_exprs es g
+    fits_method (Expand at from e upto) g = fits_expr None e g
+    fits_method (CellRead at w from upto) g = Unit {0}
+
+    pub fits_items : Items N → G → Type 0
+    fits_items (FirstItem i more) g = fits_item None i g × fits_more_items more g
+
+    pub fits_more_items : MoreItems N → G → Type 0
+    fits_more_items NoItems g = Unit {0}
+    fits_more_items (NextItem comma i more) g = fits_item None i g × fits_more_items more g
+
+    pub fits_exprs : Exprs N → G → Type 0
+    fits_exprs (FirstExpr e more) g = fits_expr None e g × fits_more_exprs more g
+
+    pub fits_more_exprs : MoreExprs N → G → Type 0
+    fits_more_exprs NoExprs g = Unit {0}
+    fits_more_exprs (NextExpr comma e more) g = fits_expr None e g × fits_more_exprs more g
+
+  -- a right side may be a cell read as a whole
+  abbrev pub fits_read : Option (ReadTree N) → G → Type 0
+  fits_read None g = Unit {0}
+  fits_read (Some r) g = scoping.reads r.name.name g × scoping.calls r.name.name g
+
+  abbrev pub fits_side : ItemTree N → G → Type 0
+  fits_side item g = fits_item None item g × fits_read (item_read item) g
+
+  -- the right side of a whole array is evaluated at each index, where it is promoted
+  abbrev pub fits_whole_side : ItemTree N → G → Type 0
+  fits_whole_side item g = ((t : Index) → fits_item (Some t) item g) × fits_read (item_read item) g
+
+  -- DECLARATIONS. Of a type the domain of an array is evaluated; a map is not looked at.
+  abbrev pub fits_type : Option (TypeTree N) → G → Type 0
+  fits_type None g = Unit {0}
+  fits_type (Some (ScalarType at k)) g = Unit {0}
+  fits_type (Some (SyncType at kind_at k)) g = Unit {0}
+  fits_type (Some (DomainType d)) g = Unit {0}
+  fits_type (Some (ArrayType a)) g = fits_items a.over g
+
+  -- an initial value is a right side, of an array that of a whole array
+  abbrev pub side_by : Option (TypeTree N) → ItemTree N → G → Type 0
+  side_by None = fits_side
+  side_by (Some (ScalarType at k)) = fits_side
+  side_by (Some (SyncType at kind_at k)) = fits_side
+  side_by (Some (DomainType d)) = fits_side
+  side_by (Some (ArrayType a)) = fits_whole_side
+
+  abbrev pub fits_init : (ItemTree N → G → Type 0) → InitTree N → G → Type 0
+  fits_init side (ItemInit item mapped) g = side item g
+  fits_init side (CreateInit c) g = fits_items c.items g
+
+  abbrev pub fits_initial : (ItemTree N → G → Type 0) → Option (InitialTree N) → G → Type 0
+  fits_initial side None g = Unit {0}
+  fits_initial side (Some i) g = fits_init side i.init g
+
+  -- The command line gives a plain variable. What is in sight behind a `config const` is the same either way, as it is
+  -- where the declared type is that of a plain variable.
+  abbrev pub fits_given : Option Place → N → Sort N → G → Type 0
+  fits_given None x sort g = Unit {0}
+  fits_given (Some config) x sort g =
+      scoping.gives x g × scoping.declares x PlainSort g × (scoping.add x PlainSort g ≡ scoping.add x sort g)
+
+  abbrev pub fits_declare : DeclareTree N → G → Type 0
+  fits_declare d g =
+      fits_type (type_of d.typed) g × fits_initial (side_by (type_of d.typed)) d.initial g
+      × scoping.declares d.name.name (sort_by (type_of d.typed)) g
+      × fits_given d.config d.name.name (sort_by (type_of d.typed)) g
+
+  -- ASSIGNMENTS, CALLS AND WRITES
+  abbrev pub fits_target : TargetTree N → Assign → G → Type 0
+  fits_target (Whole x) op g =
+      scoping.assigns x.name op g × ((t : Index) → scoping.reads_at x.name t g × scoping.assigns_at x.name t g)
+  fits_target (Element x shape from es upto) op g =
+      fits_exprs es g × scoping.reads_element x.name (items_in es) g × scoping.assigns_element x.name (items_in es) g
+
+  -- a name may be that of a whole array
+  abbrev pub side_for : TargetTree N → ItemTree N → G → Type 0
+  side_for (Whole x) = fits_whole_side
+  side_for (Element x shape from es upto) = fits_side
+
+  abbrev pub fits_call : CallTree N → G → Type 0
+  fits_call (ReadCall at w from upto) g = Unit {0}
+  fits_call (ResetCall at from upto) g = Unit {0}
+  fits_call (WriteCall at w from e upto) g = fits_expr None e g
+
+  -- a bare name that is an array is shown as a whole
+  abbrev pub fits_shown : Option (Placed N) → G → Type 0
+  fits_shown None g = Unit {0}
+  fits_shown (Some x) g = (t : Index) → scoping.reads_at x.name t g
+
+  abbrev pub fits_arguments : List (ArgumentTree N) → G → Type 0
+  fits_arguments [] g = Unit {0}
+  fits_arguments (TextArgument at cs ∷ rest) g = fits_arguments rest g
+  fits_arguments (ExprArgument e ∷ rest) g =
+      fits_side (One e) g × fits_shown (bare_name e) g × fits_arguments rest g
+
+  -- LOOPS. Their variables stand in a scope of their own, and the body in another inside it.
+  abbrev pub add_each : List (Placed N) → G → G
+  add_each [] g = g
+  add_each (x ∷ xs) g = add_each xs (scoping.add x.name PlainSort g)
+
+  abbrev pub add_variables : VariablesTree N → G → G
+  add_variables (OneVariable x) g = scoping.add x.name PlainSort g
+  add_variables (ManyVariables from xs upto) g = add_each (parts xs) g
+
+  abbrev pub inside : VariablesTree N → G → G
+  inside xs g = scoping.enter (add_variables xs (scoping.enter g))
+
+  abbrev pub fits_each : List (Placed N) → G → Type 0
+  fits_each [] g = Unit {0}
+  fits_each (x ∷ xs) g =
+      scoping.declares x.name PlainSort g × fits_each xs (scoping.add x.name PlainSort g)
+
+  abbrev pub fits_variables : VariablesTree N → G → Type 0
+  fits_variables (OneVariable x) g = scoping.declares x.name PlainSort g
+  fits_variables (ManyVariables from xs upto) g = fits_each (parts xs) g
+
+  -- STATEMENTS
+  -- what is in sight behind a statement
+  abbrev pub after : StmtTree N → G → G
+  after (Nothing at) g = g
+  after (Declare d) g = scoping.add d.name.name (sort_by (type_of d.typed)) g
+  after (Assigned target sign item semicolon) g = g
+  after (Call x dot call semicolon) g = g
+  after (Write w) g = g
+  after (Block from body upto) g = g
+  after (If at e first second) g = g
+  after (While at e body) g = g
+  after (For at xs word item body) g = g
+  after (Forall at xs word item intents body) g = g
+  after (Coforall at xs word item intents body) g = g
+  after (On at e body) g = g
+
+  abbrev pub after_all : Stmts N → G → G
+  after_all NoStmts g = g
+  after_all (Then t rest) g = after_all rest (after t g)
+
+  abbrev pub after_body : Body N → G → G
+  after_body (WordBody at t) g = after t g
+  after_body (BlockBody from ts upto) g = after_all ts g
+
+  abbrev mutual
+    pub fits : StmtTree N → G → Type 0
+    fits (Nothing at) g = Unit {0}
+    fits (Declare d) g = fits_declare d g
+    fits (Assigned target sign item semicolon) g = fits_target target sign.op g × side_for target item g
+    fits (Call x dot call semicolon) g = fits_call call g × scoping.reads x.name g × scoping.calls x.name g
+    fits (Write w) g = fits_arguments (arguments_of w.arguments) g
+    fits (Block from body upto) g = fits_all body (scoping.enter g)
+    fits (If at e first second) g = fits_expr None e g × fits_body first (scoping.enter g) × fits_else second g
+    fits (While at e body) g = fits_expr None e g × fits_body body (scoping.enter g)
+    fits (For at xs word item body) g =
+        fits_item None item g × fits_variables xs (scoping.enter g) × fits_body body (inside xs g)
+    fits (Forall at xs word item intents body) g =
+        fits_item None item g × scoping.intends (intents_of intents) g
+        × fits_variables xs (scoping.enter (scoping.intend (intents_of intents) g))
+        × fits_body body (inside xs (scoping.intend (intents_of intents) g))
+    fits (Coforall at xs word item intents body) g =
+        fits_item None item g × scoping.coforalls g × fits_variables xs (scoping.enter (scoping.begin g))
+        × fits_body body (inside xs (scoping.begin g))
+    fits (On at e body) g = fits_expr None e g × fits_body body (scoping.enter g)
+
+    pub fits_body : Body N → G → Type 0
+    fits_body (WordBody at t) g = fits t g
+    fits_body (BlockBody from ts upto) g = fits_all ts g
+
+    pub fits_all : Stmts N → G → Type 0
+    fits_all NoStmts g = Unit {0}
+    fits_all (Then t rest) g = fits t g × fits_all rest (after t g)
+
+    pub fits_else : Else N → G → Type 0
+    fits_else NoElse g = Unit {0}
+    fits_else (ElseDo at t) g = fits t (scoping.enter g)
