@@ -1,0 +1,27 @@
+// The trees of programs as they lie in memory: what is spelled, with the place of each token.
+// Each is seen as a plain tree of the language's definition (specs/View.antt), without where its nodes lie.
+#![tactic(auto)]
+
+pub mod declaration;
+pub mod expression;
+mod make;
+pub mod operator;
+pub mod statement;
+
+pub use declaration::{
+    ArgumentName, ArrayType, BlockCyclicMap, BlockMap, Create, CyclicMap, Declare, DeclaredType,
+    DomainType, Init, Initial, Map, Mapped, Start, Typed,
+};
+pub use expression::{
+    Chain, Contains, Dim, Expand, Expr, Exprs, Item, Items, Link, Method, Name, NextExpr, NextItem,
+    Post, Postfixed, Range, Reduction, Stride,
+};
+pub use operator::{
+    Assign, CreateWord, Dots, Infix, Module, Op, Prefix, ReadWord, ScalarKind, Shape, Word,
+    WriteWord,
+};
+pub use statement::{
+    Argument, Arguments, AssignSign, Assignment, Block, Body, Call, CellCall, Coforall, Element,
+    Else, For, Forall, If, Intent, ModuleName, NextArgument, NextIntent, NextModule, NextName, On,
+    Program, Stmt, Target, Use, Variables, While, With, Write,
+};
