@@ -1,0 +1,11 @@
+pub mod Rules
+pub mod Lists
+pub mod Levels
+pub mod Starts
+pub mod Naturals
+pub mod Ways
+pub mod Told
+pub mod Plain
+pub mod Programs
+pub mod OnRows
+pub mod Worked

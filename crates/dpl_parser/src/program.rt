@@ -1,0 +1,200 @@
+// Programs: the rule of the grammar that the whole text is read by, and what a parse promises.
+// Below it a function for each rule of `use` lines and of what stands at the top.
+
+ghost use Rattle.std.specs.Prelude.{◌≡◌, ◌⊎◌, ◌++◌, ◌<◌, ◌≤◌, ℕ, length, map, IfOk, IfErr, IsErrOf};
+ghost use Rattle.dpl_syntax.specs.declared.refusal.Refusal.{Refusal};
+ghost use Rattle.dpl_grammar.specs.Classes.{contextual as contextual_class, keyword as keyword_class};
+ghost use Rattle.dpl_grammar.specs.Reader.{next_in};
+ghost use Rattle.dpl_grammar.specs.Gives.{Gives};
+ghost use Rattle.dpl_grammar.specs.Rule.{many};
+ghost use Rattle.dpl_tree.specs.Words.{module_view};
+ghost use Rattle.dpl_tree.specs.Statements.{module_name_view, next_module_view, use_view, stmt_view, program_view};
+ghost use Rattle.dpl_parser.specs.Nested.{begins, StatementBelow};
+ghost use Rattle.dpl_parser.specs.Expressions.{after_comma};
+ghost use Rattle.dpl_parser.specs.Grammar.{Program as Spelled, used as used_rule, module_name as module_name_rule, use_line as use_line_rule, top as top_rule, program as program_rule};
+ghost use Rattle.dpl_parser.specs.Reading.{at};
+ghost use Rattle.dpl_parser.specs.Theorem.{Spells, Refuses};
+
+use crate::begins::begins_statement;
+use crate::declaration::config_declaration;
+use crate::statement::statement;
+use crate::token::{
+    Parsed, Tokens, contextual, end, is_contextual, is_keyword, is_sign, keyword, passed_on, sign,
+    unexpected,
+};
+use dpl_syntax::{Contextual, Keyword, Refusal, Sign, Stop, Token};
+use dpl_tree::{Module, ModuleName, NextModule, Program, Stmt, Use};
+use std::alloc::Global;
+
+/// Why tokens give no tree: `P1` or `P2`, or out of memory. The refusal has no place where the tokens stop without the
+/// end of the text.
+pub type ParseStop = Stop;
+
+/// How many levels of nesting a program may have.
+const LEVELS: u32 = 64;
+
+/// The tree that the tokens spell.
+///
+/// All tokens are read, and the last of them is the end of the text. Brackets, prefix operators and bodies nest at
+/// most 64 levels deep; a body that is a block goes no deeper than the block.
+///
+/// # Errors
+/// The refusal of the tokens: `P1` at the first one with which they begin no program, or `P2` at the first one
+/// that goes 65 levels deep, whichever is earlier, and `P1` where both are at one token. Or out of memory.
+pub fn parse<'a>(alloc: Global, tokens: Tokens<'a>) -> Result<Program<'a>, ParseStop>
+    // What is read is spelled so.
+    ensures found { IfOk result (λ tree. Spells 64 tokens.now (program_view tree)) }
+    // Nothing else is spelled so, in whatever number of levels.
+    ensures only { IfOk result (λ tree. (d : ℕ) (t : Spelled) → Spells d tokens.now t → program_view tree ≡ t) }
+    // What is spelled is read, unless memory runs out.
+    ensures complete { IfErr result (λ stop. (t : Spelled) → Spells 64 tokens.now t → stop ≡ Stop.Memory) }
+    // A refusal is that of the tokens.
+    ensures refused { (refusal : Refusal) → IsErrOf result (Stop.Refused refusal) → Refuses tokens.now refusal }
+    // The refusal of the tokens is told, unless memory runs out.
+    ensures told { (refusal : Refusal) → Refuses tokens.now refusal → IsErrOf result (Stop.Refused refusal) ⊎ IsErrOf result Stop.Memory }
+{
+    let (tree, rest) = program(alloc, LEVELS, tokens)?;
+    if rest.is_empty() {
+        Ok(tree)
+    } else {
+        Err(unexpected(rest))
+    }
+}
+
+/// A module's name, by its word.
+fn used(wanted: Contextual, word: Module, tokens: Tokens<'_>) -> Parsed<'_, ModuleName>
+    ensures gives { Gives (λ x. (module_name_view x.0, x.1.now)) result (at (used_rule (contextual_class wanted) (module_view word)) 0 tokens.now) }
+    ensures shorter { IfOk result (λ x. length x.1.now < length tokens.now) }
+{
+    let (next, rest) = contextual(wanted, tokens)?;
+    Ok((ModuleName { at: next.at, word }, rest))
+}
+
+/// module = "BlockDist" | "CyclicDist" | "BlockCycDist"
+#[tactic(auto, unfolding(crate::specs::Grammar::module_name))]
+fn module_name(tokens: Tokens<'_>) -> Parsed<'_, ModuleName>
+    ensures gives { Gives (λ x. (module_name_view x.0, x.1.now)) result (at module_name_rule 0 tokens.now) }
+    ensures shorter { IfOk result (λ x. length x.1.now < length tokens.now) }
+{
+    if is_contextual(tokens, Contextual::BlockDist) {
+        used(Contextual::BlockDist, Module::Block, tokens)
+    } else if is_contextual(tokens, Contextual::CyclicDist) {
+        used(Contextual::CyclicDist, Module::Cyclic, tokens)
+    } else {
+        used(Contextual::BlockCycDist, Module::BlockCyclic, tokens)
+    }
+}
+
+/// "," module
+#[tactic(auto, unfolding(crate::specs::Expressions::after_comma))]
+fn next_module(tokens: Tokens<'_>) -> Parsed<'_, NextModule>
+    ensures gives { Gives (λ x. (next_module_view x.0, x.1.now)) result (at (after_comma module_name_rule) 0 tokens.now) }
+    ensures shorter { IfOk result (λ x. length x.1.now < length tokens.now) }
+{
+    let (comma, rest) = sign(Sign::Comma, tokens)?;
+    let (module, rest) = module_name(rest)?;
+    let next = NextModule {
+        comma: comma.at,
+        module,
+    };
+    Ok((next, rest))
+}
+
+/// { "," module }
+fn other_modules(alloc: Global, tokens: Tokens<'_>) -> Parsed<'_, Vec<NextModule>>
+    ensures gives { Gives (λ x. (map next_module_view x.0.items, x.1.now)) result (at (many (after_comma module_name_rule)) 0 tokens.now) }
+    ensures shorter { IfOk result (λ x. length x.1.now ≤ length tokens.now) }
+{
+    let mut others = Vec::new(alloc);
+    let mut rest = tokens;
+    'each: while is_sign(rest, Sign::Comma) {
+        let (other, after) = next_module(rest)?;
+        others.push(other)?;
+        rest = passed_on(after);
+    }
+    Ok((others, rest))
+}
+
+/// use = "use" module { "," module } ";"
+#[tactic(auto, unfolding(crate::specs::Grammar::use_line, crate::specs::Expressions::listed))]
+fn use_line(alloc: Global, tokens: Tokens<'_>) -> Parsed<'_, Use>
+    ensures gives { Gives (λ x. (use_view x.0, x.1.now)) result (at use_line_rule 0 tokens.now) }
+    ensures shorter { IfOk result (λ x. length x.1.now < length tokens.now) }
+{
+    let (word, rest) = keyword(Keyword::Use, tokens)?;
+    let (first, rest) = module_name(rest)?;
+    let (others, rest) = other_modules(alloc, rest)?;
+    let (semicolon, rest) = sign(Sign::Semicolon, rest)?;
+    let line = Use {
+        at: word.at,
+        first,
+        others,
+        semicolon: semicolon.at,
+    };
+    Ok((line, rest))
+}
+
+/// { use }
+fn use_lines(alloc: Global, tokens: Tokens<'_>) -> Parsed<'_, Vec<Use>>
+    ensures { Gives (λ x. (map use_view x.0.items, x.1.now)) result (at (many use_line_rule) 0 tokens.now) }
+{
+    let mut lines = Vec::new(alloc);
+    let mut rest = tokens;
+    'each: while is_keyword(rest, Keyword::Use) {
+        let (line, after) = use_line(alloc, rest)?;
+        lines.push(line)?;
+        rest = passed_on(after);
+    }
+    Ok((lines, rest))
+}
+
+/// Whether the next token begins a statement of the program itself.
+#[tactic(auto, using(dpl_grammar::proofs::Classes::next_in_either))]
+fn begins_top(tokens: Tokens<'_>) -> bool
+    ensures { result ≡ next_in (begins StatementBelow ++ keyword_class Keyword.Config) tokens.now }
+{
+    begins_statement(tokens) || is_keyword(tokens, Keyword::Config)
+}
+
+/// top = stmt | "config" "const" declrest
+#[tactic(auto, using(crate::proofs::Ways::read_top))]
+fn top<'a>(alloc: Global, room: u32, tokens: Tokens<'a>) -> Parsed<'a, Stmt<'a>>
+    ensures gives { Gives (λ x. (stmt_view x.0, x.1.now)) result (at top_rule room tokens.now) }
+    ensures shorter { IfOk result (λ x. length x.1.now < length tokens.now) }
+{
+    if begins_statement(tokens) {
+        statement(alloc, room, tokens)
+    } else {
+        config_declaration(alloc, room, tokens)
+    }
+}
+
+/// { top }
+fn tops<'a>(alloc: Global, room: u32, tokens: Tokens<'a>) -> Parsed<'a, Vec<Stmt<'a>>>
+    ensures { Gives (λ x. (map stmt_view x.0.items, x.1.now)) result (at (many top_rule) room tokens.now) }
+{
+    let mut stmts = Vec::new(alloc);
+    let mut rest = tokens;
+    'each: while begins_top(rest) {
+        let (stmt, after) = top(alloc, room, rest)?;
+        stmts.push(stmt)?;
+        rest = passed_on(after);
+    }
+    Ok((stmts, rest))
+}
+
+/// program = { use } { top } END
+#[tactic(auto, using(crate::proofs::Lists::stmts_of_view, crate::proofs::Ways::read_uses), unfolding(crate::specs::Grammar::program, crate::specs::Grammar::tops))]
+fn program<'a>(alloc: Global, room: u32, tokens: Tokens<'a>) -> Parsed<'a, Program<'a>>
+    ensures { Gives (λ x. (program_view x.0, x.1.now)) result (at program_rule room tokens.now) }
+{
+    let (uses, rest) = use_lines(alloc, tokens)?;
+    let (stmts, rest) = tops(alloc, room, rest)?;
+    let (end, rest) = end(rest)?;
+    let program = Program {
+        uses,
+        stmts,
+        end: end.at,
+    };
+    Ok((program, rest))
+}
