@@ -4,7 +4,9 @@
 ghost use Rattle.std.specs.Prelude.{◌≡◌, ◌++◌, None, OnOk, OnErr, IfOk, map};
 ghost use Rattle.dpl_check.specs.Sights.{knows, behind, behind_all};
 ghost use Rattle.dpl_check.specs.Around.{around_view, loop_view};
-ghost use Rattle.dpl_check.specs.Breaches.{breach_if, first_from, of_each, reads, all_reads, bounds_reads, stride_reads, initial_reads, first_place, use_breaches, read_breaches, write_breaches, loop_write_breaches, intent_breaches, body_breaches, stmt_breaches, stmts_breaches};
+ghost use Rattle.dpl_check.specs.Breaches.{breach_if, first_from, of_each, reads, all_reads, bounds_reads, stride_reads, initial_reads, first_place};
+ghost use Rattle.dpl_check.specs.Breaches.{use_breaches, read_breaches, write_breaches, loop_write_breaches, intent_breaches, body_breaches, stmt_breaches};
+ghost use Rattle.dpl_check.specs.Breaches.{stmts_breaches};
 ghost use Rattle.dpl_syntax.specs.declared.refusal.Code.TheVariants.{NameTwice};
 ghost use Rattle.dpl_syntax.specs.View.{spelled, placed, expr_view, bounds_view, by_view, initial_view, intent_view, stmt_view};
 

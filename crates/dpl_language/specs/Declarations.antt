@@ -53,7 +53,8 @@ module _ {N S : Type 0} (limits : Limits) (env : Environment N S) where
 
   -- An array's initial value, which is assigned to the whole array (see `assign_array`): a right side without a whole
   -- array is evaluated once, and then the budget is tested, at `=`; a promoted one is evaluated at each index, behind
-  -- the budget. The name itself is not yet known: in `{ var A: [D] int = A + 1; }` the second A is the outer one.
+  -- the budget. A name is known from the end of its declaration: in `{ var A: [D] int = A + 1; }` the second A is the
+  -- outer one.
   abbrev pub array_of_item : Placed N → Shell N → Place → ItemTree N → Option (List TextRange) → Run S
   array_of_item x a at item None s done =
       evaluated limits env item (λ v.

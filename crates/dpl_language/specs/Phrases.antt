@@ -1,10 +1,15 @@
 -- What is seen of a part of a tree by itself, without a state: bare names, cell reads, reduce intents.
 -- A bare name stands by itself; a name in round brackets is none, but `(A)[1]` is an element of A like `A[1]`.
-use Rattle.std.specs.Prelude.{ℤ, Option, Some, None, List, [], ◌∷◌, map}
+use Rattle.std.specs.Prelude.{ℕ, ℤ, pos, negsuc, Option, Some, None, List, [], ◌∷◌, map}
 use Rattle.dpl_syntax.specs.declared.place.Place.{Place}
 use Rattle.dpl_history.specs.declared.cell.CellOp.{CellOp}
 use Rattle.dpl_history.specs.declared.cell.CellOp.TheVariants.{ReadFE, ReadFF, WriteEF, WriteFF, WriteXF}
 use Rattle.dpl_language.specs.Tree.{Placed, AfterComma, Listed, Op, ReadWord, ReadFEWord, ReadFFWord, WriteWord, WriteEFWord, WriteFFWord, WriteXFWord, ExprTree, Number, TruthWord, Named, LocalesWord, LocaleCount, HereWord, Grouped, DomainLiteral, Prefixed, Reduced, Chain, Postfixed, ItemTree, One, RangeItem, Posts, NoPosts, Post, PostTree, Brackets, Rounds, Dotted, MethodTree, Plainly, Dim, Contains, Expand, CellRead, Items, FirstItem, NoItems, NextItem, IntentTree, ReduceIntent, RefIntent, WithTree}
+
+-- a number that counts, as a token has it; no token has one below 0
+abbrev pub natural : ℤ → ℕ
+natural (pos n) = n
+natural (negsuc n) = 0
 
 -- the parts of a list with commas
 abbrev pub parts : {A : Type 0} → Listed A → List A

@@ -1,7 +1,8 @@
 // The block-cyclic rule along one dimension: the members of a range that a coordinate gets, as ranges.
 // Blocks are counted from an origin at which a round of them begins, one block for each coordinate.
 
-ghost use Rattle.std.specs.Prelude.{◌≡◌, ◌≢◌, ◌≤◌, ◌<◌, ◌+◌, ◌-◌, ◌*◌, ◌/◌, ◌%◌, ◌==◌, ◌&&◌, ◌^◌, ℕ, pos, ◌≤ℤ◌, ◌+ℤ◌, ◌-ℤ◌, neg_ℤ, int_le, [], filter, length, IfOk, IfSome, IsNone, OnOk, All};
+ghost use Rattle.std.specs.Prelude.{◌≡◌, ◌≢◌, ◌≤◌, ◌<◌, ◌+◌, ◌-◌, ◌*◌, ◌/◌, ◌%◌, ◌==◌, ◌&&◌, ◌^◌, ℕ, pos, ◌≤ℤ◌, ◌+ℤ◌, ◌-ℤ◌, neg_ℤ, int_le, [], filter, length};
+ghost use Rattle.std.specs.Prelude.{IfOk, IfSome, IsNone, OnOk, All};
 ghost use Rattle.std.specs.Int.{int_div_euclid};
 ghost use Rattle.dpl_range.specs.Range.{members_of, IsBound};
 ghost use Rattle.dpl_map.specs.Grids.{IsGridSize};

@@ -6,7 +6,9 @@ ghost use Rattle.dpl_syntax.specs.View.{spelled, stmt_view, initial_view, intent
 ghost use Rattle.dpl_grammar.specs.Classes.{sign as sign_class, keyword as keyword_class};
 ghost use Rattle.dpl_grammar.specs.Reader.{maybe_at};
 ghost use Rattle.dpl_grammar.specs.Gives.{Gives};
-ghost use Rattle.dpl_parse.specs.Reading.{below_at, assign_operator_at, assignment_at, declared_type_at, initial_at, typed_at, declared_at, declaration_word_at, declaration_at, print_at, stride_at, bounds_at, reduce_operator_at, intent_at, loop_at, statement_at};
+ghost use Rattle.dpl_parse.specs.Reading.{below_at, assign_operator_at, assignment_at, declared_type_at, initial_at, typed_at, declared_at};
+ghost use Rattle.dpl_parse.specs.Reading.{declaration_word_at, declaration_at, print_at, stride_at, bounds_at, reduce_operator_at, intent_at, loop_at};
+ghost use Rattle.dpl_parse.specs.Reading.{statement_at};
 ghost use Rattle.dpl_parse.specs.Parts.{initial_part, intent_part};
 
 use crate::argument::arguments;

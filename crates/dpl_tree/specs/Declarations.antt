@@ -3,7 +3,8 @@
 use Rattle.std.specs.Prelude.{ℕ, List, map, Option, Some, None}
 use Rattle.dpl_syntax.specs.declared.place.Place.{Place}
 use Rattle.dpl_tree.specs.Words.{kind_view, create_view}
-use Rattle.dpl_tree.specs.View.{Spelled, natural, name_view, expr_view, item_view, items_view, next_expr_view}
+use Rattle.dpl_language.specs.Phrases.{natural}
+use Rattle.dpl_tree.specs.View.{Spelled, name_view, expr_view, item_view, items_view, next_expr_view}
 use Rattle.dpl_tree.specs.declared.declaration.ArgumentName.{ArgumentName as ArgumentNode}
 use Rattle.dpl_tree.specs.declared.declaration.Start.{Start}
 use Rattle.dpl_tree.specs.declared.declaration.Start.TheVariants.{Expr, Tuple}

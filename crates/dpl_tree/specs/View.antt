@@ -1,6 +1,6 @@
 -- The plain expression that one in memory stands for.
 -- A name stands for its text; where a node lies is left out.
-use Rattle.std.specs.Prelude.{ℕ, ℤ, pos, negsuc, List, [], ◌∷◌, map}
+use Rattle.std.specs.Prelude.{ℕ, List, [], ◌∷◌, map}
 use Rattle.dpl_tree.specs.Words.{prefix_view, infix_view, op_view, dots_view, word_view, read_view}
 use Rattle.dpl_tree.specs.declared.expression.Name.{Name as NameNode}
 use Rattle.dpl_tree.specs.declared.expression.Expr.{Expr as ExprNode, Number as NumberNode, Truth as TruthNode, Named as NamedNode, Locales as LocalesNode, LocaleCount as LocaleCountNode, Here as HereNode, Grouped', Domain', Prefixed', Reduced', Chain', Postfixed', Row_of-Post, end_of-Post, more_of-Post}
@@ -15,16 +15,12 @@ use Rattle.dpl_tree.specs.declared.expression.Items.{Items as ItemsNode, Items',
 use Rattle.dpl_tree.specs.declared.expression.NextItem.{NextItem as NextItemNode}
 use Rattle.dpl_tree.specs.declared.expression.Exprs.{Exprs as ExprsNode, Exprs', Row_of-NextExpr, end_of-NextExpr, more_of-NextExpr}
 use Rattle.dpl_tree.specs.declared.expression.NextExpr.{NextExpr as NextExprNode}
+use Rattle.dpl_language.specs.Phrases.{natural}
 use Rattle.dpl_language.specs.Tree.{Placed, AfterComma, ExprTree, Number, TruthWord, Named, LocalesWord, LocaleCount, HereWord, Grouped, DomainLiteral, Prefixed, Reduced, Chain, Postfixed, ItemTree, One, RangeItem, Stride, NoStride, By, Links, NoLinks, Link, Posts, NoPosts, Post, PostTree, Brackets, Rounds, Dotted, MethodTree, Plainly, Dim, Contains, Expand, CellRead, Items, FirstItem, MoreItems, NoItems, NextItem, Exprs, FirstExpr, MoreExprs, NoExprs, NextExpr}
 
 -- trees as they are spelled: a name is its text
 abbrev pub Spelled : (Type 0 → Type 0) → Type 0
 Spelled tree = tree (List ℕ)
-
--- a number that counts; no token has one below 0
-abbrev pub natural : ℤ → ℕ
-natural (pos n) = n
-natural (negsuc n) = 0
 
 -- a name in the text is its text there
 abbrev pub name_view : NameNode → Placed (List ℕ)
