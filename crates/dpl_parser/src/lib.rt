@@ -1,19 +1,7 @@
 // The parser of the whole language: the tree that tokens spell.
-// Its grammar stands in specs/, and what a parse promises.
+// Its grammar stands in dpl_spelling, and what a parse promises in program.rt.
 #![tactic(auto)]
 
-mod assignment;
-mod begins;
-mod declaration;
-mod expression;
-mod head;
-mod map;
-mod output;
 mod program;
-mod start;
-mod statement;
-mod takes_else;
-mod token;
-mod word;
 
 pub use program::{ParseStop, parse};

@@ -9,16 +9,17 @@ ghost use Rattle.dpl_grammar.specs.Gives.{Gives};
 ghost use Rattle.dpl_grammar.specs.Rule.{many};
 ghost use Rattle.dpl_tree.specs.Words.{module_view};
 ghost use Rattle.dpl_tree.specs.Statements.{module_name_view, next_module_view, use_view, stmt_view, program_view};
-ghost use Rattle.dpl_parser.specs.Nested.{begins, StatementBelow};
-ghost use Rattle.dpl_parser.specs.Expressions.{after_comma};
-ghost use Rattle.dpl_parser.specs.Grammar.{Program as Spelled, used as used_rule, module_name as module_name_rule, use_line as use_line_rule, top as top_rule, program as program_rule};
-ghost use Rattle.dpl_parser.specs.Reading.{at};
-ghost use Rattle.dpl_parser.specs.Theorem.{Spells, Refuses};
+ghost use Rattle.dpl_spelling.specs.Nested.{begins, StatementBelow};
+ghost use Rattle.dpl_spelling.specs.Expressions.{after_comma};
+ghost use Rattle.dpl_spelling.specs.Grammar.{Program as Spelled, used as used_rule, module_name as module_name_rule, use_line as use_line_rule, top as top_rule};
+ghost use Rattle.dpl_spelling.specs.Grammar.{program as program_rule};
+ghost use Rattle.dpl_spelling.specs.Reading.{at};
+ghost use Rattle.dpl_spelling.specs.Theorem.{Spells, Refuses};
 
-use crate::begins::begins_statement;
-use crate::declaration::config_declaration;
-use crate::statement::statement;
-use crate::token::{
+use dpl_statements::begins::begins_statement;
+use dpl_statements::declaration::config_declaration;
+use dpl_statements::statement::statement;
+use dpl_expressions::token::{
     Parsed, Tokens, contextual, end, is_contextual, is_keyword, is_sign, keyword, passed_on, sign,
     unexpected,
 };
@@ -71,7 +72,7 @@ fn used(wanted: Contextual, word: Module, tokens: Tokens<'_>) -> Parsed<'_, Modu
 }
 
 /// module = "BlockDist" | "CyclicDist" | "BlockCycDist"
-#[tactic(auto, unfolding(crate::specs::Grammar::module_name))]
+#[tactic(auto, unfolding(dpl_spelling::specs::Grammar::module_name))]
 fn module_name(tokens: Tokens<'_>) -> Parsed<'_, ModuleName>
     ensures gives { Gives (λ x. (module_name_view x.0, x.1.now)) result (at module_name_rule 0 tokens.now) }
     ensures shorter { IfOk result (λ x. length x.1.now < length tokens.now) }
@@ -86,7 +87,7 @@ fn module_name(tokens: Tokens<'_>) -> Parsed<'_, ModuleName>
 }
 
 /// "," module
-#[tactic(auto, unfolding(crate::specs::Expressions::after_comma))]
+#[tactic(auto, unfolding(dpl_spelling::specs::Expressions::after_comma))]
 fn next_module(tokens: Tokens<'_>) -> Parsed<'_, NextModule>
     ensures gives { Gives (λ x. (next_module_view x.0, x.1.now)) result (at (after_comma module_name_rule) 0 tokens.now) }
     ensures shorter { IfOk result (λ x. length x.1.now < length tokens.now) }
@@ -116,7 +117,7 @@ fn other_modules(alloc: Global, tokens: Tokens<'_>) -> Parsed<'_, Vec<NextModule
 }
 
 /// use = "use" module { "," module } ";"
-#[tactic(auto, unfolding(crate::specs::Grammar::use_line, crate::specs::Expressions::listed))]
+#[tactic(auto, unfolding(dpl_spelling::specs::Grammar::use_line, dpl_spelling::specs::Expressions::listed))]
 fn use_line(alloc: Global, tokens: Tokens<'_>) -> Parsed<'_, Use>
     ensures gives { Gives (λ x. (use_view x.0, x.1.now)) result (at use_line_rule 0 tokens.now) }
     ensures shorter { IfOk result (λ x. length x.1.now < length tokens.now) }
@@ -157,7 +158,7 @@ fn begins_top(tokens: Tokens<'_>) -> bool
 }
 
 /// top = stmt | "config" "const" declrest
-#[tactic(auto, using(crate::proofs::Ways::read_top))]
+#[tactic(auto, using(dpl_spelling::proofs::Ways::read_top))]
 fn top<'a>(alloc: Global, room: u32, tokens: Tokens<'a>) -> Parsed<'a, Stmt<'a>>
     ensures gives { Gives (λ x. (stmt_view x.0, x.1.now)) result (at top_rule room tokens.now) }
     ensures shorter { IfOk result (λ x. length x.1.now < length tokens.now) }
@@ -184,7 +185,7 @@ fn tops<'a>(alloc: Global, room: u32, tokens: Tokens<'a>) -> Parsed<'a, Vec<Stmt
 }
 
 /// program = { use } { top } END
-#[tactic(auto, using(crate::proofs::Lists::stmts_of_view, crate::proofs::Ways::read_uses), unfolding(crate::specs::Grammar::program, crate::specs::Grammar::tops))]
+#[tactic(auto, using(dpl_statements::proofs::Blocks::stmts_of_view, dpl_spelling::proofs::Ways::read_uses), unfolding(dpl_spelling::specs::Grammar::program, dpl_spelling::specs::Grammar::tops))]
 fn program<'a>(alloc: Global, room: u32, tokens: Tokens<'a>) -> Parsed<'a, Program<'a>>
     ensures { Gives (λ x. (program_view x.0, x.1.now)) result (at program_rule room tokens.now) }
 {

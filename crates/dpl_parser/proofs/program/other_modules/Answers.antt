@@ -6,9 +6,9 @@ use Rattle.dpl_grammar.specs.Classes.{sign}
 use Rattle.dpl_grammar.specs.Reader.{next_in}
 use Rattle.dpl_grammar.proofs.Turns.{goes_on, ends, so_fails}
 use Rattle.dpl_tree.specs.Statements.{next_module_view}
-use Rattle.dpl_parser.specs.Expressions.{after_comma}
-use Rattle.dpl_parser.specs.Grammar.{module_name}
-use Rattle.dpl_parser.specs.Reading.{at}
+use Rattle.dpl_spelling.specs.Expressions.{after_comma}
+use Rattle.dpl_spelling.specs.Grammar.{module_name}
+use Rattle.dpl_spelling.specs.Reading.{at}
 use Rattle.dpl_parser.proofs.program.other_modules.Goals as goal
 
 pub returns-in_err-other-clause-gives : goal.returns-in_err-other-clause-gives

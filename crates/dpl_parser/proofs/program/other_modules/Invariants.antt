@@ -3,9 +3,9 @@ use Rattle.dpl_syntax.specs.declared.token.Sign.TheVariants.{Comma}
 use Rattle.dpl_grammar.specs.Classes.{sign}
 use Rattle.dpl_grammar.proofs.Turns.{IsSoFar}
 use Rattle.dpl_tree.specs.Statements.{next_module_view}
-use Rattle.dpl_parser.specs.Expressions.{after_comma}
-use Rattle.dpl_parser.specs.Grammar.{module_name}
-use Rattle.dpl_parser.specs.Reading.{at}
+use Rattle.dpl_spelling.specs.Expressions.{after_comma}
+use Rattle.dpl_spelling.specs.Grammar.{module_name}
+use Rattle.dpl_spelling.specs.Reading.{at}
 use Rattle.dpl_parser.proofs.program.other_modules.Given as goal
 
 abbrev pub invariant-each : goal.invariant-each

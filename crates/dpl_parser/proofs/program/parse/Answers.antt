@@ -5,7 +5,7 @@ use Rattle.dpl_syntax.specs.declared.stop.Stop.TheVariants.{Refused}
 use Rattle.dpl_tree.specs.Statements.{program_view}
 use Rattle.dpl_grammar.proofs.Refusals.{refused_unspelled}
 use Rattle.dpl_grammar.proofs.Results.{whole_spelled, whole_only, left_over, fails_is, bad_is, not_spelled, left_is, told}
-use Rattle.dpl_parser.proofs.Programs.{every}
+use Rattle.dpl_spelling.proofs.Programs.{every}
 use Rattle.dpl_parser.proofs.program.parse.Goals as goal
 
 pub returns-then-is_empty-clause-found : goal.returns-then-is_empty-clause-found

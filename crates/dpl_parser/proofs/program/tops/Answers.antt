@@ -3,13 +3,13 @@ use Rattle.std.proofs.lemmas.Result.{err_from_is_err_and}
 use Rattle.std.proofs.lemmas.List.{map_push}
 use Rattle.dpl_syntax.specs.declared.token.Keyword.TheVariants.{Config}
 use Rattle.dpl_grammar.specs.Classes.{keyword}
-use Rattle.dpl_parser.specs.Nested.{begins, StatementBelow}
+use Rattle.dpl_spelling.specs.Nested.{begins, StatementBelow}
 use Rattle.dpl_grammar.specs.Reader.{next_in}
 use Rattle.dpl_grammar.proofs.Turns.{goes_on, ends, so_fails}
 use Rattle.dpl_tree.specs.Statements.{stmt_view}
-use Rattle.dpl_parser.specs.Grammar.{top}
-use Rattle.dpl_parser.specs.Reading.{at}
-use Rattle.dpl_parser.proofs.Ways.{read_tops}
+use Rattle.dpl_spelling.specs.Grammar.{top}
+use Rattle.dpl_spelling.specs.Reading.{at}
+use Rattle.dpl_spelling.proofs.Ways.{read_tops}
 use Rattle.dpl_parser.proofs.program.tops.Goals as goal
 
 pub returns-in_err-stmt : goal.returns-in_err-stmt

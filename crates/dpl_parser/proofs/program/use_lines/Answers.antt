@@ -6,9 +6,9 @@ use Rattle.dpl_grammar.specs.Classes.{keyword}
 use Rattle.dpl_grammar.specs.Reader.{next_in}
 use Rattle.dpl_grammar.proofs.Turns.{goes_on, ends, so_fails}
 use Rattle.dpl_tree.specs.Statements.{use_view}
-use Rattle.dpl_parser.specs.Grammar.{use_line}
-use Rattle.dpl_parser.specs.Reading.{at}
-use Rattle.dpl_parser.proofs.Ways.{read_use_lines}
+use Rattle.dpl_spelling.specs.Grammar.{use_line}
+use Rattle.dpl_spelling.specs.Reading.{at}
+use Rattle.dpl_spelling.proofs.Ways.{read_use_lines}
 use Rattle.dpl_parser.proofs.program.use_lines.Goals as goal
 
 pub returns-in_err-line : goal.returns-in_err-line

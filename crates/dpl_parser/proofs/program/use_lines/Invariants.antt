@@ -3,8 +3,8 @@ use Rattle.dpl_syntax.specs.declared.token.Keyword.TheVariants.{Use}
 use Rattle.dpl_grammar.specs.Classes.{keyword}
 use Rattle.dpl_tree.specs.Statements.{use_view}
 use Rattle.dpl_grammar.proofs.Turns.{IsSoFar}
-use Rattle.dpl_parser.specs.Grammar.{use_line}
-use Rattle.dpl_parser.specs.Reading.{at}
+use Rattle.dpl_spelling.specs.Grammar.{use_line}
+use Rattle.dpl_spelling.specs.Reading.{at}
 use Rattle.dpl_parser.proofs.program.use_lines.Given as goal
 
 abbrev pub invariant-each : goal.invariant-each

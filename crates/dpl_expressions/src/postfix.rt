@@ -1,0 +1,143 @@
+// What stands behind a base: index lists, slices and methods.
+// Brackets go one level deeper.
+
+ghost use Rattle.std.specs.Prelude.{◌≡◌, ◌<◌, ◌≤◌, length, map, IfOk, OnErr, IsErrOf};
+ghost use Rattle.dpl_grammar.specs.Gives.{Gives};
+ghost use Rattle.dpl_grammar.specs.Reader.{next_in};
+ghost use Rattle.dpl_grammar.specs.Rule.{many};
+ghost use Rattle.dpl_grammar.specs.Reading.{first};
+ghost use Rattle.dpl_tree.specs.View.{expr_view, post_view};
+ghost use Rattle.dpl_spelling.specs.Expressions.{postfixed, post as post_rule, brackets as brackets_rule, rounds as rounds_rule, dotted as dotted_rule};
+ghost use Rattle.dpl_spelling.specs.Expressions.{base as base_rule, postfix as postfix_rule};
+ghost use Rattle.dpl_spelling.specs.Reading.{at};
+
+use crate::base::base;
+use crate::list::{exprs, items};
+use crate::method::method;
+use crate::token::{Parsed, Tokens, deeper, is_sign, passed_on, sign};
+use dpl_syntax::{Kind, Sign, Stop};
+use dpl_tree::{Expr, Post};
+use std::alloc::Global;
+
+/// postfix = base { "[" .. "]" | "(" .. ")" | "." method }
+#[cycle(expression)]
+#[tactic(auto, unfolding(dpl_spelling::specs::Expressions::postfix))]
+pub fn postfix<'a>(alloc: Global, room: u32, tokens: Tokens<'a>) -> Parsed<'a, Expr<'a>>
+    ensures gives { Gives (λ x. (expr_view x.0, x.1.now)) result (at (postfix_rule base_rule) room tokens.now) }
+    ensures shorter { IfOk result (λ x. length x.1.now < length tokens.now) }
+{
+    let (base, rest) = base(alloc, room, tokens)?;
+    let (posts, rest) = posts(alloc, room, rest)?;
+    let whole = postfixed(alloc, base, posts)?;
+    Ok((whole, rest))
+}
+
+/// The base with what stands behind it, or alone where nothing does.
+#[tactic(auto, unfolding(dpl_spelling::specs::Expressions::postfixed))]
+pub fn postfixed<'a>(alloc: Global, base: Expr<'a>, posts: Vec<Post<'a>>) -> Result<Expr<'a>, Stop>
+    ensures made { IfOk result (λ x. expr_view x ≡ postfixed (expr_view base.entry) (map post_view posts.entry.items)) }
+    ensures memory { OnErr result (IsErrOf result Stop.Memory) }
+{
+    if posts.is_empty() {
+        return Ok(base);
+    }
+    Ok(Expr::postfixed(alloc, base, posts)?)
+}
+
+/// Whether the next token goes on with a base.
+#[tactic(auto, unfolding(dpl_spelling::specs::Expressions::post, dpl_spelling::specs::Expressions::brackets, dpl_spelling::specs::Expressions::rounds, dpl_spelling::specs::Expressions::dotted))]
+fn begins_post(tokens: Tokens<'_>) -> bool
+    ensures { result ≡ next_in (first post_rule) tokens.now }
+{
+    match tokens {
+        [next, ..] => matches!(
+            next.kind,
+            Kind::Sign(Sign::OpenSquare | Sign::OpenRound | Sign::Dot)
+        ),
+        [] => false,
+    }
+}
+
+/// { "[" .. "]" | "(" .. ")" | "." method }
+#[cycle(expression)]
+pub fn posts<'a>(alloc: Global, room: u32, tokens: Tokens<'a>) -> Parsed<'a, Vec<Post<'a>>>
+    ensures gives { Gives (λ x. (map post_view x.0.items, x.1.now)) result (at (many post_rule) room tokens.now) }
+    ensures shorter { IfOk result (λ x. length x.1.now ≤ length tokens.now) }
+{
+    let mut posts = Vec::new(alloc);
+    let mut rest = tokens;
+    'each: while begins_post(rest) {
+        let (post, after) = post(alloc, room, rest)?;
+        posts.push(post)?;
+        rest = passed_on(after);
+    }
+    Ok((posts, rest))
+}
+
+/// "[" .. "]" | "(" .. ")" | "." method
+#[cycle(expression)]
+#[tactic(auto, unfolding(dpl_spelling::specs::Expressions::post, dpl_spelling::specs::Expressions::brackets, dpl_spelling::specs::Expressions::rounds))]
+fn post<'a>(alloc: Global, room: u32, tokens: Tokens<'a>) -> Parsed<'a, Post<'a>>
+    ensures gives { Gives (λ x. (post_view x.0, x.1.now)) result (at post_rule room tokens.now) }
+    ensures shorter { IfOk result (λ x. length x.1.now < length tokens.now) }
+{
+    if is_sign(tokens, Sign::OpenSquare) {
+        brackets(alloc, room, tokens)
+    } else if is_sign(tokens, Sign::OpenRound) {
+        rounds(alloc, room, tokens)
+    } else {
+        dotted(alloc, room, tokens)
+    }
+}
+
+/// "[" item { "," item } "]"
+#[cycle(expression)]
+#[tactic(auto, unfolding(dpl_spelling::specs::Expressions::brackets))]
+fn brackets<'a>(alloc: Global, room: u32, tokens: Tokens<'a>) -> Parsed<'a, Post<'a>>
+    ensures gives { Gives (λ x. (post_view x.0, x.1.now)) result (at brackets_rule room tokens.now) }
+    ensures shorter { IfOk result (λ x. length x.1.now < length tokens.now) }
+{
+    let (from, room, rest) = deeper(room, Sign::OpenSquare, tokens)?;
+    let (items, rest) = items(alloc, room, rest)?;
+    let (upto, rest) = sign(Sign::CloseSquare, rest)?;
+    Ok((
+        Post::Brackets {
+            from: from.at,
+            items: Box::new(alloc, items)?,
+            upto: upto.at,
+        },
+        rest,
+    ))
+}
+
+/// "(" expr { "," expr } ")"
+#[cycle(expression)]
+#[tactic(auto, unfolding(dpl_spelling::specs::Expressions::rounds))]
+fn rounds<'a>(alloc: Global, room: u32, tokens: Tokens<'a>) -> Parsed<'a, Post<'a>>
+    ensures gives { Gives (λ x. (post_view x.0, x.1.now)) result (at rounds_rule room tokens.now) }
+    ensures shorter { IfOk result (λ x. length x.1.now < length tokens.now) }
+{
+    let (from, room, rest) = deeper(room, Sign::OpenRound, tokens)?;
+    let (exprs, rest) = exprs(alloc, room, rest)?;
+    let (upto, rest) = sign(Sign::CloseRound, rest)?;
+    Ok((
+        Post::Rounds {
+            from: from.at,
+            exprs: Box::new(alloc, exprs)?,
+            upto: upto.at,
+        },
+        rest,
+    ))
+}
+
+/// "." method
+#[cycle(expression)]
+#[tactic(auto, unfolding(dpl_spelling::specs::Expressions::dotted))]
+fn dotted<'a>(alloc: Global, room: u32, tokens: Tokens<'a>) -> Parsed<'a, Post<'a>>
+    ensures gives { Gives (λ x. (post_view x.0, x.1.now)) result (at dotted_rule room tokens.now) }
+    ensures shorter { IfOk result (λ x. length x.1.now < length tokens.now) }
+{
+    let (dot, rest) = sign(Sign::Dot, tokens)?;
+    let (method, rest) = method(alloc, room, rest)?;
+    Ok((Post::Dotted(dot.at, method), rest))
+}

@@ -1,0 +1,9 @@
+pub mod Rules
+pub mod Below
+pub mod Starts
+pub mod Ways
+pub mod Told
+pub mod Plain
+pub mod Programs
+pub mod OnRows
+pub mod Worked

@@ -1,0 +1,10 @@
+-- The grammar of programs and what tokens spell or are refused for, in reading order: all of it is to be believed.
+pub mod Nested
+pub mod Expressions
+pub mod Declarations
+pub mod Statements
+pub mod Grammar
+pub mod Theorem
+-- What serves contracts and proofs alone.
+pub mod Reading
+pub mod Parts

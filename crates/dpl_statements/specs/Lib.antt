@@ -1,0 +1,4 @@
+-- What serves contracts and proofs alone.
+pub mod Insides
+pub mod Heads
+pub mod Nodes

@@ -1,0 +1,136 @@
+// Where a map starts: an expression, or a tuple of two or three.
+// A bracket may begin either; what it holds tells which.
+
+ghost use Rattle.std.specs.Prelude.{◌≡◌, ◌<◌, ◌≤◌, length, map, IfOk};
+ghost use Rattle.dpl_grammar.specs.Gives.{Gives};
+ghost use Rattle.dpl_grammar.specs.Rule.{◌⟶◌, ◌∎};
+ghost use Rattle.dpl_language.specs.Tree.{StartExpr};
+ghost use Rattle.dpl_tree.specs.View.{expr_view, next_expr_view};
+ghost use Rattle.dpl_tree.specs.Declarations.{start_view};
+ghost use Rattle.dpl_spelling.specs.Expressions.{after_comma, expression as expression_rule};
+ghost use Rattle.dpl_spelling.specs.Declarations.{start as start_rule, inside as inside_rule, expression_end};
+ghost use Rattle.dpl_statements.specs.Insides.{inside_view};
+ghost use Rattle.dpl_spelling.specs.Reading.{at};
+
+use dpl_expressions::chain::{chained, expression, links};
+use dpl_expressions::factor::factors;
+use dpl_expressions::item::item;
+use dpl_expressions::level::Level;
+use dpl_expressions::postfix::{postfixed, posts};
+use dpl_expressions::token::{Parsed, Tokens, deeper, is_sign, sign};
+use dpl_syntax::{Place, Sign, Stop, Token};
+use dpl_tree::{Expr, Item, NextExpr, Start};
+use std::alloc::Global;
+
+/// What a bracket holds that begins where a map starts.
+#[derive(Drop)]
+pub enum Contents<'a> {
+    Item(Item<'a>),
+    /// Two or three expressions: the first, and the others behind their commas.
+    Tuple(Expr<'a>, Vec<NextExpr<'a>>),
+}
+
+/// start = expr | "(" expr "," expr [ "," expr ] ")"
+#[tactic(auto, using(dpl_spelling::proofs::Starts::expression_unbracketed, dpl_spelling::proofs::Below::below_inside), unfolding(dpl_spelling::specs::Declarations::start, dpl_spelling::specs::Declarations::bracket))]
+pub fn start<'a>(alloc: Global, room: u32, tokens: Tokens<'a>) -> Parsed<'a, Start<'a>>
+    ensures gives { Gives (λ x. (start_view x.0, x.1.now)) result (at start_rule room tokens.now) }
+    ensures shorter { IfOk result (λ x. length x.1.now < length tokens.now) }
+{
+    if !is_sign(tokens, Sign::OpenRound) {
+        let (expr, rest) = expression(alloc, room, tokens)?;
+        return Ok((Start::Expr(expr), rest));
+    }
+    let (from, below, rest) = deeper(room, Sign::OpenRound, tokens)?;
+    let (inside, rest) = inside(alloc, below, rest)?;
+    let (upto, rest) = sign(Sign::CloseRound, rest)?;
+    match inside {
+        Contents::Tuple(first, others) => Ok((
+            Start::Tuple {
+                from: from.at,
+                first,
+                others,
+                upto: upto.at,
+            },
+            rest,
+        )),
+        Contents::Item(item) => {
+            let base = Expr::Grouped {
+                from: from.at,
+                item: Box::new(alloc, item)?,
+                upto: upto.at,
+            };
+            let (expr, rest) = expression_from(alloc, room, base, rest)?;
+            Ok((Start::Expr(expr), rest))
+        }
+    }
+}
+
+/// item | expr "," expr [ "," expr ]
+#[tactic(auto, unfolding(dpl_spelling::specs::Declarations::inside, dpl_spelling::specs::Declarations::tuple_end, dpl_spelling::specs::Expressions::after_comma))]
+fn inside<'a>(alloc: Global, room: u32, tokens: Tokens<'a>) -> Parsed<'a, Contents<'a>>
+    ensures gives { Gives (λ x. (inside_view x.0, x.1.now)) result (at inside_rule room tokens.now) }
+    ensures shorter { IfOk result (λ x. length x.1.now < length tokens.now) }
+{
+    let (item, rest) = item(alloc, room, tokens)?;
+    let first = match item {
+        Item::One(first) => first,
+        Item::Range(range) => return Ok((Contents::Item(Item::Range(range)), rest)),
+    };
+    if !is_sign(rest, Sign::Comma) {
+        return Ok((Contents::Item(Item::One(first)), rest));
+    }
+    let mut others = Vec::new(alloc);
+    let (second, rest) = after_comma(alloc, room, rest)?;
+    others.push(second)?;
+    if !is_sign(rest, Sign::Comma) {
+        return Ok((Contents::Tuple(first, others), rest));
+    }
+    let (third, rest) = after_comma(alloc, room, rest)?;
+    others.push(third)?;
+    Ok((Contents::Tuple(first, others), rest))
+}
+
+/// "," expr
+#[tactic(auto, unfolding(dpl_spelling::specs::Expressions::after_comma))]
+fn after_comma<'a>(alloc: Global, room: u32, tokens: Tokens<'a>) -> Parsed<'a, NextExpr<'a>>
+    ensures gives { Gives (λ x. (next_expr_view x.0, x.1.now)) result (at (after_comma expression_rule) room tokens.now) }
+    ensures shorter { IfOk result (λ x. length x.1.now < length tokens.now) }
+{
+    let (comma, rest) = sign(Sign::Comma, tokens)?;
+    let (expr, rest) = expression(alloc, room, rest)?;
+    Ok((
+        NextExpr {
+            comma: comma.at,
+            expr,
+        },
+        rest,
+    ))
+}
+
+/// What an expression goes on with behind its base, by the levels of operators.
+#[tactic(auto, unfolding(dpl_spelling::specs::Declarations::expression_end))]
+fn expression_from<'a>(
+    alloc: Global,
+    room: u32,
+    base: Expr<'a>,
+    tokens: Tokens<'a>,
+) -> Parsed<'a, Expr<'a>>
+    ensures gives { Gives (λ x. (StartExpr (expr_view x.0), x.1.now)) result (at (expression_end ∎ ⟶ λ h. h (expr_view base.entry)) room tokens.now) }
+    ensures shorter { IfOk result (λ x. length x.1.now ≤ length tokens.now) }
+{
+    let (posts, rest) = posts(alloc, room, tokens)?;
+    let whole = postfixed(alloc, base, posts)?;
+    let (factors, rest) = factors(alloc, room, rest)?;
+    let whole = chained(alloc, whole, factors)?;
+    let (sums, rest) = links(alloc, Level::Sum, room, rest)?;
+    let whole = chained(alloc, whole, sums)?;
+    let (relations, rest) = links(alloc, Level::Relation, room, rest)?;
+    let whole = chained(alloc, whole, relations)?;
+    let (equalities, rest) = links(alloc, Level::Equality, room, rest)?;
+    let whole = chained(alloc, whole, equalities)?;
+    let (ands, rest) = links(alloc, Level::And, room, rest)?;
+    let whole = chained(alloc, whole, ands)?;
+    let (ors, rest) = links(alloc, Level::Or, room, rest)?;
+    let whole = chained(alloc, whole, ors)?;
+    Ok((whole, rest))
+}
