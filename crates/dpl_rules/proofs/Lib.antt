@@ -1,0 +1,19 @@
+-- Worked rows: the first breach of sample texts, computed from the definitions.
+pub mod House
+pub mod Names
+pub mod Operators
+pub mod Postfixes
+pub mod Declarations
+pub mod Statements
+pub mod Ranks
+pub mod Foralls
+pub mod Outer
+pub mod Holdings
+pub mod Sound
+pub mod Lists
+pub mod Runs
+pub mod Limits
+pub mod Shifted
+-- A forall is admitted exactly where none of C6 to C9 is broken in its body, and the foralls of a sound program are admitted.
+pub mod Admission
+pub mod Soundness

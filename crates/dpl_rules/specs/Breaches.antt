@@ -1,0 +1,163 @@
+-- The breaches of a program: where it breaks which rule; the first of them, and the refusal.
+-- One walk carries what is in sight, and asks each statement for the breaches of its rules.
+use Rattle.std.specs.Prelude.{ℕ, ◌==◌, nat_lt, Bool, true, false, ◌&&◌, ◌||◌, if◌then◌else◌, List, [], ◌∷◌, ◌++◌, drop, length, Option, Some, None}
+use Rattle.dpl_syntax.specs.declared.place.Place.{Place}
+use Rattle.dpl_language.specs.Tree.{VariablesTree, TypeTree, ScalarType, SyncType, DomainType, ArrayType, DeclareTree, WithTree, ItemTree, StmtTree, Nothing, Declare, Assigned, Call, Write, Block, If, While, For, Forall, Coforall, On, Body, WordBody, BlockBody, Stmts, NoStmts, Then, Else, NoElse, ElseDo, ProgramTree}
+use Rattle.dpl_language.specs.Names.{Text}
+use Rattle.dpl_language.specs.Declarations.{type_of as written_type}
+use Rattle.dpl_language.specs.Writing.{arguments_of}
+use Rattle.dpl_rules.specs.Verdicts.{Code, UnknownName, NameTwice, WrongType, ConstantWritten, WrongRank, WrittenElsewhere, ReadElsewhere, OuterChanged, NotInForall, NotInCoforall, CellMisused, TooMany, BadSet, Breach, breach}
+use Rattle.dpl_rules.specs.Sights.{Scopes, enter, Sight, inside}
+use Rattle.dpl_rules.specs.Declarations.{declaration_breaches}
+use Rattle.dpl_rules.specs.Assignments.{assignment_breaches, call_breaches, printed_breaches, condition_breaches, on_breaches}
+use Rattle.dpl_rules.specs.Loops.{ForWord, ForallWord, CoforallWord, header_breaches, with_breaches, in_loop, reducing_in, behind}
+use Rattle.dpl_rules.specs.Doings.{with_deeds, body_deeds, stmts_deeds}
+use Rattle.dpl_rules.specs.Bodies.{turns_of, forall_breaches, task_breaches, inner_reductions, promoted_breaches}
+
+-- ---- what a forall's and a coforall's body have in sight
+abbrev pub in_forall : Sight → VariablesTree Text → ItemTree Text → Option (WithTree Text) → Sight
+in_forall sight xs item intents =
+    record {
+      scopes = in_loop sight.scopes ForallWord xs item;
+      forall = Some (reducing_in sight.scopes intents);
+      in_task = sight.in_task;
+    }
+
+abbrev pub in_coforall : Sight → VariablesTree Text → ItemTree Text → Sight
+in_coforall sight xs item =
+    record { scopes = in_loop sight.scopes CoforallWord xs item; forall = sight.forall; in_task = true }
+
+-- ---- statements
+abbrev mutual
+  pub stmt_breaches : Sight → StmtTree Text → List Breach
+  stmt_breaches sight (Nothing at) = []
+  stmt_breaches sight (Declare d) = declaration_breaches sight.scopes d
+  stmt_breaches sight (Assigned target sign item semicolon) =
+      assignment_breaches sight target sign item ++ promoted_breaches sight.scopes target item
+  stmt_breaches sight (Call x dot call semicolon) = call_breaches sight x call
+  stmt_breaches sight (Write w) = printed_breaches sight (arguments_of w.arguments)
+  stmt_breaches sight (Block from ts upto) = stmts_breaches (inside sight (enter sight.scopes)) ts
+  stmt_breaches sight (If at e first second) =
+      condition_breaches sight e ++ body_breaches (inside sight (enter sight.scopes)) first
+      ++ else_breaches (inside sight (enter sight.scopes)) second
+  stmt_breaches sight (While at e body) = condition_breaches sight e ++ body_breaches (inside sight (enter sight.scopes)) body
+  stmt_breaches sight (For at xs word item body) =
+      header_breaches sight.scopes ForWord xs item ++ body_breaches (inside sight (in_loop sight.scopes ForWord xs item)) body
+  stmt_breaches sight (Forall at xs word item intents body) =
+      header_breaches sight.scopes ForallWord xs item ++ with_breaches sight.scopes intents
+      ++ forall_breaches (turns_of sight.scopes xs intents) (body_deeds (in_loop sight.scopes ForallWord xs item) body)
+      ++ body_breaches (in_forall sight xs item intents) body
+  stmt_breaches sight (Coforall at xs word item intents body) =
+      header_breaches sight.scopes CoforallWord xs item ++ with_breaches sight.scopes intents
+      ++ task_breaches (length sight.scopes) (with_deeds intents ++ body_deeds (in_loop sight.scopes CoforallWord xs item) body)
+      ++ body_breaches (in_coforall sight xs item) body
+  stmt_breaches sight (On at e body) = on_breaches sight e ++ body_breaches (inside sight (enter sight.scopes)) body
+
+  pub body_breaches : Sight → Body Text → List Breach
+  body_breaches sight (WordBody at t) = stmt_breaches sight t
+  body_breaches sight (BlockBody from ts upto) = stmts_breaches sight ts
+
+  pub stmts_breaches : Sight → Stmts Text → List Breach
+  stmts_breaches sight NoStmts = []
+  stmts_breaches sight (Then t rest) = stmt_breaches sight t ++ stmts_breaches (inside sight (behind sight.scopes t)) rest
+
+  pub else_breaches : Sight → Else Text → List Breach
+  else_breaches sight NoElse = []
+  else_breaches sight (ElseDo at t) = stmt_breaches sight t
+
+-- ---- C13: at most 4,096 names, and at most 64 cells, are declared by `const` or `var`; loop variables don't count
+abbrev mutual
+  pub declarations : StmtTree Text → List (DeclareTree Text)
+  declarations (Nothing at) = []
+  declarations (Declare d) = d ∷ []
+  declarations (Assigned target sign item semicolon) = []
+  declarations (Call x dot call semicolon) = []
+  declarations (Write w) = []
+  declarations (Block from ts upto) = all_declarations ts
+  declarations (If at e first second) = body_declarations first ++ else_declarations second
+  declarations (While at e body) = body_declarations body
+  declarations (For at xs word item body) = body_declarations body
+  declarations (Forall at xs word item intents body) = body_declarations body
+  declarations (Coforall at xs word item intents body) = body_declarations body
+  declarations (On at e body) = body_declarations body
+
+  pub body_declarations : Body Text → List (DeclareTree Text)
+  body_declarations (WordBody at t) = declarations t
+  body_declarations (BlockBody from ts upto) = all_declarations ts
+
+  pub all_declarations : Stmts Text → List (DeclareTree Text)
+  all_declarations NoStmts = []
+  all_declarations (Then t rest) = declarations t ++ all_declarations rest
+
+  pub else_declarations : Else Text → List (DeclareTree Text)
+  else_declarations NoElse = []
+  else_declarations (ElseDo at t) = declarations t
+
+abbrev pub of_cell : DeclareTree Text → Option (TypeTree Text) → List (DeclareTree Text)
+of_cell d None = []
+of_cell d (Some (ScalarType at k)) = []
+of_cell d (Some (SyncType at kind_at k)) = d ∷ []
+of_cell d (Some (DomainType t)) = []
+of_cell d (Some (ArrayType t)) = []
+
+abbrev pub cells_among : List (DeclareTree Text) → List (DeclareTree Text)
+cells_among [] = []
+cells_among (d ∷ ds) = of_cell d (written_type d.typed) ++ cells_among ds
+
+-- the first past a limit
+abbrev pub first_name : List (DeclareTree Text) → List Breach
+first_name [] = []
+first_name (d ∷ ds) = breach d.name.at TooMany
+
+abbrev pub past : ℕ → List (DeclareTree Text) → List Breach
+past limit ds = first_name (drop limit ds)
+
+abbrev pub count_breaches : List (DeclareTree Text) → List Breach
+count_breaches ds = past 4096 ds ++ past 64 (cells_among ds)
+
+-- ---- a program
+abbrev pub top : Scopes
+top = [] ∷ []
+
+abbrev pub top_sight : Sight
+top_sight = record { scopes = top; forall = None; in_task = false }
+
+abbrev pub breaches : ProgramTree Text → List Breach
+breaches t =
+    stmts_breaches top_sight t.stmts ++ inner_reductions (stmts_deeds top t.stmts) ++ count_breaches (all_declarations t.stmts)
+
+-- ---- the first breach, by place and then by code
+abbrev pub code_number : Code → ℕ
+code_number UnknownName = 1
+code_number NameTwice = 2
+code_number WrongType = 3
+code_number ConstantWritten = 4
+code_number WrongRank = 5
+code_number WrittenElsewhere = 6
+code_number ReadElsewhere = 7
+code_number OuterChanged = 8
+code_number NotInForall = 9
+code_number NotInCoforall = 10
+code_number CellMisused = 12
+code_number TooMany = 13
+code_number BadSet = 14
+
+abbrev pub place_before : Place → Place → Bool
+place_before a b = nat_lt a.line b.line || (a.line == b.line && nat_lt a.column b.column)
+
+abbrev pub same_place : Place → Place → Bool
+same_place a b = a.line == b.line && a.column == b.column
+
+abbrev pub before : Breach → Breach → Bool
+before a b = place_before a.at b.at || (same_place a.at b.at && nat_lt (code_number a.code) (code_number b.code))
+
+abbrev pub lesser : Option Breach → Breach → Option Breach
+lesser None b = Some b
+lesser (Some a) b = Some (if before b a then b else a)
+
+abbrev pub least_from : Option Breach → List Breach → Option Breach
+least_from a [] = a
+least_from a (b ∷ bs) = least_from (lesser a b) bs
+
+abbrev pub first_breach : ProgramTree Text → Option Breach
+first_breach t = least_from None (breaches t)

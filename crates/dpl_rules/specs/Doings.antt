@@ -1,0 +1,143 @@
+-- What statements do that a loop around them may forbid: what their expressions do, what they write and what they hold.
+-- Writes in an inner loop are writes of every loop around it.
+use Rattle.std.specs.Prelude.{Bool, true, false, ◌||◌, List, [], ◌∷◌, ◌++◌, Option, Some, None}
+use Rattle.dpl_syntax.specs.declared.place.Place.{Place}
+use Rattle.dpl_language.specs.Tree.{Placed, Assign, ExprTree, Exprs, StartTree, StartExpr, StartTuple, MapTree, BlockMap, CyclicMap, BlockCyclicMap, MappedTree, TypeTree, ScalarType, SyncType, DomainType, ArrayType, InitTree, ItemInit, CreateInit, InitialTree, DeclareTree, TargetTree, Whole, Element, CallTree, ReadCall, ResetCall, WriteCall, ArgumentTree, TextArgument, ExprArgument, IntentTree, ReduceIntent, RefIntent, WithTree}
+use Rattle.dpl_language.specs.Tree.{StmtTree, Nothing, Declare, Assigned, Call, Write, Block, If, While, For, Forall, Coforall, On, Body, WordBody, BlockBody, Stmts, NoStmts, Then, Else, NoElse, ElseDo}
+use Rattle.dpl_language.specs.Names.{Text}
+use Rattle.dpl_language.specs.Phrases.{parts}
+use Rattle.dpl_language.specs.Declarations.{type_of as written_type}
+use Rattle.dpl_language.specs.Writing.{arguments_of}
+use Rattle.dpl_rules.specs.Types.{is_domain, is_cell, has}
+use Rattle.dpl_rules.specs.Places.{first_of_declaration}
+use Rattle.dpl_rules.specs.Sights.{Declared, Scopes, lookup, type_declared, enter}
+use Rattle.dpl_rules.specs.Expressions.{item_type}
+use Rattle.dpl_rules.specs.Loops.{ForWord, ForallWord, CoforallWord, in_loop, behind}
+use Rattle.dpl_rules.specs.Deeds.{APrint, AForall, ACoforall, ACellCall, AnOn, ADeclaration, AReduceIntent, Deed, Writes, WritesAt, held, held_if, exprs_index, expr_deeds, item_deeds, items_deeds, exprs_deeds}
+
+-- ---- declarations of arrays, domains and cells. A type, `dmapped` and `createDomain` say so by themselves; where no
+-- type is written, the initial value's type says it, if it has one.
+abbrev pub is_apart_type : Option (TypeTree Text) → Bool
+is_apart_type None = false
+is_apart_type (Some (ScalarType at k)) = false
+is_apart_type (Some (SyncType at kind_at k)) = true
+is_apart_type (Some (DomainType d)) = true
+is_apart_type (Some (ArrayType a)) = true
+
+abbrev pub intents_deeds : List (IntentTree Text) → List Deed
+intents_deeds [] = []
+intents_deeds (ReduceIntent at op word x ∷ rest) = held at AReduceIntent ++ intents_deeds rest
+intents_deeds (RefIntent at x ∷ rest) = intents_deeds rest
+
+abbrev pub with_deeds : Option (WithTree Text) → List Deed
+with_deeds None = []
+with_deeds (Some w) = intents_deeds (parts w.intents)
+
+abbrev pub written : Place → Option Declared → Assign → List Deed
+written at None op = []
+written at (Some d) op = Writes at d op ∷ []
+
+module _ (scopes : Scopes) where
+  abbrev pub is_apart_init : Option (TypeTree Text) → InitTree Text → Bool
+  is_apart_init None (ItemInit item None) = has is_domain (item_type scopes item)
+  is_apart_init (Some t) (ItemInit item None) = false
+  is_apart_init t (ItemInit item (Some m)) = true
+  is_apart_init t (CreateInit c) = true
+
+  abbrev pub is_apart_initial : Option (TypeTree Text) → Option (InitialTree Text) → Bool
+  is_apart_initial t None = false
+  is_apart_initial t (Some i) = is_apart_init t i.init
+
+  abbrev pub is_apart : DeclareTree Text → Bool
+  is_apart d = is_apart_type (written_type d.typed) || is_apart_initial (written_type d.typed) d.initial
+
+  -- a map's arguments hold no reduction
+  abbrev pub all_deeds : Bool → List (ExprTree Text) → List Deed
+  all_deeds inner [] = []
+  all_deeds inner (e ∷ es) = expr_deeds scopes inner e ++ all_deeds inner es
+
+  abbrev pub start_deeds : StartTree Text → List Deed
+  start_deeds (StartExpr e) = expr_deeds scopes true e
+  start_deeds (StartTuple from es upto) = all_deeds true (parts es)
+
+  abbrev pub map_deeds : MapTree Text → List Deed
+  map_deeds (BlockMap m) = item_deeds scopes true m.box
+  map_deeds (CyclicMap m) = start_deeds m.start
+  map_deeds (BlockCyclicMap m) = start_deeds m.start ++ start_deeds m.size
+
+  abbrev pub mapped_deeds : Option (MappedTree Text) → List Deed
+  mapped_deeds None = []
+  mapped_deeds (Some m) = map_deeds m.map
+
+  abbrev pub type_deeds : Option (TypeTree Text) → List Deed
+  type_deeds None = []
+  type_deeds (Some (ScalarType at k)) = []
+  type_deeds (Some (SyncType at kind_at k)) = []
+  type_deeds (Some (DomainType d)) = mapped_deeds d.mapped
+  type_deeds (Some (ArrayType a)) = items_deeds scopes false a.over
+
+  abbrev pub init_deeds : InitTree Text → List Deed
+  init_deeds (ItemInit item mapped) = item_deeds scopes false item ++ mapped_deeds mapped
+  init_deeds (CreateInit c) = items_deeds scopes false c.items
+
+  abbrev pub initial_deeds : Option (InitialTree Text) → List Deed
+  initial_deeds None = []
+  initial_deeds (Some i) = init_deeds i.init
+
+  abbrev pub declaration_deeds : DeclareTree Text → List Deed
+  declaration_deeds d =
+      held_if (is_apart d) (first_of_declaration d) ADeclaration ++ type_deeds (written_type d.typed) ++ initial_deeds d.initial
+
+  -- ---- writes, calls and prints
+  abbrev pub element_written : Place → Option Declared → Exprs Text → Assign → List Deed
+  element_written at None es op = []
+  element_written at (Some d) es op = WritesAt at d (exprs_index scopes es) op ∷ []
+
+  abbrev pub target_deeds : TargetTree Text → Assign → List Deed
+  target_deeds (Whole x) op = written x.at (lookup scopes x.name) op
+  target_deeds (Element x shape from es upto) op =
+      exprs_deeds scopes false es ++ element_written x.at (lookup scopes x.name) es op
+
+  abbrev pub call_argument_deeds : CallTree Text → List Deed
+  call_argument_deeds (ReadCall at w from upto) = []
+  call_argument_deeds (ResetCall at from upto) = []
+  call_argument_deeds (WriteCall at w from e upto) = expr_deeds scopes false e
+
+  abbrev pub call_deeds : Placed Text → CallTree Text → List Deed
+  call_deeds x call =
+      held_if (has is_cell (type_declared (lookup scopes x.name))) x.at ACellCall ++ call_argument_deeds call
+
+  abbrev pub arguments_deeds : List (ArgumentTree Text) → List Deed
+  arguments_deeds [] = []
+  arguments_deeds (TextArgument at cs ∷ rest) = arguments_deeds rest
+  arguments_deeds (ExprArgument e ∷ rest) = expr_deeds scopes false e ++ arguments_deeds rest
+
+-- ---- statements
+abbrev mutual
+  pub stmt_deeds : Scopes → StmtTree Text → List Deed
+  stmt_deeds ss (Nothing at) = []
+  stmt_deeds ss (Declare d) = declaration_deeds ss d
+  stmt_deeds ss (Assigned target sign item semicolon) = item_deeds ss false item ++ target_deeds ss target sign.op
+  stmt_deeds ss (Call x dot call semicolon) = call_deeds ss x call
+  stmt_deeds ss (Write w) = held w.at APrint ++ arguments_deeds ss (arguments_of w.arguments)
+  stmt_deeds ss (Block from ts upto) = stmts_deeds (enter ss) ts
+  stmt_deeds ss (If at e first second) = expr_deeds ss false e ++ body_deeds (enter ss) first ++ else_deeds (enter ss) second
+  stmt_deeds ss (While at e body) = expr_deeds ss false e ++ body_deeds (enter ss) body
+  stmt_deeds ss (For at xs word item body) = item_deeds ss false item ++ body_deeds (in_loop ss ForWord xs item) body
+  stmt_deeds ss (Forall at xs word item intents body) =
+      held at AForall ++ item_deeds ss false item ++ with_deeds intents ++ body_deeds (in_loop ss ForallWord xs item) body
+  stmt_deeds ss (Coforall at xs word item intents body) =
+      held at ACoforall ++ item_deeds ss false item ++ with_deeds intents ++ body_deeds (in_loop ss CoforallWord xs item) body
+  stmt_deeds ss (On at e body) = held at AnOn ++ expr_deeds ss false e ++ body_deeds (enter ss) body
+
+  pub body_deeds : Scopes → Body Text → List Deed
+  body_deeds ss (WordBody at t) = stmt_deeds ss t
+  body_deeds ss (BlockBody from ts upto) = stmts_deeds ss ts
+
+  pub stmts_deeds : Scopes → Stmts Text → List Deed
+  stmts_deeds ss NoStmts = []
+  stmts_deeds ss (Then t rest) = stmt_deeds ss t ++ stmts_deeds (behind ss t) rest
+
+  pub else_deeds : Scopes → Else Text → List Deed
+  else_deeds ss NoElse = []
+  else_deeds ss (ElseDo at t) = stmt_deeds ss t

@@ -1,0 +1,20 @@
+-- The rules that a program keeps beyond its grammar, in reading order: all of it is to be believed.
+pub mod Types
+pub mod Verdicts
+pub mod Places
+pub mod Sights
+pub mod Operators
+pub mod Expressions
+pub mod Maps
+pub mod Declarations
+pub mod Assignments
+pub mod Loops
+-- What loops may do: what a body does, the rules on it, what is admitted, and which reads are shifted.
+pub mod Deeds
+pub mod Doings
+pub mod Bodies
+pub mod Admitted
+pub mod Shifts
+-- The walk over a program, its first breach, and its refusal.
+pub mod Breaches
+pub mod Sound

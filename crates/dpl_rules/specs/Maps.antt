@@ -1,0 +1,128 @@
+-- The rules of maps: what may stand behind `dmapped`, beside a domain of some rank.
+-- C5 stands at the word of the map, before its opening bracket; where the domain has no type, its rank isn't asked.
+use Rattle.std.specs.Prelude.{ℕ, ◌==◌, Bool, true, false, not, ◌&&◌, if◌then◌else◌, List, [], ◌∷◌, ◌++◌, length, Option, Some, None}
+use Rattle.dpl_syntax.specs.declared.place.Place.{Place}
+use Rattle.dpl_language.specs.Tree.{ExprTree, Number, TruthWord, Named, LocalesWord, LocaleCount, HereWord, Grouped, DomainLiteral, Prefixed, Reduced, Chain, Postfixed, ItemTree, Posts, NoPosts, Post, PostTree, Brackets, Rounds, Dotted, MethodTree, Plainly, Dim, Contains, Expand, CellRead, Word, Size, First, Last, Low, High, LowBound, DomainOf, Id, StartTree, StartExpr, StartTuple, MapTree, BlockMap, CyclicMap, BlockCyclicMap, MappedTree}
+use Rattle.dpl_language.specs.Names.{Text}
+use Rattle.dpl_language.specs.Phrases.{parts}
+use Rattle.dpl_rules.specs.Types.{ValueType, domain_of, is_int}
+use Rattle.dpl_rules.specs.Verdicts.{WrongType, WrongRank, Breach, breach, owed, owed_type}
+use Rattle.dpl_rules.specs.Places.{first_of, first_of_item}
+use Rattle.dpl_rules.specs.Sights.{Scopes}
+use Rattle.dpl_rules.specs.Expressions.{type_of, item_type, expr_breaches, item_breaches}
+
+-- ---- `X.low` and `X.lowBound`, as the last that stands behind a base
+pub record LowTree : Type 0 where
+  pub of : ExprTree Text
+  pub at : Place
+  pub bound : Bool
+
+abbrev pub word_low : Word → Option Bool
+word_low Size = None
+word_low First = None
+word_low Last = None
+word_low Low = Some false
+word_low High = None
+word_low LowBound = Some true
+word_low DomainOf = None
+word_low Id = None
+
+abbrev pub low_by : Place → ExprTree Text → Option Bool → Option LowTree
+low_by at e None = None
+low_by at e (Some bound) = Some (record { of = e; at = at; bound = bound })
+
+abbrev pub method_low : MethodTree Text → ExprTree Text → Option LowTree
+method_low (Plainly at w) e = low_by at e (word_low w)
+method_low (Dim at from rank_at d upto) e = None
+method_low (Contains at from es upto) e = None
+method_low (Expand at from f upto) e = None
+method_low (CellRead at w from upto) e = None
+
+abbrev pub post_low : PostTree Text → ExprTree Text → Option LowTree
+post_low (Brackets from items upto) e = None
+post_low (Rounds from es upto) e = None
+post_low (Dotted dot m) e = method_low m e
+
+-- all but the last, and the last
+abbrev pub front_of : Posts Text → Posts Text
+front_of NoPosts = NoPosts
+front_of (Post p NoPosts) = NoPosts
+front_of (Post p (Post q rest)) = Post p (front_of (Post q rest))
+
+abbrev pub posts_low : Posts Text → ExprTree Text → Option LowTree
+posts_low NoPosts e = None
+posts_low (Post p NoPosts) e = post_low p e
+posts_low (Post p (Post q rest)) e = posts_low (Post q rest) e
+
+abbrev pub low_of : ExprTree Text → Option LowTree
+low_of (Number at n) = None
+low_of (TruthWord at b) = None
+low_of (Named x) = None
+low_of (LocalesWord at) = None
+low_of (LocaleCount at) = None
+low_of (HereWord at) = None
+low_of (Grouped from item upto) = None
+low_of (DomainLiteral from items upto) = None
+low_of (Prefixed at op e) = None
+low_of (Reduced at op word e) = None
+low_of (Chain e rest) = None
+low_of (Postfixed e posts) = posts_low posts (Postfixed e (front_of posts))
+
+-- ---- the rank of what is mapped, where it is known
+abbrev pub owed_rank : Option ℕ → ℕ → Place → List Breach
+owed_rank None n word = []
+owed_rank (Some rank) n word = owed (n == rank) word WrongRank
+
+-- a domain of that rank
+abbrev pub box_rank : Option ℕ → Place → Place → Option (ℕ × Bool) → List Breach
+box_rank rank word at None = breach at WrongType
+box_rank rank word at (Some d) = owed_rank rank d.0 word
+
+abbrev pub box_of : Option ℕ → Place → Place → Option ValueType → List Breach
+box_of rank word at None = []
+box_of rank word at (Some t) = box_rank rank word at (domain_of t)
+
+module _ (scopes : Scopes) where
+  -- a box is a domain of the rank
+  abbrev pub box_breaches : Option ℕ → Place → ItemTree Text → List Breach
+  box_breaches rank word box = item_breaches scopes box ++ box_of rank word (first_of_item box) (item_type scopes box)
+
+  -- an int starts a map of rank 1
+  abbrev pub int_start : Option ℕ → Place → Place → Option ValueType → List Breach
+  int_start rank word at None = []
+  int_start rank word at (Some t) = if is_int t then owed_rank rank 1 word else breach at WrongType
+
+  abbrev pub plain_start : Option ℕ → Place → ExprTree Text → List Breach
+  plain_start rank word e = expr_breaches scopes e ++ int_start rank word (first_of e) (type_of scopes e)
+
+  -- `X.low` of a domain X of the rank starts a map; `X.lowBound` only where X is unstrided
+  abbrev pub domain_start : Option ℕ → Place → ExprTree Text → LowTree → Option (ℕ × Bool) → List Breach
+  domain_start rank word e l None = plain_start rank word e
+  domain_start rank word e l (Some d) =
+      expr_breaches scopes l.of ++ owed_rank rank d.0 word ++ owed (not (l.bound && d.1)) l.at WrongType
+
+  abbrev pub typed_start : Option ℕ → Place → ExprTree Text → LowTree → Option ValueType → List Breach
+  typed_start rank word e l None = plain_start rank word e
+  typed_start rank word e l (Some t) = domain_start rank word e l (domain_of t)
+
+  abbrev pub low_start : Option ℕ → Place → ExprTree Text → Option LowTree → List Breach
+  low_start rank word e None = plain_start rank word e
+  low_start rank word e (Some l) = typed_start rank word e l (type_of scopes l.of)
+
+  -- a tuple of ints, as many as the rank
+  abbrev pub int_breaches : List (ExprTree Text) → List Breach
+  int_breaches [] = []
+  int_breaches (e ∷ es) = expr_breaches scopes e ++ owed_type is_int (first_of e) (type_of scopes e) ++ int_breaches es
+
+  abbrev pub start_breaches : Option ℕ → Place → StartTree Text → List Breach
+  start_breaches rank word (StartExpr e) = low_start rank word e (low_of e)
+  start_breaches rank word (StartTuple from es upto) = int_breaches (parts es) ++ owed_rank rank (length (parts es)) word
+
+  abbrev pub map_breaches : Option ℕ → MapTree Text → List Breach
+  map_breaches rank (BlockMap m) = box_breaches rank m.word m.box
+  map_breaches rank (CyclicMap m) = start_breaches rank m.word m.start
+  map_breaches rank (BlockCyclicMap m) = start_breaches rank m.word m.start ++ start_breaches rank m.word m.size
+
+  abbrev pub mapped_breaches : Option ℕ → Option (MappedTree Text) → List Breach
+  mapped_breaches rank None = []
+  mapped_breaches rank (Some m) = map_breaches rank m.map

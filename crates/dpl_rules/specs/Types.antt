@@ -1,0 +1,232 @@
+-- The types of names and expressions, and which types the operators take.
+-- A name that isn't known, or whose declaration was refused, has no type; nor has an expression over one.
+use Rattle.std.specs.Prelude.{ℕ, ◌==◌, Bool, true, false, ◌&&◌, ◌||◌, not, bytes_eq, Option, Some, None, is_some}
+use Rattle.dpl_language.specs.Tree.{Kind, IntKind, BoolKind, Op, Sum, Product, AllOf, AnyOf, BitAnd, BitOr, BitXor, Least, Greatest}
+use Rattle.dpl_language.specs.Names.{Text}
+
+-- Which declaration a name stands for: its name, and how many scopes are open where it stands, counting its own.
+-- No two declarations in sight have both alike.
+pub record Origin : Type 0 where
+  pub name : Text
+  pub depth : ℕ
+
+-- What an array is over: the rank of its domain and whether that is strided; and the bare domain name that it is
+-- declared over, or else the array itself. Arrays over one bare name, and an array and itself, have one index set.
+pub record Over : Type 0 where
+  pub rank : ℕ
+  pub strided : Bool
+  pub base : Origin
+
+-- Int and bool; a range, strided or not; a domain by its rank, strided or not; an array; an expression over whole
+-- arrays, which is promoted; a loop's tuple name by its rank; a locale, and the word `Locales`; and a cell.
+-- Strided is what the text has with `by`.
+pub data ValueType : Type 0 where
+  Scalar : Kind → ValueType
+  Range : Bool → ValueType
+  Domain : ℕ → Bool → ValueType
+  Array : Kind → Over → ValueType
+  Promoted : Kind → Over → ValueType
+  Tuple : ℕ → ValueType
+  Locale : ValueType
+  AllLocales : ValueType
+  Cell : Kind → ValueType
+
+abbrev pub an_int : ValueType
+an_int = Scalar IntKind
+
+abbrev pub a_bool : ValueType
+a_bool = Scalar BoolKind
+
+-- ---- sameness
+abbrev pub same_kind : Kind → Kind → Bool
+same_kind IntKind IntKind = true
+same_kind IntKind BoolKind = false
+same_kind BoolKind IntKind = false
+same_kind BoolKind BoolKind = true
+
+abbrev pub same_origin : Origin → Origin → Bool
+same_origin a b = a.depth == b.depth && bytes_eq a.name b.name
+
+-- ---- what a type is, where it is that
+-- the kind of an int or a bool
+abbrev pub scalar_of : ValueType → Option Kind
+scalar_of (Scalar k) = Some k
+scalar_of (Range strided) = None
+scalar_of (Domain rank strided) = None
+scalar_of (Array k over) = None
+scalar_of (Promoted k over) = None
+scalar_of (Tuple rank) = None
+scalar_of Locale = None
+scalar_of AllLocales = None
+scalar_of (Cell k) = None
+
+-- whether a range is strided
+abbrev pub range_of : ValueType → Option Bool
+range_of (Scalar k) = None
+range_of (Range strided) = Some strided
+range_of (Domain rank strided) = None
+range_of (Array k over) = None
+range_of (Promoted k over) = None
+range_of (Tuple rank) = None
+range_of Locale = None
+range_of AllLocales = None
+range_of (Cell k) = None
+
+-- the rank of a domain and whether it is strided
+abbrev pub domain_of : ValueType → Option (ℕ × Bool)
+domain_of (Scalar k) = None
+domain_of (Range strided) = None
+domain_of (Domain rank strided) = Some (rank, strided)
+domain_of (Array k over) = None
+domain_of (Promoted k over) = None
+domain_of (Tuple rank) = None
+domain_of Locale = None
+domain_of AllLocales = None
+domain_of (Cell k) = None
+
+-- the kind of a whole array's elements, and what it is over; a promoted expression is no array
+abbrev pub array_of : ValueType → Option (Kind × Over)
+array_of (Scalar k) = None
+array_of (Range strided) = None
+array_of (Domain rank strided) = None
+array_of (Array k over) = Some (k, over)
+array_of (Promoted k over) = None
+array_of (Tuple rank) = None
+array_of Locale = None
+array_of AllLocales = None
+array_of (Cell k) = None
+
+abbrev pub tuple_of : ValueType → Option ℕ
+tuple_of (Scalar k) = None
+tuple_of (Range strided) = None
+tuple_of (Domain rank strided) = None
+tuple_of (Array k over) = None
+tuple_of (Promoted k over) = None
+tuple_of (Tuple rank) = Some rank
+tuple_of Locale = None
+tuple_of AllLocales = None
+tuple_of (Cell k) = None
+
+abbrev pub cell_of : ValueType → Option Kind
+cell_of (Scalar k) = None
+cell_of (Range strided) = None
+cell_of (Domain rank strided) = None
+cell_of (Array k over) = None
+cell_of (Promoted k over) = None
+cell_of (Tuple rank) = None
+cell_of Locale = None
+cell_of AllLocales = None
+cell_of (Cell k) = Some k
+
+abbrev pub is_locale : ValueType → Bool
+is_locale (Scalar k) = false
+is_locale (Range strided) = false
+is_locale (Domain rank strided) = false
+is_locale (Array k over) = false
+is_locale (Promoted k over) = false
+is_locale (Tuple rank) = false
+is_locale Locale = true
+is_locale AllLocales = false
+is_locale (Cell k) = false
+
+abbrev pub is_all_locales : ValueType → Bool
+is_all_locales (Scalar k) = false
+is_all_locales (Range strided) = false
+is_all_locales (Domain rank strided) = false
+is_all_locales (Array k over) = false
+is_all_locales (Promoted k over) = false
+is_all_locales (Tuple rank) = false
+is_all_locales Locale = false
+is_all_locales AllLocales = true
+is_all_locales (Cell k) = false
+
+abbrev pub is_any_scalar : ValueType → Bool
+is_any_scalar t = is_some (scalar_of t)
+
+abbrev pub is_range : ValueType → Bool
+is_range t = is_some (range_of t)
+
+abbrev pub is_domain : ValueType → Bool
+is_domain t = is_some (domain_of t)
+
+abbrev pub is_array : ValueType → Bool
+is_array t = is_some (array_of t)
+
+abbrev pub is_cell : ValueType → Bool
+is_cell t = is_some (cell_of t)
+
+-- a name is of a type, where it has one
+abbrev pub has : (ValueType → Bool) → Option ValueType → Bool
+has test None = false
+has test (Some t) = test t
+
+-- An operand of an operator: the kind of its value, or of its values at each index of whole arrays, and what these are over.
+pub record Operand : Type 0 where
+  pub kind : Kind
+  pub over : Option Over
+
+abbrev pub operand_of : ValueType → Option Operand
+operand_of (Scalar k) = Some (record { kind = k; over = None })
+operand_of (Range strided) = None
+operand_of (Domain rank strided) = None
+operand_of (Array k over) = Some (record { kind = k; over = Some over })
+operand_of (Promoted k over) = Some (record { kind = k; over = Some over })
+operand_of (Tuple rank) = None
+operand_of Locale = None
+operand_of AllLocales = None
+operand_of (Cell k) = None
+
+-- ---- tests that a place for an expression makes
+abbrev pub is_kind : Kind → Option Kind → Bool
+is_kind k None = false
+is_kind k (Some l) = same_kind k l
+
+abbrev pub is_scalar : Kind → ValueType → Bool
+is_scalar k t = is_kind k (scalar_of t)
+
+abbrev pub is_int : ValueType → Bool
+is_int = is_scalar IntKind
+
+abbrev pub is_bool : ValueType → Bool
+is_bool = is_scalar BoolKind
+
+abbrev pub is_unstrided : Option Bool → Bool
+is_unstrided None = false
+is_unstrided (Some strided) = not strided
+
+-- a range that the text doesn't stride
+abbrev pub is_plain_range : ValueType → Bool
+is_plain_range t = is_unstrided (range_of t)
+
+-- a domain of this rank; a strided one only where it may be
+abbrev pub is_ranked : ℕ → Bool → Option (ℕ × Bool) → Bool
+is_ranked rank may_stride None = false
+is_ranked rank may_stride (Some d) = d.0 == rank && (may_stride || not d.1)
+
+abbrev pub is_domain_of : ℕ → Bool → ValueType → Bool
+is_domain_of rank may_stride t = is_ranked rank may_stride (domain_of t)
+
+-- the arrays of an operand, if it has some, have the index set of these
+abbrev pub agrees : Over → Option Over → Bool
+agrees over None = true
+agrees over (Some other) = same_origin over.base other.base
+
+-- an int or a bool, or a promoted expression or a whole array, that each element of an array can be given
+abbrev pub is_given : Kind → Over → Option Operand → Bool
+is_given k over None = false
+is_given k over (Some o) = same_kind k o.kind && agrees over o.over
+
+abbrev pub fits_array : Kind → Over → ValueType → Bool
+fits_array k over t = is_given k over (operand_of t)
+
+-- ---- operators of reductions: `&& ||` take bools, the others ints
+abbrev pub op_kind : Op → Kind
+op_kind Sum = IntKind
+op_kind Product = IntKind
+op_kind AllOf = BoolKind
+op_kind AnyOf = BoolKind
+op_kind BitAnd = IntKind
+op_kind BitOr = IntKind
+op_kind BitXor = IntKind
+op_kind Least = IntKind
+op_kind Greatest = IntKind

@@ -1,0 +1,114 @@
+-- The codes of the rules, and what a rule says of a part of a program: its type, or where it breaks the rule.
+-- A rule is looked at only where the parts that it speaks of have types.
+use Rattle.std.specs.Prelude.{Bool, true, false, ◌&&◌, List, [], ◌∷◌, ◌++◌, Option, Some, None, is_some}
+use Rattle.dpl_syntax.specs.declared.place.Place.{Place}
+use Rattle.dpl_rules.specs.Types.{ValueType}
+
+-- the codes C1 to C10 and C12 to C14, in this order; no rule has the code C11
+pub data Code : Type 0 where
+  -- a name that is not known there
+  UnknownName : Code
+  -- a name twice in one scope or in one list of intents
+  NameTwice : Code
+  -- an expression or name of a type that isn't taken there
+  WrongType : Code
+  -- a constant that is written
+  ConstantWritten : Code
+  -- another rank, or another number of parts, than is taken there
+  WrongRank : Code
+  -- a forall writes an array elsewhere than at its own index
+  WrittenElsewhere : Code
+  -- a forall reads an array that it writes elsewhere than at its own index
+  ReadElsewhere : Code
+  -- a forall changes an outer scalar or domain otherwise than by its intent's operator, or reads a reduce variable
+  OuterChanged : Code
+  -- what no forall's body, promoted expression or map argument holds
+  NotInForall : Code
+  -- what no coforall's body holds, and an outer name that it writes
+  NotInCoforall : Code
+  -- a cell that is used as a plain variable, or is read out of its places
+  CellMisused : Code
+  -- more names or cells than a program may declare
+  TooMany : Code
+  -- a set of the command line that fits no `config const`
+  BadSet : Code
+
+-- a rule that is broken, and where
+pub record Breach : Type 0 where
+  pub at : Place
+  pub code : Code
+
+-- a part of a form, as its rule sees it: its first token, and its type if it has one
+pub record Part : Type 0 where
+  pub at : Place
+  pub type : Option ValueType
+
+abbrev pub part : Place → Option ValueType → Part
+part at t = record { at = at; type = t }
+
+-- What a rule says of a form: the type that the form has, or the breaches of the rule. Where a part has no type
+-- the rule may say neither: then the form has no type and nothing is broken.
+pub data Verdict : Type 0 where
+  Has : ValueType → Verdict
+  Breaks : List Breach → Verdict
+
+abbrev pub type_by : Verdict → Option ValueType
+type_by (Has t) = Some t
+type_by (Breaks bs) = None
+
+abbrev pub broken_by : Verdict → List Breach
+broken_by (Has t) = []
+broken_by (Breaks bs) = bs
+
+-- one breach
+abbrev pub breach : Place → Code → List Breach
+breach at code = record { at = at; code = code } ∷ []
+
+-- a breach where a test fails
+abbrev pub owed : Bool → Place → Code → List Breach
+owed true at code = []
+owed false at code = breach at code
+
+-- ---- verdicts
+-- the rule isn't looked at
+abbrev pub untold : Verdict
+untold = Breaks []
+
+abbrev pub mistyped : Place → Verdict
+mistyped at = Breaks (breach at WrongType)
+
+abbrev pub misranked : Place → Verdict
+misranked at = Breaks (breach at WrongRank)
+
+-- a type where a test holds, else the wrong type at a token
+abbrev pub has_if : Bool → ValueType → Place → Verdict
+has_if true t at = Has t
+has_if false t at = mistyped at
+
+-- a type where nothing is broken and all parts have types
+abbrev pub judged : Bool → List Breach → ValueType → Verdict
+judged known (b ∷ bs) t = Breaks (b ∷ bs)
+judged true [] t = Has t
+judged false [] t = untold
+
+-- goes on with a type, where there is one
+abbrev pub with_type : Option ValueType → (ValueType → Verdict) → Verdict
+with_type None go = untold
+with_type (Some t) go = go t
+
+-- ---- parts
+abbrev pub all_known : List Part → Bool
+all_known [] = true
+all_known (p ∷ ps) = is_some p.type && all_known ps
+
+-- a type that isn't taken is told at the part's first token
+abbrev pub owed_type : (ValueType → Bool) → Place → Option ValueType → List Breach
+owed_type test at None = []
+owed_type test at (Some t) = owed (test t) at WrongType
+
+abbrev pub wanted : (ValueType → Bool) → Part → List Breach
+wanted test p = owed_type test p.at p.type
+
+abbrev pub each_wanted : (ValueType → Bool) → List Part → List Breach
+each_wanted test [] = []
+each_wanted test (p ∷ ps) = wanted test p ++ each_wanted test ps
