@@ -22,3 +22,4 @@ pub mod FindLemmas
 pub mod SizeLemmas
 pub mod MapLemmas
 pub mod AxesLemmas
+pub mod SameLemmas

@@ -27,6 +27,32 @@ enum Rule {
     BlockCyclic { start: i64, size: i64 },
 }
 
+impl Rule {
+    // Whether two rules are the same.
+    fn is(&self, other: &Rule) -> bool
+        ensures { IsTrue result ↔ (self.now ≡ other.now) }
+    {
+        match (self, other) {
+            (
+                Rule::Block { low, high },
+                Rule::Block {
+                    low: from,
+                    high: to,
+                },
+            ) => { low == from && high == to }
+            (Rule::Cyclic { start }, Rule::Cyclic { start: from }) => start == from,
+            (
+                Rule::BlockCyclic { start, size },
+                Rule::BlockCyclic {
+                    start: from,
+                    size: of,
+                },
+            ) => { start == from && size == of }
+            _ => false,
+        }
+    }
+}
+
 /// A rule and an extent: 1 to 64 coordinates, and numbers of the rule within the limits of ranges.
 #[derive(Clone, Copy, Debug, PartialEq, Eq)]
 pub struct Axis {
@@ -62,6 +88,16 @@ impl Unused for Axis {
 }
 
 impl Axis {
+    /// Whether two axes are the same.
+    pub fn is(&self, other: &Axis) -> bool
+        ensures { IsTrue result ↔ (self.now ≡ other.now) }
+    {
+        if self.extent != other.extent {
+            return false;
+        }
+        self.rule.is(&other.rule)
+    }
+
     /// The coordinates of a box, cut into blocks that are as equal as can be.
     pub fn block(low: i64, high: i64, extent: u32) -> Axis
         requires low_is_bound { IsBound low }

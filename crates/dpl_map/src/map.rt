@@ -175,6 +175,24 @@ impl Map {
         self.axes.places()
     }
 
+    /// Whether two maps are the same.
+    pub fn is(&self, other: &Map) -> bool
+        ensures { IsTrue result ↔ (self.now ≡ other.now) }
+    {
+        if self.rank() != other.rank() {
+            return false;
+        }
+        let (outer, middle, inner) = self.axes();
+        let (first, second, last) = other.axes();
+        if !outer.is(&first) {
+            return false;
+        }
+        if !middle.is(&second) {
+            return false;
+        }
+        inner.is(&last)
+    }
+
     /// How many dimensions the map deals out: the rank of its grid, or 0.
     pub fn rank(&self) -> u32
         ensures { result ≡ length self.now }

@@ -16,13 +16,13 @@ ghost use Rattle.dpl_spelling.specs.Grammar.{program as program_rule};
 ghost use Rattle.dpl_spelling.specs.Reading.{at};
 ghost use Rattle.dpl_spelling.specs.Theorem.{Spells, Refuses};
 
-use dpl_statements::begins::begins_statement;
-use dpl_statements::declaration::config_declaration;
-use dpl_statements::statement::statement;
 use dpl_expressions::token::{
     Parsed, Tokens, contextual, end, is_contextual, is_keyword, is_sign, keyword, passed_on, sign,
     unexpected,
 };
+use dpl_statements::begins::begins_statement;
+use dpl_statements::declaration::config_declaration;
+use dpl_statements::statement::statement;
 use dpl_syntax::{Contextual, Keyword, Refusal, Sign, Stop, Token};
 use dpl_tree::{Module, ModuleName, NextModule, Program, Stmt, Use};
 use std::alloc::Global;

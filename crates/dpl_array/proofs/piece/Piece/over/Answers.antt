@@ -1,0 +1,31 @@
+-- A part is told by the indices of the domain.
+use Rattle.std.proofs.Common.{◌≡◌, ◌↔◌, ℤ, List, sym, ap, ◌∙◌, subst}
+use Rattle.dpl_map.specs.Parts.{part}
+use Rattle.dpl_domain.specs.Indices.{indices}
+use Rattle.dpl_array.specs.Elements.{tabulated}
+use Rattle.dpl_array.specs.PieceFields.{kept_at}
+use Rattle.dpl_array.specs.Rows.{row_of, StandsIn}
+use Rattle.dpl_array.proofs.PieceLemmas.{part-same, in-domain, with_domain}
+use Rattle.dpl_array.proofs.piece.Piece.over.Goals as goal
+
+pub invariant_of-piece : goal.invariant_of-piece
+invariant_of-piece g c =
+    let p = c.piece.inside in
+    let kept = c.piece.invariant in
+    let indices-same : indices p.domain ≡ indices c.args.domain = ap (λ q. indices q.domain) c.piece.view_is ∙ sym c.requires in
+    let parts-same : part p.domain p.map p.locale ≡ part c.args.domain p.map p.locale = part-same p.domain c.args.domain p.map p.locale indices-same in
+    record {
+      rows = kept.rows;
+      same = subst (λ ts. (t : List ℤ) → StandsIn (row_of p.parts.items) t ↔ StandsIn ts t) parts-same kept.same;
+      starting = kept.starting;
+      long = kept.long;
+      small = kept.small;
+    }
+
+pub returns : goal.returns
+returns g c =
+    let p = c.piece.inside in
+    let indices-same : indices p.domain ≡ indices c.args.domain = ap (λ q. indices q.domain) c.piece.view_is ∙ sym c.requires in
+    let parts-same : part p.domain p.map p.locale ≡ part c.args.domain p.map p.locale = part-same p.domain c.args.domain p.map p.locale indices-same in
+    in-domain c.args.domain p.map p.locale (λ ts. tabulated ts (kept_at p.parts.items p.values.items)) (part p.domain p.map p.locale) (part c.args.domain p.map p.locale) parts-same
+    ∙ ap (with_domain c.args.domain) c.piece.view_is

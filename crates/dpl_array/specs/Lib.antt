@@ -1,0 +1,9 @@
+-- What an array is: a finite map from indices to values.
+pub mod Elements
+pub mod Same
+pub mod Arrays
+-- From here on: what serves contracts and proofs alone. How the elements of a piece are kept.
+pub mod Rows
+pub mod PieceFields
+pub mod PiecesFields
+pub mod WalkFields

@@ -1,0 +1,22 @@
+-- A part's indices in one row: those of its first domain, then those of its second, and so on.
+use Rattle.std.specs.Prelude.{◌≡◌, ◌<◌, ℕ, ℤ, List, length, slice_get, slice_index_or, Some, take}
+use Rattle.std.specs.List.{flat_map, sum_by}
+use Rattle.dpl_range.specs.Range.{RangeValue}
+use Rattle.dpl_domain.specs.Indices.{indices}
+
+-- the row of some domains
+abbrev pub row_of : List (List RangeValue) → List (List ℤ)
+row_of domains = flat_map indices domains
+
+-- where the indices of a domain begin in the row: behind those of the domains before it
+abbrev pub start_of : List (List RangeValue) → ℕ → ℕ
+start_of domains k = sum_by (λ d. length (indices d)) (take k domains)
+
+-- the starts of all the domains
+pub record AreStarts (domains : List (List RangeValue)) (starts : List ℕ) : Type 0 where
+  pub long : length starts ≡ length domains
+  pub each : (k : ℕ) → k < length domains → slice_index_or starts k 0 ≡ start_of domains k
+
+-- something stands in a list
+abbrev pub StandsIn : {X : Type 0} → List X → X → Type 0
+StandsIn xs x = (k : ℕ) × (slice_get xs k ≡ Some x)

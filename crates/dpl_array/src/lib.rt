@@ -1,0 +1,18 @@
+// Arrays: finite maps from the indices of a domain to values, kept in one dense piece for each locale of a map.
+#![tactic(auto)]
+
+mod array;
+mod piece;
+mod pieces;
+mod place;
+mod redomain;
+mod same;
+mod walk;
+
+pub use array::{ArrayFault, DArray};
+pub use piece::Piece;
+pub use pieces::Pieces;
+pub use walk::Walk;
+
+#[cfg(test)]
+mod tests;

@@ -1,0 +1,130 @@
+// A piece of an array: the elements that one locale owns, in one dense vector.
+
+ghost use Rattle.std.specs.Prelude.{◌≡◌, ◌≤◌, ◌^◌, false, is_some, IfOk, length, replicate};
+ghost use Rattle.dpl_domain.specs.Indices.{indices};
+ghost use Rattle.dpl_map.specs.Parts.{part};
+ghost use Rattle.dpl_array.specs.Elements.{value_at, filled};
+ghost use Rattle.dpl_array.specs.Arrays.{IsPiece, piece_with};
+
+use crate::place::{place_in, starts_of};
+use dpl_domain::{Domain, Index};
+use dpl_map::Map;
+use std::alloc::{AllocError, Global};
+use std::marker::Model;
+
+/// The elements of an array that one locale owns, seen as its domain, its map, the locale and a finite map from the
+/// indices of the locale's part to values.
+#[derive(Drop)]
+pub struct Piece<T> {
+    domain: Domain,
+    map: Map,
+    locale: u32,
+    parts: Vec<Domain>,
+    starts: Vec<usize>,
+    values: Vec<T>,
+}
+
+impl<T> Model for Piece<T> {
+    ghost use Rattle.dpl_array.specs.Arrays.{PieceValue};
+
+    ghost Value = { PieceValue T };
+
+    ghost use Rattle.std.specs.Prelude.{length};
+    ghost use Rattle.dpl_array.specs.PieceFields.{piece_of, IsKept};
+
+    ghost view = { piece_of };
+
+    ghost invariant = { λ p. IsKept p.domain p.map p.locale p.parts.items p.starts.items (length p.values.items) };
+}
+
+impl<T: Copy> Piece<T> {
+    // The piece of a locale, with one value everywhere.
+    pub(crate) fn new(
+        alloc: Global,
+        domain: Domain,
+        map: Map,
+        locale: u32,
+        value: T,
+    ) -> Result<Piece<T>, AllocError>
+        requires small { length (indices domain) ≤ 2 ^ 24 }
+        ensures { IfOk result (λ p. p ≡ record { domain = domain; map = map; locale = locale; elements = filled (part domain map locale) value }) }
+    {
+        let Ok(parts) = map.part(alloc, &domain, locale) else {
+            return Err(AllocError);
+        };
+        let (starts, size) = starts_of(alloc, &parts)?;
+        let values = row(alloc, size, value)?;
+        Ok(Piece {
+            domain,
+            map,
+            locale,
+            parts,
+            starts,
+            values,
+        })
+    }
+
+    /// The locale that owns these elements.
+    pub fn locale(&self) -> u32
+        ensures locale { result ≡ self.now.locale }
+        ensures over { IsPiece self.now }
+    {
+        self.locale
+    }
+
+    /// The domain of the array.
+    pub fn domain(&self) -> Domain
+        ensures { result ≡ self.now.domain }
+    {
+        self.domain
+    }
+
+    /// The map of the array.
+    pub fn map(&self) -> Map
+        ensures { result ≡ self.now.map }
+    {
+        self.map
+    }
+
+    // The piece of an array over a domain with the same indices.
+    pub(crate) fn over(self, domain: Domain) -> Piece<T>
+        requires { indices domain ≡ indices self.domain }
+        ensures { result ≡ record self { domain = domain } }
+    {
+        let mut piece = self;
+        piece.domain = domain;
+        piece
+    }
+
+    /// The value at an index, if the piece has it.
+    pub fn get(&self, index: Index) -> Option<T>
+        ensures { result ≡ value_at index self.now.elements }
+    {
+        let place = place_in(&self.map, &self.parts, &self.starts, index)?;
+        Some(self.values[place])
+    }
+
+    /// Puts a value at an index, if the piece has it. False if it hasn't, and then nothing is changed.
+    pub fn set(&mut self, index: Index, value: T) -> bool
+        ensures there { result ≡ is_some (value_at index self.old.elements) }
+        ensures changes { self.new ≡ piece_with index value self.old }
+        ensures unchanged { result ≡ false → self.new ≡ self.old }
+    {
+        let Some(place) = place_in(&self.map, &self.parts, &self.starts, index) else {
+            return false;
+        };
+        self.values[place] = value;
+        true
+    }
+}
+
+// As many values as a row has places.
+fn row<T: Copy>(alloc: Global, size: usize, value: T) -> Result<Vec<T>, AllocError>
+    ensures { IfOk result (λ values. values.items ≡ replicate size value) }
+{
+    let mut values = Vec::with_capacity(alloc, size)?;
+    while values.len() < size {
+        values.push(value)?;
+    }
+    Ok(values)
+}

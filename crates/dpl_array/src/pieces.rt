@@ -1,0 +1,147 @@
+// The pieces of an array: one for each locale of its map, taken out and put back.
+
+ghost use Rattle.std.specs.Prelude.{◌≡◌, ◌≤◌, ◌^◌, ◌↔◌, Some, None, is_some, length, slice_index_or, slice_get, IsTrue, IsOk, IfOk, IfErr, IfSome, OnOk, OnErr};
+ghost use Rattle.std.specs.Option.{option_map};
+ghost use Rattle.dpl_domain.specs.Equality.{SameDomain};
+ghost use Rattle.dpl_map.specs.Maps.{owner};
+ghost use Rattle.dpl_array.specs.Elements.{with_value};
+ghost use Rattle.dpl_array.specs.Same.{texts_of};
+ghost use Rattle.dpl_array.specs.Arrays.{ArePieces, IsWhole, IsSmallArray, filled_array, held_at, piece_in, pieces_of, with_slot};
+
+use crate::Piece;
+use crate::same::same_domain;
+use dpl_domain::{Domain, Index};
+use dpl_map::Map;
+use std::alloc::{AllocError, Global};
+use std::marker::Model;
+
+/// The pieces of an array, seen as its domain, its map and for each locale the elements that it owns, where its piece
+/// is there.
+#[derive(Drop)]
+pub struct Pieces<T> {
+    domain: Domain,
+    map: Map,
+    held: Vec<Option<Piece<T>>>,
+}
+
+impl<T> Model for Pieces<T> {
+    ghost use Rattle.dpl_array.specs.Arrays.{PiecesValue};
+
+    ghost Value = { PiecesValue T };
+
+    ghost use Rattle.dpl_array.specs.PiecesFields.{pieces_in, AreHeld};
+
+    ghost view = { pieces_in };
+
+    ghost invariant = { λ p. AreHeld p.domain p.map p.held.items };
+}
+
+impl<T: Copy> Pieces<T> {
+    // The pieces of an array with one value everywhere.
+    pub(crate) fn new(
+        alloc: Global,
+        domain: Domain,
+        map: Map,
+        value: T,
+    ) -> Result<Pieces<T>, AllocError>
+        requires small { IsSmallArray domain }
+        ensures pieces { IfOk result (λ ps. ps ≡ pieces_of (filled_array domain map value)) }
+        ensures formed { IfOk result (λ ps. ArePieces ps) }
+    {
+        let locales = map.locales();
+        let mut held = Vec::with_capacity(alloc, locales as usize)?;
+        for locale in 0..locales {
+            let piece = Piece::new(alloc, domain, map, locale, value)?;
+            held.push(Some(piece))?;
+        }
+        Ok(Pieces { domain, map, held })
+    }
+
+    /// The domain of the array.
+    pub fn domain(&self) -> Domain
+        ensures domain { result ≡ self.now.domain }
+        ensures formed { ArePieces self.now }
+    {
+        self.domain
+    }
+
+    /// The map of the array.
+    pub fn map(&self) -> Map
+        ensures { result ≡ self.now.map }
+    {
+        self.map
+    }
+
+    /// Takes out the piece of a locale, if it is there.
+    pub fn take(&mut self, locale: u32) -> Option<Piece<T>>
+        ensures piece { result ≡ piece_in self.old locale }
+        ensures leaves { self.new ≡ with_slot self.old locale None }
+    {
+        self.held.get_mut(locale as usize)?.take()
+    }
+
+    /// Puts a piece back. A stranger, which is of another domain by the language's equality or of another map, and a double,
+    /// whose place isn't free, are handed back, and then nothing is changed.
+    pub fn put(&mut self, piece: Piece<T>) -> Result<(), Piece<T>>
+        ensures fits { IsOk result ↔ (SameDomain (texts_of piece.domain) (texts_of self.old.domain) × (piece.map ≡ self.old.map) × (slice_get self.old.slots piece.locale ≡ Some None)) }
+        ensures put { OnOk result (self.new ≡ with_slot self.old piece.locale (Some piece.elements)) }
+        ensures back { IfErr result (λ p. p ≡ piece) }
+        ensures unchanged { OnErr result (self.new ≡ self.old) }
+    {
+        if !same_domain(&piece.domain(), &self.domain) {
+            return Err(piece);
+        }
+        if !self.map.is(&piece.map()) {
+            return Err(piece);
+        }
+        let locale = piece.locale() as usize;
+        if locale >= self.held.len() {
+            return Err(piece);
+        }
+        if self.held[locale].is_some() {
+            return Err(piece);
+        }
+        self.held[locale] = Some(piece.over(self.domain));
+        Ok(())
+    }
+
+    // The piece of a locale, if it is there.
+    pub(crate) fn piece(&self, locale: u32) -> Option<&Piece<T>>
+        ensures there { is_some result ≡ is_some (piece_in self.now locale) }
+        ensures piece { IfSome result (λ p. Some p.now ≡ piece_in self.now locale) }
+    {
+        self.held.get(locale as usize)?.as_ref()
+    }
+
+    /// Whether all pieces are there.
+    pub fn is_whole(&self) -> bool
+        ensures { IsTrue result ↔ IsWhole self.now }
+    {
+        for slot in &self.held {
+            if slot.is_none() {
+                return false;
+            }
+        }
+        true
+    }
+
+    // What the pieces hold at an index.
+    pub(crate) fn get(&self, index: Index) -> Option<T>
+        ensures { result ≡ held_at self.now index }
+    {
+        let owner = self.map.owner(index) as usize;
+        self.held[owner].as_ref()?.get(index)
+    }
+
+    // Puts a value at an index, if the pieces have it.
+    pub(crate) fn set(&mut self, index: Index, value: T) -> bool
+        ensures there { result ≡ is_some (held_at self.old index) }
+        ensures changes { self.new ≡ with_slot self.old (owner self.old.map index) (option_map (with_value index value) (slice_index_or self.old.slots (owner self.old.map index) None)) }
+    {
+        let owner = self.map.owner(index) as usize;
+        let Some(piece) = &mut self.held[owner] else {
+            return false;
+        };
+        piece.set(index, value)
+    }
+}

@@ -1,0 +1,35 @@
+// Where an index stands in the row of a part's domains.
+
+ghost use Rattle.std.specs.Prelude.{◌≡◌, ◌≤◌, ◌^◌, ◌↔◌, ℕ, Some, IfOk, slice_get, length};
+ghost use Rattle.dpl_map.specs.Orders.{ArePart};
+ghost use Rattle.dpl_array.specs.Rows.{row_of, AreStarts};
+
+use dpl_domain::{Domain, Index};
+use dpl_map::Map;
+use std::alloc::{AllocError, Global};
+
+/// The place of an index in the row of a part's domains, if one of them has it.
+pub(crate) fn place_in(map: &Map, parts: &[Domain], starts: &[usize], index: Index) -> Option<usize>
+    requires rows { ArePart map.now parts.now }
+    requires starts { AreStarts parts.now starts.now }
+    requires small { length (row_of parts.now) ≤ 2 ^ 24 }
+    ensures { (k : ℕ) → (result ≡ Some k) ↔ (slice_get (row_of parts.now) k ≡ Some index) }
+{
+    let (number, place) = map.find(parts, index)?;
+    Some(starts[number] + place as usize)
+}
+
+/// Where the indices of each domain begin in the row of a part's domains, and how long the row is.
+pub(crate) fn starts_of(alloc: Global, parts: &[Domain]) -> Result<(Vec<usize>, usize), AllocError>
+    requires small { length (row_of parts.now) ≤ 2 ^ 24 }
+    ensures starts { IfOk result (λ row. AreStarts parts.now row.0.items) }
+    ensures size { IfOk result (λ row. row.1 ≡ length (row_of parts.now)) }
+{
+    let mut starts = Vec::with_capacity(alloc, parts.len())?;
+    let mut size: usize = 0;
+    for part in parts {
+        starts.push(size)?;
+        size += part.size() as usize;
+    }
+    Ok((starts, size))
+}
