@@ -1,21 +1,27 @@
 -- When two ways to keep variables agree: where each step of the one is a step of the other.
--- Then each run by the one is a run by the other, which proofs/Agreement.antt shows.
-use Rattle.std.specs.Prelude.{◌≡◌, ℕ, List}
+-- Then a program's run by the one is its lowered tree's run by the other, which proofs/Agreement.antt shows.
+use Rattle.std.specs.Prelude.{◌≡◌, ℕ, ℤ, List, IfOk}
 use Rattle.dpl_syntax.specs.declared.value.Value.{Value}
+use Rattle.dpl_syntax.specs.declared.value.Value.TheVariants.{Int}
 use Rattle.dpl_syntax.specs.declared.operator.Assign.{Assign}
+use Rattle.dpl_syntax.specs.Tree.{ExprTree}
 use Rattle.dpl_meaning.specs.Outcome.{Outcome, Done, Stop, Run}
-use Rattle.dpl_meaning.specs.Meaning.{Keeping}
-use Rattle.dpl_meaning.specs.Scopes.{Scoping}
+use Rattle.dpl_meaning.specs.Meaning.{Keeping, value_of}
+use Rattle.dpl_meaning.specs.Scopes.{Scoping, Rules}
 
--- R relates the states of the two where a g is in sight; `name` gives the first one's name for each name of the second
-pub record Simulates {M N G S1 S2 : Type 0} (name : N → M) (scoping : Scoping N G) (first : Keeping M S1) (second : Keeping N S2) (R : G → S1 → S2 → Type 0) : Type 0 where
-  pub gets : (x : N) (g : G) (s1 : S1) (s2 : S2) → R g s1 s2 → scoping.reads x g → first.get (name x) s1 ≡ second.get x s2
-  pub updates : (x : N) (op : Assign) (v : Value) (g : G) (s1 : S1) (s2 : S2) → R g s1 s2 → scoping.writes x g → R g (first.update (name x) op v s1) (second.update x op v s2)
-  pub declares : (x : N) (v : Value) (g : G) (s1 : S1) (s2 : S2) → R g s1 s2 → scoping.declares x g → R (scoping.add x g) (first.declare (name x) v s1) (second.declare x v s2)
+-- R relates the states of the two where a g is in sight; Holds is true of each value that a variable may be given
+pub record Simulates {M N G S1 S2 : Type 0} (scoping : Scoping M N G) (rules : Rules M G) (first : Keeping M S1) (second : Keeping N S2) (Holds : Value → Type 0) (R : G → S1 → S2 → Type 0) : Type 0 where
+  pub holds : (e : ExprTree N) (s2 : S2) → IfOk (value_of second e s2) Holds
+  pub holds-int : (i : ℤ) → Holds (Int i)
+  pub gets : (x : M) (g : G) (s1 : S1) (s2 : S2) → R g s1 s2 → rules.reads x g → first.get x s1 ≡ second.get (scoping.leaf x g) s2
+  pub updates : (x : M) (op : Assign) (v : Value) (g : G) (s1 : S1) (s2 : S2) → R g s1 s2 → rules.writes x g → Holds v
+      → R g (first.update x op v s1) (second.update (scoping.leaf x g) op v s2)
+  pub declares : (x : M) (v : Value) (g : G) (s1 : S1) (s2 : S2) → R g s1 s2 → rules.declares x g → Holds v
+      → R (scoping.add x g) (first.declare x v s1) (second.declare (scoping.fresh x g) v s2)
   pub enters : (g : G) (s1 : S1) (s2 : S2) → R g s1 s2 → R (scoping.enter g) (first.enter s1) (second.enter s2)
   pub leaves : (g : G) (s1 : S1) (s2 : S2) → R g s1 s2 → R (scoping.leave g) (first.leave s1) (second.leave s2)
   pub leave-enter : (g : G) → scoping.leave (scoping.enter g) ≡ g
-  pub leave-add : (x : N) (g : G) → scoping.leave (scoping.add x g) ≡ scoping.leave g
+  pub leave-add : (x : M) (g : G) → scoping.leave (scoping.add x g) ≡ scoping.leave g
 
 -- the second run ends as the first, in a state that is related to the first one's
 abbrev pub EndsAlike : {S1 S2 : Type 0} → (S1 → S2 → Type 0) → Outcome S1 → Outcome S2 → Type 0

@@ -3,10 +3,10 @@ pub mod Outcome
 pub mod Meaning
 pub mod Names
 pub mod Program
--- What serves contracts and proofs alone: other environments, and when two agree.
-pub mod Slots
-pub mod Renamed
-pub mod Bodies
+-- What serves contracts and proofs alone: variables in words, the tree that is run over them, and when two ways agree.
+pub mod Words
 pub mod Scopes
+pub mod Lowered
+pub mod Bodies
 pub mod Agreement
 pub mod Resolved

@@ -1,32 +1,73 @@
--- Names and their slots: each name in sight has the slot of its innermost declaration.
--- A tree that fits `resolving` may be run over slots in the place of names.
-use Rattle.std.specs.Prelude.{◌≡◌, ◌≢◌, ℕ, ◌<◌, pos, bytes_eq, if◌then◌else◌, List, [], ◌∷◌, ◌++◌, Option, Some, None, map, get_or, length}
-use Rattle.dpl_syntax.specs.declared.value.Value.{Value}
-use Rattle.dpl_syntax.specs.declared.value.Value.TheVariants.{Int}
-use Rattle.dpl_syntax.specs.Tree.{Bound, ProgramTree}
+-- Names and their slots: each name in sight stands for its innermost declaration.
+-- A declaration has the slot behind those in sight, so that scopes that follow one another share slots.
+use Rattle.std.specs.Prelude.{◌≡◌, ◌≢◌, ℕ, ◌+◌, ◌<◌, pos, bytes_eq, if◌then◌else◌, List, [], ◌∷◌, ◌++◌, Option, Some, None, map, length}
+use Rattle.dpl_syntax.specs.Tree.{StmtTree, ProgramTree}
 use Rattle.dpl_meaning.specs.Names.{Entry, Frame, Store}
-use Rattle.dpl_meaning.specs.Scopes.{Scoping, fits_all}
+use Rattle.dpl_meaning.specs.Words.{IntKind, Leaf, Words, in_word}
+use Rattle.dpl_meaning.specs.Scopes.{Scoping, Rules, fits_all}
+use Rattle.dpl_meaning.specs.Lowered.{lowered_all}
 
--- the names in sight, with their slots: frames, the innermost scope's first, each in order of declaration
+-- a name in sight, with what stands for it
+pub record Bound : Type 0 where
+  pub text : List ℕ
+  pub leaf : Leaf
+
+-- the names in sight: frames, the innermost scope's first, each in order of declaration
 abbrev pub Sight : Type 0
 Sight = List (List Bound)
 
-abbrev pub slot_in : List ℕ → List Bound → Option ℕ
-slot_in x [] = None
-slot_in x (b ∷ bs) = if bytes_eq x b.text then Some b.slot else slot_in x bs
+abbrev pub leaf_in : List ℕ → List Bound → Option Leaf
+leaf_in x [] = None
+leaf_in x (b ∷ bs) = if bytes_eq x b.text then Some b.leaf else leaf_in x bs
 
-abbrev pub or_slot : Option ℕ → Option ℕ → Option ℕ
-or_slot None o = o
-or_slot (Some k) o = Some k
+abbrev pub or_leaf : Option Leaf → Option Leaf → Option Leaf
+or_leaf None o = o
+or_leaf (Some x) o = Some x
 
--- the slot of a name's innermost declaration
-abbrev pub slot_of : List ℕ → Sight → Option ℕ
-slot_of x [] = None
-slot_of x (f ∷ fs) = or_slot (slot_in x f) (slot_of x fs)
+-- what a name's innermost declaration is
+abbrev pub leaf_of : List ℕ → Sight → Option Leaf
+leaf_of x [] = None
+leaf_of x (f ∷ fs) = or_leaf (leaf_in x f) (leaf_of x fs)
 
+-- a name that no sound program uses has the first slot
+abbrev pub leaf_or_first : Option Leaf → Leaf
+leaf_or_first None = record { kind = IntKind; slot = 0 }
+leaf_or_first (Some x) = x
+
+-- how many names are in sight
+abbrev pub count : Sight → ℕ
+count [] = 0
+count (f ∷ fs) = length f + count fs
+
+abbrev pub bind : Bound → Sight → Sight
+bind x [] = (x ∷ []) ∷ []
+bind x (f ∷ fs) = (f ++ x ∷ []) ∷ fs
+
+-- a declaration, with the slot behind those in sight
+abbrev pub next : List ℕ → Sight → Bound
+next x g = record { text = x; leaf = record { kind = IntKind; slot = count g } }
+
+abbrev pub without_innermost : Sight → Sight
+without_innermost [] = []
+without_innermost (f ∷ fs) = fs
+
+abbrev pub by_sight : Scoping (List ℕ) Leaf Sight
+by_sight = record {
+  leaf = λ x g. leaf_or_first (leaf_of x g);
+  fresh = λ x g. (next x g).leaf;
+  add = λ x g. bind (next x g) g;
+  enter = λ g. [] ∷ g;
+  leave = without_innermost;
+}
+
+-- a program over slots; its top level begins with no name
+abbrev pub lowered_program : ProgramTree (List ℕ) → List (StmtTree Leaf)
+lowered_program t = lowered_all by_sight t.stmts ([] ∷ [])
+
+-- ---- that no two names in sight share a slot
 abbrev pub IsFreshIn : ℕ → List Bound → Type 0
 IsFreshIn k [] = Unit {0}
-IsFreshIn k (b ∷ bs) = (k ≢ b.slot) × IsFreshIn k bs
+IsFreshIn k (b ∷ bs) = (k ≢ b.leaf.slot) × IsFreshIn k bs
 
 -- no name in sight has the slot
 abbrev pub IsFresh : ℕ → Sight → Type 0
@@ -35,48 +76,40 @@ IsFresh k (f ∷ fs) = IsFreshIn k f × IsFresh k fs
 
 abbrev pub IsApartFrame : ℕ → List Bound → Sight → Type 0
 IsApartFrame n [] fs = Unit {0}
-IsApartFrame n (b ∷ bs) fs = (b.slot < n) × IsFreshIn b.slot bs × IsFresh b.slot fs × IsApartFrame n bs fs
+IsApartFrame n (b ∷ bs) fs = (b.leaf.slot < n) × IsFreshIn b.leaf.slot bs × IsFresh b.leaf.slot fs × IsApartFrame n bs fs
 
 -- the slots in sight are below a count, and no two are the same
 abbrev pub IsApart : ℕ → Sight → Type 0
 IsApart n [] = Unit {0}
 IsApart n (f ∷ fs) = IsApartFrame n f fs × IsApart n fs
 
-abbrev pub bind : Bound → Sight → Sight
-bind x [] = (x ∷ []) ∷ []
-bind x (f ∷ fs) = (f ++ x ∷ []) ∷ fs
+abbrev pub IsInSight : List ℕ → Sight → Type 0
+IsInSight x g = (leaf : Leaf) × (leaf_of x g ≡ Some leaf)
 
-abbrev pub without_innermost : Sight → Sight
-without_innermost [] = []
-without_innermost (f ∷ fs) = fs
-
--- each name has the slot of its innermost declaration, and each declaration one below n that no name in sight has
-abbrev pub resolving : ℕ → Scoping Bound Sight
+-- each name that is used is in sight, and each declaration has a slot below n that no name in sight has
+abbrev pub resolving : ℕ → Rules (List ℕ) Sight
 resolving n = record {
-  reads = λ x g. slot_of x.text g ≡ Some x.slot;
-  writes = λ x g. slot_of x.text g ≡ Some x.slot;
-  declares = λ x g. IsFresh x.slot g × (x.slot < n);
-  add = bind;
-  enter = λ g. [] ∷ g;
-  leave = without_innermost;
+  reads = IsInSight;
+  writes = IsInSight;
+  declares = λ x g. IsFresh (count g) g × (count g < n);
 }
 
--- each name of a program has its slot, of so many; its top level begins with no name
-abbrev pub IsResolved : ℕ → ProgramTree Bound → Type 0
-IsResolved slots t = fits_all (resolving slots) t.stmts ([] ∷ [])
+-- so many slots are enough for a program, and each of its names is in sight where it is used
+abbrev pub IsResolved : ℕ → ProgramTree (List ℕ) → Type 0
+IsResolved slots t = fits_all by_sight (resolving slots) t.stmts ([] ∷ [])
 
--- the store that the values in the slots stand for
-abbrev pub entry_at : List Value → Bound → Entry
-entry_at slots b = record { name = b.text; value = get_or slots b.slot (Int (pos 0)) }
+-- ---- the store that the words in the slots stand for
+abbrev pub entry_at : Words → Bound → Entry
+entry_at words b = record { name = b.text; value = in_word b.leaf words }
 
-abbrev pub frame_at : List Value → List Bound → Frame
-frame_at slots bs = map (entry_at slots) bs
+abbrev pub frame_at : Words → List Bound → Frame
+frame_at words bs = map (entry_at words) bs
 
-abbrev pub store_at : List Value → Sight → Store
-store_at slots g = map (frame_at slots) g
+abbrev pub store_at : Words → Sight → Store
+store_at words g = map (frame_at words) g
 
--- the slots stand for the store
-pub record Stands (n : ℕ) (g : Sight) (s : Store) (slots : List Value) : Type 0 where
-  pub values : s ≡ store_at slots g
-  pub count : length slots ≡ n
+-- the words stand for the store
+pub record Stands (n : ℕ) (g : Sight) (s : Store) (words : Words) : Type 0 where
+  pub values : s ≡ store_at words g
+  pub count : length words ≡ n
   pub apart : IsApart n g
