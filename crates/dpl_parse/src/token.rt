@@ -149,7 +149,6 @@ fn named(alloc: Global, at: Place, bytes: &[u8]) -> Result<Name, AllocError>
     Ok(Name {
         at,
         text: Word::from_bytes(alloc, bytes)?,
-        slot: 0,
     })
 }
 

@@ -1,6 +1,6 @@
 -- The language's trees: what is spelled, and where, without where it lies in memory.
--- N is what stands for a name: its text alone as it is spelled, its text and its slot from the check on.
-use Rattle.std.specs.Prelude.{ℕ, ℤ, Bool, Option, List}
+-- N is what stands for a name: its text as it is spelled, a kind and a slot where it is run.
+use Rattle.std.specs.Prelude.{ℤ, Bool, Option, List}
 use Rattle.dpl_syntax.specs.declared.place.Place.{Place}
 use Rattle.dpl_syntax.specs.declared.operator.Prefix.{Prefix}
 use Rattle.dpl_syntax.specs.declared.operator.Infix.{Infix}
@@ -12,11 +12,6 @@ use Rattle.dpl_syntax.specs.declared.tree.DeclaredType.{DeclaredType}
 pub record Placed (N : Type 0) : Type 0 where
   pub at : Place
   pub name : N
-
--- a name's text, and the slot of its declaration
-pub record Bound : Type 0 where
-  pub text : List ℕ
-  pub slot : ℕ
 
 mutual
   -- expressions; a chain is its first operand and the list of the others, grouped to the left

@@ -1,5 +1,5 @@
 -- The plain tree that a tree in memory stands for.
--- `spelled` reads a name as its text, `bound` as its text and slot.
+-- `spelled` reads a name as its text.
 use Rattle.std.specs.Prelude.{ℕ, Option, Some, None, List, [], ◌∷◌, map}
 use Rattle.dpl_syntax.specs.declared.tree.Name.{Name}
 use Rattle.dpl_syntax.specs.declared.tree.Link.{Link as LinkNode}
@@ -10,13 +10,10 @@ use Rattle.dpl_syntax.specs.declared.tree.Intent.{Intent}
 use Rattle.dpl_syntax.specs.declared.tree.Tree.{Tree}
 use Rattle.dpl_syntax.specs.declared.tree.Expr.{Expr, Number as NumberNode, Named as NamedNode, Bracketed', Prefixed', Chain', Row_of-Link, end_of-Link, more_of-Link}
 use Rattle.dpl_syntax.specs.declared.tree.Stmt.{Stmt, Declare as DeclareNode, Assign as AssignNode, Writeln as WritelnNode, Forall'}
-use Rattle.dpl_syntax.specs.Tree.{Placed, Bound, BoundsTree, StrideTree, InitialTree, IntentTree, ExprTree, Number, Named, Bracketed, Prefixed, Chain, Links, NoLinks, Link, StmtTree, Declare, Assigned, Writeln, Forall, ProgramTree}
+use Rattle.dpl_syntax.specs.Tree.{Placed, BoundsTree, StrideTree, InitialTree, IntentTree, ExprTree, Number, Named, Bracketed, Prefixed, Chain, Links, NoLinks, Link, StmtTree, Declare, Assigned, Writeln, Forall, ProgramTree}
 
 abbrev pub spelled : Name → List ℕ
 spelled x = x.text
-
-abbrev pub bound : Name → Bound
-bound x = record { text = x.text; slot = x.slot }
 
 -- over what stands for a name
 module _ {N : Type 0} (name : Name → N) where

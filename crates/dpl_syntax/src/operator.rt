@@ -105,25 +105,29 @@ impl Assign {
     }
 }
 
-fn sum(a: i64, b: i64) -> i64
+/// `+` of numbers.
+pub fn sum(a: i64, b: i64) -> i64
     ensures { result ≡ wrap (a +ℤ b) }
 {
     a.wrapping_add(b)
 }
 
-fn difference(a: i64, b: i64) -> i64
+/// `-` of numbers.
+pub fn difference(a: i64, b: i64) -> i64
     ensures { result ≡ wrap (a -ℤ b) }
 {
     a.wrapping_sub(b)
 }
 
-fn product(a: i64, b: i64) -> i64
+/// `*` of numbers.
+pub fn product(a: i64, b: i64) -> i64
     ensures { result ≡ wrap (a *ℤ b) }
 {
     a.wrapping_mul(b)
 }
 
-fn negative(a: i64) -> i64
+/// `-` before a number.
+pub fn negative(a: i64) -> i64
     ensures { result ≡ wrap (neg_ℤ a) }
 {
     a.wrapping_neg()

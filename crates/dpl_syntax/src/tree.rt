@@ -10,8 +10,6 @@ use crate::word::Word;
 pub struct Name {
     pub at: Place,
     pub text: Word,
-    /// The slot of its declaration, from the check on; 0 before it.
-    pub slot: usize,
 }
 
 /// An expression.

@@ -1,37 +1,39 @@
-// The value of an expression.
-// Operands go from left to right; a fault of one is the fault of all.
+// The values of typed expressions.
+// Operands go from left to right. No operator of ints has a fault, so that each expression has a value.
 
-ghost use Rattle.std.specs.Prelude.{◌≡◌};
+ghost use Rattle.std.specs.Prelude.{◌≡◌, Ok};
+ghost use Rattle.dpl_syntax.specs.declared.value.Value.TheVariants.{Int};
 ghost use Rattle.dpl_meaning.specs.Meaning.{value_of};
-ghost use Rattle.dpl_meaning.specs.Slots.{by_slot};
-ghost use Rattle.dpl_syntax.specs.View.{bound, expr_view};
+ghost use Rattle.dpl_meaning.specs.Words.{by_word};
+ghost use Rattle.dpl_typed.specs.Typed.{int_view};
 
-use crate::frame::Frame;
-use dpl_syntax::tree::Expr;
-use dpl_syntax::{Fault, Value};
+use dpl_syntax::operator::{difference, negative, product, sum};
+use dpl_typed::{Frame, IntExpr};
 
-/// The value of an expression whose names have their slots, at the values of a frame.
-///
-/// # Errors
-/// The fault of its first operand that has one.
-pub fn value(e: &Expr, frame: &Frame) -> Result<Value, Fault>
-    ensures { result ≡ value_of by_slot (expr_view bound e.now) frame.now.values }
+// An operand: a leaf at once, and else by a walk.
+#[cycle(walk)]
+#[inline(always)]
+fn operand(e: &IntExpr, frame: &Frame) -> i64
+    ensures { value_of by_word (int_view e.now) frame.now.words ≡ Ok (Int result) }
 {
     match e {
-        Expr::Number(_, n) => Ok(Value::Int(*n)),
-        Expr::Named(x) => Ok(frame.get(x.slot)),
-        Expr::Bracketed { inner, .. } => value(inner, frame),
-        Expr::Prefixed(_, op, operand) => {
-            let v = value(operand, frame)?;
-            Ok(op.apply(v))
-        }
-        Expr::Chain(first, rest) => {
-            let mut v = value(first, frame)?;
-            for link in rest {
-                let w = value(&link.right, frame)?;
-                v = link.op.apply(v, w);
-            }
-            Ok(v)
-        }
+        IntExpr::Local(slot) => frame.word(*slot),
+        IntExpr::Number(n) => *n,
+        _ => int_value(e, frame),
+    }
+}
+
+/// The value of an int, at the words of a frame.
+#[cycle(walk)]
+pub fn int_value(e: &IntExpr, frame: &Frame) -> i64
+    ensures { value_of by_word (int_view e.now) frame.now.words ≡ Ok (Int result) }
+{
+    match e {
+        IntExpr::Number(n) => *n,
+        IntExpr::Local(slot) => frame.word(*slot),
+        IntExpr::Negative(e) => negative(operand(e, frame)),
+        IntExpr::Sum(a, b) => sum(operand(a, frame), operand(b, frame)),
+        IntExpr::Difference(a, b) => difference(operand(a, frame), operand(b, frame)),
+        IntExpr::Product(a, b) => product(operand(a, frame), operand(b, frame)),
     }
 }

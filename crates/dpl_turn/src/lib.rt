@@ -1,11 +1,9 @@
-// The innermost layer of a run: the value of an expression, and a turn of a forall's body, over slots.
-// Neither takes memory.
+// The innermost layer of a run: the value of an expression, and a turn of a forall's body, over typed trees.
+// Neither takes memory, and neither has a fault.
 #![tactic(auto)]
 
 pub mod body;
 pub mod expression;
-pub mod frame;
 
 pub use body::turn;
-pub use expression::value;
-pub use frame::Frame;
+pub use expression::int_value;
