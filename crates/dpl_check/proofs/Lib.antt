@@ -1,10 +1,10 @@
 pub mod Lookups
 pub mod FirstOf
-pub mod Binding
+pub mod InSight
 pub mod Empty
 pub mod Passes
-pub mod Respelled
 pub mod Resolving
+pub mod Elaborating
 pub mod Checks
 pub mod Unrefused
 pub mod Worked

@@ -51,12 +51,6 @@ place_in-found scope x place e = found e ∙ place_in-keys scope x
     found = elim (nat_lt (position_or_len (bytes_eq x) (keys_of scope)) (length (keys_of scope))) as (λ t. cond t (Some (position_or_len (bytes_eq x) (keys_of scope))) None ≡ Some place → place ≡ position_or_len (bytes_eq x) (keys_of scope))
         [ true ↦ λ e. cc | false ↦ λ e. cc ]
 
-pub place_in-absent : (scope : Scope) (x : List ℕ) → knows scope x ≡ false → length scope ≡ place_in scope x
-place_in-absent [] x = λ e. refl
-place_in-absent (d ∷ ds) x =
-    elim (bytes_eq x d.0) as (λ t. (if t then true else knows ds x) ≡ false → suc (length ds) ≡ (if t then 0 else suc (place_in ds x)))
-    [ true ↦ λ e. cc | false ↦ λ e. ap suc (place_in-absent ds x e) ]
-
 pub insert_entry-unknown : (scope : Scope) (x : List ℕ) (constant : Bool) → knows scope x ≡ false → insert_entry bytes_eq scope x constant ≡ scope ++ (x, constant) ∷ []
 insert_entry-unknown [] x constant = λ e. refl
 insert_entry-unknown (d ∷ ds) x constant =

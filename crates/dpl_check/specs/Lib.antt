@@ -4,5 +4,6 @@ pub mod Breaches
 pub mod Sound
 -- What serves contracts and proofs alone.
 pub mod Slots
+pub mod Elaborated
 pub mod Around
 pub mod Stops

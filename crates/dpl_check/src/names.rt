@@ -1,9 +1,12 @@
 // The names of the top level, in order of declaration.
 // Each is there once; the place of a name is its slot.
 
-ghost use Rattle.std.specs.Prelude.{◌≡◌, OnOk, OnErr, length, [], ◌+◌};
+ghost use Rattle.std.specs.Prelude.{◌≡◌, OnOk, OnErr, length, [], ◌+◌, slice_get, option_map};
 ghost use Rattle.dpl_check.specs.Sights.{Scope, knows, has_constant, declared};
-ghost use Rattle.dpl_check.specs.Slots.{place_in};
+ghost use Rattle.dpl_check.specs.Slots.{names_of, top};
+ghost use Rattle.dpl_meaning.specs.Words.{int_at};
+ghost use Rattle.dpl_meaning.specs.Lowered.{leaf_at};
+ghost use Rattle.dpl_meaning.specs.Resolved.{by_sight};
 
 use dpl_syntax::Word;
 use indexmap::IndexMap;
@@ -63,13 +66,23 @@ impl Names {
         }
     }
 
-    /// The place of the name in the order of declaration; how many there are, if it is not declared.
-    pub(crate) fn place(&self, name: &Word) -> usize
-        ensures { result ≡ place_in self.now name.now }
+    /// The slot of the name, its place in the order of declaration; the first, if it is not declared.
+    pub(crate) fn slot(&self, name: &Word) -> usize
+        ensures { int_at result ≡ leaf_at by_sight (top self.now) name.now }
     {
         match self.constants.get_index_of(name) {
             Some(place) => place,
-            None => self.constants.len(),
+            None => 0,
+        }
+    }
+
+    /// The name that has a place, if one has it.
+    pub(crate) fn name(&self, place: usize) -> Option<&Word>
+        ensures { option_map (λ x. x.now) result ≡ slice_get (names_of self.now) place }
+    {
+        match self.constants.get_index(place) {
+            Some((name, _)) => Some(name),
+            None => None,
         }
     }
 

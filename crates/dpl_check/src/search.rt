@@ -220,7 +220,7 @@ fn read_all(es: &[Expr], names: &Names, first: &mut Option<Breach>)
 }
 
 // The name that a statement declares is known behind it.
-fn declare(stmt: &Stmt, names: &mut Names) -> Result<(), AllocError>
+pub(crate) fn declare(stmt: &Stmt, names: &mut Names) -> Result<(), AllocError>
     ensures ok { OnOk result (names.new ≡ behind names.old (stmt_view spelled stmt.now)) }
     ensures err { OnErr result (names.new ≡ names.old) }
 {

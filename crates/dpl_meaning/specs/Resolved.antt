@@ -1,9 +1,9 @@
 -- Names and their slots: each name in sight stands for its innermost declaration.
 -- A declaration has the slot behind those in sight, so that scopes that follow one another share slots.
-use Rattle.std.specs.Prelude.{◌≡◌, ◌≢◌, ℕ, ◌+◌, ◌<◌, pos, bytes_eq, if◌then◌else◌, List, [], ◌∷◌, ◌++◌, Option, Some, None, map, length}
-use Rattle.dpl_syntax.specs.Tree.{StmtTree, ProgramTree}
+use Rattle.std.specs.Prelude.{◌≡◌, ◌≢◌, ℕ, suc, ◌+◌, ◌<◌, bytes_eq, if◌then◌else◌, List, [], ◌∷◌, ◌++◌, Option, Some, None, map, length}
+use Rattle.dpl_syntax.specs.Tree.{StmtTree, Declare, Assigned, Writeln, Forall, ProgramTree}
 use Rattle.dpl_meaning.specs.Names.{Entry, Frame, Store}
-use Rattle.dpl_meaning.specs.Words.{IntKind, Leaf, Words, in_word}
+use Rattle.dpl_meaning.specs.Words.{Leaf, int_at, Words, in_word}
 use Rattle.dpl_meaning.specs.Scopes.{Scoping, Rules, fits_all}
 use Rattle.dpl_meaning.specs.Lowered.{lowered_all}
 
@@ -31,7 +31,7 @@ leaf_of x (f ∷ fs) = or_leaf (leaf_in x f) (leaf_of x fs)
 
 -- a name that no sound program uses has the first slot
 abbrev pub leaf_or_first : Option Leaf → Leaf
-leaf_or_first None = record { kind = IntKind; slot = 0 }
+leaf_or_first None = int_at 0
 leaf_or_first (Some x) = x
 
 -- how many names are in sight
@@ -45,7 +45,7 @@ bind x (f ∷ fs) = (f ++ x ∷ []) ∷ fs
 
 -- a declaration, with the slot behind those in sight
 abbrev pub next : List ℕ → Sight → Bound
-next x g = record { text = x; leaf = record { kind = IntKind; slot = count g } }
+next x g = record { text = x; leaf = int_at (count g) }
 
 abbrev pub without_innermost : Sight → Sight
 without_innermost [] = []
@@ -63,6 +63,23 @@ by_sight = record {
 -- a program over slots; its top level begins with no name
 abbrev pub lowered_program : ProgramTree (List ℕ) → List (StmtTree Leaf)
 lowered_program t = lowered_all by_sight t.stmts ([] ∷ [])
+
+-- names in the slots from a first one on
+abbrev pub numbered : ℕ → List (List ℕ) → List Bound
+numbered k [] = []
+numbered k (x ∷ xs) = record { text = x; leaf = int_at k } ∷ numbered (suc k) xs
+
+-- the names that a statement declares, one or none
+abbrev pub names_in : StmtTree (List ℕ) → List (List ℕ)
+names_in (Declare at constant x declared initial semicolon) = x.name ∷ []
+names_in (Assigned x at op e semicolon) = []
+names_in (Writeln at from arguments commas upto semicolon) = []
+names_in (Forall at x within r intent doing body) = []
+
+-- those of statements, in order
+abbrev pub declared_names : List (StmtTree (List ℕ)) → List (List ℕ)
+declared_names [] = []
+declared_names (t ∷ ts) = names_in t ++ declared_names ts
 
 -- ---- that no two names in sight share a slot
 abbrev pub IsFreshIn : ℕ → List Bound → Type 0

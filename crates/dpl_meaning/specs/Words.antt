@@ -15,6 +15,9 @@ pub record Leaf : Type 0 where
   pub kind : Kind
   pub slot : ℕ
 
+abbrev pub int_at : ℕ → Leaf
+int_at slot = record { kind = IntKind; slot = slot }
+
 abbrev pub Words : Type 0
 Words = List ℤ
 

@@ -8,4 +8,4 @@ pub mod tree;
 
 pub use frame::Frame;
 pub use make::{combined, prefixed};
-pub use tree::{Assignment, Bounds, IntExpr, Step};
+pub use tree::{Assignment, IntExpr, RangeExpr, Step};

@@ -23,9 +23,9 @@ pub struct Assignment {
     pub value: IntExpr,
 }
 
-/// What a loop runs over, with the places where a bound and the stride are told to be past their limits.
+/// An expression that is a range, with the places where a bound and the stride are told to be past their limits.
 #[derive(Drop)]
-pub struct Bounds {
+pub struct RangeExpr {
     pub low: IntExpr,
     pub dots: Place,
     pub high: IntExpr,
@@ -47,7 +47,7 @@ pub enum Step {
     Forall {
         at: Place,
         slot: usize,
-        over: Bounds,
+        over: RangeExpr,
         body: Assignment,
     },
 }
