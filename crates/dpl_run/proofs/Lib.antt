@@ -1,6 +1,6 @@
 pub mod Taking
 pub mod Turning
-pub mod Foralls
+pub mod Collecting
 pub mod LineEnds
 pub mod Meaning
 pub mod OneOutcome

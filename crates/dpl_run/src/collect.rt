@@ -1,39 +1,41 @@
 // The variables of the top level, collected when a run has ended.
-// Their values lie in the slots of the run's frame.
+// Their values are the words of their slots.
 
-ghost use Rattle.std.specs.Prelude.{◌≡◌, ◌++◌, IfOk, OnOk, map};
-ghost use Rattle.dpl_syntax.specs.View.{bound, stmt_view};
-ghost use Rattle.dpl_meaning.specs.Resolved.{frame_at};
-ghost use Rattle.dpl_run.specs.Leaving.{entry_of, names_of, declared_names};
+ghost use Rattle.std.specs.Prelude.{◌≡◌, IfOk};
+ghost use Rattle.dpl_syntax.specs.View.{tree_view, spelled};
+ghost use Rattle.dpl_meaning.specs.Words.{int_at};
+ghost use Rattle.dpl_meaning.specs.Resolved.{entry_at, frame_at, numbered, declared_names};
+ghost use Rattle.dpl_run.specs.Leaving.{entry_of};
 
 use crate::left::{Left, Variable};
-use dpl_syntax::tree::Stmt;
-use dpl_turn::Frame;
+use dpl_check::Checked;
+use dpl_syntax::{Value, Word};
+use dpl_typed::Frame;
 use std::alloc::{AllocError, Global};
 
-// The variable that a statement declares, if it declares one.
-fn note(stmt: &Stmt, frame: &Frame, variables: &mut Vec<Variable>) -> Result<(), AllocError>
-    ensures { OnOk result (map entry_of variables.new.items ≡ map entry_of variables.old.items ++ frame_at frame.now.values (names_of (stmt_view bound stmt.now))) }
+// The variable of a name, which has a slot.
+fn variable(name: &Word, slot: usize, frame: &Frame) -> Result<Variable, AllocError>
+    ensures { IfOk result (λ v. entry_of v ≡ entry_at frame.now.words (record { text = name.now; leaf = int_at slot })) }
 {
-    if let Stmt::Declare { name, .. } = stmt {
-        variables.push(Variable {
-            name: name.text.clone()?,
-            value: frame.get(name.slot),
-        })?;
-    }
-    Ok(())
+    Ok(Variable {
+        name: name.clone()?,
+        value: Value::Int(frame.word(slot)),
+    })
 }
 
-/// The variables that statements declare, with their values in a frame.
+/// The variables of a program's top level, with their values in a frame.
 ///
 /// # Errors
 /// Out of memory for them.
-pub(crate) fn collect(alloc: Global, stmts: &[Stmt], frame: &Frame) -> Result<Left, AllocError>
-    ensures { IfOk result (λ left. left ≡ frame_at frame.now.values (declared_names (map (stmt_view bound) stmts.now))) }
+pub(crate) fn collect(alloc: Global, program: &Checked, frame: &Frame) -> Result<Left, AllocError>
+    ensures { IfOk result (λ left. left ≡ frame_at frame.now.words (numbered 0 (declared_names (tree_view spelled program.now).stmts))) }
 {
     let mut variables = Vec::new(alloc);
-    for stmt in stmts {
-        note(stmt, frame, &mut variables)?;
+    for slot in 0..program.variables() {
+        let Some(name) = program.variable(slot) else {
+            unreachable!()
+        };
+        variables.push(variable(name, slot, frame)?)?;
     }
     Ok(Left { variables })
 }

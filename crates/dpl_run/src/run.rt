@@ -18,7 +18,7 @@ use crate::refused::Refused;
 use crate::statements::statements;
 use crate::writer::{Out, write_all};
 use dpl_check::Checked;
-use dpl_turn::Frame;
+use dpl_typed::Frame;
 use std::alloc::{AllocError, Global};
 
 /// What a run came to, and all that it writes.
@@ -37,9 +37,9 @@ pub(crate) fn run(alloc: Global, program: &Checked, config: &Config) -> Result<E
 {
     let mut frame = Frame::new(alloc, program.slots(), config.budget(), config.locales())?;
     let mut text = Vec::new(alloc);
-    match statements(alloc, program.stmts(), &mut frame, &mut text) {
+    match statements(alloc, program.steps(), &mut frame, &mut text) {
         Ok(()) => {
-            let outcome = Outcome::Done(collect(alloc, program.stmts(), &frame)?);
+            let outcome = Outcome::Done(collect(alloc, program, &frame)?);
             Ok(Ended { outcome, text })
         }
         Err(Halt::Fault(fault)) => {
