@@ -4,9 +4,9 @@
 use super::SQUARES;
 use dpl_check::{Checked, check};
 use dpl_parse::parse;
-use dpl_syntax::tree::Stmt;
-use dpl_syntax::{Value, lex};
-use dpl_turn::{Frame, turn};
+use dpl_syntax::lex;
+use dpl_turn::turn;
+use dpl_typed::{Frame, Step};
 use std::alloc::Global;
 use std::test::Fail;
 
@@ -58,25 +58,18 @@ const TURNS: [(&str, [i64; 3], [i64; 3]); 4] = [
     ),
 ];
 
-fn make_turn(body: &Stmt, frame: &mut Frame) -> Result<(), Fail> {
-    match body {
-        Stmt::Assign { .. } => Ok(turn(body, frame)?),
-        _ => Err(Fail::new("no body of a forall")),
-    }
-}
-
 fn turned(alloc: Global, text: &str, before: [i64; 3]) -> Result<[i64; 3], Fail> {
     let program = checked(alloc, text)?;
     let mut frame = Frame::new(alloc, program.slots(), 9, 3)?;
     for slot in 0..3 {
-        frame.set(slot, Value::Int(before[slot]));
+        frame.set_word(slot, before[slot]);
     }
-    for stmt in program.stmts() {
-        if let Stmt::Forall { body, .. } = stmt {
-            make_turn(body, &mut frame)?;
+    for step in program.steps() {
+        if let Step::Forall { body, .. } = step {
+            turn(body, &mut frame);
         }
     }
-    Ok([0, 1, 2].map(|slot: usize| frame.get(slot).number()))
+    Ok([0, 1, 2].map(|slot: usize| frame.word(slot)))
 }
 
 #[test]
@@ -92,12 +85,12 @@ fn turns(rt: HostRuntime) -> Result<(), Fail> {
 fn a_frame(rt: HostRuntime) -> Result<(), Fail> {
     let mut frame = Frame::new(rt.alloc(), 2, 9, 3)?;
     assert!(rt; frame.budget() == 9 && frame.locales() == 3);
-    assert!(rt; frame.get(1) == Value::Int(0));
-    frame.set(1, Value::Bool(true));
-    frame.set(2, Value::Int(7));
-    assert!(rt; frame.get(0) == Value::Int(0));
-    assert!(rt; frame.get(1) == Value::Bool(true));
-    assert!(rt; frame.get(2) == Value::Int(0));
+    assert!(rt; frame.word(1) == 0);
+    frame.set_word(1, -5);
+    frame.set_word(2, 7);
+    assert!(rt; frame.word(0) == 0);
+    assert!(rt; frame.word(1) == -5);
+    assert!(rt; frame.word(2) == 0);
     assert!(rt; Frame::new(rt.alloc(), usize::MAX, 9, 3).is_err());
     Ok(())
 }
