@@ -12,7 +12,7 @@ use Rattle.dpl_check.specs.Sights.{Scope, knows, declared, behind}
 use Rattle.dpl_check.specs.Sound.{IsSoundStmt}
 use Rattle.dpl_check.specs.Slots.{names_of, place_in, top, sight_for}
 
-length-names_of : (scope : Scope) → length (names_of scope) ≡ length scope
+pub length-names_of : (scope : Scope) → length (names_of scope) ≡ length scope
 length-names_of [] = refl
 length-names_of (d ∷ ds) = ap suc (length-names_of ds)
 

@@ -33,17 +33,6 @@ place_in-keys (d ∷ ds) x =
     elim (bytes_eq x d.0) as (λ t. cond (not t) (1 + position_or_len (bytes_eq x) (keys_of ds)) 0 ≡ (if t then 0 else suc (place_in ds x)))
     [ true ↦ refl | false ↦ more ]
 
-pub place_in-bounded : (scope : Scope) (x : List ℕ) → place_in scope x ≤ length scope
-place_in-bounded [] x = omega arith
-place_in-bounded (d ∷ ds) x =
-    let less : place_in ds x ≤ length ds = place_in-bounded ds x in
-    elim (bytes_eq x d.0) as (λ t. (if t then 0 else suc (place_in ds x)) ≤ suc (length ds))
-    [ true ↦ omega arith | false ↦ omega (arith, less) ]
-
-length-keys_of : (scope : Scope) → length (keys_of scope) ≡ length scope
-length-keys_of [] = refl
-length-keys_of (d ∷ ds) = ap suc (length-keys_of ds)
-
 pub place_in-found : (scope : Scope) (x : List ℕ) (place : ℕ) → position (bytes_eq x) (keys_of scope) ≡ Some place → place ≡ place_in scope x
 place_in-found scope x place e = found e ∙ place_in-keys scope x
   where

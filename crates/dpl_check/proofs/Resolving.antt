@@ -10,7 +10,7 @@ use Rattle.dpl_check.specs.Sights.{Scope, knows, behind, behind_all, declared, L
 use Rattle.dpl_check.specs.Breaches.{reads, link_reads, all_reads, stride_reads, bounds_reads, initial_reads}
 use Rattle.dpl_check.specs.Sound.{Each, IsKnown, Outside, IsSoundBody, IsSoundStmt, AreSound}
 use Rattle.dpl_check.specs.Slots.{names_of, place_in, top, sight_for}
-use Rattle.dpl_check.proofs.InSight.{count_top, count_turn, leaf_of-known, names_of-behind, after_behind}
+use Rattle.dpl_check.proofs.InSight.{length-names_of, count_top, count_turn, leaf_of-known, names_of-behind, after_behind}
 use Rattle.dpl_meaning.specs.Bodies.{IsBody, HasBody}
 
 -- ---- the names of expressions, where each that is read is in sight
@@ -60,12 +60,8 @@ IsFreshIn-numbered : (n k : ℕ) (xs : List (List ℕ)) → k + length xs ≤ n 
 IsFreshIn-numbered n k [] h = tt
 IsFreshIn-numbered n k (x ∷ xs) h = ((λ e. omega (arith, h, e)), IsFreshIn-numbered n (suc k) xs (omega (arith, h)))
 
-length-names : (scope : Scope) → length (names_of scope) ≡ length scope
-length-names [] = refl
-length-names (d ∷ ds) = ap suc (length-names ds)
-
 fresh-top : (scope : Scope) (n : ℕ) → n ≡ length scope → IsFreshIn n (numbered 0 (names_of scope))
-fresh-top scope n is = IsFreshIn-numbered n 0 (names_of scope) (omega (arith, is, length-names scope))
+fresh-top scope n is = IsFreshIn-numbered n 0 (names_of scope) (omega (arith, is, length-names_of scope))
 
 -- ---- names in sight
 top-stands : (scope : Scope) (x : Placed (List ℕ)) → IsKnown scope x → IsInSight x.name (top scope)

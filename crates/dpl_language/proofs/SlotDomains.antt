@@ -5,7 +5,7 @@ use Rattle.std.specs.Prelude.{bytes_eq, ◌==◌, ◌||◌, if◌then◌else◌,
 use Rattle.std.proofs.lemmas.Bool.Decides.{Decides-eqb}
 use Rattle.std.proofs.lemmas.List.{append_assoc}
 use Rattle.std.proofs.lemmas.Slice.Eq.{bytes_eq-Decides}
-use Rattle.dpl_syntax.specs.Tree.{Bound}
+use Rattle.dpl_language.proofs.Slots.{Bound}
 use Rattle.dpl_range.specs.Equality.{TextRange}
 use Rattle.dpl_language.specs.Values.{Domain}
 use Rattle.dpl_language.specs.Environment.{Content, Plain, ArrayOf, CellOf}

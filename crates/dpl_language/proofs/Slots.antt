@@ -4,11 +4,15 @@ use Rattle.std.proofs.Common.{◌≡◌, ◌≢◌, ℕ, true, false, pos, List,
 use Rattle.std.specs.Prelude.{bytes_eq, ◌==◌, if◌then◌else◌, option_map}
 use Rattle.std.proofs.lemmas.Bool.Decides.{Decides-eqb}
 use Rattle.std.proofs.lemmas.List.{map-append}
-use Rattle.dpl_syntax.specs.Tree.{Bound}
 use Rattle.dpl_language.specs.Values.{Int}
 use Rattle.dpl_language.specs.Environment.{Content, Plain}
 use Rattle.dpl_language.specs.Names.{Text, Entry, Frame, Store, in_frame, or_content, look_up, behind_entry, changed, or_store, change_in, declare_in, without_innermost}
 use Rattle.dpl_language.specs.Renamed.{renamed_content}
+
+-- a name's text, and the slot of its declaration
+pub record Bound : Type 0 where
+  pub text : List ℕ
+  pub slot : ℕ
 
 -- WHAT IS IN SIGHT: frames, the innermost scope's first, each in order of declaration
 abbrev pub Sight : Type 0

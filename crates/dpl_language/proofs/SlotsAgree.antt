@@ -8,7 +8,7 @@ use Rattle.dpl_history.specs.declared.cell.Reply.{Reply}
 use Rattle.dpl_history.specs.declared.history.Event.{Event}
 use Rattle.dpl_history.specs.Cells.{effect}
 use Rattle.dpl_history.specs.Histories.{after}
-use Rattle.dpl_syntax.specs.Tree.{Bound}
+use Rattle.dpl_language.proofs.Slots.{Bound}
 use Rattle.dpl_range.specs.Equality.{TextRange}
 use Rattle.dpl_language.specs.Tree.{Op, Assign, Set, SetAdd, SetSubtract, SetMultiply, SetDivide, SetRemainder, SetReduce, ProgramTree}
 use Rattle.dpl_language.specs.Values.{Value, Index, index_of, array_domain, is_domain}

@@ -6,7 +6,7 @@ use Rattle.std.specs.Int.{int_wrap}
 use Rattle.std.specs.Fmt.{digits}
 use Rattle.dpl_range.specs.Members.{members}
 use Rattle.dpl_domain.specs.Indices.{indices}
-use Rattle.dpl_syntax.specs.Tree.{Bound}
+use Rattle.dpl_language.proofs.Slots.{Bound}
 use Rattle.dpl_language.specs.Tree.{ProgramTree}
 use Rattle.dpl_language.specs.Environment.{Plain}
 use Rattle.dpl_language.specs.Values.{AllLocales}

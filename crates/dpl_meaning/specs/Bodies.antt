@@ -1,6 +1,5 @@
 -- The body of a forall is an assignment: the grammar has no other, and a sound program has none.
--- A tree that no text spells may have one, which walkers are not asked to walk.
-use Rattle.std.specs.Prelude.{List, [], ◌∷◌}
+-- A tree that no text spells may have another, which nothing is asked to elaborate.
 use Rattle.dpl_syntax.specs.Tree.{StmtTree, Declare, Assigned, Writeln, Forall}
 
 -- an assignment
@@ -16,8 +15,3 @@ HasBody (Declare at constant x declares initial semicolon) = Unit {0}
 HasBody (Assigned x at op e semicolon) = Unit {0}
 HasBody (Writeln at from arguments commas upto semicolon) = Unit {0}
 HasBody (Forall at x within r intent doing body) = IsBody body
-
--- and so has each of some statements
-abbrev pub HaveBodies : {N : Type 0} → List (StmtTree N) → Type 0
-HaveBodies [] = Unit {0}
-HaveBodies (t ∷ ts) = HasBody t × HaveBodies ts
