@@ -3,7 +3,6 @@
 use Rattle.std.proofs.Common.{◌≡◌, ℕ, ◌+◌, List, [], ◌∷◌, ◌++◌, length, sym, ap, ◌∙◌, map, append_assoc}
 use Rattle.std.proofs.lemmas.List.{map-append}
 use Rattle.dpl_syntax.specs.Tree.{StmtTree, ProgramTree}
-use Rattle.dpl_meaning.specs.Words.{Leaf}
 use Rattle.dpl_meaning.specs.Lowered.{lowered_stmt, lowered_all}
 use Rattle.dpl_meaning.specs.Resolved.{by_sight}
 use Rattle.dpl_typed.specs.declared.tree.Step.{Step}

@@ -4,11 +4,11 @@ use Rattle.std.proofs.Common.{◌≡◌, ℕ, suc, ◌+◌, true, false, List, [
 use Rattle.std.specs.Prelude.{bytes_eq, if◌then◌else◌}
 use Rattle.dpl_syntax.specs.Tree.{StmtTree, Declare, Assigned, Writeln, Forall}
 use Rattle.dpl_meaning.specs.Words.{Leaf, int_at}
-use Rattle.dpl_meaning.specs.Scopes.{after, at_turn, inside}
+use Rattle.dpl_meaning.specs.Scopes.{after}
 use Rattle.dpl_meaning.specs.Lowered.{leaf_at}
-use Rattle.dpl_meaning.specs.Resolved.{Sight, leaf_in, or_leaf, leaf_of, leaf_or_first, count, numbered, by_sight, names_in}
+use Rattle.dpl_meaning.specs.Resolved.{leaf_in, or_leaf, leaf_of, leaf_or_first, count, numbered, by_sight, names_in}
 use Rattle.dpl_meaning.proofs.Tops.{length-numbered, after-top_level}
-use Rattle.dpl_check.specs.Sights.{Scope, knows, declared, behind}
+use Rattle.dpl_check.specs.Sights.{Scope, knows, behind}
 use Rattle.dpl_check.specs.Sound.{IsSoundStmt}
 use Rattle.dpl_check.specs.Slots.{names_of, place_in, top, sight_for}
 

@@ -1,12 +1,12 @@
 -- Where a program is sound, each of its names is in sight where it is used, and one slot more than names is enough.
 -- What is in sight at the top level is the scope, each name in the slot of its place.
-use Rattle.std.proofs.Common.{◌≡◌, ℕ, suc, ◌+◌, ◌<◌, ◌≤◌, Bool, true, false, List, [], ◌∷◌, ◌++◌, length, refl, sym, ap, ◌∙◌, subst, arith, Option, Some, None, append_assoc, append-nil, length-append}
+use Rattle.std.proofs.Common.{◌≡◌, ℕ, suc, ◌+◌, ◌<◌, ◌≤◌, true, false, List, [], ◌∷◌, ◌++◌, length, refl, sym, ap, ◌∙◌, subst, arith, Option, Some, None, append_assoc, append-nil, length-append}
 use Rattle.std.specs.Prelude.{bytes_eq, if◌then◌else◌}
 use Rattle.dpl_syntax.specs.Tree.{Placed, BoundsTree, StrideTree, InitialTree, ExprTree, Number, Named, Bracketed, Prefixed, Chain, Links, NoLinks, Link, StmtTree, Declare, Assigned, Writeln, Forall, ProgramTree}
 use Rattle.dpl_meaning.specs.Words.{Leaf, int_at}
-use Rattle.dpl_meaning.specs.Scopes.{fits_expr, fits_links, fits_each, fits_stride, fits_bounds, fits_initial, fits, fits_all, after, inside}
+use Rattle.dpl_meaning.specs.Scopes.{fits_expr, fits_links, fits_each, fits_stride, fits_bounds, fits_initial, fits, fits_all}
 use Rattle.dpl_meaning.specs.Resolved.{Sight, or_leaf, leaf_of, count, numbered, IsFreshIn, IsInSight, by_sight, resolving, IsResolved, declared_names, names_in}
-use Rattle.dpl_check.specs.Sights.{Scope, knows, behind, behind_all, declared, Loop}
+use Rattle.dpl_check.specs.Sights.{Scope, knows, behind, behind_all, Loop}
 use Rattle.dpl_check.specs.Breaches.{reads, link_reads, all_reads, stride_reads, bounds_reads, initial_reads}
 use Rattle.dpl_check.specs.Sound.{Each, IsKnown, Outside, IsSoundBody, IsSoundStmt, AreSound}
 use Rattle.dpl_check.specs.Slots.{names_of, place_in, top, sight_for}

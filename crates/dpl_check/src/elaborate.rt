@@ -172,9 +172,7 @@ fn step(alloc: Global, stmt: &Stmt, names: &Names) -> Result<Step, AllocError>
             op,
             value,
             ..
-        } => Ok(Step::Assign(assignment(
-            alloc, name, *op, value, names, None,
-        )?)),
+        } => Ok(Step::Assign(assignment(alloc, name, *op, value, names, None)?)),
         Stmt::Writeln { arguments, .. } => Ok(Step::Writeln(ints(alloc, arguments, names)?)),
         Stmt::Forall {
             at,

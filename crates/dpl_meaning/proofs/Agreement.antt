@@ -1,6 +1,6 @@
 -- Two ways to keep variables that agree give the same meaning to every tree that fits, before and after it is lowered.
 -- One lemma for each way in which runs are put together, and then one for each kind of node.
-use Rattle.std.proofs.Common.{◌≡◌, ℕ, ℤ, pos, Bool, true, false, List, [], ◌∷◌, ◌++◌, refl, sym, ap, ◌∙◌, subst, Ok, Err, Some, None, Result, Option, nat_lt, length, map}
+use Rattle.std.proofs.Common.{◌≡◌, ℕ, ℤ, Bool, true, false, List, [], ◌∷◌, ◌++◌, refl, sym, ap, ◌∙◌, subst, Ok, Err, Some, None, Result, Option, nat_lt, length, map}
 use Rattle.std.specs.Prelude.{IfOk}
 use Rattle.dpl_syntax.specs.declared.place.Place.{Place}
 use Rattle.dpl_syntax.specs.declared.operator.Infix.{Infix}

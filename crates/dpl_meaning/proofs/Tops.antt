@@ -3,7 +3,7 @@ use Rattle.std.proofs.Common.{◌≡◌, ℕ, suc, ◌+◌, List, [], ◌∷◌,
 use Rattle.dpl_syntax.specs.Tree.{StmtTree, Declare, Assigned, Writeln, Forall}
 use Rattle.dpl_meaning.specs.Words.{int_at}
 use Rattle.dpl_meaning.specs.Scopes.{after, after_all}
-use Rattle.dpl_meaning.specs.Resolved.{Bound, Sight, by_sight, numbered, names_in, declared_names}
+use Rattle.dpl_meaning.specs.Resolved.{Sight, by_sight, numbered, names_in, declared_names}
 
 pub length-numbered : (k : ℕ) (xs : List (List ℕ)) → length (numbered k xs) ≡ length xs
 length-numbered k [] = refl

@@ -132,9 +132,10 @@ changed-present : (n : ℕ) (x : List ℕ) (bs : List Bound) (fs : Sight) (s : W
 changed-present n x [] fs s v y h g len = λ e. cc
 changed-present n x (b ∷ bs) fs s v y h g len =
     elim (bytes_eq x b.text) as (λ t. (if t then Some b.leaf else leaf_in x bs) ≡ Some y →
-    (if t then Some (record { name = b.text; value = v } ∷ frame_at s bs) else under (entry_at s b) (changed x v (frame_at s bs))) ≡ Some (frame_at (set s y.slot (number v)) (b ∷ bs)))
-    [ true ↦ λ e. changed_here n b bs s v y h g.0 g.1 len (cc)
-    | false ↦ λ e. changed_behind _ b bs s (number v) y.slot (fresh_apart x bs b.leaf.slot y g.1 e) (changed-present n x bs fs s v y h g.3 len e) ]
+    (if t then Some (record { name = b.text; value = v } ∷ frame_at s bs) else under (entry_at s b) (changed x v (frame_at s bs))) ≡ Some (frame_at (set s y.slot (number v)) (b ∷ bs))) [
+      | true ↦ λ e. changed_here n b bs s v y h g.0 g.1 len (cc)
+      | false ↦ λ e. changed_behind _ b bs s (number v) y.slot (fresh_apart x bs b.leaf.slot y g.1 e) (changed-present n x bs fs s v y h g.3 len e)
+    ]
 
 -- a slot that is found in a frame is in none further out
 fresh_outside : (n : ℕ) (x : List ℕ) (bs : List Bound) (fs : Sight) (y : Leaf) → IsApartFrame n bs fs → leaf_in x bs ≡ Some y → IsFresh y.slot fs

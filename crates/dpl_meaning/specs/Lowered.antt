@@ -1,6 +1,6 @@
 -- A tree without what its meaning doesn't need: each name is what stands for it, brackets go, each operator has two operands,
 -- what is left out is written, and the places of faults alone are left.
-use Rattle.std.specs.Prelude.{ℕ, pos, false, Option, Some, None, List, [], ◌∷◌, map}
+use Rattle.std.specs.Prelude.{pos, false, Option, Some, None, List, [], ◌∷◌, map}
 use Rattle.dpl_syntax.specs.declared.place.Place.{Place}
 use Rattle.dpl_syntax.specs.declared.operator.Infix.{Infix}
 use Rattle.dpl_syntax.specs.Tree.{Placed, BoundsTree, StrideTree, InitialTree, ExprTree, Number, Named, Bracketed, Prefixed, Chain, Links, NoLinks, Link, StmtTree, Declare, Assigned, Writeln, Forall}

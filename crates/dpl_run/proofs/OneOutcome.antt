@@ -18,7 +18,7 @@ use Rattle.dpl_meaning.specs.Names.{Store}
 use Rattle.dpl_meaning.specs.Program.{meaning, written, top_level}
 use Rattle.dpl_run.specs.declared.outcome.Outcome.{Outcome}
 use Rattle.dpl_run.specs.declared.outcome.Outcome.TheVariants.{Done, Stopped, Rejected}
-use Rattle.dpl_run.specs.Headline.{EndsAs, Means, IsProgram, IsRefused, ComesTo, ComesToOnly, HasOneOutcome}
+use Rattle.dpl_run.specs.Headline.{EndsAs, Means, IsProgram, IsRefused, ComesTo, HasOneOutcome}
 
 abbrev Program : Type 0
 Program = ProgramTree (List ℕ)

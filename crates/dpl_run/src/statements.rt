@@ -46,12 +46,7 @@ fn write_line(
 }
 
 // One statement.
-fn statement(
-    alloc: Global,
-    step: &Step,
-    frame: &mut Frame,
-    out: &mut Vec<u8>,
-) -> Result<(), Halt>
+fn statement(alloc: Global, step: &Step, frame: &mut Frame, out: &mut Vec<u8>) -> Result<(), Halt>
     ensures ends { RunEnds result frame.new.words out.new.items (exec by_word (step_view step.now) frame.old.budget frame.old.words out.old.items) }
     ensures budget { frame.new.budget ≡ frame.old.budget }
 {

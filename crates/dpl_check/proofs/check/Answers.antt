@@ -1,4 +1,4 @@
-use Rattle.std.proofs.Common.{sym, ap, ◌∙◌}
+use Rattle.std.proofs.Common.{sym, ◌∙◌}
 use Rattle.dpl_check.proofs.Checks.{none-good, good-none}
 use Rattle.dpl_check.proofs.check.Goals as goal
 

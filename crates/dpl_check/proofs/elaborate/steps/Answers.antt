@@ -1,5 +1,4 @@
-use Rattle.std.proofs.Common.{◌≡◌, ◌+◌, List, ℕ, ◌∷◌, map, drop, sym, ap, ◌∙◌, subst}
-use Rattle.dpl_syntax.specs.Tree.{StmtTree}
+use Rattle.std.proofs.Common.{◌+◌, map, drop, sym, ap, ◌∙◌, subst}
 use Rattle.dpl_syntax.specs.View.{spelled, stmt_view}
 use Rattle.dpl_syntax.proofs.Walks.{drop-at}
 use Rattle.dpl_meaning.specs.Lowered.{lowered_all}
