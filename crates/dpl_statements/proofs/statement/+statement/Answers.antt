@@ -7,7 +7,7 @@ use Rattle.dpl_grammar.proofs.Turns.{goes_on, ends, so_fails}
 use Rattle.dpl_tree.specs.Statements.{stmt_view}
 use Rattle.dpl_spelling.specs.Nested.{begins, StatementBelow}
 use Rattle.dpl_spelling.specs.Reading.{at}
-use Rattle.dpl_expressions.proofs.Levels.{below_statement}
+use Rattle.dpl_spelling.proofs.Below.{below_statement}
 use Rattle.dpl_statements.proofs.statement.+statement.Goals as goal
 
 pub statements-returns-in_err-stmt-clause-gives : goal.statements-returns-in_err-stmt-clause-gives
