@@ -1,4 +1,4 @@
-// Four hundred texts, read or refused, made by chance from the grammar's lines and then changed here and there.
+// Texts, read or refused: four hundred made by chance from the grammar's lines and then changed here and there, and behind them those written by hand.
 // Each line is the answer, `read` or a refusal, and from column 14 on the text, in which ~ stands for a newline.
 
 pub const TABLE: &str = "\
@@ -402,4 +402,61 @@ P1 at 2:5    for(~D,b last ) in startIdx&&a { }\n\
 P1 at 1:24   { write ('\\n') ; const ..i :int~;}\n\
 read         dim.reset();\n\
 P1 at 1:7    write Locales~) ;\n\
+P1 at 1:10   writeln(1\n\
+P1 at 1:15   for i in 1..3 writeln(i);\n\
+P1 at 1:18   use BlockDist;use\n\
+P1 at 1:5    use blockDist;\n\
+P1 at 1:8    x = 1; use BlockDist;\n\
+P1 at 1:8    config var n = 1;\n\
+P1 at 1:3    { config const n = 1; }\n\
+P1 at 1:6    var x;\n\
+P1 at 1:8    var x: string;\n\
+P1 at 1:13   var s: sync domain(1);\n\
+P1 at 1:17   const D: domain(k) = S;\n\
+P1 at 1:11   const D = blockCycDist.createDomain({1..2});\n\
+P1 at 1:21   const D = blockDist.create({1..2});\n\
+P1 at 1:21   const D = S dmapped blockDist(S);\n\
+P1 at 1:43   const D = S dmapped new blockDist(startIdx=S);\n\
+P1 at 1:51   const D = S dmapped new cyclicDist(startIdx=(1,2,3,4));\n\
+P1 at 1:41   const D = S dmapped new cyclicDist((1..2, 3));\n\
+P1 at 1:42   const D = S dmapped new cyclicDist((1, 2).low);\n\
+P1 at 1:39   const D = S dmapped new blockCycDist(1);\n\
+P1 at 1:3    x == 1;\n\
+P1 at 1:2    x;\n\
+P1 at 1:4    A[1..2] = 3;\n\
+P1 at 1:5    A[1][2] = 3;\n\
+P1 at 1:3    A.size = 3;\n\
+P1 at 1:11   c.writeEF();\n\
+P1 at 1:10   c.readFE(1);\n\
+P1 at 1:10   m reduce += 1;\n\
+P1 at 1:9    write(1,);\n\
+P1 at 1:8    write(1..2);\n\
+P1 at 1:13   writeln(1);;else ;\n\
+P1 at 1:6    if a b = 1;\n\
+P1 at 1:20   if a then ; else ; else ;\n\
+P1 at 1:9    while a ;\n\
+P1 at 1:7    for (i) in D do ;\n\
+P1 at 1:13   for (i, j, k, l) in D do ;\n\
+P1 at 1:15   for i in 1..3 with (ref x) do ;\n\
+P1 at 1:21   forall i in D with () do ;\n\
+P1 at 1:21   forall i in D with (- reduce s) do ;\n\
+P1 at 1:10   x = 1..3 == 2;\n\
+P1 at 1:11   x = a == 1..3;\n\
+P1 at 1:9    x = 1..2..3;\n\
+P1 at 1:9    x = 1..<#3;\n\
+P1 at 1:7    x = 1 by 2;\n\
+P1 at 1:15   x = 1..3 by 2 by 3;\n\
+read         x = a * -b * - c;\n\
+P1 at 1:7    x = a.b;\n\
+P1 at 1:11   x = a.dim(k);\n\
+P1 at 1:10   x = a.dim;\n\
+P1 at 1:16   x = a.contains();\n\
+P1 at 1:6    x = {};\n\
+P1 at 1:6    x = ();\n\
+P1 at 1:7    x = a[];\n\
+P1 at 1:5    x = \"a\";\n\
+P1 at 1:9    x = max A;\n\
+P1 at 1:5    x = int;\n\
+P1 at 1:1    }\n\
+P1 at 1:2    {\n\
 ";
