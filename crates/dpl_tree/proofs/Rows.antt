@@ -1,7 +1,6 @@
--- Lists in memory, each in a `Vec` of a recursive type, and the plain lists that they stand for.
--- These lemmas alone name the rows in which such a `Vec` is kept.
-use Rattle.std.proofs.Common.{◌≡◌, List, [], ◌∷◌, refl, sym, ap, ◌∙◌}
-use Rattle.std.specs.Global.{Vec, Box}
+-- Lists in memory, each a slice of a recursive type, and the plain lists that they stand for.
+-- These lemmas alone name the rows in which such a list is kept.
+use Rattle.std.proofs.Common.{◌≡◌, Bor, List, refl, sym, ap, ◌∙◌}
 use Rattle.dpl_tree.specs.declared.expression.Expr.{Expr as ExprNode, Chain as ChainExpr, Row_of-Post, end_of-Post, more_of-Post, items-the_row-Post, items_hidden-the_row-Post-0}
 use Rattle.dpl_tree.specs.declared.expression.Expr.TheBlock.{hidden-the_row-Post-0, hidden-the_row-Link-1, hidden-the_row-NextExpr-2, hidden-the_row-NextItem-3}
 use Rattle.dpl_tree.specs.declared.expression.Chain.{Chain as ChainNode, out-Chain, is-Chain', Row_of-Link, end_of-Link, more_of-Link, items-the_row-Link, items_hidden-the_row-Link-1}
@@ -20,40 +19,40 @@ use Rattle.dpl_tree.specs.Statements.{stmt_view, stmts_view, stmts_of}
 
 links_row : {m : _} (row : Row_of-Link m) → links_view row ≡ links_of (items-the_row-Link m row)
 links_row end_of-Link = refl
-links_row (more_of-Link at op e row) = ap (Link at (infix_view op) (expr_view e)) (links_row row)
+links_row (more_of-Link at op p e row) = ap (Link at (infix_view op) (expr_view e)) (links_row row)
 
-pub links_view-row : (v : Vec LinkNode) → links_view (hidden-the_row-Link-1 v) ≡ links_of v.items
-links_view-row v = links_row (hidden-the_row-Link-1 v) ∙ ap links_of (items_hidden-the_row-Link-1 v)
+pub links_view-row : (xs : List LinkNode) → links_view (hidden-the_row-Link-1 xs) ≡ links_of xs
+links_view-row xs = links_row (hidden-the_row-Link-1 xs) ∙ ap links_of (items_hidden-the_row-Link-1 xs)
 
 -- the plain tree of a chain, by what code knows of its parts
-pub expr_view-chain : (e : ExprNode) (b : Box ChainNode) (v : ChainNode) (links : List LinkNode) → e ≡ ChainExpr b → v ≡ b.value → links ≡ (out-Chain v).links.items → expr_view e ≡ Chain (expr_view (out-Chain v).first) (links_of links)
+pub expr_view-chain : (e : ExprNode) (b : Bor ChainNode) (v : ChainNode) (links : List LinkNode) → e ≡ ChainExpr b → v ≡ b.now → links ≡ (out-Chain v).links.now → expr_view e ≡ Chain (expr_view (out-Chain v).first.now) (links_of links)
 expr_view-chain e b v links he hv hl =
-    ap expr_view he ∙ ap chain_view (sym hv) ∙ ap chain_view (is-Chain' v) ∙ ap (Chain (expr_view (out-Chain v).first)) (links_view-row (out-Chain v).links ∙ ap links_of (sym hl))
+    ap expr_view he ∙ ap chain_view (sym hv) ∙ ap chain_view (is-Chain' v) ∙ ap (Chain (expr_view (out-Chain v).first.now)) (links_view-row (out-Chain v).links.now ∙ ap links_of (sym hl))
 
 posts_row : {m : _} (row : Row_of-Post m) → posts_view row ≡ posts_of (items-the_row-Post m row)
 posts_row end_of-Post = refl
 posts_row (more_of-Post x row) = ap (Post (post_view x)) (posts_row row)
 
-pub posts_view-row : (v : Vec PostNode) → posts_view (hidden-the_row-Post-0 v) ≡ posts_of v.items
-posts_view-row v = posts_row (hidden-the_row-Post-0 v) ∙ ap posts_of (items_hidden-the_row-Post-0 v)
+pub posts_view-row : (xs : List PostNode) → posts_view (hidden-the_row-Post-0 xs) ≡ posts_of xs
+posts_view-row xs = posts_row (hidden-the_row-Post-0 xs) ∙ ap posts_of (items_hidden-the_row-Post-0 xs)
 
 items_row : {m : _} (row : Row_of-NextItem m) → more_items_view row ≡ more_items_of (items-the_row-NextItem m row)
 items_row end_of-NextItem = refl
 items_row (more_of-NextItem comma x row) = ap (NextItem comma (item_view x)) (items_row row)
 
-pub more_items_view-row : (v : Vec NextItemNode) → more_items_view (hidden-the_row-NextItem-3 v) ≡ more_items_of v.items
-more_items_view-row v = items_row (hidden-the_row-NextItem-3 v) ∙ ap more_items_of (items_hidden-the_row-NextItem-3 v)
+pub more_items_view-row : (xs : List NextItemNode) → more_items_view (hidden-the_row-NextItem-3 xs) ≡ more_items_of xs
+more_items_view-row xs = items_row (hidden-the_row-NextItem-3 xs) ∙ ap more_items_of (items_hidden-the_row-NextItem-3 xs)
 
 exprs_row : {m : _} (row : Row_of-NextExpr m) → more_exprs_view row ≡ more_exprs_of (items-the_row-NextExpr m row)
 exprs_row end_of-NextExpr = refl
-exprs_row (more_of-NextExpr comma x row) = ap (NextExpr comma (expr_view x)) (exprs_row row)
+exprs_row (more_of-NextExpr comma p x row) = ap (NextExpr comma (expr_view x)) (exprs_row row)
 
-pub more_exprs_view-row : (v : Vec NextExprNode) → more_exprs_view (hidden-the_row-NextExpr-2 v) ≡ more_exprs_of v.items
-more_exprs_view-row v = exprs_row (hidden-the_row-NextExpr-2 v) ∙ ap more_exprs_of (items_hidden-the_row-NextExpr-2 v)
+pub more_exprs_view-row : (xs : List NextExprNode) → more_exprs_view (hidden-the_row-NextExpr-2 xs) ≡ more_exprs_of xs
+more_exprs_view-row xs = exprs_row (hidden-the_row-NextExpr-2 xs) ∙ ap more_exprs_of (items_hidden-the_row-NextExpr-2 xs)
 
 stmts_row : {m : _} (row : Row_of-Stmt m) → stmts_view row ≡ stmts_of (items-the_row-Stmt m row)
 stmts_row end_of-Stmt = refl
 stmts_row (more_of-Stmt s row) = ap (Then (stmt_view s)) (stmts_row row)
 
-pub stmts_view-row : (v : Vec Stmt) → stmts_view (hidden-the_row-Stmt-0 v) ≡ stmts_of v.items
-stmts_view-row v = stmts_row (hidden-the_row-Stmt-0 v) ∙ ap stmts_of (items_hidden-the_row-Stmt-0 v)
+pub stmts_view-row : (xs : List Stmt) → stmts_view (hidden-the_row-Stmt-0 xs) ≡ stmts_of xs
+stmts_view-row xs = stmts_row (hidden-the_row-Stmt-0 xs) ∙ ap stmts_of (items_hidden-the_row-Stmt-0 xs)

@@ -1,7 +1,6 @@
 -- The plain declaration that one in memory stands for.
 -- Maps, types and initial values, each by its fields.
-use Rattle.std.specs.Prelude.{ℕ, List, map, Option, Some, None}
-use Rattle.dpl_syntax.specs.declared.place.Place.{Place}
+use Rattle.std.specs.Prelude.{map, Option, Some, None}
 use Rattle.dpl_tree.specs.Words.{kind_view, create_view}
 use Rattle.dpl_language.specs.Phrases.{natural}
 use Rattle.dpl_tree.specs.View.{Spelled, name_view, expr_view, item_view, items_view, next_expr_view}
@@ -24,7 +23,7 @@ use Rattle.dpl_tree.specs.declared.declaration.Init.TheVariants.{Item, Create}
 use Rattle.dpl_tree.specs.declared.declaration.Typed.{Typed}
 use Rattle.dpl_tree.specs.declared.declaration.Initial.{Initial}
 use Rattle.dpl_tree.specs.declared.declaration.Declare.{Declare}
-use Rattle.dpl_language.specs.Tree.{Listed, ExprTree, ArgumentName, StartTree, StartExpr, StartTuple, BlockTree, CyclicTree, BlockCyclicTree, MapTree, BlockMap, CyclicMap, BlockCyclicMap, MappedTree, DomainTypeTree, ArrayTypeTree, TypeTree, ScalarType, SyncType, DomainType, ArrayType, CreateTree, InitTree, ItemInit, CreateInit, TypedTree, InitialTree, DeclareTree}
+use Rattle.dpl_language.specs.Tree.{ArgumentName, StartTree, StartExpr, StartTuple, BlockTree, CyclicTree, BlockCyclicTree, MapTree, BlockMap, CyclicMap, BlockCyclicMap, MappedTree, DomainTypeTree, ArrayTypeTree, TypeTree, ScalarType, SyncType, DomainType, ArrayType, CreateTree, InitTree, ItemInit, CreateInit, TypedTree, InitialTree, DeclareTree}
 
 -- what may be missing, by the view of what is there
 abbrev pub optional : {A B : Type 0} → (A → B) → Option A → Option B
@@ -35,8 +34,8 @@ abbrev pub argument_name_view : ArgumentNode → ArgumentName
 argument_name_view a = record { at = a.at; equals = a.equals }
 
 abbrev pub start_view : Start → Spelled StartTree
-start_view (Expr e) = StartExpr (expr_view e)
-start_view (Tuple from first others upto) = StartTuple from (record { first = expr_view first; others = map next_expr_view others.items }) upto
+start_view (Expr e) = StartExpr (expr_view e.now)
+start_view (Tuple from first others upto) = StartTuple from (record { first = expr_view first.now; others = map next_expr_view others.now }) upto
 
 abbrev pub block_view : BlockNode → Spelled BlockTree
 block_view m = record { new = m.new; word = m.word; from = m.from; argument = optional argument_name_view m.argument; box = item_view m.bounding_box; upto = m.upto }

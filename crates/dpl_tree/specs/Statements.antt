@@ -1,6 +1,6 @@
 -- The plain statement and the plain program that those in memory stand for.
 -- What is written as a text stands for the bytes that its escapes mean.
-use Rattle.std.specs.Prelude.{ℕ, List, [], ◌∷◌, map, Option, Some, None}
+use Rattle.std.specs.Prelude.{ℕ, List, [], ◌∷◌, map}
 use Rattle.dpl_syntax.specs.Text.{text_value}
 use Rattle.dpl_tree.specs.Words.{op_view, assign_view, read_view, write_view, shape_view, module_view}
 use Rattle.dpl_tree.specs.View.{Spelled, name_view, expr_view, exprs_view, item_view}
@@ -17,17 +17,14 @@ use Rattle.dpl_tree.specs.declared.statement.With.{With}
 use Rattle.dpl_tree.specs.declared.statement.NextName.{NextName}
 use Rattle.dpl_tree.specs.declared.statement.Variables.{Variables}
 use Rattle.dpl_tree.specs.declared.statement.Variables.TheVariants as variables
-use Rattle.dpl_tree.specs.declared.statement.Element.{Element as ElementNode}
 use Rattle.dpl_tree.specs.declared.statement.Target.{Target}
 use Rattle.dpl_tree.specs.declared.statement.Target.TheVariants as target
 use Rattle.dpl_tree.specs.declared.statement.AssignSign.{AssignSign}
-use Rattle.dpl_tree.specs.declared.statement.Assignment.{Assignment}
 use Rattle.dpl_tree.specs.declared.statement.Call.{Call as CallNode}
 use Rattle.dpl_tree.specs.declared.statement.Call.TheVariants as call
-use Rattle.dpl_tree.specs.declared.statement.CellCall.{CellCall}
 use Rattle.dpl_tree.specs.declared.statement.Stmt.{Stmt, Nothing as NothingNode, Declare as DeclareNode, Assigned as AssignedNode, Call as CellCallNode, Write as WriteStmt, Block', If', While', For', Forall', Coforall', On', Row_of-Stmt, end_of-Stmt, more_of-Stmt}
-use Rattle.dpl_tree.specs.declared.statement.Body.{Body as BodyNode, Word as WordNode, Block' as BlockBody'}
-use Rattle.dpl_tree.specs.declared.statement.Else.{Else as ElseNode, Absent, Do}
+use Rattle.dpl_tree.specs.declared.statement.Body.{Body as BodyNode, Word', Block' as BlockBody'}
+use Rattle.dpl_tree.specs.declared.statement.Else.{Else as ElseNode, Absent, Do'}
 use Rattle.dpl_tree.specs.declared.statement.ModuleName.{ModuleName}
 use Rattle.dpl_tree.specs.declared.statement.NextModule.{NextModule}
 use Rattle.dpl_tree.specs.declared.statement.Use.{Use}
@@ -35,14 +32,14 @@ use Rattle.dpl_tree.specs.declared.statement.Program.{Program}
 use Rattle.dpl_language.specs.Tree.{Placed, AfterComma, Listed, ArgumentTree, TextArgument, ExprArgument, WriteTree, IntentTree, ReduceIntent, RefIntent, WithTree, VariablesTree, OneVariable, ManyVariables, TargetTree, Whole, Element, AssignTree, CallTree, ReadCall, ResetCall, WriteCall, StmtTree, Nothing, Declare, Assigned, Call, Write, Block, If, While, For, Forall, Coforall, On, Body, WordBody, BlockBody, Stmts, NoStmts, Then, Else, NoElse, ElseDo, ModuleTree, UseTree, ProgramTree}
 
 abbrev pub argument_view : Argument → Spelled ArgumentTree
-argument_view (Text at bytes) = TextArgument at (text_value bytes)
-argument_view (Expr e) = ExprArgument (expr_view e)
+argument_view (Text at bytes) = TextArgument at (text_value bytes.now)
+argument_view (Expr e) = ExprArgument (expr_view e.now)
 
 abbrev pub next_argument_view : NextArgument → AfterComma (Spelled ArgumentTree)
 next_argument_view n = record { comma = n.comma; part = argument_view n.argument }
 
 abbrev pub arguments_view : Arguments → Listed (Spelled ArgumentTree)
-arguments_view a = record { first = argument_view a.first; others = map next_argument_view a.others.items }
+arguments_view a = record { first = argument_view a.first; others = map next_argument_view a.others.now }
 
 abbrev pub written_view : WriteNode → Spelled WriteTree
 written_view w = record { at = w.at; ends_line = w.ends_line; from = w.from; arguments = optional arguments_view w.arguments; upto = w.upto; semicolon = w.semicolon }
@@ -55,18 +52,18 @@ abbrev pub next_intent_view : NextIntent → AfterComma (Spelled IntentTree)
 next_intent_view n = record { comma = n.comma; part = intent_view n.intent }
 
 abbrev pub with_view : With → Spelled WithTree
-with_view w = record { at = w.at; from = w.from; intents = record { first = intent_view w.first; others = map next_intent_view w.others.items }; upto = w.upto }
+with_view w = record { at = w.at; from = w.from; intents = record { first = intent_view w.first; others = map next_intent_view w.others.now }; upto = w.upto }
 
 abbrev pub next_name_view : NextName → AfterComma (Placed (List ℕ))
 next_name_view n = record { comma = n.comma; part = name_view n.name }
 
 abbrev pub variables_view : Variables → Spelled VariablesTree
 variables_view (variables.One x) = OneVariable (name_view x)
-variables_view (variables.Many from first others upto) = ManyVariables from (record { first = name_view first; others = map next_name_view others.items }) upto
+variables_view (variables.Many from first others upto) = ManyVariables from (record { first = name_view first; others = map next_name_view others.now }) upto
 
 abbrev pub target_view : Target → Spelled TargetTree
 target_view (target.Whole x) = Whole (name_view x)
-target_view (target.Element e) = Element (name_view e.value.name) (shape_view e.value.shape) e.value.from (exprs_view e.value.exprs) e.value.upto
+target_view (target.Element e) = Element (name_view e.now.name) (shape_view e.now.shape) e.now.from (exprs_view e.now.exprs) e.now.upto
 
 abbrev pub sign_view : AssignSign → AssignTree
 sign_view s = record { at = s.at; op = assign_view s.op; last = s.last }
@@ -74,30 +71,30 @@ sign_view s = record { at = s.at; op = assign_view s.op; last = s.last }
 abbrev pub call_view : CallNode → Spelled CallTree
 call_view (call.Read at word from upto) = ReadCall at (read_view word) from upto
 call_view (call.Reset at from upto) = ResetCall at from upto
-call_view (call.Write at word from e upto) = WriteCall at (write_view word) from (expr_view e) upto
+call_view (call.Write at word from e upto) = WriteCall at (write_view word) from (expr_view e.now) upto
 
 abbrev mutual
   pub stmt_view : Stmt → Spelled StmtTree
   stmt_view (NothingNode at) = Nothing at
-  stmt_view (DeclareNode d) = Declare (declare_view d.value)
-  stmt_view (AssignedNode a) = Assigned (target_view a.value.target) (sign_view a.value.sign) (item_view a.value.value) a.value.semicolon
-  stmt_view (CellCallNode c) = Call (name_view c.value.name) c.value.dot (call_view c.value.call) c.value.semicolon
-  stmt_view (WriteStmt w) = Write (written_view w.value)
-  stmt_view (Block' p from shape row upto) = Block from (stmts_view row) upto
-  stmt_view (If' p at condition body otherwise) = If at (expr_view condition) (body_view body) (else_view otherwise)
-  stmt_view (While' p at condition body) = While at (expr_view condition) (body_view body)
+  stmt_view (DeclareNode d) = Declare (declare_view d.now)
+  stmt_view (AssignedNode a) = Assigned (target_view a.now.target) (sign_view a.now.sign) (item_view a.now.value) a.now.semicolon
+  stmt_view (CellCallNode c) = Call (name_view c.now.name) c.now.dot (call_view c.now.call) c.now.semicolon
+  stmt_view (WriteStmt w) = Write (written_view w.now)
+  stmt_view (Block' p from q shape row upto) = Block from (stmts_view row) upto
+  stmt_view (If' p at condition body otherwise) = If at (expr_view condition.now) (body_view body) (else_view otherwise)
+  stmt_view (While' p at condition body) = While at (expr_view condition.now) (body_view body)
   stmt_view (For' p at xs within over body) = For at (variables_view xs) within (item_view over) (body_view body)
   stmt_view (Forall' p at xs within over with body) = Forall at (variables_view xs) within (item_view over) (optional with_view with) (body_view body)
   stmt_view (Coforall' p at xs within over with body) = Coforall at (variables_view xs) within (item_view over) (optional with_view with) (body_view body)
-  stmt_view (On' p at locale body) = On at (expr_view locale) (body_view body)
+  stmt_view (On' p at locale body) = On at (expr_view locale.now) (body_view body)
 
   pub body_view : BodyNode → Spelled Body
-  body_view (WordNode at s) = WordBody at (stmt_view s)
-  body_view (BlockBody' from shape row upto) = BlockBody from (stmts_view row) upto
+  body_view (Word' at p s) = WordBody at (stmt_view s)
+  body_view (BlockBody' from p shape row upto) = BlockBody from (stmts_view row) upto
 
   pub else_view : ElseNode → Spelled Else
   else_view Absent = NoElse
-  else_view (Do at s) = ElseDo at (stmt_view s)
+  else_view (Do' at p s) = ElseDo at (stmt_view s)
 
   pub stmts_view : {m : _} → Row_of-Stmt m → Spelled Stmts
   stmts_view end_of-Stmt = NoStmts
@@ -115,7 +112,7 @@ abbrev pub next_module_view : NextModule → AfterComma ModuleTree
 next_module_view n = record { comma = n.comma; part = module_name_view n.module }
 
 abbrev pub use_view : Use → UseTree
-use_view u = record { at = u.at; modules = record { first = module_name_view u.first; others = map next_module_view u.others.items }; semicolon = u.semicolon }
+use_view u = record { at = u.at; modules = record { first = module_name_view u.first; others = map next_module_view u.others.now }; semicolon = u.semicolon }
 
 abbrev pub program_view : Program → Spelled ProgramTree
-program_view p = record { uses = map use_view p.uses.items; stmts = stmts_of p.stmts.items; end = p.end }
+program_view p = record { uses = map use_view p.uses.now; stmts = stmts_of p.stmts.now; end = p.end }

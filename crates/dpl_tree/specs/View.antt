@@ -1,6 +1,6 @@
 -- The plain expression that one in memory stands for.
 -- A name stands for its text; where a node lies is left out.
-use Rattle.std.specs.Prelude.{ℕ, List, [], ◌∷◌, map}
+use Rattle.std.specs.Prelude.{ℕ, List, [], ◌∷◌}
 use Rattle.dpl_tree.specs.Words.{prefix_view, infix_view, op_view, dots_view, word_view, read_view}
 use Rattle.dpl_tree.specs.declared.expression.Name.{Name as NameNode}
 use Rattle.dpl_tree.specs.declared.expression.Expr.{Expr as ExprNode, Number as NumberNode, Truth as TruthNode, Named as NamedNode, Locales as LocalesNode, LocaleCount as LocaleCountNode, Here as HereNode, Grouped', Domain', Prefixed', Reduced', Chain', Postfixed', Row_of-Post, end_of-Post, more_of-Post}
@@ -9,8 +9,8 @@ use Rattle.dpl_tree.specs.declared.expression.Link.{Link as LinkNode}
 use Rattle.dpl_tree.specs.declared.expression.Post.{Post as PostNode, Brackets', Rounds', Dotted as DottedNode}
 use Rattle.dpl_tree.specs.declared.expression.Method.{Method as MethodNode, Plain, Dim as DimNode, Contains', Expand', CellRead as CellReadNode}
 use Rattle.dpl_tree.specs.declared.expression.Contains.{Contains' as contains_node}
-use Rattle.dpl_tree.specs.declared.expression.Item.{Item as ItemNode, One as OneNode, Range'}
-use Rattle.dpl_tree.specs.declared.expression.Stride.{Stride as StrideNode, Absent, By as ByNode}
+use Rattle.dpl_tree.specs.declared.expression.Item.{Item as ItemNode, One', Range'}
+use Rattle.dpl_tree.specs.declared.expression.Stride.{Stride as StrideNode, Absent, By'}
 use Rattle.dpl_tree.specs.declared.expression.Items.{Items as ItemsNode, Items', Row_of-NextItem, end_of-NextItem, more_of-NextItem}
 use Rattle.dpl_tree.specs.declared.expression.NextItem.{NextItem as NextItemNode}
 use Rattle.dpl_tree.specs.declared.expression.Exprs.{Exprs as ExprsNode, Exprs', Row_of-NextExpr, end_of-NextExpr, more_of-NextExpr}
@@ -24,7 +24,7 @@ Spelled tree = tree (List ℕ)
 
 -- a name in the text is its text there
 abbrev pub name_view : NameNode → Placed (List ℕ)
-name_view x = record { at = x.at; name = x.text }
+name_view x = record { at = x.at; name = x.text.now }
 
 abbrev mutual
   pub expr_view : ExprNode → Spelled ExprTree
@@ -37,16 +37,16 @@ abbrev mutual
   expr_view (Grouped' from p item upto) = Grouped from (item_view item) upto
   expr_view (Domain' from p items upto) = DomainLiteral from (items_view items) upto
   expr_view (Prefixed' at op p e) = Prefixed at (prefix_view op) (expr_view e)
-  expr_view (Reduced' p at op word e) = Reduced at (op_view op) word (expr_view e)
+  expr_view (Reduced' p at op word q e) = Reduced at (op_view op) word (expr_view e)
   expr_view (Chain' p chain) = chain_view chain
-  expr_view (Postfixed' p base shape row) = Postfixed (expr_view base) (posts_view row)
+  expr_view (Postfixed' p q base r shape row) = Postfixed (expr_view base) (posts_view row)
 
   pub chain_view : ChainNode → Spelled ExprTree
-  chain_view (chain_node first shape row) = Chain (expr_view first) (links_view row)
+  chain_view (chain_node p first q shape row) = Chain (expr_view first) (links_view row)
 
   pub links_view : {m : _} → Row_of-Link m → Spelled Links
   links_view end_of-Link = NoLinks
-  links_view (more_of-Link at op e row) = Link at (infix_view op) (expr_view e) (links_view row)
+  links_view (more_of-Link at op p e row) = Link at (infix_view op) (expr_view e) (links_view row)
 
   pub posts_view : {m : _} → Row_of-Post m → Spelled Posts
   posts_view end_of-Post = NoPosts
@@ -59,37 +59,37 @@ abbrev mutual
 
   pub method_view : MethodNode → Spelled MethodTree
   method_view (Plain at word) = Plainly at (word_view word)
-  method_view (DimNode d) = Dim d.value.at d.value.from d.value.number_at (natural d.value.number) d.value.upto
+  method_view (DimNode d) = Dim d.now.at d.now.from d.now.number_at (natural d.now.number) d.now.upto
   method_view (Contains' p (contains_node at from exprs upto)) = Contains at from (exprs_view exprs) upto
-  method_view (Expand' p at from by upto) = Expand at from (expr_view by) upto
+  method_view (Expand' p at from q by upto) = Expand at from (expr_view by) upto
   method_view (CellReadNode at word from upto) = CellRead at (read_view word) from upto
 
   pub item_view : ItemNode → Spelled ItemTree
-  item_view (OneNode e) = One (expr_view e)
-  item_view (Range' p low at dots high by) = RangeItem (expr_view low) at (dots_view dots) (expr_view high) (stride_view by)
+  item_view (One' p e) = One (expr_view e)
+  item_view (Range' p q low at dots r high by) = RangeItem (expr_view low) at (dots_view dots) (expr_view high) (stride_view by)
 
   pub stride_view : StrideNode → Spelled Stride
   stride_view Absent = NoStride
-  stride_view (ByNode at e) = By at (expr_view e)
+  stride_view (By' at p e) = By at (expr_view e)
 
   pub items_view : ItemsNode → Spelled Items
-  items_view (Items' first shape row) = FirstItem (item_view first) (more_items_view row)
+  items_view (Items' first p shape row) = FirstItem (item_view first) (more_items_view row)
 
   pub more_items_view : {m : _} → Row_of-NextItem m → Spelled MoreItems
   more_items_view end_of-NextItem = NoItems
   more_items_view (more_of-NextItem comma item row) = NextItem comma (item_view item) (more_items_view row)
 
   pub exprs_view : ExprsNode → Spelled Exprs
-  exprs_view (Exprs' first shape row) = FirstExpr (expr_view first) (more_exprs_view row)
+  exprs_view (Exprs' p first q shape row) = FirstExpr (expr_view first) (more_exprs_view row)
 
   pub more_exprs_view : {m : _} → Row_of-NextExpr m → Spelled MoreExprs
   more_exprs_view end_of-NextExpr = NoExprs
-  more_exprs_view (more_of-NextExpr comma e row) = NextExpr comma (expr_view e) (more_exprs_view row)
+  more_exprs_view (more_of-NextExpr comma p e row) = NextExpr comma (expr_view e) (more_exprs_view row)
 
 -- the same for lists of what stands behind commas
 abbrev pub links_of : List LinkNode → Spelled Links
 links_of [] = NoLinks
-links_of (l ∷ ls) = Link l.at (infix_view l.op) (expr_view l.right) (links_of ls)
+links_of (l ∷ ls) = Link l.at (infix_view l.op) (expr_view l.right.now) (links_of ls)
 
 abbrev pub posts_of : List PostNode → Spelled Posts
 posts_of [] = NoPosts
@@ -101,7 +101,7 @@ more_items_of (n ∷ ns) = NextItem n.comma (item_view n.item) (more_items_of ns
 
 abbrev pub more_exprs_of : List NextExprNode → Spelled MoreExprs
 more_exprs_of [] = NoExprs
-more_exprs_of (n ∷ ns) = NextExpr n.comma (expr_view n.expr) (more_exprs_of ns)
+more_exprs_of (n ∷ ns) = NextExpr n.comma (expr_view n.expr.now) (more_exprs_of ns)
 
 abbrev pub next_expr_view : NextExprNode → AfterComma (Spelled ExprTree)
-next_expr_view n = record { comma = n.comma; part = expr_view n.expr }
+next_expr_view n = record { comma = n.comma; part = expr_view n.expr.now }

@@ -13,141 +13,141 @@ pub struct ArgumentName {
 }
 
 /// Where a map starts.
-#[derive(Drop)]
-pub enum Start<'a> {
-    Expr(Expr<'a>),
+#[derive(Clone, Copy)]
+pub enum Start<'t> {
+    Expr(&'t Expr<'t>),
     /// Two or three expressions in round brackets.
     Tuple {
         from: Place,
-        first: Expr<'a>,
-        others: Vec<NextExpr<'a>>,
+        first: &'t Expr<'t>,
+        others: &'t [NextExpr<'t>],
         upto: Place,
     },
 }
 
 /// `new blockDist(boundingBox=B)`
-#[derive(Drop)]
-pub struct BlockMap<'a> {
+#[derive(Clone, Copy)]
+pub struct BlockMap<'t> {
     pub new: Place,
     pub word: Place,
     pub from: Place,
     pub argument: Option<ArgumentName>,
-    pub bounding_box: Item<'a>,
+    pub bounding_box: Item<'t>,
     pub upto: Place,
 }
 
 /// `new cyclicDist(startIdx=e)`
-#[derive(Drop)]
-pub struct CyclicMap<'a> {
+#[derive(Clone, Copy)]
+pub struct CyclicMap<'t> {
     pub new: Place,
     pub word: Place,
     pub from: Place,
     pub argument: Option<ArgumentName>,
-    pub start: Start<'a>,
+    pub start: Start<'t>,
     pub upto: Place,
 }
 
 /// `new blockCycDist(startIdx=e, blocksize=f)`
-#[derive(Drop)]
-pub struct BlockCyclicMap<'a> {
+#[derive(Clone, Copy)]
+pub struct BlockCyclicMap<'t> {
     pub new: Place,
     pub word: Place,
     pub from: Place,
     pub start_argument: Option<ArgumentName>,
-    pub start: Start<'a>,
+    pub start: Start<'t>,
     pub comma: Place,
     pub size_argument: Option<ArgumentName>,
-    pub size: Start<'a>,
+    pub size: Start<'t>,
     pub upto: Place,
 }
 
 /// A map.
-#[derive(Drop)]
-pub enum Map<'a> {
-    Block(BlockMap<'a>),
-    Cyclic(CyclicMap<'a>),
-    BlockCyclic(BlockCyclicMap<'a>),
+#[derive(Clone, Copy)]
+pub enum Map<'t> {
+    Block(BlockMap<'t>),
+    Cyclic(CyclicMap<'t>),
+    BlockCyclic(BlockCyclicMap<'t>),
 }
 
 /// `dmapped` and a map.
-#[derive(Drop)]
-pub struct Mapped<'a> {
+#[derive(Clone, Copy)]
+pub struct Mapped<'t> {
     pub at: Place,
-    pub map: Map<'a>,
+    pub map: Map<'t>,
 }
 
 /// `domain(k)`, perhaps with a map.
-#[derive(Drop)]
-pub struct DomainType<'a> {
+#[derive(Clone, Copy)]
+pub struct DomainType<'t> {
     pub at: Place,
     pub from: Place,
     pub rank_at: Place,
     pub rank: i64,
     pub upto: Place,
-    pub mapped: Option<Mapped<'a>>,
+    pub mapped: Option<Mapped<'t>>,
 }
 
 /// `[` items `]`, and the kind of the elements.
-#[derive(Drop)]
-pub struct ArrayType<'a> {
+#[derive(Clone, Copy)]
+pub struct ArrayType<'t> {
     pub from: Place,
-    pub over: Items<'a>,
+    pub over: Items<'t>,
     pub upto: Place,
     pub kind_at: Place,
     pub kind: ScalarKind,
 }
 
 /// A declared type.
-#[derive(Drop)]
-pub enum DeclaredType<'a> {
+#[derive(Clone, Copy)]
+pub enum DeclaredType<'t> {
     Scalar(Place, ScalarKind),
     /// `sync int` or `sync bool`, with the places of both words.
     Sync(Place, Place, ScalarKind),
-    Domain(DomainType<'a>),
-    Array(ArrayType<'a>),
+    Domain(DomainType<'t>),
+    Array(ArrayType<'t>),
 }
 
 /// `blockDist.createDomain(..)` or `cyclicDist.createDomain(..)`
-#[derive(Drop)]
-pub struct Create<'a> {
+#[derive(Clone, Copy)]
+pub struct Create<'t> {
     pub at: Place,
     pub word: CreateWord,
     pub dot: Place,
     pub method: Place,
     pub from: Place,
-    pub items: Items<'a>,
+    pub items: Items<'t>,
     pub upto: Place,
 }
 
 /// An initial value.
-#[derive(Drop)]
-pub enum Init<'a> {
-    Item(Item<'a>, Option<Mapped<'a>>),
-    Create(Create<'a>),
+#[derive(Clone, Copy)]
+pub enum Init<'t> {
+    Item(Item<'t>, Option<Mapped<'t>>),
+    Create(Create<'t>),
 }
 
 /// `:` and a type.
-#[derive(Drop)]
-pub struct Typed<'a> {
+#[derive(Clone, Copy)]
+pub struct Typed<'t> {
     pub colon: Place,
-    pub declared: DeclaredType<'a>,
+    pub declared: DeclaredType<'t>,
 }
 
 /// `=` and an initial value.
-#[derive(Drop)]
-pub struct Initial<'a> {
+#[derive(Clone, Copy)]
+pub struct Initial<'t> {
     pub equals: Place,
-    pub init: Init<'a>,
+    pub init: Init<'t>,
 }
 
 /// A declaration, with its `;`.
-#[derive(Drop)]
-pub struct Declare<'a> {
+#[derive(Clone, Copy)]
+pub struct Declare<'t> {
     pub config: Option<Place>,
     pub at: Place,
     pub constant: bool,
-    pub name: Name<'a>,
-    pub typed: Option<Typed<'a>>,
-    pub initial: Option<Initial<'a>>,
+    pub name: Name<'t>,
+    pub typed: Option<Typed<'t>>,
+    pub initial: Option<Initial<'t>>,
     pub semicolon: Place,
 }

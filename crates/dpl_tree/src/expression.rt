@@ -1,24 +1,24 @@
 // Expressions, items and what stands in them.
-// A list with separators is its first part and the others, each behind its separator.
+// A list with separators is its first part and the others, each behind its separator. Expressions are held by reference.
 
 use crate::operator::{Dots, Infix, Op, Prefix, ReadWord, Word};
-use dpl_syntax::{Bytes, Place};
+use dpl_syntax::Place;
 
 /// A name in the text.
-#[derive(Drop)]
-pub struct Name<'a> {
+#[derive(Clone, Copy)]
+pub struct Name<'t> {
     pub at: Place,
-    pub text: Bytes<'a>,
+    pub text: &'t [u8],
 }
 
 /// An expression.
 #[cycle(expression)]
-#[derive(Drop)]
-pub enum Expr<'a> {
+#[derive(Clone, Copy)]
+pub enum Expr<'t> {
     Number(Place, i64),
     /// `true` or `false`
     Truth(Place, bool),
-    Named(Name<'a>),
+    Named(Name<'t>),
     /// `Locales`
     Locales(Place),
     /// `numLocales`
@@ -28,95 +28,95 @@ pub enum Expr<'a> {
     /// `(` item `)`
     Grouped {
         from: Place,
-        item: Box<Item<'a>>,
+        item: &'t Item<'t>,
         upto: Place,
     },
     /// `{` items `}`
     Domain {
         from: Place,
-        items: Box<Items<'a>>,
+        items: &'t Items<'t>,
         upto: Place,
     },
     /// An operator and its operand.
     Prefixed {
         at: Place,
         op: Prefix,
-        operand: Box<Expr<'a>>,
+        operand: &'t Expr<'t>,
     },
     /// op `reduce` operand
-    Reduced(Box<Reduction<'a>>),
+    Reduced(&'t Reduction<'t>),
     /// Operands with operators of one level between them, grouped to the left.
-    Chain(Box<Chain<'a>>),
+    Chain(&'t Chain<'t>),
     /// What stands before brackets, rounds and methods, and these.
-    Postfixed(Box<Postfixed<'a>>),
+    Postfixed(&'t Postfixed<'t>),
 }
 
 /// op `reduce` operand
 #[cycle(expression)]
-#[derive(Drop)]
-pub struct Reduction<'a> {
+#[derive(Clone, Copy)]
+pub struct Reduction<'t> {
     pub at: Place,
     pub op: Op,
     pub reduce: Place,
-    pub operand: Expr<'a>,
+    pub operand: &'t Expr<'t>,
 }
 
 /// The first operand of a chain, and the others.
 #[cycle(expression)]
-#[derive(Drop)]
-pub struct Chain<'a> {
-    pub first: Expr<'a>,
-    pub links: Vec<Link<'a>>,
+#[derive(Clone, Copy)]
+pub struct Chain<'t> {
+    pub first: &'t Expr<'t>,
+    pub links: &'t [Link<'t>],
 }
 
 /// A further operand of a chain, behind its operator.
 #[cycle(expression)]
-#[derive(Drop)]
-pub struct Link<'a> {
+#[derive(Clone, Copy)]
+pub struct Link<'t> {
     pub at: Place,
     pub op: Infix,
-    pub right: Expr<'a>,
+    pub right: &'t Expr<'t>,
 }
 
 /// A base, and what stands behind it in order.
 #[cycle(expression)]
-#[derive(Drop)]
-pub struct Postfixed<'a> {
-    pub base: Expr<'a>,
-    pub posts: Vec<Post<'a>>,
+#[derive(Clone, Copy)]
+pub struct Postfixed<'t> {
+    pub base: &'t Expr<'t>,
+    pub posts: &'t [Post<'t>],
 }
 
 /// What stands behind a base.
 #[cycle(expression)]
-#[derive(Drop)]
-pub enum Post<'a> {
+#[derive(Clone, Copy)]
+pub enum Post<'t> {
     /// `[` items `]`
     Brackets {
         from: Place,
-        items: Box<Items<'a>>,
+        items: &'t Items<'t>,
         upto: Place,
     },
     /// `(` expressions `)`
     Rounds {
         from: Place,
-        exprs: Box<Exprs<'a>>,
+        exprs: &'t Exprs<'t>,
         upto: Place,
     },
     /// `.` method
-    Dotted(Place, Method<'a>),
+    Dotted(Place, Method<'t>),
 }
 
 /// A method and its arguments.
 #[cycle(expression)]
-#[derive(Drop)]
-pub enum Method<'a> {
+#[derive(Clone, Copy)]
+pub enum Method<'t> {
     Plain(Place, Word),
     /// `dim(k)`
-    Dim(Box<Dim>),
+    Dim(&'t Dim),
     /// `contains(` expressions `)`
-    Contains(Box<Contains<'a>>),
+    Contains(&'t Contains<'t>),
     /// `expand(` expression `)`
-    Expand(Box<Expand<'a>>),
+    Expand(&'t Expand<'t>),
     /// `readFE()` or `readFF()`
     CellRead {
         at: Place,
@@ -138,79 +138,79 @@ pub struct Dim {
 
 /// `contains(` expressions `)`
 #[cycle(expression)]
-#[derive(Drop)]
-pub struct Contains<'a> {
+#[derive(Clone, Copy)]
+pub struct Contains<'t> {
     pub at: Place,
     pub from: Place,
-    pub exprs: Exprs<'a>,
+    pub exprs: Exprs<'t>,
     pub upto: Place,
 }
 
 /// `expand(` expression `)`
 #[cycle(expression)]
-#[derive(Drop)]
-pub struct Expand<'a> {
+#[derive(Clone, Copy)]
+pub struct Expand<'t> {
     pub at: Place,
     pub from: Place,
-    pub by: Expr<'a>,
+    pub by: &'t Expr<'t>,
     pub upto: Place,
 }
 
 /// An expression, or a range.
 #[cycle(expression)]
-#[derive(Drop)]
-pub enum Item<'a> {
-    One(Expr<'a>),
-    Range(Box<Range<'a>>),
+#[derive(Clone, Copy)]
+pub enum Item<'t> {
+    One(&'t Expr<'t>),
+    Range(&'t Range<'t>),
 }
 
 /// The low end, the dots, the high end or the count, and perhaps a stride.
 #[cycle(expression)]
-#[derive(Drop)]
-pub struct Range<'a> {
-    pub low: Expr<'a>,
+#[derive(Clone, Copy)]
+pub struct Range<'t> {
+    pub low: &'t Expr<'t>,
     pub at: Place,
     pub dots: Dots,
-    pub high: Expr<'a>,
-    pub by: Stride<'a>,
+    pub high: &'t Expr<'t>,
+    pub by: Stride<'t>,
 }
 
 /// `by` and a stride, or nothing.
 #[cycle(expression)]
-#[derive(Drop)]
-pub enum Stride<'a> {
+#[derive(Clone, Copy)]
+pub enum Stride<'t> {
     Absent,
-    By(Place, Expr<'a>),
+    By(Place, &'t Expr<'t>),
 }
 
 /// Items between commas.
 #[cycle(expression)]
-#[derive(Drop)]
-pub struct Items<'a> {
-    pub first: Item<'a>,
-    pub others: Vec<NextItem<'a>>,
+#[derive(Clone, Copy)]
+pub struct Items<'t> {
+    pub first: Item<'t>,
+    pub others: &'t [NextItem<'t>],
 }
 
 /// A comma, and the item behind it.
 #[cycle(expression)]
-#[derive(Drop)]
-pub struct NextItem<'a> {
+#[derive(Clone, Copy)]
+pub struct NextItem<'t> {
     pub comma: Place,
-    pub item: Item<'a>,
+    pub item: Item<'t>,
 }
 
 /// Expressions between commas.
 #[cycle(expression)]
-#[derive(Drop)]
-pub struct Exprs<'a> {
-    pub first: Expr<'a>,
-    pub others: Vec<NextExpr<'a>>,
+#[derive(Clone, Copy)]
+pub struct Exprs<'t> {
+    pub first: &'t Expr<'t>,
+    pub others: &'t [NextExpr<'t>],
 }
 
 /// A comma, and the expression behind it.
 #[cycle(expression)]
-#[derive(Drop)]
-pub struct NextExpr<'a> {
+#[derive(Clone, Copy)]
+pub struct NextExpr<'t> {
     pub comma: Place,
-    pub expr: Expr<'a>,
+    pub expr: &'t Expr<'t>,
 }

@@ -1,13 +1,15 @@
-// The trees of programs as they lie in memory: what is spelled, with the place of each token.
+// The trees of programs as they lie in an arena: what is spelled, with the place of each token.
 // Each is seen as a plain tree of the language's definition (specs/View.antt), without where its nodes lie.
 #![tactic(auto)]
 
+pub mod arena;
 pub mod declaration;
 pub mod expression;
 mod make;
 pub mod operator;
 pub mod statement;
 
+pub use arena::Arena;
 pub use declaration::{
     ArgumentName, ArrayType, BlockCyclicMap, BlockMap, Create, CyclicMap, Declare, DeclaredType,
     DomainType, Init, Initial, Map, Mapped, Start, Typed,

@@ -1,105 +1,105 @@
 // Statements and programs.
-// A statement is a word or two: what it is made of lies in a box.
+// A statement is a word or two: it points to what it is made of.
 
 use crate::declaration::Declare;
 use crate::expression::{Expr, Exprs, Item, Name};
 use crate::operator::{Assign, Module, Op, ReadWord, Shape, WriteWord};
-use dpl_syntax::{Bytes, Place};
+use dpl_syntax::Place;
 
 /// What is handed to `write`.
-#[derive(Drop)]
-pub enum Argument<'a> {
+#[derive(Clone, Copy)]
+pub enum Argument<'t> {
     /// A text, by the bytes between its quotes.
-    Text(Place, Bytes<'a>),
-    Expr(Expr<'a>),
+    Text(Place, &'t [u8]),
+    Expr(&'t Expr<'t>),
 }
 
 /// A comma, and the argument behind it.
-#[derive(Drop)]
-pub struct NextArgument<'a> {
+#[derive(Clone, Copy)]
+pub struct NextArgument<'t> {
     pub comma: Place,
-    pub argument: Argument<'a>,
+    pub argument: Argument<'t>,
 }
 
 /// Arguments between commas.
-#[derive(Drop)]
-pub struct Arguments<'a> {
-    pub first: Argument<'a>,
-    pub others: Vec<NextArgument<'a>>,
+#[derive(Clone, Copy)]
+pub struct Arguments<'t> {
+    pub first: Argument<'t>,
+    pub others: &'t [NextArgument<'t>],
 }
 
 /// `write(..);`, or `writeln(..);`, which ends the line.
-#[derive(Drop)]
-pub struct Write<'a> {
+#[derive(Clone, Copy)]
+pub struct Write<'t> {
     pub at: Place,
     pub ends_line: bool,
     pub from: Place,
-    pub arguments: Option<Arguments<'a>>,
+    pub arguments: Option<Arguments<'t>>,
     pub upto: Place,
     pub semicolon: Place,
 }
 
 /// An intent.
-#[derive(Drop)]
-pub enum Intent<'a> {
+#[derive(Clone, Copy)]
+pub enum Intent<'t> {
     /// op `reduce` name
-    Reduce(Place, Op, Place, Name<'a>),
+    Reduce(Place, Op, Place, Name<'t>),
     /// `ref` name
-    Ref(Place, Name<'a>),
+    Ref(Place, Name<'t>),
 }
 
 /// A comma, and the intent behind it.
-#[derive(Drop)]
-pub struct NextIntent<'a> {
+#[derive(Clone, Copy)]
+pub struct NextIntent<'t> {
     pub comma: Place,
-    pub intent: Intent<'a>,
+    pub intent: Intent<'t>,
 }
 
 /// `with (` intents `)`
-#[derive(Drop)]
-pub struct With<'a> {
+#[derive(Clone, Copy)]
+pub struct With<'t> {
     pub at: Place,
     pub from: Place,
-    pub first: Intent<'a>,
-    pub others: Vec<NextIntent<'a>>,
+    pub first: Intent<'t>,
+    pub others: &'t [NextIntent<'t>],
     pub upto: Place,
 }
 
 /// A comma, and the name behind it.
-#[derive(Drop)]
-pub struct NextName<'a> {
+#[derive(Clone, Copy)]
+pub struct NextName<'t> {
     pub comma: Place,
-    pub name: Name<'a>,
+    pub name: Name<'t>,
 }
 
 /// The variables of a loop.
-#[derive(Drop)]
-pub enum Variables<'a> {
-    One(Name<'a>),
+#[derive(Clone, Copy)]
+pub enum Variables<'t> {
+    One(Name<'t>),
     /// Two or three names in round brackets.
     Many {
         from: Place,
-        first: Name<'a>,
-        others: Vec<NextName<'a>>,
+        first: Name<'t>,
+        others: &'t [NextName<'t>],
         upto: Place,
     },
 }
 
 /// An element of an array, by its indices.
-#[derive(Drop)]
-pub struct Element<'a> {
-    pub name: Name<'a>,
+#[derive(Clone, Copy)]
+pub struct Element<'t> {
+    pub name: Name<'t>,
     pub shape: Shape,
     pub from: Place,
-    pub exprs: Exprs<'a>,
+    pub exprs: Exprs<'t>,
     pub upto: Place,
 }
 
 /// What is assigned.
-#[derive(Drop)]
-pub enum Target<'a> {
-    Whole(Name<'a>),
-    Element(Box<Element<'a>>),
+#[derive(Clone, Copy)]
+pub enum Target<'t> {
+    Whole(Name<'t>),
+    Element(&'t Element<'t>),
 }
 
 /// An assignment's operator, and the places of its first and last token, which differ for `reduce=` alone.
@@ -111,137 +111,137 @@ pub struct AssignSign {
 }
 
 /// A target, an operator, an item and `;`.
-#[derive(Drop)]
-pub struct Assignment<'a> {
-    pub target: Target<'a>,
+#[derive(Clone, Copy)]
+pub struct Assignment<'t> {
+    pub target: Target<'t>,
     pub sign: AssignSign,
-    pub value: Item<'a>,
+    pub value: Item<'t>,
     pub semicolon: Place,
 }
 
 /// A cell's call: the place of its word, and those of its brackets.
-#[derive(Drop)]
-pub enum Call<'a> {
+#[derive(Clone, Copy)]
+pub enum Call<'t> {
     Read(Place, ReadWord, Place, Place),
     /// `reset()`
     Reset(Place, Place, Place),
-    Write(Place, WriteWord, Place, Expr<'a>, Place),
+    Write(Place, WriteWord, Place, &'t Expr<'t>, Place),
 }
 
 /// A name, `.`, a cell's call and `;`.
-#[derive(Drop)]
-pub struct CellCall<'a> {
-    pub name: Name<'a>,
+#[derive(Clone, Copy)]
+pub struct CellCall<'t> {
+    pub name: Name<'t>,
     pub dot: Place,
-    pub call: Call<'a>,
+    pub call: Call<'t>,
     pub semicolon: Place,
 }
 
 /// A statement.
 #[cycle(statement)]
-#[derive(Drop)]
-pub enum Stmt<'a> {
+#[derive(Clone, Copy)]
+pub enum Stmt<'t> {
     /// `;`
     Nothing(Place),
-    Declare(Box<Declare<'a>>),
-    Assigned(Box<Assignment<'a>>),
-    Call(Box<CellCall<'a>>),
-    Write(Box<Write<'a>>),
-    Block(Box<Block<'a>>),
-    If(Box<If<'a>>),
-    While(Box<While<'a>>),
-    For(Box<For<'a>>),
-    Forall(Box<Forall<'a>>),
-    Coforall(Box<Coforall<'a>>),
-    On(Box<On<'a>>),
+    Declare(&'t Declare<'t>),
+    Assigned(&'t Assignment<'t>),
+    Call(&'t CellCall<'t>),
+    Write(&'t Write<'t>),
+    Block(&'t Block<'t>),
+    If(&'t If<'t>),
+    While(&'t While<'t>),
+    For(&'t For<'t>),
+    Forall(&'t Forall<'t>),
+    Coforall(&'t Coforall<'t>),
+    On(&'t On<'t>),
 }
 
 /// `{` statements `}`
 #[cycle(statement)]
-#[derive(Drop)]
-pub struct Block<'a> {
+#[derive(Clone, Copy)]
+pub struct Block<'t> {
     pub from: Place,
-    pub stmts: Vec<Stmt<'a>>,
+    pub stmts: &'t [Stmt<'t>],
     pub upto: Place,
 }
 
 /// A body: `do` or `then` and a statement, or a block.
 #[cycle(statement)]
-#[derive(Drop)]
-pub enum Body<'a> {
-    Word(Place, Stmt<'a>),
-    Block(Block<'a>),
+#[derive(Clone, Copy)]
+pub enum Body<'t> {
+    Word(Place, &'t Stmt<'t>),
+    Block(Block<'t>),
 }
 
 /// `else` and a statement, or nothing.
 #[cycle(statement)]
-#[derive(Drop)]
-pub enum Else<'a> {
+#[derive(Clone, Copy)]
+pub enum Else<'t> {
     Absent,
-    Do(Place, Stmt<'a>),
+    Do(Place, &'t Stmt<'t>),
 }
 
 /// `if` condition body, perhaps with `else`
 #[cycle(statement)]
-#[derive(Drop)]
-pub struct If<'a> {
+#[derive(Clone, Copy)]
+pub struct If<'t> {
     pub at: Place,
-    pub condition: Expr<'a>,
-    pub body: Body<'a>,
-    pub otherwise: Else<'a>,
+    pub condition: &'t Expr<'t>,
+    pub body: Body<'t>,
+    pub otherwise: Else<'t>,
 }
 
 /// `while` condition body
 #[cycle(statement)]
-#[derive(Drop)]
-pub struct While<'a> {
+#[derive(Clone, Copy)]
+pub struct While<'t> {
     pub at: Place,
-    pub condition: Expr<'a>,
-    pub body: Body<'a>,
+    pub condition: &'t Expr<'t>,
+    pub body: Body<'t>,
 }
 
 /// `for` variables `in` item body
 #[cycle(statement)]
-#[derive(Drop)]
-pub struct For<'a> {
+#[derive(Clone, Copy)]
+pub struct For<'t> {
     pub at: Place,
-    pub variables: Variables<'a>,
+    pub variables: Variables<'t>,
     pub within: Place,
-    pub over: Item<'a>,
-    pub body: Body<'a>,
+    pub over: Item<'t>,
+    pub body: Body<'t>,
 }
 
 /// `forall` variables `in` item, perhaps intents, body
 #[cycle(statement)]
-#[derive(Drop)]
-pub struct Forall<'a> {
+#[derive(Clone, Copy)]
+pub struct Forall<'t> {
     pub at: Place,
-    pub variables: Variables<'a>,
+    pub variables: Variables<'t>,
     pub within: Place,
-    pub over: Item<'a>,
-    pub with: Option<With<'a>>,
-    pub body: Body<'a>,
+    pub over: Item<'t>,
+    pub with: Option<With<'t>>,
+    pub body: Body<'t>,
 }
 
 /// `coforall` variables `in` item, perhaps intents, body
 #[cycle(statement)]
-#[derive(Drop)]
-pub struct Coforall<'a> {
+#[derive(Clone, Copy)]
+pub struct Coforall<'t> {
     pub at: Place,
-    pub variables: Variables<'a>,
+    pub variables: Variables<'t>,
     pub within: Place,
-    pub over: Item<'a>,
-    pub with: Option<With<'a>>,
-    pub body: Body<'a>,
+    pub over: Item<'t>,
+    pub with: Option<With<'t>>,
+    pub body: Body<'t>,
 }
 
 /// `on` locale body
 #[cycle(statement)]
-#[derive(Drop)]
-pub struct On<'a> {
+#[derive(Clone, Copy)]
+pub struct On<'t> {
     pub at: Place,
-    pub locale: Expr<'a>,
-    pub body: Body<'a>,
+    pub locale: &'t Expr<'t>,
+    pub body: Body<'t>,
 }
 
 /// A module that `use` names.
@@ -259,18 +259,18 @@ pub struct NextModule {
 }
 
 /// `use` modules `;`
-#[derive(Drop)]
-pub struct Use {
+#[derive(Clone, Copy)]
+pub struct Use<'t> {
     pub at: Place,
     pub first: ModuleName,
-    pub others: Vec<NextModule>,
+    pub others: &'t [NextModule],
     pub semicolon: Place,
 }
 
 /// A program: its `use` lines, its statements, and the place of the text's end.
-#[derive(Drop)]
-pub struct Program<'a> {
-    pub uses: Vec<Use>,
-    pub stmts: Vec<Stmt<'a>>,
+#[derive(Clone, Copy)]
+pub struct Program<'t> {
+    pub uses: &'t [Use<'t>],
+    pub stmts: &'t [Stmt<'t>],
     pub end: Place,
 }

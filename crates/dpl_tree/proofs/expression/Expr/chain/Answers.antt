@@ -7,5 +7,6 @@ use Rattle.dpl_tree.proofs.expression.Expr.chain.Goals as goal
 
 pub returns : goal.returns
 returns c =
-    ap chain_view (c.in_ok-new.ensures.ok ∙ rolls-Chain' (record { first = c.args.first; links = c.args.links }))
-    ∙ ap (Chain (expr_view c.args.first)) (links_view-row c.args.links)
+    ap expr_view c.in_ok-node.ensures
+    ∙ ap chain_view (c.in_ok-chain.ensures ∙ rolls-Chain' (record { first = c.args.first; links = c.args.links }))
+    ∙ ap (Chain (expr_view c.args.first.now)) (links_view-row c.args.links.now)

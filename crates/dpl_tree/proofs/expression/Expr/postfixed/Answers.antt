@@ -5,4 +5,4 @@ use Rattle.dpl_tree.proofs.Rows.{posts_view-row}
 use Rattle.dpl_tree.proofs.expression.Expr.postfixed.Goals as goal
 
 pub returns : goal.returns
-returns c = rw c.in_ok-new.ensures.ok (ap (Postfixed (expr_view c.args.base)) (posts_view-row c.args.posts))
+returns c = rw (c.in_ok-node.ensures, c.in_ok-postfixed.ensures) (ap (Postfixed (expr_view c.args.base.now)) (posts_view-row c.args.posts.now))

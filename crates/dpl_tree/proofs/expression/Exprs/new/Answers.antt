@@ -6,4 +6,4 @@ use Rattle.dpl_tree.proofs.Rows.{more_exprs_view-row}
 use Rattle.dpl_tree.proofs.expression.Exprs.new.Goals as goal
 
 pub returns : goal.returns
-returns c = ap exprs_view (rolls-Exprs' (record { first = c.args.first; others = c.args.others })) ∙ ap (FirstExpr (expr_view c.args.first)) (more_exprs_view-row c.args.others)
+returns c = ap exprs_view (rolls-Exprs' (record { first = c.args.first; others = c.args.others })) ∙ ap (FirstExpr (expr_view c.args.first.now)) (more_exprs_view-row c.args.others.now)

@@ -4,4 +4,4 @@ use Rattle.dpl_tree.proofs.Rows.{stmts_view-row}
 use Rattle.dpl_tree.proofs.statement.Body.block.Goals as goal
 
 pub returns : goal.returns
-returns c = ap (λ ss. BlockBody c.args.from ss c.args.upto) (stmts_view-row c.args.stmts)
+returns c = ap (λ ss. BlockBody c.args.from ss c.args.upto) (stmts_view-row c.args.stmts.now)

@@ -7,5 +7,5 @@ use Rattle.dpl_tree.proofs.statement.Stmt.block.Goals as goal
 
 pub returns : goal.returns
 returns c =
-    let b = c.in_ok-new.field-0.value in
-    ap (λ ss. Block b.from ss b.upto) (stmts_view-row b.stmts) ∙ ap (λ (v : BlockNode). Block v.from (stmts_of v.stmts.items) v.upto) c.in_ok-new.ensures.ok
+    let b = c.in_ok-node.field-0.now in
+    ap (λ ss. Block b.from ss b.upto) (stmts_view-row b.stmts.now) ∙ ap (λ (v : BlockNode). Block v.from (stmts_of v.stmts.now) v.upto) c.in_ok-node.ensures
