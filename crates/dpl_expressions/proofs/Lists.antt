@@ -1,8 +1,7 @@
 -- Lists of nodes in memory, and the lists that the grammar's rules make of what they spell.
 -- Each equation has the plain list of the nodes on its left side, and what the rule makes on its right.
-use Rattle.std.proofs.Common.{◌≡◌, Bool, true, false, cond, ◌<◌, ◌≤◌, List, [], ◌∷◌, length, map, refl, sym, ap, ◌∙◌, arith}
+use Rattle.std.proofs.Common.{◌≡◌, Bor, Bool, true, cond, ◌<◌, ◌≤◌, List, [], ◌∷◌, length, map, refl, sym, ap, ◌∙◌, arith}
 use lib.ListN.{get_or}
-use Rattle.std.specs.Global.{Box}
 use Rattle.dpl_tree.specs.declared.expression.Expr.{Expr as ExprNode, Chain as ChainExpr}
 use Rattle.dpl_tree.specs.declared.expression.Chain.{Chain as ChainNode, out-Chain}
 use Rattle.dpl_tree.proofs.Rows.{expr_view-chain}
@@ -21,7 +20,7 @@ use Rattle.dpl_expressions.specs.Levels.{further_view, next_item_view}
 
 pub links_of_nodes : (ls : List LinkNode) → links_of ls ≡ rule.links_of (map further_view ls)
 links_of_nodes [] = refl
-links_of_nodes (l ∷ ls) = ap (Link l.at (infix_view l.op) (expr_view l.right)) (links_of_nodes ls)
+links_of_nodes (l ∷ ls) = ap (Link l.at (infix_view l.op) (expr_view l.right.now)) (links_of_nodes ls)
 
 pub posts_of_nodes : (ps : List PostNode) → posts_of ps ≡ rule.posts_of (map post_view ps)
 posts_of_nodes [] = refl
@@ -33,7 +32,7 @@ more_items_of_nodes (n ∷ ns) = ap (NextItem n.comma (item_view n.item)) (more_
 
 pub more_exprs_of_nodes : (ns : List NextExprNode) → more_exprs_of ns ≡ rule.more_exprs (map next_expr_view ns)
 more_exprs_of_nodes [] = refl
-more_exprs_of_nodes (n ∷ ns) = ap (NextExpr n.comma (expr_view n.expr)) (more_exprs_of_nodes ns)
+more_exprs_of_nodes (n ∷ ns) = ap (NextExpr n.comma (expr_view n.expr.now)) (more_exprs_of_nodes ns)
 
 -- a chain with further operands, and a base with what stands behind it
 
@@ -57,6 +56,6 @@ pub first_link : (ls : List LinkNode) (k : LinkNode) (t : Bool) → 1 ≤ length
 first_link [] k t h e is = absurd (omega arith)
 first_link (l ∷ ls) k t h e is = ap (λ (x : LinkNode). is_in_sum (infix_view x.op)) (sym e) ∙ sym is
 
-pub after_first_chain : (e : ExprNode) (b : Box ChainNode) (v : ChainNode) (ls : List LinkNode) → e ≡ ChainExpr b → v ≡ b.value → ls ≡ (out-Chain v).links.items → (t : Bool) → are_in_sum (links_of ls) ≡ t
+pub after_first_chain : (e : ExprNode) (b : Bor ChainNode) (v : ChainNode) (ls : List LinkNode) → e ≡ ChainExpr b → v ≡ b.now → ls ≡ (out-Chain v).links.now → (t : Bool) → are_in_sum (links_of ls) ≡ t
     → after_first (expr_view e) ≡ cond t (Begun (expr_view e)) (Whole (One (expr_view e)))
 after_first_chain e b v ls he hv hl t ht = rw (expr_view-chain e b v ls he hv hl, ht) refl

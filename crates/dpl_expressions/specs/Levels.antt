@@ -1,9 +1,7 @@
 -- The levels of operators between operands, as the parser's one function for chains takes them.
 -- Nothing of the grammar is defined here: each level names its rules.
-use Rattle.std.specs.Prelude.{List}
 use Rattle.dpl_syntax.specs.declared.place.Place.{Place}
 use Rattle.dpl_language.specs.Tree.{AfterComma, Infix}
-use Rattle.dpl_grammar.specs.Rule.{many, ◌⟶◌, ◌⨾◌, ◌∎}
 use Rattle.dpl_tree.specs.declared.expression.Link.{Link}
 use Rattle.dpl_tree.specs.Words.{infix_view}
 use Rattle.dpl_tree.specs.declared.expression.NextItem.{NextItem}
@@ -19,7 +17,7 @@ use Rattle.dpl_grammar.specs.Classes.{Class, sign, keyword, contextual}
 use Rattle.dpl_tree.specs.declared.operator.Op.{Op}
 use Rattle.dpl_tree.specs.declared.operator.Op.TheVariants as op_of
 use Rattle.dpl_spelling.specs.Nested.{Expression, Item, Rule}
-use Rattle.dpl_spelling.specs.Expressions.{Further, further, chain_of, base, neg, sum, relation, equality, conjunction, expression_from, sum_operator, relation_operator, equality_operator, and_operator, or_operator}
+use Rattle.dpl_spelling.specs.Expressions.{Further, further, base, neg, sum, relation, equality, conjunction, expression_from, sum_operator, relation_operator, equality_operator, and_operator, or_operator}
 
 -- the rule of a level
 abbrev pub level_rule : Level → Rule Expression → Rule Expression
@@ -51,7 +49,7 @@ further_rule level = further (operator_rule level) (operand_rule level base)
 
 -- a link of the tree, as it is spelled
 abbrev pub further_view : Link → Further
-further_view l = record { at = l.at; op = infix_view l.op; right = expr_view l.right }
+further_view l = record { at = l.at; op = infix_view l.op; right = expr_view l.right.now }
 
 -- the token of a reduction's operator
 abbrev pub op_class : Op → Class

@@ -18,52 +18,49 @@ use crate::chain::chained;
 use crate::reduction::red;
 use crate::token::{Parsed, Tokens, deeper, is_sign, means, passed_on};
 use dpl_syntax::{Place, Sign};
-use dpl_tree::{Expr, Infix, Link, Prefix};
-use std::alloc::Global;
+use dpl_tree::{Arena, Expr, Infix, Link, Prefix};
 
 /// neg = "-" neg | mul
 #[cycle(expression)]
 #[tactic(auto, unfolding(dpl_spelling::specs::Expressions::neg))]
-pub fn neg<'a>(alloc: Global, room: u32, tokens: Tokens<'a>) -> Parsed<'a, Expr<'a>>
-    ensures gives { Gives (λ x. (expr_view x.0, x.1.now)) result (at (neg_rule base_rule) room tokens.now) }
+pub fn neg<'t>(arena: Arena<'t>, room: u32, tokens: Tokens<'t>) -> Parsed<'t, &'t Expr<'t>>
+    ensures gives { Gives (λ x. (expr_view x.0.now, x.1.now)) result (at (neg_rule base_rule) room tokens.now) }
     ensures shorter { IfOk result (λ x. length x.1.now < length tokens.now) }
 {
     if is_sign(tokens, Sign::Minus) {
-        negated(alloc, room, tokens)
+        negated(arena, room, tokens)
     } else {
-        product(alloc, room, tokens)
+        product(arena, room, tokens)
     }
 }
 
 /// "-" neg
 #[cycle(expression)]
 #[tactic(auto, using(dpl_spelling::proofs::Below::below_neg))]
-fn negated<'a>(alloc: Global, room: u32, tokens: Tokens<'a>) -> Parsed<'a, Expr<'a>>
-    ensures gives { Gives (λ x. (expr_view x.0, x.1.now)) result (at negated_rule room tokens.now) }
+fn negated<'t>(arena: Arena<'t>, room: u32, tokens: Tokens<'t>) -> Parsed<'t, &'t Expr<'t>>
+    ensures gives { Gives (λ x. (expr_view x.0.now, x.1.now)) result (at negated_rule room tokens.now) }
     ensures shorter { IfOk result (λ x. length x.1.now < length tokens.now) }
 {
     let (minus, room, rest) = deeper(room, Sign::Minus, tokens)?;
-    let (operand, rest) = neg(alloc, room, rest)?;
-    Ok((
-        Expr::Prefixed {
-            at: minus.at,
-            op: Prefix::Minus,
-            operand: Box::new(alloc, operand)?,
-        },
-        rest,
-    ))
+    let (operand, rest) = neg(arena, room, rest)?;
+    let negated = Expr::Prefixed {
+        at: minus.at,
+        op: Prefix::Minus,
+        operand,
+    };
+    Ok((arena.node(negated)?, rest))
 }
 
 /// mul = not { mulop not } [ mulop "-" neg ]
 #[cycle(expression)]
 #[tactic(auto, unfolding(dpl_spelling::specs::Expressions::product))]
-fn product<'a>(alloc: Global, room: u32, tokens: Tokens<'a>) -> Parsed<'a, Expr<'a>>
-    ensures gives { Gives (λ x. (expr_view x.0, x.1.now)) result (at (product_rule base_rule) room tokens.now) }
+fn product<'t>(arena: Arena<'t>, room: u32, tokens: Tokens<'t>) -> Parsed<'t, &'t Expr<'t>>
+    ensures gives { Gives (λ x. (expr_view x.0.now, x.1.now)) result (at (product_rule base_rule) room tokens.now) }
     ensures shorter { IfOk result (λ x. length x.1.now < length tokens.now) }
 {
-    let (first, rest) = not(alloc, room, tokens)?;
-    let (factors, rest) = factors(alloc, room, rest)?;
-    let whole = chained(alloc, first, factors)?;
+    let (first, rest) = not(arena, room, tokens)?;
+    let (factors, rest) = factors(arena, room, rest)?;
+    let whole = chained(arena, first, factors)?;
     Ok((whole, rest))
 }
 
@@ -91,15 +88,25 @@ fn product_operator(room: u32, tokens: Tokens<'_>) -> Parsed<'_, (Place, Infix)>
 
 /// { mulop not } [ mulop "-" neg ]
 #[cycle(expression)]
-pub fn factors<'a>(alloc: Global, room: u32, tokens: Tokens<'a>) -> Parsed<'a, Vec<Link<'a>>>
+pub fn factors<'t>(arena: Arena<'t>, room: u32, tokens: Tokens<'t>) -> Parsed<'t, &'t [Link<'t>]>
+    ensures gives { Gives (λ x. (map further_view x.0.now, x.1.now)) result (at (run (λ f. is_negated f.right) further_factor) room tokens.now) }
+    ensures shorter { IfOk result (λ x. length x.1.now ≤ length tokens.now) }
+{
+    let (factors, rest) = further_factors(arena, room, tokens)?;
+    Ok((arena.list(factors)?, rest))
+}
+
+/// The same, before they lie in the arena.
+#[cycle(expression)]
+fn further_factors<'t>(arena: Arena<'t>, room: u32, tokens: Tokens<'t>) -> Parsed<'t, Vec<Link<'t>>>
     ensures gives { Gives (λ x. (map further_view x.0.items, x.1.now)) result (at (run (λ f. is_negated f.right) further_factor) room tokens.now) }
     ensures shorter { IfOk result (λ x. length x.1.now ≤ length tokens.now) }
 {
-    let mut factors = Vec::new(alloc);
+    let mut factors = Vec::new(arena.alloc());
     let mut rest = tokens;
     'each: while is_product_operator(rest) {
-        let (factor, after) = further_factor(alloc, room, rest)?;
-        let last = is_negated(&factor.right);
+        let (factor, after) = further_factor(arena, room, rest)?;
+        let last = is_negated(factor.right);
         factors.push(factor)?;
         rest = passed_on(after);
         if last {
@@ -112,25 +119,25 @@ pub fn factors<'a>(alloc: Global, room: u32, tokens: Tokens<'a>) -> Parsed<'a, V
 /// mulop not | mulop "-" neg
 #[cycle(expression)]
 #[tactic(auto, unfolding(dpl_spelling::specs::Expressions::further_factor))]
-fn further_factor<'a>(alloc: Global, room: u32, tokens: Tokens<'a>) -> Parsed<'a, Link<'a>>
+fn further_factor<'t>(arena: Arena<'t>, room: u32, tokens: Tokens<'t>) -> Parsed<'t, Link<'t>>
     ensures gives { Gives (λ x. (further_view x.0, x.1.now)) result (late_at further_factor room tokens.now) }
     ensures shorter { IfOk result (λ x. length x.1.now < length tokens.now) }
 {
     let ((at, op), rest) = product_operator(room, tokens)?;
-    let (right, rest) = factor(alloc, room, rest)?;
+    let (right, rest) = factor(arena, room, rest)?;
     Ok((Link { at, op, right }, rest))
 }
 
 /// "-" neg | not
 #[cycle(expression)]
-fn factor<'a>(alloc: Global, room: u32, tokens: Tokens<'a>) -> Parsed<'a, Expr<'a>>
-    ensures gives { Gives (λ x. (expr_view x.0, x.1.now)) result (late_at factor_rule room tokens.now) }
+fn factor<'t>(arena: Arena<'t>, room: u32, tokens: Tokens<'t>) -> Parsed<'t, &'t Expr<'t>>
+    ensures gives { Gives (λ x. (expr_view x.0.now, x.1.now)) result (late_at factor_rule room tokens.now) }
     ensures shorter { IfOk result (λ x. length x.1.now < length tokens.now) }
 {
     if is_sign(tokens, Sign::Minus) {
-        negated(alloc, room, tokens)
+        negated(arena, room, tokens)
     } else {
-        not(alloc, room, tokens)
+        not(arena, room, tokens)
     }
 }
 
@@ -147,21 +154,19 @@ fn is_negated(expr: &Expr<'_>) -> bool
 /// not = "!" not | red
 #[cycle(expression)]
 #[tactic(auto, using(dpl_spelling::proofs::Below::below_not), unfolding(dpl_spelling::specs::Expressions::not, dpl_spelling::specs::Expressions::complement))]
-fn not<'a>(alloc: Global, room: u32, tokens: Tokens<'a>) -> Parsed<'a, Expr<'a>>
-    ensures gives { Gives (λ x. (expr_view x.0, x.1.now)) result (at (not_rule base_rule) room tokens.now) }
+fn not<'t>(arena: Arena<'t>, room: u32, tokens: Tokens<'t>) -> Parsed<'t, &'t Expr<'t>>
+    ensures gives { Gives (λ x. (expr_view x.0.now, x.1.now)) result (at (not_rule base_rule) room tokens.now) }
     ensures shorter { IfOk result (λ x. length x.1.now < length tokens.now) }
 {
     if !is_sign(tokens, Sign::Not) {
-        return red(alloc, room, tokens);
+        return red(arena, room, tokens);
     }
     let (sign, room, rest) = deeper(room, Sign::Not, tokens)?;
-    let (operand, rest) = not(alloc, room, rest)?;
-    Ok((
-        Expr::Prefixed {
-            at: sign.at,
-            op: Prefix::Not,
-            operand: Box::new(alloc, operand)?,
-        },
-        rest,
-    ))
+    let (operand, rest) = not(arena, room, rest)?;
+    let complement = Expr::Prefixed {
+        at: sign.at,
+        op: Prefix::Not,
+        operand,
+    };
+    Ok((arena.node(complement)?, rest))
 }

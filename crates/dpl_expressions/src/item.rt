@@ -17,23 +17,22 @@ use crate::chain::{chain, expression};
 use crate::level::Level;
 use crate::token::{Parsed, Tokens, is_keyword, is_sign, keyword, means, sign};
 use dpl_syntax::{Keyword, Kind, Place, Sign};
-use dpl_tree::{Dots, Expr, Infix, Item, Range, Stride};
-use std::alloc::Global;
+use dpl_tree::{Arena, Dots, Expr, Infix, Item, Range, Stride};
 
 /// item = expr | sum ( ".." sum | ".." "#" sum | "..<" sum ) [ "by" sum ]
 #[cycle(expression)]
 #[tactic(auto, unfolding(dpl_spelling::specs::Expressions::item, dpl_spelling::specs::Expressions::range_end))]
-pub fn item<'a>(alloc: Global, room: u32, tokens: Tokens<'a>) -> Parsed<'a, Item<'a>>
+pub fn item<'t>(arena: Arena<'t>, room: u32, tokens: Tokens<'t>) -> Parsed<'t, Item<'t>>
     ensures gives { Gives (λ x. (item_view x.0, x.1.now)) result (at item_rule room tokens.now) }
     ensures shorter { IfOk result (λ x. length x.1.now < length tokens.now) }
 {
-    let (low, rest) = expression(alloc, room, tokens)?;
-    if !is_sum(&low) || !begins_range_end(rest) {
+    let (low, rest) = expression(arena, room, tokens)?;
+    if !is_sum(low) || !begins_range_end(rest) {
         return Ok((Item::One(low), rest));
     }
     let ((at, dots), rest) = range_dots(room, rest)?;
-    let (high, rest) = chain(alloc, Level::Sum, room, rest)?;
-    let (by, rest) = stride(alloc, room, rest)?;
+    let (high, rest) = chain(arena, Level::Sum, room, rest)?;
+    let (by, rest) = stride(arena, room, rest)?;
     let range = Range {
         low,
         at,
@@ -41,7 +40,7 @@ pub fn item<'a>(alloc: Global, room: u32, tokens: Tokens<'a>) -> Parsed<'a, Item
         high,
         by,
     };
-    Ok((Item::Range(Box::new(alloc, range)?), rest))
+    Ok((Item::Range(arena.node(range)?), rest))
 }
 
 /// Whether the next token makes a sum the low end of a range.
@@ -75,7 +74,7 @@ fn range_dots(room: u32, tokens: Tokens<'_>) -> Parsed<'_, (Place, Dots)>
 /// [ "by" sum ]
 #[cycle(expression)]
 #[tactic(auto, unfolding(dpl_spelling::specs::Expressions::stride))]
-fn stride<'a>(alloc: Global, room: u32, tokens: Tokens<'a>) -> Parsed<'a, Stride<'a>>
+fn stride<'t>(arena: Arena<'t>, room: u32, tokens: Tokens<'t>) -> Parsed<'t, Stride<'t>>
     ensures gives { Gives (λ x. (stride_view x.0, x.1.now)) result (at stride_rule room tokens.now) }
     ensures shorter { IfOk result (λ x. length x.1.now ≤ length tokens.now) }
 {
@@ -83,7 +82,7 @@ fn stride<'a>(alloc: Global, room: u32, tokens: Tokens<'a>) -> Parsed<'a, Stride
         return Ok((Stride::Absent, tokens));
     }
     let (by, rest) = keyword(Keyword::By, tokens)?;
-    let (step, rest) = chain(alloc, Level::Sum, room, rest)?;
+    let (step, rest) = chain(arena, Level::Sum, room, rest)?;
     Ok((Stride::By(by.at, step), rest))
 }
 
@@ -92,7 +91,7 @@ fn is_sum(expr: &Expr<'_>) -> bool
     ensures { after_first (expr_view expr.now) ≡ cond result (Begun (expr_view expr.now)) (Whole (One (expr_view expr.now))) }
 {
     match expr {
-        Expr::Chain(chain) => match chain.links.as_slice() {
+        Expr::Chain(chain) => match chain.links {
             [link, ..] => is_in_sum(link.op),
             [] => true,
         },

@@ -14,22 +14,21 @@ use crate::chain::expression;
 use crate::list::exprs;
 use crate::token::{Parsed, Tokens, contextual, deeper, is_contextual, number, sign, unexpected};
 use dpl_syntax::{Contextual, Keyword, Kind, Sign};
-use dpl_tree::{Contains, Dim, Expand, Method, ReadWord, Word};
-use std::alloc::Global;
+use dpl_tree::{Arena, Contains, Dim, Expand, Method, ReadWord, Word};
 
 /// method = "dim" .. | "contains" .. | "expand" .. | ("readFE" | "readFF") "(" ")" | "size" | "first" | "last" | "low" | "high" | "lowBound" | "domain" | "id"
 #[cycle(expression)]
 #[tactic(auto, unfolding(dpl_spelling::specs::Expressions::method, dpl_spelling::specs::Expressions::dim, dpl_spelling::specs::Expressions::contains, dpl_spelling::specs::Expressions::expand))]
-pub fn method<'a>(alloc: Global, room: u32, tokens: Tokens<'a>) -> Parsed<'a, Method<'a>>
+pub fn method<'t>(arena: Arena<'t>, room: u32, tokens: Tokens<'t>) -> Parsed<'t, Method<'t>>
     ensures gives { Gives (λ x. (method_view x.0, x.1.now)) result (at method_rule room tokens.now) }
     ensures shorter { IfOk result (λ x. length x.1.now < length tokens.now) }
 {
     if is_contextual(tokens, Contextual::Dim) {
-        dim(alloc, room, tokens)
+        dim(arena, room, tokens)
     } else if is_contextual(tokens, Contextual::Contains) {
-        contains(alloc, room, tokens)
+        contains(arena, room, tokens)
     } else if is_contextual(tokens, Contextual::Expand) {
-        expand(alloc, room, tokens)
+        expand(arena, room, tokens)
     } else if is_contextual(tokens, Contextual::ReadFE) {
         cell_read(room, ReadWord::ReadFE, tokens)
     } else if is_contextual(tokens, Contextual::ReadFF) {
@@ -41,7 +40,7 @@ pub fn method<'a>(alloc: Global, room: u32, tokens: Tokens<'a>) -> Parsed<'a, Me
 
 /// "size" | "first" | "last" | "low" | "high" | "lowBound" | "domain" | "id"
 #[tactic(auto, unfolding(dpl_spelling::specs::Expressions::plain_methods))]
-fn plain_method<'a>(room: u32, tokens: Tokens<'a>) -> Parsed<'a, Method<'a>>
+fn plain_method<'t>(room: u32, tokens: Tokens<'t>) -> Parsed<'t, Method<'t>>
     ensures gives { Gives (λ x. (method_view x.0, x.1.now)) result (at plain_methods room tokens.now) }
     ensures shorter { IfOk result (λ x. length x.1.now < length tokens.now) }
 {
@@ -65,7 +64,7 @@ fn plain_method<'a>(room: u32, tokens: Tokens<'a>) -> Parsed<'a, Method<'a>>
 
 /// "dim" "(" number ")"
 #[tactic(auto, unfolding(dpl_spelling::specs::Expressions::dim))]
-fn dim<'a>(alloc: Global, room: u32, tokens: Tokens<'a>) -> Parsed<'a, Method<'a>>
+fn dim<'t>(arena: Arena<'t>, room: u32, tokens: Tokens<'t>) -> Parsed<'t, Method<'t>>
     ensures gives { Gives (λ x. (method_view x.0, x.1.now)) result (at dim_rule room tokens.now) }
     ensures shorter { IfOk result (λ x. length x.1.now < length tokens.now) }
 {
@@ -80,19 +79,19 @@ fn dim<'a>(alloc: Global, room: u32, tokens: Tokens<'a>) -> Parsed<'a, Method<'a
         number,
         upto: upto.at,
     };
-    Ok((Method::Dim(Box::new(alloc, dim)?), rest))
+    Ok((Method::Dim(arena.node(dim)?), rest))
 }
 
 /// "contains" "(" expr { "," expr } ")"
 #[cycle(expression)]
 #[tactic(auto, unfolding(dpl_spelling::specs::Expressions::contains))]
-fn contains<'a>(alloc: Global, room: u32, tokens: Tokens<'a>) -> Parsed<'a, Method<'a>>
+fn contains<'t>(arena: Arena<'t>, room: u32, tokens: Tokens<'t>) -> Parsed<'t, Method<'t>>
     ensures gives { Gives (λ x. (method_view x.0, x.1.now)) result (at contains_rule room tokens.now) }
     ensures shorter { IfOk result (λ x. length x.1.now < length tokens.now) }
 {
     let (word, rest) = contextual(Contextual::Contains, tokens)?;
     let (from, room, rest) = deeper(room, Sign::OpenRound, rest)?;
-    let (exprs, rest) = exprs(alloc, room, rest)?;
+    let (exprs, rest) = exprs(arena, room, rest)?;
     let (upto, rest) = sign(Sign::CloseRound, rest)?;
     let contains = Contains {
         at: word.at,
@@ -100,19 +99,19 @@ fn contains<'a>(alloc: Global, room: u32, tokens: Tokens<'a>) -> Parsed<'a, Meth
         exprs,
         upto: upto.at,
     };
-    Ok((Method::Contains(Box::new(alloc, contains)?), rest))
+    Ok((Method::Contains(arena.node(contains)?), rest))
 }
 
 /// "expand" "(" expr ")"
 #[cycle(expression)]
 #[tactic(auto, using(dpl_spelling::proofs::Below::below_expression), unfolding(dpl_spelling::specs::Expressions::expand))]
-fn expand<'a>(alloc: Global, room: u32, tokens: Tokens<'a>) -> Parsed<'a, Method<'a>>
+fn expand<'t>(arena: Arena<'t>, room: u32, tokens: Tokens<'t>) -> Parsed<'t, Method<'t>>
     ensures gives { Gives (λ x. (method_view x.0, x.1.now)) result (at expand_rule room tokens.now) }
     ensures shorter { IfOk result (λ x. length x.1.now < length tokens.now) }
 {
     let (word, rest) = contextual(Contextual::Expand, tokens)?;
     let (from, room, rest) = deeper(room, Sign::OpenRound, rest)?;
-    let (by, rest) = expression(alloc, room, rest)?;
+    let (by, rest) = expression(arena, room, rest)?;
     let (upto, rest) = sign(Sign::CloseRound, rest)?;
     let expand = Expand {
         at: word.at,
@@ -120,11 +119,11 @@ fn expand<'a>(alloc: Global, room: u32, tokens: Tokens<'a>) -> Parsed<'a, Method
         by,
         upto: upto.at,
     };
-    Ok((Method::Expand(Box::new(alloc, expand)?), rest))
+    Ok((Method::Expand(arena.node(expand)?), rest))
 }
 
 /// "readFE" "(" ")" or "readFF" "(" ")"
-fn cell_read<'a>(room: u32, word: ReadWord, tokens: Tokens<'a>) -> Parsed<'a, Method<'a>>
+fn cell_read<'t>(room: u32, word: ReadWord, tokens: Tokens<'t>) -> Parsed<'t, Method<'t>>
     ensures gives { Gives (λ x. (method_view x.0, x.1.now)) result (at (cell_read_rule (read_class word) (read_view word)) room tokens.now) }
     ensures shorter { IfOk result (λ x. length x.1.now < length tokens.now) }
 {

@@ -16,32 +16,35 @@ use crate::list::{exprs, items};
 use crate::method::method;
 use crate::token::{Parsed, Tokens, deeper, is_sign, passed_on, sign};
 use dpl_syntax::{Kind, Sign, Stop};
-use dpl_tree::{Expr, Post};
-use std::alloc::Global;
+use dpl_tree::{Arena, Expr, Post};
 
 /// postfix = base { "[" .. "]" | "(" .. ")" | "." method }
 #[cycle(expression)]
 #[tactic(auto, unfolding(dpl_spelling::specs::Expressions::postfix))]
-pub fn postfix<'a>(alloc: Global, room: u32, tokens: Tokens<'a>) -> Parsed<'a, Expr<'a>>
-    ensures gives { Gives (λ x. (expr_view x.0, x.1.now)) result (at (postfix_rule base_rule) room tokens.now) }
+pub fn postfix<'t>(arena: Arena<'t>, room: u32, tokens: Tokens<'t>) -> Parsed<'t, &'t Expr<'t>>
+    ensures gives { Gives (λ x. (expr_view x.0.now, x.1.now)) result (at (postfix_rule base_rule) room tokens.now) }
     ensures shorter { IfOk result (λ x. length x.1.now < length tokens.now) }
 {
-    let (base, rest) = base(alloc, room, tokens)?;
-    let (posts, rest) = posts(alloc, room, rest)?;
-    let whole = postfixed(alloc, base, posts)?;
+    let (base, rest) = base(arena, room, tokens)?;
+    let (posts, rest) = posts(arena, room, rest)?;
+    let whole = postfixed(arena, base, posts)?;
     Ok((whole, rest))
 }
 
 /// The base with what stands behind it, or alone where nothing does.
 #[tactic(auto, unfolding(dpl_spelling::specs::Expressions::postfixed))]
-pub fn postfixed<'a>(alloc: Global, base: Expr<'a>, posts: Vec<Post<'a>>) -> Result<Expr<'a>, Stop>
-    ensures made { IfOk result (λ x. expr_view x ≡ postfixed (expr_view base.entry) (map post_view posts.entry.items)) }
+pub fn postfixed<'t>(
+    arena: Arena<'t>,
+    base: &'t Expr<'t>,
+    posts: &'t [Post<'t>],
+) -> Result<&'t Expr<'t>, Stop>
+    ensures made { IfOk result (λ x. expr_view x.now ≡ postfixed (expr_view base.now) (map post_view posts.now)) }
     ensures memory { OnErr result (IsErrOf result Stop.Memory) }
 {
     if posts.is_empty() {
         return Ok(base);
     }
-    Ok(Expr::postfixed(alloc, base, posts)?)
+    Ok(Expr::postfixed(arena, base, posts)?)
 }
 
 /// Whether the next token goes on with a base.
@@ -60,50 +63,50 @@ fn begins_post(tokens: Tokens<'_>) -> bool
 
 /// { "[" .. "]" | "(" .. ")" | "." method }
 #[cycle(expression)]
-pub fn posts<'a>(alloc: Global, room: u32, tokens: Tokens<'a>) -> Parsed<'a, Vec<Post<'a>>>
-    ensures gives { Gives (λ x. (map post_view x.0.items, x.1.now)) result (at (many post_rule) room tokens.now) }
+pub fn posts<'t>(arena: Arena<'t>, room: u32, tokens: Tokens<'t>) -> Parsed<'t, &'t [Post<'t>]>
+    ensures gives { Gives (λ x. (map post_view x.0.now, x.1.now)) result (at (many post_rule) room tokens.now) }
     ensures shorter { IfOk result (λ x. length x.1.now ≤ length tokens.now) }
 {
-    let mut posts = Vec::new(alloc);
+    let mut posts = Vec::new(arena.alloc());
     let mut rest = tokens;
     'each: while begins_post(rest) {
-        let (post, after) = post(alloc, room, rest)?;
+        let (post, after) = post(arena, room, rest)?;
         posts.push(post)?;
         rest = passed_on(after);
     }
-    Ok((posts, rest))
+    Ok((arena.list(posts)?, rest))
 }
 
 /// "[" .. "]" | "(" .. ")" | "." method
 #[cycle(expression)]
 #[tactic(auto, unfolding(dpl_spelling::specs::Expressions::post, dpl_spelling::specs::Expressions::brackets, dpl_spelling::specs::Expressions::rounds))]
-fn post<'a>(alloc: Global, room: u32, tokens: Tokens<'a>) -> Parsed<'a, Post<'a>>
+fn post<'t>(arena: Arena<'t>, room: u32, tokens: Tokens<'t>) -> Parsed<'t, Post<'t>>
     ensures gives { Gives (λ x. (post_view x.0, x.1.now)) result (at post_rule room tokens.now) }
     ensures shorter { IfOk result (λ x. length x.1.now < length tokens.now) }
 {
     if is_sign(tokens, Sign::OpenSquare) {
-        brackets(alloc, room, tokens)
+        brackets(arena, room, tokens)
     } else if is_sign(tokens, Sign::OpenRound) {
-        rounds(alloc, room, tokens)
+        rounds(arena, room, tokens)
     } else {
-        dotted(alloc, room, tokens)
+        dotted(arena, room, tokens)
     }
 }
 
 /// "[" item { "," item } "]"
 #[cycle(expression)]
 #[tactic(auto, unfolding(dpl_spelling::specs::Expressions::brackets))]
-fn brackets<'a>(alloc: Global, room: u32, tokens: Tokens<'a>) -> Parsed<'a, Post<'a>>
+fn brackets<'t>(arena: Arena<'t>, room: u32, tokens: Tokens<'t>) -> Parsed<'t, Post<'t>>
     ensures gives { Gives (λ x. (post_view x.0, x.1.now)) result (at brackets_rule room tokens.now) }
     ensures shorter { IfOk result (λ x. length x.1.now < length tokens.now) }
 {
     let (from, room, rest) = deeper(room, Sign::OpenSquare, tokens)?;
-    let (items, rest) = items(alloc, room, rest)?;
+    let (items, rest) = items(arena, room, rest)?;
     let (upto, rest) = sign(Sign::CloseSquare, rest)?;
     Ok((
         Post::Brackets {
             from: from.at,
-            items: Box::new(alloc, items)?,
+            items: arena.node(items)?,
             upto: upto.at,
         },
         rest,
@@ -113,17 +116,17 @@ fn brackets<'a>(alloc: Global, room: u32, tokens: Tokens<'a>) -> Parsed<'a, Post
 /// "(" expr { "," expr } ")"
 #[cycle(expression)]
 #[tactic(auto, unfolding(dpl_spelling::specs::Expressions::rounds))]
-fn rounds<'a>(alloc: Global, room: u32, tokens: Tokens<'a>) -> Parsed<'a, Post<'a>>
+fn rounds<'t>(arena: Arena<'t>, room: u32, tokens: Tokens<'t>) -> Parsed<'t, Post<'t>>
     ensures gives { Gives (λ x. (post_view x.0, x.1.now)) result (at rounds_rule room tokens.now) }
     ensures shorter { IfOk result (λ x. length x.1.now < length tokens.now) }
 {
     let (from, room, rest) = deeper(room, Sign::OpenRound, tokens)?;
-    let (exprs, rest) = exprs(alloc, room, rest)?;
+    let (exprs, rest) = exprs(arena, room, rest)?;
     let (upto, rest) = sign(Sign::CloseRound, rest)?;
     Ok((
         Post::Rounds {
             from: from.at,
-            exprs: Box::new(alloc, exprs)?,
+            exprs: arena.node(exprs)?,
             upto: upto.at,
         },
         rest,
@@ -133,11 +136,11 @@ fn rounds<'a>(alloc: Global, room: u32, tokens: Tokens<'a>) -> Parsed<'a, Post<'
 /// "." method
 #[cycle(expression)]
 #[tactic(auto, unfolding(dpl_spelling::specs::Expressions::dotted))]
-fn dotted<'a>(alloc: Global, room: u32, tokens: Tokens<'a>) -> Parsed<'a, Post<'a>>
+fn dotted<'t>(arena: Arena<'t>, room: u32, tokens: Tokens<'t>) -> Parsed<'t, Post<'t>>
     ensures gives { Gives (λ x. (post_view x.0, x.1.now)) result (at dotted_rule room tokens.now) }
     ensures shorter { IfOk result (λ x. length x.1.now < length tokens.now) }
 {
     let (dot, rest) = sign(Sign::Dot, tokens)?;
-    let (method, rest) = method(alloc, room, rest)?;
+    let (method, rest) = method(arena, room, rest)?;
     Ok((Post::Dotted(dot.at, method), rest))
 }

@@ -15,20 +15,19 @@ ghost use Rattle.dpl_expressions.specs.Levels.{op_class};
 use crate::postfix::postfix;
 use crate::token::{Parsed, Tokens, deeper, deeper_word, keyword, unexpected};
 use dpl_syntax::{Keyword, Kind, Sign, Stop, Token};
-use dpl_tree::{Expr, Op, Reduction};
-use std::alloc::Global;
+use dpl_tree::{Arena, Expr, Op, Reduction};
 
 /// red = redop "reduce" red | postfix
 #[cycle(expression)]
 #[tactic(auto, unfolding(dpl_spelling::specs::Expressions::red))]
-pub fn red<'a>(alloc: Global, room: u32, tokens: Tokens<'a>) -> Parsed<'a, Expr<'a>>
-    ensures gives { Gives (λ x. (expr_view x.0, x.1.now)) result (at (red_rule base_rule) room tokens.now) }
+pub fn red<'t>(arena: Arena<'t>, room: u32, tokens: Tokens<'t>) -> Parsed<'t, &'t Expr<'t>>
+    ensures gives { Gives (λ x. (expr_view x.0.now, x.1.now)) result (at (red_rule base_rule) room tokens.now) }
     ensures shorter { IfOk result (λ x. length x.1.now < length tokens.now) }
 {
     if is_reduce_operator(tokens) {
-        reduction(alloc, room, tokens)
+        reduction(arena, room, tokens)
     } else {
-        postfix(alloc, room, tokens)
+        postfix(arena, room, tokens)
     }
 }
 
@@ -57,21 +56,21 @@ fn is_reduce_operator(tokens: Tokens<'_>) -> bool
 /// redop "reduce" red
 #[cycle(expression)]
 #[tactic(auto, unfolding(dpl_spelling::specs::Expressions::reduction))]
-fn reduction<'a>(alloc: Global, room: u32, tokens: Tokens<'a>) -> Parsed<'a, Expr<'a>>
-    ensures gives { Gives (λ x. (expr_view x.0, x.1.now)) result (at reduction_rule room tokens.now) }
+fn reduction<'t>(arena: Arena<'t>, room: u32, tokens: Tokens<'t>) -> Parsed<'t, &'t Expr<'t>>
+    ensures gives { Gives (λ x. (expr_view x.0.now, x.1.now)) result (at reduction_rule room tokens.now) }
     ensures shorter { IfOk result (λ x. length x.1.now < length tokens.now) }
 {
     match tokens {
         [next, ..] => match next.kind {
-            Kind::Sign(Sign::Plus) => reduced(alloc, room, Op::Sum, tokens),
-            Kind::Sign(Sign::Star) => reduced(alloc, room, Op::Product, tokens),
-            Kind::Sign(Sign::AndAnd) => reduced(alloc, room, Op::AllOf, tokens),
-            Kind::Sign(Sign::OrOr) => reduced(alloc, room, Op::AnyOf, tokens),
-            Kind::Sign(Sign::And) => reduced(alloc, room, Op::BitAnd, tokens),
-            Kind::Sign(Sign::Or) => reduced(alloc, room, Op::BitOr, tokens),
-            Kind::Sign(Sign::Caret) => reduced(alloc, room, Op::BitXor, tokens),
-            Kind::Keyword(Keyword::Min) => reduced(alloc, room, Op::Least, tokens),
-            _ => reduced(alloc, room, Op::Greatest, tokens),
+            Kind::Sign(Sign::Plus) => reduced(arena, room, Op::Sum, tokens),
+            Kind::Sign(Sign::Star) => reduced(arena, room, Op::Product, tokens),
+            Kind::Sign(Sign::AndAnd) => reduced(arena, room, Op::AllOf, tokens),
+            Kind::Sign(Sign::OrOr) => reduced(arena, room, Op::AnyOf, tokens),
+            Kind::Sign(Sign::And) => reduced(arena, room, Op::BitAnd, tokens),
+            Kind::Sign(Sign::Or) => reduced(arena, room, Op::BitOr, tokens),
+            Kind::Sign(Sign::Caret) => reduced(arena, room, Op::BitXor, tokens),
+            Kind::Keyword(Keyword::Min) => reduced(arena, room, Op::Least, tokens),
+            _ => reduced(arena, room, Op::Greatest, tokens),
         },
         [] => Err(unexpected(tokens)),
     }
@@ -80,20 +79,21 @@ fn reduction<'a>(alloc: Global, room: u32, tokens: Tokens<'a>) -> Parsed<'a, Exp
 /// redop "reduce" red, for one operator
 #[cycle(expression)]
 #[tactic(auto, using(dpl_spelling::proofs::Below::below_red))]
-fn reduced<'a>(alloc: Global, room: u32, op: Op, tokens: Tokens<'a>) -> Parsed<'a, Expr<'a>>
-    ensures gives { Gives (λ x. (expr_view x.0, x.1.now)) result (at (reduction_by (op_class op) (op_view op)) room tokens.now) }
+fn reduced<'t>(arena: Arena<'t>, room: u32, op: Op, tokens: Tokens<'t>) -> Parsed<'t, &'t Expr<'t>>
+    ensures gives { Gives (λ x. (expr_view x.0.now, x.1.now)) result (at (reduction_by (op_class op) (op_view op)) room tokens.now) }
     ensures shorter { IfOk result (λ x. length x.1.now < length tokens.now) }
 {
     let (next, room, rest) = deeper_by(room, op, tokens)?;
     let (word, rest) = keyword(Keyword::Reduce, rest)?;
-    let (operand, rest) = red(alloc, room, rest)?;
+    let (operand, rest) = red(arena, room, rest)?;
     let reduction = Reduction {
         at: next.at,
         op,
         reduce: word.at,
         operand,
     };
-    Ok((Expr::Reduced(Box::new(alloc, reduction)?), rest))
+    let reduced = Expr::Reduced(arena.node(reduction)?);
+    Ok((arena.node(reduced)?, rest))
 }
 
 /// An operator of a reduction, which goes one level deeper.

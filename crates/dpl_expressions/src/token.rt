@@ -9,7 +9,7 @@ ghost use Rattle.dpl_tree.specs.View.{name_view};
 ghost use Rattle.dpl_spelling.specs.Expressions.{name as name_rule, number_token};
 ghost use Rattle.dpl_spelling.specs.Reading.{at, deeper_at};
 
-use dpl_syntax::{Bytes, Code, Contextual, Keyword, Kind, Place, Refusal, Sign, Stop, Token};
+use dpl_syntax::{Code, Contextual, Keyword, Kind, Place, Refusal, Sign, Stop, Token};
 use dpl_tree::Name;
 
 /// The tokens that are left.
@@ -206,8 +206,8 @@ pub fn name<'a>(tokens: Tokens<'a>) -> Parsed<'a, Name<'a>>
 {
     match tokens {
         [next, rest @ ..] => match &next.kind {
-            Kind::Name(text) => Ok((named(next.at, text.copied()), rest)),
-            Kind::Contextual(word) => Ok((named(next.at, Bytes::new(word.text())), rest)),
+            Kind::Name(text) => Ok((named(next.at, text.as_bytes()), rest)),
+            Kind::Contextual(word) => Ok((named(next.at, word.text()), rest)),
             _ => Err(unexpected(tokens)),
         },
         [] => Err(unexpected(tokens)),
@@ -215,8 +215,8 @@ pub fn name<'a>(tokens: Tokens<'a>) -> Parsed<'a, Name<'a>>
 }
 
 /// The name with these bytes.
-fn named<'a>(at: Place, text: Bytes<'a>) -> Name<'a>
-    ensures { name_view result ≡ record { at = at; name = text.entry } }
+fn named<'a>(at: Place, text: &'a [u8]) -> Name<'a>
+    ensures { name_view result ≡ record { at = at; name = text.now } }
 {
     Name { at, text }
 }

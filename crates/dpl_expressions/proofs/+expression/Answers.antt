@@ -32,7 +32,7 @@ chain::links-each-preserved t c =
 pub chain::links-returns-clause-gives : goal.chain::links-returns-clause-gives
 chain::links-returns-clause-gives t c =
     let not : next_in (first (further_rule c.args.level)) c.each.rest.now ≡ false = sym c.is_next.ensures ∙ c.each-test.false in
-    ends (first (further_rule c.args.level)) (at (further_rule c.args.level) c.args.room) c.args.tokens.now (map further_view c.each.links.items) c.each.rest.now c.each.invariant not
+    rw c.in_ok-list.ensures (ends (first (further_rule c.args.level)) (at (further_rule c.args.level) c.args.room) c.args.tokens.now (map further_view c.each.links.items) c.each.rest.now c.each.invariant not)
 
 pub postfix::posts-returns-in_err-post-clause-gives : goal.postfix::posts-returns-in_err-post-clause-gives
 postfix::posts-returns-in_err-post-clause-gives t c =
@@ -50,7 +50,7 @@ postfix::posts-each-preserved t c =
 pub postfix::posts-returns-clause-gives : goal.postfix::posts-returns-clause-gives
 postfix::posts-returns-clause-gives t c =
     let not : next_in (first post) c.each.rest.now ≡ false = sym c.begins_post.ensures ∙ c.each-test.false in
-    ends (first post) (at post c.args.room) c.args.tokens.now (map post_view c.each.posts.items) c.each.rest.now c.each.invariant not
+    rw c.in_ok-list.ensures (ends (first post) (at post c.args.room) c.args.tokens.now (map post_view c.each.posts.items) c.each.rest.now c.each.invariant not)
 
 pub list::more_items-returns-in_err-next-clause-gives : goal.list::more_items-returns-in_err-next-clause-gives
 unfolding after_comma
@@ -71,7 +71,7 @@ pub list::more_items-returns-clause-gives : goal.list::more_items-returns-clause
 unfolding after_comma
 list::more_items-returns-clause-gives t c =
     let not : next_in (sign Comma) c.each.rest.now ≡ false = sym c.is_sign.ensures ∙ c.each-test.false in
-    ends (sign Comma) (at (after_comma (below ItemBelow)) (c.args.room + 1)) c.args.tokens.now (map next_item_view c.each.others.items) c.each.rest.now c.each.invariant not
+    rw c.in_ok-list.ensures (ends (sign Comma) (at (after_comma (below ItemBelow)) (c.args.room + 1)) c.args.tokens.now (map next_item_view c.each.others.items) c.each.rest.now c.each.invariant not)
 
 pub list::more_exprs-returns-in_err-next-clause-gives : goal.list::more_exprs-returns-in_err-next-clause-gives
 unfolding after_comma
@@ -92,31 +92,31 @@ pub list::more_exprs-returns-clause-gives : goal.list::more_exprs-returns-clause
 unfolding after_comma
 list::more_exprs-returns-clause-gives t c =
     let not : next_in (sign Comma) c.each.rest.now ≡ false = sym c.is_sign.ensures ∙ c.each-test.false in
-    ends (sign Comma) (at (after_comma (below ExpressionBelow)) (c.args.room + 1)) c.args.tokens.now (map next_expr_view c.each.others.items) c.each.rest.now c.each.invariant not
+    rw c.in_ok-list.ensures (ends (sign Comma) (at (after_comma (below ExpressionBelow)) (c.args.room + 1)) c.args.tokens.now (map next_expr_view c.each.others.items) c.each.rest.now c.each.invariant not)
 
-pub factor::factors-returns-in_err-factor-clause-gives : goal.factor::factors-returns-in_err-factor-clause-gives
-factor::factors-returns-in_err-factor-clause-gives t c =
+pub factor::further_factors-returns-in_err-factor-clause-gives : goal.factor::further_factors-returns-in_err-factor-clause-gives
+factor::further_factors-returns-in_err-factor-clause-gives t c =
     let p = err_from_is_err_and c.from_residual.result c.from_residual.ensures.1 in
     let is : next_in (first_late further_factor) c.each.rest.now ≡ true = sym c.is_product_operator.ensures ∙ c.each-test.true in
     rw (p.1, p.2) (run_fails (first_late further_factor) (λ (f : Further). Bool.not (is_negated f.right)) (late_at further_factor c.args.room) c.args.tokens.now (map further_view c.each.factors.items) c.each.rest.now c.in_err-factor.field-0.0 c.each.invariant is c.in_err-factor.ensures.gives)
 
-pub factor::factors-each-preserved : goal.factor::factors-each-preserved
-factor::factors-each-preserved t c =
+pub factor::further_factors-each-preserved : goal.factor::further_factors-each-preserved
+factor::further_factors-each-preserved t c =
     let x = c.in_ok-factor.factor in
     let e : map further_view c.push.new.self.items ≡ map further_view c.each.factors.items ++ further_view x ∷ [] = rw c.in_ok-push.ensures.items (map_push _ c.each.factors.items x) in
     let is : next_in (first_late further_factor) c.each.rest.now ≡ true = sym c.is_product_operator.ensures ∙ c.each-test.true in
-    let m : Bool.not (is_negated (expr_view x.right)) ≡ true = ap (λ b. Bool.not b) (sym c.is_negated-last.ensures ∙ c.if-last.false) in
+    let m : Bool.not (is_negated (expr_view x.right.now)) ≡ true = ap (λ b. Bool.not b) (sym c.is_negated-last.ensures ∙ c.if-last.false) in
     rw (c.passed_on-rest.ensures, e) (run_goes_on (first_late further_factor) (λ (f : Further). Bool.not (is_negated f.right)) (late_at further_factor c.args.room) c.args.tokens.now (map further_view c.each.factors.items) c.each.rest.now (further_view x) c.in_ok-factor.after.now c.each.invariant is c.in_ok-factor.ensures.gives m c.in_ok-factor.ensures.shorter)
 
-pub factor::factors-returns-then-last-clause-gives : goal.factor::factors-returns-then-last-clause-gives
-factor::factors-returns-then-last-clause-gives t c =
+pub factor::further_factors-returns-then-last-clause-gives : goal.factor::further_factors-returns-then-last-clause-gives
+factor::further_factors-returns-then-last-clause-gives t c =
     let x = c.in_ok-factor.factor in
     let e : map further_view c.push.new.self.items ≡ map further_view c.each.factors.items ++ further_view x ∷ [] = rw c.in_ok-push.ensures.items (map_push _ c.each.factors.items x) in
     let is : next_in (first_late further_factor) c.each.rest.now ≡ true = sym c.is_product_operator.ensures ∙ c.each-test.true in
-    let m : Bool.not (is_negated (expr_view x.right)) ≡ false = ap (λ b. Bool.not b) (sym c.is_negated-last.ensures ∙ c.if-last.true) in
+    let m : Bool.not (is_negated (expr_view x.right.now)) ≡ false = ap (λ b. Bool.not b) (sym c.is_negated-last.ensures ∙ c.if-last.true) in
     rw (c.passed_on-rest.ensures, e) (run_last (first_late further_factor) (λ (f : Further). Bool.not (is_negated f.right)) (late_at further_factor c.args.room) c.args.tokens.now (map further_view c.each.factors.items) c.each.rest.now (further_view x) c.in_ok-factor.after.now c.each.invariant is c.in_ok-factor.ensures.gives m c.in_ok-factor.ensures.shorter)
 
-pub factor::factors-returns-clause-gives : goal.factor::factors-returns-clause-gives
-factor::factors-returns-clause-gives t c =
+pub factor::further_factors-returns-clause-gives : goal.factor::further_factors-returns-clause-gives
+factor::further_factors-returns-clause-gives t c =
     let not : next_in (first_late further_factor) c.each.rest.now ≡ false = sym c.is_product_operator.ensures ∙ c.each-test.false in
     run_ends (first_late further_factor) (λ (f : Further). Bool.not (is_negated f.right)) (late_at further_factor c.args.room) c.args.tokens.now (map further_view c.each.factors.items) c.each.rest.now c.each.invariant not

@@ -10,7 +10,7 @@ use Rattle.dpl_tree.specs.View.{post_view, next_expr_view}
 use Rattle.dpl_spelling.specs.Nested.{ItemBelow, ExpressionBelow}
 use Rattle.dpl_spelling.specs.Expressions.{after_comma, post, is_negated, further_factor}
 use Rattle.dpl_spelling.specs.Reading.{at, late_at}
-use Rattle.dpl_expressions.specs.Levels.{operator_rule, further_rule, further_view, next_item_view}
+use Rattle.dpl_expressions.specs.Levels.{further_rule, further_view, next_item_view}
 use Rattle.dpl_expressions.proofs.Levels.{rank}
 use Rattle.dpl_expressions.proofs.+expression.Given as goal
 
@@ -110,23 +110,26 @@ decreases-factor::factor l = l.room * 64 + 10
 abbrev pub decreases-factor::further_factor : goal.decreases-factor::further_factor
 decreases-factor::further_factor l = l.room * 64 + 11
 
+abbrev pub decreases-factor::further_factors : goal.decreases-factor::further_factors
+decreases-factor::further_factors l = l.room * 64 + 12
+
 abbrev pub decreases-factor::factors : goal.decreases-factor::factors
-decreases-factor::factors l = l.room * 64 + 12
+decreases-factor::factors l = l.room * 64 + 13
 
-abbrev pub invariant-factor::factors-each : goal.invariant-factor::factors-each
-invariant-factor::factors-each l = IsRunSoFar (first_late further_factor) (λ f. Bool.not (is_negated f.right)) (late_at further_factor l.room) l.tokens (map further_view l.factors.items) l.rest
+abbrev pub invariant-factor::further_factors-each : goal.invariant-factor::further_factors-each
+invariant-factor::further_factors-each l = IsRunSoFar (first_late further_factor) (λ f. Bool.not (is_negated f.right)) (late_at further_factor l.room) l.tokens (map further_view l.factors.items) l.rest
 
-abbrev pub decreases-factor::factors-each : goal.decreases-factor::factors-each
-decreases-factor::factors-each l = length l.rest
+abbrev pub decreases-factor::further_factors-each : goal.decreases-factor::further_factors-each
+decreases-factor::further_factors-each l = length l.rest
 
 abbrev pub decreases-factor::negated : goal.decreases-factor::negated
 decreases-factor::negated l = l.room * 64
 
 abbrev pub decreases-factor::product : goal.decreases-factor::product
-decreases-factor::product l = l.room * 64 + 13
+decreases-factor::product l = l.room * 64 + 14
 
 abbrev pub decreases-factor::neg : goal.decreases-factor::neg
-decreases-factor::neg l = l.room * 64 + 14
+decreases-factor::neg l = l.room * 64 + 15
 
 abbrev pub decreases-chain::operand : goal.decreases-chain::operand
 decreases-chain::operand l = l.room * 64 + rank l.level
