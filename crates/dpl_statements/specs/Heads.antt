@@ -10,7 +10,7 @@ use Rattle.dpl_statements.specs.declared.head.Head.{Head}
 use Rattle.dpl_spelling.specs.Statements.{Condition, Loop, ParallelLoop}
 
 abbrev pub guard_view : Guard → Condition
-guard_view c = record { at = c.at; value = expr_view c.value }
+guard_view c = record { at = c.at; value = expr_view c.value.now }
 
 abbrev pub head_view : Head → Loop
 head_view h = record { at = h.at; variables = variables_view h.variables; within = h.within; over = item_view h.over }

@@ -22,25 +22,24 @@ use dpl_expressions::token::{
 };
 use dpl_syntax::{Contextual, Keyword, Sign, Token};
 use dpl_tree::{
-    Assign, AssignSign, Assignment, Call, CellCall, Element, Name, ReadWord, Shape, Stmt, Target,
-    WriteWord,
+    Arena, Assign, AssignSign, Assignment, Call, CellCall, Element, Name, ReadWord, Shape, Stmt,
+    Target, WriteWord,
 };
-use std::alloc::Global;
 
 /// "[" expr { "," expr } "]" | "(" expr { "," expr } ")", behind a name
 #[tactic(auto, unfolding(dpl_spelling::specs::Parts::told, dpl_spelling::specs::Statements::target_end))]
-fn element<'a>(
-    alloc: Global,
+fn element<'t>(
+    arena: Arena<'t>,
     room: u32,
-    name: Name<'a>,
+    name: Name<'t>,
     shape: (Shape, Sign, Sign),
-    tokens: Tokens<'a>,
-) -> Parsed<'a, Target<'a>>
+    tokens: Tokens<'t>,
+) -> Parsed<'t, Target<'t>>
     ensures gives { Gives (λ x. (target_view x.0, x.1.now)) result (at (told (name_view name.entry) (element_rule (shape_view shape.0) (sign_class shape.1) (sign_class shape.2))) room tokens.now) }
     ensures shorter { IfOk result (λ x. length x.1.now < length tokens.now) }
 {
     let (open, room, rest) = deeper(room, shape.1, tokens)?;
-    let (exprs, rest) = exprs(alloc, room, rest)?;
+    let (exprs, rest) = exprs(arena, room, rest)?;
     let (close, rest) = sign(shape.2, rest)?;
     let element = Element {
         name,
@@ -49,26 +48,26 @@ fn element<'a>(
         exprs,
         upto: close.at,
     };
-    Ok((Target::Element(Box::new(alloc, element)?), rest))
+    Ok((Target::Element(arena.node(element)?), rest))
 }
 
 /// [ "[" expr { "," expr } "]" | "(" expr { "," expr } ")" ], behind a target's name
 #[tactic(auto, unfolding(dpl_spelling::specs::Parts::told, dpl_spelling::specs::Statements::target_end))]
-fn target_end<'a>(
-    alloc: Global,
+fn target_end<'t>(
+    arena: Arena<'t>,
     room: u32,
-    name: Name<'a>,
-    tokens: Tokens<'a>,
-) -> Parsed<'a, Target<'a>>
+    name: Name<'t>,
+    tokens: Tokens<'t>,
+) -> Parsed<'t, Target<'t>>
     ensures gives { Gives (λ x. (target_view x.0, x.1.now)) result (at (told (name_view name.entry) target_end_rule) room tokens.now) }
     ensures shorter { IfOk result (λ x. length x.1.now ≤ length tokens.now) }
 {
     if is_sign(tokens, Sign::OpenSquare) {
         let shape = (Shape::Square, Sign::OpenSquare, Sign::CloseSquare);
-        element(alloc, room, name, shape, tokens)
+        element(arena, room, name, shape, tokens)
     } else if is_sign(tokens, Sign::OpenRound) {
         let shape = (Shape::Round, Sign::OpenRound, Sign::CloseRound);
-        element(alloc, room, name, shape, tokens)
+        element(arena, room, name, shape, tokens)
     } else {
         Ok((Target::Whole(name), tokens))
     }
@@ -128,18 +127,18 @@ fn assign_sign(tokens: Tokens<'_>) -> Parsed<'_, AssignSign>
 
 /// target assignop item ";", behind the target's name
 #[tactic(auto, unfolding(dpl_spelling::specs::Parts::told, dpl_spelling::specs::Statements::assignment_end))]
-fn assignment_end<'a>(
-    alloc: Global,
+fn assignment_end<'t>(
+    arena: Arena<'t>,
     room: u32,
-    name: Name<'a>,
-    tokens: Tokens<'a>,
-) -> Parsed<'a, Stmt<'a>>
+    name: Name<'t>,
+    tokens: Tokens<'t>,
+) -> Parsed<'t, Stmt<'t>>
     ensures gives { Gives (λ x. (stmt_view x.0, x.1.now)) result (at (told (name_view name.entry) assignment_end_rule) room tokens.now) }
     ensures shorter { IfOk result (λ x. length x.1.now < length tokens.now) }
 {
-    let (target, rest) = target_end(alloc, room, name, tokens)?;
+    let (target, rest) = target_end(arena, room, name, tokens)?;
     let (op, rest) = assign_sign(rest)?;
-    let (value, rest) = item(alloc, room, rest)?;
+    let (value, rest) = item(arena, room, rest)?;
     let (semicolon, rest) = sign(Sign::Semicolon, rest)?;
     let assignment = Assignment {
         target,
@@ -147,35 +146,35 @@ fn assignment_end<'a>(
         value,
         semicolon: semicolon.at,
     };
-    Ok((Stmt::Assigned(Box::new(alloc, assignment)?), rest))
+    Ok((Stmt::Assigned(arena.node(assignment)?), rest))
 }
 
 /// word "(" expr ")", for a word that writes
 #[tactic(auto, using(dpl_spelling::proofs::Below::below_expression))]
-fn write_call<'a>(
-    alloc: Global,
+fn write_call<'t>(
+    arena: Arena<'t>,
     room: u32,
     wanted: Contextual,
     word: WriteWord,
-    tokens: Tokens<'a>,
-) -> Parsed<'a, Call<'a>>
+    tokens: Tokens<'t>,
+) -> Parsed<'t, Call<'t>>
     ensures gives { Gives (λ x. (call_view x.0, x.1.now)) result (at (write_call_rule (contextual_class wanted) (write_view word)) room tokens.now) }
     ensures shorter { IfOk result (λ x. length x.1.now < length tokens.now) }
 {
     let (next, rest) = contextual(wanted, tokens)?;
     let (open, room, rest) = deeper(room, Sign::OpenRound, rest)?;
-    let (value, rest) = expression(alloc, room, rest)?;
+    let (value, rest) = expression(arena, room, rest)?;
     let (close, rest) = sign(Sign::CloseRound, rest)?;
     Ok((Call::Write(next.at, word, open.at, value, close.at), rest))
 }
 
 /// word "(" ")", for a word that reads
-fn read_call<'a>(
+fn read_call<'t>(
     room: u32,
     wanted: Contextual,
     word: ReadWord,
-    tokens: Tokens<'a>,
-) -> Parsed<'a, Call<'a>>
+    tokens: Tokens<'t>,
+) -> Parsed<'t, Call<'t>>
     ensures gives { Gives (λ x. (call_view x.0, x.1.now)) result (at (read_call_rule (contextual_class wanted) (read_view word)) room tokens.now) }
     ensures shorter { IfOk result (λ x. length x.1.now < length tokens.now) }
 {
@@ -187,7 +186,7 @@ fn read_call<'a>(
 
 /// "reset" "(" ")"
 #[tactic(auto, unfolding(dpl_spelling::specs::Statements::reset_call))]
-fn reset_call<'a>(room: u32, tokens: Tokens<'a>) -> Parsed<'a, Call<'a>>
+fn reset_call<'t>(room: u32, tokens: Tokens<'t>) -> Parsed<'t, Call<'t>>
     ensures gives { Gives (λ x. (call_view x.0, x.1.now)) result (at reset_call_rule room tokens.now) }
     ensures shorter { IfOk result (λ x. length x.1.now < length tokens.now) }
 {
@@ -199,16 +198,16 @@ fn reset_call<'a>(room: u32, tokens: Tokens<'a>) -> Parsed<'a, Call<'a>>
 
 /// cellcall = ("writeEF" | "writeFF" | "writeXF") "(" expr ")" | ("reset" | "readFE" | "readFF") "(" ")"
 #[tactic(auto, unfolding(dpl_spelling::specs::Statements::cell_call, dpl_spelling::specs::Statements::reset_call))]
-fn cell_call<'a>(alloc: Global, room: u32, tokens: Tokens<'a>) -> Parsed<'a, Call<'a>>
+fn cell_call<'t>(arena: Arena<'t>, room: u32, tokens: Tokens<'t>) -> Parsed<'t, Call<'t>>
     ensures gives { Gives (λ x. (call_view x.0, x.1.now)) result (at cell_call_rule room tokens.now) }
     ensures shorter { IfOk result (λ x. length x.1.now < length tokens.now) }
 {
     if is_contextual(tokens, Contextual::WriteEF) {
-        write_call(alloc, room, Contextual::WriteEF, WriteWord::WriteEF, tokens)
+        write_call(arena, room, Contextual::WriteEF, WriteWord::WriteEF, tokens)
     } else if is_contextual(tokens, Contextual::WriteFF) {
-        write_call(alloc, room, Contextual::WriteFF, WriteWord::WriteFF, tokens)
+        write_call(arena, room, Contextual::WriteFF, WriteWord::WriteFF, tokens)
     } else if is_contextual(tokens, Contextual::WriteXF) {
-        write_call(alloc, room, Contextual::WriteXF, WriteWord::WriteXF, tokens)
+        write_call(arena, room, Contextual::WriteXF, WriteWord::WriteXF, tokens)
     } else if is_contextual(tokens, Contextual::Reset) {
         reset_call(room, tokens)
     } else if is_contextual(tokens, Contextual::ReadFE) {
@@ -220,17 +219,17 @@ fn cell_call<'a>(alloc: Global, room: u32, tokens: Tokens<'a>) -> Parsed<'a, Cal
 
 /// "." cellcall ";", behind a cell's name
 #[tactic(auto, unfolding(dpl_spelling::specs::Parts::told, dpl_spelling::specs::Statements::call_end))]
-fn call_end<'a>(
-    alloc: Global,
+fn call_end<'t>(
+    arena: Arena<'t>,
     room: u32,
-    name: Name<'a>,
-    tokens: Tokens<'a>,
-) -> Parsed<'a, Stmt<'a>>
+    name: Name<'t>,
+    tokens: Tokens<'t>,
+) -> Parsed<'t, Stmt<'t>>
     ensures gives { Gives (λ x. (stmt_view x.0, x.1.now)) result (at (told (name_view name.entry) call_end_rule) room tokens.now) }
     ensures shorter { IfOk result (λ x. length x.1.now < length tokens.now) }
 {
     let (dot, rest) = sign(Sign::Dot, tokens)?;
-    let (call, rest) = cell_call(alloc, room, rest)?;
+    let (call, rest) = cell_call(arena, room, rest)?;
     let (semicolon, rest) = sign(Sign::Semicolon, rest)?;
     let call = CellCall {
         name,
@@ -238,19 +237,19 @@ fn call_end<'a>(
         call,
         semicolon: semicolon.at,
     };
-    Ok((Stmt::Call(Box::new(alloc, call)?), rest))
+    Ok((Stmt::Call(arena.node(call)?), rest))
 }
 
 /// target assignop item ";" | name "." cellcall ";"
 #[tactic(auto, unfolding(dpl_spelling::specs::Parts::told, dpl_spelling::specs::Statements::named_statement, dpl_spelling::specs::Statements::call_end))]
-pub fn named_statement<'a>(alloc: Global, room: u32, tokens: Tokens<'a>) -> Parsed<'a, Stmt<'a>>
+pub fn named_statement<'t>(arena: Arena<'t>, room: u32, tokens: Tokens<'t>) -> Parsed<'t, Stmt<'t>>
     ensures gives { Gives (λ x. (stmt_view x.0, x.1.now)) result (at named_statement_rule room tokens.now) }
     ensures shorter { IfOk result (λ x. length x.1.now < length tokens.now) }
 {
     let (name, rest) = name(tokens)?;
     if is_sign(rest, Sign::Dot) {
-        call_end(alloc, room, name, rest)
+        call_end(arena, room, name, rest)
     } else {
-        assignment_end(alloc, room, name, rest)
+        assignment_end(arena, room, name, rest)
     }
 }

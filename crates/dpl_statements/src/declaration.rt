@@ -24,8 +24,9 @@ use dpl_expressions::token::{
 };
 use dpl_expressions::word::{create_word, scalar_kind, word_means};
 use dpl_syntax::{Contextual, Keyword, Place, Sign, Token};
-use dpl_tree::{ArrayType, Create, Declare, DeclaredType, DomainType, Init, Initial, Stmt, Typed};
-use std::alloc::Global;
+use dpl_tree::{
+    Arena, ArrayType, Create, Declare, DeclaredType, DomainType, Init, Initial, Stmt, Typed,
+};
 
 /// "sync" ("int" | "bool")
 #[tactic(auto, unfolding(dpl_spelling::specs::Declarations::sync_type))]
@@ -40,7 +41,7 @@ fn sync_type(tokens: Tokens<'_>) -> Parsed<'_, DeclaredType<'_>>
 
 /// "domain" "(" number ")" [ "dmapped" map ]
 #[tactic(auto, unfolding(dpl_spelling::specs::Declarations::domain_type))]
-fn domain_type<'a>(alloc: Global, room: u32, tokens: Tokens<'a>) -> Parsed<'a, DeclaredType<'a>>
+fn domain_type<'t>(arena: Arena<'t>, room: u32, tokens: Tokens<'t>) -> Parsed<'t, DeclaredType<'t>>
     ensures gives { Gives (λ x. (type_view x.0, x.1.now)) result (at domain_type_rule room tokens.now) }
     ensures shorter { IfOk result (λ x. length x.1.now < length tokens.now) }
 {
@@ -48,7 +49,7 @@ fn domain_type<'a>(alloc: Global, room: u32, tokens: Tokens<'a>) -> Parsed<'a, D
     let (open, _, rest) = deeper(room, Sign::OpenRound, rest)?;
     let ((rank_at, rank), rest) = number(rest)?;
     let (close, rest) = sign(Sign::CloseRound, rest)?;
-    let (mapped, rest) = maybe_mapped(alloc, room, rest)?;
+    let (mapped, rest) = maybe_mapped(arena, room, rest)?;
     let declared = DomainType {
         at: word.at,
         from: open.at,
@@ -62,12 +63,12 @@ fn domain_type<'a>(alloc: Global, room: u32, tokens: Tokens<'a>) -> Parsed<'a, D
 
 /// "[" item { "," item } "]" ("int" | "bool")
 #[tactic(auto, unfolding(dpl_spelling::specs::Declarations::array_type))]
-fn array_type<'a>(alloc: Global, room: u32, tokens: Tokens<'a>) -> Parsed<'a, DeclaredType<'a>>
+fn array_type<'t>(arena: Arena<'t>, room: u32, tokens: Tokens<'t>) -> Parsed<'t, DeclaredType<'t>>
     ensures gives { Gives (λ x. (type_view x.0, x.1.now)) result (at array_type_rule room tokens.now) }
     ensures shorter { IfOk result (λ x. length x.1.now < length tokens.now) }
 {
     let (open, room, rest) = deeper(room, Sign::OpenSquare, tokens)?;
-    let (over, rest) = items(alloc, room, rest)?;
+    let (over, rest) = items(arena, room, rest)?;
     let (close, rest) = sign(Sign::CloseSquare, rest)?;
     let ((kind_at, kind), rest) = scalar_kind(rest)?;
     let declared = ArrayType {
@@ -82,7 +83,11 @@ fn array_type<'a>(alloc: Global, room: u32, tokens: Tokens<'a>) -> Parsed<'a, De
 
 /// type = "int" | "bool" | "sync" .. | "domain" .. | "[" ..
 #[tactic(auto, unfolding(dpl_spelling::specs::Declarations::declared_type, dpl_spelling::specs::Declarations::sync_type, dpl_spelling::specs::Declarations::domain_type))]
-fn declared_type<'a>(alloc: Global, room: u32, tokens: Tokens<'a>) -> Parsed<'a, DeclaredType<'a>>
+fn declared_type<'t>(
+    arena: Arena<'t>,
+    room: u32,
+    tokens: Tokens<'t>,
+) -> Parsed<'t, DeclaredType<'t>>
     ensures gives { Gives (λ x. (type_view x.0, x.1.now)) result (at declared_type_rule room tokens.now) }
     ensures shorter { IfOk result (λ x. length x.1.now < length tokens.now) }
 {
@@ -92,20 +97,20 @@ fn declared_type<'a>(alloc: Global, room: u32, tokens: Tokens<'a>) -> Parsed<'a,
     } else if is_keyword(tokens, Keyword::Sync) {
         sync_type(tokens)
     } else if is_keyword(tokens, Keyword::Domain) {
-        domain_type(alloc, room, tokens)
+        domain_type(arena, room, tokens)
     } else {
-        array_type(alloc, room, tokens)
+        array_type(arena, room, tokens)
     }
 }
 
 /// ":" type
 #[tactic(auto, unfolding(dpl_spelling::specs::Declarations::typed))]
-fn typed<'a>(alloc: Global, room: u32, tokens: Tokens<'a>) -> Parsed<'a, Typed<'a>>
+fn typed<'t>(arena: Arena<'t>, room: u32, tokens: Tokens<'t>) -> Parsed<'t, Typed<'t>>
     ensures gives { Gives (λ x. (typed_view x.0, x.1.now)) result (at typed_rule room tokens.now) }
     ensures shorter { IfOk result (λ x. length x.1.now < length tokens.now) }
 {
     let (colon, rest) = sign(Sign::Colon, tokens)?;
-    let (declared, rest) = declared_type(alloc, room, rest)?;
+    let (declared, rest) = declared_type(arena, room, rest)?;
     Ok((
         Typed {
             colon: colon.at,
@@ -117,7 +122,7 @@ fn typed<'a>(alloc: Global, room: u32, tokens: Tokens<'a>) -> Parsed<'a, Typed<'
 
 /// ("blockDist" | "cyclicDist") "." "createDomain" "(" item { "," item } ")"
 #[tactic(auto, unfolding(dpl_spelling::specs::Declarations::created))]
-fn created<'a>(alloc: Global, room: u32, tokens: Tokens<'a>) -> Parsed<'a, Init<'a>>
+fn created<'t>(arena: Arena<'t>, room: u32, tokens: Tokens<'t>) -> Parsed<'t, Init<'t>>
     ensures gives { Gives (λ x. (init_view x.0, x.1.now)) result (at created_rule room tokens.now) }
     ensures shorter { IfOk result (λ x. length x.1.now < length tokens.now) }
 {
@@ -125,7 +130,7 @@ fn created<'a>(alloc: Global, room: u32, tokens: Tokens<'a>) -> Parsed<'a, Init<
     let (dot, rest) = sign(Sign::Dot, rest)?;
     let (method, rest) = contextual(Contextual::CreateDomain, rest)?;
     let (open, room, rest) = deeper(room, Sign::OpenRound, rest)?;
-    let (items, rest) = items(alloc, room, rest)?;
+    let (items, rest) = items(arena, room, rest)?;
     let (close, rest) = sign(Sign::CloseRound, rest)?;
     let create = Create {
         at,
@@ -141,26 +146,26 @@ fn created<'a>(alloc: Global, room: u32, tokens: Tokens<'a>) -> Parsed<'a, Init<
 
 /// init = item [ "dmapped" map ] | ("blockDist" | "cyclicDist") ..
 #[tactic(auto, using(dpl_spelling::proofs::Ways::read_init))]
-fn init<'a>(alloc: Global, room: u32, tokens: Tokens<'a>) -> Parsed<'a, Init<'a>>
+fn init<'t>(arena: Arena<'t>, room: u32, tokens: Tokens<'t>) -> Parsed<'t, Init<'t>>
     ensures gives { Gives (λ x. (init_view x.0, x.1.now)) result (at init_rule room tokens.now) }
     ensures shorter { IfOk result (λ x. length x.1.now < length tokens.now) }
 {
     if !begins_expression(tokens) {
-        return created(alloc, room, tokens);
+        return created(arena, room, tokens);
     }
-    let (item, rest) = item(alloc, room, tokens)?;
-    let (mapped, rest) = maybe_mapped(alloc, room, rest)?;
+    let (item, rest) = item(arena, room, tokens)?;
+    let (mapped, rest) = maybe_mapped(arena, room, rest)?;
     Ok((Init::Item(item, mapped), rest))
 }
 
 /// "=" init
 #[tactic(auto, unfolding(dpl_spelling::specs::Declarations::initial))]
-fn initial<'a>(alloc: Global, room: u32, tokens: Tokens<'a>) -> Parsed<'a, Initial<'a>>
+fn initial<'t>(arena: Arena<'t>, room: u32, tokens: Tokens<'t>) -> Parsed<'t, Initial<'t>>
     ensures gives { Gives (λ x. (initial_view x.0, x.1.now)) result (at initial_rule room tokens.now) }
     ensures shorter { IfOk result (λ x. length x.1.now < length tokens.now) }
 {
     let (equals, rest) = sign(Sign::Assign, tokens)?;
-    let (init, rest) = init(alloc, room, rest)?;
+    let (init, rest) = init(arena, room, rest)?;
     Ok((
         Initial {
             equals: equals.at,
@@ -172,54 +177,54 @@ fn initial<'a>(alloc: Global, room: u32, tokens: Tokens<'a>) -> Parsed<'a, Initi
 
 /// [ "=" init ]
 #[tactic(auto, unfolding(dpl_spelling::specs::Declarations::initial))]
-fn maybe_initial<'a>(
-    alloc: Global,
+fn maybe_initial<'t>(
+    arena: Arena<'t>,
     room: u32,
-    tokens: Tokens<'a>,
-) -> Parsed<'a, Option<Initial<'a>>>
+    tokens: Tokens<'t>,
+) -> Parsed<'t, Option<Initial<'t>>>
     ensures gives { Gives (λ x. (optional initial_view x.0, x.1.now)) result (at (maybe initial_rule) room tokens.now) }
     ensures shorter { IfOk result (λ x. length x.1.now ≤ length tokens.now) }
 {
     if !is_sign(tokens, Sign::Assign) {
         return Ok((None, tokens));
     }
-    let (initial, rest) = initial(alloc, room, tokens)?;
+    let (initial, rest) = initial(arena, room, tokens)?;
     Ok((Some(initial), rest))
 }
 
 /// ":" type [ "=" init ] | "=" init
 #[tactic(auto, unfolding(dpl_spelling::specs::Declarations::declared, dpl_spelling::specs::Declarations::typed))]
-fn declared<'a>(
-    alloc: Global,
+fn declared<'t>(
+    arena: Arena<'t>,
     room: u32,
-    tokens: Tokens<'a>,
-) -> Parsed<'a, (Option<Typed<'a>>, Option<Initial<'a>>)>
+    tokens: Tokens<'t>,
+) -> Parsed<'t, (Option<Typed<'t>>, Option<Initial<'t>>)>
     ensures gives { Gives (λ x. (declared_part x.0.0 x.0.1, x.1.now)) result (at declared_rule room tokens.now) }
     ensures shorter { IfOk result (λ x. length x.1.now < length tokens.now) }
 {
     if is_sign(tokens, Sign::Colon) {
-        let (typed, rest) = typed(alloc, room, tokens)?;
-        let (initial, rest) = maybe_initial(alloc, room, rest)?;
+        let (typed, rest) = typed(arena, room, tokens)?;
+        let (initial, rest) = maybe_initial(arena, room, rest)?;
         return Ok(((Some(typed), initial), rest));
     }
-    let (initial, rest) = initial(alloc, room, tokens)?;
+    let (initial, rest) = initial(arena, room, tokens)?;
     Ok(((None, Some(initial)), rest))
 }
 
 /// declrest = name ( ":" type [ "=" init ] | "=" init ) ";", behind its words
 #[tactic(auto, unfolding(dpl_spelling::specs::Declarations::declare_end))]
-fn declare_end<'a>(
-    alloc: Global,
+fn declare_end<'t>(
+    arena: Arena<'t>,
     room: u32,
     config: Option<Place>,
     word: (Place, bool),
-    tokens: Tokens<'a>,
-) -> Parsed<'a, Stmt<'a>>
+    tokens: Tokens<'t>,
+) -> Parsed<'t, Stmt<'t>>
     ensures gives { Gives (λ x. (stmt_view x.0, x.1.now)) result (at (declare_end_rule ∎ ⟶ λ make. make config word) room tokens.now) }
     ensures shorter { IfOk result (λ x. length x.1.now < length tokens.now) }
 {
     let (name, rest) = name(tokens)?;
-    let ((typed, initial), rest) = declared(alloc, room, rest)?;
+    let ((typed, initial), rest) = declared(arena, room, rest)?;
     let (semicolon, rest) = sign(Sign::Semicolon, rest)?;
     let declare = Declare {
         config,
@@ -230,7 +235,7 @@ fn declare_end<'a>(
         initial,
         semicolon: semicolon.at,
     };
-    Ok((Stmt::Declare(Box::new(alloc, declare)?), rest))
+    Ok((Stmt::Declare(arena.node(declare)?), rest))
 }
 
 /// "const" | "var": whether what it declares is constant
@@ -247,21 +252,25 @@ fn declaration_word(tokens: Tokens<'_>) -> Parsed<'_, (Place, bool)>
 
 /// ("const" | "var") declrest
 #[tactic(auto, unfolding(dpl_spelling::specs::Declarations::declaration))]
-pub fn declaration<'a>(alloc: Global, room: u32, tokens: Tokens<'a>) -> Parsed<'a, Stmt<'a>>
+pub fn declaration<'t>(arena: Arena<'t>, room: u32, tokens: Tokens<'t>) -> Parsed<'t, Stmt<'t>>
     ensures gives { Gives (λ x. (stmt_view x.0, x.1.now)) result (at declaration_rule room tokens.now) }
     ensures shorter { IfOk result (λ x. length x.1.now < length tokens.now) }
 {
     let (word, rest) = declaration_word(tokens)?;
-    declare_end(alloc, room, None, word, rest)
+    declare_end(arena, room, None, word, rest)
 }
 
 /// "config" "const" declrest
 #[tactic(auto, unfolding(dpl_spelling::specs::Declarations::config_declaration))]
-pub fn config_declaration<'a>(alloc: Global, room: u32, tokens: Tokens<'a>) -> Parsed<'a, Stmt<'a>>
+pub fn config_declaration<'t>(
+    arena: Arena<'t>,
+    room: u32,
+    tokens: Tokens<'t>,
+) -> Parsed<'t, Stmt<'t>>
     ensures gives { Gives (λ x. (stmt_view x.0, x.1.now)) result (at config_declaration_rule room tokens.now) }
     ensures shorter { IfOk result (λ x. length x.1.now < length tokens.now) }
 {
     let (config, rest) = keyword(Keyword::Config, tokens)?;
     let (word, rest) = word_means(Keyword::Const, true, rest)?;
-    declare_end(alloc, room, Some(config.at), word, rest)
+    declare_end(arena, room, Some(config.at), word, rest)
 }

@@ -21,38 +21,38 @@ use dpl_expressions::token::{
 };
 use dpl_expressions::word::reduce_operator;
 use dpl_syntax::{Keyword, Place, Sign, Token};
-use dpl_tree::{Expr, Intent, Item, NextIntent, NextName, Variables, With};
-use std::alloc::{AllocError, Global};
+use dpl_tree::{Arena, Expr, Intent, Item, NextIntent, NextName, Variables, With};
+use std::alloc::AllocError;
 
 /// A word and an expression, which a body follows.
-#[derive(Drop)]
-pub struct Guard<'a> {
+#[derive(Clone, Copy)]
+pub struct Guard<'t> {
     pub at: Place,
-    pub value: Expr<'a>,
+    pub value: &'t Expr<'t>,
 }
 
 /// A loop's word, its variables and what it runs over.
-#[derive(Drop)]
-pub struct Head<'a> {
+#[derive(Clone, Copy)]
+pub struct Head<'t> {
     pub at: Place,
-    pub variables: Variables<'a>,
+    pub variables: Variables<'t>,
     pub within: Place,
-    pub over: Item<'a>,
+    pub over: Item<'t>,
 }
 
 /// word expr
 #[tactic(auto, unfolding(dpl_spelling::specs::Statements::condition))]
-pub fn condition<'a>(
-    alloc: Global,
+pub fn condition<'t>(
+    arena: Arena<'t>,
     room: u32,
     wanted: Keyword,
-    tokens: Tokens<'a>,
-) -> Parsed<'a, Guard<'a>>
+    tokens: Tokens<'t>,
+) -> Parsed<'t, Guard<'t>>
     ensures gives { Gives (λ x. (guard_view x.0, x.1.now)) result (at (condition_rule wanted) room tokens.now) }
     ensures shorter { IfOk result (λ x. length x.1.now < length tokens.now) }
 {
     let (word, rest) = keyword(wanted, tokens)?;
-    let (value, rest) = expression(alloc, room, rest)?;
+    let (value, rest) = expression(arena, room, rest)?;
     Ok((Guard { at: word.at, value }, rest))
 }
 
@@ -87,24 +87,24 @@ fn maybe_next_name(tokens: Tokens<'_>) -> Parsed<'_, Option<NextName<'_>>>
 }
 
 /// The one name, and the other if it is there.
-fn one_or_two<'a>(
-    alloc: Global,
-    first: NextName<'a>,
-    second: Option<NextName<'a>>,
-) -> Result<Vec<NextName<'a>>, AllocError>
-    ensures { IfOk result (λ names. map next_name_view names.items ≡ next_name_view first.entry ∷ if_there (optional next_name_view second.entry)) }
+fn one_or_two<'t>(
+    arena: Arena<'t>,
+    first: NextName<'t>,
+    second: Option<NextName<'t>>,
+) -> Result<&'t [NextName<'t>], AllocError>
+    ensures { IfOk result (λ names. map next_name_view names.now ≡ next_name_view first.entry ∷ if_there (optional next_name_view second.entry)) }
 {
-    let mut names = Vec::new(alloc);
+    let mut names = Vec::new(arena.alloc());
     names.push(first)?;
     if let Some(second) = second {
         names.push(second)?;
     }
-    Ok(names)
+    arena.list(names)
 }
 
 /// vars = name | "(" name "," name [ "," name ] ")"
 #[tactic(auto, unfolding(dpl_spelling::specs::Statements::variables, dpl_spelling::specs::Expressions::after_comma))]
-fn variables<'a>(alloc: Global, room: u32, tokens: Tokens<'a>) -> Parsed<'a, Variables<'a>>
+fn variables<'t>(arena: Arena<'t>, room: u32, tokens: Tokens<'t>) -> Parsed<'t, Variables<'t>>
     ensures gives { Gives (λ x. (variables_view x.0, x.1.now)) result (at variables_rule room tokens.now) }
     ensures shorter { IfOk result (λ x. length x.1.now < length tokens.now) }
 {
@@ -120,7 +120,7 @@ fn variables<'a>(alloc: Global, room: u32, tokens: Tokens<'a>) -> Parsed<'a, Var
     let variables = Variables::Many {
         from: open.at,
         first,
-        others: one_or_two(alloc, second, third)?,
+        others: one_or_two(arena, second, third)?,
         upto: close.at,
     };
     Ok((variables, rest))
@@ -128,7 +128,7 @@ fn variables<'a>(alloc: Global, room: u32, tokens: Tokens<'a>) -> Parsed<'a, Var
 
 /// intent = "ref" name | redop "reduce" name
 #[tactic(auto, unfolding(dpl_spelling::specs::Statements::intent))]
-fn intent<'a>(tokens: Tokens<'a>) -> Parsed<'a, Intent<'a>>
+fn intent<'t>(tokens: Tokens<'t>) -> Parsed<'t, Intent<'t>>
     ensures gives { Gives (λ x. (intent_view x.0, x.1.now)) result (at intent_rule 0 tokens.now) }
     ensures shorter { IfOk result (λ x. length x.1.now < length tokens.now) }
 {
@@ -145,7 +145,7 @@ fn intent<'a>(tokens: Tokens<'a>) -> Parsed<'a, Intent<'a>>
 
 /// "," intent
 #[tactic(auto, unfolding(dpl_spelling::specs::Expressions::after_comma))]
-fn next_intent<'a>(tokens: Tokens<'a>) -> Parsed<'a, NextIntent<'a>>
+fn next_intent<'t>(tokens: Tokens<'t>) -> Parsed<'t, NextIntent<'t>>
     ensures gives { Gives (λ x. (next_intent_view x.0, x.1.now)) result (at (after_comma intent_rule) 0 tokens.now) }
     ensures shorter { IfOk result (λ x. length x.1.now < length tokens.now) }
 {
@@ -161,30 +161,30 @@ fn next_intent<'a>(tokens: Tokens<'a>) -> Parsed<'a, NextIntent<'a>>
 }
 
 /// { "," intent }
-fn other_intents<'a>(alloc: Global, tokens: Tokens<'a>) -> Parsed<'a, Vec<NextIntent<'a>>>
-    ensures gives { Gives (λ x. (map next_intent_view x.0.items, x.1.now)) result (at (many (after_comma intent_rule)) 0 tokens.now) }
+fn other_intents<'t>(arena: Arena<'t>, tokens: Tokens<'t>) -> Parsed<'t, &'t [NextIntent<'t>]>
+    ensures gives { Gives (λ x. (map next_intent_view x.0.now, x.1.now)) result (at (many (after_comma intent_rule)) 0 tokens.now) }
     ensures shorter { IfOk result (λ x. length x.1.now ≤ length tokens.now) }
 {
-    let mut others = Vec::new(alloc);
+    let mut others = Vec::new(arena.alloc());
     let mut rest = tokens;
     'each: while is_sign(rest, Sign::Comma) {
         let (other, after) = next_intent(rest)?;
         others.push(other)?;
         rest = passed_on(after);
     }
-    Ok((others, rest))
+    Ok((arena.list(others)?, rest))
 }
 
 /// with = "with" "(" intent { "," intent } ")"
 #[tactic(auto, unfolding(dpl_spelling::specs::Statements::with_intents, dpl_spelling::specs::Statements::intent, dpl_spelling::specs::Expressions::listed, dpl_spelling::specs::Expressions::after_comma))]
-fn with_intents<'a>(alloc: Global, room: u32, tokens: Tokens<'a>) -> Parsed<'a, With<'a>>
+fn with_intents<'t>(arena: Arena<'t>, room: u32, tokens: Tokens<'t>) -> Parsed<'t, With<'t>>
     ensures gives { Gives (λ x. (with_view x.0, x.1.now)) result (at with_intents_rule room tokens.now) }
     ensures shorter { IfOk result (λ x. length x.1.now < length tokens.now) }
 {
     let (word, rest) = keyword(Keyword::With, tokens)?;
     let (open, _, rest) = deeper(room, Sign::OpenRound, rest)?;
     let (first, rest) = intent(rest)?;
-    let (others, rest) = other_intents(alloc, rest)?;
+    let (others, rest) = other_intents(arena, rest)?;
     let (close, rest) = sign(Sign::CloseRound, rest)?;
     let with = With {
         at: word.at,
@@ -198,32 +198,32 @@ fn with_intents<'a>(alloc: Global, room: u32, tokens: Tokens<'a>) -> Parsed<'a, 
 
 /// [ with ]
 #[tactic(auto, unfolding(dpl_spelling::specs::Statements::with_intents))]
-fn maybe_with<'a>(alloc: Global, room: u32, tokens: Tokens<'a>) -> Parsed<'a, Option<With<'a>>>
+fn maybe_with<'t>(arena: Arena<'t>, room: u32, tokens: Tokens<'t>) -> Parsed<'t, Option<With<'t>>>
     ensures gives { Gives (λ x. (optional with_view x.0, x.1.now)) result (at (maybe with_intents_rule) room tokens.now) }
     ensures shorter { IfOk result (λ x. length x.1.now ≤ length tokens.now) }
 {
     if !is_keyword(tokens, Keyword::With) {
         return Ok((None, tokens));
     }
-    let (with, rest) = with_intents(alloc, room, tokens)?;
+    let (with, rest) = with_intents(arena, room, tokens)?;
     Ok((Some(with), rest))
 }
 
 /// word vars "in" item
 #[tactic(auto, unfolding(dpl_spelling::specs::Statements::loop_head))]
-pub fn loop_head<'a>(
-    alloc: Global,
+pub fn loop_head<'t>(
+    arena: Arena<'t>,
     room: u32,
     wanted: Keyword,
-    tokens: Tokens<'a>,
-) -> Parsed<'a, Head<'a>>
+    tokens: Tokens<'t>,
+) -> Parsed<'t, Head<'t>>
     ensures gives { Gives (λ x. (head_view x.0, x.1.now)) result (at (loop_head_rule wanted) room tokens.now) }
     ensures shorter { IfOk result (λ x. length x.1.now < length tokens.now) }
 {
     let (word, rest) = keyword(wanted, tokens)?;
-    let (variables, rest) = variables(alloc, room, rest)?;
+    let (variables, rest) = variables(arena, room, rest)?;
     let (within, rest) = keyword(Keyword::In, rest)?;
-    let (over, rest) = item(alloc, room, rest)?;
+    let (over, rest) = item(arena, room, rest)?;
     let head = Head {
         at: word.at,
         variables,
@@ -235,16 +235,16 @@ pub fn loop_head<'a>(
 
 /// word vars "in" item [ with ]
 #[tactic(auto, unfolding(dpl_spelling::specs::Statements::parallel_head))]
-pub fn parallel_head<'a>(
-    alloc: Global,
+pub fn parallel_head<'t>(
+    arena: Arena<'t>,
     room: u32,
     wanted: Keyword,
-    tokens: Tokens<'a>,
-) -> Parsed<'a, (Head<'a>, Option<With<'a>>)>
+    tokens: Tokens<'t>,
+) -> Parsed<'t, (Head<'t>, Option<With<'t>>)>
     ensures gives { Gives (λ x. (parallel_view x.0.0 x.0.1, x.1.now)) result (at (parallel_head_rule wanted) room tokens.now) }
     ensures shorter { IfOk result (λ x. length x.1.now < length tokens.now) }
 {
-    let (head, rest) = loop_head(alloc, room, wanted, tokens)?;
-    let (with, rest) = maybe_with(alloc, room, rest)?;
+    let (head, rest) = loop_head(arena, room, wanted, tokens)?;
+    let (with, rest) = maybe_with(arena, room, rest)?;
     Ok(((head, with), rest))
 }

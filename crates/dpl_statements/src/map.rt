@@ -18,15 +18,16 @@ use crate::start::start;
 use dpl_expressions::item::item;
 use dpl_expressions::token::{Parsed, Tokens, deeper, is_keyword, is_sign, keyword, sign};
 use dpl_syntax::{Contextual, Keyword, Place, Sign, Token};
-use dpl_tree::{ArgumentName, BlockCyclicMap, BlockMap, CyclicMap, Expr, Item, Map, Mapped, Start};
-use std::alloc::Global;
+use dpl_tree::{
+    Arena, ArgumentName, BlockCyclicMap, BlockMap, CyclicMap, Expr, Item, Map, Mapped, Start,
+};
 
 /// Where the expression stands, if it is the word alone.
 fn place_of_word(expr: &Expr<'_>, word: Contextual) -> Option<Place>
     ensures { result ≡ word_place word (bare_name (expr_view expr.now)) }
 {
     match expr {
-        Expr::Named(name) if name.text.as_bytes() == word.text() => Some(name.at),
+        Expr::Named(name) if name.text == word.text() => Some(name.at),
         _ => None,
     }
 }
@@ -53,19 +54,19 @@ fn start_word(start: &Start<'_>, word: Contextual) -> Option<Place>
 
 /// [ "boundingBox" "=" ] item, in a bracket in which there is so much room
 #[tactic(auto, using(dpl_spelling::proofs::Below::below_item), unfolding(dpl_spelling::specs::Declarations::box_argument, dpl_spelling::specs::Declarations::argument_end))]
-fn box_argument<'a>(
-    alloc: Global,
+fn box_argument<'t>(
+    arena: Arena<'t>,
     room: u32,
-    tokens: Tokens<'a>,
-) -> Parsed<'a, (Option<ArgumentName>, Item<'a>)>
+    tokens: Tokens<'t>,
+) -> Parsed<'t, (Option<ArgumentName>, Item<'t>)>
     ensures gives { Gives (λ x. (argument_part x.0.0 (item_view x.0.1), x.1.now)) result (at box_argument_rule (room + 1) tokens.now) }
     ensures shorter { IfOk result (λ x. length x.1.now < length tokens.now) }
 {
-    let (first, rest) = item(alloc, room, tokens)?;
+    let (first, rest) = item(arena, room, tokens)?;
     match item_word(&first, Contextual::BoundingBox) {
         Some(at) if is_sign(rest, Sign::Assign) => {
             let (equals, rest) = sign(Sign::Assign, rest)?;
-            let (value, rest) = item(alloc, room, rest)?;
+            let (value, rest) = item(arena, room, rest)?;
             Ok((
                 (
                     Some(ArgumentName {
@@ -83,20 +84,20 @@ fn box_argument<'a>(
 
 /// [ word "=" ] start, in a bracket in which there is so much room
 #[tactic(auto, using(dpl_spelling::proofs::Below::below_start), unfolding(dpl_spelling::specs::Declarations::start_argument, dpl_spelling::specs::Declarations::argument_end))]
-fn start_argument<'a>(
-    alloc: Global,
+fn start_argument<'t>(
+    arena: Arena<'t>,
     room: u32,
     word: Contextual,
-    tokens: Tokens<'a>,
-) -> Parsed<'a, (Option<ArgumentName>, Start<'a>)>
+    tokens: Tokens<'t>,
+) -> Parsed<'t, (Option<ArgumentName>, Start<'t>)>
     ensures gives { Gives (λ x. (argument_part x.0.0 (start_view x.0.1), x.1.now)) result (at (start_argument_rule word) (room + 1) tokens.now) }
     ensures shorter { IfOk result (λ x. length x.1.now < length tokens.now) }
 {
-    let (first, rest) = start(alloc, room, tokens)?;
+    let (first, rest) = start(arena, room, tokens)?;
     match start_word(&first, word) {
         Some(at) if is_sign(rest, Sign::Assign) => {
             let (equals, rest) = sign(Sign::Assign, rest)?;
-            let (value, rest) = start(alloc, room, rest)?;
+            let (value, rest) = start(arena, room, rest)?;
             Ok((
                 (
                     Some(ArgumentName {
@@ -114,13 +115,13 @@ fn start_argument<'a>(
 
 /// "blockDist" "(" [ "boundingBox" "=" ] item ")", behind `new`
 #[tactic(auto, unfolding(dpl_spelling::specs::Parts::told, dpl_spelling::specs::Declarations::block_map))]
-fn block_map<'a>(alloc: Global, room: u32, new: Place, tokens: Tokens<'a>) -> Parsed<'a, Map<'a>>
+fn block_map<'t>(arena: Arena<'t>, room: u32, new: Place, tokens: Tokens<'t>) -> Parsed<'t, Map<'t>>
     ensures gives { Gives (λ x. (map_view x.0, x.1.now)) result (at (told new block_map_rule) room tokens.now) }
     ensures shorter { IfOk result (λ x. length x.1.now < length tokens.now) }
 {
     let (word, rest) = keyword(Keyword::BlockDist, tokens)?;
     let (open, room, rest) = deeper(room, Sign::OpenRound, rest)?;
-    let ((argument, bounding_box), rest) = box_argument(alloc, room, rest)?;
+    let ((argument, bounding_box), rest) = box_argument(arena, room, rest)?;
     let (close, rest) = sign(Sign::CloseRound, rest)?;
     let map = BlockMap {
         new,
@@ -135,13 +136,18 @@ fn block_map<'a>(alloc: Global, room: u32, new: Place, tokens: Tokens<'a>) -> Pa
 
 /// "cyclicDist" "(" [ "startIdx" "=" ] start ")", behind `new`
 #[tactic(auto, unfolding(dpl_spelling::specs::Parts::told, dpl_spelling::specs::Declarations::cyclic_map))]
-fn cyclic_map<'a>(alloc: Global, room: u32, new: Place, tokens: Tokens<'a>) -> Parsed<'a, Map<'a>>
+fn cyclic_map<'t>(
+    arena: Arena<'t>,
+    room: u32,
+    new: Place,
+    tokens: Tokens<'t>,
+) -> Parsed<'t, Map<'t>>
     ensures gives { Gives (λ x. (map_view x.0, x.1.now)) result (at (told new cyclic_map_rule) room tokens.now) }
     ensures shorter { IfOk result (λ x. length x.1.now < length tokens.now) }
 {
     let (word, rest) = keyword(Keyword::CyclicDist, tokens)?;
     let (open, room, rest) = deeper(room, Sign::OpenRound, rest)?;
-    let ((argument, start), rest) = start_argument(alloc, room, Contextual::StartIdx, rest)?;
+    let ((argument, start), rest) = start_argument(arena, room, Contextual::StartIdx, rest)?;
     let (close, rest) = sign(Sign::CloseRound, rest)?;
     let map = CyclicMap {
         new,
@@ -156,20 +162,20 @@ fn cyclic_map<'a>(alloc: Global, room: u32, new: Place, tokens: Tokens<'a>) -> P
 
 /// "blockCycDist" "(" [ "startIdx" "=" ] start "," [ "blocksize" "=" ] start ")", behind `new`
 #[tactic(auto, unfolding(dpl_spelling::specs::Parts::told, dpl_spelling::specs::Declarations::block_cyclic_map))]
-fn block_cyclic_map<'a>(
-    alloc: Global,
+fn block_cyclic_map<'t>(
+    arena: Arena<'t>,
     room: u32,
     new: Place,
-    tokens: Tokens<'a>,
-) -> Parsed<'a, Map<'a>>
+    tokens: Tokens<'t>,
+) -> Parsed<'t, Map<'t>>
     ensures gives { Gives (λ x. (map_view x.0, x.1.now)) result (at (told new block_cyclic_map_rule) room tokens.now) }
     ensures shorter { IfOk result (λ x. length x.1.now < length tokens.now) }
 {
     let (word, rest) = keyword(Keyword::BlockCycDist, tokens)?;
     let (open, room, rest) = deeper(room, Sign::OpenRound, rest)?;
-    let ((start_name, start), rest) = start_argument(alloc, room, Contextual::StartIdx, rest)?;
+    let ((start_name, start), rest) = start_argument(arena, room, Contextual::StartIdx, rest)?;
     let (comma, rest) = sign(Sign::Comma, rest)?;
-    let ((size_name, size), rest) = start_argument(alloc, room, Contextual::Blocksize, rest)?;
+    let ((size_name, size), rest) = start_argument(arena, room, Contextual::Blocksize, rest)?;
     let (close, rest) = sign(Sign::CloseRound, rest)?;
     let map = BlockCyclicMap {
         new,
@@ -187,44 +193,44 @@ fn block_cyclic_map<'a>(
 
 /// map = "new" "blockDist" .. | "new" "cyclicDist" .. | "new" "blockCycDist" ..
 #[tactic(auto, unfolding(dpl_spelling::specs::Parts::told, dpl_spelling::specs::Declarations::map, dpl_spelling::specs::Declarations::block_map, dpl_spelling::specs::Declarations::cyclic_map))]
-fn map<'a>(alloc: Global, room: u32, tokens: Tokens<'a>) -> Parsed<'a, Map<'a>>
+fn map<'t>(arena: Arena<'t>, room: u32, tokens: Tokens<'t>) -> Parsed<'t, Map<'t>>
     ensures gives { Gives (λ x. (map_view x.0, x.1.now)) result (at map_rule room tokens.now) }
     ensures shorter { IfOk result (λ x. length x.1.now < length tokens.now) }
 {
     let (new, rest) = keyword(Keyword::New, tokens)?;
     if is_keyword(rest, Keyword::BlockDist) {
-        block_map(alloc, room, new.at, rest)
+        block_map(arena, room, new.at, rest)
     } else if is_keyword(rest, Keyword::CyclicDist) {
-        cyclic_map(alloc, room, new.at, rest)
+        cyclic_map(arena, room, new.at, rest)
     } else {
-        block_cyclic_map(alloc, room, new.at, rest)
+        block_cyclic_map(arena, room, new.at, rest)
     }
 }
 
 /// "dmapped" map
 #[tactic(auto, unfolding(dpl_spelling::specs::Declarations::mapped))]
-fn mapped<'a>(alloc: Global, room: u32, tokens: Tokens<'a>) -> Parsed<'a, Mapped<'a>>
+fn mapped<'t>(arena: Arena<'t>, room: u32, tokens: Tokens<'t>) -> Parsed<'t, Mapped<'t>>
     ensures gives { Gives (λ x. (mapped_view x.0, x.1.now)) result (at mapped_rule room tokens.now) }
     ensures shorter { IfOk result (λ x. length x.1.now < length tokens.now) }
 {
     let (word, rest) = keyword(Keyword::Dmapped, tokens)?;
-    let (map, rest) = map(alloc, room, rest)?;
+    let (map, rest) = map(arena, room, rest)?;
     Ok((Mapped { at: word.at, map }, rest))
 }
 
 /// [ "dmapped" map ]
 #[tactic(auto, unfolding(dpl_spelling::specs::Declarations::mapped))]
-pub fn maybe_mapped<'a>(
-    alloc: Global,
+pub fn maybe_mapped<'t>(
+    arena: Arena<'t>,
     room: u32,
-    tokens: Tokens<'a>,
-) -> Parsed<'a, Option<Mapped<'a>>>
+    tokens: Tokens<'t>,
+) -> Parsed<'t, Option<Mapped<'t>>>
     ensures gives { Gives (λ x. (optional mapped_view x.0, x.1.now)) result (at (maybe mapped_rule) room tokens.now) }
     ensures shorter { IfOk result (λ x. length x.1.now ≤ length tokens.now) }
 {
     if !is_keyword(tokens, Keyword::Dmapped) {
         return Ok((None, tokens));
     }
-    let (mapped, rest) = mapped(alloc, room, tokens)?;
+    let (mapped, rest) = mapped(arena, room, tokens)?;
     Ok((Some(mapped), rest))
 }

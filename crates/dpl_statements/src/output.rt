@@ -19,8 +19,7 @@ use dpl_expressions::chain::expression;
 use dpl_expressions::token::{Parsed, Tokens, deeper, is_sign, passed_on, sign, unexpected};
 use dpl_expressions::word::write_word;
 use dpl_syntax::{Kind, Sign, Token};
-use dpl_tree::{Argument, Arguments, NextArgument, Stmt, Write};
-use std::alloc::Global;
+use dpl_tree::{Arena, Argument, Arguments, NextArgument, Stmt, Write};
 
 /// Whether the next token is a text.
 fn is_text(tokens: Tokens<'_>) -> bool
@@ -47,7 +46,7 @@ fn text_argument(tokens: Tokens<'_>) -> Parsed<'_, Argument<'_>>
 {
     match tokens {
         [next, rest @ ..] => match &next.kind {
-            Kind::Text(bytes) => Ok((Argument::Text(next.at, bytes.copied()), rest)),
+            Kind::Text(bytes) => Ok((Argument::Text(next.at, bytes.as_bytes()), rest)),
             _ => Err(unexpected(tokens)),
         },
         [] => Err(unexpected(tokens)),
@@ -56,25 +55,29 @@ fn text_argument(tokens: Tokens<'_>) -> Parsed<'_, Argument<'_>>
 
 /// arg = text | expr
 #[tactic(auto, using(dpl_spelling::proofs::Below::below_expression), unfolding(dpl_spelling::specs::Statements::argument))]
-fn argument<'a>(alloc: Global, room: u32, tokens: Tokens<'a>) -> Parsed<'a, Argument<'a>>
+fn argument<'t>(arena: Arena<'t>, room: u32, tokens: Tokens<'t>) -> Parsed<'t, Argument<'t>>
     ensures gives { Gives (λ x. (argument_view x.0, x.1.now)) result (at argument_rule (room + 1) tokens.now) }
     ensures shorter { IfOk result (λ x. length x.1.now < length tokens.now) }
 {
     if is_text(tokens) {
         return text_argument(tokens);
     }
-    let (value, rest) = expression(alloc, room, tokens)?;
+    let (value, rest) = expression(arena, room, tokens)?;
     Ok((Argument::Expr(value), rest))
 }
 
 /// "," arg
 #[tactic(auto, unfolding(dpl_spelling::specs::Expressions::after_comma))]
-fn next_argument<'a>(alloc: Global, room: u32, tokens: Tokens<'a>) -> Parsed<'a, NextArgument<'a>>
+fn next_argument<'t>(
+    arena: Arena<'t>,
+    room: u32,
+    tokens: Tokens<'t>,
+) -> Parsed<'t, NextArgument<'t>>
     ensures gives { Gives (λ x. (next_argument_view x.0, x.1.now)) result (at (after_comma argument_rule) (room + 1) tokens.now) }
     ensures shorter { IfOk result (λ x. length x.1.now < length tokens.now) }
 {
     let (comma, rest) = sign(Sign::Comma, tokens)?;
-    let (argument, rest) = argument(alloc, room, rest)?;
+    let (argument, rest) = argument(arena, room, rest)?;
     Ok((
         NextArgument {
             comma: comma.at,
@@ -85,47 +88,51 @@ fn next_argument<'a>(alloc: Global, room: u32, tokens: Tokens<'a>) -> Parsed<'a,
 }
 
 /// { "," arg }
-fn other_arguments<'a>(
-    alloc: Global,
+fn other_arguments<'t>(
+    arena: Arena<'t>,
     room: u32,
-    tokens: Tokens<'a>,
-) -> Parsed<'a, Vec<NextArgument<'a>>>
-    ensures gives { Gives (λ x. (map next_argument_view x.0.items, x.1.now)) result (at (many (after_comma argument_rule)) (room + 1) tokens.now) }
+    tokens: Tokens<'t>,
+) -> Parsed<'t, &'t [NextArgument<'t>]>
+    ensures gives { Gives (λ x. (map next_argument_view x.0.now, x.1.now)) result (at (many (after_comma argument_rule)) (room + 1) tokens.now) }
     ensures shorter { IfOk result (λ x. length x.1.now ≤ length tokens.now) }
 {
-    let mut others = Vec::new(alloc);
+    let mut others = Vec::new(arena.alloc());
     let mut rest = tokens;
     'each: while is_sign(rest, Sign::Comma) {
-        let (other, after) = next_argument(alloc, room, rest)?;
+        let (other, after) = next_argument(arena, room, rest)?;
         others.push(other)?;
         rest = passed_on(after);
     }
-    Ok((others, rest))
+    Ok((arena.list(others)?, rest))
 }
 
 /// [ arg { "," arg } ]
 #[tactic(auto, unfolding(dpl_spelling::specs::Expressions::listed, dpl_spelling::specs::Statements::argument))]
-fn arguments<'a>(alloc: Global, room: u32, tokens: Tokens<'a>) -> Parsed<'a, Option<Arguments<'a>>>
+fn arguments<'t>(
+    arena: Arena<'t>,
+    room: u32,
+    tokens: Tokens<'t>,
+) -> Parsed<'t, Option<Arguments<'t>>>
     ensures gives { Gives (λ x. (optional arguments_view x.0, x.1.now)) result (at (maybe (listed argument_rule)) (room + 1) tokens.now) }
     ensures shorter { IfOk result (λ x. length x.1.now ≤ length tokens.now) }
 {
     if !begins_argument(tokens) {
         return Ok((None, tokens));
     }
-    let (first, rest) = argument(alloc, room, tokens)?;
-    let (others, rest) = other_arguments(alloc, room, rest)?;
+    let (first, rest) = argument(arena, room, tokens)?;
+    let (others, rest) = other_arguments(arena, room, rest)?;
     Ok((Some(Arguments { first, others }), rest))
 }
 
 /// ("write" | "writeln") "(" [ arg { "," arg } ] ")" ";"
 #[tactic(auto, unfolding(dpl_spelling::specs::Statements::output))]
-pub fn output<'a>(alloc: Global, room: u32, tokens: Tokens<'a>) -> Parsed<'a, Stmt<'a>>
+pub fn output<'t>(arena: Arena<'t>, room: u32, tokens: Tokens<'t>) -> Parsed<'t, Stmt<'t>>
     ensures gives { Gives (λ x. (stmt_view x.0, x.1.now)) result (at output_rule room tokens.now) }
     ensures shorter { IfOk result (λ x. length x.1.now < length tokens.now) }
 {
     let ((at, ends_line), rest) = write_word(tokens)?;
     let (open, room, rest) = deeper(room, Sign::OpenRound, rest)?;
-    let (arguments, rest) = arguments(alloc, room, rest)?;
+    let (arguments, rest) = arguments(arena, room, rest)?;
     let (close, rest) = sign(Sign::CloseRound, rest)?;
     let (semicolon, rest) = sign(Sign::Semicolon, rest)?;
     let write = Write {
@@ -136,5 +143,5 @@ pub fn output<'a>(alloc: Global, room: u32, tokens: Tokens<'a>) -> Parsed<'a, St
         upto: close.at,
         semicolon: semicolon.at,
     };
-    Ok((Stmt::Write(Box::new(alloc, write)?), rest))
+    Ok((Stmt::Write(arena.node(write)?), rest))
 }

@@ -19,29 +19,28 @@ use dpl_expressions::level::Level;
 use dpl_expressions::postfix::{postfixed, posts};
 use dpl_expressions::token::{Parsed, Tokens, deeper, is_sign, sign};
 use dpl_syntax::{Place, Sign, Stop, Token};
-use dpl_tree::{Expr, Item, NextExpr, Start};
-use std::alloc::Global;
+use dpl_tree::{Arena, Expr, Item, NextExpr, Start};
 
 /// What a bracket holds that begins where a map starts.
-#[derive(Drop)]
-pub enum Contents<'a> {
-    Item(Item<'a>),
+#[derive(Clone, Copy)]
+pub enum Contents<'t> {
+    Item(Item<'t>),
     /// Two or three expressions: the first, and the others behind their commas.
-    Tuple(Expr<'a>, Vec<NextExpr<'a>>),
+    Tuple(&'t Expr<'t>, &'t [NextExpr<'t>]),
 }
 
 /// start = expr | "(" expr "," expr [ "," expr ] ")"
 #[tactic(auto, using(dpl_spelling::proofs::Starts::expression_unbracketed, dpl_spelling::proofs::Below::below_inside), unfolding(dpl_spelling::specs::Declarations::start, dpl_spelling::specs::Declarations::bracket))]
-pub fn start<'a>(alloc: Global, room: u32, tokens: Tokens<'a>) -> Parsed<'a, Start<'a>>
+pub fn start<'t>(arena: Arena<'t>, room: u32, tokens: Tokens<'t>) -> Parsed<'t, Start<'t>>
     ensures gives { Gives (λ x. (start_view x.0, x.1.now)) result (at start_rule room tokens.now) }
     ensures shorter { IfOk result (λ x. length x.1.now < length tokens.now) }
 {
     if !is_sign(tokens, Sign::OpenRound) {
-        let (expr, rest) = expression(alloc, room, tokens)?;
+        let (expr, rest) = expression(arena, room, tokens)?;
         return Ok((Start::Expr(expr), rest));
     }
     let (from, below, rest) = deeper(room, Sign::OpenRound, tokens)?;
-    let (inside, rest) = inside(alloc, below, rest)?;
+    let (inside, rest) = inside(arena, below, rest)?;
     let (upto, rest) = sign(Sign::CloseRound, rest)?;
     match inside {
         Contents::Tuple(first, others) => Ok((
@@ -56,10 +55,10 @@ pub fn start<'a>(alloc: Global, room: u32, tokens: Tokens<'a>) -> Parsed<'a, Sta
         Contents::Item(item) => {
             let base = Expr::Grouped {
                 from: from.at,
-                item: Box::new(alloc, item)?,
+                item: arena.node(item)?,
                 upto: upto.at,
             };
-            let (expr, rest) = expression_from(alloc, room, base, rest)?;
+            let (expr, rest) = expression_from(arena, room, arena.node(base)?, rest)?;
             Ok((Start::Expr(expr), rest))
         }
     }
@@ -67,11 +66,11 @@ pub fn start<'a>(alloc: Global, room: u32, tokens: Tokens<'a>) -> Parsed<'a, Sta
 
 /// item | expr "," expr [ "," expr ]
 #[tactic(auto, unfolding(dpl_spelling::specs::Declarations::inside, dpl_spelling::specs::Declarations::tuple_end, dpl_spelling::specs::Expressions::after_comma))]
-fn inside<'a>(alloc: Global, room: u32, tokens: Tokens<'a>) -> Parsed<'a, Contents<'a>>
+fn inside<'t>(arena: Arena<'t>, room: u32, tokens: Tokens<'t>) -> Parsed<'t, Contents<'t>>
     ensures gives { Gives (λ x. (inside_view x.0, x.1.now)) result (at inside_rule room tokens.now) }
     ensures shorter { IfOk result (λ x. length x.1.now < length tokens.now) }
 {
-    let (item, rest) = item(alloc, room, tokens)?;
+    let (item, rest) = item(arena, room, tokens)?;
     let first = match item {
         Item::One(first) => first,
         Item::Range(range) => return Ok((Contents::Item(Item::Range(range)), rest)),
@@ -79,25 +78,25 @@ fn inside<'a>(alloc: Global, room: u32, tokens: Tokens<'a>) -> Parsed<'a, Conten
     if !is_sign(rest, Sign::Comma) {
         return Ok((Contents::Item(Item::One(first)), rest));
     }
-    let mut others = Vec::new(alloc);
-    let (second, rest) = after_comma(alloc, room, rest)?;
+    let mut others = Vec::new(arena.alloc());
+    let (second, rest) = after_comma(arena, room, rest)?;
     others.push(second)?;
     if !is_sign(rest, Sign::Comma) {
-        return Ok((Contents::Tuple(first, others), rest));
+        return Ok((Contents::Tuple(first, arena.list(others)?), rest));
     }
-    let (third, rest) = after_comma(alloc, room, rest)?;
+    let (third, rest) = after_comma(arena, room, rest)?;
     others.push(third)?;
-    Ok((Contents::Tuple(first, others), rest))
+    Ok((Contents::Tuple(first, arena.list(others)?), rest))
 }
 
 /// "," expr
 #[tactic(auto, unfolding(dpl_spelling::specs::Expressions::after_comma))]
-fn after_comma<'a>(alloc: Global, room: u32, tokens: Tokens<'a>) -> Parsed<'a, NextExpr<'a>>
+fn after_comma<'t>(arena: Arena<'t>, room: u32, tokens: Tokens<'t>) -> Parsed<'t, NextExpr<'t>>
     ensures gives { Gives (λ x. (next_expr_view x.0, x.1.now)) result (at (after_comma expression_rule) room tokens.now) }
     ensures shorter { IfOk result (λ x. length x.1.now < length tokens.now) }
 {
     let (comma, rest) = sign(Sign::Comma, tokens)?;
-    let (expr, rest) = expression(alloc, room, rest)?;
+    let (expr, rest) = expression(arena, room, rest)?;
     Ok((
         NextExpr {
             comma: comma.at,
@@ -109,28 +108,28 @@ fn after_comma<'a>(alloc: Global, room: u32, tokens: Tokens<'a>) -> Parsed<'a, N
 
 /// What an expression goes on with behind its base, by the levels of operators.
 #[tactic(auto, unfolding(dpl_spelling::specs::Declarations::expression_end))]
-fn expression_from<'a>(
-    alloc: Global,
+fn expression_from<'t>(
+    arena: Arena<'t>,
     room: u32,
-    base: Expr<'a>,
-    tokens: Tokens<'a>,
-) -> Parsed<'a, Expr<'a>>
-    ensures gives { Gives (λ x. (StartExpr (expr_view x.0), x.1.now)) result (at (expression_end ∎ ⟶ λ h. h (expr_view base.entry)) room tokens.now) }
+    base: &'t Expr<'t>,
+    tokens: Tokens<'t>,
+) -> Parsed<'t, &'t Expr<'t>>
+    ensures gives { Gives (λ x. (StartExpr (expr_view x.0.now), x.1.now)) result (at (expression_end ∎ ⟶ λ h. h (expr_view base.now)) room tokens.now) }
     ensures shorter { IfOk result (λ x. length x.1.now ≤ length tokens.now) }
 {
-    let (posts, rest) = posts(alloc, room, tokens)?;
-    let whole = postfixed(alloc, base, posts)?;
-    let (factors, rest) = factors(alloc, room, rest)?;
-    let whole = chained(alloc, whole, factors)?;
-    let (sums, rest) = links(alloc, Level::Sum, room, rest)?;
-    let whole = chained(alloc, whole, sums)?;
-    let (relations, rest) = links(alloc, Level::Relation, room, rest)?;
-    let whole = chained(alloc, whole, relations)?;
-    let (equalities, rest) = links(alloc, Level::Equality, room, rest)?;
-    let whole = chained(alloc, whole, equalities)?;
-    let (ands, rest) = links(alloc, Level::And, room, rest)?;
-    let whole = chained(alloc, whole, ands)?;
-    let (ors, rest) = links(alloc, Level::Or, room, rest)?;
-    let whole = chained(alloc, whole, ors)?;
+    let (posts, rest) = posts(arena, room, tokens)?;
+    let whole = postfixed(arena, base, posts)?;
+    let (factors, rest) = factors(arena, room, rest)?;
+    let whole = chained(arena, whole, factors)?;
+    let (sums, rest) = links(arena, Level::Sum, room, rest)?;
+    let whole = chained(arena, whole, sums)?;
+    let (relations, rest) = links(arena, Level::Relation, room, rest)?;
+    let whole = chained(arena, whole, relations)?;
+    let (equalities, rest) = links(arena, Level::Equality, room, rest)?;
+    let whole = chained(arena, whole, equalities)?;
+    let (ands, rest) = links(arena, Level::And, room, rest)?;
+    let whole = chained(arena, whole, ands)?;
+    let (ors, rest) = links(arena, Level::Or, room, rest)?;
+    let whole = chained(arena, whole, ors)?;
     Ok((whole, rest))
 }

@@ -24,83 +24,87 @@ use dpl_expressions::token::{
     unexpected,
 };
 use dpl_syntax::{Keyword, Sign, Token};
-use dpl_tree::{Body, Coforall, Else, For, Forall, If, On, Stmt, While};
-use std::alloc::Global;
+use dpl_tree::{Arena, Body, Coforall, Else, For, Forall, If, On, Stmt, While};
 
 /// stmt = block | a statement that is no block
 #[cycle(statement)]
 #[tactic(auto, unfolding(dpl_spelling::specs::Statements::statement, dpl_spelling::specs::Statements::block))]
-pub fn statement<'a>(alloc: Global, room: u32, tokens: Tokens<'a>) -> Parsed<'a, Stmt<'a>>
+pub fn statement<'t>(arena: Arena<'t>, room: u32, tokens: Tokens<'t>) -> Parsed<'t, Stmt<'t>>
     ensures gives { Gives (λ x. (stmt_view x.0, x.1.now)) result (late_at statement_rule room tokens.now) }
     ensures shorter { IfOk result (λ x. length x.1.now < length tokens.now) }
 {
     if is_sign(tokens, Sign::OpenCurly) {
-        block(alloc, room, tokens)
+        block(arena, room, tokens)
     } else {
-        plain_statement(alloc, room, tokens)
+        plain_statement(arena, room, tokens)
     }
 }
 
 /// { stmt }, in a bracket in which there is so much room
 #[cycle(statement)]
-fn statements<'a>(alloc: Global, room: u32, tokens: Tokens<'a>) -> Parsed<'a, Vec<Stmt<'a>>>
-    ensures gives { Gives (λ x. (map stmt_view x.0.items, x.1.now)) result (at (many (below StatementBelow)) (room + 1) tokens.now) }
+fn statements<'t>(arena: Arena<'t>, room: u32, tokens: Tokens<'t>) -> Parsed<'t, &'t [Stmt<'t>]>
+    ensures gives { Gives (λ x. (map stmt_view x.0.now, x.1.now)) result (at (many (below StatementBelow)) (room + 1) tokens.now) }
     ensures shorter { IfOk result (λ x. length x.1.now ≤ length tokens.now) }
 {
-    let mut stmts = Vec::new(alloc);
+    let mut stmts = Vec::new(arena.alloc());
     let mut rest = tokens;
     'each: while begins_statement(rest) {
-        let (stmt, after) = statement(alloc, room, rest)?;
+        let (stmt, after) = statement(arena, room, rest)?;
         stmts.push(stmt)?;
         rest = passed_on(after);
     }
-    Ok((stmts, rest))
+    Ok((arena.list(stmts)?, rest))
 }
 
 /// block = "{" { stmt } "}"
 #[cycle(statement)]
 #[tactic(auto, using(crate::proofs::Blocks::stmts_of_view), unfolding(dpl_spelling::specs::Statements::block))]
-fn block<'a>(alloc: Global, room: u32, tokens: Tokens<'a>) -> Parsed<'a, Stmt<'a>>
+fn block<'t>(arena: Arena<'t>, room: u32, tokens: Tokens<'t>) -> Parsed<'t, Stmt<'t>>
     ensures gives { Gives (λ x. (stmt_view x.0, x.1.now)) result (at (block_rule BlockTree) room tokens.now) }
     ensures shorter { IfOk result (λ x. length x.1.now < length tokens.now) }
 {
     let (open, room, rest) = deeper(room, Sign::OpenCurly, tokens)?;
-    let (stmts, rest) = statements(alloc, room, rest)?;
+    let (stmts, rest) = statements(arena, room, rest)?;
     let (close, rest) = sign(Sign::CloseCurly, rest)?;
-    Ok((Stmt::block(alloc, open.at, stmts, close.at)?, rest))
+    Ok((Stmt::block(arena, open.at, stmts, close.at)?, rest))
 }
 
 /// stmt, as a part: a block on this level, any other statement one level deeper
 #[cycle(statement)]
 #[tactic(auto, using(dpl_spelling::proofs::Ways::read_part, dpl_spelling::proofs::Plain::plain_with_room, dpl_spelling::proofs::Plain::plain_without_room, dpl_spelling::proofs::Plain::plain_not_begun))]
-fn part<'a>(alloc: Global, room: u32, tokens: Tokens<'a>) -> Parsed<'a, Stmt<'a>>
+fn part<'t>(arena: Arena<'t>, room: u32, tokens: Tokens<'t>) -> Parsed<'t, Stmt<'t>>
     ensures gives { Gives (λ x. (stmt_view x.0, x.1.now)) result (late_at part_rule room tokens.now) }
     ensures shorter { IfOk result (λ x. length x.1.now < length tokens.now) }
 {
     if is_sign(tokens, Sign::OpenCurly) {
-        return block(alloc, room, tokens);
+        return block(arena, room, tokens);
     }
     if !begins_plain(tokens) {
         return Err(unexpected(tokens));
     }
     let room = descend(room, tokens)?;
-    plain_statement(alloc, room, tokens)
+    plain_statement(arena, room, tokens)
 }
 
 /// word stmt | block, for the words `do` and `then`
 #[cycle(statement)]
 #[tactic(auto, using(crate::proofs::Blocks::stmts_of_view), unfolding(dpl_spelling::specs::Statements::body, dpl_spelling::specs::Statements::block))]
-fn body<'a>(alloc: Global, room: u32, wanted: Keyword, tokens: Tokens<'a>) -> Parsed<'a, Body<'a>>
+fn body<'t>(
+    arena: Arena<'t>,
+    room: u32,
+    wanted: Keyword,
+    tokens: Tokens<'t>,
+) -> Parsed<'t, Body<'t>>
     ensures gives { Gives (λ x. (body_view x.0, x.1.now)) result (late_at (body_rule wanted) room tokens.now) }
     ensures shorter { IfOk result (λ x. length x.1.now < length tokens.now) }
 {
     if is_keyword(tokens, wanted) {
         let (word, rest) = keyword(wanted, tokens)?;
-        let (stmt, rest) = part(alloc, room, rest)?;
-        return Ok((Body::Word(word.at, stmt), rest));
+        let (stmt, rest) = part(arena, room, rest)?;
+        return Ok((Body::Word(word.at, arena.node(stmt)?), rest));
     }
     let (open, room, rest) = deeper(room, Sign::OpenCurly, tokens)?;
-    let (stmts, rest) = statements(alloc, room, rest)?;
+    let (stmts, rest) = statements(arena, room, rest)?;
     let (close, rest) = sign(Sign::CloseCurly, rest)?;
     Ok((Body::block(open.at, stmts, close.at), rest))
 }
@@ -108,12 +112,12 @@ fn body<'a>(alloc: Global, room: u32, wanted: Keyword, tokens: Tokens<'a>) -> Pa
 /// "if" expr ( "then" stmt | block ) [ "else" stmt ]
 #[cycle(statement)]
 #[tactic(auto, unfolding(dpl_spelling::specs::Statements::if_else, dpl_spelling::specs::Statements::consequence, dpl_spelling::specs::Statements::alternative))]
-fn if_else<'a>(alloc: Global, room: u32, tokens: Tokens<'a>) -> Parsed<'a, Stmt<'a>>
+fn if_else<'t>(arena: Arena<'t>, room: u32, tokens: Tokens<'t>) -> Parsed<'t, Stmt<'t>>
     ensures gives { Gives (λ x. (stmt_view x.0, x.1.now)) result (late_at if_else_rule room tokens.now) }
     ensures shorter { IfOk result (λ x. length x.1.now < length tokens.now) }
 {
-    let (guard, rest) = condition(alloc, room, Keyword::If, tokens)?;
-    let (body, rest) = body(alloc, room, Keyword::Then, rest)?;
+    let (guard, rest) = condition(arena, room, Keyword::If, tokens)?;
+    let (body, rest) = body(arena, room, Keyword::Then, rest)?;
     if body_takes_else(&body) || !is_keyword(rest, Keyword::Else) {
         let node = If {
             at: guard.at,
@@ -121,62 +125,62 @@ fn if_else<'a>(alloc: Global, room: u32, tokens: Tokens<'a>) -> Parsed<'a, Stmt<
             body,
             otherwise: Else::Absent,
         };
-        return Ok((Stmt::If(Box::new(alloc, node)?), rest));
+        return Ok((Stmt::If(arena.node(node)?), rest));
     }
     let (word, rest) = keyword(Keyword::Else, rest)?;
-    let (stmt, rest) = part(alloc, room, rest)?;
+    let (stmt, rest) = part(arena, room, rest)?;
     let node = If {
         at: guard.at,
         condition: guard.value,
         body,
-        otherwise: Else::Do(word.at, stmt),
+        otherwise: Else::Do(word.at, arena.node(stmt)?),
     };
-    Ok((Stmt::If(Box::new(alloc, node)?), rest))
+    Ok((Stmt::If(arena.node(node)?), rest))
 }
 
 /// "while" expr body
 #[cycle(statement)]
 #[tactic(auto, unfolding(dpl_spelling::specs::Statements::while_loop))]
-fn while_loop<'a>(alloc: Global, room: u32, tokens: Tokens<'a>) -> Parsed<'a, Stmt<'a>>
+fn while_loop<'t>(arena: Arena<'t>, room: u32, tokens: Tokens<'t>) -> Parsed<'t, Stmt<'t>>
     ensures gives { Gives (λ x. (stmt_view x.0, x.1.now)) result (late_at while_loop_rule room tokens.now) }
     ensures shorter { IfOk result (λ x. length x.1.now < length tokens.now) }
 {
-    let (guard, rest) = condition(alloc, room, Keyword::While, tokens)?;
-    let (body, rest) = body(alloc, room, Keyword::Do, rest)?;
+    let (guard, rest) = condition(arena, room, Keyword::While, tokens)?;
+    let (body, rest) = body(arena, room, Keyword::Do, rest)?;
     let node = While {
         at: guard.at,
         condition: guard.value,
         body,
     };
-    Ok((Stmt::While(Box::new(alloc, node)?), rest))
+    Ok((Stmt::While(arena.node(node)?), rest))
 }
 
 /// "on" expr body
 #[cycle(statement)]
 #[tactic(auto, unfolding(dpl_spelling::specs::Statements::on_locale))]
-fn on_locale<'a>(alloc: Global, room: u32, tokens: Tokens<'a>) -> Parsed<'a, Stmt<'a>>
+fn on_locale<'t>(arena: Arena<'t>, room: u32, tokens: Tokens<'t>) -> Parsed<'t, Stmt<'t>>
     ensures gives { Gives (λ x. (stmt_view x.0, x.1.now)) result (late_at on_locale_rule room tokens.now) }
     ensures shorter { IfOk result (λ x. length x.1.now < length tokens.now) }
 {
-    let (guard, rest) = condition(alloc, room, Keyword::On, tokens)?;
-    let (body, rest) = body(alloc, room, Keyword::Do, rest)?;
+    let (guard, rest) = condition(arena, room, Keyword::On, tokens)?;
+    let (body, rest) = body(arena, room, Keyword::Do, rest)?;
     let node = On {
         at: guard.at,
         locale: guard.value,
         body,
     };
-    Ok((Stmt::On(Box::new(alloc, node)?), rest))
+    Ok((Stmt::On(arena.node(node)?), rest))
 }
 
 /// "for" vars "in" item body
 #[cycle(statement)]
 #[tactic(auto, unfolding(dpl_spelling::specs::Statements::for_loop))]
-fn for_loop<'a>(alloc: Global, room: u32, tokens: Tokens<'a>) -> Parsed<'a, Stmt<'a>>
+fn for_loop<'t>(arena: Arena<'t>, room: u32, tokens: Tokens<'t>) -> Parsed<'t, Stmt<'t>>
     ensures gives { Gives (λ x. (stmt_view x.0, x.1.now)) result (late_at for_loop_rule room tokens.now) }
     ensures shorter { IfOk result (λ x. length x.1.now < length tokens.now) }
 {
-    let (head, rest) = loop_head(alloc, room, Keyword::For, tokens)?;
-    let (body, rest) = body(alloc, room, Keyword::Do, rest)?;
+    let (head, rest) = loop_head(arena, room, Keyword::For, tokens)?;
+    let (body, rest) = body(arena, room, Keyword::Do, rest)?;
     let node = For {
         at: head.at,
         variables: head.variables,
@@ -184,18 +188,18 @@ fn for_loop<'a>(alloc: Global, room: u32, tokens: Tokens<'a>) -> Parsed<'a, Stmt
         over: head.over,
         body,
     };
-    Ok((Stmt::For(Box::new(alloc, node)?), rest))
+    Ok((Stmt::For(arena.node(node)?), rest))
 }
 
 /// "forall" vars "in" item [ with ] body
 #[cycle(statement)]
 #[tactic(auto, unfolding(dpl_spelling::specs::Statements::forall_loop))]
-fn forall_loop<'a>(alloc: Global, room: u32, tokens: Tokens<'a>) -> Parsed<'a, Stmt<'a>>
+fn forall_loop<'t>(arena: Arena<'t>, room: u32, tokens: Tokens<'t>) -> Parsed<'t, Stmt<'t>>
     ensures gives { Gives (λ x. (stmt_view x.0, x.1.now)) result (late_at forall_loop_rule room tokens.now) }
     ensures shorter { IfOk result (λ x. length x.1.now < length tokens.now) }
 {
-    let ((head, with), rest) = parallel_head(alloc, room, Keyword::Forall, tokens)?;
-    let (body, rest) = body(alloc, room, Keyword::Do, rest)?;
+    let ((head, with), rest) = parallel_head(arena, room, Keyword::Forall, tokens)?;
+    let (body, rest) = body(arena, room, Keyword::Do, rest)?;
     let node = Forall {
         at: head.at,
         variables: head.variables,
@@ -204,18 +208,18 @@ fn forall_loop<'a>(alloc: Global, room: u32, tokens: Tokens<'a>) -> Parsed<'a, S
         with,
         body,
     };
-    Ok((Stmt::Forall(Box::new(alloc, node)?), rest))
+    Ok((Stmt::Forall(arena.node(node)?), rest))
 }
 
 /// "coforall" vars "in" item [ with ] body
 #[cycle(statement)]
 #[tactic(auto, unfolding(dpl_spelling::specs::Statements::coforall_loop))]
-fn coforall_loop<'a>(alloc: Global, room: u32, tokens: Tokens<'a>) -> Parsed<'a, Stmt<'a>>
+fn coforall_loop<'t>(arena: Arena<'t>, room: u32, tokens: Tokens<'t>) -> Parsed<'t, Stmt<'t>>
     ensures gives { Gives (λ x. (stmt_view x.0, x.1.now)) result (late_at coforall_loop_rule room tokens.now) }
     ensures shorter { IfOk result (λ x. length x.1.now < length tokens.now) }
 {
-    let ((head, with), rest) = parallel_head(alloc, room, Keyword::Coforall, tokens)?;
-    let (body, rest) = body(alloc, room, Keyword::Do, rest)?;
+    let ((head, with), rest) = parallel_head(arena, room, Keyword::Coforall, tokens)?;
+    let (body, rest) = body(arena, room, Keyword::Do, rest)?;
     let node = Coforall {
         at: head.at,
         variables: head.variables,
@@ -224,47 +228,47 @@ fn coforall_loop<'a>(alloc: Global, room: u32, tokens: Tokens<'a>) -> Parsed<'a,
         with,
         body,
     };
-    Ok((Stmt::Coforall(Box::new(alloc, node)?), rest))
+    Ok((Stmt::Coforall(arena.node(node)?), rest))
 }
 
 /// A statement that is no block and has no body.
 #[tactic(auto, unfolding(dpl_spelling::specs::Statements::simple_statement, dpl_spelling::specs::Statements::named_statement, dpl_spelling::specs::Declarations::declaration))]
-fn simple_statement<'a>(alloc: Global, room: u32, tokens: Tokens<'a>) -> Parsed<'a, Stmt<'a>>
+fn simple_statement<'t>(arena: Arena<'t>, room: u32, tokens: Tokens<'t>) -> Parsed<'t, Stmt<'t>>
     ensures gives { Gives (λ x. (stmt_view x.0, x.1.now)) result (at simple_statement_rule room tokens.now) }
     ensures shorter { IfOk result (λ x. length x.1.now < length tokens.now) }
 {
     if is_keyword(tokens, Keyword::Const) || is_keyword(tokens, Keyword::Var) {
-        declaration(alloc, room, tokens)
+        declaration(arena, room, tokens)
     } else if is_sign(tokens, Sign::Semicolon) {
         let (semicolon, rest) = sign(Sign::Semicolon, tokens)?;
         Ok((Stmt::Nothing(semicolon.at), rest))
     } else if is_name(tokens) {
-        named_statement(alloc, room, tokens)
+        named_statement(arena, room, tokens)
     } else {
-        output(alloc, room, tokens)
+        output(arena, room, tokens)
     }
 }
 
 /// A statement that is no block.
 #[cycle(statement)]
 #[tactic(auto, using(dpl_spelling::proofs::Ways::read_plain))]
-fn plain_statement<'a>(alloc: Global, room: u32, tokens: Tokens<'a>) -> Parsed<'a, Stmt<'a>>
+fn plain_statement<'t>(arena: Arena<'t>, room: u32, tokens: Tokens<'t>) -> Parsed<'t, Stmt<'t>>
     ensures gives { Gives (λ x. (stmt_view x.0, x.1.now)) result (late_at plain_statement_rule room tokens.now) }
     ensures shorter { IfOk result (λ x. length x.1.now < length tokens.now) }
 {
     if begins_simple(tokens) {
-        simple_statement(alloc, room, tokens)
+        simple_statement(arena, room, tokens)
     } else if is_keyword(tokens, Keyword::If) {
-        if_else(alloc, room, tokens)
+        if_else(arena, room, tokens)
     } else if is_keyword(tokens, Keyword::While) {
-        while_loop(alloc, room, tokens)
+        while_loop(arena, room, tokens)
     } else if is_keyword(tokens, Keyword::For) {
-        for_loop(alloc, room, tokens)
+        for_loop(arena, room, tokens)
     } else if is_keyword(tokens, Keyword::Forall) {
-        forall_loop(alloc, room, tokens)
+        forall_loop(arena, room, tokens)
     } else if is_keyword(tokens, Keyword::Coforall) {
-        coforall_loop(alloc, room, tokens)
+        coforall_loop(arena, room, tokens)
     } else {
-        on_locale(alloc, room, tokens)
+        on_locale(arena, room, tokens)
     }
 }

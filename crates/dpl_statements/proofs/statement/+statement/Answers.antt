@@ -28,4 +28,4 @@ statements-each-preserved t c =
 pub statements-returns-clause-gives : goal.statements-returns-clause-gives
 statements-returns-clause-gives t c =
     let not : next_in (begins StatementBelow) c.each.rest.now ≡ false = cc in
-    ends (begins StatementBelow) (at (below StatementBelow) (c.args.room + 1)) c.args.tokens.now (map stmt_view c.each.stmts.items) c.each.rest.now c.each.invariant not
+    rw c.in_ok-list.ensures (ends (begins StatementBelow) (at (below StatementBelow) (c.args.room + 1)) c.args.tokens.now (map stmt_view c.each.stmts.items) c.each.rest.now c.each.invariant not)
