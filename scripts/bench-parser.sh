@@ -5,7 +5,7 @@ set -eu
 
 . "$(dirname "$0")/bench-crate.sh"
 
-bench_crate parser_bench "$top/benches/parser/parser.rt.txt" 'dpl_syntax dpl_parser' \
+bench_crate parser_bench "$top/benches/parser/parser.rt.txt" 'dpl_syntax dpl_parser bumpalo' \
     dpl_range dpl_domain dpl_history dpl_syntax dpl_grammar dpl_language dpl_tree dpl_spelling dpl_expressions dpl_statements dpl_parser
 bench_build parser_bench
 python3 - "$work/crates/parser_bench/out/parser_bench" "$top/benches/parser" "$rounds" <<'END'

@@ -4,4 +4,5 @@
 
 mod program;
 
+pub use dpl_tree::Arena;
 pub use program::{ParseStop, parse};

@@ -24,8 +24,7 @@ use dpl_statements::begins::begins_statement;
 use dpl_statements::declaration::config_declaration;
 use dpl_statements::statement::statement;
 use dpl_syntax::{Contextual, Keyword, Refusal, Sign, Stop, Token};
-use dpl_tree::{Module, ModuleName, NextModule, Program, Stmt, Use};
-use std::alloc::Global;
+use dpl_tree::{Arena, Module, ModuleName, NextModule, Program, Stmt, Use};
 
 /// Why tokens give no tree: `P1` or `P2`, or out of memory. The refusal has no place where the tokens stop without the
 /// end of the text.
@@ -42,7 +41,7 @@ const LEVELS: u32 = 64;
 /// # Errors
 /// The refusal of the tokens: `P1` at the first one with which they begin no program, or `P2` at the first one
 /// that goes 65 levels deep, whichever is earlier, and `P1` where both are at one token. Or out of memory.
-pub fn parse<'a>(alloc: Global, tokens: Tokens<'a>) -> Result<Program<'a>, ParseStop>
+pub fn parse<'t>(arena: Arena<'t>, tokens: Tokens<'t>) -> Result<Program<'t>, ParseStop>
     // What is read is spelled so.
     ensures found { IfOk result (λ tree. Spells 64 tokens.now (program_view tree)) }
     // Nothing else is spelled so, in whatever number of levels.
@@ -54,7 +53,7 @@ pub fn parse<'a>(alloc: Global, tokens: Tokens<'a>) -> Result<Program<'a>, Parse
     // The refusal of the tokens is told, unless memory runs out.
     ensures told { (refusal : Refusal) → Refuses tokens.now refusal → IsErrOf result (Stop.Refused refusal) ⊎ IsErrOf result Stop.Memory }
 {
-    let (tree, rest) = program(alloc, LEVELS, tokens)?;
+    let (tree, rest) = program(arena, LEVELS, tokens)?;
     if rest.is_empty() {
         Ok(tree)
     } else {
@@ -102,29 +101,29 @@ fn next_module(tokens: Tokens<'_>) -> Parsed<'_, NextModule>
 }
 
 /// { "," module }
-fn other_modules(alloc: Global, tokens: Tokens<'_>) -> Parsed<'_, Vec<NextModule>>
-    ensures gives { Gives (λ x. (map next_module_view x.0.items, x.1.now)) result (at (many (after_comma module_name_rule)) 0 tokens.now) }
+fn other_modules<'t>(arena: Arena<'t>, tokens: Tokens<'t>) -> Parsed<'t, &'t [NextModule]>
+    ensures gives { Gives (λ x. (map next_module_view x.0.now, x.1.now)) result (at (many (after_comma module_name_rule)) 0 tokens.now) }
     ensures shorter { IfOk result (λ x. length x.1.now ≤ length tokens.now) }
 {
-    let mut others = Vec::new(alloc);
+    let mut others = Vec::new(arena.alloc());
     let mut rest = tokens;
     'each: while is_sign(rest, Sign::Comma) {
         let (other, after) = next_module(rest)?;
         others.push(other)?;
         rest = passed_on(after);
     }
-    Ok((others, rest))
+    Ok((arena.list(others)?, rest))
 }
 
 /// use = "use" module { "," module } ";"
 #[tactic(auto, unfolding(dpl_spelling::specs::Grammar::use_line, dpl_spelling::specs::Expressions::listed))]
-fn use_line(alloc: Global, tokens: Tokens<'_>) -> Parsed<'_, Use>
+fn use_line<'t>(arena: Arena<'t>, tokens: Tokens<'t>) -> Parsed<'t, Use<'t>>
     ensures gives { Gives (λ x. (use_view x.0, x.1.now)) result (at use_line_rule 0 tokens.now) }
     ensures shorter { IfOk result (λ x. length x.1.now < length tokens.now) }
 {
     let (word, rest) = keyword(Keyword::Use, tokens)?;
     let (first, rest) = module_name(rest)?;
-    let (others, rest) = other_modules(alloc, rest)?;
+    let (others, rest) = other_modules(arena, rest)?;
     let (semicolon, rest) = sign(Sign::Semicolon, rest)?;
     let line = Use {
         at: word.at,
@@ -136,17 +135,17 @@ fn use_line(alloc: Global, tokens: Tokens<'_>) -> Parsed<'_, Use>
 }
 
 /// { use }
-fn use_lines(alloc: Global, tokens: Tokens<'_>) -> Parsed<'_, Vec<Use>>
-    ensures { Gives (λ x. (map use_view x.0.items, x.1.now)) result (at (many use_line_rule) 0 tokens.now) }
+fn use_lines<'t>(arena: Arena<'t>, tokens: Tokens<'t>) -> Parsed<'t, &'t [Use<'t>]>
+    ensures { Gives (λ x. (map use_view x.0.now, x.1.now)) result (at (many use_line_rule) 0 tokens.now) }
 {
-    let mut lines = Vec::new(alloc);
+    let mut lines = Vec::new(arena.alloc());
     let mut rest = tokens;
     'each: while is_keyword(rest, Keyword::Use) {
-        let (line, after) = use_line(alloc, rest)?;
+        let (line, after) = use_line(arena, rest)?;
         lines.push(line)?;
         rest = passed_on(after);
     }
-    Ok((lines, rest))
+    Ok((arena.list(lines)?, rest))
 }
 
 /// Whether the next token begins a statement of the program itself.
@@ -159,38 +158,38 @@ fn begins_top(tokens: Tokens<'_>) -> bool
 
 /// top = stmt | "config" "const" declrest
 #[tactic(auto, using(dpl_spelling::proofs::Ways::read_top))]
-fn top<'a>(alloc: Global, room: u32, tokens: Tokens<'a>) -> Parsed<'a, Stmt<'a>>
+fn top<'t>(arena: Arena<'t>, room: u32, tokens: Tokens<'t>) -> Parsed<'t, Stmt<'t>>
     ensures gives { Gives (λ x. (stmt_view x.0, x.1.now)) result (at top_rule room tokens.now) }
     ensures shorter { IfOk result (λ x. length x.1.now < length tokens.now) }
 {
     if begins_statement(tokens) {
-        statement(alloc, room, tokens)
+        statement(arena, room, tokens)
     } else {
-        config_declaration(alloc, room, tokens)
+        config_declaration(arena, room, tokens)
     }
 }
 
 /// { top }
-fn tops<'a>(alloc: Global, room: u32, tokens: Tokens<'a>) -> Parsed<'a, Vec<Stmt<'a>>>
-    ensures { Gives (λ x. (map stmt_view x.0.items, x.1.now)) result (at (many top_rule) room tokens.now) }
+fn tops<'t>(arena: Arena<'t>, room: u32, tokens: Tokens<'t>) -> Parsed<'t, &'t [Stmt<'t>]>
+    ensures { Gives (λ x. (map stmt_view x.0.now, x.1.now)) result (at (many top_rule) room tokens.now) }
 {
-    let mut stmts = Vec::new(alloc);
+    let mut stmts = Vec::new(arena.alloc());
     let mut rest = tokens;
     'each: while begins_top(rest) {
-        let (stmt, after) = top(alloc, room, rest)?;
+        let (stmt, after) = top(arena, room, rest)?;
         stmts.push(stmt)?;
         rest = passed_on(after);
     }
-    Ok((stmts, rest))
+    Ok((arena.list(stmts)?, rest))
 }
 
 /// program = { use } { top } END
 #[tactic(auto, using(dpl_statements::proofs::Blocks::stmts_of_view, dpl_spelling::proofs::Ways::read_uses), unfolding(dpl_spelling::specs::Grammar::program, dpl_spelling::specs::Grammar::tops))]
-fn program<'a>(alloc: Global, room: u32, tokens: Tokens<'a>) -> Parsed<'a, Program<'a>>
+fn program<'t>(arena: Arena<'t>, room: u32, tokens: Tokens<'t>) -> Parsed<'t, Program<'t>>
     ensures { Gives (λ x. (program_view x.0, x.1.now)) result (at program_rule room tokens.now) }
 {
-    let (uses, rest) = use_lines(alloc, tokens)?;
-    let (stmts, rest) = tops(alloc, room, rest)?;
+    let (uses, rest) = use_lines(arena, tokens)?;
+    let (stmts, rest) = tops(arena, room, rest)?;
     let (end, rest) = end(rest)?;
     let program = Program {
         uses,

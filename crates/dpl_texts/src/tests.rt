@@ -2,7 +2,8 @@
 // The answer of a text that is read is the empty one; that its tree is the one that it spells is proved.
 
 use crate::table::TABLE;
-use dpl_parser::parse;
+use bumpalo::Bump;
+use dpl_parser::{Arena, parse};
 use dpl_syntax::lex;
 use std::alloc::{AllocError, Global};
 use std::test::Fail;
@@ -13,7 +14,8 @@ fn answer(alloc: Global, text: &[u8]) -> Result<String, AllocError> {
         Ok(tokens) => tokens,
         Err(stop) => return format!(in alloc; "{stop}"),
     };
-    match parse(alloc, tokens.as_slice()) {
+    let nodes = Bump::new(alloc);
+    match parse(Arena::new(&nodes, alloc), tokens.as_slice()) {
         Ok(_) => format!(in alloc; "read"),
         Err(stop) => format!(in alloc; "{stop}"),
     }

@@ -30,4 +30,4 @@ pub returns-clause-gives : goal.returns-clause-gives
 unfolding after_comma
 returns-clause-gives c =
     let not : next_in (sign Comma) c.each.rest.now ≡ false = cc in
-    ends (sign Comma) (at (after_comma module_name) 0) c.args.tokens.now (map next_module_view c.each.others.items) c.each.rest.now c.each.invariant not
+    rw c.in_ok-list.ensures (ends (sign Comma) (at (after_comma module_name) 0) c.args.tokens.now (map next_module_view c.each.others.items) c.each.rest.now c.each.invariant not)

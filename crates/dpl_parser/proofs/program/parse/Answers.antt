@@ -33,17 +33,17 @@ pub returns-then-is_empty-clause-told : goal.returns-then-is_empty-clause-told
 returns-then-is_empty-clause-told c = λ refusal g. absurd (refused_unspelled every 64 c.args.tokens.now refusal (program_view c.in_ok-tree.tree) g
     (whole_spelled every 64 c.args.tokens.now c.in_ok-tree.rest.now (program_view c.in_ok-tree.tree) (grind (arith, common_steps)) c.in_ok-tree.ensures))
 
-pub returns-clause-complete : goal.returns-clause-complete
-returns-clause-complete c =
+pub returns-else-is_empty-clause-complete : goal.returns-else-is_empty-clause-complete
+returns-else-is_empty-clause-complete c =
     let here = left_over every 64 c.args.tokens.now c.in_ok-tree.rest.now (program_view c.in_ok-tree.tree) (λ e. grind (arith, common_steps)) c.in_ok-tree.ensures in
     λ t s. not_spelled every 64 c.args.tokens.now c.unexpected.result (left_is every 64 c.args.tokens.now c.unexpected.result _ c.unexpected.ensures here) t s
 
-pub returns-clause-refused : goal.returns-clause-refused
-returns-clause-refused c =
+pub returns-else-is_empty-clause-refused : goal.returns-else-is_empty-clause-refused
+returns-else-is_empty-clause-refused c =
     let here = left_over every 64 c.args.tokens.now c.in_ok-tree.rest.now (program_view c.in_ok-tree.tree) (λ e. grind (arith, common_steps)) c.in_ok-tree.ensures in
     λ refusal is. left_is every 64 c.args.tokens.now c.unexpected.result _ c.unexpected.ensures here refusal (bad_is c.unexpected.result (Refused refusal) is)
 
-pub returns-clause-told : goal.returns-clause-told
-returns-clause-told c =
+pub returns-else-is_empty-clause-told : goal.returns-else-is_empty-clause-told
+returns-else-is_empty-clause-told c =
     let here = left_over every 64 c.args.tokens.now c.in_ok-tree.rest.now (program_view c.in_ok-tree.tree) (λ e. grind (arith, common_steps)) c.in_ok-tree.ensures in
     λ refusal g. told every 64 c.args.tokens.now c.unexpected.result (left_is every 64 c.args.tokens.now c.unexpected.result _ c.unexpected.ensures here) refusal g

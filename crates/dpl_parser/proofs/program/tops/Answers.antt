@@ -30,4 +30,4 @@ each-preserved c =
 pub returns : goal.returns
 returns c =
     let not : next_in (begins StatementBelow ++ keyword Config) c.each.rest.now ≡ false = cc in
-    read_tops c.args.room c.args.tokens.now ∙ ends (begins StatementBelow ++ keyword Config) (at top c.args.room) c.args.tokens.now (map stmt_view c.each.stmts.items) c.each.rest.now c.each.invariant not
+    rw c.in_ok-list.ensures (read_tops c.args.room c.args.tokens.now ∙ ends (begins StatementBelow ++ keyword Config) (at top c.args.room) c.args.tokens.now (map stmt_view c.each.stmts.items) c.each.rest.now c.each.invariant not)

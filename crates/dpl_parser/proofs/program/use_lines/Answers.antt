@@ -27,4 +27,4 @@ each-preserved c =
 pub returns : goal.returns
 returns c =
     let not : next_in (keyword Use) c.each.rest.now ≡ false = cc in
-    read_use_lines 0 c.args.tokens.now ∙ ends (keyword Use) (at use_line 0) c.args.tokens.now (map use_view c.each.lines.items) c.each.rest.now c.each.invariant not
+    rw c.in_ok-list.ensures (read_use_lines 0 c.args.tokens.now ∙ ends (keyword Use) (at use_line 0) c.args.tokens.now (map use_view c.each.lines.items) c.each.rest.now c.each.invariant not)
