@@ -1,4 +1,5 @@
 -- What elements hold at an index.
+-- Keys and values side by side, functions read at some indices, and elements over some indices.
 use Rattle.std.proofs.Common.{◌≡◌, ◌==◌, ℕ, zero, suc, ℤ, List, [], ◌∷◌, length, filter, slice_get, slice_set, replicate, Bool, true, false, cond, Option, Some, None, refl, ap, sym, subst, ◌∙◌, arith, ⊎_elim, ◌⊎◌, inl, inr}
 use Rattle.std.specs.List.{zip}
 use Rattle.std.specs.Option.{option_map}

@@ -1,4 +1,5 @@
 -- The pieces that stand in the places of their locales.
+-- They take the invariant of the pieces, and serve its calls one by one.
 use Rattle.std.proofs.Common.{◌≡◌, ◌<◌, ◌+◌, ◌⊎◌, ℕ, zero, suc, ℤ, List, [], ◌∷◌, ◌++◌, length, map, slice_get, slice_set, slice_index_or, Option, Some, None, is_some, IsSome, IfSome, All, true, false, refl, ap, sym, subst, ◌∙◌, arith, ⊎_elim, inl, inr, length-set}
 use Rattle.std.specs.Option.{option_map, option_copied}
 use Rattle.std.specs.Borrow.{Bor}

@@ -1,3 +1,5 @@
+-- What is proved of arrays beside the code.
+-- The lemmas, a file for each subject; the files in folders answer the goals of one function each.
 pub mod RowLemmas
 pub mod ElementLemmas
 pub mod PieceLemmas

@@ -1,4 +1,5 @@
 -- What the row of a piece says of its elements.
+-- They take the invariant of a piece, and serve its calls one by one.
 use Rattle.std.proofs.Common.{◌≡◌, ◌↔◌, ◌==◌, filter, ◌<◌, ℕ, ℤ, List, length, slice_get, slice_set, replicate, Option, Some, None, refl, ap, sym, subst, ◌∙◌, arith}
 use Rattle.std.proofs.lemmas.Option.{none-some, same_Some, slice_get_within}
 use Rattle.dpl_range.specs.Range.{RangeValue}

@@ -1,4 +1,5 @@
 -- Where an index stands in the row of a part's domains.
+-- A place in a domain is one in the row, and each place in the row is one of a domain.
 use Rattle.std.proofs.Common.{◌≡◌, ◌↔◌, ◌<◌, ◌≤◌, ◌+◌, ◌-◌, ◌==◌, ℕ, zero, suc, ℤ, List, [], ◌∷◌, ◌++◌, length, length-append, filter, slice_get, get_or, Bool, true, false, cond, Option, Some, None, IfSome, All, take, refl, ap, sym, subst, ◌∙◌, arith, ⊎_elim}
 use Rattle.std.specs.List.{sum_by}
 use Rattle.std.proofs.lemmas.Bool.{cases_lt}

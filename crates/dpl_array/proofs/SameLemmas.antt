@@ -1,4 +1,5 @@
 -- When two ranges and two domains are equal in the language.
+-- Members are told by their number, the first of them and the stride.
 use Rattle.std.proofs.Common.{◌≡◌, ◌<◌, ◌≤◌, ℕ, zero, suc, ℤ, pos, ◌+ℤ◌, List, [], ◌∷◌, length, slice_get, not, true, false, Bool, Option, Some, None, FitsSigned, w64, refl, ap, sym, subst, ◌∙◌, arith, ⊎_elim}
 use Rattle.std.specs.Ordering.{int_eq}
 use Rattle.std.specs.Option.{option_eq}

@@ -1,4 +1,5 @@
 -- The union of pieces, and the pieces of an array.
+-- The union of the pieces of an array is the array, and pieces are those of their union.
 use Rattle.std.proofs.Common.{◌≡◌, ◌<◌, ◌≤◌, ◌+◌, ◌==◌, ℕ, zero, suc, ℤ, List, [], ◌∷◌, length, map, filter, slice_get, slice_set, slice_index_or, Bool, true, false, cond, Option, Some, None, is_some, IsSome, All, refl, ap, sym, subst, ◌∙◌, arith, ⊎_elim, eq-eqb, eqb-true, length-set, get_or-set_same, get_or-set_other}
 use Rattle.std.specs.Option.{option_map}
 use Rattle.std.proofs.lemmas.Bool.{cases_eq, cases_lt}

@@ -1,4 +1,5 @@
 -- Walks over indices: what is left of them, and values that are taken over on the way.
+-- They serve `redomain` and the walk over the elements of an array.
 use Rattle.std.proofs.Common.{◌≡◌, ◌⊎◌, zero, suc, ℤ, List, [], ◌∷◌, map, slice_get, drop, Option, Some, None, true, false, cond, inl, inr, refl, ap, sym, ◌∙◌, ⊎_elim}
 use Rattle.std.specs.Option.{option_map}
 use Rattle.std.proofs.lemmas.Option.{none-some, same_Some}

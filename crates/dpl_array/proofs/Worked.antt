@@ -1,4 +1,5 @@
 -- Worked rows of the definitions, each by computation.
+-- They are small enough to be worked out on paper beside the definitions.
 use Rattle.std.proofs.Common.{◌≡◌, ℕ, ℤ, pos, negsuc, List, [], ◌∷◌, Some, None, length, map, refl}
 use Rattle.dpl_range.specs.Members.{members}
 use Rattle.dpl_range.specs.Range.{RangeValue}

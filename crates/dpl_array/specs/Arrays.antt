@@ -1,4 +1,5 @@
 -- Arrays, and the pieces that they are made of.
+-- An array and its pieces are records over a finite map; what is done to them is a function of these.
 use Rattle.std.specs.Prelude.{◌≡◌, ◌≤◌, ◌^◌, ℕ, zero, suc, ◌+◌, ◌<◌, ℤ, List, [], ◌∷◌, Option, Some, None, IsSome, All, map, length, slice_index_or, slice_set}
 use Rattle.std.specs.Option.{option_map}
 use Rattle.dpl_range.specs.Range.{RangeValue}

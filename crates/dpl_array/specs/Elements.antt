@@ -1,4 +1,5 @@
 -- Elements: a finite map from indices to values.
+-- It is a list of pairs, so that it can be read in order, with a search by index.
 use Rattle.std.specs.Prelude.{◌≡◌, ℕ, ℤ, List, [], ◌∷◌, Bool, true, false, ◌&&◌, ◌==◌, Option, Some, None, map, filter, if◌then◌else◌}
 use Rattle.std.specs.Ordering.{int_eq}
 use Rattle.dpl_map.specs.Maps.{AxisValue, owner}

@@ -1,4 +1,5 @@
 -- What an array is: a finite map from indices to values.
+-- The files stand in reading order: first what a reader has to believe, and then what serves the code.
 pub mod Elements
 pub mod Same
 pub mod Arrays

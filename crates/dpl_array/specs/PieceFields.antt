@@ -1,4 +1,5 @@
 -- How a piece is kept: its values in the row of its part's domains.
+-- The model of a piece lists them in the order of its domain all the same.
 use Rattle.std.specs.Prelude.{◌≡◌, ◌≤◌, ◌^◌, ◌↔◌, ℕ, ℤ, List, Option, length}
 use Rattle.std.specs.List.{zip}
 use Rattle.dpl_range.specs.Range.{RangeValue}

@@ -1,4 +1,5 @@
 -- A part's indices in one row: those of its first domain, then those of its second, and so on.
+-- Contracts of private functions and the invariant of a piece speak of this row.
 use Rattle.std.specs.Prelude.{◌≡◌, ◌<◌, ℕ, ℤ, List, length, slice_get, slice_index_or, Some, take}
 use Rattle.std.specs.List.{flat_map, sum_by}
 use Rattle.dpl_range.specs.Range.{RangeValue}

@@ -1,4 +1,5 @@
 -- When two domains are equal in the language.
+-- A value says nothing of how its text was written, so the stride has to tell it.
 use Rattle.std.specs.Prelude.{List, pos, not, map}
 use Rattle.std.specs.Ordering.{int_eq}
 use Rattle.dpl_range.specs.Range.{RangeValue}

@@ -1,4 +1,5 @@
 -- What a walk over the elements of an array has still to give.
+-- The model of a walk is that list, and its invariant says that nothing is left out of it.
 use Rattle.std.specs.Prelude.{◌≡◌, List, ℤ, Some}
 use Rattle.dpl_array.specs.Elements.{Elements, value_at, tabulated}
 use Rattle.dpl_array.specs.Arrays.{ArrayValue}

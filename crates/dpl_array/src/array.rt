@@ -1,4 +1,5 @@
 // Arrays, as finite maps from indices to values.
+// An array is its pieces, which are all there; taking it apart and putting it together move them and no more.
 
 ghost use Rattle.std.specs.Prelude.{◌≡◌, ◌≤◌, ◌^◌, ◌↔◌, ◌<◌, false, is_some, IsSome, IfOk, IfSome};
 ghost use Rattle.dpl_domain.specs.Indices.{indices};
@@ -125,6 +126,7 @@ impl<T: Copy> Pieces<T> {
         requires { IsWhole self }
         ensures { result ≡ union self }
     {
+        // Nothing is read here: it is the clause `formed` of this call that the invariant of an array rests on.
         let _ = self.domain();
         DArray { pieces: self }
     }

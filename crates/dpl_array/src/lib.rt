@@ -1,4 +1,5 @@
 // Arrays: finite maps from the indices of a domain to values, kept in one dense piece for each locale of a map.
+// This is the table of contents: pieces stand under arrays, and walks and `redomain` above them.
 #![tactic(auto)]
 
 mod array;

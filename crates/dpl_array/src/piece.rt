@@ -1,4 +1,5 @@
 // A piece of an array: the elements that one locale owns, in one dense vector.
+// An element is found by the search of the map in the domains of the part; a value at each place of their row.
 
 ghost use Rattle.std.specs.Prelude.{◌≡◌, ◌≤◌, ◌^◌, false, is_some, IfOk, length, replicate};
 ghost use Rattle.dpl_domain.specs.Indices.{indices};

@@ -1,4 +1,5 @@
 // The pieces of an array: one for each locale of its map, taken out and put back.
+// A piece goes only into the free place of its locale, and only where its domain and its map are the array's.
 
 ghost use Rattle.std.specs.Prelude.{◌≡◌, ◌≤◌, ◌^◌, ◌↔◌, Some, None, is_some, length, slice_index_or, slice_get, IsTrue, IsOk, IfOk, IfErr, IfSome, OnOk, OnErr};
 ghost use Rattle.std.specs.Option.{option_map};
@@ -82,6 +83,9 @@ impl<T: Copy> Pieces<T> {
 
     /// Puts a piece back. A stranger, which is of another domain by the language's equality or of another map, and a double,
     /// whose place isn't free, are handed back, and then nothing is changed.
+    ///
+    /// The language compares the bounds of two ranges where both are written without `by`, and else their members. A value
+    /// doesn't tell how it was written: here a range of stride 1 counts as written without `by`.
     pub fn put(&mut self, piece: Piece<T>) -> Result<(), Piece<T>>
         ensures fits { IsOk result ↔ (SameDomain (texts_of piece.domain) (texts_of self.old.domain) × (piece.map ≡ self.old.map) × (slice_get self.old.slots piece.locale ≡ Some None)) }
         ensures put { OnOk result (self.new ≡ with_slot self.old piece.locale (Some piece.elements)) }

@@ -1,4 +1,5 @@
 // Where an index stands in the row of a part's domains.
+// The row has the indices of the first domain, then those of the second, and so on; each domain has its start.
 
 ghost use Rattle.std.specs.Prelude.{◌≡◌, ◌≤◌, ◌^◌, ◌↔◌, ℕ, Some, IfOk, slice_get, length};
 ghost use Rattle.dpl_map.specs.Orders.{ArePart};

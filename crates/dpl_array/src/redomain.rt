@@ -1,4 +1,5 @@
 // An array over another domain.
+// The new array is made first, and then the values at the common indices are taken over one by one.
 
 ghost use Rattle.std.specs.Prelude.{◌≡◌, ◌↔◌, IfOk};
 ghost use Rattle.dpl_array.specs.Elements.{value_at};

@@ -1,4 +1,5 @@
 // When two domains are equal in the language.
+// Equal domains may have other bounds and strides; a piece of one fits into an array over the other.
 
 ghost use Rattle.std.specs.Prelude.{◌≡◌, ◌↔◌, IsTrue};
 ghost use Rattle.dpl_range.specs.Range.{members_of};

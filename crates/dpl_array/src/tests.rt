@@ -1,4 +1,5 @@
 // Arrays at work: by blocks, going round, by blocks that go round, and over a domain that changes.
+// Every row is run once on the built code; that the values are right is what the contracts say.
 
 use crate::{ArrayFault, DArray};
 use dpl_domain::{Domain, Index};

@@ -1,4 +1,5 @@
 // A walk over the elements of an array in the order of its domain.
+// A walk borrows the array, takes no memory and goes over each element once.
 
 ghost use Rattle.std.specs.Prelude.{◌≡◌, slice_get, drop};
 

@@ -1,4 +1,5 @@
 -- The values so far.
+-- This is what the loop of `row` keeps.
 use Rattle.std.proofs.Common.{◌≡◌, ◌≤◌, ◌-◌, replicate, vec_len}
 use Rattle.dpl_array.proofs.piece.row.Given as goal
 

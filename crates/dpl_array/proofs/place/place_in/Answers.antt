@@ -1,4 +1,5 @@
 -- The start of the domain that has the index, and the place of the index there.
+-- These are the answers to the goals of `place_in`.
 use Rattle.std.proofs.Common.{arith}
 use Rattle.dpl_array.proofs.RowLemmas.{row-none, row-some, found-below}
 use Rattle.dpl_array.proofs.place.place_in.Goals as goal

@@ -1,4 +1,5 @@
 -- Each domain's indices end where those of the next begin.
+-- These are the answers to the goals of `starts_of`.
 use Rattle.std.proofs.Common.{◌≡◌, ◌+◌, length, arith, refl, ap, ◌∙◌}
 use Rattle.std.proofs.lemmas.List.{length_push}
 use Rattle.std.proofs.lemmas.Option.{slice_get_read}

@@ -1,4 +1,5 @@
 -- The starts of the domains so far, and where the next one begins.
+-- This is what the loop of `starts_of` keeps.
 use Rattle.std.proofs.Common.{◌≡◌, ◌<◌, ℕ, length, slice_index_or}
 use Rattle.dpl_array.specs.Rows.{start_of}
 use Rattle.dpl_array.proofs.place.starts_of.Given as goal

@@ -1,4 +1,5 @@
 -- Range by range.
+-- These are the answers to the goals of `same_domain`.
 use Rattle.std.proofs.Common.{◌≡◌, length, true, false, refl, sym, ◌∙◌}
 use Rattle.dpl_array.proofs.SameLemmas.{domain-same, same-domain, same-rank}
 use Rattle.dpl_array.proofs.same.same_domain.Goals as goal

@@ -1,4 +1,5 @@
 -- The members of a range are told by their number, the first of them and the stride.
+-- These are the answers to the goals of `same_members`.
 use mir.Val.{of_z}
 use Rattle.std.proofs.Common.{rules, w64, ◌≡◌, ◌≤◌, length, true, false, refl, sym, ap, ◌∙◌, arith, slice_get}
 use Rattle.dpl_range.specs.Range.{members_of}

@@ -1,4 +1,5 @@
 -- Two ranges of stride 1 have their bounds compared too.
+-- These are the answers to the goals of `same_range`.
 use Rattle.std.proofs.Common.{rules, refl, sym, ◌∙◌}
 use Rattle.dpl_array.proofs.SameLemmas.{words-same}
 use Rattle.dpl_array.proofs.same.same_range.Goals as goal

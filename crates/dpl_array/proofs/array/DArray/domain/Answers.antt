@@ -1,4 +1,5 @@
 -- The union of the pieces is an array.
+-- These are the answers to the goals of `DArray::domain`.
 use Rattle.std.proofs.Common.{subst}
 use Rattle.dpl_array.specs.Arrays.{IsArray}
 use Rattle.dpl_array.proofs.UnionLemmas.{union-over}

@@ -1,4 +1,5 @@
 -- The union of the pieces holds what they hold.
+-- These are the answers to the goals of `DArray::get`.
 use Rattle.std.proofs.Common.{ap, sym, ◌∙◌}
 use Rattle.dpl_array.specs.Elements.{value_at}
 use Rattle.dpl_array.proofs.UnionLemmas.{union-at}

@@ -1,4 +1,5 @@
 -- The pieces are those of the array with one value everywhere.
+-- These are the answers to the goals of `DArray::new`.
 use Rattle.std.proofs.Common.{◌<◌, ℤ, List, ap, sym, ◌∙◌, subst}
 use Rattle.dpl_domain.specs.Indices.{indices}
 use Rattle.dpl_map.specs.Maps.{owner, locales}

@@ -1,4 +1,5 @@
 -- The piece of each locale is the array's restriction.
+-- These are the answers to the goals of `DArray::piece`.
 use Rattle.std.proofs.lemmas.Option.{IfSome_then}
 use Rattle.dpl_array.proofs.UnionLemmas.{piece-lent}
 use Rattle.dpl_array.proofs.array.DArray.piece.Goals as goal

@@ -1,4 +1,5 @@
 -- Index by index the values are taken over.
+-- These are the answers to the goals of `DArray::redomain`.
 use Rattle.std.proofs.Common.{◌≡◌, ◌∷◌, drop, refl, ap, sym, subst, ◌∙◌}
 use Rattle.dpl_domain.specs.Indices.{indices}
 use Rattle.dpl_array.specs.Elements.{value_at}

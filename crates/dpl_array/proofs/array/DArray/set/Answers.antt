@@ -1,4 +1,5 @@
 -- One piece is written, and so is the union.
+-- These are the answers to the goals of `DArray::set`.
 use Rattle.std.proofs.Common.{is_some, subst, ap, sym, ◌∙◌}
 use Rattle.dpl_array.specs.Elements.{value_at}
 use Rattle.dpl_array.specs.Arrays.{ArePieces, IsWhole, array_with, union}

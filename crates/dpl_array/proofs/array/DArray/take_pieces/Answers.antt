@@ -1,4 +1,5 @@
 -- The pieces are those of their union.
+-- These are the answers to the goals of `DArray::take_pieces`.
 use Rattle.std.proofs.Common.{ap, ◌∙◌}
 use Rattle.dpl_array.specs.Arrays.{pieces_of}
 use Rattle.dpl_array.proofs.UnionLemmas.{pieces-union}

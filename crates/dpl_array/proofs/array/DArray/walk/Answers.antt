@@ -1,4 +1,5 @@
 -- The array has a value at each index of its domain.
+-- These are the answers to the goals of `DArray::walk`.
 use Rattle.std.proofs.Common.{ap, ◌∙◌, subst}
 use Rattle.dpl_domain.specs.Indices.{indices}
 use Rattle.dpl_array.specs.Rows.{StandsIn}

@@ -1,4 +1,5 @@
 -- The value at the place of the index in the row.
+-- These are the answers to the goals of `Piece::get`.
 use Rattle.std.proofs.Common.{arith, refl, sym, ap, ◌∙◌}
 use Rattle.std.proofs.lemmas.Option.{slice_get_read}
 use Rattle.dpl_array.specs.Elements.{value_at}

@@ -1,4 +1,5 @@
 -- There is a value for each index of the part.
+-- These are the answers to the goals of `Piece::locale`.
 use Rattle.std.proofs.Common.{subst}
 use Rattle.dpl_array.specs.Arrays.{IsPiece}
 use Rattle.dpl_array.proofs.PieceLemmas.{kept-over}

@@ -1,4 +1,5 @@
 -- The domains of the part have its indices, and there is a value for each place of their row.
+-- These are the answers to the goals of `Piece::new`.
 use Rattle.std.proofs.Common.{◌≡◌, length, replicate, arith, ap, ◌∙◌}
 use Rattle.std.proofs.lemmas.List.{length-replicate}
 use Rattle.dpl_map.specs.Parts.{part}

@@ -1,4 +1,5 @@
 -- A part is told by the indices of the domain.
+-- These are the answers to the goals of `Piece::over`.
 use Rattle.std.proofs.Common.{◌≡◌, ◌↔◌, ℤ, List, sym, ap, ◌∙◌, subst}
 use Rattle.dpl_map.specs.Parts.{part}
 use Rattle.dpl_domain.specs.Indices.{indices}

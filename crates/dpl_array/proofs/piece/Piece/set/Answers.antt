@@ -1,4 +1,5 @@
 -- The value at the place of the index in the row is written.
+-- These are the answers to the goals of `Piece::set`.
 use Rattle.std.proofs.Common.{is_some, arith, sym, ap, ◌∙◌}
 use Rattle.std.proofs.lemmas.Option.{slice_get-get_or}
 use Rattle.dpl_array.specs.Elements.{value_at}

@@ -1,4 +1,5 @@
 -- What the pieces hold are the elements of the locales' parts.
+-- These are the answers to the goals of `Pieces::domain`.
 use Rattle.std.proofs.Common.{subst}
 use Rattle.dpl_array.specs.Arrays.{ArePieces}
 use Rattle.dpl_array.proofs.HeldLemmas.{held-formed}

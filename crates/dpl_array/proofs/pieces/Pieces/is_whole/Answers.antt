@@ -1,4 +1,5 @@
 -- All places have their pieces, or one has none.
+-- These are the answers to the goals of `Pieces::is_whole`.
 use Rattle.std.proofs.Common.{◌≡◌, ℕ, ◌<◌, true, false, is_some, None, slice_index_or, length, ap, sym, ◌∙◌, subst, refl, arith}
 use Rattle.std.proofs.lemmas.List.{get_or_read}
 use Rattle.dpl_array.specs.Arrays.{IsWhole}

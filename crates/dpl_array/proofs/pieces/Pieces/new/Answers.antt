@@ -1,4 +1,5 @@
 -- One piece for each locale.
+-- These are the answers to the goals of `Pieces::new`.
 use Rattle.std.proofs.Common.{◌≡◌, ◌+◌, ap, ◌∙◌, length, arith, Some}
 use Rattle.std.proofs.lemmas.List.{length_push}
 use Rattle.dpl_map.specs.Maps.{locales}

@@ -1,4 +1,5 @@
 -- The pieces so far.
+-- This is what the loop of `Pieces::new` keeps.
 use Rattle.std.proofs.Common.{◌≡◌, ◌<◌, ℕ, length, slice_get, Some}
 use Rattle.dpl_map.specs.Parts.{part}
 use Rattle.dpl_array.specs.Elements.{filled}

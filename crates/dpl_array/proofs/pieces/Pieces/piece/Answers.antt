@@ -1,4 +1,5 @@
 -- What stands in the place of a locale.
+-- These are the answers to the goals of `Pieces::piece`.
 use Rattle.std.proofs.Common.{ap, sym, ◌∙◌, None, slice_index_or}
 use Rattle.dpl_array.specs.Arrays.{piece_in}
 use Rattle.dpl_array.proofs.HeldLemmas.{held-piece, lent}

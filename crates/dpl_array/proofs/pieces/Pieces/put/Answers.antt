@@ -1,4 +1,5 @@
 -- The piece is put into the free place of its locale.
+-- These are the answers to the goals of `Pieces::put`.
 use Rattle.std.proofs.Common.{◌≡◌, ◌<◌, ap, sym, ◌∙◌, Some, map, slice_get, slice_set, length, arith, refl, subst}
 use Rattle.std.proofs.lemmas.List.{map-set}
 use Rattle.std.proofs.lemmas.Option.{same_Some}

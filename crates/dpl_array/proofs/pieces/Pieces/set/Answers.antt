@@ -1,4 +1,5 @@
 -- The piece of the owner is written.
+-- These are the answers to the goals of `Pieces::set`.
 use Rattle.std.proofs.Common.{ap, sym, ◌∙◌, None, Some, map, slice_set, slice_index_or, ◌<◌, length, arith}
 use Rattle.std.specs.Option.{option_map}
 use Rattle.std.proofs.lemmas.List.{map-set, get_or_read}

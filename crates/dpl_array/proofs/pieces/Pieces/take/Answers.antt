@@ -1,4 +1,5 @@
 -- The place of a locale is emptied.
+-- These are the answers to the goals of `Pieces::take`.
 use Rattle.std.proofs.Common.{ap, sym, ◌∙◌, None, map, slice_set, arith, refl}
 use Rattle.std.proofs.lemmas.List.{map-set, get_or_read}
 use Rattle.std.proofs.lemmas.Option.{none-some}

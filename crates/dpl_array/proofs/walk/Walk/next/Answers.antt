@@ -1,4 +1,5 @@
 -- The array has a value at each index that is left.
+-- These are the answers to the goals of `Walk::next`.
 use Rattle.std.proofs.Common.{sym, ◌∙◌, subst}
 use Rattle.std.proofs.lemmas.Option.{none-some}
 use Rattle.dpl_array.specs.Rows.{StandsIn}
