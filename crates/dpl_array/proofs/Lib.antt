@@ -2,6 +2,7 @@
 -- The lemmas, a file for each subject; the files in folders answer the goals of one function each.
 pub mod RowLemmas
 pub mod ElementLemmas
+pub mod DistinctLemmas
 pub mod PieceLemmas
 pub mod UnionLemmas
 pub mod HeldLemmas

@@ -1,10 +1,12 @@
 -- Arrays, and the pieces that they are made of.
 -- An array and its pieces are records over a finite map; what is done to them is a function of these.
-use Rattle.std.specs.Prelude.{◌≡◌, ◌≤◌, ◌^◌, ℕ, zero, suc, ◌+◌, ◌<◌, ℤ, List, [], ◌∷◌, Option, Some, None, IsSome, All, map, length, slice_index_or, slice_set}
+use Rattle.std.specs.Prelude.{◌≡◌, ◌≤◌, ◌^◌, ℕ, zero, suc, ◌+◌, ◌<◌, ℤ, List, [], ◌∷◌, Option, Some, None, IsSome, All, map, flat_map, length, slice_index_or, slice_set}
 use Rattle.std.specs.Option.{option_map}
 use Rattle.dpl_range.specs.Range.{RangeValue}
 use Rattle.dpl_domain.specs.Indices.{indices}
 use Rattle.dpl_map.specs.Maps.{AxisValue, owner, locales}
+use Rattle.dpl_map.specs.Cuts.{AreCut}
+use Rattle.dpl_map.specs.Orders.{ArePart}
 use Rattle.dpl_map.specs.Parts.{part}
 use Rattle.dpl_array.specs.Elements.{Elements, value_at, with_value, filled, owned, tabulated, IsOver}
 
@@ -48,6 +50,13 @@ restriction a l = record { domain = a.domain; map = a.map; locale = l; elements 
 -- the piece with another value at an index, if it has the index
 abbrev pub piece_with : {T : Type 0} → List ℤ → T → PieceValue T → PieceValue T
 piece_with t v p = record p { elements = with_value t v p.elements }
+
+-- What a walk over a piece gives: all its elements, those of one domain of its part after those of another. The domains are cut out
+-- of the part, so each element is given once; within a domain they come in its order.
+abbrev pub IsWalkOf : {T : Type 0} → PieceValue T → Elements T → Type 0
+IsWalkOf p es =
+    (domains : List (List RangeValue)) × ArePart p.map domains × AreCut indices (part p.domain p.map p.locale) domains ×
+    (es ≡ tabulated (flat_map indices domains) (λ t. value_at t p.elements))
 
 -- the pieces of an array: for each locale the elements that it owns, where its piece is there
 pub record PiecesValue (T : Type 0) : Type 0 where

@@ -1,6 +1,6 @@
 -- A part's indices in one row: those of its first domain, then those of its second, and so on.
 -- Contracts of private functions and the invariant of a piece speak of this row.
-use Rattle.std.specs.Prelude.{◌≡◌, ◌<◌, ℕ, ℤ, List, length, slice_get, slice_index_or, Some, take}
+use Rattle.std.specs.Prelude.{◌≡◌, ◌≢◌, ◌<◌, ℕ, ℤ, List, [], All, length, slice_get, slice_index_or, Some, take}
 use Rattle.std.specs.List.{flat_map, sum_by}
 use Rattle.dpl_range.specs.Range.{RangeValue}
 use Rattle.dpl_domain.specs.Indices.{indices}
@@ -8,6 +8,10 @@ use Rattle.dpl_domain.specs.Indices.{indices}
 -- the row of some domains
 abbrev pub row_of : List (List RangeValue) → List (List ℤ)
 row_of domains = flat_map indices domains
+
+-- each domain has an index
+abbrev pub AreSome : List (List RangeValue) → Type 0
+AreSome domains = All (λ domain. indices domain ≢ []) domains
 
 -- where the indices of a domain begin in the row: behind those of the domains before it
 abbrev pub start_of : List (List RangeValue) → ℕ → ℕ
@@ -17,6 +21,10 @@ start_of domains k = sum_by (λ d. length (indices d)) (take k domains)
 pub record AreStarts (domains : List (List RangeValue)) (starts : List ℕ) : Type 0 where
   pub long : length starts ≡ length domains
   pub each : (k : ℕ) → k < length domains → slice_index_or starts k 0 ≡ start_of domains k
+
+-- no element stands at two places
+abbrev pub IsDistinct : {X : Type 0} → List X → Type 0
+IsDistinct {X = X} xs = (j k : ℕ) (x : X) → slice_get xs j ≡ Some x → slice_get xs k ≡ Some x → j ≡ k
 
 -- something stands in a list
 abbrev pub StandsIn : {X : Type 0} → List X → X → Type 0

@@ -4,14 +4,17 @@
 
 mod array;
 mod piece;
+mod piece_walk;
 mod pieces;
 mod place;
 mod redomain;
+mod row;
 mod same;
 mod walk;
 
 pub use array::{ArrayFault, DArray};
 pub use piece::Piece;
+pub use piece_walk::PieceWalk;
 pub use pieces::Pieces;
 pub use walk::Walk;
 

@@ -1,13 +1,13 @@
 // A piece of an array: the elements that one locale owns, in one dense vector.
 // An element is found by the search of the map in the domains of the part; a value at each place of their row.
 
-ghost use Rattle.std.specs.Prelude.{◌≡◌, ◌≤◌, ◌^◌, false, is_some, IfOk, length, replicate};
+ghost use Rattle.std.specs.Prelude.{◌≡◌, ◌≤◌, ◌^◌, Some, false, is_some, IfOk, length, replicate, slice_get};
 ghost use Rattle.dpl_domain.specs.Indices.{indices};
 ghost use Rattle.dpl_map.specs.Parts.{part};
-ghost use Rattle.dpl_array.specs.Elements.{value_at, filled};
+ghost use Rattle.dpl_array.specs.Elements.{value_at, filled, keys_of};
 ghost use Rattle.dpl_array.specs.Arrays.{IsPiece, piece_with};
 
-use crate::place::{place_in, starts_of};
+use crate::place::{each_once, place_in, starts_of};
 use dpl_domain::{Domain, Index};
 use dpl_map::Map;
 use std::alloc::{AllocError, Global};
@@ -17,12 +17,12 @@ use std::marker::Model;
 /// indices of the locale's part to values.
 #[derive(Drop)]
 pub struct Piece<T> {
-    domain: Domain,
+    pub(crate) domain: Domain,
     map: Map,
     locale: u32,
-    parts: Vec<Domain>,
+    pub(crate) parts: Vec<Domain>,
     starts: Vec<usize>,
-    values: Vec<T>,
+    pub(crate) values: Vec<T>,
 }
 
 impl<T> Model for Piece<T> {
@@ -50,6 +50,7 @@ impl<T: Copy> Piece<T> {
         requires small { length (indices domain) ≤ 2 ^ 24 }
         ensures { IfOk result (λ p. p ≡ record { domain = domain; map = map; locale = locale; elements = filled (part domain map locale) value }) }
     {
+        each_once(&domain);
         let Ok(parts) = map.part(alloc, &domain, locale) else {
             return Err(AllocError);
         };
@@ -116,6 +117,20 @@ impl<T: Copy> Piece<T> {
         };
         self.values[place] = value;
         true
+    }
+}
+
+impl<T: Copy> Piece<T> {
+    // The value at an index that stands at a place among the piece's elements. Where the part is one domain, the row has the
+    // elements in their own order, and no index is looked up.
+    pub(crate) fn value_of(&self, place: usize, index: Index) -> Option<T>
+        requires { slice_get (keys_of self.now.elements) place ≡ Some index }
+        ensures { result ≡ value_at index self.now.elements }
+    {
+        if self.parts.len() > 1 {
+            return self.get(index);
+        }
+        Some(self.values[place])
     }
 }
 

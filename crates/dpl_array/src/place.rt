@@ -3,11 +3,21 @@
 
 ghost use Rattle.std.specs.Prelude.{◌≡◌, ◌≤◌, ◌^◌, ◌↔◌, ℕ, Some, IfOk, slice_get, length};
 ghost use Rattle.dpl_map.specs.Orders.{ArePart};
-ghost use Rattle.dpl_array.specs.Rows.{row_of, AreStarts};
+ghost use Rattle.dpl_domain.specs.Indices.{indices};
+ghost use Rattle.dpl_array.specs.Rows.{row_of, AreStarts, IsDistinct};
 
 use dpl_domain::{Domain, Index};
 use dpl_map::Map;
 use std::alloc::{AllocError, Global};
+
+/// No index of a domain stands at two places. It says so, and does nothing.
+pub(crate) fn each_once(domain: &Domain)
+    ensures { IsDistinct (indices domain.now) }
+{
+    // That the numbers of a range are within their limits is a clause of its size.
+    let (outer, middle, inner) = domain.ranges();
+    let _ = (outer.size(), middle.size(), inner.size());
+}
 
 /// The place of an index in the row of a part's domains, if one of them has it.
 pub(crate) fn place_in(map: &Map, parts: &[Domain], starts: &[usize], index: Index) -> Option<usize>

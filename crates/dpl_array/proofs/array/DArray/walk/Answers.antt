@@ -1,12 +1,18 @@
--- The array has a value at each index of its domain.
+-- Nothing is gone over yet.
 -- These are the answers to the goals of `DArray::walk`.
-use Rattle.std.proofs.Common.{ap, ◌∙◌, subst}
-use Rattle.dpl_domain.specs.Indices.{indices}
-use Rattle.dpl_array.specs.Rows.{StandsIn}
-use Rattle.dpl_array.proofs.ElementLemmas.{over-some}
+use Rattle.std.proofs.Common.{◌≡◌, ◌≤◌, replicate, sym, ap, ◌∙◌, subst, arith}
+use Rattle.dpl_domain.specs.Indices.{indices, IsSmall}
+use Rattle.dpl_map.specs.Maps.{locales}
+use Rattle.dpl_array.specs.WalkFields.{IsLeft}
+use Rattle.dpl_array.proofs.WalkLemmas.{left-first}
 use Rattle.dpl_array.proofs.array.DArray.walk.Goals as goal
 
 pub invariant_of-result : goal.invariant_of-result
-invariant_of-result g c = λ t at.
-    over-some (indices c.args.self.now.domain) c.args.self.now.elements t c.domain.ensures.keys
-    (subst (λ ts. StandsIn ts t) (c.cursor.ensures ∙ ap indices c.domain.ensures.domain) at)
+invariant_of-result g c =
+    let a = c.args.self.now in
+    let maps : locales c.map-map.result ≡ locales a.map = ap locales c.map-map.ensures in
+    let most : locales a.map ≤ 64 = omega (arith, c.locales.ensures.most, c.locales.ensures.locales, maps) in
+    let small = subst IsSmall c.domain-domain.ensures.domain c.size.ensures.small in
+    let left = sym (c.cursor.ensures ∙ ap indices c.domain-domain.ensures.domain) in
+    subst (λ m. IsLeft a m c.cursor.result (replicate 64 0)) (sym c.map-map.ensures)
+    (subst (λ ts. IsLeft a a.map ts (replicate 64 0)) left (left-first a c.domain-domain.ensures.keys small most))

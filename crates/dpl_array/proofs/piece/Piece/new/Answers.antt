@@ -7,6 +7,7 @@ use Rattle.dpl_array.specs.Rows.{row_of}
 use Rattle.dpl_array.specs.PieceFields.{kept_at}
 use Rattle.dpl_array.specs.Elements.{tabulated}
 use Rattle.dpl_array.proofs.RowLemmas.{length-row, length-part, row-same}
+use Rattle.dpl_array.proofs.DistinctLemmas.{distinct-part, distinct-row}
 use Rattle.dpl_array.proofs.PieceLemmas.{piece-filled}
 use Rattle.dpl_array.proofs.piece.Piece.new.Goals as goal
 
@@ -23,9 +24,15 @@ invariant_of-result g c =
     let row : length (row_of parts) ≡ length (part c.args.domain c.args.map c.args.locale) = length-row parts ∙ c.in-Ok.ensures.sizes in
     let le = length-part c.args.domain c.args.map c.args.locale in
     let long : length c.in_ok-values.values.items ≡ c.in_ok-starts.size = ap length c.in_ok-values.ensures ∙ length-replicate c.in_ok-starts.size c.args.value in
+    let ts = part c.args.domain c.args.map c.args.locale in
+    let same = row-same ts parts c.in-Ok.ensures.cut c.in-Ok.ensures.apart in
     record {
       rows = c.in-Ok.ensures.rows;
-      same = row-same (part c.args.domain c.args.map c.args.locale) parts c.in-Ok.ensures.cut c.in-Ok.ensures.apart;
+      same = same;
+      cut = c.in-Ok.ensures.cut;
+      some = c.in-Ok.ensures.some;
+      one = c.in-Ok.ensures.one;
+      distinct = distinct-row ts parts (distinct-part c.args.domain c.args.map c.args.locale c.each_once.ensures) c.in-Ok.ensures.cut c.in-Ok.ensures.apart (λ t. (same t).0);
       starting = rw c.deref.ensures.value at c.in_ok-starts.ensures.starts;
       long = long ∙ c.in_ok-starts.ensures.size ∙ ap (λ ds. length (row_of ds)) c.deref.ensures.value;
       small = omega (arith, row, le, c.requires.small);

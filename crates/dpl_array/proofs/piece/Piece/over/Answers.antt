@@ -1,6 +1,7 @@
 -- A part is told by the indices of the domain.
 -- These are the answers to the goals of `Piece::over`.
 use Rattle.std.proofs.Common.{◌≡◌, ◌↔◌, ℤ, List, sym, ap, ◌∙◌, subst}
+use Rattle.dpl_map.specs.Cuts.{AreCut}
 use Rattle.dpl_map.specs.Parts.{part}
 use Rattle.dpl_domain.specs.Indices.{indices}
 use Rattle.dpl_array.specs.Elements.{tabulated}
@@ -18,6 +19,10 @@ invariant_of-piece g c =
     record {
       rows = kept.rows;
       same = subst (λ ts. (t : List ℤ) → StandsIn (row_of p.parts.items) t ↔ StandsIn ts t) parts-same kept.same;
+      cut = subst (λ ts. AreCut indices ts p.parts.items) parts-same kept.cut;
+      some = kept.some;
+      one = kept.one;
+      distinct = kept.distinct;
       starting = kept.starting;
       long = kept.long;
       small = kept.small;
