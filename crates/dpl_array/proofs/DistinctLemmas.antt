@@ -28,10 +28,10 @@ pub distinct-indices : (rank : ℕ) (o m i : RangeValue) → IsRange o → IsRan
 distinct-indices rank o m i first second last = indices-distinct (last_of rank o m i) (ranges-last_of rank o m i first second last)
 
 module _ {X : Type 0} where
-  distinct-tail : (x : X) (xs : List X) → IsDistinct (x ∷ xs) → IsDistinct xs
+  pub distinct-tail : (x : X) (xs : List X) → IsDistinct (x ∷ xs) → IsDistinct xs
   distinct-tail x xs distinct j k y here there = let e : suc j ≡ suc k = distinct (suc j) (suc k) y here there in omega (arith, e)
 
-  distinct-head : (x : X) (xs : List X) → IsDistinct (x ∷ xs) → StandsIn xs x → ⊥
+  pub distinct-head : (x : X) (xs : List X) → IsDistinct (x ∷ xs) → StandsIn xs x → ⊥
   distinct-head x xs distinct at = let e : 0 ≡ suc at.0 = distinct 0 (suc at.0) x refl at.1 in absurd cc
 
   -- of what a filter keeps the places rise with those in the list

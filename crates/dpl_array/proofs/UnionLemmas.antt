@@ -72,7 +72,7 @@ pub stands-owner : (ranges : List RangeValue) (axes : List AxisValue) (l : ℕ) 
 unfolding part
 stands-owner ranges axes l t at = eqb-true (owner axes t) l (filter-test (λ s. owner axes s == l) (indices ranges) at.0 t at.1)
 
-some-of : {X : Type 0} (o : Option X) → IsSome o → (x : X) × (o ≡ Some x)
+pub some-of : {X : Type 0} (o : Option X) → IsSome o → (x : X) × (o ≡ Some x)
 some-of None there = absurd (let e : false ≡ true = there in cc)
 some-of (Some x) there = (x, refl)
 

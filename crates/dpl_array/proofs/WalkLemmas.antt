@@ -113,7 +113,7 @@ walk-next [] t found = absurd (none-some t found)
 walk-next (i ∷ is) t found = (is, ap (λ j. j ∷ is) (same_Some i t found))
 
 -- THE NEXT ELEMENT OF AN OWNER
-other-test : (m n : ℕ) → (m ≡ n → ⊥) → (m == n) ≡ false
+pub other-test : (m n : ℕ) → (m ≡ n → ⊥) → (m == n) ≡ false
 other-test m n other = by (m == n) refl
   where
     by : (b : Bool) → (m == n) ≡ b → b ≡ false

@@ -1,0 +1,26 @@
+-- How elements of an array are gathered, one index after another.
+-- Functions of the crate speak of it by what a gathering holds at each index.
+use Rattle.std.specs.Prelude.{◌≡◌, ℕ, suc, List, [], ◌∷◌, ℤ, Bool, true, ◌&&◌, cond, Option, None}
+use Rattle.dpl_range.specs.Range.{RangeValue}
+use Rattle.dpl_array.specs.Elements.{Elements, value_at, element_before}
+use Rattle.dpl_array.specs.Arrays.{ArrayValue}
+use Rattle.dpl_halo.specs.Listed.{is_listed}
+
+-- elements over a domain: a finite map from some of its indices to values
+pub record GatheredValue (T : Type 0) : Type 0 where
+  pub domain : List RangeValue
+  pub elements : Elements T
+
+-- what a function from places gives of the indices of a list, in their order
+abbrev pub chosen : {T : Type 0} → List (List ℤ) → (ℕ → Option T) → Elements T
+chosen [] f = []
+chosen (t ∷ ts) f = element_before t (f 0) (chosen ts (λ k. f (suc k)))
+
+-- each index is wanted
+abbrev pub every : List ℤ → Bool
+every t = true
+
+-- of the indices that were looked at so far those that are wanted hold what the array holds, and no others hold anything
+pub record IsGathered {T : Type 0} (a : ArrayValue T) (wants : List ℤ → Bool) (seen : List (List ℤ)) (g : GatheredValue T) : Type 0 where
+  pub domain : g.domain ≡ a.domain
+  pub values : (t : List ℤ) → value_at t g.elements ≡ cond (is_listed seen t && wants t) (value_at t a.elements) None
