@@ -3,6 +3,7 @@
 #![tactic(auto)]
 
 mod array;
+mod coordinates;
 mod piece;
 mod piece_walk;
 mod pieces;

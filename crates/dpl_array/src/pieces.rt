@@ -1,10 +1,10 @@
 // The pieces of an array: one for each locale of its map, taken out and put back.
 // A piece goes only into the free place of its locale, and only where its domain and its map are the array's.
 
-ghost use Rattle.std.specs.Prelude.{◌≡◌, ◌≤◌, ◌^◌, ◌↔◌, Some, None, is_some, length, slice_index_or, slice_get, IsTrue, IsOk, IfOk, IfErr, IfSome, OnOk, OnErr};
+ghost use Rattle.std.specs.Prelude.{◌≡◌, ◌≤◌, ◌<◌, ◌^◌, ◌↔◌, Some, None, is_some, length, slice_index_or, slice_get, IsTrue, IsOk, IfOk, IfErr, IfSome, OnOk, OnErr};
 ghost use Rattle.std.specs.Option.{option_map};
 ghost use Rattle.dpl_domain.specs.Equality.{SameDomain};
-ghost use Rattle.dpl_map.specs.Maps.{owner};
+ghost use Rattle.dpl_map.specs.Maps.{owner, locales};
 ghost use Rattle.dpl_array.specs.Elements.{with_value};
 ghost use Rattle.dpl_array.specs.Same.{texts_of};
 ghost use Rattle.dpl_array.specs.Arrays.{ArePieces, IsWhole, IsSmallArray, filled_array, held_at, piece_in, pieces_of, with_slot};
@@ -129,11 +129,22 @@ impl<T: Copy> Pieces<T> {
         true
     }
 
+    // Where the piece of an index's owner stands. Where there is one locale, no owner is computed.
+    fn seat(&self, index: Index) -> usize
+        ensures owner { result ≡ owner self.now.map index }
+        ensures below { result < locales self.now.map }
+    {
+        if self.held.len() == 1 {
+            return 0;
+        }
+        self.map.owner(index) as usize
+    }
+
     // What the pieces hold at an index.
     pub(crate) fn get(&self, index: Index) -> Option<T>
         ensures { result ≡ held_at self.now index }
     {
-        let owner = self.map.owner(index) as usize;
+        let owner = self.seat(index);
         self.held[owner].as_ref()?.get(index)
     }
 
@@ -142,7 +153,7 @@ impl<T: Copy> Pieces<T> {
         ensures there { result ≡ is_some (held_at self.old index) }
         ensures changes { self.new ≡ with_slot self.old (owner self.old.map index) (option_map (with_value index value) (slice_index_or self.old.slots (owner self.old.map index) None)) }
     {
-        let owner = self.map.owner(index) as usize;
+        let owner = self.seat(index);
         let Some(piece) = &mut self.held[owner] else {
             return false;
         };

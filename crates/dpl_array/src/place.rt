@@ -26,6 +26,9 @@ pub(crate) fn place_in(map: &Map, parts: &[Domain], starts: &[usize], index: Ind
     requires small { length (row_of parts.now) ≤ 2 ^ 24 }
     ensures { (k : ℕ) → (result ≡ Some k) ↔ (slice_get (row_of parts.now) k ≡ Some index) }
 {
+    if let [part] = parts {
+        return Some(part.place(index)? as usize);
+    }
     let (number, place) = map.find(parts, index)?;
     Some(starts[number] + place as usize)
 }

@@ -5,7 +5,7 @@ use Rattle.dpl_array.proofs.RowLemmas.{row-none, row-some, found-below}
 use Rattle.dpl_array.proofs.place.place_in.Goals as goal
 
 pub returns-in_err-number : goal.returns-in_err-number
-returns-in_err-number c = row-none c.args.parts.now c.args.index c.in_err-number.ensures c.from_residual.result c.from_residual.ensures
+returns-in_err-number c = row-none c.args.parts.now c.args.index c.in_err-number.ensures c.from_residual-in_err-number.result c.from_residual-in_err-number.ensures
 
 pub bounds-starts-number : goal.bounds-starts-number
 bounds-starts-number c =
