@@ -9,11 +9,12 @@ use Rattle.std.specs.Cmp.{nat_cmp_is}
 use Rattle.std.proofs.lemmas.Bool.{cases_eq, cases_lt}
 use Rattle.std.proofs.lemmas.Option.{none-some, same_Some}
 use Rattle.dpl_range.specs.Range.{RangeValue}
+use Rattle.dpl_domain.specs.Indices.{indices}
 use Rattle.dpl_array.specs.Elements.{Elements, same_index, value_at, with_value, element_before, tabulated}
 use Rattle.dpl_array.specs.Rows.{IsDistinct, StandsIn}
 use Rattle.dpl_array.proofs.DistinctLemmas.{distinct-head, distinct-tail}
 use Rattle.dpl_array.proofs.ElementLemmas.{changed, not-same, same_index-refl, stands-later, with_value-tabulated}
-use Rattle.dpl_halo.specs.Gathering.{GatheredValue, chosen}
+use Rattle.dpl_halo.specs.Gathering.{GatheredValue, IsTaken, chosen}
 use Rattle.dpl_halo.proofs.ListedLemmas.{stands-cases}
 
 -- another value at one place of a function
@@ -172,3 +173,39 @@ pub put-elements : {T : Type 0} (d : List RangeValue) (t : List ℤ) (v : T) (es
 put-elements {T = T} d t v es g h same put =
     ap {A = Elements T} {B = GatheredValue T} (λ fs. record { domain = g.domain; elements = fs }) put
     ∙ ap {A = GatheredValue T} {B = GatheredValue T} (λ q. record q { elements = with_value t v q.elements }) same
+
+-- an entry that is taken out: it is what is put to have the map of before
+pub entry-taken : {T : Type 0} (m n : BTreeMap ℕ T) (k : ℕ) (v : T) → get nat_cmp m k ≡ Some v → Updates nat_cmp m n k None → IsChanged k v (get nat_cmp n) (get nat_cmp m)
+entry-taken m n k v was updates = record { here = was; others = λ q other. sym (updates.2 q (apart k q other)) }
+
+-- each key is a place still
+module _ {T : Type 0} (n k : ℕ) (v : T) (f g : ℕ → Option T) (change : IsChanged k v f g) where
+  pub within-put : k < n → ((q : ℕ) (w : T) → f q ≡ Some w → q < n) → (q : ℕ) (w : T) → g q ≡ Some w → q < n
+  within-put below within q w some =
+      ⊎_elim
+      (λ (same : q ≡ k). omega (arith, same, below))
+      (λ (other : q ≡ k → ⊥). within q w (sym (change.others q other) ∙ some))
+      (cases_eq q k)
+
+  pub within-taken : ((q : ℕ) (w : T) → g q ≡ Some w → q < n) → (q : ℕ) (w : T) → f q ≡ Some w → q < n
+  within-taken within q w some =
+      ⊎_elim
+      (λ (same : q ≡ k). let below = within k v change.here in omega (arith, same, below))
+      (λ (other : q ≡ k → ⊥). within q w (change.others q other ∙ some))
+      (cases_eq q k)
+
+pub none-left : {X : Type 0} (xs : List X) → length xs ≡ 0 → xs ≡ []
+none-left [] none = refl
+none-left (x ∷ xs) none = absurd (omega (arith, none))
+
+-- the elements without the one that is taken out
+pub chosen-taken :
+    {T : Type 0} (d : List RangeValue) (f g : ℕ → Option T) (k : ℕ) (t : List ℤ) (v : T) → IsDistinct (indices d) → slice_get (indices d) k ≡ Some t → g k ≡ None → IsChanged k v g f
+    → IsTaken t v (record { domain = d; elements = chosen (indices d) f }) (record { domain = d; elements = chosen (indices d) g })
+chosen-taken d f g k t v distinct found gone change = record {
+  domain = refl;
+  value = chosen-at (indices d) f k t distinct found ∙ change.here;
+  gone = chosen-at (indices d) g k t distinct found ∙ gone;
+  others = λ s other. sym (chosen-put (indices d) g f k t v distinct found change s ∙ ap (λ b. cond b (Some v) (value_at s (chosen (indices d) g))) other);
+  fewer = sym (chosen-count (indices d) g f k t v found change ∙ ap (λ o. length (chosen (indices d) g) + cond (is_some o) 0 1) gone);
+}

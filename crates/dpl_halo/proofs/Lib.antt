@@ -4,3 +4,4 @@ pub mod ListedLemmas
 pub mod ChosenLemmas
 pub mod GatherLemmas
 pub mod ReadLemmas
+pub mod SettleLemmas

@@ -1,8 +1,8 @@
 -- How elements of an array are gathered, one index after another.
 -- Functions of the crate speak of it by what a gathering holds at each index.
-use Rattle.std.specs.Prelude.{◌≡◌, ℕ, suc, List, [], ◌∷◌, ℤ, Bool, true, ◌&&◌, cond, Option, None}
+use Rattle.std.specs.Prelude.{◌≡◌, ◌+◌, ℕ, suc, List, [], ◌∷◌, ℤ, Bool, true, false, ◌&&◌, cond, Option, None, Some, length}
 use Rattle.dpl_range.specs.Range.{RangeValue}
-use Rattle.dpl_array.specs.Elements.{Elements, value_at, element_before}
+use Rattle.dpl_array.specs.Elements.{Elements, same_index, value_at, element_before}
 use Rattle.dpl_array.specs.Arrays.{ArrayValue}
 use Rattle.dpl_halo.specs.Listed.{is_listed}
 
@@ -24,3 +24,11 @@ every t = true
 pub record IsGathered {T : Type 0} (a : ArrayValue T) (wants : List ℤ → Bool) (seen : List (List ℤ)) (g : GatheredValue T) : Type 0 where
   pub domain : g.domain ≡ a.domain
   pub values : (t : List ℤ) → value_at t g.elements ≡ cond (is_listed seen t && wants t) (value_at t a.elements) None
+
+-- one element is taken out
+pub record IsTaken {T : Type 0} (t : List ℤ) (v : T) (g h : GatheredValue T) : Type 0 where
+  pub domain : h.domain ≡ g.domain
+  pub value : value_at t g.elements ≡ Some v
+  pub gone : value_at t h.elements ≡ None
+  pub others : (s : List ℤ) → same_index t s ≡ false → value_at s h.elements ≡ value_at s g.elements
+  pub fewer : length h.elements + 1 ≡ length g.elements

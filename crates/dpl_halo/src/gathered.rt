@@ -1,11 +1,11 @@
 // Elements that are gathered from an array, each once.
 // They are kept by their places in the array's domain, so a search goes by one number.
 
-ghost use Rattle.std.specs.Prelude.{◌≡◌, ◌∷◌, [], ◌++◌, List, ℤ, Bool, Some, false, true, cond, is_some, length, OnOk};
+ghost use Rattle.std.specs.Prelude.{◌≡◌, ◌∷◌, [], ◌++◌, List, ℤ, Bool, Some, false, true, cond, is_some, length, IfSome, IfNone, OnOk};
 ghost use Rattle.dpl_domain.specs.Indices.{indices, IsSmall};
 ghost use Rattle.dpl_array.specs.Elements.{value_at, with_value, tabulated, same_index};
 ghost use Rattle.dpl_array.specs.Rows.{IsDistinct, StandsIn};
-ghost use Rattle.dpl_halo.specs.Gathering.{IsGathered};
+ghost use Rattle.dpl_halo.specs.Gathering.{IsGathered, IsTaken};
 
 use dpl_array::DArray;
 use dpl_domain::{Domain, Index};
@@ -86,6 +86,20 @@ impl<T: Copy> Gathered<T> {
             return false;
         };
         true
+    }
+
+    // Takes an element out, or answers `None` where there is none.
+    pub(crate) fn pop(&mut self) -> Option<(Index, T)>
+        ensures taken { IfSome result (λ e. IsTaken e.0 e.1 self.old self.new) }
+        ensures end { IfNone result (self.old.elements ≡ []) }
+    {
+        if self.count == 0 {
+            return None;
+        }
+        let (place, value) = self.held.pop_first()?;
+        let index = self.domain.nth(place)?;
+        self.count -= 1;
+        Some((index, value))
     }
 
     // Adds an element at an index of the domain, or puts a value there. On a refusal nothing is changed.

@@ -79,6 +79,20 @@ impl<T: Copy> Loan<T> {
     {
         self.gathered.set(index, value)
     }
+
+    /// Sets each element of an array that is lent to its value in the loan, and no other. The array is one over the domain
+    /// of that from which was lent; its domain and its map stay.
+    pub fn settle(self, array: &mut DArray<T>)
+        requires { self.domain ≡ array.old.domain }
+        ensures { array.new ≡ settled self array.old }
+    {
+        // That an array has a value at each of its indices is a clause of this call.
+        let _ = array.domain();
+        let mut left = self.gathered;
+        while let Some(element) = left.pop() {
+            array.set(element.0, element.1);
+        }
+    }
 }
 
 // Adds what an array holds at the indices of a domain.

@@ -2,10 +2,11 @@
 -- These are the answers to the goals of `Gathered::insert`.
 use Rattle.std.proofs.Common.{◌≡◌, ◌+◌, Some, is_some, not, false, true, cond, length, nat_cmp, arith, refl, sym, ap, ◌∙◌}
 use Rattle.std.specs.BTreeMap.{get}
+use Rattle.std.proofs.lemmas.Option.{slice_get_within}
 use Rattle.dpl_domain.specs.Indices.{indices}
 use Rattle.dpl_array.specs.Elements.{same_index, value_at}
 use Rattle.dpl_halo.specs.Gathering.{chosen}
-use Rattle.dpl_halo.proofs.ChosenLemmas.{chosen-put, chosen-count, chosen-short, entry-put}
+use Rattle.dpl_halo.proofs.ChosenLemmas.{chosen-put, chosen-count, chosen-short, entry-put, within-put}
 use Rattle.dpl_halo.proofs.gathered.Gathered.insert.Goals as goal
 
 pub overflow_add-self : goal.overflow_add-self
@@ -31,7 +32,7 @@ invariant_of-self-then-is_none g c =
     let fresh : is_some (f k) ≡ false = ap is_some (sym c.in_ok-insert.ensures.old) ∙ c.is_none.ensures ∙ ap not c.if-is_none.true in
     let more : length (chosen ts h) ≡ length (chosen ts f) + 1 =
     chosen-count ts f h k c.args.index c.args.value ((c.in-Some.ensures k).0 refl) (entry-put p.held c.insert.new.self k c.args.value c.in_ok-insert.ensures.updates) ∙ ap (λ b. length (chosen ts f) + cond b 0 1) fresh in
-    record { distinct = c.self.invariant.distinct; small = c.self.invariant.small; count = omega (arith, c.self.invariant.count, more) }
+    record { distinct = c.self.invariant.distinct; small = c.self.invariant.small; within = within-put (length ts) k c.args.value f h (entry-put p.held c.insert.new.self k c.args.value c.in_ok-insert.ensures.updates) (slice_get_within ts k c.args.index ((c.in-Some.ensures k).0 refl)) c.self.invariant.within; count = omega (arith, c.self.invariant.count, more) }
 
 pub invariant_of-self-else-is_none : goal.invariant_of-self-else-is_none
 invariant_of-self-else-is_none g c =
@@ -43,7 +44,7 @@ invariant_of-self-else-is_none g c =
     let old : is_some (f k) ≡ true = ap is_some (sym c.in_ok-insert.ensures.old) ∙ c.is_none.ensures ∙ ap not c.if-is_none.false in
     let same : length (chosen ts h) ≡ length (chosen ts f) + 0 =
     chosen-count ts f h k c.args.index c.args.value ((c.in-Some.ensures k).0 refl) (entry-put p.held c.insert.new.self k c.args.value c.in_ok-insert.ensures.updates) ∙ ap (λ b. length (chosen ts f) + cond b 0 1) old in
-    record { distinct = c.self.invariant.distinct; small = c.self.invariant.small; count = omega (arith, c.self.invariant.count, same) }
+    record { distinct = c.self.invariant.distinct; small = c.self.invariant.small; within = within-put (length ts) k c.args.value f h (entry-put p.held c.insert.new.self k c.args.value c.in_ok-insert.ensures.updates) (slice_get_within ts k c.args.index ((c.in-Some.ensures k).0 refl)) c.self.invariant.within; count = omega (arith, c.self.invariant.count, same) }
 
 pub returns-then-is_none-clause-values : goal.returns-then-is_none-clause-values
 returns-then-is_none-clause-values g c = λ t.

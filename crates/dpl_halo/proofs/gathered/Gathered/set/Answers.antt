@@ -2,14 +2,14 @@
 -- These are the answers to the goals of `Gathered::set`.
 use Rattle.std.proofs.Common.{◌≡◌, ◌+◌, cond, is_some, false, true, length, arith, nat_cmp, refl, sym, ap, ◌∙◌}
 use Rattle.std.specs.BTreeMap.{get}
-use Rattle.std.proofs.lemmas.Option.{none-some}
+use Rattle.std.proofs.lemmas.Option.{none-some, slice_get_within}
 use Rattle.dpl_domain.specs.Indices.{indices}
 use Rattle.dpl_array.specs.Elements.{value_at}
 use Rattle.dpl_array.proofs.ElementLemmas.{with_value-absent}
 use Rattle.dpl_array.proofs.UnionLemmas.{absent, some-of}
 use Rattle.dpl_halo.specs.Gathering.{chosen}
 use Rattle.dpl_halo.specs.GatheredFields.{gathered_of}
-use Rattle.dpl_halo.proofs.ChosenLemmas.{chosen-at, chosen-none, chosen-set, chosen-count, entry-put, put-elements}
+use Rattle.dpl_halo.proofs.ChosenLemmas.{chosen-at, chosen-none, chosen-set, chosen-count, entry-put, put-elements, within-put}
 use Rattle.dpl_halo.proofs.gathered.Gathered.set.Goals as goal
 
 pub returns-in_default-clause-there : goal.returns-in_default-clause-there
@@ -50,7 +50,7 @@ invariant_of-self-2 g c =
     let there : is_some (f k) ≡ true = sym c.if-not-contains_key.ensures in
     let same : length (chosen ts h) ≡ length (chosen ts f) + 0 =
     chosen-count ts f h k c.args.index c.args.value ((c.in-Some.ensures k).0 refl) (entry-put p.held c.insert.new.self k c.args.value c.in-Ok.ensures.updates) ∙ ap (λ b. length (chosen ts f) + cond b 0 1) there in
-    record { distinct = c.self.invariant.distinct; small = c.self.invariant.small; count = omega (arith, c.self.invariant.count, same) }
+    record { distinct = c.self.invariant.distinct; small = c.self.invariant.small; within = within-put (length ts) k c.args.value f h (entry-put p.held c.insert.new.self k c.args.value c.in-Ok.ensures.updates) (slice_get_within ts k c.args.index ((c.in-Some.ensures k).0 refl)) c.self.invariant.within; count = omega (arith, c.self.invariant.count, same) }
 
 pub returns-clause-there : goal.returns-clause-there
 returns-clause-there g c =
