@@ -23,7 +23,7 @@ done | awk '
     }
     END {
         if (differ) { print "the two programs read different values"; exit 1 }
-        split("get_line, whole;get_line, piece by block;get_plane, whole;get_plane, piece by block;walk, whole;walk, by block;walk, piece by block;get_line, by block", name, ";")
+        split("get_line, whole;get_line, piece by block;get_line, by block;walk, whole;walk, by block;walk, piece by block;get_plane, whole;get_plane, piece by block", name, ";")
         printf "%-28s %8s %8s %8s\n", "ns, best of " NR " rounds", "array", "vector", "more"
         for (m = 0; m < 8; m++)
             printf "%-28s %8.2f %8.2f %8.2f\n", name[m + 1], best[m] / 1000, plain[m] / 1000, (best[m] - plain[m]) / 1000

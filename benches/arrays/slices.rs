@@ -43,11 +43,11 @@ fn main() {
     let own = |values: &Vec<i64>| line(black_box(values), black_box(250_001), black_box(250_001), black_box(500_001), ROUNDS * 4);
     timed(|| whole(&all));
     timed(|| own(&part));
-    timed(|| plane(black_box(&all), black_box(1), black_box(1_000), black_box(1), black_box(1_001), ROUNDS));
-    timed(|| plane(black_box(&quarter), black_box(501), black_box(500), black_box(501), black_box(1_001), ROUNDS * 4));
+    timed(|| whole(&all));
     timed(|| whole(&all));
     timed(|| whole(&all));
     timed(|| own(&part));
-    timed(|| whole(&all));
+    timed(|| plane(black_box(&all), black_box(1), black_box(1_000), black_box(1), black_box(1_001), ROUNDS));
+    timed(|| plane(black_box(&quarter), black_box(501), black_box(500), black_box(501), black_box(1_001), ROUNDS * 4));
     println!();
 }

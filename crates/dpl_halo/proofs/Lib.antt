@@ -5,3 +5,4 @@ pub mod ChosenLemmas
 pub mod GatherLemmas
 pub mod ReadLemmas
 pub mod SettleLemmas
+mod Worked
