@@ -64,6 +64,7 @@ fn hold(rt: &impl Abort, array: &DArray<i64>) {
         let (_, _, i) = index.numbers();
         assert_eq!(rt; value, i.wrapping_mul(i));
         assert_eq!(rt; array.get(index), Some(value));
+        assert_eq!(rt; array.get_line(i), Some(value));
         left = left.wrapping_sub(1);
     }
     assert_eq!(rt; left, 0);
@@ -140,4 +141,73 @@ fn changed_domains(rt: HostRuntime) -> Result<(), Fail> {
             .is_err_and(|fault| fault == ArrayFault::Size)
     );
     Ok(())
+}
+
+// Each element of each piece is walked over once.
+#[test]
+fn walks(rt: HostRuntime) -> Result<(), Fail> {
+    let alloc = rt.alloc();
+    let domain = line(-20, 20, 3)?;
+    for map in maps(&rt, &domain, 4)? {
+        let array = squares(&rt, alloc, domain, map)?;
+        let mut walked: u64 = 0;
+        for locale in 0..map.locales() {
+            let Some(piece) = array.piece(locale) else {
+                panic!(&rt; "each locale has its piece")
+            };
+            let mut walk = piece.walk();
+            for _ in 0..domain.size() {
+                if let Some((index, value)) = walk.next() {
+                    assert_eq!(&rt; piece.get(index), Some(value));
+                    walked = walked.wrapping_add(1);
+                }
+            }
+            assert!(&rt; walk.next().is_none());
+        }
+        assert_eq!(&rt; walked, domain.size());
+    }
+    Ok(())
+}
+
+// Coordinates of each rank, and of another rank than the array's.
+#[test]
+fn coordinates(rt: HostRuntime) -> Result<(), Fail> {
+    let alloc = rt.alloc();
+    let side = Range::new(1, 4, 1)?;
+    let plane = Domain::new(&[side, side])?;
+    let mut array = DArray::new(alloc, plane, Map::block(&plane, Grid::new(&[2, 2])?)?, 0)?;
+    assert!(&rt; array.set_plane(2, 3, 7));
+    assert!(&rt; !array.set_line(2, 8));
+    assert_eq!(&rt; array.get_plane(2, 3), Some(7));
+    assert_eq!(&rt; array.get_plane(3, 2), Some(0));
+    assert_eq!(&rt; array.get_plane(0, 3), None);
+    let space = Domain::new(&[side, side, side])?;
+    let mut array = DArray::new(alloc, space, Map::whole(), 0)?;
+    assert!(&rt; array.set_space(1, 2, 3, 9));
+    assert_eq!(&rt; array.get_space(1, 2, 3), Some(9));
+    assert_eq!(&rt; array.get_plane(1, 2), None);
+    Ok(())
+}
+
+// One growth is refused, so of two arrays one is made all the same, and of two made so one changes its domain.
+#[test]
+fn a_growth_refused(rt: HostRuntime) -> Result<(), Fail> {
+    let alloc = rt.alloc();
+    let domain = line(1, 8, 1)?;
+    let map = Map::cyclic(at(&rt, 1), Grid::new(&[3])?)?;
+    let first = DArray::new(alloc, domain, map, 5);
+    let second = DArray::new(alloc, domain, map, 5);
+    assert!(&rt; first.is_ok() || second.is_ok());
+    let first = moved(first, alloc, line(3, 10, 1)?);
+    let second = moved(second, alloc, line(3, 10, 1)?);
+    assert!(&rt; first || second);
+    Ok(())
+}
+
+// Whether an array is there and its domain is changed.
+fn moved(array: Result<DArray<i64>, ArrayFault>, alloc: Global, domain: Domain) -> bool {
+    let Ok(array) = array else {
+        return false;
+    };
+    array.redomain(alloc, domain, 0).is_ok()
 }
