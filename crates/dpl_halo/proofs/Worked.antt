@@ -8,7 +8,6 @@ use Rattle.dpl_domain.specs.Indices.{indices}
 use Rattle.dpl_map.specs.Maps.{AxisValue, owner, cyclic_map, Block}
 use Rattle.dpl_map.specs.Parts.{part}
 use Rattle.dpl_map.specs.Places.{block_place, cyclic_place}
-use Rattle.dpl_array.specs.Elements.{Elements}
 use Rattle.dpl_array.specs.Arrays.{ArrayValue, filled_array}
 use Rattle.dpl_halo.specs.declared.shift.Step.{Step}
 use Rattle.dpl_halo.specs.Shifts.{moved, shifted}
