@@ -3,7 +3,7 @@
 use Rattle.std.specs.Prelude.{ℕ, nat_lt, ◌==◌, Bool, true, false, not, ◌&&◌, ◌||◌, if◌then◌else◌, List, [], ◌∷◌, ◌++◌, Option, Some, None}
 use Rattle.dpl_syntax.specs.declared.place.Place.{Place}
 use Rattle.dpl_syntax.specs.declared.refusal.Code.{Code}
-use Rattle.dpl_syntax.specs.declared.refusal.Code.TheVariants.{NotText, BadCharacter, NumberTooLarge, Unexpected, TooDeep, UnknownName, NameTwice, ConstantWritten, OuterChanged, BadSet}
+use Rattle.dpl_syntax.specs.declared.refusal.Code.TheVariants.{NotText, BadCharacter, NumberTooLarge, Unexpected, TooDeep, UnknownName, NameTwice, WrongType, ConstantWritten, WrongRank, WrittenElsewhere, ReadElsewhere, OuterChanged, NotInForall, NotInCoforall, CellMisused, TooMany, BadSet}
 use Rattle.dpl_syntax.specs.declared.refusal.Refusal.{Refusal}
 use Rattle.dpl_syntax.specs.declared.operator.Assign.{Assign}
 use Rattle.dpl_syntax.specs.Tree.{Placed, BoundsTree, StrideTree, InitialTree, IntentTree, ExprTree, Number, Named, Bracketed, Prefixed, Chain, Links, NoLinks, Link, StmtTree, Declare, Assigned, Writeln, Forall, ProgramTree}
@@ -112,9 +112,17 @@ rank Unexpected = 3
 rank TooDeep = 4
 rank UnknownName = 5
 rank NameTwice = 6
-rank ConstantWritten = 7
-rank OuterChanged = 8
-rank BadSet = 9
+rank WrongType = 7
+rank ConstantWritten = 8
+rank WrongRank = 9
+rank WrittenElsewhere = 10
+rank ReadElsewhere = 11
+rank OuterChanged = 12
+rank NotInForall = 13
+rank NotInCoforall = 14
+rank CellMisused = 15
+rank TooMany = 16
+rank BadSet = 17
 
 -- a place before another
 abbrev pub place_before : Place → Place → Bool

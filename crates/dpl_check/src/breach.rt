@@ -25,9 +25,17 @@ pub(crate) fn rank(code: Code) -> u8
         Code::TooDeep => 4,
         Code::UnknownName => 5,
         Code::NameTwice => 6,
-        Code::ConstantWritten => 7,
-        Code::OuterChanged => 8,
-        Code::BadSet => 9,
+        Code::WrongType => 7,
+        Code::ConstantWritten => 8,
+        Code::WrongRank => 9,
+        Code::WrittenElsewhere => 10,
+        Code::ReadElsewhere => 11,
+        Code::OuterChanged => 12,
+        Code::NotInForall => 13,
+        Code::NotInCoforall => 14,
+        Code::CellMisused => 15,
+        Code::TooMany => 16,
+        Code::BadSet => 17,
     }
 }
 

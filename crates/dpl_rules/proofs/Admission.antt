@@ -3,7 +3,9 @@
 use Rattle.std.proofs.Common.{◌≡◌, ◌↔◌, Bool, true, false, not, ◌||◌, List, [], ◌∷◌, ◌++◌, Option, refl}
 use Rattle.dpl_syntax.specs.declared.place.Place.{Place}
 use Rattle.dpl_rules.specs.Types.{Origin, has}
-use Rattle.dpl_rules.specs.Verdicts.{Code, owed, WrittenElsewhere, ReadElsewhere, OuterChanged, NotInForall}
+use Rattle.dpl_syntax.specs.declared.refusal.Code.{Code}
+use Rattle.dpl_syntax.specs.declared.refusal.Code.TheVariants.{WrittenElsewhere, ReadElsewhere, OuterChanged, NotInForall}
+use Rattle.dpl_rules.specs.Verdicts.{owed}
 use Rattle.dpl_rules.specs.Sights.{is_reduced}
 use Rattle.dpl_language.specs.Tree.{VariablesTree, ItemTree, WithTree, Body}
 use Rattle.dpl_language.specs.Names.{Text}

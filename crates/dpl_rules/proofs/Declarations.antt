@@ -7,7 +7,7 @@ use Rattle.dpl_language.specs.Tree.{DomainLiteral, DomainOf, DomainType, Dotted,
 use Rattle.dpl_language.specs.Tree.{LowBound, Named, NextItem, NoItems, NoLinks, NoPosts, NoStmts, NoStride, Number, One, OneVariable, Plainly, Post, Postfixed}
 use Rattle.dpl_language.specs.Tree.{RangeItem, ScalarType, Set, StartExpr, StartTuple, SyncType, Then, TruthWord, Whole, WordBody}
 use Rattle.dpl_language.proofs.Spelled.{at, name, after, argument, array_type, block_map, cyclic_map, declared, domain_type, initial, listed, mapped, sign, typed}
-use Rattle.dpl_rules.specs.Verdicts.{WrongType}
+use Rattle.dpl_syntax.specs.declared.refusal.Code.TheVariants.{WrongType}
 use Rattle.dpl_rules.proofs.House.{block_cyclic_map, created, told, in_house}
 
 -- ---- C3 of an initial value that doesn't agree with the declared type, at its first token

@@ -7,7 +7,7 @@ use Rattle.dpl_language.specs.Tree.{FirstExpr, FirstItem, For, Forall, Grouped, 
 use Rattle.dpl_language.specs.Tree.{NoElse, NoExprs, NoItems, NoLinks, NoPosts, NoStmts, NoStride, Nothing, Number, One, OneVariable, Plainly, Post, Postfixed}
 use Rattle.dpl_language.specs.Tree.{RangeItem, Round, Rounds, Set, SetAdd, Square, Subtract, Then, TruthWord, Whole, WordBody}
 use Rattle.dpl_language.proofs.Spelled.{at, name, after, array_type, declared, initial, listed, sign, typed}
-use Rattle.dpl_rules.specs.Verdicts.{ReadElsewhere, WrittenElsewhere}
+use Rattle.dpl_syntax.specs.declared.refusal.Code.TheVariants.{ReadElsewhere, WrittenElsewhere}
 use Rattle.dpl_rules.proofs.House.{told, in_house, alone}
 
 -- ---- C6, an array that isn't written at the own index

@@ -10,7 +10,7 @@ use Rattle.dpl_language.specs.Tree.{Post, Postfixed, Prefixed, Product, RangeIte
 use Rattle.dpl_language.specs.Tree.{SetAdd, Size, Square, StartExpr, StartTuple, Subtract, Sum, SyncType, Then, TruthWord, While, Whole, WordBody, Write}
 use Rattle.dpl_language.specs.Tree.{WriteCall, WriteEFWord}
 use Rattle.dpl_language.proofs.Spelled.{at, name, after, argument, array_type, block_map, cyclic_map, declared, domain_type, initial, listed, mapped, sign, typed, with_intents, written_line}
-use Rattle.dpl_rules.specs.Verdicts.{CellMisused, NotInCoforall, NotInForall, WrongType}
+use Rattle.dpl_syntax.specs.declared.refusal.Code.TheVariants.{CellMisused, NotInCoforall, NotInForall, WrongType}
 use Rattle.dpl_rules.proofs.House.{block_cyclic_map, created, told, in_house, alone}
 
 -- ---- C9, what a forall's body doesn't hold

@@ -4,8 +4,9 @@ use Rattle.std.proofs.Common.{◌≡◌, ℕ, zero, suc, List, [], ◌∷◌, re
 use Rattle.std.specs.Prelude.{pos, codes}
 use Rattle.dpl_language.specs.Tree.{IntKind, BoolKind, Number, One, ScalarType, SyncType, ItemInit, StmtTree, Declare, Assigned, Block, Whole, Set, Stmts, NoStmts, Then}
 use Rattle.dpl_language.proofs.Spelled.{at, name, declared, typed, initial, sign}
-use Rattle.dpl_rules.specs.Verdicts.{TooMany, BadSet, UnknownName}
-use Rattle.dpl_rules.specs.Sound.{Refused, refusal}
+use Rattle.dpl_syntax.specs.declared.refusal.Code.TheVariants.{TooMany, BadSet, UnknownName}
+use Rattle.dpl_syntax.specs.declared.refusal.Refusal.{Refusal}
+use Rattle.dpl_rules.specs.Sound.{refusal}
 use Rattle.dpl_rules.proofs.House.{program, told, alone}
 
 -- { var c: sync int; }
@@ -54,10 +55,10 @@ configured =
     (Some (initial (at 1 51) (ItemInit (One (Number (at 1 53) (pos 1))) None))) (at 1 54)))
     NoStmts))
 
-abbrev with_sets : List (List ℕ) → Option Refused
+abbrev with_sets : List (List ℕ) → Option Refusal
 with_sets sets = refusal (program configured) sets
 
-abbrev bad_set : Option Refused
+abbrev bad_set : Option Refusal
 bad_set = Some (record { code = BadSet; place = None })
 
 no_sets : with_sets [] ≡ None

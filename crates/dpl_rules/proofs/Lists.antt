@@ -7,7 +7,7 @@ use Rattle.dpl_language.specs.Tree.{FirstExpr, FirstItem, For, Forall, Grouped, 
 use Rattle.dpl_language.specs.Tree.{NoStmts, NoStride, Not, Nothing, Number, One, OneVariable, Plainly, Post, Postfixed, Prefixed, RangeItem, ReadFEWord, ReduceIntent}
 use Rattle.dpl_language.specs.Tree.{ScalarType, Set, Size, Square, Subtract, Sum, SyncType, Then, TruthWord, Whole, WordBody, Write}
 use Rattle.dpl_language.proofs.Spelled.{at, name, after, array_type, declared, initial, listed, sign, typed, with_intents, written_line}
-use Rattle.dpl_rules.specs.Verdicts.{CellMisused, ConstantWritten, NameTwice, NotInCoforall, NotInForall, OuterChanged, UnknownName, WrittenElsewhere, WrongRank, WrongType}
+use Rattle.dpl_syntax.specs.declared.refusal.Code.TheVariants.{CellMisused, ConstantWritten, NameTwice, NotInCoforall, NotInForall, OuterChanged, UnknownName, WrittenElsewhere, WrongRank, WrongType}
 use Rattle.dpl_rules.proofs.House.{broken, all_of}
 
 -- ---- a name whose declaration is refused fits everywhere

@@ -9,7 +9,7 @@ use Rattle.dpl_language.specs.Tree.{NoPosts, NoStmts, NoStride, Nothing, Number,
 use Rattle.dpl_language.specs.Tree.{RefIntent, ResetCall, ScalarType, Set, SetAdd, Square, StartExpr, Sum, SyncType, Then, TruthWord, While, Whole, WordBody}
 use Rattle.dpl_language.specs.Tree.{Write, WriteCall, WriteEFWord}
 use Rattle.dpl_language.proofs.Spelled.{at, name, after, argument, array_type, block_map, cyclic_map, declared, initial, listed, mapped, sign, typed, with_intents, written_line}
-use Rattle.dpl_rules.specs.Verdicts.{ConstantWritten, NameTwice, UnknownName, WrongType}
+use Rattle.dpl_syntax.specs.declared.refusal.Code.TheVariants.{ConstantWritten, NameTwice, UnknownName, WrongType}
 use Rattle.dpl_rules.proofs.House.{block_cyclic_map, created, told, in_house, alone}
 
 -- ---- C1, a name that isn't known there

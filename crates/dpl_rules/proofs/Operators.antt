@@ -8,7 +8,7 @@ use Rattle.dpl_language.specs.Tree.{Less, LessEqual, Link, Minus, Multiply, Name
 use Rattle.dpl_language.specs.Tree.{Nothing, Number, One, OneVariable, Or, Plainly, Post, Postfixed, Prefixed, Product, RangeItem, Reduced, Remainder, Set}
 use Rattle.dpl_language.specs.Tree.{Size, Subtract, Sum, Then, TruthWord, While, Whole, WordBody}
 use Rattle.dpl_language.proofs.Spelled.{at, name, declared, initial, sign}
-use Rattle.dpl_rules.specs.Verdicts.{WrongType}
+use Rattle.dpl_syntax.specs.declared.refusal.Code.TheVariants.{WrongType}
 use Rattle.dpl_rules.proofs.House.{told, in_house}
 
 -- ---- C3 at an operator whose operands don't fit

@@ -8,7 +8,7 @@ use Rattle.dpl_language.specs.Tree.{NoExprs, NoItems, NoLinks, NoPosts, NoStmts,
 use Rattle.dpl_language.specs.Tree.{ReduceIntent, RefIntent, ScalarType, Set, SetAdd, SetDivide, SetMultiply, SetReduce, SetRemainder, SetSubtract, Square, Sum, Then, TruthWord}
 use Rattle.dpl_language.specs.Tree.{While, Whole, WordBody}
 use Rattle.dpl_language.proofs.Spelled.{at, name, after, declared, initial, listed, sign, typed, with_intents}
-use Rattle.dpl_rules.specs.Verdicts.{OuterChanged}
+use Rattle.dpl_syntax.specs.declared.refusal.Code.TheVariants.{OuterChanged}
 use Rattle.dpl_rules.proofs.House.{told, in_house, alone}
 
 -- ---- C8, an outer scalar, locale or domain that is changed, or a reduce variable that is read

@@ -8,7 +8,7 @@ use Rattle.dpl_language.specs.Tree.{Minus, Named, NextExpr, NextItem, NoExprs, N
 use Rattle.dpl_language.specs.Tree.{OneVariable, Plainly, Post, Postfixed, Prefixed, RangeItem, ReadFEWord, ReadFFWord, Rounds, Set, Size, Then, TruthWord, Whole}
 use Rattle.dpl_language.specs.Tree.{WordBody, Write}
 use Rattle.dpl_language.proofs.Spelled.{at, name, declared, initial, listed, sign, written_line}
-use Rattle.dpl_rules.specs.Verdicts.{WrongType}
+use Rattle.dpl_syntax.specs.declared.refusal.Code.TheVariants.{WrongType}
 use Rattle.dpl_rules.proofs.House.{told, in_house}
 
 -- ---- C3 at a bracket that the value doesn't take

@@ -8,7 +8,7 @@ use Rattle.dpl_language.specs.Tree.{LocalesWord, Low, LowBound, ManyVariables, N
 use Rattle.dpl_language.specs.Tree.{One, OneVariable, Plainly, Post, Postfixed, RangeItem, Round, Rounds, Set, Size, Square, StartExpr, StartTuple, Then}
 use Rattle.dpl_language.specs.Tree.{TruthWord, Whole, WordBody, Write}
 use Rattle.dpl_language.proofs.Spelled.{at, name, after, argument, array_type, block_map, cyclic_map, declared, domain_type, initial, listed, mapped, sign, typed, written_line}
-use Rattle.dpl_rules.specs.Verdicts.{WrongRank}
+use Rattle.dpl_syntax.specs.declared.refusal.Code.TheVariants.{WrongRank}
 use Rattle.dpl_rules.proofs.House.{block_cyclic_map, created, told, in_house, alone}
 
 -- ---- C5 at the last token before a bracket, of index lists and slices

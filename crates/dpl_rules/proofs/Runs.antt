@@ -25,7 +25,7 @@ use Rattle.dpl_language.proofs.TasksSamples.{three_values_sent, cell_read_while_
 use Rattle.dpl_language.proofs.TasksSamples.{here_again, operations, full_already, truth_cell, read_before_the_fault, false_in_a_cell}
 use Rattle.dpl_language.proofs.TasksSamples.{no_reply_left, no_tasks, too_many_tasks, as_many_tasks_as_may_be, no_budget_of_tasks, two_coforalls}
 use Rattle.dpl_language.proofs.TasksSamples.{hidden_cell, locale_tasks, fault_in_a_task, each_waits}
-use Rattle.dpl_rules.specs.Verdicts.{ReadElsewhere}
+use Rattle.dpl_syntax.specs.declared.refusal.Code.TheVariants.{ReadElsewhere}
 use Rattle.dpl_rules.specs.Breaches.{breaches, first_breach}
 use Rattle.dpl_rules.proofs.House.{told}
 

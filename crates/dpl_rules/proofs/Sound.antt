@@ -11,7 +11,7 @@ use Rattle.dpl_language.specs.Tree.{Post, Postfixed, Prefixed, RangeItem, ReadFE
 use Rattle.dpl_language.specs.Tree.{Square, StartExpr, StartTuple, Subtract, Sum, SyncType, TextArgument, Then, TruthWord, While, Whole, WordBody, Write, WriteCall}
 use Rattle.dpl_language.specs.Tree.{WriteEFWord, WriteFFWord}
 use Rattle.dpl_language.proofs.Spelled.{at, name, after, argument, array_type, block_map, cyclic_map, declared, domain_type, initial, listed, mapped, sign, typed, with_intents, written_line}
-use Rattle.dpl_rules.specs.Verdicts.{ConstantWritten, NotInForall, UnknownName, WrongType}
+use Rattle.dpl_syntax.specs.declared.refusal.Code.TheVariants.{ConstantWritten, NotInForall, UnknownName, WrongType}
 use Rattle.dpl_rules.proofs.House.{block_cyclic_map, told, in_house, alone}
 
 -- ---- programs that run

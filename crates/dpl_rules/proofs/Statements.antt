@@ -9,7 +9,7 @@ use Rattle.dpl_language.specs.Tree.{NoPosts, NoStmts, NoStride, Nothing, Number,
 use Rattle.dpl_language.specs.Tree.{ReadFFWord, ReduceIntent, ResetCall, Round, Set, SetAdd, SetDivide, SetMultiply, SetReduce, SetRemainder, SetSubtract, Square, Sum, TextArgument}
 use Rattle.dpl_language.specs.Tree.{Then, TruthWord, While, Whole, WordBody, Write, WriteCall, WriteEFWord, WriteFFWord, WriteXFWord}
 use Rattle.dpl_language.proofs.Spelled.{at, name, after, array_type, declared, domain_type, initial, listed, sign, typed, with_intents, written_line}
-use Rattle.dpl_rules.specs.Verdicts.{WrongType}
+use Rattle.dpl_syntax.specs.declared.refusal.Code.TheVariants.{WrongType}
 use Rattle.dpl_rules.proofs.House.{told, in_house}
 
 -- ---- C3 of a right side of `=`, at its first token

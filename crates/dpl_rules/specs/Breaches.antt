@@ -6,7 +6,9 @@ use Rattle.dpl_language.specs.Tree.{VariablesTree, TypeTree, ScalarType, SyncTyp
 use Rattle.dpl_language.specs.Names.{Text}
 use Rattle.dpl_language.specs.Declarations.{type_of as written_type}
 use Rattle.dpl_language.specs.Writing.{arguments_of}
-use Rattle.dpl_rules.specs.Verdicts.{Code, UnknownName, NameTwice, WrongType, ConstantWritten, WrongRank, WrittenElsewhere, ReadElsewhere, OuterChanged, NotInForall, NotInCoforall, CellMisused, TooMany, BadSet, Breach, breach}
+use Rattle.dpl_syntax.specs.declared.refusal.Code.{Code}
+use Rattle.dpl_syntax.specs.declared.refusal.Code.TheVariants.{NotText, BadCharacter, NumberTooLarge, Unexpected, TooDeep, UnknownName, NameTwice, WrongType, ConstantWritten, WrongRank, WrittenElsewhere, ReadElsewhere, OuterChanged, NotInForall, NotInCoforall, CellMisused, TooMany, BadSet}
+use Rattle.dpl_rules.specs.Verdicts.{Breach, breach}
 use Rattle.dpl_rules.specs.Sights.{Scopes, enter, Sight, inside}
 use Rattle.dpl_rules.specs.Declarations.{declaration_breaches}
 use Rattle.dpl_rules.specs.Assignments.{assignment_breaches, call_breaches, printed_breaches, condition_breaches, on_breaches}
@@ -127,20 +129,26 @@ breaches t =
     stmts_breaches top_sight t.stmts ++ inner_reductions (stmts_deeds top t.stmts) ++ count_breaches (all_declarations t.stmts)
 
 -- ---- the first breach, by place and then by code
-abbrev pub code_number : Code → ℕ
-code_number UnknownName = 1
-code_number NameTwice = 2
-code_number WrongType = 3
-code_number ConstantWritten = 4
-code_number WrongRank = 5
-code_number WrittenElsewhere = 6
-code_number ReadElsewhere = 7
-code_number OuterChanged = 8
-code_number NotInForall = 9
-code_number NotInCoforall = 10
-code_number CellMisused = 12
-code_number TooMany = 13
-code_number BadSet = 14
+-- the codes in their order
+abbrev pub rank : Code → ℕ
+rank NotText = 0
+rank BadCharacter = 1
+rank NumberTooLarge = 2
+rank Unexpected = 3
+rank TooDeep = 4
+rank UnknownName = 5
+rank NameTwice = 6
+rank WrongType = 7
+rank ConstantWritten = 8
+rank WrongRank = 9
+rank WrittenElsewhere = 10
+rank ReadElsewhere = 11
+rank OuterChanged = 12
+rank NotInForall = 13
+rank NotInCoforall = 14
+rank CellMisused = 15
+rank TooMany = 16
+rank BadSet = 17
 
 abbrev pub place_before : Place → Place → Bool
 place_before a b = nat_lt a.line b.line || (a.line == b.line && nat_lt a.column b.column)
@@ -149,7 +157,7 @@ abbrev pub same_place : Place → Place → Bool
 same_place a b = a.line == b.line && a.column == b.column
 
 abbrev pub before : Breach → Breach → Bool
-before a b = place_before a.at b.at || (same_place a.at b.at && nat_lt (code_number a.code) (code_number b.code))
+before a b = place_before a.at b.at || (same_place a.at b.at && nat_lt (rank a.code) (rank b.code))
 
 abbrev pub lesser : Option Breach → Breach → Option Breach
 lesser None b = Some b

@@ -1,13 +1,14 @@
 -- Sound programs, the values that the command line sets, and the refusal of a program that keeps the grammar.
 -- A set is told last, and at no place of the text.
 use Rattle.std.specs.Prelude.{◌≡◌, ℕ, suc, ◌==◌, nat_le, Bool, true, false, not, ◌&&◌, ◌||◌, bytes_eq, codes, if◌then◌else◌, List, [], ◌∷◌, Option, Some, None}
-use Rattle.dpl_syntax.specs.declared.place.Place.{Place}
 use Rattle.dpl_syntax.specs.Gaps.{all_are}
 use Rattle.dpl_syntax.specs.Text.{is_digit, value_after, greatest}
 use Rattle.dpl_language.specs.Tree.{Kind, IntKind, BoolKind, Stmts, NoStmts, Then, ProgramTree}
 use Rattle.dpl_language.specs.Names.{Text}
 use Rattle.dpl_rules.specs.Types.{ValueType, scalar_of}
-use Rattle.dpl_rules.specs.Verdicts.{Code, BadSet, Breach}
+use Rattle.dpl_syntax.specs.declared.refusal.Refusal.{Refusal}
+use Rattle.dpl_syntax.specs.declared.refusal.Code.TheVariants.{BadSet}
+use Rattle.dpl_rules.specs.Verdicts.{Breach}
 use Rattle.dpl_rules.specs.Sights.{Sort, Configured, Constant, Variable, LoopVariable, Declared, Scopes, lookup}
 use Rattle.dpl_rules.specs.Loops.{behind}
 use Rattle.dpl_rules.specs.Breaches.{top, breaches, first_breach}
@@ -81,17 +82,13 @@ sets_fit ss earlier (word ∷ words) =
     set_fits ss earlier (name_and_value word) && sets_fit ss (and_name (name_and_value word) earlier) words
 
 -- ---- the refusal: the first breach, or else a set that doesn't fit
-pub record Refused : Type 0 where
-  pub code : Code
-  pub place : Option Place
-
-abbrev pub set_refusal : Bool → Option Refused
+abbrev pub set_refusal : Bool → Option Refusal
 set_refusal true = None
 set_refusal false = Some (record { code = BadSet; place = None })
 
-abbrev pub refusal_by : Option Breach → Bool → Option Refused
+abbrev pub refusal_by : Option Breach → Bool → Option Refusal
 refusal_by None fit = set_refusal fit
 refusal_by (Some b) fit = Some (record { code = b.code; place = Some b.at })
 
-abbrev pub refusal : ProgramTree Text → List (List ℕ) → Option Refused
+abbrev pub refusal : ProgramTree Text → List (List ℕ) → Option Refusal
 refusal t sets = refusal_by (first_breach t) (sets_fit (behind_all top t.stmts) [] sets)

@@ -1,37 +1,10 @@
--- The codes of the rules, and what a rule says of a part of a program: its type, or where it breaks the rule.
+-- What a rule says of a part of a program: its type, or where it breaks the rule, and by which code.
 -- A rule is looked at only where the parts that it speaks of have types.
 use Rattle.std.specs.Prelude.{Bool, true, false, ◌&&◌, List, [], ◌∷◌, ◌++◌, Option, Some, None, is_some}
 use Rattle.dpl_syntax.specs.declared.place.Place.{Place}
+use Rattle.dpl_syntax.specs.declared.refusal.Code.{Code}
+use Rattle.dpl_syntax.specs.declared.refusal.Code.TheVariants.{WrongType, WrongRank}
 use Rattle.dpl_rules.specs.Types.{ValueType}
-
--- the codes C1 to C10 and C12 to C14, in this order; no rule has the code C11
-pub data Code : Type 0 where
-  -- a name that is not known there
-  UnknownName : Code
-  -- a name twice in one scope or in one list of intents
-  NameTwice : Code
-  -- an expression or name of a type that isn't taken there
-  WrongType : Code
-  -- a constant that is written
-  ConstantWritten : Code
-  -- another rank, or another number of parts, than is taken there
-  WrongRank : Code
-  -- a forall writes an array elsewhere than at its own index
-  WrittenElsewhere : Code
-  -- a forall reads an array that it writes elsewhere than at its own index
-  ReadElsewhere : Code
-  -- a forall changes an outer scalar or domain otherwise than by its intent's operator, or reads a reduce variable
-  OuterChanged : Code
-  -- what no forall's body, promoted expression or map argument holds
-  NotInForall : Code
-  -- what no coforall's body holds, and an outer name that it writes
-  NotInCoforall : Code
-  -- a cell that is used as a plain variable, or is read out of its places
-  CellMisused : Code
-  -- more names or cells than a program may declare
-  TooMany : Code
-  -- a set of the command line that fits no `config const`
-  BadSet : Code
 
 -- a rule that is broken, and where
 pub record Breach : Type 0 where

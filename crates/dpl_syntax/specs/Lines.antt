@@ -4,7 +4,7 @@ use Rattle.std.specs.Prelude.{ℕ, ℤ, List, ◌++◌, codes, Option, Some, Non
 use Rattle.std.specs.Fmt.{decimal, signed_decimal}
 use Rattle.dpl_syntax.specs.declared.place.Place.{Place}
 use Rattle.dpl_syntax.specs.declared.refusal.Code.{Code}
-use Rattle.dpl_syntax.specs.declared.refusal.Code.TheVariants.{NotText, BadCharacter, NumberTooLarge, Unexpected, TooDeep, UnknownName, NameTwice, ConstantWritten, OuterChanged, BadSet}
+use Rattle.dpl_syntax.specs.declared.refusal.Code.TheVariants.{NotText, BadCharacter, NumberTooLarge, Unexpected, TooDeep, UnknownName, NameTwice, WrongType, ConstantWritten, WrongRank, WrittenElsewhere, ReadElsewhere, OuterChanged, NotInForall, NotInCoforall, CellMisused, TooMany, BadSet}
 use Rattle.dpl_syntax.specs.declared.refusal.Refusal.{Refusal}
 use Rattle.dpl_syntax.specs.declared.fault.FaultCode.{FaultCode}
 use Rattle.dpl_syntax.specs.declared.fault.FaultCode.TheVariants.{PastLimit, Budget}
@@ -22,8 +22,16 @@ code_text Unexpected = codes "P1"
 code_text TooDeep = codes "P2"
 code_text UnknownName = codes "C1"
 code_text NameTwice = codes "C2"
+code_text WrongType = codes "C3"
 code_text ConstantWritten = codes "C4"
+code_text WrongRank = codes "C5"
+code_text WrittenElsewhere = codes "C6"
+code_text ReadElsewhere = codes "C7"
 code_text OuterChanged = codes "C8"
+code_text NotInForall = codes "C9"
+code_text NotInCoforall = codes "C10"
+code_text CellMisused = codes "C12"
+code_text TooMany = codes "C13"
 code_text BadSet = codes "C14"
 
 abbrev pub fault_code_text : FaultCode → List ℕ

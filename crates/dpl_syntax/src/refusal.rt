@@ -23,14 +23,33 @@ pub enum Code {
     TooDeep,
     /// `C1`: a name that is not known there. Its place is the name.
     UnknownName,
-    /// `C2`: a name declared twice in one scope. Its place is the second one.
+    /// `C2`: a name twice in one scope, or in one list of intents. Its place is the second one.
     NameTwice,
-    /// `C4`: a constant that is written. Its place is the name written.
+    /// `C3`: an expression or a name of a type that isn't taken there. Its place is the operator, or the first token of
+    /// what isn't taken.
+    WrongType,
+    /// `C4`: a constant that is written; a loop's variable is one. Its place is the name written.
     ConstantWritten,
-    /// `C8`: a forall changes an outer scalar otherwise than by its intent's operator, or reads a reduce variable.
-    /// Its place is the variable's name there.
+    /// `C5`: another rank, or another number of parts, than is taken there. Its place is the token before the opening
+    /// bracket, or the number.
+    WrongRank,
+    /// `C6`: a forall writes an array elsewhere than at its own index. Its place is the array's name.
+    WrittenElsewhere,
+    /// `C7`: a forall reads an array that it writes elsewhere than at its own index. Its place is the array's name.
+    ReadElsewhere,
+    /// `C8`: a forall changes an outer scalar or domain otherwise than by its intent's operator, or reads a reduce
+    /// variable. Its place is the variable's name there.
     OuterChanged,
-    /// `C14`: a set names no config const. It has no place.
+    /// `C9`: what no forall's body holds, and a reduction in a promoted expression or in a map's argument. Its place is
+    /// the first token of that.
+    NotInForall,
+    /// `C10`: what no coforall's body holds, or an outer name that it writes. Its place is the first token of that.
+    NotInCoforall,
+    /// `C12`: a cell that is used as a plain variable, or is read where it may not be. Its place is the cell's name.
+    CellMisused,
+    /// `C13`: more than 4,096 names, or more than 64 cells. Its place is the first name past the limit.
+    TooMany,
+    /// `C14`: a set that fits no config const. It has no place.
     BadSet,
 }
 
@@ -46,8 +65,16 @@ impl fmt::Display for Code {
             Code::TooDeep => f.write_str("P2"),
             Code::UnknownName => f.write_str("C1"),
             Code::NameTwice => f.write_str("C2"),
+            Code::WrongType => f.write_str("C3"),
             Code::ConstantWritten => f.write_str("C4"),
+            Code::WrongRank => f.write_str("C5"),
+            Code::WrittenElsewhere => f.write_str("C6"),
+            Code::ReadElsewhere => f.write_str("C7"),
             Code::OuterChanged => f.write_str("C8"),
+            Code::NotInForall => f.write_str("C9"),
+            Code::NotInCoforall => f.write_str("C10"),
+            Code::CellMisused => f.write_str("C12"),
+            Code::TooMany => f.write_str("C13"),
             Code::BadSet => f.write_str("C14"),
         }
     }
