@@ -3,7 +3,7 @@ use Rattle.std.proofs.Common.{◌≡◌, List, [], ◌∷◌, refl, sym, ap, ◌
 use Rattle.std.specs.Prelude.{if◌then◌else◌}
 use Rattle.dpl_syntax.specs.declared.tree.Stmt.{Stmt}
 use Rattle.dpl_syntax.specs.View.{stmt_view, spelled}
-use Rattle.dpl_check.specs.declared.breach.Breach.{Breach}
+use Rattle.dpl_syntax.specs.declared.refusal.Breach.{Breach}
 use Rattle.dpl_check.specs.Sights.{Scope}
 use Rattle.dpl_check.specs.Breaches.{before, first_from, stmts_breaches}
 use Rattle.dpl_check.specs.Sound.{AreSound, AreAdmitted}

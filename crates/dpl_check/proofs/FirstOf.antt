@@ -2,7 +2,7 @@
 -- Code that notes the breaches of one part and then those of the next has noted those of both.
 use Rattle.std.proofs.Common.{◌≡◌, List, [], ◌∷◌, ◌++◌, refl, sym, ap, ◌∙◌, append_assoc, Option}
 use Rattle.dpl_syntax.specs.Tree.{Placed}
-use Rattle.dpl_check.specs.declared.breach.Breach.{Breach}
+use Rattle.dpl_syntax.specs.declared.refusal.Breach.{Breach}
 use Rattle.dpl_check.specs.Breaches.{first_of, first_from, of_each}
 use Rattle.std.specs.Prelude.{ℕ}
 

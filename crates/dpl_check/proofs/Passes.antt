@@ -5,7 +5,7 @@ use Rattle.std.specs.Prelude.{if◌then◌else◌}
 use Rattle.dpl_syntax.specs.declared.operator.Assign.{Assign}
 use Rattle.dpl_syntax.specs.declared.refusal.Code.TheVariants.{UnknownName, NameTwice, ConstantWritten, OuterChanged}
 use Rattle.dpl_syntax.specs.Tree.{Placed, IntentTree, StmtTree, Declare, Assigned, Writeln, Forall}
-use Rattle.dpl_check.specs.declared.breach.Breach.{Breach}
+use Rattle.dpl_syntax.specs.declared.refusal.Breach.{Breach}
 use Rattle.dpl_check.specs.Sights.{Scope, knows, has_constant, behind, Loop, is_variable, reduces, goes_on}
 use Rattle.dpl_check.specs.Breaches.{reads, all_reads, bounds_reads, initial_reads, breach_if, of_each, use_breaches, read_breaches, write_breaches, loop_write_breaches, intent_breaches, body_breaches, stmt_breaches, stmts_breaches}
 use Rattle.dpl_check.specs.Sound.{Each, IsKnown, IsWritable, IsWritableIntent, Outside, IsSoundBody, IsSoundStmt, AreSound, IsAdmittedBody, IsAdmitted, AreAdmitted}

@@ -6,7 +6,7 @@ use Rattle.std.proofs.lemmas.Bool.Decides.{eqb_tells}
 use Rattle.dpl_syntax.specs.declared.refusal.Refusal.{Refusal}
 use Rattle.dpl_syntax.specs.declared.refusal.Code.TheVariants.{BadSet}
 use Rattle.dpl_syntax.specs.Tree.{ProgramTree}
-use Rattle.dpl_check.specs.declared.breach.Breach.{Breach}
+use Rattle.dpl_syntax.specs.declared.refusal.Breach.{Breach}
 use Rattle.dpl_check.specs.Breaches.{breaches, first_from, breach_refusal, set_refusal, refusal_by, tree_refusal}
 use Rattle.dpl_check.specs.Sound.{IsGood}
 use Rattle.dpl_check.proofs.Passes.{stmts-sound, sound-stmts}

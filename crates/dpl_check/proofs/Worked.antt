@@ -9,7 +9,7 @@ use Rattle.dpl_syntax.specs.declared.operator.Op.TheVariants.{Add as AddOp}
 use Rattle.dpl_syntax.specs.declared.operator.Assign.TheVariants.{Set, Add as AddTo, Multiply as MultiplyBy}
 use Rattle.dpl_syntax.specs.Tree.{Number, Named, Declare, Assigned, Forall}
 use Rattle.dpl_meaning.proofs.Samples.{Program, at, name, sum_of_squares, product, over_nothing, hidden, empty}
-use Rattle.dpl_check.specs.declared.breach.Breach.{Breach}
+use Rattle.dpl_syntax.specs.declared.refusal.Breach.{Breach}
 use Rattle.dpl_check.specs.Breaches.{breaches, first_from, tree_refusal}
 
 abbrev breach : Code → ℕ → Breach

@@ -7,7 +7,7 @@ use Rattle.dpl_syntax.specs.declared.refusal.Code.TheVariants.{NotText, BadChara
 use Rattle.dpl_syntax.specs.declared.refusal.Refusal.{Refusal}
 use Rattle.dpl_syntax.specs.declared.operator.Assign.{Assign}
 use Rattle.dpl_syntax.specs.Tree.{Placed, BoundsTree, StrideTree, InitialTree, IntentTree, ExprTree, Number, Named, Bracketed, Prefixed, Chain, Links, NoLinks, Link, StmtTree, Declare, Assigned, Writeln, Forall, ProgramTree}
-use Rattle.dpl_check.specs.declared.breach.Breach.{Breach}
+use Rattle.dpl_syntax.specs.declared.refusal.Breach.{Breach}
 use Rattle.dpl_check.specs.Sights.{Scope, knows, has_constant, behind, Loop, is_variable, reduces, goes_on}
 
 -- ---- the names that an expression reads, from left to right

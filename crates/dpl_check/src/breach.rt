@@ -1,17 +1,10 @@
-// A breach of a rule on names, and the first of several.
+// The order of breaches: by place.
 // Of two at one place the one with the lower code is first.
 
 ghost use Rattle.std.specs.Prelude.{◌≡◌};
 ghost use Rattle.dpl_check.specs.Breaches.{place_before, rank as rank_of};
 
 use dpl_syntax::{Code, Place};
-
-/// Which rule a program breaks, and where.
-#[derive(Clone, Copy, PartialEq, Eq, Debug)]
-pub struct Breach {
-    pub at: Place,
-    pub code: Code,
-}
 
 // The codes in their order.
 pub(crate) fn rank(code: Code) -> u8

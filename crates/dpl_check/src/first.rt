@@ -4,8 +4,8 @@
 ghost use Rattle.std.specs.Prelude.{◌≡◌};
 ghost use Rattle.dpl_check.specs.Breaches.{before, first_of, breach_refusal};
 
-use crate::breach::{Breach, place_before, rank};
-use dpl_syntax::{Code, Place, Refusal};
+use crate::breach::{place_before, rank};
+use dpl_syntax::{Breach, Code, Place, Refusal};
 
 // Whether a breach comes before another: by place, and then by code.
 fn is_before(a: Breach, b: Breach) -> bool

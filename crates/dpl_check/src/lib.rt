@@ -16,7 +16,6 @@ mod first;
 mod names;
 mod search;
 
-pub use breach::Breach;
 pub use checked::Checked;
 use dpl_syntax::tree::Tree;
 use dpl_syntax::{Code, Refusal, Stop};

@@ -11,11 +11,10 @@ ghost use Rattle.dpl_syntax.specs.declared.refusal.Code.TheVariants.{NameTwice};
 ghost use Rattle.dpl_syntax.specs.View.{spelled, placed, expr_view, bounds_view, by_view, initial_view, intent_view, stmt_view};
 
 use crate::around::{Around, goes_on, is_variable, reduces};
-use crate::breach::Breach;
 use crate::first::note;
 use crate::names::Names;
 use dpl_syntax::tree::{Bounds, Expr, Initial, Intent, Name, Stmt, Stride};
-use dpl_syntax::{Assign, Code, Place};
+use dpl_syntax::{Assign, Breach, Code, Place};
 use std::alloc::AllocError;
 
 // A name that is used.

@@ -8,7 +8,7 @@ use Rattle.dpl_language.specs.Tree.{NoStride, Number, One, RangeItem, ScalarType
 use Rattle.dpl_language.specs.Tree.{Stmts, Items, StartTree, ArgumentName, BlockCyclicTree, CreateWord, CreateTree, ProgramTree}
 use Rattle.dpl_language.proofs.Spelled.{at, name, array_type, declared, initial, typed}
 use Rattle.dpl_syntax.specs.declared.refusal.Code.{Code}
-use Rattle.dpl_rules.specs.Verdicts.{Breach}
+use Rattle.dpl_syntax.specs.declared.refusal.Breach.{Breach}
 use Rattle.dpl_rules.specs.Breaches.{breaches, first_breach}
 
 -- the records that no other sample spells, by their fields in order

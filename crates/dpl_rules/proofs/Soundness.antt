@@ -3,7 +3,7 @@
 use Rattle.std.proofs.Common.{◌≡◌, ◌↔◌, if◌then◌else◌, List, [], ◌∷◌, ◌++◌, length, Some, None, refl}
 use Rattle.dpl_language.specs.Tree.{StmtTree, Nothing, Declare, Assigned, Call, Write, Block, If, While, For, Forall, Coforall, On, Body, WordBody, BlockBody, Stmts, NoStmts, Then, Else, NoElse, ElseDo, ProgramTree}
 use Rattle.dpl_language.specs.Names.{Text}
-use Rattle.dpl_rules.specs.Verdicts.{Breach}
+use Rattle.dpl_syntax.specs.declared.refusal.Breach.{Breach}
 use Rattle.dpl_rules.specs.Sights.{Sight, enter, inside}
 use Rattle.dpl_rules.specs.Assignments.{condition_breaches, on_breaches}
 use Rattle.dpl_rules.specs.Loops.{ForWord, ForallWord, CoforallWord, header_breaches, with_breaches, in_loop, behind}

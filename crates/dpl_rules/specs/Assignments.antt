@@ -7,7 +7,8 @@ use Rattle.dpl_language.specs.Names.{Text}
 use Rattle.dpl_language.specs.Phrases.{bare_name}
 use Rattle.dpl_rules.specs.Types.{ValueType, Scalar, Range, Domain, Array, Promoted, Tuple, Locale, AllLocales, Cell, same_kind, is_any_scalar, is_array, is_cell, has, is_locale, is_scalar, is_bool, is_domain_of, fits_array}
 use Rattle.dpl_syntax.specs.declared.refusal.Code.TheVariants.{UnknownName, WrongType, ConstantWritten, CellMisused}
-use Rattle.dpl_rules.specs.Verdicts.{Breach, Part, part, Verdict, type_by, broken_by, breach, owed, owed_type, wanted, with_type}
+use Rattle.dpl_syntax.specs.declared.refusal.Breach.{Breach}
+use Rattle.dpl_rules.specs.Verdicts.{Part, part, Verdict, type_by, broken_by, breach, owed, owed_type, wanted, with_type}
 use Rattle.dpl_rules.specs.Places.{first_of}
 use Rattle.dpl_rules.specs.Sights.{Declared, lookup, type_declared, is_constant, Reducing, is_reduced, Sight}
 use Rattle.dpl_rules.specs.Operators.{round_verdict}

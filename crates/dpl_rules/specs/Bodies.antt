@@ -5,7 +5,8 @@ use Rattle.dpl_language.specs.Tree.{Placed, VariablesTree, WithTree, Op, Sum, Pr
 use Rattle.dpl_language.specs.Names.{Text}
 use Rattle.dpl_rules.specs.Types.{Origin, same_origin, ValueType, is_any_scalar, is_domain, is_array, is_locale, has}
 use Rattle.dpl_syntax.specs.declared.refusal.Code.TheVariants.{WrittenElsewhere, ReadElsewhere, OuterChanged, NotInForall, NotInCoforall}
-use Rattle.dpl_rules.specs.Verdicts.{Breach, owed}
+use Rattle.dpl_syntax.specs.declared.refusal.Breach.{Breach}
+use Rattle.dpl_rules.specs.Verdicts.{owed}
 use Rattle.dpl_rules.specs.Sights.{Declared, Scopes, lookup, is_outside, Reducing, is_reduced}
 use Rattle.dpl_rules.specs.Loops.{variables_of, reducing_in}
 use Rattle.dpl_rules.specs.Deeds.{IndexPart, AtName, Shifted, Elsewhere, Holding, APrint, AForall, ACoforall, AReduction, AnInnerReduction, ACellCall, AnOn, AHere, ADeclaration, AReduceIntent, Deed, Reads, ReadsAt, Writes, WritesAt, Holds, is_whole_item, item_deeds}

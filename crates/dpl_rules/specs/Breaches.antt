@@ -8,7 +8,8 @@ use Rattle.dpl_language.specs.Declarations.{type_of as written_type}
 use Rattle.dpl_language.specs.Writing.{arguments_of}
 use Rattle.dpl_syntax.specs.declared.refusal.Code.{Code}
 use Rattle.dpl_syntax.specs.declared.refusal.Code.TheVariants.{NotText, BadCharacter, NumberTooLarge, Unexpected, TooDeep, UnknownName, NameTwice, WrongType, ConstantWritten, WrongRank, WrittenElsewhere, ReadElsewhere, OuterChanged, NotInForall, NotInCoforall, CellMisused, TooMany, BadSet}
-use Rattle.dpl_rules.specs.Verdicts.{Breach, breach}
+use Rattle.dpl_syntax.specs.declared.refusal.Breach.{Breach}
+use Rattle.dpl_rules.specs.Verdicts.{breach}
 use Rattle.dpl_rules.specs.Sights.{Scopes, enter, Sight, inside}
 use Rattle.dpl_rules.specs.Declarations.{declaration_breaches}
 use Rattle.dpl_rules.specs.Assignments.{assignment_breaches, call_breaches, printed_breaches, condition_breaches, on_breaches}

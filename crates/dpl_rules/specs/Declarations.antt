@@ -8,7 +8,8 @@ use Rattle.dpl_language.specs.Phrases.{declared_over}
 use Rattle.dpl_language.specs.Declarations.{type_of as written_type}
 use Rattle.dpl_rules.specs.Types.{Origin, ValueType, Scalar, Range, Domain, Array, Promoted, Tuple, Locale, AllLocales, Cell, domain_of, is_any_scalar, is_range, is_domain, is_locale, has, is_scalar, is_domain_of, fits_array}
 use Rattle.dpl_syntax.specs.declared.refusal.Code.TheVariants.{NameTwice, WrongType, WrongRank}
-use Rattle.dpl_rules.specs.Verdicts.{Breach, Part, type_by, broken_by, breach, owed, owed_type}
+use Rattle.dpl_syntax.specs.declared.refusal.Breach.{Breach}
+use Rattle.dpl_rules.specs.Verdicts.{Part, type_by, broken_by, breach, owed, owed_type}
 use Rattle.dpl_rules.specs.Places.{first_of_item}
 use Rattle.dpl_rules.specs.Sights.{Sort, Configured, Constant, Variable, Declared, Scopes, lookup, declared_here, origin_in}
 use Rattle.dpl_rules.specs.Operators.{rank_or, over_verdict}

@@ -7,7 +7,8 @@ use Rattle.dpl_language.specs.Names.{Text}
 use Rattle.dpl_language.specs.Phrases.{ReadTree, item_read}
 use Rattle.dpl_rules.specs.Types.{ValueType, Scalar, Locale, AllLocales, an_int, a_bool, domain_of, cell_of, is_cell}
 use Rattle.dpl_syntax.specs.declared.refusal.Code.TheVariants.{UnknownName, WrongType, CellMisused}
-use Rattle.dpl_rules.specs.Verdicts.{Breach, Part, part, Verdict, Has, Breaks, type_by, broken_by, breach, mistyped, with_type}
+use Rattle.dpl_syntax.specs.declared.refusal.Breach.{Breach}
+use Rattle.dpl_rules.specs.Verdicts.{Part, part, Verdict, Has, Breaks, type_by, broken_by, breach, mistyped, with_type}
 use Rattle.dpl_rules.specs.Places.{first_of, first_of_item, last_of, last_of_post}
 use Rattle.dpl_rules.specs.Sights.{Declared, Scopes, lookup, type_declared}
 use Rattle.dpl_rules.specs.Operators.{prefix_verdict, reduction_verdict, infix_verdict, range_verdict, ranges_verdict, square_verdict, round_verdict, index_rank, word_verdict, dim_verdict, contains_verdict, expand_verdict}

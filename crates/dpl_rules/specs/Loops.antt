@@ -8,7 +8,8 @@ use Rattle.dpl_language.specs.Names.{Text}
 use Rattle.dpl_language.specs.Phrases.{parts, intents_of}
 use Rattle.dpl_rules.specs.Types.{ValueType, Tuple, Locale, an_int, domain_of, is_range, is_domain, is_all_locales, is_cell, has, is_scalar, op_kind}
 use Rattle.dpl_syntax.specs.declared.refusal.Code.TheVariants.{UnknownName, NameTwice, WrongType, ConstantWritten, WrongRank, CellMisused}
-use Rattle.dpl_rules.specs.Verdicts.{Breach, breach, owed, owed_type}
+use Rattle.dpl_syntax.specs.declared.refusal.Breach.{Breach}
+use Rattle.dpl_rules.specs.Verdicts.{breach, owed, owed_type}
 use Rattle.dpl_rules.specs.Places.{first_of_item, first_of_variables}
 use Rattle.dpl_rules.specs.Sights.{LoopVariable, Declared, Scopes, lookup, declared_here, enter, add, origin_in, is_constant, Reducing}
 use Rattle.dpl_rules.specs.Expressions.{bare_locales, locales_or, none_where, item_type, item_breaches}

@@ -7,7 +7,8 @@ use Rattle.dpl_language.specs.Names.{Text}
 use Rattle.dpl_language.specs.Phrases.{parts}
 use Rattle.dpl_rules.specs.Types.{ValueType, domain_of, is_int}
 use Rattle.dpl_syntax.specs.declared.refusal.Code.TheVariants.{WrongType, WrongRank}
-use Rattle.dpl_rules.specs.Verdicts.{Breach, breach, owed, owed_type}
+use Rattle.dpl_syntax.specs.declared.refusal.Breach.{Breach}
+use Rattle.dpl_rules.specs.Verdicts.{breach, owed, owed_type}
 use Rattle.dpl_rules.specs.Places.{first_of, first_of_item}
 use Rattle.dpl_rules.specs.Sights.{Scopes}
 use Rattle.dpl_rules.specs.Expressions.{type_of, item_type, expr_breaches, item_breaches}

@@ -5,7 +5,8 @@ use Rattle.dpl_syntax.specs.declared.place.Place.{Place}
 use Rattle.dpl_language.specs.Tree.{Kind, IntKind, BoolKind, Prefix, Minus, Not, Infix, Add, Subtract, Multiply, Divide, Remainder, Less, LessEqual, Greater, GreaterEqual, Equal, NotEqual, And, Or, Op, Word, Size, First, Last, Low, High, LowBound, DomainOf, Id}
 use Rattle.dpl_rules.specs.Types.{Over, ValueType, Scalar, Range, Domain, Array, Promoted, Tuple, Locale, AllLocales, Cell, an_int, a_bool, same_kind, domain_of, array_of, tuple_of, is_locale, is_range, is_domain, has, Operand, operand_of, agrees, is_int, is_bool, is_plain_range, op_kind}
 use Rattle.dpl_syntax.specs.declared.refusal.Code.TheVariants.{WrongType, WrongRank}
-use Rattle.dpl_rules.specs.Verdicts.{Breach, Part, Verdict, Has, breach, owed, mistyped, misranked, has_if, judged, with_type, all_known, wanted, each_wanted}
+use Rattle.dpl_syntax.specs.declared.refusal.Breach.{Breach}
+use Rattle.dpl_rules.specs.Verdicts.{Part, Verdict, Has, breach, owed, mistyped, misranked, has_if, judged, with_type, all_known, wanted, each_wanted}
 
 -- ---- operators
 -- what the operands of an operator give at each index of the whole arrays in them, or by themselves where there are none

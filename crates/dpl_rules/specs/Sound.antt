@@ -8,7 +8,7 @@ use Rattle.dpl_language.specs.Names.{Text}
 use Rattle.dpl_rules.specs.Types.{ValueType, scalar_of}
 use Rattle.dpl_syntax.specs.declared.refusal.Refusal.{Refusal}
 use Rattle.dpl_syntax.specs.declared.refusal.Code.TheVariants.{BadSet}
-use Rattle.dpl_rules.specs.Verdicts.{Breach}
+use Rattle.dpl_syntax.specs.declared.refusal.Breach.{Breach}
 use Rattle.dpl_rules.specs.Sights.{Sort, Configured, Constant, Variable, LoopVariable, Declared, Scopes, lookup}
 use Rattle.dpl_rules.specs.Loops.{behind}
 use Rattle.dpl_rules.specs.Breaches.{top, breaches, first_breach}

@@ -2,14 +2,10 @@
 -- A rule is looked at only where the parts that it speaks of have types.
 use Rattle.std.specs.Prelude.{Bool, true, false, ◌&&◌, List, [], ◌∷◌, ◌++◌, Option, Some, None, is_some}
 use Rattle.dpl_syntax.specs.declared.place.Place.{Place}
+use Rattle.dpl_syntax.specs.declared.refusal.Breach.{Breach}
 use Rattle.dpl_syntax.specs.declared.refusal.Code.{Code}
 use Rattle.dpl_syntax.specs.declared.refusal.Code.TheVariants.{WrongType, WrongRank}
 use Rattle.dpl_rules.specs.Types.{ValueType}
-
--- a rule that is broken, and where
-pub record Breach : Type 0 where
-  pub at : Place
-  pub code : Code
 
 -- a part of a form, as its rule sees it: its first token, and its type if it has one
 pub record Part : Type 0 where

@@ -26,7 +26,7 @@ pub use lexer::lex;
 pub use operator::{Assign, Infix, Op, Prefix};
 pub use place::Place;
 pub use quoted::text_bytes;
-pub use refusal::{Code, Refusal};
+pub use refusal::{Breach, Code, Refusal};
 pub use stop::{LexStop, Stop};
 pub use token::{Contextual, Keyword, Kind, Sign, Token};
 pub use value::Value;

@@ -80,6 +80,13 @@ impl fmt::Display for Code {
     }
 }
 
+/// A rule that a program breaks, and where.
+#[derive(Clone, Copy, PartialEq, Eq, Debug)]
+pub struct Breach {
+    pub at: Place,
+    pub code: Code,
+}
+
 /// The rule that a text breaks, and where, if the rule has a place.
 ///
 /// It prints as the one line that is written of a refused text, without the newline: `! C8 at 1:33`, or `! C14`.

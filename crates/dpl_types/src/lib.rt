@@ -1,0 +1,10 @@
+// The types of names and expressions in a check, and what each rule on them says: a type, or where it is broken.
+// Each rule stands for its definition in dpl_rules; none takes memory.
+#![tactic(auto)]
+
+pub mod breach;
+pub mod operator;
+pub mod value_type;
+
+pub use breach::note;
+pub use value_type::{Operand, Origin, Over, ValueType};

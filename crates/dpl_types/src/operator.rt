@@ -1,0 +1,146 @@
+// The rules of operators: what each takes, and the type that it gives.
+// C3 stands at the operator that doesn't take its operands.
+
+ghost use Rattle.std.specs.Prelude.{◌≡◌, option_map};
+ghost use Rattle.dpl_tree.specs.Words.{kind_view, prefix_view, infix_view, op_view};
+ghost use Rattle.dpl_rules.specs.Verdicts.{has_if as has_if_of, mistyped as mistyped_of};
+ghost use Rattle.dpl_rules.specs.Operators.{over_arrays as over_arrays_of, prefix_kind as prefix_kind_of, prefix_verdict, reduction_verdict, over_both as over_both_of, agree as agree_of, between as between_of, infix_verdict};
+ghost use Rattle.dpl_types.specs.View.{over_view, type_view, operand_view, of_type};
+ghost use Rattle.dpl_types.specs.Judges.{Judges};
+
+use crate::breach::note;
+use crate::value_type::{Operand, Over, ValueType, is_same_kind, kind_of};
+use dpl_syntax::{Breach, Code, Place};
+use dpl_tree::{Infix, Op, Prefix, ScalarKind};
+
+/// Tells that a type isn't taken.
+pub fn mistyped<'t>(at: Place, first: &mut Option<Breach>) -> Option<ValueType<'t>>
+    ensures { Judges (mistyped_of at) result first.old first.new }
+{
+    note(first, at, Code::WrongType);
+    None
+}
+
+/// A type where a test holds; else tells that it isn't taken.
+pub fn has_if<'t>(
+    holds: bool,
+    t: ValueType<'t>,
+    at: Place,
+    first: &mut Option<Breach>,
+) -> Option<ValueType<'t>>
+    ensures { Judges (has_if_of holds (type_view t.entry) at) result first.old first.new }
+{
+    if holds { Some(t) } else { mistyped(at, first) }
+}
+
+// What the operands of an operator give at each index of the whole arrays in them, or by themselves where there are none.
+fn over_arrays<'t>(over: Option<Over<'t>>, kind: ScalarKind) -> ValueType<'t>
+    ensures { type_view result ≡ over_arrays_of (option_map over_view over.entry) (kind_view kind) }
+{
+    match over {
+        None => ValueType::Scalar(kind),
+        Some(over) => ValueType::Promoted(kind, over),
+    }
+}
+
+// The kind of a prefix's operand.
+fn prefix_kind(op: Prefix) -> ScalarKind
+    ensures { kind_view result ≡ prefix_kind_of (prefix_view op) }
+{
+    match op {
+        Prefix::Minus => ScalarKind::Int,
+        Prefix::Not => ScalarKind::Bool,
+    }
+}
+
+/// An operator before its operand: `-` takes an int and `!` a bool, and both take promoted operands.
+pub fn prefix<'t>(
+    at: Place,
+    op: Prefix,
+    operand: Option<ValueType<'t>>,
+    first: &mut Option<Breach>,
+) -> Option<ValueType<'t>>
+    ensures { Judges (prefix_verdict at (prefix_view op) (of_type operand.entry)) result first.old first.new }
+{
+    let kind = prefix_kind(op);
+    match operand?.operand() {
+        None => mistyped(at, first),
+        Some(operand) => has_if(
+            is_same_kind(kind, operand.kind),
+            over_arrays(operand.over, kind),
+            at,
+            first,
+        ),
+    }
+}
+
+/// A reduction, which takes a whole array or a promoted expression, of bools for `&& ||` and of ints for the others.
+pub fn reduction<'t>(
+    at: Place,
+    op: Op,
+    operand: Option<ValueType<'t>>,
+    first: &mut Option<Breach>,
+) -> Option<ValueType<'t>>
+    ensures { Judges (reduction_verdict at (op_view op) (of_type operand.entry)) result first.old first.new }
+{
+    let kind = kind_of(op);
+    match operand?.operand() {
+        Some(
+            Operand {
+                kind: found,
+                over: Some(_),
+            },
+        ) => has_if(
+            is_same_kind(kind, found),
+            ValueType::Scalar(kind),
+            at,
+            first,
+        ),
+        _ => mistyped(at, first),
+    }
+}
+
+// What two operands are over together.
+fn over_both<'t>(a: Option<Over<'t>>, b: Option<Over<'t>>) -> Option<Over<'t>>
+    ensures { option_map over_view result ≡ over_both_of (option_map over_view a.entry) (option_map over_view b.entry) }
+{
+    match a {
+        None => b,
+        Some(over) => Some(over),
+    }
+}
+
+// Whether the arrays in two operands are all of one index set.
+fn agree<'t>(a: Option<Over<'t>>, b: Option<Over<'t>>) -> bool
+    ensures { result ≡ agree_of (option_map over_view a.entry) (option_map over_view b.entry) }
+{
+    match a {
+        None => true,
+        Some(over) => over.agrees(b),
+    }
+}
+
+// Operands of one kind, perhaps promoted.
+fn between<'t>(
+    at: Place,
+    kind: ScalarKind,
+    gives: ScalarKind,
+    a: Option<Operand<'t>>,
+    b: Option<Operand<'t>>,
+    first: &mut Option<Breach>,
+) -> Option<ValueType<'t>>
+    ensures { Judges (between_of at (kind_view kind) (kind_view kind) (kind_view gives) (option_map operand_view a.entry) (option_map operand_view b.entry)) result first.old first.new }
+{
+    match a {
+        None => mistyped(at, first),
+        Some(a) => match b {
+            None => mistyped(at, first),
+            Some(b) => has_if(
+                is_same_kind(kind, a.kind) && is_same_kind(kind, b.kind) && agree(a.over, b.over),
+                over_arrays(over_both(a.over, b.over), gives),
+                at,
+                first,
+            ),
+        },
+    }
+}
