@@ -10,6 +10,8 @@ use Rattle.dpl_types.specs.declared.value_type.Over.{Over as OverNode}
 use Rattle.dpl_types.specs.declared.value_type.ValueType.{ValueType as TypeNode}
 use Rattle.dpl_types.specs.declared.value_type.ValueType.TheVariants as node
 use Rattle.dpl_types.specs.declared.value_type.Operand.{Operand as OperandNode}
+use Rattle.dpl_types.specs.declared.part.Part.{Part as PartNode}
+use Rattle.dpl_rules.specs.Verdicts.{Part}
 
 abbrev pub origin_view : OriginNode → Origin
 origin_view o = record { name = o.name.now; depth = o.depth }
@@ -36,3 +38,6 @@ operand_view o = record { kind = kind_view o.kind; over = option_map over_view o
 
 abbrev pub of_type : Option TypeNode → Option ValueType
 of_type t = option_map type_view t
+
+abbrev pub part_view : PartNode → Part
+part_view p = record { at = p.at; type = of_type p.found }

@@ -3,7 +3,8 @@
 
 ghost use Rattle.std.specs.Prelude.{◌≡◌};
 ghost use Rattle.dpl_rules.specs.Verdicts.{owed as owed_of};
-ghost use Rattle.dpl_rules.specs.Breaches.{before, lesser, least_from, place_before, rank as rank_of};
+ghost use Rattle.dpl_rules.specs.Breaches.{before, lesser, place_before, rank as rank_of};
+ghost use Rattle.dpl_types.specs.Judges.{Owes};
 
 use dpl_syntax::{Breach, Code, Place};
 
@@ -63,11 +64,12 @@ pub fn note(first: &mut Option<Breach>, at: Place, code: Code)
     }
 }
 
-/// Tells a breach where a test failed.
-pub fn owed(holds: bool, at: Place, code: Code, first: &mut Option<Breach>)
-    ensures { first.new ≡ least_from first.old (owed_of holds at code) }
+/// Tells a breach where a test failed. The answer is the test's.
+pub fn owed(holds: bool, at: Place, code: Code, first: &mut Option<Breach>) -> bool
+    ensures { Owes (owed_of holds at code) result first.old first.new }
 {
     if !holds {
         note(first, at, code);
     }
+    holds
 }

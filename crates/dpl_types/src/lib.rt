@@ -3,8 +3,14 @@
 #![tactic(auto)]
 
 pub mod breach;
+pub mod index;
+pub mod method;
 pub mod operator;
+pub mod part;
+pub mod range;
 pub mod value_type;
+pub mod verdict;
 
-pub use breach::note;
+pub use breach::{note, owed};
+pub use part::{Part, Want};
 pub use value_type::{Operand, Origin, Over, ValueType};

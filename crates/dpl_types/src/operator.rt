@@ -3,35 +3,14 @@
 
 ghost use Rattle.std.specs.Prelude.{◌≡◌, option_map};
 ghost use Rattle.dpl_tree.specs.Words.{kind_view, prefix_view, infix_view, op_view};
-ghost use Rattle.dpl_rules.specs.Verdicts.{has_if as has_if_of, mistyped as mistyped_of};
-ghost use Rattle.dpl_rules.specs.Operators.{over_arrays as over_arrays_of, prefix_kind as prefix_kind_of, prefix_verdict, reduction_verdict, over_both as over_both_of, agree as agree_of, between as between_of, infix_verdict};
+ghost use Rattle.dpl_rules.specs.Operators.{over_arrays as over_arrays_of, prefix_kind as prefix_kind_of, prefix_verdict, reduction_verdict, over_both as over_both_of, agree as agree_of, between as between_of, alike as alike_of, infix_verdict};
 ghost use Rattle.dpl_types.specs.View.{over_view, type_view, operand_view, of_type};
 ghost use Rattle.dpl_types.specs.Judges.{Judges};
 
-use crate::breach::note;
 use crate::value_type::{Operand, Over, ValueType, is_same_kind, kind_of};
-use dpl_syntax::{Breach, Code, Place};
+use crate::verdict::{has_if, mistyped};
+use dpl_syntax::{Breach, Place};
 use dpl_tree::{Infix, Op, Prefix, ScalarKind};
-
-/// Tells that a type isn't taken.
-pub fn mistyped<'t>(at: Place, first: &mut Option<Breach>) -> Option<ValueType<'t>>
-    ensures { Judges (mistyped_of at) result first.old first.new }
-{
-    note(first, at, Code::WrongType);
-    None
-}
-
-/// A type where a test holds; else tells that it isn't taken.
-pub fn has_if<'t>(
-    holds: bool,
-    t: ValueType<'t>,
-    at: Place,
-    first: &mut Option<Breach>,
-) -> Option<ValueType<'t>>
-    ensures { Judges (has_if_of holds (type_view t.entry) at) result first.old first.new }
-{
-    if holds { Some(t) } else { mistyped(at, first) }
-}
 
 // What the operands of an operator give at each index of the whole arrays in them, or by themselves where there are none.
 fn over_arrays<'t>(over: Option<Over<'t>>, kind: ScalarKind) -> ValueType<'t>
@@ -142,5 +121,61 @@ fn between<'t>(
                 first,
             ),
         },
+    }
+}
+
+// Operands of the same kind.
+fn alike<'t>(
+    at: Place,
+    a: Option<Operand<'t>>,
+    b: Option<Operand<'t>>,
+    first: &mut Option<Breach>,
+) -> Option<ValueType<'t>>
+    ensures { Judges (alike_of at (option_map operand_view a.entry) (option_map operand_view b.entry)) result first.old first.new }
+{
+    match a {
+        None => mistyped(at, first),
+        Some(operand) => between(at, operand.kind, ScalarKind::Bool, a, b, first),
+    }
+}
+
+/// An operator between two operands: `+ - * / %` take ints, `< <= > >=` ints and give bool, `== !=` two ints or two
+/// bools, and `&& ||` bools. All but `&& ||` take promoted operands.
+pub fn infix<'t>(
+    at: Place,
+    op: Infix,
+    a: Option<ValueType<'t>>,
+    b: Option<ValueType<'t>>,
+    first: &mut Option<Breach>,
+) -> Option<ValueType<'t>>
+    ensures { Judges (infix_verdict at (infix_view op) (of_type a.entry) (of_type b.entry)) result first.old first.new }
+{
+    let a = a?;
+    let b = b?;
+    match op {
+        Infix::Add | Infix::Subtract | Infix::Multiply | Infix::Divide | Infix::Remainder =>
+            between(
+                at,
+                ScalarKind::Int,
+                ScalarKind::Int,
+                a.operand(),
+                b.operand(),
+                first,
+            ),
+        Infix::Less | Infix::LessEqual | Infix::Greater | Infix::GreaterEqual => between(
+            at,
+            ScalarKind::Int,
+            ScalarKind::Bool,
+            a.operand(),
+            b.operand(),
+            first,
+        ),
+        Infix::Equal | Infix::NotEqual => alike(at, a.operand(), b.operand(), first),
+        Infix::And | Infix::Or => has_if(
+            a.is_bool() && b.is_bool(),
+            ValueType::Scalar(ScalarKind::Bool),
+            at,
+            first,
+        ),
     }
 }

@@ -162,4 +162,104 @@ impl<'t> ValueType<'t> {
             _ => None,
         }
     }
+
+    /// Whether it is a range.
+    pub fn is_range(self) -> bool
+        ensures { result ≡ is_range (type_view self.entry) }
+    {
+        match self {
+            ValueType::Range { .. } => true,
+            _ => false,
+        }
+    }
+
+    /// Whether it is a range that the text doesn't stride.
+    pub fn is_plain_range(self) -> bool
+        ensures { result ≡ is_plain_range (type_view self.entry) }
+    {
+        match self {
+            ValueType::Range { strided } => !strided,
+            _ => false,
+        }
+    }
+
+    /// Whether it is an int.
+    pub fn is_int(self) -> bool
+        ensures { result ≡ is_int (type_view self.entry) }
+    {
+        match self {
+            ValueType::Scalar(ScalarKind::Int) => true,
+            _ => false,
+        }
+    }
+
+    /// Whether it is a bool.
+    pub fn is_bool(self) -> bool
+        ensures { result ≡ is_bool (type_view self.entry) }
+    {
+        match self {
+            ValueType::Scalar(ScalarKind::Bool) => true,
+            _ => false,
+        }
+    }
+
+    /// Whether it is a domain.
+    pub fn is_domain(self) -> bool
+        ensures { result ≡ is_domain (type_view self.entry) }
+    {
+        match self {
+            ValueType::Domain { .. } => true,
+            _ => false,
+        }
+    }
+
+    /// Whether it is an array.
+    pub fn is_array(self) -> bool
+        ensures { result ≡ is_array (type_view self.entry) }
+    {
+        match self {
+            ValueType::Array(_, _) => true,
+            _ => false,
+        }
+    }
+
+    /// Whether it is a cell.
+    pub fn is_cell(self) -> bool
+        ensures { result ≡ is_cell (type_view self.entry) }
+    {
+        match self {
+            ValueType::Cell(_) => true,
+            _ => false,
+        }
+    }
+
+    /// Whether it is a locale.
+    pub fn is_locale(self) -> bool
+        ensures { result ≡ is_locale (type_view self.entry) }
+    {
+        match self {
+            ValueType::Locale => true,
+            _ => false,
+        }
+    }
+
+    /// Whether it is the word `Locales`.
+    pub fn is_all_locales(self) -> bool
+        ensures { result ≡ is_all_locales (type_view self.entry) }
+    {
+        match self {
+            ValueType::AllLocales => true,
+            _ => false,
+        }
+    }
+
+    /// Whether it is an int or a bool.
+    pub fn is_any_scalar(self) -> bool
+        ensures { result ≡ is_any_scalar (type_view self.entry) }
+    {
+        match self {
+            ValueType::Scalar(_) => true,
+            _ => false,
+        }
+    }
 }
