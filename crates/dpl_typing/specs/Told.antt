@@ -1,0 +1,36 @@
+-- What a walk over a part of a program promises: the part's type, and the first breach so far.
+-- Of all breaches that are told the first is kept, by place and then by code.
+use Rattle.std.specs.Prelude.{◌≡◌, ℕ, List, Option, map}
+use Rattle.dpl_syntax.specs.declared.refusal.Breach.{Breach}
+use Rattle.dpl_language.specs.Tree.{ItemTree, RangeItem}
+use Rattle.dpl_tree.specs.declared.expression.Range.{Range as RangeNode}
+use Rattle.dpl_tree.specs.declared.expression.Link.{Link as LinkNode}
+use Rattle.dpl_tree.specs.Words.{dots_view, infix_view}
+use Rattle.dpl_tree.specs.View.{expr_view, stride_view}
+use Rattle.dpl_rules.specs.Types.{ValueType}
+use Rattle.dpl_rules.specs.Verdicts.{Part, Verdict}
+use Rattle.dpl_rules.specs.Sights.{Scopes}
+use Rattle.dpl_rules.specs.Operators.{infix_verdict}
+use Rattle.dpl_rules.specs.Expressions.{type_of}
+use Rattle.dpl_rules.specs.Breaches.{least_from}
+use Rattle.dpl_types.specs.declared.value_type.ValueType.{ValueType as TypeNode}
+use Rattle.dpl_types.specs.declared.part.Part.{Part as PartNode}
+use Rattle.dpl_types.specs.View.{of_type, part_view}
+
+-- a type, and the first of a breach that was told before and these
+abbrev pub Tells : Option ValueType → List Breach → Option TypeNode → Option Breach → Option Breach → Type 0
+Tells type breaches result old new = (of_type result ≡ type) × (new ≡ least_from old breaches)
+
+abbrev pub TellsPart : Part → List Breach → PartNode → Option Breach → Option Breach → Type 0
+TellsPart part breaches result old new = (part_view result ≡ part) × (new ≡ least_from old breaches)
+
+abbrev pub TellsParts : List Part → List Breach → List PartNode → Option Breach → Option Breach → Type 0
+TellsParts parts breaches result old new = (map part_view result ≡ parts) × (new ≡ least_from old breaches)
+
+-- a range that is written as an item
+abbrev pub range_view : RangeNode → ItemTree (List ℕ)
+range_view r = RangeItem (expr_view r.low.now) r.at (dots_view r.dots) (expr_view r.high.now) (stride_view r.by)
+
+-- what the operator of a further operand says
+abbrev pub link_verdict : Scopes → Option ValueType → LinkNode → Verdict
+link_verdict scopes t link = infix_verdict link.at (infix_view link.op) t (type_of scopes (expr_view link.right.now))
