@@ -1,0 +1,3 @@
+mod Sights
+mod Marks
+mod Places

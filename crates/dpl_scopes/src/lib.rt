@@ -1,0 +1,9 @@
+// The names that a place of a program has in sight: scopes, the innermost first, each with its declarations.
+// They stand for the scopes of the language's check, and a name is found by a hash of its bytes.
+#![tactic(auto)]
+
+mod declared;
+mod scopes;
+
+pub use declared::{Declared, Sort};
+pub use scopes::Scopes;
