@@ -1,10 +1,11 @@
 -- What marks say of names: which declaration is at a name's place, and whether it is in the innermost scope.
-use Rattle.std.proofs.Common.{◌≡◌, ℕ, zero, suc, ◌+◌, ◌<◌, ◌≤◌, max, Bool, true, false, nat_eq, List, [], ◌∷◌, ◌++◌, length, reverse, Option, Some, None, IfSome, slice_get, refl, sym, ap, subst, ◌∙◌, eq-eqb, arith}
+-- Marks are the latest first here, as in their definition, and in order where a lemma says `reverse`.
+use Rattle.std.proofs.Common.{◌≡◌, ℕ, zero, suc, ◌<◌, ◌≤◌, max, Bool, true, false, nat_eq, List, [], ◌∷◌, ◌++◌, length, reverse, Option, Some, None, IfSome, slice_get, refl, sym, ap, subst, ◌∙◌, eq-eqb, arith}
 use Rattle.std.proofs.lemmas.List.{length-reverse, reverse-append, reverse-reverse}
 use Rattle.std.proofs.lemmas.Bool.{ne_eqb}
 use Rattle.std.specs.Prelude.{bytes_eq, if◌then◌else◌}
 use Rattle.dpl_language.specs.Names.{Text}
-use Rattle.dpl_rules.specs.Sights.{Declared, Scopes, lookup, declared_here, enter, add}
+use Rattle.dpl_rules.specs.Sights.{Declared, lookup, declared_here}
 use Rattle.dpl_scopes.specs.declared.scopes.Mark.{Mark}
 use Rattle.dpl_scopes.specs.declared.scopes.Entry.{Entry}
 use Rattle.dpl_scopes.specs.declared.scopes.Mark.TheVariants.{Opens, Declares}
@@ -67,7 +68,7 @@ lookup-scopes_by (Opens ∷ ms) x =
 lookup-scopes_by (Declares e ∷ ms) x =
     ap (λ l. declaration_at l (place (Declares e ∷ ms) x)) (reverse-append (Declares e ∷ []) ms)
     ∙ (elim (bytes_eq x e.declared.origin.name.now) as (λ t. declaration_at (reverse ms ++ Declares e ∷ []) (if t then Some (length ms) else place ms x) ≡ (if t then Some (declared_view e.declared) else lookup (scopes_by ms) x))
-        [ true ↦ latest ms e | false ↦ earlier ms (Declares e) (place ms x) (place-below ms x) ∙ lookup-scopes_by ms x ])
+    [ true ↦ latest ms e | false ↦ earlier ms (Declares e) (place ms x) (place-below ms x) ∙ lookup-scopes_by ms x ])
     ∙ sym (lookup-add (declared_view e.declared) (scopes_by ms) x)
 
 -- the same of marks in order
@@ -98,7 +99,7 @@ declared_here-deep (Declares e ∷ ms) kept x =
     let one = subst (λ n. IsDeepIn (max n 1) true (Some d)) kept.0 (omega arith, sym (eq-eqb (max d.origin.depth 1) (max d.origin.depth 1) refl)) in
     rw (length-add d ss, declared_here-add d ss x, lookup-add d ss x)
     (elim (bytes_eq x e.declared.origin.name.now) as (λ t. IsDeepIn (max (length ss) 1) (if t then true else declared_here ss x) (if t then Some d else lookup ss x))
-        [ true ↦ one | false ↦ rest ])
+    [ true ↦ one | false ↦ rest ])
 
 -- the declaration that is found, is in the innermost scope or isn't
 pub declared_here-found : (ms : List Mark) → AreKept ms → (x : Text) (d : Declared) → Some d ≡ lookup (scopes_by ms) x
@@ -106,9 +107,3 @@ pub declared_here-found : (ms : List Mark) → AreKept ms → (x : Text) (d : De
 declared_here-found ms kept x d found =
     let ss = scopes_by ms in
     sym (subst (IsDeepIn (length ss) (declared_here ss x)) (sym found) (declared_here-deep ms kept x)).1
-
--- and where none is, there is none
-pub declared_here-absent : (ms : List Mark) → AreKept ms → (x : Text) → None ≡ lookup (scopes_by ms) x → false ≡ declared_here (scopes_by ms) x
-declared_here-absent ms kept x absent =
-    let ss = scopes_by ms in
-    sym (subst (IsDeepIn (length ss) (declared_here ss x)) (sym absent) (declared_here-deep ms kept x))

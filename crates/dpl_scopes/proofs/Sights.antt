@@ -1,5 +1,6 @@
--- What a name added to scopes does to look-ups, to their number and to those that are left when one is closed.
-use Rattle.std.proofs.Common.{◌≡◌, ℕ, ◌≤◌, max, Bool, true, false, nat_eq, List, [], ◌∷◌, length, drop, Option, Some, None, is_some, refl, arith}
+-- What scopes are once a name is added: what is found in them, how many they are, and what is left when one is closed.
+-- The definitions go by cases on whether a scope is open; these lemmas don't.
+use Rattle.std.proofs.Common.{◌≡◌, max, true, false, [], ◌∷◌, length, drop, Some, None, is_some, refl, arith}
 use Rattle.std.specs.Prelude.{bytes_eq, if◌then◌else◌}
 use Rattle.dpl_language.specs.Names.{Text}
 use Rattle.dpl_rules.specs.Sights.{Declared, Scopes, find, or_else, lookup, declared_here, add}

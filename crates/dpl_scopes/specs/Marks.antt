@@ -12,7 +12,7 @@ scopes_by [] = []
 scopes_by (Opens ∷ ms) = enter (scopes_by ms)
 scopes_by (Declares e ∷ ms) = add (declared_view e.declared) (scopes_by ms)
 
--- where a name was declared last
+-- where a name in sight was declared last
 abbrev pub place : List Mark → Text → Option ℕ
 place [] x = None
 place (Opens ∷ ms) x = place ms x

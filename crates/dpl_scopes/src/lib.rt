@@ -7,3 +7,6 @@ mod scopes;
 
 pub use declared::{Declared, Sort};
 pub use scopes::Scopes;
+
+#[cfg(test)]
+mod tests;

@@ -1,5 +1,5 @@
 // The scopes that are open, with their names.
-// What opens a scope and what declares a name is kept in one list in order, and a map has the place of each name in it.
+// What opens a scope and what declares a name is a mark on one list, and a map has where on it each name was declared last.
 
 ghost use Rattle.std.specs.Prelude.{◌≡◌, OnOk, OnErr, IfOk, [], ◌∷◌, length, drop, option_map};
 ghost use Rattle.dpl_rules.specs.Sights.{Declared as Declaration, lookup, declared_here, enter, add, origin_in};
@@ -12,7 +12,7 @@ use indexmap::IndexMap;
 use std::alloc::{AllocError, Global};
 use std::marker::Model;
 
-// What was done to the scopes, and not undone yet.
+// What was done to the scopes and isn't undone yet.
 #[derive(Clone, Copy)]
 enum Mark<'t> {
     // A scope was opened.
@@ -21,7 +21,7 @@ enum Mark<'t> {
     Declares(Entry<'t>),
 }
 
-// A declaration, and the place of the one that it hides.
+// A declaration, and the place of the one that it hides, if it hides one.
 #[derive(Clone, Copy)]
 struct Entry<'t> {
     declared: Declared<'t>,
@@ -31,9 +31,9 @@ struct Entry<'t> {
 /// Scopes that are open, the innermost first, with the names that are declared in each.
 #[derive(Drop)]
 pub struct Scopes<'t> {
-    // All marks, in order.
+    // What opened the scopes and declared their names, in order.
     marks: Vec<Mark<'t>>,
-    // Where among the marks the innermost declaration of each name is; none, if it is out of sight again.
+    // Which of the marks is the innermost declaration of a name; none, if the name is out of sight again.
     places: IndexMap<&'t [u8], Option<usize>>,
     // How many scopes are open.
     depth: usize,
@@ -82,7 +82,8 @@ impl<'t> Scopes<'t> {
         Ok(())
     }
 
-    /// Closes the innermost scope. The names in it that hid others don't any more.
+    /// Closes the innermost scope: its names are out of sight, and what they hid is seen again. Where no scope is open, nothing
+    /// changes.
     pub fn leave(&mut self)
         ensures { self.new ≡ drop 1 self.old }
     {
@@ -95,6 +96,7 @@ impl<'t> Scopes<'t> {
     }
 
     /// Declares a name in the innermost scope. A name may be declared there already; the later declaration is found.
+    /// Where no scope is open, the declaration has depth 0, and opens one.
     ///
     /// # Errors
     /// Out of memory; the scopes are then as they were.
@@ -113,16 +115,19 @@ impl<'t> Scopes<'t> {
             name,
             depth: self.depth,
         };
-        self.marks.push(Mark::Declares(Entry {
-            declared: Declared { origin, sort, value_type },
-            hidden,
-        }))?;
-        // Where no scope is open, the declaration opens one.
+        let declared = Declared {
+            origin,
+            sort,
+            value_type,
+        };
+        self.marks
+            .push(Mark::Declares(Entry { declared, hidden }))
+            .unwrap();
         self.depth = self.depth.max(1);
         Ok(())
     }
 
-    /// The innermost declaration of a name.
+    /// The innermost declaration of a name, if one is in sight.
     pub fn lookup(&self, name: &[u8]) -> Option<Declared<'t>>
         ensures { option_map declared_view result ≡ lookup self.now name.now }
     {
@@ -138,7 +143,7 @@ impl<'t> Scopes<'t> {
         ensures { result ≡ declared_here self.now name.now }
     {
         match self.lookup(name) {
-            // A declaration at depth 0 is in the scope that it opened.
+            // What has depth 0 is in the scope that it opened.
             Some(declared) => declared.origin.depth.max(1) == self.depth,
             None => false,
         }

@@ -1,5 +1,7 @@
+-- The room for the mark was there before the map changed, so that the two change together.
 use Rattle.std.proofs.Common.{◌≡◌, ◌∙◌, refl, ap, sym, subst, [], ◌∷◌, ◌++◌, length, max, Some, arith}
 use Rattle.std.specs.Option.{option_flatten}
+use Rattle.std.specs.Prelude.{if◌then◌else◌}
 use Rattle.indexmap.specs.IndexMap.{Updates}
 use Rattle.dpl_scopes.specs.declared.scopes.Entry.{Entry}
 use Rattle.dpl_scopes.specs.declared.scopes.Mark.TheVariants.{Declares}
@@ -11,12 +13,15 @@ pub invariant_of-self-2 : goal.invariant_of-self-2
 invariant_of-self-2 c =
     let was = c.self.inside in
     let e : Entry =
-        record {
-          declared = record { origin = record { name = c.args.name; depth = was.depth }; sort = c.args.sort; value_type = c.args.value_type };
-          hidden = c.flatten-hidden.result;
-        } in
+    record {
+      declared = record { origin = record { name = c.args.name; depth = was.depth }; sort = c.args.sort; value_type = c.args.value_type };
+      hidden = c.flatten-hidden.result;
+    } in
     let place : c.len.result ≡ length was.marks.items = omega (arith, c.len.ensures, c.reserve.ensures.len, was.marks.ok) in
-    let pushed : c.push.new.self.items ≡ was.marks.items ++ Declares e ∷ [] = c.in_ok-push.ensures.items ∙ ap (λ ms. ms ++ Declares e ∷ []) c.reserve.ensures.items in
+    let room = c.reserve.new.self.items in
+    let done = c.push.ensures.succeeds (omega (arith, c.in_ok-reserve.ensures.ok)) in
+    let pushed : c.push.new.self.items ≡ was.marks.items ++ Declares e ∷ [] =
+    c.push.ensures.items ∙ ap (λ t. if t then room ++ Declares e ∷ [] else room) done ∙ ap (λ ms. ms ++ Declares e ∷ []) c.reserve.ensures.items in
     let hides = c.flatten-hidden.ensures ∙ ap option_flatten c.in_ok-insert.ensures.old in
     let written = subst (λ n. Updates same_text was.places c.insert.new.self c.args.name (Some (Some n))) place c.in_ok-insert.ensures.updates in
     let kept = IsKept-declared was.marks.items was.places c.insert.new.self was.depth e c.self.invariant refl hides written in

@@ -1,7 +1,7 @@
-use Rattle.std.proofs.Common.{◌≡◌, ◌∙◌, ap, sym, max, nat_eq, length, reverse}
+-- A declaration is as deep as its scope, but one that was made where no scope was open.
+use Rattle.std.proofs.Common.{◌∙◌, ap, sym, max, nat_eq, reverse}
 use Rattle.dpl_rules.specs.Sights.{lookup, declared_here}
 use Rattle.dpl_scopes.specs.View.{declared_view}
-use Rattle.dpl_scopes.specs.Marks.{scopes_by}
 use Rattle.dpl_scopes.proofs.Marks.{declared_here-found}
 use Rattle.dpl_scopes.proofs.scopes.Scopes.declared_here.Goals as goal
 

@@ -1,6 +1,6 @@
-use Rattle.std.proofs.Common.{◌≡◌, ◌+◌, ◌<◌, ◌≤◌, ◌^◌, length, reverse, arith, vec_len}
+-- There are no more scopes than marks, and so many fit in memory.
+use Rattle.std.proofs.Common.{reverse, arith}
 use Rattle.std.proofs.lemmas.List.{length-reverse}
-use Rattle.dpl_scopes.specs.Marks.{scopes_by}
 use Rattle.dpl_scopes.proofs.Marks.{length-scopes_by}
 use Rattle.dpl_scopes.proofs.scopes.Scopes.enter.Goals as goal
 

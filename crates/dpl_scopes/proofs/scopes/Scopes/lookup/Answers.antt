@@ -1,4 +1,5 @@
-use Rattle.std.proofs.Common.{◌≡◌, ◌∙◌, refl, sym, ap, length, None, Some, slice_get, option_map}
+-- A name's place in the map is a mark that declares it, and that is what the scopes find.
+use Rattle.std.proofs.Common.{◌∙◌, refl, sym, ap, length, None, Some, slice_get, option_map}
 use Rattle.std.proofs.lemmas.Option.{slice_get_past, slice_get_read}
 use Rattle.dpl_rules.specs.Sights.{lookup}
 use Rattle.dpl_scopes.specs.declared.scopes.Mark.TheVariants.{Opens, Declares}
