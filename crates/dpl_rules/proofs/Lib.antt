@@ -17,3 +17,5 @@ pub mod Shifted
 -- A forall is admitted exactly where none of C6 to C9 is broken in its body, and the foralls of a sound program are admitted.
 pub mod Admission
 pub mod Soundness
+-- The breach that is told is one of the breaches, and none of them is before it.
+pub mod First

@@ -1,6 +1,6 @@
 -- The breaches of a program: where it breaks which rule; the first of them, and the refusal.
 -- One walk carries what is in sight, and asks each statement for the breaches of its rules.
-use Rattle.std.specs.Prelude.{ℕ, ◌==◌, nat_lt, Bool, true, false, ◌&&◌, ◌||◌, if◌then◌else◌, List, [], ◌∷◌, ◌++◌, drop, length, Option, Some, None}
+use Rattle.std.specs.Prelude.{◌≡◌, ◌⊎◌, ℕ, ◌==◌, nat_lt, Bool, true, false, ◌&&◌, ◌||◌, if◌then◌else◌, List, [], ◌∷◌, ◌++◌, drop, length, Option, Some, None}
 use Rattle.dpl_syntax.specs.declared.place.Place.{Place}
 use Rattle.dpl_language.specs.Tree.{VariablesTree, TypeTree, ScalarType, SyncType, DomainType, ArrayType, DeclareTree, WithTree, ItemTree, StmtTree, Nothing, Declare, Assigned, Call, Write, Block, If, While, For, Forall, Coforall, On, Body, WordBody, BlockBody, Stmts, NoStmts, Then, Else, NoElse, ElseDo, ProgramTree}
 use Rattle.dpl_language.specs.Names.{Text}
@@ -164,9 +164,27 @@ abbrev pub lesser : Option Breach → Breach → Option Breach
 lesser None b = Some b
 lesser (Some a) b = Some (if before b a then b else a)
 
+-- the first of what was told and of what else may be told
+abbrev pub or_lesser : Option Breach → Option Breach → Option Breach
+or_lesser o None = o
+or_lesser o (Some b) = lesser o b
+
 abbrev pub least_from : Option Breach → List Breach → Option Breach
 least_from a [] = a
 least_from a (b ∷ bs) = least_from (lesser a b) bs
 
 abbrev pub first_breach : ProgramTree Text → Option Breach
 first_breach t = least_from None (breaches t)
+
+-- ---- what is first among breaches: one of them that none of them is before
+abbrev pub IsAmong : Breach → List Breach → Type 0
+IsAmong b [] = ⊥
+IsAmong b (c ∷ cs) = (b ≡ c) ⊎ IsAmong b cs
+
+abbrev pub NoneBefore : Breach → List Breach → Type 0
+NoneBefore b [] = Unit {0}
+NoneBefore b (c ∷ cs) = (before c b ≡ false) × NoneBefore b cs
+
+pub record IsFirst (bs : List Breach) (b : Breach) : Type 0 where
+  pub among : IsAmong b bs
+  pub none_before : NoneBefore b bs

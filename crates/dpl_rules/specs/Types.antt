@@ -5,7 +5,7 @@ use Rattle.dpl_language.specs.Tree.{Kind, IntKind, BoolKind, Op, Sum, Product, A
 use Rattle.dpl_language.specs.Names.{Text}
 
 -- Which declaration a name stands for: its name, and how many scopes are open where it stands, counting its own.
--- No two declarations in sight have both alike.
+-- No two declarations in sight have both alike, but where a name is declared twice in one scope, which is C2.
 pub record Origin : Type 0 where
   pub name : Text
   pub depth : ℕ

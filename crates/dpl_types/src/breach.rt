@@ -3,7 +3,7 @@
 
 ghost use Rattle.std.specs.Prelude.{◌≡◌};
 ghost use Rattle.dpl_rules.specs.Verdicts.{owed as owed_of};
-ghost use Rattle.dpl_rules.specs.Breaches.{before, lesser, place_before, rank as rank_of};
+ghost use Rattle.dpl_rules.specs.Breaches.{before, lesser, or_lesser, place_before, rank as rank_of};
 ghost use Rattle.dpl_types.specs.Judges.{Owes};
 
 use dpl_syntax::{Breach, Code, Place};
@@ -72,4 +72,13 @@ pub fn owed(holds: bool, at: Place, code: Code, first: &mut Option<Breach>) -> b
         note(first, at, code);
     }
     holds
+}
+
+/// Tells what was told apart from the rest, if it was anything.
+pub fn tell(first: &mut Option<Breach>, apart: Option<Breach>)
+    ensures { first.new ≡ or_lesser first.old apart }
+{
+    if let Some(breach) = apart {
+        note(first, breach.at, breach.code);
+    }
 }

@@ -10,9 +10,10 @@ ghost use Rattle.dpl_types.specs.View.{type_view, of_type, part_view};
 ghost use Rattle.dpl_types.specs.Judges.{Judges, Owes};
 
 use crate::breach::owed;
-use crate::part::{Part, Want, all_known, each_wanted};
+use crate::part::{Part, all_known, each_wanted};
 use crate::value_type::ValueType;
 use crate::verdict::{judged, mistyped, wrong_rank};
+use crate::want::Want;
 use dpl_syntax::{Breach, Code, Place};
 use dpl_tree::ScalarKind;
 

@@ -10,7 +10,9 @@ pub mod part;
 pub mod range;
 pub mod value_type;
 pub mod verdict;
+pub mod want;
 
-pub use breach::{note, owed};
-pub use part::{Part, Want};
+pub use breach::{note, owed, tell};
+pub use part::Part;
 pub use value_type::{Operand, Origin, Over, ValueType};
+pub use want::Want;

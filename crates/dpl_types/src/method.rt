@@ -13,9 +13,10 @@ ghost use Rattle.dpl_types.specs.Judges.{Judges, Owes};
 
 use crate::breach::owed;
 use crate::index::index;
-use crate::part::{Part, Want, all_known, wanted};
+use crate::part::{Part, all_known, wanted};
 use crate::value_type::ValueType;
 use crate::verdict::{has_if, judged, misranked, mistyped};
+use crate::want::Want;
 use dpl_syntax::{Breach, Code, Place};
 use dpl_tree::{ScalarKind, Word};
 

@@ -5,12 +5,13 @@ ghost use Rattle.std.specs.Prelude.{◌≡◌, is_some, map};
 ghost use Rattle.dpl_rules.specs.Types.{has};
 ghost use Rattle.dpl_rules.specs.Operators.{is_strided_range, any_strided as any_strided_of};
 ghost use Rattle.dpl_rules.specs.Verdicts.{owed_type as owed_type_of, wanted as wanted_of, each_wanted as each_wanted_of, all_known as all_known_of};
-ghost use Rattle.dpl_types.specs.View.{type_view, of_type, part_view};
+ghost use Rattle.dpl_types.specs.View.{of_type, part_view};
 ghost use Rattle.dpl_types.specs.Wants.{takes};
 ghost use Rattle.dpl_types.specs.Judges.{Owes};
 
 use crate::breach::owed;
 use crate::value_type::ValueType;
+use crate::want::Want;
 use dpl_syntax::{Breach, Code, Place};
 
 /// A part of a form: its first token, and its type if it has one.
@@ -20,48 +21,24 @@ pub struct Part<'t> {
     pub found: Option<ValueType<'t>>,
 }
 
-/// What a place in a form takes.
-#[derive(Clone, Copy)]
-pub enum Want {
-    Int,
-    Range,
-    /// A range that the text doesn't stride.
-    PlainRange,
-}
-
-impl Want {
-    /// Whether a type is taken.
-    pub fn takes(self, t: ValueType<'_>) -> bool
-        ensures { result ≡ takes self (type_view t.entry) }
-    {
-        match self {
-            Want::Int => t.is_int(),
-            Want::Range => t.is_range(),
-            Want::PlainRange => t.is_plain_range(),
-        }
-    }
-}
-
 /// A part has the wanted type, if it has one.
-pub fn wanted(wanted: Want, part: Part<'_>, first: &mut Option<Breach>) -> bool
-    ensures { Owes (wanted_of (takes wanted) (part_view part.entry)) result first.old first.new }
+pub fn wanted(want: Want<'_>, part: Part<'_>, first: &mut Option<Breach>) -> bool
+    ensures { Owes (wanted_of (takes want.entry) (part_view part.entry)) result first.old first.new }
 {
     match part.found {
         None => true,
-        Some(t) => owed(wanted.takes(t), part.at, Code::WrongType, first),
+        Some(t) => owed(want.takes(t), part.at, Code::WrongType, first),
     }
 }
 
 /// Each part has the wanted type, if it has one.
 #[tactic(auto, using(crate::proofs::Breaches::least_from_append, crate::proofs::Breaches::are_none_append))]
-pub fn each_wanted(of: Want, parts: &[Part<'_>], first: &mut Option<Breach>) -> bool
-    ensures { Owes (each_wanted_of (takes of) (map part_view parts.now)) result first.old first.new }
+pub fn each_wanted(of: Want<'_>, parts: &[Part<'_>], first: &mut Option<Breach>) -> bool
+    ensures { Owes (each_wanted_of (takes of.entry) (map part_view parts.now)) result first.old first.new }
 {
     let mut holds = true;
     for part in parts {
-        if !wanted(of, *part, first) {
-            holds = false;
-        }
+        holds &= wanted(of, *part, first);
     }
     holds
 }

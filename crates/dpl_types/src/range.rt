@@ -9,9 +9,10 @@ ghost use Rattle.dpl_types.specs.View.{part_view};
 ghost use Rattle.dpl_types.specs.Judges.{Judges, Owes};
 
 use crate::breach::owed;
-use crate::part::{Part, Want, all_known, any_strided, each_wanted};
+use crate::part::{Part, all_known, any_strided, each_wanted};
 use crate::value_type::ValueType;
 use crate::verdict::judged;
+use crate::want::Want;
 use dpl_syntax::{Breach, Code, Place};
 
 /// A range, by its ends, or its low end and its count, and its stride if it has one: ints.
