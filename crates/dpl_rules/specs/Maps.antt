@@ -84,15 +84,15 @@ abbrev pub box_of : Option ℕ → Place → Place → Option ValueType → List
 box_of rank word at None = []
 box_of rank word at (Some t) = box_rank rank word at (domain_of t)
 
+-- an int starts a map of rank 1
+abbrev pub int_start : Option ℕ → Place → Place → Option ValueType → List Breach
+int_start rank word at None = []
+int_start rank word at (Some t) = if is_int t then owed_rank rank 1 word else breach at WrongType
+
 module _ (scopes : Scopes) where
   -- a box is a domain of the rank
   abbrev pub box_breaches : Option ℕ → Place → ItemTree Text → List Breach
   box_breaches rank word box = item_breaches scopes box ++ box_of rank word (first_of_item box) (item_type scopes box)
-
-  -- an int starts a map of rank 1
-  abbrev pub int_start : Option ℕ → Place → Place → Option ValueType → List Breach
-  int_start rank word at None = []
-  int_start rank word at (Some t) = if is_int t then owed_rank rank 1 word else breach at WrongType
 
   abbrev pub plain_start : Option ℕ → Place → ExprTree Text → List Breach
   plain_start rank word e = expr_breaches scopes e ++ int_start rank word (first_of e) (type_of scopes e)

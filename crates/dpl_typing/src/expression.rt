@@ -180,9 +180,12 @@ fn link<'t>(
     Ok(infix(link.at, link.op, t, right, first))
 }
 
-// What stands before brackets and dots, which may be the word `Locales`.
+/// What stands before brackets and dots, which may be the word `Locales`.
+///
+/// # Errors
+/// Out of memory; of what was told then nothing is said.
 #[cycle(expression)]
-fn base<'t>(
+pub fn base<'t>(
     alloc: Global,
     scopes: &Scopes<'t>,
     e: &Expr<'_>,
@@ -206,10 +209,13 @@ fn base<'t>(
     }
 }
 
-// The type of a base with what stands behind it, from that of what stands before; `last` is the last token of that.
+/// The type of a base with what stands behind it, from that of what stands before; `last` is the last token of that.
+///
+/// # Errors
+/// Out of memory; of what was told then nothing is said.
 #[cycle(expression)]
 #[tactic(auto, using(dpl_types::proofs::Breaches::least_from_append))]
-fn posts<'t>(
+pub fn posts<'t>(
     alloc: Global,
     scopes: &Scopes<'t>,
     last: Place,
@@ -228,10 +234,13 @@ fn posts<'t>(
     Ok(t)
 }
 
-// One bracket, or one method, behind a value.
+/// One bracket, or one method, behind a value.
+///
+/// # Errors
+/// Out of memory; of what was told then nothing is said.
 #[cycle(expression)]
 #[tactic(auto, using(dpl_types::proofs::Breaches::least_from_append))]
-fn post<'t>(
+pub fn post<'t>(
     alloc: Global,
     scopes: &Scopes<'t>,
     last: Place,
@@ -322,9 +331,12 @@ pub fn items<'t>(
     more_items(alloc, scopes, parts, items.others, first)
 }
 
-// An item as a part of a form.
+/// An item as a part of a form.
+///
+/// # Errors
+/// Out of memory; of what was told then nothing is said.
 #[cycle(expression)]
-fn item_part<'t>(
+pub fn item_part<'t>(
     alloc: Global,
     scopes: &Scopes<'t>,
     written: &Item<'_>,

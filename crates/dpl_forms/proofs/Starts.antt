@@ -1,0 +1,77 @@
+-- Where maps start: what ends in `low` or `lowBound` is a domain's, or else an expression like any other.
+-- An expression with one more behind its base is read from what stands before that.
+use Rattle.std.proofs.Common.{◌≡◌, ◌≤◌, ℕ, Bool, false, not, ◌&&◌, List, [], ◌∷◌, ◌++◌, length, Option, Some, None, is_some, refl, sym, ap, ◌∙◌, append_assoc, arith}
+use Rattle.std.proofs.lemmas.List.{append-nil}
+use Rattle.std.proofs.lemmas.Option.{none-some}
+use Rattle.dpl_syntax.specs.declared.place.Place.{Place}
+use Rattle.dpl_syntax.specs.declared.refusal.Breach.{Breach}
+use Rattle.dpl_language.specs.Tree.{ExprTree, Postfixed}
+use Rattle.dpl_language.specs.Names.{Text}
+use Rattle.dpl_language.specs.Phrases.{posts_read}
+use Rattle.dpl_tree.specs.declared.expression.Post.{Post as PostNode}
+use Rattle.dpl_tree.specs.View.{post_view, posts_of}
+use Rattle.dpl_rules.specs.Types.{ValueType}
+use Rattle.dpl_rules.specs.Verdicts.{type_by, broken_by}
+use Rattle.dpl_rules.specs.Places.{first_of, last_of, last_of_post, last_of_posts}
+use Rattle.dpl_rules.specs.Sights.{Scopes}
+use Rattle.dpl_rules.specs.Expressions.{bare_locales, locales_or, none_where, type_of, expr_breaches, posts_type, posts_breaches, post_verdict, post_breaches}
+use Rattle.dpl_rules.specs.Declarations.{domain_in}
+use Rattle.dpl_rules.specs.Maps.{LowTree, owed_rank, int_start, plain_start, typed_start}
+use Rattle.dpl_rules.specs.Breaches.{least_from}
+use Rattle.dpl_types.proofs.Breaches.{least_from_append}
+use Rattle.dpl_forms.specs.Starts.{low_told}
+
+pub posts_read_many : (xs : List PostNode) → 2 ≤ length xs → false ≡ is_some (posts_read (posts_of xs))
+posts_read_many [] h = absurd (omega (arith, h))
+posts_read_many (x ∷ []) h = absurd (omega (arith, h))
+posts_read_many (x ∷ y ∷ xs) h = refl
+
+module _ (scopes : Scopes) where
+  posts_type_push : (xs : List PostNode) (x : PostNode) (last : Place) (t : Option ValueType) →
+      posts_type scopes last t (posts_of (xs ++ x ∷ [])) ≡ type_by (post_verdict scopes (last_of_posts last (posts_of xs)) (post_view x) (posts_type scopes last t (posts_of xs)))
+  posts_type_push [] x last t = refl
+  posts_type_push (y ∷ xs) x last t = posts_type_push xs x (last_of_post (post_view y)) (type_by (post_verdict scopes last (post_view y) t))
+
+  posts_breaches_push : (xs : List PostNode) (x : PostNode) (last : Place) (t : Option ValueType) →
+      posts_breaches scopes last t (posts_of (xs ++ x ∷ []))
+      ≡ posts_breaches scopes last t (posts_of xs) ++ (post_breaches scopes (post_view x) ++ broken_by (post_verdict scopes (last_of_posts last (posts_of xs)) (post_view x) (posts_type scopes last t (posts_of xs))))
+  posts_breaches_push [] x last t = append-nil (post_breaches scopes (post_view x) ++ broken_by (post_verdict scopes last (post_view x) t))
+  posts_breaches_push (y ∷ xs) x last t =
+      let v = post_verdict scopes last (post_view y) t in
+      ap (λ bs. post_breaches scopes (post_view y) ++ broken_by v ++ bs) (posts_breaches_push xs x (last_of_post (post_view y)) (type_by v))
+      ∙ sym (append_assoc (post_breaches scopes (post_view y) ++ broken_by v) (posts_breaches scopes (last_of_post (post_view y)) (type_by v) (posts_of xs)) _)
+
+  -- a domain before `low`
+  pub typed_start_domain : (rank : Option ℕ) (word : Place) (e : ExprTree Text) (l : LowTree) (t : Option ValueType) (d : ℕ × Bool) → domain_in t ≡ Some d → (o : Option Breach) →
+      least_from o (typed_start scopes rank word e l t) ≡ least_from (least_from o (expr_breaches scopes l.of)) (low_told rank word d.0 d.1 l.at l.bound)
+  typed_start_domain rank word e l None d h o = absurd (none-some d h)
+  typed_start_domain rank word e l (Some t) d h o =
+      rw h (
+        ap (least_from o) (append_assoc (expr_breaches scopes l.of) (owed_rank rank d.0 word) _)
+        ∙ least_from_append o (expr_breaches scopes l.of) (low_told rank word d.0 d.1 l.at l.bound)
+      )
+
+  -- anything else before it
+  pub typed_start_plain : (rank : Option ℕ) (word : Place) (e : ExprTree Text) (l : LowTree) (t : Option ValueType) → domain_in t ≡ None →
+      typed_start scopes rank word e l t ≡ plain_start scopes rank word e
+  typed_start_plain rank word e l None h = refl
+  typed_start_plain rank word e l (Some t) h = rw h refl
+
+  -- an expression by what stands before the last behind its base
+  pub plain_start_push : (rank : Option ℕ) (word : Place) (e : ExprTree Text) (xs : List PostNode) (x : PostNode) (o : Option Breach) →
+      let before = Postfixed e (posts_of xs) in
+      let end = last_of_posts (last_of e) (posts_of xs) in
+      let v = post_verdict scopes end (post_view x) (type_of scopes before) in
+      least_from o (plain_start scopes rank word (Postfixed e (posts_of (xs ++ x ∷ []))))
+      ≡ least_from (least_from (least_from o (expr_breaches scopes before)) (post_breaches scopes (post_view x) ++ broken_by v)) (int_start rank word (first_of e) (type_by v))
+  plain_start_push rank word e xs x o =
+      let t = locales_or (bare_locales e) (type_of scopes e) in
+      let bs = none_where (bare_locales e) (expr_breaches scopes e) in
+      let before = posts_breaches scopes (last_of e) t (posts_of xs) in
+      let v = post_verdict scopes (last_of_posts (last_of e) (posts_of xs)) (post_view x) (posts_type scopes (last_of e) t (posts_of xs)) in
+      let here = post_breaches scopes (post_view x) ++ broken_by v in
+      rw (posts_type_push xs x (last_of e) t) (rw (posts_breaches_push xs x (last_of e) t) (
+        least_from_append o (bs ++ (before ++ here)) (int_start rank word (first_of e) (type_by v))
+        ∙ ap (λ o. least_from o (int_start rank word (first_of e) (type_by v)))
+          (ap (least_from o) (sym (append_assoc bs before here)) ∙ least_from_append o (bs ++ before) here)
+      ))

@@ -1,0 +1,30 @@
+-- Where maps start, as the code sees it: what stands last behind a base, and what a domain or an int there owes.
+-- Each is a part of a rule of dpl_rules.
+use Rattle.std.specs.Prelude.{ℕ, Bool, not, ◌&&◌, List, ◌++◌, Option, Some, None}
+use Rattle.dpl_syntax.specs.declared.place.Place.{Place}
+use Rattle.dpl_syntax.specs.declared.refusal.Code.TheVariants.{WrongType}
+use Rattle.dpl_syntax.specs.declared.refusal.Breach.{Breach}
+use Rattle.dpl_language.specs.Tree.{ExprTree}
+use Rattle.dpl_language.specs.Names.{Text}
+use Rattle.dpl_rules.specs.Types.{is_int}
+use Rattle.dpl_rules.specs.Verdicts.{owed, owed_type}
+use Rattle.dpl_rules.specs.Places.{first_of}
+use Rattle.dpl_rules.specs.Sights.{Scopes}
+use Rattle.dpl_rules.specs.Expressions.{type_of, expr_breaches}
+use Rattle.dpl_rules.specs.Maps.{LowTree, owed_rank}
+
+-- `low` or `lowBound` behind an expression, by its place and which it is
+abbrev pub low_at : ExprTree Text → Place × Bool → LowTree
+low_at e low = record { of = e; at = low.0; bound = low.1 }
+
+abbrev pub low_view : ExprTree Text → Option (Place × Bool) → Option LowTree
+low_view e None = None
+low_view e (Some low) = Some (low_at e low)
+
+-- what it owes behind a domain
+abbrev pub low_told : Option ℕ → Place → ℕ → Bool → Place → Bool → List Breach
+low_told rank word found strided at bound = owed_rank rank found word ++ owed (not (bound && strided)) at WrongType
+
+-- what an expression of a tuple of ints owes
+abbrev pub int_told : Scopes → ExprTree Text → List Breach
+int_told scopes e = expr_breaches scopes e ++ owed_type is_int (first_of e) (type_of scopes e)

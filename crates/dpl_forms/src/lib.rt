@@ -1,0 +1,6 @@
+// The rules of declarations, maps, assignments, calls, prints and loops' heads: where each breaks them.
+// Each function tells the breaches of its form, as dpl_rules defines them; the walk over statements is another crate's.
+#![tactic(auto)]
+
+pub mod map;
+pub mod side;

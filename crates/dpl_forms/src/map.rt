@@ -1,0 +1,209 @@
+// What may stand behind `dmapped`, beside a domain of some rank.
+// C5 stands at the word of the map; where the domain has no type, its rank isn't asked.
+
+ghost use Rattle.std.specs.Prelude.{◌≡◌, ◌∷◌, ◌++◌, [], List, ℕ, map, IfOk, OnOk};
+ghost use Rattle.dpl_language.specs.Phrases.{parts as parts_of};
+ghost use Rattle.dpl_tree.specs.View.{expr_view, item_view, post_view, method_view, posts_of, next_expr_view};
+ghost use Rattle.dpl_tree.specs.Declarations.{optional, start_view, map_view, mapped_view};
+ghost use Rattle.dpl_rules.specs.Breaches.{least_from};
+ghost use Rattle.dpl_rules.specs.Maps.{owed_rank as owed_rank_of, box_of as box_of_rank, box_breaches, int_start as int_start_of, plain_start as plain_start_of, low_start as low_start_of, low_of, int_breaches as int_breaches_of, start_breaches, map_breaches, mapped_breaches};
+ghost use Rattle.dpl_types.specs.View.{of_type};
+ghost use Rattle.dpl_language.specs.Tree.{ExprTree, Postfixed as PostfixedTree};
+ghost use Rattle.dpl_rules.specs.Maps.{post_low};
+ghost use Rattle.dpl_forms.specs.Starts.{low_view, low_at, low_told, int_told};
+ghost use Rattle.dpl_rules.specs.Maps.{typed_start};
+ghost use Rattle.dpl_rules.specs.Declarations.{domain_in as domain_in_of};
+ghost use Rattle.dpl_rules.specs.Expressions.{type_of, expr_breaches};
+ghost use Rattle.dpl_typing.specs.Told.{Tells};
+
+use dpl_scopes::Scopes;
+use dpl_syntax::{Breach, Code, Place};
+use dpl_tree::{Expr, Item, Map, Mapped, Method, NextExpr, Post, Postfixed, Start, Word};
+use dpl_types::part::wanted;
+use dpl_types::{ValueType, Want, note, owed};
+use dpl_typing::expression::{Judged, base, expr, item, part, post, posts};
+use dpl_typing::place::{first_of, first_of_item, last_of, last_of_posts};
+use std::alloc::{AllocError, Global};
+
+// A rank, where it is known.
+fn owed_rank(rank: Option<usize>, found: usize, word: Place, first: &mut Option<Breach>)
+    ensures { first.new ≡ least_from first.old (owed_rank_of rank found word) }
+{
+    if let Some(rank) = rank {
+        owed(found == rank, word, Code::WrongRank, first);
+    }
+}
+
+// The rank of a domain, and whether it is strided, where something is one.
+fn domain_in(t: Option<ValueType<'_>>) -> Option<(usize, bool)>
+    ensures { result ≡ domain_in_of (of_type t.entry) }
+{
+    t?.domain()
+}
+
+// A box has the type of a domain of the rank, if it has one.
+fn box_of(
+    rank: Option<usize>,
+    word: Place,
+    at: Place,
+    found: Option<ValueType<'_>>,
+    first: &mut Option<Breach>,
+)
+    ensures { first.new ≡ least_from first.old (box_of_rank rank word at (of_type found.entry)) }
+{
+    if let Some(t) = found {
+        match t.domain() {
+            None => note(first, at, Code::WrongType),
+            Some((found, _)) => owed_rank(rank, found, word, first),
+        }
+    }
+}
+
+// A box, which is a domain of the rank.
+#[tactic(auto, using(dpl_types::proofs::Breaches::least_from_append))]
+fn boxed(
+    alloc: Global,
+    scopes: &Scopes<'_>,
+    rank: Option<usize>,
+    word: Place,
+    written: &Item<'_>,
+    first: &mut Option<Breach>,
+) -> Result<(), AllocError>
+    ensures { OnOk result (first.new ≡ least_from first.old (box_breaches scopes.now rank word (item_view written.now))) }
+{
+    let found = item(alloc, scopes, written, first)?;
+    box_of(rank, word, first_of_item(written), found, first);
+    Ok(())
+}
+
+// An int starts a map of rank 1.
+fn int_start(
+    rank: Option<usize>,
+    word: Place,
+    at: Place,
+    found: Option<ValueType<'_>>,
+    first: &mut Option<Breach>,
+)
+    ensures { first.new ≡ least_from first.old (int_start_of rank word at (of_type found.entry)) }
+{
+    if let Some(t) = found {
+        if t.is_int() {
+            owed_rank(rank, 1, word, first);
+        } else {
+            note(first, at, Code::WrongType);
+        }
+    }
+}
+
+// An expression as where a map starts.
+#[tactic(auto, using(dpl_types::proofs::Breaches::least_from_append))]
+fn plain_start(
+    alloc: Global,
+    scopes: &Scopes<'_>,
+    rank: Option<usize>,
+    word: Place,
+    e: &Expr<'_>,
+    first: &mut Option<Breach>,
+) -> Result<(), AllocError>
+    ensures { OnOk result (first.new ≡ least_from first.old (plain_start_of scopes.now rank word (expr_view e.now))) }
+{
+    let found = expr(alloc, scopes, e, first)?;
+    int_start(rank, word, first_of(e), found, first);
+    Ok(())
+}
+
+// An expression of a tuple of ints.
+#[tactic(auto, using(dpl_types::proofs::Breaches::least_from_append))]
+fn int_in_tuple(
+    alloc: Global,
+    scopes: &Scopes<'_>,
+    e: &Expr<'_>,
+    first: &mut Option<Breach>,
+) -> Result<(), AllocError>
+    ensures { OnOk result (first.new ≡ least_from first.old (int_told scopes.now (expr_view e.now))) }
+{
+    let part = part(alloc, scopes, e, first)?;
+    wanted(Want::Int, part, first);
+    Ok(())
+}
+
+// `low` or `lowBound` as what stands last behind a base: its place, and whether it is the latter.
+fn low_end(post: &Post<'_>) -> Option<(Place, bool)>
+    ensures { (e : ExprTree (List ℕ)) → post_low (post_view post.now) e ≡ low_view e result }
+{
+    match post {
+        Post::Dotted(_, Method::Plain(at, Word::Low)) => Some((*at, false)),
+        Post::Dotted(_, Method::Plain(at, Word::LowBound)) => Some((*at, true)),
+        Post::Dotted(_, Method::Plain(_, Word::Size))
+        | Post::Dotted(_, Method::Plain(_, Word::First))
+        | Post::Dotted(_, Method::Plain(_, Word::Last))
+        | Post::Dotted(_, Method::Plain(_, Word::High))
+        | Post::Dotted(_, Method::Plain(_, Word::DomainOf))
+        | Post::Dotted(_, Method::Plain(_, Word::Id))
+        | Post::Dotted(_, Method::Dim(_))
+        | Post::Dotted(_, Method::Contains(_))
+        | Post::Dotted(_, Method::Expand(_))
+        | Post::Dotted(_, Method::CellRead { .. })
+        | Post::Brackets { .. }
+        | Post::Rounds { .. } => None,
+    }
+}
+
+// A domain, as `X` of `X.low`, or of `X.lowBound` where it is unstrided.
+#[tactic(auto, using(dpl_types::proofs::Breaches::least_from_append))]
+fn low_of_domain(
+    rank: Option<usize>,
+    word: Place,
+    domain: (usize, bool),
+    low: (Place, bool),
+    first: &mut Option<Breach>,
+)
+    ensures { first.new ≡ least_from first.old (low_told rank word domain.0 domain.1 low.0 low.1) }
+{
+    owed_rank(rank, domain.0, word, first);
+    owed(!(low.1 && domain.1), low.0, Code::WrongType, first);
+}
+
+// The type of what stands before the last behind a base.
+#[tactic(auto, using(dpl_types::proofs::Breaches::least_from_append))]
+fn front<'t>(
+    alloc: Global,
+    scopes: &Scopes<'t>,
+    before: &Expr<'_>,
+    front: &[Post<'_>],
+    first: &mut Option<Breach>,
+) -> Judged<'t>
+    ensures { IfOk result (λ t. Tells (type_of scopes.now (PostfixedTree (expr_view before.now) (posts_of front.now))) (expr_breaches scopes.now (PostfixedTree (expr_view before.now) (posts_of front.now))) t first.old first.new) }
+{
+    let t = base(alloc, scopes, before, first)?;
+    posts(alloc, scopes, last_of(before), t, front, first)
+}
+
+// What ends in `low` or `lowBound`, as where a map starts: a domain's, or an int.
+fn low_start(
+    alloc: Global,
+    scopes: &Scopes<'_>,
+    rank: Option<usize>,
+    word: Place,
+    before: &Expr<'_>,
+    behind: &[Post<'_>],
+    last: &Post<'_>,
+    low: (Place, bool),
+    first: &mut Option<Breach>,
+) -> Result<(), AllocError>
+    ensures { OnOk result (first.new ≡ least_from first.old (typed_start scopes.now rank word (PostfixedTree (expr_view before.now) (posts_of (behind.now ++ last.now ∷ []))) (low_at (PostfixedTree (expr_view before.now) (posts_of behind.now)) low) (type_of scopes.now (PostfixedTree (expr_view before.now) (posts_of behind.now))))) }
+{
+    let of = front(alloc, scopes, before, behind, first)?;
+    match domain_in(of) {
+        Some(domain) => {
+            low_of_domain(rank, word, domain, low, first);
+            Ok(())
+        }
+        None => {
+            let end = last_of_posts(last_of(before), behind);
+            let found = post(alloc, scopes, end, of, last, first)?;
+            int_start(rank, word, first_of(before), found, first);
+            Ok(())
+        }
+    }
+}
