@@ -1,25 +1,27 @@
 -- Where maps start: what ends in `low` or `lowBound` is a domain's, or else an expression like any other.
 -- An expression with one more behind its base is read from what stands before that.
-use Rattle.std.proofs.Common.{◌≡◌, ◌≤◌, ℕ, Bool, false, not, ◌&&◌, List, [], ◌∷◌, ◌++◌, length, Option, Some, None, is_some, refl, sym, ap, ◌∙◌, append_assoc, arith}
+use Rattle.std.proofs.Common.{◌≡◌, ◌≤◌, ◌<◌, ℕ, suc, ◌+◌, Bool, false, not, ◌&&◌, List, [], ◌∷◌, ◌++◌, length, map, drop, get_or, Option, Some, None, is_some, refl, sym, ap, ◌∙◌, append_assoc, arith}
 use Rattle.std.proofs.lemmas.List.{append-nil}
 use Rattle.std.proofs.lemmas.Option.{none-some}
 use Rattle.dpl_syntax.specs.declared.place.Place.{Place}
 use Rattle.dpl_syntax.specs.declared.refusal.Breach.{Breach}
-use Rattle.dpl_language.specs.Tree.{ExprTree, Postfixed}
+use Rattle.dpl_syntax.proofs.Walks.{drop-at}
+use Rattle.dpl_language.specs.Tree.{AfterComma, ExprTree, Postfixed, Post}
 use Rattle.dpl_language.specs.Names.{Text}
 use Rattle.dpl_language.specs.Phrases.{posts_read}
 use Rattle.dpl_tree.specs.declared.expression.Post.{Post as PostNode}
-use Rattle.dpl_tree.specs.View.{post_view, posts_of}
+use Rattle.dpl_tree.specs.declared.expression.NextExpr.{NextExpr as NextExprNode}
+use Rattle.dpl_tree.specs.View.{expr_view, post_view, posts_of, next_expr_view}
 use Rattle.dpl_rules.specs.Types.{ValueType}
 use Rattle.dpl_rules.specs.Verdicts.{type_by, broken_by}
 use Rattle.dpl_rules.specs.Places.{first_of, last_of, last_of_post, last_of_posts}
 use Rattle.dpl_rules.specs.Sights.{Scopes}
 use Rattle.dpl_rules.specs.Expressions.{bare_locales, locales_or, none_where, type_of, expr_breaches, posts_type, posts_breaches, post_verdict, post_breaches}
 use Rattle.dpl_rules.specs.Declarations.{domain_in}
-use Rattle.dpl_rules.specs.Maps.{LowTree, owed_rank, int_start, plain_start, typed_start}
+use Rattle.dpl_rules.specs.Maps.{LowTree, post_low, posts_low, front_of, low_of, owed_rank, int_start, plain_start, typed_start, int_breaches}
 use Rattle.dpl_rules.specs.Breaches.{least_from}
 use Rattle.dpl_types.proofs.Breaches.{least_from_append}
-use Rattle.dpl_forms.specs.Starts.{low_told}
+use Rattle.dpl_forms.specs.Starts.{low_told, int_told, exprs_in}
 
 pub posts_read_many : (xs : List PostNode) → 2 ≤ length xs → false ≡ is_some (posts_read (posts_of xs))
 posts_read_many [] h = absurd (omega (arith, h))
@@ -75,3 +77,32 @@ module _ (scopes : Scopes) where
         ∙ ap (λ o. least_from o (int_start rank word (first_of e) (type_by v)))
           (ap (least_from o) (sym (append_assoc bs before here)) ∙ least_from_append o (bs ++ before) here)
       ))
+
+-- ---- what an expression ends in
+posts_low_push : (xs : List PostNode) (x : PostNode) (e : ExprTree Text) → posts_low (posts_of (xs ++ x ∷ [])) e ≡ post_low (post_view x) e
+posts_low_push [] x e = refl
+posts_low_push (y ∷ []) x e = refl
+posts_low_push (y ∷ z ∷ xs) x e = posts_low_push (z ∷ xs) x e
+
+front_of_push : (xs : List PostNode) (x : PostNode) → front_of (posts_of (xs ++ x ∷ [])) ≡ posts_of xs
+front_of_push [] x = refl
+front_of_push (y ∷ []) x = refl
+front_of_push (y ∷ z ∷ xs) x = ap (Post (post_view y)) (front_of_push (z ∷ xs) x)
+
+pub low_of_push : (e : ExprTree Text) (xs : List PostNode) (x : PostNode) → low_of (Postfixed e (posts_of (xs ++ x ∷ []))) ≡ post_low (post_view x) (Postfixed e (posts_of xs))
+low_of_push e xs x = posts_low_push xs x (Postfixed e (front_of (posts_of (xs ++ x ∷ [])))) ∙ ap (λ ps. post_low (post_view x) (Postfixed e ps)) (front_of_push xs x)
+
+-- ---- the expressions of a tuple
+pub parts_next : (xs : List NextExprNode) → map {A = AfterComma (ExprTree Text)} {B = ExprTree Text} (λ x. x.part) (map next_expr_view xs) ≡ exprs_in xs
+parts_next [] = refl
+parts_next (x ∷ xs) = ap (λ es. expr_view x.expr.now ∷ es) (parts_next xs)
+
+pub length_exprs_in : (xs : List NextExprNode) → length (exprs_in xs) ≡ length xs
+length_exprs_in [] = refl
+length_exprs_in (x ∷ xs) = ap suc (length_exprs_in xs)
+
+pub ints_step : (scopes : Scopes) (xs : List NextExprNode) (k : ℕ) (x : NextExprNode) → k < length xs → x ≡ get_or xs k x → (o p : Option Breach) → p ≡ least_from o (int_told scopes (expr_view x.expr.now)) →
+    least_from p (int_breaches scopes (exprs_in (drop (k + 1) xs))) ≡ least_from o (int_breaches scopes (exprs_in (drop k xs)))
+ints_step scopes xs k x within is o p told =
+    rw (drop-at xs k x within is) (ap (λ q. least_from q (int_breaches scopes (exprs_in (drop (k + 1) xs)))) told
+      ∙ sym (least_from_append o (int_told scopes (expr_view x.expr.now)) (int_breaches scopes (exprs_in (drop (k + 1) xs)))))

@@ -1,10 +1,13 @@
 -- Where maps start, as the code sees it: what stands last behind a base, and what a domain or an int there owes.
 -- Each is a part of a rule of dpl_rules.
-use Rattle.std.specs.Prelude.{ℕ, Bool, not, ◌&&◌, List, ◌++◌, Option, Some, None}
+use Rattle.std.specs.Prelude.{ℕ, Bool, not, ◌&&◌, List, [], ◌∷◌, ◌++◌, Option, Some, None}
 use Rattle.dpl_syntax.specs.declared.place.Place.{Place}
 use Rattle.dpl_syntax.specs.declared.refusal.Code.TheVariants.{WrongType}
 use Rattle.dpl_syntax.specs.declared.refusal.Breach.{Breach}
-use Rattle.dpl_language.specs.Tree.{ExprTree}
+use Rattle.dpl_language.specs.Tree.{ExprTree, Postfixed}
+use Rattle.dpl_tree.specs.declared.expression.NextExpr.{NextExpr as NextExprNode}
+use Rattle.dpl_tree.specs.View.{expr_view, posts_of}
+use Rattle.dpl_forms.specs.declared.map.LowLast.{LowLast}
 use Rattle.dpl_language.specs.Names.{Text}
 use Rattle.dpl_rules.specs.Types.{is_int}
 use Rattle.dpl_rules.specs.Verdicts.{owed, owed_type}
@@ -28,3 +31,13 @@ low_told rank word found strided at bound = owed_rank rank found word ++ owed (n
 -- what an expression of a tuple of ints owes
 abbrev pub int_told : Scopes → ExprTree Text → List Breach
 int_told scopes e = expr_breaches scopes e ++ owed_type is_int (first_of e) (type_of scopes e)
+
+-- the expressions behind commas
+abbrev pub exprs_in : List NextExprNode → List (ExprTree Text)
+exprs_in [] = []
+exprs_in (n ∷ ns) = expr_view n.expr.now ∷ exprs_in ns
+
+-- what ends in `low` or `lowBound`
+abbrev pub low_last_view : ExprTree Text → Option LowLast → Option LowTree
+low_last_view e None = None
+low_last_view e (Some l) = Some (low_at (Postfixed e (posts_of l.behind.now)) l.low)

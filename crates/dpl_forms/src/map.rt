@@ -1,7 +1,7 @@
 // What may stand behind `dmapped`, beside a domain of some rank.
 // C5 stands at the word of the map; where the domain has no type, its rank isn't asked.
 
-ghost use Rattle.std.specs.Prelude.{◌≡◌, ◌∷◌, ◌++◌, [], List, ℕ, map, IfOk, OnOk};
+ghost use Rattle.std.specs.Prelude.{◌≡◌, ◌∷◌, ◌++◌, [], List, ℕ, map, IfOk, IfSome, OnOk};
 ghost use Rattle.dpl_language.specs.Phrases.{parts as parts_of};
 ghost use Rattle.dpl_tree.specs.View.{expr_view, item_view, post_view, method_view, posts_of, next_expr_view};
 ghost use Rattle.dpl_tree.specs.Declarations.{optional, start_view, map_view, mapped_view};
@@ -10,7 +10,7 @@ ghost use Rattle.dpl_rules.specs.Maps.{owed_rank as owed_rank_of, box_of as box_
 ghost use Rattle.dpl_types.specs.View.{of_type};
 ghost use Rattle.dpl_language.specs.Tree.{ExprTree, Postfixed as PostfixedTree};
 ghost use Rattle.dpl_rules.specs.Maps.{post_low};
-ghost use Rattle.dpl_forms.specs.Starts.{low_view, low_at, low_told, int_told};
+ghost use Rattle.dpl_forms.specs.Starts.{low_view, low_last_view, low_at, low_told, int_told, exprs_in};
 ghost use Rattle.dpl_rules.specs.Maps.{typed_start};
 ghost use Rattle.dpl_rules.specs.Declarations.{domain_in as domain_in_of};
 ghost use Rattle.dpl_rules.specs.Expressions.{type_of, expr_breaches};
@@ -179,6 +179,14 @@ fn front<'t>(
     posts(alloc, scopes, last_of(before), t, front, first)
 }
 
+// What stands behind a base and ends in `low` or `lowBound`, with the place of that and whether it is the latter.
+#[derive(Clone, Copy)]
+struct LowLast<'a, 't> {
+    behind: &'a [Post<'t>],
+    last: &'a Post<'t>,
+    low: (Place, bool),
+}
+
 // What ends in `low` or `lowBound`, as where a map starts: a domain's, or an int.
 fn low_start(
     alloc: Global,
@@ -186,24 +194,142 @@ fn low_start(
     rank: Option<usize>,
     word: Place,
     before: &Expr<'_>,
-    behind: &[Post<'_>],
-    last: &Post<'_>,
-    low: (Place, bool),
+    ends: LowLast<'_, '_>,
     first: &mut Option<Breach>,
 ) -> Result<(), AllocError>
-    ensures { OnOk result (first.new ≡ least_from first.old (typed_start scopes.now rank word (PostfixedTree (expr_view before.now) (posts_of (behind.now ++ last.now ∷ []))) (low_at (PostfixedTree (expr_view before.now) (posts_of behind.now)) low) (type_of scopes.now (PostfixedTree (expr_view before.now) (posts_of behind.now))))) }
+    ensures { OnOk result (first.new ≡ least_from first.old (typed_start scopes.now rank word (PostfixedTree (expr_view before.now) (posts_of (ends.entry.behind.now ++ ends.entry.last.now ∷ []))) (low_at (PostfixedTree (expr_view before.now) (posts_of ends.entry.behind.now)) ends.entry.low) (type_of scopes.now (PostfixedTree (expr_view before.now) (posts_of ends.entry.behind.now))))) }
 {
-    let of = front(alloc, scopes, before, behind, first)?;
+    let of = front(alloc, scopes, before, ends.behind, first)?;
     match domain_in(of) {
         Some(domain) => {
-            low_of_domain(rank, word, domain, low, first);
+            low_of_domain(rank, word, domain, ends.low, first);
             Ok(())
         }
         None => {
-            let end = last_of_posts(last_of(before), behind);
-            let found = post(alloc, scopes, end, of, last, first)?;
+            let end = last_of_posts(last_of(before), ends.behind);
+            let found = post(alloc, scopes, end, of, ends.last, first)?;
             int_start(rank, word, first_of(before), found, first);
             Ok(())
         }
+    }
+}
+
+// What stands before the last behind a base, that last, and its place, where it is `low` or `lowBound`.
+fn ends_low<'a, 't>(posts: &'a [Post<'t>]) -> Option<LowLast<'a, 't>>
+    ensures low { (e : ExprTree (List ℕ)) → low_of (PostfixedTree e (posts_of posts.now)) ≡ low_last_view e result }
+    ensures posts { IfSome result (λ l. posts.now ≡ l.behind.now ++ l.last.now ∷ []) }
+{
+    let (last, behind) = posts.split_last()?;
+    let low = low_end(last)?;
+    Some(LowLast { behind, last, low })
+}
+
+// An expression where a map starts.
+#[tactic(auto, using(dpl_tree::proofs::Fields::expr_view_postfixed))]
+fn expr_start(
+    alloc: Global,
+    scopes: &Scopes<'_>,
+    rank: Option<usize>,
+    word: Place,
+    e: &Expr<'_>,
+    first: &mut Option<Breach>,
+) -> Result<(), AllocError>
+    ensures { OnOk result (first.new ≡ least_from first.old (low_start_of scopes.now rank word (expr_view e.now) (low_of (expr_view e.now)))) }
+{
+    match e {
+        Expr::Postfixed(postfixed) => match ends_low(postfixed.posts) {
+            None => plain_start(alloc, scopes, rank, word, e, first),
+            Some(low) => low_start(alloc, scopes, rank, word, postfixed.base, low, first),
+        },
+        Expr::Number(_, _)
+        | Expr::Truth(_, _)
+        | Expr::Named(_)
+        | Expr::Locales(_)
+        | Expr::LocaleCount(_)
+        | Expr::Here(_)
+        | Expr::Grouped { .. }
+        | Expr::Domain { .. }
+        | Expr::Prefixed { .. }
+        | Expr::Reduced(_)
+        | Expr::Chain(_) => plain_start(alloc, scopes, rank, word, e, first),
+    }
+}
+
+// Further expressions of a tuple of ints.
+#[tactic(auto, using(dpl_types::proofs::Breaches::least_from_append))]
+fn more_ints(
+    alloc: Global,
+    scopes: &Scopes<'_>,
+    others: &[NextExpr<'_>],
+    first: &mut Option<Breach>,
+) -> Result<(), AllocError>
+    ensures { OnOk result (first.new ≡ least_from first.old (int_breaches_of scopes.now (exprs_in others.now))) }
+{
+    for next in others {
+        int_in_tuple(alloc, scopes, next.expr, first)?;
+    }
+    Ok(())
+}
+
+// Where a map starts: an expression, or a tuple of as many ints as the rank.
+#[tactic(auto, using(dpl_types::proofs::Breaches::least_from_append, crate::proofs::Starts::parts_next, crate::proofs::Starts::length_exprs_in))]
+fn start(
+    alloc: Global,
+    scopes: &Scopes<'_>,
+    rank: Option<usize>,
+    word: Place,
+    written: &Start<'_>,
+    first: &mut Option<Breach>,
+) -> Result<(), AllocError>
+    ensures { OnOk result (first.new ≡ least_from first.old (start_breaches scopes.now rank word (start_view written.now))) }
+{
+    match written {
+        Start::Expr(e) => expr_start(alloc, scopes, rank, word, e, first),
+        Start::Tuple { first: head, others, .. } => {
+            int_in_tuple(alloc, scopes, head, first)?;
+            more_ints(alloc, scopes, others, first)?;
+            owed_rank(rank, others.len() + 1, word, first);
+            Ok(())
+        }
+    }
+}
+
+// A map, beside a domain of a rank.
+#[tactic(auto, using(dpl_types::proofs::Breaches::least_from_append))]
+fn map(
+    alloc: Global,
+    scopes: &Scopes<'_>,
+    rank: Option<usize>,
+    written: &Map<'_>,
+    first: &mut Option<Breach>,
+) -> Result<(), AllocError>
+    ensures { OnOk result (first.new ≡ least_from first.old (map_breaches scopes.now rank (map_view written.now))) }
+{
+    match written {
+        Map::Block(map) => boxed(alloc, scopes, rank, map.word, &map.bounding_box, first),
+        Map::Cyclic(map) => start(alloc, scopes, rank, map.word, &map.start, first),
+        Map::BlockCyclic(map) => {
+            start(alloc, scopes, rank, map.word, &map.start, first)?;
+            start(alloc, scopes, rank, map.word, &map.size, first)
+        }
+    }
+}
+
+/// What stands behind `dmapped`, if anything does, beside a domain whose rank may be known.
+///
+/// # Errors
+/// Out of memory; of what was told then nothing is said.
+pub fn mapped(
+    alloc: Global,
+    scopes: &Scopes<'_>,
+    rank: Option<usize>,
+    written: &Option<Mapped<'_>>,
+    first: &mut Option<Breach>,
+) -> Result<(), AllocError>
+    ensures { OnOk result (first.new ≡ least_from first.old (mapped_breaches scopes.now rank (optional mapped_view written.now))) }
+{
+    match written {
+        None => Ok(()),
+        Some(mapped) => map(alloc, scopes, rank, &mapped.map, first),
     }
 }

@@ -14,24 +14,24 @@ use Rattle.dpl_forms.proofs.map.low_start.Goals as goal
 
 pub returns-in-Some : goal.returns-in-Some
 returns-in-Some c =
-    let before = Postfixed (expr_view c.args.before.now) (posts_of c.args.behind.now) in
-    let whole = Postfixed (expr_view c.args.before.now) (posts_of (c.args.behind.now ++ c.args.last.now ∷ [])) in
+    let before = Postfixed (expr_view c.args.before.now) (posts_of c.args.ends.behind.now) in
+    let whole = Postfixed (expr_view c.args.before.now) (posts_of (c.args.ends.behind.now ++ c.args.ends.last.now ∷ [])) in
     let of = type_of c.args.scopes.now before in
     let d = c.in-Some.domain in
     c.low_of_domain.ensures
-    ∙ ap (λ o. least_from o (low_told c.args.rank c.args.word d.0 d.1 c.args.low.0 c.args.low.1)) c.in_ok-of.ensures.1
-    ∙ sym (typed_start_domain c.args.scopes.now c.args.rank c.args.word whole (low_at before c.args.low) of d
+    ∙ ap (λ o. least_from o (low_told c.args.rank c.args.word d.0 d.1 c.args.ends.low.0 c.args.ends.low.1)) c.in_ok-of.ensures.1
+    ∙ sym (typed_start_domain c.args.scopes.now c.args.rank c.args.word whole (low_at before c.args.ends.low) of d
       (ap domain_in (sym c.in_ok-of.ensures.0) ∙ sym c.domain_in.ensures ∙ c.in-Some.is) c.args.first.now)
 
 pub returns-in_ok-found-in-None : goal.returns-in_ok-found-in-None
 returns-in_ok-found-in-None c =
     let scopes = c.args.scopes.now in
     let e = expr_view c.args.before.now in
-    let before = Postfixed e (posts_of c.args.behind.now) in
-    let whole = Postfixed e (posts_of (c.args.behind.now ++ c.args.last.now ∷ [])) in
-    let end = last_of_posts (last_of e) (posts_of c.args.behind.now) in
-    let end_is = c.last_of_posts-end.ensures ∙ ap (λ p. last_of_posts p (posts_of c.args.behind.now)) c.last_of.ensures in
-    let x = post_view c.args.last.now in
+    let before = Postfixed e (posts_of c.args.ends.behind.now) in
+    let whole = Postfixed e (posts_of (c.args.ends.behind.now ++ c.args.ends.last.now ∷ [])) in
+    let end = last_of_posts (last_of e) (posts_of c.args.ends.behind.now) in
+    let end_is = c.last_of_posts-end.ensures ∙ ap (λ p. last_of_posts p (posts_of c.args.ends.behind.now)) c.last_of.ensures in
+    let x = post_view c.args.ends.last.now in
     let v = post_verdict scopes end x (type_of scopes before) in
     let v_is = ap (λ p. post_verdict scopes p x (of_type c.in_ok-of.of)) end_is ∙ ap (post_verdict scopes end x) c.in_ok-of.ensures.0 in
     let told = c.in_ok-found-in-None.ensures.1
@@ -42,6 +42,6 @@ returns-in_ok-found-in-None c =
     ∙ ap (λ at. least_from c.post.new.first (int_start c.args.rank c.args.word at (of_type c.in_ok-found-in-None.found))) c.first_of.ensures
     ∙ ap (λ t. least_from c.post.new.first (int_start c.args.rank c.args.word (first_of e) t)) found
     ∙ ap (λ o. least_from o (int_start c.args.rank c.args.word (first_of e) (type_by v))) told
-    ∙ sym (plain_start_push scopes c.args.rank c.args.word e c.args.behind.now c.args.last.now c.args.first.now)
-    ∙ ap (least_from c.args.first.now) (sym (typed_start_plain scopes c.args.rank c.args.word whole (low_at before c.args.low) (type_of scopes before)
+    ∙ sym (plain_start_push scopes c.args.rank c.args.word e c.args.ends.behind.now c.args.ends.last.now c.args.first.now)
+    ∙ ap (least_from c.args.first.now) (sym (typed_start_plain scopes c.args.rank c.args.word whole (low_at before c.args.ends.low) (type_of scopes before)
       (ap domain_in (sym c.in_ok-of.ensures.0) ∙ sym c.domain_in.ensures ∙ c.in-None.is)))

@@ -1,0 +1,24 @@
+use Rattle.std.proofs.Common.{sym, ap, ◌∙◌}
+use Rattle.dpl_language.specs.Tree.{Postfixed}
+use Rattle.dpl_tree.specs.View.{posts_of}
+use Rattle.dpl_rules.specs.Maps.{low_of}
+use Rattle.dpl_forms.specs.Starts.{low_view, low_last_view}
+use Rattle.dpl_forms.proofs.Starts.{low_of_push}
+use Rattle.dpl_forms.proofs.map.ends_low.Goals as goal
+
+pub returns-in_err-low-clause-low : goal.returns-in_err-low-clause-low
+returns-in_err-low-clause-low c = λ e.
+    let behind = c.in_ok-last.behind.now in
+    ap (λ ps. low_of (Postfixed e (posts_of ps))) c.in_ok-last.ensures.cases.0
+    ∙ low_of_push e behind c.in_ok-last.last.now
+    ∙ c.low_end.ensures (Postfixed e (posts_of behind))
+    ∙ ap (low_view (Postfixed e (posts_of behind))) c.in_err-low.was
+    ∙ ap (low_last_view e) (sym c.from_residual-in_err-low.ensures)
+
+pub returns-clause-low : goal.returns-clause-low
+returns-clause-low c = λ e.
+    let behind = c.in_ok-last.behind.now in
+    ap (λ ps. low_of (Postfixed e (posts_of ps))) c.in_ok-last.ensures.cases.0
+    ∙ low_of_push e behind c.in_ok-last.last.now
+    ∙ c.low_end.ensures (Postfixed e (posts_of behind))
+    ∙ ap (low_view (Postfixed e (posts_of behind))) c.in_ok-low.was
