@@ -53,7 +53,7 @@ least_from_none o [] = refl
 least_from_none o (b ∷ bs) =
     least_from_none (lesser o b) bs ∙ or_lesser_assoc o b (least_from None bs) ∙ ap (or_lesser o) (sym (least_from_none (Some b) bs))
 
-least_from_some : (a : Breach) (bs : List Breach) → is_some (least_from (Some a) bs) ≡ true
+pub least_from_some : (a : Breach) (bs : List Breach) → is_some (least_from (Some a) bs) ≡ true
 least_from_some a [] = refl
 least_from_some a (b ∷ bs) = least_from_some (least a b) bs
 

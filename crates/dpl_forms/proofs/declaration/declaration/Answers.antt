@@ -1,0 +1,28 @@
+use Rattle.std.proofs.Common.{not, ◌++◌, None, sym, ap, ◌∙◌, append_assoc}
+use Rattle.dpl_syntax.specs.declared.refusal.Code.TheVariants.{NameTwice}
+use Rattle.dpl_tree.specs.Declarations.{declare_view}
+use Rattle.dpl_language.specs.Declarations.{type_of as written_type}
+use Rattle.dpl_rules.specs.Verdicts.{owed}
+use Rattle.dpl_rules.specs.Sights.{declared_here, origin_in}
+use Rattle.dpl_rules.specs.Breaches.{least_from, or_lesser}
+use Rattle.dpl_rules.specs.Declarations.{written_breaches, config_breaches, declaration_breaches}
+use Rattle.dpl_types.proofs.Breaches.{least_from_append}
+use Rattle.dpl_forms.specs.Told.{given_told}
+use Rattle.dpl_forms.proofs.Apart.{told_apart}
+use Rattle.dpl_forms.proofs.declaration.declaration.Goals as goal
+
+pub returns-clause-told : goal.returns-clause-told
+returns-clause-told c =
+    let scopes = c.args.scopes.now in
+    let d = declare_view c.args.written.now in
+    let own = origin_in scopes d.name.name in
+    let twice = owed (not (declared_here scopes d.name.name)) d.name.at NameTwice in
+    let written = written_breaches scopes own (written_type d.typed) d.initial in
+    let config = config_breaches scopes d.config d in
+    let here = ap (λ b. least_from None (owed (not b) d.name.at NameTwice)) c.declared_here.ensures in
+    let depth = ap (λ n. least_from c.owed.new.first (given_told scopes (record { name = d.name.name; depth = n }) d)) c.depth.ensures in
+    c.tell.ensures
+    ∙ ap (or_lesser c.args.first.now) (c.in_ok-found.ensures.1 ∙ depth
+      ∙ ap (λ o. least_from o (written ++ config)) (c.owed.ensures.1 ∙ here)
+      ∙ sym (least_from_append None twice (written ++ config)) ∙ ap (least_from None) (sym (append_assoc twice written config)))
+    ∙ told_apart c.args.first.now (declaration_breaches scopes d)
