@@ -1,6 +1,6 @@
 -- Breaches that are told apart from the rest and then with it.
 -- Nothing was told apart exactly where there is no breach.
-use Rattle.std.proofs.Common.{◌≡◌, Bool, true, false, if◌then◌else◌, is_some, is_none, List, [], ◌∷◌, Option, Some, None, refl, sym, ◌∙◌}
+use Rattle.std.proofs.Common.{◌≡◌, true, false, if◌then◌else◌, is_some, is_none, List, [], ◌∷◌, Option, Some, None, refl, sym}
 use Rattle.dpl_syntax.specs.declared.refusal.Breach.{Breach}
 use Rattle.dpl_rules.specs.Types.{ValueType}
 use Rattle.dpl_rules.specs.Breaches.{or_lesser, least_from}

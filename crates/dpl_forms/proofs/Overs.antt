@@ -1,8 +1,7 @@
 -- The bare domain name that an array is over stands alone between the brackets.
 -- Both lemmas are on items by their fields.
-use Rattle.std.proofs.Common.{◌≡◌, ◌<◌, ◌≤◌, ℕ, List, [], ◌∷◌, length, Option, None, refl, sym, ap, ◌∙◌, arith}
-use Rattle.dpl_language.specs.Tree.{FirstItem, Items}
-use Rattle.dpl_language.specs.Names.{Text}
+use Rattle.std.proofs.Common.{◌≡◌, ◌<◌, ◌≤◌, List, [], ◌∷◌, length, None, refl, ap, ◌∙◌, arith}
+use Rattle.dpl_language.specs.Tree.{FirstItem}
 use Rattle.dpl_language.specs.Phrases.{item_over, declared_over}
 use Rattle.dpl_tree.specs.declared.expression.Items.{Items as ItemsNode, out-Items}
 use Rattle.dpl_tree.specs.declared.expression.NextItem.{NextItem as NextItemNode}

@@ -1,6 +1,6 @@
 -- Where maps start: what ends in `low` or `lowBound` is a domain's, or else an expression like any other.
 -- An expression with one more behind its base is read from what stands before that.
-use Rattle.std.proofs.Common.{◌≡◌, ◌≤◌, ◌<◌, ℕ, suc, ◌+◌, Bool, false, not, ◌&&◌, List, [], ◌∷◌, ◌++◌, length, map, drop, get_or, Option, Some, None, is_some, refl, sym, ap, ◌∙◌, append_assoc, arith}
+use Rattle.std.proofs.Common.{◌≡◌, ◌≤◌, ◌<◌, ℕ, suc, ◌+◌, Bool, false, List, [], ◌∷◌, ◌++◌, length, map, drop, get_or, Option, Some, None, is_some, refl, sym, ap, ◌∙◌, append_assoc, arith}
 use Rattle.std.proofs.lemmas.List.{append-nil}
 use Rattle.std.proofs.lemmas.Option.{none-some}
 use Rattle.dpl_syntax.specs.declared.place.Place.{Place}
@@ -49,8 +49,8 @@ module _ (scopes : Scopes) where
   typed_start_domain rank word e l None d h o = absurd (none-some d h)
   typed_start_domain rank word e l (Some t) d h o =
       rw h (
-        ap (least_from o) (append_assoc (expr_breaches scopes l.of) (owed_rank rank d.0 word) _)
-        ∙ least_from_append o (expr_breaches scopes l.of) (low_told rank word d.0 d.1 l.at l.bound)
+      ap (least_from o) (append_assoc (expr_breaches scopes l.of) (owed_rank rank d.0 word) _)
+      ∙ least_from_append o (expr_breaches scopes l.of) (low_told rank word d.0 d.1 l.at l.bound)
       )
 
   -- anything else before it
@@ -73,9 +73,9 @@ module _ (scopes : Scopes) where
       let v = post_verdict scopes (last_of_posts (last_of e) (posts_of xs)) (post_view x) (posts_type scopes (last_of e) t (posts_of xs)) in
       let here = post_breaches scopes (post_view x) ++ broken_by v in
       rw (posts_type_push xs x (last_of e) t) (rw (posts_breaches_push xs x (last_of e) t) (
-        least_from_append o (bs ++ (before ++ here)) (int_start rank word (first_of e) (type_by v))
-        ∙ ap (λ o. least_from o (int_start rank word (first_of e) (type_by v)))
-          (ap (least_from o) (sym (append_assoc bs before here)) ∙ least_from_append o (bs ++ before) here)
+      least_from_append o (bs ++ (before ++ here)) (int_start rank word (first_of e) (type_by v))
+      ∙ ap (λ o. least_from o (int_start rank word (first_of e) (type_by v)))
+      (ap (least_from o) (sym (append_assoc bs before here)) ∙ least_from_append o (bs ++ before) here)
       ))
 
 -- ---- what an expression ends in
@@ -105,4 +105,4 @@ pub ints_step : (scopes : Scopes) (xs : List NextExprNode) (k : ℕ) (x : NextEx
     least_from p (int_breaches scopes (exprs_in (drop (k + 1) xs))) ≡ least_from o (int_breaches scopes (exprs_in (drop k xs)))
 ints_step scopes xs k x within is o p told =
     rw (drop-at xs k x within is) (ap (λ q. least_from q (int_breaches scopes (exprs_in (drop (k + 1) xs)))) told
-      ∙ sym (least_from_append o (int_told scopes (expr_view x.expr.now)) (int_breaches scopes (exprs_in (drop (k + 1) xs)))))
+    ∙ sym (least_from_append o (int_told scopes (expr_view x.expr.now)) (int_breaches scopes (exprs_in (drop (k + 1) xs)))))

@@ -1,3 +1,4 @@
 -- What serves contracts and proofs alone.
 pub mod Starts
 pub mod Told
+pub mod Assigned

@@ -153,7 +153,14 @@ fn array<'t>(
 {
     let (rank, strided) = over?.domain()?;
     let base = base_over(scopes, own, &written.over);
-    Some(ValueType::Array(written.kind, Over { rank, strided, base }))
+    Some(ValueType::Array(
+        written.kind,
+        Over {
+            rank,
+            strided,
+            base,
+        },
+    ))
 }
 
 // A number of a text as a rank.
@@ -174,7 +181,12 @@ fn domain_type<'t>(
     ensures { IfOk result (λ t. Tells (declared_type scopes.now (record { name = []; depth = 0 }) (DomainTypeTree (domain_type_view written.now))) (type_breaches scopes.now (DomainTypeTree (domain_type_view written.now))) t first.old first.new) }
 {
     let rank = natural(written.rank);
-    owed(1 <= rank && rank <= 3, written.rank_at, Code::WrongRank, first);
+    owed(
+        1 <= rank && rank <= 3,
+        written.rank_at,
+        Code::WrongRank,
+        first,
+    );
     mapped(alloc, scopes, Some(rank), &written.mapped, first)?;
     Ok(Some(ValueType::Domain {
         rank,
@@ -228,7 +240,11 @@ fn untyped<'t>(
     match written {
         Init::Item(item, map) => {
             let part = side(alloc, scopes, item, first)?;
-            let want = if map.is_none() { Want::Kept } else { Want::Domain };
+            let want = if map.is_none() {
+                Want::Kept
+            } else {
+                Want::Domain
+            };
             wanted(want, part, first);
             mapped(alloc, scopes, domain_rank(part.found), map, first)?;
             Ok(part)
@@ -342,7 +358,15 @@ fn name_type<'t>(
     let is_config = written.config.is_some();
     match &written.typed {
         None => untyped_name(alloc, scopes, is_config, &written.initial, first),
-        Some(typed) => typed_name(alloc, scopes, own, is_config, &typed.declared, &written.initial, first),
+        Some(typed) => typed_name(
+            alloc,
+            scopes,
+            own,
+            is_config,
+            &typed.declared,
+            &written.initial,
+            first,
+        ),
     }
 }
 
@@ -378,7 +402,12 @@ pub fn declaration<'t>(
         depth: scopes.depth(),
     };
     let mut apart = None;
-    owed(!scopes.declared_here(written.name.text), written.name.at, Code::NameTwice, &mut apart);
+    owed(
+        !scopes.declared_here(written.name.text),
+        written.name.at,
+        Code::NameTwice,
+        &mut apart,
+    );
     let found = name_type(alloc, scopes, origin, written, &mut apart)?;
     let value_type = if apart.is_none() { found } else { None };
     tell(first, apart);

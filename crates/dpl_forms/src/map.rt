@@ -285,7 +285,11 @@ fn start(
 {
     match written {
         Start::Expr(e) => expr_start(alloc, scopes, rank, word, e, first),
-        Start::Tuple { first: head, others, .. } => {
+        Start::Tuple {
+            first: head,
+            others,
+            ..
+        } => {
             int_in_tuple(alloc, scopes, head, first)?;
             more_ints(alloc, scopes, others, first)?;
             owed_rank(rank, others.len() + 1, word, first);

@@ -23,6 +23,6 @@ returns-clause-told c =
     let depth = ap (λ n. least_from c.owed.new.first (given_told scopes (record { name = d.name.name; depth = n }) d)) c.depth.ensures in
     c.tell.ensures
     ∙ ap (or_lesser c.args.first.now) (c.in_ok-found.ensures.1 ∙ depth
-      ∙ ap (λ o. least_from o (written ++ config)) (c.owed.ensures.1 ∙ here)
-      ∙ sym (least_from_append None twice (written ++ config)) ∙ ap (least_from None) (sym (append_assoc twice written config)))
+    ∙ ap (λ o. least_from o (written ++ config)) (c.owed.ensures.1 ∙ here)
+    ∙ sym (least_from_append None twice (written ++ config)) ∙ ap (least_from None) (sym (append_assoc twice written config)))
     ∙ told_apart c.args.first.now (declaration_breaches scopes d)

@@ -21,7 +21,7 @@ returns-in-Some c =
     c.low_of_domain.ensures
     ∙ ap (λ o. least_from o (low_told c.args.rank c.args.word d.0 d.1 c.args.ends.low.0 c.args.ends.low.1)) c.in_ok-of.ensures.1
     ∙ sym (typed_start_domain c.args.scopes.now c.args.rank c.args.word whole (low_at before c.args.ends.low) of d
-      (ap domain_in (sym c.in_ok-of.ensures.0) ∙ sym c.domain_in.ensures ∙ c.in-Some.is) c.args.first.now)
+    (ap domain_in (sym c.in_ok-of.ensures.0) ∙ sym c.domain_in.ensures ∙ c.in-Some.is) c.args.first.now)
 
 pub returns-in_ok-found-in-None : goal.returns-in_ok-found-in-None
 returns-in_ok-found-in-None c =
@@ -35,8 +35,8 @@ returns-in_ok-found-in-None c =
     let v = post_verdict scopes end x (type_of scopes before) in
     let v_is = ap (λ p. post_verdict scopes p x (of_type c.in_ok-of.of)) end_is ∙ ap (post_verdict scopes end x) c.in_ok-of.ensures.0 in
     let told = c.in_ok-found-in-None.ensures.1
-      ∙ ap (λ v. least_from c.front.new.first (post_breaches scopes x ++ broken_by v)) v_is
-      ∙ ap (λ o. least_from o (post_breaches scopes x ++ broken_by v)) c.in_ok-of.ensures.1 in
+    ∙ ap (λ v. least_from c.front.new.first (post_breaches scopes x ++ broken_by v)) v_is
+    ∙ ap (λ o. least_from o (post_breaches scopes x ++ broken_by v)) c.in_ok-of.ensures.1 in
     let found = c.in_ok-found-in-None.ensures.0 ∙ ap type_by v_is in
     c.int_start.ensures
     ∙ ap (λ at. least_from c.post.new.first (int_start c.args.rank c.args.word at (of_type c.in_ok-found-in-None.found))) c.first_of.ensures
@@ -44,4 +44,4 @@ returns-in_ok-found-in-None c =
     ∙ ap (λ o. least_from o (int_start c.args.rank c.args.word (first_of e) (type_by v))) told
     ∙ sym (plain_start_push scopes c.args.rank c.args.word e c.args.ends.behind.now c.args.ends.last.now c.args.first.now)
     ∙ ap (least_from c.args.first.now) (sym (typed_start_plain scopes c.args.rank c.args.word whole (low_at before c.args.ends.low) (type_of scopes before)
-      (ap domain_in (sym c.in_ok-of.ensures.0) ∙ sym c.domain_in.ensures ∙ c.in-None.is)))
+    (ap domain_in (sym c.in_ok-of.ensures.0) ∙ sym c.domain_in.ensures ∙ c.in-None.is)))
