@@ -1,3 +1,4 @@
 pub mod Starts
 pub mod Overs
 pub mod Apart
+pub mod Intents

@@ -2,3 +2,4 @@
 pub mod Starts
 pub mod Told
 pub mod Assigned
+pub mod Around

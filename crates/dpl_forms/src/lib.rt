@@ -2,6 +2,7 @@
 // Each function tells the breaches of its form, as dpl_rules defines them; the walk over statements is another crate's.
 #![tactic(auto)]
 
+pub mod around;
 pub mod assignment;
 pub mod declaration;
 pub mod map;
