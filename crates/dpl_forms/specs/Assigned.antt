@@ -1,13 +1,29 @@
 -- What assignments owe, part by part.
 -- Each is a part of a rule of dpl_rules.
+use Rattle.std.specs.Prelude.{false, List, ◌++◌, Option}
+use Rattle.dpl_syntax.specs.declared.refusal.Breach.{Breach}
+use Rattle.dpl_language.specs.Tree.{Placed, AssignTree, ItemTree}
+use Rattle.dpl_language.specs.Names.{Text}
 use Rattle.dpl_tree.specs.declared.statement.Element.{Element as ElementNode}
 use Rattle.dpl_tree.specs.View.{exprs_view}
-use Rattle.dpl_rules.specs.Verdicts.{Verdict, type_by, with_type}
-use Rattle.dpl_rules.specs.Sights.{Scopes, lookup}
+use Rattle.dpl_rules.specs.Verdicts.{Verdict, type_by, broken_by, with_type}
+use Rattle.dpl_rules.specs.Sights.{Scopes, lookup, type_declared, Reducing}
 use Rattle.dpl_rules.specs.Operators.{round_verdict}
-use Rattle.dpl_rules.specs.Expressions.{name_verdict, expr_parts}
+use Rattle.dpl_rules.specs.Expressions.{name_verdict, expr_parts, exprs_breaches, side_part, side_breaches}
+use Rattle.dpl_rules.specs.Assignments.{written_name, fitting_target, may_reduce_in}
 
 -- an element that is written
 abbrev pub element_verdict : Scopes → ElementNode → Verdict
 element_verdict scopes e =
     with_type (type_by (name_verdict e.name.at (lookup scopes e.name.text.now))) (round_verdict e.name.at e.from (expr_parts scopes (exprs_view e.exprs)))
+
+-- an assignment to a name, and one to an element
+abbrev pub whole_told : Scopes → Option Reducing → Placed Text → AssignTree → ItemTree Text → List Breach
+whole_told scopes forall x sign item =
+    written_name x.at (lookup scopes x.name) ++ side_breaches scopes item
+    ++ fitting_target sign (may_reduce_in forall (lookup scopes x.name)) (side_part scopes item) (type_declared (lookup scopes x.name))
+
+abbrev pub element_told : Scopes → ElementNode → AssignTree → ItemTree Text → List Breach
+element_told scopes e sign item =
+    written_name e.name.at (lookup scopes e.name.text.now) ++ (exprs_breaches scopes (exprs_view e.exprs) ++ broken_by (element_verdict scopes e))
+    ++ side_breaches scopes item ++ fitting_target sign false (side_part scopes item) (type_by (element_verdict scopes e))

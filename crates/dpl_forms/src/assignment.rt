@@ -1,22 +1,24 @@
 // Assignments: what is written, and what it takes.
 // C3 stands at the first token of a right side behind `=`, and at the operator behind the others.
 
-ghost use Rattle.std.specs.Prelude.{◌≡◌, ◌++◌, ◌&&◌, option_map, IfOk, OnOk};
+ghost use Rattle.std.specs.Prelude.{◌≡◌, ◌++◌, ◌&&◌, Bool, option_map, IfOk, OnOk};
 ghost use Rattle.dpl_tree.specs.Words.{kind_view, assign_view};
 ghost use Rattle.dpl_tree.specs.View.{item_view, exprs_view, name_view};
 ghost use Rattle.dpl_tree.specs.Statements.{target_view, sign_view};
 ghost use Rattle.dpl_rules.specs.Breaches.{least_from};
 ghost use Rattle.dpl_rules.specs.Types.{has, is_cell as is_cell_type};
 ghost use Rattle.dpl_rules.specs.Verdicts.{type_by, broken_by, wanted as wanted_of, owed_type};
-ghost use Rattle.dpl_rules.specs.Sights.{Reducing, lookup, is_reduced as is_reduced_of};
+ghost use Rattle.dpl_rules.specs.Sights.{type_declared};
 ghost use Rattle.dpl_rules.specs.Expressions.{side_part, side_breaches, exprs_breaches};
 ghost use Rattle.dpl_rules.specs.Assignments.{written_name as written_name_of, set_breaches, change_breaches, reduce_breaches, fitting as fitting_of, fitting_target as fitting_target_of, is_int_kind, may_reduce_in, assignment_breaches};
 ghost use Rattle.dpl_types.specs.View.{type_view, of_type, part_view};
 ghost use Rattle.dpl_types.specs.Wants.{takes};
 ghost use Rattle.dpl_scopes.specs.View.{declared_view};
 ghost use Rattle.dpl_typing.specs.Told.{Tells};
-ghost use Rattle.dpl_forms.specs.Assigned.{element_verdict};
+ghost use Rattle.dpl_forms.specs.Around.{reducing_view};
+ghost use Rattle.dpl_forms.specs.Assigned.{element_verdict, whole_told, element_told};
 
+use crate::around::{Reducing, may_reduce};
 use crate::side::side;
 use dpl_scopes::{Declared, Scopes};
 use dpl_syntax::{Breach, Code, Place};
@@ -157,4 +159,68 @@ fn element<'t>(
     let mut untold = None;
     let array = named(scopes, &written.name, &mut untold);
     Ok(round(written.name.at, written.from, &parts, array, first))
+}
+
+// An assignment to a name.
+#[tactic(auto, using(dpl_types::proofs::Breaches::least_from_append))]
+fn to_name<'t>(
+    alloc: Global,
+    scopes: &Scopes<'t>,
+    around: &Option<Reducing<'_>>,
+    name: &Name<'_>,
+    written: &Assignment<'_>,
+    first: &mut Option<Breach>,
+) -> Result<(), AllocError>
+    ensures { OnOk result (first.new ≡ least_from first.old (whole_told scopes.now (option_map reducing_view around.now) (name_view name.now) (sign_view written.now.sign) (item_view written.now.value))) }
+{
+    let declared = scopes.lookup(name.text);
+    written_name(name.at, declared, first);
+    let part = side(alloc, scopes, &written.value, first)?;
+    let may_reduce = may_reduce(around, &declared);
+    fitting(&written.sign, may_reduce, part, type_in(declared), first);
+    Ok(())
+}
+
+// The type of a declaration, if it is there and has one.
+fn type_in<'t>(declared: Option<Declared<'t>>) -> Option<ValueType<'t>>
+    ensures { of_type result ≡ type_declared (option_map declared_view declared.entry) }
+{
+    declared?.value_type
+}
+
+// An assignment to an element.
+#[tactic(auto, using(dpl_types::proofs::Breaches::least_from_append))]
+fn to_element<'t>(
+    alloc: Global,
+    scopes: &Scopes<'t>,
+    target: &Element<'_>,
+    written: &Assignment<'_>,
+    first: &mut Option<Breach>,
+) -> Result<(), AllocError>
+    ensures { OnOk result (first.new ≡ least_from first.old (element_told scopes.now target.now (sign_view written.now.sign) (item_view written.now.value))) }
+{
+    written_name(target.name.at, scopes.lookup(target.name.text), first);
+    let found = element(alloc, scopes, target, first)?;
+    let part = side(alloc, scopes, &written.value, first)?;
+    fitting(&written.sign, false, part, found, first);
+    Ok(())
+}
+
+/// An assignment, in the forall around it if there is one.
+///
+/// # Errors
+/// Out of memory; of what was told then nothing is said.
+pub fn assignment<'t>(
+    alloc: Global,
+    scopes: &Scopes<'t>,
+    around: &Option<Reducing<'_>>,
+    written: &Assignment<'_>,
+    first: &mut Option<Breach>,
+) -> Result<(), AllocError>
+    ensures { (in_task : Bool) → OnOk result (first.new ≡ least_from first.old (assignment_breaches (record { scopes = scopes.now; forall = option_map reducing_view around.now; in_task = in_task }) (target_view written.now.target) (sign_view written.now.sign) (item_view written.now.value))) }
+{
+    match &written.target {
+        Target::Whole(name) => to_name(alloc, scopes, around, name, written, first),
+        Target::Element(target) => to_element(alloc, scopes, target, written, first),
+    }
 }
