@@ -3,3 +3,4 @@ pub mod Starts
 pub mod Told
 pub mod Assigned
 pub mod Around
+pub mod Called

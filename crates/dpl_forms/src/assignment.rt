@@ -80,8 +80,8 @@ fn set(at: Place, side: Part<'_>, target: ValueType<'_>, first: &mut Option<Brea
     }
 }
 
-// A part of the wanted type, where it has one.
-fn tell_wanted(want: Want<'_>, part: Part<'_>, first: &mut Option<Breach>)
+/// A part of the wanted type, where it has one.
+pub(crate) fn tell_wanted(want: Want<'_>, part: Part<'_>, first: &mut Option<Breach>)
     ensures { first.new ≡ least_from first.old (wanted_of (takes want.entry) (part_view part.entry)) }
 {
     wanted(want, part, first);

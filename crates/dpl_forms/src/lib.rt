@@ -4,6 +4,7 @@
 
 pub mod around;
 pub mod assignment;
+pub mod call;
 pub mod declaration;
 pub mod map;
 pub mod side;
