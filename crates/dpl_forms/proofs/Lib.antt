@@ -2,3 +2,4 @@ pub mod Starts
 pub mod Overs
 pub mod Apart
 pub mod Intents
+pub mod Printing

@@ -4,3 +4,4 @@ pub mod Told
 pub mod Assigned
 pub mod Around
 pub mod Called
+pub mod Printed

@@ -7,4 +7,5 @@ pub mod assignment;
 pub mod call;
 pub mod declaration;
 pub mod map;
+pub mod print;
 pub mod side;
