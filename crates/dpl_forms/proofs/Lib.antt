@@ -3,3 +3,4 @@ pub mod Overs
 pub mod Apart
 pub mod Intents
 pub mod Printing
+pub mod Heads

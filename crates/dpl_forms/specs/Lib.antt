@@ -5,3 +5,4 @@ pub mod Assigned
 pub mod Around
 pub mod Called
 pub mod Printed
+pub mod Heads

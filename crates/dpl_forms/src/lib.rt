@@ -6,6 +6,7 @@ pub mod around;
 pub mod assignment;
 pub mod call;
 pub mod declaration;
+pub mod head;
 pub mod map;
 pub mod print;
 pub mod side;

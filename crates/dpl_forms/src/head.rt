@@ -1,0 +1,184 @@
+// What loops run over, and their variables.
+// A coforall runs over a range or `Locales`, a forall over a range or a domain, a `for` over all three.
+
+ghost use Rattle.std.specs.Prelude.{◌≡◌, ◌++◌, IfOk};
+ghost use Rattle.dpl_tree.specs.View.{item_view};
+ghost use Rattle.dpl_tree.specs.Statements.{variables_view};
+ghost use Rattle.dpl_rules.specs.Breaches.{least_from};
+ghost use Rattle.dpl_rules.specs.Places.{first_of_variables as first_of_tree};
+ghost use Rattle.dpl_rules.specs.Loops.{over_domains as over_domains_of, over_locales as over_locales_of, runs_over as runs_over_of, turn_rank as turn_rank_of, one_type as one_type_of, fits_variables, typed_variable, header_of as header_of_loop, over_type, over_breaches};
+ghost use Rattle.dpl_types.specs.View.{type_view, of_type};
+ghost use Rattle.dpl_typing.specs.Told.{Tells};
+ghost use Rattle.dpl_forms.specs.Heads.{word_view};
+
+use dpl_scopes::Scopes;
+use dpl_syntax::{Breach, Code, Place};
+use dpl_tree::{Item, ScalarKind, Variables};
+use dpl_types::{ValueType, note, owed};
+use dpl_typing::expression::{Judged, base, item};
+use dpl_typing::place::first_of_item;
+use std::alloc::Global;
+
+/// Which loop over indices.
+#[derive(Clone, Copy)]
+pub enum LoopWord {
+    For,
+    Forall,
+    Coforall,
+}
+
+// Whether a loop may run over a domain.
+fn over_domains(word: LoopWord) -> bool
+    ensures { result ≡ over_domains_of (word_view word) }
+{
+    match word {
+        LoopWord::For | LoopWord::Forall => true,
+        LoopWord::Coforall => false,
+    }
+}
+
+// Whether a loop may run over the locales.
+fn over_locales(word: LoopWord) -> bool
+    ensures { result ≡ over_locales_of (word_view word) }
+{
+    match word {
+        LoopWord::For | LoopWord::Coforall => true,
+        LoopWord::Forall => false,
+    }
+}
+
+// Whether a loop runs over what has a type.
+fn runs_over(word: LoopWord, t: ValueType<'_>) -> bool
+    ensures { result ≡ runs_over_of (word_view word) (type_view t.entry) }
+{
+    t.is_range() || (over_domains(word) && t.is_domain()) || (over_locales(word) && t.is_all_locales())
+}
+
+// How many ints a turn gives: as many as a domain's rank, and one otherwise.
+fn turn_rank(t: ValueType<'_>) -> usize
+    ensures { result ≡ turn_rank_of (type_view t.entry) }
+{
+    match t {
+        ValueType::Domain { rank, .. } => rank,
+        ValueType::Scalar(_)
+        | ValueType::Range { .. }
+        | ValueType::Array(_, _)
+        | ValueType::Promoted(_, _)
+        | ValueType::Tuple(_)
+        | ValueType::Locale
+        | ValueType::AllLocales
+        | ValueType::Cell(_) => 1,
+    }
+}
+
+// The type of a single variable: a locale, an int or a tuple name.
+fn one_type<'t>(t: ValueType<'t>) -> ValueType<'t>
+    ensures { type_view result ≡ one_type_of (type_view t.entry) }
+{
+    if t.is_all_locales() {
+        ValueType::Locale
+    } else if turn_rank(t) == 1 {
+        ValueType::Scalar(ScalarKind::Int)
+    } else {
+        ValueType::Tuple(turn_rank(t))
+    }
+}
+
+// Whether there are as many variables as a turn gives ints, or one.
+#[tactic(auto, using(crate::proofs::Heads::names_next, crate::proofs::Heads::length_names_in))]
+fn fits(variables: &Variables<'_>, t: ValueType<'_>) -> bool
+    ensures { result ≡ fits_variables (variables_view variables.now) (type_view t.entry) }
+{
+    match variables {
+        Variables::One(_) => true,
+        Variables::Many { others, .. } => others.len() + 1 == turn_rank(t),
+    }
+}
+
+// The first token of a loop's variables.
+fn first_of_variables(variables: &Variables<'_>) -> Place
+    ensures { result ≡ first_of_tree (variables_view variables.now) }
+{
+    match variables {
+        Variables::One(name) => name.at,
+        Variables::Many { from, .. } => *from,
+    }
+}
+
+// What a loop runs over: the word `Locales` by itself, or an item.
+fn over<'t>(
+    alloc: Global,
+    scopes: &Scopes<'t>,
+    written: &Item<'_>,
+    first: &mut Option<Breach>,
+) -> Judged<'t>
+    ensures { IfOk result (λ t. Tells (over_type scopes.now (item_view written.now)) (over_breaches scopes.now (item_view written.now)) t first.old first.new) }
+{
+    match written {
+        Item::One(e) => base(alloc, scopes, e, first),
+        Item::Range(_) => item(alloc, scopes, written, first),
+    }
+}
+
+// The loop runs over that, with as many variables as its rank or one.
+fn header(
+    word: LoopWord,
+    variables: &Variables<'_>,
+    written: &Item<'_>,
+    found: Option<ValueType<'_>>,
+    first: &mut Option<Breach>,
+)
+    ensures { first.new ≡ least_from first.old (header_of_loop (word_view word) (variables_view variables.now) (item_view written.now) (of_type found.entry)) }
+{
+    if let Some(t) = found {
+        if runs_over(word, t) {
+            owed(fits(variables, t), first_of_variables(variables), Code::WrongRank, first);
+        } else {
+            note(first, first_of_item(written), Code::WrongType);
+        }
+    }
+}
+
+// The type of the variables, by what the loop runs over.
+fn variable_type<'t>(
+    word: LoopWord,
+    variables: &Variables<'_>,
+    found: Option<ValueType<'t>>,
+) -> Option<ValueType<'t>>
+    ensures { of_type result ≡ typed_variable (word_view word) (variables_view variables.now) (of_type found.entry) }
+{
+    let t = found?;
+    if !runs_over(word, t) {
+        return None;
+    }
+    match variables {
+        Variables::One(_) => Some(one_type(t)),
+        Variables::Many { .. } => {
+            if fits(variables, t) {
+                Some(ValueType::Scalar(ScalarKind::Int))
+            } else {
+                None
+            }
+        }
+    }
+}
+
+/// What a loop runs over and whether its variables fit that: the type of these.
+///
+/// # Errors
+/// Out of memory; of what was told then nothing is said.
+#[tactic(auto, using(dpl_types::proofs::Breaches::least_from_append))]
+pub fn head<'t>(
+    alloc: Global,
+    scopes: &Scopes<'t>,
+    word: LoopWord,
+    variables: &Variables<'_>,
+    written: &Item<'_>,
+    first: &mut Option<Breach>,
+) -> Judged<'t>
+    ensures { IfOk result (λ t. Tells (typed_variable (word_view word) (variables_view variables.now) (over_type scopes.now (item_view written.now))) (over_breaches scopes.now (item_view written.now) ++ header_of_loop (word_view word) (variables_view variables.now) (item_view written.now) (over_type scopes.now (item_view written.now))) t first.old first.new) }
+{
+    let found = over(alloc, scopes, written, first)?;
+    header(word, variables, written, found, first);
+    Ok(variable_type(word, variables, found))
+}
