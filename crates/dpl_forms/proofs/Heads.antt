@@ -1,6 +1,6 @@
 -- The variables of loops, one by one.
 -- Their names are those of the first and of the ones behind commas.
-use Rattle.std.proofs.Common.{◌≡◌, ◌+◌, suc, List, [], ◌∷◌, length, map, refl, ap}
+use Rattle.std.proofs.Common.{◌≡◌, suc, List, [], ◌∷◌, length, map, refl, ap}
 use Rattle.dpl_language.specs.Tree.{AfterComma, Placed}
 use Rattle.dpl_language.specs.Names.{Text}
 use Rattle.dpl_tree.specs.declared.statement.NextName.{NextName}

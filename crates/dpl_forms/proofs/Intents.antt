@@ -1,6 +1,6 @@
 -- Intents of a loop, one by one.
 -- A name is reduced by a list of intents where one of them reduces it.
-use Rattle.std.proofs.Common.{◌≡◌, Bool, true, false, if◌then◌else◌, ◌||◌, List, [], ◌∷◌, ◌++◌, map, refl, ap}
+use Rattle.std.proofs.Common.{◌≡◌, Bool, true, false, if◌then◌else◌, ◌||◌, List, [], ◌∷◌, map, refl, ap}
 use Rattle.std.specs.Prelude.{bytes_eq}
 use Rattle.dpl_language.specs.Tree.{AfterComma, IntentTree, ReduceIntent, RefIntent}
 use Rattle.dpl_language.specs.Names.{Text}

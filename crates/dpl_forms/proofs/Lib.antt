@@ -4,3 +4,4 @@ pub mod Apart
 pub mod Intents
 pub mod Printing
 pub mod Heads
+pub mod Once

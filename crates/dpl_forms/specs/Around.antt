@@ -1,6 +1,6 @@
 -- The forall around a statement, as the code keeps it and as the rules see it.
 -- Its reduce variables are those of its intents.
-use Rattle.std.specs.Prelude.{ℕ, List, [], ◌∷◌, Option}
+use Rattle.std.specs.Prelude.{List, [], ◌∷◌}
 use Rattle.dpl_language.specs.Tree.{IntentTree}
 use Rattle.dpl_language.specs.Names.{Text}
 use Rattle.dpl_language.specs.Phrases.{intents_of}

@@ -99,8 +99,19 @@ pub fn call<'t>(
     ensures { (forall : Option ReducingTree) (in_task : Bool) → OnOk result (first.new ≡ least_from first.old (call_breaches (sight_of scopes.now forall in_task) (name_view written.now.name) (call_view written.now.call))) }
 {
     let word = word_of(&written.call);
-    called_name(written.name.at, word, scopes.lookup(written.name.text), first);
-    call_argument(alloc, scopes, cell_kind(scopes, &written.name), &written.call, first)
+    called_name(
+        written.name.at,
+        word,
+        scopes.lookup(written.name.text),
+        first,
+    );
+    call_argument(
+        alloc,
+        scopes,
+        cell_kind(scopes, &written.name),
+        &written.call,
+        first,
+    )
 }
 
 /// The condition of an `if` or a `while`: a bool.

@@ -51,7 +51,9 @@ fn over_locales(word: LoopWord) -> bool
 fn runs_over(word: LoopWord, t: ValueType<'_>) -> bool
     ensures { result ≡ runs_over_of (word_view word) (type_view t.entry) }
 {
-    t.is_range() || (over_domains(word) && t.is_domain()) || (over_locales(word) && t.is_all_locales())
+    t.is_range()
+        || (over_domains(word) && t.is_domain())
+        || (over_locales(word) && t.is_all_locales())
 }
 
 // How many ints a turn gives: as many as a domain's rank, and one otherwise.
@@ -132,7 +134,12 @@ fn header(
 {
     if let Some(t) = found {
         if runs_over(word, t) {
-            owed(fits(variables, t), first_of_variables(variables), Code::WrongRank, first);
+            owed(
+                fits(variables, t),
+                first_of_variables(variables),
+                Code::WrongRank,
+                first,
+            );
         } else {
             note(first, first_of_item(written), Code::WrongType);
         }

@@ -10,3 +10,4 @@ pub mod head;
 pub mod map;
 pub mod print;
 pub mod side;
+pub mod variables;

@@ -1,0 +1,14 @@
+use Rattle.std.proofs.Common.{◌≡◌, drop}
+use Rattle.dpl_rules.specs.Breaches.{least_from}
+use Rattle.dpl_rules.specs.Loops.{add_variables, each_once}
+use Rattle.dpl_types.specs.View.{of_type}
+use Rattle.dpl_forms.specs.Heads.{names_in}
+use Rattle.dpl_forms.proofs.variables.more_variables.Given as goal
+
+-- what is left declares and tells what all declared and told at first
+abbrev pub invariant-loop-next : goal.invariant-loop-next
+invariant-loop-next l =
+    let left = names_in (drop l.next-index l.others) in
+    let all = names_in l.others in
+    (add_variables (of_type l.found) left l.scopes ≡ add_variables (of_type l.found) all l.initial.scopes)
+    × (least_from l.first (each_once l.scopes left) ≡ least_from l.initial.first (each_once l.initial.scopes all))
