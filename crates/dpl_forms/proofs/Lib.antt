@@ -1,7 +1,8 @@
 pub mod Starts
 pub mod Overs
 pub mod Apart
-pub mod Intents
+pub mod Reduced
 pub mod Printing
 pub mod Heads
 pub mod Once
+pub mod Seen

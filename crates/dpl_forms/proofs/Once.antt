@@ -24,7 +24,7 @@ variable t x ss = add (record { origin = origin_in ss x.name; sort = LoopVariabl
 abbrev Same : Scopes → Scopes → Type 0
 Same ss us = (x : Text) → declared_here ss x ≡ declared_here us x
 
-declared_here_add : (d : Declared) (ss : Scopes) (x : Text) → declared_here (add d ss) x ≡ (bytes_eq x d.origin.name || declared_here ss x)
+pub declared_here_add : (d : Declared) (ss : Scopes) (x : Text) → declared_here (add d ss) x ≡ (bytes_eq x d.origin.name || declared_here ss x)
 declared_here_add d [] x = by_test (bytes_eq x d.origin.name)
   where
     by_test : (b : Bool) → is_some (if b then Some d else None) ≡ (b || false)

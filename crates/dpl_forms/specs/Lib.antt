@@ -6,3 +6,4 @@ pub mod Around
 pub mod Called
 pub mod Printed
 pub mod Heads
+pub mod Seen

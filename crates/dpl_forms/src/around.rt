@@ -30,7 +30,7 @@ fn is_reduce_of(intent: &Intent<'_>, name: &[u8]) -> bool
 }
 
 // Whether further intents do.
-#[tactic(auto, using(crate::proofs::Intents::reduces_next))]
+#[tactic(auto, using(crate::proofs::Reduced::reduces_next))]
 fn is_reduced_by_others(others: &[NextIntent<'_>], name: &[u8]) -> bool
     ensures { result ≡ reduces_of (reduce_intents (intents_in others.now)) name.now }
 {
@@ -43,7 +43,7 @@ fn is_reduced_by_others(others: &[NextIntent<'_>], name: &[u8]) -> bool
 }
 
 // Whether a list of intents does.
-#[tactic(auto, using(crate::proofs::Intents::reduces_next, crate::proofs::Intents::parts_next))]
+#[tactic(auto, using(crate::proofs::Reduced::reduces_next, crate::proofs::Reduced::parts_next))]
 fn is_reduced_by(with: &Option<With<'_>>, name: &[u8]) -> bool
     ensures { result ≡ reduces_of (reducing_view (record { depth = 0; with = with.now })).variables name.now }
 {

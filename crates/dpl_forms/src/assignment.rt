@@ -49,8 +49,8 @@ pub fn written_name(at: Place, declared: Option<Declared<'_>>, first: &mut Optio
     }
 }
 
-// Whether a name has the type of a cell.
-fn is_cell(t: Option<ValueType<'_>>) -> bool
+/// Whether a name has the type of a cell.
+pub(crate) fn is_cell(t: Option<ValueType<'_>>) -> bool
     ensures { result ≡ has is_cell_type (of_type t.entry) }
 {
     match t {

@@ -7,6 +7,7 @@ pub mod assignment;
 pub mod call;
 pub mod declaration;
 pub mod head;
+pub mod intents;
 pub mod map;
 pub mod print;
 pub mod side;
