@@ -1,9 +1,17 @@
 // Deeds: the names and elements that a text reads and writes, and what it holds.
 // specs/View.antt gives the deed of the language's check that each stands for.
 
+ghost use Rattle.std.specs.Prelude.{OnOk, [], ◌∷◌};
+ghost use Rattle.dpl_rules.specs.Deeds.{held as held_of, held_if as held_if_of};
+ghost use Rattle.dpl_deeds.specs.View.{holding_view, deed_view, Adds};
+
 use dpl_scopes::Declared;
 use dpl_syntax::Place;
 use dpl_tree::Assign;
+use std::alloc::AllocError;
+
+/// Deeds were put behind those in a list, or out of memory.
+pub type Added = Result<(), AllocError>;
 
 /// An index of an element, as far as the text tells it.
 #[derive(Clone, Copy)]
@@ -48,4 +56,39 @@ pub enum Deed<'t> {
     WritesAt(Place, Declared<'t>, &'t [IndexPart<'t>], Assign),
     /// The text holds something.
     Holds(Place, Holding),
+}
+
+/// Puts a deed behind those in a list.
+///
+/// # Errors
+/// Out of memory; of the list then nothing is said.
+pub fn put<'t>(deed: Deed<'t>, deeds: &mut Vec<Deed<'t>>) -> Added
+    ensures { OnOk result (Adds (deed_view deed.entry ∷ []) deeds.old.items deeds.new.items) }
+{
+    deeds.push(deed)?;
+    Ok(())
+}
+
+/// The text holds something.
+///
+/// # Errors
+/// Out of memory; of the list then nothing is said.
+pub fn held(at: Place, holding: Holding, deeds: &mut Vec<Deed<'_>>) -> Added
+    ensures { OnOk result (Adds (held_of at (holding_view holding)) deeds.old.items deeds.new.items) }
+{
+    put(Deed::Holds(at, holding), deeds)
+}
+
+/// The text holds something where a test holds.
+///
+/// # Errors
+/// Out of memory; of the list then nothing is said.
+pub fn held_if(holds: bool, at: Place, holding: Holding, deeds: &mut Vec<Deed<'_>>) -> Added
+    ensures { OnOk result (Adds (held_if_of holds at (holding_view holding)) deeds.old.items deeds.new.items) }
+{
+    if holds {
+        held(at, holding, deeds)
+    } else {
+        Ok(())
+    }
 }

@@ -3,8 +3,9 @@
 #![tactic(auto)]
 
 mod deed;
+pub mod expression;
 mod index;
 mod name;
 mod whole;
 
-pub use deed::{Deed, Holding, IndexPart};
+pub use deed::{Added, Deed, Holding, IndexPart, held, held_if};
