@@ -362,9 +362,12 @@ pub fn exprs_deeds<'t>(
     more_exprs_deeds(arena, scopes, inner, exprs.others, deeds)
 }
 
-// What further expressions do.
+/// What further expressions between commas do.
+///
+/// # Errors
+/// Out of memory; of the list then nothing is said.
 #[cycle(expression)]
-fn more_exprs_deeds<'t>(
+pub fn more_exprs_deeds<'t>(
     arena: Arena<'t>,
     scopes: &Scopes<'t>,
     inner: bool,

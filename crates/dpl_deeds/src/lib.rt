@@ -2,10 +2,12 @@
 // Each function puts the deeds of its part behind those that stand in the list.
 #![tactic(auto)]
 
+pub mod declaration;
 mod deed;
 pub mod expression;
-mod index;
-mod name;
-mod whole;
+pub mod index;
+pub mod name;
+pub mod statement;
+pub mod whole;
 
 pub use deed::{Added, Deed, Holding, IndexPart, held, held_if};
