@@ -1,0 +1,2 @@
+pub mod Intents
+pub mod Rules

@@ -1,0 +1,10 @@
+use Rattle.std.proofs.Common.{◌≡◌, map, drop}
+use Rattle.dpl_rules.specs.Breaches.{least_from}
+use Rattle.dpl_deeds.specs.View.{deed_view}
+use Rattle.dpl_rules.specs.Bodies.{task_breaches as task_breaches_of}
+use Rattle.dpl_bodies.proofs.task.task_breaches.Given as goal
+
+-- what is left to tell from here is what was to tell at first
+abbrev pub invariant-loop-deed : goal.invariant-loop-deed
+invariant-loop-deed l =
+    least_from l.first (task_breaches_of l.depth (map deed_view (drop l.deed-index l.deeds))) ≡ least_from l.initial.first (task_breaches_of l.depth (map deed_view l.deeds))

@@ -1,0 +1,4 @@
+-- What serves contracts and proofs alone.
+pub mod View
+pub mod Intents
+pub mod Promoted

@@ -1,0 +1,124 @@
+// The rules C7 and C9 outside of loops' bodies: of promoted assignments, and of reductions in promoted expressions.
+// A promoted assignment doesn't read its target by an index list.
+
+ghost use Rattle.std.specs.Prelude.{◌≡◌, map, option_map};
+ghost use Rattle.dpl_tree.specs.View.{item_view};
+ghost use Rattle.dpl_tree.specs.Statements.{target_view};
+ghost use Rattle.dpl_rules.specs.Bodies.{not_inner as not_inner_of, inner_reduction as inner_reduction_of, inner_reductions as inner_reductions_of, element_read as element_read_of, each, whole_target as whole_target_of};
+ghost use Rattle.dpl_rules.specs.Breaches.{least_from};
+ghost use Rattle.dpl_types.specs.View.{origin_view};
+ghost use Rattle.dpl_scopes.specs.View.{declared_view};
+ghost use Rattle.dpl_deeds.specs.View.{holding_view, deed_view};
+ghost use Rattle.dpl_bodies.specs.Promoted.{promoted_by};
+
+use dpl_deeds::name::is_array;
+use dpl_deeds::whole::is_whole_item;
+use dpl_deeds::{Deed, Holding};
+use dpl_scopes::{Declared, Scopes};
+use dpl_syntax::{Breach, Code};
+use dpl_tree::{Item, Target};
+use dpl_types::{Origin, owed};
+
+// Whether it is anything but a reduction in a promoted expression or in a map's argument.
+fn not_inner(holding: Holding) -> bool
+    ensures { result ≡ not_inner_of (holding_view holding) }
+{
+    match holding {
+        Holding::InnerReduction => false,
+        Holding::Print
+        | Holding::Forall
+        | Holding::Coforall
+        | Holding::Reduction
+        | Holding::CellCall
+        | Holding::On
+        | Holding::Here
+        | Holding::Declaration
+        | Holding::ReduceIntent => true,
+    }
+}
+
+// C9: no reduction stands in a promoted expression or in a map's argument.
+fn inner_reduction(deed: &Deed<'_>, first: &mut Option<Breach>)
+    ensures { first.new ≡ least_from first.old (inner_reduction_of (deed_view deed.now)) }
+{
+    match deed {
+        Deed::Holds(at, holding) => {
+            owed(not_inner(*holding), *at, Code::NotInForall, first);
+        }
+        Deed::Reads(_, _)
+        | Deed::ReadsAt(_, _, _)
+        | Deed::Writes(_, _, _)
+        | Deed::WritesAt(_, _, _, _) => {}
+    }
+}
+
+/// Tells each reduction in a promoted expression or in a map's argument.
+#[tactic(auto, using(dpl_types::proofs::Breaches::least_from_append))]
+pub fn inner_reductions(deeds: &[Deed<'_>], first: &mut Option<Breach>)
+    ensures { first.new ≡ least_from first.old (inner_reductions_of (map deed_view deeds.now)) }
+{
+    for deed in deeds {
+        inner_reduction(deed, first);
+    }
+}
+
+// C7: a promoted assignment doesn't read an element of its target.
+fn element_read(target: Origin<'_>, deed: &Deed<'_>, first: &mut Option<Breach>)
+    ensures { first.new ≡ least_from first.old (element_read_of (origin_view target.entry) (deed_view deed.now)) }
+{
+    match deed {
+        Deed::ReadsAt(at, declared, _) => {
+            owed(
+                !target.is_same(declared.origin),
+                *at,
+                Code::ReadElsewhere,
+                first,
+            );
+        }
+        Deed::Reads(_, _)
+        | Deed::Writes(_, _, _)
+        | Deed::WritesAt(_, _, _, _)
+        | Deed::Holds(_, _) => {}
+    }
+}
+
+// What the deeds of the right side break, by the target.
+#[tactic(auto, using(dpl_types::proofs::Breaches::least_from_append))]
+fn elements_read(target: Origin<'_>, deeds: &[Deed<'_>], first: &mut Option<Breach>)
+    ensures { first.new ≡ least_from first.old (each (element_read_of (origin_view target.entry)) (map deed_view deeds.now)) }
+{
+    for deed in deeds {
+        element_read(target, deed, first);
+    }
+}
+
+// The same of a target that may not be known, or be no array.
+fn whole_target(declared: Option<Declared<'_>>, deeds: &[Deed<'_>], first: &mut Option<Breach>)
+    ensures { first.new ≡ least_from first.old (whole_target_of (option_map declared_view declared.entry) (map deed_view deeds.now)) }
+{
+    if let Some(declared) = declared {
+        if is_array(declared.value_type) {
+            elements_read(declared.origin, deeds, first);
+        }
+    }
+}
+
+/// Tells what an assignment breaks as a promoted one, by the deeds of its right side.
+pub fn promoted_breaches(
+    scopes: &Scopes<'_>,
+    target: &Target<'_>,
+    value: &Item<'_>,
+    deeds: &[Deed<'_>],
+    first: &mut Option<Breach>,
+)
+    ensures { first.new ≡ least_from first.old (promoted_by scopes.now (target_view target.now) (item_view value.now) (map deed_view deeds.now)) }
+{
+    match target {
+        Target::Whole(name) => {
+            if is_whole_item(scopes, value) {
+                whole_target(scopes.lookup(name.text), deeds, first);
+            }
+        }
+        Target::Element(_) => {}
+    }
+}
