@@ -1,5 +1,5 @@
 -- Chains as indices: one of three operands or more is none.
-use Rattle.std.proofs.Common.{◌≡◌, ◌≤◌, List, [], ◌∷◌, length, refl, sym, arith}
+use Rattle.std.proofs.Common.{◌≡◌, ◌≤◌, List, [], ◌∷◌, length, refl, arith}
 use Rattle.dpl_language.specs.Tree.{ExprTree, Chain}
 use Rattle.dpl_language.specs.Names.{Text}
 use Rattle.dpl_tree.specs.declared.expression.Link.{Link as LinkNode}

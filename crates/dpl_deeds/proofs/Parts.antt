@@ -1,6 +1,6 @@
 -- Lists with commas: what they do is what their first part does, and then what the others do.
 -- Each has the deeds of a whole list on its left side.
-use Rattle.std.proofs.Common.{◌≡◌, ◌++◌, Bool, false, List, [], ◌∷◌, map, refl, sym, ap, append_assoc}
+use Rattle.std.proofs.Common.{◌≡◌, ◌++◌, Bool, false, List, [], ◌∷◌, map, refl, sym, ap}
 use Rattle.std.proofs.lemmas.List.{append-nil}
 use Rattle.dpl_language.specs.Tree.{AfterComma, ExprTree, IntentTree, ReduceIntent, RefIntent, ArgumentTree, TextArgument, ExprArgument}
 use Rattle.dpl_language.specs.Names.{Text}

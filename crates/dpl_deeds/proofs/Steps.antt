@@ -1,6 +1,6 @@
 -- One step of a walk along the parts of a node: what is left behind it gives the rest.
 -- Each is stated of the list of parts and a place in it.
-use Rattle.std.proofs.Common.{◌≡◌, ◌++◌, List, sym, ap, ◌∙◌, append_assoc}
+use Rattle.std.proofs.Common.{◌≡◌, ◌++◌, List, ap, ◌∙◌, append_assoc}
 use Rattle.dpl_rules.specs.Deeds.{Deed}
 
 -- deeds that were added, and those that are left
