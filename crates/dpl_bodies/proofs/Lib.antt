@@ -1,2 +1,4 @@
 pub mod Intents
-pub mod Rules
+pub mod Promoted
+pub mod Members
+pub mod Keys

@@ -2,3 +2,4 @@
 pub mod View
 pub mod Intents
 pub mod Promoted
+pub mod Written

@@ -1,78 +1,62 @@
 // The rules on the body of a forall, C6 to C9, deed by deed.
 // An outer array that it writes stands at the forall's own index wherever it is written or read.
 
-ghost use Rattle.std.specs.Prelude.{◌≡◌, ◌++◌, [], ◌∷◌, IfOk, OnOk, OnErr, map};
-ghost use Rattle.dpl_rules.specs.Bodies.{is_in as is_in_of, written_by as written_by_of, written_arrays as written_arrays_of, write_breaches as write_breaches_of, read_breaches as read_breaches_of, change_breaches as change_breaches_of, forall_holds as forall_holds_of, holding_breaches as holding_breaches_of, deed_breaches as deed_breaches_of, each, forall_breaches as forall_breaches_of};
+ghost use Rattle.std.specs.Prelude.{◌≡◌, [], IfOk, OnOk, OnErr, map};
+ghost use Rattle.dpl_rules.specs.Bodies.{write_breaches as write_breaches_of, read_breaches as read_breaches_of, change_breaches as change_breaches_of, forall_holds as forall_holds_of, holding_breaches as holding_breaches_of, deed_breaches as deed_breaches_of, each, forall_breaches as forall_breaches_of};
 ghost use Rattle.dpl_rules.specs.Breaches.{least_from};
-ghost use Rattle.dpl_types.specs.View.{origin_view};
 ghost use Rattle.dpl_scopes.specs.View.{declared_view};
 ghost use Rattle.dpl_deeds.specs.View.{holding_view, deed_view};
 ghost use Rattle.dpl_bodies.specs.View.{turns_view};
+ghost use Rattle.dpl_bodies.specs.Written.{with_outer, with_written, all_written as all_written_of};
 
 use crate::turns::Turns;
+use crate::written::Written;
 use dpl_deeds::{Deed, Holding};
 use dpl_scopes::Declared;
 use dpl_syntax::{Breach, Code};
-use dpl_types::{Origin, owed};
+use dpl_types::owed;
 use std::alloc::{AllocError, Global};
 
-// Whether a declaration is among these.
-fn is_in(origin: Origin<'_>, origins: &[Origin<'_>]) -> bool
-    ensures { result ≡ is_in_of (origin_view origin.entry) (map origin_view origins.now) }
-{
-    for other in origins {
-        if origin.is_same(*other) {
-            return true;
-        }
-    }
-    false
-}
-
-// A name that is written: an outer array is put behind those so far.
+// A name that is written: an outer array is put among those so far.
 fn put_outer<'t>(
     turns: &Turns<'_>,
     declared: Declared<'t>,
-    written: &mut Vec<Origin<'t>>,
+    written: &mut Written<'t>,
 ) -> Result<(), AllocError>
-    ensures { OnOk result (map origin_view written.new.items ≡ map origin_view written.old.items ++ written_by_of (turns_view turns.now) (declared_view declared.entry)) }
+    ensures { OnOk result (written.new ≡ with_outer (turns_view turns.now) written.old (declared_view declared.entry)) }
 {
     if turns.is_outer_array(declared) {
-        written.push(declared.origin)?;
+        written.put(declared.origin)
+    } else {
+        Ok(())
     }
-    Ok(())
 }
 
-// A deed: an outer array that it writes is put behind those so far.
-#[tactic(auto, using(crate::proofs::Rules::written_by_nil))]
+// A deed: an outer array that it writes is put among those so far.
 fn put_written<'t>(
     turns: &Turns<'_>,
     deed: &Deed<'t>,
-    written: &mut Vec<Origin<'t>>,
+    written: &mut Written<'t>,
 ) -> Result<(), AllocError>
-    ensures { OnOk result (map origin_view written.new.items ≡ map origin_view written.old.items ++ written_arrays_of (turns_view turns.now) (deed_view deed.now ∷ [])) }
+    ensures { OnOk result (written.new ≡ with_written (turns_view turns.now) written.old (deed_view deed.now)) }
 {
     match deed {
-        Deed::Writes(_, declared, _) => put_outer(turns, *declared, written),
-        Deed::WritesAt(_, declared, _, _) => put_outer(turns, *declared, written),
-        Deed::Reads(_, _) => Ok(()),
-        Deed::ReadsAt(_, _, _) => Ok(()),
-        Deed::Holds(_, _) => Ok(()),
+        Deed::Writes(_, declared, _) | Deed::WritesAt(_, declared, _, _) => {
+            put_outer(turns, *declared, written)
+        }
+        Deed::Reads(_, _) | Deed::ReadsAt(_, _, _) | Deed::Holds(_, _) => Ok(()),
     }
 }
 
-/// The outer arrays that a forall's body writes, once for each time that it does.
-///
-/// # Errors
-/// Out of memory.
-#[tactic(auto, using(crate::proofs::Rules::written_then))]
-pub fn written_arrays<'t>(
+// The outer arrays that a forall's body writes.
+fn all_written<'t>(
     alloc: Global,
     turns: &Turns<'_>,
     deeds: &[Deed<'t>],
-) -> Result<Vec<Origin<'t>>, AllocError>
-    ensures { IfOk result (λ os. map origin_view os.items ≡ written_arrays_of (turns_view turns.now) (map deed_view deeds.now)) }
+) -> Result<Written<'t>, AllocError>
+    ensures { IfOk result (λ w. w ≡ all_written_of (turns_view turns.now) [] (map deed_view deeds.now)) }
 {
-    let mut written = Vec::new(alloc);
+    let mut written = Written::new(alloc);
     for deed in deeds {
         put_written(turns, deed, &mut written)?;
     }
@@ -103,23 +87,23 @@ fn write_breaches(turns: &Turns<'_>, deed: &Deed<'_>, first: &mut Option<Breach>
 // C7: an array that is written is read at the own index alone.
 fn read_breaches(
     turns: &Turns<'_>,
-    written: &[Origin<'_>],
+    written: &Written<'_>,
     deed: &Deed<'_>,
     first: &mut Option<Breach>,
 )
-    ensures { first.new ≡ least_from first.old (read_breaches_of (turns_view turns.now) (map origin_view written.now) (deed_view deed.now)) }
+    ensures { first.new ≡ least_from first.old (read_breaches_of (turns_view turns.now) written.now (deed_view deed.now)) }
 {
     match deed {
         Deed::Reads(at, declared) => {
             owed(
-                !is_in(declared.origin, written),
+                !written.has(declared.origin),
                 *at,
                 Code::ReadElsewhere,
                 first,
             );
         }
         Deed::ReadsAt(at, declared, parts) => {
-            let holds = !is_in(declared.origin, written) || turns.is_own(parts);
+            let holds = !written.has(declared.origin) || turns.is_own(parts);
             owed(holds, *at, Code::ReadElsewhere, first);
         }
         Deed::Writes(_, _, _) | Deed::WritesAt(_, _, _, _) | Deed::Holds(_, _) => {}
@@ -183,11 +167,11 @@ fn holding_breaches(deed: &Deed<'_>, first: &mut Option<Breach>)
 #[tactic(auto, using(dpl_types::proofs::Breaches::least_from_append))]
 fn deed_breaches(
     turns: &Turns<'_>,
-    written: &[Origin<'_>],
+    written: &Written<'_>,
     deed: &Deed<'_>,
     first: &mut Option<Breach>,
 )
-    ensures { first.new ≡ least_from first.old (deed_breaches_of (turns_view turns.now) (map origin_view written.now) (deed_view deed.now)) }
+    ensures { first.new ≡ least_from first.old (deed_breaches_of (turns_view turns.now) written.now (deed_view deed.now)) }
 {
     write_breaches(turns, deed, first);
     read_breaches(turns, written, deed, first);
@@ -199,11 +183,11 @@ fn deed_breaches(
 #[tactic(auto, using(dpl_types::proofs::Breaches::least_from_append))]
 fn each_breaches(
     turns: &Turns<'_>,
-    written: &[Origin<'_>],
+    written: &Written<'_>,
     deeds: &[Deed<'_>],
     first: &mut Option<Breach>,
 )
-    ensures { first.new ≡ least_from first.old (each (deed_breaches_of (turns_view turns.now) (map origin_view written.now)) (map deed_view deeds.now)) }
+    ensures { first.new ≡ least_from first.old (each (deed_breaches_of (turns_view turns.now) written.now) (map deed_view deeds.now)) }
 {
     for deed in deeds {
         deed_breaches(turns, written, deed, first);
@@ -214,6 +198,7 @@ fn each_breaches(
 ///
 /// # Errors
 /// Out of memory; nothing is told then.
+#[tactic(auto, using(crate::proofs::Members::forall_breaches_written))]
 pub fn forall_breaches(
     alloc: Global,
     turns: &Turns<'_>,
@@ -223,7 +208,7 @@ pub fn forall_breaches(
     ensures ok { OnOk result (first.new ≡ least_from first.old (forall_breaches_of (turns_view turns.now) (map deed_view deeds.now))) }
     ensures err { OnErr result (first.new ≡ first.old) }
 {
-    let written = written_arrays(alloc, turns, deeds)?;
+    let written = all_written(alloc, turns, deeds)?;
     each_breaches(turns, &written, deeds, first);
     Ok(())
 }

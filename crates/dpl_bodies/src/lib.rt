@@ -6,5 +6,6 @@ pub mod forall;
 pub mod outside;
 pub mod task;
 mod turns;
+mod written;
 
 pub use turns::Turns;
