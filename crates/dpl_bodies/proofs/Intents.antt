@@ -1,6 +1,6 @@
 -- Intents by their operators: whether a list of them reduces a name, and whether an assignment goes on with it.
 -- A list with commas is its first part and the others.
-use Rattle.std.proofs.Common.{◌≡◌, Bool, true, false, List, [], ◌∷◌, map, Option, Some, None, refl}
+use Rattle.std.proofs.Common.{◌≡◌, true, false, List, [], ◌∷◌, map, Some, None, refl}
 use Rattle.std.specs.Prelude.{bytes_eq, if◌then◌else◌, is_some}
 use Rattle.dpl_language.specs.Tree.{AfterComma, Op, Assign, IntentTree, ReduceIntent, RefIntent}
 use Rattle.dpl_language.specs.Names.{Text}

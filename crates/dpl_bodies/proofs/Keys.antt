@@ -6,7 +6,6 @@ use Rattle.std.specs.List.{list_any}
 use Rattle.std.specs.Prelude.{Bool, nat_eq, bytes_eq, if◌then◌else◌}
 use Rattle.std.specs.Borrow.{Bor}
 use Rattle.dpl_language.specs.Names.{Text}
-use Rattle.dpl_rules.specs.Types.{Origin, same_origin}
 use Rattle.dpl_rules.specs.Bodies.{is_in}
 use Rattle.dpl_bodies.specs.Written.{key_origin, with_origin}
 

@@ -1,6 +1,6 @@
 -- The outer arrays that a body writes, each once: an array is among them where it is among those of the rules.
 -- So the rules of a forall say the same by either list.
-use Rattle.std.proofs.Common.{◌≡◌, ℕ, Bool, true, false, ◌&&◌, ◌||◌, not, List, [], ◌∷◌, ◌++◌, map, refl, sym, ap, ◌∙◌, eqb-true}
+use Rattle.std.proofs.Common.{◌≡◌, ℕ, Bool, true, false, ◌&&◌, ◌||◌, not, List, [], ◌∷◌, ◌++◌, refl, sym, ap, ◌∙◌, eqb-true}
 use Rattle.std.proofs.Math.Bool.{or_assoc}
 use Rattle.std.proofs.lemmas.Slice.Eq.{bytes_eq-Decides}
 use Rattle.std.specs.Prelude.{nat_eq, bytes_eq, if◌then◌else◌}
@@ -10,9 +10,8 @@ use Rattle.dpl_rules.specs.Types.{Origin, same_origin}
 use Rattle.dpl_rules.specs.Sights.{Declared}
 use Rattle.dpl_rules.specs.Deeds.{Deed, Reads, ReadsAt, Writes, WritesAt, Holds}
 use Rattle.dpl_rules.specs.Verdicts.{owed}
-use Rattle.dpl_rules.specs.Breaches.{least_from}
 use Rattle.dpl_rules.specs.Bodies.{Turns, is_own, is_outer_array, is_in, written_by, written_arrays, write_breaches, read_breaches, change_breaches, holding_breaches, deed_breaches, each, forall_breaches}
-use Rattle.dpl_bodies.specs.Written.{with_origin, with_outer, with_written, all_written}
+use Rattle.dpl_bodies.specs.Written.{with_origin, with_outer, all_written}
 
 or-false : (a : Bool) → (a || false) ≡ a
 or-false true = refl

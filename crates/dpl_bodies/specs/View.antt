@@ -1,6 +1,6 @@
 -- The forall that one in memory stands for, as the rules on its body see it.
 -- Its depth is how many scopes are open around it.
-use Rattle.std.specs.Prelude.{ℕ, List, [], ◌∷◌, map}
+use Rattle.std.specs.Prelude.{List, map}
 use Rattle.dpl_language.specs.Tree.{Placed, AfterComma}
 use Rattle.dpl_language.specs.Names.{Text}
 use Rattle.dpl_language.specs.Phrases.{intents_of}
