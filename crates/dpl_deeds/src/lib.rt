@@ -11,3 +11,6 @@ pub mod statement;
 pub mod whole;
 
 pub use deed::{Added, Deed, Holding, IndexPart, held, held_if};
+
+#[cfg(test)]
+mod tests;
