@@ -1,0 +1,11 @@
+// The limits of a program, C13, and the sets of the command line, C14.
+// How many names and cells are declared is told as breaches; whether sets fit is answered once a program has none.
+#![tactic(auto)]
+
+mod count;
+mod sets;
+mod value;
+mod walk;
+
+pub use sets::sets_fit;
+pub use walk::limits;
