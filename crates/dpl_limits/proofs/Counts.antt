@@ -1,8 +1,8 @@
 -- Counts behind one list of declarations and then another, and what is told of the counts behind all of them.
 -- What is past a limit is what the language's check has past it.
-use Rattle.std.proofs.Common.{◌≡◌, ℕ, zero, suc, ◌+◌, ◌<◌, true, false, List, [], ◌∷◌, ◌++◌, length, drop, get_or, Option, Some, None, refl, sym, ap, ◌∙◌, append_assoc, if◌then◌else◌}
+use Rattle.std.proofs.Common.{◌≡◌, ℕ, zero, suc, ◌+◌, ◌<◌, List, [], ◌∷◌, ◌++◌, length, drop, get_or, Some, None, refl, sym, ap, ◌∙◌, append_assoc}
 use Rattle.dpl_syntax.specs.declared.place.Place.{Place}
-use Rattle.dpl_language.specs.Tree.{TypeTree, ScalarType, SyncType, DomainType, ArrayType, DeclareTree}
+use Rattle.dpl_language.specs.Tree.{DeclareTree}
 use Rattle.dpl_language.specs.Names.{Text}
 use Rattle.dpl_language.specs.Declarations.{type_of as written_type}
 use Rattle.dpl_syntax.proofs.Walks.{drop-at}
@@ -11,7 +11,7 @@ use Rattle.dpl_tree.specs.Statements.{stmt_view, stmts_of}
 use Rattle.dpl_rules.specs.Breaches.{declarations, all_declarations, of_cell, cells_among, past}
 use Rattle.dpl_limits.specs.declared.count.Count.{Count}
 use Rattle.dpl_limits.specs.declared.count.Counts.{Counts}
-use Rattle.dpl_limits.specs.Counts.{one_more, all_more, counts_after, is_of_cell, told}
+use Rattle.dpl_limits.specs.Counts.{one_more, all_more, counts_after, told}
 
 pub all_more_append : (c : Count) (ds es : List (DeclareTree Text)) → all_more c (ds ++ es) ≡ all_more (all_more c ds) es
 all_more_append c [] es = refl
@@ -34,14 +34,6 @@ pub stmts_step : (xs : List Stmt) (k : ℕ) (x : Stmt) → k < length xs → x �
 stmts_step xs k x within is c n counts =
     let left = all_declarations (stmts_of (drop (k + 1) xs)) in
     rw (drop-at xs k x within is) (rw counts (sym (counts_after_append c (declarations (stmt_view x)) left)))
-
--- a declaration of a cell is one more, and another is none
-pub all_more_of_cell : (c : Count) (d : DeclareTree Text) (t : Option (TypeTree Text)) → all_more c (of_cell d t) ≡ (if is_of_cell t then one_more c d.name.at else c)
-all_more_of_cell c d None = refl
-all_more_of_cell c d (Some (ScalarType at k)) = refl
-all_more_of_cell c d (Some (SyncType at kind_at k)) = refl
-all_more_of_cell c d (Some (DomainType t)) = refl
-all_more_of_cell c d (Some (ArrayType t)) = refl
 
 -- what was past the limit first, stays so
 told_kept : (at : Place) (ds : List (DeclareTree Text)) → (all_more (record { left = 0; past = Some at }) ds).past ≡ Some at

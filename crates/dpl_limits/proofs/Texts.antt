@@ -1,47 +1,19 @@
 -- Sets in their text, byte by byte: what stands before the first `=`, and decimal digits.
 -- Past the greatest number once, past it for good.
-use Rattle.std.proofs.Common.{◌≡◌, ℕ, ◌+◌, ◌*◌, ◌<◌, ◌≤◌, Bool, true, false, nat_le, ◌&&◌, List, [], ◌∷◌, ◌++◌, length, take, drop, get_or, Option, Some, None, refl, sym, ap, ◌∙◌, append_assoc, eqb, arith}
-use Rattle.std.proofs.lemmas.List.{take_more, get_or_default, append-nil}
+use Rattle.std.proofs.Common.{◌≡◌, ℕ, ◌+◌, ◌*◌, ◌<◌, Bool, true, false, nat_le, ◌&&◌, List, [], ◌∷◌, ◌++◌, length, Option, Some, None, refl, sym, ap, ◌∙◌, eqb, arith}
 use Rattle.std.proofs.lemmas.Bool.Decides.{nat_tests}
 use Rattle.std.proofs.Math.Bool.{and-false}
 use Rattle.dpl_syntax.specs.Gaps.{all_are}
 use Rattle.dpl_syntax.specs.Text.{is_digit, digit_value, value_after}
 use Rattle.dpl_syntax.proofs.Numerals.{value_after-grows, one_digit}
-use Rattle.dpl_syntax.proofs.Walks.{drop-at}
 use Rattle.dpl_language.specs.Names.{Text}
-use Rattle.dpl_rules.specs.Sound.{with_byte, name_and_value, is_decimal}
+use Rattle.dpl_rules.specs.Sound.{is_decimal}
 
 -- ---- a name and its value
 -- what is found behind some bytes that are no `=`
 abbrev pub behind : List ℕ → Option (Text × List ℕ) → Option (Text × List ℕ)
 behind xs None = None
 behind xs (Some p) = Some (xs ++ p.0, p.1)
-
-behind_with_byte : (xs : List ℕ) (c : ℕ) (o : Option (Text × List ℕ)) → behind xs (with_byte c o) ≡ behind (xs ++ c ∷ []) o
-behind_with_byte xs c None = refl
-behind_with_byte xs c (Some p) = ap (λ (ys : List ℕ). Some (ys, p.1)) (sym (append_assoc xs (c ∷ []) p.0))
-
-other_byte : (c : ℕ) (cs : List ℕ) → eqb c 61 ≡ false → name_and_value (c ∷ cs) ≡ with_byte c (name_and_value cs)
-other_byte c cs other = rw other refl
-
-sign_byte : (c : ℕ) (cs : List ℕ) → eqb c 61 ≡ true → name_and_value (c ∷ cs) ≡ Some ([], cs)
-sign_byte c cs sign = rw sign refl
-
-pub name_step : (w : List ℕ) (k c : ℕ) → k < length w → c ≡ get_or w k c → eqb c 61 ≡ false
-    → behind (take (k + 1) w) (name_and_value (drop (k + 1) w)) ≡ behind (take k w) (name_and_value (drop k w))
-name_step w k c within is other =
-    let left = drop (k + 1) w in
-    ap (λ (xs : List ℕ). behind xs (name_and_value left)) (take_more w k c within ∙ ap (λ (b : ℕ). take k w ++ b ∷ []) (sym is))
-    ∙ sym (behind_with_byte (take k w) c (name_and_value left))
-    ∙ ap (behind (take k w)) (sym (other_byte c left other))
-    ∙ ap (λ (xs : List ℕ). behind (take k w) (name_and_value xs)) (sym (drop-at w k c within is))
-
-pub name_found : (w : List ℕ) (k c : ℕ) → k < length w → c ≡ get_or w k c → eqb c 61 ≡ true
-    → behind (take k w) (name_and_value (drop k w)) ≡ Some (take k w, drop (k + 1) w)
-name_found w k c within is sign =
-    ap (λ (xs : List ℕ). behind (take k w) (name_and_value xs)) (drop-at w k c within is)
-    ∙ ap (behind (take k w)) (sign_byte c (drop (k + 1) w) sign)
-    ∙ ap (λ (xs : List ℕ). Some (xs, drop (k + 1) w)) (append-nil (take k w))
 
 -- ---- decimal digits
 -- the same behind digits that have the value n

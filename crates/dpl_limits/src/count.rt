@@ -2,11 +2,10 @@
 // Counts are carried along a walk over a program.
 
 ghost use Rattle.std.specs.Prelude.{◌≡◌};
-ghost use Rattle.dpl_rules.specs.Breaches.{least_from};
-ghost use Rattle.dpl_limits.specs.Counts.{one_more, all_more, counted, told};
-ghost use Rattle.dpl_tree.specs.Declarations.{optional, declare_view, typed_view};
 ghost use Rattle.dpl_language.specs.Declarations.{type_of};
-ghost use Rattle.dpl_limits.specs.Counts.{is_of_cell};
+ghost use Rattle.dpl_tree.specs.Declarations.{optional, declare_view, typed_view};
+ghost use Rattle.dpl_rules.specs.Breaches.{least_from};
+ghost use Rattle.dpl_limits.specs.Counts.{one_more, is_of_cell, counted, told};
 
 use dpl_syntax::{Breach, Code, Place};
 use dpl_tree::{Declare, DeclaredType, Typed};

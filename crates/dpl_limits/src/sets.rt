@@ -1,11 +1,10 @@
 // The sets of the command line, which give values to a program's `config const`s: C14.
 // Each has the name of one, none has that of another, and each has a value of its kind.
 
-ghost use Rattle.std.specs.Prelude.{◌≡◌, [], true, map, option_map, IfOk, IsTrue};
-ghost use Rattle.dpl_language.specs.Names.{Text};
-ghost use Rattle.dpl_rules.specs.Sound.{fits_declared, and_name, name_and_value as name_and_value_of, set_fits as set_fits_behind, sets_fit};
+ghost use Rattle.std.specs.Prelude.{◌≡◌, [], map, option_map, IfOk};
+ghost use Rattle.dpl_rules.specs.Sound.{fits_declared, name_and_value as name_and_value_of, sets_fit};
 ghost use Rattle.dpl_scopes.specs.View.{declared_view};
-ghost use Rattle.dpl_limits.specs.Sets.{AreNames, FitsBehind};
+ghost use Rattle.dpl_limits.specs.Sets.{FitsBehind};
 
 use crate::value::{is_value_of, name_and_value};
 use dpl_scopes::{Declared, Scopes, Sort};

@@ -1,5 +1,5 @@
 -- What is left are digits that fit behind the number so far, if all are.
-use Rattle.std.proofs.Common.{◌≡◌, ◌≤◌, ◌<◌, drop, length}
+use Rattle.std.proofs.Common.{◌≡◌, ◌≤◌, drop}
 use Rattle.dpl_limits.proofs.Texts.{decimal_after}
 use Rattle.dpl_limits.proofs.value.is_decimal.Given as goal
 
