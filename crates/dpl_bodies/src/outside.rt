@@ -4,7 +4,8 @@
 ghost use Rattle.std.specs.Prelude.{◌≡◌, map, option_map};
 ghost use Rattle.dpl_tree.specs.View.{item_view};
 ghost use Rattle.dpl_tree.specs.Statements.{target_view};
-ghost use Rattle.dpl_rules.specs.Bodies.{not_inner as not_inner_of, inner_reduction as inner_reduction_of, inner_reductions as inner_reductions_of, element_read as element_read_of, each, whole_target as whole_target_of};
+ghost use Rattle.dpl_rules.specs.Bodies.{not_inner as not_inner_of, inner_reduction as inner_reduction_of, inner_reductions as inner_reductions_of};
+ghost use Rattle.dpl_rules.specs.Bodies.{element_read as element_read_of, each, whole_target as whole_target_of};
 ghost use Rattle.dpl_rules.specs.Breaches.{least_from};
 ghost use Rattle.dpl_types.specs.View.{origin_view};
 ghost use Rattle.dpl_scopes.specs.View.{declared_view};

@@ -8,7 +8,10 @@ ghost use Rattle.dpl_tree.specs.Statements.{intent_view, next_intent_view, with_
 ghost use Rattle.dpl_language.specs.Phrases.{intents_of};
 ghost use Rattle.dpl_rules.specs.Types.{has, is_array as is_array_type};
 ghost use Rattle.dpl_rules.specs.Sights.{is_reduced as is_reduced_of};
-ghost use Rattle.dpl_rules.specs.Bodies.{is_variable as is_variable_of, is_variable_at as is_variable_at_of, are_variables as are_variables_of, is_own as is_own_of, is_outer as is_outer_of, is_outer_array as is_outer_array_of, is_sum as is_sum_of, is_product as is_product_of, goes_on as goes_on_of, goes_on_in as goes_on_in_of, is_scalar_or_domain as is_scalar_or_domain_of, may_change as may_change_of};
+ghost use Rattle.dpl_rules.specs.Bodies.{is_variable as is_variable_of, is_variable_at as is_variable_at_of, are_variables as are_variables_of};
+ghost use Rattle.dpl_rules.specs.Bodies.{is_own as is_own_of, is_outer as is_outer_of, is_outer_array as is_outer_array_of, is_sum as is_sum_of};
+ghost use Rattle.dpl_rules.specs.Bodies.{is_product as is_product_of, goes_on as goes_on_of, goes_on_in as goes_on_in_of};
+ghost use Rattle.dpl_rules.specs.Bodies.{is_scalar_or_domain as is_scalar_or_domain_of, may_change as may_change_of};
 ghost use Rattle.dpl_scopes.specs.View.{declared_view};
 ghost use Rattle.dpl_types.specs.View.{of_type};
 ghost use Rattle.dpl_deeds.specs.View.{index_view};

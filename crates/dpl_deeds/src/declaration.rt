@@ -9,7 +9,9 @@ ghost use Rattle.dpl_rules.specs.Types.{has, is_domain as is_domain_type};
 ghost use Rattle.dpl_rules.specs.Places.{first_of_declaration};
 ghost use Rattle.dpl_rules.specs.Expressions.{item_type};
 ghost use Rattle.dpl_rules.specs.Doings.{is_apart_type as is_apart_type_of, is_apart_init as is_apart_init_of, is_apart_initial as is_apart_initial_of, is_apart as is_apart_of};
-ghost use Rattle.dpl_rules.specs.Doings.{start_deeds as start_deeds_of, map_deeds as map_deeds_of, mapped_deeds as mapped_deeds_of, type_deeds as type_deeds_of, init_deeds as init_deeds_of, initial_deeds as initial_deeds_of, declaration_deeds as declaration_deeds_of};
+ghost use Rattle.dpl_rules.specs.Doings.{start_deeds as start_deeds_of, map_deeds as map_deeds_of, mapped_deeds as mapped_deeds_of};
+ghost use Rattle.dpl_rules.specs.Doings.{type_deeds as type_deeds_of, init_deeds as init_deeds_of, initial_deeds as initial_deeds_of};
+ghost use Rattle.dpl_rules.specs.Doings.{declaration_deeds as declaration_deeds_of};
 ghost use Rattle.dpl_deeds.specs.View.{Adds};
 
 use crate::deed::{Added, Deed, Holding, held_if};

@@ -5,8 +5,13 @@ ghost use Rattle.std.specs.Prelude.{OnOk, option_map};
 ghost use Rattle.dpl_tree.specs.View.{expr_view, item_view, items_view, exprs_view, post_view, method_view, stride_view, links_of, posts_of, more_items_of, more_exprs_of};
 ghost use Rattle.dpl_typing.specs.Told.{range_view};
 ghost use Rattle.dpl_language.specs.Phrases.{base_of};
-ghost use Rattle.dpl_rules.specs.Deeds.{array_deeds as array_deeds_of, method_call as method_call_of, cell_deeds as cell_deeds_of, items_index as items_index_of, exprs_index as exprs_index_of, name_deeds as name_deeds_of, declared_deeds as declared_deeds_of, base_deeds as base_deeds_of};
-ghost use Rattle.dpl_rules.specs.Deeds.{expr_deeds as expr_deeds_of, item_deeds as item_deeds_of, stride_deeds as stride_deeds_of, links_deeds as links_deeds_of, posts_deeds as posts_deeds_of, post_deeds as post_deeds_of, method_deeds as method_deeds_of, items_deeds as items_deeds_of, more_items_deeds as more_items_deeds_of, exprs_deeds as exprs_deeds_of, more_exprs_deeds as more_exprs_deeds_of};
+ghost use Rattle.dpl_rules.specs.Deeds.{array_deeds as array_deeds_of, method_call as method_call_of, cell_deeds as cell_deeds_of};
+ghost use Rattle.dpl_rules.specs.Deeds.{items_index as items_index_of, exprs_index as exprs_index_of, name_deeds as name_deeds_of};
+ghost use Rattle.dpl_rules.specs.Deeds.{declared_deeds as declared_deeds_of, base_deeds as base_deeds_of};
+ghost use Rattle.dpl_rules.specs.Deeds.{expr_deeds as expr_deeds_of, item_deeds as item_deeds_of, stride_deeds as stride_deeds_of};
+ghost use Rattle.dpl_rules.specs.Deeds.{links_deeds as links_deeds_of, posts_deeds as posts_deeds_of, post_deeds as post_deeds_of};
+ghost use Rattle.dpl_rules.specs.Deeds.{method_deeds as method_deeds_of, items_deeds as items_deeds_of, more_items_deeds as more_items_deeds_of};
+ghost use Rattle.dpl_rules.specs.Deeds.{exprs_deeds as exprs_deeds_of, more_exprs_deeds as more_exprs_deeds_of};
 ghost use Rattle.dpl_scopes.specs.View.{declared_view};
 ghost use Rattle.dpl_deeds.specs.View.{Adds};
 

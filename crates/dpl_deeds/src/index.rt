@@ -6,7 +6,9 @@ ghost use Rattle.dpl_tree.specs.Words.{infix_view};
 ghost use Rattle.dpl_tree.specs.View.{expr_view, item_view, items_view, exprs_view, links_of, more_items_of, more_exprs_of};
 ghost use Rattle.dpl_language.specs.Tree.{Chain as ChainTree};
 ghost use Rattle.dpl_language.specs.Phrases.{bare_name};
-ghost use Rattle.dpl_rules.specs.Deeds.{literal_of, added, added_by, shifted_by, at_name as at_name_of, name_declared, index_of as index_of_expr, item_index as index_of_item, items_index as items_index_of, exprs_index as exprs_index_of, more_items_index as more_items_index_of, more_exprs_index as more_exprs_index_of};
+ghost use Rattle.dpl_rules.specs.Deeds.{literal_of, added, added_by, shifted_by, at_name as at_name_of, name_declared, index_of as index_of_expr};
+ghost use Rattle.dpl_rules.specs.Deeds.{item_index as index_of_item, items_index as items_index_of, exprs_index as exprs_index_of};
+ghost use Rattle.dpl_rules.specs.Deeds.{more_items_index as more_items_index_of, more_exprs_index as more_exprs_index_of};
 ghost use Rattle.dpl_scopes.specs.View.{declared_view};
 ghost use Rattle.dpl_deeds.specs.View.{index_view};
 

@@ -9,10 +9,13 @@ ghost use Rattle.dpl_tree.specs.Statements.{argument_view, next_argument_view, a
 ghost use Rattle.dpl_language.specs.Writing.{arguments_of};
 ghost use Rattle.dpl_rules.specs.Types.{has, is_cell as is_cell_type};
 ghost use Rattle.dpl_rules.specs.Sights.{lookup, type_declared};
-ghost use Rattle.dpl_rules.specs.Doings.{with_deeds as with_deeds_of, written as written_of, element_written as element_written_of, target_deeds as target_deeds_of, call_argument_deeds as call_argument_deeds_of, call_deeds as call_deeds_of, arguments_deeds as arguments_deeds_of};
+ghost use Rattle.dpl_rules.specs.Doings.{with_deeds as with_deeds_of, written as written_of, element_written as element_written_of};
+ghost use Rattle.dpl_rules.specs.Doings.{target_deeds as target_deeds_of, call_argument_deeds as call_argument_deeds_of, call_deeds as call_deeds_of};
+ghost use Rattle.dpl_rules.specs.Doings.{arguments_deeds as arguments_deeds_of};
 ghost use Rattle.dpl_scopes.specs.View.{declared_view};
 ghost use Rattle.dpl_deeds.specs.View.{Adds};
-ghost use Rattle.dpl_deeds.specs.Parts.{intent_deeds as intent_deeds_of, next_intents_deeds as next_intents_deeds_of, argument_deeds as argument_deeds_of, next_arguments_deeds as next_arguments_deeds_of};
+ghost use Rattle.dpl_deeds.specs.Parts.{intent_deeds as intent_deeds_of, next_intents_deeds as next_intents_deeds_of, argument_deeds as argument_deeds_of};
+ghost use Rattle.dpl_deeds.specs.Parts.{next_arguments_deeds as next_arguments_deeds_of};
 
 use crate::deed::{Added, Deed, Holding, held, held_if, put};
 use crate::expression::{expr_deeds, exprs_deeds};

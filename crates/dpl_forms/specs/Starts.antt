@@ -14,7 +14,7 @@ use Rattle.dpl_rules.specs.Verdicts.{owed, owed_type}
 use Rattle.dpl_rules.specs.Places.{first_of}
 use Rattle.dpl_rules.specs.Sights.{Scopes}
 use Rattle.dpl_rules.specs.Expressions.{type_of, expr_breaches}
-use Rattle.dpl_rules.specs.Maps.{LowTree, owed_rank}
+use Rattle.dpl_rules.specs.Maps.{LowTree, owed_rank, typed_start}
 
 -- `low` or `lowBound` behind an expression, by its place and which it is
 abbrev pub low_at : ExprTree Text → Place × Bool → LowTree
@@ -41,3 +41,9 @@ exprs_in (n ∷ ns) = expr_view n.expr.now ∷ exprs_in ns
 abbrev pub low_last_view : ExprTree Text → Option LowLast → Option LowTree
 low_last_view e None = None
 low_last_view e (Some l) = Some (low_at (Postfixed e (posts_of l.behind.now)) l.low)
+
+-- what a base owes where a map starts, with what ends so behind it
+abbrev pub low_last_told : Scopes → Option ℕ → Place → ExprTree Text → LowLast → List Breach
+low_last_told scopes rank word e l =
+    let of = Postfixed e (posts_of l.behind.now) in
+    typed_start scopes rank word (Postfixed e (posts_of (l.behind.now ++ l.last.now ∷ []))) (low_at of l.low) (type_of scopes of)

@@ -1,12 +1,12 @@
 -- What declarations owe, part by part.
 -- Each is a part of a rule of dpl_rules.
-use Rattle.std.specs.Prelude.{Bool, true, false, List, [], ◌++◌, Option}
+use Rattle.std.specs.Prelude.{Bool, true, false, List, [], ◌++◌, Option, Some}
 use Rattle.dpl_syntax.specs.declared.place.Place.{Place}
 use Rattle.dpl_syntax.specs.declared.refusal.Breach.{Breach}
-use Rattle.dpl_language.specs.Tree.{Items, TypeTree, InitialTree, DeclareTree}
+use Rattle.dpl_language.specs.Tree.{Items, DomainTypeTree, TypeTree, InitialTree, DeclareTree}
 use Rattle.dpl_language.specs.Declarations.{type_of as written_type}
 use Rattle.dpl_language.specs.Names.{Text}
-use Rattle.dpl_rules.specs.Types.{Origin, ValueType}
+use Rattle.dpl_rules.specs.Types.{Origin, ValueType, Domain}
 use Rattle.dpl_rules.specs.Verdicts.{broken_by}
 use Rattle.dpl_rules.specs.Declarations.{config_initial, config_type, untyped_initial, type_breaches, typed_initial, declared_type, type_given, written_breaches, config_breaches}
 use Rattle.dpl_rules.specs.Sights.{Scopes}
@@ -16,6 +16,10 @@ use Rattle.dpl_rules.specs.Expressions.{item_parts, items_breaches}
 -- what an array is over, or a domain is created from
 abbrev pub over_told : Scopes → Place → Items Text → List Breach
 over_told scopes from items = items_breaches scopes items ++ broken_by (over_verdict from (item_parts scopes items))
+
+-- the type that `domain(k)` is
+abbrev pub domain_given : DomainTypeTree Text → Option ValueType
+domain_given d = Some (Domain d.rank false)
 
 -- what a `config const` owes besides
 abbrev pub config_told : Scopes → Bool → Option (InitialTree Text) → List Breach

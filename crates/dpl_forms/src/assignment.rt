@@ -10,12 +10,14 @@ ghost use Rattle.dpl_rules.specs.Types.{has, is_cell as is_cell_type};
 ghost use Rattle.dpl_rules.specs.Verdicts.{type_by, broken_by, wanted as wanted_of, owed_type};
 ghost use Rattle.dpl_rules.specs.Sights.{type_declared};
 ghost use Rattle.dpl_rules.specs.Expressions.{side_part, side_breaches, exprs_breaches};
-ghost use Rattle.dpl_rules.specs.Assignments.{written_name as written_name_of, set_breaches, change_breaches, reduce_breaches, fitting as fitting_of, fitting_target as fitting_target_of, is_int_kind, may_reduce_in, assignment_breaches};
+ghost use Rattle.dpl_rules.specs.Assignments.{written_name as written_name_of, set_breaches, change_breaches, reduce_breaches, fitting as fitting_of};
+ghost use Rattle.dpl_rules.specs.Assignments.{fitting_target as fitting_target_of, is_int_kind, may_reduce_in, assignment_breaches};
 ghost use Rattle.dpl_types.specs.View.{type_view, of_type, part_view};
 ghost use Rattle.dpl_types.specs.Wants.{takes};
 ghost use Rattle.dpl_scopes.specs.View.{declared_view};
 ghost use Rattle.dpl_typing.specs.Told.{Tells};
 ghost use Rattle.dpl_forms.specs.Around.{reducing_view};
+ghost use Rattle.dpl_forms.specs.Called.{sight_of};
 ghost use Rattle.dpl_forms.specs.Assigned.{element_verdict, whole_told, element_told};
 
 use crate::around::{Reducing, may_reduce};
@@ -217,7 +219,7 @@ pub fn assignment<'t>(
     written: &Assignment<'_>,
     first: &mut Option<Breach>,
 ) -> Result<(), AllocError>
-    ensures { (in_task : Bool) → OnOk result (first.new ≡ least_from first.old (assignment_breaches (record { scopes = scopes.now; forall = option_map reducing_view around.now; in_task = in_task }) (target_view written.now.target) (sign_view written.now.sign) (item_view written.now.value))) }
+    ensures { (in_task : Bool) → OnOk result (first.new ≡ least_from first.old (assignment_breaches (sight_of scopes.now (option_map reducing_view around.now) in_task) (target_view written.now.target) (sign_view written.now.sign) (item_view written.now.value))) }
 {
     match &written.target {
         Target::Whole(name) => to_name(alloc, scopes, around, name, written, first),

@@ -1,7 +1,7 @@
 // Declarations: the type that each gives its name, and where it breaks a rule.
 // A name whose declaration is refused has no type.
 
-ghost use Rattle.std.specs.Prelude.{◌≡◌, [], Option, is_some, option_map, IfOk, OnOk};
+ghost use Rattle.std.specs.Prelude.{◌≡◌, Option, is_some, option_map, IfOk, OnOk};
 ghost use Rattle.dpl_language.specs.Tree.{DomainType as DomainTypeTree};
 ghost use Rattle.dpl_tree.specs.View.{item_view, items_view};
 ghost use Rattle.dpl_tree.specs.Declarations.{optional, type_view as written_type_view, mapped_view, domain_type_view, array_type_view, init_view, initial_view, declare_view};
@@ -12,11 +12,14 @@ ghost use Rattle.dpl_rules.specs.Operators.{over_verdict};
 ghost use Rattle.dpl_language.specs.Declarations.{type_of as written_type};
 ghost use Rattle.dpl_language.specs.Phrases.{natural as natural_of, item_over, declared_over};
 ghost use Rattle.dpl_rules.specs.Types.{ValueType as ValueTypeTree, has, is_domain as is_domain_type};
-ghost use Rattle.dpl_rules.specs.Declarations.{is_initial, type_rank as type_rank_of, agreeing as agreeing_of, unmapped as unmapped_of, is_untyped, base_over as base_over_of, over_domain, domain_in as domain_in_of, config_type as config_type_of, declared_type, type_breaches, untyped_breaches, typed_breaches, initial_type, init_part, create_breaches, config_breaches, written_breaches, type_given, declaration_breaches, declared_by, sort_of, typed_initial as typed_initial_of};
+ghost use Rattle.dpl_rules.specs.Declarations.{is_initial, type_rank as type_rank_of, agreeing as agreeing_of, unmapped as unmapped_of, is_untyped};
+ghost use Rattle.dpl_rules.specs.Declarations.{base_over as base_over_of, over_domain, domain_in as domain_in_of, config_type as config_type_of, declared_type};
+ghost use Rattle.dpl_rules.specs.Declarations.{type_breaches, untyped_breaches, typed_breaches, initial_type, init_part, create_breaches, config_breaches};
+ghost use Rattle.dpl_rules.specs.Declarations.{written_breaches, type_given, declaration_breaches, declared_by, sort_of, typed_initial as typed_initial_of};
 ghost use Rattle.dpl_types.specs.View.{type_view, of_type, origin_view, part_view};
 ghost use Rattle.dpl_types.specs.Wants.{takes};
 ghost use Rattle.dpl_scopes.specs.View.{declared_view, sort_view};
-ghost use Rattle.dpl_forms.specs.Told.{over_told, untyped_told, typed_told, given, given_told};
+ghost use Rattle.dpl_forms.specs.Told.{domain_given, over_told, untyped_told, typed_told, given, given_told};
 ghost use Rattle.dpl_syntax.specs.declared.place.Place.{Place as PlaceNode};
 ghost use Rattle.dpl_typing.specs.Told.{Tells, TellsPart};
 
@@ -178,7 +181,7 @@ fn domain_type<'t>(
     written: &DomainType<'_>,
     first: &mut Option<Breach>,
 ) -> Judged<'t>
-    ensures { IfOk result (λ t. Tells (declared_type scopes.now (record { name = []; depth = 0 }) (DomainTypeTree (domain_type_view written.now))) (type_breaches scopes.now (DomainTypeTree (domain_type_view written.now))) t first.old first.new) }
+    ensures { IfOk result (λ t. Tells (domain_given (domain_type_view written.now)) (type_breaches scopes.now (DomainTypeTree (domain_type_view written.now))) t first.old first.new) }
 {
     let rank = natural(written.rank);
     owed(

@@ -1,15 +1,16 @@
 // What loops run over, and their variables.
 // A coforall runs over a range or `Locales`, a forall over a range or a domain, a `for` over all three.
 
-ghost use Rattle.std.specs.Prelude.{◌≡◌, ◌++◌, IfOk};
+ghost use Rattle.std.specs.Prelude.{◌≡◌, IfOk};
 ghost use Rattle.dpl_tree.specs.View.{item_view};
 ghost use Rattle.dpl_tree.specs.Statements.{variables_view};
 ghost use Rattle.dpl_rules.specs.Breaches.{least_from};
 ghost use Rattle.dpl_rules.specs.Places.{first_of_variables as first_of_tree};
-ghost use Rattle.dpl_rules.specs.Loops.{over_domains as over_domains_of, over_locales as over_locales_of, runs_over as runs_over_of, turn_rank as turn_rank_of, one_type as one_type_of, fits_variables, typed_variable, header_of as header_of_loop, over_type, over_breaches};
+ghost use Rattle.dpl_rules.specs.Loops.{over_domains as over_domains_of, over_locales as over_locales_of, runs_over as runs_over_of, turn_rank as turn_rank_of};
+ghost use Rattle.dpl_rules.specs.Loops.{one_type as one_type_of, fits_variables, typed_variable, header_of as header_of_loop, over_type, over_breaches};
 ghost use Rattle.dpl_types.specs.View.{type_view, of_type};
 ghost use Rattle.dpl_typing.specs.Told.{Tells};
-ghost use Rattle.dpl_forms.specs.Heads.{word_view};
+ghost use Rattle.dpl_forms.specs.Heads.{word_view, head_type, head_told};
 
 use dpl_scopes::Scopes;
 use dpl_syntax::{Breach, Code, Place};
@@ -183,7 +184,7 @@ pub fn head<'t>(
     written: &Item<'_>,
     first: &mut Option<Breach>,
 ) -> Judged<'t>
-    ensures { IfOk result (λ t. Tells (typed_variable (word_view word) (variables_view variables.now) (over_type scopes.now (item_view written.now))) (over_breaches scopes.now (item_view written.now) ++ header_of_loop (word_view word) (variables_view variables.now) (item_view written.now) (over_type scopes.now (item_view written.now))) t first.old first.new) }
+    ensures { IfOk result (λ t. Tells (head_type scopes.now (word_view word) (variables_view variables.now) (item_view written.now)) (head_told scopes.now (word_view word) (variables_view variables.now) (item_view written.now)) t first.old first.new) }
 {
     let found = over(alloc, scopes, written, first)?;
     header(word, variables, written, found, first);

@@ -6,12 +6,13 @@ ghost use Rattle.dpl_language.specs.Phrases.{parts as parts_of};
 ghost use Rattle.dpl_tree.specs.View.{expr_view, item_view, post_view, method_view, posts_of, next_expr_view};
 ghost use Rattle.dpl_tree.specs.Declarations.{optional, start_view, map_view, mapped_view};
 ghost use Rattle.dpl_rules.specs.Breaches.{least_from};
-ghost use Rattle.dpl_rules.specs.Maps.{owed_rank as owed_rank_of, box_of as box_of_rank, box_breaches, int_start as int_start_of, plain_start as plain_start_of, low_start as low_start_of, low_of, int_breaches as int_breaches_of, start_breaches, map_breaches, mapped_breaches};
+ghost use Rattle.dpl_rules.specs.Maps.{owed_rank as owed_rank_of, box_of as box_of_rank, box_breaches, int_start as int_start_of};
+ghost use Rattle.dpl_rules.specs.Maps.{plain_start as plain_start_of, low_start as low_start_of, low_of, int_breaches as int_breaches_of, start_breaches};
+ghost use Rattle.dpl_rules.specs.Maps.{map_breaches, mapped_breaches};
 ghost use Rattle.dpl_types.specs.View.{of_type};
 ghost use Rattle.dpl_language.specs.Tree.{ExprTree, Postfixed as PostfixedTree};
 ghost use Rattle.dpl_rules.specs.Maps.{post_low};
-ghost use Rattle.dpl_forms.specs.Starts.{low_view, low_last_view, low_at, low_told, int_told, exprs_in};
-ghost use Rattle.dpl_rules.specs.Maps.{typed_start};
+ghost use Rattle.dpl_forms.specs.Starts.{low_view, low_last_view, low_at, low_told, int_told, exprs_in, low_last_told};
 ghost use Rattle.dpl_rules.specs.Declarations.{domain_in as domain_in_of};
 ghost use Rattle.dpl_rules.specs.Expressions.{type_of, expr_breaches};
 ghost use Rattle.dpl_typing.specs.Told.{Tells};
@@ -197,7 +198,7 @@ fn low_start(
     ends: LowLast<'_, '_>,
     first: &mut Option<Breach>,
 ) -> Result<(), AllocError>
-    ensures { OnOk result (first.new ≡ least_from first.old (typed_start scopes.now rank word (PostfixedTree (expr_view before.now) (posts_of (ends.entry.behind.now ++ ends.entry.last.now ∷ []))) (low_at (PostfixedTree (expr_view before.now) (posts_of ends.entry.behind.now)) ends.entry.low) (type_of scopes.now (PostfixedTree (expr_view before.now) (posts_of ends.entry.behind.now))))) }
+    ensures { OnOk result (first.new ≡ least_from first.old (low_last_told scopes.now rank word (expr_view before.now) ends.entry)) }
 {
     let of = front(alloc, scopes, before, ends.behind, first)?;
     match domain_in(of) {

@@ -3,7 +3,9 @@
 
 ghost use Rattle.std.specs.Prelude.{◌≡◌, map};
 ghost use Rattle.dpl_tree.specs.Words.{kind_view};
-ghost use Rattle.dpl_rules.specs.Operators.{single_index as single_index_of, index_breaches as index_breaches_of, element_verdict, slice_breaches as slice_breaches_of, slice_verdict, locale_breaches as locale_breaches_of, square_verdict, round_verdict};
+ghost use Rattle.dpl_rules.specs.Operators.{single_index as single_index_of, index_breaches as index_breaches_of, element_verdict};
+ghost use Rattle.dpl_rules.specs.Operators.{slice_breaches as slice_breaches_of, slice_verdict, locale_breaches as locale_breaches_of, square_verdict};
+ghost use Rattle.dpl_rules.specs.Operators.{round_verdict};
 ghost use Rattle.dpl_rules.specs.Types.{AllLocales};
 ghost use Rattle.dpl_rules.specs.Verdicts.{with_type};
 ghost use Rattle.dpl_types.specs.View.{type_view, of_type, part_view};

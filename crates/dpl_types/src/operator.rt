@@ -3,7 +3,8 @@
 
 ghost use Rattle.std.specs.Prelude.{◌≡◌, option_map};
 ghost use Rattle.dpl_tree.specs.Words.{kind_view, prefix_view, infix_view, op_view};
-ghost use Rattle.dpl_rules.specs.Operators.{over_arrays as over_arrays_of, prefix_kind as prefix_kind_of, prefix_verdict, reduction_verdict, over_both as over_both_of, agree as agree_of, between as between_of, alike as alike_of, infix_verdict};
+ghost use Rattle.dpl_rules.specs.Operators.{over_arrays as over_arrays_of, prefix_kind as prefix_kind_of, prefix_verdict, reduction_verdict};
+ghost use Rattle.dpl_rules.specs.Operators.{over_both as over_both_of, agree as agree_of, between as between_of, alike as alike_of, infix_verdict};
 ghost use Rattle.dpl_types.specs.View.{over_view, type_view, operand_view, of_type};
 ghost use Rattle.dpl_types.specs.Judges.{Judges};
 

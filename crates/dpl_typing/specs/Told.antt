@@ -1,17 +1,19 @@
 -- What a walk over a part of a program promises: the part's type, and the first breach so far.
 -- Of all breaches that are told the first is kept, by place and then by code.
-use Rattle.std.specs.Prelude.{◌≡◌, ℕ, List, Option, map}
+use Rattle.std.specs.Prelude.{◌≡◌, ℕ, List, ◌++◌, Option, map}
+use Rattle.dpl_syntax.specs.declared.place.Place.{Place}
 use Rattle.dpl_syntax.specs.declared.refusal.Breach.{Breach}
-use Rattle.dpl_language.specs.Tree.{ItemTree, RangeItem}
+use Rattle.dpl_language.specs.Tree.{ItemTree, RangeItem, PostTree, MethodTree}
+use Rattle.dpl_language.specs.Names.{Text}
 use Rattle.dpl_tree.specs.declared.expression.Range.{Range as RangeNode}
 use Rattle.dpl_tree.specs.declared.expression.Link.{Link as LinkNode}
 use Rattle.dpl_tree.specs.Words.{dots_view, infix_view}
 use Rattle.dpl_tree.specs.View.{expr_view, stride_view}
 use Rattle.dpl_rules.specs.Types.{ValueType}
-use Rattle.dpl_rules.specs.Verdicts.{Part, Verdict}
+use Rattle.dpl_rules.specs.Verdicts.{Part, Verdict, broken_by, with_type}
 use Rattle.dpl_rules.specs.Sights.{Scopes}
 use Rattle.dpl_rules.specs.Operators.{infix_verdict}
-use Rattle.dpl_rules.specs.Expressions.{type_of}
+use Rattle.dpl_rules.specs.Expressions.{type_of, post_verdict, post_breaches, method_verdict, method_breaches}
 use Rattle.dpl_rules.specs.Breaches.{least_from}
 use Rattle.dpl_types.specs.declared.value_type.ValueType.{ValueType as TypeNode}
 use Rattle.dpl_types.specs.declared.part.Part.{Part as PartNode}
@@ -34,3 +36,14 @@ range_view r = RangeItem (expr_view r.low.now) r.at (dots_view r.dots) (expr_vie
 -- what the operator of a further operand says
 abbrev pub link_verdict : Scopes → Option ValueType → LinkNode → Verdict
 link_verdict scopes t link = infix_verdict link.at (infix_view link.op) t (type_of scopes (expr_view link.right.now))
+
+-- what a bracket or a method behind a value owes, its parts and its own
+abbrev pub post_told : Scopes → Place → PostTree Text → Option ValueType → List Breach
+post_told scopes last p t = post_breaches scopes p ++ broken_by (post_verdict scopes last p t)
+
+-- what a method says of the value before it, and what it owes
+abbrev pub called : Scopes → MethodTree Text → Option ValueType → Verdict
+called scopes m t = with_type t (method_verdict scopes m)
+
+abbrev pub called_told : Scopes → MethodTree Text → Option ValueType → List Breach
+called_told scopes m t = method_breaches scopes m ++ broken_by (called scopes m t)

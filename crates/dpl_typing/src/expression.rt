@@ -5,11 +5,13 @@ ghost use Rattle.std.specs.Prelude.{◌++◌, map, IfOk};
 ghost use Rattle.dpl_tree.specs.View.{expr_view, item_view, items_view, exprs_view, post_view, method_view, links_of, posts_of, more_items_of, more_exprs_of};
 ghost use Rattle.dpl_rules.specs.Verdicts.{part as part_of, type_by, broken_by, with_type, mistyped as mistyped_of};
 ghost use Rattle.dpl_rules.specs.Places.{first_of as first_of_expr, first_of_item as first_of_item_tree};
-ghost use Rattle.dpl_rules.specs.Expressions.{bare_locales, locales_or, none_where, type_of, item_type, chain_type, posts_type, post_verdict, method_verdict, item_parts, more_item_parts, expr_parts, more_expr_parts};
-ghost use Rattle.dpl_rules.specs.Expressions.{expr_breaches, item_breaches, chain_breaches, posts_breaches, post_breaches, method_breaches, items_breaches, more_items_breaches, exprs_breaches, more_exprs_breaches};
+ghost use Rattle.dpl_rules.specs.Expressions.{bare_locales, locales_or, none_where, type_of, item_type, chain_type, posts_type, post_verdict};
+ghost use Rattle.dpl_rules.specs.Expressions.{item_parts, more_item_parts, expr_parts, more_expr_parts};
+ghost use Rattle.dpl_rules.specs.Expressions.{expr_breaches, item_breaches, chain_breaches, posts_breaches, items_breaches};
+ghost use Rattle.dpl_rules.specs.Expressions.{more_items_breaches, exprs_breaches, more_exprs_breaches};
 ghost use Rattle.dpl_types.specs.View.{of_type, part_view};
 ghost use Rattle.dpl_types.specs.Judges.{Judges};
-ghost use Rattle.dpl_typing.specs.Told.{range_view, link_verdict, Tells, TellsPart, TellsParts};
+ghost use Rattle.dpl_typing.specs.Told.{range_view, link_verdict, post_told, called, called_told, Tells, TellsPart, TellsParts};
 
 use crate::name::named;
 use crate::place::{first_of, first_of_item, last_of, last_of_post};
@@ -248,7 +250,7 @@ pub fn post<'t>(
     post: &Post<'_>,
     first: &mut Option<Breach>,
 ) -> Judged<'t>
-    ensures { IfOk result (λ r. Tells (type_by (post_verdict scopes.now last (post_view post.now) (of_type t.entry))) (post_breaches scopes.now (post_view post.now) ++ broken_by (post_verdict scopes.now last (post_view post.now) (of_type t.entry))) r first.old first.new) }
+    ensures { IfOk result (λ r. Tells (type_by (post_verdict scopes.now last (post_view post.now) (of_type t.entry))) (post_told scopes.now last (post_view post.now) (of_type t.entry)) r first.old first.new) }
 {
     match post {
         Post::Brackets {
@@ -295,7 +297,7 @@ fn method<'t>(
     method: &Method<'_>,
     first: &mut Option<Breach>,
 ) -> Judged<'t>
-    ensures { IfOk result (λ r. Tells (type_by (with_type (of_type t.entry) (method_verdict scopes.now (method_view method.now)))) (method_breaches scopes.now (method_view method.now) ++ broken_by (with_type (of_type t.entry) (method_verdict scopes.now (method_view method.now)))) r first.old first.new) }
+    ensures { IfOk result (λ r. Tells (type_by (called scopes.now (method_view method.now) (of_type t.entry))) (called_told scopes.now (method_view method.now) (of_type t.entry)) r first.old first.new) }
 {
     match method {
         Method::Plain(at, called) => Ok(word(*at, *called, t, first)),

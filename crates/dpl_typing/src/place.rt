@@ -3,7 +3,9 @@
 
 ghost use Rattle.std.specs.Prelude.{◌≡◌};
 ghost use Rattle.dpl_tree.specs.View.{expr_view, item_view, post_view, method_view, links_of, posts_of};
-ghost use Rattle.dpl_rules.specs.Places.{first_of as first_of_expr, first_of_item as first_of_item_tree, last_of_method as last_of_method_tree, last_of_post as last_of_post_tree, last_of_posts as last_of_posts_tree, last_of_links as last_of_links_tree, last_of as last_of_expr};
+ghost use Rattle.dpl_rules.specs.Places.{first_of as first_of_expr, first_of_item as first_of_item_tree, last_of_method as last_of_method_tree};
+ghost use Rattle.dpl_rules.specs.Places.{last_of_post as last_of_post_tree, last_of_posts as last_of_posts_tree, last_of_links as last_of_links_tree};
+ghost use Rattle.dpl_rules.specs.Places.{last_of as last_of_expr};
 
 use dpl_syntax::Place;
 use dpl_tree::{Expr, Item, Link, Method, Post};
