@@ -1,0 +1,1 @@
+-- What is seen of a lowered tree without a state is seen of the tree itself.
