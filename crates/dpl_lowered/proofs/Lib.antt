@@ -1,3 +1,6 @@
 -- The parts: how lowered trees are put together, and what is seen of them without a state.
 pub mod Nests
 pub mod Seen
+pub mod Bases
+-- The laws: what a lowered tree means is what the tree means.
+pub mod Values

@@ -1,1 +1,215 @@
--- What is seen of a lowered tree without a state is seen of the tree itself.
+-- What is seen of a lowered tree without a state is what is seen of the tree: bases, cell reads, bare names.
+-- A lowered tree may look like a phrase that the tree isn't; then it stands in brackets where phrases are looked for.
+use Rattle.std.proofs.Common.{◌≡◌, refl, sym, ap, ◌∙◌, subst, Some, None, Option}
+use Rattle.dpl_language.specs.Tree.{Placed, ExprTree, Number, TruthWord, Named, LocalesWord, LocaleCount, HereWord, Grouped, DomainLiteral, Prefixed, Reduced, Chain, Postfixed, ItemTree, One, RangeItem, Posts, NoPosts, Post, Brackets, Rounds, Dotted, Plainly, Dim, Contains, Expand, CellRead, Items, FirstItem, NoItems, NextItem}
+use Rattle.dpl_language.specs.Phrases.{Base, BaseName, BaseLocales, OtherBase, base_of, item_base, bare_name, posts_read, ReadTree, read_by, cell_read, item_read, name_of, item_over, declared_over}
+use Rattle.dpl_lowered.specs.Known.{Known}
+use Rattle.dpl_lowered.specs.Shapes.{nowhere, unplaced, as_item, hidden, hidden_item}
+use Rattle.dpl_lowered.specs.LoweredExpressions.{Times, Once, lowered_expr, lowered_item, lowered_links, lowered_posts, read_base, rebased, told_base}
+use Rattle.dpl_lowered.specs.LoweredStatements.{lowered_side, lowered_over, lowered_shown}
+use Rattle.dpl_lowered.proofs.Nests.{as_expr-base, as_item-base, nested-base, stacked-base}
+
+-- what is seen in the tree is seen in the lowered tree
+abbrev pub AsSeen : {A : Type 0} → Option A → Option A → Type 0
+AsSeen None p = Unit {0}
+AsSeen (Some x) p = p ≡ Some x
+
+none-seen : {A : Type 0} (o : Option A) → AsSeen o None → None ≡ o
+none-seen None a = refl
+none-seen (Some x) a = a
+
+-- the base, without its place
+abbrev pub placeless : {N : Type 0} → Base N → Base N
+placeless (BaseName x) = BaseName (unplaced x)
+placeless (BaseLocales at) = BaseLocales nowhere
+placeless OtherBase = OtherBase
+
+module _ {N : Type 0} where
+  -- AN EXPRESSION AS AN ITEM
+  as_item-read : (l : ExprTree N) (o : Option (ReadTree N)) → AsSeen o (cell_read l) → AsSeen o (item_read (as_item l))
+  as_item-read l None a = tt
+  as_item-read (Number at n) (Some r) a = a
+  as_item-read (TruthWord at b) (Some r) a = a
+  as_item-read (Named x) (Some r) a = a
+  as_item-read (LocalesWord at) (Some r) a = a
+  as_item-read (LocaleCount at) (Some r) a = a
+  as_item-read (HereWord at) (Some r) a = a
+  as_item-read (Grouped from item upto) (Some r) a = absurd (let no : None ≡ Some r = a in cc)
+  as_item-read (DomainLiteral from items upto) (Some r) a = a
+  as_item-read (Prefixed at op e) (Some r) a = a
+  as_item-read (Reduced at op word e) (Some r) a = a
+  as_item-read (Chain e rest) (Some r) a = a
+  as_item-read (Postfixed e posts) (Some r) a = a
+
+  as_item-over : (l : ExprTree N) (o : Option N) → AsSeen o (name_of (bare_name l)) → AsSeen o (item_over (as_item l))
+  as_item-over l None a = tt
+  as_item-over (Number at n) (Some x) a = a
+  as_item-over (TruthWord at b) (Some x) a = a
+  as_item-over (Named y) (Some x) a = a
+  as_item-over (LocalesWord at) (Some x) a = a
+  as_item-over (LocaleCount at) (Some x) a = a
+  as_item-over (HereWord at) (Some x) a = a
+  as_item-over (Grouped from item upto) (Some x) a = absurd (let no : None ≡ Some x = a in cc)
+  as_item-over (DomainLiteral from items upto) (Some x) a = a
+  as_item-over (Prefixed at op e) (Some x) a = a
+  as_item-over (Reduced at op word e) (Some x) a = a
+  as_item-over (Chain e rest) (Some x) a = a
+  as_item-over (Postfixed e posts) (Some x) a = a
+
+  -- IN BRACKETS
+  hidden_item-read : (o p : Option (ReadTree N)) (i : ItemTree N) → item_read i ≡ p → AsSeen o p → item_read (hidden_item o p i) ≡ o
+  hidden_item-read None None i e a = e
+  hidden_item-read None (Some y) i e a = refl
+  hidden_item-read (Some r) p i e a = e ∙ a
+
+  hidden_item-over : (o p : Option N) (i : ItemTree N) → item_over i ≡ p → AsSeen o p → item_over (hidden_item o p i) ≡ o
+  hidden_item-over None None i e a = e
+  hidden_item-over None (Some y) i e a = refl
+  hidden_item-over (Some x) p i e a = e ∙ a
+
+  -- a bare name is no cell read
+  data Either (l : ExprTree N) : Type 0 where
+    NoRead : cell_read l ≡ None → Either l
+    NoName : bare_name l ≡ None → Either l
+
+  either : (l : ExprTree N) → Either l
+  either (Number at n) = NoRead refl
+  either (TruthWord at b) = NoRead refl
+  either (Named x) = NoRead refl
+  either (LocalesWord at) = NoRead refl
+  either (LocaleCount at) = NoRead refl
+  either (HereWord at) = NoRead refl
+  either (Grouped from item upto) = NoRead refl
+  either (DomainLiteral from items upto) = NoRead refl
+  either (Prefixed at op e) = NoRead refl
+  either (Reduced at op word e) = NoRead refl
+  either (Chain e rest) = NoRead refl
+  either (Postfixed e posts) = NoName refl
+
+  hidden-read : (o p : Option (ReadTree N)) (l : ExprTree N) → cell_read l ≡ p → AsSeen o p → cell_read (hidden o p l) ≡ o
+  hidden-read None None l e a = e
+  hidden-read None (Some y) l e a = refl
+  hidden-read (Some r) p l e a = e ∙ a
+
+  -- what is handed to `write` is the read that the tree is
+  shown-read_by : (b c : Option (Placed N)) (o p : Option (ReadTree N)) (l : ExprTree N) → cell_read l ≡ p → bare_name l ≡ c → Either l → AsSeen o p
+      → cell_read (hidden b c (hidden o p l)) ≡ o
+  shown-read_by (Some x) c o p l e n w a = hidden-read o p l e a
+  shown-read_by None None o p l e n w a = hidden-read o p l e a
+  shown-read_by None (Some y) o p l e n (NoRead d) a = none-seen o (let same : p ≡ None = sym e ∙ d in subst (AsSeen o) same a)
+  shown-read_by None (Some y) o p l e n (NoName d) a = absurd (let no : None ≡ Some y = sym d ∙ n in cc)
+
+  -- and the bare name
+  inner-name : (o p : Option (ReadTree N)) (l : ExprTree N) → name_of (bare_name l) ≡ None → name_of (bare_name (hidden o p l)) ≡ None
+  inner-name None None l n = n
+  inner-name None (Some y) l n = refl
+  inner-name (Some r) p l n = n
+
+  inner-named : (o p : Option (ReadTree N)) (x : N) (l : ExprTree N) → cell_read l ≡ p → Either l → name_of (bare_name l) ≡ Some x → name_of (bare_name (hidden o p l)) ≡ Some x
+  inner-named None None x l e w n = n
+  inner-named None (Some y) x l e (NoRead d) n = absurd (let no : None ≡ Some y = sym d ∙ e in cc)
+  inner-named None (Some y) x l e (NoName d) n = absurd (let no : None ≡ Some x = sym (ap name_of d) ∙ n in cc)
+  inner-named (Some r) p x l e w n = n
+
+  shown-name_by : (b c : Option (Placed N)) (o p : Option (ReadTree N)) (l : ExprTree N) → cell_read l ≡ p → bare_name l ≡ c → Either l → AsSeen (name_of b) (name_of c)
+      → name_of (bare_name (hidden b c (hidden o p l))) ≡ name_of b
+  shown-name_by None None o p l e n w a = inner-name o p l (ap name_of n)
+  shown-name_by None (Some y) o p l e n w a = refl
+  shown-name_by (Some x) c o p l e n w a = inner-named o p x.name l e w (ap name_of n ∙ a)
+
+module _ {N : Type 0} (known : N → Known) where
+  -- BASES
+  mutual
+    pub base_of-lowered : (e : ExprTree N) → base_of (lowered_expr known Once e) ≡ placeless (base_of e)
+    base_of-lowered (Number at n) = refl
+    base_of-lowered (TruthWord at b) = refl
+    base_of-lowered (Named x) = refl
+    base_of-lowered (LocalesWord at) = refl
+    base_of-lowered (LocaleCount at) = refl
+    base_of-lowered (HereWord at) = refl
+    base_of-lowered (Grouped from item upto) = as_expr-base (lowered_item known Once item) ∙ item_base-lowered item
+    base_of-lowered (DomainLiteral from items upto) = refl
+    base_of-lowered (Prefixed at op e) = refl
+    base_of-lowered (Reduced at op word e) = refl
+    base_of-lowered (Chain e rest) = nested-base (lowered_expr known Once e) (lowered_links known Once rest)
+    base_of-lowered (Postfixed e posts) =
+        stacked-base (read_base (posts_read posts) (bare_name e) (rebased (told_base known posts (base_of e)) (lowered_expr known Once e))) (lowered_posts known (base_of e) posts)
+
+    item_base-lowered : (i : ItemTree N) → item_base (lowered_item known Once i) ≡ placeless (item_base i)
+    item_base-lowered (One e) = as_item-base (lowered_expr known Once e) ∙ base_of-lowered e
+    item_base-lowered (RangeItem low at dots high by) = refl
+
+  -- CELL READS
+  reads-named : (m : Times) (x : Placed N) (posts : Posts N) → AsSeen (read_by (Some x) (posts_read posts)) (cell_read (lowered_expr known m (Postfixed (Named x) posts)))
+  reads-named m x NoPosts = tt
+  reads-named m x (Post (Brackets from items upto) NoPosts) = tt
+  reads-named m x (Post (Rounds from es upto) NoPosts) = tt
+  reads-named m x (Post (Dotted dot (Plainly at w)) NoPosts) = tt
+  reads-named m x (Post (Dotted dot (Dim at from rank_at d upto)) NoPosts) = tt
+  reads-named m x (Post (Dotted dot (Contains at from es upto)) NoPosts) = tt
+  reads-named m x (Post (Dotted dot (Expand at from e upto)) NoPosts) = tt
+  reads-named m x (Post (Dotted dot (CellRead at w from upto)) NoPosts) = refl
+  reads-named m x (Post p (Post q rest)) = tt
+
+  cell_read-lowered : (m : Times) (e : ExprTree N) → AsSeen (cell_read e) (cell_read (lowered_expr known m e))
+  cell_read-lowered m (Number at n) = tt
+  cell_read-lowered m (TruthWord at b) = tt
+  cell_read-lowered m (Named x) = tt
+  cell_read-lowered m (LocalesWord at) = tt
+  cell_read-lowered m (LocaleCount at) = tt
+  cell_read-lowered m (HereWord at) = tt
+  cell_read-lowered m (Grouped from item upto) = tt
+  cell_read-lowered m (DomainLiteral from items upto) = tt
+  cell_read-lowered m (Prefixed at op e) = tt
+  cell_read-lowered m (Reduced at op word e) = tt
+  cell_read-lowered m (Chain e rest) = tt
+  cell_read-lowered m (Postfixed (Number at n) posts) = tt
+  cell_read-lowered m (Postfixed (TruthWord at b) posts) = tt
+  cell_read-lowered m (Postfixed (Named x) posts) = reads-named m x posts
+  cell_read-lowered m (Postfixed (LocalesWord at) posts) = tt
+  cell_read-lowered m (Postfixed (LocaleCount at) posts) = tt
+  cell_read-lowered m (Postfixed (HereWord at) posts) = tt
+  cell_read-lowered m (Postfixed (Grouped from item upto) posts) = tt
+  cell_read-lowered m (Postfixed (DomainLiteral from items upto) posts) = tt
+  cell_read-lowered m (Postfixed (Prefixed at op e) posts) = tt
+  cell_read-lowered m (Postfixed (Reduced at op word e) posts) = tt
+  cell_read-lowered m (Postfixed (Chain e rest) posts) = tt
+  cell_read-lowered m (Postfixed (Postfixed e first) posts) = tt
+
+  item_read-lowered : (m : Times) (i : ItemTree N) → AsSeen (item_read i) (item_read (lowered_item known m i))
+  item_read-lowered m (One e) = as_item-read (lowered_expr known m e) (cell_read e) (cell_read-lowered m e)
+  item_read-lowered m (RangeItem low at dots high by) = tt
+
+  -- BARE NAMES
+  bare_name-lowered : (m : Times) (e : ExprTree N) → AsSeen (name_of (bare_name e)) (name_of (bare_name (lowered_expr known m e)))
+  bare_name-lowered m (Number at n) = tt
+  bare_name-lowered m (TruthWord at b) = tt
+  bare_name-lowered m (Named x) = refl
+  bare_name-lowered m (LocalesWord at) = tt
+  bare_name-lowered m (LocaleCount at) = tt
+  bare_name-lowered m (HereWord at) = tt
+  bare_name-lowered m (Grouped from item upto) = tt
+  bare_name-lowered m (DomainLiteral from items upto) = tt
+  bare_name-lowered m (Prefixed at op e) = tt
+  bare_name-lowered m (Reduced at op word e) = tt
+  bare_name-lowered m (Chain e rest) = tt
+  bare_name-lowered m (Postfixed e posts) = tt
+
+  item_over-lowered : (m : Times) (i : ItemTree N) → AsSeen (item_over i) (item_over (lowered_item known m i))
+  item_over-lowered m (One e) = as_item-over (lowered_expr known m e) (name_of (bare_name e)) (bare_name-lowered m e)
+  item_over-lowered m (RangeItem low at dots high by) = tt
+
+  -- WHERE PHRASES ARE LOOKED FOR
+  pub side-read : (m : Times) (i : ItemTree N) → item_read (lowered_side known m i) ≡ item_read i
+  side-read m i = hidden_item-read (item_read i) (item_read (lowered_item known m i)) (lowered_item known m i) refl (item_read-lowered m i)
+
+  pub over-declared : (is : Items N) → declared_over (lowered_over known is) ≡ declared_over is
+  over-declared (FirstItem i NoItems) =
+      hidden_item-over (item_over i) (item_over (lowered_item known Once i)) (lowered_item known Once i) refl (item_over-lowered Once i)
+  over-declared (FirstItem i (NextItem comma j more)) = refl
+
+  pub shown-read : (e : ExprTree N) → cell_read (lowered_shown known e (lowered_expr known Once e)) ≡ cell_read e
+  shown-read e = shown-read_by (bare_name e) _ (cell_read e) _ (lowered_expr known Once e) refl refl (either (lowered_expr known Once e)) (cell_read-lowered Once e)
+
+  pub shown-name : (e : ExprTree N) → name_of (bare_name (lowered_shown known e (lowered_expr known Once e))) ≡ name_of (bare_name e)
+  shown-name e = shown-name_by (bare_name e) _ (cell_read e) _ (lowered_expr known Once e) refl refl (either (lowered_expr known Once e)) (bare_name-lowered Once e)
