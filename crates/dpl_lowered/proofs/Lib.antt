@@ -4,3 +4,8 @@ pub mod Seen
 pub mod Bases
 -- The laws: what a lowered tree means is what the tree means.
 pub mod Values
+pub mod Parts
+pub mod Assignments
+pub mod Declarations
+pub mod Writing
+pub mod Runs

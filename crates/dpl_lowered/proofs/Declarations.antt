@@ -1,0 +1,120 @@
+-- A lowered declaration runs as the declaration that it comes from.
+-- By its type: a plain variable's initial value is written, and an array's domain and initial value are what they were.
+use Rattle.std.proofs.Common.{◌≡◌, ℕ, nat_lt, Bool, true, false, List, [], ◌∷◌, ◌++◌, refl, sym, ap, ◌∙◌, subst, Ok, Err, Some, None, Result, Option, map}
+use Rattle.std.specs.Prelude.{◌&&◌, ◌||◌, option_map, pos}
+use mathlib.Core.Path.{fun_ext}
+use Rattle.dpl_syntax.specs.declared.place.Place.{Place}
+use Rattle.dpl_range.specs.Equality.{TextRange}
+use Rattle.dpl_language.specs.Values.{Value, Int, Index, index_of, ranges_in, array_domain, is_domain, default, kept_number, number, truth, Fault, fault, Budget, ArrayTooLarge, PastLimit}
+use Rattle.dpl_language.specs.Arithmetic.{assigned, assign_divides, tested_divisor}
+use Rattle.dpl_language.specs.Ranges.{indices_in, size_in, too_large, sized, loop_ranges, loop_value}
+use Rattle.dpl_language.specs.Printing.{printed, printed_array}
+use Rattle.dpl_language.specs.Tree.{Placed, AfterComma, Listed, Op, Kind, IntKind, BoolKind, Assign, AssignTree, ExprTree, Number, TruthWord, ItemTree, One, Items, FirstItem, MoreItems, NoItems, NextItem, Exprs, ArrayTypeTree, TypeTree, ScalarType, SyncType, DomainType, ArrayType, InitTree, ItemInit, CreateInit, TypedTree, InitialTree, DeclareTree}
+use Rattle.dpl_language.specs.Tree.{ArgumentTree, TextArgument, ExprArgument, WriteTree, IntentTree, ReduceIntent, RefIntent, WithTree, VariablesTree, OneVariable, ManyVariables, TargetTree, Whole, Element, CallTree, ReadCall, ResetCall, WriteCall, StmtTree, Nothing, Declare, Assigned, Call, Write, Block, If, While, For, Forall, Coforall, On, Body, WordBody, BlockBody, Stmts, NoStmts, Then, Else, NoElse, ElseDo, ProgramTree}
+use Rattle.dpl_language.specs.Outcome.{Deeds, Outcome, Done, Stop, Waits, Run, with_ok, with_value, then_do, choose, unless, repeated, with_text}
+use Rattle.dpl_language.specs.Environment.{Environment, Limits, Plain, Content}
+use Rattle.dpl_language.specs.Phrases.{parts, bare_name, cell_read, item_read, ReadTree, name_of, declared_over, intents_of, reduce_intents, write_op}
+use Rattle.dpl_language.specs.Expressions.{found, value_of, item_of, items_of, more_items, values_of, whole_item, domain_of}
+use Rattle.dpl_language.specs.Assignments.{read_or, evaluated, change, assign_array, assign_domain, assign_plain, assign_name, assign_element, assign, cell_call, called, and_no_more}
+use Rattle.dpl_language.specs.Declarations.{gathered, filled, Shell, array_with, type_of, declaring, initial_then, declare_with, array_of_item, array_of_init, array_of, declare_array, declare_typed, given_or, declare_by, declare}
+use Rattle.dpl_language.specs.Writing.{or_zero, line_end, arguments_of, name_shown, shown, arguments_then, write}
+use Rattle.dpl_language.specs.Loops.{within_budget, named_turn, scoped, declare_each, bound_to, turn_of}
+use Rattle.dpl_language.specs.Statements.{task_limit, holds, exec, exec_body, exec_all, exec_else}
+use Rattle.dpl_language.specs.Tasks.{tasks_of}
+use Rattle.dpl_language.proofs.RunsAlike.{with_ok-same}
+use Rattle.dpl_lowered.specs.Known.{Known, Unknown, WholeArray, NoArray, PlainValue, nothing_known, may_be_array, may_be_whole, IsAsKnown, IsKnown}
+use Rattle.dpl_lowered.specs.Shapes.{nowhere, kept, placed, unplaced, relisted, hidden, hidden_item}
+use Rattle.dpl_lowered.specs.LoweredExpressions.{Times, Once, EachTurn, lowered_expr, lowered_item, lowered_items, lowered_more_items, lowered_exprs}
+use Rattle.dpl_lowered.specs.LoweredStatements.{default_tree, domain_type, written_type, tells_name, unplaced_word, lowered_variables, reduce_intent, behind_comma, with_intents, lowered_sign, times_by, lowered_side, lowered_over, lowered_array, lowered_init, plain_initial, lowered_initial, array_init, array_initial, declared_type, declared_initial, lowered_declare, lowered_target, target_sign, target_times, lowered_call, lowered_shown, lowered_argument, lowered_write, lowered_stmt, lowered_body, lowered_stmts, lowered_else, lowered_program}
+use Rattle.dpl_lowered.proofs.Nests.{kept-enough, hidden-value, hidden_item-value, hidden_item-whole}
+use Rattle.dpl_lowered.proofs.Seen.{side-read, over-declared, shown-read, shown-name}
+use Rattle.dpl_lowered.proofs.Values.{Allows, value_of-lowered, item_of-lowered, whole_item-lowered, items_of-lowered, more_items-lowered, values_of-lowered}
+use Rattle.dpl_lowered.proofs.Parts.{type_of-written}
+use Rattle.dpl_lowered.proofs.Assignments.{side-value, side-whole, evaluated-lowered}
+
+module _ {N S : Type 0} (limits : Limits) (env : Environment N S) (known : N → Known) (is : IsKnown known env) where
+  -- an initial value that is evaluated once
+  init-lowered : (i : InitTree N) (go : Value → Run S) (s : S) (done : Deeds) → initial_then limits env (ItemInit (lowered_init known i) None) go s done ≡ initial_then limits env i go s done
+  init-lowered (ItemInit item mapped) go s done = evaluated-lowered limits env known is Once item go s done
+  init-lowered (CreateInit c) go s done =
+      ap (λ r. with_value r go s done) (with_ok-same _ _ _ _ (items_of-lowered limits env known is c.items s) (λ vs. refl))
+
+  plain-lowered : (k : Kind) (x : Placed N) (i : Option (InitialTree N)) (s : S) (done : Deeds)
+      → declare_with limits env (placed false x) (Plain (Int (pos 0))) (λ v. Plain v) (plain_initial known (default_tree k) i) s done ≡ declare_with limits env x (Plain (default k)) (λ v. Plain v) i s done
+  plain-lowered IntKind x None s done = refl
+  plain-lowered BoolKind x None s done = refl
+  plain-lowered k x (Some i) s done = init-lowered i.init _ s done
+
+  domain-lowered : (x : Placed N) (d : _) (i : Option (InitialTree N)) (s : S) (done : Deeds)
+      → declare_typed limits env (placed false x) (domain_type d i) (lowered_initial known i) s done ≡ declare_typed limits env x (Some (DomainType d)) i s done
+  domain-lowered x d None s done = refl
+  domain-lowered x d (Some i) s done = init-lowered i.init _ s done
+
+  cell-lowered : (x : Placed N) (c : Content N) (make : Value → Content N) (i : Option (InitialTree N)) (s : S) (done : Deeds)
+      → declare_with limits env (placed false x) c make (lowered_initial known i) s done ≡ declare_with limits env x c make i s done
+  cell-lowered x c make None s done = refl
+  cell-lowered x c make (Some i) s done = init-lowered i.init _ s done
+
+  -- ARRAYS
+  array_of_item-lowered : (x : Placed N) (a : Shell N) (at : Place) (i : ItemTree N) (o : Option (List TextRange)) (s : S) (done : Deeds)
+      → array_of_item limits env (placed true x) a at (lowered_side known EachTurn i) o s done ≡ array_of_item limits env x a at i o s done
+  array_of_item-lowered x a at i None s done = evaluated-lowered limits env known is EachTurn i _ s done
+  array_of_item-lowered x a at i (Some arrays) s done =
+      ap (λ go. unless (nat_lt limits.budget (size_in a.ranges)) (fault Budget at) go s done)
+      (fun_ext (λ s. fun_ext (λ done.
+      ap (λ value. with_value (gathered value (indices_in a.ranges)) (λ vs. declaring limits env x (array_with a vs)) s done)
+      (fun_ext (λ t. side-value limits env known is EachTurn i (Some t) s tt)))))
+
+  array_of_init-lowered : (x : Placed N) (a : Shell N) (at : Place) (i : InitTree N) (s : S) (done : Deeds)
+      → array_of limits env (placed true x) a (array_init known at i) s done ≡ array_of_init limits env x a at i s done
+  array_of_init-lowered x a at (ItemInit item mapped) s done =
+      ap (λ o. array_of_item limits env (placed true x) a at (lowered_side known EachTurn item) o s done) (side-whole limits env known is EachTurn item s)
+      ∙ array_of_item-lowered x a at item (whole_item limits env item s) s done
+  array_of_init-lowered x a at (CreateInit c) s done = refl
+
+  array_of-lowered : (x : Placed N) (a : Shell N) (i : Option (InitialTree N)) (s : S) (done : Deeds)
+      → array_of limits env (placed true x) a (array_initial known i) s done ≡ array_of limits env x a i s done
+  array_of-lowered x a None s done = refl
+  array_of-lowered x a (Some i) s done = array_of_init-lowered x a i.equals i.init s done
+
+  over-values : (items : Items N) (s : S) → items_of limits env (lowered_over known items) s ≡ items_of limits env items s
+  over-values (FirstItem i NoItems) s =
+      with_ok-same _ _ _ _ (hidden_item-value limits env _ _ (lowered_item known Once i) None s ∙ item_of-lowered limits env known is Once i None s tt) (λ v. refl)
+  over-values (FirstItem i (NextItem comma j more)) s = items_of-lowered limits env known is (FirstItem i (NextItem comma j more)) s
+
+  declare_array-lowered : (x : Placed N) (a : ArrayTypeTree N) (i : Option (InitialTree N)) (s : S) (done : Deeds)
+      → declare_array limits env (placed true x) (lowered_array known a) (array_initial known i) s done ≡ declare_array limits env x a i s done
+  declare_array-lowered x a i s done =
+      ap (λ r. with_value r (λ d. unless (too_large (ranges_in d)) (fault ArrayTooLarge x.at) (array_of limits env (placed true x) (record { over = declared_over (lowered_over known a.over); kind = a.kind; ranges = ranges_in d }) (array_initial known i))) s done)
+      (with_ok-same _ _ _ _ (over-values a.over s) (λ vs. refl))
+      ∙ ap (λ over. with_value (domain_of limits env a.from a.over s) (λ d. unless (too_large (ranges_in d)) (fault ArrayTooLarge x.at) (array_of limits env (placed true x) (record { over = over; kind = a.kind; ranges = ranges_in d }) (array_initial known i))) s done)
+      (over-declared known a.over)
+      ∙ ap (λ go. with_value (domain_of limits env a.from a.over s) go s done)
+      (fun_ext (λ d. ap (unless (too_large (ranges_in d)) (fault ArrayTooLarge x.at))
+      (fun_ext (λ s. fun_ext (λ done. array_of-lowered x (record { over = declared_over a.over; kind = a.kind; ranges = ranges_in d }) i s done)))))
+
+  -- BY ITS TYPE
+  declare_typed-lowered : (x : Placed N) (type : Option (TypeTree N)) (i : Option (InitialTree N)) (s : S) (done : Deeds)
+      → declare_typed limits env (placed (tells_name type) x) (declared_type known type i) (declared_initial known type i) s done ≡ declare_typed limits env x type i s done
+  declare_typed-lowered x None i s done = plain-lowered IntKind x i s done
+  declare_typed-lowered x (Some (ScalarType at k)) i s done = plain-lowered k x i s done
+  declare_typed-lowered x (Some (SyncType at kind_at k)) i s done = cell-lowered x _ _ i s done
+  declare_typed-lowered x (Some (DomainType d)) i s done = domain-lowered x d i s done
+  declare_typed-lowered x (Some (ArrayType a)) i s done = declare_array-lowered x a i s done
+
+  typed-lowered : (d : DeclareTree N) (s : S) (done : Deeds)
+      → declare_typed limits env (lowered_declare known d).name (type_of (lowered_declare known d).typed) (lowered_declare known d).initial s done ≡ declare_typed limits env d.name (type_of d.typed) d.initial s done
+  typed-lowered d s done =
+      ap (λ type. declare_typed limits env (lowered_declare known d).name type (lowered_declare known d).initial s done) (type_of-written (declared_type known (type_of d.typed) d.initial))
+      ∙ declare_typed-lowered d.name (type_of d.typed) d.initial s done
+
+  given_or-same : (told : Bool) (x : Placed N) (o : Option Value) (a b : Run S) (s : S) (done : Deeds) → a s done ≡ b s done → given_or limits env (placed told x) o a s done ≡ given_or limits env x o b s done
+  given_or-same told x None a b s done e = e
+  given_or-same told x (Some v) a b s done e = refl
+
+  declare_by-lowered : (config : Option Place) (d : DeclareTree N) (s : S) (done : Deeds) → declare_by limits env (unplaced_word config) (lowered_declare known d) s done ≡ declare_by limits env config d s done
+  declare_by-lowered None d s done = typed-lowered d s done
+  declare_by-lowered (Some at) d s done = given_or-same (tells_name (type_of d.typed)) d.name (env.given d.name.name s) _ _ s done (typed-lowered d s done)
+
+  pub declare-lowered : (d : DeclareTree N) (s : S) (done : Deeds) → declare limits env (lowered_declare known d) s done ≡ declare limits env d s done
+  declare-lowered d s done = declare_by-lowered d.config d s done
