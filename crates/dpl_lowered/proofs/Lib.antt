@@ -9,3 +9,4 @@ pub mod Assignments
 pub mod Declarations
 pub mod Writing
 pub mod Runs
+pub mod Programs
