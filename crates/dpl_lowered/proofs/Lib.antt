@@ -10,3 +10,5 @@ pub mod Declarations
 pub mod Writing
 pub mod Runs
 pub mod Programs
+-- Rows that are worked out against the definitions.
+pub mod Worked

@@ -1,0 +1,340 @@
+-- Small trees and what they are lowered to, one row for each decision that changes no meaning or that keeps one.
+-- Names are numbers here, and each token stands in line 1, at the column that its row gives.
+use Rattle.std.proofs.Common.{◌≡◌, ℕ, pos, true, false, [], ◌∷◌, refl, Some, None, Option, List}
+use Rattle.std.specs.Prelude.{codes}
+use Rattle.dpl_syntax.specs.declared.place.Place.{Place}
+use Rattle.dpl_language.specs.Tree.{Placed, AfterComma, Listed, Minus, Infix, Add, Subtract, Divide, Remainder, And, Or, Sum, AssignTree, Assign, Set, SetDivide, IntKind, BoolKind, Closed, Counted, Size, First, DomainOf, ReadFEWord, WriteEFWord, ExprTree, Number, TruthWord, Named, LocalesWord, HereWord, Grouped, DomainLiteral, Prefixed, Reduced, Chain, Postfixed, ItemTree, One, RangeItem, NoStride, By, NoLinks, Link, NoPosts, Post, Brackets, Rounds, Dotted, Plainly, Dim, Contains, Expand, CellRead, Items, FirstItem, NoItems, NextItem, Exprs, FirstExpr, NoExprs, NextExpr}
+use Rattle.dpl_language.specs.Tree.{BlockMap, MappedTree, TypeTree, ScalarType, SyncType, DomainType, ArrayType, InitTree, ItemInit, CreateBlock, CreateInit, TypedTree, InitialTree, DeclareTree, TextArgument, ExprArgument, WriteTree, IntentTree, ReduceIntent, RefIntent, WithTree, OneVariable, ManyVariables, Whole, Element, Square, Round, ReadCall, WriteCall, StmtTree, Nothing, Declare, Assigned, Call, Write, Block, If, While, For, Forall, Coforall, On, WordBody, BlockBody, NoStmts, Then, NoElse, ElseDo, ProgramTree, BlockModule}
+use Rattle.dpl_lowered.specs.Known.{Known, WholeArray, NoArray, PlainValue, nothing_known}
+use Rattle.dpl_lowered.specs.Shapes.{nowhere, two}
+use Rattle.dpl_lowered.specs.LoweredExpressions.{Once, EachTurn, lowered_expr, lowered_item}
+use Rattle.dpl_lowered.specs.LoweredStatements.{lowered_side, lowered_over, lowered_declare, lowered_stmt, lowered_body, lowered_program}
+
+-- HOW ROWS ARE WRITTEN
+-- a place that stays, and those of tokens of which no place is left
+abbrev at : ℕ → Place
+at column = record { line = 1; column = column }
+
+-- the place of each token that goes
+abbrev gone : Place
+gone = at 99
+
+-- a number and a name in a tree, and in a lowered one
+abbrev number : ℕ → ExprTree ℕ
+number n = Number gone (pos n)
+
+abbrev placeless : ℕ → ExprTree ℕ
+placeless n = Number nowhere (pos n)
+
+abbrev name : ℕ → ℕ → Placed ℕ
+name column x = record { at = at column; name = x }
+
+abbrev bare : ℕ → Placed ℕ
+bare x = record { at = nowhere; name = x }
+
+-- round brackets
+abbrev bracketed : ItemTree ℕ → ExprTree ℕ
+bracketed item = Grouped gone item gone
+
+abbrev kept_brackets : ItemTree ℕ → ExprTree ℕ
+kept_brackets item = Grouped nowhere item nowhere
+
+-- a list of one item or expression
+abbrev only : ItemTree ℕ → Items ℕ
+only item = FirstItem item NoItems
+
+abbrev alone : ExprTree ℕ → Exprs ℕ
+alone e = FirstExpr e NoExprs
+
+-- all names are those of arrays, or of plain variables
+abbrev arrays : ℕ → Known
+arrays x = WholeArray
+
+abbrev plain : ℕ → Known
+plain x = PlainValue
+
+-- NUMBERS, BRACKETS AND CHAINS
+-- ((7))
+brackets_go : lowered_expr nothing_known Once (bracketed (One (bracketed (One (number 7))))) ≡ placeless 7
+brackets_go = refl
+
+-- 8 - 4 - 2 is (8 - 4) - 2, and neither operator is told
+two_by_two : lowered_expr nothing_known Once (Chain (number 8) (Link gone Subtract (number 4) (Link gone Subtract (number 2) NoLinks))) ≡ two (two (placeless 8) nowhere Subtract (placeless 4)) nowhere Subtract (placeless 2)
+two_by_two = refl
+
+-- 8 / 4 % (2): both operators are told
+divisions_are_told : lowered_expr nothing_known Once (Chain (number 8) (Link (at 3) Divide (number 4) (Link (at 7) Remainder (bracketed (One (number 2))) NoLinks)))
+    ≡ two (two (placeless 8) (at 3) Divide (placeless 4)) (at 7) Remainder (placeless 2)
+divisions_are_told = refl
+
+-- 8 - (4 - 2) stays grouped to the right
+grouping_stays : lowered_expr nothing_known Once (Chain (number 8) (Link gone Subtract (bracketed (One (Chain (number 4) (Link gone Subtract (number 2) NoLinks)))) NoLinks))
+    ≡ two (placeless 8) nowhere Subtract (two (placeless 4) nowhere Subtract (placeless 2))
+grouping_stays = refl
+
+-- a && b && c
+ands_nest : lowered_expr nothing_known Once (Chain (Named (name 1 0)) (Link gone And (Named (name 6 1)) (Link gone And (Named (name 11 2)) NoLinks))) ≡ two (two (Named (bare 0)) nowhere And (Named (bare 1))) nowhere And (Named (bare 2))
+ands_nest = refl
+
+-- a && b / c in one chain, which no text spells, isn't (a && b) / c
+mixed_chains_stay : lowered_expr nothing_known Once (Chain (Named (name 1 0)) (Link gone And (Named (name 6 1)) (Link (at 8) Divide (Named (name 10 2)) NoLinks)))
+    ≡ Chain (Named (bare 0)) (Link nowhere And (Named (bare 1)) (Link (at 8) Divide (Named (bare 2)) NoLinks))
+mixed_chains_stay = refl
+
+-- RANGES
+-- ((1..#3 by 2)): the dots and `by` are told, and brackets stay round a range
+range_in_brackets : lowered_expr nothing_known Once (bracketed (One (bracketed (RangeItem (number 1) (at 4) (Counted gone) (number 3) (By (at 9) (number 2))))))
+    ≡ kept_brackets (RangeItem (placeless 1) (at 4) (Counted nowhere) (placeless 3) (By (at 9) (placeless 2)))
+range_in_brackets = refl
+
+-- as an item it needs none; and a stride that is left out is not `by 1`
+range_as_an_item : lowered_item nothing_known Once (One (bracketed (RangeItem (number 1) (at 3) Closed (number 8) NoStride))) ≡ RangeItem (placeless 1) (at 3) Closed (placeless 8) NoStride
+range_as_an_item = refl
+
+-- { 1..8, D }: the opening bracket is told
+domain_literal : lowered_expr nothing_known Once (DomainLiteral (at 1) (FirstItem (RangeItem (number 1) (at 4) Closed (number 8) NoStride) (NextItem gone (One (Named (name 9 0))) NoItems)) gone)
+    ≡ DomainLiteral (at 1) (FirstItem (RangeItem (placeless 1) (at 4) Closed (placeless 8) NoStride) (NextItem nowhere (One (Named (bare 0))) NoItems)) nowhere
+domain_literal = refl
+
+-- NAMES
+-- a name is told at an index, where it may be an array's
+name_once : lowered_expr nothing_known Once (Named (name 1 0)) ≡ Named (bare 0)
+name_once = refl
+
+name_in_turns : lowered_expr nothing_known EachTurn (Named (name 1 0)) ≡ Named (name 1 0)
+name_in_turns = refl
+
+array_in_turns : lowered_expr arrays EachTurn (Named (name 1 0)) ≡ Named (name 1 0)
+array_in_turns = refl
+
+plain_in_turns : lowered_expr plain EachTurn (Named (name 1 0)) ≡ Named (bare 0)
+plain_in_turns = refl
+
+-- + reduce -A: `reduce` is told, and A at each index
+reduction : lowered_expr nothing_known Once (Reduced gone Sum (at 3) (Prefixed gone Minus (Named (name 11 0)))) ≡ Reduced nowhere Sum (at 3) (Prefixed nowhere Minus (Named (name 11 0)))
+reduction = refl
+
+-- ACCESSES AND METHODS
+-- (A)[1] is A[1], and A is told
+element : lowered_expr nothing_known Once (Postfixed (bracketed (One (Named (name 2 0)))) (Post (Brackets gone (only (One (number 1))) gone) NoPosts)) ≡ Postfixed (Named (name 2 0)) (Post (Brackets nowhere (only (One (placeless 1))) nowhere) NoPosts)
+element = refl
+
+-- D[2..3], where D is known to be no array's name: it is not told
+slice : lowered_expr plain Once (Postfixed (Named (name 1 0)) (Post (Brackets gone (only (RangeItem (number 2) (at 4) Closed (number 3) NoStride)) gone) NoPosts))
+    ≡ Postfixed (Named (bare 0)) (Post (Brackets nowhere (only (RangeItem (placeless 2) (at 4) Closed (placeless 3) NoStride)) nowhere) NoPosts)
+slice = refl
+
+-- A(1) is A[1] where A is known to be an array's name
+round_element : lowered_expr arrays Once (Postfixed (Named (name 1 0)) (Post (Rounds gone (alone (number 1)) gone) NoPosts)) ≡ Postfixed (Named (name 1 0)) (Post (Brackets nowhere (only (One (placeless 1))) nowhere) NoPosts)
+round_element = refl
+
+-- else it stays as it is
+round_brackets : lowered_expr nothing_known Once (Postfixed (Named (name 1 0)) (Post (Rounds gone (alone (number 1)) gone) NoPosts)) ≡ Postfixed (Named (name 1 0)) (Post (Rounds nowhere (alone (placeless 1)) nowhere) NoPosts)
+round_brackets = refl
+
+-- A.domain.dim(0).first: one post behind another; the end is told, and A is not
+posts_one_by_one : lowered_expr nothing_known Once (Postfixed (Named (name 1 0)) (Post (Dotted gone (Plainly gone DomainOf)) (Post (Dotted gone (Dim gone gone gone 0 gone)) (Post (Dotted gone (Plainly (at 17) First)) NoPosts))))
+    ≡ Postfixed (Postfixed (Postfixed (Named (bare 0)) (Post (Dotted nowhere (Plainly nowhere DomainOf)) NoPosts)) (Post (Dotted nowhere (Dim nowhere nowhere nowhere 0 nowhere)) NoPosts)) (Post (Dotted nowhere (Plainly (at 17) First)) NoPosts)
+posts_one_by_one = refl
+
+-- D.expand(1).contains(2): `expand` is told
+expansion : lowered_expr nothing_known Once (Postfixed (Named (name 1 0)) (Post (Dotted gone (Expand (at 3) gone (number 1) gone)) (Post (Dotted gone (Contains gone gone (alone (number 2)) gone)) NoPosts)))
+    ≡ Postfixed (Postfixed (Named (bare 0)) (Post (Dotted nowhere (Expand (at 3) nowhere (placeless 1) nowhere)) NoPosts)) (Post (Dotted nowhere (Contains nowhere nowhere (alone (placeless 2)) nowhere)) NoPosts)
+expansion = refl
+
+-- Locales[0] is told at `Locales`; by itself, and before a dot, it isn't
+one_locale : lowered_expr nothing_known Once (Postfixed (LocalesWord (at 1)) (Post (Brackets gone (only (One (number 0))) gone) NoPosts)) ≡ Postfixed (LocalesWord (at 1)) (Post (Brackets nowhere (only (One (placeless 0))) nowhere) NoPosts)
+one_locale = refl
+
+all_locales : lowered_expr nothing_known Once (Postfixed (bracketed (One (LocalesWord (at 2)))) (Post (Dotted gone (Plainly gone Size)) NoPosts)) ≡ Postfixed (LocalesWord nowhere) (Post (Dotted nowhere (Plainly nowhere Size)) NoPosts)
+all_locales = refl
+
+-- PHRASES
+-- c.readFE(): c is told
+abbrev read : ExprTree ℕ
+read = Postfixed (Named (name 5 0)) (Post (Dotted gone (CellRead gone ReadFEWord gone gone)) NoPosts)
+
+abbrev lowered_read : ExprTree ℕ
+lowered_read = Postfixed (Named (name 5 0)) (Post (Dotted nowhere (CellRead nowhere ReadFEWord nowhere nowhere)) NoPosts)
+
+cell_read : lowered_side nothing_known Once (One read) ≡ One lowered_read
+cell_read = refl
+
+-- x = ((c.readFE())); reads no cell, and one pair of brackets stays
+no_cell_read : lowered_side nothing_known Once (One (bracketed (One (bracketed (One read))))) ≡ One (kept_brackets (One lowered_read))
+no_cell_read = refl
+
+-- but in x = -(c.readFE()) they hide nothing
+operand_in_brackets : lowered_side nothing_known Once (One (Prefixed gone Minus (bracketed (One read)))) ≡ One (Prefixed nowhere Minus lowered_read)
+operand_in_brackets = refl
+
+-- (c).readFE() reads no cell, and c is not told
+read_of_no_name : lowered_expr nothing_known Once (Postfixed (bracketed (One (Named (name 2 0)))) (Post (Dotted gone (CellRead gone ReadFEWord gone gone)) NoPosts)) ≡ Postfixed (kept_brackets (One (Named (bare 0)))) (Post (Dotted nowhere (CellRead nowhere ReadFEWord nowhere nowhere)) NoPosts)
+read_of_no_name = refl
+
+-- [D] and [(D)]: the second array is over no name
+over_a_name : lowered_over nothing_known (only (One (Named (name 2 0)))) ≡ only (One (Named (bare 0)))
+over_a_name = refl
+
+over_no_name : lowered_over nothing_known (only (One (bracketed (One (Named (name 3 0)))))) ≡ only (One (kept_brackets (One (Named (bare 0)))))
+over_no_name = refl
+
+-- [(D), (1..8)]: behind a comma brackets hide nothing
+over_two : lowered_over nothing_known (FirstItem (One (bracketed (One (Named (name 3 0))))) (NextItem gone (One (bracketed (RangeItem (number 1) (at 9) Closed (number 8) NoStride))) NoItems))
+    ≡ FirstItem (One (Named (bare 0))) (NextItem nowhere (RangeItem (placeless 1) (at 9) Closed (placeless 8) NoStride) NoItems)
+over_two = refl
+
+-- write("s", A, (A)); shows the array once; no comma is left
+write_names : lowered_stmt nothing_known (Write (record {
+  at = gone;
+  ends_line = false;
+  from = gone;
+  arguments = Some (record { first = TextArgument gone (codes "s"); others = record { comma = gone; part = ExprArgument (Named (name 9 0)) } ∷ record { comma = gone; part = ExprArgument (bracketed (One (Named (name 13 0)))) } ∷ [] });
+  upto = gone;
+  semicolon = gone;
+}))
+    ≡ Write (record {
+  at = nowhere;
+  ends_line = false;
+  from = nowhere;
+  arguments = Some (record { first = TextArgument nowhere (codes "s"); others = record { comma = nowhere; part = ExprArgument (Named (bare 0)) } ∷ record { comma = nowhere; part = ExprArgument (kept_brackets (One (Named (bare 0)))) } ∷ [] });
+  upto = nowhere;
+  semicolon = nowhere;
+})
+write_names = refl
+
+-- DECLARATIONS
+-- a declaration of name 0 in column 7, and a lowered one, whose name is told or not
+abbrev declaring : Option Place → Option (TypeTree ℕ) → Option (InitialTree ℕ) → DeclareTree ℕ
+declaring config None initial = record { config = config; at = gone; constant = true; name = name 7 0; typed = None; initial = initial; semicolon = gone }
+declaring config (Some type) initial = record { config = config; at = gone; constant = true; name = name 7 0; typed = Some (record { colon = gone; type = type }); initial = initial; semicolon = gone }
+
+abbrev declared : Placed ℕ → Option (TypeTree ℕ) → Option (InitialTree ℕ) → DeclareTree ℕ
+declared x None initial = record { config = None; at = nowhere; constant = false; name = x; typed = None; initial = initial; semicolon = nowhere }
+declared x (Some type) initial = record { config = None; at = nowhere; constant = false; name = x; typed = Some (record { colon = nowhere; type = type }); initial = initial; semicolon = nowhere }
+
+abbrev initially : Place → ItemTree ℕ → Option (InitialTree ℕ)
+initially equals item = Some (record { equals = equals; init = ItemInit item None })
+
+-- var x: int; and var x: bool;
+int_variable : lowered_declare nothing_known (declaring None (Some (ScalarType gone IntKind)) None) ≡ declared (bare 0) None (initially nowhere (One (placeless 0)))
+int_variable = refl
+
+bool_variable : lowered_declare nothing_known (declaring None (Some (ScalarType gone BoolKind)) None) ≡ declared (bare 0) None (initially nowhere (One (TruthWord nowhere false)))
+bool_variable = refl
+
+-- const x: int = (7); is var x = 7;
+constant : lowered_declare nothing_known (declaring None (Some (ScalarType gone IntKind)) (initially gone (One (bracketed (One (number 7)))))) ≡ declared (bare 0) None (initially nowhere (One (placeless 7)))
+constant = refl
+
+-- config const x = 7; stays one
+config_constant : lowered_declare nothing_known (declaring (Some gone) None (initially gone (One (number 7)))) ≡ record (declared (bare 0) None (initially nowhere (One (placeless 7)))) { config = Some nowhere }
+config_constant = refl
+
+-- dmapped new blockDist({1..8})
+abbrev mapping : MappedTree ℕ
+mapping = record { at = gone; map = BlockMap (record { new = gone; word = gone; from = gone; argument = None; box = One (DomainLiteral gone (only (RangeItem (number 1) gone Closed (number 8) NoStride)) gone); upto = gone }) }
+
+-- var D: domain(2) dmapped ..; has no map
+domain_variable : lowered_declare nothing_known (declaring None (Some (DomainType (record { at = gone; from = gone; rank_at = gone; rank = 2; upto = gone; mapped = Some mapping }))) None)
+    ≡ declared (bare 0) (Some (DomainType (record { at = nowhere; from = nowhere; rank_at = nowhere; rank = 2; upto = nowhere; mapped = None }))) None
+domain_variable = refl
+
+-- var D: domain(1) = E dmapped ..; has no type either
+domain_value : lowered_declare nothing_known (declaring None (Some (DomainType (record { at = gone; from = gone; rank_at = gone; rank = 1; upto = gone; mapped = None }))) (Some (record { equals = gone; init = ItemInit (One (Named (name 22 1))) (Some mapping) })))
+    ≡ declared (bare 0) None (initially nowhere (One (Named (bare 1))))
+domain_value = refl
+
+-- var D = blockDist.createDomain(1..8); is var D = {1..8};
+created_domain : lowered_declare nothing_known (declaring None None (Some (record { equals = gone; init = CreateInit (record { at = gone; word = CreateBlock; dot = gone; method = gone; from = at 32; items = only (RangeItem (number 1) (at 34) Closed (number 8) NoStride); upto = gone }) })))
+    ≡ declared (bare 0) None (initially nowhere (One (DomainLiteral (at 32) (only (RangeItem (placeless 1) (at 34) Closed (placeless 8) NoStride)) nowhere)))
+created_domain = refl
+
+-- var c: sync int; is empty, and stays so
+cell : lowered_declare nothing_known (declaring None (Some (SyncType gone gone IntKind)) None) ≡ declared (bare 0) (Some (SyncType nowhere nowhere IntKind)) None
+cell = refl
+
+-- var A: [D] int = B; the name, the opening bracket, `=` and B are told
+array : lowered_declare nothing_known (declaring None (Some (ArrayType (record { from = at 10; over = only (One (Named (name 11 1))); upto = gone; kind_at = gone; kind = IntKind }))) (initially (at 18) (One (Named (name 20 2)))))
+    ≡ declared (name 7 0) (Some (ArrayType (record { from = at 10; over = only (One (Named (bare 1))); upto = nowhere; kind_at = nowhere; kind = IntKind }))) (initially (at 18) (One (Named (name 20 2))))
+array = refl
+
+-- ASSIGNMENTS AND CALLS
+abbrev sign : ℕ → Assign → AssignTree
+sign column op = record { at = at column; op = op; last = gone }
+
+abbrev lowered_sign : Place → Assign → AssignTree
+lowered_sign at op = record { at = at; op = op; last = nowhere }
+
+-- x = y; where nothing is known, and where both are plain
+assignment : lowered_stmt nothing_known (Assigned (Whole (name 1 0)) (sign 3 Set) (One (Named (name 5 1))) gone) ≡ Assigned (Whole (name 1 0)) (lowered_sign (at 3) Set) (One (Named (name 5 1))) nowhere
+assignment = refl
+
+plain_assignment : lowered_stmt plain (Assigned (Whole (name 1 0)) (sign 3 Set) (One (Named (name 5 1))) gone) ≡ Assigned (Whole (bare 0)) (lowered_sign nowhere Set) (One (Named (bare 1))) nowhere
+plain_assignment = refl
+
+-- x /= y; divides
+plain_division : lowered_stmt plain (Assigned (Whole (name 1 0)) (sign 3 SetDivide) (One (Named (name 6 1))) gone) ≡ Assigned (Whole (bare 0)) (lowered_sign (at 3) SetDivide) (One (Named (bare 1))) nowhere
+plain_division = refl
+
+-- A(1) = y; is A[1] = y;
+element_assignment : lowered_stmt nothing_known (Assigned (Element (name 1 0) Round gone (alone (number 1)) gone) (sign 6 Set) (One (Named (name 8 1))) gone)
+    ≡ Assigned (Element (name 1 0) Square nowhere (alone (placeless 1)) nowhere) (lowered_sign nowhere Set) (One (Named (bare 1))) nowhere
+element_assignment = refl
+
+-- c.writeEF((7)); is told at c
+cell_write : lowered_stmt nothing_known (Call (name 1 0) gone (WriteCall gone WriteEFWord gone (bracketed (One (number 7))) gone) gone) ≡ Call (name 1 0) nowhere (WriteCall nowhere WriteEFWord nowhere (placeless 7) nowhere) nowhere
+cell_write = refl
+
+-- BODIES, LOOPS AND PROGRAMS
+-- do ; and { ; } are one list
+one_statement : lowered_body {N = ℕ} nothing_known (WordBody gone (Nothing gone)) ≡ BlockBody nowhere (Then (Nothing nowhere) NoStmts) nowhere
+one_statement = refl
+
+block_body : lowered_body {N = ℕ} nothing_known (BlockBody gone (Then (Nothing gone) NoStmts) gone) ≡ BlockBody nowhere (Then (Nothing nowhere) NoStmts) nowhere
+block_body = refl
+
+-- if x then ; else ;
+branches : lowered_stmt nothing_known (If gone (Named (name 4 0)) (WordBody gone (Nothing gone)) (ElseDo gone (Nothing gone))) ≡ If nowhere (Named (bare 0)) (BlockBody nowhere (Then (Nothing nowhere) NoStmts) nowhere) (ElseDo nowhere (Nothing nowhere))
+branches = refl
+
+-- while x { }: its word is told
+while_loop : lowered_stmt nothing_known (While (at 1) (Named (name 7 0)) (BlockBody gone NoStmts gone)) ≡ While (at 1) (Named (bare 0)) (BlockBody nowhere NoStmts nowhere)
+while_loop = refl
+
+-- for (i, j) in D { }: so is its
+for_loop : lowered_stmt nothing_known (For (at 1) (ManyVariables gone (record { first = name 6 0; others = record { comma = gone; part = name 9 1 } ∷ [] }) gone) gone (One (Named (name 15 2))) (BlockBody gone NoStmts gone))
+    ≡ For (at 1) (ManyVariables nowhere (record { first = bare 0; others = record { comma = nowhere; part = bare 1 } ∷ [] }) nowhere) nowhere (One (Named (bare 2))) (BlockBody nowhere NoStmts nowhere)
+for_loop = refl
+
+-- with (ref A, + reduce s): the reduce intent alone
+abbrev referring : IntentTree ℕ
+referring = RefIntent gone (name 20 5)
+
+abbrev intents : IntentTree ℕ → List (AfterComma (IntentTree ℕ)) → Option (WithTree ℕ)
+intents first others = Some (record { at = gone; from = gone; intents = record { first = first; others = others }; upto = gone })
+
+reduce_intent : lowered_stmt nothing_known (Forall (at 1) (OneVariable (name 8 0)) gone (One (Named (name 13 2))) (intents referring (record { comma = gone; part = ReduceIntent gone Sum gone (name 36 3) } ∷ [])) (BlockBody gone NoStmts gone))
+    ≡ Forall (at 1) (OneVariable (bare 0)) nowhere (One (Named (bare 2))) (Some (record { at = nowhere; from = nowhere; intents = record { first = ReduceIntent nowhere Sum nowhere (bare 3); others = [] }; upto = nowhere })) (BlockBody nowhere NoStmts nowhere)
+reduce_intent = refl
+
+-- with (ref A) is nothing
+no_intent : lowered_stmt nothing_known (Forall (at 1) (OneVariable (name 8 0)) gone (One (Named (name 13 2))) (intents referring []) (BlockBody gone NoStmts gone)) ≡ Forall (at 1) (OneVariable (bare 0)) nowhere (One (Named (bare 2))) None (BlockBody nowhere NoStmts nowhere)
+no_intent = refl
+
+-- and a coforall has none
+coforall : lowered_stmt nothing_known (Coforall (at 1) (OneVariable (name 10 0)) gone (One (Named (name 15 2))) (intents referring []) (BlockBody gone NoStmts gone)) ≡ Coforall (at 1) (OneVariable (bare 0)) nowhere (One (Named (bare 2))) None (BlockBody nowhere NoStmts nowhere)
+coforall = refl
+
+-- on here { }: nothing is told
+on_a_locale : lowered_stmt {N = ℕ} nothing_known (On gone (HereWord gone) (BlockBody gone NoStmts gone)) ≡ On nowhere (HereWord nowhere) (BlockBody nowhere NoStmts nowhere)
+on_a_locale = refl
+
+-- use BlockDist; ;
+program : lowered_program {N = ℕ} nothing_known (record {
+  uses = record { at = gone; modules = record { first = record { at = gone; word = BlockModule }; others = [] }; semicolon = gone } ∷ [];
+  stmts = Then (Nothing gone) NoStmts;
+  end = gone;
+})
+    ≡ record { uses = []; stmts = Then (Nothing nowhere) NoStmts; end = nowhere }
+program = refl
