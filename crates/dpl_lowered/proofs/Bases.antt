@@ -1,24 +1,20 @@
 -- The base of a lowered access serves it as the tree's base does: it has its value, and a fault tells the same of it.
 -- A base is a name or the word `Locales`, perhaps in brackets, or it tells nothing.
-use Rattle.std.proofs.Common.{◌≡◌, Bool, true, false, List, refl, sym, ap, ◌∙◌, subst, Ok, Err, Some, None, Result, Option}
-use Rattle.std.specs.Prelude.{◌&&◌}
-use mathlib.Core.Path.{fun_ext}
+use Rattle.std.proofs.Common.{◌≡◌, Bool, true, false, List, refl, sym, ap, ◌∙◌, subst, Ok, Some, None, Result, Option}
 use Rattle.dpl_syntax.specs.declared.place.Place.{Place}
 use Rattle.dpl_history.specs.declared.cell.CellOp.{CellOp}
 use Rattle.dpl_range.specs.Equality.{TextRange}
-use Rattle.dpl_language.specs.Tree.{Placed, Dots, Closed, HalfOpen, Counted, Word, Size, First, Last, Low, High, LowBound, DomainOf, Id, ExprTree, Number, TruthWord, Named, LocalesWord, LocaleCount, HereWord, Grouped, DomainLiteral, Prefixed, Reduced, Chain, Postfixed, ItemTree, One, RangeItem, Stride, NoStride, By, Links, NoLinks, Link, Posts, NoPosts, Post, PostTree, Brackets, Rounds, Dotted, MethodTree, Plainly, Dim, Contains, Expand, CellRead, Items, FirstItem, MoreItems, NoItems, NextItem, Exprs, FirstExpr, MoreExprs, NoExprs, NextExpr}
-use Rattle.dpl_language.specs.Values.{Value, Int, Truth, Range, Domain, Array, Cell, Locale, AllLocales, Tuple, Index, number, index_of, array_domain, Fault}
-use Rattle.dpl_language.specs.Arithmetic.{infix_of, divides, tested_divisor, decides}
-use Rattle.dpl_language.specs.Ranges.{bounded, method_of}
+use Rattle.dpl_language.specs.Tree.{Placed, ExprTree, Number, TruthWord, Named, LocalesWord, LocaleCount, HereWord, Grouped, DomainLiteral, Prefixed, Reduced, Chain, Postfixed, ItemTree, One, RangeItem, Posts, NoPosts, Post, PostTree, Brackets, Rounds, Dotted, Items, Exprs}
+use Rattle.dpl_language.specs.Values.{Value, Int, Truth, Range, Domain, Array, Cell, Locale, AllLocales, Tuple, Index, index_of, array_domain, Fault}
 use Rattle.dpl_language.specs.Outcome.{with_ok}
 use Rattle.dpl_language.specs.Environment.{Environment, Limits}
 use Rattle.dpl_language.specs.Phrases.{Base, BaseName, BaseLocales, OtherBase, base_of, item_base, bare_name, posts_read}
-use Rattle.dpl_language.specs.Expressions.{or_domain, reduction, unless_decided, whole_in, whole_item, whole_links, element_of, named, bracketed, value_of, chained, item_of, stridden, items_of, more_items, values_of, more_values, behind, post_of, answer_of, domain_of}
-use Rattle.dpl_language.proofs.RunsAlike.{with_ok-same, with_ok-same_by}
+use Rattle.dpl_language.specs.Expressions.{element_of, named, bracketed, value_of, item_of, values_of, post_of}
+use Rattle.dpl_language.proofs.RunsAlike.{with_ok-same}
 use Rattle.dpl_lowered.specs.Known.{Known, Unknown, WholeArray, NoArray, PlainValue, may_be_array, IsAsKnown, IsKnown}
-use Rattle.dpl_lowered.specs.Shapes.{kept, placed, as_items, in_brackets}
-use Rattle.dpl_lowered.specs.LoweredExpressions.{Times, Once, EachTurn, each_turn, unplaced_dots, is_end, rebased, name_base, read_base, told_base, rounds_by, rounds_of, lowered_expr, lowered_item, lowered_stride, lowered_links, lowered_posts, lowered_post, lowered_method, lowered_items, lowered_more_items, lowered_exprs, lowered_more_exprs}
-use Rattle.dpl_lowered.proofs.Nests.{kept-enough, as_expr-value, as_expr-whole, as_item-value, as_item-whole, as_items-values, nested-value, nested-whole, stacked-value, stacked-whole}
+use Rattle.dpl_lowered.specs.Shapes.{placed, in_brackets}
+use Rattle.dpl_lowered.specs.LoweredExpressions.{Once, rebased, name_base, read_base, told_base, rounds_by, rounds_of, lowered_expr}
+use Rattle.dpl_lowered.proofs.Nests.{as_items-values}
 use Rattle.dpl_lowered.proofs.Seen.{placeless, base_of-lowered}
 
 -- a value that is no array's

@@ -1,6 +1,6 @@
 -- What a lowered tree is put together of means what its parts mean in the tree itself.
 -- One lemma for each way to put trees together and for each way to ask for a meaning.
-use Rattle.std.proofs.Common.{◌≡◌, Bool, true, false, List, [], ◌∷◌, refl, sym, ap, ◌∙◌, Ok, Err, Some, None, Result, Option}
+use Rattle.std.proofs.Common.{◌≡◌, Bool, true, false, List, refl, sym, ap, ◌∙◌, Ok, Err, Some, None, Result, Option}
 use Rattle.std.specs.Prelude.{not, ◌&&◌, ◌||◌, if◌then◌else◌}
 use Rattle.dpl_syntax.specs.declared.place.Place.{Place}
 use Rattle.dpl_range.specs.Equality.{TextRange}

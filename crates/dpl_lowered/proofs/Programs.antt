@@ -1,6 +1,6 @@
 -- A lowered program means what the program means, in every environment.
 -- Last what code is proved by: what a program writes is what an environment that agrees with names makes of its lowered tree.
-use Rattle.std.proofs.Common.{◌≡◌, List, refl, sym, ap, ◌∙◌, subst, Option, None}
+use Rattle.std.proofs.Common.{◌≡◌, List, sym, ap, ◌∙◌, subst, Option, None}
 use Rattle.dpl_history.specs.declared.history.Event.{Event}
 use Rattle.dpl_language.specs.Tree.{ExprTree, StmtTree, ProgramTree}
 use Rattle.dpl_language.specs.Values.{Value, Index}
@@ -9,8 +9,8 @@ use Rattle.dpl_language.specs.Environment.{Environment, Limits}
 use Rattle.dpl_language.specs.Expressions.{value_of}
 use Rattle.dpl_language.specs.Statements.{exec}
 use Rattle.dpl_language.specs.Names.{Text, State, by_name}
-use Rattle.dpl_language.specs.Program.{settled, first_state, meaning, written, deeds_of}
-use Rattle.dpl_language.specs.Together.{AllTogether, Happened}
+use Rattle.dpl_language.specs.Program.{settled, first_state, meaning, written}
+use Rattle.dpl_language.specs.Together.{Happened}
 use Rattle.dpl_language.specs.Renamed.{renamed_program}
 use Rattle.dpl_language.specs.Scopes.{Scoping, fits_all}
 use Rattle.dpl_language.specs.Agreement.{Simulates}

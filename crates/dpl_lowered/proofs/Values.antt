@@ -1,24 +1,22 @@
 -- A lowered expression has the value of the expression that it comes from, in every environment that is as is known.
 -- One lemma for each kind of tree, evaluated once or at an index.
-use Rattle.std.proofs.Common.{◌≡◌, Bool, true, false, List, refl, sym, ap, ◌∙◌, subst, Ok, Err, Some, None, Result, Option}
+use Rattle.std.proofs.Common.{◌≡◌, refl, ap, ◌∙◌, Some, None, Result, Option}
 use Rattle.std.specs.Prelude.{◌&&◌}
 use mathlib.Core.Path.{fun_ext}
 use Rattle.dpl_syntax.specs.declared.place.Place.{Place}
-use Rattle.dpl_history.specs.declared.cell.CellOp.{CellOp}
 use Rattle.dpl_range.specs.Equality.{TextRange}
 use Rattle.dpl_language.specs.Tree.{Placed, Dots, Closed, HalfOpen, Counted, Word, Size, First, Last, Low, High, LowBound, DomainOf, Id, ExprTree, Number, TruthWord, Named, LocalesWord, LocaleCount, HereWord, Grouped, DomainLiteral, Prefixed, Reduced, Chain, Postfixed, ItemTree, One, RangeItem, Stride, NoStride, By, Links, NoLinks, Link, Posts, NoPosts, Post, PostTree, Brackets, Rounds, Dotted, MethodTree, Plainly, Dim, Contains, Expand, CellRead, Items, FirstItem, MoreItems, NoItems, NextItem, Exprs, FirstExpr, MoreExprs, NoExprs, NextExpr}
-use Rattle.dpl_language.specs.Values.{Value, Int, Truth, Range, Domain, Array, Cell, Locale, AllLocales, Tuple, Index, number, index_of, array_domain, Fault}
-use Rattle.dpl_language.specs.Arithmetic.{infix_of, divides, tested_divisor, decides}
+use Rattle.dpl_language.specs.Values.{Value, Index, number, array_domain, Fault}
+use Rattle.dpl_language.specs.Arithmetic.{infix_of, divides, decides}
 use Rattle.dpl_language.specs.Ranges.{bounded, method_of}
-use Rattle.dpl_language.specs.Outcome.{with_ok}
 use Rattle.dpl_language.specs.Environment.{Environment, Limits}
-use Rattle.dpl_language.specs.Phrases.{Base, BaseName, BaseLocales, OtherBase, base_of, item_base, bare_name, posts_read}
-use Rattle.dpl_language.specs.Expressions.{or_domain, reduction, unless_decided, whole_in, whole_item, whole_links, element_of, named, bracketed, value_of, chained, item_of, stridden, items_of, more_items, values_of, more_values, behind, post_of, answer_of, domain_of}
+use Rattle.dpl_language.specs.Phrases.{Base, OtherBase, base_of}
+use Rattle.dpl_language.specs.Expressions.{or_domain, reduction, unless_decided, whole_in, whole_item, whole_links, named, value_of, chained, item_of, stridden, items_of, more_items, values_of, more_values, behind, post_of, answer_of}
 use Rattle.dpl_language.proofs.RunsAlike.{with_ok-same, with_ok-same_by}
-use Rattle.dpl_lowered.specs.Known.{Known, Unknown, WholeArray, NoArray, PlainValue, may_be_array, IsAsKnown, IsKnown}
-use Rattle.dpl_lowered.specs.Shapes.{kept, placed, as_items, in_brackets}
-use Rattle.dpl_lowered.specs.LoweredExpressions.{Times, Once, EachTurn, each_turn, unplaced_dots, is_end, rebased, name_base, read_base, told_base, rounds_by, rounds_of, lowered_expr, lowered_item, lowered_stride, lowered_links, lowered_posts, lowered_post, lowered_method, lowered_items, lowered_more_items, lowered_exprs, lowered_more_exprs}
-use Rattle.dpl_lowered.proofs.Nests.{kept-enough, as_expr-value, as_expr-whole, as_item-value, as_item-whole, as_items-values, nested-value, nested-whole, stacked-value, stacked-whole}
+use Rattle.dpl_lowered.specs.Known.{Known, may_be_array, IsKnown}
+use Rattle.dpl_lowered.specs.Shapes.{kept, placed}
+use Rattle.dpl_lowered.specs.LoweredExpressions.{Times, Once, EachTurn, each_turn, unplaced_dots, is_end, lowered_expr, lowered_item, lowered_stride, lowered_links, lowered_posts, lowered_post, lowered_method, lowered_items, lowered_more_items, lowered_exprs, lowered_more_exprs}
+use Rattle.dpl_lowered.proofs.Nests.{kept-enough, as_expr-value, as_expr-whole, as_item-value, as_item-whole, nested-value, nested-whole, stacked-value, stacked-whole}
 use Rattle.dpl_lowered.proofs.Bases.{no-array, named-placed, Serves, ServesFirst, other-serves, lowered_base, lowered_base-value, first-serves}
 
 -- what is evaluated once is not evaluated at an index
@@ -43,7 +41,6 @@ method_of-kept High at v = refl
 method_of-kept LowBound at v = refl
 method_of-kept DomainOf at v = refl
 method_of-kept Id at v = refl
-
 
 module _ {N S : Type 0} (limits : Limits) (env : Environment N S) (known : N → Known) (is : IsKnown known env) where
   named-lowered : (m : Times) (t : Option Index) (x : Placed N) (s : S) → Allows m t

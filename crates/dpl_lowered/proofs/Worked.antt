@@ -3,9 +3,9 @@
 use Rattle.std.proofs.Common.{◌≡◌, ℕ, pos, true, false, [], ◌∷◌, refl, Some, None, Option, List}
 use Rattle.std.specs.Prelude.{codes}
 use Rattle.dpl_syntax.specs.declared.place.Place.{Place}
-use Rattle.dpl_language.specs.Tree.{Placed, AfterComma, Listed, Minus, Infix, Add, Subtract, Divide, Remainder, And, Or, Sum, AssignTree, Assign, Set, SetDivide, IntKind, BoolKind, Closed, Counted, Size, First, DomainOf, ReadFEWord, WriteEFWord, ExprTree, Number, TruthWord, Named, LocalesWord, HereWord, Grouped, DomainLiteral, Prefixed, Reduced, Chain, Postfixed, ItemTree, One, RangeItem, NoStride, By, NoLinks, Link, NoPosts, Post, Brackets, Rounds, Dotted, Plainly, Dim, Contains, Expand, CellRead, Items, FirstItem, NoItems, NextItem, Exprs, FirstExpr, NoExprs, NextExpr}
-use Rattle.dpl_language.specs.Tree.{BlockMap, MappedTree, TypeTree, ScalarType, SyncType, DomainType, ArrayType, InitTree, ItemInit, CreateBlock, CreateInit, TypedTree, InitialTree, DeclareTree, TextArgument, ExprArgument, WriteTree, IntentTree, ReduceIntent, RefIntent, WithTree, OneVariable, ManyVariables, Whole, Element, Square, Round, ReadCall, WriteCall, StmtTree, Nothing, Declare, Assigned, Call, Write, Block, If, While, For, Forall, Coforall, On, WordBody, BlockBody, NoStmts, Then, NoElse, ElseDo, ProgramTree, BlockModule}
-use Rattle.dpl_lowered.specs.Known.{Known, WholeArray, NoArray, PlainValue, nothing_known}
+use Rattle.dpl_language.specs.Tree.{Placed, AfterComma, Minus, Subtract, Divide, Remainder, And, Sum, AssignTree, Assign, Set, SetDivide, IntKind, BoolKind, Closed, Counted, Size, First, DomainOf, ReadFEWord, WriteEFWord, ExprTree, Number, TruthWord, Named, LocalesWord, HereWord, Grouped, DomainLiteral, Prefixed, Reduced, Chain, Postfixed, ItemTree, One, RangeItem, NoStride, By, NoLinks, Link, NoPosts, Post, Brackets, Rounds, Dotted, Plainly, Dim, Contains, Expand, CellRead, Items, FirstItem, NoItems, NextItem, Exprs, FirstExpr, NoExprs}
+use Rattle.dpl_language.specs.Tree.{BlockMap, MappedTree, TypeTree, ScalarType, SyncType, DomainType, ArrayType, ItemInit, CreateBlock, CreateInit, InitialTree, DeclareTree, TextArgument, ExprArgument, IntentTree, ReduceIntent, RefIntent, WithTree, OneVariable, ManyVariables, Whole, Element, Square, Round, WriteCall, Nothing, Assigned, Call, Write, If, While, For, Forall, Coforall, On, WordBody, BlockBody, NoStmts, Then, ElseDo, BlockModule}
+use Rattle.dpl_lowered.specs.Known.{Known, WholeArray, PlainValue, nothing_known}
 use Rattle.dpl_lowered.specs.Shapes.{nowhere, two}
 use Rattle.dpl_lowered.specs.LoweredExpressions.{Once, EachTurn, lowered_expr, lowered_item}
 use Rattle.dpl_lowered.specs.LoweredStatements.{lowered_side, lowered_over, lowered_declare, lowered_stmt, lowered_body, lowered_program}
@@ -194,13 +194,13 @@ write_names : lowered_stmt nothing_known (Write (record {
   semicolon = gone;
 }))
     ≡ Write (record {
-  at = nowhere;
-  ends_line = false;
-  from = nowhere;
-  arguments = Some (record { first = TextArgument nowhere (codes "s"); others = record { comma = nowhere; part = ExprArgument (Named (bare 0)) } ∷ record { comma = nowhere; part = ExprArgument (kept_brackets (One (Named (bare 0)))) } ∷ [] });
-  upto = nowhere;
-  semicolon = nowhere;
-})
+      at = nowhere;
+      ends_line = false;
+      from = nowhere;
+      arguments = Some (record { first = TextArgument nowhere (codes "s"); others = record { comma = nowhere; part = ExprArgument (Named (bare 0)) } ∷ record { comma = nowhere; part = ExprArgument (kept_brackets (One (Named (bare 0)))) } ∷ [] });
+      upto = nowhere;
+      semicolon = nowhere;
+    })
 write_names = refl
 
 -- DECLARATIONS

@@ -1,15 +1,15 @@
 -- Statements without what they don't need: maps, types of plain variables, intents but reduce intents, one form of body.
 -- What is left out is written where that changes nothing; so each declaration of a plain variable has an initial value.
-use Rattle.std.specs.Prelude.{pos, Bool, true, false, ◌||◌, if◌then◌else◌, Option, Some, None, List, [], ◌∷◌, map, option_map}
+use Rattle.std.specs.Prelude.{pos, Bool, true, false, ◌||◌, Option, Some, None, List, [], ◌∷◌, map, option_map}
 use Rattle.dpl_syntax.specs.declared.place.Place.{Place}
-use Rattle.dpl_language.specs.Tree.{Placed, AfterComma, Op, Kind, IntKind, BoolKind, AssignTree, ExprTree, Number, TruthWord, DomainLiteral, ItemTree, One, Items, FirstItem, NoItems, NextItem, ArrayTypeTree, TypeTree, ScalarType, SyncType, DomainType, ArrayType, DomainTypeTree, InitTree, ItemInit, CreateInit, TypedTree, InitialTree, DeclareTree}
+use Rattle.dpl_language.specs.Tree.{AfterComma, Op, Kind, IntKind, BoolKind, AssignTree, ExprTree, Number, TruthWord, DomainLiteral, ItemTree, One, Items, FirstItem, NoItems, NextItem, ArrayTypeTree, TypeTree, ScalarType, SyncType, DomainType, ArrayType, DomainTypeTree, InitTree, ItemInit, CreateInit, TypedTree, InitialTree, DeclareTree}
 use Rattle.dpl_language.specs.Tree.{ArgumentTree, TextArgument, ExprArgument, WriteTree, IntentTree, ReduceIntent, WithTree, VariablesTree, OneVariable, ManyVariables, TargetTree, Whole, Element, Square, CallTree, ReadCall, ResetCall, WriteCall, StmtTree, Nothing, Declare, Assigned, Call, Write, Block, If, While, For, Forall, Coforall, On, Body, WordBody, BlockBody, Stmts, NoStmts, Then, Else, NoElse, ElseDo, ProgramTree}
 use Rattle.dpl_language.specs.Arithmetic.{assign_divides}
 use Rattle.dpl_language.specs.Phrases.{bare_name, cell_read, item_read, item_over, intents_of}
 use Rattle.dpl_language.specs.Declarations.{type_of}
 use Rattle.dpl_lowered.specs.Known.{Known, may_be_array, may_be_whole}
 use Rattle.dpl_lowered.specs.Shapes.{nowhere, kept, placed, unplaced, relisted, hidden, hidden_item}
-use Rattle.dpl_lowered.specs.LoweredExpressions.{Times, Once, EachTurn, lowered_expr, lowered_item, lowered_items, lowered_more_items, lowered_exprs}
+use Rattle.dpl_lowered.specs.LoweredExpressions.{Times, Once, EachTurn, lowered_expr, lowered_item, lowered_items, lowered_exprs}
 
 -- PARTS WITHOUT EXPRESSIONS
 abbrev pub written_initial : {N : Type 0} → Place → ItemTree N → InitialTree N
