@@ -130,7 +130,8 @@ module _ {N S : Type 0} (limits : Limits) (env : Environment N S) where
   given-known known is x r v s g e = subst (IsAsKnown (known x.name)) (let same : Ok (env.get x.name s) ≡ Ok v = sym g ∙ e in cc) (is x.name s)
 
   -- square brackets behind a base that is told as far as it must be
-  brackets-serve : (known : N → Known) → IsKnown known env → (b : Base N) (l : ExprTree N) (r : Result Value Fault) (v : Value) (s : S) (from : Place) (items : Items N) (upto : Place) (rest : Posts N) → Gives b r s → r ≡ Ok v → base_of l ≡ placeless b
+  brackets-serve : (known : N → Known) → IsKnown known env → (b : Base N) (l : ExprTree N) (r : Result Value Fault) (v : Value) (s : S) (from : Place) (items : Items N) (upto : Place) (rest : Posts N)
+      → Gives b r s → r ≡ Ok v → base_of l ≡ placeless b
       → (vs : List Value) → bracketed limits env (base_of (rebased (told_base known (Post (Brackets from items upto) rest) b) l)) vs v s ≡ bracketed limits env b vs v s
   brackets-serve known is (BaseName x) l r v s from items upto rest g e p vs = by_test (may_be_array (known x.name)) refl
     where
@@ -142,7 +143,8 @@ module _ {N S : Type 0} (limits : Limits) (env : Environment N S) where
   brackets-serve known is OtherBase l r v s from items upto rest g e p vs = ap (λ b. bracketed limits env b vs v s) p
 
   -- round brackets behind a base: behind an array's name they are square ones
-  rounds-serve : (known : N → Known) → IsKnown known env → (b : Base N) (l : ExprTree N) (r : Result Value Fault) (v : Value) (s : S) (from : Place) (es : Exprs N) (upto : Place) (rest : Posts N) → Gives b r s → r ≡ Ok v → base_of l ≡ placeless b
+  rounds-serve : (known : N → Known) → IsKnown known env → (b : Base N) (l : ExprTree N) (r : Result Value Fault) (v : Value) (s : S) (from : Place) (es : Exprs N) (upto : Place) (rest : Posts N)
+      → Gives b r s → r ≡ Ok v → base_of l ≡ placeless b
       → (is : Exprs N) → post_of limits env (rounds_of known b is) (base_of (rebased (told_base known (Post (Rounds from es upto) rest) b) l)) s v ≡ with_ok (values_of limits env is s) (λ vs. element_of limits env b (index_of vs) s)
   rounds-serve known is (BaseName x) l r v s from es upto rest g e p is' = by_known (known x.name) (given-known known is x r v s g e)
     where

@@ -74,13 +74,17 @@ module _ {N S : Type 0} (limits : Limits) (env : Environment N S) (known : N →
       with_ok-same _ _ _ _ (hidden_item-value limits env _ _ (lowered_item known Once i) None s ∙ item_of-lowered limits env known is Once i None s tt) (λ v. refl)
   over-values (FirstItem i (NextItem comma j more)) s = items_of-lowered limits env known is (FirstItem i (NextItem comma j more)) s
 
+  -- what a declaration does with its array's domain
+  abbrev made : Placed N → ArrayTypeTree N → Option N → Option (InitialTree N) → Value → Run S
+  made x a over i d =
+      unless (too_large (ranges_in d)) (fault ArrayTooLarge x.at) (array_of limits env x (record { over = over; kind = a.kind; ranges = ranges_in d }) i)
+
   declare_array-lowered : (x : Placed N) (a : ArrayTypeTree N) (i : Option (InitialTree N)) (s : S) (done : Deeds)
       → declare_array limits env (placed true x) (lowered_array known a) (array_initial known i) s done ≡ declare_array limits env x a i s done
   declare_array-lowered x a i s done =
-      ap (λ r. with_value r (λ d. unless (too_large (ranges_in d)) (fault ArrayTooLarge x.at) (array_of limits env (placed true x) (record { over = declared_over (lowered_over known a.over); kind = a.kind; ranges = ranges_in d }) (array_initial known i))) s done)
+      ap (λ r. with_value r (made (placed true x) a (declared_over (lowered_over known a.over)) (array_initial known i)) s done)
       (with_ok-same _ _ _ _ (over-values a.over s) (λ vs. refl))
-      ∙ ap (λ over. with_value (domain_of limits env a.from a.over s) (λ d. unless (too_large (ranges_in d)) (fault ArrayTooLarge x.at) (array_of limits env (placed true x) (record { over = over; kind = a.kind; ranges = ranges_in d }) (array_initial known i))) s done)
-      (over-declared known a.over)
+      ∙ ap (λ over. with_value (domain_of limits env a.from a.over s) (made (placed true x) a over (array_initial known i)) s done) (over-declared known a.over)
       ∙ ap (λ go. with_value (domain_of limits env a.from a.over s) go s done)
       (fun_ext (λ d. ap (unless (too_large (ranges_in d)) (fault ArrayTooLarge x.at))
       (fun_ext (λ s. fun_ext (λ done. array_of-lowered x (record { over = declared_over a.over; kind = a.kind; ranges = ranges_in d }) i s done)))))

@@ -18,7 +18,8 @@ use Rattle.dpl_lowered.specs.LoweredStatements.{written_type, lowered_variables,
 pub parts-relisted : {A B : Type 0} (f : A → B) (xs : Listed A) → parts (relisted f xs) ≡ map f (parts xs)
 parts-relisted {A} {B} f xs = ap (λ ys. f xs.first ∷ ys) (others-relisted xs.others)
   where
-    others-relisted : (cs : List (AfterComma A)) → map {A = AfterComma B} {B = B} (λ c. c.part) (map {A = AfterComma A} {B = AfterComma B} (λ c. record { comma = nowhere; part = f c.part }) cs) ≡ map f (map {A = AfterComma A} {B = A} (λ c. c.part) cs)
+    others-relisted : (cs : List (AfterComma A))
+        → map {A = AfterComma B} {B = B} (λ c. c.part) (map {A = AfterComma A} {B = AfterComma B} (λ c. record { comma = nowhere; part = f c.part }) cs) ≡ map f (map {A = AfterComma A} {B = A} (λ c. c.part) cs)
     others-relisted [] = refl
     others-relisted (c ∷ cs) = ap (λ ys. f c.part ∷ ys) (others-relisted cs)
 

@@ -49,14 +49,14 @@ pub meaning-lowered : (t : ProgramTree Text) (sets : List (Text × Value)) (limi
 meaning-lowered t sets limits histories = run_from-unknown limits by_name t (first_state sets histories)
 
 -- WITH OTHER NAMES: a program's tree has slots, say, in the place of its names, and is lowered by what is known of the slots
-module _ {N G S : Type 0} (limits : Limits) (name : N → Text) (scoping : Scoping N G) (env : Environment N S) (R : G → State → S → Type 0) (sim : Simulates limits name scoping by_name env R) (known : N → Known) (is : IsKnown known env) where
-  pub written-lowered : (t : ProgramTree N) (program : ProgramTree Text) (sets : List (Text × Value)) (histories : List (List Event)) (g : G) (s : S) → renamed_program name t ≡ program
-      → fits_all scoping t.stmts g → R g (first_state sets histories) s → written (meaning program sets limits histories) ≡ written (run_from limits env (lowered_program known t) s)
-  written-lowered t program sets histories g s same f r =
+module _ {N G S : Type 0} (limits : Limits) (name : N → Text) (scoping : Scoping N G) (env : Environment N S) (R : G → State → S → Type 0) (sim : Simulates limits name scoping by_name env R) where
+  pub written-lowered : (known : N → Known) → IsKnown known env → (t : ProgramTree N) (program : ProgramTree Text) (sets : List (Text × Value)) (histories : List (List Event)) (g : G) (s : S)
+      → renamed_program name t ≡ program → fits_all scoping t.stmts g → R g (first_state sets histories) s → written (meaning program sets limits histories) ≡ written (run_from limits env (lowered_program known t) s)
+  written-lowered known is t program sets histories g s same f r =
       written-same limits name scoping env R sim t program sets histories g s same f r ∙ sym (ap written (run_from-lowered limits env known is t s))
 
-  pub happened-lowered : (t : ProgramTree N) (program : ProgramTree Text) (sets : List (Text × Value)) (histories : List (List Event)) (g : G) (s : S) → renamed_program name t ≡ program
-      → fits_all scoping t.stmts g → R g (first_state sets histories) s → Happened (run_from limits env (lowered_program known t) s) → Happened (meaning program sets limits histories)
-  happened-lowered t program sets histories g s same f r h =
+  pub happened-lowered : (known : N → Known) → IsKnown known env → (t : ProgramTree N) (program : ProgramTree Text) (sets : List (Text × Value)) (histories : List (List Event)) (g : G) (s : S)
+      → renamed_program name t ≡ program → fits_all scoping t.stmts g → R g (first_state sets histories) s → Happened (run_from limits env (lowered_program known t) s) → Happened (meaning program sets limits histories)
+  happened-lowered known is t program sets histories g s same f r h =
       happened-same limits name scoping env R sim t program sets histories g s same f r
       (subst (λ (o : Outcome S). Happened o) (run_from-lowered limits env known is t s) h)

@@ -49,7 +49,8 @@ module _ {N S : Type 0} (limits : Limits) (env : Environment N S) (known : N →
         ap (λ test. repeated limits.budget at test (scoped env (exec_body limits env (lowered_body known body))) s done) (fun_ext (λ s. holds-lowered e s))
         ∙ ap (λ run. repeated limits.budget at (holds limits env e) (scoped env run) s done) (fun_ext (λ s. fun_ext (λ done. exec_body-lowered body s done)))
     exec-lowered (For at xs word item body) s done =
-        ap (λ r. with_value r (λ v. within_budget limits at (loop_ranges limits.locales v) (turn_of env (lowered_variables xs) v (exec_body limits env (lowered_body known body)))) s done) (item_of-lowered limits env known is Once item None s tt)
+        ap (λ r. with_value r (λ v. within_budget limits at (loop_ranges limits.locales v) (turn_of env (lowered_variables xs) v (exec_body limits env (lowered_body known body)))) s done)
+        (item_of-lowered limits env known is Once item None s tt)
         ∙ ap (λ go. with_value (item_of limits env item None s) go s done)
         (fun_ext (λ v. ap (within_budget limits at (loop_ranges limits.locales v)) (turn_of-lowered env xs v _ _ (fun_ext (λ s. fun_ext (λ done. exec_body-lowered body s done))))))
     exec-lowered (Forall at xs word item intents body) s done =

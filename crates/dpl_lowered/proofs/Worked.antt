@@ -3,8 +3,8 @@
 use Rattle.std.proofs.Common.{◌≡◌, ℕ, pos, true, false, [], ◌∷◌, refl, Some, None, Option, List}
 use Rattle.std.specs.Prelude.{codes}
 use Rattle.dpl_syntax.specs.declared.place.Place.{Place}
-use Rattle.dpl_language.specs.Tree.{Placed, AfterComma, Minus, Subtract, Divide, Remainder, And, Sum, AssignTree, Assign, Set, SetDivide, IntKind, BoolKind, Closed, Counted, Size, First, DomainOf, ReadFEWord, WriteEFWord, ExprTree, Number, TruthWord, Named, LocalesWord, HereWord, Grouped, DomainLiteral, Prefixed, Reduced, Chain, Postfixed, ItemTree, One, RangeItem, NoStride, By, NoLinks, Link, NoPosts, Post, Brackets, Rounds, Dotted, Plainly, Dim, Contains, Expand, CellRead, Items, FirstItem, NoItems, NextItem, Exprs, FirstExpr, NoExprs}
-use Rattle.dpl_language.specs.Tree.{BlockMap, MappedTree, TypeTree, ScalarType, SyncType, DomainType, ArrayType, ItemInit, CreateBlock, CreateInit, InitialTree, DeclareTree, TextArgument, ExprArgument, IntentTree, ReduceIntent, RefIntent, WithTree, OneVariable, ManyVariables, Whole, Element, Square, Round, WriteCall, Nothing, Assigned, Call, Write, If, While, For, Forall, Coforall, On, WordBody, BlockBody, NoStmts, Then, ElseDo, BlockModule}
+use Rattle.dpl_language.specs.Tree.{Placed, AfterComma, Minus, Subtract, Divide, Remainder, And, Sum, AssignTree, Assign, Set, SetDivide, IntKind, BoolKind, Closed, Counted, Size, First, DomainOf, Word, ReadFEWord, WriteEFWord, ExprTree, Number, TruthWord, Named, LocalesWord, HereWord, Grouped, DomainLiteral, Prefixed, Reduced, Chain, Postfixed, ItemTree, One, RangeItem, NoStride, By, NoLinks, Link, NoPosts, Post, PostTree, Brackets, Rounds, Dotted, Plainly, Dim, Contains, Expand, CellRead, Items, FirstItem, NoItems, NextItem, Exprs, FirstExpr, NoExprs}
+use Rattle.dpl_language.specs.Tree.{BlockMap, MappedTree, TypeTree, ScalarType, SyncType, DomainType, ArrayType, InitTree, ItemInit, CreateBlock, CreateInit, InitialTree, DeclareTree, TextArgument, ExprArgument, IntentTree, ReduceIntent, RefIntent, WithTree, StmtTree, OneVariable, ManyVariables, Whole, Element, Square, Round, WriteCall, Nothing, Assigned, Call, Write, If, While, For, Forall, Coforall, On, Body, WordBody, BlockBody, NoStmts, Then, ElseDo, BlockModule}
 use Rattle.dpl_lowered.specs.Known.{Known, WholeArray, PlainValue, nothing_known}
 use Rattle.dpl_lowered.specs.Shapes.{nowhere, two}
 use Rattle.dpl_lowered.specs.LoweredExpressions.{Once, EachTurn, lowered_expr, lowered_item}
@@ -45,6 +45,16 @@ only item = FirstItem item NoItems
 
 abbrev alone : ExprTree ℕ → Exprs ℕ
 alone e = FirstExpr e NoExprs
+
+-- what stands behind a base
+abbrev behind : ExprTree ℕ → PostTree ℕ → ExprTree ℕ
+behind e p = Postfixed e (Post p NoPosts)
+
+abbrev indexed : ItemTree ℕ → PostTree ℕ
+indexed item = Brackets nowhere (only item) nowhere
+
+abbrev method : Place → Word → PostTree ℕ
+method at w = Dotted nowhere (Plainly at w)
 
 -- all names are those of arrays, or of plain variables
 abbrev arrays : ℕ → Known
@@ -116,46 +126,52 @@ reduction = refl
 
 -- ACCESSES AND METHODS
 -- (A)[1] is A[1], and A is told
-element : lowered_expr nothing_known Once (Postfixed (bracketed (One (Named (name 2 0)))) (Post (Brackets gone (only (One (number 1))) gone) NoPosts)) ≡ Postfixed (Named (name 2 0)) (Post (Brackets nowhere (only (One (placeless 1))) nowhere) NoPosts)
+element : lowered_expr nothing_known Once (behind (bracketed (One (Named (name 2 0)))) (Brackets gone (only (One (number 1))) gone)) ≡ behind (Named (name 2 0)) (indexed (One (placeless 1)))
 element = refl
 
 -- D[2..3], where D is known to be no array's name: it is not told
-slice : lowered_expr plain Once (Postfixed (Named (name 1 0)) (Post (Brackets gone (only (RangeItem (number 2) (at 4) Closed (number 3) NoStride)) gone) NoPosts))
-    ≡ Postfixed (Named (bare 0)) (Post (Brackets nowhere (only (RangeItem (placeless 2) (at 4) Closed (placeless 3) NoStride)) nowhere) NoPosts)
+slice : lowered_expr plain Once (behind (Named (name 1 0)) (Brackets gone (only (RangeItem (number 2) (at 4) Closed (number 3) NoStride)) gone))
+    ≡ behind (Named (bare 0)) (indexed (RangeItem (placeless 2) (at 4) Closed (placeless 3) NoStride))
 slice = refl
 
 -- A(1) is A[1] where A is known to be an array's name
-round_element : lowered_expr arrays Once (Postfixed (Named (name 1 0)) (Post (Rounds gone (alone (number 1)) gone) NoPosts)) ≡ Postfixed (Named (name 1 0)) (Post (Brackets nowhere (only (One (placeless 1))) nowhere) NoPosts)
+round_element : lowered_expr arrays Once (behind (Named (name 1 0)) (Rounds gone (alone (number 1)) gone)) ≡ behind (Named (name 1 0)) (indexed (One (placeless 1)))
 round_element = refl
 
 -- else it stays as it is
-round_brackets : lowered_expr nothing_known Once (Postfixed (Named (name 1 0)) (Post (Rounds gone (alone (number 1)) gone) NoPosts)) ≡ Postfixed (Named (name 1 0)) (Post (Rounds nowhere (alone (placeless 1)) nowhere) NoPosts)
+round_brackets : lowered_expr nothing_known Once (behind (Named (name 1 0)) (Rounds gone (alone (number 1)) gone)) ≡ behind (Named (name 1 0)) (Rounds nowhere (alone (placeless 1)) nowhere)
 round_brackets = refl
 
 -- A.domain.dim(0).first: one post behind another; the end is told, and A is not
 posts_one_by_one : lowered_expr nothing_known Once (Postfixed (Named (name 1 0)) (Post (Dotted gone (Plainly gone DomainOf)) (Post (Dotted gone (Dim gone gone gone 0 gone)) (Post (Dotted gone (Plainly (at 17) First)) NoPosts))))
-    ≡ Postfixed (Postfixed (Postfixed (Named (bare 0)) (Post (Dotted nowhere (Plainly nowhere DomainOf)) NoPosts)) (Post (Dotted nowhere (Dim nowhere nowhere nowhere 0 nowhere)) NoPosts)) (Post (Dotted nowhere (Plainly (at 17) First)) NoPosts)
+    ≡ behind (behind (behind (Named (bare 0)) (method nowhere DomainOf)) (Dotted nowhere (Dim nowhere nowhere nowhere 0 nowhere))) (method (at 17) First)
 posts_one_by_one = refl
 
 -- D.expand(1).contains(2): `expand` is told
 expansion : lowered_expr nothing_known Once (Postfixed (Named (name 1 0)) (Post (Dotted gone (Expand (at 3) gone (number 1) gone)) (Post (Dotted gone (Contains gone gone (alone (number 2)) gone)) NoPosts)))
-    ≡ Postfixed (Postfixed (Named (bare 0)) (Post (Dotted nowhere (Expand (at 3) nowhere (placeless 1) nowhere)) NoPosts)) (Post (Dotted nowhere (Contains nowhere nowhere (alone (placeless 2)) nowhere)) NoPosts)
+    ≡ behind (behind (Named (bare 0)) (Dotted nowhere (Expand (at 3) nowhere (placeless 1) nowhere))) (Dotted nowhere (Contains nowhere nowhere (alone (placeless 2)) nowhere))
 expansion = refl
 
 -- Locales[0] is told at `Locales`; by itself, and before a dot, it isn't
-one_locale : lowered_expr nothing_known Once (Postfixed (LocalesWord (at 1)) (Post (Brackets gone (only (One (number 0))) gone) NoPosts)) ≡ Postfixed (LocalesWord (at 1)) (Post (Brackets nowhere (only (One (placeless 0))) nowhere) NoPosts)
+one_locale : lowered_expr {N = ℕ} nothing_known Once (behind (LocalesWord (at 1)) (Brackets gone (only (One (number 0))) gone)) ≡ behind (LocalesWord (at 1)) (indexed (One (placeless 0)))
 one_locale = refl
 
-all_locales : lowered_expr nothing_known Once (Postfixed (bracketed (One (LocalesWord (at 2)))) (Post (Dotted gone (Plainly gone Size)) NoPosts)) ≡ Postfixed (LocalesWord nowhere) (Post (Dotted nowhere (Plainly nowhere Size)) NoPosts)
+all_locales : lowered_expr {N = ℕ} nothing_known Once (behind (bracketed (One (LocalesWord (at 2)))) (Dotted gone (Plainly gone Size))) ≡ behind (LocalesWord nowhere) (method nowhere Size)
 all_locales = refl
 
 -- PHRASES
 -- c.readFE(): c is told
+abbrev read_method : PostTree ℕ
+read_method = Dotted gone (CellRead gone ReadFEWord gone gone)
+
+abbrev lowered_method : PostTree ℕ
+lowered_method = Dotted nowhere (CellRead nowhere ReadFEWord nowhere nowhere)
+
 abbrev read : ExprTree ℕ
-read = Postfixed (Named (name 5 0)) (Post (Dotted gone (CellRead gone ReadFEWord gone gone)) NoPosts)
+read = behind (Named (name 5 0)) read_method
 
 abbrev lowered_read : ExprTree ℕ
-lowered_read = Postfixed (Named (name 5 0)) (Post (Dotted nowhere (CellRead nowhere ReadFEWord nowhere nowhere)) NoPosts)
+lowered_read = behind (Named (name 5 0)) lowered_method
 
 cell_read : lowered_side nothing_known Once (One read) ≡ One lowered_read
 cell_read = refl
@@ -169,7 +185,7 @@ operand_in_brackets : lowered_side nothing_known Once (One (Prefixed gone Minus 
 operand_in_brackets = refl
 
 -- (c).readFE() reads no cell, and c is not told
-read_of_no_name : lowered_expr nothing_known Once (Postfixed (bracketed (One (Named (name 2 0)))) (Post (Dotted gone (CellRead gone ReadFEWord gone gone)) NoPosts)) ≡ Postfixed (kept_brackets (One (Named (bare 0)))) (Post (Dotted nowhere (CellRead nowhere ReadFEWord nowhere nowhere)) NoPosts)
+read_of_no_name : lowered_expr nothing_known Once (behind (bracketed (One (Named (name 2 0)))) read_method) ≡ behind (kept_brackets (One (Named (bare 0)))) lowered_method
 read_of_no_name = refl
 
 -- [D] and [(D)]: the second array is over no name
@@ -189,7 +205,10 @@ write_names : lowered_stmt nothing_known (Write (record {
   at = gone;
   ends_line = false;
   from = gone;
-  arguments = Some (record { first = TextArgument gone (codes "s"); others = record { comma = gone; part = ExprArgument (Named (name 9 0)) } ∷ record { comma = gone; part = ExprArgument (bracketed (One (Named (name 13 0)))) } ∷ [] });
+  arguments = Some (record {
+    first = TextArgument gone (codes "s");
+    others = record { comma = gone; part = ExprArgument (Named (name 9 0)) } ∷ record { comma = gone; part = ExprArgument (bracketed (One (Named (name 13 0)))) } ∷ [];
+  });
   upto = gone;
   semicolon = gone;
 }))
@@ -197,7 +216,10 @@ write_names : lowered_stmt nothing_known (Write (record {
       at = nowhere;
       ends_line = false;
       from = nowhere;
-      arguments = Some (record { first = TextArgument nowhere (codes "s"); others = record { comma = nowhere; part = ExprArgument (Named (bare 0)) } ∷ record { comma = nowhere; part = ExprArgument (kept_brackets (One (Named (bare 0)))) } ∷ [] });
+      arguments = Some (record {
+        first = TextArgument nowhere (codes "s");
+        others = record { comma = nowhere; part = ExprArgument (Named (bare 0)) } ∷ record { comma = nowhere; part = ExprArgument (kept_brackets (One (Named (bare 0)))) } ∷ [];
+      });
       upto = nowhere;
       semicolon = nowhere;
     })
@@ -233,20 +255,45 @@ config_constant = refl
 
 -- dmapped new blockDist({1..8})
 abbrev mapping : MappedTree ℕ
-mapping = record { at = gone; map = BlockMap (record { new = gone; word = gone; from = gone; argument = None; box = One (DomainLiteral gone (only (RangeItem (number 1) gone Closed (number 8) NoStride)) gone); upto = gone }) }
+mapping = record {
+  at = gone;
+  map = BlockMap (record {
+    new = gone;
+    word = gone;
+    from = gone;
+    argument = None;
+    box = One (DomainLiteral gone (only (RangeItem (number 1) gone Closed (number 8) NoStride)) gone);
+    upto = gone;
+  });
+}
+
+-- domain(rank), whose tokens stand there
+abbrev domain_of : Place → ℕ → Option (MappedTree ℕ) → TypeTree ℕ
+domain_of at rank mapped = DomainType (record { at = at; from = at; rank_at = at; rank = rank; upto = at; mapped = mapped })
 
 -- var D: domain(2) dmapped ..; has no map
-domain_variable : lowered_declare nothing_known (declaring None (Some (DomainType (record { at = gone; from = gone; rank_at = gone; rank = 2; upto = gone; mapped = Some mapping }))) None)
-    ≡ declared (bare 0) (Some (DomainType (record { at = nowhere; from = nowhere; rank_at = nowhere; rank = 2; upto = nowhere; mapped = None }))) None
+domain_variable : lowered_declare nothing_known (declaring None (Some (domain_of gone 2 (Some mapping))) None) ≡ declared (bare 0) (Some (domain_of nowhere 2 None)) None
 domain_variable = refl
 
 -- var D: domain(1) = E dmapped ..; has no type either
-domain_value : lowered_declare nothing_known (declaring None (Some (DomainType (record { at = gone; from = gone; rank_at = gone; rank = 1; upto = gone; mapped = None }))) (Some (record { equals = gone; init = ItemInit (One (Named (name 22 1))) (Some mapping) })))
+domain_value : lowered_declare nothing_known (declaring None (Some (domain_of gone 1 None)) (Some (record { equals = gone; init = ItemInit (One (Named (name 22 1))) (Some mapping) })))
     ≡ declared (bare 0) None (initially nowhere (One (Named (bare 1))))
 domain_value = refl
 
+-- blockDist.createDomain(1..8)
+abbrev created : InitTree ℕ
+created = CreateInit (record {
+  at = gone;
+  word = CreateBlock;
+  dot = gone;
+  method = gone;
+  from = at 32;
+  items = only (RangeItem (number 1) (at 34) Closed (number 8) NoStride);
+  upto = gone;
+})
+
 -- var D = blockDist.createDomain(1..8); is var D = {1..8};
-created_domain : lowered_declare nothing_known (declaring None None (Some (record { equals = gone; init = CreateInit (record { at = gone; word = CreateBlock; dot = gone; method = gone; from = at 32; items = only (RangeItem (number 1) (at 34) Closed (number 8) NoStride); upto = gone }) })))
+created_domain : lowered_declare nothing_known (declaring None None (Some (record { equals = gone; init = created })))
     ≡ declared (bare 0) None (initially nowhere (One (DomainLiteral (at 32) (only (RangeItem (placeless 1) (at 34) Closed (placeless 8) NoStride)) nowhere)))
 created_domain = refl
 
@@ -254,9 +301,13 @@ created_domain = refl
 cell : lowered_declare nothing_known (declaring None (Some (SyncType gone gone IntKind)) None) ≡ declared (bare 0) (Some (SyncType nowhere nowhere IntKind)) None
 cell = refl
 
+-- [D] int
+abbrev array_over : Place → Placed ℕ → TypeTree ℕ
+array_over upto x = ArrayType (record { from = at 10; over = only (One (Named x)); upto = upto; kind_at = upto; kind = IntKind })
+
 -- var A: [D] int = B; the name, the opening bracket, `=` and B are told
-array : lowered_declare nothing_known (declaring None (Some (ArrayType (record { from = at 10; over = only (One (Named (name 11 1))); upto = gone; kind_at = gone; kind = IntKind }))) (initially (at 18) (One (Named (name 20 2)))))
-    ≡ declared (name 7 0) (Some (ArrayType (record { from = at 10; over = only (One (Named (bare 1))); upto = nowhere; kind_at = nowhere; kind = IntKind }))) (initially (at 18) (One (Named (name 20 2))))
+array : lowered_declare nothing_known (declaring None (Some (array_over gone (name 11 1))) (initially (at 18) (One (Named (name 20 2)))))
+    ≡ declared (name 7 0) (Some (array_over nowhere (bare 1))) (initially (at 18) (One (Named (name 20 2))))
 array = refl
 
 -- ASSIGNMENTS AND CALLS
@@ -287,47 +338,65 @@ cell_write : lowered_stmt nothing_known (Call (name 1 0) gone (WriteCall gone Wr
 cell_write = refl
 
 -- BODIES, LOOPS AND PROGRAMS
+-- { }, and a list of one statement
+abbrev empty_block : Body ℕ
+empty_block = BlockBody gone NoStmts gone
+
+abbrev no_statements : Body ℕ
+no_statements = BlockBody nowhere NoStmts nowhere
+
+abbrev one_nothing : Body ℕ
+one_nothing = BlockBody nowhere (Then (Nothing nowhere) NoStmts) nowhere
+
 -- do ; and { ; } are one list
-one_statement : lowered_body {N = ℕ} nothing_known (WordBody gone (Nothing gone)) ≡ BlockBody nowhere (Then (Nothing nowhere) NoStmts) nowhere
+one_statement : lowered_body nothing_known (WordBody gone (Nothing gone)) ≡ one_nothing
 one_statement = refl
 
-block_body : lowered_body {N = ℕ} nothing_known (BlockBody gone (Then (Nothing gone) NoStmts) gone) ≡ BlockBody nowhere (Then (Nothing nowhere) NoStmts) nowhere
+block_body : lowered_body nothing_known (BlockBody gone (Then (Nothing gone) NoStmts) gone) ≡ one_nothing
 block_body = refl
 
 -- if x then ; else ;
-branches : lowered_stmt nothing_known (If gone (Named (name 4 0)) (WordBody gone (Nothing gone)) (ElseDo gone (Nothing gone))) ≡ If nowhere (Named (bare 0)) (BlockBody nowhere (Then (Nothing nowhere) NoStmts) nowhere) (ElseDo nowhere (Nothing nowhere))
+branches : lowered_stmt nothing_known (If gone (Named (name 4 0)) (WordBody gone (Nothing gone)) (ElseDo gone (Nothing gone))) ≡ If nowhere (Named (bare 0)) one_nothing (ElseDo nowhere (Nothing nowhere))
 branches = refl
 
 -- while x { }: its word is told
-while_loop : lowered_stmt nothing_known (While (at 1) (Named (name 7 0)) (BlockBody gone NoStmts gone)) ≡ While (at 1) (Named (bare 0)) (BlockBody nowhere NoStmts nowhere)
+while_loop : lowered_stmt nothing_known (While (at 1) (Named (name 7 0)) empty_block) ≡ While (at 1) (Named (bare 0)) no_statements
 while_loop = refl
 
 -- for (i, j) in D { }: so is its
-for_loop : lowered_stmt nothing_known (For (at 1) (ManyVariables gone (record { first = name 6 0; others = record { comma = gone; part = name 9 1 } ∷ [] }) gone) gone (One (Named (name 15 2))) (BlockBody gone NoStmts gone))
-    ≡ For (at 1) (ManyVariables nowhere (record { first = bare 0; others = record { comma = nowhere; part = bare 1 } ∷ [] }) nowhere) nowhere (One (Named (bare 2))) (BlockBody nowhere NoStmts nowhere)
+for_loop : lowered_stmt nothing_known (For (at 1) (ManyVariables gone (record { first = name 6 0; others = record { comma = gone; part = name 9 1 } ∷ [] }) gone) gone (One (Named (name 15 2))) empty_block)
+    ≡ For (at 1) (ManyVariables nowhere (record { first = bare 0; others = record { comma = nowhere; part = bare 1 } ∷ [] }) nowhere) nowhere (One (Named (bare 2))) no_statements
 for_loop = refl
 
--- with (ref A, + reduce s): the reduce intent alone
+-- with ( .. )
+abbrev intents : Place → IntentTree ℕ → List (AfterComma (IntentTree ℕ)) → Option (WithTree ℕ)
+intents at first others = Some (record { at = at; from = at; intents = record { first = first; others = others }; upto = at })
+
 abbrev referring : IntentTree ℕ
 referring = RefIntent gone (name 20 5)
 
-abbrev intents : IntentTree ℕ → List (AfterComma (IntentTree ℕ)) → Option (WithTree ℕ)
-intents first others = Some (record { at = gone; from = gone; intents = record { first = first; others = others }; upto = gone })
+-- forall i in D with ( .. ) { }
+abbrev loop : Option (WithTree ℕ) → StmtTree ℕ
+loop with = Forall (at 1) (OneVariable (name 8 0)) gone (One (Named (name 13 2))) with empty_block
 
-reduce_intent : lowered_stmt nothing_known (Forall (at 1) (OneVariable (name 8 0)) gone (One (Named (name 13 2))) (intents referring (record { comma = gone; part = ReduceIntent gone Sum gone (name 36 3) } ∷ [])) (BlockBody gone NoStmts gone))
-    ≡ Forall (at 1) (OneVariable (bare 0)) nowhere (One (Named (bare 2))) (Some (record { at = nowhere; from = nowhere; intents = record { first = ReduceIntent nowhere Sum nowhere (bare 3); others = [] }; upto = nowhere })) (BlockBody nowhere NoStmts nowhere)
+abbrev lowered_loop : Option (WithTree ℕ) → StmtTree ℕ
+lowered_loop with = Forall (at 1) (OneVariable (bare 0)) nowhere (One (Named (bare 2))) with no_statements
+
+-- with (ref A, + reduce s): the reduce intent alone
+reduce_intent : lowered_stmt nothing_known (loop (intents gone referring (record { comma = gone; part = ReduceIntent gone Sum gone (name 36 3) } ∷ []))) ≡ lowered_loop (intents nowhere (ReduceIntent nowhere Sum nowhere (bare 3)) [])
 reduce_intent = refl
 
 -- with (ref A) is nothing
-no_intent : lowered_stmt nothing_known (Forall (at 1) (OneVariable (name 8 0)) gone (One (Named (name 13 2))) (intents referring []) (BlockBody gone NoStmts gone)) ≡ Forall (at 1) (OneVariable (bare 0)) nowhere (One (Named (bare 2))) None (BlockBody nowhere NoStmts nowhere)
+no_intent : lowered_stmt nothing_known (loop (intents gone referring [])) ≡ lowered_loop None
 no_intent = refl
 
 -- and a coforall has none
-coforall : lowered_stmt nothing_known (Coforall (at 1) (OneVariable (name 10 0)) gone (One (Named (name 15 2))) (intents referring []) (BlockBody gone NoStmts gone)) ≡ Coforall (at 1) (OneVariable (bare 0)) nowhere (One (Named (bare 2))) None (BlockBody nowhere NoStmts nowhere)
+coforall : lowered_stmt nothing_known (Coforall (at 1) (OneVariable (name 10 0)) gone (One (Named (name 15 2))) (intents gone referring []) empty_block)
+    ≡ Coforall (at 1) (OneVariable (bare 0)) nowhere (One (Named (bare 2))) None no_statements
 coforall = refl
 
 -- on here { }: nothing is told
-on_a_locale : lowered_stmt {N = ℕ} nothing_known (On gone (HereWord gone) (BlockBody gone NoStmts gone)) ≡ On nowhere (HereWord nowhere) (BlockBody nowhere NoStmts nowhere)
+on_a_locale : lowered_stmt nothing_known (On gone (HereWord gone) empty_block) ≡ On nowhere (HereWord nowhere) no_statements
 on_a_locale = refl
 
 -- use BlockDist; ;
