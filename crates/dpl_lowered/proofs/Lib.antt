@@ -10,5 +10,7 @@ pub mod Declarations
 pub mod Writing
 pub mod Runs
 pub mod Programs
+-- Their premise can be met, whatever is known.
+pub mod Knowing
 -- Rows that are worked out against the definitions.
 pub mod Worked
