@@ -13,7 +13,7 @@ use Rattle.dpl_language.specs.Expressions.{element_of, named, bracketed, value_o
 use Rattle.dpl_language.proofs.RunsAlike.{with_ok-same}
 use Rattle.dpl_lowered.specs.Known.{Known, Unknown, WholeArray, NoArray, PlainValue, may_be_array, IsAsKnown, IsKnown}
 use Rattle.dpl_lowered.specs.Shapes.{placed, in_brackets}
-use Rattle.dpl_lowered.specs.LoweredExpressions.{Once, rebased, name_base, read_base, told_base, rounds_by, rounds_of, lowered_expr}
+use Rattle.dpl_lowered.specs.LoweredExpressions.{Once, rebased, name_base, read_base, told_base, based, rounds_by, rounds_of, lowered_expr}
 use Rattle.dpl_lowered.proofs.Nests.{as_items-values}
 use Rattle.dpl_lowered.proofs.Seen.{placeless, base_of-lowered}
 
@@ -173,12 +173,9 @@ module _ {N S : Type 0} (limits : Limits) (env : Environment N S) where
   rebased-value known (Post (Dotted dot m) rest) b l r s p g = p
 
   -- THE BASE OF A LOWERED TREE
-  abbrev pub lowered_base : (N → Known) → Posts N → ExprTree N → ExprTree N
-  lowered_base known posts e = read_base (posts_read posts) (bare_name e) (rebased (told_base known posts (base_of e)) (lowered_expr known Once e))
-
-  pub lowered_base-value : (known : N → Known) (posts : Posts N) (e : ExprTree N) (s : S) → value_of limits env (lowered_expr known Once e) None s ≡ value_of limits env e None s
-      → value_of limits env (lowered_base known posts e) None s ≡ value_of limits env e None s
-  lowered_base-value known posts e s p =
+  pub based-value : (known : N → Known) (posts : Posts N) (e : ExprTree N) (s : S) → value_of limits env (lowered_expr known Once e) None s ≡ value_of limits env e None s
+      → value_of limits env (based known posts e (lowered_expr known Once e)) None s ≡ value_of limits env e None s
+  based-value known posts e s p =
       read_base-value (posts_read posts) (bare_name e) _ (value_of limits env e None s) s
       (rebased-value known posts (base_of e) (lowered_expr known Once e) (value_of limits env e None s) s p (base-gives e s)) (name-gives e s)
 
@@ -192,7 +189,7 @@ module _ {N S : Type 0} (limits : Limits) (env : Environment N S) where
   rounds-read from es upto (Post q rest) = refl
 
   pub first-serves : (known : N → Known) → IsKnown known env → (posts : Posts N) (e : ExprTree N) (v : Value) (s : S) → value_of limits env e None s ≡ Ok v
-      → ServesFirst known posts (base_of e) (base_of (lowered_base known posts e)) v s
+      → ServesFirst known posts (base_of e) (base_of (based known posts e (lowered_expr known Once e))) v s
   first-serves known is NoPosts e v s p = tt
   first-serves known is (Post (Brackets from items upto) rest) e v s p =
       subst (λ op. Serves known (Brackets from items upto) (base_of e) (base_of (read_base op (bare_name e) (rebased (told_base known (Post (Brackets from items upto) rest) (base_of e)) (lowered_expr known Once e)))) v s)

@@ -5,7 +5,7 @@ use Rattle.dpl_language.specs.Tree.{Placed, ExprTree, Number, TruthWord, Named, 
 use Rattle.dpl_language.specs.Phrases.{Base, BaseName, BaseLocales, OtherBase, base_of, item_base, bare_name, posts_read, ReadTree, read_by, cell_read, item_read, name_of, item_over, declared_over}
 use Rattle.dpl_lowered.specs.Known.{Known}
 use Rattle.dpl_lowered.specs.Shapes.{nowhere, unplaced, as_item, hidden, hidden_item}
-use Rattle.dpl_lowered.specs.LoweredExpressions.{Times, Once, lowered_expr, lowered_item, lowered_links, lowered_posts, read_base, rebased, told_base}
+use Rattle.dpl_lowered.specs.LoweredExpressions.{Times, Once, lowered_expr, lowered_item, lowered_links, lowered_posts, based}
 use Rattle.dpl_lowered.specs.LoweredStatements.{lowered_side, lowered_over, lowered_shown}
 use Rattle.dpl_lowered.proofs.Nests.{as_expr-base, as_item-base, nested-base, stacked-base}
 
@@ -133,7 +133,7 @@ module _ {N : Type 0} (known : N → Known) where
     base_of-lowered (Reduced at op word e) = refl
     base_of-lowered (Chain e rest) = nested-base (lowered_expr known Once e) (lowered_links known Once rest)
     base_of-lowered (Postfixed e posts) =
-        stacked-base (read_base (posts_read posts) (bare_name e) (rebased (told_base known posts (base_of e)) (lowered_expr known Once e))) (lowered_posts known (base_of e) posts)
+        stacked-base (based known posts e (lowered_expr known Once e)) (lowered_posts known (base_of e) posts)
 
     item_base-lowered : (i : ItemTree N) → item_base (lowered_item known Once i) ≡ placeless (item_base i)
     item_base-lowered (One e) = as_item-base (lowered_expr known Once e) ∙ base_of-lowered e

@@ -15,9 +15,9 @@ use Rattle.dpl_language.specs.Expressions.{or_domain, reduction, unless_decided,
 use Rattle.dpl_language.proofs.RunsAlike.{with_ok-same, with_ok-same_by}
 use Rattle.dpl_lowered.specs.Known.{Known, may_be_array, IsKnown}
 use Rattle.dpl_lowered.specs.Shapes.{kept, placed}
-use Rattle.dpl_lowered.specs.LoweredExpressions.{Times, Once, EachTurn, each_turn, unplaced_dots, is_end, lowered_expr, lowered_item, lowered_stride, lowered_links, lowered_posts, lowered_post, lowered_method, lowered_items, lowered_more_items, lowered_exprs, lowered_more_exprs}
+use Rattle.dpl_lowered.specs.LoweredExpressions.{Times, Once, EachTurn, each_turn, unplaced_dots, is_end, based, lowered_expr, lowered_item, lowered_stride, lowered_links, lowered_posts, lowered_post, lowered_method, lowered_items, lowered_more_items, lowered_exprs, lowered_more_exprs}
 use Rattle.dpl_lowered.proofs.Nests.{kept-enough, as_expr-value, as_expr-whole, as_item-value, as_item-whole, nested-value, nested-whole, stacked-value, stacked-whole}
-use Rattle.dpl_lowered.proofs.Bases.{no-array, named-placed, Serves, ServesFirst, other-serves, lowered_base, lowered_base-value, first-serves}
+use Rattle.dpl_lowered.proofs.Bases.{no-array, named-placed, Serves, ServesFirst, other-serves, based-value, first-serves}
 
 -- what is evaluated once is not evaluated at an index
 abbrev pub Allows : Times → Option Index → Type 0
@@ -67,7 +67,7 @@ module _ {N S : Type 0} (limits : Limits) (env : Environment N S) (known : N →
         nested-whole limits env (lowered_expr known m e) (lowered_links known m rest) s
         ∙ ap (λ o. or_domain o (whole_links limits env (lowered_links known m rest) s)) (whole_in-lowered m e s)
         ∙ ap (or_domain (whole_in limits env e s)) (whole_links-lowered m rest s)
-    whole_in-lowered m (Postfixed e posts) s = stacked-whole limits env (lowered_base limits env known posts e) (lowered_posts known (base_of e) posts) s
+    whole_in-lowered m (Postfixed e posts) s = stacked-whole limits env (based known posts e (lowered_expr known Once e)) (lowered_posts known (base_of e) posts) s
 
     pub whole_item-lowered : (m : Times) (i : ItemTree N) (s : S) → whole_item limits env (lowered_item known m i) s ≡ whole_item limits env i s
     whole_item-lowered m (One e) s = as_item-whole limits env (lowered_expr known m e) s ∙ whole_in-lowered m e s
@@ -98,9 +98,9 @@ module _ {N S : Type 0} (limits : Limits) (env : Environment N S) (known : N →
         nested-value limits env (lowered_expr known m e) (lowered_links known m rest) t s
         ∙ with_ok-same _ _ _ _ (value_of-lowered m e t s a) (λ v. chained-lowered m rest t s a v)
     value_of-lowered m (Postfixed e posts) t s a =
-        stacked-value limits env (lowered_base limits env known posts e) (lowered_posts known (base_of e) posts) t s
-        ∙ with_ok-same_by _ _ _ _ (lowered_base-value limits env known posts e s (value_of-lowered Once e None s tt))
-        (λ v p. behind-lowered posts (base_of e) (base_of (lowered_base limits env known posts e)) s v (first-serves limits env known is posts e v s p))
+        stacked-value limits env (based known posts e (lowered_expr known Once e)) (lowered_posts known (base_of e) posts) t s
+        ∙ with_ok-same_by _ _ _ _ (based-value limits env known posts e s (value_of-lowered Once e None s tt))
+        (λ v p. behind-lowered posts (base_of e) (base_of (based known posts e (lowered_expr known Once e))) s v (first-serves limits env known is posts e v s p))
 
     chained-lowered : (m : Times) (l : Links N) (t : Option Index) (s : S) → Allows m t → (v : Value) → chained limits env (lowered_links known m l) t s v ≡ chained limits env l t s v
     chained-lowered m NoLinks t s a v = refl

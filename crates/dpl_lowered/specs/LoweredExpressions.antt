@@ -70,6 +70,10 @@ module _ {N : Type 0} (known : N → Known) where
   told_base (Post (Rounds from es upto) rest) OtherBase = OtherBase
   told_base (Post (Dotted dot m) rest) b = OtherBase
 
+  -- the base that an expression is before posts, from its lowered form
+  abbrev pub based : Posts N → ExprTree N → ExprTree N → ExprTree N
+  based posts e lowered = read_base (posts_read posts) (bare_name e) (rebased (told_base posts (base_of e)) lowered)
+
   abbrev pub rounds_of : Base N → Exprs N → PostTree N
   rounds_of (BaseName x) es = rounds_by (known x.name) es
   rounds_of (BaseLocales at) es = Rounds nowhere es nowhere
@@ -91,8 +95,7 @@ module _ {N : Type 0} (known : N → Known) where
     lowered_expr m (Reduced at op word e) = Reduced nowhere op word (lowered_expr EachTurn e)
     lowered_expr m (Chain e rest) = nested (lowered_expr m e) (lowered_links m rest)
     lowered_expr m (Postfixed e posts) =
-        stacked (read_base (posts_read posts) (bare_name e) (rebased (told_base posts (base_of e)) (lowered_expr Once e)))
-        (lowered_posts (base_of e) posts)
+        stacked (based posts e (lowered_expr Once e)) (lowered_posts (base_of e) posts)
 
     pub lowered_item : Times → ItemTree N → ItemTree N
     lowered_item m (One e) = as_item (lowered_expr m e)
