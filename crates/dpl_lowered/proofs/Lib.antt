@@ -12,5 +12,8 @@ pub mod Runs
 pub mod Programs
 -- Their premise can be met, whatever is known.
 pub mod Knowing
+-- A lowered tree is lowered to itself.
+pub mod Formed
+pub mod Twice
 -- Rows that are worked out against the definitions.
 pub mod Worked
