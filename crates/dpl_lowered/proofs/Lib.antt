@@ -15,5 +15,6 @@ pub mod Knowing
 -- A lowered tree is lowered to itself.
 pub mod Formed
 pub mod Twice
+pub mod TwiceStatements
 -- Rows that are worked out against the definitions.
 pub mod Worked

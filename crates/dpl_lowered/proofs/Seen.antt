@@ -68,11 +68,11 @@ module _ {N : Type 0} where
   hidden_item-over (Some x) p i e a = e ∙ a
 
   -- a bare name is no cell read
-  data Either (l : ExprTree N) : Type 0 where
+  pub data Either (l : ExprTree N) : Type 0 where
     NoRead : cell_read l ≡ None → Either l
     NoName : bare_name l ≡ None → Either l
 
-  either : (l : ExprTree N) → Either l
+  pub either : (l : ExprTree N) → Either l
   either (Number at n) = NoRead refl
   either (TruthWord at b) = NoRead refl
   either (Named x) = NoRead refl
