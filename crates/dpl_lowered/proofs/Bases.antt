@@ -15,7 +15,7 @@ use Rattle.dpl_lowered.specs.Known.{Known, Unknown, WholeArray, NoArray, PlainVa
 use Rattle.dpl_lowered.specs.Shapes.{placed, in_brackets}
 use Rattle.dpl_lowered.specs.LoweredExpressions.{Once, rebased, name_base, read_base, told_base, based, rounds_by, rounds_of, lowered_expr}
 use Rattle.dpl_lowered.proofs.Nests.{as_items-values}
-use Rattle.dpl_lowered.proofs.Seen.{placeless, base_of-lowered}
+use Rattle.dpl_lowered.proofs.Seen.{placeless, brackets-read, rounds-read, base_of-lowered}
 
 -- a value that is no array's
 pub no-array : (k : Known) (v : Value) → may_be_array k ≡ false → IsAsKnown k v → array_domain v ≡ None
@@ -178,15 +178,6 @@ module _ {N S : Type 0} (limits : Limits) (env : Environment N S) where
   based-value known posts e s p =
       read_base-value (posts_read posts) (bare_name e) _ (value_of limits env e None s) s
       (rebased-value known posts (base_of e) (lowered_expr known Once e) (value_of limits env e None s) s p (base-gives e s)) (name-gives e s)
-
-  -- indices behind a base make no cell read
-  brackets-read : (from : Place) (items : Items N) (upto : Place) (rest : Posts N) → None ≡ posts_read (Post (Brackets from items upto) rest)
-  brackets-read from items upto NoPosts = refl
-  brackets-read from items upto (Post q rest) = refl
-
-  rounds-read : (from : Place) (es : Exprs N) (upto : Place) (rest : Posts N) → None ≡ posts_read (Post (Rounds from es upto) rest)
-  rounds-read from es upto NoPosts = refl
-  rounds-read from es upto (Post q rest) = refl
 
   pub first-serves : (known : N → Known) → IsKnown known env → (posts : Posts N) (e : ExprTree N) (v : Value) (s : S) → value_of limits env e None s ≡ Ok v
       → ServesFirst known posts (base_of e) (base_of (based known posts e (lowered_expr known Once e))) v s

@@ -1,7 +1,8 @@
 -- What is seen of a lowered tree without a state is what is seen of the tree: bases, cell reads, bare names.
 -- A lowered tree may look like a phrase that the tree isn't; then it stands in brackets where phrases are looked for.
 use Rattle.std.proofs.Common.{◌≡◌, refl, sym, ap, ◌∙◌, subst, Some, None, Option}
-use Rattle.dpl_language.specs.Tree.{Placed, ExprTree, Number, TruthWord, Named, LocalesWord, LocaleCount, HereWord, Grouped, DomainLiteral, Prefixed, Reduced, Chain, Postfixed, ItemTree, One, RangeItem, Posts, NoPosts, Post, Brackets, Rounds, Dotted, Plainly, Dim, Contains, Expand, CellRead, Items, FirstItem, NoItems, NextItem}
+use Rattle.dpl_syntax.specs.declared.place.Place.{Place}
+use Rattle.dpl_language.specs.Tree.{Placed, ExprTree, Number, TruthWord, Named, LocalesWord, LocaleCount, HereWord, Grouped, DomainLiteral, Prefixed, Reduced, Chain, Postfixed, ItemTree, One, RangeItem, Posts, NoPosts, Post, Brackets, Rounds, Dotted, Plainly, Dim, Contains, Expand, CellRead, Items, FirstItem, NoItems, NextItem, Exprs}
 use Rattle.dpl_language.specs.Phrases.{Base, BaseName, BaseLocales, OtherBase, base_of, item_base, bare_name, posts_read, ReadTree, read_by, cell_read, item_read, name_of, item_over, declared_over}
 use Rattle.dpl_lowered.specs.Known.{Known}
 use Rattle.dpl_lowered.specs.Shapes.{nowhere, unplaced, as_item, hidden, hidden_item}
@@ -116,6 +117,15 @@ module _ {N : Type 0} where
   shown-name_by None None o p l e n w a = inner-name o p l (ap name_of n)
   shown-name_by None (Some y) o p l e n w a = refl
   shown-name_by (Some x) c o p l e n w a = inner-named o p x.name l e w (ap name_of n ∙ a)
+
+  -- indices behind a base make no cell read
+  pub brackets-read : (from : Place) (items : Items N) (upto : Place) (rest : Posts N) → None ≡ posts_read (Post (Brackets from items upto) rest)
+  brackets-read from items upto NoPosts = refl
+  brackets-read from items upto (Post q rest) = refl
+
+  pub rounds-read : (from : Place) (es : Exprs N) (upto : Place) (rest : Posts N) → None ≡ posts_read (Post (Rounds from es upto) rest)
+  rounds-read from es upto NoPosts = refl
+  rounds-read from es upto (Post q rest) = refl
 
 module _ {N : Type 0} (known : N → Known) where
   -- BASES

@@ -4,14 +4,14 @@ use Rattle.std.proofs.Common.{◌≡◌, Bool, true, false, refl, sym, ap, ◌�
 use Rattle.std.specs.Prelude.{◌&&◌, if◌then◌else◌}
 use Rattle.dpl_syntax.specs.declared.place.Place.{Place}
 use Rattle.dpl_history.specs.declared.cell.CellOp.{CellOp}
-use Rattle.dpl_language.specs.Tree.{Placed, Dots, Closed, HalfOpen, Counted, Infix, ReadWord, ExprTree, Number, TruthWord, Named, LocalesWord, LocaleCount, HereWord, Grouped, DomainLiteral, Prefixed, Reduced, Chain, Postfixed, ItemTree, One, RangeItem, Stride, NoStride, By, Links, NoLinks, Link, Posts, NoPosts, Post, PostTree, Brackets, Rounds, Dotted, MethodTree, Plainly, Dim, Contains, Expand, CellRead, Items, FirstItem, MoreItems, NoItems, NextItem, Exprs, FirstExpr, MoreExprs, NoExprs, NextExpr}
+use Rattle.dpl_language.specs.Tree.{Placed, Dots, Closed, HalfOpen, Counted, Infix, ExprTree, Number, TruthWord, Named, LocalesWord, LocaleCount, HereWord, Grouped, DomainLiteral, Prefixed, Reduced, Chain, Postfixed, ItemTree, One, RangeItem, Stride, NoStride, By, Links, NoLinks, Link, Posts, NoPosts, Post, PostTree, Brackets, Rounds, Dotted, MethodTree, Plainly, Dim, Contains, Expand, CellRead, Items, FirstItem, MoreItems, NoItems, NextItem, Exprs, FirstExpr, MoreExprs, NoExprs, NextExpr}
 use Rattle.dpl_language.specs.Arithmetic.{divides}
-use Rattle.dpl_language.specs.Phrases.{Base, BaseName, BaseLocales, OtherBase, base_of, bare_name, posts_read, read_op}
+use Rattle.dpl_language.specs.Phrases.{Base, BaseName, BaseLocales, OtherBase, base_of, bare_name, read_op}
 use Rattle.dpl_lowered.specs.Known.{Known, Unknown, WholeArray, NoArray, PlainValue, may_be_array}
-use Rattle.dpl_lowered.specs.Shapes.{nowhere, kept, placed, unplaced, as_expr, as_item, as_items, as_more_items, in_brackets, two, grouped, passes_on, all_pass_on, nests, nested, stacked_on, stacked}
+use Rattle.dpl_lowered.specs.Shapes.{nowhere, kept, unplaced, as_expr, as_item, as_items, as_more_items, in_brackets, two, grouped, passes_on, all_pass_on, nests, nested, stacked_on}
 use Rattle.dpl_lowered.specs.LoweredExpressions.{Times, Once, EachTurn, each_turn, unplaced_dots, is_end, rebased, name_base, read_base, rounds_by, rounds_of, told_base, based, lowered_expr, lowered_item, lowered_stride, lowered_links, lowered_posts, lowered_post, lowered_method, lowered_items, lowered_more_items, lowered_exprs, lowered_more_exprs}
-use Rattle.dpl_lowered.proofs.Seen.{placeless, base_of-lowered}
-use Rattle.dpl_lowered.proofs.Formed.{IsFormed, as_expr-as_item, as_item-as_expr, lowered-formed, item-formed}
+use Rattle.dpl_lowered.proofs.Seen.{placeless, brackets-read, rounds-read, base_of-lowered}
+use Rattle.dpl_lowered.proofs.Formed.{as_expr-as_item, as_item-as_expr, lowered-formed, item-formed}
 
 -- PLACES
 pub kept-kept : (b : Bool) (at : Place) → kept b (kept b at) ≡ kept b at
@@ -49,15 +49,6 @@ module _ {N : Type 0} where
   read_base-again op (Reduced at kind word e) = refl
   read_base-again op (Chain e rest) = refl
   read_base-again op (Postfixed e posts) = refl
-
-  -- a method that reads no cell makes no cell read
-  brackets-read : (from : Place) (items : Items N) (upto : Place) (rest : Posts N) → None ≡ posts_read (Post (Brackets from items upto) rest)
-  brackets-read from items upto NoPosts = refl
-  brackets-read from items upto (Post q rest) = refl
-
-  rounds-read : (from : Place) (es : Exprs N) (upto : Place) (rest : Posts N) → None ≡ posts_read (Post (Rounds from es upto) rest)
-  rounds-read from es upto NoPosts = refl
-  rounds-read from es upto (Post q rest) = refl
 
 module _ {N : Type 0} (known : N → Known) where
   -- ITEMS
@@ -121,13 +112,14 @@ module _ {N : Type 0} (known : N → Known) where
       ∙ ap (λ l. stacked_on (Postfixed l (Post (lowered_post known OtherBase q) NoPosts)) (lowered_posts known OtherBase rest)) (based-behind m q e p)
 
   -- BASES, of an expression whose lowered form is lowered to itself
+  abbrev again : PostTree N → ExprTree N → ExprTree N
+  again p b = based known (Post p NoPosts) b (lowered_expr known Once b)
+
   based-brackets : (from : Place) (items : Items N) (upto : Place) (is : Items N) (rest : Posts N) (b : Base N) (l : ExprTree N) → lowered_expr known Once l ≡ l → base_of l ≡ placeless b
-      → based known (Post (Brackets nowhere is nowhere) NoPosts) (rebased (told_base known (Post (Brackets from items upto) rest) b) l) (lowered_expr known Once (rebased (told_base known (Post (Brackets from items upto) rest) b) l))
-      ≡ rebased (told_base known (Post (Brackets from items upto) rest) b) l
+      → again (Brackets nowhere is nowhere) (rebased (told_base known (Post (Brackets from items upto) rest) b) l) ≡ rebased (told_base known (Post (Brackets from items upto) rest) b) l
   based-brackets from items upto is rest (BaseName x) l h p = by_test (may_be_array (known x.name)) refl
     where
-      by_test : (c : Bool) → may_be_array (known x.name) ≡ c
-          → based known (Post (Brackets nowhere is nowhere) NoPosts) (rebased (name_base c x) l) (lowered_expr known Once (rebased (name_base c x) l)) ≡ rebased (name_base c x) l
+      by_test : (c : Bool) → may_be_array (known x.name) ≡ c → again (Brackets nowhere is nowhere) (rebased (name_base c x) l) ≡ rebased (name_base c x) l
       by_test true q = ap (λ c. rebased (name_base c x) (lowered_expr known Once (Named x))) q
       by_test false q =
           ap (λ b. rebased (told_base known (Post (Brackets nowhere is nowhere) NoPosts) b) (lowered_expr known Once l)) p
@@ -137,11 +129,10 @@ module _ {N : Type 0} (known : N → Known) where
       ap (λ b. rebased (told_base known (Post (Brackets nowhere is nowhere) NoPosts) b) (lowered_expr known Once l)) p ∙ h
 
   based-rounds : (from : Place) (es : Exprs N) (upto : Place) (is : Exprs N) (rest : Posts N) (b : Base N) (l : ExprTree N) → lowered_expr known Once l ≡ l → base_of l ≡ placeless b
-      → based known (Post (rounds_of known b is) NoPosts) (rebased (told_base known (Post (Rounds from es upto) rest) b) l) (lowered_expr known Once (rebased (told_base known (Post (Rounds from es upto) rest) b) l))
-      ≡ rebased (told_base known (Post (Rounds from es upto) rest) b) l
+      → again (rounds_of known b is) (rebased (told_base known (Post (Rounds from es upto) rest) b) l) ≡ rebased (told_base known (Post (Rounds from es upto) rest) b) l
   based-rounds from es upto is rest (BaseName x) l h p = by_known (known x.name) refl
     where
-      by_known : (k : Known) → known x.name ≡ k → based known (Post (rounds_by k is) NoPosts) (Named x) (lowered_expr known Once (Named x)) ≡ Named x
+      by_known : (k : Known) → known x.name ≡ k → again (rounds_by k is) (Named x) ≡ Named x
       by_known Unknown q = refl
       by_known WholeArray q = ap (λ k. rebased (name_base (may_be_array k) x) (lowered_expr known Once (Named x))) q
       by_known NoArray q = refl
@@ -174,14 +165,14 @@ module _ {N : Type 0} (known : N → Known) where
 
   -- a base by what stands behind it
   based-twice : (p : PostTree N) (rest : Posts N) (e l : ExprTree N) → lowered_expr known Once l ≡ l → base_of l ≡ placeless (base_of e)
-      → based known (Post (lowered_post known (base_of e) p) NoPosts) (based known (Post p rest) e l) (lowered_expr known Once (based known (Post p rest) e l)) ≡ based known (Post p rest) e l
+      → again (lowered_post known (base_of e) p) (based known (Post p rest) e l) ≡ based known (Post p rest) e l
   based-twice (Brackets from items upto) rest e l h p =
-      subst (λ op. based known (Post (Brackets nowhere (lowered_items known items) nowhere) NoPosts) (read_base op (bare_name e) (rebased (told_base known (Post (Brackets from items upto) rest) (base_of e)) l))
-      (lowered_expr known Once (read_base op (bare_name e) (rebased (told_base known (Post (Brackets from items upto) rest) (base_of e)) l))) ≡ read_base op (bare_name e) (rebased (told_base known (Post (Brackets from items upto) rest) (base_of e)) l))
+      subst (λ op. again (Brackets nowhere (lowered_items known items) nowhere) (read_base op (bare_name e) (rebased (told_base known (Post (Brackets from items upto) rest) (base_of e)) l))
+      ≡ read_base op (bare_name e) (rebased (told_base known (Post (Brackets from items upto) rest) (base_of e)) l))
       (brackets-read from items upto rest) (based-brackets from items upto (lowered_items known items) rest (base_of e) l h p)
   based-twice (Rounds from es upto) rest e l h p =
-      subst (λ op. based known (Post (rounds_of known (base_of e) (lowered_exprs known es)) NoPosts) (read_base op (bare_name e) (rebased (told_base known (Post (Rounds from es upto) rest) (base_of e)) l))
-      (lowered_expr known Once (read_base op (bare_name e) (rebased (told_base known (Post (Rounds from es upto) rest) (base_of e)) l))) ≡ read_base op (bare_name e) (rebased (told_base known (Post (Rounds from es upto) rest) (base_of e)) l))
+      subst (λ op. again (rounds_of known (base_of e) (lowered_exprs known es)) (read_base op (bare_name e) (rebased (told_base known (Post (Rounds from es upto) rest) (base_of e)) l))
+      ≡ read_base op (bare_name e) (rebased (told_base known (Post (Rounds from es upto) rest) (base_of e)) l))
       (rounds-read from es upto rest) (based-rounds from es upto (lowered_exprs known es) rest (base_of e) l h p)
   based-twice (Dotted dot (Plainly at w)) NoPosts e l h p = h
   based-twice (Dotted dot (Plainly at w)) (Post q rest) e l h p = h
@@ -224,6 +215,10 @@ module _ {N : Type 0} (known : N → Known) where
   other-follows (Dotted dot m) = tt
 
   -- TREES
+  -- the base of the first post
+  abbrev base_before : PostTree N → Posts N → ExprTree N → ExprTree N
+  base_before p rest e = based known (Post p rest) e (lowered_expr known Once e)
+
   mutual
     pub expr-twice : (m : Times) (e : ExprTree N) → lowered_expr known m (lowered_expr known m e) ≡ lowered_expr known m e
     expr-twice m (Number at n) = refl
@@ -242,12 +237,12 @@ module _ {N : Type 0} (known : N → Known) where
         ∙ ap (nested (lowered_expr known m e)) (links-twice m rest)
     expr-twice m (Postfixed e NoPosts) = ap (λ l. Postfixed l NoPosts) (expr-twice Once e)
     expr-twice m (Postfixed e (Post p rest)) =
-        stacked_on-lowered m (lowered_posts known OtherBase rest) (based known (Post p rest) e (lowered_expr known Once e)) (lowered_post known (base_of e) p)
-        ∙ ap (λ l. stacked_on (Postfixed l (Post (lowered_post known (base_of (based known (Post p rest) e (lowered_expr known Once e))) (lowered_post known (base_of e) p)) NoPosts)) (lowered_posts known OtherBase (lowered_posts known OtherBase rest)))
+        stacked_on-lowered m (lowered_posts known OtherBase rest) (base_before p rest e) (lowered_post known (base_of e) p)
+        ∙ ap (λ l. stacked_on (Postfixed l (Post (lowered_post known (base_of (base_before p rest e)) (lowered_post known (base_of e) p)) NoPosts)) (lowered_posts known OtherBase (lowered_posts known OtherBase rest)))
         (based-twice p rest e (lowered_expr known Once e) (expr-twice Once e) (base_of-lowered known e))
-        ∙ ap (λ q. stacked_on (Postfixed (based known (Post p rest) e (lowered_expr known Once e)) (Post q NoPosts)) (lowered_posts known OtherBase (lowered_posts known OtherBase rest)))
-        (post-twice p (base_of e) (base_of (based known (Post p rest) e (lowered_expr known Once e))) (based-told p rest e (lowered_expr known Once e) (base_of-lowered known e)))
-        ∙ ap (stacked_on (Postfixed (based known (Post p rest) e (lowered_expr known Once e)) (Post (lowered_post known (base_of e) p) NoPosts))) (posts-twice rest)
+        ∙ ap (λ q. stacked_on (Postfixed (base_before p rest e) (Post q NoPosts)) (lowered_posts known OtherBase (lowered_posts known OtherBase rest)))
+        (post-twice p (base_of e) (base_of (base_before p rest e)) (based-told p rest e (lowered_expr known Once e) (base_of-lowered known e)))
+        ∙ ap (stacked_on (Postfixed (base_before p rest e) (Post (lowered_post known (base_of e) p) NoPosts))) (posts-twice rest)
 
     pub item-twice : (m : Times) (i : ItemTree N) → lowered_item known m (lowered_item known m i) ≡ lowered_item known m i
     item-twice m (One e) = as_item-lowered m (lowered_expr known m e) ∙ ap as_item (expr-twice m e)

@@ -1,17 +1,17 @@
 -- A lowered statement, and a lowered program, is lowered to itself.
 -- A phrase that stands in brackets stays in one pair of them, and what is written where it was left out is written once.
-use Rattle.std.proofs.Common.{◌≡◌, Bool, true, false, List, [], ◌∷◌, refl, sym, ap, ◌∙◌, Some, None, Option, map}
-use Rattle.std.specs.Prelude.{◌||◌, option_map, pos}
+use Rattle.std.proofs.Common.{◌≡◌, Bool, false, List, [], ◌∷◌, refl, sym, ap, ◌∙◌, Some, None, Option, map}
+use Rattle.std.specs.Prelude.{◌||◌, option_map}
 use Rattle.dpl_syntax.specs.declared.place.Place.{Place}
-use Rattle.dpl_language.specs.Tree.{Placed, AfterComma, Listed, Op, Kind, IntKind, BoolKind, AssignTree, ExprTree, Grouped, DomainLiteral, ItemTree, One, Items, FirstItem, NoItems, NextItem, ArrayTypeTree, DomainTypeTree, TypeTree, ScalarType, SyncType, DomainType, ArrayType, InitTree, ItemInit, CreateInit, InitialTree, DeclareTree}
-use Rattle.dpl_language.specs.Tree.{ArgumentTree, TextArgument, ExprArgument, WriteTree, WithTree, VariablesTree, OneVariable, ManyVariables, TargetTree, Whole, Element, Square, CallTree, ReadCall, ResetCall, WriteCall, StmtTree, Nothing, Declare, Assigned, Call, Write, Block, If, While, For, Forall, Coforall, On, Body, WordBody, BlockBody, Stmts, NoStmts, Then, Else, NoElse, ElseDo, ProgramTree}
+use Rattle.dpl_language.specs.Tree.{Placed, AfterComma, Listed, Kind, IntKind, BoolKind, AssignTree, ExprTree, Grouped, DomainLiteral, ItemTree, One, Items, FirstItem, NoItems, NextItem, TypeTree, ScalarType, SyncType, DomainType, ArrayType, InitTree, ItemInit, CreateInit, InitialTree, DeclareTree}
+use Rattle.dpl_language.specs.Tree.{ArgumentTree, TextArgument, ExprArgument, WriteTree, VariablesTree, OneVariable, ManyVariables, TargetTree, Whole, Element, Square, CallTree, ReadCall, ResetCall, WriteCall, StmtTree, Nothing, Declare, Assigned, Call, Write, Block, If, While, For, Forall, Coforall, On, Body, WordBody, BlockBody, Stmts, NoStmts, Then, Else, NoElse, ElseDo, ProgramTree}
 use Rattle.dpl_language.specs.Arithmetic.{assign_divides}
 use Rattle.dpl_language.specs.Phrases.{bare_name, cell_read, ReadTree, item_read, item_over, intents_of}
 use Rattle.dpl_language.specs.Declarations.{type_of}
 use Rattle.dpl_lowered.specs.Known.{Known, may_be_array, may_be_whole}
-use Rattle.dpl_lowered.specs.Shapes.{nowhere, kept, placed, unplaced, relisted, as_expr, as_item, hidden, hidden_item, item_in_brackets}
-use Rattle.dpl_lowered.specs.LoweredExpressions.{Times, Once, EachTurn, lowered_expr, lowered_item, lowered_items, lowered_exprs}
-use Rattle.dpl_lowered.specs.LoweredStatements.{written_initial, default_tree, domain_type, written_type, tells_name, unplaced_word, lowered_variables, with_intents, lowered_sign, times_by, lowered_side, lowered_over, lowered_array, lowered_init, plain_initial, lowered_initial, array_init, array_initial, declared_type, declared_initial, lowered_declare, lowered_target, target_sign, target_times, lowered_call, lowered_shown, lowered_argument, lowered_write, lowered_stmt, lowered_body, lowered_stmts, lowered_else, lowered_program}
+use Rattle.dpl_lowered.specs.Shapes.{nowhere, placed, unplaced, relisted, as_expr, as_item, hidden, hidden_item, item_in_brackets}
+use Rattle.dpl_lowered.specs.LoweredExpressions.{Times, Once, EachTurn, lowered_expr, lowered_item}
+use Rattle.dpl_lowered.specs.LoweredStatements.{written_initial, default_tree, written_type, tells_name, unplaced_word, lowered_variables, with_intents, lowered_sign, times_by, lowered_side, lowered_over, lowered_init, plain_initial, lowered_initial, array_init, array_initial, declared_type, declared_initial, lowered_declare, lowered_target, target_sign, target_times, lowered_call, lowered_shown, lowered_argument, lowered_write, lowered_stmt, lowered_body, lowered_stmts, lowered_else, lowered_program}
 use Rattle.dpl_lowered.proofs.Seen.{Either, NoRead, NoName, either}
 use Rattle.dpl_lowered.proofs.Parts.{intents_of-made, type_of-written}
 use Rattle.dpl_lowered.proofs.Formed.{IsFormed, as_expr-as_item, as_item-as_expr, lowered-formed, item-formed}
@@ -138,21 +138,32 @@ module _ {N : Type 0} (known : N → Known) where
   declaration config x type i =
       record { config = config; at = nowhere; constant = false; name = x; typed = option_map written_type type; initial = i; semicolon = nowhere }
 
+  -- the type and the initial value of a lowered declaration, lowered once more
+  abbrev type_again : Option (TypeTree N) → Option (InitialTree N) → Option (TypeTree N)
+  type_again type i = declared_type known (declared_type known type i) (declared_initial known type i)
+
+  abbrev initial_again : Option (TypeTree N) → Option (InitialTree N) → Option (InitialTree N)
+  initial_again type i = declared_initial known (declared_type known type i) (declared_initial known type i)
+
   declared-twice : (config : Option Place) (x : Placed N) (type : Option (TypeTree N)) (i : Option (InitialTree N))
-      → declaration (unplaced_word (unplaced_word config)) (placed (tells_name (declared_type known type i)) (placed (tells_name type) x)) (declared_type known (declared_type known type i) (declared_initial known type i)) (declared_initial known (declared_type known type i) (declared_initial known type i))
+      → declaration (unplaced_word (unplaced_word config)) (placed (tells_name (declared_type known type i)) (placed (tells_name type) x)) (type_again type i) (initial_again type i)
       ≡ declaration (unplaced_word config) (placed (tells_name type) x) (declared_type known type i) (declared_initial known type i)
   declared-twice config x type i =
-      ap (λ config. declaration config (placed (tells_name (declared_type known type i)) (placed (tells_name type) x)) (declared_type known (declared_type known type i) (declared_initial known type i)) (declared_initial known (declared_type known type i) (declared_initial known type i))) (word-twice config)
-      ∙ ap (λ b. declaration (unplaced_word config) (placed b (placed (tells_name type) x)) (declared_type known (declared_type known type i) (declared_initial known type i)) (declared_initial known (declared_type known type i) (declared_initial known type i))) (tells_name-twice type i)
-      ∙ ap (λ x. declaration (unplaced_word config) x (declared_type known (declared_type known type i) (declared_initial known type i)) (declared_initial known (declared_type known type i) (declared_initial known type i))) (placed-placed (tells_name type) x)
-      ∙ ap (λ type'. declaration (unplaced_word config) (placed (tells_name type) x) type' (declared_initial known (declared_type known type i) (declared_initial known type i))) (type-twice type i)
+      ap (λ config. declaration config (placed (tells_name (declared_type known type i)) (placed (tells_name type) x)) (type_again type i) (initial_again type i)) (word-twice config)
+      ∙ ap (λ b. declaration (unplaced_word config) (placed b (placed (tells_name type) x)) (type_again type i) (initial_again type i)) (tells_name-twice type i)
+      ∙ ap (λ x. declaration (unplaced_word config) x (type_again type i) (initial_again type i)) (placed-placed (tells_name type) x)
+      ∙ ap (λ t. declaration (unplaced_word config) (placed (tells_name type) x) t (initial_again type i)) (type-twice type i)
       ∙ ap (declaration (unplaced_word config) (placed (tells_name type) x) (declared_type known type i)) (declared_initial-twice type i)
+
+  -- the lowered declaration's type is seen through the colon before it
+  abbrev declared_again : DeclareTree N → Option (TypeTree N) → DeclareTree N
+  declared_again d type =
+      declaration (unplaced_word (unplaced_word d.config)) (placed (tells_name type) (placed (tells_name (type_of d.typed)) d.name))
+      (declared_type known type (declared_initial known (type_of d.typed) d.initial)) (declared_initial known type (declared_initial known (type_of d.typed) d.initial))
 
   declare-twice : (d : DeclareTree N) → lowered_declare known (lowered_declare known d) ≡ lowered_declare known d
   declare-twice d =
-      ap (λ type. declaration (unplaced_word (unplaced_word d.config)) (placed (tells_name type) (placed (tells_name (type_of d.typed)) d.name)) (declared_type known type (declared_initial known (type_of d.typed) d.initial)) (declared_initial known type (declared_initial known (type_of d.typed) d.initial)))
-      (type_of-written (declared_type known (type_of d.typed) d.initial))
-      ∙ declared-twice d.config d.name (type_of d.typed) d.initial
+      ap (declared_again d) (type_of-written (declared_type known (type_of d.typed) d.initial)) ∙ declared-twice d.config d.name (type_of d.typed) d.initial
 
   -- ASSIGNMENTS AND CALLS
   target-twice : (t : TargetTree N) → lowered_target known (lowered_target known t) ≡ lowered_target known t
@@ -163,9 +174,12 @@ module _ {N : Type 0} (known : N → Known) where
   target_sign-twice (Whole x) sign = sign-twice (may_be_array (known x.name) || assign_divides sign.op) sign
   target_sign-twice (Element x shape from es upto) sign = sign-twice (assign_divides sign.op) sign
 
-  target_times-lowered : (t : TargetTree N) → target_times known (lowered_target known t) ≡ target_times known t
-  target_times-lowered (Whole x) = refl
-  target_times-lowered (Element x shape from es upto) = refl
+  abbrev side_again : TargetTree N → ItemTree N → ItemTree N
+  side_again t i = lowered_side known (target_times known (lowered_target known t)) (lowered_side known (target_times known t) i)
+
+  target_side-twice : (t : TargetTree N) (i : ItemTree N) → side_again t i ≡ lowered_side known (target_times known t) i
+  target_side-twice (Whole x) i = side-twice (times_by (may_be_array (known x.name))) i
+  target_side-twice (Element x shape from es upto) i = side-twice Once i
 
   call-twice : (c : CallTree N) → lowered_call known (lowered_call known c) ≡ lowered_call known c
   call-twice (ReadCall at w from upto) = refl
@@ -215,10 +229,9 @@ module _ {N : Type 0} (known : N → Known) where
     stmt-twice (Nothing at) = refl
     stmt-twice (Declare d) = ap Declare (declare-twice d)
     stmt-twice (Assigned target sign item semicolon) =
-        ap (λ t. Assigned t (target_sign known (lowered_target known target) (target_sign known target sign)) (lowered_side known (target_times known (lowered_target known target)) (lowered_side known (target_times known target) item)) nowhere) (target-twice target)
-        ∙ ap (λ s. Assigned (lowered_target known target) s (lowered_side known (target_times known (lowered_target known target)) (lowered_side known (target_times known target) item)) nowhere) (target_sign-twice target sign)
-        ∙ ap (λ m. Assigned (lowered_target known target) (target_sign known target sign) (lowered_side known m (lowered_side known (target_times known target) item)) nowhere) (target_times-lowered target)
-        ∙ ap (λ i. Assigned (lowered_target known target) (target_sign known target sign) i nowhere) (side-twice (target_times known target) item)
+        ap (λ t. Assigned t (target_sign known (lowered_target known target) (target_sign known target sign)) (side_again target item) nowhere) (target-twice target)
+        ∙ ap (λ s. Assigned (lowered_target known target) s (side_again target item) nowhere) (target_sign-twice target sign)
+        ∙ ap (λ i. Assigned (lowered_target known target) (target_sign known target sign) i nowhere) (target_side-twice target item)
     stmt-twice (Call x dot call semicolon) = ap (λ c. Call x nowhere c nowhere) (call-twice call)
     stmt-twice (Write w) = ap Write (write-twice w)
     stmt-twice (Block from body upto) = ap (λ b. Block nowhere b nowhere) (stmts-twice body)
