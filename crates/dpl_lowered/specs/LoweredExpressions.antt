@@ -102,7 +102,7 @@ module _ {N : Type 0} (known : N → Known) where
     lowered_item m (RangeItem low at dots high by) =
         RangeItem (lowered_expr Once low) at (unplaced_dots dots) (lowered_expr Once high) (lowered_stride by)
 
-    -- a stride that is left out stays so: a range with `by 1` is printed with it
+    -- a stride that is left out stays so: a range with `by 1` is a strided one, which a slice looks at
     pub lowered_stride : Stride N → Stride N
     lowered_stride NoStride = NoStride
     lowered_stride (By at e) = By at (lowered_expr Once e)
