@@ -1,12 +1,14 @@
 -- The first of some breaches: it is one of them, and none of them is before it.
 -- The order is by line, by column and by code, so that in whatever order breaches are told the first is the same.
-use Rattle.std.proofs.Common.{◌≡◌, ◌⊎◌, Bool, true, false, is_some, if◌then◌else◌, List, [], ◌∷◌, Option, Some, None, refl, sym, ap, subst, ◌∙◌, inl, inr, arith}
+use Rattle.std.proofs.Common.{◌≡◌, ◌⊎◌, ℕ, Bool, get_or, true, false, is_some, if◌then◌else◌, List, [], ◌∷◌, Option, Some, None, refl, sym, ap, subst, ◌∙◌, inl, inr, arith}
 use Rattle.std.proofs.lemmas.Bool.Decides.{nat_tests}
 use Rattle.std.proofs.lemmas.Option.{none-some, same_Some}
+use Rattle.dpl_syntax.specs.declared.refusal.Code.{Code}
+use Rattle.dpl_syntax.specs.declared.refusal.Code.TheVariants.{NotText, BadCharacter, NumberTooLarge, Unexpected, TooDeep, UnknownName, NameTwice, WrongType, ConstantWritten, WrongRank, WrittenElsewhere, ReadElsewhere, OuterChanged, NotInForall, NotInCoforall, CellMisused, TooMany, BadSet}
 use Rattle.dpl_syntax.specs.declared.refusal.Breach.{Breach}
 use Rattle.dpl_language.specs.Tree.{ProgramTree}
 use Rattle.dpl_language.specs.Names.{Text}
-use Rattle.dpl_rules.specs.Breaches.{before, lesser, or_lesser, least_from, IsAmong, NoneBefore, IsFirst, breaches, first_breach}
+use Rattle.dpl_rules.specs.Breaches.{rank, before, lesser, or_lesser, least_from, IsAmong, NoneBefore, IsFirst, breaches, first_breach}
 
 -- ---- the order
 before_asym : (a b : Breach) → before b a ≡ true → before a b ≡ false
@@ -56,6 +58,84 @@ least_from_none o (b ∷ bs) =
 pub least_from_some : (a : Breach) (bs : List Breach) → is_some (least_from (Some a) bs) ≡ true
 least_from_some a [] = refl
 least_from_some a (b ∷ bs) = least_from_some (least a b) bs
+
+-- ---- of two lists, in either order
+-- the codes, each at its rank
+abbrev ranked : List Code
+ranked = NotText ∷ BadCharacter ∷ NumberTooLarge ∷ Unexpected ∷ TooDeep ∷ UnknownName ∷ NameTwice ∷ WrongType ∷ ConstantWritten ∷ WrongRank
+    ∷ WrittenElsewhere ∷ ReadElsewhere ∷ OuterChanged ∷ NotInForall ∷ NotInCoforall ∷ CellMisused ∷ TooMany ∷ BadSet ∷ []
+
+code_at_rank : (c : Code) → get_or ranked (rank c) NotText ≡ c
+code_at_rank NotText = refl
+code_at_rank BadCharacter = refl
+code_at_rank NumberTooLarge = refl
+code_at_rank Unexpected = refl
+code_at_rank TooDeep = refl
+code_at_rank UnknownName = refl
+code_at_rank NameTwice = refl
+code_at_rank WrongType = refl
+code_at_rank ConstantWritten = refl
+code_at_rank WrongRank = refl
+code_at_rank WrittenElsewhere = refl
+code_at_rank ReadElsewhere = refl
+code_at_rank OuterChanged = refl
+code_at_rank NotInForall = refl
+code_at_rank NotInCoforall = refl
+code_at_rank CellMisused = refl
+code_at_rank TooMany = refl
+code_at_rank BadSet = refl
+
+rank_same : (c d : Code) → rank c ≡ rank d → c ≡ d
+rank_same c d e = sym (code_at_rank c) ∙ ap (λ n. get_or ranked n NotText) e ∙ code_at_rank d
+
+-- of two breaches of which none is before the other both are one
+same_line : (a b : Breach) → before a b ≡ false → before b a ≡ false → a.at.line ≡ b.at.line
+same_line a b h k = grind (arith, nat_tests, h, k)
+
+same_column : (a b : Breach) → before a b ≡ false → before b a ≡ false → a.at.column ≡ b.at.column
+same_column a b h k = grind (arith, nat_tests, h, k)
+
+same_rank : (a b : Breach) → before a b ≡ false → before b a ≡ false → rank a.code ≡ rank b.code
+same_rank a b h k = grind (arith, nat_tests, h, k)
+
+before_neither : (a b : Breach) → before a b ≡ false → before b a ≡ false → a ≡ b
+before_neither a b h k =
+    ap (λ (n : ℕ). record { at = record { line = n; column = a.at.column }; code = a.code }) (same_line a b h k)
+    ∙ ap (λ (n : ℕ). record { at = record { line = b.at.line; column = n }; code = a.code }) (same_column a b h k)
+    ∙ ap (λ (c : Code). record { at = b.at; code = c }) (rank_same a.code b.code (same_rank a b h k))
+
+least_comm : (a b : Breach) → least a b ≡ least b a
+least_comm a b = by_tests (before b a) (before a b) refl refl
+  where
+    by_tests : (p q : Bool) → before b a ≡ p → before a b ≡ q → least a b ≡ least b a
+    by_tests true true h k = absurd (let e : true ≡ false = sym k ∙ before_asym a b h in cc)
+    by_tests true false h k = rw h (rw k refl)
+    by_tests false true h k = rw h (rw k refl)
+    by_tests false false h k = rw h (rw k (before_neither a b k h))
+
+or_lesser_comm : (a b : Option Breach) → or_lesser a b ≡ or_lesser b a
+or_lesser_comm None None = refl
+or_lesser_comm None (Some b) = refl
+or_lesser_comm (Some a) None = refl
+or_lesser_comm (Some a) (Some b) = ap Some (least_comm a b)
+
+or_lesser_last : (o p q : Option Breach) → or_lesser (or_lesser o p) q ≡ or_lesser o (or_lesser p q)
+or_lesser_last o None None = refl
+or_lesser_last o None (Some c) = refl
+or_lesser_last o (Some b) q = or_lesser_assoc o b q
+
+-- two lists of breaches may be told in either order
+pub least_from_swap : (o : Option Breach) (bs cs : List Breach) → least_from (least_from o bs) cs ≡ least_from (least_from o cs) bs
+least_from_swap o bs cs =
+    let first = least_from None bs in
+    let second = least_from None cs in
+    least_from_none (least_from o bs) cs
+    ∙ ap (λ p. or_lesser p second) (least_from_none o bs)
+    ∙ or_lesser_last o first second
+    ∙ ap (or_lesser o) (or_lesser_comm first second)
+    ∙ sym (or_lesser_last o second first)
+    ∙ ap (λ p. or_lesser p first) (sym (least_from_none o cs))
+    ∙ sym (least_from_none (least_from o cs) bs)
 
 -- ---- the first is one of them, and none of them is before it
 abbrev IsKept : Breach → List Breach → Breach → Type 0
