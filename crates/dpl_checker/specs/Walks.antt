@@ -1,0 +1,46 @@
+-- What a walk over a part of a program promises: what is in sight behind it, what it did, and the first breach so far.
+-- Each is that of the definition's walks, one after the other.
+use Rattle.std.specs.Prelude.{◌≡◌, List, ◌++◌, Option, option_map}
+use Rattle.dpl_syntax.specs.declared.refusal.Breach.{Breach}
+use Rattle.dpl_language.specs.Tree.{ItemTree, VariablesTree, StmtTree, Body, Else, Stmts}
+use Rattle.dpl_language.specs.Names.{Text}
+use Rattle.dpl_rules.specs.Sights.{Scopes, Sight, enter}
+use Rattle.dpl_rules.specs.Loops.{LoopWord, typed_variable, over_type, variables_of, add_variables, behind}
+use Rattle.dpl_rules.specs.Sound.{behind_all}
+use Rattle.dpl_rules.specs.Deeds.{Deed}
+use Rattle.dpl_rules.specs.Doings.{stmt_deeds, body_deeds, stmts_deeds, else_deeds}
+use Rattle.dpl_rules.specs.Breaches.{stmt_breaches, body_breaches, stmts_breaches, else_breaches, least_from}
+use Rattle.dpl_forms.specs.Around.{reducing_view}
+use Rattle.dpl_deeds.specs.View.{Adds}
+use Rattle.dpl_checker.specs.declared.walk.Around.{Around}
+use Rattle.dpl_checker.specs.declared.walk.Walk.{Walk}
+
+-- what a statement has in sight
+abbrev pub sight_in : Scopes → Around → Sight
+sight_in scopes around = record { scopes = scopes; forall = option_map reducing_view around.forall; in_task = around.in_task }
+
+-- the scopes behind a part, the deeds that it adds, and the first of a breach that was told before and its own
+abbrev pub Walks : Scopes → List Deed → List Breach → Walk → Walk → Type 0
+Walks scopes deeds breaches old new =
+    (new.scopes ≡ scopes) × Adds deeds old.deeds.items new.deeds.items × (new.first ≡ least_from old.first breaches)
+
+abbrev pub WalksStmt : Around → StmtTree Text → Walk → Walk → Type 0
+WalksStmt around t old new =
+    Walks (behind old.scopes t) (stmt_deeds old.scopes t) (stmt_breaches (sight_in old.scopes around) t) old new
+
+abbrev pub WalksStmts : Around → Stmts Text → Walk → Walk → Type 0
+WalksStmts around ts old new =
+    Walks (behind_all old.scopes ts) (stmts_deeds old.scopes ts) (stmts_breaches (sight_in old.scopes around) ts) old new
+
+-- a body opens a scope, and closes it behind itself; and so does what stands behind `else`
+abbrev pub WalksBody : Around → Body Text → Walk → Walk → Type 0
+WalksBody around body old new =
+    Walks old.scopes (body_deeds (enter old.scopes) body) (body_breaches (sight_in (enter old.scopes) around) body) old new
+
+abbrev pub WalksElse : Around → Else Text → Walk → Walk → Type 0
+WalksElse around other old new =
+    Walks old.scopes (else_deeds (enter old.scopes) other) (else_breaches (sight_in (enter old.scopes) around) other) old new
+
+-- the scope of a loop's variables, in which that of its body stands
+abbrev pub of_variables : Scopes → LoopWord → VariablesTree Text → ItemTree Text → Scopes
+of_variables scopes word xs item = add_variables (typed_variable word xs (over_type scopes item)) (variables_of xs) (enter scopes)
