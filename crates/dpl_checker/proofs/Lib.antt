@@ -1,3 +1,4 @@
 pub mod Left
 pub mod Names
 pub mod Steps
+pub mod Walked
