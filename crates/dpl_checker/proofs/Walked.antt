@@ -1,6 +1,6 @@
 -- What a walk over each statement's parts promises of the whole statement.
 -- Each lemma goes from the parts in the order in which they are walked to the statement on its right side.
-use Rattle.std.proofs.Common.{◌≡◌, ℕ, ◌+◌, ◌<◌, Bool, true, false, List, [], ◌∷◌, ◌++◌, length, drop, get_or, map, Option, Some, refl, sym, ap, ◌∙◌, subst, append_assoc, append-nil}
+use Rattle.std.proofs.Common.{◌≡◌, ℕ, ◌+◌, ◌<◌, Bool, true, false, List, [], ◌∷◌, ◌++◌, length, drop, get_or, map, Option, Some, None, refl, sym, ap, ◌∙◌, subst, append_assoc, append-nil}
 use Rattle.std.specs.Global.{Vec}
 use Rattle.dpl_syntax.specs.declared.place.Place.{Place}
 use Rattle.dpl_syntax.specs.declared.refusal.Breach.{Breach}
@@ -17,8 +17,8 @@ use Rattle.dpl_rules.specs.Assignments.{condition_breaches, on_breaches}
 use Rattle.dpl_rules.specs.Loops.{LoopWord, ForWord, ForallWord, CoforallWord, typed_variable, over_type, variables_of, header_breaches, with_breaches, behind}
 use Rattle.dpl_rules.specs.Deeds.{Deed, AForall, ACoforall, AnOn, held, expr_deeds, item_deeds}
 use Rattle.dpl_rules.specs.Doings.{with_deeds, stmt_deeds, body_deeds, stmts_deeds, else_deeds}
-use Rattle.dpl_rules.specs.Bodies.{Turns, names_of, turns_of, forall_breaches, task_breaches}
-use Rattle.dpl_rules.specs.Breaches.{stmt_breaches, body_breaches, stmts_breaches, else_breaches, least_from}
+use Rattle.dpl_rules.specs.Bodies.{Turns, names_of, turns_of, forall_breaches, task_breaches, inner_reductions}
+use Rattle.dpl_rules.specs.Breaches.{stmt_breaches, body_breaches, stmts_breaches, else_breaches, top, top_sight, all_declarations, count_breaches, least_from}
 use Rattle.dpl_rules.specs.Sound.{behind_all}
 use Rattle.dpl_types.proofs.Breaches.{least_from_append}
 use Rattle.dpl_deeds.specs.declared.deed.Deed.{Deed as DeedNode}
@@ -26,7 +26,7 @@ use Rattle.dpl_deeds.specs.View.{deed_view, Adds}
 use Rattle.dpl_deeds.proofs.Steps.{added_behind}
 use Rattle.dpl_checker.specs.declared.walk.Around.{Around}
 use Rattle.dpl_checker.specs.declared.walk.Walk.{Walk}
-use Rattle.dpl_checker.specs.Walks.{sight_in, Walks, WalksStmt, WalksStmts, WalksBody, WalksElse, of_variables}
+use Rattle.dpl_checker.specs.Walks.{sight_in, Walks, WalksStmt, WalksStmts, WalksBody, WalksElse, of_variables, whole_told}
 use Rattle.dpl_checker.proofs.Left.{leave_behind, leave_behind_all, leave_variables}
 use Rattle.dpl_checker.proofs.Steps.{told_then, told_before, adds_then}
 
@@ -234,3 +234,27 @@ pub still_ended : (around : Around) (now old : Walk) (left all : Stmts Text) →
 still_ended around now old left all none walks =
     let end = subst (λ ts. StillWalks around now ts old all) none walks in
     (end.0, sym (append-nil (map deed_view now.deeds.items)) ∙ end.1, end.2)
+
+-- ---- a program
+-- outside of foralls and tasks
+abbrev pub outside : Around
+outside = record { forall = None; in_task = false }
+
+module _ (ts : Stmts Text) (a b : Walk) (scopes : a.scopes ≡ top) (deeds : a.deeds.items ≡ []) (first : a.first ≡ None) (walks : WalksStmts outside ts a b) where
+  all_walks : Walks (behind_all top ts) (stmts_deeds top ts) (stmts_breaches top_sight ts) a b
+  all_walks = subst (λ vs. Walks (behind_all vs ts) (stmts_deeds vs ts) (stmts_breaches (sight_in vs outside) ts) a b) scopes walks
+
+  pub program_behind : b.scopes ≡ behind_all top ts
+  program_behind = all_walks.0
+
+  pub program_told : whole_told ts (map deed_view b.deeds.items) b.first
+      ≡ least_from None (stmts_breaches top_sight ts ++ inner_reductions (stmts_deeds top ts) ++ count_breaches (all_declarations ts))
+  program_told =
+      let told = stmts_breaches top_sight ts in
+      let ds = stmts_deeds top ts in
+      let inner = inner_reductions ds in
+      let counted = count_breaches (all_declarations ts) in
+      ap (λ es. whole_told ts es b.first) (all_walks.1 ∙ ap (λ es. map deed_view es ++ ds) deeds)
+      ∙ ap (whole_told ts ds) (all_walks.2 ∙ ap (λ o. least_from o told) first)
+      ∙ ap (λ o. least_from o counted) (sym (least_from_append None told inner))
+      ∙ sym (least_from_append None (told ++ inner) counted)

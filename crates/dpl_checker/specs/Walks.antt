@@ -8,8 +8,9 @@ use Rattle.dpl_rules.specs.Sights.{Scopes, Sight, enter}
 use Rattle.dpl_rules.specs.Loops.{LoopWord, typed_variable, over_type, variables_of, add_variables, behind}
 use Rattle.dpl_rules.specs.Sound.{behind_all}
 use Rattle.dpl_rules.specs.Deeds.{Deed}
+use Rattle.dpl_rules.specs.Bodies.{inner_reductions}
 use Rattle.dpl_rules.specs.Doings.{stmt_deeds, body_deeds, stmts_deeds, else_deeds}
-use Rattle.dpl_rules.specs.Breaches.{stmt_breaches, body_breaches, stmts_breaches, else_breaches, least_from}
+use Rattle.dpl_rules.specs.Breaches.{stmt_breaches, body_breaches, stmts_breaches, else_breaches, all_declarations, count_breaches, least_from}
 use Rattle.dpl_forms.specs.Around.{reducing_view}
 use Rattle.dpl_deeds.specs.View.{Adds}
 use Rattle.dpl_checker.specs.declared.walk.Around.{Around}
@@ -44,3 +45,7 @@ WalksElse around other old new =
 -- the scope of a loop's variables, in which that of its body stands
 abbrev pub of_variables : Scopes → LoopWord → VariablesTree Text → ItemTree Text → Scopes
 of_variables scopes word xs item = add_variables (typed_variable word xs (over_type scopes item)) (variables_of xs) (enter scopes)
+
+-- behind all statements: a first breach before, with what all deeds and all declarations of a program break
+abbrev pub whole_told : Stmts Text → List Deed → Option Breach → Option Breach
+whole_told ts ds first = least_from (least_from first (inner_reductions ds)) (count_breaches (all_declarations ts))

@@ -4,6 +4,8 @@
 ghost use Rattle.std.specs.Prelude.{◌≡◌, IfOk, [], None, map};
 ghost use Rattle.dpl_tree.specs.Statements.{stmts_of, program_view};
 ghost use Rattle.dpl_rules.specs.Breaches.{top, first_breach as first_breach_of};
+ghost use Rattle.dpl_deeds.specs.View.{deed_view};
+ghost use Rattle.dpl_checker.specs.Walks.{whole_told};
 ghost use Rattle.dpl_rules.specs.Sound.{behind_all, refusal_by, refusal as refusal_of};
 
 use crate::statement::stmts;
@@ -12,7 +14,7 @@ use dpl_bodies::outside::inner_reductions;
 use dpl_limits::{limits, sets_fit};
 use dpl_scopes::Scopes;
 use dpl_syntax::{Breach, Code, Refusal};
-use dpl_tree::{Arena, Program};
+use dpl_tree::{Arena, Program, Stmt};
 use std::alloc::AllocError;
 
 // A walk before any statement.
@@ -29,6 +31,14 @@ fn begin<'t>(arena: Arena<'t>) -> Result<Walk<'t>, AllocError>
     })
 }
 
+// Behind a walk over all statements of a program: what is told of all deeds and of all declarations.
+fn tell_whole<'t>(walk: &mut Walk<'t>, statements: &[Stmt<'t>])
+    ensures { walk.new ≡ record walk.old { first = whole_told (stmts_of statements.now) (map deed_view walk.old.deeds.items) walk.old.first } }
+{
+    inner_reductions(&walk.deeds, &mut walk.first);
+    limits(statements, &mut walk.first);
+}
+
 // A program's first breach, if there is one, and what is in sight at its end.
 fn first_breach<'t>(
     arena: Arena<'t>,
@@ -43,8 +53,7 @@ fn first_breach<'t>(
         in_task: false,
     };
     stmts(&mut walk, outside, program.stmts)?;
-    inner_reductions(&walk.deeds, &mut walk.first);
-    limits(program.stmts, &mut walk.first);
+    tell_whole(&mut walk, program.stmts);
     Ok((walk.first, walk.scopes))
 }
 
