@@ -4,7 +4,7 @@ use Rattle.std.proofs.Common.{◌≡◌, List, [], ◌∷◌, drop, Option, refl
 use Rattle.dpl_language.specs.Tree.{Placed, StmtTree, Nothing, Declare, Assigned, Call, Write, Block, If, While, For, Forall, Coforall, On, Stmts, NoStmts, Then}
 use Rattle.dpl_language.specs.Names.{Text}
 use Rattle.dpl_rules.specs.Types.{ValueType}
-use Rattle.dpl_rules.specs.Sights.{Scope, Scopes, LoopVariable, add, enter, origin_in}
+use Rattle.dpl_rules.specs.Sights.{Scope, Scopes, LoopVariable, origin_in}
 use Rattle.dpl_rules.specs.Declarations.{declared_by}
 use Rattle.dpl_rules.specs.Loops.{add_variables, behind}
 use Rattle.dpl_rules.specs.Sound.{behind_all}

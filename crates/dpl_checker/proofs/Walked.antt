@@ -1,18 +1,18 @@
 -- What a walk over each statement's parts promises of the whole statement.
 -- Each lemma goes from the parts in the order in which they are walked to the statement on its right side.
-use Rattle.std.proofs.Common.{◌≡◌, ℕ, ◌+◌, ◌<◌, Bool, true, false, List, [], ◌∷◌, ◌++◌, length, drop, get_or, map, Option, Some, None, refl, sym, ap, ◌∙◌, subst, append_assoc, append-nil}
+use Rattle.std.proofs.Common.{◌≡◌, ℕ, ◌+◌, ◌<◌, true, false, List, [], ◌++◌, length, drop, get_or, map, Option, Some, None, sym, ap, ◌∙◌, subst, append_assoc, append-nil}
 use Rattle.std.specs.Global.{Vec}
 use Rattle.dpl_syntax.specs.declared.place.Place.{Place}
 use Rattle.dpl_syntax.specs.declared.refusal.Breach.{Breach}
 use Rattle.dpl_syntax.proofs.Walks.{drop-at}
-use Rattle.dpl_language.specs.Tree.{ExprTree, ItemTree, VariablesTree, WithTree, StmtTree, If, While, For, Forall, Coforall, On, Block, Body, Stmts, NoStmts, Then, Else}
+use Rattle.dpl_language.specs.Tree.{ExprTree, ItemTree, VariablesTree, StmtTree, If, While, For, Forall, Coforall, On, Body, Stmts, NoStmts, Else}
 use Rattle.dpl_language.specs.Names.{Text}
 use Rattle.dpl_language.specs.Phrases.{intents_of}
 use Rattle.dpl_tree.specs.declared.statement.Stmt.{Stmt}
 use Rattle.dpl_tree.specs.declared.statement.With.{With}
 use Rattle.dpl_tree.specs.Declarations.{optional}
 use Rattle.dpl_tree.specs.Statements.{with_view, stmt_view, stmts_of}
-use Rattle.dpl_rules.specs.Sights.{Scopes, enter, Reducing}
+use Rattle.dpl_rules.specs.Sights.{Scopes, enter}
 use Rattle.dpl_rules.specs.Assignments.{condition_breaches, on_breaches}
 use Rattle.dpl_rules.specs.Loops.{LoopWord, ForWord, ForallWord, CoforallWord, typed_variable, over_type, variables_of, header_breaches, with_breaches, behind}
 use Rattle.dpl_rules.specs.Deeds.{Deed, AForall, ACoforall, AnOn, held, expr_deeds, item_deeds}
@@ -160,19 +160,18 @@ module _ (at : Place) (xs : VariablesTree Text) (word : Place) (item : ItemTree 
       let vs = of_variables ss ForallWord xs item in
       let inner = in_turns (length ss) with around in
       let turns = body_where vs inner body (record b { deeds = intended }) c opened.0
-        (subst (λ n. WalksBody (in_turns n with around) body (record b { deeds = intended }) c) deep w) in
+      (subst (λ n. WalksBody (in_turns n with around) body (record b { deeds = intended }) c) deep w) in
       let ds = body_deeds (enter vs) body in
       let does : told ≡ least_from c.first (forall_breaches (turns_of ss xs intents) ds) =
-        t ∙ ap (λ n. least_from c.first (forall_breaches (turns_at n xs with) (map deed_view (drop start c.deeds.items)))) deep
-        ∙ ap (λ es. least_from c.first (forall_breaches (turns_of ss xs intents) es)) (behind_start start intended.items c.deeds.items ds begin turns.1) in
+      t ∙ ap (λ n. least_from c.first (forall_breaches (turns_at n xs with) (map deed_view (drop start c.deeds.items)))) deep
+      ∙ ap (λ es. least_from c.first (forall_breaches (turns_of ss xs intents) es)) (behind_start start intended.items c.deeds.items ds begin turns.1) in
       let head = held at AForall ++ item_deeds ss false item in
       let begun = adds_then a.deeds.items marked.items b.deeds.items (held at AForall) (item_deeds ss false item) mark opened.1 in
-      let shared = adds_then a.deeds.items b.deeds.items intended.items head (with_deeds intents) begun intend in
-      (
+      let shared = adds_then a.deeds.items b.deeds.items intended.items head (with_deeds intents) begun intend in (
         variables_left ss ForallWord xs item c.scopes left turns.0 l,
         adds_then a.deeds.items intended.items c.deeds.items (head ++ with_deeds intents) ds shared turns.1,
         told_around a.first b.first c.first told (header_breaches ss ForallWord xs item ++ with_breaches ss intents)
-        (body_breaches (sight_in (enter vs) inner) body) (forall_breaches (turns_of ss xs intents) ds) opened.2 turns.2 does,
+            (body_breaches (sight_in (enter vs) inner) body) (forall_breaches (turns_of ss xs intents) ds) opened.2 turns.2 does,
       )
 
   pub coforall_walks : (depth start : ℕ) (a : Walk) (marked : Vec DeedNode) (b : Walk) (intended : Vec DeedNode) (c : Walk) (left : Scopes) (told : Option Breach)
@@ -194,16 +193,15 @@ module _ (at : Place) (xs : VariablesTree Text) (word : Place) (item : ItemTree 
       let ds = body_deeds (enter vs) body in
       let both = adds_then b.deeds.items intended.items c.deeds.items (with_deeds intents) ds intend tasks.1 in
       let does : told ≡ least_from c.first (task_breaches (length ss) (with_deeds intents ++ ds)) =
-        t ∙ ap (λ n. least_from c.first (task_breaches n (map deed_view (drop start c.deeds.items)))) deep
-        ∙ ap (λ es. least_from c.first (task_breaches (length ss) es)) (behind_start start b.deeds.items c.deeds.items (with_deeds intents ++ ds) begin both) in
+      t ∙ ap (λ n. least_from c.first (task_breaches n (map deed_view (drop start c.deeds.items)))) deep
+      ∙ ap (λ es. least_from c.first (task_breaches (length ss) es)) (behind_start start b.deeds.items c.deeds.items (with_deeds intents ++ ds) begin both) in
       let head = held at ACoforall ++ item_deeds ss false item in
       let begun = adds_then a.deeds.items marked.items b.deeds.items (held at ACoforall) (item_deeds ss false item) mark opened.1 in
-      let shared = adds_then a.deeds.items b.deeds.items intended.items head (with_deeds intents) begun intend in
-      (
+      let shared = adds_then a.deeds.items b.deeds.items intended.items head (with_deeds intents) begun intend in (
         variables_left ss CoforallWord xs item c.scopes left tasks.0 l,
         adds_then a.deeds.items intended.items c.deeds.items (head ++ with_deeds intents) ds shared tasks.1,
         told_around a.first b.first c.first told (header_breaches ss CoforallWord xs item ++ with_breaches ss intents)
-        (body_breaches (sight_in (enter vs) inner) body) (task_breaches (length ss) (with_deeds intents ++ ds)) opened.2 tasks.2 does,
+            (body_breaches (sight_in (enter vs) inner) body) (task_breaches (length ss) (with_deeds intents ++ ds)) opened.2 tasks.2 does,
       )
 
 -- ---- statements, one behind the other
@@ -223,11 +221,11 @@ still_step around xs k x a b within is w =
     rw (drop-at xs k x within is) (
       ap (λ ss. behind_all ss ts) w.0,
       ap (λ ss. map deed_view b.deeds.items ++ stmts_deeds ss ts) w.0
-      ∙ ap (λ ds. ds ++ stmts_deeds vs ts) w.1
-      ∙ append_assoc (map deed_view a.deeds.items) (stmt_deeds a.scopes t) (stmts_deeds vs ts),
+          ∙ ap (λ ds. ds ++ stmts_deeds vs ts) w.1
+          ∙ append_assoc (map deed_view a.deeds.items) (stmt_deeds a.scopes t) (stmts_deeds vs ts),
       ap (λ ss. least_from b.first (stmts_breaches (sight_in ss around) ts)) w.0
-      ∙ ap (λ o. least_from o (stmts_breaches (sight_in vs around) ts)) w.2
-      ∙ sym (least_from_append a.first (stmt_breaches (sight_in a.scopes around) t) (stmts_breaches (sight_in vs around) ts)),
+          ∙ ap (λ o. least_from o (stmts_breaches (sight_in vs around) ts)) w.2
+          ∙ sym (least_from_append a.first (stmt_breaches (sight_in a.scopes around) t) (stmts_breaches (sight_in vs around) ts)),
     )
 
 pub still_ended : (around : Around) (now old : Walk) (left all : Stmts Text) → left ≡ NoStmts → StillWalks around now left old all → WalksStmts around all old now

@@ -1,6 +1,6 @@
 -- What a walk over a part of a program promises: what is in sight behind it, what it did, and the first breach so far.
 -- Each is that of the definition's walks, one after the other.
-use Rattle.std.specs.Prelude.{◌≡◌, List, ◌++◌, Option, option_map}
+use Rattle.std.specs.Prelude.{◌≡◌, List, Option, option_map}
 use Rattle.dpl_syntax.specs.declared.refusal.Breach.{Breach}
 use Rattle.dpl_language.specs.Tree.{ItemTree, VariablesTree, StmtTree, Body, Else, Stmts}
 use Rattle.dpl_language.specs.Names.{Text}

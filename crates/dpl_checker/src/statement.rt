@@ -147,7 +147,12 @@ fn forall_turns<'t>(walk: &mut Walk<'t>, around: Around<'t>, turns: &Forall<'t>)
     };
     body(walk, inside, &turns.body)?;
     walk.scopes.leave();
-    forall_breaches(walk.alloc, &seen, behind(&walk.deeds, start), &mut walk.first)?;
+    forall_breaches(
+        walk.alloc,
+        &seen,
+        behind(&walk.deeds, start),
+        &mut walk.first,
+    )?;
     Ok(())
 }
 

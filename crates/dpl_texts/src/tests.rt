@@ -96,7 +96,7 @@ fn text_of(alloc: Global, line: &[u8]) -> Result<Vec<u8>, AllocError> {
 }
 
 /// The answer and the text of a table's line; no text where the line is too short for one.
-fn parted(line: &str) -> (&str, &str) {
+pub(crate) fn parted(line: &str) -> (&str, &str) {
     match line.split_at_checked(13) {
         Some(parts) => parts,
         None => (line, ""),

@@ -1,5 +1,4 @@
-use Rattle.std.proofs.Common.{rules, ◌≡◌, false, refl, sym, ap, ◌∙◌, ◌++◌, length, map, drop, option_map}
-use Rattle.dpl_tree.specs.Words.{assign_view}
+use Rattle.std.proofs.Common.{rules, ◌≡◌, false, refl, sym, ap, ◌∙◌, length, map, drop}
 use Rattle.dpl_tree.specs.View.{item_view}
 use Rattle.dpl_tree.specs.Statements.{target_view, sign_view}
 use Rattle.dpl_rules.specs.Breaches.{least_from}
@@ -28,14 +27,13 @@ returns c =
     let added = c.in_ok-item_deeds.ensures in
     let counted : c.len-start.result ≡ length before = search rules in
     let read : map deed_view (drop c.len-start.result after) ≡ item_deeds scopes false item =
-      ap (λ n. map deed_view (drop n after)) counted ∙ added_behind before after (item_deeds scopes false item) added in
+    ap (λ n. map deed_view (drop n after)) counted ∙ added_behind before after (item_deeds scopes false item) added in
     let promoted : c.promoted_breaches.new.first ≡ least_from c.assignment.new.first (promoted_breaches scopes target item) =
-      (let e : c.promoted_breaches.new.first ≡ least_from c.assignment.new.first (promoted_by scopes target item (map deed_view (drop c.len-start.result after))) = search rules in e)
-      ∙ ap (λ ds. least_from c.assignment.new.first (promoted_by scopes target item ds)) read
-      ∙ ap (least_from c.assignment.new.first) (sym (promoted_breaches_by scopes target item)) in
-    (
+    (let e : c.promoted_breaches.new.first ≡ least_from c.assignment.new.first (promoted_by scopes target item (map deed_view (drop c.len-start.result after))) = search rules in e)
+    ∙ ap (λ ds. least_from c.assignment.new.first (promoted_by scopes target item ds)) read
+    ∙ ap (least_from c.assignment.new.first) (sym (promoted_breaches_by scopes target item)) in (
       refl,
       adds_then before after c.target_deeds.new.deeds.items (item_deeds scopes false item) (target_deeds scopes target sign.op) added c.in_ok-target_deeds.ensures,
       told_then first c.assignment.new.first c.promoted_breaches.new.first (assignment_breaches (sight_in scopes c.args.around) target sign item) (promoted_breaches scopes target item)
-      (c.in_ok-assignment.ensures c.args.around.in_task) promoted,
+          (c.in_ok-assignment.ensures c.args.around.in_task) promoted,
     )

@@ -1,5 +1,5 @@
 use Rattle.dpl_tree.specs.Statements.{stmts_of}
-use Rattle.std.proofs.Common.{◌≡◌, ap, ◌∙◌}
+use Rattle.std.proofs.Common.{ap, ◌∙◌}
 use Rattle.dpl_checker.proofs.Walked.{program_behind, program_told}
 use Rattle.dpl_checker.proofs.program.first_breach.Goals as goal
 

@@ -1,10 +1,9 @@
 -- Each statement is walked part by part; a body's scopes are entered and left.
-use Rattle.std.proofs.Common.{rules, ◌≡◌, [], ◌++◌, drop, length, map, refl, sym, ap, ◌∙◌, subst}
+use Rattle.std.proofs.Common.{rules, ◌≡◌, drop, length, refl, sym, ap, ◌∙◌, subst}
 use Rattle.dpl_syntax.proofs.Walks.{drop-end}
 use Rattle.dpl_language.specs.Tree.{NoStmts}
 use Rattle.dpl_tree.specs.View.{expr_view, item_view}
-use Rattle.dpl_tree.specs.Declarations.{optional}
-use Rattle.dpl_tree.specs.Statements.{variables_view, with_view, stmt_view, body_view, else_view, stmts_of}
+use Rattle.dpl_tree.specs.Statements.{variables_view, stmt_view, body_view, else_view, stmts_of}
 use Rattle.dpl_tree.proofs.StatementFields.{stmt_view_block, body_view_block}
 use Rattle.dpl_rules.specs.Sights.{enter}
 use Rattle.dpl_rules.specs.Doings.{body_deeds}
