@@ -9,3 +9,6 @@ mod turns;
 mod written;
 
 pub use turns::Turns;
+
+#[cfg(test)]
+mod tests;

@@ -3,14 +3,15 @@
 
 use crate::declaration::declaration_deeds;
 use crate::expression::{expr_deeds, item_deeds};
-use crate::statement::{call_deeds, target_deeds};
+use crate::statement::{arguments_deeds, call_deeds, target_deeds, with_deeds};
 use crate::{Holding, held_if};
 use bumpalo::Bump;
 use dpl_scopes::{Scopes, Sort};
 use dpl_syntax::Place;
 use dpl_tree::{
-    Arena, Assign, Call, Declare, DeclaredType, Element, Expr, Exprs, Infix, Init, Initial, Item,
-    Items, Link, Name, Post, ScalarKind, Shape, Target, Typed,
+    Arena, Argument, Arguments, Assign, Call, Declare, DeclaredType, Element, Expr, Exprs, Infix,
+    Init, Initial, Intent, Item, Items, Link, Name, Op, Post, ScalarKind, Shape, Target, Typed,
+    With,
 };
 use dpl_types::{Origin, Over, ValueType};
 use std::alloc::{AllocError, Global};
@@ -114,6 +115,26 @@ fn elements<'t>(arena: Arena<'t>) -> Result<usize, AllocError> {
     Ok(deeds.len())
 }
 
+// How many deeds an intent that reduces has, and an element that is printed.
+fn words<'t>(arena: Arena<'t>) -> Result<usize, AllocError> {
+    let scopes = house(arena.alloc())?;
+    let with = With {
+        at: AT,
+        from: AT,
+        first: Intent::Reduce(AT, Op::Sum, AT, name(b"i")),
+        others: &[],
+        upto: AT,
+    };
+    let arguments = Arguments {
+        first: Argument::Expr(element(arena)?),
+        others: &[],
+    };
+    let mut deeds = Vec::new(arena.alloc());
+    with_deeds(&Some(with), &mut deeds)?;
+    arguments_deeds(arena, &scopes, &Some(arguments), &mut deeds)?;
+    Ok(deeds.len())
+}
+
 // How many deeds a declaration and a cell's call have.
 fn cells<'t>(arena: Arena<'t>) -> Result<usize, AllocError> {
     let scopes = house(arena.alloc())?;
@@ -138,5 +159,7 @@ fn counted(rt: HostRuntime) -> Result<(), Fail> {
     assert_eq!(&rt; elements(Arena::new(&nodes, alloc))?, expected);
     let expected = 4;
     assert_eq!(&rt; cells(Arena::new(&nodes, alloc))?, expected);
+    let expected = 3;
+    assert_eq!(&rt; words(Arena::new(&nodes, alloc))?, expected);
     Ok(())
 }

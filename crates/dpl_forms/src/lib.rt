@@ -11,4 +11,6 @@ pub mod intents;
 pub mod map;
 pub mod print;
 pub mod side;
+#[cfg(test)]
+mod tests;
 pub mod variables;

@@ -9,3 +9,6 @@ mod walk;
 
 pub use sets::sets_fit;
 pub use walk::limits;
+
+#[cfg(test)]
+mod tests;
