@@ -63,9 +63,9 @@ fn named<'t>(arena: Arena<'t>, text: &'t [u8]) -> Result<&'t Expr<'t>, AllocErro
 fn behind<'t>(
     arena: Arena<'t>,
     text: &'t [u8],
-    posts: Vec<Post<'t>>,
+    posts: &'t [Post<'t>],
 ) -> Result<&'t Expr<'t>, AllocError> {
-    Expr::postfixed(arena, named(arena, text)?, arena.list(posts)?)
+    Expr::postfixed(arena, named(arena, text)?, posts)
 }
 
 // D.expand(n)[1..n by 2]
@@ -84,37 +84,38 @@ fn slice<'t>(arena: Arena<'t>, by: Stride<'t>) -> Result<&'t Expr<'t>, AllocErro
         by: n,
         upto: AT,
     })?;
-    let mut posts = Vec::new(arena.alloc());
-    posts.push(Post::Dotted(AT, Method::Expand(expand)))?;
-    posts.push(Post::Brackets {
-        from: AT,
-        items: arena.node(Items::new(Item::Range(range), &[]))?,
-        upto: AT,
-    })?;
+    let items = arena.node(Items::new(Item::Range(range), &[]))?;
+    let posts = arena.node([
+        Post::Dotted(AT, Method::Expand(expand)),
+        Post::Brackets {
+            from: AT,
+            items,
+            upto: AT,
+        },
+    ])?;
     behind(arena, b"D", posts)
 }
 
 // A(n) + 1
 fn sum<'t>(arena: Arena<'t>) -> Result<&'t Expr<'t>, AllocError> {
-    let mut posts = Vec::new(arena.alloc());
-    posts.push(Post::Rounds {
+    let exprs = arena.node(Exprs::new(named(arena, b"n")?, &[]))?;
+    let posts = arena.node([Post::Rounds {
         from: AT,
-        exprs: arena.node(Exprs::new(named(arena, b"n")?, &[]))?,
+        exprs,
         upto: AT,
-    })?;
-    let mut links = Vec::new(arena.alloc());
-    links.push(Link {
+    }])?;
+    let right = arena.node(Expr::Number(AT, 1))?;
+    let links = arena.node([Link {
         at: AT,
         op: Infix::Add,
-        right: arena.node(Expr::Number(AT, 1))?,
-    })?;
-    Expr::chain(arena, behind(arena, b"A", posts)?, arena.list(links)?)
+        right,
+    }])?;
+    Expr::chain(arena, behind(arena, b"A", posts)?, links)
 }
 
 // c.readFE()
 fn read<'t>(arena: Arena<'t>) -> Result<&'t Expr<'t>, AllocError> {
-    let mut posts = Vec::new(arena.alloc());
-    posts.push(Post::Dotted(
+    let posts = arena.node([Post::Dotted(
         AT,
         Method::CellRead {
             at: AT,
@@ -122,17 +123,15 @@ fn read<'t>(arena: Arena<'t>) -> Result<&'t Expr<'t>, AllocError> {
             from: AT,
             upto: AT,
         },
-    ))?;
+    )])?;
     behind(arena, b"c", posts)
 }
 
 // new blockCycDist(D.low, (n, n))
 fn map<'t>(arena: Arena<'t>) -> Result<Map<'t>, AllocError> {
     let n = named(arena, b"n")?;
-    let mut posts = Vec::new(arena.alloc());
-    posts.push(Post::Dotted(AT, Method::Plain(AT, Word::Low)))?;
-    let mut others = Vec::new(arena.alloc());
-    others.push(NextExpr { comma: AT, expr: n })?;
+    let posts = arena.node([Post::Dotted(AT, Method::Plain(AT, Word::Low))])?;
+    let others = arena.node([NextExpr { comma: AT, expr: n }])?;
     Ok(Map::BlockCyclic(BlockCyclicMap {
         new: AT,
         word: AT,
@@ -144,7 +143,7 @@ fn map<'t>(arena: Arena<'t>) -> Result<Map<'t>, AllocError> {
         size: Start::Tuple {
             from: AT,
             first: n,
-            others: arena.list(others)?,
+            others,
             upto: AT,
         },
         upto: AT,
@@ -243,18 +242,18 @@ fn placed<'t>(arena: Arena<'t>) -> Told {
 // write(A, c.readFE());
 fn printed<'t>(arena: Arena<'t>, in_task: bool) -> Told {
     let scopes = house(arena.alloc())?;
-    let mut others = Vec::new(arena.alloc());
-    others.push(NextArgument {
+    let argument = Argument::Expr(read(arena)?);
+    let others = arena.node([NextArgument {
         comma: AT,
-        argument: Argument::Expr(read(arena)?),
-    })?;
+        argument,
+    }])?;
     let written = Write {
         at: AT,
         ends_line: false,
         from: AT,
         arguments: Some(Arguments {
             first: Argument::Expr(named(arena, b"A")?),
-            others: arena.list(others)?,
+            others,
         }),
         upto: AT,
         semicolon: AT,
@@ -267,16 +266,15 @@ fn printed<'t>(arena: Arena<'t>, in_task: bool) -> Told {
 // with (+ reduce n, ref x)
 fn intended<'t>(arena: Arena<'t>, shared: &'t [u8]) -> Told {
     let scopes = house(arena.alloc())?;
-    let mut others = Vec::new(arena.alloc());
-    others.push(NextIntent {
+    let others = arena.node([NextIntent {
         comma: AT,
         intent: Intent::Ref(AT, name(shared)),
-    })?;
+    }])?;
     let with = With {
         at: AT,
         from: AT,
         first: Intent::Reduce(AT, Op::Sum, AT, name(b"n")),
-        others: arena.list(others)?,
+        others,
         upto: AT,
     };
     let mut first = None;
@@ -286,15 +284,14 @@ fn intended<'t>(arena: Arena<'t>, shared: &'t [u8]) -> Told {
 
 // (i, x)
 fn variables<'t>(arena: Arena<'t>, second: &'t [u8]) -> Result<Variables<'t>, AllocError> {
-    let mut others = Vec::new(arena.alloc());
-    others.push(NextName {
+    let others = arena.node([NextName {
         comma: AT,
         name: name(second),
-    })?;
+    }])?;
     Ok(Variables::Many {
         from: AT,
         first: name(b"i"),
-        others: arena.list(others)?,
+        others,
         upto: AT,
     })
 }
