@@ -66,24 +66,10 @@ fn shifted<'t>(declared: Declared<'t>, op: Infix, number: Option<i64>) -> IndexP
 }
 
 // The declaration of the name that an expression is.
-#[tactic(auto, using(dpl_tree::proofs::Fields::chain_view_fields, dpl_tree::proofs::Fields::expr_view_postfixed))]
 fn declared<'t>(scopes: &Scopes<'t>, e: &Expr<'_>) -> Option<Declared<'t>>
     ensures { option_map declared_view result ≡ name_declared scopes.now (bare_name (expr_view e.now)) }
 {
-    match e {
-        Expr::Named(name) => scopes.lookup(name.text),
-        Expr::Number(_, _)
-        | Expr::Truth(_, _)
-        | Expr::Locales(_)
-        | Expr::LocaleCount(_)
-        | Expr::Here(_)
-        | Expr::Grouped { .. }
-        | Expr::Domain { .. }
-        | Expr::Prefixed { .. }
-        | Expr::Reduced(_)
-        | Expr::Chain(_)
-        | Expr::Postfixed(_) => None,
-    }
+    scopes.lookup(e.bare_name()?.text)
 }
 
 // Two operands and what stands between them, as an index.

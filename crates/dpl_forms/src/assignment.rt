@@ -6,7 +6,6 @@ ghost use Rattle.dpl_tree.specs.Words.{kind_view, assign_view};
 ghost use Rattle.dpl_tree.specs.View.{item_view, exprs_view, name_view};
 ghost use Rattle.dpl_tree.specs.Statements.{target_view, sign_view};
 ghost use Rattle.dpl_rules.specs.Breaches.{least_from};
-ghost use Rattle.dpl_rules.specs.Types.{has, is_cell as is_cell_type};
 ghost use Rattle.dpl_rules.specs.Verdicts.{type_by, broken_by, wanted as wanted_of, owed_type};
 ghost use Rattle.dpl_rules.specs.Sights.{type_declared};
 ghost use Rattle.dpl_rules.specs.Expressions.{side_part, side_breaches, exprs_breaches};
@@ -25,6 +24,7 @@ use crate::side::side;
 use dpl_scopes::{Declared, Scopes};
 use dpl_syntax::{Breach, Code, Place};
 use dpl_tree::{Assign, AssignSign, Assignment, Element, Name, ScalarKind, Target};
+use dpl_types::found::is_cell;
 use dpl_types::index::round;
 use dpl_types::part::wanted;
 use dpl_types::{Part, ValueType, Want, note, owed};
@@ -48,16 +48,6 @@ pub fn written_name(at: Place, declared: Option<Declared<'_>>, first: &mut Optio
             );
             owed(!is_cell(declared.value_type), at, Code::CellMisused, first);
         }
-    }
-}
-
-/// Whether a name has the type of a cell.
-pub(crate) fn is_cell(t: Option<ValueType<'_>>) -> bool
-    ensures { result ≡ has is_cell_type (of_type t.entry) }
-{
-    match t {
-        None => false,
-        Some(t) => t.is_cell(),
     }
 }
 

@@ -11,7 +11,7 @@ ghost use Rattle.dpl_rules.specs.Expressions.{items_breaches, item_parts};
 ghost use Rattle.dpl_rules.specs.Operators.{over_verdict};
 ghost use Rattle.dpl_language.specs.Declarations.{type_of as written_type};
 ghost use Rattle.dpl_language.specs.Phrases.{natural as natural_of, item_over, declared_over};
-ghost use Rattle.dpl_rules.specs.Types.{ValueType as ValueTypeTree, has, is_domain as is_domain_type};
+ghost use Rattle.dpl_rules.specs.Types.{ValueType as ValueTypeTree};
 ghost use Rattle.dpl_rules.specs.Declarations.{is_initial, type_rank as type_rank_of, agreeing as agreeing_of, unmapped as unmapped_of, is_untyped};
 ghost use Rattle.dpl_rules.specs.Declarations.{base_over as base_over_of, over_domain, domain_in as domain_in_of, config_type as config_type_of, declared_type};
 ghost use Rattle.dpl_rules.specs.Declarations.{type_breaches, untyped_breaches, typed_breaches, initial_type, init_part, create_breaches, config_breaches};
@@ -28,6 +28,7 @@ use crate::side::{bare_name, side};
 use dpl_scopes::{Declared, Scopes, Sort};
 use dpl_syntax::{Breach, Code, Place};
 use dpl_tree::{ArrayType, Declare, DeclaredType, DomainType, Init, Initial, Item, Items, Mapped};
+use dpl_types::found::is_domain;
 use dpl_types::part::wanted;
 use dpl_types::range::over;
 use dpl_types::{Origin, Over, Part, ValueType, Want, note, owed, tell};
@@ -112,16 +113,6 @@ fn base_over<'t>(scopes: &Scopes<'t>, own: Origin<'t>, written: &Items<'t>) -> O
                 }
             }
         },
-    }
-}
-
-// Whether a name has the type of a domain.
-fn is_domain(t: Option<ValueType<'_>>) -> bool
-    ensures { result ≡ has is_domain_type (of_type t.entry) }
-{
-    match t {
-        None => false,
-        Some(t) => t.is_domain(),
     }
 }
 

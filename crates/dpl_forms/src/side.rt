@@ -21,20 +21,7 @@ use std::alloc::{AllocError, Global};
 pub fn bare_name<'a, 't>(e: &'a Expr<'t>) -> Option<&'a Name<'t>>
     ensures { option_map (λ x. name_view x.now) result ≡ bare_name_of (expr_view e.now) }
 {
-    match e {
-        Expr::Named(name) => Some(name),
-        Expr::Number(_, _)
-        | Expr::Truth(_, _)
-        | Expr::Locales(_)
-        | Expr::LocaleCount(_)
-        | Expr::Here(_)
-        | Expr::Grouped { .. }
-        | Expr::Domain { .. }
-        | Expr::Prefixed { .. }
-        | Expr::Reduced(_)
-        | Expr::Chain(_)
-        | Expr::Postfixed(_) => None,
-    }
+    e.bare_name()
 }
 
 // Whether what stands behind a base is a cell's read.

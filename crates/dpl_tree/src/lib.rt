@@ -3,6 +3,7 @@
 #![tactic(auto)]
 
 pub mod arena;
+mod bare;
 pub mod declaration;
 pub mod expression;
 mod make;

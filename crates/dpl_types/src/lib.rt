@@ -3,6 +3,7 @@
 #![tactic(auto)]
 
 pub mod breach;
+pub mod found;
 pub mod index;
 pub mod method;
 pub mod operator;
