@@ -21,9 +21,9 @@ use dpl_scopes::Scopes;
 use dpl_syntax::{Breach, Code, Place};
 use dpl_tree::{Expr, Item, Map, Mapped, Method, NextExpr, Post, Postfixed, Start, Word};
 use dpl_types::part::wanted;
-use dpl_types::{ValueType, Want, note, owed};
-use dpl_typing::expression::{Judged, base, expr, item, part, post, posts};
-use dpl_typing::place::{first_of, first_of_item, last_of, last_of_posts};
+use dpl_types::{Part, ValueType, Want, note, owed};
+use dpl_typing::expression::{Judged, base, item_part, part, post, posts};
+use dpl_typing::place::{first_of, last_of, last_of_posts};
 use std::alloc::{AllocError, Global};
 
 // A rank, where it is known.
@@ -43,18 +43,12 @@ fn domain_in(t: Option<ValueType<'_>>) -> Option<(usize, bool)>
 }
 
 // A box has the type of a domain of the rank, if it has one.
-fn box_of(
-    rank: Option<usize>,
-    word: Place,
-    at: Place,
-    found: Option<ValueType<'_>>,
-    first: &mut Option<Breach>,
-)
-    ensures { first.new ≡ least_from first.old (box_of_rank rank word at (of_type found.entry)) }
+fn box_of(rank: Option<usize>, word: Place, part: Part<'_>, first: &mut Option<Breach>)
+    ensures { first.new ≡ least_from first.old (box_of_rank rank word part.entry.at (of_type part.entry.found)) }
 {
-    if let Some(t) = found {
+    if let Some(t) = part.found {
         match t.domain() {
-            None => note(first, at, Code::WrongType),
+            None => note(first, part.at, Code::WrongType),
             Some((found, _)) => owed_rank(rank, found, word, first),
         }
     }
@@ -72,26 +66,20 @@ fn boxed(
 ) -> Result<(), AllocError>
     ensures { OnOk result (first.new ≡ least_from first.old (box_breaches scopes.now rank word (item_view written.now))) }
 {
-    let found = item(alloc, scopes, written, first)?;
-    box_of(rank, word, first_of_item(written), found, first);
+    let part = item_part(alloc, scopes, written, first)?;
+    box_of(rank, word, part, first);
     Ok(())
 }
 
 // An int starts a map of rank 1.
-fn int_start(
-    rank: Option<usize>,
-    word: Place,
-    at: Place,
-    found: Option<ValueType<'_>>,
-    first: &mut Option<Breach>,
-)
-    ensures { first.new ≡ least_from first.old (int_start_of rank word at (of_type found.entry)) }
+fn int_start(rank: Option<usize>, word: Place, part: Part<'_>, first: &mut Option<Breach>)
+    ensures { first.new ≡ least_from first.old (int_start_of rank word part.entry.at (of_type part.entry.found)) }
 {
-    if let Some(t) = found {
+    if let Some(t) = part.found {
         if t.is_int() {
             owed_rank(rank, 1, word, first);
         } else {
-            note(first, at, Code::WrongType);
+            note(first, part.at, Code::WrongType);
         }
     }
 }
@@ -108,8 +96,8 @@ fn plain_start(
 ) -> Result<(), AllocError>
     ensures { OnOk result (first.new ≡ least_from first.old (plain_start_of scopes.now rank word (expr_view e.now))) }
 {
-    let found = expr(alloc, scopes, e, first)?;
-    int_start(rank, word, first_of(e), found, first);
+    let part = part(alloc, scopes, e, first)?;
+    int_start(rank, word, part, first);
     Ok(())
 }
 
@@ -209,7 +197,11 @@ fn low_start(
         None => {
             let end = last_of_posts(last_of(before), ends.behind);
             let found = post(alloc, scopes, end, of, ends.last, first)?;
-            int_start(rank, word, first_of(before), found, first);
+            let part = Part {
+                at: first_of(before),
+                found,
+            };
+            int_start(rank, word, part, first);
             Ok(())
         }
     }
