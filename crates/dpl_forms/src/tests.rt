@@ -8,14 +8,14 @@ use crate::head::{LoopWord, head};
 use crate::intents::intents;
 use crate::print::print;
 use crate::variables::enter_loop;
-use bumpalo::Bump;
 use dpl_scopes::{Scopes, Sort};
 use dpl_syntax::{Breach, Code, Place};
 use dpl_tree::{
-    Arena, Argument, Arguments, Assign, AssignSign, Assignment, BlockCyclicMap, Call, CellCall,
+    Argument, Arguments, Assign, AssignSign, Assignment, BlockCyclicMap, Call, CellCall, Chain,
     Declare, Dots, Element, Expand, Expr, Exprs, Infix, Init, Initial, Intent, Item, Items, Link,
-    Map, Mapped, Method, Name, NextArgument, NextExpr, NextIntent, NextName, Op, Post, Range,
-    ReadWord, ScalarKind, Shape, Start, Stride, Target, Variables, With, Word, Write, WriteWord,
+    Map, Mapped, Method, Name, NextArgument, NextExpr, NextIntent, NextName, Op, Post, Postfixed,
+    Range, ReadWord, ScalarKind, Shape, Start, Stride, Target, Variables, With, Word, Write,
+    WriteWord,
 };
 use dpl_types::{Origin, Over, ValueType};
 use std::alloc::{AllocError, Global};
@@ -23,9 +23,17 @@ use std::test::Fail;
 
 const AT: Place = Place { line: 1, column: 1 };
 
-fn name<'t>(text: &'t [u8]) -> Name<'t> {
-    Name { at: AT, text }
-}
+const A: Name<'static> = Name { at: AT, text: b"A" };
+
+const C: Name<'static> = Name { at: AT, text: b"c" };
+
+const D: Name<'static> = Name { at: AT, text: b"D" };
+
+const I: Name<'static> = Name { at: AT, text: b"i" };
+
+const J: Name<'static> = Name { at: AT, text: b"j" };
+
+const N: Name<'static> = Name { at: AT, text: b"n" };
 
 // A domain D, an array A over it, a cell c and an int n.
 fn house<'t>(alloc: Global) -> Result<Scopes<'t>, AllocError> {
@@ -55,67 +63,73 @@ fn house<'t>(alloc: Global) -> Result<Scopes<'t>, AllocError> {
     Ok(scopes)
 }
 
-fn named<'t>(arena: Arena<'t>, text: &'t [u8]) -> Result<&'t Expr<'t>, AllocError> {
-    arena.node(Expr::Named(name(text)))
-}
-
-// A name and what stands behind it
-fn behind<'t>(
-    arena: Arena<'t>,
-    text: &'t [u8],
-    posts: &'t [Post<'t>],
-) -> Result<&'t Expr<'t>, AllocError> {
-    Expr::postfixed(arena, named(arena, text)?, posts)
-}
-
-// D.expand(n)[1..n by 2]
-fn slice<'t>(arena: Arena<'t>, by: Stride<'t>) -> Result<&'t Expr<'t>, AllocError> {
-    let n = named(arena, b"n")?;
-    let range = arena.node(Range {
-        low: arena.node(Expr::Number(AT, 1))?,
-        at: AT,
-        dots: Dots::Closed,
-        high: n,
-        by,
-    })?;
-    let expand = arena.node(Expand {
-        at: AT,
-        from: AT,
-        by: n,
-        upto: AT,
-    })?;
-    let items = arena.node(Items::new(Item::Range(range), &[]))?;
-    let posts = arena.node([
-        Post::Dotted(AT, Method::Expand(expand)),
+// D.expand(n)[1..n]
+const SLICE: Expr<'static> = Expr::Postfixed(&Postfixed {
+    base: &Expr::Named(D),
+    posts: &[
+        Post::Dotted(
+            AT,
+            Method::Expand(&Expand {
+                at: AT,
+                from: AT,
+                by: &Expr::Named(N),
+                upto: AT,
+            }),
+        ),
         Post::Brackets {
             from: AT,
-            items,
+            items: &Items {
+                first: Item::Range(&Range {
+                    low: &Expr::Number(AT, 1),
+                    at: AT,
+                    dots: Dots::Closed,
+                    high: &Expr::Named(N),
+                    by: Stride::Absent,
+                }),
+                others: &[],
+            },
             upto: AT,
         },
-    ])?;
-    behind(arena, b"D", posts)
-}
+    ],
+});
+
+// (1..n by 2)
+const STRIDED: Expr<'static> = Expr::Grouped {
+    from: AT,
+    item: &Item::Range(&Range {
+        low: &Expr::Number(AT, 1),
+        at: AT,
+        dots: Dots::Closed,
+        high: &Expr::Named(N),
+        by: Stride::By(AT, &Expr::Number(AT, 2)),
+    }),
+    upto: AT,
+};
 
 // A(n) + 1
-fn sum<'t>(arena: Arena<'t>) -> Result<&'t Expr<'t>, AllocError> {
-    let exprs = arena.node(Exprs::new(named(arena, b"n")?, &[]))?;
-    let posts = arena.node([Post::Rounds {
-        from: AT,
-        exprs,
-        upto: AT,
-    }])?;
-    let right = arena.node(Expr::Number(AT, 1))?;
-    let links = arena.node([Link {
+const SUM: Expr<'static> = Expr::Chain(&Chain {
+    first: &Expr::Postfixed(&Postfixed {
+        base: &Expr::Named(A),
+        posts: &[Post::Rounds {
+            from: AT,
+            exprs: &Exprs {
+                first: &Expr::Named(N),
+                others: &[],
+            },
+            upto: AT,
+        }],
+    }),
+    links: &[Link {
         at: AT,
         op: Infix::Add,
-        right,
-    }])?;
-    Expr::chain(arena, behind(arena, b"A", posts)?, links)
-}
+        right: &Expr::Number(AT, 1),
+    }],
+});
 
 // c.readFE()
-fn read<'t>(arena: Arena<'t>) -> Result<&'t Expr<'t>, AllocError> {
-    let posts = arena.node([Post::Dotted(
+const READ: Expr<'static> = Expr::Postfixed(&Postfixed {
+    base: &Expr::Named(C),
+    posts: &[Post::Dotted(
         AT,
         Method::CellRead {
             at: AT,
@@ -123,32 +137,135 @@ fn read<'t>(arena: Arena<'t>) -> Result<&'t Expr<'t>, AllocError> {
             from: AT,
             upto: AT,
         },
-    )])?;
-    behind(arena, b"c", posts)
-}
+    )],
+});
 
-// new blockCycDist(D.low, (n, n))
-fn map<'t>(arena: Arena<'t>) -> Result<Map<'t>, AllocError> {
-    let n = named(arena, b"n")?;
-    let posts = arena.node([Post::Dotted(AT, Method::Plain(AT, Word::Low))])?;
-    let others = arena.node([NextExpr { comma: AT, expr: n }])?;
-    Ok(Map::BlockCyclic(BlockCyclicMap {
+// D.low
+const LOW: Expr<'static> = Expr::Postfixed(&Postfixed {
+    base: &Expr::Named(D),
+    posts: &[Post::Dotted(AT, Method::Plain(AT, Word::Low))],
+});
+
+// dmapped new blockCycDist(D.low, (n, n))
+const MAPPED: Mapped<'static> = Mapped {
+    at: AT,
+    map: Map::BlockCyclic(BlockCyclicMap {
         new: AT,
         word: AT,
         from: AT,
         start_argument: None,
-        start: Start::Expr(behind(arena, b"D", posts)?),
+        start: Start::Expr(&LOW),
         comma: AT,
         size_argument: None,
         size: Start::Tuple {
             from: AT,
-            first: n,
-            others,
+            first: &Expr::Named(N),
+            others: &[NextExpr {
+                comma: AT,
+                expr: &Expr::Named(N),
+            }],
             upto: AT,
         },
         upto: AT,
-    }))
-}
+    }),
+};
+
+// const E = D.expand(n)[1..n] and that map
+const DECLARED: Declare<'static> = Declare {
+    config: None,
+    at: AT,
+    constant: true,
+    name: Name { at: AT, text: b"E" },
+    typed: None,
+    initial: Some(Initial {
+        equals: AT,
+        init: Init::Item(Item::One(&SLICE), Some(MAPPED)),
+    }),
+    semicolon: AT,
+};
+
+const SIGN: AssignSign = AssignSign {
+    at: AT,
+    op: Assign::Set,
+    last: AT,
+};
+
+// A(n) = A(n) + 1;
+const ELEMENT: Assignment<'static> = Assignment {
+    target: Target::Element(&Element {
+        name: A,
+        shape: Shape::Round,
+        from: AT,
+        exprs: Exprs {
+            first: &Expr::Named(N),
+            others: &[],
+        },
+        upto: AT,
+    }),
+    sign: SIGN,
+    value: Item::One(&SUM),
+    semicolon: AT,
+};
+
+// A = D.expand(n)[1..n];
+const WHOLE: Assignment<'static> = Assignment {
+    target: Target::Whole(A),
+    sign: SIGN,
+    value: Item::One(&SLICE),
+    semicolon: AT,
+};
+
+// c.writeEF(A(n) + 1);
+const CALL: CellCall<'static> = CellCall {
+    name: C,
+    dot: AT,
+    call: Call::Write(AT, WriteWord::WriteEF, AT, &SUM, AT),
+    semicolon: AT,
+};
+
+// write(A, c.readFE());
+const PRINT: Write<'static> = Write {
+    at: AT,
+    ends_line: false,
+    from: AT,
+    arguments: Some(Arguments {
+        first: Argument::Expr(&Expr::Named(A)),
+        others: &[NextArgument {
+            comma: AT,
+            argument: Argument::Expr(&READ),
+        }],
+    }),
+    upto: AT,
+    semicolon: AT,
+};
+
+// with (+ reduce n, ref n)
+const WITH: Option<With<'static>> = Some(With {
+    at: AT,
+    from: AT,
+    first: Intent::Reduce(AT, Op::Sum, AT, N),
+    others: &[NextIntent {
+        comma: AT,
+        intent: Intent::Ref(AT, N),
+    }],
+    upto: AT,
+});
+
+// (i, j)
+const PAIR: Variables<'static> = Variables::Many {
+    from: AT,
+    first: I,
+    others: &[NextName { comma: AT, name: J }],
+    upto: AT,
+};
+
+// (i, i)
+const TWICE: Variables<'static> = Variables::Many {
+    from: AT,
+    first: I,
+    others: &[NextName { comma: AT, name: I }],
+    upto: AT,
+};
 
 // The code of the breach that is told, if one is, or out of memory.
 type Told = Result<Option<Code>, AllocError>;
@@ -157,227 +274,102 @@ fn code_of(first: Option<Breach>) -> Option<Code> {
     Some(first?.code)
 }
 
-// const E = D.expand(n)[1..n], perhaps with that map
-fn declared<'t>(arena: Arena<'t>, is_mapped: bool) -> Told {
-    let scopes = house(arena.alloc())?;
-    let mapped = if is_mapped {
-        Some(Mapped {
-            at: AT,
-            map: map(arena)?,
-        })
-    } else {
-        None
-    };
-    let item = Item::One(slice(arena, Stride::Absent)?);
-    let written = Declare {
-        config: None,
-        at: AT,
-        constant: true,
-        name: name(b"E"),
-        typed: None,
-        initial: Some(Initial {
-            equals: AT,
-            init: Init::Item(item, mapped),
-        }),
-        semicolon: AT,
-    };
+fn declared(alloc: Global, written: &Declare<'static>) -> Told {
     let mut first = None;
-    declaration(arena.alloc(), &scopes, &written, &mut first)?;
+    declaration(alloc, &house(alloc)?, written, &mut first)?;
     Ok(code_of(first))
 }
 
-// What an assignment of the item to the target tells, outside of foralls
-fn assigned<'t>(arena: Arena<'t>, target: Target<'t>, op: Assign, value: &'t Expr<'t>) -> Told {
-    let scopes = house(arena.alloc())?;
-    let written = Assignment {
-        target,
-        sign: AssignSign {
-            at: AT,
-            op,
-            last: AT,
-        },
-        value: Item::One(value),
-        semicolon: AT,
-    };
+fn assigned(alloc: Global, written: &Assignment<'_>) -> Told {
     let mut first = None;
-    assignment(arena.alloc(), &scopes, &None, &written, &mut first)?;
+    assignment(alloc, &house(alloc)?, &None, written, &mut first)?;
     Ok(code_of(first))
 }
 
-// c.writeEF(A(n) + 1);
-fn called<'t>(arena: Arena<'t>) -> Told {
-    let scopes = house(arena.alloc())?;
-    let written = CellCall {
-        name: name(b"c"),
-        dot: AT,
-        call: Call::Write(AT, WriteWord::WriteEF, AT, sum(arena)?, AT),
-        semicolon: AT,
-    };
+fn called(alloc: Global, written: &CellCall<'_>) -> Told {
     let mut first = None;
-    call(arena.alloc(), &scopes, &written, &mut first)?;
+    call(alloc, &house(alloc)?, written, &mut first)?;
     Ok(code_of(first))
 }
 
-// What the expression tells as a condition
-fn asked<'t>(arena: Arena<'t>, e: &'t Expr<'t>) -> Told {
-    let scopes = house(arena.alloc())?;
+fn asked(alloc: Global, e: &Expr<'_>) -> Told {
     let mut first = None;
-    condition(arena.alloc(), &scopes, e, &mut first)?;
+    condition(alloc, &house(alloc)?, e, &mut first)?;
     Ok(code_of(first))
 }
 
-// on here
-fn placed<'t>(arena: Arena<'t>) -> Told {
-    let scopes = house(arena.alloc())?;
+fn placed(alloc: Global, e: &Expr<'_>) -> Told {
     let mut first = None;
-    on(
-        arena.alloc(),
-        &scopes,
-        arena.node(Expr::Here(AT))?,
-        &mut first,
-    )?;
+    on(alloc, &house(alloc)?, e, &mut first)?;
     Ok(code_of(first))
 }
 
-// write(A, c.readFE());
-fn printed<'t>(arena: Arena<'t>, in_task: bool) -> Told {
-    let scopes = house(arena.alloc())?;
-    let argument = Argument::Expr(read(arena)?);
-    let others = arena.node([NextArgument {
-        comma: AT,
-        argument,
-    }])?;
-    let written = Write {
-        at: AT,
-        ends_line: false,
-        from: AT,
-        arguments: Some(Arguments {
-            first: Argument::Expr(named(arena, b"A")?),
-            others,
-        }),
-        upto: AT,
-        semicolon: AT,
-    };
+fn printed(alloc: Global, in_task: bool, written: &Write<'_>) -> Told {
     let mut first = None;
-    print(arena.alloc(), &scopes, in_task, &written, &mut first)?;
+    print(alloc, &house(alloc)?, in_task, written, &mut first)?;
     Ok(code_of(first))
 }
 
-// with (+ reduce n, ref x)
-fn intended<'t>(arena: Arena<'t>, shared: &'t [u8]) -> Told {
-    let scopes = house(arena.alloc())?;
-    let others = arena.node([NextIntent {
-        comma: AT,
-        intent: Intent::Ref(AT, name(shared)),
-    }])?;
-    let with = With {
-        at: AT,
-        from: AT,
-        first: Intent::Reduce(AT, Op::Sum, AT, name(b"n")),
-        others,
-        upto: AT,
-    };
+fn intended(alloc: Global, with: &Option<With<'static>>) -> Told {
     let mut first = None;
-    intents(arena.alloc(), &scopes, &Some(with), &mut first)?;
+    intents(alloc, &house(alloc)?, with, &mut first)?;
     Ok(code_of(first))
 }
 
-// (i, x)
-fn variables<'t>(arena: Arena<'t>, second: &'t [u8]) -> Result<Variables<'t>, AllocError> {
-    let others = arena.node([NextName {
-        comma: AT,
-        name: name(second),
-    }])?;
-    Ok(Variables::Many {
-        from: AT,
-        first: name(b"i"),
-        others,
-        upto: AT,
-    })
-}
-
-// for (i, j) in D.expand(n)[1..n]
-fn headed<'t>(arena: Arena<'t>) -> Told {
-    let scopes = house(arena.alloc())?;
-    let variables = variables(arena, b"j")?;
-    let item = Item::One(slice(arena, Stride::Absent)?);
+fn headed(alloc: Global, variables: &Variables<'_>, item: &Item<'_>) -> Told {
     let mut first = None;
     head(
-        arena.alloc(),
-        &scopes,
+        alloc,
+        &house(alloc)?,
         LoopWord::For,
-        &variables,
-        &item,
+        variables,
+        item,
         &mut first,
     )?;
     Ok(code_of(first))
 }
 
-// (i, x) as the variables of a loop
-fn entered<'t>(arena: Arena<'t>, second: &'t [u8]) -> Told {
-    let mut scopes = house(arena.alloc())?;
+fn entered(alloc: Global, variables: &Variables<'static>) -> Told {
+    let mut scopes = house(alloc)?;
     let mut first = None;
-    enter_loop(&mut scopes, &variables(arena, second)?, None, &mut first)?;
+    enter_loop(&mut scopes, variables, None, &mut first)?;
     Ok(code_of(first))
 }
 
-// A(n)
-fn target<'t>(arena: Arena<'t>) -> Result<Target<'t>, AllocError> {
-    let element = Element {
-        name: name(b"A"),
-        shape: Shape::Round,
-        from: AT,
-        exprs: Exprs::new(named(arena, b"n")?, &[]),
-        upto: AT,
-    };
-    Ok(Target::Element(arena.node(element)?))
-}
-
-// What each form tells, in the order of `EXPECTED`
-fn codes<'t>(arena: Arena<'t>) -> Result<[Option<Code>; 15], AllocError> {
-    let n = Target::Whole(name(b"n"));
-    let strided = slice(arena, Stride::By(AT, named(arena, b"n")?))?;
+// What each form tells, in the order of `EXPECTED`.
+fn codes(alloc: Global) -> Result<[Option<Code>; 11], AllocError> {
     Ok([
-        declared(arena, false)?,
-        declared(arena, true)?,
-        assigned(arena, target(arena)?, Assign::Set, sum(arena)?)?,
-        assigned(arena, n, Assign::Set, read(arena)?)?,
-        assigned(arena, n, Assign::SetReduce, read(arena)?)?,
-        called(arena)?,
-        asked(arena, strided)?,
-        placed(arena)?,
-        printed(arena, false)?,
-        printed(arena, true)?,
-        intended(arena, b"A")?,
-        intended(arena, b"n")?,
-        headed(arena)?,
-        entered(arena, b"j")?,
-        entered(arena, b"i")?,
+        declared(alloc, &DECLARED)?,
+        assigned(alloc, &ELEMENT)?,
+        assigned(alloc, &WHOLE)?,
+        called(alloc, &CALL)?,
+        asked(alloc, &STRIDED)?,
+        placed(alloc, &SUM)?,
+        printed(alloc, false, &PRINT)?,
+        printed(alloc, true, &PRINT)?,
+        intended(alloc, &WITH)?,
+        headed(alloc, &PAIR, &Item::One(&SLICE))?,
+        entered(alloc, &TWICE)?,
     ])
 }
 
-const EXPECTED: [Option<Code>; 15] = [
-    None,
+const EXPECTED: [Option<Code>; 11] = [
     Some(Code::WrongRank),
     None,
-    None,
     Some(Code::WrongType),
     None,
     Some(Code::WrongType),
-    None,
+    Some(Code::WrongType),
     None,
     Some(Code::CellMisused),
-    None,
     Some(Code::NameTwice),
     Some(Code::WrongRank),
-    None,
     Some(Code::NameTwice),
 ];
 
 #[test]
 fn told(rt: HostRuntime) -> Result<(), Fail> {
-    let nodes = Bump::new(rt.alloc());
-    let found = codes(Arena::new(&nodes, rt.alloc()))?;
+    let found = codes(rt.alloc())?;
     assert!(rt; found == EXPECTED);
     Ok(())
 }
