@@ -3,18 +3,18 @@
 use Rattle.std.proofs.Common.{◌≡◌, ◌<◌, ◌+◌, ◌⊎◌, ℕ, zero, suc, ℤ, List, [], ◌∷◌, ◌++◌, length, map, slice_get, slice_set, slice_index_or, Option, Some, None, is_some, IsSome, IfSome, All, true, false, refl, ap, sym, subst, ◌∙◌, arith, ⊎_elim, inl, inr, length-set}
 use Rattle.std.specs.Option.{option_map, option_copied}
 use Rattle.std.specs.Borrow.{Bor}
-use Rattle.std.proofs.lemmas.List.{length-map, get_or_default}
+use Rattle.std.proofs.lemmas.List.{length-map, get_or_default, map-set}
 use Rattle.std.proofs.lemmas.Option.{none-some, same_Some, slice_get_within, slice_get-map, slice_get_read}
 use Rattle.dpl_range.specs.Range.{RangeValue}
 use Rattle.dpl_domain.specs.Indices.{indices}
 use Rattle.dpl_map.specs.Maps.{AxisValue, owner, locales}
 use Rattle.dpl_map.specs.Parts.{part}
-use Rattle.dpl_array.specs.Elements.{Elements, owned, filled, IsOver}
-use Rattle.dpl_array.specs.Arrays.{PieceValue, PiecesValue, IsPiece, ArePieces, filled_array, piece_in, piece_with, slots_of}
+use Rattle.dpl_array.specs.Elements.{Elements, value_at, with_value, owned, filled, IsOver}
+use Rattle.dpl_array.specs.Arrays.{PieceValue, PiecesValue, IsPiece, ArePieces, filled_array, held_at, in_slot, piece_in, piece_with, slots_of, with_slot, written_at}
 use Rattle.dpl_array.specs.PiecesFields.{slot_of, IsPieceOf, AreHeld}
-use Rattle.dpl_array.proofs.ElementLemmas.{over-filled, over-with_value, owned-filled}
+use Rattle.dpl_array.proofs.ElementLemmas.{over-filled, over-stands, over-with_value, owned-filled}
 use Rattle.dpl_array.proofs.PieceLemmas.{part-same}
-use Rattle.dpl_array.proofs.UnionLemmas.{absent, listed-by, filled-part}
+use Rattle.dpl_array.proofs.UnionLemmas.{absent, listed-by, filled-part, some-of, stands-owner}
 
 -- a list in which one place is written
 set-cases : {X : Type 0} (xs : List X) (l : ℕ) (o : X) (k : ℕ) (x : X) → slice_get (slice_set xs l o) k ≡ Some x → ((k ≡ l) × (o ≡ x)) ⊎ (slice_get xs k ≡ Some x)
@@ -27,6 +27,11 @@ set-cases (y ∷ xs) (suc l) o (suc k) x found =
     (λ (here : (k ≡ l) × (o ≡ x)). inl (ap suc here.0, here.1))
     (λ (there : slice_get xs k ≡ Some x). inr there)
     (set-cases xs l o k x found)
+
+set-same : {X : Type 0} (xs : List X) (l : ℕ) (x : X) → slice_get xs l ≡ Some x → slice_set xs l x ≡ xs
+set-same [] l x found = refl
+set-same (y ∷ xs) zero x found = ap (λ z. z ∷ xs) (sym (same_Some y x found))
+set-same (y ∷ xs) (suc l) x found = ap (λ ys. y ∷ ys) (set-same xs l x found)
 
 module _ {T : Type 0} where
   pub slot-at : (held : List (Option (PieceValue T))) (l : ℕ) → slice_index_or (map slot_of held) l None ≡ slot_of (slice_index_or held l None)
@@ -68,6 +73,28 @@ module _ {T : Type 0} (domain : List RangeValue) (axes : List AxisValue) (held :
       let fit = are.fits l p (in-place held l p there) in
       subst (IsPieceOf domain axes l) (sym is)
       (record { is = ap (piece_with t v) fit.is; over = over-with_value (part domain axes l) p.elements t v fit.over })
+
+  -- a piece that holds an index is that of its owner
+  pub held-owner : (l : ℕ) (p : PieceValue T) → slice_index_or held l None ≡ Some p → (t : List ℤ) (v : T) → value_at t p.elements ≡ Some v → owner axes t ≡ l
+  held-owner l p there t v some = stands-owner domain axes l t (over-stands (part domain axes l) p.elements t v (are.fits l p (in-place held l p there)).over some)
+
+  pub held-guessed : (l : ℕ) (p : PieceValue T) → slice_index_or held l None ≡ Some p → (t : List ℤ) (v : T) → value_at t p.elements ≡ Some v → held_at seen t ≡ Some v
+  held-guessed l p there t v some =
+      ap (λ k. in_slot (slice_index_or seen.slots k None) t) (held-owner l p there t v some)
+      ∙ ap (λ s. in_slot s t) (slot-at held l ∙ ap slot_of there) ∙ some
+
+  -- where its piece is written, the pieces are
+  pub held-written : (l : ℕ) (p q : PieceValue T) → slice_index_or held l None ≡ Some p → (t : List ℤ) (v : T) → is_some (value_at t p.elements) ≡ true → q ≡ piece_with t v p → record seen { slots = map slot_of (slice_set held l (Some q)) } ≡ written_at t v seen
+  held-written l p q there t v has is =
+      let some = some-of (value_at t p.elements) has in
+      let slot = slot-at held l ∙ ap slot_of there in
+      let put = ap (λ r. Some r.elements) is ∙ ap (option_map (with_value t v)) (sym slot) in
+      ap (λ ss. record seen { slots = ss }) (map-set slot_of held l (Some q) ∙ ap (slice_set (map slot_of held) l) put)
+      ∙ ap (λ k. with_slot seen k (option_map (with_value t v) (slice_index_or seen.slots k None))) (sym (held-owner l p there t some.0 some.1))
+
+  -- where nothing of it changes, nothing does
+  pub held-unwritten : (l : ℕ) (p q : PieceValue T) → slice_index_or held l None ≡ Some p → q ≡ p → slice_set held l (Some q) ≡ held
+  held-unwritten l p q there is = ap (λ r. slice_set held l (Some r)) is ∙ set-same held l (Some p) (in-place held l p there)
 
   -- a place is written
   pub held-set : (l : ℕ) (o : Option (PieceValue T)) → ((p : PieceValue T) → o ≡ Some p → IsPieceOf domain axes l p) → AreHeld domain axes (slice_set held l o)

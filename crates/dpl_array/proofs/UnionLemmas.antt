@@ -11,7 +11,7 @@ use Rattle.dpl_domain.specs.Indices.{indices}
 use Rattle.dpl_map.specs.Maps.{AxisValue, owner, locales}
 use Rattle.dpl_map.specs.Parts.{part}
 use Rattle.dpl_array.specs.Elements.{Elements, same_index, value_at, with_value, owned, filled, tabulated, IsOver}
-use Rattle.dpl_array.specs.Arrays.{ArrayValue, PieceValue, PiecesValue, piece_in, restriction, IsArray, ArePieces, IsWhole, array_with, counted, held_at, in_slot, pieces_of, slots_of, union, with_slot}
+use Rattle.dpl_array.specs.Arrays.{ArrayValue, PieceValue, PiecesValue, piece_in, restriction, IsArray, ArePieces, IsWhole, array_with, counted, held_at, in_slot, pieces_of, slots_of, union, written_at}
 use Rattle.dpl_array.specs.Rows.{StandsIn}
 use Rattle.dpl_array.proofs.RowLemmas.{filter-stands}
 use Rattle.dpl_array.proofs.ElementLemmas.{changed, not-same, owned-tabulated, over-some, over-stands, over-with_value, tabulated-none, tabulated-over, tabulated-same, tabulated-there, value_at-with_value, with_value-tabulated}
@@ -150,7 +150,7 @@ module _ {T : Type 0} (ps : PiecesValue T) (formed : ArePieces ps) where
   -- ANOTHER VALUE AT ONE INDEX
   module _ (t : List ℤ) (v : T) where
     abbrev pub written : PiecesValue T
-    written = with_slot ps (owner ps.map t) (option_map (with_value t v) (slice_index_or ps.slots (owner ps.map t) None))
+    written = written_at t v ps
 
     pub within : owner ps.map t < length ps.slots
     within = let below = formed.owners t in omega (arith, below, formed.long)

@@ -104,6 +104,10 @@ in_slot (Some es) t = value_at t es
 abbrev pub held_at : {T : Type 0} → PiecesValue T → List ℤ → Option T
 held_at ps t = in_slot (slice_index_or ps.slots (owner ps.map t) None) t
 
+-- the pieces with another value at an index, which stands in the piece of its owner
+abbrev pub written_at : {T : Type 0} → List ℤ → T → PiecesValue T → PiecesValue T
+written_at t v ps = with_slot ps (owner ps.map t) (option_map (with_value t v) (slice_index_or ps.slots (owner ps.map t) None))
+
 -- the union of the pieces: at each index of the domain what they hold there
 abbrev pub union : {T : Type 0} → PiecesValue T → ArrayValue T
 union ps = record { domain = ps.domain; map = ps.map; elements = tabulated (indices ps.domain) (held_at ps) }

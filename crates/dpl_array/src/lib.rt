@@ -11,6 +11,7 @@ mod place;
 mod redomain;
 mod row;
 mod same;
+mod seats;
 mod walk;
 
 pub use array::{ArrayFault, DArray};

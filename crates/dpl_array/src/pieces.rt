@@ -1,16 +1,15 @@
 // The pieces of an array: one for each locale of its map, taken out and put back.
 // A piece goes only into the free place of its locale, and only where its domain and its map are the array's.
 
-ghost use Rattle.std.specs.Prelude.{◌≡◌, ◌≤◌, ◌<◌, ◌^◌, ◌↔◌, Some, None, is_some, length, slice_index_or, slice_get, IsTrue, IsOk, IfOk, IfErr, IfSome, OnOk, OnErr};
-ghost use Rattle.std.specs.Option.{option_map};
+ghost use Rattle.std.specs.Prelude.{◌≡◌, ◌≤◌, ◌<◌, ◌^◌, ◌↔◌, Some, None, true, false, is_some, length, slice_get, IsTrue, IsOk, IfOk, IfErr, IfSome, OnOk, OnErr};
 ghost use Rattle.dpl_domain.specs.Equality.{SameDomain};
 ghost use Rattle.dpl_map.specs.Maps.{owner, locales};
-ghost use Rattle.dpl_array.specs.Elements.{with_value};
 ghost use Rattle.dpl_array.specs.Same.{texts_of};
-ghost use Rattle.dpl_array.specs.Arrays.{ArePieces, IsWhole, IsSmallArray, filled_array, held_at, piece_in, pieces_of, with_slot};
+ghost use Rattle.dpl_array.specs.Arrays.{ArePieces, IsWhole, IsSmallArray, filled_array, held_at, piece_in, pieces_of, with_slot, written_at};
 
 use crate::Piece;
 use crate::same::same_domain;
+use crate::seats::Seats;
 use dpl_domain::{Domain, Index};
 use dpl_map::Map;
 use std::alloc::{AllocError, Global};
@@ -23,6 +22,7 @@ pub struct Pieces<T> {
     domain: Domain,
     map: Map,
     held: Vec<Option<Piece<T>>>,
+    seats: Option<Seats>,
 }
 
 impl<T> Model for Pieces<T> {
@@ -55,7 +55,12 @@ impl<T: Copy> Pieces<T> {
             let piece = Piece::new(alloc, domain, map, locale, value)?;
             held.push(Some(piece))?;
         }
-        Ok(Pieces { domain, map, held })
+        Ok(Pieces {
+            domain,
+            map,
+            held,
+            seats: Seats::of(&map),
+        })
     }
 
     /// The domain of the array.
@@ -141,7 +146,28 @@ impl<T: Copy> Pieces<T> {
     }
 
     // What the pieces hold at an index.
+    #[inline]
     pub(crate) fn get(&self, index: Index) -> Option<T>
+        ensures { result ≡ held_at self.now index }
+    {
+        if let Some(value) = self.guessed(index) {
+            return Some(value);
+        }
+        self.searched(index)
+    }
+
+    // What the piece that stands where the owner's seems to stand holds at an index.
+    #[inline]
+    fn guessed(&self, index: Index) -> Option<T>
+        ensures { IfSome result (λ v. held_at self.now index ≡ Some v) }
+    {
+        let seat = self.seats?.guess(index);
+        self.held.get(seat)?.as_ref()?.get(index)
+    }
+
+    // What the piece of the owner holds at an index.
+    #[inline(never)]
+    fn searched(&self, index: Index) -> Option<T>
         ensures { result ≡ held_at self.now index }
     {
         let owner = self.seat(index);
@@ -149,9 +175,42 @@ impl<T: Copy> Pieces<T> {
     }
 
     // Puts a value at an index, if the pieces have it.
+    #[inline]
     pub(crate) fn set(&mut self, index: Index, value: T) -> bool
         ensures there { result ≡ is_some (held_at self.old index) }
-        ensures changes { self.new ≡ with_slot self.old (owner self.old.map index) (option_map (with_value index value) (slice_index_or self.old.slots (owner self.old.map index) None)) }
+        ensures changes { self.new ≡ written_at index value self.old }
+    {
+        if self.set_guessed(index, value) {
+            return true;
+        }
+        self.set_searched(index, value)
+    }
+
+    // Puts a value at an index into the piece that stands where the owner's seems to stand, if it has the index.
+    #[inline]
+    fn set_guessed(&mut self, index: Index, value: T) -> bool
+        ensures there { result ≡ true → is_some (held_at self.old index) ≡ true }
+        ensures changes { result ≡ true → self.new ≡ written_at index value self.old }
+        ensures unchanged { result ≡ false → self.new ≡ self.old }
+    {
+        let Some(seats) = self.seats else {
+            return false;
+        };
+        let seat = seats.guess(index);
+        if seat >= self.held.len() {
+            return false;
+        }
+        let Some(piece) = &mut self.held[seat] else {
+            return false;
+        };
+        piece.set(index, value)
+    }
+
+    // Puts a value at an index into the piece of the owner, if it has the index.
+    #[inline(never)]
+    fn set_searched(&mut self, index: Index, value: T) -> bool
+        ensures there { result ≡ is_some (held_at self.old index) }
+        ensures changes { self.new ≡ written_at index value self.old }
     {
         let owner = self.seat(index);
         let Some(piece) = &mut self.held[owner] else {

@@ -23,3 +23,4 @@ pub mod SizeLemmas
 pub mod MapLemmas
 pub mod AxesLemmas
 pub mod SameLemmas
+pub mod SteadyLemmas

@@ -3,6 +3,7 @@ pub mod Places
 pub mod Grids
 pub mod Maps
 pub mod Parts
+pub mod Boxes
 -- From here on: what serves contracts and proofs alone. How a part is cut, into how few domains and in what order they stand.
 pub mod Axes
 pub mod Cuts

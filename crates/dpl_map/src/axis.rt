@@ -1,6 +1,6 @@
 // One dimension of a map: by which rule its indices are dealt out over how many coordinates.
 
-ghost use Rattle.std.specs.Prelude.{◌≡◌, ◌≢◌, ◌↔◌, ◌+◌, ◌*◌, ◌^◌, ◌≤◌, ◌<◌, ◌≤ℤ◌, ◌-ℤ◌, IsTrue, ◌==◌, ◌&&◌, ℕ, ℤ, pos, neg_ℤ, int_le, filter, length, All};
+ghost use Rattle.std.specs.Prelude.{◌≡◌, ◌≢◌, ◌↔◌, ◌+◌, ◌*◌, ◌^◌, ◌≤◌, ◌<◌, ◌≤ℤ◌, ◌-ℤ◌, IsTrue, ◌==◌, ◌&&◌, ℕ, ℤ, pos, neg_ℤ, int_le, filter, length, All, Some};
 ghost use Rattle.std.specs.Prelude.{IfOk, []};
 ghost use Rattle.std.specs.Int.{int_div_euclid, int_rem_euclid};
 ghost use Rattle.dpl_range.specs.Range.{members_of, IsBound};
@@ -9,6 +9,7 @@ ghost use Rattle.dpl_map.specs.AxisFields.{IsAxis};
 ghost use Rattle.dpl_map.specs.Grids.{IsGridSize};
 ghost use Rattle.dpl_map.specs.Orders.{AreListed, rule_key};
 ghost use Rattle.dpl_map.specs.Axes.{IsSingle, owned_of};
+ghost use Rattle.dpl_map.specs.Boxes.{IsSteady};
 ghost use Rattle.dpl_map.specs.Counts.{AreFewRanges};
 ghost use Rattle.dpl_map.specs.Maps.{axis_coordinate, IsBoxed, Block, Cyclic, BlockCyclic};
 ghost use Rattle.dpl_map.specs.Places.{block_place, cyclic_place, block_cyclic_place};
@@ -202,12 +203,39 @@ impl Axis {
         }
     }
 
+    /// The box, as its low and its high bound, by the block rule. None by another one.
+    pub fn bounds(&self) -> Option<(i64, i64)>
+        ensures { (low high : ℤ) → (result ≡ Some (low, high)) ↔ (self.now.rule ≡ Block low high) }
+    {
+        let Rule::Block { low, high } = self.rule else {
+            return None;
+        };
+        Some((low, high))
+    }
+
+    /// Whether all integers between two have one coordinate, where that can be told by the two.
+    pub fn is_steady(&self, low: i64, high: i64) -> bool
+        ensures { IsTrue result → IsSteady self.now low high }
+    {
+        if self.extent == 1 {
+            return true;
+        }
+        match self.rule {
+            Rule::Block { .. } => self.coordinate(low) == self.coordinate(high),
+            Rule::Cyclic { .. } => false,
+            Rule::BlockCyclic { .. } => false,
+        }
+    }
+
     /// The coordinate of an index, which may be any number.
     pub fn coordinate(&self, i: i64) -> u32
         ensures coordinate { result ≡ axis_coordinate self.now i }
         ensures below { result < self.now.extent }
         ensures limits { IsAxis self.now }
     {
+        if self.extent == 1 {
+            return 0;
+        }
         match self.rule {
             Rule::Block { low, high } => block_place(low, high, self.extent, i),
             Rule::Cyclic { start } => cyclic_place(start, self.extent, i),

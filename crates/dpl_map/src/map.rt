@@ -1,12 +1,13 @@
 // Maps: who owns an index.
 
-ghost use Rattle.std.specs.Prelude.{◌≡◌, ◌≢◌, ◌*◌, ◌≤◌, ◌<◌, ◌↔◌, List, [], ℕ, ℤ, pos, Contains, length, All, IsTrue, IsOk, IfOk};
+ghost use Rattle.std.specs.Prelude.{◌≡◌, ◌≢◌, ◌*◌, ◌≤◌, ◌<◌, ◌↔◌, List, [], ℕ, ℤ, pos, Contains, length, slice_get, All, Some, IsTrue, IsOk, IfOk};
 ghost use Rattle.dpl_domain.specs.Indices.{indices, IsRank};
 ghost use Rattle.dpl_domain.specs.Ranks.{last_of, IsPadded};
 ghost use Rattle.dpl_range.specs.Range.{RangeValue, IsBound};
 ghost use Rattle.dpl_map.specs.AxisFields.{IsAxis};
 ghost use Rattle.dpl_map.specs.MapFields.{IsMap};
-ghost use Rattle.dpl_map.specs.Maps.{owner, locales, whole_map, cyclic_map, block_cyclic_map, IsBlocksize, IsBlockMap};
+ghost use Rattle.dpl_map.specs.Maps.{Block, owner, locales, whole_map, cyclic_map, block_cyclic_map, IsBlocksize, IsBlockMap};
+ghost use Rattle.dpl_map.specs.Boxes.{AreBetween};
 ghost use Rattle.dpl_map.specs.Parts.{part};
 
 use crate::Grid;
@@ -200,6 +201,16 @@ impl Map {
         self.axes.rank()
     }
 
+    /// The box that dimension `d`, counted from 0, deals out by the block rule, as its low and its high bound, and over how many
+    /// coordinates it is dealt out. None by another rule, and where the map has no such dimension.
+    pub fn boxed(&self, d: u32) -> Option<(i64, i64, u32)>
+        ensures { (low high : ℤ) (n : ℕ) → (result ≡ Some (low, high, n)) ↔ (slice_get self.now d ≡ Some (record { rule = Block low high; extent = n })) }
+    {
+        let axis = self.axes.get(d)?;
+        let (low, high) = axis.bounds()?;
+        Some((low, high, axis.extent()))
+    }
+
     /// How many locales the map has: those of its grid, or one. Each tuple is owned by one of them, so the parts of a
     /// domain have no tuple in common and together are the domain.
     pub fn locales(&self) -> u32
@@ -227,6 +238,24 @@ impl Map {
         let (x, y, z) = index.numbers();
         let row = outer.coordinate(x) * middle.extent() + middle.coordinate(y);
         row * inner.extent() + inner.coordinate(z)
+    }
+
+    /// Whether a locale owns all indices between two, which have the least and the greatest number of each dimension. It looks at
+    /// the two alone: where dimensions are dealt out by blocks or not at all it answers exactly, and else it may answer no
+    /// of a locale that owns them.
+    pub fn owns_between(&self, low: Index, high: Index, locale: u32) -> bool
+        ensures { IsTrue result → (t : List ℤ) → AreBetween low t high → owner self.now t ≡ locale }
+    {
+        if low.rank() != self.rank() {
+            return locale == 0;
+        }
+        let (outer, middle, inner) = self.axes();
+        let (x, y, z) = low.numbers();
+        let (u, v, w) = high.numbers();
+        if !outer.is_steady(x, u) || !middle.is_steady(y, v) || !inner.is_steady(z, w) {
+            return false;
+        }
+        self.owner(low) == locale
     }
 }
 

@@ -1,5 +1,5 @@
 -- The piece of the owner is written.
--- These are the answers to the goals of `Pieces::set`.
+-- These are the answers to the goals of `Pieces::set_searched`.
 use Rattle.std.proofs.Common.{◌≡◌, ap, sym, ◌∙◌, None, Some, map, slice_set, slice_index_or, ◌<◌, length, arith}
 use Rattle.std.specs.Option.{option_map}
 use Rattle.std.proofs.lemmas.List.{map-set, get_or_read}
@@ -9,7 +9,7 @@ use Rattle.dpl_array.specs.Elements.{with_value}
 use Rattle.dpl_array.specs.Arrays.{with_slot}
 use Rattle.dpl_array.specs.PiecesFields.{slot_of}
 use Rattle.dpl_array.proofs.HeldLemmas.{held-set, held-with, slot-at}
-use Rattle.dpl_array.proofs.pieces.Pieces.set.Goals as goal
+use Rattle.dpl_array.proofs.pieces.Pieces.set_searched.Goals as goal
 
 pub invariant_of-self-2 : goal.invariant_of-self-2
 invariant_of-self-2 g c =
