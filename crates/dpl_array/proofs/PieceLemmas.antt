@@ -10,13 +10,20 @@ use Rattle.dpl_map.specs.Parts.{part}
 use Rattle.dpl_array.specs.Elements.{Elements, value_at, with_value, keys_of, IsOver, filled, tabulated}
 use Rattle.dpl_array.specs.Arrays.{PieceValue}
 use Rattle.dpl_array.specs.PieceFields.{kept_at, IsKept}
-use Rattle.dpl_array.specs.Rows.{row_of, StandsIn}
+use Rattle.dpl_array.specs.Rows.{row_of, StandsIn, IsDistinct}
 use Rattle.dpl_array.proofs.DistinctLemmas.{row-one, tabulated-zip}
 use Rattle.dpl_array.proofs.ElementLemmas.{changed, zip-there, zip-absent, zip-some, zip-replicate, zip-set, tabulated-none, tabulated-there, tabulated-same, tabulated-filled, tabulated-over, with_value-tabulated}
 
 -- what a search for an index in the row of some domains answers
 abbrev pub Places : List (List RangeValue) → List ℤ → Option ℕ → Type 0
 Places ds t r = (k : ℕ) → (r ≡ Some k) ↔ (slice_get (row_of ds) k ≡ Some t)
+
+-- where an index stands at a place alone, a search answers that place
+pub places-alone : (ds : List (List RangeValue)) (t : List ℤ) (o : ℕ) → IsDistinct (row_of ds) → slice_get (row_of ds) o ≡ Some t → Places ds t (Some o)
+places-alone ds t o distinct found k = (
+  (λ is. ap (slice_get (row_of ds)) (sym (same_Some o k is)) ∙ found),
+  (λ there. ap Some (distinct o k t found there)),
+)
 
 module _ {T : Type 0} (domain : List RangeValue) (axes : List AxisValue) (locale : ℕ) (parts : List (List RangeValue)) (starts : List ℕ) (values : List T) (kept : IsKept domain axes locale parts starts (length values)) where
   -- there is a value for each index of the part

@@ -146,3 +146,10 @@ length-part ranges axes locale =
     let n = length-filter (λ t. owner axes t == locale) (indices ranges) in
     let le = count_by-le-length (λ t. owner axes t == locale) (indices ranges) in
     omega (arith, n, le)
+
+-- the row begins with the indices of the first domain
+pub row-first : (ds : List (List RangeValue)) (d : List RangeValue) → slice_get ds 0 ≡ Some d → (k : ℕ) (t : List ℤ) → slice_get (indices d) k ≡ Some t → slice_get (row_of ds) k ≡ Some t
+row-first [] d first k t found = absurd (none-some d first)
+row-first (e ∷ ds) d first k t found =
+    let here : slice_get (indices e) k ≡ Some t = ap (λ x. slice_get (indices x) k) (same_Some e d first) ∙ found in
+    slice_get-first (indices e) (row_of ds) k (slice_get_within (indices e) k t here) ∙ here

@@ -93,6 +93,14 @@ impl<T: Copy> DArray<T> {
         self.pieces.get(index)
     }
 
+    // The value at an index, where it is found without a search. It is short enough to stand in a loop.
+    #[inline(always)]
+    pub(crate) fn quick(&self, index: Index) -> Option<T>
+        ensures { IfSome result (λ v. value_at index self.now.elements ≡ Some v) }
+    {
+        self.pieces.guessed(index)
+    }
+
     /// Puts a value at an index, if the array has it. False if it hasn't, and then nothing is changed.
     pub fn set(&mut self, index: Index, value: T) -> bool
         ensures there { result ≡ is_some (value_at index self.old.elements) }

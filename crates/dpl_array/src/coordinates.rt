@@ -10,24 +10,36 @@ use dpl_domain::Index;
 
 impl<T: Copy> DArray<T> {
     /// The value at one coordinate, if the array is of rank 1 and has it.
+    #[inline]
     pub fn get_line(&self, i: i64) -> Option<T>
         ensures { result ≡ value_at (i ∷ []) self.now.elements }
     {
-        self.get(line(i))
+        if let Some(value) = self.quick(line(i)) {
+            return Some(value);
+        }
+        self.searched_line(i)
     }
 
     /// The value at two coordinates, if the array is of rank 2 and has them.
+    #[inline]
     pub fn get_plane(&self, i: i64, j: i64) -> Option<T>
         ensures { result ≡ value_at (i ∷ j ∷ []) self.now.elements }
     {
-        self.get(plane(i, j))
+        if let Some(value) = self.quick(plane(i, j)) {
+            return Some(value);
+        }
+        self.searched_plane(i, j)
     }
 
     /// The value at three coordinates, if the array is of rank 3 and has them.
+    #[inline]
     pub fn get_space(&self, i: i64, j: i64, k: i64) -> Option<T>
         ensures { result ≡ value_at (i ∷ j ∷ k ∷ []) self.now.elements }
     {
-        self.get(space(i, j, k))
+        if let Some(value) = self.quick(space(i, j, k)) {
+            return Some(value);
+        }
+        self.searched_space(i, j, k)
     }
 
     /// Puts a value at one coordinate. False if the array hasn't got it, and then nothing is changed.
@@ -55,6 +67,30 @@ impl<T: Copy> DArray<T> {
         ensures unchanged { result ≡ false → self.new ≡ self.old }
     {
         self.set(space(i, j, k), value)
+    }
+}
+
+// The same by a search. They stand apart, with plain numbers, so that no index is made for the ones above.
+impl<T: Copy> DArray<T> {
+    #[inline(never)]
+    fn searched_line(&self, i: i64) -> Option<T>
+        ensures { result ≡ value_at (i ∷ []) self.now.elements }
+    {
+        self.get(line(i))
+    }
+
+    #[inline(never)]
+    fn searched_plane(&self, i: i64, j: i64) -> Option<T>
+        ensures { result ≡ value_at (i ∷ j ∷ []) self.now.elements }
+    {
+        self.get(plane(i, j))
+    }
+
+    #[inline(never)]
+    fn searched_space(&self, i: i64, j: i64, k: i64) -> Option<T>
+        ensures { result ≡ value_at (i ∷ j ∷ k ∷ []) self.now.elements }
+    {
+        self.get(space(i, j, k))
     }
 }
 

@@ -1,13 +1,13 @@
 // A piece of an array: the elements that one locale owns, in one dense vector.
 // An element is found by the search of the map in the domains of the part; a value at each place of their row.
 
-ghost use Rattle.std.specs.Prelude.{◌≡◌, ◌≤◌, ◌^◌, Some, false, is_some, IfOk, length, replicate, slice_get};
+ghost use Rattle.std.specs.Prelude.{◌≡◌, ◌≤◌, ◌^◌, Some, false, is_some, IfOk, IfSome, length, replicate, slice_get};
 ghost use Rattle.dpl_domain.specs.Indices.{indices};
 ghost use Rattle.dpl_map.specs.Parts.{part};
 ghost use Rattle.dpl_array.specs.Elements.{value_at, filled, keys_of};
 ghost use Rattle.dpl_array.specs.Arrays.{IsPiece, piece_with};
 
-use crate::place::{each_once, place_in, starts_of};
+use crate::place::{each_once, place_alone, place_in, starts_of};
 use dpl_domain::{Domain, Index};
 use dpl_map::Map;
 use std::alloc::{AllocError, Global};
@@ -103,6 +103,15 @@ impl<T: Copy> Piece<T> {
         ensures { result ≡ value_at index self.now.elements }
     {
         let place = place_in(&self.map, &self.parts, &self.starts, index)?;
+        Some(self.values[place])
+    }
+
+    // The value at an index of a piece whose part is one domain, if it has the index. It is short enough to stand in a loop.
+    #[inline(always)]
+    pub(crate) fn quick(&self, index: Index) -> Option<T>
+        ensures { IfSome result (λ v. value_at index self.now.elements ≡ Some v) }
+    {
+        let place = place_alone(&self.parts, index)?;
         Some(self.values[place])
     }
 

@@ -22,7 +22,7 @@ pub struct Pieces<T> {
     domain: Domain,
     map: Map,
     held: Vec<Option<Piece<T>>>,
-    seats: Option<Seats>,
+    seats: Seats,
 }
 
 impl<T> Model for Pieces<T> {
@@ -146,7 +146,6 @@ impl<T: Copy> Pieces<T> {
     }
 
     // What the pieces hold at an index.
-    #[inline]
     pub(crate) fn get(&self, index: Index) -> Option<T>
         ensures { result ≡ held_at self.now index }
     {
@@ -157,16 +156,15 @@ impl<T: Copy> Pieces<T> {
     }
 
     // What the piece that stands where the owner's seems to stand holds at an index.
-    #[inline]
-    fn guessed(&self, index: Index) -> Option<T>
+    #[inline(always)]
+    pub(crate) fn guessed(&self, index: Index) -> Option<T>
         ensures { IfSome result (λ v. held_at self.now index ≡ Some v) }
     {
-        let seat = self.seats?.guess(index);
-        self.held.get(seat)?.as_ref()?.get(index)
+        let seat = self.seats.guess(index);
+        self.held.get(seat)?.as_ref()?.quick(index)
     }
 
     // What the piece of the owner holds at an index.
-    #[inline(never)]
     fn searched(&self, index: Index) -> Option<T>
         ensures { result ≡ held_at self.now index }
     {
@@ -175,7 +173,6 @@ impl<T: Copy> Pieces<T> {
     }
 
     // Puts a value at an index, if the pieces have it.
-    #[inline]
     pub(crate) fn set(&mut self, index: Index, value: T) -> bool
         ensures there { result ≡ is_some (held_at self.old index) }
         ensures changes { self.new ≡ written_at index value self.old }
@@ -187,16 +184,12 @@ impl<T: Copy> Pieces<T> {
     }
 
     // Puts a value at an index into the piece that stands where the owner's seems to stand, if it has the index.
-    #[inline]
     fn set_guessed(&mut self, index: Index, value: T) -> bool
         ensures there { result ≡ true → is_some (held_at self.old index) ≡ true }
         ensures changes { result ≡ true → self.new ≡ written_at index value self.old }
         ensures unchanged { result ≡ false → self.new ≡ self.old }
     {
-        let Some(seats) = self.seats else {
-            return false;
-        };
-        let seat = seats.guess(index);
+        let seat = self.seats.guess(index);
         if seat >= self.held.len() {
             return false;
         }
@@ -207,7 +200,6 @@ impl<T: Copy> Pieces<T> {
     }
 
     // Puts a value at an index into the piece of the owner, if it has the index.
-    #[inline(never)]
     fn set_searched(&mut self, index: Index, value: T) -> bool
         ensures there { result ≡ is_some (held_at self.old index) }
         ensures changes { self.new ≡ written_at index value self.old }

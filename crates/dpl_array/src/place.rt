@@ -1,7 +1,7 @@
 // Where an index stands in the row of a part's domains.
 // The row has the indices of the first domain, then those of the second, and so on; each domain has its start.
 
-ghost use Rattle.std.specs.Prelude.{◌≡◌, ◌≤◌, ◌^◌, ◌↔◌, ℕ, Some, IfOk, slice_get, length};
+ghost use Rattle.std.specs.Prelude.{◌≡◌, ◌≤◌, ◌^◌, ◌↔◌, ℕ, Some, IfOk, IfSome, slice_get, length};
 ghost use Rattle.dpl_map.specs.Orders.{ArePart};
 ghost use Rattle.dpl_domain.specs.Indices.{indices};
 ghost use Rattle.dpl_array.specs.Rows.{row_of, AreStarts, IsDistinct};
@@ -31,6 +31,17 @@ pub(crate) fn place_in(map: &Map, parts: &[Domain], starts: &[usize], index: Ind
     }
     let (number, place) = map.find(parts, index)?;
     Some(starts[number] + place as usize)
+}
+
+/// The place of an index in the row of a part that is one domain, if that one has it. None where there are more.
+#[inline(always)]
+pub(crate) fn place_alone(parts: &[Domain], index: Index) -> Option<usize>
+    ensures { IfSome result (λ k. slice_get (row_of parts.now) k ≡ Some index) }
+{
+    let [part] = parts else {
+        return None;
+    };
+    Some(part.place(index)? as usize)
 }
 
 /// Where the indices of each domain begin in the row of a part's domains, and how long the row is.

@@ -24,18 +24,20 @@ pub(crate) struct Seats {
 }
 
 impl Blocks {
-    // The blocks of the dimension of a map that stands this many places before the end of its dimensions, if it is dealt out by the
-    // block rule. One that the map doesn't have is one block.
-    fn of(map: &Map, behind: u32) -> Option<Blocks> {
-        let rank = map.rank();
-        if rank < behind {
-            return Some(Blocks {
-                low: 0,
-                factor: 0,
-                extent: 1,
-            });
-        }
-        let (low, high, extent) = map.boxed(rank - behind)?;
+    // The blocks of the dimension of a map that stands this many places before the end of its dimensions. One that isn't dealt out by
+    // the block rule counts as one block.
+    fn of(map: &Map, behind: u32) -> Blocks {
+        Blocks::known(map, behind).unwrap_or(Blocks {
+            low: 0,
+            factor: 0,
+            extent: 1,
+        })
+    }
+
+    // The same, where the map has such a dimension and deals it out by the block rule.
+    fn known(map: &Map, behind: u32) -> Option<Blocks> {
+        let dimension = map.rank().checked_sub(behind)?;
+        let (low, high, extent) = map.boxed(dimension)?;
         let size = high.wrapping_sub(low).cast_unsigned().saturating_add(1);
         let whole = (extent as u64).wrapping_shl(SHIFT);
         Some(Blocks {
@@ -60,13 +62,13 @@ impl Blocks {
 }
 
 impl Seats {
-    /// The blocks of a map all of whose dimensions are dealt out by the block rule.
-    pub(crate) fn of(map: &Map) -> Option<Seats> {
-        Some(Seats {
-            outer: Blocks::of(map, 3)?,
-            middle: Blocks::of(map, 2)?,
-            inner: Blocks::of(map, 1)?,
-        })
+    /// The blocks of a map.
+    pub(crate) fn of(map: &Map) -> Seats {
+        Seats {
+            outer: Blocks::of(map, 3),
+            middle: Blocks::of(map, 2),
+            inner: Blocks::of(map, 1),
+        }
     }
 
     // The number of the locale that seems to own an index.

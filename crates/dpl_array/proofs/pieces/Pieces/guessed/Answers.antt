@@ -2,18 +2,19 @@
 -- These are the answers to the goals of `Pieces::guessed`.
 use Rattle.std.proofs.Common.{◌≡◌, ap, sym, ◌∙◌, Option, None, Some, IfSome, slice_index_or, refl}
 use Rattle.dpl_array.specs.Arrays.{held_at}
+use Rattle.dpl_array.specs.Elements.{value_at}
 use Rattle.dpl_array.proofs.HeldLemmas.{held-guessed}
 use Rattle.dpl_array.proofs.pieces.Pieces.guessed.Goals as goal
 
 pub returns : goal.returns
-returns g c = by c.get-2.result refl
+returns g c = by c.quick.result c.quick.ensures
   where
     there : slice_index_or c.self.inside.held.items c.guess-seat.result None ≡ Some c.in_ok-as_ref.field-0.now
     there = ap (λ os. slice_index_or os c.guess-seat.result None) (sym c.deref.ensures.value) ∙ sym (c.in_ok-get.ensures.lookup.3.1 None) ∙ sym c.in_ok-as_ref.ensures.value
 
-    by : (o : Option g.row.T.Denot) → c.get-2.result ≡ o → IfSome o (λ v. held_at c.args.self.now c.args.index ≡ Some v)
-    by None e = tt
-    by (Some v) e =
+    by : (o : Option g.row.T.Denot) → IfSome o (λ v. value_at c.args.index c.in_ok-as_ref.field-0.now.elements ≡ Some v) → IfSome o (λ v. held_at c.args.self.now c.args.index ≡ Some v)
+    by None some = tt
+    by (Some v) some =
         let p = c.self.inside in
         ap (λ ps. held_at ps c.args.index) (sym c.self.view_is)
-        ∙ held-guessed p.domain p.map p.held.items c.self.invariant c.guess-seat.result c.in_ok-as_ref.field-0.now there c.args.index v (sym c.get-2.ensures ∙ e)
+        ∙ held-guessed p.domain p.map p.held.items c.self.invariant c.guess-seat.result c.in_ok-as_ref.field-0.now there c.args.index v some

@@ -15,27 +15,27 @@ invariant_of-self-2 g c =
     let p = c.self.inside in
     let o = c.guess-seat.result in
     let within : o < length p.held.items = omega arith in
-    let there = sym (get_or_read p.held.items o c.index_mut.result.now within c.index_mut.ensures.value None) ∙ c.in-Some-index_mut.is in
+    let there = sym (get_or_read p.held.items o c.index_mut.result.now within c.index_mut.ensures.value None) ∙ c.in-Some.is in
     held-set p.domain p.map p.held.items c.self.invariant o (Some c.set.new.self)
-    (λ q is. held-with p.domain p.map p.held.items c.self.invariant o c.in-Some-index_mut.piece there c.args.index c.args.value q (sym (same_Some c.set.new.self q is) ∙ c.set.ensures.changes))
+    (λ q is. held-with p.domain p.map p.held.items c.self.invariant o c.in-Some.piece there c.args.index c.args.value q (sym (same_Some c.set.new.self q is) ∙ c.set.ensures.changes))
 
 pub returns-clause-there : goal.returns-clause-there
 returns-clause-there g c = λ yes.
     let p = c.self.inside in
     let o = c.guess-seat.result in
     let within : o < length p.held.items = omega arith in
-    let there = sym (get_or_read p.held.items o c.index_mut.result.now within c.index_mut.ensures.value None) ∙ c.in-Some-index_mut.is in
-    let some = some-of (value_at c.args.index c.in-Some-index_mut.piece.elements) (sym c.set.ensures.there ∙ yes) in
+    let there = sym (get_or_read p.held.items o c.index_mut.result.now within c.index_mut.ensures.value None) ∙ c.in-Some.is in
+    let some = some-of (value_at c.args.index c.in-Some.piece.elements) (sym c.set.ensures.there ∙ yes) in
     ap (λ ps. is_some (held_at ps c.args.index)) (sym c.self.view_is)
-    ∙ ap is_some (held-guessed p.domain p.map p.held.items c.self.invariant o c.in-Some-index_mut.piece there c.args.index some.0 some.1)
+    ∙ ap is_some (held-guessed p.domain p.map p.held.items c.self.invariant o c.in-Some.piece there c.args.index some.0 some.1)
 
 pub returns-clause-changes : goal.returns-clause-changes
 returns-clause-changes g c = λ yes.
     let p = c.self.inside in
     let o = c.guess-seat.result in
     let within : o < length p.held.items = omega arith in
-    let there = sym (get_or_read p.held.items o c.index_mut.result.now within c.index_mut.ensures.value None) ∙ c.in-Some-index_mut.is in
-    held-written p.domain p.map p.held.items c.self.invariant o c.in-Some-index_mut.piece c.set.new.self there c.args.index c.args.value (sym c.set.ensures.there ∙ yes) c.set.ensures.changes
+    let there = sym (get_or_read p.held.items o c.index_mut.result.now within c.index_mut.ensures.value None) ∙ c.in-Some.is in
+    held-written p.domain p.map p.held.items c.self.invariant o c.in-Some.piece c.set.new.self there c.args.index c.args.value (sym c.set.ensures.there ∙ yes) c.set.ensures.changes
     ∙ ap (written_at c.args.index c.args.value) c.self.view_is
 
 pub returns-clause-unchanged : goal.returns-clause-unchanged
@@ -43,6 +43,6 @@ returns-clause-unchanged g c = λ no.
     let p = c.self.inside in
     let o = c.guess-seat.result in
     let within : o < length p.held.items = omega arith in
-    let there = sym (get_or_read p.held.items o c.index_mut.result.now within c.index_mut.ensures.value None) ∙ c.in-Some-index_mut.is in
-    ap (λ os. record { domain = p.domain; map = p.map; slots = map slot_of os }) (held-unwritten p.domain p.map p.held.items c.self.invariant o c.in-Some-index_mut.piece c.set.new.self there (c.set.ensures.unchanged no))
+    let there = sym (get_or_read p.held.items o c.index_mut.result.now within c.index_mut.ensures.value None) ∙ c.in-Some.is in
+    ap (λ os. record { domain = p.domain; map = p.map; slots = map slot_of os }) (held-unwritten p.domain p.map p.held.items c.self.invariant o c.in-Some.piece c.set.new.self there (c.set.ensures.unchanged no))
     ∙ c.self.view_is
