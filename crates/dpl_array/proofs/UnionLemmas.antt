@@ -30,7 +30,7 @@ listed-by (x ∷ xs) f a (suc n) long each =
     next : (k : ℕ) → a + suc k ≡ (a + 1) + k
     next k = omega arith
 
-stands-filter : {X : Type 0} (p : X → Bool) (xs : List X) (x : X) → p x ≡ true → StandsIn xs x → StandsIn (filter p xs) x
+pub stands-filter : {X : Type 0} (p : X → Bool) (xs : List X) (x : X) → p x ≡ true → StandsIn xs x → StandsIn (filter p xs) x
 stands-filter p [] x passes at = absurd (none-some x at.1)
 stands-filter p (y ∷ xs) x passes (zero, found) =
     let here : p y ≡ true = ap p (same_Some y x found) ∙ passes in
@@ -58,7 +58,7 @@ pub filled-part : {T : Type 0} (ranges : List RangeValue) (axes : List AxisValue
 unfolding part
 filled-part ranges axes l v = refl
 
-filter-test : {X : Type 0} (p : X → Bool) (xs : List X) (j : ℕ) (x : X) → slice_get (filter p xs) j ≡ Some x → p x ≡ true
+pub filter-test : {X : Type 0} (p : X → Bool) (xs : List X) (j : ℕ) (x : X) → slice_get (filter p xs) j ≡ Some x → p x ≡ true
 filter-test p [] j x found = absurd (none-some x found)
 filter-test p (y ∷ xs) j x found = by (p y) refl j found (filter-test p xs)
   where

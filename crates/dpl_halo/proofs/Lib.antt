@@ -6,3 +6,5 @@ pub mod GatherLemmas
 pub mod ReadLemmas
 pub mod SettleLemmas
 mod Worked
+mod TurnLemmas
+mod ReachLemmas

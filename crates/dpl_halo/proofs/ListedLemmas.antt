@@ -39,16 +39,20 @@ stands-cases ts t =
     (λ no. inr (λ at. absurd (let e : true ≡ false = sym (stands-listed ts t at) ∙ no in cc)))
     (cases_Bool (is_listed ts t))
 
--- two lists with the same indices pass the same test
-pub listed-same : (ts us : List (List ℤ)) → ((t : List ℤ) → StandsIn ts t → StandsIn us t) → ((t : List ℤ) → StandsIn us t → StandsIn ts t) → (t : List ℤ) → is_listed ts t ≡ is_listed us t
-listed-same ts us into back t =
+-- two lists with an index, or without it, pass the same test
+pub listed-alike : (ts us : List (List ℤ)) (t : List ℤ) → (StandsIn ts t → StandsIn us t) → (StandsIn us t → StandsIn ts t) → is_listed ts t ≡ is_listed us t
+listed-alike ts us t into back =
     ⊎_elim
-    (λ (at : StandsIn ts t). stands-listed ts t at ∙ sym (stands-listed us t (into t at)))
-    (λ (none : StandsIn ts t → ⊥). not-listed ts t none ∙ sym (not-listed us t (λ at. none (back t at))))
+    (λ (at : StandsIn ts t). stands-listed ts t at ∙ sym (stands-listed us t (into at)))
+    (λ (none : StandsIn ts t → ⊥). not-listed ts t none ∙ sym (not-listed us t (λ at. none (back at))))
     (stands-cases ts t)
   where
     not-listed : (ss : List (List ℤ)) (s : List ℤ) → (StandsIn ss s → ⊥) → is_listed ss s ≡ false
     not-listed ss s none = ⊎_elim (λ yes. absurd (none (listed-stands ss s yes))) (λ no. no) (cases_Bool (is_listed ss s))
+
+-- two lists with the same indices
+pub listed-same : (ts us : List (List ℤ)) → ((t : List ℤ) → StandsIn ts t → StandsIn us t) → ((t : List ℤ) → StandsIn us t → StandsIn ts t) → (t : List ℤ) → is_listed ts t ≡ is_listed us t
+listed-same ts us into back t = listed-alike ts us t (into t) (back t)
 
 -- one index more
 pub listed-push : (ts : List (List ℤ)) (u t : List ℤ) → is_listed (ts ++ u ∷ []) t ≡ (is_listed ts t || same_index t u)

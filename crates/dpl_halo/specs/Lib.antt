@@ -5,5 +5,6 @@ pub mod Shifts
 pub mod Halos
 pub mod Loans
 -- From here on: what serves contracts and proofs alone. How elements are gathered and kept.
+pub mod Turns
 pub mod Gathering
 pub mod GatheredFields

@@ -6,6 +6,7 @@ mod gathered;
 mod halo;
 mod loan;
 mod shift;
+mod turns;
 
 pub use dpl_map::NoMemory;
 pub use halo::Halo;

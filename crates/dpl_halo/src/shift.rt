@@ -1,10 +1,11 @@
 // Shifted reads: which index of an array a turn of a loop reads.
 // Each coordinate of the index is one of the turn's, with a constant added to it.
 
-ghost use Rattle.std.specs.Prelude.{◌≡◌, ◌↔◌, ◌+ℤ◌, pos, [], ◌∷◌, slice_index_or, IsSome, IfSome};
+ghost use Rattle.std.specs.Prelude.{◌≡◌, ◌↔◌, ◌+ℤ◌, pos, [], ◌∷◌, slice_index_or, IsTrue, IsSome, IfSome, FitsSigned};
 ghost use Rattle.std.specs.Int.{w64, int_wrap};
 ghost use Rattle.dpl_domain.specs.Indices.{IsRank};
 ghost use Rattle.dpl_halo.specs.Shifts.{moved, shifted};
+ghost use Rattle.dpl_halo.specs.Turns.{KeepsStep, KeepsShift};
 
 use dpl_domain::{Dimensions, Index, Unused};
 use std::marker::Model;
@@ -76,6 +77,29 @@ impl Shift {
             _ => space(outer.of(turn), middle.of(turn), inner.of(turn)),
         }
     }
+
+    /// Whether what lies between two turns is read between what these two read, where that can be told: no sum wraps.
+    pub(crate) fn keeps(&self, low: Index, high: Index) -> bool
+        ensures { IsTrue result → KeepsShift self.now low high }
+    {
+        let (outer, middle, inner) = self.steps.places();
+        if !outer.keeps(low, high) {
+            return false;
+        }
+        if !middle.keeps(low, high) {
+            return false;
+        }
+        inner.keeps(low, high)
+    }
+
+    // What is added to coordinate `d` of a turn for coordinate `k` of the index, if that one is made of it.
+    pub(crate) fn constant(&self, k: u32, d: u32) -> Option<i64> {
+        let step = self.steps.get(k)?;
+        if step.position != d {
+            return None;
+        }
+        Some(step.constant)
+    }
 }
 
 impl Step {
@@ -85,6 +109,23 @@ impl Step {
     {
         sum(coordinate(turn, self.position), self.constant)
     }
+
+    // Whether no sum wraps between two turns.
+    fn keeps(&self, low: Index, high: Index) -> bool
+        ensures { IsTrue result → KeepsStep self.now low high }
+    {
+        if !fits(coordinate(low, self.position), self.constant) {
+            return false;
+        }
+        fits(coordinate(high, self.position), self.constant)
+    }
+}
+
+// Whether a sum doesn't wrap.
+fn fits(a: i64, b: i64) -> bool
+    ensures { IsTrue result → FitsSigned w64 (a +ℤ b) }
+{
+    a.checked_add(b).is_some()
 }
 
 // The coordinate at a position, or 0 where the index has fewer.
@@ -102,21 +143,21 @@ fn sum(a: i64, b: i64) -> i64
 }
 
 // The index with one coordinate.
-fn line(i: i64) -> Index
+pub(crate) fn line(i: i64) -> Index
     ensures { result ≡ i ∷ [] }
 {
     Index::new(&[i]).unwrap()
 }
 
 // The index with two coordinates.
-fn plane(i: i64, j: i64) -> Index
+pub(crate) fn plane(i: i64, j: i64) -> Index
     ensures { result ≡ i ∷ j ∷ [] }
 {
     Index::new(&[i, j]).unwrap()
 }
 
 // The index with three coordinates.
-fn space(i: i64, j: i64, k: i64) -> Index
+pub(crate) fn space(i: i64, j: i64, k: i64) -> Index
     ensures { result ≡ i ∷ j ∷ k ∷ [] }
 {
     Index::new(&[i, j, k]).unwrap()
