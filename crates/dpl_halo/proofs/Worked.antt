@@ -67,6 +67,30 @@ backwards : map (λ l. remote (filled_array {T = ℕ} (line (pos 1) (pos 10) (ne
 unfolding int_wrap indices members owner part cyclic_place step line range at
 backwards = refl
 
+-- `A[i-3]` and `A[i+3]`
+far_neighbours : List (List Step)
+far_neighbours = (step 0 (negsuc 2) ∷ []) ∷ (step 0 (pos 3) ∷ []) ∷ []
+
+sixteen_by_blocks : List AxisValue
+sixteen_by_blocks = record { rule = Block (pos 1) (pos 16); extent = 4 } ∷ []
+
+-- over `1..16 by 3` in blocks over four places, which have 1 and 4, 7, 10, and 13 and 16: -2 and 19 are none of it
+strided_by_blocks :
+    map (λ l. remote (filled_array {T = ℕ} (line (pos 1) (pos 16) (pos 3)) sixteen_by_blocks 7) (line (pos 1) (pos 16) (pos 3)) sixteen_by_blocks l far_neighbours) (0 ∷ 1 ∷ 2 ∷ 3 ∷ [])
+    ≡ ((at (pos 7), 7) ∷ []) ∷ ((at (pos 4), 7) ∷ (at (pos 10), 7) ∷ []) ∷ ((at (pos 7), 7) ∷ (at (pos 13), 7) ∷ []) ∷ ((at (pos 10), 7) ∷ []) ∷ []
+unfolding int_wrap indices members owner part block_place sixteen_by_blocks far_neighbours step line range at
+strided_by_blocks = refl
+
+ten_by_blocks : List AxisValue
+ten_by_blocks = record { rule = Block (pos 1) (pos 10); extent = 2 } ∷ []
+
+-- over `1..10 by -3` in blocks over two places, which have 4 and 1, and 10 and 7
+backwards_by_blocks :
+    map (λ l. remote (filled_array {T = ℕ} (line (pos 1) (pos 10) (negsuc 2)) ten_by_blocks 7) (line (pos 1) (pos 10) (negsuc 2)) ten_by_blocks l far_neighbours) (0 ∷ 1 ∷ [])
+    ≡ ((at (pos 7), 7) ∷ []) ∷ ((at (pos 4), 7) ∷ []) ∷ []
+unfolding int_wrap indices members owner part block_place ten_by_blocks far_neighbours step line range at
+backwards_by_blocks = refl
+
 -- 64 places with three elements: the last has no turn
 many : map (λ l. length (remote (filled_array {T = ℕ} (line (pos 1) (pos 3) (pos 1)) (cyclic_map (pos 1 ∷ []) (64 ∷ [])) 7) (line (pos 1) (pos 3) (pos 1)) (cyclic_map (pos 1 ∷ []) (64 ∷ [])) l neighbours)) (0 ∷ 1 ∷ 63 ∷ []) ≡ 1 ∷ 2 ∷ 0 ∷ []
 unfolding int_wrap indices members owner part cyclic_place neighbours step line range

@@ -47,14 +47,17 @@ fn squares(rt: &impl Abort, alloc: Global, domain: Domain, map: Map) -> Result<D
     Ok(array)
 }
 
+// The halo of the reads before and behind a turn, by a distance.
 fn collect(
     rt: &impl Abort,
     alloc: Global,
     array: &DArray<i64>,
     turns: &Domain,
     locale: u32,
+    distance: i64,
 ) -> Halo<i64> {
-    let shifts = [shift(rt, -1), shift(rt, 1), shift(rt, -1)];
+    let back = shift(rt, distance.wrapping_neg());
+    let shifts = [back, shift(rt, distance), back];
     let Ok(halo) = Halo::collect(alloc, array, turns, &array.map(), locale, &shifts) else {
         panic!(rt; "there is memory for the halo")
     };
@@ -78,7 +81,7 @@ fn halos(rt: HostRuntime) -> Result<(), Fail> {
     for (map, counts) in rows {
         let array = squares(&rt, alloc, domain, map)?;
         for (locale, count) in counts.iter().enumerate() {
-            let halo = collect(&rt, alloc, &array, &line(2, 7, 1)?, locale as u32);
+            let halo = collect(&rt, alloc, &array, &line(2, 7, 1)?, locale as u32, 1);
             assert_eq!(&rt; halo.len(), *count);
             for i in 0..10i64 {
                 let index = at(&rt, i);
@@ -87,6 +90,26 @@ fn halos(rt: HostRuntime) -> Result<(), Fail> {
                     assert!(&rt; map.owner(index) != locale as u32);
                 }
             }
+        }
+    }
+    Ok(())
+}
+
+// Halos by blocks of domains with a stride, upwards and downwards.
+#[test]
+fn strided_halos(rt: HostRuntime) -> Result<(), Fail> {
+    let alloc = rt.alloc();
+    let rows: [(Domain, u32, &[usize]); 3] = [
+        (line(1, 16, 3)?, 4, &[1, 2, 2, 1]),
+        (line(1, 10, -3)?, 2, &[1, 1]),
+        (line(-300, 300, 3)?, 3, &[1, 2, 1]),
+    ];
+    for (domain, locales, counts) in rows {
+        let map = Map::block(&domain, Grid::new(&[locales])?)?;
+        let array = squares(&rt, alloc, domain, map)?;
+        for (locale, count) in counts.iter().enumerate() {
+            let halo = collect(&rt, alloc, &array, &domain, locale as u32, 3);
+            assert_eq!(&rt; halo.len(), *count);
         }
     }
     Ok(())
