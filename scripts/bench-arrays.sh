@@ -14,17 +14,17 @@ for _ in $(seq "$rounds"); do
 done | awk '
     # both programs print two numbers a case: the time of a read, and which values were read
     {
-        for (m = 0; m < 9; m++) {
-            ours = $(2 * m + 1); slice = $(18 + 2 * m + 1)
+        for (m = 0; m < 13; m++) {
+            ours = $(2 * m + 1); slice = $(26 + 2 * m + 1)
             if (NR == 1 || ours < best[m]) best[m] = ours
             if (NR == 1 || slice < plain[m]) plain[m] = slice
-            if ($(2 * m + 2) "" != $(18 + 2 * m + 2) "") differ = 1
+            if ($(2 * m + 2) "" != $(26 + 2 * m + 2) "") differ = 1
         }
     }
     END {
         if (differ) { print "the two programs read different values"; exit 1 }
-        split("get_line, whole;get_line, piece by block;get_line, by block;walk, whole;walk, by block;walk, piece by block;get_plane, whole;get_plane, piece by block;get_plane, by block", name, ";")
+        split("get_line, whole;get_line, piece by block;get_line, by block;walk, whole;walk, by block;walk, piece by block;reader, rank 1, whole;reader, rank 1, by block;get_plane, whole;get_plane, piece by block;get_plane, by block;reader, rank 2, whole;reader, rank 2, by block", name, ";")
         printf "%-28s %8s %8s %8s\n", "ns, best of " NR " rounds", "array", "vector", "more"
-        for (m = 0; m < 9; m++)
+        for (m = 0; m < 13; m++)
             printf "%-28s %8.2f %8.2f %8.2f\n", name[m + 1], best[m] / 1000, plain[m] / 1000, (best[m] - plain[m]) / 1000
     }'

@@ -47,8 +47,12 @@ fn main() {
     timed(|| whole(&all));
     timed(|| whole(&all));
     timed(|| own(&part));
+    timed(|| whole(&all));
+    timed(|| whole(&all));
     timed(|| plane(black_box(&all), black_box(1), black_box(1_000), black_box(1), black_box(1_001), ROUNDS));
     timed(|| plane(black_box(&quarter), black_box(501), black_box(500), black_box(501), black_box(1_001), ROUNDS * 4));
+    timed(|| plane(black_box(&all), black_box(1), black_box(1_000), black_box(1), black_box(1_001), ROUNDS));
+    timed(|| plane(black_box(&all), black_box(1), black_box(1_000), black_box(1), black_box(1_001), ROUNDS));
     timed(|| plane(black_box(&all), black_box(1), black_box(1_000), black_box(1), black_box(1_001), ROUNDS));
     println!();
 }

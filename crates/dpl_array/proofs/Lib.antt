@@ -9,3 +9,4 @@ pub mod HeldLemmas
 pub mod SameLemmas
 mod Worked
 pub mod WalkLemmas
+pub mod ReaderLemmas

@@ -120,7 +120,7 @@ other-test m n other = by (m == n) refl
     by true is = absurd (other (eqb-true m n is))
     by false is = refl
 
-keys-owned : {T : Type 0} (axes : List AxisValue) (l : ℕ) (es : Elements T) → keys_of (owned axes l es) ≡ filter (λ t. owner axes t == l) (keys_of es)
+pub keys-owned : {T : Type 0} (axes : List AxisValue) (l : ℕ) (es : Elements T) → keys_of (owned axes l es) ≡ filter (λ t. owner axes t == l) (keys_of es)
 keys-owned axes l [] = refl
 keys-owned axes l (e ∷ es) = by (owner axes e.0 == l) (keys-owned axes l es)
   where
@@ -129,7 +129,7 @@ keys-owned axes l (e ∷ es) = by (owner axes e.0 == l) (keys-owned axes l es)
     by false rest = rest
 
 -- an owner's elements hold what all of them hold at an index that it owns
-value-owned : {T : Type 0} (axes : List AxisValue) (t : List ℤ) (es : Elements T) → value_at t (owned axes (owner axes t) es) ≡ value_at t es
+pub value-owned : {T : Type 0} (axes : List AxisValue) (t : List ℤ) (es : Elements T) → value_at t (owned axes (owner axes t) es) ≡ value_at t es
 value-owned axes t [] = refl
 value-owned axes t (e ∷ es) = by (owner axes e.0 == owner axes t) refl (index-cases t e.0) (value-owned axes t es)
   where

@@ -8,3 +8,4 @@ pub mod Rows
 pub mod PieceFields
 pub mod PiecesFields
 pub mod WalkFields
+pub mod ReaderFields

@@ -145,21 +145,21 @@ impl<T: Copy> Piece<T> {
 }
 
 // The index with one coordinate.
-fn line(i: i64) -> Index
+pub(crate) fn line(i: i64) -> Index
     ensures { result ≡ i ∷ [] }
 {
     Index::new(&[i]).unwrap()
 }
 
 // The index with two coordinates.
-fn plane(i: i64, j: i64) -> Index
+pub(crate) fn plane(i: i64, j: i64) -> Index
     ensures { result ≡ i ∷ j ∷ [] }
 {
     Index::new(&[i, j]).unwrap()
 }
 
 // The index with three coordinates.
-fn space(i: i64, j: i64, k: i64) -> Index
+pub(crate) fn space(i: i64, j: i64, k: i64) -> Index
     ensures { result ≡ i ∷ j ∷ k ∷ [] }
 {
     Index::new(&[i, j, k]).unwrap()

@@ -8,6 +8,7 @@ mod piece;
 mod piece_walk;
 mod pieces;
 mod place;
+mod reader;
 mod redomain;
 mod row;
 mod same;
@@ -18,6 +19,7 @@ pub use array::{ArrayFault, DArray};
 pub use piece::Piece;
 pub use piece_walk::PieceWalk;
 pub use pieces::Pieces;
+pub use reader::Reader;
 pub use walk::Walk;
 
 #[cfg(test)]
