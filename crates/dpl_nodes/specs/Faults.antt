@@ -1,0 +1,45 @@
+-- The faults that words stand for, and what a walk hands back.
+use Rattle.std.specs.Prelude.{◌≡◌, ℕ, zero, suc, ℤ, Bool, Result, Ok, Err}
+use Rattle.dpl_range.specs.Equality.{TextRange}
+use Rattle.dpl_language.specs.Values.{Value, Int, Truth, Range, FaultCode, Outside, ZeroDivisor, PastLimit, EmptyEnd, Budget, NoLocale, CellStuck, ArrayTooLarge, Fault}
+use Rattle.dpl_nodes.specs.declared.fault.FaultCode.{FaultCode as CodeNode}
+use Rattle.dpl_nodes.specs.declared.fault.FaultCode.TheVariants as code
+use Rattle.dpl_nodes.specs.declared.frame.RangeWord.{RangeWord}
+
+abbrev pub code_view : CodeNode → FaultCode
+code_view code.Outside = Outside
+code_view code.ZeroDivisor = ZeroDivisor
+code_view code.PastLimit = PastLimit
+code_view code.EmptyEnd = EmptyEnd
+code_view code.Budget = Budget
+code_view code.NoLocale = NoLocale
+code_view code.CellStuck = CellStuck
+code_view code.ArrayTooLarge = ArrayTooLarge
+
+-- the code that a number stands for
+abbrev pub code_of : ℕ → FaultCode
+code_of zero = Outside
+code_of (suc zero) = ZeroDivisor
+code_of (suc (suc zero)) = PastLimit
+code_of (suc (suc (suc zero))) = EmptyEnd
+code_of (suc (suc (suc (suc zero)))) = Budget
+code_of (suc (suc (suc (suc (suc zero))))) = NoLocale
+code_of (suc (suc (suc (suc (suc (suc zero)))))) = CellStuck
+code_of (suc (suc (suc (suc (suc (suc (suc n))))))) = ArrayTooLarge
+
+-- a range as a value
+abbrev pub range_word : RangeWord → TextRange
+range_word r = record { value = r.range; strided = r.strided }
+
+-- an int, a truth value, a range, or a fault
+abbrev pub of_int : Result ℤ Fault → Result Value Fault
+of_int (Ok n) = Ok (Int n)
+of_int (Err f) = Err f
+
+abbrev pub of_truth : Result Bool Fault → Result Value Fault
+of_truth (Ok b) = Ok (Truth b)
+of_truth (Err f) = Err f
+
+abbrev pub of_range : Result RangeWord Fault → Result Value Fault
+of_range (Ok r) = Ok (Range (range_word r))
+of_range (Err f) = Err f

@@ -1,0 +1,4 @@
+-- The plain trees that typed trees stand for; and what serves contracts alone.
+pub mod Typed
+pub mod Faults
+pub mod Frames

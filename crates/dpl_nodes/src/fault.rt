@@ -1,0 +1,148 @@
+// What a walk hands back beside a value: a fault in one word, and a truth value in one word.
+// Results of one word and one tag stay in registers.
+
+ghost use Rattle.std.specs.Prelude.{◌≡◌, ◌<◌, ◌^◌, ◌/◌, ◌%◌, IfSome, IsSome};
+ghost use Rattle.dpl_syntax.specs.declared.place.Place.{Place as PlaceNode};
+ghost use Rattle.dpl_language.specs.Values.{fault};
+ghost use Rattle.dpl_nodes.specs.Faults.{code_view, code_of};
+
+use dpl_syntax::Place;
+use std::marker::Model;
+
+/// Which fault it is.
+#[derive(Clone, Copy, PartialEq, Eq, Debug)]
+pub enum FaultCode {
+    /// `F1`: an index outside an array.
+    Outside,
+    /// `F2`: a division by zero.
+    ZeroDivisor,
+    /// `F3`: a bound, a stride, a count, a domain or a number of tasks past its limit.
+    PastLimit,
+    /// `F4`: an end of an empty range.
+    EmptyEnd,
+    /// `F5`: a loop with more turns than the budget.
+    Budget,
+    /// `F6`: a locale that isn't there.
+    NoLocale,
+    /// `F7`: an operation on a cell that stays blocked.
+    CellStuck,
+    /// `F8`: an array past its limit.
+    ArrayTooLarge,
+}
+
+impl FaultCode {
+    // Its number in a word.
+    fn number(self) -> u64
+        ensures below { result < 8 }
+        ensures back { code_of result ≡ code_view self }
+    {
+        match self {
+            FaultCode::Outside => 0,
+            FaultCode::ZeroDivisor => 1,
+            FaultCode::PastLimit => 2,
+            FaultCode::EmptyEnd => 3,
+            FaultCode::Budget => 4,
+            FaultCode::NoLocale => 5,
+            FaultCode::CellStuck => 6,
+            FaultCode::ArrayTooLarge => 7,
+        }
+    }
+}
+
+/// A place whose line and column are below 2^21, as those of each token of a text are.
+#[derive(Clone, Copy, PartialEq, Eq, Debug)]
+pub struct Spot {
+    line: u32,
+    column: u32,
+}
+
+impl Model for Spot {
+    ghost Value = { PlaceNode };
+
+    ghost view = { λ s. record { line = s.line; column = s.column } };
+
+    ghost invariant = { λ s. (s.line < 2097152) × (s.column < 2097152) };
+
+    ghost inverse = { λ at. record { line = at.line; column = at.column } };
+}
+
+impl Spot {
+    /// The place, if its line and column are below 2^21.
+    pub fn new(at: Place) -> Option<Spot>
+        ensures near { IfSome result (λ s. s ≡ at) }
+        ensures far { at.line < 2097152 → at.column < 2097152 → IsSome result }
+    {
+        if at.line < 2_097_152 && at.column < 2_097_152 {
+            Some(Spot {
+                line: at.line,
+                column: at.column,
+            })
+        } else {
+            None
+        }
+    }
+}
+
+/// A fault in one word: its code, its line and its column. It names no turn.
+#[derive(Drop)]
+pub struct Trap {
+    word: u64,
+}
+
+impl Model for Trap {
+    ghost use Rattle.std.specs.Prelude.{◌^◌, ◌/◌, ◌%◌};
+    ghost use Rattle.dpl_language.specs.Values.{Fault, InNone};
+    ghost use Rattle.dpl_nodes.specs.Faults.{code_of};
+
+    ghost Value = { Fault };
+
+    ghost view = { λ t. record { code = code_of (t.word / 2 ^ 42); at = record { line = t.word / 2097152 % 2097152; column = t.word % 2097152 }; turn = InNone } };
+}
+
+impl Trap {
+    /// The fault of a code, at a place.
+    #[cold]
+    #[inline(never)]
+    pub fn new(code: FaultCode, at: Spot) -> Trap
+        ensures { result ≡ fault (code_view code) at }
+    {
+        Trap {
+            word: (code.number() * 2_097_152 + u64::from(at.line)) * 2_097_152
+                + u64::from(at.column),
+        }
+    }
+}
+
+/// A truth value that a walk hands back, in a whole word.
+#[derive(Clone, Copy)]
+pub struct Truth {
+    word: u64,
+}
+
+impl Model for Truth {
+    ghost use Rattle.std.specs.Prelude.{Bool, ◌<◌, nat_lt, if◌then◌else◌};
+
+    ghost Value = { Bool };
+
+    ghost view = { λ t. nat_lt 0 t.word };
+
+    ghost invariant = { λ t. t.word < 2 };
+
+    ghost inverse = { λ b. record { word = if b then 1 else 0 } };
+}
+
+impl Truth {
+    /// The truth value in a word.
+    pub fn new(b: bool) -> Truth
+        ensures { result ≡ b }
+    {
+        Truth { word: u64::from(b) }
+    }
+
+    /// The truth value.
+    pub fn get(self) -> bool
+        ensures { result ≡ self }
+    {
+        self.word != 0
+    }
+}

@@ -1,0 +1,81 @@
+// The frame of a run: the words and the ranges of its slots, the reduce variables of the forall around, and what is set.
+// A word is a value of every kind, so that no walk can leave a frame ill typed.
+
+ghost use Rattle.std.specs.Prelude.{◌≡◌, pos, get_or, set, map};
+ghost use Rattle.dpl_words.specs.Words.{no_range};
+ghost use Rattle.dpl_nodes.specs.Faults.{range_word};
+
+use dpl_range::Range;
+use dpl_tree::Op;
+use std::marker::Model;
+
+/// A range as a value: its members in order, and whether the text strides it.
+#[derive(Clone, Copy, PartialEq, Eq, Debug)]
+pub struct RangeWord {
+    pub range: Range,
+    pub strided: bool,
+}
+
+// The range `1..0`.
+fn no_range() -> RangeWord
+    ensures { range_word result ≡ no_range }
+{
+    RangeWord {
+        range: Range::new(1, 0, 1).unwrap(),
+        strided: false,
+    }
+}
+
+/// The slots of a run, with the reduce variables of the forall around and their operators, what the command line sets,
+/// the budget of a loop and the number of locales.
+#[derive(Drop)]
+pub struct Frame {
+    numbers: Vec<i64>,
+    ranges: Vec<RangeWord>,
+    intents: Vec<(usize, Op)>,
+    sets: Vec<(usize, i64)>,
+    budget: u64,
+    locales: u32,
+}
+
+impl Model for Frame {
+    ghost use Rattle.std.specs.Prelude.{map};
+    ghost use Rattle.dpl_tree.specs.Words.{op_view};
+    ghost use Rattle.dpl_nodes.specs.Faults.{range_word};
+    ghost use Rattle.dpl_nodes.specs.Frames.{Framed};
+
+    ghost Value = { Framed };
+
+    ghost view = { λ f. record { words = record { numbers = f.numbers.items; ranges = map range_word f.ranges.items; intents = map (λ p. (p.0, op_view p.1)) f.intents.items; sets = f.sets.items }; limits = record { budget = f.budget; locales = f.locales } } };
+}
+
+impl Frame {
+    /// The word in a slot; 0 past the last one.
+    pub fn number(&self, slot: usize) -> i64
+        ensures { result ≡ get_or self.now.words.numbers slot (pos 0) }
+    {
+        match self.numbers.get(slot) {
+            Some(number) => *number,
+            None => 0,
+        }
+    }
+
+    /// The range in a slot; `1..0` past the last one.
+    pub fn range(&self, slot: usize) -> RangeWord
+        ensures { range_word result ≡ get_or self.now.words.ranges slot no_range }
+    {
+        match self.ranges.get(slot) {
+            Some(range) => *range,
+            None => no_range(),
+        }
+    }
+
+    /// Puts a word into a slot; past the last one it does nothing.
+    pub fn set_number(&mut self, slot: usize, number: i64)
+        ensures { self.new ≡ record self.old { words = record self.old.words { numbers = set self.old.words.numbers slot number } } }
+    {
+        if slot < self.numbers.len() {
+            self.numbers[slot] = number;
+        }
+    }
+}

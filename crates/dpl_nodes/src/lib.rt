@@ -1,0 +1,11 @@
+// Typed trees: what a checked program is run from, each seen as a plain tree over slots; and the frame of a run.
+// Nothing here has a name, a bracket or a place that no fault tells, and nothing ill typed can be written down.
+#![tactic(auto)]
+
+pub mod fault;
+pub mod frame;
+pub mod tree;
+
+pub use fault::{FaultCode, Spot, Trap, Truth};
+pub use frame::{Frame, RangeWord};
+pub use tree::{BoolExpr, Dots, IntExpr, RangeExpr, Stride};
