@@ -1,12 +1,13 @@
 #!/bin/sh
-# Times the lexer and the parser of the whole language on a text of 1 MiB, beside python3's ast.parse and luac5.4 -p on like ones.
+# Times the lexer, the parser and the check of the whole language on a text of 1 MiB, beside python3's ast.parse and luac5.4 -p on like ones.
 # usage: scripts/bench-parser.sh [ROUNDS]. Needs rt, python3 and luac5.4. The benchmark's crate is built in a copy of the repository.
 set -eu
 
 . "$(dirname "$0")/bench-crate.sh"
 
-bench_crate parser_bench "$top/benches/parser/parser.rt.txt" 'dpl_syntax dpl_parser bumpalo' \
-    dpl_range dpl_domain dpl_history dpl_syntax dpl_grammar dpl_language dpl_tree dpl_spelling dpl_expressions dpl_statements dpl_parser
+bench_crate parser_bench "$top/benches/parser/parser.rt.txt" 'dpl_syntax dpl_parser dpl_checker bumpalo' \
+    dpl_range dpl_domain dpl_history dpl_syntax dpl_grammar dpl_language dpl_rules dpl_tree dpl_spelling dpl_expressions dpl_statements dpl_parser \
+    dpl_types dpl_scopes dpl_typing dpl_forms dpl_deeds dpl_bodies dpl_limits dpl_checker
 bench_build parser_bench
 python3 - "$work/crates/parser_bench/out/parser_bench" "$top/benches/parser" "$rounds" <<'END'
 import ast, resource, subprocess, sys, tempfile, time
@@ -35,8 +36,9 @@ if runs[0][3] == 0:
     sys.exit("the text was refused")
 show("lex", min(run[0] for run in runs) / 1e9, runs[0][2])
 show("lex and parse", min(run[1] for run in runs) / 1e9, runs[0][2])
+show("lex, parse and check", min(run[4] for run in runs) / 1e9, runs[0][2])
 peak = resource.getrusage(resource.RUSAGE_CHILDREN).ru_maxrss * 1024
-print(f"{runs[0][3]} statements, {peak / MIB:.1f} MiB at the most: text, tokens and tree")
+print(f"{runs[0][3]} statements, {peak / MIB:.1f} MiB at the most: text, tokens, tree and deeds")
 text = repeated("lines.py")
 show("python3 ast.parse", best(lambda: ast.parse(text)), len(text))
 with tempfile.NamedTemporaryFile("w", suffix=".lua") as file:
