@@ -1,10 +1,10 @@
 -- One coordinate, or one block.
 -- These are the answers to the goals of `Axis::is_steady`.
-use Rattle.std.proofs.Common.{◌≡◌, sym, ap, ◌∙◌, subst, rules, FitsSigned, w64, arith, eqb-true}
+use Rattle.std.proofs.Common.{◌≡◌, sym, ap, ◌∙◌, subst, rules, FitsSigned, w64, eqb-true}
 use Rattle.std.proofs.lemmas.Int.{to_z-of_z}
 use Rattle.dpl_map.specs.AxisFields.{axis_of, rule_of}
 use Rattle.dpl_map.specs.Boxes.{IsSteady}
-use Rattle.dpl_map.specs.Maps.{AxisValue, RuleValue, Block, axis_coordinate}
+use Rattle.dpl_map.specs.Maps.{axis_coordinate}
 use Rattle.dpl_map.proofs.SteadyLemmas.{axis-one, block-axis}
 use Rattle.dpl_map.proofs.axis.Axis.is_steady.Goals as goal
 

@@ -1,6 +1,6 @@
 -- The axis of the dimension, if it has a box.
 -- These are the answers to the goals of `Map::boxed`.
-use Rattle.std.proofs.Common.{◌≡◌, ap, sym, ◌∙◌, Some, None, refl, slice_get, rules, FitsSigned, w64, subst}
+use Rattle.std.proofs.Common.{◌≡◌, ap, sym, ◌∙◌, Some, slice_get, rules, FitsSigned, w64, subst}
 use Rattle.std.proofs.lemmas.Int.{to_z-of_z}
 use Rattle.std.proofs.lemmas.Option.{none-some}
 use Rattle.dpl_map.proofs.SteadyLemmas.{IsBoxOf, box-absent, box-there}
