@@ -23,7 +23,9 @@ done | awk '
     }
     END {
         if (differ) { print "the two programs read different values"; exit 1 }
-        split("get_line, whole;get_line, piece by block;get_line, by block;walk, whole;walk, by block;walk, piece by block;reader, rank 1, whole;reader, rank 1, by block;get_plane, whole;get_plane, piece by block;get_plane, by block;reader, rank 2, whole;reader, rank 2, by block", name, ";")
+        names = "get_line, whole;get_line, piece by block;get_line, by block;walk, whole;walk, by block;walk, piece by block"
+        names = names ";reader, rank 1, whole;reader, rank 1, by block;get_plane, whole;get_plane, piece by block;get_plane, by block;reader, rank 2, whole;reader, rank 2, by block"
+        split(names, name, ";")
         printf "%-28s %8s %8s %8s\n", "ns, best of " NR " rounds", "array", "vector", "more"
         for (m = 0; m < 13; m++)
             printf "%-28s %8.2f %8.2f %8.2f\n", name[m + 1], best[m] / 1000, plain[m] / 1000, (best[m] - plain[m]) / 1000
