@@ -1,6 +1,5 @@
 -- What a piece of an array has, the array has.
 use Rattle.std.proofs.Common.{◌≡◌, ◌==◌, ℕ, ℤ, List, Option, Some, None, IfSome, filter, ap, sym, subst, ◌∙◌, eqb-true}
-use Rattle.std.specs.Borrow.{Bor}
 use Rattle.dpl_map.specs.Maps.{AxisValue, owner}
 use Rattle.dpl_array.specs.Elements.{Elements, value_at, keys_of, owned}
 use Rattle.dpl_array.specs.Arrays.{ArrayValue, PieceValue, restriction}

@@ -1,6 +1,6 @@
 -- The union of the pieces holds what they hold.
 -- These are the answers to the goals of `DArray::quick`.
-use Rattle.std.proofs.Common.{◌≡◌, ap, sym, ◌∙◌, refl, Option, Some, None, IfSome}
+use Rattle.std.proofs.Common.{◌≡◌, ap, sym, ◌∙◌, Option, Some, None, IfSome}
 use Rattle.dpl_array.specs.Arrays.{held_at}
 use Rattle.dpl_array.specs.Elements.{value_at}
 use Rattle.dpl_array.proofs.UnionLemmas.{union-at}

@@ -4,7 +4,7 @@ use Rattle.std.proofs.Common.{◌≡◌, Some, slice_get, arith, refl, sym, ap, 
 use Rattle.std.proofs.lemmas.Option.{slice_get_read}
 use Rattle.dpl_array.specs.Elements.{value_at}
 use Rattle.dpl_array.specs.Rows.{row_of}
-use Rattle.dpl_array.proofs.PieceLemmas.{Places, piece-there, place-within, places-alone}
+use Rattle.dpl_array.proofs.PieceLemmas.{piece-there, place-within, places-alone}
 use Rattle.dpl_array.proofs.piece.Piece.quick.Goals as goal
 
 pub index-requires : goal.index-requires

@@ -1,6 +1,6 @@
 -- A piece that holds an index is that of its owner.
 -- These are the answers to the goals of `Pieces::guessed`.
-use Rattle.std.proofs.Common.{◌≡◌, ap, sym, ◌∙◌, Option, None, Some, IfSome, slice_index_or, refl}
+use Rattle.std.proofs.Common.{◌≡◌, ap, sym, ◌∙◌, Option, None, Some, IfSome, slice_index_or}
 use Rattle.dpl_array.specs.Arrays.{held_at}
 use Rattle.dpl_array.specs.Elements.{value_at}
 use Rattle.dpl_array.proofs.HeldLemmas.{held-guessed}

@@ -1,6 +1,6 @@
 -- A piece that has an index is that of its owner.
 -- These are the answers to the goals of `Pieces::set_guessed`.
-use Rattle.std.proofs.Common.{◌≡◌, ap, sym, ◌∙◌, None, Some, is_some, true, map, slice_set, slice_index_or, ◌<◌, length, arith}
+use Rattle.std.proofs.Common.{ap, sym, ◌∙◌, None, Some, is_some, map, ◌<◌, length, arith}
 use Rattle.std.proofs.lemmas.List.{get_or_read}
 use Rattle.std.proofs.lemmas.Option.{same_Some}
 use Rattle.dpl_array.specs.Elements.{value_at}
