@@ -1,7 +1,6 @@
 -- Turns that are read dimension by dimension, and those in between that nobody has to look at.
 -- What was looked at and what is left are the turns.
-use Rattle.std.proofs.Common.{◌≡◌, ◌⊎◌, ◌&&◌, ◌<◌, ◌^◌, ℕ, ℤ, pos, neg_ℤ, ◌+ℤ◌, ◌-ℤ◌, ◌≤ℤ◌, ◌<ℤ◌, List, [], ◌∷◌, ◌++◌, map, length, slice_index_or, Bool, true, false, cond, not, None, inl, inr, refl, ap, sym, subst, ◌∙◌, ⊎_elim, arith, append_assoc, append-nil, eq-eqb}
-use Rattle.std.proofs.lemmas.Bool.{cases_Bool}
+use Rattle.std.proofs.Common.{◌≡◌, ◌⊎◌, ◌&&◌, ◌^◌, ℕ, ℤ, pos, neg_ℤ, ◌+ℤ◌, ◌-ℤ◌, List, [], ◌∷◌, ◌++◌, map, length, slice_index_or, Bool, true, false, cond, not, None, inl, inr, refl, ap, sym, subst, ◌∙◌, ⊎_elim, arith, append_assoc, append-nil, eq-eqb}
 use Rattle.std.proofs.lemmas.Int.{ints, by_lt_z}
 use Rattle.dpl_range.specs.Range.{RangeValue, IsBound}
 use Rattle.dpl_domain.specs.Indices.{indices}

@@ -1,7 +1,7 @@
 -- Turns whose coordinate in one dimension lies between two numbers, and turns between two corners.
 -- A tuple of a product takes each coordinate from its own list.
-use Rattle.std.proofs.Common.{◌≡◌, ◌↔◌, ◌<◌, ◌≤◌, ◌^◌, ◌&&◌, ℕ, zero, suc, ℤ, pos, negsuc, ◌≤ℤ◌, ◌+ℤ◌, List, [], ◌∷◌, map, filter, length, slice_get, slice_index_or, Bool, true, int_le, All, Some, FitsSigned, refl, ap, sym, subst, ◌∙◌, arith}
-use Rattle.std.specs.Int.{w64, int_wrap}
+use Rattle.std.proofs.Common.{◌≡◌, ◌↔◌, ◌<◌, ◌≤◌, ◌^◌, ◌&&◌, ℕ, zero, suc, ℤ, pos, negsuc, ◌≤ℤ◌, ◌+ℤ◌, List, [], ◌∷◌, map, filter, length, slice_index_or, Bool, true, int_le, All, FitsSigned, ap, sym, subst, arith}
+use Rattle.std.specs.Int.{w64}
 use Rattle.std.proofs.lemmas.Int.{ints, int_wrap_fits}
 use Rattle.std.proofs.lemmas.Option.{slice_get_within, get_or_from_slice_get}
 use Rattle.dpl_range.specs.Range.{RangeValue, members_of, IsBound}
@@ -18,7 +18,6 @@ use Rattle.dpl_array.specs.Rows.{StandsIn}
 use Rattle.dpl_array.proofs.RowLemmas.{filter-stands}
 use Rattle.dpl_array.proofs.UnionLemmas.{filter-test, stands-filter}
 use Rattle.dpl_halo.specs.declared.shift.Step.{Step}
-use Rattle.dpl_halo.specs.Shifts.{moved, shifted}
 use Rattle.dpl_halo.specs.Turns.{IsNarrowed, AreCorners, KeepsStep, KeepsShift}
 use Rattle.dpl_halo.proofs.ListedLemmas.{stands-flat, flat-stands, stands-map, map-stands}
 

@@ -1,5 +1,5 @@
 -- Some of a loop's turns: those whose coordinate in one dimension lies between two numbers, and those between two corners.
-use Rattle.std.specs.Prelude.{◌↔◌, List, ℕ, ℤ, pos, neg_ℤ, ◌^◌, ◌+ℤ◌, ◌≤ℤ◌, ◌<ℤ◌, slice_index_or}
+use Rattle.std.specs.Prelude.{◌↔◌, List, ℕ, ℤ, pos, neg_ℤ, ◌^◌, ◌≤ℤ◌, ◌<ℤ◌, slice_index_or}
 use Rattle.dpl_range.specs.Range.{RangeValue}
 use Rattle.dpl_domain.specs.Indices.{indices}
 use Rattle.dpl_map.specs.Boxes.{AreBetween}

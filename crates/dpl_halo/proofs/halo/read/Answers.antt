@@ -1,14 +1,10 @@
 -- Dimension by dimension, and then what is left.
 -- These are the answers to the goals of `read`.
-use Rattle.std.proofs.Common.{◌≡◌, ◌^◌, ℤ, List, pos, neg_ℤ, ◌+ℤ◌, ◌-ℤ◌, length, map, slice_index_or, refl, sym, ap, ◌∙◌, subst, FitsSigned, w64, rules, arith}
+use Rattle.std.proofs.Common.{◌^◌, pos, neg_ℤ, ◌+ℤ◌, ◌-ℤ◌, refl, sym, ap, ◌∙◌, FitsSigned, w64, rules, arith}
 use Rattle.std.proofs.lemmas.Int.{ints, to_z-of_z}
-use Rattle.dpl_range.specs.Range.{RangeValue, IsBound}
-use Rattle.dpl_domain.specs.Indices.{indices}
 use Rattle.dpl_map.specs.Maps.{owner}
-use Rattle.dpl_array.specs.Rows.{StandsIn}
-use Rattle.dpl_halo.specs.Gathering.{AddsForeign}
 use Rattle.dpl_halo.specs.Shifts.{shifted}
-use Rattle.dpl_halo.specs.Turns.{IsNarrowed, AreCutPoints}
+use Rattle.dpl_halo.specs.Turns.{IsNarrowed}
 use Rattle.dpl_halo.proofs.ReachLemmas.{read-first, read-next, read-owned, read-rest}
 use Rattle.dpl_halo.proofs.TurnLemmas.{bound-fits}
 use Rattle.dpl_halo.proofs.halo.read.Goals as goal

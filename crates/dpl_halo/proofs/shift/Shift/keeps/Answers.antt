@@ -1,6 +1,6 @@
 -- Step by step.
 -- These are the answers to the goals of `Shift::keeps`.
-use Rattle.std.proofs.Common.{◌≡◌, refl, sym, subst, length, List, ◌∙◌}
+use Rattle.std.proofs.Common.{refl, sym, subst, length, List, ◌∙◌}
 use Rattle.dpl_halo.specs.declared.shift.Step.{Step}
 use Rattle.dpl_halo.specs.Turns.{KeepsShift}
 use Rattle.dpl_halo.proofs.TurnLemmas.{shift-keeps}

@@ -1,6 +1,6 @@
 -- Neither sum wraps.
 -- These are the answers to the goals of `Step::keeps`.
-use Rattle.std.proofs.Common.{◌≡◌, refl, rules, FitsSigned, w64, pos, slice_index_or, ◌+ℤ◌, subst, ap, ℤ}
+use Rattle.std.proofs.Common.{refl, rules, FitsSigned, w64, pos, slice_index_or, ◌+ℤ◌, subst, ℤ}
 use Rattle.std.proofs.lemmas.Int.{to_z-of_z}
 use Rattle.dpl_halo.proofs.TurnLemmas.{step-keeps}
 use Rattle.dpl_halo.proofs.shift.Step.keeps.Goals as goal
