@@ -2,3 +2,4 @@
 pub mod Typed
 pub mod Faults
 pub mod Frames
+pub mod Makers

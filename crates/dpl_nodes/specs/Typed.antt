@@ -1,9 +1,7 @@
 -- The plain tree that a typed tree stands for.
 -- It is a lowered tree over slots: two operands to an operator, no brackets, and the places of faults alone.
-use Rattle.std.specs.Prelude.{ℕ}
-use Rattle.dpl_syntax.specs.declared.place.Place.{Place}
-use Rattle.dpl_language.specs.Tree.{Placed, Minus, Not, Add, Subtract, Multiply, Divide, Remainder, Less, LessEqual, Greater, GreaterEqual, Equal, NotEqual, And, Or, Dots, Closed, HalfOpen, Counted, Size, First, Last, Low, High, ExprTree, Number, TruthWord, Named, Grouped, Prefixed, Postfixed, ItemTree, One, RangeItem, Stride, NoStride, By, Posts, NoPosts, Post, Brackets, Dotted, MethodTree, Plainly, Contains, FirstItem, NoItems, FirstExpr, NoExprs}
-use Rattle.dpl_lowered.specs.Shapes.{nowhere, two, as_expr}
+use Rattle.dpl_language.specs.Tree.{Minus, Not, Add, Subtract, Multiply, Divide, Remainder, Less, LessEqual, Greater, GreaterEqual, Equal, NotEqual, And, Or, Dots, Closed, HalfOpen, Counted, Size, First, Last, Low, High, ExprTree, Number, TruthWord, Named, Grouped, Prefixed, Postfixed, ItemTree, One, RangeItem, Stride, NoStride, By, NoPosts, Post, Brackets, Dotted, MethodTree, Plainly, Contains, FirstItem, NoItems, FirstExpr, NoExprs}
+use Rattle.dpl_lowered.specs.Shapes.{nowhere, two}
 use Rattle.dpl_words.specs.Words.{Leaf, int_leaf, truth_leaf, range_leaf}
 use Rattle.dpl_nodes.specs.declared.tree.Dots.{Dots as DotsNode}
 use Rattle.dpl_nodes.specs.declared.tree.Dots.TheVariants as dots
@@ -34,29 +32,29 @@ abbrev mutual
   int_view (Sum' p a q b) = two (int_view a) nowhere Add (int_view b)
   int_view (Difference' p a q b) = two (int_view a) nowhere Subtract (int_view b)
   int_view (Product' p a q b) = two (int_view a) nowhere Multiply (int_view b)
-  int_view (Quotient' p a q b at) = two (int_view a) at Divide (int_view b)
-  int_view (Remainder' p a q b at) = two (int_view a) at Remainder (int_view b)
+  int_view (Quotient' p a q b at) = two (int_view a) at.now Divide (int_view b)
+  int_view (Remainder' p a q b at) = two (int_view a) at.now Remainder (int_view b)
   int_view (Size' p r) = dotted (range_view r) (Plainly nowhere Size)
-  int_view (First' p r at) = dotted (range_view r) (Plainly at First)
-  int_view (Last' p r at) = dotted (range_view r) (Plainly at Last)
-  int_view (Low' p r at) = dotted (range_view r) (Plainly at Low)
-  int_view (High' p r at) = dotted (range_view r) (Plainly at High)
+  int_view (First' p r at) = dotted (range_view r) (Plainly at.now First)
+  int_view (Last' p r at) = dotted (range_view r) (Plainly at.now Last)
+  int_view (Low' p r at) = dotted (range_view r) (Plainly at.now Low)
+  int_view (High' p r at) = dotted (range_view r) (Plainly at.now High)
 
   -- a range as an item
   pub range_item : RangeExpr → ItemTree Leaf
   range_item (RangeLocal slot) = One (leaf_named (range_leaf slot))
-  range_item (Between' p low at dots q high stride) = RangeItem (int_view low) at (dots_view dots) (int_view high) (stride_view stride)
+  range_item (Between' p low at dots q high stride) = RangeItem (int_view low) at.now (dots_view dots) (int_view high) (stride_view stride)
   range_item (Slice' p r q cut) = One (bracketed (range_view r) (range_item cut))
 
   -- and as an expression, which stands in brackets where it has bounds
   pub range_view : RangeExpr → ExprTree Leaf
   range_view (RangeLocal slot) = leaf_named (range_leaf slot)
-  range_view (Between' p low at dots q high stride) = Grouped nowhere (RangeItem (int_view low) at (dots_view dots) (int_view high) (stride_view stride)) nowhere
+  range_view (Between' p low at dots q high stride) = Grouped nowhere (RangeItem (int_view low) at.now (dots_view dots) (int_view high) (stride_view stride)) nowhere
   range_view (Slice' p r q cut) = bracketed (range_view r) (range_item cut)
 
   pub stride_view : StrideNode → Stride Leaf
   stride_view Absent = NoStride
-  stride_view (By' at p e) = By at (int_view e)
+  stride_view (By' at p e) = By at.now (int_view e)
 
 abbrev pub truth_view : BoolExpr → ExprTree Leaf
 truth_view (TruthNode b) = TruthWord nowhere b

@@ -1,12 +1,13 @@
 // The frame of a run: the words and the ranges of its slots, the reduce variables of the forall around, and what is set.
 // A word is a value of every kind, so that no walk can leave a frame ill typed.
 
-ghost use Rattle.std.specs.Prelude.{◌≡◌, pos, get_or, set, map};
+ghost use Rattle.std.specs.Prelude.{◌≡◌, pos, [], get_or, set, replicate, IfOk};
 ghost use Rattle.dpl_words.specs.Words.{no_range};
 ghost use Rattle.dpl_nodes.specs.Faults.{range_word};
 
 use dpl_range::Range;
 use dpl_tree::Op;
+use std::alloc::{AllocError, Global};
 use std::marker::Model;
 
 /// A range as a value: its members in order, and whether the text strides it.
@@ -50,6 +51,30 @@ impl Model for Frame {
 }
 
 impl Frame {
+    /// A frame with so many words, each 0, and so many ranges, each `1..0`.
+    ///
+    /// # Errors
+    /// Out of memory.
+    #[tactic(auto, using(crate::proofs::Kept::map_replicate))]
+    pub fn new(
+        alloc: Global,
+        numbers: usize,
+        ranges: usize,
+        budget: u64,
+        locales: u32,
+    ) -> Result<Frame, AllocError>
+        ensures { IfOk result (λ f. f ≡ record { words = record { numbers = replicate numbers (pos 0); ranges = replicate ranges no_range; intents = []; sets = [] }; limits = record { budget = budget; locales = locales } }) }
+    {
+        Ok(Frame {
+            numbers: vec![in alloc; 0; numbers]?,
+            ranges: vec![in alloc; no_range(); ranges]?,
+            intents: Vec::new(alloc),
+            sets: Vec::new(alloc),
+            budget,
+            locales,
+        })
+    }
+
     /// The word in a slot; 0 past the last one.
     pub fn number(&self, slot: usize) -> i64
         ensures { result ≡ get_or self.now.words.numbers slot (pos 0) }
@@ -76,6 +101,16 @@ impl Frame {
     {
         if slot < self.numbers.len() {
             self.numbers[slot] = number;
+        }
+    }
+
+    /// Puts a range into a slot; past the last one it does nothing.
+    #[tactic(auto, using(crate::proofs::Kept::map_set))]
+    pub fn set_range(&mut self, slot: usize, range: RangeWord)
+        ensures { self.new ≡ record self.old { words = record self.old.words { ranges = set self.old.words.ranges slot (range_word range) } } }
+    {
+        if slot < self.ranges.len() {
+            self.ranges[slot] = range;
         }
     }
 }

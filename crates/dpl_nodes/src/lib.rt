@@ -4,8 +4,10 @@
 
 pub mod fault;
 pub mod frame;
+pub mod make;
 pub mod tree;
 
 pub use fault::{FaultCode, Spot, Trap, Truth};
 pub use frame::{Frame, RangeWord};
+pub use make::{Stop, Typed};
 pub use tree::{BoolExpr, Dots, IntExpr, RangeExpr, Stride};

@@ -23,15 +23,15 @@ pub enum IntExpr<'t> {
     Difference(&'t IntExpr<'t>, &'t IntExpr<'t>),
     Product(&'t IntExpr<'t>, &'t IntExpr<'t>),
     /// With the place where a division by zero is told.
-    Quotient(&'t IntExpr<'t>, &'t IntExpr<'t>, Spot),
-    Remainder(&'t IntExpr<'t>, &'t IntExpr<'t>, Spot),
+    Quotient(&'t IntExpr<'t>, &'t IntExpr<'t>, &'t Spot),
+    Remainder(&'t IntExpr<'t>, &'t IntExpr<'t>, &'t Spot),
     /// How many members a range has.
     Size(&'t RangeExpr<'t>),
     /// An end of a range, with the place where it is told that there is none.
-    First(&'t RangeExpr<'t>, Spot),
-    Last(&'t RangeExpr<'t>, Spot),
-    Low(&'t RangeExpr<'t>, Spot),
-    High(&'t RangeExpr<'t>, Spot),
+    First(&'t RangeExpr<'t>, &'t Spot),
+    Last(&'t RangeExpr<'t>, &'t Spot),
+    Low(&'t RangeExpr<'t>, &'t Spot),
+    High(&'t RangeExpr<'t>, &'t Spot),
 }
 
 /// An expression that is a truth value.
@@ -61,7 +61,7 @@ pub enum BoolExpr<'t> {
 #[derive(Clone, Copy)]
 pub enum Stride<'t> {
     Absent,
-    By(Spot, &'t IntExpr<'t>),
+    By(&'t Spot, &'t IntExpr<'t>),
 }
 
 /// An expression that is a range.
@@ -71,7 +71,7 @@ pub enum RangeExpr<'t> {
     /// The variable in a slot.
     Local(usize),
     /// A low bound, the place where a bound or a count past its limit is told, a high bound or a count, and a stride.
-    Between(&'t IntExpr<'t>, Spot, Dots, &'t IntExpr<'t>, Stride<'t>),
+    Between(&'t IntExpr<'t>, &'t Spot, Dots, &'t IntExpr<'t>, Stride<'t>),
     /// What of a range lies between the bounds of another one.
     Slice(&'t RangeExpr<'t>, &'t RangeExpr<'t>),
 }

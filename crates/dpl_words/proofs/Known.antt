@@ -2,7 +2,7 @@
 -- So a lowered tree means what the tree means.
 use Rattle.std.proofs.Common.{ℕ, refl}
 use Rattle.dpl_lowered.specs.Known.{IsAsKnown, PlainValue, IsKnown}
-use Rattle.dpl_words.specs.Words.{LeafKind, IntLeaf, TruthLeaf, RangeLeaf, Leaf, Words, known_leaf, value_at, by_word}
+use Rattle.dpl_words.specs.Words.{LeafKind, IntLeaf, TruthLeaf, RangeLeaf, Words, known_leaf, value_at, by_word}
 
 plain_value : (k : LeafKind) (slot : ℕ) (s : Words) → IsAsKnown PlainValue (value_at k slot s)
 plain_value IntLeaf slot s = (refl, refl)

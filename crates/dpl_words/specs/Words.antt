@@ -4,7 +4,7 @@ use Rattle.std.specs.Prelude.{ℕ, ◌==◌, ℤ, pos, false, not, if◌then◌e
 use Rattle.std.specs.Ordering.{int_eq}
 use Rattle.dpl_range.specs.Equality.{TextRange}
 use Rattle.dpl_language.specs.Tree.{Op}
-use Rattle.dpl_language.specs.Values.{Value, Int, Truth, Range, number, truth, kept_number, ranges_in}
+use Rattle.dpl_language.specs.Values.{Value, Int, Truth, Range, number, kept_number, ranges_in}
 use Rattle.dpl_language.specs.Arithmetic.{assigned}
 use Rattle.dpl_language.specs.Ranges.{unstrided}
 use Rattle.dpl_language.specs.Environment.{Content, Plain, ArrayOf, CellOf, Unanswered, Environment}
