@@ -1,0 +1,9 @@
+// The values of typed expressions over a frame: what the language's meaning gives for the plain trees that they stand for.
+// No walk takes memory, and none has an arm for what can't be.
+#![tactic(auto)]
+
+pub mod expression;
+pub mod number;
+pub mod range;
+
+pub use expression::{int_value, range_value, truth_value};
