@@ -1,6 +1,6 @@
 -- An example: the grammar of a small language, which is read, and rules with faults, which are told.
 -- A name is told apart by its place: the n-th token of a row stands at column n.
-use Rattle.std.proofs.Common.{◌≡◌, ℕ, ◌+◌, Bool, true, false, not, List, [], ◌∷◌, ◌++◌, codes, drop, Ok, Err, refl}
+use Rattle.std.proofs.Common.{◌≡◌, ℕ, ◌+◌, Bool, true, false, List, [], ◌∷◌, ◌++◌, codes, drop, Ok, Err, refl}
 use Rattle.dpl_syntax.specs.declared.place.Place.{Place}
 use Rattle.dpl_syntax.specs.declared.token.Keyword.TheVariants.{Do, Else, If, Sync, Then, While, Write}
 use Rattle.dpl_syntax.specs.declared.token.Sign.TheVariants.{DotDot, Plus, Minus, Star, OpenRound, CloseRound, Semicolon}

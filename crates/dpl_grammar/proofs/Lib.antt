@@ -19,3 +19,4 @@ pub mod RunTurns
 pub mod Refusals
 pub mod Results
 pub mod Ended
+pub mod Values

@@ -1,12 +1,12 @@
 -- Loops that read a run: as many values as there are, up to one that lets no other follow.
 -- Where the loop stands, the values read before go in front of what is still read, and together these are what the whole reads.
-use Rattle.std.proofs.Common.{◌≡◌, ℕ, zero, suc, ◌≤◌, ◌<◌, Bool, true, false, List, [], ◌∷◌, ◌++◌, length, Ok, Err, refl, sym, ap, ◌∙◌, append_assoc, arith}
+use Rattle.std.proofs.Common.{◌≡◌, ℕ, zero, suc, ◌≤◌, ◌<◌, Bool, true, false, List, [], ◌∷◌, ◌++◌, length, Ok, Err, refl, sym, ap, ◌∙◌, arith}
 use Rattle.std.proofs.lemmas.List.{append-nil}
 use Rattle.dpl_syntax.specs.declared.token.Token.{Token}
 use Rattle.dpl_syntax.specs.declared.stop.Stop.{Stop}
 use Rattle.dpl_syntax.specs.declared.stop.Stop.TheVariants.{Memory, Refused}
 use Rattle.dpl_grammar.specs.Classes.{Class}
-use Rattle.dpl_grammar.specs.Reader.{Cause, Read, Reader, on_read, next_in, run_turns_at, run_at}
+use Rattle.dpl_grammar.specs.Reader.{Cause, Reader, on_read, next_in, run_turns_at, run_at}
 use Rattle.dpl_grammar.specs.Gives.{Fails}
 use Rattle.dpl_grammar.proofs.Turns.{with_front, front_none, regroup}
 

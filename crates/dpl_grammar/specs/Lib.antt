@@ -10,3 +10,4 @@ pub mod Laws
 pub mod Same
 pub mod Reading
 pub mod Gives
+pub mod Each

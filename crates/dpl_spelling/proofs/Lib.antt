@@ -7,3 +7,5 @@ pub mod Plain
 pub mod Programs
 pub mod OnRows
 pub mod Worked
+pub mod Spelt
+pub mod SpeltStatements

@@ -2,7 +2,6 @@
 -- one token of look-ahead tells the ways apart.
 use Rattle.std.proofs.Common.{◌≡◌, ℕ, false, [], refl}
 use Rattle.dpl_grammar.specs.Classes.{end}
-use Rattle.dpl_grammar.specs.Rule.{many}
 use Rattle.dpl_grammar.specs.Reading.{faults, below_faults}
 use Rattle.dpl_grammar.proofs.Grammars.{ReadsRule, reads}
 use Rattle.dpl_spelling.specs.Nested.{Nested, ItemBelow, ExpressionBelow, NegBelow, NotBelow, RedBelow, StartBelow, InsideBelow, StatementBelow, PlainBelow}

@@ -3,11 +3,10 @@
 use Rattle.std.proofs.Common.{◌≡◌, ℕ, zero, suc, Bool, true, false, cond, List, [], ◌∷◌, Err, refl, sym, ◌∙◌}
 use Rattle.dpl_syntax.specs.declared.token.Token.{Token}
 use Rattle.dpl_syntax.specs.declared.token.Sign.TheVariants.{OpenRound}
-use Rattle.dpl_grammar.specs.Classes.{Class, sign}
+use Rattle.dpl_grammar.specs.Classes.{sign}
 use Rattle.dpl_grammar.specs.Reader.{Unexpected, next_in}
 use Rattle.dpl_grammar.specs.Reading.{faults, first}
 use Rattle.dpl_grammar.proofs.Deeper.{rule_refuses}
-use Rattle.dpl_spelling.specs.Nested.{Rule, Expression}
 use Rattle.dpl_spelling.specs.Expressions.{after_comma, listed, items, domain_literal, grouped, simple_base, base, postfix, red, not, product, neg, sum, relation, equality, conjunction, expression_from, expression}
 use Rattle.dpl_spelling.specs.Grammar.{grammar}
 use Rattle.dpl_spelling.specs.Reading.{at}

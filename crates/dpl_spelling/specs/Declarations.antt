@@ -2,18 +2,17 @@
 -- An argument's name and a tuple are told from an expression by its value, behind which alone they may go on.
 use Rattle.std.specs.Prelude.{ℕ, Bool, true, false, cond, bytes_eq, List, [], ◌∷◌, Option, Some, None}
 use Rattle.dpl_syntax.specs.declared.place.Place.{Place}
-use Rattle.dpl_syntax.specs.declared.token.Token.{Token}
 use Rattle.dpl_syntax.specs.declared.token.Keyword.TheVariants as word_of
 use Rattle.dpl_syntax.specs.declared.token.Contextual.{Contextual}
 use Rattle.dpl_syntax.specs.declared.token.Contextual.TheVariants as contextual_of
 use Rattle.dpl_syntax.specs.declared.token.Sign.TheVariants as sign_of
 use Rattle.dpl_syntax.specs.Tokens.{contextual_text}
-use Rattle.dpl_language.specs.Tree.{Placed, AfterComma, Listed, Kind, IntKind, BoolKind, ExprTree, Named, Grouped, ItemTree, One, RangeItem, ArgumentName, StartTree, StartExpr, StartTuple, MapTree, BlockMap, CyclicMap, BlockCyclicMap, MappedTree, TypeTree, ScalarType, SyncType, DomainType, ArrayType, CreateWord, CreateBlock, CreateCyclic, CreateTree, InitTree, ItemInit, CreateInit, TypedTree, InitialTree, Declare}
+use Rattle.dpl_language.specs.Tree.{Placed, Kind, IntKind, BoolKind, Grouped, One, RangeItem, ArgumentName, StartTree, StartExpr, StartTuple, MapTree, BlockMap, CyclicMap, BlockCyclicMap, MappedTree, TypeTree, ScalarType, SyncType, DomainType, ArrayType, CreateWord, CreateBlock, CreateCyclic, InitTree, ItemInit, CreateInit, TypedTree, InitialTree, Declare}
 use Rattle.dpl_language.specs.Phrases.{natural, bare_name}
-use Rattle.dpl_grammar.specs.Classes.{Class, names, numbers, sign, keyword, contextual}
+use Rattle.dpl_grammar.specs.Classes.{sign, keyword, contextual}
 use Rattle.dpl_grammar.specs.Rule.{Beginning, Whole, Begun, token, below, either, many, run, complete, ◌⟶◌, ◌⨾◌, ◌↓◌, ◌∎, done, maybe, means}
-use Rattle.dpl_spelling.specs.Nested.{Expression, Item, Statement, Inside, OneItem, Tuple, ItemBelow, ExpressionBelow, StartBelow, InsideBelow, Rule}
-use Rattle.dpl_spelling.specs.Expressions.{number_token, name, after_comma, listed, items, post, postfixed, Further, chain_of, further, further_factor, is_negated, sum_operator, relation_operator, equality_operator, and_operator, or_operator, base, simple_base, neg, sum, relation, equality, conjunction, expression, expression_from, item}
+use Rattle.dpl_spelling.specs.Nested.{Expression, Item, Statement, Inside, OneItem, Tuple, ItemBelow, StartBelow, InsideBelow, Rule}
+use Rattle.dpl_spelling.specs.Expressions.{number_token, name, after_comma, items, post, postfixed, chain_of, further, further_factor, is_negated, sum_operator, relation_operator, equality_operator, and_operator, or_operator, base, simple_base, neg, sum, relation, equality, conjunction, expression, expression_from, item}
 
 -- Where a map starts.
 

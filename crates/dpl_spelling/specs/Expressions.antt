@@ -1,6 +1,6 @@
 -- The grammar of expressions and items. Above each rule stands its line of the grammar:
 -- braces mean any number, square brackets at most one, words in quotes are tokens. `↓` stands behind a token that goes one level deeper.
-use Rattle.std.specs.Prelude.{◌≡◌, ℕ, ℤ, pos, Bool, true, false, cond, List, [], ◌∷◌, Option, Some, None, refl}
+use Rattle.std.specs.Prelude.{ℕ, ℤ, pos, Bool, true, false, cond, List, [], ◌∷◌, Option, Some, None, refl}
 use Rattle.dpl_syntax.specs.declared.place.Place.{Place}
 use Rattle.dpl_syntax.specs.declared.token.Token.{Token}
 use Rattle.dpl_syntax.specs.declared.token.Kind.{Kind}
@@ -11,7 +11,7 @@ use Rattle.dpl_syntax.specs.declared.token.Sign.TheVariants as sign_of
 use Rattle.dpl_syntax.specs.Tokens.{contextual_text}
 use Rattle.dpl_syntax.specs.Text.{text_value}
 use Rattle.dpl_language.specs.Phrases.{natural}
-use Rattle.dpl_language.specs.Tree.{Placed, AfterComma, Listed, Infix, Add, Subtract, Multiply, Divide, Remainder, Less, LessEqual, Greater, GreaterEqual, Equal, NotEqual, And, Or, Prefix, Minus, Not, Op, Sum, Product, AllOf, AnyOf, BitAnd, BitOr, BitXor, Least, Greatest, Dots, Closed, HalfOpen, Counted, Word, Size, First, Last, Low, High, LowBound, DomainOf, Id, ReadWord, ReadFEWord, ReadFFWord, Number, TruthWord, Named, LocalesWord, LocaleCount, HereWord, Grouped, DomainLiteral, Prefixed, Reduced, Chain, Postfixed, One, RangeItem, Stride, NoStride, By, Links, NoLinks, Link, Posts, NoPosts, Post, PostTree, Brackets, Rounds, Dotted, MethodTree, Plainly, Dim, Contains, Expand, CellRead, Items, FirstItem, MoreItems, NoItems, NextItem, Exprs, FirstExpr, MoreExprs, NoExprs, NextExpr}
+use Rattle.dpl_language.specs.Tree.{Placed, AfterComma, Listed, Infix, Add, Subtract, Multiply, Divide, Remainder, Less, LessEqual, Greater, GreaterEqual, Equal, NotEqual, And, Or, Minus, Not, Op, Sum, Product, AllOf, AnyOf, BitAnd, BitOr, BitXor, Least, Greatest, Dots, Closed, HalfOpen, Counted, Word, Size, First, Last, Low, High, LowBound, DomainOf, Id, ReadWord, ReadFEWord, ReadFFWord, Number, TruthWord, Named, LocalesWord, LocaleCount, HereWord, Grouped, DomainLiteral, Prefixed, Reduced, Chain, Postfixed, One, RangeItem, Stride, NoStride, By, Links, NoLinks, Link, Posts, NoPosts, Post, PostTree, Brackets, Rounds, Dotted, MethodTree, Plainly, Dim, Contains, Expand, CellRead, Items, FirstItem, MoreItems, NoItems, NextItem, Exprs, FirstExpr, MoreExprs, NoExprs, NextExpr}
 use Rattle.dpl_grammar.specs.Classes.{Class, names, numbers, sign, keyword, contextual}
 use Rattle.dpl_grammar.specs.Rule.{Beginning, Whole, Begun, token, below, either, many, run, complete, ◌⟶◌, ◌⨾◌, ◌↓◌, ◌∎, done, maybe, means, closed, opened, choice, ended}
 use Rattle.dpl_spelling.specs.Nested.{Expression, Item, ItemBelow, ExpressionBelow, NegBelow, NotBelow, RedBelow, Rule, Late}

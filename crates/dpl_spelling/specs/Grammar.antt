@@ -1,14 +1,14 @@
 -- The grammar of programs, and each rule that may stand one level deeper.
 -- Read `Nested`, `Expressions`, `Declarations` and `Statements` before it.
-use Rattle.std.specs.Prelude.{ℕ, List, [], ◌∷◌}
+use Rattle.std.specs.Prelude.{ℕ, List}
 use Rattle.dpl_syntax.specs.declared.place.Place.{Place}
 use Rattle.dpl_syntax.specs.declared.token.Keyword.TheVariants as word_of
 use Rattle.dpl_syntax.specs.declared.token.Contextual.TheVariants as contextual_of
 use Rattle.dpl_syntax.specs.declared.token.Sign.TheVariants as sign_of
 use Rattle.dpl_language.specs.Tree.{Module, ModuleTree, BlockModule, CyclicModule, BlockCyclicModule, UseTree, ProgramTree}
 use Rattle.dpl_grammar.specs.Classes.{Class, end, sign, keyword, contextual}
-use Rattle.dpl_grammar.specs.Rule.{token, either, many, whole, closed, choice, ◌⟶◌, ◌⨾◌, ◌∎, Grammar}
-use Rattle.dpl_spelling.specs.Nested.{Statement, Rule, Late, nested, takes_else, ItemBelow, ExpressionBelow, NegBelow, NotBelow, RedBelow, StartBelow, InsideBelow, StatementBelow, PlainBelow}
+use Rattle.dpl_grammar.specs.Rule.{token, either, many, whole, closed, ◌⟶◌, ◌⨾◌, ◌∎, Grammar}
+use Rattle.dpl_spelling.specs.Nested.{Statement, Rule, nested, ItemBelow, ExpressionBelow, NegBelow, NotBelow, RedBelow, StartBelow, InsideBelow, StatementBelow, PlainBelow}
 use Rattle.dpl_spelling.specs.Expressions.{listed, base, red, not, neg, expression, item}
 use Rattle.dpl_spelling.specs.Declarations.{start, inside, config_declaration}
 use Rattle.dpl_spelling.specs.Statements.{stmts_of, plain_statement, statement}

@@ -5,6 +5,8 @@ pub mod Declarations
 pub mod Statements
 pub mod Grammar
 pub mod Theorem
+-- What is true of each tree that tokens spell.
+pub mod Spelt
 -- What serves contracts and proofs alone.
 pub mod Reading
 pub mod Parts

@@ -1,7 +1,6 @@
 -- The rules of the grammar that may stand one level deeper, and what the values of rules are made of.
 -- Brackets, prefixes and bodies go one level deeper; at most 64 levels are read.
-use Rattle.std.specs.Prelude.{ℕ, ℤ, pos, negsuc, Bool, true, false, List, [], ◌∷◌, ◌++◌, Option, Some, None}
-use Rattle.dpl_syntax.specs.declared.place.Place.{Place}
+use Rattle.std.specs.Prelude.{ℕ, Bool, true, false, List, [], ◌++◌}
 use Rattle.dpl_syntax.specs.declared.token.Keyword.TheVariants.{True, False, Locales, NumLocales, Here, Min, Max, Const, Var, Write as WriteWord, Writeln, If as IfWord, Else as ElseWord, While as WhileWord, For as ForWord, Forall as ForallWord, Coforall as CoforallWord, On as OnWord, By as ByWord}
 use Rattle.dpl_syntax.specs.declared.token.Sign.TheVariants as sign_of
 use Rattle.dpl_language.specs.Tree.{ExprTree, ItemTree, Listed, StartTree, StmtTree, Nothing, Declare, Assigned, Call, Write, Block, If, While, For, Forall, Coforall, On, Body, WordBody, BlockBody, NoElse, ElseDo}
