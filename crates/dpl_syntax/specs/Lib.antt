@@ -3,6 +3,7 @@ pub mod Tokens
 pub mod Gaps
 pub mod Text
 pub mod Refused
+pub mod Places
 pub mod Tree
 pub mod Values
 pub mod Lines
