@@ -1,6 +1,8 @@
 -- Two environments that agree step by step give the same meaning to every tree that fits.
 -- The whole theorem: for each statement, for statements in order, and for a program's statements.
 use Rattle.std.proofs.Common.{◌≡◌, List, [], refl, sym, subst, None, nat_lt}
+use Rattle.std.specs.Prelude.{All}
+use Rattle.std.proofs.lemmas.List.Elements.{All-weaker}
 use Rattle.dpl_language.specs.Tree.{Op, ExprTree, VariablesTree, StmtTree, Nothing, Declare, Assigned, Call, Write, Block, If, While, For, Forall, Coforall, On, Body, WordBody, BlockBody, Stmts, NoStmts, Then, Else, NoElse, ElseDo}
 use Rattle.dpl_language.specs.Values.{Value, Index, number, fault, PastLimit}
 use Rattle.dpl_language.specs.Ranges.{indices_in, size_in, loop_ranges}
@@ -12,10 +14,10 @@ use Rattle.dpl_language.specs.Statements.{task_limit, holds, exec, exec_body, ex
 use Rattle.dpl_language.specs.Renamed.{renamed_expr, renamed_variables, renamed_stmt, renamed_body, renamed_stmts, renamed_else, renamed_intents}
 use Rattle.dpl_language.specs.Scopes.{Scoping, add_variables, inside, fits_expr, fits_variables, after, after_all, after_body, fits, fits_body, fits_all, fits_else}
 use Rattle.dpl_language.specs.Agreement.{Simulates, EndsAlike, RunAlike}
-use Rattle.dpl_language.proofs.RunsAlike.{with_ok-same, then_do-alike, with_value-alike, choose-alike, unless-alike, repeated-alike, within_budget-alike, named_turn-alike}
+use Rattle.dpl_language.proofs.RunsAlike.{with_ok-same, then_do-alike, with_value-alike, with_value-alike_by, choose-alike, unless-alike, repeated-alike, within_budget-alike, named_turns-alike}
 use Rattle.dpl_language.proofs.RenamedParts.{intents_of-renamed}
 use Rattle.dpl_language.proofs.ExpressionsAlike.{value_of-renamed, item_of-renamed}
-use Rattle.dpl_language.proofs.LoopsAlike.{leave-after_stmt_in, leave-after_all_in, leave-after_body_in, scoped-alike, turn_of-alike, tasks_of-alike}
+use Rattle.dpl_language.proofs.LoopsAlike.{leave-after_stmt_in, leave-after_all_in, leave-after_body_in, HoldsTurn, scoped-alike, turns-held, turn_of-alike, tasks_of-alike}
 use Rattle.dpl_language.proofs.AssignmentsAlike.{assign-alike, cell_call-alike, write-alike}
 use Rattle.dpl_language.proofs.DeclarationsAlike.{declare-alike}
 
@@ -24,12 +26,13 @@ module _ {M N G S1 S2 : Type 0} (limits : Limits) (name : N → M) (scoping : Sc
   holds-renamed e g s1 s2 r f = with_ok-same _ _ _ _ (value_of-renamed limits name scoping first second R sim e None g s1 s2 r f) (λ v. refl)
 
   -- a loop's turns, where the body ends alike
-  turns-alike : (xs : VariablesTree N) (over : Value) (g : G) (b : Body N) (a1 : Run S1) (a2 : Run S2) → fits_variables scoping xs (scoping.enter g)
-      → RunAlike (R (inside scoping xs g)) (R (after_body scoping b (inside scoping xs g))) a1 a2
-      → (t : Index) → RunAlike (R g) (R g) (turn_of first (renamed_variables name xs) over a1 t) (turn_of second xs over a2 t)
-  turns-alike xs over g b a1 a2 f p =
-      turn_of-alike limits name scoping first second R sim xs over g (after_body scoping b (inside scoping xs g)) a1 a2 f
-      (leave-after_body_in scoping sim.lawful b (add_variables scoping xs (scoping.enter g))) p
+  turns-alike : (xs : VariablesTree N) (over : Value) (ts : List Index) (g : G) (b : Body N) (a1 : Run S1) (a2 : Run S2) → fits_variables scoping xs (scoping.enter g)
+      → All (λ t. HoldsTurn scoping xs over t) ts → RunAlike (R (inside scoping xs g)) (R (after_body scoping b (inside scoping xs g))) a1 a2
+      → All (λ t. RunAlike (R g) (R g) (turn_of first (renamed_variables name xs) over a1 t) (turn_of second xs over a2 t)) ts
+  turns-alike xs over ts g b a1 a2 f h p =
+      All-weaker (λ t. HoldsTurn scoping xs over t) (λ t. RunAlike (R g) (R g) (turn_of first (renamed_variables name xs) over a1 t) (turn_of second xs over a2 t))
+      (turn_of-alike limits name scoping first second R sim xs over g (after_body scoping b (inside scoping xs g)) a1 a2 f
+      (leave-after_body_in scoping sim.lawful b (add_variables scoping xs (scoping.enter g))) p) ts h
 
   -- a forall's turns, with its intents
   forall-alike : (g : G) (is : List (N × Op)) (a1 : Run S1) (a2 : Run S2) → scoping.intends is g → RunAlike (R (scoping.intend is g)) (R (scoping.intend is g)) a1 a2
@@ -53,7 +56,7 @@ module _ {M N G S1 S2 : Type 0} (limits : Limits) (name : N → M) (scoping : Sc
     pub exec-alike : (t : StmtTree N) (g : G) → fits scoping t g → RunAlike (R g) (R (after scoping t g)) (exec limits first (renamed_stmt name t)) (exec limits second t)
     exec-alike (Nothing at) g f s1 s2 done r = (s2, r, refl)
     exec-alike (Declare d) g f s1 s2 done r = declare-alike limits name scoping first second R sim d g f s1 s2 done r
-    exec-alike (Assigned target sign item semicolon) g f s1 s2 done r = assign-alike limits name scoping first second R sim target sign item g f.0 f.1 s1 s2 done r
+    exec-alike (Assigned target sign item semicolon) g f s1 s2 done r = assign-alike limits name scoping first second R sim target sign item g f.0 f.1 f.2 s1 s2 done r
     exec-alike (Call x dot call semicolon) g f s1 s2 done r = cell_call-alike limits name scoping first second R sim x call g f.0 f.1 f.2 s1 s2 done r
     exec-alike (Write w) g f s1 s2 done r = write-alike limits name scoping first second R sim w g f s1 s2 done r
     exec-alike (Block from body upto) g f s1 s2 done r =
@@ -67,26 +70,32 @@ module _ {M N G S1 S2 : Type 0} (limits : Limits) (name : N → M) (scoping : Sc
         repeated-alike limits.budget at (R g) _ _ _ _ (λ s1 s2 r. holds-renamed e g s1 s2 r f.0)
         (scoped-alike limits name scoping first second R sim g (after_body scoping body (scoping.enter g)) _ _ (leave-after_body_in scoping sim.lawful body g) (exec_body-alike body (scoping.enter g) f.1)) s1 s2 done r
     exec-alike (For at xs word item body) g f s1 s2 done r =
-        with_value-alike (R g) _ _ _ _ s1 s2 done (item_of-renamed limits name scoping first second R sim item None g s1 s2 r f.0)
-        (λ v. within_budget-alike limits at (loop_ranges limits.locales v) (R g) _ _
-        (turns-alike xs v g body _ _ f.1 (exec_body-alike body (inside scoping xs g) f.2)) s1 s2 done r)
+        with_value-alike_by (R g) _ _ _ _ s1 s2 done (item_of-renamed limits name scoping first second R sim item None g s1 s2 r f.0)
+        (λ v e. within_budget-alike limits at (loop_ranges limits.locales v) (R g) _ _
+        (turns-alike xs v (indices_in (loop_ranges limits.locales v)) g body _ _ f.2 (turns-held limits name scoping first second R sim xs item v g s1 s2 r f.1 e)
+        (exec_body-alike body (inside scoping xs g) f.3)) s1 s2 done r)
     exec-alike (Forall at xs word item intents body) g f s1 s2 done r =
-        with_value-alike (R g) _ _ _ _ s1 s2 done (item_of-renamed limits name scoping first second R sim item None g s1 s2 r f.0)
-        (λ v. subst (λ is. EndsAlike (R g)
+        with_value-alike_by (R g) _ _ _ _ s1 s2 done (item_of-renamed limits name scoping first second R sim item None g s1 s2 r f.0)
+        (λ v e. subst (λ is. EndsAlike (R g)
         (then_do (within_budget limits at (loop_ranges limits.locales v) (named_turn (turn_of first (renamed_variables name xs) v (exec_body limits first (renamed_body name body)))) (first.intend is s1) done)
         (λ s done. Done (first.intend [] s) done))
         (then_do (within_budget limits at (loop_ranges limits.locales v) (named_turn (turn_of second xs v (exec_body limits second body))) (second.intend (intents_of intents) s2) done)
         (λ s done. Done (second.intend [] s) done)))
         (sym (intents_of-renamed name intents))
-        (forall-alike g (intents_of intents) _ _ f.1
+        (forall-alike g (intents_of intents) _ _ f.2
         (within_budget-alike limits at (loop_ranges limits.locales v) (R (scoping.intend (intents_of intents) g)) _ _
-        (named_turn-alike (R (scoping.intend (intents_of intents) g)) _ _
-        (turns-alike xs v (scoping.intend (intents_of intents) g) body _ _ f.2 (exec_body-alike body (inside scoping xs (scoping.intend (intents_of intents) g)) f.3)))) s1 s2 done r))
+        (named_turns-alike (indices_in (loop_ranges limits.locales v)) (R (scoping.intend (intents_of intents) g))
+        (turn_of first (renamed_variables name xs) v (exec_body limits first (renamed_body name body))) (turn_of second xs v (exec_body limits second body))
+        (turns-alike xs v (indices_in (loop_ranges limits.locales v)) (scoping.intend (intents_of intents) g) body _ _ f.3
+        (turns-held limits name scoping first second R sim xs item v g s1 s2 r f.1 e)
+        (exec_body-alike body (inside scoping xs (scoping.intend (intents_of intents) g)) f.4)))) s1 s2 done r))
     exec-alike (Coforall at xs word item intents body) g f s1 s2 done r =
-        with_value-alike (R g) _ _ _ _ s1 s2 done (item_of-renamed limits name scoping first second R sim item None g s1 s2 r f.0)
-        (λ v. unless-alike (nat_lt task_limit (size_in (loop_ranges limits.locales v))) (fault PastLimit at) (R g) (R g) _ _
-        (tasks_of-alike limits name scoping first second R sim g (scoping.begin g) _ _ (indices_in (loop_ranges limits.locales v)) f.1
-        (turns-alike xs v (scoping.begin g) body _ _ f.2 (exec_body-alike body (inside scoping xs (scoping.begin g)) f.3))) s1 s2 done r)
+        with_value-alike_by (R g) _ _ _ _ s1 s2 done (item_of-renamed limits name scoping first second R sim item None g s1 s2 r f.0)
+        (λ v e. unless-alike (nat_lt task_limit (size_in (loop_ranges limits.locales v))) (fault PastLimit at) (R g) (R g) _ _
+        (tasks_of-alike limits name scoping first second R sim g (scoping.begin g)
+        (turn_of first (renamed_variables name xs) v (exec_body limits first (renamed_body name body))) (turn_of second xs v (exec_body limits second body)) (indices_in (loop_ranges limits.locales v)) f.2
+        (turns-alike xs v (indices_in (loop_ranges limits.locales v)) (scoping.begin g) body _ _ f.3 (turns-held limits name scoping first second R sim xs item v g s1 s2 r f.1 e)
+        (exec_body-alike body (inside scoping xs (scoping.begin g)) f.4))) s1 s2 done r)
     exec-alike (On at e body) g f s1 s2 done r =
         with_value-alike (R g) _ _ _ _ s1 s2 done (value_of-renamed limits name scoping first second R sim e None g s1 s2 r f.0)
         (λ v. on-alike g v _ _

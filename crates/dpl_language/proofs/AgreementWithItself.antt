@@ -1,14 +1,16 @@
--- An environment agrees with itself, whatever may be done with names where: all laws can be kept at once.
--- Then the theorem's premises are met by each tree that fits.
+-- An environment agrees with itself, whatever may be done with names where, if each may hold anything.
+-- So all laws can be kept at once, and the theorem's premises are met by each tree that fits.
 use Rattle.std.proofs.Common.{◌≡◌, [], refl, ap, ◌∙◌, subst}
 use Rattle.dpl_language.specs.Tree.{StmtTree}
 use Rattle.dpl_language.specs.Values.{index_of, array_domain, is_domain}
+use Rattle.dpl_language.specs.Ranges.{indices_in, loop_ranges, loop_value}
 use Rattle.dpl_language.specs.Outcome.{Deeds}
-use Rattle.dpl_language.specs.Environment.{Answer, Replied, Unanswered, Environment, Limits}
+use Rattle.dpl_language.specs.Environment.{Content, Plain, Answer, Replied, Unanswered, Environment, Limits}
 use Rattle.dpl_language.specs.Statements.{exec}
 use Rattle.dpl_language.specs.Scopes.{Scoping, IsLawful, fits}
 use Rattle.dpl_language.specs.Agreement.{AnswersAlike, Simulates, EndsAlike}
 use Rattle.dpl_language.proofs.RenamedSame.{renamed_stmt-same, renamed_content-same, renamed_intents-same}
+use Rattle.dpl_language.proofs.RunsAlike.{All-every}
 use Rattle.dpl_language.proofs.Agreement.{exec-alike}
 
 answers_itself : {S : Type 0} (a : Answer S) → AnswersAlike (λ s1 s2. s1 ≡ s2) a a
@@ -16,19 +18,22 @@ answers_itself (Replied c r s) = (s, refl, refl)
 answers_itself (Unanswered c) = refl
 
 module _ {N G S : Type 0} (limits : Limits) (scoping : Scoping N G) (env : Environment N S) where
-  pub simulates_itself : IsLawful scoping → Simulates limits (λ x. x) scoping env env (λ g s1 s2. s1 ≡ s2)
-  simulates_itself lawful = record {
+  pub simulates_itself : IsLawful scoping → ((x : N) (c : Content N) → scoping.holds x c) → Simulates limits (λ x. x) scoping env env (λ g s1 s2. s1 ≡ s2)
+  simulates_itself lawful held = record {
     lawful = lawful;
     gets = λ x g s1 s2 r f. ap (env.get x) r;
     whole_targets = λ x op g s1 s2 r f. ap (λ s. array_domain (env.get x s)) r;
     domain_targets = λ x op g s1 s2 r f. ap (λ s. is_domain (env.get x s)) r;
-    updates = λ x op v g s1 s2 r f. ap (env.update x op v) r;
+    updates = λ x op v g s1 s2 r f h. ap (env.update x op v) r;
     elements_at = λ x t g s1 s2 r f. ap (env.element x t) r;
     elements = λ x items vs g s1 s2 r f e. ap (env.element x (index_of vs)) r;
     puts_at = λ x t v g s1 s2 r f. ap (env.put_element x t v) r;
     puts = λ x items vs v g s1 s2 r f e. ap (env.put_element x (index_of vs) v) r;
-    declares = λ x c g s1 s2 r f. ap (λ c. env.declare x c s1) (renamed_content-same c) ∙ ap (env.declare x c) r;
+    declares = λ x c g s1 s2 r f h. ap (λ c. env.declare x c s1) (renamed_content-same c) ∙ ap (env.declare x c) r;
     gives = λ x g s1 s2 r f. ap (env.given x) r;
+    suited = λ x item v g s1 s2 r f e. held x (Plain v);
+    turned = λ x item over g s1 s2 r f e. All-every (λ t. scoping.holds x (Plain (loop_value over t))) (λ t. held x (Plain (loop_value over t))) (indices_in (loop_ranges limits.locales over));
+    given_holds = λ x v g s1 s2 r f e. held x (Plain v);
     enters = λ g s1 s2 r. ap env.enter r;
     leaves = λ g s1 s2 r. ap env.leave r;
     intends = λ is g s1 s2 r f. ap (λ is. env.intend is s1) (renamed_intents-same is) ∙ ap (env.intend is) r;
@@ -45,7 +50,7 @@ module _ {N G S : Type 0} (limits : Limits) (scoping : Scoping N G) (env : Envir
   }
 
   -- so the theorem's premises are met by every tree that fits
-  pub exec-itself : IsLawful scoping → (t : StmtTree N) (g : G) → fits scoping t g → (s : S) (done : Deeds) → EndsAlike (λ s1 s2. s1 ≡ s2) (exec limits env t s done) (exec limits env t s done)
-  exec-itself lawful t g f s done =
+  pub exec-itself : IsLawful scoping → ((x : N) (c : Content N) → scoping.holds x c) → (t : StmtTree N) (g : G) → fits scoping t g → (s : S) (done : Deeds) → EndsAlike (λ s1 s2. s1 ≡ s2) (exec limits env t s done) (exec limits env t s done)
+  exec-itself lawful held t g f s done =
       subst (λ u. EndsAlike (λ s1 s2. s1 ≡ s2) (exec limits env u s done) (exec limits env t s done)) (renamed_stmt-same t)
-      (exec-alike limits (λ x. x) scoping env env (λ g s1 s2. s1 ≡ s2) (simulates_itself lawful) t g f s s done refl)
+      (exec-alike limits (λ x. x) scoping env env (λ g s1 s2. s1 ≡ s2) (simulates_itself lawful held) t g f s s done refl)

@@ -1,58 +1,80 @@
 -- Assignments, operations on cells and writes end alike in environments that agree.
 -- A right side comes first: it is an expression, or a cell read, which changes the state.
-use Rattle.std.proofs.Common.{◌≡◌, ℕ, Bool, true, false, List, [], ◌∷◌, ◌++◌, refl, sym, ap, ◌∙◌, subst, Some, None, Option, map}
-use Rattle.std.specs.Prelude.{◌&&◌, option_map}
+use Rattle.std.proofs.Common.{◌≡◌, ℕ, pos, Bool, true, false, List, [], ◌∷◌, ◌++◌, refl, sym, ap, ◌∙◌, subst, Ok, Err, Some, None, Option, map}
+use Rattle.std.specs.Prelude.{◌&&◌, if◌then◌else◌, option_map}
+use Rattle.std.specs.Ordering.{int_eq}
+use Rattle.dpl_syntax.specs.declared.place.Place.{Place}
 use Rattle.dpl_history.specs.declared.cell.CellOp.{CellOp}
 use Rattle.dpl_history.specs.declared.cell.CellOp.TheVariants.{Reset}
+use Rattle.dpl_history.specs.declared.cell.Reply.{Reply}
 use Rattle.dpl_range.specs.Equality.{TextRange}
 use Rattle.dpl_language.specs.Tree.{Placed, Kind, AssignTree, ItemTree, One, Exprs, TargetTree, Whole, Element, CallTree, ReadCall, ResetCall, WriteCall, ArgumentTree, TextArgument, ExprArgument, WriteTree}
-use Rattle.dpl_language.specs.Values.{Value, Index, index_of, ranges_in, array_domain, is_domain, cell_kind, kept_number, fault, ArrayTooLarge}
+use Rattle.dpl_language.specs.Values.{Value, Index, index_of, ranges_in, array_domain, is_domain, cell_kind, kept_number, number, fault, ZeroDivisor, ArrayTooLarge}
 use Rattle.dpl_language.specs.Arithmetic.{assigned, assign_divides, tested_divisor}
 use Rattle.dpl_language.specs.Ranges.{indices_in, too_large}
 use Rattle.dpl_language.specs.Printing.{printed_array}
 use Rattle.dpl_language.specs.Outcome.{Deeds, Run, Done, with_text, with_operation, with_value, unless}
-use Rattle.dpl_language.specs.Environment.{Environment, Answer, Replied, Unanswered, Limits}
+use Rattle.dpl_language.specs.Environment.{Plain, Environment, Answer, Replied, Unanswered, Limits}
 use Rattle.dpl_language.specs.Phrases.{ReadTree, item_read, read_op, write_op, bare_name}
 use Rattle.dpl_language.specs.Expressions.{found, item_of, values_of, whole_item}
 use Rattle.dpl_language.specs.Assignments.{reply_value, and_no_more, answered, called, read_or, evaluated, change, assign_array, assign_domain, assign_plain, assign_name, assign, cell_call}
+use Rattle.dpl_language.specs.Loops.{within_budget, named_turn}
 use Rattle.dpl_language.specs.Writing.{or_zero, line_end, arguments_of, name_shown, shown, arguments_then, write}
 use Rattle.dpl_language.specs.Renamed.{renamed, renamed_expr, renamed_item, renamed_exprs, renamed_target, renamed_call, renamed_argument, renamed_write, renamed_read}
-use Rattle.dpl_language.specs.Scopes.{Scoping, items_in, fits_item, fits_exprs, fits_read, fits_side, fits_whole_side, side_for, fits_target, fits_call, fits_shown, fits_arguments}
-use Rattle.dpl_language.specs.Agreement.{Simulates, EndsAlike, RunAlike, AnswersAlike}
-use Rattle.dpl_language.proofs.RunsAlike.{with_value-alike, with_value-alike_by, unless-alike, within_budget-alike, named_turn-alike}
+use Rattle.dpl_language.specs.Scopes.{Scoping, items_in, fits_item, fits_exprs, fits_read, fits_side, fits_whole_side, side_for, suits_target, fits_target, fits_call, fits_shown, fits_arguments}
+use Rattle.dpl_language.specs.Agreement.{MayRead, MayBe, Simulates, EndsAlike, RunAlike, AnswersAlike}
+use Rattle.dpl_language.proofs.RunsAlike.{All-every, with_value-alike, with_value-alike_by, unless-alike, within_budget-alike, named_turn-alike}
 use Rattle.dpl_language.proofs.RenamedParts.{item_read-renamed, bare_name-renamed, arguments_of-renamed}
 use Rattle.dpl_language.proofs.ExpressionsAlike.{items_of-in, fits_item-once, value_of-renamed, item_of-renamed, values_of-renamed, whole_item-renamed}
+
+-- a right side that is no wrong divisor stays as it is
+tested_divisor-same : (dividing : Bool) (at : Place) (v w : Value) → tested_divisor dividing at v ≡ Ok w → v ≡ w
+tested_divisor-same dividing at v w =
+    elim (dividing && int_eq (number v) (pos 0)) as (λ b. (if b then Err (fault ZeroDivisor at) else Ok v) ≡ Ok w → v ≡ w) [ true ↦ λ e. cc | false ↦ λ e. cc ]
 
 module _ {M N G S1 S2 : Type 0} (limits : Limits) (name : N → M) (scoping : Scoping N G) (first : Environment M S1) (second : Environment N S2) (R : G → S1 → S2 → Type 0) (sim : Simulates limits name scoping first second R) where
   -- AN OPERATION ON A CELL
   answered-alike : (x : Placed N) (op : CellOp) (k : Kind) (g h : G) (go1 : Value → Run S1) (go2 : Value → Run S2) (a : Answer S1) (b : Answer S2) (done : Deeds)
-      → AnswersAlike (R g) a b → ((v : Value) → RunAlike (R g) (R h) (go1 v) (go2 v))
+      → AnswersAlike (R g) a b → ((c : Reply) → RunAlike (R g) (R h) (go1 (reply_value k c)) (go2 (reply_value k c)))
       → EndsAlike (R h) (answered limits first (renamed name x) op k go1 a done) (answered limits second x op k go2 b done)
   answered-alike x op k g h go1 go2 (Replied c r s) b done al p =
       subst (λ b. EndsAlike (R h) (go1 (reply_value k r) s (with_operation c op r done)) (answered limits second x op k go2 b done)) (sym al.2)
-      (p (reply_value k r) s al.0 (with_operation c op r done) al.1)
+      (p r s al.0 (with_operation c op r done) al.1)
   answered-alike x op k g h go1 go2 (Unanswered c) b done al p = ap (λ b. answered limits second x op k go2 b done) al
+
+  -- what is done with the reply may need to know that it is one
+  called-alike_by : (x : Placed N) (op : CellOp) (g h : G) (go1 : Value → Run S1) (go2 : Value → Run S2) → scoping.reads x.name g → scoping.calls x.name g
+      → ((v : Value) (s1 : S1) (s2 : S2) → R g s1 s2 → ((a : Reply) × (v ≡ reply_value (cell_kind (second.get x.name s2)) a)) → RunAlike (R g) (R h) (go1 v) (go2 v))
+      → RunAlike (R g) (R h) (called limits first (renamed name x) op go1) (called limits second x op go2)
+  called-alike_by x op g h go1 go2 f c p s1 s2 done r =
+      subst (λ k. EndsAlike (R h) (answered limits first (renamed name x) op k go1 (first.call (name x.name) op s1) done) (called limits second x op go2 s2 done))
+      (sym (ap cell_kind (sim.gets x.name g s1 s2 r f)))
+      (answered-alike x op (cell_kind (second.get x.name s2)) g h go1 go2 (first.call (name x.name) op s1) (second.call x.name op s2) done (sim.calls x.name op g s1 s2 r c)
+      (λ a. p (reply_value (cell_kind (second.get x.name s2)) a) s1 s2 r (a, refl)))
 
   pub called-alike : (x : Placed N) (op : CellOp) (g h : G) (go1 : Value → Run S1) (go2 : Value → Run S2) → scoping.reads x.name g → scoping.calls x.name g
       → ((v : Value) → RunAlike (R g) (R h) (go1 v) (go2 v)) → RunAlike (R g) (R h) (called limits first (renamed name x) op go1) (called limits second x op go2)
-  called-alike x op g h go1 go2 f c p s1 s2 done r =
-      subst (λ k. EndsAlike (R h) (called limits first (renamed name x) op go1 s1 done) (answered limits second x op k go2 (second.call x.name op s2) done))
-      (ap cell_kind (sim.gets x.name g s1 s2 r f))
-      (answered-alike x op (cell_kind (first.get (name x.name) s1)) g h go1 go2 (first.call (name x.name) op s1) (second.call x.name op s2) done (sim.calls x.name op g s1 s2 r c) p)
+  called-alike x op g h go1 go2 f c p = called-alike_by x op g h go1 go2 f c (λ v s1 s2 r m. p v)
 
   -- A RIGHT SIDE
   read_or-alike : (o : Option (ReadTree N)) (item : ItemTree N) (g h : G) (go1 : Value → Run S1) (go2 : Value → Run S2) → fits_read scoping o g → fits_item scoping None item g
-      → ((v : Value) → RunAlike (R g) (R h) (go1 v) (go2 v))
+      → ((v : Value) (s1 : S1) (s2 : S2) → R g s1 s2 → MayRead limits second o item s2 v → RunAlike (R g) (R h) (go1 v) (go2 v))
       → RunAlike (R g) (R h) (read_or limits first (option_map (renamed_read name) o) (renamed_item name item) go1) (read_or limits second o item go2)
   read_or-alike None item g h go1 go2 c f p s1 s2 done r =
-      with_value-alike (R h) _ _ go1 go2 s1 s2 done (item_of-renamed limits name scoping first second R sim item None g s1 s2 r f) (λ v. p v s1 s2 done r)
-  read_or-alike (Some o) item g h go1 go2 c f p s1 s2 done r = called-alike o.name o.op g h go1 go2 c.0 c.1 p s1 s2 done r
+      with_value-alike_by (R h) _ _ go1 go2 s1 s2 done (item_of-renamed limits name scoping first second R sim item None g s1 s2 r f) (λ v e. p v s1 s2 r e s1 s2 done r)
+  read_or-alike (Some o) item g h go1 go2 c f p s1 s2 done r = called-alike_by o.name o.op g h go1 go2 c.0 c.1 p s1 s2 done r
+
+  -- what is done with the value may need to know that it is the side's
+  pub evaluated-alike_by : (item : ItemTree N) (g h : G) (go1 : Value → Run S1) (go2 : Value → Run S2) → fits_side scoping item g
+      → ((v : Value) (s1 : S1) (s2 : S2) → R g s1 s2 → MayBe limits second item s2 v → RunAlike (R g) (R h) (go1 v) (go2 v))
+      → RunAlike (R g) (R h) (evaluated limits first (renamed_item name item) go1) (evaluated limits second item go2)
+  evaluated-alike_by item g h go1 go2 f p s1 s2 done r =
+      subst (λ o. EndsAlike (R h) (read_or limits first o (renamed_item name item) go1 s1 done) (evaluated limits second item go2 s2 done)) (sym (item_read-renamed name item))
+      (read_or-alike (item_read item) item g h go1 go2 f.1 f.0 p s1 s2 done r)
 
   pub evaluated-alike : (item : ItemTree N) (g h : G) (go1 : Value → Run S1) (go2 : Value → Run S2) → fits_side scoping item g
       → ((v : Value) → RunAlike (R g) (R h) (go1 v) (go2 v)) → RunAlike (R g) (R h) (evaluated limits first (renamed_item name item) go1) (evaluated limits second item go2)
-  evaluated-alike item g h go1 go2 f p s1 s2 done r =
-      subst (λ o. EndsAlike (R h) (read_or limits first o (renamed_item name item) go1 s1 done) (evaluated limits second item go2 s2 done)) (sym (item_read-renamed name item))
-      (read_or-alike (item_read item) item g h go1 go2 f.1 f.0 p s1 s2 done r)
+  evaluated-alike item g h go1 go2 f p = evaluated-alike_by item g h go1 go2 f (λ v s1 s2 r m. p v)
 
   -- AN ELEMENT
   -- a change, where the old element is the same and the store of a new one is alike
@@ -81,18 +103,24 @@ module _ {M N G S1 S2 : Type 0} (limits : Limits) (name : N → M) (scoping : Sc
       (λ v. sim.puts x.name (items_in es) vs v g s1 s2 r a (items_of-in limits second es s2 ∙ is)))
 
   -- A WHOLE ARRAY
+  turns_alike : (at : Place) (rs : List TextRange) (g : G) (a : Index → Run S1) (b : Index → Run S2) → ((t : Index) → RunAlike (R g) (R g) (a t) (b t))
+      → RunAlike (R g) (R g) (within_budget limits at rs (named_turn a)) (within_budget limits at rs (named_turn b))
+  turns_alike at rs g a b p =
+      within_budget-alike limits at rs (R g) (named_turn a) (named_turn b)
+      (All-every (λ t. RunAlike (R g) (R g) (named_turn a t) (named_turn b t)) (named_turn-alike (R g) a b p) (indices_in rs))
+
   assign_array-alike : (x : Placed N) (sign : AssignTree) (item : ItemTree N) (rs : List TextRange) (o : Option (List TextRange)) (g : G)
       → scoping.assigns x.name sign.op g → ((t : Index) → scoping.reads_at x.name t g × scoping.assigns_at x.name t g) → fits_whole_side scoping item g
       → RunAlike (R g) (R g) (assign_array limits first (renamed name x) sign (renamed_item name item) rs o) (assign_array limits second x sign item rs o)
   assign_array-alike x sign item rs None g a e f s1 s2 done r =
       evaluated-alike item g g _ _ (fits_item-once scoping [] item g (f.0 []), f.1)
-      (λ w. within_budget-alike limits sign.at rs (R g) _ _ (named_turn-alike (R g) (λ t. change limits first (renamed name x) sign t w) (λ t. change limits second x sign t w) (λ t. change_whole-alike x sign t w g (e t).0 (e t).1))) s1 s2 done r
+      (λ w. turns_alike sign.at rs g (λ t. change limits first (renamed name x) sign t w) (λ t. change limits second x sign t w) (λ t. change_whole-alike x sign t w g (e t).0 (e t).1)) s1 s2 done r
   assign_array-alike x sign item rs (Some arrays) g a e f s1 s2 done r =
-      within_budget-alike limits sign.at rs (R g) _ _ (named_turn-alike (R g)
+      turns_alike sign.at rs g
       (λ t s done. with_value (item_of limits first (renamed_item name item) (Some t) s) (change limits first (renamed name x) sign t) s done)
       (λ t s done. with_value (item_of limits second item (Some t) s) (change limits second x sign t) s done)
       (λ t s1 s2 done r. with_value-alike (R g) _ _ _ _ s1 s2 done (item_of-renamed limits name scoping first second R sim item (Some t) g s1 s2 r (f.0 t))
-      (λ w. change_whole-alike x sign t w g (e t).0 (e t).1 s1 s2 done r))) s1 s2 done r
+      (λ w. change_whole-alike x sign t w g (e t).0 (e t).1 s1 s2 done r)) s1 s2 done r
 
   -- A DOMAIN
   redomained-alike : (x : Placed N) (sign : AssignTree) (v : Value) (g : G) → scoping.assigns x.name sign.op g → (b : Bool)
@@ -112,33 +140,35 @@ module _ {M N G S1 S2 : Type 0} (limits : Limits) (name : N → M) (scoping : Sc
       (redomained-alike x sign v g a (too_large (ranges_in v) && first.has_arrays (name x.name) s1) s1 s2 done r))
 
   -- A PLAIN VARIABLE
-  assign_plain-alike : (x : Placed N) (sign : AssignTree) (item : ItemTree N) (g : G) → scoping.assigns x.name sign.op g → fits_side scoping item g
+  assign_plain-alike : (x : Placed N) (sign : AssignTree) (item : ItemTree N) (g : G) → scoping.assigns x.name sign.op g → fits_side scoping item g → scoping.suits x.name item g
       → RunAlike (R g) (R g) (assign_plain limits first (renamed name x) sign (renamed_item name item)) (assign_plain limits second x sign item)
-  assign_plain-alike x sign item g a f =
-      evaluated-alike item g g _ _ f (λ v s1 s2 done r.
-      with_value-alike (R g) (tested_divisor (assign_divides sign.op) sign.at v) _ _ _ s1 s2 done refl
-      (λ w. (second.update x.name sign.op w s2, sim.updates x.name sign.op w g s1 s2 r a, refl)))
+  assign_plain-alike x sign item g a f h =
+      evaluated-alike_by item g g _ _ f (λ v u1 u2 q m s1 s2 done r.
+      with_value-alike_by (R g) (tested_divisor (assign_divides sign.op) sign.at v) _ _ _ s1 s2 done refl
+      (λ w e.
+      let held = subst (λ v. scoping.holds x.name (Plain v)) (tested_divisor-same (assign_divides sign.op) sign.at v w e) (sim.suited x.name item v g u1 u2 q h m) in
+      (second.update x.name sign.op w s2, sim.updates x.name sign.op w g s1 s2 r a held, refl)))
 
   assign_name-alike : (x : Placed N) (sign : AssignTree) (item : ItemTree N) (o : Option (List TextRange)) (b : Bool) (g : G)
-      → scoping.assigns x.name sign.op g → ((t : Index) → scoping.reads_at x.name t g × scoping.assigns_at x.name t g) → fits_whole_side scoping item g
+      → scoping.assigns x.name sign.op g → ((t : Index) → scoping.reads_at x.name t g × scoping.assigns_at x.name t g) → fits_whole_side scoping item g → scoping.suits x.name item g
       → RunAlike (R g) (R g) (assign_name limits first (renamed name x) sign (renamed_item name item) o b) (assign_name limits second x sign item o b)
-  assign_name-alike x sign item (Some rs) b g a e f s1 s2 done r =
+  assign_name-alike x sign item (Some rs) b g a e f h s1 s2 done r =
       subst (λ o. EndsAlike (R g) (assign_array limits first (renamed name x) sign (renamed_item name item) rs (whole_item limits first (renamed_item name item) s1) s1 done)
       (assign_array limits second x sign item rs o s2 done))
       (whole_item-renamed limits name scoping first second R sim item (Some []) g s1 s2 r (f.0 []))
       (assign_array-alike x sign item rs (whole_item limits first (renamed_item name item) s1) g a e f s1 s2 done r)
-  assign_name-alike x sign item None true g a e f s1 s2 done r = assign_domain-alike x sign item g a (fits_item-once scoping [] item g (f.0 []), f.1) s1 s2 done r
-  assign_name-alike x sign item None false g a e f s1 s2 done r = assign_plain-alike x sign item g a (fits_item-once scoping [] item g (f.0 []), f.1) s1 s2 done r
+  assign_name-alike x sign item None true g a e f h s1 s2 done r = assign_domain-alike x sign item g a (fits_item-once scoping [] item g (f.0 []), f.1) s1 s2 done r
+  assign_name-alike x sign item None false g a e f h s1 s2 done r = assign_plain-alike x sign item g a (fits_item-once scoping [] item g (f.0 []), f.1) h s1 s2 done r
 
-  pub assign-alike : (target : TargetTree N) (sign : AssignTree) (item : ItemTree N) (g : G) → fits_target scoping target sign.op g → side_for scoping target item g
+  pub assign-alike : (target : TargetTree N) (sign : AssignTree) (item : ItemTree N) (g : G) → fits_target scoping target sign.op g → side_for scoping target item g → suits_target scoping target item g
       → RunAlike (R g) (R g) (assign limits first (renamed_target name target) sign (renamed_item name item)) (assign limits second target sign item)
-  assign-alike (Whole x) sign item g a f s1 s2 done r =
+  assign-alike (Whole x) sign item g a f h s1 s2 done r =
       subst (λ o. EndsAlike (R g) (assign limits first (Whole (renamed name x)) sign (renamed_item name item) s1 done) (assign_name limits second x sign item o (is_domain (second.get x.name s2)) s2 done))
       (sim.whole_targets x.name sign.op g s1 s2 r a.0)
       (subst (λ b. EndsAlike (R g) (assign limits first (Whole (renamed name x)) sign (renamed_item name item) s1 done) (assign_name limits second x sign item (array_domain (first.get (name x.name) s1)) b s2 done))
       (sim.domain_targets x.name sign.op g s1 s2 r a.0)
-      (assign_name-alike x sign item (array_domain (first.get (name x.name) s1)) (is_domain (first.get (name x.name) s1)) g a.0 a.1 f s1 s2 done r))
-  assign-alike (Element x shape from es upto) sign item g a f s1 s2 done r =
+      (assign_name-alike x sign item (array_domain (first.get (name x.name) s1)) (is_domain (first.get (name x.name) s1)) g a.0 a.1 f h s1 s2 done r))
+  assign-alike (Element x shape from es upto) sign item g a f h s1 s2 done r =
       evaluated-alike item g g _ _ f (λ w. change_element-alike x sign es w g a.0 a.1 a.2) s1 s2 done r
 
   -- A CELL'S CALL

@@ -1,14 +1,15 @@
 -- Where any name may be used in any way, each tree fits.
 -- For environments that agree of all names, wherever they stand.
-use Rattle.std.proofs.Common.{List, [], ◌∷◌, refl, Some, None, Option}
+use Rattle.std.proofs.Common.{pos, List, [], ◌∷◌, refl, Some, None, Option}
 use Rattle.dpl_syntax.specs.declared.place.Place.{Place}
 use Rattle.dpl_language.specs.Tree.{Placed, ExprTree, Number, TruthWord, Named, LocalesWord, LocaleCount, HereWord, Grouped, DomainLiteral, Prefixed, Reduced, Chain, Postfixed, ItemTree, One, RangeItem, Stride, NoStride, By, Links, NoLinks, Link, Posts, NoPosts, Post, PostTree, Brackets, Rounds, Dotted, MethodTree, Plainly, Dim, Contains, Expand, CellRead, Items, FirstItem, MoreItems, NoItems, NextItem, Exprs, FirstExpr, MoreExprs, NoExprs, NextExpr}
 use Rattle.dpl_language.specs.Tree.{TypeTree, ScalarType, SyncType, DomainType, ArrayType, InitTree, ItemInit, CreateInit, InitialTree, DeclareTree, ArgumentTree, TextArgument, ExprArgument, VariablesTree, OneVariable, ManyVariables, TargetTree, Whole, Element, CallTree, ReadCall, ResetCall, WriteCall, StmtTree, Nothing, Declare, Assigned, Call, Write, Block, If, While, For, Forall, Coforall, On, Body, WordBody, BlockBody, Stmts, NoStmts, Then, Else, NoElse, ElseDo}
-use Rattle.dpl_language.specs.Values.{Index}
+use Rattle.dpl_language.specs.Values.{Value, Int, Domain, Index, default}
+use Rattle.dpl_language.specs.Ranges.{empty_domain}
 use Rattle.dpl_language.specs.Phrases.{Base, BaseName, BaseLocales, OtherBase, base_of, bare_name, ReadTree, item_read, parts}
 use Rattle.dpl_language.specs.Declarations.{type_of}
 use Rattle.dpl_language.specs.Writing.{arguments_of}
-use Rattle.dpl_language.specs.Scopes.{Sort, sort_by, Scoping, IsLawful, items_in, fits_name, fits_element, fits_expr, fits_item, fits_stride, fits_links, fits_posts, fits_post, fits_method, fits_items, fits_more_items, fits_exprs, fits_more_exprs, fits_read, fits_side, fits_whole_side, fits_type, side_by, fits_init, fits_initial, fits_given, fits_declare, fits_target, side_for, fits_call, fits_shown, fits_arguments, fits_each, fits_variables, fits, fits_body, fits_all, fits_else}
+use Rattle.dpl_language.specs.Scopes.{Sort, sort_by, Scoping, IsLawful, items_in, fits_name, fits_element, fits_expr, fits_item, fits_stride, fits_links, fits_posts, fits_post, fits_method, fits_items, fits_more_items, fits_exprs, fits_more_exprs, fits_read, fits_side, fits_whole_side, fits_type, side_by, fits_init, fits_initial, fits_given, suits_init, suits_initial, suits_declared, fits_declare, fits_target, side_for, suits_target, fits_call, fits_shown, fits_arguments, fits_each, fits_variables, holds_ints, suits_turns, fits, fits_body, fits_all, fits_else}
 
 -- any name may be used in any way, and nothing is kept of what is in sight
 abbrev pub anything : {N : Type 0} → Scoping N (Unit {0})
@@ -22,6 +23,9 @@ anything = record {
   calls = λ x g. Unit {0};
   declares = λ x sort g. Unit {0};
   gives = λ x g. Unit {0};
+  holds = λ x c. Unit {0};
+  suits = λ x item g. Unit {0};
+  turns = λ x item g. Unit {0};
   intends = λ is g. Unit {0};
   coforalls = λ g. Unit {0};
   add = λ x sort g. g;
@@ -137,9 +141,24 @@ module _ {N : Type 0} where
   given_fits None x sort = tt
   given_fits (Some config) x sort = (tt, tt, refl)
 
+  init_suits : (x : N) (i : InitTree N) → suits_init anything x i tt
+  init_suits x (ItemInit item mapped) = tt
+  init_suits x (CreateInit c) = λ c e. tt
+
+  initial_suits : (x : N) (v : Value) (i : Option (InitialTree N)) → suits_initial anything x v i tt
+  initial_suits x v None = tt
+  initial_suits x v (Some i) = init_suits x i.init
+
+  declared_suits : (x : N) (t : Option (TypeTree N)) (i : Option (InitialTree N)) → suits_declared anything x t i tt
+  declared_suits x None i = initial_suits x (Int (pos 0)) i
+  declared_suits x (Some (ScalarType at k)) i = initial_suits x (default k) i
+  declared_suits x (Some (SyncType at kind_at k)) i = λ c e. tt
+  declared_suits x (Some (DomainType d)) i = initial_suits x (Domain (empty_domain d.rank)) i
+  declared_suits x (Some (ArrayType a)) i = λ c e. tt
+
   declare_fits : (d : DeclareTree N) → fits_declare anything d tt
   declare_fits d =
-      (type_fits (type_of d.typed), initial_fits (type_of d.typed) d.initial, tt, given_fits d.config d.name.name (sort_by (type_of d.typed)))
+      (type_fits (type_of d.typed), initial_fits (type_of d.typed) d.initial, tt, given_fits d.config d.name.name (sort_by (type_of d.typed)), declared_suits d.name.name (type_of d.typed) d.initial)
 
   target_fits : (t : TargetTree N) (op : _) → fits_target anything t op tt
   target_fits (Whole x) op = (tt, λ t. (tt, tt))
@@ -148,6 +167,10 @@ module _ {N : Type 0} where
   side_for_fits : (t : TargetTree N) (i : ItemTree N) → side_for anything t i tt
   side_for_fits (Whole x) i = whole_side_fits i
   side_for_fits (Element x shape from es upto) i = side_fits i
+
+  target_suits : (t : TargetTree N) (i : ItemTree N) → suits_target anything t i tt
+  target_suits (Whole x) i = tt
+  target_suits (Element x shape from es upto) i = tt
 
   call_fits : (c : CallTree N) → fits_call anything c tt
   call_fits (ReadCall at w from upto) = tt
@@ -171,19 +194,27 @@ module _ {N : Type 0} where
   variables_fit (OneVariable x) = tt
   variables_fit (ManyVariables from xs upto) = each_fits (parts xs)
 
+  ints_hold : (xs : List (Placed N)) → holds_ints anything xs
+  ints_hold [] = tt
+  ints_hold (x ∷ xs) = (λ i. tt, ints_hold xs)
+
+  turns_suit : (xs : VariablesTree N) (i : ItemTree N) → suits_turns anything xs i tt
+  turns_suit (OneVariable x) i = tt
+  turns_suit (ManyVariables from xs upto) i = ints_hold (parts xs)
+
   mutual
     pub stmt_fits : (t : StmtTree N) → fits anything t tt
     stmt_fits (Nothing at) = tt
     stmt_fits (Declare d) = declare_fits d
-    stmt_fits (Assigned target sign item semicolon) = (target_fits target sign.op, side_for_fits target item)
+    stmt_fits (Assigned target sign item semicolon) = (target_fits target sign.op, side_for_fits target item, target_suits target item)
     stmt_fits (Call x dot call semicolon) = (call_fits call, tt, tt)
     stmt_fits (Write w) = arguments_fit (arguments_of w.arguments)
     stmt_fits (Block from body upto) = stmts_fit body
     stmt_fits (If at e first second) = (expr_fits e None, body_fits first, else_fits second)
     stmt_fits (While at e body) = (expr_fits e None, body_fits body)
-    stmt_fits (For at xs word item body) = (item_fits item None, variables_fit xs, body_fits body)
-    stmt_fits (Forall at xs word item intents body) = (item_fits item None, tt, variables_fit xs, body_fits body)
-    stmt_fits (Coforall at xs word item intents body) = (item_fits item None, tt, variables_fit xs, body_fits body)
+    stmt_fits (For at xs word item body) = (item_fits item None, turns_suit xs item, variables_fit xs, body_fits body)
+    stmt_fits (Forall at xs word item intents body) = (item_fits item None, turns_suit xs item, tt, variables_fit xs, body_fits body)
+    stmt_fits (Coforall at xs word item intents body) = (item_fits item None, turns_suit xs item, tt, variables_fit xs, body_fits body)
     stmt_fits (On at e body) = (expr_fits e None, body_fits body)
 
     body_fits : (b : Body N) → fits_body anything b tt

@@ -276,14 +276,17 @@ module _ (f : Text → Text) (same : (x y : Text) → bytes_eq (f x) (f y) ≡ b
     gets = λ x g s1 s2 r a. ap (by_name.get (f x)) r ∙ value_of_name x s2;
     whole_targets = λ x op g s1 s2 r a. ap (λ s. array_domain (by_name.get (f x) s)) r ∙ ap array_domain (value_of_name x s2);
     domain_targets = λ x op g s1 s2 r a. ap (λ s. is_domain (by_name.get (f x) s)) r ∙ ap is_domain (value_of_name x s2);
-    updates = λ x op v g s1 s2 r a. then_so (by_name.update (f x) op v) (by_name.update x op v) (update_of_name x op v) s1 s2 r;
+    updates = λ x op v g s1 s2 r a h. then_so (by_name.update (f x) op v) (by_name.update x op v) (update_of_name x op v) s1 s2 r;
     elements_at = λ x t g s1 s2 r a. ap (by_name.element (f x) t) r ∙ element_of_name x t s2;
     elements = λ x items vs g s1 s2 r a e. ap (by_name.element (f x) (index_of vs)) r ∙ element_of_name x (index_of vs) s2;
     puts_at = λ x t v g s1 s2 r a. then_so (by_name.put_element (f x) t v) (by_name.put_element x t v) (put_of_name x t v) s1 s2 r;
     puts = λ x items vs v g s1 s2 r a e. then_so (by_name.put_element (f x) (index_of vs) v) (by_name.put_element x (index_of vs) v) (put_of_name x (index_of vs) v) s1 s2 r;
-    declares = λ x c g s1 s2 r a. then_so (by_name.declare (f x) (respelled c)) (by_name.declare x c)
+    declares = λ x c g s1 s2 r a h. then_so (by_name.declare (f x) (respelled c)) (by_name.declare x c)
         (λ s. ap (λ t. record (respelled_state s) { store = t }) (declare_in-respelled x c s.store)) s1 s2 r;
     gives = λ x g s1 s2 r a. ap (by_name.given (f x)) r ∙ paired-sets x s2.sets;
+    suited = λ x item v g s1 s2 r a e. tt;
+    turned = λ x item over g s1 s2 r a e k d lt. tt;
+    given_holds = λ x v g s1 s2 r a e. tt;
     enters = λ g s1 s2 r. ap by_name.enter r;
     leaves = λ g s1 s2 r. then_so by_name.leave by_name.leave (λ s. ap (λ t. record (respelled_state s) { store = t }) (without_innermost-respelled s.store)) s1 s2 r;
     intends = λ is g s1 s2 r a. ap (by_name.intend (renamed_intents f is)) r;

@@ -1,6 +1,8 @@
 -- Runs that are put together from runs that end alike end alike.
 -- One lemma for each way in which runs are put together, over any two relations of states.
 use Rattle.std.proofs.Common.{◌≡◌, ℕ, zero, suc, Bool, true, false, List, [], ◌∷◌, refl, sym, ap, ◌∙◌, subst, Ok, Err, Some, None, Result, Option, nat_lt}
+use Rattle.std.specs.Prelude.{All, get_or}
+use Rattle.std.proofs.lemmas.List.Elements.{All-head, All-tail, All-weaker}
 use Rattle.dpl_syntax.specs.declared.place.Place.{Place}
 use Rattle.dpl_range.specs.Equality.{TextRange}
 use Rattle.dpl_language.specs.Values.{Index, Fault, fault, Budget}
@@ -21,6 +23,10 @@ with_ok-same (Err x) b f h e p = ap (λ b. with_ok b h) e
 pub with_ok-same_by : {A B : Type 0} (a b : Result A Fault) (f h : A → Result B Fault) → a ≡ b → ((v : A) → b ≡ Ok v → f v ≡ h v) → with_ok a f ≡ with_ok b h
 with_ok-same_by (Ok v) b f h e p = p v (sym e) ∙ ap (λ b. with_ok b h) e
 with_ok-same_by (Err x) b f h e p = ap (λ b. with_ok b h) e
+
+-- what is so of every element is so of each of a list
+pub All-every : {A : Type 0} (P : A → Type 0) → ((x : A) → P x) → (xs : List A) → All P xs
+All-every P h xs k d lt = h (get_or xs k d)
 
 module _ {S1 S2 : Type 0} where
   pub then_do-alike : (P Q : S1 → S2 → Type 0) (a : Outcome S1) (b : Outcome S2) (go1 : Run S1) (go2 : Run S2) → EndsAlike P a b → RunAlike P Q go1 go2 → EndsAlike Q (then_do a go1) (then_do b go2)
@@ -47,9 +53,10 @@ module _ {S1 S2 : Type 0} where
   unless-alike true f P Q a b p s1 s2 done r = refl
   unless-alike false f P Q a b p s1 s2 done r = p s1 s2 done r
 
-  pub in_order-alike : (ts : List Index) (P : S1 → S2 → Type 0) (a : Index → Run S1) (b : Index → Run S2) → ((t : Index) → RunAlike P P (a t) (b t)) → RunAlike P P (in_order a ts) (in_order b ts)
+  pub in_order-alike : (ts : List Index) (P : S1 → S2 → Type 0) (a : Index → Run S1) (b : Index → Run S2) → All (λ t. RunAlike P P (a t) (b t)) ts → RunAlike P P (in_order a ts) (in_order b ts)
   in_order-alike [] P a b p s1 s2 done r = (s2, r, refl)
-  in_order-alike (t ∷ ts) P a b p s1 s2 done r = then_do-alike P P (a t s1 done) (b t s2 done) (in_order a ts) (in_order b ts) (p t s1 s2 done r) (in_order-alike ts P a b p)
+  in_order-alike (t ∷ ts) P a b p s1 s2 done r = then_do-alike P P (a t s1 done) (b t s2 done) (in_order a ts) (in_order b ts)
+      (All-head (λ t. RunAlike P P (a t) (b t)) t ts p s1 s2 done r) (in_order-alike ts P a b (All-tail (λ t. RunAlike P P (a t) (b t)) t ts p))
 
   -- a `while`
   pub repeated-alike : (n : ℕ) (at : Place) (P : S1 → S2 → Type 0) (t1 : S1 → Result Bool Fault) (t2 : S2 → Result Bool Fault) (a : Run S1) (b : Run S2)
@@ -72,7 +79,11 @@ module _ {S1 S2 : Type 0} where
   pub named_turn-alike : (P : S1 → S2 → Type 0) (a : Index → Run S1) (b : Index → Run S2) → ((t : Index) → RunAlike P P (a t) (b t)) → (t : Index) → RunAlike P P (named_turn a t) (named_turn b t)
   named_turn-alike P a b p t s1 s2 done r = naming-alike P t (a t s1 done) (b t s2 done) (p t s1 s2 done r)
 
-  pub within_budget-alike : (limits : Limits) (at : Place) (rs : List TextRange) (P : S1 → S2 → Type 0) (a : Index → Run S1) (b : Index → Run S2) → ((t : Index) → RunAlike P P (a t) (b t))
+  pub named_turns-alike : (ts : List Index) (P : S1 → S2 → Type 0) (a : Index → Run S1) (b : Index → Run S2) → All (λ t. RunAlike P P (a t) (b t)) ts → All (λ t. RunAlike P P (named_turn a t) (named_turn b t)) ts
+  named_turns-alike ts P a b p =
+      All-weaker (λ t. RunAlike P P (a t) (b t)) (λ t. RunAlike P P (named_turn a t) (named_turn b t)) (λ t q s1 s2 done r. naming-alike P t (a t s1 done) (b t s2 done) (q s1 s2 done r)) ts p
+
+  pub within_budget-alike : (limits : Limits) (at : Place) (rs : List TextRange) (P : S1 → S2 → Type 0) (a : Index → Run S1) (b : Index → Run S2) → All (λ t. RunAlike P P (a t) (b t)) (indices_in rs)
       → RunAlike P P (within_budget limits at rs a) (within_budget limits at rs b)
   within_budget-alike limits at rs P a b p =
       unless-alike (nat_lt limits.budget (size_in rs)) (fault Budget at) P P (in_order a (indices_in rs)) (in_order b (indices_in rs)) (in_order-alike (indices_in rs) P a b p)

@@ -1,15 +1,18 @@
 -- When two ways to keep variables agree: where each step of the one is a step of the other.
 -- Then each run by the one is a run by the other, which proofs/Agreement.antt shows.
-use Rattle.std.specs.Prelude.{◌≡◌, Ok, ℤ, List, []}
+use Rattle.std.specs.Prelude.{◌≡◌, All, Ok, ℤ, Option, Some, None, List, []}
 use Rattle.dpl_history.specs.declared.cell.CellOp.{CellOp}
 use Rattle.dpl_history.specs.declared.cell.Reply.{Reply}
 use Rattle.dpl_history.specs.declared.history.Event.{Event}
 use Rattle.dpl_range.specs.Equality.{TextRange}
-use Rattle.dpl_language.specs.Tree.{Op, Assign, Items}
-use Rattle.dpl_language.specs.Values.{Value, Index, index_of, array_domain, is_domain}
+use Rattle.dpl_language.specs.Tree.{Op, Assign, ItemTree, Items}
+use Rattle.dpl_language.specs.Values.{Value, Index, index_of, array_domain, is_domain, cell_kind}
+use Rattle.dpl_language.specs.Ranges.{indices_in, loop_ranges, loop_value}
 use Rattle.dpl_language.specs.Outcome.{Deeds, Outcome, Done, Stop, Waits, Run}
-use Rattle.dpl_language.specs.Environment.{Content, Answer, Replied, Unanswered, Environment, Limits}
-use Rattle.dpl_language.specs.Expressions.{items_of}
+use Rattle.dpl_language.specs.Environment.{Content, Plain, Answer, Replied, Unanswered, Environment, Limits}
+use Rattle.dpl_language.specs.Phrases.{ReadTree, item_read}
+use Rattle.dpl_language.specs.Expressions.{item_of, items_of}
+use Rattle.dpl_language.specs.Assignments.{reply_value}
 use Rattle.dpl_language.specs.Renamed.{renamed_content, renamed_intents}
 use Rattle.dpl_language.specs.Scopes.{Scoping, IsLawful, sort_of}
 
@@ -18,7 +21,16 @@ abbrev pub AnswersAlike : {S1 S2 : Type 0} → (S1 → S2 → Type 0) → Answer
 AnswersAlike R (Replied c r s) a = (s2 : _) × R s s2 × (a ≡ Replied c r s2)
 AnswersAlike R (Unanswered c) a = a ≡ Unanswered c
 
--- One law for each field of the record of variables. R relates the states of the two where a g is in sight; `name`
+-- A value that a right side may have: an expression's own, and of a cell read that of a reply.
+abbrev pub MayRead : {N S : Type 0} → Limits → Environment N S → Option (ReadTree N) → ItemTree N → S → Value → Type 0
+MayRead limits env None item s v = item_of limits env item None s ≡ Ok v
+MayRead limits env (Some r) item s v = (a : Reply) × (v ≡ reply_value (cell_kind (env.get r.name.name s)) a)
+
+abbrev pub MayBe : {N S : Type 0} → Limits → Environment N S → ItemTree N → S → Value → Type 0
+MayBe limits env item = MayRead limits env (item_read item) item
+
+-- One law for each field of the record of variables, and three more by which a name holds what it may: an environment
+-- that keeps variables of each kind in its own way need agree only where each holds a value of its kind. R relates the states of the two where a g is in sight; `name`
 -- gives the first one's name for each name of the second. What a law asks of a name is what `fits` asks of a tree.
 -- By slots (proofs/SlotsAgree.antt) a g has the frames of the names in sight, each with its slot, and the reduce variables
 -- of the forall around; R says that the store is what these slots stand for, and that all else is the same. What is to be
@@ -34,7 +46,7 @@ pub record Simulates {M N G S1 S2 : Type 0} (limits : Limits) (name : N → M) (
       → array_domain (first.get (name x) s1) ≡ array_domain (second.get x s2)
   pub domain_targets : (x : N) (op : Assign) (g : G) (s1 : S1) (s2 : S2) → R g s1 s2 → scoping.assigns x op g
       → is_domain (first.get (name x) s1) ≡ is_domain (second.get x s2)
-  pub updates : (x : N) (op : Assign) (v : Value) (g : G) (s1 : S1) (s2 : S2) → R g s1 s2 → scoping.assigns x op g
+  pub updates : (x : N) (op : Assign) (v : Value) (g : G) (s1 : S1) (s2 : S2) → R g s1 s2 → scoping.assigns x op g → scoping.holds x (Plain v)
       → R g (first.update (name x) op v s1) (second.update x op v s2)
   -- elements: of a whole array at an index, else at the index that the items give by the second one
   pub elements_at : (x : N) (t : Index) (g : G) (s1 : S1) (s2 : S2) → R g s1 s2 → scoping.reads_at x t g
@@ -46,9 +58,15 @@ pub record Simulates {M N G S1 S2 : Type 0} (limits : Limits) (name : N → M) (
   pub puts : (x : N) (items : Items N) (vs : List Value) (v : Value) (g : G) (s1 : S1) (s2 : S2) → R g s1 s2 → scoping.assigns_element x items g
       → items_of limits second items s2 ≡ Ok vs → R g (first.put_element (name x) (index_of vs) v s1) (second.put_element x (index_of vs) v s2)
   -- declarations
-  pub declares : (x : N) (c : Content N) (g : G) (s1 : S1) (s2 : S2) → R g s1 s2 → scoping.declares x (sort_of c) g
+  pub declares : (x : N) (c : Content N) (g : G) (s1 : S1) (s2 : S2) → R g s1 s2 → scoping.declares x (sort_of c) g → scoping.holds x c
       → R (scoping.add x (sort_of c) g) (first.declare (name x) (renamed_content name c) s1) (second.declare x c s2)
   pub gives : (x : N) (g : G) (s1 : S1) (s2 : S2) → R g s1 s2 → scoping.gives x g → first.given (name x) s1 ≡ second.given x s2
+  -- a name holds what it may: a right side's value, those of a loop's turns, and what the command line gives
+  pub suited : (x : N) (item : ItemTree N) (v : Value) (g : G) (s1 : S1) (s2 : S2) → R g s1 s2 → scoping.suits x item g
+      → MayBe limits second item s2 v → scoping.holds x (Plain v)
+  pub turned : (x : N) (item : ItemTree N) (over : Value) (g : G) (s1 : S1) (s2 : S2) → R g s1 s2 → scoping.turns x item g
+      → item_of limits second item None s2 ≡ Ok over → All (λ t. scoping.holds x (Plain (loop_value over t))) (indices_in (loop_ranges limits.locales over))
+  pub given_holds : (x : N) (v : Value) (g : G) (s1 : S1) (s2 : S2) → R g s1 s2 → scoping.gives x g → second.given x s2 ≡ Some v → scoping.holds x (Plain v)
   -- scopes and foralls
   pub enters : (g : G) (s1 : S1) (s2 : S2) → R g s1 s2 → R (scoping.enter g) (first.enter s1) (second.enter s2)
   pub leaves : (g : G) (s1 : S1) (s2 : S2) → R g s1 s2 → R (scoping.leave g) (first.leave s1) (second.leave s2)

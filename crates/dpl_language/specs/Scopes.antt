@@ -1,10 +1,11 @@
 -- Which names a tree may use where, over any way to keep what is in sight.
--- A tree fits where each of its names is read, assigned, called and declared as that way allows.
-use Rattle.std.specs.Prelude.{◌≡◌, Option, Some, None, List, [], ◌∷◌}
+-- A tree fits where each of its names is read, assigned, called and declared as that way allows, and holds what it may.
+use Rattle.std.specs.Prelude.{◌≡◌, ℤ, pos, Option, Some, None, List, [], ◌∷◌}
 use Rattle.dpl_syntax.specs.declared.place.Place.{Place}
 use Rattle.dpl_language.specs.Tree.{Placed, Op, Assign, ExprTree, Number, TruthWord, Named, LocalesWord, LocaleCount, HereWord, Grouped, DomainLiteral, Prefixed, Reduced, Chain, Postfixed, ItemTree, One, RangeItem, Stride, NoStride, By, Links, NoLinks, Link, Posts, NoPosts, Post, PostTree, Brackets, Rounds, Dotted, MethodTree, Plainly, Dim, Contains, Expand, CellRead, Items, FirstItem, MoreItems, NoItems, NextItem, Exprs, FirstExpr, MoreExprs, NoExprs, NextExpr}
 use Rattle.dpl_language.specs.Tree.{TypeTree, ScalarType, SyncType, DomainType, ArrayType, InitTree, ItemInit, CreateInit, InitialTree, DeclareTree, ArgumentTree, TextArgument, ExprArgument, VariablesTree, OneVariable, ManyVariables, TargetTree, Whole, Element, CallTree, ReadCall, ResetCall, WriteCall, StmtTree, Nothing, Declare, Assigned, Call, Write, Block, If, While, For, Forall, Coforall, On, Body, WordBody, BlockBody, Stmts, NoStmts, Then, Else, NoElse, ElseDo}
-use Rattle.dpl_language.specs.Values.{Index}
+use Rattle.dpl_language.specs.Values.{Value, Int, Domain, Index, default}
+use Rattle.dpl_language.specs.Ranges.{empty_domain}
 use Rattle.dpl_language.specs.Environment.{Content, Plain, ArrayOf, CellOf}
 use Rattle.dpl_language.specs.Phrases.{Base, BaseName, BaseLocales, OtherBase, base_of, bare_name, ReadTree, item_read, declared_over, intents_of, parts}
 use Rattle.dpl_language.specs.Declarations.{type_of}
@@ -46,6 +47,11 @@ pub record Scoping (N G : Type 0) : Type 1 where
   pub declares : N → Sort N → G → Type 0
   -- the command line is asked for a name's value
   pub gives : N → G → Type 0
+  -- a name may be declared with this content, and be assigned its value
+  pub holds : N → Content N → Type 0
+  -- a name may hold the value of this right side, and in each turn of a loop over this item the value of the turn
+  pub suits : N → ItemTree N → G → Type 0
+  pub turns : N → ItemTree N → G → Type 0
   -- a forall with these reduce variables is run, and a coforall
   pub intends : List (N × Op) → G → Type 0
   pub coforalls : G → Type 0
@@ -183,11 +189,32 @@ module _ {N G : Type 0} (scoping : Scoping N G) where
   fits_given (Some config) x sort g =
       scoping.gives x g × scoping.declares x PlainSort g × (scoping.add x PlainSort g ≡ scoping.add x sort g)
 
+  -- What a declaration makes is what its name may hold: of a plain variable its initial value, or where it has none what
+  -- its type gives; of an array, a cell and a created domain each content of that sort.
+  abbrev pub holds_each : N → Sort N → Type 0
+  holds_each x sort = (c : Content N) → sort_of c ≡ sort → scoping.holds x c
+
+  abbrev pub suits_init : N → InitTree N → G → Type 0
+  suits_init x (ItemInit item mapped) g = scoping.suits x item g
+  suits_init x (CreateInit c) g = holds_each x PlainSort
+
+  abbrev pub suits_initial : N → Value → Option (InitialTree N) → G → Type 0
+  suits_initial x v None g = scoping.holds x (Plain v)
+  suits_initial x v (Some i) g = suits_init x i.init g
+
+  abbrev pub suits_declared : N → Option (TypeTree N) → Option (InitialTree N) → G → Type 0
+  suits_declared x None initial g = suits_initial x (Int (pos 0)) initial g
+  suits_declared x (Some (ScalarType at k)) initial g = suits_initial x (default k) initial g
+  suits_declared x (Some (SyncType at kind_at k)) initial g = holds_each x CellSort
+  suits_declared x (Some (DomainType d)) initial g = suits_initial x (Domain (empty_domain d.rank)) initial g
+  suits_declared x (Some (ArrayType a)) initial g = holds_each x (ArraySort (declared_over a.over))
+
   abbrev pub fits_declare : DeclareTree N → G → Type 0
   fits_declare d g =
       fits_type (type_of d.typed) g × fits_initial (side_by (type_of d.typed)) d.initial g
       × scoping.declares d.name.name (sort_by (type_of d.typed)) g
       × fits_given d.config d.name.name (sort_by (type_of d.typed)) g
+      × suits_declared d.name.name (type_of d.typed) d.initial g
 
   -- ASSIGNMENTS, CALLS AND WRITES
   abbrev pub fits_target : TargetTree N → Assign → G → Type 0
@@ -200,6 +227,11 @@ module _ {N G : Type 0} (scoping : Scoping N G) where
   abbrev pub side_for : TargetTree N → ItemTree N → G → Type 0
   side_for (Whole x) = fits_whole_side
   side_for (Element x shape from es upto) = fits_side
+
+  -- a name may hold what is assigned to it; whether it is a plain variable its value tells, and so each is asked
+  abbrev pub suits_target : TargetTree N → ItemTree N → G → Type 0
+  suits_target (Whole x) item g = scoping.suits x.name item g
+  suits_target (Element x shape from es upto) item g = Unit {0}
 
   abbrev pub fits_call : CallTree N → G → Type 0
   fits_call (ReadCall at w from upto) g = Unit {0}
@@ -238,6 +270,15 @@ module _ {N G : Type 0} (scoping : Scoping N G) where
   fits_variables (OneVariable x) g = scoping.declares x.name PlainSort g
   fits_variables (ManyVariables from xs upto) g = fits_each (parts xs) g
 
+  -- one variable may hold the values of its turns, and of several each may hold every int
+  abbrev pub holds_ints : List (Placed N) → Type 0
+  holds_ints [] = Unit {0}
+  holds_ints (x ∷ xs) = ((i : ℤ) → scoping.holds x.name (Plain (Int i))) × holds_ints xs
+
+  abbrev pub suits_turns : VariablesTree N → ItemTree N → G → Type 0
+  suits_turns (OneVariable x) item g = scoping.turns x.name item g
+  suits_turns (ManyVariables from xs upto) item g = holds_ints (parts xs)
+
   -- STATEMENTS
   -- what is in sight behind a statement
   abbrev pub after : StmtTree N → G → G
@@ -266,20 +307,22 @@ module _ {N G : Type 0} (scoping : Scoping N G) where
     pub fits : StmtTree N → G → Type 0
     fits (Nothing at) g = Unit {0}
     fits (Declare d) g = fits_declare d g
-    fits (Assigned target sign item semicolon) g = fits_target target sign.op g × side_for target item g
+    fits (Assigned target sign item semicolon) g =
+        fits_target target sign.op g × side_for target item g × suits_target target item g
     fits (Call x dot call semicolon) g = fits_call call g × scoping.reads x.name g × scoping.calls x.name g
     fits (Write w) g = fits_arguments (arguments_of w.arguments) g
     fits (Block from body upto) g = fits_all body (scoping.enter g)
     fits (If at e first second) g = fits_expr None e g × fits_body first (scoping.enter g) × fits_else second g
     fits (While at e body) g = fits_expr None e g × fits_body body (scoping.enter g)
     fits (For at xs word item body) g =
-        fits_item None item g × fits_variables xs (scoping.enter g) × fits_body body (inside xs g)
+        fits_item None item g × suits_turns xs item g × fits_variables xs (scoping.enter g) × fits_body body (inside xs g)
     fits (Forall at xs word item intents body) g =
-        fits_item None item g × scoping.intends (intents_of intents) g
+        fits_item None item g × suits_turns xs item g × scoping.intends (intents_of intents) g
         × fits_variables xs (scoping.enter (scoping.intend (intents_of intents) g))
         × fits_body body (inside xs (scoping.intend (intents_of intents) g))
     fits (Coforall at xs word item intents body) g =
-        fits_item None item g × scoping.coforalls g × fits_variables xs (scoping.enter (scoping.begin g))
+        fits_item None item g × suits_turns xs item g × scoping.coforalls g
+        × fits_variables xs (scoping.enter (scoping.begin g))
         × fits_body body (inside xs (scoping.begin g))
     fits (On at e body) g = fits_expr None e g × fits_body body (scoping.enter g)
 
