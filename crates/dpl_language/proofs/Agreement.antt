@@ -44,13 +44,13 @@ module _ {M N G S1 S2 : Type 0} (limits : Limits) (name : N → M) (scoping : Sc
       (λ u1 u2 done q. (second.intend [] u2, sim.ends_forall is g u1 u2 q f, refl))
 
   -- on a locale, and back
-  on-alike : (g : G) (v : Value) (a1 : Run S1) (a2 : Run S2) → RunAlike (R g) (R g) a1 a2
+  on-alike : (g : G) (v : Value) (a1 : Run S1) (a2 : Run S2) → scoping.moves g → RunAlike (R g) (R g) a1 a2
       → RunAlike (R g) (R g) (λ s done. then_do (a1 (first.move (number v) s) done) (λ after done. Done (first.move (first.here s) after) done))
       (λ s done. then_do (a2 (second.move (number v) s) done) (λ after done. Done (second.move (second.here s) after) done))
-  on-alike g v a1 a2 p s1 s2 done r =
+  on-alike g v a1 a2 m p s1 s2 done r =
       then_do-alike (R g) (R g) (a1 (first.move (number v) s1) done) (a2 (second.move (number v) s2) done) _ _
-      (p (first.move (number v) s1) (second.move (number v) s2) done (sim.moves (number v) g s1 s2 r))
-      (λ u1 u2 done q. (second.move (second.here s2) u2, subst (λ k. R g (first.move (first.here s1) u1) (second.move k u2)) (sim.heres g s1 s2 r) (sim.moves (first.here s1) g u1 u2 q), refl))
+      (p (first.move (number v) s1) (second.move (number v) s2) done (sim.moves (number v) g s1 s2 r m))
+      (λ u1 u2 done q. (second.move (second.here s2) u2, subst (λ k. R g (first.move (first.here s1) u1) (second.move k u2)) (sim.heres g s1 s2 r) (sim.moves (first.here s1) g u1 u2 q m), refl))
 
   mutual
     pub exec-alike : (t : StmtTree N) (g : G) → fits scoping t g → RunAlike (R g) (R (after scoping t g)) (exec limits first (renamed_stmt name t)) (exec limits second t)
@@ -98,8 +98,8 @@ module _ {M N G S1 S2 : Type 0} (limits : Limits) (name : N → M) (scoping : Sc
         (exec_body-alike body (inside scoping xs (scoping.begin g)) f.4))) s1 s2 done r)
     exec-alike (On at e body) g f s1 s2 done r =
         with_value-alike (R g) _ _ _ _ s1 s2 done (value_of-renamed limits name scoping first second R sim e None g s1 s2 r f.0)
-        (λ v. on-alike g v _ _
-        (scoped-alike limits name scoping first second R sim g (after_body scoping body (scoping.enter g)) _ _ (leave-after_body_in scoping sim.lawful body g) (exec_body-alike body (scoping.enter g) f.1)) s1 s2 done r)
+        (λ v. on-alike g v _ _ f.1
+        (scoped-alike limits name scoping first second R sim g (after_body scoping body (scoping.enter g)) _ _ (leave-after_body_in scoping sim.lawful body g) (exec_body-alike body (scoping.enter g) f.2)) s1 s2 done r)
 
     exec_body-alike : (b : Body N) (g : G) → fits_body scoping b g → RunAlike (R g) (R (after_body scoping b g)) (exec_body limits first (renamed_body name b)) (exec_body limits second b)
     exec_body-alike (WordBody at t) g f s1 s2 done r = exec-alike t g f s1 s2 done r

@@ -13,7 +13,7 @@ use Rattle.dpl_language.proofs.RenamedSame.{renamed_stmt-same, renamed_content-s
 use Rattle.dpl_language.proofs.RunsAlike.{All-every}
 use Rattle.dpl_language.proofs.Agreement.{exec-alike}
 
-answers_itself : {S : Type 0} (a : Answer S) → AnswersAlike (λ s1 s2. s1 ≡ s2) a a
+pub answers_itself : {S : Type 0} (a : Answer S) → AnswersAlike (λ s1 s2. s1 ≡ s2) a a
 answers_itself (Replied c r s) = (s, refl, refl)
 answers_itself (Unanswered c) = refl
 
@@ -38,10 +38,10 @@ module _ {N G S : Type 0} (limits : Limits) (scoping : Scoping N G) (env : Envir
     leaves = λ g s1 s2 r. ap env.leave r;
     intends = λ is g s1 s2 r f. ap (λ is. env.intend is s1) (renamed_intents-same is) ∙ ap (env.intend is) r;
     ends_forall = λ is g s1 s2 r f. ap (env.intend []) r;
-    has = λ x op g s1 s2 r f. ap (env.has_arrays x) r;
-    redomains = λ x op rs g s1 s2 r f. ap (env.redomain x rs) r;
+    has = λ x op g s1 s2 r f w. ap (env.has_arrays x) r;
+    redomains = λ x op rs g s1 s2 r f w. ap (env.redomain x rs) r;
     heres = λ g s1 s2 r. ap env.here r;
-    moves = λ k g s1 s2 r. ap (env.move k) r;
+    moves = λ k g s1 s2 r m. ap (env.move k) r;
     calls = λ x op g s1 s2 r f. subst (λ s. AnswersAlike (λ s1 s2. s1 ≡ s2) (env.call x op s1) (env.call x op s)) r (answers_itself (env.call x op s1));
     cells = λ g s1 s2 r c. ap env.cells r;
     histories = λ g s1 s2 r c. ap env.history r;

@@ -22,7 +22,7 @@ use Rattle.dpl_language.specs.Loops.{within_budget, named_turn}
 use Rattle.dpl_language.specs.Writing.{or_zero, line_end, arguments_of, name_shown, shown, arguments_then, write}
 use Rattle.dpl_language.specs.Renamed.{renamed, renamed_expr, renamed_item, renamed_exprs, renamed_target, renamed_call, renamed_argument, renamed_write, renamed_read}
 use Rattle.dpl_language.specs.Scopes.{Scoping, items_in, fits_item, fits_exprs, fits_read, fits_side, fits_whole_side, side_for, suits_target, fits_target, fits_call, fits_shown, fits_arguments}
-use Rattle.dpl_language.specs.Agreement.{MayRead, MayBe, Simulates, EndsAlike, RunAlike, AnswersAlike}
+use Rattle.dpl_language.specs.Agreement.{MayRead, MayBe, WasDomain, Simulates, EndsAlike, RunAlike, AnswersAlike}
 use Rattle.dpl_language.proofs.RunsAlike.{All-every, with_value-alike, with_value-alike_by, unless-alike, within_budget-alike, named_turn-alike}
 use Rattle.dpl_language.proofs.RenamedParts.{item_read-renamed, bare_name-renamed, arguments_of-renamed}
 use Rattle.dpl_language.proofs.ExpressionsAlike.{items_of-in, fits_item-once, value_of-renamed, item_of-renamed, values_of-renamed, whole_item-renamed}
@@ -123,21 +123,21 @@ module _ {M N G S1 S2 : Type 0} (limits : Limits) (name : N → M) (scoping : Sc
       (λ w. change_whole-alike x sign t w g (e t).0 (e t).1 s1 s2 done r)) s1 s2 done r
 
   -- A DOMAIN
-  redomained-alike : (x : Placed N) (sign : AssignTree) (v : Value) (g : G) → scoping.assigns x.name sign.op g → (b : Bool)
+  redomained-alike : (x : Placed N) (sign : AssignTree) (v : Value) (g : G) → scoping.assigns x.name sign.op g → WasDomain second R x.name g → (b : Bool)
       → RunAlike (R g) (R g) (unless b (fault ArrayTooLarge x.at) (λ s done. Done (first.redomain (name x.name) (ranges_in v) s) done))
       (unless b (fault ArrayTooLarge x.at) (λ s done. Done (second.redomain x.name (ranges_in v) s) done))
-  redomained-alike x sign v g a b =
-      unless-alike b (fault ArrayTooLarge x.at) (R g) (R g) _ _ (λ s1 s2 done r. (second.redomain x.name (ranges_in v) s2, sim.redomains x.name sign.op (ranges_in v) g s1 s2 r a, refl))
+  redomained-alike x sign v g a was b =
+      unless-alike b (fault ArrayTooLarge x.at) (R g) (R g) _ _ (λ s1 s2 done r. (second.redomain x.name (ranges_in v) s2, sim.redomains x.name sign.op (ranges_in v) g s1 s2 r a was, refl))
 
-  assign_domain-alike : (x : Placed N) (sign : AssignTree) (item : ItemTree N) (g : G) → scoping.assigns x.name sign.op g → fits_side scoping item g
+  assign_domain-alike : (x : Placed N) (sign : AssignTree) (item : ItemTree N) (g : G) → scoping.assigns x.name sign.op g → WasDomain second R x.name g → fits_side scoping item g
       → RunAlike (R g) (R g) (assign_domain limits first (renamed name x) (renamed_item name item)) (assign_domain limits second x item)
-  assign_domain-alike x sign item g a f =
+  assign_domain-alike x sign item g a was f =
       evaluated-alike item g g _ _ f (λ v s1 s2 done r.
       subst (λ b. EndsAlike (R g)
       (unless (too_large (ranges_in v) && first.has_arrays (name x.name) s1) (fault ArrayTooLarge x.at) (λ s done. Done (first.redomain (name x.name) (ranges_in v) s) done) s1 done)
       (unless (too_large (ranges_in v) && b) (fault ArrayTooLarge x.at) (λ s done. Done (second.redomain x.name (ranges_in v) s) done) s2 done))
-      (sim.has x.name sign.op g s1 s2 r a)
-      (redomained-alike x sign v g a (too_large (ranges_in v) && first.has_arrays (name x.name) s1) s1 s2 done r))
+      (sim.has x.name sign.op g s1 s2 r a was)
+      (redomained-alike x sign v g a was (too_large (ranges_in v) && first.has_arrays (name x.name) s1) s1 s2 done r))
 
   -- A PLAIN VARIABLE
   assign_plain-alike : (x : Placed N) (sign : AssignTree) (item : ItemTree N) (g : G) → scoping.assigns x.name sign.op g → fits_side scoping item g → scoping.suits x.name item g
@@ -150,15 +150,15 @@ module _ {M N G S1 S2 : Type 0} (limits : Limits) (name : N → M) (scoping : Sc
       (second.update x.name sign.op w s2, sim.updates x.name sign.op w g s1 s2 r a held, refl)))
 
   assign_name-alike : (x : Placed N) (sign : AssignTree) (item : ItemTree N) (o : Option (List TextRange)) (b : Bool) (g : G)
-      → scoping.assigns x.name sign.op g → ((t : Index) → scoping.reads_at x.name t g × scoping.assigns_at x.name t g) → fits_whole_side scoping item g → scoping.suits x.name item g
+      → scoping.assigns x.name sign.op g → (b ≡ true → WasDomain second R x.name g) → ((t : Index) → scoping.reads_at x.name t g × scoping.assigns_at x.name t g) → fits_whole_side scoping item g → scoping.suits x.name item g
       → RunAlike (R g) (R g) (assign_name limits first (renamed name x) sign (renamed_item name item) o b) (assign_name limits second x sign item o b)
-  assign_name-alike x sign item (Some rs) b g a e f h s1 s2 done r =
+  assign_name-alike x sign item (Some rs) b g a was e f h s1 s2 done r =
       subst (λ o. EndsAlike (R g) (assign_array limits first (renamed name x) sign (renamed_item name item) rs (whole_item limits first (renamed_item name item) s1) s1 done)
       (assign_array limits second x sign item rs o s2 done))
       (whole_item-renamed limits name scoping first second R sim item (Some []) g s1 s2 r (f.0 []))
       (assign_array-alike x sign item rs (whole_item limits first (renamed_item name item) s1) g a e f s1 s2 done r)
-  assign_name-alike x sign item None true g a e f h s1 s2 done r = assign_domain-alike x sign item g a (fits_item-once scoping [] item g (f.0 []), f.1) s1 s2 done r
-  assign_name-alike x sign item None false g a e f h s1 s2 done r = assign_plain-alike x sign item g a (fits_item-once scoping [] item g (f.0 []), f.1) h s1 s2 done r
+  assign_name-alike x sign item None true g a was e f h s1 s2 done r = assign_domain-alike x sign item g a (was refl) (fits_item-once scoping [] item g (f.0 []), f.1) s1 s2 done r
+  assign_name-alike x sign item None false g a was e f h s1 s2 done r = assign_plain-alike x sign item g a (fits_item-once scoping [] item g (f.0 []), f.1) h s1 s2 done r
 
   pub assign-alike : (target : TargetTree N) (sign : AssignTree) (item : ItemTree N) (g : G) → fits_target scoping target sign.op g → side_for scoping target item g → suits_target scoping target item g
       → RunAlike (R g) (R g) (assign limits first (renamed_target name target) sign (renamed_item name item)) (assign limits second target sign item)
@@ -167,7 +167,8 @@ module _ {M N G S1 S2 : Type 0} (limits : Limits) (name : N → M) (scoping : Sc
       (sim.whole_targets x.name sign.op g s1 s2 r a.0)
       (subst (λ b. EndsAlike (R g) (assign limits first (Whole (renamed name x)) sign (renamed_item name item) s1 done) (assign_name limits second x sign item (array_domain (first.get (name x.name) s1)) b s2 done))
       (sim.domain_targets x.name sign.op g s1 s2 r a.0)
-      (assign_name-alike x sign item (array_domain (first.get (name x.name) s1)) (is_domain (first.get (name x.name) s1)) g a.0 a.1 f h s1 s2 done r))
+      (assign_name-alike x sign item (array_domain (first.get (name x.name) s1)) (is_domain (first.get (name x.name) s1)) g a.0
+      (λ e. (s1, s2, r, sym (sim.domain_targets x.name sign.op g s1 s2 r a.0) ∙ e)) a.1 f h s1 s2 done r))
   assign-alike (Element x shape from es upto) sign item g a f h s1 s2 done r =
       evaluated-alike item g g _ _ f (λ w. change_element-alike x sign es w g a.0 a.1 a.2) s1 s2 done r
 

@@ -28,6 +28,7 @@ anything = record {
   turns = λ x item g. Unit {0};
   intends = λ is g. Unit {0};
   coforalls = λ g. Unit {0};
+  moves = λ g. Unit {0};
   add = λ x sort g. g;
   enter = λ g. g;
   leave = λ g. g;
@@ -63,7 +64,7 @@ module _ {N : Type 0} where
     expr_fits (Chain e rest) t = (expr_fits e t, links_fit rest t)
     expr_fits (Postfixed e posts) t = (expr_fits e None, posts_fit posts (base_of e))
 
-    item_fits : (i : ItemTree N) (t : Option Index) → fits_item anything t i tt
+    pub item_fits : (i : ItemTree N) (t : Option Index) → fits_item anything t i tt
     item_fits (One e) t = expr_fits e t
     item_fits (RangeItem low at dots high by) t = (expr_fits low None, expr_fits high None, stride_fits by)
 
@@ -215,7 +216,7 @@ module _ {N : Type 0} where
     stmt_fits (For at xs word item body) = (item_fits item None, turns_suit xs item, variables_fit xs, body_fits body)
     stmt_fits (Forall at xs word item intents body) = (item_fits item None, turns_suit xs item, tt, variables_fit xs, body_fits body)
     stmt_fits (Coforall at xs word item intents body) = (item_fits item None, turns_suit xs item, tt, variables_fit xs, body_fits body)
-    stmt_fits (On at e body) = (expr_fits e None, body_fits body)
+    stmt_fits (On at e body) = (expr_fits e None, tt, body_fits body)
 
     body_fits : (b : Body N) → fits_body anything b tt
     body_fits (WordBody at t) = stmt_fits t

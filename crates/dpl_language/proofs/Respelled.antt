@@ -291,11 +291,11 @@ module _ (f : Text → Text) (same : (x y : Text) → bytes_eq (f x) (f y) ≡ b
     leaves = λ g s1 s2 r. then_so by_name.leave by_name.leave (λ s. ap (λ t. record (respelled_state s) { store = t }) (without_innermost-respelled s.store)) s1 s2 r;
     intends = λ is g s1 s2 r a. ap (by_name.intend (renamed_intents f is)) r;
     ends_forall = λ is g s1 s2 r a. ap (by_name.intend []) r;
-    has = λ x op g s1 s2 r a. ap (by_name.has_arrays (f x)) r ∙ arrays_over-respelled x s2.store;
-    redomains = λ x op rs g s1 s2 r a. then_so (by_name.redomain (f x) rs) (by_name.redomain x rs)
+    has = λ x op g s1 s2 r a w. ap (by_name.has_arrays (f x)) r ∙ arrays_over-respelled x s2.store;
+    redomains = λ x op rs g s1 s2 r a w. then_so (by_name.redomain (f x) rs) (by_name.redomain x rs)
         (λ s. ap (λ t. record (respelled_state s) { store = t }) (redomain_in-respelled x rs s.store)) s1 s2 r;
     heres = λ g s1 s2 r. ap by_name.here r;
-    moves = λ k g s1 s2 r. ap (by_name.move k) r;
+    moves = λ k g s1 s2 r m. ap (by_name.move k) r;
     calls = λ x op g s1 s2 r a. subst (λ o. AnswersAlike (Respells tt) o (by_name.call x op s2))
         (sym (ap (by_name.call (f x) op) r ∙ call_in-respelled x op s2 s2.replies)) (answers_alike (by_name.call x op s2));
     cells = λ g s1 s2 r c. ap by_name.cells r ∙ store_cells-respelled s2.store;

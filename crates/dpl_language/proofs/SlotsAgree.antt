@@ -140,6 +140,7 @@ resolving names = record {
   turns = λ x item g. Unit {0};
   intends = λ is g. g.intents ≡ [];
   coforalls = λ g. Unit {0};
+  moves = λ g. Unit {0};
   add = λ x sort g. record g { frames = bind x g.frames };
   enter = λ g. record g { frames = [] ∷ g.frames };
   leave = λ g. record g { frames = without_frame g.frames };
@@ -388,11 +389,11 @@ module _ (names : ℕ → Text) where
       replies = r.replies;
       histories = r.histories;
     };
-    has = λ x op g s1 s2 r f.
+    has = λ x op g s1 s2 r f w.
         ap (arrays_over x.text) r.store ∙ arrays_over-slots names x f.0.1 s2.kept g.frames r.apart r.overs f.0.0 ∙ ap (any_over x.slot s2.kept) (sym r.live);
-    redomains = λ x op rs g s1 s2 r f. redomain_alike x rs g s1 s2 r f.0;
+    redomains = λ x op rs g s1 s2 r f w. redomain_alike x rs g s1 s2 r f.0;
     heres = λ g s1 s2 r. r.here;
-    moves = λ k g s1 s2 r. record {
+    moves = λ k g s1 s2 r m. record {
       store = r.store;
       live = r.live;
       apart = r.apart;

@@ -1,6 +1,6 @@
 -- When two ways to keep variables agree: where each step of the one is a step of the other.
 -- Then each run by the one is a run by the other, which proofs/Agreement.antt shows.
-use Rattle.std.specs.Prelude.{◌≡◌, All, Ok, ℤ, Option, Some, None, List, []}
+use Rattle.std.specs.Prelude.{◌≡◌, All, true, Ok, ℤ, Option, Some, None, List, []}
 use Rattle.dpl_history.specs.declared.cell.CellOp.{CellOp}
 use Rattle.dpl_history.specs.declared.cell.Reply.{Reply}
 use Rattle.dpl_history.specs.declared.history.Event.{Event}
@@ -29,9 +29,14 @@ MayRead limits env (Some r) item s v = (a : Reply) × (v ≡ reply_value (cell_k
 abbrev pub MayBe : {N S : Type 0} → Limits → Environment N S → ItemTree N → S → Value → Type 0
 MayBe limits env item = MayRead limits env (item_read item) item
 
+-- in a state before, a name was a domain
+abbrev pub WasDomain : {N G S1 S2 : Type 0} → Environment N S2 → (G → S1 → S2 → Type 0) → N → G → Type 0
+WasDomain {S1 = S1} {S2 = S2} second R x g = (s1 : S1) × (s2 : S2) × R g s1 s2 × (is_domain (second.get x s2) ≡ true)
+
 -- One law for each field of the record of variables, and three more by which a name holds what it may: an environment
--- that keeps variables of each kind in its own way need agree only where each holds a value of its kind. R relates the states of the two where a g is in sight; `name`
--- gives the first one's name for each name of the second. What a law asks of a name is what `fits` asks of a tree.
+-- that keeps variables of each kind in its own way need agree only where each holds a value of its kind. R relates the
+-- states of the two where a g is in sight; `name` gives the first one's name for each name of the second. What a law asks
+-- of a name is what `fits` asks of a tree.
 -- By slots (proofs/SlotsAgree.antt) a g has the frames of the names in sight, each with its slot, and the reduce variables
 -- of the forall around; R says that the store is what these slots stand for, and that all else is the same. What is to be
 -- shown there is that a name's slot is that of its innermost declaration, of domain names that arrays are over and of
@@ -75,12 +80,13 @@ pub record Simulates {M N G S1 S2 : Type 0} (limits : Limits) (name : N → M) (
   pub ends_forall : (is : List (N × Op)) (g : G) (s1 : S1) (s2 : S2) → R (scoping.intend is g) s1 s2 → scoping.intends is g
       → R g (first.intend [] s1) (second.intend [] s2)
   -- domains
-  pub has : (x : N) (op : Assign) (g : G) (s1 : S1) (s2 : S2) → R g s1 s2 → scoping.assigns x op g → first.has_arrays (name x) s1 ≡ second.has_arrays x s2
-  pub redomains : (x : N) (op : Assign) (rs : List TextRange) (g : G) (s1 : S1) (s2 : S2) → R g s1 s2 → scoping.assigns x op g
+  pub has : (x : N) (op : Assign) (g : G) (s1 : S1) (s2 : S2) → R g s1 s2 → scoping.assigns x op g → WasDomain second R x g
+      → first.has_arrays (name x) s1 ≡ second.has_arrays x s2
+  pub redomains : (x : N) (op : Assign) (rs : List TextRange) (g : G) (s1 : S1) (s2 : S2) → R g s1 s2 → scoping.assigns x op g → WasDomain second R x g
       → R g (first.redomain (name x) rs s1) (second.redomain x rs s2)
   -- locales
   pub heres : (g : G) (s1 : S1) (s2 : S2) → R g s1 s2 → first.here s1 ≡ second.here s2
-  pub moves : (k : ℤ) (g : G) (s1 : S1) (s2 : S2) → R g s1 s2 → R g (first.move k s1) (second.move k s2)
+  pub moves : (k : ℤ) (g : G) (s1 : S1) (s2 : S2) → R g s1 s2 → scoping.moves g → R g (first.move k s1) (second.move k s2)
   -- cells and tasks
   pub calls : (x : N) (op : CellOp) (g : G) (s1 : S1) (s2 : S2) → R g s1 s2 → scoping.calls x g → AnswersAlike (R g) (first.call (name x) op s1) (second.call x op s2)
   pub cells : (g : G) (s1 : S1) (s2 : S2) → R g s1 s2 → scoping.coforalls g → first.cells s1 ≡ second.cells s2

@@ -52,9 +52,10 @@ pub record Scoping (N G : Type 0) : Type 1 where
   -- a name may hold the value of this right side, and in each turn of a loop over this item the value of the turn
   pub suits : N → ItemTree N → G → Type 0
   pub turns : N → ItemTree N → G → Type 0
-  -- a forall with these reduce variables is run, and a coforall
+  -- a forall with these reduce variables is run, and a coforall; and a body on a locale
   pub intends : List (N × Op) → G → Type 0
   pub coforalls : G → Type 0
+  pub moves : G → Type 0
   -- what is in sight behind a declaration, in a scope, and behind the scope
   pub add : N → Sort N → G → G
   pub enter : G → G
@@ -324,7 +325,7 @@ module _ {N G : Type 0} (scoping : Scoping N G) where
         fits_item None item g × suits_turns xs item g × scoping.coforalls g
         × fits_variables xs (scoping.enter (scoping.begin g))
         × fits_body body (inside xs (scoping.begin g))
-    fits (On at e body) g = fits_expr None e g × fits_body body (scoping.enter g)
+    fits (On at e body) g = fits_expr None e g × scoping.moves g × fits_body body (scoping.enter g)
 
     pub fits_body : Body N → G → Type 0
     fits_body (WordBody at t) g = fits t g

@@ -1,0 +1,83 @@
+-- An environment seen through other names: each name of the one stands for a name of the other.
+-- A tree means there what it means with its names replaced.
+use Rattle.std.proofs.Common.{◌≡◌, [], refl, sym, ap, ◌∙◌, subst, None}
+use Rattle.dpl_language.specs.Tree.{ItemTree, Stmts}
+use Rattle.dpl_language.specs.Values.{index_of, array_domain, is_domain}
+use Rattle.dpl_language.specs.Outcome.{Deeds, Outcome, Done, Stop, Waits}
+use Rattle.dpl_language.specs.Environment.{Environment, Limits}
+use Rattle.dpl_language.specs.Expressions.{item_of}
+use Rattle.dpl_language.specs.Statements.{exec_all}
+use Rattle.dpl_language.specs.Renamed.{renamed_item, renamed_stmts, renamed_content, renamed_intents}
+use Rattle.dpl_language.specs.Agreement.{AnswersAlike, Simulates, EndsAlike}
+use Rattle.dpl_language.proofs.ExpressionsAlike.{item_of-renamed}
+use Rattle.dpl_language.proofs.FreeNames.{anything, anything-lawful, item_fits, stmts_fit}
+use Rattle.dpl_language.proofs.Agreement.{exec_all-alike}
+use Rattle.dpl_language.proofs.AgreementWithItself.{answers_itself}
+
+abbrev pub through : {M N S : Type 0} → (N → M) → Environment M S → Environment N S
+through f env = record {
+  get = λ x s. env.get (f x) s;
+  update = λ x op v s. env.update (f x) op v s;
+  element = λ x t s. env.element (f x) t s;
+  put_element = λ x t v s. env.put_element (f x) t v s;
+  declare = λ x c s. env.declare (f x) (renamed_content f c) s;
+  given = λ x s. env.given (f x) s;
+  enter = env.enter;
+  leave = env.leave;
+  intend = λ is s. env.intend (renamed_intents f is) s;
+  has_arrays = λ x s. env.has_arrays (f x) s;
+  redomain = λ x rs s. env.redomain (f x) rs s;
+  here = env.here;
+  move = env.move;
+  call = λ x op s. env.call (f x) op s;
+  cells = env.cells;
+  history = env.history;
+  begin = env.begin;
+  settle = env.settle;
+}
+
+same_ends : {S : Type 0} (a b : Outcome S) → EndsAlike (λ s1 s2. s1 ≡ s2) a b → b ≡ a
+same_ends (Done s done) b e = e.2 ∙ ap (λ u. Done u done) (sym e.1)
+same_ends (Stop f done) b e = e
+same_ends (Waits at c op done) b e = e
+
+module _ {M N S : Type 0} (limits : Limits) (f : N → M) (env : Environment M S) where
+  through_simulates : Simulates limits f anything env (through f env) (λ g s1 s2. s1 ≡ s2)
+  through_simulates = record {
+    lawful = anything-lawful;
+    gets = λ x g s1 s2 r a. ap (env.get (f x)) r;
+    whole_targets = λ x op g s1 s2 r a. ap (λ s. array_domain (env.get (f x) s)) r;
+    domain_targets = λ x op g s1 s2 r a. ap (λ s. is_domain (env.get (f x) s)) r;
+    updates = λ x op v g s1 s2 r a h. ap (env.update (f x) op v) r;
+    elements_at = λ x t g s1 s2 r a. ap (env.element (f x) t) r;
+    elements = λ x items vs g s1 s2 r a e. ap (env.element (f x) (index_of vs)) r;
+    puts_at = λ x t v g s1 s2 r a. ap (env.put_element (f x) t v) r;
+    puts = λ x items vs v g s1 s2 r a e. ap (env.put_element (f x) (index_of vs) v) r;
+    declares = λ x c g s1 s2 r a h. ap (env.declare (f x) (renamed_content f c)) r;
+    gives = λ x g s1 s2 r a. ap (env.given (f x)) r;
+    suited = λ x item v g s1 s2 r a e. tt;
+    turned = λ x item over g s1 s2 r a e k d lt. tt;
+    given_holds = λ x v g s1 s2 r a e. tt;
+    enters = λ g s1 s2 r. ap env.enter r;
+    leaves = λ g s1 s2 r. ap env.leave r;
+    intends = λ is g s1 s2 r a. ap (env.intend (renamed_intents f is)) r;
+    ends_forall = λ is g s1 s2 r a. ap (env.intend (renamed_intents f [])) r;
+    has = λ x op g s1 s2 r a w. ap (env.has_arrays (f x)) r;
+    redomains = λ x op rs g s1 s2 r a w. ap (env.redomain (f x) rs) r;
+    heres = λ g s1 s2 r. ap env.here r;
+    moves = λ k g s1 s2 r m. ap (env.move k) r;
+    calls = λ x op g s1 s2 r a. subst (λ s. AnswersAlike (λ s1 s2. s1 ≡ s2) (env.call (f x) op s1) (env.call (f x) op s)) r (answers_itself (env.call (f x) op s1));
+    cells = λ g s1 s2 r c. ap env.cells r;
+    histories = λ g s1 s2 r c. ap env.history r;
+    begins = λ rs g s1 s2 r c. ap (env.begin rs) r;
+    settles = λ h g s1 s2 r c. ap (env.settle h) r;
+  }
+
+  pub item_of-through : (item : ItemTree N) (s : S) → item_of limits (through f env) item None s ≡ item_of limits env (renamed_item f item) None s
+  item_of-through item s =
+      sym (item_of-renamed limits f anything env (through f env) (λ g s1 s2. s1 ≡ s2) through_simulates item None tt s s refl (item_fits item None))
+
+  pub exec_all-through : (ts : Stmts N) (s : S) (done : Deeds) → exec_all limits (through f env) ts s done ≡ exec_all limits env (renamed_stmts f ts) s done
+  exec_all-through ts s done =
+      same_ends (exec_all limits env (renamed_stmts f ts) s done) (exec_all limits (through f env) ts s done)
+      (exec_all-alike limits f anything env (through f env) (λ g s1 s2. s1 ≡ s2) through_simulates ts tt (stmts_fit ts) s s done refl)
