@@ -188,7 +188,7 @@ updated-resolves names op intent v (Plain w) s r = tt
 updated-resolves names op intent v (ArrayOf over k rs vs) s r = r
 updated-resolves names op intent v (CellOf k c) s r = tt
 
-put-spelled : (t : Index) (v : Value) (c : Content Bound) → put_in t v (spelled c) ≡ spelled (with_value_at t v c)
+pub put-spelled : (t : Index) (v : Value) (c : Content Bound) → put_in t v (spelled c) ≡ spelled (with_value_at t v c)
 put-spelled t v (Plain w) = refl
 put-spelled t v (ArrayOf over k rs vs) = refl
 put-spelled t v (CellOf k c) = refl
