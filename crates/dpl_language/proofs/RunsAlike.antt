@@ -29,6 +29,11 @@ pub All-every : {A : Type 0} (P : A → Type 0) → ((x : A) → P x) → (xs : 
 All-every P h xs k d lt = h (get_or xs k d)
 
 module _ {S1 S2 : Type 0} where
+  pub EndsAlike-weaker : (P Q : S1 → S2 → Type 0) → ((s1 : S1) (s2 : S2) → P s1 s2 → Q s1 s2) → (a : Outcome S1) (b : Outcome S2) → EndsAlike P a b → EndsAlike Q a b
+  EndsAlike-weaker P Q q (Done s done) b al = (al.0, q s al.0 al.1, al.2)
+  EndsAlike-weaker P Q q (Stop f done) b al = al
+  EndsAlike-weaker P Q q (Waits at c op done) b al = al
+
   pub then_do-alike : (P Q : S1 → S2 → Type 0) (a : Outcome S1) (b : Outcome S2) (go1 : Run S1) (go2 : Run S2) → EndsAlike P a b → RunAlike P Q go1 go2 → EndsAlike Q (then_do a go1) (then_do b go2)
   then_do-alike P Q (Done s done) b go1 go2 al go = subst (λ b. EndsAlike Q (go1 s done) (then_do b go2)) (sym al.2) (go s al.0 done al.1)
   then_do-alike P Q (Stop f done) b go1 go2 al go = ap (λ b. then_do b go2) al

@@ -4,13 +4,14 @@ use Rattle.std.proofs.Common.{◌≡◌, ◌≢◌, ℕ, ◌<◌, true, false, L
 use Rattle.std.specs.Prelude.{bytes_eq, ◌==◌, if◌then◌else◌, option_map}
 use Rattle.std.proofs.lemmas.Bool.Decides.{Decides-eqb}
 use Rattle.std.proofs.lemmas.List.{map-append}
+use Rattle.dpl_language.specs.Tree.{Op}
 use Rattle.dpl_language.specs.Values.{Value}
 use Rattle.dpl_language.specs.Environment.{Content, Plain}
 use Rattle.dpl_language.specs.Names.{Text}
 use Rattle.dpl_language.proofs.Slots.{Sight as SlotSight, Bound as SlotBound, slot_in, or_slot, slot_of, IsFreshIn, IsFresh, IsApart, bind as slot_bind, without_frame as slots_without_frame, Slots, set_slot, SameIn, frame_at, frame_at-same, store_at, same_slot, other_slot}
 use Rattle.dpl_words.specs.Words.{LeafKind, Leaf, Words, value_at, with_value_at}
 use Rattle.dpl_words.specs.Resolved.{Bound, Sight, leaf_in, or_leaf, innermost, IsUnusedIn, IsUnused, bind, without_frame, IsOfKind, entry_in, frame_in, store_in}
-use Rattle.dpl_words.proofs.OfKind.{value_at-set_same, value_at-set_other}
+use Rattle.dpl_words.proofs.OfKind.{value_at-intend, value_at-set_same, value_at-set_other}
 
 -- AS NAMES IN SLOTS
 abbrev pub placed : Bound → SlotBound
@@ -144,6 +145,11 @@ SameIn-each m n e (b ∷ bs) = (e b.slot, SameIn-each m n e bs)
 pub store_at-each : (m n : Slots) → ((j : ℕ) → m j ≡ n j) → (g : SlotSight) → store_at m g ≡ store_at n g
 store_at-each m n e [] = refl
 store_at-each m n e (f ∷ fs) = ap (λ es. es ∷ store_at m fs) (frame_at-same m n f (SameIn-each m n e f)) ∙ ap (λ t. frame_at n f ∷ t) (store_at-each m n e fs)
+
+-- reduce variables are no values of slots
+pub store_at-intend : (kinds : ℕ → LeafKind) (is : List (ℕ × Op)) (s : Words) (g : SlotSight) → store_at (contents kinds s) g ≡ store_at (contents kinds (record s { intents = is })) g
+store_at-intend kinds is s g =
+    store_at-each (contents kinds s) (contents kinds (record s { intents = is })) (λ j. ap (λ v. Plain v) (value_at-intend (kinds j) j is s)) g
 
 -- a slot's content put there again
 pub set_slot_same : (slot : ℕ) (m : Slots) (j : ℕ) → set_slot slot (m slot) m j ≡ m j

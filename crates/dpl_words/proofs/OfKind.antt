@@ -1,6 +1,6 @@
 -- Values of a kind, as words keep them: what is put into a slot of its kind is what is read there.
 -- And what an assignment makes of values of a kind is one of that kind.
-use Rattle.std.proofs.Common.{◌≡◌, ◌≢◌, ℕ, ◌<◌, ℤ, pos, Bool, true, false, refl, sym, ap, ◌∙◌, subst, Some, None, Option, length}
+use Rattle.std.proofs.Common.{◌≡◌, ◌≢◌, ℕ, ◌<◌, ℤ, pos, Bool, true, false, refl, sym, ap, ◌∙◌, subst, Some, None, Option, List, length}
 use Rattle.std.specs.Prelude.{get_or, set, option_map}
 use Rattle.std.proofs.lemmas.List.{get_or-set_same, get_or-set_other, length-set}
 use Rattle.dpl_language.specs.Tree.{Op, Sum, Product, AllOf, AnyOf, BitAnd, BitOr, BitXor, Least, Greatest, Assign, Set, SetAdd, SetSubtract, SetMultiply, SetDivide, SetRemainder, SetReduce}
@@ -43,6 +43,11 @@ value_at-set_other TruthLeaf RangeLeaf i slot v s ne = refl
 value_at-set_other RangeLeaf IntLeaf i slot v s ne = refl
 value_at-set_other RangeLeaf TruthLeaf i slot v s ne = refl
 value_at-set_other RangeLeaf RangeLeaf i slot v s ne = ap (λ r. Range r) (get_or-set_other s.ranges slot i (first_range (ranges_in v)) no_range ne)
+
+pub value_at-intend : (k : LeafKind) (slot : ℕ) (is : List (ℕ × Op)) (s : Words) → value_at k slot s ≡ value_at k slot (record s { intents = is })
+value_at-intend IntLeaf slot is s = refl
+value_at-intend TruthLeaf slot is s = refl
+value_at-intend RangeLeaf slot is s = refl
 
 pub numbers-set : (k : LeafKind) (slot : ℕ) (v : Value) (s : Words) → length (with_value_at k slot v s).numbers ≡ length s.numbers
 numbers-set IntLeaf slot v s = length-set s.numbers slot (number v)
