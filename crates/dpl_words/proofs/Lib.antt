@@ -3,3 +3,6 @@ pub mod Known
 pub mod OfKind
 pub mod InSight
 pub mod WordsAgree
+-- How a program is seen to fit, and a sample.
+pub mod Suiting
+pub mod WordsSample

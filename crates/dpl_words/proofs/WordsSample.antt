@@ -1,0 +1,96 @@
+-- A sample with its names resolved: it fits, and it writes by words what it writes by names.
+-- It has an int, a truth value, a range, a loop, and a forall with two reduce variables; both loops have one slot for their variable.
+use Rattle.std.proofs.Common.{◌≡◌, ℕ, List, [], ◌∷◌, pos, true, false, refl, sym, ◌∙◌, Some, None, rules}
+use Rattle.std.specs.Prelude.{codes, bytes_eq, int_lt, get_or, if◌then◌else◌}
+use Rattle.std.specs.Int.{int_wrap}
+use Rattle.std.specs.Fmt.{digits}
+use Rattle.dpl_range.specs.Members.{members}
+use Rattle.dpl_domain.specs.Indices.{indices}
+use Rattle.dpl_language.specs.Tree.{Placed, IntKind, ScalarType, Number, TruthWord, Named, Chain, Link, NoLinks, Less, One, RangeItem, Closed, NoStride, ItemInit, Sum, AllOf, Assign, SetAdd, SetReduce, ReduceIntent, OneVariable, Whole, TextArgument, ExprArgument, Declare, Assigned, For, Forall, Write, WordBody, BlockBody, Then, NoStmts, ProgramTree}
+use Rattle.dpl_language.specs.Program.{meaning, written}
+use Rattle.dpl_language.specs.Renamed.{renamed_program}
+use Rattle.dpl_language.specs.Scopes.{fits_all}
+use Rattle.dpl_language.proofs.Spelled.{at, name, after, declared, initial, listed, sign, typed, with_intents, written_line}
+use Rattle.dpl_language.proofs.Says.{limits, writes}
+use Rattle.dpl_language.proofs.ProgramsAlike.{run_from}
+use Rattle.dpl_words.specs.Words.{Leaf, TruthLeaf, int_leaf, truth_leaf, range_leaf, by_word}
+use Rattle.dpl_words.specs.Resolved.{Bound, text_of, leaf_of, first_seen, Suits, Start, resolving, first_words}
+use Rattle.dpl_words.proofs.WordsAgree.{written-words}
+use Rattle.dpl_words.proofs.Suiting.{Suits-number, Suits-truth, Suits-name, Suits-range_item, Turns-ranges}
+
+-- var s: int; var b = true; const r = 1..4; for i in r do s += i; forall j in r with (+ reduce s, && reduce b) { s reduce= j; b reduce= j < 4; } writeln(s, " ", b);
+abbrev sums : ProgramTree (List ℕ)
+sums = record {
+  uses = [];
+  stmts =
+      Then (Declare (declared None (at 1 1) false (name (codes "s") (at 1 5)) (Some (typed (at 1 6) (ScalarType (at 1 8) IntKind))) None (at 1 11)))
+      (Then (Declare (declared None (at 1 13) false (name (codes "b") (at 1 17)) None (Some (initial (at 1 19) (ItemInit (One (TruthWord (at 1 21) true)) None))) (at 1 25)))
+      (Then (Declare (declared None (at 1 27) true (name (codes "r") (at 1 33)) None
+      (Some (initial (at 1 35) (ItemInit (RangeItem (Number (at 1 37) (pos 1)) (at 1 38) Closed (Number (at 1 40) (pos 4)) NoStride) None))) (at 1 41)))
+      (Then (For (at 1 43) (OneVariable (name (codes "i") (at 1 47))) (at 1 49) (One (Named (name (codes "r") (at 1 52))))
+      (WordBody (at 1 54) (Assigned (Whole (name (codes "s") (at 1 57))) (sign (at 1 59) SetAdd (at 1 59)) (One (Named (name (codes "i") (at 1 62)))) (at 1 63))))
+      (Then (Forall (at 1 65) (OneVariable (name (codes "j") (at 1 72))) (at 1 74) (One (Named (name (codes "r") (at 1 77))))
+      (Some (with_intents (at 1 79) (at 1 84)
+      (listed (ReduceIntent (at 1 85) Sum (at 1 87) (name (codes "s") (at 1 94))) (after (at 1 95) (ReduceIntent (at 1 97) AllOf (at 1 100) (name (codes "b") (at 1 107))) ∷ []))
+      (at 1 108)))
+      (BlockBody (at 1 110)
+      (Then (Assigned (Whole (name (codes "s") (at 1 112))) (sign (at 1 114) SetReduce (at 1 120)) (One (Named (name (codes "j") (at 1 122)))) (at 1 123))
+      (Then (Assigned (Whole (name (codes "b") (at 1 125))) (sign (at 1 127) SetReduce (at 1 133))
+      (One (Chain (Named (name (codes "j") (at 1 135))) (Link (at 1 137) Less (Number (at 1 139) (pos 4)) NoLinks))) (at 1 140)) NoStmts)) (at 1 142)))
+      (Then (Write (written_line (at 1 144) true (at 1 151)
+      (Some (listed (ExprArgument (Named (name (codes "s") (at 1 152))))
+      (after (at 1 153) (TextArgument (at 1 155) (codes " ")) ∷ after (at 1 158) (ExprArgument (Named (name (codes "b") (at 1 160)))) ∷ []))) (at 1 161) (at 1 162))) NoStmts)))));
+  end = at 1 163;
+}
+
+-- s has slot 0, b slot 1, r slot 2, and i and j have slot 3
+abbrev leaf : List ℕ → Leaf
+leaf x = if bytes_eq x (codes "s") then int_leaf 0 else if bytes_eq x (codes "b") then truth_leaf 1 else if bytes_eq x (codes "r") then range_leaf 2 else int_leaf 3
+
+abbrev resolved : List ℕ → Bound
+resolved x = record { text = x; leaf = leaf x }
+
+abbrev sums_resolved : ProgramTree Bound
+sums_resolved = renamed_program resolved sums
+
+-- four slots, and nothing set
+abbrev start : Start
+start = record { slots = 4; texts = []; words = [] }
+
+sums_spelled : renamed_program text_of sums_resolved ≡ sums
+sums_spelled = refl
+
+abbrev placed : List ℕ → ℕ → Placed Bound
+placed x column = record { at = at 1 column; name = resolved x }
+
+-- b reduce= j < 4;
+below_four : Suits TruthLeaf (One (Chain (Named (placed (codes "j") 135)) (Link (at 1 137) Less (Number (at 1 139) (pos 4)) NoLinks)))
+below_four = (refl, λ limits s v e. (int_lt (get_or s.numbers 3 (pos 0)) (pos 4), cc))
+
+sums_fit : fits_all (resolving start) sums_resolved.stmts first_seen
+sums_fit =
+    (-- var s: int;
+    (tt, tt, search rules, tt, (pos 0, refl)),
+    (-- var b = true;
+    (tt, (tt, tt), search rules, tt, Suits-truth (at 1 21) true),
+    (-- const r = 1..4;
+    (tt, ((tt, tt, tt), tt), search rules, tt, Suits-range_item (Number (at 1 37) (pos 1)) (at 1 38) Closed (Number (at 1 40) (pos 4)) NoStride),
+    (-- for i in r do s += i;
+    (refl, Turns-ranges (One (Named (placed (codes "r") 52))) (Suits-name (placed (codes "r") 52)), search rules,
+    (((refl, refl, tt), λ t. (refl, refl)), (λ t. (refl, refl), tt), Suits-name (placed (codes "i") 62))),
+    (-- forall j in r with (+ reduce s, && reduce b) { s reduce= j; b reduce= j < 4; }
+    (refl, Turns-ranges (One (Named (placed (codes "r") 77))) (Suits-name (placed (codes "r") 77)), refl, search rules,
+    ((((refl, refl, (refl, refl)), λ t. (refl, refl)), (λ t. (refl, refl), tt), Suits-name (placed (codes "j") 122)),
+    ((((refl, refl, (refl, refl)), λ t. (refl, refl)), (λ t. ((refl, refl), (tt, tt)), tt), below_four),
+    tt))),
+    (-- writeln(s, " ", b);
+    ((refl, tt), λ t. refl, ((refl, tt), λ t. refl, tt)),
+    tt))))))
+
+sums_write : written (run_from (limits 16777216 1) by_word (renamed_program leaf_of sums_resolved) (first_words start)) ≡ codes "20 false\n"
+unfolding int_wrap digits members indices
+sums_write = refl
+
+-- so by names it writes the same
+sums_mean : writes sums ≡ codes "20 false\n"
+sums_mean = written-words start (limits 16777216 1) sums_resolved [] sums_fit ∙ sums_write
