@@ -1,6 +1,6 @@
 -- Resolved names in sight, as names in slots (dpl_language/proofs/Slots.antt): where each slot in sight has one kind,
 -- a slot holds the value that the words have there.
-use Rattle.std.proofs.Common.{◌≡◌, ◌≢◌, ℕ, ◌<◌, true, false, List, [], ◌∷◌, ◌++◌, refl, sym, ap, ◌∙◌, subst, Some, None, Option, map, length}
+use Rattle.std.proofs.Common.{◌≡◌, ℕ, ◌<◌, true, false, List, [], ◌∷◌, ◌++◌, refl, sym, ap, ◌∙◌, subst, Some, None, map, length}
 use Rattle.std.specs.Prelude.{bytes_eq, ◌==◌, if◌then◌else◌, option_map}
 use Rattle.std.proofs.lemmas.Bool.Decides.{Decides-eqb}
 use Rattle.std.proofs.lemmas.List.{map-append}
@@ -8,7 +8,7 @@ use Rattle.dpl_language.specs.Tree.{Op}
 use Rattle.dpl_language.specs.Values.{Value}
 use Rattle.dpl_language.specs.Environment.{Content, Plain}
 use Rattle.dpl_language.specs.Names.{Text}
-use Rattle.dpl_language.proofs.Slots.{Sight as SlotSight, Bound as SlotBound, slot_in, or_slot, slot_of, IsFreshIn, IsFresh, IsApart, bind as slot_bind, without_frame as slots_without_frame, Slots, set_slot, SameIn, frame_at, frame_at-same, store_at, same_slot, other_slot}
+use Rattle.dpl_language.proofs.Slots.{Sight as SlotSight, Bound as SlotBound, slot_in, or_slot, slot_of, IsFreshIn, IsFresh, bind as slot_bind, without_frame as slots_without_frame, Slots, set_slot, SameIn, frame_at, frame_at-same, store_at, same_slot, other_slot}
 use Rattle.dpl_words.specs.Words.{LeafKind, Leaf, Words, value_at, with_value_at}
 use Rattle.dpl_words.specs.Resolved.{Bound, Sight, leaf_in, or_leaf, innermost, IsUnusedIn, IsUnused, bind, without_frame, IsOfKind, entry_in, frame_in, store_in}
 use Rattle.dpl_words.proofs.OfKind.{value_at-intend, value_at-set_same, value_at-set_other}

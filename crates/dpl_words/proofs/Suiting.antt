@@ -1,6 +1,6 @@
 -- Right sides that have values of a kind, and loops that give them: forms by which a program is seen to fit.
 -- Numbers, truth values, names and ranges as they are written; and a loop over a range, each of whose turns is an int.
-use Rattle.std.proofs.Common.{◌≡◌, ℤ, Bool, List, [], ◌∷◌, refl, sym, ap, ◌∙◌, subst, Ok, Err, None, Result}
+use Rattle.std.proofs.Common.{◌≡◌, ℤ, Bool, List, [], ◌∷◌, refl, sym, subst, Ok, Err, None, Result}
 use Rattle.std.specs.Prelude.{All, flat_map, map}
 use Rattle.std.proofs.lemmas.List.Elements.{All-nil, All-cons}
 use Rattle.dpl_syntax.specs.declared.place.Place.{Place}
@@ -8,13 +8,13 @@ use Rattle.dpl_domain.specs.Indices.{indices}
 use Rattle.dpl_range.specs.Equality.{TextRange}
 use Rattle.dpl_range.specs.Range.{members_of}
 use Rattle.dpl_language.specs.Tree.{Placed, Dots, ExprTree, Number, TruthWord, Named, ItemTree, One, RangeItem, Stride, NoStride, By}
-use Rattle.dpl_language.specs.Values.{Value, Range, Index, number, Fault}
+use Rattle.dpl_language.specs.Values.{Value, number, Fault}
 use Rattle.dpl_language.specs.Ranges.{bounded, strided_by, indices_in, index_value, loop_ranges, loop_value}
 use Rattle.dpl_language.specs.Outcome.{with_ok}
 use Rattle.dpl_language.specs.Environment.{Limits}
 use Rattle.dpl_language.specs.Expressions.{value_of, stridden}
 use Rattle.dpl_language.specs.Renamed.{renamed_expr, renamed_stride}
-use Rattle.dpl_words.specs.Words.{LeafKind, IntLeaf, TruthLeaf, RangeLeaf, Words, value_at, by_word}
+use Rattle.dpl_words.specs.Words.{IntLeaf, TruthLeaf, RangeLeaf, Words, value_at, by_word}
 use Rattle.dpl_words.specs.Resolved.{Bound, leaf_of, IsOfKind, Suits, Turns}
 use Rattle.dpl_words.proofs.OfKind.{value_at-kind}
 

@@ -1,10 +1,10 @@
 -- A resolved program of plain variables runs by words as it runs by names.
 -- Each step of the one is a step of the other where a name has the leaf of its innermost declaration and holds its kind.
-use Rattle.std.proofs.Common.{◌≡◌, ℕ, ◌<◌, ℤ, pos, true, List, [], ◌∷◌, refl, sym, ap, ◌∙◌, subst, Ok, Some, None, length}
+use Rattle.std.proofs.Common.{◌≡◌, ℕ, ◌<◌, pos, true, List, [], ◌∷◌, refl, sym, ap, ◌∙◌, subst, length}
 use Rattle.std.specs.Prelude.{option_map}
 use Rattle.std.proofs.lemmas.List.{length-replicate}
 use Rattle.dpl_history.specs.declared.history.Event.{Event}
-use Rattle.dpl_language.specs.Tree.{Assign, Set, SetAdd, SetSubtract, SetMultiply, SetDivide, SetRemainder, SetReduce, ItemTree, Stmts, ProgramTree}
+use Rattle.dpl_language.specs.Tree.{Assign, Set, SetAdd, SetSubtract, SetMultiply, SetDivide, SetRemainder, SetReduce, Stmts, ProgramTree}
 use Rattle.dpl_language.specs.Values.{Value, Index, index_of, array_domain, is_domain}
 use Rattle.dpl_language.specs.Arithmetic.{assigned}
 use Rattle.dpl_language.specs.Outcome.{Deeds, no_deeds}
@@ -15,15 +15,15 @@ use Rattle.dpl_language.specs.Program.{first_state, meaning, written}
 use Rattle.dpl_language.specs.Renamed.{renamed_content, renamed_intents, renamed_stmts, renamed_program}
 use Rattle.dpl_language.specs.Scopes.{sort_of, IsLawful, after_all, fits_all}
 use Rattle.dpl_language.specs.Agreement.{MayRead, WasDomain, Simulates, EndsAlike}
-use Rattle.dpl_language.proofs.Slots.{Bound as SlotBound, bind as slot_bind, IsApart, Slots, set_slot, spelled, store_at, look_up-slot, change_in-slot, declare_in-slot, IsApart-bind, IsApart-without_frame, without_innermost-store_at}
+use Rattle.dpl_language.proofs.Slots.{Bound as SlotBound, bind as slot_bind, IsApart, set_slot, spelled, store_at, look_up-slot, change_in-slot, declare_in-slot, IsApart-bind, IsApart-without_frame, without_innermost-store_at}
 use Rattle.dpl_language.proofs.SlotsAgree.{updated, with_value_at as with_element_at, put-spelled}
 use Rattle.dpl_language.proofs.RunsAlike.{EndsAlike-weaker, settled-alike, written-alike}
 use Rattle.dpl_language.proofs.Through.{through, item_of-through, exec_all-through}
 use Rattle.dpl_language.proofs.ProgramsAlike.{run_from}
 use Rattle.dpl_language.proofs.Agreement.{exec_all-alike}
 use Rattle.dpl_words.specs.Words.{LeafKind, IntLeaf, Words, no_range, value_at, with_value_at, intent_at, by_slots, set_at, given_as, by_word}
-use Rattle.dpl_words.specs.Resolved.{Bound, text_of, leaf_of, IsUnused, bind, Seen, first_seen, IsOfKind, HoldsKind, takes, Combines, IntentResolves, Suits, Resolves, Declares, Start, resolving, store_in, first_words, StandsFor}
-use Rattle.dpl_words.proofs.OfKind.{value_at-kind, value_at-no_domain, numbers-set, ranges-set, intents-set, sets-set, given-kind, assigned-kind}
+use Rattle.dpl_words.specs.Resolved.{Bound, text_of, leaf_of, IsUnused, bind, Seen, first_seen, IsOfKind, HoldsKind, takes, Combines, IntentResolves, Resolves, Declares, Start, resolving, first_words, StandsFor}
+use Rattle.dpl_words.proofs.OfKind.{value_at-no_domain, numbers-set, ranges-set, intents-set, sets-set, given-kind, assigned-kind}
 use Rattle.dpl_words.proofs.InSight.{placed, in_slots, slot_of-innermost, IsFresh-in_slots, in_slots-bind, in_slots-without_frame, without_frame-bind, IsKinded, innermost-kinded, with_kind, IsKinded-bind, IsKinded-without_frame, contents, store_at-contents, store_at-each, store_at-intend, set_slot_same, contents-set, contents-declare}
 
 -- THE RELATION: slots in sight have each one name and one kind, and stand for the store

@@ -1,13 +1,13 @@
 -- A sample with its names resolved: it fits, and it writes by words what it writes by names.
 -- It has an int, a truth value, a range, a loop, and a forall with two reduce variables; both loops have one slot for their variable.
-use Rattle.std.proofs.Common.{◌≡◌, ℕ, List, [], ◌∷◌, pos, true, false, refl, sym, ◌∙◌, Some, None, rules}
+use Rattle.std.proofs.Common.{◌≡◌, ℕ, List, [], ◌∷◌, pos, true, false, refl, ◌∙◌, Some, None, rules}
 use Rattle.std.specs.Prelude.{codes, bytes_eq, int_lt, get_or, if◌then◌else◌}
 use Rattle.std.specs.Int.{int_wrap}
 use Rattle.std.specs.Fmt.{digits}
 use Rattle.dpl_range.specs.Members.{members}
 use Rattle.dpl_domain.specs.Indices.{indices}
-use Rattle.dpl_language.specs.Tree.{Placed, IntKind, ScalarType, Number, TruthWord, Named, Chain, Link, NoLinks, Less, One, RangeItem, Closed, NoStride, ItemInit, Sum, AllOf, Assign, SetAdd, SetReduce, ReduceIntent, OneVariable, Whole, TextArgument, ExprArgument, Declare, Assigned, For, Forall, Write, WordBody, BlockBody, Then, NoStmts, ProgramTree}
-use Rattle.dpl_language.specs.Program.{meaning, written}
+use Rattle.dpl_language.specs.Tree.{Placed, IntKind, ScalarType, Number, TruthWord, Named, Chain, Link, NoLinks, Less, One, RangeItem, Closed, NoStride, ItemInit, Sum, AllOf, SetAdd, SetReduce, ReduceIntent, OneVariable, Whole, TextArgument, ExprArgument, Declare, Assigned, For, Forall, Write, WordBody, BlockBody, Then, NoStmts, ProgramTree}
+use Rattle.dpl_language.specs.Program.{written}
 use Rattle.dpl_language.specs.Renamed.{renamed_program}
 use Rattle.dpl_language.specs.Scopes.{fits_all}
 use Rattle.dpl_language.proofs.Spelled.{at, name, after, declared, initial, listed, sign, typed, with_intents, written_line}
@@ -16,7 +16,7 @@ use Rattle.dpl_language.proofs.ProgramsAlike.{run_from}
 use Rattle.dpl_words.specs.Words.{Leaf, TruthLeaf, int_leaf, truth_leaf, range_leaf, by_word}
 use Rattle.dpl_words.specs.Resolved.{Bound, text_of, leaf_of, first_seen, Suits, Start, resolving, first_words}
 use Rattle.dpl_words.proofs.WordsAgree.{written-words}
-use Rattle.dpl_words.proofs.Suiting.{Suits-number, Suits-truth, Suits-name, Suits-range_item, Turns-ranges}
+use Rattle.dpl_words.proofs.Suiting.{Suits-truth, Suits-name, Suits-range_item, Turns-ranges}
 
 -- var s: int; var b = true; const r = 1..4; for i in r do s += i; forall j in r with (+ reduce s, && reduce b) { s reduce= j; b reduce= j < 4; } writeln(s, " ", b);
 abbrev sums : ProgramTree (List ℕ)
@@ -68,24 +68,42 @@ below_four : Suits TruthLeaf (One (Chain (Named (placed (codes "j") 135)) (Link 
 below_four = (refl, λ limits s v e. (int_lt (get_or s.numbers 3 (pos 0)) (pos 4), cc))
 
 sums_fit : fits_all (resolving start) sums_resolved.stmts first_seen
-sums_fit =
-    (-- var s: int;
-    (tt, tt, search rules, tt, (pos 0, refl)),
-    (-- var b = true;
+sums_fit = ( -- var s: int;
+  (tt, tt, search rules, tt, (pos 0, refl)),
+  ( -- var b = true;
     (tt, (tt, tt), search rules, tt, Suits-truth (at 1 21) true),
-    (-- const r = 1..4;
-    (tt, ((tt, tt, tt), tt), search rules, tt, Suits-range_item (Number (at 1 37) (pos 1)) (at 1 38) Closed (Number (at 1 40) (pos 4)) NoStride),
-    (-- for i in r do s += i;
-    (refl, Turns-ranges (One (Named (placed (codes "r") 52))) (Suits-name (placed (codes "r") 52)), search rules,
-    (((refl, refl, tt), λ t. (refl, refl)), (λ t. (refl, refl), tt), Suits-name (placed (codes "i") 62))),
-    (-- forall j in r with (+ reduce s, && reduce b) { s reduce= j; b reduce= j < 4; }
-    (refl, Turns-ranges (One (Named (placed (codes "r") 77))) (Suits-name (placed (codes "r") 77)), refl, search rules,
-    ((((refl, refl, (refl, refl)), λ t. (refl, refl)), (λ t. (refl, refl), tt), Suits-name (placed (codes "j") 122)),
-    ((((refl, refl, (refl, refl)), λ t. (refl, refl)), (λ t. ((refl, refl), (tt, tt)), tt), below_four),
-    tt))),
-    (-- writeln(s, " ", b);
-    ((refl, tt), λ t. refl, ((refl, tt), λ t. refl, tt)),
-    tt))))))
+    ( -- const r = 1..4;
+      (tt, ((tt, tt, tt), tt), search rules, tt, Suits-range_item (Number (at 1 37) (pos 1)) (at 1 38) Closed (Number (at 1 40) (pos 4)) NoStride),
+      ( -- for i in r do s += i;
+        (
+          refl,
+          Turns-ranges (One (Named (placed (codes "r") 52))) (Suits-name (placed (codes "r") 52)),
+          search rules,
+          (((refl, refl, tt), λ t. (refl, refl)), (λ t. (refl, refl), tt), Suits-name (placed (codes "i") 62)),
+        ),
+        ( -- forall j in r with (+ reduce s, && reduce b) { s reduce= j; b reduce= j < 4; }
+          (
+            refl,
+            Turns-ranges (One (Named (placed (codes "r") 77))) (Suits-name (placed (codes "r") 77)),
+            refl,
+            search rules,
+            (
+              (((refl, refl, (refl, refl)), λ t. (refl, refl)), (λ t. (refl, refl), tt), Suits-name (placed (codes "j") 122)),
+              (
+                (((refl, refl, (refl, refl)), λ t. (refl, refl)), (λ t. ((refl, refl), (tt, tt)), tt), below_four),
+                tt,
+              ),
+            ),
+          ),
+          ( -- writeln(s, " ", b);
+            ((refl, tt), λ t. refl, ((refl, tt), λ t. refl, tt)),
+            tt,
+          ),
+        ),
+      ),
+    ),
+  ),
+)
 
 sums_write : written (run_from (limits 16777216 1) by_word (renamed_program leaf_of sums_resolved) (first_words start)) ≡ codes "20 false\n"
 unfolding int_wrap digits members indices
