@@ -1,17 +1,17 @@
 -- A resolved program of plain variables runs by words as it runs by names.
 -- Each step of the one is a step of the other where a name has the leaf of its innermost declaration and holds its kind.
-use Rattle.std.proofs.Common.{◌≡◌, ℕ, ◌<◌, pos, true, List, [], ◌∷◌, refl, sym, ap, ◌∙◌, subst, length}
+use Rattle.std.proofs.Common.{◌≡◌, ℕ, ◌<◌, pos, true, List, [], ◌∷◌, refl, sym, ap, ◌∙◌, subst, length, Some}
 use Rattle.std.specs.Prelude.{option_map}
 use Rattle.std.proofs.lemmas.List.{length-replicate}
 use Rattle.dpl_history.specs.declared.history.Event.{Event}
 use Rattle.dpl_language.specs.Tree.{Assign, Set, SetAdd, SetSubtract, SetMultiply, SetDivide, SetRemainder, SetReduce, Stmts, ProgramTree}
 use Rattle.dpl_language.specs.Values.{Value, Index, index_of, array_domain, is_domain}
 use Rattle.dpl_language.specs.Arithmetic.{assigned}
-use Rattle.dpl_language.specs.Outcome.{Deeds, no_deeds}
+use Rattle.dpl_language.specs.Outcome.{Deeds, no_deeds, Outcome, Done, Stop, Waits}
 use Rattle.dpl_language.specs.Environment.{Content, Plain, ArrayOf, CellOf, Limits}
 use Rattle.dpl_language.specs.Statements.{exec_all}
 use Rattle.dpl_language.specs.Names.{Store, State, paired, look_up, change_in, declare_in, without_innermost, value_in, update_in, element_in, put_in, by_name}
-use Rattle.dpl_language.specs.Program.{first_state, meaning, written}
+use Rattle.dpl_language.specs.Program.{first_state, meaning, top_level, left, written}
 use Rattle.dpl_language.specs.Renamed.{renamed_content, renamed_intents, renamed_stmts, renamed_program}
 use Rattle.dpl_language.specs.Scopes.{sort_of, IsLawful, after_all, fits_all}
 use Rattle.dpl_language.specs.Agreement.{MayRead, WasDomain, Simulates, EndsAlike}
@@ -22,7 +22,7 @@ use Rattle.dpl_language.proofs.Through.{through, item_of-through, exec_all-throu
 use Rattle.dpl_language.proofs.ProgramsAlike.{run_from}
 use Rattle.dpl_language.proofs.Agreement.{exec_all-alike}
 use Rattle.dpl_words.specs.Words.{LeafKind, IntLeaf, Words, no_range, value_at, with_value_at, intent_at, by_slots, set_at, given_as, by_word}
-use Rattle.dpl_words.specs.Resolved.{Bound, text_of, leaf_of, IsUnused, bind, Seen, first_seen, IsOfKind, HoldsKind, takes, Combines, IntentResolves, Resolves, Declares, Start, resolving, first_words, StandsFor}
+use Rattle.dpl_words.specs.Resolved.{Bound, Sight, text_of, leaf_of, outermost, left_in, frame_in, store_in, IsUnused, bind, Seen, first_seen, IsOfKind, HoldsKind, takes, Combines, IntentResolves, Resolves, Declares, Start, resolving, first_words, StandsFor}
 use Rattle.dpl_words.proofs.OfKind.{value_at-no_domain, numbers-set, ranges-set, intents-set, sets-set, given-kind, assigned-kind}
 use Rattle.dpl_words.proofs.InSight.{placed, in_slots, slot_of-innermost, IsFresh-in_slots, in_slots-bind, in_slots-without_frame, without_frame-bind, IsKinded, innermost-kinded, with_kind, IsKinded-bind, IsKinded-without_frame, contents, store_at-contents, store_at-each, store_at-intend, set_slot_same, contents-set, contents-declare}
 
@@ -71,6 +71,11 @@ intent-combines SetMultiply x g i e = cc
 intent-combines SetDivide x g i e = cc
 intent-combines SetRemainder x g i e = cc
 intent-combines SetReduce x g i e = i.1
+
+top_level-store_in : (s : Words) (fs : Sight) → top_level (store_in s fs) ≡ frame_in s (outermost fs)
+top_level-store_in s [] = refl
+top_level-store_in s (f ∷ []) = refl
+top_level-store_in s (f ∷ g ∷ fs) = top_level-store_in s (g ∷ fs)
 
 module _ (start : Start) where
   -- a resolved name's slot has the leaf's kind, and is one of the frame's
@@ -260,6 +265,11 @@ module _ (start : Start) where
     words = r.words;
   }
 
+  left-alike : (g : Seen) (a : Outcome State) (b : Outcome Words) → EndsAlike (StandsFor start g) a b → left a ≡ left_in g.frames b
+  left-alike g (Done s done) b e = ap (λ t. Some (top_level t)) e.1.store ∙ ap (λ f. Some f) (top_level-store_in e.0 g.frames) ∙ sym (ap (left_in g.frames) e.2)
+  left-alike g (Stop f done) b e = sym (ap (left_in g.frames) e)
+  left-alike g (Waits at c op done) b e = sym (ap (left_in g.frames) e)
+
   first_kept : (histories : List (List Event)) → Kept start first_seen (first_state start.texts histories) (first_words start)
   first_kept histories = record {
     kinds = λ j. IntLeaf;
@@ -294,6 +304,12 @@ module _ (start : Start) where
       (run_from limits by_word (renamed_program leaf_of t) (first_words start))
   meaning-words limits t histories f =
       settled-alike (StandsFor start (after_all (resolving start) t.stmts first_seen)) _ _ (exec_all-words limits t.stmts histories no_deeds f)
+
+  -- and where it is done, it leaves the same top-level names with what their words are
+  pub left-words : (limits : Limits) (t : ProgramTree Bound) (histories : List (List Event)) → fits_all (resolving start) t.stmts first_seen
+      → left (meaning (renamed_program text_of t) start.texts limits histories)
+      ≡ left_in (after_all (resolving start) t.stmts first_seen).frames (run_from limits by_word (renamed_program leaf_of t) (first_words start))
+  left-words limits t histories f = left-alike (after_all (resolving start) t.stmts first_seen) _ _ (meaning-words limits t histories f)
 
   pub written-words : (limits : Limits) (t : ProgramTree Bound) (histories : List (List Event)) → fits_all (resolving start) t.stmts first_seen
       → written (meaning (renamed_program text_of t) start.texts limits histories) ≡ written (run_from limits by_word (renamed_program leaf_of t) (first_words start))

@@ -9,12 +9,15 @@ use Rattle.dpl_domain.specs.Indices.{indices}
 use Rattle.dpl_language.specs.Tree.{Placed, IntKind, ScalarType, Number, TruthWord, Named, Chain, Link, NoLinks, Less, One, RangeItem, Closed, NoStride, ItemInit, Sum, AllOf, SetAdd, SetReduce, ReduceIntent, OneVariable, Whole, TextArgument, ExprArgument, Declare, Assigned, For, Forall, Write, WordBody, BlockBody, Then, NoStmts, ProgramTree}
 use Rattle.dpl_language.specs.Program.{written}
 use Rattle.dpl_language.specs.Renamed.{renamed_program}
-use Rattle.dpl_language.specs.Scopes.{fits_all}
+use Rattle.dpl_language.specs.Scopes.{after_all, fits_all}
+use Rattle.dpl_language.specs.Values.{Int, Truth, Range}
+use Rattle.dpl_language.specs.Ranges.{unstrided}
+use Rattle.dpl_language.specs.Environment.{Plain}
 use Rattle.dpl_language.proofs.Spelled.{at, name, after, declared, initial, listed, sign, typed, with_intents, written_line}
 use Rattle.dpl_language.proofs.Says.{limits, writes}
 use Rattle.dpl_language.proofs.ProgramsAlike.{run_from}
 use Rattle.dpl_words.specs.Words.{Leaf, TruthLeaf, int_leaf, truth_leaf, range_leaf, by_word}
-use Rattle.dpl_words.specs.Resolved.{Bound, text_of, leaf_of, first_seen, Suits, Start, resolving, first_words}
+use Rattle.dpl_words.specs.Resolved.{Bound, text_of, leaf_of, left_in, first_seen, Suits, Start, resolving, first_words}
 use Rattle.dpl_words.proofs.WordsAgree.{written-words}
 use Rattle.dpl_words.proofs.Suiting.{Suits-truth, Suits-name, Suits-range_item, Turns-ranges}
 
@@ -108,6 +111,14 @@ sums_fit = ( -- var s: int;
 sums_write : written (run_from (limits 16777216 1) by_word (renamed_program leaf_of sums_resolved) (first_words start)) ≡ codes "20 false\n"
 unfolding int_wrap digits members indices
 sums_write = refl
+
+sums_leave : left_in (after_all (resolving start) sums_resolved.stmts first_seen).frames (run_from (limits 16777216 1) by_word (renamed_program leaf_of sums_resolved) (first_words start))
+    ≡ Some
+    (record { name = codes "s"; content = Plain (Int (pos 20)) }
+    ∷ record { name = codes "b"; content = Plain (Truth false) }
+    ∷ record { name = codes "r"; content = Plain (Range (unstrided (pos 1) (pos 4))) } ∷ [])
+unfolding int_wrap digits members indices
+sums_leave = refl
 
 -- so by names it writes the same
 sums_mean : writes sums ≡ codes "20 false\n"

@@ -5,6 +5,7 @@ use Rattle.dpl_range.specs.Equality.{TextRange}
 use Rattle.dpl_language.specs.Tree.{Op, Sum, Product, AllOf, AnyOf, BitAnd, BitOr, BitXor, Least, Greatest, Assign, Set, SetAdd, SetSubtract, SetMultiply, SetDivide, SetRemainder, SetReduce, ItemTree}
 use Rattle.dpl_language.specs.Values.{Value, Int, Truth, Range}
 use Rattle.dpl_language.specs.Ranges.{indices_in, loop_ranges, loop_value}
+use Rattle.dpl_language.specs.Outcome.{Outcome, Done, Stop, Waits}
 use Rattle.dpl_language.specs.Environment.{Content, Plain, ArrayOf, CellOf, Limits}
 use Rattle.dpl_language.specs.Phrases.{item_read}
 use Rattle.dpl_language.specs.Expressions.{item_of}
@@ -102,16 +103,19 @@ is_logical BitXor = false
 is_logical Least = false
 is_logical Greatest = false
 
+-- arithmetic is of ints
 abbrev pub takes : LeafKind → Assign → Bool
 takes IntLeaf op = true
 takes TruthLeaf op = not (is_arithmetic op)
 takes RangeLeaf op = not (is_arithmetic op)
 
+-- the operators of reductions that put values of a kind together
 abbrev pub combines : LeafKind → Op → Bool
 combines IntLeaf op = not (is_logical op)
 combines TruthLeaf op = is_logical op
 combines RangeLeaf op = false
 
+-- without an operator, outside foralls, `reduce=` is `=`
 abbrev pub Combines : LeafKind → Option Op → Type 0
 Combines k None = Unit {0}
 Combines k (Some op) = combines k op ≡ true
@@ -156,7 +160,8 @@ pub record Start : Type 0 where
   pub words : List (ℕ × ℤ)
 
 -- Where a resolved program of plain variables may use a name. A `config const` is set alike by its text and by its slot.
--- There are no arrays, cells, tasks and locales, and no forall with reduce variables has another in it.
+-- Brackets behind a name are those of a slice, since a plain variable has no elements. There are no arrays, cells, tasks
+-- and locales, and no forall with reduce variables has another in it.
 abbrev pub resolving : Start → Scoping Bound Seen
 resolving start = record {
   reads = Resolves;
@@ -190,6 +195,17 @@ frame_in s bs = map {A = Bound} {B = Entry} (entry_in s) bs
 
 abbrev pub store_in : Words → Sight → Store
 store_in s fs = map {A = List Bound} {B = Frame} (frame_in s) fs
+
+-- what a run by words leaves, where it is done: the names of the outermost frame, and the words of their slots
+abbrev pub outermost : Sight → List Bound
+outermost [] = []
+outermost (f ∷ []) = f
+outermost (f ∷ g ∷ fs) = outermost (g ∷ fs)
+
+abbrev pub left_in : Sight → Outcome Words → Option Frame
+left_in fs (Done s done) = Some (frame_in s (outermost fs))
+left_in fs (Stop f done) = None
+left_in fs (Waits at c op done) = None
 
 -- A frame at the start: a word for each slot, and a range.
 abbrev pub first_words : Start → Words
