@@ -1,6 +1,6 @@
 -- A sample with its names resolved: it fits, and it writes by words what it writes by names.
 -- It has an int, a truth value, a range, a loop, and a forall with two reduce variables; both loops have one slot for their variable.
-use Rattle.std.proofs.Common.{◌≡◌, ℕ, List, [], ◌∷◌, pos, true, false, refl, ◌∙◌, Some, None, rules}
+use Rattle.std.proofs.Common.{◌≡◌, ℕ, List, [], ◌∷◌, pos, true, false, refl, ◌∙◌, Some, None, rules, ℤ, Bool}
 use Rattle.std.specs.Prelude.{codes, bytes_eq, int_lt, get_or, if◌then◌else◌}
 use Rattle.std.specs.Int.{int_wrap}
 use Rattle.std.specs.Fmt.{digits}
@@ -9,7 +9,9 @@ use Rattle.dpl_domain.specs.Indices.{indices}
 use Rattle.dpl_language.specs.Tree.{Placed, IntKind, ScalarType, Number, TruthWord, Named, Chain, Link, NoLinks, Less, One, RangeItem, Closed, NoStride, ItemInit, Sum, AllOf, SetAdd, SetReduce, ReduceIntent, OneVariable, Whole, TextArgument, ExprArgument, Declare, Assigned, For, Forall, Write, WordBody, BlockBody, Then, NoStmts, ProgramTree}
 use Rattle.dpl_language.specs.Program.{written}
 use Rattle.dpl_language.specs.Renamed.{renamed_program}
-use Rattle.dpl_language.specs.Scopes.{after_all, fits_all}
+use Rattle.dpl_syntax.specs.declared.place.Place.{Place}
+use Rattle.dpl_language.proofs.ScalarsSamples.{configured}
+use Rattle.dpl_language.specs.Scopes.{PlainSort, after_all, fits_all}
 use Rattle.dpl_language.specs.Values.{Int, Truth, Range}
 use Rattle.dpl_language.specs.Ranges.{unstrided}
 use Rattle.dpl_language.specs.Environment.{Plain}
@@ -17,9 +19,9 @@ use Rattle.dpl_language.proofs.Spelled.{at, name, after, declared, initial, list
 use Rattle.dpl_language.proofs.Says.{limits, writes}
 use Rattle.dpl_language.proofs.ProgramsAlike.{run_from}
 use Rattle.dpl_words.specs.Words.{Leaf, TruthLeaf, int_leaf, truth_leaf, range_leaf, by_word}
-use Rattle.dpl_words.specs.Resolved.{Bound, text_of, leaf_of, left_in, first_seen, Suits, Start, resolving, first_words}
+use Rattle.dpl_words.specs.Resolved.{Bound, text_of, leaf_of, left_in, first_seen, Suits, Start, resolving, first_words, Declares, innermost}
 use Rattle.dpl_words.proofs.WordsAgree.{written-words}
-use Rattle.dpl_words.proofs.Suiting.{Suits-truth, Suits-name, Suits-range_item, Turns-ranges}
+use Rattle.dpl_words.proofs.Suiting.{Suits-truth, Suits-name, Suits-range_item, Turns-ranges, Suits-number}
 
 -- var s: int; var b = true; const r = 1..4; for i in r do s += i; forall j in r with (+ reduce s, && reduce b) { s reduce= j; b reduce= j < 4; } writeln(s, " ", b);
 abbrev sums : ProgramTree (List ℕ)
@@ -123,3 +125,35 @@ sums_leave = refl
 -- so by names it writes the same
 sums_mean : writes sums ≡ codes "20 false\n"
 sums_mean = written-words start (limits 16777216 1) sums_resolved [] sums_fit ∙ sums_write
+
+-- config const n = 4; writeln(n);
+abbrev one_slot : Start
+one_slot = record { slots = 1; texts = (codes "n", Int (pos 7)) ∷ []; words = (0, pos 7) ∷ [] }
+
+abbrev configured_resolved : ProgramTree Bound
+configured_resolved = renamed_program (λ x. record { text = x; leaf = int_leaf 0 }) configured
+
+-- n is set to 7 by its text and by its slot
+configured_fits : fits_all (resolving one_slot) configured_resolved.stmts first_seen
+configured_fits = ((tt, (tt, tt), search rules, (refl, search rules, refl), Suits-number (at 1 18) (pos 4)), (((refl, tt), λ t. refl, tt), tt))
+
+configured_writes : written (run_from (limits 16777216 1) by_word (renamed_program leaf_of configured_resolved) (first_words one_slot)) ≡ codes "7\n"
+unfolding int_wrap digits members indices
+configured_writes = refl
+
+-- WHAT DOESN'T FIT: a number for a truth value
+number_is_no_truth : (at : Place) (n : ℤ) → Suits TruthLeaf (One (Number at n)) → ⊥
+number_is_no_truth at n f =
+    let of_kind = f.1 (limits 1 1) (first_words one_slot) (Int n) refl in
+    absurd (is_no_truth of_kind.0 of_kind.1)
+  where
+    is_no_truth : (b : Bool) → Int n ≡ Truth b → ⊥
+    is_no_truth b e = cc
+
+-- a slot that a name in sight has
+slot_in_use : Declares 4 (record { text = codes "c"; leaf = truth_leaf 0 }) PlainSort (record { frames = (record { text = codes "s"; leaf = int_leaf 0 } ∷ []) ∷ []; intents = [] }) → ⊥
+slot_in_use f = f.0.0.0 refl
+
+-- of two names with one text the inner one is meant
+hidden_name : innermost (codes "s") ((record { text = codes "s"; leaf = int_leaf 3 } ∷ []) ∷ (resolved (codes "s") ∷ []) ∷ []) ≡ Some (int_leaf 3)
+hidden_name = refl
