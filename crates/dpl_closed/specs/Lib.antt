@@ -1,0 +1,2 @@
+-- The forms that do not run yet.
+pub mod Closed
