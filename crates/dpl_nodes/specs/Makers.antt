@@ -1,16 +1,22 @@
 -- Typed expressions of whatever type: the plain trees that they stand for, and which operators take which types.
 -- A type is that of a leaf.
 use Rattle.std.specs.Prelude.{Option, Some, None}
-use Rattle.dpl_language.specs.Tree.{ExprTree, Prefix, Minus, Not, Infix, Add, Subtract, Multiply, Divide, Remainder, Less, LessEqual, Greater, GreaterEqual, Equal, NotEqual, And, Or}
+use Rattle.dpl_language.specs.Tree.{ExprTree, Prefix, Minus, Not, Infix, Add, Subtract, Multiply, Divide, Remainder, Less, LessEqual, Greater, GreaterEqual, Equal, NotEqual, And, Or, Word, Size, First, Last, Low, High, LowBound, DomainOf, Id, ItemTree, One}
 use Rattle.dpl_words.specs.Words.{Leaf, LeafKind, IntLeaf, TruthLeaf, RangeLeaf}
 use Rattle.dpl_nodes.specs.declared.make.Typed.{Typed}
 use Rattle.dpl_nodes.specs.declared.make.Typed.TheVariants.{Int, Truth, Range}
-use Rattle.dpl_nodes.specs.Typed.{int_view, truth_view, range_view}
+use Rattle.dpl_nodes.specs.Typed.{int_view, truth_view, range_view, range_item}
 
 abbrev pub typed_view : Typed → ExprTree Leaf
 typed_view (Int e) = int_view e.now
 typed_view (Truth e) = truth_view e.now
 typed_view (Range e) = range_view e.now
+
+-- the same as an item, in which a range needs no brackets
+abbrev pub typed_item : Typed → ItemTree Leaf
+typed_item (Int e) = One (int_view e.now)
+typed_item (Truth e) = One (truth_view e.now)
+typed_item (Range e) = range_item e.now
 
 abbrev pub kind_of : Typed → LeafKind
 kind_of (Int e) = IntLeaf
@@ -67,3 +73,43 @@ infix_kind op TruthLeaf RangeLeaf = None
 infix_kind op RangeLeaf IntLeaf = None
 infix_kind op RangeLeaf TruthLeaf = None
 infix_kind op RangeLeaf RangeLeaf = None
+
+-- what a method without arguments gives of a range; nothing else has one
+abbrev pub range_word_kind : Word → Option LeafKind
+range_word_kind Size = Some IntLeaf
+range_word_kind First = Some IntLeaf
+range_word_kind Last = Some IntLeaf
+range_word_kind Low = Some IntLeaf
+range_word_kind High = Some IntLeaf
+range_word_kind LowBound = None
+range_word_kind DomainOf = None
+range_word_kind Id = None
+
+abbrev pub word_kind : Word → LeafKind → Option LeafKind
+word_kind w IntLeaf = None
+word_kind w TruthLeaf = None
+word_kind w RangeLeaf = range_word_kind w
+
+-- a range contains an int
+abbrev pub contains_kind : LeafKind → LeafKind → Option LeafKind
+contains_kind IntLeaf k = None
+contains_kind TruthLeaf k = None
+contains_kind RangeLeaf IntLeaf = Some TruthLeaf
+contains_kind RangeLeaf TruthLeaf = None
+contains_kind RangeLeaf RangeLeaf = None
+
+-- a range is cut by a range
+abbrev pub slice_kind : LeafKind → LeafKind → Option LeafKind
+slice_kind IntLeaf k = None
+slice_kind TruthLeaf k = None
+slice_kind RangeLeaf IntLeaf = None
+slice_kind RangeLeaf TruthLeaf = None
+slice_kind RangeLeaf RangeLeaf = Some RangeLeaf
+
+-- the bounds of a range are ints
+abbrev pub bounds_kind : LeafKind → LeafKind → Option LeafKind
+bounds_kind IntLeaf IntLeaf = Some RangeLeaf
+bounds_kind IntLeaf TruthLeaf = None
+bounds_kind IntLeaf RangeLeaf = None
+bounds_kind TruthLeaf k = None
+bounds_kind RangeLeaf k = None

@@ -4,7 +4,9 @@
 
 pub mod fault;
 pub mod frame;
+pub mod leaves;
 pub mod make;
+pub mod ranges;
 pub mod tree;
 
 pub use fault::{FaultCode, Spot, Trap, Truth};

@@ -37,7 +37,7 @@ pub enum Stop {
 }
 
 // The place of a fault, in the arena.
-fn spot<'t>(arena: Arena<'t>, at: Place) -> Result<&'t Spot, Stop>
+pub(crate) fn spot<'t>(arena: Arena<'t>, at: Place) -> Result<&'t Spot, Stop>
     ensures near { IfOk result (λ s. s.now ≡ at) }
     ensures far { result ≢ Err stop.IllTyped }
 {
@@ -85,7 +85,7 @@ fn of_ints<'t>(
 }
 
 // An int that lies in the arena, unless memory ran out.
-fn int<'t>(node: Result<&'t IntExpr<'t>, AllocError>) -> Result<Typed<'t>, Stop>
+pub(crate) fn int<'t>(node: Result<&'t IntExpr<'t>, AllocError>) -> Result<Typed<'t>, Stop>
     ensures ok { IfOk node.entry (λ e. result ≡ Ok (typed.Int e)) }
     ensures memory { IfErr node.entry (λ f. result ≡ Err stop.Memory) }
 {
@@ -96,12 +96,23 @@ fn int<'t>(node: Result<&'t IntExpr<'t>, AllocError>) -> Result<Typed<'t>, Stop>
 }
 
 // A truth value that lies in the arena, unless memory ran out.
-fn truth<'t>(node: Result<&'t BoolExpr<'t>, AllocError>) -> Result<Typed<'t>, Stop>
+pub(crate) fn truth<'t>(node: Result<&'t BoolExpr<'t>, AllocError>) -> Result<Typed<'t>, Stop>
     ensures ok { IfOk node.entry (λ e. result ≡ Ok (typed.Truth e)) }
     ensures memory { IfErr node.entry (λ f. result ≡ Err stop.Memory) }
 {
     match node {
         Ok(e) => Ok(Typed::Truth(e)),
+        Err(_) => Err(Stop::Memory),
+    }
+}
+
+// A range that lies in the arena, unless memory ran out.
+pub(crate) fn range<'t>(node: Result<&'t RangeExpr<'t>, AllocError>) -> Result<Typed<'t>, Stop>
+    ensures ok { IfOk node.entry (λ e. result ≡ Ok (typed.Range e)) }
+    ensures memory { IfErr node.entry (λ f. result ≡ Err stop.Memory) }
+{
+    match node {
+        Ok(e) => Ok(Typed::Range(e)),
         Err(_) => Err(Stop::Memory),
     }
 }
