@@ -1,3 +1,5 @@
 mod Sights
 mod Marks
 mod Places
+pub mod Slots
+mod Worked

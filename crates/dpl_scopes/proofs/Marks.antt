@@ -44,7 +44,7 @@ below-more : (k : Option ℕ) (n : ℕ) → IfSome k (λ k. k < n) → IfSome k 
 below-more None n h = tt
 below-more (Some k) n h = omega (arith, h)
 
-place-below : (ms : List Mark) (x : Text) → IfSome (place ms x) (λ k. k < length ms)
+pub place-below : (ms : List Mark) (x : Text) → IfSome (place ms x) (λ k. k < length ms)
 place-below [] x = tt
 place-below (Opens ∷ ms) x = below-more (place ms x) (length ms) (place-below ms x)
 place-below (Declares e ∷ ms) x =

@@ -1,3 +1,5 @@
+-- The slots of declarations.
+pub mod Slots
 -- What serves contracts and proofs alone.
 pub mod View
 pub mod Marks

@@ -18,6 +18,19 @@ place [] x = None
 place (Opens ∷ ms) x = place ms x
 place (Declares e ∷ ms) x = if bytes_eq x e.declared.origin.name.now then Some (length ms) else place ms x
 
+-- How many scopes are open that no mark opened: the first declaration opens one, where none is open.
+abbrev pub unmarked : List Mark → ℕ
+unmarked [] = 0
+unmarked (Opens ∷ ms) = unmarked ms
+unmarked (Declares e ∷ []) = 1
+unmarked (Declares e ∷ m ∷ ms) = unmarked (m ∷ ms)
+
+-- the same, by the mark that was made first
+abbrev pub unmarked_by : Option Mark → ℕ
+unmarked_by None = 0
+unmarked_by (Some Opens) = 0
+unmarked_by (Some (Declares e)) = 1
+
 -- each declaration has the depth at which it stands, and the place of the one that it hides
 abbrev pub AreKept : List Mark → Type 0
 AreKept [] = Unit {0}

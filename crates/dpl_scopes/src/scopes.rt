@@ -1,9 +1,11 @@
 // The scopes that are open, with their names.
 // What opens a scope and what declares a name is a mark on one list, and a map has where on it each name was declared last.
 
-ghost use Rattle.std.specs.Prelude.{◌≡◌, OnOk, OnErr, IfOk, [], ◌∷◌, length, drop, option_map};
+ghost use Rattle.std.specs.Prelude.{◌≡◌, OnOk, OnErr, IfOk, [], ◌∷◌, length, drop, slice_get, option_map};
 ghost use Rattle.dpl_rules.specs.Sights.{Declared as Declaration, lookup, declared_here, enter, add, origin_in};
 ghost use Rattle.dpl_types.specs.View.{of_type};
+ghost use Rattle.dpl_scopes.specs.Marks.{unmarked_by};
+ghost use Rattle.dpl_scopes.specs.Slots.{next_slot_in, slot_in};
 ghost use Rattle.dpl_scopes.specs.View.{sort_view, declared_view};
 
 use crate::{Declared, Sort};
@@ -50,6 +52,16 @@ impl<'t> Model for Scopes<'t> {
     ghost view = { λ s. scopes_by (reverse s.marks.items) };
 
     ghost invariant = { λ s. IsKept s.marks.items s.places s.depth };
+}
+
+// How many scopes are open that no mark opened: one, if the first declaration opened it.
+fn unmarked(marks: &[Mark<'_>]) -> usize
+    ensures { result ≡ unmarked_by (slice_get marks.now 0) }
+{
+    match marks.first() {
+        Some(Mark::Declares(_)) => 1,
+        Some(Mark::Opens) | None => 0,
+    }
 }
 
 impl<'t> Scopes<'t> {
@@ -136,6 +148,22 @@ impl<'t> Scopes<'t> {
             Mark::Declares(entry) => Some(entry.declared),
             Mark::Opens => None,
         }
+    }
+
+    /// The slot of the innermost declaration of a name, if one is in sight: as many scopes and declarations as were in
+    /// sight before it.
+    pub fn slot(&self, name: &[u8]) -> Option<usize>
+        ensures { result ≡ slot_in self.now name.now }
+    {
+        let place = (*self.places.get(&name)?)?;
+        Some(place + unmarked(&self.marks))
+    }
+
+    /// The slot that the next declaration gets.
+    pub fn next_slot(&self) -> usize
+        ensures { result ≡ next_slot_in self.now }
+    {
+        (self.marks.len() + unmarked(&self.marks)).max(1)
     }
 
     /// Whether a name is declared in the innermost scope.

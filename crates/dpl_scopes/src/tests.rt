@@ -96,6 +96,64 @@ fn no_scope(rt: HostRuntime) -> Result<(), Fail> {
     Ok(())
 }
 
+// The slots of these names, and the next one.
+fn slots(rt: &impl Abort, scopes: &Scopes, a: Option<usize>, b: Option<usize>, next: usize) {
+    assert_eq!(rt; scopes.slot(b"a"), a);
+    assert_eq!(rt; scopes.slot(b"b"), b);
+    assert_eq!(rt; scopes.next_slot(), next);
+}
+
+#[test]
+fn slots_of_scopes(rt: HostRuntime) -> Result<(), Fail> {
+    let mut scopes = Scopes::new(rt.alloc())?;
+    slots(&rt, &scopes, None, None, 1);
+    scopes.declare(b"a", Sort::Constant, AN_INT)?;
+    slots(&rt, &scopes, Some(1), None, 2);
+    scopes.declare(b"b", Sort::Constant, None)?;
+    slots(&rt, &scopes, Some(1), Some(2), 3);
+    scopes.enter()?;
+    slots(&rt, &scopes, Some(1), Some(2), 4);
+    scopes.declare(b"a", Sort::Variable, AN_INT)?;
+    slots(&rt, &scopes, Some(4), Some(2), 5);
+    scopes.declare(b"a", Sort::Variable, AN_INT)?;
+    slots(&rt, &scopes, Some(5), Some(2), 6);
+    scopes.leave();
+    slots(&rt, &scopes, Some(1), Some(2), 3);
+    scopes.leave();
+    slots(&rt, &scopes, None, None, 1);
+    Ok(())
+}
+
+// A declaration where no scope is open has the slot behind the scope that it opens.
+#[test]
+fn slots_of_no_scope(rt: HostRuntime) -> Result<(), Fail> {
+    let mut scopes = Scopes::new(rt.alloc())?;
+    scopes.leave();
+    scopes.declare(b"a", Sort::Constant, None)?;
+    slots(&rt, &scopes, Some(1), None, 2);
+    scopes.declare(b"b", Sort::Constant, None)?;
+    slots(&rt, &scopes, Some(1), Some(2), 3);
+    scopes.enter()?;
+    scopes.declare(b"a", Sort::Constant, None)?;
+    slots(&rt, &scopes, Some(4), Some(2), 5);
+    Ok(())
+}
+
+#[test]
+fn many_slots(rt: HostRuntime) -> Result<(), Fail> {
+    let mut scopes = Scopes::new(rt.alloc())?;
+    for depth in 1..65 {
+        scopes.declare(b"a", Sort::Variable, None)?;
+        slots(&rt, &scopes, Some(2 * depth - 1), None, 2 * depth);
+        scopes.enter()?;
+    }
+    for depth in (1..65).rev() {
+        scopes.leave();
+        slots(&rt, &scopes, Some(2 * depth - 1), None, 2 * depth);
+    }
+    Ok(())
+}
+
 #[test]
 fn many_scopes(rt: HostRuntime) -> Result<(), Fail> {
     let mut scopes = Scopes::new(rt.alloc())?;
