@@ -1,0 +1,3 @@
+pub mod OperatorKinds
+pub mod Names
+pub mod Chains

@@ -1,0 +1,20 @@
+-- A name without a slot isn't in sight, and has no kind.
+-- What is found holds of what a call gave.
+use Rattle.std.proofs.Common.{◌≡◌, true, false, Option, Some, None, is_some, Result, Ok, Err, refl, sym, ap, ◌∙◌}
+use Rattle.std.specs.Prelude.{IfOk}
+use Rattle.dpl_language.specs.Names.{Text}
+use Rattle.dpl_rules.specs.Sights.{Declared, Scopes, lookup, type_declared}
+use Rattle.dpl_scopes.specs.Slots.{slot_in}
+use Rattle.dpl_scopes.proofs.Slots.{slot_in-lookup}
+use Rattle.dpl_elaborator.specs.Leaves.{kind_by, kind_in}
+
+undeclared : (d : Option Declared) → is_some d ≡ false → kind_by (type_declared d) ≡ None
+undeclared None e = refl
+undeclared (Some d) e = absurd (let f : true ≡ false = e in cc)
+
+pub kind_in-unsighted : (scopes : Scopes) (x : Text) → slot_in scopes x ≡ None → kind_in scopes x ≡ None
+kind_in-unsighted scopes x e = undeclared (lookup scopes x) (sym (slot_in-lookup scopes x) ∙ ap is_some e)
+
+pub if_ok : {A E : Type 0} {P Q : A → Type 0} (r : Result A E) → ((a : A) → P a → Q a) → IfOk r P → IfOk r Q
+if_ok (Ok a) f p = f a p
+if_ok (Err e) f p = tt

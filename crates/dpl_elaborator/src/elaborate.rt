@@ -1,0 +1,120 @@
+// Expressions and items: each typed expression stands for the lowered tree, over the leaves of its names.
+// What isn't made of operators alone is refused, and so are operands that an operator doesn't take.
+
+ghost use Rattle.std.specs.Prelude.{◌≡◌, IfOk, None, Option, Err};
+ghost use Rattle.dpl_language.specs.Renamed.{renamed_expr, renamed_item};
+ghost use Rattle.dpl_language.specs.Tree.{NoLinks};
+ghost use Rattle.dpl_tree.specs.View.{expr_view, item_view, links_of};
+ghost use Rattle.dpl_rules.specs.Types.{ValueType as RuleType};
+ghost use Rattle.dpl_rules.specs.Expressions.{type_of, item_type, chain_type};
+ghost use Rattle.dpl_lowered.specs.LoweredExpressions.{Once, lowered_expr, lowered_item};
+ghost use Rattle.dpl_words.specs.Words.{known_leaf};
+ghost use Rattle.dpl_nodes.specs.Makers.{typed_view, typed_item, kind_of};
+ghost use Rattle.dpl_nodes.specs.declared.make.Stop.TheVariants as stop;
+ghost use Rattle.dpl_elaborator.specs.Leaves.{leaf_in, IsFound, IsOfKind, MayBePlain};
+ghost use Rattle.dpl_elaborator.specs.Simple.{IsSimple, IsSimpleItem, AreSimpleLinks};
+ghost use Rattle.dpl_elaborator.specs.Elaborated.{leaves_of, chain_tree, IsChainSoFar};
+
+use crate::chain::nests;
+use crate::leaf::named;
+use dpl_nodes::leaves::{number, truth_word};
+use dpl_nodes::make::{combined, prefixed};
+use dpl_nodes::{Stop, Typed};
+use dpl_scopes::Scopes;
+use dpl_tree::{Arena, Chain, Expr, Item, Link};
+
+/// An expression.
+///
+/// # Errors
+/// Out of memory; an operand that an operator doesn't take, a name that isn't a plain variable's, or a form that isn't made of
+/// operators; a place that no text has.
+#[cycle(expression)]
+#[tactic(auto, using(dpl_tree::proofs::Fields::chain_view_fields))]
+pub fn expression<'t>(
+    arena: Arena<'t>,
+    scopes: &Scopes<'_>,
+    e: &Expr<'_>,
+) -> Result<Typed<'t>, Stop>
+    ensures node { IfOk result (λ t. typed_view t ≡ lowered_expr known_leaf Once (renamed_expr (leaf_in scopes.now) (expr_view e.now))) }
+    ensures kind { IfOk result (λ t. IsOfKind (kind_of t) (type_of scopes.now (expr_view e.now))) }
+    ensures found { IfOk result (λ t. IsSimple (IsFound scopes.now) (expr_view e.now)) }
+    ensures ill_typed { (result ≡ Err stop.IllTyped) → IsSimple (MayBePlain scopes.now) (expr_view e.now) → type_of scopes.now (expr_view e.now) ≡ None }
+{
+    match e {
+        Expr::Number(_, n) => number(arena, *n),
+        Expr::Truth(_, b) => truth_word(arena, *b),
+        Expr::Named(name) => named(arena, scopes, name),
+        Expr::Grouped { item: inner, .. } => item(arena, scopes, inner),
+        Expr::Prefixed { op, operand, .. } => {
+            let operand = expression(arena, scopes, operand)?;
+            prefixed(arena, *op, operand)
+        }
+        Expr::Chain(chain) => chained(arena, scopes, chain),
+        Expr::Postfixed(_) => Err(Stop::IllTyped),
+        Expr::Locales(_) => Err(Stop::IllTyped),
+        Expr::LocaleCount(_) => Err(Stop::IllTyped),
+        Expr::Here(_) => Err(Stop::IllTyped),
+        Expr::Domain { .. } => Err(Stop::IllTyped),
+        Expr::Reduced(_) => Err(Stop::IllTyped),
+    }
+}
+
+/// An item.
+///
+/// # Errors
+/// As for an expression; a range with bounds.
+#[cycle(expression)]
+pub fn item<'t>(
+    arena: Arena<'t>,
+    scopes: &Scopes<'_>,
+    item: &Item<'_>,
+) -> Result<Typed<'t>, Stop>
+    ensures node { IfOk result (λ t. typed_item t ≡ lowered_item known_leaf Once (renamed_item (leaf_in scopes.now) (item_view item.now))) }
+    ensures kind { IfOk result (λ t. IsOfKind (kind_of t) (item_type scopes.now (item_view item.now))) }
+    ensures found { IfOk result (λ t. IsSimpleItem (IsFound scopes.now) (item_view item.now)) }
+    ensures ill_typed { (result ≡ Err stop.IllTyped) → IsSimpleItem (MayBePlain scopes.now) (item_view item.now) → item_type scopes.now (item_view item.now) ≡ None }
+{
+    match item {
+        Item::One(e) => expression(arena, scopes, e),
+        Item::Range(_) => Err(Stop::IllTyped),
+    }
+}
+
+// A chain.
+#[cycle(expression)]
+fn chained<'t>(
+    arena: Arena<'t>,
+    scopes: &Scopes<'_>,
+    chain: &Chain<'_>,
+) -> Result<Typed<'t>, Stop>
+    ensures node { IfOk result (λ t. typed_view t ≡ leaves_of scopes.now (chain_tree chain.now)) }
+    ensures kind { IfOk result (λ t. IsOfKind (kind_of t) (type_of scopes.now (chain_tree chain.now))) }
+    ensures found { IfOk result (λ t. IsSimple (IsFound scopes.now) (chain_tree chain.now)) }
+    ensures ill_typed { (result ≡ Err stop.IllTyped) → IsSimple (MayBePlain scopes.now) (chain_tree chain.now) → type_of scopes.now (chain_tree chain.now) ≡ None }
+{
+    if nests(chain.links) {
+        let first = expression(arena, scopes, chain.first)?;
+        links(arena, scopes, first, chain.links)
+    } else {
+        Err(Stop::IllTyped)
+    }
+}
+
+// The further operands of a chain, behind the first.
+#[cycle(expression)]
+fn links<'t>(
+    arena: Arena<'t>,
+    scopes: &Scopes<'_>,
+    first: Typed<'t>,
+    links: &[Link<'_>],
+) -> Result<Typed<'t>, Stop>
+    ensures so_far { IfOk result (λ t. IsChainSoFar scopes.now first.entry (links_of links.now) t NoLinks) }
+    ensures ill_typed { (result ≡ Err stop.IllTyped) → AreSimpleLinks (MayBePlain scopes.now) (links_of links.now) → (u : Option RuleType) → IsOfKind (kind_of first.entry) u → chain_type scopes.now u (links_of links.now) ≡ None }
+{
+    let mut t = first;
+    for next in links {
+        let right = expression(arena, scopes, next.right)?;
+        t = combined(arena, next.op, next.at, t, right)?;
+    }
+    Ok(t)
+}
