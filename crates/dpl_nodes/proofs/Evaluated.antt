@@ -1,0 +1,154 @@
+-- A typed expression evaluates to a fault or to a value of its type, in every frame.
+-- So what is put into a slot is of the slot's kind.
+use Rattle.std.proofs.Common.{◌≡◌, ℤ, pos, Bool, true, false, not, List, [], ◌∷◌, get_or, Result, Ok, Err, None, refl, sym, subst}
+use Rattle.std.specs.Prelude.{◌&&◌, ◌||◌, ◌+ℤ◌, ◌-ℤ◌, ◌*ℤ◌, neg_ℤ, int_lt, int_le, int_div, int_rem}
+use Rattle.std.specs.Ordering.{int_eq}
+use Rattle.dpl_syntax.specs.Values.{wrap}
+use Rattle.dpl_syntax.specs.declared.place.Place.{Place}
+use Rattle.dpl_range.specs.Equality.{TextRange}
+use Rattle.dpl_language.specs.Tree.{ExprTree, FirstItem, NoItems, FirstExpr, NoExprs}
+use Rattle.dpl_language.specs.Values.{Value, Int, Truth, Range, number, truth, kept_number, ranges_in, all_ranges, index_of, Fault}
+use Rattle.dpl_language.specs.Arithmetic.{tested_divisor}
+use Rattle.dpl_language.specs.Ranges.{size_in, bounded, strided_by, range_sliced, contains_index, members_of_first, end_of, first_of, last_of, least_of, greatest_of}
+use Rattle.dpl_language.specs.Outcome.{with_ok}
+use Rattle.dpl_language.specs.Environment.{Limits}
+use Rattle.dpl_language.specs.Expressions.{unless_decided, bracketed, value_of, item_of, stridden, items_of, values_of}
+use Rattle.dpl_language.specs.Phrases.{Base, base_of}
+use Rattle.dpl_lowered.specs.Shapes.{nowhere}
+use Rattle.dpl_words.specs.Words.{LeafKind, IntLeaf, TruthLeaf, RangeLeaf, Leaf, Words, no_range, by_word}
+use Rattle.dpl_words.specs.Resolved.{IsOfKind}
+use Rattle.dpl_nodes.specs.declared.make.Typed.{Typed}
+use Rattle.dpl_nodes.specs.declared.make.Typed.TheVariants as typed
+use Rattle.dpl_nodes.specs.declared.tree.IntExpr.{IntExpr, Number as NumberNode, Local as IntLocal, Negative', Sum', Difference', Product', Quotient', Remainder', Size', First', Last', Low', High'}
+use Rattle.dpl_nodes.specs.declared.tree.BoolExpr.{BoolExpr, Truth as TruthNode, Local as TruthLocal, Not', And', Or', Same', Differ', Equal as EqualNode, Unequal as UnequalNode, Less as LessNode, AtMost as AtMostNode, Greater as GreaterNode, AtLeast as AtLeastNode, Contains as ContainsNode}
+use Rattle.dpl_nodes.specs.declared.tree.RangeExpr.{RangeExpr, Local as RangeLocal, Between', Slice'}
+use Rattle.dpl_nodes.specs.declared.tree.Stride.{Stride as StrideNode, Absent, By'}
+use Rattle.dpl_nodes.specs.Typed.{dots_view, int_view, truth_view, range_view, range_item, stride_view}
+use Rattle.dpl_nodes.specs.Makers.{typed_view, kind_of}
+
+-- a value of a kind, or a fault
+abbrev pub Gives : LeafKind → Result Value Fault → Type 0
+Gives k (Ok v) = IsOfKind k v
+Gives k (Err f) = Unit {0}
+
+-- operators: an operand, and two, of which the second may be tested as a divisor
+int_one : (f : Value → ℤ) (r : Result Value Fault) → Gives IntLeaf (with_ok r (λ v. Ok (Int (f v))))
+int_one f (Ok v) = (f v, refl)
+int_one f (Err e) = tt
+
+int_two : (f : Value → Value → ℤ) (r q : Result Value Fault) (b : Bool) (at : Place) → Gives IntLeaf (with_ok r (λ v. with_ok q (λ w. with_ok (tested_divisor b at w) (λ w. Ok (Int (f v w))))))
+int_two f (Ok v) (Ok w) b at = int_one (f v) (tested_divisor b at w)
+int_two f (Ok v) (Err e) b at = tt
+int_two f (Err e) q b at = tt
+
+truth_one : (f : Value → Bool) (r : Result Value Fault) → Gives TruthLeaf (with_ok r (λ v. Ok (Truth (f v))))
+truth_one f (Ok v) = (f v, refl)
+truth_one f (Err e) = tt
+
+truth_two : (f : Value → Value → Bool) (r q : Result Value Fault) → Gives TruthLeaf (with_ok r (λ v. with_ok q (λ w. Ok (Truth (f v w)))))
+truth_two f (Ok v) q = truth_one (f v) q
+truth_two f (Err e) q = tt
+
+-- an operator that a truth value may decide
+decided : (f : Value → Value → Bool) (b : Value → Bool) (r q : Result Value Fault) → Gives TruthLeaf r → Gives TruthLeaf (with_ok r (λ v. unless_decided (b v) v (with_ok q (λ w. Ok (Truth (f v w))))))
+decided f b (Ok v) q h = by (b v)
+  where
+    by : (c : Bool) → Gives TruthLeaf (unless_decided c v (with_ok q (λ w. Ok (Truth (f v w)))))
+    by true = h
+    by false = truth_one (f v) q
+decided f b (Err e) q h = tt
+
+-- an end of a range, and whether it has a number
+end-gives : (at : Place) (end : ℤ → List ℤ → ℤ) (ms : List ℤ) → Gives IntLeaf (with_ok (end_of at end ms) (λ w. Ok w))
+end-gives at end [] = tt
+end-gives at end (m ∷ ms) = (end m ms, refl)
+
+ended : (at : Place) (end : ℤ → List ℤ → ℤ) (r : Result Value Fault) → Gives IntLeaf (with_ok r (λ v. with_ok (end_of at end (members_of_first (ranges_in v))) (λ w. Ok w)))
+ended at end (Ok v) = end-gives at end (members_of_first (ranges_in v))
+ended at end (Err e) = tt
+
+contained : (f : Value → List Value → Bool) (r : Result Value Fault) (q : Result (List Value) Fault) → Gives TruthLeaf (with_ok r (λ v. with_ok (with_ok q (λ vs. Ok (Truth (f v vs)))) (λ w. Ok w)))
+contained f (Ok v) (Ok vs) = (f v vs, refl)
+contained f (Ok v) (Err e) = tt
+contained f (Err e) q = tt
+
+-- a range of two bounds
+of_bounds : (go : Value → Value → Result Value Fault) (r q : Result Value Fault) → ((v w : Value) → Gives RangeLeaf (go v w)) → Gives RangeLeaf (with_ok r (λ v. with_ok q (λ w. go v w)))
+of_bounds go (Ok v) (Ok w) h = h v w
+of_bounds go (Ok v) (Err e) h = tt
+of_bounds go (Err e) q h = tt
+
+bounded-gives : (range : Result TextRange Fault) → Gives RangeLeaf (with_ok range (λ r. Ok (Range r)))
+bounded-gives (Ok r) = (r, refl)
+bounded-gives (Err e) = tt
+
+strided-gives : (stride : Result Value Fault) (range : Result TextRange Fault) (by : Value → TextRange → Result TextRange Fault)
+    → Gives RangeLeaf (with_ok stride (λ v. with_ok range (λ r. with_ok (by v r) (λ q. Ok (Range q)))))
+strided-gives (Ok v) (Ok r) by = bounded-gives (by v r)
+strided-gives (Ok v) (Err e) by = tt
+strided-gives (Err e) range by = tt
+
+module _ (limits : Limits) (s : Words) where
+  abbrev value : ExprTree Leaf → Result Value Fault
+  value e = value_of limits by_word e None s
+
+  sliced : (b : Base Leaf) (r : Result Value Fault) (q : Result (List Value) Fault) → Gives RangeLeaf r → Gives RangeLeaf (with_ok r (λ v. with_ok (with_ok q (λ vs. bracketed limits by_word b vs v s)) (λ w. Ok w)))
+  sliced b (Ok v) q (x, e) = subst (λ v. Gives RangeLeaf (with_ok (with_ok q (λ vs. bracketed limits by_word b vs v s)) (λ w. Ok w))) (sym e) (by q)
+    where
+      by : (q : Result (List Value) Fault) → Gives RangeLeaf (with_ok (with_ok q (λ vs. bracketed limits by_word b vs (Range x) s)) (λ w. Ok w))
+      by (Ok vs) = (range_sliced x (all_ranges vs), refl)
+      by (Err f) = tt
+  sliced b (Err e) q h = tt
+
+  pub int_gives : (e : IntExpr) → Gives IntLeaf (value (int_view e))
+  int_gives (NumberNode n) = (n, refl)
+  int_gives (IntLocal slot) = (get_or s.numbers slot (pos 0), refl)
+  int_gives (Negative' p e) = int_one (λ v. wrap (neg_ℤ (number v))) (value (int_view e))
+  int_gives (Sum' p a q b) = int_two (λ v w. wrap (number v +ℤ number w)) (value (int_view a)) (value (int_view b)) false nowhere
+  int_gives (Difference' p a q b) = int_two (λ v w. wrap (number v -ℤ number w)) (value (int_view a)) (value (int_view b)) false nowhere
+  int_gives (Product' p a q b) = int_two (λ v w. wrap (number v *ℤ number w)) (value (int_view a)) (value (int_view b)) false nowhere
+  int_gives (Quotient' p a q b at) = int_two (λ v w. wrap (int_div (number v) (number w))) (value (int_view a)) (value (int_view b)) true at.now
+  int_gives (Remainder' p a q b at) = int_two (λ v w. wrap (int_rem (number v) (number w))) (value (int_view a)) (value (int_view b)) true at.now
+  int_gives (Size' p r) = int_one (λ v. pos (size_in (ranges_in v))) (value (range_view r))
+  int_gives (First' p r at) = ended at.now first_of (value (range_view r))
+  int_gives (Last' p r at) = ended at.now last_of (value (range_view r))
+  int_gives (Low' p r at) = ended at.now least_of (value (range_view r))
+  int_gives (High' p r at) = ended at.now greatest_of (value (range_view r))
+
+  stridden-gives : (by : StrideNode) (range : Result TextRange Fault) → Gives RangeLeaf (stridden limits by_word (stride_view by) range s)
+  stridden-gives Absent range = bounded-gives range
+  stridden-gives (By' at p e) range = strided-gives (value (int_view e)) range (λ v r. strided_by at.now (number v) r)
+
+  pub range_gives : (e : RangeExpr) → Gives RangeLeaf (value (range_view e))
+  range_gives (RangeLocal slot) = (get_or s.ranges slot no_range, refl)
+  range_gives (Between' p low at dots q high by) =
+      of_bounds (λ l h. stridden limits by_word (stride_view by) (bounded at.now (dots_view dots) (number l) (number h)) s) (value (int_view low)) (value (int_view high))
+      (λ l h. stridden-gives by (bounded at.now (dots_view dots) (number l) (number h)))
+  range_gives (Slice' p r q cut) = sliced (base_of (range_view r)) (value (range_view r)) (items_of limits by_word (FirstItem (range_item cut) NoItems) s) (range_gives r)
+
+  pub item_gives : (e : RangeExpr) → Gives RangeLeaf (item_of limits by_word (range_item e) None s)
+  item_gives (RangeLocal slot) = range_gives (RangeLocal slot)
+  item_gives (Between' p low at dots q high by) = range_gives (Between' p low at dots q high by)
+  item_gives (Slice' p r q cut) = range_gives (Slice' p r q cut)
+
+  pub truth_gives : (e : BoolExpr) → Gives TruthLeaf (value (truth_view e))
+  truth_gives (TruthNode b) = (b, refl)
+  truth_gives (TruthLocal slot) = (not (int_eq (get_or s.numbers slot (pos 0)) (pos 0)), refl)
+  truth_gives (Not' p e) = truth_one (λ v. not (truth v)) (value (truth_view e))
+  truth_gives (And' p a q b) = decided (λ v w. truth v && truth w) (λ v. not (truth v)) (value (truth_view a)) (value (truth_view b)) (truth_gives a)
+  truth_gives (Or' p a q b) = decided (λ v w. truth v || truth w) (λ v. truth v) (value (truth_view a)) (value (truth_view b)) (truth_gives a)
+  truth_gives (Same' p a q b) = truth_two (λ v w. int_eq (kept_number v) (kept_number w)) (value (truth_view a)) (value (truth_view b))
+  truth_gives (Differ' p a q b) = truth_two (λ v w. not (int_eq (kept_number v) (kept_number w))) (value (truth_view a)) (value (truth_view b))
+  truth_gives (EqualNode a b) = truth_two (λ v w. int_eq (kept_number v) (kept_number w)) (value (int_view a.now)) (value (int_view b.now))
+  truth_gives (UnequalNode a b) = truth_two (λ v w. not (int_eq (kept_number v) (kept_number w))) (value (int_view a.now)) (value (int_view b.now))
+  truth_gives (LessNode a b) = truth_two (λ v w. int_lt (number v) (number w)) (value (int_view a.now)) (value (int_view b.now))
+  truth_gives (AtMostNode a b) = truth_two (λ v w. int_le (number v) (number w)) (value (int_view a.now)) (value (int_view b.now))
+  truth_gives (GreaterNode a b) = truth_two (λ v w. int_lt (number w) (number v)) (value (int_view a.now)) (value (int_view b.now))
+  truth_gives (AtLeastNode a b) = truth_two (λ v w. int_le (number w) (number v)) (value (int_view a.now)) (value (int_view b.now))
+  truth_gives (ContainsNode r i) =
+      contained (λ v vs. contains_index (ranges_in v) (index_of vs)) (value (range_view r.now)) (values_of limits by_word (FirstExpr (int_view i.now) NoExprs) s)
+
+  pub typed_gives : (t : Typed) → Gives (kind_of t) (value (typed_view t))
+  typed_gives (typed.Int e) = int_gives e.now
+  typed_gives (typed.Truth e) = truth_gives e.now
+  typed_gives (typed.Range e) = range_gives e.now
