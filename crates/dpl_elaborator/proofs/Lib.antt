@@ -1,3 +1,4 @@
 pub mod OperatorKinds
 pub mod Names
 pub mod Chains
+pub mod Sights

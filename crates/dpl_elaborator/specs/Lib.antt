@@ -1,5 +1,6 @@
 -- What stands for a name, and which expressions are made of operators alone.
 pub mod Leaves
 pub mod Simple
+pub mod Sights
 -- What serves contracts and proofs alone.
 pub mod Elaborated

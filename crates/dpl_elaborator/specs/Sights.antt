@@ -1,0 +1,34 @@
+-- What the check has in sight as names that are resolved: each declaration with its slot and the kind of its type.
+-- The scopes of the check have the latest declaration first, and a frame has them in order.
+use Rattle.std.specs.Prelude.{◌≡◌, ℕ, suc, ◌+◌, List, [], ◌∷◌, ◌++◌, length, Option, Some, None}
+use Rattle.dpl_language.specs.Names.{Text}
+use Rattle.dpl_rules.specs.Sights.{Declared, Scope, Scopes, find}
+use Rattle.dpl_scopes.specs.Slots.{count_in}
+use Rattle.dpl_words.specs.Words.{LeafKind}
+use Rattle.dpl_words.specs.Resolved.{Bound, Sight}
+use Rattle.dpl_elaborator.specs.Leaves.{kind_by, leaf_by, leaf_in}
+
+-- a name, resolved
+abbrev pub bound_in : Scopes → Text → Bound
+bound_in scopes x = record { text = x; leaf = leaf_in scopes x }
+
+abbrev pub bound_at : Declared → ℕ → Bound
+bound_at d slot = record { text = d.origin.name; leaf = leaf_by (kind_by d.type) (Some slot) }
+
+-- the declarations of a scope, of which the first has this slot
+abbrev pub frame_from : ℕ → Scope → List Bound
+frame_from begin [] = []
+frame_from begin (d ∷ ds) = frame_from begin ds ++ bound_at d (length ds + begin) ∷ []
+
+abbrev pub sight_of : Scopes → Sight
+sight_of [] = []
+sight_of (s ∷ ss) = frame_from (suc (count_in ss)) s ∷ sight_of ss
+
+-- Each declaration is a plain variable's, and no scope declares a name twice.
+abbrev pub IsPlainScope : Scope → Type 0
+IsPlainScope [] = Unit {0}
+IsPlainScope (d ∷ ds) = ((k : LeafKind) × (kind_by d.type ≡ Some k)) × (find ds d.origin.name ≡ None) × IsPlainScope ds
+
+abbrev pub ArePlainScopes : Scopes → Type 0
+ArePlainScopes [] = Unit {0}
+ArePlainScopes (s ∷ ss) = IsPlainScope s × ArePlainScopes ss
