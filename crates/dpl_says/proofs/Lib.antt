@@ -1,0 +1,2 @@
+pub mod OneSaying
+pub mod Worked
