@@ -32,3 +32,4 @@ pub mod SlotDomains
 pub mod SlotCells
 pub mod SlotsAgree
 pub mod SlotsSample
+pub mod RenamedTwice

@@ -6,3 +6,4 @@ pub mod WordsAgree
 -- How a program is seen to fit, and a sample.
 pub mod Suiting
 pub mod WordsSample
+pub mod Fitting
