@@ -2,3 +2,4 @@ pub mod OperatorKinds
 pub mod Names
 pub mod Chains
 pub mod Sights
+pub mod Suited

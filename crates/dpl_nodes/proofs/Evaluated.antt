@@ -24,7 +24,7 @@ use Rattle.dpl_nodes.specs.declared.tree.BoolExpr.{BoolExpr, Truth as TruthNode,
 use Rattle.dpl_nodes.specs.declared.tree.RangeExpr.{RangeExpr, Local as RangeLocal, Between', Slice'}
 use Rattle.dpl_nodes.specs.declared.tree.Stride.{Stride as StrideNode, Absent, By'}
 use Rattle.dpl_nodes.specs.Typed.{dots_view, int_view, truth_view, range_view, range_item, stride_view}
-use Rattle.dpl_nodes.specs.Makers.{typed_view, kind_of}
+use Rattle.dpl_nodes.specs.Makers.{typed_view, typed_item, kind_of}
 
 -- a value of a kind, or a fault
 abbrev pub Gives : LeafKind → Result Value Fault → Type 0
@@ -152,3 +152,9 @@ module _ (limits : Limits) (s : Words) where
   typed_gives (typed.Int e) = int_gives e.now
   typed_gives (typed.Truth e) = truth_gives e.now
   typed_gives (typed.Range e) = range_gives e.now
+
+  -- and as an item
+  pub typed_item_gives : (t : Typed) → Gives (kind_of t) (item_of limits by_word (typed_item t) None s)
+  typed_item_gives (typed.Int e) = int_gives e.now
+  typed_item_gives (typed.Truth e) = truth_gives e.now
+  typed_item_gives (typed.Range e) = item_gives e.now
