@@ -7,3 +7,6 @@ pub mod elaborate;
 pub mod leaf;
 
 pub use elaborate::{expression, item};
+
+#[cfg(test)]
+mod tests;
