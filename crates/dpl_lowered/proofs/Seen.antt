@@ -1,13 +1,13 @@
 -- What is seen of a lowered tree without a state is what is seen of the tree: bases, cell reads, bare names.
 -- A lowered tree may look like a phrase that the tree isn't; then it stands in brackets where phrases are looked for.
-use Rattle.std.proofs.Common.{◌≡◌, refl, sym, ap, ◌∙◌, subst, Some, None, Option}
+use Rattle.std.proofs.Common.{◌≡◌, Bool, true, false, if◌then◌else◌, refl, sym, ap, ◌∙◌, subst, Some, None, Option}
 use Rattle.dpl_syntax.specs.declared.place.Place.{Place}
 use Rattle.dpl_language.specs.Tree.{Placed, ExprTree, Number, TruthWord, Named, LocalesWord, LocaleCount, HereWord, Grouped, DomainLiteral, Prefixed, Reduced, Chain, Postfixed, ItemTree, One, RangeItem, Posts, NoPosts, Post, Brackets, Rounds, Dotted, Plainly, Dim, Contains, Expand, CellRead, Items, FirstItem, NoItems, NextItem, Exprs}
 use Rattle.dpl_language.specs.Phrases.{Base, BaseName, BaseLocales, OtherBase, base_of, item_base, bare_name, posts_read, ReadTree, read_by, cell_read, item_read, name_of, item_over, declared_over}
-use Rattle.dpl_lowered.specs.Known.{Known}
+use Rattle.dpl_lowered.specs.Known.{Known, may_be_array}
 use Rattle.dpl_lowered.specs.Shapes.{nowhere, unplaced, as_item, hidden, hidden_item}
 use Rattle.dpl_lowered.specs.LoweredExpressions.{Times, Once, lowered_expr, lowered_item, lowered_links, lowered_posts, based}
-use Rattle.dpl_lowered.specs.LoweredStatements.{lowered_side, lowered_over, lowered_shown}
+use Rattle.dpl_lowered.specs.LoweredStatements.{lowered_side, lowered_over, array_name, lowered_shown}
 use Rattle.dpl_lowered.proofs.Nests.{as_expr-base, as_item-base, nested-base, stacked-base}
 
 -- what is seen in the tree is seen in the lowered tree
@@ -92,31 +92,41 @@ module _ {N : Type 0} where
   hidden-read None (Some y) l e a = refl
   hidden-read (Some r) p l e a = e ∙ a
 
-  -- what is handed to `write` is the read that the tree is
-  shown-read_by : (b c : Option (Placed N)) (o p : Option (ReadTree N)) (l : ExprTree N) → cell_read l ≡ p → bare_name l ≡ c → Either l → AsSeen o p
+  -- What is handed to `write` is the read that the tree is: a bare name, which may stand in brackets, is no cell read.
+  shown-read_by : (b c : Option (Placed N)) (o p : Option (ReadTree N)) (l : ExprTree N) → cell_read l ≡ p → (bare_name l ≡ None → c ≡ None) → Either l → AsSeen o p
       → cell_read (hidden b c (hidden o p l)) ≡ o
   shown-read_by (Some x) c o p l e n w a = hidden-read o p l e a
   shown-read_by None None o p l e n w a = hidden-read o p l e a
   shown-read_by None (Some y) o p l e n (NoRead d) a = none-seen o (let same : p ≡ None = sym e ∙ d in subst (AsSeen o) same a)
-  shown-read_by None (Some y) o p l e n (NoName d) a = absurd (let no : None ≡ Some y = sym d ∙ n in cc)
+  shown-read_by None (Some y) o p l e n (NoName d) a = absurd (let no : Some y ≡ None = n d in cc)
 
-  -- and the bare name
-  inner-name : (o p : Option (ReadTree N)) (l : ExprTree N) → name_of (bare_name l) ≡ None → name_of (bare_name (hidden o p l)) ≡ None
+  -- and a bare name where the tree is one
+  inner-named : (o p : Option (ReadTree N)) (x : Placed N) (l : ExprTree N) → cell_read l ≡ p → Either l → bare_name l ≡ Some x → bare_name (hidden o p l) ≡ Some x
+  inner-named None None x l e w n = n
+  inner-named None (Some y) x l e (NoRead d) n = absurd (let no : None ≡ Some y = sym d ∙ e in cc)
+  inner-named None (Some y) x l e (NoName d) n = absurd (let no : None ≡ Some x = sym d ∙ n in cc)
+  inner-named (Some r) p x l e w n = n
+
+  -- what is no bare name is none in brackets either
+  inner-name : (o p : Option (ReadTree N)) (l : ExprTree N) → bare_name l ≡ None → bare_name (hidden o p l) ≡ None
   inner-name None None l n = n
   inner-name None (Some y) l n = refl
   inner-name (Some r) p l n = n
 
-  inner-named : (o p : Option (ReadTree N)) (x : N) (l : ExprTree N) → cell_read l ≡ p → Either l → name_of (bare_name l) ≡ Some x → name_of (bare_name (hidden o p l)) ≡ Some x
-  inner-named None None x l e w n = n
-  inner-named None (Some y) x l e (NoRead d) n = absurd (let no : None ≡ Some y = sym d ∙ e in cc)
-  inner-named None (Some y) x l e (NoName d) n = absurd (let no : None ≡ Some x = sym (ap name_of d) ∙ n in cc)
-  inner-named (Some r) p x l e w n = n
-
-  shown-name_by : (b c : Option (Placed N)) (o p : Option (ReadTree N)) (l : ExprTree N) → cell_read l ≡ p → bare_name l ≡ c → Either l → AsSeen (name_of b) (name_of c)
-      → name_of (bare_name (hidden b c (hidden o p l))) ≡ name_of b
-  shown-name_by None None o p l e n w a = inner-name o p l (ap name_of n)
-  shown-name_by None (Some y) o p l e n w a = refl
-  shown-name_by (Some x) c o p l e n w a = inner-named o p x.name l e w (ap name_of n ∙ a)
+  -- an expression that is a bare name
+  pub bare_name-is : (l : ExprTree N) (x : Placed N) → bare_name l ≡ Some x → l ≡ Named x
+  bare_name-is (Number at n) x e = absurd (let no : None ≡ Some x = e in cc)
+  bare_name-is (TruthWord at b) x e = absurd (let no : None ≡ Some x = e in cc)
+  bare_name-is (Named y) x e = let same : Some y ≡ Some x = e in let name : y ≡ x = cc in ap Named name
+  bare_name-is (LocalesWord at) x e = absurd (let no : None ≡ Some x = e in cc)
+  bare_name-is (LocaleCount at) x e = absurd (let no : None ≡ Some x = e in cc)
+  bare_name-is (HereWord at) x e = absurd (let no : None ≡ Some x = e in cc)
+  bare_name-is (Grouped from item upto) x e = absurd (let no : None ≡ Some x = e in cc)
+  bare_name-is (DomainLiteral from items upto) x e = absurd (let no : None ≡ Some x = e in cc)
+  bare_name-is (Prefixed at op e') x e = absurd (let no : None ≡ Some x = e in cc)
+  bare_name-is (Reduced at op word e') x e = absurd (let no : None ≡ Some x = e in cc)
+  bare_name-is (Chain e' rest) x e = absurd (let no : None ≡ Some x = e in cc)
+  bare_name-is (Postfixed e' posts) x e = absurd (let no : None ≡ Some x = e in cc)
 
   -- indices behind a base make no cell read
   pub brackets-read : (from : Place) (items : Items N) (upto : Place) (rest : Posts N) → None ≡ posts_read (Post (Brackets from items upto) rest)
@@ -218,8 +228,31 @@ module _ {N : Type 0} (known : N → Known) where
       hidden_item-over (item_over i) (item_over (lowered_item known Once i)) (lowered_item known Once i) refl (item_over-lowered Once i)
   over-declared (FirstItem i (NextItem comma j more)) = refl
 
-  pub shown-read : (e : ExprTree N) → cell_read (lowered_shown known e (lowered_expr known Once e)) ≡ cell_read e
-  shown-read e = shown-read_by (bare_name e) _ (cell_read e) _ (lowered_expr known Once e) refl refl (either (lowered_expr known Once e)) (cell_read-lowered Once e)
+  pub array_name-none : (b : Option (Placed N)) → b ≡ None → array_name known b ≡ None
+  array_name-none None n = refl
+  array_name-none (Some x) n = absurd (let no : Some x ≡ None = n in cc)
 
-  pub shown-name : (e : ExprTree N) → name_of (bare_name (lowered_shown known e (lowered_expr known Once e))) ≡ name_of (bare_name e)
-  shown-name e = shown-name_by (bare_name e) _ (cell_read e) _ (lowered_expr known Once e) refl refl (either (lowered_expr known Once e)) (bare_name-lowered Once e)
+  pub shown-read : (e : ExprTree N) → cell_read (lowered_shown known e (lowered_expr known Once e)) ≡ cell_read e
+  shown-read e =
+      shown-read_by (bare_name e) _ (cell_read e) _ (lowered_expr known Once e) refl (array_name-none (bare_name (lowered_expr known Once e))) (either (lowered_expr known Once e)) (cell_read-lowered Once e)
+
+  -- What is handed to `write` is the bare name that the tree is; or it is the bare name of what is known to be no array,
+  -- in the place of the same name in brackets, which is no cell read.
+  pub data Shows (e l : ExprTree N) : Type 0 where
+    SameName : name_of (bare_name l) ≡ name_of (bare_name e) → Shows e l
+    NoArrayName : (x : Placed N) → bare_name l ≡ Some x → may_be_array (known x.name) ≡ false → bare_name e ≡ None → Shows e l
+
+  bare_name-shows : (e l : ExprTree N) (x : Placed N) (may : Bool) (o p : Option (ReadTree N)) → may_be_array (known x.name) ≡ may → bare_name e ≡ None → bare_name l ≡ Some x → cell_read l ≡ p → Either l
+      → Shows e (hidden {A = Placed N} None (if may then Some x else None) (hidden o p l))
+  bare_name-shows e l x true o p k be bl rl w = SameName (sym (ap name_of be))
+  bare_name-shows e l x false o p k be bl rl w = NoArrayName x (inner-named o p x l rl w bl) k be
+
+  hidden-shows : (e l : ExprTree N) (b c : Option (Placed N)) (o p : Option (ReadTree N)) → bare_name e ≡ b → bare_name l ≡ c → cell_read l ≡ p → Either l → AsSeen (name_of b) (name_of c)
+      → Shows e (hidden b (array_name known c) (hidden o p l))
+  hidden-shows e l None None o p be bl rl w a = SameName (ap name_of (inner-name o p l bl) ∙ sym (ap name_of be))
+  hidden-shows e l None (Some x) o p be bl rl w a = bare_name-shows e l x (may_be_array (known x.name)) o p refl be bl rl w
+  hidden-shows e l (Some x) None o p be bl rl w a = absurd (let no : None ≡ Some x.name = a in cc)
+  hidden-shows e l (Some x) (Some y) o p be bl rl w a = SameName (ap name_of (inner-named o p y l rl w bl) ∙ a ∙ sym (ap name_of be))
+
+  pub shown-shows : (e : ExprTree N) → Shows e (lowered_shown known e (lowered_expr known Once e))
+  shown-shows e = hidden-shows e (lowered_expr known Once e) (bare_name e) _ (cell_read e) _ refl refl refl (either (lowered_expr known Once e)) (bare_name-lowered Once e)

@@ -11,8 +11,8 @@ use Rattle.dpl_language.specs.Declarations.{type_of}
 use Rattle.dpl_lowered.specs.Known.{Known, may_be_array, may_be_whole}
 use Rattle.dpl_lowered.specs.Shapes.{nowhere, placed, unplaced, relisted, as_expr, as_item, hidden, hidden_item, item_in_brackets}
 use Rattle.dpl_lowered.specs.LoweredExpressions.{Times, Once, EachTurn, lowered_expr, lowered_item}
-use Rattle.dpl_lowered.specs.LoweredStatements.{written_initial, default_tree, written_type, tells_name, unplaced_word, lowered_variables, with_intents, lowered_sign, times_by, lowered_side, lowered_over, lowered_init, plain_initial, lowered_initial, array_init, array_initial, declared_type, declared_initial, lowered_declare, lowered_target, target_sign, target_times, lowered_call, lowered_shown, lowered_argument, lowered_write, lowered_stmt, lowered_body, lowered_stmts, lowered_else, lowered_program}
-use Rattle.dpl_lowered.proofs.Seen.{Either, NoRead, NoName, either}
+use Rattle.dpl_lowered.specs.LoweredStatements.{written_initial, default_tree, written_type, tells_name, unplaced_word, lowered_variables, with_intents, lowered_sign, times_by, lowered_side, lowered_over, lowered_init, plain_initial, lowered_initial, array_init, array_initial, declared_type, declared_initial, lowered_declare, lowered_target, target_sign, target_times, lowered_call, array_name, lowered_shown, lowered_argument, lowered_write, lowered_stmt, lowered_body, lowered_stmts, lowered_else, lowered_program}
+use Rattle.dpl_lowered.proofs.Seen.{Either, NoRead, NoName, either, array_name-none}
 use Rattle.dpl_lowered.proofs.Parts.{intents_of-made, type_of-written}
 use Rattle.dpl_lowered.proofs.Formed.{IsFormed, as_expr-as_item, as_item-as_expr, lowered-formed, item-formed}
 use Rattle.dpl_lowered.proofs.Twice.{kept-kept, expr-twice, item-twice, items-twice, exprs-twice}
@@ -192,29 +192,33 @@ module _ {N : Type 0} (known : N → Known) where
   lowered-hidden None (Some y) e l h f = ap (λ l. as_expr (as_item l)) h ∙ as_expr-as_item l f
   lowered-hidden (Some x) p e l h f = h
 
+  hidden-array : (b : Option (Placed N)) (e : ExprTree N) → hidden b (array_name known b) e ≡ e
+  hidden-array None e = refl
+  hidden-array (Some x) e = refl
+
   bare-again : (l : ExprTree N) → lowered_shown known l l ≡ l
-  bare-again l = hidden-same (bare_name l) (hidden (cell_read l) (cell_read l) l) ∙ hidden-same (cell_read l) l
+  bare-again l = hidden-array (bare_name l) (hidden (cell_read l) (cell_read l) l) ∙ hidden-same (cell_read l) l
 
   read-again : (o p : Option (ReadTree N)) (l : ExprTree N) → cell_read l ≡ p → Either l → lowered_shown known (hidden o p l) l ≡ hidden o p l
   read-again None None l e w = bare-again l
   read-again None (Some y) l e (NoRead d) = absurd (let no : None ≡ Some y = sym d ∙ e in cc)
   read-again None (Some y) l e (NoName d) =
-      ap (λ b. hidden {A = Placed N} None b (hidden {A = ReadTree N} None (cell_read l) l)) d ∙ ap (λ o. hidden {A = ReadTree N} None o l) e
+      ap (λ b. hidden {A = Placed N} None (array_name known b) (hidden {A = ReadTree N} None (cell_read l) l)) d ∙ ap (λ o. hidden {A = ReadTree N} None o l) e
   read-again (Some r) p l e w = bare-again l
 
-  shown-again : (b c : Option (Placed N)) (o p : Option (ReadTree N)) (l : ExprTree N) → bare_name l ≡ c → cell_read l ≡ p → Either l → lowered_shown known (hidden b c (hidden o p l)) l ≡ hidden b c (hidden o p l)
+  shown-again : (b c : Option (Placed N)) (o p : Option (ReadTree N)) (l : ExprTree N) → array_name known (bare_name l) ≡ c → cell_read l ≡ p → Either l → lowered_shown known (hidden b c (hidden o p l)) l ≡ hidden b c (hidden o p l)
   shown-again None None o p l n e w = read-again o p l e w
   shown-again None (Some y) o p l n e (NoRead d) =
       ap (λ b. hidden {A = Placed N} None b (hidden {A = ReadTree N} None (cell_read l) l)) n
       ∙ ap (λ l. Grouped nowhere (One l) nowhere) (hidden-nothing {A = ReadTree N} None (cell_read l) l d ∙ sym (hidden-nothing o p l (sym e ∙ d)))
-  shown-again None (Some y) o p l n e (NoName d) = absurd (let no : None ≡ Some y = sym d ∙ n in cc)
+  shown-again None (Some y) o p l n e (NoName d) = absurd (let no : None ≡ Some y = sym (array_name-none known (bare_name l) d) ∙ n in cc)
   shown-again (Some x) c o p l n e w = read-again o p l e w
 
   argument-twice : (a : ArgumentTree N) → lowered_argument known (lowered_argument known a) ≡ lowered_argument known a
   argument-twice (TextArgument at cs) = refl
   argument-twice (ExprArgument e) =
       ap (λ l. ExprArgument (lowered_shown known (lowered_shown known e (lowered_expr known Once e)) l))
-      (lowered-hidden (bare_name e) (bare_name (lowered_expr known Once e)) (hidden (cell_read e) (cell_read (lowered_expr known Once e)) (lowered_expr known Once e)) (lowered_expr known Once e)
+      (lowered-hidden (bare_name e) (array_name known (bare_name (lowered_expr known Once e))) (hidden (cell_read e) (cell_read (lowered_expr known Once e)) (lowered_expr known Once e)) (lowered_expr known Once e)
       (lowered-hidden (cell_read e) (cell_read (lowered_expr known Once e)) (lowered_expr known Once e) (lowered_expr known Once e) (expr-twice known Once e) (lowered-formed known Once e)) (lowered-formed known Once e))
       ∙ ap ExprArgument (shown-again (bare_name e) _ (cell_read e) _ (lowered_expr known Once e) refl refl (either (lowered_expr known Once e)))
 

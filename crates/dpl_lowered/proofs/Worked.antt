@@ -225,6 +225,17 @@ write_names : lowered_stmt nothing_known (Write (record {
     })
 write_names = refl
 
+-- writeln((x)); of a name that is known to be no array's needs no brackets
+abbrev writing : Place → ExprTree ℕ → StmtTree ℕ
+writing at e = Write (record { at = at; ends_line = true; from = at; arguments = Some (record { first = ExprArgument e; others = [] }); upto = at; semicolon = at })
+
+write_plain_name : lowered_stmt plain (writing gone (bracketed (One (Named (name 9 0))))) ≡ writing nowhere (Named (bare 0))
+write_plain_name = refl
+
+-- but of a cell it reads none
+write_no_read : lowered_stmt plain (writing gone (bracketed (One read))) ≡ writing nowhere (kept_brackets (One lowered_read))
+write_no_read = refl
+
 -- DECLARATIONS
 -- a declaration of name 0 in column 7, and a lowered one, whose name is told or not
 abbrev declaring : Option Place → Option (TypeTree ℕ) → Option (InitialTree ℕ) → DeclareTree ℕ

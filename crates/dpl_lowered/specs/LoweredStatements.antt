@@ -1,8 +1,8 @@
 -- Statements without what they don't need: maps, types of plain variables, intents but reduce intents, one form of body.
 -- What is left out is written where that changes nothing; so each declaration of a plain variable has an initial value.
-use Rattle.std.specs.Prelude.{pos, Bool, true, false, ◌||◌, Option, Some, None, List, [], ◌∷◌, map, option_map}
+use Rattle.std.specs.Prelude.{pos, Bool, true, false, ◌||◌, if◌then◌else◌, Option, Some, None, List, [], ◌∷◌, map, option_map}
 use Rattle.dpl_syntax.specs.declared.place.Place.{Place}
-use Rattle.dpl_language.specs.Tree.{AfterComma, Op, Kind, IntKind, BoolKind, AssignTree, ExprTree, Number, TruthWord, DomainLiteral, ItemTree, One, Items, FirstItem, NoItems, NextItem, ArrayTypeTree, TypeTree, ScalarType, SyncType, DomainType, ArrayType, DomainTypeTree, InitTree, ItemInit, CreateInit, TypedTree, InitialTree, DeclareTree}
+use Rattle.dpl_language.specs.Tree.{Placed, AfterComma, Op, Kind, IntKind, BoolKind, AssignTree, ExprTree, Number, TruthWord, DomainLiteral, ItemTree, One, Items, FirstItem, NoItems, NextItem, ArrayTypeTree, TypeTree, ScalarType, SyncType, DomainType, ArrayType, DomainTypeTree, InitTree, ItemInit, CreateInit, TypedTree, InitialTree, DeclareTree}
 use Rattle.dpl_language.specs.Tree.{ArgumentTree, TextArgument, ExprArgument, WriteTree, IntentTree, ReduceIntent, WithTree, VariablesTree, OneVariable, ManyVariables, TargetTree, Whole, Element, Square, CallTree, ReadCall, ResetCall, WriteCall, StmtTree, Nothing, Declare, Assigned, Call, Write, Block, If, While, For, Forall, Coforall, On, Body, WordBody, BlockBody, Stmts, NoStmts, Then, Else, NoElse, ElseDo, ProgramTree}
 use Rattle.dpl_language.specs.Arithmetic.{assign_divides}
 use Rattle.dpl_language.specs.Phrases.{bare_name, cell_read, item_read, item_over, intents_of}
@@ -164,9 +164,15 @@ module _ {N : Type 0} (known : N → Known) where
   lowered_call (ResetCall at from upto) = ResetCall nowhere nowhere nowhere
   lowered_call (WriteCall at w from e upto) = WriteCall nowhere w nowhere (lowered_expr known Once e) nowhere
 
-  -- what is handed to `write`, which is no cell read and no bare name if it wasn't one
+  -- the bare name that may show a whole array
+  abbrev pub array_name : Option (Placed N) → Option (Placed N)
+  array_name None = None
+  array_name (Some x) = if may_be_array (known x.name) then Some x else None
+
+  -- what is handed to `write`, which is no cell read if it wasn't one, and no bare name of what may be an array
   abbrev pub lowered_shown : ExprTree N → ExprTree N → ExprTree N
-  lowered_shown e lowered = hidden (bare_name e) (bare_name lowered) (hidden (cell_read e) (cell_read lowered) lowered)
+  lowered_shown e lowered =
+      hidden (bare_name e) (array_name (bare_name lowered)) (hidden (cell_read e) (cell_read lowered) lowered)
 
   abbrev pub lowered_argument : ArgumentTree N → ArgumentTree N
   lowered_argument (TextArgument at cs) = TextArgument nowhere cs
