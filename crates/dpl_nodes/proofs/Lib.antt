@@ -1,3 +1,4 @@
 pub mod Kept
 pub mod Items
 pub mod Evaluated
+pub mod Rows

@@ -1,9 +1,10 @@
 -- The faults that words stand for, and what a walk hands back.
-use Rattle.std.specs.Prelude.{ℕ, zero, suc, ℤ, Bool, Result, Ok, Err}
+use Rattle.std.specs.Prelude.{ℕ, zero, suc, ℤ, Bool, Option, Some, None, Result, Ok, Err, [], ◌∷◌}
 use Rattle.dpl_range.specs.Equality.{TextRange}
-use Rattle.dpl_language.specs.Values.{Value, Int, Truth, Range, FaultCode, Outside, ZeroDivisor, PastLimit, EmptyEnd, Budget, NoLocale, CellStuck, ArrayTooLarge, Fault}
+use Rattle.dpl_language.specs.Values.{Value, Int, Truth, Range, FaultCode, Outside, ZeroDivisor, PastLimit, EmptyEnd, Budget, NoLocale, CellStuck, ArrayTooLarge, Turn, InNone, InTurn, Fault}
 use Rattle.dpl_nodes.specs.declared.fault.FaultCode.{FaultCode as CodeNode}
 use Rattle.dpl_nodes.specs.declared.fault.FaultCode.TheVariants as code
+use Rattle.dpl_nodes.specs.declared.fault.Fault.{Fault as FaultNode}
 use Rattle.dpl_nodes.specs.declared.frame.RangeWord.{RangeWord}
 
 abbrev pub code_view : CodeNode → FaultCode
@@ -26,6 +27,14 @@ code_of (suc (suc (suc (suc zero)))) = Budget
 code_of (suc (suc (suc (suc (suc zero))))) = NoLocale
 code_of (suc (suc (suc (suc (suc (suc zero)))))) = CellStuck
 code_of (suc (suc (suc (suc (suc (suc (suc n))))))) = ArrayTooLarge
+
+-- no turn, or that of a forall's index
+abbrev pub turn_view : Option ℤ → Turn
+turn_view None = InNone
+turn_view (Some i) = InTurn (i ∷ [])
+
+abbrev pub fault_view : FaultNode → Fault
+fault_view f = record { code = code_view f.code; at = f.at; turn = turn_view f.turn }
 
 -- a range as a value
 abbrev pub range_word : RangeWord → TextRange

@@ -4,7 +4,7 @@
 ghost use Rattle.std.specs.Prelude.{◌≡◌, ◌<◌, ◌^◌, ◌/◌, ◌%◌, IfSome, IsSome};
 ghost use Rattle.dpl_syntax.specs.declared.place.Place.{Place as PlaceNode};
 ghost use Rattle.dpl_language.specs.Values.{fault};
-ghost use Rattle.dpl_nodes.specs.Faults.{code_view, code_of};
+ghost use Rattle.dpl_nodes.specs.Faults.{code_view, code_of, fault_view};
 
 use dpl_syntax::Place;
 use std::marker::Model;
@@ -47,6 +47,30 @@ impl FaultCode {
             FaultCode::ArrayTooLarge => 7,
         }
     }
+}
+
+// The code that a number stands for.
+fn numbered(number: u64) -> FaultCode
+    ensures { code_view result ≡ code_of number }
+{
+    match number {
+        0 => FaultCode::Outside,
+        1 => FaultCode::ZeroDivisor,
+        2 => FaultCode::PastLimit,
+        3 => FaultCode::EmptyEnd,
+        4 => FaultCode::Budget,
+        5 => FaultCode::NoLocale,
+        6 => FaultCode::CellStuck,
+        _ => FaultCode::ArrayTooLarge,
+    }
+}
+
+/// A fault: which it is, where it arose, and in the turn of which index of a forall, if in one.
+#[derive(Clone, Copy, PartialEq, Eq, Debug)]
+pub struct Fault {
+    pub code: FaultCode,
+    pub at: Place,
+    pub turn: Option<i64>,
 }
 
 /// A place whose line and column are below 2^21, as those of each token of a text are.
@@ -109,6 +133,22 @@ impl Trap {
         Trap {
             word: (code.number() * 2_097_152 + u64::from(at.line)) * 2_097_152
                 + u64::from(at.column),
+        }
+    }
+
+    /// The fault, in no turn.
+    #[cold]
+    #[inline(never)]
+    pub fn fault(self) -> Fault
+        ensures { fault_view result ≡ self }
+    {
+        Fault {
+            code: numbered(self.word / 4_398_046_511_104),
+            at: Place {
+                line: (self.word / 2_097_152 % 2_097_152) as u32,
+                column: (self.word % 2_097_152) as u32,
+            },
+            turn: None,
         }
     }
 }

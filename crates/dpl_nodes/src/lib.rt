@@ -7,9 +7,11 @@ pub mod frame;
 pub mod leaves;
 pub mod make;
 pub mod ranges;
+pub mod step;
 pub mod tree;
 
-pub use fault::{FaultCode, Spot, Trap, Truth};
+pub use fault::{Fault, FaultCode, Spot, Trap, Truth};
 pub use frame::{Frame, RangeWord};
 pub use make::{Stop, Typed};
+pub use step::{Argument, Else, Intent, Step};
 pub use tree::{BoolExpr, Dots, IntExpr, RangeExpr, Stride};

@@ -17,7 +17,7 @@ use dpl_syntax::operator::{difference, negative, product, sum};
 // An operand: a leaf at once, and else by a walk.
 #[cycle(walk)]
 #[inline(always)]
-fn operand(e: &IntExpr<'_>, frame: &Frame) -> Result<i64, Trap>
+fn operand(e: &IntExpr<'_>, frame: &Frame<'_>) -> Result<i64, Trap>
     ensures { value_of frame.now.limits by_word (int_view e.now) None frame.now.words ≡ of_int result }
 {
     match e {
@@ -32,7 +32,7 @@ fn operand(e: &IntExpr<'_>, frame: &Frame) -> Result<i64, Trap>
 /// # Errors
 /// `F2` at a division by zero.
 #[cycle(walk)]
-pub fn int_value(e: &IntExpr<'_>, frame: &Frame) -> Result<i64, Trap>
+pub fn int_value(e: &IntExpr<'_>, frame: &Frame<'_>) -> Result<i64, Trap>
     ensures { value_of frame.now.limits by_word (int_view e.now) None frame.now.words ≡ of_int result }
 {
     match e {
@@ -82,7 +82,7 @@ pub fn int_value(e: &IntExpr<'_>, frame: &Frame) -> Result<i64, Trap>
 #[cycle(walk)]
 fn stridden(
     stride: &Stride<'_>,
-    frame: &Frame,
+    frame: &Frame<'_>,
     bounds: Result<Range, Trap>,
 ) -> Result<RangeWord, Trap>
     ensures { stridden_of frame.now.limits by_word (stride_view stride.now) (of_bounds bounds) frame.now.words ≡ of_range result }
@@ -104,7 +104,7 @@ fn stridden(
 /// # Errors
 /// `F3` at the dots for a bound or a count past its limit, and at `by` for a stride.
 #[cycle(walk)]
-pub fn range_value(e: &RangeExpr<'_>, frame: &Frame) -> Result<RangeWord, Trap>
+pub fn range_value(e: &RangeExpr<'_>, frame: &Frame<'_>) -> Result<RangeWord, Trap>
     ensures { item_of frame.now.limits by_word (range_item e.now) None frame.now.words ≡ of_range result }
 {
     match e {
@@ -126,7 +126,7 @@ pub fn range_value(e: &RangeExpr<'_>, frame: &Frame) -> Result<RangeWord, Trap>
 ///
 /// # Errors
 /// The fault of an operand.
-pub fn truth_value(e: &BoolExpr<'_>, frame: &Frame) -> Result<Truth, Trap>
+pub fn truth_value(e: &BoolExpr<'_>, frame: &Frame<'_>) -> Result<Truth, Trap>
     ensures { value_of frame.now.limits by_word (truth_view e.now) None frame.now.words ≡ of_truth result }
 {
     match e {
