@@ -2,6 +2,7 @@
 -- Each lemma has a node that holds a list on its left side.
 use Rattle.std.proofs.Common.{◌≡◌, Bor, List, refl, ap, ◌∙◌}
 use Rattle.dpl_nodes.specs.declared.step.Step.{Step, Row_of-Step, end_of-Step, more_of-Step, items-the_row-Step, items_hidden-the_row-Step-0}
+use Rattle.dpl_nodes.specs.declared.step.Else.TheBlock.{hidden-the_row-Step-0}
 use Rattle.dpl_language.specs.Tree.{Then}
 use Rattle.dpl_nodes.specs.Steps.{step_view, steps_view, steps_of}
 
