@@ -1,0 +1,42 @@
+-- The texts of arguments, and how what was printed grows by them.
+-- A fault leaves what was printed before at the front.
+use Rattle.std.specs.Prelude.{◌≡◌, ℕ, List, [], ◌∷◌, ◌++◌, None, Result, Ok, Err}
+use Rattle.dpl_language.specs.Values.{Fault}
+use Rattle.dpl_language.specs.Outcome.{with_ok}
+use Rattle.dpl_language.specs.Environment.{Limits}
+use Rattle.dpl_language.specs.Phrases.{bare_name}
+use Rattle.dpl_language.specs.Expressions.{value_of}
+use Rattle.dpl_language.specs.Writing.{shown}
+use Rattle.dpl_words.specs.Words.{Words, by_word}
+use Rattle.dpl_nodes.specs.declared.step.Argument.{Argument}
+use Rattle.dpl_nodes.specs.declared.step.Argument.TheVariants.{Text, Int, Truth}
+use Rattle.dpl_nodes.specs.Typed.{int_view, truth_view}
+use Rattle.dpl_nodes.specs.Faults.{fault_view}
+use Rattle.dpl_steps.specs.declared.halt.Halt.{Halt}
+use Rattle.dpl_steps.specs.declared.halt.Halt.TheVariants.{Fault as FaultHalt, Memory}
+
+module _ (limits : Limits) where
+  abbrev pub argument_text : Argument → Words → Result (List ℕ) Fault
+  argument_text (Text bytes) s = Ok bytes.now
+  argument_text (Int e) s = with_ok (value_of limits by_word (int_view e.now) None s) (λ v. Ok (shown limits by_word (bare_name (int_view e.now)) v s))
+  argument_text (Truth e) s = with_ok (value_of limits by_word (truth_view e.now) None s) (λ v. Ok (shown limits by_word (bare_name (truth_view e.now)) v s))
+
+  -- one after another
+  abbrev pub arguments_text : List Argument → Words → Result (List ℕ) Fault
+  arguments_text [] s = Ok []
+  arguments_text (a ∷ rest) s =
+      with_ok (argument_text a s) (λ text. with_ok (arguments_text rest s) (λ more. Ok (text ++ more)))
+
+-- what a text is with more behind it, or the fault in its place
+abbrev pub behind : List ℕ → Result (List ℕ) Fault → Result (List ℕ) Fault
+behind text more = with_ok more (λ more. Ok (text ++ more))
+
+-- a text grew, or stayed
+abbrev pub Grew : List ℕ → List ℕ → Type 0
+Grew old new = (more : List ℕ) × (new ≡ old ++ more)
+
+-- a text grew by another; or there is the fault, and the text grew somehow
+abbrev pub GrewBy : Result (Unit {0}) Halt → List ℕ → List ℕ → Result (List ℕ) Fault → Type 0
+GrewBy (Ok v) old new more = behind old more ≡ Ok new
+GrewBy (Err (FaultHalt f)) old new more = (more ≡ Err (fault_view f)) × Grew old new
+GrewBy (Err Memory) old new more = Unit {0}

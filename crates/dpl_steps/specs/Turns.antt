@@ -1,0 +1,37 @@
+-- The turns of a loop over a range, by its members.
+-- What a loop runs over is evaluated and tested before its first turn.
+use Rattle.std.specs.Prelude.{ℕ, nat_lt, ℤ, if◌then◌else◌, None, List, [], ◌∷◌, Result, Ok, Err}
+use Rattle.dpl_syntax.specs.declared.place.Place.{Place}
+use Rattle.dpl_language.specs.Tree.{ItemTree}
+use Rattle.dpl_language.specs.Values.{Value, Int, Fault, fault, Budget}
+use Rattle.dpl_language.specs.Ranges.{size_in, loop_ranges}
+use Rattle.dpl_language.specs.Outcome.{Outcome, Done, Run, with_ok, then_do, naming}
+use Rattle.dpl_language.specs.Environment.{Limits}
+use Rattle.dpl_language.specs.Expressions.{item_of}
+use Rattle.dpl_language.specs.Statements.{exec_all}
+use Rattle.dpl_words.specs.Words.{Leaf, IntLeaf, Words, with_value_at, by_word}
+use Rattle.dpl_nodes.specs.declared.step.Step.{Step}
+use Rattle.dpl_nodes.specs.Steps.{steps_of}
+
+-- the turns of some indices, in order
+abbrev pub in_turn : (ℤ → Run Words) → List ℤ → Run Words
+in_turn turn [] s done = Done s done
+in_turn turn (i ∷ is) s done = then_do (turn i s done) (in_turn turn is)
+
+module _ (limits : Limits) where
+  -- a turn: the variable is the index, and the body runs
+  abbrev pub turn_by_word : ℕ → List Step → ℤ → Run Words
+  turn_by_word slot body i s done =
+      exec_all limits by_word (steps_of body) (with_value_at IntLeaf slot (Int i) s) done
+
+  -- a turn of a forall, whose fault names it
+  abbrev pub named_by_word : ℕ → List Step → ℤ → Run Words
+  named_by_word slot body i s done = naming (i ∷ []) (turn_by_word slot body i s done)
+
+  abbrev pub within : Place → Value → Result Value Fault
+  within at v =
+      if nat_lt limits.budget (size_in (loop_ranges limits.locales v)) then Err (fault Budget at) else Ok v
+
+  -- what a loop runs over: F5 at its first word where that has more indices than the budget
+  abbrev pub looped_over : Place → ItemTree Leaf → Words → Result Value Fault
+  looped_over at item s = with_ok (item_of limits by_word item None s) (within at)

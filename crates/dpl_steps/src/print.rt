@@ -1,0 +1,86 @@
+// `write` and `writeln`: the texts of all arguments behind what was printed before.
+// Where an argument is a fault, what was printed before stays alone.
+
+ghost use Rattle.std.specs.Prelude.{◌≡◌, ◌++◌, OnOk};
+ghost use Rattle.std.specs.Fmt.{signed_decimal};
+ghost use Rattle.dpl_language.specs.Outcome.{Deeds};
+ghost use Rattle.dpl_language.specs.Statements.{exec};
+ghost use Rattle.dpl_words.specs.Words.{by_word};
+ghost use Rattle.dpl_nodes.specs.Steps.{written_as};
+ghost use Rattle.dpl_steps.specs.Runs.{having_printed, RunEnds};
+ghost use Rattle.dpl_steps.specs.Texts.{argument_text, arguments_text, GrewBy};
+
+use crate::halt::Halt;
+use dpl_nodes::{Argument, Frame};
+use dpl_values::{int_value, truth_value};
+use itoa::Buffer;
+use std::alloc::AllocError;
+
+// Appends what is printed of a number.
+fn print(n: i64, out: &mut Vec<u8>) -> Result<(), AllocError>
+    ensures { OnOk result (out.new.items ≡ out.old.items ++ signed_decimal n) }
+{
+    let mut buffer = Buffer::new();
+    out.extend_from_slice(buffer.format(n).as_bytes())?;
+    Ok(())
+}
+
+// Appends the text of an argument.
+#[tactic(auto, using(crate::proofs::Shown::shown_int, crate::proofs::Shown::shown_truth))]
+fn show(argument: &Argument<'_>, frame: &Frame<'_>, out: &mut Vec<u8>) -> Result<(), Halt>
+    ensures { GrewBy result out.old.items out.new.items (argument_text frame.now.limits argument.now frame.now.words) }
+{
+    match argument {
+        Argument::Text(bytes) => out.extend_from_slice(bytes)?,
+        Argument::Int(e) => {
+            let number = int_value(e, frame)?;
+            print(number, out)?;
+        }
+        Argument::Truth(e) => {
+            if truth_value(e, frame)?.get() {
+                out.extend_from_slice(b"true")?;
+            } else {
+                out.extend_from_slice(b"false")?;
+            }
+        }
+    }
+    Ok(())
+}
+
+// Appends the texts of arguments.
+fn show_all(
+    arguments: &[Argument<'_>],
+    frame: &Frame<'_>,
+    out: &mut Vec<u8>,
+) -> Result<(), Halt>
+    ensures { GrewBy result out.old.items out.new.items (arguments_text frame.now.limits arguments.now frame.now.words) }
+{
+    for argument in arguments {
+        show(argument, frame, out)?;
+    }
+    Ok(())
+}
+
+/// Prints the texts of all arguments, and then the line's end if one is asked for.
+///
+/// # Errors
+/// The fault of an argument, which prints nothing; out of memory for what is printed.
+pub(crate) fn write(
+    ends_line: bool,
+    arguments: &[Argument<'_>],
+    frame: &Frame<'_>,
+    out: &mut Vec<u8>,
+) -> Result<(), Halt>
+    ensures { (done : Deeds) → RunEnds result frame.now.words (having_printed out.new.items done)
+        (exec frame.now.limits by_word (written_as ends_line arguments.now) frame.now.words (having_printed out.old.items done)) }
+{
+    let start = out.len();
+    if let Err(halt) = show_all(arguments, frame, out) {
+        out.truncate(start);
+        return Err(halt);
+    }
+    if ends_line {
+        out.push(b'\n')?;
+    }
+    Ok(())
+}

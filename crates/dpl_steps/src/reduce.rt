@@ -1,0 +1,63 @@
+// `reduce=`: two values put together by the operator of the forall's intent.
+// An operator on values that it doesn't take, which no sound program has, gives 0 or false as the language's meaning does.
+
+ghost use Rattle.std.specs.Prelude.{◌≡◌, option_map};
+ghost use Rattle.dpl_language.specs.Values.{number, kept_number, Int, Truth};
+ghost use Rattle.dpl_language.specs.Arithmetic.{combined as combined_of, by_intent};
+ghost use Rattle.dpl_tree.specs.Words.{op_view};
+
+use dpl_syntax::operator::{product, sum};
+use dpl_tree::Op;
+
+// Two ints.
+fn combined_ints(op: Op, a: i64, b: i64) -> i64
+    ensures { result ≡ number (combined_of (op_view op) (Int a) (Int b)) }
+{
+    match op {
+        Op::Sum => sum(a, b),
+        Op::Product => product(a, b),
+        Op::AllOf | Op::AnyOf => 0,
+        Op::BitAnd => a & b,
+        Op::BitOr => a | b,
+        Op::BitXor => a ^ b,
+        Op::Least => a.min(b),
+        Op::Greatest => a.max(b),
+    }
+}
+
+// Two truth values, as a number.
+fn combined_truths(op: Op, a: bool, b: bool) -> i64
+    ensures { result ≡ kept_number (combined_of (op_view op) (Truth a) (Truth b)) }
+{
+    match op {
+        Op::AllOf => i64::from(a && b),
+        Op::AnyOf => i64::from(a || b),
+        Op::Sum
+        | Op::Product
+        | Op::BitAnd
+        | Op::BitOr
+        | Op::BitXor
+        | Op::Least
+        | Op::Greatest => 0,
+    }
+}
+
+/// What an int is after `reduce=`; without an intent it is the right side.
+pub(crate) fn reduced_int(op: Option<Op>, old: i64, value: i64) -> i64
+    ensures { result ≡ number (by_intent (option_map op_view op) (Int old) (Int value)) }
+{
+    match op {
+        None => value,
+        Some(op) => combined_ints(op, old, value),
+    }
+}
+
+/// The same of a truth value, as a number.
+pub(crate) fn reduced_truth(op: Option<Op>, old: bool, value: bool) -> i64
+    ensures { result ≡ kept_number (by_intent (option_map op_view op) (Truth old) (Truth value)) }
+{
+    match op {
+        None => i64::from(value),
+        Some(op) => combined_truths(op, old, value),
+    }
+}
