@@ -17,7 +17,7 @@ fn named<'t>(text: &'t [u8]) -> Expr<'t> {
     Expr::Named(Name { at: AT, text })
 }
 
-// { i b r D { b, of which the inner b is an int and D a domain
+// { i t r D x { i: an int, a truth value, a range, a domain and a name without a type; the inner i hides the outer
 fn sight<'t>(alloc: Global) -> Result<Scopes<'t>, AllocError> {
     let mut scopes = Scopes::new(alloc)?;
     let int = ValueType::Scalar(ScalarKind::Int);
@@ -50,23 +50,28 @@ fn chain<'t>(
     Expr::chain(arena, first, arena.list(links)?)
 }
 
+// The variables of a kind have numbers from its first.
+fn variable(first: i64, slot: usize) -> i64 {
+    first.wrapping_add(i64::try_from(slot).unwrap_or(-1))
+}
+
 // What an expression becomes, as a number: of an int its slot or number, and what else there is.
 fn told(made: Result<Typed<'_>, Stop>) -> i64 {
     match made {
         Ok(Typed::Int(IntExpr::Number(n))) => *n,
-        Ok(Typed::Int(IntExpr::Local(slot))) => 100 + *slot as i64,
+        Ok(Typed::Int(IntExpr::Local(slot))) => variable(100, *slot),
         Ok(Typed::Int(IntExpr::Negative(_))) => 201,
         Ok(Typed::Int(IntExpr::Sum(_, _))) => 202,
         Ok(Typed::Int(IntExpr::Quotient(_, _, _))) => 203,
         Ok(Typed::Int(_)) => 299,
         Ok(Typed::Truth(BoolExpr::Truth(_))) => 300,
-        Ok(Typed::Truth(BoolExpr::Local(slot))) => 400 + *slot as i64,
+        Ok(Typed::Truth(BoolExpr::Local(slot))) => variable(400, *slot),
         Ok(Typed::Truth(BoolExpr::Not(_))) => 501,
         Ok(Typed::Truth(BoolExpr::Less(_, _))) => 502,
         Ok(Typed::Truth(BoolExpr::And(_, _))) => 503,
         Ok(Typed::Truth(BoolExpr::Same(_, _))) => 504,
         Ok(Typed::Truth(_)) => 599,
-        Ok(Typed::Range(RangeExpr::Local(slot))) => 600 + *slot as i64,
+        Ok(Typed::Range(RangeExpr::Local(slot))) => variable(600, *slot),
         Ok(Typed::Range(_)) => 699,
         Err(Stop::IllTyped) => -1,
         Err(Stop::Memory) => -2,
