@@ -1,0 +1,8 @@
+-- The values in the entry of an id are those of its row.
+use Rattle.std.proofs.Common.{◌∙◌}
+use Rattle.clap.specs.Words.{found_of}
+use Rattle.clap.proofs.WalkLemmas.{raw_values-rows}
+use Rattle.dpl_settings.proofs.reading.all.Goals as goal
+
+pub returns : goal.returns
+returns c = c.get_strs.ensures ∙ raw_values-rows (found_of c.args.matches.now) c.args.id.now

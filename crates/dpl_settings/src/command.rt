@@ -1,0 +1,82 @@
+// The command line of the program, as clap takes it, with the help that it prints.
+// Its words are read by clap's meaning of a simple command.
+
+ghost use Rattle.std.specs.Prelude.{◌≡◌, [], IfOk, IfErr, map};
+ghost use Rattle.clap.specs.Words.{app_of, fault_of, found_of, rows_of};
+ghost use Rattle.dpl_settings.specs.CommandLine.{command_line, found};
+ghost use Rattle.dpl_settings.specs.Causes.{IsCause, IsToldAs};
+
+use crate::fault::LineFault;
+use clap::error::ErrorKind;
+use clap::{Arg, ArgAction, ArgMatches, Command, Error};
+use std::alloc::{AllocError, Global};
+
+// The program's version.
+const VERSION: &str = "0.1.0";
+
+const ABOUT: &str = "Runs a program of a profile of Chapel.";
+
+const STATUSES: &str = "\
+Statuses:
+  0  the program ran to its end
+  1  a fault stopped it
+  2  the text is no program, or a set doesn't fit it
+  3  out of memory; nothing was written
+  4  the text can't be read, or the output can't be written
+  5  the command line is refused
+
+Example:
+  dpl squares.chpl --budget 1000";
+
+// The command, with its two lists of words and its options.
+fn command<'a>(alloc: Global) -> Result<Command<'a>, AllocError>
+    ensures { IfOk result (λ c. app_of c ≡ command_line) }
+{
+    let file = Arg::new(alloc, "file").value_name("FILE").help(
+        "The program's text; standard input without it, or where it is -",
+    );
+    let set = Arg::new(alloc, "set")
+        .value_name("NAME=VALUE")
+        .action(ArgAction::Append)
+        .help("The value of a config const of the program, an int, true or false");
+    let budget = Arg::new(alloc, "budget")
+        .long("budget")
+        .value_name("B")
+        .default_value("16777216")
+        .help("How many turns a loop may have, from 1 to 4294967296");
+    let dump = Arg::new(alloc, "dump")
+        .long("dump")
+        .action(ArgAction::SetTrue)
+        .help("Writes the variables that the program leaves to standard error [default: off]");
+    Command::new(alloc, "dpl")
+        .version(VERSION)
+        .about(ABOUT)
+        .after_help(STATUSES)
+        .arg(file)?
+        .arg(set)?
+        .arg(budget)?
+        .arg(dump)
+}
+
+// An error of clap's is told as it is, but for want of memory.
+fn told(error: Error) -> LineFault
+    ensures { IsToldAs error result }
+{
+    if matches!(error.kind(), ErrorKind::OutOfMemory) {
+        return LineFault::Memory;
+    }
+    LineFault::Line(error)
+}
+
+// What clap finds in the words, of which the first is the program's name.
+pub(crate) fn matches<'a>(alloc: Global, words: &'a [&'a str]) -> Result<ArgMatches<'a>, LineFault>
+    ensures found { IfOk result (λ m. rows_of (found_of m) ≡ found (map (λ w. w.now) words.entry.now)) }
+    ensures taken { IfOk result (λ _. fault_of command_line (map (λ w. w.now) words.entry.now) ≡ []) }
+    ensures cause { IfErr result (IsCause (map (λ w. w.now) words.entry.now)) }
+{
+    let command = command(alloc)?;
+    match command.try_get_matches_from(words) {
+        Ok(matches) => Ok(matches),
+        Err(error) => Err(told(error)),
+    }
+}
