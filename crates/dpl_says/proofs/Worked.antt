@@ -1,11 +1,11 @@
 -- Rows: what words of the command line give, and what is dumped.
 -- The program of the first rows is `config const n = 1; config const quick = false; var x: int;`.
-use Rattle.std.proofs.Common.{◌≡◌, ℕ, pos, negsuc, true, false, List, [], ◌∷◌, ◌++◌, codes, Option, Some, None, refl}
+use Rattle.std.proofs.Common.{◌≡◌, ℕ, pos, negsuc, true, false, List, [], ◌∷◌, codes, Some, None, refl}
 use Rattle.std.specs.Fmt.{digits}
 use Rattle.dpl_syntax.specs.declared.place.Place.{Place}
 use Rattle.dpl_history.specs.declared.cell.CellState.TheVariants.{Empty, Full}
 use Rattle.dpl_range.specs.Equality.{TextRange}
-use Rattle.dpl_language.specs.Tree.{IntKind, BoolKind, ExprTree, Number, TruthWord, One, ScalarType, TypedTree, InitialTree, ItemInit, StmtTree, Declare, Stmts, NoStmts, Then, ProgramTree}
+use Rattle.dpl_language.specs.Tree.{IntKind, BoolKind, ExprTree, Number, TruthWord, One, ScalarType, ItemInit, StmtTree, Declare, NoStmts, Then, ProgramTree}
 use Rattle.dpl_language.specs.Values.{Int, Truth, Range, Domain}
 use Rattle.dpl_language.specs.Ranges.{unstrided}
 use Rattle.dpl_language.specs.Environment.{Plain, ArrayOf, CellOf}

@@ -6,7 +6,7 @@ use Rattle.dpl_history.specs.declared.cell.CellState.TheVariants.{Empty, Full}
 use Rattle.dpl_language.specs.Tree.{Kind}
 use Rattle.dpl_language.specs.Values.{Value, Int, Truth, Range, Domain, Array, Cell, Locale, AllLocales, Tuple, value_kept}
 use Rattle.dpl_language.specs.Environment.{Content, Plain, ArrayOf, CellOf}
-use Rattle.dpl_language.specs.Names.{Text, Entry, Frame}
+use Rattle.dpl_language.specs.Names.{Text, Frame}
 use Rattle.dpl_language.specs.Printing.{printed}
 
 -- `name = 5`
