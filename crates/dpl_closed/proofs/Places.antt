@@ -1,6 +1,6 @@
 -- The first of several places, found one after the other.
 -- Each lemma has what was found on its left side.
-use Rattle.std.proofs.Common.{◌≡◌, Option, Some, None, refl, sym}
+use Rattle.std.proofs.Common.{◌≡◌, Option, Some, None, refl}
 use Rattle.dpl_syntax.specs.declared.place.Place.{Place}
 use Rattle.dpl_closed.specs.Closed.{or_place}
 

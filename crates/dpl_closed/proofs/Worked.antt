@@ -1,10 +1,10 @@
 -- Rows: for each form that doesn't run yet the token that is told, and which of two is told.
 -- The n-th token of a row stands in line n.
-use Rattle.std.proofs.Common.{◌≡◌, ℕ, pos, true, false, List, [], ◌∷◌, Option, Some, None, refl}
+use Rattle.std.proofs.Common.{◌≡◌, ℕ, pos, true, false, [], ◌∷◌, Option, Some, None, refl}
 use Rattle.dpl_syntax.specs.declared.place.Place.{Place}
 use Rattle.dpl_language.specs.Names.{Text}
-use Rattle.dpl_language.specs.Tree.{Placed, Add, Sum, IntKind, Size, Closed, Set, Square, ExprTree, Number, Named, LocalesWord, LocaleCount, HereWord, Grouped, DomainLiteral, Reduced, Chain, Postfixed, One, RangeItem, NoStride, By, NoLinks, Link, NoPosts, Post, Brackets, Rounds, Dotted, Contains, Plainly, FirstItem, NoItems, NextItem, FirstExpr, NoExprs, NextExpr}
-use Rattle.dpl_language.specs.Tree.{MappedTree, BlockMap, TypeTree, ScalarType, SyncType, DomainType, ArrayType, ItemInit, TypedTree, InitialTree, TextArgument, ExprArgument, StmtTree, Nothing, Declare, Assigned, Write, Block, If, While, For, Forall, Coforall, On, OneVariable, Whole, Element, WordBody, BlockBody, Stmts, NoStmts, Then, NoElse, ElseDo}
+use Rattle.dpl_language.specs.Tree.{Placed, Add, Sum, IntKind, Size, Closed, Set, Square, ExprTree, Number, Named, LocalesWord, LocaleCount, HereWord, Grouped, DomainLiteral, Reduced, Chain, Postfixed, One, RangeItem, By, NoLinks, Link, NoPosts, Post, Brackets, Rounds, Dotted, Contains, Plainly, FirstItem, NoItems, NextItem, FirstExpr, NoExprs, NextExpr}
+use Rattle.dpl_language.specs.Tree.{MappedTree, BlockMap, TypeTree, ScalarType, SyncType, DomainType, ArrayType, ItemInit, TypedTree, InitialTree, TextArgument, ExprArgument, StmtTree, Nothing, Declare, Assigned, Write, Block, If, While, Forall, Coforall, On, OneVariable, Element, WordBody, BlockBody, NoStmts, Then, NoElse, ElseDo}
 use Rattle.dpl_closed.specs.Closed.{closed_expr, closed_stmt, closed_stmts}
 
 abbrev at : ℕ → Place
