@@ -1,6 +1,6 @@
 -- Chains: that they nest is seen in the lowered tree as in the tree; and one more operand of a chain.
 -- Each lemma on an operand is stated of the chain so far, by what is left of it.
-use Rattle.std.proofs.Common.{◌≡◌, Bool, true, false, List, [], ◌∷◌, Option, Some, None, slice_get, refl, sym, ap, subst, ◌∙◌}
+use Rattle.std.proofs.Common.{◌≡◌, true, List, [], ◌∷◌, Option, Some, None, slice_get, refl, sym, ap, subst, ◌∙◌}
 use Rattle.std.specs.Prelude.{◌&&◌}
 use Rattle.std.proofs.lemmas.Option.{none-some}
 use Rattle.dpl_syntax.specs.declared.place.Place.{Place}
@@ -22,7 +22,7 @@ use Rattle.dpl_lowered.specs.LoweredExpressions.{Times, Once, lowered_links}
 use Rattle.dpl_words.specs.Words.{known_leaf}
 use Rattle.dpl_nodes.specs.declared.make.Typed.{Typed}
 use Rattle.dpl_nodes.specs.Makers.{typed_view, kind_of, infix_kind}
-use Rattle.dpl_elaborator.specs.Leaves.{leaf_in, IsOfKind, IsFound, MayBePlain}
+use Rattle.dpl_elaborator.specs.Leaves.{leaf_in, IsOfKind, IsFound}
 use Rattle.dpl_elaborator.specs.Simple.{IsSimple}
 use Rattle.dpl_elaborator.specs.Elaborated.{leaves_of, links_leaves, IsChainSoFar}
 use Rattle.dpl_elaborator.proofs.OperatorKinds.{infix-gives, infix-untyped, gives-kind, gives-nothing}

@@ -1,6 +1,6 @@
 -- The kinds of typed expressions and the types of the rules: what each operator, method and slice gives of operands of some kinds.
 -- Where a maker of nodes takes no such operands, the rules give no type.
-use Rattle.std.proofs.Common.{◌≡◌, ℕ, Bool, true, false, List, [], ◌∷◌, Option, Some, None, refl, sym, ap, subst, ◌∙◌}
+use Rattle.std.proofs.Common.{◌≡◌, Bool, true, false, Option, Some, None, refl, sym, ap, subst}
 use Rattle.std.proofs.lemmas.Option.{none-some}
 use Rattle.std.specs.Prelude.{if◌then◌else◌}
 use Rattle.dpl_syntax.specs.declared.place.Place.{Place}

@@ -64,11 +64,7 @@ pub fn expression<'t>(
 /// # Errors
 /// As for an expression; a range with bounds.
 #[cycle(expression)]
-pub fn item<'t>(
-    arena: Arena<'t>,
-    scopes: &Scopes<'_>,
-    item: &Item<'_>,
-) -> Result<Typed<'t>, Stop>
+pub fn item<'t>(arena: Arena<'t>, scopes: &Scopes<'_>, item: &Item<'_>) -> Result<Typed<'t>, Stop>
     ensures node { IfOk result (λ t. typed_item t ≡ lowered_item known_leaf Once (renamed_item (leaf_in scopes.now) (item_view item.now))) }
     ensures kind { IfOk result (λ t. IsOfKind (kind_of t) (item_type scopes.now (item_view item.now))) }
     ensures found { IfOk result (λ t. IsSimpleItem (IsFound scopes.now) (item_view item.now)) }
@@ -82,11 +78,7 @@ pub fn item<'t>(
 
 // A chain.
 #[cycle(expression)]
-fn chained<'t>(
-    arena: Arena<'t>,
-    scopes: &Scopes<'_>,
-    chain: &Chain<'_>,
-) -> Result<Typed<'t>, Stop>
+fn chained<'t>(arena: Arena<'t>, scopes: &Scopes<'_>, chain: &Chain<'_>) -> Result<Typed<'t>, Stop>
     ensures node { IfOk result (λ t. typed_view t ≡ leaves_of scopes.now (chain_tree chain.now)) }
     ensures kind { IfOk result (λ t. IsOfKind (kind_of t) (type_of scopes.now (chain_tree chain.now))) }
     ensures found { IfOk result (λ t. IsSimple (IsFound scopes.now) (chain_tree chain.now)) }

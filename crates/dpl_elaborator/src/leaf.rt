@@ -48,11 +48,7 @@ fn declared_type<'s>(scopes: &Scopes<'s>, name: &[u8]) -> Option<ValueType<'s>>
 ///
 /// # Errors
 /// Out of memory; a name that isn't a plain variable's.
-pub fn named<'t>(
-    arena: Arena<'t>,
-    scopes: &Scopes<'_>,
-    name: &Name<'_>,
-) -> Result<Typed<'t>, Stop>
+pub fn named<'t>(arena: Arena<'t>, scopes: &Scopes<'_>, name: &Name<'_>) -> Result<Typed<'t>, Stop>
     ensures node { IfOk result (λ t. typed_view t ≡ leaf_named (leaf_in scopes.now name.now.text.now)) }
     ensures kind { IfOk result (λ t. kind_in scopes.now name.now.text.now ≡ Some (kind_of t)) }
     ensures found { IfOk result (λ t. IsFound scopes.now name.now.text.now) }

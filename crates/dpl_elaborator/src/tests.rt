@@ -26,8 +26,16 @@ fn sight<'t>(alloc: Global) -> Result<Scopes<'t>, AllocError> {
         strided: false,
     };
     scopes.declare(b"i", Sort::Constant, Some(int))?;
-    scopes.declare(b"t", Sort::Variable, Some(ValueType::Scalar(ScalarKind::Bool)))?;
-    scopes.declare(b"r", Sort::Constant, Some(ValueType::Range { strided: true }))?;
+    scopes.declare(
+        b"t",
+        Sort::Variable,
+        Some(ValueType::Scalar(ScalarKind::Bool)),
+    )?;
+    scopes.declare(
+        b"r",
+        Sort::Constant,
+        Some(ValueType::Range { strided: true }),
+    )?;
     scopes.declare(b"D", Sort::Constant, Some(domain))?;
     scopes.declare(b"x", Sort::Constant, None)?;
     scopes.enter()?;
@@ -85,7 +93,10 @@ fn leaves(rt: HostRuntime) -> Result<(), Fail> {
     let arena = Arena::new(&nodes, rt.alloc());
     let scopes = sight(rt.alloc())?;
     assert_eq!(&rt; told(expression(arena, &scopes, &Expr::Number(AT, 7))), 7);
-    assert_eq!(&rt; told(expression(arena, &scopes, &Expr::Truth(AT, true))), 300);
+    assert_eq!(&rt;
+        told(expression(arena, &scopes, &Expr::Truth(AT, true))),
+        300
+    );
     assert_eq!(&rt; told(expression(arena, &scopes, &named(b"i"))), 107);
     assert_eq!(&rt; told(expression(arena, &scopes, &named(b"t"))), 402);
     assert_eq!(&rt; told(expression(arena, &scopes, &named(b"r"))), 603);
@@ -94,7 +105,10 @@ fn leaves(rt: HostRuntime) -> Result<(), Fail> {
     }
     assert_eq!(&rt; told(expression(arena, &scopes, &Expr::Here(AT))), -1);
     assert_eq!(&rt; told(expression(arena, &scopes, &Expr::Locales(AT))), -1);
-    assert_eq!(&rt; told(expression(arena, &scopes, &Expr::LocaleCount(AT))), -1);
+    assert_eq!(&rt;
+        told(expression(arena, &scopes, &Expr::LocaleCount(AT))),
+        -1
+    );
     Ok(())
 }
 
