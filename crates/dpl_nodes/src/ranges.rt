@@ -84,8 +84,9 @@ pub fn containing<'t>(
     ensures ill_typed { (result ≡ Err stop.IllTyped) → contains_kind (kind_of base.entry) (kind_of index.entry) ≡ None }
 {
     match (base, index) {
-        (Typed::Range(base), Typed::Int(index)) =>
-            truth(arena.node(BoolExpr::Contains(base, index))),
+        (Typed::Range(base), Typed::Int(index)) => truth(arena.node(BoolExpr::Contains(
+            base, index,
+        ))),
         (Typed::Range(_), Typed::Truth(_)) => Err(Stop::IllTyped),
         (Typed::Range(_), Typed::Range(_)) => Err(Stop::IllTyped),
         (Typed::Int(_), _) => Err(Stop::IllTyped),

@@ -115,6 +115,7 @@ module _ (P : Place → Type 0) (g : Deep nested) where
       where
         read : {class : Class} {word : _} → Is (cell_read class word) (MethodSpelt P)
         read = of_parts (of_part of_token (λ w p. of_deeper (λ k q. of_last of_token (λ l r. (p, q, r)))))
+
         plain : {class : Class} {word : _} → Is (plain_method class word) (MethodSpelt P)
         plain = of_parts (of_last of_token (λ k p. p))
 

@@ -224,6 +224,7 @@ module _ (P : Place → Type 0) (g : Deep nested) (inner : (n : Nested) → Is P
     where
       write : {class : Class} {word : _} → Is P g (write_call class word) (CallSpelt P)
       write = of_parts (of_part of_token (λ w p. of_deeper (λ k q. of_part (inner ExpressionBelow) (λ e r. of_last of_token (λ l s. (p, q, r, s))))))
+
       read : {class : Class} {word : _} → Is P g (read_call class word) (CallSpelt P)
       read = of_parts (of_part of_token (λ w p. of_deeper (λ k q. of_last of_token (λ l r. (p, q, r)))))
 

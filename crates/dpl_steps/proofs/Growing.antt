@@ -57,7 +57,7 @@ module _ (limits : Limits) where
       → (behind old (arguments_text limits (drop k xs) s) ≡ behind first (arguments_text limits xs s)) × Grew first old → GrewBy (Err h) first new (arguments_text limits xs s)
   texts-halt xs k a s first old new (FaultHalt f) within is shown so_far = (
     behind-fault first (arguments_text limits xs s) (fault_view f)
-    (sym so_far.0 ∙ ap (behind old) (texts-at xs k a s within is ∙ ap (λ r. with_ok r (λ t. with_ok (arguments_text limits (drop (k + 1) xs) s) (λ more. Ok (t ++ more)))) shown.0)),
+        (sym so_far.0 ∙ ap (behind old) (texts-at xs k a s within is ∙ ap (λ r. with_ok r (λ t. with_ok (arguments_text limits (drop (k + 1) xs) s) (λ more. Ok (t ++ more)))) shown.0)),
     grew_more first old new so_far.1 shown.1,
   )
   texts-halt xs k a s first old new Memory within is shown so_far = tt

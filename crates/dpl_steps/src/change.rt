@@ -16,11 +16,7 @@ use dpl_values::{int_value, range_value, truth_value};
 
 /// An int's declaration, or an assignment to it.
 #[inline(always)]
-pub(crate) fn declare_int(
-    slot: usize,
-    e: &IntExpr<'_>,
-    frame: &mut Frame<'_>,
-) -> Result<(), Trap>
+pub(crate) fn declare_int(slot: usize, e: &IntExpr<'_>, frame: &mut Frame<'_>) -> Result<(), Trap>
     ensures words { declared_words frame.old.limits (int_leaf slot) (One (int_view e.now)) frame.old.words ≡ words_after result frame.new.words }
     ensures limits { frame.new.limits ≡ frame.old.limits }
 {
@@ -72,11 +68,7 @@ pub(crate) fn config_int(slot: usize, e: &IntExpr<'_>, frame: &mut Frame<'_>) ->
 }
 
 /// One that is a truth value.
-pub(crate) fn config_truth(
-    slot: usize,
-    e: &BoolExpr<'_>,
-    frame: &mut Frame<'_>,
-) -> Result<(), Trap>
+pub(crate) fn config_truth(slot: usize, e: &BoolExpr<'_>, frame: &mut Frame<'_>) -> Result<(), Trap>
     ensures words { given_words frame.old.limits (truth_leaf slot) (One (truth_view e.now)) (by_word.given (truth_leaf slot) frame.old.words) frame.old.words ≡ words_after result frame.new.words }
     ensures limits { frame.new.limits ≡ frame.old.limits }
 {
@@ -170,11 +162,7 @@ pub(crate) fn reduce_int(slot: usize, e: &IntExpr<'_>, frame: &mut Frame<'_>) ->
 }
 
 /// `reduce=` to a truth value
-pub(crate) fn reduce_truth(
-    slot: usize,
-    e: &BoolExpr<'_>,
-    frame: &mut Frame<'_>,
-) -> Result<(), Trap>
+pub(crate) fn reduce_truth(slot: usize, e: &BoolExpr<'_>, frame: &mut Frame<'_>) -> Result<(), Trap>
     ensures words { assigned_words frame.old.limits (truth_leaf slot) SetReduce nowhere (One (truth_view e.now)) frame.old.words ≡ words_after result frame.new.words }
     ensures limits { frame.new.limits ≡ frame.old.limits }
 {

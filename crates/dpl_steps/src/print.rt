@@ -48,11 +48,7 @@ fn show(argument: &Argument<'_>, frame: &Frame<'_>, out: &mut Vec<u8>) -> Result
 }
 
 // Appends the texts of arguments.
-fn show_all(
-    arguments: &[Argument<'_>],
-    frame: &Frame<'_>,
-    out: &mut Vec<u8>,
-) -> Result<(), Halt>
+fn show_all(arguments: &[Argument<'_>], frame: &Frame<'_>, out: &mut Vec<u8>) -> Result<(), Halt>
     ensures { GrewBy result out.old.items out.new.items (arguments_text frame.now.limits arguments.now frame.now.words) }
 {
     for argument in arguments {

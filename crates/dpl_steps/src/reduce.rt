@@ -32,13 +32,7 @@ fn combined_truths(op: Op, a: bool, b: bool) -> i64
     match op {
         Op::AllOf => i64::from(a && b),
         Op::AnyOf => i64::from(a || b),
-        Op::Sum
-        | Op::Product
-        | Op::BitAnd
-        | Op::BitOr
-        | Op::BitXor
-        | Op::Least
-        | Op::Greatest => 0,
+        Op::Sum | Op::Product | Op::BitAnd | Op::BitOr | Op::BitXor | Op::Least | Op::Greatest => 0,
     }
 }
 

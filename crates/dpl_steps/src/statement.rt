@@ -39,11 +39,7 @@ fn indices(at: &Spot, over: &RangeExpr<'_>, frame: &Frame<'_>) -> Result<RangeWo
 /// The first fault, behind what was printed before it; or out of memory, and then nothing is said of the frame and of
 /// what is printed.
 #[cycle(run)]
-pub fn run<'t>(
-    steps: &[Step<'t>],
-    frame: &mut Frame<'t>,
-    out: &mut Vec<u8>,
-) -> Result<(), Halt>
+pub fn run<'t>(steps: &[Step<'t>], frame: &mut Frame<'t>, out: &mut Vec<u8>) -> Result<(), Halt>
     ensures ends { (done : Deeds) → RunEnds result frame.new.words (having_printed out.new.items done)
         (exec_all frame.old.limits by_word (steps_of steps.now) frame.old.words (having_printed out.old.items done)) }
     ensures limits { frame.new.limits ≡ frame.old.limits }
@@ -56,11 +52,7 @@ pub fn run<'t>(
 
 // One statement.
 #[cycle(run)]
-fn statement<'t>(
-    step: &Step<'t>,
-    frame: &mut Frame<'t>,
-    out: &mut Vec<u8>,
-) -> Result<(), Halt>
+fn statement<'t>(step: &Step<'t>, frame: &mut Frame<'t>, out: &mut Vec<u8>) -> Result<(), Halt>
     ensures ends { (done : Deeds) → RunEnds result frame.new.words (having_printed out.new.items done)
         (exec frame.old.limits by_word (step_view step.now) frame.old.words (having_printed out.old.items done)) }
     ensures limits { frame.new.limits ≡ frame.old.limits }
