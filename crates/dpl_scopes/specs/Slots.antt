@@ -1,6 +1,6 @@
 -- The slot of each declaration in sight: as many scopes and declarations as were in sight before it.
 -- So no two declarations in sight have one slot, and what is declared later has a later one.
-use Rattle.std.specs.Prelude.{ℕ, suc, ◌+◌, max, bytes_eq, if◌then◌else◌, List, [], ◌∷◌, length, Option, Some, None}
+use Rattle.std.specs.Prelude.{ℕ, suc, ◌+◌, max, bytes_eq, if◌then◌else◌, [], ◌∷◌, length, Option, Some, None}
 use Rattle.dpl_language.specs.Names.{Text}
 use Rattle.dpl_rules.specs.Sights.{Scope, Scopes}
 
