@@ -7,6 +7,8 @@ pub mod halt;
 mod print;
 mod reduce;
 pub mod statement;
+#[cfg(test)]
+mod tests;
 
 pub use halt::Halt;
 pub use statement::run;
