@@ -1,5 +1,5 @@
 -- What `parse` reads as a number, beside a number without a sign.
-use Rattle.std.proofs.Common.{◌≡◌, ℕ, ◌^◌, ◌<◌, ◌≤◌, ◌==◌, ◌&&◌, Bool, true, false, refl, sym, ap, ◌∙◌, subst, List, [], ◌∷◌, length, drop, cond, Option, Some, None, Result, Ok, Err, option_and_then, if◌then◌else◌, slice_index, nat_lt, nat_le, lt-ltb, ltb-true, leb-true, eqb-true, true≢false, arith}
+use Rattle.std.proofs.Common.{◌≡◌, ℕ, ◌^◌, ◌<◌, ◌≤◌, ◌==◌, ◌&&◌, Bool, true, false, refl, sym, ap, ◌∙◌, subst, List, [], ◌∷◌, length, drop, cond, Option, Some, None, Result, Ok, Err, option_and_then, if◌then◌else◌, slice_index, nat_lt, nat_le, lt-ltb, ltb-true, leb-true, true≢false, arith}
 use Rattle.std.specs.Result.{result_ok}
 use Rattle.std.specs.Str.Parse.{AllDigits, IsNumeral, ParsesUnsigned, digits_value, without_leading_plus}
 use Rattle.std.specs.Char.{digit_value}

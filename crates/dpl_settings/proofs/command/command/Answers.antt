@@ -1,5 +1,5 @@
 -- The command that is built has the rules of the command line, one after the other.
-use Rattle.std.proofs.Common.{ap, ap₂, codes, Bool, true, false, List, [], ◌∷◌, Some, ◌≡◌, ◌∙◌}
+use Rattle.std.proofs.Common.{ap, ap₂, codes, Bool, true, false, [], ◌∷◌, Some, ◌≡◌, ◌∙◌}
 use Rattle.std.proofs.lemmas.Result.{IfOk-weaker}
 use Rattle.clap.specs.Words.{App, Rule, Text, app_of, rule_of, with_rule}
 use Rattle.clap.specs.Simple.{app_of_fields, new_rule, on_top}
