@@ -18,3 +18,7 @@ kind_in-unsighted scopes x e = undeclared (lookup scopes x) (sym (slot_in-lookup
 pub if_ok : {A E : Type 0} {P Q : A → Type 0} (r : Result A E) → ((a : A) → P a → Q a) → IfOk r P → IfOk r Q
 if_ok (Ok a) f p = f a p
 if_ok (Err e) f p = tt
+
+pub if_both : {A E : Type 0} {P Q R : A → Type 0} (r : Result A E) → ((a : A) → P a → Q a → R a) → IfOk r P → IfOk r Q → IfOk r R
+if_both (Ok a) f p q = f a p q
+if_both (Err e) f p q = tt

@@ -1,21 +1,27 @@
 -- What a typed expression that is made of a tree stands for: the lowered tree over leaves.
--- Private functions speak of a chain's operands so far.
-use Rattle.std.specs.Prelude.{◌≡◌, Option}
-use Rattle.dpl_language.specs.Tree.{ExprTree, Chain, ItemTree, Links}
+-- Private functions speak of a chain's operands so far, and of what stands behind a base so far.
+use Rattle.std.specs.Prelude.{◌≡◌, Option, None}
+use Rattle.dpl_syntax.specs.declared.place.Place.{Place}
+use Rattle.dpl_language.specs.Phrases.{OtherBase}
+use Rattle.dpl_language.specs.Tree.{ExprTree, Chain, Postfixed, ItemTree, RangeItem, Stride, Links, Posts, NoPosts, Post, PostTree}
 use Rattle.dpl_language.specs.Names.{Text}
-use Rattle.dpl_language.specs.Renamed.{renamed_expr, renamed_item, renamed_links}
+use Rattle.dpl_language.specs.Renamed.{renamed_expr, renamed_item, renamed_stride, renamed_links, renamed_posts, renamed_post}
 use Rattle.dpl_rules.specs.Types.{ValueType}
+use Rattle.dpl_rules.specs.Verdicts.{Part, type_by}
 use Rattle.dpl_rules.specs.Sights.{Scopes}
-use Rattle.dpl_rules.specs.Expressions.{chain_type}
-use Rattle.dpl_lowered.specs.Shapes.{grouped}
-use Rattle.dpl_lowered.specs.LoweredExpressions.{Once, lowered_expr, lowered_item, lowered_links}
+use Rattle.dpl_rules.specs.Expressions.{range_item_verdict, chain_type, posts_type, post_verdict}
+use Rattle.dpl_lowered.specs.Shapes.{grouped, stacked_on}
+use Rattle.dpl_lowered.specs.LoweredExpressions.{Once, lowered_expr, lowered_item, lowered_stride, lowered_links, lowered_posts, lowered_post}
 use Rattle.dpl_words.specs.Words.{Leaf, known_leaf}
 use Rattle.dpl_tree.specs.declared.expression.Chain.{Chain as ChainNode, out-Chain}
-use Rattle.dpl_tree.specs.View.{expr_view, links_of}
+use Rattle.dpl_tree.specs.declared.expression.Range.{Range as RangeNode}
+use Rattle.dpl_tree.specs.declared.expression.Postfixed.{Postfixed as PostfixedNode}
+use Rattle.dpl_tree.specs.Words.{dots_view}
+use Rattle.dpl_tree.specs.View.{expr_view, stride_view, links_of, posts_of}
 use Rattle.dpl_nodes.specs.declared.make.Typed.{Typed}
 use Rattle.dpl_nodes.specs.Makers.{typed_view, kind_of}
 use Rattle.dpl_elaborator.specs.Leaves.{leaf_in, IsFound, IsOfKind, MayBePlain}
-use Rattle.dpl_elaborator.specs.Simple.{AreSimpleLinks}
+use Rattle.dpl_elaborator.specs.Simple.{AreSimpleLinks, AreSimplePosts, IsSimplePost}
 
 abbrev pub leaves_of : Scopes → ExprTree Text → ExprTree Leaf
 leaves_of scopes e = lowered_expr known_leaf Once (renamed_expr (leaf_in scopes) e)
@@ -37,3 +43,49 @@ pub record IsChainSoFar (scopes : Scopes) (first : Typed) (all : Links Text) (t 
   pub type : (u : Option ValueType) → IsOfKind (kind_of first) u → (v : Option ValueType) × IsOfKind (kind_of t) v × (chain_type scopes v left ≡ chain_type scopes u all)
   pub found : AreSimpleLinks (IsFound scopes) left → AreSimpleLinks (IsFound scopes) all
   pub scalar : AreSimpleLinks (MayBePlain scopes) all → AreSimpleLinks (MayBePlain scopes) left
+
+-- RANGES
+-- a range, by its bounds and its stride
+abbrev pub range_tree : RangeNode → ItemTree Text
+range_tree r = RangeItem (expr_view r.low.now) r.at (dots_view r.dots) (expr_view r.high.now) (stride_view r.by)
+
+abbrev pub stride_leaves : Scopes → Stride Text → Stride Leaf
+stride_leaves scopes by = lowered_stride known_leaf (renamed_stride (leaf_in scopes) by)
+
+-- whatever the bounds are, there is no range with this stride
+abbrev pub HasNoRange : Scopes → Stride Text → Type 0
+HasNoRange scopes by = (low high : Part) → type_by (range_item_verdict scopes low high by) ≡ None
+
+-- POSTS
+-- a base, and what stands behind it
+abbrev pub postfixed_tree : PostfixedNode → ExprTree Text
+postfixed_tree v = Postfixed (expr_view v.base.now) (posts_of v.posts.now)
+
+abbrev pub post_leaves : Scopes → PostTree Text → PostTree Leaf
+post_leaves scopes p = lowered_post known_leaf OtherBase (renamed_post (leaf_in scopes) p)
+
+abbrev pub posts_leaves : Scopes → Posts Text → Posts Leaf
+posts_leaves scopes ps = lowered_posts known_leaf OtherBase (renamed_posts (leaf_in scopes) ps)
+
+-- What is made of one bracket or one method behind a base that is given: the post behind the base, of its type's kind.
+pub record IsPostOf (scopes : Scopes) (base : Typed) (p : PostTree Text) (t : Typed) : Type 0 where
+  pub node : typed_view t ≡ Postfixed (typed_view base) (Post (post_leaves scopes p) NoPosts)
+  pub type : (last : Place) (u : Option ValueType) → IsOfKind (kind_of base) u → IsOfKind (kind_of t) (type_by (post_verdict scopes last p u))
+  pub found : IsSimplePost (IsFound scopes) p
+
+-- whatever type of its kind a base has, there is none with this post behind it
+abbrev pub HasNoPost : Scopes → Typed → PostTree Text → Type 0
+HasNoPost scopes base p = (last : Place) (u : Option ValueType) → IsOfKind (kind_of base) u → type_by (post_verdict scopes last p u) ≡ None
+
+-- The posts so far, behind a base that is given: what is made of them and of what is left is what is made of all; and so
+-- are types, names, and what is owed of them.
+pub record ArePostsSoFar (scopes : Scopes) (base : Typed) (all : Posts Text) (t : Typed) (left : Posts Text) : Type 0 where
+  pub node : stacked_on (typed_view t) (posts_leaves scopes left) ≡ stacked_on (typed_view base) (posts_leaves scopes all)
+  pub type : (last : Place) (u : Option ValueType) → IsOfKind (kind_of base) u
+      → (now : Place) × (v : Option ValueType) × IsOfKind (kind_of t) v × (posts_type scopes now v left ≡ posts_type scopes last u all)
+  pub found : AreSimplePosts (IsFound scopes) left → AreSimplePosts (IsFound scopes) all
+  pub scalar : AreSimplePosts (MayBePlain scopes) all → AreSimplePosts (MayBePlain scopes) left
+
+-- whatever type of its kind a base has, there is none with these posts behind it
+abbrev pub HaveNoPosts : Scopes → Typed → Posts Text → Type 0
+HaveNoPosts scopes base ps = (last : Place) (u : Option ValueType) → IsOfKind (kind_of base) u → posts_type scopes last u ps ≡ None

@@ -1,4 +1,4 @@
--- What stands for a name, and which expressions are made of operators alone.
+-- What stands for a name, and which expressions are scalar by their form.
 pub mod Leaves
 pub mod Simple
 pub mod Sights

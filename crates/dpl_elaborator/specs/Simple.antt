@@ -1,8 +1,13 @@
--- Expressions of operators: numbers, truth words and names, with brackets, prefixes and chains.
--- What its names are is asked of each of them.
+-- Scalar expressions: numbers, truth words and names, with brackets, prefixes and chains; ranges by their bounds; and behind a
+-- base the methods without arguments, `contains` of one argument, and slices by one item. What its names are is asked of each.
 use Rattle.std.specs.Prelude.{◌≡◌, true}
-use Rattle.dpl_language.specs.Tree.{ExprTree, Number, TruthWord, Named, LocalesWord, LocaleCount, HereWord, Grouped, DomainLiteral, Prefixed, Reduced, Chain, Postfixed, ItemTree, One, RangeItem, Links, NoLinks, Link}
+use Rattle.dpl_language.specs.Tree.{ExprTree, Number, TruthWord, Named, LocalesWord, LocaleCount, HereWord, Grouped, DomainLiteral, Prefixed, Reduced, Chain, Postfixed, ItemTree, One, RangeItem, Stride, NoStride, By, Links, NoLinks, Link, Posts, NoPosts, Post, PostTree, Brackets, Rounds, Dotted, MethodTree, Plainly, Dim, Contains, Expand, CellRead, Items, FirstItem, NoItems, NextItem, Exprs, FirstExpr, NoExprs, NextExpr}
 use Rattle.dpl_lowered.specs.Shapes.{nests}
+
+-- something stands behind a base
+abbrev pub HasPosts : {N : Type 0} → Posts N → Type 0
+HasPosts NoPosts = ⊥
+HasPosts (Post p rest) = Unit {0}
 
 module _ {N : Type 0} (Holds : N → Type 0) where
   abbrev mutual
@@ -19,12 +24,43 @@ module _ {N : Type 0} (Holds : N → Type 0) where
     IsSimple (Reduced at op word e) = ⊥
     -- a chain of operators that nest, as those that a text spells do
     IsSimple (Chain e rest) = IsSimple e × AreSimpleLinks rest × (nests rest ≡ true)
-    IsSimple (Postfixed e posts) = ⊥
+    -- a base with something behind it, as each that a text spells has
+    IsSimple (Postfixed e posts) = IsSimple e × AreSimplePosts posts × HasPosts posts
 
     pub IsSimpleItem : ItemTree N → Type 0
     IsSimpleItem (One e) = IsSimple e
-    IsSimpleItem (RangeItem low at dots high by) = ⊥
+    IsSimpleItem (RangeItem low at dots high by) = IsSimple low × IsSimple high × IsSimpleStride by
+
+    pub IsSimpleStride : Stride N → Type 0
+    IsSimpleStride NoStride = Unit {0}
+    IsSimpleStride (By at e) = IsSimple e
 
     pub AreSimpleLinks : Links N → Type 0
     AreSimpleLinks NoLinks = Unit {0}
     AreSimpleLinks (Link at op e rest) = IsSimple e × AreSimpleLinks rest
+
+    pub AreSimplePosts : Posts N → Type 0
+    AreSimplePosts NoPosts = Unit {0}
+    AreSimplePosts (Post p rest) = IsSimplePost p × AreSimplePosts rest
+
+    pub IsSimplePost : PostTree N → Type 0
+    IsSimplePost (Brackets from items upto) = IsSimpleCut items
+    IsSimplePost (Rounds from es upto) = ⊥
+    IsSimplePost (Dotted dot m) = IsSimpleMethod m
+
+    pub IsSimpleMethod : MethodTree N → Type 0
+    IsSimpleMethod (Plainly at w) = Unit {0}
+    IsSimpleMethod (Dim at from rank_at d upto) = ⊥
+    IsSimpleMethod (Contains at from es upto) = IsSimpleIndex es
+    IsSimpleMethod (Expand at from e upto) = ⊥
+    IsSimpleMethod (CellRead at w from upto) = ⊥
+
+    -- one item alone
+    pub IsSimpleCut : Items N → Type 0
+    IsSimpleCut (FirstItem i NoItems) = IsSimpleItem i
+    IsSimpleCut (FirstItem i (NextItem comma j more)) = ⊥
+
+    -- one argument alone
+    pub IsSimpleIndex : Exprs N → Type 0
+    IsSimpleIndex (FirstExpr e NoExprs) = IsSimple e
+    IsSimpleIndex (FirstExpr e (NextExpr comma f more)) = ⊥

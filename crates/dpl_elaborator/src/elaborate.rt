@@ -1,5 +1,5 @@
 // Expressions and items: each typed expression stands for the lowered tree, over the leaves of its names.
-// What isn't made of operators alone is refused, and so are operands that an operator doesn't take.
+// What isn't a scalar expression by its form is refused, and so are operands that an operator doesn't take.
 
 ghost use Rattle.std.specs.Prelude.{◌≡◌, IfOk, None, Option, Err};
 ghost use Rattle.dpl_language.specs.Renamed.{renamed_expr, renamed_item};
@@ -17,6 +17,8 @@ ghost use Rattle.dpl_elaborator.specs.Elaborated.{leaves_of, chain_tree, IsChain
 
 use crate::chain::nests;
 use crate::leaf::named;
+use crate::post::postfixed;
+use crate::range::range;
 use dpl_nodes::leaves::{number, truth_word};
 use dpl_nodes::make::{combined, prefixed};
 use dpl_nodes::{Stop, Typed};
@@ -26,10 +28,10 @@ use dpl_tree::{Arena, Chain, Expr, Item, Link};
 /// An expression.
 ///
 /// # Errors
-/// Out of memory; an operand that an operator doesn't take, a name that isn't a plain variable's, or a form that isn't made of
-/// operators; a place that no text has.
+/// Out of memory; an operand that an operator or a method doesn't take, a name that isn't a plain variable's, or a form that isn't
+/// a scalar expression's; a place that no text has.
 #[cycle(expression)]
-#[tactic(auto, using(dpl_tree::proofs::Fields::chain_view_fields))]
+#[tactic(auto, using(dpl_tree::proofs::Fields::chain_view_fields, dpl_tree::proofs::Fields::expr_view_postfixed))]
 pub fn expression<'t>(
     arena: Arena<'t>,
     scopes: &Scopes<'_>,
@@ -50,7 +52,7 @@ pub fn expression<'t>(
             prefixed(arena, *op, operand)
         }
         Expr::Chain(chain) => chained(arena, scopes, chain),
-        Expr::Postfixed(_) => Err(Stop::IllTyped),
+        Expr::Postfixed(e) => postfixed(arena, scopes, e),
         Expr::Locales(_) => Err(Stop::IllTyped),
         Expr::LocaleCount(_) => Err(Stop::IllTyped),
         Expr::Here(_) => Err(Stop::IllTyped),
@@ -62,7 +64,7 @@ pub fn expression<'t>(
 /// An item.
 ///
 /// # Errors
-/// As for an expression; a range with bounds.
+/// As for an expression.
 #[cycle(expression)]
 pub fn item<'t>(arena: Arena<'t>, scopes: &Scopes<'_>, item: &Item<'_>) -> Result<Typed<'t>, Stop>
     ensures node { IfOk result (λ t. typed_item t ≡ lowered_item known_leaf Once (renamed_item (leaf_in scopes.now) (item_view item.now))) }
@@ -72,7 +74,7 @@ pub fn item<'t>(arena: Arena<'t>, scopes: &Scopes<'_>, item: &Item<'_>) -> Resul
 {
     match item {
         Item::One(e) => expression(arena, scopes, e),
-        Item::Range(_) => Err(Stop::IllTyped),
+        Item::Range(written) => range(arena, scopes, written),
     }
 }
 

@@ -5,6 +5,8 @@
 pub mod chain;
 pub mod elaborate;
 pub mod leaf;
+pub mod post;
+pub mod range;
 
 pub use elaborate::{expression, item};
 
