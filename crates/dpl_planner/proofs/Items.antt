@@ -1,0 +1,129 @@
+-- Items and conditions that are elaborated: they are what is spelled, and fit where their names are in sight.
+-- A right side has values of the kind of what was made of it.
+use Rattle.std.proofs.Common.{◌≡◌, Bor, List, Option, Some, None, refl, sym, ap, ◌∙◌, subst, option_map}
+use Rattle.dpl_language.specs.Tree.{Op, ExprTree, ItemTree, One}
+use Rattle.dpl_language.specs.Names.{Text}
+use Rattle.dpl_language.specs.Values.{Index}
+use Rattle.dpl_language.specs.Phrases.{ReadTree, read_by, bare_name, cell_read, item_read}
+use Rattle.dpl_language.specs.Scopes.{fits_expr, fits_item, fits_read, fits_side, fits_whole_side}
+use Rattle.dpl_language.specs.Renamed.{renamed_expr, renamed_item, renamed_read}
+use Rattle.dpl_language.proofs.RenamedParts.{item_read-renamed}
+use Rattle.dpl_language.proofs.RenamedSame.{renamed_expr-same, renamed_item-same}
+use Rattle.dpl_language.proofs.RenamedTwice.{renamed_expr-twice, renamed_item-twice}
+use Rattle.dpl_rules.specs.Sights.{Scopes}
+use Rattle.dpl_lowered.specs.Shapes.{hidden_item}
+use Rattle.dpl_lowered.specs.LoweredExpressions.{Once, lowered_expr, lowered_item}
+use Rattle.dpl_lowered.specs.LoweredStatements.{lowered_side}
+use Rattle.dpl_words.specs.Words.{Leaf, known_leaf}
+use Rattle.dpl_words.specs.Resolved.{Bound, Start, text_of, leaf_of, resolving, Suits}
+use Rattle.dpl_words.proofs.Fitting.{expr_fits, item_fits}
+use Rattle.dpl_nodes.specs.declared.tree.IntExpr.{IntExpr, Number, Local as IntLocal, Negative', Sum', Difference', Product', Quotient', Remainder', Size', First', Last', Low', High'}
+use Rattle.dpl_nodes.specs.declared.tree.BoolExpr.{BoolExpr, Truth as TruthNode, Local as TruthLocal, Not', And', Or', Same', Differ', Equal, Unequal, Less, AtMost, Greater, AtLeast, Contains}
+use Rattle.dpl_nodes.specs.declared.tree.RangeExpr.{RangeExpr, Local as RangeLocal, Between', Slice'}
+use Rattle.dpl_nodes.specs.declared.make.Typed.{Typed}
+use Rattle.dpl_nodes.specs.declared.make.Typed.TheVariants as typed
+use Rattle.dpl_nodes.specs.Typed.{int_view, truth_view, range_view, range_item}
+use Rattle.dpl_nodes.specs.Makers.{typed_item, kind_of}
+use Rattle.dpl_elaborator.specs.Leaves.{leaf_in, IsFound}
+use Rattle.dpl_elaborator.specs.Simple.{IsSimple, IsSimpleItem}
+use Rattle.dpl_elaborator.specs.Sights.{bound_in, ArePlainScopes}
+use Rattle.dpl_elaborator.proofs.Fits.{names-simple, expr_names-simple, unread-simple}
+use Rattle.dpl_elaborator.proofs.Suited.{item-suits}
+use Rattle.dpl_planner.specs.Parts.{IsItem, IsCondition}
+use Rattle.dpl_planner.specs.Plans.{seen_of}
+
+-- TYPED TREES ARE NO CELL READS
+read_by-none : (x : Option _) → read_by {N = Leaf} x None ≡ None
+read_by-none None = refl
+read_by-none (Some x) = refl
+
+pub cell_read-int : (e : IntExpr) → cell_read (int_view e) ≡ None
+cell_read-int (Number n) = refl
+cell_read-int (IntLocal slot) = refl
+cell_read-int (Negative' p e) = refl
+cell_read-int (Sum' p a q b) = refl
+cell_read-int (Difference' p a q b) = refl
+cell_read-int (Product' p a q b) = refl
+cell_read-int (Quotient' p a q b at) = refl
+cell_read-int (Remainder' p a q b at) = refl
+cell_read-int (Size' p r) = read_by-none (bare_name (range_view r))
+cell_read-int (First' p r at) = read_by-none (bare_name (range_view r))
+cell_read-int (Last' p r at) = read_by-none (bare_name (range_view r))
+cell_read-int (Low' p r at) = read_by-none (bare_name (range_view r))
+cell_read-int (High' p r at) = read_by-none (bare_name (range_view r))
+
+pub cell_read-truth : (e : BoolExpr) → cell_read (truth_view e) ≡ None
+cell_read-truth (TruthNode b) = refl
+cell_read-truth (TruthLocal slot) = refl
+cell_read-truth (Not' p e) = refl
+cell_read-truth (And' p a q b) = refl
+cell_read-truth (Or' p a q b) = refl
+cell_read-truth (Same' p a q b) = refl
+cell_read-truth (Differ' p a q b) = refl
+cell_read-truth (Equal a b) = refl
+cell_read-truth (Unequal a b) = refl
+cell_read-truth (Less a b) = refl
+cell_read-truth (AtMost a b) = refl
+cell_read-truth (Greater a b) = refl
+cell_read-truth (AtLeast a b) = refl
+cell_read-truth (Contains r i) = read_by-none (bare_name (range_view r.now))
+
+item_read-range : (e : RangeExpr) → item_read (range_item e) ≡ None
+item_read-range (RangeLocal slot) = refl
+item_read-range (Between' p low at dots q high stride) = refl
+item_read-range (Slice' p r q cut) = read_by-none (bare_name (range_view r))
+
+item_read-typed : (t : Typed) → item_read (typed_item t) ≡ None
+item_read-typed (typed.Int e) = cell_read-int e.now
+item_read-typed (typed.Truth e) = cell_read-truth e.now
+item_read-typed (typed.Range e) = item_read-range e.now
+
+-- what is no cell read stands as it is
+not_hidden : (r : Option (ReadTree Leaf)) (i : ItemTree Leaf) → item_read i ≡ None → hidden_item r (item_read i) i ≡ i
+not_hidden None i e = rw e refl
+not_hidden (Some x) i e = refl
+
+-- ITEMS
+module _ (ss : Scopes) (i : ItemTree Text) where
+  pub item-text : renamed_item text_of (renamed_item (bound_in ss) i) ≡ i
+  item-text = renamed_item-twice text_of (bound_in ss) i ∙ renamed_item-same i
+
+  module _ (t : Typed) (is : IsItem ss i t) where
+    pub item-node : lowered_item known_leaf Once (renamed_item leaf_of (renamed_item (bound_in ss) i)) ≡ typed_item t
+    item-node = ap (lowered_item known_leaf Once) (renamed_item-twice leaf_of (bound_in ss) i) ∙ sym is.node
+
+    pub side-node : lowered_side known_leaf Once (renamed_item leaf_of (renamed_item (bound_in ss) i)) ≡ typed_item t
+    side-node =
+        ap (λ j. hidden_item (item_read (renamed_item leaf_of (renamed_item (bound_in ss) i))) (item_read j) j) item-node
+        ∙ not_hidden (item_read (renamed_item leaf_of (renamed_item (bound_in ss) i))) (typed_item t) (item_read-typed t)
+
+    pub item-unread : item_read (renamed_item (bound_in ss) i) ≡ None
+    item-unread = item_read-renamed (bound_in ss) i ∙ ap (option_map (renamed_read (bound_in ss))) (unread-simple (IsFound ss) i is.found)
+
+    pub item-suited : Suits (kind_of t) (renamed_item (bound_in ss) i)
+    item-suited = item-suits ss t i is.node (unread-simple (IsFound ss) i is.found)
+
+    module _ (start : Start) (intents : List (Bound × Op)) (plain : ArePlainScopes ss) where
+      pub item-fits : (k : Option Index) → fits_item (resolving start) k (renamed_item (bound_in ss) i) (seen_of ss intents)
+      item-fits k = item_fits start (seen_of ss intents) k (renamed_item (bound_in ss) i) (names-simple ss i plain is.found)
+
+      reads_nothing : fits_read (resolving start) (item_read (renamed_item (bound_in ss) i)) (seen_of ss intents)
+      reads_nothing = subst (λ r. fits_read (resolving start) r (seen_of ss intents)) (sym item-unread) tt
+
+      pub side-fits : fits_side (resolving start) (renamed_item (bound_in ss) i) (seen_of ss intents)
+      side-fits = (item-fits None, reads_nothing)
+
+      pub whole_side-fits : fits_whole_side (resolving start) (renamed_item (bound_in ss) i) (seen_of ss intents)
+      whole_side-fits = (λ k. item-fits (Some k), reads_nothing)
+
+-- CONDITIONS
+module _ (ss : Scopes) (e : ExprTree Text) where
+  pub expr-text : renamed_expr text_of (renamed_expr (bound_in ss) e) ≡ e
+  expr-text = renamed_expr-twice text_of (bound_in ss) e ∙ renamed_expr-same e
+
+  module _ (b : Bor BoolExpr) (is : IsCondition ss e b) where
+    pub condition-node : lowered_expr known_leaf Once (renamed_expr leaf_of (renamed_expr (bound_in ss) e)) ≡ truth_view b.now
+    condition-node = ap (lowered_expr known_leaf Once) (renamed_expr-twice leaf_of (bound_in ss) e) ∙ sym is.node
+
+    pub condition-fits : (start : Start) (intents : List (Bound × Op)) → ArePlainScopes ss → fits_expr (resolving start) None (renamed_expr (bound_in ss) e) (seen_of ss intents)
+    condition-fits start intents plain = expr_fits start (seen_of ss intents) None (renamed_expr (bound_in ss) e) (expr_names-simple ss e plain is.found)

@@ -1,0 +1,13 @@
+pub mod Scoped
+pub mod Items
+pub mod Mapped
+pub mod Results
+pub mod Bodies
+pub mod Statements
+pub mod Lists
+pub mod Owed
+pub mod Declared
+pub mod Changed
+pub mod Printed
+pub mod Reduced
+pub mod Programs

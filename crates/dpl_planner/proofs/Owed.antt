@@ -1,0 +1,79 @@
+-- What the command line owes the top level's names: what holds behind a declaration holds before it.
+-- A name is declared once in the only scope, so that a later declaration hides none.
+use Rattle.std.proofs.Common.{◌≡◌, ℕ, suc, ◌+◌, Bool, true, false, List, [], ◌∷◌, length, Option, Some, None, Result, Ok, Err, refl, sym, ap, ◌∙◌, subst}
+use Rattle.std.specs.Prelude.{bytes_eq, if◌then◌else◌, IfOk}
+use Rattle.std.proofs.lemmas.Slice.Eq.{bytes_eq-Decides}
+use Rattle.dpl_syntax.specs.declared.place.Place.{Place}
+use Rattle.dpl_language.specs.Tree.{DeclareTree, StmtTree, Declare}
+use Rattle.dpl_language.specs.Names.{Text}
+use Rattle.dpl_rules.specs.Sights.{Declared, Scope, Scopes, find, or_else, lookup, type_declared, declared_here, add}
+use Rattle.dpl_rules.specs.Sound.{is_configured}
+use Rattle.dpl_rules.specs.Declarations.{sort_of, declared_by}
+use Rattle.dpl_scopes.specs.Slots.{count_in, place_in, slot_or, slot_in}
+use Rattle.dpl_words.specs.Resolved.{Bound, Start}
+use Rattle.dpl_elaborator.specs.Leaves.{kind_by, leaf_by}
+use Rattle.dpl_elaborator.specs.Sights.{bound_in, bound_at}
+use Rattle.dpl_planner.specs.declared.progress.Plan.{Plan}
+use Rattle.dpl_nodes.specs.declared.step.Step.{Step}
+use Rattle.dpl_planner.specs.Bounds.{bound_new}
+use Rattle.dpl_planner.specs.Given.{IsGiven, IsConfig, AreGiven}
+use Rattle.dpl_planner.specs.Parts.{IsOwed, IsOwedBy, PlansDeclare}
+use Rattle.dpl_planner.specs.Plans.{IsOneScope, PlansStmt, PlansTop}
+use Rattle.dpl_planner.proofs.Scoped.{unfound, next_open}
+
+pub one-add : (d : Declared) (ss : Scopes) → IsOneScope ss → IsOneScope (add d ss)
+one-add d [] h = absurd h
+one-add d (s ∷ []) h = tt
+one-add d (s ∷ t ∷ ss) h = absurd h
+
+-- a name, as it is resolved behind a declaration, by whether it is the declared one
+abbrev bound_by : Declared → Scope → Scopes → Text → Bool → Bound
+bound_by d s ss x t = record {
+  text = x;
+  leaf = leaf_by (kind_by (type_declared (or_else (if t then Some d else find s x) (lookup ss x)))) (slot_or (if t then Some (length s + suc (count_in ss)) else place_in s x (suc (count_in ss))) (slot_in ss x));
+}
+
+abbrev GivenBy : Start → Declared → Scope → Scopes → Text → Bool → Type 0
+GivenBy start d s ss x t = IsConfig (or_else (if t then Some d else find s x) (lookup ss x)) → IsGiven start (bound_by d s ss x t)
+
+pub given-before : (start : Start) (d : Declared) (ss : Scopes) → declared_here ss d.origin.name ≡ false → IsOneScope ss → AreGiven start (add d ss) → AreGiven start ss
+given-before start d [] alone h given = absurd h
+given-before start d (s ∷ t ∷ ss) alone h given = absurd h
+given-before start d (s ∷ []) alone h given = λ x c. other x c (bytes_eq x d.origin.name) refl (given x)
+  where
+    other : (x : Text) → IsConfig (lookup (s ∷ []) x) → (t : Bool) → bytes_eq x d.origin.name ≡ t → GivenBy start d s [] x t → IsGiven start (bound_in (s ∷ []) x)
+    other x c true e g =
+        let none : find s x ≡ None = subst (λ y. find s y ≡ None) (sym ((bytes_eq-Decides x d.origin.name).0 e)) (unfound (find s d.origin.name) alone) in
+        absurd (subst (λ o. IsConfig (or_else o None)) none c)
+    other x c false e g = g c
+
+same-text : (x : Text) → bytes_eq x x ≡ true
+same-text x = (bytes_eq-Decides x x).1 refl
+
+-- a `config const` is told by its name behind its declaration
+given-new : (start : Start) (d : Declared) (ss : Scopes) → is_configured d.sort ≡ true → AreGiven start (add d ss) → IsGiven start (bound_new ss d)
+given-new start d [] config given = subst (GivenBy start d [] [] d.origin.name) (same-text d.origin.name) (given d.origin.name) config
+given-new start d (s ∷ ss) config given =
+    subst (λ n. IsGiven start (bound_at d n)) (next_open s ss) (subst (GivenBy start d s ss d.origin.name) (same-text d.origin.name) (given d.origin.name) config)
+
+pub given-owed : (start : Start) (ss : Scopes) (d : DeclareTree Text) → AreGiven start (add (declared_by ss d) ss) → IsOwed start ss d
+given-owed start ss d given = by d.config refl
+  where
+    by : (config : Option Place) → d.config ≡ config → IsOwedBy config start (bound_new ss (declared_by ss d))
+    by None e = tt
+    by (Some at) e = given-new start (declared_by ss d) ss (ap (λ c. is_configured (sort_of c d.constant)) e) given
+
+pub declare-top : (a b : Plan) (d : DeclareTree Text) (s : Step) → PlansDeclare a b d s → PlansTop a b (Declare d) s
+declare-top a b d s p = record {
+  goes = p.goes;
+  text = p.text;
+  node = p.node;
+  resolves = λ start h le given. p.resolves start h le (given-owed start a.scopes d (subst (AreGiven start) p.goes.scopes given));
+}
+
+pub stmt-top : (a b : Plan) (t : StmtTree Text) (s : Step) → PlansStmt a b t s → PlansTop a b t s
+stmt-top a b t s p = record { goes = p.goes; text = p.text; node = p.node; resolves = λ start h le given. p.resolves start h le }
+
+pub declared-top : {E : Type 0} (r : Result Step E) (a b : Plan) (d : DeclareTree Text) → IfOk r (λ s. PlansDeclare a b d s) → IfOk r (λ s. PlansTop a b (Declare d) s)
+declared-top (Ok s) a b d p = declare-top a b d s p
+declared-top (Err e) a b d p = tt

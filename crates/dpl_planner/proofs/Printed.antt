@@ -1,0 +1,163 @@
+-- What is printed: each argument is its lowered tree and fits, and none is left out.
+-- Arguments so far, with what is made of those that are left, are all arguments.
+use Rattle.std.proofs.Common.{◌≡◌, ℕ, Bool, List, [], ◌∷◌, ◌++◌, Bor, Option, Some, None, refl, sym, ap, ◌∙◌, subst, map, append_assoc, append-nil}
+use Rattle.std.specs.Prelude.{option_map}
+use Rattle.dpl_syntax.specs.declared.place.Place.{Place}
+use Rattle.dpl_language.specs.Tree.{AfterComma, Listed, Op, ExprTree, Number, TruthWord, Named, LocalesWord, LocaleCount, HereWord, Grouped, DomainLiteral, Prefixed, Reduced, Chain, Postfixed, One, ArgumentTree, TextArgument, ExprArgument, WriteTree, Write}
+use Rattle.dpl_language.specs.Names.{Text}
+use Rattle.dpl_language.specs.Phrases.{bare_name, cell_read}
+use Rattle.dpl_language.specs.Writing.{arguments_of}
+use Rattle.dpl_language.specs.Renamed.{renamed_expr, renamed_argument, renamed_read, map_comma, map_listed}
+use Rattle.dpl_language.specs.Scopes.{fits_arguments, fits_read, fits_shown}
+use Rattle.dpl_language.proofs.RenamedParts.{item_read-renamed, arguments_of-renamed}
+use Rattle.dpl_language.proofs.RenamedTwice.{renamed_expr-twice}
+use Rattle.dpl_rules.specs.Sights.{Scopes}
+use Rattle.dpl_lowered.specs.Shapes.{nowhere, hidden, relisted}
+use Rattle.dpl_lowered.specs.LoweredExpressions.{Once, lowered_expr}
+use Rattle.dpl_lowered.specs.LoweredStatements.{array_name, lowered_shown, lowered_argument}
+use Rattle.dpl_words.specs.Words.{Leaf, known_leaf}
+use Rattle.dpl_words.proofs.Fitting.{NamesAre, expr_fits}
+use Rattle.dpl_nodes.specs.declared.tree.IntExpr.{IntExpr}
+use Rattle.dpl_nodes.specs.declared.tree.BoolExpr.{BoolExpr}
+use Rattle.dpl_nodes.specs.Typed.{int_view, truth_view}
+use Rattle.dpl_words.specs.Resolved.{Bound, Start, text_of, leaf_of, resolving, Resolves}
+use Rattle.dpl_nodes.specs.declared.step.Argument.{Argument}
+use Rattle.dpl_nodes.specs.declared.step.Argument.TheVariants as node
+use Rattle.dpl_nodes.specs.declared.step.Step.{Write as WriteStep}
+use Rattle.dpl_nodes.specs.Steps.{argument_view, next_argument_view, arguments_view}
+use Rattle.dpl_elaborator.specs.Leaves.{leaf_in, IsFound}
+use Rattle.dpl_elaborator.specs.Simple.{IsSimple}
+use Rattle.dpl_elaborator.specs.Sights.{bound_in, ArePlainScopes}
+use Rattle.dpl_elaborator.proofs.Fits.{expr_names-simple, unread-simple}
+use Rattle.dpl_planner.specs.declared.progress.Plan.{Plan}
+use Rattle.dpl_planner.specs.Parts.{IsArgument, AreArguments, StillArguments}
+use Rattle.dpl_planner.specs.Plans.{seen_of, intents_in, PlansStmt}
+use Rattle.dpl_planner.proofs.Items.{expr-text, cell_read-int, cell_read-truth}
+use Rattle.dpl_planner.proofs.Bodies.{goes-nowhere}
+
+-- ---- ONE ARGUMENT
+pub text-argument : (ss : Scopes) (at : Place) (cs : List ℕ) (b : Bor (List ℕ)) → b.now ≡ cs → IsArgument ss (TextArgument at cs) (node.Text b)
+text-argument ss at cs b e = record { text = refl; node = ap (TextArgument nowhere) (sym e); fits_before = λ start is rest h f. f }
+
+-- a bare name that is handed to `write` is in sight
+shown-fits : (start : Start) (ss : Scopes) (is : List (Bound × Op)) (e : ExprTree Bound) → NamesAre (λ b. Resolves b (seen_of ss is)) e → fits_shown (resolving start) (bare_name e) (seen_of ss is)
+shown-fits start ss is (Number at n) h = tt
+shown-fits start ss is (TruthWord at b) h = tt
+shown-fits start ss is (Named x) h = λ t. h
+shown-fits start ss is (LocalesWord at) h = tt
+shown-fits start ss is (LocaleCount at) h = tt
+shown-fits start ss is (HereWord at) h = tt
+shown-fits start ss is (Grouped from item upto) h = tt
+shown-fits start ss is (DomainLiteral from items upto) h = tt
+shown-fits start ss is (Prefixed at op e) h = tt
+shown-fits start ss is (Reduced at op word e) h = tt
+shown-fits start ss is (Chain e rest) h = tt
+shown-fits start ss is (Postfixed e posts) h = tt
+
+no_array : (x : Option _) → array_name known_leaf x ≡ None
+no_array None = refl
+no_array (Some x) = refl
+
+-- what is no cell read is shown as it is
+shown-open : (e f : ExprTree Leaf) → cell_read f ≡ None → lowered_shown known_leaf e f ≡ f
+shown-open e f unread =
+    ap (λ o. hidden (bare_name e) o (hidden (cell_read e) (cell_read f) f)) (no_array (bare_name f))
+    ∙ any_phrase (bare_name e) (hidden (cell_read e) (cell_read f) f)
+    ∙ ap (λ o. hidden (cell_read e) o f) unread ∙ any_phrase (cell_read e) f
+  where
+    any_phrase : {A : Type 0} (o : Option A) (x : ExprTree Leaf) → hidden {B = A} o None x ≡ x
+    any_phrase None x = refl
+    any_phrase (Some y) x = refl
+
+module _ (ss : Scopes) (e : ExprTree Text) (f : ExprTree Leaf) (unread : cell_read f ≡ None) (is : f ≡ lowered_expr known_leaf Once (renamed_expr (leaf_in ss) e)) (found : IsSimple (IsFound ss) e) where
+  abbrev made : ExprTree Bound
+  made = renamed_expr (bound_in ss) e
+
+  argument-node : lowered_argument known_leaf (renamed_argument leaf_of (renamed_argument (bound_in ss) (ExprArgument e))) ≡ ExprArgument f
+  argument-node =
+      ap ExprArgument (ap (λ g. lowered_shown known_leaf (renamed_expr leaf_of made) g) (ap (lowered_expr known_leaf Once) (renamed_expr-twice leaf_of (bound_in ss) e) ∙ sym is)
+      ∙ shown-open (renamed_expr leaf_of made) f unread)
+
+  expr_fits-before : (start : Start) (intents : List (Bound × Op)) (rest : List (ArgumentTree Bound)) → ArePlainScopes ss
+      → fits_arguments (resolving start) rest (seen_of ss intents) → fits_arguments (resolving start) (renamed_argument (bound_in ss) (ExprArgument e) ∷ rest) (seen_of ss intents)
+  expr_fits-before start intents rest h f =
+      let names = expr_names-simple ss e h found in
+      let read = subst (λ r. fits_read (resolving start) r (seen_of ss intents)) (sym (item_read-renamed (bound_in ss) (One e) ∙ ap (option_map (renamed_read (bound_in ss))) (unread-simple (IsFound ss) (One e) found))) tt in
+      ((expr_fits start (seen_of ss intents) None made names, read), shown-fits start ss intents made names, f)
+
+pub int-argument : (ss : Scopes) (e : ExprTree Text) (b : Bor IntExpr) → int_view b.now ≡ lowered_expr known_leaf Once (renamed_expr (leaf_in ss) e) → IsSimple (IsFound ss) e → IsArgument ss (ExprArgument e) (node.Int b)
+int-argument ss e b is found = record {
+  text = ap ExprArgument (expr-text ss e);
+  node = argument-node ss e (int_view b.now) (cell_read-int b.now) is found;
+  fits_before = expr_fits-before ss e (int_view b.now) (cell_read-int b.now) is found;
+}
+
+pub truth-argument : (ss : Scopes) (e : ExprTree Text) (b : Bor BoolExpr) → truth_view b.now ≡ lowered_expr known_leaf Once (renamed_expr (leaf_in ss) e) → IsSimple (IsFound ss) e → IsArgument ss (ExprArgument e) (node.Truth b)
+truth-argument ss e b is found = record {
+  text = ap ExprArgument (expr-text ss e);
+  node = argument-node ss e (truth_view b.now) (cell_read-truth b.now) is found;
+  fits_before = expr_fits-before ss e (truth_view b.now) (cell_read-truth b.now) is found;
+}
+
+-- ---- ARGUMENTS, one by one
+pub arguments-step : (ss : Scopes) (all : List (ArgumentTree Text)) (a : ArgumentTree Text) (rest : List (ArgumentTree Text)) (so_far : List Argument) (b : Argument)
+    → StillArguments ss all (a ∷ rest) so_far → IsArgument ss a b → StillArguments ss all rest (so_far ++ b ∷ [])
+arguments-step ss all a rest so_far b still is more f = subst (AreArguments ss all) (sym (append_assoc so_far (b ∷ []) more)) (still (b ∷ more) (is, f))
+
+pub arguments-ended : (ss : Scopes) (all left : List (ArgumentTree Text)) (so_far : List Argument) → left ≡ [] → StillArguments ss all left so_far → AreArguments ss all so_far
+arguments-ended ss all left so_far none still = subst (AreArguments ss all) (append-nil so_far) (still [] (subst (λ xs. AreArguments ss xs []) (sym none) tt))
+
+-- ---- THE STATEMENT
+arguments-fit : (ss : Scopes) (xs : List (ArgumentTree Text)) (bs : List Argument) → AreArguments ss xs bs → (start : Start) (is : List (Bound × Op)) → ArePlainScopes ss
+    → fits_arguments (resolving start) (map (renamed_argument (bound_in ss)) xs) (seen_of ss is)
+arguments-fit ss [] [] f start is h = tt
+arguments-fit ss [] (b ∷ bs) f start is h = absurd f
+arguments-fit ss (a ∷ xs) [] f start is h = absurd f
+arguments-fit ss (a ∷ xs) (b ∷ bs) f start is h = f.0.fits_before start is (map (renamed_argument (bound_in ss)) xs) h (arguments-fit ss xs bs f.1 start is h)
+
+module _ (ss : Scopes) where
+  abbrev twice : ArgumentTree Text → ArgumentTree Leaf
+  twice a = lowered_argument known_leaf (renamed_argument leaf_of (renamed_argument (bound_in ss) a))
+
+  texts-back : (xs : List (AfterComma (ArgumentTree Text))) (bs : List Argument) → AreArguments ss (map (λ x. x.part) xs) bs
+      → map (map_comma (renamed_argument text_of)) (map (map_comma (renamed_argument (bound_in ss))) xs) ≡ xs
+  texts-back [] bs f = refl
+  texts-back (x ∷ xs) [] f = absurd f
+  texts-back (x ∷ xs) (b ∷ bs) f =
+      ap (λ y. record { comma = x.comma; part = y } ∷ map (map_comma (renamed_argument text_of)) (map (map_comma (renamed_argument (bound_in ss))) xs)) f.0.text ∙ ap (λ ys. x ∷ ys) (texts-back xs bs f.1)
+
+  others-node : (xs : List (AfterComma (ArgumentTree Text))) (bs : List Argument) → AreArguments ss (map (λ x. x.part) xs) bs
+      → map (λ x. record { comma = nowhere; part = lowered_argument known_leaf x.part }) (map (map_comma (renamed_argument leaf_of)) (map (map_comma (renamed_argument (bound_in ss))) xs)) ≡ map next_argument_view bs
+  others-node [] [] f = refl
+  others-node [] (b ∷ bs) f = absurd f
+  others-node (x ∷ xs) [] f = absurd f
+  others-node (x ∷ xs) (b ∷ bs) f =
+      ap (λ y. record { comma = nowhere; part = y } ∷ map (λ z. record { comma = nowhere; part = lowered_argument known_leaf z.part }) (map (map_comma (renamed_argument leaf_of)) (map (map_comma (renamed_argument (bound_in ss))) xs))) f.0.node
+      ∙ ap (λ ys. next_argument_view b ∷ ys) (others-node xs bs f.1)
+
+  arguments-text : (xs : Option (Listed (ArgumentTree Text))) (bs : List Argument) → AreArguments ss (arguments_of xs) bs
+      → option_map (map_listed (renamed_argument text_of)) (option_map (map_listed (renamed_argument (bound_in ss))) xs) ≡ xs
+  arguments-text None bs f = refl
+  arguments-text (Some xs) [] f = absurd f
+  arguments-text (Some xs) (b ∷ bs) f =
+      ap (λ x. Some (record { first = x; others = map (map_comma (renamed_argument text_of)) (map (map_comma (renamed_argument (bound_in ss))) xs.others) })) f.0.text
+      ∙ ap (λ ys. Some (record { first = xs.first; others = ys })) (texts-back xs.others bs f.1)
+
+  arguments-node : (xs : Option (Listed (ArgumentTree Text))) (bs : List Argument) → AreArguments ss (arguments_of xs) bs
+      → option_map (relisted (lowered_argument known_leaf)) (option_map (map_listed (renamed_argument leaf_of)) (option_map (map_listed (renamed_argument (bound_in ss))) xs)) ≡ arguments_view bs
+  arguments-node None [] f = refl
+  arguments-node None (b ∷ bs) f = absurd f
+  arguments-node (Some xs) [] f = absurd f
+  arguments-node (Some xs) (b ∷ bs) f =
+      ap (λ x. Some (record { first = x; others = map (λ z. record { comma = nowhere; part = lowered_argument known_leaf z.part }) (map (map_comma (renamed_argument leaf_of)) (map (map_comma (renamed_argument (bound_in ss))) xs.others)) })) f.0.node
+      ∙ ap (λ ys. Some (record { first = argument_view b; others = ys })) (others-node xs.others bs f.1)
+
+pub write-plans : (a : Plan) (w : WriteTree Text) (bs : Bor (List Argument)) → AreArguments a.scopes (arguments_of w.arguments) bs.now → PlansStmt a a (Write w) (WriteStep w.ends_line bs)
+write-plans a w bs f = record {
+  goes = goes-nowhere a;
+  text = ap (λ xs. Write (record { at = w.at; ends_line = w.ends_line; from = w.from; arguments = xs; upto = w.upto; semicolon = w.semicolon })) (arguments-text a.scopes w.arguments bs.now f);
+  node = ap (λ xs. Write (record { at = nowhere; ends_line = w.ends_line; from = nowhere; arguments = xs; upto = nowhere; semicolon = nowhere })) (arguments-node a.scopes w.arguments bs.now f);
+  resolves = λ start h le.
+      subst (λ xs. fits_arguments (resolving start) xs (seen_of a.scopes (intents_in a))) (sym (arguments_of-renamed (bound_in a.scopes) w.arguments))
+      (arguments-fit a.scopes (arguments_of w.arguments) bs.now f start (intents_in a) h);
+}

@@ -1,0 +1,52 @@
+-- A whole program: what is planned of its statements, from one scope without names, is the program.
+-- Each clause on a program's plan is one of these.
+use Rattle.std.proofs.Common.{◌≡◌, ◌≤◌, List, [], ◌∷◌, map, sym, ap, ◌∙◌, subst}
+use Rattle.dpl_language.specs.Tree.{ProgramTree}
+use Rattle.dpl_language.specs.Names.{Text}
+use Rattle.dpl_language.specs.Renamed.{renamed_stmts, renamed_program}
+use Rattle.dpl_language.specs.Scopes.{fits_all, after_all}
+use Rattle.dpl_rules.specs.Sights.{Scopes}
+use Rattle.dpl_rules.specs.Breaches.{top}
+use Rattle.dpl_rules.specs.Sound.{behind_all}
+use Rattle.dpl_lowered.specs.LoweredStatements.{lowered_program}
+use Rattle.dpl_words.specs.Words.{known_leaf}
+use Rattle.dpl_words.specs.Resolved.{Start, text_of, leaf_of, first_seen, resolving}
+use Rattle.dpl_nodes.specs.declared.step.Step.{Step}
+use Rattle.dpl_nodes.specs.Steps.{steps_of}
+use Rattle.dpl_elaborator.specs.Sights.{sight_of, ArePlainScopes}
+use Rattle.dpl_planner.specs.declared.progress.Plan.{Plan}
+use Rattle.dpl_planner.specs.declared.progress.Reducing.{Reducing}
+use Rattle.dpl_planner.specs.Bounds.{bound_stmts, bound_program}
+use Rattle.dpl_planner.specs.Given.{AreGiven}
+use Rattle.dpl_planner.specs.Plans.{reducing_view, seen_of, IsOneScope, Stands, stmts_leaves, PlansTops}
+use Rattle.dpl_planner.proofs.Scoped.{after-stmts}
+
+module _ (a b : Plan) (t : ProgramTree Text) (steps : List Step) (begun : a.scopes ≡ top) (none : a.intents.items ≡ []) (p : PlansTops a b t.stmts steps) where
+  abbrev At : Scopes → List Reducing → Type 0
+  At ss is =
+      Stands a b (behind_all ss t.stmts) (renamed_stmts text_of (bound_stmts ss t.stmts) ≡ t.stmts) (stmts_leaves ss t.stmts ≡ steps_of steps)
+      (λ start. AreGiven start b.scopes → fits_all (resolving start) (bound_stmts ss t.stmts) (seen_of ss (map reducing_view is)))
+
+  all : At top []
+  all = subst (λ is. At top is) none (subst (λ ss. At ss a.intents.items) begun (p (subst IsOneScope (sym begun) tt)))
+
+  first_plain : ArePlainScopes a.scopes
+  first_plain = subst ArePlainScopes (sym begun) (tt, tt)
+
+  pub program-text : renamed_program text_of (bound_program t) ≡ t
+  program-text = ap (λ ts. record { uses = t.uses; stmts = ts; end = t.end }) all.text
+
+  pub program-steps : (lowered_program known_leaf (renamed_program leaf_of (bound_program t))).stmts ≡ steps_of steps
+  program-steps = all.node
+
+  pub program-fits : (start : Start) → b.slots ≤ start.slots → AreGiven start b.scopes → fits_all (resolving start) (bound_program t).stmts first_seen
+  program-fits start le given = all.resolves start first_plain le given
+
+  pub program-scopes : b.scopes ≡ behind_all top t.stmts
+  program-scopes = all.goes.scopes
+
+  pub program-left : (start : Start) → (after_all (resolving start) (bound_program t).stmts first_seen).frames ≡ sight_of b.scopes
+  program-left start = ap (λ s. s.frames) (after-stmts start t.stmts top []) ∙ ap sight_of (sym all.goes.scopes)
+
+  pub program-plain : ArePlainScopes b.scopes
+  program-plain = all.goes.plain first_plain

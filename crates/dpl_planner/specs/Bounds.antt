@@ -1,0 +1,78 @@
+-- A program with its names resolved by the scopes as they stand where each name does.
+-- A declared name has the next slot, and any other the leaf of its innermost declaration.
+use Rattle.std.specs.Prelude.{option_map, Option, Some, ◌∷◌, []}
+use Rattle.dpl_language.specs.Tree.{Placed, VariablesTree, OneVariable, ManyVariables, DeclareTree, StmtTree, Nothing, Declare, Assigned, Call, Write, Block, If, While, For, Forall, Coforall, On, Body, WordBody, BlockBody, Stmts, NoStmts, Then, Else, NoElse, ElseDo, ProgramTree}
+use Rattle.dpl_language.specs.Names.{Text}
+use Rattle.dpl_language.specs.Renamed.{renamed, renamed_expr, renamed_item, renamed_typed, renamed_initial, renamed_write, renamed_with, renamed_variables, renamed_target, renamed_call}
+use Rattle.dpl_rules.specs.Types.{an_int}
+use Rattle.dpl_rules.specs.Sights.{LoopVariable, Declared, Scopes, enter, add, origin_in}
+use Rattle.dpl_rules.specs.Declarations.{declared_by}
+use Rattle.dpl_rules.specs.Loops.{variables_of, add_variables, behind}
+use Rattle.dpl_rules.specs.Breaches.{top}
+use Rattle.dpl_scopes.specs.Slots.{next_slot_in}
+use Rattle.dpl_words.specs.Resolved.{Bound}
+use Rattle.dpl_elaborator.specs.Sights.{bound_in, bound_at}
+
+-- a name that is declared here
+abbrev pub bound_new : Scopes → Declared → Bound
+bound_new ss d = bound_at d (next_slot_in ss)
+
+abbrev pub bound_declare : Scopes → DeclareTree Text → DeclareTree Bound
+bound_declare ss d = record {
+  config = d.config;
+  at = d.at;
+  constant = d.constant;
+  name = record { at = d.name.at; name = bound_new ss (declared_by ss d) };
+  typed = option_map (renamed_typed (bound_in ss)) d.typed;
+  initial = option_map (renamed_initial (bound_in ss)) d.initial;
+  semicolon = d.semicolon;
+}
+
+-- LOOPS: over a range, of which each turn gives the variable an int
+abbrev pub loop_variable : Scopes → Text → Declared
+loop_variable ss x = record { origin = origin_in ss x; sort = LoopVariable; type = Some an_int }
+
+-- the scope of the variables, and that of the body in it
+abbrev pub of_variables : VariablesTree Text → Scopes → Scopes
+of_variables xs ss = add_variables (Some an_int) (variables_of xs) (enter ss)
+
+abbrev pub in_loop : VariablesTree Text → Scopes → Scopes
+in_loop xs ss = enter (of_variables xs ss)
+
+abbrev pub bound_variables : Scopes → VariablesTree Text → VariablesTree Bound
+bound_variables ss (OneVariable x) = OneVariable (record { at = x.at; name = bound_new (enter ss) (loop_variable (enter ss) x.name) })
+bound_variables ss (ManyVariables from xs upto) = renamed_variables (bound_in (of_variables (ManyVariables from xs upto) ss)) (ManyVariables from xs upto)
+
+-- STATEMENTS
+abbrev mutual
+  pub bound_stmt : Scopes → StmtTree Text → StmtTree Bound
+  bound_stmt ss (Nothing at) = Nothing at
+  bound_stmt ss (Declare d) = Declare (bound_declare ss d)
+  bound_stmt ss (Assigned target sign item semicolon) = Assigned (renamed_target (bound_in ss) target) sign (renamed_item (bound_in ss) item) semicolon
+  bound_stmt ss (Call x dot call semicolon) = Call (renamed (bound_in ss) x) dot (renamed_call (bound_in ss) call) semicolon
+  bound_stmt ss (Write w) = Write (renamed_write (bound_in ss) w)
+  bound_stmt ss (Block from body upto) = Block from (bound_stmts (enter ss) body) upto
+  bound_stmt ss (If at e first second) = If at (renamed_expr (bound_in ss) e) (bound_body (enter ss) first) (bound_else ss second)
+  bound_stmt ss (While at e body) = While at (renamed_expr (bound_in ss) e) (bound_body (enter ss) body)
+  bound_stmt ss (For at xs word item body) = For at (bound_variables ss xs) word (renamed_item (bound_in ss) item) (bound_body (in_loop xs ss) body)
+  bound_stmt ss (Forall at xs word item intents body) =
+      Forall at (bound_variables ss xs) word (renamed_item (bound_in ss) item) (option_map (renamed_with (bound_in ss)) intents) (bound_body (in_loop xs ss) body)
+  bound_stmt ss (Coforall at xs word item intents body) =
+      Coforall at (bound_variables ss xs) word (renamed_item (bound_in ss) item) (option_map (renamed_with (bound_in ss)) intents) (bound_body (in_loop xs ss) body)
+  bound_stmt ss (On at e body) = On at (renamed_expr (bound_in ss) e) (bound_body (enter ss) body)
+
+  -- a body, in the scope that was opened for it
+  pub bound_body : Scopes → Body Text → Body Bound
+  bound_body ss (WordBody at t) = WordBody at (bound_stmt ss t)
+  bound_body ss (BlockBody from ts upto) = BlockBody from (bound_stmts ss ts) upto
+
+  pub bound_stmts : Scopes → Stmts Text → Stmts Bound
+  bound_stmts ss NoStmts = NoStmts
+  bound_stmts ss (Then t rest) = Then (bound_stmt ss t) (bound_stmts (behind ss t) rest)
+
+  pub bound_else : Scopes → Else Text → Else Bound
+  bound_else ss NoElse = NoElse
+  bound_else ss (ElseDo at t) = ElseDo at (bound_stmt (enter ss) t)
+
+abbrev pub bound_program : ProgramTree Text → ProgramTree Bound
+bound_program t = record { uses = t.uses; stmts = bound_stmts top t.stmts; end = t.end }

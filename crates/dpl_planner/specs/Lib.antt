@@ -1,0 +1,6 @@
+-- Programs with their names resolved, and what the command line owes them.
+pub mod Bounds
+pub mod Given
+-- What serves contracts and proofs alone.
+pub mod Plans
+pub mod Parts

@@ -1,0 +1,90 @@
+// A whole program: its statements, how many slots they need, and the names at its end.
+// A `config const` stands at the top level, where the names at the end tell it.
+
+ghost use Rattle.std.specs.Prelude.{◌≡◌, ◌≤◌, IfOk};
+ghost use Rattle.dpl_language.specs.Renamed.{renamed_program};
+ghost use Rattle.dpl_language.specs.Scopes.{fits_all, after_all};
+ghost use Rattle.dpl_tree.specs.Statements.{stmt_view, stmts_of, program_view};
+ghost use Rattle.dpl_rules.specs.Breaches.{top};
+ghost use Rattle.dpl_rules.specs.Sound.{behind_all};
+ghost use Rattle.dpl_lowered.specs.LoweredStatements.{lowered_program};
+ghost use Rattle.dpl_words.specs.Words.{known_leaf};
+ghost use Rattle.dpl_words.specs.Resolved.{Start, text_of, leaf_of, first_seen, resolving};
+ghost use Rattle.dpl_nodes.specs.Steps.{steps_of};
+ghost use Rattle.dpl_elaborator.specs.Sights.{sight_of, ArePlainScopes};
+ghost use Rattle.dpl_planner.specs.Bounds.{bound_program};
+ghost use Rattle.dpl_planner.specs.Given.{AreGiven};
+ghost use Rattle.dpl_planner.specs.Plans.{PlansTop, PlansTops};
+
+use crate::declaration::declare;
+use crate::progress::{Plan, list, push};
+use crate::statement::stmt;
+use dpl_nodes::{Step, Stop};
+use dpl_scopes::Scopes;
+use dpl_tree::{Arena, Program, Stmt};
+
+/// A program, planned.
+#[derive(Drop)]
+pub struct Planned<'s, 't> {
+    pub steps: &'t [Step<'t>],
+    /// How many slots a frame needs.
+    pub slots: usize,
+    /// The names at the program's end: its top level.
+    pub scopes: Scopes<'s>,
+}
+
+// A statement of the top level.
+fn top_stmt<'s, 't>(plan: &mut Plan<'s, 't>, written: &Stmt<'s>) -> Result<Step<'t>, Stop>
+    ensures { IfOk result (λ step. PlansTop plan.old plan.new (stmt_view written.now) step) }
+{
+    match written {
+        Stmt::Declare(declaration) => declare(plan, declaration),
+        Stmt::Nothing(_)
+        | Stmt::Assigned(_)
+        | Stmt::Call(_)
+        | Stmt::Write(_)
+        | Stmt::Block(_)
+        | Stmt::If(_)
+        | Stmt::While(_)
+        | Stmt::For(_)
+        | Stmt::Forall(_)
+        | Stmt::Coforall(_)
+        | Stmt::On(_) => stmt(plan, written),
+    }
+}
+
+// The statements of the top level.
+fn top_stmts<'s, 't>(plan: &mut Plan<'s, 't>, stmts: &[Stmt<'s>]) -> Result<&'t [Step<'t>], Stop>
+    ensures { IfOk result (λ steps. PlansTops plan.old plan.new (stmts_of stmts.now) steps.now) }
+{
+    let mut steps = Vec::new(plan.arena.alloc());
+    for next in stmts {
+        let step = top_stmt(plan, next)?;
+        push(&mut steps, step)?;
+    }
+    list(plan.arena, steps)
+}
+
+/// The program as typed statements over slots. What they stand for is its lowered tree, with each name resolved: a
+/// declared name has a slot that no name in sight has, and any other that of its innermost declaration.
+///
+/// # Errors
+/// Out of memory; what isn't a program of plain variables, as arrays, domains, cells, tasks and locales aren't; a `config`
+/// inside a body, and a forall inside one with reduce variables; a name that isn't in sight, or is declared twice in one
+/// scope; a value of another kind than its place takes.
+pub fn plan<'s, 't>(arena: Arena<'t>, program: &Program<'s>) -> Result<Planned<'s, 't>, Stop>
+    ensures text { IfOk result (λ p. renamed_program text_of (bound_program (program_view program.now)) ≡ program_view program.now) }
+    ensures steps { IfOk result (λ p. (lowered_program known_leaf (renamed_program leaf_of (bound_program (program_view program.now)))).stmts ≡ steps_of p.steps.now) }
+    ensures fits { IfOk result (λ p. (start : Start) → p.slots ≤ start.slots → AreGiven start p.scopes → fits_all (resolving start) (bound_program (program_view program.now)).stmts first_seen) }
+    ensures scopes { IfOk result (λ p. p.scopes ≡ behind_all top (stmts_of program.now.stmts.now)) }
+    ensures left { IfOk result (λ p. (start : Start) → (after_all (resolving start) (bound_program (program_view program.now)).stmts first_seen).frames ≡ sight_of p.scopes) }
+    ensures plain { IfOk result (λ p. ArePlainScopes p.scopes) }
+{
+    let mut plan = Plan::begin(arena)?;
+    let steps = top_stmts(&mut plan, program.stmts)?;
+    Ok(Planned {
+        steps,
+        slots: plan.slots,
+        scopes: plan.scopes,
+    })
+}

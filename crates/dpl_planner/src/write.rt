@@ -1,0 +1,105 @@
+// `write` and `writeln`: texts by the bytes that they mean, ints and truth values.
+// Arguments are planned in order, none is left out.
+
+ghost use Rattle.std.specs.Prelude.{◌≡◌, List, [], Some, OnOk, IfOk};
+ghost use Rattle.dpl_syntax.specs.Text.{text_value};
+ghost use Rattle.dpl_language.specs.Tree.{ArgumentTree, ExprArgument, Write as WriteTree};
+ghost use Rattle.dpl_language.specs.Names.{Text};
+ghost use Rattle.dpl_language.specs.Writing.{arguments_of};
+ghost use Rattle.dpl_tree.specs.View.{expr_view};
+ghost use Rattle.dpl_tree.specs.Declarations.{optional};
+ghost use Rattle.dpl_tree.specs.Statements.{argument_view, arguments_view, written_view};
+ghost use Rattle.dpl_planner.specs.Parts.{IsArgument, AreArguments, others_in, StillArguments};
+ghost use Rattle.dpl_planner.specs.Plans.{PlansStmt};
+
+use crate::progress::{Plan, list, push};
+use dpl_elaborator::expression;
+use dpl_nodes::step::Argument as Shown;
+use dpl_nodes::{Step, Stop, Typed};
+use dpl_syntax::{Bytes, text_bytes};
+use dpl_tree::{Arena, Argument, Arguments, Expr, NextArgument, Write};
+
+// A text, by the bytes that its escapes mean.
+fn text<'t>(arena: Arena<'t>, bytes: &[u8]) -> Result<&'t [u8], Stop>
+    ensures { IfOk result (λ meant. meant.now ≡ text_value bytes.now) }
+{
+    match text_bytes(arena.alloc(), &Bytes::new(bytes)) {
+        Ok(meant) => list(arena, meant),
+        Err(_) => Err(Stop::Memory),
+    }
+}
+
+// An expression: an int or a truth value.
+fn value<'t>(plan: &Plan<'_, 't>, e: &Expr<'_>) -> Result<Shown<'t>, Stop>
+    ensures { IfOk result (λ shown. IsArgument plan.now.scopes (ExprArgument (expr_view e.now)) shown) }
+{
+    let made = expression(plan.arena, &plan.scopes, e)?;
+    match made {
+        Typed::Int(e) => Ok(Shown::Int(e)),
+        Typed::Truth(e) => Ok(Shown::Truth(e)),
+        Typed::Range(_) => Err(Stop::IllTyped),
+    }
+}
+
+// An argument.
+fn argument<'t>(plan: &Plan<'_, 't>, written: &Argument<'_>) -> Result<Shown<'t>, Stop>
+    ensures { IfOk result (λ shown. IsArgument plan.now.scopes (argument_view written.now) shown) }
+{
+    match written {
+        Argument::Text(_, bytes) => Ok(Shown::Text(text(plan.arena, bytes)?)),
+        Argument::Expr(e) => value(plan, e),
+    }
+}
+
+// Further arguments, behind those so far.
+fn more_arguments<'t>(
+    plan: &Plan<'_, 't>,
+    others: &[NextArgument<'_>],
+    shown: &mut Vec<Shown<'t>>,
+) -> Result<(), Stop>
+    ensures { OnOk result ((all : List (ArgumentTree Text)) → StillArguments plan.now.scopes all (others_in others.now) shown.old.items → StillArguments plan.now.scopes all [] shown.new.items) }
+{
+    for next in others {
+        let argument = argument(plan, &next.argument)?;
+        push(shown, argument)?;
+    }
+    Ok(())
+}
+
+// One argument or more.
+fn some_arguments<'t>(plan: &Plan<'_, 't>, written: &Arguments<'_>) -> Result<&'t [Shown<'t>], Stop>
+    ensures { IfOk result (λ shown. AreArguments plan.now.scopes (arguments_of (Some (arguments_view written.now))) shown.now) }
+{
+    let mut shown = Vec::new(plan.arena.alloc());
+    let first = argument(plan, &written.first)?;
+    push(&mut shown, first)?;
+    more_arguments(plan, written.others, &mut shown)?;
+    list(plan.arena, shown)
+}
+
+// Arguments, in order.
+fn arguments<'t>(
+    plan: &Plan<'_, 't>,
+    written: &Option<Arguments<'_>>,
+) -> Result<&'t [Shown<'t>], Stop>
+    ensures { IfOk result (λ shown. AreArguments plan.now.scopes (arguments_of (optional arguments_view written.now)) shown.now) }
+{
+    match written {
+        None => Ok(&[]),
+        Some(written) => some_arguments(plan, written),
+    }
+}
+
+/// What is printed.
+///
+/// # Errors
+/// Out of memory; an argument that isn't a text, an int or a truth value.
+pub(crate) fn write<'t>(plan: &Plan<'_, 't>, written: &Write<'_>) -> Result<Step<'t>, Stop>
+    ensures { IfOk result (λ step. PlansStmt plan.now plan.now (WriteTree (written_view written.now)) step) }
+{
+    let arguments = arguments(plan, &written.arguments)?;
+    Ok(Step::Write {
+        ends_line: written.ends_line,
+        arguments,
+    })
+}
