@@ -5,6 +5,7 @@ ghost use Rattle.std.specs.Prelude.{◌≡◌, ◌+◌, ◌*◌, ◌≤◌, ◌&
 ghost use Rattle.dpl_syntax.specs.Text.{is_digit, digit_value};
 ghost use Rattle.dpl_tree.specs.Words.{kind_view};
 ghost use Rattle.dpl_rules.specs.Sound.{is_decimal, is_number_text, is_value_of, name_and_value};
+ghost use Rattle.dpl_limits.specs.Numbers.{IsDecimal, IsInt};
 
 use dpl_tree::ScalarKind;
 
@@ -40,30 +41,38 @@ fn with_digit(most: u64, number: u64, byte: u8) -> Option<u64>
     Some(longer as u64)
 }
 
-// Decimal digits of a number that isn't past the greatest.
-fn is_decimal(most: u64, digits: &[u8]) -> bool
-    ensures { result ≡ is_decimal most digits.now }
+// The number that decimal digits are, if they are all digits and it isn't past the greatest.
+fn decimal_in(most: u64, digits: &[u8]) -> Option<u64>
+    ensures some { IfSome result (λ n. IsDecimal most digits.now n) }
+    ensures none { IfNone result (is_decimal most digits.now ≡ false) }
 {
     if digits.is_empty() {
-        return false;
+        return None;
     }
     let mut number = 0;
     for byte in digits {
         match with_digit(most, number, *byte) {
-            None => return false,
+            None => return None,
             Some(longer) => number = longer,
         }
     }
-    true
+    Some(number)
 }
 
-// The text of an int.
-fn is_number_text(text: &[u8]) -> bool
-    ensures { result ≡ is_number_text text.now }
+/// The int that a text is, if it is one: decimal digits that fit, with a minus or without.
+pub fn int_in(text: &[u8]) -> Option<i64>
+    ensures some { IfSome result (λ n. IsInt text.now n) }
+    ensures none { IfNone result (is_number_text text.now ≡ false) }
 {
     match text {
-        [b'-', digits @ ..] => is_decimal(GREATEST + 1, digits),
-        _ => is_decimal(GREATEST, text),
+        [b'-', digits @ ..] => {
+            let number = decimal_in(GREATEST + 1, digits)?;
+            Some(-i128::from(number) as i64)
+        }
+        _ => {
+            let number = decimal_in(GREATEST, text)?;
+            Some(number as i64)
+        }
     }
 }
 
@@ -72,7 +81,7 @@ pub fn is_value_of(kind: ScalarKind, text: &[u8]) -> bool
     ensures { result ≡ is_value_of (kind_view kind) text.now }
 {
     match kind {
-        ScalarKind::Int => is_number_text(text),
+        ScalarKind::Int => int_in(text).is_some(),
         ScalarKind::Bool => text == "true".as_bytes() || text == "false".as_bytes(),
     }
 }

@@ -1,0 +1,2 @@
+-- What sets give by slots.
+pub mod Words
