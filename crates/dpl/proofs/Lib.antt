@@ -1,0 +1,2 @@
+-- What a text's run says of the program that read it.
+mod Reading

@@ -1,14 +1,45 @@
--- The status with which the process ends, by what a run came to.
-use Rattle.std.specs.Prelude.{ℕ, Result, Ok, Err}
-use Rattle.dpl_run.specs.declared.outcome.Outcome.{Outcome}
+-- The status with which the process ends, and what is told on standard error, by what became of a text.
+use Rattle.std.specs.Prelude.{◌≡◌, ◌≢◌, ◌⊎◌, ℕ, Bool, true, false, List, [], ◌∷◌, ◌++◌, codes, Result, Ok, Err}
+use Rattle.clap.specs.Words.{kind_of}
+use Rattle.clap.specs.declared.error.kind.ErrorKind.TheVariants.{DisplayHelp, DisplayVersion}
+use Rattle.dpl_settings.specs.declared.fault.LineFault.{LineFault}
+use Rattle.dpl_settings.specs.declared.fault.LineFault.TheVariants.{Line, Value, Memory as LineMemory}
 use Rattle.dpl_run.specs.declared.outcome.Outcome.TheVariants.{Done, Stopped, Rejected}
 use Rattle.dpl_run.specs.declared.refused.Refused.{Refused}
-use Rattle.dpl_run.specs.declared.refused.Refused.TheVariants.{Memory, Writer}
+use Rattle.dpl_run.specs.declared.refused.Refused.TheVariants.{Memory, Writer, Unplanned}
+use Rattle.dpl_run.specs.Refusals.{refused_text}
+use Rattle.dpl_says.specs.Dump.{dumped}
+use Rattle.dpl.specs.declared.ended.Ended.{Ended}
+use Rattle.dpl.specs.declared.ended.Ended.TheVariants.{Ran, Failed, Unread}
 
--- done, stopped by a fault, and a text that isn't a program; out of memory, and a writer that failed
-abbrev pub status_of : Result Outcome Refused → ℕ
-status_of (Ok (Done left)) = 0
-status_of (Ok (Stopped f)) = 1
-status_of (Ok (Rejected r)) = 2
-status_of (Err Memory) = 3
-status_of (Err Writer) = 4
+-- out of memory, and a program that isn't laid out; a writer that failed
+abbrev pub refused_status : Refused → ℕ
+refused_status Memory = 3
+refused_status Unplanned = 3
+refused_status Writer = 4
+
+-- done, unless what is told of it can't be written; stopped by a fault; a text that isn't a program; a refused run; a text
+-- that can't be read
+abbrev pub status_of : Ended → Result Unit Refused → ℕ
+status_of (Ran (Done left)) (Ok u) = 0
+status_of (Ran (Done left)) (Err e) = refused_status e
+status_of (Ran (Stopped f)) told = 1
+status_of (Ran (Rejected r)) told = 2
+status_of (Failed e) told = refused_status e
+status_of Unread told = 4
+
+-- the variables that a program left, where they are asked for, and of a run that is done alone; and why there is no outcome
+abbrev pub told_of : Bool → Ended → List ℕ
+told_of true (Ran (Done left)) = dumped left
+told_of false (Ran (Done left)) = []
+told_of dumps (Ran (Stopped f)) = []
+told_of dumps (Ran (Rejected r)) = []
+told_of dumps (Failed e) = codes "dpl: " ++ refused_text e ++ 10 ∷ []
+told_of dumps Unread = codes "dpl: cannot read" ++ 10 ∷ []
+
+-- help and the version are what was asked for; every other command line without settings is a mistake, or memory ran out
+abbrev pub HasLineStatus : LineFault → ℕ → Type 0
+HasLineStatus (Line e) status = ((kind_of e ≡ DisplayHelp) ⊎ (kind_of e ≡ DisplayVersion) → status ≡ 0)
+    × (kind_of e ≢ DisplayHelp → kind_of e ≢ DisplayVersion → status ≡ 5)
+HasLineStatus Value status = status ≡ 5
+HasLineStatus LineMemory status = status ≡ 3

@@ -1,100 +1,91 @@
-// dpl: reads a text from standard input and prints what it means.
-// What it stands on is the public call `run_text` of dpl_run, whose contract is the theorem.
+// dpl: runs a text that a file or standard input holds, and prints what it means.
+// What it does stands in `program`, over any reader and any writers; its theorem is that of dpl_run's `run_text`.
 #![tactic(auto)]
 
-ghost use Rattle.std.specs.Prelude.{◌≡◌, false, take, IfOk, IfSome};
-ghost use Rattle.dpl.specs.Statuses.{status_of};
+ghost use Rattle.dpl_run.specs.Settings.{IsCount};
 
+mod ended;
+mod explain;
+mod input;
+mod line;
+mod program;
 #[cfg(test)]
 mod tests;
 
-use dpl_run::{Config, Maps, OpenGate, Outcome, Plain, Refused, run_text};
-use std::alloc::Global;
+use crate::ended::{Ended, status_of, unread};
+use crate::line::{USAGE, tell_line};
+use crate::program::{program, tell};
+use dpl_run::{Plain, Refused};
+use dpl_settings::{LineFault, Settings, settings};
+use std::alloc::{AllocError, Global};
 use std::env;
-use std::io::{self, ErrorKind, Read, Write};
+use std::fs::File;
+use std::io::{ErrorKind, IsTerminal};
 use std::process::ExitCode;
-
-/// The greatest length of a text, in bytes.
-const LONGEST_TEXT: u64 = 1048576;
-
-/// The statuses of a process that ends without a run: out of memory, standard input can't be read, and there are
-/// arguments.
-const OUT_OF_MEMORY: u8 = 3;
-
-const CANNOT_READ: u8 = 4;
-
-const USAGE: u8 = 5;
 
 fn main(rt: HostRuntime) -> ExitCode {
     ExitCode::from(command_line(&rt))
 }
 
-// The program takes no arguments.
+// The words of the command line. One that isn't UTF-8 is a mistake.
 fn command_line(rt: &HostRuntime) -> u8 {
     match env::args(rt) {
-        Ok(arguments) if arguments.len() <= 1 => {
-            run_input(rt, rt.stdin(), &mut Plain::new(rt.stdout()))
-        }
-        Err(e) if e.kind() == ErrorKind::OutOfMemory => out_of_memory(rt),
-        _ => {
-            let _ = eprintln!(rt; "usage: dpl < PROGRAM");
+        Ok(arguments) => match arguments.collect::<Vec<String>>(rt.alloc()) {
+            Ok(texts) => by_words(rt, &texts),
+            Err(_) => tell_line(rt, &LineFault::Memory),
+        },
+        Err(e) if e.kind() == ErrorKind::OutOfMemory => tell_line(rt, &LineFault::Memory),
+        Err(_) => {
+            let _ = rt.eprintln("error: an argument is not UTF-8");
             USAGE
         }
     }
 }
 
-// Tells on standard error that memory ran out.
-fn out_of_memory(rt: &HostRuntime) -> u8 {
-    let _ = eprintln!(rt; "dpl: {}", Refused::Memory);
-    OUT_OF_MEMORY
-}
-
-// Runs the text that is read. Of an input that can't be read to its end nothing is run.
-fn run_input<I: Read + Drop, W: Write>(rt: &HostRuntime, input: I, out: &mut Plain<W>) -> u8
-    requires { out.old.failed ≡ false }
-{
-    match read_text(rt.alloc(), input) {
-        Ok(text) => run_bytes(rt, &text, out),
-        Err(e) if e.kind() == ErrorKind::OutOfMemory => out_of_memory(rt),
-        Err(_) => {
-            let _ = eprintln!(rt; "dpl: cannot read");
-            CANNOT_READ
-        }
+// The texts, borrowed.
+fn borrowed(alloc: Global, texts: &[String]) -> Result<Vec<&str>, AllocError> {
+    let mut words = Vec::new(alloc);
+    for text in texts {
+        words.push(text.as_str())?;
     }
+    Ok(words)
 }
 
-// Reads an input to its end, or to one byte past the longest text, by which a longer one is told from it.
-fn read_text<I: Read + Drop>(alloc: Global, input: I) -> io::Result<Vec<u8>>
-    ensures { IfOk result (λ text. IfSome (I.remaining input) (λ bytes. text.items ≡ take 1048577 bytes)) }
-{
-    let mut text = Vec::new(alloc);
-    input.take(LONGEST_TEXT + 1).read_to_end(&mut text)?;
-    Ok(text)
-}
-
-// Runs the text on one locale, with the budget and the tries that are the default.
-fn run_bytes<W: Write>(rt: &HostRuntime, text: &[u8], out: &mut Plain<W>) -> u8
-    requires { out.old.failed ≡ false }
-{
-    let Ok(config) = Config::new(1, 16777216, 100000000, [1, 1], [1, 1, 1], Maps::AsIs) else {
-        return USAGE;
+// What the words ask for.
+fn by_words(rt: &HostRuntime, texts: &[String]) -> u8 {
+    let Ok(words) = borrowed(rt.alloc(), texts) else {
+        return tell_line(rt, &LineFault::Memory);
     };
-    let ended = run_text(rt, rt.alloc(), text, &[], &config, &OpenGate, out);
-    if let Err(refused) = &ended {
-        let _ = eprintln!(rt; "dpl: {refused}");
+    match settings(rt.alloc(), &words) {
+        Ok(asked) => by_settings(rt, &asked),
+        Err(fault) => tell_line(rt, &fault),
     }
-    status_of(&ended)
 }
 
-// The status by which the process tells what a run came to.
-fn status_of(ended: &Result<Outcome, Refused>) -> u8
-    ensures { result ≡ status_of ended.now }
+// The program, over the file or standard input, and over both outputs.
+fn by_settings(rt: &HostRuntime, asked: &Settings<'_>) -> u8
+    requires { IsCount asked.now.budget }
 {
-    match ended {
-        Ok(Outcome::Done(_)) => 0,
-        Ok(Outcome::Stopped(_)) => 1,
-        Ok(Outcome::Rejected(_)) => 2,
-        Err(Refused::Memory) => 3,
-        Err(Refused::Writer) => 4,
+    let shown = rt.stderr().is_terminal();
+    let mut out = Plain::new(rt.stdout());
+    let mut errors = Plain::new(rt.stderr());
+    match asked.file {
+        Some(path) if path != "-" => match File::open(rt, path) {
+            Ok(file) => program(rt, rt.alloc(), file, asked, shown, &mut out, &mut errors),
+            Err(e) => {
+                let ended = unread(&e);
+                let told = tell(rt.alloc(), &ended, false, &mut errors);
+                status_of(&ended, &told)
+            }
+        },
+        _ => program(
+            rt,
+            rt.alloc(),
+            rt.stdin(),
+            asked,
+            shown,
+            &mut out,
+            &mut errors,
+        ),
     }
 }

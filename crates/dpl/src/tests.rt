@@ -1,14 +1,20 @@
 // Texts through `run_text`: what each writes, and what it leaves.
-// The bytes are those of the language's worked examples.
+// The bytes are those of the language's worked examples, and of its rules.
 
+mod closed;
+mod explaining;
 mod growths;
 mod input;
-mod layers;
+mod lines;
 mod long;
 mod messages;
+mod scalars;
+mod sets;
 
-use dpl_run::{Config, ConfigFault, Maps, OpenGate, Outcome, Plain, Refused, run_text};
-use dpl_syntax::Value;
+use dpl_range::Range;
+use dpl_run::{
+    Config, ConfigFault, Maps, OpenGate, Outcome, Plain, RangeWord, Refused, Value, dump, run_text,
+};
 use std::process::Abort;
 use std::test::Fail;
 
@@ -49,8 +55,8 @@ const ROWS: [(&str, u64, &str); 34] = [
     ("writeln(1) 'a", 9, "! L2 at 1:12\n"),
     ("/* a /* b */ */ writeln(0x10); // 16", 9, "16\n"),
     ("var size = 1_0; writeln(size);", 9, "10\n"),
-    ("writeln('a');", 9, "! P1 at 1:9\n"),
-    ("forall i in 1..<8 do i = 1;", 9, "! P1 at 1:14\n"),
+    ("writeln('a');", 9, "a\n"),
+    ("forall i in 1..<8 do i = 1;", 9, "! C4 at 1:22\n"),
     ("var x = 9223372036854775808;", 9, "! L3 at 1:9\n"),
     ("writeln(1", 9, "! P1 at 1:10\n"),
     (
@@ -117,11 +123,27 @@ const ROWS: [(&str, u64, &str); 34] = [
     ("writeln(1);\nwriteln(1, );", 9, "! P1 at 2:12\n"),
 ];
 
-fn written(rt: &HostRuntime, text: &[u8], budget: u64) -> Result<Vec<u8>, Fail> {
+// What is written of a text by these sets and this budget.
+fn written_by(rt: &HostRuntime, text: &[u8], sets: &[&str], budget: u64) -> Result<Vec<u8>, Fail> {
     let config = Config::new(1, budget, 9, [1, 1], [1, 1, 1], Maps::AsIs)?;
     let mut out = Plain::new(Vec::new(rt.alloc()));
-    run_text(rt, rt.alloc(), text, &[], &config, &OpenGate, &mut out)?;
+    run_text(rt, rt.alloc(), text, sets, &config, &OpenGate, &mut out)?;
     Ok(out.writer)
+}
+
+// What is written of a text without sets.
+fn written(rt: &HostRuntime, text: &[u8], budget: u64) -> Result<Vec<u8>, Fail> {
+    written_by(rt, text, &[], budget)
+}
+
+// The first text that doesn't write its bytes, with no sets and a budget of 1000 turns.
+fn first_wrong<'a>(rt: &HostRuntime, rows: &[(&'a str, &str)]) -> Result<Option<&'a str>, Fail> {
+    for (text, bytes) in rows {
+        if written(rt, text.as_bytes(), 1000)?.as_slice() != bytes.as_bytes() {
+            return Ok(Some(*text));
+        }
+    }
+    Ok(None)
 }
 
 #[test]
@@ -156,37 +178,47 @@ fn nesting(rt: HostRuntime) -> Result<(), Fail> {
     Ok(())
 }
 
+const LEAVES: &str = "\
+var n = 5; const yes = n > 4; var r = 1..9 by -2; { var hidden = 1; }
+for i in 1..3 do n += i; config const c = 3; writeln(n);";
+
+// The variables of the top level, in order of declaration, and their dump, in which ranges have no line.
 #[test]
 fn leaves(rt: HostRuntime) -> Result<(), Fail> {
     let config = Config::new(1, 9, 9, [1, 1], [1, 1, 1], Maps::AsIs)?;
     let mut out = Plain::new(Vec::new(rt.alloc()));
-    match run_text(
+    let text = LEAVES.as_bytes();
+    let Outcome::Done(left) = run_text(
         &rt,
         rt.alloc(),
-        SQUARES.as_bytes(),
-        &[],
+        text,
+        &["c=-8"],
         &config,
         &OpenGate,
         &mut out,
-    )? {
-        Outcome::Done(left) => {
-            assert_eq!(rt; left.variables().len(), 1);
-            assert_eq!(rt; left.get(b"s"), Some(Value::Int(84)));
-            assert_eq!(rt; left.get(b"i"), None);
-        }
-        _ => assert!(rt; false, "the program runs to its end"),
-    }
-    let mut out = Plain::new(Vec::new(rt.alloc()));
-    run_text(
-        &rt,
-        rt.alloc(),
-        SQUARES.as_bytes(),
-        &["s=7"],
-        &config,
-        &OpenGate,
-        &mut out,
-    )?;
-    assert_eq!(rt; out.writer.as_slice(), b"! C14\n".as_slice());
+    )?
+    else {
+        assert!(rt; false, "the program runs to its end");
+        return Ok(());
+    };
+    assert_eq!(rt; left.variables().len(), 4);
+    assert_eq!(rt; left.get(b"n"), Some(Value::Int(11)));
+    assert_eq!(rt; left.get(b"yes"), Some(Value::Bool(true)));
+    let range = Range::new(1, 9, -2)?;
+    let strided = true;
+    assert_eq!(rt;
+        left.get(b"r"),
+        Some(Value::Range(RangeWord { range, strided }))
+    );
+    assert_eq!(rt; left.get(b"c"), Some(Value::Int(-8)));
+    assert_eq!(rt; left.get(b"hidden"), None);
+    assert_eq!(rt; left.get(b"i"), None);
+    let mut lines = Plain::new(Vec::new(rt.alloc()));
+    dump(rt.alloc(), &left, &mut lines)?;
+    assert_eq!(rt;
+        lines.writer.as_slice(),
+        b"n = 11\nyes = true\nc = -8\n".as_slice()
+    );
     Ok(())
 }
 

@@ -1,22 +1,115 @@
--- Variables that are collected one by one, in the order of their slots.
--- Those so far, and those that are left, are all.
-use Rattle.std.proofs.Common.{◌≡◌, ℕ, suc, ◌+◌, List, [], ◌∷◌, ◌++◌, Some, map, drop, sym, ap, ◌∙◌, slice_get, append_assoc, arith}
-use Rattle.std.proofs.lemmas.List.{map-append}
-use Rattle.dpl_range.proofs.Lists.{drop-slice_get}
-use Rattle.dpl_meaning.specs.Words.{Words, int_at}
-use Rattle.dpl_meaning.specs.Resolved.{frame_at, entry_at, numbered}
-use Rattle.dpl_run.specs.declared.left.Variable.{Variable}
-use Rattle.dpl_run.specs.Leaving.{entry_of}
+-- What is left at a program's end: the names of its top level, each with its leaf, are what is in sight there.
+-- A scope has its latest declaration first, and names are told in order.
+use Rattle.std.proofs.Common.{◌≡◌, ℕ, suc, ◌+◌, Bool, true, false, List, [], ◌∷◌, ◌++◌, map, length, Option, Some, None, is_some, refl, sym, ap, ◌∙◌, subst, append_assoc}
+use Rattle.std.specs.Prelude.{bytes_eq, if◌then◌else◌}
+use Rattle.std.proofs.lemmas.List.{map-append, append-nil}
+use Rattle.std.proofs.lemmas.Slice.Eq.{bytes_eq-Decides}
+use Rattle.dpl_language.specs.Tree.{StmtTree, Nothing, Declare, Assigned, Call, Write, Block, If, While, For, Forall, Coforall, On, Stmts, NoStmts, Then}
+use Rattle.dpl_language.specs.Names.{Text}
+use Rattle.dpl_rules.specs.Sights.{Declared, Scope, Scopes, find, lookup}
+use Rattle.dpl_rules.specs.Loops.{behind}
+use Rattle.dpl_rules.specs.Breaches.{top}
+use Rattle.dpl_rules.specs.Sound.{behind_all}
+use Rattle.dpl_scopes.specs.Slots.{place_in}
+use Rattle.dpl_words.specs.Resolved.{Bound, outermost}
+use Rattle.dpl_elaborator.specs.Leaves.{kind_by, leaf_by}
+use Rattle.dpl_elaborator.specs.Sights.{bound_in, bound_at, frame_from, sight_of, IsPlainScope, ArePlainScopes}
+use Rattle.dpl_run.specs.Names.{declared_by, declared_names}
 
-pub collected-more : (names : List (List ℕ)) (words : Words) (k : ℕ) (x : List ℕ) (done now : List Variable) (v : Variable) → slice_get names k ≡ Some x → now ≡ done ++ v ∷ []
-    → entry_of v ≡ entry_at words (record { text = x; leaf = int_at k })
-    → map entry_of now ++ frame_at words (numbered (k + 1) (drop (k + 1) names)) ≡ map entry_of done ++ frame_at words (numbered k (drop k names))
-collected-more names words k x done now v at pushed is =
-    let one : k + 1 ≡ suc k = omega arith in
-    let left = frame_at words (numbered (suc k) (drop (k + 1) names)) in
-    ap (λ n. map entry_of now ++ frame_at words (numbered n (drop (k + 1) names))) one
-    ∙ ap (λ vs. map entry_of vs ++ left) pushed
-    ∙ ap (λ es. es ++ left) (map-append entry_of done (v ∷ []))
-    ∙ append_assoc (map entry_of done) (entry_of v ∷ []) left
-    ∙ ap (λ e. map entry_of done ++ e ∷ left) is
-    ∙ ap (λ xs. map entry_of done ++ frame_at words (numbered k xs)) (sym (drop-slice_get names k x at))
+-- the names of a scope, in order
+abbrev names_in : Scope → List Text
+names_in [] = []
+names_in (d ∷ ds) = names_in ds ++ d.origin.name ∷ []
+
+-- ---- no scope is opened at the top
+record Grown (before : Scope) (names : List Text) (ss : Scopes) : Type 0 where
+  scope : Scope
+  one : ss ≡ scope ∷ []
+  named : names_in scope ≡ names_in before ++ names
+
+stays : (s : Scope) → Grown s [] (s ∷ [])
+stays s = record { scope = s; one = refl; named = sym (append-nil (names_in s)) }
+
+behind-grown : (s : Scope) (t : StmtTree Text) → Grown s (declared_by t) (behind (s ∷ []) t)
+behind-grown s (Nothing at) = stays s
+behind-grown s (Declare d) = record { scope = _; one = refl; named = refl }
+behind-grown s (Assigned target sign item semicolon) = stays s
+behind-grown s (Call x dot call semicolon) = stays s
+behind-grown s (Write w) = stays s
+behind-grown s (Block from ts upto) = stays s
+behind-grown s (If at e first second) = stays s
+behind-grown s (While at e body) = stays s
+behind-grown s (For at xs word item body) = stays s
+behind-grown s (Forall at xs word item intents body) = stays s
+behind-grown s (Coforall at xs word item intents body) = stays s
+behind-grown s (On at e body) = stays s
+
+behind_all-grown : (s : Scope) (ts : Stmts Text) → Grown s (declared_names ts) (behind_all (s ∷ []) ts)
+behind_all-grown s NoStmts = stays s
+behind_all-grown s (Then t rest) =
+    let first = behind-grown s t in
+    let more = behind_all-grown first.scope rest in
+    record {
+      scope = more.scope;
+      one = ap (λ ss. behind_all ss rest) first.one ∙ more.one;
+      named = more.named ∙ ap (λ xs. xs ++ declared_names rest) first.named ∙ append_assoc (names_in s) (declared_by t) (declared_names rest);
+    }
+
+-- ---- a scope's names with their leaves
+-- a name that is found in a scope isn't the name of one more declaration
+abbrev AreOther : Text → List Text → Type 0
+AreOther y [] = Unit {0}
+AreOther y (x ∷ xs) = (bytes_eq x y ≡ false) × AreOther y xs
+
+AreOther-append : (y : Text) (xs : List Text) (x : Text) → AreOther y xs → bytes_eq x y ≡ false → AreOther y (xs ++ x ∷ [])
+AreOther-append y [] x h e = (e, tt)
+AreOther-append y (z ∷ xs) x h e = (h.0, AreOther-append y xs x h.1 e)
+
+same_bytes : (x : Text) → bytes_eq x x ≡ true
+same_bytes x = (bytes_eq-Decides x x).1 refl
+
+differs : (x y : Text) (b : Bool) → bytes_eq x y ≡ b → (x ≡ y → ⊥) → bytes_eq x y ≡ false
+differs x y true e n = absurd (n ((bytes_eq-Decides x y).0 e))
+differs x y false e n = e
+
+names-other : (y : Text) (ds : Scope) → find ds y ≡ None → AreOther y (names_in ds)
+names-other y [] e = tt
+names-other y (d ∷ ds) e = by (bytes_eq y d.origin.name) refl e (names-other y ds)
+  where
+    by : (b : Bool) → bytes_eq y d.origin.name ≡ b → (if b then Some d else find ds y) ≡ None → (find ds y ≡ None → AreOther y (names_in ds)) → AreOther y (names_in ds ++ d.origin.name ∷ [])
+    by true f e others = absurd cc
+    by false f e others =
+        AreOther-append y (names_in ds) d.origin.name (others e)
+        (differs d.origin.name y (bytes_eq d.origin.name y) refl (λ same. (let clash : true ≡ false = sym (same_bytes y) ∙ ap (bytes_eq y) (sym same) ∙ f in cc)))
+
+-- the leaf of a name that one more declaration has not
+bound-later : (d : Declared) (ds : Scope) (x : Text) → bytes_eq x d.origin.name ≡ false → bound_in ((d ∷ ds) ∷ []) x ≡ bound_in (ds ∷ []) x
+bound-later d ds x e = rw e refl
+
+bounds-later : (d : Declared) (ds : Scope) (xs : List Text) → AreOther d.origin.name xs → map (bound_in ((d ∷ ds) ∷ [])) xs ≡ map (bound_in (ds ∷ [])) xs
+bounds-later d ds [] h = refl
+bounds-later d ds (x ∷ xs) h = ap (λ b. b ∷ map (bound_in ((d ∷ ds) ∷ [])) xs) (bound-later d ds x h.0) ∙ ap (λ bs. bound_in (ds ∷ []) x ∷ bs) (bounds-later d ds xs h.1)
+
+bound-latest : (d : Declared) (ds : Scope) → bound_in ((d ∷ ds) ∷ []) d.origin.name ≡ bound_at d (length ds + 1)
+bound-latest d ds = rw (same_bytes d.origin.name) refl
+
+frame-names : (ds : Scope) → IsPlainScope ds → frame_from 1 ds ≡ map (bound_in (ds ∷ [])) (names_in ds)
+frame-names [] h = refl
+frame-names (d ∷ ds) h =
+    ap (λ bs. bs ++ bound_at d (length ds + 1) ∷ []) (frame-names ds h.2 ∙ sym (bounds-later d ds (names_in ds) (names-other d.origin.name ds h.1)))
+    ∙ ap (λ b. map (bound_in ((d ∷ ds) ∷ [])) (names_in ds) ++ b ∷ []) (sym (bound-latest d ds))
+    ∙ sym (map-append (bound_in ((d ∷ ds) ∷ [])) (names_in ds) (d.origin.name ∷ []))
+
+-- ---- what is in sight at the end
+outermost-one : (ss : Scopes) (s : Scope) (names : List Text) → ss ≡ s ∷ [] → names_in s ≡ names → ArePlainScopes ss → outermost (sight_of ss) ≡ map (bound_in ss) names
+outermost-one ss s names one named plain =
+    let scope : IsPlainScope s = (subst ArePlainScopes one plain).0 in
+    ap (λ ss. outermost (sight_of ss)) one
+    ∙ frame-names s scope
+    ∙ ap (map (bound_in (s ∷ []))) named
+    ∙ ap (λ ss. map (bound_in ss) names) (sym one)
+
+pub outermost-names : (ts : Stmts Text) → ArePlainScopes (behind_all top ts) → outermost (sight_of (behind_all top ts)) ≡ map (bound_in (behind_all top ts)) (declared_names ts)
+outermost-names ts plain =
+    let g = behind_all-grown [] ts in
+    outermost-one (behind_all top ts) g.scope (declared_names ts) g.one g.named plain

@@ -1,7 +1,10 @@
-pub mod Taking
-pub mod Turning
-pub mod Collecting
+-- Where a text ends, what a writer took of bytes, and what is left at a program's end.
 pub mod LineEnds
+pub mod Collecting
+pub mod Taking
+-- A run of a plan is what its program means, and each text comes to one outcome.
+pub mod Planned
+pub mod Ends
 pub mod Meaning
 pub mod OneOutcome
 pub mod Stages

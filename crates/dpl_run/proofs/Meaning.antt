@@ -1,62 +1,153 @@
--- A run over words is the meaning of what the checked tree spells.
--- From the agreement of words with names, and from what the check gives.
-use Rattle.std.proofs.Common.{◌≡◌, ℕ, List, [], ◌∷◌, length, map, refl, sym, ap, ◌∙◌, subst}
-use Rattle.dpl_syntax.specs.declared.fault.Fault.{Fault}
-use Rattle.dpl_syntax.specs.Tree.{ProgramTree}
-use Rattle.dpl_meaning.specs.Outcome.{Outcome as Meant, Done, Stop}
-use Rattle.dpl_meaning.specs.Meaning.{exec_all}
-use Rattle.dpl_meaning.specs.Names.{Store, Frame}
-use Rattle.dpl_meaning.specs.Program.{meaning, written, top_level}
-use Rattle.dpl_meaning.specs.Words.{Words, by_word}
-use Rattle.dpl_meaning.specs.Scopes.{after_all}
-use Rattle.dpl_meaning.specs.Resolved.{IsResolved, by_sight, lowered_program, numbered, declared_names, frame_at, store_at, Stands}
-use Rattle.dpl_meaning.specs.Agreement.{EndsAlike}
-use Rattle.dpl_meaning.proofs.Tops.{after_all-top_level}
-use Rattle.dpl_meaning.proofs.Whole.{meaning-alike}
-use Rattle.dpl_typed.specs.declared.tree.Step.{Step}
-use Rattle.dpl_typed.specs.Typed.{step_view}
-use Rattle.dpl_run.specs.declared.outcome.Outcome.TheVariants.{Done as DoneWith, Stopped}
+-- A run of a program's plan over words is what the program means.
+-- From the agreement of words with names, from lowering, and from what the planner gives.
+use Rattle.std.proofs.Common.{◌≡◌, ℕ, List, [], ◌∷◌, map, Option, Some, None, refl, sym, ap, ◌∙◌, subst}
+use Rattle.std.specs.Prelude.{true, option_map}
+use Rattle.dpl_history.specs.declared.history.Event.{Event}
+use Rattle.dpl_language.specs.Tree.{ProgramTree, IntKind, BoolKind, Kind}
+use Rattle.dpl_language.specs.Values.{Fault}
+use Rattle.dpl_language.specs.Outcome.{Deeds, no_deeds, Outcome as Meant, Done, Stop, Waits}
+use Rattle.dpl_language.specs.Environment.{Limits}
+use Rattle.dpl_language.specs.Statements.{exec_all}
+use Rattle.dpl_language.specs.Names.{Text, Frame, State, paired}
+use Rattle.dpl_language.specs.Program.{settled, meaning, written, left, top_level}
+use Rattle.dpl_language.specs.Together.{Happened}
+use Rattle.dpl_language.specs.Renamed.{renamed_program, renamed_stmts}
+use Rattle.dpl_language.specs.Scopes.{fits_all, after_all}
+use Rattle.dpl_language.specs.Agreement.{EndsAlike}
+use Rattle.dpl_language.proofs.ProgramsAlike.{run_from}
+use Rattle.dpl_rules.specs.Types.{ValueType, Scalar, Range, Domain, Array, Promoted, Tuple, Locale, AllLocales, Cell, scalar_of}
+use Rattle.dpl_rules.specs.Sights.{Scopes, lookup, type_declared}
+use Rattle.dpl_rules.specs.Sound.{behind_all, sets_fit}
+use Rattle.dpl_rules.specs.Breaches.{top}
+use Rattle.dpl_lowered.proofs.Runs.{exec_all-lowered}
+use Rattle.dpl_words.specs.Words.{LeafKind, IntLeaf, TruthLeaf, RangeLeaf, Words, known_leaf, set_at, given_as, by_word}
+use Rattle.dpl_words.specs.Resolved.{text_of, leaf_of, Start, first_words, first_seen, resolving, frame_in, outermost, left_in, StandsFor}
+use Rattle.dpl_words.proofs.Known.{words-known}
+use Rattle.dpl_words.proofs.WordsAgree.{meaning-words, left-words}
+use Rattle.dpl_nodes.specs.declared.fault.Fault.{Fault as FaultNode}
+use Rattle.dpl_nodes.specs.declared.step.Step.{Step}
+use Rattle.dpl_nodes.specs.Steps.{steps_of}
+use Rattle.dpl_nodes.specs.Faults.{fault_view}
+use Rattle.dpl_scopes.specs.Slots.{slot_in}
+use Rattle.dpl_says.specs.Given.{scalar_by, given, words_by}
+use Rattle.dpl_says.specs.Says.{run_of}
+use Rattle.dpl_given.specs.Words.{words_in}
+use Rattle.dpl_given.proofs.Alike.{kind_as, given-alike}
+use Rattle.dpl_elaborator.specs.Leaves.{plain_kind, kind_by, kind_in}
+use Rattle.dpl_elaborator.specs.Sights.{bound_in, sight_of, ArePlainScopes}
+use Rattle.dpl_run.specs.Plans.{IsPlan, IsGivenAlike}
+use Rattle.dpl_steps.specs.Runs.{having_printed}
+use Rattle.dpl_run.specs.declared.outcome.Outcome.{Outcome}
+use Rattle.dpl_run.specs.declared.outcome.Outcome.TheVariants.{Done as DoneWith, Stopped, Rejected}
 use Rattle.dpl_run.specs.Headline.{EndsAs, Means}
+use Rattle.dpl_run.specs.Names.{declared_names}
+use Rattle.dpl_run.specs.Runs.{RanTo}
+use Rattle.dpl_run.proofs.Collecting.{outermost-names}
 
 -- ---- the ends of the two runs
-done-alike : (R : Store → Words → Type 0) (o : Meant Store) (r : Meant (Words)) (values : Words) (out : List ℕ) → EndsAlike R o r → r ≡ Done values out → (s : Store) × (o ≡ Done s out) × R s values
-done-alike R (Done s out0) r values out al e =
-    let both : Done al.0 out0 ≡ Done values out = sym al.2 ∙ e in
-    let same : al.0 ≡ values = cc in
-    (s, cc, subst (R s) same al.1)
-done-alike R (Stop f out0) r values out al e = absurd (let both : Stop f out0 ≡ Done values out = sym al ∙ e in cc)
+done-alike : (R : State → Words → Type 0) (o : Meant State) (r : Meant Words) (last : Words) (done : Deeds) → EndsAlike R o r → r ≡ Done last done → (s : State) × (o ≡ Done s done)
+done-alike R (Done s did) r last done al e =
+    let both : Done al.0 did ≡ Done last done = sym al.2 ∙ e in
+    let same : did ≡ done = cc in
+    (s, ap (Done s) same)
+done-alike R (Stop f did) r last done al e = absurd (let both : Stop f did ≡ Done last done = sym al ∙ e in cc)
+done-alike R (Waits at c op did) r last done al e = absurd (let both : Waits at c op did ≡ Done last done = sym al ∙ e in cc)
 
-stop-alike : (R : Store → Words → Type 0) (o : Meant Store) (r : Meant (Words)) (f : Fault) (out : List ℕ) → EndsAlike R o r → r ≡ Stop f out → o ≡ Stop f out
-stop-alike R (Done s out0) r f out al e = absurd (let both : Done al.0 out0 ≡ Stop f out = sym al.2 ∙ e in cc)
-stop-alike R (Stop g out0) r f out al e =
-    let both : Stop g out0 ≡ Stop f out = sym al ∙ e in
+stop-alike : (R : State → Words → Type 0) (o : Meant State) (r : Meant Words) (f : Fault) (done : Deeds) → EndsAlike R o r → r ≡ Stop f done → o ≡ Stop f done
+stop-alike R (Done s did) r f done al e = absurd (let both : Done al.0 did ≡ Stop f done = sym al.2 ∙ e in cc)
+stop-alike R (Stop g did) r f done al e =
+    let both : Stop g did ≡ Stop f done = sym al ∙ e in
     let fault : g ≡ f = cc in
-    let text : out0 ≡ out = cc in
-    ap (λ h. Stop h out0) fault ∙ ap (Stop f) text
+    let same : did ≡ done = cc in
+    ap (λ h. Stop h did) fault ∙ ap (Stop f) same
+stop-alike R (Waits at c op did) r f done al e = absurd (let both : Waits at c op did ≡ Stop f done = sym al ∙ e in cc)
 
--- ---- what a run knows: it walks the statements `steps` at the limit `limit`, from the words `words` and no output
-module _ (t : ProgramTree (List ℕ)) (budget limit n : ℕ) (steps : List Step) (words : Words) (none : List ℕ) (fit : IsResolved n t)
-    (steps_are : map step_view steps ≡ lowered_program t) (limit_is : limit ≡ budget) (len : length words ≡ n) (empty : none ≡ []) where
-  runs : exec_all by_word (map step_view steps) limit words none ≡ exec_all by_word (lowered_program t) budget words []
-  runs =
-      ap (λ ts. exec_all by_word ts limit words none) steps_are
-      ∙ ap (λ m. exec_all by_word (lowered_program t) m words none) limit_is
-      ∙ ap (exec_all by_word (lowered_program t) budget words) empty
+-- ---- what the sets give
+scalar-kind : (t : ValueType) (k : LeafKind) → plain_kind t ≡ Some k → scalar_of t ≡ kind_as k
+scalar-kind (Scalar IntKind) k e =
+    let is : IntLeaf ≡ k = cc in
+    ap kind_as is
+scalar-kind (Scalar BoolKind) k e =
+    let is : TruthLeaf ≡ k = cc in
+    ap kind_as is
+scalar-kind (Range strided) k e =
+    let is : RangeLeaf ≡ k = cc in
+    ap kind_as is
+scalar-kind (Domain rank strided) k e = absurd cc
+scalar-kind (Array kind over) k e = absurd cc
+scalar-kind (Promoted kind over) k e = absurd cc
+scalar-kind (Tuple rank) k e = absurd cc
+scalar-kind Locale k e = absurd cc
+scalar-kind AllLocales k e = absurd cc
+scalar-kind (Cell kind) k e = absurd cc
 
-  alike : (r : Meant Words) → exec_all by_word (map step_view steps) limit words none ≡ r → EndsAlike (Stands n (after_all by_sight t.stmts ([] ∷ []))) (meaning t budget) r
-  alike r e = subst (EndsAlike _ (meaning t budget)) (sym runs ∙ e) (meaning-alike t budget n words fit len)
+declared-kind : (t : Option ValueType) (k : LeafKind) → kind_by t ≡ Some k → scalar_by t ≡ kind_as k
+declared-kind None k e = absurd cc
+declared-kind (Some t) k e = scalar-kind t k e
 
-  pub means-done : (last : Words) (out : List ℕ) (left : Frame) → exec_all by_word (map step_view steps) limit words none ≡ Done last out
-      → left ≡ frame_at last (numbered 0 (declared_names t.stmts)) → Means t budget (DoneWith left) out
-  means-done last out left e are =
-      let d = done-alike _ (meaning t budget) (Done last out) last out (alike (Done last out) e) refl in
-      let store : top_level d.0 ≡ frame_at last (numbered 0 (declared_names t.stmts)) = ap top_level (d.2.values ∙ ap (store_at last) (after_all-top_level t.stmts [])) in
-      record {
-        writes = ap written (sym d.1);
-        ends = subst (λ o. EndsAs o (DoneWith left)) (sym d.1) (are ∙ sym store);
-      }
+-- A plan of a program that the sets fit, run from its first words.
+module _ (t : ProgramTree Text) (sets : List (List ℕ)) (slots : ℕ) (scopes : Scopes) (steps : List Step) (plan : IsPlan t slots scopes steps) (fit : sets_fit (behind_all top t.stmts) [] sets ≡ true) where
+  abbrev pub start : Start
+  start = record { slots = slots; texts = given t sets; words = words_in scopes sets }
 
-  pub means-stop : (f : Fault) (out said : List ℕ) → exec_all by_word (map step_view steps) limit words none ≡ Stop f out → said ≡ written {S = Store} (Stop f out) → Means t budget (Stopped f) said
-  means-stop f out said e says =
-      let d = stop-alike _ (meaning t budget) (Stop f out) f out (alike (Stop f out) e) refl in
-      record { writes = says ∙ ap written (sym d); ends = subst (λ o. EndsAs o (Stopped f)) (sym d) refl }
+  alike : IsGivenAlike scopes start
+  alike x k slot kind at =
+      ap (λ ss. paired x (words_by ss sets)) (sym plan.behind)
+      ∙ given-alike scopes x k slot (declared-kind (type_declared (lookup scopes x)) k kind) at [] sets (ap (λ ss. sets_fit ss [] sets) plan.behind ∙ fit)
+
+  fits : fits_all (resolving start) plan.resolved.stmts first_seen
+  fits = plan.fits start refl alike
+
+  module _ (limits : Limits) where
+    runs : exec_all limits by_word (steps_of steps) (first_words start) no_deeds ≡ exec_all limits by_word (renamed_stmts leaf_of plan.resolved.stmts) (first_words start) no_deeds
+    runs =
+        ap (λ ts. exec_all limits by_word ts (first_words start) no_deeds) (sym plan.nodes)
+        ∙ exec_all-lowered limits by_word known_leaf words-known (renamed_stmts leaf_of plan.resolved.stmts) (first_words start) no_deeds
+
+    -- a run over words that ends so is the run of the resolved program
+    by_plan : (o : Meant Words) → exec_all limits by_word (steps_of steps) (first_words start) no_deeds ≡ o → run_from limits by_word (renamed_program leaf_of plan.resolved) (first_words start) ≡ settled o
+    by_plan o e = ap settled (sym runs ∙ e)
+
+    ends : (histories : List (List Event)) → EndsAlike (StandsFor start (after_all (resolving start) plan.resolved.stmts first_seen)) (run_of t sets limits histories) (run_from limits by_word (renamed_program leaf_of plan.resolved) (first_words start))
+    ends histories =
+        subst (λ p. EndsAlike (StandsFor start (after_all (resolving start) plan.resolved.stmts first_seen)) (meaning p (given t sets) limits histories) (run_from limits by_word (renamed_program leaf_of plan.resolved) (first_words start)))
+        plan.text (meaning-words start limits plan.resolved histories fits)
+
+    -- what the names of the top level hold at the end
+    leaves : (histories : List (List Event)) (last : Words) (done : Deeds) → exec_all limits by_word (steps_of steps) (first_words start) no_deeds ≡ Done last done
+        → left (run_of t sets limits histories) ≡ Some (frame_in last (map (bound_in scopes) (declared_names t.stmts)))
+    leaves histories last done e =
+        ap (λ p. left (meaning p (given t sets) limits histories)) (sym plan.text)
+        ∙ left-words start limits plan.resolved histories fits
+        ∙ ap (left_in (after_all (resolving start) plan.resolved.stmts first_seen).frames) (by_plan (Done last done) e)
+        ∙ ap (λ fs. Some (frame_in last (outermost fs))) (plan.sight start ∙ ap sight_of plan.behind)
+        ∙ ap (λ bs. Some (frame_in last bs)) (outermost-names t.stmts (subst ArePlainScopes plan.behind plan.plain))
+        ∙ ap (λ ss. Some (frame_in last (map (bound_in ss) (declared_names t.stmts)))) (sym plan.behind)
+
+    means-done : (histories : List (List Event)) (last : Words) (out : List ℕ) (frame : Frame) → exec_all limits by_word (steps_of steps) (first_words start) no_deeds ≡ Done last (having_printed out no_deeds)
+        → frame ≡ frame_in last (map (bound_in scopes) (declared_names t.stmts)) → Means t sets limits histories (DoneWith frame) out
+    means-done histories last out frame e are =
+        let d = done-alike _ (run_of t sets limits histories) _ last (having_printed out no_deeds) (ends histories) (by_plan (Done last (having_printed out no_deeds)) e) in
+        let held : Some (top_level d.0.store) ≡ Some (frame_in last (map (bound_in scopes) (declared_names t.stmts))) = sym (ap left d.1) ∙ leaves histories last (having_printed out no_deeds) e in
+        let same : top_level d.0.store ≡ frame_in last (map (bound_in scopes) (declared_names t.stmts)) = cc in
+        record {
+          happened = subst (λ (o : Meant State). Happened o) (sym d.1) tt;
+          writes = ap written (sym d.1);
+          ends = subst (λ o. EndsAs o (DoneWith frame)) (sym d.1) (are ∙ sym same);
+        }
+
+    means-stop : (histories : List (List Event)) (fault : FaultNode) (out said : List ℕ) → exec_all limits by_word (steps_of steps) (first_words start) no_deeds ≡ Stop (fault_view fault) (having_printed out no_deeds)
+        → said ≡ written {S = Words} (Stop (fault_view fault) (having_printed out no_deeds)) → Means t sets limits histories (Stopped fault) said
+    means-stop histories fault out said e says =
+        let d = stop-alike _ (run_of t sets limits histories) _ (fault_view fault) (having_printed out no_deeds) (ends histories) (by_plan (Stop (fault_view fault) (having_printed out no_deeds)) e) in
+        record {
+          happened = subst (λ (o : Meant State). Happened o) (sym d) tt;
+          writes = says ∙ ap written (sym d);
+          ends = subst (λ o. EndsAs o (Stopped fault)) (sym d) refl;
+        }
+
+    -- how the run over words ended is how the program's run does
+    pub means-ran : (histories : List (List Event)) (o : Outcome) (said : List ℕ) → RanTo scopes t.stmts (exec_all limits by_word (steps_of steps) (first_words start) no_deeds) o said → Means t sets limits histories o said
+    means-ran histories (DoneWith frame) said ran = means-done histories ran.0 said frame ran.1 ran.2
+    means-ran histories (Stopped fault) said ran = means-stop histories fault ran.0 said ran.1 ran.2
+    means-ran histories (Rejected r) said ran = absurd ran

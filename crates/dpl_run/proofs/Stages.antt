@@ -1,61 +1,83 @@
--- The stages of a run, put together: what lexer, parser, checker and run give is what the text comes to.
+-- The stages of a run, put together: what lexer, parser, check and run give is what the text comes to.
 -- A stage that stops by a refusal tells the text's.
-use Rattle.std.proofs.Common.{◌≡◌, inl, inr, ℕ, List, sym, subst, refl, Option, Result, Ok, Err}
-use Rattle.std.specs.Prelude.{IfOk, OnOk}
+use Rattle.std.proofs.Common.{◌≡◌, inl, inr, ℕ, List, refl, sym, ap, subst, Option, Result, Ok, Err}
+use Rattle.std.specs.Prelude.{IfOk, IfErr, OnOk}
 use Rattle.std.specs.Io.KnownBytes.{Appends}
 use Rattle.dpl_syntax.specs.declared.token.Token.{Token}
 use Rattle.dpl_syntax.specs.declared.refusal.Refusal.{Refusal}
 use Rattle.dpl_syntax.specs.declared.stop.Stop.{Stop}
-use Rattle.dpl_syntax.specs.declared.stop.Stop.TheVariants.{Refused as RefusedStop, Memory}
+use Rattle.dpl_syntax.specs.declared.stop.Stop.TheVariants as stage
 use Rattle.dpl_syntax.specs.Text.{Lexes}
 use Rattle.dpl_syntax.specs.Stops.{Tells}
-use Rattle.dpl_syntax.specs.Tree.{ProgramTree}
-use Rattle.dpl_parse.specs.Theorem.{Spells, Refuses}
-use Rattle.dpl_check.specs.Breaches.{tree_refusal}
-use Rattle.dpl_check.specs.Stops.{Refuses as TreeRefuses}
-use Rattle.dpl_meaning.specs.Outcome.{Outcome as Meant, Done as DoneAt, Stop as StopAt}
-use Rattle.dpl_meaning.specs.Names.{Store}
-use Rattle.dpl_meaning.specs.Program.{meaning}
+use Rattle.dpl_history.specs.declared.history.Event.{Event}
+use Rattle.dpl_language.specs.Tree.{ProgramTree}
+use Rattle.dpl_language.specs.Environment.{Limits}
+use Rattle.dpl_language.specs.Outcome.{Outcome as Meant, Done as DoneAt, Stop as StopAt, Waits as WaitsAt}
+use Rattle.dpl_language.specs.Names.{Text, State}
+use Rattle.dpl_spelling.specs.Theorem.{Spells, Refuses}
+use Rattle.dpl_says.specs.Says.{run_of}
 use Rattle.dpl_run.specs.declared.outcome.Outcome.{Outcome}
 use Rattle.dpl_run.specs.declared.outcome.Outcome.TheVariants.{Done, Stopped, Rejected}
-use Rattle.dpl_run.specs.declared.refused.Refused.{Refused}
-use Rattle.dpl_run.proofs.OneOutcome.{one_outcome}
+use Rattle.dpl_run.specs.declared.refused.Refused.{Refused as RefusedRun}
+use Rattle.dpl_run.specs.declared.run.Ended.{Ended}
+use Rattle.dpl_run.specs.declared.short.Short.{Short}
+use Rattle.dpl_run.specs.declared.short.Short.TheVariants.{Refused, Memory, Unplanned}
 use Rattle.dpl_run.specs.Headline.{EndsAs, Means, IsProgram, IsRefused, ComesTo, ComesToOnly}
-use Rattle.dpl_run.specs.Refusing.{IsRejection, StopsAs}
+use Rattle.dpl_run.specs.Refusing.{IsCause, IsRejection, IsShortOf}
+use Rattle.dpl_run.proofs.OneOutcome.{one_outcome}
 
--- ---- a stage that stops
-pub lex-stops : (text : List ℕ) (sets : ℕ) (e : Stop) → Tells text e → StopsAs text sets e
-lex-stops text sets (RefusedStop r) told = inl told
-lex-stops text sets Memory told = tt
+module _ (text : List ℕ) (sets : List (List ℕ)) where
+  -- ---- a stage that stops
+  pub lex-stops : (stop : Stop) (short : Short) → Tells text stop → IsShortOf stop short → IsCause text sets short
+  lex-stops (stage.Refused r) short told is = subst (IsCause text sets) (sym is) (inl told)
+  lex-stops stage.Memory short told is = subst (IsCause text sets) (sym is) tt
 
-pub parse-stops : (text : List ℕ) (sets : ℕ) (ks : List Token) (e : Stop) → Lexes text ks → ((r : Refusal) → e ≡ RefusedStop r → Refuses ks r) → StopsAs text sets e
-parse-stops text sets ks (RefusedStop r) lexes told = inr (ks, lexes, inl (told r refl))
-parse-stops text sets ks Memory lexes told = tt
+  pub parse-stops : (ks : List Token) (stop : Stop) (short : Short) → Lexes text ks → ((r : Refusal) → stop ≡ stage.Refused r → Refuses ks r) → IsShortOf stop short → IsCause text sets short
+  parse-stops ks (stage.Refused r) short lexes told is = subst (IsCause text sets) (sym is) (inr (ks, lexes, inl (told r refl)))
+  parse-stops ks stage.Memory short lexes told is = subst (IsCause text sets) (sym is) tt
 
-pub check-stops : (text : List ℕ) (sets : ℕ) (ks : List Token) (t : ProgramTree (List ℕ)) (e : Stop) → Lexes text ks → Spells 64 ks t → TreeRefuses (tree_refusal t sets) e → StopsAs text sets e
-check-stops text sets ks t (RefusedStop r) lexes spells told = inr (ks, lexes, inr (t, spells, told))
-check-stops text sets ks t Memory lexes spells told = tt
+  -- a refused text comes to its refusal
+  pub refused-comes : (limits : Limits) (histories : List (List Event)) (r : Refusal) (o : Outcome) (said : List ℕ) → IsRefused text sets r → IsRejection r o said → ComesTo text sets limits histories o said
+  refused-comes limits histories r o said refused line = subst (λ o. ComesTo text sets limits histories o said) (sym line.0) (refused, line.1)
 
--- a refused text comes to its refusal
-pub refused-comes : (text : List ℕ) (sets budget : ℕ) (r : Refusal) (o : Outcome) (said : List ℕ) → IsRefused text sets r → IsRejection r o said → ComesTo text sets budget o said
-refused-comes text sets budget r o said refused line = subst (λ o. ComesTo text sets budget o said) (sym line.0) (refused, line.1)
+  -- a run that isn't of a refused text
+  pub unrefused-cause : (t : ProgramTree Text) (short : Short) → IsProgram text sets t → ((r : Refusal) → short ≡ Refused r → ⊥) → IsCause text sets short
+  unrefused-cause t (Refused r) is none = absurd (none r refl)
+  unrefused-cause t Memory is none = tt
+  unrefused-cause t Unplanned is none = (t, is)
 
--- ---- a program
-no_rejection : (m : Meant Store) (r : Refusal) → EndsAs m (Rejected r) → ⊥
-no_rejection (DoneAt s out) r e = e
-no_rejection (StopAt f out) r e = e
+  -- ---- a program
+  no_rejection : (m : Meant State) (r : Refusal) → EndsAs m (Rejected r) → ⊥
+  no_rejection (DoneAt s done) r e = e
+  no_rejection (StopAt f done) r e = e
+  no_rejection (WaitsAt at c op done) r e = e
 
--- a program comes to what it means
-pub program-comes : (text : List ℕ) (sets budget : ℕ) (t : ProgramTree (List ℕ)) (o : Outcome) (said : List ℕ) → IsProgram text sets t → Means t budget o said → ComesTo text sets budget o said
-program-comes text sets budget t (Done left) said is means = (t, is, means)
-program-comes text sets budget t (Stopped f) said is means = (t, is, means)
-program-comes text sets budget t (Rejected r) said is means = absurd (no_rejection (meaning t budget) r means.ends)
+  -- a program comes to what it means
+  pub program-comes : (limits : Limits) (histories : List (List Event)) (t : ProgramTree Text) (o : Outcome) (said : List ℕ) → IsProgram text sets t → Means t sets limits histories o said → ComesTo text sets limits histories o said
+  program-comes limits histories t (Done left) said is means = (t, is, means)
+  program-comes limits histories t (Stopped f) said is means = (t, is, means)
+  program-comes limits histories t (Rejected r) said is means = absurd (no_rejection (run_of t sets limits histories) r means.ends)
 
--- ---- what is told when its bytes are written is the one outcome
-pub delivered : (r : Result Outcome Refused) (text : List ℕ) (sets budget : ℕ) (o : Outcome) (said : List ℕ) (old new : Option (List ℕ)) → ComesTo text sets budget o said
-    → IfOk r (λ p. p ≡ o) → OnOk r (Appends old new said)
-    → IfOk r (λ outcome. (says : List ℕ) × Appends old new says × ComesToOnly text sets budget outcome says)
-delivered (Ok p) text sets budget o said old new comes told wrote =
-    let is : ComesTo text sets budget p said = subst (λ o. ComesTo text sets budget o said) (sym told) comes in
-    (said, wrote, record { comes = is; only = one_outcome text sets budget p said is })
-delivered (Err e) text sets budget o said old new comes told wrote = tt
+  -- ---- what is told when its bytes are written is the one outcome
+  pub delivered : (limits : Limits) (r : Result Outcome RefusedRun) (o : Outcome) (said : List ℕ) (old new : Option (List ℕ)) → ((histories : List (List Event)) → ComesTo text sets limits histories o said)
+      → IfOk r (λ p. p ≡ o) → OnOk r (Appends old new said)
+      → IfOk r (λ outcome. (says : List ℕ) × Appends old new says × ((histories : List (List Event)) → ComesToOnly text sets limits histories outcome says))
+  delivered limits (Ok p) o said old new comes told wrote = (
+    said,
+    wrote,
+    λ histories.
+        let is : ComesTo text sets limits histories p said = subst (λ o. ComesTo text sets limits histories o said) (sym told) (comes histories) in
+        record { comes = is; only = one_outcome text sets limits histories p said is },
+  )
+  delivered limits (Err e) o said old new comes told wrote = tt
+
+  -- a program's run, if there is one, is what the text comes to
+  pub run-comes : (limits : Limits) (r : Result Ended Short) (t : ProgramTree Text) → IsProgram text sets t → IfOk r (λ ended. (histories : List (List Event)) → Means t sets limits histories ended.outcome ended.text.items)
+      → IfOk r (λ ended. (histories : List (List Event)) → ComesTo text sets limits histories ended.outcome ended.text.items)
+  run-comes limits (Ok ended) t is means = λ histories. program-comes limits histories t ended.outcome ended.text.items is (means histories)
+  run-comes limits (Err e) t is means = tt
+
+  -- and that it ends early says nothing else of the text than that it is a program
+  pub run-stops : (r : Result Ended Short) (t : ProgramTree Text) → IsProgram text sets t → ((q : Refusal) → r ≡ Err (Refused q) → ⊥) → IfErr r (IsCause text sets)
+  run-stops (Ok ended) t is none = tt
+  run-stops (Err short) t is none = unrefused-cause t short is (λ q e. none q (ap Err e))

@@ -1,60 +1,69 @@
 -- What a text comes to: its refusal, or what its program means.
--- Nothing here knows a locale, a gate or a writer.
-use Rattle.std.specs.Prelude.{◌≡◌, ◌⊎◌, ℕ, List, [], ◌∷◌, ◌++◌, Some}
-use Rattle.dpl_syntax.specs.declared.token.Token.{Token}
+-- Nothing here knows where work is done, a gate or a writer.
+use Rattle.std.specs.Prelude.{◌≡◌, ◌⊎◌, ℕ, List, [], ◌∷◌, ◌++◌, Option, Some, None}
+use Rattle.dpl_syntax.specs.declared.place.Place.{Place}
+use Rattle.dpl_syntax.specs.declared.refusal.Code.TheVariants.{Unexpected}
 use Rattle.dpl_syntax.specs.declared.refusal.Refusal.{Refusal}
-use Rattle.dpl_syntax.specs.Text.{Lexes}
-use Rattle.dpl_syntax.specs.Refused.{LexRefuses}
 use Rattle.dpl_syntax.specs.Lines.{refusal_text}
-use Rattle.dpl_syntax.specs.Tree.{ProgramTree}
-use Rattle.dpl_parse.specs.Theorem.{Spells, Refuses}
-use Rattle.dpl_check.specs.Breaches.{tree_refusal}
-use Rattle.dpl_check.specs.Sound.{IsGood}
-use Rattle.dpl_meaning.specs.Outcome.{Outcome as Meant, Done as DoneAt, Stop as StopAt}
-use Rattle.dpl_meaning.specs.Names.{Store}
-use Rattle.dpl_meaning.specs.Program.{meaning, written, top_level}
+use Rattle.dpl_history.specs.declared.history.Event.{Event}
+use Rattle.dpl_language.specs.Tree.{ProgramTree}
+use Rattle.dpl_language.specs.Environment.{Limits}
+use Rattle.dpl_language.specs.Outcome.{Outcome as Meant, Done as DoneAt, Stop as StopAt, Waits as WaitsAt}
+use Rattle.dpl_language.specs.Names.{Text, State}
+use Rattle.dpl_language.specs.Program.{written, top_level}
+use Rattle.dpl_language.specs.Together.{Happened}
+use Rattle.dpl_nodes.specs.Faults.{fault_view}
+use Rattle.dpl_rules.specs.Sound.{refusal}
+use Rattle.dpl_closed.specs.Closed.{closed_stmts}
+use Rattle.dpl_says.specs.Says.{IsProgramBy, IsRefusedBy, run_of}
 use Rattle.dpl_run.specs.declared.outcome.Outcome.{Outcome}
 use Rattle.dpl_run.specs.declared.outcome.Outcome.TheVariants.{Done, Stopped, Rejected}
 
--- done, with the variables of the top level, exactly where the meaning is done; stopped, by that fault, exactly where it stopped
-abbrev pub EndsAs : Meant Store → Outcome → Type 0
-EndsAs (DoneAt s out) (Done left) = left ≡ top_level s
-EndsAs (DoneAt s out) (Stopped fault) = ⊥
-EndsAs (DoneAt s out) (Rejected r) = ⊥
-EndsAs (StopAt f out) (Done left) = ⊥
-EndsAs (StopAt f out) (Stopped fault) = fault ≡ f
-EndsAs (StopAt f out) (Rejected r) = ⊥
+-- P1 at the first token that needs what doesn't run, where there is one; else another refusal
+abbrev pub or_closed : Option Place → Option Refusal → Option Refusal
+or_closed None other = other
+or_closed (Some at) other = Some (record { code = Unexpected; place = Some at })
 
--- a program's run wrote just this, and came to this outcome
-pub record Means (t : ProgramTree (List ℕ)) (budget : ℕ) (o : Outcome) (said : List ℕ) : Type 0 where
-  pub writes : said ≡ written (meaning t budget)
-  pub ends : EndsAs (meaning t budget) o
+-- for what a tree is refused, where these words are to set its `config const`s
+abbrev pub tree_refusal : List (List ℕ) → ProgramTree Text → Option Refusal
+tree_refusal sets t = or_closed (closed_stmts t.stmts) (refusal t sets)
 
--- a text is a program, where so many sets are given: its tokens spell the program in at most 64 levels, and it owes nothing
-pub record IsProgram (text : List ℕ) (sets : ℕ) (t : ProgramTree (List ℕ)) : Type 0 where
-  pub tokens : List Token
-  pub lexes : Lexes text tokens
-  pub spells : Spells 64 tokens t
-  pub good : IsGood t
-  pub unset : sets ≡ 0
+abbrev pub IsProgram : List ℕ → List (List ℕ) → ProgramTree Text → Type 0
+IsProgram text sets t = IsProgramBy (tree_refusal sets) text t
 
--- a text has a refusal: that of its bytes, else that of its tokens, else that of the tree that they spell
-abbrev pub IsRefused : List ℕ → ℕ → Refusal → Type 0
-IsRefused text sets r =
-    LexRefuses text r
-    ⊎ ((tokens : List Token) × Lexes text tokens × (Refuses tokens r ⊎ ((t : ProgramTree (List ℕ)) × Spells 64 tokens t × (tree_refusal t sets ≡ Some r))))
+abbrev pub IsRefused : List ℕ → List (List ℕ) → Refusal → Type 0
+IsRefused text sets r = IsRefusedBy (tree_refusal sets) text r
+
+-- done, with what the top level's names hold, exactly where the meaning is done; stopped, by that fault, exactly where it
+-- stopped
+abbrev pub EndsAs : Meant State → Outcome → Type 0
+EndsAs (DoneAt s done) (Done left) = left ≡ top_level s.store
+EndsAs (DoneAt s done) (Stopped f) = ⊥
+EndsAs (DoneAt s done) (Rejected r) = ⊥
+EndsAs (StopAt f done) (Done left) = ⊥
+EndsAs (StopAt f done) (Stopped fault) = fault_view fault ≡ f
+EndsAs (StopAt f done) (Rejected r) = ⊥
+EndsAs (WaitsAt at c op done) (Done left) = ⊥
+EndsAs (WaitsAt at c op done) (Stopped f) = ⊥
+EndsAs (WaitsAt at c op done) (Rejected r) = ⊥
+
+-- a program's run, by these limits and histories, is one that can happen, wrote just this, and came to this outcome
+pub record Means (t : ProgramTree Text) (sets : List (List ℕ)) (limits : Limits) (histories : List (List Event)) (o : Outcome) (said : List ℕ) : Type 0 where
+  pub happened : Happened (run_of t sets limits histories)
+  pub writes : said ≡ written (run_of t sets limits histories)
+  pub ends : EndsAs (run_of t sets limits histories) o
 
 -- What is written of a text, and its outcome: a refused text writes its refusal's line alone, and a program what it means.
-abbrev pub ComesTo : List ℕ → ℕ → ℕ → Outcome → List ℕ → Type 0
-ComesTo text sets budget (Rejected r) said = IsRefused text sets r × (said ≡ refusal_text r ++ 10 ∷ [])
-ComesTo text sets budget (Done left) said = (t : ProgramTree (List ℕ)) × IsProgram text sets t × Means t budget (Done left) said
-ComesTo text sets budget (Stopped f) said = (t : ProgramTree (List ℕ)) × IsProgram text sets t × Means t budget (Stopped f) said
+abbrev pub ComesTo : List ℕ → List (List ℕ) → Limits → List (List Event) → Outcome → List ℕ → Type 0
+ComesTo text sets limits histories (Rejected r) said = IsRefused text sets r × (said ≡ refusal_text r ++ 10 ∷ [])
+ComesTo text sets limits histories (Done left) said = (t : ProgramTree Text) × IsProgram text sets t × Means t sets limits histories (Done left) said
+ComesTo text sets limits histories (Stopped f) said = (t : ProgramTree Text) × IsProgram text sets t × Means t sets limits histories (Stopped f) said
 
 -- The text comes to this outcome and these bytes, and to no others.
-pub record ComesToOnly (text : List ℕ) (sets budget : ℕ) (o : Outcome) (said : List ℕ) : Type 0 where
-  pub comes : ComesTo text sets budget o said
-  pub only : (p : Outcome) (says : List ℕ) → ComesTo text sets budget p says → (p ≡ o) × (says ≡ said)
+pub record ComesToOnly (text : List ℕ) (sets : List (List ℕ)) (limits : Limits) (histories : List (List Event)) (o : Outcome) (said : List ℕ) : Type 0 where
+  pub comes : ComesTo text sets limits histories o said
+  pub only : (p : Outcome) (says : List ℕ) → ComesTo text sets limits histories p says → (p ≡ o) × (says ≡ said)
 
--- Every text comes to exactly one outcome, and exactly one list of bytes is written of it.
-abbrev pub HasOneOutcome : List ℕ → ℕ → ℕ → Type 0
-HasOneOutcome text sets budget = (o : Outcome) × (said : List ℕ) × ComesToOnly text sets budget o said
+-- Every text is a program, or has a refusal.
+abbrev pub IsRead : List ℕ → List (List ℕ) → Type 0
+IsRead text sets = ((t : ProgramTree Text) × IsProgram text sets t) ⊎ ((r : Refusal) × IsRefused text sets r)

@@ -1,9 +1,11 @@
--- What a text comes to, and how a refused run is told.
+-- What a text comes to, which settings its meaning knows, what it leaves, and how a refused run is told.
 pub mod Headline
+pub mod Settings
+pub mod Names
+pub mod Leaving
 pub mod Refusals
 -- What serves contracts and proofs alone.
-pub mod Settings
 pub mod Writers
 pub mod Runs
-pub mod Leaving
+pub mod Plans
 pub mod Refusing

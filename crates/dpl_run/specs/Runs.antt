@@ -1,39 +1,22 @@
--- How the answers of a run's parts are how the meaning ends.
--- Where memory ran out nothing is said.
-use Rattle.std.specs.Prelude.{◌≡◌, ℕ, ℤ, List, Result, Ok, Err}
-use Rattle.dpl_range.specs.Range.{RangeValue, members_of}
-use Rattle.dpl_syntax.specs.declared.place.Place.{Place}
-use Rattle.dpl_syntax.specs.declared.fault.Fault.{Fault as FaultValue}
-use Rattle.dpl_meaning.specs.Outcome.{Outcome, Done, Stop as StopAt, Run, with_value, in_turn, budgeted}
-use Rattle.dpl_meaning.specs.Meaning.{over, named_turn, exec}
-use Rattle.dpl_meaning.specs.Words.{Words, by_word}
-use Rattle.dpl_typed.specs.declared.tree.Assignment.{Assignment}
-use Rattle.dpl_typed.specs.declared.tree.RangeExpr.{RangeExpr}
-use Rattle.dpl_typed.specs.Typed.{int_leaf, range_view, assignment_view}
-use Rattle.dpl_run.specs.declared.halt.Halt.{Halt}
-use Rattle.dpl_run.specs.declared.halt.Halt.TheVariants.{Fault, Memory}
+-- How the end of a run over words is told: the outcome, and all that is written.
+-- What is left are the names that the statements declare at the top level, with what the words of their leaves are.
+use Rattle.std.specs.Prelude.{◌≡◌, ℕ, List, map}
+use Rattle.dpl_language.specs.Tree.{Stmts}
+use Rattle.dpl_language.specs.Outcome.{no_deeds, Outcome as Meant, Done as DoneAt, Stop as StopAt}
+use Rattle.dpl_language.specs.Names.{Text}
+use Rattle.dpl_language.specs.Program.{written}
+use Rattle.dpl_rules.specs.Sights.{Scopes}
+use Rattle.dpl_words.specs.Words.{Words}
+use Rattle.dpl_words.specs.Resolved.{frame_in}
+use Rattle.dpl_nodes.specs.Faults.{fault_view}
+use Rattle.dpl_elaborator.specs.Sights.{bound_in}
+use Rattle.dpl_steps.specs.Runs.{having_printed}
+use Rattle.dpl_run.specs.declared.outcome.Outcome.{Outcome}
+use Rattle.dpl_run.specs.declared.outcome.Outcome.TheVariants.{Done, Stopped, Rejected}
+use Rattle.dpl_run.specs.Names.{declared_names}
 
--- a range gives its members, and a fault is the fault
-abbrev pub RangeGives : Result RangeValue FaultValue → Result (List ℤ) FaultValue → Type 0
-RangeGives (Ok r) o = o ≡ Ok (members_of r)
-RangeGives (Err f) o = o ≡ Err f
-
--- a turn of a forall
-abbrev pub turn_by_word : ℕ → Assignment → ℕ → ℤ → Run Words
-turn_by_word slot body budget = named_turn by_word (int_leaf slot) (exec by_word (assignment_view body) budget)
-
--- the run of a forall
-abbrev pub forall_by_word : Place → ℕ → RangeExpr → Assignment → ℕ → Run Words
-forall_by_word at slot r body budget words out =
-    with_value (over by_word (range_view r) words) out (λ is. budgeted budget at is (in_turn (turn_by_word slot body budget) is) words out)
-
--- a loop's answer, and the words that it leaves, are how its run ends; behind it is printed what was before
-abbrev pub LoopEnds : Result (Unit {0}) FaultValue → Words → List ℕ → Outcome Words → Type 0
-LoopEnds (Ok v) words out o = o ≡ Done words out
-LoopEnds (Err f) words out o = o ≡ StopAt f out
-
--- done with these words and this output, or stopped by this fault with this output
-abbrev pub RunEnds : Result (Unit {0}) Halt → Words → List ℕ → Outcome Words → Type 0
-RunEnds (Ok v) words out o = o ≡ Done words out
-RunEnds (Err (Fault f)) words out o = o ≡ StopAt f out
-RunEnds (Err Memory) words out o = Unit {0}
+abbrev pub RanTo : Scopes → Stmts Text → Meant Words → Outcome → List ℕ → Type 0
+RanTo scopes ts m (Done left) said = (last : Words) × (m ≡ DoneAt last (having_printed said no_deeds)) × (left ≡ frame_in last (map (bound_in scopes) (declared_names ts)))
+RanTo scopes ts m (Stopped fault) said =
+    (out : List ℕ) × (m ≡ StopAt (fault_view fault) (having_printed out no_deeds)) × (said ≡ written {S = Words} (StopAt (fault_view fault) (having_printed out no_deeds)))
+RanTo scopes ts m (Rejected r) said = ⊥

@@ -1,5 +1,6 @@
 -- What contracts see of a run's settings, and which numbers are settings.
 use Rattle.std.specs.Prelude.{◌≡◌, ℕ, ◌≤◌, ◌^◌, List, ◌*◌, slice_index}
+use Rattle.dpl_language.specs.Environment.{Limits}
 use Rattle.dpl_run.specs.declared.config.Maps.{Maps}
 
 pub record Settings : Type 0 where
@@ -24,3 +25,7 @@ IsGrid2 locales grid = slice_index grid 0 * slice_index grid 1 ≡ locales
 
 abbrev pub IsGrid3 : ℕ → List ℕ → Type 0
 IsGrid3 locales grid = slice_index grid 0 * slice_index grid 1 * slice_index grid 2 ≡ locales
+
+-- what a program's meaning knows of them
+abbrev pub limits_of : Settings → Limits
+limits_of s = record { budget = s.budget; locales = s.locales }

@@ -1,41 +1,115 @@
 // The variables of the top level, collected when a run has ended.
-// Their values are the words of their slots.
+// Their values are what the frame has in the slots of their names.
 
-ghost use Rattle.std.specs.Prelude.{◌≡◌, IfOk};
-ghost use Rattle.dpl_syntax.specs.View.{tree_view, spelled};
-ghost use Rattle.dpl_meaning.specs.Words.{int_at};
-ghost use Rattle.dpl_meaning.specs.Resolved.{entry_at, frame_at, numbered, declared_names};
-ghost use Rattle.dpl_run.specs.Leaving.{entry_of};
+ghost use Rattle.std.specs.Prelude.{◌≡◌, ◌++◌, Some, IfOk, OnOk, map, IfSome, IfNone};
+ghost use Rattle.dpl_tree.specs.Statements.{stmt_view, stmts_of};
+ghost use Rattle.dpl_types.specs.View.{type_view};
+ghost use Rattle.dpl_words.specs.Words.{int_leaf};
+ghost use Rattle.dpl_words.specs.Resolved.{entry_in, frame_in};
+ghost use Rattle.dpl_elaborator.specs.Leaves.{plain_kind, leaf_by, leaf_in};
+ghost use Rattle.dpl_elaborator.specs.Sights.{bound_in};
+ghost use Rattle.dpl_run.specs.Leaving.{value_view, value_held, entry_of};
+ghost use Rattle.dpl_run.specs.Names.{declared_by, declared_names};
 
-use crate::left::{Left, Variable};
-use dpl_check::Checked;
-use dpl_syntax::{Value, Word};
-use dpl_typed::Frame;
+use crate::left::{Left, Value, Variable};
+use dpl_nodes::Frame;
+use dpl_scopes::Scopes;
+use dpl_tree::{ScalarKind, Stmt};
+use dpl_types::ValueType;
 use std::alloc::{AllocError, Global};
 
-// The variable of a name, which has a slot.
-fn variable(name: &Word, slot: usize, frame: &Frame) -> Result<Variable, AllocError>
-    ensures { IfOk result (λ v. entry_of v ≡ entry_at frame.now.words (record { text = name.now; leaf = int_at slot })) }
+// What a slot holds for a type. What has no slot of its own counts as the int in the first one.
+fn held(value_type: ValueType<'_>, slot: usize, frame: &Frame<'_>) -> Value
+    ensures { value_view result ≡ value_held (leaf_by (plain_kind (type_view value_type.entry)) (Some slot)) frame.now.words }
 {
+    match value_type {
+        ValueType::Scalar(ScalarKind::Int) => Value::Int(frame.number(slot)),
+        ValueType::Scalar(ScalarKind::Bool) => Value::Bool(frame.number(slot) != 0),
+        ValueType::Range { .. } => Value::Range(frame.range(slot)),
+        ValueType::Domain { .. }
+        | ValueType::Array(_, _)
+        | ValueType::Promoted(_, _)
+        | ValueType::Tuple(_)
+        | ValueType::Locale
+        | ValueType::AllLocales
+        | ValueType::Cell(_) => Value::Int(frame.number(0)),
+    }
+}
+
+// What a name in sight holds.
+fn found(scopes: &Scopes<'_>, name: &[u8], frame: &Frame<'_>) -> Option<Value>
+    ensures some { IfSome result (λ v. value_view v ≡ value_held (leaf_in scopes.now name.now) frame.now.words) }
+    ensures none { IfNone result (leaf_in scopes.now name.now ≡ int_leaf 0) }
+{
+    let value_type = scopes.lookup(name)?.value_type?;
+    let slot = scopes.slot(name)?;
+    Some(held(value_type, slot, frame))
+}
+
+// A name with what it holds.
+fn variable(
+    alloc: Global,
+    scopes: &Scopes<'_>,
+    name: &[u8],
+    frame: &Frame<'_>,
+) -> Result<Variable, AllocError>
+    ensures { IfOk result (λ v. entry_of v ≡ entry_in frame.now.words (bound_in scopes.now name.now)) }
+{
+    let value = match found(scopes, name, frame) {
+        Some(value) => value,
+        None => Value::Int(frame.number(0)),
+    };
     Ok(Variable {
-        name: name.clone()?,
-        value: Value::Int(frame.word(slot)),
+        name: name.to_vec(alloc)?,
+        value,
     })
 }
 
-/// The variables of a program's top level, with their values in a frame.
+// Puts the name that a statement declares, if it declares one, behind the others.
+fn add(
+    alloc: Global,
+    scopes: &Scopes<'_>,
+    stmt: &Stmt<'_>,
+    frame: &Frame<'_>,
+    variables: &mut Vec<Variable>,
+) -> Result<(), AllocError>
+    ensures { OnOk result (map entry_of variables.new.items ≡ map entry_of variables.old.items ++ frame_in frame.now.words (map (bound_in scopes.now) (declared_by (stmt_view stmt.now)))) }
+{
+    match stmt {
+        Stmt::Declare(declared) => {
+            let one = variable(alloc, scopes, declared.name.text, frame)?;
+            variables.push(one)?;
+            Ok(())
+        }
+        Stmt::Nothing(_)
+        | Stmt::Assigned(_)
+        | Stmt::Call(_)
+        | Stmt::Write(_)
+        | Stmt::Block(_)
+        | Stmt::If(_)
+        | Stmt::While(_)
+        | Stmt::For(_)
+        | Stmt::Forall(_)
+        | Stmt::Coforall(_)
+        | Stmt::On(_) => Ok(()),
+    }
+}
+
+/// The names that the statements of a program declare at its top level, with what they hold in a frame.
 ///
 /// # Errors
-/// Out of memory for them.
-pub(crate) fn collect(alloc: Global, program: &Checked, frame: &Frame) -> Result<Left, AllocError>
-    ensures { IfOk result (λ left. left ≡ frame_at frame.now.words (numbered 0 (declared_names (tree_view spelled program.now).stmts))) }
+/// Out of memory.
+pub(crate) fn collect(
+    alloc: Global,
+    scopes: &Scopes<'_>,
+    stmts: &[Stmt<'_>],
+    frame: &Frame<'_>,
+) -> Result<Left, AllocError>
+    ensures { IfOk result (λ left. left ≡ frame_in frame.now.words (map (bound_in scopes.now) (declared_names (stmts_of stmts.now)))) }
 {
     let mut variables = Vec::new(alloc);
-    for slot in 0..program.variables() {
-        let Some(name) = program.variable(slot) else {
-            unreachable!()
-        };
-        variables.push(variable(name, slot, frame)?)?;
+    for stmt in stmts {
+        add(alloc, scopes, stmt, frame, &mut variables)?;
     }
     Ok(Left { variables })
 }

@@ -1,17 +1,29 @@
 // What a program leaves: the variables of its top level.
-// They are seen as a map from names to values, in order of declaration.
+// They are seen as the language's frame, in order of declaration.
 
-ghost use Rattle.std.specs.Prelude.{◌≡◌, map};
-ghost use Rattle.dpl_meaning.specs.Names.{in_frame};
+ghost use Rattle.std.specs.Prelude.{◌≡◌, map, option_map};
+ghost use Rattle.dpl_language.specs.Environment.{Plain};
+ghost use Rattle.dpl_language.specs.Names.{in_frame};
 
-use dpl_syntax::{Value, Word};
+use dpl_nodes::RangeWord;
 use std::marker::Model;
+
+/// What a plain variable holds.
+#[derive(Clone, Copy, PartialEq, Eq, Debug)]
+pub enum Value {
+    /// An int.
+    Int(i64),
+    /// `true` or `false`.
+    Bool(bool),
+    /// A range, with its members in order.
+    Range(RangeWord),
+}
 
 /// A variable of the top level, with the value that it has when the run ends.
 #[derive(Drop)]
 pub struct Variable {
-    /// The name that it is declared by.
-    pub name: Word,
+    /// The bytes of the name that it is declared by.
+    pub name: Vec<u8>,
     /// Its last value.
     pub value: Value,
 }
@@ -23,7 +35,7 @@ pub struct Left {
 }
 
 impl Model for Left {
-    ghost use Rattle.dpl_meaning.specs.Names.{Frame};
+    ghost use Rattle.dpl_language.specs.Names.{Frame};
 
     ghost Value = { Frame };
 
@@ -34,7 +46,7 @@ impl Model for Left {
 }
 
 impl Left {
-    ghost use Rattle.dpl_run.specs.Leaving.{entry_of};
+    ghost use Rattle.dpl_run.specs.Leaving.{entry_of, value_view};
 
     /// The variables, in order of declaration.
     pub fn variables(&self) -> &[Variable]
@@ -45,10 +57,10 @@ impl Left {
 
     /// The value of a name, if it is a variable of the top level.
     pub fn get(&self, name: &[u8]) -> Option<Value>
-        ensures { result ≡ in_frame name.now self.now }
+        ensures { option_map (λ v. Plain (value_view v)) result ≡ in_frame name.now self.now }
     {
         for variable in &self.variables {
-            if name == variable.name.as_bytes() {
+            if name == variable.name.as_slice() {
                 return Some(variable.value);
             }
         }

@@ -4,24 +4,25 @@
 
 mod collect;
 mod config;
+mod frame;
 mod gate;
-mod halt;
 mod left;
 mod lines;
-mod loops;
+mod listing;
 mod outcome;
 mod refused;
 mod run;
-mod statements;
+mod short;
 mod text;
 mod writer;
 
 pub use config::{Config, ConfigFault, MOST_TURNS, Maps};
-pub use dpl_syntax::{Code, Fault, FaultCode, Place, Refusal, Value};
+pub use dpl_nodes::{Fault, FaultCode, RangeWord};
+pub use dpl_syntax::{Code, Place, Refusal};
 pub use gate::{Gate, OpenGate};
-pub use left::{Left, Variable};
+pub use left::{Left, Value, Variable};
+pub use listing::dump;
 pub use outcome::Outcome;
 pub use refused::Refused;
-pub use run::run_checked;
 pub use text::run_text;
 pub use writer::{Out, OutFault, Plain, write_all};

@@ -1,24 +1,25 @@
-// The run of a checked program.
+// The run of a program, from its plan to what it writes.
 // Its output is held until it has ended, and then written at once.
 
-ghost use Rattle.std.specs.Prelude.{◌≡◌, ℕ, List, IfOk, IfErr, OnOk, OnErr, false, true};
-ghost use Rattle.std.specs.Io.KnownBytes.{Appends, Keeps};
-ghost use Rattle.dpl_meaning.specs.Program.{meaning, written};
+ghost use Rattle.std.specs.Prelude.{◌≡◌, IfOk, IfErr, OnOk, OnErr, true, false};
+ghost use Rattle.std.specs.Io.KnownBytes.{Appends};
+ghost use Rattle.dpl_language.specs.Outcome.{no_deeds};
+ghost use Rattle.dpl_language.specs.Statements.{exec_all};
+ghost use Rattle.dpl_tree.specs.Statements.{stmts_of};
+ghost use Rattle.dpl_words.specs.Words.{by_word};
+ghost use Rattle.dpl_nodes.specs.Steps.{steps_of};
+ghost use Rattle.dpl_run.specs.Runs.{RanTo};
 ghost use Rattle.dpl_run.specs.Writers.{Partly};
-ghost use Rattle.dpl_syntax.specs.View.{tree_view, spelled};
-ghost use Rattle.dpl_run.specs.Headline.{Means};
 
 use crate::collect::collect;
-use crate::config::Config;
-use crate::gate::Gate;
-use crate::halt::Halt;
 use crate::lines::tell_fault;
 use crate::outcome::Outcome;
 use crate::refused::Refused;
-use crate::statements::statements;
 use crate::writer::{Out, write_all};
-use dpl_check::Checked;
-use dpl_typed::Frame;
+use dpl_nodes::{Frame, Step};
+use dpl_scopes::Scopes;
+use dpl_steps::{Halt, run as run_steps};
+use dpl_tree::Stmt;
 use std::alloc::{AllocError, Global};
 
 /// What a run came to, and all that it writes.
@@ -28,18 +29,25 @@ pub(crate) struct Ended {
     pub(crate) text: Vec<u8>,
 }
 
-/// Runs a program to its end, and writes nothing.
+/// Runs the steps of a program to their end, and writes nothing. The statements are those of the program, and the scopes
+/// have the names that they leave.
 ///
 /// # Errors
 /// Out of memory.
-pub(crate) fn run(alloc: Global, program: &Checked, config: &Config) -> Result<Ended, AllocError>
-    ensures { IfOk result (λ ended. Means (tree_view spelled program.now) config.now.budget ended.outcome ended.text.items) }
+pub(crate) fn run<'t>(
+    alloc: Global,
+    steps: &[Step<'t>],
+    frame: &mut Frame<'t>,
+    scopes: &Scopes<'_>,
+    stmts: &[Stmt<'_>],
+) -> Result<Ended, AllocError>
+    ensures { IfOk result (λ ended. RanTo scopes.now (stmts_of stmts.now) (exec_all frame.old.limits by_word (steps_of steps.now) frame.old.words no_deeds) ended.outcome ended.text.items) }
 {
-    let mut frame = Frame::new(alloc, program.slots(), config.budget(), config.locales())?;
     let mut text = Vec::new(alloc);
-    match statements(alloc, program.steps(), &mut frame, &mut text) {
+    match run_steps(steps, frame, &mut text) {
         Ok(()) => {
-            let outcome = Outcome::Done(collect(alloc, program, &frame)?);
+            let left = collect(alloc, scopes, stmts, frame)?;
+            let outcome = Outcome::Done(left);
             Ok(Ended { outcome, text })
         }
         Err(Halt::Fault(fault)) => {
@@ -49,40 +57,6 @@ pub(crate) fn run(alloc: Global, program: &Checked, config: &Config) -> Result<E
         }
         Err(Halt::Memory) => Err(AllocError),
     }
-}
-
-/// Runs a checked program, and writes what it prints when it has ended.
-///
-/// `program` is what `check` of dpl_check gave. `rt` and `gate` serve loops on workers; here each loop runs on the caller's
-/// thread, and the gate isn't asked. `out` must not have failed before.
-///
-/// # Errors
-/// Out of memory, and nothing was written; or the writer failed, and it holds the first bytes of what the run writes.
-pub fn run_checked<R: Sync, G: Gate + Sync, W: Out>(
-    rt: &R,
-    alloc: Global,
-    program: &Checked,
-    config: &Config,
-    gate: &G,
-    out: &mut W,
-) -> Result<Outcome, Refused>
-    requires { W.has_failed out.old ≡ false }
-    // What is written, and the outcome, are those of the meaning.
-    ensures means { IfOk result (λ outcome. (said : List ℕ) × Appends (W.contents out.old) (W.contents out.new) said
-        × Means (tree_view spelled program.now) config.now.budget outcome said) }
-    ensures unfailed { OnOk result (W.has_failed out.new ≡ false) }
-    // Without memory nothing was written.
-    ensures memory { result ≡ Err Refused.Memory
-        → Keeps (W.contents out.old) (W.contents out.new) × (W.has_failed out.new ≡ false) }
-    // A writer that failed holds the first bytes of what the meaning writes.
-    ensures writer { result ≡ Err Refused.Writer → (W.has_failed out.new ≡ true)
-        × Partly (W.contents out.old) (W.contents out.new)
-        (written (meaning (tree_view spelled program.now) config.now.budget)) }
-{
-    let _ = rt;
-    let _ = gate;
-    let ended = run(alloc, program, config)?;
-    deliver(ended, out)
 }
 
 /// Writes what a run writes, and tells its outcome.

@@ -1,23 +1,36 @@
 // The run of a text, from bytes to bytes.
 // The theorem of the whole stands on `run_text`.
 
-ghost use Rattle.std.specs.Prelude.{◌≡◌, ℕ, List, length, IfOk, IfErr, OnOk, false, true};
+ghost use Rattle.std.specs.Prelude.{◌≡◌, ℕ, List, map, IfOk, IfErr, OnOk, None, false, true};
 ghost use Rattle.std.specs.Io.KnownBytes.{Appends, Keeps};
-ghost use Rattle.dpl_run.specs.Headline.{ComesTo, ComesToOnly, HasOneOutcome};
-ghost use Rattle.dpl_run.specs.Refusing.{IsRejection, StopsAs};
+ghost use Rattle.dpl_history.specs.declared.history.Event.{Event};
+ghost use Rattle.dpl_syntax.specs.declared.refusal.Refusal.{Refusal};
+ghost use Rattle.dpl_language.specs.Tree.{ProgramTree};
+ghost use Rattle.dpl_language.specs.Names.{Text};
+ghost use Rattle.dpl_tree.specs.Statements.{program_view};
+ghost use Rattle.dpl_run.specs.Headline.{ComesTo, ComesToOnly, IsProgram, IsRead, Means, tree_refusal};
+ghost use Rattle.dpl_run.specs.Refusing.{IsRejection, IsCause, IsRefusalOf};
+ghost use Rattle.dpl_run.specs.Settings.{limits_of};
 ghost use Rattle.dpl_run.specs.declared.outcome.Outcome.{Outcome};
 ghost use Rattle.dpl_run.specs.Writers.{Partly};
 
 use crate::config::Config;
+use crate::frame::first_frame;
 use crate::gate::Gate;
 use crate::lines::tell_refusal;
 use crate::outcome::Outcome;
 use crate::refused::Refused;
 use crate::run::{Ended, deliver, run};
+use crate::short::Short;
 use crate::writer::Out;
-use dpl_check::check;
-use dpl_parse::parse;
-use dpl_syntax::{Refusal, Stop, lex};
+use bumpalo::Bump;
+use dpl_checker::refusal;
+use dpl_closed::closed;
+use dpl_given::given;
+use dpl_parser::parse;
+use dpl_planner::plan;
+use dpl_syntax::{Code, Refusal, lex};
+use dpl_tree::{Arena, Program};
 use std::alloc::{AllocError, Global};
 
 // A refused text writes its refusal's line alone.
@@ -32,39 +45,85 @@ fn reject(alloc: Global, refusal: Refusal) -> Result<Ended, AllocError>
     })
 }
 
-// The run of a text that is a program. The tokens are dropped once the tree stands.
-fn run_program(alloc: Global, text: &[u8], sets: &[&str], config: &Config) -> Result<Ended, Stop>
-    ensures comes { IfOk result (λ ended. ComesTo text.now (length sets.now) config.now.budget ended.outcome ended.text.items) }
-    ensures stops { IfErr result (StopsAs text.now (length sets.now)) }
+// For what a tree is refused: `P1` where it needs what doesn't run, and else what the check says.
+fn tree_refusal<'t>(
+    arena: Arena<'t>,
+    program: &Program<'t>,
+    sets: &[&str],
+) -> Result<Option<Refusal>, AllocError>
+    ensures { IfOk result (λ r. r ≡ tree_refusal (map (λ set. set.now) sets.now) (program_view program.now)) }
+{
+    match closed(program) {
+        Some(at) => Ok(Some(Refusal {
+            code: Code::Unexpected,
+            place: Some(at),
+        })),
+        None => refusal(arena, program, sets),
+    }
+}
+
+// The run of a program that has no refusal.
+fn run_program<'t>(
+    arena: Arena<'t>,
+    program: &Program<'t>,
+    sets: &[&str],
+    config: &Config,
+) -> Result<Ended, Short>
+    requires { tree_refusal (map (λ set. set.now) sets.now) (program_view program.now) ≡ None }
+    ensures means { IfOk result (λ ended. (histories : List (List Event)) → Means (program_view program.now) (map (λ set. set.now) sets.now) (limits_of config.now) histories ended.outcome ended.text.items) }
+    ensures unrefused { (r : Refusal) → (result ≡ Err (Short.Refused r)) → ⊥ }
+{
+    let alloc = arena.alloc();
+    let planned = plan(arena, program)?;
+    let words = given(alloc, &planned.scopes, sets)?;
+    let mut frame = first_frame(alloc, planned.slots, &words, config)?;
+    Ok(run(
+        alloc,
+        planned.steps,
+        &mut frame,
+        &planned.scopes,
+        program.stmts,
+    )?)
+}
+
+// What a text comes to, or its refusal. The tokens are dropped at the end, since the tree points into the text alone.
+fn stages(alloc: Global, text: &[u8], sets: &[&str], config: &Config) -> Result<Ended, Short>
+    ensures comes { IfOk result (λ ended. (histories : List (List Event)) → ComesTo text.now (map (λ set. set.now) sets.now) (limits_of config.now) histories ended.outcome ended.text.items) }
+    ensures stops { IfErr result (IsCause text.now (map (λ set. set.now) sets.now)) }
 {
     let tokens = lex(alloc, text)?;
-    let tree = parse(alloc, &tokens)?;
-    drop(tokens);
-    let program = check(alloc, tree, sets)?;
-    Ok(run(alloc, &program, config)?)
+    let nodes = Bump::new(alloc);
+    let arena = Arena::new(&nodes, alloc);
+    let program = parse(arena, tokens.as_slice())?;
+    match tree_refusal(arena, &program, sets)? {
+        Some(refusal) => Err(Short::Refused(refusal)),
+        None => run_program(arena, &program, sets, config),
+    }
 }
 
 // What a text comes to: the run of its program, or its refusal.
-fn outcome(alloc: Global, text: &[u8], sets: &[&str], config: &Config) -> Result<Ended, AllocError>
-    ensures { IfOk result (λ ended. ComesTo text.now (length sets.now) config.now.budget ended.outcome ended.text.items) }
+fn outcome(alloc: Global, text: &[u8], sets: &[&str], config: &Config) -> Result<Ended, Refused>
+    ensures comes { IfOk result (λ ended. (histories : List (List Event)) → ComesTo text.now (map (λ set. set.now) sets.now) (limits_of config.now) histories ended.outcome ended.text.items) }
+    ensures cause { IfErr result (IsRefusalOf text.now (map (λ set. set.now) sets.now)) }
 {
-    match run_program(alloc, text, sets, config) {
+    match stages(alloc, text, sets, config) {
         Ok(ended) => Ok(ended),
-        Err(Stop::Refused(refusal)) => reject(alloc, refusal),
-        Err(Stop::Memory) => Err(AllocError),
+        Err(Short::Refused(refusal)) => Ok(reject(alloc, refusal)?),
+        Err(Short::Memory) => Err(Refused::Memory),
+        Err(Short::Unplanned) => Err(Refused::Unplanned),
     }
 }
 
 /// Runs a text: what is written, and the outcome, are those of the language's definition, in which a forall is a plain
-/// loop. Settings but the budget change neither.
+/// loop. Settings but the budget and the number of locales change neither.
 ///
-/// `text` is any bytes. `sets` are values that are given to config consts; no text can declare one yet, so a text that
-/// has no other refusal is refused by `C14` where there is a set. `rt` and `gate` serve loops on workers; here each loop
-/// runs on the caller's thread, and the gate isn't asked. Output is held until the run has ended, and goes to `out`, which
-/// must not have failed before.
+/// `text` is any bytes. `sets` are words `name=value`, which give values to the program's `config const`s. `rt` and `gate`
+/// serve loops on workers; here each loop runs on the caller's thread, and the gate isn't asked. Output is held until the
+/// run has ended, and goes to `out`, which must not have failed before.
 ///
 /// # Errors
-/// Out of memory, and nothing was written; or the writer failed, and it holds the first bytes of what the text writes.
+/// Out of memory, or a program that isn't laid out, and nothing was written; or the writer failed, and it holds the first
+/// bytes of what the text writes.
 pub fn run_text<R: Sync, G: Gate + Sync, W: Out>(
     rt: &R,
     alloc: Global,
@@ -75,18 +134,22 @@ pub fn run_text<R: Sync, G: Gate + Sync, W: Out>(
     out: &mut W,
 ) -> Result<Outcome, Refused>
     requires { W.has_failed out.old ≡ false }
-    // What is written, and the outcome, are what the text comes to, and it comes to no other.
+    // What is written, and the outcome, are what the text comes to, and it comes to no other, whatever histories there are.
     ensures written { IfOk result (λ outcome. (said : List ℕ) × Appends (W.contents out.old) (W.contents out.new) said
-        × ComesToOnly text.now (length sets.now) config.now.budget outcome said) }
+        × ((histories : List (List Event)) → ComesToOnly text.now (map (λ set. set.now) sets.now) (limits_of config.now) histories outcome said)) }
     ensures unfailed { OnOk result (W.has_failed out.new ≡ false) }
-    // Whether the run is refused or not, the text has exactly one outcome, and one list of bytes.
-    ensures one { HasOneOutcome text.now (length sets.now) config.now.budget }
+    // Whether the run is refused or not, the text is a program or has a refusal.
+    ensures read { IsRead text.now (map (λ set. set.now) sets.now) }
     // Without memory nothing was written.
     ensures memory { result ≡ Err Refused.Memory
         → Keeps (W.contents out.old) (W.contents out.new) × (W.has_failed out.new ≡ false) }
+    // What isn't laid out is a program, and nothing was written.
+    ensures unplanned { result ≡ Err Refused.Unplanned
+        → Keeps (W.contents out.old) (W.contents out.new) × (W.has_failed out.new ≡ false)
+        × ((t : ProgramTree Text) × IsProgram text.now (map (λ set. set.now) sets.now) t) }
     // A writer that failed holds the first bytes of what the text writes.
     ensures writer { result ≡ Err Refused.Writer → (W.has_failed out.new ≡ true)
-        × ((outcome : Outcome) × (said : List ℕ) × ComesTo text.now (length sets.now) config.now.budget outcome said
+        × ((outcome : Outcome) × (said : List ℕ) × ((histories : List (List Event)) → ComesTo text.now (map (λ set. set.now) sets.now) (limits_of config.now) histories outcome said)
         × Partly (W.contents out.old) (W.contents out.new) said) }
 {
     let _ = rt;

@@ -1,26 +1,29 @@
--- Tokens that spell no tree stop with the text's refusal.
-use Rattle.std.proofs.Common.{length, sym, ap, subst, Err}
-use Rattle.std.proofs.lemmas.Result.{err_from_is_err_and}
-use Rattle.dpl_syntax.specs.Text.{Lexes}
-use Rattle.dpl_syntax.specs.View.{tree_view, spelled}
-use Rattle.dpl_check.proofs.Unrefused.{tree_refusal-none}
-use Rattle.dpl_run.specs.Headline.{Means}
-use Rattle.dpl_run.proofs.Stages.{parse-stops, program-comes}
+-- The run of the plan, from the words that the sets give, is what the program means.
+use Rattle.std.proofs.Common.{◌≡◌, pos, [], map, replicate, sym, ap, ◌∙◌, subst}
+use Rattle.dpl_language.specs.Outcome.{no_deeds}
+use Rattle.dpl_language.specs.Statements.{exec_all}
+use Rattle.dpl_tree.specs.Statements.{stmts_of, program_view}
+use Rattle.dpl_words.specs.Words.{no_range, by_word}
+use Rattle.dpl_nodes.specs.Frames.{Framed}
+use Rattle.dpl_nodes.specs.Steps.{steps_of}
+use Rattle.dpl_given.specs.Words.{words_in}
+use Rattle.dpl_run.specs.Plans.{IsPlan}
+use Rattle.dpl_run.specs.Runs.{RanTo}
+use Rattle.dpl_run.specs.Settings.{limits_of}
+use Rattle.dpl_run.proofs.Meaning.{means-ran}
+use Rattle.dpl_run.proofs.Planned.{planned, sets-fit}
 use Rattle.dpl_run.proofs.text.run_program.Goals as goal
 
-pub returns-in_err-tree-clause-stops : goal.returns-in_err-tree-clause-stops
-returns-in_err-tree-clause-stops c =
-    let p = err_from_is_err_and c.from_residual-in_err-tree.result c.from_residual-in_err-tree.ensures.1 in
-    let lexes : Lexes c.args.text.now c.deref.result.now = subst (Lexes c.args.text.now) (sym c.deref.ensures.value) c.in_ok-tokens.ensures.found in
-    rw (p.1, p.2) (parse-stops c.args.text.now (length c.args.sets.now) c.deref.result.now c.in_err-tree.field-0.0 lexes (λ r is. c.in_err-tree.ensures.refused r (ap Err is)))
-
--- A program comes to what its run comes to.
-pub returns-clause-comes : goal.returns-clause-comes
-returns-clause-comes c =
-    let t = tree_view spelled c.in_ok-tree.tree in
-    let said = c.in_ok-run.field-0.text.items in
-    let owes = tree_refusal-none t (length c.args.sets.now) c.in_ok-program.ensures.unrefused in
-    let lexes : Lexes c.args.text.now c.deref.result.now = subst (Lexes c.args.text.now) (sym c.deref.ensures.value) c.in_ok-tokens.ensures.found in
-    program-comes c.args.text.now (length c.args.sets.now) c.args.config.now.budget t c.in_ok-run.field-0.outcome said
-    (record { tokens = c.deref.result.now; lexes = lexes; spells = c.in_ok-tree.ensures.found; good = owes.0; unset = owes.1 })
-    (subst (λ t. Means t c.args.config.now.budget c.in_ok-run.field-0.outcome said) c.in_ok-program.ensures.same c.in_ok-run.ensures)
+pub returns-clause-means : goal.returns-clause-means
+returns-clause-means c =
+    let t = program_view c.args.program.now in
+    let sets = map (λ set. set.now) c.args.sets.now in
+    let p = c.in_ok-planned.planned in
+    let steps = p.steps.now in
+    let e = c.in_ok-planned.ensures in
+    let plan : IsPlan t p.slots p.scopes steps = planned t p.slots p.scopes steps e.text e.steps e.fits e.left e.scopes e.plain in
+    let given = c.deref.ensures.value ∙ c.in_ok-words.ensures in
+    let frame = c.in_ok-frame.ensures ∙ ap (λ ws. record { words = record { numbers = replicate p.slots (pos 0); ranges = replicate p.slots no_range; intents = []; sets = ws }; limits = limits_of c.args.config.now }) given in
+    λ histories.
+    means-ran t sets p.slots p.scopes steps plan (sets-fit t sets c.requires) (limits_of c.args.config.now) histories c.in_ok-run.field-0.outcome c.in_ok-run.field-0.text.items
+    (subst (λ (f : Framed). RanTo p.scopes t.stmts (exec_all f.limits by_word (steps_of steps) f.words no_deeds) c.in_ok-run.field-0.outcome c.in_ok-run.field-0.text.items) frame c.in_ok-run.ensures)

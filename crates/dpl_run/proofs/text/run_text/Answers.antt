@@ -1,15 +1,30 @@
-use Rattle.std.proofs.Common.{length}
-use Rattle.dpl_run.proofs.OneOutcome.{has_one_outcome}
+-- What is delivered is what the text comes to, which is a program or has a refusal.
+use Rattle.std.proofs.Common.{◌≡◌, true, map, subst}
+use Rattle.std.specs.Prelude.{OnErr}
+use Rattle.dpl_run.specs.Writers.{Partly}
+use Rattle.dpl_run.specs.Settings.{limits_of}
+use Rattle.dpl_run.proofs.OneOutcome.{is_read}
 use Rattle.dpl_run.proofs.Stages.{delivered}
 use Rattle.dpl_run.proofs.text.run_text.Goals as goal
 
 pub returns-clause-written : goal.returns-clause-written
 returns-clause-written g c =
-    delivered c.deliver.result c.args.text.now (length c.args.sets.now) c.args.config.now.budget c.in_ok-ended.ended.outcome c.in_ok-ended.ended.text.items
-    (g.W.Out.contents c.args.out.now) (g.W.Out.contents c.deliver.new.out) c.in_ok-ended.ensures c.deliver.ensures.outcome c.deliver.ensures.written
+    delivered c.args.text.now (map (λ set. set.now) c.args.sets.now) (limits_of c.args.config.now) c.deliver.result c.in_ok-ended.ended.outcome c.in_ok-ended.ended.text.items
+    (g.W.Out.contents c.args.out.now) (g.W.Out.contents c.deliver.new.out) c.in_ok-ended.ensures.comes c.deliver.ensures.outcome c.deliver.ensures.written
 
-pub returns-clause-one : goal.returns-clause-one
-returns-clause-one g c = has_one_outcome c.args.text.now (length c.args.sets.now) c.args.config.now.budget
+pub returns-clause-read : goal.returns-clause-read
+returns-clause-read g c = is_read c.args.text.now (map (λ set. set.now) c.args.sets.now)
 
-pub returns-in_err-ended-clause-one : goal.returns-in_err-ended-clause-one
-returns-in_err-ended-clause-one g c = has_one_outcome c.args.text.now (length c.args.sets.now) c.args.config.now.budget
+pub returns-in_err-ended-clause-read : goal.returns-in_err-ended-clause-read
+returns-in_err-ended-clause-read g c = is_read c.args.text.now (map (λ set. set.now) c.args.sets.now)
+
+pub returns-clause-writer : goal.returns-clause-writer
+returns-clause-writer g c e = (
+  subst (λ r. OnErr r (g.W.Out.has_failed c.deliver.new.out ≡ true)) e c.deliver.ensures.failed,
+  (
+    c.in_ok-ended.ended.outcome,
+    c.in_ok-ended.ended.text.items,
+    c.in_ok-ended.ensures.comes,
+    subst (λ r. OnErr r (Partly (g.W.Out.contents c.args.out.now) (g.W.Out.contents c.deliver.new.out) c.in_ok-ended.ended.text.items)) e c.deliver.ensures.partly,
+  ),
+)

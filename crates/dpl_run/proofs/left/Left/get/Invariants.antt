@@ -1,5 +1,5 @@
 use Rattle.std.proofs.Common.{◌≡◌, drop, map}
-use Rattle.dpl_meaning.specs.Names.{in_frame}
+use Rattle.dpl_language.specs.Names.{in_frame}
 use Rattle.dpl_run.specs.Leaving.{entry_of}
 use Rattle.dpl_run.proofs.left.Left.get.Given as goal
 

@@ -1,0 +1,40 @@
+// Forms of the language that are read and checked, and don't run: of a text that has one the first token that needs it is P1.
+// What else is wrong with such a text isn't told, but for what its grammar refuses.
+
+use super::first_wrong;
+use std::test::Fail;
+
+const CLOSED: [(&str, &str); 17] = [
+    ("var A: [1..3] int;", "! P1 at 1:8\n"),
+    ("writeln(5); const D = {1..8};", "! P1 at 1:23\n"),
+    (
+        "const D = {1..8}; var A: [D] int; forall i in D do A[i] = A[i-1];",
+        "! P1 at 1:11\n",
+    ),
+    ("const D: domain(1);", "! P1 at 1:10\n"),
+    ("const D = blockDist.createDomain(1..8);", "! P1 at 1:11\n"),
+    (
+        "const r = (1..3) dmapped new cyclicDist(1);",
+        "! P1 at 1:18\n",
+    ),
+    ("var c: sync int;", "! P1 at 1:8\n"),
+    ("writeln(numLocales);", "! P1 at 1:9\n"),
+    ("writeln(here.id);", "! P1 at 1:9\n"),
+    ("for l in Locales do ;", "! P1 at 1:10\n"),
+    ("on Locales[0] do ;", "! P1 at 1:1\n"),
+    ("coforall k in 0..1 do ;", "! P1 at 1:1\n"),
+    ("var s = + reduce (1..3);", "! P1 at 1:9\n"),
+    (
+        "if true then { while false { on here do ; } }",
+        "! P1 at 1:30\n",
+    ),
+    ("x = 1; const D = {1..8};", "! P1 at 1:18\n"),
+    ("const D = {1..8}; const E = ;", "! P1 at 1:29\n"),
+    ("A[1] = 2;", "! C1 at 1:1\n"),
+];
+
+#[test]
+fn told(rt: HostRuntime) -> Result<(), Fail> {
+    assert_eq!(rt; first_wrong(&rt, &CLOSED)?, None);
+    Ok(())
+}

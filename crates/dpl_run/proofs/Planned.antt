@@ -1,0 +1,91 @@
+-- The plan that the planner gives, from its clauses; and that the sets of a program without a refusal fit it.
+-- A `config const` in sight is a plain variable, and has a slot.
+use Rattle.std.proofs.Common.{◌≡◌, ℕ, ◌≤◌, List, [], ◌∷◌, Bool, true, false, Option, Some, None, is_some, refl, sym, ap, ◌∙◌, subst}
+use Rattle.std.specs.Prelude.{bytes_eq, if◌then◌else◌}
+use Rattle.std.proofs.Math.Nat.{le_refl}
+use Rattle.dpl_syntax.specs.declared.place.Place.{Place}
+use Rattle.dpl_syntax.specs.declared.refusal.Refusal.{Refusal}
+use Rattle.dpl_syntax.specs.declared.refusal.Breach.{Breach}
+use Rattle.dpl_language.specs.Tree.{ProgramTree}
+use Rattle.dpl_language.specs.Names.{Text}
+use Rattle.dpl_language.specs.Renamed.{renamed_program}
+use Rattle.dpl_language.specs.Scopes.{fits_all, after_all}
+use Rattle.dpl_rules.specs.Sights.{Declared, Scope, Scopes, find, or_else, lookup, type_declared}
+use Rattle.dpl_rules.specs.Breaches.{top, first_breach}
+use Rattle.dpl_rules.specs.Sound.{behind_all, sets_fit, set_refusal, refusal_by, refusal}
+use Rattle.dpl_scopes.specs.Slots.{slot_in}
+use Rattle.dpl_scopes.proofs.Slots.{slot_in-lookup}
+use Rattle.dpl_lowered.specs.LoweredStatements.{lowered_program}
+use Rattle.dpl_words.specs.Words.{LeafKind, known_leaf}
+use Rattle.dpl_words.specs.Resolved.{text_of, leaf_of, Start, first_seen, resolving}
+use Rattle.dpl_nodes.specs.declared.step.Step.{Step}
+use Rattle.dpl_nodes.specs.Steps.{steps_of}
+use Rattle.dpl_elaborator.specs.Leaves.{kind_by, kind_in, leaf_by}
+use Rattle.dpl_elaborator.specs.Sights.{bound_in, sight_of, IsPlainScope, ArePlainScopes}
+use Rattle.dpl_planner.specs.Bounds.{bound_program}
+use Rattle.dpl_planner.specs.Given.{IsGiven, IsConfig, AreGiven}
+use Rattle.dpl_closed.specs.Closed.{closed_stmts}
+use Rattle.dpl_run.specs.Headline.{or_closed, tree_refusal}
+use Rattle.dpl_run.specs.Plans.{IsPlan, IsGivenAlike}
+
+-- ---- what is in sight is plain
+abbrev PlainKind : Option Declared → Type 0
+PlainKind None = Unit {0}
+PlainKind (Some d) = (k : LeafKind) × (kind_by d.type ≡ Some k)
+
+find-plain : (s : Scope) (x : Text) → IsPlainScope s → PlainKind (find s x)
+find-plain [] x h = tt
+find-plain (d ∷ ds) x h = elim (bytes_eq x d.origin.name) as (λ b. PlainKind (if b then Some d else find ds x)) [ true ↦ h.0 | false ↦ find-plain ds x h.2 ]
+
+or-plain : (a b : Option Declared) → PlainKind a → PlainKind b → PlainKind (or_else a b)
+or-plain None b p q = q
+or-plain (Some d) b p q = p
+
+lookup-plain : (ss : Scopes) (x : Text) → ArePlainScopes ss → PlainKind (lookup ss x)
+lookup-plain [] x h = tt
+lookup-plain (s ∷ ss) x h = or-plain (find s x) (lookup ss x) (find-plain s x h.0) (lookup-plain ss x h.1)
+
+some-slot : (o : Option ℕ) → is_some o ≡ true → (slot : ℕ) × (o ≡ Some slot)
+some-slot None e = absurd cc
+some-slot (Some slot) e = (slot, refl)
+
+-- ---- what the sets give
+given-leaf : (start : Start) (ss : Scopes) (x : Text) (k : LeafKind) (slot : ℕ) → IsGivenAlike ss start → kind_in ss x ≡ Some k → slot_in ss x ≡ Some slot → IsGiven start (bound_in ss x)
+given-leaf start ss x k slot alike kind at =
+    subst (λ l. IsGiven start (record { text = x; leaf = l })) (sym (ap (λ o. leaf_by o (slot_in ss x)) kind ∙ ap (leaf_by (Some k)) at)) (alike x k slot kind at)
+
+configured-given : (start : Start) (ss : Scopes) (x : Text) → IsGivenAlike ss start → (o : Option Declared) → lookup ss x ≡ o → IsConfig o → PlainKind o → IsGiven start (bound_in ss x)
+configured-given start ss x alike None found config plain = absurd config
+configured-given start ss x alike (Some d) found config plain =
+    let slot = some-slot (slot_in ss x) (slot_in-lookup ss x ∙ ap is_some found) in
+    given-leaf start ss x plain.0 slot.0 alike (ap (λ o. kind_by (type_declared o)) found ∙ plain.1) slot.1
+
+are-given : (start : Start) (ss : Scopes) → ArePlainScopes ss → IsGivenAlike ss start → AreGiven start ss
+are-given start ss plain alike x config = configured-given start ss x alike (lookup ss x) refl config (lookup-plain ss x plain)
+
+pub planned : (t : ProgramTree Text) (slots : ℕ) (scopes : Scopes) (steps : List Step) → renamed_program text_of (bound_program t) ≡ t → (lowered_program known_leaf (renamed_program leaf_of (bound_program t))).stmts ≡ steps_of steps
+    → ((start : Start) → slots ≤ start.slots → AreGiven start scopes → fits_all (resolving start) (bound_program t).stmts first_seen)
+    → ((start : Start) → (after_all (resolving start) (bound_program t).stmts first_seen).frames ≡ sight_of scopes)
+    → scopes ≡ behind_all top t.stmts → ArePlainScopes scopes → IsPlan t slots scopes steps
+planned t slots scopes steps text nodes fits sight behind plain = record {
+  resolved = bound_program t;
+  text = text;
+  nodes = nodes;
+  fits = λ start same alike. fits start (subst (λ n. slots ≤ n) (sym same) (le_refl slots)) (are-given start scopes plain alike);
+  sight = sight;
+  behind = behind;
+  plain = plain;
+}
+
+-- ---- a program without a refusal
+unclosed : (o : Option Place) (r : Option Refusal) → or_closed o r ≡ None → r ≡ None
+unclosed None r e = e
+unclosed (Some at) r e = absurd cc
+
+fitting : (b : Option Breach) (fit : Bool) → refusal_by b fit ≡ None → fit ≡ true
+fitting None true e = refl
+fitting None false e = absurd cc
+fitting (Some b) fit e = absurd cc
+
+pub sets-fit : (t : ProgramTree Text) (sets : List (List ℕ)) → tree_refusal sets t ≡ None → sets_fit (behind_all top t.stmts) [] sets ≡ true
+sets-fit t sets e = fitting (first_breach t) (sets_fit (behind_all top t.stmts) [] sets) (unclosed (closed_stmts t.stmts) (refusal t sets) e)

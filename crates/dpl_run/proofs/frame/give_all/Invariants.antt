@@ -1,0 +1,7 @@
+-- What is given so far, and what is left, is all.
+use Rattle.std.proofs.Common.{◌≡◌, ◌++◌, take}
+use Rattle.dpl_run.proofs.frame.give_all.Given as goal
+
+abbrev pub invariant-loop-word : goal.invariant-loop-word
+invariant-loop-word l =
+    l.frame ≡ record l.initial.frame { words = record l.initial.frame.words { sets = l.initial.frame.words.sets ++ take l.word-index l.words } }

@@ -1,0 +1,36 @@
+// The frame that a run starts from: its slots, and what the command line gives to them.
+
+ghost use Rattle.std.specs.Prelude.{◌≡◌, ◌++◌, pos, [], replicate, IfOk, OnOk};
+ghost use Rattle.dpl_words.specs.Words.{no_range};
+ghost use Rattle.dpl_run.specs.Settings.{limits_of};
+
+use crate::config::Config;
+use dpl_nodes::Frame;
+use std::alloc::{AllocError, Global};
+
+// Gives these words to their slots, behind what was given before.
+fn give_all(frame: &mut Frame<'_>, words: &[(usize, i64)]) -> Result<(), AllocError>
+    ensures { OnOk result (frame.new ≡ record frame.old { words = record frame.old.words { sets = frame.old.words.sets ++ words.now } }) }
+{
+    for word in words {
+        frame.give(word.0, word.1)?;
+    }
+    Ok(())
+}
+
+/// A frame with so many slots, in which these words are given.
+///
+/// # Errors
+/// Out of memory.
+pub(crate) fn first_frame<'t>(
+    alloc: Global,
+    slots: usize,
+    words: &[(usize, i64)],
+    config: &Config,
+) -> Result<Frame<'t>, AllocError>
+    ensures { IfOk result (λ f. f ≡ record { words = record { numbers = replicate slots (pos 0); ranges = replicate slots no_range; intents = []; sets = words.now }; limits = limits_of config.now }) }
+{
+    let mut frame = Frame::new(alloc, slots, slots, config.budget(), config.locales())?;
+    give_all(&mut frame, words)?;
+    Ok(frame)
+}
