@@ -9,6 +9,3 @@ pub mod post;
 pub mod range;
 
 pub use elaborate::{expression, item};
-
-#[cfg(test)]
-mod tests;
