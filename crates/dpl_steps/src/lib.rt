@@ -7,8 +7,6 @@ pub mod halt;
 mod print;
 mod reduce;
 pub mod statement;
-#[cfg(test)]
-mod tests;
 
 pub use halt::Halt;
 pub use statement::run;
