@@ -1,13 +1,13 @@
 -- What a walk over a part of a program promises: what is in sight behind it, what it did, and the first breach so far.
 -- Each is that of the definition's walks, one after the other.
-use Rattle.std.specs.Prelude.{◌≡◌, List, Option, option_map}
+use Rattle.std.specs.Prelude.{◌≡◌, ◌++◌, false, List, Option, option_map}
 use Rattle.dpl_syntax.specs.declared.refusal.Breach.{Breach}
-use Rattle.dpl_language.specs.Tree.{ItemTree, VariablesTree, StmtTree, Body, Else, Stmts}
+use Rattle.dpl_language.specs.Tree.{ItemTree, VariablesTree, WithTree, StmtTree, Body, Else, Stmts}
 use Rattle.dpl_language.specs.Names.{Text}
 use Rattle.dpl_rules.specs.Sights.{Scopes, Sight, enter}
-use Rattle.dpl_rules.specs.Loops.{LoopWord, typed_variable, over_type, variables_of, add_variables, behind}
+use Rattle.dpl_rules.specs.Loops.{LoopWord, typed_variable, over_type, variables_of, add_variables, behind, header_breaches, with_breaches}
 use Rattle.dpl_rules.specs.Sound.{behind_all}
-use Rattle.dpl_rules.specs.Deeds.{Deed}
+use Rattle.dpl_rules.specs.Deeds.{Deed, item_deeds}
 use Rattle.dpl_rules.specs.Bodies.{inner_reductions}
 use Rattle.dpl_rules.specs.Doings.{stmt_deeds, body_deeds, stmts_deeds, else_deeds}
 use Rattle.dpl_rules.specs.Breaches.{stmt_breaches, body_breaches, stmts_breaches, else_breaches, all_declarations, count_breaches, least_from}
@@ -45,6 +45,18 @@ WalksElse around other old new =
 -- the scope of a loop's variables, in which that of its body stands
 abbrev pub of_variables : Scopes → LoopWord → VariablesTree Text → ItemTree Text → Scopes
 of_variables scopes word xs item = add_variables (typed_variable word xs (over_type scopes item)) (variables_of xs) (enter scopes)
+
+-- the head of a loop, and that of a forall or a coforall with its intents: the scope of the variables is open behind them
+abbrev pub WalksHead : LoopWord → VariablesTree Text → ItemTree Text → List Breach → Walk → Walk → Type 0
+WalksHead word xs item told old new =
+    Walks (of_variables old.scopes word xs item) (item_deeds old.scopes false item) told old new
+
+abbrev pub WalksLoop : LoopWord → VariablesTree Text → ItemTree Text → Walk → Walk → Type 0
+WalksLoop word xs item old new = WalksHead word xs item (header_breaches old.scopes word xs item) old new
+
+abbrev pub WalksShared : LoopWord → VariablesTree Text → ItemTree Text → Option (WithTree Text) → Walk → Walk → Type 0
+WalksShared word xs item with_them old new =
+    WalksHead word xs item (header_breaches old.scopes word xs item ++ with_breaches old.scopes with_them) old new
 
 -- behind all statements: a first breach before, with what all deeds and all declarations of a program break
 abbrev pub whole_told : Stmts Text → List Deed → Option Breach → Option Breach

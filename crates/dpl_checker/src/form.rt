@@ -1,17 +1,16 @@
 // The statements that hold no other, and the heads of loops: what each tells and does, and what is in sight behind it.
 // A loop's head opens the scope of its variables.
 
-ghost use Rattle.std.specs.Prelude.{◌++◌, false, OnOk};
+ghost use Rattle.std.specs.Prelude.{false, OnOk};
 ghost use Rattle.dpl_language.specs.Tree.{Declare as DeclareTree, Assigned as AssignedTree, Call as CallTree, Write as WriteTree};
 ghost use Rattle.dpl_tree.specs.View.{name_view, expr_view, item_view};
 ghost use Rattle.dpl_tree.specs.Declarations.{optional, declare_view};
 ghost use Rattle.dpl_tree.specs.Statements.{target_view, sign_view, call_view, written_view, variables_view, with_view};
-ghost use Rattle.dpl_rules.specs.Loops.{header_breaches, with_breaches};
 ghost use Rattle.dpl_rules.specs.Assignments.{condition_breaches, on_breaches};
-ghost use Rattle.dpl_rules.specs.Deeds.{held as held_of, AnOn, expr_deeds as expr_deeds_of, item_deeds as item_deeds_of};
+ghost use Rattle.dpl_rules.specs.Deeds.{held as held_of, AnOn, expr_deeds as expr_deeds_of};
 ghost use Rattle.dpl_forms.specs.Heads.{word_view};
 ghost use Rattle.dpl_checker.specs.declared.walk.Around.{Around as AroundNode};
-ghost use Rattle.dpl_checker.specs.Walks.{Walks, WalksStmt, sight_in, of_variables};
+ghost use Rattle.dpl_checker.specs.Walks.{Walks, WalksStmt, WalksLoop, WalksShared, sight_in};
 
 use crate::walk::{Around, Walk, Walked, behind};
 use dpl_bodies::outside::promoted_breaches;
@@ -123,7 +122,7 @@ pub(crate) fn open_loop<'t>(
     variables: &Variables<'t>,
     over: &Item<'t>,
 ) -> Walked
-    ensures { OnOk result (Walks (of_variables walk.old.scopes (word_view word) (variables_view variables.now) (item_view over.now)) (item_deeds_of walk.old.scopes false (item_view over.now)) (header_breaches walk.old.scopes (word_view word) (variables_view variables.now) (item_view over.now)) walk.old walk.new) }
+    ensures { OnOk result (WalksLoop (word_view word) (variables_view variables.now) (item_view over.now) walk.old walk.new) }
 {
     let found = head(
         walk.alloc,
@@ -145,7 +144,7 @@ pub(crate) fn open_shared<'t>(
     over: &Item<'t>,
     with: &Option<With<'t>>,
 ) -> Walked
-    ensures { OnOk result (Walks (of_variables walk.old.scopes (word_view word) (variables_view variables.now) (item_view over.now)) (item_deeds_of walk.old.scopes false (item_view over.now)) (header_breaches walk.old.scopes (word_view word) (variables_view variables.now) (item_view over.now) ++ with_breaches walk.old.scopes (optional with_view with.now)) walk.old walk.new) }
+    ensures { OnOk result (WalksShared (word_view word) (variables_view variables.now) (item_view over.now) (optional with_view with.now) walk.old walk.new) }
 {
     intents(walk.alloc, &walk.scopes, with, &mut walk.first)?;
     open_loop(walk, word, variables, over)?;

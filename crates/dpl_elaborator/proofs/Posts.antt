@@ -24,7 +24,8 @@ use Rattle.dpl_words.specs.Words.{Leaf, known_leaf}
 use Rattle.dpl_nodes.specs.declared.make.Typed.{Typed}
 use Rattle.dpl_nodes.specs.Makers.{typed_view, kind_of}
 use Rattle.dpl_elaborator.specs.Leaves.{leaf_in, IsFound, IsOfKind}
-use Rattle.dpl_elaborator.specs.Simple.{HasPosts, IsSimple, IsSimpleItem, AreSimplePosts, IsSimplePost, IsSimpleMethod, IsSimpleCut, IsSimpleIndex}
+use Rattle.dpl_language.specs.Spelled.{HasPosts}
+use Rattle.dpl_elaborator.specs.Simple.{IsSimple, IsSimpleItem, AreSimplePosts, IsSimplePost, IsSimpleMethod, IsSimpleCut, IsSimpleIndex}
 use Rattle.dpl_elaborator.specs.Elaborated.{leaves_of, post_leaves, posts_leaves, IsPostOf, ArePostsSoFar, HasNoPost, HaveNoPosts}
 
 -- ---- the base

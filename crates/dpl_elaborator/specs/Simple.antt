@@ -2,12 +2,8 @@
 -- base the methods without arguments, `contains` of one argument, and slices by one item. What its names are is asked of each.
 use Rattle.std.specs.Prelude.{◌≡◌, true}
 use Rattle.dpl_language.specs.Tree.{ExprTree, Number, TruthWord, Named, LocalesWord, LocaleCount, HereWord, Grouped, DomainLiteral, Prefixed, Reduced, Chain, Postfixed, ItemTree, One, RangeItem, Stride, NoStride, By, Links, NoLinks, Link, Posts, NoPosts, Post, PostTree, Brackets, Rounds, Dotted, MethodTree, Plainly, Dim, Contains, Expand, CellRead, Items, FirstItem, NoItems, NextItem, Exprs, FirstExpr, NoExprs, NextExpr}
+use Rattle.dpl_language.specs.Spelled.{HasPosts}
 use Rattle.dpl_lowered.specs.Shapes.{nests}
-
--- something stands behind a base
-abbrev pub HasPosts : {N : Type 0} → Posts N → Type 0
-HasPosts NoPosts = ⊥
-HasPosts (Post p rest) = Unit {0}
 
 module _ {N : Type 0} (Holds : N → Type 0) where
   abbrev mutual

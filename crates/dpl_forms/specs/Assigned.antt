@@ -1,16 +1,20 @@
 -- What assignments owe, part by part.
 -- Each is a part of a rule of dpl_rules.
-use Rattle.std.specs.Prelude.{false, List, ◌++◌, Option}
+use Rattle.std.specs.Prelude.{◌≡◌, Bool, false, List, ◌++◌, Option}
 use Rattle.dpl_syntax.specs.declared.refusal.Breach.{Breach}
 use Rattle.dpl_language.specs.Tree.{Placed, AssignTree, ItemTree}
 use Rattle.dpl_language.specs.Names.{Text}
 use Rattle.dpl_tree.specs.declared.statement.Element.{Element as ElementNode}
-use Rattle.dpl_tree.specs.View.{exprs_view}
+use Rattle.dpl_tree.specs.declared.statement.Assignment.{Assignment as AssignmentNode}
+use Rattle.dpl_tree.specs.View.{item_view, exprs_view}
+use Rattle.dpl_tree.specs.Statements.{target_view, sign_view}
+use Rattle.dpl_rules.specs.Breaches.{least_from}
 use Rattle.dpl_rules.specs.Verdicts.{Verdict, type_by, broken_by, with_type}
 use Rattle.dpl_rules.specs.Sights.{Scopes, lookup, type_declared, Reducing}
 use Rattle.dpl_rules.specs.Operators.{round_verdict}
 use Rattle.dpl_rules.specs.Expressions.{name_verdict, expr_parts, exprs_breaches, side_part, side_breaches}
-use Rattle.dpl_rules.specs.Assignments.{written_name, fitting_target, may_reduce_in}
+use Rattle.dpl_rules.specs.Assignments.{written_name, fitting_target, may_reduce_in, assignment_breaches}
+use Rattle.dpl_forms.specs.Called.{sight_of}
 
 -- an element that is written
 abbrev pub element_verdict : Scopes → ElementNode → Verdict
@@ -27,3 +31,8 @@ abbrev pub element_told : Scopes → ElementNode → AssignTree → ItemTree Tex
 element_told scopes e sign item =
     written_name e.name.at (lookup scopes e.name.text.now) ++ (exprs_breaches scopes (exprs_view e.exprs) ++ broken_by (element_verdict scopes e))
     ++ side_breaches scopes item ++ fitting_target sign false (side_part scopes item) (type_by (element_verdict scopes e))
+
+-- the first of a breach that was told before and an assignment's, in a task or not
+abbrev pub AssignmentTold : Scopes → Option Reducing → AssignmentNode → Option Breach → Option Breach → Type 0
+AssignmentTold scopes forall a old new =
+    (in_task : Bool) → new ≡ least_from old (assignment_breaches (sight_of scopes forall in_task) (target_view a.target) (sign_view a.sign) (item_view a.value))

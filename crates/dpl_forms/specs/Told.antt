@@ -12,6 +12,8 @@ use Rattle.dpl_rules.specs.Declarations.{config_initial, config_type, untyped_in
 use Rattle.dpl_rules.specs.Sights.{Scopes}
 use Rattle.dpl_rules.specs.Operators.{over_verdict}
 use Rattle.dpl_rules.specs.Expressions.{item_parts, items_breaches}
+use Rattle.dpl_types.specs.declared.value_type.ValueType.{ValueType as TypeNode}
+use Rattle.dpl_typing.specs.Told.{Tells}
 
 -- what an array is over, or a domain is created from
 abbrev pub over_told : Scopes → Place → Items Text → List Breach
@@ -37,6 +39,9 @@ untyped_told scopes is_config initial = untyped_initial scopes initial ++ config
 abbrev pub typed_told : Scopes → Origin → Bool → TypeTree Text → Option (InitialTree Text) → List Breach
 typed_told scopes own is_config t initial =
     type_breaches scopes t ++ typed_initial scopes (declared_type scopes own t) initial ++ config_type_told is_config t
+
+abbrev pub TypedTold : Scopes → Origin → Bool → TypeTree Text → Option (InitialTree Text) → Option TypeNode → Option Breach → Option Breach → Type 0
+TypedTold scopes own is_config t initial = Tells (declared_type scopes own t) (typed_told scopes own is_config t initial)
 
 -- the type that a declaration gives, and what it owes but for its name
 abbrev pub given : Scopes → Origin → DeclareTree Text → Option ValueType

@@ -17,7 +17,7 @@ ghost use Rattle.dpl_scopes.specs.View.{declared_view};
 ghost use Rattle.dpl_typing.specs.Told.{Tells};
 ghost use Rattle.dpl_forms.specs.Around.{reducing_view};
 ghost use Rattle.dpl_forms.specs.Called.{sight_of};
-ghost use Rattle.dpl_forms.specs.Assigned.{element_verdict, whole_told, element_told};
+ghost use Rattle.dpl_forms.specs.Assigned.{element_verdict, whole_told, element_told, AssignmentTold};
 
 use crate::around::{Reducing, may_reduce};
 use crate::side::side;
@@ -209,7 +209,7 @@ pub fn assignment<'t>(
     written: &Assignment<'_>,
     first: &mut Option<Breach>,
 ) -> Result<(), AllocError>
-    ensures { (in_task : Bool) → OnOk result (first.new ≡ least_from first.old (assignment_breaches (sight_of scopes.now (option_map reducing_view around.now) in_task) (target_view written.now.target) (sign_view written.now.sign) (item_view written.now.value))) }
+    ensures { OnOk result (AssignmentTold scopes.now (option_map reducing_view around.now) written.now first.old first.new) }
 {
     match &written.target {
         Target::Whole(name) => to_name(alloc, scopes, around, name, written, first),

@@ -19,7 +19,7 @@ ghost use Rattle.dpl_rules.specs.Declarations.{written_breaches, type_given, dec
 ghost use Rattle.dpl_types.specs.View.{type_view, of_type, origin_view, part_view};
 ghost use Rattle.dpl_types.specs.Wants.{takes};
 ghost use Rattle.dpl_scopes.specs.View.{declared_view, sort_view};
-ghost use Rattle.dpl_forms.specs.Told.{domain_given, over_told, untyped_told, typed_told, given, given_told};
+ghost use Rattle.dpl_forms.specs.Told.{domain_given, over_told, untyped_told, TypedTold, given, given_told};
 ghost use Rattle.dpl_syntax.specs.declared.place.Place.{Place as PlaceNode};
 ghost use Rattle.dpl_typing.specs.Told.{Tells, TellsPart};
 
@@ -329,7 +329,7 @@ fn typed_name<'t>(
     initial: &Option<Initial<'_>>,
     first: &mut Option<Breach>,
 ) -> Judged<'t>
-    ensures { IfOk result (λ t. Tells (declared_type scopes.now (origin_view own.entry) (written_type_view written.now)) (typed_told scopes.now (origin_view own.entry) is_config (written_type_view written.now) (optional initial_view initial.now)) t first.old first.new) }
+    ensures { IfOk result (λ t. TypedTold scopes.now (origin_view own.entry) is_config (written_type_view written.now) (optional initial_view initial.now) t first.old first.new) }
 {
     let declared = declared_as(alloc, scopes, own, written, first)?;
     typed_initial(alloc, scopes, declared, initial, first)?;

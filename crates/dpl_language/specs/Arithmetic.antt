@@ -1,13 +1,16 @@
 -- The operators on values.
 -- Numbers are whole numbers brought into 64 bits after each `+ - *` and unary `-`.
-use Rattle.std.specs.Prelude.{pos, ◌+ℤ◌, ◌-ℤ◌, ◌*ℤ◌, neg_ℤ, Bool, true, false, not, ◌&&◌, ◌||◌, if◌then◌else◌, int_lt, int_le, int_div, int_rem, Option, Some, None, Result, Ok, Err}
+use Rattle.std.specs.Prelude.{ℤ, pos, ◌+ℤ◌, ◌-ℤ◌, ◌*ℤ◌, neg_ℤ, Bool, true, false, not, ◌&&◌, ◌||◌, if◌then◌else◌, int_lt, int_le, int_div, int_rem, Option, Some, None, Result, Ok, Err}
 use Rattle.std.specs.Ordering.{int_eq}
-use Rattle.std.specs.Int.{int_min, int_max, int_bit_and, int_bit_or, int_bit_xor}
+use Rattle.std.specs.Int.{int_wrap, int_min, int_max, int_bit_and, int_bit_or, int_bit_xor}
 use mir.Syntax.{w64}
 use Rattle.dpl_syntax.specs.declared.place.Place.{Place}
-use Rattle.dpl_syntax.specs.Values.{wrap}
 use Rattle.dpl_language.specs.Tree.{Prefix, Minus, Not, Infix, Add, Subtract, Multiply, Divide, Remainder, Less, LessEqual, Greater, GreaterEqual, Equal, NotEqual, And, Or, Op, Sum, Product, AllOf, AnyOf, BitAnd, BitOr, BitXor, Least, Greatest, Assign, Set, SetAdd, SetSubtract, SetMultiply, SetDivide, SetRemainder, SetReduce}
 use Rattle.dpl_language.specs.Values.{Value, Int, Truth, number, truth, kept_number, Fault, fault, ZeroDivisor}
+
+-- brought into -2^63 .. 2^63 - 1 modulo 2^64
+abbrev pub wrap : ℤ → ℤ
+wrap z = int_wrap w64 z
 
 -- an operator before its operand
 abbrev pub prefix_of : Prefix → Value → Value

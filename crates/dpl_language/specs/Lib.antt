@@ -19,6 +19,7 @@ pub mod Names
 pub mod Program
 pub mod Together
 -- What serves proofs alone: trees with other names, which names a tree may use where, and when two environments agree.
+pub mod Spelled
 pub mod Renamed
 pub mod Scopes
 pub mod Agreement

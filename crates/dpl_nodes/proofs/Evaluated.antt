@@ -3,7 +3,7 @@
 use Rattle.std.proofs.Common.{◌≡◌, ℤ, pos, Bool, true, false, not, List, [], ◌∷◌, get_or, Result, Ok, Err, None, refl, sym, subst}
 use Rattle.std.specs.Prelude.{◌&&◌, ◌||◌, ◌+ℤ◌, ◌-ℤ◌, ◌*ℤ◌, neg_ℤ, int_lt, int_le, int_div, int_rem}
 use Rattle.std.specs.Ordering.{int_eq}
-use Rattle.dpl_syntax.specs.Values.{wrap}
+use Rattle.dpl_language.specs.Arithmetic.{wrap}
 use Rattle.dpl_syntax.specs.declared.place.Place.{Place}
 use Rattle.dpl_range.specs.Equality.{TextRange}
 use Rattle.dpl_language.specs.Tree.{ExprTree, FirstItem, NoItems, FirstExpr, NoExprs}

@@ -24,7 +24,7 @@ use Rattle.dpl_rules.specs.Operators.{index_breaches, slice_breaches, locale_bre
 use Rattle.dpl_rules.specs.Operators.{domain_over, word_verdict, dim_verdict, contains_verdict, expand_verdict}
 use Rattle.dpl_rules.specs.Expressions.{type_of, item_parts, expr_parts, posts_type, post_verdict, method_verdict}
 use Rattle.dpl_sound.specs.Typed.{OfKind, HasType, type_at}
-use Rattle.dpl_sound.specs.Formed.{HasPosts}
+use Rattle.dpl_language.specs.Spelled.{HasPosts}
 use Rattle.dpl_sound.proofs.Given.{some-same, has_if-gives, judged-gives}
 use Rattle.dpl_sound.proofs.Results.{with_ok-if, with_ok-if_by, test-if}
 use Rattle.dpl_sound.proofs.Ranges.{range_sliced-strides, all_sliced-ranked, text_expanded-ranked, dimension-strides}

@@ -24,7 +24,8 @@ use Rattle.dpl_rules.specs.Loops.{behind}
 use Rattle.dpl_rules.specs.Declarations.{domain_in, type_rank, agreeing, unmapped, is_untyped, unless_refused, over_domain, declared_type, type_breaches, create_breaches, init_part}
 use Rattle.dpl_rules.specs.Declarations.{untyped_breaches, typed_breaches, typed_initial, config_breaches, written_breaches, type_given, declaration_breaches, declared_by}
 use Rattle.dpl_rules.proofs.Admission.{first_empty, second_empty}
-use Rattle.dpl_sound.specs.Formed.{InitialFormed, TypeFormed, SaysType}
+use Rattle.dpl_language.specs.Spelled.{SaysType}
+use Rattle.dpl_sound.specs.Formed.{InitialFormed, TypeFormed}
 use Rattle.dpl_sound.specs.Runs.{Keeps, Leaves, InitialReplied, InitialTyped, GivenFits}
 use Rattle.dpl_sound.proofs.Given.{owed_not-holds, some-same, judged-gives, with_type-gives}
 use Rattle.dpl_sound.proofs.Known.{IsTold, IsTyped, told-typed, judged-told, AreKnown, item_type-known, items-known}

@@ -3,6 +3,7 @@
 -- has A's type and is no name, so brackets behind it index no array and give 0, of an array of bools too; and `A` with
 -- nothing behind it has A's type, and is the whole array at an index too.
 use Rattle.std.specs.Prelude.{Option, Some, None}
+use Rattle.dpl_language.specs.Spelled.{HasPosts}
 use Rattle.dpl_language.specs.Tree.{ExprTree, Number, TruthWord, Named, LocalesWord, LocaleCount, HereWord, Grouped, DomainLiteral, Prefixed, Reduced, Chain, Postfixed, ItemTree, One, RangeItem, Stride, NoStride}
 use Rattle.dpl_language.specs.Tree.{By, Links, NoLinks, Link, Posts, NoPosts, Post, PostTree, Brackets, Rounds, Dotted, MethodTree, Plainly, Dim, Contains, Expand, CellRead, Items}
 use Rattle.dpl_language.specs.Tree.{FirstItem, MoreItems, NoItems, NextItem, Exprs, FirstExpr, MoreExprs, NoExprs, NextExpr}
@@ -13,11 +14,6 @@ module _ {N : Type 0} where
   abbrev pub HasLinks : Links N → Type 0
   HasLinks NoLinks = ⊥
   HasLinks (Link at op e rest) = Unit {0}
-
-  -- brackets, rounds or a method
-  abbrev pub HasPosts : Posts N → Type 0
-  HasPosts NoPosts = ⊥
-  HasPosts (Post p rest) = Unit {0}
 
   -- so in each part of the tree
   abbrev mutual
@@ -92,9 +88,3 @@ module _ {N : Type 0} where
   TypeFormed (Some (SyncType at kind_at k)) = Unit {0}
   TypeFormed (Some (DomainType d)) = Unit {0}
   TypeFormed (Some (ArrayType a)) = ItemsFormed a.over
-
-  -- a declaration has a type, an initial value or both
-  abbrev pub SaysType : Option (TypeTree N) → Option (InitialTree N) → Type 0
-  SaysType None None = ⊥
-  SaysType None (Some i) = Unit {0}
-  SaysType (Some t) initial = Unit {0}

@@ -18,7 +18,8 @@ use Rattle.dpl_spelling.specs.Declarations.{if_there, after_inside, tuple_end, i
 use Rattle.dpl_spelling.specs.Statements.{element, target_end, assign_by, assign_sign, assignment_end, write_call, read_call, reset_call, cell_call, call_end, named_statement, argument, output, stmts_of, block, part, body, Condition, condition, Conditional, consequence, alternative, if_else, while_loop, on_locale, variables, reduce_operator, intent, with_intents, Loop, loop_head, for_loop, ParallelLoop, parallel_head, forall_loop, coforall_loop, simple_statement, plain_statement, statement}
 use Rattle.dpl_spelling.specs.Grammar.{Program, top, tops, program, grammar}
 use Rattle.dpl_spelling.specs.Theorem.{Spells}
-use Rattle.dpl_spelling.specs.Spelt.{Products, Sums, Relations, Equalities, Conjunctions, Disjunctions, NameSpelt, ExprSpelt, ItemSpelt, ArgumentNameSpelt, StartSpelt, MapSpelt, MappedSpelt, TypedSpelt, InitialSpelt, SaysType, ArgumentSpelt, IntentSpelt, WithSpelt, VariablesSpelt, TargetSpelt, SignSpelt, CallSpelt, StmtSpelt, BodySpelt, StmtsSpelt}
+use Rattle.dpl_language.specs.Spelled.{SaysType}
+use Rattle.dpl_spelling.specs.Spelt.{Products, Sums, Relations, Equalities, Conjunctions, Disjunctions, NameSpelt, ExprSpelt, ItemSpelt, ArgumentNameSpelt, StartSpelt, MapSpelt, MappedSpelt, TypedSpelt, InitialSpelt, ArgumentSpelt, IntentSpelt, WithSpelt, VariablesSpelt, TargetSpelt, SignSpelt, CallSpelt, StmtSpelt, BodySpelt, StmtsSpelt}
 use Rattle.dpl_spelling.proofs.Spelt.{TokenSpelt, InsideSpelt, NestedSpelt, Is, name_spelt, number_token_spelt, after_comma_spelt, listed_spelt, postfixed_spelt, chain_spelt, items_spelt, exprs_spelt, post_spelt, simple_base_spelt, base_spelt, red_spelt, not_spelt, further_spelt, sum_operator_spelt, relation_operator_spelt, equality_operator_spelt, and_operator_spelt, or_operator_spelt, further_factor_spelt, neg_spelt, sum_spelt, relation_spelt, equality_spelt, conjunction_spelt, expression_from_spelt, expression_spelt, item_spelt}
 
 if_there_each : {A : Type 0} (Q : A → Type 0) (z : Option A) → IfThere Q z → Each Q (if_there z)

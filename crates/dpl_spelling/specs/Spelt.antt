@@ -2,6 +2,7 @@
 -- that isn't alone; and of the place of each of its tokens P is true, where it is true of the places of the tokens.
 use Rattle.std.specs.Prelude.{◌≡◌, Option, Some, None}
 use Rattle.dpl_syntax.specs.declared.place.Place.{Place}
+use Rattle.dpl_language.specs.Spelled.{HasPosts, SaysType}
 use Rattle.dpl_language.specs.Names.{Text}
 use Rattle.dpl_language.specs.Tree.{Placed, AfterComma, Listed, Infix, Add, Subtract, Multiply, Divide, Remainder, Less, LessEqual, Greater, GreaterEqual, Equal, NotEqual, And, Or, AssignTree, Dots, Closed, HalfOpen, Counted, ExprTree, Number, TruthWord, Named, LocalesWord, LocaleCount, HereWord, Grouped, DomainLiteral, Prefixed, Reduced, Chain, Postfixed, ItemTree, One, RangeItem, Stride, NoStride, By, Links, NoLinks, Link, Posts, NoPosts, Post, PostTree, Brackets, Rounds, Dotted, MethodTree, Plainly, Dim, Contains, Expand, CellRead, Items, FirstItem, MoreItems, NoItems, NextItem, Exprs, FirstExpr, MoreExprs, NoExprs, NextExpr}
 use Rattle.dpl_language.specs.Tree.{ArgumentName, StartTree, StartExpr, StartTuple, MapTree, BlockMap, CyclicMap, BlockCyclicMap, MappedTree, TypeTree, ScalarType, SyncType, DomainType, ArrayType, InitTree, ItemInit, CreateInit, TypedTree, InitialTree, DeclareTree}
@@ -41,16 +42,6 @@ AreOfLevel l (Link at op e rest) = (level_of op ≡ l) × AreOfLevel l rest
 abbrev pub IsOneLevel : {N : Type 0} → Links N → Type 0
 IsOneLevel NoLinks = ⊥
 IsOneLevel (Link at op e rest) = AreOfLevel (level_of op) rest
-
-abbrev pub HasPosts : {N : Type 0} → Posts N → Type 0
-HasPosts NoPosts = ⊥
-HasPosts (Post p rest) = Unit {0}
-
--- a declaration has a type, an initial value or both
-abbrev pub SaysType : {N : Type 0} → Option (TypedTree N) → Option (InitialTree N) → Type 0
-SaysType None None = ⊥
-SaysType None (Some i) = Unit {0}
-SaysType (Some t) initial = Unit {0}
 
 module _ (P : Place → Type 0) where
   abbrev pub NameSpelt : Placed Text → Type 0

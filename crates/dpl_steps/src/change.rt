@@ -10,8 +10,7 @@ ghost use Rattle.dpl_steps.specs.Changes.{declared_words, given_words, assigned_
 
 use crate::reduce::{reduced_int, reduced_truth};
 use dpl_nodes::{BoolExpr, FaultCode, Frame, IntExpr, RangeExpr, Spot, Trap};
-use dpl_syntax::operator::{difference, product, sum};
-use dpl_values::number::{quotient, remainder};
+use dpl_values::number::{difference, product, quotient, remainder, sum};
 use dpl_values::{int_value, range_value, truth_value};
 
 /// An int's declaration, or an assignment to it.

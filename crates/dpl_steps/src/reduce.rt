@@ -6,8 +6,8 @@ ghost use Rattle.dpl_language.specs.Values.{number, kept_number, Int, Truth};
 ghost use Rattle.dpl_language.specs.Arithmetic.{combined as combined_of, by_intent};
 ghost use Rattle.dpl_tree.specs.Words.{op_view};
 
-use dpl_syntax::operator::{product, sum};
 use dpl_tree::Op;
+use dpl_values::number::{product, sum};
 
 // Two ints.
 fn combined_ints(op: Op, a: i64, b: i64) -> i64

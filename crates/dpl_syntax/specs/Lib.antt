@@ -1,13 +1,10 @@
--- The language: tokens, the text of which they are, texts without tokens, trees, values, and the lines that tell.
+-- The language: tokens, the text of which they are, texts without tokens, and the lines that tell.
 pub mod Tokens
 pub mod Gaps
 pub mod Text
 pub mod Refused
 pub mod Places
-pub mod Tree
-pub mod Values
 pub mod Lines
 -- What serves contracts and proofs alone.
-pub mod View
 pub mod Stops
 pub mod Scan

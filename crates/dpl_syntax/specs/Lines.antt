@@ -1,14 +1,11 @@
--- The lines that tell a refusal or a fault, as they are printed, without the newline.
--- A refused text writes its refusal's line alone; a fault's line is the last one of a run.
-use Rattle.std.specs.Prelude.{ℕ, ℤ, List, ◌++◌, codes, Option, Some, None}
-use Rattle.std.specs.Fmt.{decimal, signed_decimal}
+-- The line that tells a refusal, as it is printed, without the newline.
+-- A refused text writes its refusal's line alone.
+use Rattle.std.specs.Prelude.{ℕ, List, ◌++◌, codes, Option, Some, None}
+use Rattle.std.specs.Fmt.{decimal}
 use Rattle.dpl_syntax.specs.declared.place.Place.{Place}
 use Rattle.dpl_syntax.specs.declared.refusal.Code.{Code}
 use Rattle.dpl_syntax.specs.declared.refusal.Code.TheVariants.{NotText, BadCharacter, NumberTooLarge, Unexpected, TooDeep, UnknownName, NameTwice, WrongType, ConstantWritten, WrongRank, WrittenElsewhere, ReadElsewhere, OuterChanged, NotInForall, NotInCoforall, CellMisused, TooMany, BadSet}
 use Rattle.dpl_syntax.specs.declared.refusal.Refusal.{Refusal}
-use Rattle.dpl_syntax.specs.declared.fault.FaultCode.{FaultCode}
-use Rattle.dpl_syntax.specs.declared.fault.FaultCode.TheVariants.{PastLimit, Budget}
-use Rattle.dpl_syntax.specs.declared.fault.Fault.{Fault}
 
 -- line:column
 abbrev pub place_text : Place → List ℕ
@@ -34,10 +31,6 @@ code_text CellMisused = codes "C12"
 code_text TooMany = codes "C13"
 code_text BadSet = codes "C14"
 
-abbrev pub fault_code_text : FaultCode → List ℕ
-fault_code_text PastLimit = codes "F3"
-fault_code_text Budget = codes "F5"
-
 -- ` at` a place, where there is one
 abbrev pub at_text : Option Place → List ℕ
 at_text None = codes ""
@@ -46,12 +39,3 @@ at_text (Some at) = codes " at " ++ place_text at
 -- `! C8 at 1:33`, or `! C14`
 abbrev pub refusal_text : Refusal → List ℕ
 refusal_text r = codes "! " ++ code_text r.code ++ at_text r.place
-
--- ` in turn` an index, where the fault arose in a turn of a forall
-abbrev pub turn_text : Option ℤ → List ℕ
-turn_text None = codes ""
-turn_text (Some i) = codes " in turn " ++ signed_decimal i
-
--- `! F5 at 1:13`, or `! F2 at 4:13 in turn 3`
-abbrev pub fault_text : Fault → List ℕ
-fault_text f = codes "! " ++ fault_code_text f.code ++ codes " at " ++ place_text f.at ++ turn_text f.turn

@@ -1,6 +1,6 @@
 // The lexer on texts. A text's tokens are shown as `kind@place`, one after the other; a refused text as its refusal.
 
-use crate::{Bytes, Contextual, Infix, Keyword, Kind, Sign, Token, Value, lex, text_bytes};
+use crate::{Bytes, Contextual, Keyword, Kind, Sign, Token, lex, text_bytes};
 use std::alloc::{AllocError, Global};
 use std::test::Fail;
 
@@ -354,10 +354,4 @@ fn longest_text(rt: HostRuntime) -> Result<(), Fail> {
     let got = shown(rt.alloc(), text.as_slice())?;
     assert_eq!(rt; got.as_str(), "! L1 at 1:1");
     Ok(())
-}
-
-#[test]
-fn sums_wrap(rt: HostRuntime) {
-    let sum = Infix::Add.apply(Value::Int(9223372036854775807), Value::Int(1));
-    assert!(rt; sum.number() == -9223372036854775807 - 1);
 }

@@ -43,7 +43,7 @@ fn in_house(rt: HostRuntime) -> Result<(), Fail> {
         assert_eq!(rt; got.as_str().trim_start_matches("! "), wanted.trim_end());
         count = count.saturating_add(1);
     }
-    assert_eq!(rt; count, 620);
+    assert_eq!(rt; count, 621);
     Ok(())
 }
 

@@ -63,7 +63,8 @@ C3 at 2:47   const x = D dmapped new cyclicDist(startIdx=D.low + 1);\n\
 C3 at 2:51   const x = E dmapped new cyclicDist(startIdx=(1, D.low));\n\
 C3 at 2:60   const x = D dmapped new blockCycDist(startIdx=1, blocksize=b);\n\
 C3 at 2:50   var x: domain(1) dmapped new cyclicDist(startIdx=b);\n\
-sound        const x = D dmapped new blockDist(S); const y = D dmapped new cyclicDist(D.low); const w = D dmapped new cyclicDist(startIdx=S.low); const v = D dmapped new cyclicDist(D[2..3].lowBound); const u = E dmapped new cyclicDist((1, 2)); const t = D dmapped new blockCycDist(startIdx=r.low, blocksize=D.low);\n\
+sound        const x = D dmapped new blockDist(S); const y = D dmapped new cyclicDist(D.low); const w = D dmapped new cyclicDist(startIdx=S.low);\n\
+sound        const v = D dmapped new cyclicDist(D[2..3].lowBound); const u = E dmapped new cyclicDist((1, 2)); const t = D dmapped new blockCycDist(startIdx=r.low, blocksize=D.low);\n\
 sound        const x = D dmapped new cyclicDist(A.domain.low); const y = E dmapped new blockDist(B.domain); const w = D dmapped new blockDist(V[1..3]);\n\
 C3 at 2:17   config const x: domain(1) = D;\n\
 C3 at 2:17   config const x: [D] int;\n\

@@ -5,7 +5,7 @@ use Rattle.std.specs.Prelude.{int_div}
 use Rattle.std.specs.Int.{int_wrap}
 use Rattle.std.proofs.Math.Nat.{div-le_self}
 use mir.Val.{SFits}
-use Rattle.dpl_syntax.specs.Values.{wrap}
+use Rattle.dpl_language.specs.Arithmetic.{wrap}
 
 wrap_pos : (n : ℕ) → n ≤ 2 ^ 63 → to_z w64 (of_z w64 (pos n)) ≡ wrap (pos n)
 unfolding int_wrap

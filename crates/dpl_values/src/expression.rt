@@ -8,11 +8,10 @@ ghost use Rattle.dpl_nodes.specs.Typed.{int_view, truth_view, range_item, stride
 ghost use Rattle.dpl_nodes.specs.Faults.{of_int, of_truth, of_range};
 ghost use Rattle.dpl_values.specs.Bounds.{of_bounds};
 
-use crate::number::{quotient, remainder};
+use crate::number::{difference, negative, product, quotient, remainder, sum};
 use crate::range::{bounded, contains, first, high, last, low, size, sliced, strided_by};
 use dpl_nodes::{BoolExpr, FaultCode, Frame, IntExpr, RangeExpr, RangeWord, Stride, Trap, Truth};
 use dpl_range::Range;
-use dpl_syntax::operator::{difference, negative, product, sum};
 
 // An operand: a leaf at once, and else by a walk.
 #[cycle(walk)]
