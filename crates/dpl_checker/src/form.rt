@@ -1,7 +1,7 @@
 // The statements that hold no other, and the heads of loops: what each tells and does, and what is in sight behind it.
 // A loop's head opens the scope of its variables.
 
-ghost use Rattle.std.specs.Prelude.{false, OnOk};
+ghost use Rattle.std.specs.Prelude.{◌++◌, false, OnOk};
 ghost use Rattle.dpl_language.specs.Tree.{Declare as DeclareTree, Assigned as AssignedTree, Call as CallTree, Write as WriteTree};
 ghost use Rattle.dpl_tree.specs.View.{name_view, expr_view, item_view};
 ghost use Rattle.dpl_tree.specs.Declarations.{optional, declare_view};

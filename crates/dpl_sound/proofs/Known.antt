@@ -154,7 +154,7 @@ module _ (scopes : Scopes) (known : AreKnown scopes) where
   type_of-by : (o : Option ValueType) (go : ValueType → Verdict) → IsTyped o → ((t : ValueType) → IsTold (go t)) → IsTold (with_type o go)
   type_of-by o go h p = subst (λ o. IsTold (with_type o go)) (sym h.1) (p h.0)
 
-  infix-by : (at : Place) (op : Infix) (a b : Option ValueType) → IsTyped a → IsTyped b → IsTold (infix_verdict at op a b)
+  pub infix-by : (at : Place) (op : Infix) (a b : Option ValueType) → IsTyped a → IsTyped b → IsTold (infix_verdict at op a b)
   infix-by at op a b p q =
       subst (λ o. IsTold (infix_verdict at op o b)) (sym p.1) (subst (λ o. IsTold (infix_verdict at op (Some p.0) o)) (sym q.1) (taking-told (taken op) at p.0 q.0))
 
@@ -247,7 +247,7 @@ module _ (scopes : Scopes) (known : AreKnown scopes) where
         (told-typed verdict (post-told p last o typed (first_empty (post_breaches scopes p) (broken_by verdict) front)) (second_empty (post_breaches scopes p) (broken_by verdict) front))
         (second_empty (post_breaches scopes p ++ broken_by verdict) others h)
 
-    post-told : (p : PostTree Text) (last : Place) (o : Option ValueType) → IsTyped o → post_breaches scopes p ≡ [] → IsTold (post_verdict scopes last p o)
+    pub post-told : (p : PostTree Text) (last : Place) (o : Option ValueType) → IsTyped o → post_breaches scopes p ≡ [] → IsTold (post_verdict scopes last p o)
     post-told (Brackets from items upto) last o typed h =
         type_of-by o (square_verdict last from (item_parts scopes items)) typed (λ t. square_verdict-told last from (item_parts scopes items) t (items-known items h))
     post-told (Rounds from es upto) last o typed h =

@@ -1,22 +1,30 @@
 -- The turns of a loop over a range, by its members.
 -- What a loop runs over is evaluated and tested before its first turn.
-use Rattle.std.specs.Prelude.{ℕ, nat_lt, ℤ, if◌then◌else◌, None, List, [], ◌∷◌, Result, Ok, Err}
+use Rattle.std.specs.Prelude.{ℕ, nat_lt, ℤ, if◌then◌else◌, None, List, [], ◌∷◌, map, Result, Ok, Err}
 use Rattle.dpl_syntax.specs.declared.place.Place.{Place}
-use Rattle.dpl_language.specs.Tree.{ItemTree}
+use Rattle.dpl_language.specs.Tree.{ItemTree, StmtTree, Forall}
 use Rattle.dpl_language.specs.Values.{Value, Int, Fault, fault, Budget}
 use Rattle.dpl_language.specs.Ranges.{size_in, loop_ranges}
 use Rattle.dpl_language.specs.Outcome.{Outcome, Done, Run, with_ok, then_do, naming}
 use Rattle.dpl_language.specs.Environment.{Limits}
 use Rattle.dpl_language.specs.Expressions.{item_of}
 use Rattle.dpl_language.specs.Statements.{exec_all}
+use Rattle.dpl_lowered.specs.Shapes.{nowhere}
+use Rattle.dpl_lowered.specs.LoweredStatements.{with_intents}
 use Rattle.dpl_words.specs.Words.{Leaf, IntLeaf, Words, with_value_at, by_word}
+use Rattle.dpl_nodes.specs.declared.step.Intent.{Intent}
 use Rattle.dpl_nodes.specs.declared.step.Step.{Step}
-use Rattle.dpl_nodes.specs.Steps.{steps_of}
+use Rattle.dpl_nodes.specs.Steps.{listed, variable_in, intent_view, steps_of}
 
 -- the turns of some indices, in order
 abbrev pub in_turn : (ℤ → Run Words) → List ℤ → Run Words
 in_turn turn [] s done = Done s done
 in_turn turn (i ∷ is) s done = then_do (turn i s done) (in_turn turn is)
+
+-- a forall over an item, with these reduce variables
+abbrev pub forall_tree : Place → ℕ → ItemTree Leaf → List Intent → List Step → StmtTree Leaf
+forall_tree at slot item intents body =
+    Forall at (variable_in slot) nowhere item (with_intents (map intent_view intents)) (listed (steps_of body))
 
 module _ (limits : Limits) where
   -- a turn: the variable is the index, and the body runs

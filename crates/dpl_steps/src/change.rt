@@ -25,6 +25,7 @@ pub(crate) fn declare_int(slot: usize, e: &IntExpr<'_>, frame: &mut Frame<'_>) -
 }
 
 /// A truth value's.
+#[inline(never)]
 pub(crate) fn declare_truth(
     slot: usize,
     e: &BoolExpr<'_>,
@@ -39,6 +40,7 @@ pub(crate) fn declare_truth(
 }
 
 /// A range's.
+#[inline(never)]
 pub(crate) fn declare_range(
     slot: usize,
     e: &RangeExpr<'_>,
@@ -53,6 +55,7 @@ pub(crate) fn declare_range(
 }
 
 /// A `config const` that is an int.
+#[inline(never)]
 pub(crate) fn config_int(slot: usize, e: &IntExpr<'_>, frame: &mut Frame<'_>) -> Result<(), Trap>
     ensures words { given_words frame.old.limits (int_leaf slot) (One (int_view e.now)) (by_word.given (int_leaf slot) frame.old.words) frame.old.words ≡ words_after result frame.new.words }
     ensures limits { frame.new.limits ≡ frame.old.limits }
@@ -67,6 +70,7 @@ pub(crate) fn config_int(slot: usize, e: &IntExpr<'_>, frame: &mut Frame<'_>) ->
 }
 
 /// One that is a truth value.
+#[inline(never)]
 pub(crate) fn config_truth(slot: usize, e: &BoolExpr<'_>, frame: &mut Frame<'_>) -> Result<(), Trap>
     ensures words { given_words frame.old.limits (truth_leaf slot) (One (truth_view e.now)) (by_word.given (truth_leaf slot) frame.old.words) frame.old.words ≡ words_after result frame.new.words }
     ensures limits { frame.new.limits ≡ frame.old.limits }
@@ -114,6 +118,7 @@ pub(crate) fn multiply(slot: usize, e: &IntExpr<'_>, frame: &mut Frame<'_>) -> R
 }
 
 /// `/=`
+#[inline(never)]
 pub(crate) fn divide(
     slot: usize,
     at: &Spot,
@@ -132,6 +137,7 @@ pub(crate) fn divide(
 }
 
 /// `%=`
+#[inline(never)]
 pub(crate) fn rest(
     slot: usize,
     at: &Spot,
@@ -150,6 +156,7 @@ pub(crate) fn rest(
 }
 
 /// `reduce=` to an int
+#[inline(never)]
 pub(crate) fn reduce_int(slot: usize, e: &IntExpr<'_>, frame: &mut Frame<'_>) -> Result<(), Trap>
     ensures words { assigned_words frame.old.limits (int_leaf slot) SetReduce nowhere (One (int_view e.now)) frame.old.words ≡ words_after result frame.new.words }
     ensures limits { frame.new.limits ≡ frame.old.limits }
@@ -161,6 +168,7 @@ pub(crate) fn reduce_int(slot: usize, e: &IntExpr<'_>, frame: &mut Frame<'_>) ->
 }
 
 /// `reduce=` to a truth value
+#[inline(never)]
 pub(crate) fn reduce_truth(slot: usize, e: &BoolExpr<'_>, frame: &mut Frame<'_>) -> Result<(), Trap>
     ensures words { assigned_words frame.old.limits (truth_leaf slot) SetReduce nowhere (One (truth_view e.now)) frame.old.words ≡ words_after result frame.new.words }
     ensures limits { frame.new.limits ≡ frame.old.limits }

@@ -1,7 +1,7 @@
 // What ends a run early.
 // A fault is an outcome of the program; that memory ran out is none.
 
-ghost use Rattle.std.specs.Prelude.{◌≡◌};
+ghost use Rattle.std.specs.Prelude.{◌≡◌, Err};
 ghost use Rattle.dpl_nodes.specs.Faults.{fault_view};
 ghost use Rattle.dpl_steps.specs.declared.halt.Halt.{Halt};
 ghost use Rattle.dpl_steps.specs.Tells.{IsFault, TellsSame, NamesTurn};
@@ -40,13 +40,23 @@ impl<T: Drop> From<AllocFailed<T>> for Halt {
     }
 }
 
+// A fault that is told.
+#[cold]
+#[inline(never)]
+fn stopped(trap: Trap) -> Result<(), Halt>
+    ensures { TellsSame (Err trap) result }
+{
+    Err(Halt::Fault(trap.fault()))
+}
+
 /// The end of a change.
+#[inline(always)]
 pub(crate) fn told(end: Result<(), Trap>) -> Result<(), Halt>
     ensures { TellsSame end result }
 {
     match end {
         Ok(()) => Ok(()),
-        Err(trap) => Err(Halt::Fault(trap.fault())),
+        Err(trap) => stopped(trap),
     }
 }
 

@@ -7,10 +7,12 @@ ghost use Rattle.dpl_language.specs.Outcome.{Deeds, repeated};
 ghost use Rattle.dpl_language.specs.Statements.{exec, exec_all, exec_else, holds};
 ghost use Rattle.dpl_words.specs.Words.{by_word};
 ghost use Rattle.dpl_nodes.specs.Typed.{truth_view, range_item};
-ghost use Rattle.dpl_nodes.specs.Steps.{step_view, else_view, steps_of};
+ghost use Rattle.dpl_language.specs.Tree.{For as ForTree};
+ghost use Rattle.dpl_lowered.specs.Shapes.{nowhere};
+ghost use Rattle.dpl_nodes.specs.Steps.{listed, variable_in, step_view, else_view, steps_of};
 ghost use Rattle.dpl_nodes.specs.Faults.{of_range};
 ghost use Rattle.dpl_steps.specs.Runs.{having_printed, RunEnds};
-ghost use Rattle.dpl_steps.specs.Turns.{in_turn, turn_by_word, named_by_word, looped_over};
+ghost use Rattle.dpl_steps.specs.Turns.{in_turn, turn_by_word, named_by_word, looped_over, forall_tree};
 
 use crate::change::{
     add, config_int, config_truth, declare_int, declare_range, declare_truth, divide, multiply,
@@ -18,7 +20,9 @@ use crate::change::{
 };
 use crate::halt::{Halt, told};
 use crate::print::write;
-use dpl_nodes::{BoolExpr, Else, FaultCode, Frame, RangeExpr, RangeWord, Spot, Step, Trap};
+use dpl_nodes::{
+    BoolExpr, Else, FaultCode, Frame, Intent, RangeExpr, RangeWord, Spot, Step, Trap,
+};
 use dpl_range::Range;
 use dpl_values::{range_value, truth_value};
 
@@ -100,24 +104,57 @@ fn statement<'t>(step: &Step<'t>, frame: &mut Frame<'t>, out: &mut Vec<u8>) -> R
             slot,
             over,
             body,
-        } => {
-            let range = indices(at, over, frame)?.range;
-            turns(range, *slot, body, frame, out)
-        }
+        } => for_loop(at, *slot, over, body, frame, out),
         Step::Forall {
             at,
             slot,
             over,
             intents,
             body,
-        } => {
-            let range = indices(at, over, frame)?.range;
-            frame.intend(intents);
-            named_turns(range, *slot, body, frame, out)?;
-            frame.intend(&[]);
-            Ok(())
-        }
+        } => forall_loop(at, *slot, over, intents, body, frame, out),
     }
+}
+
+// A `for`. The loops are functions of their own, so that a statement that holds no other needs no place for theirs.
+#[cycle(run)]
+#[inline(never)]
+fn for_loop<'t>(
+    at: &Spot,
+    slot: usize,
+    over: &RangeExpr<'t>,
+    body: &[Step<'t>],
+    frame: &mut Frame<'t>,
+    out: &mut Vec<u8>,
+) -> Result<(), Halt>
+    ensures ends { (done : Deeds) → RunEnds result frame.new.words (having_printed out.new.items done)
+        (exec frame.old.limits by_word (ForTree at.now (variable_in slot) nowhere (range_item over.now) (listed (steps_of body.now))) frame.old.words (having_printed out.old.items done)) }
+    ensures limits { frame.new.limits ≡ frame.old.limits }
+{
+    let range = indices(at, over, frame)?.range;
+    turns(range, slot, body, frame, out)
+}
+
+// A `forall`, with its reduce variables.
+#[cycle(run)]
+#[inline(never)]
+fn forall_loop<'t>(
+    at: &Spot,
+    slot: usize,
+    over: &RangeExpr<'t>,
+    intents: &'t [Intent],
+    body: &[Step<'t>],
+    frame: &mut Frame<'t>,
+    out: &mut Vec<u8>,
+) -> Result<(), Halt>
+    ensures ends { (done : Deeds) → RunEnds result frame.new.words (having_printed out.new.items done)
+        (exec frame.old.limits by_word (forall_tree at.now slot (range_item over.now) intents.now body.now) frame.old.words (having_printed out.old.items done)) }
+    ensures limits { frame.new.limits ≡ frame.old.limits }
+{
+    let range = indices(at, over, frame)?.range;
+    frame.intend(intents);
+    named_turns(range, slot, body, frame, out)?;
+    frame.intend(&[]);
+    Ok(())
 }
 
 // What stands behind `else`.

@@ -4,13 +4,17 @@
 ghost use Rattle.std.specs.Prelude.{◌≡◌, None};
 ghost use Rattle.dpl_language.specs.Expressions.{value_of, item_of, stridden as stridden_of};
 ghost use Rattle.dpl_words.specs.Words.{by_word};
-ghost use Rattle.dpl_nodes.specs.Typed.{int_view, truth_view, range_item, stride_view};
+ghost use Rattle.dpl_language.specs.Tree.{Plainly, Size, First, Last, Low, High};
+ghost use Rattle.dpl_lowered.specs.Shapes.{nowhere};
+ghost use Rattle.dpl_nodes.specs.Typed.{int_view, truth_view, range_item, range_view, stride_view, dotted};
 ghost use Rattle.dpl_nodes.specs.Faults.{of_int, of_truth, of_range};
 ghost use Rattle.dpl_values.specs.Bounds.{of_bounds};
 
 use crate::number::{difference, negative, product, quotient, remainder, sum};
 use crate::range::{bounded, contains, first, high, last, low, size, sliced, strided_by};
-use dpl_nodes::{BoolExpr, FaultCode, Frame, IntExpr, RangeExpr, RangeWord, Stride, Trap, Truth};
+use dpl_nodes::{
+    BoolExpr, FaultCode, Frame, IntExpr, RangeExpr, RangeWord, Spot, Stride, Trap, Truth,
+};
 use dpl_range::Range;
 
 // An operand: a leaf at once, and else by a walk.
@@ -69,12 +73,59 @@ pub fn int_value(e: &IntExpr<'_>, frame: &Frame<'_>) -> Result<i64, Trap>
             }
             Ok(remainder(left, right))
         }
-        IntExpr::Size(r) => Ok(size(range_value(r, frame)?)),
-        IntExpr::First(r, at) => first(range_value(r, frame)?, **at),
-        IntExpr::Last(r, at) => last(range_value(r, frame)?, **at),
-        IntExpr::Low(r, at) => low(range_value(r, frame)?, **at),
-        IntExpr::High(r, at) => high(range_value(r, frame)?, **at),
+        IntExpr::Size(r) => size_of(r, frame),
+        IntExpr::First(r, at) => first_of(r, at, frame),
+        IntExpr::Last(r, at) => last_of(r, at, frame),
+        IntExpr::Low(r, at) => low_of(r, at, frame),
+        IntExpr::High(r, at) => high_of(r, at, frame),
     }
+}
+
+// The methods of a range. Each is a function of its own, so that a walk over numbers alone has no place for ranges in its frame.
+
+// `size`
+#[cycle(walk)]
+#[inline(never)]
+fn size_of(r: &RangeExpr<'_>, frame: &Frame<'_>) -> Result<i64, Trap>
+    ensures { value_of frame.now.limits by_word (dotted (range_view r.now) (Plainly nowhere Size)) None frame.now.words ≡ of_int result }
+{
+    Ok(size(range_value(r, frame)?))
+}
+
+// `first`
+#[cycle(walk)]
+#[inline(never)]
+fn first_of(r: &RangeExpr<'_>, at: &Spot, frame: &Frame<'_>) -> Result<i64, Trap>
+    ensures { value_of frame.now.limits by_word (dotted (range_view r.now) (Plainly at.now First)) None frame.now.words ≡ of_int result }
+{
+    first(range_value(r, frame)?, *at)
+}
+
+// `last`
+#[cycle(walk)]
+#[inline(never)]
+fn last_of(r: &RangeExpr<'_>, at: &Spot, frame: &Frame<'_>) -> Result<i64, Trap>
+    ensures { value_of frame.now.limits by_word (dotted (range_view r.now) (Plainly at.now Last)) None frame.now.words ≡ of_int result }
+{
+    last(range_value(r, frame)?, *at)
+}
+
+// `low`
+#[cycle(walk)]
+#[inline(never)]
+fn low_of(r: &RangeExpr<'_>, at: &Spot, frame: &Frame<'_>) -> Result<i64, Trap>
+    ensures { value_of frame.now.limits by_word (dotted (range_view r.now) (Plainly at.now Low)) None frame.now.words ≡ of_int result }
+{
+    low(range_value(r, frame)?, *at)
+}
+
+// `high`
+#[cycle(walk)]
+#[inline(never)]
+fn high_of(r: &RangeExpr<'_>, at: &Spot, frame: &Frame<'_>) -> Result<i64, Trap>
+    ensures { value_of frame.now.limits by_word (dotted (range_view r.now) (Plainly at.now High)) None frame.now.words ≡ of_int result }
+{
+    high(range_value(r, frame)?, *at)
 }
 
 // A range with the stride that is written, which is evaluated before the fault of its bounds is told.
@@ -157,38 +208,38 @@ pub fn truth_value(e: &BoolExpr<'_>, frame: &Frame<'_>) -> Result<Truth, Trap>
             Ok(Truth::new(left != right))
         }
         BoolExpr::Equal(a, b) => {
-            let left = int_value(a, frame)?;
-            let right = int_value(b, frame)?;
+            let left = operand(a, frame)?;
+            let right = operand(b, frame)?;
             Ok(Truth::new(left == right))
         }
         BoolExpr::Unequal(a, b) => {
-            let left = int_value(a, frame)?;
-            let right = int_value(b, frame)?;
+            let left = operand(a, frame)?;
+            let right = operand(b, frame)?;
             Ok(Truth::new(left != right))
         }
         BoolExpr::Less(a, b) => {
-            let left = int_value(a, frame)?;
-            let right = int_value(b, frame)?;
+            let left = operand(a, frame)?;
+            let right = operand(b, frame)?;
             Ok(Truth::new(left < right))
         }
         BoolExpr::AtMost(a, b) => {
-            let left = int_value(a, frame)?;
-            let right = int_value(b, frame)?;
+            let left = operand(a, frame)?;
+            let right = operand(b, frame)?;
             Ok(Truth::new(left <= right))
         }
         BoolExpr::Greater(a, b) => {
-            let left = int_value(a, frame)?;
-            let right = int_value(b, frame)?;
+            let left = operand(a, frame)?;
+            let right = operand(b, frame)?;
             Ok(Truth::new(left > right))
         }
         BoolExpr::AtLeast(a, b) => {
-            let left = int_value(a, frame)?;
-            let right = int_value(b, frame)?;
+            let left = operand(a, frame)?;
+            let right = operand(b, frame)?;
             Ok(Truth::new(left >= right))
         }
         BoolExpr::Contains(r, i) => {
             let range = range_value(r, frame)?;
-            let i = int_value(i, frame)?;
+            let i = operand(i, frame)?;
             Ok(Truth::new(contains(range, i)))
         }
     }

@@ -246,48 +246,59 @@ statement-returns-in-While-clause-ends t c done =
     ∙ exec-while limits c.in-While.at.now (truth_view c.in-While.condition.now) c.in-While.body.now w d)
     (c.while_loop.ensures.ends done)
 
-pub statement-returns-in_ok-range-in-For-clause-ends : goal.statement-returns-in_ok-range-in-For-clause-ends
-statement-returns-in_ok-range-in-For-clause-ends t c done =
+pub statement-returns-in-For-clause-ends : goal.statement-returns-in-For-clause-ends
+statement-returns-in-For-clause-ends t c done =
     let limits = c.args.frame.now.limits in
     let w = c.args.frame.now.words in
     let d = having_printed c.args.out.now.items done in
-    ends-alike c.turns.result c.turns.new.frame.words (having_printed c.turns.new.out.items done) _ _
+    ends-alike c.for_loop.result c.for_loop.new.frame.words (having_printed c.for_loop.new.out.items done) _ _
     (ap (λ s. exec limits by_word (step_view s) w d) c.in-For.is
-    ∙ ap (λ t. exec limits by_word t w d) (for_view c.in-For.at c.in-For.slot c.in-For.over c.in-For.body)
-    ∙ for-turns limits c.in-For.slot c.in-For.body.now c.in-For.at.now (range_item c.in-For.over.now) w d (range_word c.in_ok-range-in-For.field-0) c.in_ok-range-in-For.ensures)
+    ∙ ap (λ t. exec limits by_word t w d) (for_view c.in-For.at c.in-For.slot c.in-For.over c.in-For.body))
+    (c.for_loop.ensures.ends done)
+
+pub statement-returns-in-Forall-clause-ends : goal.statement-returns-in-Forall-clause-ends
+statement-returns-in-Forall-clause-ends t c done =
+    let limits = c.args.frame.now.limits in
+    let w = c.args.frame.now.words in
+    let d = having_printed c.args.out.now.items done in
+    ends-alike c.forall_loop.result c.forall_loop.new.frame.words (having_printed c.forall_loop.new.out.items done) _ _
+    (ap (λ s. exec limits by_word (step_view s) w d) c.in-Forall.is
+    ∙ ap (λ t. exec limits by_word t w d) (forall_view c.in-Forall.at c.in-Forall.slot c.in-Forall.over c.in-Forall.intents c.in-Forall.body))
+    (c.forall_loop.ensures.ends done)
+
+pub for_loop-returns-clause-ends : goal.for_loop-returns-clause-ends
+for_loop-returns-clause-ends t c done =
+    ends-alike c.turns.result c.turns.new.frame.words (having_printed c.turns.new.out.items done) _ _
+    (for-turns c.args.frame.now.limits c.args.slot c.args.body.now c.args.at.now (range_item c.args.over.now) c.args.frame.now.words (having_printed c.args.out.now.items done) (range_word c.in_ok-range.field-0) c.in_ok-range.ensures)
     (c.turns.ensures.ends done)
 
-pub statement-returns-in_ok-named_turns-in-Forall-clause-ends : goal.statement-returns-in_ok-named_turns-in-Forall-clause-ends
-statement-returns-in_ok-named_turns-in-Forall-clause-ends t c done =
+pub forall_loop-returns-clause-ends : goal.forall_loop-returns-clause-ends
+forall_loop-returns-clause-ends t c done =
     let limits = c.args.frame.now.limits in
     let w = c.args.frame.now.words in
     let d = having_printed c.args.out.now.items done in
-    let r = c.in_ok-range-in-Forall.field-0 in
+    let r = c.in_ok-range.field-0 in
     let after = having_printed c.named_turns.new.out.items done in
-    ap (λ s. exec limits by_word (step_view s) w d) c.in-Forall.is
-    ∙ ap (λ t. exec limits by_word t w d) (forall_view c.in-Forall.at c.in-Forall.slot c.in-Forall.over c.in-Forall.intents c.in-Forall.body)
-    ∙ forall-turns limits c.in-Forall.slot c.in-Forall.body.now (map intent_view c.in-Forall.intents.now) c.in-Forall.at.now (range_item c.in-Forall.over.now) w d (range_word r) c.in_ok-range-in-Forall.ensures
-    ∙ ap (λ (f : Framed). then_do (in_turn (named_by_word f.limits c.in-Forall.slot c.in-Forall.body.now) (members_of r.range) f.words d) (λ s done. Done (by_word.intend [] s) done)) (sym c.intend.ensures)
-    ∙ ap (λ o. then_do o (λ s done. Done (by_word.intend [] s) done)) (c.in_ok-named_turns-in-Forall.ensures.ends done)
-    ∙ ap (λ (f : Framed). Done f.words after) (sym c.intend-in-Forall.ensures)
+    forall-turns limits c.args.slot c.args.body.now (map intent_view c.args.intents.now) c.args.at.now (range_item c.args.over.now) w d (range_word r) c.in_ok-range.ensures
+    ∙ ap (λ (f : Framed). then_do (in_turn (named_by_word f.limits c.args.slot c.args.body.now) (members_of r.range) f.words d) (λ s done. Done (by_word.intend [] s) done)) (sym c.intend.ensures)
+    ∙ ap (λ o. then_do o (λ s done. Done (by_word.intend [] s) done)) (c.in_ok-named_turns.ensures.ends done)
+    ∙ ap (λ (f : Framed). Done f.words after) (sym c.intend-2.ensures)
 
-pub statement-returns-in_err-named_turns-in-Forall-clause-ends : goal.statement-returns-in_err-named_turns-in-Forall-clause-ends
-statement-returns-in_err-named_turns-in-Forall-clause-ends t c done =
+pub forall_loop-returns-in_err-named_turns-clause-ends : goal.forall_loop-returns-in_err-named_turns-clause-ends
+forall_loop-returns-in_err-named_turns-clause-ends t c done =
     let limits = c.args.frame.now.limits in
     let w = c.args.frame.now.words in
     let d = having_printed c.args.out.now.items done in
-    let r = c.in_ok-range-in-Forall.field-0 in
+    let r = c.in_ok-range.field-0 in
     let next = c.named_turns.new.frame.words in
     let after = having_printed c.named_turns.new.out.items done in
-    let h = c.in_err-named_turns-in-Forall.field-0.0 in
-    let p = err_from_is_err_and c.from_residual-in_err-named_turns-in-Forall.result c.from_residual-in_err-named_turns-in-Forall.ensures.1 in
+    let h = c.in_err-named_turns.field-0.0 in
+    let p = err_from_is_err_and c.from_residual-in_err-named_turns.result c.from_residual-in_err-named_turns.ensures.1 in
     rw (p.1, p.2)
     (halts-alike h next next after _ _
-    (ap (λ s. exec limits by_word (step_view s) w d) c.in-Forall.is
-    ∙ ap (λ t. exec limits by_word t w d) (forall_view c.in-Forall.at c.in-Forall.slot c.in-Forall.over c.in-Forall.intents c.in-Forall.body)
-    ∙ forall-turns limits c.in-Forall.slot c.in-Forall.body.now (map intent_view c.in-Forall.intents.now) c.in-Forall.at.now (range_item c.in-Forall.over.now) w d (range_word r) c.in_ok-range-in-Forall.ensures
-    ∙ ap (λ (f : Framed). then_do (in_turn (named_by_word f.limits c.in-Forall.slot c.in-Forall.body.now) (members_of r.range) f.words d) (λ s done. Done (by_word.intend [] s) done)) (sym c.intend.ensures))
-    (then_do-halts h next next after _ (λ s done. Done (by_word.intend [] s) done) (c.in_err-named_turns-in-Forall.ensures.ends done)))
+    (forall-turns limits c.args.slot c.args.body.now (map intent_view c.args.intents.now) c.args.at.now (range_item c.args.over.now) w d (range_word r) c.in_ok-range.ensures
+    ∙ ap (λ (f : Framed). then_do (in_turn (named_by_word f.limits c.args.slot c.args.body.now) (members_of r.range) f.words d) (λ s done. Done (by_word.intend [] s) done)) (sym c.intend.ensures))
+    (then_do-halts h next next after _ (λ s done. Done (by_word.intend [] s) done) (c.in_err-named_turns.ensures.ends done)))
 
 -- WHILES
 pub while_loop-returns-in_err-truth_value-clause-ends : goal.while_loop-returns-in_err-truth_value-clause-ends
