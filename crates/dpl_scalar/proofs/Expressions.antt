@@ -4,21 +4,21 @@ use Rattle.std.proofs.Common.{◌≡◌, ℕ, suc, arith, ne_eqb, Bool, true, fa
 use Rattle.std.specs.Prelude.{◌&&◌, ◌==◌, if◌then◌else◌}
 use Rattle.std.proofs.lemmas.Option.{none-some}
 use Rattle.dpl_syntax.specs.declared.place.Place.{Place}
-use Rattle.dpl_language.specs.Tree.{Kind, IntKind, BoolKind, Infix, Add, Subtract, Multiply, Divide, Remainder, Less, LessEqual, Greater, GreaterEqual, Equal, NotEqual, And, Or}
+use Rattle.dpl_language.specs.Tree.{Kind, Infix, Add, Subtract, Multiply, Divide, Remainder, Less, LessEqual, Greater, GreaterEqual, Equal, NotEqual, And, Or}
 use Rattle.dpl_language.specs.Tree.{ExprTree, Number, TruthWord, Named, LocalesWord, LocaleCount, HereWord, Grouped, DomainLiteral, Prefixed, Reduced, Chain, Postfixed}
 use Rattle.dpl_language.specs.Tree.{ItemTree, One, RangeItem, Stride, NoStride, By, Links, NoLinks, Link, Posts, NoPosts, Post, PostTree, Brackets, Rounds, Dotted}
-use Rattle.dpl_language.specs.Tree.{MethodTree, Plainly, Dim, Contains, Expand, CellRead, Items, FirstItem, NoItems, NextItem, Exprs, FirstExpr, NoExprs, NextExpr}
+use Rattle.dpl_language.specs.Tree.{MethodTree, Plainly, Dim, Contains, Expand, CellRead, FirstItem, NoItems, NextItem, FirstExpr, NoExprs, NextExpr}
 use Rattle.dpl_language.specs.Names.{Text}
-use Rattle.dpl_spelling.specs.Spelt.{Level, Conjunctions, Disjunctions, level_of, AreOfLevel, IsOneLevel, ExprSpelt, ItemSpelt, StrideSpelt, LinksSpelt, PostsSpelt, PostSpelt, MethodSpelt, ItemsSpelt, ExprsSpelt}
-use Rattle.dpl_closed.specs.Closed.{or_place, closed_expr, closed_item, closed_stride, closed_links, closed_posts, closed_post, closed_method, closed_items, closed_exprs, closed_more_items, closed_more_exprs}
+use Rattle.dpl_spelling.specs.Spelt.{Level, Conjunctions, Disjunctions, level_of, AreOfLevel, IsOneLevel, ExprSpelt, ItemSpelt, StrideSpelt, LinksSpelt, PostsSpelt, PostSpelt, MethodSpelt}
+use Rattle.dpl_closed.specs.Closed.{or_place, closed_expr, closed_item, closed_stride, closed_links, closed_posts, closed_post, closed_method}
 use Rattle.dpl_rules.specs.Types.{ValueType, Scalar, Range as RangeType, Domain, Array, Promoted, Tuple, Locale, AllLocales, Cell, an_int, a_bool, is_int, is_plain_range, domain_of}
 use Rattle.dpl_syntax.specs.declared.refusal.Code.TheVariants.{WrongRank}
 use Rattle.dpl_rules.specs.Verdicts.{Part, part, Verdict, type_by, broken_by, breach, judged, with_type, all_known, each_wanted}
 use Rattle.dpl_rules.specs.Places.{first_of, first_of_item, last_of, last_of_post}
 use Rattle.dpl_rules.specs.Sights.{Declared, Scopes, lookup, type_declared}
-use Rattle.dpl_rules.specs.Operators.{prefix_verdict, infix_verdict, square_verdict, round_verdict, index_rank, word_verdict, dim_verdict, contains_verdict, expand_verdict}
+use Rattle.dpl_rules.specs.Operators.{prefix_verdict, infix_verdict, square_verdict, round_verdict, index_rank, dim_verdict, contains_verdict, expand_verdict}
 use Rattle.dpl_rules.specs.Expressions.{name_verdict, bare_locales, locales_or, none_where, type_of, item_type, range_item_verdict, chain_type, posts_type, post_verdict, method_verdict, item_parts, expr_parts, more_item_parts, more_expr_parts}
-use Rattle.dpl_rules.specs.Expressions.{expr_breaches, item_breaches, stride_breaches, chain_breaches, posts_breaches, post_breaches, items_breaches, more_items_breaches, exprs_breaches, more_exprs_breaches}
+use Rattle.dpl_rules.specs.Expressions.{expr_breaches, item_breaches, stride_breaches, chain_breaches, posts_breaches, post_breaches}
 use Rattle.dpl_rules.proofs.Admission.{first_empty, second_empty}
 use Rattle.dpl_sound.proofs.Known.{IsTyped, told-typed, AreKnown, infix-by, post-told, type_of-known, item_type-known}
 use Rattle.dpl_lowered.specs.Shapes.{passes_on, all_pass_on, nests}
@@ -212,7 +212,7 @@ module _ (scopes : Scopes) (P : Place → Type 0) (names : AreScalar scopes) whe
         record {
           simple = operand.simple;
           plain = gives-plain (prefix_kind op operand.plain.kind) (type_by verdict) (prefix-gives op at operand.plain.kind (type_of scopes e) (plain-kind (type_of scopes e) operand.plain))
-          (type_of-known scopes known (Prefixed at op e) h);
+              (type_of-known scopes known (Prefixed at op e) h);
         }
     scalar (Reduced at op word e) s c h = absurd cc
     scalar (Chain e rest) s c h =
@@ -246,7 +246,7 @@ module _ (scopes : Scopes) (P : Place → Type 0) (names : AreScalar scopes) whe
         record {
           simple = (x.simple, y.simple, z);
           plain = gives-plain (Some RangeLeaf) (type_by verdict)
-          (range_item-kind scopes (part (first_of low) (type_of scopes low)) (part (first_of high) (type_of scopes high)) by) (item_type-known scopes known (RangeItem low at dots high by) h);
+              (range_item-kind scopes (part (first_of low) (type_of scopes low)) (part (first_of high) (type_of scopes high)) by) (item_type-known scopes known (RangeItem low at dots high by) h);
         }
 
     scalar_stride : (by : Stride Text) → StrideSpelt P by → closed_stride by ≡ None → stride_breaches scopes by ≡ [] → IsSimpleStride (MayBePlain scopes) by
@@ -304,7 +304,7 @@ module _ (scopes : Scopes) (P : Place → Type 0) (names : AreScalar scopes) whe
         record {
           simple = index.simple;
           plain = gives-plain (contains_kind p.kind index.plain.kind) _
-          (contains-gives at (first_of e) p.kind index.plain.kind o (type_of scopes e) (plain-kind o p) (plain-kind (type_of scopes e) index.plain)) typed;
+              (contains-gives at (first_of e) p.kind index.plain.kind o (type_of scopes e) (plain-kind o p) (plain-kind (type_of scopes e) index.plain)) typed;
         }
     scalar_method dot (Contains at from (FirstExpr e (NextExpr comma f more)) upto) last o p s c h typed =
         absurd (untaken o (method_verdict scopes (Contains at from (FirstExpr e (NextExpr comma f more)) upto)) p

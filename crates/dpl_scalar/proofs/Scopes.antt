@@ -12,7 +12,7 @@ use Rattle.dpl_language.specs.Declarations.{type_of as written_type}
 use Rattle.dpl_language.specs.Spelled.{SaysType}
 use Rattle.dpl_grammar.specs.Each.{IfThere}
 use Rattle.dpl_spelling.specs.Spelt.{ItemSpelt, InitSpelt, InitialSpelt, DeclareSpelt}
-use Rattle.dpl_closed.specs.Closed.{in_optional, closed_item, closed_mapped, closed_type, closed_typed, closed_init, closed_initial, closed_declare}
+use Rattle.dpl_closed.specs.Closed.{in_optional, closed_item, closed_type, closed_typed, closed_init, closed_initial, closed_declare}
 use Rattle.dpl_syntax.specs.declared.refusal.Code.{Code}
 use Rattle.dpl_syntax.specs.declared.refusal.Code.TheVariants.{WrongRank}
 use Rattle.dpl_rules.specs.Types.{Origin, ValueType, Scalar, Range, an_int, cell_of}
@@ -21,8 +21,8 @@ use Rattle.dpl_rules.specs.Places.{first_of_item, first_of_variables}
 use Rattle.dpl_rules.specs.Sights.{Declared, LoopVariable, Scopes, find, or_else, lookup, type_declared, origin_in, add, enter}
 use Rattle.dpl_rules.specs.Expressions.{locales_or, none_where, item_type, item_breaches, cell_declared, read_or_type, read_or_breaches, kind_read, side_part, side_breaches}
 use Rattle.dpl_rules.specs.Maps.{mapped_breaches}
-use Rattle.dpl_rules.specs.Declarations.{type_rank, is_untyped, unless_refused, declared_type, init_part, type_breaches, typed_initial, untyped_breaches, config_breaches, written_breaches, type_given, declaration_breaches, declared_by}
-use Rattle.dpl_rules.specs.Loops.{LoopWord, ForWord, ForallWord, CoforallWord, fits_variables, variable_type, typed_variable, header_of, over_type, over_breaches, variables_once, variables_of, add_variables, header_breaches, in_loop, behind}
+use Rattle.dpl_rules.specs.Declarations.{type_rank, is_untyped, unless_refused, declared_type, init_part, untyped_breaches, config_breaches, written_breaches, type_given, declaration_breaches, declared_by}
+use Rattle.dpl_rules.specs.Loops.{LoopWord, ForWord, ForallWord, CoforallWord, fits_variables, typed_variable, header_of, over_type, over_breaches, variables_once, variables_of, add_variables, header_breaches, in_loop, behind}
 use Rattle.dpl_rules.specs.Breaches.{top}
 use Rattle.dpl_rules.proofs.Admission.{first_empty, second_empty}
 use Rattle.dpl_sound.proofs.Given.{some-same}

@@ -1,9 +1,9 @@
 -- What a declaration and an assignment do, by the words that they leave.
 -- Each lemma has the meaning of the plain statement on its left side.
-use Rattle.std.proofs.Common.{◌≡◌, Bool, Option, Some, None, Result, Ok, Err, refl, sym, ap, ◌∙◌}
+use Rattle.std.proofs.Common.{◌≡◌, Option, Some, None, Result, Ok, Err, refl, sym, ap, ◌∙◌}
 use Rattle.dpl_syntax.specs.declared.place.Place.{Place}
 use Rattle.dpl_language.specs.Tree.{Assign, ItemTree}
-use Rattle.dpl_language.specs.Values.{Value, Fault, is_domain, array_domain}
+use Rattle.dpl_language.specs.Values.{Value, Fault, is_domain}
 use Rattle.dpl_language.specs.Arithmetic.{assign_divides, tested_divisor}
 use Rattle.dpl_language.specs.Outcome.{Deeds, Outcome, Done, Stop, Run, with_ok, with_value}
 use Rattle.dpl_language.specs.Environment.{Limits, Plain}
@@ -16,7 +16,6 @@ use Rattle.dpl_lowered.specs.Shapes.{nowhere}
 use Rattle.dpl_words.specs.Words.{Leaf, Words, by_word}
 use Rattle.dpl_words.proofs.Known.{words-known}
 use Rattle.dpl_nodes.specs.Steps.{unplaced_leaf, declared_as, assigned_to}
-use Rattle.dpl_nodes.specs.Faults.{fault_view}
 use Rattle.dpl_steps.specs.declared.halt.Halt.{Halt}
 use Rattle.dpl_steps.specs.declared.halt.Halt.TheVariants.{Fault as FaultHalt, Memory}
 use Rattle.dpl_steps.specs.Runs.{RunEnds}

@@ -1,9 +1,9 @@
 -- How what was printed grows by the texts of arguments, one by one, and what a `write` leaves of it.
 -- Where an argument is a fault, cutting the text back to what it was leaves what was printed before.
-use Rattle.std.proofs.Common.{◌≡◌, ℕ, ◌+◌, ◌<◌, Bool, List, [], ◌∷◌, ◌++◌, length, drop, take, get_or, Result, Ok, Err, refl, sym, ap, ◌∙◌}
+use Rattle.std.proofs.Common.{◌≡◌, ℕ, ◌+◌, ◌<◌, Bool, List, [], ◌++◌, length, drop, take, get_or, Result, Ok, Err, sym, ap, ◌∙◌}
 use Rattle.std.proofs.lemmas.List.{append_assoc, append-nil}
 use Rattle.std.proofs.Math.Seq.{take-append_seam}
-use Rattle.dpl_syntax.proofs.Walks.{drop-at, drop-end}
+use Rattle.dpl_syntax.proofs.Walks.{drop-at}
 use Rattle.dpl_language.specs.Values.{Fault}
 use Rattle.dpl_language.specs.Outcome.{Deeds, Done, Stop, with_ok, with_value, with_text}
 use Rattle.dpl_language.specs.Environment.{Limits}

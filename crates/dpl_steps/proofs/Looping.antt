@@ -1,6 +1,6 @@
 -- What loops do, by the turns of their ranges' members.
 -- Each lemma has the meaning of the plain loop on its left side.
-use Rattle.std.proofs.Common.{◌≡◌, ℕ, zero, suc, ◌+◌, ◌-◌, ◌<◌, arith, nat_lt, ℤ, Bool, true, false, if◌then◌else◌, List, [], ◌∷◌, drop, map, slice_get, Option, Some, None, Result, Ok, Err, refl, sym, ap, ◌∙◌}
+use Rattle.std.proofs.Common.{◌≡◌, ℕ, zero, suc, ◌+◌, ◌-◌, ◌<◌, arith, nat_lt, ℤ, Bool, true, false, List, [], ◌∷◌, drop, map, slice_get, Some, None, Result, Ok, Err, refl, sym, ap, ◌∙◌}
 use Rattle.std.specs.List.{flat_map}
 use Rattle.dpl_syntax.specs.declared.place.Place.{Place}
 use Rattle.dpl_range.specs.Range.{members_of}
@@ -13,7 +13,7 @@ use Rattle.dpl_language.specs.Values.{Value, Int, Truth, truth, Range, Index, Fa
 use Rattle.dpl_language.specs.Ranges.{indices_in, size_in, loop_ranges}
 use Rattle.dpl_language.specs.Outcome.{Deeds, Outcome, Done, Stop, Waits, Run, with_ok, with_value, then_do, choose, in_order, naming, repeated}
 use Rattle.dpl_language.specs.Environment.{Limits}
-use Rattle.dpl_language.specs.Phrases.{parts, reduce_intents, intents_of}
+use Rattle.dpl_language.specs.Phrases.{reduce_intents, intents_of}
 use Rattle.dpl_language.specs.Expressions.{value_of, item_of}
 use Rattle.dpl_language.specs.Loops.{within_budget, named_turn, scoped, turn_of}
 use Rattle.dpl_language.specs.Statements.{holds, exec, exec_all, exec_else}
@@ -22,7 +22,6 @@ use Rattle.dpl_lowered.specs.LoweredStatements.{behind_comma, with_intents}
 use Rattle.dpl_words.specs.Words.{Leaf, IntLeaf, Words, with_value_at, by_word}
 use Rattle.dpl_nodes.specs.declared.step.Step.{Step}
 use Rattle.dpl_nodes.specs.Steps.{steps_of, listed, variable_in}
-use Rattle.dpl_nodes.specs.Faults.{fault_view}
 use Rattle.dpl_steps.specs.declared.halt.Halt.{Halt}
 use Rattle.dpl_steps.specs.declared.halt.Halt.TheVariants.{Fault as FaultHalt, Memory}
 use Rattle.dpl_steps.specs.Runs.{RunEnds}

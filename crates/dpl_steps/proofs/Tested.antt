@@ -7,7 +7,6 @@ use Rattle.dpl_range.specs.Invariant.{IsRange}
 use Rattle.dpl_range.specs.Equality.{TextRange}
 use Rattle.dpl_language.specs.Tree.{ItemTree}
 use Rattle.dpl_language.specs.Values.{Value, Range, Fault, fault, Budget}
-use Rattle.dpl_language.specs.Ranges.{size_in}
 use Rattle.dpl_language.specs.Outcome.{with_ok}
 use Rattle.dpl_language.specs.Environment.{Limits}
 use Rattle.dpl_language.specs.Expressions.{item_of}

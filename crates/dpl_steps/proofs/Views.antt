@@ -1,15 +1,14 @@
 -- Statements that hold lists, by what code that walks them knows of them.
 -- Each lemma has the node's view on its left side.
-use Rattle.std.proofs.Common.{◌≡◌, ℕ, ◌+◌, ◌<◌, Bor, List, length, drop, map, get_or, Result, Ok, Err, refl, sym, ap, ◌∙◌}
+use Rattle.std.proofs.Common.{◌≡◌, ℕ, ◌+◌, ◌<◌, Bor, List, length, drop, map, get_or, Err, sym, ap, ◌∙◌}
 use Rattle.dpl_syntax.proofs.Walks.{drop-at}
-use Rattle.dpl_language.specs.Tree.{Block, If, While, For, Forall, Then}
-use Rattle.dpl_language.specs.Outcome.{Deeds, Outcome, Done, then_do}
+use Rattle.dpl_language.specs.Tree.{Block, If, While, For, Forall}
+use Rattle.dpl_language.specs.Outcome.{Deeds, Done, then_do}
 use Rattle.dpl_language.specs.Environment.{Limits}
 use Rattle.dpl_language.specs.Statements.{exec, exec_all}
 use Rattle.dpl_lowered.specs.Shapes.{nowhere}
 use Rattle.dpl_lowered.specs.LoweredStatements.{with_intents}
 use Rattle.dpl_words.specs.Words.{Words, by_word}
-use Rattle.dpl_nodes.specs.declared.fault.Spot.{Spot}
 use Rattle.dpl_syntax.specs.declared.place.Place.{Place}
 use Rattle.dpl_nodes.specs.declared.tree.BoolExpr.{BoolExpr}
 use Rattle.dpl_nodes.specs.declared.tree.RangeExpr.{RangeExpr}

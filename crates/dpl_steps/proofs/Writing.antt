@@ -1,12 +1,12 @@
 -- What `write` prints, by the texts of its arguments.
 -- Each lemma has the meaning of the plain arguments or of the plain statement on its left side.
-use Rattle.std.proofs.Common.{◌≡◌, ℕ, Bool, List, [], ◌∷◌, ◌++◌, map, Option, Some, None, Result, Ok, Err, refl, sym, ap, ◌∙◌}
+use Rattle.std.proofs.Common.{◌≡◌, ℕ, Bool, List, [], ◌∷◌, ◌++◌, map, None, Result, Ok, Err, refl, sym, ap, ◌∙◌}
 use Rattle.std.proofs.lemmas.List.{append_assoc, append-nil}
 use Rattle.dpl_language.specs.Tree.{AfterComma, ExprTree, One, ArgumentTree, ExprArgument}
 use Rattle.dpl_language.specs.Values.{Value, Fault}
 use Rattle.dpl_language.specs.Outcome.{Deeds, Done, Run, with_ok, with_value, with_text}
 use Rattle.dpl_language.specs.Environment.{Limits}
-use Rattle.dpl_language.specs.Phrases.{bare_name, cell_read, parts}
+use Rattle.dpl_language.specs.Phrases.{bare_name, cell_read}
 use Rattle.dpl_language.specs.Expressions.{value_of}
 use Rattle.dpl_language.specs.Writing.{line_end, shown, arguments_of, arguments_then}
 use Rattle.dpl_language.specs.Statements.{exec}

@@ -1,6 +1,6 @@
 -- What declarations and assignments do to the words: other words, or a fault. They do nothing else.
 -- Each is by the value of its right side.
-use Rattle.std.specs.Prelude.{◌≡◌, Option, Some, None, Result, Ok, Err}
+use Rattle.std.specs.Prelude.{Option, Some, None, Result, Ok, Err}
 use Rattle.dpl_syntax.specs.declared.place.Place.{Place}
 use Rattle.dpl_language.specs.Tree.{Assign, ItemTree}
 use Rattle.dpl_language.specs.Values.{Value, Fault}

@@ -5,7 +5,7 @@ use Rattle.dpl_syntax.specs.declared.place.Place.{Place}
 use Rattle.dpl_language.specs.Tree.{ItemTree, StmtTree, Forall}
 use Rattle.dpl_language.specs.Values.{Value, Int, Fault, fault, Budget}
 use Rattle.dpl_language.specs.Ranges.{size_in, loop_ranges}
-use Rattle.dpl_language.specs.Outcome.{Outcome, Done, Run, with_ok, then_do, naming}
+use Rattle.dpl_language.specs.Outcome.{Done, Run, with_ok, then_do, naming}
 use Rattle.dpl_language.specs.Environment.{Limits}
 use Rattle.dpl_language.specs.Expressions.{item_of}
 use Rattle.dpl_language.specs.Statements.{exec_all}

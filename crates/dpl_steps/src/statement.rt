@@ -20,9 +20,7 @@ use crate::change::{
 };
 use crate::halt::{Halt, told};
 use crate::print::write;
-use dpl_nodes::{
-    BoolExpr, Else, FaultCode, Frame, Intent, RangeExpr, RangeWord, Spot, Step, Trap,
-};
+use dpl_nodes::{BoolExpr, Else, FaultCode, Frame, Intent, RangeExpr, RangeWord, Spot, Step, Trap};
 use dpl_range::Range;
 use dpl_values::{range_value, truth_value};
 

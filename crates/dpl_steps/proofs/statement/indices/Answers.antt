@@ -1,7 +1,6 @@
 -- A range's size is tested once.
 use Rattle.std.proofs.Common.{◌≡◌, rules, true, false, nat_lt, length, sym, ap, ◌∙◌, Err}
 use Rattle.dpl_range.specs.Range.{members_of}
-use Rattle.dpl_range.specs.Invariant.{IsRange}
 use Rattle.dpl_nodes.specs.Typed.{range_item}
 use Rattle.dpl_nodes.specs.Faults.{range_word}
 use Rattle.dpl_steps.proofs.Tested.{looped_over-tested}
