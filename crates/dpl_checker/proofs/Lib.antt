@@ -1,4 +1,3 @@
-pub mod Left
 pub mod Names
 pub mod Steps
 pub mod Walked

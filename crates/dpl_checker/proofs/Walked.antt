@@ -27,7 +27,7 @@ use Rattle.dpl_deeds.proofs.Steps.{added_behind}
 use Rattle.dpl_checker.specs.declared.walk.Around.{Around}
 use Rattle.dpl_checker.specs.declared.walk.Walk.{Walk}
 use Rattle.dpl_checker.specs.Walks.{sight_in, Walks, WalksStmt, WalksStmts, WalksBody, WalksElse, of_variables, whole_told}
-use Rattle.dpl_checker.proofs.Left.{leave_behind, leave_behind_all, leave_variables}
+use Rattle.dpl_rules.proofs.Left.{leave_behind, leave_behind_all, leave_variables}
 use Rattle.dpl_checker.proofs.Steps.{told_then, told_before, adds_then}
 
 -- one part and then another

@@ -2,3 +2,4 @@ pub mod Kept
 pub mod Items
 pub mod Evaluated
 pub mod Rows
+pub mod Unread

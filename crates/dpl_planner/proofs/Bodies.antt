@@ -21,7 +21,8 @@ use Rattle.dpl_planner.specs.declared.progress.Reducing.{Reducing}
 use Rattle.dpl_planner.specs.Given.{AreGiven}
 use Rattle.dpl_planner.specs.Bounds.{bound_stmt, bound_body, bound_else}
 use Rattle.dpl_planner.specs.Plans.{reducing_view, seen_of, intents_in, seen_in, IsOneScope, Goes, Stands, stmt_leaves, body_leaves, else_leaves, PlansStmt, PlansStmts, PlansOnly, PlansInner, PlansBody, PlansElse, behind_body}
-use Rattle.dpl_planner.proofs.Scoped.{left-stmt, left-stmts, left-body}
+use Rattle.dpl_rules.proofs.Left.{leave_behind, leave_behind_all}
+use Rattle.dpl_planner.proofs.Scoped.{left-body}
 
 -- where the scopes are again what they were
 pub goes-back : (a b : Plan) → b.scopes ≡ a.scopes → a.slots ≤ b.slots → b.intents.items ≡ a.intents.items → Goes a b a.scopes
@@ -101,7 +102,7 @@ body-plans a b body steps p = record {
 
 pub block_stmt-plans : (a b : Plan) (from upto : Place) (ts : Stmts Text) (steps : Bor (List Step)) → PlansStmts (entered a) b ts steps.now → PlansStmt a (left b) (Block from ts upto) (BlockStep steps)
 block_stmt-plans a b from upto ts steps p = record {
-  goes = goes-left a b (behind_all (enter a.scopes) ts) (left-stmts [] a.scopes ts) p.goes.scopes p.goes.slots p.goes.intents;
+  goes = goes-left a b (behind_all (enter a.scopes) ts) (leave_behind_all [] a.scopes ts) p.goes.scopes p.goes.slots p.goes.intents;
   text = ap (λ us. Block from us upto) p.text;
   node = ap (λ us. Block nowhere us nowhere) (p.node ∙ sym (steps_view-row steps.now));
   resolves = λ start h le. p.resolves start (tt, h) le;
@@ -112,7 +113,7 @@ absent-plans a = record { goes = goes-nowhere a; text = refl; node = refl; resol
 
 pub else-plans : (a b : Plan) (at : Place) (t : StmtTree Text) (s : Bor Step) → PlansStmt (entered a) b t s.now → PlansElse a (left b) (ElseDo at t) (DoStep s)
 else-plans a b at t s p = record {
-  goes = goes-left a b (behind (enter a.scopes) t) (left-stmt [] a.scopes t) p.goes.scopes p.goes.slots p.goes.intents;
+  goes = goes-left a b (behind (enter a.scopes) t) (leave_behind [] a.scopes t) p.goes.scopes p.goes.slots p.goes.intents;
   text = ap (ElseDo at) p.text;
   node = ap (ElseDo nowhere) p.node;
   resolves = λ start h le. p.resolves start (tt, h) le;

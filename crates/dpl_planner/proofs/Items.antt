@@ -4,7 +4,7 @@ use Rattle.std.proofs.Common.{◌≡◌, Bor, List, Option, Some, None, refl, sy
 use Rattle.dpl_language.specs.Tree.{Op, ExprTree, ItemTree, One}
 use Rattle.dpl_language.specs.Names.{Text}
 use Rattle.dpl_language.specs.Values.{Index}
-use Rattle.dpl_language.specs.Phrases.{ReadTree, read_by, bare_name, cell_read, item_read}
+use Rattle.dpl_language.specs.Phrases.{ReadTree, item_read}
 use Rattle.dpl_language.specs.Scopes.{fits_expr, fits_item, fits_read, fits_side, fits_whole_side}
 use Rattle.dpl_language.specs.Renamed.{renamed_expr, renamed_item, renamed_read}
 use Rattle.dpl_language.proofs.RenamedParts.{item_read-renamed}
@@ -17,13 +17,12 @@ use Rattle.dpl_lowered.specs.LoweredStatements.{lowered_side}
 use Rattle.dpl_words.specs.Words.{Leaf, known_leaf}
 use Rattle.dpl_words.specs.Resolved.{Bound, Start, text_of, leaf_of, resolving, Suits}
 use Rattle.dpl_words.proofs.Fitting.{expr_fits, item_fits}
-use Rattle.dpl_nodes.specs.declared.tree.IntExpr.{IntExpr, Number, Local as IntLocal, Negative', Sum', Difference', Product', Quotient', Remainder', Size', First', Last', Low', High'}
-use Rattle.dpl_nodes.specs.declared.tree.BoolExpr.{BoolExpr, Truth as TruthNode, Local as TruthLocal, Not', And', Or', Same', Differ', Equal, Unequal, Less, AtMost, Greater, AtLeast, Contains}
-use Rattle.dpl_nodes.specs.declared.tree.RangeExpr.{RangeExpr, Local as RangeLocal, Between', Slice'}
+use Rattle.dpl_nodes.specs.declared.tree.BoolExpr.{BoolExpr}
 use Rattle.dpl_nodes.specs.declared.make.Typed.{Typed}
 use Rattle.dpl_nodes.specs.declared.make.Typed.TheVariants as typed
-use Rattle.dpl_nodes.specs.Typed.{int_view, truth_view, range_view, range_item}
+use Rattle.dpl_nodes.specs.Typed.{truth_view}
 use Rattle.dpl_nodes.specs.Makers.{typed_item, kind_of}
+use Rattle.dpl_nodes.proofs.Unread.{cell_read-int, cell_read-truth, item_read-range}
 use Rattle.dpl_elaborator.specs.Leaves.{leaf_in, IsFound}
 use Rattle.dpl_elaborator.specs.Simple.{IsSimple, IsSimpleItem}
 use Rattle.dpl_elaborator.specs.Sights.{bound_in, ArePlainScopes}
@@ -33,46 +32,6 @@ use Rattle.dpl_planner.specs.Parts.{IsItem, IsCondition}
 use Rattle.dpl_planner.specs.Plans.{seen_of}
 
 -- TYPED TREES ARE NO CELL READS
-read_by-none : (x : Option _) → read_by {N = Leaf} x None ≡ None
-read_by-none None = refl
-read_by-none (Some x) = refl
-
-pub cell_read-int : (e : IntExpr) → cell_read (int_view e) ≡ None
-cell_read-int (Number n) = refl
-cell_read-int (IntLocal slot) = refl
-cell_read-int (Negative' p e) = refl
-cell_read-int (Sum' p a q b) = refl
-cell_read-int (Difference' p a q b) = refl
-cell_read-int (Product' p a q b) = refl
-cell_read-int (Quotient' p a q b at) = refl
-cell_read-int (Remainder' p a q b at) = refl
-cell_read-int (Size' p r) = read_by-none (bare_name (range_view r))
-cell_read-int (First' p r at) = read_by-none (bare_name (range_view r))
-cell_read-int (Last' p r at) = read_by-none (bare_name (range_view r))
-cell_read-int (Low' p r at) = read_by-none (bare_name (range_view r))
-cell_read-int (High' p r at) = read_by-none (bare_name (range_view r))
-
-pub cell_read-truth : (e : BoolExpr) → cell_read (truth_view e) ≡ None
-cell_read-truth (TruthNode b) = refl
-cell_read-truth (TruthLocal slot) = refl
-cell_read-truth (Not' p e) = refl
-cell_read-truth (And' p a q b) = refl
-cell_read-truth (Or' p a q b) = refl
-cell_read-truth (Same' p a q b) = refl
-cell_read-truth (Differ' p a q b) = refl
-cell_read-truth (Equal a b) = refl
-cell_read-truth (Unequal a b) = refl
-cell_read-truth (Less a b) = refl
-cell_read-truth (AtMost a b) = refl
-cell_read-truth (Greater a b) = refl
-cell_read-truth (AtLeast a b) = refl
-cell_read-truth (Contains r i) = read_by-none (bare_name (range_view r.now))
-
-item_read-range : (e : RangeExpr) → item_read (range_item e) ≡ None
-item_read-range (RangeLocal slot) = refl
-item_read-range (Between' p low at dots q high stride) = refl
-item_read-range (Slice' p r q cut) = read_by-none (bare_name (range_view r))
-
 item_read-typed : (t : Typed) → item_read (typed_item t) ≡ None
 item_read-typed (typed.Int e) = cell_read-int e.now
 item_read-typed (typed.Truth e) = cell_read-truth e.now

@@ -32,7 +32,8 @@ use Rattle.dpl_elaborator.proofs.Fits.{expr_names-simple, unread-simple}
 use Rattle.dpl_planner.specs.declared.progress.Plan.{Plan}
 use Rattle.dpl_planner.specs.Parts.{IsArgument, AreArguments, StillArguments}
 use Rattle.dpl_planner.specs.Plans.{seen_of, intents_in, PlansStmt}
-use Rattle.dpl_planner.proofs.Items.{expr-text, cell_read-int, cell_read-truth}
+use Rattle.dpl_nodes.proofs.Unread.{cell_read-int, cell_read-truth}
+use Rattle.dpl_planner.proofs.Items.{expr-text}
 use Rattle.dpl_planner.proofs.Bodies.{goes-nowhere}
 
 -- ---- ONE ARGUMENT

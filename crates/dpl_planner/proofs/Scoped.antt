@@ -8,6 +8,7 @@ use Rattle.dpl_rules.specs.Sights.{Declared, Scope, Scopes, find, declared_here,
 use Rattle.dpl_rules.specs.Declarations.{declared_by}
 use Rattle.dpl_rules.specs.Loops.{behind}
 use Rattle.dpl_rules.specs.Sound.{behind_all}
+use Rattle.dpl_rules.proofs.Left.{leave_behind, leave_behind_all}
 use Rattle.dpl_scopes.specs.Slots.{count_in, next_slot_in}
 use Rattle.dpl_words.specs.Words.{LeafKind}
 use Rattle.dpl_words.specs.Resolved.{Bound, Start, bind, resolving}
@@ -52,42 +53,7 @@ after-stmts start NoStmts ss is = refl
 after-stmts start (Then t rest) ss is =
     ap (after_all (resolving start) (bound_stmts (behind ss t) rest)) (after-stmt start t ss is) ∙ after-stmts start rest (behind ss t) is
 
--- SCOPES THAT ARE LEFT: a statement changes the innermost alone
-abbrev behind_here : Scope → Scopes → StmtTree Text → Scope
-behind_here s ss (Nothing at) = s
-behind_here s ss (Declare d) = declared_by (s ∷ ss) d ∷ s
-behind_here s ss (Assigned target sign item semicolon) = s
-behind_here s ss (Call x dot call semicolon) = s
-behind_here s ss (Write w) = s
-behind_here s ss (Block from ts upto) = s
-behind_here s ss (If at e first second) = s
-behind_here s ss (While at e body) = s
-behind_here s ss (For at xs word item body) = s
-behind_here s ss (Forall at xs word item intents body) = s
-behind_here s ss (Coforall at xs word item intents body) = s
-behind_here s ss (On at e body) = s
-
-behind-open : (s : Scope) (ss : Scopes) (t : StmtTree Text) → behind (s ∷ ss) t ≡ behind_here s ss t ∷ ss
-behind-open s ss (Nothing at) = refl
-behind-open s ss (Declare d) = refl
-behind-open s ss (Assigned target sign item semicolon) = refl
-behind-open s ss (Call x dot call semicolon) = refl
-behind-open s ss (Write w) = refl
-behind-open s ss (Block from ts upto) = refl
-behind-open s ss (If at e first second) = refl
-behind-open s ss (While at e body) = refl
-behind-open s ss (For at xs word item body) = refl
-behind-open s ss (Forall at xs word item intents body) = refl
-behind-open s ss (Coforall at xs word item intents body) = refl
-behind-open s ss (On at e body) = refl
-
-pub left-stmt : (s : Scope) (ss : Scopes) (t : StmtTree Text) → drop 1 (behind (s ∷ ss) t) ≡ ss
-left-stmt s ss t = ap (drop 1) (behind-open s ss t)
-
-pub left-stmts : (s : Scope) (ss : Scopes) (ts : Stmts Text) → drop 1 (behind_all (s ∷ ss) ts) ≡ ss
-left-stmts s ss NoStmts = refl
-left-stmts s ss (Then t rest) = ap (λ vs. drop 1 (behind_all vs rest)) (behind-open s ss t) ∙ left-stmts (behind_here s ss t) ss rest
-
+-- SCOPES THAT ARE LEFT
 pub left-body : (s : Scope) (ss : Scopes) (b : Body Text) → drop 1 (behind_body (s ∷ ss) b) ≡ ss
-left-body s ss (WordBody at t) = left-stmt s ss t
-left-body s ss (BlockBody from ts upto) = left-stmts s ss ts
+left-body s ss (WordBody at t) = leave_behind s ss t
+left-body s ss (BlockBody from ts upto) = leave_behind_all s ss ts

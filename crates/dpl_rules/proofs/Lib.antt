@@ -19,3 +19,5 @@ pub mod Admission
 pub mod Soundness
 -- The breach that is told is one of the breaches, and none of them is before it.
 pub mod First
+-- A scope that is left is as it was entered.
+pub mod Left

@@ -1,17 +1,12 @@
--- Right sides and arguments of typed statements are no cell reads, and an int or a truth value is shown like itself.
--- Each lemma has what is seen of a plain tree on its left side.
+-- An int or a truth value is shown like itself.
+-- Each lemma has what is shown on its left side.
 use Rattle.std.proofs.Common.{◌≡◌, ℤ, Bool, Option, Some, None, refl}
 use Rattle.dpl_language.specs.Tree.{Placed}
 use Rattle.dpl_language.specs.Values.{Int, Truth}
 use Rattle.dpl_language.specs.Printing.{printed}
 use Rattle.dpl_language.specs.Environment.{Limits}
-use Rattle.dpl_language.specs.Phrases.{bare_name, read_by, cell_read, item_read}
 use Rattle.dpl_language.specs.Writing.{shown}
 use Rattle.dpl_words.specs.Words.{Leaf, Words, by_word}
-use Rattle.dpl_nodes.specs.declared.tree.IntExpr.{IntExpr, Number, Local as IntLocal, Negative', Sum', Difference', Product', Quotient', Remainder', Size', First', Last', Low', High'}
-use Rattle.dpl_nodes.specs.declared.tree.BoolExpr.{BoolExpr, Truth as TruthNode, Local as TruthLocal, Not', And', Or', Same', Differ', Equal, Unequal, Less, AtMost, Greater, AtLeast, Contains}
-use Rattle.dpl_nodes.specs.declared.tree.RangeExpr.{RangeExpr, Local as RangeLocal, Between', Slice'}
-use Rattle.dpl_nodes.specs.Typed.{int_view, truth_view, range_item, range_view}
 
 pub shown_int : (limits : Limits) (b : Option (Placed Leaf)) (n : ℤ) (s : Words) → shown limits by_word b (Int n) s ≡ printed (Int n)
 shown_int limits None n s = refl
@@ -20,43 +15,3 @@ shown_int limits (Some x) n s = refl
 pub shown_truth : (limits : Limits) (b : Option (Placed Leaf)) (v : Bool) (s : Words) → shown limits by_word b (Truth v) s ≡ printed (Truth v)
 shown_truth limits None v s = refl
 shown_truth limits (Some x) v s = refl
-
-read_by-none : (b : Option (Placed Leaf)) → read_by b None ≡ None
-read_by-none None = refl
-read_by-none (Some x) = refl
-
-pub cell_read-int : (e : IntExpr) → cell_read (int_view e) ≡ None
-cell_read-int (Number n) = refl
-cell_read-int (IntLocal slot) = refl
-cell_read-int (Negative' p e) = refl
-cell_read-int (Sum' p a q b) = refl
-cell_read-int (Difference' p a q b) = refl
-cell_read-int (Product' p a q b) = refl
-cell_read-int (Quotient' p a q b at) = refl
-cell_read-int (Remainder' p a q b at) = refl
-cell_read-int (Size' p r) = read_by-none (bare_name (range_view r))
-cell_read-int (First' p r at) = read_by-none (bare_name (range_view r))
-cell_read-int (Last' p r at) = read_by-none (bare_name (range_view r))
-cell_read-int (Low' p r at) = read_by-none (bare_name (range_view r))
-cell_read-int (High' p r at) = read_by-none (bare_name (range_view r))
-
-pub cell_read-truth : (e : BoolExpr) → cell_read (truth_view e) ≡ None
-cell_read-truth (TruthNode b) = refl
-cell_read-truth (TruthLocal slot) = refl
-cell_read-truth (Not' p e) = refl
-cell_read-truth (And' p a q b) = refl
-cell_read-truth (Or' p a q b) = refl
-cell_read-truth (Same' p a q b) = refl
-cell_read-truth (Differ' p a q b) = refl
-cell_read-truth (Equal a b) = refl
-cell_read-truth (Unequal a b) = refl
-cell_read-truth (Less a b) = refl
-cell_read-truth (AtMost a b) = refl
-cell_read-truth (Greater a b) = refl
-cell_read-truth (AtLeast a b) = refl
-cell_read-truth (Contains r i) = read_by-none (bare_name (range_view r.now))
-
-pub item_read-range : (e : RangeExpr) → item_read (range_item e) ≡ None
-item_read-range (RangeLocal slot) = refl
-item_read-range (Between' p low at dots q high stride) = refl
-item_read-range (Slice' p r q cut) = read_by-none (bare_name (range_view r))

@@ -16,7 +16,7 @@ use Rattle.dpl_nodes.specs.declared.step.Argument.TheVariants.{Text, Int, Truth}
 use Rattle.dpl_nodes.specs.Typed.{int_view, truth_view}
 use Rattle.dpl_nodes.specs.Steps.{argument_view, next_argument_view, arguments_view, written_as}
 use Rattle.dpl_steps.specs.Texts.{arguments_text, behind}
-use Rattle.dpl_steps.proofs.Shown.{cell_read-int, cell_read-truth}
+use Rattle.dpl_nodes.proofs.Unread.{cell_read-int, cell_read-truth}
 use Rattle.dpl_steps.proofs.Changing.{evaluated-item}
 
 -- one text behind another

@@ -16,7 +16,7 @@ use Rattle.dpl_nodes.specs.Faults.{range_word}
 use Rattle.dpl_nodes.specs.Frames.{Framed}
 use Rattle.dpl_steps.specs.Runs.{having_printed}
 use Rattle.dpl_steps.specs.Turns.{in_turn, turn_by_word, named_by_word}
-use Rattle.dpl_steps.proofs.Shown.{cell_read-int, cell_read-truth, item_read-range}
+use Rattle.dpl_nodes.proofs.Unread.{cell_read-int, cell_read-truth, item_read-range}
 use Rattle.dpl_steps.proofs.Changing.{ends_as, told-ends, exec-declared, exec-config, exec-assigned}
 use Rattle.dpl_steps.proofs.Looping.{then_do-halts, halts-alike, ends-alike, scoped-same, fault-ends, in_turn-done, in_turn-halts, for-turns, forall-turns, repeated-fault, repeated-ends, repeated-step, holds-value, holds-fault, if-then, exec-while}
 use Rattle.dpl_steps.proofs.Views.{block_view, if_view, while_view, for_view, forall_view}
