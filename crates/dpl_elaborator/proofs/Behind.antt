@@ -1,8 +1,8 @@
 -- One method or one bracket behind a base: what its maker makes of a typed base is the post behind it, of the type's kind.
 -- Where the maker takes no such base, or a part has no type, the rules give no type.
-use Rattle.std.proofs.Common.{◌≡◌, [], ◌∷◌, Option, None, Some, ap, ◌∙◌}
+use Rattle.std.proofs.Common.{◌≡◌, [], ◌∷◌, None, Some, ap, ◌∙◌}
 use Rattle.dpl_syntax.specs.declared.place.Place.{Place}
-use Rattle.dpl_language.specs.Tree.{ExprTree, ItemTree, Word, Brackets, Dotted, Plainly, Contains, Items, FirstItem, NoItems, Exprs, FirstExpr, NoExprs}
+use Rattle.dpl_language.specs.Tree.{ExprTree, ItemTree, Word, Brackets, Dotted, Plainly, Contains, FirstItem, NoItems, FirstExpr, NoExprs}
 use Rattle.dpl_language.specs.Names.{Text}
 use Rattle.dpl_rules.specs.Verdicts.{part, type_by, with_type}
 use Rattle.dpl_rules.specs.Places.{first_of, first_of_item}

@@ -74,7 +74,7 @@ module _ (scopes : Scopes) where
   chain_type-untyped (Link at op e rest) = chain_type-untyped rest
 
   pub chain-begun : (first : Typed) (all : Links Text) → IsChainSoFar scopes first all first all
-  chain-begun first all = record { node = refl; type = λ u h. (u, h, refl); found = λ h. h; scalar = λ h. h }
+  chain-begun first all = record { node = refl; type = λ u h. (u, h, refl); found = λ h. h; scalar = λ h. h; near = λ h. h }
 
   module _ (first : Typed) (all : Links Text) (t : Typed) (at : Place) (op : Infix) (e : ExprTree Text) (rest : Links Text)
       (so_far : IsChainSoFar scopes first all t (Link at op e rest)) where
@@ -89,6 +89,7 @@ module _ (scopes : Scopes) where
           (type_by w, gives-kind _ (kind_of next) (type_by w) (infix-gives op at (kind_of t) (kind_of right) v (type_of scopes e) is kind) gives, same);
       found = λ h. so_far.found (found, h);
       scalar = λ h. (so_far.scalar h).1;
+      near = λ h. (so_far.near h).2;
     }
 
     -- an operand that has no type

@@ -1,11 +1,10 @@
 -- What stands behind a base: a scalar base tells nothing of itself, each post stands behind what is before it, and one post more.
 -- Each lemma on a post is stated of the posts so far, by what is left of them.
-use Rattle.std.proofs.Common.{◌≡◌, ◌==◌, true, false, List, [], ◌∷◌, length, Option, Some, None, refl, sym, ap, subst, ◌∙◌, arith}
+use Rattle.std.proofs.Common.{◌≡◌, ◌==◌, true, false, List, [], ◌∷◌, length, None, refl, sym, ap, subst, ◌∙◌, arith}
 use Rattle.std.proofs.lemmas.Bool.Decides.{nat_tests}
 use Rattle.std.proofs.lemmas.List.{nil_from_length}
-use Rattle.dpl_history.specs.declared.cell.CellOp.{CellOp}
 use Rattle.dpl_syntax.specs.declared.place.Place.{Place}
-use Rattle.dpl_language.specs.Tree.{Placed, ExprTree, Number, TruthWord, Named, LocalesWord, LocaleCount, HereWord, Grouped, DomainLiteral, Prefixed, Reduced, Chain, Postfixed, ItemTree, One, RangeItem, Posts, NoPosts, Post, PostTree, Brackets, Rounds, Dotted, MethodTree, Plainly, Dim, Contains, Expand, CellRead, Items, FirstItem, NoItems, Exprs, FirstExpr, NoExprs}
+use Rattle.dpl_language.specs.Tree.{ExprTree, Number, TruthWord, Named, LocalesWord, LocaleCount, HereWord, Grouped, DomainLiteral, Prefixed, Reduced, Chain, Postfixed, ItemTree, One, RangeItem, Posts, NoPosts, Post, PostTree, Brackets, Rounds, Dotted, MethodTree, Plainly, Dim, Contains, Expand, CellRead, FirstItem, NoItems, FirstExpr, NoExprs}
 use Rattle.dpl_language.specs.Names.{Text}
 use Rattle.dpl_language.specs.Phrases.{Base, BaseName, BaseLocales, OtherBase, base_of, item_base, bare_name, method_read, post_read, posts_read}
 use Rattle.dpl_language.specs.Renamed.{renamed_expr, renamed_item, renamed_posts, renamed_post, renamed_method}
@@ -13,20 +12,19 @@ use Rattle.dpl_tree.specs.declared.expression.Post.{Post as PostNode}
 use Rattle.dpl_tree.specs.declared.expression.NextItem.{NextItem as NextItemNode}
 use Rattle.dpl_tree.specs.declared.expression.NextExpr.{NextExpr as NextExprNode}
 use Rattle.dpl_tree.specs.View.{posts_of, more_items_of, more_exprs_of}
-use Rattle.dpl_rules.specs.Types.{ValueType}
 use Rattle.dpl_rules.specs.Verdicts.{type_by}
 use Rattle.dpl_rules.specs.Places.{last_of, last_of_post}
 use Rattle.dpl_rules.specs.Sights.{Scopes}
 use Rattle.dpl_rules.specs.Expressions.{bare_locales, locales_or, type_of, posts_type, post_verdict}
 use Rattle.dpl_lowered.specs.Shapes.{stacked, stacked_on}
-use Rattle.dpl_lowered.specs.LoweredExpressions.{Once, rebased, read_base, told_base, based, lowered_posts, lowered_post}
+use Rattle.dpl_lowered.specs.LoweredExpressions.{rebased, read_base, told_base, based, lowered_posts, lowered_post}
 use Rattle.dpl_words.specs.Words.{Leaf, known_leaf}
 use Rattle.dpl_nodes.specs.declared.make.Typed.{Typed}
 use Rattle.dpl_nodes.specs.Makers.{typed_view, kind_of}
 use Rattle.dpl_elaborator.specs.Leaves.{leaf_in, IsFound, IsOfKind}
 use Rattle.dpl_language.specs.Spelled.{HasPosts}
 use Rattle.dpl_elaborator.specs.Simple.{IsSimple, IsSimpleItem, AreSimplePosts, IsSimplePost, IsSimpleMethod, IsSimpleCut, IsSimpleIndex}
-use Rattle.dpl_elaborator.specs.Elaborated.{leaves_of, post_leaves, posts_leaves, IsPostOf, ArePostsSoFar, HasNoPost, HaveNoPosts}
+use Rattle.dpl_elaborator.specs.Elaborated.{leaves_of, posts_leaves, IsPostOf, ArePostsSoFar, HasNoPost, HaveNoPosts}
 
 -- ---- the base
 -- it isn't the word `Locales`
@@ -143,7 +141,7 @@ module _ (scopes : Scopes) where
   posts_type-untyped (Post (Dotted dot m) rest) last = posts_type-untyped rest (last_of_post (Dotted dot m))
 
   pub posts-begun : (base : Typed) (all : Posts Text) → ArePostsSoFar scopes base all base all
-  posts-begun base all = record { node = refl; type = λ last u h. (last, u, h, refl); found = λ h. h; scalar = λ h. h }
+  posts-begun base all = record { node = refl; type = λ last u h. (last, u, h, refl); found = λ h. h; scalar = λ h. h; near = λ h. h }
 
   module _ (base : Typed) (all : Posts Text) (t : Typed) (p : PostTree Text) (rest : Posts Text) (so_far : ArePostsSoFar scopes base all t (Post p rest)) where
     pub posts-step : (next : Typed) → IsPostOf scopes t p next → ArePostsSoFar scopes base all next rest
@@ -154,6 +152,7 @@ module _ (scopes : Scopes) where
           (last_of_post p, type_by (post_verdict scopes now p v), made.type now v is, same);
       found = λ h. so_far.found (made.found, h);
       scalar = λ h. (so_far.scalar h).1;
+      near = λ h. (so_far.near h).1;
     }
 
     -- a post that what is before it doesn't take

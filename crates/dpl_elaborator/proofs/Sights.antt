@@ -1,14 +1,14 @@
 -- Names in sight, resolved: a name has the leaf of its innermost declaration, and the next slot is no one's.
 -- Scopes that are opened, closed and added to are sights that are.
 use Rattle.std.proofs.Common.{◌≡◌, ◌≢◌, ℕ, suc, ◌+◌, ◌≤◌, Bool, true, false, List, [], ◌∷◌, ◌++◌, length, Option, Some, None, refl, sym, ap, ◌∙◌, subst, arith}
-use Rattle.std.specs.Prelude.{bytes_eq, if◌then◌else◌, max}
+use Rattle.std.specs.Prelude.{bytes_eq, if◌then◌else◌}
 use Rattle.std.proofs.lemmas.Slice.Eq.{bytes_eq-Decides}
 use Rattle.dpl_language.specs.Names.{Text}
 use Rattle.dpl_rules.specs.Sights.{Declared, Scope, Scopes, find, or_else, lookup, type_declared, enter, add}
 use Rattle.dpl_scopes.specs.Slots.{count_in, next_slot_in, place_in, slot_or, slot_in}
 use Rattle.dpl_words.specs.Words.{LeafKind, Leaf}
-use Rattle.dpl_words.specs.Resolved.{Bound, Sight, leaf_in as leaf_in_frame, or_leaf, innermost, IsUnusedIn, IsUnused, bind, without_frame}
-use Rattle.dpl_elaborator.specs.Leaves.{kind_by, kind_in, leaf_by, leaf_in, IsFound}
+use Rattle.dpl_words.specs.Resolved.{Bound, leaf_in as leaf_in_frame, or_leaf, innermost, IsUnusedIn, IsUnused, bind}
+use Rattle.dpl_elaborator.specs.Leaves.{kind_by, leaf_by, leaf_in, IsFound}
 use Rattle.dpl_elaborator.specs.Sights.{bound_at, frame_from, sight_of, IsPlainScope, ArePlainScopes}
 
 -- A NAME'S LEAF

@@ -1,6 +1,6 @@
 -- What is elaborated from an item has a value of the typed expression's kind, by words of any frame.
 -- So a name of that kind may hold it, and a loop over it gives ints.
-use Rattle.std.proofs.Common.{◌≡◌, Result, Ok, Err, Option, Some, None, refl, sym, ap, ◌∙◌, subst}
+use Rattle.std.proofs.Common.{◌≡◌, Result, Ok, None, sym, ap, ◌∙◌, subst}
 use Rattle.std.specs.Prelude.{option_map}
 use Rattle.dpl_language.specs.Tree.{ItemTree}
 use Rattle.dpl_language.specs.Values.{Value, Fault}
@@ -14,7 +14,7 @@ use Rattle.dpl_language.proofs.RenamedTwice.{renamed_item-twice}
 use Rattle.dpl_rules.specs.Sights.{Scopes}
 use Rattle.dpl_lowered.specs.LoweredExpressions.{Once, lowered_item}
 use Rattle.dpl_lowered.proofs.Values.{item_of-lowered}
-use Rattle.dpl_words.specs.Words.{LeafKind, Leaf, Words, known_leaf, by_word}
+use Rattle.dpl_words.specs.Words.{LeafKind, Words, known_leaf, by_word}
 use Rattle.dpl_words.specs.Resolved.{leaf_of, IsOfKind, Suits}
 use Rattle.dpl_words.proofs.Known.{words-known}
 use Rattle.dpl_nodes.specs.declared.make.Typed.{Typed}

@@ -20,6 +20,8 @@ use Rattle.dpl_tree.specs.Words.{dots_view}
 use Rattle.dpl_tree.specs.View.{expr_view, stride_view, links_of, posts_of}
 use Rattle.dpl_nodes.specs.declared.make.Typed.{Typed}
 use Rattle.dpl_nodes.specs.Makers.{typed_view, kind_of}
+use Rattle.dpl_nodes.specs.Faults.{IsNear}
+use Rattle.dpl_spelling.specs.Spelt.{LinksSpelt, PostsSpelt}
 use Rattle.dpl_elaborator.specs.Leaves.{leaf_in, IsFound, IsOfKind, MayBePlain}
 use Rattle.dpl_elaborator.specs.Simple.{AreSimpleLinks, AreSimplePosts, IsSimplePost}
 
@@ -43,6 +45,7 @@ pub record IsChainSoFar (scopes : Scopes) (first : Typed) (all : Links Text) (t 
   pub type : (u : Option ValueType) → IsOfKind (kind_of first) u → (v : Option ValueType) × IsOfKind (kind_of t) v × (chain_type scopes v left ≡ chain_type scopes u all)
   pub found : AreSimpleLinks (IsFound scopes) left → AreSimpleLinks (IsFound scopes) all
   pub scalar : AreSimpleLinks (MayBePlain scopes) all → AreSimpleLinks (MayBePlain scopes) left
+  pub near : LinksSpelt IsNear all → LinksSpelt IsNear left
 
 -- RANGES
 -- a range, by its bounds and its stride
@@ -85,6 +88,7 @@ pub record ArePostsSoFar (scopes : Scopes) (base : Typed) (all : Posts Text) (t 
       → (now : Place) × (v : Option ValueType) × IsOfKind (kind_of t) v × (posts_type scopes now v left ≡ posts_type scopes last u all)
   pub found : AreSimplePosts (IsFound scopes) left → AreSimplePosts (IsFound scopes) all
   pub scalar : AreSimplePosts (MayBePlain scopes) all → AreSimplePosts (MayBePlain scopes) left
+  pub near : PostsSpelt IsNear all → PostsSpelt IsNear left
 
 -- whatever type of its kind a base has, there is none with these posts behind it
 abbrev pub HaveNoPosts : Scopes → Typed → Posts Text → Type 0

@@ -1,6 +1,6 @@
 -- What the check has in sight as names that are resolved: each declaration with its slot and the kind of its type.
 -- The scopes of the check have the latest declaration first, and a frame has them in order.
-use Rattle.std.specs.Prelude.{◌≡◌, ℕ, suc, ◌+◌, List, [], ◌∷◌, ◌++◌, length, Option, Some, None}
+use Rattle.std.specs.Prelude.{◌≡◌, ℕ, suc, ◌+◌, List, [], ◌∷◌, ◌++◌, length, Some, None}
 use Rattle.dpl_language.specs.Names.{Text}
 use Rattle.dpl_rules.specs.Sights.{Declared, Scope, Scopes, find}
 use Rattle.dpl_scopes.specs.Slots.{count_in}

@@ -13,6 +13,8 @@ ghost use Rattle.dpl_nodes.specs.Makers.{typed_view, typed_item, kind_of};
 ghost use Rattle.dpl_nodes.specs.declared.make.Stop.TheVariants as stop;
 ghost use Rattle.dpl_elaborator.specs.Leaves.{leaf_in, IsFound, IsOfKind, MayBePlain};
 ghost use Rattle.dpl_elaborator.specs.Simple.{IsSimple, IsSimpleItem, AreSimpleLinks};
+ghost use Rattle.dpl_spelling.specs.Spelt.{ExprSpelt, ItemSpelt, LinksSpelt};
+ghost use Rattle.dpl_nodes.specs.Faults.{IsNear};
 ghost use Rattle.dpl_elaborator.specs.Elaborated.{leaves_of, chain_tree, IsChainSoFar};
 
 use crate::chain::nests;
@@ -29,7 +31,7 @@ use dpl_tree::{Arena, Chain, Expr, Item, Link};
 ///
 /// # Errors
 /// Out of memory; an operand that an operator or a method doesn't take, a name that isn't a plain variable's, or a form that isn't
-/// a scalar expression's; a place that no text has.
+/// a scalar expression's; a place past 2^21, which no text has.
 #[cycle(expression)]
 #[tactic(auto, using(dpl_tree::proofs::Fields::chain_view_fields, dpl_tree::proofs::Fields::expr_view_postfixed))]
 pub fn expression<'t>(
@@ -40,7 +42,7 @@ pub fn expression<'t>(
     ensures node { IfOk result (λ t. typed_view t ≡ lowered_expr known_leaf Once (renamed_expr (leaf_in scopes.now) (expr_view e.now))) }
     ensures kind { IfOk result (λ t. IsOfKind (kind_of t) (type_of scopes.now (expr_view e.now))) }
     ensures found { IfOk result (λ t. IsSimple (IsFound scopes.now) (expr_view e.now)) }
-    ensures ill_typed { (result ≡ Err stop.IllTyped) → IsSimple (MayBePlain scopes.now) (expr_view e.now) → type_of scopes.now (expr_view e.now) ≡ None }
+    ensures ill_typed { (result ≡ Err stop.IllTyped) → IsSimple (MayBePlain scopes.now) (expr_view e.now) → ExprSpelt IsNear (expr_view e.now) → type_of scopes.now (expr_view e.now) ≡ None }
 {
     match e {
         Expr::Number(_, n) => number(arena, *n),
@@ -70,7 +72,7 @@ pub fn item<'t>(arena: Arena<'t>, scopes: &Scopes<'_>, item: &Item<'_>) -> Resul
     ensures node { IfOk result (λ t. typed_item t ≡ lowered_item known_leaf Once (renamed_item (leaf_in scopes.now) (item_view item.now))) }
     ensures kind { IfOk result (λ t. IsOfKind (kind_of t) (item_type scopes.now (item_view item.now))) }
     ensures found { IfOk result (λ t. IsSimpleItem (IsFound scopes.now) (item_view item.now)) }
-    ensures ill_typed { (result ≡ Err stop.IllTyped) → IsSimpleItem (MayBePlain scopes.now) (item_view item.now) → item_type scopes.now (item_view item.now) ≡ None }
+    ensures ill_typed { (result ≡ Err stop.IllTyped) → IsSimpleItem (MayBePlain scopes.now) (item_view item.now) → ItemSpelt IsNear (item_view item.now) → item_type scopes.now (item_view item.now) ≡ None }
 {
     match item {
         Item::One(e) => expression(arena, scopes, e),
@@ -84,7 +86,7 @@ fn chained<'t>(arena: Arena<'t>, scopes: &Scopes<'_>, chain: &Chain<'_>) -> Resu
     ensures node { IfOk result (λ t. typed_view t ≡ leaves_of scopes.now (chain_tree chain.now)) }
     ensures kind { IfOk result (λ t. IsOfKind (kind_of t) (type_of scopes.now (chain_tree chain.now))) }
     ensures found { IfOk result (λ t. IsSimple (IsFound scopes.now) (chain_tree chain.now)) }
-    ensures ill_typed { (result ≡ Err stop.IllTyped) → IsSimple (MayBePlain scopes.now) (chain_tree chain.now) → type_of scopes.now (chain_tree chain.now) ≡ None }
+    ensures ill_typed { (result ≡ Err stop.IllTyped) → IsSimple (MayBePlain scopes.now) (chain_tree chain.now) → ExprSpelt IsNear (chain_tree chain.now) → type_of scopes.now (chain_tree chain.now) ≡ None }
 {
     if nests(chain.links) {
         let first = expression(arena, scopes, chain.first)?;
@@ -103,7 +105,7 @@ fn links<'t>(
     links: &[Link<'_>],
 ) -> Result<Typed<'t>, Stop>
     ensures so_far { IfOk result (λ t. IsChainSoFar scopes.now first.entry (links_of links.now) t NoLinks) }
-    ensures ill_typed { (result ≡ Err stop.IllTyped) → AreSimpleLinks (MayBePlain scopes.now) (links_of links.now) → (u : Option RuleType) → IsOfKind (kind_of first.entry) u → chain_type scopes.now u (links_of links.now) ≡ None }
+    ensures ill_typed { (result ≡ Err stop.IllTyped) → AreSimpleLinks (MayBePlain scopes.now) (links_of links.now) → LinksSpelt IsNear (links_of links.now) → (u : Option RuleType) → IsOfKind (kind_of first.entry) u → chain_type scopes.now u (links_of links.now) ≡ None }
 {
     let mut t = first;
     for next in links {

@@ -10,6 +10,8 @@ ghost use Rattle.dpl_nodes.specs.Makers.{typed_view, kind_of};
 ghost use Rattle.dpl_nodes.specs.declared.make.Stop.TheVariants as stop;
 ghost use Rattle.dpl_elaborator.specs.Leaves.{IsFound, IsOfKind, MayBePlain};
 ghost use Rattle.dpl_elaborator.specs.Simple.{IsSimple, AreSimplePosts, IsSimplePost, IsSimpleMethod, IsSimpleCut, IsSimpleIndex};
+ghost use Rattle.dpl_spelling.specs.Spelt.{ExprSpelt, PostsSpelt, PostSpelt, MethodSpelt, ItemsSpelt, ExprsSpelt};
+ghost use Rattle.dpl_nodes.specs.Faults.{IsNear};
 ghost use Rattle.dpl_elaborator.specs.Elaborated.{leaves_of, postfixed_tree, IsPostOf, ArePostsSoFar, HasNoPost, HaveNoPosts};
 
 use crate::elaborate::{expression, item};
@@ -31,7 +33,7 @@ pub fn postfixed<'t>(
     ensures node { IfOk result (λ t. typed_view t ≡ leaves_of scopes.now (postfixed_tree e.now)) }
     ensures kind { IfOk result (λ t. IsOfKind (kind_of t) (type_of scopes.now (postfixed_tree e.now))) }
     ensures found { IfOk result (λ t. IsSimple (IsFound scopes.now) (postfixed_tree e.now)) }
-    ensures ill_typed { (result ≡ Err stop.IllTyped) → IsSimple (MayBePlain scopes.now) (postfixed_tree e.now) → type_of scopes.now (postfixed_tree e.now) ≡ None }
+    ensures ill_typed { (result ≡ Err stop.IllTyped) → IsSimple (MayBePlain scopes.now) (postfixed_tree e.now) → ExprSpelt IsNear (postfixed_tree e.now) → type_of scopes.now (postfixed_tree e.now) ≡ None }
 {
     if e.posts.is_empty() {
         Err(Stop::IllTyped)
@@ -50,7 +52,7 @@ fn posts<'t>(
     posts: &[Post<'_>],
 ) -> Result<Typed<'t>, Stop>
     ensures so_far { IfOk result (λ t. ArePostsSoFar scopes.now base.entry (posts_of posts.now) t NoPosts) }
-    ensures ill_typed { (result ≡ Err stop.IllTyped) → AreSimplePosts (MayBePlain scopes.now) (posts_of posts.now) → HaveNoPosts scopes.now base.entry (posts_of posts.now) }
+    ensures ill_typed { (result ≡ Err stop.IllTyped) → AreSimplePosts (MayBePlain scopes.now) (posts_of posts.now) → PostsSpelt IsNear (posts_of posts.now) → HaveNoPosts scopes.now base.entry (posts_of posts.now) }
 {
     let mut t = base;
     for next in posts {
@@ -68,7 +70,7 @@ fn post<'t>(
     post: &Post<'_>,
 ) -> Result<Typed<'t>, Stop>
     ensures made { IfOk result (λ t. IsPostOf scopes.now base.entry (post_view post.now) t) }
-    ensures ill_typed { (result ≡ Err stop.IllTyped) → IsSimplePost (MayBePlain scopes.now) (post_view post.now) → HasNoPost scopes.now base.entry (post_view post.now) }
+    ensures ill_typed { (result ≡ Err stop.IllTyped) → IsSimplePost (MayBePlain scopes.now) (post_view post.now) → PostSpelt IsNear (post_view post.now) → HasNoPost scopes.now base.entry (post_view post.now) }
 {
     match post {
         Post::Brackets { items, .. } => slice(arena, scopes, base, items),
@@ -86,7 +88,7 @@ fn slice<'t>(
     items: &Items<'_>,
 ) -> Result<Typed<'t>, Stop>
     ensures made { IfOk result (λ t. (from upto : Place) → IsPostOf scopes.now base.entry (Brackets from (items_view items.now) upto) t) }
-    ensures ill_typed { (result ≡ Err stop.IllTyped) → IsSimpleCut (MayBePlain scopes.now) (items_view items.now) → (from upto : Place) → HasNoPost scopes.now base.entry (Brackets from (items_view items.now) upto) }
+    ensures ill_typed { (result ≡ Err stop.IllTyped) → IsSimpleCut (MayBePlain scopes.now) (items_view items.now) → ItemsSpelt IsNear (items_view items.now) → (from upto : Place) → HasNoPost scopes.now base.entry (Brackets from (items_view items.now) upto) }
 {
     if items.others.is_empty() {
         let cut = item(arena, scopes, &items.first)?;
@@ -105,7 +107,7 @@ fn method<'t>(
     method: &Method<'_>,
 ) -> Result<Typed<'t>, Stop>
     ensures made { IfOk result (λ t. (dot : Place) → IsPostOf scopes.now base.entry (Dotted dot (method_view method.now)) t) }
-    ensures ill_typed { (result ≡ Err stop.IllTyped) → IsSimpleMethod (MayBePlain scopes.now) (method_view method.now) → (dot : Place) → HasNoPost scopes.now base.entry (Dotted dot (method_view method.now)) }
+    ensures ill_typed { (result ≡ Err stop.IllTyped) → IsSimpleMethod (MayBePlain scopes.now) (method_view method.now) → MethodSpelt IsNear (method_view method.now) → (dot : Place) → HasNoPost scopes.now base.entry (Dotted dot (method_view method.now)) }
 {
     match method {
         Method::Plain(at, word) => called(arena, *word, *at, base),
@@ -125,7 +127,7 @@ fn contains<'t>(
     exprs: &Exprs<'_>,
 ) -> Result<Typed<'t>, Stop>
     ensures made { IfOk result (λ t. (dot at from upto : Place) → IsPostOf scopes.now base.entry (Dotted dot (Contains at from (exprs_view exprs.now) upto)) t) }
-    ensures ill_typed { (result ≡ Err stop.IllTyped) → IsSimpleIndex (MayBePlain scopes.now) (exprs_view exprs.now) → (dot at from upto : Place) → HasNoPost scopes.now base.entry (Dotted dot (Contains at from (exprs_view exprs.now) upto)) }
+    ensures ill_typed { (result ≡ Err stop.IllTyped) → IsSimpleIndex (MayBePlain scopes.now) (exprs_view exprs.now) → ExprsSpelt IsNear (exprs_view exprs.now) → (dot at from upto : Place) → HasNoPost scopes.now base.entry (Dotted dot (Contains at from (exprs_view exprs.now) upto)) }
 {
     if exprs.others.is_empty() {
         let index = expression(arena, scopes, exprs.first)?;

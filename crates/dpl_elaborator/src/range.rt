@@ -9,6 +9,8 @@ ghost use Rattle.dpl_nodes.specs.Makers.{typed_item, kind_of};
 ghost use Rattle.dpl_nodes.specs.declared.make.Stop.TheVariants as stop;
 ghost use Rattle.dpl_elaborator.specs.Leaves.{IsFound, IsOfKind, MayBePlain};
 ghost use Rattle.dpl_elaborator.specs.Simple.{IsSimpleItem, IsSimpleStride};
+ghost use Rattle.dpl_spelling.specs.Spelt.{ItemSpelt, StrideSpelt};
+ghost use Rattle.dpl_nodes.specs.Faults.{IsNear};
 ghost use Rattle.dpl_elaborator.specs.Elaborated.{item_leaves, stride_leaves, range_tree, HasNoRange};
 
 use crate::elaborate::expression;
@@ -30,7 +32,7 @@ pub fn range<'t>(
     ensures node { IfOk result (λ t. typed_item t ≡ item_leaves scopes.now (range_tree range.now)) }
     ensures kind { IfOk result (λ t. IsOfKind (kind_of t) (item_type scopes.now (range_tree range.now))) }
     ensures found { IfOk result (λ t. IsSimpleItem (IsFound scopes.now) (range_tree range.now)) }
-    ensures ill_typed { (result ≡ Err stop.IllTyped) → IsSimpleItem (MayBePlain scopes.now) (range_tree range.now) → item_type scopes.now (range_tree range.now) ≡ None }
+    ensures ill_typed { (result ≡ Err stop.IllTyped) → IsSimpleItem (MayBePlain scopes.now) (range_tree range.now) → ItemSpelt IsNear (range_tree range.now) → item_type scopes.now (range_tree range.now) ≡ None }
 {
     let low = expression(arena, scopes, range.low)?;
     let high = expression(arena, scopes, range.high)?;
@@ -47,7 +49,7 @@ fn stride<'t>(
 ) -> Result<dpl_nodes::Stride<'t>, Stop>
     ensures node { IfOk result (λ s. stride_view s ≡ stride_leaves scopes.now (stride_tree by.now)) }
     ensures found { IfOk result (λ s. IsSimpleStride (IsFound scopes.now) (stride_tree by.now)) }
-    ensures ill_typed { (result ≡ Err stop.IllTyped) → IsSimpleStride (MayBePlain scopes.now) (stride_tree by.now) → HasNoRange scopes.now (stride_tree by.now) }
+    ensures ill_typed { (result ≡ Err stop.IllTyped) → IsSimpleStride (MayBePlain scopes.now) (stride_tree by.now) → StrideSpelt IsNear (stride_tree by.now) → HasNoRange scopes.now (stride_tree by.now) }
 {
     match by {
         Stride::Absent => Ok(dpl_nodes::Stride::Absent),

@@ -1,6 +1,6 @@
 -- A typed expression evaluates to a fault or to a value of its type, in every frame.
 -- So what is put into a slot is of the slot's kind.
-use Rattle.std.proofs.Common.{◌≡◌, ℤ, pos, Bool, true, false, not, List, [], ◌∷◌, get_or, Result, Ok, Err, None, refl, sym, subst}
+use Rattle.std.proofs.Common.{ℤ, pos, Bool, true, false, not, List, [], ◌∷◌, get_or, Result, Ok, Err, None, refl, sym, subst}
 use Rattle.std.specs.Prelude.{◌&&◌, ◌||◌, ◌+ℤ◌, ◌-ℤ◌, ◌*ℤ◌, neg_ℤ, int_lt, int_le, int_div, int_rem}
 use Rattle.std.specs.Ordering.{int_eq}
 use Rattle.dpl_language.specs.Arithmetic.{wrap}

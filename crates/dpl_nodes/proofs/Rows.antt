@@ -1,6 +1,6 @@
 -- Lists of statements in a typed tree: rows of nodes, whose plain statements are those of the list, one by one.
 -- Each lemma has a node that holds a list on its left side.
-use Rattle.std.proofs.Common.{◌≡◌, Bor, List, refl, ap, ◌∙◌}
+use Rattle.std.proofs.Common.{◌≡◌, List, refl, ap, ◌∙◌}
 use Rattle.dpl_nodes.specs.declared.step.Step.{Step, Row_of-Step, end_of-Step, more_of-Step, items-the_row-Step, items_hidden-the_row-Step-0}
 use Rattle.dpl_nodes.specs.declared.step.Else.TheBlock.{hidden-the_row-Step-0}
 use Rattle.dpl_language.specs.Tree.{Then}

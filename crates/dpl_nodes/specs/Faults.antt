@@ -1,6 +1,7 @@
 -- The faults that words stand for, and what a walk hands back.
-use Rattle.std.specs.Prelude.{ℕ, zero, suc, ℤ, Bool, Option, Some, None, Result, Ok, Err, [], ◌∷◌}
+use Rattle.std.specs.Prelude.{ℕ, ◌<◌, zero, suc, ℤ, Bool, Option, Some, None, Result, Ok, Err, [], ◌∷◌}
 use Rattle.dpl_range.specs.Equality.{TextRange}
+use Rattle.dpl_syntax.specs.declared.place.Place.{Place}
 use Rattle.dpl_language.specs.Values.{Value, Int, Truth, Range, FaultCode, Outside, ZeroDivisor, PastLimit, EmptyEnd, Budget, NoLocale, CellStuck, ArrayTooLarge, Turn, InNone, InTurn, Fault}
 use Rattle.dpl_nodes.specs.declared.fault.FaultCode.{FaultCode as CodeNode}
 use Rattle.dpl_nodes.specs.declared.fault.FaultCode.TheVariants as code
@@ -35,6 +36,10 @@ turn_view (Some i) = InTurn (i ∷ [])
 
 abbrev pub fault_view : FaultNode → Fault
 fault_view f = record { code = code_view f.code; at = f.at; turn = turn_view f.turn }
+
+-- a place that a fault's word has room for
+abbrev pub IsNear : Place → Type 0
+IsNear at = (at.line < 2097152) × (at.column < 2097152)
 
 -- a range as a value
 abbrev pub range_word : RangeWord → TextRange

@@ -1,12 +1,13 @@
 // The nodes of typed expressions, made of their operands in the arena.
 // Each stands for the plain node of its operator; operands of other types than it takes are refused.
 
-ghost use Rattle.std.specs.Prelude.{◌≡◌, ◌≢◌, IfOk, IfErr, None, Some, Ok, Err};
+ghost use Rattle.std.specs.Prelude.{◌≡◌, IfOk, IfErr, None, Some, Ok, Err};
 ghost use Rattle.dpl_language.specs.Arithmetic.{divides};
 ghost use Rattle.dpl_language.specs.Tree.{Prefixed};
 ghost use Rattle.dpl_lowered.specs.Shapes.{nowhere, kept, two};
 ghost use Rattle.dpl_tree.specs.Words.{infix_view, prefix_view};
 ghost use Rattle.dpl_nodes.specs.Typed.{int_view, truth_view};
+ghost use Rattle.dpl_nodes.specs.Faults.{IsNear};
 ghost use Rattle.dpl_nodes.specs.Makers.{typed_view, kind_of, infix_kind, ints_kind, truths_kind, prefix_kind};
 ghost use Rattle.dpl_nodes.specs.declared.make.Stop.TheVariants as stop;
 ghost use Rattle.dpl_nodes.specs.declared.make.Typed.TheVariants as typed;
@@ -30,23 +31,22 @@ pub enum Typed<'t> {
 pub enum Stop {
     /// Out of memory.
     Memory,
-    /// An operand is of a type that the operator doesn't take.
+    /// An operand is of a type that the operator doesn't take; or a fault's place has a line or a column from 2^21 on, as no
+    /// text's place has.
     IllTyped,
-    /// A fault's place has a line or a column from 2^21 on; no text that is lexed has such places.
-    Far,
 }
 
 // The place of a fault, in the arena.
 pub(crate) fn spot<'t>(arena: Arena<'t>, at: Place) -> Result<&'t Spot, Stop>
     ensures near { IfOk result (λ s. s.now ≡ at) }
-    ensures far { result ≢ Err stop.IllTyped }
+    ensures far { (result ≡ Err stop.IllTyped) → IsNear at → ⊥ }
 {
     match Spot::new(at) {
         Some(spot) => match arena.node(spot) {
             Ok(spot) => Ok(spot),
             Err(_) => Err(Stop::Memory),
         },
-        None => Err(Stop::Far),
+        None => Err(Stop::IllTyped),
     }
 }
 
@@ -60,7 +60,7 @@ fn of_ints<'t>(
 ) -> Result<Typed<'t>, Stop>
     ensures node { IfOk result (λ t. typed_view t ≡ two (int_view left.now) (kept (divides (infix_view op)) at) (infix_view op) (int_view right.now)) }
     ensures kind { IfOk result (λ t. ints_kind (infix_view op) ≡ Some (kind_of t)) }
-    ensures ill_typed { (result ≡ Err stop.IllTyped) → ints_kind (infix_view op) ≡ None }
+    ensures ill_typed { (result ≡ Err stop.IllTyped) → IsNear at → ints_kind (infix_view op) ≡ None }
 {
     match op {
         Infix::Add => int(arena.node(IntExpr::Sum(left, right))),
@@ -148,7 +148,7 @@ fn of_truths<'t>(
 /// An operator between two operands.
 ///
 /// # Errors
-/// Out of memory; operands that the operator doesn't take; a place that no text has.
+/// Out of memory; operands that the operator doesn't take; a place past 2^21, which no text has.
 pub fn combined<'t>(
     arena: Arena<'t>,
     op: Infix,
@@ -158,7 +158,7 @@ pub fn combined<'t>(
 ) -> Result<Typed<'t>, Stop>
     ensures node { IfOk result (λ t. typed_view t ≡ two (typed_view left.entry) (kept (divides (infix_view op)) at) (infix_view op) (typed_view right.entry)) }
     ensures kind { IfOk result (λ t. infix_kind (infix_view op) (kind_of left.entry) (kind_of right.entry) ≡ Some (kind_of t)) }
-    ensures ill_typed { (result ≡ Err stop.IllTyped) → infix_kind (infix_view op) (kind_of left.entry) (kind_of right.entry) ≡ None }
+    ensures ill_typed { (result ≡ Err stop.IllTyped) → IsNear at → infix_kind (infix_view op) (kind_of left.entry) (kind_of right.entry) ≡ None }
 {
     match (left, right) {
         (Typed::Int(left), Typed::Int(right)) => of_ints(arena, op, at, left, right),

@@ -8,6 +8,7 @@ ghost use Rattle.dpl_lowered.specs.LoweredExpressions.{unplaced_dots, is_end};
 ghost use Rattle.dpl_words.specs.Words.{IntLeaf};
 ghost use Rattle.dpl_tree.specs.Words.{word_view, dots_view as dots_of};
 ghost use Rattle.dpl_nodes.specs.Typed.{dots_view, dotted, bracketed, range_view, stride_view};
+ghost use Rattle.dpl_nodes.specs.Faults.{IsNear};
 ghost use Rattle.dpl_nodes.specs.Makers.{typed_view, typed_item, kind_of, range_word_kind, word_kind, contains_kind, slice_kind, bounds_kind};
 ghost use Rattle.dpl_nodes.specs.declared.make.Stop.TheVariants as stop;
 
@@ -25,7 +26,7 @@ fn of_range<'t>(
 ) -> Result<Typed<'t>, Stop>
     ensures node { IfOk result (λ t. typed_view t ≡ dotted (range_view base.now) (Plainly (kept (is_end (word_view word)) at) (word_view word))) }
     ensures kind { IfOk result (λ t. range_word_kind (word_view word) ≡ Some (kind_of t)) }
-    ensures ill_typed { (result ≡ Err stop.IllTyped) → range_word_kind (word_view word) ≡ None }
+    ensures ill_typed { (result ≡ Err stop.IllTyped) → IsNear at → range_word_kind (word_view word) ≡ None }
 {
     match word {
         Word::Size => int(arena.node(IntExpr::Size(base))),
@@ -52,7 +53,7 @@ fn of_range<'t>(
 /// A method without arguments: `size first last low high` of a range.
 ///
 /// # Errors
-/// Out of memory; another method, or one of something else; a place that no text has.
+/// Out of memory; another method, or one of something else; a place past 2^21, which no text has.
 pub fn called<'t>(
     arena: Arena<'t>,
     word: Word,
@@ -61,7 +62,7 @@ pub fn called<'t>(
 ) -> Result<Typed<'t>, Stop>
     ensures node { IfOk result (λ t. typed_view t ≡ dotted (typed_view base.entry) (Plainly (kept (is_end (word_view word)) at) (word_view word))) }
     ensures kind { IfOk result (λ t. word_kind (word_view word) (kind_of base.entry) ≡ Some (kind_of t)) }
-    ensures ill_typed { (result ≡ Err stop.IllTyped) → word_kind (word_view word) (kind_of base.entry) ≡ None }
+    ensures ill_typed { (result ≡ Err stop.IllTyped) → IsNear at → word_kind (word_view word) (kind_of base.entry) ≡ None }
 {
     match base {
         Typed::Range(base) => of_range(arena, word, at, base),
@@ -126,10 +127,10 @@ fn dots(written: dpl_tree::Dots) -> Dots
 /// A stride, told at its place.
 ///
 /// # Errors
-/// Out of memory; a stride that is no int; a place that no text has.
+/// Out of memory; a stride that is no int; a place past 2^21, which no text has.
 pub fn strided<'t>(arena: Arena<'t>, at: Place, stride: Typed<'t>) -> Result<Stride<'t>, Stop>
     ensures node { IfOk result (λ s. stride_view s ≡ By at (typed_view stride.entry)) }
-    ensures ill_typed { (result ≡ Err stop.IllTyped) → kind_of stride.entry ≢ IntLeaf }
+    ensures ill_typed { (result ≡ Err stop.IllTyped) → IsNear at → kind_of stride.entry ≢ IntLeaf }
 {
     match stride {
         Typed::Int(stride) => {
@@ -144,7 +145,7 @@ pub fn strided<'t>(arena: Arena<'t>, at: Place, stride: Typed<'t>) -> Result<Str
 /// A range by its low bound, its high bound or count, and its stride; a fault of a bound is told at the dots.
 ///
 /// # Errors
-/// Out of memory; a bound that is no int; a place that no text has.
+/// Out of memory; a bound that is no int; a place past 2^21, which no text has.
 pub fn bounded<'t>(
     arena: Arena<'t>,
     low: Typed<'t>,
@@ -155,7 +156,7 @@ pub fn bounded<'t>(
 ) -> Result<Typed<'t>, Stop>
     ensures node { IfOk result (λ t. typed_item t ≡ RangeItem (typed_view low.entry) at (unplaced_dots (dots_of written)) (typed_view high.entry) (stride_view stride.entry)) }
     ensures kind { IfOk result (λ t. bounds_kind (kind_of low.entry) (kind_of high.entry) ≡ Some (kind_of t)) }
-    ensures ill_typed { (result ≡ Err stop.IllTyped) → bounds_kind (kind_of low.entry) (kind_of high.entry) ≡ None }
+    ensures ill_typed { (result ≡ Err stop.IllTyped) → IsNear at → bounds_kind (kind_of low.entry) (kind_of high.entry) ≡ None }
 {
     match (low, high) {
         (Typed::Int(low), Typed::Int(high)) => {

@@ -137,6 +137,6 @@ pub(crate) fn spot<'t>(arena: Arena<'t>, at: Place) -> Result<&'t Spot, Stop>
 {
     match Spot::new(at) {
         Some(spot) => node(arena, spot),
-        None => Err(Stop::Far),
+        None => Err(Stop::IllTyped),
     }
 }

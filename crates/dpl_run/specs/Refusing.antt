@@ -26,7 +26,6 @@ IsShortOf stage.Memory short = short ≡ Memory
 abbrev pub IsUnplannedOf : NodeStop → Short → Type 0
 IsUnplannedOf node.Memory short = short ≡ Memory
 IsUnplannedOf node.IllTyped short = short ≡ Unplanned
-IsUnplannedOf node.Far short = short ≡ Unplanned
 
 -- a refusal is the text's, and what isn't laid out is a program
 abbrev pub IsCause : List ℕ → List (List ℕ) → Short → Type 0

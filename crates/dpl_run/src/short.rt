@@ -37,7 +37,7 @@ impl From<NodeStop> for Short {
     fn from(stop: NodeStop) -> Short {
         match stop {
             NodeStop::Memory => Short::Memory,
-            NodeStop::IllTyped | NodeStop::Far => Short::Unplanned,
+            NodeStop::IllTyped => Short::Unplanned,
         }
     }
 }

@@ -16,6 +16,8 @@ use Rattle.dpl_rules.specs.Expressions.{type_of, item_type, chain_type}
 use Rattle.dpl_lowered.specs.Shapes.{as_expr, as_item}
 use Rattle.dpl_nodes.specs.declared.make.Stop.TheVariants as stop
 use Rattle.dpl_nodes.specs.Makers.{kind_of}
+use Rattle.dpl_nodes.specs.Faults.{IsNear}
+use Rattle.dpl_spelling.specs.Spelt.{PostSpelt}
 use Rattle.dpl_nodes.proofs.Items.{typed_view-item, typed_item-view}
 use Rattle.dpl_elaborator.specs.Leaves.{IsOfKind, MayBePlain}
 use Rattle.dpl_elaborator.specs.Simple.{IsSimplePost, IsSimpleCut, IsSimpleIndex}
@@ -41,11 +43,11 @@ elaborate::item-returns-in-One-clause-node t c =
 
 -- ---- chains
 pub elaborate::chained-returns-in_err-first-clause-ill_typed : goal.elaborate::chained-returns-in_err-first-clause-ill_typed
-elaborate::chained-returns-in_err-first-clause-ill_typed t c = λ e s.
+elaborate::chained-returns-in_err-first-clause-ill_typed t c = λ e s n.
     let scopes = c.args.scopes.now in
     let ls = links_of (out-Chain c.args.chain.now).links.now in
     let refused : c.expression.result ≡ Err stop.IllTyped = search rules in
-    ap (λ u. chain_type scopes u ls) (c.expression.ensures.ill_typed refused s.0) ∙ chain_type-untyped scopes ls
+    ap (λ u. chain_type scopes u ls) (c.expression.ensures.ill_typed refused s.0 n.1) ∙ chain_type-untyped scopes ls
 
 pub elaborate::chained-returns-in_ok-first-clause-node : goal.elaborate::chained-returns-in_ok-first-clause-node
 elaborate::chained-returns-in_ok-first-clause-node t c =
@@ -57,7 +59,7 @@ elaborate::chained-returns-in_ok-first-clause-node t c =
 
 -- ---- one more operand
 pub elaborate::links-returns-in_err-right-clause-ill_typed : goal.elaborate::links-returns-in_err-right-clause-ill_typed
-elaborate::links-returns-in_err-right-clause-ill_typed t c = λ e s u h.
+elaborate::links-returns-in_err-right-clause-ill_typed t c = λ e s n u h.
     let scopes = c.args.scopes.now in
     let at = c.loop-next in
     let xs = c.args.links.now in
@@ -66,10 +68,10 @@ elaborate::links-returns-in_err-right-clause-ill_typed t c = λ e s u h.
     let so_far = subst (λ l. IsChainSoFar scopes c.args.first (links_of xs) at.t (links_of l)) (drop-at xs at.next-index x c.loop-next-test.true c.next-item.is) at.invariant in
     let refused : c.expression.result ≡ Err stop.IllTyped = search rules in
     chain-untyped scopes c.args.first (links_of xs) at.t x.at (infix_view x.op) (expr_view x.right.now) left so_far
-    (c.expression.ensures.ill_typed refused (so_far.scalar s).0) u h
+    (c.expression.ensures.ill_typed refused (so_far.scalar s).0 (so_far.near n).1) u h
 
 pub elaborate::links-returns-in_err-t-clause-ill_typed : goal.elaborate::links-returns-in_err-t-clause-ill_typed
-elaborate::links-returns-in_err-t-clause-ill_typed t c = λ e s u h.
+elaborate::links-returns-in_err-t-clause-ill_typed t c = λ e s n u h.
     let scopes = c.args.scopes.now in
     let at = c.loop-next in
     let xs = c.args.links.now in
@@ -78,7 +80,7 @@ elaborate::links-returns-in_err-t-clause-ill_typed t c = λ e s u h.
     let so_far = subst (λ l. IsChainSoFar scopes c.args.first (links_of xs) at.t (links_of l)) (drop-at xs at.next-index x c.loop-next-test.true c.next-item.is) at.invariant in
     let refused : c.combined.result ≡ Err stop.IllTyped = search rules in
     chain-refused scopes c.args.first (links_of xs) at.t x.at (infix_view x.op) (expr_view x.right.now) left so_far c.in_ok-right.right c.in_ok-right.ensures.kind
-    (c.combined.ensures.ill_typed refused) u h
+    (c.combined.ensures.ill_typed refused (so_far.near n).0) u h
 
 pub elaborate::links-loop-next-preserved : goal.elaborate::links-loop-next-preserved
 elaborate::links-loop-next-preserved t c =
@@ -93,11 +95,11 @@ elaborate::links-loop-next-preserved t c =
 
 -- ---- what stands behind a base
 pub post::postfixed-returns-in_err-base-clause-ill_typed : goal.post::postfixed-returns-in_err-base-clause-ill_typed
-post::postfixed-returns-in_err-base-clause-ill_typed t c = λ e s.
+post::postfixed-returns-in_err-base-clause-ill_typed t c = λ e s n.
     let scopes = c.args.scopes.now in
     let v = c.args.e.now in
     let refused : c.expression.result ≡ Err stop.IllTyped = search rules in
-    base-untyped scopes (MayBePlain scopes) (expr_view v.base.now) (posts_of v.posts.now) s.0 (c.expression.ensures.ill_typed refused s.0)
+    base-untyped scopes (MayBePlain scopes) (expr_view v.base.now) (posts_of v.posts.now) s.0 (c.expression.ensures.ill_typed refused s.0 n.1)
 
 pub post::postfixed-returns-in_ok-base-clause-node : goal.post::postfixed-returns-in_ok-base-clause-node
 post::postfixed-returns-in_ok-base-clause-node t c =
@@ -127,7 +129,7 @@ pub post::posts-loop-next-init : goal.post::posts-loop-next-init
 post::posts-loop-next-init t c = posts-begun c.args.scopes.now c.args.base (posts_of c.args.posts.now)
 
 pub post::posts-returns-in_err-t-clause-ill_typed : goal.post::posts-returns-in_err-t-clause-ill_typed
-post::posts-returns-in_err-t-clause-ill_typed t c = λ e s.
+post::posts-returns-in_err-t-clause-ill_typed t c = λ e s n.
     let scopes = c.args.scopes.now in
     let at = c.loop-next in
     let xs = c.args.posts.now in
@@ -135,7 +137,7 @@ post::posts-returns-in_err-t-clause-ill_typed t c = λ e s.
     let left = posts_of (drop (at.next-index + 1) xs) in
     let so_far = subst (λ l. ArePostsSoFar scopes c.args.base (posts_of xs) at.t (posts_of l)) (drop-at xs at.next-index x c.loop-next-test.true c.next-item.is) at.invariant in
     let refused : c.post.result ≡ Err stop.IllTyped = search rules in
-    posts-refused scopes c.args.base (posts_of xs) at.t (post_view x) left so_far (c.post.ensures.ill_typed refused (so_far.scalar s).0)
+    posts-refused scopes c.args.base (posts_of xs) at.t (post_view x) left so_far (c.post.ensures.ill_typed refused (so_far.scalar s).0 (so_far.near n).0)
 
 pub post::posts-loop-next-preserved : goal.post::posts-loop-next-preserved
 post::posts-loop-next-preserved t c =
@@ -162,10 +164,10 @@ post::post-returns-in-Brackets-clause-made t c =
     c.slice.ensures.made
 
 pub post::post-returns-in-Brackets-clause-ill_typed : goal.post::post-returns-in-Brackets-clause-ill_typed
-post::post-returns-in-Brackets-clause-ill_typed t c = λ e s.
+post::post-returns-in-Brackets-clause-ill_typed t c = λ e s n.
     let scopes = c.args.scopes.now in
     let is = ap post_view c.in-Brackets.is in
-    subst (HasNoPost scopes c.args.base) (sym is) (c.slice.ensures.ill_typed e (subst (IsSimplePost (MayBePlain scopes)) is s) c.in-Brackets.from c.in-Brackets.upto)
+    subst (HasNoPost scopes c.args.base) (sym is) (c.slice.ensures.ill_typed e (subst (IsSimplePost (MayBePlain scopes)) is s) (subst (PostSpelt IsNear) is n).1 c.in-Brackets.from c.in-Brackets.upto)
 
 pub post::post-returns-in-Dotted-clause-made : goal.post::post-returns-in-Dotted-clause-made
 post::post-returns-in-Dotted-clause-made t c =
@@ -174,10 +176,10 @@ post::post-returns-in-Dotted-clause-made t c =
     c.method.ensures.made
 
 pub post::post-returns-in-Dotted-clause-ill_typed : goal.post::post-returns-in-Dotted-clause-ill_typed
-post::post-returns-in-Dotted-clause-ill_typed t c = λ e s.
+post::post-returns-in-Dotted-clause-ill_typed t c = λ e s n.
     let scopes = c.args.scopes.now in
     let is = ap post_view c.in-Dotted.is in
-    subst (HasNoPost scopes c.args.base) (sym is) (c.method.ensures.ill_typed e (subst (IsSimplePost (MayBePlain scopes)) is s) c.in-Dotted.field-0)
+    subst (HasNoPost scopes c.args.base) (sym is) (c.method.ensures.ill_typed e (subst (IsSimplePost (MayBePlain scopes)) is s) (subst (PostSpelt IsNear) is n).1 c.in-Dotted.field-0)
 
 pub post::method-returns-in-Contains-clause-made : goal.post::method-returns-in-Contains-clause-made
 post::method-returns-in-Contains-clause-made t c =
@@ -200,7 +202,7 @@ post::slice-returns-in_ok-cut-clause-made t c =
     c.sliced.ensures.node c.sliced.ensures.kind
 
 pub post::slice-returns-else-is_empty-clause-ill_typed : goal.post::slice-returns-else-is_empty-clause-ill_typed
-post::slice-returns-else-is_empty-clause-ill_typed t c = λ e s.
+post::slice-returns-else-is_empty-clause-ill_typed t c = λ e s n.
     let v = out-Items c.args.items.now in
     absurd (cut-several (MayBePlain c.args.scopes.now) (item_view v.first) v.others.now (sym c.is_empty.ensures ∙ c.if-is_empty.false)
     (subst (IsSimpleCut (MayBePlain c.args.scopes.now)) (items_view_fields c.args.items.now) s))
@@ -217,29 +219,29 @@ post::contains-returns-in_ok-index-clause-made t c =
     c.containing.ensures.node c.containing.ensures.kind
 
 pub post::contains-returns-else-is_empty-clause-ill_typed : goal.post::contains-returns-else-is_empty-clause-ill_typed
-post::contains-returns-else-is_empty-clause-ill_typed t c = λ e s.
+post::contains-returns-else-is_empty-clause-ill_typed t c = λ e s n.
     let v = out-Exprs c.args.exprs.now in
     absurd (index-several (MayBePlain c.args.scopes.now) (expr_view v.first.now) v.others.now (sym c.is_empty.ensures ∙ c.if-is_empty.false)
     (subst (IsSimpleIndex (MayBePlain c.args.scopes.now)) (exprs_view_fields c.args.exprs.now) s))
 
 -- ---- ranges
 pub range::range-returns-in_err-low-clause-ill_typed : goal.range::range-returns-in_err-low-clause-ill_typed
-range::range-returns-in_err-low-clause-ill_typed t c = λ e s.
+range::range-returns-in_err-low-clause-ill_typed t c = λ e s n.
     let scopes = c.args.scopes.now in
     let v = c.args.range.now in
     let high = expr_view v.high.now in
     let refused : c.expression.result ≡ Err stop.IllTyped = search rules in
     low-untyped scopes (first_of (expr_view v.low.now)) (type_of scopes (expr_view v.low.now)) (part (first_of high) (type_of scopes high)) (stride_view v.by)
-    (c.expression.ensures.ill_typed refused s.0)
+    (c.expression.ensures.ill_typed refused s.0 n.0)
 
 pub range::range-returns-in_err-high-clause-ill_typed : goal.range::range-returns-in_err-high-clause-ill_typed
-range::range-returns-in_err-high-clause-ill_typed t c = λ e s.
+range::range-returns-in_err-high-clause-ill_typed t c = λ e s n.
     let scopes = c.args.scopes.now in
     let v = c.args.range.now in
     let low = expr_view v.low.now in
     let refused : c.expression-2.result ≡ Err stop.IllTyped = search rules in
     high-untyped scopes (part (first_of low) (type_of scopes low)) (first_of (expr_view v.high.now)) (type_of scopes (expr_view v.high.now)) (stride_view v.by)
-    (c.expression-2.ensures.ill_typed refused s.1)
+    (c.expression-2.ensures.ill_typed refused s.1 n.3)
 
 pub range::range-returns-clause-kind : goal.range::range-returns-clause-kind
 range::range-returns-clause-kind t c =
@@ -253,10 +255,10 @@ range::range-returns-clause-kind t c =
     c.bounded.ensures.kind
 
 pub range::range-returns-clause-ill_typed : goal.range::range-returns-clause-ill_typed
-range::range-returns-clause-ill_typed t c = λ e s.
+range::range-returns-clause-ill_typed t c = λ e s n.
     let scopes = c.args.scopes.now in
     let v = c.args.range.now in
     let low = expr_view v.low.now in
     let high = expr_view v.high.now in
     bounds-refused scopes (first_of low) (first_of high) (stride_view v.by) (kind_of c.in_ok-low.low) (kind_of c.in_ok-high.high) (type_of scopes low) (type_of scopes high)
-    (c.bounded.ensures.ill_typed e) c.in_ok-low.ensures.kind c.in_ok-high.ensures.kind
+    (c.bounded.ensures.ill_typed e n.1) c.in_ok-low.ensures.kind c.in_ok-high.ensures.kind
