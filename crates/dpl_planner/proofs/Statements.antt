@@ -33,7 +33,8 @@ use Rattle.dpl_elaborator.specs.Sights.{bound_in, sight_of, ArePlainScopes}
 use Rattle.dpl_elaborator.proofs.Sights.{unused_next}
 use Rattle.dpl_planner.specs.declared.progress.Plan.{Plan}
 use Rattle.dpl_planner.specs.declared.progress.Reducing.{Reducing}
-use Rattle.dpl_planner.specs.Bounds.{loop_variable, bound_body, bound_else, bound_new}
+use Rattle.dpl_scalar.specs.Bodies.{loop_variable}
+use Rattle.dpl_planner.specs.Bounds.{bound_body, bound_else, bound_new}
 use Rattle.dpl_planner.specs.Parts.{IsItem, IsCondition, IsOpened}
 use Rattle.dpl_planner.specs.Plans.{reducing_view, seen_of, intents_in, body_leaves, else_leaves, PlansStmt, PlansBody, PlansElse}
 use Rattle.dpl_planner.proofs.Scoped.{sight_of-next, plain-add}

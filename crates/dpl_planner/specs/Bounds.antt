@@ -1,17 +1,17 @@
 -- A program with its names resolved by the scopes as they stand where each name does.
 -- A declared name has the next slot, and any other the leaf of its innermost declaration.
-use Rattle.std.specs.Prelude.{option_map, Option, Some, ◌∷◌, []}
+use Rattle.std.specs.Prelude.{option_map}
 use Rattle.dpl_language.specs.Tree.{Placed, VariablesTree, OneVariable, ManyVariables, DeclareTree, StmtTree, Nothing, Declare, Assigned, Call, Write, Block, If, While, For, Forall, Coforall, On, Body, WordBody, BlockBody, Stmts, NoStmts, Then, Else, NoElse, ElseDo, ProgramTree}
 use Rattle.dpl_language.specs.Names.{Text}
 use Rattle.dpl_language.specs.Renamed.{renamed, renamed_expr, renamed_item, renamed_typed, renamed_initial, renamed_write, renamed_with, renamed_variables, renamed_target, renamed_call}
-use Rattle.dpl_rules.specs.Types.{an_int}
-use Rattle.dpl_rules.specs.Sights.{LoopVariable, Declared, Scopes, enter, add, origin_in}
+use Rattle.dpl_rules.specs.Sights.{Declared, Scopes, enter}
 use Rattle.dpl_rules.specs.Declarations.{declared_by}
-use Rattle.dpl_rules.specs.Loops.{variables_of, add_variables, behind}
+use Rattle.dpl_rules.specs.Loops.{behind}
 use Rattle.dpl_rules.specs.Breaches.{top}
 use Rattle.dpl_scopes.specs.Slots.{next_slot_in}
 use Rattle.dpl_words.specs.Resolved.{Bound}
 use Rattle.dpl_elaborator.specs.Sights.{bound_in, bound_at}
+use Rattle.dpl_scalar.specs.Bodies.{loop_variable, of_variables, in_loop}
 
 -- a name that is declared here
 abbrev pub bound_new : Scopes → Declared → Bound
@@ -29,16 +29,6 @@ bound_declare ss d = record {
 }
 
 -- LOOPS: over a range, of which each turn gives the variable an int
-abbrev pub loop_variable : Scopes → Text → Declared
-loop_variable ss x = record { origin = origin_in ss x; sort = LoopVariable; type = Some an_int }
-
--- the scope of the variables, and that of the body in it
-abbrev pub of_variables : VariablesTree Text → Scopes → Scopes
-of_variables xs ss = add_variables (Some an_int) (variables_of xs) (enter ss)
-
-abbrev pub in_loop : VariablesTree Text → Scopes → Scopes
-in_loop xs ss = enter (of_variables xs ss)
-
 abbrev pub bound_variables : Scopes → VariablesTree Text → VariablesTree Bound
 bound_variables ss (OneVariable x) = OneVariable (record { at = x.at; name = bound_new (enter ss) (loop_variable (enter ss) x.name) })
 bound_variables ss (ManyVariables from xs upto) = renamed_variables (bound_in (of_variables (ManyVariables from xs upto) ss)) (ManyVariables from xs upto)

@@ -32,7 +32,8 @@ use Rattle.dpl_elaborator.specs.Leaves.{plain_kind, leaf_in, IsFound}
 use Rattle.dpl_elaborator.specs.Simple.{IsSimple, IsSimpleItem}
 use Rattle.dpl_elaborator.specs.Sights.{bound_in, ArePlainScopes}
 use Rattle.dpl_planner.specs.declared.progress.Plan.{Plan}
-use Rattle.dpl_planner.specs.Bounds.{bound_new, bound_stmt, loop_variable}
+use Rattle.dpl_scalar.specs.Bodies.{loop_variable}
+use Rattle.dpl_planner.specs.Bounds.{bound_new, bound_stmt}
 use Rattle.dpl_planner.specs.Given.{IsGiven}
 use Rattle.dpl_planner.specs.Plans.{seen_of, seen_in, Stands, stmt_leaves}
 

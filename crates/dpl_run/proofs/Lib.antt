@@ -8,3 +8,4 @@ pub mod Ends
 pub mod Meaning
 pub mod OneOutcome
 pub mod Stages
+pub mod Scalars

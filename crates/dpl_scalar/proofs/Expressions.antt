@@ -54,7 +54,7 @@ plain-cases Q q r (Cell l) k e = absurd (none-some k e)
 untaken : (o : Option ValueType) (go : ValueType → Verdict) → IsPlain o → ((t : ValueType) (k : LeafKind) → plain_kind t ≡ Some k → type_by (go t) ≡ None) → IsTyped (type_by (with_type o go)) → ⊥
 untaken o go p none typed = none-some typed.0 (sym (ap (λ o. type_by (with_type o go)) p.is ∙ none p.type p.kind p.of_kind) ∙ typed.1)
 
-two_or_more : (n : ℕ) → (suc (suc n) == 1) ≡ false
+pub two_or_more : (n : ℕ) → (suc (suc n) == 1) ≡ false
 two_or_more n = ne_eqb (suc (suc n)) 1 (λ e. omega (arith, e))
 
 several-cut : (last from : Place) (p q : Part) (ps : List Part) (t : ValueType) (k : LeafKind) → plain_kind t ≡ Some k → type_by (square_verdict last from (p ∷ q ∷ ps) t) ≡ None

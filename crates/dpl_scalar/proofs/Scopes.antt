@@ -13,10 +13,9 @@ use Rattle.dpl_language.specs.Spelled.{SaysType}
 use Rattle.dpl_grammar.specs.Each.{IfThere}
 use Rattle.dpl_spelling.specs.Spelt.{ItemSpelt, InitSpelt, InitialSpelt, DeclareSpelt}
 use Rattle.dpl_closed.specs.Closed.{in_optional, closed_item, closed_type, closed_typed, closed_init, closed_initial, closed_declare}
-use Rattle.dpl_syntax.specs.declared.refusal.Code.{Code}
 use Rattle.dpl_syntax.specs.declared.refusal.Code.TheVariants.{WrongRank}
 use Rattle.dpl_rules.specs.Types.{Origin, ValueType, Scalar, Range, an_int, cell_of}
-use Rattle.dpl_rules.specs.Verdicts.{owed, owed_type}
+use Rattle.dpl_rules.specs.Verdicts.{owed_type}
 use Rattle.dpl_rules.specs.Places.{first_of_item, first_of_variables}
 use Rattle.dpl_rules.specs.Sights.{Declared, LoopVariable, Scopes, find, or_else, lookup, type_declared, origin_in, add, enter}
 use Rattle.dpl_rules.specs.Expressions.{locales_or, none_where, item_type, item_breaches, cell_declared, read_or_type, read_or_breaches, kind_read, side_part, side_breaches}
@@ -28,6 +27,8 @@ use Rattle.dpl_rules.proofs.Admission.{first_empty, second_empty}
 use Rattle.dpl_sound.proofs.Given.{some-same}
 use Rattle.dpl_words.specs.Words.{IntLeaf, TruthLeaf}
 use Rattle.dpl_scalar.specs.Plain.{IsPlain, AreScalar}
+use Rattle.dpl_scalar.specs.Bodies.{of_variables, in_loop as int_loop}
+use Rattle.dpl_scalar.proofs.Owed.{owed-holds}
 use Rattle.dpl_scalar.proofs.Expressions.{plain-cases, first_open, second_open, not_bare, ScalarItem, scalar_item}
 
 -- ---- scopes
@@ -45,6 +46,13 @@ found-plain false d o p plain others c h = others c h
 pub add-scalar : (scopes : Scopes) (d : Declared) → AreScalar scopes → IsPlain d.type → AreScalar (add d scopes)
 add-scalar [] d names plain x c h = found-plain (bytes_eq x d.origin.name) d None None plain (λ c e. names x c e) c h
 add-scalar (s ∷ ss) d names plain x c h = found-plain (bytes_eq x d.origin.name) d (find s x) (lookup ss x) plain (names x) c h
+
+-- ---- loops
+-- no loop runs over an int or a truth value
+pub scalar-refused : (word : LoopWord) (xs : VariablesTree Text) (item : ItemTree Text) (k : Kind) → header_of word xs item (Some (Scalar k)) ≡ [] → ⊥
+scalar-refused ForWord xs item k h = absurd cc
+scalar-refused ForallWord xs item k h = absurd cc
+scalar-refused CoforallWord xs item k h = absurd cc
 
 module _ (scopes : Scopes) (P : Place → Type 0) (names : AreScalar scopes) where
   -- ---- right sides: no name is a cell's, so that none is read as one
@@ -110,7 +118,7 @@ module _ (scopes : Scopes) (P : Place → Type 0) (names : AreScalar scopes) whe
 
   -- ---- loops
   -- what a loop runs over is no bare word
-  over-type : (item : ItemTree Text) → closed_item item ≡ None → over_type scopes item ≡ item_type scopes item
+  pub over-type : (item : ItemTree Text) → closed_item item ≡ None → over_type scopes item ≡ item_type scopes item
   over-type (One e) c = ap (λ o. locales_or o (item_type scopes (One e))) (not_bare e c)
   over-type (RangeItem low at dots high by) c = refl
 
@@ -122,15 +130,6 @@ module _ (scopes : Scopes) (P : Place → Type 0) (names : AreScalar scopes) whe
   over-scalar item s c h = scalar_item scopes P names item s c (sym (over-told item c) ∙ h)
 
   -- the variables of a loop over a range are ints
-  scalar-untaken : (word : LoopWord) (xs : VariablesTree Text) (item : ItemTree Text) (k : Kind) → header_of word xs item (Some (Scalar k)) ≡ [] → typed_variable word xs (Some (Scalar k)) ≡ Some an_int
-  scalar-untaken ForWord xs item k h = absurd cc
-  scalar-untaken ForallWord xs item k h = absurd cc
-  scalar-untaken CoforallWord xs item k h = absurd cc
-
-  owed-holds : (b : Bool) (at : Place) (code : Code) → owed b at code ≡ [] → b ≡ true
-  owed-holds true at code h = refl
-  owed-holds false at code h = absurd cc
-
   range-taken : (word : LoopWord) (xs : VariablesTree Text) (item : ItemTree Text) (strided : Bool) → header_of word xs item (Some (Range strided)) ≡ [] → typed_variable word xs (Some (Range strided)) ≡ Some an_int
   range-taken word (OneVariable x) item strided h = refl
   range-taken word (ManyVariables from xs upto) item strided h =
@@ -140,7 +139,7 @@ module _ (scopes : Scopes) (P : Place → Type 0) (names : AreScalar scopes) whe
   variable-int : (word : LoopWord) (xs : VariablesTree Text) (item : ItemTree Text) (o : Option ValueType) → IsPlain o → header_of word xs item o ≡ [] → typed_variable word xs o ≡ Some an_int
   variable-int word xs item o p h =
       subst (λ o. header_of word xs item o ≡ [] → typed_variable word xs o ≡ Some an_int) (sym p.is)
-      (plain-cases (λ t. header_of word xs item (Some t) ≡ [] → typed_variable word xs (Some t) ≡ Some an_int) (λ k. scalar-untaken word xs item k) (λ strided. range-taken word xs item strided) p.type p.kind p.of_kind)
+      (plain-cases (λ t. header_of word xs item (Some t) ≡ [] → typed_variable word xs (Some t) ≡ Some an_int) (λ k h. absurd (scalar-refused word xs item k h)) (λ strided. range-taken word xs item strided) p.type p.kind p.of_kind)
       h
 
 variables-scalar : (xs : List (Placed Text)) (scopes : Scopes) → AreScalar scopes → AreScalar (add_variables (Some an_int) xs scopes)
@@ -149,15 +148,21 @@ variables-scalar (x ∷ xs) scopes names =
     let d : Declared = record { origin = origin_in scopes x.name; sort = LoopVariable; type = Some an_int } in
     variables-scalar xs (add d scopes) (add-scalar scopes d names (record { kind = IntLeaf; type = an_int; is = refl; of_kind = refl }))
 
--- in a loop's body each name in sight is a plain variable
+pub in_loop-scalar : (xs : VariablesTree Text) (scopes : Scopes) → AreScalar scopes → AreScalar (int_loop xs scopes)
+in_loop-scalar xs scopes names = enter-scalar (of_variables xs scopes) (variables-scalar (variables_of xs) (enter scopes) (enter-scalar scopes names))
+
+-- in a loop's body each variable of the loop is an int, and so each name in sight is a plain variable
 module _ (scopes : Scopes) (P : Place → Type 0) (names : AreScalar scopes) where
-  pub loop-scalar : (word : LoopWord) (xs : VariablesTree Text) (item : ItemTree Text) → ItemSpelt P item → closed_item item ≡ None → header_breaches scopes word xs item ≡ []
-      → AreScalar (in_loop scopes word xs item)
-  loop-scalar word xs item s c h =
+  pub in_loop-int : (word : LoopWord) (xs : VariablesTree Text) (item : ItemTree Text) → ItemSpelt P item → closed_item item ≡ None → header_breaches scopes word xs item ≡ []
+      → in_loop scopes word xs item ≡ int_loop xs scopes
+  in_loop-int word xs item s c h =
       let over = over_breaches scopes item in
       let head = header_of word xs item (over_type scopes item) in
       let front = first_empty (over ++ head) (variables_once scopes xs) h in
       let plain = subst IsPlain (sym (over-type scopes P names item c)) (over-scalar scopes P names item s c (first_empty over head front)).plain in
       let int = variable-int scopes P names word xs item (over_type scopes item) plain (second_empty over head front) in
-      enter-scalar (add_variables (typed_variable word xs (over_type scopes item)) (variables_of xs) (enter scopes))
-      (subst (λ o. AreScalar (add_variables o (variables_of xs) (enter scopes))) (sym int) (variables-scalar (variables_of xs) (enter scopes) (enter-scalar scopes names)))
+      ap (λ o. enter (add_variables o (variables_of xs) (enter scopes))) int
+
+  pub loop-scalar : (word : LoopWord) (xs : VariablesTree Text) (item : ItemTree Text) → ItemSpelt P item → closed_item item ≡ None → header_breaches scopes word xs item ≡ []
+      → AreScalar (in_loop scopes word xs item)
+  loop-scalar word xs item s c h = subst AreScalar (sym (in_loop-int word xs item s c h)) (in_loop-scalar xs scopes names)
