@@ -1,26 +1,26 @@
 -- Parts of a plan, one after the other, and bodies in scopes of their own.
 -- What is known of a plan behind a part is known of the plan before it, where scopes and reduce variables are the same.
-use Rattle.std.proofs.Common.{◌≡◌, ℕ, ◌+◌, ◌≤◌, Bor, List, [], ◌∷◌, drop, refl, sym, ap, ◌∙◌, subst, arith, map}
+use Rattle.std.proofs.Common.{◌≡◌, ◌≤◌, Bor, List, [], ◌∷◌, drop, refl, sym, ap, ◌∙◌, subst, arith, map}
 use Rattle.dpl_syntax.specs.declared.place.Place.{Place}
-use Rattle.dpl_language.specs.Tree.{Op, StmtTree, Block, Body, WordBody, BlockBody, Stmts, NoStmts, Then, Else, NoElse, ElseDo}
+use Rattle.dpl_language.specs.Tree.{StmtTree, Block, Body, WordBody, BlockBody, Stmts, NoStmts, Then, Else, NoElse, ElseDo}
 use Rattle.dpl_language.specs.Names.{Text}
-use Rattle.dpl_language.specs.Renamed.{renamed_stmt, renamed_body, renamed_else}
-use Rattle.dpl_language.specs.Scopes.{fits as fits_stmt, fits_body, fits_else}
+use Rattle.dpl_language.specs.Renamed.{renamed_body, renamed_else}
+use Rattle.dpl_language.specs.Scopes.{fits_body, fits_else}
 use Rattle.dpl_rules.specs.Sights.{Scopes, enter}
 use Rattle.dpl_rules.specs.Loops.{behind}
 use Rattle.dpl_rules.specs.Sound.{behind_all}
 use Rattle.dpl_lowered.specs.Shapes.{nowhere}
-use Rattle.dpl_words.specs.Resolved.{Bound, Start, text_of, resolving}
+use Rattle.dpl_words.specs.Resolved.{text_of, resolving}
 use Rattle.dpl_nodes.specs.declared.step.Step.{Step, Block as BlockStep}
 use Rattle.dpl_nodes.specs.declared.step.Else.{Else as ElseNode, Absent, Do as DoStep}
-use Rattle.dpl_nodes.specs.Steps.{listed, step_view, else_view, steps_of}
+use Rattle.dpl_nodes.specs.Steps.{listed, else_view, steps_of}
 use Rattle.dpl_nodes.proofs.Rows.{steps_view-row}
 use Rattle.dpl_elaborator.specs.Sights.{ArePlainScopes}
 use Rattle.dpl_planner.specs.declared.progress.Plan.{Plan}
 use Rattle.dpl_planner.specs.declared.progress.Reducing.{Reducing}
 use Rattle.dpl_planner.specs.Given.{AreGiven}
-use Rattle.dpl_planner.specs.Bounds.{bound_stmt, bound_body, bound_else}
-use Rattle.dpl_planner.specs.Plans.{reducing_view, seen_of, intents_in, seen_in, IsOneScope, Goes, Stands, stmt_leaves, body_leaves, else_leaves, PlansStmt, PlansStmts, PlansOnly, PlansInner, PlansBody, PlansElse, behind_body}
+use Rattle.dpl_planner.specs.Bounds.{bound_body, bound_else}
+use Rattle.dpl_planner.specs.Plans.{reducing_view, seen_of, IsOneScope, Goes, Stands, body_leaves, else_leaves, PlansStmt, PlansStmts, PlansOnly, PlansInner, PlansBody, PlansElse, behind_body}
 use Rattle.dpl_rules.proofs.Left.{leave_behind, leave_behind_all}
 use Rattle.dpl_planner.proofs.Scoped.{left-body}
 

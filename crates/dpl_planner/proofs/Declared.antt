@@ -1,14 +1,14 @@
 -- A declaration: its name is in sight behind it with the next slot, and its initial value is of its kind.
 -- A `config const` is set alike by its text and by its slot.
-use Rattle.std.proofs.Common.{◌≡◌, ℕ, ◌≤◌, ◌<◌, Bool, false, List, Option, Some, None, Result, Ok, Err, refl, sym, ap, ◌∙◌, subst, pos, arith}
+use Rattle.std.proofs.Common.{◌≡◌, ℕ, ◌≤◌, ◌<◌, Bool, false, Option, Some, None, Result, Ok, Err, refl, sym, ap, ◌∙◌, subst, pos, arith}
 use Rattle.std.specs.Prelude.{option_map, IfOk}
 use Rattle.dpl_syntax.specs.declared.place.Place.{Place}
-use Rattle.dpl_language.specs.Tree.{Op, Kind, IntKind, BoolKind, ItemTree, One, TypeTree, ScalarType, SyncType, DomainType, ArrayType, TypedTree, InitTree, ItemInit, CreateInit, InitialTree, DeclareTree, StmtTree, Declare}
+use Rattle.dpl_language.specs.Tree.{Kind, IntKind, BoolKind, ItemTree, One, TypeTree, ScalarType, SyncType, DomainType, ArrayType, TypedTree, InitTree, ItemInit, CreateInit, InitialTree, DeclareTree, StmtTree, Declare}
 use Rattle.dpl_language.specs.Names.{Text}
 use Rattle.dpl_language.specs.Values.{default}
 use Rattle.dpl_language.specs.Declarations.{type_of}
-use Rattle.dpl_language.specs.Renamed.{renamed_item, renamed_typed, renamed_initial, renamed_type}
-use Rattle.dpl_language.specs.Scopes.{PlainSort, sort_by, fits_type, fits_given}
+use Rattle.dpl_language.specs.Renamed.{renamed_item, renamed_typed, renamed_initial}
+use Rattle.dpl_language.specs.Scopes.{PlainSort, fits_given}
 use Rattle.dpl_rules.specs.Types.{Scalar}
 use Rattle.dpl_rules.specs.Sights.{Declared, Scopes, declared_here, add, origin_in}
 use Rattle.dpl_rules.specs.Declarations.{declared_by}
@@ -18,7 +18,7 @@ use Rattle.dpl_scopes.specs.declared.declared.Declared.{Declared as DeclaredNode
 use Rattle.dpl_scopes.specs.View.{sort_view, declared_view}
 use Rattle.dpl_scopes.specs.Slots.{next_slot_in}
 use Rattle.dpl_lowered.specs.Shapes.{nowhere, placed}
-use Rattle.dpl_lowered.specs.LoweredStatements.{default_tree, written_initial, written_type, unplaced_word, tells_name, declared_type, declared_initial}
+use Rattle.dpl_lowered.specs.LoweredStatements.{default_tree, written_initial, written_type, unplaced_word, declared_type, declared_initial}
 use Rattle.dpl_words.specs.Words.{LeafKind, IntLeaf, TruthLeaf, RangeLeaf, Leaf, known_leaf}
 use Rattle.dpl_words.specs.Resolved.{Bound, Seen, Start, text_of, leaf_of, resolving, IsOfKind, IsUnused, Declares, Suits}
 use Rattle.dpl_nodes.specs.declared.make.Typed.{Typed}
@@ -26,12 +26,12 @@ use Rattle.dpl_nodes.specs.declared.step.Step.{Step}
 use Rattle.dpl_nodes.specs.Makers.{typed_item, kind_of}
 use Rattle.dpl_nodes.specs.Steps.{step_view, declared_as}
 use Rattle.dpl_elaborator.specs.Leaves.{plain_kind, kind_by, leaf_by}
-use Rattle.dpl_elaborator.specs.Sights.{bound_in, bound_at, sight_of, ArePlainScopes}
+use Rattle.dpl_elaborator.specs.Sights.{bound_in, sight_of, ArePlainScopes}
 use Rattle.dpl_elaborator.proofs.Sights.{unused_next}
 use Rattle.dpl_planner.specs.declared.progress.Plan.{Plan}
 use Rattle.dpl_planner.specs.Bounds.{bound_new}
 use Rattle.dpl_planner.specs.Given.{AreGiven}
-use Rattle.dpl_planner.specs.Parts.{IsItem, leaf_as, IsPlainType, IsPlainTyped, IsDefault, IsGivenInit, IsInitial, IsOwed, IsOwedBy, bound_typed, bound_initial, PlansDeclare}
+use Rattle.dpl_planner.specs.Parts.{IsItem, leaf_as, IsPlainType, IsPlainTyped, IsDefault, IsGivenInit, IsInitial, IsOwedBy, bound_typed, bound_initial, PlansDeclare}
 use Rattle.dpl_planner.specs.Plans.{seen_of, intents_in, IsOneScope, PlansStmt}
 use Rattle.dpl_planner.proofs.Scoped.{plain-add}
 use Rattle.dpl_planner.proofs.Owed.{one-add, given-before}

@@ -1,7 +1,7 @@
 -- Items and conditions that are elaborated: they are what is spelled, and fit where their names are in sight.
 -- A right side has values of the kind of what was made of it.
 use Rattle.std.proofs.Common.{◌≡◌, Bor, List, Option, Some, None, refl, sym, ap, ◌∙◌, subst, option_map}
-use Rattle.dpl_language.specs.Tree.{Op, ExprTree, ItemTree, One}
+use Rattle.dpl_language.specs.Tree.{Op, ExprTree, ItemTree}
 use Rattle.dpl_language.specs.Names.{Text}
 use Rattle.dpl_language.specs.Values.{Index}
 use Rattle.dpl_language.specs.Phrases.{ReadTree, item_read}
@@ -23,8 +23,7 @@ use Rattle.dpl_nodes.specs.declared.make.Typed.TheVariants as typed
 use Rattle.dpl_nodes.specs.Typed.{truth_view}
 use Rattle.dpl_nodes.specs.Makers.{typed_item, kind_of}
 use Rattle.dpl_nodes.proofs.Unread.{cell_read-int, cell_read-truth, item_read-range}
-use Rattle.dpl_elaborator.specs.Leaves.{leaf_in, IsFound}
-use Rattle.dpl_elaborator.specs.Simple.{IsSimple, IsSimpleItem}
+use Rattle.dpl_elaborator.specs.Leaves.{IsFound}
 use Rattle.dpl_elaborator.specs.Sights.{bound_in, ArePlainScopes}
 use Rattle.dpl_elaborator.proofs.Fits.{names-simple, expr_names-simple, unread-simple}
 use Rattle.dpl_elaborator.proofs.Suited.{item-suits}

@@ -1,6 +1,6 @@
 -- What is printed: each argument is its lowered tree and fits, and none is left out.
 -- Arguments so far, with what is made of those that are left, are all arguments.
-use Rattle.std.proofs.Common.{◌≡◌, ℕ, Bool, List, [], ◌∷◌, ◌++◌, Bor, Option, Some, None, refl, sym, ap, ◌∙◌, subst, map, append_assoc, append-nil}
+use Rattle.std.proofs.Common.{◌≡◌, ℕ, List, [], ◌∷◌, ◌++◌, Bor, Option, Some, None, refl, sym, ap, ◌∙◌, subst, map, append_assoc, append-nil}
 use Rattle.std.specs.Prelude.{option_map}
 use Rattle.dpl_syntax.specs.declared.place.Place.{Place}
 use Rattle.dpl_language.specs.Tree.{AfterComma, Listed, Op, ExprTree, Number, TruthWord, Named, LocalesWord, LocaleCount, HereWord, Grouped, DomainLiteral, Prefixed, Reduced, Chain, Postfixed, One, ArgumentTree, TextArgument, ExprArgument, WriteTree, Write}

@@ -1,6 +1,6 @@
 -- A whole program: what is planned of its statements, from one scope without names, is the program.
 -- Each clause on a program's plan is one of these.
-use Rattle.std.proofs.Common.{◌≡◌, ◌≤◌, List, [], ◌∷◌, map, sym, ap, ◌∙◌, subst}
+use Rattle.std.proofs.Common.{◌≡◌, ◌≤◌, List, [], map, sym, ap, ◌∙◌, subst}
 use Rattle.dpl_language.specs.Tree.{ProgramTree}
 use Rattle.dpl_language.specs.Names.{Text}
 use Rattle.dpl_language.specs.Renamed.{renamed_stmts, renamed_program}

@@ -1,7 +1,7 @@
 -- Reduce variables: those of a forall, in order, and the operator by which a name is reduced.
 -- The operator is told alike by the name and by its slot.
-use Rattle.std.proofs.Common.{◌≡◌, ℕ, ◌+◌, Bool, true, false, List, [], ◌∷◌, ◌++◌, Option, Some, None, refl, sym, ap, ◌∙◌, subst, map, append_assoc, append-nil}
-use Rattle.dpl_language.specs.Tree.{AfterComma, Op, IntentTree, ReduceIntent, RefIntent}
+use Rattle.std.proofs.Common.{◌≡◌, List, [], ◌∷◌, ◌++◌, refl, ap, ◌∙◌, map, append_assoc}
+use Rattle.dpl_language.specs.Tree.{IntentTree, ReduceIntent, RefIntent}
 use Rattle.dpl_language.specs.Names.{Text}
 use Rattle.dpl_language.specs.Phrases.{reduce_intents}
 use Rattle.dpl_language.specs.Renamed.{renamed_intents}

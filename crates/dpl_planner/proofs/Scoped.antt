@@ -1,10 +1,10 @@
 -- What is in sight behind a part of a program: names resolved as the check's scopes have them.
 -- A scope is left as it was entered; a declared name has a slot that no other in sight has.
-use Rattle.std.proofs.Common.{◌≡◌, ℕ, ◌+◌, ◌≤◌, suc, max, Bool, true, false, List, [], ◌∷◌, length, drop, Option, Some, None, is_some, refl, sym, ap, ◌∙◌, subst, arith}
-use Rattle.dpl_language.specs.Tree.{Placed, Op, StmtTree, Nothing, Declare, Assigned, Call, Write, Block, If, While, For, Forall, Coforall, On, Body, WordBody, BlockBody, Stmts, NoStmts, Then}
+use Rattle.std.proofs.Common.{◌≡◌, true, false, List, [], ◌∷◌, drop, Option, Some, None, is_some, refl, sym, ap, ◌∙◌, arith}
+use Rattle.dpl_language.specs.Tree.{Op, StmtTree, Nothing, Declare, Assigned, Call, Write, Block, If, While, For, Forall, Coforall, On, Body, WordBody, BlockBody, Stmts, NoStmts, Then}
 use Rattle.dpl_language.specs.Names.{Text}
 use Rattle.dpl_language.specs.Scopes.{after, after_all}
-use Rattle.dpl_rules.specs.Sights.{Declared, Scope, Scopes, find, declared_here, add, enter}
+use Rattle.dpl_rules.specs.Sights.{Declared, Scope, Scopes, find, declared_here, add}
 use Rattle.dpl_rules.specs.Declarations.{declared_by}
 use Rattle.dpl_rules.specs.Loops.{behind}
 use Rattle.dpl_rules.specs.Sound.{behind_all}

@@ -1,10 +1,10 @@
 -- Statements with bodies: what is planned of their parts, one after the other, is a plan of the statement.
 -- A loop's variable is an int in a scope of its own, around that of the body.
-use Rattle.std.proofs.Common.{◌≡◌, ℕ, ◌+◌, ◌≤◌, ◌<◌, Bor, List, [], ◌∷◌, drop, refl, sym, ap, ◌∙◌, subst, arith, map, Option, Some, None}
+use Rattle.std.proofs.Common.{◌≡◌, ℕ, ◌≤◌, ◌<◌, Bor, List, [], ◌∷◌, drop, refl, sym, ap, ◌∙◌, subst, arith, map, Option, Some, None}
 use Rattle.std.specs.Prelude.{option_map}
 use Rattle.std.specs.Global.{Vec}
 use Rattle.dpl_syntax.specs.declared.place.Place.{Place}
-use Rattle.dpl_language.specs.Tree.{Op, ExprTree, ItemTree, OneVariable, IntentTree, ReduceIntent, RefIntent, WithTree, StmtTree, Nothing, If, While, For, Forall, Body, Else}
+use Rattle.dpl_language.specs.Tree.{Op, ExprTree, ItemTree, OneVariable, IntentTree, ReduceIntent, RefIntent, WithTree, Nothing, If, While, For, Forall, Body, Else}
 use Rattle.dpl_language.specs.Names.{Text}
 use Rattle.dpl_language.specs.Phrases.{intents_of}
 use Rattle.dpl_language.specs.Scopes.{fits_body}
@@ -25,10 +25,9 @@ use Rattle.dpl_nodes.specs.declared.make.Typed.TheVariants as typed
 use Rattle.dpl_nodes.specs.declared.step.Step.{Step, Nothing as NothingStep, If as IfStep, While as WhileStep, For as ForStep, Forall as ForallStep}
 use Rattle.dpl_nodes.specs.declared.step.Intent.{Intent}
 use Rattle.dpl_nodes.specs.declared.step.Else.{Else as ElseNode}
-use Rattle.dpl_nodes.specs.Typed.{truth_view, range_item}
-use Rattle.dpl_nodes.specs.Steps.{listed, variable_in, intent_view, step_view, else_view, steps_of}
+use Rattle.dpl_nodes.specs.Typed.{truth_view}
+use Rattle.dpl_nodes.specs.Steps.{listed, variable_in, intent_view}
 use Rattle.dpl_nodes.proofs.Rows.{steps_view-row}
-use Rattle.dpl_elaborator.specs.Leaves.{leaf_in}
 use Rattle.dpl_elaborator.specs.Sights.{bound_in, sight_of, ArePlainScopes}
 use Rattle.dpl_elaborator.proofs.Sights.{unused_next}
 use Rattle.dpl_planner.specs.declared.progress.Plan.{Plan}

@@ -1,7 +1,7 @@
 -- A program with its names resolved by the scopes as they stand where each name does.
 -- A declared name has the next slot, and any other the leaf of its innermost declaration.
 use Rattle.std.specs.Prelude.{option_map}
-use Rattle.dpl_language.specs.Tree.{Placed, VariablesTree, OneVariable, ManyVariables, DeclareTree, StmtTree, Nothing, Declare, Assigned, Call, Write, Block, If, While, For, Forall, Coforall, On, Body, WordBody, BlockBody, Stmts, NoStmts, Then, Else, NoElse, ElseDo, ProgramTree}
+use Rattle.dpl_language.specs.Tree.{VariablesTree, OneVariable, ManyVariables, DeclareTree, StmtTree, Nothing, Declare, Assigned, Call, Write, Block, If, While, For, Forall, Coforall, On, Body, WordBody, BlockBody, Stmts, NoStmts, Then, Else, NoElse, ElseDo, ProgramTree}
 use Rattle.dpl_language.specs.Names.{Text}
 use Rattle.dpl_language.specs.Renamed.{renamed, renamed_expr, renamed_item, renamed_typed, renamed_initial, renamed_write, renamed_with, renamed_variables, renamed_target, renamed_call}
 use Rattle.dpl_rules.specs.Sights.{Declared, Scopes, enter}

@@ -1,18 +1,16 @@
 -- What is left at a program's end: the names of its top level, each with its leaf, are what is in sight there.
 -- A scope has its latest declaration first, and names are told in order.
-use Rattle.std.proofs.Common.{◌≡◌, ℕ, suc, ◌+◌, Bool, true, false, List, [], ◌∷◌, ◌++◌, map, length, Option, Some, None, is_some, refl, sym, ap, ◌∙◌, subst, append_assoc}
+use Rattle.std.proofs.Common.{◌≡◌, ◌+◌, Bool, true, false, List, [], ◌∷◌, ◌++◌, map, length, Some, None, refl, sym, ap, ◌∙◌, subst, append_assoc}
 use Rattle.std.specs.Prelude.{bytes_eq, if◌then◌else◌}
 use Rattle.std.proofs.lemmas.List.{map-append, append-nil}
 use Rattle.std.proofs.lemmas.Slice.Eq.{bytes_eq-Decides}
 use Rattle.dpl_language.specs.Tree.{StmtTree, Nothing, Declare, Assigned, Call, Write, Block, If, While, For, Forall, Coforall, On, Stmts, NoStmts, Then}
 use Rattle.dpl_language.specs.Names.{Text}
-use Rattle.dpl_rules.specs.Sights.{Declared, Scope, Scopes, find, lookup}
+use Rattle.dpl_rules.specs.Sights.{Declared, Scope, Scopes, find}
 use Rattle.dpl_rules.specs.Loops.{behind}
 use Rattle.dpl_rules.specs.Breaches.{top}
 use Rattle.dpl_rules.specs.Sound.{behind_all}
-use Rattle.dpl_scopes.specs.Slots.{place_in}
-use Rattle.dpl_words.specs.Resolved.{Bound, outermost}
-use Rattle.dpl_elaborator.specs.Leaves.{kind_by, leaf_by}
+use Rattle.dpl_words.specs.Resolved.{outermost}
 use Rattle.dpl_elaborator.specs.Sights.{bound_in, bound_at, frame_from, sight_of, IsPlainScope, ArePlainScopes}
 use Rattle.dpl_run.specs.Names.{declared_by, declared_names}
 

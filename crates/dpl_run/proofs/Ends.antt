@@ -1,8 +1,8 @@
 -- How a run over words from no output ends.
 -- What is printed is all of its deeds.
-use Rattle.std.proofs.Common.{◌≡◌, ℕ, List, [], map, Result, Ok, Err, refl, sym, ap, ◌∙◌, subst}
+use Rattle.std.proofs.Common.{◌≡◌, ℕ, List, [], map, Result, Ok, Err, subst}
 use Rattle.dpl_language.specs.Tree.{Stmts}
-use Rattle.dpl_language.specs.Outcome.{Deeds, no_deeds, Outcome as Meant}
+use Rattle.dpl_language.specs.Outcome.{Deeds, no_deeds}
 use Rattle.dpl_language.specs.Environment.{Limits}
 use Rattle.dpl_language.specs.Statements.{exec_all}
 use Rattle.dpl_language.specs.Names.{Text, Frame}

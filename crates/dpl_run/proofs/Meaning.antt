@@ -1,9 +1,9 @@
 -- A run of a program's plan over words is what the program means.
 -- From the agreement of words with names, from lowering, and from what the planner gives.
-use Rattle.std.proofs.Common.{◌≡◌, ℕ, List, [], ◌∷◌, map, Option, Some, None, refl, sym, ap, ◌∙◌, subst}
-use Rattle.std.specs.Prelude.{true, option_map}
+use Rattle.std.proofs.Common.{◌≡◌, ℕ, List, [], map, Option, Some, None, refl, sym, ap, ◌∙◌, subst}
+use Rattle.std.specs.Prelude.{true}
 use Rattle.dpl_history.specs.declared.history.Event.{Event}
-use Rattle.dpl_language.specs.Tree.{ProgramTree, IntKind, BoolKind, Kind}
+use Rattle.dpl_language.specs.Tree.{ProgramTree, IntKind, BoolKind}
 use Rattle.dpl_language.specs.Values.{Fault}
 use Rattle.dpl_language.specs.Outcome.{Deeds, no_deeds, Outcome as Meant, Done, Stop, Waits}
 use Rattle.dpl_language.specs.Environment.{Limits}
@@ -20,20 +20,19 @@ use Rattle.dpl_rules.specs.Sights.{Scopes, lookup, type_declared}
 use Rattle.dpl_rules.specs.Sound.{behind_all, sets_fit}
 use Rattle.dpl_rules.specs.Breaches.{top}
 use Rattle.dpl_lowered.proofs.Runs.{exec_all-lowered}
-use Rattle.dpl_words.specs.Words.{LeafKind, IntLeaf, TruthLeaf, RangeLeaf, Words, known_leaf, set_at, given_as, by_word}
-use Rattle.dpl_words.specs.Resolved.{text_of, leaf_of, Start, first_words, first_seen, resolving, frame_in, outermost, left_in, StandsFor}
+use Rattle.dpl_words.specs.Words.{LeafKind, IntLeaf, TruthLeaf, RangeLeaf, Words, known_leaf, by_word}
+use Rattle.dpl_words.specs.Resolved.{leaf_of, Start, first_words, first_seen, resolving, frame_in, outermost, left_in, StandsFor}
 use Rattle.dpl_words.proofs.Known.{words-known}
 use Rattle.dpl_words.proofs.WordsAgree.{meaning-words, left-words}
 use Rattle.dpl_nodes.specs.declared.fault.Fault.{Fault as FaultNode}
 use Rattle.dpl_nodes.specs.declared.step.Step.{Step}
 use Rattle.dpl_nodes.specs.Steps.{steps_of}
 use Rattle.dpl_nodes.specs.Faults.{fault_view}
-use Rattle.dpl_scopes.specs.Slots.{slot_in}
 use Rattle.dpl_says.specs.Given.{scalar_by, given, words_by}
 use Rattle.dpl_says.specs.Says.{run_of}
 use Rattle.dpl_given.specs.Words.{words_in}
 use Rattle.dpl_given.proofs.Alike.{kind_as, given-alike}
-use Rattle.dpl_elaborator.specs.Leaves.{plain_kind, kind_by, kind_in}
+use Rattle.dpl_elaborator.specs.Leaves.{plain_kind, kind_by}
 use Rattle.dpl_elaborator.specs.Sights.{bound_in, sight_of, ArePlainScopes}
 use Rattle.dpl_run.specs.Plans.{IsPlan, IsGivenAlike}
 use Rattle.dpl_steps.specs.Runs.{having_printed}

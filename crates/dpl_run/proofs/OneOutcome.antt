@@ -1,6 +1,6 @@
 -- Each text comes to at most one outcome, and one list of bytes is written of it.
 -- It is a program or has a refusal, and has no two of them.
-use Rattle.std.proofs.Common.{◌≡◌, ◌⊎◌, inl, inr, ⊎_elim, ℕ, ℤ, List, [], ◌∷◌, ◌++◌, Option, Some, None, refl, sym, ap, ◌∙◌, subst}
+use Rattle.std.proofs.Common.{◌≡◌, ℕ, ℤ, List, [], ◌∷◌, ◌++◌, Option, Some, None, refl, sym, ap, ◌∙◌, subst}
 use Rattle.dpl_syntax.specs.declared.refusal.Refusal.{Refusal}
 use Rattle.dpl_syntax.specs.Lines.{refusal_text}
 use Rattle.dpl_history.specs.declared.history.Event.{Event}

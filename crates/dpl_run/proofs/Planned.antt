@@ -12,7 +12,7 @@ use Rattle.dpl_language.specs.Renamed.{renamed_program}
 use Rattle.dpl_language.specs.Scopes.{fits_all, after_all}
 use Rattle.dpl_rules.specs.Sights.{Declared, Scope, Scopes, find, or_else, lookup, type_declared}
 use Rattle.dpl_rules.specs.Breaches.{top, first_breach}
-use Rattle.dpl_rules.specs.Sound.{behind_all, sets_fit, set_refusal, refusal_by, refusal}
+use Rattle.dpl_rules.specs.Sound.{behind_all, sets_fit, refusal_by, refusal}
 use Rattle.dpl_scopes.specs.Slots.{slot_in}
 use Rattle.dpl_scopes.proofs.Slots.{slot_in-lookup}
 use Rattle.dpl_lowered.specs.LoweredStatements.{lowered_program}

@@ -24,7 +24,7 @@ use Rattle.dpl_nodes.specs.Faults.{IsNear}
 use Rattle.dpl_scalar.specs.Scalar.{AreScalarTops}
 use Rattle.dpl_scalar.proofs.Spelled.{Spells-written}
 use Rattle.dpl_scalar.proofs.Statements.{program-scalar}
-use Rattle.dpl_run.specs.Headline.{or_closed, tree_refusal, IsProgram}
+use Rattle.dpl_run.specs.Headline.{or_closed, IsProgram}
 
 near : (p : Place) → IsWithin (suc longest_text) p → IsNear p
 near p h = let a = h.0 in let b = h.1 in (omega (arith, a), omega (arith, b))

@@ -14,7 +14,7 @@ use Rattle.dpl_language.specs.Tree.{ProgramTree}
 use Rattle.dpl_language.specs.Environment.{Limits}
 use Rattle.dpl_language.specs.Outcome.{Outcome as Meant, Done as DoneAt, Stop as StopAt, Waits as WaitsAt}
 use Rattle.dpl_language.specs.Names.{Text, State}
-use Rattle.dpl_spelling.specs.Theorem.{Spells, Refuses}
+use Rattle.dpl_spelling.specs.Theorem.{Refuses}
 use Rattle.dpl_says.specs.Says.{run_of}
 use Rattle.dpl_run.specs.declared.outcome.Outcome.{Outcome}
 use Rattle.dpl_run.specs.declared.outcome.Outcome.TheVariants.{Done, Stopped, Rejected}

@@ -2,7 +2,7 @@
 use Rattle.std.proofs.Common.{rules, ◌≡◌, ◌+◌, [], drop, sym, ap, subst}
 use Rattle.dpl_syntax.proofs.Walks.{drop-end}
 use Rattle.dpl_language.specs.Tree.{NoStmts}
-use Rattle.dpl_tree.specs.Statements.{stmt_view, stmts_of}
+use Rattle.dpl_tree.specs.Statements.{stmts_of}
 use Rattle.dpl_planner.specs.Given.{AreGiven}
 use Rattle.dpl_planner.specs.Plans.{PlansTops}
 use Rattle.dpl_planner.proofs.Results.{listed}

@@ -1,5 +1,5 @@
 -- Each statement is planned part by part; a body's scope is entered and left.
-use Rattle.std.proofs.Common.{rules, ◌≡◌, ◌+◌, [], drop, map, refl, sym, ap, ◌∙◌, subst}
+use Rattle.std.proofs.Common.{rules, ◌≡◌, ◌+◌, [], drop, map, sym, ap, ◌∙◌, subst}
 use Rattle.dpl_syntax.proofs.Walks.{drop-end}
 use Rattle.dpl_language.specs.Tree.{NoStmts, Block, For, Forall, ElseDo}
 use Rattle.dpl_language.specs.Renamed.{renamed_intents}

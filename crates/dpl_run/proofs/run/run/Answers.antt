@@ -1,5 +1,4 @@
 -- Done or stopped, the run is told by how the statements end over words.
-use Rattle.std.proofs.Common.{◌≡◌, subst, Err}
 use Rattle.dpl_tree.specs.Statements.{stmts_of}
 use Rattle.dpl_run.proofs.Ends.{ran-done, ran-stop}
 use Rattle.dpl_run.proofs.run.run.Goals as goal

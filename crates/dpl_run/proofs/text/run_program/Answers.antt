@@ -1,12 +1,11 @@
 -- The run of the plan, from the words that the sets give, is what the program means.
-use Rattle.std.proofs.Common.{◌≡◌, pos, [], map, replicate, sym, ap, ◌∙◌, subst}
+use Rattle.std.proofs.Common.{pos, [], map, replicate, ap, ◌∙◌, subst}
 use Rattle.dpl_language.specs.Outcome.{no_deeds}
 use Rattle.dpl_language.specs.Statements.{exec_all}
-use Rattle.dpl_tree.specs.Statements.{stmts_of, program_view}
+use Rattle.dpl_tree.specs.Statements.{program_view}
 use Rattle.dpl_words.specs.Words.{no_range, by_word}
 use Rattle.dpl_nodes.specs.Frames.{Framed}
 use Rattle.dpl_nodes.specs.Steps.{steps_of}
-use Rattle.dpl_given.specs.Words.{words_in}
 use Rattle.dpl_run.specs.Plans.{IsPlan}
 use Rattle.dpl_run.specs.Runs.{RanTo}
 use Rattle.dpl_run.specs.Settings.{limits_of}

@@ -1,10 +1,10 @@
 -- Each stage that stops tells the text's refusal, and a program that has none comes to what its run comes to.
-use Rattle.std.proofs.Common.{◌≡◌, ◌∙◌, List, map, sym, ap, subst, Err}
+use Rattle.std.proofs.Common.{◌∙◌, map, sym, ap, subst, Err}
 use Rattle.std.proofs.lemmas.Result.{err_from_is_err_and}
 use Rattle.dpl_syntax.specs.Text.{Lexes}
 use Rattle.dpl_tree.specs.Statements.{program_view}
 use Rattle.dpl_run.specs.Settings.{limits_of}
-use Rattle.dpl_run.proofs.Stages.{lex-stops, parse-stops, run-comes, run-stops}
+use Rattle.dpl_run.proofs.Stages.{lex-stops, parse-stops, run-comes}
 use Rattle.dpl_run.proofs.text.stages.Goals as goal
 
 pub returns-in_err-tokens-clause-stops : goal.returns-in_err-tokens-clause-stops
