@@ -3,7 +3,7 @@
 use Rattle.std.specs.Prelude.{◌≡◌, Option, None}
 use Rattle.dpl_syntax.specs.declared.place.Place.{Place}
 use Rattle.dpl_language.specs.Phrases.{OtherBase}
-use Rattle.dpl_language.specs.Tree.{ExprTree, Chain, Postfixed, ItemTree, RangeItem, Stride, Links, Posts, NoPosts, Post, PostTree}
+use Rattle.dpl_language.specs.Tree.{ExprTree, Chain, Postfixed, ItemTree, RangeItem, Stride, Links, Posts, NoPosts, Post, PostTree, Brackets, Dotted, MethodTree, Contains, Items, Exprs}
 use Rattle.dpl_language.specs.Names.{Text}
 use Rattle.dpl_language.specs.Renamed.{renamed_expr, renamed_item, renamed_stride, renamed_links, renamed_posts, renamed_post}
 use Rattle.dpl_rules.specs.Types.{ValueType}
@@ -47,6 +47,10 @@ pub record IsChainSoFar (scopes : Scopes) (first : Typed) (all : Links Text) (t 
   pub scalar : AreSimpleLinks (MayBePlain scopes) all → AreSimpleLinks (MayBePlain scopes) left
   pub near : LinksSpelt IsNear all → LinksSpelt IsNear left
 
+-- whatever type of its kind the first operand has, there is no chain of these behind it
+abbrev pub HasNoChain : Scopes → Typed → Links Text → Type 0
+HasNoChain scopes first ls = (u : Option ValueType) → IsOfKind (kind_of first) u → chain_type scopes u ls ≡ None
+
 -- RANGES
 -- a range, by its bounds and its stride
 abbrev pub range_tree : RangeNode → ItemTree Text
@@ -79,6 +83,16 @@ pub record IsPostOf (scopes : Scopes) (base : Typed) (p : PostTree Text) (t : Ty
 -- whatever type of its kind a base has, there is none with this post behind it
 abbrev pub HasNoPost : Scopes → Typed → PostTree Text → Type 0
 HasNoPost scopes base p = (last : Place) (u : Option ValueType) → IsOfKind (kind_of base) u → type_by (post_verdict scopes last p u) ≡ None
+
+-- and no slice by these items, no method, and no `contains` of these arguments, wherever they stand
+abbrev pub HasNoSlice : Scopes → Typed → Items Text → Type 0
+HasNoSlice scopes base items = (from upto : Place) → HasNoPost scopes base (Brackets from items upto)
+
+abbrev pub HasNoMethod : Scopes → Typed → MethodTree Text → Type 0
+HasNoMethod scopes base m = (dot : Place) → HasNoPost scopes base (Dotted dot m)
+
+abbrev pub HasNoContains : Scopes → Typed → Exprs Text → Type 0
+HasNoContains scopes base es = (dot at from upto : Place) → HasNoPost scopes base (Dotted dot (Contains at from es upto))
 
 -- The posts so far, behind a base that is given: what is made of them and of what is left is what is made of all; and so
 -- are types, names, and what is owed of them.

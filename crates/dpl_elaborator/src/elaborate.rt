@@ -5,8 +5,7 @@ ghost use Rattle.std.specs.Prelude.{◌≡◌, IfOk, None, Option, Err};
 ghost use Rattle.dpl_language.specs.Renamed.{renamed_expr, renamed_item};
 ghost use Rattle.dpl_language.specs.Tree.{NoLinks};
 ghost use Rattle.dpl_tree.specs.View.{expr_view, item_view, links_of};
-ghost use Rattle.dpl_rules.specs.Types.{ValueType as RuleType};
-ghost use Rattle.dpl_rules.specs.Expressions.{type_of, item_type, chain_type};
+ghost use Rattle.dpl_rules.specs.Expressions.{type_of, item_type};
 ghost use Rattle.dpl_lowered.specs.LoweredExpressions.{Once, lowered_expr, lowered_item};
 ghost use Rattle.dpl_words.specs.Words.{known_leaf};
 ghost use Rattle.dpl_nodes.specs.Makers.{typed_view, typed_item, kind_of};
@@ -15,7 +14,7 @@ ghost use Rattle.dpl_elaborator.specs.Leaves.{leaf_in, IsFound, IsOfKind, MayBeP
 ghost use Rattle.dpl_elaborator.specs.Simple.{IsSimple, IsSimpleItem, AreSimpleLinks};
 ghost use Rattle.dpl_spelling.specs.Spelt.{ExprSpelt, ItemSpelt, LinksSpelt};
 ghost use Rattle.dpl_nodes.specs.Faults.{IsNear};
-ghost use Rattle.dpl_elaborator.specs.Elaborated.{leaves_of, chain_tree, IsChainSoFar};
+ghost use Rattle.dpl_elaborator.specs.Elaborated.{leaves_of, chain_tree, IsChainSoFar, HasNoChain};
 
 use crate::chain::nests;
 use crate::leaf::named;
@@ -105,7 +104,7 @@ fn links<'t>(
     links: &[Link<'_>],
 ) -> Result<Typed<'t>, Stop>
     ensures so_far { IfOk result (λ t. IsChainSoFar scopes.now first.entry (links_of links.now) t NoLinks) }
-    ensures ill_typed { (result ≡ Err stop.IllTyped) → AreSimpleLinks (MayBePlain scopes.now) (links_of links.now) → LinksSpelt IsNear (links_of links.now) → (u : Option RuleType) → IsOfKind (kind_of first.entry) u → chain_type scopes.now u (links_of links.now) ≡ None }
+    ensures ill_typed { (result ≡ Err stop.IllTyped) → AreSimpleLinks (MayBePlain scopes.now) (links_of links.now) → LinksSpelt IsNear (links_of links.now) → HasNoChain scopes.now first.entry (links_of links.now) }
 {
     let mut t = first;
     for next in links {

@@ -12,7 +12,7 @@ ghost use Rattle.dpl_elaborator.specs.Leaves.{IsFound, IsOfKind, MayBePlain};
 ghost use Rattle.dpl_elaborator.specs.Simple.{IsSimple, AreSimplePosts, IsSimplePost, IsSimpleMethod, IsSimpleCut, IsSimpleIndex};
 ghost use Rattle.dpl_spelling.specs.Spelt.{ExprSpelt, PostsSpelt, PostSpelt, MethodSpelt, ItemsSpelt, ExprsSpelt};
 ghost use Rattle.dpl_nodes.specs.Faults.{IsNear};
-ghost use Rattle.dpl_elaborator.specs.Elaborated.{leaves_of, postfixed_tree, IsPostOf, ArePostsSoFar, HasNoPost, HaveNoPosts};
+ghost use Rattle.dpl_elaborator.specs.Elaborated.{leaves_of, postfixed_tree, IsPostOf, ArePostsSoFar, HasNoPost, HasNoSlice, HasNoMethod, HasNoContains, HaveNoPosts};
 
 use crate::elaborate::{expression, item};
 use dpl_nodes::ranges::{called, containing, sliced};
@@ -88,7 +88,7 @@ fn slice<'t>(
     items: &Items<'_>,
 ) -> Result<Typed<'t>, Stop>
     ensures made { IfOk result (λ t. (from upto : Place) → IsPostOf scopes.now base.entry (Brackets from (items_view items.now) upto) t) }
-    ensures ill_typed { (result ≡ Err stop.IllTyped) → IsSimpleCut (MayBePlain scopes.now) (items_view items.now) → ItemsSpelt IsNear (items_view items.now) → (from upto : Place) → HasNoPost scopes.now base.entry (Brackets from (items_view items.now) upto) }
+    ensures ill_typed { (result ≡ Err stop.IllTyped) → IsSimpleCut (MayBePlain scopes.now) (items_view items.now) → ItemsSpelt IsNear (items_view items.now) → HasNoSlice scopes.now base.entry (items_view items.now) }
 {
     if items.others.is_empty() {
         let cut = item(arena, scopes, &items.first)?;
@@ -107,7 +107,7 @@ fn method<'t>(
     method: &Method<'_>,
 ) -> Result<Typed<'t>, Stop>
     ensures made { IfOk result (λ t. (dot : Place) → IsPostOf scopes.now base.entry (Dotted dot (method_view method.now)) t) }
-    ensures ill_typed { (result ≡ Err stop.IllTyped) → IsSimpleMethod (MayBePlain scopes.now) (method_view method.now) → MethodSpelt IsNear (method_view method.now) → (dot : Place) → HasNoPost scopes.now base.entry (Dotted dot (method_view method.now)) }
+    ensures ill_typed { (result ≡ Err stop.IllTyped) → IsSimpleMethod (MayBePlain scopes.now) (method_view method.now) → MethodSpelt IsNear (method_view method.now) → HasNoMethod scopes.now base.entry (method_view method.now) }
 {
     match method {
         Method::Plain(at, word) => called(arena, *word, *at, base),
@@ -127,7 +127,7 @@ fn contains<'t>(
     exprs: &Exprs<'_>,
 ) -> Result<Typed<'t>, Stop>
     ensures made { IfOk result (λ t. (dot at from upto : Place) → IsPostOf scopes.now base.entry (Dotted dot (Contains at from (exprs_view exprs.now) upto)) t) }
-    ensures ill_typed { (result ≡ Err stop.IllTyped) → IsSimpleIndex (MayBePlain scopes.now) (exprs_view exprs.now) → ExprsSpelt IsNear (exprs_view exprs.now) → (dot at from upto : Place) → HasNoPost scopes.now base.entry (Dotted dot (Contains at from (exprs_view exprs.now) upto)) }
+    ensures ill_typed { (result ≡ Err stop.IllTyped) → IsSimpleIndex (MayBePlain scopes.now) (exprs_view exprs.now) → ExprsSpelt IsNear (exprs_view exprs.now) → HasNoContains scopes.now base.entry (exprs_view exprs.now) }
 {
     if exprs.others.is_empty() {
         let index = expression(arena, scopes, exprs.first)?;
