@@ -9,4 +9,5 @@ pub mod HeldLemmas
 pub mod SameLemmas
 mod Worked
 pub mod WalkLemmas
+pub mod WindowLemmas
 pub mod ReaderLemmas

@@ -8,4 +8,5 @@ pub mod Rows
 pub mod PieceFields
 pub mod PiecesFields
 pub mod WalkFields
+pub mod Windows
 pub mod ReaderFields

@@ -14,6 +14,7 @@ mod row;
 mod same;
 mod seats;
 mod walk;
+mod window;
 
 pub use array::{ArrayFault, DArray};
 pub use piece::Piece;

@@ -1,10 +1,12 @@
 // Reads of an array that remember the piece of the last one.
-// A loop that stays in a piece reads it again and again, and no owner is told for its elements.
+// A loop that stays in a piece reads it by plain numbers, and neither an owner is told nor an index made for its elements.
 
-ghost use Rattle.std.specs.Prelude.{◌≡◌, [], ◌∷◌, Some, IfSome};
+ghost use Rattle.std.specs.Prelude.{◌≡◌, ℕ, [], ◌∷◌, Some, IfSome};
+ghost use Rattle.dpl_array.specs.Arrays.{restriction};
 ghost use Rattle.dpl_array.specs.Elements.{value_at};
 
 use crate::coordinates::{line, plane, space};
+use crate::window::{Line, Plane};
 use crate::{DArray, Piece};
 use dpl_domain::Index;
 use std::marker::Model;
@@ -14,6 +16,8 @@ use std::marker::Model;
 pub struct Reader<'a, T> {
     array: &'a DArray<T>,
     piece: Option<&'a Piece<T>>,
+    line: Line<'a, T>,
+    plane: Plane<'a, T>,
 }
 
 impl<'a, T> Model for Reader<'a, T> {
@@ -21,11 +25,11 @@ impl<'a, T> Model for Reader<'a, T> {
 
     ghost Value = { ArrayValue T };
 
-    ghost use Rattle.dpl_array.specs.ReaderFields.{IsRemembered};
+    ghost use Rattle.dpl_array.specs.ReaderFields.{IsRemembered, IsLineIn, IsPlaneIn};
 
     ghost view = { λ r. r.array.now };
 
-    ghost invariant = { λ r. IsRemembered r.array.now r.piece };
+    ghost invariant = { λ r. IsRemembered r.array.now r.piece × IsLineIn r.array.now r.line × IsPlaneIn r.array.now r.plane };
 }
 
 impl<T: Copy> DArray<T> {
@@ -36,6 +40,8 @@ impl<T: Copy> DArray<T> {
         Reader {
             array: self,
             piece: None,
+            line: Line::none(),
+            plane: Plane::none(),
         }
     }
 }
@@ -47,7 +53,7 @@ impl<'a, T: Copy> Reader<'a, T> {
         ensures value { result ≡ value_at (i ∷ []) self.old.elements }
         ensures same { self.new ≡ self.old }
     {
-        if let Some(value) = self.quick(line(i)) {
+        if let Some(value) = self.line.get(i) {
             return Some(value);
         }
         self.turn_to_line(i)
@@ -59,7 +65,7 @@ impl<'a, T: Copy> Reader<'a, T> {
         ensures value { result ≡ value_at (i ∷ j ∷ []) self.old.elements }
         ensures same { self.new ≡ self.old }
     {
-        if let Some(value) = self.quick(plane(i, j)) {
+        if let Some(value) = self.plane.get(i, j) {
             return Some(value);
         }
         self.turn_to_plane(i, j)
@@ -90,9 +96,24 @@ impl<'a, T: Copy> Reader<'a, T> {
         ensures value { result ≡ value_at index self.old.elements }
         ensures same { self.new ≡ self.old }
     {
+        if let Some(value) = self.quick(index) {
+            return Some(value);
+        }
         let owner = self.array.map().owner(index);
-        self.piece = self.array.piece(owner);
+        if let Some(piece) = self.array.piece(owner) {
+            self.remember(piece);
+        }
         self.array.get(index)
+    }
+
+    // Remembers a piece of the array.
+    fn remember(&mut self, piece: &'a Piece<T>)
+        requires { (l : ℕ) × (piece.now ≡ restriction self.old l) }
+        ensures { self.new ≡ self.old }
+    {
+        self.piece = Some(piece);
+        self.line = piece.line();
+        self.plane = piece.plane();
     }
 
     #[inline(never)]
