@@ -81,6 +81,14 @@ strided_by_blocks :
 unfolding int_wrap indices members owner part block_place sixteen_by_blocks far_neighbours step line range at
 strided_by_blocks = refl
 
+-- in the turns of `2..15 by 3` over an array over 1..16 in the same blocks: place 1 has the turns 5 and 8 at both ends of its block, and
+-- the others read none but their own
+strided_turns_by_blocks :
+    map (λ l. remote (filled_array {T = ℕ} (line (pos 1) (pos 16) (pos 1)) sixteen_by_blocks 7) (line (pos 2) (pos 15) (pos 3)) sixteen_by_blocks l neighbours) (0 ∷ 1 ∷ 2 ∷ 3 ∷ [])
+    ≡ [] ∷ ((at (pos 4), 7) ∷ (at (pos 9), 7) ∷ []) ∷ [] ∷ [] ∷ []
+unfolding int_wrap indices members owner part block_place sixteen_by_blocks neighbours step line range at
+strided_turns_by_blocks = refl
+
 ten_by_blocks : List AxisValue
 ten_by_blocks = record { rule = Block (pos 1) (pos 10); extent = 2 } ∷ []
 

@@ -1,6 +1,6 @@
 -- The elements of a part that is one domain, as a line.
 -- These are the answers to the goals of `Piece::line`.
-use Rattle.std.proofs.Common.{◌≡◌, ◌≤◌, ◌*◌, [], ◌∷◌, length, sym, ap, subst, ◌∙◌}
+use Rattle.std.proofs.Common.{◌≡◌, ◌≤◌, [], ◌∷◌, length, sym, subst, ◌∙◌}
 use Rattle.dpl_domain.specs.Ranks.{last_of, point, IsPadded}
 use Rattle.dpl_array.specs.PieceFields.{piece_of}
 use Rattle.dpl_array.specs.Windows.{IsLineOf}
@@ -22,12 +22,19 @@ pub invariant_of-result : goal.invariant_of-result
 invariant_of-result g c =
     let p = c.self.inside in
     let b = (goal.at.invariant_of-result g c).After-deref-2 in
-    record { long = subst (λ vs. c.of.result.size ≤ length vs) (sym c.deref-2.ensures.value) (long-line p.domain p.map p.locale p.parts.items p.starts.items p.values.items c.self.invariant c.in-Some.part.now (one g b) c.ranges-inner.result.0 c.ranges-inner.result.1 c.ranges-inner.result.2 (ranges g b) (padded g b) c.of.result.low c.of.result.size c.of.ensures) }
+    let span = c.of.result in
+    let large =
+    long-line p.domain p.map p.locale p.parts.items p.starts.items p.values.items c.self.invariant
+    c.in-Some.part.now (one g b) c.ranges-inner.result.0 c.ranges-inner.result.1 c.ranges-inner.result.2 (ranges g b) (padded g b) span.low span.size c.of.ensures in
+    record { long = subst (λ vs. span.size ≤ length vs) (sym c.deref-2.ensures.value) large }
 
 pub returns : goal.returns
 returns g c =
     let p = c.self.inside in
     let b = (goal.at.returns g c).After-deref-2 in
-    let kept = kept-line p.domain p.map p.locale p.parts.items p.starts.items p.values.items c.self.invariant c.in-Some.part.now (one g b) c.ranges-inner.result.0 c.ranges-inner.result.1 c.ranges-inner.result.2 (ranges g b) (padded g b) c.of.result.low c.of.result.size c.of.ensures in
-    subst (λ q. IsLineOf q.elements c.deref-2.result.now c.of.result.low c.of.result.size) c.self.view_is
-    (subst (λ vs. IsLineOf (piece_of p).elements vs c.of.result.low c.of.result.size) (sym c.deref-2.ensures.value) kept)
+    let span = c.of.result in
+    let kept =
+    kept-line p.domain p.map p.locale p.parts.items p.starts.items p.values.items c.self.invariant
+    c.in-Some.part.now (one g b) c.ranges-inner.result.0 c.ranges-inner.result.1 c.ranges-inner.result.2 (ranges g b) (padded g b) span.low span.size c.of.ensures in
+    subst (λ q. IsLineOf q.elements c.deref-2.result.now span.low span.size) c.self.view_is
+    (subst (λ vs. IsLineOf (piece_of p).elements vs span.low span.size) (sym c.deref-2.ensures.value) kept)

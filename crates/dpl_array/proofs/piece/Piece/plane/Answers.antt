@@ -1,6 +1,6 @@
 -- The elements of a part that is one domain, as a plane.
 -- These are the answers to the goals of `Piece::plane`.
-use Rattle.std.proofs.Common.{◌≡◌, ◌≤◌, ◌*◌, [], ◌∷◌, length, sym, ap, subst, ◌∙◌}
+use Rattle.std.proofs.Common.{◌≡◌, ◌≤◌, ◌*◌, [], ◌∷◌, length, sym, subst, ◌∙◌}
 use Rattle.dpl_domain.specs.Ranks.{last_of, point, IsPadded}
 use Rattle.dpl_array.specs.PieceFields.{piece_of}
 use Rattle.dpl_array.specs.Windows.{IsPlaneOf}
@@ -22,12 +22,21 @@ pub invariant_of-result : goal.invariant_of-result
 invariant_of-result g c =
     let p = c.self.inside in
     let b = (goal.at.invariant_of-result g c).After-deref-2 in
-    record { long = subst (λ vs. c.of.result.size * c.of-2.result.size ≤ length vs) (sym c.deref-2.ensures.value) (long-plane p.domain p.map p.locale p.parts.items p.starts.items p.values.items c.self.invariant c.in-Some.part.now (one g b) c.ranges-middle.result.0 c.ranges-middle.result.1 c.ranges-middle.result.2 (ranges g b) (padded g b) c.of.result.low c.of-2.result.low c.of.result.size c.of-2.result.size c.of.ensures c.of-2.ensures) }
+    let rows = c.of.result in
+    let columns = c.of-2.result in
+    let large =
+    long-plane p.domain p.map p.locale p.parts.items p.starts.items p.values.items c.self.invariant
+    c.in-Some.part.now (one g b) c.ranges-middle.result.0 c.ranges-middle.result.1 c.ranges-middle.result.2 (ranges g b) (padded g b) rows.low columns.low rows.size columns.size c.of.ensures c.of-2.ensures in
+    record { long = subst (λ vs. rows.size * columns.size ≤ length vs) (sym c.deref-2.ensures.value) large }
 
 pub returns : goal.returns
 returns g c =
     let p = c.self.inside in
     let b = (goal.at.returns g c).After-deref-2 in
-    let kept = kept-plane p.domain p.map p.locale p.parts.items p.starts.items p.values.items c.self.invariant c.in-Some.part.now (one g b) c.ranges-middle.result.0 c.ranges-middle.result.1 c.ranges-middle.result.2 (ranges g b) (padded g b) c.of.result.low c.of-2.result.low c.of.result.size c.of-2.result.size c.of.ensures c.of-2.ensures in
-    subst (λ q. IsPlaneOf q.elements c.deref-2.result.now c.of.result.low c.of.result.size c.of-2.result.low c.of-2.result.size) c.self.view_is
-    (subst (λ vs. IsPlaneOf (piece_of p).elements vs c.of.result.low c.of.result.size c.of-2.result.low c.of-2.result.size) (sym c.deref-2.ensures.value) kept)
+    let rows = c.of.result in
+    let columns = c.of-2.result in
+    let kept =
+    kept-plane p.domain p.map p.locale p.parts.items p.starts.items p.values.items c.self.invariant
+    c.in-Some.part.now (one g b) c.ranges-middle.result.0 c.ranges-middle.result.1 c.ranges-middle.result.2 (ranges g b) (padded g b) rows.low columns.low rows.size columns.size c.of.ensures c.of-2.ensures in
+    subst (λ q. IsPlaneOf q.elements c.deref-2.result.now rows.low rows.size columns.low columns.size) c.self.view_is
+    (subst (λ vs. IsPlaneOf (piece_of p).elements vs rows.low rows.size columns.low columns.size) (sym c.deref-2.ensures.value) kept)
