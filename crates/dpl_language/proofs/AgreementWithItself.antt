@@ -1,9 +1,10 @@
 -- An environment agrees with itself, whatever may be done with names where, if each may hold anything.
 -- So all laws can be kept at once, and the theorem's premises are met by each tree that fits.
-use Rattle.std.proofs.Common.{◌≡◌, [], refl, ap, ◌∙◌, subst}
+use Rattle.std.proofs.Common.{None, ◌≡◌, [], refl, ap, ◌∙◌, subst}
 use Rattle.dpl_language.specs.Tree.{StmtTree}
 use Rattle.dpl_language.specs.Values.{index_of, array_domain, is_domain}
 use Rattle.dpl_language.specs.Ranges.{indices_in, loop_ranges, loop_value}
+use Rattle.dpl_language.specs.Arithmetic.{assigned}
 use Rattle.dpl_language.specs.Outcome.{Deeds}
 use Rattle.dpl_language.specs.Environment.{Content, Plain, Answer, Replied, Unanswered, Environment, Limits}
 use Rattle.dpl_language.specs.Statements.{exec}
@@ -27,11 +28,14 @@ module _ {N G S : Type 0} (limits : Limits) (scoping : Scoping N G) (env : Envir
     updates = λ x op v g s1 s2 r f h. ap (env.update x op v) r;
     elements_at = λ x t g s1 s2 r f. ap (env.element x t) r;
     elements = λ x items vs g s1 s2 r f e. ap (env.element x (index_of vs)) r;
-    puts_at = λ x t v g s1 s2 r f. ap (env.put_element x t v) r;
-    puts = λ x items vs v g s1 s2 r f e. ap (env.put_element x (index_of vs) v) r;
+    puts_at = λ x t v g s1 s2 r f h. ap (env.put_element x t v) r;
+    puts = λ x items vs v g s1 s2 r f e h. ap (env.put_element x (index_of vs) v) r;
     declares = λ x c g s1 s2 r f h. ap (λ c. env.declare x c s1) (renamed_content-same c) ∙ ap (env.declare x c) r;
     gives = λ x g s1 s2 r f. ap (env.given x) r;
     suited = λ x item v g s1 s2 r f e. held x (Plain v);
+    suited_turn = λ x item t v g s1 s2 r f w e. held x (Plain v);
+    suited_initial = λ x over item t v g s1 s2 r f d e. held x (Plain v);
+    changed = λ x op t old w g s1 s2 r f e h. held x (Plain (assigned op None old w));
     turned = λ x item over g s1 s2 r f e. All-every (λ t. scoping.holds x (Plain (loop_value over t))) (λ t. held x (Plain (loop_value over t))) (indices_in (loop_ranges limits.locales over));
     given_holds = λ x v g s1 s2 r f e. held x (Plain v);
     enters = λ g s1 s2 r. ap env.enter r;

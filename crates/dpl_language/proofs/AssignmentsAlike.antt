@@ -22,7 +22,7 @@ use Rattle.dpl_language.specs.Loops.{within_budget, named_turn}
 use Rattle.dpl_language.specs.Writing.{or_zero, line_end, arguments_of, name_shown, shown, arguments_then, write}
 use Rattle.dpl_language.specs.Renamed.{renamed, renamed_expr, renamed_item, renamed_exprs, renamed_target, renamed_call, renamed_argument, renamed_write, renamed_read}
 use Rattle.dpl_language.specs.Scopes.{Scoping, items_in, fits_item, fits_exprs, fits_read, fits_side, fits_whole_side, side_for, suits_target, fits_target, fits_call, fits_shown, fits_arguments}
-use Rattle.dpl_language.specs.Agreement.{MayRead, MayBe, WasDomain, Simulates, EndsAlike, RunAlike, AnswersAlike}
+use Rattle.dpl_language.specs.Agreement.{MayRead, MayBe, WasDomain, WasArray, Simulates, EndsAlike, RunAlike, AnswersAlike}
 use Rattle.dpl_language.proofs.RunsAlike.{All-every, with_value-alike, with_value-alike_by, unless-alike, within_budget-alike, named_turn-alike}
 use Rattle.dpl_language.proofs.RenamedParts.{item_read-renamed, bare_name-renamed, arguments_of-renamed}
 use Rattle.dpl_language.proofs.ExpressionsAlike.{items_of-in, fits_item-once, value_of-renamed, item_of-renamed, values_of-renamed, whole_item-renamed}
@@ -31,6 +31,11 @@ use Rattle.dpl_language.proofs.ExpressionsAlike.{items_of-in, fits_item-once, va
 tested_divisor-same : (dividing : Bool) (at : Place) (v w : Value) → tested_divisor dividing at v ≡ Ok w → v ≡ w
 tested_divisor-same dividing at v w =
     elim (dividing && int_eq (number v) (pos 0)) as (λ b. (if b then Err (fault ZeroDivisor at) else Ok v) ≡ Ok w → v ≡ w) [ true ↦ λ e. cc | false ↦ λ e. cc ]
+
+-- an element that is told is there
+found-there : (at : Place) (o : Option Value) (v : Value) → found at o ≡ Ok v → o ≡ Some v
+found-there at None v e = cc
+found-there at (Some w) v e = let same : w ≡ v = cc in ap (λ u. Some u) same
 
 module _ {M N G S1 S2 : Type 0} (limits : Limits) (name : N → M) (scoping : Scoping N G) (first : Environment M S1) (second : Environment N S2) (R : G → S1 → S2 → Type 0) (sim : Simulates limits name scoping first second R) where
   -- AN OPERATION ON A CELL
@@ -80,27 +85,39 @@ module _ {M N G S1 S2 : Type 0} (limits : Limits) (name : N → M) (scoping : Sc
   -- a change, where the old element is the same and the store of a new one is alike
   change-alike : (x : Placed N) (sign : AssignTree) (t : Index) (w : Value) (g : G) (s1 : S1) (s2 : S2) (done : Deeds)
       → first.element (name x.name) t s1 ≡ second.element x.name t s2
-      → ((v : Value) → R g (first.put_element (name x.name) t v s1) (second.put_element x.name t v s2))
+      → ((old u : Value) → second.element x.name t s2 ≡ Some old → w ≡ u
+      → R g (first.put_element (name x.name) t (assigned sign.op None old u) s1) (second.put_element x.name t (assigned sign.op None old u) s2))
       → EndsAlike (R g) (change limits first (renamed name x) sign t w s1 done) (change limits second x sign t w s2 done)
   change-alike x sign t w g s1 s2 done e p =
-      with_value-alike (R g) _ _ _ _ s1 s2 done (ap (found x.at) e)
-      (λ old. with_value-alike (R g) (tested_divisor (assign_divides sign.op) sign.at w) _ _ _ s1 s2 done refl
-      (λ w. (second.put_element x.name t (assigned sign.op None old w) s2, p (assigned sign.op None old w), refl)))
+      with_value-alike_by (R g) _ _ _ _ s1 s2 done (ap (found x.at) e)
+      (λ old there. with_value-alike_by (R g) (tested_divisor (assign_divides sign.op) sign.at w) _ _ _ s1 s2 done refl
+      (λ u same. (
+        second.put_element x.name t (assigned sign.op None old u) s2,
+        p old u (found-there x.at (second.element x.name t s2) old there) (tested_divisor-same (assign_divides sign.op) sign.at w u same),
+        refl,
+      )))
 
-  change_whole-alike : (x : Placed N) (sign : AssignTree) (t : Index) (w : Value) (g : G) → scoping.reads_at x.name t g → scoping.assigns_at x.name t g
+  -- what is made of an element, the name may hold
+  changed-held : (x : Placed N) (sign : AssignTree) (t : Index) (w old u : Value) (g : G) (s1 : S1) (s2 : S2) → R g s1 s2 → scoping.assigns x.name sign.op g → scoping.holds x.name (Plain w)
+      → second.element x.name t s2 ≡ Some old → w ≡ u → scoping.holds x.name (Plain (assigned sign.op None old u))
+  changed-held x sign t w old u g s1 s2 r n h there same = sim.changed x.name sign.op t old u g s1 s2 r n there (subst (λ v. scoping.holds x.name (Plain v)) same h)
+
+  change_whole-alike : (x : Placed N) (sign : AssignTree) (t : Index) (w : Value) (g : G) → scoping.assigns x.name sign.op g → scoping.reads_at x.name t g → scoping.assigns_at x.name t g → scoping.holds x.name (Plain w)
       → RunAlike (R g) (R g) (change limits first (renamed name x) sign t w) (change limits second x sign t w)
-  change_whole-alike x sign t w g e a s1 s2 done r =
-      change-alike x sign t w g s1 s2 done (sim.elements_at x.name t g s1 s2 r e) (λ v. sim.puts_at x.name t v g s1 s2 r a)
+  change_whole-alike x sign t w g n e a h s1 s2 done r =
+      change-alike x sign t w g s1 s2 done (sim.elements_at x.name t g s1 s2 r e)
+      (λ old u there same. sim.puts_at x.name t (assigned sign.op None old u) g s1 s2 r a (changed-held x sign t w old u g s1 s2 r n h there same))
 
   change_element-alike : (x : Placed N) (sign : AssignTree) (es : Exprs N) (w : Value) (g : G) → fits_exprs scoping es g
-      → scoping.reads_element x.name (items_in es) g → scoping.assigns_element x.name (items_in es) g
+      → scoping.reads_element x.name (items_in es) g → scoping.assigns_element x.name (items_in es) g → scoping.assigns x.name sign.op g → scoping.holds x.name (Plain w)
       → RunAlike (R g) (R g) (λ s done. with_value (values_of limits first (renamed_exprs name es) s) (λ is. change limits first (renamed name x) sign (index_of is) w) s done)
       (λ s done. with_value (values_of limits second es s) (λ is. change limits second x sign (index_of is) w) s done)
-  change_element-alike x sign es w g f e a s1 s2 done r =
+  change_element-alike x sign es w g f e a n h s1 s2 done r =
       with_value-alike_by (R g) _ _ _ _ s1 s2 done (values_of-renamed limits name scoping first second R sim es g s1 s2 r f)
       (λ vs is. change-alike x sign (index_of vs) w g s1 s2 done
       (sim.elements x.name (items_in es) vs g s1 s2 r e (items_of-in limits second es s2 ∙ is))
-      (λ v. sim.puts x.name (items_in es) vs v g s1 s2 r a (items_of-in limits second es s2 ∙ is)))
+      (λ old u there same. sim.puts x.name (items_in es) vs (assigned sign.op None old u) g s1 s2 r a (items_of-in limits second es s2 ∙ is)
+      (changed-held x sign (index_of vs) w old u g s1 s2 r n h there same)))
 
   -- A WHOLE ARRAY
   turns_alike : (at : Place) (rs : List TextRange) (g : G) (a : Index → Run S1) (b : Index → Run S2) → ((t : Index) → RunAlike (R g) (R g) (a t) (b t))
@@ -110,17 +127,18 @@ module _ {M N G S1 S2 : Type 0} (limits : Limits) (name : N → M) (scoping : Sc
       (All-every (λ t. RunAlike (R g) (R g) (named_turn a t) (named_turn b t)) (named_turn-alike (R g) a b p) (indices_in rs))
 
   assign_array-alike : (x : Placed N) (sign : AssignTree) (item : ItemTree N) (rs : List TextRange) (o : Option (List TextRange)) (g : G)
-      → scoping.assigns x.name sign.op g → ((t : Index) → scoping.reads_at x.name t g × scoping.assigns_at x.name t g) → fits_whole_side scoping item g
+      → scoping.assigns x.name sign.op g → WasArray second R x.name g → ((t : Index) → scoping.reads_at x.name t g × scoping.assigns_at x.name t g) → fits_whole_side scoping item g → scoping.suits x.name item g
       → RunAlike (R g) (R g) (assign_array limits first (renamed name x) sign (renamed_item name item) rs o) (assign_array limits second x sign item rs o)
-  assign_array-alike x sign item rs None g a e f s1 s2 done r =
-      evaluated-alike item g g _ _ (fits_item-once scoping [] item g (f.0 []), f.1)
-      (λ w. turns_alike sign.at rs g (λ t. change limits first (renamed name x) sign t w) (λ t. change limits second x sign t w) (λ t. change_whole-alike x sign t w g (e t).0 (e t).1)) s1 s2 done r
-  assign_array-alike x sign item rs (Some arrays) g a e f s1 s2 done r =
+  assign_array-alike x sign item rs None g a was e f h s1 s2 done r =
+      evaluated-alike_by item g g _ _ (fits_item-once scoping [] item g (f.0 []), f.1)
+      (λ w u1 u2 q m. turns_alike sign.at rs g (λ t. change limits first (renamed name x) sign t w) (λ t. change limits second x sign t w)
+      (λ t. change_whole-alike x sign t w g a (e t).0 (e t).1 (sim.suited x.name item w g u1 u2 q h m))) s1 s2 done r
+  assign_array-alike x sign item rs (Some arrays) g a was e f h s1 s2 done r =
       turns_alike sign.at rs g
       (λ t s done. with_value (item_of limits first (renamed_item name item) (Some t) s) (change limits first (renamed name x) sign t) s done)
       (λ t s done. with_value (item_of limits second item (Some t) s) (change limits second x sign t) s done)
-      (λ t s1 s2 done r. with_value-alike (R g) _ _ _ _ s1 s2 done (item_of-renamed limits name scoping first second R sim item (Some t) g s1 s2 r (f.0 t))
-      (λ w. change_whole-alike x sign t w g (e t).0 (e t).1 s1 s2 done r)) s1 s2 done r
+      (λ t s1 s2 done r. with_value-alike_by (R g) _ _ _ _ s1 s2 done (item_of-renamed limits name scoping first second R sim item (Some t) g s1 s2 r (f.0 t))
+      (λ w m. change_whole-alike x sign t w g a (e t).0 (e t).1 (sim.suited_turn x.name item t w g s1 s2 r h was m) s1 s2 done r)) s1 s2 done r
 
   -- A DOMAIN
   redomained-alike : (x : Placed N) (sign : AssignTree) (v : Value) (g : G) → scoping.assigns x.name sign.op g → WasDomain second R x.name g → (b : Bool)
@@ -150,15 +168,15 @@ module _ {M N G S1 S2 : Type 0} (limits : Limits) (name : N → M) (scoping : Sc
       (second.update x.name sign.op w s2, sim.updates x.name sign.op w g s1 s2 r a held, refl)))
 
   assign_name-alike : (x : Placed N) (sign : AssignTree) (item : ItemTree N) (o : Option (List TextRange)) (b : Bool) (g : G)
-      → scoping.assigns x.name sign.op g → (b ≡ true → WasDomain second R x.name g) → ((t : Index) → scoping.reads_at x.name t g × scoping.assigns_at x.name t g) → fits_whole_side scoping item g → scoping.suits x.name item g
+      → scoping.assigns x.name sign.op g → ((rs : List TextRange) → o ≡ Some rs → WasArray second R x.name g) → (b ≡ true → WasDomain second R x.name g) → ((t : Index) → scoping.reads_at x.name t g × scoping.assigns_at x.name t g) → fits_whole_side scoping item g → scoping.suits x.name item g
       → RunAlike (R g) (R g) (assign_name limits first (renamed name x) sign (renamed_item name item) o b) (assign_name limits second x sign item o b)
-  assign_name-alike x sign item (Some rs) b g a was e f h s1 s2 done r =
+  assign_name-alike x sign item (Some rs) b g a whole was e f h s1 s2 done r =
       subst (λ o. EndsAlike (R g) (assign_array limits first (renamed name x) sign (renamed_item name item) rs (whole_item limits first (renamed_item name item) s1) s1 done)
       (assign_array limits second x sign item rs o s2 done))
       (whole_item-renamed limits name scoping first second R sim item (Some []) g s1 s2 r (f.0 []))
-      (assign_array-alike x sign item rs (whole_item limits first (renamed_item name item) s1) g a e f s1 s2 done r)
-  assign_name-alike x sign item None true g a was e f h s1 s2 done r = assign_domain-alike x sign item g a (was refl) (fits_item-once scoping [] item g (f.0 []), f.1) s1 s2 done r
-  assign_name-alike x sign item None false g a was e f h s1 s2 done r = assign_plain-alike x sign item g a (fits_item-once scoping [] item g (f.0 []), f.1) h s1 s2 done r
+      (assign_array-alike x sign item rs (whole_item limits first (renamed_item name item) s1) g a (whole rs refl) e f h s1 s2 done r)
+  assign_name-alike x sign item None true g a whole was e f h s1 s2 done r = assign_domain-alike x sign item g a (was refl) (fits_item-once scoping [] item g (f.0 []), f.1) s1 s2 done r
+  assign_name-alike x sign item None false g a whole was e f h s1 s2 done r = assign_plain-alike x sign item g a (fits_item-once scoping [] item g (f.0 []), f.1) h s1 s2 done r
 
   pub assign-alike : (target : TargetTree N) (sign : AssignTree) (item : ItemTree N) (g : G) → fits_target scoping target sign.op g → side_for scoping target item g → suits_target scoping target item g
       → RunAlike (R g) (R g) (assign limits first (renamed_target name target) sign (renamed_item name item)) (assign limits second target sign item)
@@ -168,9 +186,10 @@ module _ {M N G S1 S2 : Type 0} (limits : Limits) (name : N → M) (scoping : Sc
       (subst (λ b. EndsAlike (R g) (assign limits first (Whole (renamed name x)) sign (renamed_item name item) s1 done) (assign_name limits second x sign item (array_domain (first.get (name x.name) s1)) b s2 done))
       (sim.domain_targets x.name sign.op g s1 s2 r a.0)
       (assign_name-alike x sign item (array_domain (first.get (name x.name) s1)) (is_domain (first.get (name x.name) s1)) g a.0
+      (λ rs e. (s1, s2, r, (rs, sym (sim.whole_targets x.name sign.op g s1 s2 r a.0) ∙ e)))
       (λ e. (s1, s2, r, sym (sim.domain_targets x.name sign.op g s1 s2 r a.0) ∙ e)) a.1 f h s1 s2 done r))
   assign-alike (Element x shape from es upto) sign item g a f h s1 s2 done r =
-      evaluated-alike item g g _ _ f (λ w. change_element-alike x sign es w g a.0 a.1 a.2) s1 s2 done r
+      evaluated-alike_by item g g _ _ f (λ w u1 u2 q m. change_element-alike x sign es w g a.0 a.1 a.2 a.3 (sim.suited x.name item w g u1 u2 q h m)) s1 s2 done r
 
   -- A CELL'S CALL
   and_no_more-alike : (v : Value) (g : G) → RunAlike (R g) (R g) (and_no_more v) (and_no_more v)

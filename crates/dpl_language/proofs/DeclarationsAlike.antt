@@ -1,22 +1,23 @@
 -- Declarations end alike in environments that agree, behind them with one more name in sight.
 -- The name is in sight from the end of its declaration, as what its type says.
 use Rattle.std.proofs.Common.{◌≡◌, pos, List, [], ◌∷◌, refl, sym, ap, ◌∙◌, subst, Result, Some, None, Option, nat_lt}
-use Rattle.std.specs.Prelude.{option_map}
+use Rattle.std.specs.Prelude.{All, Ok, Err, option_map}
+use Rattle.std.proofs.lemmas.List.Elements.{All-nil, All-cons, All-map}
 use Rattle.dpl_syntax.specs.declared.place.Place.{Place}
 use Rattle.dpl_history.specs.declared.cell.CellState.TheVariants.{Empty, Full}
 use Rattle.dpl_range.specs.Equality.{TextRange}
 use Rattle.dpl_language.specs.Tree.{Placed, Kind, ItemTree, TypeTree, ScalarType, SyncType, DomainType, ArrayType, ArrayTypeTree, InitTree, ItemInit, CreateInit, InitialTree, DeclareTree}
 use Rattle.dpl_language.specs.Values.{Value, Int, Domain, Index, ranges_in, default, kept_number, Fault, fault, Budget, ArrayTooLarge}
 use Rattle.dpl_language.specs.Ranges.{indices_in, size_in, too_large, empty_domain}
-use Rattle.dpl_language.specs.Outcome.{Run, with_value, unless, naming_value}
+use Rattle.dpl_language.specs.Outcome.{Run, with_ok, with_value, unless, naming_value}
 use Rattle.dpl_language.specs.Environment.{Content, Plain, CellOf, Environment, Limits}
 use Rattle.dpl_language.specs.Phrases.{declared_over}
 use Rattle.dpl_language.specs.Expressions.{item_of, whole_item}
 use Rattle.dpl_language.specs.Declarations.{gathered, filled, Shell, array_with, type_of, declaring, initial_then, declare_with, array_of_item, array_of_init, array_of, declare_array, declare_typed, given_or, declare_by, declare}
 use Rattle.dpl_language.specs.Renamed.{renamed, renamed_item, renamed_items, renamed_array_type, renamed_type, renamed_init, renamed_initial, renamed_declare, renamed_content}
-use Rattle.dpl_language.specs.Scopes.{Sort, PlainSort, ArraySort, CellSort, sort_of, sort_by, Scoping, side_by, fits_items, fits_side, fits_whole_side, fits_type, fits_init, fits_initial, fits_given, holds_each, suits_init, suits_initial, suits_declared, fits_declare}
+use Rattle.dpl_language.specs.Scopes.{Sort, PlainSort, ArraySort, CellSort, sort_of, sort_by, Scoping, side_by, fits_items, fits_side, fits_whole_side, fits_type, fits_init, fits_initial, fits_given, holds_each, holds_arrays, suits_elements, suits_array, suits_init, suits_initial, suits_declared, fits_declare}
 use Rattle.dpl_language.specs.Agreement.{Simulates, EndsAlike, RunAlike}
-use Rattle.dpl_language.proofs.RunsAlike.{with_ok-same, with_value-alike, unless-alike}
+use Rattle.dpl_language.proofs.RunsAlike.{All-every, with_ok-same, with_value-alike, with_value-alike_by, unless-alike}
 use Rattle.dpl_language.proofs.RenamedParts.{declared_over-renamed, type_of-renamed}
 use Rattle.dpl_language.proofs.ExpressionsAlike.{fits_item-once, item_of-renamed, domain_of-renamed, whole_item-renamed}
 use Rattle.dpl_language.proofs.AssignmentsAlike.{evaluated-alike_by, evaluated-alike}
@@ -67,60 +68,89 @@ module _ {M N G S1 S2 : Type 0} (limits : Limits) (name : N → M) (scoping : Sc
       (λ v. declaring-alike x (CellOf k (Full (kept_number v))) CellSort g refl d (h (CellOf k (Full (kept_number v))) refl)) s1 s2 done r
 
   -- ARRAYS
+  -- the name may hold each array of this shell whose elements it may hold, whatever the domain
+  abbrev HoldsArray : Placed N → Shell N → Type 0
+  HoldsArray x a = holds_arrays scoping x.name a.over a.kind
+
   abbrev renamed_shell : Shell N → Shell M
   renamed_shell a = record { over = option_map name a.over; kind = a.kind; ranges = a.ranges }
 
-  array_of_item-alike : (x : Placed N) (a : Shell N) (at : Place) (item : ItemTree N) (o : Option (List TextRange)) (g : G) → fits_whole_side scoping item g → scoping.declares x.name (ArraySort a.over) g → holds_each scoping x.name (ArraySort a.over)
+  -- an array of one value, and of the values that are gathered
+  filled-held : (x : Placed N) (v : Value) (rs : List TextRange) → scoping.holds x.name (Plain v) → All (λ v. scoping.holds x.name (Plain v)) (filled v rs)
+  filled-held x v rs h = All-map (λ v. scoping.holds x.name (Plain v)) (λ t. v) (indices_in rs) (All-every (λ t. scoping.holds x.name (Plain v)) (λ t. h) (indices_in rs))
+
+  gathered-held : (x : Placed N) (value : Index → Result Value Fault) → ((t : Index) (v : Value) → value t ≡ Ok v → scoping.holds x.name (Plain v)) → (ts : List Index) (vs : List Value)
+      → gathered value ts ≡ Ok vs → All (λ v. scoping.holds x.name (Plain v)) vs
+  gathered-held x value p [] vs e =
+      let none : [] ≡ vs = cc in
+      subst (λ vs. All (λ v. scoping.holds x.name (Plain v)) vs) none (All-nil (λ v. scoping.holds x.name (Plain v)))
+  gathered-held x value p (t ∷ ts) vs e = by (value t) (p t) (gathered value ts) (gathered-held x value p ts) e
+    where
+      by : (r : Result Value Fault) → ((v : Value) → r ≡ Ok v → scoping.holds x.name (Plain v)) → (q : Result (List Value) Fault)
+          → ((vs : List Value) → q ≡ Ok vs → All (λ v. scoping.holds x.name (Plain v)) vs)
+          → with_ok (naming_value t r) (λ v. with_ok q (λ vs. Ok (v ∷ vs))) ≡ Ok vs → All (λ v. scoping.holds x.name (Plain v)) vs
+      by (Ok v) h (Ok ws) hs e =
+          let same : v ∷ ws ≡ vs = cc in
+          subst (λ vs. All (λ v. scoping.holds x.name (Plain v)) vs) same (All-cons (λ v. scoping.holds x.name (Plain v)) v ws (h v refl) (hs ws refl))
+      by (Ok v) h (Err f) hs e = cc
+      by (Err f) h q hs e = cc
+
+  array_of_item-alike : (x : Placed N) (a : Shell N) (at : Place) (item : ItemTree N) (o : Option (List TextRange)) (g : G) → fits_whole_side scoping item g → scoping.declares x.name (ArraySort a.over) g → HoldsArray x a → scoping.suits x.name item g
       → RunAlike (R g) (R (scoping.add x.name (ArraySort a.over) g)) (array_of_item limits first (renamed name x) (renamed_shell a) at (renamed_item name item) o) (array_of_item limits second x a at item o)
-  array_of_item-alike x a at item None g f d h s1 s2 done r =
-      evaluated-alike limits name scoping first second R sim item g (scoping.add x.name (ArraySort a.over) g) _ _ (fits_item-once scoping [] item g (f.0 []), f.1)
-      (λ v. unless-alike (nat_lt limits.budget (size_in a.ranges)) (fault Budget at) (R g) (R (scoping.add x.name (ArraySort a.over) g)) _ _
-      (declaring-alike x (array_with a (filled v a.ranges)) (ArraySort a.over) g refl d (h (array_with a (filled v a.ranges)) refl))) s1 s2 done r
-  array_of_item-alike x a at item (Some arrays) g f d h s1 s2 done r =
+  array_of_item-alike x a at item None g f d h k s1 s2 done r =
+      evaluated-alike_by limits name scoping first second R sim item g (scoping.add x.name (ArraySort a.over) g) _ _ (fits_item-once scoping [] item g (f.0 []), f.1)
+      (λ v u1 u2 q m. unless-alike (nat_lt limits.budget (size_in a.ranges)) (fault Budget at) (R g) (R (scoping.add x.name (ArraySort a.over) g)) _ _
+      (declaring-alike x (array_with a (filled v a.ranges)) (ArraySort a.over) g refl d
+      (h a.ranges (filled v a.ranges) (filled-held x v a.ranges (sim.suited x.name item v g u1 u2 q k m))))) s1 s2 done r
+  array_of_item-alike x a at item (Some arrays) g f d h k s1 s2 done r =
       unless-alike (nat_lt limits.budget (size_in a.ranges)) (fault Budget at) (R g) (R (scoping.add x.name (ArraySort a.over) g))
       (λ s done. with_value (gathered (λ t. item_of limits first (renamed_item name item) (Some t) s) (indices_in a.ranges)) (λ vs. declaring limits first (renamed name x) (array_with (renamed_shell a) vs)) s done)
       (λ s done. with_value (gathered (λ t. item_of limits second item (Some t) s) (indices_in a.ranges)) (λ vs. declaring limits second x (array_with a vs)) s done)
-      (λ s1 s2 done r. with_value-alike (R (scoping.add x.name (ArraySort a.over) g)) _ _ _ _ s1 s2 done
+      (λ s1 s2 done r. with_value-alike_by (R (scoping.add x.name (ArraySort a.over) g)) _ _ _ _ s1 s2 done
       (gathered-same _ _ (indices_in a.ranges) (λ t. item_of-renamed limits name scoping first second R sim item (Some t) g s1 s2 r (f.0 t)))
-      (λ vs. declaring-alike x (array_with a vs) (ArraySort a.over) g refl d (h (array_with a vs) refl) s1 s2 done r)) s1 s2 done r
+      (λ vs e. declaring-alike x (array_with a vs) (ArraySort a.over) g refl d
+      (h a.ranges vs (gathered-held x (λ t. item_of limits second item (Some t) s2) (λ t v m. sim.suited_initial x.name a.over item t v g s1 s2 r k d m) (indices_in a.ranges) vs e)) s1 s2 done r))
+      s1 s2 done r
 
-  array_of_init-alike : (x : Placed N) (a : Shell N) (at : Place) (i : InitTree N) (g : G) → fits_init scoping (fits_whole_side scoping) i g → scoping.declares x.name (ArraySort a.over) g → holds_each scoping x.name (ArraySort a.over)
+  array_of_init-alike : (x : Placed N) (a : Shell N) (at : Place) (i : InitTree N) (g : G) → fits_init scoping (fits_whole_side scoping) i g → scoping.declares x.name (ArraySort a.over) g → HoldsArray x a → suits_elements scoping x.name a.kind i g
       → RunAlike (R g) (R (scoping.add x.name (ArraySort a.over) g)) (array_of_init limits first (renamed name x) (renamed_shell a) at (renamed_init name i)) (array_of_init limits second x a at i)
-  array_of_init-alike x a at (ItemInit item mapped) g f d h s1 s2 done r =
+  array_of_init-alike x a at (ItemInit item mapped) g f d h k s1 s2 done r =
       subst (λ o. EndsAlike (R (scoping.add x.name (ArraySort a.over) g)) (array_of_init limits first (renamed name x) (renamed_shell a) at (renamed_init name (ItemInit item mapped)) s1 done)
       (array_of_item limits second x a at item o s2 done))
       (whole_item-renamed limits name scoping first second R sim item (Some []) g s1 s2 r (f.0 []))
-      (array_of_item-alike x a at item (whole_item limits first (renamed_item name item) s1) g f d h s1 s2 done r)
-  array_of_init-alike x a at (CreateInit c) g f d h s1 s2 done r =
-      declaring-alike x (array_with a (filled (default a.kind) a.ranges)) (ArraySort a.over) g refl d (h (array_with a (filled (default a.kind) a.ranges)) refl) s1 s2 done r
+      (array_of_item-alike x a at item (whole_item limits first (renamed_item name item) s1) g f d h k s1 s2 done r)
+  array_of_init-alike x a at (CreateInit c) g f d h k s1 s2 done r =
+      declaring-alike x (array_with a (filled (default a.kind) a.ranges)) (ArraySort a.over) g refl d
+      (h a.ranges (filled (default a.kind) a.ranges) (filled-held x (default a.kind) a.ranges k)) s1 s2 done r
 
-  array_of-alike : (x : Placed N) (a : Shell N) (i : Option (InitialTree N)) (g : G) → fits_initial scoping (fits_whole_side scoping) i g → scoping.declares x.name (ArraySort a.over) g → holds_each scoping x.name (ArraySort a.over)
+  array_of-alike : (x : Placed N) (a : Shell N) (i : Option (InitialTree N)) (g : G) → fits_initial scoping (fits_whole_side scoping) i g → scoping.declares x.name (ArraySort a.over) g → HoldsArray x a → suits_array scoping x.name a.kind i g
       → RunAlike (R g) (R (scoping.add x.name (ArraySort a.over) g)) (array_of limits first (renamed name x) (renamed_shell a) (option_map (renamed_initial name) i)) (array_of limits second x a i)
-  array_of-alike x a None g f d h s1 s2 done r =
-      declaring-alike x (array_with a (filled (default a.kind) a.ranges)) (ArraySort a.over) g refl d (h (array_with a (filled (default a.kind) a.ranges)) refl) s1 s2 done r
-  array_of-alike x a (Some i) g f d h s1 s2 done r = array_of_init-alike x a i.equals i.init g f d h s1 s2 done r
+  array_of-alike x a None g f d h k s1 s2 done r =
+      declaring-alike x (array_with a (filled (default a.kind) a.ranges)) (ArraySort a.over) g refl d
+      (h a.ranges (filled (default a.kind) a.ranges) (filled-held x (default a.kind) a.ranges k)) s1 s2 done r
+  array_of-alike x a (Some i) g f d h k s1 s2 done r = array_of_init-alike x a i.equals i.init g f d h k s1 s2 done r
 
   -- an array's declaration, over the names that the renamed items are over
-  made-alike : (x : Placed N) (a : ArrayTypeTree N) (v : Value) (i : Option (InitialTree N)) (g : G) → fits_initial scoping (fits_whole_side scoping) i g → scoping.declares x.name (ArraySort (declared_over a.over)) g → holds_each scoping x.name (ArraySort (declared_over a.over))
+  made-alike : (x : Placed N) (a : ArrayTypeTree N) (v : Value) (i : Option (InitialTree N)) (g : G) → fits_initial scoping (fits_whole_side scoping) i g → scoping.declares x.name (ArraySort (declared_over a.over)) g → holds_arrays scoping x.name (declared_over a.over) a.kind → suits_array scoping x.name a.kind i g
       → RunAlike (R g) (R (scoping.add x.name (ArraySort (declared_over a.over)) g))
       (unless (too_large (ranges_in v)) (fault ArrayTooLarge x.at)
       (array_of limits first (renamed name x) (record { over = declared_over (renamed_items name a.over); kind = a.kind; ranges = ranges_in v }) (option_map (renamed_initial name) i)))
       (unless (too_large (ranges_in v)) (fault ArrayTooLarge x.at)
       (array_of limits second x (record { over = declared_over a.over; kind = a.kind; ranges = ranges_in v }) i))
-  made-alike x a v i g f d h =
+  made-alike x a v i g f d h k =
       unless-alike (too_large (ranges_in v)) (fault ArrayTooLarge x.at) (R g) (R (scoping.add x.name (ArraySort (declared_over a.over)) g)) _ _
       (λ s1 s2 done r.
       subst (λ over. EndsAlike (R (scoping.add x.name (ArraySort (declared_over a.over)) g))
       (array_of limits first (renamed name x) (record { over = over; kind = a.kind; ranges = ranges_in v }) (option_map (renamed_initial name) i) s1 done)
       (array_of limits second x (record { over = declared_over a.over; kind = a.kind; ranges = ranges_in v }) i s2 done))
       (sym (declared_over-renamed name a.over))
-      (array_of-alike x (record { over = declared_over a.over; kind = a.kind; ranges = ranges_in v }) i g f d h s1 s2 done r))
+      (array_of-alike x (record { over = declared_over a.over; kind = a.kind; ranges = ranges_in v }) i g f d h k s1 s2 done r))
 
-  declare_array-alike : (x : Placed N) (a : ArrayTypeTree N) (i : Option (InitialTree N)) (g : G) → fits_items scoping a.over g → fits_initial scoping (fits_whole_side scoping) i g → scoping.declares x.name (ArraySort (declared_over a.over)) g → holds_each scoping x.name (ArraySort (declared_over a.over))
+  declare_array-alike : (x : Placed N) (a : ArrayTypeTree N) (i : Option (InitialTree N)) (g : G) → fits_items scoping a.over g → fits_initial scoping (fits_whole_side scoping) i g → scoping.declares x.name (ArraySort (declared_over a.over)) g → holds_arrays scoping x.name (declared_over a.over) a.kind → suits_array scoping x.name a.kind i g
       → RunAlike (R g) (R (scoping.add x.name (ArraySort (declared_over a.over)) g)) (declare_array limits first (renamed name x) (renamed_array_type name a) (option_map (renamed_initial name) i)) (declare_array limits second x a i)
-  declare_array-alike x a i g e f d h s1 s2 done r =
+  declare_array-alike x a i g e f d h k s1 s2 done r =
       with_value-alike (R (scoping.add x.name (ArraySort (declared_over a.over)) g)) _ _ _ _ s1 s2 done (domain_of-renamed limits name scoping first second R sim a.from a.over g s1 s2 r e)
-      (λ v. made-alike x a v i g f d h s1 s2 done r)
+      (λ v. made-alike x a v i g f d h k s1 s2 done r)
 
   -- BY ITS TYPE
   declare_typed-alike : (x : Placed N) (type : Option (TypeTree N)) (i : Option (InitialTree N)) (g : G) → fits_type scoping type g → fits_initial scoping (side_by scoping type) i g → scoping.declares x.name (sort_by type) g → suits_declared scoping x.name type i g
@@ -129,7 +159,7 @@ module _ {M N G S1 S2 : Type 0} (limits : Limits) (name : N → M) (scoping : Sc
   declare_typed-alike x (Some (ScalarType at k)) i g e f d h = declare_plain-alike x (default k) i g f d h
   declare_typed-alike x (Some (SyncType at kind_at k)) i g e f d h = declare_cell-alike x k i g f d h
   declare_typed-alike x (Some (DomainType t)) i g e f d h = declare_plain-alike x (Domain (empty_domain t.rank)) i g f d h
-  declare_typed-alike x (Some (ArrayType a)) i g e f d h = declare_array-alike x a i g e f d h
+  declare_typed-alike x (Some (ArrayType a)) i g e f d h = declare_array-alike x a i g e f d h.0 h.1
 
   -- a `config const`
   given_or-alike : (x : Placed N) (o : Option Value) (sort : Sort N) (g : G) (go1 : Run S1) (go2 : Run S2) → scoping.declares x.name PlainSort g → scoping.add x.name PlainSort g ≡ scoping.add x.name sort g → ((v : Value) → o ≡ Some v → scoping.holds x.name (Plain v))

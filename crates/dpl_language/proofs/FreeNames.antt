@@ -2,14 +2,14 @@
 -- For environments that agree of all names, wherever they stand.
 use Rattle.std.proofs.Common.{pos, List, [], ◌∷◌, refl, Some, None, Option}
 use Rattle.dpl_syntax.specs.declared.place.Place.{Place}
-use Rattle.dpl_language.specs.Tree.{Placed, ExprTree, Number, TruthWord, Named, LocalesWord, LocaleCount, HereWord, Grouped, DomainLiteral, Prefixed, Reduced, Chain, Postfixed, ItemTree, One, RangeItem, Stride, NoStride, By, Links, NoLinks, Link, Posts, NoPosts, Post, PostTree, Brackets, Rounds, Dotted, MethodTree, Plainly, Dim, Contains, Expand, CellRead, Items, FirstItem, MoreItems, NoItems, NextItem, Exprs, FirstExpr, MoreExprs, NoExprs, NextExpr}
+use Rattle.dpl_language.specs.Tree.{Placed, Kind, ExprTree, Number, TruthWord, Named, LocalesWord, LocaleCount, HereWord, Grouped, DomainLiteral, Prefixed, Reduced, Chain, Postfixed, ItemTree, One, RangeItem, Stride, NoStride, By, Links, NoLinks, Link, Posts, NoPosts, Post, PostTree, Brackets, Rounds, Dotted, MethodTree, Plainly, Dim, Contains, Expand, CellRead, Items, FirstItem, MoreItems, NoItems, NextItem, Exprs, FirstExpr, MoreExprs, NoExprs, NextExpr}
 use Rattle.dpl_language.specs.Tree.{TypeTree, ScalarType, SyncType, DomainType, ArrayType, InitTree, ItemInit, CreateInit, InitialTree, DeclareTree, ArgumentTree, TextArgument, ExprArgument, VariablesTree, OneVariable, ManyVariables, TargetTree, Whole, Element, CallTree, ReadCall, ResetCall, WriteCall, StmtTree, Nothing, Declare, Assigned, Call, Write, Block, If, While, For, Forall, Coforall, On, Body, WordBody, BlockBody, Stmts, NoStmts, Then, Else, NoElse, ElseDo}
 use Rattle.dpl_language.specs.Values.{Value, Int, Domain, Index, default}
 use Rattle.dpl_language.specs.Ranges.{empty_domain}
 use Rattle.dpl_language.specs.Phrases.{Base, BaseName, BaseLocales, OtherBase, base_of, bare_name, ReadTree, item_read, parts}
 use Rattle.dpl_language.specs.Declarations.{type_of}
 use Rattle.dpl_language.specs.Writing.{arguments_of}
-use Rattle.dpl_language.specs.Scopes.{Sort, sort_by, Scoping, IsLawful, items_in, fits_name, fits_element, fits_expr, fits_item, fits_stride, fits_links, fits_posts, fits_post, fits_method, fits_items, fits_more_items, fits_exprs, fits_more_exprs, fits_read, fits_side, fits_whole_side, fits_type, side_by, fits_init, fits_initial, fits_given, suits_init, suits_initial, suits_declared, fits_declare, fits_target, side_for, suits_target, fits_call, fits_shown, fits_arguments, fits_each, fits_variables, holds_ints, suits_turns, fits, fits_body, fits_all, fits_else}
+use Rattle.dpl_language.specs.Scopes.{Sort, sort_by, Scoping, IsLawful, items_in, fits_name, fits_element, fits_expr, fits_item, fits_stride, fits_links, fits_posts, fits_post, fits_method, fits_items, fits_more_items, fits_exprs, fits_more_exprs, fits_read, fits_side, fits_whole_side, fits_type, side_by, fits_init, fits_initial, fits_given, suits_init, suits_initial, suits_elements, suits_array, suits_declared, fits_declare, fits_target, side_for, suits_target, fits_call, fits_shown, fits_arguments, fits_each, fits_variables, holds_ints, suits_turns, fits, fits_body, fits_all, fits_else}
 
 -- any name may be used in any way, and nothing is kept of what is in sight
 abbrev pub anything : {N : Type 0} → Scoping N (Unit {0})
@@ -150,12 +150,20 @@ module _ {N : Type 0} where
   initial_suits x v None = tt
   initial_suits x v (Some i) = init_suits x i.init
 
+  elements_suit : (x : N) (k : Kind) (i : InitTree N) → suits_elements anything x k i tt
+  elements_suit x k (ItemInit item mapped) = tt
+  elements_suit x k (CreateInit c) = tt
+
+  array_suits : (x : N) (k : Kind) (i : Option (InitialTree N)) → suits_array anything x k i tt
+  array_suits x k None = tt
+  array_suits x k (Some i) = elements_suit x k i.init
+
   declared_suits : (x : N) (t : Option (TypeTree N)) (i : Option (InitialTree N)) → suits_declared anything x t i tt
   declared_suits x None i = initial_suits x (Int (pos 0)) i
   declared_suits x (Some (ScalarType at k)) i = initial_suits x (default k) i
   declared_suits x (Some (SyncType at kind_at k)) i = λ c e. tt
   declared_suits x (Some (DomainType d)) i = initial_suits x (Domain (empty_domain d.rank)) i
-  declared_suits x (Some (ArrayType a)) i = λ c e. tt
+  declared_suits x (Some (ArrayType a)) i = (λ rs vs h. tt, array_suits x a.kind i)
 
   declare_fits : (d : DeclareTree N) → fits_declare anything d tt
   declare_fits d =
@@ -163,7 +171,7 @@ module _ {N : Type 0} where
 
   target_fits : (t : TargetTree N) (op : _) → fits_target anything t op tt
   target_fits (Whole x) op = (tt, λ t. (tt, tt))
-  target_fits (Element x shape from es upto) op = (exprs_fit es, tt, tt)
+  target_fits (Element x shape from es upto) op = (exprs_fit es, tt, tt, tt)
 
   side_for_fits : (t : TargetTree N) (i : ItemTree N) → side_for anything t i tt
   side_for_fits (Whole x) i = whole_side_fits i

@@ -279,12 +279,15 @@ module _ (f : Text → Text) (same : (x y : Text) → bytes_eq (f x) (f y) ≡ b
     updates = λ x op v g s1 s2 r a h. then_so (by_name.update (f x) op v) (by_name.update x op v) (update_of_name x op v) s1 s2 r;
     elements_at = λ x t g s1 s2 r a. ap (by_name.element (f x) t) r ∙ element_of_name x t s2;
     elements = λ x items vs g s1 s2 r a e. ap (by_name.element (f x) (index_of vs)) r ∙ element_of_name x (index_of vs) s2;
-    puts_at = λ x t v g s1 s2 r a. then_so (by_name.put_element (f x) t v) (by_name.put_element x t v) (put_of_name x t v) s1 s2 r;
-    puts = λ x items vs v g s1 s2 r a e. then_so (by_name.put_element (f x) (index_of vs) v) (by_name.put_element x (index_of vs) v) (put_of_name x (index_of vs) v) s1 s2 r;
+    puts_at = λ x t v g s1 s2 r a h. then_so (by_name.put_element (f x) t v) (by_name.put_element x t v) (put_of_name x t v) s1 s2 r;
+    puts = λ x items vs v g s1 s2 r a e h. then_so (by_name.put_element (f x) (index_of vs) v) (by_name.put_element x (index_of vs) v) (put_of_name x (index_of vs) v) s1 s2 r;
     declares = λ x c g s1 s2 r a h. then_so (by_name.declare (f x) (respelled c)) (by_name.declare x c)
         (λ s. ap (λ t. record (respelled_state s) { store = t }) (declare_in-respelled x c s.store)) s1 s2 r;
     gives = λ x g s1 s2 r a. ap (by_name.given (f x)) r ∙ paired-sets x s2.sets;
     suited = λ x item v g s1 s2 r a e. tt;
+    suited_turn = λ x item t v g s1 s2 r f w e. tt;
+    suited_initial = λ x over item t v g s1 s2 r f d e. tt;
+    changed = λ x op t old w g s1 s2 r f e h. tt;
     turned = λ x item over g s1 s2 r a e k d lt. tt;
     given_holds = λ x v g s1 s2 r a e. tt;
     enters = λ g s1 s2 r. ap by_name.enter r;

@@ -334,11 +334,14 @@ module _ (names : ℕ → Text) where
     updates = λ x op v g s1 s2 r f h. update_alike x op v g s1 s2 r f.0 f.1;
     elements_at = λ x t g s1 s2 r f. ap (element_in t) (held x g s1 s2 r f);
     elements = λ x items vs g s1 s2 r f e. ap (element_in (index_of vs)) (held x g s1 s2 r f);
-    puts_at = λ x t v g s1 s2 r f. put_alike x t v g s1 s2 r f;
-    puts = λ x items vs v g s1 s2 r f e. put_alike x (index_of vs) v g s1 s2 r f;
+    puts_at = λ x t v g s1 s2 r f h. put_alike x t v g s1 s2 r f;
+    puts = λ x items vs v g s1 s2 r f e h. put_alike x (index_of vs) v g s1 s2 r f;
     declares = λ x c g s1 s2 r f h. declare_alike x c g s1 s2 r f.0 f.1;
     gives = λ x g s1 s2 r f. ap (paired x.text) r.sets;
     suited = λ x item v g s1 s2 r f e. tt;
+    suited_turn = λ x item t v g s1 s2 r f w e. tt;
+    suited_initial = λ x over item t v g s1 s2 r f d e. tt;
+    changed = λ x op t old w g s1 s2 r f e h. tt;
     turned = λ x item over g s1 s2 r f e k d lt. tt;
     given_holds = λ x v g s1 s2 r f e. tt;
     enters = λ g s1 s2 r. record {

@@ -51,11 +51,14 @@ module _ {M N S : Type 0} (limits : Limits) (f : N → M) (env : Environment M S
     updates = λ x op v g s1 s2 r a h. ap (env.update (f x) op v) r;
     elements_at = λ x t g s1 s2 r a. ap (env.element (f x) t) r;
     elements = λ x items vs g s1 s2 r a e. ap (env.element (f x) (index_of vs)) r;
-    puts_at = λ x t v g s1 s2 r a. ap (env.put_element (f x) t v) r;
-    puts = λ x items vs v g s1 s2 r a e. ap (env.put_element (f x) (index_of vs) v) r;
+    puts_at = λ x t v g s1 s2 r a h. ap (env.put_element (f x) t v) r;
+    puts = λ x items vs v g s1 s2 r a e h. ap (env.put_element (f x) (index_of vs) v) r;
     declares = λ x c g s1 s2 r a h. ap (env.declare (f x) (renamed_content f c)) r;
     gives = λ x g s1 s2 r a. ap (env.given (f x)) r;
     suited = λ x item v g s1 s2 r a e. tt;
+    suited_turn = λ x item t v g s1 s2 r f w e. tt;
+    suited_initial = λ x over item t v g s1 s2 r f d e. tt;
+    changed = λ x op t old w g s1 s2 r f e h. tt;
     turned = λ x item over g s1 s2 r a e k d lt. tt;
     given_holds = λ x v g s1 s2 r a e. tt;
     enters = λ g s1 s2 r. ap env.enter r;

@@ -7,6 +7,7 @@ use Rattle.dpl_history.specs.declared.history.Event.{Event}
 use Rattle.dpl_range.specs.Equality.{TextRange}
 use Rattle.dpl_language.specs.Tree.{Op, Assign, ItemTree, Items}
 use Rattle.dpl_language.specs.Values.{Value, Index, index_of, array_domain, is_domain, cell_kind}
+use Rattle.dpl_language.specs.Arithmetic.{assigned}
 use Rattle.dpl_language.specs.Ranges.{indices_in, loop_ranges, loop_value}
 use Rattle.dpl_language.specs.Outcome.{Deeds, Outcome, Done, Stop, Waits, Run}
 use Rattle.dpl_language.specs.Environment.{Content, Plain, Answer, Replied, Unanswered, Environment, Limits}
@@ -14,7 +15,7 @@ use Rattle.dpl_language.specs.Phrases.{ReadTree, item_read}
 use Rattle.dpl_language.specs.Expressions.{item_of, items_of}
 use Rattle.dpl_language.specs.Assignments.{reply_value}
 use Rattle.dpl_language.specs.Renamed.{renamed_content, renamed_intents}
-use Rattle.dpl_language.specs.Scopes.{Scoping, IsLawful, sort_of}
+use Rattle.dpl_language.specs.Scopes.{Scoping, IsLawful, ArraySort, sort_of}
 
 -- the same answer to an operation, with related states behind it
 abbrev pub AnswersAlike : {S1 S2 : Type 0} → (S1 → S2 → Type 0) → Answer S1 → Answer S2 → Type 0
@@ -33,7 +34,12 @@ MayBe limits env item = MayRead limits env (item_read item) item
 abbrev pub WasDomain : {N G S1 S2 : Type 0} → Environment N S2 → (G → S1 → S2 → Type 0) → N → G → Type 0
 WasDomain {S1 = S1} {S2 = S2} second R x g = (s1 : S1) × (s2 : S2) × R g s1 s2 × (is_domain (second.get x s2) ≡ true)
 
--- One law for each field of the record of variables, and three more by which a name holds what it may: an environment
+-- in a state before, a name was a whole array
+abbrev pub WasArray : {N G S1 S2 : Type 0} → Environment N S2 → (G → S1 → S2 → Type 0) → N → G → Type 0
+WasArray {S1 = S1} {S2 = S2} second R x g =
+    (s1 : S1) × (s2 : S2) × R g s1 s2 × ((rs : List TextRange) × (array_domain (second.get x s2) ≡ Some rs))
+
+-- One law for each field of the record of variables, and some more by which a name holds what it may: an environment
 -- that keeps variables of each kind in its own way need agree only where each holds a value of its kind. R relates the
 -- states of the two where a g is in sight; `name` gives the first one's name for each name of the second. What a law asks
 -- of a name is what `fits` asks of a tree.
@@ -58,10 +64,10 @@ pub record Simulates {M N G S1 S2 : Type 0} (limits : Limits) (name : N → M) (
       → first.element (name x) t s1 ≡ second.element x t s2
   pub elements : (x : N) (items : Items N) (vs : List Value) (g : G) (s1 : S1) (s2 : S2) → R g s1 s2 → scoping.reads_element x items g
       → items_of limits second items s2 ≡ Ok vs → first.element (name x) (index_of vs) s1 ≡ second.element x (index_of vs) s2
-  pub puts_at : (x : N) (t : Index) (v : Value) (g : G) (s1 : S1) (s2 : S2) → R g s1 s2 → scoping.assigns_at x t g
+  pub puts_at : (x : N) (t : Index) (v : Value) (g : G) (s1 : S1) (s2 : S2) → R g s1 s2 → scoping.assigns_at x t g → scoping.holds x (Plain v)
       → R g (first.put_element (name x) t v s1) (second.put_element x t v s2)
   pub puts : (x : N) (items : Items N) (vs : List Value) (v : Value) (g : G) (s1 : S1) (s2 : S2) → R g s1 s2 → scoping.assigns_element x items g
-      → items_of limits second items s2 ≡ Ok vs → R g (first.put_element (name x) (index_of vs) v s1) (second.put_element x (index_of vs) v s2)
+      → items_of limits second items s2 ≡ Ok vs → scoping.holds x (Plain v) → R g (first.put_element (name x) (index_of vs) v s1) (second.put_element x (index_of vs) v s2)
   -- declarations
   pub declares : (x : N) (c : Content N) (g : G) (s1 : S1) (s2 : S2) → R g s1 s2 → scoping.declares x (sort_of c) g → scoping.holds x c
       → R (scoping.add x (sort_of c) g) (first.declare (name x) (renamed_content name c) s1) (second.declare x c s2)
@@ -69,6 +75,14 @@ pub record Simulates {M N G S1 S2 : Type 0} (limits : Limits) (name : N → M) (
   -- a name holds what it may: a right side's value, those of a loop's turns, and what the command line gives
   pub suited : (x : N) (item : ItemTree N) (v : Value) (g : G) (s1 : S1) (s2 : S2) → R g s1 s2 → scoping.suits x item g
       → MayBe limits second item s2 v → scoping.holds x (Plain v)
+  -- the elements of a whole array too: a right side's value in a turn, assigned and as an initial value; and what an
+  -- assignment makes of an element
+  pub suited_turn : (x : N) (item : ItemTree N) (t : Index) (v : Value) (g : G) (s1 : S1) (s2 : S2) → R g s1 s2 → scoping.suits x item g → WasArray second R x g
+      → item_of limits second item (Some t) s2 ≡ Ok v → scoping.holds x (Plain v)
+  pub suited_initial : (x : N) (over : Option N) (item : ItemTree N) (t : Index) (v : Value) (g : G) (s1 : S1) (s2 : S2) → R g s1 s2 → scoping.suits x item g → scoping.declares x (ArraySort over) g
+      → item_of limits second item (Some t) s2 ≡ Ok v → scoping.holds x (Plain v)
+  pub changed : (x : N) (op : Assign) (t : Index) (old w : Value) (g : G) (s1 : S1) (s2 : S2) → R g s1 s2 → scoping.assigns x op g
+      → second.element x t s2 ≡ Some old → scoping.holds x (Plain w) → scoping.holds x (Plain (assigned op None old w))
   pub turned : (x : N) (item : ItemTree N) (over : Value) (g : G) (s1 : S1) (s2 : S2) → R g s1 s2 → scoping.turns x item g
       → item_of limits second item None s2 ≡ Ok over → All (λ t. scoping.holds x (Plain (loop_value over t))) (indices_in (loop_ranges limits.locales over))
   pub given_holds : (x : N) (v : Value) (g : G) (s1 : S1) (s2 : S2) → R g s1 s2 → scoping.gives x g → second.given x s2 ≡ Some v → scoping.holds x (Plain v)

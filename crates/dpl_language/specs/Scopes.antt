@@ -1,8 +1,9 @@
 -- Which names a tree may use where, over any way to keep what is in sight.
 -- A tree fits where each of its names is read, assigned, called and declared as that way allows, and holds what it may.
-use Rattle.std.specs.Prelude.{◌≡◌, ℤ, pos, Option, Some, None, List, [], ◌∷◌}
+use Rattle.std.specs.Prelude.{◌≡◌, ℤ, pos, All, Option, Some, None, List, [], ◌∷◌}
 use Rattle.dpl_syntax.specs.declared.place.Place.{Place}
-use Rattle.dpl_language.specs.Tree.{Placed, Op, Assign, ExprTree, Number, TruthWord, Named, LocalesWord, LocaleCount, HereWord, Grouped, DomainLiteral, Prefixed, Reduced, Chain, Postfixed, ItemTree, One, RangeItem, Stride, NoStride, By, Links, NoLinks, Link, Posts, NoPosts, Post, PostTree, Brackets, Rounds, Dotted, MethodTree, Plainly, Dim, Contains, Expand, CellRead, Items, FirstItem, MoreItems, NoItems, NextItem, Exprs, FirstExpr, MoreExprs, NoExprs, NextExpr}
+use Rattle.dpl_range.specs.Equality.{TextRange}
+use Rattle.dpl_language.specs.Tree.{Placed, Op, Assign, Kind, ExprTree, Number, TruthWord, Named, LocalesWord, LocaleCount, HereWord, Grouped, DomainLiteral, Prefixed, Reduced, Chain, Postfixed, ItemTree, One, RangeItem, Stride, NoStride, By, Links, NoLinks, Link, Posts, NoPosts, Post, PostTree, Brackets, Rounds, Dotted, MethodTree, Plainly, Dim, Contains, Expand, CellRead, Items, FirstItem, MoreItems, NoItems, NextItem, Exprs, FirstExpr, MoreExprs, NoExprs, NextExpr}
 use Rattle.dpl_language.specs.Tree.{TypeTree, ScalarType, SyncType, DomainType, ArrayType, InitTree, ItemInit, CreateInit, InitialTree, DeclareTree, ArgumentTree, TextArgument, ExprArgument, VariablesTree, OneVariable, ManyVariables, TargetTree, Whole, Element, CallTree, ReadCall, ResetCall, WriteCall, StmtTree, Nothing, Declare, Assigned, Call, Write, Block, If, While, For, Forall, Coforall, On, Body, WordBody, BlockBody, Stmts, NoStmts, Then, Else, NoElse, ElseDo}
 use Rattle.dpl_language.specs.Values.{Value, Int, Domain, Index, default}
 use Rattle.dpl_language.specs.Ranges.{empty_domain}
@@ -47,9 +48,11 @@ pub record Scoping (N G : Type 0) : Type 1 where
   pub declares : N → Sort N → G → Type 0
   -- the command line is asked for a name's value
   pub gives : N → G → Type 0
-  -- a name may be declared with this content, and be assigned its value
+  -- a name may be declared with this content, and be assigned its value; of a whole array a value is one that each of its
+  -- elements may be
   pub holds : N → Content N → Type 0
-  -- a name may hold the value of this right side, and in each turn of a loop over this item the value of the turn
+  -- a name may hold the value of this right side, of a whole array in whatever turn; and in each turn of a loop over this
+  -- item the value of the turn
   pub suits : N → ItemTree N → G → Type 0
   pub turns : N → ItemTree N → G → Type 0
   -- a forall with these reduce variables is run, and a coforall; and a body on a locale
@@ -191,7 +194,8 @@ module _ {N G : Type 0} (scoping : Scoping N G) where
       scoping.gives x g × scoping.declares x PlainSort g × (scoping.add x PlainSort g ≡ scoping.add x sort g)
 
   -- What a declaration makes is what its name may hold: of a plain variable its initial value, or where it has none what
-  -- its type gives; of an array, a cell and a created domain each content of that sort.
+  -- its type gives; of a cell and a created domain each content of that sort; of an array each whose elements it may hold,
+  -- and these are those of its initial value, or where it has none what its kind gives.
   abbrev pub holds_each : N → Sort N → Type 0
   holds_each x sort = (c : Content N) → sort_of c ≡ sort → scoping.holds x c
 
@@ -203,12 +207,25 @@ module _ {N G : Type 0} (scoping : Scoping N G) where
   suits_initial x v None g = scoping.holds x (Plain v)
   suits_initial x v (Some i) g = suits_init x i.init g
 
+  abbrev pub holds_arrays : N → Option N → Kind → Type 0
+  holds_arrays x over k =
+      (rs : List TextRange) (vs : List Value) → All (λ v. scoping.holds x (Plain v)) vs → scoping.holds x (ArrayOf over k rs vs)
+
+  abbrev pub suits_elements : N → Kind → InitTree N → G → Type 0
+  suits_elements x k (ItemInit item mapped) g = scoping.suits x item g
+  suits_elements x k (CreateInit c) g = scoping.holds x (Plain (default k))
+
+  abbrev pub suits_array : N → Kind → Option (InitialTree N) → G → Type 0
+  suits_array x k None g = scoping.holds x (Plain (default k))
+  suits_array x k (Some i) g = suits_elements x k i.init g
+
   abbrev pub suits_declared : N → Option (TypeTree N) → Option (InitialTree N) → G → Type 0
   suits_declared x None initial g = suits_initial x (Int (pos 0)) initial g
   suits_declared x (Some (ScalarType at k)) initial g = suits_initial x (default k) initial g
   suits_declared x (Some (SyncType at kind_at k)) initial g = holds_each x CellSort
   suits_declared x (Some (DomainType d)) initial g = suits_initial x (Domain (empty_domain d.rank)) initial g
-  suits_declared x (Some (ArrayType a)) initial g = holds_each x (ArraySort (declared_over a.over))
+  suits_declared x (Some (ArrayType a)) initial g =
+      holds_arrays x (declared_over a.over) a.kind × suits_array x a.kind initial g
 
   abbrev pub fits_declare : DeclareTree N → G → Type 0
   fits_declare d g =
@@ -223,16 +240,17 @@ module _ {N G : Type 0} (scoping : Scoping N G) where
       scoping.assigns x.name op g × ((t : Index) → scoping.reads_at x.name t g × scoping.assigns_at x.name t g)
   fits_target (Element x shape from es upto) op g =
       fits_exprs es g × scoping.reads_element x.name (items_in es) g × scoping.assigns_element x.name (items_in es) g
+      × scoping.assigns x.name op g
 
   -- a name may be that of a whole array
   abbrev pub side_for : TargetTree N → ItemTree N → G → Type 0
   side_for (Whole x) = fits_whole_side
   side_for (Element x shape from es upto) = fits_side
 
-  -- a name may hold what is assigned to it; whether it is a plain variable its value tells, and so each is asked
+  -- a name may hold what is assigned to it, or to an element of it
   abbrev pub suits_target : TargetTree N → ItemTree N → G → Type 0
   suits_target (Whole x) item g = scoping.suits x.name item g
-  suits_target (Element x shape from es upto) item g = Unit {0}
+  suits_target (Element x shape from es upto) item g = scoping.suits x.name item g
 
   abbrev pub fits_call : CallTree N → G → Type 0
   fits_call (ReadCall at w from upto) g = Unit {0}

@@ -3,8 +3,9 @@
 use Rattle.std.proofs.Common.{◌≡◌, ◌≢◌, ℕ, ◌<◌, ℤ, pos, Bool, true, false, refl, sym, ap, ◌∙◌, subst, Some, None, Option, List, length}
 use Rattle.std.specs.Prelude.{get_or, set, option_map}
 use Rattle.std.proofs.lemmas.List.{get_or-set_same, get_or-set_other, length-set}
+use Rattle.dpl_range.specs.Equality.{TextRange}
 use Rattle.dpl_language.specs.Tree.{Op, Sum, Product, AllOf, AnyOf, BitAnd, BitOr, BitXor, Least, Greatest, Assign, Set, SetAdd, SetSubtract, SetMultiply, SetDivide, SetRemainder, SetReduce}
-use Rattle.dpl_language.specs.Values.{Value, Int, Truth, Range, number, kept_number, ranges_in, is_domain}
+use Rattle.dpl_language.specs.Values.{Value, Int, Truth, Range, number, kept_number, ranges_in, array_domain, is_domain}
 use Rattle.dpl_language.specs.Arithmetic.{combined, assigned}
 use Rattle.dpl_words.specs.Words.{LeafKind, IntLeaf, TruthLeaf, RangeLeaf, Words, no_range, first_range, is_true, value_at, with_value_at, given_as}
 use Rattle.dpl_words.specs.Resolved.{IsOfKind, takes, combines, Combines}
@@ -19,6 +20,11 @@ pub value_at-no_domain : (k : LeafKind) (slot : ℕ) (s : Words) → is_domain (
 value_at-no_domain IntLeaf slot s = λ e. cc
 value_at-no_domain TruthLeaf slot s = λ e. cc
 value_at-no_domain RangeLeaf slot s = λ e. cc
+
+pub value_at-no_array : (k : LeafKind) (slot : ℕ) (s : Words) (rs : List TextRange) → array_domain (value_at k slot s) ≡ Some rs → ⊥
+value_at-no_array IntLeaf slot s rs = λ e. cc
+value_at-no_array TruthLeaf slot s rs = λ e. cc
+value_at-no_array RangeLeaf slot s rs = λ e. cc
 
 is_true-kept : (b : Bool) → is_true (kept_number (Truth b)) ≡ Truth b
 is_true-kept true = refl

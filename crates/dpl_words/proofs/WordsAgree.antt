@@ -14,7 +14,7 @@ use Rattle.dpl_language.specs.Names.{Store, State, paired, look_up, change_in, d
 use Rattle.dpl_language.specs.Program.{first_state, meaning, top_level, left, written}
 use Rattle.dpl_language.specs.Renamed.{renamed_content, renamed_intents, renamed_stmts, renamed_program}
 use Rattle.dpl_language.specs.Scopes.{sort_of, IsLawful, after_all, fits_all}
-use Rattle.dpl_language.specs.Agreement.{MayRead, WasDomain, Simulates, EndsAlike}
+use Rattle.dpl_language.specs.Agreement.{MayRead, WasDomain, WasArray, Simulates, EndsAlike}
 use Rattle.dpl_language.proofs.Slots.{Bound as SlotBound, bind as slot_bind, IsApart, set_slot, spelled, store_at, look_up-slot, change_in-slot, declare_in-slot, IsApart-bind, IsApart-without_frame, without_innermost-store_at}
 use Rattle.dpl_language.proofs.SlotsAgree.{updated, with_value_at as with_element_at, put-spelled}
 use Rattle.dpl_language.proofs.RunsAlike.{EndsAlike-weaker, settled-alike, written-alike}
@@ -23,7 +23,7 @@ use Rattle.dpl_language.proofs.ProgramsAlike.{run_from}
 use Rattle.dpl_language.proofs.Agreement.{exec_all-alike}
 use Rattle.dpl_words.specs.Words.{LeafKind, IntLeaf, Words, no_range, value_at, with_value_at, intent_at, by_slots, set_at, given_as, by_word}
 use Rattle.dpl_words.specs.Resolved.{Bound, Sight, text_of, leaf_of, outermost, left_in, frame_in, store_in, IsUnused, bind, Seen, first_seen, IsOfKind, HoldsKind, takes, Combines, IntentResolves, Resolves, Declares, Start, resolving, first_words, StandsFor}
-use Rattle.dpl_words.proofs.OfKind.{value_at-no_domain, numbers-set, ranges-set, intents-set, sets-set, given-kind, assigned-kind}
+use Rattle.dpl_words.proofs.OfKind.{value_at-no_domain, value_at-no_array, numbers-set, ranges-set, intents-set, sets-set, given-kind, assigned-kind}
 use Rattle.dpl_words.proofs.InSight.{placed, in_slots, slot_of-innermost, IsFresh-in_slots, in_slots-bind, in_slots-without_frame, without_frame-bind, IsKinded, innermost-kinded, with_kind, IsKinded-bind, IsKinded-without_frame, contents, store_at-contents, store_at-each, store_at-intend, set_slot_same, contents-set, contents-declare}
 
 -- THE RELATION: slots in sight have each one name and one kind, and stand for the store
@@ -170,6 +170,9 @@ module _ (start : Start) where
   no_domain : {A : Type 0} (x : Bound) (g : Seen) → WasDomain (through leaf_of by_word) (Kept start) x g → A
   no_domain x g w = absurd (value_at-no_domain x.leaf.kind x.leaf.slot w.1 w.3)
 
+  no_array : {A : Type 0} (x : Bound) (g : Seen) → WasArray (through leaf_of by_word) (Kept start) x g → A
+  no_array x g w = absurd (value_at-no_array x.leaf.kind x.leaf.slot w.1 w.3.0 w.3.1)
+
   -- ALL TOGETHER
   pub words_simulate : (limits : Limits) → Simulates limits text_of (resolving start) by_name (through leaf_of by_word) (Kept start)
   words_simulate limits = record {
@@ -180,12 +183,15 @@ module _ (start : Start) where
     updates = λ x op v g s1 s2 r f h. update_alike x op v g s1 s2 r f.0 f.1 f.2 h;
     elements_at = λ x t g s1 s2 r f. ap (element_in t) (held x g s1 s2 r f);
     elements = λ x items vs g s1 s2 r f e. ap (element_in (index_of vs)) (held x g s1 s2 r f);
-    puts_at = λ x t v g s1 s2 r f. put_alike x t v g s1 s2 r f;
-    puts = λ x items vs v g s1 s2 r f e. put_alike x (index_of vs) v g s1 s2 r f;
+    puts_at = λ x t v g s1 s2 r f h. put_alike x t v g s1 s2 r f;
+    puts = λ x items vs v g s1 s2 r f e h. put_alike x (index_of vs) v g s1 s2 r f;
     declares = λ x c g s1 s2 r f h. declare_alike x c g s1 s2 r f h;
     gives = λ x g s1 s2 r f. ap (paired x.text) r.texts ∙ f ∙ ap (λ ws. option_map (given_as x.leaf.kind) (set_at x.leaf.slot ws)) (sym r.words);
     suited = λ x item v g s1 s2 r f e.
         f.1 limits s2 v (sym (item_of-through limits leaf_of by_word item s2) ∙ subst (λ o. MayRead limits (through leaf_of by_word) o item s2 v) f.0 e);
+    suited_turn = λ x item t v g s1 s2 r f w e. no_array x g w;
+    suited_initial = λ x over item t v g s1 s2 r f d e. absurd d;
+    changed = λ x op t old w g s1 s2 r f e h. cc;
     turned = λ x item over g s1 s2 r f e. f limits s2 over (sym (item_of-through limits leaf_of by_word item s2) ∙ e);
     given_holds = λ x v g s1 s2 r f e. given-kind x.leaf.kind (set_at x.leaf.slot s2.sets) v e;
     enters = λ g s1 s2 r. record {
