@@ -1,8 +1,8 @@
 -- An environment seen through other names: each name of the one stands for a name of the other.
 -- A tree means there what it means with its names replaced.
-use Rattle.std.proofs.Common.{◌≡◌, [], refl, sym, ap, ◌∙◌, subst, None}
+use Rattle.std.proofs.Common.{Option, ◌≡◌, [], refl, sym, ap, ◌∙◌, subst, None}
 use Rattle.dpl_language.specs.Tree.{ItemTree, Stmts}
-use Rattle.dpl_language.specs.Values.{index_of, array_domain, is_domain}
+use Rattle.dpl_language.specs.Values.{Index, index_of, array_domain, is_domain}
 use Rattle.dpl_language.specs.Outcome.{Deeds, Outcome, Done, Stop, Waits}
 use Rattle.dpl_language.specs.Environment.{Environment, Limits}
 use Rattle.dpl_language.specs.Expressions.{item_of}
@@ -76,9 +76,12 @@ module _ {M N S : Type 0} (limits : Limits) (f : N → M) (env : Environment M S
     settles = λ h g s1 s2 r c. ap (env.settle h) r;
   }
 
+  pub item_of-through_at : (item : ItemTree N) (t : Option Index) (s : S) → item_of limits (through f env) item t s ≡ item_of limits env (renamed_item f item) t s
+  item_of-through_at item t s =
+      sym (item_of-renamed limits f anything env (through f env) (λ g s1 s2. s1 ≡ s2) through_simulates item t tt s s refl (item_fits item t))
+
   pub item_of-through : (item : ItemTree N) (s : S) → item_of limits (through f env) item None s ≡ item_of limits env (renamed_item f item) None s
-  item_of-through item s =
-      sym (item_of-renamed limits f anything env (through f env) (λ g s1 s2. s1 ≡ s2) through_simulates item None tt s s refl (item_fits item None))
+  item_of-through item s = item_of-through_at item None s
 
   pub exec_all-through : (ts : Stmts N) (s : S) (done : Deeds) → exec_all limits (through f env) ts s done ≡ exec_all limits env (renamed_stmts f ts) s done
   exec_all-through ts s done =

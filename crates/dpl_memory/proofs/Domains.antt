@@ -1,0 +1,242 @@
+-- The arrays over a domain name: those of which it is known where the name is assigned are those that the slots tell.
+-- A memory in which these have another domain is the slots in which they have it.
+use Rattle.std.proofs.Common.{◌≡◌, ◌≢◌, ℕ, ◌<◌, ◌+◌, zero, suc, Bool, true, false, List, [], ◌∷◌, ◌++◌, refl, sym, ap, ◌∙◌, subst, Some, None, Option, length, map, arith}
+use Rattle.std.specs.Prelude.{◌==◌, ◌||◌, if◌then◌else◌, get_or, set}
+use Rattle.std.proofs.lemmas.Bool.Decides.{Decides-eqb}
+use Rattle.std.proofs.lemmas.List.{get_or-set_same, get_or-set_other, length-set}
+use Rattle.dpl_range.specs.Equality.{TextRange}
+use Rattle.dpl_language.specs.Tree.{Kind}
+use Rattle.dpl_language.specs.Values.{Domain}
+use Rattle.dpl_language.specs.Environment.{Content, Plain, ArrayOf, CellOf}
+use Rattle.dpl_language.specs.Names.{Text, redomained}
+use Rattle.dpl_language.proofs.Slots.{Sight as SlotSight, Bound as SlotBound, IsFreshIn, IsFresh, IsApartFrame, IsApart, Slots, SameIn, frame_at, frame_at-same, store_at, same_slot, other_slot, slot_of-apart, IsFreshIn-append}
+use Rattle.dpl_language.proofs.SlotDomains.{is_over_slot, is_array_over_slot, redomained_content, redomain_slots, any_over_in, any_over, OverNamed, OverResolves, OversFrame, Overs}
+use Rattle.dpl_memory.specs.Memory.{VariableKind, PlainKind, DomainKind, TupleKind, ArrayKind, Variable, Held, Memory, no_array, is_among, held_over_if, redomained_from, redomained_in, is_some_array, element_as, array_at}
+use Rattle.dpl_memory.specs.Resolved.{Bound, Sighted, Sight, is_over, arrays_in, arrays_over, HasSlots, array_content, content_in}
+use Rattle.dpl_memory.proofs.Elements.{redomained-words}
+use Rattle.dpl_memory.proofs.InSight.{placed_over, placed_frame, in_slots, Told, told_of, IsToldIn, IsTold, contents}
+
+-- OTHER TEXTS for a slot that no name in sight has
+module _ (names more : ℕ → Text) (slot : ℕ) (same : (j : ℕ) → j ≢ slot → more j ≡ names j) where
+  pub OverNamed-texts : (over : Option SlotBound) (p : SlotSight) → IsFresh slot p → OverNamed names over p → OverNamed more over p
+  OverNamed-texts None p h o = tt
+  OverNamed-texts (Some y) p h o = (o.0, o.1 ∙ sym (same y.slot (λ e. slot_of-apart y.text p slot y.slot h o.0 (sym e))))
+
+  OverResolves-texts : (c : Content SlotBound) (p : SlotSight) → IsFresh slot p → OverResolves names c p → OverResolves more c p
+  OverResolves-texts (Plain v) p h o = tt
+  OverResolves-texts (ArrayOf over k rs vs) p h o = OverNamed-texts over p h o
+  OverResolves-texts (CellOf k c) p h o = tt
+
+  OversFrame-texts : (m : Slots) (before bs : List SlotBound) (fs : SlotSight) → IsFreshIn slot before → IsFreshIn slot bs → IsFresh slot fs → OversFrame names m before bs fs → OversFrame more m before bs fs
+  OversFrame-texts m before [] fs h i j o = tt
+  OversFrame-texts m before (b ∷ bs) fs h i j o =
+      (OverResolves-texts (m b.slot) (before ∷ fs) (h, j) o.0, OversFrame-texts m (before ++ b ∷ []) bs fs (IsFreshIn-append slot before b h i.0) i.1 j o.1)
+
+  pub Overs-texts : (m : Slots) (g : SlotSight) → IsFresh slot g → Overs names m g → Overs more m g
+  Overs-texts m [] h o = tt
+  Overs-texts m (f ∷ fs) h o = (OversFrame-texts m [] f fs tt h.0 h.1 o.0, Overs-texts m fs h.1 o.1)
+
+-- NAMES THAT ARE NO ARRAYS are over nothing
+abbrev pub OverFits : VariableKind → Option Bound → Type 0
+OverFits (PlainKind k) over = over ≡ None
+OverFits DomainKind over = over ≡ None
+OverFits TupleKind over = over ≡ None
+OverFits (ArrayKind k) over = Unit {0}
+
+abbrev pub FitIn : List Sighted → Type 0
+FitIn [] = Unit {0}
+FitIn (b ∷ bs) = OverFits b.kind b.over × FitIn bs
+
+abbrev pub Fit : Sight → Type 0
+Fit [] = Unit {0}
+Fit (f ∷ fs) = FitIn f × Fit fs
+
+is_over-placed : (slot : ℕ) (over : Option Bound) → is_over_slot slot (placed_over over) ≡ is_over slot over
+is_over-placed slot None = refl
+is_over-placed slot (Some y) = refl
+
+-- WHICH SLOTS ARE AMONG THEM
+is_among-append : (j : ℕ) (xs ys : List ℕ) → is_among j (xs ++ ys) ≡ (is_among j xs || is_among j ys)
+is_among-append j [] ys = refl
+is_among-append j (x ∷ xs) ys = ap (λ b. (j == x) || b) (is_among-append j xs ys) ∙ or_assoc (j == x) (is_among j xs) (is_among j ys)
+  where
+    or_assoc : (a b c : Bool) → (a || (b || c)) ≡ ((a || b) || c)
+    or_assoc true b c = refl
+    or_assoc false b c = refl
+
+module _ (slot : ℕ) where
+  unused-not_among : (j : ℕ) (bs : List Sighted) → IsFreshIn j (placed_frame bs) → is_among j (arrays_in slot bs) ≡ false
+  unused-not_among j [] h = refl
+  unused-not_among j (b ∷ bs) h =
+      elim (is_over slot b.over) as (λ t. is_among j (if t then b.slot ∷ arrays_in slot bs else arrays_in slot bs) ≡ false)
+      [ true ↦ ap (λ t. t || is_among j (arrays_in slot bs)) (other_slot j b.slot h.0) ∙ unused-not_among j bs h.1 | false ↦ unused-not_among j bs h.1 ]
+
+  unused-none_over : (j : ℕ) (fs : Sight) → IsFresh j (in_slots fs) → is_among j (arrays_over slot fs) ≡ false
+  unused-none_over j [] h = refl
+  unused-none_over j (f ∷ fs) h =
+      is_among-append j (arrays_in slot f) (arrays_over slot fs) ∙ ap (λ t. t || is_among j (arrays_over slot fs)) (unused-not_among j f h.0) ∙ unused-none_over j fs h.1
+
+  -- some slots tell of each name in sight whether it is over this one
+  abbrev TellsIn : List ℕ → List Sighted → Type 0
+  TellsIn xs [] = Unit {0}
+  TellsIn xs (b ∷ bs) = (is_among b.slot xs ≡ is_over slot b.over) × TellsIn xs bs
+
+  abbrev pub Tells : List ℕ → Sight → Type 0
+  Tells xs [] = Unit {0}
+  Tells xs (f ∷ fs) = TellsIn xs f × Tells xs fs
+
+  -- one more that no name has
+  TellsIn-more : (k : ℕ) (xs : List ℕ) (bs : List Sighted) → IsFreshIn k (placed_frame bs) → TellsIn xs bs → TellsIn (k ∷ xs) bs
+  TellsIn-more k xs [] h t = tt
+  TellsIn-more k xs (b ∷ bs) h t = (ap (λ c. c || is_among b.slot xs) (other_slot b.slot k (λ e. h.0 (sym e))) ∙ t.0, TellsIn-more k xs bs h.1 t.1)
+
+  Tells-more : (k : ℕ) (xs : List ℕ) (fs : Sight) → IsFresh k (in_slots fs) → Tells xs fs → Tells (k ∷ xs) fs
+  Tells-more k xs [] h t = tt
+  Tells-more k xs (f ∷ fs) h t = (TellsIn-more k xs f h.0 t.0, Tells-more k xs fs h.1 t.1)
+
+  -- those of a frame before those of the frames outside
+  Tells-frame : (bs : List Sighted) (xs : List ℕ) (fs : Sight) → IsApartFrame (placed_frame bs) (in_slots fs) → Tells xs fs → Tells (arrays_in slot bs ++ xs) fs
+  Tells-frame [] xs fs a t = t
+  Tells-frame (b ∷ bs) xs fs a t =
+      elim (is_over slot b.over) as (λ c. Tells ((if c then b.slot ∷ arrays_in slot bs else arrays_in slot bs) ++ xs) fs)
+      [ true ↦ Tells-more b.slot (arrays_in slot bs ++ xs) fs a.1 (Tells-frame bs xs fs a.2 t) | false ↦ Tells-frame bs xs fs a.2 t ]
+
+  -- in their own frame
+  TellsIn-own : (bs : List Sighted) (g : SlotSight) → IsApartFrame (placed_frame bs) g → TellsIn (arrays_in slot bs) bs
+  TellsIn-own [] g a = tt
+  TellsIn-own (b ∷ bs) g a =
+      elim (is_over slot b.over) as (λ c. (is_among b.slot (if c then b.slot ∷ arrays_in slot bs else arrays_in slot bs) ≡ c) × TellsIn (if c then b.slot ∷ arrays_in slot bs else arrays_in slot bs) bs) [
+        | true ↦ (ap (λ t. t || is_among b.slot (arrays_in slot bs)) (same_slot b.slot), TellsIn-more b.slot (arrays_in slot bs) bs a.0 (TellsIn-own bs g a.2))
+        | false ↦ (unused-not_among b.slot bs a.0, TellsIn-own bs g a.2)
+      ]
+
+  -- behind them some that no name of the frame has
+  TellsIn-behind : (xs : List ℕ) (bs : List Sighted) (fs : Sight) → IsApartFrame (placed_frame bs) (in_slots fs) → TellsIn xs bs → TellsIn (xs ++ arrays_over slot fs) bs
+  TellsIn-behind xs [] fs a t = tt
+  TellsIn-behind xs (b ∷ bs) fs a t = (
+    is_among-append b.slot xs (arrays_over slot fs) ∙ ap (λ c. is_among b.slot xs || c) (unused-none_over b.slot fs a.1) ∙ or_false (is_among b.slot xs) ∙ t.0,
+    TellsIn-behind xs bs fs a.2 t.1,
+  )
+    where
+      or_false : (c : Bool) → (c || false) ≡ c
+      or_false true = refl
+      or_false false = refl
+
+  pub arrays_over-tells : (fs : Sight) → IsApart (in_slots fs) → Tells (arrays_over slot fs) fs
+  arrays_over-tells [] a = tt
+  arrays_over-tells (f ∷ fs) a = (
+    TellsIn-behind (arrays_in slot f) f fs a.0 (TellsIn-own f (in_slots fs) a.0),
+    Tells-frame f (arrays_over slot fs) fs a.0 (arrays_over-tells fs a.1),
+  )
+
+-- WHETHER THERE IS ONE
+is_some-append : (xs ys : List ℕ) → is_some_array (xs ++ ys) ≡ (is_some_array xs || is_some_array ys)
+is_some-append [] ys = refl
+is_some-append (x ∷ xs) ys = refl
+
+content-over : (slot : ℕ) (k : VariableKind) (j : ℕ) (over : Option Bound) (s : Memory) → OverFits k over → is_array_over_slot slot (content_in k j (placed_over over) s) ≡ is_over slot over
+content-over slot (PlainKind k) j over s h = sym (ap (is_over slot) h)
+content-over slot DomainKind j over s h = sym (ap (is_over slot) h)
+content-over slot TupleKind j over s h = sym (ap (is_over slot) h)
+content-over slot (ArrayKind k) j over s h = is_over-placed slot over
+
+module _ (slot slots : ℕ) (told : ℕ → Told) (s : Memory) where
+  any_over_in-told : (bs : List Sighted) → IsToldIn told slots bs → FitIn bs → any_over_in slot (contents told s) (placed_frame bs) ≡ is_some_array (arrays_in slot bs)
+  any_over_in-told [] h f = refl
+  any_over_in-told (b ∷ bs) h f =
+      ap (λ (t : Told). is_array_over_slot slot (content_in t.kind b.slot t.over s) || any_over_in slot (contents told s) (placed_frame bs)) h.0
+      ∙ ap (λ c. c || any_over_in slot (contents told s) (placed_frame bs)) (content-over slot b.kind b.slot b.over s f.0)
+      ∙ ap (λ c. is_over slot b.over || c) (any_over_in-told bs h.2 f.1)
+      ∙ (elim (is_over slot b.over) as (λ c. (c || is_some_array (arrays_in slot bs)) ≡ is_some_array (if c then b.slot ∷ arrays_in slot bs else arrays_in slot bs)) [ true ↦ refl | false ↦ refl ])
+
+  pub any_over-told : (fs : Sight) → IsTold told slots fs → Fit fs → any_over slot (contents told s) (in_slots fs) ≡ is_some_array (arrays_over slot fs)
+  any_over-told [] h f = refl
+  any_over-told (bs ∷ fs) h f =
+      ap (λ c. c || any_over slot (contents told s) (in_slots fs)) (any_over_in-told bs h.0 f.0)
+      ∙ ap (λ c. is_some_array (arrays_in slot bs) || c) (any_over-told fs h.1 f.1)
+      ∙ sym (is_some-append (arrays_in slot bs) (arrays_over slot fs))
+
+-- ANOTHER DOMAIN for the arrays in some slots
+pub length-redomained : (first : ℕ) (slots : List ℕ) (rs : List TextRange) (xs : List Held) → length (redomained_from first slots rs xs) ≡ length xs
+length-redomained first slots rs [] = refl
+length-redomained first slots rs (a ∷ xs) = ap suc (length-redomained (first + 1) slots rs xs)
+
+get_or-redomained : (first : ℕ) (slots : List ℕ) (rs : List TextRange) (xs : List Held) (j : ℕ) (d : Held) → j < length xs
+    → get_or (redomained_from first slots rs xs) j d ≡ held_over_if (is_among (first + j) slots) rs (get_or xs j d)
+get_or-redomained first slots rs [] j d lt = absurd (omega arith)
+get_or-redomained first slots rs (a ∷ xs) zero d lt = ap (λ n. held_over_if (is_among n slots) rs a) (omega arith)
+get_or-redomained first slots rs (a ∷ xs) (suc j) d lt =
+    get_or-redomained (first + 1) slots rs xs j d (omega arith) ∙ ap (λ n. held_over_if (is_among n slots) rs (get_or xs j d)) (omega arith)
+
+held-redomained : (slot : ℕ) (k : Kind) (over : Option SlotBound) (rs : List TextRange) (a : Held) (c : Bool) → c ≡ is_over_slot slot over
+    → redomained_content slot rs (array_content over k a) ≡ array_content over k (held_over_if c rs a)
+held-redomained slot k over rs a c e =
+    ap (λ t. if t then ArrayOf over k rs (redomained k a.ranges (map (element_as k) a.words) rs) else array_content over k a) (sym e) ∙ by c
+  where
+    by : (c : Bool) → (if c then ArrayOf over k rs (redomained k a.ranges (map (element_as k) a.words) rs) else array_content over k a) ≡ array_content over k (held_over_if c rs a)
+    by true = ap (λ vs. ArrayOf over k rs vs) (redomained-words k a rs)
+    by false = refl
+
+module _ (x : Variable) (rs : List TextRange) (slots : ℕ) (s : Memory) (h : HasSlots slots s) (domain : x.kind ≡ DomainKind) where
+  abbrev new : Memory
+  new = redomained_in x rs s
+
+  -- the memory behind it, where the variable is a domain
+  abbrev by_domain : Memory
+  by_domain = record s { domains = set s.domains x.slot rs; arrays = redomained_from 0 x.arrays rs s.arrays }
+
+  new-domain : new ≡ by_domain
+  new-domain = ap (λ k. redomained_in (record { kind = k; slot = x.slot; arrays = x.arrays }) rs s) domain
+
+  pub redomained-slots : HasSlots slots new
+  redomained-slots = subst (HasSlots slots) (sym new-domain) (record {
+    numbers = h.numbers;
+    ranges = h.ranges;
+    domains = length-set s.domains x.slot rs ∙ h.domains;
+    tuples = h.tuples;
+    arrays = length-redomained 0 x.arrays rs s.arrays ∙ h.arrays;
+  })
+
+  pub redomained-intents : new.words ≡ s.words
+  redomained-intents = ap (λ (m : Memory). m.words) new-domain
+
+  -- in the domain's own slot, and in another one
+  content-here : (over : Option SlotBound) → x.slot < slots → content_in DomainKind x.slot over by_domain ≡ Plain (Domain rs)
+  content-here over within = ap (λ rs. Plain (Domain rs)) (get_or-set_same s.domains x.slot rs [] (subst (λ n. x.slot < n) (sym h.domains) within))
+
+  content-other : (k : VariableKind) (j : ℕ) (over : Option SlotBound) → j ≢ x.slot → j < slots → is_among j x.arrays ≡ is_over_slot x.slot over
+      → redomained_content x.slot rs (content_in k j over s) ≡ content_in k j over by_domain
+  content-other (PlainKind k) j over ne within e = refl
+  content-other DomainKind j over ne within e = ap (λ rs. Plain (Domain rs)) (sym (get_or-set_other s.domains x.slot j rs [] ne))
+  content-other TupleKind j over ne within e = refl
+  content-other (ArrayKind k) j over ne within e =
+      let from_zero : j ≡ 0 + j = omega arith in
+      held-redomained x.slot k over rs (array_at j s) (is_among j x.arrays) e
+      ∙ ap (λ n. array_content over k (held_over_if (is_among n x.arrays) rs (array_at j s))) from_zero
+      ∙ ap (array_content over k) (sym (get_or-redomained 0 x.arrays rs s.arrays j no_array (subst (λ n. j < n) (sym h.arrays) within)))
+
+  module _ (told : ℕ → Told) where
+    name-redomained : (b : Sighted) → told b.slot ≡ told_of b → b.slot < slots → (told x.slot).kind ≡ DomainKind → x.slot < slots → is_among b.slot x.arrays ≡ is_over x.slot b.over
+        → redomain_slots x.slot rs (contents told s) b.slot ≡ contents told new b.slot
+    name-redomained b t within d inside e =
+        (elim (b.slot == x.slot) as (λ c. (c ≡ true → b.slot ≡ x.slot) → (b.slot ≡ x.slot → c ≡ true) → (if c then Plain (Domain rs) else redomained_content x.slot rs (contents told s b.slot)) ≡ contents told new b.slot) [
+          | true ↦ λ p i.
+              sym (ap (contents told new) (p refl) ∙ ap (λ k. content_in k x.slot (told x.slot).over new) d ∙ ap (content_in DomainKind x.slot (told x.slot).over) new-domain ∙ content-here (told x.slot).over inside)
+          | false ↦ λ p i.
+              content-other (told b.slot).kind b.slot (told b.slot).over (λ same. let no = i same in cc) within
+              (e ∙ sym (ap (λ (t : Told). is_over_slot x.slot t.over) t ∙ is_over-placed x.slot b.over))
+              ∙ ap (content_in (told b.slot).kind b.slot (told b.slot).over) (sym new-domain)
+        ]) (Decides-eqb b.slot x.slot).0 (Decides-eqb b.slot x.slot).1
+
+    frame-redomained : (bs : List Sighted) → IsToldIn told slots bs → (told x.slot).kind ≡ DomainKind → x.slot < slots → TellsIn x.slot x.arrays bs
+        → SameIn (redomain_slots x.slot rs (contents told s)) (contents told new) (placed_frame bs)
+    frame-redomained [] t d inside e = tt
+    frame-redomained (b ∷ bs) t d inside e = (name-redomained b t.0 t.1 d inside e.0, frame-redomained bs t.2 d inside e.1)
+
+    -- all names in sight
+    pub store-redomained : (fs : Sight) → IsTold told slots fs → (told x.slot).kind ≡ DomainKind → x.slot < slots → Tells x.slot x.arrays fs
+        → store_at (redomain_slots x.slot rs (contents told s)) (in_slots fs) ≡ store_at (contents told new) (in_slots fs)
+    store-redomained [] t d inside e = refl
+    store-redomained (f ∷ fs) t d inside e =
+        ap (λ es. es ∷ store_at (redomain_slots x.slot rs (contents told s)) (in_slots fs)) (frame_at-same _ _ (placed_frame f) (frame-redomained f t.0 d inside e.0))
+        ∙ ap (λ r. frame_at (contents told new) (placed_frame f) ∷ r) (store-redomained fs t.1 d inside e.1)

@@ -1,0 +1,574 @@
+-- A resolved data-parallel program runs in a memory as it runs by names.
+-- Each step of the one is a step of the other where a name has the kind and the slot of its innermost declaration and holds its kind.
+use Rattle.std.proofs.Common.{◌≡◌, ◌≢◌, ℕ, ◌<◌, ◌++◌, pos, true, List, [], ◌∷◌, refl, sym, ap, ◌∙◌, subst, Some, None, Option, map}
+use Rattle.std.specs.Prelude.{Ok, option_map}
+use Rattle.std.proofs.lemmas.List.{length-replicate}
+use Rattle.dpl_history.specs.declared.history.Event.{Event}
+use Rattle.dpl_range.specs.Equality.{TextRange}
+use Rattle.dpl_language.specs.Tree.{Op, Kind, Assign, Set, SetAdd, SetSubtract, SetMultiply, SetDivide, SetRemainder, SetReduce, ItemTree, Stmts, ProgramTree}
+use Rattle.dpl_language.specs.Values.{Value, Index, index_of, array_domain, is_domain, kept_number}
+use Rattle.dpl_language.specs.Arithmetic.{assigned}
+use Rattle.dpl_language.specs.Ranges.{indices_in}
+use Rattle.dpl_language.specs.Outcome.{Deeds, no_deeds, Outcome, Done, Stop, Waits}
+use Rattle.dpl_language.specs.Environment.{Content, Plain, ArrayOf, CellOf, Limits}
+use Rattle.dpl_language.specs.Expressions.{item_of}
+use Rattle.dpl_language.specs.Statements.{exec_all}
+use Rattle.dpl_language.specs.Names.{Text, State, paired, look_up, change_in, declare_in, without_innermost, value_in as name_value, update_in, element_in, put_in, redomain_in, arrays_over as named_arrays, by_name}
+use Rattle.dpl_language.specs.Program.{first_state, meaning, top_level, left, written}
+use Rattle.dpl_language.specs.Renamed.{renamed_content, renamed_item, renamed_intents, renamed_stmts, renamed_program}
+use Rattle.dpl_language.specs.Scopes.{Sort, PlainSort, ArraySort, sort_of, IsLawful, after_all, fits_all}
+use Rattle.dpl_language.specs.Agreement.{MayRead, WasDomain, Simulates, EndsAlike}
+use Rattle.dpl_language.proofs.Slots.{Bound as SlotBound, bind as slot_bind, IsApart, IsFresh, set_slot, spelled, store_at, slot_of, look_up-slot, change_in-slot, declare_in-slot, IsApart-bind, IsApart-without_frame, without_innermost-store_at}
+use Rattle.dpl_language.proofs.SlotDomains.{OverNamed, OverResolves, Overs, Overs-declare, Overs-without_frame, redomain_in-slots, arrays_over-slots}
+use Rattle.dpl_language.proofs.SlotsAgree.{updated, with_value_at as with_element_at, put-spelled}
+use Rattle.dpl_language.proofs.RunsAlike.{EndsAlike-weaker, settled-alike, written-alike}
+use Rattle.dpl_language.proofs.Through.{through, item_of-through_at, item_of-through, exec_all-through}
+use Rattle.dpl_language.proofs.ProgramsAlike.{run_from}
+use Rattle.dpl_language.proofs.Agreement.{exec_all-alike}
+use Rattle.dpl_words.specs.Words.{IntLeaf, no_range, intent_at, set_at, given_as}
+use Rattle.dpl_words.proofs.OfKind.{given-kind}
+use Rattle.dpl_memory.specs.Memory.{VariableKind, PlainKind, DomainKind, TupleKind, ArrayKind, Held, Memory, no_array, value_in, with_value_in, array_at, held_with, element_in as element_in_memory, with_element_in, declared_array, intents_by_slot, redomained_in, is_some_array, intended, given_in, in_memory}
+use Rattle.dpl_memory.specs.Resolved.{Bound, Sighted, Sight, text_of, variable_of, over_of, sighted, arrays_over, outermost, left_in, frame_in, store_in, content_in, IsUnused, bind, without_frame, Seen, first_seen, IsArrayOf, IsOf, IsWhole, SuitsTurns, ArraysResolve, IsNew, OverResolves as OverIsFound, HoldsKind, kind_takes, KindCombines, IntentResolves, Resolves, Declares, IsGivenAs, Start, resolving, first_memory, HasSlots, StandsFor}
+use Rattle.dpl_memory.proofs.Elements.{element_at-words, with_element-words, elements-kept, assigned-element}
+use Rattle.dpl_memory.proofs.OfKind.{content_in-set_same, content_in-set_other, content_in-array_same, content_in-array_other, slots-set, slots-array, intents-set_in, sets-set_in, value_in-array, value_in-domain, assigned-of}
+use Rattle.dpl_memory.proofs.InSight.{placed, placed_over, in_slots, slot_of-innermost, IsFresh-in_slots, in_slots-bind, in_slots-without_frame, without_frame-bind, Told, told_of, texts_of, IsTold, Finds, innermost-told, with_told, with_told_here, with_told_other, IsTold-bind, IsTold-without_frame, contents, over_text-placed, store_at-contents, store_at-each, store_at-intend, set_slot-each, Overs-contents, Overs-each}
+use Rattle.dpl_memory.proofs.Domains.{OverNamed-texts, Overs-texts, OverFits, FitIn, Fit, Tells, arrays_over-tells, any_over-told, redomained-slots, redomained-intents, store-redomained}
+
+-- THE RELATION: it is told of each slot in sight what it is, and the slots stand for the store
+pub record Kept (start : Start) (g : Seen) (s1 : State) (s2 : Memory) : Type 0 where
+  pub told : ℕ → Told
+  pub is_told : IsTold told start.slots g.frames
+  pub fit : Fit g.frames
+  pub apart : IsApart (in_slots g.frames)
+  pub overs : Overs (texts_of told) (contents told s2) (in_slots g.frames)
+  pub store : s1.store ≡ store_at (contents told s2) (in_slots g.frames)
+  pub slots : HasSlots start.slots s2
+  pub intents : s1.intents ≡ renamed_intents text_of g.intents
+  pub intents_by_slots : s2.words.intents ≡ intents_by_slot (renamed_intents variable_of g.intents)
+  pub here : s1.here ≡ pos 0
+  pub texts : s1.sets ≡ start.texts
+  pub words : s2.words.sets ≡ start.words
+
+resolving-lawful : (start : Start) → IsLawful (resolving start)
+resolving-lawful start = record {
+  leave-enter = λ g. refl;
+  leave-add = λ x sort g. ap (λ fs. record { frames = fs; intents = g.intents }) (without_frame-bind (sighted x sort) g.frames);
+}
+
+-- names that are in sight behind a declaration, or behind a scope, are over what they were over
+FitIn-append : (x : Sighted) (bs : List Sighted) → FitIn bs → OverFits x.kind x.over → FitIn (bs ++ x ∷ [])
+FitIn-append x [] h f = (f, tt)
+FitIn-append x (b ∷ bs) h f = (h.0, FitIn-append x bs h.1 f)
+
+Fit-bind : (x : Sighted) (fs : Sight) → Fit fs → OverFits x.kind x.over → Fit (bind x fs)
+Fit-bind x [] h f = ((f, tt), tt)
+Fit-bind x (b ∷ fs) h f = (FitIn-append x b h.0 f, h.1)
+
+Fit-without_frame : (fs : Sight) → Fit fs → Fit (without_frame fs)
+Fit-without_frame [] h = tt
+Fit-without_frame (f ∷ fs) h = h.1
+
+fits-none : (k : VariableKind) → OverFits k None
+fits-none (PlainKind k) = refl
+fits-none DomainKind = refl
+fits-none TupleKind = refl
+fits-none (ArrayKind k) = tt
+
+fits-whole : (k : VariableKind) (over : Option Bound) → IsWhole k → OverFits k over
+fits-whole (PlainKind k) over w = absurd w
+fits-whole DomainKind over w = absurd w
+fits-whole TupleKind over w = absurd w
+fits-whole (ArrayKind k) over w = tt
+
+-- ONE CONTENT
+update_in-spelled : (op : Assign) (x : Bound) (g : Seen) (a b : Option Op) (v : Value) (c : Content SlotBound) → a ≡ paired x.text (renamed_intents text_of g.intents)
+    → b ≡ intent_at x.variable.slot (intents_by_slot (renamed_intents variable_of g.intents)) → IntentResolves op x g → update_in op a v (spelled c) ≡ spelled (updated op b v c)
+update_in-spelled op x g a b v (Plain w) p q i = ap (λ u. Plain u) (by_op op i)
+  where
+    by_op : (op : Assign) → IntentResolves op x g → assigned op a w v ≡ assigned op b w v
+    by_op Set i = refl
+    by_op SetAdd i = refl
+    by_op SetSubtract i = refl
+    by_op SetMultiply i = refl
+    by_op SetDivide i = refl
+    by_op SetRemainder i = refl
+    by_op SetReduce i = ap (λ o. assigned SetReduce o w v) (p ∙ i.0 ∙ sym q)
+update_in-spelled op x g a b v (ArrayOf over k rs vs) p q i = refl
+update_in-spelled op x g a b v (CellOf k c) p q i = refl
+
+-- the operator that reduces is one of the variable's kind
+intent-combines : (op : Assign) (x : Bound) (g : Seen) → IntentResolves op x g → op ≡ SetReduce → KindCombines x.variable.kind (intent_at x.variable.slot (intents_by_slot (renamed_intents variable_of g.intents)))
+intent-combines Set x g i e = cc
+intent-combines SetAdd x g i e = cc
+intent-combines SetSubtract x g i e = cc
+intent-combines SetMultiply x g i e = cc
+intent-combines SetDivide x g i e = cc
+intent-combines SetRemainder x g i e = cc
+intent-combines SetReduce x g i e = i.1
+
+-- a variable assigned: of a whole array nothing changes, since its elements are assigned one by one
+updated-content : (k : VariableKind) (slot : ℕ) (over : Option SlotBound) (op : Assign) (b : Option Op) (v : Value) (slots : ℕ) (s : Memory)
+    → ((IsWhole k → ⊥) → IsOf k (assigned op b (value_in k slot s) v)) → HasSlots slots s → slot < slots
+    → updated op b v (content_in k slot over s) ≡ content_in k slot over (with_value_in k slot (assigned op b (value_in k slot s) v) s)
+updated-content (PlainKind k) slot over op b v slots s p h within =
+    sym (content_in-set_same (PlainKind k) slot over (assigned op b (value_in (PlainKind k) slot s) v) slots s (p (λ e. e)) (λ e. e) h within)
+updated-content DomainKind slot over op b v slots s p h within =
+    sym (content_in-set_same DomainKind slot over (assigned op b (value_in DomainKind slot s) v) slots s (p (λ e. e)) (λ e. e) h within)
+updated-content TupleKind slot over op b v slots s p h within =
+    sym (content_in-set_same TupleKind slot over (assigned op b (value_in TupleKind slot s) v) slots s (p (λ e. e)) (λ e. e) h within)
+updated-content (ArrayKind k) slot over op b v slots s p h within = refl
+
+-- an element put: where the variable is no whole array nothing changes
+put-content : (k : VariableKind) (slot : ℕ) (over : Option SlotBound) (t : Index) (v : Value) (slots : ℕ) (s : Memory) → IsOf k v → HasSlots slots s → slot < slots
+    → with_element_at t v (content_in k slot over s) ≡ content_in k slot over (with_element_in k slot t v s)
+put-content (PlainKind k) slot over t v slots s p h within = refl
+put-content DomainKind slot over t v slots s p h within = refl
+put-content TupleKind slot over t v slots s p h within = refl
+put-content (ArrayKind k) slot over t v slots s p h within =
+    ap (λ vs. ArrayOf over k (array_at slot s).ranges vs) (with_element-words k t v (indices_in (array_at slot s).ranges) (array_at slot s).words p)
+    ∙ sym (content_in-array_same k slot over (held_with t (kept_number v) (array_at slot s)) slots s h within)
+
+put-other : (j k : VariableKind) (i slot : ℕ) (over : Option SlotBound) (t : Index) (v : Value) (s : Memory) → i ≢ slot → content_in j i over (with_element_in k slot t v s) ≡ content_in j i over s
+put-other j (PlainKind k) i slot over t v s ne = refl
+put-other j DomainKind i slot over t v s ne = refl
+put-other j TupleKind i slot over t v s ne = refl
+put-other j (ArrayKind k) i slot over t v s ne = content_in-array_other j i slot over (held_with t (kept_number v) (array_at slot s)) s ne
+
+slots-element : (k : VariableKind) (slot : ℕ) (t : Index) (v : Value) (slots : ℕ) (s : Memory) → HasSlots slots s → HasSlots slots (with_element_in k slot t v s)
+slots-element (PlainKind k) slot t v slots s h = h
+slots-element DomainKind slot t v slots s h = h
+slots-element TupleKind slot t v slots s h = h
+slots-element (ArrayKind k) slot t v slots s h = slots-array slot (held_with t (kept_number v) (array_at slot s)) slots s h
+
+words-element : (k : VariableKind) (slot : ℕ) (t : Index) (v : Value) (s : Memory) → (with_element_in k slot t v s).words ≡ s.words
+words-element (PlainKind k) slot t v s = refl
+words-element DomainKind slot t v s = refl
+words-element TupleKind slot t v s = refl
+words-element (ArrayKind k) slot t v s = refl
+
+name_value-spelled : (k : VariableKind) (slot : ℕ) (over : Option SlotBound) (s : Memory) → name_value (spelled (content_in k slot over s)) ≡ value_in k slot s
+name_value-spelled (PlainKind k) slot over s = refl
+name_value-spelled DomainKind slot over s = refl
+name_value-spelled TupleKind slot over s = refl
+name_value-spelled (ArrayKind k) slot over s = refl
+
+element-spelled : (k : VariableKind) (slot : ℕ) (over : Option SlotBound) (t : Index) (s : Memory) → element_in t (spelled (content_in k slot over s)) ≡ element_in_memory k slot t s
+element-spelled (PlainKind k) slot over t s = refl
+element-spelled DomainKind slot over t s = refl
+element-spelled TupleKind slot over t s = refl
+element-spelled (ArrayKind k) slot over t s = element_at-words k t (indices_in (array_at slot s).ranges) (array_at slot s).words
+
+-- AN ARRAY DECLARED
+abbrev made : List TextRange → List Value → Held
+made rs vs = record { ranges = rs; words = map kept_number vs }
+
+declared-content : (kind : VariableKind) (slot : ℕ) (over : Option SlotBound) (k : Kind) (rs : List TextRange) (vs : List Value) (slots : ℕ) (s : Memory) → IsArrayOf kind k vs → HasSlots slots s → slot < slots
+    → content_in kind slot over (declared_array kind slot (made rs vs) s) ≡ ArrayOf over k rs vs
+declared-content (PlainKind l) slot over k rs vs slots s p h within = absurd p
+declared-content DomainKind slot over k rs vs slots s p h within = absurd p
+declared-content TupleKind slot over k rs vs slots s p h within = absurd p
+declared-content (ArrayKind l) slot over k rs vs slots s p h within =
+    content_in-array_same l slot over (made rs vs) slots s h within ∙ ap (λ vs. ArrayOf over l rs vs) (elements-kept l vs p.1) ∙ ap (λ k. ArrayOf over k rs vs) (sym p.0)
+
+declared-other : (j kind : VariableKind) (i slot : ℕ) (over : Option SlotBound) (a : Held) (s : Memory) → i ≢ slot → content_in j i over (declared_array kind slot a s) ≡ content_in j i over s
+declared-other j (PlainKind l) i slot over a s ne = refl
+declared-other j DomainKind i slot over a s ne = refl
+declared-other j TupleKind i slot over a s ne = refl
+declared-other j (ArrayKind l) i slot over a s ne = content_in-array_other j i slot over a s ne
+
+slots-declared : (kind : VariableKind) (slot : ℕ) (a : Held) (slots : ℕ) (s : Memory) → HasSlots slots s → HasSlots slots (declared_array kind slot a s)
+slots-declared (PlainKind l) slot a slots s h = h
+slots-declared DomainKind slot a slots s h = h
+slots-declared TupleKind slot a slots s h = h
+slots-declared (ArrayKind l) slot a slots s h = slots-array slot a slots s h
+
+words-declared : (kind : VariableKind) (slot : ℕ) (a : Held) (s : Memory) → (declared_array kind slot a s).words ≡ s.words
+words-declared (PlainKind l) slot a s = refl
+words-declared DomainKind slot a s = refl
+words-declared TupleKind slot a s = refl
+words-declared (ArrayKind l) slot a s = refl
+
+-- WHAT A NAME MAY HOLD
+-- what an assignment makes of an element that is read
+changed-held : (k : VariableKind) (op : Assign) (slot : ℕ) (t : Index) (s : Memory) (old w : Value) → element_in_memory k slot t s ≡ Some old → kind_takes k op ≡ true → IsOf k w → IsOf k (assigned op None old w)
+changed-held (PlainKind k) op slot t s old w e takes p = cc
+changed-held DomainKind op slot t s old w e takes p = cc
+changed-held TupleKind op slot t s old w e takes p = cc
+changed-held (ArrayKind k) op slot t s old w e takes p = assigned-element k op old w takes p
+
+-- the value of a turn, of whole arrays
+turn-held : (limits : Limits) (k : VariableKind) (item : ItemTree Bound) (s : Memory) (t : Index) (v : Value) → IsWhole k → SuitsTurns k item
+    → item_of limits in_memory (renamed_item variable_of item) (Some t) s ≡ Ok v → IsOf k v
+turn-held limits (PlainKind k) item s t v whole f e = absurd whole
+turn-held limits DomainKind item s t v whole f e = absurd whole
+turn-held limits TupleKind item s t v whole f e = absurd whole
+turn-held limits (ArrayKind k) item s t v whole f e = f limits s t v e
+
+-- what the command line gives
+given-alike : (k : VariableKind) (x : Bound) (start : Start) (s : Memory) → s.words.sets ≡ start.words → IsGivenAs k x start → paired x.text start.texts ≡ given_in k x.variable.slot s
+given-alike (PlainKind k) x start s e g = g ∙ ap (λ ws. option_map (given_as k) (set_at x.variable.slot ws)) (sym e)
+given-alike DomainKind x start s e g = absurd g
+given-alike TupleKind x start s e g = absurd g
+given-alike (ArrayKind k) x start s e g = absurd g
+
+given-held : (k : VariableKind) (slot : ℕ) (s : Memory) (v : Value) → given_in k slot s ≡ Some v → IsOf k v
+given-held (PlainKind k) slot s v e = given-kind k (set_at slot s.words.sets) v e
+given-held DomainKind slot s v e = cc
+given-held TupleKind slot s v e = cc
+given-held (ArrayKind k) slot s v e = cc
+
+-- the arrays that stand with a domain are those over it
+arrays-known : (k : VariableKind) (x : Bound) (g : Seen) → k ≡ DomainKind → ArraysResolve k x g → x.variable.arrays ≡ arrays_over x.variable.slot g.frames
+arrays-known (PlainKind k) x g e a = cc
+arrays-known DomainKind x g e a = a
+arrays-known TupleKind x g e a = cc
+arrays-known (ArrayKind k) x g e a = cc
+
+top_level-store_in : (s : Memory) (fs : Sight) → top_level (store_in s fs) ≡ frame_in s (outermost fs)
+top_level-store_in s [] = refl
+top_level-store_in s (f ∷ []) = refl
+top_level-store_in s (f ∷ g ∷ fs) = top_level-store_in s (g ∷ fs)
+
+module _ (start : Start) where
+  -- A RESOLVED NAME: what is told of it, where it is placed, and what it holds
+  finds : (x : Bound) (g : Seen) (s1 : State) (s2 : Memory) (r : Kept start g s1 s2) → Resolves x g → Finds r.told start.slots x.text (x.variable.kind, x.variable.slot)
+  finds x g s1 s2 r f = innermost-told r.told start.slots x.text (x.variable.kind, x.variable.slot) g.frames r.is_told f
+
+  placed_at : (x : Bound) (g : Seen) → Resolves x g → slot_of x.text (in_slots g.frames) ≡ Some x.variable.slot
+  placed_at x g f = slot_of-innermost x.text (x.variable.kind, x.variable.slot) g.frames f
+
+  held : (x : Bound) (g : Seen) (s1 : State) (s2 : Memory) (r : Kept start g s1 s2) → Resolves x g
+      → look_up x.text s1.store ≡ spelled (content_in x.variable.kind x.variable.slot (r.told x.variable.slot).over s2)
+  held x g s1 s2 r f =
+      ap (look_up x.text) r.store ∙ look_up-slot x.text x.variable.slot (in_slots g.frames) (contents r.told s2) (placed_at x g f)
+      ∙ ap (λ k. spelled (content_in k x.variable.slot (r.told x.variable.slot).over s2)) (finds x g s1 s2 r f).kind
+
+  value_alike : (x : Bound) (g : Seen) (s1 : State) (s2 : Memory) → Kept start g s1 s2 → Resolves x g → by_name.get x.text s1 ≡ value_in x.variable.kind x.variable.slot s2
+  value_alike x g s1 s2 r f = ap name_value (held x g s1 s2 r f) ∙ name_value-spelled x.variable.kind x.variable.slot (r.told x.variable.slot).over s2
+
+  element_alike : (x : Bound) (t : Index) (g : Seen) (s1 : State) (s2 : Memory) → Kept start g s1 s2 → Resolves x g → by_name.element x.text t s1 ≡ element_in_memory x.variable.kind x.variable.slot t s2
+  element_alike x t g s1 s2 r f = ap (element_in t) (held x g s1 s2 r f) ∙ element-spelled x.variable.kind x.variable.slot (r.told x.variable.slot).over t s2
+
+  -- ONE SLOT CHANGED, and all else as it was
+  changed_alike : (x : Bound) (a : Content Text → Content Text) (u : Content SlotBound → Content SlotBound) (new : Memory) (g : Seen) (s1 : State) (s2 : Memory) → Kept start g s1 s2 → Resolves x g
+      → ((c : Content SlotBound) → a (spelled c) ≡ spelled (u c))
+      → ((over : Option SlotBound) → u (content_in x.variable.kind x.variable.slot over s2) ≡ content_in x.variable.kind x.variable.slot over new)
+      → ((k : VariableKind) (j : ℕ) (over : Option SlotBound) → j ≢ x.variable.slot → content_in k j over new ≡ content_in k j over s2)
+      → HasSlots start.slots new → new.words.intents ≡ s2.words.intents → new.words.sets ≡ s2.words.sets → Kept start g (record s1 { store = change_in x.text a s1.store }) new
+  changed_alike x a u new g s1 s2 r f p here other h i w =
+      let slot = x.variable.slot in
+      let over = (r.told slot).over in
+      let kind = (finds x g s1 s2 r f).kind in
+      record {
+        told = r.told;
+        is_told = r.is_told;
+        fit = r.fit;
+        apart = r.apart;
+        overs = Overs-contents (texts_of r.told) r.told s2 new (in_slots g.frames) r.overs;
+        store =
+            ap (change_in x.text a) r.store ∙ change_in-slot x.text a u p (in_slots g.frames) (contents r.told s2) slot r.apart (placed_at x g f)
+            ∙ store_at-each (set_slot slot (u (contents r.told s2 slot)) (contents r.told s2)) (contents r.told new)
+            (set_slot-each slot (u (contents r.told s2 slot)) (contents r.told s2) (contents r.told new)
+            (ap (λ k. u (content_in k slot over s2)) kind ∙ here over ∙ sym (ap (λ k. content_in k slot over new) kind))
+            (λ j ne. sym (other (r.told j).kind j (r.told j).over ne)))
+            (in_slots g.frames);
+        slots = h;
+        intents = r.intents;
+        intents_by_slots = i ∙ r.intents_by_slots;
+        here = r.here;
+        texts = r.texts;
+        words = w ∙ r.words;
+      }
+
+  update_alike : (x : Bound) (op : Assign) (v : Value) (g : Seen) (s1 : State) (s2 : Memory) → Kept start g s1 s2 → Resolves x g → kind_takes x.variable.kind op ≡ true → IntentResolves op x g → IsOf x.variable.kind v
+      → Kept start g (by_name.update x.text op v s1) (in_memory.update x.variable op v s2)
+  update_alike x op v g s1 s2 r f t i p =
+      let kind = x.variable.kind in
+      let slot = x.variable.slot in
+      let intent = intent_at slot s2.words.intents in
+      changed_alike x (update_in op (paired x.text s1.intents) v) (updated op intent v) (in_memory.update x.variable op v s2) g s1 s2 r f
+      (λ c. update_in-spelled op x g (paired x.text s1.intents) intent v c (ap (paired x.text) r.intents) (ap (intent_at slot) r.intents_by_slots) i)
+      (λ over. updated-content kind slot over op intent v start.slots s2
+      (λ n. assigned-of kind op intent (value_in kind slot s2) v n t (λ e. subst (λ is. KindCombines kind (intent_at slot is)) (sym r.intents_by_slots) (intent-combines op x g i e)) p)
+      r.slots (finds x g s1 s2 r f).within)
+      (λ k j over ne. content_in-set_other k kind j slot over (assigned op intent (value_in kind slot s2) v) s2 ne)
+      (slots-set kind slot (assigned op intent (value_in kind slot s2) v) start.slots s2 r.slots)
+      (intents-set_in kind slot (assigned op intent (value_in kind slot s2) v) s2)
+      (sets-set_in kind slot (assigned op intent (value_in kind slot s2) v) s2)
+
+  put_alike : (x : Bound) (t : Index) (v : Value) (g : Seen) (s1 : State) (s2 : Memory) → Kept start g s1 s2 → Resolves x g → IsOf x.variable.kind v
+      → Kept start g (by_name.put_element x.text t v s1) (in_memory.put_element x.variable t v s2)
+  put_alike x t v g s1 s2 r f p =
+      let kind = x.variable.kind in
+      let slot = x.variable.slot in
+      changed_alike x (put_in t v) (with_element_at t v) (in_memory.put_element x.variable t v s2) g s1 s2 r f (put-spelled t v)
+      (λ over. put-content kind slot over t v start.slots s2 p r.slots (finds x g s1 s2 r f).within)
+      (λ k j over ne. put-other k kind j slot over t v s2 ne)
+      (slots-element kind slot t v start.slots s2 r.slots)
+      (ap (λ w. w.intents) (words-element kind slot t v s2))
+      (ap (λ w. w.sets) (words-element kind slot t v s2))
+
+  -- A DECLARATION
+  declared_alike : (x : Bound) (sort : Sort Bound) (c : Content SlotBound) (new : Memory) (g : Seen) (s1 : State) (s2 : Memory) (r : Kept start g s1 s2) → IsNew start.slots x g → OverFits x.variable.kind (over_of sort)
+      → content_in x.variable.kind x.variable.slot (placed_over (over_of sort)) new ≡ c
+      → ((k : VariableKind) (j : ℕ) (over : Option SlotBound) → j ≢ x.variable.slot → content_in k j over new ≡ content_in k j over s2)
+      → OverResolves (texts_of (with_told x.variable.slot (told_of (sighted x sort)) r.told)) c (in_slots g.frames)
+      → HasSlots start.slots new → new.words.intents ≡ s2.words.intents → new.words.sets ≡ s2.words.sets
+      → Kept start (record g { frames = bind (sighted x sort) g.frames }) (record s1 { store = declare_in x.text (spelled c) s1.store }) new
+  declared_alike x sort c new g s1 s2 r n fits here other resolves h i w =
+      let slot = x.variable.slot in
+      let told = with_told slot (told_of (sighted x sort)) r.told in
+      let fresh : IsFresh slot (in_slots g.frames) = IsFresh-in_slots slot g.frames n.unused in
+      let each : (j : ℕ) → set_slot slot c (contents r.told s2) j ≡ contents told new j = set_slot-each slot c (contents r.told s2) (contents told new)
+          (sym (ap (λ (t : Told). content_in t.kind slot t.over new) (with_told_here slot (told_of (sighted x sort)) r.told) ∙ here))
+          (λ j ne. sym (ap (λ (t : Told). content_in t.kind j t.over new) (with_told_other j slot (told_of (sighted x sort)) r.told ne) ∙ other (r.told j).kind j (r.told j).over ne)) in
+      record {
+        told = told;
+        is_told = IsTold-bind (sighted x sort) r.told start.slots g.frames n.unused n.within r.is_told;
+        fit = Fit-bind (sighted x sort) g.frames r.fit fits;
+        apart = subst IsApart (sym (in_slots-bind (sighted x sort) g.frames)) (IsApart-bind (placed x) (in_slots g.frames) r.apart fresh);
+        overs = subst (Overs (texts_of told) (contents told new)) (sym (in_slots-bind (sighted x sort) g.frames))
+            (Overs-each (texts_of told) (set_slot slot c (contents r.told s2)) (contents told new) (slot_bind (placed x) (in_slots g.frames)) each
+            (Overs-declare (texts_of told) (placed x) c (contents r.told s2) (in_slots g.frames) fresh
+            (Overs-texts (texts_of r.told) (texts_of told) slot (λ j ne. ap (λ (t : Told). t.text) (with_told_other j slot (told_of (sighted x sort)) r.told ne)) (contents r.told s2) (in_slots g.frames) fresh r.overs)
+            resolves));
+        store =
+            ap (declare_in x.text (spelled c)) r.store ∙ declare_in-slot (placed x) c (in_slots g.frames) (contents r.told s2) fresh
+            ∙ store_at-each (set_slot slot c (contents r.told s2)) (contents told new) each (slot_bind (placed x) (in_slots g.frames))
+            ∙ ap (store_at (contents told new)) (sym (in_slots-bind (sighted x sort) g.frames));
+        slots = h;
+        intents = r.intents;
+        intents_by_slots = i ∙ r.intents_by_slots;
+        here = r.here;
+        texts = r.texts;
+        words = w ∙ r.words;
+      }
+
+  -- the domain name that an array is declared over
+  over_alike : (over : Option Bound) (slot : ℕ) (t : Told) (g : Seen) (s1 : State) (s2 : Memory) (r : Kept start g s1 s2) → IsUnused slot g.frames → OverIsFound over g
+      → OverNamed (texts_of (with_told slot t r.told)) (placed_over over) (in_slots g.frames)
+  over_alike None slot t g s1 s2 r u o = tt
+  over_alike (Some y) slot t g s1 s2 r u o =
+      OverNamed-texts (texts_of r.told) (texts_of (with_told slot t r.told)) slot (λ j ne. ap (λ (t : Told). t.text) (with_told_other j slot t r.told ne)) (Some (placed y)) (in_slots g.frames)
+      (IsFresh-in_slots slot g.frames u) (placed_at y g o, sym (finds y g s1 s2 r o).text)
+
+  declare_alike : (x : Bound) (c : Content Bound) (g : Seen) (s1 : State) (s2 : Memory) → Kept start g s1 s2 → Declares start.slots x (sort_of c) g → HoldsKind x.variable.kind c
+      → Kept start (record g { frames = bind (sighted x (sort_of c)) g.frames }) (by_name.declare x.text (renamed_content text_of c) s1) (in_memory.declare x.variable (renamed_content variable_of c) s2)
+  declare_alike x (Plain v) g s1 s2 r d p =
+      let kind = x.variable.kind in
+      let slot = x.variable.slot in
+      declared_alike x PlainSort (Plain v) (with_value_in kind slot v s2) g s1 s2 r d.0 (fits-none kind)
+      (content_in-set_same kind slot None v start.slots s2 p d.1 r.slots d.0.within)
+      (λ k j over ne. content_in-set_other k kind j slot over v s2 ne) tt (slots-set kind slot v start.slots s2 r.slots) (intents-set_in kind slot v s2) (sets-set_in kind slot v s2)
+  declare_alike x (ArrayOf over k rs vs) g s1 s2 r d p =
+      let kind = x.variable.kind in
+      let slot = x.variable.slot in
+      subst (λ o. Kept start (record g { frames = bind (sighted x (ArraySort over)) g.frames }) (record s1 { store = declare_in x.text (ArrayOf o k rs vs) s1.store }) (declared_array kind slot (made rs vs) s2))
+      (over_text-placed over)
+      (declared_alike x (ArraySort over) (ArrayOf (placed_over over) k rs vs) (declared_array kind slot (made rs vs) s2) g s1 s2 r d.0 (fits-whole kind over d.1)
+      (declared-content kind slot (placed_over over) k rs vs start.slots s2 p r.slots d.0.within)
+      (λ l j o ne. declared-other l kind j slot o (made rs vs) s2 ne)
+      (over_alike over slot (told_of (sighted x (ArraySort over))) g s1 s2 r d.0.unused d.2)
+      (slots-declared kind slot (made rs vs) start.slots s2 r.slots) (ap (λ w. w.intents) (words-declared kind slot (made rs vs) s2)) (ap (λ w. w.sets) (words-declared kind slot (made rs vs) s2)))
+  declare_alike x (CellOf k c) g s1 s2 r d p = absurd d
+
+  -- A DOMAIN ASSIGNED
+  was_domain : (x : Bound) (g : Seen) → WasDomain (through variable_of in_memory) (Kept start) x g → x.variable.kind ≡ DomainKind
+  was_domain x g w = value_in-domain x.variable.kind x.variable.slot w.1 w.3
+
+  has_alike : (x : Bound) (g : Seen) (s1 : State) (s2 : Memory) → Kept start g s1 s2 → Resolves x g → x.variable.arrays ≡ arrays_over x.variable.slot g.frames
+      → by_name.has_arrays x.text s1 ≡ is_some_array x.variable.arrays
+  has_alike x g s1 s2 r f a =
+      ap (named_arrays x.text) r.store
+      ∙ arrays_over-slots (texts_of r.told) (placed x) (sym (finds x g s1 s2 r f).text) (contents r.told s2) (in_slots g.frames) r.apart r.overs (placed_at x g f)
+      ∙ any_over-told x.variable.slot start.slots r.told s2 g.frames r.is_told r.fit ∙ ap is_some_array (sym a)
+
+  redomain_alike : (x : Bound) (rs : List TextRange) (g : Seen) (s1 : State) (s2 : Memory) → Kept start g s1 s2 → Resolves x g → x.variable.kind ≡ DomainKind → x.variable.arrays ≡ arrays_over x.variable.slot g.frames
+      → Kept start g (by_name.redomain x.text rs s1) (in_memory.redomain x.variable rs s2)
+  redomain_alike x rs g s1 s2 r f d a = record {
+    told = r.told;
+    is_told = r.is_told;
+    fit = r.fit;
+    apart = r.apart;
+    overs = Overs-contents (texts_of r.told) r.told s2 (redomained_in x.variable rs s2) (in_slots g.frames) r.overs;
+    store =
+        ap (redomain_in x.text rs) r.store
+        ∙ redomain_in-slots (texts_of r.told) (placed x) (sym (finds x g s1 s2 r f).text) (contents r.told s2) rs (in_slots g.frames) r.apart r.overs (placed_at x g f)
+        ∙ store-redomained x.variable rs start.slots s2 r.slots d r.told g.frames r.is_told ((finds x g s1 s2 r f).kind ∙ d) (finds x g s1 s2 r f).within
+        (subst (λ xs. Tells x.variable.slot xs g.frames) (sym a) (arrays_over-tells x.variable.slot g.frames r.apart));
+    slots = redomained-slots x.variable rs start.slots s2 r.slots d;
+    intents = r.intents;
+    intents_by_slots = ap (λ w. w.intents) (redomained-intents x.variable rs start.slots s2 r.slots d) ∙ r.intents_by_slots;
+    here = r.here;
+    texts = r.texts;
+    words = ap (λ w. w.sets) (redomained-intents x.variable rs start.slots s2 r.slots d) ∙ r.words;
+  }
+
+  -- ALL TOGETHER
+  pub memory_simulates : (limits : Limits) → Simulates limits text_of (resolving start) by_name (through variable_of in_memory) (Kept start)
+  memory_simulates limits = record {
+    lawful = resolving-lawful start;
+    gets = λ x g s1 s2 r f. value_alike x g s1 s2 r f;
+    whole_targets = λ x op g s1 s2 r f. ap array_domain (value_alike x g s1 s2 r f.0);
+    domain_targets = λ x op g s1 s2 r f. ap is_domain (value_alike x g s1 s2 r f.0);
+    updates = λ x op v g s1 s2 r f h. update_alike x op v g s1 s2 r f.0 f.1 f.2 h;
+    elements_at = λ x t g s1 s2 r f. element_alike x t g s1 s2 r f;
+    elements = λ x items vs g s1 s2 r f e. element_alike x (index_of vs) g s1 s2 r f;
+    puts_at = λ x t v g s1 s2 r f h. put_alike x t v g s1 s2 r f h;
+    puts = λ x items vs v g s1 s2 r f e h. put_alike x (index_of vs) v g s1 s2 r f h;
+    declares = λ x c g s1 s2 r f h. declare_alike x c g s1 s2 r f h;
+    gives = λ x g s1 s2 r f. ap (paired x.text) r.texts ∙ given-alike x.variable.kind x start s2 r.words f;
+    suited = λ x item v g s1 s2 r f e.
+        f.1 limits s2 v (sym (item_of-through limits variable_of in_memory item s2) ∙ subst (λ o. MayRead limits (through variable_of in_memory) o item s2 v) f.0 e);
+    suited_turn = λ x item t v g s1 s2 r f w e.
+        turn-held limits x.variable.kind item s2 t v (value_in-array x.variable.kind x.variable.slot w.1 w.3.0 w.3.1) f.2 (sym (item_of-through_at limits variable_of in_memory item (Some t) s2) ∙ e);
+    suited_initial = λ x over item t v g s1 s2 r f d e. turn-held limits x.variable.kind item s2 t v d.1 f.2 (sym (item_of-through_at limits variable_of in_memory item (Some t) s2) ∙ e);
+    changed = λ x op t old w g s1 s2 r f e h. changed-held x.variable.kind op x.variable.slot t s2 old w e f.1 h;
+    turned = λ x item over g s1 s2 r f e. f limits s2 over (sym (item_of-through limits variable_of in_memory item s2) ∙ e);
+    given_holds = λ x v g s1 s2 r f e. given-held x.variable.kind x.variable.slot s2 v e;
+    enters = λ g s1 s2 r. record {
+      told = r.told;
+      is_told = (tt, r.is_told);
+      fit = (tt, r.fit);
+      apart = (tt, r.apart);
+      overs = (tt, r.overs);
+      store = ap (λ s. [] ∷ s) r.store;
+      slots = r.slots;
+      intents = r.intents;
+      intents_by_slots = r.intents_by_slots;
+      here = r.here;
+      texts = r.texts;
+      words = r.words;
+    };
+    leaves = λ g s1 s2 r. record {
+      told = r.told;
+      is_told = IsTold-without_frame r.told start.slots g.frames r.is_told;
+      fit = Fit-without_frame g.frames r.fit;
+      apart = subst IsApart (sym (in_slots-without_frame g.frames)) (IsApart-without_frame (in_slots g.frames) r.apart);
+      overs = subst (Overs (texts_of r.told) (contents r.told s2)) (sym (in_slots-without_frame g.frames)) (Overs-without_frame (texts_of r.told) (contents r.told s2) (in_slots g.frames) r.overs);
+      store =
+          ap without_innermost r.store ∙ without_innermost-store_at (contents r.told s2) (in_slots g.frames)
+          ∙ ap (store_at (contents r.told s2)) (sym (in_slots-without_frame g.frames));
+      slots = r.slots;
+      intents = r.intents;
+      intents_by_slots = r.intents_by_slots;
+      here = r.here;
+      texts = r.texts;
+      words = r.words;
+    };
+    intends = λ is g s1 s2 r f. record {
+      told = r.told;
+      is_told = r.is_told;
+      fit = r.fit;
+      apart = r.apart;
+      overs = Overs-contents (texts_of r.told) r.told s2 (intended (intents_by_slot (renamed_intents variable_of is)) s2) (in_slots g.frames) r.overs;
+      store = r.store ∙ store_at-intend r.told (intents_by_slot (renamed_intents variable_of is)) s2 (in_slots g.frames);
+      slots = slots-intended (intents_by_slot (renamed_intents variable_of is)) s2 r.slots;
+      intents = refl;
+      intents_by_slots = refl;
+      here = r.here;
+      texts = r.texts;
+      words = r.words;
+    };
+    ends_forall = λ is g s1 s2 r f. record {
+      told = r.told;
+      is_told = r.is_told;
+      fit = r.fit;
+      apart = r.apart;
+      overs = Overs-contents (texts_of r.told) r.told s2 (intended [] s2) (in_slots g.frames) r.overs;
+      store = r.store ∙ store_at-intend r.told [] s2 (in_slots g.frames);
+      slots = slots-intended [] s2 r.slots;
+      intents = ap (renamed_intents text_of) (sym f);
+      intents_by_slots = ap (λ is. intents_by_slot (renamed_intents variable_of is)) (sym f);
+      here = r.here;
+      texts = r.texts;
+      words = r.words;
+    };
+    has = λ x op g s1 s2 r f w. has_alike x g s1 s2 r f.0 (arrays-known x.variable.kind x g (was_domain x g w) f.3);
+    redomains = λ x op rs g s1 s2 r f w. redomain_alike x rs g s1 s2 r f.0 (was_domain x g w) (arrays-known x.variable.kind x g (was_domain x g w) f.3);
+    heres = λ g s1 s2 r. r.here;
+    moves = λ k g s1 s2 r m. absurd m;
+    calls = λ x op g s1 s2 r f. absurd f;
+    cells = λ g s1 s2 r c. absurd c;
+    histories = λ g s1 s2 r c. absurd c;
+    begins = λ rs g s1 s2 r c. absurd c;
+    settles = λ h g s1 s2 r c. absurd c;
+  }
+    where
+      slots-intended : (is : List (ℕ × Op)) (s : Memory) → HasSlots start.slots s → HasSlots start.slots (intended is s)
+      slots-intended is s h = record {
+        numbers = h.numbers;
+        ranges = h.ranges;
+        domains = h.domains;
+        tuples = h.tuples;
+        arrays = h.arrays;
+      }
+
+  stands_for : (g : Seen) (s1 : State) (s2 : Memory) → Kept start g s1 s2 → StandsFor start g s1 s2
+  stands_for g s1 s2 r = record {
+    store = r.store ∙ store_at-contents r.told start.slots s2 g.frames r.is_told;
+    slots = r.slots;
+    intents = r.intents;
+    intents_by_slots = r.intents_by_slots;
+    here = r.here;
+    texts = r.texts;
+    words = r.words;
+  }
+
+  left-alike : (g : Seen) (a : Outcome State) (b : Outcome Memory) → EndsAlike (StandsFor start g) a b → left a ≡ left_in g.frames b
+  left-alike g (Done s done) b e = ap (λ t. Some (top_level t)) e.1.store ∙ ap (λ f. Some f) (top_level-store_in e.0 g.frames) ∙ sym (ap (left_in g.frames) e.2)
+  left-alike g (Stop f done) b e = sym (ap (left_in g.frames) e)
+  left-alike g (Waits at c op done) b e = sym (ap (left_in g.frames) e)
+
+  first_kept : (histories : List (List Event)) → Kept start first_seen (first_state start.texts histories) (first_memory start)
+  first_kept histories = record {
+    told = λ j. record { text = []; kind = PlainKind IntLeaf; over = None };
+    is_told = (tt, tt);
+    fit = (tt, tt);
+    apart = (tt, tt);
+    overs = (tt, tt);
+    store = refl;
+    slots = record {
+      numbers = length-replicate start.slots (pos 0);
+      ranges = length-replicate start.slots no_range;
+      domains = length-replicate start.slots [];
+      tuples = length-replicate start.slots [];
+      arrays = length-replicate start.slots no_array;
+    };
+    intents = refl;
+    intents_by_slots = refl;
+    here = refl;
+    texts = refl;
+    words = refl;
+  }
+
+  -- THE THEOREM: from the first states, statements that fit end alike by names and in a memory; where they are done, the
+  -- memory stands for the store.
+  pub exec_all-memory : (limits : Limits) (ts : Stmts Bound) (histories : List (List Event)) (done : Deeds) → fits_all (resolving start) ts first_seen
+      → EndsAlike (StandsFor start (after_all (resolving start) ts first_seen)) (exec_all limits by_name (renamed_stmts text_of ts) (first_state start.texts histories) done)
+      (exec_all limits in_memory (renamed_stmts variable_of ts) (first_memory start) done)
+  exec_all-memory limits ts histories done f =
+      EndsAlike-weaker (Kept start (after_all (resolving start) ts first_seen)) (StandsFor start (after_all (resolving start) ts first_seen))
+      (stands_for (after_all (resolving start) ts first_seen)) _ _
+      (subst (EndsAlike (Kept start (after_all (resolving start) ts first_seen)) (exec_all limits by_name (renamed_stmts text_of ts) (first_state start.texts histories) done))
+      (exec_all-through limits variable_of in_memory ts (first_memory start) done)
+      (exec_all-alike limits text_of (resolving start) by_name (through variable_of in_memory) (Kept start) (memory_simulates limits) ts first_seen f
+      (first_state start.texts histories) (first_memory start) done (first_kept histories)))
+
+  -- so a program ends in a memory as it means, and writes the same
+  pub meaning-memory : (limits : Limits) (t : ProgramTree Bound) (histories : List (List Event)) → fits_all (resolving start) t.stmts first_seen
+      → EndsAlike (StandsFor start (after_all (resolving start) t.stmts first_seen)) (meaning (renamed_program text_of t) start.texts limits histories)
+      (run_from limits in_memory (renamed_program variable_of t) (first_memory start))
+  meaning-memory limits t histories f =
+      settled-alike (StandsFor start (after_all (resolving start) t.stmts first_seen)) _ _ (exec_all-memory limits t.stmts histories no_deeds f)
+
+  -- and where it is done, it leaves the same top-level names with what stands in their slots
+  pub left-memory : (limits : Limits) (t : ProgramTree Bound) (histories : List (List Event)) → fits_all (resolving start) t.stmts first_seen
+      → left (meaning (renamed_program text_of t) start.texts limits histories)
+      ≡ left_in (after_all (resolving start) t.stmts first_seen).frames (run_from limits in_memory (renamed_program variable_of t) (first_memory start))
+  left-memory limits t histories f = left-alike (after_all (resolving start) t.stmts first_seen) _ _ (meaning-memory limits t histories f)
+
+  pub written-memory : (limits : Limits) (t : ProgramTree Bound) (histories : List (List Event)) → fits_all (resolving start) t.stmts first_seen
+      → written (meaning (renamed_program text_of t) start.texts limits histories) ≡ written (run_from limits in_memory (renamed_program variable_of t) (first_memory start))
+  written-memory limits t histories f =
+      written-alike (StandsFor start (after_all (resolving start) t.stmts first_seen)) _ _ (meaning-memory limits t histories f)

@@ -1,0 +1,4 @@
+-- Variables, memory, and what the language's meaning asks of them.
+pub mod Memory
+-- Programs whose names are resolved, where a name may stand in them, and the store that a memory is.
+pub mod Resolved

@@ -1,0 +1,190 @@
+-- Variables kept by slots: plain ones in words and ranges, and beside these lists of domains, of tuples and of arrays.
+-- It is what a checked data-parallel program does on one locale; it has no cells and no other locales, and answers as if there were none.
+use Rattle.std.specs.Prelude.{ℕ, ◌+◌, ◌==◌, ℤ, pos, Bool, true, false, if◌then◌else◌, Option, Some, None, List, [], ◌∷◌, get_or, set, map, option_map}
+use Rattle.std.specs.List.{list_any}
+use Rattle.dpl_range.specs.Equality.{TextRange}
+use Rattle.dpl_language.specs.Tree.{Op, Kind, IntKind, BoolKind}
+use Rattle.dpl_language.specs.Values.{Value, Int, Domain, Array, Tuple, Index, ranges_in, coordinates, kept_number}
+use Rattle.dpl_language.specs.Arithmetic.{assigned}
+use Rattle.dpl_language.specs.Ranges.{indices_in, same_index}
+use Rattle.dpl_language.specs.Environment.{Content, Plain, ArrayOf, CellOf, Unanswered, Environment}
+use Rattle.dpl_lowered.specs.Known.{Known, WholeArray, NoArray, PlainValue}
+use Rattle.dpl_words.specs.Words.{LeafKind, Words, is_true, intent_at, set_at, given_as, value_at, with_value_at}
+
+-- THE KINDS OF VARIABLES: those of plain variables, and domains, tuple names of loops, and arrays of ints and truth values
+pub data VariableKind : Type 0 where
+  PlainKind : LeafKind → VariableKind
+  DomainKind : VariableKind
+  TupleKind : VariableKind
+  ArrayKind : Kind → VariableKind
+
+-- What stands for a name in a checked tree: its kind, and the slot of its declaration. Where a domain is assigned, the slots
+-- of the arrays in sight that are declared over its bare name stand with it; elsewhere none do.
+pub record Variable : Type 0 where
+  pub kind : VariableKind
+  pub slot : ℕ
+  pub arrays : List ℕ
+
+-- a name that is read, or assigned and no domain
+abbrev pub variable : VariableKind → ℕ → Variable
+variable kind slot = record { kind = kind; slot = slot; arrays = [] }
+
+-- what a lowering knows of it
+abbrev pub known_kind : VariableKind → Known
+known_kind (PlainKind k) = PlainValue
+known_kind DomainKind = NoArray
+known_kind TupleKind = PlainValue
+known_kind (ArrayKind k) = WholeArray
+
+abbrev pub known_variable : Variable → Known
+known_variable x = known_kind x.kind
+
+-- an array: its domain, and a word for each of its elements, in domain order
+pub record Held : Type 0 where
+  pub ranges : List TextRange
+  pub words : List ℤ
+
+-- the value that an element's word is
+abbrev pub element_as : Kind → ℤ → Value
+element_as IntKind w = Int w
+element_as BoolKind w = is_true w
+
+-- A MEMORY: the words and ranges of plain variables, with the reduce variables of the forall around and what the command
+-- line sets; and by the same slots domains, tuples and arrays
+pub record Memory : Type 0 where
+  pub words : Words
+  pub domains : List (List TextRange)
+  pub tuples : List Index
+  pub arrays : List Held
+
+-- what stands in a slot past the last one
+abbrev pub no_array : Held
+no_array = record { ranges = []; words = [] }
+
+abbrev pub array_at : ℕ → Memory → Held
+array_at slot s = get_or s.arrays slot no_array
+
+-- the value of a variable; of an array its kind and its domain alone
+abbrev pub value_in : VariableKind → ℕ → Memory → Value
+value_in (PlainKind k) slot s = value_at k slot s.words
+value_in DomainKind slot s = Domain (get_or s.domains slot [])
+value_in TupleKind slot s = Tuple (get_or s.tuples slot [])
+value_in (ArrayKind k) slot s = Array k (array_at slot s).ranges
+
+-- a value put into a slot, past the last of which nothing changes; a whole array is no value that is put
+abbrev pub with_value_in : VariableKind → ℕ → Value → Memory → Memory
+with_value_in (PlainKind k) slot v s = record s { words = with_value_at k slot v s.words }
+with_value_in DomainKind slot v s = record s { domains = set s.domains slot (ranges_in v) }
+with_value_in TupleKind slot v s = record s { tuples = set s.tuples slot (coordinates v) }
+with_value_in (ArrayKind k) slot v s = s
+
+abbrev pub with_array : ℕ → Held → Memory → Memory
+with_array slot a s = record s { arrays = set s.arrays slot a }
+
+-- ELEMENTS, by the index: an array's words are read as the finite map that they are
+abbrev pub word_at : Index → List Index → List ℤ → Option ℤ
+word_at t [] ws = None
+word_at t (i ∷ is) [] = None
+word_at t (i ∷ is) (w ∷ ws) = if same_index t i then Some w else word_at t is ws
+
+abbrev pub with_word : Index → ℤ → List Index → List ℤ → List ℤ
+with_word t w [] ws = ws
+with_word t w (i ∷ is) [] = []
+with_word t w (i ∷ is) (u ∷ ws) = if same_index t i then w ∷ ws else u ∷ with_word t w is ws
+
+abbrev pub held_at : Index → Held → Option ℤ
+held_at t a = word_at t (indices_in a.ranges) a.words
+
+abbrev pub held_with : Index → ℤ → Held → Held
+held_with t w a = record a { words = with_word t w (indices_in a.ranges) a.words }
+
+abbrev pub element_in : VariableKind → ℕ → Index → Memory → Option Value
+element_in (PlainKind k) slot t s = None
+element_in DomainKind slot t s = None
+element_in TupleKind slot t s = None
+element_in (ArrayKind k) slot t s = option_map (element_as k) (held_at t (array_at slot s))
+
+abbrev pub with_element_in : VariableKind → ℕ → Index → Value → Memory → Memory
+with_element_in (PlainKind k) slot t v s = s
+with_element_in DomainKind slot t v s = s
+with_element_in TupleKind slot t v s = s
+with_element_in (ArrayKind k) slot t v s = with_array slot (held_with t (kept_number v) (array_at slot s)) s
+
+-- DECLARATIONS
+abbrev pub declared_array : VariableKind → ℕ → Held → Memory → Memory
+declared_array (PlainKind k) slot a s = s
+declared_array DomainKind slot a s = s
+declared_array TupleKind slot a s = s
+declared_array (ArrayKind k) slot a s = with_array slot a s
+
+abbrev pub declared : Variable → Content Variable → Memory → Memory
+declared x (Plain v) s = with_value_in x.kind x.slot v s
+declared x (ArrayOf over k rs vs) s =
+    declared_array x.kind x.slot (record { ranges = rs; words = map kept_number vs }) s
+declared x (CellOf k c) s = s
+
+-- the value that the command line gives: to plain variables alone
+abbrev pub given_in : VariableKind → ℕ → Memory → Option Value
+given_in (PlainKind k) slot s = option_map (given_as k) (set_at slot s.words.sets)
+given_in DomainKind slot s = None
+given_in TupleKind slot s = None
+given_in (ArrayKind k) slot s = None
+
+-- DOMAIN VARIABLES: the arrays in these slots get the domain, and keep the elements whose indices are in both
+abbrev pub is_among : ℕ → List ℕ → Bool
+is_among slot slots = list_any (λ (j : ℕ). slot == j) slots
+
+abbrev pub or_zero : Option ℤ → ℤ
+or_zero None = pos 0
+or_zero (Some w) = w
+
+abbrev pub held_over : List TextRange → Held → Held
+held_over rs a = record { ranges = rs; words = map (λ t. or_zero (held_at t a)) (indices_in rs) }
+
+abbrev pub held_over_if : Bool → List TextRange → Held → Held
+held_over_if true rs a = held_over rs a
+held_over_if false rs a = a
+
+-- of the arrays from a slot on
+abbrev pub redomained_from : ℕ → List ℕ → List TextRange → List Held → List Held
+redomained_from first slots rs [] = []
+redomained_from first slots rs (a ∷ more) =
+    held_over_if (is_among first slots) rs a ∷ redomained_from (first + 1) slots rs more
+
+abbrev pub redomained_in : Variable → List TextRange → Memory → Memory
+redomained_in x rs s =
+    record (with_value_in x.kind x.slot (Domain rs) s) { arrays = redomained_from 0 x.arrays rs s.arrays }
+
+abbrev pub is_some_array : List ℕ → Bool
+is_some_array [] = false
+is_some_array (slot ∷ slots) = true
+
+abbrev pub intended : List (ℕ × Op) → Memory → Memory
+intended is s = record s { words = record s.words { intents = is } }
+
+-- reduce variables by their slots
+abbrev pub intents_by_slot : List (Variable × Op) → List (ℕ × Op)
+intents_by_slot is = map {A = Variable × Op} {B = ℕ × Op} (λ p. (p.0.slot, p.1)) is
+
+abbrev pub in_memory : Environment Variable Memory
+in_memory = record {
+  get = λ x s. value_in x.kind x.slot s;
+  update = λ x op v s.
+      with_value_in x.kind x.slot (assigned op (intent_at x.slot s.words.intents) (value_in x.kind x.slot s) v) s;
+  element = λ x t s. element_in x.kind x.slot t s;
+  put_element = λ x t v s. with_element_in x.kind x.slot t v s;
+  declare = declared;
+  given = λ x s. given_in x.kind x.slot s;
+  enter = λ s. s;
+  leave = λ s. s;
+  intend = λ is s. intended (intents_by_slot is) s;
+  has_arrays = λ x s. is_some_array x.arrays;
+  redomain = redomained_in;
+  here = λ s. pos 0;
+  move = λ k s. s;
+  call = λ x op s. Unanswered 0;
+  cells = λ s. [];
+  history = λ s. [];
+  begin = λ rs s. s;
+  settle = λ h s. s;
+}

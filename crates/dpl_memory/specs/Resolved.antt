@@ -1,0 +1,328 @@
+-- Data-parallel programs whose names are resolved: each stands with its text, and with the kind and the slot of its declaration.
+-- Where such a name may stand, and when a memory is the store by names.
+use Rattle.std.specs.Prelude.{◌≡◌, ◌≢◌, ℕ, ◌==◌, ◌<◌, ℤ, pos, Bool, true, false, not, All, bytes_eq, if◌then◌else◌, Option, Some, None, Ok, List, [], ◌∷◌, ◌++◌, map, option_map, length, replicate}
+use Rattle.dpl_range.specs.Equality.{TextRange}
+use Rattle.dpl_language.specs.Tree.{Op, Assign, Set, SetAdd, SetSubtract, SetMultiply, SetDivide, SetRemainder, SetReduce, ItemTree, Kind, IntKind, BoolKind}
+use Rattle.dpl_language.specs.Values.{Value, Int, Truth, Domain, Tuple, Index}
+use Rattle.dpl_language.specs.Ranges.{indices_in, loop_ranges, loop_value}
+use Rattle.dpl_language.specs.Outcome.{Outcome, Done, Stop, Waits}
+use Rattle.dpl_language.specs.Environment.{Content, Plain, ArrayOf, CellOf, Limits}
+use Rattle.dpl_language.specs.Phrases.{item_read}
+use Rattle.dpl_language.specs.Expressions.{item_of}
+use Rattle.dpl_language.specs.Names.{Text, Entry, Frame, Store, State, paired}
+use Rattle.dpl_language.specs.Renamed.{renamed_item, renamed_intents}
+use Rattle.dpl_language.specs.Scopes.{Sort, PlainSort, ArraySort, CellSort, Scoping}
+use Rattle.dpl_words.specs.Words.{no_range, intent_at, set_at, given_as}
+use Rattle.dpl_words.specs.Resolved.{IsOfKind, is_arithmetic, takes, Combines}
+use Rattle.dpl_memory.specs.Memory.{VariableKind, PlainKind, DomainKind, TupleKind, ArrayKind, Variable, Held, Memory, no_array, element_as, value_in, array_at, intents_by_slot, in_memory}
+
+-- a name that is resolved: its text, and the variable that it stands for
+pub record Bound : Type 0 where
+  pub text : Text
+  pub variable : Variable
+
+abbrev pub text_of : Bound → Text
+text_of b = b.text
+
+abbrev pub variable_of : Bound → Variable
+variable_of b = b.variable
+
+-- WHAT IS IN SIGHT: frames, the innermost scope's first, each in order of declaration. Of a name they have its text, its kind
+-- and its slot, and of an array the bare domain name that it is declared over, if it is over one.
+pub record Sighted : Type 0 where
+  pub text : Text
+  pub kind : VariableKind
+  pub slot : ℕ
+  pub over : Option Bound
+
+abbrev pub Sight : Type 0
+Sight = List (List Sighted)
+
+-- what a name is: its kind and its slot
+abbrev pub Known : Type 0
+Known = VariableKind × ℕ
+
+abbrev pub known_in : Text → List Sighted → Option Known
+known_in x [] = None
+known_in x (b ∷ bs) = if bytes_eq x b.text then Some (b.kind, b.slot) else known_in x bs
+
+abbrev pub or_known : Option Known → Option Known → Option Known
+or_known None outer = outer
+or_known (Some k) outer = Some k
+
+-- by the name's innermost declaration
+abbrev pub innermost : Text → Sight → Option Known
+innermost x [] = None
+innermost x (f ∷ fs) = or_known (known_in x f) (innermost x fs)
+
+-- no name in sight has the slot
+abbrev pub IsUnusedIn : ℕ → List Sighted → Type 0
+IsUnusedIn slot [] = Unit {0}
+IsUnusedIn slot (b ∷ bs) = (slot ≢ b.slot) × IsUnusedIn slot bs
+
+abbrev pub IsUnused : ℕ → Sight → Type 0
+IsUnused slot [] = Unit {0}
+IsUnused slot (f ∷ fs) = IsUnusedIn slot f × IsUnused slot fs
+
+-- one more name at the end of the innermost frame; and the frames behind a scope
+abbrev pub bind : Sighted → Sight → Sight
+bind x [] = (x ∷ []) ∷ []
+bind x (f ∷ fs) = (f ++ x ∷ []) ∷ fs
+
+abbrev pub without_frame : Sight → Sight
+without_frame [] = []
+without_frame (f ∷ fs) = fs
+
+-- what is in sight of a declared name
+abbrev pub over_of : Sort Bound → Option Bound
+over_of PlainSort = None
+over_of (ArraySort over) = over
+over_of CellSort = None
+
+abbrev pub sighted : Bound → Sort Bound → Sighted
+sighted x sort = record { text = x.text; kind = x.variable.kind; slot = x.variable.slot; over = over_of sort }
+
+-- the slots of the arrays in sight that are declared over the domain name with this slot
+abbrev pub is_over : ℕ → Option Bound → Bool
+is_over slot None = false
+is_over slot (Some y) = slot == y.variable.slot
+
+abbrev pub arrays_in : ℕ → List Sighted → List ℕ
+arrays_in slot [] = []
+arrays_in slot (b ∷ bs) = if is_over slot b.over then b.slot ∷ arrays_in slot bs else arrays_in slot bs
+
+abbrev pub arrays_over : ℕ → Sight → List ℕ
+arrays_over slot [] = []
+arrays_over slot (f ∷ fs) = arrays_in slot f ++ arrays_over slot fs
+
+-- the names in sight, and the reduce variables of the forall around
+pub record Seen : Type 0 where
+  pub frames : Sight
+  pub intents : List (Bound × Op)
+
+-- where a program starts
+abbrev pub first_seen : Seen
+first_seen = record { frames = [] ∷ []; intents = [] }
+
+-- KINDS: a value of a kind; of an array's one that an element may be
+abbrev pub IsElement : Kind → Value → Type 0
+IsElement IntKind v = (n : ℤ) × (v ≡ Int n)
+IsElement BoolKind v = (b : Bool) × (v ≡ Truth b)
+
+abbrev pub IsOf : VariableKind → Value → Type 0
+IsOf (PlainKind k) v = IsOfKind k v
+IsOf DomainKind v = (rs : List TextRange) × (v ≡ Domain rs)
+IsOf TupleKind v = (t : Index) × (v ≡ Tuple t)
+IsOf (ArrayKind k) v = IsElement k v
+
+-- an array's content is of its kind, and so is each element
+abbrev pub IsArrayOf : VariableKind → Kind → List Value → Type 0
+IsArrayOf (PlainKind l) k vs = ⊥
+IsArrayOf DomainKind k vs = ⊥
+IsArrayOf TupleKind k vs = ⊥
+IsArrayOf (ArrayKind l) k vs = (k ≡ l) × All (IsElement l) vs
+
+-- what a variable may hold
+abbrev pub HoldsKind : VariableKind → Content Bound → Type 0
+HoldsKind kind (Plain v) = IsOf kind v
+HoldsKind kind (ArrayOf over k rs vs) = IsArrayOf kind k vs
+HoldsKind kind (CellOf k c) = ⊥
+
+-- `=` alone
+abbrev pub is_set : Assign → Bool
+is_set Set = true
+is_set SetAdd = false
+is_set SetSubtract = false
+is_set SetMultiply = false
+is_set SetDivide = false
+is_set SetRemainder = false
+is_set SetReduce = false
+
+-- arithmetic is of ints; a domain is assigned by `=` alone
+abbrev pub element_takes : Kind → Assign → Bool
+element_takes IntKind op = true
+element_takes BoolKind op = not (is_arithmetic op)
+
+abbrev pub kind_takes : VariableKind → Assign → Bool
+kind_takes (PlainKind k) op = takes k op
+kind_takes DomainKind op = is_set op
+kind_takes TupleKind op = is_set op
+kind_takes (ArrayKind k) op = element_takes k op
+
+-- the operators of reductions that put values of a kind together
+abbrev pub KindCombines : VariableKind → Option Op → Type 0
+KindCombines (PlainKind k) o = Combines k o
+KindCombines DomainKind o = Unit {0}
+KindCombines TupleKind o = Unit {0}
+KindCombines (ArrayKind k) o = Unit {0}
+
+-- `reduce=` is by the same operator, told by texts or by slots, and one of the variable's kind
+abbrev pub IntentResolves : Assign → Bound → Seen → Type 0
+IntentResolves Set x g = Unit {0}
+IntentResolves SetAdd x g = Unit {0}
+IntentResolves SetSubtract x g = Unit {0}
+IntentResolves SetMultiply x g = Unit {0}
+IntentResolves SetDivide x g = Unit {0}
+IntentResolves SetRemainder x g = Unit {0}
+IntentResolves SetReduce x g =
+    (paired x.text (renamed_intents text_of g.intents) ≡ intent_at x.variable.slot (intents_by_slot (renamed_intents variable_of g.intents)))
+    × KindCombines x.variable.kind (intent_at x.variable.slot (intents_by_slot (renamed_intents variable_of g.intents)))
+
+-- where a domain is assigned, the arrays over its name stand with it
+abbrev pub ArraysResolve : VariableKind → Bound → Seen → Type 0
+ArraysResolve (PlainKind k) x g = Unit {0}
+ArraysResolve DomainKind x g = x.variable.arrays ≡ arrays_over x.variable.slot g.frames
+ArraysResolve TupleKind x g = Unit {0}
+ArraysResolve (ArrayKind k) x g = Unit {0}
+
+-- A right side that is no cell read has a value of the kind, in whatever memory; of an array in each turn too. And so has
+-- each turn of a loop.
+abbrev pub SuitsTurns : VariableKind → ItemTree Bound → Type 0
+SuitsTurns (PlainKind k) item = Unit {0}
+SuitsTurns DomainKind item = Unit {0}
+SuitsTurns TupleKind item = Unit {0}
+SuitsTurns (ArrayKind k) item =
+    (limits : Limits) (s : Memory) (t : Index) (v : Value)
+    → item_of limits in_memory (renamed_item variable_of item) (Some t) s ≡ Ok v → IsElement k v
+
+abbrev pub Suits : VariableKind → ItemTree Bound → Type 0
+Suits kind item =
+    (item_read item ≡ None)
+    × ((limits : Limits) (s : Memory) (v : Value)
+    → item_of limits in_memory (renamed_item variable_of item) None s ≡ Ok v → IsOf kind v)
+    × SuitsTurns kind item
+
+abbrev pub Turns : VariableKind → ItemTree Bound → Type 0
+Turns kind item =
+    (limits : Limits) (s : Memory) (over : Value)
+    → item_of limits in_memory (renamed_item variable_of item) None s ≡ Ok over
+    → All (λ t. IsOf kind (loop_value over t)) (indices_in (loop_ranges limits.locales over))
+
+-- a name has the kind and the slot of its innermost declaration
+abbrev pub Resolves : Bound → Seen → Type 0
+Resolves x g = innermost x.text g.frames ≡ Some (x.variable.kind, x.variable.slot)
+
+-- a declaration has a slot of the memory that no name in sight has
+pub record IsNew (slots : ℕ) (x : Bound) (g : Seen) : Type 0 where
+  pub unused : IsUnused x.variable.slot g.frames
+  pub within : x.variable.slot < slots
+
+abbrev pub IsWhole : VariableKind → Type 0
+IsWhole (PlainKind k) = ⊥
+IsWhole DomainKind = ⊥
+IsWhole TupleKind = ⊥
+IsWhole (ArrayKind k) = Unit {0}
+
+abbrev pub OverResolves : Option Bound → Seen → Type 0
+OverResolves None g = Unit {0}
+OverResolves (Some y) g = Resolves y g
+
+-- arrays are declared as arrays, over a domain name in sight, and all else as plain variables; there are no cells
+abbrev pub Declares : ℕ → Bound → Sort Bound → Seen → Type 0
+Declares slots x PlainSort g = IsNew slots x g × (IsWhole x.variable.kind → ⊥)
+Declares slots x (ArraySort over) g = IsNew slots x g × IsWhole x.variable.kind × OverResolves over g
+Declares slots x CellSort g = ⊥
+
+-- How many slots a memory has; and what the command line sets, by texts and by slots.
+pub record Start : Type 0 where
+  pub slots : ℕ
+  pub texts : List (Text × Value)
+  pub words : List (ℕ × ℤ)
+
+abbrev pub IsGivenAs : VariableKind → Bound → Start → Type 0
+IsGivenAs (PlainKind k) x start = paired x.text start.texts ≡ option_map (given_as k) (set_at x.variable.slot start.words)
+IsGivenAs DomainKind x start = ⊥
+IsGivenAs TupleKind x start = ⊥
+IsGivenAs (ArrayKind k) x start = ⊥
+
+-- Where a resolved data-parallel program may use a name. There are no cells, tasks and locales, and no forall with reduce
+-- variables has another in it.
+abbrev pub resolving : Start → Scoping Bound Seen
+resolving start = record {
+  reads = Resolves;
+  reads_at = λ x t. Resolves x;
+  reads_element = λ x items. Resolves x;
+  assigns = λ x op g.
+      Resolves x g × (kind_takes x.variable.kind op ≡ true) × IntentResolves op x g × ArraysResolve x.variable.kind x g;
+  assigns_at = λ x t. Resolves x;
+  assigns_element = λ x items. Resolves x;
+  calls = λ x g. ⊥;
+  declares = Declares start.slots;
+  gives = λ x g. IsGivenAs x.variable.kind x start;
+  holds = λ x. HoldsKind x.variable.kind;
+  suits = λ x item g. Suits x.variable.kind item;
+  turns = λ x item g. Turns x.variable.kind item;
+  intends = λ is g. g.intents ≡ [];
+  coforalls = λ g. ⊥;
+  moves = λ g. ⊥;
+  add = λ x sort g. record g { frames = bind (sighted x sort) g.frames };
+  enter = λ g. record g { frames = [] ∷ g.frames };
+  leave = λ g. record g { frames = without_frame g.frames };
+  intend = λ is g. record g { intents = is };
+  begin = λ g. g;
+}
+
+-- THE STORE that a memory is, of the names in sight
+abbrev pub over_text : Option Bound → Option Text
+over_text o = option_map text_of o
+
+abbrev pub array_content : {N : Type 0} → Option N → Kind → Held → Content N
+array_content over k a = ArrayOf over k a.ranges (map (element_as k) a.words)
+
+abbrev pub content_in : {N : Type 0} → VariableKind → ℕ → Option N → Memory → Content N
+content_in (PlainKind k) slot over s = Plain (value_in (PlainKind k) slot s)
+content_in DomainKind slot over s = Plain (value_in DomainKind slot s)
+content_in TupleKind slot over s = Plain (value_in TupleKind slot s)
+content_in (ArrayKind k) slot over s = array_content over k (array_at slot s)
+
+abbrev pub entry_in : Memory → Sighted → Entry
+entry_in s b = record { name = b.text; content = content_in b.kind b.slot (over_text b.over) s }
+
+abbrev pub frame_in : Memory → List Sighted → Frame
+frame_in s bs = map {A = Sighted} {B = Entry} (entry_in s) bs
+
+abbrev pub store_in : Memory → Sight → Store
+store_in s fs = map {A = List Sighted} {B = Frame} (frame_in s) fs
+
+-- what a run in a memory leaves, where it is done: the names of the outermost frame, and what stands in their slots
+abbrev pub outermost : Sight → List Sighted
+outermost [] = []
+outermost (f ∷ []) = f
+outermost (f ∷ g ∷ fs) = outermost (g ∷ fs)
+
+abbrev pub left_in : Sight → Outcome Memory → Option Frame
+left_in fs (Done s done) = Some (frame_in s (outermost fs))
+left_in fs (Stop f done) = None
+left_in fs (Waits at c op done) = None
+
+-- A memory at the start: in each slot a word, a range, a domain, a tuple and an array.
+abbrev pub first_memory : Start → Memory
+first_memory start = record {
+  words = record {
+    numbers = replicate start.slots (pos 0);
+    ranges = replicate start.slots no_range;
+    intents = [];
+    sets = start.words;
+  };
+  domains = replicate start.slots [];
+  tuples = replicate start.slots [];
+  arrays = replicate start.slots no_array;
+}
+
+-- as many of each kind as there are slots
+pub record HasSlots (slots : ℕ) (s : Memory) : Type 0 where
+  pub numbers : length s.words.numbers ≡ slots
+  pub ranges : length s.words.ranges ≡ slots
+  pub domains : length s.domains ≡ slots
+  pub tuples : length s.tuples ≡ slots
+  pub arrays : length s.arrays ≡ slots
+
+-- A memory with as many slots as at the start is the store by names, and all else is the same.
+pub record StandsFor (start : Start) (g : Seen) (s1 : State) (s2 : Memory) : Type 0 where
+  pub store : s1.store ≡ store_in s2 g.frames
+  pub slots : HasSlots start.slots s2
+  pub intents : s1.intents ≡ renamed_intents text_of g.intents
+  pub intents_by_slots : s2.words.intents ≡ intents_by_slot (renamed_intents variable_of g.intents)
+  pub here : s1.here ≡ pos 0
+  pub texts : s1.sets ≡ start.texts
+  pub words : s2.words.sets ≡ start.words
