@@ -320,8 +320,8 @@ module _ (start : Start) where
       let told = with_told slot (told_of (sighted x sort)) r.told in
       let fresh : IsFresh slot (in_slots g.frames) = IsFresh-in_slots slot g.frames n.unused in
       let each : (j : ℕ) → set_slot slot c (contents r.told s2) j ≡ contents told new j = set_slot-each slot c (contents r.told s2) (contents told new)
-          (sym (ap (λ (t : Told). content_in t.kind slot t.over new) (with_told_here slot (told_of (sighted x sort)) r.told) ∙ here))
-          (λ j ne. sym (ap (λ (t : Told). content_in t.kind j t.over new) (with_told_other j slot (told_of (sighted x sort)) r.told ne) ∙ other (r.told j).kind j (r.told j).over ne)) in
+      (sym (ap (λ (t : Told). content_in t.kind slot t.over new) (with_told_here slot (told_of (sighted x sort)) r.told) ∙ here))
+      (λ j ne. sym (ap (λ (t : Told). content_in t.kind j t.over new) (with_told_other j slot (told_of (sighted x sort)) r.told ne) ∙ other (r.told j).kind j (r.told j).over ne)) in
       record {
         told = told;
         is_told = IsTold-bind (sighted x sort) r.told start.slots g.frames n.unused n.within r.is_told;

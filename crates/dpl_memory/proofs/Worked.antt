@@ -1,0 +1,146 @@
+-- Sample programs with their names in slots: what they write from a memory is what they mean.
+-- One of them is seen to fit, and so the theorem gives the same.
+use Rattle.std.proofs.Common.{◌≡◌, ℕ, ◌+◌, List, [], ◌∷◌, pos, true, false, refl, ◌∙◌, rules, ℤ, Result}
+use Rattle.std.specs.Prelude.{codes, bytes_eq, if◌then◌else◌, Ok, Err}
+use Rattle.std.specs.Int.{int_wrap}
+use Rattle.std.specs.Fmt.{digits}
+use Rattle.dpl_range.specs.Members.{members}
+use Rattle.dpl_range.specs.Equality.{TextRange}
+use Rattle.dpl_domain.specs.Indices.{indices}
+use Rattle.dpl_syntax.specs.declared.place.Place.{Place}
+use Rattle.dpl_language.specs.Tree.{IntKind, BoolKind, Number, One, RangeItem, Closed, NoStride, DomainLiteral, Items, FirstItem, NoItems, ProgramTree}
+use Rattle.dpl_language.specs.Values.{Value, Domain, Fault, fault, PastLimit, all_ranges}
+use Rattle.dpl_language.specs.Ranges.{sized, too_many}
+use Rattle.dpl_language.specs.Outcome.{with_ok}
+use Rattle.dpl_language.specs.Expressions.{items_of}
+use Rattle.dpl_language.specs.Names.{Text}
+use Rattle.dpl_language.specs.Program.{written}
+use Rattle.dpl_language.specs.Renamed.{renamed_program, renamed_items}
+use Rattle.dpl_language.specs.Scopes.{fits_all}
+use Rattle.dpl_language.proofs.Spelled.{at}
+use Rattle.dpl_language.proofs.Says.{limits, writes}
+use Rattle.dpl_language.proofs.ProgramsAlike.{run_from}
+use Rattle.dpl_language.proofs.ArraysSamples.{inner_array, changed_domain, not_over_the_name, truths_of_an_array, tuples, promoted, no_array_left, three_planes}
+use Rattle.dpl_words.specs.Words.{IntLeaf}
+use Rattle.dpl_memory.specs.Memory.{PlainKind, DomainKind, TupleKind, ArrayKind, Variable, variable, in_memory}
+use Rattle.dpl_memory.specs.Resolved.{Bound, text_of, variable_of, first_seen, Suits, Start, resolving, first_memory}
+use Rattle.dpl_memory.proofs.MemoryAgrees.{written-memory}
+
+-- NAMES IN SLOTS: each by its text, since no two names of these samples are spelled alike
+abbrev named_in : List (Text × Variable) → Text → Variable
+named_in [] x = variable (PlainKind IntLeaf) 0
+named_in (p ∷ ps) x = if bytes_eq x p.0 then p.1 else named_in ps x
+
+abbrev domain_in : ℕ → List ℕ → Variable
+domain_in slot arrays = record { kind = DomainKind; slot = slot; arrays = arrays }
+
+abbrev ints_in : ℕ → Variable
+ints_in slot = variable (ArrayKind IntKind) slot
+
+abbrev int_in : ℕ → Variable
+int_in slot = variable (PlainKind IntLeaf) slot
+
+abbrev start : ℕ → Start
+start slots = record { slots = slots; texts = []; words = [] }
+
+abbrev kept : List (Text × Variable) → ProgramTree Text → List ℕ
+kept names t = written (run_from (limits 16777216 1) in_memory (renamed_program (named_in names) t) (first_memory (start 6)))
+
+-- var D = {1..2}; { var A: [D] int = 1; D = {2..3}; writeln(A); }
+inner_array_writes : kept ((codes "D", domain_in 0 (1 ∷ [])) ∷ (codes "A", ints_in 1) ∷ []) inner_array ≡ codes "1 0\n"
+unfolding int_wrap digits members indices
+inner_array_writes = refl
+
+-- var D: domain(1) .. = {1..4}; var A: [D] int = 7; const E = D[2..3]; D = {3..10}; forall i in D do A[i] += i; writeln(A); writeln(E.size);
+changed_domain_writes :
+    kept ((codes "D", domain_in 0 (1 ∷ [])) ∷ (codes "A", ints_in 1) ∷ (codes "E", domain_in 2 []) ∷ (codes "i", int_in 3) ∷ []) changed_domain
+    ≡ codes "10 11 5 6 7 8 9 10\n2\n"
+unfolding int_wrap digits members indices
+changed_domain_writes = refl
+
+-- var D = {1..2}; var A: [1..2] int = 1; D = {1..3}; writeln(A);
+not_over_the_name_writes : kept ((codes "D", domain_in 0 []) ∷ (codes "A", ints_in 1) ∷ []) not_over_the_name ≡ codes "1 1\n"
+unfolding int_wrap digits members indices
+not_over_the_name_writes = refl
+
+-- var D = {1..3}; { var A: [D] int; } D = {1..16777217}; writeln(D.size);
+no_array_left_writes : kept ((codes "D", domain_in 0 []) ∷ (codes "A", ints_in 1) ∷ []) no_array_left ≡ codes "16777217\n"
+unfolding int_wrap digits members indices
+no_array_left_writes = refl
+
+-- the same, if the array stood with the domain
+array_left_faults : kept ((codes "D", domain_in 0 (1 ∷ [])) ∷ (codes "A", ints_in 1) ∷ []) no_array_left ≡ codes "! F8 at 1:37\n"
+unfolding int_wrap digits members indices
+array_left_faults = refl
+
+-- var A: [1..2] bool; A[2] = true; writeln(A);
+truths_write : kept ((codes "A", variable (ArrayKind BoolKind) 1) ∷ []) truths_of_an_array ≡ codes "false true\n"
+unfolding int_wrap digits members indices
+truths_write = refl
+
+-- var A: [1..2, 1..2] int; forall t in A.domain do A[t] = 1; A(2,1) += 4; writeln(A);
+tuples_write : kept ((codes "A", ints_in 1) ∷ (codes "t", variable TupleKind 2) ∷ []) tuples ≡ codes "1 1\n5 1\n"
+unfolding int_wrap digits members indices
+tuples_write = refl
+
+-- var D = {1..3}; var A: [D] int = 2; var B: [D] int = A * A + 1; A += B; A /= 2; writeln(A, " ", + reduce (A * B), " ", && reduce (A < B));
+promoted_writes : kept ((codes "D", domain_in 0 []) ∷ (codes "A", ints_in 1) ∷ (codes "B", ints_in 2) ∷ []) promoted ≡ writes promoted
+unfolding int_wrap digits members indices
+promoted_writes = refl
+
+-- var A: [1..2, 1..2, 1..2] int; forall (i,j,k) in A.domain do A[i,j,k] = 100*i + 10*j + k; writeln(A);
+three_planes_write : kept ((codes "A", ints_in 1) ∷ (codes "i", int_in 2) ∷ (codes "j", int_in 3) ∷ (codes "k", int_in 4) ∷ []) three_planes ≡ codes "111 112\n121 122\n\n211 212\n221 222\n"
+unfolding int_wrap digits members indices
+three_planes_write = refl
+
+-- ONE OF THEM FITS
+abbrev resolved : Text → Bound
+resolved x = record { text = x; variable = named_in ((codes "D", domain_in 0 (1 ∷ [])) ∷ (codes "A", ints_in 1) ∷ []) x }
+
+abbrev inner_array_resolved : ProgramTree Bound
+inner_array_resolved = renamed_program resolved inner_array
+
+inner_array_spelled : renamed_program text_of inner_array_resolved ≡ inner_array
+inner_array_spelled = refl
+
+-- low..high, from a column on
+abbrev one_range : ℕ → ℕ → ℕ → Items Bound
+one_range column low high =
+    FirstItem (RangeItem (Number (at 1 column) (pos low)) (at 1 (column + 1)) Closed (Number (at 1 (column + 3)) (pos high)) NoStride) NoItems
+
+-- a domain literal is a domain
+Suits-domain : (from : Place) (items : Items Bound) (upto : Place) → Suits DomainKind (One (DomainLiteral from items upto))
+Suits-domain from items upto = (refl, λ limits s v e. by (items_of limits in_memory (renamed_items variable_of items) s) v e, tt)
+  where
+    by_size : (rs : List TextRange) (v : Value) → sized from rs ≡ Ok v → (qs : List TextRange) × (v ≡ Domain qs)
+    by_size rs v =
+        elim (too_many rs) as (λ b. (if b then Err (fault PastLimit from) else Ok (Domain rs)) ≡ Ok v → (qs : List TextRange) × (v ≡ Domain qs)) [ true ↦ λ e. cc | false ↦ λ e. (rs, cc) ]
+
+    by : (r : Result (List Value) Fault) (v : Value) → with_ok r (λ vs. sized from (all_ranges vs)) ≡ Ok v → (qs : List TextRange) × (v ≡ Domain qs)
+    by (Ok vs) v e = by_size (all_ranges vs) v e
+    by (Err f) v e = cc
+
+Suits-element : (at : Place) (n : ℤ) → Suits (ArrayKind IntKind) (One (Number at n))
+Suits-element at n = (refl, λ limits s v e. (n, cc), λ limits s t v e. (n, cc))
+
+inner_array_fits : fits_all (resolving (start 6)) inner_array_resolved.stmts first_seen
+inner_array_fits = ( -- var D = {1..2};
+  (tt, (((tt, tt, tt), tt), tt), (record { unused = (tt, tt); within = search rules }, λ e. e), tt, Suits-domain (at 1 9) (one_range 10 1 2) (at 1 14)),
+  (
+    ( -- var A: [D] int = 1;
+      ((refl, tt), (λ t. tt, tt), (record { unused = (tt, (((λ e. cc), tt), tt)); within = search rules }, tt, refl), tt, ((λ rs vs all. (refl, all)), Suits-element (at 1 36) (pos 1))),
+      ( -- D = {2..3};
+        (((refl, refl, tt, refl), λ t. (refl, refl)), (λ t. ((tt, tt, tt), tt), tt), Suits-domain (at 1 43) (one_range 44 2 3) (at 1 48)),
+        ( -- writeln(A);
+          ((refl, tt), λ t. refl, tt),
+          tt,
+        ),
+      ),
+    ),
+    tt,
+  ),
+)
+
+-- so it means what it writes from a memory
+inner_array_means : writes inner_array ≡ codes "1 0\n"
+inner_array_means = written-memory (start 6) (limits 16777216 1) inner_array_resolved [] inner_array_fits ∙ inner_array_writes
