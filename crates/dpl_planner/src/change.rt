@@ -1,7 +1,7 @@
 // Assignments: each to a plain variable in sight, with an operator that takes its kind.
 // `reduce=` is by the operator of the forall around, which the name and its slot tell alike.
 
-ghost use Rattle.std.specs.Prelude.{◌≡◌, true, OnOk, IfOk, Some, map, option_map};
+ghost use Rattle.std.specs.Prelude.{◌≡◌, true, OnOk, IfOk, Err, Some, map, option_map};
 ghost use Rattle.dpl_language.specs.Tree.{Whole, Assigned as AssignedTree};
 ghost use Rattle.dpl_language.specs.Arithmetic.{assign_divides};
 ghost use Rattle.dpl_language.specs.Names.{paired};
@@ -15,11 +15,13 @@ ghost use Rattle.dpl_lowered.specs.Shapes.{kept};
 ghost use Rattle.dpl_words.specs.Words.{IntLeaf, TruthLeaf, RangeLeaf, intent_at, by_slots};
 ghost use Rattle.dpl_words.specs.Resolved.{text_of, leaf_of, takes, is_logical as is_logical_of, Combines, IntentResolves};
 ghost use Rattle.dpl_nodes.specs.Makers.{kind_of, typed_item};
+ghost use Rattle.dpl_nodes.specs.declared.make.Stop.TheVariants as stop;
 ghost use Rattle.dpl_nodes.specs.declared.make.Typed.TheVariants as typed;
 ghost use Rattle.dpl_nodes.specs.Steps.{step_view, assigned_to as assigns};
 ghost use Rattle.dpl_elaborator.specs.Leaves.{plain_kind, type_in, kind_in};
 ghost use Rattle.dpl_planner.specs.Parts.{leaf_as};
-ghost use Rattle.dpl_planner.specs.Plans.{reducing_view, seen_in, PlansStmt};
+ghost use Rattle.dpl_scalar.specs.Scalar.{IsScalarStmt};
+ghost use Rattle.dpl_planner.specs.Plans.{reducing_view, intents_in, seen_in, PlansStmt};
 
 use crate::progress::{Plan, Reducing, spot};
 use dpl_elaborator::item;
@@ -228,7 +230,8 @@ fn assigned_to<'t>(
 /// # Errors
 /// Out of memory; what isn't a plain variable in sight, or doesn't take the value.
 pub(crate) fn assigned<'t>(plan: &Plan<'_, 't>, written: &Assignment<'_>) -> Result<Step<'t>, Stop>
-    ensures { IfOk result (λ step. PlansStmt plan.now plan.now (AssignedTree (target_view written.now.target) (sign_view written.now.sign) (item_view written.now.value) written.now.semicolon) step) }
+    ensures plans { IfOk result (λ step. PlansStmt plan.now plan.now (AssignedTree (target_view written.now.target) (sign_view written.now.sign) (item_view written.now.value) written.now.semicolon) step) }
+    ensures ill_typed { (result ≡ Err stop.IllTyped) → IsScalarStmt plan.now.scopes (intents_in plan.now) (AssignedTree (target_view written.now.target) (sign_view written.now.sign) (item_view written.now.value) written.now.semicolon) → ⊥ }
 {
     match &written.target {
         Target::Whole(name) => assigned_to(

@@ -1,7 +1,7 @@
 // Declarations of plain variables: what each is declared as, its slot, and its initial value, which is written or its type's.
 // The type is the one that the check gives the name; a value of another kind is refused.
 
-ghost use Rattle.std.specs.Prelude.{◌≡◌, IfOk, option_map};
+ghost use Rattle.std.specs.Prelude.{◌≡◌, IfOk, Err, option_map};
 ghost use Rattle.dpl_language.specs.Tree.{Declare as DeclareTree};
 ghost use Rattle.dpl_language.specs.Declarations.{type_of};
 ghost use Rattle.dpl_tree.specs.Words.{kind_view};
@@ -9,10 +9,12 @@ ghost use Rattle.dpl_tree.specs.Declarations.{optional, typed_view as written_ty
 ghost use Rattle.dpl_rules.specs.Declarations.{declared_by};
 ghost use Rattle.dpl_lowered.specs.LoweredStatements.{unplaced_word};
 ghost use Rattle.dpl_scopes.specs.View.{declared_view};
+ghost use Rattle.dpl_nodes.specs.declared.make.Stop.TheVariants as stop;
 ghost use Rattle.dpl_nodes.specs.Makers.{kind_of, typed_item};
 ghost use Rattle.dpl_nodes.specs.Steps.{step_view, declared_as};
 ghost use Rattle.dpl_planner.specs.Parts.{leaf_as, IsPlainType, IsDefault, IsGivenInit, IsInitial, PlansDeclare};
-ghost use Rattle.dpl_planner.specs.Plans.{PlansStmt};
+ghost use Rattle.dpl_scalar.specs.Scalar.{IsScalarDeclare, IsScalarStmt};
+ghost use Rattle.dpl_planner.specs.Plans.{intents_in, PlansStmt};
 
 use crate::change::holds;
 use crate::progress::Plan;
@@ -112,7 +114,8 @@ pub(crate) fn declare<'s, 't>(
     plan: &mut Plan<'s, 't>,
     written: &Declare<'s>,
 ) -> Result<Step<'t>, Stop>
-    ensures { IfOk result (λ step. PlansDeclare plan.old plan.new (declare_view written.now) step) }
+    ensures plans { IfOk result (λ step. PlansDeclare plan.old plan.new (declare_view written.now) step) }
+    ensures ill_typed { (result ≡ Err stop.IllTyped) → IsScalarDeclare plan.old.scopes (declare_view written.now) → ⊥ }
 {
     let declared = declared(plan, written)?;
     let value = initial(plan.arena, &plan.scopes, &written.typed, &written.initial)?;
@@ -135,7 +138,8 @@ pub(crate) fn declare_inside<'s, 't>(
     plan: &mut Plan<'s, 't>,
     written: &Declare<'s>,
 ) -> Result<Step<'t>, Stop>
-    ensures { IfOk result (λ step. PlansStmt plan.old plan.new (DeclareTree (declare_view written.now)) step) }
+    ensures plans { IfOk result (λ step. PlansStmt plan.old plan.new (DeclareTree (declare_view written.now)) step) }
+    ensures ill_typed { (result ≡ Err stop.IllTyped) → IsScalarStmt plan.old.scopes (intents_in plan.old) (DeclareTree (declare_view written.now)) → ⊥ }
 {
     if written.config.is_some() {
         return Err(Stop::IllTyped);

@@ -1,7 +1,7 @@
 // The heads of loops over ranges: what a loop runs over, its variable, which is an int, and its reduce variables.
 // A loop with several variables is refused.
 
-ghost use Rattle.std.specs.Prelude.{◌≡◌, true, ◌++◌, ◌∷◌, [], OnOk, IfOk, map};
+ghost use Rattle.std.specs.Prelude.{◌≡◌, ◌≢◌, true, false, ◌++◌, ◌∷◌, [], OnOk, IfOk, Err, map};
 ghost use Rattle.dpl_language.specs.Tree.{OneVariable};
 ghost use Rattle.dpl_language.specs.Phrases.{reduce_intents, intents_of};
 ghost use Rattle.dpl_language.specs.Renamed.{renamed_intents};
@@ -10,10 +10,13 @@ ghost use Rattle.dpl_tree.specs.View.{name_view, expr_view, item_view};
 ghost use Rattle.dpl_tree.specs.Declarations.{optional};
 ghost use Rattle.dpl_tree.specs.Statements.{variables_view, intent_view, with_view};
 ghost use Rattle.dpl_words.specs.Resolved.{leaf_of};
+ghost use Rattle.dpl_nodes.specs.declared.make.Stop.TheVariants as stop;
 ghost use Rattle.dpl_nodes.specs.declared.make.Typed.TheVariants as typed;
 ghost use Rattle.dpl_nodes.specs.Steps.{intent_view as step_intent};
 ghost use Rattle.dpl_elaborator.specs.Sights.{bound_in};
 ghost use Rattle.dpl_planner.specs.Parts.{IsItem, IsCondition, IsOpened, intents_among};
+ghost use Rattle.dpl_words.specs.Words.{TruthLeaf, RangeLeaf};
+ghost use Rattle.dpl_scalar.specs.Scalar.{IsExprOf, IsItemOf, IsOneVariable, HasScalarIntents};
 ghost use Rattle.dpl_planner.specs.Plans.{reducing_view};
 
 use crate::change::declared_type;
@@ -29,7 +32,8 @@ use dpl_types::ValueType;
 /// # Errors
 /// Out of memory; what isn't a range.
 pub(crate) fn over<'t>(plan: &Plan<'_, 't>, written: &Item<'_>) -> Result<&'t RangeExpr<'t>, Stop>
-    ensures { IfOk result (λ r. IsItem plan.now.scopes (item_view written.now) (typed.Range r)) }
+    ensures node { IfOk result (λ r. IsItem plan.now.scopes (item_view written.now) (typed.Range r)) }
+    ensures ill_typed { (result ≡ Err stop.IllTyped) → IsItemOf plan.now.scopes (item_view written.now) RangeLeaf → ⊥ }
 {
     match item(plan.arena, &plan.scopes, written)? {
         Typed::Range(range) => Ok(range),
@@ -42,7 +46,8 @@ pub(crate) fn over<'t>(plan: &Plan<'_, 't>, written: &Item<'_>) -> Result<&'t Ra
 /// # Errors
 /// Out of memory; what isn't a truth value.
 pub(crate) fn condition<'t>(plan: &Plan<'_, 't>, e: &Expr<'_>) -> Result<&'t BoolExpr<'t>, Stop>
-    ensures { IfOk result (λ b. IsCondition plan.now.scopes (expr_view e.now) b) }
+    ensures node { IfOk result (λ b. IsCondition plan.now.scopes (expr_view e.now) b) }
+    ensures ill_typed { (result ≡ Err stop.IllTyped) → IsExprOf plan.now.scopes (expr_view e.now) TruthLeaf → ⊥ }
 {
     match expression(plan.arena, &plan.scopes, e)? {
         Typed::Truth(e) => Ok(e),
@@ -55,7 +60,8 @@ pub(crate) fn condition<'t>(plan: &Plan<'_, 't>, e: &Expr<'_>) -> Result<&'t Boo
 /// # Errors
 /// Several variables.
 pub(crate) fn single<'a, 's>(variables: &'a Variables<'s>) -> Result<&'a Name<'s>, Stop>
-    ensures { IfOk result (λ name. variables_view variables.now ≡ OneVariable (name_view name.now)) }
+    ensures one { IfOk result (λ name. variables_view variables.now ≡ OneVariable (name_view name.now)) }
+    ensures ill_typed { (result ≡ Err stop.IllTyped) → IsOneVariable (variables_view variables.now) → ⊥ }
 {
     match variables {
         Variables::One(name) => Ok(name),
@@ -65,7 +71,8 @@ pub(crate) fn single<'a, 's>(variables: &'a Variables<'s>) -> Result<&'a Name<'s
 
 /// Whether there is no reduce variable around.
 pub(crate) fn outside(intents: &[Reducing<'_>]) -> bool
-    ensures { (result ≡ true) → intents.now ≡ [] }
+    ensures none { (result ≡ true) → intents.now ≡ [] }
+    ensures some { (result ≡ false) → intents.now ≢ [] }
 {
     match intents {
         [] => true,
@@ -78,7 +85,8 @@ pub(crate) fn outside(intents: &[Reducing<'_>]) -> bool
 /// # Errors
 /// Out of memory.
 pub(crate) fn open<'s>(plan: &mut Plan<'s, '_>, name: &Name<'s>) -> Result<usize, Stop>
-    ensures { IfOk result (λ slot. IsOpened plan.old plan.new name.now.text.now slot) }
+    ensures opened { IfOk result (λ slot. IsOpened plan.old plan.new name.now.text.now slot) }
+    ensures ill_typed { result ≢ Err stop.IllTyped }
 {
     plan.enter()?;
     plan.declare(
@@ -140,7 +148,8 @@ pub(crate) fn intents<'s>(
     plan: &Plan<'s, '_>,
     with: &Option<With<'s>>,
 ) -> Result<Vec<Reducing<'s>>, Stop>
-    ensures { IfOk result (λ found. map reducing_view found.items ≡ renamed_intents (bound_in plan.now.scopes) (intents_of (optional with_view with.now))) }
+    ensures found { IfOk result (λ found. map reducing_view found.items ≡ renamed_intents (bound_in plan.now.scopes) (intents_of (optional with_view with.now))) }
+    ensures ill_typed { (result ≡ Err stop.IllTyped) → HasScalarIntents plan.now.scopes (optional with_view with.now) → ⊥ }
 {
     let mut found = Vec::new(plan.arena.alloc());
     match with {
@@ -158,7 +167,8 @@ pub(crate) fn intents<'s>(
 /// # Errors
 /// Out of memory.
 pub(crate) fn unnamed<'t>(arena: Arena<'t>, found: &[Reducing<'_>]) -> Result<&'t [Reduced], Stop>
-    ensures { IfOk result (λ is. map step_intent is.now ≡ renamed_intents leaf_of (map reducing_view found.now)) }
+    ensures same { IfOk result (λ is. map step_intent is.now ≡ renamed_intents leaf_of (map reducing_view found.now)) }
+    ensures ill_typed { result ≢ Err stop.IllTyped }
 {
     let mut intents = Vec::new(arena.alloc());
     for next in found {

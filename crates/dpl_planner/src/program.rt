@@ -1,7 +1,7 @@
 // A whole program: its statements, how many slots they need, and the names at its end.
 // A `config const` stands at the top level, where the names at the end tell it.
 
-ghost use Rattle.std.specs.Prelude.{◌≡◌, ◌≤◌, IfOk};
+ghost use Rattle.std.specs.Prelude.{◌≡◌, ◌≤◌, IfOk, Err, []};
 ghost use Rattle.dpl_language.specs.Renamed.{renamed_program};
 ghost use Rattle.dpl_language.specs.Scopes.{fits_all, after_all};
 ghost use Rattle.dpl_tree.specs.Statements.{stmt_view, stmts_of, program_view};
@@ -14,7 +14,9 @@ ghost use Rattle.dpl_nodes.specs.Steps.{steps_of};
 ghost use Rattle.dpl_elaborator.specs.Sights.{sight_of, ArePlainScopes};
 ghost use Rattle.dpl_planner.specs.Bounds.{bound_program};
 ghost use Rattle.dpl_planner.specs.Given.{AreGiven};
-ghost use Rattle.dpl_planner.specs.Plans.{PlansTop, PlansTops};
+ghost use Rattle.dpl_nodes.specs.declared.make.Stop.TheVariants as stop;
+ghost use Rattle.dpl_scalar.specs.Scalar.{IsScalarTop, AreScalarTops};
+ghost use Rattle.dpl_planner.specs.Plans.{intents_in, IsOneScope, PlansTop, PlansTops};
 
 use crate::declaration::declare;
 use crate::progress::{Plan, list, push};
@@ -35,7 +37,8 @@ pub struct Planned<'s, 't> {
 
 // A statement of the top level.
 fn top_stmt<'s, 't>(plan: &mut Plan<'s, 't>, written: &Stmt<'s>) -> Result<Step<'t>, Stop>
-    ensures { IfOk result (λ step. PlansTop plan.old plan.new (stmt_view written.now) step) }
+    ensures plans { IfOk result (λ step. PlansTop plan.old plan.new (stmt_view written.now) step) }
+    ensures ill_typed { (result ≡ Err stop.IllTyped) → (intents_in plan.old ≡ []) → IsScalarTop plan.old.scopes (stmt_view written.now) → ⊥ }
 {
     match written {
         Stmt::Declare(declaration) => declare(plan, declaration),
@@ -55,7 +58,8 @@ fn top_stmt<'s, 't>(plan: &mut Plan<'s, 't>, written: &Stmt<'s>) -> Result<Step<
 
 // The statements of the top level.
 fn top_stmts<'s, 't>(plan: &mut Plan<'s, 't>, stmts: &[Stmt<'s>]) -> Result<&'t [Step<'t>], Stop>
-    ensures { IfOk result (λ steps. PlansTops plan.old plan.new (stmts_of stmts.now) steps.now) }
+    ensures plans { IfOk result (λ steps. PlansTops plan.old plan.new (stmts_of stmts.now) steps.now) }
+    ensures ill_typed { (result ≡ Err stop.IllTyped) → IsOneScope plan.old.scopes → (intents_in plan.old ≡ []) → AreScalarTops plan.old.scopes (stmts_of stmts.now) → ⊥ }
 {
     let mut steps = Vec::new(plan.arena.alloc());
     for next in stmts {
@@ -79,6 +83,7 @@ pub fn plan<'s, 't>(arena: Arena<'t>, program: &Program<'s>) -> Result<Planned<'
     ensures scopes { IfOk result (λ p. p.scopes ≡ behind_all top (stmts_of program.now.stmts.now)) }
     ensures left { IfOk result (λ p. (start : Start) → (after_all (resolving start) (bound_program (program_view program.now)).stmts first_seen).frames ≡ sight_of p.scopes) }
     ensures plain { IfOk result (λ p. ArePlainScopes p.scopes) }
+    ensures ill_typed { (result ≡ Err stop.IllTyped) → AreScalarTops top (stmts_of program.now.stmts.now) → ⊥ }
 {
     let mut plan = Plan::begin(arena)?;
     let steps = top_stmts(&mut plan, program.stmts)?;

@@ -1,12 +1,14 @@
 // What a plan has so far: the names in sight, how many slots there are, and the reduce variables of the forall around.
 // A scope is opened and left here, and a name is declared here, with the next slot.
 
-ghost use Rattle.std.specs.Prelude.{◌≡◌, ◌≤◌, ◌<◌, ◌++◌, ◌∷◌, [], drop, false, Some, OnOk, IfOk};
+ghost use Rattle.std.specs.Prelude.{◌≡◌, ◌≢◌, ◌≤◌, ◌<◌, ◌++◌, ◌∷◌, [], drop, true, false, Err, Some, OnOk, IfOk};
 ghost use Rattle.dpl_rules.specs.Sights.{enter as enter_scopes, add, declared_here, origin_in};
 ghost use Rattle.dpl_rules.specs.Breaches.{top};
 ghost use Rattle.dpl_types.specs.View.{type_view};
 ghost use Rattle.dpl_scopes.specs.Slots.{next_slot_in};
 ghost use Rattle.dpl_scopes.specs.View.{sort_view};
+ghost use Rattle.dpl_nodes.specs.Faults.{IsNear};
+ghost use Rattle.dpl_nodes.specs.declared.make.Stop.TheVariants as stop;
 
 use dpl_nodes::{Intent, Spot, Stop};
 use dpl_scopes::{Scopes, Sort};
@@ -52,7 +54,8 @@ impl<'s, 't> Plan<'s, 't> {
 
     /// Opens a scope.
     pub(crate) fn enter(&mut self) -> Result<(), Stop>
-        ensures { OnOk result (self.new ≡ record self.old { scopes = enter_scopes self.old.scopes }) }
+        ensures opened { OnOk result (self.new ≡ record self.old { scopes = enter_scopes self.old.scopes }) }
+        ensures ill_typed { result ≢ Err stop.IllTyped }
     {
         match self.scopes.enter() {
             Ok(()) => Ok(()),
@@ -83,6 +86,7 @@ impl<'s, 't> Plan<'s, 't> {
         ensures slots { IfOk result (λ slot. self.old.slots ≤ self.new.slots) }
         ensures scopes { IfOk result (λ slot. self.new.scopes ≡ add (record { origin = origin_in self.old.scopes name.now; sort = sort_view sort; type = Some (type_view value_type.entry) }) self.old.scopes) }
         ensures intents { IfOk result (λ slot. self.new.intents ≡ self.old.intents) }
+        ensures ill_typed { (result ≡ Err stop.IllTyped) → declared_here self.old.scopes name.now ≡ true }
     {
         if self.scopes.declared_here(name) {
             return Err(Stop::IllTyped);
@@ -103,7 +107,8 @@ impl<'s, 't> Plan<'s, 't> {
 
 /// One more at the end of a list.
 pub(crate) fn push<T: Copy>(list: &mut Vec<T>, x: T) -> Result<(), Stop>
-    ensures { OnOk result (list.new.items ≡ list.old.items ++ x ∷ []) }
+    ensures more { OnOk result (list.new.items ≡ list.old.items ++ x ∷ []) }
+    ensures ill_typed { result ≢ Err stop.IllTyped }
 {
     match list.push(x) {
         Ok(()) => Ok(()),
@@ -113,7 +118,8 @@ pub(crate) fn push<T: Copy>(list: &mut Vec<T>, x: T) -> Result<(), Stop>
 
 /// A node in the arena.
 pub(crate) fn node<'t, T: Copy>(arena: Arena<'t>, node: T) -> Result<&'t T, Stop>
-    ensures { IfOk result (λ r. r.now ≡ node) }
+    ensures kept { IfOk result (λ r. r.now ≡ node) }
+    ensures ill_typed { result ≢ Err stop.IllTyped }
 {
     match arena.node(node) {
         Ok(r) => Ok(r),
@@ -123,7 +129,8 @@ pub(crate) fn node<'t, T: Copy>(arena: Arena<'t>, node: T) -> Result<&'t T, Stop
 
 /// A list in the arena.
 pub(crate) fn list<'t, T: Copy>(arena: Arena<'t>, nodes: Vec<T>) -> Result<&'t [T], Stop>
-    ensures { IfOk result (λ r. r.now ≡ nodes.items) }
+    ensures kept { IfOk result (λ r. r.now ≡ nodes.items) }
+    ensures ill_typed { result ≢ Err stop.IllTyped }
 {
     match arena.list(nodes) {
         Ok(r) => Ok(r),
@@ -133,7 +140,8 @@ pub(crate) fn list<'t, T: Copy>(arena: Arena<'t>, nodes: Vec<T>) -> Result<&'t [
 
 /// The place of a fault, in the arena.
 pub(crate) fn spot<'t>(arena: Arena<'t>, at: Place) -> Result<&'t Spot, Stop>
-    ensures { IfOk result (λ s. s.now ≡ at) }
+    ensures near { IfOk result (λ s. s.now ≡ at) }
+    ensures far { (result ≡ Err stop.IllTyped) → IsNear at → ⊥ }
 {
     match Spot::new(at) {
         Some(spot) => node(arena, spot),

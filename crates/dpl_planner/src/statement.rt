@@ -1,12 +1,15 @@
 // Statements: each becomes a typed one, in whose place the lowered tree stands.
 // A body is a list; its scope is opened before it and left behind it.
 
-ghost use Rattle.std.specs.Prelude.{IfOk};
+ghost use Rattle.std.specs.Prelude.{◌≡◌, IfOk, Err};
 ghost use Rattle.dpl_language.specs.Tree.{If as IfTree, While as WhileTree, For as ForTree, Forall as ForallTree};
 ghost use Rattle.dpl_tree.specs.View.{expr_view, item_view};
 ghost use Rattle.dpl_tree.specs.Declarations.{optional};
 ghost use Rattle.dpl_tree.specs.Statements.{variables_view, with_view, stmt_view, body_view, else_view, stmts_of};
-ghost use Rattle.dpl_planner.specs.Plans.{PlansStmt, PlansStmts, PlansOnly, PlansInner, PlansBody, PlansElse};
+ghost use Rattle.dpl_rules.specs.Sights.{enter};
+ghost use Rattle.dpl_nodes.specs.declared.make.Stop.TheVariants as stop;
+ghost use Rattle.dpl_scalar.specs.Scalar.{IsScalarStmt, IsScalarBody, AreScalarStmts, IsScalarElse};
+ghost use Rattle.dpl_planner.specs.Plans.{intents_in, PlansStmt, PlansStmts, PlansOnly, PlansInner, PlansBody, PlansElse};
 
 use crate::change::assigned;
 use crate::declaration::declare_inside;
@@ -20,7 +23,8 @@ use dpl_tree::{Body, Else, For, Forall, If, Stmt, While};
 /// A statement.
 #[cycle(statement)]
 pub(crate) fn stmt<'s, 't>(plan: &mut Plan<'s, 't>, stmt: &Stmt<'s>) -> Result<Step<'t>, Stop>
-    ensures { IfOk result (λ step. PlansStmt plan.old plan.new (stmt_view stmt.now) step) }
+    ensures plans { IfOk result (λ step. PlansStmt plan.old plan.new (stmt_view stmt.now) step) }
+    ensures ill_typed { (result ≡ Err stop.IllTyped) → IsScalarStmt plan.old.scopes (intents_in plan.old) (stmt_view stmt.now) → ⊥ }
 {
     match stmt {
         Stmt::Nothing(_) => Ok(Step::Nothing),
@@ -49,7 +53,8 @@ pub(crate) fn stmts<'s, 't>(
     plan: &mut Plan<'s, 't>,
     stmts: &[Stmt<'s>],
 ) -> Result<&'t [Step<'t>], Stop>
-    ensures { IfOk result (λ steps. PlansStmts plan.old plan.new (stmts_of stmts.now) steps.now) }
+    ensures plans { IfOk result (λ steps. PlansStmts plan.old plan.new (stmts_of stmts.now) steps.now) }
+    ensures ill_typed { (result ≡ Err stop.IllTyped) → AreScalarStmts plan.old.scopes (intents_in plan.old) (stmts_of stmts.now) → ⊥ }
 {
     let mut steps = Vec::new(plan.arena.alloc());
     for next in stmts {
@@ -62,7 +67,8 @@ pub(crate) fn stmts<'s, 't>(
 // One statement as a list.
 #[cycle(statement)]
 fn only<'s, 't>(plan: &mut Plan<'s, 't>, inner: &Stmt<'s>) -> Result<&'t [Step<'t>], Stop>
-    ensures { IfOk result (λ steps. PlansOnly plan.old plan.new (stmt_view inner.now) steps.now) }
+    ensures plans { IfOk result (λ steps. PlansOnly plan.old plan.new (stmt_view inner.now) steps.now) }
+    ensures ill_typed { (result ≡ Err stop.IllTyped) → IsScalarStmt plan.old.scopes (intents_in plan.old) (stmt_view inner.now) → ⊥ }
 {
     let step = stmt(plan, inner)?;
     let mut steps = Vec::new(plan.arena.alloc());
@@ -73,7 +79,8 @@ fn only<'s, 't>(plan: &mut Plan<'s, 't>, inner: &Stmt<'s>) -> Result<&'t [Step<'
 // A body, in the scope that was opened for it.
 #[cycle(statement)]
 fn inner<'s, 't>(plan: &mut Plan<'s, 't>, body: &Body<'s>) -> Result<&'t [Step<'t>], Stop>
-    ensures { IfOk result (λ steps. PlansInner plan.old plan.new (body_view body.now) steps.now) }
+    ensures plans { IfOk result (λ steps. PlansInner plan.old plan.new (body_view body.now) steps.now) }
+    ensures ill_typed { (result ≡ Err stop.IllTyped) → IsScalarBody plan.old.scopes (intents_in plan.old) (body_view body.now) → ⊥ }
 {
     match body {
         Body::Word(_, inner) => only(plan, inner),
@@ -84,7 +91,8 @@ fn inner<'s, 't>(plan: &mut Plan<'s, 't>, body: &Body<'s>) -> Result<&'t [Step<'
 // A body, in a scope of its own.
 #[cycle(statement)]
 fn body<'s, 't>(plan: &mut Plan<'s, 't>, body: &Body<'s>) -> Result<&'t [Step<'t>], Stop>
-    ensures { IfOk result (λ steps. PlansBody plan.old plan.new (body_view body.now) steps.now) }
+    ensures plans { IfOk result (λ steps. PlansBody plan.old plan.new (body_view body.now) steps.now) }
+    ensures ill_typed { (result ≡ Err stop.IllTyped) → IsScalarBody (enter plan.old.scopes) (intents_in plan.old) (body_view body.now) → ⊥ }
 {
     plan.enter()?;
     let steps = inner(plan, body)?;
@@ -95,7 +103,8 @@ fn body<'s, 't>(plan: &mut Plan<'s, 't>, body: &Body<'s>) -> Result<&'t [Step<'t
 // What stands behind `else`, in a scope of its own.
 #[cycle(statement)]
 fn otherwise<'s, 't>(plan: &mut Plan<'s, 't>, other: &Else<'s>) -> Result<Otherwise<'t>, Stop>
-    ensures { IfOk result (λ otherwise. PlansElse plan.old plan.new (else_view other.now) otherwise) }
+    ensures plans { IfOk result (λ otherwise. PlansElse plan.old plan.new (else_view other.now) otherwise) }
+    ensures ill_typed { (result ≡ Err stop.IllTyped) → IsScalarElse plan.old.scopes (intents_in plan.old) (else_view other.now) → ⊥ }
 {
     match other {
         Else::Absent => Ok(Otherwise::Absent),
@@ -112,7 +121,8 @@ fn otherwise<'s, 't>(plan: &mut Plan<'s, 't>, other: &Else<'s>) -> Result<Otherw
 // `if`, perhaps with `else`.
 #[cycle(statement)]
 fn choose<'s, 't>(plan: &mut Plan<'s, 't>, choice: &If<'s>) -> Result<Step<'t>, Stop>
-    ensures { IfOk result (λ step. PlansStmt plan.old plan.new (IfTree choice.now.at (expr_view choice.now.condition.now) (body_view choice.now.body) (else_view choice.now.otherwise)) step) }
+    ensures plans { IfOk result (λ step. PlansStmt plan.old plan.new (IfTree choice.now.at (expr_view choice.now.condition.now) (body_view choice.now.body) (else_view choice.now.otherwise)) step) }
+    ensures ill_typed { (result ≡ Err stop.IllTyped) → IsScalarStmt plan.old.scopes (intents_in plan.old) (IfTree choice.now.at (expr_view choice.now.condition.now) (body_view choice.now.body) (else_view choice.now.otherwise)) → ⊥ }
 {
     let condition = condition(plan, choice.condition)?;
     let body = body(plan, &choice.body)?;
@@ -127,7 +137,8 @@ fn choose<'s, 't>(plan: &mut Plan<'s, 't>, choice: &If<'s>) -> Result<Step<'t>, 
 // `while`.
 #[cycle(statement)]
 fn repeat<'s, 't>(plan: &mut Plan<'s, 't>, turns: &While<'s>) -> Result<Step<'t>, Stop>
-    ensures { IfOk result (λ step. PlansStmt plan.old plan.new (WhileTree turns.now.at (expr_view turns.now.condition.now) (body_view turns.now.body)) step) }
+    ensures plans { IfOk result (λ step. PlansStmt plan.old plan.new (WhileTree turns.now.at (expr_view turns.now.condition.now) (body_view turns.now.body)) step) }
+    ensures ill_typed { (result ≡ Err stop.IllTyped) → IsScalarStmt plan.old.scopes (intents_in plan.old) (WhileTree turns.now.at (expr_view turns.now.condition.now) (body_view turns.now.body)) → ⊥ }
 {
     let at = spot(plan.arena, turns.at)?;
     let condition = condition(plan, turns.condition)?;
@@ -142,7 +153,8 @@ fn repeat<'s, 't>(plan: &mut Plan<'s, 't>, turns: &While<'s>) -> Result<Step<'t>
 // `for`.
 #[cycle(statement)]
 fn for_turns<'s, 't>(plan: &mut Plan<'s, 't>, turns: &For<'s>) -> Result<Step<'t>, Stop>
-    ensures { IfOk result (λ step. PlansStmt plan.old plan.new (ForTree turns.now.at (variables_view turns.now.variables) turns.now.within (item_view turns.now.over) (body_view turns.now.body)) step) }
+    ensures plans { IfOk result (λ step. PlansStmt plan.old plan.new (ForTree turns.now.at (variables_view turns.now.variables) turns.now.within (item_view turns.now.over) (body_view turns.now.body)) step) }
+    ensures ill_typed { (result ≡ Err stop.IllTyped) → IsScalarStmt plan.old.scopes (intents_in plan.old) (ForTree turns.now.at (variables_view turns.now.variables) turns.now.within (item_view turns.now.over) (body_view turns.now.body)) → ⊥ }
 {
     let name = single(&turns.variables)?;
     let at = spot(plan.arena, turns.at)?;
@@ -161,7 +173,8 @@ fn for_turns<'s, 't>(plan: &mut Plan<'s, 't>, turns: &For<'s>) -> Result<Step<'t
 // `forall`: within one with reduce variables there is no other.
 #[cycle(statement)]
 fn forall_turns<'s, 't>(plan: &mut Plan<'s, 't>, turns: &Forall<'s>) -> Result<Step<'t>, Stop>
-    ensures { IfOk result (λ step. PlansStmt plan.old plan.new (ForallTree turns.now.at (variables_view turns.now.variables) turns.now.within (item_view turns.now.over) (optional with_view turns.now.with) (body_view turns.now.body)) step) }
+    ensures plans { IfOk result (λ step. PlansStmt plan.old plan.new (ForallTree turns.now.at (variables_view turns.now.variables) turns.now.within (item_view turns.now.over) (optional with_view turns.now.with) (body_view turns.now.body)) step) }
+    ensures ill_typed { (result ≡ Err stop.IllTyped) → IsScalarStmt plan.old.scopes (intents_in plan.old) (ForallTree turns.now.at (variables_view turns.now.variables) turns.now.within (item_view turns.now.over) (optional with_view turns.now.with) (body_view turns.now.body)) → ⊥ }
 {
     if !outside(&plan.intents) {
         return Err(Stop::IllTyped);

@@ -1,7 +1,7 @@
 // `write` and `writeln`: texts by the bytes that they mean, ints and truth values.
 // Arguments are planned in order, none is left out.
 
-ghost use Rattle.std.specs.Prelude.{◌≡◌, List, [], Some, OnOk, IfOk};
+ghost use Rattle.std.specs.Prelude.{◌≡◌, List, [], Some, OnOk, IfOk, Err};
 ghost use Rattle.dpl_syntax.specs.Text.{text_value};
 ghost use Rattle.dpl_language.specs.Tree.{ArgumentTree, ExprArgument, Write as WriteTree};
 ghost use Rattle.dpl_language.specs.Names.{Text};
@@ -10,7 +10,9 @@ ghost use Rattle.dpl_tree.specs.View.{expr_view};
 ghost use Rattle.dpl_tree.specs.Declarations.{optional};
 ghost use Rattle.dpl_tree.specs.Statements.{argument_view, arguments_view, written_view};
 ghost use Rattle.dpl_planner.specs.Parts.{IsArgument, AreArguments, others_in, StillArguments};
-ghost use Rattle.dpl_planner.specs.Plans.{PlansStmt};
+ghost use Rattle.dpl_nodes.specs.declared.make.Stop.TheVariants as stop;
+ghost use Rattle.dpl_scalar.specs.Scalar.{IsScalarStmt};
+ghost use Rattle.dpl_planner.specs.Plans.{intents_in, PlansStmt};
 
 use crate::progress::{Plan, list, push};
 use dpl_elaborator::expression;
@@ -95,7 +97,8 @@ fn arguments<'t>(
 /// # Errors
 /// Out of memory; an argument that isn't a text, an int or a truth value.
 pub(crate) fn write<'t>(plan: &Plan<'_, 't>, written: &Write<'_>) -> Result<Step<'t>, Stop>
-    ensures { IfOk result (λ step. PlansStmt plan.now plan.now (WriteTree (written_view written.now)) step) }
+    ensures plans { IfOk result (λ step. PlansStmt plan.now plan.now (WriteTree (written_view written.now)) step) }
+    ensures ill_typed { (result ≡ Err stop.IllTyped) → IsScalarStmt plan.now.scopes (intents_in plan.now) (WriteTree (written_view written.now)) → ⊥ }
 {
     let arguments = arguments(plan, &written.arguments)?;
     Ok(Step::Write {
