@@ -10,4 +10,5 @@ pub mod Declared
 pub mod Changed
 pub mod Printed
 pub mod Reduced
+pub mod RefusedParts
 pub mod Programs

@@ -1,7 +1,7 @@
 // Assignments: each to a plain variable in sight, with an operator that takes its kind.
 // `reduce=` is by the operator of the forall around, which the name and its slot tell alike.
 
-ghost use Rattle.std.specs.Prelude.{◌≡◌, true, OnOk, IfOk, Err, Some, map, option_map};
+ghost use Rattle.std.specs.Prelude.{◌≡◌, ◌≢◌, true, false, OnOk, IfOk, Err, Some, map, option_map};
 ghost use Rattle.dpl_language.specs.Tree.{Whole, Assigned as AssignedTree};
 ghost use Rattle.dpl_language.specs.Arithmetic.{assign_divides};
 ghost use Rattle.dpl_language.specs.Names.{paired};
@@ -14,13 +14,14 @@ ghost use Rattle.dpl_scopes.specs.Slots.{slot_in};
 ghost use Rattle.dpl_lowered.specs.Shapes.{kept};
 ghost use Rattle.dpl_words.specs.Words.{IntLeaf, TruthLeaf, RangeLeaf, intent_at, by_slots};
 ghost use Rattle.dpl_words.specs.Resolved.{text_of, leaf_of, takes, is_logical as is_logical_of, Combines, IntentResolves};
+ghost use Rattle.dpl_nodes.specs.Faults.{IsNear};
 ghost use Rattle.dpl_nodes.specs.Makers.{kind_of, typed_item};
 ghost use Rattle.dpl_nodes.specs.declared.make.Stop.TheVariants as stop;
 ghost use Rattle.dpl_nodes.specs.declared.make.Typed.TheVariants as typed;
 ghost use Rattle.dpl_nodes.specs.Steps.{step_view, assigned_to as assigns};
 ghost use Rattle.dpl_elaborator.specs.Leaves.{plain_kind, type_in, kind_in};
 ghost use Rattle.dpl_planner.specs.Parts.{leaf_as};
-ghost use Rattle.dpl_scalar.specs.Scalar.{IsScalarStmt};
+ghost use Rattle.dpl_scalar.specs.Scalar.{AreToldAlike, IsReducedBy, IsScalarStmt};
 ghost use Rattle.dpl_planner.specs.Plans.{reducing_view, intents_in, seen_in, PlansStmt};
 
 use crate::progress::{Plan, Reducing, spot};
@@ -33,7 +34,8 @@ use dpl_types::ValueType;
 
 /// Whether a variable of a type holds the values of an expression.
 pub(crate) fn holds(t: ValueType<'_>, value: Typed<'_>) -> bool
-    ensures { (result ≡ true) → plain_kind (type_view t.entry) ≡ Some (kind_of value.entry) }
+    ensures yes { (result ≡ true) → plain_kind (type_view t.entry) ≡ Some (kind_of value.entry) }
+    ensures no { (result ≡ false) → plain_kind (type_view t.entry) ≢ Some (kind_of value.entry) }
 {
     match value {
         Typed::Int(_) => matches!(t, ValueType::Scalar(ScalarKind::Int)),
@@ -56,6 +58,7 @@ pub(crate) fn declared_type<'s>(scopes: &Scopes<'s>, name: &[u8]) -> Option<Valu
 fn variable(scopes: &Scopes<'_>, name: &[u8], value: Typed<'_>) -> Result<usize, Stop>
     ensures kind { IfOk result (λ slot. kind_in scopes.now name.now ≡ Some (kind_of value.entry)) }
     ensures slot { IfOk result (λ slot. slot_in scopes.now name.now ≡ Some slot) }
+    ensures ill_typed { (result ≡ Err stop.IllTyped) → kind_in scopes.now name.now ≢ Some (kind_of value.entry) }
 {
     let Some(t) = declared_type(scopes, name) else {
         return Err(Stop::IllTyped);
@@ -76,7 +79,8 @@ fn of_int<'t>(
     slot: usize,
     e: &'t IntExpr<'t>,
 ) -> Result<Step<'t>, Stop>
-    ensures { IfOk result (λ s. step_view s ≡ assigns (leaf_as IntLeaf slot) (assign_view sign.op) (kept (assign_divides (assign_view sign.op)) sign.at) (typed_item (typed.Int e.entry))) }
+    ensures node { IfOk result (λ s. step_view s ≡ assigns (leaf_as IntLeaf slot) (assign_view sign.op) (kept (assign_divides (assign_view sign.op)) sign.at) (typed_item (typed.Int e.entry))) }
+    ensures ill_typed { (result ≡ Err stop.IllTyped) → IsNear sign.at → ⊥ }
 {
     match sign.op {
         Assign::Set => Ok(Step::SetInt(slot, e)),
@@ -93,6 +97,7 @@ fn of_int<'t>(
 fn of_truth<'t>(sign: AssignSign, slot: usize, e: &'t BoolExpr<'t>) -> Result<Step<'t>, Stop>
     ensures node { IfOk result (λ s. step_view s ≡ assigns (leaf_as TruthLeaf slot) (assign_view sign.op) (kept (assign_divides (assign_view sign.op)) sign.at) (typed_item (typed.Truth e.entry))) }
     ensures takes { IfOk result (λ s. takes TruthLeaf (assign_view sign.op) ≡ true) }
+    ensures ill_typed { (result ≡ Err stop.IllTyped) → takes TruthLeaf (assign_view sign.op) ≡ false }
 {
     match sign.op {
         Assign::Set => Ok(Step::SetTruth(slot, e)),
@@ -130,6 +135,7 @@ fn change<'t>(
 ) -> Result<Step<'t>, Stop>
     ensures node { IfOk result (λ s. step_view s ≡ assigns (leaf_as (kind_of value.entry) slot) (assign_view sign.op) (kept (assign_divides (assign_view sign.op)) sign.at) (typed_item value.entry)) }
     ensures takes { IfOk result (λ s. takes (kind_of value.entry) (assign_view sign.op) ≡ true) }
+    ensures ill_typed { (result ≡ Err stop.IllTyped) → (kind_of value.entry ≢ RangeLeaf) → takes (kind_of value.entry) (assign_view sign.op) ≡ true → IsNear sign.at → ⊥ }
 {
     match value {
         Typed::Int(e) => of_int(arena, sign, slot, e),
@@ -142,6 +148,7 @@ fn change<'t>(
 fn reducing(intents: &[Reducing<'_>], name: &[u8], slot: usize) -> Result<Option<Op>, Stop>
     ensures named { IfOk result (λ op. paired name.now (renamed_intents text_of (map reducing_view intents.now)) ≡ option_map op_view op) }
     ensures slotted { IfOk result (λ op. intent_at slot (by_slots (renamed_intents leaf_of (map reducing_view intents.now))) ≡ option_map op_view op) }
+    ensures ill_typed { (result ≡ Err stop.IllTyped) → AreToldAlike name.now slot (map reducing_view intents.now) → ⊥ }
 {
     for next in intents {
         let by_name = name == next.name;
@@ -169,7 +176,8 @@ fn is_logical(op: Op) -> bool
 
 // Whether an operator puts the values of an expression together; without one there is nothing to put together.
 fn combines(value: Typed<'_>, op: Option<Op>) -> bool
-    ensures { (result ≡ true) → Combines (kind_of value.entry) (option_map op_view op) }
+    ensures yes { (result ≡ true) → Combines (kind_of value.entry) (option_map op_view op) }
+    ensures no { (result ≡ false) → Combines (kind_of value.entry) (option_map op_view op) → ⊥ }
 {
     match op {
         None => true,
@@ -189,7 +197,8 @@ fn intent_resolves(
     slot: usize,
     value: Typed<'_>,
 ) -> Result<(), Stop>
-    ensures { OnOk result (IntentResolves (assign_view op) (record { text = name.now; leaf = leaf_as (kind_of value.entry) slot }) (seen_in plan.now)) }
+    ensures resolves { OnOk result (IntentResolves (assign_view op) (record { text = name.now; leaf = leaf_as (kind_of value.entry) slot }) (seen_in plan.now)) }
+    ensures ill_typed { (result ≡ Err stop.IllTyped) → slot_in plan.now.scopes name.now ≡ Some slot → IsReducedBy plan.now.scopes (intents_in plan.now) name.now (assign_view op) (kind_of value.entry) → ⊥ }
 {
     match op {
         Assign::Set
@@ -217,7 +226,8 @@ fn assigned_to<'t>(
     value: &Item<'_>,
     semicolon: Place,
 ) -> Result<Step<'t>, Stop>
-    ensures { IfOk result (λ step. PlansStmt plan.now plan.now (AssignedTree (Whole (name_view name.now)) (sign_view sign) (item_view value.now) semicolon) step) }
+    ensures plans { IfOk result (λ step. PlansStmt plan.now plan.now (AssignedTree (Whole (name_view name.now)) (sign_view sign) (item_view value.now) semicolon) step) }
+    ensures ill_typed { (result ≡ Err stop.IllTyped) → IsScalarStmt plan.now.scopes (intents_in plan.now) (AssignedTree (Whole (name_view name.now)) (sign_view sign) (item_view value.now) semicolon) → ⊥ }
 {
     let made = item(plan.arena, &plan.scopes, value)?;
     let slot = variable(&plan.scopes, name.text, made)?;

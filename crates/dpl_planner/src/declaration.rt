@@ -1,7 +1,7 @@
 // Declarations of plain variables: what each is declared as, its slot, and its initial value, which is written or its type's.
 // The type is the one that the check gives the name; a value of another kind is refused.
 
-ghost use Rattle.std.specs.Prelude.{◌≡◌, IfOk, Err, option_map};
+ghost use Rattle.std.specs.Prelude.{◌≡◌, ◌≢◌, IfOk, Err, option_map};
 ghost use Rattle.dpl_language.specs.Tree.{Declare as DeclareTree};
 ghost use Rattle.dpl_language.specs.Declarations.{type_of};
 ghost use Rattle.dpl_tree.specs.Words.{kind_view};
@@ -13,7 +13,8 @@ ghost use Rattle.dpl_nodes.specs.declared.make.Stop.TheVariants as stop;
 ghost use Rattle.dpl_nodes.specs.Makers.{kind_of, typed_item};
 ghost use Rattle.dpl_nodes.specs.Steps.{step_view, declared_as};
 ghost use Rattle.dpl_planner.specs.Parts.{leaf_as, IsPlainType, IsDefault, IsGivenInit, IsInitial, PlansDeclare};
-ghost use Rattle.dpl_scalar.specs.Scalar.{IsScalarDeclare, IsScalarStmt};
+ghost use Rattle.dpl_words.specs.Words.{LeafKind};
+ghost use Rattle.dpl_scalar.specs.Scalar.{IsScalarType, IsInitOf, IsInitialOf, IsConfigOf, IsScalarDeclare, IsScalarStmt};
 ghost use Rattle.dpl_planner.specs.Plans.{intents_in, PlansStmt};
 
 use crate::change::holds;
@@ -28,7 +29,8 @@ use dpl_tree::{Arena, Declare, DeclaredType, Init, Initial, ScalarKind, Typed as
 
 // The declaration, as the check has it.
 fn declared<'s>(plan: &Plan<'s, '_>, written: &Declare<'s>) -> Result<Declared<'s>, Stop>
-    ensures { IfOk result (λ d. declared_view d ≡ declared_by plan.now.scopes (declare_view written.now)) }
+    ensures declared { IfOk result (λ d. declared_view d ≡ declared_by plan.now.scopes (declare_view written.now)) }
+    ensures ill_typed { result ≢ Err stop.IllTyped }
 {
     let mut first = None;
     match declaration(plan.arena.alloc(), &plan.scopes, written, &mut first) {
@@ -39,7 +41,8 @@ fn declared<'s>(plan: &Plan<'s, '_>, written: &Declare<'s>) -> Result<Declared<'
 
 // The type of a plain variable, or none that is written.
 fn plain_type(written: &Option<WrittenType<'_>>) -> Result<Option<ScalarKind>, Stop>
-    ensures { IfOk result (λ k. IsPlainType (type_of (optional written_type_view written.now)) (option_map kind_view k)) }
+    ensures plain { IfOk result (λ k. IsPlainType (type_of (optional written_type_view written.now)) (option_map kind_view k)) }
+    ensures ill_typed { (result ≡ Err stop.IllTyped) → IsScalarType (type_of (optional written_type_view written.now)) → ⊥ }
 {
     match written {
         None => Ok(None),
@@ -54,7 +57,8 @@ fn plain_type(written: &Option<WrittenType<'_>>) -> Result<Option<ScalarKind>, S
 
 // What a plain variable has where no value is written.
 fn default<'t>(arena: Arena<'t>, kind: ScalarKind) -> Result<Typed<'t>, Stop>
-    ensures { IfOk result (λ t. IsDefault (kind_view kind) t) }
+    ensures default { IfOk result (λ t. IsDefault (kind_view kind) t) }
+    ensures ill_typed { result ≢ Err stop.IllTyped }
 {
     match kind {
         ScalarKind::Int => number(arena, 0),
@@ -64,7 +68,9 @@ fn default<'t>(arena: Arena<'t>, kind: ScalarKind) -> Result<Typed<'t>, Stop>
 
 // The initial value that is written.
 fn given<'t>(arena: Arena<'t>, scopes: &Scopes<'_>, written: &Init<'_>) -> Result<Typed<'t>, Stop>
-    ensures { IfOk result (λ t. IsGivenInit scopes.now (init_view written.now) t) }
+    ensures given { IfOk result (λ t. IsGivenInit scopes.now (init_view written.now) t) }
+    ensures kind { IfOk result (λ t. (k : LeafKind) → IsInitOf scopes.now (init_view written.now) k → kind_of t ≡ k) }
+    ensures ill_typed { (result ≡ Err stop.IllTyped) → (k : LeafKind) → IsInitOf scopes.now (init_view written.now) k → ⊥ }
 {
     match written {
         Init::Item(value, None) => item(arena, scopes, value),
@@ -80,7 +86,9 @@ fn initial<'t>(
     typed: &Option<WrittenType<'_>>,
     written: &Option<Initial<'_>>,
 ) -> Result<Typed<'t>, Stop>
-    ensures { IfOk result (λ t. IsInitial scopes.now (optional written_type_view typed.now) (optional initial_view written.now) t) }
+    ensures initial { IfOk result (λ t. IsInitial scopes.now (optional written_type_view typed.now) (optional initial_view written.now) t) }
+    ensures kind { IfOk result (λ t. (k : LeafKind) → IsInitialOf scopes.now (type_of (optional written_type_view typed.now)) (optional initial_view written.now) k → kind_of t ≡ k) }
+    ensures ill_typed { (result ≡ Err stop.IllTyped) → (k : LeafKind) → IsScalarType (type_of (optional written_type_view typed.now)) → IsInitialOf scopes.now (type_of (optional written_type_view typed.now)) (optional initial_view written.now) k → ⊥ }
 {
     let kind = plain_type(typed)?;
     match written {
@@ -94,7 +102,8 @@ fn initial<'t>(
 
 // The statement: a `config const` is an int or a truth value.
 fn declares<'t>(config: Option<Place>, slot: usize, value: Typed<'t>) -> Result<Step<'t>, Stop>
-    ensures { IfOk result (λ s. step_view s ≡ declared_as (unplaced_word config) (leaf_as (kind_of value.entry) slot) (typed_item value.entry)) }
+    ensures node { IfOk result (λ s. step_view s ≡ declared_as (unplaced_word config) (leaf_as (kind_of value.entry) slot) (typed_item value.entry)) }
+    ensures ill_typed { (result ≡ Err stop.IllTyped) → IsConfigOf config (kind_of value.entry) → ⊥ }
 {
     match (config, value) {
         (None, Typed::Int(e)) => Ok(Step::DeclareInt(slot, e)),

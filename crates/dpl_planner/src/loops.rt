@@ -1,7 +1,7 @@
 // The heads of loops over ranges: what a loop runs over, its variable, which is an int, and its reduce variables.
 // A loop with several variables is refused.
 
-ghost use Rattle.std.specs.Prelude.{◌≡◌, ◌≢◌, true, false, ◌++◌, ◌∷◌, [], OnOk, IfOk, Err, map};
+ghost use Rattle.std.specs.Prelude.{◌≡◌, ◌≢◌, true, false, ◌++◌, ◌∷◌, [], OnOk, IfOk, Err, Some, map};
 ghost use Rattle.dpl_language.specs.Tree.{OneVariable};
 ghost use Rattle.dpl_language.specs.Phrases.{reduce_intents, intents_of};
 ghost use Rattle.dpl_language.specs.Renamed.{renamed_intents};
@@ -13,10 +13,11 @@ ghost use Rattle.dpl_words.specs.Resolved.{leaf_of};
 ghost use Rattle.dpl_nodes.specs.declared.make.Stop.TheVariants as stop;
 ghost use Rattle.dpl_nodes.specs.declared.make.Typed.TheVariants as typed;
 ghost use Rattle.dpl_nodes.specs.Steps.{intent_view as step_intent};
+ghost use Rattle.dpl_elaborator.specs.Leaves.{kind_in};
 ghost use Rattle.dpl_elaborator.specs.Sights.{bound_in};
 ghost use Rattle.dpl_planner.specs.Parts.{IsItem, IsCondition, IsOpened, intents_among};
-ghost use Rattle.dpl_words.specs.Words.{TruthLeaf, RangeLeaf};
-ghost use Rattle.dpl_scalar.specs.Scalar.{IsExprOf, IsItemOf, IsOneVariable, HasScalarIntents};
+ghost use Rattle.dpl_words.specs.Words.{LeafKind, TruthLeaf, RangeLeaf};
+ghost use Rattle.dpl_scalar.specs.Scalar.{IsExprOf, IsItemOf, IsOneVariable, IsScalarIntent, AreScalarIntents, HasScalarIntents};
 ghost use Rattle.dpl_planner.specs.Plans.{reducing_view};
 
 use crate::change::declared_type;
@@ -98,7 +99,8 @@ pub(crate) fn open<'s>(plan: &mut Plan<'s, '_>, name: &Name<'s>) -> Result<usize
 
 // A reduce variable, with its slot.
 fn reduced<'s>(scopes: &Scopes<'_>, op: Op, name: &Name<'s>) -> Result<Reducing<'s>, Stop>
-    ensures { IfOk result (λ r. reducing_view r ≡ (bound_in scopes.now name.now.text.now, op_view op)) }
+    ensures reduced { IfOk result (λ r. reducing_view r ≡ (bound_in scopes.now name.now.text.now, op_view op)) }
+    ensures ill_typed { (result ≡ Err stop.IllTyped) → (k : LeafKind) → kind_in scopes.now name.now.text.now ≡ Some k → (k ≢ RangeLeaf) → ⊥ }
 {
     let Some(ValueType::Scalar(kind)) = declared_type(scopes, name.text) else {
         return Err(Stop::IllTyped);
@@ -118,7 +120,8 @@ fn intent<'s>(
     written: &Intent<'s>,
     found: &mut Vec<Reducing<'s>>,
 ) -> Result<(), Stop>
-    ensures { OnOk result (map reducing_view found.new.items ≡ map reducing_view found.old.items ++ renamed_intents (bound_in scopes.now) (reduce_intents (intent_view written.now ∷ []))) }
+    ensures found { OnOk result (map reducing_view found.new.items ≡ map reducing_view found.old.items ++ renamed_intents (bound_in scopes.now) (reduce_intents (intent_view written.now ∷ []))) }
+    ensures ill_typed { (result ≡ Err stop.IllTyped) → IsScalarIntent scopes.now (intent_view written.now) → ⊥ }
 {
     match written {
         Intent::Reduce(_, op, _, name) => push(found, reduced(scopes, *op, name)?),
@@ -132,7 +135,8 @@ fn more_intents<'s>(
     others: &[NextIntent<'s>],
     found: &mut Vec<Reducing<'s>>,
 ) -> Result<(), Stop>
-    ensures { OnOk result (map reducing_view found.new.items ≡ map reducing_view found.old.items ++ renamed_intents (bound_in scopes.now) (reduce_intents (intents_among others.now))) }
+    ensures found { OnOk result (map reducing_view found.new.items ≡ map reducing_view found.old.items ++ renamed_intents (bound_in scopes.now) (reduce_intents (intents_among others.now))) }
+    ensures ill_typed { (result ≡ Err stop.IllTyped) → AreScalarIntents scopes.now (intents_among others.now) → ⊥ }
 {
     for next in others {
         intent(scopes, &next.intent, found)?;

@@ -1,7 +1,7 @@
 // `write` and `writeln`: texts by the bytes that they mean, ints and truth values.
 // Arguments are planned in order, none is left out.
 
-ghost use Rattle.std.specs.Prelude.{◌≡◌, List, [], Some, OnOk, IfOk, Err};
+ghost use Rattle.std.specs.Prelude.{◌≡◌, ◌≢◌, List, [], Some, OnOk, IfOk, Err};
 ghost use Rattle.dpl_syntax.specs.Text.{text_value};
 ghost use Rattle.dpl_language.specs.Tree.{ArgumentTree, ExprArgument, Write as WriteTree};
 ghost use Rattle.dpl_language.specs.Names.{Text};
@@ -11,7 +11,7 @@ ghost use Rattle.dpl_tree.specs.Declarations.{optional};
 ghost use Rattle.dpl_tree.specs.Statements.{argument_view, arguments_view, written_view};
 ghost use Rattle.dpl_planner.specs.Parts.{IsArgument, AreArguments, others_in, StillArguments};
 ghost use Rattle.dpl_nodes.specs.declared.make.Stop.TheVariants as stop;
-ghost use Rattle.dpl_scalar.specs.Scalar.{IsScalarStmt};
+ghost use Rattle.dpl_scalar.specs.Scalar.{IsScalarExpr, IsScalarArgument, AreScalarArguments, IsScalarStmt};
 ghost use Rattle.dpl_planner.specs.Plans.{intents_in, PlansStmt};
 
 use crate::progress::{Plan, list, push};
@@ -23,7 +23,8 @@ use dpl_tree::{Arena, Argument, Arguments, Expr, NextArgument, Write};
 
 // A text, by the bytes that its escapes mean.
 fn text<'t>(arena: Arena<'t>, bytes: &[u8]) -> Result<&'t [u8], Stop>
-    ensures { IfOk result (λ meant. meant.now ≡ text_value bytes.now) }
+    ensures meant { IfOk result (λ meant. meant.now ≡ text_value bytes.now) }
+    ensures ill_typed { result ≢ Err stop.IllTyped }
 {
     match text_bytes(arena.alloc(), &Bytes::new(bytes)) {
         Ok(meant) => list(arena, meant),
@@ -33,7 +34,8 @@ fn text<'t>(arena: Arena<'t>, bytes: &[u8]) -> Result<&'t [u8], Stop>
 
 // An expression: an int or a truth value.
 fn value<'t>(plan: &Plan<'_, 't>, e: &Expr<'_>) -> Result<Shown<'t>, Stop>
-    ensures { IfOk result (λ shown. IsArgument plan.now.scopes (ExprArgument (expr_view e.now)) shown) }
+    ensures shown { IfOk result (λ shown. IsArgument plan.now.scopes (ExprArgument (expr_view e.now)) shown) }
+    ensures ill_typed { (result ≡ Err stop.IllTyped) → IsScalarExpr plan.now.scopes (expr_view e.now) → ⊥ }
 {
     let made = expression(plan.arena, &plan.scopes, e)?;
     match made {
@@ -45,7 +47,8 @@ fn value<'t>(plan: &Plan<'_, 't>, e: &Expr<'_>) -> Result<Shown<'t>, Stop>
 
 // An argument.
 fn argument<'t>(plan: &Plan<'_, 't>, written: &Argument<'_>) -> Result<Shown<'t>, Stop>
-    ensures { IfOk result (λ shown. IsArgument plan.now.scopes (argument_view written.now) shown) }
+    ensures shown { IfOk result (λ shown. IsArgument plan.now.scopes (argument_view written.now) shown) }
+    ensures ill_typed { (result ≡ Err stop.IllTyped) → IsScalarArgument plan.now.scopes (argument_view written.now) → ⊥ }
 {
     match written {
         Argument::Text(_, bytes) => Ok(Shown::Text(text(plan.arena, bytes)?)),
@@ -59,7 +62,8 @@ fn more_arguments<'t>(
     others: &[NextArgument<'_>],
     shown: &mut Vec<Shown<'t>>,
 ) -> Result<(), Stop>
-    ensures { OnOk result ((all : List (ArgumentTree Text)) → StillArguments plan.now.scopes all (others_in others.now) shown.old.items → StillArguments plan.now.scopes all [] shown.new.items) }
+    ensures shown { OnOk result ((all : List (ArgumentTree Text)) → StillArguments plan.now.scopes all (others_in others.now) shown.old.items → StillArguments plan.now.scopes all [] shown.new.items) }
+    ensures ill_typed { (result ≡ Err stop.IllTyped) → AreScalarArguments plan.now.scopes (others_in others.now) → ⊥ }
 {
     for next in others {
         let argument = argument(plan, &next.argument)?;
@@ -70,7 +74,8 @@ fn more_arguments<'t>(
 
 // One argument or more.
 fn some_arguments<'t>(plan: &Plan<'_, 't>, written: &Arguments<'_>) -> Result<&'t [Shown<'t>], Stop>
-    ensures { IfOk result (λ shown. AreArguments plan.now.scopes (arguments_of (Some (arguments_view written.now))) shown.now) }
+    ensures shown { IfOk result (λ shown. AreArguments plan.now.scopes (arguments_of (Some (arguments_view written.now))) shown.now) }
+    ensures ill_typed { (result ≡ Err stop.IllTyped) → AreScalarArguments plan.now.scopes (arguments_of (Some (arguments_view written.now))) → ⊥ }
 {
     let mut shown = Vec::new(plan.arena.alloc());
     let first = argument(plan, &written.first)?;
@@ -84,7 +89,8 @@ fn arguments<'t>(
     plan: &Plan<'_, 't>,
     written: &Option<Arguments<'_>>,
 ) -> Result<&'t [Shown<'t>], Stop>
-    ensures { IfOk result (λ shown. AreArguments plan.now.scopes (arguments_of (optional arguments_view written.now)) shown.now) }
+    ensures shown { IfOk result (λ shown. AreArguments plan.now.scopes (arguments_of (optional arguments_view written.now)) shown.now) }
+    ensures ill_typed { (result ≡ Err stop.IllTyped) → AreScalarArguments plan.now.scopes (arguments_of (optional arguments_view written.now)) → ⊥ }
 {
     match written {
         None => Ok(&[]),

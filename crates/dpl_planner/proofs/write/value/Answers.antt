@@ -1,12 +1,26 @@
 -- An int and a truth value are shown as they are.
-use Rattle.std.proofs.Common.{sym, ap, ◌∙◌}
+-- What isn't is no scalar expression.
+use Rattle.std.proofs.Common.{rules, ◌≡◌, Err, sym, ap, ◌∙◌}
+use Rattle.dpl_rules.specs.Expressions.{type_of}
 use Rattle.dpl_tree.specs.View.{expr_view}
-use Rattle.dpl_nodes.specs.Makers.{typed_view}
+use Rattle.dpl_nodes.specs.declared.make.Stop.TheVariants as stop
+use Rattle.dpl_nodes.specs.Makers.{typed_view, kind_of}
 use Rattle.dpl_planner.proofs.Printed.{int-argument, truth-argument}
+use Rattle.dpl_planner.proofs.RefusedParts.{no_kind, same_kind}
 use Rattle.dpl_planner.proofs.write.value.Goals as goal
 
-pub returns-in-Int : goal.returns-in-Int
-returns-in-Int c = int-argument c.args.plan.now.scopes (expr_view c.args.e.now) c.in-Int.e (ap typed_view (sym c.in-Int.is) ∙ c.in_ok-made.ensures.node) c.in_ok-made.ensures.found
+pub returns-in_err-made-clause-ill_typed : goal.returns-in_err-made-clause-ill_typed
+returns-in_err-made-clause-ill_typed c = λ e s.
+    let refused : c.expression.result ≡ Err stop.IllTyped = search rules in
+    no_kind (type_of c.args.plan.now.scopes (expr_view c.args.e.now)) s.kind (c.expression.ensures.ill_typed refused s.expr.simple s.expr.near) s.expr.kind
 
-pub returns-in-Truth : goal.returns-in-Truth
-returns-in-Truth c = truth-argument c.args.plan.now.scopes (expr_view c.args.e.now) c.in-Truth.e (ap typed_view (sym c.in-Truth.is) ∙ c.in_ok-made.ensures.node) c.in_ok-made.ensures.found
+pub returns-in-Int-clause-shown : goal.returns-in-Int-clause-shown
+returns-in-Int-clause-shown c = int-argument c.args.plan.now.scopes (expr_view c.args.e.now) c.in-Int.e (ap typed_view (sym c.in-Int.is) ∙ c.in_ok-made.ensures.node) c.in_ok-made.ensures.found
+
+pub returns-in-Truth-clause-shown : goal.returns-in-Truth-clause-shown
+returns-in-Truth-clause-shown c = truth-argument c.args.plan.now.scopes (expr_view c.args.e.now) c.in-Truth.e (ap typed_view (sym c.in-Truth.is) ∙ c.in_ok-made.ensures.node) c.in_ok-made.ensures.found
+
+pub returns-in-Range-clause-ill_typed : goal.returns-in-Range-clause-ill_typed
+returns-in-Range-clause-ill_typed c = λ e s.
+    let made = c.in_ok-made.made in
+    s.scalar (same_kind (type_of c.args.plan.now.scopes (expr_view c.args.e.now)) (kind_of made) s.kind c.in_ok-made.ensures.kind s.expr.kind ∙ ap kind_of c.in-Range.is)
