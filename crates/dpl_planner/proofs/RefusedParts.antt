@@ -4,9 +4,9 @@ use Rattle.std.proofs.Common.{◌≡◌, ◌≢◌, ◌⊎◌, inl, inr, ℕ, �
 use Rattle.std.specs.Prelude.{bytes_eq}
 use Rattle.std.proofs.lemmas.List.{drop_more}
 use Rattle.std.proofs.lemmas.Slice.Eq.{bytes_eq-Decides}
-use Rattle.dpl_language.specs.Tree.{Kind, TypeTree, ScalarType, SyncType, DomainType, ArrayType, DeclareTree}
+use Rattle.dpl_language.specs.Tree.{DeclareTree}
 use Rattle.dpl_language.specs.Names.{Text}
-use Rattle.dpl_rules.specs.Types.{ValueType, Scalar}
+use Rattle.dpl_rules.specs.Types.{ValueType}
 use Rattle.dpl_rules.specs.Sights.{Declared, Scopes, declared_here}
 use Rattle.dpl_rules.specs.Declarations.{declared_by}
 use Rattle.dpl_tree.specs.declared.operator.ScalarKind.{ScalarKind}
@@ -23,9 +23,9 @@ use Rattle.dpl_nodes.specs.declared.make.Typed.{Typed}
 use Rattle.dpl_nodes.specs.Makers.{kind_of}
 use Rattle.dpl_nodes.specs.Steps.{scalar_leaf}
 use Rattle.dpl_elaborator.specs.Leaves.{plain_kind, kind_by, IsOfKind}
-use Rattle.dpl_scalar.specs.Scalar.{IsDefaultOf, IsScalarDeclare, AreToldAlike, IsScalarArgument, AreScalarArguments, IsScalarIntent, AreScalarIntents}
+use Rattle.dpl_scalar.specs.Scalar.{IsScalarDeclare, AreToldAlike, IsScalarArgument, AreScalarArguments, IsScalarIntent, AreScalarIntents}
 use Rattle.dpl_planner.specs.declared.progress.Reducing.{Reducing}
-use Rattle.dpl_planner.specs.Parts.{IsPlainType, IsDefault, others_in, intents_among}
+use Rattle.dpl_planner.specs.Parts.{others_in, intents_among}
 use Rattle.dpl_planner.specs.Plans.{reducing_view}
 
 -- ---- KINDS
@@ -38,16 +38,6 @@ no_kind t k none e =
 pub same_kind : (t : Option ValueType) (j k : LeafKind) → IsOfKind j t → kind_by t ≡ Some k → k ≡ j
 same_kind None j k is e = absurd cc
 same_kind (Some t) j k is e = cc
-
--- ---- DECLARATIONS: the default of a type is of the type's kind
-pub default-kind_of : (t : Option (TypeTree Text)) (l : Kind) (value : Typed) (k : LeafKind) → IsPlainType t (Some l) → IsDefault l value → IsDefaultOf t k → kind_of value ≡ k
-default-kind_of None l value k plain is h = absurd h
-default-kind_of (Some (ScalarType at m)) l value k plain is h =
-    let f : plain_kind (Scalar l) ≡ Some k = subst (λ m. plain_kind (Scalar m) ≡ Some k) plain h in
-    cc (is.1)
-default-kind_of (Some (SyncType at kind_at m)) l value k plain is h = absurd h
-default-kind_of (Some (DomainType d)) l value k plain is h = absurd h
-default-kind_of (Some (ArrayType a)) l value k plain is h = absurd h
 
 -- ---- DECLARATIONS: one that is scalar has a type of its kind, and its name is new in its scope
 module _ (ss : Scopes) (d : DeclareTree Text) (made : DeclaredNode) (same : declared_view made ≡ declared_by ss d) (s : IsScalarDeclare ss d) where
@@ -91,10 +81,13 @@ told-alike x slot rs i past by_name within are is = by_cases by_name is
   where
     r : Reducing
     r = get_or rs i past
+
     here : AreToldAlike x slot (map reducing_view (r ∷ drop (i + 1) rs))
     here = subst (λ ys. AreToldAlike x slot (map reducing_view ys)) (drop_more rs i past within) are
+
     same : (scalar_leaf r.intent.kind r.intent.slot).slot ≡ r.intent.slot
     same = slot_of-scalar_leaf r.intent.kind r.intent.slot
+
     by_cases : (b : Bool) → b ≡ bytes_eq x r.name.now → (b ≡ true × (slot ≢ r.intent.slot)) ⊎ (b ≡ false) → (b ≡ true) ⊎ (b ≡ false × (slot ≡ r.intent.slot)) → ⊥
     by_cases true is (inl other) both = other.1 (here.0 ((bytes_eq-Decides x r.name.now).0 (sym is)) ∙ same)
     by_cases true is (inr unnamed) both = absurd cc

@@ -9,11 +9,11 @@ ghost use Rattle.dpl_tree.specs.Declarations.{optional, typed_view as written_ty
 ghost use Rattle.dpl_rules.specs.Declarations.{declared_by};
 ghost use Rattle.dpl_lowered.specs.LoweredStatements.{unplaced_word};
 ghost use Rattle.dpl_scopes.specs.View.{declared_view};
+ghost use Rattle.dpl_words.specs.Words.{LeafKind};
 ghost use Rattle.dpl_nodes.specs.declared.make.Stop.TheVariants as stop;
 ghost use Rattle.dpl_nodes.specs.Makers.{kind_of, typed_item};
 ghost use Rattle.dpl_nodes.specs.Steps.{step_view, declared_as};
 ghost use Rattle.dpl_planner.specs.Parts.{leaf_as, IsPlainType, IsDefault, IsGivenInit, IsInitial, PlansDeclare};
-ghost use Rattle.dpl_words.specs.Words.{LeafKind};
 ghost use Rattle.dpl_scalar.specs.Scalar.{IsScalarType, IsInitOf, IsInitialOf, IsConfigOf, IsScalarDeclare, IsScalarStmt};
 ghost use Rattle.dpl_planner.specs.Plans.{intents_in, PlansStmt};
 

@@ -9,6 +9,7 @@ ghost use Rattle.dpl_tree.specs.Words.{op_view};
 ghost use Rattle.dpl_tree.specs.View.{name_view, expr_view, item_view};
 ghost use Rattle.dpl_tree.specs.Declarations.{optional};
 ghost use Rattle.dpl_tree.specs.Statements.{variables_view, intent_view, with_view};
+ghost use Rattle.dpl_words.specs.Words.{LeafKind, TruthLeaf, RangeLeaf};
 ghost use Rattle.dpl_words.specs.Resolved.{leaf_of};
 ghost use Rattle.dpl_nodes.specs.declared.make.Stop.TheVariants as stop;
 ghost use Rattle.dpl_nodes.specs.declared.make.Typed.TheVariants as typed;
@@ -16,7 +17,6 @@ ghost use Rattle.dpl_nodes.specs.Steps.{intent_view as step_intent};
 ghost use Rattle.dpl_elaborator.specs.Leaves.{kind_in};
 ghost use Rattle.dpl_elaborator.specs.Sights.{bound_in};
 ghost use Rattle.dpl_planner.specs.Parts.{IsItem, IsCondition, IsOpened, intents_among};
-ghost use Rattle.dpl_words.specs.Words.{LeafKind, TruthLeaf, RangeLeaf};
 ghost use Rattle.dpl_scalar.specs.Scalar.{IsExprOf, IsItemOf, IsOneVariable, IsScalarIntent, AreScalarIntents, HasScalarIntents};
 ghost use Rattle.dpl_planner.specs.Plans.{reducing_view};
 

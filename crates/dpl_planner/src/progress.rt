@@ -40,6 +40,7 @@ impl<'s, 't> Plan<'s, 't> {
     pub(crate) fn begin(arena: Arena<'t>) -> Result<Plan<'s, 't>, Stop>
         ensures scopes { IfOk result (λ plan. plan.scopes ≡ top) }
         ensures intents { IfOk result (λ plan. plan.intents.items ≡ []) }
+        ensures ill_typed { result ≢ Err stop.IllTyped }
     {
         match Scopes::new(arena.alloc()) {
             Ok(scopes) => Ok(Plan {

@@ -1,5 +1,5 @@
 -- A name without a slot isn't in sight.
-use Rattle.std.proofs.Common.{sym, ap, ◌∙◌}
+use Rattle.std.proofs.Common.{sym, ◌∙◌}
 use Rattle.dpl_elaborator.proofs.Names.{kind_in-unsighted}
 use Rattle.dpl_planner.proofs.change.variable.Goals as goal
 

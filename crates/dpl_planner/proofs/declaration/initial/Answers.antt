@@ -1,16 +1,15 @@
 -- An initial value that is written is that of a plain variable.
--- Its kind is the declaration's, and so is that of a type's default.
-use Rattle.std.proofs.Common.{◌≡◌, sym, subst, option_map, Some, None}
-use Rattle.dpl_words.specs.Words.{LeafKind}
-use Rattle.dpl_nodes.specs.Makers.{kind_of}
+-- Its kind is the declaration's.
+use Rattle.std.proofs.Common.{◌≡◌, sym, subst, option_map}
 use Rattle.dpl_language.specs.Declarations.{type_of}
 use Rattle.dpl_tree.specs.Words.{kind_view}
 use Rattle.dpl_tree.specs.Declarations.{optional, typed_view, initial_view}
+use Rattle.dpl_words.specs.Words.{LeafKind}
+use Rattle.dpl_nodes.specs.Makers.{kind_of}
 use Rattle.dpl_scalar.specs.Scalar.{IsInitialOf}
 use Rattle.dpl_elaborator.proofs.Names.{if_ok}
-use Rattle.dpl_planner.specs.Parts.{IsPlainType, IsInitial}
+use Rattle.dpl_planner.specs.Parts.{IsInitial}
 use Rattle.dpl_planner.proofs.Declared.{given-initial}
-use Rattle.dpl_planner.proofs.RefusedParts.{default-kind_of}
 use Rattle.dpl_planner.proofs.declaration.initial.Goals as goal
 
 pub returns-in-Some-clause-initial : goal.returns-in-Some-clause-initial
@@ -32,4 +31,3 @@ returns-in-Some-clause-kind c =
 pub returns-in-Some-clause-ill_typed : goal.returns-in-Some-clause-ill_typed
 returns-in-Some-clause-ill_typed c = λ e k h i.
     c.given.ensures.ill_typed e k (subst (λ w. IsInitialOf c.args.scopes.now (type_of (optional typed_view c.args.typed.now)) (optional initial_view w) k) c.in-Some.is i)
-

@@ -1,11 +1,10 @@
 -- What is no truth value is no scalar expression of one.
-use Rattle.std.proofs.Common.{rules, ◌≡◌, Err, ap, ◌∙◌}
+use Rattle.std.proofs.Common.{rules, ◌≡◌, Err}
 use Rattle.dpl_tree.specs.View.{expr_view}
 use Rattle.dpl_rules.specs.Expressions.{type_of}
 use Rattle.dpl_words.specs.Words.{TruthLeaf}
 use Rattle.dpl_nodes.specs.declared.make.Stop.TheVariants as stop
-use Rattle.dpl_nodes.specs.Makers.{kind_of}
-use Rattle.dpl_planner.proofs.RefusedParts.{no_kind, same_kind}
+use Rattle.dpl_planner.proofs.RefusedParts.{no_kind}
 use Rattle.dpl_planner.proofs.loops.condition.Goals as goal
 
 pub returns-in_err-e-clause-ill_typed : goal.returns-in_err-e-clause-ill_typed
