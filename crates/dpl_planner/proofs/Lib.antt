@@ -12,3 +12,4 @@ pub mod Printed
 pub mod Reduced
 pub mod RefusedParts
 pub mod Programs
+pub mod RefusedStatements

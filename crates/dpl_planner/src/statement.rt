@@ -174,7 +174,8 @@ fn for_turns<'s, 't>(plan: &mut Plan<'s, 't>, turns: &For<'s>) -> Result<Step<'t
 #[cycle(statement)]
 fn forall_turns<'s, 't>(plan: &mut Plan<'s, 't>, turns: &Forall<'s>) -> Result<Step<'t>, Stop>
     ensures plans { IfOk result (λ step. PlansStmt plan.old plan.new (ForallTree turns.now.at (variables_view turns.now.variables) turns.now.within (item_view turns.now.over) (optional with_view turns.now.with) (body_view turns.now.body)) step) }
-    ensures ill_typed { (result ≡ Err stop.IllTyped) → IsScalarStmt plan.old.scopes (intents_in plan.old) (ForallTree turns.now.at (variables_view turns.now.variables) turns.now.within (item_view turns.now.over) (optional with_view turns.now.with) (body_view turns.now.body)) → ⊥ }
+    ensures ill_typed { (result ≡ Err stop.IllTyped)
+        → IsScalarStmt plan.old.scopes (intents_in plan.old) (ForallTree turns.now.at (variables_view turns.now.variables) turns.now.within (item_view turns.now.over) (optional with_view turns.now.with) (body_view turns.now.body)) → ⊥ }
 {
     if !outside(&plan.intents) {
         return Err(Stop::IllTyped);
