@@ -2,7 +2,7 @@
 -- Where nothing was written, nothing has to be known of the text.
 use Rattle.std.proofs.Common.{◌≡◌, ◌⊎◌, inl, inr, ℕ, refl, sym, subst, List, Option, Some, None}
 use Rattle.std.specs.Io.KnownBytes.{Keeps}
-use Rattle.dpl_run.specs.declared.refused.Refused.TheVariants.{Memory, Writer, Unplanned}
+use Rattle.dpl_run.specs.declared.refused.Refused.TheVariants.{Memory, Writer}
 use Rattle.dpl.specs.declared.ended.Ended.{Ended}
 use Rattle.dpl.specs.declared.ended.Ended.TheVariants.{Ran, Failed, Unread}
 use Rattle.dpl.specs.Ending.{HasRun, IsRunOf, IsTextOf}
@@ -14,7 +14,6 @@ Keeps-same (Some bytes) = refl
 pub HasRun-read : (input : Option (List ℕ)) (text : List ℕ) (sets : List (List ℕ)) (budget : ℕ) (old new : Option (List ℕ)) (e : Ended) → IsTextOf input text → IsRunOf text sets budget old new e → HasRun input sets budget old new e
 HasRun-read input text sets budget old new (Ran o) read run = (text, read, run)
 HasRun-read input text sets budget old new (Failed Memory) read run = run
-HasRun-read input text sets budget old new (Failed Unplanned) read run = (text, read, run)
 HasRun-read input text sets budget old new (Failed Writer) read run = (text, read, run)
 HasRun-read input text sets budget old new Unread read run = absurd run
 

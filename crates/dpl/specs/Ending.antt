@@ -4,12 +4,10 @@ use Rattle.std.specs.Prelude.{◌≡◌, ℕ, Bool, false, List, take, Option, R
 use Rattle.std.specs.Io.KnownBytes.{Appends, Keeps}
 use Rattle.dpl_history.specs.declared.history.Event.{Event}
 use Rattle.dpl_language.specs.Environment.{Limits}
-use Rattle.dpl_language.specs.Tree.{ProgramTree}
-use Rattle.dpl_language.specs.Names.{Text}
 use Rattle.dpl_run.specs.declared.outcome.Outcome.{Outcome}
 use Rattle.dpl_run.specs.declared.refused.Refused.{Refused}
-use Rattle.dpl_run.specs.declared.refused.Refused.TheVariants.{Memory, Writer, Unplanned}
-use Rattle.dpl_run.specs.Headline.{ComesTo, ComesToOnly, IsProgram}
+use Rattle.dpl_run.specs.declared.refused.Refused.TheVariants.{Memory, Writer}
+use Rattle.dpl_run.specs.Headline.{ComesTo, ComesToOnly}
 use Rattle.dpl_run.specs.Writers.{Partly}
 use Rattle.dpl.specs.declared.ended.Ended.{Ended}
 use Rattle.dpl.specs.declared.ended.Ended.TheVariants.{Ran, Failed, Unread}
@@ -23,14 +21,12 @@ alone budget = record { budget = budget; locales = 1 }
 abbrev pub IsTextOf : Option (List ℕ) → List ℕ → Type 0
 IsTextOf input text = IfSome input (λ bytes. text ≡ take 1048577 bytes)
 
--- What the text comes to by these sets and this budget is what became of it, and was written. Without memory, and of a
--- program that isn't laid out, nothing was written, and of what a writer failed to take the first bytes. A text that is
--- there was read.
+-- What the text comes to by these sets and this budget is what became of it, and was written. Without memory nothing was
+-- written, and of what a writer failed to take the first bytes. A text that is there was read.
 abbrev pub IsRunOf : List ℕ → List (List ℕ) → ℕ → Option (List ℕ) → Option (List ℕ) → Ended → Type 0
 IsRunOf text sets budget old new (Ran o) =
     (said : List ℕ) × Appends old new said × ((histories : List (List Event)) → ComesToOnly text sets (alone budget) histories o said)
 IsRunOf text sets budget old new (Failed Memory) = Keeps old new
-IsRunOf text sets budget old new (Failed Unplanned) = Keeps old new × ((t : ProgramTree Text) × IsProgram text sets t)
 IsRunOf text sets budget old new (Failed Writer) =
     (o : Outcome) × (said : List ℕ) × ((histories : List (List Event)) → ComesTo text sets (alone budget) histories o said) × Partly old new said
 IsRunOf text sets budget old new Unread = ⊥
@@ -39,7 +35,6 @@ IsRunOf text sets budget old new Unread = ⊥
 abbrev pub HasRun : Option (List ℕ) → List (List ℕ) → ℕ → Option (List ℕ) → Option (List ℕ) → Ended → Type 0
 HasRun input sets budget old new (Ran o) = (text : List ℕ) × IsTextOf input text × IsRunOf text sets budget old new (Ran o)
 HasRun input sets budget old new (Failed Memory) = Keeps old new
-HasRun input sets budget old new (Failed Unplanned) = (text : List ℕ) × IsTextOf input text × IsRunOf text sets budget old new (Failed Unplanned)
 HasRun input sets budget old new (Failed Writer) = (text : List ℕ) × IsTextOf input text × IsRunOf text sets budget old new (Failed Writer)
 HasRun input sets budget old new Unread = Keeps old new
 

@@ -39,7 +39,6 @@ fn refused_status(refused: Refused) -> u8
 {
     match refused {
         Refused::Memory => 3,
-        Refused::Unplanned => 3,
         Refused::Writer => 4,
     }
 }
@@ -66,7 +65,6 @@ pub(crate) fn refused_line(refused: Refused) -> &'static str
 {
     match refused {
         Refused::Memory => "dpl: M1\n",
-        Refused::Unplanned => "dpl: U1\n",
         Refused::Writer => "dpl: W1\n",
     }
 }

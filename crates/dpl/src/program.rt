@@ -90,7 +90,6 @@ pub(crate) fn tell<E: Out>(
     ensures unfailed { OnOk result (E.has_failed errors.new ≡ false) }
     ensures partly { OnErr result (Partly (E.contents errors.old) (E.contents errors.new) (told_of dumps ended.now)) }
     ensures writer { result ≡ Err Refused.Writer → E.has_failed errors.new ≡ true }
-    ensures planned { (result ≡ Err Refused.Unplanned) → ⊥ }
 {
     match ended {
         Ended::Ran(Outcome::Done(left)) => {

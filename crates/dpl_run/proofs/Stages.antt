@@ -1,7 +1,7 @@
 -- The stages of a run, put together: what lexer, parser, check and run give is what the text comes to.
 -- A stage that stops by a refusal tells the text's.
 use Rattle.std.proofs.Common.{◌≡◌, inl, inr, ℕ, List, refl, sym, ap, subst, Option, Result, Ok, Err}
-use Rattle.std.specs.Prelude.{IfOk, IfErr, OnOk}
+use Rattle.std.specs.Prelude.{IfOk, OnOk}
 use Rattle.std.specs.Io.KnownBytes.{Appends}
 use Rattle.dpl_syntax.specs.declared.token.Token.{Token}
 use Rattle.dpl_syntax.specs.declared.refusal.Refusal.{Refusal}
@@ -19,32 +19,23 @@ use Rattle.dpl_says.specs.Says.{run_of}
 use Rattle.dpl_run.specs.declared.outcome.Outcome.{Outcome}
 use Rattle.dpl_run.specs.declared.outcome.Outcome.TheVariants.{Done, Stopped, Rejected}
 use Rattle.dpl_run.specs.declared.refused.Refused.{Refused as RefusedRun}
-use Rattle.dpl_run.specs.declared.run.Ended.{Ended}
-use Rattle.dpl_run.specs.declared.short.Short.{Short}
-use Rattle.dpl_run.specs.declared.short.Short.TheVariants.{Refused, Memory, Unplanned}
 use Rattle.dpl_run.specs.Headline.{EndsAs, Means, IsProgram, IsRefused, ComesTo, ComesToOnly}
-use Rattle.dpl_run.specs.Refusing.{IsCause, IsRejection, IsShortOf}
+use Rattle.dpl_run.specs.Refusing.{IsCause, IsRejection}
 use Rattle.dpl_run.proofs.OneOutcome.{one_outcome}
 
 module _ (text : List ℕ) (sets : List (List ℕ)) where
   -- ---- a stage that stops
-  pub lex-stops : (stop : Stop) (short : Short) → Tells text stop → IsShortOf stop short → IsCause text sets short
-  lex-stops (stage.Refused r) short told is = subst (IsCause text sets) (sym is) (inl told)
-  lex-stops stage.Memory short told is = subst (IsCause text sets) (sym is) tt
+  pub lex-stops : (stop : Stop) → Tells text stop → IsCause text sets stop
+  lex-stops (stage.Refused r) told = inl told
+  lex-stops stage.Memory told = tt
 
-  pub parse-stops : (ks : List Token) (stop : Stop) (short : Short) → Lexes text ks → ((r : Refusal) → stop ≡ stage.Refused r → Refuses ks r) → IsShortOf stop short → IsCause text sets short
-  parse-stops ks (stage.Refused r) short lexes told is = subst (IsCause text sets) (sym is) (inr (ks, lexes, inl (told r refl)))
-  parse-stops ks stage.Memory short lexes told is = subst (IsCause text sets) (sym is) tt
+  pub parse-stops : (ks : List Token) (stop : Stop) → Lexes text ks → ((r : Refusal) → stop ≡ stage.Refused r → Refuses ks r) → IsCause text sets stop
+  parse-stops ks (stage.Refused r) lexes told = inr (ks, lexes, inl (told r refl))
+  parse-stops ks stage.Memory lexes told = tt
 
   -- a refused text comes to its refusal
   pub refused-comes : (limits : Limits) (histories : List (List Event)) (r : Refusal) (o : Outcome) (said : List ℕ) → IsRefused text sets r → IsRejection r o said → ComesTo text sets limits histories o said
   refused-comes limits histories r o said refused line = subst (λ o. ComesTo text sets limits histories o said) (sym line.0) (refused, line.1)
-
-  -- a run that isn't of a refused text
-  pub unrefused-cause : (t : ProgramTree Text) (short : Short) → IsProgram text sets t → ((r : Refusal) → short ≡ Refused r → ⊥) → IsCause text sets short
-  unrefused-cause t (Refused r) is none = absurd (none r refl)
-  unrefused-cause t Memory is none = tt
-  unrefused-cause t Unplanned is none = (t, is)
 
   -- ---- a program
   no_rejection : (m : Meant State) (r : Refusal) → EndsAs m (Rejected r) → ⊥
@@ -70,14 +61,3 @@ module _ (text : List ℕ) (sets : List (List ℕ)) where
         record { comes = is; only = one_outcome text sets limits histories p said is },
   )
   delivered limits (Err e) o said old new comes told wrote = tt
-
-  -- a program's run, if there is one, is what the text comes to
-  pub run-comes : (limits : Limits) (r : Result Ended Short) (t : ProgramTree Text) → IsProgram text sets t → IfOk r (λ ended. (histories : List (List Event)) → Means t sets limits histories ended.outcome ended.text.items)
-      → IfOk r (λ ended. (histories : List (List Event)) → ComesTo text sets limits histories ended.outcome ended.text.items)
-  run-comes limits (Ok ended) t is means = λ histories. program-comes limits histories t ended.outcome ended.text.items is (means histories)
-  run-comes limits (Err e) t is means = tt
-
-  -- and that it ends early says nothing else of the text than that it is a program
-  pub run-stops : (r : Result Ended Short) (t : ProgramTree Text) → IsProgram text sets t → ((q : Refusal) → r ≡ Err (Refused q) → ⊥) → IfErr r (IsCause text sets)
-  run-stops (Ok ended) t is none = tt
-  run-stops (Err short) t is none = unrefused-cause t short is (λ q e. none q (ap Err e))

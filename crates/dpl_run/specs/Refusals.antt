@@ -1,10 +1,9 @@
 -- The codes by which a refused run is told.
 use Rattle.std.specs.Prelude.{ℕ, List, codes}
 use Rattle.dpl_run.specs.declared.refused.Refused.{Refused}
-use Rattle.dpl_run.specs.declared.refused.Refused.TheVariants.{Memory, Writer, Unplanned}
+use Rattle.dpl_run.specs.declared.refused.Refused.TheVariants.{Memory, Writer}
 
--- `M1`: out of memory; `W1`: the writer failed; `U1`: the program is none that the planner lays out
+-- `M1`: out of memory; `W1`: the writer failed
 abbrev pub refused_text : Refused → List ℕ
 refused_text Memory = codes "M1"
 refused_text Writer = codes "W1"
-refused_text Unplanned = codes "U1"

@@ -12,7 +12,6 @@ mod listing;
 mod outcome;
 mod refused;
 mod run;
-mod short;
 mod text;
 mod writer;
 

@@ -59,7 +59,6 @@ pub fn dump<W: Out>(alloc: Global, left: &Left, out: &mut W) -> Result<(), Refus
     ensures unfailed { OnOk result (W.has_failed out.new ≡ false) }
     ensures memory { result ≡ Err Refused.Memory → Keeps (W.contents out.old) (W.contents out.new) × (W.has_failed out.new ≡ false) }
     ensures writer { result ≡ Err Refused.Writer → (W.has_failed out.new ≡ true) × Partly (W.contents out.old) (W.contents out.new) (dumped left.now) }
-    ensures planned { (result ≡ Err Refused.Unplanned) → ⊥ }
 {
     let text = lines(alloc, left)?;
     write_all(out, &text)

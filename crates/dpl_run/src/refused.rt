@@ -16,9 +16,6 @@ pub enum Refused {
     Memory,
     /// `W1`: the writer failed. It had taken the first bytes of what the run writes, perhaps none.
     Writer,
-    /// `U1`: the text is a program, but none that the planner lays out. Nothing was written. No program is known that comes
-    /// to this; that there is none isn't proved.
-    Unplanned,
 }
 
 impl fmt::Display for Refused {
@@ -28,7 +25,6 @@ impl fmt::Display for Refused {
         match self {
             Refused::Memory => f.write_str("M1"),
             Refused::Writer => f.write_str("W1"),
-            Refused::Unplanned => f.write_str("U1"),
         }
     }
 }

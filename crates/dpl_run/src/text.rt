@@ -5,11 +5,11 @@ ghost use Rattle.std.specs.Prelude.{◌≡◌, ℕ, List, map, IfOk, IfErr, OnOk
 ghost use Rattle.std.specs.Io.KnownBytes.{Appends, Keeps};
 ghost use Rattle.dpl_history.specs.declared.history.Event.{Event};
 ghost use Rattle.dpl_syntax.specs.declared.refusal.Refusal.{Refusal};
-ghost use Rattle.dpl_language.specs.Tree.{ProgramTree};
-ghost use Rattle.dpl_language.specs.Names.{Text};
-ghost use Rattle.dpl_tree.specs.Statements.{program_view};
-ghost use Rattle.dpl_run.specs.Headline.{ComesTo, ComesToOnly, IsProgram, IsRead, Means, tree_refusal};
-ghost use Rattle.dpl_run.specs.Refusing.{IsRejection, IsCause, IsRefusalOf};
+ghost use Rattle.dpl_tree.specs.Statements.{stmts_of, program_view};
+ghost use Rattle.dpl_rules.specs.Breaches.{top};
+ghost use Rattle.dpl_scalar.specs.Scalar.{AreScalarTops};
+ghost use Rattle.dpl_run.specs.Headline.{ComesTo, ComesToOnly, IsRead, Means, tree_refusal};
+ghost use Rattle.dpl_run.specs.Refusing.{IsRejection, IsCause};
 ghost use Rattle.dpl_run.specs.Settings.{limits_of};
 ghost use Rattle.dpl_run.specs.declared.outcome.Outcome.{Outcome};
 ghost use Rattle.dpl_run.specs.Writers.{Partly};
@@ -21,15 +21,15 @@ use crate::lines::tell_refusal;
 use crate::outcome::Outcome;
 use crate::refused::Refused;
 use crate::run::{Ended, deliver, run};
-use crate::short::Short;
 use crate::writer::Out;
 use bumpalo::Bump;
 use dpl_checker::refusal;
 use dpl_closed::closed;
 use dpl_given::given;
+use dpl_nodes::Stop as PlanStop;
 use dpl_parser::parse;
 use dpl_planner::plan;
-use dpl_syntax::{Code, Refusal, lex};
+use dpl_syntax::{Code, Refusal, Stop, lex};
 use dpl_tree::{Arena, Program};
 use std::alloc::{AllocError, Global};
 
@@ -62,32 +62,37 @@ fn tree_refusal<'t>(
     }
 }
 
-// The run of a program that has no refusal.
+// The run of a program that has no refusal, which is scalar, so that the planner doesn't refuse it.
 fn run_program<'t>(
     arena: Arena<'t>,
     program: &Program<'t>,
     sets: &[&str],
     config: &Config,
-) -> Result<Ended, Short>
-    requires { tree_refusal (map (λ set. set.now) sets.now) (program_view program.now) ≡ None }
-    ensures means { IfOk result (λ ended. (histories : List (List Event)) → Means (program_view program.now) (map (λ set. set.now) sets.now) (limits_of config.now) histories ended.outcome ended.text.items) }
-    ensures unrefused { (r : Refusal) → (result ≡ Err (Short.Refused r)) → ⊥ }
+) -> Result<Ended, AllocError>
+    requires unrefused { tree_refusal (map (λ set. set.now) sets.now) (program_view program.now) ≡ None }
+    requires scalar { AreScalarTops top (stmts_of program.now.stmts.now) }
+    ensures { IfOk result (λ ended. (histories : List (List Event)) → Means (program_view program.now) (map (λ set. set.now) sets.now) (limits_of config.now) histories ended.outcome ended.text.items) }
 {
     let alloc = arena.alloc();
-    let planned = plan(arena, program)?;
-    let words = given(alloc, &planned.scopes, sets)?;
-    let mut frame = first_frame(alloc, planned.slots, &words, config)?;
-    Ok(run(
-        alloc,
-        planned.steps,
-        &mut frame,
-        &planned.scopes,
-        program.stmts,
-    )?)
+    match plan(arena, program) {
+        Ok(planned) => {
+            let words = given(alloc, &planned.scopes, sets)?;
+            let mut frame = first_frame(alloc, planned.slots, &words, config)?;
+            run(
+                alloc,
+                planned.steps,
+                &mut frame,
+                &planned.scopes,
+                program.stmts,
+            )
+        }
+        Err(PlanStop::Memory) => Err(AllocError),
+        Err(PlanStop::IllTyped) => unreachable!(),
+    }
 }
 
 // What a text comes to, or its refusal. The tokens are dropped at the end, since the tree points into the text alone.
-fn stages(alloc: Global, text: &[u8], sets: &[&str], config: &Config) -> Result<Ended, Short>
+fn stages(alloc: Global, text: &[u8], sets: &[&str], config: &Config) -> Result<Ended, Stop>
     ensures comes { IfOk result (λ ended. (histories : List (List Event)) → ComesTo text.now (map (λ set. set.now) sets.now) (limits_of config.now) histories ended.outcome ended.text.items) }
     ensures stops { IfErr result (IsCause text.now (map (λ set. set.now) sets.now)) }
 {
@@ -96,21 +101,19 @@ fn stages(alloc: Global, text: &[u8], sets: &[&str], config: &Config) -> Result<
     let arena = Arena::new(&nodes, alloc);
     let program = parse(arena, tokens.as_slice())?;
     match tree_refusal(arena, &program, sets)? {
-        Some(refusal) => Err(Short::Refused(refusal)),
-        None => run_program(arena, &program, sets, config),
+        Some(refusal) => Err(Stop::Refused(refusal)),
+        None => Ok(run_program(arena, &program, sets, config)?),
     }
 }
 
 // What a text comes to: the run of its program, or its refusal.
-fn outcome(alloc: Global, text: &[u8], sets: &[&str], config: &Config) -> Result<Ended, Refused>
+fn outcome(alloc: Global, text: &[u8], sets: &[&str], config: &Config) -> Result<Ended, AllocError>
     ensures comes { IfOk result (λ ended. (histories : List (List Event)) → ComesTo text.now (map (λ set. set.now) sets.now) (limits_of config.now) histories ended.outcome ended.text.items) }
-    ensures cause { IfErr result (IsRefusalOf text.now (map (λ set. set.now) sets.now)) }
 {
     match stages(alloc, text, sets, config) {
         Ok(ended) => Ok(ended),
-        Err(Short::Refused(refusal)) => Ok(reject(alloc, refusal)?),
-        Err(Short::Memory) => Err(Refused::Memory),
-        Err(Short::Unplanned) => Err(Refused::Unplanned),
+        Err(Stop::Refused(refusal)) => reject(alloc, refusal),
+        Err(Stop::Memory) => Err(AllocError),
     }
 }
 
@@ -122,8 +125,7 @@ fn outcome(alloc: Global, text: &[u8], sets: &[&str], config: &Config) -> Result
 /// run has ended, and goes to `out`, which must not have failed before.
 ///
 /// # Errors
-/// Out of memory, or a program that isn't laid out, and nothing was written; or the writer failed, and it holds the first
-/// bytes of what the text writes.
+/// Out of memory, and nothing was written; or the writer failed, and it holds the first bytes of what the text writes.
 pub fn run_text<R: Sync, G: Gate + Sync, W: Out>(
     rt: &R,
     alloc: Global,
@@ -143,10 +145,6 @@ pub fn run_text<R: Sync, G: Gate + Sync, W: Out>(
     // Without memory nothing was written.
     ensures memory { result ≡ Err Refused.Memory
         → Keeps (W.contents out.old) (W.contents out.new) × (W.has_failed out.new ≡ false) }
-    // What isn't laid out is a program, and nothing was written.
-    ensures unplanned { result ≡ Err Refused.Unplanned
-        → Keeps (W.contents out.old) (W.contents out.new) × (W.has_failed out.new ≡ false)
-        × ((t : ProgramTree Text) × IsProgram text.now (map (λ set. set.now) sets.now) t) }
     // A writer that failed holds the first bytes of what the text writes.
     ensures writer { result ≡ Err Refused.Writer → (W.has_failed out.new ≡ true)
         × ((outcome : Outcome) × (said : List ℕ) × ((histories : List (List Event)) → ComesTo text.now (map (λ set. set.now) sets.now) (limits_of config.now) histories outcome said)

@@ -31,13 +31,8 @@ fn settings(rt: HostRuntime) -> Result<(), Fail> {
 
 #[test]
 fn runs(rt: HostRuntime) -> Result<(), Fail> {
-    let told = format!(in rt.alloc();
-        "{}, {}, {}, {OutFault}",
-        Refused::Memory,
-        Refused::Writer,
-        Refused::Unplanned
-    )?;
-    assert_eq!(rt; told.as_str(), "M1, W1, U1, the writer failed");
+    let told = format!(in rt.alloc(); "{}, {}, {OutFault}", Refused::Memory, Refused::Writer)?;
+    assert_eq!(rt; told.as_str(), "M1, W1, the writer failed");
     Ok(())
 }
 

@@ -6,6 +6,7 @@ use Rattle.dpl_tree.specs.Statements.{program_view}
 use Rattle.dpl_words.specs.Words.{no_range, by_word}
 use Rattle.dpl_nodes.specs.Frames.{Framed}
 use Rattle.dpl_nodes.specs.Steps.{steps_of}
+use Rattle.dpl_elaborator.proofs.Names.{if_ok}
 use Rattle.dpl_run.specs.Plans.{IsPlan}
 use Rattle.dpl_run.specs.Runs.{RanTo}
 use Rattle.dpl_run.specs.Settings.{limits_of}
@@ -13,16 +14,17 @@ use Rattle.dpl_run.proofs.Meaning.{means-ran}
 use Rattle.dpl_run.proofs.Planned.{planned, sets-fit}
 use Rattle.dpl_run.proofs.text.run_program.Goals as goal
 
-pub returns-clause-means : goal.returns-clause-means
-returns-clause-means c =
+pub returns-in_ok-frame-in-Ok : goal.returns-in_ok-frame-in-Ok
+returns-in_ok-frame-in-Ok c =
     let t = program_view c.args.program.now in
     let sets = map (λ set. set.now) c.args.sets.now in
-    let p = c.in_ok-planned.planned in
+    let p = c.in-Ok.planned in
     let steps = p.steps.now in
-    let e = c.in_ok-planned.ensures in
+    let e = c.in-Ok.ensures in
     let plan : IsPlan t p.slots p.scopes steps = planned t p.slots p.scopes steps e.text e.steps e.fits e.left e.scopes e.plain in
-    let given = c.deref.ensures.value ∙ c.in_ok-words.ensures in
-    let frame = c.in_ok-frame.ensures ∙ ap (λ ws. record { words = record { numbers = replicate p.slots (pos 0); ranges = replicate p.slots no_range; intents = []; sets = ws }; limits = limits_of c.args.config.now }) given in
-    λ histories.
-    means-ran t sets p.slots p.scopes steps plan (sets-fit t sets c.requires) (limits_of c.args.config.now) histories c.in_ok-run.field-0.outcome c.in_ok-run.field-0.text.items
-    (subst (λ (f : Framed). RanTo p.scopes t.stmts (exec_all f.limits by_word (steps_of steps) f.words no_deeds) c.in_ok-run.field-0.outcome c.in_ok-run.field-0.text.items) frame c.in_ok-run.ensures)
+    let given = c.deref.ensures.value ∙ c.in_ok-words-in-Ok.ensures in
+    let frame = c.in_ok-frame-in-Ok.ensures ∙ ap (λ ws. record { words = record { numbers = replicate p.slots (pos 0); ranges = replicate p.slots no_range; intents = []; sets = ws }; limits = limits_of c.args.config.now }) given in
+    if_ok c.run.result
+    (λ ended ran histories. means-ran t sets p.slots p.scopes steps plan (sets-fit t sets c.requires.unrefused) (limits_of c.args.config.now) histories ended.outcome ended.text.items
+    (subst (λ (f : Framed). RanTo p.scopes t.stmts (exec_all f.limits by_word (steps_of steps) f.words no_deeds) ended.outcome ended.text.items) frame ran))
+    c.run.ensures
