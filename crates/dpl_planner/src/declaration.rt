@@ -88,7 +88,8 @@ fn initial<'t>(
 ) -> Result<Typed<'t>, Stop>
     ensures initial { IfOk result (λ t. IsInitial scopes.now (optional written_type_view typed.now) (optional initial_view written.now) t) }
     ensures kind { IfOk result (λ t. (k : LeafKind) → IsInitialOf scopes.now (type_of (optional written_type_view typed.now)) (optional initial_view written.now) k → kind_of t ≡ k) }
-    ensures ill_typed { (result ≡ Err stop.IllTyped) → (k : LeafKind) → IsScalarType (type_of (optional written_type_view typed.now)) → IsInitialOf scopes.now (type_of (optional written_type_view typed.now)) (optional initial_view written.now) k → ⊥ }
+    ensures ill_typed { (result ≡ Err stop.IllTyped) → (k : LeafKind) → IsScalarType (type_of (optional written_type_view typed.now))
+        → IsInitialOf scopes.now (type_of (optional written_type_view typed.now)) (optional initial_view written.now) k → ⊥ }
 {
     let kind = plain_type(typed)?;
     match written {
