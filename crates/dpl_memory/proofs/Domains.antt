@@ -11,7 +11,7 @@ use Rattle.dpl_language.specs.Environment.{Content, Plain, ArrayOf, CellOf}
 use Rattle.dpl_language.specs.Names.{Text, redomained}
 use Rattle.dpl_language.proofs.Slots.{Sight as SlotSight, Bound as SlotBound, IsFreshIn, IsFresh, IsApartFrame, IsApart, Slots, SameIn, frame_at, frame_at-same, store_at, same_slot, other_slot, slot_of-apart, IsFreshIn-append}
 use Rattle.dpl_language.proofs.SlotDomains.{is_over_slot, is_array_over_slot, redomained_content, redomain_slots, any_over_in, any_over, OverNamed, OverResolves, OversFrame, Overs}
-use Rattle.dpl_memory.specs.Memory.{VariableKind, PlainKind, DomainKind, TupleKind, ArrayKind, Variable, Held, Memory, no_array, is_among, held_over_if, redomained_from, redomained_in, is_some_array, element_as, array_at}
+use Rattle.dpl_memory.specs.Memory.{VariableKind, PlainKind, DomainKind, TupleKind, ArrayKind, Variable, Held, Memory, no_domain, no_array, is_among, held_over_if, redomained_from, redomained_in, is_some_array, element_as, array_at}
 use Rattle.dpl_memory.specs.Resolved.{Bound, Sighted, Sight, is_over, arrays_in, arrays_over, HasSlots, array_content, content_in}
 use Rattle.dpl_memory.proofs.Elements.{redomained-words}
 use Rattle.dpl_memory.proofs.InSight.{placed_over, placed_frame, in_slots, Told, told_of, IsToldIn, IsTold, contents}
@@ -202,12 +202,12 @@ module _ (x : Variable) (rs : List TextRange) (slots : ℕ) (s : Memory) (h : Ha
 
   -- in the domain's own slot, and in another one
   content-here : (over : Option SlotBound) → x.slot < slots → content_in DomainKind x.slot over by_domain ≡ Plain (Domain rs)
-  content-here over within = ap (λ rs. Plain (Domain rs)) (get_or-set_same s.domains x.slot rs [] (subst (λ n. x.slot < n) (sym h.domains) within))
+  content-here over within = ap (λ rs. Plain (Domain rs)) (get_or-set_same s.domains x.slot rs no_domain (subst (λ n. x.slot < n) (sym h.domains) within))
 
   content-other : (k : VariableKind) (j : ℕ) (over : Option SlotBound) → j ≢ x.slot → j < slots → is_among j x.arrays ≡ is_over_slot x.slot over
       → redomained_content x.slot rs (content_in k j over s) ≡ content_in k j over by_domain
   content-other (PlainKind k) j over ne within e = refl
-  content-other DomainKind j over ne within e = ap (λ rs. Plain (Domain rs)) (sym (get_or-set_other s.domains x.slot j rs [] ne))
+  content-other DomainKind j over ne within e = ap (λ rs. Plain (Domain rs)) (sym (get_or-set_other s.domains x.slot j rs no_domain ne))
   content-other TupleKind j over ne within e = refl
   content-other (ArrayKind k) j over ne within e =
       let from_zero : j ≡ 0 + j = omega arith in

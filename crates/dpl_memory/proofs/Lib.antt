@@ -6,5 +6,8 @@ pub mod OfKind
 pub mod InSight
 pub mod Domains
 pub mod MemoryAgrees
--- Samples.
+-- How a program is seen to fit, and samples.
+pub mod Suiting
+pub mod Fitting
+pub mod ScalarsWorked
 pub mod Worked

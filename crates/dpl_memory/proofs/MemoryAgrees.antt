@@ -27,7 +27,7 @@ use Rattle.dpl_language.proofs.ProgramsAlike.{run_from}
 use Rattle.dpl_language.proofs.Agreement.{exec_all-alike}
 use Rattle.dpl_words.specs.Words.{IntLeaf, no_range, intent_at, set_at, given_as}
 use Rattle.dpl_words.proofs.OfKind.{given-kind}
-use Rattle.dpl_memory.specs.Memory.{VariableKind, PlainKind, DomainKind, TupleKind, ArrayKind, Held, Memory, no_array, value_in, with_value_in, array_at, held_with, element_in as element_in_memory, with_element_in, declared_array, intents_by_slot, redomained_in, is_some_array, intended, given_in, in_memory}
+use Rattle.dpl_memory.specs.Memory.{VariableKind, PlainKind, DomainKind, TupleKind, ArrayKind, Held, Memory, no_domain, no_tuple, no_array, value_in, with_value_in, array_at, held_with, element_in as element_in_memory, with_element_in, declared_array, intents_by_slot, redomained_in, is_some_array, intended, given_in, in_memory}
 use Rattle.dpl_memory.specs.Resolved.{Bound, Sighted, Sight, text_of, variable_of, over_of, sighted, arrays_over, outermost, left_in, frame_in, store_in, content_in, IsUnused, bind, without_frame, Seen, first_seen, IsArrayOf, IsOf, IsWhole, SuitsTurns, ArraysResolve, IsNew, OverResolves as OverIsFound, HoldsKind, kind_takes, KindCombines, IntentResolves, Resolves, Declares, IsGivenAs, Start, resolving, first_memory, HasSlots, StandsFor}
 use Rattle.dpl_memory.proofs.Elements.{element_at-words, with_element-words, elements-kept, assigned-element}
 use Rattle.dpl_memory.proofs.OfKind.{content_in-set_same, content_in-set_other, content_in-array_same, content_in-array_other, slots-set, slots-array, intents-set_in, sets-set_in, value_in-array, value_in-domain, assigned-of}
@@ -531,8 +531,8 @@ module _ (start : Start) where
     slots = record {
       numbers = length-replicate start.slots (pos 0);
       ranges = length-replicate start.slots no_range;
-      domains = length-replicate start.slots [];
-      tuples = length-replicate start.slots [];
+      domains = length-replicate start.slots no_domain;
+      tuples = length-replicate start.slots no_tuple;
       arrays = length-replicate start.slots no_array;
     };
     intents = refl;

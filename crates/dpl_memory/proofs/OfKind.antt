@@ -9,7 +9,7 @@ use Rattle.dpl_language.specs.Values.{Value, Domain, Tuple, ranges_in, coordinat
 use Rattle.dpl_language.specs.Arithmetic.{assigned}
 use Rattle.dpl_language.specs.Environment.{Plain}
 use Rattle.dpl_words.proofs.OfKind.{value_at-no_domain, value_at-no_array, value_at-set_same, value_at-set_other, value_at-intend, numbers-set, ranges-set, intents-set, sets-set, assigned-kind}
-use Rattle.dpl_memory.specs.Memory.{VariableKind, PlainKind, DomainKind, TupleKind, ArrayKind, Held, Memory, no_array, value_in, with_value_in, with_array, intended}
+use Rattle.dpl_memory.specs.Memory.{VariableKind, PlainKind, DomainKind, TupleKind, ArrayKind, Held, Memory, no_domain, no_tuple, no_array, value_in, with_value_in, with_array, intended}
 use Rattle.dpl_memory.specs.Resolved.{IsOf, IsWhole, kind_takes, KindCombines, HasSlots, array_content, content_in}
 
 -- A VALUE THAT IS PUT
@@ -18,11 +18,11 @@ pub content_in-set_same : {N : Type 0} (k : VariableKind) (slot : ℕ) (over : O
 content_in-set_same (PlainKind k) slot over v slots s p n h within =
     ap (λ w. Plain w) (value_at-set_same k slot v s.words p (subst (λ n. slot < n) (sym h.numbers) within) (subst (λ n. slot < n) (sym h.ranges) within))
 content_in-set_same DomainKind slot over v slots s p n h within =
-    ap (λ v. Plain (Domain (get_or (set s.domains slot (ranges_in v)) slot []))) p.1
-    ∙ ap (λ rs. Plain (Domain rs)) (get_or-set_same s.domains slot p.0 [] (subst (λ n. slot < n) (sym h.domains) within)) ∙ ap (λ w. Plain w) (sym p.1)
+    ap (λ v. Plain (Domain (get_or (set s.domains slot (ranges_in v)) slot no_domain))) p.1
+    ∙ ap (λ rs. Plain (Domain rs)) (get_or-set_same s.domains slot p.0 no_domain (subst (λ n. slot < n) (sym h.domains) within)) ∙ ap (λ w. Plain w) (sym p.1)
 content_in-set_same TupleKind slot over v slots s p n h within =
-    ap (λ v. Plain (Tuple (get_or (set s.tuples slot (coordinates v)) slot []))) p.1
-    ∙ ap (λ t. Plain (Tuple t)) (get_or-set_same s.tuples slot p.0 [] (subst (λ n. slot < n) (sym h.tuples) within)) ∙ ap (λ w. Plain w) (sym p.1)
+    ap (λ v. Plain (Tuple (get_or (set s.tuples slot (coordinates v)) slot no_tuple))) p.1
+    ∙ ap (λ t. Plain (Tuple t)) (get_or-set_same s.tuples slot p.0 no_tuple (subst (λ n. slot < n) (sym h.tuples) within)) ∙ ap (λ w. Plain w) (sym p.1)
 content_in-set_same (ArrayKind k) slot over v slots s p n h within = absurd (n tt)
 
 pub content_in-set_other : {N : Type 0} (j k : VariableKind) (i slot : ℕ) (over : Option N) (v : Value) (s : Memory) → i ≢ slot → content_in j i over (with_value_in k slot v s) ≡ content_in j i over s
@@ -31,12 +31,12 @@ content_in-set_other (PlainKind j) DomainKind i slot over v s ne = refl
 content_in-set_other (PlainKind j) TupleKind i slot over v s ne = refl
 content_in-set_other (PlainKind j) (ArrayKind k) i slot over v s ne = refl
 content_in-set_other DomainKind (PlainKind k) i slot over v s ne = refl
-content_in-set_other DomainKind DomainKind i slot over v s ne = ap (λ rs. Plain (Domain rs)) (get_or-set_other s.domains slot i (ranges_in v) [] ne)
+content_in-set_other DomainKind DomainKind i slot over v s ne = ap (λ rs. Plain (Domain rs)) (get_or-set_other s.domains slot i (ranges_in v) no_domain ne)
 content_in-set_other DomainKind TupleKind i slot over v s ne = refl
 content_in-set_other DomainKind (ArrayKind k) i slot over v s ne = refl
 content_in-set_other TupleKind (PlainKind k) i slot over v s ne = refl
 content_in-set_other TupleKind DomainKind i slot over v s ne = refl
-content_in-set_other TupleKind TupleKind i slot over v s ne = ap (λ t. Plain (Tuple t)) (get_or-set_other s.tuples slot i (coordinates v) [] ne)
+content_in-set_other TupleKind TupleKind i slot over v s ne = ap (λ t. Plain (Tuple t)) (get_or-set_other s.tuples slot i (coordinates v) no_tuple ne)
 content_in-set_other TupleKind (ArrayKind k) i slot over v s ne = refl
 content_in-set_other (ArrayKind j) (PlainKind k) i slot over v s ne = refl
 content_in-set_other (ArrayKind j) DomainKind i slot over v s ne = refl

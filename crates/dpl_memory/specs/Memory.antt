@@ -6,10 +6,10 @@ use Rattle.dpl_range.specs.Equality.{TextRange}
 use Rattle.dpl_language.specs.Tree.{Op, Kind, IntKind, BoolKind}
 use Rattle.dpl_language.specs.Values.{Value, Int, Domain, Array, Tuple, Index, ranges_in, coordinates, kept_number}
 use Rattle.dpl_language.specs.Arithmetic.{assigned}
-use Rattle.dpl_language.specs.Ranges.{indices_in, same_index}
+use Rattle.dpl_language.specs.Ranges.{indices_in, same_index, empty_domain}
 use Rattle.dpl_language.specs.Environment.{Content, Plain, ArrayOf, CellOf, Unanswered, Environment}
 use Rattle.dpl_lowered.specs.Known.{Known, WholeArray, NoArray, PlainValue}
-use Rattle.dpl_words.specs.Words.{LeafKind, Words, is_true, intent_at, set_at, given_as, value_at, with_value_at}
+use Rattle.dpl_words.specs.Words.{LeafKind, IntLeaf, TruthLeaf, RangeLeaf, Words, is_true, intent_at, set_at, given_as, value_at, with_value_at}
 
 -- THE KINDS OF VARIABLES: those of plain variables, and domains, tuple names of loops, and arrays of ints and truth values
 pub data VariableKind : Type 0 where
@@ -28,6 +28,16 @@ pub record Variable : Type 0 where
 -- a name that is read, or assigned and no domain
 abbrev pub variable : VariableKind → ℕ → Variable
 variable kind slot = record { kind = kind; slot = slot; arrays = [] }
+
+-- a plain variable, as a leaf of a tree
+abbrev pub int_leaf : ℕ → Variable
+int_leaf slot = variable (PlainKind IntLeaf) slot
+
+abbrev pub truth_leaf : ℕ → Variable
+truth_leaf slot = variable (PlainKind TruthLeaf) slot
+
+abbrev pub range_leaf : ℕ → Variable
+range_leaf slot = variable (PlainKind RangeLeaf) slot
 
 -- what a lowering knows of it
 abbrev pub known_kind : VariableKind → Known
@@ -57,9 +67,15 @@ pub record Memory : Type 0 where
   pub tuples : List Index
   pub arrays : List Held
 
--- what stands in a slot past the last one
+-- what stands in a slot past the last one, and at the start: the domain `{1..0}`, the index 0, and an array over that domain
+abbrev pub no_domain : List TextRange
+no_domain = empty_domain 1
+
+abbrev pub no_tuple : Index
+no_tuple = pos 0 ∷ []
+
 abbrev pub no_array : Held
-no_array = record { ranges = []; words = [] }
+no_array = record { ranges = no_domain; words = [] }
 
 abbrev pub array_at : ℕ → Memory → Held
 array_at slot s = get_or s.arrays slot no_array
@@ -67,8 +83,8 @@ array_at slot s = get_or s.arrays slot no_array
 -- the value of a variable; of an array its kind and its domain alone
 abbrev pub value_in : VariableKind → ℕ → Memory → Value
 value_in (PlainKind k) slot s = value_at k slot s.words
-value_in DomainKind slot s = Domain (get_or s.domains slot [])
-value_in TupleKind slot s = Tuple (get_or s.tuples slot [])
+value_in DomainKind slot s = Domain (get_or s.domains slot no_domain)
+value_in TupleKind slot s = Tuple (get_or s.tuples slot no_tuple)
 value_in (ArrayKind k) slot s = Array k (array_at slot s).ranges
 
 -- a value put into a slot, past the last of which nothing changes; a whole array is no value that is put

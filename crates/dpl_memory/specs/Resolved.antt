@@ -12,9 +12,8 @@ use Rattle.dpl_language.specs.Expressions.{item_of}
 use Rattle.dpl_language.specs.Names.{Text, Entry, Frame, Store, State, paired}
 use Rattle.dpl_language.specs.Renamed.{renamed_item, renamed_intents}
 use Rattle.dpl_language.specs.Scopes.{Sort, PlainSort, ArraySort, CellSort, Scoping}
-use Rattle.dpl_words.specs.Words.{no_range, intent_at, set_at, given_as}
-use Rattle.dpl_words.specs.Resolved.{IsOfKind, is_arithmetic, takes, Combines}
-use Rattle.dpl_memory.specs.Memory.{VariableKind, PlainKind, DomainKind, TupleKind, ArrayKind, Variable, Held, Memory, no_array, element_as, value_in, array_at, intents_by_slot, in_memory}
+use Rattle.dpl_words.specs.Words.{no_range, intent_at, set_at, given_as, IsOfKind, is_arithmetic, takes, Combines}
+use Rattle.dpl_memory.specs.Memory.{VariableKind, PlainKind, DomainKind, TupleKind, ArrayKind, Variable, Held, Memory, no_domain, no_tuple, no_array, element_as, value_in, array_at, intents_by_slot, in_memory}
 
 -- a name that is resolved: its text, and the variable that it stands for
 pub record Bound : Type 0 where
@@ -304,8 +303,8 @@ first_memory start = record {
     intents = [];
     sets = start.words;
   };
-  domains = replicate start.slots [];
-  tuples = replicate start.slots [];
+  domains = replicate start.slots no_domain;
+  tuples = replicate start.slots no_tuple;
   arrays = replicate start.slots no_array;
 }
 

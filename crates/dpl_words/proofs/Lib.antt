@@ -1,9 +1,2 @@
-pub mod Known
--- By names and by words alike (read WordsAgree last).
+-- Values of a kind, as words keep them.
 pub mod OfKind
-pub mod InSight
-pub mod WordsAgree
--- How a program is seen to fit, and a sample.
-pub mod Suiting
-pub mod WordsSample
-pub mod Fitting

@@ -7,8 +7,7 @@ use Rattle.dpl_range.specs.Equality.{TextRange}
 use Rattle.dpl_language.specs.Tree.{Op, Sum, Product, AllOf, AnyOf, BitAnd, BitOr, BitXor, Least, Greatest, Assign, Set, SetAdd, SetSubtract, SetMultiply, SetDivide, SetRemainder, SetReduce}
 use Rattle.dpl_language.specs.Values.{Value, Int, Truth, Range, number, kept_number, ranges_in, array_domain, is_domain}
 use Rattle.dpl_language.specs.Arithmetic.{combined, assigned}
-use Rattle.dpl_words.specs.Words.{LeafKind, IntLeaf, TruthLeaf, RangeLeaf, Words, no_range, first_range, is_true, value_at, with_value_at, given_as}
-use Rattle.dpl_words.specs.Resolved.{IsOfKind, takes, combines, Combines}
+use Rattle.dpl_words.specs.Words.{LeafKind, IntLeaf, TruthLeaf, RangeLeaf, Words, no_range, first_range, is_true, value_at, with_value_at, given_as, IsOfKind, takes, combines, Combines}
 
 -- READS AND WRITES
 pub value_at-kind : (k : LeafKind) (slot : ℕ) (s : Words) → IsOfKind k (value_at k slot s)

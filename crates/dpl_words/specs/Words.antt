@@ -1,41 +1,20 @@
--- Variables kept in words: lists of numbers and of ranges, in which each declaration has a slot of its own.
--- It is what a checked program of plain variables does; it has no arrays, cells or other locales, and answers as if there were none.
-use Rattle.std.specs.Prelude.{ℕ, ◌==◌, ℤ, pos, false, not, if◌then◌else◌, Option, Some, None, List, [], ◌∷◌, get_or, set, map, option_map}
+-- Plain variables kept in words: lists of numbers and of ranges, in which each declaration has a slot of its own.
+-- A word is a value of every kind, so that no list of words is ill typed.
+use Rattle.std.specs.Prelude.{◌≡◌, ℕ, ◌==◌, ℤ, pos, Bool, true, false, not, if◌then◌else◌, Option, Some, None, List, [], ◌∷◌, get_or, set}
 use Rattle.std.specs.Ordering.{int_eq}
 use Rattle.dpl_range.specs.Equality.{TextRange}
-use Rattle.dpl_language.specs.Tree.{Op}
+use Rattle.dpl_language.specs.Tree.{Op, Sum, Product, AllOf, AnyOf, BitAnd, BitOr, BitXor, Least, Greatest, Assign, Set, SetAdd, SetSubtract, SetMultiply, SetDivide, SetRemainder, SetReduce}
 use Rattle.dpl_language.specs.Values.{Value, Int, Truth, Range, number, kept_number, ranges_in}
-use Rattle.dpl_language.specs.Arithmetic.{assigned}
 use Rattle.dpl_language.specs.Ranges.{unstrided}
-use Rattle.dpl_language.specs.Environment.{Content, Plain, ArrayOf, CellOf, Unanswered, Environment}
-use Rattle.dpl_lowered.specs.Known.{Known, PlainValue}
 
--- the kinds of plain variables
+-- the kinds of plain variables; ints and truth values share their slots
 pub data LeafKind : Type 0 where
   IntLeaf : LeafKind
   TruthLeaf : LeafKind
   RangeLeaf : LeafKind
 
--- what stands for a name in a checked tree: its kind, and the slot of its declaration; ints and truth values share their slots
-pub record Leaf : Type 0 where
-  pub kind : LeafKind
-  pub slot : ℕ
-
-abbrev pub int_leaf : ℕ → Leaf
-int_leaf slot = record { kind = IntLeaf; slot = slot }
-
-abbrev pub truth_leaf : ℕ → Leaf
-truth_leaf slot = record { kind = TruthLeaf; slot = slot }
-
-abbrev pub range_leaf : ℕ → Leaf
-range_leaf slot = record { kind = RangeLeaf; slot = slot }
-
--- none of them is an array or a domain
-abbrev pub known_leaf : Leaf → Known
-known_leaf x = PlainValue
-
--- A frame: the words of ints and truth values, the ranges, the reduce variables of the forall around with their operators,
--- and what the command line sets.
+-- The words of ints and truth values, the ranges, the reduce variables of the forall around with their operators, and what
+-- the command line sets.
 pub record Words : Type 0 where
   pub numbers : List ℤ
   pub ranges : List TextRange
@@ -70,10 +49,7 @@ abbrev pub intent_at : ℕ → List (ℕ × Op) → Option Op
 intent_at slot [] = None
 intent_at slot (p ∷ ps) = if slot == p.0 then Some p.1 else intent_at slot ps
 
--- reduce variables by their slots
-abbrev pub by_slots : List (Leaf × Op) → List (ℕ × Op)
-by_slots is = map {A = Leaf × Op} {B = ℕ × Op} (λ p. (p.0.slot, p.1)) is
-
+-- what the command line sets
 abbrev pub set_at : ℕ → List (ℕ × ℤ) → Option ℤ
 set_at slot [] = None
 set_at slot (p ∷ ps) = if slot == p.0 then Some p.1 else set_at slot ps
@@ -84,29 +60,47 @@ given_as IntLeaf w = Int w
 given_as TruthLeaf w = is_true w
 given_as RangeLeaf w = Range no_range
 
-abbrev pub declared : Leaf → Content Leaf → Words → Words
-declared x (Plain v) s = with_value_at x.kind x.slot v s
-declared x (ArrayOf over k rs vs) s = s
-declared x (CellOf k c) s = s
+-- KINDS
+abbrev pub IsOfKind : LeafKind → Value → Type 0
+IsOfKind IntLeaf v = (n : ℤ) × (v ≡ Int n)
+IsOfKind TruthLeaf v = (b : Bool) × (v ≡ Truth b)
+IsOfKind RangeLeaf v = (r : TextRange) × (v ≡ Range r)
 
-abbrev pub by_word : Environment Leaf Words
-by_word = record {
-  get = λ x s. value_at x.kind x.slot s;
-  update = λ x op v s. with_value_at x.kind x.slot (assigned op (intent_at x.slot s.intents) (value_at x.kind x.slot s) v) s;
-  element = λ x t s. None;
-  put_element = λ x t v s. s;
-  declare = declared;
-  given = λ x s. option_map (given_as x.kind) (set_at x.slot s.sets);
-  enter = λ s. s;
-  leave = λ s. s;
-  intend = λ is s. record s { intents = by_slots is };
-  has_arrays = λ x s. false;
-  redomain = λ x rs s. s;
-  here = λ s. pos 0;
-  move = λ k s. s;
-  call = λ x op s. Unanswered 0;
-  cells = λ s. [];
-  history = λ s. [];
-  begin = λ rs s. s;
-  settle = λ h s. s;
-}
+-- `+= -= *= /= %=`
+abbrev pub is_arithmetic : Assign → Bool
+is_arithmetic Set = false
+is_arithmetic SetAdd = true
+is_arithmetic SetSubtract = true
+is_arithmetic SetMultiply = true
+is_arithmetic SetDivide = true
+is_arithmetic SetRemainder = true
+is_arithmetic SetReduce = false
+
+-- `&&` and `||` put truth values together, and the other operators of reductions ints
+abbrev pub is_logical : Op → Bool
+is_logical Sum = false
+is_logical Product = false
+is_logical AllOf = true
+is_logical AnyOf = true
+is_logical BitAnd = false
+is_logical BitOr = false
+is_logical BitXor = false
+is_logical Least = false
+is_logical Greatest = false
+
+-- arithmetic is of ints
+abbrev pub takes : LeafKind → Assign → Bool
+takes IntLeaf op = true
+takes TruthLeaf op = not (is_arithmetic op)
+takes RangeLeaf op = not (is_arithmetic op)
+
+-- the operators of reductions that put values of a kind together
+abbrev pub combines : LeafKind → Op → Bool
+combines IntLeaf op = not (is_logical op)
+combines TruthLeaf op = is_logical op
+combines RangeLeaf op = false
+
+-- without an operator, outside foralls, `reduce=` is `=`
+abbrev pub Combines : LeafKind → Option Op → Type 0
+Combines k None = Unit {0}
+Combines k (Some op) = combines k op ≡ true

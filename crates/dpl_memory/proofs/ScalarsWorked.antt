@@ -1,4 +1,4 @@
--- A sample with its names resolved: it fits, and it writes by words what it writes by names.
+-- A sample of plain variables with its names resolved: it fits, and it writes from a memory what it writes by names.
 -- It has an int, a truth value, a range, a loop, and a forall with two reduce variables; both loops have one slot for their variable.
 use Rattle.std.proofs.Common.{◌≡◌, ℕ, List, [], ◌∷◌, pos, true, false, refl, ◌∙◌, Some, None, rules, ℤ, Bool}
 use Rattle.std.specs.Prelude.{codes, bytes_eq, int_lt, get_or, if◌then◌else◌}
@@ -18,10 +18,11 @@ use Rattle.dpl_language.specs.Environment.{Plain}
 use Rattle.dpl_language.proofs.Spelled.{at, name, after, declared, initial, listed, sign, typed, with_intents, written_line}
 use Rattle.dpl_language.proofs.Says.{limits, writes}
 use Rattle.dpl_language.proofs.ProgramsAlike.{run_from}
-use Rattle.dpl_words.specs.Words.{Leaf, TruthLeaf, int_leaf, truth_leaf, range_leaf, by_word}
-use Rattle.dpl_words.specs.Resolved.{Bound, text_of, leaf_of, left_in, first_seen, Suits, Start, resolving, first_words, Declares, innermost}
-use Rattle.dpl_words.proofs.WordsAgree.{written-words}
-use Rattle.dpl_words.proofs.Suiting.{Suits-truth, Suits-name, Suits-range_item, Turns-ranges, Suits-number}
+use Rattle.dpl_words.specs.Words.{IntLeaf, TruthLeaf, RangeLeaf}
+use Rattle.dpl_memory.specs.Memory.{PlainKind, Variable, int_leaf, truth_leaf, range_leaf, in_memory}
+use Rattle.dpl_memory.specs.Resolved.{Bound, text_of, variable_of, left_in, first_seen, Suits, Start, resolving, first_memory, Declares, innermost, sighted}
+use Rattle.dpl_memory.proofs.MemoryAgrees.{written-memory}
+use Rattle.dpl_memory.proofs.Suiting.{Suits-truth, Suits-name, Suits-range_item, Turns-ranges, Suits-number}
 
 -- var s: int; var b = true; const r = 1..4; for i in r do s += i; forall j in r with (+ reduce s, && reduce b) { s reduce= j; b reduce= j < 4; } writeln(s, " ", b);
 abbrev sums : ProgramTree (List ℕ)
@@ -49,11 +50,11 @@ sums = record {
 }
 
 -- s has slot 0, b slot 1, r slot 2, and i and j have slot 3
-abbrev leaf : List ℕ → Leaf
+abbrev leaf : List ℕ → Variable
 leaf x = if bytes_eq x (codes "s") then int_leaf 0 else if bytes_eq x (codes "b") then truth_leaf 1 else if bytes_eq x (codes "r") then range_leaf 2 else int_leaf 3
 
 abbrev resolved : List ℕ → Bound
-resolved x = record { text = x; leaf = leaf x }
+resolved x = record { text = x; variable = leaf x }
 
 abbrev sums_resolved : ProgramTree Bound
 sums_resolved = renamed_program resolved sums
@@ -69,33 +70,33 @@ abbrev placed : List ℕ → ℕ → Placed Bound
 placed x column = record { at = at 1 column; name = resolved x }
 
 -- b reduce= j < 4;
-below_four : Suits TruthLeaf (One (Chain (Named (placed (codes "j") 135)) (Link (at 1 137) Less (Number (at 1 139) (pos 4)) NoLinks)))
-below_four = (refl, λ limits s v e. (int_lt (get_or s.numbers 3 (pos 0)) (pos 4), cc))
+below_four : Suits (PlainKind TruthLeaf) (One (Chain (Named (placed (codes "j") 135)) (Link (at 1 137) Less (Number (at 1 139) (pos 4)) NoLinks)))
+below_four = (refl, λ limits s v e. (int_lt (get_or s.words.numbers 3 (pos 0)) (pos 4), cc), tt)
 
 sums_fit : fits_all (resolving start) sums_resolved.stmts first_seen
 sums_fit = ( -- var s: int;
-  (tt, tt, search rules, tt, (pos 0, refl)),
+  (tt, tt, (record { unused = search rules; within = search rules }, λ e. e), tt, (pos 0, refl)),
   ( -- var b = true;
-    (tt, (tt, tt), search rules, tt, Suits-truth (at 1 21) true),
+    (tt, (tt, tt), (record { unused = search rules; within = search rules }, λ e. e), tt, Suits-truth (at 1 21) true),
     ( -- const r = 1..4;
-      (tt, ((tt, tt, tt), tt), search rules, tt, Suits-range_item (Number (at 1 37) (pos 1)) (at 1 38) Closed (Number (at 1 40) (pos 4)) NoStride),
+      (tt, ((tt, tt, tt), tt), (record { unused = search rules; within = search rules }, λ e. e), tt, Suits-range_item (Number (at 1 37) (pos 1)) (at 1 38) Closed (Number (at 1 40) (pos 4)) NoStride),
       ( -- for i in r do s += i;
         (
           refl,
-          Turns-ranges (One (Named (placed (codes "r") 52))) (Suits-name (placed (codes "r") 52)),
-          search rules,
-          (((refl, refl, tt), λ t. (refl, refl)), (λ t. (refl, refl), tt), Suits-name (placed (codes "i") 62)),
+          Turns-ranges (One (Named (placed (codes "r") 52))) (Suits-name (placed (codes "r") 52) RangeLeaf refl),
+          (record { unused = search rules; within = search rules }, λ e. e),
+          (((refl, refl, tt, tt), λ t. (refl, refl)), (λ t. (refl, refl), tt), Suits-name (placed (codes "i") 62) IntLeaf refl),
         ),
         ( -- forall j in r with (+ reduce s, && reduce b) { s reduce= j; b reduce= j < 4; }
           (
             refl,
-            Turns-ranges (One (Named (placed (codes "r") 77))) (Suits-name (placed (codes "r") 77)),
+            Turns-ranges (One (Named (placed (codes "r") 77))) (Suits-name (placed (codes "r") 77) RangeLeaf refl),
             refl,
-            search rules,
+            (record { unused = search rules; within = search rules }, λ e. e),
             (
-              (((refl, refl, (refl, refl)), λ t. (refl, refl)), (λ t. (refl, refl), tt), Suits-name (placed (codes "j") 122)),
+              (((refl, refl, (refl, refl), tt), λ t. (refl, refl)), (λ t. (refl, refl), tt), Suits-name (placed (codes "j") 122) IntLeaf refl),
               (
-                (((refl, refl, (refl, refl)), λ t. (refl, refl)), (λ t. ((refl, refl), (tt, tt)), tt), below_four),
+                (((refl, refl, (refl, refl), tt), λ t. (refl, refl)), (λ t. ((refl, refl), (tt, tt)), tt), below_four),
                 tt,
               ),
             ),
@@ -110,11 +111,11 @@ sums_fit = ( -- var s: int;
   ),
 )
 
-sums_write : written (run_from (limits 16777216 1) by_word (renamed_program leaf_of sums_resolved) (first_words start)) ≡ codes "20 false\n"
+sums_write : written (run_from (limits 16777216 1) in_memory (renamed_program variable_of sums_resolved) (first_memory start)) ≡ codes "20 false\n"
 unfolding int_wrap digits members indices
 sums_write = refl
 
-sums_leave : left_in (after_all (resolving start) sums_resolved.stmts first_seen).frames (run_from (limits 16777216 1) by_word (renamed_program leaf_of sums_resolved) (first_words start))
+sums_leave : left_in (after_all (resolving start) sums_resolved.stmts first_seen).frames (run_from (limits 16777216 1) in_memory (renamed_program variable_of sums_resolved) (first_memory start))
     ≡ Some
     (record { name = codes "s"; content = Plain (Int (pos 20)) }
     ∷ record { name = codes "b"; content = Plain (Truth false) }
@@ -124,36 +125,36 @@ sums_leave = refl
 
 -- so by names it writes the same
 sums_mean : writes sums ≡ codes "20 false\n"
-sums_mean = written-words start (limits 16777216 1) sums_resolved [] sums_fit ∙ sums_write
+sums_mean = written-memory start (limits 16777216 1) sums_resolved [] sums_fit ∙ sums_write
 
 -- config const n = 4; writeln(n);
 abbrev one_slot : Start
 one_slot = record { slots = 1; texts = (codes "n", Int (pos 7)) ∷ []; words = (0, pos 7) ∷ [] }
 
 abbrev configured_resolved : ProgramTree Bound
-configured_resolved = renamed_program (λ x. record { text = x; leaf = int_leaf 0 }) configured
+configured_resolved = renamed_program (λ x. record { text = x; variable = int_leaf 0 }) configured
 
 -- n is set to 7 by its text and by its slot
 configured_fits : fits_all (resolving one_slot) configured_resolved.stmts first_seen
-configured_fits = ((tt, (tt, tt), search rules, (refl, search rules, refl), Suits-number (at 1 18) (pos 4)), (((refl, tt), λ t. refl, tt), tt))
+configured_fits = ((tt, (tt, tt), (record { unused = search rules; within = search rules }, λ e. e), (refl, search rules, refl), Suits-number (at 1 18) (pos 4)), (((refl, tt), λ t. refl, tt), tt))
 
-configured_writes : written (run_from (limits 16777216 1) by_word (renamed_program leaf_of configured_resolved) (first_words one_slot)) ≡ codes "7\n"
+configured_writes : written (run_from (limits 16777216 1) in_memory (renamed_program variable_of configured_resolved) (first_memory one_slot)) ≡ codes "7\n"
 unfolding int_wrap digits members indices
 configured_writes = refl
 
 -- WHAT DOESN'T FIT: a number for a truth value
-number_is_no_truth : (at : Place) (n : ℤ) → Suits TruthLeaf (One (Number at n)) → ⊥
+number_is_no_truth : (at : Place) (n : ℤ) → Suits (PlainKind TruthLeaf) (One (Number at n)) → ⊥
 number_is_no_truth at n f =
-    let of_kind = f.1 (limits 1 1) (first_words one_slot) (Int n) refl in
+    let of_kind = f.1 (limits 1 1) (first_memory one_slot) (Int n) refl in
     absurd (is_no_truth of_kind.0 of_kind.1)
   where
     is_no_truth : (b : Bool) → Int n ≡ Truth b → ⊥
     is_no_truth b e = cc
 
 -- a slot that a name in sight has
-slot_in_use : Declares 4 (record { text = codes "c"; leaf = truth_leaf 0 }) PlainSort (record { frames = (record { text = codes "s"; leaf = int_leaf 0 } ∷ []) ∷ []; intents = [] }) → ⊥
-slot_in_use f = f.0.0.0 refl
+slot_in_use : Declares 4 (record { text = codes "c"; variable = truth_leaf 0 }) PlainSort (record { frames = (sighted (resolved (codes "s")) PlainSort ∷ []) ∷ []; intents = [] }) → ⊥
+slot_in_use f = f.0.unused.0.0 refl
 
 -- of two names with one text the inner one is meant
-hidden_name : innermost (codes "s") ((record { text = codes "s"; leaf = int_leaf 3 } ∷ []) ∷ (resolved (codes "s") ∷ []) ∷ []) ≡ Some (int_leaf 3)
+hidden_name : innermost (codes "s") ((sighted (record { text = codes "s"; variable = int_leaf 3 }) PlainSort ∷ []) ∷ (sighted (resolved (codes "s")) PlainSort ∷ []) ∷ []) ≡ Some (PlainKind IntLeaf, 3)
 hidden_name = refl

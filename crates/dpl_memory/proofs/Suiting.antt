@@ -1,5 +1,6 @@
 -- Right sides that have values of a kind, and loops that give them: forms by which a program is seen to fit.
--- Numbers, truth values, names and ranges as they are written; and a loop over a range, each of whose turns is an int.
+-- Numbers, truth values, names of plain variables and ranges as they are written; and a loop over a range, each of whose
+-- turns is an int.
 use Rattle.std.proofs.Common.{◌≡◌, ℤ, Bool, List, [], ◌∷◌, refl, sym, subst, Ok, Err, None, Result}
 use Rattle.std.specs.Prelude.{All, flat_map, map}
 use Rattle.std.proofs.lemmas.List.Elements.{All-nil, All-cons}
@@ -14,38 +15,40 @@ use Rattle.dpl_language.specs.Outcome.{with_ok}
 use Rattle.dpl_language.specs.Environment.{Limits}
 use Rattle.dpl_language.specs.Expressions.{value_of, stridden}
 use Rattle.dpl_language.specs.Renamed.{renamed_expr, renamed_stride}
-use Rattle.dpl_words.specs.Words.{IntLeaf, TruthLeaf, RangeLeaf, Words, value_at, by_word}
-use Rattle.dpl_words.specs.Resolved.{Bound, leaf_of, IsOfKind, Suits, Turns}
+use Rattle.dpl_words.specs.Words.{LeafKind, IntLeaf, TruthLeaf, RangeLeaf, value_at, IsOfKind}
 use Rattle.dpl_words.proofs.OfKind.{value_at-kind}
+use Rattle.dpl_memory.specs.Memory.{PlainKind, Memory, in_memory}
+use Rattle.dpl_memory.specs.Resolved.{Bound, variable_of, Suits, Turns}
 
 -- RIGHT SIDES
-pub Suits-number : (at : Place) (n : ℤ) → Suits IntLeaf (One (Number at n))
-Suits-number at n = (refl, λ limits s v e. (n, cc))
+pub Suits-number : (at : Place) (n : ℤ) → Suits (PlainKind IntLeaf) (One (Number at n))
+Suits-number at n = (refl, λ limits s v e. (n, cc), tt)
 
-pub Suits-truth : (at : Place) (b : Bool) → Suits TruthLeaf (One (TruthWord at b))
-Suits-truth at b = (refl, λ limits s v e. (b, cc))
+pub Suits-truth : (at : Place) (b : Bool) → Suits (PlainKind TruthLeaf) (One (TruthWord at b))
+Suits-truth at b = (refl, λ limits s v e. (b, cc), tt)
 
-pub Suits-name : (x : Placed Bound) → Suits x.name.leaf.kind (One (Named x))
-Suits-name x = (refl, λ limits s v e. let same : value_at x.name.leaf.kind x.name.leaf.slot s ≡ v = cc in subst (IsOfKind x.name.leaf.kind) same (value_at-kind x.name.leaf.kind x.name.leaf.slot s))
+pub Suits-name : (x : Placed Bound) (k : LeafKind) → x.name.variable.kind ≡ PlainKind k → Suits (PlainKind k) (One (Named x))
+Suits-name x k is = (refl, λ limits s v e. let same : value_at k x.name.variable.slot s.words ≡ v = cc in subst (IsOfKind k) same (value_at-kind k x.name.variable.slot s.words), tt)
 
 -- a value that is found goes through what is done with it
 with_ok-through : {A B : Type 0} (P : B → Type 0) (a : Result A Fault) (go : A → Result B Fault) → ((w : A) (v : B) → go w ≡ Ok v → P v) → (v : B) → with_ok a go ≡ Ok v → P v
 with_ok-through P (Ok w) go p v e = p w v e
 with_ok-through P (Err f) go p v e = cc
 
-stridden-range : (limits : Limits) (by : Stride Bound) (range : Result TextRange Fault) (s : Words) (v : Value) → stridden limits by_word (renamed_stride leaf_of by) range s ≡ Ok v → IsOfKind RangeLeaf v
+stridden-range : (limits : Limits) (by : Stride Bound) (range : Result TextRange Fault) (s : Memory) (v : Value) → stridden limits in_memory (renamed_stride variable_of by) range s ≡ Ok v → IsOfKind RangeLeaf v
 stridden-range limits NoStride range s = with_ok-through (IsOfKind RangeLeaf) range _ (λ r v e. (r, cc))
 stridden-range limits (By at y) range s =
-    with_ok-through (IsOfKind RangeLeaf) (value_of limits by_word (renamed_expr leaf_of y) None s) _
+    with_ok-through (IsOfKind RangeLeaf) (value_of limits in_memory (renamed_expr variable_of y) None s) _
     (λ w. with_ok-through (IsOfKind RangeLeaf) range _ (λ r. with_ok-through (IsOfKind RangeLeaf) (strided_by at (number w) r) _ (λ q v e. (q, cc))))
 
-pub Suits-range_item : (low : ExprTree Bound) (at : Place) (dots : Dots) (high : ExprTree Bound) (by : Stride Bound) → Suits RangeLeaf (RangeItem low at dots high by)
+pub Suits-range_item : (low : ExprTree Bound) (at : Place) (dots : Dots) (high : ExprTree Bound) (by : Stride Bound) → Suits (PlainKind RangeLeaf) (RangeItem low at dots high by)
 Suits-range_item low at dots high by = (
   refl,
   λ limits s.
-      with_ok-through (IsOfKind RangeLeaf) (value_of limits by_word (renamed_expr leaf_of low) None s) _
-      (λ l. with_ok-through (IsOfKind RangeLeaf) (value_of limits by_word (renamed_expr leaf_of high) None s) _
+      with_ok-through (IsOfKind RangeLeaf) (value_of limits in_memory (renamed_expr variable_of low) None s) _
+      (λ l. with_ok-through (IsOfKind RangeLeaf) (value_of limits in_memory (renamed_expr variable_of high) None s) _
       (λ h. stridden-range limits by (bounded at dots (number l) (number h)) s)),
+  tt,
 )
 
 -- LOOPS
@@ -58,6 +61,6 @@ line_turns : (r : TextRange) → All (λ t. IsOfKind IntLeaf (index_value t)) (i
 unfolding indices
 line_turns r = each_turn (members_of r.value)
 
-pub Turns-ranges : (item : ItemTree Bound) → Suits RangeLeaf item → Turns IntLeaf item
+pub Turns-ranges : (item : ItemTree Bound) → Suits (PlainKind RangeLeaf) item → Turns (PlainKind IntLeaf) item
 Turns-ranges item f limits s over e =
     subst (λ v. All (λ t. IsOfKind IntLeaf (loop_value v t)) (indices_in (loop_ranges limits.locales v))) (sym (f.1 limits s over e).1) (line_turns (f.1 limits s over e).0)

@@ -5,7 +5,7 @@ use Rattle.dpl_language.specs.Tree.{ExprTree, Number, TruthWord, Named, LocalesW
 use Rattle.dpl_language.specs.Values.{Index}
 use Rattle.dpl_language.specs.Phrases.{Base, BaseName, BaseLocales, OtherBase, base_of, item_base}
 use Rattle.dpl_language.specs.Scopes.{items_in, fits_name, fits_element, fits_expr, fits_item, fits_stride, fits_links, fits_posts, fits_post, fits_method, fits_items, fits_more_items, fits_exprs, fits_more_exprs}
-use Rattle.dpl_words.specs.Resolved.{Bound, Seen, Resolves, Start, resolving}
+use Rattle.dpl_memory.specs.Resolved.{Bound, Seen, Resolves, Start, resolving}
 
 -- something is true of each name of an expression
 module _ {N : Type 0} (P : N → Type 0) where
