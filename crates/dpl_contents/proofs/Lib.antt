@@ -1,0 +1,7 @@
+-- The lemmas, a file for each subject; the files in folders answer the goals of one function each.
+pub mod Sizes
+pub mod Slices
+pub mod Expansions
+pub mod Members
+pub mod Words
+pub mod Layouts

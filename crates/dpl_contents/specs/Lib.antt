@@ -1,0 +1,10 @@
+-- The values that contracts speak of.
+pub mod Range
+pub mod Kinds
+-- What only models, private calls and proofs speak of.
+pub mod Flags
+pub mod Parts
+pub mod Domains
+pub mod DomainFields
+pub mod Arrays
+pub mod Layout

@@ -1,0 +1,17 @@
+// What a slot of a running program holds besides numbers: a range, a domain, and an array with a word for each element.
+// This is the table of contents; contracts speak of the language's values, and never of how they are kept.
+#![tactic(auto)]
+
+mod array;
+mod domain;
+mod parts;
+mod print;
+mod range;
+
+pub use array::ArrayWords;
+pub use domain::DomainWord;
+pub use print::{ElementKind, print_array};
+pub use range::RangeWord;
+
+#[cfg(test)]
+mod tests;
