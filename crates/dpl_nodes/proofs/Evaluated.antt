@@ -1,29 +1,29 @@
 -- A typed expression evaluates to a fault or to a value of its type, in every frame.
 -- So what is put into a slot is of the slot's kind.
-use Rattle.std.proofs.Common.{ℤ, pos, Bool, true, false, not, List, [], ◌∷◌, get_or, Result, Ok, Err, None, refl, sym, subst}
-use Rattle.std.specs.Prelude.{◌&&◌, ◌||◌, ◌+ℤ◌, ◌-ℤ◌, ◌*ℤ◌, neg_ℤ, int_lt, int_le, int_div, int_rem}
+use Rattle.std.proofs.Common.{ℕ, ℤ, pos, Bool, true, false, not, List, [], ◌∷◌, get_or, Result, Ok, Err, Option, Some, None, refl, sym, subst}
+use Rattle.std.specs.Prelude.{◌&&◌, ◌||◌, ◌+ℤ◌, ◌-ℤ◌, ◌*ℤ◌, neg_ℤ, int_lt, int_le, int_div, int_rem, option_map}
 use Rattle.std.specs.Ordering.{int_eq}
 use Rattle.dpl_language.specs.Arithmetic.{wrap}
 use Rattle.dpl_syntax.specs.declared.place.Place.{Place}
 use Rattle.dpl_range.specs.Equality.{TextRange}
-use Rattle.dpl_language.specs.Tree.{ExprTree, FirstItem, NoItems, FirstExpr, NoExprs}
+use Rattle.dpl_language.specs.Tree.{IntKind, BoolKind, ExprTree, FirstItem, NoItems, FirstExpr, NoExprs}
 use Rattle.dpl_language.specs.Values.{Value, Int, Truth, Range, number, truth, kept_number, ranges_in, all_ranges, index_of, Fault}
 use Rattle.dpl_language.specs.Arithmetic.{tested_divisor}
-use Rattle.dpl_language.specs.Ranges.{size_in, bounded, strided_by, range_sliced, contains_index, members_of_first, end_of, first_of, last_of, least_of, greatest_of}
+use Rattle.dpl_language.specs.Ranges.{size_in, bounded, strided_by, range_sliced, contains_index, dimension, members_of_first, end_of, first_of, last_of, least_of, greatest_of}
 use Rattle.dpl_language.specs.Outcome.{with_ok}
 use Rattle.dpl_language.specs.Environment.{Limits}
-use Rattle.dpl_language.specs.Expressions.{unless_decided, bracketed, value_of, item_of, stridden, items_of, values_of}
+use Rattle.dpl_language.specs.Expressions.{found, unless_decided, bracketed, value_of, item_of, stridden, items_of, values_of}
 use Rattle.dpl_language.specs.Phrases.{Base, base_of}
 use Rattle.dpl_lowered.specs.Shapes.{nowhere}
-use Rattle.dpl_words.specs.Words.{LeafKind, IntLeaf, TruthLeaf, RangeLeaf, Leaf, Words, no_range, by_word}
-use Rattle.dpl_words.specs.Resolved.{IsOfKind}
+use Rattle.dpl_words.specs.Words.{LeafKind, IntLeaf, TruthLeaf, RangeLeaf, no_range, IsOfKind}
+use Rattle.dpl_memory.specs.Memory.{Variable, Memory, element_as, array_at, held_at, in_memory}
 use Rattle.dpl_nodes.specs.declared.make.Typed.{Typed}
 use Rattle.dpl_nodes.specs.declared.make.Typed.TheVariants as typed
-use Rattle.dpl_nodes.specs.declared.tree.IntExpr.{IntExpr, Number as NumberNode, Local as IntLocal, Negative', Sum', Difference', Product', Quotient', Remainder', Size', First', Last', Low', High'}
-use Rattle.dpl_nodes.specs.declared.tree.BoolExpr.{BoolExpr, Truth as TruthNode, Local as TruthLocal, Not', And', Or', Same', Differ', Equal as EqualNode, Unequal as UnequalNode, Less as LessNode, AtMost as AtMostNode, Greater as GreaterNode, AtLeast as AtLeastNode, Contains as ContainsNode}
-use Rattle.dpl_nodes.specs.declared.tree.RangeExpr.{RangeExpr, Local as RangeLocal, Between', Slice'}
+use Rattle.dpl_nodes.specs.declared.tree.IntExpr.{IntExpr, Number as NumberNode, Local as IntLocal, Negative', Sum', Difference', Product', Quotient', Remainder', Size', First', Last', Low', High', Count', Element'}
+use Rattle.dpl_nodes.specs.declared.tree.BoolExpr.{BoolExpr, Truth as TruthNode, Local as TruthLocal, Not', And', Or', Same', Differ', Equal as EqualNode, Unequal as UnequalNode, Less as LessNode, AtMost as AtMostNode, Greater as GreaterNode, AtLeast as AtLeastNode, Contains as ContainsNode, HasIndex as HasIndexNode, Element as TruthElement}
+use Rattle.dpl_nodes.specs.declared.tree.RangeExpr.{RangeExpr, Local as RangeLocal, Between', Slice', Dimension'}
 use Rattle.dpl_nodes.specs.declared.tree.Stride.{Stride as StrideNode, Absent, By'}
-use Rattle.dpl_nodes.specs.Typed.{dots_view, int_view, truth_view, range_view, range_item, stride_view}
+use Rattle.dpl_nodes.specs.Typed.{dots_view, int_view, truth_view, range_view, range_item, stride_view, index_items, index_exprs, domain_view}
 use Rattle.dpl_nodes.specs.Makers.{typed_view, typed_item, kind_of}
 
 -- a value of a kind, or a fault
@@ -88,21 +88,38 @@ strided-gives (Ok v) (Ok r) by = bounded-gives (by v r)
 strided-gives (Ok v) (Err e) by = tt
 strided-gives (Err e) range by = tt
 
-module _ (limits : Limits) (s : Words) where
-  abbrev value : ExprTree Leaf → Result Value Fault
-  value e = value_of limits by_word e None s
+-- a dimension, and an element
+dimensioned : (n : ℕ) (r : Result Value Fault) → Gives RangeLeaf (with_ok r (λ v. with_ok (Ok (Range (dimension n (ranges_in v)))) (λ w. Ok w)))
+dimensioned n (Ok v) = (dimension n (ranges_in v), refl)
+dimensioned n (Err e) = tt
 
-  sliced : (b : Base Leaf) (r : Result Value Fault) (q : Result (List Value) Fault) → Gives RangeLeaf r → Gives RangeLeaf (with_ok r (λ v. with_ok (with_ok q (λ vs. bracketed limits by_word b vs v s)) (λ w. Ok w)))
-  sliced b (Ok v) q (x, e) = subst (λ v. Gives RangeLeaf (with_ok (with_ok q (λ vs. bracketed limits by_word b vs v s)) (λ w. Ok w))) (sym e) (by q)
+int_found : (at : Place) (o : Option ℤ) → Gives IntLeaf (with_ok (found at (option_map (element_as IntKind) o)) (λ w. Ok w))
+int_found at None = tt
+int_found at (Some w) = (w, refl)
+
+truth_found : (at : Place) (o : Option ℤ) → Gives TruthLeaf (with_ok (found at (option_map (element_as BoolKind) o)) (λ w. Ok w))
+truth_found at None = tt
+truth_found at (Some w) = (not (int_eq w (pos 0)), refl)
+
+elements : (k : LeafKind) (at : List Value → Result Value Fault) → ((vs : List Value) → Gives k (with_ok (at vs) (λ w. Ok w))) → (q : Result (List Value) Fault) → Gives k (with_ok (with_ok q at) (λ w. Ok w))
+elements k at h (Ok vs) = h vs
+elements k at h (Err e) = tt
+
+module _ (limits : Limits) (s : Memory) where
+  abbrev value : ExprTree Variable → Result Value Fault
+  value e = value_of limits in_memory e None s
+
+  sliced : (b : Base Variable) (r : Result Value Fault) (q : Result (List Value) Fault) → Gives RangeLeaf r → Gives RangeLeaf (with_ok r (λ v. with_ok (with_ok q (λ vs. bracketed limits in_memory b vs v s)) (λ w. Ok w)))
+  sliced b (Ok v) q (x, e) = subst (λ v. Gives RangeLeaf (with_ok (with_ok q (λ vs. bracketed limits in_memory b vs v s)) (λ w. Ok w))) (sym e) (by q)
     where
-      by : (q : Result (List Value) Fault) → Gives RangeLeaf (with_ok (with_ok q (λ vs. bracketed limits by_word b vs (Range x) s)) (λ w. Ok w))
+      by : (q : Result (List Value) Fault) → Gives RangeLeaf (with_ok (with_ok q (λ vs. bracketed limits in_memory b vs (Range x) s)) (λ w. Ok w))
       by (Ok vs) = (range_sliced x (all_ranges vs), refl)
       by (Err f) = tt
   sliced b (Err e) q h = tt
 
   pub int_gives : (e : IntExpr) → Gives IntLeaf (value (int_view e))
   int_gives (NumberNode n) = (n, refl)
-  int_gives (IntLocal slot) = (get_or s.numbers slot (pos 0), refl)
+  int_gives (IntLocal slot) = (get_or s.words.numbers slot (pos 0), refl)
   int_gives (Negative' p e) = int_one (λ v. wrap (neg_ℤ (number v))) (value (int_view e))
   int_gives (Sum' p a q b) = int_two (λ v w. wrap (number v +ℤ number w)) (value (int_view a)) (value (int_view b)) false nowhere
   int_gives (Difference' p a q b) = int_two (λ v w. wrap (number v -ℤ number w)) (value (int_view a)) (value (int_view b)) false nowhere
@@ -114,26 +131,32 @@ module _ (limits : Limits) (s : Words) where
   int_gives (Last' p r at) = ended at.now last_of (value (range_view r))
   int_gives (Low' p r at) = ended at.now least_of (value (range_view r))
   int_gives (High' p r at) = ended at.now greatest_of (value (range_view r))
+  int_gives (Count' p d) = int_one (λ v. pos (size_in (ranges_in v))) (value (domain_view d))
+  int_gives (Element' slot p t at) =
+      elements IntLeaf (λ vs. found at.now (option_map (element_as IntKind) (held_at (index_of vs) (array_at slot s))))
+      (λ vs. int_found at.now (held_at (index_of vs) (array_at slot s))) (items_of limits in_memory (index_items t) s)
 
-  stridden-gives : (by : StrideNode) (range : Result TextRange Fault) → Gives RangeLeaf (stridden limits by_word (stride_view by) range s)
+  stridden-gives : (by : StrideNode) (range : Result TextRange Fault) → Gives RangeLeaf (stridden limits in_memory (stride_view by) range s)
   stridden-gives Absent range = bounded-gives range
   stridden-gives (By' at p e) range = strided-gives (value (int_view e)) range (λ v r. strided_by at.now (number v) r)
 
   pub range_gives : (e : RangeExpr) → Gives RangeLeaf (value (range_view e))
-  range_gives (RangeLocal slot) = (get_or s.ranges slot no_range, refl)
+  range_gives (RangeLocal slot) = (get_or s.words.ranges slot no_range, refl)
   range_gives (Between' p low at dots q high by) =
-      of_bounds (λ l h. stridden limits by_word (stride_view by) (bounded at.now (dots_view dots) (number l) (number h)) s) (value (int_view low)) (value (int_view high))
+      of_bounds (λ l h. stridden limits in_memory (stride_view by) (bounded at.now (dots_view dots) (number l) (number h)) s) (value (int_view low)) (value (int_view high))
       (λ l h. stridden-gives by (bounded at.now (dots_view dots) (number l) (number h)))
-  range_gives (Slice' p r q cut) = sliced (base_of (range_view r)) (value (range_view r)) (items_of limits by_word (FirstItem (range_item cut) NoItems) s) (range_gives r)
+  range_gives (Slice' p r q cut) = sliced (base_of (range_view r)) (value (range_view r)) (items_of limits in_memory (FirstItem (range_item cut) NoItems) s) (range_gives r)
+  range_gives (Dimension' p d n) = dimensioned n (value (domain_view d))
 
-  pub item_gives : (e : RangeExpr) → Gives RangeLeaf (item_of limits by_word (range_item e) None s)
+  pub item_gives : (e : RangeExpr) → Gives RangeLeaf (item_of limits in_memory (range_item e) None s)
   item_gives (RangeLocal slot) = range_gives (RangeLocal slot)
   item_gives (Between' p low at dots q high by) = range_gives (Between' p low at dots q high by)
   item_gives (Slice' p r q cut) = range_gives (Slice' p r q cut)
+  item_gives (Dimension' p d n) = range_gives (Dimension' p d n)
 
   pub truth_gives : (e : BoolExpr) → Gives TruthLeaf (value (truth_view e))
   truth_gives (TruthNode b) = (b, refl)
-  truth_gives (TruthLocal slot) = (not (int_eq (get_or s.numbers slot (pos 0)) (pos 0)), refl)
+  truth_gives (TruthLocal slot) = (not (int_eq (get_or s.words.numbers slot (pos 0)) (pos 0)), refl)
   truth_gives (Not' p e) = truth_one (λ v. not (truth v)) (value (truth_view e))
   truth_gives (And' p a q b) = decided (λ v w. truth v && truth w) (λ v. not (truth v)) (value (truth_view a)) (value (truth_view b)) (truth_gives a)
   truth_gives (Or' p a q b) = decided (λ v w. truth v || truth w) (λ v. truth v) (value (truth_view a)) (value (truth_view b)) (truth_gives a)
@@ -146,7 +169,12 @@ module _ (limits : Limits) (s : Words) where
   truth_gives (GreaterNode a b) = truth_two (λ v w. int_lt (number w) (number v)) (value (int_view a.now)) (value (int_view b.now))
   truth_gives (AtLeastNode a b) = truth_two (λ v w. int_le (number w) (number v)) (value (int_view a.now)) (value (int_view b.now))
   truth_gives (ContainsNode r i) =
-      contained (λ v vs. contains_index (ranges_in v) (index_of vs)) (value (range_view r.now)) (values_of limits by_word (FirstExpr (int_view i.now) NoExprs) s)
+      contained (λ v vs. contains_index (ranges_in v) (index_of vs)) (value (range_view r.now)) (values_of limits in_memory (FirstExpr (int_view i.now) NoExprs) s)
+  truth_gives (HasIndexNode d t) =
+      contained (λ v vs. contains_index (ranges_in v) (index_of vs)) (value (domain_view d.now)) (values_of limits in_memory (index_exprs t.now) s)
+  truth_gives (TruthElement slot t at) =
+      elements TruthLeaf (λ vs. found at.now (option_map (element_as BoolKind) (held_at (index_of vs) (array_at slot s))))
+      (λ vs. truth_found at.now (held_at (index_of vs) (array_at slot s))) (items_of limits in_memory (index_items t.now) s)
 
   pub typed_gives : (t : Typed) → Gives (kind_of t) (value (typed_view t))
   typed_gives (typed.Int e) = int_gives e.now
@@ -154,7 +182,7 @@ module _ (limits : Limits) (s : Words) where
   typed_gives (typed.Range e) = range_gives e.now
 
   -- and as an item
-  pub typed_item_gives : (t : Typed) → Gives (kind_of t) (item_of limits by_word (typed_item t) None s)
+  pub typed_item_gives : (t : Typed) → Gives (kind_of t) (item_of limits in_memory (typed_item t) None s)
   typed_item_gives (typed.Int e) = int_gives e.now
   typed_item_gives (typed.Truth e) = truth_gives e.now
   typed_item_gives (typed.Range e) = item_gives e.now

@@ -3,8 +3,8 @@
 use Rattle.std.proofs.Common.{◌≡◌, ℕ, zero, suc, List, ◌∷◌, map, replicate, set, refl, ap, ◌∙◌}
 use Rattle.std.proofs.lemmas.List.{map-set}
 use Rattle.dpl_range.specs.Equality.{TextRange}
-use Rattle.dpl_nodes.specs.declared.frame.RangeWord.{RangeWord}
-use Rattle.dpl_nodes.specs.Faults.{range_word}
+use Rattle.dpl_contents.specs.declared.range.RangeWord.{RangeWord}
+use Rattle.dpl_contents.specs.Range.{range_word}
 
 words_alike : (n : ℕ) (r : RangeWord) → map range_word (replicate n r) ≡ replicate n (range_word r)
 words_alike zero r = refl

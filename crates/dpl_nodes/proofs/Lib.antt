@@ -3,3 +3,4 @@ pub mod Items
 pub mod Evaluated
 pub mod Rows
 pub mod Unread
+pub mod Arrays

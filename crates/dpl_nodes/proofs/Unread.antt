@@ -3,13 +3,14 @@
 use Rattle.std.proofs.Common.{◌≡◌, Option, Some, None, refl}
 use Rattle.dpl_language.specs.Tree.{Placed}
 use Rattle.dpl_language.specs.Phrases.{bare_name, read_by, cell_read, item_read}
-use Rattle.dpl_words.specs.Words.{Leaf}
-use Rattle.dpl_nodes.specs.declared.tree.IntExpr.{IntExpr, Number, Local as IntLocal, Negative', Sum', Difference', Product', Quotient', Remainder', Size', First', Last', Low', High'}
-use Rattle.dpl_nodes.specs.declared.tree.BoolExpr.{BoolExpr, Truth as TruthNode, Local as TruthLocal, Not', And', Or', Same', Differ', Equal, Unequal, Less, AtMost, Greater, AtLeast, Contains}
-use Rattle.dpl_nodes.specs.declared.tree.RangeExpr.{RangeExpr, Local as RangeLocal, Between', Slice'}
-use Rattle.dpl_nodes.specs.Typed.{int_view, truth_view, range_item, range_view}
+use Rattle.dpl_memory.specs.Memory.{Variable}
+use Rattle.dpl_nodes.specs.declared.tree.IntExpr.{IntExpr, Number, Local as IntLocal, Negative', Sum', Difference', Product', Quotient', Remainder', Size', First', Last', Low', High', Count', Element'}
+use Rattle.dpl_nodes.specs.declared.tree.BoolExpr.{BoolExpr, Truth as TruthNode, Local as TruthLocal, Not', And', Or', Same', Differ', Equal, Unequal, Less, AtMost, Greater, AtLeast, Contains, HasIndex, Element as TruthElement}
+use Rattle.dpl_nodes.specs.declared.tree.RangeExpr.{RangeExpr, Local as RangeLocal, Between', Slice', Dimension'}
+use Rattle.dpl_nodes.specs.declared.tree.DomainExpr.{DomainExpr, Local as DomainLocal, OfArray, Literal', Slice' as DomainSlice', Expanded'}
+use Rattle.dpl_nodes.specs.Typed.{int_view, truth_view, range_item, range_view, domain_view}
 
-read_by-none : (b : Option (Placed Leaf)) → read_by b None ≡ None
+read_by-none : (b : Option (Placed Variable)) → read_by b None ≡ None
 read_by-none None = refl
 read_by-none (Some x) = refl
 
@@ -27,6 +28,8 @@ cell_read-int (First' p r at) = read_by-none (bare_name (range_view r))
 cell_read-int (Last' p r at) = read_by-none (bare_name (range_view r))
 cell_read-int (Low' p r at) = read_by-none (bare_name (range_view r))
 cell_read-int (High' p r at) = read_by-none (bare_name (range_view r))
+cell_read-int (Count' p d) = read_by-none (bare_name (domain_view d))
+cell_read-int (Element' slot p t at) = refl
 
 pub cell_read-truth : (e : BoolExpr) → cell_read (truth_view e) ≡ None
 cell_read-truth (TruthNode b) = refl
@@ -43,8 +46,18 @@ cell_read-truth (AtMost a b) = refl
 cell_read-truth (Greater a b) = refl
 cell_read-truth (AtLeast a b) = refl
 cell_read-truth (Contains r i) = read_by-none (bare_name (range_view r.now))
+cell_read-truth (HasIndex d t) = read_by-none (bare_name (domain_view d.now))
+cell_read-truth (TruthElement slot t at) = refl
 
 pub item_read-range : (e : RangeExpr) → item_read (range_item e) ≡ None
 item_read-range (RangeLocal slot) = refl
 item_read-range (Between' p low at dots q high stride) = refl
 item_read-range (Slice' p r q cut) = read_by-none (bare_name (range_view r))
+item_read-range (Dimension' p d n) = read_by-none (bare_name (domain_view d))
+
+pub cell_read-domain : (e : DomainExpr) → cell_read (domain_view e) ≡ None
+cell_read-domain (DomainLocal slot) = refl
+cell_read-domain (OfArray k slot) = refl
+cell_read-domain (Literal' at p rs) = refl
+cell_read-domain (DomainSlice' p d q rs) = read_by-none (bare_name (domain_view d))
+cell_read-domain (Expanded' p d at q e) = read_by-none (bare_name (domain_view d))

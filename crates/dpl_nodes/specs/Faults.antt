@@ -1,12 +1,13 @@
 -- The faults that words stand for, and what a walk hands back.
-use Rattle.std.specs.Prelude.{ℕ, ◌<◌, zero, suc, ℤ, Bool, Option, Some, None, Result, Ok, Err, [], ◌∷◌}
+use Rattle.std.specs.Prelude.{ℕ, ◌<◌, zero, suc, ℤ, Bool, Option, Some, None, Result, Ok, Err, List, [], ◌∷◌}
 use Rattle.dpl_range.specs.Equality.{TextRange}
 use Rattle.dpl_syntax.specs.declared.place.Place.{Place}
-use Rattle.dpl_language.specs.Values.{Value, Int, Truth, Range, FaultCode, Outside, ZeroDivisor, PastLimit, EmptyEnd, Budget, NoLocale, CellStuck, ArrayTooLarge, Turn, InNone, InTurn, Fault}
+use Rattle.dpl_language.specs.Values.{Value, Int, Truth, Range, Domain, FaultCode, Outside, ZeroDivisor, PastLimit, EmptyEnd, Budget, NoLocale, CellStuck, ArrayTooLarge, Turn, InNone, InTurn, Fault}
 use Rattle.dpl_nodes.specs.declared.fault.FaultCode.{FaultCode as CodeNode}
 use Rattle.dpl_nodes.specs.declared.fault.FaultCode.TheVariants as code
 use Rattle.dpl_nodes.specs.declared.fault.Fault.{Fault as FaultNode}
-use Rattle.dpl_nodes.specs.declared.frame.RangeWord.{RangeWord}
+use Rattle.dpl_contents.specs.declared.range.RangeWord.{RangeWord}
+use Rattle.dpl_contents.specs.Range.{range_word}
 
 abbrev pub code_view : CodeNode → FaultCode
 code_view code.Outside = Outside
@@ -41,11 +42,7 @@ fault_view f = record { code = code_view f.code; at = f.at; turn = turn_view f.t
 abbrev pub IsNear : Place → Type 0
 IsNear at = (at.line < 2097152) × (at.column < 2097152)
 
--- a range as a value
-abbrev pub range_word : RangeWord → TextRange
-range_word r = record { value = r.range; strided = r.strided }
-
--- an int, a truth value, a range, or a fault
+-- an int, a truth value, a range, a domain, or a fault
 abbrev pub of_int : Result ℤ Fault → Result Value Fault
 of_int (Ok n) = Ok (Int n)
 of_int (Err f) = Err f
@@ -57,3 +54,7 @@ of_truth (Err f) = Err f
 abbrev pub of_range : Result RangeWord Fault → Result Value Fault
 of_range (Ok r) = Ok (Range (range_word r))
 of_range (Err f) = Err f
+
+abbrev pub of_domain : Result (List TextRange) Fault → Result Value Fault
+of_domain (Ok rs) = Ok (Domain rs)
+of_domain (Err f) = Err f

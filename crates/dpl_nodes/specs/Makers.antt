@@ -2,18 +2,19 @@
 -- A type is that of a leaf.
 use Rattle.std.specs.Prelude.{Option, Some, None}
 use Rattle.dpl_language.specs.Tree.{ExprTree, Prefix, Minus, Not, Infix, Add, Subtract, Multiply, Divide, Remainder, Less, LessEqual, Greater, GreaterEqual, Equal, NotEqual, And, Or, Word, Size, First, Last, Low, High, LowBound, DomainOf, Id, ItemTree, One}
-use Rattle.dpl_words.specs.Words.{Leaf, LeafKind, IntLeaf, TruthLeaf, RangeLeaf}
+use Rattle.dpl_words.specs.Words.{LeafKind, IntLeaf, TruthLeaf, RangeLeaf}
+use Rattle.dpl_memory.specs.Memory.{Variable}
 use Rattle.dpl_nodes.specs.declared.make.Typed.{Typed}
 use Rattle.dpl_nodes.specs.declared.make.Typed.TheVariants.{Int, Truth, Range}
 use Rattle.dpl_nodes.specs.Typed.{int_view, truth_view, range_view, range_item}
 
-abbrev pub typed_view : Typed → ExprTree Leaf
+abbrev pub typed_view : Typed → ExprTree Variable
 typed_view (Int e) = int_view e.now
 typed_view (Truth e) = truth_view e.now
 typed_view (Range e) = range_view e.now
 
 -- the same as an item, in which a range needs no brackets
-abbrev pub typed_item : Typed → ItemTree Leaf
+abbrev pub typed_item : Typed → ItemTree Variable
 typed_item (Int e) = One (int_view e.now)
 typed_item (Truth e) = One (truth_view e.now)
 typed_item (Range e) = range_item e.now

@@ -1,23 +1,63 @@
 -- The plain tree that a typed tree stands for.
 -- It is a lowered tree over slots: two operands to an operator, no brackets, and the places of faults alone.
-use Rattle.dpl_language.specs.Tree.{Minus, Not, Add, Subtract, Multiply, Divide, Remainder, Less, LessEqual, Greater, GreaterEqual, Equal, NotEqual, And, Or, Dots, Closed, HalfOpen, Counted, Size, First, Last, Low, High, ExprTree, Number, TruthWord, Named, Grouped, Prefixed, Postfixed, ItemTree, One, RangeItem, Stride, NoStride, By, NoPosts, Post, Brackets, Dotted, MethodTree, Plainly, Contains, FirstItem, NoItems, FirstExpr, NoExprs}
+use Rattle.std.specs.Prelude.{ℕ}
+use Rattle.dpl_syntax.specs.declared.place.Place.{Place}
+use Rattle.dpl_language.specs.Tree.{Kind, IntKind, BoolKind, Minus, Not, Add, Subtract, Multiply, Divide, Remainder, Less, LessEqual, Greater, GreaterEqual, Equal, NotEqual, And, Or, Dots, Closed, HalfOpen, Counted, Size, First, Last, Low, High, DomainOf, ExprTree, Number, TruthWord, Named, Grouped, DomainLiteral, Prefixed, Postfixed, ItemTree, One, RangeItem, Stride, NoStride, By, NoPosts, Post, Brackets, Dotted, MethodTree, Plainly, Dim, Contains, Expand, Items, FirstItem, NoItems, NextItem, Exprs, FirstExpr, NoExprs, NextExpr}
 use Rattle.dpl_lowered.specs.Shapes.{nowhere, two}
-use Rattle.dpl_words.specs.Words.{Leaf, int_leaf, truth_leaf, range_leaf}
+use Rattle.dpl_tree.specs.declared.operator.ScalarKind.{ScalarKind}
+use Rattle.dpl_tree.specs.declared.operator.ScalarKind.TheVariants.{Int as IntScalar, Bool as TruthScalar}
+use Rattle.dpl_memory.specs.Memory.{DomainKind, TupleKind, ArrayKind, Variable, variable, int_leaf, truth_leaf, range_leaf}
 use Rattle.dpl_nodes.specs.declared.tree.Dots.{Dots as DotsNode}
 use Rattle.dpl_nodes.specs.declared.tree.Dots.TheVariants as dots
-use Rattle.dpl_nodes.specs.declared.tree.IntExpr.{IntExpr, Number as NumberNode, Local as IntLocal, Negative', Sum', Difference', Product', Quotient', Remainder', Size', First', Last', Low', High'}
-use Rattle.dpl_nodes.specs.declared.tree.BoolExpr.{BoolExpr, Truth as TruthNode, Local as TruthLocal, Not', And', Or', Same', Differ', Equal as EqualNode, Unequal as UnequalNode, Less as LessNode, AtMost as AtMostNode, Greater as GreaterNode, AtLeast as AtLeastNode, Contains as ContainsNode}
-use Rattle.dpl_nodes.specs.declared.tree.RangeExpr.{RangeExpr, Local as RangeLocal, Between', Slice'}
+use Rattle.dpl_nodes.specs.declared.tree.IntExpr.{IntExpr, Number as NumberNode, Local as IntLocal, Negative', Sum', Difference', Product', Quotient', Remainder', Size', First', Last', Low', High', Count', Element'}
+use Rattle.dpl_nodes.specs.declared.tree.BoolExpr.{BoolExpr, Truth as TruthNode, Local as TruthLocal, Not', And', Or', Same', Differ', Equal as EqualNode, Unequal as UnequalNode, Less as LessNode, AtMost as AtMostNode, Greater as GreaterNode, AtLeast as AtLeastNode, Contains as ContainsNode, HasIndex as HasIndexNode, Element as TruthElement}
+use Rattle.dpl_nodes.specs.declared.tree.RangeExpr.{RangeExpr, Local as RangeLocal, Between', Slice', Dimension'}
 use Rattle.dpl_nodes.specs.declared.tree.Stride.{Stride as StrideNode, Absent, By'}
+use Rattle.dpl_nodes.specs.declared.tree.RangesExpr.{RangesExpr, Line' as LineRange', Plane' as PlaneRanges', Space' as SpaceRanges'}
+use Rattle.dpl_nodes.specs.declared.tree.IndexExpr.{IndexExpr, Line' as LineIndex', Plane' as PlaneIndex', Space' as SpaceIndex', Tuple as TupleIndex}
+use Rattle.dpl_nodes.specs.declared.tree.DomainExpr.{DomainExpr, Local as DomainLocal, OfArray, Literal', Slice' as DomainSlice', Expanded'}
 
-abbrev pub leaf_named : Leaf → ExprTree Leaf
+abbrev pub leaf_named : Variable → ExprTree Variable
 leaf_named x = Named (record { at = nowhere; name = x })
 
-abbrev pub dotted : ExprTree Leaf → MethodTree Leaf → ExprTree Leaf
+abbrev pub dotted : ExprTree Variable → MethodTree Variable → ExprTree Variable
 dotted e m = Postfixed e (Post (Dotted nowhere m) NoPosts)
 
-abbrev pub bracketed : ExprTree Leaf → ItemTree Leaf → ExprTree Leaf
-bracketed e item = Postfixed e (Post (Brackets nowhere (FirstItem item NoItems) nowhere) NoPosts)
+abbrev pub in_square : ExprTree Variable → Items Variable → ExprTree Variable
+in_square e items = Postfixed e (Post (Brackets nowhere items nowhere) NoPosts)
+
+abbrev pub bracketed : ExprTree Variable → ItemTree Variable → ExprTree Variable
+bracketed e item = in_square e (FirstItem item NoItems)
+
+-- an array's name, where an index outside the array is told at it
+abbrev pub array_named : Kind → ℕ → Place → ExprTree Variable
+array_named k slot at = Named (record { at = at; name = variable (ArrayKind k) slot })
+
+abbrev pub tuple_named : ℕ → ExprTree Variable
+tuple_named slot = leaf_named (variable TupleKind slot)
+
+abbrev pub kind_view : ScalarKind → Kind
+kind_view IntScalar = IntKind
+kind_view TruthScalar = BoolKind
+
+-- one, two or three of something
+abbrev pub items_one : ItemTree Variable → Items Variable
+items_one a = FirstItem a NoItems
+
+abbrev pub items_two : ItemTree Variable → ItemTree Variable → Items Variable
+items_two a b = FirstItem a (NextItem nowhere b NoItems)
+
+abbrev pub items_three : ItemTree Variable → ItemTree Variable → ItemTree Variable → Items Variable
+items_three a b c = FirstItem a (NextItem nowhere b (NextItem nowhere c NoItems))
+
+abbrev pub exprs_one : ExprTree Variable → Exprs Variable
+exprs_one a = FirstExpr a NoExprs
+
+abbrev pub exprs_two : ExprTree Variable → ExprTree Variable → Exprs Variable
+exprs_two a b = FirstExpr a (NextExpr nowhere b NoExprs)
+
+abbrev pub exprs_three : ExprTree Variable → ExprTree Variable → ExprTree Variable → Exprs Variable
+exprs_three a b c = FirstExpr a (NextExpr nowhere b (NextExpr nowhere c NoExprs))
 
 abbrev pub dots_view : DotsNode → Dots
 dots_view dots.Closed = Closed
@@ -25,7 +65,7 @@ dots_view dots.HalfOpen = HalfOpen
 dots_view dots.Counted = Counted nowhere
 
 abbrev mutual
-  pub int_view : IntExpr → ExprTree Leaf
+  pub int_view : IntExpr → ExprTree Variable
   int_view (NumberNode n) = Number nowhere n
   int_view (IntLocal slot) = leaf_named (int_leaf slot)
   int_view (Negative' p e) = Prefixed nowhere Minus (int_view e)
@@ -39,24 +79,55 @@ abbrev mutual
   int_view (Last' p r at) = dotted (range_view r) (Plainly at.now Last)
   int_view (Low' p r at) = dotted (range_view r) (Plainly at.now Low)
   int_view (High' p r at) = dotted (range_view r) (Plainly at.now High)
+  int_view (Count' p d) = dotted (domain_view d) (Plainly nowhere Size)
+  int_view (Element' slot p t at) = in_square (array_named IntKind slot at.now) (index_items t)
 
   -- a range as an item
-  pub range_item : RangeExpr → ItemTree Leaf
+  pub range_item : RangeExpr → ItemTree Variable
   range_item (RangeLocal slot) = One (leaf_named (range_leaf slot))
   range_item (Between' p low at dots q high stride) = RangeItem (int_view low) at.now (dots_view dots) (int_view high) (stride_view stride)
   range_item (Slice' p r q cut) = One (bracketed (range_view r) (range_item cut))
+  range_item (Dimension' p d n) = One (dotted (domain_view d) (Dim nowhere nowhere nowhere n nowhere))
 
   -- and as an expression, which stands in brackets where it has bounds
-  pub range_view : RangeExpr → ExprTree Leaf
+  pub range_view : RangeExpr → ExprTree Variable
   range_view (RangeLocal slot) = leaf_named (range_leaf slot)
   range_view (Between' p low at dots q high stride) = Grouped nowhere (RangeItem (int_view low) at.now (dots_view dots) (int_view high) (stride_view stride)) nowhere
   range_view (Slice' p r q cut) = bracketed (range_view r) (range_item cut)
+  range_view (Dimension' p d n) = dotted (domain_view d) (Dim nowhere nowhere nowhere n nowhere)
 
-  pub stride_view : StrideNode → Stride Leaf
+  pub stride_view : StrideNode → Stride Variable
   stride_view Absent = NoStride
   stride_view (By' at p e) = By at.now (int_view e)
 
-abbrev pub truth_view : BoolExpr → ExprTree Leaf
+  -- the ranges of a domain
+  pub ranges_items : RangesExpr → Items Variable
+  ranges_items (LineRange' p a) = items_one (range_item a)
+  ranges_items (PlaneRanges' p a q b) = items_two (range_item a) (range_item b)
+  ranges_items (SpaceRanges' p a q b r c) = items_three (range_item a) (range_item b) (range_item c)
+
+  -- the coordinates of an index
+  pub index_items : IndexExpr → Items Variable
+  index_items (LineIndex' p a) = items_one (One (int_view a))
+  index_items (PlaneIndex' p a q b) = items_two (One (int_view a)) (One (int_view b))
+  index_items (SpaceIndex' p a q b r c) = items_three (One (int_view a)) (One (int_view b)) (One (int_view c))
+  index_items (TupleIndex slot) = items_one (One (tuple_named slot))
+
+  pub domain_view : DomainExpr → ExprTree Variable
+  domain_view (DomainLocal slot) = leaf_named (variable DomainKind slot)
+  domain_view (OfArray k slot) = dotted (leaf_named (variable (ArrayKind (kind_view k)) slot)) (Plainly nowhere DomainOf)
+  domain_view (Literal' at p rs) = DomainLiteral at.now (ranges_items rs) nowhere
+  domain_view (DomainSlice' p d q rs) = in_square (domain_view d) (ranges_items rs)
+  domain_view (Expanded' p d at q e) = dotted (domain_view d) (Expand at.now nowhere (int_view e) nowhere)
+
+-- the coordinates of an index, as arguments
+abbrev pub index_exprs : IndexExpr → Exprs Variable
+index_exprs (LineIndex' p a) = exprs_one (int_view a)
+index_exprs (PlaneIndex' p a q b) = exprs_two (int_view a) (int_view b)
+index_exprs (SpaceIndex' p a q b r c) = exprs_three (int_view a) (int_view b) (int_view c)
+index_exprs (TupleIndex slot) = exprs_one (tuple_named slot)
+
+abbrev pub truth_view : BoolExpr → ExprTree Variable
 truth_view (TruthNode b) = TruthWord nowhere b
 truth_view (TruthLocal slot) = leaf_named (truth_leaf slot)
 truth_view (Not' p e) = Prefixed nowhere Not (truth_view e)
@@ -71,3 +142,5 @@ truth_view (AtMostNode a b) = two (int_view a.now) nowhere LessEqual (int_view b
 truth_view (GreaterNode a b) = two (int_view a.now) nowhere Greater (int_view b.now)
 truth_view (AtLeastNode a b) = two (int_view a.now) nowhere GreaterEqual (int_view b.now)
 truth_view (ContainsNode r i) = dotted (range_view r.now) (Contains nowhere nowhere (FirstExpr (int_view i.now) NoExprs) nowhere)
+truth_view (HasIndexNode d t) = dotted (domain_view d.now) (Contains nowhere nowhere (index_exprs t.now) nowhere)
+truth_view (TruthElement slot t at) = in_square (array_named BoolKind slot at.now) (index_items t.now)

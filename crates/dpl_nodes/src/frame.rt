@@ -1,41 +1,50 @@
-// The frame of a run: the words and the ranges of its slots, the reduce variables of the forall around, and what is set.
+// The frame of a run: what its slots hold, the reduce variables of the forall around, and what is set.
 // A word is a value of every kind, so that no walk can leave a frame ill typed.
 
 ghost use Rattle.std.specs.Prelude.{◌≡◌, pos, [], ◌∷◌, ◌++◌, get_or, set, replicate, map, option_map, IfOk};
 ghost use Rattle.dpl_tree.specs.Words.{op_view};
-ghost use Rattle.dpl_words.specs.Words.{no_range, by_slots, intent_at, set_at};
+ghost use Rattle.dpl_words.specs.Words.{no_range, intent_at, set_at};
+ghost use Rattle.dpl_memory.specs.Memory.{no_domain, no_tuple, no_array, array_at, held_at, intents_by_slot};
+ghost use Rattle.dpl_memory.specs.Resolved.{first_memory};
+ghost use Rattle.dpl_contents.specs.Range.{range_word};
 ghost use Rattle.dpl_nodes.specs.Steps.{intent_view};
-ghost use Rattle.dpl_nodes.specs.Faults.{range_word};
+ghost use Rattle.dpl_nodes.specs.Frames.{with_memory, with_words, held_in};
 
 use crate::step::Intent;
-use dpl_range::Range;
+use dpl_contents::{ArrayWords, DomainWord, RangeWord};
+use dpl_domain::Index;
 use dpl_tree::Op;
 use std::alloc::{AllocError, Global};
 use std::marker::Model;
 
-/// A range as a value: its members in order, and whether the text strides it.
-#[derive(Clone, Copy, PartialEq, Eq, Debug)]
-pub struct RangeWord {
-    pub range: Range,
-    pub strided: bool,
+// The index 0.
+fn no_tuple() -> Index
+    ensures { result ≡ no_tuple }
+{
+    Index::new(&[0]).unwrap()
 }
 
-// The range `1..0`.
-fn no_range() -> RangeWord
-    ensures { range_word result ≡ no_range }
+// So many slots without an array.
+#[tactic(auto, using(crate::proofs::Arrays::replicate_next))]
+fn no_arrays(alloc: Global, slots: usize) -> Result<Vec<Option<ArrayWords>>, AllocError>
+    ensures { IfOk result (λ arrays. map held_in arrays.items ≡ replicate slots no_array) }
 {
-    RangeWord {
-        range: Range::new(1, 0, 1).unwrap(),
-        strided: false,
+    let mut arrays = Vec::new(alloc);
+    for _ in 0..slots {
+        arrays.push(None)?;
     }
+    Ok(arrays)
 }
 
 /// The slots of a run, with the reduce variables of the forall around and their operators, what the command line sets,
-/// the budget of a loop and the number of locales.
+/// the budget of a loop and the number of locales. A frame has as many of everything as slots.
 #[derive(Drop)]
 pub struct Frame<'t> {
     numbers: Vec<i64>,
     ranges: Vec<RangeWord>,
+    domains: Vec<DomainWord>,
+    tuples: Vec<Index>,
+    arrays: Vec<Option<ArrayWords>>,
     intents: &'t [Intent],
     sets: Vec<(usize, i64)>,
     budget: u64,
@@ -44,34 +53,45 @@ pub struct Frame<'t> {
 
 impl<'t> Model for Frame<'t> {
     ghost use Rattle.std.specs.Prelude.{map};
-    ghost use Rattle.dpl_words.specs.Words.{by_slots};
+    ghost use Rattle.dpl_memory.specs.Memory.{intents_by_slot};
+    ghost use Rattle.dpl_contents.specs.Range.{range_word};
     ghost use Rattle.dpl_nodes.specs.Steps.{intent_view};
-    ghost use Rattle.dpl_nodes.specs.Faults.{range_word};
-    ghost use Rattle.dpl_nodes.specs.Frames.{Framed};
+    ghost use Rattle.dpl_nodes.specs.Frames.{Framed, held_in};
 
     ghost Value = { Framed };
 
-    ghost view = { λ f. record { words = record { numbers = f.numbers.items; ranges = map range_word f.ranges.items; intents = by_slots (map intent_view f.intents.now); sets = f.sets.items }; limits = record { budget = f.budget; locales = f.locales } } };
+    ghost view = { λ f. record {
+      memory = record {
+        words = record { numbers = f.numbers.items; ranges = map range_word f.ranges.items; intents = intents_by_slot (map intent_view f.intents.now); sets = f.sets.items };
+        domains = f.domains.items;
+        tuples = f.tuples.items;
+        arrays = map held_in f.arrays.items;
+      };
+      limits = record { budget = f.budget; locales = f.locales };
+    } };
 }
 
 impl<'t> Frame<'t> {
-    /// A frame with so many words, each 0, and so many ranges, each `1..0`.
+    /// A frame with so many slots: its words are 0, its ranges `1..0`, its domains `{1..0}`, its tuples the index 0, and its
+    /// arrays have no elements. Nothing is set, and there are no reduce variables.
     ///
     /// # Errors
     /// Out of memory.
     #[tactic(auto, using(crate::proofs::Kept::map_replicate))]
     pub fn new(
         alloc: Global,
-        numbers: usize,
-        ranges: usize,
+        slots: usize,
         budget: u64,
         locales: u32,
     ) -> Result<Frame<'t>, AllocError>
-        ensures { IfOk result (λ f. f ≡ record { words = record { numbers = replicate numbers (pos 0); ranges = replicate ranges no_range; intents = []; sets = [] }; limits = record { budget = budget; locales = locales } }) }
+        ensures { IfOk result (λ f. f ≡ record { memory = first_memory (record { slots = slots; texts = []; words = [] }); limits = record { budget = budget; locales = locales } }) }
     {
         Ok(Frame {
-            numbers: vec![in alloc; 0; numbers]?,
-            ranges: vec![in alloc; no_range(); ranges]?,
+            numbers: vec![in alloc; 0; slots]?,
+            ranges: vec![in alloc; RangeWord::none(); slots]?,
+            domains: vec![in alloc; DomainWord::empty(1); slots]?,
+            tuples: vec![in alloc; no_tuple(); slots]?,
+            arrays: no_arrays(alloc, slots)?,
             intents: &[],
             sets: Vec::new(alloc),
             budget,
@@ -81,7 +101,7 @@ impl<'t> Frame<'t> {
 
     /// The word in a slot; 0 past the last one.
     pub fn number(&self, slot: usize) -> i64
-        ensures { result ≡ get_or self.now.words.numbers slot (pos 0) }
+        ensures { result ≡ get_or self.now.memory.words.numbers slot (pos 0) }
     {
         match self.numbers.get(slot) {
             Some(number) => *number,
@@ -91,17 +111,17 @@ impl<'t> Frame<'t> {
 
     /// The range in a slot; `1..0` past the last one.
     pub fn range(&self, slot: usize) -> RangeWord
-        ensures { range_word result ≡ get_or self.now.words.ranges slot no_range }
+        ensures { range_word result ≡ get_or self.now.memory.words.ranges slot no_range }
     {
         match self.ranges.get(slot) {
             Some(range) => *range,
-            None => no_range(),
+            None => RangeWord::none(),
         }
     }
 
     /// Puts a word into a slot; past the last one it does nothing.
     pub fn set_number(&mut self, slot: usize, number: i64)
-        ensures { self.new ≡ record self.old { words = record self.old.words { numbers = set self.old.words.numbers slot number } } }
+        ensures { self.new ≡ with_words (record self.old.memory.words { numbers = set self.old.memory.words.numbers slot number }) self.old }
     {
         if slot < self.numbers.len() {
             self.numbers[slot] = number;
@@ -111,12 +131,115 @@ impl<'t> Frame<'t> {
     /// Puts a range into a slot; past the last one it does nothing.
     #[tactic(auto, using(crate::proofs::Kept::map_set))]
     pub fn set_range(&mut self, slot: usize, range: RangeWord)
-        ensures { self.new ≡ record self.old { words = record self.old.words { ranges = set self.old.words.ranges slot (range_word range) } } }
+        ensures { self.new ≡ with_words (record self.old.memory.words { ranges = set self.old.memory.words.ranges slot (range_word range) }) self.old }
     {
         if slot < self.ranges.len() {
             self.ranges[slot] = range;
         }
     }
+
+    /// The domain in a slot; `{1..0}` past the last one.
+    pub fn domain(&self, slot: usize) -> DomainWord
+        ensures { result ≡ get_or self.now.memory.domains slot no_domain }
+    {
+        match self.domains.get(slot) {
+            Some(domain) => *domain,
+            None => DomainWord::empty(1),
+        }
+    }
+
+    /// The index in a slot; 0 past the last one.
+    pub fn tuple(&self, slot: usize) -> Index
+        ensures { result ≡ get_or self.now.memory.tuples slot no_tuple }
+    {
+        match self.tuples.get(slot) {
+            Some(index) => *index,
+            None => no_tuple(),
+        }
+    }
+
+    // The array in a slot, if it has one.
+    fn array(&self, slot: usize) -> Option<&ArrayWords>
+        ensures { held_in (option_map (λ a. a.now) result) ≡ array_at slot self.now.memory }
+    {
+        match self.arrays.get(slot) {
+            Some(array) => array.as_ref(),
+            None => None,
+        }
+    }
+
+    /// The domain of the array in a slot; `{1..0}` where there is none.
+    pub fn array_domain(&self, slot: usize) -> DomainWord
+        ensures { result ≡ (array_at slot self.now.memory).ranges }
+    {
+        match self.array(slot) {
+            Some(array) => array.domain(),
+            None => DomainWord::empty(1),
+        }
+    }
+
+    /// The word of an element of the array in a slot, if the array has the index.
+    #[tactic(auto, using(crate::proofs::Arrays::held_at_none))]
+    pub fn element(&self, slot: usize, index: Index) -> Option<i64>
+        ensures { result ≡ held_at index (array_at slot self.now.memory) }
+    {
+        match self.array(slot) {
+            Some(array) => array.get(index),
+            None => None,
+        }
+    }
+
+    /// The same at one coordinate.
+    #[tactic(auto, using(crate::proofs::Arrays::held_at_none))]
+    pub fn element_line(&self, slot: usize, i: i64) -> Option<i64>
+        ensures { result ≡ held_at (i ∷ []) (array_at slot self.now.memory) }
+    {
+        match self.array(slot) {
+            Some(array) => array.get_line(i),
+            None => None,
+        }
+    }
+
+    /// The same at two coordinates.
+    #[tactic(auto, using(crate::proofs::Arrays::held_at_none))]
+    pub fn element_plane(&self, slot: usize, i: i64, j: i64) -> Option<i64>
+        ensures { result ≡ held_at (i ∷ j ∷ []) (array_at slot self.now.memory) }
+    {
+        match self.array(slot) {
+            Some(array) => array.get_plane(i, j),
+            None => None,
+        }
+    }
+
+    /// The same at three coordinates.
+    #[tactic(auto, using(crate::proofs::Arrays::held_at_none))]
+    pub fn element_space(&self, slot: usize, i: i64, j: i64, k: i64) -> Option<i64>
+        ensures { result ≡ held_at (i ∷ j ∷ k ∷ []) (array_at slot self.now.memory) }
+    {
+        match self.array(slot) {
+            Some(array) => array.get_space(i, j, k),
+            None => None,
+        }
+    }
+
+    /// Puts a domain into a slot; past the last one it does nothing.
+    pub fn set_domain(&mut self, slot: usize, domain: DomainWord)
+        ensures { self.new ≡ with_memory (record self.old.memory { domains = set self.old.memory.domains slot domain }) self.old }
+    {
+        if slot < self.domains.len() {
+            self.domains[slot] = domain;
+        }
+    }
+
+    /// Puts an index into a slot; past the last one it does nothing.
+    pub fn set_tuple(&mut self, slot: usize, index: Index)
+        ensures { self.new ≡ with_memory (record self.old.memory { tuples = set self.old.memory.tuples slot index }) self.old }
+    {
+        if slot < self.tuples.len() {
+            self.tuples[slot] = index;
+        }
+    }
+
     /// How many turns each entry of a loop may have.
     pub fn budget(&self) -> u64
         ensures { result ≡ self.now.limits.budget }
@@ -126,7 +249,7 @@ impl<'t> Frame<'t> {
 
     /// The number that the command line gives to the variable in a slot; of a truth value 0 is false.
     pub fn given(&self, slot: usize) -> Option<i64>
-        ensures { result ≡ set_at slot self.now.words.sets }
+        ensures { result ≡ set_at slot self.now.memory.words.sets }
     {
         for set in &self.sets {
             if slot == set.0 {
@@ -141,7 +264,7 @@ impl<'t> Frame<'t> {
     /// # Errors
     /// Out of memory.
     pub fn give(&mut self, slot: usize, number: i64) -> Result<(), AllocError>
-        ensures { IfOk result (λ v. self.new ≡ record self.old { words = record self.old.words { sets = self.old.words.sets ++ (slot, number) ∷ [] } }) }
+        ensures { IfOk result (λ v. self.new ≡ with_words (record self.old.memory.words { sets = self.old.memory.words.sets ++ (slot, number) ∷ [] }) self.old) }
     {
         self.sets.push((slot, number))?;
         Ok(())
@@ -149,7 +272,7 @@ impl<'t> Frame<'t> {
 
     /// The operator of the first reduce variable in a slot.
     pub fn operator(&self, slot: usize) -> Option<Op>
-        ensures { option_map op_view result ≡ intent_at slot self.now.words.intents }
+        ensures { option_map op_view result ≡ intent_at slot self.now.memory.words.intents }
     {
         for intent in self.intents {
             if slot == intent.slot {
@@ -161,7 +284,7 @@ impl<'t> Frame<'t> {
 
     /// Makes these the reduce variables.
     pub fn intend(&mut self, intents: &'t [Intent])
-        ensures { self.new ≡ record self.old { words = record self.old.words { intents = by_slots (map intent_view intents.now) } } }
+        ensures { self.new ≡ with_words (record self.old.memory.words { intents = intents_by_slot (map intent_view intents.now) }) self.old }
     {
         self.intents = intents;
     }

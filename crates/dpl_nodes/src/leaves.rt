@@ -4,7 +4,8 @@
 ghost use Rattle.std.specs.Prelude.{◌≡◌, ◌≢◌, IfOk, IfErr, Ok, Err};
 ghost use Rattle.dpl_language.specs.Tree.{Number, TruthWord};
 ghost use Rattle.dpl_lowered.specs.Shapes.{nowhere};
-ghost use Rattle.dpl_words.specs.Words.{IntLeaf, TruthLeaf, RangeLeaf, int_leaf, truth_leaf, range_leaf};
+ghost use Rattle.dpl_words.specs.Words.{IntLeaf, TruthLeaf, RangeLeaf};
+ghost use Rattle.dpl_memory.specs.Memory.{int_leaf, truth_leaf, range_leaf};
 ghost use Rattle.dpl_nodes.specs.Typed.{leaf_named};
 ghost use Rattle.dpl_nodes.specs.Makers.{typed_view, kind_of};
 ghost use Rattle.dpl_nodes.specs.declared.make.Stop.TheVariants as stop;

@@ -10,8 +10,9 @@ pub mod ranges;
 pub mod step;
 pub mod tree;
 
+pub use dpl_contents::{DomainWord, RangeWord};
 pub use fault::{Fault, FaultCode, Spot, Trap, Truth};
-pub use frame::{Frame, RangeWord};
+pub use frame::Frame;
 pub use make::{Stop, Typed};
-pub use step::{Argument, Else, Intent, Step};
-pub use tree::{BoolExpr, Dots, IntExpr, RangeExpr, Stride};
+pub use step::{Argument, Else, Intent, Step, TruthDeed};
+pub use tree::{BoolExpr, DomainExpr, Dots, IndexExpr, IntExpr, RangeExpr, RangesExpr, Stride};

@@ -21,6 +21,20 @@ pub struct Intent {
     pub op: Op,
 }
 
+/// What a truth value's statement does. Truth values share one variant of `Step`: of each type that a statement points at,
+/// the check counts all that it reaches.
+#[derive(Clone, Copy, PartialEq, Eq, Debug)]
+pub enum TruthDeed {
+    /// A declaration, with its initial value.
+    Declare,
+    /// A `config const`, to which the command line may give another value.
+    Config,
+    /// `=`
+    Set,
+    /// `reduce=`, by the operator of the forall's intent.
+    Reduce,
+}
+
 /// A statement.
 #[cycle(step)]
 #[derive(Clone, Copy)]
@@ -29,14 +43,11 @@ pub enum Step<'t> {
     Nothing,
     /// A declaration, with its initial value.
     DeclareInt(usize, &'t IntExpr<'t>),
-    DeclareTruth(usize, &'t BoolExpr<'t>),
     DeclareRange(usize, &'t RangeExpr<'t>),
     /// A `config const`, to which the command line may give another value.
     ConfigInt(usize, &'t IntExpr<'t>),
-    ConfigTruth(usize, &'t BoolExpr<'t>),
     /// `=`
     SetInt(usize, &'t IntExpr<'t>),
-    SetTruth(usize, &'t BoolExpr<'t>),
     SetRange(usize, &'t RangeExpr<'t>),
     /// `+=`
     Add(usize, &'t IntExpr<'t>),
@@ -50,7 +61,8 @@ pub enum Step<'t> {
     Remainder(usize, &'t Spot, &'t IntExpr<'t>),
     /// `reduce=`, by the operator of the forall's intent.
     ReduceInt(usize, &'t IntExpr<'t>),
-    ReduceTruth(usize, &'t BoolExpr<'t>),
+    /// A truth value's declaration, or an assignment to it.
+    Truth(TruthDeed, usize, &'t BoolExpr<'t>),
     /// `write(..);`, or `writeln(..);`, which ends the line.
     Write {
         ends_line: bool,

@@ -2,6 +2,7 @@
 // They lie in the arena of the tree; specs/Typed.antt gives the plain tree that each stands for.
 
 use crate::fault::Spot;
+use dpl_tree::ScalarKind;
 
 /// How a range's second number is meant: `..`, `..<` or `..#`.
 #[derive(Clone, Copy, PartialEq, Eq, Debug)]
@@ -32,6 +33,10 @@ pub enum IntExpr<'t> {
     Last(&'t RangeExpr<'t>, &'t Spot),
     Low(&'t RangeExpr<'t>, &'t Spot),
     High(&'t RangeExpr<'t>, &'t Spot),
+    /// How many indices a domain has.
+    Count(&'t DomainExpr<'t>),
+    /// An element of the array in a slot, with the place where an index outside it is told.
+    Element(usize, &'t IndexExpr<'t>, &'t Spot),
 }
 
 /// An expression that is a truth value.
@@ -54,6 +59,10 @@ pub enum BoolExpr<'t> {
     AtLeast(&'t IntExpr<'t>, &'t IntExpr<'t>),
     /// A range has the int.
     Contains(&'t RangeExpr<'t>, &'t IntExpr<'t>),
+    /// A domain has the index.
+    HasIndex(&'t DomainExpr<'t>, &'t IndexExpr<'t>),
+    /// An element of the array in a slot, with the place where an index outside it is told.
+    Element(usize, &'t IndexExpr<'t>, &'t Spot),
 }
 
 /// A stride, with the place where it is told to be past its limits; or none.
@@ -74,4 +83,41 @@ pub enum RangeExpr<'t> {
     Between(&'t IntExpr<'t>, &'t Spot, Dots, &'t IntExpr<'t>, Stride<'t>),
     /// What of a range lies between the bounds of another one.
     Slice(&'t RangeExpr<'t>, &'t RangeExpr<'t>),
+    /// A dimension of a domain, counted from 0.
+    Dimension(&'t DomainExpr<'t>, u32),
+}
+
+/// A range for each dimension.
+#[cycle(typed)]
+#[derive(Clone, Copy)]
+pub enum RangesExpr<'t> {
+    Line(&'t RangeExpr<'t>),
+    Plane(&'t RangeExpr<'t>, &'t RangeExpr<'t>),
+    Space(&'t RangeExpr<'t>, &'t RangeExpr<'t>, &'t RangeExpr<'t>),
+}
+
+/// An index: a coordinate for each dimension, or the tuple in a slot.
+#[cycle(typed)]
+#[derive(Clone, Copy)]
+pub enum IndexExpr<'t> {
+    Line(&'t IntExpr<'t>),
+    Plane(&'t IntExpr<'t>, &'t IntExpr<'t>),
+    Space(&'t IntExpr<'t>, &'t IntExpr<'t>, &'t IntExpr<'t>),
+    Tuple(usize),
+}
+
+/// An expression that is a domain.
+#[cycle(typed)]
+#[derive(Clone, Copy)]
+pub enum DomainExpr<'t> {
+    /// The variable in a slot.
+    Local(usize),
+    /// The domain of the array in a slot.
+    OfArray(ScalarKind, usize),
+    /// `{..}`, with the place where it is told that there are too many indices.
+    Literal(&'t Spot, &'t RangesExpr<'t>),
+    /// Each dimension between the bounds of its range.
+    Slice(&'t DomainExpr<'t>, &'t RangesExpr<'t>),
+    /// `expand`, with the place where a bound past its limit and too many indices are told.
+    Expanded(&'t DomainExpr<'t>, &'t Spot, &'t IntExpr<'t>),
 }
