@@ -1,79 +1,123 @@
--- What stands behind a range: methods, slices and `contains`, by the range's value.
+-- What stands behind a range or a domain: methods, slices and `contains`, by its value.
 -- A range is the same as an item and as an expression; each lemma has the value of the plain tree on its left side.
-use Rattle.std.proofs.Common.{◌≡◌, ℤ, [], ◌∷◌, None, Result, Ok, Err, refl, ap, ◌∙◌}
+use Rattle.std.proofs.Common.{◌≡◌, ℤ, Bool, true, false, List, [], ◌∷◌, None, Result, Ok, Err, refl, ap, ◌∙◌}
+use Rattle.std.specs.Prelude.{◌||◌, if◌then◌else◌}
+use Rattle.dpl_syntax.specs.declared.place.Place.{Place}
+use Rattle.dpl_domain.specs.Equality.{text_expanded}
 use Rattle.dpl_range.specs.Equality.{TextRange, text_sliced}
-use Rattle.dpl_language.specs.Tree.{ExprTree, Posts, NoPosts, Post, Brackets, Dotted, MethodTree, Contains, FirstItem, NoItems, FirstExpr, NoExprs}
-use Rattle.dpl_language.specs.Values.{Value, Int, Truth, Range, all_ranges, index_of, Fault}
-use Rattle.dpl_language.specs.Ranges.{contains_index, range_sliced}
+use Rattle.dpl_language.specs.Tree.{ExprTree, Posts, NoPosts, Post, Brackets, Dotted, MethodTree, Contains, Items, FirstItem, NoItems, Exprs, FirstExpr, NoExprs}
+use Rattle.dpl_language.specs.Values.{Value, Index, Int, Truth, Range, Domain, all_ranges, index_of, Fault, fault, PastLimit}
+use Rattle.dpl_language.specs.Ranges.{contains_index, range_sliced, all_sliced, bounds_past_limit, too_many, expanded}
 use Rattle.dpl_language.specs.Outcome.{with_ok}
 use Rattle.dpl_language.specs.Environment.{Limits}
 use Rattle.dpl_language.specs.Phrases.{base_of}
-use Rattle.dpl_language.specs.Expressions.{value_of, item_of, answer_of, behind}
+use Rattle.dpl_language.specs.Expressions.{value_of, item_of, items_of, values_of, answer_of, behind}
 use Rattle.dpl_lowered.specs.Shapes.{nowhere}
-use Rattle.dpl_words.specs.Words.{Leaf, Words, by_word}
-use Rattle.dpl_nodes.specs.declared.tree.RangeExpr.{RangeExpr, Local, Between', Slice'}
-use Rattle.dpl_nodes.specs.Typed.{range_item, range_view, dotted, bracketed}
+use Rattle.dpl_memory.specs.Memory.{Variable, Memory, in_memory}
+use Rattle.dpl_nodes.specs.declared.tree.RangeExpr.{RangeExpr, Local, Between', Slice', Dimension'}
+use Rattle.dpl_nodes.specs.declared.tree.DomainExpr.{DomainExpr}
+use Rattle.dpl_nodes.specs.Typed.{range_item, range_view, dotted, in_square, bracketed, domain_view}
 
 -- `contains` of an int
-abbrev pub containing : ExprTree Leaf → MethodTree Leaf
+abbrev pub containing : ExprTree Variable → MethodTree Variable
 containing e = Contains nowhere nowhere (FirstExpr e NoExprs) nowhere
 
-module _ (limits : Limits) (w : Words) where
-  range_view_value : (r : RangeExpr) → value_of limits by_word (range_view r) None w ≡ item_of limits by_word (range_item r) None w
+-- what is found, and nothing done with it
+as_it_is : (a : Result Value Fault) → with_ok a (λ v. Ok v) ≡ a
+as_it_is (Ok v) = refl
+as_it_is (Err f) = refl
+
+-- an expanded domain that is small enough, and one that isn't
+pub expanded-within : (at : Place) (k : ℤ) (rs : List TextRange) → bounds_past_limit (text_expanded k rs) ≡ false → too_many (text_expanded k rs) ≡ false → expanded at k rs ≡ Ok (Domain (text_expanded k rs))
+expanded-within at k rs bounds size =
+    ap (λ b. if b || too_many (text_expanded k rs) then Err (fault PastLimit at) else Ok (Domain (text_expanded k rs))) bounds
+    ∙ ap (λ b. if b then Err (fault PastLimit at) else Ok (Domain (text_expanded k rs))) size
+
+pub expanded-past : (at : Place) (k : ℤ) (rs : List TextRange) → ((bounds_past_limit (text_expanded k rs) ≡ false) × (too_many (text_expanded k rs) ≡ false) → ⊥) → expanded at k rs ≡ Err (fault PastLimit at)
+expanded-past at k rs = by (bounds_past_limit (text_expanded k rs)) (too_many (text_expanded k rs))
+  where
+    by : (b c : Bool) → ((b ≡ false) × (c ≡ false) → ⊥) → (if b || c then Err (fault PastLimit at) else Ok (Domain (text_expanded k rs))) ≡ Err (fault PastLimit at)
+    by true c h = refl
+    by false true h = refl
+    by false false h = absurd (h (refl, refl))
+
+module _ (limits : Limits) (w : Memory) where
+  range_view_value : (r : RangeExpr) → value_of limits in_memory (range_view r) None w ≡ item_of limits in_memory (range_item r) None w
   range_view_value (Local slot) = refl
   range_view_value (Between' p low at dots q high stride) = refl
   range_view_value (Slice' p r q cut) = refl
+  range_view_value (Dimension' p d n) = refl
 
   -- what stands behind a range, by its value
-  behind_range : (r : RangeExpr) (posts : Posts Leaf) (a : Result Value Fault) → item_of limits by_word (range_item r) None w ≡ a
-      → with_ok (value_of limits by_word (range_view r) None w) (behind limits by_word posts (base_of (range_view r)) w) ≡ with_ok a (behind limits by_word posts (base_of (range_view r)) w)
-  behind_range r posts a e = ap (λ x. with_ok x (behind limits by_word posts (base_of (range_view r)) w)) (range_view_value r ∙ e)
+  behind_range : (r : RangeExpr) (posts : Posts Variable) (a : Result Value Fault) → item_of limits in_memory (range_item r) None w ≡ a
+      → with_ok (value_of limits in_memory (range_view r) None w) (behind limits in_memory posts (base_of (range_view r)) w) ≡ with_ok a (behind limits in_memory posts (base_of (range_view r)) w)
+  behind_range r posts a e = ap (λ x. with_ok x (behind limits in_memory posts (base_of (range_view r)) w)) (range_view_value r ∙ e)
 
   -- ---- methods
-  pub method_fault : (r : RangeExpr) (m : MethodTree Leaf) (f : Fault) → item_of limits by_word (range_item r) None w ≡ Err f
-      → value_of limits by_word (dotted (range_view r) m) None w ≡ Err f
+  pub method_fault : (r : RangeExpr) (m : MethodTree Variable) (f : Fault) → item_of limits in_memory (range_item r) None w ≡ Err f
+      → value_of limits in_memory (dotted (range_view r) m) None w ≡ Err f
   method_fault r m f e = behind_range r (Post (Dotted nowhere m) NoPosts) (Err f) e
 
-  pub method_answer : (r : RangeExpr) (m : MethodTree Leaf) (x : TextRange) (a : Result Value Fault) → item_of limits by_word (range_item r) None w ≡ Ok (Range x)
-      → answer_of limits by_word m w (Range x) ≡ a → value_of limits by_word (dotted (range_view r) m) None w ≡ a
+  pub method_answer : (r : RangeExpr) (m : MethodTree Variable) (x : TextRange) (a : Result Value Fault) → item_of limits in_memory (range_item r) None w ≡ Ok (Range x)
+      → answer_of limits in_memory m w (Range x) ≡ a → value_of limits in_memory (dotted (range_view r) m) None w ≡ a
   method_answer r m x a e answer =
       behind_range r (Post (Dotted nowhere m) NoPosts) (Ok (Range x)) e ∙ ap (λ y. with_ok y (λ v. Ok v)) answer ∙ as_it_is a
-    where
-      as_it_is : (a : Result Value Fault) → with_ok a (λ v. Ok v) ≡ a
-      as_it_is (Ok v) = refl
-      as_it_is (Err f) = refl
 
-  pub contains_fault : (r : RangeExpr) (e : ExprTree Leaf) (x : TextRange) (f : Fault) → item_of limits by_word (range_item r) None w ≡ Ok (Range x)
-      → value_of limits by_word e None w ≡ Err f → value_of limits by_word (dotted (range_view r) (containing e)) None w ≡ Err f
+  pub contains_fault : (r : RangeExpr) (e : ExprTree Variable) (x : TextRange) (f : Fault) → item_of limits in_memory (range_item r) None w ≡ Ok (Range x)
+      → value_of limits in_memory e None w ≡ Err f → value_of limits in_memory (dotted (range_view r) (containing e)) None w ≡ Err f
   contains_fault r e x f range index =
       method_answer r (containing e) x (Err f) range
       (ap (λ a. with_ok (with_ok a (λ v. with_ok (Ok []) (λ vs. Ok (v ∷ vs)))) (λ vs. Ok (Truth (contains_index (x ∷ []) (index_of vs))))) index)
 
-  pub contains_answer : (r : RangeExpr) (e : ExprTree Leaf) (x : TextRange) (n : ℤ) → item_of limits by_word (range_item r) None w ≡ Ok (Range x)
-      → value_of limits by_word e None w ≡ Ok (Int n) → value_of limits by_word (dotted (range_view r) (containing e)) None w ≡ Ok (Truth (contains_index (x ∷ []) (n ∷ [])))
+  pub contains_answer : (r : RangeExpr) (e : ExprTree Variable) (x : TextRange) (n : ℤ) → item_of limits in_memory (range_item r) None w ≡ Ok (Range x)
+      → value_of limits in_memory e None w ≡ Ok (Int n) → value_of limits in_memory (dotted (range_view r) (containing e)) None w ≡ Ok (Truth (contains_index (x ∷ []) (n ∷ [])))
   contains_answer r e x n range index =
       method_answer r (containing e) x (Ok (Truth (contains_index (x ∷ []) (n ∷ [])))) range
       (ap (λ a. with_ok (with_ok a (λ v. with_ok (Ok []) (λ vs. Ok (v ∷ vs)))) (λ vs. Ok (Truth (contains_index (x ∷ []) (index_of vs))))) index)
 
   -- ---- slices
-  pub slice_fault : (r cut : RangeExpr) (f : Fault) → item_of limits by_word (range_item r) None w ≡ Err f
-      → value_of limits by_word (bracketed (range_view r) (range_item cut)) None w ≡ Err f
+  pub slice_fault : (r cut : RangeExpr) (f : Fault) → item_of limits in_memory (range_item r) None w ≡ Err f
+      → value_of limits in_memory (bracketed (range_view r) (range_item cut)) None w ≡ Err f
   slice_fault r cut f e = behind_range r (Post (Brackets nowhere (FirstItem (range_item cut) NoItems) nowhere) NoPosts) (Err f) e
 
   -- behind a range, by what its cut is
-  cut_value : (r cut : RangeExpr) (x : TextRange) (a : Result Value Fault) → item_of limits by_word (range_item r) None w ≡ Ok (Range x)
-      → item_of limits by_word (range_item cut) None w ≡ a
-      → value_of limits by_word (bracketed (range_view r) (range_item cut)) None w
+  cut_value : (r cut : RangeExpr) (x : TextRange) (a : Result Value Fault) → item_of limits in_memory (range_item r) None w ≡ Ok (Range x)
+      → item_of limits in_memory (range_item cut) None w ≡ a
+      → value_of limits in_memory (bracketed (range_view r) (range_item cut)) None w
       ≡ with_ok (with_ok (with_ok a (λ v. with_ok (Ok []) (λ vs. Ok (v ∷ vs)))) (λ vs. Ok (Range (range_sliced x (all_ranges vs))))) (λ v. Ok v)
   cut_value r cut x a range e =
       behind_range r (Post (Brackets nowhere (FirstItem (range_item cut) NoItems) nowhere) NoPosts) (Ok (Range x)) range
       ∙ ap (λ b. with_ok (with_ok (with_ok b (λ v. with_ok (Ok []) (λ vs. Ok (v ∷ vs)))) (λ vs. Ok (Range (range_sliced x (all_ranges vs))))) (λ v. Ok v)) e
 
-  pub slice_cut_fault : (r cut : RangeExpr) (x : TextRange) (f : Fault) → item_of limits by_word (range_item r) None w ≡ Ok (Range x)
-      → item_of limits by_word (range_item cut) None w ≡ Err f → value_of limits by_word (bracketed (range_view r) (range_item cut)) None w ≡ Err f
+  pub slice_cut_fault : (r cut : RangeExpr) (x : TextRange) (f : Fault) → item_of limits in_memory (range_item r) None w ≡ Ok (Range x)
+      → item_of limits in_memory (range_item cut) None w ≡ Err f → value_of limits in_memory (bracketed (range_view r) (range_item cut)) None w ≡ Err f
   slice_cut_fault r cut x f range e = cut_value r cut x (Err f) range e
 
-  pub slice_answer : (r cut : RangeExpr) (x y : TextRange) → item_of limits by_word (range_item r) None w ≡ Ok (Range x)
-      → item_of limits by_word (range_item cut) None w ≡ Ok (Range y)
-      → value_of limits by_word (bracketed (range_view r) (range_item cut)) None w ≡ Ok (Range (text_sliced y.value.low y.value.high x))
+  pub slice_answer : (r cut : RangeExpr) (x y : TextRange) → item_of limits in_memory (range_item r) None w ≡ Ok (Range x)
+      → item_of limits in_memory (range_item cut) None w ≡ Ok (Range y)
+      → value_of limits in_memory (bracketed (range_view r) (range_item cut)) None w ≡ Ok (Range (text_sliced y.value.low y.value.high x))
   slice_answer r cut x y range e = cut_value r cut x (Ok (Range y)) range e
+
+  -- ---- domains: a method, and a slice
+  pub domain_answer : (d : DomainExpr) (m : MethodTree Variable) (rs : List TextRange) (a : Result Value Fault) → value_of limits in_memory (domain_view d) None w ≡ Ok (Domain rs)
+      → answer_of limits in_memory m w (Domain rs) ≡ a → value_of limits in_memory (dotted (domain_view d) m) None w ≡ a
+  domain_answer d m rs a e answer =
+      ap (λ x. with_ok x (behind limits in_memory (Post (Dotted nowhere m) NoPosts) (base_of (domain_view d)) w)) e ∙ ap (λ y. with_ok y (λ v. Ok v)) answer ∙ as_it_is a
+
+  pub domain_slice : (d : DomainExpr) (items : Items Variable) (rs : List TextRange) (a : Result Value Fault) → value_of limits in_memory (domain_view d) None w ≡ Ok (Domain rs)
+      → with_ok (items_of limits in_memory items w) (λ vs. Ok (Domain (all_sliced rs (all_ranges vs)))) ≡ a → value_of limits in_memory (in_square (domain_view d) items) None w ≡ a
+  domain_slice d items rs a e cut =
+      ap (λ x. with_ok x (behind limits in_memory (Post (Brackets nowhere items nowhere) NoPosts) (base_of (domain_view d)) w)) e ∙ ap (λ y. with_ok y (λ v. Ok v)) cut ∙ as_it_is a
+
+  -- and whether it has an index
+  contains-index : (rs : List TextRange) (q : Result (List Value) Fault)
+      → with_ok q (λ vs. Ok (Truth (contains_index rs (index_of vs)))) ≡ with_ok (with_ok q (λ vs. Ok (index_of vs))) (λ t. Ok (Truth (contains_index rs t)))
+  contains-index rs (Ok vs) = refl
+  contains-index rs (Err f) = refl
+
+  pub domain_contains : (d : DomainExpr) (es : Exprs Variable) (rs : List TextRange) (i : Result Index Fault) → value_of limits in_memory (domain_view d) None w ≡ Ok (Domain rs)
+      → with_ok (values_of limits in_memory es w) (λ vs. Ok (index_of vs)) ≡ i
+      → value_of limits in_memory (dotted (domain_view d) (Contains nowhere nowhere es nowhere)) None w ≡ with_ok i (λ t. Ok (Truth (contains_index rs t)))
+  domain_contains d es rs i e index =
+      domain_answer d (Contains nowhere nowhere es nowhere) rs (with_ok i (λ t. Ok (Truth (contains_index rs t)))) e
+      (contains-index rs (values_of limits in_memory es w) ∙ ap (λ i. with_ok i (λ t. Ok (Truth (contains_index rs t)))) index)

@@ -1,23 +1,18 @@
 -- What the functions on bounds promise: a number that is one of the language's, or a fault.
 -- A bound is a whole number without a limit; one that is no int is past the limit.
-use Rattle.std.specs.Prelude.{◌≡◌, true, false, ℤ, Option, Some, None, Result, Ok, Err}
-use Rattle.dpl_range.specs.Range.{RangeValue}
+use Rattle.std.specs.Prelude.{◌≡◌, true, ℤ, Option, Some, None, Result, Ok, Err}
 use Rattle.dpl_range.specs.Equality.{TextRange}
 use Rattle.dpl_language.specs.Values.{Fault}
 use Rattle.dpl_language.specs.Ranges.{past_limit}
-use Rattle.dpl_nodes.specs.declared.frame.RangeWord.{RangeWord}
-use Rattle.dpl_nodes.specs.Faults.{range_word}
+use Rattle.dpl_contents.specs.declared.range.RangeWord.{RangeWord}
+use Rattle.dpl_contents.specs.Range.{range_word}
 
 -- the bound, or none where it is past the limit
 abbrev pub FitsOrPast : ℤ → Option ℤ → Type 0
 FitsOrPast z (Some n) = n ≡ z
 FitsOrPast z None = past_limit z ≡ true
 
--- a range without a stride, or a fault
-abbrev pub of_bounds : Result RangeValue Fault → Result TextRange Fault
-of_bounds (Ok r) = Ok (record { value = r; strided = false })
-of_bounds (Err f) = Err f
-
+-- a range, or a fault
 abbrev pub of_word : Result RangeWord Fault → Result TextRange Fault
 of_word (Ok r) = Ok (range_word r)
 of_word (Err f) = Err f

@@ -1,2 +1,3 @@
 -- What serves contracts and proofs alone.
 pub mod Bounds
+pub mod Elements

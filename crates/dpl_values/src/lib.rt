@@ -2,8 +2,9 @@
 // No walk takes memory, and none has an arm for what can't be.
 #![tactic(auto)]
 
+pub mod domain;
 pub mod expression;
 pub mod number;
 pub mod range;
 
-pub use expression::{int_value, range_value, truth_value};
+pub use expression::{domain_value, element, index_value, int_value, range_value, truth_value};

@@ -2,12 +2,12 @@
 // A bound is a whole number without a limit until it is tested.
 
 ghost use Rattle.std.specs.Prelude.{◌≡◌, false, pos, [], ◌∷◌};
-ghost use Rattle.dpl_range.specs.Equality.{text_sliced};
 ghost use Rattle.dpl_language.specs.Ranges.{bounded as bounded_of, strided_by as strided_by_of, high_bound as high_bound_of, bad_count as bad_count_of};
 ghost use Rattle.dpl_language.specs.Ranges.{size_in, members_in, end_of, first_of, last_of, least_of, greatest_of, contains_index};
 ghost use Rattle.dpl_nodes.specs.Typed.{dots_view};
-ghost use Rattle.dpl_nodes.specs.Faults.{range_word, of_int};
-ghost use Rattle.dpl_values.specs.Bounds.{FitsOrPast, of_bounds, of_word};
+ghost use Rattle.dpl_nodes.specs.Faults.{of_int};
+ghost use Rattle.dpl_contents.specs.Range.{range_word};
+ghost use Rattle.dpl_values.specs.Bounds.{FitsOrPast, of_word};
 
 use dpl_nodes::{Dots, FaultCode, RangeWord, Spot, Trap};
 use dpl_range::Range;
@@ -37,8 +37,8 @@ fn is_bad_count(dots: Dots, number: i64) -> bool
 ///
 /// # Errors
 /// `F3` at the dots for a bad count, and for a bound past its limit.
-pub fn bounded(at: Spot, dots: Dots, low: i64, number: i64) -> Result<Range, Trap>
-    ensures { of_bounds result ≡ bounded_of at (dots_view dots) low number }
+pub fn bounded(at: Spot, dots: Dots, low: i64, number: i64) -> Result<RangeWord, Trap>
+    ensures { of_word result ≡ bounded_of at (dots_view dots) low number }
 {
     if is_bad_count(dots, number) {
         return Err(Trap::new(FaultCode::PastLimit, at));
@@ -46,7 +46,10 @@ pub fn bounded(at: Spot, dots: Dots, low: i64, number: i64) -> Result<Range, Tra
     match high_bound(dots, low, number) {
         None => Err(Trap::new(FaultCode::PastLimit, at)),
         Some(high) => match Range::new(low, high, 1) {
-            Ok(range) => Ok(range),
+            Ok(range) => Ok(RangeWord {
+                range,
+                strided: false,
+            }),
             Err(_) => Err(Trap::new(FaultCode::PastLimit, at)),
         },
     }
@@ -56,27 +59,15 @@ pub fn bounded(at: Spot, dots: Dots, low: i64, number: i64) -> Result<Range, Tra
 ///
 /// # Errors
 /// `F3` at `by` for a stride past its limits.
-pub fn strided_by(at: Spot, stride: i64, range: Range) -> Result<RangeWord, Trap>
-    ensures { of_word result ≡ strided_by_of at stride (record { value = range; strided = false }) }
+pub fn strided_by(at: Spot, stride: i64, range: RangeWord) -> Result<RangeWord, Trap>
+    ensures { of_word result ≡ strided_by_of at stride (range_word range) }
 {
-    match Range::new(range.low_bound(), range.high_bound(), stride) {
+    match Range::new(range.range.low_bound(), range.range.high_bound(), stride) {
         Ok(range) => Ok(RangeWord {
             range,
             strided: true,
         }),
         Err(_) => Err(Trap::new(FaultCode::PastLimit, at)),
-    }
-}
-
-/// What of a range lies between the bounds of another one.
-pub fn sliced(range: RangeWord, cut: RangeWord) -> RangeWord
-    ensures { range_word result ≡ text_sliced cut.range.low cut.range.high (range_word range) }
-{
-    RangeWord {
-        range: range
-            .range
-            .slice(cut.range.low_bound(), cut.range.high_bound()),
-        strided: range.strided,
     }
 }
 

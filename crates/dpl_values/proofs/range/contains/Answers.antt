@@ -3,7 +3,7 @@ use Rattle.std.proofs.Common.{[], ◌∷◌, w64, FitsSigned}
 use Rattle.std.proofs.lemmas.Int.{to_z-of_z}
 use Rattle.std.proofs.lemmas.Bool.Decides.{same_from_decides}
 use Rattle.dpl_language.specs.Ranges.{contains_index}
-use Rattle.dpl_nodes.specs.Faults.{range_word}
+use Rattle.dpl_contents.specs.Range.{range_word}
 use Rattle.dpl_values.proofs.Ranges.{Decides-contains_index}
 use Rattle.dpl_values.proofs.range.contains.Goals as goal
 

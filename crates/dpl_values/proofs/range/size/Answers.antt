@@ -2,7 +2,7 @@
 use Rattle.std.proofs.Common.{◌≡◌, ◌∙◌, ap, arith, sym, pos, w64, to_z}
 use Rattle.std.proofs.lemmas.Int.{ints}
 use Rattle.dpl_range.proofs.MemberLemmas.{length-members_limit}
-use Rattle.dpl_nodes.specs.Faults.{range_word}
+use Rattle.dpl_contents.specs.Range.{range_word}
 use Rattle.dpl_values.proofs.Ranges.{size_in-one}
 use Rattle.dpl_values.proofs.range.size.Goals as goal
 
