@@ -1,8 +1,8 @@
--- What a declaration and an assignment do, by the words that they leave.
+-- What a declaration and an assignment do, by the memory that they leave.
 -- Each lemma has the meaning of the plain statement on its left side.
-use Rattle.std.proofs.Common.{◌≡◌, Option, Some, None, Result, Ok, Err, refl, sym, ap, ◌∙◌}
+use Rattle.std.proofs.Common.{◌≡◌, ℕ, Option, Some, None, Result, Ok, Err, refl, sym, ap, ◌∙◌}
 use Rattle.dpl_syntax.specs.declared.place.Place.{Place}
-use Rattle.dpl_language.specs.Tree.{Assign, ItemTree}
+use Rattle.dpl_language.specs.Tree.{Assign, Set, SetReduce, ItemTree}
 use Rattle.dpl_language.specs.Values.{Value, Fault, is_domain}
 use Rattle.dpl_language.specs.Arithmetic.{assign_divides, tested_divisor}
 use Rattle.dpl_language.specs.Outcome.{Deeds, Outcome, Done, Stop, Run, with_ok, with_value}
@@ -13,67 +13,80 @@ use Rattle.dpl_language.specs.Assignments.{read_or, evaluated, assign_name}
 use Rattle.dpl_language.specs.Declarations.{given_or}
 use Rattle.dpl_language.specs.Statements.{exec}
 use Rattle.dpl_lowered.specs.Shapes.{nowhere}
-use Rattle.dpl_words.specs.Words.{Leaf, Words, by_word}
-use Rattle.dpl_words.proofs.Known.{words-known}
-use Rattle.dpl_nodes.specs.Steps.{unplaced_leaf, declared_as, assigned_to}
+use Rattle.dpl_words.specs.Words.{LeafKind, TruthLeaf}
+use Rattle.dpl_memory.specs.Memory.{PlainKind, Variable, Memory, variable, truth_leaf, in_memory}
+use Rattle.dpl_memory.proofs.Known.{memory-known}
+use Rattle.dpl_nodes.specs.declared.step.TruthDeed.{TruthDeed}
+use Rattle.dpl_nodes.specs.declared.step.TruthDeed.TheVariants as deed
+use Rattle.dpl_nodes.specs.Steps.{unplaced_leaf, declared_as, assigned_to, truth_changed}
 use Rattle.dpl_steps.specs.declared.halt.Halt.{Halt}
-use Rattle.dpl_steps.specs.declared.halt.Halt.TheVariants.{Fault as FaultHalt, Memory}
+use Rattle.dpl_steps.specs.declared.halt.Halt.TheVariants.{Fault as FaultHalt, Memory as OutOfMemory}
 use Rattle.dpl_steps.specs.Runs.{RunEnds}
 use Rattle.dpl_steps.specs.Tells.{TellsSame}
-use Rattle.dpl_steps.specs.Changes.{declared_words, given_words, assigned_words, words_after}
+use Rattle.dpl_steps.specs.Changes.{declared_memory, given_memory, assigned_memory, truth_memory, memory_after}
 
--- how words, or a fault, end a run
-abbrev pub ends_as : Result Words Fault → Deeds → Outcome Words
+-- how a memory, or a fault, ends a run
+abbrev pub ends_as : Result Memory Fault → Deeds → Outcome Memory
 ends_as (Ok s) done = Done s done
 ends_as (Err f) done = Stop f done
 
--- a change that is told ends the run as the words after it do
-pub told-ends : (r : Result (Unit {0}) Fault) (h : Result (Unit {0}) Halt) (s : Words) (done : Deeds) (o : Outcome Words) → TellsSame r h → o ≡ ends_as (words_after r s) done → RunEnds h s done o
+-- a change that is told ends the run as the memory after it does
+pub told-ends : (r : Result (Unit {0}) Fault) (h : Result (Unit {0}) Halt) (s : Memory) (done : Deeds) (o : Outcome Memory) → TellsSame r h → o ≡ ends_as (memory_after r s) done → RunEnds h s done o
 told-ends (Ok v) (Ok w) s done o t e = e
 told-ends (Ok v) (Err h) s done o t e = absurd t
 told-ends (Err f) (Ok w) s done o t e = absurd t
 told-ends (Err f) (Err (FaultHalt g)) s done o t e = e ∙ ap (λ f. Stop f done) (sym t)
-told-ends (Err f) (Err Memory) s done o t e = absurd t
+told-ends (Err f) (Err OutOfMemory) s done o t e = absurd t
 
 module _ (limits : Limits) where
-  pub evaluated-item : (item : ItemTree Leaf) (go : Value → Run Words) (s : Words) (done : Deeds) → item_read item ≡ None
-      → evaluated limits by_word item go s done ≡ with_value (item_of limits by_word item None s) go s done
-  evaluated-item item go s done e = ap (λ o. read_or limits by_word o item go s done) e
+  pub evaluated-item : (item : ItemTree Variable) (go : Value → Run Memory) (s : Memory) (done : Deeds) → item_read item ≡ None
+      → evaluated limits in_memory item go s done ≡ with_value (item_of limits in_memory item None s) go s done
+  evaluated-item item go s done e = ap (λ o. read_or limits in_memory o item go s done) e
 
-  declared-value : (x : Leaf) (s : Words) (done : Deeds) (r : Result Value Fault)
-      → with_value r (λ v s done. Done (by_word.declare x (Plain v) s) done) s done ≡ ends_as (with_ok r (λ v. Ok (by_word.declare x (Plain v) s))) done
+  declared-value : (x : Variable) (s : Memory) (done : Deeds) (r : Result Value Fault)
+      → with_value r (λ v s done. Done (in_memory.declare x (Plain v) s) done) s done ≡ ends_as (with_ok r (λ v. Ok (in_memory.declare x (Plain v) s))) done
   declared-value x s done (Ok v) = refl
   declared-value x s done (Err f) = refl
 
-  pub exec-declared : (x : Leaf) (item : ItemTree Leaf) (s : Words) (done : Deeds) → item_read item ≡ None
-      → exec limits by_word (declared_as None x item) s done ≡ ends_as (declared_words limits x item s) done
+  pub exec-declared : (x : Variable) (item : ItemTree Variable) (s : Memory) (done : Deeds) → item_read item ≡ None
+      → exec limits in_memory (declared_as None x item) s done ≡ ends_as (declared_memory limits x item s) done
   exec-declared x item s done e =
-      evaluated-item item (λ v s done. Done (by_word.declare x (Plain v) s) done) s done e ∙ declared-value x s done (item_of limits by_word item None s)
+      evaluated-item item (λ v s done. Done (in_memory.declare x (Plain v) s) done) s done e ∙ declared-value x s done (item_of limits in_memory item None s)
 
-  given-words : (x : Leaf) (item : ItemTree Leaf) (s : Words) (done : Deeds) (given : Option Value) → item_read item ≡ None
-      → given_or limits by_word (unplaced_leaf x) given (exec limits by_word (declared_as None x item)) s done ≡ ends_as (given_words limits x item given s) done
-  given-words x item s done None e = exec-declared x item s done e
-  given-words x item s done (Some v) e = refl
+  given-memory : (x : Variable) (item : ItemTree Variable) (s : Memory) (done : Deeds) (given : Option Value) → item_read item ≡ None
+      → given_or limits in_memory (unplaced_leaf x) given (exec limits in_memory (declared_as None x item)) s done ≡ ends_as (given_memory limits x item given s) done
+  given-memory x item s done None e = exec-declared x item s done e
+  given-memory x item s done (Some v) e = refl
 
-  pub exec-config : (x : Leaf) (item : ItemTree Leaf) (s : Words) (done : Deeds) → item_read item ≡ None
-      → exec limits by_word (declared_as (Some nowhere) x item) s done ≡ ends_as (given_words limits x item (by_word.given x s) s) done
-  exec-config x item s done e = given-words x item s done (by_word.given x s) e
+  pub exec-config : (x : Variable) (item : ItemTree Variable) (s : Memory) (done : Deeds) → item_read item ≡ None
+      → exec limits in_memory (declared_as (Some nowhere) x item) s done ≡ ends_as (given_memory limits x item (in_memory.given x s) s) done
+  exec-config x item s done e = given-memory x item s done (in_memory.given x s) e
 
-  tested-value : (x : Leaf) (op : Assign) (s : Words) (done : Deeds) (r : Result Value Fault)
-      → with_value r (λ w s done. Done (by_word.update x op w s) done) s done ≡ ends_as (with_ok r (λ w. Ok (by_word.update x op w s))) done
+  tested-value : (x : Variable) (op : Assign) (s : Memory) (done : Deeds) (r : Result Value Fault)
+      → with_value r (λ w s done. Done (in_memory.update x op w s) done) s done ≡ ends_as (with_ok r (λ w. Ok (in_memory.update x op w s))) done
   tested-value x op s done (Ok v) = refl
   tested-value x op s done (Err f) = refl
 
-  assigned-value : (x : Leaf) (op : Assign) (at : Place) (s : Words) (done : Deeds) (r : Result Value Fault)
-      → with_value r (λ v. with_value (tested_divisor (assign_divides op) at v) (λ w s done. Done (by_word.update x op w s) done)) s done
-      ≡ ends_as (with_ok r (λ v. with_ok (tested_divisor (assign_divides op) at v) (λ w. Ok (by_word.update x op w s)))) done
+  assigned-value : (x : Variable) (op : Assign) (at : Place) (s : Memory) (done : Deeds) (r : Result Value Fault)
+      → with_value r (λ v. with_value (tested_divisor (assign_divides op) at v) (λ w s done. Done (in_memory.update x op w s) done)) s done
+      ≡ ends_as (with_ok r (λ v. with_ok (tested_divisor (assign_divides op) at v) (λ w. Ok (in_memory.update x op w s)))) done
   assigned-value x op at s done (Ok v) = tested-value x op s done (tested_divisor (assign_divides op) at v)
   assigned-value x op at s done (Err f) = refl
 
-  pub exec-assigned : (x : Leaf) (op : Assign) (at : Place) (item : ItemTree Leaf) (s : Words) (done : Deeds) → item_read item ≡ None
-      → exec limits by_word (assigned_to x op at item) s done ≡ ends_as (assigned_words limits x op at item s) done
-  exec-assigned x op at item s done e =
-      ap (λ o. assign_name limits by_word (unplaced_leaf x) (record { at = at; op = op; last = nowhere }) item o (is_domain (by_word.get x s)) s done) (words-known x s).0
-      ∙ ap (λ b. assign_name limits by_word (unplaced_leaf x) (record { at = at; op = op; last = nowhere }) item None b s done) (words-known x s).1
-      ∙ evaluated-item item (λ v. with_value (tested_divisor (assign_divides op) at v) (λ w s done. Done (by_word.update x op w s) done)) s done e
-      ∙ assigned-value x op at s done (item_of limits by_word item None s)
+  -- of a plain variable
+  pub exec-assigned : (k : LeafKind) (slot : ℕ) (op : Assign) (at : Place) (item : ItemTree Variable) (s : Memory) (done : Deeds) → item_read item ≡ None
+      → exec limits in_memory (assigned_to (variable (PlainKind k) slot) op at item) s done ≡ ends_as (assigned_memory limits (variable (PlainKind k) slot) op at item s) done
+  exec-assigned k slot op at item s done e =
+      let x = variable (PlainKind k) slot in
+      ap (λ o. assign_name limits in_memory (unplaced_leaf x) (record { at = at; op = op; last = nowhere }) item o (is_domain (in_memory.get x s)) s done) (memory-known x s).0
+      ∙ ap (λ b. assign_name limits in_memory (unplaced_leaf x) (record { at = at; op = op; last = nowhere }) item None b s done) (memory-known x s).1
+      ∙ evaluated-item item (λ v. with_value (tested_divisor (assign_divides op) at v) (λ w s done. Done (in_memory.update x op w s) done)) s done e
+      ∙ assigned-value x op at s done (item_of limits in_memory item None s)
+
+  -- what is done to a truth value
+  pub exec-truth : (d : TruthDeed) (slot : ℕ) (item : ItemTree Variable) (s : Memory) (done : Deeds) → item_read item ≡ None
+      → exec limits in_memory (truth_changed d slot item) s done ≡ ends_as (truth_memory limits d slot item s) done
+  exec-truth deed.Declare slot item s done e = exec-declared (truth_leaf slot) item s done e
+  exec-truth deed.Config slot item s done e = exec-config (truth_leaf slot) item s done e
+  exec-truth deed.Set slot item s done e = exec-assigned TruthLeaf slot Set nowhere item s done e
+  exec-truth deed.Reduce slot item s done e = exec-assigned TruthLeaf slot SetReduce nowhere item s done e

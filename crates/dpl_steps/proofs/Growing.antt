@@ -9,12 +9,12 @@ use Rattle.dpl_language.specs.Outcome.{Deeds, Done, Stop, with_ok, with_value, w
 use Rattle.dpl_language.specs.Environment.{Limits}
 use Rattle.dpl_language.specs.Writing.{line_end}
 use Rattle.dpl_language.specs.Statements.{exec}
-use Rattle.dpl_words.specs.Words.{Words, by_word}
+use Rattle.dpl_memory.specs.Memory.{Memory, in_memory}
 use Rattle.dpl_nodes.specs.declared.step.Argument.{Argument}
 use Rattle.dpl_nodes.specs.Steps.{written_as}
 use Rattle.dpl_nodes.specs.Faults.{fault_view}
 use Rattle.dpl_steps.specs.declared.halt.Halt.{Halt}
-use Rattle.dpl_steps.specs.declared.halt.Halt.TheVariants.{Fault as FaultHalt, Memory}
+use Rattle.dpl_steps.specs.declared.halt.Halt.TheVariants.{Fault as FaultHalt, Memory as OutOfMemory}
 use Rattle.dpl_steps.specs.Runs.{having_printed, RunEnds}
 use Rattle.dpl_steps.specs.Texts.{argument_text, arguments_text, behind, Grew, GrewBy}
 use Rattle.dpl_steps.proofs.Writing.{behind-append, exec-written}
@@ -41,11 +41,11 @@ behind-fault old (Err g) f e = e
 
 module _ (limits : Limits) where
   -- ARGUMENTS ONE BY ONE
-  texts-at : (xs : List Argument) (k : ℕ) (a : Argument) (s : Words) → k < length xs → a ≡ get_or xs k a
+  texts-at : (xs : List Argument) (k : ℕ) (a : Argument) (s : Memory) → k < length xs → a ≡ get_or xs k a
       → arguments_text limits (drop k xs) s ≡ with_ok (argument_text limits a s) (λ t. with_ok (arguments_text limits (drop (k + 1) xs) s) (λ more. Ok (t ++ more)))
   texts-at xs k a s within is = ap (λ ys. arguments_text limits ys s) (drop-at xs k a within is)
 
-  pub texts-step : (xs : List Argument) (k : ℕ) (a : Argument) (s : Words) (first old new : List ℕ) → k < length xs → a ≡ get_or xs k a → behind old (argument_text limits a s) ≡ Ok new
+  pub texts-step : (xs : List Argument) (k : ℕ) (a : Argument) (s : Memory) (first old new : List ℕ) → k < length xs → a ≡ get_or xs k a → behind old (argument_text limits a s) ≡ Ok new
       → (behind old (arguments_text limits (drop k xs) s) ≡ behind first (arguments_text limits xs s)) × Grew first old
       → (behind new (arguments_text limits (drop (k + 1) xs) s) ≡ behind first (arguments_text limits xs s)) × Grew first new
   texts-step xs k a s first old new within is shown so_far = (
@@ -53,32 +53,32 @@ module _ (limits : Limits) where
     grew_more first old new so_far.1 (behind-grew old new (argument_text limits a s) shown),
   )
 
-  pub texts-halt : (xs : List Argument) (k : ℕ) (a : Argument) (s : Words) (first old new : List ℕ) (h : Halt) → k < length xs → a ≡ get_or xs k a → GrewBy (Err h) old new (argument_text limits a s)
+  pub texts-halt : (xs : List Argument) (k : ℕ) (a : Argument) (s : Memory) (first old new : List ℕ) (h : Halt) → k < length xs → a ≡ get_or xs k a → GrewBy (Err h) old new (argument_text limits a s)
       → (behind old (arguments_text limits (drop k xs) s) ≡ behind first (arguments_text limits xs s)) × Grew first old → GrewBy (Err h) first new (arguments_text limits xs s)
   texts-halt xs k a s first old new (FaultHalt f) within is shown so_far = (
     behind-fault first (arguments_text limits xs s) (fault_view f)
         (sym so_far.0 ∙ ap (behind old) (texts-at xs k a s within is ∙ ap (λ r. with_ok r (λ t. with_ok (arguments_text limits (drop (k + 1) xs) s) (λ more. Ok (t ++ more)))) shown.0)),
     grew_more first old new so_far.1 shown.1,
   )
-  texts-halt xs k a s first old new Memory within is shown so_far = tt
+  texts-halt xs k a s first old new OutOfMemory within is shown so_far = tt
 
   -- WRITES
-  written-value : (ends_line : Bool) (s : Words) (done : Deeds) (old new : List ℕ) (r : Result (List ℕ) Fault) → behind old r ≡ Ok new
+  written-value : (ends_line : Bool) (s : Memory) (done : Deeds) (old new : List ℕ) (r : Result (List ℕ) Fault) → behind old r ≡ Ok new
       → with_value r (λ text s done. Done s (with_text (text ++ line_end ends_line) done)) s (having_printed old done) ≡ Done s (having_printed (new ++ line_end ends_line) done)
   written-value ends_line s done old new (Ok t) e =
       let same : Ok (old ++ t) ≡ Ok new = e in let grown : old ++ t ≡ new = cc in
       ap (λ text. Done s (having_printed text done)) (sym (append_assoc old t (line_end ends_line)) ∙ ap (λ text. text ++ line_end ends_line) grown)
   written-value ends_line s done old new (Err f) e = absurd (let no : Err f ≡ Ok new = e in cc)
 
-  pub written-ends : (ends_line : Bool) (xs : List Argument) (s : Words) (done : Deeds) (old new : List ℕ) → behind old (arguments_text limits xs s) ≡ Ok new
-      → exec limits by_word (written_as ends_line xs) s (having_printed old done) ≡ Done s (having_printed (new ++ line_end ends_line) done)
+  pub written-ends : (ends_line : Bool) (xs : List Argument) (s : Memory) (done : Deeds) (old new : List ℕ) → behind old (arguments_text limits xs s) ≡ Ok new
+      → exec limits in_memory (written_as ends_line xs) s (having_printed old done) ≡ Done s (having_printed (new ++ line_end ends_line) done)
   written-ends ends_line xs s done old new e =
       exec-written limits ends_line xs s (having_printed old done) ∙ written-value ends_line s done old new (arguments_text limits xs s) e
 
-  pub written-halts : (ends_line : Bool) (xs : List Argument) (s : Words) (done : Deeds) (old new : List ℕ) (h : Halt) → GrewBy (Err h) old new (arguments_text limits xs s)
-      → RunEnds (Err h) s (having_printed (take (length old) new) done) (exec limits by_word (written_as ends_line xs) s (having_printed old done))
+  pub written-halts : (ends_line : Bool) (xs : List Argument) (s : Memory) (done : Deeds) (old new : List ℕ) (h : Halt) → GrewBy (Err h) old new (arguments_text limits xs s)
+      → RunEnds (Err h) s (having_printed (take (length old) new) done) (exec limits in_memory (written_as ends_line xs) s (having_printed old done))
   written-halts ends_line xs s done old new (FaultHalt f) e =
       exec-written limits ends_line xs s (having_printed old done)
       ∙ ap (λ r. with_value r (λ text s done. Done s (with_text (text ++ line_end ends_line) done)) s (having_printed old done)) e.0
       ∙ ap (λ text. Stop (fault_view f) (having_printed text done)) (sym (ap (take (length old)) e.1.1 ∙ take-append_seam old e.1.0))
-  written-halts ends_line xs s done old new Memory e = tt
+  written-halts ends_line xs s done old new OutOfMemory e = tt

@@ -19,69 +19,70 @@ use Rattle.dpl_language.specs.Loops.{within_budget, named_turn, scoped, turn_of}
 use Rattle.dpl_language.specs.Statements.{holds, exec, exec_all, exec_else}
 use Rattle.dpl_lowered.specs.Shapes.{nowhere}
 use Rattle.dpl_lowered.specs.LoweredStatements.{behind_comma, with_intents}
-use Rattle.dpl_words.specs.Words.{Leaf, IntLeaf, Words, with_value_at, by_word}
+use Rattle.dpl_words.specs.Words.{IntLeaf}
+use Rattle.dpl_memory.specs.Memory.{PlainKind, Variable, Memory, with_value_in, in_memory}
 use Rattle.dpl_nodes.specs.declared.step.Step.{Step}
 use Rattle.dpl_nodes.specs.Steps.{steps_of, listed, variable_in}
 use Rattle.dpl_steps.specs.declared.halt.Halt.{Halt}
-use Rattle.dpl_steps.specs.declared.halt.Halt.TheVariants.{Fault as FaultHalt, Memory}
+use Rattle.dpl_steps.specs.declared.halt.Halt.TheVariants.{Fault as FaultHalt, Memory as OutOfMemory}
 use Rattle.dpl_steps.specs.Runs.{RunEnds}
 use Rattle.dpl_steps.specs.Tells.{IsFault, NamesTurn}
-use Rattle.dpl_steps.specs.Turns.{in_turn, turn_by_word, named_by_word, within, looped_over}
+use Rattle.dpl_steps.specs.Turns.{in_turn, turn_in_memory, named_in_memory, within, looped_over}
 
 -- RUNS ONE AFTER ANOTHER
-then_do-done : (o : Outcome Words) → then_do o (λ s done. Done s done) ≡ o
+then_do-done : (o : Outcome Memory) → then_do o (λ s done. Done s done) ≡ o
 then_do-done (Done s done) = refl
 then_do-done (Stop f done) = refl
 then_do-done (Waits at c op done) = refl
 
-then_do-same : (o : Outcome Words) (f g : Run Words) → ((s : Words) (done : Deeds) → f s done ≡ g s done) → then_do o f ≡ then_do o g
+then_do-same : (o : Outcome Memory) (f g : Run Memory) → ((s : Memory) (done : Deeds) → f s done ≡ g s done) → then_do o f ≡ then_do o g
 then_do-same (Done s done) f g same = same s done
 then_do-same (Stop f done) g h same = refl
 then_do-same (Waits at c op done) f g same = refl
 
 -- a run that ended early ends what would follow it
-pub then_do-halts : (h : Halt) (s next : Words) (done : Deeds) (o : Outcome Words) (go : Run Words) → RunEnds (Err h) s done o → RunEnds (Err h) next done (then_do o go)
+pub then_do-halts : (h : Halt) (s next : Memory) (done : Deeds) (o : Outcome Memory) (go : Run Memory) → RunEnds (Err h) s done o → RunEnds (Err h) next done (then_do o go)
 then_do-halts (FaultHalt f) s next done o go e = ap (λ o. then_do o go) e
-then_do-halts Memory s next done o go e = tt
+then_do-halts OutOfMemory s next done o go e = tt
 
 -- how a run ended early is said of no words
-pub halts-alike : (h : Halt) (s next : Words) (done : Deeds) (o p : Outcome Words) → p ≡ o → RunEnds (Err h) s done o → RunEnds (Err h) next done p
+pub halts-alike : (h : Halt) (s next : Memory) (done : Deeds) (o p : Outcome Memory) → p ≡ o → RunEnds (Err h) s done o → RunEnds (Err h) next done p
 halts-alike (FaultHalt f) s next done o p e ends = e ∙ ends
-halts-alike Memory s next done o p e ends = tt
+halts-alike OutOfMemory s next done o p e ends = tt
 
-pub ends-alike : (r : Result (Unit {0}) Halt) (s : Words) (done : Deeds) (o p : Outcome Words) → p ≡ o → RunEnds r s done o → RunEnds r s done p
+pub ends-alike : (r : Result (Unit {0}) Halt) (s : Memory) (done : Deeds) (o p : Outcome Memory) → p ≡ o → RunEnds r s done o → RunEnds r s done p
 ends-alike (Ok v) s done o p e ends = e ∙ ends
 ends-alike (Err h) s done o p e ends = halts-alike h s s done o p e ends
 
 -- a scope does nothing of its own
-pub scoped-same : (body : Run Words) (s : Words) (done : Deeds) → scoped by_word body s done ≡ body s done
+pub scoped-same : (body : Run Memory) (s : Memory) (done : Deeds) → scoped in_memory body s done ≡ body s done
 scoped-same body s done = then_do-done (body s done)
 
 -- a fault that is told
-pub fault-ends : (f : Fault) (h : Halt) (s : Words) (done : Deeds) (o : Outcome Words) → IsFault f h → o ≡ Stop f done → RunEnds (Err h) s done o
+pub fault-ends : (f : Fault) (h : Halt) (s : Memory) (done : Deeds) (o : Outcome Memory) → IsFault f h → o ≡ Stop f done → RunEnds (Err h) s done o
 fault-ends f (FaultHalt g) s done o is e = e ∙ ap (λ f. Stop f done) (sym is)
-fault-ends f Memory s done o is e = absurd is
+fault-ends f OutOfMemory s done o is e = absurd is
 
 -- TURNS
-pub in_turn-done : (turn : ℤ → Run Words) (is : List ℤ) (k : ℕ) (i : ℤ) (s next : Words) (done after : Deeds) → slice_get is k ≡ Some i → turn i s done ≡ Done next after
+pub in_turn-done : (turn : ℤ → Run Memory) (is : List ℤ) (k : ℕ) (i : ℤ) (s next : Memory) (done after : Deeds) → slice_get is k ≡ Some i → turn i s done ≡ Done next after
     → in_turn turn (drop (k + 1) is) next after ≡ in_turn turn (drop k is) s done
 in_turn-done turn is k i s next done after at e =
     sym (ap (λ is. in_turn turn is s done) (drop-slice_get is k i at) ∙ ap (λ o. then_do o (in_turn turn (drop (k + 1) is))) e)
 
-pub in_turn-halts : (turn : ℤ → Run Words) (is : List ℤ) (k : ℕ) (i : ℤ) (h : Halt) (s next : Words) (done after : Deeds) → slice_get is k ≡ Some i → RunEnds (Err h) next after (turn i s done)
+pub in_turn-halts : (turn : ℤ → Run Memory) (is : List ℤ) (k : ℕ) (i : ℤ) (h : Halt) (s next : Memory) (done after : Deeds) → slice_get is k ≡ Some i → RunEnds (Err h) next after (turn i s done)
     → RunEnds (Err h) next after (in_turn turn (drop k is) s done)
 in_turn-halts turn is k i h s next done after at e =
     halts-alike h next next after (then_do (turn i s done) (in_turn turn (drop (k + 1) is))) (in_turn turn (drop k is) s done)
     (ap (λ is. in_turn turn is s done) (drop-slice_get is k i at)) (then_do-halts h next next after (turn i s done) (in_turn turn (drop (k + 1) is)) e)
 
 -- a fault in a named turn names it
-pub naming-halts : (i : ℤ) (h g : Halt) (s : Words) (done : Deeds) (o : Outcome Words) → NamesTurn i h g → RunEnds (Err h) s done o → RunEnds (Err g) s done (naming (i ∷ []) o)
+pub naming-halts : (i : ℤ) (h g : Halt) (s : Memory) (done : Deeds) (o : Outcome Memory) → NamesTurn i h g → RunEnds (Err h) s done o → RunEnds (Err g) s done (naming (i ∷ []) o)
 naming-halts i (FaultHalt f) (FaultHalt g) s done o names ends = ap (naming (i ∷ [])) ends ∙ ap (λ f. Stop f done) (sym names)
-naming-halts i (FaultHalt f) Memory s done o names ends = absurd names
-naming-halts i Memory (FaultHalt g) s done o names ends = absurd (let no : FaultHalt g ≡ Memory = names in cc)
-naming-halts i Memory Memory s done o names ends = tt
+naming-halts i (FaultHalt f) OutOfMemory s done o names ends = absurd names
+naming-halts i OutOfMemory (FaultHalt g) s done o names ends = absurd (let no : FaultHalt g ≡ OutOfMemory = names in cc)
+naming-halts i OutOfMemory OutOfMemory s done o names ends = tt
 
-in_order-turns : (T : Index → Run Words) (turn : ℤ → Run Words) (is : List ℤ) (s : Words) (done : Deeds) → ((i : ℤ) (s : Words) (done : Deeds) → T (i ∷ []) s done ≡ turn i s done)
+in_order-turns : (T : Index → Run Memory) (turn : ℤ → Run Memory) (is : List ℤ) (s : Memory) (done : Deeds) → ((i : ℤ) (s : Memory) (done : Deeds) → T (i ∷ []) s done ≡ turn i s done)
     → in_order T (flat_map (λ i. (i ∷ []) ∷ []) is) s done ≡ in_turn turn is s done
 in_order-turns T turn [] s done same = refl
 in_order-turns T turn (i ∷ is) s done same =
@@ -89,134 +90,134 @@ in_order-turns T turn (i ∷ is) s done same =
     ∙ then_do-same (turn i s done) (in_order T (flat_map (λ i. (i ∷ []) ∷ []) is)) (in_turn turn is) (λ s done. in_order-turns T turn is s done same)
 
 -- the reduce variables of a lowered loop
-reduce_intents-listed : (is : List (Leaf × Op)) → reduce_intents (map {A = AfterComma (IntentTree Leaf)} {B = IntentTree Leaf} (λ x. x.part) (map {A = Leaf × Op} {B = AfterComma (IntentTree Leaf)} behind_comma is)) ≡ is
+reduce_intents-listed : (is : List (Variable × Op)) → reduce_intents (map {A = AfterComma (IntentTree Variable)} {B = IntentTree Variable} (λ x. x.part) (map {A = Variable × Op} {B = AfterComma (IntentTree Variable)} behind_comma is)) ≡ is
 reduce_intents-listed [] = refl
 reduce_intents-listed (i ∷ is) = ap (λ rest. i ∷ rest) (reduce_intents-listed is)
 
-pub intents_of-with : (is : List (Leaf × Op)) → intents_of (with_intents is) ≡ is
+pub intents_of-with : (is : List (Variable × Op)) → intents_of (with_intents is) ≡ is
 intents_of-with [] = refl
 intents_of-with (i ∷ is) = ap (λ rest. i ∷ rest) (reduce_intents-listed is)
 
 module _ (limits : Limits) (slot : ℕ) (body : List Step) where
-  abbrev turn_over : TextRange → Index → Run Words
-  turn_over r = turn_of by_word (variable_in slot) (Range r) (exec_all limits by_word (steps_of body))
+  abbrev turn_over : TextRange → Index → Run Memory
+  turn_over r = turn_of in_memory (variable_in slot) (Range r) (exec_all limits in_memory (steps_of body))
 
-  turn-by_word : (r : TextRange) (i : ℤ) (s : Words) (done : Deeds) → turn_over r (i ∷ []) s done ≡ turn_by_word limits slot body i s done
-  turn-by_word r i s done =
-      scoped-same (λ s done. scoped by_word (exec_all limits by_word (steps_of body)) (with_value_at IntLeaf slot (Int i) s) done) s done
-      ∙ scoped-same (exec_all limits by_word (steps_of body)) (with_value_at IntLeaf slot (Int i) s) done
+  turn-in_memory : (r : TextRange) (i : ℤ) (s : Memory) (done : Deeds) → turn_over r (i ∷ []) s done ≡ turn_in_memory limits slot body i s done
+  turn-in_memory r i s done =
+      scoped-same (λ s done. scoped in_memory (exec_all limits in_memory (steps_of body)) (with_value_in (PlainKind IntLeaf) slot (Int i) s) done) s done
+      ∙ scoped-same (exec_all limits in_memory (steps_of body)) (with_value_in (PlainKind IntLeaf) slot (Int i) s) done
 
-  in_order-members : (r : TextRange) (s : Words) (done : Deeds) → in_order (turn_over r) (indices_in (r ∷ [])) s done ≡ in_turn (turn_by_word limits slot body) (members_of r.value) s done
+  in_order-members : (r : TextRange) (s : Memory) (done : Deeds) → in_order (turn_over r) (indices_in (r ∷ [])) s done ≡ in_turn (turn_in_memory limits slot body) (members_of r.value) s done
   unfolding indices
-  in_order-members r s done = in_order-turns (turn_over r) (turn_by_word limits slot body) (members_of r.value) s done (turn-by_word r)
+  in_order-members r s done = in_order-turns (turn_over r) (turn_in_memory limits slot body) (members_of r.value) s done (turn-in_memory r)
 
-  in_order-named : (r : TextRange) (s : Words) (done : Deeds) → in_order (named_turn (turn_over r)) (indices_in (r ∷ [])) s done ≡ in_turn (named_by_word limits slot body) (members_of r.value) s done
+  in_order-named : (r : TextRange) (s : Memory) (done : Deeds) → in_order (named_turn (turn_over r)) (indices_in (r ∷ [])) s done ≡ in_turn (named_in_memory limits slot body) (members_of r.value) s done
   unfolding indices
   in_order-named r s done =
-      in_order-turns (named_turn (turn_over r)) (named_by_word limits slot body) (members_of r.value) s done (λ i s done. ap (naming (i ∷ [])) (turn-by_word r i s done))
+      in_order-turns (named_turn (turn_over r)) (named_in_memory limits slot body) (members_of r.value) s done (λ i s done. ap (naming (i ∷ [])) (turn-in_memory r i s done))
 
   -- LOOPS, by what they run over
-  abbrev for_by : Value → Run Words
-  for_by v = in_order (turn_of by_word (variable_in slot) v (exec_all limits by_word (steps_of body))) (indices_in (loop_ranges limits.locales v))
+  abbrev for_by : Value → Run Memory
+  for_by v = in_order (turn_of in_memory (variable_in slot) v (exec_all limits in_memory (steps_of body))) (indices_in (loop_ranges limits.locales v))
 
-  for-tested : (at : Place) (v : Value) (s : Words) (done : Deeds) (past : Bool) → nat_lt limits.budget (size_in (loop_ranges limits.locales v)) ≡ past
-      → within_budget limits at (loop_ranges limits.locales v) (turn_of by_word (variable_in slot) v (exec_all limits by_word (steps_of body))) s done ≡ with_value (within limits at v) for_by s done
+  for-tested : (at : Place) (v : Value) (s : Memory) (done : Deeds) (past : Bool) → nat_lt limits.budget (size_in (loop_ranges limits.locales v)) ≡ past
+      → within_budget limits at (loop_ranges limits.locales v) (turn_of in_memory (variable_in slot) v (exec_all limits in_memory (steps_of body))) s done ≡ with_value (within limits at v) for_by s done
   for-tested at v s done true e = rw e refl
   for-tested at v s done false e = rw e refl
 
-  for-value : (at : Place) (s : Words) (done : Deeds) (r : Result Value Fault)
-      → with_value r (λ v. within_budget limits at (loop_ranges limits.locales v) (turn_of by_word (variable_in slot) v (exec_all limits by_word (steps_of body)))) s done
+  for-value : (at : Place) (s : Memory) (done : Deeds) (r : Result Value Fault)
+      → with_value r (λ v. within_budget limits at (loop_ranges limits.locales v) (turn_of in_memory (variable_in slot) v (exec_all limits in_memory (steps_of body)))) s done
       ≡ with_value (with_ok r (within limits at)) for_by s done
   for-value at s done (Ok v) = for-tested at v s done (nat_lt limits.budget (size_in (loop_ranges limits.locales v))) refl
   for-value at s done (Err f) = refl
 
-  pub exec-for : (at : Place) (item : ItemTree Leaf) (s : Words) (done : Deeds)
-      → exec limits by_word (For at (variable_in slot) nowhere item (listed (steps_of body))) s done ≡ with_value (looped_over limits at item s) for_by s done
-  exec-for at item s done = for-value at s done (item_of limits by_word item None s)
+  pub exec-for : (at : Place) (item : ItemTree Variable) (s : Memory) (done : Deeds)
+      → exec limits in_memory (For at (variable_in slot) nowhere item (listed (steps_of body))) s done ≡ with_value (looped_over limits at item s) for_by s done
+  exec-for at item s done = for-value at s done (item_of limits in_memory item None s)
 
-  pub for-fault : (at : Place) (item : ItemTree Leaf) (s : Words) (done : Deeds) (f : Fault) → looped_over limits at item s ≡ Err f
-      → exec limits by_word (For at (variable_in slot) nowhere item (listed (steps_of body))) s done ≡ Stop f done
+  pub for-fault : (at : Place) (item : ItemTree Variable) (s : Memory) (done : Deeds) (f : Fault) → looped_over limits at item s ≡ Err f
+      → exec limits in_memory (For at (variable_in slot) nowhere item (listed (steps_of body))) s done ≡ Stop f done
   for-fault at item s done f e = exec-for at item s done ∙ ap (λ r. with_value r for_by s done) e
 
-  pub for-turns : (at : Place) (item : ItemTree Leaf) (s : Words) (done : Deeds) (r : TextRange) → looped_over limits at item s ≡ Ok (Range r)
-      → exec limits by_word (For at (variable_in slot) nowhere item (listed (steps_of body))) s done ≡ in_turn (turn_by_word limits slot body) (members_of r.value) s done
+  pub for-turns : (at : Place) (item : ItemTree Variable) (s : Memory) (done : Deeds) (r : TextRange) → looped_over limits at item s ≡ Ok (Range r)
+      → exec limits in_memory (For at (variable_in slot) nowhere item (listed (steps_of body))) s done ≡ in_turn (turn_in_memory limits slot body) (members_of r.value) s done
   for-turns at item s done r e = exec-for at item s done ∙ ap (λ r. with_value r for_by s done) e ∙ in_order-members r s done
 
   -- FORALLS
-  module _ (is : List (Leaf × Op)) where
-    abbrev forall_by : List (Leaf × Op) → Value → Run Words
+  module _ (is : List (Variable × Op)) where
+    abbrev forall_by : List (Variable × Op) → Value → Run Memory
     forall_by intents v s done =
-        then_do (in_order (named_turn (turn_of by_word (variable_in slot) v (exec_all limits by_word (steps_of body)))) (indices_in (loop_ranges limits.locales v)) (by_word.intend intents s) done)
-        (λ s done. Done (by_word.intend [] s) done)
+        then_do (in_order (named_turn (turn_of in_memory (variable_in slot) v (exec_all limits in_memory (steps_of body)))) (indices_in (loop_ranges limits.locales v)) (in_memory.intend intents s) done)
+        (λ s done. Done (in_memory.intend [] s) done)
 
-    abbrev tested_forall : Place → List (Leaf × Op) → Value → Run Words
+    abbrev tested_forall : Place → List (Variable × Op) → Value → Run Memory
     tested_forall at intents v s done =
-        then_do (within_budget limits at (loop_ranges limits.locales v) (named_turn (turn_of by_word (variable_in slot) v (exec_all limits by_word (steps_of body)))) (by_word.intend intents s) done)
-        (λ s done. Done (by_word.intend [] s) done)
+        then_do (within_budget limits at (loop_ranges limits.locales v) (named_turn (turn_of in_memory (variable_in slot) v (exec_all limits in_memory (steps_of body)))) (in_memory.intend intents s) done)
+        (λ s done. Done (in_memory.intend [] s) done)
 
-    forall-tested : (at : Place) (v : Value) (s : Words) (done : Deeds) (past : Bool) → nat_lt limits.budget (size_in (loop_ranges limits.locales v)) ≡ past
+    forall-tested : (at : Place) (v : Value) (s : Memory) (done : Deeds) (past : Bool) → nat_lt limits.budget (size_in (loop_ranges limits.locales v)) ≡ past
         → tested_forall at is v s done ≡ with_value (within limits at v) (forall_by is) s done
     forall-tested at v s done true e = rw e refl
     forall-tested at v s done false e = rw e refl
 
-    forall-value : (at : Place) (s : Words) (done : Deeds) (r : Result Value Fault) → with_value r (tested_forall at is) s done ≡ with_value (with_ok r (within limits at)) (forall_by is) s done
+    forall-value : (at : Place) (s : Memory) (done : Deeds) (r : Result Value Fault) → with_value r (tested_forall at is) s done ≡ with_value (with_ok r (within limits at)) (forall_by is) s done
     forall-value at s done (Ok v) = forall-tested at v s done (nat_lt limits.budget (size_in (loop_ranges limits.locales v))) refl
     forall-value at s done (Err f) = refl
 
-    exec-forall : (at : Place) (item : ItemTree Leaf) (s : Words) (done : Deeds)
-        → exec limits by_word (Forall at (variable_in slot) nowhere item (with_intents is) (listed (steps_of body))) s done ≡ with_value (looped_over limits at item s) (forall_by is) s done
+    exec-forall : (at : Place) (item : ItemTree Variable) (s : Memory) (done : Deeds)
+        → exec limits in_memory (Forall at (variable_in slot) nowhere item (with_intents is) (listed (steps_of body))) s done ≡ with_value (looped_over limits at item s) (forall_by is) s done
     exec-forall at item s done =
-        ap (λ intents. with_value (item_of limits by_word item None s) (tested_forall at intents) s done) (intents_of-with is)
-        ∙ forall-value at s done (item_of limits by_word item None s)
+        ap (λ intents. with_value (item_of limits in_memory item None s) (tested_forall at intents) s done) (intents_of-with is)
+        ∙ forall-value at s done (item_of limits in_memory item None s)
 
-    pub forall-fault : (at : Place) (item : ItemTree Leaf) (s : Words) (done : Deeds) (f : Fault) → looped_over limits at item s ≡ Err f
-        → exec limits by_word (Forall at (variable_in slot) nowhere item (with_intents is) (listed (steps_of body))) s done ≡ Stop f done
+    pub forall-fault : (at : Place) (item : ItemTree Variable) (s : Memory) (done : Deeds) (f : Fault) → looped_over limits at item s ≡ Err f
+        → exec limits in_memory (Forall at (variable_in slot) nowhere item (with_intents is) (listed (steps_of body))) s done ≡ Stop f done
     forall-fault at item s done f e = exec-forall at item s done ∙ ap (λ r. with_value r (forall_by is) s done) e
 
-    pub forall-turns : (at : Place) (item : ItemTree Leaf) (s : Words) (done : Deeds) (r : TextRange) → looped_over limits at item s ≡ Ok (Range r)
-        → exec limits by_word (Forall at (variable_in slot) nowhere item (with_intents is) (listed (steps_of body))) s done
-        ≡ then_do (in_turn (named_by_word limits slot body) (members_of r.value) (by_word.intend is s) done) (λ s done. Done (by_word.intend [] s) done)
+    pub forall-turns : (at : Place) (item : ItemTree Variable) (s : Memory) (done : Deeds) (r : TextRange) → looped_over limits at item s ≡ Ok (Range r)
+        → exec limits in_memory (Forall at (variable_in slot) nowhere item (with_intents is) (listed (steps_of body))) s done
+        ≡ then_do (in_turn (named_in_memory limits slot body) (members_of r.value) (in_memory.intend is s) done) (λ s done. Done (in_memory.intend [] s) done)
     forall-turns at item s done r e =
         exec-forall at item s done ∙ ap (λ r. with_value r (forall_by is) s done) e
-        ∙ ap (λ o. then_do o (λ s done. Done (by_word.intend [] s) done)) (in_order-named r (by_word.intend is s) done)
+        ∙ ap (λ o. then_do o (λ s done. Done (in_memory.intend [] s) done)) (in_order-named r (in_memory.intend is s) done)
 
 -- WHILES, by the turns that are left
-module _ (at : Place) (test : Words → Result Bool Fault) (body : Run Words) where
-  pub repeated-fault : (n : ℕ) (s : Words) (done : Deeds) (f : Fault) → test s ≡ Err f → repeated n at test body s done ≡ Stop f done
+module _ (at : Place) (test : Memory → Result Bool Fault) (body : Run Memory) where
+  pub repeated-fault : (n : ℕ) (s : Memory) (done : Deeds) (f : Fault) → test s ≡ Err f → repeated n at test body s done ≡ Stop f done
   repeated-fault zero s done f e = rw e refl
   repeated-fault (suc n) s done f e = rw e refl
 
-  pub repeated-ends : (n : ℕ) (s : Words) (done : Deeds) → test s ≡ Ok false → repeated n at test body s done ≡ Done s done
+  pub repeated-ends : (n : ℕ) (s : Memory) (done : Deeds) → test s ≡ Ok false → repeated n at test body s done ≡ Done s done
   repeated-ends zero s done e = rw e refl
   repeated-ends (suc n) s done e = rw e refl
 
-  pub repeated-past : (s : Words) (done : Deeds) → test s ≡ Ok true → repeated zero at test body s done ≡ Stop (fault Budget at) done
+  pub repeated-past : (s : Memory) (done : Deeds) → test s ≡ Ok true → repeated zero at test body s done ≡ Stop (fault Budget at) done
   repeated-past s done e = rw e refl
 
-  pub repeated-turn : (n : ℕ) (s : Words) (done : Deeds) → test s ≡ Ok true → repeated (suc n) at test body s done ≡ then_do (body s done) (repeated n at test body)
+  pub repeated-turn : (n : ℕ) (s : Memory) (done : Deeds) → test s ≡ Ok true → repeated (suc n) at test body s done ≡ then_do (body s done) (repeated n at test body)
   repeated-turn n s done e = rw e refl
 
   -- with a turn left
-  pub repeated-step : (n : ℕ) (s : Words) (done : Deeds) → 0 < n → test s ≡ Ok true → repeated n at test body s done ≡ then_do (body s done) (repeated (n - 1) at test body)
+  pub repeated-step : (n : ℕ) (s : Memory) (done : Deeds) → 0 < n → test s ≡ Ok true → repeated n at test body s done ≡ then_do (body s done) (repeated (n - 1) at test body)
   repeated-step zero s done some e = absurd (omega (arith, some))
   repeated-step (suc n) s done some e =
       let left : n ≡ suc n - 1 = omega arith in repeated-turn n s done e ∙ ap (λ m. then_do (body s done) (repeated m at test body)) left
 
 -- CONDITIONS
 module _ (limits : Limits) where
-  pub holds-value : (e : ExprTree Leaf) (s : Words) (b : Bool) → value_of limits by_word e None s ≡ Ok (Truth b) → holds limits by_word e s ≡ Ok b
+  pub holds-value : (e : ExprTree Variable) (s : Memory) (b : Bool) → value_of limits in_memory e None s ≡ Ok (Truth b) → holds limits in_memory e s ≡ Ok b
   holds-value e s b value = ap (λ r. with_ok r (λ v. Ok (truth v))) value
 
-  pub holds-fault : (e : ExprTree Leaf) (s : Words) (f : Fault) → value_of limits by_word e None s ≡ Err f → holds limits by_word e s ≡ Err f
+  pub holds-fault : (e : ExprTree Variable) (s : Memory) (f : Fault) → value_of limits in_memory e None s ≡ Err f → holds limits in_memory e s ≡ Err f
   holds-fault e s f value = ap (λ r. with_ok r (λ v. Ok (truth v))) value
 
-  pub if-then : (e : ExprTree Leaf) (body : List Step) (other : Else Leaf) (s : Words) (done : Deeds) → value_of limits by_word e None s ≡ Ok (Truth true)
-      → exec limits by_word (If nowhere e (listed (steps_of body)) other) s done ≡ exec_all limits by_word (steps_of body) s done
+  pub if-then : (e : ExprTree Variable) (body : List Step) (other : Else Variable) (s : Memory) (done : Deeds) → value_of limits in_memory e None s ≡ Ok (Truth true)
+      → exec limits in_memory (If nowhere e (listed (steps_of body)) other) s done ≡ exec_all limits in_memory (steps_of body) s done
   if-then e body other s done value =
-      ap (λ r. with_value r (λ b. choose b (scoped by_word (exec_all limits by_word (steps_of body))) (exec_else limits by_word other)) s done) (holds-value e s true value)
-      ∙ scoped-same (exec_all limits by_word (steps_of body)) s done
+      ap (λ r. with_value r (λ b. choose b (scoped in_memory (exec_all limits in_memory (steps_of body))) (exec_else limits in_memory other)) s done) (holds-value e s true value)
+      ∙ scoped-same (exec_all limits in_memory (steps_of body)) s done
 
-  pub exec-while : (at : Place) (e : ExprTree Leaf) (body : List Step) (s : Words) (done : Deeds)
-      → exec limits by_word (While at e (listed (steps_of body))) s done ≡ repeated limits.budget at (holds limits by_word e) (exec_all limits by_word (steps_of body)) s done
+  pub exec-while : (at : Place) (e : ExprTree Variable) (body : List Step) (s : Memory) (done : Deeds)
+      → exec limits in_memory (While at e (listed (steps_of body))) s done ≡ repeated limits.budget at (holds limits in_memory e) (exec_all limits in_memory (steps_of body)) s done
   exec-while at e body s done =
-      ap (λ run. repeated limits.budget at (holds limits by_word e) run s done) (fun_ext (λ s. fun_ext (λ done. scoped-same (exec_all limits by_word (steps_of body)) s done)))
+      ap (λ run. repeated limits.budget at (holds limits in_memory e) run s done) (fun_ext (λ s. fun_ext (λ done. scoped-same (exec_all limits in_memory (steps_of body)) s done)))

@@ -6,12 +6,12 @@ use Rattle.dpl_language.specs.Values.{Int, Truth}
 use Rattle.dpl_language.specs.Printing.{printed}
 use Rattle.dpl_language.specs.Environment.{Limits}
 use Rattle.dpl_language.specs.Writing.{shown}
-use Rattle.dpl_words.specs.Words.{Leaf, Words, by_word}
+use Rattle.dpl_memory.specs.Memory.{Variable, Memory, in_memory}
 
-pub shown_int : (limits : Limits) (b : Option (Placed Leaf)) (n : ℤ) (s : Words) → shown limits by_word b (Int n) s ≡ printed (Int n)
+pub shown_int : (limits : Limits) (b : Option (Placed Variable)) (n : ℤ) (s : Memory) → shown limits in_memory b (Int n) s ≡ printed (Int n)
 shown_int limits None n s = refl
 shown_int limits (Some x) n s = refl
 
-pub shown_truth : (limits : Limits) (b : Option (Placed Leaf)) (v : Bool) (s : Words) → shown limits by_word b (Truth v) s ≡ printed (Truth v)
+pub shown_truth : (limits : Limits) (b : Option (Placed Variable)) (v : Bool) (s : Memory) → shown limits in_memory b (Truth v) s ≡ printed (Truth v)
 shown_truth limits None v s = refl
 shown_truth limits (Some x) v s = refl

@@ -10,15 +10,15 @@ use Rattle.dpl_language.specs.Values.{Value, Range, Fault, fault, Budget}
 use Rattle.dpl_language.specs.Outcome.{with_ok}
 use Rattle.dpl_language.specs.Environment.{Limits}
 use Rattle.dpl_language.specs.Expressions.{item_of}
-use Rattle.dpl_words.specs.Words.{Leaf, Words, by_word}
+use Rattle.dpl_memory.specs.Memory.{Variable, Memory, in_memory}
 use Rattle.dpl_values.proofs.Ranges.{size_in-one}
 use Rattle.dpl_steps.specs.Turns.{within, looped_over}
 
-module _ (limits : Limits) (at : Place) (item : ItemTree Leaf) (s : Words) (r : TextRange) where
+module _ (limits : Limits) (at : Place) (item : ItemTree Variable) (s : Memory) (r : TextRange) where
   abbrev tested : ℕ → Result Value Fault
   tested size = if nat_lt limits.budget size then Err (fault Budget at) else Ok (Range r)
 
-  pub looped_over-tested : (past : Bool) → item_of limits by_word item None s ≡ Ok (Range r) → IsRange r.value → nat_lt limits.budget (length (members_of r.value)) ≡ past
+  pub looped_over-tested : (past : Bool) → item_of limits in_memory item None s ≡ Ok (Range r) → IsRange r.value → nat_lt limits.budget (length (members_of r.value)) ≡ past
       → looped_over limits at item s ≡ (if past then Err (fault Budget at) else Ok (Range r))
   looped_over-tested past e is test =
       ap (λ v. with_ok v (within limits at)) e ∙ ap tested (size_in-one r is) ∙ ap (λ b. if b then Err (fault Budget at) else Ok (Range r)) test

@@ -8,7 +8,7 @@ use Rattle.dpl_language.specs.Environment.{Limits}
 use Rattle.dpl_language.specs.Statements.{exec, exec_all}
 use Rattle.dpl_lowered.specs.Shapes.{nowhere}
 use Rattle.dpl_lowered.specs.LoweredStatements.{with_intents}
-use Rattle.dpl_words.specs.Words.{Words, by_word}
+use Rattle.dpl_memory.specs.Memory.{Memory, in_memory}
 use Rattle.dpl_syntax.specs.declared.place.Place.{Place}
 use Rattle.dpl_nodes.specs.declared.tree.BoolExpr.{BoolExpr}
 use Rattle.dpl_nodes.specs.declared.tree.RangeExpr.{RangeExpr}
@@ -41,17 +41,17 @@ forall_view at slot over intents body =
 
 -- STATEMENTS ONE AFTER ANOTHER
 module _ (limits : Limits) where
-  steps-at : (ts : List Step) (k : ℕ) (t : Step) (s : Words) (done : Deeds) → k < length ts → t ≡ get_or ts k t
-      → exec_all limits by_word (steps_of (drop k ts)) s done ≡ then_do (exec limits by_word (step_view t) s done) (exec_all limits by_word (steps_of (drop (k + 1) ts)))
-  steps-at ts k t s done within is = ap (λ ts. exec_all limits by_word (steps_of ts) s done) (drop-at ts k t within is)
+  steps-at : (ts : List Step) (k : ℕ) (t : Step) (s : Memory) (done : Deeds) → k < length ts → t ≡ get_or ts k t
+      → exec_all limits in_memory (steps_of (drop k ts)) s done ≡ then_do (exec limits in_memory (step_view t) s done) (exec_all limits in_memory (steps_of (drop (k + 1) ts)))
+  steps-at ts k t s done within is = ap (λ ts. exec_all limits in_memory (steps_of ts) s done) (drop-at ts k t within is)
 
-  pub steps-done : (ts : List Step) (k : ℕ) (t : Step) (s next : Words) (done after : Deeds) → k < length ts → t ≡ get_or ts k t → exec limits by_word (step_view t) s done ≡ Done next after
-      → exec_all limits by_word (steps_of (drop (k + 1) ts)) next after ≡ exec_all limits by_word (steps_of (drop k ts)) s done
+  pub steps-done : (ts : List Step) (k : ℕ) (t : Step) (s next : Memory) (done after : Deeds) → k < length ts → t ≡ get_or ts k t → exec limits in_memory (step_view t) s done ≡ Done next after
+      → exec_all limits in_memory (steps_of (drop (k + 1) ts)) next after ≡ exec_all limits in_memory (steps_of (drop k ts)) s done
   steps-done ts k t s next done after within is e =
-      sym (steps-at ts k t s done within is ∙ ap (λ o. then_do o (exec_all limits by_word (steps_of (drop (k + 1) ts)))) e)
+      sym (steps-at ts k t s done within is ∙ ap (λ o. then_do o (exec_all limits in_memory (steps_of (drop (k + 1) ts)))) e)
 
-  pub steps-halt : (ts : List Step) (k : ℕ) (t : Step) (h : Halt) (s next : Words) (done after : Deeds) → k < length ts → t ≡ get_or ts k t → RunEnds (Err h) next after (exec limits by_word (step_view t) s done)
-      → RunEnds (Err h) next after (exec_all limits by_word (steps_of (drop k ts)) s done)
+  pub steps-halt : (ts : List Step) (k : ℕ) (t : Step) (h : Halt) (s next : Memory) (done after : Deeds) → k < length ts → t ≡ get_or ts k t → RunEnds (Err h) next after (exec limits in_memory (step_view t) s done)
+      → RunEnds (Err h) next after (exec_all limits in_memory (steps_of (drop k ts)) s done)
   steps-halt ts k t h s next done after within is e =
-      halts-alike h next next after (then_do (exec limits by_word (step_view t) s done) (exec_all limits by_word (steps_of (drop (k + 1) ts)))) (exec_all limits by_word (steps_of (drop k ts)) s done)
-      (steps-at ts k t s done within is) (then_do-halts h next next after (exec limits by_word (step_view t) s done) (exec_all limits by_word (steps_of (drop (k + 1) ts))) e)
+      halts-alike h next next after (then_do (exec limits in_memory (step_view t) s done) (exec_all limits in_memory (steps_of (drop (k + 1) ts)))) (exec_all limits in_memory (steps_of (drop k ts)) s done)
+      (steps-at ts k t s done within is) (then_do-halts h next next after (exec limits in_memory (step_view t) s done) (exec_all limits in_memory (steps_of (drop (k + 1) ts))) e)

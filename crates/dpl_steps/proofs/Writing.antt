@@ -10,7 +10,7 @@ use Rattle.dpl_language.specs.Phrases.{bare_name, cell_read}
 use Rattle.dpl_language.specs.Expressions.{value_of}
 use Rattle.dpl_language.specs.Writing.{line_end, shown, arguments_of, arguments_then}
 use Rattle.dpl_language.specs.Statements.{exec}
-use Rattle.dpl_words.specs.Words.{Leaf, Words, by_word}
+use Rattle.dpl_memory.specs.Memory.{Variable, Memory, in_memory}
 use Rattle.dpl_nodes.specs.declared.step.Argument.{Argument}
 use Rattle.dpl_nodes.specs.declared.step.Argument.TheVariants.{Text, Int, Truth}
 use Rattle.dpl_nodes.specs.Typed.{int_view, truth_view}
@@ -24,7 +24,7 @@ pub behind-append : (text more : List ℕ) (r : Result (List ℕ) Fault) → beh
 behind-append text more (Ok rest) = ap Ok (append_assoc text more rest)
 behind-append text more (Err f) = refl
 
-parts-map : (xs : List Argument) → map {A = AfterComma (ArgumentTree Leaf)} {B = ArgumentTree Leaf} (λ x. x.part) (map next_argument_view xs) ≡ map argument_view xs
+parts-map : (xs : List Argument) → map {A = AfterComma (ArgumentTree Variable)} {B = ArgumentTree Variable} (λ x. x.part) (map next_argument_view xs) ≡ map argument_view xs
 parts-map [] = refl
 parts-map (a ∷ xs) = ap (λ rest. argument_view a ∷ rest) (parts-map xs)
 
@@ -35,22 +35,22 @@ arguments-listed (a ∷ xs) = ap (λ rest. argument_view a ∷ rest) (parts-map 
 module _ (limits : Limits) where
   -- the texts of the other arguments, behind whatever text
   abbrev AreTexts : List Argument → Type 0
-  AreTexts xs = (text : List ℕ) (go : List ℕ → Run Words) (s : Words) (done : Deeds)
-      → arguments_then limits by_word (map argument_view xs) text go s done ≡ with_value (behind text (arguments_text limits xs s)) go s done
+  AreTexts xs = (text : List ℕ) (go : List ℕ → Run Memory) (s : Memory) (done : Deeds)
+      → arguments_then limits in_memory (map argument_view xs) text go s done ≡ with_value (behind text (arguments_text limits xs s)) go s done
 
-  value-text : (e : ExprTree Leaf) (xs : List Argument) (text : List ℕ) (go : List ℕ → Run Words) (s : Words) (done : Deeds) (r : Result Value Fault) → AreTexts xs
-      → with_value r (λ v s done. arguments_then limits by_word (map argument_view xs) (text ++ shown limits by_word (bare_name e) v s) go s done) s done
-      ≡ with_value (behind text (with_ok (with_ok r (λ v. Ok (shown limits by_word (bare_name e) v s))) (λ t. with_ok (arguments_text limits xs s) (λ more. Ok (t ++ more))))) go s done
+  value-text : (e : ExprTree Variable) (xs : List Argument) (text : List ℕ) (go : List ℕ → Run Memory) (s : Memory) (done : Deeds) (r : Result Value Fault) → AreTexts xs
+      → with_value r (λ v s done. arguments_then limits in_memory (map argument_view xs) (text ++ shown limits in_memory (bare_name e) v s) go s done) s done
+      ≡ with_value (behind text (with_ok (with_ok r (λ v. Ok (shown limits in_memory (bare_name e) v s))) (λ t. with_ok (arguments_text limits xs s) (λ more. Ok (t ++ more))))) go s done
   value-text e xs text go s done (Ok v) others =
-      others (text ++ shown limits by_word (bare_name e) v s) go s done ∙ ap (λ r. with_value r go s done) (behind-append text (shown limits by_word (bare_name e) v s) (arguments_text limits xs s))
+      others (text ++ shown limits in_memory (bare_name e) v s) go s done ∙ ap (λ r. with_value r go s done) (behind-append text (shown limits in_memory (bare_name e) v s) (arguments_text limits xs s))
   value-text e xs text go s done (Err f) others = refl
 
-  argument-text : (e : ExprTree Leaf) (xs : List Argument) (text : List ℕ) (go : List ℕ → Run Words) (s : Words) (done : Deeds) → cell_read e ≡ None → AreTexts xs
-      → arguments_then limits by_word (ExprArgument e ∷ map argument_view xs) text go s done
-      ≡ with_value (behind text (with_ok (with_ok (value_of limits by_word e None s) (λ v. Ok (shown limits by_word (bare_name e) v s))) (λ t. with_ok (arguments_text limits xs s) (λ more. Ok (t ++ more))))) go s done
+  argument-text : (e : ExprTree Variable) (xs : List Argument) (text : List ℕ) (go : List ℕ → Run Memory) (s : Memory) (done : Deeds) → cell_read e ≡ None → AreTexts xs
+      → arguments_then limits in_memory (ExprArgument e ∷ map argument_view xs) text go s done
+      ≡ with_value (behind text (with_ok (with_ok (value_of limits in_memory e None s) (λ v. Ok (shown limits in_memory (bare_name e) v s))) (λ t. with_ok (arguments_text limits xs s) (λ more. Ok (t ++ more))))) go s done
   argument-text e xs text go s done read others =
-      evaluated-item limits (One e) (λ v s done. arguments_then limits by_word (map argument_view xs) (text ++ shown limits by_word (bare_name e) v s) go s done) s done read
-      ∙ value-text e xs text go s done (value_of limits by_word e None s) others
+      evaluated-item limits (One e) (λ v s done. arguments_then limits in_memory (map argument_view xs) (text ++ shown limits in_memory (bare_name e) v s) go s done) s done read
+      ∙ value-text e xs text go s done (value_of limits in_memory e None s) others
 
   arguments-text : (xs : List Argument) → AreTexts xs
   arguments-text [] text go s done = ap (λ t. go t s done) (sym (append-nil text))
@@ -63,9 +63,9 @@ module _ (limits : Limits) where
   behind-nothing (Ok t) = refl
   behind-nothing (Err f) = refl
 
-  pub exec-written : (ends_line : Bool) (xs : List Argument) (s : Words) (done : Deeds)
-      → exec limits by_word (written_as ends_line xs) s done ≡ with_value (arguments_text limits xs s) (λ text s done. Done s (with_text (text ++ line_end ends_line) done)) s done
+  pub exec-written : (ends_line : Bool) (xs : List Argument) (s : Memory) (done : Deeds)
+      → exec limits in_memory (written_as ends_line xs) s done ≡ with_value (arguments_text limits xs s) (λ text s done. Done s (with_text (text ++ line_end ends_line) done)) s done
   exec-written ends_line xs s done =
-      ap (λ ys. arguments_then limits by_word ys [] (λ text s done. Done s (with_text (text ++ line_end ends_line) done)) s done) (arguments-listed xs)
+      ap (λ ys. arguments_then limits in_memory ys [] (λ text s done. Done s (with_text (text ++ line_end ends_line) done)) s done) (arguments-listed xs)
       ∙ arguments-text xs [] (λ text s done. Done s (with_text (text ++ line_end ends_line) done)) s done
       ∙ ap (λ r. with_value r (λ text s done. Done s (with_text (text ++ line_end ends_line) done)) s done) (behind-nothing (arguments_text limits xs s))

@@ -4,11 +4,11 @@ use Rattle.std.specs.Prelude.{◌≡◌, ℤ, [], ◌∷◌, Result, Ok, Err}
 use Rattle.dpl_language.specs.Values.{Fault, InTurn, in_the_turn}
 use Rattle.dpl_nodes.specs.Faults.{fault_view}
 use Rattle.dpl_steps.specs.declared.halt.Halt.{Halt}
-use Rattle.dpl_steps.specs.declared.halt.Halt.TheVariants.{Fault as FaultHalt, Memory}
+use Rattle.dpl_steps.specs.declared.halt.Halt.TheVariants.{Fault as FaultHalt, Memory as OutOfMemory}
 
 abbrev pub IsFault : Fault → Halt → Type 0
 IsFault f (FaultHalt g) = fault_view g ≡ f
-IsFault f Memory = ⊥
+IsFault f OutOfMemory = ⊥
 
 -- both have ended well, or by the same fault
 abbrev pub TellsSame : Result (Unit {0}) Fault → Result (Unit {0}) Halt → Type 0
@@ -20,4 +20,4 @@ TellsSame (Err f) (Err h) = IsFault f h
 -- the second is the first in the turn of an index
 abbrev pub NamesTurn : ℤ → Halt → Halt → Type 0
 NamesTurn i (FaultHalt f) h = IsFault (in_the_turn (InTurn (i ∷ [])) (fault_view f)) h
-NamesTurn i Memory h = h ≡ Memory
+NamesTurn i OutOfMemory h = h ≡ OutOfMemory

@@ -7,22 +7,22 @@ use Rattle.dpl_language.specs.Environment.{Limits}
 use Rattle.dpl_language.specs.Phrases.{bare_name}
 use Rattle.dpl_language.specs.Expressions.{value_of}
 use Rattle.dpl_language.specs.Writing.{shown}
-use Rattle.dpl_words.specs.Words.{Words, by_word}
+use Rattle.dpl_memory.specs.Memory.{Memory, in_memory}
 use Rattle.dpl_nodes.specs.declared.step.Argument.{Argument}
 use Rattle.dpl_nodes.specs.declared.step.Argument.TheVariants.{Text, Int, Truth}
 use Rattle.dpl_nodes.specs.Typed.{int_view, truth_view}
 use Rattle.dpl_nodes.specs.Faults.{fault_view}
 use Rattle.dpl_steps.specs.declared.halt.Halt.{Halt}
-use Rattle.dpl_steps.specs.declared.halt.Halt.TheVariants.{Fault as FaultHalt, Memory}
+use Rattle.dpl_steps.specs.declared.halt.Halt.TheVariants.{Fault as FaultHalt, Memory as OutOfMemory}
 
 module _ (limits : Limits) where
-  abbrev pub argument_text : Argument → Words → Result (List ℕ) Fault
+  abbrev pub argument_text : Argument → Memory → Result (List ℕ) Fault
   argument_text (Text bytes) s = Ok bytes.now
-  argument_text (Int e) s = with_ok (value_of limits by_word (int_view e.now) None s) (λ v. Ok (shown limits by_word (bare_name (int_view e.now)) v s))
-  argument_text (Truth e) s = with_ok (value_of limits by_word (truth_view e.now) None s) (λ v. Ok (shown limits by_word (bare_name (truth_view e.now)) v s))
+  argument_text (Int e) s = with_ok (value_of limits in_memory (int_view e.now) None s) (λ v. Ok (shown limits in_memory (bare_name (int_view e.now)) v s))
+  argument_text (Truth e) s = with_ok (value_of limits in_memory (truth_view e.now) None s) (λ v. Ok (shown limits in_memory (bare_name (truth_view e.now)) v s))
 
   -- one after another
-  abbrev pub arguments_text : List Argument → Words → Result (List ℕ) Fault
+  abbrev pub arguments_text : List Argument → Memory → Result (List ℕ) Fault
   arguments_text [] s = Ok []
   arguments_text (a ∷ rest) s =
       with_ok (argument_text a s) (λ text. with_ok (arguments_text rest s) (λ more. Ok (text ++ more)))
@@ -39,4 +39,4 @@ Grew old new = (more : List ℕ) × (new ≡ old ++ more)
 abbrev pub GrewBy : Result (Unit {0}) Halt → List ℕ → List ℕ → Result (List ℕ) Fault → Type 0
 GrewBy (Ok v) old new more = behind old more ≡ Ok new
 GrewBy (Err (FaultHalt f)) old new more = (more ≡ Err (fault_view f)) × Grew old new
-GrewBy (Err Memory) old new more = Unit {0}
+GrewBy (Err OutOfMemory) old new more = Unit {0}

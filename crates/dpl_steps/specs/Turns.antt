@@ -11,35 +11,36 @@ use Rattle.dpl_language.specs.Expressions.{item_of}
 use Rattle.dpl_language.specs.Statements.{exec_all}
 use Rattle.dpl_lowered.specs.Shapes.{nowhere}
 use Rattle.dpl_lowered.specs.LoweredStatements.{with_intents}
-use Rattle.dpl_words.specs.Words.{Leaf, IntLeaf, Words, with_value_at, by_word}
+use Rattle.dpl_words.specs.Words.{IntLeaf}
+use Rattle.dpl_memory.specs.Memory.{PlainKind, Variable, Memory, with_value_in, in_memory}
 use Rattle.dpl_nodes.specs.declared.step.Intent.{Intent}
 use Rattle.dpl_nodes.specs.declared.step.Step.{Step}
 use Rattle.dpl_nodes.specs.Steps.{listed, variable_in, intent_view, steps_of}
 
 -- the turns of some indices, in order
-abbrev pub in_turn : (ℤ → Run Words) → List ℤ → Run Words
+abbrev pub in_turn : (ℤ → Run Memory) → List ℤ → Run Memory
 in_turn turn [] s done = Done s done
 in_turn turn (i ∷ is) s done = then_do (turn i s done) (in_turn turn is)
 
 -- a forall over an item, with these reduce variables
-abbrev pub forall_tree : Place → ℕ → ItemTree Leaf → List Intent → List Step → StmtTree Leaf
+abbrev pub forall_tree : Place → ℕ → ItemTree Variable → List Intent → List Step → StmtTree Variable
 forall_tree at slot item intents body =
     Forall at (variable_in slot) nowhere item (with_intents (map intent_view intents)) (listed (steps_of body))
 
 module _ (limits : Limits) where
   -- a turn: the variable is the index, and the body runs
-  abbrev pub turn_by_word : ℕ → List Step → ℤ → Run Words
-  turn_by_word slot body i s done =
-      exec_all limits by_word (steps_of body) (with_value_at IntLeaf slot (Int i) s) done
+  abbrev pub turn_in_memory : ℕ → List Step → ℤ → Run Memory
+  turn_in_memory slot body i s done =
+      exec_all limits in_memory (steps_of body) (with_value_in (PlainKind IntLeaf) slot (Int i) s) done
 
   -- a turn of a forall, whose fault names it
-  abbrev pub named_by_word : ℕ → List Step → ℤ → Run Words
-  named_by_word slot body i s done = naming (i ∷ []) (turn_by_word slot body i s done)
+  abbrev pub named_in_memory : ℕ → List Step → ℤ → Run Memory
+  named_in_memory slot body i s done = naming (i ∷ []) (turn_in_memory slot body i s done)
 
   abbrev pub within : Place → Value → Result Value Fault
   within at v =
       if nat_lt limits.budget (size_in (loop_ranges limits.locales v)) then Err (fault Budget at) else Ok v
 
   -- what a loop runs over: F5 at its first word where that has more indices than the budget
-  abbrev pub looped_over : Place → ItemTree Leaf → Words → Result Value Fault
-  looped_over at item s = with_ok (item_of limits by_word item None s) (within at)
+  abbrev pub looped_over : Place → ItemTree Variable → Memory → Result Value Fault
+  looped_over at item s = with_ok (item_of limits in_memory item None s) (within at)

@@ -4,19 +4,19 @@
 ghost use Rattle.std.specs.Prelude.{◌≡◌};
 ghost use Rattle.dpl_lowered.specs.Shapes.{nowhere};
 ghost use Rattle.dpl_language.specs.Tree.{One, SetAdd, SetSubtract, SetMultiply, SetDivide, SetRemainder, SetReduce};
-ghost use Rattle.dpl_words.specs.Words.{int_leaf, truth_leaf, range_leaf, by_word};
+ghost use Rattle.dpl_memory.specs.Memory.{int_leaf, truth_leaf, range_leaf, in_memory};
 ghost use Rattle.dpl_nodes.specs.Typed.{int_view, truth_view, range_item};
-ghost use Rattle.dpl_steps.specs.Changes.{declared_words, given_words, assigned_words, words_after};
+ghost use Rattle.dpl_steps.specs.Changes.{declared_memory, given_memory, assigned_memory, truth_memory, memory_after};
 
 use crate::reduce::{reduced_int, reduced_truth};
-use dpl_nodes::{BoolExpr, FaultCode, Frame, IntExpr, RangeExpr, Spot, Trap};
+use dpl_nodes::{BoolExpr, FaultCode, Frame, IntExpr, RangeExpr, Spot, Trap, TruthDeed};
 use dpl_values::number::{difference, product, quotient, remainder, sum};
 use dpl_values::{int_value, range_value, truth_value};
 
 /// An int's declaration, or an assignment to it.
 #[inline(always)]
 pub(crate) fn declare_int(slot: usize, e: &IntExpr<'_>, frame: &mut Frame<'_>) -> Result<(), Trap>
-    ensures words { declared_words frame.old.limits (int_leaf slot) (One (int_view e.now)) frame.old.words ≡ words_after result frame.new.words }
+    ensures memory { declared_memory frame.old.limits (int_leaf slot) (One (int_view e.now)) frame.old.memory ≡ memory_after result frame.new.memory }
     ensures limits { frame.new.limits ≡ frame.old.limits }
 {
     let value = int_value(e, frame)?;
@@ -24,14 +24,9 @@ pub(crate) fn declare_int(slot: usize, e: &IntExpr<'_>, frame: &mut Frame<'_>) -
     Ok(())
 }
 
-/// A truth value's.
-#[inline(never)]
-pub(crate) fn declare_truth(
-    slot: usize,
-    e: &BoolExpr<'_>,
-    frame: &mut Frame<'_>,
-) -> Result<(), Trap>
-    ensures words { declared_words frame.old.limits (truth_leaf slot) (One (truth_view e.now)) frame.old.words ≡ words_after result frame.new.words }
+// A truth value's.
+fn declare_truth(slot: usize, e: &BoolExpr<'_>, frame: &mut Frame<'_>) -> Result<(), Trap>
+    ensures memory { declared_memory frame.old.limits (truth_leaf slot) (One (truth_view e.now)) frame.old.memory ≡ memory_after result frame.new.memory }
     ensures limits { frame.new.limits ≡ frame.old.limits }
 {
     let value = truth_value(e, frame)?.get();
@@ -46,7 +41,7 @@ pub(crate) fn declare_range(
     e: &RangeExpr<'_>,
     frame: &mut Frame<'_>,
 ) -> Result<(), Trap>
-    ensures words { declared_words frame.old.limits (range_leaf slot) (range_item e.now) frame.old.words ≡ words_after result frame.new.words }
+    ensures memory { declared_memory frame.old.limits (range_leaf slot) (range_item e.now) frame.old.memory ≡ memory_after result frame.new.memory }
     ensures limits { frame.new.limits ≡ frame.old.limits }
 {
     let value = range_value(e, frame)?;
@@ -57,7 +52,7 @@ pub(crate) fn declare_range(
 /// A `config const` that is an int.
 #[inline(never)]
 pub(crate) fn config_int(slot: usize, e: &IntExpr<'_>, frame: &mut Frame<'_>) -> Result<(), Trap>
-    ensures words { given_words frame.old.limits (int_leaf slot) (One (int_view e.now)) (by_word.given (int_leaf slot) frame.old.words) frame.old.words ≡ words_after result frame.new.words }
+    ensures memory { given_memory frame.old.limits (int_leaf slot) (One (int_view e.now)) (in_memory.given (int_leaf slot) frame.old.memory) frame.old.memory ≡ memory_after result frame.new.memory }
     ensures limits { frame.new.limits ≡ frame.old.limits }
 {
     match frame.given(slot) {
@@ -69,10 +64,9 @@ pub(crate) fn config_int(slot: usize, e: &IntExpr<'_>, frame: &mut Frame<'_>) ->
     }
 }
 
-/// One that is a truth value.
-#[inline(never)]
-pub(crate) fn config_truth(slot: usize, e: &BoolExpr<'_>, frame: &mut Frame<'_>) -> Result<(), Trap>
-    ensures words { given_words frame.old.limits (truth_leaf slot) (One (truth_view e.now)) (by_word.given (truth_leaf slot) frame.old.words) frame.old.words ≡ words_after result frame.new.words }
+// One that is a truth value.
+fn config_truth(slot: usize, e: &BoolExpr<'_>, frame: &mut Frame<'_>) -> Result<(), Trap>
+    ensures memory { given_memory frame.old.limits (truth_leaf slot) (One (truth_view e.now)) (in_memory.given (truth_leaf slot) frame.old.memory) frame.old.memory ≡ memory_after result frame.new.memory }
     ensures limits { frame.new.limits ≡ frame.old.limits }
 {
     match frame.given(slot) {
@@ -87,7 +81,7 @@ pub(crate) fn config_truth(slot: usize, e: &BoolExpr<'_>, frame: &mut Frame<'_>)
 /// `+=`
 #[inline(always)]
 pub(crate) fn add(slot: usize, e: &IntExpr<'_>, frame: &mut Frame<'_>) -> Result<(), Trap>
-    ensures words { assigned_words frame.old.limits (int_leaf slot) SetAdd nowhere (One (int_view e.now)) frame.old.words ≡ words_after result frame.new.words }
+    ensures memory { assigned_memory frame.old.limits (int_leaf slot) SetAdd nowhere (One (int_view e.now)) frame.old.memory ≡ memory_after result frame.new.memory }
     ensures limits { frame.new.limits ≡ frame.old.limits }
 {
     let value = int_value(e, frame)?;
@@ -98,7 +92,7 @@ pub(crate) fn add(slot: usize, e: &IntExpr<'_>, frame: &mut Frame<'_>) -> Result
 /// `-=`
 #[inline(always)]
 pub(crate) fn subtract(slot: usize, e: &IntExpr<'_>, frame: &mut Frame<'_>) -> Result<(), Trap>
-    ensures words { assigned_words frame.old.limits (int_leaf slot) SetSubtract nowhere (One (int_view e.now)) frame.old.words ≡ words_after result frame.new.words }
+    ensures memory { assigned_memory frame.old.limits (int_leaf slot) SetSubtract nowhere (One (int_view e.now)) frame.old.memory ≡ memory_after result frame.new.memory }
     ensures limits { frame.new.limits ≡ frame.old.limits }
 {
     let value = int_value(e, frame)?;
@@ -109,7 +103,7 @@ pub(crate) fn subtract(slot: usize, e: &IntExpr<'_>, frame: &mut Frame<'_>) -> R
 /// `*=`
 #[inline(always)]
 pub(crate) fn multiply(slot: usize, e: &IntExpr<'_>, frame: &mut Frame<'_>) -> Result<(), Trap>
-    ensures words { assigned_words frame.old.limits (int_leaf slot) SetMultiply nowhere (One (int_view e.now)) frame.old.words ≡ words_after result frame.new.words }
+    ensures memory { assigned_memory frame.old.limits (int_leaf slot) SetMultiply nowhere (One (int_view e.now)) frame.old.memory ≡ memory_after result frame.new.memory }
     ensures limits { frame.new.limits ≡ frame.old.limits }
 {
     let value = int_value(e, frame)?;
@@ -125,7 +119,7 @@ pub(crate) fn divide(
     e: &IntExpr<'_>,
     frame: &mut Frame<'_>,
 ) -> Result<(), Trap>
-    ensures words { assigned_words frame.old.limits (int_leaf slot) SetDivide at.now (One (int_view e.now)) frame.old.words ≡ words_after result frame.new.words }
+    ensures memory { assigned_memory frame.old.limits (int_leaf slot) SetDivide at.now (One (int_view e.now)) frame.old.memory ≡ memory_after result frame.new.memory }
     ensures limits { frame.new.limits ≡ frame.old.limits }
 {
     let value = int_value(e, frame)?;
@@ -144,7 +138,7 @@ pub(crate) fn rest(
     e: &IntExpr<'_>,
     frame: &mut Frame<'_>,
 ) -> Result<(), Trap>
-    ensures words { assigned_words frame.old.limits (int_leaf slot) SetRemainder at.now (One (int_view e.now)) frame.old.words ≡ words_after result frame.new.words }
+    ensures memory { assigned_memory frame.old.limits (int_leaf slot) SetRemainder at.now (One (int_view e.now)) frame.old.memory ≡ memory_after result frame.new.memory }
     ensures limits { frame.new.limits ≡ frame.old.limits }
 {
     let value = int_value(e, frame)?;
@@ -158,7 +152,7 @@ pub(crate) fn rest(
 /// `reduce=` to an int
 #[inline(never)]
 pub(crate) fn reduce_int(slot: usize, e: &IntExpr<'_>, frame: &mut Frame<'_>) -> Result<(), Trap>
-    ensures words { assigned_words frame.old.limits (int_leaf slot) SetReduce nowhere (One (int_view e.now)) frame.old.words ≡ words_after result frame.new.words }
+    ensures memory { assigned_memory frame.old.limits (int_leaf slot) SetReduce nowhere (One (int_view e.now)) frame.old.memory ≡ memory_after result frame.new.memory }
     ensures limits { frame.new.limits ≡ frame.old.limits }
 {
     let value = int_value(e, frame)?;
@@ -167,14 +161,32 @@ pub(crate) fn reduce_int(slot: usize, e: &IntExpr<'_>, frame: &mut Frame<'_>) ->
     Ok(())
 }
 
-/// `reduce=` to a truth value
-#[inline(never)]
-pub(crate) fn reduce_truth(slot: usize, e: &BoolExpr<'_>, frame: &mut Frame<'_>) -> Result<(), Trap>
-    ensures words { assigned_words frame.old.limits (truth_leaf slot) SetReduce nowhere (One (truth_view e.now)) frame.old.words ≡ words_after result frame.new.words }
+// `reduce=` to a truth value
+fn reduce_truth(slot: usize, e: &BoolExpr<'_>, frame: &mut Frame<'_>) -> Result<(), Trap>
+    ensures memory { assigned_memory frame.old.limits (truth_leaf slot) SetReduce nowhere (One (truth_view e.now)) frame.old.memory ≡ memory_after result frame.new.memory }
     ensures limits { frame.new.limits ≡ frame.old.limits }
 {
     let value = truth_value(e, frame)?.get();
     let number = reduced_truth(frame.operator(slot), frame.number(slot) != 0, value);
     frame.set_number(slot, number);
     Ok(())
+}
+
+/// What is done to a truth value.
+#[inline(never)]
+pub(crate) fn change_truth(
+    deed: TruthDeed,
+    slot: usize,
+    e: &BoolExpr<'_>,
+    frame: &mut Frame<'_>,
+) -> Result<(), Trap>
+    ensures memory { truth_memory frame.old.limits deed slot (One (truth_view e.now)) frame.old.memory ≡ memory_after result frame.new.memory }
+    ensures limits { frame.new.limits ≡ frame.old.limits }
+{
+    match deed {
+        TruthDeed::Declare => declare_truth(slot, e, frame),
+        TruthDeed::Config => config_truth(slot, e, frame),
+        TruthDeed::Set => declare_truth(slot, e, frame),
+        TruthDeed::Reduce => reduce_truth(slot, e, frame),
+    }
 }

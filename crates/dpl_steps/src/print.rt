@@ -5,7 +5,7 @@ ghost use Rattle.std.specs.Prelude.{◌≡◌, ◌++◌, OnOk};
 ghost use Rattle.std.specs.Fmt.{signed_decimal};
 ghost use Rattle.dpl_language.specs.Outcome.{Deeds};
 ghost use Rattle.dpl_language.specs.Statements.{exec};
-ghost use Rattle.dpl_words.specs.Words.{by_word};
+ghost use Rattle.dpl_memory.specs.Memory.{in_memory};
 ghost use Rattle.dpl_nodes.specs.Steps.{written_as};
 ghost use Rattle.dpl_steps.specs.Runs.{having_printed, RunEnds};
 ghost use Rattle.dpl_steps.specs.Texts.{argument_text, arguments_text, GrewBy};
@@ -28,7 +28,7 @@ fn print(n: i64, out: &mut Vec<u8>) -> Result<(), AllocError>
 // Appends the text of an argument.
 #[tactic(auto, using(crate::proofs::Shown::shown_int, crate::proofs::Shown::shown_truth))]
 fn show(argument: &Argument<'_>, frame: &Frame<'_>, out: &mut Vec<u8>) -> Result<(), Halt>
-    ensures { GrewBy result out.old.items out.new.items (argument_text frame.now.limits argument.now frame.now.words) }
+    ensures { GrewBy result out.old.items out.new.items (argument_text frame.now.limits argument.now frame.now.memory) }
 {
     match argument {
         Argument::Text(bytes) => out.extend_from_slice(bytes)?,
@@ -49,7 +49,7 @@ fn show(argument: &Argument<'_>, frame: &Frame<'_>, out: &mut Vec<u8>) -> Result
 
 // Appends the texts of arguments.
 fn show_all(arguments: &[Argument<'_>], frame: &Frame<'_>, out: &mut Vec<u8>) -> Result<(), Halt>
-    ensures { GrewBy result out.old.items out.new.items (arguments_text frame.now.limits arguments.now frame.now.words) }
+    ensures { GrewBy result out.old.items out.new.items (arguments_text frame.now.limits arguments.now frame.now.memory) }
 {
     for argument in arguments {
         show(argument, frame, out)?;
@@ -67,8 +67,8 @@ pub(crate) fn write(
     frame: &Frame<'_>,
     out: &mut Vec<u8>,
 ) -> Result<(), Halt>
-    ensures { (done : Deeds) → RunEnds result frame.now.words (having_printed out.new.items done)
-        (exec frame.now.limits by_word (written_as ends_line arguments.now) frame.now.words (having_printed out.old.items done)) }
+    ensures { (done : Deeds) → RunEnds result frame.now.memory (having_printed out.new.items done)
+        (exec frame.now.limits in_memory (written_as ends_line arguments.now) frame.now.memory (having_printed out.old.items done)) }
 {
     let start = out.len();
     if let Err(halt) = show_all(arguments, frame, out) {

@@ -5,18 +5,18 @@ ghost use Rattle.std.specs.Prelude.{◌≡◌, ◌<◌, ℕ, ℤ, Some, length, 
 ghost use Rattle.dpl_range.specs.Range.{members_of};
 ghost use Rattle.dpl_language.specs.Outcome.{Deeds, repeated};
 ghost use Rattle.dpl_language.specs.Statements.{exec, exec_all, exec_else, holds};
-ghost use Rattle.dpl_words.specs.Words.{by_word};
+ghost use Rattle.dpl_memory.specs.Memory.{in_memory};
 ghost use Rattle.dpl_nodes.specs.Typed.{truth_view, range_item};
 ghost use Rattle.dpl_language.specs.Tree.{For as ForTree};
 ghost use Rattle.dpl_lowered.specs.Shapes.{nowhere};
 ghost use Rattle.dpl_nodes.specs.Steps.{listed, variable_in, step_view, else_view, steps_of};
 ghost use Rattle.dpl_nodes.specs.Faults.{of_range};
 ghost use Rattle.dpl_steps.specs.Runs.{having_printed, RunEnds};
-ghost use Rattle.dpl_steps.specs.Turns.{in_turn, turn_by_word, named_by_word, looped_over, forall_tree};
+ghost use Rattle.dpl_steps.specs.Turns.{in_turn, turn_in_memory, named_in_memory, looped_over, forall_tree};
 
 use crate::change::{
-    add, config_int, config_truth, declare_int, declare_range, declare_truth, divide, multiply,
-    reduce_int, reduce_truth, rest, subtract,
+    add, change_truth, config_int, declare_int, declare_range, divide, multiply, reduce_int, rest,
+    subtract,
 };
 use crate::halt::{Halt, told};
 use crate::print::write;
@@ -26,7 +26,7 @@ use dpl_values::{range_value, truth_value};
 
 // What a loop runs over: its range is evaluated once, and its size is tested against the budget.
 fn indices(at: &Spot, over: &RangeExpr<'_>, frame: &Frame<'_>) -> Result<RangeWord, Trap>
-    ensures { looped_over frame.now.limits at.now (range_item over.now) frame.now.words ≡ of_range result }
+    ensures { looped_over frame.now.limits at.now (range_item over.now) frame.now.memory ≡ of_range result }
 {
     let range = range_value(over, frame)?;
     if frame.budget() < range.range.size() {
@@ -42,8 +42,8 @@ fn indices(at: &Spot, over: &RangeExpr<'_>, frame: &Frame<'_>) -> Result<RangeWo
 /// what is printed.
 #[cycle(run)]
 pub fn run<'t>(steps: &[Step<'t>], frame: &mut Frame<'t>, out: &mut Vec<u8>) -> Result<(), Halt>
-    ensures ends { (done : Deeds) → RunEnds result frame.new.words (having_printed out.new.items done)
-        (exec_all frame.old.limits by_word (steps_of steps.now) frame.old.words (having_printed out.old.items done)) }
+    ensures ends { (done : Deeds) → RunEnds result frame.new.memory (having_printed out.new.items done)
+        (exec_all frame.old.limits in_memory (steps_of steps.now) frame.old.memory (having_printed out.old.items done)) }
     ensures limits { frame.new.limits ≡ frame.old.limits }
 {
     for step in steps {
@@ -55,19 +55,16 @@ pub fn run<'t>(steps: &[Step<'t>], frame: &mut Frame<'t>, out: &mut Vec<u8>) -> 
 // One statement.
 #[cycle(run)]
 fn statement<'t>(step: &Step<'t>, frame: &mut Frame<'t>, out: &mut Vec<u8>) -> Result<(), Halt>
-    ensures ends { (done : Deeds) → RunEnds result frame.new.words (having_printed out.new.items done)
-        (exec frame.old.limits by_word (step_view step.now) frame.old.words (having_printed out.old.items done)) }
+    ensures ends { (done : Deeds) → RunEnds result frame.new.memory (having_printed out.new.items done)
+        (exec frame.old.limits in_memory (step_view step.now) frame.old.memory (having_printed out.old.items done)) }
     ensures limits { frame.new.limits ≡ frame.old.limits }
 {
     match step {
         Step::Nothing => Ok(()),
         Step::DeclareInt(slot, e) => told(declare_int(*slot, e, frame)),
-        Step::DeclareTruth(slot, e) => told(declare_truth(*slot, e, frame)),
         Step::DeclareRange(slot, e) => told(declare_range(*slot, e, frame)),
         Step::ConfigInt(slot, e) => told(config_int(*slot, e, frame)),
-        Step::ConfigTruth(slot, e) => told(config_truth(*slot, e, frame)),
         Step::SetInt(slot, e) => told(declare_int(*slot, e, frame)),
-        Step::SetTruth(slot, e) => told(declare_truth(*slot, e, frame)),
         Step::SetRange(slot, e) => told(declare_range(*slot, e, frame)),
         Step::Add(slot, e) => told(add(*slot, e, frame)),
         Step::Subtract(slot, e) => told(subtract(*slot, e, frame)),
@@ -75,7 +72,7 @@ fn statement<'t>(step: &Step<'t>, frame: &mut Frame<'t>, out: &mut Vec<u8>) -> R
         Step::Divide(slot, at, e) => told(divide(*slot, at, e, frame)),
         Step::Remainder(slot, at, e) => told(rest(*slot, at, e, frame)),
         Step::ReduceInt(slot, e) => told(reduce_int(*slot, e, frame)),
-        Step::ReduceTruth(slot, e) => told(reduce_truth(*slot, e, frame)),
+        Step::Truth(deed, slot, e) => told(change_truth(*deed, *slot, e, frame)),
         Step::Write {
             ends_line,
             arguments,
@@ -124,8 +121,8 @@ fn for_loop<'t>(
     frame: &mut Frame<'t>,
     out: &mut Vec<u8>,
 ) -> Result<(), Halt>
-    ensures ends { (done : Deeds) → RunEnds result frame.new.words (having_printed out.new.items done)
-        (exec frame.old.limits by_word (ForTree at.now (variable_in slot) nowhere (range_item over.now) (listed (steps_of body.now))) frame.old.words (having_printed out.old.items done)) }
+    ensures ends { (done : Deeds) → RunEnds result frame.new.memory (having_printed out.new.items done)
+        (exec frame.old.limits in_memory (ForTree at.now (variable_in slot) nowhere (range_item over.now) (listed (steps_of body.now))) frame.old.memory (having_printed out.old.items done)) }
     ensures limits { frame.new.limits ≡ frame.old.limits }
 {
     let range = indices(at, over, frame)?.range;
@@ -144,8 +141,8 @@ fn forall_loop<'t>(
     frame: &mut Frame<'t>,
     out: &mut Vec<u8>,
 ) -> Result<(), Halt>
-    ensures ends { (done : Deeds) → RunEnds result frame.new.words (having_printed out.new.items done)
-        (exec frame.old.limits by_word (forall_tree at.now slot (range_item over.now) intents.now body.now) frame.old.words (having_printed out.old.items done)) }
+    ensures ends { (done : Deeds) → RunEnds result frame.new.memory (having_printed out.new.items done)
+        (exec frame.old.limits in_memory (forall_tree at.now slot (range_item over.now) intents.now body.now) frame.old.memory (having_printed out.old.items done)) }
     ensures limits { frame.new.limits ≡ frame.old.limits }
 {
     let range = indices(at, over, frame)?.range;
@@ -162,8 +159,8 @@ fn alternative<'t>(
     frame: &mut Frame<'t>,
     out: &mut Vec<u8>,
 ) -> Result<(), Halt>
-    ensures ends { (done : Deeds) → RunEnds result frame.new.words (having_printed out.new.items done)
-        (exec_else frame.old.limits by_word (else_view otherwise.now) frame.old.words (having_printed out.old.items done)) }
+    ensures ends { (done : Deeds) → RunEnds result frame.new.memory (having_printed out.new.items done)
+        (exec_else frame.old.limits in_memory (else_view otherwise.now) frame.old.memory (having_printed out.old.items done)) }
     ensures limits { frame.new.limits ≡ frame.old.limits }
 {
     match otherwise {
@@ -182,8 +179,8 @@ fn while_loop<'t>(
     frame: &mut Frame<'t>,
     out: &mut Vec<u8>,
 ) -> Result<(), Halt>
-    ensures ends { (done : Deeds) → RunEnds result frame.new.words (having_printed out.new.items done)
-        (repeated frame.old.limits.budget at.now (holds frame.old.limits by_word (truth_view condition.now)) (exec_all frame.old.limits by_word (steps_of body.now)) frame.old.words (having_printed out.old.items done)) }
+    ensures ends { (done : Deeds) → RunEnds result frame.new.memory (having_printed out.new.items done)
+        (repeated frame.old.limits.budget at.now (holds frame.old.limits in_memory (truth_view condition.now)) (exec_all frame.old.limits in_memory (steps_of body.now)) frame.old.memory (having_printed out.old.items done)) }
     ensures limits { frame.new.limits ≡ frame.old.limits }
 {
     let mut left = frame.budget();
@@ -209,8 +206,8 @@ fn turn<'t>(
     out: &mut Vec<u8>,
 ) -> Result<(), Halt>
     requires { k < length (members_of range) }
-    ensures ends { (i : ℤ) (done : Deeds) → slice_get (members_of range) k ≡ Some i → RunEnds result frame.new.words (having_printed out.new.items done)
-        (turn_by_word frame.old.limits slot body.now i frame.old.words (having_printed out.old.items done)) }
+    ensures ends { (i : ℤ) (done : Deeds) → slice_get (members_of range) k ≡ Some i → RunEnds result frame.new.memory (having_printed out.new.items done)
+        (turn_in_memory frame.old.limits slot body.now i frame.old.memory (having_printed out.old.items done)) }
     ensures limits { frame.new.limits ≡ frame.old.limits }
 {
     let Some(i) = range.nth(k) else {
@@ -230,8 +227,8 @@ fn turns<'t>(
     frame: &mut Frame<'t>,
     out: &mut Vec<u8>,
 ) -> Result<(), Halt>
-    ensures ends { (done : Deeds) → RunEnds result frame.new.words (having_printed out.new.items done)
-        (in_turn (turn_by_word frame.old.limits slot body.now) (members_of range) frame.old.words (having_printed out.old.items done)) }
+    ensures ends { (done : Deeds) → RunEnds result frame.new.memory (having_printed out.new.items done)
+        (in_turn (turn_in_memory frame.old.limits slot body.now) (members_of range) frame.old.memory (having_printed out.old.items done)) }
     ensures limits { frame.new.limits ≡ frame.old.limits }
 {
     for k in 0..range.size() {
@@ -252,8 +249,8 @@ fn named_turn<'t>(
     out: &mut Vec<u8>,
 ) -> Result<(), Halt>
     requires { k < length (members_of range) }
-    ensures ends { (i : ℤ) (done : Deeds) → slice_get (members_of range) k ≡ Some i → RunEnds result frame.new.words (having_printed out.new.items done)
-        (named_by_word frame.old.limits slot body.now i frame.old.words (having_printed out.old.items done)) }
+    ensures ends { (i : ℤ) (done : Deeds) → slice_get (members_of range) k ≡ Some i → RunEnds result frame.new.memory (having_printed out.new.items done)
+        (named_in_memory frame.old.limits slot body.now i frame.old.memory (having_printed out.old.items done)) }
     ensures limits { frame.new.limits ≡ frame.old.limits }
 {
     let Some(i) = range.nth(k) else {
@@ -276,8 +273,8 @@ fn named_turns<'t>(
     frame: &mut Frame<'t>,
     out: &mut Vec<u8>,
 ) -> Result<(), Halt>
-    ensures ends { (done : Deeds) → RunEnds result frame.new.words (having_printed out.new.items done)
-        (in_turn (named_by_word frame.old.limits slot body.now) (members_of range) frame.old.words (having_printed out.old.items done)) }
+    ensures ends { (done : Deeds) → RunEnds result frame.new.memory (having_printed out.new.items done)
+        (in_turn (named_in_memory frame.old.limits slot body.now) (members_of range) frame.old.memory (having_printed out.old.items done)) }
     ensures limits { frame.new.limits ≡ frame.old.limits }
 {
     for k in 0..range.size() {

@@ -7,10 +7,10 @@ pub returns-in_err-show : goal.returns-in_err-show
 returns-in_err-show c =
     let p = err_from_is_err_and c.from_residual.result c.from_residual.ensures.1 in
     rw (p.1, p.2)
-    (texts-halt c.args.frame.now.limits c.args.arguments.now c.loop-argument.argument-index c.argument-item.result c.args.frame.now.words c.args.out.now.items c.loop-argument.out.items c.show.new.out.items c.in_err-show.field-0.0
+    (texts-halt c.args.frame.now.limits c.args.arguments.now c.loop-argument.argument-index c.argument-item.result c.args.frame.now.memory c.args.out.now.items c.loop-argument.out.items c.show.new.out.items c.in_err-show.field-0.0
     c.loop-argument-test.true c.argument-item.is c.in_err-show.ensures c.loop-argument.invariant)
 
 pub loop-argument-preserved : goal.loop-argument-preserved
 loop-argument-preserved c =
-    texts-step c.args.frame.now.limits c.args.arguments.now c.loop-argument.argument-index c.argument-item.result c.args.frame.now.words c.args.out.now.items c.loop-argument.out.items c.show.new.out.items
+    texts-step c.args.frame.now.limits c.args.arguments.now c.loop-argument.argument-index c.argument-item.result c.args.frame.now.memory c.args.out.now.items c.loop-argument.out.items c.show.new.out.items
     c.loop-argument-test.true c.argument-item.is c.in_ok-show.ensures c.loop-argument.invariant

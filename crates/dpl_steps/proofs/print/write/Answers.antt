@@ -10,16 +10,16 @@ pub returns-in-Err : goal.returns-in-Err
 returns-in-Err c done =
     let cut : c.truncate.new.self.items ≡ take (length c.args.out.now.items) c.show_all.new.out.items = search rules in
     rw cut
-    (written-halts c.args.frame.now.limits c.args.ends_line c.args.arguments.now c.args.frame.now.words done c.args.out.now.items c.show_all.new.out.items c.in-Err.halt c.in-Err.ensures)
+    (written-halts c.args.frame.now.limits c.args.ends_line c.args.arguments.now c.args.frame.now.memory done c.args.out.now.items c.show_all.new.out.items c.in-Err.halt c.in-Err.ensures)
 
 pub returns-in_ok-push : goal.returns-in_ok-push
 returns-in_ok-push c done =
     let grown : (c.show_all.new.out.items ++ line_end c.args.ends_line) ≡ c.push.new.self.items = search rules in
-    written-ends c.args.frame.now.limits c.args.ends_line c.args.arguments.now c.args.frame.now.words done c.args.out.now.items c.show_all.new.out.items c.in_default.ensures
-    ∙ ap (λ text. Done c.args.frame.now.words (having_printed text done)) grown
+    written-ends c.args.frame.now.limits c.args.ends_line c.args.arguments.now c.args.frame.now.memory done c.args.out.now.items c.show_all.new.out.items c.in_default.ensures
+    ∙ ap (λ text. Done c.args.frame.now.memory (having_printed text done)) grown
 
 pub returns-else-ends_line : goal.returns-else-ends_line
 returns-else-ends_line c done =
     let grown : (c.show_all.new.out.items ++ line_end c.args.ends_line) ≡ c.show_all.new.out.items = search rules in
-    written-ends c.args.frame.now.limits c.args.ends_line c.args.arguments.now c.args.frame.now.words done c.args.out.now.items c.show_all.new.out.items c.in_default.ensures
-    ∙ ap (λ text. Done c.args.frame.now.words (having_printed text done)) grown
+    written-ends c.args.frame.now.limits c.args.ends_line c.args.arguments.now c.args.frame.now.memory done c.args.out.now.items c.show_all.new.out.items c.in_default.ensures
+    ∙ ap (λ text. Done c.args.frame.now.memory (having_printed text done)) grown

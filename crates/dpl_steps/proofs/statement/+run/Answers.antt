@@ -9,15 +9,16 @@ use Rattle.dpl_language.specs.Outcome.{Done, then_do, repeated}
 use Rattle.dpl_language.specs.Expressions.{value_of}
 use Rattle.dpl_language.specs.Statements.{holds, exec, exec_all}
 use Rattle.dpl_lowered.specs.Shapes.{nowhere}
-use Rattle.dpl_words.specs.Words.{int_leaf, truth_leaf, range_leaf, by_word}
+use Rattle.dpl_words.specs.Words.{IntLeaf, RangeLeaf}
+use Rattle.dpl_memory.specs.Memory.{int_leaf, range_leaf, in_memory}
 use Rattle.dpl_nodes.specs.Typed.{int_view, truth_view, range_item}
 use Rattle.dpl_nodes.specs.Steps.{intent_view, step_view, else_view, steps_of}
-use Rattle.dpl_nodes.specs.Faults.{range_word}
+use Rattle.dpl_contents.specs.Range.{range_word}
 use Rattle.dpl_nodes.specs.Frames.{Framed}
 use Rattle.dpl_steps.specs.Runs.{having_printed}
-use Rattle.dpl_steps.specs.Turns.{in_turn, turn_by_word, named_by_word}
+use Rattle.dpl_steps.specs.Turns.{in_turn, turn_in_memory, named_in_memory}
 use Rattle.dpl_nodes.proofs.Unread.{cell_read-int, cell_read-truth, item_read-range}
-use Rattle.dpl_steps.proofs.Changing.{ends_as, told-ends, exec-declared, exec-config, exec-assigned}
+use Rattle.dpl_steps.proofs.Changing.{ends_as, told-ends, exec-declared, exec-config, exec-assigned, exec-truth}
 use Rattle.dpl_steps.proofs.Looping.{then_do-halts, halts-alike, ends-alike, scoped-same, fault-ends, in_turn-done, in_turn-halts, for-turns, forall-turns, repeated-fault, repeated-ends, repeated-step, holds-value, holds-fault, if-then, exec-while}
 use Rattle.dpl_steps.proofs.Views.{block_view, if_view, while_view, for_view, forall_view}
 use Rattle.dpl_steps.proofs.statement.+run.Goals as goal
@@ -26,122 +27,98 @@ use Rattle.dpl_steps.proofs.statement.+run.Goals as goal
 pub statement-returns-in-DeclareInt-clause-ends : goal.statement-returns-in-DeclareInt-clause-ends
 statement-returns-in-DeclareInt-clause-ends t c done =
     let limits = c.args.frame.now.limits in
-    let w = c.args.frame.now.words in
+    let w = c.args.frame.now.memory in
     let d = having_printed c.args.out.now.items done in
-    told-ends c.declare_int.result c.told.result c.declare_int.new.frame.words d _ c.told.ensures
-    (ap (λ s. exec limits by_word (step_view s) w d) c.in-DeclareInt.is ∙ exec-declared limits (int_leaf c.in-DeclareInt.slot) (One (int_view c.in-DeclareInt.e.now)) w d (cell_read-int c.in-DeclareInt.e.now) ∙ ap (λ r. ends_as r d) c.declare_int.ensures.words)
-
-pub statement-returns-in-DeclareTruth-clause-ends : goal.statement-returns-in-DeclareTruth-clause-ends
-statement-returns-in-DeclareTruth-clause-ends t c done =
-    let limits = c.args.frame.now.limits in
-    let w = c.args.frame.now.words in
-    let d = having_printed c.args.out.now.items done in
-    told-ends c.declare_truth.result c.told-in-DeclareTruth.result c.declare_truth.new.frame.words d _ c.told-in-DeclareTruth.ensures
-    (ap (λ s. exec limits by_word (step_view s) w d) c.in-DeclareTruth.is ∙ exec-declared limits (truth_leaf c.in-DeclareTruth.slot) (One (truth_view c.in-DeclareTruth.e.now)) w d (cell_read-truth c.in-DeclareTruth.e.now) ∙ ap (λ r. ends_as r d) c.declare_truth.ensures.words)
+    told-ends c.declare_int.result c.told.result c.declare_int.new.frame.memory d _ c.told.ensures
+    (ap (λ s. exec limits in_memory (step_view s) w d) c.in-DeclareInt.is ∙ exec-declared limits (int_leaf c.in-DeclareInt.slot) (One (int_view c.in-DeclareInt.e.now)) w d (cell_read-int c.in-DeclareInt.e.now) ∙ ap (λ r. ends_as r d) c.declare_int.ensures.memory)
 
 pub statement-returns-in-DeclareRange-clause-ends : goal.statement-returns-in-DeclareRange-clause-ends
 statement-returns-in-DeclareRange-clause-ends t c done =
     let limits = c.args.frame.now.limits in
-    let w = c.args.frame.now.words in
+    let w = c.args.frame.now.memory in
     let d = having_printed c.args.out.now.items done in
-    told-ends c.declare_range.result c.told-in-DeclareRange.result c.declare_range.new.frame.words d _ c.told-in-DeclareRange.ensures
-    (ap (λ s. exec limits by_word (step_view s) w d) c.in-DeclareRange.is ∙ exec-declared limits (range_leaf c.in-DeclareRange.slot) (range_item c.in-DeclareRange.e.now) w d (item_read-range c.in-DeclareRange.e.now) ∙ ap (λ r. ends_as r d) c.declare_range.ensures.words)
+    told-ends c.declare_range.result c.told-in-DeclareRange.result c.declare_range.new.frame.memory d _ c.told-in-DeclareRange.ensures
+    (ap (λ s. exec limits in_memory (step_view s) w d) c.in-DeclareRange.is ∙ exec-declared limits (range_leaf c.in-DeclareRange.slot) (range_item c.in-DeclareRange.e.now) w d (item_read-range c.in-DeclareRange.e.now) ∙ ap (λ r. ends_as r d) c.declare_range.ensures.memory)
 
 pub statement-returns-in-ConfigInt-clause-ends : goal.statement-returns-in-ConfigInt-clause-ends
 statement-returns-in-ConfigInt-clause-ends t c done =
     let limits = c.args.frame.now.limits in
-    let w = c.args.frame.now.words in
+    let w = c.args.frame.now.memory in
     let d = having_printed c.args.out.now.items done in
-    told-ends c.config_int.result c.told-in-ConfigInt.result c.config_int.new.frame.words d _ c.told-in-ConfigInt.ensures
-    (ap (λ s. exec limits by_word (step_view s) w d) c.in-ConfigInt.is ∙ exec-config limits (int_leaf c.in-ConfigInt.slot) (One (int_view c.in-ConfigInt.e.now)) w d (cell_read-int c.in-ConfigInt.e.now) ∙ ap (λ r. ends_as r d) c.config_int.ensures.words)
-
-pub statement-returns-in-ConfigTruth-clause-ends : goal.statement-returns-in-ConfigTruth-clause-ends
-statement-returns-in-ConfigTruth-clause-ends t c done =
-    let limits = c.args.frame.now.limits in
-    let w = c.args.frame.now.words in
-    let d = having_printed c.args.out.now.items done in
-    told-ends c.config_truth.result c.told-in-ConfigTruth.result c.config_truth.new.frame.words d _ c.told-in-ConfigTruth.ensures
-    (ap (λ s. exec limits by_word (step_view s) w d) c.in-ConfigTruth.is ∙ exec-config limits (truth_leaf c.in-ConfigTruth.slot) (One (truth_view c.in-ConfigTruth.e.now)) w d (cell_read-truth c.in-ConfigTruth.e.now) ∙ ap (λ r. ends_as r d) c.config_truth.ensures.words)
+    told-ends c.config_int.result c.told-in-ConfigInt.result c.config_int.new.frame.memory d _ c.told-in-ConfigInt.ensures
+    (ap (λ s. exec limits in_memory (step_view s) w d) c.in-ConfigInt.is ∙ exec-config limits (int_leaf c.in-ConfigInt.slot) (One (int_view c.in-ConfigInt.e.now)) w d (cell_read-int c.in-ConfigInt.e.now) ∙ ap (λ r. ends_as r d) c.config_int.ensures.memory)
 
 pub statement-returns-in-SetInt-clause-ends : goal.statement-returns-in-SetInt-clause-ends
 statement-returns-in-SetInt-clause-ends t c done =
     let limits = c.args.frame.now.limits in
-    let w = c.args.frame.now.words in
+    let w = c.args.frame.now.memory in
     let d = having_printed c.args.out.now.items done in
-    told-ends c.declare_int-in-SetInt.result c.told-in-SetInt.result c.declare_int-in-SetInt.new.frame.words d _ c.told-in-SetInt.ensures
-    (ap (λ s. exec limits by_word (step_view s) w d) c.in-SetInt.is ∙ exec-assigned limits (int_leaf c.in-SetInt.slot) Set nowhere (One (int_view c.in-SetInt.e.now)) w d (cell_read-int c.in-SetInt.e.now) ∙ ap (λ r. ends_as r d) c.declare_int-in-SetInt.ensures.words)
-
-pub statement-returns-in-SetTruth-clause-ends : goal.statement-returns-in-SetTruth-clause-ends
-statement-returns-in-SetTruth-clause-ends t c done =
-    let limits = c.args.frame.now.limits in
-    let w = c.args.frame.now.words in
-    let d = having_printed c.args.out.now.items done in
-    told-ends c.declare_truth-in-SetTruth.result c.told-in-SetTruth.result c.declare_truth-in-SetTruth.new.frame.words d _ c.told-in-SetTruth.ensures
-    (ap (λ s. exec limits by_word (step_view s) w d) c.in-SetTruth.is ∙ exec-assigned limits (truth_leaf c.in-SetTruth.slot) Set nowhere (One (truth_view c.in-SetTruth.e.now)) w d (cell_read-truth c.in-SetTruth.e.now) ∙ ap (λ r. ends_as r d) c.declare_truth-in-SetTruth.ensures.words)
+    told-ends c.declare_int-in-SetInt.result c.told-in-SetInt.result c.declare_int-in-SetInt.new.frame.memory d _ c.told-in-SetInt.ensures
+    (ap (λ s. exec limits in_memory (step_view s) w d) c.in-SetInt.is ∙ exec-assigned limits IntLeaf c.in-SetInt.slot Set nowhere (One (int_view c.in-SetInt.e.now)) w d (cell_read-int c.in-SetInt.e.now) ∙ ap (λ r. ends_as r d) c.declare_int-in-SetInt.ensures.memory)
 
 pub statement-returns-in-SetRange-clause-ends : goal.statement-returns-in-SetRange-clause-ends
 statement-returns-in-SetRange-clause-ends t c done =
     let limits = c.args.frame.now.limits in
-    let w = c.args.frame.now.words in
+    let w = c.args.frame.now.memory in
     let d = having_printed c.args.out.now.items done in
-    told-ends c.declare_range-in-SetRange.result c.told-in-SetRange.result c.declare_range-in-SetRange.new.frame.words d _ c.told-in-SetRange.ensures
-    (ap (λ s. exec limits by_word (step_view s) w d) c.in-SetRange.is ∙ exec-assigned limits (range_leaf c.in-SetRange.slot) Set nowhere (range_item c.in-SetRange.e.now) w d (item_read-range c.in-SetRange.e.now) ∙ ap (λ r. ends_as r d) c.declare_range-in-SetRange.ensures.words)
+    told-ends c.declare_range-in-SetRange.result c.told-in-SetRange.result c.declare_range-in-SetRange.new.frame.memory d _ c.told-in-SetRange.ensures
+    (ap (λ s. exec limits in_memory (step_view s) w d) c.in-SetRange.is ∙ exec-assigned limits RangeLeaf c.in-SetRange.slot Set nowhere (range_item c.in-SetRange.e.now) w d (item_read-range c.in-SetRange.e.now) ∙ ap (λ r. ends_as r d) c.declare_range-in-SetRange.ensures.memory)
 
 pub statement-returns-in-Add-clause-ends : goal.statement-returns-in-Add-clause-ends
 statement-returns-in-Add-clause-ends t c done =
     let limits = c.args.frame.now.limits in
-    let w = c.args.frame.now.words in
+    let w = c.args.frame.now.memory in
     let d = having_printed c.args.out.now.items done in
-    told-ends c.add.result c.told-in-Add.result c.add.new.frame.words d _ c.told-in-Add.ensures
-    (ap (λ s. exec limits by_word (step_view s) w d) c.in-Add.is ∙ exec-assigned limits (int_leaf c.in-Add.slot) SetAdd nowhere (One (int_view c.in-Add.e.now)) w d (cell_read-int c.in-Add.e.now) ∙ ap (λ r. ends_as r d) c.add.ensures.words)
+    told-ends c.add.result c.told-in-Add.result c.add.new.frame.memory d _ c.told-in-Add.ensures
+    (ap (λ s. exec limits in_memory (step_view s) w d) c.in-Add.is ∙ exec-assigned limits IntLeaf c.in-Add.slot SetAdd nowhere (One (int_view c.in-Add.e.now)) w d (cell_read-int c.in-Add.e.now) ∙ ap (λ r. ends_as r d) c.add.ensures.memory)
 
 pub statement-returns-in-Subtract-clause-ends : goal.statement-returns-in-Subtract-clause-ends
 statement-returns-in-Subtract-clause-ends t c done =
     let limits = c.args.frame.now.limits in
-    let w = c.args.frame.now.words in
+    let w = c.args.frame.now.memory in
     let d = having_printed c.args.out.now.items done in
-    told-ends c.subtract.result c.told-in-Subtract.result c.subtract.new.frame.words d _ c.told-in-Subtract.ensures
-    (ap (λ s. exec limits by_word (step_view s) w d) c.in-Subtract.is ∙ exec-assigned limits (int_leaf c.in-Subtract.slot) SetSubtract nowhere (One (int_view c.in-Subtract.e.now)) w d (cell_read-int c.in-Subtract.e.now) ∙ ap (λ r. ends_as r d) c.subtract.ensures.words)
+    told-ends c.subtract.result c.told-in-Subtract.result c.subtract.new.frame.memory d _ c.told-in-Subtract.ensures
+    (ap (λ s. exec limits in_memory (step_view s) w d) c.in-Subtract.is ∙ exec-assigned limits IntLeaf c.in-Subtract.slot SetSubtract nowhere (One (int_view c.in-Subtract.e.now)) w d (cell_read-int c.in-Subtract.e.now) ∙ ap (λ r. ends_as r d) c.subtract.ensures.memory)
 
 pub statement-returns-in-Multiply-clause-ends : goal.statement-returns-in-Multiply-clause-ends
 statement-returns-in-Multiply-clause-ends t c done =
     let limits = c.args.frame.now.limits in
-    let w = c.args.frame.now.words in
+    let w = c.args.frame.now.memory in
     let d = having_printed c.args.out.now.items done in
-    told-ends c.multiply.result c.told-in-Multiply.result c.multiply.new.frame.words d _ c.told-in-Multiply.ensures
-    (ap (λ s. exec limits by_word (step_view s) w d) c.in-Multiply.is ∙ exec-assigned limits (int_leaf c.in-Multiply.slot) SetMultiply nowhere (One (int_view c.in-Multiply.e.now)) w d (cell_read-int c.in-Multiply.e.now) ∙ ap (λ r. ends_as r d) c.multiply.ensures.words)
+    told-ends c.multiply.result c.told-in-Multiply.result c.multiply.new.frame.memory d _ c.told-in-Multiply.ensures
+    (ap (λ s. exec limits in_memory (step_view s) w d) c.in-Multiply.is ∙ exec-assigned limits IntLeaf c.in-Multiply.slot SetMultiply nowhere (One (int_view c.in-Multiply.e.now)) w d (cell_read-int c.in-Multiply.e.now) ∙ ap (λ r. ends_as r d) c.multiply.ensures.memory)
 
 pub statement-returns-in-Divide-clause-ends : goal.statement-returns-in-Divide-clause-ends
 statement-returns-in-Divide-clause-ends t c done =
     let limits = c.args.frame.now.limits in
-    let w = c.args.frame.now.words in
+    let w = c.args.frame.now.memory in
     let d = having_printed c.args.out.now.items done in
-    told-ends c.divide.result c.told-in-Divide.result c.divide.new.frame.words d _ c.told-in-Divide.ensures
-    (ap (λ s. exec limits by_word (step_view s) w d) c.in-Divide.is ∙ exec-assigned limits (int_leaf c.in-Divide.slot) SetDivide c.in-Divide.at.now (One (int_view c.in-Divide.e.now)) w d (cell_read-int c.in-Divide.e.now) ∙ ap (λ r. ends_as r d) c.divide.ensures.words)
+    told-ends c.divide.result c.told-in-Divide.result c.divide.new.frame.memory d _ c.told-in-Divide.ensures
+    (ap (λ s. exec limits in_memory (step_view s) w d) c.in-Divide.is ∙ exec-assigned limits IntLeaf c.in-Divide.slot SetDivide c.in-Divide.at.now (One (int_view c.in-Divide.e.now)) w d (cell_read-int c.in-Divide.e.now) ∙ ap (λ r. ends_as r d) c.divide.ensures.memory)
 
 pub statement-returns-in-Remainder-clause-ends : goal.statement-returns-in-Remainder-clause-ends
 statement-returns-in-Remainder-clause-ends t c done =
     let limits = c.args.frame.now.limits in
-    let w = c.args.frame.now.words in
+    let w = c.args.frame.now.memory in
     let d = having_printed c.args.out.now.items done in
-    told-ends c.rest.result c.told-in-Remainder.result c.rest.new.frame.words d _ c.told-in-Remainder.ensures
-    (ap (λ s. exec limits by_word (step_view s) w d) c.in-Remainder.is ∙ exec-assigned limits (int_leaf c.in-Remainder.slot) SetRemainder c.in-Remainder.at.now (One (int_view c.in-Remainder.e.now)) w d (cell_read-int c.in-Remainder.e.now) ∙ ap (λ r. ends_as r d) c.rest.ensures.words)
+    told-ends c.rest.result c.told-in-Remainder.result c.rest.new.frame.memory d _ c.told-in-Remainder.ensures
+    (ap (λ s. exec limits in_memory (step_view s) w d) c.in-Remainder.is ∙ exec-assigned limits IntLeaf c.in-Remainder.slot SetRemainder c.in-Remainder.at.now (One (int_view c.in-Remainder.e.now)) w d (cell_read-int c.in-Remainder.e.now) ∙ ap (λ r. ends_as r d) c.rest.ensures.memory)
 
 pub statement-returns-in-ReduceInt-clause-ends : goal.statement-returns-in-ReduceInt-clause-ends
 statement-returns-in-ReduceInt-clause-ends t c done =
     let limits = c.args.frame.now.limits in
-    let w = c.args.frame.now.words in
+    let w = c.args.frame.now.memory in
     let d = having_printed c.args.out.now.items done in
-    told-ends c.reduce_int.result c.told-in-ReduceInt.result c.reduce_int.new.frame.words d _ c.told-in-ReduceInt.ensures
-    (ap (λ s. exec limits by_word (step_view s) w d) c.in-ReduceInt.is ∙ exec-assigned limits (int_leaf c.in-ReduceInt.slot) SetReduce nowhere (One (int_view c.in-ReduceInt.e.now)) w d (cell_read-int c.in-ReduceInt.e.now) ∙ ap (λ r. ends_as r d) c.reduce_int.ensures.words)
+    told-ends c.reduce_int.result c.told-in-ReduceInt.result c.reduce_int.new.frame.memory d _ c.told-in-ReduceInt.ensures
+    (ap (λ s. exec limits in_memory (step_view s) w d) c.in-ReduceInt.is ∙ exec-assigned limits IntLeaf c.in-ReduceInt.slot SetReduce nowhere (One (int_view c.in-ReduceInt.e.now)) w d (cell_read-int c.in-ReduceInt.e.now) ∙ ap (λ r. ends_as r d) c.reduce_int.ensures.memory)
 
-pub statement-returns-in-ReduceTruth-clause-ends : goal.statement-returns-in-ReduceTruth-clause-ends
-statement-returns-in-ReduceTruth-clause-ends t c done =
+pub statement-returns-in-Truth-clause-ends : goal.statement-returns-in-Truth-clause-ends
+statement-returns-in-Truth-clause-ends t c done =
     let limits = c.args.frame.now.limits in
-    let w = c.args.frame.now.words in
+    let w = c.args.frame.now.memory in
     let d = having_printed c.args.out.now.items done in
-    told-ends c.reduce_truth.result c.told-in-ReduceTruth.result c.reduce_truth.new.frame.words d _ c.told-in-ReduceTruth.ensures
-    (ap (λ s. exec limits by_word (step_view s) w d) c.in-ReduceTruth.is ∙ exec-assigned limits (truth_leaf c.in-ReduceTruth.slot) SetReduce nowhere (One (truth_view c.in-ReduceTruth.e.now)) w d (cell_read-truth c.in-ReduceTruth.e.now) ∙ ap (λ r. ends_as r d) c.reduce_truth.ensures.words)
+    told-ends c.change_truth.result c.told-in-Truth.result c.change_truth.new.frame.memory d _ c.told-in-Truth.ensures
+    (ap (λ s. exec limits in_memory (step_view s) w d) c.in-Truth.is ∙ exec-truth limits c.in-Truth.deed c.in-Truth.slot (One (truth_view c.in-Truth.e.now)) w d (cell_read-truth c.in-Truth.e.now) ∙ ap (λ r. ends_as r d) c.change_truth.ensures.memory)
 
 pub turns-returns-in_err-turn-clause-ends : goal.turns-returns-in_err-turn-clause-ends
 turns-returns-in_err-turn-clause-ends t c done =
@@ -150,16 +127,16 @@ turns-returns-in_err-turn-clause-ends t c done =
     let i : ℤ = get_or is k (pos 0) in
     let within : k < length is = subst (λ n. k < n) c.size-k-end.ensures.length c.loop-k-test.true in
     let at : slice_get is k ≡ Some i = slice_get-get_or is k (pos 0) within in
-    let w = c.loop-k.frame.words in
+    let w = c.loop-k.frame.memory in
     let d = having_printed c.loop-k.out.items done in
-    let next = c.turn.new.frame.words in
+    let next = c.turn.new.frame.memory in
     let after = having_printed c.turn.new.out.items done in
     let h = c.in_err-turn.field-0.0 in
     let p = err_from_is_err_and c.from_residual.result c.from_residual.ensures.1 in
     rw (p.1, p.2)
     (halts-alike h next next after _ _ (sym (c.loop-k.invariant.ends done))
-    (in_turn-halts (turn_by_word c.args.frame.now.limits c.args.slot c.args.body.now) is k i h w next d after at
-    (halts-alike h next next after _ _ (ap (λ l. turn_by_word l c.args.slot c.args.body.now i w d) (sym c.loop-k.invariant.limits)) (c.in_err-turn.ensures.ends i done at))))
+    (in_turn-halts (turn_in_memory c.args.frame.now.limits c.args.slot c.args.body.now) is k i h w next d after at
+    (halts-alike h next next after _ _ (ap (λ l. turn_in_memory l c.args.slot c.args.body.now i w d) (sym c.loop-k.invariant.limits)) (c.in_err-turn.ensures.ends i done at))))
 
 pub turns-loop-k-preserved : goal.turns-loop-k-preserved
 turns-loop-k-preserved t c =
@@ -168,12 +145,12 @@ turns-loop-k-preserved t c =
     let i : ℤ = get_or is k (pos 0) in
     let within : k < length is = subst (λ n. k < n) c.size-k-end.ensures.length c.loop-k-test.true in
     let at : slice_get is k ≡ Some i = slice_get-get_or is k (pos 0) within in
-    let w = c.loop-k.frame.words in
+    let w = c.loop-k.frame.memory in
     record {
       ends = λ done.
           let d = having_printed c.loop-k.out.items done in
-          in_turn-done (turn_by_word c.args.frame.now.limits c.args.slot c.args.body.now) is k i w c.turn.new.frame.words d (having_printed c.turn.new.out.items done) at
-          (ap (λ l. turn_by_word l c.args.slot c.args.body.now i w d) (sym c.loop-k.invariant.limits) ∙ c.in_ok-turn.ensures.ends i done at)
+          in_turn-done (turn_in_memory c.args.frame.now.limits c.args.slot c.args.body.now) is k i w c.turn.new.frame.memory d (having_printed c.turn.new.out.items done) at
+          (ap (λ l. turn_in_memory l c.args.slot c.args.body.now i w d) (sym c.loop-k.invariant.limits) ∙ c.in_ok-turn.ensures.ends i done at)
           ∙ c.loop-k.invariant.ends done;
       limits = c.in_ok-turn.ensures.limits ∙ c.loop-k.invariant.limits;
     }
@@ -185,16 +162,16 @@ named_turns-returns-in_err-named_turn-clause-ends t c done =
     let i : ℤ = get_or is k (pos 0) in
     let within : k < length is = subst (λ n. k < n) c.size-k-end.ensures.length c.loop-k-test.true in
     let at : slice_get is k ≡ Some i = slice_get-get_or is k (pos 0) within in
-    let w = c.loop-k.frame.words in
+    let w = c.loop-k.frame.memory in
     let d = having_printed c.loop-k.out.items done in
-    let next = c.named_turn.new.frame.words in
+    let next = c.named_turn.new.frame.memory in
     let after = having_printed c.named_turn.new.out.items done in
     let h = c.in_err-named_turn.field-0.0 in
     let p = err_from_is_err_and c.from_residual.result c.from_residual.ensures.1 in
     rw (p.1, p.2)
     (halts-alike h next next after _ _ (sym (c.loop-k.invariant.ends done))
-    (in_turn-halts (named_by_word c.args.frame.now.limits c.args.slot c.args.body.now) is k i h w next d after at
-    (halts-alike h next next after _ _ (ap (λ l. named_by_word l c.args.slot c.args.body.now i w d) (sym c.loop-k.invariant.limits)) (c.in_err-named_turn.ensures.ends i done at))))
+    (in_turn-halts (named_in_memory c.args.frame.now.limits c.args.slot c.args.body.now) is k i h w next d after at
+    (halts-alike h next next after _ _ (ap (λ l. named_in_memory l c.args.slot c.args.body.now i w d) (sym c.loop-k.invariant.limits)) (c.in_err-named_turn.ensures.ends i done at))))
 
 pub named_turns-loop-k-preserved : goal.named_turns-loop-k-preserved
 named_turns-loop-k-preserved t c =
@@ -203,12 +180,12 @@ named_turns-loop-k-preserved t c =
     let i : ℤ = get_or is k (pos 0) in
     let within : k < length is = subst (λ n. k < n) c.size-k-end.ensures.length c.loop-k-test.true in
     let at : slice_get is k ≡ Some i = slice_get-get_or is k (pos 0) within in
-    let w = c.loop-k.frame.words in
+    let w = c.loop-k.frame.memory in
     record {
       ends = λ done.
           let d = having_printed c.loop-k.out.items done in
-          in_turn-done (named_by_word c.args.frame.now.limits c.args.slot c.args.body.now) is k i w c.named_turn.new.frame.words d (having_printed c.named_turn.new.out.items done) at
-          (ap (λ l. named_by_word l c.args.slot c.args.body.now i w d) (sym c.loop-k.invariant.limits) ∙ c.in_ok-named_turn.ensures.ends i done at)
+          in_turn-done (named_in_memory c.args.frame.now.limits c.args.slot c.args.body.now) is k i w c.named_turn.new.frame.memory d (having_printed c.named_turn.new.out.items done) at
+          (ap (λ l. named_in_memory l c.args.slot c.args.body.now i w d) (sym c.loop-k.invariant.limits) ∙ c.in_ok-named_turn.ensures.ends i done at)
           ∙ c.loop-k.invariant.ends done;
       limits = c.in_ok-named_turn.ensures.limits ∙ c.loop-k.invariant.limits;
     }
@@ -217,117 +194,117 @@ named_turns-loop-k-preserved t c =
 pub statement-returns-in-Block-clause-ends : goal.statement-returns-in-Block-clause-ends
 statement-returns-in-Block-clause-ends t c done =
     let limits = c.args.frame.now.limits in
-    let w = c.args.frame.now.words in
+    let w = c.args.frame.now.memory in
     let d = having_printed c.args.out.now.items done in
-    ends-alike c.run.result c.run.new.frame.words (having_printed c.run.new.out.items done) _ _
-    (ap (λ s. exec limits by_word (step_view s) w d) c.in-Block.is ∙ ap (λ t. exec limits by_word t w d) (block_view c.in-Block.steps) ∙ scoped-same (exec_all limits by_word (steps_of c.in-Block.steps.now)) w d)
+    ends-alike c.run.result c.run.new.frame.memory (having_printed c.run.new.out.items done) _ _
+    (ap (λ s. exec limits in_memory (step_view s) w d) c.in-Block.is ∙ ap (λ t. exec limits in_memory t w d) (block_view c.in-Block.steps) ∙ scoped-same (exec_all limits in_memory (steps_of c.in-Block.steps.now)) w d)
     (c.run.ensures.ends done)
 
 pub statement-returns-then-get-clause-ends : goal.statement-returns-then-get-clause-ends
 statement-returns-then-get-clause-ends t c done =
     let limits = c.args.frame.now.limits in
-    let w = c.args.frame.now.words in
+    let w = c.args.frame.now.memory in
     let d = having_printed c.args.out.now.items done in
     let holding : c.in_ok-truth_value-in-If.field-0 ≡ true = search rules in
-    ends-alike c.run-then-get.result c.run-then-get.new.frame.words (having_printed c.run-then-get.new.out.items done) _ _
-    (ap (λ s. exec limits by_word (step_view s) w d) c.in-If.is
-    ∙ ap (λ t. exec limits by_word t w d) (if_view c.in-If.condition c.in-If.body c.in-If.otherwise)
+    ends-alike c.run-then-get.result c.run-then-get.new.frame.memory (having_printed c.run-then-get.new.out.items done) _ _
+    (ap (λ s. exec limits in_memory (step_view s) w d) c.in-If.is
+    ∙ ap (λ t. exec limits in_memory t w d) (if_view c.in-If.condition c.in-If.body c.in-If.otherwise)
     ∙ if-then limits (truth_view c.in-If.condition.now) c.in-If.body.now (else_view c.in-If.otherwise) w d (c.in_ok-truth_value-in-If.ensures ∙ ap (λ b. Ok (Truth b)) holding))
     (c.run-then-get.ensures.ends done)
 
 pub statement-returns-in-While-clause-ends : goal.statement-returns-in-While-clause-ends
 statement-returns-in-While-clause-ends t c done =
     let limits = c.args.frame.now.limits in
-    let w = c.args.frame.now.words in
+    let w = c.args.frame.now.memory in
     let d = having_printed c.args.out.now.items done in
-    ends-alike c.while_loop.result c.while_loop.new.frame.words (having_printed c.while_loop.new.out.items done) _ _
-    (ap (λ s. exec limits by_word (step_view s) w d) c.in-While.is
-    ∙ ap (λ t. exec limits by_word t w d) (while_view c.in-While.at c.in-While.condition c.in-While.body)
+    ends-alike c.while_loop.result c.while_loop.new.frame.memory (having_printed c.while_loop.new.out.items done) _ _
+    (ap (λ s. exec limits in_memory (step_view s) w d) c.in-While.is
+    ∙ ap (λ t. exec limits in_memory t w d) (while_view c.in-While.at c.in-While.condition c.in-While.body)
     ∙ exec-while limits c.in-While.at.now (truth_view c.in-While.condition.now) c.in-While.body.now w d)
     (c.while_loop.ensures.ends done)
 
 pub statement-returns-in-For-clause-ends : goal.statement-returns-in-For-clause-ends
 statement-returns-in-For-clause-ends t c done =
     let limits = c.args.frame.now.limits in
-    let w = c.args.frame.now.words in
+    let w = c.args.frame.now.memory in
     let d = having_printed c.args.out.now.items done in
-    ends-alike c.for_loop.result c.for_loop.new.frame.words (having_printed c.for_loop.new.out.items done) _ _
-    (ap (λ s. exec limits by_word (step_view s) w d) c.in-For.is
-    ∙ ap (λ t. exec limits by_word t w d) (for_view c.in-For.at c.in-For.slot c.in-For.over c.in-For.body))
+    ends-alike c.for_loop.result c.for_loop.new.frame.memory (having_printed c.for_loop.new.out.items done) _ _
+    (ap (λ s. exec limits in_memory (step_view s) w d) c.in-For.is
+    ∙ ap (λ t. exec limits in_memory t w d) (for_view c.in-For.at c.in-For.slot c.in-For.over c.in-For.body))
     (c.for_loop.ensures.ends done)
 
 pub statement-returns-in-Forall-clause-ends : goal.statement-returns-in-Forall-clause-ends
 statement-returns-in-Forall-clause-ends t c done =
     let limits = c.args.frame.now.limits in
-    let w = c.args.frame.now.words in
+    let w = c.args.frame.now.memory in
     let d = having_printed c.args.out.now.items done in
-    ends-alike c.forall_loop.result c.forall_loop.new.frame.words (having_printed c.forall_loop.new.out.items done) _ _
-    (ap (λ s. exec limits by_word (step_view s) w d) c.in-Forall.is
-    ∙ ap (λ t. exec limits by_word t w d) (forall_view c.in-Forall.at c.in-Forall.slot c.in-Forall.over c.in-Forall.intents c.in-Forall.body))
+    ends-alike c.forall_loop.result c.forall_loop.new.frame.memory (having_printed c.forall_loop.new.out.items done) _ _
+    (ap (λ s. exec limits in_memory (step_view s) w d) c.in-Forall.is
+    ∙ ap (λ t. exec limits in_memory t w d) (forall_view c.in-Forall.at c.in-Forall.slot c.in-Forall.over c.in-Forall.intents c.in-Forall.body))
     (c.forall_loop.ensures.ends done)
 
 pub for_loop-returns-clause-ends : goal.for_loop-returns-clause-ends
 for_loop-returns-clause-ends t c done =
-    ends-alike c.turns.result c.turns.new.frame.words (having_printed c.turns.new.out.items done) _ _
-    (for-turns c.args.frame.now.limits c.args.slot c.args.body.now c.args.at.now (range_item c.args.over.now) c.args.frame.now.words (having_printed c.args.out.now.items done) (range_word c.in_ok-range.field-0) c.in_ok-range.ensures)
+    ends-alike c.turns.result c.turns.new.frame.memory (having_printed c.turns.new.out.items done) _ _
+    (for-turns c.args.frame.now.limits c.args.slot c.args.body.now c.args.at.now (range_item c.args.over.now) c.args.frame.now.memory (having_printed c.args.out.now.items done) (range_word c.in_ok-range.field-0) c.in_ok-range.ensures)
     (c.turns.ensures.ends done)
 
 pub forall_loop-returns-clause-ends : goal.forall_loop-returns-clause-ends
 forall_loop-returns-clause-ends t c done =
     let limits = c.args.frame.now.limits in
-    let w = c.args.frame.now.words in
+    let w = c.args.frame.now.memory in
     let d = having_printed c.args.out.now.items done in
     let r = c.in_ok-range.field-0 in
     let after = having_printed c.named_turns.new.out.items done in
     forall-turns limits c.args.slot c.args.body.now (map intent_view c.args.intents.now) c.args.at.now (range_item c.args.over.now) w d (range_word r) c.in_ok-range.ensures
-    ∙ ap (λ (f : Framed). then_do (in_turn (named_by_word f.limits c.args.slot c.args.body.now) (members_of r.range) f.words d) (λ s done. Done (by_word.intend [] s) done)) (sym c.intend.ensures)
-    ∙ ap (λ o. then_do o (λ s done. Done (by_word.intend [] s) done)) (c.in_ok-named_turns.ensures.ends done)
-    ∙ ap (λ (f : Framed). Done f.words after) (sym c.intend-2.ensures)
+    ∙ ap (λ (f : Framed). then_do (in_turn (named_in_memory f.limits c.args.slot c.args.body.now) (members_of r.range) f.memory d) (λ s done. Done (in_memory.intend [] s) done)) (sym c.intend.ensures)
+    ∙ ap (λ o. then_do o (λ s done. Done (in_memory.intend [] s) done)) (c.in_ok-named_turns.ensures.ends done)
+    ∙ ap (λ (f : Framed). Done f.memory after) (sym c.intend-2.ensures)
 
 pub forall_loop-returns-in_err-named_turns-clause-ends : goal.forall_loop-returns-in_err-named_turns-clause-ends
 forall_loop-returns-in_err-named_turns-clause-ends t c done =
     let limits = c.args.frame.now.limits in
-    let w = c.args.frame.now.words in
+    let w = c.args.frame.now.memory in
     let d = having_printed c.args.out.now.items done in
     let r = c.in_ok-range.field-0 in
-    let next = c.named_turns.new.frame.words in
+    let next = c.named_turns.new.frame.memory in
     let after = having_printed c.named_turns.new.out.items done in
     let h = c.in_err-named_turns.field-0.0 in
     let p = err_from_is_err_and c.from_residual-in_err-named_turns.result c.from_residual-in_err-named_turns.ensures.1 in
     rw (p.1, p.2)
     (halts-alike h next next after _ _
     (forall-turns limits c.args.slot c.args.body.now (map intent_view c.args.intents.now) c.args.at.now (range_item c.args.over.now) w d (range_word r) c.in_ok-range.ensures
-    ∙ ap (λ (f : Framed). then_do (in_turn (named_by_word f.limits c.args.slot c.args.body.now) (members_of r.range) f.words d) (λ s done. Done (by_word.intend [] s) done)) (sym c.intend.ensures))
-    (then_do-halts h next next after _ (λ s done. Done (by_word.intend [] s) done) (c.in_err-named_turns.ensures.ends done)))
+    ∙ ap (λ (f : Framed). then_do (in_turn (named_in_memory f.limits c.args.slot c.args.body.now) (members_of r.range) f.memory d) (λ s done. Done (in_memory.intend [] s) done)) (sym c.intend.ensures))
+    (then_do-halts h next next after _ (λ s done. Done (in_memory.intend [] s) done) (c.in_err-named_turns.ensures.ends done)))
 
 -- WHILES
 pub while_loop-returns-in_err-truth_value-clause-ends : goal.while_loop-returns-in_err-truth_value-clause-ends
 while_loop-returns-in_err-truth_value-clause-ends t c done =
     let limits = c.args.frame.now.limits in
     let e = truth_view c.args.condition.now in
-    let body = exec_all limits by_word (steps_of c.args.body.now) in
-    let w = c.loop-left.frame.words in
+    let body = exec_all limits in_memory (steps_of c.args.body.now) in
+    let w = c.loop-left.frame.memory in
     let d = having_printed c.loop-left.out.items done in
     let f = c.in_err-truth_value.field-0.0 in
     let p = err_from_is_err_and c.from_residual.result c.from_residual.ensures.1 in
     rw p.1
     (fault-ends f p.0 w d _ p.2
     (sym (c.loop-left.invariant.ends done)
-    ∙ repeated-fault c.args.at.now (holds limits by_word e) body c.loop-left.left w d f (holds-fault limits e w f (ap (λ l. value_of l by_word e None w) (sym c.loop-left.invariant.limits) ∙ c.in_err-truth_value.ensures))))
+    ∙ repeated-fault c.args.at.now (holds limits in_memory e) body c.loop-left.left w d f (holds-fault limits e w f (ap (λ l. value_of l in_memory e None w) (sym c.loop-left.invariant.limits) ∙ c.in_err-truth_value.ensures))))
 
 pub while_loop-loop-left-preserved : goal.while_loop-loop-left-preserved
 while_loop-loop-left-preserved t c =
     let limits = c.args.frame.now.limits in
     let e = truth_view c.args.condition.now in
-    let body = exec_all limits by_word (steps_of c.args.body.now) in
-    let w = c.loop-left.frame.words in
+    let body = exec_all limits in_memory (steps_of c.args.body.now) in
+    let w = c.loop-left.frame.memory in
     let holding : c.in_ok-truth_value.field-0 ≡ true = search rules in
     let some : 0 < c.loop-left.left = search rules in
     record {
       ends = λ done.
           let d = having_printed c.loop-left.out.items done in
-          sym (repeated-step c.args.at.now (holds limits by_word e) body c.loop-left.left w d some (holds-value limits e w true (ap (λ l. value_of l by_word e None w) (sym c.loop-left.invariant.limits) ∙ c.in_ok-truth_value.ensures ∙ ap (λ b. Ok (Truth b)) holding))
-          ∙ ap (λ o. then_do o (repeated (c.loop-left.left - 1) c.args.at.now (holds limits by_word e) body)) (ap (λ l. exec_all l by_word (steps_of c.args.body.now) w d) (sym c.loop-left.invariant.limits) ∙ c.in_ok-run.ensures.ends done))
+          sym (repeated-step c.args.at.now (holds limits in_memory e) body c.loop-left.left w d some (holds-value limits e w true (ap (λ l. value_of l in_memory e None w) (sym c.loop-left.invariant.limits) ∙ c.in_ok-truth_value.ensures ∙ ap (λ b. Ok (Truth b)) holding))
+          ∙ ap (λ o. then_do o (repeated (c.loop-left.left - 1) c.args.at.now (holds limits in_memory e) body)) (ap (λ l. exec_all l in_memory (steps_of c.args.body.now) w d) (sym c.loop-left.invariant.limits) ∙ c.in_ok-run.ensures.ends done))
           ∙ c.loop-left.invariant.ends done;
       limits = c.in_ok-run.ensures.limits ∙ c.loop-left.invariant.limits;
     }
@@ -336,10 +313,10 @@ pub while_loop-returns-in_err-run-clause-ends : goal.while_loop-returns-in_err-r
 while_loop-returns-in_err-run-clause-ends t c done =
     let limits = c.args.frame.now.limits in
     let e = truth_view c.args.condition.now in
-    let body = exec_all limits by_word (steps_of c.args.body.now) in
-    let w = c.loop-left.frame.words in
+    let body = exec_all limits in_memory (steps_of c.args.body.now) in
+    let w = c.loop-left.frame.memory in
     let d = having_printed c.loop-left.out.items done in
-    let next = c.run.new.frame.words in
+    let next = c.run.new.frame.memory in
     let after = having_printed c.run.new.out.items done in
     let h = c.in_err-run.field-0.0 in
     let holding : c.in_ok-truth_value.field-0 ≡ true = search rules in
@@ -348,16 +325,16 @@ while_loop-returns-in_err-run-clause-ends t c done =
     rw (p.1, p.2)
     (halts-alike h next next after _ _
     (sym (c.loop-left.invariant.ends done)
-    ∙ repeated-step c.args.at.now (holds limits by_word e) body c.loop-left.left w d some (holds-value limits e w true (ap (λ l. value_of l by_word e None w) (sym c.loop-left.invariant.limits) ∙ c.in_ok-truth_value.ensures ∙ ap (λ b. Ok (Truth b)) holding)))
-    (then_do-halts h next next after _ (repeated (c.loop-left.left - 1) c.args.at.now (holds limits by_word e) body)
-    (halts-alike h next next after _ _ (ap (λ l. exec_all l by_word (steps_of c.args.body.now) w d) (sym c.loop-left.invariant.limits)) (c.in_err-run.ensures.ends done))))
+    ∙ repeated-step c.args.at.now (holds limits in_memory e) body c.loop-left.left w d some (holds-value limits e w true (ap (λ l. value_of l in_memory e None w) (sym c.loop-left.invariant.limits) ∙ c.in_ok-truth_value.ensures ∙ ap (λ b. Ok (Truth b)) holding)))
+    (then_do-halts h next next after _ (repeated (c.loop-left.left - 1) c.args.at.now (holds limits in_memory e) body)
+    (halts-alike h next next after _ _ (ap (λ l. exec_all l in_memory (steps_of c.args.body.now) w d) (sym c.loop-left.invariant.limits)) (c.in_err-run.ensures.ends done))))
 
 pub while_loop-returns-clause-ends : goal.while_loop-returns-clause-ends
 while_loop-returns-clause-ends t c done =
     let limits = c.args.frame.now.limits in
     let e = truth_view c.args.condition.now in
-    let w = c.loop-left.frame.words in
+    let w = c.loop-left.frame.memory in
     let holding : c.in_ok-truth_value.field-0 ≡ false = search rules in
     sym (c.loop-left.invariant.ends done)
-    ∙ repeated-ends c.args.at.now (holds limits by_word e) (exec_all limits by_word (steps_of c.args.body.now)) c.loop-left.left w (having_printed c.loop-left.out.items done)
-    (holds-value limits e w false (ap (λ l. value_of l by_word e None w) (sym c.loop-left.invariant.limits) ∙ c.in_ok-truth_value.ensures ∙ ap (λ b. Ok (Truth b)) holding))
+    ∙ repeated-ends c.args.at.now (holds limits in_memory e) (exec_all limits in_memory (steps_of c.args.body.now)) c.loop-left.left w (having_printed c.loop-left.out.items done)
+    (holds-value limits e w false (ap (λ l. value_of l in_memory e None w) (sym c.loop-left.invariant.limits) ∙ c.in_ok-truth_value.ensures ∙ ap (λ b. Ok (Truth b)) holding))
