@@ -19,7 +19,7 @@ use Rattle.dpl_rules.specs.Expressions.{type_of, chain_type}
 use Rattle.dpl_lowered.specs.Known.{Known}
 use Rattle.dpl_lowered.specs.Shapes.{kept, two, grouped, passes_on, all_pass_on, nests, nested}
 use Rattle.dpl_lowered.specs.LoweredExpressions.{Times, Once, lowered_links}
-use Rattle.dpl_words.specs.Words.{known_leaf}
+use Rattle.dpl_memory.specs.Memory.{known_variable}
 use Rattle.dpl_nodes.specs.declared.make.Typed.{Typed}
 use Rattle.dpl_nodes.specs.Makers.{typed_view, kind_of, infix_kind}
 use Rattle.dpl_elaborator.specs.Leaves.{leaf_in, IsOfKind, IsFound}
@@ -114,7 +114,7 @@ module _ (scopes : Scopes) where
     chain-node seen nest =
         so_far.node
         ∙ ap (λ a. grouped a (links_leaves scopes ls)) seen
-        ∙ sym (nested-grouped (leaves_of scopes e) (links_leaves scopes ls) (nests-lowered known_leaf Once (leaf_in scopes) ls ∙ nest))
+        ∙ sym (nested-grouped (leaves_of scopes e) (links_leaves scopes ls) (nests-lowered known_variable Once (leaf_in scopes) ls ∙ nest))
 
     pub chain-kind : IsOfKind (kind_of first) (type_of scopes e) → IsOfKind (kind_of t) (type_of scopes (Chain e ls))
     chain-kind kind =

@@ -6,8 +6,8 @@ use Rattle.dpl_language.specs.Names.{Text}
 use Rattle.dpl_language.specs.Phrases.{bare_name, method_read, post_read, posts_read, read_by, cell_read, item_read}
 use Rattle.dpl_language.specs.Renamed.{renamed_expr, renamed_item, renamed_stride, renamed_links, renamed_posts, renamed_post, renamed_method, renamed_items, renamed_exprs}
 use Rattle.dpl_rules.specs.Sights.{Scopes}
-use Rattle.dpl_words.specs.Resolved.{Bound, innermost}
-use Rattle.dpl_words.proofs.Fitting.{NamesAre, ItemNamesAre, StrideNamesAre, LinksNamesAre, PostsNamesAre, PostNamesAre, MethodNamesAre, ItemsNamesAre, ExprsNamesAre}
+use Rattle.dpl_memory.specs.Resolved.{Bound, innermost}
+use Rattle.dpl_memory.proofs.Fitting.{NamesAre, ItemNamesAre, StrideNamesAre, LinksNamesAre, PostsNamesAre, PostNamesAre, MethodNamesAre, ItemsNamesAre, ExprsNamesAre}
 use Rattle.dpl_elaborator.specs.Leaves.{IsFound}
 use Rattle.dpl_elaborator.specs.Simple.{IsSimple, IsSimpleItem, IsSimpleStride, AreSimpleLinks, AreSimplePosts, IsSimplePost, IsSimpleMethod, IsSimpleCut, IsSimpleIndex}
 use Rattle.dpl_elaborator.specs.Sights.{bound_in, sight_of, ArePlainScopes}
@@ -15,9 +15,9 @@ use Rattle.dpl_elaborator.proofs.Sights.{innermost-found}
 
 -- ---- names
 module _ (scopes : Scopes) (plain : ArePlainScopes scopes) where
-  -- a name has the leaf of its innermost declaration
+  -- a name has the kind and the slot of its innermost declaration
   abbrev IsIn : Bound → Type 0
-  IsIn b = innermost b.text (sight_of scopes) ≡ Some b.leaf
+  IsIn b = innermost b.text (sight_of scopes) ≡ Some (b.variable.kind, b.variable.slot)
 
   abbrev Found : Text → Type 0
   Found x = IsFound scopes x
@@ -73,10 +73,10 @@ module _ (scopes : Scopes) (plain : ArePlainScopes scopes) where
     index_names (FirstExpr e NoExprs) h = (expr_names e h, tt)
     index_names (FirstExpr e (NextExpr comma f more)) h = absurd h
 
-pub expr_names-simple : (scopes : Scopes) (e : ExprTree Text) → ArePlainScopes scopes → IsSimple (IsFound scopes) e → NamesAre (λ b. innermost b.text (sight_of scopes) ≡ Some b.leaf) (renamed_expr (bound_in scopes) e)
+pub expr_names-simple : (scopes : Scopes) (e : ExprTree Text) → ArePlainScopes scopes → IsSimple (IsFound scopes) e → NamesAre (λ b. innermost b.text (sight_of scopes) ≡ Some (b.variable.kind, b.variable.slot)) (renamed_expr (bound_in scopes) e)
 expr_names-simple scopes e plain h = expr_names scopes plain e h
 
-pub names-simple : (scopes : Scopes) (i : ItemTree Text) → ArePlainScopes scopes → IsSimpleItem (IsFound scopes) i → ItemNamesAre (λ b. innermost b.text (sight_of scopes) ≡ Some b.leaf) (renamed_item (bound_in scopes) i)
+pub names-simple : (scopes : Scopes) (i : ItemTree Text) → ArePlainScopes scopes → IsSimpleItem (IsFound scopes) i → ItemNamesAre (λ b. innermost b.text (sight_of scopes) ≡ Some (b.variable.kind, b.variable.slot)) (renamed_item (bound_in scopes) i)
 names-simple scopes i plain h = item_names scopes plain i h
 
 -- ---- cell reads

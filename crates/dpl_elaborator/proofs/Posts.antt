@@ -16,52 +16,26 @@ use Rattle.dpl_rules.specs.Verdicts.{type_by}
 use Rattle.dpl_rules.specs.Places.{last_of, last_of_post}
 use Rattle.dpl_rules.specs.Sights.{Scopes}
 use Rattle.dpl_rules.specs.Expressions.{bare_locales, locales_or, type_of, posts_type, post_verdict}
+use Rattle.dpl_lowered.specs.Known.{PlainValue, may_be_array}
 use Rattle.dpl_lowered.specs.Shapes.{stacked, stacked_on}
-use Rattle.dpl_lowered.specs.LoweredExpressions.{rebased, read_base, told_base, based, lowered_posts, lowered_post}
-use Rattle.dpl_words.specs.Words.{Leaf, known_leaf}
+use Rattle.dpl_lowered.specs.LoweredExpressions.{rebased, name_base, read_base, told_base, based, lowered_posts, lowered_post}
+use Rattle.dpl_memory.specs.Memory.{Variable, known_variable}
 use Rattle.dpl_nodes.specs.declared.make.Typed.{Typed}
 use Rattle.dpl_nodes.specs.Makers.{typed_view, kind_of}
 use Rattle.dpl_elaborator.specs.Leaves.{leaf_in, IsFound, IsOfKind}
 use Rattle.dpl_language.specs.Spelled.{HasPosts}
 use Rattle.dpl_elaborator.specs.Simple.{IsSimple, IsSimpleItem, AreSimplePosts, IsSimplePost, IsSimpleMethod, IsSimpleCut, IsSimpleIndex}
 use Rattle.dpl_elaborator.specs.Elaborated.{leaves_of, posts_leaves, IsPostOf, ArePostsSoFar, HasNoPost, HaveNoPosts}
+use Rattle.dpl_elaborator.proofs.Names.{leaf_in-known}
 
 -- ---- the base
--- it isn't the word `Locales`
-abbrev IsNoLocales : {N : Type 0} → Base N → Type 0
-IsNoLocales (BaseName x) = Unit {0}
-IsNoLocales (BaseLocales at) = ⊥
-IsNoLocales OtherBase = Unit {0}
+-- it isn't the word `Locales`, and its name is no array's
+abbrev IsPlainBase : Base Variable → Type 0
+IsPlainBase (BaseName x) = known_variable x.name ≡ PlainValue
+IsPlainBase (BaseLocales at) = ⊥
+IsPlainBase OtherBase = Unit {0}
 
-module _ (P : Text → Type 0) (f : Text → Leaf) where
-  mutual
-    base_of-simple : (e : ExprTree Text) → IsSimple P e → IsNoLocales (base_of (renamed_expr f e))
-    base_of-simple (Number at n) h = tt
-    base_of-simple (TruthWord at b) h = tt
-    base_of-simple (Named x) h = tt
-    base_of-simple (LocalesWord at) h = absurd h
-    base_of-simple (LocaleCount at) h = tt
-    base_of-simple (HereWord at) h = tt
-    base_of-simple (Grouped from item upto) h = item_base-simple item h
-    base_of-simple (DomainLiteral from items upto) h = tt
-    base_of-simple (Prefixed at op e) h = tt
-    base_of-simple (Reduced at op word e) h = tt
-    base_of-simple (Chain e rest) h = tt
-    base_of-simple (Postfixed e posts) h = tt
-
-    item_base-simple : (i : ItemTree Text) → IsSimpleItem P i → IsNoLocales (item_base (renamed_item f i))
-    item_base-simple (One e) h = base_of-simple e h
-    item_base-simple (RangeItem low at dots high by) h = tt
-
-  -- a fault tells nothing of a plain variable before brackets
-  told_base-simple : (ps : Posts Text) (b : Base Leaf) → AreSimplePosts P ps → IsNoLocales b → told_base known_leaf (renamed_posts f ps) b ≡ OtherBase
-  told_base-simple NoPosts b h i = refl
-  told_base-simple (Post (Brackets from items upto) rest) (BaseName x) h i = refl
-  told_base-simple (Post (Brackets from items upto) rest) (BaseLocales at) h i = absurd i
-  told_base-simple (Post (Brackets from items upto) rest) OtherBase h i = refl
-  told_base-simple (Post (Rounds from es upto) rest) b h i = absurd h.0
-  told_base-simple (Post (Dotted dot m) rest) b h i = refl
-
+module _ (P : Text → Type 0) (f : Text → Variable) where
   method_read-renamed : (m : MethodTree Text) → IsSimpleMethod P m → method_read (renamed_method f m) ≡ None
   method_read-renamed (Plainly at w) h = refl
   method_read-renamed (Dim at from rank_at d upto) h = refl
@@ -79,23 +53,52 @@ module _ (P : Text → Type 0) (f : Text → Leaf) where
   posts_read-renamed (Post p NoPosts) h = post_read-renamed p h.0
   posts_read-renamed (Post p (Post q rest)) h = refl
 
-  -- so a base stands before posts as it stands alone
-  based-simple : (e : ExprTree Text) (ps : Posts Text) (x : ExprTree Leaf) → IsSimple P e → AreSimplePosts P ps → based known_leaf (renamed_posts f ps) (renamed_expr f e) x ≡ x
-  based-simple e ps x h i =
-      ap (λ o. read_base o (bare_name (renamed_expr f e)) (rebased (told_base known_leaf (renamed_posts f ps) (base_of (renamed_expr f e))) x)) (posts_read-renamed ps i)
-      ∙ ap (λ b. rebased b x) (told_base-simple ps (base_of (renamed_expr f e)) i (base_of-simple e h))
+  module _ (plain : (x : Text) → known_variable (f x) ≡ PlainValue) where
+    mutual
+      base_of-simple : (e : ExprTree Text) → IsSimple P e → IsPlainBase (base_of (renamed_expr f e))
+      base_of-simple (Number at n) h = tt
+      base_of-simple (TruthWord at b) h = tt
+      base_of-simple (Named x) h = plain x.name
+      base_of-simple (LocalesWord at) h = absurd h
+      base_of-simple (LocaleCount at) h = tt
+      base_of-simple (HereWord at) h = tt
+      base_of-simple (Grouped from item upto) h = item_base-simple item h
+      base_of-simple (DomainLiteral from items upto) h = tt
+      base_of-simple (Prefixed at op e) h = tt
+      base_of-simple (Reduced at op word e) h = tt
+      base_of-simple (Chain e rest) h = tt
+      base_of-simple (Postfixed e posts) h = tt
+
+      item_base-simple : (i : ItemTree Text) → IsSimpleItem P i → IsPlainBase (item_base (renamed_item f i))
+      item_base-simple (One e) h = base_of-simple e h
+      item_base-simple (RangeItem low at dots high by) h = tt
+
+    -- a fault tells nothing of a plain variable before brackets
+    told_base-simple : (ps : Posts Text) (b : Base Variable) → AreSimplePosts P ps → IsPlainBase b → told_base known_variable (renamed_posts f ps) b ≡ OtherBase
+    told_base-simple NoPosts b h i = refl
+    told_base-simple (Post (Brackets from items upto) rest) (BaseName x) h i = ap (λ k. name_base (may_be_array k) x) i
+    told_base-simple (Post (Brackets from items upto) rest) (BaseLocales at) h i = absurd i
+    told_base-simple (Post (Brackets from items upto) rest) OtherBase h i = refl
+    told_base-simple (Post (Rounds from es upto) rest) b h i = absurd h.0
+    told_base-simple (Post (Dotted dot m) rest) b h i = refl
+
+    -- so a base stands before posts as it stands alone
+    based-simple : (e : ExprTree Text) (ps : Posts Text) (x : ExprTree Variable) → IsSimple P e → AreSimplePosts P ps → based known_variable (renamed_posts f ps) (renamed_expr f e) x ≡ x
+    based-simple e ps x h i =
+        ap (λ o. read_base o (bare_name (renamed_expr f e)) (rebased (told_base known_variable (renamed_posts f ps) (base_of (renamed_expr f e))) x)) (posts_read-renamed ps i)
+        ∙ ap (λ b. rebased b x) (told_base-simple ps (base_of (renamed_expr f e)) i (base_of-simple e h))
 
   -- and posts stand alike behind any base
-  lowered_post-simple : (b : Base Leaf) (p : PostTree Text) → IsSimplePost P p → lowered_post known_leaf b (renamed_post f p) ≡ lowered_post known_leaf OtherBase (renamed_post f p)
+  lowered_post-simple : (b : Base Variable) (p : PostTree Text) → IsSimplePost P p → lowered_post known_variable b (renamed_post f p) ≡ lowered_post known_variable OtherBase (renamed_post f p)
   lowered_post-simple b (Brackets from items upto) h = refl
   lowered_post-simple b (Rounds from es upto) h = absurd h
   lowered_post-simple b (Dotted dot m) h = refl
 
-  lowered_posts-simple : (b : Base Leaf) (ps : Posts Text) → AreSimplePosts P ps → lowered_posts known_leaf b (renamed_posts f ps) ≡ lowered_posts known_leaf OtherBase (renamed_posts f ps)
+  lowered_posts-simple : (b : Base Variable) (ps : Posts Text) → AreSimplePosts P ps → lowered_posts known_variable b (renamed_posts f ps) ≡ lowered_posts known_variable OtherBase (renamed_posts f ps)
   lowered_posts-simple b NoPosts h = refl
-  lowered_posts-simple b (Post p rest) h = ap (λ q. Post q (lowered_posts known_leaf OtherBase (renamed_posts f rest))) (lowered_post-simple b p h.0)
+  lowered_posts-simple b (Post p rest) h = ap (λ q. Post q (lowered_posts known_variable OtherBase (renamed_posts f rest))) (lowered_post-simple b p h.0)
 
-  stacked-some : (x : ExprTree Leaf) (ps : Posts Text) → HasPosts ps → stacked x (lowered_posts known_leaf OtherBase (renamed_posts f ps)) ≡ stacked_on x (lowered_posts known_leaf OtherBase (renamed_posts f ps))
+  stacked-some : (x : ExprTree Variable) (ps : Posts Text) → HasPosts ps → stacked x (lowered_posts known_variable OtherBase (renamed_posts f ps)) ≡ stacked_on x (lowered_posts known_variable OtherBase (renamed_posts f ps))
   stacked-some x NoPosts h = absurd h
   stacked-some x (Post p rest) h = refl
 
@@ -165,9 +168,9 @@ module _ (scopes : Scopes) where
   module _ (P : Text → Type 0) (e : ExprTree Text) (ps : Posts Text) where
     leaves_of-postfixed : IsSimple P e → AreSimplePosts P ps → HasPosts ps → leaves_of scopes (Postfixed e ps) ≡ stacked_on (leaves_of scopes e) (posts_leaves scopes ps)
     leaves_of-postfixed h i some =
-        ap (λ qs. stacked (based known_leaf (renamed_posts (leaf_in scopes) ps) (renamed_expr (leaf_in scopes) e) (leaves_of scopes e)) qs)
+        ap (λ qs. stacked (based known_variable (renamed_posts (leaf_in scopes) ps) (renamed_expr (leaf_in scopes) e) (leaves_of scopes e)) qs)
         (lowered_posts-simple P (leaf_in scopes) (base_of (renamed_expr (leaf_in scopes) e)) ps i)
-        ∙ ap (λ x. stacked x (posts_leaves scopes ps)) (based-simple P (leaf_in scopes) e ps (leaves_of scopes e) h i)
+        ∙ ap (λ x. stacked x (posts_leaves scopes ps)) (based-simple P (leaf_in scopes) (leaf_in-known scopes) e ps (leaves_of scopes e) h i)
         ∙ stacked-some P (leaf_in scopes) (leaves_of scopes e) ps some
 
     type_of-postfixed : IsSimple P e → type_of scopes (Postfixed e ps) ≡ posts_type scopes (last_of e) (type_of scopes e) ps

@@ -1,4 +1,4 @@
--- What is elaborated from an item has a value of the typed expression's kind, by words of any frame.
+-- What is elaborated from an item has a value of the typed expression's kind, in any memory.
 -- So a name of that kind may hold it, and a loop over it gives ints.
 use Rattle.std.proofs.Common.{◌≡◌, Result, Ok, None, sym, ap, ◌∙◌, subst}
 use Rattle.std.specs.Prelude.{option_map}
@@ -14,9 +14,10 @@ use Rattle.dpl_language.proofs.RenamedTwice.{renamed_item-twice}
 use Rattle.dpl_rules.specs.Sights.{Scopes}
 use Rattle.dpl_lowered.specs.LoweredExpressions.{Once, lowered_item}
 use Rattle.dpl_lowered.proofs.Values.{item_of-lowered}
-use Rattle.dpl_words.specs.Words.{LeafKind, Words, known_leaf, by_word}
-use Rattle.dpl_words.specs.Resolved.{leaf_of, IsOfKind, Suits}
-use Rattle.dpl_words.proofs.Known.{words-known}
+use Rattle.dpl_words.specs.Words.{LeafKind, IsOfKind}
+use Rattle.dpl_memory.specs.Memory.{PlainKind, Memory, known_variable, in_memory}
+use Rattle.dpl_memory.specs.Resolved.{variable_of, Suits}
+use Rattle.dpl_memory.proofs.Known.{memory-known}
 use Rattle.dpl_nodes.specs.declared.make.Typed.{Typed}
 use Rattle.dpl_nodes.specs.Makers.{typed_item, kind_of}
 use Rattle.dpl_nodes.proofs.Evaluated.{Gives, typed_item_gives}
@@ -26,16 +27,17 @@ use Rattle.dpl_elaborator.specs.Sights.{bound_in}
 given : (k : LeafKind) (r : Result Value Fault) (v : Value) → Gives k r → r ≡ Ok v → IsOfKind k v
 given k r v g e = subst (Gives k) e g
 
-module _ (scopes : Scopes) (t : Typed) (item : ItemTree Text) (is : typed_item t ≡ lowered_item known_leaf Once (renamed_item (leaf_in scopes) item)) where
-  -- what the resolved item is by words is what the typed one is
-  pub item_of-resolved : (limits : Limits) (s : Words) → item_of limits by_word (renamed_item leaf_of (renamed_item (bound_in scopes) item)) None s ≡ item_of limits by_word (typed_item t) None s
+module _ (scopes : Scopes) (t : Typed) (item : ItemTree Text) (is : typed_item t ≡ lowered_item known_variable Once (renamed_item (leaf_in scopes) item)) where
+  -- what the resolved item is in a memory is what the typed one is
+  pub item_of-resolved : (limits : Limits) (s : Memory) → item_of limits in_memory (renamed_item variable_of (renamed_item (bound_in scopes) item)) None s ≡ item_of limits in_memory (typed_item t) None s
   item_of-resolved limits s =
-      ap (λ i. item_of limits by_word i None s) (renamed_item-twice leaf_of (bound_in scopes) item)
-      ∙ sym (item_of-lowered limits by_word known_leaf words-known Once (renamed_item (leaf_in scopes) item) None s tt)
-      ∙ ap (λ i. item_of limits by_word i None s) (sym is)
+      ap (λ i. item_of limits in_memory i None s) (renamed_item-twice variable_of (bound_in scopes) item)
+      ∙ sym (item_of-lowered limits in_memory known_variable memory-known Once (renamed_item (leaf_in scopes) item) None s tt)
+      ∙ ap (λ i. item_of limits in_memory i None s) (sym is)
 
-  pub item-suits : item_read item ≡ None → Suits (kind_of t) (renamed_item (bound_in scopes) item)
+  pub item-suits : item_read item ≡ None → Suits (PlainKind (kind_of t)) (renamed_item (bound_in scopes) item)
   item-suits unread = (
     item_read-renamed (bound_in scopes) item ∙ ap (option_map (renamed_read (bound_in scopes))) unread,
-    λ limits s v e. given (kind_of t) (item_of limits by_word (typed_item t) None s) v (typed_item_gives limits s t) (sym (item_of-resolved limits s) ∙ e),
+    λ limits s v e. given (kind_of t) (item_of limits in_memory (typed_item t) None s) v (typed_item_gives limits s t) (sym (item_of-resolved limits s) ∙ e),
+    tt,
   )

@@ -12,7 +12,7 @@ use Rattle.dpl_rules.specs.Sights.{Scopes}
 use Rattle.dpl_rules.specs.Expressions.{range_item_verdict, chain_type, posts_type, post_verdict}
 use Rattle.dpl_lowered.specs.Shapes.{grouped, stacked_on}
 use Rattle.dpl_lowered.specs.LoweredExpressions.{Once, lowered_expr, lowered_item, lowered_stride, lowered_links, lowered_posts, lowered_post}
-use Rattle.dpl_words.specs.Words.{Leaf, known_leaf}
+use Rattle.dpl_memory.specs.Memory.{Variable, known_variable}
 use Rattle.dpl_tree.specs.declared.expression.Chain.{Chain as ChainNode, out-Chain}
 use Rattle.dpl_tree.specs.declared.expression.Range.{Range as RangeNode}
 use Rattle.dpl_tree.specs.declared.expression.Postfixed.{Postfixed as PostfixedNode}
@@ -25,18 +25,18 @@ use Rattle.dpl_spelling.specs.Spelt.{LinksSpelt, PostsSpelt}
 use Rattle.dpl_elaborator.specs.Leaves.{leaf_in, IsFound, IsOfKind, MayBePlain}
 use Rattle.dpl_elaborator.specs.Simple.{AreSimpleLinks, AreSimplePosts, IsSimplePost}
 
-abbrev pub leaves_of : Scopes → ExprTree Text → ExprTree Leaf
-leaves_of scopes e = lowered_expr known_leaf Once (renamed_expr (leaf_in scopes) e)
+abbrev pub leaves_of : Scopes → ExprTree Text → ExprTree Variable
+leaves_of scopes e = lowered_expr known_variable Once (renamed_expr (leaf_in scopes) e)
 
-abbrev pub item_leaves : Scopes → ItemTree Text → ItemTree Leaf
-item_leaves scopes i = lowered_item known_leaf Once (renamed_item (leaf_in scopes) i)
+abbrev pub item_leaves : Scopes → ItemTree Text → ItemTree Variable
+item_leaves scopes i = lowered_item known_variable Once (renamed_item (leaf_in scopes) i)
 
 -- a chain, by its first operand and the others
 abbrev pub chain_tree : ChainNode → ExprTree Text
 chain_tree v = Chain (expr_view (out-Chain v).first.now) (links_of (out-Chain v).links.now)
 
-abbrev pub links_leaves : Scopes → Links Text → Links Leaf
-links_leaves scopes ls = lowered_links known_leaf Once (renamed_links (leaf_in scopes) ls)
+abbrev pub links_leaves : Scopes → Links Text → Links Variable
+links_leaves scopes ls = lowered_links known_variable Once (renamed_links (leaf_in scopes) ls)
 
 -- The operands so far, of a chain whose first operand is given: what is made of them and of what is left is what is made
 -- of all; and so are types, names, and what is owed of them.
@@ -56,8 +56,8 @@ HasNoChain scopes first ls = (u : Option ValueType) → IsOfKind (kind_of first)
 abbrev pub range_tree : RangeNode → ItemTree Text
 range_tree r = RangeItem (expr_view r.low.now) r.at (dots_view r.dots) (expr_view r.high.now) (stride_view r.by)
 
-abbrev pub stride_leaves : Scopes → Stride Text → Stride Leaf
-stride_leaves scopes by = lowered_stride known_leaf (renamed_stride (leaf_in scopes) by)
+abbrev pub stride_leaves : Scopes → Stride Text → Stride Variable
+stride_leaves scopes by = lowered_stride known_variable (renamed_stride (leaf_in scopes) by)
 
 -- whatever the bounds are, there is no range with this stride
 abbrev pub HasNoRange : Scopes → Stride Text → Type 0
@@ -68,11 +68,11 @@ HasNoRange scopes by = (low high : Part) → type_by (range_item_verdict scopes 
 abbrev pub postfixed_tree : PostfixedNode → ExprTree Text
 postfixed_tree v = Postfixed (expr_view v.base.now) (posts_of v.posts.now)
 
-abbrev pub post_leaves : Scopes → PostTree Text → PostTree Leaf
-post_leaves scopes p = lowered_post known_leaf OtherBase (renamed_post (leaf_in scopes) p)
+abbrev pub post_leaves : Scopes → PostTree Text → PostTree Variable
+post_leaves scopes p = lowered_post known_variable OtherBase (renamed_post (leaf_in scopes) p)
 
-abbrev pub posts_leaves : Scopes → Posts Text → Posts Leaf
-posts_leaves scopes ps = lowered_posts known_leaf OtherBase (renamed_posts (leaf_in scopes) ps)
+abbrev pub posts_leaves : Scopes → Posts Text → Posts Variable
+posts_leaves scopes ps = lowered_posts known_variable OtherBase (renamed_posts (leaf_in scopes) ps)
 
 -- What is made of one bracket or one method behind a base that is given: the post behind the base, of its type's kind.
 pub record IsPostOf (scopes : Scopes) (base : Typed) (p : PostTree Text) (t : Typed) : Type 0 where

@@ -6,7 +6,8 @@ use Rattle.dpl_language.specs.Names.{Text}
 use Rattle.dpl_rules.specs.Types.{ValueType, Scalar, Range, Domain, Array, Promoted, Tuple, Locale, AllLocales, Cell}
 use Rattle.dpl_rules.specs.Sights.{Scopes, lookup, type_declared}
 use Rattle.dpl_scopes.specs.Slots.{slot_in}
-use Rattle.dpl_words.specs.Words.{LeafKind, IntLeaf, TruthLeaf, RangeLeaf, Leaf, int_leaf}
+use Rattle.dpl_words.specs.Words.{LeafKind, IntLeaf, TruthLeaf, RangeLeaf}
+use Rattle.dpl_memory.specs.Memory.{PlainKind, Variable, variable, int_leaf}
 
 -- the kind of a plain variable of a type
 abbrev pub plain_kind : ValueType → Option LeafKind
@@ -33,13 +34,13 @@ abbrev pub kind_in : Scopes → Text → Option LeafKind
 kind_in scopes x = kind_by (type_in scopes x)
 
 -- a leaf by its kind and slot; what has not both counts as the int in slot 0
-abbrev pub leaf_by : Option LeafKind → Option ℕ → Leaf
+abbrev pub leaf_by : Option LeafKind → Option ℕ → Variable
 leaf_by None slot = int_leaf 0
 leaf_by (Some k) None = int_leaf 0
-leaf_by (Some k) (Some slot) = record { kind = k; slot = slot }
+leaf_by (Some k) (Some slot) = variable (PlainKind k) slot
 
 -- the leaf of a name
-abbrev pub leaf_in : Scopes → Text → Leaf
+abbrev pub leaf_in : Scopes → Text → Variable
 leaf_in scopes x = leaf_by (kind_in scopes x) (slot_in scopes x)
 
 -- the name is in sight as a plain variable, so that its leaf is its declaration's

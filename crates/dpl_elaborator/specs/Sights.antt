@@ -2,23 +2,24 @@
 -- The scopes of the check have the latest declaration first, and a frame has them in order.
 use Rattle.std.specs.Prelude.{◌≡◌, ℕ, suc, ◌+◌, List, [], ◌∷◌, ◌++◌, length, Some, None}
 use Rattle.dpl_language.specs.Names.{Text}
+use Rattle.dpl_language.specs.Scopes.{PlainSort}
 use Rattle.dpl_rules.specs.Sights.{Declared, Scope, Scopes, find}
 use Rattle.dpl_scopes.specs.Slots.{count_in}
 use Rattle.dpl_words.specs.Words.{LeafKind}
-use Rattle.dpl_words.specs.Resolved.{Bound, Sight}
+use Rattle.dpl_memory.specs.Resolved.{Bound, Sighted, Sight, sighted}
 use Rattle.dpl_elaborator.specs.Leaves.{kind_by, leaf_by, leaf_in}
 
 -- a name, resolved
 abbrev pub bound_in : Scopes → Text → Bound
-bound_in scopes x = record { text = x; leaf = leaf_in scopes x }
+bound_in scopes x = record { text = x; variable = leaf_in scopes x }
 
 abbrev pub bound_at : Declared → ℕ → Bound
-bound_at d slot = record { text = d.origin.name; leaf = leaf_by (kind_by d.type) (Some slot) }
+bound_at d slot = record { text = d.origin.name; variable = leaf_by (kind_by d.type) (Some slot) }
 
 -- the declarations of a scope, of which the first has this slot
-abbrev pub frame_from : ℕ → Scope → List Bound
+abbrev pub frame_from : ℕ → Scope → List Sighted
 frame_from begin [] = []
-frame_from begin (d ∷ ds) = frame_from begin ds ++ bound_at d (length ds + begin) ∷ []
+frame_from begin (d ∷ ds) = frame_from begin ds ++ sighted (bound_at d (length ds + begin)) PlainSort ∷ []
 
 abbrev pub sight_of : Scopes → Sight
 sight_of [] = []

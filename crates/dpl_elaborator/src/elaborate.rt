@@ -7,7 +7,7 @@ ghost use Rattle.dpl_language.specs.Tree.{NoLinks};
 ghost use Rattle.dpl_tree.specs.View.{expr_view, item_view, links_of};
 ghost use Rattle.dpl_rules.specs.Expressions.{type_of, item_type};
 ghost use Rattle.dpl_lowered.specs.LoweredExpressions.{Once, lowered_expr, lowered_item};
-ghost use Rattle.dpl_words.specs.Words.{known_leaf};
+ghost use Rattle.dpl_memory.specs.Memory.{known_variable};
 ghost use Rattle.dpl_nodes.specs.Makers.{typed_view, typed_item, kind_of};
 ghost use Rattle.dpl_nodes.specs.declared.make.Stop.TheVariants as stop;
 ghost use Rattle.dpl_elaborator.specs.Leaves.{leaf_in, IsFound, IsOfKind, MayBePlain};
@@ -38,7 +38,7 @@ pub fn expression<'t>(
     scopes: &Scopes<'_>,
     e: &Expr<'_>,
 ) -> Result<Typed<'t>, Stop>
-    ensures node { IfOk result (λ t. typed_view t ≡ lowered_expr known_leaf Once (renamed_expr (leaf_in scopes.now) (expr_view e.now))) }
+    ensures node { IfOk result (λ t. typed_view t ≡ lowered_expr known_variable Once (renamed_expr (leaf_in scopes.now) (expr_view e.now))) }
     ensures kind { IfOk result (λ t. IsOfKind (kind_of t) (type_of scopes.now (expr_view e.now))) }
     ensures found { IfOk result (λ t. IsSimple (IsFound scopes.now) (expr_view e.now)) }
     ensures ill_typed { (result ≡ Err stop.IllTyped) → IsSimple (MayBePlain scopes.now) (expr_view e.now) → ExprSpelt IsNear (expr_view e.now) → type_of scopes.now (expr_view e.now) ≡ None }
@@ -68,7 +68,7 @@ pub fn expression<'t>(
 /// As for an expression.
 #[cycle(expression)]
 pub fn item<'t>(arena: Arena<'t>, scopes: &Scopes<'_>, item: &Item<'_>) -> Result<Typed<'t>, Stop>
-    ensures node { IfOk result (λ t. typed_item t ≡ lowered_item known_leaf Once (renamed_item (leaf_in scopes.now) (item_view item.now))) }
+    ensures node { IfOk result (λ t. typed_item t ≡ lowered_item known_variable Once (renamed_item (leaf_in scopes.now) (item_view item.now))) }
     ensures kind { IfOk result (λ t. IsOfKind (kind_of t) (item_type scopes.now (item_view item.now))) }
     ensures found { IfOk result (λ t. IsSimpleItem (IsFound scopes.now) (item_view item.now)) }
     ensures ill_typed { (result ≡ Err stop.IllTyped) → IsSimpleItem (MayBePlain scopes.now) (item_view item.now) → ItemSpelt IsNear (item_view item.now) → item_type scopes.now (item_view item.now) ≡ None }
