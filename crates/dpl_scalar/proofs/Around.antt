@@ -19,7 +19,7 @@ use Rattle.dpl_rules.specs.Bodies.{turns_of, each, deed_breaches}
 use Rattle.dpl_rules.specs.Breaches.{stmt_breaches}
 use Rattle.dpl_rules.proofs.Admission.{first_empty, second_empty}
 use Rattle.dpl_words.specs.Words.{LeafKind}
-use Rattle.dpl_words.specs.Resolved.{Bound}
+use Rattle.dpl_memory.specs.Resolved.{Bound}
 use Rattle.dpl_elaborator.specs.Leaves.{kind_in}
 use Rattle.dpl_elaborator.specs.Sights.{bound_in}
 use Rattle.dpl_scalar.specs.Plain.{AreScalar}

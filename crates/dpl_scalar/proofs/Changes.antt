@@ -15,8 +15,8 @@ use Rattle.dpl_rules.specs.Expressions.{plain_name, name_verdict, expr_parts, ex
 use Rattle.dpl_rules.specs.Assignments.{written_name, set_breaches, is_int_kind, change_breaches, reduce_breaches, fitting, fitting_target, may_reduce_in, element_of, assignment_breaches, called_name, call_word, call_argument, call_breaches}
 use Rattle.dpl_rules.proofs.Admission.{first_empty, second_empty}
 use Rattle.dpl_sound.proofs.Given.{both_so}
-use Rattle.dpl_words.specs.Words.{LeafKind, IntLeaf, TruthLeaf, RangeLeaf}
-use Rattle.dpl_words.specs.Resolved.{Bound, takes}
+use Rattle.dpl_words.specs.Words.{LeafKind, IntLeaf, TruthLeaf, RangeLeaf, takes}
+use Rattle.dpl_memory.specs.Resolved.{Bound}
 use Rattle.dpl_elaborator.specs.Leaves.{plain_kind, kind_by, kind_in}
 use Rattle.dpl_scalar.specs.Plain.{IsPlain, AreScalar}
 use Rattle.dpl_nodes.specs.Faults.{IsNear}

@@ -20,8 +20,8 @@ use Rattle.dpl_sound.proofs.Given.{some-same, both_so}
 use Rattle.dpl_scopes.specs.Slots.{next_slot_in, slot_in}
 use Rattle.dpl_scopes.proofs.Slots.{slot_in-add, slot_in-lookup}
 use Rattle.dpl_given.proofs.Slots.{slot_in-one}
-use Rattle.dpl_words.specs.Words.{LeafKind, IntLeaf, TruthLeaf}
-use Rattle.dpl_words.specs.Resolved.{text_of, combines, Combines}
+use Rattle.dpl_words.specs.Words.{LeafKind, IntLeaf, TruthLeaf, combines, Combines}
+use Rattle.dpl_memory.specs.Resolved.{text_of}
 use Rattle.dpl_elaborator.specs.Leaves.{plain_kind, kind_by, kind_in, leaf_by, leaf_in}
 use Rattle.dpl_elaborator.specs.Sights.{bound_in}
 use Rattle.dpl_scalar.specs.Plain.{IsPlain, AreScalar}

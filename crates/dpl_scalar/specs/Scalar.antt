@@ -15,8 +15,8 @@ use Rattle.dpl_rules.specs.Expressions.{type_of, item_type}
 use Rattle.dpl_rules.specs.Declarations.{declared_by}
 use Rattle.dpl_rules.specs.Loops.{behind}
 use Rattle.dpl_scopes.specs.Slots.{slot_in}
-use Rattle.dpl_words.specs.Words.{LeafKind, TruthLeaf, RangeLeaf}
-use Rattle.dpl_words.specs.Resolved.{Bound, text_of, takes, Combines}
+use Rattle.dpl_words.specs.Words.{LeafKind, TruthLeaf, RangeLeaf, takes, Combines}
+use Rattle.dpl_memory.specs.Resolved.{Bound, text_of}
 use Rattle.dpl_spelling.specs.Spelt.{ExprSpelt, ItemSpelt}
 use Rattle.dpl_nodes.specs.Faults.{IsNear}
 use Rattle.dpl_elaborator.specs.Leaves.{plain_kind, kind_by, kind_in, MayBePlain}
@@ -76,7 +76,7 @@ pub record IsScalarDeclare (ss : Scopes) (d : DeclareTree Text) : Type 0 where
 -- ASSIGNMENTS. A reduce variable has the slot that it had at its forall, and no other name has that slot.
 abbrev pub AreToldAlike : Text → ℕ → List (Bound × Op) → Type 0
 AreToldAlike x slot [] = Unit {0}
-AreToldAlike x slot (b ∷ bs) = (x ≡ b.0.text → slot ≡ b.0.leaf.slot) × (slot ≡ b.0.leaf.slot → x ≡ b.0.text) × AreToldAlike x slot bs
+AreToldAlike x slot (b ∷ bs) = (x ≡ b.0.text → slot ≡ b.0.variable.slot) × (slot ≡ b.0.variable.slot → x ≡ b.0.text) × AreToldAlike x slot bs
 
 pub record IsReduced (ss : Scopes) (is : List (Bound × Op)) (x : Text) (k : LeafKind) : Type 0 where
   pub alike : (slot : ℕ) → slot_in ss x ≡ Some slot → AreToldAlike x slot is
