@@ -10,7 +10,7 @@ use Rattle.dpl_rules.specs.Sights.{Scopes, enter}
 use Rattle.dpl_rules.specs.Loops.{behind}
 use Rattle.dpl_rules.specs.Sound.{behind_all}
 use Rattle.dpl_lowered.specs.Shapes.{nowhere}
-use Rattle.dpl_words.specs.Resolved.{text_of, resolving}
+use Rattle.dpl_memory.specs.Resolved.{text_of, resolving}
 use Rattle.dpl_nodes.specs.declared.step.Step.{Step, Block as BlockStep}
 use Rattle.dpl_nodes.specs.declared.step.Else.{Else as ElseNode, Absent, Do as DoStep}
 use Rattle.dpl_nodes.specs.Steps.{listed, else_view, steps_of}

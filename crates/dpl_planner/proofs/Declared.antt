@@ -19,8 +19,9 @@ use Rattle.dpl_scopes.specs.View.{sort_view, declared_view}
 use Rattle.dpl_scopes.specs.Slots.{next_slot_in}
 use Rattle.dpl_lowered.specs.Shapes.{nowhere, placed}
 use Rattle.dpl_lowered.specs.LoweredStatements.{default_tree, written_initial, written_type, unplaced_word, declared_type, declared_initial}
-use Rattle.dpl_words.specs.Words.{LeafKind, IntLeaf, TruthLeaf, RangeLeaf, Leaf, known_leaf}
-use Rattle.dpl_words.specs.Resolved.{Bound, Seen, Start, text_of, leaf_of, resolving, IsOfKind, IsUnused, Declares, Suits}
+use Rattle.dpl_words.specs.Words.{LeafKind, IntLeaf, TruthLeaf, RangeLeaf, IsOfKind}
+use Rattle.dpl_memory.specs.Memory.{PlainKind, Variable, known_variable}
+use Rattle.dpl_memory.specs.Resolved.{Bound, Seen, Start, text_of, variable_of, resolving, IsOf, IsUnused, IsNew, Declares, Suits}
 use Rattle.dpl_nodes.specs.declared.make.Typed.{Typed}
 use Rattle.dpl_nodes.specs.declared.step.Step.{Step}
 use Rattle.dpl_nodes.specs.Makers.{typed_item, kind_of}
@@ -33,7 +34,7 @@ use Rattle.dpl_planner.specs.Bounds.{bound_new}
 use Rattle.dpl_planner.specs.Given.{AreGiven}
 use Rattle.dpl_planner.specs.Parts.{IsItem, leaf_as, IsPlainType, IsPlainTyped, IsDefault, IsGivenInit, IsInitial, IsOwedBy, bound_typed, bound_initial, PlansDeclare}
 use Rattle.dpl_planner.specs.Plans.{seen_of, intents_in, IsOneScope, PlansStmt}
-use Rattle.dpl_planner.proofs.Scoped.{plain-add}
+use Rattle.dpl_planner.proofs.Scoped.{new-no_array, plain-add}
 use Rattle.dpl_planner.proofs.Owed.{one-add, given-before}
 use Rattle.dpl_planner.proofs.Items.{item-text, side-node, item-suited, side-fits}
 
@@ -56,7 +57,7 @@ module _ (ss : Scopes) (equals : Place) (item : ItemTree Text) (value : Typed) (
   spelled-init : option_map (renamed_initial text_of) (bound_initial ss written) ≡ written
   spelled-init = ap (λ i. Some (record { equals = equals; init = ItemInit i None })) (item-text ss item)
 
-  suits-item : (x : Bound) → x.leaf.kind ≡ kind_of value → Suits x.leaf.kind (renamed_item (bound_in ss) item)
+  suits-item : (x : Bound) → x.variable.kind ≡ PlainKind (kind_of value) → Suits x.variable.kind (renamed_item (bound_in ss) item)
   suits-item x e = subst (λ k. Suits k (renamed_item (bound_in ss) item)) (sym e) (item-suited ss item value is)
 
   item-initial : (t : Option (TypedTree Text)) (k : Option Kind) → IsPlainType (type_of t) k → IsInitial ss t written value
@@ -107,7 +108,7 @@ default-initial ss (Some t) k value h is = by_type t.colon t.type h
       text = refl;
       node = ap (λ i. Some (written_initial nowhere i)) (ap (λ j. One (default_tree j)) h ∙ sym is.0);
       initial = λ start intents plain. tt;
-      suits = λ start x g e. subst (λ j. IsOfKind x.leaf.kind (default j)) (sym h) (default-kind k x.leaf.kind (is.1 ∙ ap Some (sym e)));
+      suits = λ start x g e. subst (λ j. IsOf x.variable.kind (default j)) (sym h) (subst (λ j. IsOf j (default k)) (sym e) (default-kind k (kind_of value) is.1));
     }
     by_type colon (SyncType at kind_at l) h = absurd h
     by_type colon (DomainType d) h = absurd h
@@ -121,12 +122,12 @@ declared-same ss made t d same typed =
     ap (λ o. add (record { origin = origin_in ss made.origin.name.now; sort = sort_view made.sort; type = of_type o }) ss) (sym typed)
     ∙ ap (λ (x : Declared). add (record { origin = origin_in ss x.origin.name; sort = x.sort; type = x.type }) ss) same
 
-given-fits : (start : Start) (config : Option Place) (x : Bound) (g : Seen) → IsOwedBy config start x → IsUnused x.leaf.slot g.frames × (x.leaf.slot < start.slots) → fits_given (resolving start) config x PlainSort g
+given-fits : (start : Start) (config : Option Place) (x : Bound) (g : Seen) → IsOwedBy config start x → Declares start.slots x PlainSort g → fits_given (resolving start) config x PlainSort g
 given-fits start None x g owed declares = tt
 given-fits start (Some at) x g owed declares = (owed, declares, refl)
 
 -- the lowered tree of a declaration
-abbrev lowered_as : DeclareTree Text → Bool → Leaf → Option (TypedTree Leaf) → Option (InitialTree Leaf) → StmtTree Leaf
+abbrev lowered_as : DeclareTree Text → Bool → Variable → Option (TypedTree Variable) → Option (InitialTree Variable) → StmtTree Variable
 lowered_as d told l y i = Declare (record { config = unplaced_word d.config; at = nowhere; constant = false; name = placed told (record { at = d.name.at; name = l }); typed = y; initial = i; semicolon = nowhere })
 
 pub declare-plans : (a b : Plan) (d : DeclareTree Text) (made : DeclaredNode) (t : TypeNode) (value : Typed) (slot : ℕ) (s : Step)
@@ -143,27 +144,35 @@ declare-plans a b d made t value slot s same typed is kind fresh next below more
     let alone : declared_here ss d.name.name ≡ false = subst (λ y. declared_here ss y ≡ false) named fresh in
     let to : b.scopes ≡ add new ss = scopes ∙ declared-same ss made t d same typed in
     let of_kind : kind_by new.type ≡ Some (kind_of value) = ap (λ (y : Declared). kind_by y.type) (sym same) ∙ ap (λ o. kind_by (of_type o)) typed ∙ kind in
-    let leaf : x.leaf ≡ leaf_as (kind_of value) slot = ap (λ k. leaf_by k (Some (next_slot_in ss))) of_kind ∙ ap (leaf_as (kind_of value)) (sym next) in
-    let typed_leaf = option_map (renamed_typed leaf_of) (bound_typed ss d.typed) in
-    let initial_leaf = option_map (renamed_initial leaf_of) (bound_initial ss d.initial) in
+    let leaf : x.variable ≡ leaf_as (kind_of value) slot = ap (λ k. leaf_by k (Some (next_slot_in ss))) of_kind ∙ ap (leaf_as (kind_of value)) (sym next) in
+    let typed_leaf = option_map (renamed_typed variable_of) (bound_typed ss d.typed) in
+    let initial_leaf = option_map (renamed_initial variable_of) (bound_initial ss d.initial) in
     record {
-      goes = record { scopes = to; plain = λ h. subst ArePlainScopes (sym to) (plain-add new ss (kind_of value) of_kind alone h); one = λ h. subst IsOneScope (sym to) (one-add new ss h); given = λ h start g. given-before start new ss alone h (subst (AreGiven start) to g); slots = more; intents = ap (λ v. v.items) intents };
+      goes = record {
+        scopes = to;
+        plain = λ h. subst ArePlainScopes (sym to) (plain-add new ss (kind_of value) of_kind alone h);
+        one = λ h. subst IsOneScope (sym to) (one-add new ss h);
+        given = λ h start g. given-before start new ss alone h (subst (AreGiven start) to g);
+        slots = more;
+        intents = ap (λ v. v.items) intents;
+      };
       text = ap (λ y. Declare (record { config = d.config; at = d.at; constant = d.constant; name = d.name; typed = y; initial = option_map (renamed_initial text_of) (bound_initial ss d.initial); semicolon = d.semicolon })) is.type.spelled
           ∙ ap (λ i. Declare (record { config = d.config; at = d.at; constant = d.constant; name = d.name; typed = d.typed; initial = i; semicolon = d.semicolon })) is.text;
-      node = ap (λ told. lowered_as d told x.leaf (option_map written_type (declared_type known_leaf (type_of typed_leaf) initial_leaf)) (declared_initial known_leaf (type_of typed_leaf) initial_leaf)) is.type.untold
-          ∙ ap (λ y. lowered_as d false x.leaf y (declared_initial known_leaf (type_of typed_leaf) initial_leaf)) (is.type.gone initial_leaf)
-          ∙ ap (lowered_as d false x.leaf None) is.node
+      node = ap (λ told. lowered_as d told x.variable (option_map written_type (declared_type known_variable (type_of typed_leaf) initial_leaf)) (declared_initial known_variable (type_of typed_leaf) initial_leaf)) is.type.untold
+          ∙ ap (λ y. lowered_as d false x.variable y (declared_initial known_variable (type_of typed_leaf) initial_leaf)) (is.type.gone initial_leaf)
+          ∙ ap (lowered_as d false x.variable None) is.node
           ∙ ap (λ l. declared_as (unplaced_word d.config) l (typed_item value)) leaf
           ∙ sym step;
       resolves = λ start h le owed.
           let in_frame : slot < start.slots = omega (arith, below, le) in
-          let declares : Declares start.slots x PlainSort (seen_of ss (intents_in a)) =
-          subst (λ (l : Leaf). IsUnused l.slot (sight_of ss) × (l.slot < start.slots)) (sym leaf) (subst (λ n. IsUnused n (sight_of ss)) (sym next) (unused_next ss h), in_frame) in (
+          let unused = subst (λ n. IsUnused n (sight_of ss)) (sym next) (unused_next ss h) in
+          let fresh_slot = subst (λ (l : Variable). IsNew start.slots (record { text = x.text; variable = l }) (seen_of ss (intents_in a))) (sym leaf) (record { unused = unused; within = in_frame }) in
+          let declares : Declares start.slots x PlainSort (seen_of ss (intents_in a)) = (fresh_slot, new-no_array ss new) in (
             is.type.fits_here start (seen_of ss (intents_in a)),
             is.initial start (intents_in a) h,
             subst (λ sort. Declares start.slots x sort (seen_of ss (intents_in a))) (sym is.type.sort) declares,
             subst (λ sort. fits_given (resolving start) d.config x sort (seen_of ss (intents_in a))) (sym is.type.sort) (given-fits start d.config x (seen_of ss (intents_in a)) owed declares),
-            is.suits start x (seen_of ss (intents_in a)) (ap (λ (l : Leaf). l.kind) leaf),
+            is.suits start x (seen_of ss (intents_in a)) (ap (λ (l : Variable). l.kind) leaf),
           );
     }
 

@@ -14,9 +14,9 @@ use Rattle.dpl_rules.specs.Sights.{Scopes}
 use Rattle.dpl_lowered.specs.Shapes.{hidden_item}
 use Rattle.dpl_lowered.specs.LoweredExpressions.{Once, lowered_expr, lowered_item}
 use Rattle.dpl_lowered.specs.LoweredStatements.{lowered_side}
-use Rattle.dpl_words.specs.Words.{Leaf, known_leaf}
-use Rattle.dpl_words.specs.Resolved.{Bound, Start, text_of, leaf_of, resolving, Suits}
-use Rattle.dpl_words.proofs.Fitting.{expr_fits, item_fits}
+use Rattle.dpl_memory.specs.Memory.{PlainKind, Variable, known_variable}
+use Rattle.dpl_memory.specs.Resolved.{Bound, Start, text_of, variable_of, resolving, Suits}
+use Rattle.dpl_memory.proofs.Fitting.{expr_fits, item_fits}
 use Rattle.dpl_nodes.specs.declared.tree.BoolExpr.{BoolExpr}
 use Rattle.dpl_nodes.specs.declared.make.Typed.{Typed}
 use Rattle.dpl_nodes.specs.declared.make.Typed.TheVariants as typed
@@ -37,7 +37,7 @@ item_read-typed (typed.Truth e) = cell_read-truth e.now
 item_read-typed (typed.Range e) = item_read-range e.now
 
 -- what is no cell read stands as it is
-not_hidden : (r : Option (ReadTree Leaf)) (i : ItemTree Leaf) → item_read i ≡ None → hidden_item r (item_read i) i ≡ i
+not_hidden : (r : Option (ReadTree Variable)) (i : ItemTree Variable) → item_read i ≡ None → hidden_item r (item_read i) i ≡ i
 not_hidden None i e = rw e refl
 not_hidden (Some x) i e = refl
 
@@ -47,18 +47,18 @@ module _ (ss : Scopes) (i : ItemTree Text) where
   item-text = renamed_item-twice text_of (bound_in ss) i ∙ renamed_item-same i
 
   module _ (t : Typed) (is : IsItem ss i t) where
-    pub item-node : lowered_item known_leaf Once (renamed_item leaf_of (renamed_item (bound_in ss) i)) ≡ typed_item t
-    item-node = ap (lowered_item known_leaf Once) (renamed_item-twice leaf_of (bound_in ss) i) ∙ sym is.node
+    pub item-node : lowered_item known_variable Once (renamed_item variable_of (renamed_item (bound_in ss) i)) ≡ typed_item t
+    item-node = ap (lowered_item known_variable Once) (renamed_item-twice variable_of (bound_in ss) i) ∙ sym is.node
 
-    pub side-node : lowered_side known_leaf Once (renamed_item leaf_of (renamed_item (bound_in ss) i)) ≡ typed_item t
+    pub side-node : lowered_side known_variable Once (renamed_item variable_of (renamed_item (bound_in ss) i)) ≡ typed_item t
     side-node =
-        ap (λ j. hidden_item (item_read (renamed_item leaf_of (renamed_item (bound_in ss) i))) (item_read j) j) item-node
-        ∙ not_hidden (item_read (renamed_item leaf_of (renamed_item (bound_in ss) i))) (typed_item t) (item_read-typed t)
+        ap (λ j. hidden_item (item_read (renamed_item variable_of (renamed_item (bound_in ss) i))) (item_read j) j) item-node
+        ∙ not_hidden (item_read (renamed_item variable_of (renamed_item (bound_in ss) i))) (typed_item t) (item_read-typed t)
 
     pub item-unread : item_read (renamed_item (bound_in ss) i) ≡ None
     item-unread = item_read-renamed (bound_in ss) i ∙ ap (option_map (renamed_read (bound_in ss))) (unread-simple (IsFound ss) i is.found)
 
-    pub item-suited : Suits (kind_of t) (renamed_item (bound_in ss) i)
+    pub item-suited : Suits (PlainKind (kind_of t)) (renamed_item (bound_in ss) i)
     item-suited = item-suits ss t i is.node (unread-simple (IsFound ss) i is.found)
 
     module _ (start : Start) (intents : List (Bound × Op)) (plain : ArePlainScopes ss) where
@@ -80,8 +80,8 @@ module _ (ss : Scopes) (e : ExprTree Text) where
   expr-text = renamed_expr-twice text_of (bound_in ss) e ∙ renamed_expr-same e
 
   module _ (b : Bor BoolExpr) (is : IsCondition ss e b) where
-    pub condition-node : lowered_expr known_leaf Once (renamed_expr leaf_of (renamed_expr (bound_in ss) e)) ≡ truth_view b.now
-    condition-node = ap (lowered_expr known_leaf Once) (renamed_expr-twice leaf_of (bound_in ss) e) ∙ sym is.node
+    pub condition-node : lowered_expr known_variable Once (renamed_expr variable_of (renamed_expr (bound_in ss) e)) ≡ truth_view b.now
+    condition-node = ap (lowered_expr known_variable Once) (renamed_expr-twice variable_of (bound_in ss) e) ∙ sym is.node
 
     pub condition-fits : (start : Start) (intents : List (Bound × Op)) → ArePlainScopes ss → fits_expr (resolving start) None (renamed_expr (bound_in ss) e) (seen_of ss intents)
     condition-fits start intents plain = expr_fits start (seen_of ss intents) None (renamed_expr (bound_in ss) e) (expr_names-simple ss e plain is.found)

@@ -10,7 +10,7 @@ use Rattle.dpl_rules.specs.Sights.{Declared, Scope, Scopes, find, or_else, looku
 use Rattle.dpl_rules.specs.Sound.{is_configured}
 use Rattle.dpl_rules.specs.Declarations.{sort_of, declared_by}
 use Rattle.dpl_scopes.specs.Slots.{count_in, place_in, slot_or, slot_in}
-use Rattle.dpl_words.specs.Resolved.{Bound, Start}
+use Rattle.dpl_memory.specs.Resolved.{Bound, Start}
 use Rattle.dpl_elaborator.specs.Leaves.{kind_by, leaf_by}
 use Rattle.dpl_elaborator.specs.Sights.{bound_in, bound_at}
 use Rattle.dpl_planner.specs.declared.progress.Plan.{Plan}
@@ -30,7 +30,7 @@ one-add d (s ∷ t ∷ ss) h = absurd h
 abbrev bound_by : Declared → Scope → Scopes → Text → Bool → Bound
 bound_by d s ss x t = record {
   text = x;
-  leaf = leaf_by (kind_by (type_declared (or_else (if t then Some d else find s x) (lookup ss x)))) (slot_or (if t then Some (length s + suc (count_in ss)) else place_in s x (suc (count_in ss))) (slot_in ss x));
+  variable = leaf_by (kind_by (type_declared (or_else (if t then Some d else find s x) (lookup ss x)))) (slot_or (if t then Some (length s + suc (count_in ss)) else place_in s x (suc (count_in ss))) (slot_in ss x));
 }
 
 abbrev GivenBy : Start → Declared → Scope → Scopes → Text → Bool → Type 0

@@ -15,12 +15,12 @@ use Rattle.dpl_rules.specs.Sights.{Scopes}
 use Rattle.dpl_lowered.specs.Shapes.{nowhere, hidden, relisted}
 use Rattle.dpl_lowered.specs.LoweredExpressions.{Once, lowered_expr}
 use Rattle.dpl_lowered.specs.LoweredStatements.{array_name, lowered_shown, lowered_argument}
-use Rattle.dpl_words.specs.Words.{Leaf, known_leaf}
-use Rattle.dpl_words.proofs.Fitting.{NamesAre, expr_fits}
-use Rattle.dpl_nodes.specs.declared.tree.IntExpr.{IntExpr}
-use Rattle.dpl_nodes.specs.declared.tree.BoolExpr.{BoolExpr}
+use Rattle.dpl_memory.specs.Memory.{Variable, known_variable}
+use Rattle.dpl_memory.proofs.Fitting.{NamesAre, expr_fits}
+use Rattle.dpl_nodes.specs.declared.tree.IntExpr.{IntExpr, Local as IntLocal}
+use Rattle.dpl_nodes.specs.declared.tree.BoolExpr.{BoolExpr, Local as TruthLocal}
 use Rattle.dpl_nodes.specs.Typed.{int_view, truth_view}
-use Rattle.dpl_words.specs.Resolved.{Bound, Start, text_of, leaf_of, resolving, Resolves}
+use Rattle.dpl_memory.specs.Resolved.{Bound, Start, text_of, variable_of, resolving, Resolves}
 use Rattle.dpl_nodes.specs.declared.step.Argument.{Argument}
 use Rattle.dpl_nodes.specs.declared.step.Argument.TheVariants as node
 use Rattle.dpl_nodes.specs.declared.step.Step.{Write as WriteStep}
@@ -55,29 +55,35 @@ shown-fits start ss is (Reduced at op word e) h = tt
 shown-fits start ss is (Chain e rest) h = tt
 shown-fits start ss is (Postfixed e posts) h = tt
 
-no_array : (x : Option _) → array_name known_leaf x ≡ None
-no_array None = refl
-no_array (Some x) = refl
+-- a typed expression that is a bare name is no array's
+array_name-int : (e : IntExpr) → array_name known_variable (bare_name (int_view e)) ≡ None
+array_name-int (IntLocal slot) = refl
+array_name-int e = refl
 
--- what is no cell read is shown as it is
-shown-open : (e f : ExprTree Leaf) → cell_read f ≡ None → lowered_shown known_leaf e f ≡ f
-shown-open e f unread =
-    ap (λ o. hidden (bare_name e) o (hidden (cell_read e) (cell_read f) f)) (no_array (bare_name f))
+array_name-truth : (e : BoolExpr) → array_name known_variable (bare_name (truth_view e)) ≡ None
+array_name-truth (TruthLocal slot) = refl
+array_name-truth e = refl
+
+-- what is no cell read and no array is shown as it is
+shown-open : (e f : ExprTree Variable) → cell_read f ≡ None → array_name known_variable (bare_name f) ≡ None → lowered_shown known_variable e f ≡ f
+shown-open e f unread no_array =
+    ap (λ o. hidden (bare_name e) o (hidden (cell_read e) (cell_read f) f)) no_array
     ∙ any_phrase (bare_name e) (hidden (cell_read e) (cell_read f) f)
     ∙ ap (λ o. hidden (cell_read e) o f) unread ∙ any_phrase (cell_read e) f
   where
-    any_phrase : {A : Type 0} (o : Option A) (x : ExprTree Leaf) → hidden {B = A} o None x ≡ x
+    any_phrase : {A : Type 0} (o : Option A) (x : ExprTree Variable) → hidden {B = A} o None x ≡ x
     any_phrase None x = refl
     any_phrase (Some y) x = refl
 
-module _ (ss : Scopes) (e : ExprTree Text) (f : ExprTree Leaf) (unread : cell_read f ≡ None) (is : f ≡ lowered_expr known_leaf Once (renamed_expr (leaf_in ss) e)) (found : IsSimple (IsFound ss) e) where
+module _ (ss : Scopes) (e : ExprTree Text) (f : ExprTree Variable) (unread : cell_read f ≡ None) (no_array : array_name known_variable (bare_name f) ≡ None)
+    (is : f ≡ lowered_expr known_variable Once (renamed_expr (leaf_in ss) e)) (found : IsSimple (IsFound ss) e) where
   abbrev made : ExprTree Bound
   made = renamed_expr (bound_in ss) e
 
-  argument-node : lowered_argument known_leaf (renamed_argument leaf_of (renamed_argument (bound_in ss) (ExprArgument e))) ≡ ExprArgument f
+  argument-node : lowered_argument known_variable (renamed_argument variable_of (renamed_argument (bound_in ss) (ExprArgument e))) ≡ ExprArgument f
   argument-node =
-      ap ExprArgument (ap (λ g. lowered_shown known_leaf (renamed_expr leaf_of made) g) (ap (lowered_expr known_leaf Once) (renamed_expr-twice leaf_of (bound_in ss) e) ∙ sym is)
-      ∙ shown-open (renamed_expr leaf_of made) f unread)
+      ap ExprArgument (ap (λ g. lowered_shown known_variable (renamed_expr variable_of made) g) (ap (lowered_expr known_variable Once) (renamed_expr-twice variable_of (bound_in ss) e) ∙ sym is)
+      ∙ shown-open (renamed_expr variable_of made) f unread no_array)
 
   expr_fits-before : (start : Start) (intents : List (Bound × Op)) (rest : List (ArgumentTree Bound)) → ArePlainScopes ss
       → fits_arguments (resolving start) rest (seen_of ss intents) → fits_arguments (resolving start) (renamed_argument (bound_in ss) (ExprArgument e) ∷ rest) (seen_of ss intents)
@@ -86,18 +92,18 @@ module _ (ss : Scopes) (e : ExprTree Text) (f : ExprTree Leaf) (unread : cell_re
       let read = subst (λ r. fits_read (resolving start) r (seen_of ss intents)) (sym (item_read-renamed (bound_in ss) (One e) ∙ ap (option_map (renamed_read (bound_in ss))) (unread-simple (IsFound ss) (One e) found))) tt in
       ((expr_fits start (seen_of ss intents) None made names, read), shown-fits start ss intents made names, f)
 
-pub int-argument : (ss : Scopes) (e : ExprTree Text) (b : Bor IntExpr) → int_view b.now ≡ lowered_expr known_leaf Once (renamed_expr (leaf_in ss) e) → IsSimple (IsFound ss) e → IsArgument ss (ExprArgument e) (node.Int b)
+pub int-argument : (ss : Scopes) (e : ExprTree Text) (b : Bor IntExpr) → int_view b.now ≡ lowered_expr known_variable Once (renamed_expr (leaf_in ss) e) → IsSimple (IsFound ss) e → IsArgument ss (ExprArgument e) (node.Int b)
 int-argument ss e b is found = record {
   text = ap ExprArgument (expr-text ss e);
-  node = argument-node ss e (int_view b.now) (cell_read-int b.now) is found;
-  fits_before = expr_fits-before ss e (int_view b.now) (cell_read-int b.now) is found;
+  node = argument-node ss e (int_view b.now) (cell_read-int b.now) (array_name-int b.now) is found;
+  fits_before = expr_fits-before ss e (int_view b.now) (cell_read-int b.now) (array_name-int b.now) is found;
 }
 
-pub truth-argument : (ss : Scopes) (e : ExprTree Text) (b : Bor BoolExpr) → truth_view b.now ≡ lowered_expr known_leaf Once (renamed_expr (leaf_in ss) e) → IsSimple (IsFound ss) e → IsArgument ss (ExprArgument e) (node.Truth b)
+pub truth-argument : (ss : Scopes) (e : ExprTree Text) (b : Bor BoolExpr) → truth_view b.now ≡ lowered_expr known_variable Once (renamed_expr (leaf_in ss) e) → IsSimple (IsFound ss) e → IsArgument ss (ExprArgument e) (node.Truth b)
 truth-argument ss e b is found = record {
   text = ap ExprArgument (expr-text ss e);
-  node = argument-node ss e (truth_view b.now) (cell_read-truth b.now) is found;
-  fits_before = expr_fits-before ss e (truth_view b.now) (cell_read-truth b.now) is found;
+  node = argument-node ss e (truth_view b.now) (cell_read-truth b.now) (array_name-truth b.now) is found;
+  fits_before = expr_fits-before ss e (truth_view b.now) (cell_read-truth b.now) (array_name-truth b.now) is found;
 }
 
 -- ---- ARGUMENTS, one by one
@@ -117,8 +123,8 @@ arguments-fit ss (a ∷ xs) [] f start is h = absurd f
 arguments-fit ss (a ∷ xs) (b ∷ bs) f start is h = f.0.fits_before start is (map (renamed_argument (bound_in ss)) xs) h (arguments-fit ss xs bs f.1 start is h)
 
 module _ (ss : Scopes) where
-  abbrev twice : ArgumentTree Text → ArgumentTree Leaf
-  twice a = lowered_argument known_leaf (renamed_argument leaf_of (renamed_argument (bound_in ss) a))
+  abbrev twice : ArgumentTree Text → ArgumentTree Variable
+  twice a = lowered_argument known_variable (renamed_argument variable_of (renamed_argument (bound_in ss) a))
 
   texts-back : (xs : List (AfterComma (ArgumentTree Text))) (bs : List Argument) → AreArguments ss (map (λ x. x.part) xs) bs
       → map (map_comma (renamed_argument text_of)) (map (map_comma (renamed_argument (bound_in ss))) xs) ≡ xs
@@ -128,12 +134,12 @@ module _ (ss : Scopes) where
       ap (λ y. record { comma = x.comma; part = y } ∷ map (map_comma (renamed_argument text_of)) (map (map_comma (renamed_argument (bound_in ss))) xs)) f.0.text ∙ ap (λ ys. x ∷ ys) (texts-back xs bs f.1)
 
   others-node : (xs : List (AfterComma (ArgumentTree Text))) (bs : List Argument) → AreArguments ss (map (λ x. x.part) xs) bs
-      → map (λ x. record { comma = nowhere; part = lowered_argument known_leaf x.part }) (map (map_comma (renamed_argument leaf_of)) (map (map_comma (renamed_argument (bound_in ss))) xs)) ≡ map next_argument_view bs
+      → map (λ x. record { comma = nowhere; part = lowered_argument known_variable x.part }) (map (map_comma (renamed_argument variable_of)) (map (map_comma (renamed_argument (bound_in ss))) xs)) ≡ map next_argument_view bs
   others-node [] [] f = refl
   others-node [] (b ∷ bs) f = absurd f
   others-node (x ∷ xs) [] f = absurd f
   others-node (x ∷ xs) (b ∷ bs) f =
-      ap (λ y. record { comma = nowhere; part = y } ∷ map (λ z. record { comma = nowhere; part = lowered_argument known_leaf z.part }) (map (map_comma (renamed_argument leaf_of)) (map (map_comma (renamed_argument (bound_in ss))) xs))) f.0.node
+      ap (λ y. record { comma = nowhere; part = y } ∷ map (λ z. record { comma = nowhere; part = lowered_argument known_variable z.part }) (map (map_comma (renamed_argument variable_of)) (map (map_comma (renamed_argument (bound_in ss))) xs))) f.0.node
       ∙ ap (λ ys. next_argument_view b ∷ ys) (others-node xs bs f.1)
 
   arguments-text : (xs : Option (Listed (ArgumentTree Text))) (bs : List Argument) → AreArguments ss (arguments_of xs) bs
@@ -145,12 +151,12 @@ module _ (ss : Scopes) where
       ∙ ap (λ ys. Some (record { first = xs.first; others = ys })) (texts-back xs.others bs f.1)
 
   arguments-node : (xs : Option (Listed (ArgumentTree Text))) (bs : List Argument) → AreArguments ss (arguments_of xs) bs
-      → option_map (relisted (lowered_argument known_leaf)) (option_map (map_listed (renamed_argument leaf_of)) (option_map (map_listed (renamed_argument (bound_in ss))) xs)) ≡ arguments_view bs
+      → option_map (relisted (lowered_argument known_variable)) (option_map (map_listed (renamed_argument variable_of)) (option_map (map_listed (renamed_argument (bound_in ss))) xs)) ≡ arguments_view bs
   arguments-node None [] f = refl
   arguments-node None (b ∷ bs) f = absurd f
   arguments-node (Some xs) [] f = absurd f
   arguments-node (Some xs) (b ∷ bs) f =
-      ap (λ x. Some (record { first = x; others = map (λ z. record { comma = nowhere; part = lowered_argument known_leaf z.part }) (map (map_comma (renamed_argument leaf_of)) (map (map_comma (renamed_argument (bound_in ss))) xs.others)) })) f.0.node
+      ap (λ x. Some (record { first = x; others = map (λ z. record { comma = nowhere; part = lowered_argument known_variable z.part }) (map (map_comma (renamed_argument variable_of)) (map (map_comma (renamed_argument (bound_in ss))) xs.others)) })) f.0.node
       ∙ ap (λ ys. Some (record { first = argument_view b; others = ys })) (others-node xs.others bs f.1)
 
 pub write-plans : (a : Plan) (w : WriteTree Text) (bs : Bor (List Argument)) → AreArguments a.scopes (arguments_of w.arguments) bs.now → PlansStmt a a (Write w) (WriteStep w.ends_line bs)

@@ -1,6 +1,6 @@
 -- A whole program: what is planned of its statements, from one scope without names, is the program.
 -- Each clause on a program's plan is one of these.
-use Rattle.std.proofs.Common.{◌≡◌, ◌≤◌, List, [], map, sym, ap, ◌∙◌, subst}
+use Rattle.std.proofs.Common.{◌≡◌, ℕ, ◌≤◌, List, [], map, Option, Some, None, refl, sym, ap, ◌∙◌, subst, arith}
 use Rattle.dpl_language.specs.Tree.{ProgramTree}
 use Rattle.dpl_language.specs.Names.{Text}
 use Rattle.dpl_language.specs.Renamed.{renamed_stmts, renamed_program}
@@ -8,18 +8,33 @@ use Rattle.dpl_language.specs.Scopes.{fits_all, after_all}
 use Rattle.dpl_rules.specs.Sights.{Scopes}
 use Rattle.dpl_rules.specs.Breaches.{top}
 use Rattle.dpl_rules.specs.Sound.{behind_all}
+use Rattle.dpl_scopes.specs.Slots.{slot_in}
 use Rattle.dpl_lowered.specs.LoweredStatements.{lowered_program}
-use Rattle.dpl_words.specs.Words.{known_leaf}
-use Rattle.dpl_words.specs.Resolved.{Start, text_of, leaf_of, first_seen, resolving}
+use Rattle.dpl_words.specs.Words.{LeafKind}
+use Rattle.dpl_memory.specs.Memory.{known_variable}
+use Rattle.dpl_memory.specs.Resolved.{Start, text_of, variable_of, first_seen, resolving}
 use Rattle.dpl_nodes.specs.declared.step.Step.{Step}
 use Rattle.dpl_nodes.specs.Steps.{steps_of}
+use Rattle.dpl_elaborator.specs.Leaves.{kind_in, leaf_by}
 use Rattle.dpl_elaborator.specs.Sights.{sight_of, ArePlainScopes}
 use Rattle.dpl_planner.specs.declared.progress.Plan.{Plan}
 use Rattle.dpl_planner.specs.declared.progress.Reducing.{Reducing}
 use Rattle.dpl_planner.specs.Bounds.{bound_stmts, bound_program}
-use Rattle.dpl_planner.specs.Given.{AreGiven}
+use Rattle.dpl_planner.specs.Given.{IsGiven, AreGiven}
 use Rattle.dpl_planner.specs.Plans.{reducing_view, seen_of, IsOneScope, Stands, stmts_leaves, PlansTops}
 use Rattle.dpl_planner.proofs.Scoped.{after-stmts}
+
+-- where the command line sets nothing, each name is given nothing, by its text and by its slot
+abbrev unset : ℕ → Start
+unset slots = record { slots = slots; texts = []; words = [] }
+
+unset-given : (slots : ℕ) (x : Text) (k : Option LeafKind) (slot : Option ℕ) → IsGiven (unset slots) (record { text = x; variable = leaf_by k slot })
+unset-given slots x None slot = refl
+unset-given slots x (Some k) None = refl
+unset-given slots x (Some k) (Some slot) = refl
+
+are-given-unset : (slots : ℕ) (ss : Scopes) → AreGiven (unset slots) ss
+are-given-unset slots ss x c = unset-given slots x (kind_in ss x) (slot_in ss x)
 
 module _ (a b : Plan) (t : ProgramTree Text) (steps : List Step) (begun : a.scopes ≡ top) (none : a.intents.items ≡ []) (p : PlansTops a b t.stmts steps) where
   abbrev At : Scopes → List Reducing → Type 0
@@ -36,7 +51,7 @@ module _ (a b : Plan) (t : ProgramTree Text) (steps : List Step) (begun : a.scop
   pub program-text : renamed_program text_of (bound_program t) ≡ t
   program-text = ap (λ ts. record { uses = t.uses; stmts = ts; end = t.end }) all.text
 
-  pub program-steps : (lowered_program known_leaf (renamed_program leaf_of (bound_program t))).stmts ≡ steps_of steps
+  pub program-steps : (lowered_program known_variable (renamed_program variable_of (bound_program t))).stmts ≡ steps_of steps
   program-steps = all.node
 
   pub program-fits : (start : Start) → b.slots ≤ start.slots → AreGiven start b.scopes → fits_all (resolving start) (bound_program t).stmts first_seen
@@ -46,7 +61,9 @@ module _ (a b : Plan) (t : ProgramTree Text) (steps : List Step) (begun : a.scop
   program-scopes = all.goes.scopes
 
   pub program-left : (start : Start) → (after_all (resolving start) (bound_program t).stmts first_seen).frames ≡ sight_of b.scopes
-  program-left start = ap (λ s. s.frames) (after-stmts start t.stmts top []) ∙ ap sight_of (sym all.goes.scopes)
+  program-left start =
+      let fitting = all.resolves (unset b.slots) first_plain (omega arith) (are-given-unset b.slots b.scopes) in
+      ap (λ s. s.frames) (after-stmts start (unset b.slots) t.stmts top [] fitting) ∙ ap sight_of (sym all.goes.scopes)
 
   pub program-plain : ArePlainScopes b.scopes
   program-plain = all.goes.plain first_plain

@@ -5,7 +5,7 @@ use Rattle.dpl_language.specs.Tree.{IntentTree, ReduceIntent, RefIntent}
 use Rattle.dpl_language.specs.Names.{Text}
 use Rattle.dpl_language.specs.Phrases.{reduce_intents}
 use Rattle.dpl_language.specs.Renamed.{renamed_intents}
-use Rattle.dpl_words.specs.Resolved.{Bound, leaf_of}
+use Rattle.dpl_memory.specs.Resolved.{Bound, variable_of}
 use Rattle.dpl_nodes.specs.declared.step.Intent.{Intent}
 use Rattle.dpl_nodes.specs.Steps.{intent_view}
 use Rattle.dpl_planner.specs.declared.progress.Reducing.{Reducing}
@@ -31,8 +31,8 @@ map-append g [] ys = refl
 map-append g (x ∷ xs) ys = ap (λ zs. g x ∷ zs) (map-append g xs ys)
 
 -- ---- without their names
-pub unnamed-step : (made : List Intent) (r : Reducing) (rest : List Reducing) (all : List _) → map intent_view made ++ renamed_intents leaf_of (map reducing_view (r ∷ rest)) ≡ all
-    → map intent_view (made ++ r.intent ∷ []) ++ renamed_intents leaf_of (map reducing_view rest) ≡ all
+pub unnamed-step : (made : List Intent) (r : Reducing) (rest : List Reducing) (all : List _) → map intent_view made ++ renamed_intents variable_of (map reducing_view (r ∷ rest)) ≡ all
+    → map intent_view (made ++ r.intent ∷ []) ++ renamed_intents variable_of (map reducing_view rest) ≡ all
 unnamed-step made r rest all so_far =
-    ap (λ is. is ++ renamed_intents leaf_of (map reducing_view rest)) (map-append intent_view made (r.intent ∷ []))
-    ∙ append_assoc (map intent_view made) (intent_view r.intent ∷ []) (renamed_intents leaf_of (map reducing_view rest)) ∙ so_far
+    ap (λ is. is ++ renamed_intents variable_of (map reducing_view rest)) (map-append intent_view made (r.intent ∷ []))
+    ∙ append_assoc (map intent_view made) (intent_view r.intent ∷ []) (renamed_intents variable_of (map reducing_view rest)) ∙ so_far

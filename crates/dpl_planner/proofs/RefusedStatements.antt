@@ -8,7 +8,7 @@ use Rattle.dpl_tree.specs.declared.statement.Stmt.{Stmt}
 use Rattle.dpl_tree.specs.Statements.{stmt_view, stmts_of}
 use Rattle.dpl_rules.specs.Sights.{enter}
 use Rattle.dpl_rules.specs.Loops.{behind}
-use Rattle.dpl_words.specs.Resolved.{Bound}
+use Rattle.dpl_memory.specs.Resolved.{Bound}
 use Rattle.dpl_scalar.specs.Bodies.{in_loop}
 use Rattle.dpl_scalar.specs.Scalar.{IsScalarStmt, IsScalarBody, AreScalarStmts, IsScalarElse, AreScalarTops}
 use Rattle.dpl_planner.specs.declared.progress.Plan.{Plan}

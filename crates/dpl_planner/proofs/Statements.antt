@@ -7,7 +7,7 @@ use Rattle.dpl_syntax.specs.declared.place.Place.{Place}
 use Rattle.dpl_language.specs.Tree.{Op, ExprTree, ItemTree, OneVariable, IntentTree, ReduceIntent, RefIntent, WithTree, Nothing, If, While, For, Forall, Body, Else}
 use Rattle.dpl_language.specs.Names.{Text}
 use Rattle.dpl_language.specs.Phrases.{intents_of}
-use Rattle.dpl_language.specs.Scopes.{fits_body}
+use Rattle.dpl_language.specs.Scopes.{PlainSort, fits_body}
 use Rattle.dpl_language.specs.Renamed.{renamed_expr, renamed_item, renamed_intent, renamed_with, renamed_body, renamed_else, renamed_intents}
 use Rattle.dpl_language.proofs.RenamedParts.{intents_of-renamed}
 use Rattle.dpl_language.specs.Tree.{Placed}
@@ -16,9 +16,10 @@ use Rattle.dpl_scopes.specs.Slots.{next_slot_in}
 use Rattle.dpl_lowered.specs.Shapes.{nowhere}
 use Rattle.dpl_lowered.specs.LoweredExpressions.{Once, lowered_expr, lowered_item}
 use Rattle.dpl_lowered.specs.LoweredStatements.{with_intents}
-use Rattle.dpl_words.specs.Words.{IntLeaf, known_leaf}
-use Rattle.dpl_words.specs.Resolved.{Bound, Start, text_of, leaf_of, resolving, bind, IsUnused}
-use Rattle.dpl_words.proofs.Suiting.{Turns-ranges}
+use Rattle.dpl_words.specs.Words.{IntLeaf}
+use Rattle.dpl_memory.specs.Memory.{known_variable}
+use Rattle.dpl_memory.specs.Resolved.{Bound, Start, text_of, variable_of, resolving, sighted, bind, Declares}
+use Rattle.dpl_memory.proofs.Suiting.{Turns-ranges}
 use Rattle.dpl_nodes.specs.declared.tree.BoolExpr.{BoolExpr}
 use Rattle.dpl_nodes.specs.declared.tree.RangeExpr.{RangeExpr}
 use Rattle.dpl_nodes.specs.declared.make.Typed.TheVariants as typed
@@ -52,7 +53,7 @@ pub while-plans : (a b : Plan) (at : Place) (spot : Bor Place) (e : ExprTree Tex
 while-plans a b at spot e made body steps near is p = record {
   goes = p.goes;
   text = both (While at) (expr-text a.scopes e) p.text;
-  node = ap (λ x. While x (lowered_expr known_leaf Once (renamed_expr leaf_of (renamed_expr (bound_in a.scopes) e))) (body_leaves (enter a.scopes) body)) (sym near)
+  node = ap (λ x. While x (lowered_expr known_variable Once (renamed_expr variable_of (renamed_expr (bound_in a.scopes) e))) (body_leaves (enter a.scopes) body)) (sym near)
       ∙ both (While spot.now) (condition-node a.scopes e made is) (p.node ∙ ap listed (sym (steps_view-row steps.now)));
   resolves = λ start h le. (condition-fits a.scopes e made is start (intents_in a) h, p.resolves start h le);
 }
@@ -83,13 +84,13 @@ plain-variables : (ss : Scopes) (x : Text) → ArePlainScopes ss → ArePlainSco
 plain-variables ss x h = plain-add (loop_variable (enter ss) x) (enter ss) IntLeaf refl refl (tt, h)
 
 inside-fits : (ss : Scopes) (x : Text) (is : List (Bound × Op)) (start : Start) (t : Body Bound) → fits_body (resolving start) t (seen_of (enter (variables ss x)) is)
-    → fits_body (resolving start) t (record { frames = [] ∷ bind (variable ss x) ([] ∷ sight_of ss); intents = is })
+    → fits_body (resolving start) t (record { frames = [] ∷ bind (sighted (variable ss x) PlainSort) ([] ∷ sight_of ss); intents = is })
 inside-fits ss x is start t f =
     subst (λ fs. fits_body (resolving start) t (record { frames = [] ∷ fs; intents = is })) (sight_of-next (loop_variable (enter ss) x) (enter ss)) f
 
-variable-fits : (ss : Scopes) (slot m n : ℕ) (start : Start) → slot ≡ next_slot_in (enter ss) → slot < m → m ≤ n → n ≤ start.slots → ArePlainScopes ss
-    → IsUnused (next_slot_in (enter ss)) ([] ∷ sight_of ss) × (next_slot_in (enter ss) < start.slots)
-variable-fits ss slot m n start next below more le h = (unused_next (enter ss) (tt, h), subst (λ k. k < start.slots) next (omega (arith, below, more, le)))
+variable-fits : (ss : Scopes) (x : Text) (is : List (Bound × Op)) (slot m n : ℕ) (start : Start) → slot ≡ next_slot_in (enter ss) → slot < m → m ≤ n → n ≤ start.slots → ArePlainScopes ss
+    → Declares start.slots (variable ss x) PlainSort (seen_of (enter ss) is)
+variable-fits ss x is slot m n start next below more le h = (record { unused = unused_next (enter ss) (tt, h); within = subst (λ k. k < start.slots) next (omega (arith, below, more, le)) }, λ e. e)
 
 pub for-plans : (a b c : Plan) (at word : Place) (spot : Bor Place) (x : Placed Text) (slot : ℕ) (item : ItemTree Text) (range : Bor RangeExpr) (body : Body Text) (steps : Bor (List Step))
     → spot.now ≡ at → IsItem a.scopes item (typed.Range range) → IsOpened a b x.name slot → PlansBody b c body steps.now
@@ -101,7 +102,7 @@ for-plans a b c at word spot x slot item range body steps near is opened p =
     let more = opened.slots in
     let grown = q.goes.slots in
     let made = renamed_item (bound_in ss) item in
-    let items = lowered_item known_leaf Once (renamed_item leaf_of made) in
+    let items = lowered_item known_variable Once (renamed_item variable_of made) in
     let turns = body_leaves (enter vs) body in
     record {
       goes = goes-left a c vs refl q.goes.scopes (omega (arith, more, grown)) (q.goes.intents ∙ opened.intents);
@@ -112,7 +113,7 @@ for-plans a b c at word spot x slot item range body steps near is opened p =
       resolves = λ start h le. (
         item-fits ss item (typed.Range range) is start (intents_in a) h None,
         Turns-ranges made (item-suited ss item (typed.Range range) is),
-        variable-fits ss slot b.slots c.slots start opened.next opened.below grown le h,
+        variable-fits ss x.name (intents_in a) slot b.slots c.slots start opened.next opened.below grown le h,
         inside-fits ss x.name (intents_in a) start (bound_body (enter vs) body) (q.resolves start (subst ArePlainScopes (sym opened.scopes) (plain-variables ss x.name h)) le),
       );
     }
@@ -133,12 +134,13 @@ module _ (ss : Scopes) (w : Option (WithTree Text)) (found : List Reducing) (nam
   intents-bound : map reducing_view found ≡ intents_of bound_with
   intents-bound = named ∙ sym (intents_of-renamed (bound_in ss) w)
 
-  intents-node : (is : List Intent) → map intent_view is ≡ renamed_intents leaf_of (map reducing_view found) → intents_of (option_map (renamed_with leaf_of) bound_with) ≡ map intent_view is
-  intents-node is unnamed = intents_of-renamed leaf_of bound_with ∙ ap (renamed_intents leaf_of) (sym intents-bound) ∙ sym unnamed
+  intents-node : (is : List Intent) → map intent_view is ≡ renamed_intents variable_of (map reducing_view found) → intents_of (option_map (renamed_with variable_of) bound_with) ≡ map intent_view is
+  intents-node is unnamed = intents_of-renamed variable_of bound_with ∙ ap (renamed_intents variable_of) (sym intents-bound) ∙ sym unnamed
 
-pub forall-plans : (a b c : Plan) (found none : Vec Reducing) (at word : Place) (spot : Bor Place) (x : Placed Text) (slot : ℕ) (item : ItemTree Text) (range : Bor RangeExpr) (w : Option (WithTree Text)) (is : Bor (List Intent)) (body : Body Text) (steps : Bor (List Step))
+pub forall-plans : (a b c : Plan) (found none : Vec Reducing) (at word : Place) (spot : Bor Place) (x : Placed Text) (slot : ℕ) (item : ItemTree Text) (range : Bor RangeExpr)
+    (w : Option (WithTree Text)) (is : Bor (List Intent)) (body : Body Text) (steps : Bor (List Step))
     → a.intents.items ≡ [] → none.items ≡ [] → spot.now ≡ at → IsItem a.scopes item (typed.Range range)
-    → map reducing_view found.items ≡ renamed_intents (bound_in a.scopes) (intents_of w) → map intent_view is.now ≡ renamed_intents leaf_of (map reducing_view found.items)
+    → map reducing_view found.items ≡ renamed_intents (bound_in a.scopes) (intents_of w) → map intent_view is.now ≡ renamed_intents variable_of (map reducing_view found.items)
     → IsOpened (record a { intents = found }) b x.name slot → PlansBody b c body steps.now
     → PlansStmt a (record (left c) { intents = none }) (Forall at (OneVariable x) word item w body) (ForallStep spot slot range is steps)
 forall-plans a b c found none at word spot x slot item range w is body steps outside empty near ranged named unnamed opened p =
@@ -148,10 +150,10 @@ forall-plans a b c found none at word spot x slot item range w is body steps out
     let more = opened.slots in
     let grown = q.goes.slots in
     let made = renamed_item (bound_in ss) item in
-    let items = lowered_item known_leaf Once (renamed_item leaf_of made) in
+    let items = lowered_item known_variable Once (renamed_item variable_of made) in
     let turns = body_leaves (enter vs) body in
     let with = option_map (renamed_with (bound_in ss)) w in
-    let reduced = intents_of (option_map (renamed_with leaf_of) with) in
+    let reduced = intents_of (option_map (renamed_with variable_of) with) in
     record {
       goes = goes-back a (record (left c) { intents = none }) (ap (drop 1) q.goes.scopes) (omega (arith, more, grown)) (empty ∙ sym outside);
       text = ap (λ v. Forall at (OneVariable x) word (renamed_item text_of made) v (renamed_body text_of (bound_body (enter vs) body))) (with-text ss w)
@@ -164,8 +166,8 @@ forall-plans a b c found none at word spot x slot item range w is body steps out
         item-fits ss item (typed.Range range) ranged start (intents_in a) h None,
         Turns-ranges made (item-suited ss item (typed.Range range) ranged),
         ap (map reducing_view) outside,
-        variable-fits ss slot b.slots c.slots start opened.next opened.below grown le h,
-        subst (λ v. fits_body (resolving start) (bound_body (enter vs) body) (record { frames = [] ∷ bind (variable ss x.name) ([] ∷ sight_of ss); intents = v })) (intents-bound ss w found.items named)
+        variable-fits ss x.name (intents_of with) slot b.slots c.slots start opened.next opened.below grown le h,
+        subst (λ v. fits_body (resolving start) (bound_body (enter vs) body) (record { frames = [] ∷ bind (sighted (variable ss x.name) PlainSort) ([] ∷ sight_of ss); intents = v })) (intents-bound ss w found.items named)
             (inside-fits ss x.name (map reducing_view found.items) start (bound_body (enter vs) body) (q.resolves start (subst ArePlainScopes (sym opened.scopes) (plain-variables ss x.name h)) le)),
       );
     }

@@ -19,8 +19,9 @@ use Rattle.dpl_rules.specs.Declarations.{declared_by}
 use Rattle.dpl_lowered.specs.Shapes.{nowhere}
 use Rattle.dpl_lowered.specs.LoweredExpressions.{Once, lowered_expr, lowered_item}
 use Rattle.dpl_lowered.specs.LoweredStatements.{default_tree, written_initial, written_type, tells_name, declared_type, declared_initial, lowered_argument}
-use Rattle.dpl_words.specs.Words.{LeafKind, Leaf, known_leaf}
-use Rattle.dpl_words.specs.Resolved.{Bound, Seen, Start, text_of, leaf_of, resolving}
+use Rattle.dpl_words.specs.Words.{LeafKind}
+use Rattle.dpl_memory.specs.Memory.{PlainKind, Variable, variable, known_variable}
+use Rattle.dpl_memory.specs.Resolved.{Bound, Seen, Start, text_of, variable_of, resolving}
 use Rattle.dpl_nodes.specs.declared.make.Typed.{Typed}
 use Rattle.dpl_nodes.specs.declared.tree.BoolExpr.{BoolExpr}
 use Rattle.dpl_nodes.specs.Typed.{truth_view}
@@ -39,12 +40,12 @@ use Rattle.dpl_planner.specs.Plans.{seen_of, seen_in, Stands, stmt_leaves}
 
 -- an item, elaborated
 pub record IsItem (ss : Scopes) (i : ItemTree Text) (t : Typed) : Type 0 where
-  pub node : typed_item t ≡ lowered_item known_leaf Once (renamed_item (leaf_in ss) i)
+  pub node : typed_item t ≡ lowered_item known_variable Once (renamed_item (leaf_in ss) i)
   pub found : IsSimpleItem (IsFound ss) i
 
--- a leaf of a kind
-abbrev pub leaf_as : LeafKind → ℕ → Leaf
-leaf_as k slot = record { kind = k; slot = slot }
+-- a plain variable of a kind
+abbrev pub leaf_as : LeafKind → ℕ → Variable
+leaf_as k slot = variable (PlainKind k) slot
 
 -- DECLARATIONS: the type of a plain variable, or none that is written
 abbrev pub IsPlainType : Option (TypeTree Text) → Option Kind → Type 0
@@ -75,8 +76,8 @@ bound_initial ss i = option_map (renamed_initial (bound_in ss)) i
 -- such a type is spelled as it is, and goes where the initial value is written
 pub record IsPlainTyped (ss : Scopes) (t : Option (TypedTree Text)) : Type 0 where
   pub spelled : option_map (renamed_typed text_of) (bound_typed ss t) ≡ t
-  pub untold : tells_name (type_of (option_map (renamed_typed leaf_of) (bound_typed ss t))) ≡ false
-  pub gone : (i : Option (InitialTree Leaf)) → option_map written_type (declared_type known_leaf (type_of (option_map (renamed_typed leaf_of) (bound_typed ss t))) i) ≡ None
+  pub untold : tells_name (type_of (option_map (renamed_typed variable_of) (bound_typed ss t))) ≡ false
+  pub gone : (i : Option (InitialTree Variable)) → option_map written_type (declared_type known_variable (type_of (option_map (renamed_typed variable_of) (bound_typed ss t))) i) ≡ None
   pub sort : sort_by (type_of (bound_typed ss t)) ≡ PlainSort
   pub fits_here : (start : Start) (g : Seen) → fits_type (resolving start) (type_of (bound_typed ss t)) g
 
@@ -84,11 +85,11 @@ pub record IsPlainTyped (ss : Scopes) (t : Option (TypedTree Text)) : Type 0 whe
 pub record IsInitial (ss : Scopes) (t : Option (TypedTree Text)) (i : Option (InitialTree Text)) (value : Typed) : Type 0 where
   pub type : IsPlainTyped ss t
   pub text : option_map (renamed_initial text_of) (bound_initial ss i) ≡ i
-  pub node : declared_initial known_leaf (type_of (option_map (renamed_typed leaf_of) (bound_typed ss t))) (option_map (renamed_initial leaf_of) (bound_initial ss i))
+  pub node : declared_initial known_variable (type_of (option_map (renamed_typed variable_of) (bound_typed ss t))) (option_map (renamed_initial variable_of) (bound_initial ss i))
       ≡ Some (written_initial nowhere (typed_item value))
   pub initial : (start : Start) (is : List (Bound × Op)) → ArePlainScopes ss
       → fits_initial (resolving start) (side_by (resolving start) (type_of (bound_typed ss t))) (bound_initial ss i) (seen_of ss is)
-  pub suits : (start : Start) (x : Bound) (g : Seen) → x.leaf.kind ≡ kind_of value → suits_declared (resolving start) x (type_of (bound_typed ss t)) (bound_initial ss i) g
+  pub suits : (start : Start) (x : Bound) (g : Seen) → x.variable.kind ≡ PlainKind (kind_of value) → suits_declared (resolving start) x (type_of (bound_typed ss t)) (bound_initial ss i) g
 
 -- a `config const` is set alike by its text and by its slot
 abbrev pub IsOwedBy : Option Place → Start → Bound → Type 0
@@ -107,7 +108,7 @@ PlansDeclare old new d step =
 -- ARGUMENTS
 pub record IsArgument (ss : Scopes) (a : ArgumentTree Text) (b : Argument) : Type 0 where
   pub text : renamed_argument text_of (renamed_argument (bound_in ss) a) ≡ a
-  pub node : lowered_argument known_leaf (renamed_argument leaf_of (renamed_argument (bound_in ss) a)) ≡ argument_view b
+  pub node : lowered_argument known_variable (renamed_argument variable_of (renamed_argument (bound_in ss) a)) ≡ argument_view b
   pub fits_before : (start : Start) (is : List (Bound × Op)) (rest : List (ArgumentTree Bound)) → ArePlainScopes ss
       → fits_arguments (resolving start) rest (seen_of ss is) → fits_arguments (resolving start) (renamed_argument (bound_in ss) a ∷ rest) (seen_of ss is)
 
@@ -129,7 +130,7 @@ abbrev pub intents_among : List NextIntent → List (IntentTree Text)
 intents_among xs = map (λ x. x.part) (map next_intent_view xs)
 
 pub record IsCondition (ss : Scopes) (e : ExprTree Text) (b : Bor BoolExpr) : Type 0 where
-  pub node : truth_view b.now ≡ lowered_expr known_leaf Once (renamed_expr (leaf_in ss) e)
+  pub node : truth_view b.now ≡ lowered_expr known_variable Once (renamed_expr (leaf_in ss) e)
   pub found : IsSimple (IsFound ss) e
 
 -- the scope of a loop's variable is open, and the variable has the next slot in it

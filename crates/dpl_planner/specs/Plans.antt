@@ -9,8 +9,8 @@ use Rattle.dpl_rules.specs.Sights.{Scopes, enter}
 use Rattle.dpl_rules.specs.Loops.{behind}
 use Rattle.dpl_rules.specs.Sound.{behind_all}
 use Rattle.dpl_lowered.specs.LoweredStatements.{lowered_stmt, lowered_stmts, lowered_body, lowered_else}
-use Rattle.dpl_words.specs.Words.{Leaf, known_leaf}
-use Rattle.dpl_words.specs.Resolved.{Bound, Seen, Start, text_of, leaf_of, resolving}
+use Rattle.dpl_memory.specs.Memory.{Variable, known_variable}
+use Rattle.dpl_memory.specs.Resolved.{Bound, Seen, Start, text_of, variable_of, resolving}
 use Rattle.dpl_nodes.specs.declared.step.Step.{Step}
 use Rattle.dpl_nodes.specs.declared.step.Else.{Else as ElseNode}
 use Rattle.dpl_nodes.specs.Steps.{listed, intent_view, step_view, else_view, steps_of}
@@ -22,7 +22,7 @@ use Rattle.dpl_planner.specs.Bounds.{bound_stmt, bound_stmts, bound_body, bound_
 
 -- WHAT A PLAN HAS IN SIGHT
 abbrev pub reducing_view : Reducing → Bound × Op
-reducing_view r = (record { text = r.name.now; leaf = (intent_view r.intent).0 }, (intent_view r.intent).1)
+reducing_view r = (record { text = r.name.now; variable = (intent_view r.intent).0 }, (intent_view r.intent).1)
 
 abbrev pub seen_of : Scopes → List (Bound × Op) → Seen
 seen_of ss is = record { frames = sight_of ss; intents = is }
@@ -56,17 +56,17 @@ pub record Stands (old new : Plan) (to : Scopes) (Spelled Lowered : Type 0) (Fit
   pub node : Lowered
   pub resolves : (start : Start) → ArePlainScopes old.scopes → new.slots ≤ start.slots → Fits start
 
-abbrev pub stmt_leaves : Scopes → StmtTree Text → StmtTree Leaf
-stmt_leaves ss t = lowered_stmt known_leaf (renamed_stmt leaf_of (bound_stmt ss t))
+abbrev pub stmt_leaves : Scopes → StmtTree Text → StmtTree Variable
+stmt_leaves ss t = lowered_stmt known_variable (renamed_stmt variable_of (bound_stmt ss t))
 
-abbrev pub stmts_leaves : Scopes → Stmts Text → Stmts Leaf
-stmts_leaves ss ts = lowered_stmts known_leaf (renamed_stmts leaf_of (bound_stmts ss ts))
+abbrev pub stmts_leaves : Scopes → Stmts Text → Stmts Variable
+stmts_leaves ss ts = lowered_stmts known_variable (renamed_stmts variable_of (bound_stmts ss ts))
 
-abbrev pub body_leaves : Scopes → Body Text → Body Leaf
-body_leaves ss b = lowered_body known_leaf (renamed_body leaf_of (bound_body ss b))
+abbrev pub body_leaves : Scopes → Body Text → Body Variable
+body_leaves ss b = lowered_body known_variable (renamed_body variable_of (bound_body ss b))
 
-abbrev pub else_leaves : Scopes → Else Text → Else Leaf
-else_leaves ss o = lowered_else known_leaf (renamed_else leaf_of (bound_else ss o))
+abbrev pub else_leaves : Scopes → Else Text → Else Variable
+else_leaves ss o = lowered_else known_variable (renamed_else variable_of (bound_else ss o))
 
 abbrev pub PlansStmt : Plan → Plan → StmtTree Text → Step → Type 0
 PlansStmt old new t step =

@@ -12,8 +12,9 @@ ghost use Rattle.dpl_tree.specs.Statements.{target_view, sign_view};
 ghost use Rattle.dpl_types.specs.View.{type_view, of_type};
 ghost use Rattle.dpl_scopes.specs.Slots.{slot_in};
 ghost use Rattle.dpl_lowered.specs.Shapes.{kept};
-ghost use Rattle.dpl_words.specs.Words.{IntLeaf, TruthLeaf, RangeLeaf, intent_at, by_slots};
-ghost use Rattle.dpl_words.specs.Resolved.{text_of, leaf_of, takes, is_logical as is_logical_of, Combines, IntentResolves};
+ghost use Rattle.dpl_words.specs.Words.{IntLeaf, TruthLeaf, RangeLeaf, intent_at, takes, is_logical as is_logical_of, Combines};
+ghost use Rattle.dpl_memory.specs.Memory.{intents_by_slot};
+ghost use Rattle.dpl_memory.specs.Resolved.{text_of, variable_of, IntentResolves};
 ghost use Rattle.dpl_nodes.specs.Faults.{IsNear};
 ghost use Rattle.dpl_nodes.specs.Makers.{kind_of, typed_item};
 ghost use Rattle.dpl_nodes.specs.declared.make.Stop.TheVariants as stop;
@@ -26,7 +27,7 @@ ghost use Rattle.dpl_planner.specs.Plans.{reducing_view, intents_in, seen_in, Pl
 
 use crate::progress::{Plan, Reducing, spot};
 use dpl_elaborator::item;
-use dpl_nodes::{BoolExpr, IntExpr, RangeExpr, Step, Stop, Typed};
+use dpl_nodes::{BoolExpr, IntExpr, RangeExpr, Step, Stop, TruthDeed, Typed};
 use dpl_scopes::Scopes;
 use dpl_syntax::Place;
 use dpl_tree::{Arena, Assign, AssignSign, Assignment, Item, Name, Op, ScalarKind, Target};
@@ -100,8 +101,8 @@ fn of_truth<'t>(sign: AssignSign, slot: usize, e: &'t BoolExpr<'t>) -> Result<St
     ensures ill_typed { (result ≡ Err stop.IllTyped) → takes TruthLeaf (assign_view sign.op) ≡ false }
 {
     match sign.op {
-        Assign::Set => Ok(Step::SetTruth(slot, e)),
-        Assign::SetReduce => Ok(Step::ReduceTruth(slot, e)),
+        Assign::Set => Ok(Step::Truth(TruthDeed::Set, slot, e)),
+        Assign::SetReduce => Ok(Step::Truth(TruthDeed::Reduce, slot, e)),
         Assign::SetAdd
         | Assign::SetSubtract
         | Assign::SetMultiply
@@ -147,7 +148,7 @@ fn change<'t>(
 // The operator by which a variable is reduced, told alike by its name and by its slot.
 fn reducing(intents: &[Reducing<'_>], name: &[u8], slot: usize) -> Result<Option<Op>, Stop>
     ensures named { IfOk result (λ op. paired name.now (renamed_intents text_of (map reducing_view intents.now)) ≡ option_map op_view op) }
-    ensures slotted { IfOk result (λ op. intent_at slot (by_slots (renamed_intents leaf_of (map reducing_view intents.now))) ≡ option_map op_view op) }
+    ensures slotted { IfOk result (λ op. intent_at slot (intents_by_slot (renamed_intents variable_of (map reducing_view intents.now))) ≡ option_map op_view op) }
     ensures ill_typed { (result ≡ Err stop.IllTyped) → AreToldAlike name.now slot (map reducing_view intents.now) → ⊥ }
 {
     for next in intents {
@@ -197,7 +198,7 @@ fn intent_resolves(
     slot: usize,
     value: Typed<'_>,
 ) -> Result<(), Stop>
-    ensures resolves { OnOk result (IntentResolves (assign_view op) (record { text = name.now; leaf = leaf_as (kind_of value.entry) slot }) (seen_in plan.now)) }
+    ensures resolves { OnOk result (IntentResolves (assign_view op) (record { text = name.now; variable = leaf_as (kind_of value.entry) slot }) (seen_in plan.now)) }
     ensures ill_typed { (result ≡ Err stop.IllTyped) → slot_in plan.now.scopes name.now ≡ Some slot → IsReducedBy plan.now.scopes (intents_in plan.now) name.now (assign_view op) (kind_of value.entry) → ⊥ }
 {
     match op {

@@ -22,7 +22,7 @@ use crate::progress::Plan;
 use dpl_elaborator::item;
 use dpl_forms::declaration::declaration;
 use dpl_nodes::leaves::{number, truth_word};
-use dpl_nodes::{Step, Stop, Typed};
+use dpl_nodes::{Step, Stop, TruthDeed, Typed};
 use dpl_scopes::{Declared, Scopes};
 use dpl_syntax::Place;
 use dpl_tree::{Arena, Declare, DeclaredType, Init, Initial, ScalarKind, Typed as WrittenType};
@@ -108,10 +108,10 @@ fn declares<'t>(config: Option<Place>, slot: usize, value: Typed<'t>) -> Result<
 {
     match (config, value) {
         (None, Typed::Int(e)) => Ok(Step::DeclareInt(slot, e)),
-        (None, Typed::Truth(e)) => Ok(Step::DeclareTruth(slot, e)),
+        (None, Typed::Truth(e)) => Ok(Step::Truth(TruthDeed::Declare, slot, e)),
         (None, Typed::Range(e)) => Ok(Step::DeclareRange(slot, e)),
         (Some(_), Typed::Int(e)) => Ok(Step::ConfigInt(slot, e)),
-        (Some(_), Typed::Truth(e)) => Ok(Step::ConfigTruth(slot, e)),
+        (Some(_), Typed::Truth(e)) => Ok(Step::Truth(TruthDeed::Config, slot, e)),
         (Some(_), Typed::Range(_)) => Err(Stop::IllTyped),
     }
 }

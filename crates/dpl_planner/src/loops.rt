@@ -10,7 +10,7 @@ ghost use Rattle.dpl_tree.specs.View.{name_view, expr_view, item_view};
 ghost use Rattle.dpl_tree.specs.Declarations.{optional};
 ghost use Rattle.dpl_tree.specs.Statements.{variables_view, intent_view, with_view};
 ghost use Rattle.dpl_words.specs.Words.{LeafKind, TruthLeaf, RangeLeaf};
-ghost use Rattle.dpl_words.specs.Resolved.{leaf_of};
+ghost use Rattle.dpl_memory.specs.Resolved.{variable_of};
 ghost use Rattle.dpl_nodes.specs.declared.make.Stop.TheVariants as stop;
 ghost use Rattle.dpl_nodes.specs.declared.make.Typed.TheVariants as typed;
 ghost use Rattle.dpl_nodes.specs.Steps.{intent_view as step_intent};
@@ -171,7 +171,7 @@ pub(crate) fn intents<'s>(
 /// # Errors
 /// Out of memory.
 pub(crate) fn unnamed<'t>(arena: Arena<'t>, found: &[Reducing<'_>]) -> Result<&'t [Reduced], Stop>
-    ensures same { IfOk result (λ is. map step_intent is.now ≡ renamed_intents leaf_of (map reducing_view found.now)) }
+    ensures same { IfOk result (λ is. map step_intent is.now ≡ renamed_intents variable_of (map reducing_view found.now)) }
     ensures ill_typed { result ≢ Err stop.IllTyped }
 {
     let mut intents = Vec::new(arena.alloc());

@@ -8,8 +8,8 @@ ghost use Rattle.dpl_tree.specs.Statements.{stmt_view, stmts_of, program_view};
 ghost use Rattle.dpl_rules.specs.Breaches.{top};
 ghost use Rattle.dpl_rules.specs.Sound.{behind_all};
 ghost use Rattle.dpl_lowered.specs.LoweredStatements.{lowered_program};
-ghost use Rattle.dpl_words.specs.Words.{known_leaf};
-ghost use Rattle.dpl_words.specs.Resolved.{Start, text_of, leaf_of, first_seen, resolving};
+ghost use Rattle.dpl_memory.specs.Memory.{known_variable};
+ghost use Rattle.dpl_memory.specs.Resolved.{Start, text_of, variable_of, first_seen, resolving};
 ghost use Rattle.dpl_nodes.specs.Steps.{steps_of};
 ghost use Rattle.dpl_elaborator.specs.Sights.{sight_of, ArePlainScopes};
 ghost use Rattle.dpl_planner.specs.Bounds.{bound_program};
@@ -78,7 +78,7 @@ fn top_stmts<'s, 't>(plan: &mut Plan<'s, 't>, stmts: &[Stmt<'s>]) -> Result<&'t 
 /// scope; a value of another kind than its place takes.
 pub fn plan<'s, 't>(arena: Arena<'t>, program: &Program<'s>) -> Result<Planned<'s, 't>, Stop>
     ensures text { IfOk result (λ p. renamed_program text_of (bound_program (program_view program.now)) ≡ program_view program.now) }
-    ensures steps { IfOk result (λ p. (lowered_program known_leaf (renamed_program leaf_of (bound_program (program_view program.now)))).stmts ≡ steps_of p.steps.now) }
+    ensures steps { IfOk result (λ p. (lowered_program known_variable (renamed_program variable_of (bound_program (program_view program.now)))).stmts ≡ steps_of p.steps.now) }
     ensures fits { IfOk result (λ p. (start : Start) → p.slots ≤ start.slots → AreGiven start p.scopes → fits_all (resolving start) (bound_program (program_view program.now)).stmts first_seen) }
     ensures scopes { IfOk result (λ p. p.scopes ≡ behind_all top (stmts_of program.now.stmts.now)) }
     ensures left { IfOk result (λ p. (start : Start) → (after_all (resolving start) (bound_program (program_view program.now)).stmts first_seen).frames ≡ sight_of p.scopes) }

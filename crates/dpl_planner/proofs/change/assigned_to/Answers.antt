@@ -5,8 +5,7 @@ use Rattle.dpl_rules.specs.Expressions.{item_type}
 use Rattle.dpl_tree.specs.Words.{assign_view}
 use Rattle.dpl_tree.specs.View.{name_view, item_view}
 use Rattle.dpl_tree.specs.Statements.{sign_view}
-use Rattle.dpl_words.specs.Words.{LeafKind, RangeLeaf}
-use Rattle.dpl_words.specs.Resolved.{takes}
+use Rattle.dpl_words.specs.Words.{LeafKind, RangeLeaf, takes}
 use Rattle.dpl_nodes.specs.declared.make.Stop.TheVariants as stop
 use Rattle.dpl_nodes.specs.Makers.{kind_of}
 use Rattle.dpl_elaborator.specs.Leaves.{kind_in}

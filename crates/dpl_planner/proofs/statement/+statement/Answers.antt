@@ -4,7 +4,7 @@ use Rattle.dpl_syntax.proofs.Walks.{drop-end}
 use Rattle.dpl_language.specs.Tree.{NoStmts, Block, For, Forall, ElseDo}
 use Rattle.dpl_language.specs.Phrases.{intents_of}
 use Rattle.dpl_language.specs.Renamed.{renamed_intents}
-use Rattle.dpl_words.specs.Resolved.{leaf_of}
+use Rattle.dpl_memory.specs.Resolved.{variable_of}
 use Rattle.dpl_tree.specs.View.{name_view, expr_view, item_view}
 use Rattle.dpl_tree.specs.Declarations.{optional}
 use Rattle.dpl_tree.specs.Statements.{variables_view, with_view, stmt_view, body_view, else_view, stmts_of}
@@ -61,7 +61,8 @@ forall_turns-returns-clause-plans t c =
     subst (λ (p : Plan). PlansStmt a (record p { intents = none }) (Forall turns.at (variables_view turns.variables) turns.within (item_view turns.over) w (body_view turns.body)) step) (sym c.leave.ensures)
     (subst (λ xs. PlansStmt a (record (left c.body.new.plan) { intents = none }) (Forall turns.at xs turns.within (item_view turns.over) w (body_view turns.body)) step) (sym c.in_ok-name.ensures.one)
     (forall-plans a c.open.new.plan c.body.new.plan found none turns.at turns.within c.in_ok-at.at x c.in_ok-slot.slot (item_view turns.over) c.in_ok-over.over w c.in_ok-unnamed.unnamed (body_view turns.body) c.in_ok-body.body
-    (sym same ∙ c.outside.ensures.none (search rules)) (search rules) c.in_ok-at.ensures.near c.in_ok-over.ensures.node c.in_ok-reducing.ensures.found (c.in_ok-unnamed.ensures.same ∙ ap (λ xs. renamed_intents leaf_of (map reducing_view xs)) taken) c.in_ok-slot.ensures.opened c.in_ok-body.ensures.plans))
+    (sym same ∙ c.outside.ensures.none (search rules)) (search rules) c.in_ok-at.ensures.near c.in_ok-over.ensures.node c.in_ok-reducing.ensures.found
+    (c.in_ok-unnamed.ensures.same ∙ ap (λ xs. renamed_intents variable_of (map reducing_view xs)) taken) c.in_ok-slot.ensures.opened c.in_ok-body.ensures.plans))
 
 pub body-returns-clause-plans : goal.body-returns-clause-plans
 body-returns-clause-plans t c =
