@@ -1,4 +1,4 @@
--- What is left at a program's end: the names of its top level, each with its leaf, are what is in sight there.
+-- What is left at a program's end: the names of its top level, each with its kind and slot, are what is in sight there.
 -- A scope has its latest declaration first, and names are told in order.
 use Rattle.std.proofs.Common.{◌≡◌, ◌+◌, Bool, true, false, List, [], ◌∷◌, ◌++◌, map, length, Some, None, refl, sym, ap, ◌∙◌, subst, append_assoc}
 use Rattle.std.specs.Prelude.{bytes_eq, if◌then◌else◌}
@@ -6,13 +6,16 @@ use Rattle.std.proofs.lemmas.List.{map-append, append-nil}
 use Rattle.std.proofs.lemmas.Slice.Eq.{bytes_eq-Decides}
 use Rattle.dpl_language.specs.Tree.{StmtTree, Nothing, Declare, Assigned, Call, Write, Block, If, While, For, Forall, Coforall, On, Stmts, NoStmts, Then}
 use Rattle.dpl_language.specs.Names.{Text}
+use Rattle.dpl_language.specs.Scopes.{PlainSort}
 use Rattle.dpl_rules.specs.Sights.{Declared, Scope, Scopes, find}
 use Rattle.dpl_rules.specs.Loops.{behind}
 use Rattle.dpl_rules.specs.Breaches.{top}
 use Rattle.dpl_rules.specs.Sound.{behind_all}
-use Rattle.dpl_words.specs.Resolved.{outermost}
-use Rattle.dpl_elaborator.specs.Sights.{bound_in, bound_at, frame_from, sight_of, IsPlainScope, ArePlainScopes}
+use Rattle.dpl_memory.specs.Resolved.{outermost}
+use Rattle.dpl_memory.specs.Resolved.{sighted}
+use Rattle.dpl_elaborator.specs.Sights.{bound_at, frame_from, sight_of, IsPlainScope, ArePlainScopes}
 use Rattle.dpl_run.specs.Names.{declared_by, declared_names}
+use Rattle.dpl_run.specs.Leaving.{sighted_in}
 
 -- the names of a scope, in order
 abbrev names_in : Scope → List Text
@@ -53,7 +56,7 @@ behind_all-grown s (Then t rest) =
       named = more.named ∙ ap (λ xs. xs ++ declared_names rest) first.named ∙ append_assoc (names_in s) (declared_by t) (declared_names rest);
     }
 
--- ---- a scope's names with their leaves
+-- ---- a scope's names with their kinds and slots
 -- a name that is found in a scope isn't the name of one more declaration
 abbrev AreOther : Text → List Text → Type 0
 AreOther y [] = Unit {0}
@@ -80,34 +83,34 @@ names-other y (d ∷ ds) e = by (bytes_eq y d.origin.name) refl e (names-other y
         AreOther-append y (names_in ds) d.origin.name (others e)
         (differs d.origin.name y (bytes_eq d.origin.name y) refl (λ same. (let clash : true ≡ false = sym (same_bytes y) ∙ ap (bytes_eq y) (sym same) ∙ f in cc)))
 
--- the leaf of a name that one more declaration has not
-bound-later : (d : Declared) (ds : Scope) (x : Text) → bytes_eq x d.origin.name ≡ false → bound_in ((d ∷ ds) ∷ []) x ≡ bound_in (ds ∷ []) x
-bound-later d ds x e = rw e refl
+-- what is in sight of a name that one more declaration has not
+name-later : (d : Declared) (ds : Scope) (x : Text) → bytes_eq x d.origin.name ≡ false → sighted_in ((d ∷ ds) ∷ []) x ≡ sighted_in (ds ∷ []) x
+name-later d ds x e = rw e refl
 
-bounds-later : (d : Declared) (ds : Scope) (xs : List Text) → AreOther d.origin.name xs → map (bound_in ((d ∷ ds) ∷ [])) xs ≡ map (bound_in (ds ∷ [])) xs
-bounds-later d ds [] h = refl
-bounds-later d ds (x ∷ xs) h = ap (λ b. b ∷ map (bound_in ((d ∷ ds) ∷ [])) xs) (bound-later d ds x h.0) ∙ ap (λ bs. bound_in (ds ∷ []) x ∷ bs) (bounds-later d ds xs h.1)
+names-later : (d : Declared) (ds : Scope) (xs : List Text) → AreOther d.origin.name xs → map (sighted_in ((d ∷ ds) ∷ [])) xs ≡ map (sighted_in (ds ∷ [])) xs
+names-later d ds [] h = refl
+names-later d ds (x ∷ xs) h = ap (λ b. b ∷ map (sighted_in ((d ∷ ds) ∷ [])) xs) (name-later d ds x h.0) ∙ ap (λ bs. sighted_in (ds ∷ []) x ∷ bs) (names-later d ds xs h.1)
 
-bound-latest : (d : Declared) (ds : Scope) → bound_in ((d ∷ ds) ∷ []) d.origin.name ≡ bound_at d (length ds + 1)
-bound-latest d ds = rw (same_bytes d.origin.name) refl
+name-latest : (d : Declared) (ds : Scope) → sighted_in ((d ∷ ds) ∷ []) d.origin.name ≡ sighted (bound_at d (length ds + 1)) PlainSort
+name-latest d ds = rw (same_bytes d.origin.name) refl
 
-frame-names : (ds : Scope) → IsPlainScope ds → frame_from 1 ds ≡ map (bound_in (ds ∷ [])) (names_in ds)
+frame-names : (ds : Scope) → IsPlainScope ds → frame_from 1 ds ≡ map (sighted_in (ds ∷ [])) (names_in ds)
 frame-names [] h = refl
 frame-names (d ∷ ds) h =
-    ap (λ bs. bs ++ bound_at d (length ds + 1) ∷ []) (frame-names ds h.2 ∙ sym (bounds-later d ds (names_in ds) (names-other d.origin.name ds h.1)))
-    ∙ ap (λ b. map (bound_in ((d ∷ ds) ∷ [])) (names_in ds) ++ b ∷ []) (sym (bound-latest d ds))
-    ∙ sym (map-append (bound_in ((d ∷ ds) ∷ [])) (names_in ds) (d.origin.name ∷ []))
+    ap (λ bs. bs ++ sighted (bound_at d (length ds + 1)) PlainSort ∷ []) (frame-names ds h.2 ∙ sym (names-later d ds (names_in ds) (names-other d.origin.name ds h.1)))
+    ∙ ap (λ b. map (sighted_in ((d ∷ ds) ∷ [])) (names_in ds) ++ b ∷ []) (sym (name-latest d ds))
+    ∙ sym (map-append (sighted_in ((d ∷ ds) ∷ [])) (names_in ds) (d.origin.name ∷ []))
 
 -- ---- what is in sight at the end
-outermost-one : (ss : Scopes) (s : Scope) (names : List Text) → ss ≡ s ∷ [] → names_in s ≡ names → ArePlainScopes ss → outermost (sight_of ss) ≡ map (bound_in ss) names
+outermost-one : (ss : Scopes) (s : Scope) (names : List Text) → ss ≡ s ∷ [] → names_in s ≡ names → ArePlainScopes ss → outermost (sight_of ss) ≡ map (sighted_in ss) names
 outermost-one ss s names one named plain =
     let scope : IsPlainScope s = (subst ArePlainScopes one plain).0 in
     ap (λ ss. outermost (sight_of ss)) one
     ∙ frame-names s scope
-    ∙ ap (map (bound_in (s ∷ []))) named
-    ∙ ap (λ ss. map (bound_in ss) names) (sym one)
+    ∙ ap (map (sighted_in (s ∷ []))) named
+    ∙ ap (λ ss. map (sighted_in ss) names) (sym one)
 
-pub outermost-names : (ts : Stmts Text) → ArePlainScopes (behind_all top ts) → outermost (sight_of (behind_all top ts)) ≡ map (bound_in (behind_all top ts)) (declared_names ts)
+pub outermost-names : (ts : Stmts Text) → ArePlainScopes (behind_all top ts) → outermost (sight_of (behind_all top ts)) ≡ map (sighted_in (behind_all top ts)) (declared_names ts)
 outermost-names ts plain =
     let g = behind_all-grown [] ts in
     outermost-one (behind_all top ts) g.scope (declared_names ts) g.one g.named plain

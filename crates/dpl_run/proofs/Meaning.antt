@@ -1,5 +1,5 @@
--- A run of a program's plan over words is what the program means.
--- From the agreement of words with names, from lowering, and from what the planner gives.
+-- A run of a program's plan in a memory is what the program means.
+-- From the agreement of a memory with names, from lowering, and from what the planner gives.
 use Rattle.std.proofs.Common.{◌≡◌, ℕ, List, [], map, Option, Some, None, refl, sym, ap, ◌∙◌, subst}
 use Rattle.std.specs.Prelude.{true}
 use Rattle.dpl_history.specs.declared.history.Event.{Event}
@@ -20,10 +20,11 @@ use Rattle.dpl_rules.specs.Sights.{Scopes, lookup, type_declared}
 use Rattle.dpl_rules.specs.Sound.{behind_all, sets_fit}
 use Rattle.dpl_rules.specs.Breaches.{top}
 use Rattle.dpl_lowered.proofs.Runs.{exec_all-lowered}
-use Rattle.dpl_words.specs.Words.{LeafKind, IntLeaf, TruthLeaf, RangeLeaf, Words, known_leaf, by_word}
-use Rattle.dpl_words.specs.Resolved.{leaf_of, Start, first_words, first_seen, resolving, frame_in, outermost, left_in, StandsFor}
-use Rattle.dpl_words.proofs.Known.{words-known}
-use Rattle.dpl_words.proofs.WordsAgree.{meaning-words, left-words}
+use Rattle.dpl_words.specs.Words.{LeafKind, IntLeaf, TruthLeaf, RangeLeaf}
+use Rattle.dpl_memory.specs.Memory.{Memory, known_variable, in_memory}
+use Rattle.dpl_memory.specs.Resolved.{variable_of, Start, first_memory, first_seen, resolving, frame_in, outermost, left_in, StandsFor}
+use Rattle.dpl_memory.proofs.Known.{memory-known}
+use Rattle.dpl_memory.proofs.MemoryAgrees.{meaning-memory, left-memory}
 use Rattle.dpl_nodes.specs.declared.fault.Fault.{Fault as FaultNode}
 use Rattle.dpl_nodes.specs.declared.step.Step.{Step}
 use Rattle.dpl_nodes.specs.Steps.{steps_of}
@@ -33,18 +34,19 @@ use Rattle.dpl_says.specs.Says.{run_of}
 use Rattle.dpl_given.specs.Words.{words_in}
 use Rattle.dpl_given.proofs.Alike.{kind_as, given-alike}
 use Rattle.dpl_elaborator.specs.Leaves.{plain_kind, kind_by}
-use Rattle.dpl_elaborator.specs.Sights.{bound_in, sight_of, ArePlainScopes}
+use Rattle.dpl_elaborator.specs.Sights.{sight_of, ArePlainScopes}
 use Rattle.dpl_run.specs.Plans.{IsPlan, IsGivenAlike}
 use Rattle.dpl_steps.specs.Runs.{having_printed}
 use Rattle.dpl_run.specs.declared.outcome.Outcome.{Outcome}
 use Rattle.dpl_run.specs.declared.outcome.Outcome.TheVariants.{Done as DoneWith, Stopped, Rejected}
 use Rattle.dpl_run.specs.Headline.{EndsAs, Means}
 use Rattle.dpl_run.specs.Names.{declared_names}
+use Rattle.dpl_run.specs.Leaving.{sighted_in}
 use Rattle.dpl_run.specs.Runs.{RanTo}
 use Rattle.dpl_run.proofs.Collecting.{outermost-names}
 
 -- ---- the ends of the two runs
-done-alike : (R : State → Words → Type 0) (o : Meant State) (r : Meant Words) (last : Words) (done : Deeds) → EndsAlike R o r → r ≡ Done last done → (s : State) × (o ≡ Done s done)
+done-alike : (R : State → Memory → Type 0) (o : Meant State) (r : Meant Memory) (last : Memory) (done : Deeds) → EndsAlike R o r → r ≡ Done last done → (s : State) × (o ≡ Done s done)
 done-alike R (Done s did) r last done al e =
     let both : Done al.0 did ≡ Done last done = sym al.2 ∙ e in
     let same : did ≡ done = cc in
@@ -52,7 +54,7 @@ done-alike R (Done s did) r last done al e =
 done-alike R (Stop f did) r last done al e = absurd (let both : Stop f did ≡ Done last done = sym al ∙ e in cc)
 done-alike R (Waits at c op did) r last done al e = absurd (let both : Waits at c op did ≡ Done last done = sym al ∙ e in cc)
 
-stop-alike : (R : State → Words → Type 0) (o : Meant State) (r : Meant Words) (f : Fault) (done : Deeds) → EndsAlike R o r → r ≡ Stop f done → o ≡ Stop f done
+stop-alike : (R : State → Memory → Type 0) (o : Meant State) (r : Meant Memory) (f : Fault) (done : Deeds) → EndsAlike R o r → r ≡ Stop f done → o ≡ Stop f done
 stop-alike R (Done s did) r f done al e = absurd (let both : Done al.0 did ≡ Stop f done = sym al.2 ∙ e in cc)
 stop-alike R (Stop g did) r f done al e =
     let both : Stop g did ≡ Stop f done = sym al ∙ e in
@@ -84,7 +86,7 @@ declared-kind : (t : Option ValueType) (k : LeafKind) → kind_by t ≡ Some k �
 declared-kind None k e = absurd cc
 declared-kind (Some t) k e = scalar-kind t k e
 
--- A plan of a program that the sets fit, run from its first words.
+-- A plan of a program that the sets fit, run from its first memory.
 module _ (t : ProgramTree Text) (sets : List (List ℕ)) (slots : ℕ) (scopes : Scopes) (steps : List Step) (plan : IsPlan t slots scopes steps) (fit : sets_fit (behind_all top t.stmts) [] sets ≡ true) where
   abbrev pub start : Start
   start = record { slots = slots; texts = given t sets; words = words_in scopes sets }
@@ -98,45 +100,45 @@ module _ (t : ProgramTree Text) (sets : List (List ℕ)) (slots : ℕ) (scopes :
   fits = plan.fits start refl alike
 
   module _ (limits : Limits) where
-    runs : exec_all limits by_word (steps_of steps) (first_words start) no_deeds ≡ exec_all limits by_word (renamed_stmts leaf_of plan.resolved.stmts) (first_words start) no_deeds
+    runs : exec_all limits in_memory (steps_of steps) (first_memory start) no_deeds ≡ exec_all limits in_memory (renamed_stmts variable_of plan.resolved.stmts) (first_memory start) no_deeds
     runs =
-        ap (λ ts. exec_all limits by_word ts (first_words start) no_deeds) (sym plan.nodes)
-        ∙ exec_all-lowered limits by_word known_leaf words-known (renamed_stmts leaf_of plan.resolved.stmts) (first_words start) no_deeds
+        ap (λ ts. exec_all limits in_memory ts (first_memory start) no_deeds) (sym plan.nodes)
+        ∙ exec_all-lowered limits in_memory known_variable memory-known (renamed_stmts variable_of plan.resolved.stmts) (first_memory start) no_deeds
 
-    -- a run over words that ends so is the run of the resolved program
-    by_plan : (o : Meant Words) → exec_all limits by_word (steps_of steps) (first_words start) no_deeds ≡ o → run_from limits by_word (renamed_program leaf_of plan.resolved) (first_words start) ≡ settled o
+    -- a run in a memory that ends so is the run of the resolved program
+    by_plan : (o : Meant Memory) → exec_all limits in_memory (steps_of steps) (first_memory start) no_deeds ≡ o → run_from limits in_memory (renamed_program variable_of plan.resolved) (first_memory start) ≡ settled o
     by_plan o e = ap settled (sym runs ∙ e)
 
-    ends : (histories : List (List Event)) → EndsAlike (StandsFor start (after_all (resolving start) plan.resolved.stmts first_seen)) (run_of t sets limits histories) (run_from limits by_word (renamed_program leaf_of plan.resolved) (first_words start))
+    ends : (histories : List (List Event)) → EndsAlike (StandsFor start (after_all (resolving start) plan.resolved.stmts first_seen)) (run_of t sets limits histories) (run_from limits in_memory (renamed_program variable_of plan.resolved) (first_memory start))
     ends histories =
-        subst (λ p. EndsAlike (StandsFor start (after_all (resolving start) plan.resolved.stmts first_seen)) (meaning p (given t sets) limits histories) (run_from limits by_word (renamed_program leaf_of plan.resolved) (first_words start)))
-        plan.text (meaning-words start limits plan.resolved histories fits)
+        subst (λ p. EndsAlike (StandsFor start (after_all (resolving start) plan.resolved.stmts first_seen)) (meaning p (given t sets) limits histories) (run_from limits in_memory (renamed_program variable_of plan.resolved) (first_memory start)))
+        plan.text (meaning-memory start limits plan.resolved histories fits)
 
     -- what the names of the top level hold at the end
-    leaves : (histories : List (List Event)) (last : Words) (done : Deeds) → exec_all limits by_word (steps_of steps) (first_words start) no_deeds ≡ Done last done
-        → left (run_of t sets limits histories) ≡ Some (frame_in last (map (bound_in scopes) (declared_names t.stmts)))
+    leaves : (histories : List (List Event)) (last : Memory) (done : Deeds) → exec_all limits in_memory (steps_of steps) (first_memory start) no_deeds ≡ Done last done
+        → left (run_of t sets limits histories) ≡ Some (frame_in last (map (sighted_in scopes) (declared_names t.stmts)))
     leaves histories last done e =
         ap (λ p. left (meaning p (given t sets) limits histories)) (sym plan.text)
-        ∙ left-words start limits plan.resolved histories fits
+        ∙ left-memory start limits plan.resolved histories fits
         ∙ ap (left_in (after_all (resolving start) plan.resolved.stmts first_seen).frames) (by_plan (Done last done) e)
         ∙ ap (λ fs. Some (frame_in last (outermost fs))) (plan.sight start ∙ ap sight_of plan.behind)
         ∙ ap (λ bs. Some (frame_in last bs)) (outermost-names t.stmts (subst ArePlainScopes plan.behind plan.plain))
-        ∙ ap (λ ss. Some (frame_in last (map (bound_in ss) (declared_names t.stmts)))) (sym plan.behind)
+        ∙ ap (λ ss. Some (frame_in last (map (sighted_in ss) (declared_names t.stmts)))) (sym plan.behind)
 
-    means-done : (histories : List (List Event)) (last : Words) (out : List ℕ) (frame : Frame) → exec_all limits by_word (steps_of steps) (first_words start) no_deeds ≡ Done last (having_printed out no_deeds)
-        → frame ≡ frame_in last (map (bound_in scopes) (declared_names t.stmts)) → Means t sets limits histories (DoneWith frame) out
+    means-done : (histories : List (List Event)) (last : Memory) (out : List ℕ) (frame : Frame) → exec_all limits in_memory (steps_of steps) (first_memory start) no_deeds ≡ Done last (having_printed out no_deeds)
+        → frame ≡ frame_in last (map (sighted_in scopes) (declared_names t.stmts)) → Means t sets limits histories (DoneWith frame) out
     means-done histories last out frame e are =
         let d = done-alike _ (run_of t sets limits histories) _ last (having_printed out no_deeds) (ends histories) (by_plan (Done last (having_printed out no_deeds)) e) in
-        let held : Some (top_level d.0.store) ≡ Some (frame_in last (map (bound_in scopes) (declared_names t.stmts))) = sym (ap left d.1) ∙ leaves histories last (having_printed out no_deeds) e in
-        let same : top_level d.0.store ≡ frame_in last (map (bound_in scopes) (declared_names t.stmts)) = cc in
+        let held : Some (top_level d.0.store) ≡ Some (frame_in last (map (sighted_in scopes) (declared_names t.stmts))) = sym (ap left d.1) ∙ leaves histories last (having_printed out no_deeds) e in
+        let same : top_level d.0.store ≡ frame_in last (map (sighted_in scopes) (declared_names t.stmts)) = cc in
         record {
           happened = subst (λ (o : Meant State). Happened o) (sym d.1) tt;
           writes = ap written (sym d.1);
           ends = subst (λ o. EndsAs o (DoneWith frame)) (sym d.1) (are ∙ sym same);
         }
 
-    means-stop : (histories : List (List Event)) (fault : FaultNode) (out said : List ℕ) → exec_all limits by_word (steps_of steps) (first_words start) no_deeds ≡ Stop (fault_view fault) (having_printed out no_deeds)
-        → said ≡ written {S = Words} (Stop (fault_view fault) (having_printed out no_deeds)) → Means t sets limits histories (Stopped fault) said
+    means-stop : (histories : List (List Event)) (fault : FaultNode) (out said : List ℕ) → exec_all limits in_memory (steps_of steps) (first_memory start) no_deeds ≡ Stop (fault_view fault) (having_printed out no_deeds)
+        → said ≡ written {S = Memory} (Stop (fault_view fault) (having_printed out no_deeds)) → Means t sets limits histories (Stopped fault) said
     means-stop histories fault out said e says =
         let d = stop-alike _ (run_of t sets limits histories) _ (fault_view fault) (having_printed out no_deeds) (ends histories) (by_plan (Stop (fault_view fault) (having_printed out no_deeds)) e) in
         record {
@@ -145,8 +147,8 @@ module _ (t : ProgramTree Text) (sets : List (List ℕ)) (slots : ℕ) (scopes :
           ends = subst (λ o. EndsAs o (Stopped fault)) (sym d) refl;
         }
 
-    -- how the run over words ended is how the program's run does
-    pub means-ran : (histories : List (List Event)) (o : Outcome) (said : List ℕ) → RanTo scopes t.stmts (exec_all limits by_word (steps_of steps) (first_words start) no_deeds) o said → Means t sets limits histories o said
+    -- how the run in a memory ended is how the program's run does
+    pub means-ran : (histories : List (List Event)) (o : Outcome) (said : List ℕ) → RanTo scopes t.stmts (exec_all limits in_memory (steps_of steps) (first_memory start) no_deeds) o said → Means t sets limits histories o said
     means-ran histories (DoneWith frame) said ran = means-done histories ran.0 said frame ran.1 ran.2
     means-ran histories (Stopped fault) said ran = means-stop histories fault ran.0 said ran.1 ran.2
     means-ran histories (Rejected r) said ran = absurd ran

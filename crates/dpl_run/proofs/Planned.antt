@@ -16,8 +16,9 @@ use Rattle.dpl_rules.specs.Sound.{behind_all, sets_fit, refusal_by, refusal}
 use Rattle.dpl_scopes.specs.Slots.{slot_in}
 use Rattle.dpl_scopes.proofs.Slots.{slot_in-lookup}
 use Rattle.dpl_lowered.specs.LoweredStatements.{lowered_program}
-use Rattle.dpl_words.specs.Words.{LeafKind, known_leaf}
-use Rattle.dpl_words.specs.Resolved.{text_of, leaf_of, Start, first_seen, resolving}
+use Rattle.dpl_words.specs.Words.{LeafKind}
+use Rattle.dpl_memory.specs.Memory.{known_variable}
+use Rattle.dpl_memory.specs.Resolved.{text_of, variable_of, Start, first_seen, resolving}
 use Rattle.dpl_nodes.specs.declared.step.Step.{Step}
 use Rattle.dpl_nodes.specs.Steps.{steps_of}
 use Rattle.dpl_elaborator.specs.Leaves.{kind_by, kind_in, leaf_by}
@@ -29,19 +30,19 @@ use Rattle.dpl_run.specs.Headline.{or_closed, tree_refusal}
 use Rattle.dpl_run.specs.Plans.{IsPlan, IsGivenAlike}
 
 -- ---- what is in sight is plain
-abbrev PlainKind : Option Declared → Type 0
-PlainKind None = Unit {0}
-PlainKind (Some d) = (k : LeafKind) × (kind_by d.type ≡ Some k)
+abbrev HasPlainKind : Option Declared → Type 0
+HasPlainKind None = Unit {0}
+HasPlainKind (Some d) = (k : LeafKind) × (kind_by d.type ≡ Some k)
 
-find-plain : (s : Scope) (x : Text) → IsPlainScope s → PlainKind (find s x)
+find-plain : (s : Scope) (x : Text) → IsPlainScope s → HasPlainKind (find s x)
 find-plain [] x h = tt
-find-plain (d ∷ ds) x h = elim (bytes_eq x d.origin.name) as (λ b. PlainKind (if b then Some d else find ds x)) [ true ↦ h.0 | false ↦ find-plain ds x h.2 ]
+find-plain (d ∷ ds) x h = elim (bytes_eq x d.origin.name) as (λ b. HasPlainKind (if b then Some d else find ds x)) [ true ↦ h.0 | false ↦ find-plain ds x h.2 ]
 
-or-plain : (a b : Option Declared) → PlainKind a → PlainKind b → PlainKind (or_else a b)
+or-plain : (a b : Option Declared) → HasPlainKind a → HasPlainKind b → HasPlainKind (or_else a b)
 or-plain None b p q = q
 or-plain (Some d) b p q = p
 
-lookup-plain : (ss : Scopes) (x : Text) → ArePlainScopes ss → PlainKind (lookup ss x)
+lookup-plain : (ss : Scopes) (x : Text) → ArePlainScopes ss → HasPlainKind (lookup ss x)
 lookup-plain [] x h = tt
 lookup-plain (s ∷ ss) x h = or-plain (find s x) (lookup ss x) (find-plain s x h.0) (lookup-plain ss x h.1)
 
@@ -52,9 +53,9 @@ some-slot (Some slot) e = (slot, refl)
 -- ---- what the sets give
 given-leaf : (start : Start) (ss : Scopes) (x : Text) (k : LeafKind) (slot : ℕ) → IsGivenAlike ss start → kind_in ss x ≡ Some k → slot_in ss x ≡ Some slot → IsGiven start (bound_in ss x)
 given-leaf start ss x k slot alike kind at =
-    subst (λ l. IsGiven start (record { text = x; leaf = l })) (sym (ap (λ o. leaf_by o (slot_in ss x)) kind ∙ ap (leaf_by (Some k)) at)) (alike x k slot kind at)
+    subst (λ l. IsGiven start (record { text = x; variable = l })) (sym (ap (λ o. leaf_by o (slot_in ss x)) kind ∙ ap (leaf_by (Some k)) at)) (alike x k slot kind at)
 
-configured-given : (start : Start) (ss : Scopes) (x : Text) → IsGivenAlike ss start → (o : Option Declared) → lookup ss x ≡ o → IsConfig o → PlainKind o → IsGiven start (bound_in ss x)
+configured-given : (start : Start) (ss : Scopes) (x : Text) → IsGivenAlike ss start → (o : Option Declared) → lookup ss x ≡ o → IsConfig o → HasPlainKind o → IsGiven start (bound_in ss x)
 configured-given start ss x alike None found config plain = absurd config
 configured-given start ss x alike (Some d) found config plain =
     let slot = some-slot (slot_in ss x) (slot_in-lookup ss x ∙ ap is_some found) in
@@ -63,7 +64,7 @@ configured-given start ss x alike (Some d) found config plain =
 are-given : (start : Start) (ss : Scopes) → ArePlainScopes ss → IsGivenAlike ss start → AreGiven start ss
 are-given start ss plain alike x config = configured-given start ss x alike (lookup ss x) refl config (lookup-plain ss x plain)
 
-pub planned : (t : ProgramTree Text) (slots : ℕ) (scopes : Scopes) (steps : List Step) → renamed_program text_of (bound_program t) ≡ t → (lowered_program known_leaf (renamed_program leaf_of (bound_program t))).stmts ≡ steps_of steps
+pub planned : (t : ProgramTree Text) (slots : ℕ) (scopes : Scopes) (steps : List Step) → renamed_program text_of (bound_program t) ≡ t → (lowered_program known_variable (renamed_program variable_of (bound_program t))).stmts ≡ steps_of steps
     → ((start : Start) → slots ≤ start.slots → AreGiven start scopes → fits_all (resolving start) (bound_program t).stmts first_seen)
     → ((start : Start) → (after_all (resolving start) (bound_program t).stmts first_seen).frames ≡ sight_of scopes)
     → scopes ≡ behind_all top t.stmts → ArePlainScopes scopes → IsPlan t slots scopes steps

@@ -1,6 +1,6 @@
 -- The stages of a run, put together: what lexer, parser, check and run give is what the text comes to.
 -- A stage that stops by a refusal tells the text's.
-use Rattle.std.proofs.Common.{◌≡◌, inl, inr, ℕ, List, refl, sym, ap, subst, Option, Result, Ok, Err}
+use Rattle.std.proofs.Common.{◌≡◌, inl, inr, ℕ, List, refl, sym, subst, Option, Result, Ok, Err}
 use Rattle.std.specs.Prelude.{IfOk, OnOk}
 use Rattle.std.specs.Io.KnownBytes.{Appends}
 use Rattle.dpl_syntax.specs.declared.token.Token.{Token}

@@ -10,8 +10,9 @@ use Rattle.dpl_rules.specs.Breaches.{top}
 use Rattle.dpl_rules.specs.Sound.{behind_all}
 use Rattle.dpl_scopes.specs.Slots.{slot_in}
 use Rattle.dpl_lowered.specs.LoweredStatements.{lowered_program}
-use Rattle.dpl_words.specs.Words.{LeafKind, known_leaf, set_at, given_as}
-use Rattle.dpl_words.specs.Resolved.{Bound, text_of, leaf_of, Start, first_seen, resolving}
+use Rattle.dpl_words.specs.Words.{LeafKind, set_at, given_as}
+use Rattle.dpl_memory.specs.Memory.{known_variable}
+use Rattle.dpl_memory.specs.Resolved.{Bound, text_of, variable_of, Start, first_seen, resolving}
 use Rattle.dpl_nodes.specs.declared.step.Step.{Step}
 use Rattle.dpl_nodes.specs.Steps.{steps_of}
 use Rattle.dpl_elaborator.specs.Leaves.{kind_in}
@@ -25,7 +26,7 @@ IsGivenAlike scopes start =
 pub record IsPlan (t : ProgramTree Text) (slots : ℕ) (scopes : Scopes) (steps : List Step) : Type 0 where
   pub resolved : ProgramTree Bound
   pub text : renamed_program text_of resolved ≡ t
-  pub nodes : (lowered_program known_leaf (renamed_program leaf_of resolved)).stmts ≡ steps_of steps
+  pub nodes : (lowered_program known_variable (renamed_program variable_of resolved)).stmts ≡ steps_of steps
   pub fits : (start : Start) → start.slots ≡ slots → IsGivenAlike scopes start → fits_all (resolving start) resolved.stmts first_seen
   pub sight : (start : Start) → (after_all (resolving start) resolved.stmts first_seen).frames ≡ sight_of scopes
   pub behind : scopes ≡ behind_all top t.stmts

@@ -6,17 +6,17 @@ use Rattle.dpl_language.specs.Outcome.{no_deeds, Outcome as Meant, Done as DoneA
 use Rattle.dpl_language.specs.Names.{Text}
 use Rattle.dpl_language.specs.Program.{written}
 use Rattle.dpl_rules.specs.Sights.{Scopes}
-use Rattle.dpl_words.specs.Words.{Words}
-use Rattle.dpl_words.specs.Resolved.{frame_in}
+use Rattle.dpl_memory.specs.Memory.{Memory}
+use Rattle.dpl_memory.specs.Resolved.{frame_in}
 use Rattle.dpl_nodes.specs.Faults.{fault_view}
-use Rattle.dpl_elaborator.specs.Sights.{bound_in}
 use Rattle.dpl_steps.specs.Runs.{having_printed}
 use Rattle.dpl_run.specs.declared.outcome.Outcome.{Outcome}
 use Rattle.dpl_run.specs.declared.outcome.Outcome.TheVariants.{Done, Stopped, Rejected}
+use Rattle.dpl_run.specs.Leaving.{sighted_in}
 use Rattle.dpl_run.specs.Names.{declared_names}
 
-abbrev pub RanTo : Scopes → Stmts Text → Meant Words → Outcome → List ℕ → Type 0
-RanTo scopes ts m (Done left) said = (last : Words) × (m ≡ DoneAt last (having_printed said no_deeds)) × (left ≡ frame_in last (map (bound_in scopes) (declared_names ts)))
+abbrev pub RanTo : Scopes → Stmts Text → Meant Memory → Outcome → List ℕ → Type 0
+RanTo scopes ts m (Done left) said = (last : Memory) × (m ≡ DoneAt last (having_printed said no_deeds)) × (left ≡ frame_in last (map (sighted_in scopes) (declared_names ts)))
 RanTo scopes ts m (Stopped fault) said =
-    (out : List ℕ) × (m ≡ StopAt (fault_view fault) (having_printed out no_deeds)) × (said ≡ written {S = Words} (StopAt (fault_view fault) (having_printed out no_deeds)))
+    (out : List ℕ) × (m ≡ StopAt (fault_view fault) (having_printed out no_deeds)) × (said ≡ written {S = Memory} (StopAt (fault_view fault) (having_printed out no_deeds)))
 RanTo scopes ts m (Rejected r) said = ⊥

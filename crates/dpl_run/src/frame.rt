@@ -1,7 +1,8 @@
 // The frame that a run starts from: its slots, and what the command line gives to them.
 
-ghost use Rattle.std.specs.Prelude.{◌≡◌, ◌++◌, pos, [], replicate, IfOk, OnOk};
-ghost use Rattle.dpl_words.specs.Words.{no_range};
+ghost use Rattle.std.specs.Prelude.{◌≡◌, ◌++◌, [], IfOk, OnOk};
+ghost use Rattle.dpl_memory.specs.Resolved.{first_memory};
+ghost use Rattle.dpl_nodes.specs.Frames.{with_words};
 ghost use Rattle.dpl_run.specs.Settings.{limits_of};
 
 use crate::config::Config;
@@ -10,7 +11,7 @@ use std::alloc::{AllocError, Global};
 
 // Gives these words to their slots, behind what was given before.
 fn give_all(frame: &mut Frame<'_>, words: &[(usize, i64)]) -> Result<(), AllocError>
-    ensures { OnOk result (frame.new ≡ record frame.old { words = record frame.old.words { sets = frame.old.words.sets ++ words.now } }) }
+    ensures { OnOk result (frame.new ≡ with_words (record frame.old.memory.words { sets = frame.old.memory.words.sets ++ words.now }) frame.old) }
 {
     for word in words {
         frame.give(word.0, word.1)?;
@@ -28,9 +29,9 @@ pub(crate) fn first_frame<'t>(
     words: &[(usize, i64)],
     config: &Config,
 ) -> Result<Frame<'t>, AllocError>
-    ensures { IfOk result (λ f. f ≡ record { words = record { numbers = replicate slots (pos 0); ranges = replicate slots no_range; intents = []; sets = words.now }; limits = limits_of config.now }) }
+    ensures { IfOk result (λ f. f ≡ record { memory = first_memory (record { slots = slots; texts = []; words = words.now }); limits = limits_of config.now }) }
 {
-    let mut frame = Frame::new(alloc, slots, slots, config.budget(), config.locales())?;
+    let mut frame = Frame::new(alloc, slots, config.budget(), config.locales())?;
     give_all(&mut frame, words)?;
     Ok(frame)
 }

@@ -6,7 +6,7 @@ ghost use Rattle.std.specs.Io.KnownBytes.{Appends};
 ghost use Rattle.dpl_language.specs.Outcome.{no_deeds};
 ghost use Rattle.dpl_language.specs.Statements.{exec_all};
 ghost use Rattle.dpl_tree.specs.Statements.{stmts_of};
-ghost use Rattle.dpl_words.specs.Words.{by_word};
+ghost use Rattle.dpl_memory.specs.Memory.{in_memory};
 ghost use Rattle.dpl_nodes.specs.Steps.{steps_of};
 ghost use Rattle.dpl_run.specs.Runs.{RanTo};
 ghost use Rattle.dpl_run.specs.Writers.{Partly};
@@ -41,7 +41,7 @@ pub(crate) fn run<'t>(
     scopes: &Scopes<'_>,
     stmts: &[Stmt<'_>],
 ) -> Result<Ended, AllocError>
-    ensures { IfOk result (λ ended. RanTo scopes.now (stmts_of stmts.now) (exec_all frame.old.limits by_word (steps_of steps.now) frame.old.words no_deeds) ended.outcome ended.text.items) }
+    ensures { IfOk result (λ ended. RanTo scopes.now (stmts_of stmts.now) (exec_all frame.old.limits in_memory (steps_of steps.now) frame.old.memory no_deeds) ended.outcome ended.text.items) }
 {
     let mut text = Vec::new(alloc);
     match run_steps(steps, frame, &mut text) {

@@ -5,10 +5,10 @@ use Rattle.dpl_run.proofs.run.run.Goals as goal
 
 pub returns-in_ok-left-in-Ok : goal.returns-in_ok-left-in-Ok
 returns-in_ok-left-in-Ok c =
-    ran-done c.args.frame.now.limits c.args.scopes.now (stmts_of c.args.stmts.now) c.args.steps.now c.args.frame.now.words c.run.new.frame.words c.new-text.result.items c.run.new.out.items c.new-text.ensures.items
+    ran-done c.args.frame.now.limits c.args.scopes.now (stmts_of c.args.stmts.now) c.args.steps.now c.args.frame.now.memory c.run.new.frame.memory c.new-text.result.items c.run.new.out.items c.new-text.ensures.items
     c.in-Ok.field-0 c.in_ok-left-in-Ok.left c.in-Ok.ensures.ends c.in_ok-left-in-Ok.ensures
 
 pub returns-in_ok-tell_fault-in-Err-Fault : goal.returns-in_ok-tell_fault-in-Err-Fault
 returns-in_ok-tell_fault-in-Err-Fault c =
-    ran-stop c.args.frame.now.limits c.args.scopes.now (stmts_of c.args.stmts.now) c.args.steps.now c.args.frame.now.words c.run.new.frame.words c.new-text.result.items c.run.new.out.items c.new-text.ensures.items
+    ran-stop c.args.frame.now.limits c.args.scopes.now (stmts_of c.args.stmts.now) c.args.steps.now c.args.frame.now.memory c.run.new.frame.memory c.new-text.result.items c.run.new.out.items c.new-text.ensures.items
     c.in-Err-Fault.field-0 c.in-Err-Fault.fault c.tell_fault.new.text.items c.in-Err-Fault.field-0-is c.in-Err-Fault.ensures.ends c.in_ok-tell_fault-in-Err-Fault.ensures

@@ -1,9 +1,10 @@
--- The run of the plan, from the words that the sets give, is what the program means.
-use Rattle.std.proofs.Common.{pos, [], map, replicate, ap, ◌∙◌, subst}
+-- The run of the plan, from the memory with what the sets give, is what the program means.
+use Rattle.std.proofs.Common.{[], map, ap, ◌∙◌, subst}
 use Rattle.dpl_language.specs.Outcome.{no_deeds}
 use Rattle.dpl_language.specs.Statements.{exec_all}
 use Rattle.dpl_tree.specs.Statements.{program_view}
-use Rattle.dpl_words.specs.Words.{no_range, by_word}
+use Rattle.dpl_memory.specs.Memory.{in_memory}
+use Rattle.dpl_memory.specs.Resolved.{first_memory}
 use Rattle.dpl_nodes.specs.Frames.{Framed}
 use Rattle.dpl_nodes.specs.Steps.{steps_of}
 use Rattle.dpl_elaborator.proofs.Names.{if_ok}
@@ -23,8 +24,8 @@ returns-in_ok-frame-in-Ok c =
     let e = c.in-Ok.ensures in
     let plan : IsPlan t p.slots p.scopes steps = planned t p.slots p.scopes steps e.text e.steps e.fits e.left e.scopes e.plain in
     let given = c.deref.ensures.value ∙ c.in_ok-words-in-Ok.ensures in
-    let frame = c.in_ok-frame-in-Ok.ensures ∙ ap (λ ws. record { words = record { numbers = replicate p.slots (pos 0); ranges = replicate p.slots no_range; intents = []; sets = ws }; limits = limits_of c.args.config.now }) given in
+    let frame = c.in_ok-frame-in-Ok.ensures ∙ ap (λ ws. record { memory = first_memory (record { slots = p.slots; texts = []; words = ws }); limits = limits_of c.args.config.now }) given in
     if_ok c.run.result
     (λ ended ran histories. means-ran t sets p.slots p.scopes steps plan (sets-fit t sets c.requires.unrefused) (limits_of c.args.config.now) histories ended.outcome ended.text.items
-    (subst (λ (f : Framed). RanTo p.scopes t.stmts (exec_all f.limits by_word (steps_of steps) f.words no_deeds) ended.outcome ended.text.items) frame ran))
+    (subst (λ (f : Framed). RanTo p.scopes t.stmts (exec_all f.limits in_memory (steps_of steps) f.memory no_deeds) ended.outcome ended.text.items) frame ran))
     c.run.ensures
