@@ -1,9 +1,9 @@
 // The command line of the program, as clap takes it, with the help that it prints.
 // Its words are read by clap's meaning of a simple command.
 
-ghost use Rattle.std.specs.Prelude.{◌≡◌, [], IfOk, IfErr, map};
-ghost use Rattle.clap.specs.Words.{app_of, fault_of, found_of, rows_of};
-ghost use Rattle.dpl_settings.specs.CommandLine.{command_line, found};
+ghost use Rattle.std.specs.Prelude.{◌≡◌, [], IfOk, IfErr, false, map};
+ghost use Rattle.clap.specs.Words.{app_of, fault_of, found_of, rows_of, rule_of};
+ghost use Rattle.dpl_settings.specs.CommandLine.{command_line, found, option_rule};
 ghost use Rattle.dpl_settings.specs.Causes.{IsCause, IsToldAs};
 
 use crate::fault::LineFault;
@@ -28,6 +28,17 @@ Statuses:
 Example:
   dpl squares.chpl --budget 1000";
 
+// An option with one value, `--NAME VALUE`.
+fn option<'a>(alloc: Global, name: &'a str, value: &'a str, help: &'a str) -> Arg<'a>
+    ensures rule { rule_of result ≡ option_rule name.now }
+    ensures local { result.global ≡ false }
+{
+    Arg::new(alloc, name)
+        .long(name)
+        .value_name(value)
+        .help(help)
+}
+
 // The command, with its two lists of words and its options.
 fn command<'a>(alloc: Global) -> Result<Command<'a>, AllocError>
     ensures { IfOk result (λ c. app_of c ≡ command_line) }
@@ -39,11 +50,16 @@ fn command<'a>(alloc: Global) -> Result<Command<'a>, AllocError>
         .value_name("NAME=VALUE")
         .action(ArgAction::Append)
         .help("The value of a config const of the program, an int, true or false");
-    let budget = Arg::new(alloc, "budget")
-        .long("budget")
-        .value_name("B")
-        .default_value("16777216")
-        .help("How many turns a loop may have, from 1 to 4294967296");
+    let turns = "How many turns a loop may have, from 1 to 4294967296";
+    let budget = option(alloc, "budget", "B", turns).default_value("16777216");
+    let seats = "How many locales there are, from 1 to 64";
+    let locales = option(alloc, "locales", "N", seats).default_value("1");
+    let plane = "How the locales are laid out for domains of rank 2 [default: Nx1]";
+    let grid2 = option(alloc, "grid2", "RxC", plane);
+    let space = "The same for rank 3 [default: Nx1x1]";
+    let grid3 = option(alloc, "grid3", "PxRxC", space);
+    let roots = "Which map each root gets: asis, that of the text, or block or cyclic in its place";
+    let maps = option(alloc, "maps", "MAPS", roots).default_value("asis");
     let dump = Arg::new(alloc, "dump")
         .long("dump")
         .action(ArgAction::SetTrue)
@@ -55,6 +71,10 @@ fn command<'a>(alloc: Global) -> Result<Command<'a>, AllocError>
         .arg(file)?
         .arg(set)?
         .arg(budget)?
+        .arg(locales)?
+        .arg(grid2)?
+        .arg(grid3)?
+        .arg(maps)?
         .arg(dump)
 }
 

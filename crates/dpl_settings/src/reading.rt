@@ -1,35 +1,54 @@
 // From a command line to its settings: what clap found is read as the text's file, its sets, and options.
 // Read `settings`, whose clauses name each field.
 
-ghost use Rattle.std.specs.Prelude.{◌≡◌, [], Some, IfOk, IfErr, false, map, option_and_then, option_map, unwrap_or};
+ghost use Rattle.std.specs.Prelude.{◌≡◌, ◌*◌, ◌^◌, ◌≤◌, [], ◌∷◌, Some, IfOk, IfErr, IfSome, false, map, option_and_then, option_map, slice_index, unwrap_or};
 ghost use Rattle.std.specs.Option.{option_map_or};
 ghost use Rattle.clap.specs.Words.{all_of, fault_of, first_of, found_of, rows_of};
-ghost use Rattle.dpl_settings.specs.CommandLine.{budget_of, command_line, count_of, file_of, first_word, found, has_equals, is_true, other_words, sets_of, wants_dump};
+ghost use Rattle.dpl_settings.specs.CommandLine.{budget_of, command_line, count_of, file_of, first_word, found, grid2_in, grid2_of, grid3_in, grid3_of, has_equals, is_true, locales_of, maps_in, maps_of, other_words, sets_of, wants_dump};
 ghost use Rattle.dpl_settings.specs.Causes.{IsCause};
 
 use crate::asked::Settings;
 use crate::command::matches;
-use crate::fault::LineFault;
-use crate::number::count_of;
+use crate::fault::{LineFault, WrongValue};
+use crate::grid::{grid2_in, grid3_in};
+use crate::maps::{RootMaps, maps_in};
+use crate::number::{MOST_TURNS, count_of, locales_in};
 use clap::ArgMatches;
 use std::alloc::{AllocError, Global};
 
 /// The settings that a command line asks for. The first word is the program's name.
 ///
 /// # Errors
-/// [`LineFault::Line`] is what clap tells of the words. Where it takes them, [`LineFault::Value`] is a budget that is no
-/// number from 1 to 2^32. [`LineFault::Memory`] says nothing of the words.
+/// [`LineFault::Line`] is what clap tells of the words. Where it takes them, [`LineFault::Value`] is the first option, in the
+/// order of budget, locales, grids and maps, whose value isn't one that it may have. [`LineFault::Memory`] says nothing of
+/// the words.
 pub fn settings<'a>(alloc: Global, words: &'a [&'a str]) -> Result<Settings<'a>, LineFault>
     ensures taken { IfOk result (λ _. fault_of command_line (map (λ w. w.now) words.entry.now) ≡ []) }
     ensures file { IfOk result (λ s. option_map (λ w. w.now) s.file ≡ file_of (first_word (found (map (λ w. w.now) words.entry.now)))) }
     ensures sets { IfOk result (λ s. map (λ w. w.now) s.sets.items ≡ sets_of (first_word (found (map (λ w. w.now) words.entry.now))) (other_words (found (map (λ w. w.now) words.entry.now)))) }
     ensures budget { IfOk result (λ s. Some s.budget ≡ budget_of (found (map (λ w. w.now) words.entry.now))) }
+    ensures locales { IfOk result (λ s. Some s.locales ≡ locales_of (found (map (λ w. w.now) words.entry.now))) }
+    ensures grid2 { IfOk result (λ s. Some s.grid2 ≡ grid2_of s.locales (found (map (λ w. w.now) words.entry.now))) }
+    ensures grid3 { IfOk result (λ s. Some s.grid3 ≡ grid3_of s.locales (found (map (λ w. w.now) words.entry.now))) }
+    ensures maps { IfOk result (λ s. Some s.maps ≡ maps_of (found (map (λ w. w.now) words.entry.now))) }
     ensures dump { IfOk result (λ s. s.dump ≡ wants_dump (found (map (λ w. w.now) words.entry.now))) }
     ensures cause { IfErr result (IsCause (map (λ w. w.now) words.entry.now)) }
 {
     let matches = matches(alloc, words)?;
-    let Some(budget) = count(first(&matches, "budget")) else {
-        return Err(LineFault::Value);
+    let Some(budget) = turns(first(&matches, "budget")) else {
+        return Err(LineFault::Value(WrongValue::Budget));
+    };
+    let Some(locales) = locales(first(&matches, "locales")) else {
+        return Err(LineFault::Value(WrongValue::Locales));
+    };
+    let Some(grid2) = grid2(first(&matches, "grid2"), locales) else {
+        return Err(LineFault::Value(WrongValue::Grid2));
+    };
+    let Some(grid3) = grid3(first(&matches, "grid3"), locales) else {
+        return Err(LineFault::Value(WrongValue::Grid3));
+    };
+    let Some(maps) = maps(first(&matches, "maps")) else {
+        return Err(LineFault::Value(WrongValue::Maps));
     };
     let word = first(&matches, "file");
     let sets = sets(alloc, word, all(&matches, "set"))?;
@@ -37,6 +56,10 @@ pub fn settings<'a>(alloc: Global, words: &'a [&'a str]) -> Result<Settings<'a>,
         file: file(word),
         sets,
         budget,
+        locales,
+        grid2,
+        grid3,
+        maps,
         dump: is_true(first(&matches, "dump")),
     })
 }
@@ -102,9 +125,47 @@ fn is_true(value: Option<&str>) -> bool
     }
 }
 
-// The number from 1 to 2^32 that an option's value is, if it is one.
-fn count(value: Option<&str>) -> Option<u64>
-    ensures { result ≡ option_and_then count_of (option_map (λ w. w.now) value.entry) }
+// The number of turns that an option's value is, if it is one.
+fn turns(value: Option<&str>) -> Option<u64>
+    ensures value { result ≡ option_and_then (count_of (2 ^ 32)) (option_map (λ w. w.now) value.entry) }
+    ensures within { IfSome result (λ count. (1 ≤ count) × (count ≤ 2 ^ 32)) }
 {
-    count_of(value?)
+    count_of(value?, MOST_TURNS)
+}
+
+// The number of locales that an option's value is, if it is one.
+fn locales(value: Option<&str>) -> Option<u32>
+    ensures value { result ≡ option_and_then (count_of 64) (option_map (λ w. w.now) value.entry) }
+    ensures within { IfSome result (λ count. (1 ≤ count) × (count ≤ 64)) }
+{
+    locales_in(value?)
+}
+
+// The grid of two dimensions that an option's value is, if it is one; without a value all locales in one column.
+fn grid2(value: Option<&str>, locales: u32) -> Option<[u32; 2]>
+    ensures value { result ≡ option_map_or (grid2_in locales) (option_map (λ w. w.now) value.entry) (Some (locales ∷ 1 ∷ [])) }
+    ensures fits { IfSome result (λ grid. slice_index grid 0 * slice_index grid 1 ≡ locales) }
+{
+    match value {
+        Some(text) => grid2_in(text, locales),
+        None => Some([locales, 1]),
+    }
+}
+
+// The same of three dimensions.
+fn grid3(value: Option<&str>, locales: u32) -> Option<[u32; 3]>
+    ensures value { result ≡ option_map_or (grid3_in locales) (option_map (λ w. w.now) value.entry) (Some (locales ∷ 1 ∷ 1 ∷ [])) }
+    ensures fits { IfSome result (λ grid. slice_index grid 0 * slice_index grid 1 * slice_index grid 2 ≡ locales) }
+{
+    match value {
+        Some(text) => grid3_in(text, locales),
+        None => Some([locales, 1, 1]),
+    }
+}
+
+// The maps that an option's value asks for, if it is a word for maps.
+fn maps(value: Option<&str>) -> Option<RootMaps>
+    ensures { result ≡ option_and_then maps_in (option_map (λ w. w.now) value.entry) }
+{
+    maps_in(value?)
 }
