@@ -40,5 +40,5 @@ told_of dumps Unread = codes "dpl: cannot read" ++ 10 ∷ []
 abbrev pub HasLineStatus : LineFault → ℕ → Type 0
 HasLineStatus (Line e) status = ((kind_of e ≡ DisplayHelp) ⊎ (kind_of e ≡ DisplayVersion) → status ≡ 0)
     × (kind_of e ≢ DisplayHelp → kind_of e ≢ DisplayVersion → status ≡ 5)
-HasLineStatus Value status = status ≡ 5
+HasLineStatus (Value v) status = status ≡ 5
 HasLineStatus LineMemory status = status ≡ 3

@@ -20,7 +20,7 @@ pub(crate) fn line_status(fault: &LineFault) -> u8
 {
     match fault {
         LineFault::Line(error) => { if error.use_stderr() { USAGE } else { 0 } }
-        LineFault::Value => USAGE,
+        LineFault::Value(_) => USAGE,
         LineFault::Memory => 3,
     }
 }
@@ -30,8 +30,8 @@ pub(crate) fn tell_line<R: Print + Eprint>(rt: &R, fault: &LineFault) -> u8 {
     let status = line_status(fault);
     let printed = match fault {
         LineFault::Line(error) => error.print(rt),
-        LineFault::Value => rt.eprintln(fault),
         LineFault::Memory => rt.eprint(refused_line(Refused::Memory)),
+        LineFault::Value(_) => rt.eprintln(fault),
     };
     if status == 0 && printed.is_err() {
         CANNOT_WRITE

@@ -2,8 +2,6 @@
 // What it does stands in `program`, over any reader and any writers; its theorem is that of dpl_run's `run_text`.
 #![tactic(auto)]
 
-ghost use Rattle.dpl_run.specs.Settings.{IsCount};
-
 mod ended;
 mod explain;
 mod input;
@@ -63,9 +61,7 @@ fn by_words(rt: &HostRuntime, texts: &[String]) -> u8 {
 }
 
 // The program, over the file or standard input, and over both outputs.
-fn by_settings(rt: &HostRuntime, asked: &Settings<'_>) -> u8
-    requires { IsCount asked.now.budget }
-{
+fn by_settings(rt: &HostRuntime, asked: &Settings<'_>) -> u8 {
     let shown = rt.stderr().is_terminal();
     let mut out = Plain::new(rt.stdout());
     let mut errors = Plain::new(rt.stderr());

@@ -3,16 +3,16 @@
 
 ghost use Rattle.std.specs.Prelude.{◌≡◌, false, true, map, OnOk, OnErr};
 ghost use Rattle.std.specs.Io.KnownBytes.{Appends};
-ghost use Rattle.dpl_run.specs.Settings.{IsCount, limits_of};
 ghost use Rattle.dpl_run.specs.Writers.{Partly};
 ghost use Rattle.dpl.specs.Statuses.{told_of};
-ghost use Rattle.dpl.specs.Ending.{EndsWith, HasRun, IsRunOf, alone};
+ghost use Rattle.dpl.specs.Asked.{maps_of, settings_of};
+ghost use Rattle.dpl.specs.Ending.{EndsWith, HasRun, IsRunOf};
 
 use crate::ended::{Ended, refused_line, status_of, unread};
 use crate::explain::explanation;
 use crate::input::read_text;
 use dpl_run::{Config, Maps, OpenGate, Out, Outcome, Refused, dump, run_text, write_all};
-use dpl_settings::Settings;
+use dpl_settings::{RootMaps, Settings};
 use std::alloc::Global;
 use std::io::Read;
 
@@ -26,15 +26,33 @@ struct Run {
     ended: Ended,
 }
 
-// The settings of a run on one locale, with this budget.
-fn config_of(budget: u64) -> Config
-    requires { IsCount budget }
-    ensures { limits_of result ≡ alone budget }
+// The maps that are asked for.
+fn maps_of(maps: RootMaps) -> Maps
+    ensures { result ≡ maps_of maps }
 {
-    Config::new(1, budget, TRIES, [1, 1], [1, 1, 1], Maps::AsIs).unwrap()
+    match maps {
+        RootMaps::AsIs => Maps::AsIs,
+        RootMaps::Block => Maps::Block,
+        RootMaps::Cyclic => Maps::Cyclic,
+    }
 }
 
-// Runs a text with the sets and the budget that are asked for.
+// The settings of a run, as they are asked for: what is asked for is never refused.
+fn config_of(asked: &Settings<'_>) -> Config
+    ensures { result ≡ settings_of asked.now }
+{
+    Config::new(
+        asked.locales,
+        asked.budget,
+        TRIES,
+        asked.grid2,
+        asked.grid3,
+        maps_of(asked.maps),
+    )
+    .unwrap()
+}
+
+// Runs a text with the sets and by the settings that are asked for.
 fn run_bytes<R: Sync, W: Out>(
     rt: &R,
     alloc: Global,
@@ -42,11 +60,10 @@ fn run_bytes<R: Sync, W: Out>(
     asked: &Settings<'_>,
     out: &mut W,
 ) -> Ended
-    requires budget { IsCount asked.now.budget }
-    requires unfailed { W.has_failed out.old ≡ false }
-    ensures { IsRunOf text.now (map (λ set. set.now) asked.now.sets.items) asked.now.budget (W.contents out.old) (W.contents out.new) result }
+    requires { W.has_failed out.old ≡ false }
+    ensures { IsRunOf text.now (map (λ set. set.now) asked.now.sets.items) (settings_of asked.now) (W.contents out.old) (W.contents out.new) result }
 {
-    let config = config_of(asked.budget);
+    let config = config_of(asked);
     let sets = asked.sets.as_slice();
     match run_text(rt, alloc, text, sets, &config, &OpenGate, out) {
         Ok(outcome) => Ended::Ran(outcome),
@@ -62,9 +79,8 @@ fn run_input<R: Sync, I: Read + Drop, W: Out>(
     asked: &Settings<'_>,
     out: &mut W,
 ) -> Run
-    requires budget { IsCount asked.now.budget }
-    requires unfailed { W.has_failed out.old ≡ false }
-    ensures { HasRun (I.remaining input) (map (λ set. set.now) asked.now.sets.items) asked.now.budget (W.contents out.old) (W.contents out.new) result.ended }
+    requires { W.has_failed out.old ≡ false }
+    ensures { HasRun (I.remaining input) (map (λ set. set.now) asked.now.sets.items) (settings_of asked.now) (W.contents out.old) (W.contents out.new) result.ended }
 {
     match read_text(alloc, input) {
         Ok(text) => {
@@ -116,7 +132,7 @@ fn show<E: Out>(alloc: Global, file: Option<&str>, run: &Run, errors: &mut E)
     }
 }
 
-/// Reads a text, runs it, and tells what became of it; to a person, where `shown` says that one reads the errors, in words too.
+/// Reads a text, runs it by the settings asked for, and tells what became of it; to a person, where `shown` says that one reads the errors, in words too.
 pub(crate) fn program<R: Sync, I: Read + Drop, W: Out, E: Out>(
     rt: &R,
     alloc: Global,
@@ -126,10 +142,9 @@ pub(crate) fn program<R: Sync, I: Read + Drop, W: Out, E: Out>(
     out: &mut W,
     errors: &mut E,
 ) -> u8
-    requires budget { IsCount asked.now.budget }
     requires unfailed { W.has_failed out.old ≡ false }
     requires errors_unfailed { E.has_failed errors.old ≡ false }
-    ensures { EndsWith (I.remaining input) (map (λ set. set.now) asked.now.sets.items) asked.now.budget asked.now.dump shown
+    ensures { EndsWith (I.remaining input) (map (λ set. set.now) asked.now.sets.items) (settings_of asked.now) asked.now.dump shown
         (W.contents out.old) (W.contents out.new) (E.contents errors.old) (E.contents errors.new) result }
 {
     let run = run_input(rt, alloc, input, asked, out);

@@ -1,13 +1,10 @@
 // What the program does with its input and its outputs: a text is read whole or not at all, and a dump is of a run that is done.
 // A text that is one byte too long is told from the longest, and of an input that breaks off nothing is run.
 
-ghost use Rattle.std.specs.Prelude.{◌≡◌};
-ghost use Rattle.dpl_run.specs.Settings.{IsCount};
-
 use crate::input::read_text;
 use crate::program::program;
 use dpl_run::Plain;
-use dpl_settings::Settings;
+use dpl_settings::{RootMaps, Settings, settings};
 use std::io::{self, ErrorKind, Read};
 use std::process::Abort;
 use std::test::Fail;
@@ -35,13 +32,15 @@ impl Read for Broken {
 }
 
 // The settings of a command line without words but `--dump` and `--budget 9`, where they are asked for.
-pub(super) fn asked<'a>(rt: &HostRuntime, dump: bool) -> Settings<'a>
-    ensures { result.budget ≡ 9 }
-{
+pub(super) fn asked<'a>(rt: &HostRuntime, dump: bool) -> Settings<'a> {
     Settings {
         file: None,
         sets: Vec::new(rt.alloc()),
         budget: 9,
+        locales: 1,
+        grid2: [1, 1],
+        grid3: [1, 1, 1],
+        maps: RootMaps::AsIs,
         dump,
     }
 }
@@ -59,9 +58,7 @@ pub(super) fn ran<I: Read + Drop>(
     input: I,
     asked: &Settings<'_>,
     shown: bool,
-) -> Done
-    requires { IsCount asked.now.budget }
-{
+) -> Done {
     let mut out = Plain::new(Vec::new(rt.alloc()));
     let mut errors = Plain::new(Vec::new(rt.alloc()));
     let status = program(rt, rt.alloc(), input, asked, shown, &mut out, &mut errors);
@@ -141,6 +138,27 @@ fn sets_and_budget(rt: HostRuntime) -> Result<(), Fail> {
     let got = ran(&rt, text, &asked, false);
     assert_eq!(rt; got.status, 2);
     assert_eq!(rt; got.out.as_slice(), b"! C14\n".as_slice());
+    Ok(())
+}
+
+// Locales, grids and maps change nothing of what is written.
+#[test]
+fn locales_and_maps(rt: HostRuntime) -> Result<(), Fail> {
+    let words = [
+        "dpl",
+        "--budget=9",
+        "--locales=4",
+        "--grid2=2x2",
+        "--grid3=2x1x2",
+        "--maps=cyclic",
+    ];
+    let asked = settings(rt.alloc(), &words)?;
+    for (text, status, out, _) in &ENDS {
+        let got = ran(&rt, text.as_bytes(), &asked, false);
+        assert_eq!(rt; got.status, *status, "{text}");
+        assert_eq!(rt; got.out.as_slice(), out.as_bytes(), "{text}");
+        assert!(rt; got.errors.is_empty(), "{text}");
+    }
     Ok(())
 }
 
