@@ -3,7 +3,7 @@
 use Rattle.std.proofs.Common.{ℕ, ℤ, pos, Bool, true, false, not, List, [], ◌∷◌, get_or, Result, Ok, Err, Option, Some, None, refl, sym, subst}
 use Rattle.std.specs.Prelude.{◌&&◌, ◌||◌, ◌+ℤ◌, ◌-ℤ◌, ◌*ℤ◌, neg_ℤ, int_lt, int_le, int_div, int_rem, option_map}
 use Rattle.std.specs.Ordering.{int_eq}
-use Rattle.dpl_language.specs.Arithmetic.{wrap}
+use Rattle.dpl_language.specs.Arithmetic.{wrap, infix_of, decides, divides}
 use Rattle.dpl_syntax.specs.declared.place.Place.{Place}
 use Rattle.dpl_range.specs.Equality.{TextRange}
 use Rattle.dpl_language.specs.Tree.{IntKind, BoolKind, ExprTree, FirstItem, NoItems, FirstExpr, NoExprs}
@@ -19,11 +19,13 @@ use Rattle.dpl_words.specs.Words.{LeafKind, IntLeaf, TruthLeaf, RangeLeaf, no_ra
 use Rattle.dpl_memory.specs.Memory.{Variable, Memory, element_as, array_at, held_at, in_memory}
 use Rattle.dpl_nodes.specs.declared.make.Typed.{Typed}
 use Rattle.dpl_nodes.specs.declared.make.Typed.TheVariants as typed
+use Rattle.dpl_nodes.specs.declared.tree.Comparison.{Comparison}
+use Rattle.dpl_nodes.specs.declared.tree.Comparison.TheVariants as comparison
 use Rattle.dpl_nodes.specs.declared.tree.IntExpr.{IntExpr, Number as NumberNode, Local as IntLocal, Negative', Sum', Difference', Product', Quotient', Remainder', Size', First', Last', Low', High', Count', Element'}
-use Rattle.dpl_nodes.specs.declared.tree.BoolExpr.{BoolExpr, Truth as TruthNode, Local as TruthLocal, Not', And', Or', Same', Differ', Equal as EqualNode, Unequal as UnequalNode, Less as LessNode, AtMost as AtMostNode, Greater as GreaterNode, AtLeast as AtLeastNode, Contains as ContainsNode, HasIndex as HasIndexNode, Element as TruthElement}
+use Rattle.dpl_nodes.specs.declared.tree.BoolExpr.{BoolExpr, Truth as TruthNode, Local as TruthLocal, Not', And', Or', Same', Differ', Compare as CompareNode, Contains as ContainsNode, HasIndex as HasIndexNode, Element as TruthElement}
 use Rattle.dpl_nodes.specs.declared.tree.RangeExpr.{RangeExpr, Local as RangeLocal, Between', Slice', Dimension'}
 use Rattle.dpl_nodes.specs.declared.tree.Stride.{Stride as StrideNode, Absent, By'}
-use Rattle.dpl_nodes.specs.Typed.{dots_view, int_view, truth_view, range_view, range_item, stride_view, index_items, index_exprs, domain_view}
+use Rattle.dpl_nodes.specs.Typed.{comparison_view, dots_view, int_view, truth_view, range_view, range_item, stride_view, index_items, index_exprs, domain_view}
 use Rattle.dpl_nodes.specs.Makers.{typed_view, typed_item, kind_of}
 
 -- a value of a kind, or a fault
@@ -57,6 +59,16 @@ decided f b (Ok v) q h = by (b v)
     by true = h
     by false = truth_one (f v) q
 decided f b (Err e) q h = tt
+
+-- a comparison of two ints
+compared : (c : Comparison) (r q : Result Value Fault)
+    → Gives TruthLeaf (with_ok r (λ v. unless_decided (decides (comparison_view c) v) v (with_ok q (λ w. with_ok (tested_divisor (divides (comparison_view c)) nowhere w) (λ w. Ok (infix_of (comparison_view c) v w))))))
+compared comparison.Equal r q = truth_two (λ v w. int_eq (kept_number v) (kept_number w)) r q
+compared comparison.Unequal r q = truth_two (λ v w. not (int_eq (kept_number v) (kept_number w))) r q
+compared comparison.Less r q = truth_two (λ v w. int_lt (number v) (number w)) r q
+compared comparison.AtMost r q = truth_two (λ v w. int_le (number v) (number w)) r q
+compared comparison.Greater r q = truth_two (λ v w. int_lt (number w) (number v)) r q
+compared comparison.AtLeast r q = truth_two (λ v w. int_le (number w) (number v)) r q
 
 -- an end of a range, and whether it has a number
 end-gives : (at : Place) (end : ℤ → List ℤ → ℤ) (ms : List ℤ) → Gives IntLeaf (with_ok (end_of at end ms) (λ w. Ok w))
@@ -162,12 +174,7 @@ module _ (limits : Limits) (s : Memory) where
   truth_gives (Or' p a q b) = decided (λ v w. truth v || truth w) (λ v. truth v) (value (truth_view a)) (value (truth_view b)) (truth_gives a)
   truth_gives (Same' p a q b) = truth_two (λ v w. int_eq (kept_number v) (kept_number w)) (value (truth_view a)) (value (truth_view b))
   truth_gives (Differ' p a q b) = truth_two (λ v w. not (int_eq (kept_number v) (kept_number w))) (value (truth_view a)) (value (truth_view b))
-  truth_gives (EqualNode a b) = truth_two (λ v w. int_eq (kept_number v) (kept_number w)) (value (int_view a.now)) (value (int_view b.now))
-  truth_gives (UnequalNode a b) = truth_two (λ v w. not (int_eq (kept_number v) (kept_number w))) (value (int_view a.now)) (value (int_view b.now))
-  truth_gives (LessNode a b) = truth_two (λ v w. int_lt (number v) (number w)) (value (int_view a.now)) (value (int_view b.now))
-  truth_gives (AtMostNode a b) = truth_two (λ v w. int_le (number v) (number w)) (value (int_view a.now)) (value (int_view b.now))
-  truth_gives (GreaterNode a b) = truth_two (λ v w. int_lt (number w) (number v)) (value (int_view a.now)) (value (int_view b.now))
-  truth_gives (AtLeastNode a b) = truth_two (λ v w. int_le (number w) (number v)) (value (int_view a.now)) (value (int_view b.now))
+  truth_gives (CompareNode c a b) = compared c (value (int_view a.now)) (value (int_view b.now))
   truth_gives (ContainsNode r i) =
       contained (λ v vs. contains_index (ranges_in v) (index_of vs)) (value (range_view r.now)) (values_of limits in_memory (FirstExpr (int_view i.now) NoExprs) s)
   truth_gives (HasIndexNode d t) =

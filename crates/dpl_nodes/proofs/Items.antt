@@ -5,7 +5,7 @@ use Rattle.dpl_lowered.specs.Shapes.{as_expr, as_item}
 use Rattle.dpl_nodes.specs.declared.make.Typed.{Typed}
 use Rattle.dpl_nodes.specs.declared.make.Typed.TheVariants.{Int, Truth, Range}
 use Rattle.dpl_nodes.specs.declared.tree.IntExpr.{IntExpr, Number as NumberNode, Local as IntLocal, Negative', Sum', Difference', Product', Quotient', Remainder', Size', First', Last', Low', High', Count', Element'}
-use Rattle.dpl_nodes.specs.declared.tree.BoolExpr.{BoolExpr, Truth as TruthNode, Local as TruthLocal, Not', And', Or', Same', Differ', Equal as EqualNode, Unequal as UnequalNode, Less as LessNode, AtMost as AtMostNode, Greater as GreaterNode, AtLeast as AtLeastNode, Contains as ContainsNode, HasIndex as HasIndexNode, Element as TruthElement}
+use Rattle.dpl_nodes.specs.declared.tree.BoolExpr.{BoolExpr, Truth as TruthNode, Local as TruthLocal, Not', And', Or', Same', Differ', Compare as CompareNode, Contains as ContainsNode, HasIndex as HasIndexNode, Element as TruthElement}
 use Rattle.dpl_nodes.specs.declared.tree.RangeExpr.{RangeExpr, Local as RangeLocal, Between', Slice', Dimension'}
 use Rattle.dpl_nodes.specs.Typed.{int_view, truth_view, range_view, range_item}
 use Rattle.dpl_nodes.specs.Makers.{typed_view, typed_item}
@@ -47,12 +47,7 @@ truth_item (And' p a q b) = refl
 truth_item (Or' p a q b) = refl
 truth_item (Same' p a q b) = refl
 truth_item (Differ' p a q b) = refl
-truth_item (EqualNode a b) = refl
-truth_item (UnequalNode a b) = refl
-truth_item (LessNode a b) = refl
-truth_item (AtMostNode a b) = refl
-truth_item (GreaterNode a b) = refl
-truth_item (AtLeastNode a b) = refl
+truth_item (CompareNode c a b) = refl
 truth_item (ContainsNode r i) = refl
 truth_item (HasIndexNode d t) = refl
 truth_item (TruthElement slot t at) = refl

@@ -3,4 +3,6 @@ pub mod Items
 pub mod Evaluated
 pub mod Rows
 pub mod Unread
-pub mod Arrays
+pub mod EmptySlots
+pub mod Redomained
+pub mod Promotions

@@ -5,7 +5,7 @@ use Rattle.dpl_language.specs.Tree.{Placed}
 use Rattle.dpl_language.specs.Phrases.{bare_name, read_by, cell_read, item_read}
 use Rattle.dpl_memory.specs.Memory.{Variable}
 use Rattle.dpl_nodes.specs.declared.tree.IntExpr.{IntExpr, Number, Local as IntLocal, Negative', Sum', Difference', Product', Quotient', Remainder', Size', First', Last', Low', High', Count', Element'}
-use Rattle.dpl_nodes.specs.declared.tree.BoolExpr.{BoolExpr, Truth as TruthNode, Local as TruthLocal, Not', And', Or', Same', Differ', Equal, Unequal, Less, AtMost, Greater, AtLeast, Contains, HasIndex, Element as TruthElement}
+use Rattle.dpl_nodes.specs.declared.tree.BoolExpr.{BoolExpr, Truth as TruthNode, Local as TruthLocal, Not', And', Or', Same', Differ', Compare, Contains, HasIndex, Element as TruthElement}
 use Rattle.dpl_nodes.specs.declared.tree.RangeExpr.{RangeExpr, Local as RangeLocal, Between', Slice', Dimension'}
 use Rattle.dpl_nodes.specs.declared.tree.DomainExpr.{DomainExpr, Local as DomainLocal, OfArray, Literal', Slice' as DomainSlice', Expanded'}
 use Rattle.dpl_nodes.specs.Typed.{int_view, truth_view, range_item, range_view, domain_view}
@@ -39,12 +39,7 @@ cell_read-truth (And' p a q b) = refl
 cell_read-truth (Or' p a q b) = refl
 cell_read-truth (Same' p a q b) = refl
 cell_read-truth (Differ' p a q b) = refl
-cell_read-truth (Equal a b) = refl
-cell_read-truth (Unequal a b) = refl
-cell_read-truth (Less a b) = refl
-cell_read-truth (AtMost a b) = refl
-cell_read-truth (Greater a b) = refl
-cell_read-truth (AtLeast a b) = refl
+cell_read-truth (Compare c a b) = refl
 cell_read-truth (Contains r i) = read_by-none (bare_name (range_view r.now))
 cell_read-truth (HasIndex d t) = read_by-none (bare_name (domain_view d.now))
 cell_read-truth (TruthElement slot t at) = refl

@@ -1,10 +1,12 @@
 -- The faults that words stand for, and what a walk hands back.
-use Rattle.std.specs.Prelude.{ℕ, ◌<◌, zero, suc, ℤ, Bool, Option, Some, None, Result, Ok, Err, List, [], ◌∷◌}
+use Rattle.std.specs.Prelude.{ℕ, ◌<◌, zero, suc, ℤ, Bool, Result, Ok, Err, List, [], ◌∷◌}
 use Rattle.dpl_range.specs.Equality.{TextRange}
 use Rattle.dpl_syntax.specs.declared.place.Place.{Place}
 use Rattle.dpl_language.specs.Values.{Value, Int, Truth, Range, Domain, FaultCode, Outside, ZeroDivisor, PastLimit, EmptyEnd, Budget, NoLocale, CellStuck, ArrayTooLarge, Turn, InNone, InTurn, Fault}
 use Rattle.dpl_nodes.specs.declared.fault.FaultCode.{FaultCode as CodeNode}
 use Rattle.dpl_nodes.specs.declared.fault.FaultCode.TheVariants as code
+use Rattle.dpl_nodes.specs.declared.fault.Turn.{Turn as TurnNode}
+use Rattle.dpl_nodes.specs.declared.fault.Turn.TheVariants as turn
 use Rattle.dpl_nodes.specs.declared.fault.Fault.{Fault as FaultNode}
 use Rattle.dpl_contents.specs.declared.range.RangeWord.{RangeWord}
 use Rattle.dpl_contents.specs.Range.{range_word}
@@ -30,10 +32,12 @@ code_of (suc (suc (suc (suc (suc zero))))) = NoLocale
 code_of (suc (suc (suc (suc (suc (suc zero)))))) = CellStuck
 code_of (suc (suc (suc (suc (suc (suc (suc n))))))) = ArrayTooLarge
 
--- no turn, or that of a forall's index
-abbrev pub turn_view : Option ℤ → Turn
-turn_view None = InNone
-turn_view (Some i) = InTurn (i ∷ [])
+-- no turn, or that of an index
+abbrev pub turn_view : TurnNode → Turn
+turn_view turn.Absent = InNone
+turn_view (turn.Line i) = InTurn (i ∷ [])
+turn_view (turn.Plane i j) = InTurn (i ∷ j ∷ [])
+turn_view (turn.Space i j k) = InTurn (i ∷ j ∷ k ∷ [])
 
 abbrev pub fault_view : FaultNode → Fault
 fault_view f = record { code = code_view f.code; at = f.at; turn = turn_view f.turn }

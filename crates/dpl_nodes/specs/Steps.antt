@@ -2,25 +2,44 @@
 -- It is a lowered one over slots: each body is a list, and the places are those of faults alone.
 use Rattle.std.specs.Prelude.{ℕ, Bool, false, Option, Some, None, List, [], ◌∷◌, map}
 use Rattle.dpl_syntax.specs.declared.place.Place.{Place}
-use Rattle.dpl_language.specs.Tree.{Placed, AfterComma, Listed, Op, Assign, Set, SetAdd, SetSubtract, SetMultiply, SetDivide, SetRemainder, SetReduce, ItemTree, One, ArgumentTree, TextArgument, ExprArgument, VariablesTree, OneVariable, Whole, StmtTree, Nothing, Declare, Assigned, Write, Block, If, While, For, Forall, Body, BlockBody, Stmts, NoStmts, Then, Else, NoElse, ElseDo}
-use Rattle.dpl_lowered.specs.Shapes.{nowhere}
-use Rattle.dpl_lowered.specs.LoweredStatements.{written_initial, with_intents}
+use Rattle.dpl_language.specs.Tree.{Placed, AfterComma, Listed, Op, Assign, Set, SetAdd, SetSubtract, SetMultiply, SetDivide, SetRemainder, SetReduce, Kind, IntKind, BoolKind, ExprTree, Grouped, Items, ItemTree, One, TypeTree, DomainType, ArrayType, InitialTree, ArgumentTree, TextArgument, ExprArgument, VariablesTree, OneVariable, ManyVariables, Whole, Element, Square, StmtTree, Nothing, Declare, Assigned, Write, Block, If, While, For, Forall, Body, BlockBody, Stmts, NoStmts, Then, Else, NoElse, ElseDo}
+use Rattle.dpl_language.specs.Arithmetic.{assign_divides}
+use Rattle.dpl_lowered.specs.Shapes.{nowhere, kept}
+use Rattle.dpl_lowered.specs.LoweredExpressions.{EachTurn}
+use Rattle.dpl_lowered.specs.LoweredStatements.{written_initial, written_type, with_intents}
 use Rattle.dpl_tree.specs.declared.operator.ScalarKind.{ScalarKind}
 use Rattle.dpl_tree.specs.declared.operator.ScalarKind.TheVariants.{Int as IntScalar, Bool as TruthScalar}
-use Rattle.dpl_tree.specs.Words.{op_view}
-use Rattle.dpl_memory.specs.Memory.{Variable, int_leaf, truth_leaf, range_leaf}
+use Rattle.dpl_tree.specs.Words.{op_view, assign_view}
+use Rattle.dpl_memory.specs.Memory.{DomainKind, TupleKind, ArrayKind, Variable, variable, int_leaf, truth_leaf, range_leaf}
+use Rattle.dpl_nodes.specs.declared.tree.IndexExpr.{IndexExpr}
 use Rattle.dpl_nodes.specs.declared.step.Argument.{Argument}
-use Rattle.dpl_nodes.specs.declared.step.Argument.TheVariants.{Text as TextNode, Int as IntNode, Truth as TruthNode}
+use Rattle.dpl_nodes.specs.declared.step.Argument.TheVariants.{Text as TextNode, Int as IntNode, Truth as TruthNode, Array as ArrayNode}
 use Rattle.dpl_nodes.specs.declared.step.Intent.{Intent}
-use Rattle.dpl_nodes.specs.declared.step.Step.{Step, Nothing as NothingStep, DeclareInt, DeclareRange, ConfigInt, SetInt, SetRange, Add, Subtract, Multiply, Divide, Remainder, ReduceInt, Truth as TruthStep, Write as WriteStep, Block', If', While', For', Forall', Row_of-Step, end_of-Step, more_of-Step}
+use Rattle.dpl_nodes.specs.declared.step.Over.{Over}
+use Rattle.dpl_nodes.specs.declared.step.Over.TheVariants.{Ranges, Domain, HiddenDomain, HiddenRange}
+use Rattle.dpl_nodes.specs.declared.step.Initial.{Initial}
+use Rattle.dpl_nodes.specs.declared.step.Initial.TheVariants.{Zeros, Falses, Ints, Truths}
+use Rattle.dpl_nodes.specs.declared.step.ArrayDeclaration.{ArrayDeclaration}
+use Rattle.dpl_nodes.specs.declared.step.ArrayName.{ArrayName}
+use Rattle.dpl_nodes.specs.declared.step.DomainName.{DomainName}
+use Rattle.dpl_nodes.specs.declared.step.Rank.{Rank}
+use Rattle.dpl_nodes.specs.declared.step.Rank.TheVariants as rank
+use Rattle.dpl_nodes.specs.declared.step.Names.{Names}
+use Rattle.dpl_nodes.specs.declared.step.Names.TheVariants.{Int as IntName, Tuple as TupleName, Each}
+use Rattle.dpl_nodes.specs.declared.step.Step.{Step, Nothing as NothingStep, DeclareInt, DeclareRange, ConfigInt, SetInt, SetRange, Add, Subtract, Multiply, Divide, Remainder, ReduceInt, Truth as TruthStep, DeclareDomain, DeclareEmpty, SetDomain, DeclareArray, SetElement, SetTruthElement, SetArray, SetTruthArray, Write as WriteStep, Block', If', While', For', Forall', ForEach', ForallEach', Row_of-Step, end_of-Step, more_of-Step}
 use Rattle.dpl_nodes.specs.declared.step.TruthDeed.{TruthDeed}
 use Rattle.dpl_nodes.specs.declared.step.TruthDeed.TheVariants as deed
 use Rattle.dpl_nodes.specs.declared.step.Else.{Else as ElseNode, Absent, Do'}
-use Rattle.dpl_nodes.specs.Typed.{int_view, truth_view, range_item}
+use Rattle.dpl_nodes.specs.Typed.{kind_view, leaf_named, items_one, int_view, truth_view, range_item, ranges_items, index_exprs, domain_view}
+use Rattle.dpl_nodes.specs.Promoted.{promoted_int, promoted_truth}
 
 -- a name that no fault tells
 abbrev pub unplaced_leaf : Variable → Placed Variable
 unplaced_leaf x = record { at = nowhere; name = x }
+
+-- a name that a fault tells
+abbrev pub placed_leaf : Place → Variable → Placed Variable
+placed_leaf at x = record { at = at; name = x }
 
 -- a declaration with its initial value, and without a type
 abbrev pub declared_as : Option Place → Variable → ItemTree Variable → StmtTree Variable
@@ -39,6 +58,14 @@ abbrev pub assigned_to : Variable → Assign → Place → ItemTree Variable →
 assigned_to x op at item =
     Assigned (Whole (unplaced_leaf x)) (record { at = at; op = op; last = nowhere }) item nowhere
 
+-- an assignment to an element, and to a whole array or a domain
+abbrev pub element_set : Placed Variable → IndexExpr → Assign → Place → ExprTree Variable → StmtTree Variable
+element_set x t op at e =
+    Assigned (Element x Square nowhere (index_exprs t) nowhere) (record { at = kept (assign_divides op) at; op = op; last = nowhere }) (One e) nowhere
+
+abbrev pub whole_set : Placed Variable → Assign → Place → ExprTree Variable → StmtTree Variable
+whole_set x op at e = Assigned (Whole x) (record { at = at; op = op; last = nowhere }) (One e) nowhere
+
 -- what is done to a truth value
 abbrev pub truth_changed : TruthDeed → ℕ → ItemTree Variable → StmtTree Variable
 truth_changed deed.Declare slot item = declared_as None (truth_leaf slot) item
@@ -51,6 +78,7 @@ abbrev pub argument_view : Argument → ArgumentTree Variable
 argument_view (TextNode bytes) = TextArgument nowhere bytes.now
 argument_view (IntNode e) = ExprArgument (int_view e.now)
 argument_view (TruthNode e) = ExprArgument (truth_view e.now)
+argument_view (ArrayNode k slot) = ExprArgument (leaf_named (variable (ArrayKind (kind_view k)) slot))
 
 abbrev pub next_argument_view : Argument → AfterComma (ArgumentTree Variable)
 next_argument_view a = record { comma = nowhere; part = argument_view a }
@@ -77,13 +105,88 @@ scalar_leaf TruthScalar slot = truth_leaf slot
 abbrev pub intent_view : Intent → Variable × Op
 intent_view i = (scalar_leaf i.kind i.slot, op_view i.op)
 
--- STATEMENTS
-abbrev pub listed : Stmts Variable → Body Variable
-listed ts = BlockBody nowhere ts nowhere
+-- DOMAINS AND ARRAYS
+-- a declaration by its type alone, or with an initial value
+abbrev pub declared_with : Placed Variable → TypeTree Variable → Option (InitialTree Variable) → StmtTree Variable
+declared_with x type initial = Declare (record {
+  config = None;
+  at = nowhere;
+  constant = false;
+  name = x;
+  typed = Some (written_type type);
+  initial = initial;
+  semicolon = nowhere;
+})
+
+abbrev pub dimensions : Rank → ℕ
+dimensions rank.Line = 1
+dimensions rank.Plane = 2
+dimensions rank.Space = 3
+
+abbrev pub of_rank : Rank → TypeTree Variable
+of_rank rank = DomainType (record {
+  at = nowhere;
+  from = nowhere;
+  rank_at = nowhere;
+  rank = dimensions rank;
+  upto = nowhere;
+  mapped = None;
+})
+
+-- what stands between an array's brackets
+abbrev pub over_items : Over → Items Variable
+over_items (Ranges rs) = ranges_items rs.now
+over_items (Domain d) = items_one (One (domain_view d.now))
+over_items (HiddenDomain d) = items_one (One (Grouped nowhere (One (domain_view d.now)) nowhere))
+over_items (HiddenRange r) = items_one (One (Grouped nowhere (range_item r.now) nowhere))
+
+abbrev pub initial_kind : Initial → Kind
+initial_kind Zeros = IntKind
+initial_kind Falses = BoolKind
+initial_kind (Ints at e) = IntKind
+initial_kind (Truths at e) = BoolKind
+
+abbrev pub initial_view : Initial → Option (InitialTree Variable)
+initial_view Zeros = None
+initial_view Falses = None
+initial_view (Ints at e) = Some (written_initial at.now (One (promoted_int EachTurn e.now)))
+initial_view (Truths at e) = Some (written_initial at.now (One (promoted_truth EachTurn e.now)))
+
+abbrev pub array_type : ArrayDeclaration → TypeTree Variable
+array_type d = ArrayType (record {
+  from = d.from.now;
+  over = over_items d.over;
+  upto = nowhere;
+  kind_at = nowhere;
+  kind = initial_kind d.initial;
+})
+
+abbrev pub array_leaf : Kind → ArrayName → Placed Variable
+array_leaf k x = placed_leaf x.at.now (variable (ArrayKind k) x.slot)
+
+abbrev pub array_declared : ArrayDeclaration → StmtTree Variable
+array_declared d = declared_with (placed_leaf d.at.now (variable (ArrayKind (initial_kind d.initial)) d.slot)) (array_type d) (initial_view d.initial)
+
+-- a domain, with the arrays that change with it
+abbrev pub domain_leaf : DomainName → Placed Variable
+domain_leaf x = placed_leaf x.at.now (record { kind = DomainKind; slot = x.slot; arrays = x.arrays.now })
 
 -- a loop's variable, which is an int
 abbrev pub variable_in : ℕ → VariablesTree Variable
 variable_in slot = OneVariable (unplaced_leaf (int_leaf slot))
+
+-- a loop's variables
+abbrev pub next_name : ℕ → AfterComma (Placed Variable)
+next_name slot = record { comma = nowhere; part = unplaced_leaf (int_leaf slot) }
+
+abbrev pub names_view : Names → VariablesTree Variable
+names_view (IntName slot) = variable_in slot
+names_view (TupleName slot) = OneVariable (unplaced_leaf (variable TupleKind slot))
+names_view (Each first others) = ManyVariables nowhere (record { first = unplaced_leaf (int_leaf first); others = map next_name others.now }) nowhere
+
+-- STATEMENTS
+abbrev pub listed : Stmts Variable → Body Variable
+listed ts = BlockBody nowhere ts nowhere
 
 abbrev mutual
   pub step_view : Step → StmtTree Variable
@@ -100,6 +203,14 @@ abbrev mutual
   step_view (Remainder slot at e) = assigned_to (int_leaf slot) SetRemainder at.now (One (int_view e.now))
   step_view (ReduceInt slot e) = assigned_to (int_leaf slot) SetReduce nowhere (One (int_view e.now))
   step_view (TruthStep deed slot e) = truth_changed deed slot (One (truth_view e.now))
+  step_view (DeclareDomain slot e) = declared_as None (variable DomainKind slot) (One (domain_view e.now))
+  step_view (DeclareEmpty slot rank) = declared_with (unplaced_leaf (variable DomainKind slot)) (of_rank rank) None
+  step_view (SetDomain x e) = whole_set (domain_leaf x.now) Set nowhere (domain_view e.now)
+  step_view (DeclareArray d) = array_declared d.now
+  step_view (SetElement x t op at e) = element_set (array_leaf IntKind x.now) t.now (assign_view op) at.now (int_view e.now)
+  step_view (SetTruthElement x t e) = element_set (array_leaf BoolKind x.now) t.now Set nowhere (truth_view e.now)
+  step_view (SetArray x op at e) = whole_set (array_leaf IntKind x.now) (assign_view op) at.now (promoted_int EachTurn e.now)
+  step_view (SetTruthArray x at e) = whole_set (array_leaf BoolKind x.now) Set at.now (promoted_truth EachTurn e.now)
   step_view (WriteStep ends_line arguments) = written_as ends_line arguments.now
   step_view (Block' p shape row) = Block nowhere (steps_view row) nowhere
   step_view (If' condition p shape row otherwise) =
@@ -109,6 +220,11 @@ abbrev mutual
       For at.now (variable_in slot) nowhere (range_item over.now) (listed (steps_view row))
   step_view (Forall' at slot over intents p shape row) =
       Forall at.now (variable_in slot) nowhere (range_item over.now) (with_intents (map intent_view intents.now))
+      (listed (steps_view row))
+  step_view (ForEach' at names over p shape row) =
+      For at.now (names_view names) nowhere (One (domain_view over.now)) (listed (steps_view row))
+  step_view (ForallEach' at names over intents p shape row) =
+      Forall at.now (names_view names) nowhere (One (domain_view over.now)) (with_intents (map intent_view intents.now))
       (listed (steps_view row))
 
   pub else_view : ElseNode → Else Variable

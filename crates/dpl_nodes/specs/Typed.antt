@@ -2,15 +2,17 @@
 -- It is a lowered tree over slots: two operands to an operator, no brackets, and the places of faults alone.
 use Rattle.std.specs.Prelude.{ℕ}
 use Rattle.dpl_syntax.specs.declared.place.Place.{Place}
-use Rattle.dpl_language.specs.Tree.{Kind, IntKind, BoolKind, Minus, Not, Add, Subtract, Multiply, Divide, Remainder, Less, LessEqual, Greater, GreaterEqual, Equal, NotEqual, And, Or, Dots, Closed, HalfOpen, Counted, Size, First, Last, Low, High, DomainOf, ExprTree, Number, TruthWord, Named, Grouped, DomainLiteral, Prefixed, Postfixed, ItemTree, One, RangeItem, Stride, NoStride, By, NoPosts, Post, Brackets, Dotted, MethodTree, Plainly, Dim, Contains, Expand, Items, FirstItem, NoItems, NextItem, Exprs, FirstExpr, NoExprs, NextExpr}
+use Rattle.dpl_language.specs.Tree.{Kind, IntKind, BoolKind, Minus, Not, Infix, Add, Subtract, Multiply, Divide, Remainder, Less, LessEqual, Greater, GreaterEqual, Equal, NotEqual, And, Or, Dots, Closed, HalfOpen, Counted, Size, First, Last, Low, High, DomainOf, ExprTree, Number, TruthWord, Named, Grouped, DomainLiteral, Prefixed, Postfixed, ItemTree, One, RangeItem, Stride, NoStride, By, NoPosts, Post, Brackets, Dotted, MethodTree, Plainly, Dim, Contains, Expand, Items, FirstItem, NoItems, NextItem, Exprs, FirstExpr, NoExprs, NextExpr}
 use Rattle.dpl_lowered.specs.Shapes.{nowhere, two}
 use Rattle.dpl_tree.specs.declared.operator.ScalarKind.{ScalarKind}
 use Rattle.dpl_tree.specs.declared.operator.ScalarKind.TheVariants.{Int as IntScalar, Bool as TruthScalar}
 use Rattle.dpl_memory.specs.Memory.{DomainKind, TupleKind, ArrayKind, Variable, variable, int_leaf, truth_leaf, range_leaf}
 use Rattle.dpl_nodes.specs.declared.tree.Dots.{Dots as DotsNode}
 use Rattle.dpl_nodes.specs.declared.tree.Dots.TheVariants as dots
+use Rattle.dpl_nodes.specs.declared.tree.Comparison.{Comparison}
+use Rattle.dpl_nodes.specs.declared.tree.Comparison.TheVariants as comparison
 use Rattle.dpl_nodes.specs.declared.tree.IntExpr.{IntExpr, Number as NumberNode, Local as IntLocal, Negative', Sum', Difference', Product', Quotient', Remainder', Size', First', Last', Low', High', Count', Element'}
-use Rattle.dpl_nodes.specs.declared.tree.BoolExpr.{BoolExpr, Truth as TruthNode, Local as TruthLocal, Not', And', Or', Same', Differ', Equal as EqualNode, Unequal as UnequalNode, Less as LessNode, AtMost as AtMostNode, Greater as GreaterNode, AtLeast as AtLeastNode, Contains as ContainsNode, HasIndex as HasIndexNode, Element as TruthElement}
+use Rattle.dpl_nodes.specs.declared.tree.BoolExpr.{BoolExpr, Truth as TruthNode, Local as TruthLocal, Not', And', Or', Same', Differ', Compare as CompareNode, Contains as ContainsNode, HasIndex as HasIndexNode, Element as TruthElement}
 use Rattle.dpl_nodes.specs.declared.tree.RangeExpr.{RangeExpr, Local as RangeLocal, Between', Slice', Dimension'}
 use Rattle.dpl_nodes.specs.declared.tree.Stride.{Stride as StrideNode, Absent, By'}
 use Rattle.dpl_nodes.specs.declared.tree.RangesExpr.{RangesExpr, Line' as LineRange', Plane' as PlaneRanges', Space' as SpaceRanges'}
@@ -63,6 +65,14 @@ abbrev pub dots_view : DotsNode → Dots
 dots_view dots.Closed = Closed
 dots_view dots.HalfOpen = HalfOpen
 dots_view dots.Counted = Counted nowhere
+
+abbrev pub comparison_view : Comparison → Infix
+comparison_view comparison.Equal = Equal
+comparison_view comparison.Unequal = NotEqual
+comparison_view comparison.Less = Less
+comparison_view comparison.AtMost = LessEqual
+comparison_view comparison.Greater = Greater
+comparison_view comparison.AtLeast = GreaterEqual
 
 abbrev mutual
   pub int_view : IntExpr → ExprTree Variable
@@ -135,12 +145,7 @@ truth_view (And' p a q b) = two (truth_view a) nowhere And (truth_view b)
 truth_view (Or' p a q b) = two (truth_view a) nowhere Or (truth_view b)
 truth_view (Same' p a q b) = two (truth_view a) nowhere Equal (truth_view b)
 truth_view (Differ' p a q b) = two (truth_view a) nowhere NotEqual (truth_view b)
-truth_view (EqualNode a b) = two (int_view a.now) nowhere Equal (int_view b.now)
-truth_view (UnequalNode a b) = two (int_view a.now) nowhere NotEqual (int_view b.now)
-truth_view (LessNode a b) = two (int_view a.now) nowhere Less (int_view b.now)
-truth_view (AtMostNode a b) = two (int_view a.now) nowhere LessEqual (int_view b.now)
-truth_view (GreaterNode a b) = two (int_view a.now) nowhere Greater (int_view b.now)
-truth_view (AtLeastNode a b) = two (int_view a.now) nowhere GreaterEqual (int_view b.now)
+truth_view (CompareNode c a b) = two (int_view a.now) nowhere (comparison_view c) (int_view b.now)
 truth_view (ContainsNode r i) = dotted (range_view r.now) (Contains nowhere nowhere (FirstExpr (int_view i.now) NoExprs) nowhere)
 truth_view (HasIndexNode d t) = dotted (domain_view d.now) (Contains nowhere nowhere (index_exprs t.now) nowhere)
 truth_view (TruthElement slot t at) = in_square (array_named BoolKind slot at.now) (index_items t.now)

@@ -3,9 +3,10 @@
 
 ghost use Rattle.std.specs.Prelude.{◌≡◌, ◌<◌, ◌^◌, ◌/◌, ◌%◌, IfSome, IsSome};
 ghost use Rattle.dpl_syntax.specs.declared.place.Place.{Place as PlaceNode};
-ghost use Rattle.dpl_language.specs.Values.{fault};
-ghost use Rattle.dpl_nodes.specs.Faults.{code_view, code_of, fault_view};
+ghost use Rattle.dpl_language.specs.Values.{fault, InTurn};
+ghost use Rattle.dpl_nodes.specs.Faults.{code_view, code_of, turn_view, fault_view};
 
+use dpl_domain::Index;
 use dpl_syntax::Place;
 use std::marker::Model;
 
@@ -65,12 +66,35 @@ fn numbered(number: u64) -> FaultCode
     }
 }
 
-/// A fault: which it is, where it arose, and in the turn of which index of a forall, if in one.
+/// The turn in which a fault arose, of a forall or of an assignment to a whole array, by the coordinates of its index; or none.
+#[derive(Clone, Copy, PartialEq, Eq, Debug)]
+pub enum Turn {
+    Absent,
+    Line(i64),
+    Plane(i64, i64),
+    Space(i64, i64, i64),
+}
+
+impl Turn {
+    /// The turn of an index.
+    pub fn of(index: Index) -> Turn
+        ensures { turn_view result ≡ InTurn index }
+    {
+        let (outer, middle, inner) = index.numbers();
+        match index.rank() {
+            1 => Turn::Line(inner),
+            2 => Turn::Plane(middle, inner),
+            _ => Turn::Space(outer, middle, inner),
+        }
+    }
+}
+
+/// A fault: which it is, where it arose, and in which turn, if in one.
 #[derive(Clone, Copy, PartialEq, Eq, Debug)]
 pub struct Fault {
     pub code: FaultCode,
     pub at: Place,
-    pub turn: Option<i64>,
+    pub turn: Turn,
 }
 
 /// A place whose line and column are below 2^21, as those of each token of a text are.
@@ -148,7 +172,7 @@ impl Trap {
                 line: (self.word / 2_097_152 % 2_097_152) as u32,
                 column: (self.word % 2_097_152) as u32,
             },
-            turn: None,
+            turn: Turn::Absent,
         }
     }
 }

@@ -4,7 +4,7 @@
 ghost use Rattle.std.specs.Prelude.{◌≡◌, pos, [], ◌∷◌, ◌++◌, get_or, set, replicate, map, option_map, IfOk};
 ghost use Rattle.dpl_tree.specs.Words.{op_view};
 ghost use Rattle.dpl_words.specs.Words.{no_range, intent_at, set_at};
-ghost use Rattle.dpl_memory.specs.Memory.{no_domain, no_tuple, no_array, array_at, held_at, intents_by_slot};
+ghost use Rattle.dpl_memory.specs.Memory.{no_domain, no_tuple, no_array, intents_by_slot};
 ghost use Rattle.dpl_memory.specs.Resolved.{first_memory};
 ghost use Rattle.dpl_contents.specs.Range.{range_word};
 ghost use Rattle.dpl_nodes.specs.Steps.{intent_view};
@@ -25,7 +25,7 @@ fn no_tuple() -> Index
 }
 
 // So many slots without an array.
-#[tactic(auto, using(crate::proofs::Arrays::replicate_next))]
+#[tactic(auto, using(crate::proofs::EmptySlots::replicate_next))]
 fn no_arrays(alloc: Global, slots: usize) -> Result<Vec<Option<ArrayWords>>, AllocError>
     ensures { IfOk result (λ arrays. map held_in arrays.items ≡ replicate slots no_array) }
 {
@@ -44,7 +44,8 @@ pub struct Frame<'t> {
     ranges: Vec<RangeWord>,
     domains: Vec<DomainWord>,
     tuples: Vec<Index>,
-    arrays: Vec<Option<ArrayWords>>,
+    pub(crate) alloc: Global,
+    pub(crate) arrays: Vec<Option<ArrayWords>>,
     intents: &'t [Intent],
     sets: Vec<(usize, i64)>,
     budget: u64,
@@ -91,6 +92,7 @@ impl<'t> Frame<'t> {
             ranges: vec![in alloc; RangeWord::none(); slots]?,
             domains: vec![in alloc; DomainWord::empty(1); slots]?,
             tuples: vec![in alloc; no_tuple(); slots]?,
+            alloc,
             arrays: no_arrays(alloc, slots)?,
             intents: &[],
             sets: Vec::new(alloc),
@@ -155,70 +157,6 @@ impl<'t> Frame<'t> {
         match self.tuples.get(slot) {
             Some(index) => *index,
             None => no_tuple(),
-        }
-    }
-
-    // The array in a slot, if it has one.
-    fn array(&self, slot: usize) -> Option<&ArrayWords>
-        ensures { held_in (option_map (λ a. a.now) result) ≡ array_at slot self.now.memory }
-    {
-        match self.arrays.get(slot) {
-            Some(array) => array.as_ref(),
-            None => None,
-        }
-    }
-
-    /// The domain of the array in a slot; `{1..0}` where there is none.
-    pub fn array_domain(&self, slot: usize) -> DomainWord
-        ensures { result ≡ (array_at slot self.now.memory).ranges }
-    {
-        match self.array(slot) {
-            Some(array) => array.domain(),
-            None => DomainWord::empty(1),
-        }
-    }
-
-    /// The word of an element of the array in a slot, if the array has the index.
-    #[tactic(auto, using(crate::proofs::Arrays::held_at_none))]
-    pub fn element(&self, slot: usize, index: Index) -> Option<i64>
-        ensures { result ≡ held_at index (array_at slot self.now.memory) }
-    {
-        match self.array(slot) {
-            Some(array) => array.get(index),
-            None => None,
-        }
-    }
-
-    /// The same at one coordinate.
-    #[tactic(auto, using(crate::proofs::Arrays::held_at_none))]
-    pub fn element_line(&self, slot: usize, i: i64) -> Option<i64>
-        ensures { result ≡ held_at (i ∷ []) (array_at slot self.now.memory) }
-    {
-        match self.array(slot) {
-            Some(array) => array.get_line(i),
-            None => None,
-        }
-    }
-
-    /// The same at two coordinates.
-    #[tactic(auto, using(crate::proofs::Arrays::held_at_none))]
-    pub fn element_plane(&self, slot: usize, i: i64, j: i64) -> Option<i64>
-        ensures { result ≡ held_at (i ∷ j ∷ []) (array_at slot self.now.memory) }
-    {
-        match self.array(slot) {
-            Some(array) => array.get_plane(i, j),
-            None => None,
-        }
-    }
-
-    /// The same at three coordinates.
-    #[tactic(auto, using(crate::proofs::Arrays::held_at_none))]
-    pub fn element_space(&self, slot: usize, i: i64, j: i64, k: i64) -> Option<i64>
-        ensures { result ≡ held_at (i ∷ j ∷ k ∷ []) (array_at slot self.now.memory) }
-    {
-        match self.array(slot) {
-            Some(array) => array.get_space(i, j, k),
-            None => None,
         }
     }
 

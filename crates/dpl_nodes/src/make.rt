@@ -1,19 +1,20 @@
 // The nodes of typed expressions, made of their operands in the arena.
 // Each stands for the plain node of its operator; operands of other types than it takes are refused.
 
-ghost use Rattle.std.specs.Prelude.{◌≡◌, IfOk, IfErr, None, Some, Ok, Err};
+ghost use Rattle.std.specs.Prelude.{◌≡◌, ◌≢◌, IfOk, IfErr, None, Some, Ok, Err};
 ghost use Rattle.dpl_language.specs.Arithmetic.{divides};
 ghost use Rattle.dpl_language.specs.Tree.{Prefixed};
 ghost use Rattle.dpl_lowered.specs.Shapes.{nowhere, kept, two};
 ghost use Rattle.dpl_tree.specs.Words.{infix_view, prefix_view};
-ghost use Rattle.dpl_nodes.specs.Typed.{int_view, truth_view};
+ghost use Rattle.dpl_words.specs.Words.{TruthLeaf};
+ghost use Rattle.dpl_nodes.specs.Typed.{comparison_view, int_view, truth_view};
 ghost use Rattle.dpl_nodes.specs.Faults.{IsNear};
 ghost use Rattle.dpl_nodes.specs.Makers.{typed_view, kind_of, infix_kind, ints_kind, truths_kind, prefix_kind};
 ghost use Rattle.dpl_nodes.specs.declared.make.Stop.TheVariants as stop;
 ghost use Rattle.dpl_nodes.specs.declared.make.Typed.TheVariants as typed;
 
 use crate::fault::Spot;
-use crate::tree::{BoolExpr, IntExpr, RangeExpr};
+use crate::tree::{BoolExpr, Comparison, IntExpr, RangeExpr};
 use dpl_syntax::Place;
 use dpl_tree::{Arena, Infix, Prefix};
 use std::alloc::AllocError;
@@ -74,14 +75,28 @@ fn of_ints<'t>(
             let at = spot(arena, at)?;
             int(arena.node(IntExpr::Remainder(left, right, at)))
         }
-        Infix::Less => truth(arena.node(BoolExpr::Less(left, right))),
-        Infix::LessEqual => truth(arena.node(BoolExpr::AtMost(left, right))),
-        Infix::Greater => truth(arena.node(BoolExpr::Greater(left, right))),
-        Infix::GreaterEqual => truth(arena.node(BoolExpr::AtLeast(left, right))),
-        Infix::Equal => truth(arena.node(BoolExpr::Equal(left, right))),
-        Infix::NotEqual => truth(arena.node(BoolExpr::Unequal(left, right))),
+        Infix::Less => compared(arena, Comparison::Less, left, right),
+        Infix::LessEqual => compared(arena, Comparison::AtMost, left, right),
+        Infix::Greater => compared(arena, Comparison::Greater, left, right),
+        Infix::GreaterEqual => compared(arena, Comparison::AtLeast, left, right),
+        Infix::Equal => compared(arena, Comparison::Equal, left, right),
+        Infix::NotEqual => compared(arena, Comparison::Unequal, left, right),
         Infix::And | Infix::Or => Err(Stop::IllTyped),
     }
+}
+
+// A comparison of two ints.
+fn compared<'t>(
+    arena: Arena<'t>,
+    comparison: Comparison,
+    left: &'t IntExpr<'t>,
+    right: &'t IntExpr<'t>,
+) -> Result<Typed<'t>, Stop>
+    ensures node { IfOk result (λ t. typed_view t ≡ two (int_view left.now) nowhere (comparison_view comparison) (int_view right.now)) }
+    ensures kind { IfOk result (λ t. kind_of t ≡ TruthLeaf) }
+    ensures ill_typed { result ≢ Err stop.IllTyped }
+{
+    truth(arena.node(BoolExpr::Compare(comparison, left, right)))
 }
 
 // An int that lies in the arena, unless memory ran out.

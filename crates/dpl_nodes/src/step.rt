@@ -1,16 +1,82 @@
-// Typed statements of plain variables. A variable is its slot, a body is a list, and each declaration has an initial value.
+// Typed statements. A variable is its slot, a body is a list, and each declaration of a plain variable has an initial value.
 // They lie in the arena of the tree; specs/Steps.antt gives the plain statement that each stands for.
 
 use crate::fault::Spot;
-use crate::tree::{BoolExpr, IntExpr, RangeExpr};
-use dpl_tree::{Op, ScalarKind};
+use crate::promoted::{PromotedInt, PromotedTruth};
+use crate::tree::{BoolExpr, DomainExpr, IndexExpr, IntExpr, RangeExpr, RangesExpr};
+use dpl_tree::{Assign, Op, ScalarKind};
 
-/// What is handed to `write`: a text by its bytes, an int or a truth value.
+/// What is handed to `write`: a text by its bytes, an int, a truth value, or the array in a slot, whose elements are printed.
 #[derive(Clone, Copy)]
 pub enum Argument<'t> {
     Text(&'t [u8]),
     Int(&'t IntExpr<'t>),
     Truth(&'t BoolExpr<'t>),
+    Array(ScalarKind, usize),
+}
+
+/// What stands between an array's brackets: ranges, or a domain. A domain name that stands alone is the bare name over which
+/// the array is declared; in brackets of its own, as in `[(D)]`, it is none.
+#[derive(Clone, Copy)]
+pub enum Over<'t> {
+    Ranges(&'t RangesExpr<'t>),
+    Domain(&'t DomainExpr<'t>),
+    /// A domain, or a range, in brackets of its own.
+    HiddenDomain(&'t DomainExpr<'t>),
+    HiddenRange(&'t RangeExpr<'t>),
+}
+
+/// The elements of an array at its declaration: all 0 or false; or an initial value, which is evaluated at each index if an
+/// array stands in it, with the place where it is told that the array has more elements than the budget.
+#[derive(Clone, Copy)]
+pub enum Initial<'t> {
+    Zeros,
+    Falses,
+    Ints(&'t Spot, &'t PromotedInt<'t>),
+    Truths(&'t Spot, &'t PromotedTruth<'t>),
+}
+
+/// The declaration of an array, with the place of its name, where it is told that it is too large, and that of its opening
+/// bracket, where it is told that its domain is.
+#[derive(Clone, Copy)]
+pub struct ArrayDeclaration<'t> {
+    pub at: &'t Spot,
+    pub slot: usize,
+    pub from: &'t Spot,
+    pub over: Over<'t>,
+    pub initial: Initial<'t>,
+}
+
+/// An array that is assigned, or of which an element is: the place of its name, where an index outside it is told, and its slot.
+#[derive(Clone, Copy)]
+pub struct ArrayName<'t> {
+    pub at: &'t Spot,
+    pub slot: usize,
+}
+
+/// A domain that is assigned: the place of its name, where it is told that an array would be too large; its slot; and the
+/// slots of the arrays that are declared over it.
+#[derive(Clone, Copy)]
+pub struct DomainName<'t> {
+    pub at: &'t Spot,
+    pub slot: usize,
+    pub arrays: &'t [usize],
+}
+
+/// How many dimensions a domain has: one, two or three.
+#[derive(Clone, Copy, PartialEq, Eq, Debug)]
+pub enum Rank {
+    Line,
+    Plane,
+    Space,
+}
+
+/// The variables of a loop: one that is an int, one that is a tuple, or an int for each coordinate.
+#[derive(Clone, Copy)]
+pub enum Names<'t> {
+    Int(usize),
+    Tuple(usize),
+    Each(usize, &'t [usize]),
 }
 
 /// A reduce variable of a forall, by its kind and its slot, and its operator.
@@ -63,6 +129,19 @@ pub enum Step<'t> {
     ReduceInt(usize, &'t IntExpr<'t>),
     /// A truth value's declaration, or an assignment to it.
     Truth(TruthDeed, usize, &'t BoolExpr<'t>),
+    /// A domain's declaration, with its initial value; or without one, with its rank.
+    DeclareDomain(usize, &'t DomainExpr<'t>),
+    DeclareEmpty(usize, Rank),
+    /// `=` to a domain, with which the arrays that are declared over it change.
+    SetDomain(&'t DomainName<'t>, &'t DomainExpr<'t>),
+    DeclareArray(&'t ArrayDeclaration<'t>),
+    /// An assignment to an element, by whichever operator, with the place where a division by zero is told.
+    SetElement(&'t ArrayName<'t>, &'t IndexExpr<'t>, Assign, &'t Spot, &'t IntExpr<'t>),
+    /// `=` to an element that is a truth value.
+    SetTruthElement(&'t ArrayName<'t>, &'t IndexExpr<'t>, &'t BoolExpr<'t>),
+    /// An assignment to a whole array, with the place where a division by zero, and more elements than the budget, are told.
+    SetArray(&'t ArrayName<'t>, Assign, &'t Spot, &'t PromotedInt<'t>),
+    SetTruthArray(&'t ArrayName<'t>, &'t Spot, &'t PromotedTruth<'t>),
     /// `write(..);`, or `writeln(..);`, which ends the line.
     Write {
         ends_line: bool,
@@ -93,6 +172,21 @@ pub enum Step<'t> {
         at: &'t Spot,
         slot: usize,
         over: &'t RangeExpr<'t>,
+        intents: &'t [Intent],
+        body: &'t [Step<'t>],
+    },
+    /// A loop over a domain.
+    ForEach {
+        at: &'t Spot,
+        names: Names<'t>,
+        over: &'t DomainExpr<'t>,
+        body: &'t [Step<'t>],
+    },
+    /// The same, with its reduce variables.
+    ForallEach {
+        at: &'t Spot,
+        names: Names<'t>,
+        over: &'t DomainExpr<'t>,
         intents: &'t [Intent],
         body: &'t [Step<'t>],
     },

@@ -39,6 +39,17 @@ pub enum IntExpr<'t> {
     Element(usize, &'t IndexExpr<'t>, &'t Spot),
 }
 
+/// How two ints are compared.
+#[derive(Clone, Copy, PartialEq, Eq, Debug)]
+pub enum Comparison {
+    Equal,
+    Unequal,
+    Less,
+    AtMost,
+    Greater,
+    AtLeast,
+}
+
 /// An expression that is a truth value.
 #[derive(Clone, Copy)]
 pub enum BoolExpr<'t> {
@@ -51,12 +62,7 @@ pub enum BoolExpr<'t> {
     /// Two truth values are the same, or differ.
     Same(&'t BoolExpr<'t>, &'t BoolExpr<'t>),
     Differ(&'t BoolExpr<'t>, &'t BoolExpr<'t>),
-    Equal(&'t IntExpr<'t>, &'t IntExpr<'t>),
-    Unequal(&'t IntExpr<'t>, &'t IntExpr<'t>),
-    Less(&'t IntExpr<'t>, &'t IntExpr<'t>),
-    AtMost(&'t IntExpr<'t>, &'t IntExpr<'t>),
-    Greater(&'t IntExpr<'t>, &'t IntExpr<'t>),
-    AtLeast(&'t IntExpr<'t>, &'t IntExpr<'t>),
+    Compare(Comparison, &'t IntExpr<'t>, &'t IntExpr<'t>),
     /// A range has the int.
     Contains(&'t RangeExpr<'t>, &'t IntExpr<'t>),
     /// A domain has the index.

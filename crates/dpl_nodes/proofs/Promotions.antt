@@ -1,0 +1,165 @@
+-- Promoted expressions, and what they have in common with those that are evaluated once: none is a cell read, and one
+-- without a whole array has at each index the value that it has without one.
+use Rattle.std.proofs.Common.{◌≡◌, List, Option, Some, None, refl, sym, ◌∙◌}
+use Rattle.dpl_syntax.specs.declared.place.Place.{Place}
+use Rattle.dpl_range.specs.Equality.{TextRange}
+use Rattle.dpl_language.specs.Tree.{Prefix, Minus, Not, Infix, Add, Subtract, Multiply, Divide, Remainder, Equal, NotEqual, And, Or, ExprTree, Prefixed}
+use Rattle.dpl_language.specs.Values.{Index}
+use Rattle.dpl_language.specs.Phrases.{cell_read}
+use Rattle.dpl_language.specs.Environment.{Limits}
+use Rattle.dpl_language.specs.Expressions.{or_domain, whole_in, value_of}
+use Rattle.dpl_lowered.specs.Shapes.{nowhere, two}
+use Rattle.dpl_lowered.specs.LoweredExpressions.{Times}
+use Rattle.dpl_memory.specs.Memory.{Variable, Memory, in_memory, array_at}
+use Rattle.dpl_nodes.specs.declared.tree.IntExpr.{IntExpr, Number, Local as IntLocal, Negative' as IntNegative', Sum' as IntSum', Difference' as IntDifference', Product' as IntProduct', Quotient' as IntQuotient', Remainder' as IntRemainder', Size', First', Last', Low', High', Count', Element'}
+use Rattle.dpl_nodes.specs.declared.tree.BoolExpr.{BoolExpr, Truth as TruthNode, Local as TruthLocal, Not' as TruthNot', And' as TruthAnd', Or' as TruthOr', Same' as TruthSame', Differ' as TruthDiffer', Compare as TruthCompare, Contains, HasIndex, Element as TruthAt}
+use Rattle.dpl_nodes.specs.declared.promoted.PromotedInt.{PromotedInt, Scalar as IntScalar, Element as IntElement, Negative', Sum', Difference', Product', Quotient', Remainder'}
+use Rattle.dpl_nodes.specs.declared.promoted.PromotedTruth.{PromotedTruth, Scalar as TruthScalar, Element as TruthElement, Not', And', Or', Same', Differ', Compare}
+use Rattle.dpl_nodes.specs.Typed.{int_view, truth_view, comparison_view}
+use Rattle.dpl_nodes.specs.Promoted.{promoted_int, promoted_truth}
+use Rattle.dpl_nodes.proofs.Unread.{cell_read-int, cell_read-truth}
+
+-- ---- no cell reads
+pub cell_read-promoted_int : (m : Times) (e : PromotedInt) → cell_read (promoted_int m e) ≡ None
+cell_read-promoted_int m (IntScalar e) = cell_read-int e.now
+cell_read-promoted_int m (IntElement slot at) = refl
+cell_read-promoted_int m (Negative' p e) = refl
+cell_read-promoted_int m (Sum' p a q b) = refl
+cell_read-promoted_int m (Difference' p a q b) = refl
+cell_read-promoted_int m (Product' p a q b) = refl
+cell_read-promoted_int m (Quotient' p a q b at) = refl
+cell_read-promoted_int m (Remainder' p a q b at) = refl
+
+pub cell_read-promoted_truth : (m : Times) (e : PromotedTruth) → cell_read (promoted_truth m e) ≡ None
+cell_read-promoted_truth m (TruthScalar e) = cell_read-truth e.now
+cell_read-promoted_truth m (TruthElement slot at) = refl
+cell_read-promoted_truth m (Not' p e) = refl
+cell_read-promoted_truth m (And' p a q b) = refl
+cell_read-promoted_truth m (Or' p a q b) = refl
+cell_read-promoted_truth m (Same' p a q b) = refl
+cell_read-promoted_truth m (Differ' p a q b) = refl
+cell_read-promoted_truth m (Compare c a b) = refl
+
+-- ---- the first of two domains
+is_whole : (rs : List TextRange) → Some rs ≡ None → ⊥
+is_whole rs h = cc
+
+or_domain-none : (a : Option (List TextRange)) → or_domain a None ≡ a
+or_domain-none None = refl
+or_domain-none (Some rs) = refl
+
+-- there is none only where there is neither
+or_domain-neither : (a b : Option (List TextRange)) → or_domain a b ≡ None → (a ≡ None) × (b ≡ None)
+or_domain-neither None b h = (refl, h)
+or_domain-neither (Some rs) b h = absurd (is_whole rs h)
+
+module _ (limits : Limits) (s : Memory) where
+  -- ---- operators
+  -- the first whole array in two operands
+  pub whole_in-two : (a b : ExprTree Variable) (at : Place) (op : Infix) → whole_in limits in_memory (two a at op b) s ≡ or_domain (whole_in limits in_memory a s) (whole_in limits in_memory b s)
+  whole_in-two a b at op = rw (or_domain-none (whole_in limits in_memory b s)) refl
+
+  -- neither operand has one
+  neither : (a b : ExprTree Variable) (at : Place) (op : Infix) → whole_in limits in_memory (two a at op b) s ≡ None
+      → (whole_in limits in_memory a s ≡ None) × (whole_in limits in_memory b s ≡ None)
+  neither a b at op h = or_domain-neither (whole_in limits in_memory a s) (whole_in limits in_memory b s) (sym (whole_in-two a b at op) ∙ h)
+
+  -- an expression has at an index the value that it has without one
+  abbrev IsSameAt : Index → ExprTree Variable → Type 0
+  IsSameAt t e = value_of limits in_memory e (Some t) s ≡ value_of limits in_memory e None s
+
+  prefixed-at : (t : Index) (op : Prefix) (e : ExprTree Variable) → IsSameAt t e → IsSameAt t (Prefixed nowhere op e)
+  prefixed-at t op e same = rw same refl
+
+  two-at : (t : Index) (a b : ExprTree Variable) (at : Place) (op : Infix) → IsSameAt t a → IsSameAt t b → IsSameAt t (two a at op b)
+  two-at t a b at op first second = rw (first, second) refl
+
+  -- two operands without a whole array, that are told of where there is none
+  two-once : (t : Index) (a b : ExprTree Variable) (at : Place) (op : Infix) → (whole_in limits in_memory a s ≡ None → IsSameAt t a) → (whole_in limits in_memory b s ≡ None → IsSameAt t b)
+      → whole_in limits in_memory (two a at op b) s ≡ None → IsSameAt t (two a at op b)
+  two-once t a b at op first second none = let both = neither a b at op none in two-at t a b at op (first both.0) (second both.1)
+
+  two-whole : (a b : ExprTree Variable) (at : Place) (op : Infix) → whole_in limits in_memory a s ≡ None → whole_in limits in_memory b s ≡ None → whole_in limits in_memory (two a at op b) s ≡ None
+  two-whole a b at op first second = rw (first, second) refl
+
+  -- ---- without a whole array
+  pub int_view-whole : (e : IntExpr) → whole_in limits in_memory (int_view e) s ≡ None
+  int_view-whole (Number n) = refl
+  int_view-whole (IntLocal slot) = refl
+  int_view-whole (IntNegative' p e) = int_view-whole e
+  int_view-whole (IntSum' p a q b) = two-whole (int_view a) (int_view b) nowhere Add (int_view-whole a) (int_view-whole b)
+  int_view-whole (IntDifference' p a q b) = two-whole (int_view a) (int_view b) nowhere Subtract (int_view-whole a) (int_view-whole b)
+  int_view-whole (IntProduct' p a q b) = two-whole (int_view a) (int_view b) nowhere Multiply (int_view-whole a) (int_view-whole b)
+  int_view-whole (IntQuotient' p a q b at) = two-whole (int_view a) (int_view b) at.now Divide (int_view-whole a) (int_view-whole b)
+  int_view-whole (IntRemainder' p a q b at) = two-whole (int_view a) (int_view b) at.now Remainder (int_view-whole a) (int_view-whole b)
+  int_view-whole (Size' p r) = refl
+  int_view-whole (First' p r at) = refl
+  int_view-whole (Last' p r at) = refl
+  int_view-whole (Low' p r at) = refl
+  int_view-whole (High' p r at) = refl
+  int_view-whole (Count' p d) = refl
+  int_view-whole (Element' slot p t at) = refl
+
+  pub truth_view-whole : (e : BoolExpr) → whole_in limits in_memory (truth_view e) s ≡ None
+  truth_view-whole (TruthNode b) = refl
+  truth_view-whole (TruthLocal slot) = refl
+  truth_view-whole (TruthNot' p e) = truth_view-whole e
+  truth_view-whole (TruthAnd' p a q b) = two-whole (truth_view a) (truth_view b) nowhere And (truth_view-whole a) (truth_view-whole b)
+  truth_view-whole (TruthOr' p a q b) = two-whole (truth_view a) (truth_view b) nowhere Or (truth_view-whole a) (truth_view-whole b)
+  truth_view-whole (TruthSame' p a q b) = two-whole (truth_view a) (truth_view b) nowhere Equal (truth_view-whole a) (truth_view-whole b)
+  truth_view-whole (TruthDiffer' p a q b) = two-whole (truth_view a) (truth_view b) nowhere NotEqual (truth_view-whole a) (truth_view-whole b)
+  truth_view-whole (TruthCompare c a b) = two-whole (int_view a.now) (int_view b.now) nowhere (comparison_view c) (int_view-whole a.now) (int_view-whole b.now)
+  truth_view-whole (Contains r i) = refl
+  truth_view-whole (HasIndex d t) = refl
+  truth_view-whole (TruthAt slot t at) = refl
+
+  pub int_view-at : (e : IntExpr) (t : Index) → IsSameAt t (int_view e)
+  int_view-at (Number n) t = refl
+  int_view-at (IntLocal slot) t = refl
+  int_view-at (IntNegative' p e) t = prefixed-at t Minus (int_view e) (int_view-at e t)
+  int_view-at (IntSum' p a q b) t = two-at t (int_view a) (int_view b) nowhere Add (int_view-at a t) (int_view-at b t)
+  int_view-at (IntDifference' p a q b) t = two-at t (int_view a) (int_view b) nowhere Subtract (int_view-at a t) (int_view-at b t)
+  int_view-at (IntProduct' p a q b) t = two-at t (int_view a) (int_view b) nowhere Multiply (int_view-at a t) (int_view-at b t)
+  int_view-at (IntQuotient' p a q b at) t = two-at t (int_view a) (int_view b) at.now Divide (int_view-at a t) (int_view-at b t)
+  int_view-at (IntRemainder' p a q b at) t = two-at t (int_view a) (int_view b) at.now Remainder (int_view-at a t) (int_view-at b t)
+  int_view-at (Size' p r) t = refl
+  int_view-at (First' p r at) t = refl
+  int_view-at (Last' p r at) t = refl
+  int_view-at (Low' p r at) t = refl
+  int_view-at (High' p r at) t = refl
+  int_view-at (Count' p d) t = refl
+  int_view-at (Element' slot p i at) t = refl
+
+  pub truth_view-at : (e : BoolExpr) (t : Index) → IsSameAt t (truth_view e)
+  truth_view-at (TruthNode b) t = refl
+  truth_view-at (TruthLocal slot) t = refl
+  truth_view-at (TruthNot' p e) t = prefixed-at t Not (truth_view e) (truth_view-at e t)
+  truth_view-at (TruthAnd' p a q b) t = two-at t (truth_view a) (truth_view b) nowhere And (truth_view-at a t) (truth_view-at b t)
+  truth_view-at (TruthOr' p a q b) t = two-at t (truth_view a) (truth_view b) nowhere Or (truth_view-at a t) (truth_view-at b t)
+  truth_view-at (TruthSame' p a q b) t = two-at t (truth_view a) (truth_view b) nowhere Equal (truth_view-at a t) (truth_view-at b t)
+  truth_view-at (TruthDiffer' p a q b) t = two-at t (truth_view a) (truth_view b) nowhere NotEqual (truth_view-at a t) (truth_view-at b t)
+  truth_view-at (TruthCompare c a b) t = two-at t (int_view a.now) (int_view b.now) nowhere (comparison_view c) (int_view-at a.now t) (int_view-at b.now t)
+  truth_view-at (Contains r i) t = refl
+  truth_view-at (HasIndex d i) t = refl
+  truth_view-at (TruthAt slot i at) t = refl
+
+  -- ---- promoted expressions in which there is none, and which so are evaluated once
+  pub promoted_int-once : (m : Times) (e : PromotedInt) (t : Index) → whole_in limits in_memory (promoted_int m e) s ≡ None → IsSameAt t (promoted_int m e)
+  promoted_int-once m (IntScalar e) t none = int_view-at e.now t
+  promoted_int-once m (IntElement slot at) t none = absurd (is_whole (array_at slot s).ranges none)
+  promoted_int-once m (Negative' p e) t none = prefixed-at t Minus (promoted_int m e) (promoted_int-once m e t none)
+  promoted_int-once m (Sum' p a q b) t none = two-once t (promoted_int m a) (promoted_int m b) nowhere Add (promoted_int-once m a t) (promoted_int-once m b t) none
+  promoted_int-once m (Difference' p a q b) t none = two-once t (promoted_int m a) (promoted_int m b) nowhere Subtract (promoted_int-once m a t) (promoted_int-once m b t) none
+  promoted_int-once m (Product' p a q b) t none = two-once t (promoted_int m a) (promoted_int m b) nowhere Multiply (promoted_int-once m a t) (promoted_int-once m b t) none
+  promoted_int-once m (Quotient' p a q b at) t none = two-once t (promoted_int m a) (promoted_int m b) at.now Divide (promoted_int-once m a t) (promoted_int-once m b t) none
+  promoted_int-once m (Remainder' p a q b at) t none = two-once t (promoted_int m a) (promoted_int m b) at.now Remainder (promoted_int-once m a t) (promoted_int-once m b t) none
+
+  pub promoted_truth-once : (m : Times) (e : PromotedTruth) (t : Index) → whole_in limits in_memory (promoted_truth m e) s ≡ None → IsSameAt t (promoted_truth m e)
+  promoted_truth-once m (TruthScalar e) t none = truth_view-at e.now t
+  promoted_truth-once m (TruthElement slot at) t none = absurd (is_whole (array_at slot s).ranges none)
+  promoted_truth-once m (Not' p e) t none = prefixed-at t Not (promoted_truth m e) (promoted_truth-once m e t none)
+  promoted_truth-once m (And' p a q b) t none = two-once t (promoted_truth m a) (promoted_truth m b) nowhere And (promoted_truth-once m a t) (promoted_truth-once m b t) none
+  promoted_truth-once m (Or' p a q b) t none = two-once t (promoted_truth m a) (promoted_truth m b) nowhere Or (promoted_truth-once m a t) (promoted_truth-once m b t) none
+  promoted_truth-once m (Same' p a q b) t none = two-once t (promoted_truth m a) (promoted_truth m b) nowhere Equal (promoted_truth-once m a t) (promoted_truth-once m b t) none
+  promoted_truth-once m (Differ' p a q b) t none = two-once t (promoted_truth m a) (promoted_truth m b) nowhere NotEqual (promoted_truth-once m a t) (promoted_truth-once m b t) none
+  promoted_truth-once m (Compare c a b) t none = two-once t (promoted_int m a.now) (promoted_int m b.now) nowhere (comparison_view c) (promoted_int-once m a.now t) (promoted_int-once m b.now t) none
