@@ -15,6 +15,7 @@ ghost use Rattle.dpl_nodes.specs.Faults.{of_int, of_truth, of_range, of_domain};
 ghost use Rattle.dpl_values.specs.Bounds.{of_word};
 ghost use Rattle.dpl_values.specs.Elements.{word_found};
 
+use crate::comparison::holds;
 use crate::domain::{coordinate, found, plane, sized, space};
 use crate::number::{difference, negative, product, quotient, remainder, sum};
 use crate::range::{bounded, contains, first, high, last, low, size, strided_by};
@@ -27,7 +28,7 @@ use dpl_nodes::{
 // An operand: a leaf at once, and else by a walk.
 #[cycle(walk)]
 #[inline(always)]
-fn operand(e: &IntExpr<'_>, frame: &Frame<'_>) -> Result<i64, Trap>
+pub(crate) fn operand(e: &IntExpr<'_>, frame: &Frame<'_>) -> Result<i64, Trap>
     ensures { value_of frame.now.limits in_memory (int_view e.now) None frame.now.memory ≡ of_int result }
 {
     match e {
@@ -198,9 +199,12 @@ pub fn index_value(t: &IndexExpr<'_>, frame: &Frame<'_>) -> Result<Index, Trap>
     }
 }
 
-// A domain by its ranges, with the place where it is told that there are too many indices.
+/// A domain by its ranges.
+///
+/// # Errors
+/// The fault of a range; `F3` at the opening bracket for too many indices.
 #[cycle(walk)]
-fn literal(at: &Spot, ranges: &RangesExpr<'_>, frame: &Frame<'_>) -> Result<DomainWord, Trap>
+pub fn literal(at: &Spot, ranges: &RangesExpr<'_>, frame: &Frame<'_>) -> Result<DomainWord, Trap>
     ensures { with_ok (items_of frame.now.limits in_memory (ranges_items ranges.now) frame.now.memory) (λ vs. sized_of at.now (all_ranges vs)) ≡ of_domain result }
 {
     match ranges {
@@ -350,35 +354,10 @@ pub fn truth_value(e: &BoolExpr<'_>, frame: &Frame<'_>) -> Result<Truth, Trap>
             let right = truth_value(b, frame)?.get();
             Ok(Truth::new(left != right))
         }
-        BoolExpr::Equal(a, b) => {
+        BoolExpr::Compare(comparison, a, b) => {
             let left = operand(a, frame)?;
             let right = operand(b, frame)?;
-            Ok(Truth::new(left == right))
-        }
-        BoolExpr::Unequal(a, b) => {
-            let left = operand(a, frame)?;
-            let right = operand(b, frame)?;
-            Ok(Truth::new(left != right))
-        }
-        BoolExpr::Less(a, b) => {
-            let left = operand(a, frame)?;
-            let right = operand(b, frame)?;
-            Ok(Truth::new(left < right))
-        }
-        BoolExpr::AtMost(a, b) => {
-            let left = operand(a, frame)?;
-            let right = operand(b, frame)?;
-            Ok(Truth::new(left <= right))
-        }
-        BoolExpr::Greater(a, b) => {
-            let left = operand(a, frame)?;
-            let right = operand(b, frame)?;
-            Ok(Truth::new(left > right))
-        }
-        BoolExpr::AtLeast(a, b) => {
-            let left = operand(a, frame)?;
-            let right = operand(b, frame)?;
-            Ok(Truth::new(left >= right))
+            Ok(Truth::new(holds(*comparison, left, right)))
         }
         BoolExpr::Contains(r, i) => {
             let range = range_value(r, frame)?;
