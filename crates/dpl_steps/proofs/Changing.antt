@@ -23,12 +23,7 @@ use Rattle.dpl_steps.specs.declared.halt.Halt.{Halt}
 use Rattle.dpl_steps.specs.declared.halt.Halt.TheVariants.{Fault as FaultHalt, Memory as OutOfMemory}
 use Rattle.dpl_steps.specs.Runs.{RunEnds}
 use Rattle.dpl_steps.specs.Tells.{TellsSame}
-use Rattle.dpl_steps.specs.Changes.{declared_memory, given_memory, assigned_memory, truth_memory, memory_after}
-
--- how a memory, or a fault, ends a run
-abbrev pub ends_as : Result Memory Fault → Deeds → Outcome Memory
-ends_as (Ok s) done = Done s done
-ends_as (Err f) done = Stop f done
+use Rattle.dpl_steps.specs.Changes.{declared_memory, given_memory, assigned_memory, truth_memory, memory_after, ends_as}
 
 -- a change that is told ends the run as the memory after it does
 pub told-ends : (r : Result (Unit {0}) Fault) (h : Result (Unit {0}) Halt) (s : Memory) (done : Deeds) (o : Outcome Memory) → TellsSame r h → o ≡ ends_as (memory_after r s) done → RunEnds h s done o

@@ -5,3 +5,10 @@ pub mod Growing
 pub mod Looping
 pub mod Views
 pub mod Tested
+pub mod Elements
+pub mod Binding
+pub mod Listed
+pub mod Wholes
+pub mod Gathered
+pub mod ShownArrays
+pub mod ArrayItems

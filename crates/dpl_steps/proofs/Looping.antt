@@ -8,19 +8,18 @@ use Rattle.dpl_range.specs.Equality.{TextRange}
 use Rattle.dpl_range.proofs.Lists.{drop-slice_get}
 use Rattle.dpl_domain.specs.Indices.{indices}
 use mathlib.Core.Path.{fun_ext}
-use Rattle.dpl_language.specs.Tree.{AfterComma, Op, ExprTree, ItemTree, IntentTree, If, While, For, Forall, Else}
-use Rattle.dpl_language.specs.Values.{Value, Int, Truth, truth, Range, Index, Fault, fault, Budget}
+use Rattle.dpl_language.specs.Tree.{AfterComma, Op, ExprTree, ItemTree, VariablesTree, IntentTree, If, While, For, Forall, Else}
+use Rattle.dpl_language.specs.Values.{Value, Truth, truth, Range, Index, Fault, fault, Budget}
 use Rattle.dpl_language.specs.Ranges.{indices_in, size_in, loop_ranges}
 use Rattle.dpl_language.specs.Outcome.{Deeds, Outcome, Done, Stop, Waits, Run, with_ok, with_value, then_do, choose, in_order, naming, repeated}
 use Rattle.dpl_language.specs.Environment.{Limits}
 use Rattle.dpl_language.specs.Phrases.{reduce_intents, intents_of}
 use Rattle.dpl_language.specs.Expressions.{value_of, item_of}
-use Rattle.dpl_language.specs.Loops.{within_budget, named_turn, scoped, turn_of}
+use Rattle.dpl_language.specs.Loops.{within_budget, named_turn, scoped, bound_to, turn_of}
 use Rattle.dpl_language.specs.Statements.{holds, exec, exec_all, exec_else}
 use Rattle.dpl_lowered.specs.Shapes.{nowhere}
 use Rattle.dpl_lowered.specs.LoweredStatements.{behind_comma, with_intents}
-use Rattle.dpl_words.specs.Words.{IntLeaf}
-use Rattle.dpl_memory.specs.Memory.{PlainKind, Variable, Memory, with_value_in, in_memory}
+use Rattle.dpl_memory.specs.Memory.{Variable, Memory, in_memory}
 use Rattle.dpl_nodes.specs.declared.step.Step.{Step}
 use Rattle.dpl_nodes.specs.Steps.{steps_of, listed, variable_in}
 use Rattle.dpl_steps.specs.declared.halt.Halt.{Halt}
@@ -76,11 +75,22 @@ in_turn-halts turn is k i h s next done after at e =
     (ap (λ is. in_turn turn is s done) (drop-slice_get is k i at)) (then_do-halts h next next after (turn i s done) (in_turn turn (drop (k + 1) is)) e)
 
 -- a fault in a named turn names it
-pub naming-halts : (i : ℤ) (h g : Halt) (s : Memory) (done : Deeds) (o : Outcome Memory) → NamesTurn i h g → RunEnds (Err h) s done o → RunEnds (Err g) s done (naming (i ∷ []) o)
-naming-halts i (FaultHalt f) (FaultHalt g) s done o names ends = ap (naming (i ∷ [])) ends ∙ ap (λ f. Stop f done) (sym names)
-naming-halts i (FaultHalt f) OutOfMemory s done o names ends = absurd names
-naming-halts i OutOfMemory (FaultHalt g) s done o names ends = absurd (let no : FaultHalt g ≡ OutOfMemory = names in cc)
-naming-halts i OutOfMemory OutOfMemory s done o names ends = tt
+pub naming-halts : (t : Index) (h g : Halt) (s : Memory) (done : Deeds) (o : Outcome Memory) → NamesTurn t h g → RunEnds (Err h) s done o → RunEnds (Err g) s done (naming t o)
+naming-halts t (FaultHalt f) (FaultHalt g) s done o names ends = ap (naming t) ends ∙ ap (λ f. Stop f done) (sym names)
+naming-halts t (FaultHalt f) OutOfMemory s done o names ends = absurd names
+naming-halts t OutOfMemory (FaultHalt g) s done o names ends = absurd (let no : FaultHalt g ≡ OutOfMemory = names in cc)
+naming-halts t OutOfMemory OutOfMemory s done o names ends = tt
+
+-- the indices of a domain, one after another
+pub in_order-done : (turn : Index → Run Memory) (ts left : List Index) (t : Index) (s next : Memory) (done after : Deeds) → ts ≡ t ∷ left → turn t s done ≡ Done next after
+    → in_order turn left next after ≡ in_order turn ts s done
+in_order-done turn ts left t s next done after at e = sym (ap (λ is. in_order turn is s done) at ∙ ap (λ o. then_do o (in_order turn left)) e)
+
+pub in_order-halts : (turn : Index → Run Memory) (ts left : List Index) (t : Index) (h : Halt) (s next : Memory) (done after : Deeds) → ts ≡ t ∷ left → RunEnds (Err h) next after (turn t s done)
+    → RunEnds (Err h) next after (in_order turn ts s done)
+in_order-halts turn ts left t h s next done after at e =
+    halts-alike h next next after (then_do (turn t s done) (in_order turn left)) (in_order turn ts s done)
+    (ap (λ is. in_order turn is s done) at) (then_do-halts h next next after (turn t s done) (in_order turn left) e)
 
 in_order-turns : (T : Index → Run Memory) (turn : ℤ → Run Memory) (is : List ℤ) (s : Memory) (done : Deeds) → ((i : ℤ) (s : Memory) (done : Deeds) → T (i ∷ []) s done ≡ turn i s done)
     → in_order T (flat_map (λ i. (i ∷ []) ∷ []) is) s done ≡ in_turn turn is s done
@@ -98,62 +108,61 @@ pub intents_of-with : (is : List (Variable × Op)) → intents_of (with_intents 
 intents_of-with [] = refl
 intents_of-with (i ∷ is) = ap (λ rest. i ∷ rest) (reduce_intents-listed is)
 
-module _ (limits : Limits) (slot : ℕ) (body : List Step) where
-  abbrev turn_over : TextRange → Index → Run Memory
-  turn_over r = turn_of in_memory (variable_in slot) (Range r) (exec_all limits in_memory (steps_of body))
+-- A LOOP with whatever variables, by what it runs over
+module _ (limits : Limits) (xs : VariablesTree Variable) (body : List Step) where
+  abbrev turn_over : Value → Index → Run Memory
+  turn_over v = turn_of in_memory xs v (exec_all limits in_memory (steps_of body))
 
-  turn-in_memory : (r : TextRange) (i : ℤ) (s : Memory) (done : Deeds) → turn_over r (i ∷ []) s done ≡ turn_in_memory limits slot body i s done
-  turn-in_memory r i s done =
-      scoped-same (λ s done. scoped in_memory (exec_all limits in_memory (steps_of body)) (with_value_in (PlainKind IntLeaf) slot (Int i) s) done) s done
-      ∙ scoped-same (exec_all limits in_memory (steps_of body)) (with_value_in (PlainKind IntLeaf) slot (Int i) s) done
+  -- a turn: the variables hold the index, and the body runs
+  abbrev bound_turn : Value → Index → Run Memory
+  bound_turn v t s done = exec_all limits in_memory (steps_of body) (bound_to in_memory xs v t s) done
 
-  in_order-members : (r : TextRange) (s : Memory) (done : Deeds) → in_order (turn_over r) (indices_in (r ∷ [])) s done ≡ in_turn (turn_in_memory limits slot body) (members_of r.value) s done
-  unfolding indices
-  in_order-members r s done = in_order-turns (turn_over r) (turn_in_memory limits slot body) (members_of r.value) s done (turn-in_memory r)
+  turn_over-bound : (v : Value) (t : Index) (s : Memory) (done : Deeds) → turn_over v t s done ≡ bound_turn v t s done
+  turn_over-bound v t s done =
+      scoped-same (λ s done. scoped in_memory (exec_all limits in_memory (steps_of body)) (bound_to in_memory xs v t s) done) s done
+      ∙ scoped-same (exec_all limits in_memory (steps_of body)) (bound_to in_memory xs v t s) done
 
-  in_order-named : (r : TextRange) (s : Memory) (done : Deeds) → in_order (named_turn (turn_over r)) (indices_in (r ∷ [])) s done ≡ in_turn (named_in_memory limits slot body) (members_of r.value) s done
-  unfolding indices
-  in_order-named r s done =
-      in_order-turns (named_turn (turn_over r)) (named_in_memory limits slot body) (members_of r.value) s done (λ i s done. ap (naming (i ∷ [])) (turn-in_memory r i s done))
+  in_order-bound : (v : Value) (ts : List Index) (s : Memory) (done : Deeds) → in_order (turn_over v) ts s done ≡ in_order (bound_turn v) ts s done
+  in_order-bound v ts s done = ap (λ turn. in_order turn ts s done) (fun_ext (λ t. fun_ext (λ s. fun_ext (λ done. turn_over-bound v t s done))))
 
-  -- LOOPS, by what they run over
+  in_order-named : (v : Value) (ts : List Index) (s : Memory) (done : Deeds) → in_order (named_turn (turn_over v)) ts s done ≡ in_order (named_turn (bound_turn v)) ts s done
+  in_order-named v ts s done = ap (λ turn. in_order (named_turn turn) ts s done) (fun_ext (λ t. fun_ext (λ s. fun_ext (λ done. turn_over-bound v t s done))))
+
   abbrev for_by : Value → Run Memory
-  for_by v = in_order (turn_of in_memory (variable_in slot) v (exec_all limits in_memory (steps_of body))) (indices_in (loop_ranges limits.locales v))
+  for_by v = in_order (turn_over v) (indices_in (loop_ranges limits.locales v))
 
   for-tested : (at : Place) (v : Value) (s : Memory) (done : Deeds) (past : Bool) → nat_lt limits.budget (size_in (loop_ranges limits.locales v)) ≡ past
-      → within_budget limits at (loop_ranges limits.locales v) (turn_of in_memory (variable_in slot) v (exec_all limits in_memory (steps_of body))) s done ≡ with_value (within limits at v) for_by s done
+      → within_budget limits at (loop_ranges limits.locales v) (turn_over v) s done ≡ with_value (within limits at v) for_by s done
   for-tested at v s done true e = rw e refl
   for-tested at v s done false e = rw e refl
 
   for-value : (at : Place) (s : Memory) (done : Deeds) (r : Result Value Fault)
-      → with_value r (λ v. within_budget limits at (loop_ranges limits.locales v) (turn_of in_memory (variable_in slot) v (exec_all limits in_memory (steps_of body)))) s done
-      ≡ with_value (with_ok r (within limits at)) for_by s done
+      → with_value r (λ v. within_budget limits at (loop_ranges limits.locales v) (turn_over v)) s done ≡ with_value (with_ok r (within limits at)) for_by s done
   for-value at s done (Ok v) = for-tested at v s done (nat_lt limits.budget (size_in (loop_ranges limits.locales v))) refl
   for-value at s done (Err f) = refl
 
-  pub exec-for : (at : Place) (item : ItemTree Variable) (s : Memory) (done : Deeds)
-      → exec limits in_memory (For at (variable_in slot) nowhere item (listed (steps_of body))) s done ≡ with_value (looped_over limits at item s) for_by s done
+  exec-for : (at : Place) (item : ItemTree Variable) (s : Memory) (done : Deeds)
+      → exec limits in_memory (For at xs nowhere item (listed (steps_of body))) s done ≡ with_value (looped_over limits at item s) for_by s done
   exec-for at item s done = for-value at s done (item_of limits in_memory item None s)
 
   pub for-fault : (at : Place) (item : ItemTree Variable) (s : Memory) (done : Deeds) (f : Fault) → looped_over limits at item s ≡ Err f
-      → exec limits in_memory (For at (variable_in slot) nowhere item (listed (steps_of body))) s done ≡ Stop f done
+      → exec limits in_memory (For at xs nowhere item (listed (steps_of body))) s done ≡ Stop f done
   for-fault at item s done f e = exec-for at item s done ∙ ap (λ r. with_value r for_by s done) e
 
-  pub for-turns : (at : Place) (item : ItemTree Variable) (s : Memory) (done : Deeds) (r : TextRange) → looped_over limits at item s ≡ Ok (Range r)
-      → exec limits in_memory (For at (variable_in slot) nowhere item (listed (steps_of body))) s done ≡ in_turn (turn_in_memory limits slot body) (members_of r.value) s done
-  for-turns at item s done r e = exec-for at item s done ∙ ap (λ r. with_value r for_by s done) e ∙ in_order-members r s done
+  pub for-order : (at : Place) (item : ItemTree Variable) (s : Memory) (done : Deeds) (v : Value) → looped_over limits at item s ≡ Ok v
+      → exec limits in_memory (For at xs nowhere item (listed (steps_of body))) s done ≡ in_order (bound_turn v) (indices_in (loop_ranges limits.locales v)) s done
+  for-order at item s done v e =
+      exec-for at item s done ∙ ap (λ r. with_value r for_by s done) e ∙ in_order-bound v (indices_in (loop_ranges limits.locales v)) s done
 
-  -- FORALLS
+  -- with reduce variables
   module _ (is : List (Variable × Op)) where
     abbrev forall_by : List (Variable × Op) → Value → Run Memory
     forall_by intents v s done =
-        then_do (in_order (named_turn (turn_of in_memory (variable_in slot) v (exec_all limits in_memory (steps_of body)))) (indices_in (loop_ranges limits.locales v)) (in_memory.intend intents s) done)
-        (λ s done. Done (in_memory.intend [] s) done)
+        then_do (in_order (named_turn (turn_over v)) (indices_in (loop_ranges limits.locales v)) (in_memory.intend intents s) done) (λ s done. Done (in_memory.intend [] s) done)
 
     abbrev tested_forall : Place → List (Variable × Op) → Value → Run Memory
     tested_forall at intents v s done =
-        then_do (within_budget limits at (loop_ranges limits.locales v) (named_turn (turn_of in_memory (variable_in slot) v (exec_all limits in_memory (steps_of body)))) (in_memory.intend intents s) done)
-        (λ s done. Done (in_memory.intend [] s) done)
+        then_do (within_budget limits at (loop_ranges limits.locales v) (named_turn (turn_over v)) (in_memory.intend intents s) done) (λ s done. Done (in_memory.intend [] s) done)
 
     forall-tested : (at : Place) (v : Value) (s : Memory) (done : Deeds) (past : Bool) → nat_lt limits.budget (size_in (loop_ranges limits.locales v)) ≡ past
         → tested_forall at is v s done ≡ with_value (within limits at v) (forall_by is) s done
@@ -165,21 +174,45 @@ module _ (limits : Limits) (slot : ℕ) (body : List Step) where
     forall-value at s done (Err f) = refl
 
     exec-forall : (at : Place) (item : ItemTree Variable) (s : Memory) (done : Deeds)
-        → exec limits in_memory (Forall at (variable_in slot) nowhere item (with_intents is) (listed (steps_of body))) s done ≡ with_value (looped_over limits at item s) (forall_by is) s done
+        → exec limits in_memory (Forall at xs nowhere item (with_intents is) (listed (steps_of body))) s done ≡ with_value (looped_over limits at item s) (forall_by is) s done
     exec-forall at item s done =
         ap (λ intents. with_value (item_of limits in_memory item None s) (tested_forall at intents) s done) (intents_of-with is)
         ∙ forall-value at s done (item_of limits in_memory item None s)
 
     pub forall-fault : (at : Place) (item : ItemTree Variable) (s : Memory) (done : Deeds) (f : Fault) → looped_over limits at item s ≡ Err f
-        → exec limits in_memory (Forall at (variable_in slot) nowhere item (with_intents is) (listed (steps_of body))) s done ≡ Stop f done
+        → exec limits in_memory (Forall at xs nowhere item (with_intents is) (listed (steps_of body))) s done ≡ Stop f done
     forall-fault at item s done f e = exec-forall at item s done ∙ ap (λ r. with_value r (forall_by is) s done) e
 
-    pub forall-turns : (at : Place) (item : ItemTree Variable) (s : Memory) (done : Deeds) (r : TextRange) → looped_over limits at item s ≡ Ok (Range r)
-        → exec limits in_memory (Forall at (variable_in slot) nowhere item (with_intents is) (listed (steps_of body))) s done
-        ≡ then_do (in_turn (named_in_memory limits slot body) (members_of r.value) (in_memory.intend is s) done) (λ s done. Done (in_memory.intend [] s) done)
-    forall-turns at item s done r e =
+    pub forall-order : (at : Place) (item : ItemTree Variable) (s : Memory) (done : Deeds) (v : Value) → looped_over limits at item s ≡ Ok v
+        → exec limits in_memory (Forall at xs nowhere item (with_intents is) (listed (steps_of body))) s done
+        ≡ then_do (in_order (named_turn (bound_turn v)) (indices_in (loop_ranges limits.locales v)) (in_memory.intend is s) done) (λ s done. Done (in_memory.intend [] s) done)
+    forall-order at item s done v e =
         exec-forall at item s done ∙ ap (λ r. with_value r (forall_by is) s done) e
-        ∙ ap (λ o. then_do o (λ s done. Done (in_memory.intend [] s) done)) (in_order-named r (in_memory.intend is s) done)
+        ∙ ap (λ o. then_do o (λ s done. Done (in_memory.intend [] s) done)) (in_order-named v (indices_in (loop_ranges limits.locales v)) (in_memory.intend is s) done)
+
+-- OVER A RANGE, by its members
+module _ (limits : Limits) (slot : ℕ) (body : List Step) where
+  in_order-members : (r : TextRange) (s : Memory) (done : Deeds)
+      → in_order (bound_turn limits (variable_in slot) body (Range r)) (indices_in (r ∷ [])) s done ≡ in_turn (turn_in_memory limits slot body) (members_of r.value) s done
+  unfolding indices
+  in_order-members r s done = in_order-turns (bound_turn limits (variable_in slot) body (Range r)) (turn_in_memory limits slot body) (members_of r.value) s done (λ i s done. refl)
+
+  in_order-named_members : (r : TextRange) (s : Memory) (done : Deeds)
+      → in_order (named_turn (bound_turn limits (variable_in slot) body (Range r))) (indices_in (r ∷ [])) s done ≡ in_turn (named_in_memory limits slot body) (members_of r.value) s done
+  unfolding indices
+  in_order-named_members r s done =
+      in_order-turns (named_turn (bound_turn limits (variable_in slot) body (Range r))) (named_in_memory limits slot body) (members_of r.value) s done (λ i s done. refl)
+
+  pub for-turns : (at : Place) (item : ItemTree Variable) (s : Memory) (done : Deeds) (r : TextRange) → looped_over limits at item s ≡ Ok (Range r)
+      → exec limits in_memory (For at (variable_in slot) nowhere item (listed (steps_of body))) s done ≡ in_turn (turn_in_memory limits slot body) (members_of r.value) s done
+  for-turns at item s done r e = for-order limits (variable_in slot) body at item s done (Range r) e ∙ in_order-members r s done
+
+  pub forall-turns : (is : List (Variable × Op)) (at : Place) (item : ItemTree Variable) (s : Memory) (done : Deeds) (r : TextRange) → looped_over limits at item s ≡ Ok (Range r)
+      → exec limits in_memory (Forall at (variable_in slot) nowhere item (with_intents is) (listed (steps_of body))) s done
+      ≡ then_do (in_turn (named_in_memory limits slot body) (members_of r.value) (in_memory.intend is s) done) (λ s done. Done (in_memory.intend [] s) done)
+  forall-turns is at item s done r e =
+      forall-order limits (variable_in slot) body is at item s done (Range r) e
+      ∙ ap (λ o. then_do o (λ s done. Done (in_memory.intend [] s) done)) (in_order-named_members r (in_memory.intend is s) done)
 
 -- WHILES, by the turns that are left
 module _ (at : Place) (test : Memory → Result Bool Fault) (body : Run Memory) where

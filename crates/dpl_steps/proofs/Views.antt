@@ -2,7 +2,7 @@
 -- Each lemma has the node's view on its left side.
 use Rattle.std.proofs.Common.{◌≡◌, ℕ, ◌+◌, ◌<◌, Bor, List, length, drop, map, get_or, Err, sym, ap, ◌∙◌}
 use Rattle.dpl_syntax.proofs.Walks.{drop-at}
-use Rattle.dpl_language.specs.Tree.{Block, If, While, For, Forall}
+use Rattle.dpl_language.specs.Tree.{One, Block, If, While, For, Forall}
 use Rattle.dpl_language.specs.Outcome.{Deeds, Done, then_do}
 use Rattle.dpl_language.specs.Environment.{Limits}
 use Rattle.dpl_language.specs.Statements.{exec, exec_all}
@@ -12,11 +12,13 @@ use Rattle.dpl_memory.specs.Memory.{Memory, in_memory}
 use Rattle.dpl_syntax.specs.declared.place.Place.{Place}
 use Rattle.dpl_nodes.specs.declared.tree.BoolExpr.{BoolExpr}
 use Rattle.dpl_nodes.specs.declared.tree.RangeExpr.{RangeExpr}
+use Rattle.dpl_nodes.specs.declared.tree.DomainExpr.{DomainExpr}
 use Rattle.dpl_nodes.specs.declared.step.Intent.{Intent}
-use Rattle.dpl_nodes.specs.declared.step.Step.{Step, Block as BlockStep, If as IfStep, While as WhileStep, For as ForStep, Forall as ForallStep}
+use Rattle.dpl_nodes.specs.declared.step.Names.{Names}
+use Rattle.dpl_nodes.specs.declared.step.Step.{Step, Block as BlockStep, If as IfStep, While as WhileStep, For as ForStep, Forall as ForallStep, ForEach as ForEachStep, ForallEach as ForallEachStep}
 use Rattle.dpl_nodes.specs.declared.step.Else.{Else as ElseNode}
-use Rattle.dpl_nodes.specs.Typed.{truth_view, range_item}
-use Rattle.dpl_nodes.specs.Steps.{listed, variable_in, intent_view, step_view, else_view, steps_of}
+use Rattle.dpl_nodes.specs.Typed.{truth_view, range_item, domain_view}
+use Rattle.dpl_nodes.specs.Steps.{listed, variable_in, names_view, intent_view, step_view, else_view, steps_of}
 use Rattle.dpl_nodes.proofs.Rows.{steps_view-row}
 use Rattle.dpl_steps.specs.declared.halt.Halt.{Halt}
 use Rattle.dpl_steps.specs.Runs.{RunEnds}
@@ -38,6 +40,15 @@ pub forall_view : (at : Bor Place) (slot : ℕ) (over : Bor RangeExpr) (intents 
     → step_view (ForallStep at slot over intents body) ≡ Forall at.now (variable_in slot) nowhere (range_item over.now) (with_intents (map intent_view intents.now)) (listed (steps_of body.now))
 forall_view at slot over intents body =
     ap (λ ts. Forall at.now (variable_in slot) nowhere (range_item over.now) (with_intents (map intent_view intents.now)) (listed ts)) (steps_view-row body.now)
+
+pub for_each_view : (at : Bor Place) (names : Names) (over : Bor DomainExpr) (body : Bor (List Step))
+    → step_view (ForEachStep at names over body) ≡ For at.now (names_view names) nowhere (One (domain_view over.now)) (listed (steps_of body.now))
+for_each_view at names over body = ap (λ ts. For at.now (names_view names) nowhere (One (domain_view over.now)) (listed ts)) (steps_view-row body.now)
+
+pub forall_each_view : (at : Bor Place) (names : Names) (over : Bor DomainExpr) (intents : Bor (List Intent)) (body : Bor (List Step))
+    → step_view (ForallEachStep at names over intents body) ≡ Forall at.now (names_view names) nowhere (One (domain_view over.now)) (with_intents (map intent_view intents.now)) (listed (steps_of body.now))
+forall_each_view at names over intents body =
+    ap (λ ts. Forall at.now (names_view names) nowhere (One (domain_view over.now)) (with_intents (map intent_view intents.now)) (listed ts)) (steps_view-row body.now)
 
 -- STATEMENTS ONE AFTER ANOTHER
 module _ (limits : Limits) where

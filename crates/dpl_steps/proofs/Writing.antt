@@ -12,10 +12,10 @@ use Rattle.dpl_language.specs.Writing.{line_end, shown, arguments_of, arguments_
 use Rattle.dpl_language.specs.Statements.{exec}
 use Rattle.dpl_memory.specs.Memory.{Variable, Memory, in_memory}
 use Rattle.dpl_nodes.specs.declared.step.Argument.{Argument}
-use Rattle.dpl_nodes.specs.declared.step.Argument.TheVariants.{Text, Int, Truth}
+use Rattle.dpl_nodes.specs.declared.step.Argument.TheVariants.{Text, Int, Truth, Array}
 use Rattle.dpl_nodes.specs.Typed.{int_view, truth_view}
 use Rattle.dpl_nodes.specs.Steps.{argument_view, next_argument_view, arguments_view, written_as}
-use Rattle.dpl_steps.specs.Texts.{arguments_text, behind}
+use Rattle.dpl_steps.specs.Texts.{array_text, arguments_text, behind}
 use Rattle.dpl_nodes.proofs.Unread.{cell_read-int, cell_read-truth}
 use Rattle.dpl_steps.proofs.Changing.{evaluated-item}
 
@@ -57,6 +57,8 @@ module _ (limits : Limits) where
   arguments-text (Text bytes ∷ xs) text go s done =
       arguments-text xs (text ++ bytes.now) go s done ∙ ap (λ r. with_value r go s done) (behind-append text bytes.now (arguments_text limits xs s))
   arguments-text (Int e ∷ xs) text go s done = argument-text (int_view e.now) xs text go s done (cell_read-int e.now) (arguments-text xs)
+  arguments-text (Array k slot ∷ xs) text go s done =
+      arguments-text xs (text ++ array_text k slot s) go s done ∙ ap (λ r. with_value r go s done) (behind-append text (array_text k slot s) (arguments_text limits xs s))
   arguments-text (Truth e ∷ xs) text go s done = argument-text (truth_view e.now) xs text go s done (cell_read-truth e.now) (arguments-text xs)
 
   behind-nothing : (r : Result (List ℕ) Fault) → behind [] r ≡ r

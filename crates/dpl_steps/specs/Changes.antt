@@ -1,15 +1,21 @@
 -- What declarations and assignments do to a memory: another memory, or a fault. They do nothing else.
 -- Each is by the value of its right side.
-use Rattle.std.specs.Prelude.{ℕ, Option, Some, None, Result, Ok, Err}
+use Rattle.std.specs.Prelude.{ℕ, ℤ, if◌then◌else◌, nat_lt, List, Option, Some, None, Result, Ok, Err}
 use Rattle.dpl_syntax.specs.declared.place.Place.{Place}
-use Rattle.dpl_language.specs.Tree.{Assign, Set, SetReduce, ItemTree}
-use Rattle.dpl_language.specs.Values.{Value, Fault}
+use Rattle.dpl_language.specs.Tree.{Assign, Set, SetReduce, AssignTree, Kind, ItemTree}
+use Rattle.dpl_range.specs.Equality.{TextRange}
+use Rattle.dpl_language.specs.Values.{Value, kept_number, Fault, fault, ArrayTooLarge, Budget}
+use Rattle.dpl_language.specs.Ranges.{size_in, too_large}
 use Rattle.dpl_language.specs.Arithmetic.{assign_divides, tested_divisor}
-use Rattle.dpl_language.specs.Outcome.{with_ok}
+use Rattle.dpl_language.specs.Outcome.{Deeds, Outcome, Done, Stop, with_ok}
 use Rattle.dpl_language.specs.Environment.{Limits, Plain}
+use Rattle.dpl_language.specs.Phrases.{declared_over}
 use Rattle.dpl_language.specs.Expressions.{item_of}
+use Rattle.dpl_language.specs.Declarations.{Shell}
 use Rattle.dpl_lowered.specs.Shapes.{nowhere}
 use Rattle.dpl_memory.specs.Memory.{Variable, Memory, truth_leaf, in_memory}
+use Rattle.dpl_nodes.specs.declared.step.Over.{Over}
+use Rattle.dpl_nodes.specs.Steps.{over_items}
 use Rattle.dpl_nodes.specs.declared.step.TruthDeed.{TruthDeed}
 use Rattle.dpl_nodes.specs.declared.step.TruthDeed.TheVariants as deed
 
@@ -40,3 +46,28 @@ module _ (limits : Limits) where
 abbrev pub memory_after : Result (Unit {0}) Fault → Memory → Result Memory Fault
 memory_after (Ok v) s = Ok s
 memory_after (Err f) s = Err f
+
+-- how a memory, or a fault, ends a run
+abbrev pub ends_as : Result Memory Fault → Deeds → Outcome Memory
+ends_as (Ok s) done = Done s done
+ends_as (Err f) done = Stop f done
+
+-- the operator of an assignment to an array, whose place faults tell
+abbrev pub signed : Assign → Place → AssignTree
+signed op at = record { at = at; op = op; last = nowhere }
+
+-- a domain for an array, or F8 at a name
+abbrev pub for_array_at : Place → List TextRange → Result (List TextRange) Fault
+for_array_at at rs = if too_large rs then Err (fault ArrayTooLarge at) else Ok rs
+
+-- no more indices than the budget, or F5
+abbrev pub within_at : Limits → Place → List TextRange → Result (Unit {0}) Fault
+within_at limits at rs = if nat_lt limits.budget (size_in rs) then Err (fault Budget at) else Ok tt
+
+-- the word of a value, or its fault
+abbrev pub kept_word : Result Value Fault → Result ℤ Fault
+kept_word r = with_ok r (λ v. Ok (kept_number v))
+
+-- an array that is declared, but for its elements
+abbrev pub shell_over : Over → Kind → List TextRange → Shell Variable
+shell_over over kind rs = record { over = declared_over (over_items over); kind = kind; ranges = rs }

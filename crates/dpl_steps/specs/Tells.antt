@@ -1,7 +1,7 @@
 -- How a fault is told as the reason why a run ended early.
 -- That memory ran out tells no fault.
-use Rattle.std.specs.Prelude.{◌≡◌, ℤ, [], ◌∷◌, Result, Ok, Err}
-use Rattle.dpl_language.specs.Values.{Fault, InTurn, in_the_turn}
+use Rattle.std.specs.Prelude.{◌≡◌, Result, Ok, Err}
+use Rattle.dpl_language.specs.Values.{Index, Fault, InTurn, in_the_turn}
 use Rattle.dpl_nodes.specs.Faults.{fault_view}
 use Rattle.dpl_steps.specs.declared.halt.Halt.{Halt}
 use Rattle.dpl_steps.specs.declared.halt.Halt.TheVariants.{Fault as FaultHalt, Memory as OutOfMemory}
@@ -18,6 +18,6 @@ TellsSame (Err f) (Ok w) = ⊥
 TellsSame (Err f) (Err h) = IsFault f h
 
 -- the second is the first in the turn of an index
-abbrev pub NamesTurn : ℤ → Halt → Halt → Type 0
-NamesTurn i (FaultHalt f) h = IsFault (in_the_turn (InTurn (i ∷ [])) (fault_view f)) h
-NamesTurn i OutOfMemory h = h ≡ OutOfMemory
+abbrev pub NamesTurn : Index → Halt → Halt → Type 0
+NamesTurn t (FaultHalt f) h = IsFault (in_the_turn (InTurn t) (fault_view f)) h
+NamesTurn t OutOfMemory h = h ≡ OutOfMemory

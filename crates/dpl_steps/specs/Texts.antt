@@ -1,24 +1,33 @@
 -- The texts of arguments, and how what was printed grows by them.
 -- A fault leaves what was printed before at the front.
-use Rattle.std.specs.Prelude.{◌≡◌, ℕ, List, [], ◌∷◌, ◌++◌, None, Result, Ok, Err}
+use Rattle.std.specs.Prelude.{◌≡◌, ℕ, List, [], ◌∷◌, ◌++◌, map, None, Result, Ok, Err}
 use Rattle.dpl_language.specs.Values.{Fault}
 use Rattle.dpl_language.specs.Outcome.{with_ok}
 use Rattle.dpl_language.specs.Environment.{Limits}
 use Rattle.dpl_language.specs.Phrases.{bare_name}
 use Rattle.dpl_language.specs.Expressions.{value_of}
-use Rattle.dpl_language.specs.Writing.{shown}
-use Rattle.dpl_memory.specs.Memory.{Memory, in_memory}
+use Rattle.dpl_language.specs.Ranges.{indices_in}
+use Rattle.dpl_language.specs.Printing.{printed_array}
+use Rattle.dpl_language.specs.Writing.{or_zero, shown}
+use Rattle.dpl_memory.specs.Memory.{ArrayKind, variable, Memory, array_at, in_memory}
+use Rattle.dpl_tree.specs.declared.operator.ScalarKind.{ScalarKind}
 use Rattle.dpl_nodes.specs.declared.step.Argument.{Argument}
-use Rattle.dpl_nodes.specs.declared.step.Argument.TheVariants.{Text, Int, Truth}
-use Rattle.dpl_nodes.specs.Typed.{int_view, truth_view}
+use Rattle.dpl_nodes.specs.declared.step.Argument.TheVariants.{Text, Int, Truth, Array}
+use Rattle.dpl_nodes.specs.Typed.{kind_view, int_view, truth_view}
 use Rattle.dpl_nodes.specs.Faults.{fault_view}
 use Rattle.dpl_steps.specs.declared.halt.Halt.{Halt}
 use Rattle.dpl_steps.specs.declared.halt.Halt.TheVariants.{Fault as FaultHalt, Memory as OutOfMemory}
+
+-- an array's elements, in the order of its domain
+abbrev pub array_text : ScalarKind → ℕ → Memory → List ℕ
+array_text k slot s =
+    printed_array (array_at slot s).ranges (map (λ t. or_zero (in_memory.element (variable (ArrayKind (kind_view k)) slot) t s)) (indices_in (array_at slot s).ranges))
 
 module _ (limits : Limits) where
   abbrev pub argument_text : Argument → Memory → Result (List ℕ) Fault
   argument_text (Text bytes) s = Ok bytes.now
   argument_text (Int e) s = with_ok (value_of limits in_memory (int_view e.now) None s) (λ v. Ok (shown limits in_memory (bare_name (int_view e.now)) v s))
+  argument_text (Array k slot) s = Ok (array_text k slot s)
   argument_text (Truth e) s = with_ok (value_of limits in_memory (truth_view e.now) None s) (λ v. Ok (shown limits in_memory (bare_name (truth_view e.now)) v s))
 
   -- one after another

@@ -1,12 +1,14 @@
 -- The turns of a loop over a range, by its members.
 -- What a loop runs over is evaluated and tested before its first turn.
-use Rattle.std.specs.Prelude.{ℕ, nat_lt, ℤ, if◌then◌else◌, None, List, [], ◌∷◌, map, Result, Ok, Err}
+use Rattle.std.specs.Prelude.{ℕ, ◌+◌, nat_lt, ℤ, pos, get_or, if◌then◌else◌, None, List, [], ◌∷◌, map, Result, Ok, Err}
 use Rattle.dpl_syntax.specs.declared.place.Place.{Place}
 use Rattle.dpl_language.specs.Tree.{ItemTree, StmtTree, Forall}
-use Rattle.dpl_language.specs.Values.{Value, Int, Fault, fault, Budget}
+use Rattle.dpl_language.specs.Values.{Value, Int, Domain, Index, Fault, fault, Budget}
+use Rattle.dpl_range.specs.Equality.{TextRange}
 use Rattle.dpl_language.specs.Ranges.{size_in, loop_ranges}
 use Rattle.dpl_language.specs.Outcome.{Done, Run, with_ok, then_do, naming}
 use Rattle.dpl_language.specs.Environment.{Limits}
+use Rattle.dpl_language.specs.Loops.{bound_to}
 use Rattle.dpl_language.specs.Expressions.{item_of}
 use Rattle.dpl_language.specs.Statements.{exec_all}
 use Rattle.dpl_lowered.specs.Shapes.{nowhere}
@@ -14,8 +16,9 @@ use Rattle.dpl_lowered.specs.LoweredStatements.{with_intents}
 use Rattle.dpl_words.specs.Words.{IntLeaf}
 use Rattle.dpl_memory.specs.Memory.{PlainKind, Variable, Memory, with_value_in, in_memory}
 use Rattle.dpl_nodes.specs.declared.step.Intent.{Intent}
+use Rattle.dpl_nodes.specs.declared.step.Names.{Names}
 use Rattle.dpl_nodes.specs.declared.step.Step.{Step}
-use Rattle.dpl_nodes.specs.Steps.{listed, variable_in, intent_view, steps_of}
+use Rattle.dpl_nodes.specs.Steps.{listed, variable_in, names_view, intent_view, steps_of}
 
 -- the turns of some indices, in order
 abbrev pub in_turn : (ℤ → Run Memory) → List ℤ → Run Memory
@@ -44,3 +47,13 @@ module _ (limits : Limits) where
   -- what a loop runs over: F5 at its first word where that has more indices than the budget
   abbrev pub looped_over : Place → ItemTree Variable → Memory → Result Value Fault
   looped_over at item s = with_ok (item_of limits in_memory item None s) (within at)
+
+-- the coordinates of an index, from dimension d on, in the slots of ints
+abbrev pub each_bound : ℕ → List ℕ → Index → Memory → Memory
+each_bound d [] t s = s
+each_bound d (slot ∷ slots) t s = each_bound (d + 1) slots t (with_value_in (PlainKind IntLeaf) slot (Int (get_or t d (pos 0))) s)
+
+-- a turn of a loop over a domain: its variables hold the index, and the body runs
+abbrev pub index_turn : Limits → Names → List Step → List TextRange → Index → Run Memory
+index_turn limits names body rs t s done =
+    exec_all limits in_memory (steps_of body) (bound_to in_memory (names_view names) (Domain rs) t s) done

@@ -6,7 +6,8 @@ ghost use Rattle.dpl_nodes.specs.Faults.{fault_view};
 ghost use Rattle.dpl_steps.specs.declared.halt.Halt.{Halt};
 ghost use Rattle.dpl_steps.specs.Tells.{IsFault, TellsSame, NamesTurn};
 
-use dpl_nodes::{Fault, Trap};
+use dpl_domain::Index;
+use dpl_nodes::{Fault, Trap, Turn};
 use std::alloc::{AllocError, AllocFailed};
 
 /// Why a run ended early.
@@ -63,14 +64,14 @@ pub(crate) fn told(end: Result<(), Trap>) -> Result<(), Halt>
 impl Halt {
     /// The same, in the turn of an index of a forall.
     #[cold]
-    pub(crate) fn in_turn(self, i: i64) -> Halt
-        ensures { NamesTurn i self result }
+    pub(crate) fn in_turn(self, index: Index) -> Halt
+        ensures { NamesTurn index self result }
     {
         match self {
             Halt::Fault(fault) => Halt::Fault(Fault {
                 code: fault.code,
                 at: fault.at,
-                turn: Some(i),
+                turn: Turn::of(index),
             }),
             Halt::Memory => Halt::Memory,
         }

@@ -2,11 +2,17 @@
 // Turns take no memory but for what they print.
 #![tactic(auto)]
 
+mod array_text;
 mod change;
+mod declare;
+mod domain;
+mod each;
+mod element;
 pub mod halt;
 mod print;
 mod reduce;
 pub mod statement;
+mod whole;
 
 pub use halt::Halt;
 pub use statement::run;

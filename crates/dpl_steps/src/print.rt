@@ -4,12 +4,14 @@
 ghost use Rattle.std.specs.Prelude.{◌≡◌, ◌++◌, OnOk};
 ghost use Rattle.std.specs.Fmt.{signed_decimal};
 ghost use Rattle.dpl_language.specs.Outcome.{Deeds};
+ghost use Rattle.dpl_language.specs.Writing.{line_end};
 ghost use Rattle.dpl_language.specs.Statements.{exec};
 ghost use Rattle.dpl_memory.specs.Memory.{in_memory};
 ghost use Rattle.dpl_nodes.specs.Steps.{written_as};
 ghost use Rattle.dpl_steps.specs.Runs.{having_printed, RunEnds};
 ghost use Rattle.dpl_steps.specs.Texts.{argument_text, arguments_text, GrewBy};
 
+use crate::array_text::show_array;
 use crate::halt::Halt;
 use dpl_nodes::{Argument, Frame};
 use dpl_values::{int_value, truth_value};
@@ -36,6 +38,7 @@ fn show(argument: &Argument<'_>, frame: &Frame<'_>, out: &mut Vec<u8>) -> Result
             let number = int_value(e, frame)?;
             print(number, out)?;
         }
+        Argument::Array(kind, slot) => show_array(*kind, *slot, frame, out)?,
         Argument::Truth(e) => {
             if truth_value(e, frame)?.get() {
                 out.extend_from_slice(b"true")?;
@@ -53,6 +56,16 @@ fn show_all(arguments: &[Argument<'_>], frame: &Frame<'_>, out: &mut Vec<u8>) ->
 {
     for argument in arguments {
         show(argument, frame, out)?;
+    }
+    Ok(())
+}
+
+// Appends the line's end, if one is asked for.
+fn end_line(ends_line: bool, out: &mut Vec<u8>) -> Result<(), AllocError>
+    ensures { OnOk result (out.new.items ≡ out.old.items ++ line_end ends_line) }
+{
+    if ends_line {
+        out.push(b'\n')?;
     }
     Ok(())
 }
@@ -75,8 +88,6 @@ pub(crate) fn write(
         out.truncate(start);
         return Err(halt);
     }
-    if ends_line {
-        out.push(b'\n')?;
-    }
+    end_line(ends_line, out)?;
     Ok(())
 }

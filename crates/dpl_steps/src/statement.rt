@@ -18,10 +18,16 @@ use crate::change::{
     add, change_truth, config_int, declare_int, declare_range, divide, multiply, reduce_int, rest,
     subtract,
 };
+use crate::declare::declare_array;
+use crate::domain::{declare_domain, declare_empty, set_domain};
+use crate::each::{for_each, forall_each};
+use crate::element::{set_element, set_truth_element};
 use crate::halt::{Halt, told};
 use crate::print::write;
+use crate::whole::{set_array, set_truth_array};
 use dpl_nodes::{BoolExpr, Else, FaultCode, Frame, Intent, RangeExpr, RangeWord, Spot, Step, Trap};
 use dpl_range::Range;
+use dpl_values::domain::coordinate;
 use dpl_values::{range_value, truth_value};
 
 // What a loop runs over: its range is evaluated once, and its size is tested against the budget.
@@ -73,6 +79,19 @@ fn statement<'t>(step: &Step<'t>, frame: &mut Frame<'t>, out: &mut Vec<u8>) -> R
         Step::Remainder(slot, at, e) => told(rest(*slot, at, e, frame)),
         Step::ReduceInt(slot, e) => told(reduce_int(*slot, e, frame)),
         Step::Truth(deed, slot, e) => told(change_truth(*deed, *slot, e, frame)),
+        Step::DeclareDomain(slot, e) => told(declare_domain(*slot, e, frame)),
+        Step::DeclareEmpty(slot, rank) => {
+            declare_empty(*slot, *rank, frame);
+            Ok(())
+        }
+        Step::SetDomain(name, e) => set_domain(name, e, frame),
+        Step::DeclareArray(declared) => declare_array(declared, frame),
+        Step::SetElement(name, t, op, sign, e) => {
+            told(set_element(name, t, *op, sign, e, frame))
+        }
+        Step::SetTruthElement(name, t, e) => told(set_truth_element(name, t, e, frame)),
+        Step::SetArray(name, op, sign, e) => set_array(name, *op, sign, e, frame),
+        Step::SetTruthArray(name, sign, e) => set_truth_array(name, sign, e, frame),
         Step::Write {
             ends_line,
             arguments,
@@ -107,6 +126,19 @@ fn statement<'t>(step: &Step<'t>, frame: &mut Frame<'t>, out: &mut Vec<u8>) -> R
             intents,
             body,
         } => forall_loop(at, *slot, over, intents, body, frame, out),
+        Step::ForEach {
+            at,
+            names,
+            over,
+            body,
+        } => for_each(at, names, over, body, frame, out),
+        Step::ForallEach {
+            at,
+            names,
+            over,
+            intents,
+            body,
+        } => forall_each(at, names, over, intents, body, frame, out),
     }
 }
 
@@ -259,7 +291,7 @@ fn named_turn<'t>(
     frame.set_number(slot, i);
     match run(body, frame, out) {
         Ok(()) => Ok(()),
-        Err(halt) => Err(halt.in_turn(i)),
+        Err(halt) => Err(halt.in_turn(coordinate(i))),
     }
 }
 

@@ -1,0 +1,112 @@
+-- Declarations of arrays: by the domain, by an initial value that is evaluated once, and by the test of the budget.
+-- Each lemma has the meaning of the declaration, or of a part of it, on its left side.
+use Rattle.std.proofs.Common.{◌≡◌, ℕ, ℤ, pos, Bool, true, false, nat_lt, if◌then◌else◌, Option, Some, None, List, [], ◌∷◌, map, Result, Ok, Err, refl, sym, ap, ◌∙◌}
+use Rattle.std.specs.Prelude.{IfOk}
+use Rattle.dpl_syntax.specs.declared.place.Place.{Place}
+use Rattle.dpl_range.specs.Equality.{TextRange}
+use Rattle.dpl_language.specs.Tree.{Placed, Kind, IntKind, BoolKind, ExprTree, One}
+use Rattle.dpl_language.specs.Values.{Value, Domain, Index, ranges_in, default, kept_number, Fault, fault, Budget, ArrayTooLarge}
+use Rattle.dpl_language.specs.Ranges.{indices_in, size_in, too_large}
+use Rattle.dpl_language.specs.Phrases.{cell_read}
+use Rattle.dpl_language.specs.Outcome.{Deeds, Done, Stop, Run, with_value, unless}
+use Rattle.dpl_language.specs.Environment.{Limits}
+use Rattle.dpl_language.specs.Expressions.{value_of, domain_of}
+use Rattle.dpl_language.specs.Declarations.{Shell, array_with, filled, declaring, array_of_item, array_of}
+use Rattle.dpl_language.specs.Statements.{exec}
+use Rattle.dpl_memory.specs.Memory.{ArrayKind, Variable, Memory, variable, with_array, in_memory}
+use Rattle.dpl_nodes.specs.declared.step.Initial.{Initial}
+use Rattle.dpl_nodes.specs.declared.step.ArrayDeclaration.{ArrayDeclaration}
+use Rattle.dpl_nodes.specs.Steps.{placed_leaf, over_items, initial_kind, initial_view, array_declared}
+use Rattle.dpl_steps.specs.Changes.{for_array_at, within_at, shell_over}
+use Rattle.dpl_steps.proofs.Changing.{evaluated-item}
+
+-- THE BUDGET
+-- a fault where a test says so
+abbrev tested : Bool → Fault → Result (Unit {0}) Fault
+tested b f = if b then Err f else Ok tt
+
+module _ (f : Fault) (go : Run Memory) (s : Memory) (done : Deeds) where
+  unless-held : (b : Bool) → tested b f ≡ Ok tt → unless b f go s done ≡ go s done
+  unless-held true e = absurd (let no : tested true f ≡ Ok tt = e in cc)
+  unless-held false e = refl
+
+  unless-broken : (b : Bool) (g : Fault) → tested b f ≡ Err g → unless b f go s done ≡ Stop g done
+  unless-broken true g e = let same : f ≡ g = let is : tested true f ≡ Err g = e in cc in ap (λ f. Stop f done) same
+  unless-broken false g e = absurd (let no : tested false f ≡ Err g = e in cc)
+
+-- THE SAME WORD EVERYWHERE
+filled-words : (v : Value) (w : ℤ) (ts : List Index) → kept_number v ≡ w → map kept_number (map (λ t. v) ts) ≡ map (λ t. w) ts
+filled-words v w [] e = refl
+filled-words v w (t ∷ ts) e = ap (λ n. n ∷ map kept_number (map (λ t. v) ts)) e ∙ ap (λ ws. w ∷ ws) (filled-words v w ts e)
+
+module _ (limits : Limits) (at : Place) (k : Kind) (slot : ℕ) (a : Shell Variable) (s : Memory) (done : Deeds) where
+  abbrev name : Placed Variable
+  name = placed_leaf at (variable (ArrayKind k) slot)
+
+  pub declaring-filled : (v : Value) (w : ℤ) → kept_number v ≡ w
+      → declaring limits in_memory name (array_with a (filled v a.ranges)) s done ≡ Done (with_array slot (record { ranges = a.ranges; words = map (λ t. w) (indices_in a.ranges) }) s) done
+  declaring-filled v w e = ap (λ ws. Done (with_array slot (record { ranges = a.ranges; words = ws }) s) done) (filled-words v w (indices_in a.ranges) e)
+
+  -- a declaration without an initial value
+  pub array_of-zeros : (k0 : Kind) → a.kind ≡ k0 → array_of limits in_memory name a None s done ≡ Done (with_array slot (record { ranges = a.ranges; words = map (λ t. pos 0) (indices_in a.ranges) }) s) done
+  array_of-zeros IntKind e = declaring-filled (default a.kind) (pos 0) (ap (λ k. kept_number (default k)) e)
+  array_of-zeros BoolKind e = declaring-filled (default a.kind) (pos 0) (ap (λ k. kept_number (default k)) e)
+
+  module _ (equals : Place) (e : ExprTree Variable) (whole : Option (List TextRange)) where
+    abbrev put : Value → Run Memory
+    put v = unless (nat_lt limits.budget (size_in a.ranges)) (fault Budget equals) (declaring limits in_memory name (array_with a (filled v a.ranges)))
+
+    -- one that is evaluated once, whose value is the one at whatever index
+    module _ (t : Index) (none : None ≡ whole) (unread : cell_read e ≡ None) (once : value_of limits in_memory e (Some t) s ≡ value_of limits in_memory e None s) where
+      array_of_item-once : (r : Result Value Fault) → value_of limits in_memory e (Some t) s ≡ r → array_of_item limits in_memory name a equals (One e) whole s done ≡ with_value r put s done
+      array_of_item-once r is =
+          sym (ap (λ o. array_of_item limits in_memory name a equals (One e) o s done) none)
+          ∙ evaluated-item limits (One e) put s done unread ∙ ap (λ r. with_value r put s done) (sym once ∙ is)
+
+      pub array_of_item-fault : (f : Fault) → value_of limits in_memory e (Some t) s ≡ Err f → array_of_item limits in_memory name a equals (One e) whole s done ≡ Stop f done
+      array_of_item-fault f is = array_of_item-once (Err f) is
+
+      pub array_of_item-past : (v : Value) (f : Fault) → value_of limits in_memory e (Some t) s ≡ Ok v → Err f ≡ within_at limits equals a.ranges → array_of_item limits in_memory name a equals (One e) whole s done ≡ Stop f done
+      array_of_item-past v f is past =
+          array_of_item-once (Ok v) is
+          ∙ unless-broken (fault Budget equals) (declaring limits in_memory name (array_with a (filled v a.ranges))) s done (nat_lt limits.budget (size_in a.ranges)) f (sym past)
+
+      pub array_of_item-value : (v : Value) (w : ℤ) → value_of limits in_memory e (Some t) s ≡ Ok v → Ok tt ≡ within_at limits equals a.ranges → kept_number v ≡ w
+          → array_of_item limits in_memory name a equals (One e) whole s done ≡ Done (with_array slot (record { ranges = a.ranges; words = map (λ t. w) (indices_in a.ranges) }) s) done
+      array_of_item-value v w is within kept =
+          array_of_item-once (Ok v) is
+          ∙ unless-held (fault Budget equals) (declaring limits in_memory name (array_with a (filled v a.ranges))) s done (nat_lt limits.budget (size_in a.ranges)) (sym within)
+          ∙ declaring-filled v w kept
+
+    -- one that is evaluated at each index, of too many
+    pub array_of_item-refused : (arrays : List TextRange) (f : Fault) → Some arrays ≡ whole → Err f ≡ within_at limits equals a.ranges → array_of_item limits in_memory name a equals (One e) whole s done ≡ Stop f done
+    array_of_item-refused arrays f some past =
+        sym (ap (λ o. array_of_item limits in_memory name a equals (One e) o s done) some)
+        ∙ unless-broken (fault Budget equals) _ s done (nat_lt limits.budget (size_in a.ranges)) f (sym past)
+
+-- THE DOMAIN
+too_large-tested : (at : Place) (rs : List TextRange) (b : Bool) → too_large rs ≡ b → IfOk (if b then Err (fault ArrayTooLarge at) else Ok rs) (λ d. too_large d ≡ false)
+too_large-tested at rs true e = tt
+too_large-tested at rs false e = e
+
+pub for_array_at_small : (at : Place) (rs : List TextRange) → IfOk (for_array_at at rs) (λ d. too_large d ≡ false)
+for_array_at_small at rs = too_large-tested at rs (too_large rs) refl
+
+unless-small : (rs : List TextRange) (at : Place) (go : Run Memory) (s : Memory) (done : Deeds) (d : List TextRange) (b : Bool) → Ok d ≡ (if b then Err (fault ArrayTooLarge at) else Ok rs)
+    → (unless b (fault ArrayTooLarge at) go s done ≡ go s done) × (rs ≡ d)
+unless-small rs at go s done d true e = absurd (let no : Ok d ≡ Err (fault ArrayTooLarge at) = e in cc)
+unless-small rs at go s done d false e = (refl, let is : Ok d ≡ Ok rs = e in cc)
+
+module _ (limits : Limits) (d : ArrayDeclaration) (s : Memory) (done : Deeds) where
+  abbrev array_over : Initial → List TextRange → Run Memory
+  array_over i rs = array_of limits in_memory (placed_leaf d.at.now (variable (ArrayKind (initial_kind i)) d.slot)) (shell_over d.over (initial_kind i) rs) (initial_view i)
+
+  -- the array over a domain that it may have
+  pub exec-array_declared : (i : Initial) (rs domain : List TextRange) → d.initial ≡ i → domain_of limits in_memory d.from.now (over_items d.over) s ≡ Ok (Domain rs) → Ok domain ≡ for_array_at d.at.now rs
+      → exec limits in_memory (array_declared d) s done ≡ array_over i domain s done
+  exec-array_declared i rs domain initial is small =
+      let tested = unless-small rs d.at.now (array_over d.initial rs) s done domain (too_large rs) small in
+      ap (λ r. with_value r (λ v. unless (too_large (ranges_in v)) (fault ArrayTooLarge d.at.now) (array_over d.initial (ranges_in v))) s done) is
+      ∙ tested.0
+      ∙ ap (λ rs. array_over d.initial rs s done) tested.1
+      ∙ ap (λ i. array_over i domain s done) initial

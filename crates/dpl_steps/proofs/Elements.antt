@@ -1,0 +1,84 @@
+-- Assignments to elements and to domains, by the values of their parts.
+-- Each lemma has the meaning of the plain statement on its left side.
+use Rattle.std.proofs.Common.{◌≡◌, Bool, true, false, ◌&&◌, List, None, Result, Ok, Err, refl, ap, ◌∙◌}
+use Rattle.dpl_syntax.specs.declared.place.Place.{Place}
+use Rattle.dpl_range.specs.Equality.{TextRange}
+use Rattle.dpl_language.specs.Tree.{Placed, Assign, Set, ExprTree, One}
+use Rattle.dpl_language.specs.Values.{Value, Domain, Index, index_of, ranges_in, Fault, fault, ArrayTooLarge}
+use Rattle.dpl_language.specs.Arithmetic.{assign_divides, tested_divisor, assigned}
+use Rattle.dpl_language.specs.Ranges.{too_large}
+use Rattle.dpl_language.specs.Outcome.{Deeds, Done, Run, with_ok, with_value, unless}
+use Rattle.dpl_language.specs.Environment.{Limits}
+use Rattle.dpl_language.specs.Phrases.{cell_read}
+use Rattle.dpl_language.specs.Expressions.{found, value_of, values_of}
+use Rattle.dpl_language.specs.Assignments.{change}
+use Rattle.dpl_language.specs.Statements.{exec}
+use Rattle.dpl_lowered.specs.Shapes.{nowhere, kept}
+use Rattle.dpl_memory.specs.Memory.{Variable, Memory, redomained_in, is_some_array, in_memory}
+use Rattle.dpl_nodes.specs.declared.tree.IndexExpr.{IndexExpr}
+use Rattle.dpl_nodes.specs.declared.step.DomainName.{DomainName}
+use Rattle.dpl_nodes.specs.Typed.{index_exprs}
+use Rattle.dpl_nodes.specs.Steps.{domain_leaf, element_set, whole_set}
+use Rattle.dpl_steps.specs.Changes.{signed, for_array_at}
+use Rattle.dpl_steps.proofs.Changing.{evaluated-item}
+
+-- the place of an operator that doesn't divide is never told
+tested-kept : (divides : Bool) (at : Place) (w : Value) → tested_divisor divides (kept divides at) w ≡ tested_divisor divides at w
+tested-kept true at w = refl
+tested-kept false at w = refl
+
+-- the indices' values, as the index that they are
+index-ends : (r : Result (List Value) Fault) (q : Result Index Fault) (go : Index → Run Memory) (s : Memory) (done : Deeds) → with_ok r (λ vs. Ok (index_of vs)) ≡ q
+    → with_value r (λ vs. go (index_of vs)) s done ≡ with_value q go s done
+index-ends (Ok vs) q go s done e = ap (λ q. with_value q go s done) e
+index-ends (Err f) q go s done e = ap (λ q. with_value q go s done) e
+
+module _ (limits : Limits) where
+  change-kept : (x : Placed Variable) (op : Assign) (at : Place) (t : Index) (w : Value) (s : Memory) (done : Deeds)
+      → change limits in_memory x (signed op (kept (assign_divides op) at)) t w s done ≡ change limits in_memory x (signed op at) t w s done
+  change-kept x op at t w s done =
+      ap (λ r. with_value (found x.at (in_memory.element x.name t s))
+      (λ old. with_value r (λ w s done. Done (in_memory.put_element x.name t (assigned op None old w) s) done)) s done) (tested-kept (assign_divides op) at w)
+
+  -- an assignment to an element, by the right side and the index
+  pub exec-element : (x : Placed Variable) (t : IndexExpr) (op : Assign) (at : Place) (e : ExprTree Variable) (s : Memory) (done : Deeds) (w : Value) (q : Result Index Fault)
+      → cell_read e ≡ None → value_of limits in_memory e None s ≡ Ok w → with_ok (values_of limits in_memory (index_exprs t) s) (λ vs. Ok (index_of vs)) ≡ q
+      → exec limits in_memory (element_set x t op at e) s done ≡ with_value q (λ i. change limits in_memory x (signed op at) i w) s done
+  exec-element x t op at e s done w q read value index =
+      let signed_at = signed op (kept (assign_divides op) at) in
+      evaluated-item limits (One e) (λ w s done. with_value (values_of limits in_memory (index_exprs t) s) (λ is. change limits in_memory x signed_at (index_of is) w) s done) s done read
+      ∙ ap (λ r. with_value r (λ w s done. with_value (values_of limits in_memory (index_exprs t) s) (λ is. change limits in_memory x signed_at (index_of is) w) s done) s done) value
+      ∙ index-ends (values_of limits in_memory (index_exprs t) s) q (λ i. change limits in_memory x signed_at i w) s done index
+      ∙ kept-ends q
+    where
+      kept-ends : (q : Result Index Fault)
+          → with_value q (λ i. change limits in_memory x (signed op (kept (assign_divides op) at)) i w) s done ≡ with_value q (λ i. change limits in_memory x (signed op at) i w) s done
+      kept-ends (Ok i) = change-kept x op at i w s done
+      kept-ends (Err f) = refl
+
+  -- an assignment to a domain, by its value
+  pub exec-domain : (x : DomainName) (e : ExprTree Variable) (s : Memory) (done : Deeds) (rs : List TextRange) → cell_read e ≡ None → value_of limits in_memory e None s ≡ Ok (Domain rs)
+      → exec limits in_memory (whole_set (domain_leaf x) Set nowhere e) s done
+      ≡ unless (too_large rs && is_some_array x.arrays.now) (fault ArrayTooLarge x.at.now) (λ s done. Done (redomained_in (domain_leaf x).name rs s) done) s done
+  exec-domain x e s done rs read value =
+      evaluated-item limits (One e) (λ v s done. unless (too_large (ranges_in v) && is_some_array x.arrays.now) (fault ArrayTooLarge x.at.now) (λ s done. Done (redomained_in (domain_leaf x).name (ranges_in v) s) done) s done) s done read
+      ∙ ap (λ r. with_value r (λ v s done. unless (too_large (ranges_in v) && is_some_array x.arrays.now) (fault ArrayTooLarge x.at.now) (λ s done. Done (redomained_in (domain_leaf x).name (ranges_in v) s) done) s done) s done) value
+
+-- what the test of a domain tells
+pub for_array-fault : (at : Place) (rs : List TextRange) (f : Fault) → for_array_at at rs ≡ Err f → (too_large rs ≡ true) × (fault ArrayTooLarge at ≡ f)
+for_array-fault at rs f e = by (too_large rs) refl e
+  where
+    by : (b : Bool) → too_large rs ≡ b → for_array_at at rs ≡ Err f → (too_large rs ≡ true) × (fault ArrayTooLarge at ≡ f)
+    by true is e = (is, let same : Err (fault ArrayTooLarge at) ≡ Err f = rw is at e in cc)
+    by false is e = absurd (let no : Ok rs ≡ Err f = rw is at e in cc)
+
+pub for_array-value : (at : Place) (rs qs : List TextRange) → for_array_at at rs ≡ Ok qs → (too_large rs ≡ false) × (qs ≡ rs)
+for_array-value at rs qs e = by (too_large rs) refl e
+  where
+    by : (b : Bool) → too_large rs ≡ b → for_array_at at rs ≡ Ok qs → (too_large rs ≡ false) × (qs ≡ rs)
+    by true is e = absurd (let no : Err (fault ArrayTooLarge at) ≡ Ok qs = rw is at e in cc)
+    by false is e = (is, let same : Ok rs ≡ Ok qs = rw is at e in cc)
+
+pub and-false : (b : Bool) → (b && false) ≡ false
+and-false true = refl
+and-false false = refl

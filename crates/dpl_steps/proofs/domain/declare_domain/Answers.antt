@@ -1,0 +1,19 @@
+-- The value goes into the domain's slot.
+use Rattle.std.proofs.Common.{Ok, sym, ap, ◌∙◌}
+use Rattle.dpl_language.specs.Tree.{One}
+use Rattle.dpl_language.specs.Outcome.{Done, with_ok}
+use Rattle.dpl_language.specs.Environment.{Plain}
+use Rattle.dpl_memory.specs.Memory.{DomainKind, variable, in_memory}
+use Rattle.dpl_nodes.specs.Typed.{domain_view}
+use Rattle.dpl_nodes.specs.Frames.{Framed}
+use Rattle.dpl_nodes.proofs.Unread.{cell_read-domain}
+use Rattle.dpl_steps.specs.Changes.{ends_as}
+use Rattle.dpl_steps.proofs.Changing.{exec-declared}
+use Rattle.dpl_steps.proofs.domain.declare_domain.Goals as goal
+
+pub returns-clause-ends : goal.returns-clause-ends
+returns-clause-ends c done =
+    let s = c.args.frame.now.memory in
+    exec-declared c.args.frame.now.limits (variable DomainKind c.args.slot) (One (domain_view c.args.e.now)) s done (cell_read-domain c.args.e.now)
+    ∙ ap (λ r. ends_as (with_ok r (λ v. Ok (in_memory.declare (variable DomainKind c.args.slot) (Plain v) s))) done) c.in_ok-value.ensures
+    ∙ ap (λ (f : Framed). Done f.memory done) (sym c.set_domain.ensures)

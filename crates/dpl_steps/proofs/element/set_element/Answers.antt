@@ -1,0 +1,28 @@
+-- The right side goes first, then the index, and then the change.
+use Rattle.std.proofs.Common.{rules, Ok, Err, sym, ap, ◌∙◌, w64, FitsSigned}
+use Rattle.std.proofs.lemmas.Int.{to_z-of_z}
+use Rattle.std.proofs.lemmas.Result.{err_from_is_err_and}
+use Rattle.dpl_language.specs.Tree.{IntKind}
+use Rattle.dpl_language.specs.Values.{Int}
+use Rattle.dpl_tree.specs.Words.{assign_view}
+use Rattle.dpl_nodes.specs.Typed.{int_view}
+use Rattle.dpl_nodes.specs.Steps.{array_leaf}
+use Rattle.dpl_nodes.proofs.Unread.{cell_read-int}
+use Rattle.dpl_steps.specs.Changes.{memory_after, ends_as}
+use Rattle.dpl_steps.proofs.Elements.{exec-element}
+use Rattle.dpl_steps.proofs.element.set_element.Goals as goal
+
+pub returns-in_err-index-clause-ends : goal.returns-in_err-index-clause-ends
+returns-in_err-index-clause-ends c done =
+    let p = err_from_is_err_and c.from_residual-in_err-index.result c.from_residual-in_err-index.ensures.1 in
+    exec-element c.args.frame.now.limits (array_leaf IntKind c.args.name.now) c.args.t.now (assign_view c.args.op) c.args.sign.now (int_view c.args.e.now) c.args.frame.now.memory done (Int c.in_ok-value.value) (Err c.in_err-index.field-0.0)
+    (cell_read-int c.args.e.now) c.in_ok-value.ensures c.in_err-index.ensures
+    ∙ ap (λ r. ends_as (memory_after r c.args.frame.now.memory) done) (sym (p.1 ∙ ap Err p.2))
+
+pub returns-clause-ends : goal.returns-clause-ends
+returns-clause-ends c done =
+    let value_fits : FitsSigned w64 c.in_ok-value.value = search rules in
+    let changed = simp to_z-of_z at c.change.ensures.ends done in
+    exec-element c.args.frame.now.limits (array_leaf IntKind c.args.name.now) c.args.t.now (assign_view c.args.op) c.args.sign.now (int_view c.args.e.now) c.args.frame.now.memory done (Int c.in_ok-value.value) (Ok c.in_ok-index.index)
+    (cell_read-int c.args.e.now) c.in_ok-value.ensures c.in_ok-index.ensures
+    ∙ changed

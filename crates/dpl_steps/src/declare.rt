@@ -1,0 +1,210 @@
+// Declarations of arrays: the domain is evaluated and tested, and then the elements are.
+// An array's own name isn't known in its initial value, so that the elements are gathered before the slot is written.
+
+ghost use Rattle.std.specs.Prelude.{◌≡◌, IfOk, Ok, Some, None, false};
+ghost use Rattle.dpl_language.specs.Tree.{Kind, IntKind, BoolKind, One};
+ghost use Rattle.dpl_language.specs.Ranges.{indices_in, too_large, too_many};
+ghost use Rattle.dpl_language.specs.Outcome.{Deeds, naming_value};
+ghost use Rattle.dpl_language.specs.Expressions.{value_of, domain_of, whole_in};
+ghost use Rattle.dpl_language.specs.Declarations.{gathered, array_of_item, array_of};
+ghost use Rattle.dpl_language.specs.Statements.{exec};
+ghost use Rattle.dpl_lowered.specs.LoweredExpressions.{EachTurn};
+ghost use Rattle.dpl_memory.specs.Memory.{ArrayKind, variable, in_memory};
+ghost use Rattle.dpl_nodes.specs.Faults.{of_domain};
+ghost use Rattle.dpl_nodes.specs.Promoted.{promoted_int, promoted_truth};
+ghost use Rattle.dpl_nodes.specs.Steps.{placed_leaf, over_items, array_declared};
+ghost use Rattle.dpl_steps.specs.Changes.{kept_word, for_array_at, shell_over};
+ghost use Rattle.dpl_steps.specs.Runs.{RunEnds, Names, Gathers};
+
+use crate::domain::for_array;
+use crate::halt::Halt;
+use crate::whole::within_budget;
+use dpl_contents::ArrayWords;
+use dpl_domain::Index;
+use dpl_nodes::{
+    ArrayDeclaration, DomainWord, Frame, Initial, Over, PromotedInt, PromotedTruth, Spot, Trap,
+};
+use dpl_values::domain::{coordinate, sized};
+use dpl_values::expression::literal;
+use dpl_values::{
+    domain_value, int_domain, promoted_int_value, promoted_truth_value, range_value, truth_domain,
+};
+
+// The domain that stands between an array's brackets.
+fn domain_over(over: &Over<'_>, from: &Spot, frame: &Frame<'_>) -> Result<DomainWord, Trap>
+    ensures { domain_of frame.now.limits in_memory from.now (over_items over.now) frame.now.memory ≡ of_domain result }
+{
+    match over {
+        Over::Ranges(ranges) => literal(from, ranges, frame),
+        Over::Domain(d) => small(domain_value(d, frame)?),
+        Over::HiddenDomain(d) => small(domain_value(d, frame)?),
+        Over::HiddenRange(r) => {
+            let range = range_value(r, frame)?;
+            sized(from, DomainWord::new(&[range]))
+        }
+    }
+}
+
+// A domain, which never has too many indices.
+fn small(domain: DomainWord) -> Result<DomainWord, Trap>
+    ensures is { result ≡ Ok domain }
+    ensures small { too_many domain ≡ false }
+{
+    // Nothing is read here: that the domain is small enough is a clause of this call.
+    let _ = domain.size();
+    Ok(domain)
+}
+
+// What is evaluated at each index of an array.
+trait Elements {
+    ghost use Rattle.std.specs.Prelude.{◌≡◌, Result};
+    ghost use Rattle.dpl_language.specs.Values.{Value, Index, Fault};
+    ghost use Rattle.dpl_language.specs.Environment.{Limits};
+    ghost use Rattle.dpl_memory.specs.Memory.{Memory};
+    ghost use Rattle.dpl_steps.specs.Changes.{kept_word};
+
+    ghost element: { Self → Limits → Memory → Index → Result Value Fault };
+
+    fn word(&self, index: &Index, frame: &Frame<'_>) -> Result<i64, Trap>
+        ensures { kept_word (element self.now frame.now.limits frame.now.memory index.now) ≡ result };
+}
+
+impl<'t> Elements for PromotedInt<'t> {
+    ghost element = { λ e limits s t. value_of limits in_memory (promoted_int EachTurn e) (Some t) s };
+
+    fn word(&self, index: &Index, frame: &Frame<'_>) -> Result<i64, Trap> {
+        promoted_int_value(self, index, frame)
+    }
+}
+
+impl<'t> Elements for PromotedTruth<'t> {
+    ghost element = { λ e limits s t. value_of limits in_memory (promoted_truth EachTurn e) (Some t) s };
+
+    fn word(&self, index: &Index, frame: &Frame<'_>) -> Result<i64, Trap> {
+        Ok(i64::from(promoted_truth_value(self, index, frame)?.get()))
+    }
+}
+
+// The word of an index, in whose turn its fault is.
+fn named<E: Elements>(e: &E, index: Index, frame: &Frame<'_>) -> Result<i64, Halt>
+    ensures { Names result (naming_value index (E.element e.now frame.now.limits frame.now.memory index)) }
+{
+    match e.word(&index, frame) {
+        Ok(word) => Ok(word),
+        Err(trap) => Err(Halt::from(trap).in_turn(index)),
+    }
+}
+
+// The array over a domain that has at each index what is evaluated there.
+fn gathered<E: Elements>(e: &E, domain: DomainWord, frame: &Frame<'_>) -> Result<ArrayWords, Halt>
+    requires { too_large domain ≡ false }
+    ensures { Gathers result domain (gathered (E.element e.now frame.now.limits frame.now.memory) (indices_in domain)) }
+{
+    // Nothing is read here: that no index is listed twice is a clause of this call.
+    let _ = domain.domain();
+    let mut array = frame.zeros(domain)?;
+    let mut indices = domain.cursor();
+    while let Some(index) = indices.next() {
+        let word = named(e, index, frame)?;
+        array.set(index, word);
+    }
+    Ok(array)
+}
+
+// An array of ints with an initial value.
+fn declare_ints(
+    d: &ArrayDeclaration<'_>,
+    at: &Spot,
+    e: &PromotedInt<'_>,
+    domain: DomainWord,
+    frame: &mut Frame<'_>,
+) -> Result<(), Halt>
+    requires { too_large domain ≡ false }
+    ensures ends { (done : Deeds) → RunEnds result frame.new.memory done (array_of_item frame.old.limits in_memory (placed_leaf d.now.at.now (variable (ArrayKind IntKind) d.now.slot)) (shell_over d.now.over IntKind domain) at.now (One (promoted_int EachTurn e.now)) (whole_in frame.old.limits in_memory (promoted_int EachTurn e.now) frame.old.memory) frame.old.memory done) }
+    ensures limits { frame.new.limits ≡ frame.old.limits }
+{
+    match int_domain(e, frame) {
+        None => {
+            let word = promoted_int_value(e, &coordinate(0), frame)?;
+            within_budget(&domain, at, frame)?;
+            frame.declare_array(d.slot, domain, word)?;
+            Ok(())
+        }
+        Some(_) => {
+            within_budget(&domain, at, frame)?;
+            let array = gathered(e, domain, frame)?;
+            frame.keep(d.slot, array);
+            Ok(())
+        }
+    }
+}
+
+// The same of truth values.
+fn declare_truths(
+    d: &ArrayDeclaration<'_>,
+    at: &Spot,
+    e: &PromotedTruth<'_>,
+    domain: DomainWord,
+    frame: &mut Frame<'_>,
+) -> Result<(), Halt>
+    requires { too_large domain ≡ false }
+    ensures ends { (done : Deeds) → RunEnds result frame.new.memory done (array_of_item frame.old.limits in_memory (placed_leaf d.now.at.now (variable (ArrayKind BoolKind) d.now.slot)) (shell_over d.now.over BoolKind domain) at.now (One (promoted_truth EachTurn e.now)) (whole_in frame.old.limits in_memory (promoted_truth EachTurn e.now) frame.old.memory) frame.old.memory done) }
+    ensures limits { frame.new.limits ≡ frame.old.limits }
+{
+    match truth_domain(e, frame) {
+        None => {
+            let value = promoted_truth_value(e, &coordinate(0), frame)?.get();
+            within_budget(&domain, at, frame)?;
+            frame.declare_array(d.slot, domain, i64::from(value))?;
+            Ok(())
+        }
+        Some(_) => {
+            within_budget(&domain, at, frame)?;
+            let array = gathered(e, domain, frame)?;
+            frame.keep(d.slot, array);
+            Ok(())
+        }
+    }
+}
+
+// An array of zeros, or of `false` everywhere.
+fn declare_zeros(
+    d: &ArrayDeclaration<'_>,
+    domain: DomainWord,
+    frame: &mut Frame<'_>,
+) -> Result<(), Halt>
+    requires { too_large domain ≡ false }
+    ensures ends { (k : Kind) (done : Deeds) → RunEnds result frame.new.memory done (array_of frame.old.limits in_memory (placed_leaf d.now.at.now (variable (ArrayKind k) d.now.slot)) (shell_over d.now.over k domain) None frame.old.memory done) }
+    ensures limits { frame.new.limits ≡ frame.old.limits }
+{
+    frame.declare_array(d.slot, domain, 0)?;
+    Ok(())
+}
+
+// A domain that an array may have.
+fn sized_for_array(at: &Spot, domain: DomainWord) -> Result<DomainWord, Trap>
+    ensures is { result ≡ for_array_at at.now domain }
+    ensures small { IfOk result (λ d. too_large d ≡ false) }
+{
+    for_array(at, domain)
+}
+
+/// The declaration of an array.
+///
+/// # Errors
+/// The fault of its domain; `F8` at the name for more than 2^24 elements; the fault of an initial value that is evaluated
+/// once; `F5` at `=` for more elements than the budget; the fault of an index, in its turn; out of memory.
+#[inline(never)]
+pub(crate) fn declare_array(d: &ArrayDeclaration<'_>, frame: &mut Frame<'_>) -> Result<(), Halt>
+    ensures ends { (done : Deeds) → RunEnds result frame.new.memory done (exec frame.old.limits in_memory (array_declared d.now) frame.old.memory done) }
+    ensures limits { frame.new.limits ≡ frame.old.limits }
+{
+    let domain = domain_over(&d.over, d.from, frame)?;
+    let domain = sized_for_array(d.at, domain)?;
+    match d.initial {
+        Initial::Zeros => declare_zeros(d, domain, frame),
+        Initial::Falses => declare_zeros(d, domain, frame),
+        Initial::Ints(at, e) => declare_ints(d, at, e, domain, frame),
+        Initial::Truths(at, e) => declare_truths(d, at, e, domain, frame),
+    }
+}

@@ -1,0 +1,139 @@
+// Elements of arrays: one is assigned by its index, and the old value goes into the operators but `=`.
+// The index is tested before the divisor.
+
+ghost use Rattle.std.specs.Prelude.{◌≡◌, ◌≢◌, true, pos, None};
+ghost use Rattle.dpl_syntax.specs.declared.place.Place.{Place};
+ghost use Rattle.dpl_language.specs.Tree.{IntKind, BoolKind, Set};
+ghost use Rattle.dpl_language.specs.Values.{Int, Truth};
+ghost use Rattle.dpl_language.specs.Arithmetic.{assigned, assign_divides};
+ghost use Rattle.dpl_language.specs.Outcome.{Deeds};
+ghost use Rattle.dpl_language.specs.Assignments.{change};
+ghost use Rattle.dpl_language.specs.Statements.{exec};
+ghost use Rattle.dpl_lowered.specs.Shapes.{nowhere};
+ghost use Rattle.dpl_memory.specs.Memory.{in_memory};
+ghost use Rattle.dpl_tree.specs.Words.{assign_view};
+ghost use Rattle.dpl_nodes.specs.Typed.{int_view, truth_view};
+ghost use Rattle.dpl_nodes.specs.Steps.{array_leaf, element_set};
+ghost use Rattle.dpl_steps.specs.Changes.{memory_after, ends_as, signed};
+
+use dpl_domain::Index;
+use dpl_nodes::{ArrayName, BoolExpr, FaultCode, Frame, IndexExpr, IntExpr, Spot, Trap};
+use dpl_tree::Assign;
+use dpl_values::number::{difference, product, quotient, remainder, sum};
+use dpl_values::{index_value, int_value, truth_value};
+
+// Whether an operator divides.
+#[inline(always)]
+fn divides(op: Assign) -> bool
+    ensures { result ≡ assign_divides (assign_view op) }
+{
+    match op {
+        Assign::SetDivide | Assign::SetRemainder => true,
+        Assign::Set
+        | Assign::SetAdd
+        | Assign::SetSubtract
+        | Assign::SetMultiply
+        | Assign::SetReduce => false,
+    }
+}
+
+// What an operator makes of an element. Outside foralls, and of an element always, `reduce=` is `=`.
+#[inline(always)]
+fn assigned(op: Assign, old: i64, value: i64) -> i64
+    requires { assign_divides (assign_view op) ≡ true → value ≢ pos 0 }
+    ensures { Int result ≡ assigned (assign_view op) None (Int old) (Int value) }
+{
+    match op {
+        Assign::Set | Assign::SetReduce => value,
+        Assign::SetAdd => sum(old, value),
+        Assign::SetSubtract => difference(old, value),
+        Assign::SetMultiply => product(old, value),
+        Assign::SetDivide => quotient(old, value),
+        Assign::SetRemainder => remainder(old, value),
+    }
+}
+
+/// An element is changed.
+///
+/// # Errors
+/// `F1` at the array's name for an index outside it; `F2` at the operator for a division by zero.
+pub(crate) fn change(
+    name: &ArrayName<'_>,
+    op: Assign,
+    sign: &Spot,
+    index: Index,
+    value: i64,
+    frame: &mut Frame<'_>,
+) -> Result<(), Trap>
+    ensures ends { (done : Deeds) → change frame.old.limits in_memory (array_leaf IntKind name.now) (signed (assign_view op) sign.now) index (Int value) frame.old.memory done ≡ ends_as (memory_after result frame.new.memory) done }
+    ensures limits { frame.new.limits ≡ frame.old.limits }
+{
+    let Some(old) = frame.element(name.slot, index) else {
+        return Err(Trap::new(FaultCode::Outside, *name.at));
+    };
+    if divides(op) && value == 0 {
+        return Err(Trap::new(FaultCode::ZeroDivisor, *sign));
+    }
+    frame.put(name.slot, index, assigned(op, old, value));
+    Ok(())
+}
+
+/// An element that is a truth value is set.
+///
+/// # Errors
+/// `F1` at the array's name for an index outside it.
+pub(crate) fn change_truth(
+    name: &ArrayName<'_>,
+    index: Index,
+    value: bool,
+    frame: &mut Frame<'_>,
+) -> Result<(), Trap>
+    ensures ends { (at : Place) (done : Deeds) → change frame.old.limits in_memory (array_leaf BoolKind name.now) (signed Set at) index (Truth value) frame.old.memory done ≡ ends_as (memory_after result frame.new.memory) done }
+    ensures limits { frame.new.limits ≡ frame.old.limits }
+{
+    if frame.put(name.slot, index, i64::from(value)) {
+        Ok(())
+    } else {
+        Err(Trap::new(FaultCode::Outside, *name.at))
+    }
+}
+
+/// An assignment to an element: the right side, then the indices, then the change.
+///
+/// # Errors
+/// The fault of a part; `F1` at the array's name; `F2` at the operator.
+#[inline(never)]
+pub(crate) fn set_element(
+    name: &ArrayName<'_>,
+    t: &IndexExpr<'_>,
+    op: Assign,
+    sign: &Spot,
+    e: &IntExpr<'_>,
+    frame: &mut Frame<'_>,
+) -> Result<(), Trap>
+    ensures ends { (done : Deeds) → exec frame.old.limits in_memory (element_set (array_leaf IntKind name.now) t.now (assign_view op) sign.now (int_view e.now)) frame.old.memory done ≡ ends_as (memory_after result frame.new.memory) done }
+    ensures limits { frame.new.limits ≡ frame.old.limits }
+{
+    let value = int_value(e, frame)?;
+    let index = index_value(t, frame)?;
+    change(name, op, sign, index, value, frame)
+}
+
+/// The same of an element that is a truth value.
+///
+/// # Errors
+/// The fault of a part; `F1` at the array's name.
+#[inline(never)]
+pub(crate) fn set_truth_element(
+    name: &ArrayName<'_>,
+    t: &IndexExpr<'_>,
+    e: &BoolExpr<'_>,
+    frame: &mut Frame<'_>,
+) -> Result<(), Trap>
+    ensures ends { (done : Deeds) → exec frame.old.limits in_memory (element_set (array_leaf BoolKind name.now) t.now Set nowhere (truth_view e.now)) frame.old.memory done ≡ ends_as (memory_after result frame.new.memory) done }
+    ensures limits { frame.new.limits ≡ frame.old.limits }
+{
+    let value = truth_value(e, frame)?.get();
+    let index = index_value(t, frame)?;
+    change_truth(name, index, value, frame)
+}
