@@ -9,7 +9,7 @@ mod sentence;
 
 use crate::ended::Ended;
 use cut::line_at;
-use dpl_run::{Fault, Outcome, Place, Refusal};
+use dpl_run::{Fault, Outcome, Place, Refusal, Turn};
 use sentence::{fault_sentence, refusal_sentence};
 use std::alloc::{AllocError, Global};
 
@@ -49,14 +49,22 @@ fn of_refusal(
     Ok(lines)
 }
 
+// `, in turn 2,1`, or nothing.
+fn turn_told(alloc: Global, turn: Turn) -> Result<String, AllocError> {
+    match turn {
+        Turn::Absent => Ok(String::new(alloc)),
+        Turn::Line(i) => format!(in alloc; ", in turn {i}"),
+        Turn::Plane(i, j) => format!(in alloc; ", in turn {i},{j}"),
+        Turn::Space(i, j, k) => format!(in alloc; ", in turn {i},{j},{k}"),
+    }
+}
+
 // `squares.chpl:4:13: sentence, in turn 3`, and the line.
 fn of_fault(alloc: Global, name: &str, text: &[u8], fault: &Fault) -> Result<Vec<u8>, AllocError> {
     let at = fault.at;
     let sentence = fault_sentence(fault.code);
-    let told = match fault.turn {
-        Some(turn) => format!(in alloc; "{name}:{at}: {sentence}, in turn {turn}\n")?,
-        None => format!(in alloc; "{name}:{at}: {sentence}\n")?,
-    };
+    let turn = turn_told(alloc, fault.turn)?;
+    let told = format!(in alloc; "{name}:{at}: {sentence}{turn}\n")?;
     let mut lines = Vec::from_slice(alloc, told.as_bytes())?;
     push_line(text, at, &mut lines)?;
     Ok(lines)

@@ -1,6 +1,6 @@
 -- Each text comes to at most one outcome, and one list of bytes is written of it.
 -- It is a program or has a refusal, and has no two of them.
-use Rattle.std.proofs.Common.{◌≡◌, ℕ, ℤ, List, [], ◌∷◌, ◌++◌, Option, Some, None, refl, sym, ap, ◌∙◌, subst}
+use Rattle.std.proofs.Common.{◌≡◌, ℕ, ℤ, List, [], ◌∷◌, ◌++◌, refl, sym, ap, ◌∙◌, subst}
 use Rattle.dpl_syntax.specs.declared.refusal.Refusal.{Refusal}
 use Rattle.dpl_syntax.specs.Lines.{refusal_text}
 use Rattle.dpl_history.specs.declared.history.Event.{Event}
@@ -11,6 +11,8 @@ use Rattle.dpl_language.specs.Outcome.{Outcome as Meant, Done as DoneAt, Stop as
 use Rattle.dpl_language.specs.Names.{Text, State}
 use Rattle.dpl_nodes.specs.declared.fault.FaultCode.{FaultCode as CodeNode}
 use Rattle.dpl_nodes.specs.declared.fault.FaultCode.TheVariants as code
+use Rattle.dpl_nodes.specs.declared.fault.Turn.{Turn as TurnNode}
+use Rattle.dpl_nodes.specs.declared.fault.Turn.TheVariants as turn
 use Rattle.dpl_nodes.specs.declared.fault.Fault.{Fault}
 use Rattle.dpl_nodes.specs.Faults.{code_view, turn_view, fault_view}
 use Rattle.dpl_says.specs.Says.{run_of}
@@ -40,25 +42,29 @@ code_back-code_view code.NoLocale = refl
 code_back-code_view code.CellStuck = refl
 code_back-code_view code.ArrayTooLarge = refl
 
-abbrev first_index : List ℤ → Option ℤ
-first_index [] = None
-first_index (i ∷ is) = Some i
+abbrev coordinates_back : List ℤ → TurnNode
+coordinates_back [] = turn.Absent
+coordinates_back (i ∷ []) = turn.Line i
+coordinates_back (i ∷ j ∷ []) = turn.Plane i j
+coordinates_back (i ∷ j ∷ k ∷ is) = turn.Space i j k
 
-abbrev turn_back : Turn → Option ℤ
-turn_back InNone = None
-turn_back (InTurn t) = first_index t
-turn_back (InTask k) = None
+abbrev turn_back : Turn → TurnNode
+turn_back InNone = turn.Absent
+turn_back (InTurn t) = coordinates_back t
+turn_back (InTask k) = turn.Absent
 
-turn_back-turn_view : (o : Option ℤ) → turn_back (turn_view o) ≡ o
-turn_back-turn_view None = refl
-turn_back-turn_view (Some i) = refl
+turn_back-turn_view : (t : TurnNode) → turn_back (turn_view t) ≡ t
+turn_back-turn_view turn.Absent = refl
+turn_back-turn_view (turn.Line i) = refl
+turn_back-turn_view (turn.Plane i j) = refl
+turn_back-turn_view (turn.Space i j k) = refl
 
 fault_view-one : (f g : Fault) → fault_view f ≡ fault_view g → f ≡ g
 fault_view-one f g e =
     let code : f.code ≡ g.code = sym (code_back-code_view f.code) ∙ ap (λ h. code_back h.code) e ∙ code_back-code_view g.code in
     let at : f.at ≡ g.at = ap (λ h. h.at) e in
-    let turn : f.turn ≡ g.turn = sym (turn_back-turn_view f.turn) ∙ ap (λ h. turn_back h.turn) e ∙ turn_back-turn_view g.turn in
-    ap (λ c. record { code = c; at = f.at; turn = f.turn }) code ∙ ap (λ p. record { code = g.code; at = p; turn = f.turn }) at ∙ ap (λ t. record { code = g.code; at = g.at; turn = t }) turn
+    let same_turn : f.turn ≡ g.turn = sym (turn_back-turn_view f.turn) ∙ ap (λ h. turn_back h.turn) e ∙ turn_back-turn_view g.turn in
+    ap (λ c. record { code = c; at = f.at; turn = f.turn }) code ∙ ap (λ p. record { code = g.code; at = p; turn = f.turn }) at ∙ ap (λ t. record { code = g.code; at = g.at; turn = t }) same_turn
 
 -- ---- an end of the meaning is that of one outcome
 EndsAs-one : (m : Meant State) (o p : Outcome) → EndsAs m o → EndsAs m p → p ≡ o

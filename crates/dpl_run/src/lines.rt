@@ -1,13 +1,16 @@
 // The line that tells a fault or a refusal.
 // A fault's line begins on a line of its own.
 
-ghost use Rattle.std.specs.Prelude.{◌≡◌, ◌++◌, ◌∷◌, [], IfOk, OnOk, if◌then◌else◌};
+ghost use Rattle.std.specs.Prelude.{◌≡◌, ◌++◌, ◌∷◌, [], None, IfSome, IfOk, OnOk, if◌then◌else◌};
 ghost use Rattle.dpl_syntax.specs.Lines.{refusal_text};
 ghost use Rattle.dpl_language.specs.Program.{fault_code_text, fault_text, line_ended, turn_text};
+ghost use Rattle.dpl_language.specs.Values.{InNone, InTurn};
 ghost use Rattle.dpl_nodes.specs.Faults.{code_view, fault_view, turn_view};
 
-use dpl_nodes::{Fault, FaultCode};
+use dpl_domain::Index;
+use dpl_nodes::{Fault, FaultCode, Turn};
 use dpl_syntax::Refusal;
+use dpl_values::domain::{coordinate, plane, space};
 use std::alloc::{AllocError, Global};
 
 // Whether a text ends within a line.
@@ -36,13 +39,26 @@ fn code_text(code: FaultCode) -> &'static str
     }
 }
 
-// The turn that a fault names, or nothing.
-fn turn_text(alloc: Global, turn: Option<i64>) -> Result<String, AllocError>
-    ensures { IfOk result (λ text. text.bytes.items ≡ turn_text (turn_view turn)) }
+// The index of a turn, if there is one.
+fn index_of(turn: Turn) -> Option<Index>
+    ensures some { IfSome result (λ index. turn_view turn ≡ InTurn index) }
+    ensures none { result ≡ None → turn_view turn ≡ InNone }
 {
     match turn {
+        Turn::Absent => None,
+        Turn::Line(i) => Some(coordinate(i)),
+        Turn::Plane(i, j) => Some(plane(i, j)),
+        Turn::Space(i, j, k) => Some(space(i, j, k)),
+    }
+}
+
+// The turn that a fault names, or nothing.
+fn turn_text(alloc: Global, turn: Turn) -> Result<String, AllocError>
+    ensures { IfOk result (λ text. text.bytes.items ≡ turn_text (turn_view turn)) }
+{
+    match index_of(turn) {
         None => Ok(String::new(alloc)),
-        Some(i) => format!(in alloc; " in turn {i}"),
+        Some(index) => format!(in alloc; " in turn {index}"),
     }
 }
 
