@@ -1,0 +1,13 @@
+pub mod Items
+pub mod Evaluated
+pub mod OperatorKinds
+pub mod Names
+pub mod Chains
+pub mod Sights
+pub mod Suited
+pub mod Fits
+pub mod PartKinds
+pub mod BaseKinds
+pub mod Posts
+pub mod BehindBase
+pub mod Listed

@@ -1,0 +1,110 @@
+-- Names in sight, resolved: a name has the kind and the slot of its innermost declaration, and the next slot is no one's.
+-- Scopes that are opened, closed and added to are sights that are.
+use Rattle.std.proofs.Common.{◌≡◌, ◌≢◌, ℕ, suc, ◌+◌, ◌≤◌, Bool, true, false, List, [], ◌∷◌, ◌++◌, length, Option, Some, None, refl, sym, ap, ◌∙◌, subst, arith}
+use Rattle.std.specs.Prelude.{bytes_eq, if◌then◌else◌}
+use Rattle.std.proofs.lemmas.Slice.Eq.{bytes_eq-Decides}
+use Rattle.dpl_language.specs.Names.{Text}
+use Rattle.dpl_language.specs.Scopes.{PlainSort}
+use Rattle.dpl_rules.specs.Sights.{Declared, Scope, Scopes, find, or_else, lookup, type_declared, enter, add}
+use Rattle.dpl_scopes.specs.Slots.{count_in, next_slot_in, place_in, slot_or, slot_in}
+use Rattle.dpl_memory.specs.Memory.{Variable, VariableKind}
+use Rattle.dpl_memory.specs.Resolved.{Sighted, sighted, Known, known_in, or_known, innermost, IsUnusedIn, IsUnused, bind}
+use Rattle.dpl_typer.specs.Leaves.{kind_by, leaf_by, leaf_in, IsFound}
+use Rattle.dpl_typer.specs.Sights.{bound_at, frame_from, sight_of, IsPlainScope, ArePlainScopes}
+
+-- A NAME'S KIND AND SLOT
+abbrev known_of : Variable → Known
+known_of x = (x.kind, x.slot)
+
+known_in-append : (x : Text) (bs cs : List Sighted) → known_in x (bs ++ cs) ≡ or_known (known_in x bs) (known_in x cs)
+known_in-append x [] cs = refl
+known_in-append x (b ∷ bs) cs =
+    elim (bytes_eq x b.text) as (λ t. (if t then Some (b.kind, b.slot) else known_in x (bs ++ cs)) ≡ or_known (if t then Some (b.kind, b.slot) else known_in x bs) (known_in x cs))
+    [ true ↦ refl | false ↦ known_in-append x bs cs ]
+
+or_known-none : (o : Option Known) → or_known o None ≡ o
+or_known-none None = refl
+or_known-none (Some k) = refl
+
+-- what a declaration that is found is, by its type and its place
+abbrev known_found : Option Declared → Option ℕ → Option Known
+known_found None slot = None
+known_found (Some d) slot = Some (known_of (leaf_by (kind_by d.type) slot))
+
+-- the latest declaration is found, or else one before it
+latest_found : (begin : ℕ) (x : Text) (d : Declared) (ds : Scope) → find ds d.origin.name ≡ None → known_in x (frame_from begin ds) ≡ known_found (find ds x) (place_in ds x begin)
+    → (t : Bool) → bytes_eq x d.origin.name ≡ t
+    → or_known (known_in x (frame_from begin ds)) (if t then Some (known_of (leaf_by (kind_by d.type) (Some (length ds + begin)))) else None)
+    ≡ known_found (if t then Some d else find ds x) (if t then Some (length ds + begin) else place_in ds x begin)
+latest_found begin x d ds alone others true e =
+    let none : find ds x ≡ None = subst (λ y. find ds y ≡ None) (sym ((bytes_eq-Decides x d.origin.name).0 e)) alone in
+    ap (λ o. or_known o (Some (known_of (leaf_by (kind_by d.type) (Some (length ds + begin)))))) (others ∙ ap (λ o. known_found o (place_in ds x begin)) none)
+latest_found begin x d ds alone others false e = or_known-none (known_in x (frame_from begin ds)) ∙ others
+
+known_in-frame_from : (begin : ℕ) (x : Text) (ds : Scope) → IsPlainScope ds → known_in x (frame_from begin ds) ≡ known_found (find ds x) (place_in ds x begin)
+known_in-frame_from begin x [] h = refl
+known_in-frame_from begin x (d ∷ ds) h =
+    known_in-append x (frame_from begin ds) (sighted (bound_at d (length ds + begin)) PlainSort ∷ [])
+    ∙ latest_found begin x d ds h.1 (known_in-frame_from begin x ds h.2) (bytes_eq x d.origin.name) refl
+
+-- a declaration is found where its place is
+abbrev FoundAlike : Option Declared → Option ℕ → Type 0
+FoundAlike None None = Unit {0}
+FoundAlike None (Some n) = ⊥
+FoundAlike (Some d) None = ⊥
+FoundAlike (Some d) (Some n) = Unit {0}
+
+found_alike : (begin : ℕ) (x : Text) (ds : Scope) → FoundAlike (find ds x) (place_in ds x begin)
+found_alike begin x [] = tt
+found_alike begin x (d ∷ ds) =
+    elim (bytes_eq x d.origin.name) as (λ t. FoundAlike (if t then Some d else find ds x) (if t then Some (length ds + begin) else place_in ds x begin))
+    [ true ↦ tt | false ↦ found_alike begin x ds ]
+
+or_known-found : (f g : Option Declared) (p q : Option ℕ) → FoundAlike f p → or_known (known_found f p) (known_found g q) ≡ known_found (or_else f g) (slot_or p q)
+or_known-found None g None q h = refl
+or_known-found None g (Some n) q h = absurd h
+or_known-found (Some d) g None q h = absurd h
+or_known-found (Some d) g (Some n) q h = refl
+
+innermost-sight_of : (x : Text) (ss : Scopes) → ArePlainScopes ss → innermost x (sight_of ss) ≡ known_found (lookup ss x) (slot_in ss x)
+innermost-sight_of x [] h = refl
+innermost-sight_of x (s ∷ ss) h =
+    ap (λ o. or_known o (innermost x (sight_of ss))) (known_in-frame_from (suc (count_in ss)) x s h.0)
+    ∙ ap (or_known (known_found (find s x) (place_in s x (suc (count_in ss))))) (innermost-sight_of x ss h.1)
+    ∙ or_known-found (find s x) (lookup ss x) (place_in s x (suc (count_in ss))) (slot_in ss x) (found_alike (suc (count_in ss)) x s)
+
+known_found-kind : (o : Option Declared) (p : Option ℕ) (k : VariableKind) → kind_by (type_declared o) ≡ Some k → known_found o p ≡ Some (known_of (leaf_by (kind_by (type_declared o)) p))
+known_found-kind None p k e = absurd cc
+known_found-kind (Some d) p k e = refl
+
+-- a plain variable's name in sight has those of its leaf
+pub innermost-found : (x : Text) (ss : Scopes) → ArePlainScopes ss → IsFound ss x → innermost x (sight_of ss) ≡ Some ((leaf_in ss x).kind, (leaf_in ss x).slot)
+innermost-found x ss h (k, slot, kind, at) = innermost-sight_of x ss h ∙ known_found-kind (lookup ss x) (slot_in ss x) k kind
+
+-- THE NEXT SLOT
+IsUnusedIn-append : (slot : ℕ) (bs : List Sighted) (b : Sighted) → IsUnusedIn slot bs → slot ≢ b.slot → IsUnusedIn slot (bs ++ b ∷ [])
+IsUnusedIn-append slot [] b h n = (n, tt)
+IsUnusedIn-append slot (c ∷ bs) b h n = (h.0, IsUnusedIn-append slot bs b h.1 n)
+
+unused_frame : (slot begin : ℕ) (ds : Scope) → IsPlainScope ds → length ds + begin ≤ slot → IsUnusedIn slot (frame_from begin ds)
+unused_frame slot begin [] h le = tt
+unused_frame slot begin (d ∷ ds) h le =
+    let others : length ds + begin ≤ slot = omega (arith, le) in
+    IsUnusedIn-append slot (frame_from begin ds) (sighted (bound_at d (length ds + begin)) PlainSort) (unused_frame slot begin ds h.2 others)
+    (subst (λ o. slot ≢ (leaf_by o (Some (length ds + begin))).slot) (sym h.0.1) (λ e. omega (arith, le, e)))
+
+unused_sight : (slot : ℕ) (ss : Scopes) → ArePlainScopes ss → count_in ss ≤ slot → IsUnused slot (sight_of ss)
+unused_sight slot [] h le = tt
+unused_sight slot (s ∷ ss) h le =
+    let outer : count_in ss ≤ slot = omega (arith, le) in
+    (unused_frame slot (suc (count_in ss)) s h.0 le, unused_sight slot ss h.1 outer)
+
+pub unused_next : (ss : Scopes) → ArePlainScopes ss → IsUnused (next_slot_in ss) (sight_of ss)
+unused_next ss h = unused_sight (next_slot_in ss) ss h (omega arith)
+
+-- SCOPES
+pub sight_of-enter : (ss : Scopes) → sight_of (enter ss) ≡ [] ∷ sight_of ss
+sight_of-enter ss = refl
+
+pub sight_of-add : (d : Declared) (s : Scope) (ss : Scopes) → sight_of (add d (s ∷ ss)) ≡ bind (sighted (bound_at d (count_in (s ∷ ss))) PlainSort) (sight_of (s ∷ ss))
+sight_of-add d s ss = refl
