@@ -32,7 +32,10 @@ module _ {N G S : Type 0} (limits : Limits) (scoping : Scoping N G) (env : Envir
     puts = λ x items vs v g s1 s2 r f e h. ap (env.put_element x (index_of vs) v) r;
     declares = λ x c g s1 s2 r f h. ap (λ c. env.declare x c s1) (renamed_content-same c) ∙ ap (env.declare x c) r;
     gives = λ x g s1 s2 r f. ap (env.given x) r;
-    suited = λ x item v g s1 s2 r f e. held x (Plain v);
+    suited = λ x item v g s1 s2 r f w e. held x (Plain v);
+    suited_new = λ x item v g s1 s2 r f d e. held x (Plain v);
+    suited_element = λ x item v g s1 s2 r f e. held x (Plain v);
+    suited_once = λ x item v g s1 s2 r f w e. held x (Plain v);
     suited_turn = λ x item t v g s1 s2 r f w e. held x (Plain v);
     suited_initial = λ x over item t v g s1 s2 r f d e. held x (Plain v);
     changed = λ x op t old w g s1 s2 r f e h. held x (Plain (assigned op None old w));

@@ -22,7 +22,7 @@ use Rattle.dpl_language.specs.Loops.{within_budget, named_turn}
 use Rattle.dpl_language.specs.Writing.{or_zero, line_end, arguments_of, name_shown, shown, arguments_then, write}
 use Rattle.dpl_language.specs.Renamed.{renamed, renamed_expr, renamed_item, renamed_exprs, renamed_target, renamed_call, renamed_argument, renamed_write, renamed_read}
 use Rattle.dpl_language.specs.Scopes.{Scoping, items_in, fits_item, fits_exprs, fits_read, fits_side, fits_whole_side, side_for, suits_target, fits_target, fits_call, fits_shown, fits_arguments}
-use Rattle.dpl_language.specs.Agreement.{MayRead, MayBe, WasDomain, WasArray, Simulates, EndsAlike, RunAlike, AnswersAlike}
+use Rattle.dpl_language.specs.Agreement.{MayRead, MayBe, WasDomain, WasArray, WasPlain, WasOnce, Simulates, EndsAlike, RunAlike, AnswersAlike}
 use Rattle.dpl_language.proofs.RunsAlike.{All-every, with_value-alike, with_value-alike_by, unless-alike, within_budget-alike, named_turn-alike}
 use Rattle.dpl_language.proofs.RenamedParts.{item_read-renamed, bare_name-renamed, arguments_of-renamed}
 use Rattle.dpl_language.proofs.ExpressionsAlike.{items_of-in, fits_item-once, value_of-renamed, item_of-renamed, values_of-renamed, whole_item-renamed}
@@ -127,13 +127,13 @@ module _ {M N G S1 S2 : Type 0} (limits : Limits) (name : N → M) (scoping : Sc
       (All-every (λ t. RunAlike (R g) (R g) (named_turn a t) (named_turn b t)) (named_turn-alike (R g) a b p) (indices_in rs))
 
   assign_array-alike : (x : Placed N) (sign : AssignTree) (item : ItemTree N) (rs : List TextRange) (o : Option (List TextRange)) (g : G)
-      → scoping.assigns x.name sign.op g → WasArray second R x.name g → ((t : Index) → scoping.reads_at x.name t g × scoping.assigns_at x.name t g) → fits_whole_side scoping item g → scoping.suits x.name item g
+      → scoping.assigns x.name sign.op g → WasArray second R x.name g → (o ≡ None → WasOnce limits second R item g) → ((t : Index) → scoping.reads_at x.name t g × scoping.assigns_at x.name t g) → fits_whole_side scoping item g → scoping.suits x.name item g
       → RunAlike (R g) (R g) (assign_array limits first (renamed name x) sign (renamed_item name item) rs o) (assign_array limits second x sign item rs o)
-  assign_array-alike x sign item rs None g a was e f h s1 s2 done r =
+  assign_array-alike x sign item rs None g a was once e f h s1 s2 done r =
       evaluated-alike_by item g g _ _ (fits_item-once scoping [] item g (f.0 []), f.1)
       (λ w u1 u2 q m. turns_alike sign.at rs g (λ t. change limits first (renamed name x) sign t w) (λ t. change limits second x sign t w)
-      (λ t. change_whole-alike x sign t w g a (e t).0 (e t).1 (sim.suited x.name item w g u1 u2 q h m))) s1 s2 done r
-  assign_array-alike x sign item rs (Some arrays) g a was e f h s1 s2 done r =
+      (λ t. change_whole-alike x sign t w g a (e t).0 (e t).1 (sim.suited_once x.name item w g u1 u2 q h (once refl) m))) s1 s2 done r
+  assign_array-alike x sign item rs (Some arrays) g a was once e f h s1 s2 done r =
       turns_alike sign.at rs g
       (λ t s done. with_value (item_of limits first (renamed_item name item) (Some t) s) (change limits first (renamed name x) sign t) s done)
       (λ t s done. with_value (item_of limits second item (Some t) s) (change limits second x sign t) s done)
@@ -158,25 +158,26 @@ module _ {M N G S1 S2 : Type 0} (limits : Limits) (name : N → M) (scoping : Sc
       (redomained-alike x sign v g a was (too_large (ranges_in v) && first.has_arrays (name x.name) s1) s1 s2 done r))
 
   -- A PLAIN VARIABLE
-  assign_plain-alike : (x : Placed N) (sign : AssignTree) (item : ItemTree N) (g : G) → scoping.assigns x.name sign.op g → fits_side scoping item g → scoping.suits x.name item g
+  assign_plain-alike : (x : Placed N) (sign : AssignTree) (item : ItemTree N) (g : G) → scoping.assigns x.name sign.op g → WasPlain second R x.name g → fits_side scoping item g → scoping.suits x.name item g
       → RunAlike (R g) (R g) (assign_plain limits first (renamed name x) sign (renamed_item name item)) (assign_plain limits second x sign item)
-  assign_plain-alike x sign item g a f h =
+  assign_plain-alike x sign item g a was f h =
       evaluated-alike_by item g g _ _ f (λ v u1 u2 q m s1 s2 done r.
       with_value-alike_by (R g) (tested_divisor (assign_divides sign.op) sign.at v) _ _ _ s1 s2 done refl
       (λ w e.
-      let held = subst (λ v. scoping.holds x.name (Plain v)) (tested_divisor-same (assign_divides sign.op) sign.at v w e) (sim.suited x.name item v g u1 u2 q h m) in
+      let held = subst (λ v. scoping.holds x.name (Plain v)) (tested_divisor-same (assign_divides sign.op) sign.at v w e) (sim.suited x.name item v g u1 u2 q h was m) in
       (second.update x.name sign.op w s2, sim.updates x.name sign.op w g s1 s2 r a held, refl)))
 
   assign_name-alike : (x : Placed N) (sign : AssignTree) (item : ItemTree N) (o : Option (List TextRange)) (b : Bool) (g : G)
-      → scoping.assigns x.name sign.op g → ((rs : List TextRange) → o ≡ Some rs → WasArray second R x.name g) → (b ≡ true → WasDomain second R x.name g) → ((t : Index) → scoping.reads_at x.name t g × scoping.assigns_at x.name t g) → fits_whole_side scoping item g → scoping.suits x.name item g
+      → scoping.assigns x.name sign.op g → ((rs : List TextRange) → o ≡ Some rs → WasArray second R x.name g) → (o ≡ None → WasPlain second R x.name g) → (b ≡ true → WasDomain second R x.name g) → ((t : Index) → scoping.reads_at x.name t g × scoping.assigns_at x.name t g) → fits_whole_side scoping item g → scoping.suits x.name item g
       → RunAlike (R g) (R g) (assign_name limits first (renamed name x) sign (renamed_item name item) o b) (assign_name limits second x sign item o b)
-  assign_name-alike x sign item (Some rs) b g a whole was e f h s1 s2 done r =
+  assign_name-alike x sign item (Some rs) b g a whole plain was e f h s1 s2 done r =
       subst (λ o. EndsAlike (R g) (assign_array limits first (renamed name x) sign (renamed_item name item) rs (whole_item limits first (renamed_item name item) s1) s1 done)
       (assign_array limits second x sign item rs o s2 done))
       (whole_item-renamed limits name scoping first second R sim item (Some []) g s1 s2 r (f.0 []))
-      (assign_array-alike x sign item rs (whole_item limits first (renamed_item name item) s1) g a (whole rs refl) e f h s1 s2 done r)
-  assign_name-alike x sign item None true g a whole was e f h s1 s2 done r = assign_domain-alike x sign item g a (was refl) (fits_item-once scoping [] item g (f.0 []), f.1) s1 s2 done r
-  assign_name-alike x sign item None false g a whole was e f h s1 s2 done r = assign_plain-alike x sign item g a (fits_item-once scoping [] item g (f.0 []), f.1) h s1 s2 done r
+      (assign_array-alike x sign item rs (whole_item limits first (renamed_item name item) s1) g a (whole rs refl)
+      (λ o. (s1, s2, r, sym (whole_item-renamed limits name scoping first second R sim item (Some []) g s1 s2 r (f.0 [])) ∙ o)) e f h s1 s2 done r)
+  assign_name-alike x sign item None true g a whole plain was e f h s1 s2 done r = assign_domain-alike x sign item g a (was refl) (fits_item-once scoping [] item g (f.0 []), f.1) s1 s2 done r
+  assign_name-alike x sign item None false g a whole plain was e f h s1 s2 done r = assign_plain-alike x sign item g a (plain refl) (fits_item-once scoping [] item g (f.0 []), f.1) h s1 s2 done r
 
   pub assign-alike : (target : TargetTree N) (sign : AssignTree) (item : ItemTree N) (g : G) → fits_target scoping target sign.op g → side_for scoping target item g → suits_target scoping target item g
       → RunAlike (R g) (R g) (assign limits first (renamed_target name target) sign (renamed_item name item)) (assign limits second target sign item)
@@ -187,9 +188,10 @@ module _ {M N G S1 S2 : Type 0} (limits : Limits) (name : N → M) (scoping : Sc
       (sim.domain_targets x.name sign.op g s1 s2 r a.0)
       (assign_name-alike x sign item (array_domain (first.get (name x.name) s1)) (is_domain (first.get (name x.name) s1)) g a.0
       (λ rs e. (s1, s2, r, (rs, sym (sim.whole_targets x.name sign.op g s1 s2 r a.0) ∙ e)))
+      (λ e. (s1, s2, r, sym (sim.whole_targets x.name sign.op g s1 s2 r a.0) ∙ e))
       (λ e. (s1, s2, r, sym (sim.domain_targets x.name sign.op g s1 s2 r a.0) ∙ e)) a.1 f h s1 s2 done r))
   assign-alike (Element x shape from es upto) sign item g a f h s1 s2 done r =
-      evaluated-alike_by item g g _ _ f (λ w u1 u2 q m. change_element-alike x sign es w g a.0 a.1 a.2 a.3 (sim.suited x.name item w g u1 u2 q h m)) s1 s2 done r
+      evaluated-alike_by item g g _ _ f (λ w u1 u2 q m. change_element-alike x sign es w g a.0 a.1 a.2 a.3 (sim.suited_element x.name item w g u1 u2 q h m)) s1 s2 done r
 
   -- A CELL'S CALL
   and_no_more-alike : (v : Value) (g : G) → RunAlike (R g) (R g) (and_no_more v) (and_no_more v)

@@ -16,7 +16,7 @@ use Rattle.dpl_language.specs.Expressions.{item_of, whole_item}
 use Rattle.dpl_language.specs.Declarations.{gathered, filled, Shell, array_with, type_of, declaring, initial_then, declare_with, array_of_item, array_of_init, array_of, declare_array, declare_typed, given_or, declare_by, declare}
 use Rattle.dpl_language.specs.Renamed.{renamed, renamed_item, renamed_items, renamed_array_type, renamed_type, renamed_init, renamed_initial, renamed_declare, renamed_content}
 use Rattle.dpl_language.specs.Scopes.{Sort, PlainSort, ArraySort, CellSort, sort_of, sort_by, Scoping, side_by, fits_items, fits_side, fits_whole_side, fits_type, fits_init, fits_initial, fits_given, holds_each, holds_arrays, suits_elements, suits_array, suits_init, suits_initial, suits_declared, fits_declare}
-use Rattle.dpl_language.specs.Agreement.{Simulates, EndsAlike, RunAlike}
+use Rattle.dpl_language.specs.Agreement.{WasOnce, Simulates, EndsAlike, RunAlike}
 use Rattle.dpl_language.proofs.RunsAlike.{All-every, with_ok-same, with_value-alike, with_value-alike_by, unless-alike}
 use Rattle.dpl_language.proofs.RenamedParts.{declared_over-renamed, type_of-renamed}
 use Rattle.dpl_language.proofs.ExpressionsAlike.{fits_item-once, item_of-renamed, domain_of-renamed, whole_item-renamed}
@@ -49,7 +49,7 @@ module _ {M N G S1 S2 : Type 0} (limits : Limits) (name : N → M) (scoping : Sc
       (initial_then limits second i (λ v. declaring limits second x (Plain v)))
   plain_init-alike x (ItemInit item mapped) g f d h s1 s2 done r =
       evaluated-alike_by limits name scoping first second R sim item g (scoping.add x.name PlainSort g) _ _ f
-      (λ v u1 u2 q m. declaring-alike x (Plain v) PlainSort g refl d (sim.suited x.name item v g u1 u2 q h m)) s1 s2 done r
+      (λ v u1 u2 q m. declaring-alike x (Plain v) PlainSort g refl d (sim.suited_new x.name item v g u1 u2 q h d m)) s1 s2 done r
   plain_init-alike x (CreateInit c) g f d h s1 s2 done r =
       initial_then-alike (CreateInit c) g (scoping.add x.name PlainSort g) _ _ f (λ v. declaring-alike x (Plain v) PlainSort g refl d (h (Plain v) refl)) s1 s2 done r
 
@@ -95,14 +95,14 @@ module _ {M N G S1 S2 : Type 0} (limits : Limits) (name : N → M) (scoping : Sc
       by (Ok v) h (Err f) hs e = cc
       by (Err f) h q hs e = cc
 
-  array_of_item-alike : (x : Placed N) (a : Shell N) (at : Place) (item : ItemTree N) (o : Option (List TextRange)) (g : G) → fits_whole_side scoping item g → scoping.declares x.name (ArraySort a.over) g → HoldsArray x a → scoping.suits x.name item g
+  array_of_item-alike : (x : Placed N) (a : Shell N) (at : Place) (item : ItemTree N) (o : Option (List TextRange)) (g : G) → fits_whole_side scoping item g → scoping.declares x.name (ArraySort a.over) g → HoldsArray x a → scoping.suits x.name item g → (o ≡ None → WasOnce limits second R item g)
       → RunAlike (R g) (R (scoping.add x.name (ArraySort a.over) g)) (array_of_item limits first (renamed name x) (renamed_shell a) at (renamed_item name item) o) (array_of_item limits second x a at item o)
-  array_of_item-alike x a at item None g f d h k s1 s2 done r =
+  array_of_item-alike x a at item None g f d h k once s1 s2 done r =
       evaluated-alike_by limits name scoping first second R sim item g (scoping.add x.name (ArraySort a.over) g) _ _ (fits_item-once scoping [] item g (f.0 []), f.1)
       (λ v u1 u2 q m. unless-alike (nat_lt limits.budget (size_in a.ranges)) (fault Budget at) (R g) (R (scoping.add x.name (ArraySort a.over) g)) _ _
       (declaring-alike x (array_with a (filled v a.ranges)) (ArraySort a.over) g refl d
-      (h a.ranges (filled v a.ranges) (filled-held x v a.ranges (sim.suited x.name item v g u1 u2 q k m))))) s1 s2 done r
-  array_of_item-alike x a at item (Some arrays) g f d h k s1 s2 done r =
+      (h a.ranges (filled v a.ranges) (filled-held x v a.ranges (sim.suited_once x.name item v g u1 u2 q k (once refl) m))))) s1 s2 done r
+  array_of_item-alike x a at item (Some arrays) g f d h k once s1 s2 done r =
       unless-alike (nat_lt limits.budget (size_in a.ranges)) (fault Budget at) (R g) (R (scoping.add x.name (ArraySort a.over) g))
       (λ s done. with_value (gathered (λ t. item_of limits first (renamed_item name item) (Some t) s) (indices_in a.ranges)) (λ vs. declaring limits first (renamed name x) (array_with (renamed_shell a) vs)) s done)
       (λ s done. with_value (gathered (λ t. item_of limits second item (Some t) s) (indices_in a.ranges)) (λ vs. declaring limits second x (array_with a vs)) s done)
@@ -118,7 +118,8 @@ module _ {M N G S1 S2 : Type 0} (limits : Limits) (name : N → M) (scoping : Sc
       subst (λ o. EndsAlike (R (scoping.add x.name (ArraySort a.over) g)) (array_of_init limits first (renamed name x) (renamed_shell a) at (renamed_init name (ItemInit item mapped)) s1 done)
       (array_of_item limits second x a at item o s2 done))
       (whole_item-renamed limits name scoping first second R sim item (Some []) g s1 s2 r (f.0 []))
-      (array_of_item-alike x a at item (whole_item limits first (renamed_item name item) s1) g f d h k s1 s2 done r)
+      (array_of_item-alike x a at item (whole_item limits first (renamed_item name item) s1) g f d h k
+      (λ o. (s1, s2, r, sym (whole_item-renamed limits name scoping first second R sim item (Some []) g s1 s2 r (f.0 [])) ∙ o)) s1 s2 done r)
   array_of_init-alike x a at (CreateInit c) g f d h k s1 s2 done r =
       declaring-alike x (array_with a (filled (default a.kind) a.ranges)) (ArraySort a.over) g refl d
       (h a.ranges (filled (default a.kind) a.ranges) (filled-held x (default a.kind) a.ranges k)) s1 s2 done r

@@ -25,6 +25,7 @@ anything = record {
   gives = λ x g. Unit {0};
   holds = λ x c. Unit {0};
   suits = λ x item g. Unit {0};
+  suits_element = λ x item g. Unit {0};
   turns = λ x item g. Unit {0};
   intends = λ is g. Unit {0};
   coforalls = λ g. Unit {0};

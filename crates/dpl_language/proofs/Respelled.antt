@@ -284,7 +284,10 @@ module _ (f : Text → Text) (same : (x y : Text) → bytes_eq (f x) (f y) ≡ b
     declares = λ x c g s1 s2 r a h. then_so (by_name.declare (f x) (respelled c)) (by_name.declare x c)
         (λ s. ap (λ t. record (respelled_state s) { store = t }) (declare_in-respelled x c s.store)) s1 s2 r;
     gives = λ x g s1 s2 r a. ap (by_name.given (f x)) r ∙ paired-sets x s2.sets;
-    suited = λ x item v g s1 s2 r a e. tt;
+    suited = λ x item v g s1 s2 r a w e. tt;
+    suited_new = λ x item v g s1 s2 r a d e. tt;
+    suited_element = λ x item v g s1 s2 r a e. tt;
+    suited_once = λ x item v g s1 s2 r a w e. tt;
     suited_turn = λ x item t v g s1 s2 r f w e. tt;
     suited_initial = λ x over item t v g s1 s2 r f d e. tt;
     changed = λ x op t old w g s1 s2 r f e h. tt;

@@ -5,11 +5,11 @@ use Rattle.dpl_language.specs.Tree.{ItemTree, Stmts}
 use Rattle.dpl_language.specs.Values.{Index, index_of, array_domain, is_domain}
 use Rattle.dpl_language.specs.Outcome.{Deeds, Outcome, Done, Stop, Waits}
 use Rattle.dpl_language.specs.Environment.{Environment, Limits}
-use Rattle.dpl_language.specs.Expressions.{item_of}
+use Rattle.dpl_language.specs.Expressions.{item_of, whole_item}
 use Rattle.dpl_language.specs.Statements.{exec_all}
 use Rattle.dpl_language.specs.Renamed.{renamed_item, renamed_stmts, renamed_content, renamed_intents}
 use Rattle.dpl_language.specs.Agreement.{AnswersAlike, Simulates, EndsAlike}
-use Rattle.dpl_language.proofs.ExpressionsAlike.{item_of-renamed}
+use Rattle.dpl_language.proofs.ExpressionsAlike.{item_of-renamed, whole_item-renamed}
 use Rattle.dpl_language.proofs.FreeNames.{anything, anything-lawful, item_fits, stmts_fit}
 use Rattle.dpl_language.proofs.Agreement.{exec_all-alike}
 use Rattle.dpl_language.proofs.AgreementWithItself.{answers_itself}
@@ -55,7 +55,10 @@ module _ {M N S : Type 0} (limits : Limits) (f : N → M) (env : Environment M S
     puts = λ x items vs v g s1 s2 r a e h. ap (env.put_element (f x) (index_of vs) v) r;
     declares = λ x c g s1 s2 r a h. ap (env.declare (f x) (renamed_content f c)) r;
     gives = λ x g s1 s2 r a. ap (env.given (f x)) r;
-    suited = λ x item v g s1 s2 r a e. tt;
+    suited = λ x item v g s1 s2 r a w e. tt;
+    suited_new = λ x item v g s1 s2 r a d e. tt;
+    suited_element = λ x item v g s1 s2 r a e. tt;
+    suited_once = λ x item v g s1 s2 r a w e. tt;
     suited_turn = λ x item t v g s1 s2 r f w e. tt;
     suited_initial = λ x over item t v g s1 s2 r f d e. tt;
     changed = λ x op t old w g s1 s2 r f e h. tt;
@@ -82,6 +85,10 @@ module _ {M N S : Type 0} (limits : Limits) (f : N → M) (env : Environment M S
 
   pub item_of-through : (item : ItemTree N) (s : S) → item_of limits (through f env) item None s ≡ item_of limits env (renamed_item f item) None s
   item_of-through item s = item_of-through_at item None s
+
+  pub whole_item-through : (item : ItemTree N) (s : S) → whole_item limits (through f env) item s ≡ whole_item limits env (renamed_item f item) s
+  whole_item-through item s =
+      sym (whole_item-renamed limits f anything env (through f env) (λ g s1 s2. s1 ≡ s2) through_simulates item None tt s s refl (item_fits item None))
 
   pub exec_all-through : (ts : Stmts N) (s : S) (done : Deeds) → exec_all limits (through f env) ts s done ≡ exec_all limits env (renamed_stmts f ts) s done
   exec_all-through ts s done =

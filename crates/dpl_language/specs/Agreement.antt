@@ -12,10 +12,10 @@ use Rattle.dpl_language.specs.Ranges.{indices_in, loop_ranges, loop_value}
 use Rattle.dpl_language.specs.Outcome.{Deeds, Outcome, Done, Stop, Waits, Run}
 use Rattle.dpl_language.specs.Environment.{Content, Plain, Answer, Replied, Unanswered, Environment, Limits}
 use Rattle.dpl_language.specs.Phrases.{ReadTree, item_read}
-use Rattle.dpl_language.specs.Expressions.{item_of, items_of}
+use Rattle.dpl_language.specs.Expressions.{item_of, items_of, whole_item}
 use Rattle.dpl_language.specs.Assignments.{reply_value}
 use Rattle.dpl_language.specs.Renamed.{renamed_content, renamed_intents}
-use Rattle.dpl_language.specs.Scopes.{Scoping, IsLawful, ArraySort, sort_of}
+use Rattle.dpl_language.specs.Scopes.{Scoping, IsLawful, PlainSort, ArraySort, sort_of}
 
 -- the same answer to an operation, with related states behind it
 abbrev pub AnswersAlike : {S1 S2 : Type 0} → (S1 → S2 → Type 0) → Answer S1 → Answer S2 → Type 0
@@ -34,10 +34,17 @@ MayBe limits env item = MayRead limits env (item_read item) item
 abbrev pub WasDomain : {N G S1 S2 : Type 0} → Environment N S2 → (G → S1 → S2 → Type 0) → N → G → Type 0
 WasDomain {S1 = S1} {S2 = S2} second R x g = (s1 : S1) × (s2 : S2) × R g s1 s2 × (is_domain (second.get x s2) ≡ true)
 
--- in a state before, a name was a whole array
+-- in a state before, a name was a whole array, or was none
 abbrev pub WasArray : {N G S1 S2 : Type 0} → Environment N S2 → (G → S1 → S2 → Type 0) → N → G → Type 0
 WasArray {S1 = S1} {S2 = S2} second R x g =
     (s1 : S1) × (s2 : S2) × R g s1 s2 × ((rs : List TextRange) × (array_domain (second.get x s2) ≡ Some rs))
+
+abbrev pub WasPlain : {N G S1 S2 : Type 0} → Environment N S2 → (G → S1 → S2 → Type 0) → N → G → Type 0
+WasPlain {S1 = S1} {S2 = S2} second R x g = (s1 : S1) × (s2 : S2) × R g s1 s2 × (array_domain (second.get x s2) ≡ None)
+
+-- in a state before, a right side had no whole array in it
+abbrev pub WasOnce : {N G S1 S2 : Type 0} → Limits → Environment N S2 → (G → S1 → S2 → Type 0) → ItemTree N → G → Type 0
+WasOnce {S1 = S1} {S2 = S2} limits second R item g = (s1 : S1) × (s2 : S2) × R g s1 s2 × (whole_item limits second item s2 ≡ None)
 
 -- One law for each field of the record of variables, and some more by which a name holds what it may: an environment
 -- that keeps variables of each kind in its own way need agree only where each holds a value of its kind. R relates the
@@ -72,11 +79,18 @@ pub record Simulates {M N G S1 S2 : Type 0} (limits : Limits) (name : N → M) (
   pub declares : (x : N) (c : Content N) (g : G) (s1 : S1) (s2 : S2) → R g s1 s2 → scoping.declares x (sort_of c) g → scoping.holds x c
       → R (scoping.add x (sort_of c) g) (first.declare (name x) (renamed_content name c) s1) (second.declare x c s2)
   pub gives : (x : N) (g : G) (s1 : S1) (s2 : S2) → R g s1 s2 → scoping.gives x g → first.given (name x) s1 ≡ second.given x s2
-  -- a name holds what it may: a right side's value, those of a loop's turns, and what the command line gives
-  pub suited : (x : N) (item : ItemTree N) (v : Value) (g : G) (s1 : S1) (s2 : S2) → R g s1 s2 → scoping.suits x item g
+  -- a name holds what it may: a right side's value, assigned and as an initial value, those of a loop's turns, and what the
+  -- command line gives
+  pub suited : (x : N) (item : ItemTree N) (v : Value) (g : G) (s1 : S1) (s2 : S2) → R g s1 s2 → scoping.suits x item g → WasPlain second R x g
       → MayBe limits second item s2 v → scoping.holds x (Plain v)
-  -- the elements of a whole array too: a right side's value in a turn, assigned and as an initial value; and what an
-  -- assignment makes of an element
+  pub suited_new : (x : N) (item : ItemTree N) (v : Value) (g : G) (s1 : S1) (s2 : S2) → R g s1 s2 → scoping.suits x item g → scoping.declares x PlainSort g
+      → MayBe limits second item s2 v → scoping.holds x (Plain v)
+  pub suited_element : (x : N) (item : ItemTree N) (v : Value) (g : G) (s1 : S1) (s2 : S2) → R g s1 s2 → scoping.suits_element x item g
+      → MayBe limits second item s2 v → scoping.holds x (Plain v)
+  -- the elements of a whole array too: the value of a right side without a whole array, which is evaluated once; that of
+  -- another in a turn, assigned and as an initial value; and what an assignment makes of an element
+  pub suited_once : (x : N) (item : ItemTree N) (v : Value) (g : G) (s1 : S1) (s2 : S2) → R g s1 s2 → scoping.suits x item g → WasOnce limits second R item g
+      → MayBe limits second item s2 v → scoping.holds x (Plain v)
   pub suited_turn : (x : N) (item : ItemTree N) (t : Index) (v : Value) (g : G) (s1 : S1) (s2 : S2) → R g s1 s2 → scoping.suits x item g → WasArray second R x g
       → item_of limits second item (Some t) s2 ≡ Ok v → scoping.holds x (Plain v)
   pub suited_initial : (x : N) (over : Option N) (item : ItemTree N) (t : Index) (v : Value) (g : G) (s1 : S1) (s2 : S2) → R g s1 s2 → scoping.suits x item g → scoping.declares x (ArraySort over) g

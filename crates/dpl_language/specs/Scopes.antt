@@ -51,9 +51,11 @@ pub record Scoping (N G : Type 0) : Type 1 where
   -- a name may be declared with this content, and be assigned its value; of a whole array a value is one that each of its
   -- elements may be
   pub holds : N → Content N → Type 0
-  -- a name may hold the value of this right side, of a whole array in whatever turn; and in each turn of a loop over this
-  -- item the value of the turn
+  -- A name may hold the value of this right side; of a whole array each element that which it has in whatever turn, or once
+  -- where there is no whole array in it. An element of a name may hold its value. And in each turn of a loop over this item
+  -- a name may hold the value of the turn.
   pub suits : N → ItemTree N → G → Type 0
+  pub suits_element : N → ItemTree N → G → Type 0
   pub turns : N → ItemTree N → G → Type 0
   -- a forall with these reduce variables is run, and a coforall; and a body on a locale
   pub intends : List (N × Op) → G → Type 0
@@ -250,7 +252,7 @@ module _ {N G : Type 0} (scoping : Scoping N G) where
   -- a name may hold what is assigned to it, or to an element of it
   abbrev pub suits_target : TargetTree N → ItemTree N → G → Type 0
   suits_target (Whole x) item g = scoping.suits x.name item g
-  suits_target (Element x shape from es upto) item g = scoping.suits x.name item g
+  suits_target (Element x shape from es upto) item g = scoping.suits_element x.name item g
 
   abbrev pub fits_call : CallTree N → G → Type 0
   fits_call (ReadCall at w from upto) g = Unit {0}

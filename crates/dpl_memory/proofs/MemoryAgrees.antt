@@ -11,26 +11,27 @@ use Rattle.dpl_language.specs.Arithmetic.{assigned}
 use Rattle.dpl_language.specs.Ranges.{indices_in}
 use Rattle.dpl_language.specs.Outcome.{Deeds, no_deeds, Outcome, Done, Stop, Waits}
 use Rattle.dpl_language.specs.Environment.{Content, Plain, ArrayOf, CellOf, Limits}
+use Rattle.dpl_language.specs.Phrases.{item_read}
 use Rattle.dpl_language.specs.Expressions.{item_of}
 use Rattle.dpl_language.specs.Statements.{exec_all}
 use Rattle.dpl_language.specs.Names.{Text, State, paired, look_up, change_in, declare_in, without_innermost, value_in as name_value, update_in, element_in, put_in, redomain_in, arrays_over as named_arrays, by_name}
 use Rattle.dpl_language.specs.Program.{first_state, meaning, top_level, left, written}
 use Rattle.dpl_language.specs.Renamed.{renamed_content, renamed_item, renamed_intents, renamed_stmts, renamed_program}
 use Rattle.dpl_language.specs.Scopes.{Sort, PlainSort, ArraySort, sort_of, IsLawful, after_all, fits_all}
-use Rattle.dpl_language.specs.Agreement.{MayRead, WasDomain, Simulates, EndsAlike}
+use Rattle.dpl_language.specs.Agreement.{MayRead, MayBe, WasDomain, Simulates, EndsAlike}
 use Rattle.dpl_language.proofs.Slots.{Bound as SlotBound, bind as slot_bind, IsApart, IsFresh, set_slot, spelled, store_at, slot_of, look_up-slot, change_in-slot, declare_in-slot, IsApart-bind, IsApart-without_frame, without_innermost-store_at}
 use Rattle.dpl_language.proofs.SlotDomains.{OverNamed, OverResolves, Overs, Overs-declare, Overs-without_frame, redomain_in-slots, arrays_over-slots}
 use Rattle.dpl_language.proofs.SlotsAgree.{updated, with_value_at as with_element_at, put-spelled}
 use Rattle.dpl_language.proofs.RunsAlike.{EndsAlike-weaker, settled-alike, written-alike}
-use Rattle.dpl_language.proofs.Through.{through, item_of-through_at, item_of-through, exec_all-through}
+use Rattle.dpl_language.proofs.Through.{through, item_of-through_at, item_of-through, whole_item-through, exec_all-through}
 use Rattle.dpl_language.proofs.ProgramsAlike.{run_from}
 use Rattle.dpl_language.proofs.Agreement.{exec_all-alike}
 use Rattle.dpl_words.specs.Words.{IntLeaf, no_range, intent_at, set_at, given_as}
 use Rattle.dpl_words.proofs.OfKind.{given-kind}
 use Rattle.dpl_memory.specs.Memory.{VariableKind, PlainKind, DomainKind, TupleKind, ArrayKind, Held, Memory, no_domain, no_tuple, no_array, value_in, with_value_in, array_at, held_with, element_in as element_in_memory, with_element_in, declared_array, intents_by_slot, redomained_in, is_some_array, intended, given_in, in_memory}
-use Rattle.dpl_memory.specs.Resolved.{Bound, Sighted, Sight, text_of, variable_of, over_of, sighted, arrays_over, outermost, left_in, frame_in, store_in, content_in, IsUnused, bind, without_frame, Seen, first_seen, IsArrayOf, IsOf, IsWhole, SuitsTurns, ArraysResolve, IsNew, OverResolves as OverIsFound, HoldsKind, kind_takes, KindCombines, IntentResolves, Resolves, Declares, IsGivenAs, Start, resolving, first_memory, HasSlots, StandsFor}
+use Rattle.dpl_memory.specs.Resolved.{Bound, Sighted, Sight, text_of, variable_of, over_of, sighted, arrays_over, outermost, left_in, frame_in, store_in, content_in, IsUnused, bind, without_frame, Seen, first_seen, IsArrayOf, IsOf, IsWhole, HasNoArray, GivesOnce, SuitsKind, ArraysResolve, IsNew, OverResolves as OverIsFound, HoldsKind, kind_takes, KindCombines, IntentResolves, Resolves, Declares, IsGivenAs, Start, resolving, first_memory, HasSlots, StandsFor}
 use Rattle.dpl_memory.proofs.Elements.{element_at-words, with_element-words, elements-kept, assigned-element}
-use Rattle.dpl_memory.proofs.OfKind.{content_in-set_same, content_in-set_other, content_in-array_same, content_in-array_other, slots-set, slots-array, intents-set_in, sets-set_in, value_in-array, value_in-domain, assigned-of}
+use Rattle.dpl_memory.proofs.OfKind.{content_in-set_same, content_in-set_other, content_in-array_same, content_in-array_other, slots-set, slots-array, intents-set_in, sets-set_in, value_in-array, value_in-plain, value_in-domain, assigned-of}
 use Rattle.dpl_memory.proofs.InSight.{placed, placed_over, in_slots, slot_of-innermost, IsFresh-in_slots, in_slots-bind, in_slots-without_frame, without_frame-bind, Told, told_of, texts_of, IsTold, Finds, innermost-told, with_told, with_told_here, with_told_other, IsTold-bind, IsTold-without_frame, contents, over_text-placed, store_at-contents, store_at-each, store_at-intend, set_slot-each, Overs-contents, Overs-each}
 use Rattle.dpl_memory.proofs.Domains.{OverNamed-texts, Overs-texts, OverFits, FitIn, Fit, Tells, arrays_over-tells, any_over-told, redomained-slots, redomained-intents, store-redomained}
 
@@ -196,13 +197,27 @@ changed-held DomainKind op slot t s old w e takes p = cc
 changed-held TupleKind op slot t s old w e takes p = cc
 changed-held (ArrayKind k) op slot t s old w e takes p = assigned-element k op old w takes p
 
+-- the value of a right side that is evaluated once, of no whole array
+once-held : (k : VariableKind) (item : ItemTree Bound) → (IsWhole k → ⊥) → SuitsKind k item → GivesOnce k item
+once-held (PlainKind k) item n f = f
+once-held DomainKind item n f = f
+once-held TupleKind item n f = f
+once-held (ArrayKind k) item n f = absurd (n tt)
+
+-- of each name, where there is no whole array in it
+scalar-held : (k : VariableKind) (item : ItemTree Bound) → HasNoArray item → SuitsKind k item → GivesOnce k item
+scalar-held (PlainKind k) item n f = f
+scalar-held DomainKind item n f = f
+scalar-held TupleKind item n f = f
+scalar-held (ArrayKind k) item n f = f.0 n
+
 -- the value of a turn, of whole arrays
-turn-held : (limits : Limits) (k : VariableKind) (item : ItemTree Bound) (s : Memory) (t : Index) (v : Value) → IsWhole k → SuitsTurns k item
+turn-held : (limits : Limits) (k : VariableKind) (item : ItemTree Bound) (s : Memory) (t : Index) (v : Value) → IsWhole k → SuitsKind k item
     → item_of limits in_memory (renamed_item variable_of item) (Some t) s ≡ Ok v → IsOf k v
 turn-held limits (PlainKind k) item s t v whole f e = absurd whole
 turn-held limits DomainKind item s t v whole f e = absurd whole
 turn-held limits TupleKind item s t v whole f e = absurd whole
-turn-held limits (ArrayKind k) item s t v whole f e = f limits s t v e
+turn-held limits (ArrayKind k) item s t v whole f e = f.1 limits s t v e
 
 -- what the command line gives
 given-alike : (k : VariableKind) (x : Bound) (start : Start) (s : Memory) → s.words.sets ≡ start.words → IsGivenAs k x start → paired x.text start.texts ≡ given_in k x.variable.slot s
@@ -405,6 +420,12 @@ module _ (start : Start) where
   }
 
   -- ALL TOGETHER
+  -- a right side that is no cell read is evaluated
+  evaluated_once : (limits : Limits) (item : ItemTree Bound) (v : Value) (s : Memory) → item_read item ≡ None → MayBe limits (through variable_of in_memory) item s v
+      → item_of limits in_memory (renamed_item variable_of item) None s ≡ Ok v
+  evaluated_once limits item v s f e =
+      sym (item_of-through limits variable_of in_memory item s) ∙ subst (λ o. MayRead limits (through variable_of in_memory) o item s v) f e
+
   pub memory_simulates : (limits : Limits) → Simulates limits text_of (resolving start) by_name (through variable_of in_memory) (Kept start)
   memory_simulates limits = record {
     lawful = resolving-lawful start;
@@ -418,11 +439,15 @@ module _ (start : Start) where
     puts = λ x items vs v g s1 s2 r f e h. put_alike x (index_of vs) v g s1 s2 r f h;
     declares = λ x c g s1 s2 r f h. declare_alike x c g s1 s2 r f h;
     gives = λ x g s1 s2 r f. ap (paired x.text) r.texts ∙ given-alike x.variable.kind x start s2 r.words f;
-    suited = λ x item v g s1 s2 r f e.
-        f.1 limits s2 v (sym (item_of-through limits variable_of in_memory item s2) ∙ subst (λ o. MayRead limits (through variable_of in_memory) o item s2 v) f.0 e);
+    suited = λ x item v g s1 s2 r f w e.
+        once-held x.variable.kind item (value_in-plain x.variable.kind x.variable.slot w.1 w.3) f.1 limits s2 v (evaluated_once limits item v s2 f.0 e);
+    suited_new = λ x item v g s1 s2 r f d e. once-held x.variable.kind item d.1 f.1 limits s2 v (evaluated_once limits item v s2 f.0 e);
+    suited_element = λ x item v g s1 s2 r f e. f.1 limits s2 v (evaluated_once limits item v s2 f.0 e);
     suited_turn = λ x item t v g s1 s2 r f w e.
-        turn-held limits x.variable.kind item s2 t v (value_in-array x.variable.kind x.variable.slot w.1 w.3.0 w.3.1) f.2 (sym (item_of-through_at limits variable_of in_memory item (Some t) s2) ∙ e);
-    suited_initial = λ x over item t v g s1 s2 r f d e. turn-held limits x.variable.kind item s2 t v d.1 f.2 (sym (item_of-through_at limits variable_of in_memory item (Some t) s2) ∙ e);
+        turn-held limits x.variable.kind item s2 t v (value_in-array x.variable.kind x.variable.slot w.1 w.3.0 w.3.1) f.1 (sym (item_of-through_at limits variable_of in_memory item (Some t) s2) ∙ e);
+    suited_initial = λ x over item t v g s1 s2 r f d e. turn-held limits x.variable.kind item s2 t v d.1 f.1 (sym (item_of-through_at limits variable_of in_memory item (Some t) s2) ∙ e);
+    suited_once = λ x item v g s1 s2 r f w e.
+        scalar-held x.variable.kind item (limits, w.1, sym (whole_item-through limits variable_of in_memory item w.1) ∙ w.3) f.1 limits s2 v (evaluated_once limits item v s2 f.0 e);
     changed = λ x op t old w g s1 s2 r f e h. changed-held x.variable.kind op x.variable.slot t s2 old w e f.1 h;
     turned = λ x item over g s1 s2 r f e. f limits s2 over (sym (item_of-through limits variable_of in_memory item s2) ∙ e);
     given_holds = λ x v g s1 s2 r f e. given-held x.variable.kind x.variable.slot s2 v e;

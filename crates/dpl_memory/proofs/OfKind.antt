@@ -1,6 +1,6 @@
 -- What a memory holds in its slots: what is put into a slot of its kind is what is read there, and nothing else changes.
 -- And what an assignment makes of values of a kind is one of that kind.
-use Rattle.std.proofs.Common.{◌≡◌, ◌≢◌, ℕ, ◌<◌, true, List, [], refl, sym, ap, ◌∙◌, subst, Some, Option}
+use Rattle.std.proofs.Common.{◌≡◌, ◌≢◌, ℕ, ◌<◌, true, List, [], refl, sym, ap, ◌∙◌, subst, Some, None, Option}
 use Rattle.std.specs.Prelude.{get_or, set}
 use Rattle.std.proofs.lemmas.List.{get_or-set_same, get_or-set_other, length-set}
 use Rattle.dpl_range.specs.Equality.{TextRange}
@@ -9,7 +9,7 @@ use Rattle.dpl_language.specs.Values.{Value, Domain, Tuple, ranges_in, coordinat
 use Rattle.dpl_language.specs.Arithmetic.{assigned}
 use Rattle.dpl_language.specs.Environment.{Plain}
 use Rattle.dpl_words.proofs.OfKind.{value_at-no_domain, value_at-no_array, value_at-set_same, value_at-set_other, value_at-intend, numbers-set, ranges-set, intents-set, sets-set, assigned-kind}
-use Rattle.dpl_memory.specs.Memory.{VariableKind, PlainKind, DomainKind, TupleKind, ArrayKind, Held, Memory, no_domain, no_tuple, no_array, value_in, with_value_in, with_array, intended}
+use Rattle.dpl_memory.specs.Memory.{VariableKind, PlainKind, DomainKind, TupleKind, ArrayKind, Held, Memory, no_domain, no_tuple, no_array, value_in, with_value_in, array_at, with_array, intended}
 use Rattle.dpl_memory.specs.Resolved.{IsOf, IsWhole, kind_takes, KindCombines, HasSlots, array_content, content_in}
 
 -- A VALUE THAT IS PUT
@@ -113,6 +113,13 @@ value_in-array (PlainKind k) slot s rs = λ e. absurd (value_at-no_array k slot 
 value_in-array DomainKind slot s rs = λ e. cc
 value_in-array TupleKind slot s rs = λ e. cc
 value_in-array (ArrayKind k) slot s rs = λ e. tt
+
+-- a variable that is no whole array is of no array's kind
+pub value_in-plain : (k : VariableKind) (slot : ℕ) (s : Memory) → array_domain (value_in k slot s) ≡ None → IsWhole k → ⊥
+value_in-plain (PlainKind k) slot s e w = w
+value_in-plain DomainKind slot s e w = w
+value_in-plain TupleKind slot s e w = w
+value_in-plain (ArrayKind k) slot s e w = let f : Some (array_at slot s).ranges ≡ None = e in cc
 
 pub value_in-domain : (k : VariableKind) (slot : ℕ) (s : Memory) → is_domain (value_in k slot s) ≡ true → k ≡ DomainKind
 value_in-domain (PlainKind k) slot s = λ e. absurd (value_at-no_domain k slot s.words e)

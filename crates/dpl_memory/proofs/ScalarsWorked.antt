@@ -71,7 +71,7 @@ placed x column = record { at = at 1 column; name = resolved x }
 
 -- b reduce= j < 4;
 below_four : Suits (PlainKind TruthLeaf) (One (Chain (Named (placed (codes "j") 135)) (Link (at 1 137) Less (Number (at 1 139) (pos 4)) NoLinks)))
-below_four = (refl, λ limits s v e. (int_lt (get_or s.words.numbers 3 (pos 0)) (pos 4), cc), tt)
+below_four = (refl, λ limits s v e. (int_lt (get_or s.words.numbers 3 (pos 0)) (pos 4), cc))
 
 sums_fit : fits_all (resolving start) sums_resolved.stmts first_seen
 sums_fit = ( -- var s: int;

@@ -22,13 +22,13 @@ use Rattle.dpl_memory.specs.Resolved.{Bound, variable_of, Suits, Turns}
 
 -- RIGHT SIDES
 pub Suits-number : (at : Place) (n : ℤ) → Suits (PlainKind IntLeaf) (One (Number at n))
-Suits-number at n = (refl, λ limits s v e. (n, cc), tt)
+Suits-number at n = (refl, λ limits s v e. (n, cc))
 
 pub Suits-truth : (at : Place) (b : Bool) → Suits (PlainKind TruthLeaf) (One (TruthWord at b))
-Suits-truth at b = (refl, λ limits s v e. (b, cc), tt)
+Suits-truth at b = (refl, λ limits s v e. (b, cc))
 
 pub Suits-name : (x : Placed Bound) (k : LeafKind) → x.name.variable.kind ≡ PlainKind k → Suits (PlainKind k) (One (Named x))
-Suits-name x k is = (refl, λ limits s v e. let same : value_at k x.name.variable.slot s.words ≡ v = cc in subst (IsOfKind k) same (value_at-kind k x.name.variable.slot s.words), tt)
+Suits-name x k is = (refl, λ limits s v e. let same : value_at k x.name.variable.slot s.words ≡ v = cc in subst (IsOfKind k) same (value_at-kind k x.name.variable.slot s.words))
 
 -- a value that is found goes through what is done with it
 with_ok-through : {A B : Type 0} (P : B → Type 0) (a : Result A Fault) (go : A → Result B Fault) → ((w : A) (v : B) → go w ≡ Ok v → P v) → (v : B) → with_ok a go ≡ Ok v → P v
@@ -48,7 +48,6 @@ Suits-range_item low at dots high by = (
       with_ok-through (IsOfKind RangeLeaf) (value_of limits in_memory (renamed_expr variable_of low) None s) _
       (λ l. with_ok-through (IsOfKind RangeLeaf) (value_of limits in_memory (renamed_expr variable_of high) None s) _
       (λ h. stridden-range limits by (bounded at dots (number l) (number h)) s)),
-  tt,
 )
 
 -- LOOPS

@@ -1,18 +1,18 @@
 -- Sample programs with their names in slots: what they write from a memory is what they mean.
 -- One of them is seen to fit, and so the theorem gives the same.
-use Rattle.std.proofs.Common.{◌≡◌, ℕ, ◌+◌, List, [], ◌∷◌, pos, true, false, refl, ◌∙◌, rules, ℤ, Result}
-use Rattle.std.specs.Prelude.{codes, bytes_eq, if◌then◌else◌, Ok, Err}
+use Rattle.std.proofs.Common.{◌≡◌, ℕ, ◌+◌, List, [], ◌∷◌, pos, true, false, refl, ◌∙◌, rules, ℤ, Result, Option, Some, None}
+use Rattle.std.specs.Prelude.{codes, bytes_eq, if◌then◌else◌, Ok, Err, option_map}
 use Rattle.std.specs.Int.{int_wrap}
 use Rattle.std.specs.Fmt.{digits}
 use Rattle.dpl_range.specs.Members.{members}
 use Rattle.dpl_range.specs.Equality.{TextRange}
 use Rattle.dpl_domain.specs.Indices.{indices}
 use Rattle.dpl_syntax.specs.declared.place.Place.{Place}
-use Rattle.dpl_language.specs.Tree.{IntKind, BoolKind, Number, One, RangeItem, Closed, NoStride, DomainLiteral, Items, FirstItem, NoItems, ProgramTree}
-use Rattle.dpl_language.specs.Values.{Value, Domain, Fault, fault, PastLimit, all_ranges}
+use Rattle.dpl_language.specs.Tree.{Placed, IntKind, BoolKind, Number, Named, One, RangeItem, Closed, NoStride, DomainLiteral, Items, FirstItem, NoItems, ProgramTree}
+use Rattle.dpl_language.specs.Values.{Value, Int, Array, Domain, Fault, fault, PastLimit, all_ranges}
 use Rattle.dpl_language.specs.Ranges.{sized, too_many}
 use Rattle.dpl_language.specs.Outcome.{with_ok}
-use Rattle.dpl_language.specs.Expressions.{items_of}
+use Rattle.dpl_language.specs.Expressions.{found, items_of}
 use Rattle.dpl_language.specs.Names.{Text}
 use Rattle.dpl_language.specs.Program.{written}
 use Rattle.dpl_language.specs.Renamed.{renamed_program, renamed_items}
@@ -22,8 +22,8 @@ use Rattle.dpl_language.proofs.Says.{limits, writes}
 use Rattle.dpl_language.proofs.ProgramsAlike.{run_from}
 use Rattle.dpl_language.proofs.ArraysSamples.{inner_array, changed_domain, not_over_the_name, truths_of_an_array, tuples, promoted, no_array_left, three_planes}
 use Rattle.dpl_words.specs.Words.{IntLeaf}
-use Rattle.dpl_memory.specs.Memory.{PlainKind, DomainKind, TupleKind, ArrayKind, Variable, variable, in_memory}
-use Rattle.dpl_memory.specs.Resolved.{Bound, text_of, variable_of, first_seen, Suits, Start, resolving, first_memory}
+use Rattle.dpl_memory.specs.Memory.{PlainKind, DomainKind, TupleKind, ArrayKind, Variable, variable, no_array, array_at, held_at, element_as, in_memory}
+use Rattle.dpl_memory.specs.Resolved.{Bound, text_of, variable_of, first_seen, Suits, SuitsElement, Start, resolving, first_memory}
 use Rattle.dpl_memory.proofs.MemoryAgrees.{written-memory}
 
 -- NAMES IN SLOTS: each by its text, since no two names of these samples are spelled alike
@@ -110,7 +110,7 @@ one_range column low high =
 
 -- a domain literal is a domain
 Suits-domain : (from : Place) (items : Items Bound) (upto : Place) → Suits DomainKind (One (DomainLiteral from items upto))
-Suits-domain from items upto = (refl, λ limits s v e. by (items_of limits in_memory (renamed_items variable_of items) s) v e, tt)
+Suits-domain from items upto = (refl, λ limits s v e. by (items_of limits in_memory (renamed_items variable_of items) s) v e)
   where
     by_size : (rs : List TextRange) (v : Value) → sized from rs ≡ Ok v → (qs : List TextRange) × (v ≡ Domain qs)
     by_size rs v =
@@ -121,7 +121,26 @@ Suits-domain from items upto = (refl, λ limits s v e. by (items_of limits in_me
     by (Err f) v e = cc
 
 Suits-element : (at : Place) (n : ℤ) → Suits (ArrayKind IntKind) (One (Number at n))
-Suits-element at n = (refl, λ limits s v e. (n, cc), λ limits s t v e. (n, cc))
+Suits-element at n = (refl, (λ none limits s v e. (n, cc), λ limits s t v e. (n, cc)))
+
+-- a whole array may be assigned another by its name, each element in its turn; an element may not
+abbrev a_array : Placed Bound
+a_array = record { at = at 1 9; name = record { text = codes "A"; variable = variable (ArrayKind IntKind) 1 } }
+
+Suits-array : Suits (ArrayKind IntKind) (One (Named a_array))
+Suits-array = (refl, ((λ none. absurd (let f : Some (array_at 1 none.1).ranges ≡ None = none.2 in cc)), λ limits s t v. by (held_at t (array_at 1 s)) v))
+  where
+    by : (w : Option ℤ) (v : Value) → found (at 1 9) (option_map (element_as IntKind) w) ≡ Ok v → (n : ℤ) × (v ≡ Int n)
+    by None v e = cc
+    by (Some w) v e = (w, cc)
+
+array_is_no_element : SuitsElement (ArrayKind IntKind) (One (Named a_array)) → ⊥
+array_is_no_element f =
+    let of_kind = f.1 (limits 1 1) (first_memory (start 6)) (Array IntKind (no_array).ranges) refl in
+    absurd (is_no_int of_kind.0 of_kind.1)
+  where
+    is_no_int : (n : ℤ) → Array IntKind (no_array).ranges ≡ Int n → ⊥
+    is_no_int n e = cc
 
 inner_array_fits : fits_all (resolving (start 6)) inner_array_resolved.stmts first_seen
 inner_array_fits = ( -- var D = {1..2};

@@ -8,7 +8,7 @@ use Rattle.dpl_language.specs.Ranges.{indices_in, loop_ranges, loop_value}
 use Rattle.dpl_language.specs.Outcome.{Outcome, Done, Stop, Waits}
 use Rattle.dpl_language.specs.Environment.{Content, Plain, ArrayOf, CellOf, Limits}
 use Rattle.dpl_language.specs.Phrases.{item_read}
-use Rattle.dpl_language.specs.Expressions.{item_of}
+use Rattle.dpl_language.specs.Expressions.{item_of, whole_item}
 use Rattle.dpl_language.specs.Names.{Text, Entry, Frame, Store, State, paired}
 use Rattle.dpl_language.specs.Renamed.{renamed_item, renamed_intents}
 use Rattle.dpl_language.specs.Scopes.{Sort, PlainSort, ArraySort, CellSort, Scoping}
@@ -174,23 +174,38 @@ ArraysResolve DomainKind x g = x.variable.arrays ≡ arrays_over x.variable.slot
 ArraysResolve TupleKind x g = Unit {0}
 ArraysResolve (ArrayKind k) x g = Unit {0}
 
--- A right side that is no cell read has a value of the kind, in whatever memory; of an array in each turn too. And so has
--- each turn of a loop.
-abbrev pub SuitsTurns : VariableKind → ItemTree Bound → Type 0
-SuitsTurns (PlainKind k) item = Unit {0}
-SuitsTurns DomainKind item = Unit {0}
-SuitsTurns TupleKind item = Unit {0}
-SuitsTurns (ArrayKind k) item =
+-- in whatever memory, what an item is evaluated to is of the kind, once; and in each turn an element may be it
+abbrev pub GivesOnce : VariableKind → ItemTree Bound → Type 0
+GivesOnce kind item =
+    (limits : Limits) (s : Memory) (v : Value)
+    → item_of limits in_memory (renamed_item variable_of item) None s ≡ Ok v → IsOf kind v
+
+abbrev pub GivesTurns : Kind → ItemTree Bound → Type 0
+GivesTurns k item =
     (limits : Limits) (s : Memory) (t : Index) (v : Value)
     → item_of limits in_memory (renamed_item variable_of item) (Some t) s ≡ Ok v → IsElement k v
 
-abbrev pub Suits : VariableKind → ItemTree Bound → Type 0
-Suits kind item =
-    (item_read item ≡ None)
-    × ((limits : Limits) (s : Memory) (v : Value)
-    → item_of limits in_memory (renamed_item variable_of item) None s ≡ Ok v → IsOf kind v)
-    × SuitsTurns kind item
+-- in some memory there is no whole array in it
+abbrev pub HasNoArray : ItemTree Bound → Type 0
+HasNoArray item =
+    (limits : Limits) × (s : Memory) × (whole_item limits in_memory (renamed_item variable_of item) s ≡ None)
 
+-- A right side that is no cell read has a value of the kind. A whole array's may be a whole array by its name, as in `B = A;`,
+-- which is evaluated in each turn; only one without a whole array is evaluated once.
+abbrev pub SuitsKind : VariableKind → ItemTree Bound → Type 0
+SuitsKind (PlainKind k) item = GivesOnce (PlainKind k) item
+SuitsKind DomainKind item = GivesOnce DomainKind item
+SuitsKind TupleKind item = GivesOnce TupleKind item
+SuitsKind (ArrayKind k) item = (HasNoArray item → GivesOnce (ArrayKind k) item) × GivesTurns k item
+
+abbrev pub Suits : VariableKind → ItemTree Bound → Type 0
+Suits kind item = (item_read item ≡ None) × SuitsKind kind item
+
+-- an element's right side is evaluated once
+abbrev pub SuitsElement : VariableKind → ItemTree Bound → Type 0
+SuitsElement kind item = (item_read item ≡ None) × GivesOnce kind item
+
+-- each turn of a loop has a value of the kind
 abbrev pub Turns : VariableKind → ItemTree Bound → Type 0
 Turns kind item =
     (limits : Limits) (s : Memory) (over : Value)
@@ -250,6 +265,7 @@ resolving start = record {
   gives = λ x g. IsGivenAs x.variable.kind x start;
   holds = λ x. HoldsKind x.variable.kind;
   suits = λ x item g. Suits x.variable.kind item;
+  suits_element = λ x item g. SuitsElement x.variable.kind item;
   turns = λ x item g. Turns x.variable.kind item;
   intends = λ is g. g.intents ≡ [];
   coforalls = λ g. ⊥;
