@@ -39,5 +39,4 @@ module _ (scopes : Scopes) (t : Typed) (item : ItemTree Text) (is : typed_item t
   item-suits unread = (
     item_read-renamed (bound_in scopes) item ∙ ap (option_map (renamed_read (bound_in scopes))) unread,
     λ limits s v e. given (kind_of t) (item_of limits in_memory (typed_item t) None s) v (typed_item_gives limits s t) (sym (item_of-resolved limits s) ∙ e),
-    tt,
   )

@@ -15,7 +15,7 @@ use Rattle.dpl_rules.specs.Sights.{Scopes}
 use Rattle.dpl_lowered.specs.LoweredExpressions.{Once, lowered_item}
 use Rattle.dpl_lowered.proofs.Values.{item_of-lowered}
 use Rattle.dpl_memory.specs.Memory.{VariableKind, PlainKind, DomainKind, TupleKind, ArrayKind, Memory, known_variable, in_memory}
-use Rattle.dpl_memory.specs.Resolved.{Bound, variable_of, IsOf, Suits, SuitsTurns}
+use Rattle.dpl_memory.specs.Resolved.{Bound, variable_of, IsOf, GivesOnce as ItemGives, SuitsKind, Suits}
 use Rattle.dpl_memory.proofs.Known.{memory-known}
 use Rattle.dpl_typer.specs.declared.make.Typed.{Typed}
 use Rattle.dpl_typer.specs.Makers.{typed_item, kind_of, is_promoted}
@@ -30,11 +30,12 @@ given DomainKind r v g w e = subst (GivesOnce DomainKind) e g
 given TupleKind r v g w e = subst (GivesOnce TupleKind) e g
 given (ArrayKind k) r v g w e = absurd (let f : true ≡ false = w in cc)
 
-suits_no_turn : (k : VariableKind) (item : ItemTree Bound) → is_promoted k ≡ false → SuitsTurns k item
-suits_no_turn (PlainKind k) item w = tt
-suits_no_turn DomainKind item w = tt
-suits_no_turn TupleKind item w = tt
-suits_no_turn (ArrayKind k) item w = absurd (let f : true ≡ false = w in cc)
+-- and so the right side suits a name of the kind
+kind-suits : (k : VariableKind) (item : ItemTree Bound) → is_promoted k ≡ false → ItemGives k item → SuitsKind k item
+kind-suits (PlainKind k) item w g = g
+kind-suits DomainKind item w g = g
+kind-suits TupleKind item w g = g
+kind-suits (ArrayKind k) item w g = absurd (let f : true ≡ false = w in cc)
 
 module _ (scopes : Scopes) (t : Typed) (item : ItemTree Text) (is : typed_item Once t ≡ lowered_item known_variable Once (renamed_item (leaf_in scopes) item)) where
   -- what the resolved item is in a memory is what the typed one is
@@ -47,6 +48,6 @@ module _ (scopes : Scopes) (t : Typed) (item : ItemTree Text) (is : typed_item O
   pub item-suits : is_promoted (kind_of t) ≡ false → item_read item ≡ None → Suits (kind_of t) (renamed_item (bound_in scopes) item)
   item-suits once unread = (
     item_read-renamed (bound_in scopes) item ∙ ap (option_map (renamed_read (bound_in scopes))) unread,
-    λ limits s v e. given (kind_of t) (item_of limits in_memory (typed_item Once t) None s) v (typed_item_gives limits s t) once (sym (item_of-resolved limits s) ∙ e),
-    suits_no_turn (kind_of t) (renamed_item (bound_in scopes) item) once,
+    kind-suits (kind_of t) (renamed_item (bound_in scopes) item) once
+        (λ limits s v e. given (kind_of t) (item_of limits in_memory (typed_item Once t) None s) v (typed_item_gives limits s t) once (sym (item_of-resolved limits s) ∙ e)),
   )
