@@ -7,7 +7,8 @@ use Rattle.dpl_language.specs.Names.{Text}
 use Rattle.dpl_language.specs.Scopes.{PlainSort}
 use Rattle.dpl_rules.specs.Sights.{Declared, Scope, Scopes, find, or_else, lookup, type_declared, enter, add}
 use Rattle.dpl_scopes.specs.Slots.{count_in, next_slot_in, place_in, slot_or, slot_in}
-use Rattle.dpl_memory.specs.Memory.{Variable, VariableKind}
+use Rattle.dpl_words.specs.Words.{LeafKind}
+use Rattle.dpl_memory.specs.Memory.{Variable, VariableKind, PlainKind}
 use Rattle.dpl_memory.specs.Resolved.{Sighted, sighted, Known, known_in, or_known, innermost, IsUnusedIn, IsUnused, bind}
 use Rattle.dpl_typer.specs.Leaves.{kind_by, leaf_by, leaf_in, IsFound}
 use Rattle.dpl_typer.specs.Sights.{bound_at, frame_from, sight_of, IsPlainScope, ArePlainScopes}
@@ -80,6 +81,23 @@ known_found-kind (Some d) p k e = refl
 -- a plain variable's name in sight has those of its leaf
 pub innermost-found : (x : Text) (ss : Scopes) → ArePlainScopes ss → IsFound ss x → innermost x (sight_of ss) ≡ Some ((leaf_in ss x).kind, (leaf_in ss x).slot)
 innermost-found x ss h (k, slot, kind, at) = innermost-sight_of x ss h ∙ known_found-kind (lookup ss x) (slot_in ss x) k kind
+
+-- WHAT IS IN SIGHT IS PLAIN
+abbrev pub HasPlainKind : Option Declared → Type 0
+HasPlainKind None = Unit {0}
+HasPlainKind (Some d) = (k : LeafKind) × (kind_by d.type ≡ Some (PlainKind k))
+
+find-plain : (s : Scope) (x : Text) → IsPlainScope s → HasPlainKind (find s x)
+find-plain [] x h = tt
+find-plain (d ∷ ds) x h = elim (bytes_eq x d.origin.name) as (λ b. HasPlainKind (if b then Some d else find ds x)) [ true ↦ h.0 | false ↦ find-plain ds x h.2 ]
+
+or-plain : (a b : Option Declared) → HasPlainKind a → HasPlainKind b → HasPlainKind (or_else a b)
+or-plain None b p q = q
+or-plain (Some d) b p q = p
+
+pub lookup-plain : (ss : Scopes) (x : Text) → ArePlainScopes ss → HasPlainKind (lookup ss x)
+lookup-plain [] x h = tt
+lookup-plain (s ∷ ss) x h = or-plain (find s x) (lookup ss x) (find-plain s x h.0) (lookup-plain ss x h.1)
 
 -- THE NEXT SLOT
 IsUnusedIn-append : (slot : ℕ) (bs : List Sighted) (b : Sighted) → IsUnusedIn slot bs → slot ≢ b.slot → IsUnusedIn slot (bs ++ b ∷ [])

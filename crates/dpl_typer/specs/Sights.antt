@@ -5,7 +5,8 @@ use Rattle.dpl_language.specs.Names.{Text}
 use Rattle.dpl_language.specs.Scopes.{PlainSort}
 use Rattle.dpl_rules.specs.Sights.{Declared, Scope, Scopes, find}
 use Rattle.dpl_scopes.specs.Slots.{count_in}
-use Rattle.dpl_memory.specs.Memory.{VariableKind}
+use Rattle.dpl_words.specs.Words.{LeafKind}
+use Rattle.dpl_memory.specs.Memory.{PlainKind}
 use Rattle.dpl_memory.specs.Resolved.{Bound, Sighted, Sight, sighted}
 use Rattle.dpl_typer.specs.Leaves.{kind_by, leaf_by, leaf_in}
 
@@ -25,10 +26,10 @@ abbrev pub sight_of : Scopes → Sight
 sight_of [] = []
 sight_of (s ∷ ss) = frame_from (suc (count_in ss)) s ∷ sight_of ss
 
--- Each declaration has a kind, and no scope declares a name twice.
+-- Each declaration is of an int, a truth value or a range, and no scope declares a name twice.
 abbrev pub IsPlainScope : Scope → Type 0
 IsPlainScope [] = Unit {0}
-IsPlainScope (d ∷ ds) = ((k : VariableKind) × (kind_by d.type ≡ Some k)) × (find ds d.origin.name ≡ None) × IsPlainScope ds
+IsPlainScope (d ∷ ds) = ((k : LeafKind) × (kind_by d.type ≡ Some (PlainKind k))) × (find ds d.origin.name ≡ None) × IsPlainScope ds
 
 abbrev pub ArePlainScopes : Scopes → Type 0
 ArePlainScopes [] = Unit {0}
