@@ -15,7 +15,7 @@ use Rattle.dpl_nodes.specs.declared.step.Step.{Step, Block as BlockStep}
 use Rattle.dpl_nodes.specs.declared.step.Else.{Else as ElseNode, Absent, Do as DoStep}
 use Rattle.dpl_nodes.specs.Steps.{listed, else_view, steps_of}
 use Rattle.dpl_nodes.proofs.Rows.{steps_view-row}
-use Rattle.dpl_elaborator.specs.Sights.{ArePlainScopes}
+use Rattle.dpl_typer.specs.Sights.{ArePlainScopes}
 use Rattle.dpl_planner.specs.declared.progress.Plan.{Plan}
 use Rattle.dpl_planner.specs.declared.progress.Reducing.{Reducing}
 use Rattle.dpl_planner.specs.Given.{AreGiven}

@@ -1,10 +1,10 @@
 -- Items and conditions that are elaborated: they are what is spelled, and fit where their names are in sight.
 -- A right side has values of the kind of what was made of it.
-use Rattle.std.proofs.Common.{◌≡◌, Bor, List, Option, Some, None, refl, sym, ap, ◌∙◌, subst, option_map}
+use Rattle.std.proofs.Common.{◌≡◌, false, Bor, List, Option, Some, None, refl, sym, ap, ◌∙◌, subst, option_map}
 use Rattle.dpl_language.specs.Tree.{Op, ExprTree, ItemTree}
 use Rattle.dpl_language.specs.Names.{Text}
 use Rattle.dpl_language.specs.Values.{Index}
-use Rattle.dpl_language.specs.Phrases.{ReadTree, item_read}
+use Rattle.dpl_language.specs.Phrases.{ReadTree, cell_read, item_read}
 use Rattle.dpl_language.specs.Scopes.{fits_expr, fits_item, fits_read, fits_side, fits_whole_side}
 use Rattle.dpl_language.specs.Renamed.{renamed_expr, renamed_item, renamed_read}
 use Rattle.dpl_language.proofs.RenamedParts.{item_read-renamed}
@@ -12,29 +12,56 @@ use Rattle.dpl_language.proofs.RenamedSame.{renamed_expr-same, renamed_item-same
 use Rattle.dpl_language.proofs.RenamedTwice.{renamed_expr-twice, renamed_item-twice}
 use Rattle.dpl_rules.specs.Sights.{Scopes}
 use Rattle.dpl_lowered.specs.Shapes.{hidden_item}
-use Rattle.dpl_lowered.specs.LoweredExpressions.{Once, lowered_expr, lowered_item}
+use Rattle.dpl_lowered.specs.LoweredExpressions.{Times, Once, lowered_expr, lowered_item}
 use Rattle.dpl_lowered.specs.LoweredStatements.{lowered_side}
-use Rattle.dpl_memory.specs.Memory.{PlainKind, Variable, known_variable}
+use Rattle.dpl_memory.specs.Memory.{Variable, known_variable}
 use Rattle.dpl_memory.specs.Resolved.{Bound, Start, text_of, variable_of, resolving, Suits}
 use Rattle.dpl_memory.proofs.Fitting.{expr_fits, item_fits}
 use Rattle.dpl_nodes.specs.declared.tree.BoolExpr.{BoolExpr}
-use Rattle.dpl_nodes.specs.declared.make.Typed.{Typed}
-use Rattle.dpl_nodes.specs.declared.make.Typed.TheVariants as typed
+use Rattle.dpl_typer.specs.declared.make.Typed.{Typed}
+use Rattle.dpl_typer.specs.declared.make.Typed.TheVariants as typed
+use Rattle.dpl_nodes.specs.declared.promoted.PromotedInt.{PromotedInt, Scalar as IntScalar, Element as IntElement, Negative', Sum', Difference', Product', Quotient', Remainder'}
+use Rattle.dpl_nodes.specs.declared.promoted.PromotedTruth.{PromotedTruth, Scalar as TruthScalar, Element as TruthElement, Not', And', Or', Same', Differ', Compare}
 use Rattle.dpl_nodes.specs.Typed.{truth_view}
-use Rattle.dpl_nodes.specs.Makers.{typed_item, kind_of}
-use Rattle.dpl_nodes.proofs.Unread.{cell_read-int, cell_read-truth, item_read-range}
-use Rattle.dpl_elaborator.specs.Leaves.{IsFound}
-use Rattle.dpl_elaborator.specs.Sights.{bound_in, ArePlainScopes}
-use Rattle.dpl_elaborator.proofs.Fits.{names-simple, expr_names-simple, unread-simple}
-use Rattle.dpl_elaborator.proofs.Suited.{item-suits}
+use Rattle.dpl_nodes.specs.Promoted.{promoted_int, promoted_truth}
+use Rattle.dpl_typer.specs.Makers.{typed_item, kind_of, is_promoted}
+use Rattle.dpl_nodes.proofs.Unread.{cell_read-int, cell_read-truth, item_read-range, cell_read-domain}
+use Rattle.dpl_typer.specs.Leaves.{IsFound}
+use Rattle.dpl_typer.specs.Sights.{bound_in, ArePlainScopes}
+use Rattle.dpl_typer.proofs.Fits.{names-simple, expr_names-simple, unread-simple}
+use Rattle.dpl_typer.proofs.Suited.{item-suits}
 use Rattle.dpl_planner.specs.Parts.{IsItem, IsCondition}
 use Rattle.dpl_planner.specs.Plans.{seen_of}
 
 -- TYPED TREES ARE NO CELL READS
-item_read-typed : (t : Typed) → item_read (typed_item t) ≡ None
-item_read-typed (typed.Int e) = cell_read-int e.now
-item_read-typed (typed.Truth e) = cell_read-truth e.now
-item_read-typed (typed.Range e) = item_read-range e.now
+cell_read-ints : (m : Times) (e : PromotedInt) → cell_read (promoted_int m e) ≡ None
+cell_read-ints m (IntScalar e) = cell_read-int e.now
+cell_read-ints m (IntElement slot at) = refl
+cell_read-ints m (Negative' p e) = refl
+cell_read-ints m (Sum' p a q b) = refl
+cell_read-ints m (Difference' p a q b) = refl
+cell_read-ints m (Product' p a q b) = refl
+cell_read-ints m (Quotient' p a q b at) = refl
+cell_read-ints m (Remainder' p a q b at) = refl
+
+cell_read-truths : (m : Times) (e : PromotedTruth) → cell_read (promoted_truth m e) ≡ None
+cell_read-truths m (TruthScalar e) = cell_read-truth e.now
+cell_read-truths m (TruthElement slot at) = refl
+cell_read-truths m (Not' p e) = refl
+cell_read-truths m (And' p a q b) = refl
+cell_read-truths m (Or' p a q b) = refl
+cell_read-truths m (Same' p a q b) = refl
+cell_read-truths m (Differ' p a q b) = refl
+cell_read-truths m (Compare c a b) = refl
+
+item_read-typed : (m : Times) (t : Typed) → item_read (typed_item m t) ≡ None
+item_read-typed m (typed.Int e) = cell_read-int e.now
+item_read-typed m (typed.Truth e) = cell_read-truth e.now
+item_read-typed m (typed.Range e) = item_read-range e.now
+item_read-typed m (typed.Domain e) = cell_read-domain e.now
+item_read-typed m (typed.Tuple slot) = refl
+item_read-typed m (typed.Ints e) = cell_read-ints m e.now
+item_read-typed m (typed.Truths e) = cell_read-truths m e.now
 
 -- what is no cell read stands as it is
 not_hidden : (r : Option (ReadTree Variable)) (i : ItemTree Variable) → item_read i ≡ None → hidden_item r (item_read i) i ≡ i
@@ -47,19 +74,19 @@ module _ (ss : Scopes) (i : ItemTree Text) where
   item-text = renamed_item-twice text_of (bound_in ss) i ∙ renamed_item-same i
 
   module _ (t : Typed) (is : IsItem ss i t) where
-    pub item-node : lowered_item known_variable Once (renamed_item variable_of (renamed_item (bound_in ss) i)) ≡ typed_item t
-    item-node = ap (lowered_item known_variable Once) (renamed_item-twice variable_of (bound_in ss) i) ∙ sym is.node
+    pub item-node : (m : Times) → lowered_item known_variable m (renamed_item variable_of (renamed_item (bound_in ss) i)) ≡ typed_item m t
+    item-node m = ap (lowered_item known_variable m) (renamed_item-twice variable_of (bound_in ss) i) ∙ sym (is.node m)
 
-    pub side-node : lowered_side known_variable Once (renamed_item variable_of (renamed_item (bound_in ss) i)) ≡ typed_item t
-    side-node =
-        ap (λ j. hidden_item (item_read (renamed_item variable_of (renamed_item (bound_in ss) i))) (item_read j) j) item-node
-        ∙ not_hidden (item_read (renamed_item variable_of (renamed_item (bound_in ss) i))) (typed_item t) (item_read-typed t)
+    pub side-node : (m : Times) → lowered_side known_variable m (renamed_item variable_of (renamed_item (bound_in ss) i)) ≡ typed_item m t
+    side-node m =
+        ap (λ j. hidden_item (item_read (renamed_item variable_of (renamed_item (bound_in ss) i))) (item_read j) j) (item-node m)
+        ∙ not_hidden (item_read (renamed_item variable_of (renamed_item (bound_in ss) i))) (typed_item m t) (item_read-typed m t)
 
     pub item-unread : item_read (renamed_item (bound_in ss) i) ≡ None
     item-unread = item_read-renamed (bound_in ss) i ∙ ap (option_map (renamed_read (bound_in ss))) (unread-simple (IsFound ss) i is.found)
 
-    pub item-suited : Suits (PlainKind (kind_of t)) (renamed_item (bound_in ss) i)
-    item-suited = item-suits ss t i is.node (unread-simple (IsFound ss) i is.found)
+    pub item-suited : is_promoted (kind_of t) ≡ false → Suits (kind_of t) (renamed_item (bound_in ss) i)
+    item-suited once = item-suits ss t i (is.node Once) once (unread-simple (IsFound ss) i is.found)
 
     module _ (start : Start) (intents : List (Bound × Op)) (plain : ArePlainScopes ss) where
       pub item-fits : (k : Option Index) → fits_item (resolving start) k (renamed_item (bound_in ss) i) (seen_of ss intents)

@@ -11,8 +11,8 @@ use Rattle.dpl_rules.specs.Sound.{is_configured}
 use Rattle.dpl_rules.specs.Declarations.{sort_of, declared_by}
 use Rattle.dpl_scopes.specs.Slots.{count_in, place_in, slot_or, slot_in}
 use Rattle.dpl_memory.specs.Resolved.{Bound, Start}
-use Rattle.dpl_elaborator.specs.Leaves.{kind_by, leaf_by}
-use Rattle.dpl_elaborator.specs.Sights.{bound_in, bound_at}
+use Rattle.dpl_typer.specs.Leaves.{kind_by, leaf_by}
+use Rattle.dpl_typer.specs.Sights.{bound_in, bound_at}
 use Rattle.dpl_planner.specs.declared.progress.Plan.{Plan}
 use Rattle.dpl_nodes.specs.declared.step.Step.{Step}
 use Rattle.dpl_planner.specs.Bounds.{bound_new}

@@ -25,10 +25,10 @@ use Rattle.dpl_nodes.specs.declared.step.Argument.{Argument}
 use Rattle.dpl_nodes.specs.declared.step.Argument.TheVariants as node
 use Rattle.dpl_nodes.specs.declared.step.Step.{Write as WriteStep}
 use Rattle.dpl_nodes.specs.Steps.{argument_view, next_argument_view, arguments_view}
-use Rattle.dpl_elaborator.specs.Leaves.{leaf_in, IsFound}
-use Rattle.dpl_elaborator.specs.Simple.{IsSimple}
-use Rattle.dpl_elaborator.specs.Sights.{bound_in, ArePlainScopes}
-use Rattle.dpl_elaborator.proofs.Fits.{expr_names-simple, unread-simple}
+use Rattle.dpl_typer.specs.Leaves.{leaf_in, IsFound}
+use Rattle.dpl_typer.specs.Simple.{IsSimple}
+use Rattle.dpl_typer.specs.Sights.{bound_in, ArePlainScopes}
+use Rattle.dpl_typer.proofs.Fits.{expr_names-simple, unread-simple}
 use Rattle.dpl_planner.specs.declared.progress.Plan.{Plan}
 use Rattle.dpl_planner.specs.Parts.{IsArgument, AreArguments, StillArguments}
 use Rattle.dpl_planner.specs.Plans.{seen_of, intents_in, PlansStmt}

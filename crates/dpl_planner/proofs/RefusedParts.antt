@@ -3,6 +3,7 @@
 use Rattle.std.proofs.Common.{◌≡◌, ◌≢◌, ◌⊎◌, inl, inr, ℕ, ◌+◌, ◌<◌, Bool, true, false, List, ◌∷◌, length, get_or, drop, Option, Some, None, refl, sym, ap, ◌∙◌, subst, map}
 use Rattle.std.specs.Prelude.{bytes_eq}
 use Rattle.std.proofs.lemmas.List.{drop_more}
+use Rattle.std.proofs.lemmas.Option.{none-some}
 use Rattle.std.proofs.lemmas.Slice.Eq.{bytes_eq-Decides}
 use Rattle.dpl_language.specs.Tree.{DeclareTree}
 use Rattle.dpl_language.specs.Names.{Text}
@@ -19,39 +20,37 @@ use Rattle.dpl_types.specs.View.{type_view, of_type}
 use Rattle.dpl_scopes.specs.declared.declared.Declared.{Declared as DeclaredNode}
 use Rattle.dpl_scopes.specs.View.{declared_view}
 use Rattle.dpl_words.specs.Words.{LeafKind}
-use Rattle.dpl_nodes.specs.declared.make.Typed.{Typed}
-use Rattle.dpl_nodes.specs.Makers.{kind_of}
+use Rattle.dpl_memory.specs.Memory.{PlainKind}
+use Rattle.dpl_typer.specs.declared.make.Typed.{Typed}
+use Rattle.dpl_typer.specs.Makers.{kind_of}
 use Rattle.dpl_nodes.specs.Steps.{scalar_leaf}
-use Rattle.dpl_elaborator.specs.Leaves.{plain_kind, kind_by, IsOfKind}
+use Rattle.dpl_typer.specs.Leaves.{value_kind, kind_by, IsOfType}
+use Rattle.dpl_typer.proofs.OperatorKinds.{kind-same}
 use Rattle.dpl_scalar.specs.Scalar.{IsScalarDeclare, AreToldAlike, IsScalarArgument, AreScalarArguments, IsScalarIntent, AreScalarIntents}
 use Rattle.dpl_planner.specs.declared.progress.Reducing.{Reducing}
 use Rattle.dpl_planner.specs.Parts.{others_in, intents_among}
 use Rattle.dpl_planner.specs.Plans.{reducing_view}
 
 -- ---- KINDS
-pub no_kind : (t : Option ValueType) (k : LeafKind) → t ≡ None → kind_by t ≢ Some k
-no_kind t k none e =
-    let f : kind_by t ≡ None = ap kind_by none in
-    absurd cc
+pub no_kind : (t : Option ValueType) (k : LeafKind) → t ≡ None → kind_by t ≢ Some (PlainKind k)
+no_kind t k none e = none-some (PlainKind k) (sym (ap kind_by none) ∙ e)
 
--- a type of a kind that is of another is of one kind
-pub same_kind : (t : Option ValueType) (j k : LeafKind) → IsOfKind j t → kind_by t ≡ Some k → k ≡ j
-same_kind None j k is e = absurd cc
-same_kind (Some t) j k is e = cc
+-- what is typed as plain is of that kind
+pub same_kind : (t : Typed) (u : Option ValueType) (k : LeafKind) → IsOfType t u → kind_by u ≡ Some (PlainKind k) → kind_of t ≡ PlainKind k
+same_kind t None k is e = absurd (none-some (PlainKind k) e)
+same_kind t (Some u) k is e = kind-same (kind_of t) (PlainKind k) (sym is.0 ∙ e)
 
 -- ---- DECLARATIONS: one that is scalar has a type of its kind, and its name is new in its scope
 module _ (ss : Scopes) (d : DeclareTree Text) (made : DeclaredNode) (same : declared_view made ≡ declared_by ss d) (s : IsScalarDeclare ss d) where
-  declared-kind : kind_by (of_type made.value_type) ≡ Some s.kind
-  declared-kind = subst (λ (o : Declared). kind_by o.type ≡ Some s.kind) (sym same) s.declared
+  declared-kind : kind_by (of_type made.value_type) ≡ Some (PlainKind s.kind)
+  declared-kind = subst (λ (o : Declared). kind_by o.type ≡ Some (PlainKind s.kind)) (sym same) s.declared
 
   pub declared-typed : made.value_type ≢ None
   declared-typed none =
-      let f : kind_by (of_type made.value_type) ≡ None = ap (λ o. kind_by (of_type o)) none in
-      let g = declared-kind in
-      absurd cc
+      none-some (PlainKind s.kind) (sym (ap (λ o. kind_by (of_type o)) none) ∙ declared-kind)
 
-  pub declared-held : (t : TypeNode) (value : Typed) → made.value_type ≡ Some t → kind_of value ≡ s.kind → plain_kind (type_view t) ≡ Some (kind_of value)
-  declared-held t value typed is = subst (λ o. kind_by (of_type o) ≡ Some s.kind) typed declared-kind ∙ ap Some (sym is)
+  pub declared-held : (t : TypeNode) → made.value_type ≡ Some t → value_kind (type_view t) ≡ Some (PlainKind s.kind)
+  declared-held t typed = subst (λ o. kind_by (of_type o) ≡ Some (PlainKind s.kind)) typed declared-kind
 
   pub declared-new : declared_here ss made.origin.name.now ≢ true
   declared-new old =

@@ -22,15 +22,15 @@ use Rattle.dpl_memory.specs.Resolved.{Bound, Start, text_of, variable_of, resolv
 use Rattle.dpl_memory.proofs.Suiting.{Turns-ranges}
 use Rattle.dpl_nodes.specs.declared.tree.BoolExpr.{BoolExpr}
 use Rattle.dpl_nodes.specs.declared.tree.RangeExpr.{RangeExpr}
-use Rattle.dpl_nodes.specs.declared.make.Typed.TheVariants as typed
+use Rattle.dpl_typer.specs.declared.make.Typed.TheVariants as typed
 use Rattle.dpl_nodes.specs.declared.step.Step.{Step, Nothing as NothingStep, If as IfStep, While as WhileStep, For as ForStep, Forall as ForallStep}
 use Rattle.dpl_nodes.specs.declared.step.Intent.{Intent}
 use Rattle.dpl_nodes.specs.declared.step.Else.{Else as ElseNode}
 use Rattle.dpl_nodes.specs.Typed.{truth_view}
 use Rattle.dpl_nodes.specs.Steps.{listed, variable_in, intent_view}
 use Rattle.dpl_nodes.proofs.Rows.{steps_view-row}
-use Rattle.dpl_elaborator.specs.Sights.{bound_in, sight_of, ArePlainScopes}
-use Rattle.dpl_elaborator.proofs.Sights.{unused_next}
+use Rattle.dpl_typer.specs.Sights.{bound_in, sight_of, ArePlainScopes}
+use Rattle.dpl_typer.proofs.Sights.{unused_next}
 use Rattle.dpl_planner.specs.declared.progress.Plan.{Plan}
 use Rattle.dpl_planner.specs.declared.progress.Reducing.{Reducing}
 use Rattle.dpl_scalar.specs.Bodies.{loop_variable}
@@ -109,10 +109,10 @@ for-plans a b c at word spot x slot item range body steps near is opened p =
       text = both (For at (OneVariable x) word) (item-text ss item) q.text;
       node = ap (λ y. For y (variable_in (next_slot_in (enter ss))) nowhere items turns) (sym near)
           ∙ ap (λ n. For spot.now (variable_in n) nowhere items turns) (sym opened.next)
-          ∙ both (For spot.now (variable_in slot) nowhere) (item-node ss item (typed.Range range) is) (q.node ∙ ap listed (sym (steps_view-row steps.now)));
+          ∙ both (For spot.now (variable_in slot) nowhere) (item-node ss item (typed.Range range) is Once) (q.node ∙ ap listed (sym (steps_view-row steps.now)));
       resolves = λ start h le. (
         item-fits ss item (typed.Range range) is start (intents_in a) h None,
-        Turns-ranges made (item-suited ss item (typed.Range range) is),
+        Turns-ranges made (item-suited ss item (typed.Range range) is refl),
         variable-fits ss x.name (intents_in a) slot b.slots c.slots start opened.next opened.below grown le h,
         inside-fits ss x.name (intents_in a) start (bound_body (enter vs) body) (q.resolves start (subst ArePlainScopes (sym opened.scopes) (plain-variables ss x.name h)) le),
       );
@@ -161,10 +161,10 @@ forall-plans a b c found none at word spot x slot item range w is body steps out
       node = ap (λ y. Forall y (variable_in (next_slot_in (enter ss))) nowhere items (with_intents reduced) turns) (sym near)
           ∙ ap (λ n. Forall spot.now (variable_in n) nowhere items (with_intents reduced) turns) (sym opened.next)
           ∙ ap (λ v. Forall spot.now (variable_in slot) nowhere items (with_intents v) turns) (intents-node ss w found.items named is.now unnamed)
-          ∙ both (λ i t. Forall spot.now (variable_in slot) nowhere i (with_intents (map intent_view is.now)) t) (item-node ss item (typed.Range range) ranged) (q.node ∙ ap listed (sym (steps_view-row steps.now)));
+          ∙ both (λ i t. Forall spot.now (variable_in slot) nowhere i (with_intents (map intent_view is.now)) t) (item-node ss item (typed.Range range) ranged Once) (q.node ∙ ap listed (sym (steps_view-row steps.now)));
       resolves = λ start h le. (
         item-fits ss item (typed.Range range) ranged start (intents_in a) h None,
-        Turns-ranges made (item-suited ss item (typed.Range range) ranged),
+        Turns-ranges made (item-suited ss item (typed.Range range) ranged refl),
         ap (map reducing_view) outside,
         variable-fits ss x.name (intents_of with) slot b.slots c.slots start opened.next opened.below grown le h,
         subst (λ v. fits_body (resolving start) (bound_body (enter vs) body) (record { frames = [] ∷ bind (sighted (variable ss x.name) PlainSort) ([] ∷ sight_of ss); intents = v })) (intents-bound ss w found.items named)

@@ -10,7 +10,7 @@ use Rattle.dpl_rules.specs.Loops.{behind}
 use Rattle.dpl_rules.specs.Breaches.{top}
 use Rattle.dpl_scopes.specs.Slots.{next_slot_in}
 use Rattle.dpl_memory.specs.Resolved.{Bound}
-use Rattle.dpl_elaborator.specs.Sights.{bound_in, bound_at}
+use Rattle.dpl_typer.specs.Sights.{bound_in, bound_at}
 use Rattle.dpl_scalar.specs.Bodies.{loop_variable, of_variables, in_loop}
 
 -- a name that is declared here

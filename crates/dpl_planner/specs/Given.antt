@@ -5,7 +5,7 @@ use Rattle.dpl_language.specs.Names.{Text}
 use Rattle.dpl_rules.specs.Sights.{Declared, Scopes, lookup}
 use Rattle.dpl_rules.specs.Sound.{is_configured}
 use Rattle.dpl_memory.specs.Resolved.{Bound, Start, IsGivenAs}
-use Rattle.dpl_elaborator.specs.Sights.{bound_in}
+use Rattle.dpl_typer.specs.Sights.{bound_in}
 
 -- a name gets the same by its text as by its slot
 abbrev pub IsGiven : Start → Bound → Type 0

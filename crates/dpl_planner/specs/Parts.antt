@@ -17,21 +17,20 @@ use Rattle.dpl_rules.specs.Loops.{behind}
 use Rattle.dpl_scopes.specs.Slots.{next_slot_in}
 use Rattle.dpl_rules.specs.Declarations.{declared_by}
 use Rattle.dpl_lowered.specs.Shapes.{nowhere}
-use Rattle.dpl_lowered.specs.LoweredExpressions.{Once, lowered_expr, lowered_item}
+use Rattle.dpl_lowered.specs.LoweredExpressions.{Times, Once, lowered_expr, lowered_item}
 use Rattle.dpl_lowered.specs.LoweredStatements.{default_tree, written_initial, written_type, tells_name, declared_type, declared_initial, lowered_argument}
-use Rattle.dpl_words.specs.Words.{LeafKind}
-use Rattle.dpl_memory.specs.Memory.{PlainKind, Variable, variable, known_variable}
+use Rattle.dpl_memory.specs.Memory.{Variable, known_variable}
 use Rattle.dpl_memory.specs.Resolved.{Bound, Seen, Start, text_of, variable_of, resolving}
-use Rattle.dpl_nodes.specs.declared.make.Typed.{Typed}
+use Rattle.dpl_typer.specs.declared.make.Typed.{Typed}
 use Rattle.dpl_nodes.specs.declared.tree.BoolExpr.{BoolExpr}
 use Rattle.dpl_nodes.specs.Typed.{truth_view}
 use Rattle.dpl_nodes.specs.declared.step.Step.{Step}
 use Rattle.dpl_nodes.specs.declared.step.Argument.{Argument}
-use Rattle.dpl_nodes.specs.Makers.{typed_item, kind_of}
+use Rattle.dpl_typer.specs.Makers.{typed_item, kind_of, is_promoted}
 use Rattle.dpl_nodes.specs.Steps.{argument_view, step_view}
-use Rattle.dpl_elaborator.specs.Leaves.{plain_kind, leaf_in, IsFound}
-use Rattle.dpl_elaborator.specs.Simple.{IsSimple, IsSimpleItem}
-use Rattle.dpl_elaborator.specs.Sights.{bound_in, ArePlainScopes}
+use Rattle.dpl_typer.specs.Leaves.{value_kind, leaf_in, IsFound}
+use Rattle.dpl_typer.specs.Simple.{IsSimple, IsSimpleItem}
+use Rattle.dpl_typer.specs.Sights.{bound_in, ArePlainScopes}
 use Rattle.dpl_planner.specs.declared.progress.Plan.{Plan}
 use Rattle.dpl_scalar.specs.Bodies.{loop_variable}
 use Rattle.dpl_planner.specs.Bounds.{bound_new, bound_stmt}
@@ -40,12 +39,8 @@ use Rattle.dpl_planner.specs.Plans.{seen_of, seen_in, Stands, stmt_leaves}
 
 -- an item, elaborated
 pub record IsItem (ss : Scopes) (i : ItemTree Text) (t : Typed) : Type 0 where
-  pub node : typed_item t ≡ lowered_item known_variable Once (renamed_item (leaf_in ss) i)
+  pub node : (m : Times) → typed_item m t ≡ lowered_item known_variable m (renamed_item (leaf_in ss) i)
   pub found : IsSimpleItem (IsFound ss) i
-
--- a plain variable of a kind
-abbrev pub leaf_as : LeafKind → ℕ → Variable
-leaf_as k slot = variable (PlainKind k) slot
 
 -- DECLARATIONS: the type of a plain variable, or none that is written
 abbrev pub IsPlainType : Option (TypeTree Text) → Option Kind → Type 0
@@ -59,7 +54,7 @@ IsPlainType (Some (ArrayType a)) k = ⊥
 
 -- the default of a type
 abbrev pub IsDefault : Kind → Typed → Type 0
-IsDefault k t = (typed_item t ≡ One (default_tree k)) × (plain_kind (Scalar k) ≡ Some (kind_of t))
+IsDefault k t = (typed_item Once t ≡ One (default_tree k)) × (value_kind (Scalar k) ≡ Some (kind_of t))
 
 -- an initial value without a map
 abbrev pub IsGivenInit : Scopes → InitTree Text → Typed → Type 0
@@ -86,10 +81,10 @@ pub record IsInitial (ss : Scopes) (t : Option (TypedTree Text)) (i : Option (In
   pub type : IsPlainTyped ss t
   pub text : option_map (renamed_initial text_of) (bound_initial ss i) ≡ i
   pub node : declared_initial known_variable (type_of (option_map (renamed_typed variable_of) (bound_typed ss t))) (option_map (renamed_initial variable_of) (bound_initial ss i))
-      ≡ Some (written_initial nowhere (typed_item value))
+      ≡ Some (written_initial nowhere (typed_item Once value))
   pub initial : (start : Start) (is : List (Bound × Op)) → ArePlainScopes ss
       → fits_initial (resolving start) (side_by (resolving start) (type_of (bound_typed ss t))) (bound_initial ss i) (seen_of ss is)
-  pub suits : (start : Start) (x : Bound) (g : Seen) → x.variable.kind ≡ PlainKind (kind_of value) → suits_declared (resolving start) x (type_of (bound_typed ss t)) (bound_initial ss i) g
+  pub suits : (start : Start) (x : Bound) (g : Seen) → is_promoted (kind_of value) ≡ false → x.variable.kind ≡ kind_of value → suits_declared (resolving start) x (type_of (bound_typed ss t)) (bound_initial ss i) g
 
 -- a `config const` is set alike by its text and by its slot
 abbrev pub IsOwedBy : Option Place → Start → Bound → Type 0

@@ -14,7 +14,7 @@ use Rattle.dpl_memory.specs.Resolved.{Bound, Seen, Start, text_of, variable_of, 
 use Rattle.dpl_nodes.specs.declared.step.Step.{Step}
 use Rattle.dpl_nodes.specs.declared.step.Else.{Else as ElseNode}
 use Rattle.dpl_nodes.specs.Steps.{listed, intent_view, step_view, else_view, steps_of}
-use Rattle.dpl_elaborator.specs.Sights.{sight_of, ArePlainScopes}
+use Rattle.dpl_typer.specs.Sights.{sight_of, ArePlainScopes}
 use Rattle.dpl_planner.specs.declared.progress.Reducing.{Reducing}
 use Rattle.dpl_planner.specs.declared.progress.Plan.{Plan}
 use Rattle.dpl_planner.specs.Given.{AreGiven}

@@ -12,36 +12,37 @@ ghost use Rattle.dpl_tree.specs.Statements.{target_view, sign_view};
 ghost use Rattle.dpl_types.specs.View.{type_view, of_type};
 ghost use Rattle.dpl_scopes.specs.Slots.{slot_in};
 ghost use Rattle.dpl_lowered.specs.Shapes.{kept};
-ghost use Rattle.dpl_words.specs.Words.{IntLeaf, TruthLeaf, RangeLeaf, intent_at, takes, is_logical as is_logical_of, Combines};
-ghost use Rattle.dpl_memory.specs.Memory.{intents_by_slot};
-ghost use Rattle.dpl_memory.specs.Resolved.{text_of, variable_of, IntentResolves};
+ghost use Rattle.dpl_lowered.specs.LoweredExpressions.{Once};
+ghost use Rattle.dpl_words.specs.Words.{LeafKind, TruthLeaf, RangeLeaf, intent_at, takes, is_logical as is_logical_of};
+ghost use Rattle.dpl_memory.specs.Memory.{PlainKind, variable, int_leaf, truth_leaf, range_leaf, intents_by_slot};
+ghost use Rattle.dpl_memory.specs.Resolved.{text_of, variable_of, kind_takes, KindCombines, IntentResolves};
 ghost use Rattle.dpl_nodes.specs.Faults.{IsNear};
-ghost use Rattle.dpl_nodes.specs.Makers.{kind_of, typed_item};
+ghost use Rattle.dpl_typer.specs.Makers.{kind_of, typed_item};
 ghost use Rattle.dpl_nodes.specs.declared.make.Stop.TheVariants as stop;
-ghost use Rattle.dpl_nodes.specs.declared.make.Typed.TheVariants as typed;
+ghost use Rattle.dpl_typer.specs.declared.make.Typed.TheVariants as typed;
 ghost use Rattle.dpl_nodes.specs.Steps.{step_view, assigned_to as assigns};
-ghost use Rattle.dpl_elaborator.specs.Leaves.{plain_kind, type_in, kind_in};
-ghost use Rattle.dpl_planner.specs.Parts.{leaf_as};
+ghost use Rattle.dpl_typer.specs.Leaves.{value_kind, type_in, kind_in};
 ghost use Rattle.dpl_scalar.specs.Scalar.{AreToldAlike, IsReducedBy, IsScalarStmt};
 ghost use Rattle.dpl_planner.specs.Plans.{reducing_view, intents_in, seen_in, PlansStmt};
 
 use crate::progress::{Plan, Reducing, spot};
-use dpl_elaborator::item;
-use dpl_nodes::{BoolExpr, IntExpr, RangeExpr, Step, Stop, TruthDeed, Typed};
+use dpl_nodes::{BoolExpr, IntExpr, RangeExpr, Step, Stop, TruthDeed};
 use dpl_scopes::Scopes;
 use dpl_syntax::Place;
 use dpl_tree::{Arena, Assign, AssignSign, Assignment, Item, Name, Op, ScalarKind, Target};
+use dpl_typer::{Typed, item};
 use dpl_types::ValueType;
 
-/// Whether a variable of a type holds the values of an expression.
+/// Whether a plain variable of a type holds the values of an expression.
 pub(crate) fn holds(t: ValueType<'_>, value: Typed<'_>) -> bool
-    ensures yes { (result ≡ true) → plain_kind (type_view t.entry) ≡ Some (kind_of value.entry) }
-    ensures no { (result ≡ false) → plain_kind (type_view t.entry) ≢ Some (kind_of value.entry) }
+    ensures yes { (result ≡ true) → value_kind (type_view t.entry) ≡ Some (kind_of value.entry) }
+    ensures no { (result ≡ false) → (k : LeafKind) → (kind_of value.entry ≡ PlainKind k) → value_kind (type_view t.entry) ≢ Some (PlainKind k) }
 {
     match value {
         Typed::Int(_) => matches!(t, ValueType::Scalar(ScalarKind::Int)),
         Typed::Truth(_) => matches!(t, ValueType::Scalar(ScalarKind::Bool)),
         Typed::Range(_) => matches!(t, ValueType::Range { .. }),
+        Typed::Domain(_) | Typed::Tuple(_) | Typed::Ints(_) | Typed::Truths(_) => false,
     }
 }
 
@@ -59,7 +60,7 @@ pub(crate) fn declared_type<'s>(scopes: &Scopes<'s>, name: &[u8]) -> Option<Valu
 fn variable(scopes: &Scopes<'_>, name: &[u8], value: Typed<'_>) -> Result<usize, Stop>
     ensures kind { IfOk result (λ slot. kind_in scopes.now name.now ≡ Some (kind_of value.entry)) }
     ensures slot { IfOk result (λ slot. slot_in scopes.now name.now ≡ Some slot) }
-    ensures ill_typed { (result ≡ Err stop.IllTyped) → kind_in scopes.now name.now ≢ Some (kind_of value.entry) }
+    ensures ill_typed { (result ≡ Err stop.IllTyped) → (k : LeafKind) → (kind_of value.entry ≡ PlainKind k) → kind_in scopes.now name.now ≢ Some (PlainKind k) }
 {
     let Some(t) = declared_type(scopes, name) else {
         return Err(Stop::IllTyped);
@@ -80,7 +81,7 @@ fn of_int<'t>(
     slot: usize,
     e: &'t IntExpr<'t>,
 ) -> Result<Step<'t>, Stop>
-    ensures node { IfOk result (λ s. step_view s ≡ assigns (leaf_as IntLeaf slot) (assign_view sign.op) (kept (assign_divides (assign_view sign.op)) sign.at) (typed_item (typed.Int e.entry))) }
+    ensures node { IfOk result (λ s. step_view s ≡ assigns (int_leaf slot) (assign_view sign.op) (kept (assign_divides (assign_view sign.op)) sign.at) (typed_item Once (typed.Int e.entry))) }
     ensures ill_typed { (result ≡ Err stop.IllTyped) → IsNear sign.at → ⊥ }
 {
     match sign.op {
@@ -96,7 +97,7 @@ fn of_int<'t>(
 
 // What a truth value is assigned: arithmetic doesn't take it.
 fn of_truth<'t>(sign: AssignSign, slot: usize, e: &'t BoolExpr<'t>) -> Result<Step<'t>, Stop>
-    ensures node { IfOk result (λ s. step_view s ≡ assigns (leaf_as TruthLeaf slot) (assign_view sign.op) (kept (assign_divides (assign_view sign.op)) sign.at) (typed_item (typed.Truth e.entry))) }
+    ensures node { IfOk result (λ s. step_view s ≡ assigns (truth_leaf slot) (assign_view sign.op) (kept (assign_divides (assign_view sign.op)) sign.at) (typed_item Once (typed.Truth e.entry))) }
     ensures takes { IfOk result (λ s. takes TruthLeaf (assign_view sign.op) ≡ true) }
     ensures ill_typed { (result ≡ Err stop.IllTyped) → takes TruthLeaf (assign_view sign.op) ≡ false }
 {
@@ -113,7 +114,7 @@ fn of_truth<'t>(sign: AssignSign, slot: usize, e: &'t BoolExpr<'t>) -> Result<St
 
 // What a range is assigned: by `=` alone.
 fn of_range<'t>(sign: AssignSign, slot: usize, e: &'t RangeExpr<'t>) -> Result<Step<'t>, Stop>
-    ensures node { IfOk result (λ s. step_view s ≡ assigns (leaf_as RangeLeaf slot) (assign_view sign.op) (kept (assign_divides (assign_view sign.op)) sign.at) (typed_item (typed.Range e.entry))) }
+    ensures node { IfOk result (λ s. step_view s ≡ assigns (range_leaf slot) (assign_view sign.op) (kept (assign_divides (assign_view sign.op)) sign.at) (typed_item Once (typed.Range e.entry))) }
     ensures takes { IfOk result (λ s. takes RangeLeaf (assign_view sign.op) ≡ true) }
 {
     match sign.op {
@@ -127,21 +128,25 @@ fn of_range<'t>(sign: AssignSign, slot: usize, e: &'t RangeExpr<'t>) -> Result<S
     }
 }
 
-// A variable that is assigned a value of its kind.
+// A plain variable that is assigned a value of its kind.
 fn change<'t>(
     arena: Arena<'t>,
     sign: AssignSign,
     slot: usize,
     value: Typed<'t>,
 ) -> Result<Step<'t>, Stop>
-    ensures node { IfOk result (λ s. step_view s ≡ assigns (leaf_as (kind_of value.entry) slot) (assign_view sign.op) (kept (assign_divides (assign_view sign.op)) sign.at) (typed_item value.entry)) }
-    ensures takes { IfOk result (λ s. takes (kind_of value.entry) (assign_view sign.op) ≡ true) }
-    ensures ill_typed { (result ≡ Err stop.IllTyped) → (kind_of value.entry ≢ RangeLeaf) → takes (kind_of value.entry) (assign_view sign.op) ≡ true → IsNear sign.at → ⊥ }
+    ensures node { IfOk result (λ s. step_view s ≡ assigns (variable (kind_of value.entry) slot) (assign_view sign.op) (kept (assign_divides (assign_view sign.op)) sign.at) (typed_item Once value.entry)) }
+    ensures takes { IfOk result (λ s. kind_takes (kind_of value.entry) (assign_view sign.op) ≡ true) }
+    ensures plain { IfOk result (λ s. (k : LeafKind) × (kind_of value.entry ≡ PlainKind k)) }
+    ensures ill_typed { (result ≡ Err stop.IllTyped) → (k : LeafKind) → (kind_of value.entry ≡ PlainKind k) → (k ≢ RangeLeaf) → takes k (assign_view sign.op) ≡ true → IsNear sign.at → ⊥ }
 {
     match value {
         Typed::Int(e) => of_int(arena, sign, slot, e),
         Typed::Truth(e) => of_truth(sign, slot, e),
         Typed::Range(e) => of_range(sign, slot, e),
+        Typed::Domain(_) | Typed::Tuple(_) | Typed::Ints(_) | Typed::Truths(_) => {
+            Err(Stop::IllTyped)
+        }
     }
 }
 
@@ -177,8 +182,8 @@ fn is_logical(op: Op) -> bool
 
 // Whether an operator puts the values of an expression together; without one there is nothing to put together.
 fn combines(value: Typed<'_>, op: Option<Op>) -> bool
-    ensures yes { (result ≡ true) → Combines (kind_of value.entry) (option_map op_view op) }
-    ensures no { (result ≡ false) → Combines (kind_of value.entry) (option_map op_view op) → ⊥ }
+    ensures yes { (result ≡ true) → KindCombines (kind_of value.entry) (option_map op_view op) }
+    ensures no { (result ≡ false) → KindCombines (kind_of value.entry) (option_map op_view op) → ⊥ }
 {
     match op {
         None => true,
@@ -186,6 +191,7 @@ fn combines(value: Typed<'_>, op: Option<Op>) -> bool
             Typed::Int(_) => !is_logical(op),
             Typed::Truth(_) => is_logical(op),
             Typed::Range(_) => false,
+            Typed::Domain(_) | Typed::Tuple(_) | Typed::Ints(_) | Typed::Truths(_) => true,
         },
     }
 }
@@ -198,8 +204,8 @@ fn intent_resolves(
     slot: usize,
     value: Typed<'_>,
 ) -> Result<(), Stop>
-    ensures resolves { OnOk result (IntentResolves (assign_view op) (record { text = name.now; variable = leaf_as (kind_of value.entry) slot }) (seen_in plan.now)) }
-    ensures ill_typed { (result ≡ Err stop.IllTyped) → slot_in plan.now.scopes name.now ≡ Some slot → IsReducedBy plan.now.scopes (intents_in plan.now) name.now (assign_view op) (kind_of value.entry) → ⊥ }
+    ensures resolves { OnOk result (IntentResolves (assign_view op) (record { text = name.now; variable = variable (kind_of value.entry) slot }) (seen_in plan.now)) }
+    ensures ill_typed { (result ≡ Err stop.IllTyped) → slot_in plan.now.scopes name.now ≡ Some slot → (k : LeafKind) → (kind_of value.entry ≡ PlainKind k) → IsReducedBy plan.now.scopes (intents_in plan.now) name.now (assign_view op) k → ⊥ }
 {
     match op {
         Assign::Set

@@ -9,23 +9,25 @@ ghost use Rattle.dpl_tree.specs.Declarations.{optional, typed_view as written_ty
 ghost use Rattle.dpl_rules.specs.Declarations.{declared_by};
 ghost use Rattle.dpl_lowered.specs.LoweredStatements.{unplaced_word};
 ghost use Rattle.dpl_scopes.specs.View.{declared_view};
+ghost use Rattle.dpl_lowered.specs.LoweredExpressions.{Once};
 ghost use Rattle.dpl_words.specs.Words.{LeafKind};
+ghost use Rattle.dpl_memory.specs.Memory.{PlainKind, variable};
 ghost use Rattle.dpl_nodes.specs.declared.make.Stop.TheVariants as stop;
-ghost use Rattle.dpl_nodes.specs.Makers.{kind_of, typed_item};
+ghost use Rattle.dpl_typer.specs.Makers.{kind_of, typed_item};
 ghost use Rattle.dpl_nodes.specs.Steps.{step_view, declared_as};
-ghost use Rattle.dpl_planner.specs.Parts.{leaf_as, IsPlainType, IsDefault, IsGivenInit, IsInitial, PlansDeclare};
+ghost use Rattle.dpl_planner.specs.Parts.{IsPlainType, IsDefault, IsGivenInit, IsInitial, PlansDeclare};
 ghost use Rattle.dpl_scalar.specs.Scalar.{IsScalarType, IsInitOf, IsInitialOf, IsConfigOf, IsScalarDeclare, IsScalarStmt};
 ghost use Rattle.dpl_planner.specs.Plans.{intents_in, PlansStmt};
 
 use crate::change::holds;
 use crate::progress::Plan;
-use dpl_elaborator::item;
 use dpl_forms::declaration::declaration;
-use dpl_nodes::leaves::{number, truth_word};
-use dpl_nodes::{Step, Stop, TruthDeed, Typed};
+use dpl_nodes::{Step, Stop, TruthDeed};
 use dpl_scopes::{Declared, Scopes};
 use dpl_syntax::Place;
 use dpl_tree::{Arena, Declare, DeclaredType, Init, Initial, ScalarKind, Typed as WrittenType};
+use dpl_typer::leaves::{number, truth_word};
+use dpl_typer::{Typed, item};
 
 // The declaration, as the check has it.
 fn declared<'s>(plan: &Plan<'s, '_>, written: &Declare<'s>) -> Result<Declared<'s>, Stop>
@@ -69,7 +71,7 @@ fn default<'t>(arena: Arena<'t>, kind: ScalarKind) -> Result<Typed<'t>, Stop>
 // The initial value that is written.
 fn given<'t>(arena: Arena<'t>, scopes: &Scopes<'_>, written: &Init<'_>) -> Result<Typed<'t>, Stop>
     ensures given { IfOk result (λ t. IsGivenInit scopes.now (init_view written.now) t) }
-    ensures kind { IfOk result (λ t. (k : LeafKind) → IsInitOf scopes.now (init_view written.now) k → kind_of t ≡ k) }
+    ensures kind { IfOk result (λ t. (k : LeafKind) → IsInitOf scopes.now (init_view written.now) k → kind_of t ≡ PlainKind k) }
     ensures ill_typed { (result ≡ Err stop.IllTyped) → (k : LeafKind) → IsInitOf scopes.now (init_view written.now) k → ⊥ }
 {
     match written {
@@ -87,7 +89,7 @@ fn initial<'t>(
     written: &Option<Initial<'_>>,
 ) -> Result<Typed<'t>, Stop>
     ensures initial { IfOk result (λ t. IsInitial scopes.now (optional written_type_view typed.now) (optional initial_view written.now) t) }
-    ensures kind { IfOk result (λ t. (k : LeafKind) → IsInitialOf scopes.now (type_of (optional written_type_view typed.now)) (optional initial_view written.now) k → kind_of t ≡ k) }
+    ensures kind { IfOk result (λ t. (k : LeafKind) → IsInitialOf scopes.now (type_of (optional written_type_view typed.now)) (optional initial_view written.now) k → kind_of t ≡ PlainKind k) }
     ensures ill_typed { (result ≡ Err stop.IllTyped) → (k : LeafKind) → IsScalarType (type_of (optional written_type_view typed.now))
         → IsInitialOf scopes.now (type_of (optional written_type_view typed.now)) (optional initial_view written.now) k → ⊥ }
 {
@@ -103,8 +105,9 @@ fn initial<'t>(
 
 // The statement: a `config const` is an int or a truth value.
 fn declares<'t>(config: Option<Place>, slot: usize, value: Typed<'t>) -> Result<Step<'t>, Stop>
-    ensures node { IfOk result (λ s. step_view s ≡ declared_as (unplaced_word config) (leaf_as (kind_of value.entry) slot) (typed_item value.entry)) }
-    ensures ill_typed { (result ≡ Err stop.IllTyped) → IsConfigOf config (kind_of value.entry) → ⊥ }
+    ensures node { IfOk result (λ s. step_view s ≡ declared_as (unplaced_word config) (variable (kind_of value.entry) slot) (typed_item Once value.entry)) }
+    ensures plain { IfOk result (λ s. (k : LeafKind) × (kind_of value.entry ≡ PlainKind k)) }
+    ensures ill_typed { (result ≡ Err stop.IllTyped) → (k : LeafKind) → (kind_of value.entry ≡ PlainKind k) → IsConfigOf config k → ⊥ }
 {
     match (config, value) {
         (None, Typed::Int(e)) => Ok(Step::DeclareInt(slot, e)),
@@ -113,6 +116,9 @@ fn declares<'t>(config: Option<Place>, slot: usize, value: Typed<'t>) -> Result<
         (Some(_), Typed::Int(e)) => Ok(Step::ConfigInt(slot, e)),
         (Some(_), Typed::Truth(e)) => Ok(Step::Truth(TruthDeed::Config, slot, e)),
         (Some(_), Typed::Range(_)) => Err(Stop::IllTyped),
+        (_, Typed::Domain(_) | Typed::Tuple(_) | Typed::Ints(_) | Typed::Truths(_)) => {
+            Err(Stop::IllTyped)
+        }
     }
 }
 

@@ -10,22 +10,23 @@ ghost use Rattle.dpl_tree.specs.View.{name_view, expr_view, item_view};
 ghost use Rattle.dpl_tree.specs.Declarations.{optional};
 ghost use Rattle.dpl_tree.specs.Statements.{variables_view, intent_view, with_view};
 ghost use Rattle.dpl_words.specs.Words.{LeafKind, TruthLeaf, RangeLeaf};
+ghost use Rattle.dpl_memory.specs.Memory.{PlainKind};
 ghost use Rattle.dpl_memory.specs.Resolved.{variable_of};
 ghost use Rattle.dpl_nodes.specs.declared.make.Stop.TheVariants as stop;
-ghost use Rattle.dpl_nodes.specs.declared.make.Typed.TheVariants as typed;
+ghost use Rattle.dpl_typer.specs.declared.make.Typed.TheVariants as typed;
 ghost use Rattle.dpl_nodes.specs.Steps.{intent_view as step_intent};
-ghost use Rattle.dpl_elaborator.specs.Leaves.{kind_in};
-ghost use Rattle.dpl_elaborator.specs.Sights.{bound_in};
+ghost use Rattle.dpl_typer.specs.Leaves.{kind_in};
+ghost use Rattle.dpl_typer.specs.Sights.{bound_in};
 ghost use Rattle.dpl_planner.specs.Parts.{IsItem, IsCondition, IsOpened, intents_among};
 ghost use Rattle.dpl_scalar.specs.Scalar.{IsExprOf, IsItemOf, IsOneVariable, IsScalarIntent, AreScalarIntents, HasScalarIntents};
 ghost use Rattle.dpl_planner.specs.Plans.{reducing_view};
 
 use crate::change::declared_type;
 use crate::progress::{Plan, Reducing, list, push};
-use dpl_elaborator::{expression, item};
-use dpl_nodes::{BoolExpr, Intent as Reduced, RangeExpr, Stop, Typed};
+use dpl_nodes::{BoolExpr, Intent as Reduced, RangeExpr, Stop};
 use dpl_scopes::{Scopes, Sort};
 use dpl_tree::{Arena, Expr, Intent, Item, Name, NextIntent, Op, ScalarKind, Variables, With};
+use dpl_typer::{Typed, expression, item};
 use dpl_types::ValueType;
 
 /// What a loop runs over.
@@ -38,7 +39,12 @@ pub(crate) fn over<'t>(plan: &Plan<'_, 't>, written: &Item<'_>) -> Result<&'t Ra
 {
     match item(plan.arena, &plan.scopes, written)? {
         Typed::Range(range) => Ok(range),
-        Typed::Int(_) | Typed::Truth(_) => Err(Stop::IllTyped),
+        Typed::Int(_)
+        | Typed::Truth(_)
+        | Typed::Domain(_)
+        | Typed::Tuple(_)
+        | Typed::Ints(_)
+        | Typed::Truths(_) => Err(Stop::IllTyped),
     }
 }
 
@@ -52,7 +58,12 @@ pub(crate) fn condition<'t>(plan: &Plan<'_, 't>, e: &Expr<'_>) -> Result<&'t Boo
 {
     match expression(plan.arena, &plan.scopes, e)? {
         Typed::Truth(e) => Ok(e),
-        Typed::Int(_) | Typed::Range(_) => Err(Stop::IllTyped),
+        Typed::Int(_)
+        | Typed::Range(_)
+        | Typed::Domain(_)
+        | Typed::Tuple(_)
+        | Typed::Ints(_)
+        | Typed::Truths(_) => Err(Stop::IllTyped),
     }
 }
 
@@ -100,7 +111,7 @@ pub(crate) fn open<'s>(plan: &mut Plan<'s, '_>, name: &Name<'s>) -> Result<usize
 // A reduce variable, with its slot.
 fn reduced<'s>(scopes: &Scopes<'_>, op: Op, name: &Name<'s>) -> Result<Reducing<'s>, Stop>
     ensures reduced { IfOk result (λ r. reducing_view r ≡ (bound_in scopes.now name.now.text.now, op_view op)) }
-    ensures ill_typed { (result ≡ Err stop.IllTyped) → (k : LeafKind) → kind_in scopes.now name.now.text.now ≡ Some k → (k ≢ RangeLeaf) → ⊥ }
+    ensures ill_typed { (result ≡ Err stop.IllTyped) → (k : LeafKind) → kind_in scopes.now name.now.text.now ≡ Some (PlainKind k) → (k ≢ RangeLeaf) → ⊥ }
 {
     let Some(ValueType::Scalar(kind)) = declared_type(scopes, name.text) else {
         return Err(Stop::IllTyped);

@@ -11,7 +11,7 @@ ghost use Rattle.dpl_lowered.specs.LoweredStatements.{lowered_program};
 ghost use Rattle.dpl_memory.specs.Memory.{known_variable};
 ghost use Rattle.dpl_memory.specs.Resolved.{Start, text_of, variable_of, first_seen, resolving};
 ghost use Rattle.dpl_nodes.specs.Steps.{steps_of};
-ghost use Rattle.dpl_elaborator.specs.Sights.{sight_of, ArePlainScopes};
+ghost use Rattle.dpl_typer.specs.Sights.{sight_of, ArePlainScopes};
 ghost use Rattle.dpl_planner.specs.Bounds.{bound_program};
 ghost use Rattle.dpl_planner.specs.Given.{AreGiven};
 ghost use Rattle.dpl_nodes.specs.declared.make.Stop.TheVariants as stop;

@@ -15,11 +15,11 @@ ghost use Rattle.dpl_scalar.specs.Scalar.{IsScalarExpr, IsScalarArgument, AreSca
 ghost use Rattle.dpl_planner.specs.Plans.{intents_in, PlansStmt};
 
 use crate::progress::{Plan, list, push};
-use dpl_elaborator::expression;
 use dpl_nodes::step::Argument as Shown;
-use dpl_nodes::{Step, Stop, Typed};
+use dpl_nodes::{Step, Stop};
 use dpl_syntax::{Bytes, text_bytes};
 use dpl_tree::{Arena, Argument, Arguments, Expr, NextArgument, Write};
+use dpl_typer::{Typed, expression};
 
 // A text, by the bytes that its escapes mean.
 fn text<'t>(arena: Arena<'t>, bytes: &[u8]) -> Result<&'t [u8], Stop>
@@ -42,6 +42,9 @@ fn value<'t>(plan: &Plan<'_, 't>, e: &Expr<'_>) -> Result<Shown<'t>, Stop>
         Typed::Int(e) => Ok(Shown::Int(e)),
         Typed::Truth(e) => Ok(Shown::Truth(e)),
         Typed::Range(_) => Err(Stop::IllTyped),
+        Typed::Domain(_) | Typed::Tuple(_) | Typed::Ints(_) | Typed::Truths(_) => {
+            Err(Stop::IllTyped)
+        }
     }
 }
 

@@ -1,21 +1,29 @@
 -- What is left at a program's end: the names of its top level, each with its kind and slot, are what is in sight there.
 -- A scope has its latest declaration first, and names are told in order.
-use Rattle.std.proofs.Common.{◌≡◌, ◌+◌, Bool, true, false, List, [], ◌∷◌, ◌++◌, map, length, Some, None, refl, sym, ap, ◌∙◌, subst, append_assoc}
+use Rattle.std.proofs.Common.{◌≡◌, ◌+◌, Bool, true, false, ℕ, List, [], ◌∷◌, ◌++◌, map, length, Option, Some, None, refl, sym, ap, ◌∙◌, subst, append_assoc}
 use Rattle.std.specs.Prelude.{bytes_eq, if◌then◌else◌}
 use Rattle.std.proofs.lemmas.List.{map-append, append-nil}
+use Rattle.std.proofs.lemmas.Option.{none-some}
 use Rattle.std.proofs.lemmas.Slice.Eq.{bytes_eq-Decides}
-use Rattle.dpl_language.specs.Tree.{StmtTree, Nothing, Declare, Assigned, Call, Write, Block, If, While, For, Forall, Coforall, On, Stmts, NoStmts, Then}
-use Rattle.dpl_language.specs.Names.{Text}
+use Rattle.dpl_language.specs.Tree.{Kind, IntKind, BoolKind, StmtTree, Nothing, Declare, Assigned, Call, Write, Block, If, While, For, Forall, Coforall, On, Stmts, NoStmts, Then}
+use Rattle.dpl_language.specs.Environment.{Plain}
+use Rattle.dpl_language.specs.Names.{Text, Entry}
 use Rattle.dpl_language.specs.Scopes.{PlainSort}
-use Rattle.dpl_rules.specs.Sights.{Declared, Scope, Scopes, find}
+use Rattle.dpl_rules.specs.Sights.{Declared, Scope, Scopes, find, lookup, type_declared}
+use Rattle.dpl_rules.specs.Types.{ValueType, Scalar, Range}
 use Rattle.dpl_rules.specs.Loops.{behind}
 use Rattle.dpl_rules.specs.Breaches.{top}
 use Rattle.dpl_rules.specs.Sound.{behind_all}
-use Rattle.dpl_memory.specs.Resolved.{outermost}
-use Rattle.dpl_memory.specs.Resolved.{sighted}
-use Rattle.dpl_elaborator.specs.Sights.{bound_at, frame_from, sight_of, IsPlainScope, ArePlainScopes}
+use Rattle.dpl_scopes.specs.Slots.{slot_in}
+use Rattle.dpl_words.specs.Words.{LeafKind}
+use Rattle.dpl_memory.specs.Memory.{PlainKind, Memory}
+use Rattle.dpl_memory.specs.Resolved.{Sighted, outermost, sighted, entry_in, frame_in}
+use Rattle.dpl_scalar.proofs.Expressions.{plain-cases}
+use Rattle.dpl_typer.specs.Leaves.{kind_by, leaf_by}
+use Rattle.dpl_typer.specs.Sights.{bound_at, frame_from, sight_of, IsPlainScope, ArePlainScopes}
 use Rattle.dpl_run.specs.Names.{declared_by, declared_names}
-use Rattle.dpl_run.specs.Leaving.{sighted_in}
+use Rattle.dpl_typer.proofs.Sights.{HasPlainKind, lookup-plain}
+use Rattle.dpl_run.specs.Leaving.{sighted_in, held_by, held_entry, held_frame}
 
 -- the names of a scope, in order
 abbrev names_in : Scope → List Text
@@ -114,3 +122,31 @@ pub outermost-names : (ts : Stmts Text) → ArePlainScopes (behind_all top ts) �
 outermost-names ts plain =
     let g = behind_all-grown [] ts in
     outermost-one (behind_all top ts) g.scope (declared_names ts) g.one g.named plain
+
+-- ---- what plain variables hold
+abbrev HoldsAlike : Memory → Text → Option ℕ → Option ValueType → Type 0
+HoldsAlike s x slot t = record { name = x; content = Plain (held_by t slot s) } ≡ entry_in s (sighted (record { text = x; variable = leaf_by (kind_by t) slot }) PlainSort)
+
+scalar-held : (s : Memory) (x : Text) (slot : Option ℕ) (l : Kind) → HoldsAlike s x slot (Some (Scalar l))
+scalar-held s x None IntKind = refl
+scalar-held s x None BoolKind = refl
+scalar-held s x (Some slot) IntKind = refl
+scalar-held s x (Some slot) BoolKind = refl
+
+range-held : (s : Memory) (x : Text) (slot : Option ℕ) (strided : Bool) → HoldsAlike s x slot (Some (Range strided))
+range-held s x None strided = refl
+range-held s x (Some slot) strided = refl
+
+type-held : (s : Memory) (x : Text) (slot : Option ℕ) (t : Option ValueType) (k : LeafKind) → kind_by t ≡ Some (PlainKind k) → HoldsAlike s x slot t
+type-held s x slot None k e = absurd (none-some (PlainKind k) e)
+type-held s x slot (Some t) k e = plain-cases (λ t. HoldsAlike s x slot (Some t)) (scalar-held s x slot) (range-held s x slot) t k e
+
+declared-held : (s : Memory) (x : Text) (slot : Option ℕ) (o : Option Declared) → HasPlainKind o → HoldsAlike s x slot (type_declared o)
+declared-held s x slot None plain = refl
+declared-held s x slot (Some d) plain = type-held s x slot d.type plain.0 plain.1
+
+pub held-frame : (scopes : Scopes) (s : Memory) → ArePlainScopes scopes → (xs : List Text) → held_frame scopes s xs ≡ frame_in s (map (sighted_in scopes) xs)
+held-frame scopes s plain [] = refl
+held-frame scopes s plain (x ∷ xs) =
+    ap (λ (e : Entry). e ∷ held_frame scopes s xs) (declared-held s x (slot_in scopes x) (lookup scopes x) (lookup-plain scopes x plain))
+    ∙ ap (λ es. entry_in s (sighted_in scopes x) ∷ es) (held-frame scopes s plain xs)

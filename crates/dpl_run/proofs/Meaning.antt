@@ -1,9 +1,10 @@
 -- A run of a program's plan in a memory is what the program means.
 -- From the agreement of a memory with names, from lowering, and from what the planner gives.
-use Rattle.std.proofs.Common.{◌≡◌, ℕ, List, [], map, Option, Some, None, refl, sym, ap, ◌∙◌, subst}
+use Rattle.std.proofs.Common.{◌≡◌, ℕ, Bool, List, [], map, Option, Some, None, refl, sym, ap, ◌∙◌, subst}
 use Rattle.std.specs.Prelude.{true}
 use Rattle.dpl_history.specs.declared.history.Event.{Event}
-use Rattle.dpl_language.specs.Tree.{ProgramTree, IntKind, BoolKind}
+use Rattle.std.proofs.lemmas.Option.{none-some}
+use Rattle.dpl_language.specs.Tree.{ProgramTree, Kind, IntKind, BoolKind}
 use Rattle.dpl_language.specs.Values.{Fault}
 use Rattle.dpl_language.specs.Outcome.{Deeds, no_deeds, Outcome as Meant, Done, Stop, Waits}
 use Rattle.dpl_language.specs.Environment.{Limits}
@@ -15,13 +16,13 @@ use Rattle.dpl_language.specs.Renamed.{renamed_program, renamed_stmts}
 use Rattle.dpl_language.specs.Scopes.{fits_all, after_all}
 use Rattle.dpl_language.specs.Agreement.{EndsAlike}
 use Rattle.dpl_language.proofs.ProgramsAlike.{run_from}
-use Rattle.dpl_rules.specs.Types.{ValueType, Scalar, Range, Domain, Array, Promoted, Tuple, Locale, AllLocales, Cell, scalar_of}
+use Rattle.dpl_rules.specs.Types.{ValueType, Scalar, Range, scalar_of}
 use Rattle.dpl_rules.specs.Sights.{Scopes, lookup, type_declared}
 use Rattle.dpl_rules.specs.Sound.{behind_all, sets_fit}
 use Rattle.dpl_rules.specs.Breaches.{top}
 use Rattle.dpl_lowered.proofs.Runs.{exec_all-lowered}
 use Rattle.dpl_words.specs.Words.{LeafKind, IntLeaf, TruthLeaf, RangeLeaf}
-use Rattle.dpl_memory.specs.Memory.{Memory, known_variable, in_memory}
+use Rattle.dpl_memory.specs.Memory.{PlainKind, Memory, known_variable, in_memory}
 use Rattle.dpl_memory.specs.Resolved.{variable_of, Start, first_memory, first_seen, resolving, frame_in, outermost, left_in, StandsFor}
 use Rattle.dpl_memory.proofs.Known.{memory-known}
 use Rattle.dpl_memory.proofs.MemoryAgrees.{meaning-memory, left-memory}
@@ -33,8 +34,9 @@ use Rattle.dpl_says.specs.Given.{scalar_by, given, words_by}
 use Rattle.dpl_says.specs.Says.{run_of}
 use Rattle.dpl_given.specs.Words.{words_in}
 use Rattle.dpl_given.proofs.Alike.{kind_as, given-alike}
-use Rattle.dpl_elaborator.specs.Leaves.{plain_kind, kind_by}
-use Rattle.dpl_elaborator.specs.Sights.{sight_of, ArePlainScopes}
+use Rattle.dpl_typer.specs.Leaves.{value_kind, kind_by}
+use Rattle.dpl_scalar.proofs.Expressions.{plain-cases}
+use Rattle.dpl_typer.specs.Sights.{sight_of, ArePlainScopes}
 use Rattle.dpl_run.specs.Plans.{IsPlan, IsGivenAlike}
 use Rattle.dpl_steps.specs.Runs.{having_printed}
 use Rattle.dpl_run.specs.declared.outcome.Outcome.{Outcome}
@@ -64,26 +66,24 @@ stop-alike R (Stop g did) r f done al e =
 stop-alike R (Waits at c op did) r f done al e = absurd (let both : Waits at c op did ≡ Stop f done = sym al ∙ e in cc)
 
 -- ---- what the sets give
-scalar-kind : (t : ValueType) (k : LeafKind) → plain_kind t ≡ Some k → scalar_of t ≡ kind_as k
-scalar-kind (Scalar IntKind) k e =
+of_scalar : (l : Kind) (k : LeafKind) → value_kind (Scalar l) ≡ Some (PlainKind k) → scalar_of (Scalar l) ≡ kind_as k
+of_scalar IntKind k e =
     let is : IntLeaf ≡ k = cc in
     ap kind_as is
-scalar-kind (Scalar BoolKind) k e =
+of_scalar BoolKind k e =
     let is : TruthLeaf ≡ k = cc in
     ap kind_as is
-scalar-kind (Range strided) k e =
+
+of_range : (strided : Bool) (k : LeafKind) → value_kind (Range strided) ≡ Some (PlainKind k) → scalar_of (Range strided) ≡ kind_as k
+of_range strided k e =
     let is : RangeLeaf ≡ k = cc in
     ap kind_as is
-scalar-kind (Domain rank strided) k e = absurd cc
-scalar-kind (Array kind over) k e = absurd cc
-scalar-kind (Promoted kind over) k e = absurd cc
-scalar-kind (Tuple rank) k e = absurd cc
-scalar-kind Locale k e = absurd cc
-scalar-kind AllLocales k e = absurd cc
-scalar-kind (Cell kind) k e = absurd cc
 
-declared-kind : (t : Option ValueType) (k : LeafKind) → kind_by t ≡ Some k → scalar_by t ≡ kind_as k
-declared-kind None k e = absurd cc
+scalar-kind : (t : ValueType) (k : LeafKind) → value_kind t ≡ Some (PlainKind k) → scalar_of t ≡ kind_as k
+scalar-kind t k e = plain-cases (λ t. value_kind t ≡ Some (PlainKind k) → scalar_of t ≡ kind_as k) (λ l. of_scalar l k) (λ strided. of_range strided k) t k e e
+
+declared-kind : (t : Option ValueType) (k : LeafKind) → kind_by t ≡ Some (PlainKind k) → scalar_by t ≡ kind_as k
+declared-kind None k e = absurd (none-some (PlainKind k) e)
 declared-kind (Some t) k e = scalar-kind t k e
 
 -- A plan of a program that the sets fit, run from its first memory.

@@ -1,7 +1,6 @@
 -- The plan that the planner gives, from its clauses; and that the sets of a program without a refusal fit it.
 -- A `config const` in sight is a plain variable, and has a slot.
 use Rattle.std.proofs.Common.{◌≡◌, ℕ, ◌≤◌, List, [], ◌∷◌, Bool, true, false, Option, Some, None, is_some, refl, sym, ap, ◌∙◌, subst}
-use Rattle.std.specs.Prelude.{bytes_eq, if◌then◌else◌}
 use Rattle.std.proofs.Math.Nat.{le_refl}
 use Rattle.dpl_syntax.specs.declared.place.Place.{Place}
 use Rattle.dpl_syntax.specs.declared.refusal.Refusal.{Refusal}
@@ -10,50 +9,34 @@ use Rattle.dpl_language.specs.Tree.{ProgramTree}
 use Rattle.dpl_language.specs.Names.{Text}
 use Rattle.dpl_language.specs.Renamed.{renamed_program}
 use Rattle.dpl_language.specs.Scopes.{fits_all, after_all}
-use Rattle.dpl_rules.specs.Sights.{Declared, Scope, Scopes, find, or_else, lookup, type_declared}
+use Rattle.dpl_rules.specs.Sights.{Declared, Scopes, lookup, type_declared}
 use Rattle.dpl_rules.specs.Breaches.{top, first_breach}
 use Rattle.dpl_rules.specs.Sound.{behind_all, sets_fit, refusal_by, refusal}
 use Rattle.dpl_scopes.specs.Slots.{slot_in}
 use Rattle.dpl_scopes.proofs.Slots.{slot_in-lookup}
 use Rattle.dpl_lowered.specs.LoweredStatements.{lowered_program}
 use Rattle.dpl_words.specs.Words.{LeafKind}
-use Rattle.dpl_memory.specs.Memory.{known_variable}
+use Rattle.dpl_memory.specs.Memory.{PlainKind, known_variable}
 use Rattle.dpl_memory.specs.Resolved.{text_of, variable_of, Start, first_seen, resolving}
 use Rattle.dpl_nodes.specs.declared.step.Step.{Step}
 use Rattle.dpl_nodes.specs.Steps.{steps_of}
-use Rattle.dpl_elaborator.specs.Leaves.{kind_by, kind_in, leaf_by}
-use Rattle.dpl_elaborator.specs.Sights.{bound_in, sight_of, IsPlainScope, ArePlainScopes}
+use Rattle.dpl_typer.specs.Leaves.{kind_by, kind_in, leaf_by}
+use Rattle.dpl_typer.specs.Sights.{bound_in, sight_of, ArePlainScopes}
+use Rattle.dpl_typer.proofs.Sights.{HasPlainKind, lookup-plain}
 use Rattle.dpl_planner.specs.Bounds.{bound_program}
 use Rattle.dpl_planner.specs.Given.{IsGiven, IsConfig, AreGiven}
 use Rattle.dpl_closed.specs.Closed.{closed_stmts}
 use Rattle.dpl_run.specs.Headline.{or_closed, tree_refusal}
 use Rattle.dpl_run.specs.Plans.{IsPlan, IsGivenAlike}
 
--- ---- what is in sight is plain
-abbrev HasPlainKind : Option Declared → Type 0
-HasPlainKind None = Unit {0}
-HasPlainKind (Some d) = (k : LeafKind) × (kind_by d.type ≡ Some k)
-
-find-plain : (s : Scope) (x : Text) → IsPlainScope s → HasPlainKind (find s x)
-find-plain [] x h = tt
-find-plain (d ∷ ds) x h = elim (bytes_eq x d.origin.name) as (λ b. HasPlainKind (if b then Some d else find ds x)) [ true ↦ h.0 | false ↦ find-plain ds x h.2 ]
-
-or-plain : (a b : Option Declared) → HasPlainKind a → HasPlainKind b → HasPlainKind (or_else a b)
-or-plain None b p q = q
-or-plain (Some d) b p q = p
-
-lookup-plain : (ss : Scopes) (x : Text) → ArePlainScopes ss → HasPlainKind (lookup ss x)
-lookup-plain [] x h = tt
-lookup-plain (s ∷ ss) x h = or-plain (find s x) (lookup ss x) (find-plain s x h.0) (lookup-plain ss x h.1)
-
 some-slot : (o : Option ℕ) → is_some o ≡ true → (slot : ℕ) × (o ≡ Some slot)
 some-slot None e = absurd cc
 some-slot (Some slot) e = (slot, refl)
 
 -- ---- what the sets give
-given-leaf : (start : Start) (ss : Scopes) (x : Text) (k : LeafKind) (slot : ℕ) → IsGivenAlike ss start → kind_in ss x ≡ Some k → slot_in ss x ≡ Some slot → IsGiven start (bound_in ss x)
+given-leaf : (start : Start) (ss : Scopes) (x : Text) (k : LeafKind) (slot : ℕ) → IsGivenAlike ss start → kind_in ss x ≡ Some (PlainKind k) → slot_in ss x ≡ Some slot → IsGiven start (bound_in ss x)
 given-leaf start ss x k slot alike kind at =
-    subst (λ l. IsGiven start (record { text = x; variable = l })) (sym (ap (λ o. leaf_by o (slot_in ss x)) kind ∙ ap (leaf_by (Some k)) at)) (alike x k slot kind at)
+    subst (λ l. IsGiven start (record { text = x; variable = l })) (sym (ap (λ o. leaf_by o (slot_in ss x)) kind ∙ ap (leaf_by (Some (PlainKind k))) at)) (alike x k slot kind at)
 
 configured-given : (start : Start) (ss : Scopes) (x : Text) → IsGivenAlike ss start → (o : Option Declared) → lookup ss x ≡ o → IsConfig o → HasPlainKind o → IsGiven start (bound_in ss x)
 configured-given start ss x alike None found config plain = absurd config

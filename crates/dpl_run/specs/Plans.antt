@@ -11,17 +11,17 @@ use Rattle.dpl_rules.specs.Sound.{behind_all}
 use Rattle.dpl_scopes.specs.Slots.{slot_in}
 use Rattle.dpl_lowered.specs.LoweredStatements.{lowered_program}
 use Rattle.dpl_words.specs.Words.{LeafKind, set_at, given_as}
-use Rattle.dpl_memory.specs.Memory.{known_variable}
+use Rattle.dpl_memory.specs.Memory.{PlainKind, known_variable}
 use Rattle.dpl_memory.specs.Resolved.{Bound, text_of, variable_of, Start, first_seen, resolving}
 use Rattle.dpl_nodes.specs.declared.step.Step.{Step}
 use Rattle.dpl_nodes.specs.Steps.{steps_of}
-use Rattle.dpl_elaborator.specs.Leaves.{kind_in}
-use Rattle.dpl_elaborator.specs.Sights.{sight_of, ArePlainScopes}
+use Rattle.dpl_typer.specs.Leaves.{kind_in}
+use Rattle.dpl_typer.specs.Sights.{sight_of, ArePlainScopes}
 
 -- by its slot each plain variable in sight is given what it is given by its text
 abbrev pub IsGivenAlike : Scopes → Start → Type 0
 IsGivenAlike scopes start =
-    (x : Text) (k : LeafKind) (slot : ℕ) → kind_in scopes x ≡ Some k → slot_in scopes x ≡ Some slot → paired x start.texts ≡ option_map (given_as k) (set_at slot start.words)
+    (x : Text) (k : LeafKind) (slot : ℕ) → kind_in scopes x ≡ Some (PlainKind k) → slot_in scopes x ≡ Some slot → paired x start.texts ≡ option_map (given_as k) (set_at slot start.words)
 
 pub record IsPlan (t : ProgramTree Text) (slots : ℕ) (scopes : Scopes) (steps : List Step) : Type 0 where
   pub resolved : ProgramTree Bound

@@ -1,13 +1,13 @@
 // The variables of the top level, collected when a run has ended.
 // Their values are what the frame has in the slots of their names.
 
-ghost use Rattle.std.specs.Prelude.{◌≡◌, ◌++◌, Some, IfOk, OnOk, map, IfSome, IfNone};
+ghost use Rattle.std.specs.Prelude.{◌≡◌, ◌++◌, IfOk, OnOk, map, IfSome, IfNone};
 ghost use Rattle.dpl_tree.specs.Statements.{stmt_view, stmts_of};
 ghost use Rattle.dpl_types.specs.View.{type_view};
 ghost use Rattle.dpl_memory.specs.Memory.{int_leaf};
-ghost use Rattle.dpl_memory.specs.Resolved.{entry_in, frame_in};
-ghost use Rattle.dpl_elaborator.specs.Leaves.{plain_kind, leaf_by, leaf_in};
-ghost use Rattle.dpl_run.specs.Leaving.{value_view, value_held, sighted_in, entry_of};
+ghost use Rattle.dpl_scopes.specs.Slots.{slot_in};
+ghost use Rattle.dpl_typer.specs.Leaves.{type_in};
+ghost use Rattle.dpl_run.specs.Leaving.{value_view, value_held, entry_of, held_as, held_by, held_entry, held_frame};
 ghost use Rattle.dpl_run.specs.Names.{declared_by, declared_names};
 
 use crate::left::{Left, Value, Variable};
@@ -19,7 +19,7 @@ use std::alloc::{AllocError, Global};
 
 // What a slot holds for a type. What has no slot of its own counts as the int in the first one.
 fn held(value_type: ValueType<'_>, slot: usize, frame: &Frame<'_>) -> Value
-    ensures { value_view result ≡ value_held (leaf_by (plain_kind (type_view value_type.entry)) (Some slot)) frame.now.memory }
+    ensures { value_view result ≡ held_as (type_view value_type.entry) slot frame.now.memory }
 {
     match value_type {
         ValueType::Scalar(ScalarKind::Int) => Value::Int(frame.number(slot)),
@@ -37,8 +37,8 @@ fn held(value_type: ValueType<'_>, slot: usize, frame: &Frame<'_>) -> Value
 
 // What a name in sight holds.
 fn found(scopes: &Scopes<'_>, name: &[u8], frame: &Frame<'_>) -> Option<Value>
-    ensures some { IfSome result (λ v. value_view v ≡ value_held (leaf_in scopes.now name.now) frame.now.memory) }
-    ensures none { IfNone result (leaf_in scopes.now name.now ≡ int_leaf 0) }
+    ensures some { IfSome result (λ v. value_view v ≡ held_by (type_in scopes.now name.now) (slot_in scopes.now name.now) frame.now.memory) }
+    ensures none { IfNone result (held_by (type_in scopes.now name.now) (slot_in scopes.now name.now) frame.now.memory ≡ value_held (int_leaf 0) frame.now.memory) }
 {
     let value_type = scopes.lookup(name)?.value_type?;
     let slot = scopes.slot(name)?;
@@ -52,7 +52,7 @@ fn variable(
     name: &[u8],
     frame: &Frame<'_>,
 ) -> Result<Variable, AllocError>
-    ensures { IfOk result (λ v. entry_of v ≡ entry_in frame.now.memory (sighted_in scopes.now name.now)) }
+    ensures { IfOk result (λ v. entry_of v ≡ held_entry scopes.now frame.now.memory name.now) }
 {
     let value = match found(scopes, name, frame) {
         Some(value) => value,
@@ -72,7 +72,7 @@ fn add(
     frame: &Frame<'_>,
     variables: &mut Vec<Variable>,
 ) -> Result<(), AllocError>
-    ensures { OnOk result (map entry_of variables.new.items ≡ map entry_of variables.old.items ++ frame_in frame.now.memory (map (sighted_in scopes.now) (declared_by (stmt_view stmt.now)))) }
+    ensures { OnOk result (map entry_of variables.new.items ≡ map entry_of variables.old.items ++ held_frame scopes.now frame.now.memory (declared_by (stmt_view stmt.now))) }
 {
     match stmt {
         Stmt::Declare(declared) => {
@@ -104,7 +104,7 @@ pub(crate) fn collect(
     stmts: &[Stmt<'_>],
     frame: &Frame<'_>,
 ) -> Result<Left, AllocError>
-    ensures { IfOk result (λ left. left ≡ frame_in frame.now.memory (map (sighted_in scopes.now) (declared_names (stmts_of stmts.now)))) }
+    ensures { IfOk result (λ left. left ≡ held_frame scopes.now frame.now.memory (declared_names (stmts_of stmts.now))) }
 {
     let mut variables = Vec::new(alloc);
     for stmt in stmts {

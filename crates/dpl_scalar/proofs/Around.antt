@@ -19,9 +19,10 @@ use Rattle.dpl_rules.specs.Bodies.{turns_of, each, deed_breaches}
 use Rattle.dpl_rules.specs.Breaches.{stmt_breaches}
 use Rattle.dpl_rules.proofs.Admission.{first_empty, second_empty}
 use Rattle.dpl_words.specs.Words.{LeafKind}
+use Rattle.dpl_memory.specs.Memory.{PlainKind}
 use Rattle.dpl_memory.specs.Resolved.{Bound}
-use Rattle.dpl_elaborator.specs.Leaves.{kind_in}
-use Rattle.dpl_elaborator.specs.Sights.{bound_in}
+use Rattle.dpl_typer.specs.Leaves.{kind_in}
+use Rattle.dpl_typer.specs.Sights.{bound_in}
 use Rattle.dpl_scalar.specs.Plain.{AreScalar}
 use Rattle.dpl_scalar.specs.Bodies.{in_loop}
 use Rattle.dpl_scalar.specs.Scalar.{IsReduced}
@@ -136,7 +137,7 @@ module _ (P : Place → Type 0) (scopes : Scopes) where
   behind-stands f t at s c h = record { names = behind-scalar f t at.names s c h; around = behind-around f t at.around }
 
 -- ---- `reduce=`: outside foralls there is none
-pub reduced-around : (f : Option Turning) (scopes : Scopes) → IsAround f scopes → (x : Text) (k : LeafKind) → kind_in scopes x ≡ Some k → may_reduce_in (forall_by f) (lookup scopes x) ≡ true
+pub reduced-around : (f : Option Turning) (scopes : Scopes) → IsAround f scopes → (x : Text) (k : LeafKind) → kind_in scopes x ≡ Some (PlainKind k) → may_reduce_in (forall_by f) (lookup scopes x) ≡ true
     → IsReduced scopes (intents_by f) x k
 reduced-around None scopes around x k kind h = absurd cc
 reduced-around (Some f) scopes around x k kind h = reduced f.outer around.names f.intents around.told scopes around.inside x k kind h

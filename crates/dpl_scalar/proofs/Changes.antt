@@ -16,8 +16,9 @@ use Rattle.dpl_rules.specs.Assignments.{written_name, set_breaches, is_int_kind,
 use Rattle.dpl_rules.proofs.Admission.{first_empty, second_empty}
 use Rattle.dpl_sound.proofs.Given.{both_so}
 use Rattle.dpl_words.specs.Words.{LeafKind, IntLeaf, TruthLeaf, RangeLeaf, takes}
+use Rattle.dpl_memory.specs.Memory.{PlainKind}
 use Rattle.dpl_memory.specs.Resolved.{Bound}
-use Rattle.dpl_elaborator.specs.Leaves.{plain_kind, kind_by, kind_in}
+use Rattle.dpl_typer.specs.Leaves.{value_kind, kind_by, kind_in}
 use Rattle.dpl_scalar.specs.Plain.{IsPlain, AreScalar}
 use Rattle.dpl_nodes.specs.Faults.{IsNear}
 use Rattle.dpl_scalar.specs.Scalar.{IsReduced, IsReducedBy, IsScalarChange}
@@ -33,7 +34,7 @@ record IsTaken (t u : ValueType) (op : Assign) (k : LeafKind) : Type 0 where
   taken : takes k op ≡ true
 
 -- each operator is taken where an int is given; `=` and `reduce=` are always
-is_int_kind-int : (l : Kind) → is_int_kind l ≡ true → (k : LeafKind) → plain_kind (Scalar l) ≡ Some k → k ≡ IntLeaf
+is_int_kind-int : (l : Kind) → is_int_kind l ≡ true → (k : LeafKind) → value_kind (Scalar l) ≡ Some (PlainKind k) → k ≡ IntLeaf
 is_int_kind-int IntKind h k e = cc
 is_int_kind-int BoolKind h k e = absurd cc
 
@@ -48,25 +49,25 @@ takes-reduce TruthLeaf = refl
 takes-reduce RangeLeaf = refl
 
 module _ (at : Place) (side : Part) (u : ValueType) (is : side.type ≡ Some u) (k : LeafKind) where
-  set-taken : (op : Assign) → ((k : LeafKind) → takes k op ≡ true) → (t : ValueType) → plain_kind t ≡ Some k → set_breaches at side t ≡ [] → IsTaken t u op k
+  set-taken : (op : Assign) → ((k : LeafKind) → takes k op ≡ true) → (t : ValueType) → value_kind t ≡ Some (PlainKind k) → set_breaches at side t ≡ [] → IsTaken t u op k
   set-taken op always t e =
-      plain-cases (λ t. plain_kind t ≡ Some k → set_breaches at side t ≡ [] → IsTaken t u op k)
+      plain-cases (λ t. value_kind t ≡ Some (PlainKind k) → set_breaches at side t ≡ [] → IsTaken t u op k)
       (λ l e h. record { alike = is_scalar-is l u (owed_type-holds (is_scalar l) side.at side.type u is h); scalar = scalar-no_range l k e; taken = always k })
       (λ s e h. absurd cc) t k e e
 
-  change-taken : (op : Assign) → takes IntLeaf op ≡ true → (t : ValueType) → plain_kind t ≡ Some k → change_breaches at side t ≡ [] → IsTaken t u op k
+  change-taken : (op : Assign) → takes IntLeaf op ≡ true → (t : ValueType) → value_kind t ≡ Some (PlainKind k) → change_breaches at side t ≡ [] → IsTaken t u op k
   change-taken op ints t e =
-      plain-cases (λ t. plain_kind t ≡ Some k → change_breaches at side t ≡ [] → IsTaken t u op k)
+      plain-cases (λ t. value_kind t ≡ Some (PlainKind k) → change_breaches at side t ≡ [] → IsTaken t u op k)
       (λ l e h.
       let both = both_so (is_int_kind l) (is_scalar l u) (owed_type-holds (λ t. is_int_kind l && is_scalar l t) at side.type u is h) in
       record { alike = is_scalar-is l u both.1; scalar = scalar-no_range l k e; taken = subst (λ k. takes k op ≡ true) (sym (is_int_kind-int l both.0 k e)) ints })
       (λ s e h. absurd cc) t k e e
 
-  reduce-taken : (may : Bool) (t : ValueType) → plain_kind t ≡ Some k → reduce_breaches at may side t ≡ [] → IsTaken t u SetReduce k
+  reduce-taken : (may : Bool) (t : ValueType) → value_kind t ≡ Some (PlainKind k) → reduce_breaches at may side t ≡ [] → IsTaken t u SetReduce k
   reduce-taken true t e h = set-taken SetReduce takes-reduce t e h
   reduce-taken false t e h = absurd cc
 
-fitting-taken : (sign : AssignTree) (side : Part) (u : ValueType) → side.type ≡ Some u → (k : LeafKind) (op : Assign) (may : Bool) (t : ValueType) → plain_kind t ≡ Some k
+fitting-taken : (sign : AssignTree) (side : Part) (u : ValueType) → side.type ≡ Some u → (k : LeafKind) (op : Assign) (may : Bool) (t : ValueType) → value_kind t ≡ Some (PlainKind k)
     → fitting sign op may side t ≡ [] → IsTaken t u op k
 fitting-taken sign side u is k Set may t e h = set-taken sign.at side u is k Set takes-set t e h
 fitting-taken sign side u is k SetAdd may t e h = change-taken sign.at side u is k SetAdd refl t e h
@@ -126,8 +127,8 @@ module _ (scopes : Scopes) (names : AreScalar scopes) (forall : Option Reducing)
       (first_empty (called_name x.at (call_word call) (lookup scopes x.name)) (call_argument s (cell_declared (type_declared (lookup scopes x.name))) call) h)
 
   -- ---- assignments to names; `reduce=` is to a reduce variable of the forall around
-  module _ (is : List (Bound × Op)) (reduces : (x : Text) (k : LeafKind) → kind_in scopes x ≡ Some k → may_reduce_in forall (lookup scopes x) ≡ true → IsReduced scopes is x k) where
-    reduced-by : (x : Text) (sign : AssignTree) (side : Part) (t : ValueType) (op : Assign) (k : LeafKind) → kind_in scopes x ≡ Some k
+  module _ (is : List (Bound × Op)) (reduces : (x : Text) (k : LeafKind) → kind_in scopes x ≡ Some (PlainKind k) → may_reduce_in forall (lookup scopes x) ≡ true → IsReduced scopes is x k) where
+    reduced-by : (x : Text) (sign : AssignTree) (side : Part) (t : ValueType) (op : Assign) (k : LeafKind) → kind_in scopes x ≡ Some (PlainKind k)
         → fitting sign op (may_reduce_in forall (lookup scopes x)) side t ≡ [] → IsReducedBy scopes is x op k
     reduced-by x sign side t Set k e h = tt
     reduced-by x sign side t SetAdd k e h = tt
@@ -154,7 +155,7 @@ module _ (scopes : Scopes) (names : AreScalar scopes) (forall : Option Reducing)
         let kind = ap kind_by p.is ∙ p.of_kind in
         record {
           kind = p.kind;
-          item = record { simple = value.simple; kind = ap kind_by value.plain.is ∙ ap plain_kind taken.alike ∙ p.of_kind; near = s };
+          item = record { simple = value.simple; kind = ap kind_by value.plain.is ∙ ap value_kind taken.alike ∙ p.of_kind; near = s };
           target = kind;
           scalar = taken.scalar;
           taken = taken.taken;

@@ -21,7 +21,8 @@ use Rattle.dpl_rules.specs.Declarations.{type_rank, is_initial, is_untyped, unle
 use Rattle.dpl_rules.proofs.Admission.{first_empty, second_empty}
 use Rattle.dpl_sound.proofs.Given.{owed_not-holds}
 use Rattle.dpl_words.specs.Words.{LeafKind, RangeLeaf}
-use Rattle.dpl_elaborator.specs.Leaves.{plain_kind, kind_by}
+use Rattle.dpl_memory.specs.Memory.{PlainKind}
+use Rattle.dpl_typer.specs.Leaves.{value_kind, kind_by}
 use Rattle.dpl_scalar.specs.Plain.{IsPlain, AreScalar}
 use Rattle.dpl_nodes.specs.Faults.{IsNear}
 use Rattle.dpl_scalar.specs.Scalar.{IsScalarType, IsInitOf, IsInitialOf, IsConfigOf, IsScalarDeclare}
@@ -40,21 +41,21 @@ closed_typed-scalar : (w : Option (TypedTree Text)) → in_optional closed_typed
 closed_typed-scalar None c = tt
 closed_typed-scalar (Some t) c = closed_type-scalar t.type c
 
-pub scalar-no_range : (l : Kind) (k : LeafKind) → plain_kind (Scalar l) ≡ Some k → k ≢ RangeLeaf
+pub scalar-no_range : (l : Kind) (k : LeafKind) → value_kind (Scalar l) ≡ Some (PlainKind k) → k ≢ RangeLeaf
 scalar-no_range IntKind k e r = absurd cc
 scalar-no_range BoolKind k e r = absurd cc
 
-any_scalar-no_range : (t : ValueType) (k : LeafKind) → plain_kind t ≡ Some k → is_any_scalar t ≡ true → k ≢ RangeLeaf
+any_scalar-no_range : (t : ValueType) (k : LeafKind) → value_kind t ≡ Some (PlainKind k) → is_any_scalar t ≡ true → k ≢ RangeLeaf
 any_scalar-no_range t k e =
-    plain-cases (λ t. plain_kind t ≡ Some k → is_any_scalar t ≡ true → k ≢ RangeLeaf) (λ l e h. scalar-no_range l k e) (λ s e h. absurd cc) t k e e
+    plain-cases (λ t. value_kind t ≡ Some (PlainKind k) → is_any_scalar t ≡ true → k ≢ RangeLeaf) (λ l e h. scalar-no_range l k e) (λ s e h. absurd cc) t k e e
 
 module _ (scopes : Scopes) (names : AreScalar scopes) where
   -- ---- values
   -- a value's kind is that of its type
-  side-kind : (item : ItemTree Text) (k : LeafKind) → kind_by (side_part scopes item).type ≡ Some k → kind_by (item_type scopes item) ≡ Some k
+  side-kind : (item : ItemTree Text) (k : LeafKind) → kind_by (side_part scopes item).type ≡ Some (PlainKind k) → kind_by (item_type scopes item) ≡ Some (PlainKind k)
   side-kind item k e = ap kind_by (sym (side-item scopes IsNear names item)) ∙ e
 
-  untyped-init : (init : InitTree Text) (k : LeafKind) → InitSpelt IsNear init → closed_init init ≡ None → untyped_breaches scopes init ≡ [] → kind_by (init_part scopes init).type ≡ Some k
+  untyped-init : (init : InitTree Text) (k : LeafKind) → InitSpelt IsNear init → closed_init init ≡ None → untyped_breaches scopes init ≡ [] → kind_by (init_part scopes init).type ≡ Some (PlainKind k)
       → IsInitOf scopes init k
   untyped-init (ItemInit item None) k s c h e =
       let side = side_breaches scopes item in
@@ -64,7 +65,7 @@ module _ (scopes : Scopes) (names : AreScalar scopes) where
   untyped-init (ItemInit item (Some m)) k s c h e = let no : Some m.at ≡ None = second_open (closed_item item) (Some m.at) c in absurd cc
   untyped-init (CreateInit m) k s c h e = absurd cc
 
-  typed-init : (l : Kind) (init : InitTree Text) (k : LeafKind) → InitSpelt IsNear init → closed_init init ≡ None → typed_breaches scopes (Some (Scalar l)) init ≡ [] → plain_kind (Scalar l) ≡ Some k
+  typed-init : (l : Kind) (init : InitTree Text) (k : LeafKind) → InitSpelt IsNear init → closed_init init ≡ None → typed_breaches scopes (Some (Scalar l)) init ≡ [] → value_kind (Scalar l) ≡ Some (PlainKind k)
       → IsInitOf scopes init k
   typed-init l (ItemInit item None) k s c h e =
       let side = side_breaches scopes item in
@@ -74,12 +75,12 @@ module _ (scopes : Scopes) (names : AreScalar scopes) where
       let is = side-item scopes IsNear names item ∙ value.plain.is in
       let one = is_scalar-is l value.plain.type
       (owed_type-holds (is_initial (Scalar l)) (side_part scopes item).at (side_part scopes item).type value.plain.type is (second_empty side agrees front)) in
-      record { simple = value.simple; kind = ap kind_by value.plain.is ∙ ap plain_kind one ∙ e; near = s.0 }
+      record { simple = value.simple; kind = ap kind_by value.plain.is ∙ ap value_kind one ∙ e; near = s.0 }
   typed-init l (ItemInit item (Some m)) k s c h e = let no : Some m.at ≡ None = second_open (closed_item item) (Some m.at) c in absurd cc
   typed-init l (CreateInit m) k s c h e = absurd cc
 
   type-initial : (t : TypeTree Text) (i : Option (InitialTree Text)) (self : Origin) (k : LeafKind) → IfThere (InitialSpelt IsNear) i → closed_type t ≡ None → in_optional closed_initial i ≡ None
-      → written_breaches scopes self (Some t) i ≡ [] → kind_by (type_given scopes self (Some t) i) ≡ Some k → IsInitialOf scopes (Some t) i k
+      → written_breaches scopes self (Some t) i ≡ [] → kind_by (type_given scopes self (Some t) i) ≡ Some (PlainKind k) → IsInitialOf scopes (Some t) i k
   type-initial (ScalarType at l) None self k s v c h e = e
   type-initial (ScalarType at l) (Some i) self k s v c h e = typed-init l i.init k s.1 c h e
   type-initial (SyncType at kind_at l) i self k s v c h e = absurd cc
@@ -87,14 +88,14 @@ module _ (scopes : Scopes) (names : AreScalar scopes) where
   type-initial (ArrayType a) i self k s v c h e = absurd cc
 
   written-initial : (w : Option (TypedTree Text)) (i : Option (InitialTree Text)) (self : Origin) (k : LeafKind) → SaysType w i → IfThere (InitialSpelt IsNear) i
-      → in_optional closed_typed w ≡ None → in_optional closed_initial i ≡ None → written_breaches scopes self (written_type w) i ≡ [] → kind_by (type_given scopes self (written_type w) i) ≡ Some k
+      → in_optional closed_typed w ≡ None → in_optional closed_initial i ≡ None → written_breaches scopes self (written_type w) i ≡ [] → kind_by (type_given scopes self (written_type w) i) ≡ Some (PlainKind k)
       → IsInitialOf scopes (written_type w) i k
   written-initial None None self k says s v c h e = elim says [ ]
   written-initial None (Some i) self k says s v c h e = untyped-init i.init k s.1 c h e
   written-initial (Some t) i self k says s v c h e = type-initial t.type i self k s v c h e
 
   -- ---- configs
-  type-config : (t : TypeTree Text) (i : Option (InitialTree Text)) (self : Origin) (k : LeafKind) → closed_type t ≡ None → kind_by (type_given scopes self (Some t) i) ≡ Some k → k ≢ RangeLeaf
+  type-config : (t : TypeTree Text) (i : Option (InitialTree Text)) (self : Origin) (k : LeafKind) → closed_type t ≡ None → kind_by (type_given scopes self (Some t) i) ≡ Some (PlainKind k) → k ≢ RangeLeaf
   type-config (ScalarType at l) i self k c e = scalar-no_range l k e
   type-config (SyncType at kind_at l) i self k c e = absurd cc
   type-config (DomainType d) i self k c e = absurd cc

@@ -12,7 +12,8 @@ use Rattle.dpl_rules.specs.Sights.{Scopes}
 use Rattle.dpl_rules.specs.Loops.{LoopWord, fits_variables, header_of, over_type, over_breaches, variables_once, header_breaches}
 use Rattle.dpl_rules.proofs.Admission.{first_empty, second_empty}
 use Rattle.dpl_words.specs.Words.{LeafKind, RangeLeaf}
-use Rattle.dpl_elaborator.specs.Leaves.{plain_kind, kind_by}
+use Rattle.dpl_memory.specs.Memory.{PlainKind}
+use Rattle.dpl_typer.specs.Leaves.{value_kind, kind_by}
 use Rattle.dpl_scalar.specs.Plain.{AreScalar}
 use Rattle.dpl_nodes.specs.Faults.{IsNear}
 use Rattle.dpl_scalar.specs.Scalar.{IsItemOf, IsOneVariable}
@@ -37,10 +38,10 @@ record RunsOver (xs : VariablesTree Text) (k : LeafKind) : Type 0 where
   one : IsOneVariable xs
   range : k ≡ RangeLeaf
 
-header-range : (word : LoopWord) (xs : VariablesTree Text) (item : ItemTree Text) (t : ValueType) (k : LeafKind) → plain_kind t ≡ Some k → HasSeveral xs
+header-range : (word : LoopWord) (xs : VariablesTree Text) (item : ItemTree Text) (t : ValueType) (k : LeafKind) → value_kind t ≡ Some (PlainKind k) → HasSeveral xs
     → header_of word xs item (Some t) ≡ [] → RunsOver xs k
 header-range word xs item t k e several =
-    plain-cases (λ t. plain_kind t ≡ Some k → header_of word xs item (Some t) ≡ [] → RunsOver xs k)
+    plain-cases (λ t. value_kind t ≡ Some (PlainKind k) → header_of word xs item (Some t) ≡ [] → RunsOver xs k)
     (λ l e h. absurd (scalar-refused word xs item l h))
     (λ s e h. record { one = one-variable word xs item s several h; range = cc }) t k e e
 
@@ -58,4 +59,4 @@ module _ (scopes : Scopes) (names : AreScalar scopes) where
       let value = over-scalar scopes IsNear names item s c (first_empty over head front) in
       let told = subst (λ o. header_of word xs item o ≡ []) (over-type scopes IsNear names item c ∙ value.plain.is) (second_empty over head front) in
       let runs = header-range word xs item value.plain.type value.plain.kind value.plain.of_kind several told in
-      record { one = runs.one; range = record { simple = value.simple; kind = ap kind_by value.plain.is ∙ value.plain.of_kind ∙ ap Some runs.range; near = s } }
+      record { one = runs.one; range = record { simple = value.simple; kind = ap kind_by value.plain.is ∙ value.plain.of_kind ∙ ap (λ k. Some (PlainKind k)) runs.range; near = s } }

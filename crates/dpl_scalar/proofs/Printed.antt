@@ -16,7 +16,8 @@ use Rattle.dpl_rules.specs.Expressions.{type_of, expr_breaches, side_part, side_
 use Rattle.dpl_rules.specs.Assignments.{is_printed, printed_breaches, condition_breaches}
 use Rattle.dpl_rules.proofs.Admission.{first_empty, second_empty}
 use Rattle.dpl_words.specs.Words.{LeafKind, TruthLeaf, RangeLeaf}
-use Rattle.dpl_elaborator.specs.Leaves.{plain_kind, kind_by}
+use Rattle.dpl_memory.specs.Memory.{PlainKind}
+use Rattle.dpl_typer.specs.Leaves.{value_kind, kind_by}
 use Rattle.dpl_scalar.specs.Plain.{AreScalar}
 use Rattle.dpl_nodes.specs.Faults.{IsNear}
 use Rattle.dpl_scalar.specs.Scalar.{IsExprOf, IsScalarArgument, AreScalarArguments}
@@ -27,9 +28,9 @@ use Rattle.dpl_scalar.proofs.Declared.{scalar-no_range}
 use Rattle.dpl_scalar.proofs.Changes.{untasked}
 
 -- what is printed is no range
-printed-no_range : (o : Option (Placed Text)) (t : ValueType) (k : LeafKind) → plain_kind t ≡ Some k → is_printed o t ≡ true → k ≢ RangeLeaf
-printed-no_range None t k e = plain-cases (λ t. plain_kind t ≡ Some k → is_printed None t ≡ true → k ≢ RangeLeaf) (λ l e h. scalar-no_range l k e) (λ s e h. absurd cc) t k e e
-printed-no_range (Some x) t k e = plain-cases (λ t. plain_kind t ≡ Some k → is_printed (Some x) t ≡ true → k ≢ RangeLeaf) (λ l e h. scalar-no_range l k e) (λ s e h. absurd cc) t k e e
+printed-no_range : (o : Option (Placed Text)) (t : ValueType) (k : LeafKind) → value_kind t ≡ Some (PlainKind k) → is_printed o t ≡ true → k ≢ RangeLeaf
+printed-no_range None t k e = plain-cases (λ t. value_kind t ≡ Some (PlainKind k) → is_printed None t ≡ true → k ≢ RangeLeaf) (λ l e h. scalar-no_range l k e) (λ s e h. absurd cc) t k e e
+printed-no_range (Some x) t k e = plain-cases (λ t. value_kind t ≡ Some (PlainKind k) → is_printed (Some x) t ≡ true → k ≢ RangeLeaf) (λ l e h. scalar-no_range l k e) (λ s e h. absurd cc) t k e e
 
 module _ (scopes : Scopes) (names : AreScalar scopes) (forall : Option Reducing) where
   -- ---- arguments
@@ -83,4 +84,4 @@ module _ (scopes : Scopes) (names : AreScalar scopes) (forall : Option Reducing)
       let wrong = owed_type is_bool (first_of e) (type_of scopes e) in
       let value = scalar scopes IsNear names e s c (first_empty own wrong h) in
       let one = is_scalar-is BoolKind value.plain.type (owed_type-holds is_bool (first_of e) (type_of scopes e) value.plain.type value.plain.is (second_empty own wrong h)) in
-      record { simple = value.simple; kind = ap kind_by value.plain.is ∙ ap plain_kind one; near = s }
+      record { simple = value.simple; kind = ap kind_by value.plain.is ∙ ap value_kind one; near = s }

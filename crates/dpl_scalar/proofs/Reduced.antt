@@ -21,9 +21,10 @@ use Rattle.dpl_scopes.specs.Slots.{next_slot_in, slot_in}
 use Rattle.dpl_scopes.proofs.Slots.{slot_in-add, slot_in-lookup}
 use Rattle.dpl_given.proofs.Slots.{slot_in-one}
 use Rattle.dpl_words.specs.Words.{LeafKind, IntLeaf, TruthLeaf, combines, Combines}
+use Rattle.dpl_memory.specs.Memory.{VariableKind, PlainKind}
 use Rattle.dpl_memory.specs.Resolved.{text_of}
-use Rattle.dpl_elaborator.specs.Leaves.{plain_kind, kind_by, kind_in, leaf_by, leaf_in}
-use Rattle.dpl_elaborator.specs.Sights.{bound_in}
+use Rattle.dpl_typer.specs.Leaves.{value_kind, kind_by, kind_in, leaf_by, leaf_in}
+use Rattle.dpl_typer.specs.Sights.{bound_in}
 use Rattle.dpl_scalar.specs.Plain.{IsPlain, AreScalar}
 use Rattle.dpl_scalar.specs.Bodies.{in_loop}
 use Rattle.dpl_scalar.specs.Scalar.{AreToldAlike, IsReduced, AreScalarIntents, HasScalarIntents}
@@ -43,14 +44,14 @@ reduce_intent-type op at (Some d) plain h =
     (plain-cases (λ t. typed (Some t) ≡ [] → t ≡ Scalar (op_kind op)) (λ l h. is_scalar-is (op_kind op) (Scalar l) (owed_type-holds (is_scalar (op_kind op)) at (Some (Scalar l)) (Scalar l) refl h)) (λ s h. absurd cc)
     p.type p.kind p.of_kind (subst (λ o. typed o ≡ []) p.is told))
 
-kind-plain : (l : Kind) → (k : LeafKind) × (plain_kind (Scalar l) ≡ Some k)
+kind-plain : (l : Kind) → (k : LeafKind) × (value_kind (Scalar l) ≡ Some (PlainKind k))
 kind-plain IntKind = (IntLeaf, refl)
 kind-plain BoolKind = (TruthLeaf, refl)
 
-by_kind : (op : Op) (l k : LeafKind) → combines l op ≡ true → Some l ≡ Some k → combines k op ≡ true
-by_kind op l k h e = subst (λ k. combines k op ≡ true) (some-same l k e) h
+by_kind : (op : Op) (l k : LeafKind) → combines l op ≡ true → Some (PlainKind l) ≡ Some (PlainKind k) → combines k op ≡ true
+by_kind op l k h e = let same : l ≡ k = cc in subst (λ k. combines k op ≡ true) same h
 
-op_kind-combines : (op : Op) (k : LeafKind) → plain_kind (Scalar (op_kind op)) ≡ Some k → combines k op ≡ true
+op_kind-combines : (op : Op) (k : LeafKind) → value_kind (Scalar (op_kind op)) ≡ Some (PlainKind k) → combines k op ≡ true
 op_kind-combines Sum k e = by_kind Sum IntLeaf k refl e
 op_kind-combines Product k e = by_kind Product IntLeaf k refl e
 op_kind-combines AllOf k e = by_kind AllOf TruthLeaf k refl e
@@ -62,16 +63,16 @@ op_kind-combines Least k e = by_kind Least IntLeaf k refl e
 op_kind-combines Greatest k e = by_kind Greatest IntLeaf k refl e
 
 -- a name that is known has a slot
-slot-found : (o : Option Declared) (slot : Option ℕ) (k : LeafKind) → is_some slot ≡ is_some o → kind_by (type_declared o) ≡ Some k → (n : ℕ) × (slot ≡ Some n)
-slot-found None slot k both e = absurd (none-some k e)
+slot-found : (o : Option Declared) (slot : Option ℕ) (k : LeafKind) → is_some slot ≡ is_some o → kind_by (type_declared o) ≡ Some (PlainKind k) → (n : ℕ) × (slot ≡ Some n)
+slot-found None slot k both e = absurd (none-some (PlainKind k) e)
 slot-found (Some d) None k both e = absurd cc
 slot-found (Some d) (Some n) k both e = (n, refl)
 
-leaf_by-slot : (o : Option LeafKind) (p : Option ℕ) (k : LeafKind) (n : ℕ) → o ≡ Some k → p ≡ Some n → (leaf_by o p).slot ≡ n
+leaf_by-slot : (o : Option VariableKind) (p : Option ℕ) (k : VariableKind) (n : ℕ) → o ≡ Some k → p ≡ Some n → (leaf_by o p).slot ≡ n
 leaf_by-slot o p k n e f = ap (λ o. (leaf_by o p).slot) e ∙ ap (λ p. (leaf_by (Some k) p).slot) f
 
 module _ (outer : Scopes) (names : AreScalar outer) where
-  reduce-kind : (op : Op) (y : Placed Text) → reduce_intent op y.at (lookup outer y.name) ≡ [] → kind_in outer y.name ≡ plain_kind (Scalar (op_kind op))
+  reduce-kind : (op : Op) (y : Placed Text) → reduce_intent op y.at (lookup outer y.name) ≡ [] → kind_in outer y.name ≡ value_kind (Scalar (op_kind op))
   reduce-kind op y h = ap kind_by (reduce_intent-type op y.at (lookup outer y.name) (names y.name) h)
 
   -- what an intent's breaches say, and what those of the others say
@@ -114,14 +115,14 @@ module _ (outer : Scopes) (names : AreScalar outer) where
       let k = kind-plain (op_kind op) in
       let kind = reduce-kind op y (reduce-own before at word op y rest h) ∙ k.1 in
       let other = slot-found (lookup outer y.name) (slot_in outer y.name) k.0 (slot_in-lookup outer y.name) kind in
-      let leaf = leaf_by-slot (kind_in outer y.name) (slot_in outer y.name) k.0 other.0 kind other.1 in (
+      let leaf = leaf_by-slot (kind_in outer y.name) (slot_in outer y.name) (PlainKind k.0) other.0 kind other.1 in (
         (λ is. some-same slot (leaf_in outer y.name).slot (sym e ∙ ap (slot_in outer) is ∙ other.1 ∙ ap Some (sym leaf))),
         (λ is. slot_in-one outer x y.name slot e (other.1 ∙ ap Some (sym (is ∙ leaf)))),
         intents-alike x slot e rest (y.name ∷ before) (reduce-rest before at word op y rest h),
       )
   intents-alike x slot e (RefIntent at y ∷ rest) before h = intents-alike x slot e rest (y.name ∷ before) (ref-rest before at y rest h)
 
-  intents-combine : (x : Text) (k : LeafKind) → kind_in outer x ≡ Some k → (is : List (IntentTree Text)) (before : List Text) → intent_breaches outer before is ≡ []
+  intents-combine : (x : Text) (k : LeafKind) → kind_in outer x ≡ Some (PlainKind k) → (is : List (IntentTree Text)) (before : List Text) → intent_breaches outer before is ≡ []
       → Combines k (paired x (renamed_intents text_of (renamed_intents (bound_in outer) (reduce_intents is))))
   intents-combine x k e [] before h = tt
   intents-combine x k e (ReduceIntent at op word y ∷ rest) before h =
@@ -139,7 +140,7 @@ module _ (outer : Scopes) (names : AreScalar outer) where
   with-alike x slot e None h = tt
   with-alike x slot e (Some w) h = intents-alike x slot e (parts w.intents) [] h
 
-  with-combine : (x : Text) (k : LeafKind) → kind_in outer x ≡ Some k → (w : Option (WithTree Text)) → with_breaches outer w ≡ []
+  with-combine : (x : Text) (k : LeafKind) → kind_in outer x ≡ Some (PlainKind k) → (w : Option (WithTree Text)) → with_breaches outer w ≡ []
       → Combines k (paired x (renamed_intents text_of (renamed_intents (bound_in outer) (intents_of w))))
   with-combine x k e None h = tt
   with-combine x k e (Some w) h = intents-combine x k e (parts w.intents) [] h
@@ -204,17 +205,17 @@ inside-body outer xs = inside-enter outer (add_variables (Some an_int) (variable
 
 -- ---- `reduce=` inside the forall
 module _ (outer : Scopes) (names : AreScalar outer) (w : Option (WithTree Text)) (told : with_breaches outer w ≡ []) where
-  outside-reduced : (scopes : Scopes) → IsInside outer scopes → (x : Text) (k : LeafKind) → kind_in scopes x ≡ Some k → (d : Declared) → lookup scopes x ≡ Some d → is_outside (length outer) d ≡ true
+  outside-reduced : (scopes : Scopes) → IsInside outer scopes → (x : Text) (k : LeafKind) → kind_in scopes x ≡ Some (PlainKind k) → (d : Declared) → lookup scopes x ≡ Some d → is_outside (length outer) d ≡ true
       → IsReduced scopes (renamed_intents (bound_in outer) (intents_of w)) x k
   outside-reduced scopes inner x k kind d e h =
       let found = inner.found x d e h in
-      let outer_kind : kind_in outer x ≡ Some k = ap (λ o. kind_by (type_declared o)) (found.0 ∙ sym e) ∙ kind in
+      let outer_kind : kind_in outer x ≡ Some (PlainKind k) = ap (λ o. kind_by (type_declared o)) (found.0 ∙ sym e) ∙ kind in
       record {
         alike = λ slot s. with-alike outer names x slot (sym found.1 ∙ s) w told;
         combines = with-combine outer names x k outer_kind w told;
       }
 
-  pub reduced : (scopes : Scopes) → IsInside outer scopes → (x : Text) (k : LeafKind) → kind_in scopes x ≡ Some k → may_reduce_in (Some (reducing_in outer w)) (lookup scopes x) ≡ true
+  pub reduced : (scopes : Scopes) → IsInside outer scopes → (x : Text) (k : LeafKind) → kind_in scopes x ≡ Some (PlainKind k) → may_reduce_in (Some (reducing_in outer w)) (lookup scopes x) ≡ true
       → IsReduced scopes (renamed_intents (bound_in outer) (intents_of w)) x k
   reduced scopes inner x k kind h = by (lookup scopes x) refl h
     where

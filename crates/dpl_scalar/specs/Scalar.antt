@@ -16,23 +16,24 @@ use Rattle.dpl_rules.specs.Declarations.{declared_by}
 use Rattle.dpl_rules.specs.Loops.{behind}
 use Rattle.dpl_scopes.specs.Slots.{slot_in}
 use Rattle.dpl_words.specs.Words.{LeafKind, TruthLeaf, RangeLeaf, takes, Combines}
+use Rattle.dpl_memory.specs.Memory.{PlainKind}
 use Rattle.dpl_memory.specs.Resolved.{Bound, text_of}
 use Rattle.dpl_spelling.specs.Spelt.{ExprSpelt, ItemSpelt}
 use Rattle.dpl_nodes.specs.Faults.{IsNear}
-use Rattle.dpl_elaborator.specs.Leaves.{plain_kind, kind_by, kind_in, MayBePlain}
-use Rattle.dpl_elaborator.specs.Simple.{IsSimple, IsSimpleItem}
-use Rattle.dpl_elaborator.specs.Sights.{bound_in}
+use Rattle.dpl_typer.specs.Leaves.{value_kind, kind_by, kind_in, MayBePlain}
+use Rattle.dpl_typer.specs.Simple.{IsSimple, IsSimpleItem}
+use Rattle.dpl_typer.specs.Sights.{bound_in}
 use Rattle.dpl_scalar.specs.Bodies.{in_loop}
 
 -- EXPRESSIONS of a kind, whose places a fault's word has room for
 pub record IsExprOf (ss : Scopes) (e : ExprTree Text) (k : LeafKind) : Type 0 where
   pub simple : IsSimple (MayBePlain ss) e
-  pub kind : kind_by (type_of ss e) ≡ Some k
+  pub kind : kind_by (type_of ss e) ≡ Some (PlainKind k)
   pub near : ExprSpelt IsNear e
 
 pub record IsItemOf (ss : Scopes) (i : ItemTree Text) (k : LeafKind) : Type 0 where
   pub simple : IsSimpleItem (MayBePlain ss) i
-  pub kind : kind_by (item_type ss i) ≡ Some k
+  pub kind : kind_by (item_type ss i) ≡ Some (PlainKind k)
   pub near : ItemSpelt IsNear i
 
 -- DECLARATIONS: `int`, `bool`, or no type; and a value without a map, or the type's default
@@ -45,7 +46,7 @@ IsScalarType (Some (ArrayType a)) = ⊥
 
 abbrev pub IsDefaultOf : Option (TypeTree Text) → LeafKind → Type 0
 IsDefaultOf None k = ⊥
-IsDefaultOf (Some (ScalarType at l)) k = plain_kind (Scalar l) ≡ Some k
+IsDefaultOf (Some (ScalarType at l)) k = value_kind (Scalar l) ≡ Some (PlainKind k)
 IsDefaultOf (Some (SyncType at kind_at l)) k = ⊥
 IsDefaultOf (Some (DomainType d)) k = ⊥
 IsDefaultOf (Some (ArrayType a)) k = ⊥
@@ -69,7 +70,7 @@ pub record IsScalarDeclare (ss : Scopes) (d : DeclareTree Text) : Type 0 where
   pub type : IsScalarType (written_type d.typed)
   pub kind : LeafKind
   pub initial : IsInitialOf ss (written_type d.typed) d.initial kind
-  pub declared : kind_by (declared_by ss d).type ≡ Some kind
+  pub declared : kind_by (declared_by ss d).type ≡ Some (PlainKind kind)
   pub fresh : declared_here ss d.name.name ≡ false
   pub config : IsConfigOf d.config kind
 
@@ -95,7 +96,7 @@ IsReducedBy ss is x SetReduce k = IsReduced ss is x k
 pub record IsScalarChange (ss : Scopes) (is : List (Bound × Op)) (x : Text) (op : Assign) (value : ItemTree Text) : Type 0 where
   pub kind : LeafKind
   pub item : IsItemOf ss value kind
-  pub target : kind_in ss x ≡ Some kind
+  pub target : kind_in ss x ≡ Some (PlainKind kind)
   pub scalar : kind ≢ RangeLeaf
   pub taken : takes kind op ≡ true
   pub reduced : IsReducedBy ss is x op kind
@@ -120,7 +121,7 @@ IsOneVariable (OneVariable x) = Unit {0}
 IsOneVariable (ManyVariables from xs upto) = ⊥
 
 abbrev pub IsScalarIntent : Scopes → IntentTree Text → Type 0
-IsScalarIntent ss (ReduceIntent at op word x) = (k : LeafKind) × (kind_in ss x.name ≡ Some k) × (k ≢ RangeLeaf)
+IsScalarIntent ss (ReduceIntent at op word x) = (k : LeafKind) × (kind_in ss x.name ≡ Some (PlainKind k)) × (k ≢ RangeLeaf)
 IsScalarIntent ss (RefIntent at x) = Unit {0}
 
 abbrev pub AreScalarIntents : Scopes → List (IntentTree Text) → Type 0

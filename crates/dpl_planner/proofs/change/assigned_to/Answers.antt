@@ -7,8 +7,8 @@ use Rattle.dpl_tree.specs.View.{name_view, item_view}
 use Rattle.dpl_tree.specs.Statements.{sign_view}
 use Rattle.dpl_words.specs.Words.{LeafKind, RangeLeaf, takes}
 use Rattle.dpl_nodes.specs.declared.make.Stop.TheVariants as stop
-use Rattle.dpl_nodes.specs.Makers.{kind_of}
-use Rattle.dpl_elaborator.specs.Leaves.{kind_in}
+use Rattle.dpl_typer.specs.Makers.{kind_of}
+use Rattle.dpl_typer.specs.Leaves.{kind_in}
 use Rattle.dpl_scalar.specs.Scalar.{IsReducedBy}
 use Rattle.dpl_planner.specs.Plans.{intents_in}
 use Rattle.dpl_planner.proofs.Changed.{change-plans}
@@ -23,26 +23,25 @@ returns-in_err-made-clause-ill_typed c = λ e s.
 pub returns-in_err-slot-clause-ill_typed : goal.returns-in_err-slot-clause-ill_typed
 returns-in_err-slot-clause-ill_typed c = λ e s.
     let ss = c.args.plan.now.scopes in
-    let same = same_kind (item_type ss (item_view c.args.value.now)) (kind_of c.in_ok-made.made) s.0.kind c.in_ok-made.ensures.kind s.0.item.kind in
+    let same = same_kind c.in_ok-made.made (item_type ss (item_view c.args.value.now)) s.0.kind c.in_ok-made.ensures.kind s.0.item.kind in
     let refused : c.variable.result ≡ Err stop.IllTyped = search rules in
-    c.variable.ensures.ill_typed refused (subst (λ (k : LeafKind). kind_in ss c.args.name.now.text.now ≡ Some k) same s.0.target)
+    c.variable.ensures.ill_typed refused s.0.kind same s.0.target
 
 pub returns-in_err-intent_resolves-clause-ill_typed : goal.returns-in_err-intent_resolves-clause-ill_typed
 returns-in_err-intent_resolves-clause-ill_typed c = λ e s.
     let plan = c.args.plan.now in
-    let same = same_kind (item_type plan.scopes (item_view c.args.value.now)) (kind_of c.in_ok-made.made) s.0.kind c.in_ok-made.ensures.kind s.0.item.kind in
+    let same = same_kind c.in_ok-made.made (item_type plan.scopes (item_view c.args.value.now)) s.0.kind c.in_ok-made.ensures.kind s.0.item.kind in
     let refused : c.intent_resolves.result ≡ Err stop.IllTyped = search rules in
-    c.intent_resolves.ensures.ill_typed refused c.in_ok-slot.ensures.slot
-    (subst (λ (k : LeafKind). IsReducedBy plan.scopes (intents_in plan) c.args.name.now.text.now (assign_view c.args.sign.op) k) same s.0.reduced)
+    c.intent_resolves.ensures.ill_typed refused c.in_ok-slot.ensures.slot s.0.kind same s.0.reduced
 
 pub returns-clause-plans : goal.returns-clause-plans
 returns-clause-plans c =
     change-plans c.change.result c.args.plan.now (name_view c.args.name.now) (sign_view c.args.sign) (item_view c.args.value.now) c.args.semicolon c.in_ok-made.made c.in_ok-slot.slot
     (record { node = c.in_ok-made.ensures.node; found = c.in_ok-made.ensures.found }) c.in_ok-slot.ensures.kind c.in_ok-slot.ensures.slot c.in_ok-intent_resolves.ensures.resolves
-    c.change.ensures.takes c.change.ensures.node
+    c.change.ensures.takes c.change.ensures.plain c.change.ensures.node
 
 pub returns-clause-ill_typed : goal.returns-clause-ill_typed
 returns-clause-ill_typed c = λ e s.
     let ss = c.args.plan.now.scopes in
-    let same = same_kind (item_type ss (item_view c.args.value.now)) (kind_of c.in_ok-made.made) s.0.kind c.in_ok-made.ensures.kind s.0.item.kind in
-    c.change.ensures.ill_typed e (subst (λ (k : LeafKind). k ≢ RangeLeaf) same s.0.scalar) (subst (λ (k : LeafKind). takes k (assign_view c.args.sign.op) ≡ true) same s.0.taken) s.1
+    let same = same_kind c.in_ok-made.made (item_type ss (item_view c.args.value.now)) s.0.kind c.in_ok-made.ensures.kind s.0.item.kind in
+    c.change.ensures.ill_typed e s.0.kind same s.0.scalar s.0.taken s.1

@@ -11,7 +11,7 @@ pub returns-in_ok-slot-in-Some-clause-plans : goal.returns-in_ok-slot-in-Some-cl
 returns-in_ok-slot-in-Some-clause-plans c =
     let made = c.in_ok-slot-in-Some.ensures in
     declares-plans c.declares.result c.args.plan.now c.declare.new.self (declare_view c.args.written.now) c.in_ok-declared.declared c.in-Some.value_type c.in_ok-value.value c.in_ok-slot-in-Some.slot
-    c.in_ok-declared.ensures.declared c.in-Some.is c.in_ok-value.ensures.initial (c.holds.ensures.yes c.if-holds.true) made.fresh made.next made.below made.slots made.scopes made.intents c.declares.ensures.node
+    c.in_ok-declared.ensures.declared c.in-Some.is c.in_ok-value.ensures.initial (c.holds.ensures.yes c.if-holds.true) c.declares.ensures.plain made.fresh made.next made.below made.slots made.scopes made.intents c.declares.ensures.node
 
 -- ---- what isn't planned is no scalar declaration
 pub returns-in_err-value-clause-ill_typed : goal.returns-in_err-value-clause-ill_typed
@@ -21,9 +21,8 @@ returns-in_err-value-clause-ill_typed c = λ e s.
 
 pub returns-else-holds-clause-ill_typed : goal.returns-else-holds-clause-ill_typed
 returns-else-holds-clause-ill_typed c = λ e s.
-    let value = c.in_ok-value.value in
-    c.holds.ensures.no c.if-holds.false
-    (declared-held c.args.plan.now.scopes (declare_view c.args.written.now) c.in_ok-declared.declared c.in_ok-declared.ensures.declared s c.in-Some.value_type value c.in-Some.is (c.in_ok-value.ensures.kind s.kind s.initial))
+    c.holds.ensures.no c.if-holds.false s.kind (c.in_ok-value.ensures.kind s.kind s.initial)
+    (declared-held c.args.plan.now.scopes (declare_view c.args.written.now) c.in_ok-declared.declared c.in_ok-declared.ensures.declared s c.in-Some.value_type c.in-Some.is)
 
 pub returns-in_err-slot-in-Some-clause-ill_typed : goal.returns-in_err-slot-in-Some-clause-ill_typed
 returns-in_err-slot-in-Some-clause-ill_typed c = λ e s.
@@ -32,7 +31,7 @@ returns-in_err-slot-in-Some-clause-ill_typed c = λ e s.
 
 pub returns-in_ok-slot-in-Some-clause-ill_typed : goal.returns-in_ok-slot-in-Some-clause-ill_typed
 returns-in_ok-slot-in-Some-clause-ill_typed c = λ e s.
-    c.declares.ensures.ill_typed e (subst (IsConfigOf c.args.written.now.config) (sym (c.in_ok-value.ensures.kind s.kind s.initial)) s.config)
+    c.declares.ensures.ill_typed e s.kind (c.in_ok-value.ensures.kind s.kind s.initial) s.config
 
 pub returns-in-None-clause-ill_typed : goal.returns-in-None-clause-ill_typed
 returns-in-None-clause-ill_typed c = λ e s.

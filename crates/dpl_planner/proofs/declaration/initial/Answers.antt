@@ -5,9 +5,10 @@ use Rattle.dpl_language.specs.Declarations.{type_of}
 use Rattle.dpl_tree.specs.Words.{kind_view}
 use Rattle.dpl_tree.specs.Declarations.{optional, typed_view, initial_view}
 use Rattle.dpl_words.specs.Words.{LeafKind}
-use Rattle.dpl_nodes.specs.Makers.{kind_of}
+use Rattle.dpl_memory.specs.Memory.{PlainKind}
+use Rattle.dpl_typer.specs.Makers.{kind_of}
 use Rattle.dpl_scalar.specs.Scalar.{IsInitialOf}
-use Rattle.dpl_elaborator.proofs.Names.{if_ok}
+use Rattle.dpl_typer.proofs.Names.{if_ok}
 use Rattle.dpl_planner.specs.Parts.{IsInitial}
 use Rattle.dpl_planner.proofs.Declared.{given-initial}
 use Rattle.dpl_planner.proofs.declaration.initial.Goals as goal
@@ -25,7 +26,7 @@ returns-in-Some-clause-kind c =
     let ss = c.args.scopes.now in
     let t = type_of (optional typed_view c.args.typed.now) in
     if_ok c.given.result
-    (λ value same. subst (λ w. (k : LeafKind) → IsInitialOf ss t (optional initial_view w) k → kind_of value ≡ k) (sym c.in-Some.is) same)
+    (λ value same. subst (λ w. (k : LeafKind) → IsInitialOf ss t (optional initial_view w) k → kind_of value ≡ PlainKind k) (sym c.in-Some.is) same)
     c.given.ensures.kind
 
 pub returns-in-Some-clause-ill_typed : goal.returns-in-Some-clause-ill_typed

@@ -3,7 +3,7 @@
 use Rattle.std.proofs.Common.{◌≡◌, ◌++◌, map, drop}
 use Rattle.dpl_language.specs.Phrases.{reduce_intents}
 use Rattle.dpl_language.specs.Renamed.{renamed_intents}
-use Rattle.dpl_elaborator.specs.Sights.{bound_in}
+use Rattle.dpl_typer.specs.Sights.{bound_in}
 use Rattle.dpl_scalar.specs.Scalar.{AreScalarIntents}
 use Rattle.dpl_planner.specs.Parts.{intents_among}
 use Rattle.dpl_planner.specs.Plans.{reducing_view}

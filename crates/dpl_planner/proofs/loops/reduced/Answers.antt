@@ -1,6 +1,6 @@
 -- A name without a slot isn't in sight, and has no kind.
 use Rattle.std.proofs.Common.{sym, ◌∙◌}
-use Rattle.dpl_elaborator.proofs.Names.{kind_in-unsighted}
+use Rattle.dpl_typer.proofs.Names.{kind_in-unsighted}
 use Rattle.dpl_planner.proofs.loops.reduced.Goals as goal
 
 pub returns-in-None-clause-ill_typed : goal.returns-in-None-clause-ill_typed

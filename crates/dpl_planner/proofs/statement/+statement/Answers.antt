@@ -9,8 +9,8 @@ use Rattle.dpl_tree.specs.View.{name_view, expr_view, item_view}
 use Rattle.dpl_tree.specs.Declarations.{optional}
 use Rattle.dpl_tree.specs.Statements.{variables_view, with_view, stmt_view, body_view, else_view, stmts_of}
 use Rattle.dpl_tree.proofs.StatementFields.{stmt_view_block, body_view_block}
-use Rattle.dpl_elaborator.specs.Sights.{bound_in}
-use Rattle.dpl_elaborator.proofs.Names.{if_ok}
+use Rattle.dpl_typer.specs.Sights.{bound_in}
+use Rattle.dpl_typer.proofs.Names.{if_ok}
 use Rattle.dpl_nodes.specs.declared.make.Stop.TheVariants as stop
 use Rattle.dpl_nodes.specs.declared.step.Step.{Block as BlockStep, For as ForStep, Forall as ForallStep}
 use Rattle.dpl_nodes.specs.declared.step.Else.{Do as DoStep}

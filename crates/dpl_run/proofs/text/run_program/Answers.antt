@@ -7,7 +7,7 @@ use Rattle.dpl_memory.specs.Memory.{in_memory}
 use Rattle.dpl_memory.specs.Resolved.{first_memory}
 use Rattle.dpl_nodes.specs.Frames.{Framed}
 use Rattle.dpl_nodes.specs.Steps.{steps_of}
-use Rattle.dpl_elaborator.proofs.Names.{if_ok}
+use Rattle.dpl_typer.proofs.Names.{if_ok}
 use Rattle.dpl_run.specs.Plans.{IsPlan}
 use Rattle.dpl_run.specs.Runs.{RanTo}
 use Rattle.dpl_run.specs.Settings.{limits_of}
@@ -27,5 +27,5 @@ returns-in_ok-frame-in-Ok c =
     let frame = c.in_ok-frame-in-Ok.ensures ∙ ap (λ ws. record { memory = first_memory (record { slots = p.slots; texts = []; words = ws }); limits = limits_of c.args.config.now }) given in
     if_ok c.run.result
     (λ ended ran histories. means-ran t sets p.slots p.scopes steps plan (sets-fit t sets c.requires.unrefused) (limits_of c.args.config.now) histories ended.outcome ended.text.items
-    (subst (λ (f : Framed). RanTo p.scopes t.stmts (exec_all f.limits in_memory (steps_of steps) f.memory no_deeds) ended.outcome ended.text.items) frame ran))
+    (subst (λ (f : Framed). RanTo p.scopes t.stmts (exec_all f.limits in_memory (steps_of steps) f.memory no_deeds) ended.outcome ended.text.items) frame (ran e.plain)))
     c.run.ensures

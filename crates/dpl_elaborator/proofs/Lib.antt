@@ -1,9 +1,0 @@
-pub mod OperatorKinds
-pub mod Names
-pub mod Chains
-pub mod Sights
-pub mod Suited
-pub mod Fits
-pub mod RangeKinds
-pub mod Posts
-pub mod Behind
