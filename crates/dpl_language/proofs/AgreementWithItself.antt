@@ -2,7 +2,7 @@
 -- So all laws can be kept at once, and the theorem's premises are met by each tree that fits.
 use Rattle.std.proofs.Common.{None, ◌≡◌, [], refl, ap, ◌∙◌, subst}
 use Rattle.dpl_language.specs.Tree.{StmtTree}
-use Rattle.dpl_language.specs.Values.{index_of, array_domain, is_domain}
+use Rattle.dpl_language.specs.Values.{index_of, ranges_in, array_domain, is_domain}
 use Rattle.dpl_language.specs.Ranges.{indices_in, loop_ranges, loop_value}
 use Rattle.dpl_language.specs.Arithmetic.{assigned}
 use Rattle.dpl_language.specs.Outcome.{Deeds}
@@ -46,7 +46,7 @@ module _ {N G S : Type 0} (limits : Limits) (scoping : Scoping N G) (env : Envir
     intends = λ is g s1 s2 r f. ap (λ is. env.intend is s1) (renamed_intents-same is) ∙ ap (env.intend is) r;
     ends_forall = λ is g s1 s2 r f. ap (env.intend []) r;
     has = λ x op g s1 s2 r f w. ap (env.has_arrays x) r;
-    redomains = λ x op rs g s1 s2 r f w. ap (env.redomain x rs) r;
+    redomains = λ x op v g s1 s2 r f w h. ap (env.redomain x (ranges_in v)) r;
     heres = λ g s1 s2 r. ap env.here r;
     moves = λ k g s1 s2 r m. ap (env.move k) r;
     calls = λ x op g s1 s2 r f. subst (λ s. AnswersAlike (λ s1 s2. s1 ≡ s2) (env.call x op s1) (env.call x op s)) r (answers_itself (env.call x op s1));

@@ -141,21 +141,21 @@ module _ {M N G S1 S2 : Type 0} (limits : Limits) (name : N → M) (scoping : Sc
       (λ w m. change_whole-alike x sign t w g a (e t).0 (e t).1 (sim.suited_turn x.name item t w g s1 s2 r h was m) s1 s2 done r)) s1 s2 done r
 
   -- A DOMAIN
-  redomained-alike : (x : Placed N) (sign : AssignTree) (v : Value) (g : G) → scoping.assigns x.name sign.op g → WasDomain second R x.name g → (b : Bool)
+  redomained-alike : (x : Placed N) (sign : AssignTree) (v : Value) (g : G) → scoping.assigns x.name sign.op g → WasDomain second R x.name g → scoping.holds x.name (Plain v) → (b : Bool)
       → RunAlike (R g) (R g) (unless b (fault ArrayTooLarge x.at) (λ s done. Done (first.redomain (name x.name) (ranges_in v) s) done))
       (unless b (fault ArrayTooLarge x.at) (λ s done. Done (second.redomain x.name (ranges_in v) s) done))
-  redomained-alike x sign v g a was b =
-      unless-alike b (fault ArrayTooLarge x.at) (R g) (R g) _ _ (λ s1 s2 done r. (second.redomain x.name (ranges_in v) s2, sim.redomains x.name sign.op (ranges_in v) g s1 s2 r a was, refl))
+  redomained-alike x sign v g a was h b =
+      unless-alike b (fault ArrayTooLarge x.at) (R g) (R g) _ _ (λ s1 s2 done r. (second.redomain x.name (ranges_in v) s2, sim.redomains x.name sign.op v g s1 s2 r a was h, refl))
 
-  assign_domain-alike : (x : Placed N) (sign : AssignTree) (item : ItemTree N) (g : G) → scoping.assigns x.name sign.op g → WasDomain second R x.name g → fits_side scoping item g
+  assign_domain-alike : (x : Placed N) (sign : AssignTree) (item : ItemTree N) (g : G) → scoping.assigns x.name sign.op g → WasPlain second R x.name g → WasDomain second R x.name g → fits_side scoping item g → scoping.suits x.name item g
       → RunAlike (R g) (R g) (assign_domain limits first (renamed name x) (renamed_item name item)) (assign_domain limits second x item)
-  assign_domain-alike x sign item g a was f =
-      evaluated-alike item g g _ _ f (λ v s1 s2 done r.
+  assign_domain-alike x sign item g a plain was f h =
+      evaluated-alike_by item g g _ _ f (λ v u1 u2 q m s1 s2 done r.
       subst (λ b. EndsAlike (R g)
       (unless (too_large (ranges_in v) && first.has_arrays (name x.name) s1) (fault ArrayTooLarge x.at) (λ s done. Done (first.redomain (name x.name) (ranges_in v) s) done) s1 done)
       (unless (too_large (ranges_in v) && b) (fault ArrayTooLarge x.at) (λ s done. Done (second.redomain x.name (ranges_in v) s) done) s2 done))
       (sim.has x.name sign.op g s1 s2 r a was)
-      (redomained-alike x sign v g a was (too_large (ranges_in v) && first.has_arrays (name x.name) s1) s1 s2 done r))
+      (redomained-alike x sign v g a was (sim.suited x.name item v g u1 u2 q h plain m) (too_large (ranges_in v) && first.has_arrays (name x.name) s1) s1 s2 done r))
 
   -- A PLAIN VARIABLE
   assign_plain-alike : (x : Placed N) (sign : AssignTree) (item : ItemTree N) (g : G) → scoping.assigns x.name sign.op g → WasPlain second R x.name g → fits_side scoping item g → scoping.suits x.name item g
@@ -176,7 +176,7 @@ module _ {M N G S1 S2 : Type 0} (limits : Limits) (name : N → M) (scoping : Sc
       (whole_item-renamed limits name scoping first second R sim item (Some []) g s1 s2 r (f.0 []))
       (assign_array-alike x sign item rs (whole_item limits first (renamed_item name item) s1) g a (whole rs refl)
       (λ o. (s1, s2, r, sym (whole_item-renamed limits name scoping first second R sim item (Some []) g s1 s2 r (f.0 [])) ∙ o)) e f h s1 s2 done r)
-  assign_name-alike x sign item None true g a whole plain was e f h s1 s2 done r = assign_domain-alike x sign item g a (was refl) (fits_item-once scoping [] item g (f.0 []), f.1) s1 s2 done r
+  assign_name-alike x sign item None true g a whole plain was e f h s1 s2 done r = assign_domain-alike x sign item g a (plain refl) (was refl) (fits_item-once scoping [] item g (f.0 []), f.1) h s1 s2 done r
   assign_name-alike x sign item None false g a whole plain was e f h s1 s2 done r = assign_plain-alike x sign item g a (plain refl) (fits_item-once scoping [] item g (f.0 []), f.1) h s1 s2 done r
 
   pub assign-alike : (target : TargetTree N) (sign : AssignTree) (item : ItemTree N) (g : G) → fits_target scoping target sign.op g → side_for scoping target item g → suits_target scoping target item g

@@ -11,7 +11,7 @@ use Rattle.dpl_history.specs.Cells.{effect}
 use Rattle.dpl_history.specs.Histories.{after}
 use Rattle.dpl_range.specs.Equality.{TextRange}
 use Rattle.dpl_language.specs.Tree.{Op, Assign, ProgramTree}
-use Rattle.dpl_language.specs.Values.{Value, Domain, Index, index_of, array_domain, is_domain}
+use Rattle.dpl_language.specs.Values.{Value, Domain, Index, index_of, ranges_in, array_domain, is_domain}
 use Rattle.dpl_language.specs.Environment.{Content, Plain, ArrayOf, CellOf, Answer, Replied, Unanswered, Limits}
 use Rattle.dpl_language.specs.Names.{Text, Entry, Frame, Store, State, paired, in_frame, or_content, look_up, behind_entry, changed, or_store, change_in, declare_in, without_innermost, value_in, update_in, element_in, put_in, redomained, is_over, redomain_content, redomain_all, redomain_behind, redomain_in, is_array_over, has_over, has_over_behind, or_further, arrays_over, cell_in, frame_cells, store_cells, plus, cells_before, or_number, cell_number, set_cell, set_cells, with_cells, state_in, effect_on, call_in, by_name}
 use Rattle.dpl_language.specs.Program.{first_state, meaning, written}
@@ -298,8 +298,8 @@ module _ (f : Text → Text) (same : (x y : Text) → bytes_eq (f x) (f y) ≡ b
     intends = λ is g s1 s2 r a. ap (by_name.intend (renamed_intents f is)) r;
     ends_forall = λ is g s1 s2 r a. ap (by_name.intend []) r;
     has = λ x op g s1 s2 r a w. ap (by_name.has_arrays (f x)) r ∙ arrays_over-respelled x s2.store;
-    redomains = λ x op rs g s1 s2 r a w. then_so (by_name.redomain (f x) rs) (by_name.redomain x rs)
-        (λ s. ap (λ t. record (respelled_state s) { store = t }) (redomain_in-respelled x rs s.store)) s1 s2 r;
+    redomains = λ x op v g s1 s2 r a w h. then_so (by_name.redomain (f x) (ranges_in v)) (by_name.redomain x (ranges_in v))
+        (λ s. ap (λ t. record (respelled_state s) { store = t }) (redomain_in-respelled x (ranges_in v) s.store)) s1 s2 r;
     heres = λ g s1 s2 r. ap by_name.here r;
     moves = λ k g s1 s2 r m. ap (by_name.move k) r;
     calls = λ x op g s1 s2 r a. subst (λ o. AnswersAlike (Respells tt) o (by_name.call x op s2))

@@ -11,7 +11,7 @@ use Rattle.dpl_history.specs.Histories.{after}
 use Rattle.dpl_language.proofs.Slots.{Bound}
 use Rattle.dpl_range.specs.Equality.{TextRange}
 use Rattle.dpl_language.specs.Tree.{Op, Assign, Set, SetAdd, SetSubtract, SetMultiply, SetDivide, SetRemainder, SetReduce, ProgramTree}
-use Rattle.dpl_language.specs.Values.{Value, Index, index_of, array_domain, is_domain}
+use Rattle.dpl_language.specs.Values.{Value, Index, index_of, ranges_in, array_domain, is_domain}
 use Rattle.dpl_language.specs.Arithmetic.{assigned}
 use Rattle.dpl_language.specs.Ranges.{indices_in}
 use Rattle.dpl_language.specs.Environment.{Content, Plain, ArrayOf, CellOf, Answer, Replied, Unanswered, Environment, Limits}
@@ -398,7 +398,7 @@ module _ (names : ℕ → Text) where
     };
     has = λ x op g s1 s2 r f w.
         ap (arrays_over x.text) r.store ∙ arrays_over-slots names x f.0.1 s2.kept g.frames r.apart r.overs f.0.0 ∙ ap (any_over x.slot s2.kept) (sym r.live);
-    redomains = λ x op rs g s1 s2 r f w. redomain_alike x rs g s1 s2 r f.0;
+    redomains = λ x op v g s1 s2 r f w h. redomain_alike x (ranges_in v) g s1 s2 r f.0;
     heres = λ g s1 s2 r. r.here;
     moves = λ k g s1 s2 r m. record {
       store = r.store;

@@ -2,7 +2,7 @@
 -- A tree means there what it means with its names replaced.
 use Rattle.std.proofs.Common.{Option, ◌≡◌, [], refl, sym, ap, ◌∙◌, subst, None}
 use Rattle.dpl_language.specs.Tree.{ItemTree, Stmts}
-use Rattle.dpl_language.specs.Values.{Index, index_of, array_domain, is_domain}
+use Rattle.dpl_language.specs.Values.{Index, index_of, ranges_in, array_domain, is_domain}
 use Rattle.dpl_language.specs.Outcome.{Deeds, Outcome, Done, Stop, Waits}
 use Rattle.dpl_language.specs.Environment.{Environment, Limits}
 use Rattle.dpl_language.specs.Expressions.{item_of, whole_item}
@@ -69,7 +69,7 @@ module _ {M N S : Type 0} (limits : Limits) (f : N → M) (env : Environment M S
     intends = λ is g s1 s2 r a. ap (env.intend (renamed_intents f is)) r;
     ends_forall = λ is g s1 s2 r a. ap (env.intend (renamed_intents f [])) r;
     has = λ x op g s1 s2 r a w. ap (env.has_arrays (f x)) r;
-    redomains = λ x op rs g s1 s2 r a w. ap (env.redomain (f x) rs) r;
+    redomains = λ x op v g s1 s2 r a w h. ap (env.redomain (f x) (ranges_in v)) r;
     heres = λ g s1 s2 r. ap env.here r;
     moves = λ k g s1 s2 r m. ap (env.move k) r;
     calls = λ x op g s1 s2 r a. subst (λ s. AnswersAlike (λ s1 s2. s1 ≡ s2) (env.call (f x) op s1) (env.call (f x) op s)) r (answers_itself (env.call (f x) op s1));

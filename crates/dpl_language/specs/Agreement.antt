@@ -6,7 +6,7 @@ use Rattle.dpl_history.specs.declared.cell.Reply.{Reply}
 use Rattle.dpl_history.specs.declared.history.Event.{Event}
 use Rattle.dpl_range.specs.Equality.{TextRange}
 use Rattle.dpl_language.specs.Tree.{Op, Assign, ItemTree, Items}
-use Rattle.dpl_language.specs.Values.{Value, Index, index_of, array_domain, is_domain, cell_kind}
+use Rattle.dpl_language.specs.Values.{Value, Index, index_of, ranges_in, array_domain, is_domain, cell_kind}
 use Rattle.dpl_language.specs.Arithmetic.{assigned}
 use Rattle.dpl_language.specs.Ranges.{indices_in, loop_ranges, loop_value}
 use Rattle.dpl_language.specs.Outcome.{Deeds, Outcome, Done, Stop, Waits, Run}
@@ -110,8 +110,8 @@ pub record Simulates {M N G S1 S2 : Type 0} (limits : Limits) (name : N → M) (
   -- domains
   pub has : (x : N) (op : Assign) (g : G) (s1 : S1) (s2 : S2) → R g s1 s2 → scoping.assigns x op g → WasDomain second R x g
       → first.has_arrays (name x) s1 ≡ second.has_arrays x s2
-  pub redomains : (x : N) (op : Assign) (rs : List TextRange) (g : G) (s1 : S1) (s2 : S2) → R g s1 s2 → scoping.assigns x op g → WasDomain second R x g
-      → R g (first.redomain (name x) rs s1) (second.redomain x rs s2)
+  pub redomains : (x : N) (op : Assign) (v : Value) (g : G) (s1 : S1) (s2 : S2) → R g s1 s2 → scoping.assigns x op g → WasDomain second R x g → scoping.holds x (Plain v)
+      → R g (first.redomain (name x) (ranges_in v) s1) (second.redomain x (ranges_in v) s2)
   -- locales
   pub heres : (g : G) (s1 : S1) (s2 : S2) → R g s1 s2 → first.here s1 ≡ second.here s2
   pub moves : (k : ℤ) (g : G) (s1 : S1) (s2 : S2) → R g s1 s2 → scoping.moves g → R g (first.move k s1) (second.move k s2)
