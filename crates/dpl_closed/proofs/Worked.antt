@@ -16,9 +16,9 @@ name n = record { at = at n; name = 97 ∷ [] }
 abbrev one : ℕ → ExprTree Text
 one n = Number (at n) (pos 1)
 
--- a set of indices, whose first token is told
-abbrev set : ℕ → ExprTree Text
-set n = DomainLiteral (at n) (FirstItem (One (one n)) NoItems) (at n)
+-- a reduction, whose first token is told
+abbrev sum : ℕ → ExprTree Text
+sum n = Reduced (at n) Sum (at n) (Named (name n))
 
 -- EXPRESSIONS
 locales : closed_expr {N = Text} (LocalesWord (at 1)) ≡ Some (at 1)
@@ -30,32 +30,38 @@ locale_count = refl
 here : closed_expr {N = Text} (HereWord (at 1)) ≡ Some (at 1)
 here = refl
 
-reduction : closed_expr (Reduced (at 1) Sum (at 2) (set 3)) ≡ Some (at 1)
+reduction : closed_expr (Reduced (at 1) Sum (at 2) (sum 3)) ≡ Some (at 1)
 reduction = refl
 
-in_brackets : closed_expr (Grouped (at 1) (RangeItem (one 2) (at 3) Closed (set 4) (By (at 5) (set 6))) (at 7)) ≡ Some (at 4)
+in_brackets : closed_expr (Grouped (at 1) (RangeItem (one 2) (at 3) Closed (sum 4) (By (at 5) (sum 6))) (at 7)) ≡ Some (at 4)
 in_brackets = refl
 
-in_a_stride : closed_expr (Grouped (at 1) (RangeItem (one 2) (at 3) Closed (one 4) (By (at 5) (set 6))) (at 7)) ≡ Some (at 6)
+in_a_stride : closed_expr (Grouped (at 1) (RangeItem (one 2) (at 3) Closed (one 4) (By (at 5) (sum 6))) (at 7)) ≡ Some (at 6)
 in_a_stride = refl
 
-second_operand : closed_expr (Chain (one 1) (Link (at 2) Add (set 3) (Link (at 4) Add (set 5) NoLinks))) ≡ Some (at 3)
+second_operand : closed_expr (Chain (one 1) (Link (at 2) Add (sum 3) (Link (at 4) Add (sum 5) NoLinks))) ≡ Some (at 3)
 second_operand = refl
 
-base_before_post : closed_expr (Postfixed (set 1) (Post (Brackets (at 2) (FirstItem (One (set 3)) NoItems) (at 4)) NoPosts)) ≡ Some (at 1)
+base_before_post : closed_expr (Postfixed (sum 1) (Post (Brackets (at 2) (FirstItem (One (sum 3)) NoItems) (at 4)) NoPosts)) ≡ Some (at 1)
 base_before_post = refl
 
-second_index : closed_expr (Postfixed (Named (name 1)) (Post (Rounds (at 2) (FirstExpr (one 3) (NextExpr (at 4) (set 5) NoExprs)) (at 6)) NoPosts)) ≡ Some (at 5)
+second_index : closed_expr (Postfixed (Named (name 1)) (Post (Rounds (at 2) (FirstExpr (one 3) (NextExpr (at 4) (sum 5) NoExprs)) (at 6)) NoPosts)) ≡ Some (at 5)
 second_index = refl
 
-second_slice : closed_expr (Postfixed (Named (name 1)) (Post (Brackets (at 2) (FirstItem (One (one 3)) (NextItem (at 4) (One (set 5)) NoItems)) (at 6)) NoPosts)) ≡ Some (at 5)
+second_slice : closed_expr (Postfixed (Named (name 1)) (Post (Brackets (at 2) (FirstItem (One (one 3)) (NextItem (at 4) (One (sum 5)) NoItems)) (at 6)) NoPosts)) ≡ Some (at 5)
 second_slice = refl
 
-second_post : closed_expr (Postfixed (Named (name 1)) (Post (Dotted (at 2) (Plainly (at 3) Size)) (Post (Dotted (at 4) (Contains (at 5) (at 6) (FirstExpr (set 7) NoExprs) (at 8))) NoPosts))) ≡ Some (at 7)
+second_post : closed_expr (Postfixed (Named (name 1)) (Post (Dotted (at 2) (Plainly (at 3) Size)) (Post (Dotted (at 4) (Contains (at 5) (at 6) (FirstExpr (sum 7) NoExprs) (at 8))) NoPosts))) ≡ Some (at 7)
 second_post = refl
 
 scalar : closed_expr (Chain (Named (name 1)) (Link (at 2) Add (one 3) NoLinks)) ≡ None
 scalar = refl
+
+a_set : closed_expr (DomainLiteral (at 1) (FirstItem (One (one 2)) (NextItem (at 3) (One (one 4)) NoItems)) (at 5)) ≡ None
+a_set = refl
+
+in_a_set : closed_expr (DomainLiteral (at 1) (FirstItem (One (one 2)) (NextItem (at 3) (One (sum 4)) NoItems)) (at 5)) ≡ Some (at 4)
+in_a_set = refl
 
 -- DECLARATIONS
 abbrev written : Option (TypeTree Text) → Option (TypedTree Text)
@@ -83,32 +89,39 @@ an_int = refl
 a_cell : closed_stmt (declared (Some (SyncType (at 4) (at 5) IntKind)) None None) ≡ Some (at 4)
 a_cell = refl
 
-a_domain : closed_stmt (declared (Some (DomainType (record { at = at 4; from = at 5; rank_at = at 6; rank = 1; upto = at 7; mapped = None }))) (Some (set 21)) None) ≡ Some (at 4)
-a_domain = refl
-
-an_array : closed_stmt (declared (Some (ArrayType (record { from = at 4; over = FirstItem (One (set 5)) NoItems; upto = at 6; kind_at = at 7; kind = IntKind }))) None None) ≡ Some (at 4)
-an_array = refl
-
-an_initial_set : closed_stmt (declared None (Some (set 21)) None) ≡ Some (at 21)
-an_initial_set = refl
+-- a domain type, perhaps with a map
+abbrev domain_type : Option (MappedTree Text) → TypeTree Text
+domain_type map = DomainType (record { at = at 4; from = at 5; rank_at = at 6; rank = 1; upto = at 7; mapped = map })
 
 abbrev by_blocks : MappedTree Text
-by_blocks = record { at = at 30; map = BlockMap (record { new = at 31; word = at 32; from = at 33; argument = None; box = One (set 34); upto = at 35 }) }
+by_blocks = record { at = at 10; map = BlockMap (record { new = at 11; word = at 12; from = at 13; argument = None; box = One (sum 14); upto = at 15 }) }
 
-a_map : closed_stmt (declared None (Some (Named (name 21))) (Some by_blocks)) ≡ Some (at 30)
+a_domain : closed_stmt (declared (Some (domain_type None)) (Some (one 21)) None) ≡ None
+a_domain = refl
+
+a_mapped_domain : closed_stmt (declared (Some (domain_type (Some by_blocks))) (Some (sum 21)) None) ≡ Some (at 10)
+a_mapped_domain = refl
+
+an_array : closed_stmt (declared (Some (ArrayType (record { from = at 4; over = FirstItem (One (sum 5)) NoItems; upto = at 6; kind_at = at 7; kind = IntKind }))) None None) ≡ Some (at 4)
+an_array = refl
+
+an_initial_sum : closed_stmt (declared None (Some (sum 21)) None) ≡ Some (at 21)
+an_initial_sum = refl
+
+a_map : closed_stmt (declared None (Some (Named (name 21))) (Some by_blocks)) ≡ Some (at 10)
 a_map = refl
 
-a_value_before_its_map : closed_stmt (declared None (Some (set 21)) (Some by_blocks)) ≡ Some (at 21)
+a_value_before_its_map : closed_stmt (declared None (Some (sum 21)) (Some by_blocks)) ≡ Some (at 21)
 a_value_before_its_map = refl
 
 -- STATEMENTS
-coforall : closed_stmt (Coforall (at 1) (OneVariable (name 2)) (at 3) (One (set 4)) None (WordBody (at 5) (Nothing (at 6)))) ≡ Some (at 1)
+coforall : closed_stmt (Coforall (at 1) (OneVariable (name 2)) (at 3) (One (sum 4)) None (WordBody (at 5) (Nothing (at 6)))) ≡ Some (at 1)
 coforall = refl
 
 on_a_locale : closed_stmt {N = Text} (On (at 1) (LocalesWord (at 2)) (WordBody (at 3) (Nothing (at 4)))) ≡ Some (at 1)
 on_a_locale = refl
 
-condition_before_body : closed_stmt (If (at 1) (set 2) (WordBody (at 3) (On (at 4) (one 5) (WordBody (at 6) (Nothing (at 7))))) NoElse) ≡ Some (at 2)
+condition_before_body : closed_stmt (If (at 1) (sum 2) (WordBody (at 3) (On (at 4) (one 5) (WordBody (at 6) (Nothing (at 7))))) NoElse) ≡ Some (at 2)
 condition_before_body = refl
 
 body_before_else : closed_stmt (If (at 1) (one 2) (WordBody (at 3) (On (at 4) (one 5) (WordBody (at 6) (Nothing (at 7))))) (ElseDo (at 8) (On (at 9) (one 10) (WordBody (at 11) (Nothing (at 12)))))) ≡ Some (at 4)
@@ -117,14 +130,14 @@ body_before_else = refl
 else_at_last : closed_stmt (If (at 1) (one 2) (WordBody (at 3) (Nothing (at 4))) (ElseDo (at 8) (On (at 9) (one 10) (WordBody (at 11) (Nothing (at 12)))))) ≡ Some (at 9)
 else_at_last = refl
 
-over_before_body : closed_stmt (Forall (at 1) (OneVariable (name 2)) (at 3) (One (set 4)) None (BlockBody (at 5) (Then (On (at 6) (one 7) (WordBody (at 8) (Nothing (at 9)))) NoStmts) (at 10))) ≡ Some (at 4)
+over_before_body : closed_stmt (Forall (at 1) (OneVariable (name 2)) (at 3) (One (sum 4)) None (BlockBody (at 5) (Then (On (at 6) (one 7) (WordBody (at 8) (Nothing (at 9)))) NoStmts) (at 10))) ≡ Some (at 4)
 over_before_body = refl
 
-target_before_value : closed_stmt (Assigned (Element (name 1) Square (at 2) (FirstExpr (set 3) NoExprs) (at 4)) (record { at = at 5; op = Set; last = at 5 }) (One (set 6)) (at 7)) ≡ Some (at 3)
+target_before_value : closed_stmt (Assigned (Element (name 1) Square (at 2) (FirstExpr (sum 3) NoExprs) (at 4)) (record { at = at 5; op = Set; last = at 5 }) (One (sum 6)) (at 7)) ≡ Some (at 3)
 target_before_value = refl
 
-second_argument : closed_stmt (Write (record { at = at 1; ends_line = true; from = at 2; arguments = Some (record { first = TextArgument (at 3) []; others = record { comma = at 4; part = ExprArgument (set 5) } ∷ [] }); upto = at 6; semicolon = at 7 })) ≡ Some (at 5)
+second_argument : closed_stmt (Write (record { at = at 1; ends_line = true; from = at 2; arguments = Some (record { first = TextArgument (at 3) []; others = record { comma = at 4; part = ExprArgument (sum 5) } ∷ [] }); upto = at 6; semicolon = at 7 })) ≡ Some (at 5)
 second_argument = refl
 
-second_statement : closed_stmts (Then (Block (at 1) (Then (Nothing (at 2)) NoStmts) (at 3)) (Then (While (at 4) (set 5) (WordBody (at 6) (Nothing (at 7)))) NoStmts)) ≡ Some (at 5)
+second_statement : closed_stmts (Then (Block (at 1) (Then (Nothing (at 2)) NoStmts) (at 3)) (Then (While (at 4) (sum 5) (WordBody (at 6) (Nothing (at 7)))) NoStmts)) ≡ Some (at 5)
 second_statement = refl

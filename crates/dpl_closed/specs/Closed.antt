@@ -1,4 +1,4 @@
--- The forms that are read and checked, and don't run yet: arrays, domains and their maps, reductions in expressions, locales, tasks and cells.
+-- The forms that are read and checked, and don't run yet: arrays, the maps of domains, reductions in expressions, locales, tasks and cells.
 -- Of a program that has one the first token that needs it is told, in the order of the text.
 use Rattle.std.specs.Prelude.{Option, Some, None, List, [], ◌∷◌}
 use Rattle.dpl_syntax.specs.declared.place.Place.{Place}
@@ -33,7 +33,7 @@ module _ {N : Type 0} where
     closed_expr (LocaleCount at) = Some at
     closed_expr (HereWord at) = Some at
     closed_expr (Grouped from item upto) = closed_item item
-    closed_expr (DomainLiteral from items upto) = Some from
+    closed_expr (DomainLiteral from items upto) = closed_items items
     closed_expr (Prefixed at op e) = closed_expr e
     closed_expr (Reduced at op word e) = Some at
     closed_expr (Chain e rest) = or_place (closed_expr e) (closed_links rest)
@@ -88,7 +88,7 @@ module _ {N : Type 0} where
   abbrev pub closed_type : TypeTree N → Option Place
   closed_type (ScalarType at k) = None
   closed_type (SyncType at kind_at k) = Some at
-  closed_type (DomainType d) = Some d.at
+  closed_type (DomainType d) = in_optional closed_mapped d.mapped
   closed_type (ArrayType a) = Some a.from
 
   abbrev pub closed_typed : TypedTree N → Option Place

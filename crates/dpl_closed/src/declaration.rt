@@ -30,7 +30,7 @@ fn typed(found: Option<Place>, typed: &Option<Typed<'_>>) -> Option<Place>
         Some(typed) => match &typed.declared {
             DeclaredType::Scalar(_, _) => found,
             DeclaredType::Sync(at, _, _) => or_here(found, *at),
-            DeclaredType::Domain(domain) => or_here(found, domain.at),
+            DeclaredType::Domain(domain) => mapped(found, &domain.mapped),
             DeclaredType::Array(array) => or_here(found, array.from),
         },
     }

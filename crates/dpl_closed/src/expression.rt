@@ -28,7 +28,7 @@ pub(crate) fn expr(found: Option<Place>, e: &Expr<'_>) -> Option<Place>
         Expr::Number(_, _) | Expr::Truth(_, _) | Expr::Named(_) => found,
         Expr::Locales(at) | Expr::LocaleCount(at) | Expr::Here(at) => or_here(found, *at),
         Expr::Grouped { item: inner, .. } => item(found, inner),
-        Expr::Domain { from, .. } => or_here(found, *from),
+        Expr::Domain { items: inner, .. } => items(found, inner),
         Expr::Prefixed { operand, .. } => expr(found, operand),
         Expr::Reduced(reduced) => or_here(found, reduced.at),
         Expr::Chain(chain) => links(expr(found, chain.first), chain.links),
