@@ -11,7 +11,7 @@ use Rattle.dpl_language.specs.Names.{Text}
 use Rattle.dpl_language.proofs.Slots.{Sight as SlotSight, Bound as SlotBound, slot_in, or_slot, slot_of, IsFreshIn, IsFresh, bind as slot_bind, without_frame as slots_without_frame, Slots, set_slot, spelled, SameIn, frame_at, frame_at-same, store_at, same_slot, other_slot}
 use Rattle.dpl_language.proofs.SlotDomains.{OverResolves, Overs, Overs-kept}
 use Rattle.dpl_memory.specs.Memory.{VariableKind, PlainKind, DomainKind, TupleKind, ArrayKind, Memory, intended}
-use Rattle.dpl_memory.specs.Resolved.{Bound, Sighted, Sight, Known, known_in, or_known, innermost, IsUnusedIn, IsUnused, bind, without_frame, over_text, content_in, entry_in, frame_in, store_in}
+use Rattle.dpl_memory.specs.Resolved.{Shape, Bound, Sighted, Sight, Known, known_in, or_known, innermost, IsUnusedIn, IsUnused, bind, without_frame, over_text, content_in, entry_in, frame_in, store_in}
 use Rattle.dpl_memory.proofs.OfKind.{content_in-intend}
 
 -- AS NAMES IN SLOTS
@@ -36,7 +36,7 @@ slot_known k = k.1
 slot_in-placed : (x : Text) (bs : List Sighted) → slot_in x (placed_frame bs) ≡ option_map slot_known (known_in x bs)
 slot_in-placed x [] = refl
 slot_in-placed x (b ∷ bs) =
-    elim (bytes_eq x b.text) as (λ t. (if t then Some b.slot else slot_in x (placed_frame bs)) ≡ option_map slot_known (if t then Some (b.kind, b.slot) else known_in x bs))
+    elim (bytes_eq x b.text) as (λ t. (if t then Some b.slot else slot_in x (placed_frame bs)) ≡ option_map slot_known (if t then Some (b.kind, b.slot, b.shape) else known_in x bs))
     [ true ↦ refl | false ↦ slot_in-placed x bs ]
 
 slot_of-placed : (x : Text) (fs : Sight) → slot_of x (in_slots fs) ≡ option_map slot_known (innermost x fs)
@@ -69,14 +69,15 @@ pub without_frame-bind : (x : Sighted) (fs : Sight) → without_frame (bind x fs
 without_frame-bind x [] = refl
 without_frame-bind x (f ∷ fs) = refl
 
--- WHAT IS TOLD OF A SLOT: the text of its name, its kind, and of an array the domain name that it is over
+-- WHAT IS TOLD OF A SLOT: the text of its name, its kind, the shape of its values, and of an array the domain name that it is over
 pub record Told : Type 0 where
   pub text : Text
   pub kind : VariableKind
+  pub shape : Shape
   pub over : Option SlotBound
 
 abbrev pub told_of : Sighted → Told
-told_of b = record { text = b.text; kind = b.kind; over = placed_over b.over }
+told_of b = record { text = b.text; kind = b.kind; shape = b.shape; over = placed_over b.over }
 
 abbrev pub texts_of : (ℕ → Told) → ℕ → Text
 texts_of told j = (told j).text
@@ -94,16 +95,17 @@ IsTold told slots (f ∷ fs) = IsToldIn told slots f × IsTold told slots fs
 pub record Finds (told : ℕ → Told) (slots : ℕ) (x : Text) (k : Known) : Type 0 where
   pub text : (told k.1).text ≡ x
   pub kind : (told k.1).kind ≡ k.0
+  pub shape : (told k.1).shape ≡ k.2
   pub within : k.1 < slots
 
 module _ (told : ℕ → Told) (slots : ℕ) where
   known_in-told : (x : Text) (k : Known) (bs : List Sighted) → IsToldIn told slots bs → known_in x bs ≡ Some k → Finds told slots x k
   known_in-told x k [] h = λ e. cc
   known_in-told x k (b ∷ bs) h =
-      (elim (bytes_eq x b.text) as (λ t. (t ≡ true → x ≡ b.text) → (if t then Some (b.kind, b.slot) else known_in x bs) ≡ Some k → Finds told slots x k) [
+      (elim (bytes_eq x b.text) as (λ t. (t ≡ true → x ≡ b.text) → (if t then Some (b.kind, b.slot, b.shape) else known_in x bs) ≡ Some k → Finds told slots x k) [
         | true ↦ λ p e.
-            let at : (b.kind, b.slot) ≡ k = cc in
-            subst (Finds told slots x) at (record { text = ap (λ (t : Told). t.text) h.0 ∙ sym (p refl); kind = ap (λ (t : Told). t.kind) h.0; within = h.1 })
+            let at : (b.kind, b.slot, b.shape) ≡ k = cc in
+            subst (Finds told slots x) at (record { text = ap (λ (t : Told). t.text) h.0 ∙ sym (p refl); kind = ap (λ (t : Told). t.kind) h.0; shape = ap (λ (t : Told). t.shape) h.0; within = h.1 })
         | false ↦ λ p e. known_in-told x k bs h.2 e
       ]) (bytes_eq-Decides x b.text).0
 

@@ -6,7 +6,7 @@ use Rattle.std.proofs.lemmas.List.{length-replicate}
 use Rattle.dpl_history.specs.declared.history.Event.{Event}
 use Rattle.dpl_range.specs.Equality.{TextRange}
 use Rattle.dpl_language.specs.Tree.{Op, Kind, Assign, Set, SetAdd, SetSubtract, SetMultiply, SetDivide, SetRemainder, SetReduce, ItemTree, Stmts, ProgramTree}
-use Rattle.dpl_language.specs.Values.{Value, Index, index_of, array_domain, is_domain, kept_number}
+use Rattle.dpl_language.specs.Values.{Value, Domain, Index, index_of, ranges_in, array_domain, is_domain, kept_number}
 use Rattle.dpl_language.specs.Arithmetic.{assigned}
 use Rattle.dpl_language.specs.Ranges.{indices_in}
 use Rattle.dpl_language.specs.Outcome.{Deeds, no_deeds, Outcome, Done, Stop, Waits}
@@ -26,13 +26,15 @@ use Rattle.dpl_language.proofs.RunsAlike.{EndsAlike-weaker, settled-alike, writt
 use Rattle.dpl_language.proofs.Through.{through, item_of-through_at, item_of-through, whole_item-through, exec_all-through}
 use Rattle.dpl_language.proofs.ProgramsAlike.{run_from}
 use Rattle.dpl_language.proofs.Agreement.{exec_all-alike}
+use Rattle.dpl_sound.specs.Typed.{AreRanked}
 use Rattle.dpl_words.specs.Words.{IntLeaf, no_range, intent_at, set_at, given_as}
 use Rattle.dpl_words.proofs.OfKind.{given-kind}
 use Rattle.dpl_memory.specs.Memory.{VariableKind, PlainKind, DomainKind, TupleKind, ArrayKind, Held, Memory, no_domain, no_tuple, no_array, value_in, with_value_in, array_at, held_with, element_in as element_in_memory, with_element_in, declared_array, intents_by_slot, redomained_in, is_some_array, intended, given_in, in_memory}
-use Rattle.dpl_memory.specs.Resolved.{Bound, Sighted, Sight, text_of, variable_of, over_of, sighted, arrays_over, outermost, left_in, frame_in, store_in, content_in, IsUnused, bind, without_frame, Seen, first_seen, IsArrayOf, IsOf, IsWhole, HasNoArray, GivesOnce, SuitsKind, ArraysResolve, IsNew, OverResolves as OverIsFound, HoldsKind, kind_takes, KindCombines, IntentResolves, Resolves, Declares, IsGivenAs, Start, resolving, first_memory, HasSlots, StandsFor}
+use Rattle.dpl_memory.specs.Resolved.{Bound, Sighted, Sight, text_of, variable_of, over_of, sighted, arrays_over, outermost, left_in, frame_in, store_in, content_in, IsUnused, bind, without_frame, Seen, first_seen, IsArrayOf, IsOf, IsWhole, HasShape, MayHold, Shape, no_shape, IsShaped, HasNoArray, GivesOnce, SuitsKind, ArraysResolve, IsNew, OverResolves as OverIsFound, Holds, kind_takes, KindCombines, IntentResolves, Resolves, Declares, IsGivenAs, Start, resolving, first_memory, HasSlots, StandsFor}
 use Rattle.dpl_memory.proofs.Elements.{element_at-words, with_element-words, elements-kept, assigned-element}
 use Rattle.dpl_memory.proofs.OfKind.{content_in-set_same, content_in-set_other, content_in-array_same, content_in-array_other, slots-set, slots-array, intents-set_in, sets-set_in, value_in-array, value_in-plain, value_in-domain, assigned-of}
 use Rattle.dpl_memory.proofs.InSight.{placed, placed_over, in_slots, slot_of-innermost, IsFresh-in_slots, in_slots-bind, in_slots-without_frame, without_frame-bind, Told, told_of, texts_of, IsTold, Finds, innermost-told, with_told, with_told_here, with_told_other, IsTold-bind, IsTold-without_frame, contents, over_text-placed, store_at-contents, store_at-each, store_at-intend, set_slot-each, Overs-contents, Overs-each}
+use Rattle.dpl_memory.proofs.Shapes.{IsShapedBy, told-shaped, shaped-told, shaped-changed, shaped-declared, shaped-set, assigned-shaped, shaped-element, shaped-array, shaped-arrays, shaped-intended, given-shaped}
 use Rattle.dpl_memory.proofs.Domains.{OverNamed-texts, Overs-texts, OverFits, FitIn, Fit, Tells, arrays_over-tells, any_over-told, redomained-slots, redomained-intents, store-redomained}
 
 -- THE RELATION: it is told of each slot in sight what it is, and the slots stand for the store
@@ -49,6 +51,7 @@ pub record Kept (start : Start) (g : Seen) (s1 : State) (s2 : Memory) : Type 0 w
   pub here : s1.here ≡ pos 0
   pub texts : s1.sets ≡ start.texts
   pub words : s2.words.sets ≡ start.words
+  pub shaped : IsShapedBy told s2
 
 resolving-lawful : (start : Start) → IsLawful (resolving start)
 resolving-lawful start = record {
@@ -83,10 +86,10 @@ fits-whole (ArrayKind k) over w = tt
 
 -- ONE CONTENT
 update_in-spelled : (op : Assign) (x : Bound) (g : Seen) (a b : Option Op) (v : Value) (c : Content SlotBound) → a ≡ paired x.text (renamed_intents text_of g.intents)
-    → b ≡ intent_at x.variable.slot (intents_by_slot (renamed_intents variable_of g.intents)) → IntentResolves op x g → update_in op a v (spelled c) ≡ spelled (updated op b v c)
+    → b ≡ intent_at x.variable.slot (intents_by_slot (renamed_intents variable_of g.intents)) → IntentResolves op x.text x.variable g → update_in op a v (spelled c) ≡ spelled (updated op b v c)
 update_in-spelled op x g a b v (Plain w) p q i = ap (λ u. Plain u) (by_op op i)
   where
-    by_op : (op : Assign) → IntentResolves op x g → assigned op a w v ≡ assigned op b w v
+    by_op : (op : Assign) → IntentResolves op x.text x.variable g → assigned op a w v ≡ assigned op b w v
     by_op Set i = refl
     by_op SetAdd i = refl
     by_op SetSubtract i = refl
@@ -98,7 +101,7 @@ update_in-spelled op x g a b v (ArrayOf over k rs vs) p q i = refl
 update_in-spelled op x g a b v (CellOf k c) p q i = refl
 
 -- the operator that reduces is one of the variable's kind
-intent-combines : (op : Assign) (x : Bound) (g : Seen) → IntentResolves op x g → op ≡ SetReduce → KindCombines x.variable.kind (intent_at x.variable.slot (intents_by_slot (renamed_intents variable_of g.intents)))
+intent-combines : (op : Assign) (x : Bound) (g : Seen) → IntentResolves op x.text x.variable g → op ≡ SetReduce → KindCombines x.variable.kind (intent_at x.variable.slot (intents_by_slot (renamed_intents variable_of g.intents)))
 intent-combines Set x g i e = cc
 intent-combines SetAdd x g i e = cc
 intent-combines SetSubtract x g i e = cc
@@ -191,33 +194,33 @@ words-declared (ArrayKind l) slot a s = refl
 
 -- WHAT A NAME MAY HOLD
 -- what an assignment makes of an element that is read
-changed-held : (k : VariableKind) (op : Assign) (slot : ℕ) (t : Index) (s : Memory) (old w : Value) → element_in_memory k slot t s ≡ Some old → kind_takes k op ≡ true → IsOf k w → IsOf k (assigned op None old w)
-changed-held (PlainKind k) op slot t s old w e takes p = cc
-changed-held DomainKind op slot t s old w e takes p = cc
-changed-held TupleKind op slot t s old w e takes p = cc
-changed-held (ArrayKind k) op slot t s old w e takes p = assigned-element k op old w takes p
+changed-held : (k : VariableKind) (shape : Shape) (op : Assign) (slot : ℕ) (t : Index) (s : Memory) (old w : Value) → element_in_memory k slot t s ≡ Some old → kind_takes k op ≡ true → IsOf k w → MayHold k shape (assigned op None old w)
+changed-held (PlainKind k) shape op slot t s old w e takes p = cc
+changed-held DomainKind shape op slot t s old w e takes p = cc
+changed-held TupleKind shape op slot t s old w e takes p = cc
+changed-held (ArrayKind k) shape op slot t s old w e takes p = (assigned-element k op old w takes p, tt)
 
 -- the value of a right side that is evaluated once, of no whole array
-once-held : (k : VariableKind) (item : ItemTree Bound) → (IsWhole k → ⊥) → SuitsKind k item → GivesOnce k item
-once-held (PlainKind k) item n f = f
-once-held DomainKind item n f = f
-once-held TupleKind item n f = f
-once-held (ArrayKind k) item n f = absurd (n tt)
+once-held : (k : VariableKind) (shape : Shape) (item : ItemTree Bound) (g : Seen) → (IsWhole k → ⊥) → SuitsKind k shape item g → GivesOnce k shape item g
+once-held (PlainKind k) shape item g n f = f
+once-held DomainKind shape item g n f = f
+once-held TupleKind shape item g n f = f
+once-held (ArrayKind k) shape item g n f = absurd (n tt)
 
 -- of each name, where there is no whole array in it
-scalar-held : (k : VariableKind) (item : ItemTree Bound) → HasNoArray item → SuitsKind k item → GivesOnce k item
-scalar-held (PlainKind k) item n f = f
-scalar-held DomainKind item n f = f
-scalar-held TupleKind item n f = f
-scalar-held (ArrayKind k) item n f = f.0 n
+scalar-held : (k : VariableKind) (shape : Shape) (item : ItemTree Bound) (g : Seen) → HasNoArray item → SuitsKind k shape item g → GivesOnce k shape item g
+scalar-held (PlainKind k) shape item g n f = f
+scalar-held DomainKind shape item g n f = f
+scalar-held TupleKind shape item g n f = f
+scalar-held (ArrayKind k) shape item g n f = f.0 n
 
 -- the value of a turn, of whole arrays
-turn-held : (limits : Limits) (k : VariableKind) (item : ItemTree Bound) (s : Memory) (t : Index) (v : Value) → IsWhole k → SuitsKind k item
-    → item_of limits in_memory (renamed_item variable_of item) (Some t) s ≡ Ok v → IsOf k v
-turn-held limits (PlainKind k) item s t v whole f e = absurd whole
-turn-held limits DomainKind item s t v whole f e = absurd whole
-turn-held limits TupleKind item s t v whole f e = absurd whole
-turn-held limits (ArrayKind k) item s t v whole f e = f.1 limits s t v e
+turn-held : (limits : Limits) (k : VariableKind) (shape : Shape) (item : ItemTree Bound) (g : Seen) (s : Memory) (t : Index) (v : Value) → IsShaped g s → IsWhole k → SuitsKind k shape item g
+    → item_of limits in_memory (renamed_item variable_of item) (Some t) s ≡ Ok v → MayHold k shape v
+turn-held limits (PlainKind k) shape item g s t v shaped whole f e = absurd whole
+turn-held limits DomainKind shape item g s t v shaped whole f e = absurd whole
+turn-held limits TupleKind shape item g s t v shaped whole f e = absurd whole
+turn-held limits (ArrayKind k) shape item g s t v shaped whole f e = (f.1 limits s shaped t v e, tt)
 
 -- what the command line gives
 given-alike : (k : VariableKind) (x : Bound) (start : Start) (s : Memory) → s.words.sets ≡ start.words → IsGivenAs k x start → paired x.text start.texts ≡ given_in k x.variable.slot s
@@ -226,11 +229,11 @@ given-alike DomainKind x start s e g = absurd g
 given-alike TupleKind x start s e g = absurd g
 given-alike (ArrayKind k) x start s e g = absurd g
 
-given-held : (k : VariableKind) (slot : ℕ) (s : Memory) (v : Value) → given_in k slot s ≡ Some v → IsOf k v
-given-held (PlainKind k) slot s v e = given-kind k (set_at slot s.words.sets) v e
-given-held DomainKind slot s v e = cc
-given-held TupleKind slot s v e = cc
-given-held (ArrayKind k) slot s v e = cc
+given-held : (k : VariableKind) (shape : Shape) (slot : ℕ) (s : Memory) (v : Value) → given_in k slot s ≡ Some v → MayHold k shape v
+given-held (PlainKind k) shape slot s v e = (given-kind k (set_at slot s.words.sets) v e, given-shaped k shape (set_at slot s.words.sets) v e)
+given-held DomainKind shape slot s v e = cc
+given-held TupleKind shape slot s v e = cc
+given-held (ArrayKind k) shape slot s v e = cc
 
 -- the arrays that stand with a domain are those over it
 arrays-known : (k : VariableKind) (x : Bound) (g : Seen) → k ≡ DomainKind → ArraysResolve k x g → x.variable.arrays ≡ arrays_over x.variable.slot g.frames
@@ -246,11 +249,17 @@ top_level-store_in s (f ∷ g ∷ fs) = top_level-store_in s (g ∷ fs)
 
 module _ (start : Start) where
   -- A RESOLVED NAME: what is told of it, where it is placed, and what it holds
-  finds : (x : Bound) (g : Seen) (s1 : State) (s2 : Memory) (r : Kept start g s1 s2) → Resolves x g → Finds r.told start.slots x.text (x.variable.kind, x.variable.slot)
-  finds x g s1 s2 r f = innermost-told r.told start.slots x.text (x.variable.kind, x.variable.slot) g.frames r.is_told f
+  finds : (x : Bound) (g : Seen) (s1 : State) (s2 : Memory) (r : Kept start g s1 s2) → Resolves x g → Finds r.told start.slots x.text (x.variable.kind, x.variable.slot, x.shape)
+  finds x g s1 s2 r f = innermost-told r.told start.slots x.text (x.variable.kind, x.variable.slot, x.shape) g.frames r.is_told f
+
+  -- each name in sight has a value of its shape
+  shaped_sight : (g : Seen) (s1 : State) (s2 : Memory) → Kept start g s1 s2 → IsShaped g s2
+  shaped_sight g s1 s2 r x f =
+      let found = finds x g s1 s2 r f in
+      told-shaped x.variable.kind x.shape (r.told x.variable.slot) x.variable.slot s2 found.kind found.shape (r.shaped x.variable.slot)
 
   placed_at : (x : Bound) (g : Seen) → Resolves x g → slot_of x.text (in_slots g.frames) ≡ Some x.variable.slot
-  placed_at x g f = slot_of-innermost x.text (x.variable.kind, x.variable.slot) g.frames f
+  placed_at x g f = slot_of-innermost x.text (x.variable.kind, x.variable.slot, x.shape) g.frames f
 
   held : (x : Bound) (g : Seen) (s1 : State) (s2 : Memory) (r : Kept start g s1 s2) → Resolves x g
       → look_up x.text s1.store ≡ spelled (content_in x.variable.kind x.variable.slot (r.told x.variable.slot).over s2)
@@ -269,11 +278,13 @@ module _ (start : Start) where
       → ((c : Content SlotBound) → a (spelled c) ≡ spelled (u c))
       → ((over : Option SlotBound) → u (content_in x.variable.kind x.variable.slot over s2) ≡ content_in x.variable.kind x.variable.slot over new)
       → ((k : VariableKind) (j : ℕ) (over : Option SlotBound) → j ≢ x.variable.slot → content_in k j over new ≡ content_in k j over s2)
-      → HasSlots start.slots new → new.words.intents ≡ s2.words.intents → new.words.sets ≡ s2.words.sets → Kept start g (record s1 { store = change_in x.text a s1.store }) new
-  changed_alike x a u new g s1 s2 r f p here other h i w =
+      → HasSlots start.slots new → new.words.intents ≡ s2.words.intents → new.words.sets ≡ s2.words.sets → HasShape x.variable.kind x.shape (value_in x.variable.kind x.variable.slot new)
+      → Kept start g (record s1 { store = change_in x.text a s1.store }) new
+  changed_alike x a u new g s1 s2 r f p here other h i w shape =
       let slot = x.variable.slot in
       let over = (r.told slot).over in
-      let kind = (finds x g s1 s2 r f).kind in
+      let found = finds x g s1 s2 r f in
+      let kind = found.kind in
       record {
         told = r.told;
         is_told = r.is_told;
@@ -293,9 +304,10 @@ module _ (start : Start) where
         here = r.here;
         texts = r.texts;
         words = w ∙ r.words;
+        shaped = shaped-changed r.told slot s2 new r.shaped other (shaped-told x.variable.kind x.shape (r.told slot) slot new found.kind found.shape shape);
       }
 
-  update_alike : (x : Bound) (op : Assign) (v : Value) (g : Seen) (s1 : State) (s2 : Memory) → Kept start g s1 s2 → Resolves x g → kind_takes x.variable.kind op ≡ true → IntentResolves op x g → IsOf x.variable.kind v
+  update_alike : (x : Bound) (op : Assign) (v : Value) (g : Seen) (s1 : State) (s2 : Memory) → Kept start g s1 s2 → Resolves x g → kind_takes x.variable.kind op ≡ true → IntentResolves op x.text x.variable g → MayHold x.variable.kind x.shape v
       → Kept start g (by_name.update x.text op v s1) (in_memory.update x.variable op v s2)
   update_alike x op v g s1 s2 r f t i p =
       let kind = x.variable.kind in
@@ -304,33 +316,38 @@ module _ (start : Start) where
       changed_alike x (update_in op (paired x.text s1.intents) v) (updated op intent v) (in_memory.update x.variable op v s2) g s1 s2 r f
       (λ c. update_in-spelled op x g (paired x.text s1.intents) intent v c (ap (paired x.text) r.intents) (ap (intent_at slot) r.intents_by_slots) i)
       (λ over. updated-content kind slot over op intent v start.slots s2
-      (λ n. assigned-of kind op intent (value_in kind slot s2) v n t (λ e. subst (λ is. KindCombines kind (intent_at slot is)) (sym r.intents_by_slots) (intent-combines op x g i e)) p)
+      (λ n. assigned-of kind op intent (value_in kind slot s2) v n t (λ e. subst (λ is. KindCombines kind (intent_at slot is)) (sym r.intents_by_slots) (intent-combines op x g i e)) p.0)
       r.slots (finds x g s1 s2 r f).within)
       (λ k j over ne. content_in-set_other k kind j slot over (assigned op intent (value_in kind slot s2) v) s2 ne)
       (slots-set kind slot (assigned op intent (value_in kind slot s2) v) start.slots s2 r.slots)
       (intents-set_in kind slot (assigned op intent (value_in kind slot s2) v) s2)
       (sets-set_in kind slot (assigned op intent (value_in kind slot s2) v) s2)
+      (shaped-set kind x.shape slot (assigned op intent (value_in kind slot s2) v) start.slots s2
+      (λ n. assigned-of kind op intent (value_in kind slot s2) v n t (λ e. subst (λ is. KindCombines kind (intent_at slot is)) (sym r.intents_by_slots) (intent-combines op x g i e)) p.0)
+      (assigned-shaped kind x.shape op intent (value_in kind slot s2) v t (λ e. subst (λ is. KindCombines kind (intent_at slot is)) (sym r.intents_by_slots) (intent-combines op x g i e)) p.1)
+      r.slots (finds x g s1 s2 r f).within)
 
-  put_alike : (x : Bound) (t : Index) (v : Value) (g : Seen) (s1 : State) (s2 : Memory) → Kept start g s1 s2 → Resolves x g → IsOf x.variable.kind v
+  put_alike : (x : Bound) (t : Index) (v : Value) (g : Seen) (s1 : State) (s2 : Memory) → Kept start g s1 s2 → Resolves x g → MayHold x.variable.kind x.shape v
       → Kept start g (by_name.put_element x.text t v s1) (in_memory.put_element x.variable t v s2)
   put_alike x t v g s1 s2 r f p =
       let kind = x.variable.kind in
       let slot = x.variable.slot in
       changed_alike x (put_in t v) (with_element_at t v) (in_memory.put_element x.variable t v s2) g s1 s2 r f (put-spelled t v)
-      (λ over. put-content kind slot over t v start.slots s2 p r.slots (finds x g s1 s2 r f).within)
+      (λ over. put-content kind slot over t v start.slots s2 p.0 r.slots (finds x g s1 s2 r f).within)
       (λ k j over ne. put-other k kind j slot over t v s2 ne)
       (slots-element kind slot t v start.slots s2 r.slots)
       (ap (λ w. w.intents) (words-element kind slot t v s2))
       (ap (λ w. w.sets) (words-element kind slot t v s2))
+      (shaped-element kind x.shape slot t v s2 (shaped_sight g s1 s2 r x f))
 
   -- A DECLARATION
   declared_alike : (x : Bound) (sort : Sort Bound) (c : Content SlotBound) (new : Memory) (g : Seen) (s1 : State) (s2 : Memory) (r : Kept start g s1 s2) → IsNew start.slots x g → OverFits x.variable.kind (over_of sort)
       → content_in x.variable.kind x.variable.slot (placed_over (over_of sort)) new ≡ c
       → ((k : VariableKind) (j : ℕ) (over : Option SlotBound) → j ≢ x.variable.slot → content_in k j over new ≡ content_in k j over s2)
       → OverResolves (texts_of (with_told x.variable.slot (told_of (sighted x sort)) r.told)) c (in_slots g.frames)
-      → HasSlots start.slots new → new.words.intents ≡ s2.words.intents → new.words.sets ≡ s2.words.sets
+      → HasSlots start.slots new → new.words.intents ≡ s2.words.intents → new.words.sets ≡ s2.words.sets → HasShape x.variable.kind x.shape (value_in x.variable.kind x.variable.slot new)
       → Kept start (record g { frames = bind (sighted x sort) g.frames }) (record s1 { store = declare_in x.text (spelled c) s1.store }) new
-  declared_alike x sort c new g s1 s2 r n fits here other resolves h i w =
+  declared_alike x sort c new g s1 s2 r n fits here other resolves h i w shape =
       let slot = x.variable.slot in
       let told = with_told slot (told_of (sighted x sort)) r.told in
       let fresh : IsFresh slot (in_slots g.frames) = IsFresh-in_slots slot g.frames n.unused in
@@ -357,6 +374,7 @@ module _ (start : Start) where
         here = r.here;
         texts = r.texts;
         words = w ∙ r.words;
+        shaped = shaped-declared r.told slot (told_of (sighted x sort)) s2 new r.shaped other shape;
       }
 
   -- the domain name that an array is declared over
@@ -367,14 +385,15 @@ module _ (start : Start) where
       OverNamed-texts (texts_of r.told) (texts_of (with_told slot t r.told)) slot (λ j ne. ap (λ (t : Told). t.text) (with_told_other j slot t r.told ne)) (Some (placed y)) (in_slots g.frames)
       (IsFresh-in_slots slot g.frames u) (placed_at y g o, sym (finds y g s1 s2 r o).text)
 
-  declare_alike : (x : Bound) (c : Content Bound) (g : Seen) (s1 : State) (s2 : Memory) → Kept start g s1 s2 → Declares start.slots x (sort_of c) g → HoldsKind x.variable.kind c
+  declare_alike : (x : Bound) (c : Content Bound) (g : Seen) (s1 : State) (s2 : Memory) → Kept start g s1 s2 → Declares start.slots x (sort_of c) g → Holds x.variable.kind x.shape c
       → Kept start (record g { frames = bind (sighted x (sort_of c)) g.frames }) (by_name.declare x.text (renamed_content text_of c) s1) (in_memory.declare x.variable (renamed_content variable_of c) s2)
   declare_alike x (Plain v) g s1 s2 r d p =
       let kind = x.variable.kind in
       let slot = x.variable.slot in
       declared_alike x PlainSort (Plain v) (with_value_in kind slot v s2) g s1 s2 r d.0 (fits-none kind)
-      (content_in-set_same kind slot None v start.slots s2 p d.1 r.slots d.0.within)
+      (content_in-set_same kind slot None v start.slots s2 p.0 d.1 r.slots d.0.within)
       (λ k j over ne. content_in-set_other k kind j slot over v s2 ne) tt (slots-set kind slot v start.slots s2 r.slots) (intents-set_in kind slot v s2) (sets-set_in kind slot v s2)
+      (shaped-set kind x.shape slot v start.slots s2 (λ n. p.0) p.1 r.slots d.0.within)
   declare_alike x (ArrayOf over k rs vs) g s1 s2 r d p =
       let kind = x.variable.kind in
       let slot = x.variable.slot in
@@ -384,7 +403,8 @@ module _ (start : Start) where
       (declared-content kind slot (placed_over over) k rs vs start.slots s2 p r.slots d.0.within)
       (λ l j o ne. declared-other l kind j slot o (made rs vs) s2 ne)
       (over_alike over slot (told_of (sighted x (ArraySort over))) g s1 s2 r d.0.unused d.2)
-      (slots-declared kind slot (made rs vs) start.slots s2 r.slots) (ap (λ w. w.intents) (words-declared kind slot (made rs vs) s2)) (ap (λ w. w.sets) (words-declared kind slot (made rs vs) s2)))
+      (slots-declared kind slot (made rs vs) start.slots s2 r.slots) (ap (λ w. w.intents) (words-declared kind slot (made rs vs) s2)) (ap (λ w. w.sets) (words-declared kind slot (made rs vs) s2))
+      (shaped-array kind x.shape slot k rs vs (declared_array kind slot (made rs vs) s2) p))
   declare_alike x (CellOf k c) g s1 s2 r d p = absurd d
 
   -- A DOMAIN ASSIGNED
@@ -398,9 +418,9 @@ module _ (start : Start) where
       ∙ arrays_over-slots (texts_of r.told) (placed x) (sym (finds x g s1 s2 r f).text) (contents r.told s2) (in_slots g.frames) r.apart r.overs (placed_at x g f)
       ∙ any_over-told x.variable.slot start.slots r.told s2 g.frames r.is_told r.fit ∙ ap is_some_array (sym a)
 
-  redomain_alike : (x : Bound) (rs : List TextRange) (g : Seen) (s1 : State) (s2 : Memory) → Kept start g s1 s2 → Resolves x g → x.variable.kind ≡ DomainKind → x.variable.arrays ≡ arrays_over x.variable.slot g.frames
+  redomain_alike : (x : Bound) (rs : List TextRange) (g : Seen) (s1 : State) (s2 : Memory) → Kept start g s1 s2 → Resolves x g → x.variable.kind ≡ DomainKind → x.variable.arrays ≡ arrays_over x.variable.slot g.frames → AreRanked x.shape.rank x.shape.strided rs
       → Kept start g (by_name.redomain x.text rs s1) (in_memory.redomain x.variable rs s2)
-  redomain_alike x rs g s1 s2 r f d a = record {
+  redomain_alike x rs g s1 s2 r f d a shape = record {
     told = r.told;
     is_told = r.is_told;
     fit = r.fit;
@@ -417,6 +437,12 @@ module _ (start : Start) where
     here = r.here;
     texts = r.texts;
     words = ap (λ w. w.sets) (redomained-intents x.variable rs start.slots s2 r.slots d) ∙ r.words;
+    shaped = λ j.
+        shaped-arrays (r.told j) j (redomained_in x.variable rs s2).arrays (with_value_in x.variable.kind x.variable.slot (Domain rs) s2)
+        (shaped-changed r.told x.variable.slot s2 (with_value_in x.variable.kind x.variable.slot (Domain rs) s2) r.shaped
+        (λ k j over ne. content_in-set_other k x.variable.kind j x.variable.slot over (Domain rs) s2 ne)
+        (shaped-told x.variable.kind x.shape (r.told x.variable.slot) x.variable.slot (with_value_in x.variable.kind x.variable.slot (Domain rs) s2) (finds x g s1 s2 r f).kind (finds x g s1 s2 r f).shape
+        (shaped-set x.variable.kind x.shape x.variable.slot (Domain rs) start.slots s2 (λ n. subst (λ k. IsOf k (Domain rs)) (sym d) (rs, refl)) (subst (λ k. HasShape k x.shape (Domain rs)) (sym d) shape) r.slots (finds x g s1 s2 r f).within)) j);
   }
 
   -- ALL TOGETHER
@@ -440,17 +466,17 @@ module _ (start : Start) where
     declares = λ x c g s1 s2 r f h. declare_alike x c g s1 s2 r f h;
     gives = λ x g s1 s2 r f. ap (paired x.text) r.texts ∙ given-alike x.variable.kind x start s2 r.words f;
     suited = λ x item v g s1 s2 r f w e.
-        once-held x.variable.kind item (value_in-plain x.variable.kind x.variable.slot w.1 w.3) f.1 limits s2 v (evaluated_once limits item v s2 f.0 e);
-    suited_new = λ x item v g s1 s2 r f d e. once-held x.variable.kind item d.1 f.1 limits s2 v (evaluated_once limits item v s2 f.0 e);
-    suited_element = λ x item v g s1 s2 r f e. f.1 limits s2 v (evaluated_once limits item v s2 f.0 e);
+        once-held x.variable.kind x.shape item g (value_in-plain x.variable.kind x.variable.slot w.1 w.3) f.1 limits s2 (shaped_sight g s1 s2 r) v (evaluated_once limits item v s2 f.0 e);
+    suited_new = λ x item v g s1 s2 r f d e. once-held x.variable.kind x.shape item g d.1 f.1 limits s2 (shaped_sight g s1 s2 r) v (evaluated_once limits item v s2 f.0 e);
+    suited_element = λ x item v g s1 s2 r f e. f.1 limits s2 (shaped_sight g s1 s2 r) v (evaluated_once limits item v s2 f.0 e);
     suited_turn = λ x item t v g s1 s2 r f w e.
-        turn-held limits x.variable.kind item s2 t v (value_in-array x.variable.kind x.variable.slot w.1 w.3.0 w.3.1) f.1 (sym (item_of-through_at limits variable_of in_memory item (Some t) s2) ∙ e);
-    suited_initial = λ x over item t v g s1 s2 r f d e. turn-held limits x.variable.kind item s2 t v d.1 f.1 (sym (item_of-through_at limits variable_of in_memory item (Some t) s2) ∙ e);
+        turn-held limits x.variable.kind x.shape item g s2 t v (shaped_sight g s1 s2 r) (value_in-array x.variable.kind x.variable.slot w.1 w.3.0 w.3.1) f.1 (sym (item_of-through_at limits variable_of in_memory item (Some t) s2) ∙ e);
+    suited_initial = λ x over item t v g s1 s2 r f d e. turn-held limits x.variable.kind x.shape item g s2 t v (shaped_sight g s1 s2 r) d.1 f.1 (sym (item_of-through_at limits variable_of in_memory item (Some t) s2) ∙ e);
     suited_once = λ x item v g s1 s2 r f w e.
-        scalar-held x.variable.kind item (limits, w.1, sym (whole_item-through limits variable_of in_memory item w.1) ∙ w.3) f.1 limits s2 v (evaluated_once limits item v s2 f.0 e);
-    changed = λ x op t old w g s1 s2 r f e h. changed-held x.variable.kind op x.variable.slot t s2 old w e f.1 h;
-    turned = λ x item over g s1 s2 r f e. f limits s2 over (sym (item_of-through limits variable_of in_memory item s2) ∙ e);
-    given_holds = λ x v g s1 s2 r f e. given-held x.variable.kind x.variable.slot s2 v e;
+        scalar-held x.variable.kind x.shape item g (limits, w.1, sym (whole_item-through limits variable_of in_memory item w.1) ∙ w.3) f.1 limits s2 (shaped_sight g s1 s2 r) v (evaluated_once limits item v s2 f.0 e);
+    changed = λ x op t old w g s1 s2 r f e h. changed-held x.variable.kind x.shape op x.variable.slot t s2 old w e f.1 h.0;
+    turned = λ x item over g s1 s2 r f e. f limits s2 (shaped_sight g s1 s2 r) over (sym (item_of-through limits variable_of in_memory item s2) ∙ e);
+    given_holds = λ x v g s1 s2 r f e. given-held x.variable.kind x.shape x.variable.slot s2 v e;
     enters = λ g s1 s2 r. record {
       told = r.told;
       is_told = (tt, r.is_told);
@@ -464,6 +490,7 @@ module _ (start : Start) where
       here = r.here;
       texts = r.texts;
       words = r.words;
+      shaped = r.shaped;
     };
     leaves = λ g s1 s2 r. record {
       told = r.told;
@@ -480,6 +507,7 @@ module _ (start : Start) where
       here = r.here;
       texts = r.texts;
       words = r.words;
+      shaped = r.shaped;
     };
     intends = λ is g s1 s2 r f. record {
       told = r.told;
@@ -494,6 +522,7 @@ module _ (start : Start) where
       here = r.here;
       texts = r.texts;
       words = r.words;
+      shaped = shaped-intended r.told (intents_by_slot (renamed_intents variable_of is)) s2 r.shaped;
     };
     ends_forall = λ is g s1 s2 r f. record {
       told = r.told;
@@ -508,9 +537,12 @@ module _ (start : Start) where
       here = r.here;
       texts = r.texts;
       words = r.words;
+      shaped = shaped-intended r.told [] s2 r.shaped;
     };
     has = λ x op g s1 s2 r f w. has_alike x g s1 s2 r f.0 (arrays-known x.variable.kind x g (was_domain x g w) f.3);
-    redomains = λ x op rs g s1 s2 r f w. redomain_alike x rs g s1 s2 r f.0 (was_domain x g w) (arrays-known x.variable.kind x g (was_domain x g w) f.3);
+    redomains = λ x op v g s1 s2 r f w h.
+        let domain = was_domain x g w in
+        redomain_alike x (ranges_in v) g s1 s2 r f.0 domain (arrays-known x.variable.kind x g domain f.3) (subst (λ k. HasShape k x.shape v) domain h.1);
     heres = λ g s1 s2 r. r.here;
     moves = λ k g s1 s2 r m. absurd m;
     calls = λ x op g s1 s2 r f. absurd f;
@@ -547,7 +579,7 @@ module _ (start : Start) where
 
   first_kept : (histories : List (List Event)) → Kept start first_seen (first_state start.texts histories) (first_memory start)
   first_kept histories = record {
-    told = λ j. record { text = []; kind = PlainKind IntLeaf; over = None };
+    told = λ j. record { text = []; kind = PlainKind IntLeaf; shape = no_shape; over = None };
     is_told = (tt, tt);
     fit = (tt, tt);
     apart = (tt, tt);
@@ -565,6 +597,7 @@ module _ (start : Start) where
     here = refl;
     texts = refl;
     words = refl;
+    shaped = λ j. tt;
   }
 
   -- THE THEOREM: from the first states, statements that fit end alike by names and in a memory; where they are done, the

@@ -1,6 +1,6 @@
 -- What a memory holds in its slots: what is put into a slot of its kind is what is read there, and nothing else changes.
 -- And what an assignment makes of values of a kind is one of that kind.
-use Rattle.std.proofs.Common.{◌≡◌, ◌≢◌, ℕ, ◌<◌, true, List, [], refl, sym, ap, ◌∙◌, subst, Some, None, Option}
+use Rattle.std.proofs.Common.{◌≡◌, ◌≢◌, ℕ, ◌<◌, true, List, refl, sym, ap, ◌∙◌, subst, Some, None, Option}
 use Rattle.std.specs.Prelude.{get_or, set}
 use Rattle.std.proofs.lemmas.List.{get_or-set_same, get_or-set_other, length-set}
 use Rattle.dpl_range.specs.Equality.{TextRange}

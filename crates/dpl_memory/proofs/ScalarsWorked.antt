@@ -20,7 +20,7 @@ use Rattle.dpl_language.proofs.Says.{limits, writes}
 use Rattle.dpl_language.proofs.ProgramsAlike.{run_from}
 use Rattle.dpl_words.specs.Words.{IntLeaf, TruthLeaf, RangeLeaf}
 use Rattle.dpl_memory.specs.Memory.{PlainKind, Variable, int_leaf, truth_leaf, range_leaf, in_memory}
-use Rattle.dpl_memory.specs.Resolved.{Bound, text_of, variable_of, left_in, first_seen, Suits, Start, resolving, first_memory, Declares, innermost, sighted}
+use Rattle.dpl_memory.specs.Resolved.{no_shape, Bound, Sighted, Sight, text_of, variable_of, left_in, Seen, first_seen, Suits, Start, resolving, first_memory, Declares, innermost, sighted}
 use Rattle.dpl_memory.proofs.MemoryAgrees.{written-memory}
 use Rattle.dpl_memory.proofs.Suiting.{Suits-truth, Suits-name, Suits-range_item, Turns-ranges, Suits-number}
 
@@ -54,7 +54,7 @@ abbrev leaf : List ℕ → Variable
 leaf x = if bytes_eq x (codes "s") then int_leaf 0 else if bytes_eq x (codes "b") then truth_leaf 1 else if bytes_eq x (codes "r") then range_leaf 2 else int_leaf 3
 
 abbrev resolved : List ℕ → Bound
-resolved x = record { text = x; variable = leaf x }
+resolved x = record { text = x; variable = leaf x; shape = no_shape }
 
 abbrev sums_resolved : ProgramTree Bound
 sums_resolved = renamed_program resolved sums
@@ -70,33 +70,46 @@ abbrev placed : List ℕ → ℕ → Placed Bound
 placed x column = record { at = at 1 column; name = resolved x }
 
 -- b reduce= j < 4;
-below_four : Suits (PlainKind TruthLeaf) (One (Chain (Named (placed (codes "j") 135)) (Link (at 1 137) Less (Number (at 1 139) (pos 4)) NoLinks)))
-below_four = (refl, λ limits s v e. (int_lt (get_or s.words.numbers 3 (pos 0)) (pos 4), cc))
+below_four : (g : Seen) → Suits (PlainKind TruthLeaf) no_shape (One (Chain (Named (placed (codes "j") 135)) (Link (at 1 137) Less (Number (at 1 139) (pos 4)) NoLinks))) g
+below_four g = (refl, λ limits s shaped v e. ((int_lt (get_or s.words.numbers 3 (pos 0)) (pos 4), cc), tt))
+
+-- what is in sight: s, then b, then r; in the loop i, and in the forall j and its reduce variables
+abbrev plainly : List ℕ → Sighted
+plainly x = sighted (resolved x) PlainSort
+
+abbrev seeing : Sight → Seen
+seeing fs = record { frames = fs; intents = [] }
+
+abbrev top : List Sighted
+top = plainly (codes "s") ∷ plainly (codes "b") ∷ plainly (codes "r") ∷ []
+
+abbrev in_turn : Seen
+in_turn = record { frames = [] ∷ (plainly (codes "j") ∷ []) ∷ top ∷ []; intents = (resolved (codes "s"), Sum) ∷ (resolved (codes "b"), AllOf) ∷ [] }
 
 sums_fit : fits_all (resolving start) sums_resolved.stmts first_seen
 sums_fit = ( -- var s: int;
-  (tt, tt, (record { unused = search rules; within = search rules }, λ e. e), tt, (pos 0, refl)),
+  (tt, tt, (record { unused = search rules; within = search rules }, λ e. e), tt, ((pos 0, refl), tt)),
   ( -- var b = true;
-    (tt, (tt, tt), (record { unused = search rules; within = search rules }, λ e. e), tt, Suits-truth (at 1 21) true),
+    (tt, (tt, tt), (record { unused = search rules; within = search rules }, λ e. e), tt, Suits-truth no_shape (seeing ((plainly (codes "s") ∷ []) ∷ [])) (at 1 21) true),
     ( -- const r = 1..4;
-      (tt, ((tt, tt, tt), tt), (record { unused = search rules; within = search rules }, λ e. e), tt, Suits-range_item (Number (at 1 37) (pos 1)) (at 1 38) Closed (Number (at 1 40) (pos 4)) NoStride),
+      (tt, ((tt, tt, tt), tt), (record { unused = search rules; within = search rules }, λ e. e), tt, Suits-range_item no_shape (seeing ((plainly (codes "s") ∷ plainly (codes "b") ∷ []) ∷ [])) (Number (at 1 37) (pos 1)) (at 1 38) Closed (Number (at 1 40) (pos 4))),
       ( -- for i in r do s += i;
         (
           refl,
-          Turns-ranges (One (Named (placed (codes "r") 52))) (Suits-name (placed (codes "r") 52) RangeLeaf refl),
+          Turns-ranges (One (Named (placed (codes "r") 52))) no_shape no_shape (seeing (top ∷ [])) (Suits-name (seeing (top ∷ [])) (placed (codes "r") 52) RangeLeaf refl refl),
           (record { unused = search rules; within = search rules }, λ e. e),
-          (((refl, refl, tt, tt), λ t. (refl, refl)), (λ t. (refl, refl), tt), Suits-name (placed (codes "i") 62) IntLeaf refl),
+          (((refl, refl, tt, tt), λ t. (refl, refl)), (λ t. (refl, refl), tt), Suits-name (seeing ([] ∷ (plainly (codes "i") ∷ []) ∷ top ∷ [])) (placed (codes "i") 62) IntLeaf refl refl),
         ),
         ( -- forall j in r with (+ reduce s, && reduce b) { s reduce= j; b reduce= j < 4; }
           (
             refl,
-            Turns-ranges (One (Named (placed (codes "r") 77))) (Suits-name (placed (codes "r") 77) RangeLeaf refl),
+            Turns-ranges (One (Named (placed (codes "r") 77))) no_shape no_shape (seeing (top ∷ [])) (Suits-name (seeing (top ∷ [])) (placed (codes "r") 77) RangeLeaf refl refl),
             refl,
             (record { unused = search rules; within = search rules }, λ e. e),
             (
-              (((refl, refl, (refl, refl), tt), λ t. (refl, refl)), (λ t. (refl, refl), tt), Suits-name (placed (codes "j") 122) IntLeaf refl),
+              (((refl, refl, (refl, refl), tt), λ t. (refl, refl)), (λ t. (refl, refl), tt), Suits-name in_turn (placed (codes "j") 122) IntLeaf refl refl),
               (
-                (((refl, refl, (refl, refl), tt), λ t. (refl, refl)), (λ t. ((refl, refl), (tt, tt)), tt), below_four),
+                (((refl, refl, (refl, refl), tt), λ t. (refl, refl)), (λ t. ((refl, refl), (tt, tt)), tt), below_four in_turn),
                 tt,
               ),
             ),
@@ -132,29 +145,29 @@ abbrev one_slot : Start
 one_slot = record { slots = 1; texts = (codes "n", Int (pos 7)) ∷ []; words = (0, pos 7) ∷ [] }
 
 abbrev configured_resolved : ProgramTree Bound
-configured_resolved = renamed_program (λ x. record { text = x; variable = int_leaf 0 }) configured
+configured_resolved = renamed_program (λ x. record { text = x; variable = int_leaf 0; shape = no_shape }) configured
 
 -- n is set to 7 by its text and by its slot
 configured_fits : fits_all (resolving one_slot) configured_resolved.stmts first_seen
-configured_fits = ((tt, (tt, tt), (record { unused = search rules; within = search rules }, λ e. e), (refl, search rules, refl), Suits-number (at 1 18) (pos 4)), (((refl, tt), λ t. refl, tt), tt))
+configured_fits = ((tt, (tt, tt), (record { unused = search rules; within = search rules }, λ e. e), (refl, search rules, refl), Suits-number no_shape first_seen (at 1 18) (pos 4)), (((refl, tt), λ t. refl, tt), tt))
 
 configured_writes : written (run_from (limits 16777216 1) in_memory (renamed_program variable_of configured_resolved) (first_memory one_slot)) ≡ codes "7\n"
 unfolding int_wrap digits members indices
 configured_writes = refl
 
 -- WHAT DOESN'T FIT: a number for a truth value
-number_is_no_truth : (at : Place) (n : ℤ) → Suits (PlainKind TruthLeaf) (One (Number at n)) → ⊥
+number_is_no_truth : (at : Place) (n : ℤ) → Suits (PlainKind TruthLeaf) no_shape (One (Number at n)) first_seen → ⊥
 number_is_no_truth at n f =
-    let of_kind = f.1 (limits 1 1) (first_memory one_slot) (Int n) refl in
-    absurd (is_no_truth of_kind.0 of_kind.1)
+    let of_kind = f.1 (limits 1 1) (first_memory one_slot) (λ x e. cc) (Int n) refl in
+    absurd (is_no_truth of_kind.0.0 of_kind.0.1)
   where
     is_no_truth : (b : Bool) → Int n ≡ Truth b → ⊥
     is_no_truth b e = cc
 
 -- a slot that a name in sight has
-slot_in_use : Declares 4 (record { text = codes "c"; variable = truth_leaf 0 }) PlainSort (record { frames = (sighted (resolved (codes "s")) PlainSort ∷ []) ∷ []; intents = [] }) → ⊥
+slot_in_use : Declares 4 (record { text = codes "c"; variable = truth_leaf 0; shape = no_shape }) PlainSort (record { frames = (sighted (resolved (codes "s")) PlainSort ∷ []) ∷ []; intents = [] }) → ⊥
 slot_in_use f = f.0.unused.0.0 refl
 
 -- of two names with one text the inner one is meant
-hidden_name : innermost (codes "s") ((sighted (record { text = codes "s"; variable = int_leaf 3 }) PlainSort ∷ []) ∷ (sighted (resolved (codes "s")) PlainSort ∷ []) ∷ []) ≡ Some (PlainKind IntLeaf, 3)
+hidden_name : innermost (codes "s") ((sighted (record { text = codes "s"; variable = int_leaf 3; shape = no_shape }) PlainSort ∷ []) ∷ (sighted (resolved (codes "s")) PlainSort ∷ []) ∷ []) ≡ Some (PlainKind IntLeaf, 3, no_shape)
 hidden_name = refl

@@ -1,30 +1,33 @@
 -- Sample programs with their names in slots: what they write from a memory is what they mean.
 -- One of them is seen to fit, and so the theorem gives the same.
-use Rattle.std.proofs.Common.{◌≡◌, ℕ, ◌+◌, List, [], ◌∷◌, pos, true, false, refl, ◌∙◌, rules, ℤ, Result, Option, Some, None}
+use Rattle.std.proofs.Common.{◌≡◌, ℕ, ◌+◌, List, [], ◌∷◌, pos, true, false, refl, subst, ◌∙◌, rules, ℤ, Result, Option, Some, None}
 use Rattle.std.specs.Prelude.{codes, bytes_eq, if◌then◌else◌, Ok, Err, option_map}
 use Rattle.std.specs.Int.{int_wrap}
 use Rattle.std.specs.Fmt.{digits}
+use Rattle.std.proofs.lemmas.List.Elements.{All-weaker}
 use Rattle.dpl_range.specs.Members.{members}
 use Rattle.dpl_range.specs.Equality.{TextRange}
 use Rattle.dpl_domain.specs.Indices.{indices}
 use Rattle.dpl_syntax.specs.declared.place.Place.{Place}
 use Rattle.dpl_language.specs.Tree.{Placed, IntKind, BoolKind, Number, Named, One, RangeItem, Closed, NoStride, DomainLiteral, Items, FirstItem, NoItems, ProgramTree}
-use Rattle.dpl_language.specs.Values.{Value, Int, Array, Domain, Fault, fault, PastLimit, all_ranges}
-use Rattle.dpl_language.specs.Ranges.{sized, too_many}
+use Rattle.dpl_language.specs.Values.{Value, Int, Array, Range, Domain, Fault, fault, PastLimit, all_ranges}
+use Rattle.dpl_language.specs.Ranges.{bounded, sized, too_many}
 use Rattle.dpl_language.specs.Outcome.{with_ok}
-use Rattle.dpl_language.specs.Expressions.{found, items_of}
+use Rattle.dpl_language.specs.Expressions.{found}
 use Rattle.dpl_language.specs.Names.{Text}
 use Rattle.dpl_language.specs.Program.{written}
-use Rattle.dpl_language.specs.Renamed.{renamed_program, renamed_items}
-use Rattle.dpl_language.specs.Scopes.{fits_all}
+use Rattle.dpl_language.specs.Renamed.{renamed_program}
+use Rattle.dpl_language.specs.Scopes.{PlainSort, ArraySort, fits_all}
 use Rattle.dpl_language.proofs.Spelled.{at}
 use Rattle.dpl_language.proofs.Says.{limits, writes}
 use Rattle.dpl_language.proofs.ProgramsAlike.{run_from}
 use Rattle.dpl_language.proofs.ArraysSamples.{inner_array, changed_domain, not_over_the_name, truths_of_an_array, tuples, promoted, no_array_left, three_planes}
+use Rattle.dpl_sound.specs.Typed.{IsPlain}
 use Rattle.dpl_words.specs.Words.{IntLeaf}
 use Rattle.dpl_memory.specs.Memory.{PlainKind, DomainKind, TupleKind, ArrayKind, Variable, variable, no_array, array_at, held_at, element_as, in_memory}
-use Rattle.dpl_memory.specs.Resolved.{Bound, text_of, variable_of, first_seen, Suits, SuitsElement, Start, resolving, first_memory}
+use Rattle.dpl_memory.specs.Resolved.{Shape, Bound, text_of, Sighted, Sight, sighted, Seen, first_seen, IsElement, MayHold, Suits, SuitsElement, Start, resolving, first_memory}
 use Rattle.dpl_memory.proofs.MemoryAgrees.{written-memory}
+use Rattle.dpl_memory.proofs.Suiting.{bounded-plain}
 
 -- NAMES IN SLOTS: each by its text, since no two names of these samples are spelled alike
 abbrev named_in : List (Text × Variable) → Text → Variable
@@ -94,8 +97,12 @@ unfolding int_wrap digits members indices
 three_planes_write = refl
 
 -- ONE OF THEM FITS
+-- domains of one dimension, without strides
+abbrev line : Shape
+line = record { rank = 1; strided = false }
+
 abbrev resolved : Text → Bound
-resolved x = record { text = x; variable = named_in ((codes "D", domain_in 0 (1 ∷ [])) ∷ (codes "A", ints_in 1) ∷ []) x }
+resolved x = record { text = x; variable = named_in ((codes "D", domain_in 0 (1 ∷ [])) ∷ (codes "A", ints_in 1) ∷ []) x; shape = line }
 
 abbrev inner_array_resolved : ProgramTree Bound
 inner_array_resolved = renamed_program resolved inner_array
@@ -108,48 +115,60 @@ abbrev one_range : ℕ → ℕ → ℕ → Items Bound
 one_range column low high =
     FirstItem (RangeItem (Number (at 1 column) (pos low)) (at 1 (column + 1)) Closed (Number (at 1 (column + 3)) (pos high)) NoStride) NoItems
 
--- a domain literal is a domain
-Suits-domain : (from : Place) (items : Items Bound) (upto : Place) → Suits DomainKind (One (DomainLiteral from items upto))
-Suits-domain from items upto = (refl, λ limits s v e. by (items_of limits in_memory (renamed_items variable_of items) s) v e)
+-- the domain of one range without a stride
+Suits-domain : (g : Seen) (from : Place) (column low high : ℕ) (upto : Place) → Suits DomainKind line (One (DomainLiteral from (one_range column low high) upto)) g
+Suits-domain g from column low high upto = (refl, λ limits s shaped v e. by_bounds (bounded (at 1 (column + 1)) Closed (pos low) (pos high)) (λ r. bounded-plain (at 1 (column + 1)) Closed (pos low) (pos high) r) v e)
   where
-    by_size : (rs : List TextRange) (v : Value) → sized from rs ≡ Ok v → (qs : List TextRange) × (v ≡ Domain qs)
-    by_size rs v =
-        elim (too_many rs) as (λ b. (if b then Err (fault PastLimit from) else Ok (Domain rs)) ≡ Ok v → (qs : List TextRange) × (v ≡ Domain qs)) [ true ↦ λ e. cc | false ↦ λ e. (rs, cc) ]
+    by_size : (r : TextRange) (v : Value) → IsPlain r → sized from (r ∷ []) ≡ Ok v → MayHold DomainKind line v
+    by_size r v plain =
+        elim (too_many (r ∷ [])) as (λ b. (if b then Err (fault PastLimit from) else Ok (Domain (r ∷ []))) ≡ Ok v → MayHold DomainKind line v)
+        [ true ↦ λ e. cc | false ↦ λ e. let same : Domain (r ∷ []) ≡ v = cc in subst (MayHold DomainKind line) same ((r ∷ [], refl), (refl, (plain, tt))) ]
 
-    by : (r : Result (List Value) Fault) (v : Value) → with_ok r (λ vs. sized from (all_ranges vs)) ≡ Ok v → (qs : List TextRange) × (v ≡ Domain qs)
-    by (Ok vs) v e = by_size (all_ranges vs) v e
-    by (Err f) v e = cc
+    by_bounds : (b : Result TextRange Fault) → ((r : TextRange) → b ≡ Ok r → IsPlain r) → (v : Value)
+        → with_ok (with_ok (with_ok b (λ r. Ok (Range r))) (λ v. Ok (v ∷ []))) (λ vs. sized from (all_ranges vs)) ≡ Ok v → MayHold DomainKind line v
+    by_bounds (Ok r) plain v e = by_size r v (plain r refl) e
+    by_bounds (Err f) plain v e = cc
 
-Suits-element : (at : Place) (n : ℤ) → Suits (ArrayKind IntKind) (One (Number at n))
-Suits-element at n = (refl, (λ none limits s v e. (n, cc), λ limits s t v e. (n, cc)))
+Suits-element : (g : Seen) (at : Place) (n : ℤ) → Suits (ArrayKind IntKind) line (One (Number at n)) g
+Suits-element g at n = (refl, (λ none limits s shaped v e. ((n, cc), tt), λ limits s shaped t v e. (n, cc)))
 
 -- a whole array may be assigned another by its name, each element in its turn; an element may not
 abbrev a_array : Placed Bound
-a_array = record { at = at 1 9; name = record { text = codes "A"; variable = variable (ArrayKind IntKind) 1 } }
+a_array = record { at = at 1 9; name = record { text = codes "A"; variable = variable (ArrayKind IntKind) 1; shape = line } }
 
-Suits-array : Suits (ArrayKind IntKind) (One (Named a_array))
-Suits-array = (refl, ((λ none. absurd (let f : Some (array_at 1 none.1).ranges ≡ None = none.2 in cc)), λ limits s t v. by (held_at t (array_at 1 s)) v))
+Suits-array : Suits (ArrayKind IntKind) line (One (Named a_array)) first_seen
+Suits-array = (refl, ((λ none. absurd (let f : Some (array_at 1 none.1).ranges ≡ None = none.2 in cc)), λ limits s shaped t v. by (held_at t (array_at 1 s)) v))
   where
     by : (w : Option ℤ) (v : Value) → found (at 1 9) (option_map (element_as IntKind) w) ≡ Ok v → (n : ℤ) × (v ≡ Int n)
     by None v e = cc
     by (Some w) v e = (w, cc)
 
-array_is_no_element : SuitsElement (ArrayKind IntKind) (One (Named a_array)) → ⊥
+array_is_no_element : SuitsElement (ArrayKind IntKind) line (One (Named a_array)) first_seen → ⊥
 array_is_no_element f =
-    let of_kind = f.1 (limits 1 1) (first_memory (start 6)) (Array IntKind (no_array).ranges) refl in
-    absurd (is_no_int of_kind.0 of_kind.1)
+    let of_kind = f.1 (limits 1 1) (first_memory (start 6)) (λ x e. cc) (Array IntKind (no_array).ranges) refl in
+    absurd (is_no_int of_kind.0.0 of_kind.0.1)
   where
     is_no_int : (n : ℤ) → Array IntKind (no_array).ranges ≡ Int n → ⊥
     is_no_int n e = cc
 
+-- what is in sight: D, and in the block A over it
+abbrev d_frame : List Sighted
+d_frame = sighted (resolved (codes "D")) PlainSort ∷ []
+
+abbrev a_frame : List Sighted
+a_frame = sighted (resolved (codes "A")) (ArraySort (Some (resolved (codes "D")))) ∷ []
+
+abbrev seeing : Sight → Seen
+seeing fs = record { frames = fs; intents = [] }
+
 inner_array_fits : fits_all (resolving (start 6)) inner_array_resolved.stmts first_seen
 inner_array_fits = ( -- var D = {1..2};
-  (tt, (((tt, tt, tt), tt), tt), (record { unused = (tt, tt); within = search rules }, λ e. e), tt, Suits-domain (at 1 9) (one_range 10 1 2) (at 1 14)),
+  (tt, (((tt, tt, tt), tt), tt), (record { unused = (tt, tt); within = search rules }, λ e. e), tt, Suits-domain first_seen (at 1 9) 10 1 2 (at 1 14)),
   (
     ( -- var A: [D] int = 1;
-      ((refl, tt), (λ t. tt, tt), (record { unused = (tt, (((λ e. cc), tt), tt)); within = search rules }, tt, refl), tt, ((λ rs vs all. (refl, all)), Suits-element (at 1 36) (pos 1))),
+      ((refl, tt), (λ t. tt, tt), (record { unused = (tt, (((λ e. cc), tt), tt)); within = search rules }, tt, refl), tt, ((λ rs vs all. (refl, All-weaker (MayHold (ArrayKind IntKind) line) (IsElement IntKind) (λ v h. h.0) vs all)), Suits-element (seeing ([] ∷ d_frame ∷ [])) (at 1 36) (pos 1))),
       ( -- D = {2..3};
-        (((refl, refl, tt, refl), λ t. (refl, refl)), (λ t. ((tt, tt, tt), tt), tt), Suits-domain (at 1 43) (one_range 44 2 3) (at 1 48)),
+        (((refl, refl, tt, refl), λ t. (refl, refl)), (λ t. ((tt, tt, tt), tt), tt), Suits-domain (seeing (a_frame ∷ d_frame ∷ [])) (at 1 43) 44 2 3 (at 1 48)),
         ( -- writeln(A);
           ((refl, tt), λ t. refl, tt),
           tt,

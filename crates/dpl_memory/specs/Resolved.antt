@@ -3,7 +3,7 @@
 use Rattle.std.specs.Prelude.{◌≡◌, ◌≢◌, ℕ, ◌==◌, ◌<◌, ℤ, pos, Bool, true, false, not, All, bytes_eq, if◌then◌else◌, Option, Some, None, Ok, List, [], ◌∷◌, ◌++◌, map, option_map, length, replicate}
 use Rattle.dpl_range.specs.Equality.{TextRange}
 use Rattle.dpl_language.specs.Tree.{Op, Assign, Set, SetAdd, SetSubtract, SetMultiply, SetDivide, SetRemainder, SetReduce, ItemTree, Kind, IntKind, BoolKind}
-use Rattle.dpl_language.specs.Values.{Value, Int, Truth, Domain, Tuple, Index}
+use Rattle.dpl_language.specs.Values.{Value, Int, Truth, Domain, Tuple, Index, ranges_in, coordinates}
 use Rattle.dpl_language.specs.Ranges.{indices_in, loop_ranges, loop_value}
 use Rattle.dpl_language.specs.Outcome.{Outcome, Done, Stop, Waits}
 use Rattle.dpl_language.specs.Environment.{Content, Plain, ArrayOf, CellOf, Limits}
@@ -12,13 +12,24 @@ use Rattle.dpl_language.specs.Expressions.{item_of, whole_item}
 use Rattle.dpl_language.specs.Names.{Text, Entry, Frame, Store, State, paired}
 use Rattle.dpl_language.specs.Renamed.{renamed_item, renamed_intents}
 use Rattle.dpl_language.specs.Scopes.{Sort, PlainSort, ArraySort, CellSort, Scoping}
-use Rattle.dpl_words.specs.Words.{no_range, intent_at, set_at, given_as, IsOfKind, is_arithmetic, takes, Combines}
+use Rattle.dpl_sound.specs.Typed.{MayStride, AreRanked}
+use Rattle.dpl_words.specs.Words.{IntLeaf, TruthLeaf, RangeLeaf, no_range, intent_at, set_at, given_as, IsOfKind, is_arithmetic, takes, Combines}
 use Rattle.dpl_memory.specs.Memory.{VariableKind, PlainKind, DomainKind, TupleKind, ArrayKind, Variable, Held, Memory, no_domain, no_tuple, no_array, element_as, value_in, array_at, intents_by_slot, in_memory}
 
--- a name that is resolved: its text, and the variable that it stands for
+-- What the type of a name tells of its values: how many dimensions a domain has, and how many coordinates a tuple; and whether
+-- a range, or a range of a domain, may be one that the text strides. Of numbers and truth values nothing is told.
+pub record Shape : Type 0 where
+  pub rank : ℕ
+  pub strided : Bool
+
+abbrev pub no_shape : Shape
+no_shape = record { rank = 0; strided = false }
+
+-- a name that is resolved: its text, the variable that it stands for, and the shape of its values
 pub record Bound : Type 0 where
   pub text : Text
   pub variable : Variable
+  pub shape : Shape
 
 abbrev pub text_of : Bound → Text
 text_of b = b.text
@@ -27,23 +38,24 @@ abbrev pub variable_of : Bound → Variable
 variable_of b = b.variable
 
 -- WHAT IS IN SIGHT: frames, the innermost scope's first, each in order of declaration. Of a name they have its text, its kind
--- and its slot, and of an array the bare domain name that it is declared over, if it is over one.
+-- and its slot and the shape of its values, and of an array the bare domain name that it is declared over, if it is over one.
 pub record Sighted : Type 0 where
   pub text : Text
   pub kind : VariableKind
   pub slot : ℕ
+  pub shape : Shape
   pub over : Option Bound
 
 abbrev pub Sight : Type 0
 Sight = List (List Sighted)
 
--- what a name is: its kind and its slot
+-- what a name is: its kind, its slot and its shape
 abbrev pub Known : Type 0
-Known = VariableKind × ℕ
+Known = VariableKind × ℕ × Shape
 
 abbrev pub known_in : Text → List Sighted → Option Known
 known_in x [] = None
-known_in x (b ∷ bs) = if bytes_eq x b.text then Some (b.kind, b.slot) else known_in x bs
+known_in x (b ∷ bs) = if bytes_eq x b.text then Some (b.kind, b.slot, b.shape) else known_in x bs
 
 abbrev pub or_known : Option Known → Option Known → Option Known
 or_known None outer = outer
@@ -79,7 +91,7 @@ over_of (ArraySort over) = over
 over_of CellSort = None
 
 abbrev pub sighted : Bound → Sort Bound → Sighted
-sighted x sort = record { text = x.text; kind = x.variable.kind; slot = x.variable.slot; over = over_of sort }
+sighted x sort = record { text = x.text; kind = x.variable.kind; slot = x.variable.slot; shape = x.shape; over = over_of sort }
 
 -- the slots of the arrays in sight that are declared over the domain name with this slot
 abbrev pub is_over : ℕ → Option Bound → Bool
@@ -114,6 +126,20 @@ IsOf DomainKind v = (rs : List TextRange) × (v ≡ Domain rs)
 IsOf TupleKind v = (t : Index) × (v ≡ Tuple t)
 IsOf (ArrayKind k) v = IsElement k v
 
+-- A value of a shape: as many ranges as the rank, which the text strides only where it may; and as many coordinates. What an
+-- array's elements may be its kind says alone.
+abbrev pub HasShape : VariableKind → Shape → Value → Type 0
+HasShape (PlainKind IntLeaf) shape v = Unit {0}
+HasShape (PlainKind TruthLeaf) shape v = Unit {0}
+HasShape (PlainKind RangeLeaf) shape v = MayStride shape.strided (ranges_in v)
+HasShape DomainKind shape v = AreRanked shape.rank shape.strided (ranges_in v)
+HasShape TupleKind shape v = length (coordinates v) ≡ shape.rank
+HasShape (ArrayKind k) shape v = Unit {0}
+
+-- what a variable may be given
+abbrev pub MayHold : VariableKind → Shape → Value → Type 0
+MayHold kind shape v = IsOf kind v × HasShape kind shape v
+
 -- an array's content is of its kind, and so is each element
 abbrev pub IsArrayOf : VariableKind → Kind → List Value → Type 0
 IsArrayOf (PlainKind l) k vs = ⊥
@@ -122,10 +148,10 @@ IsArrayOf TupleKind k vs = ⊥
 IsArrayOf (ArrayKind l) k vs = (k ≡ l) × All (IsElement l) vs
 
 -- what a variable may hold
-abbrev pub HoldsKind : VariableKind → Content Bound → Type 0
-HoldsKind kind (Plain v) = IsOf kind v
-HoldsKind kind (ArrayOf over k rs vs) = IsArrayOf kind k vs
-HoldsKind kind (CellOf k c) = ⊥
+abbrev pub Holds : VariableKind → Shape → Content Bound → Type 0
+Holds kind shape (Plain v) = MayHold kind shape v
+Holds kind shape (ArrayOf over k rs vs) = IsArrayOf kind k vs
+Holds kind shape (CellOf k c) = ⊥
 
 -- `=` alone
 abbrev pub is_set : Assign → Bool
@@ -156,16 +182,16 @@ KindCombines TupleKind o = Unit {0}
 KindCombines (ArrayKind k) o = Unit {0}
 
 -- `reduce=` is by the same operator, told by texts or by slots, and one of the variable's kind
-abbrev pub IntentResolves : Assign → Bound → Seen → Type 0
-IntentResolves Set x g = Unit {0}
-IntentResolves SetAdd x g = Unit {0}
-IntentResolves SetSubtract x g = Unit {0}
-IntentResolves SetMultiply x g = Unit {0}
-IntentResolves SetDivide x g = Unit {0}
-IntentResolves SetRemainder x g = Unit {0}
-IntentResolves SetReduce x g =
-    (paired x.text (renamed_intents text_of g.intents) ≡ intent_at x.variable.slot (intents_by_slot (renamed_intents variable_of g.intents)))
-    × KindCombines x.variable.kind (intent_at x.variable.slot (intents_by_slot (renamed_intents variable_of g.intents)))
+abbrev pub IntentResolves : Assign → Text → Variable → Seen → Type 0
+IntentResolves Set x l g = Unit {0}
+IntentResolves SetAdd x l g = Unit {0}
+IntentResolves SetSubtract x l g = Unit {0}
+IntentResolves SetMultiply x l g = Unit {0}
+IntentResolves SetDivide x l g = Unit {0}
+IntentResolves SetRemainder x l g = Unit {0}
+IntentResolves SetReduce x l g =
+    (paired x (renamed_intents text_of g.intents) ≡ intent_at l.slot (intents_by_slot (renamed_intents variable_of g.intents)))
+    × KindCombines l.kind (intent_at l.slot (intents_by_slot (renamed_intents variable_of g.intents)))
 
 -- where a domain is assigned, the arrays over its name stand with it
 abbrev pub ArraysResolve : VariableKind → Bound → Seen → Type 0
@@ -174,15 +200,23 @@ ArraysResolve DomainKind x g = x.variable.arrays ≡ arrays_over x.variable.slot
 ArraysResolve TupleKind x g = Unit {0}
 ArraysResolve (ArrayKind k) x g = Unit {0}
 
--- in whatever memory, what an item is evaluated to is of the kind, once; and in each turn an element may be it
-abbrev pub GivesOnce : VariableKind → ItemTree Bound → Type 0
-GivesOnce kind item =
-    (limits : Limits) (s : Memory) (v : Value)
-    → item_of limits in_memory (renamed_item variable_of item) None s ≡ Ok v → IsOf kind v
+-- a name has the kind, the slot and the shape of its innermost declaration
+abbrev pub Resolves : Bound → Seen → Type 0
+Resolves x g = innermost x.text g.frames ≡ Some (x.variable.kind, x.variable.slot, x.shape)
 
-abbrev pub GivesTurns : Kind → ItemTree Bound → Type 0
-GivesTurns k item =
-    (limits : Limits) (s : Memory) (t : Index) (v : Value)
+-- a memory in which each name in sight has a value of its shape
+abbrev pub IsShaped : Seen → Memory → Type 0
+IsShaped g s = (x : Bound) → Resolves x g → HasShape x.variable.kind x.shape (value_in x.variable.kind x.variable.slot s)
+
+-- in whatever such memory, a variable may be given what an item is evaluated to, once; and an element in each turn
+abbrev pub GivesOnce : VariableKind → Shape → ItemTree Bound → Seen → Type 0
+GivesOnce kind shape item g =
+    (limits : Limits) (s : Memory) → IsShaped g s → (v : Value)
+    → item_of limits in_memory (renamed_item variable_of item) None s ≡ Ok v → MayHold kind shape v
+
+abbrev pub GivesTurns : Kind → ItemTree Bound → Seen → Type 0
+GivesTurns k item g =
+    (limits : Limits) (s : Memory) → IsShaped g s → (t : Index) (v : Value)
     → item_of limits in_memory (renamed_item variable_of item) (Some t) s ≡ Ok v → IsElement k v
 
 -- in some memory there is no whole array in it
@@ -192,29 +226,25 @@ HasNoArray item =
 
 -- A right side that is no cell read has a value of the kind. A whole array's may be a whole array by its name, as in `B = A;`,
 -- which is evaluated in each turn; only one without a whole array is evaluated once.
-abbrev pub SuitsKind : VariableKind → ItemTree Bound → Type 0
-SuitsKind (PlainKind k) item = GivesOnce (PlainKind k) item
-SuitsKind DomainKind item = GivesOnce DomainKind item
-SuitsKind TupleKind item = GivesOnce TupleKind item
-SuitsKind (ArrayKind k) item = (HasNoArray item → GivesOnce (ArrayKind k) item) × GivesTurns k item
+abbrev pub SuitsKind : VariableKind → Shape → ItemTree Bound → Seen → Type 0
+SuitsKind (PlainKind k) shape item g = GivesOnce (PlainKind k) shape item g
+SuitsKind DomainKind shape item g = GivesOnce DomainKind shape item g
+SuitsKind TupleKind shape item g = GivesOnce TupleKind shape item g
+SuitsKind (ArrayKind k) shape item g = (HasNoArray item → GivesOnce (ArrayKind k) shape item g) × GivesTurns k item g
 
-abbrev pub Suits : VariableKind → ItemTree Bound → Type 0
-Suits kind item = (item_read item ≡ None) × SuitsKind kind item
+abbrev pub Suits : VariableKind → Shape → ItemTree Bound → Seen → Type 0
+Suits kind shape item g = (item_read item ≡ None) × SuitsKind kind shape item g
 
 -- an element's right side is evaluated once
-abbrev pub SuitsElement : VariableKind → ItemTree Bound → Type 0
-SuitsElement kind item = (item_read item ≡ None) × GivesOnce kind item
+abbrev pub SuitsElement : VariableKind → Shape → ItemTree Bound → Seen → Type 0
+SuitsElement kind shape item g = (item_read item ≡ None) × GivesOnce kind shape item g
 
--- each turn of a loop has a value of the kind
-abbrev pub Turns : VariableKind → ItemTree Bound → Type 0
-Turns kind item =
-    (limits : Limits) (s : Memory) (over : Value)
+-- a loop's variable may be given the value of each turn
+abbrev pub Turns : VariableKind → Shape → ItemTree Bound → Seen → Type 0
+Turns kind shape item g =
+    (limits : Limits) (s : Memory) → IsShaped g s → (over : Value)
     → item_of limits in_memory (renamed_item variable_of item) None s ≡ Ok over
-    → All (λ t. IsOf kind (loop_value over t)) (indices_in (loop_ranges limits.locales over))
-
--- a name has the kind and the slot of its innermost declaration
-abbrev pub Resolves : Bound → Seen → Type 0
-Resolves x g = innermost x.text g.frames ≡ Some (x.variable.kind, x.variable.slot)
+    → All (λ t. MayHold kind shape (loop_value over t)) (indices_in (loop_ranges limits.locales over))
 
 -- a declaration has a slot of the memory that no name in sight has
 pub record IsNew (slots : ℕ) (x : Bound) (g : Seen) : Type 0 where
@@ -257,16 +287,16 @@ resolving start = record {
   reads_at = λ x t. Resolves x;
   reads_element = λ x items. Resolves x;
   assigns = λ x op g.
-      Resolves x g × (kind_takes x.variable.kind op ≡ true) × IntentResolves op x g × ArraysResolve x.variable.kind x g;
+      Resolves x g × (kind_takes x.variable.kind op ≡ true) × IntentResolves op x.text x.variable g × ArraysResolve x.variable.kind x g;
   assigns_at = λ x t. Resolves x;
   assigns_element = λ x items. Resolves x;
   calls = λ x g. ⊥;
   declares = Declares start.slots;
   gives = λ x g. IsGivenAs x.variable.kind x start;
-  holds = λ x. HoldsKind x.variable.kind;
-  suits = λ x item g. Suits x.variable.kind item;
-  suits_element = λ x item g. SuitsElement x.variable.kind item;
-  turns = λ x item g. Turns x.variable.kind item;
+  holds = λ x. Holds x.variable.kind x.shape;
+  suits = λ x item. Suits x.variable.kind x.shape item;
+  suits_element = λ x item. SuitsElement x.variable.kind x.shape item;
+  turns = λ x item. Turns x.variable.kind x.shape item;
   intends = λ is g. g.intents ≡ [];
   coforalls = λ g. ⊥;
   moves = λ g. ⊥;

@@ -69,10 +69,10 @@ runs_over_none false true h = absurd cc
 runs_over_none false false h = absurd cc
 
 -- a loop's value in a turn, by the type of what it runs over; the index has a coordinate for each of its ranges
-abbrev Turns : ℕ → Value → ValueType → Type 0
+abbrev pub Turns : ℕ → Value → ValueType → Type 0
 Turns locales over w = (t : Index) → length t ≡ length (loop_ranges locales over) → HasType (loop_value over t) w
 
-loop_value-has : (locales : ℕ) (word : LoopWord) (u w : ValueType) (over : Value) → HasType over (type_at u None) → (if runs_over word u then Some (one_type u) else None) ≡ Some w
+pub loop_value-has : (locales : ℕ) (word : LoopWord) (u w : ValueType) (over : Value) → HasType over (type_at u None) → (if runs_over word u then Some (one_type u) else None) ≡ Some w
     → Turns locales over w
 loop_value-has locales word (Scalar k) w over hv h = elim (runs_over_none (over_domains word) (over_locales word) (if_given (runs_over word (Scalar k)) (Some (one_type (Scalar k))) w h).0) [ ]
 loop_value-has locales word (RangeType strided) w over hv h =
@@ -94,7 +94,7 @@ many-int : (b : Bool) (w : ValueType) → (if b then Some an_int else None) ≡ 
 many-int b w h = some-same an_int w (if_given b (Some an_int) w h).1
 
 -- which names a scope has hangs on their names alone
-abbrev SameNames : Scopes → Scopes → Type 0
+abbrev pub SameNames : Scopes → Scopes → Type 0
 SameNames ss ts = (x : Text) → declared_here ss x ≡ declared_here ts x
 
 is_some-if : (b : Bool) (d : Declared) (o : Option Declared) → is_some (if b then Some d else o) ≡ (if b then true else is_some o)
@@ -108,7 +108,7 @@ declared_here-add d (s ∷ ss) x = is_some-if (bytes_eq x d.origin.name) d (find
 abbrev variable : Option ValueType → Scopes → Text → Declared
 variable t ss x = record { origin = origin_in ss x; sort = LoopVariable; type = t }
 
-same_names-add : (ss ts : Scopes) (o p : Option ValueType) (y : Text) → SameNames ss ts → SameNames (add (variable o ss y) ss) (add (variable p ts y) ts)
+pub same_names-add : (ss ts : Scopes) (o p : Option ValueType) (y : Text) → SameNames ss ts → SameNames (add (variable o ss y) ss) (add (variable p ts y) ts)
 same_names-add ss ts o p y h x =
     declared_here-add (variable o ss y) ss x ∙ ap (λ b. if bytes_eq x y then true else b) (h x) ∙ sym (declared_here-add (variable p ts y) ts x)
 

@@ -1,0 +1,152 @@
+-- Shapes of values: what is put into a slot keeps its shape there, and where one slot changes all others keep theirs.
+-- So in a memory that a program reaches each name in sight has a value of its shape.
+use Rattle.std.proofs.Common.{◌≡◌, ◌≢◌, ℕ, ◌<◌, Bool, true, false, List, [], ◌∷◌, refl, sym, ap, ◌∙◌, subst, Some, None, Option}
+use Rattle.std.specs.Prelude.{◌==◌, option_map}
+use Rattle.std.proofs.lemmas.Bool.Decides.{Decides-eqb}
+use Rattle.dpl_range.specs.Equality.{TextRange}
+use Rattle.dpl_language.specs.Tree.{Op, Kind, Assign, Set, SetAdd, SetSubtract, SetMultiply, SetDivide, SetRemainder, SetReduce}
+use Rattle.dpl_language.specs.Values.{Value, Range, Array, Cell, Index}
+use Rattle.dpl_language.specs.Arithmetic.{assigned}
+use Rattle.dpl_language.specs.Environment.{Content, Plain, ArrayOf, CellOf}
+use Rattle.dpl_language.proofs.Slots.{Bound as SlotBound}
+use Rattle.dpl_sound.specs.Typed.{MayStride}
+use Rattle.dpl_words.specs.Words.{LeafKind, IntLeaf, TruthLeaf, RangeLeaf, no_range, given_as}
+use Rattle.dpl_memory.specs.Memory.{VariableKind, PlainKind, DomainKind, TupleKind, ArrayKind, Held, Memory, value_in, with_value_in, with_element_in, intended}
+use Rattle.dpl_memory.specs.Resolved.{Shape, IsOf, IsWhole, IsArrayOf, HasShape, kind_takes, KindCombines, HasSlots, content_in}
+use Rattle.dpl_memory.proofs.OfKind.{content_in-set_same, content_in-intend}
+use Rattle.dpl_memory.proofs.InSight.{Told, with_told, with_told_here, with_told_other}
+
+-- EACH SLOT has a value of the shape that is told of it
+abbrev pub HasToldShape : Told → ℕ → Memory → Type 0
+HasToldShape t j s = HasShape t.kind t.shape (value_in t.kind j s)
+
+abbrev pub IsShapedBy : (ℕ → Told) → Memory → Type 0
+IsShapedBy told s = (j : ℕ) → HasToldShape (told j) j s
+
+pub told-shaped : (k : VariableKind) (shape : Shape) (t : Told) (j : ℕ) (s : Memory) → t.kind ≡ k → t.shape ≡ shape → HasToldShape t j s → HasShape k shape (value_in k j s)
+told-shaped k shape t j s kind is h = subst (λ k. HasShape k shape (value_in k j s)) kind (subst (λ shape. HasShape t.kind shape (value_in t.kind j s)) is h)
+
+pub shaped-told : (k : VariableKind) (shape : Shape) (t : Told) (j : ℕ) (s : Memory) → t.kind ≡ k → t.shape ≡ shape → HasShape k shape (value_in k j s) → HasToldShape t j s
+shaped-told k shape t j s kind is h = subst (λ shape. HasShape t.kind shape (value_in t.kind j s)) (sym is) (subst (λ k. HasShape k shape (value_in k j s)) (sym kind) h)
+
+-- WHAT A SLOT HOLDS, by its content
+abbrev content_value : Content SlotBound → Value
+content_value (Plain v) = v
+content_value (ArrayOf over k rs vs) = Array k rs
+content_value (CellOf k c) = Cell k
+
+value_in-content : (k : VariableKind) (j : ℕ) (s : Memory) → content_value (content_in k j None s) ≡ value_in k j s
+value_in-content (PlainKind k) j s = refl
+value_in-content DomainKind j s = refl
+value_in-content TupleKind j s = refl
+value_in-content (ArrayKind k) j s = refl
+
+content-same : (k : VariableKind) (j : ℕ) (s u : Memory) → content_in {N = SlotBound} k j None u ≡ content_in {N = SlotBound} k j None s → value_in k j s ≡ value_in k j u
+content-same k j s u e = sym (value_in-content k j s) ∙ ap content_value (sym e) ∙ value_in-content k j u
+
+-- ONE SLOT CHANGED
+abbrev Keeps : ℕ → Memory → Memory → Type 0
+Keeps slot s u = (k : VariableKind) (j : ℕ) (over : Option SlotBound) → j ≢ slot → content_in k j over u ≡ content_in k j over s
+
+kept-shape : (t : Told) (j : ℕ) (s u : Memory) → content_in {N = SlotBound} t.kind j None u ≡ content_in {N = SlotBound} t.kind j None s → HasToldShape t j s → HasToldShape t j u
+kept-shape t j s u e h = subst (HasShape t.kind t.shape) (content-same t.kind j s u e) h
+
+pub shaped-changed : (told : ℕ → Told) (slot : ℕ) (s u : Memory) → IsShapedBy told s → Keeps slot s u → HasToldShape (told slot) slot u → IsShapedBy told u
+shaped-changed told slot s u h other here j =
+    (elim (j == slot) as (λ t. (t ≡ true → j ≡ slot) → (j ≡ slot → t ≡ true) → HasToldShape (told j) j u) [
+      | true ↦ λ is e. subst (λ i. HasToldShape (told i) i u) (sym (is refl)) here
+      | false ↦ λ is e. kept-shape (told j) j s u (other (told j).kind j None (λ same. let f : false ≡ true = e same in cc)) (h j)
+    ]) (Decides-eqb j slot).0 (Decides-eqb j slot).1
+
+-- and something else told of it
+pub shaped-declared : (told : ℕ → Told) (slot : ℕ) (t : Told) (s u : Memory) → IsShapedBy told s → Keeps slot s u → HasToldShape t slot u → IsShapedBy (with_told slot t told) u
+shaped-declared told slot t s u h other here j =
+    (elim (j == slot) as (λ b. (b ≡ true → j ≡ slot) → (j ≡ slot → b ≡ true) → HasToldShape (with_told slot t told j) j u) [
+      | true ↦ λ is e. subst (λ i. HasToldShape (with_told slot t told i) i u) (sym (is refl)) (subst (λ t. HasToldShape t slot u) (sym (with_told_here slot t told)) here)
+      | false ↦ λ is e.
+          let apart : j ≢ slot = λ same. let f : false ≡ true = e same in cc in
+          subst (λ t. HasToldShape t j u) (sym (with_told_other j slot t told apart)) (kept-shape (told j) j s u (other (told j).kind j None apart) (h j))
+    ]) (Decides-eqb j slot).0 (Decides-eqb j slot).1
+
+-- A VALUE THAT IS PUT is of its shape there; of a whole array nothing is put
+set-value : (k : VariableKind) (slot : ℕ) (v : Value) (slots : ℕ) (s : Memory) → IsOf k v → (IsWhole k → ⊥) → HasSlots slots s → slot < slots → v ≡ value_in k slot (with_value_in k slot v s)
+set-value k slot v slots s p n h within =
+    ap content_value (sym (content_in-set_same {N = SlotBound} k slot None v slots s p n h within)) ∙ value_in-content k slot (with_value_in k slot v s)
+
+pub shaped-set : (k : VariableKind) (shape : Shape) (slot : ℕ) (v : Value) (slots : ℕ) (s : Memory) → ((IsWhole k → ⊥) → IsOf k v) → HasShape k shape v → HasSlots slots s → slot < slots
+    → HasShape k shape (value_in k slot (with_value_in k slot v s))
+shaped-set (PlainKind k) shape slot v slots s p q h within = subst (HasShape (PlainKind k) shape) (set-value (PlainKind k) slot v slots s (p (λ e. e)) (λ e. e) h within) q
+shaped-set DomainKind shape slot v slots s p q h within = subst (HasShape DomainKind shape) (set-value DomainKind slot v slots s (p (λ e. e)) (λ e. e) h within) q
+shaped-set TupleKind shape slot v slots s p q h within = subst (HasShape TupleKind shape) (set-value TupleKind slot v slots s (p (λ e. e)) (λ e. e) h within) q
+shaped-set (ArrayKind k) shape slot v slots s p q h within = tt
+
+-- ASSIGNMENTS: ranges, domains and tuples are given what stands on the right side
+only_set : (k : VariableKind) (shape : Shape) (op : Assign) (o : Option Op) (old v : Value) → kind_takes DomainKind op ≡ true → HasShape k shape v → HasShape k shape (assigned op o old v)
+only_set k shape Set o old v t p = p
+only_set k shape SetAdd o old v t p = cc
+only_set k shape SetSubtract o old v t p = cc
+only_set k shape SetMultiply o old v t p = cc
+only_set k shape SetDivide o old v t p = cc
+only_set k shape SetRemainder o old v t p = cc
+only_set k shape SetReduce o old v t p = cc
+
+range_set : (shape : Shape) (op : Assign) (o : Option Op) (old v : Value) → kind_takes (PlainKind RangeLeaf) op ≡ true → (op ≡ SetReduce → KindCombines (PlainKind RangeLeaf) o)
+    → HasShape (PlainKind RangeLeaf) shape v → HasShape (PlainKind RangeLeaf) shape (assigned op o old v)
+range_set shape Set o old v t c p = p
+range_set shape SetAdd o old v t c p = cc
+range_set shape SetSubtract o old v t c p = cc
+range_set shape SetMultiply o old v t c p = cc
+range_set shape SetDivide o old v t c p = cc
+range_set shape SetRemainder o old v t c p = cc
+range_set shape SetReduce o old v t c p = by o (c refl)
+  where
+    by : (o : Option Op) → KindCombines (PlainKind RangeLeaf) o → HasShape (PlainKind RangeLeaf) shape (assigned SetReduce o old v)
+    by None c = p
+    by (Some op) c = cc
+
+pub assigned-shaped : (k : VariableKind) (shape : Shape) (op : Assign) (o : Option Op) (old v : Value) → kind_takes k op ≡ true → (op ≡ SetReduce → KindCombines k o) → HasShape k shape v → HasShape k shape (assigned op o old v)
+assigned-shaped (PlainKind IntLeaf) shape op o old v t c p = tt
+assigned-shaped (PlainKind TruthLeaf) shape op o old v t c p = tt
+assigned-shaped (PlainKind RangeLeaf) shape op o old v t c p = range_set shape op o old v t c p
+assigned-shaped DomainKind shape op o old v t c p = only_set DomainKind shape op o old v t p
+assigned-shaped TupleKind shape op o old v t c p = only_set TupleKind shape op o old v t p
+assigned-shaped (ArrayKind k) shape op o old v t c p = tt
+
+-- an element put, and an array declared
+pub shaped-element : (k : VariableKind) (shape : Shape) (slot : ℕ) (t : Index) (v : Value) (s : Memory) → HasShape k shape (value_in k slot s) → HasShape k shape (value_in k slot (with_element_in k slot t v s))
+shaped-element (PlainKind k) shape slot t v s h = h
+shaped-element DomainKind shape slot t v s h = h
+shaped-element TupleKind shape slot t v s h = h
+shaped-element (ArrayKind k) shape slot t v s h = tt
+
+pub shaped-array : (kind : VariableKind) (shape : Shape) (slot : ℕ) (k : Kind) (rs : List TextRange) (vs : List Value) (s : Memory) → IsArrayOf kind k vs → HasShape kind shape (value_in kind slot s)
+shaped-array (PlainKind l) shape slot k rs vs s h = absurd h
+shaped-array DomainKind shape slot k rs vs s h = absurd h
+shaped-array TupleKind shape slot k rs vs s h = absurd h
+shaped-array (ArrayKind l) shape slot k rs vs s h = tt
+
+-- of arrays nothing is told, whatever they are
+pub shaped-arrays : (t : Told) (j : ℕ) (arrays : List Held) (s : Memory) → HasToldShape t j s → HasToldShape t j (record s { arrays = arrays })
+shaped-arrays t j arrays s = by t.kind
+  where
+    by : (k : VariableKind) → HasShape k t.shape (value_in k j s) → HasShape k t.shape (value_in k j (record s { arrays = arrays }))
+    by (PlainKind k) h = h
+    by DomainKind h = h
+    by TupleKind h = h
+    by (ArrayKind k) h = tt
+
+pub shaped-intended : (told : ℕ → Told) (is : List (ℕ × Op)) (s : Memory) → IsShapedBy told s → IsShapedBy told (intended is s)
+shaped-intended told is s h j = kept-shape (told j) j s (intended is s) (sym (content_in-intend {N = SlotBound} (told j).kind j None is s)) (h j)
+
+-- WHAT THE COMMAND LINE GIVES: no range that is strided
+pub given-shaped : (k : LeafKind) (shape : Shape) (o : Option _) (v : Value) → option_map (given_as k) o ≡ Some v → HasShape (PlainKind k) shape v
+given-shaped k shape None v e = cc
+given-shaped IntLeaf shape (Some w) v e = tt
+given-shaped TruthLeaf shape (Some w) v e = tt
+given-shaped RangeLeaf shape (Some w) v e =
+    let same : Range no_range ≡ v = cc in
+    subst (HasShape (PlainKind RangeLeaf) shape) same (unstrided-shaped shape.strided)
+  where
+    unstrided-shaped : (strided : Bool) → MayStride strided (no_range ∷ [])
+    unstrided-shaped true = tt
+    unstrided-shaped false = (refl, tt)
