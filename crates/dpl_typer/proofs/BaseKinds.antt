@@ -16,7 +16,7 @@ use Rattle.dpl_typer.specs.Makers.{kind_if, leaf_of, is_int, element_kind, squar
 use Rattle.dpl_typer.specs.Leaves.{is_rank, value_kind, IsOfKind}
 use Rattle.dpl_typer.specs.Elaborated.{AreOfKinds, IsNoIndex, AreNoParts}
 use Rattle.dpl_typer.proofs.OperatorKinds.{IsNew, Gives, gives-none, kind-same, kind_if-some}
-use Rattle.dpl_typer.proofs.PartKinds.{index-gives, one_int-gives, slice-gives, one_range-gives, judged-gives, domain-new, by_int-nothing, judged_unknown-nothing}
+use Rattle.dpl_typer.proofs.PartKinds.{index-gives, one_int-gives, slice-gives, one_range-gives, judged-gives, domain-new, by_int-nothing, judged_unknown-nothing, three_at_most}
 
 -- a base by its kind, and whether it is a whole array
 abbrev pub IsBase : Bool → VariableKind → Option ValueType → Type 0
@@ -209,7 +209,7 @@ module _ (at : Place) where
 
 -- ---- `dim`: a dimension that the domain has
 below_three : (n rank : ℕ) → is_rank rank ≡ true → nat_lt n 3 ≡ false → nat_lt n rank ≡ false
-below_three n rank r e = grind (arith, nat_tests, r, e)
+below_three n rank r e = let few = three_at_most rank r in grind (arith, nat_tests, few, e)
 
 dimension-gives : (at : Place) (n rank : ℕ) (s : Bool) → is_rank rank ≡ true → Gives (kind_if (nat_lt n 3) (PlainKind RangeLeaf)) (type_by (if nat_lt n rank then Has (Range s) else misranked at))
 dimension-gives at n rank s r = by (nat_lt n 3) refl

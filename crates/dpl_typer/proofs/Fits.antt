@@ -15,9 +15,9 @@ use Rattle.dpl_typer.proofs.Sights.{innermost-found}
 
 -- ---- names
 module _ (scopes : Scopes) (plain : ArePlainScopes scopes) where
-  -- a name has the kind and the slot of its innermost declaration
+  -- a name has the kind, the slot and the shape of its innermost declaration
   abbrev IsIn : Bound → Type 0
-  IsIn b = innermost b.text (sight_of scopes) ≡ Some (b.variable.kind, b.variable.slot)
+  IsIn b = innermost b.text (sight_of scopes) ≡ Some (b.variable.kind, b.variable.slot, b.shape)
 
   abbrev Found : Text → Type 0
   Found x = IsFound scopes x
@@ -79,10 +79,10 @@ module _ (scopes : Scopes) (plain : ArePlainScopes scopes) where
     more_exprs_names NoExprs h = tt
     more_exprs_names (NextExpr comma e more) h = (expr_names e h.0, more_exprs_names more h.1)
 
-pub expr_names-simple : (scopes : Scopes) (e : ExprTree Text) → ArePlainScopes scopes → IsSimple (IsFound scopes) e → NamesAre (λ b. innermost b.text (sight_of scopes) ≡ Some (b.variable.kind, b.variable.slot)) (renamed_expr (bound_in scopes) e)
+pub expr_names-simple : (scopes : Scopes) (e : ExprTree Text) → ArePlainScopes scopes → IsSimple (IsFound scopes) e → NamesAre (λ b. innermost b.text (sight_of scopes) ≡ Some (b.variable.kind, b.variable.slot, b.shape)) (renamed_expr (bound_in scopes) e)
 expr_names-simple scopes e plain h = expr_names scopes plain e h
 
-pub names-simple : (scopes : Scopes) (i : ItemTree Text) → ArePlainScopes scopes → IsSimpleItem (IsFound scopes) i → ItemNamesAre (λ b. innermost b.text (sight_of scopes) ≡ Some (b.variable.kind, b.variable.slot)) (renamed_item (bound_in scopes) i)
+pub names-simple : (scopes : Scopes) (i : ItemTree Text) → ArePlainScopes scopes → IsSimpleItem (IsFound scopes) i → ItemNamesAre (λ b. innermost b.text (sight_of scopes) ≡ Some (b.variable.kind, b.variable.slot, b.shape)) (renamed_item (bound_in scopes) i)
 names-simple scopes i plain h = item_names scopes plain i h
 
 -- ---- cell reads

@@ -5,6 +5,8 @@ pub mod Names
 pub mod Chains
 pub mod Sights
 pub mod Suited
+pub mod Formed
+pub mod Shaped
 pub mod Fits
 pub mod PartKinds
 pub mod BaseKinds

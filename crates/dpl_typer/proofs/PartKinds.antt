@@ -282,8 +282,15 @@ kinds-no_parts ks ps h e =
     }
 
 -- they are more than a domain has dimensions
+and-second : (a b : Bool) → (a && b) ≡ true → b ≡ true
+and-second true b e = e
+and-second false b e = absurd (let f : false ≡ true = e in cc)
+
+pub three_at_most : (rank : ℕ) → is_rank rank ≡ true → nat_lt rank 4 ≡ true
+three_at_most rank h = and-second (nat_lt 0 rank) (nat_lt rank 4) h
+
 other_rank : (n rank : ℕ) → is_rank rank ≡ true → nat_lt n 4 ≡ false → (n == rank) ≡ false
-other_rank n rank h e = grind (arith, nat_tests, h, e)
+other_rank n rank h e = let few = three_at_most rank h in grind (arith, nat_tests, few, e)
 
 many-index : (last : Place) (rank : ℕ) (ps : List Part) → is_rank rank ≡ true → nat_lt (length ps) 4 ≡ false → (all_known ps && no_breach (index_breaches last rank ps)) ≡ false
 many-index last rank [] h e = refl

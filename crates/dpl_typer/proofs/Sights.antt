@@ -7,20 +7,21 @@ use Rattle.dpl_language.specs.Names.{Text}
 use Rattle.dpl_language.specs.Scopes.{PlainSort}
 use Rattle.dpl_rules.specs.Sights.{Declared, Scope, Scopes, find, or_else, lookup, type_declared, enter, add}
 use Rattle.dpl_scopes.specs.Slots.{count_in, next_slot_in, place_in, slot_or, slot_in}
-use Rattle.dpl_words.specs.Words.{LeafKind}
-use Rattle.dpl_memory.specs.Memory.{Variable, VariableKind, PlainKind}
-use Rattle.dpl_memory.specs.Resolved.{Sighted, sighted, Known, known_in, or_known, innermost, IsUnusedIn, IsUnused, bind}
+use Rattle.dpl_memory.specs.Memory.{Variable, VariableKind}
+use Rattle.dpl_memory.specs.Resolved.{Shape, Sighted, sighted, Known, known_in, or_known, innermost, IsUnusedIn, IsUnused, bind}
+use Rattle.dpl_typer.specs.Makers.{is_promoted}
 use Rattle.dpl_typer.specs.Leaves.{kind_by, leaf_by, leaf_in, IsFound}
+use Rattle.dpl_typer.specs.Shapes.{shape_by, shape_in}
 use Rattle.dpl_typer.specs.Sights.{bound_at, frame_from, sight_of, IsPlainScope, ArePlainScopes}
 
--- A NAME'S KIND AND SLOT
-abbrev known_of : Variable → Known
-known_of x = (x.kind, x.slot)
+-- A NAME'S KIND, SLOT AND SHAPE
+abbrev known_of : Variable → Shape → Known
+known_of x shape = (x.kind, x.slot, shape)
 
 known_in-append : (x : Text) (bs cs : List Sighted) → known_in x (bs ++ cs) ≡ or_known (known_in x bs) (known_in x cs)
 known_in-append x [] cs = refl
 known_in-append x (b ∷ bs) cs =
-    elim (bytes_eq x b.text) as (λ t. (if t then Some (b.kind, b.slot) else known_in x (bs ++ cs)) ≡ or_known (if t then Some (b.kind, b.slot) else known_in x bs) (known_in x cs))
+    elim (bytes_eq x b.text) as (λ t. (if t then Some (b.kind, b.slot, b.shape) else known_in x (bs ++ cs)) ≡ or_known (if t then Some (b.kind, b.slot, b.shape) else known_in x bs) (known_in x cs))
     [ true ↦ refl | false ↦ known_in-append x bs cs ]
 
 or_known-none : (o : Option Known) → or_known o None ≡ o
@@ -30,16 +31,16 @@ or_known-none (Some k) = refl
 -- what a declaration that is found is, by its type and its place
 abbrev known_found : Option Declared → Option ℕ → Option Known
 known_found None slot = None
-known_found (Some d) slot = Some (known_of (leaf_by (kind_by d.type) slot))
+known_found (Some d) slot = Some (known_of (leaf_by (kind_by d.type) slot) (shape_by d.type))
 
 -- the latest declaration is found, or else one before it
 latest_found : (begin : ℕ) (x : Text) (d : Declared) (ds : Scope) → find ds d.origin.name ≡ None → known_in x (frame_from begin ds) ≡ known_found (find ds x) (place_in ds x begin)
     → (t : Bool) → bytes_eq x d.origin.name ≡ t
-    → or_known (known_in x (frame_from begin ds)) (if t then Some (known_of (leaf_by (kind_by d.type) (Some (length ds + begin)))) else None)
+    → or_known (known_in x (frame_from begin ds)) (if t then Some (known_of (leaf_by (kind_by d.type) (Some (length ds + begin))) (shape_by d.type)) else None)
     ≡ known_found (if t then Some d else find ds x) (if t then Some (length ds + begin) else place_in ds x begin)
 latest_found begin x d ds alone others true e =
     let none : find ds x ≡ None = subst (λ y. find ds y ≡ None) (sym ((bytes_eq-Decides x d.origin.name).0 e)) alone in
-    ap (λ o. or_known o (Some (known_of (leaf_by (kind_by d.type) (Some (length ds + begin)))))) (others ∙ ap (λ o. known_found o (place_in ds x begin)) none)
+    ap (λ o. or_known o (Some (known_of (leaf_by (kind_by d.type) (Some (length ds + begin))) (shape_by d.type)))) (others ∙ ap (λ o. known_found o (place_in ds x begin)) none)
 latest_found begin x d ds alone others false e = or_known-none (known_in x (frame_from begin ds)) ∙ others
 
 known_in-frame_from : (begin : ℕ) (x : Text) (ds : Scope) → IsPlainScope ds → known_in x (frame_from begin ds) ≡ known_found (find ds x) (place_in ds x begin)
@@ -74,18 +75,18 @@ innermost-sight_of x (s ∷ ss) h =
     ∙ ap (or_known (known_found (find s x) (place_in s x (suc (count_in ss))))) (innermost-sight_of x ss h.1)
     ∙ or_known-found (find s x) (lookup ss x) (place_in s x (suc (count_in ss))) (slot_in ss x) (found_alike (suc (count_in ss)) x s)
 
-known_found-kind : (o : Option Declared) (p : Option ℕ) (k : VariableKind) → kind_by (type_declared o) ≡ Some k → known_found o p ≡ Some (known_of (leaf_by (kind_by (type_declared o)) p))
+known_found-kind : (o : Option Declared) (p : Option ℕ) (k : VariableKind) → kind_by (type_declared o) ≡ Some k → known_found o p ≡ Some (known_of (leaf_by (kind_by (type_declared o)) p) (shape_by (type_declared o)))
 known_found-kind None p k e = absurd cc
 known_found-kind (Some d) p k e = refl
 
--- a plain variable's name in sight has those of its leaf
-pub innermost-found : (x : Text) (ss : Scopes) → ArePlainScopes ss → IsFound ss x → innermost x (sight_of ss) ≡ Some ((leaf_in ss x).kind, (leaf_in ss x).slot)
+-- a name in sight has those of its leaf, and its type's shape
+pub innermost-found : (x : Text) (ss : Scopes) → ArePlainScopes ss → IsFound ss x → innermost x (sight_of ss) ≡ Some ((leaf_in ss x).kind, (leaf_in ss x).slot, shape_in ss x)
 innermost-found x ss h (k, slot, kind, at) = innermost-sight_of x ss h ∙ known_found-kind (lookup ss x) (slot_in ss x) k kind
 
 -- WHAT IS IN SIGHT IS PLAIN
 abbrev pub HasPlainKind : Option Declared → Type 0
 HasPlainKind None = Unit {0}
-HasPlainKind (Some d) = (k : LeafKind) × (kind_by d.type ≡ Some (PlainKind k))
+HasPlainKind (Some d) = (k : VariableKind) × (kind_by d.type ≡ Some k) × (is_promoted k ≡ false)
 
 find-plain : (s : Scope) (x : Text) → IsPlainScope s → HasPlainKind (find s x)
 find-plain [] x h = tt

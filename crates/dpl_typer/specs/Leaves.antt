@@ -11,9 +11,9 @@ use Rattle.dpl_memory.specs.Memory.{VariableKind, PlainKind, DomainKind, TupleKi
 use Rattle.dpl_typer.specs.declared.make.Typed.{Typed}
 use Rattle.dpl_typer.specs.Makers.{kind_if, kind_of, is_whole}
 
--- a domain has at most 3 dimensions, and a tuple stands for an index of 2 or 3 numbers
+-- a domain has 1 to 3 dimensions, and a tuple stands for an index of 2 or 3 numbers
 abbrev pub is_rank : ℕ → Bool
-is_rank rank = nat_lt rank 4
+is_rank rank = nat_lt 0 rank && nat_lt rank 4
 
 abbrev pub is_tuple_rank : ℕ → Bool
 is_tuple_rank rank = nat_lt 1 rank && nat_lt rank 4

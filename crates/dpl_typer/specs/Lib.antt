@@ -1,5 +1,6 @@
--- What stands for a name, and which expressions are scalar by their form.
+-- What stands for a name, its kind and its shape, and which expressions are simple by their form.
 pub mod Leaves
+pub mod Shapes
 pub mod Simple
 pub mod Sights
 pub mod Makers

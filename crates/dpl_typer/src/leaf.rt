@@ -38,14 +38,14 @@ fn variable<'t>(
         ValueType::Scalar(ScalarKind::Bool) => truth_variable(arena, slot),
         ValueType::Range { .. } => range_variable(arena, slot),
         ValueType::Domain { rank, .. } => {
-            if rank < 4 {
+            if rank > 0 && rank < 4 {
                 domain_variable(arena, slot)
             } else {
                 Err(Stop::IllTyped)
             }
         }
         ValueType::Array(kind, over) | ValueType::Promoted(kind, over) => {
-            if over.rank < 4 {
+            if over.rank > 0 && over.rank < 4 {
                 array_variable(arena, kind, slot, at)
             } else {
                 Err(Stop::IllTyped)
