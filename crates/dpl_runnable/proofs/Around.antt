@@ -1,34 +1,32 @@
--- What is known around a statement: each name in sight is a plain variable, and the forall around, if there is one, breaks no
--- rule, so that its body holds no other forall and changes its reduce variables by `reduce=`.
+-- What is known around a statement: each name in sight has a type of a kind that is no array's, and the forall around, if there
+-- is one, breaks no rule, so that its body holds no other forall and changes its reduce variables by `reduce=`.
 use Rattle.std.proofs.Common.{◌≡◌, true, List, [], ◌∷◌, ◌++◌, Option, Some, None, refl, sym, ap, ◌∙◌, append_assoc}
 use Rattle.dpl_syntax.specs.declared.place.Place.{Place}
 use Rattle.dpl_syntax.specs.declared.refusal.Breach.{Breach}
-use Rattle.dpl_language.specs.Tree.{Op, VariablesTree, WithTree, StmtTree, Nothing, Declare, Assigned, Call, Write, Block, If, While, For, Forall, Coforall, On}
+use Rattle.dpl_language.specs.Tree.{Op, ItemTree, VariablesTree, WithTree, StmtTree, Nothing, Declare, Assigned, Call, Write, Block, If, While, For, Forall, Coforall, On}
 use Rattle.dpl_language.specs.Names.{Text}
 use Rattle.dpl_language.specs.Phrases.{intents_of}
 use Rattle.dpl_language.specs.Renamed.{renamed_intents}
-use Rattle.dpl_spelling.specs.Spelt.{StmtSpelt}
-use Rattle.dpl_closed.specs.Closed.{closed_stmt}
+use Rattle.dpl_spelling.specs.Spelt.{ItemSpelt, StmtSpelt}
+use Rattle.dpl_closed.specs.Closed.{closed_item, closed_stmt}
 use Rattle.dpl_rules.specs.Types.{Origin}
 use Rattle.dpl_rules.specs.Sights.{Scopes, Reducing, Sight, lookup, enter}
 use Rattle.dpl_rules.specs.Assignments.{may_reduce_in}
 use Rattle.dpl_rules.specs.Declarations.{declared_by}
-use Rattle.dpl_rules.specs.Loops.{with_breaches, reducing_in, behind}
+use Rattle.dpl_rules.specs.Loops.{LoopWord, header_breaches, with_breaches, reducing_in, in_loop, behind}
 use Rattle.dpl_rules.specs.Deeds.{AForall, Deed, Holds}
 use Rattle.dpl_rules.specs.Bodies.{turns_of, each, deed_breaches}
 use Rattle.dpl_rules.specs.Breaches.{stmt_breaches}
 use Rattle.dpl_rules.proofs.Admission.{first_empty, second_empty}
-use Rattle.dpl_words.specs.Words.{LeafKind}
-use Rattle.dpl_memory.specs.Memory.{PlainKind}
+use Rattle.dpl_memory.specs.Memory.{VariableKind}
 use Rattle.dpl_memory.specs.Resolved.{Bound}
 use Rattle.dpl_typer.specs.Leaves.{kind_in}
 use Rattle.dpl_typer.specs.Sights.{bound_in}
-use Rattle.dpl_scalar.specs.Plain.{AreScalar}
-use Rattle.dpl_scalar.specs.Bodies.{in_loop}
-use Rattle.dpl_scalar.specs.Scalar.{IsReduced}
-use Rattle.dpl_scalar.proofs.Scopes.{enter-scalar, in_loop-scalar, declaration-scalar}
-use Rattle.dpl_scalar.proofs.Changes.{untasked}
-use Rattle.dpl_scalar.proofs.Reduced.{IsInside, inside-enter, inside-add, inside-loop, reduced}
+use Rattle.dpl_runnable.specs.Kinds.{AreVariables, IsScalarKind}
+use Rattle.dpl_runnable.specs.Runnable.{IsReduced}
+use Rattle.dpl_runnable.proofs.Scopes.{enter-variables, in_loop-variables, declaration-variables}
+use Rattle.dpl_runnable.proofs.Changes.{untasked}
+use Rattle.dpl_runnable.proofs.Reduced.{IsInside, inside-enter, inside-add, inside-loop, reduced}
 
 -- a forall: the scopes around it, its variables and its intents; and the arrays that its body writes
 pub record Turning : Type 0 where
@@ -50,7 +48,7 @@ abbrev pub sight_by : Option Turning → Scopes → Sight
 sight_by f scopes = untasked scopes (forall_by f)
 
 pub record IsUnbroken (f : Turning) (scopes : Scopes) : Type 0 where
-  pub names : AreScalar f.outer
+  pub names : AreVariables f.outer
   pub told : with_breaches f.outer f.intents ≡ []
   pub inside : IsInside f.outer scopes
 
@@ -59,7 +57,7 @@ IsAround None scopes = Unit {0}
 IsAround (Some f) scopes = IsUnbroken f scopes
 
 pub record Stands (f : Option Turning) (scopes : Scopes) : Type 0 where
-  pub names : AreScalar scopes
+  pub names : AreVariables scopes
   pub around : IsAround f scopes
 
 -- ---- what it may do
@@ -92,17 +90,19 @@ enter-around : (f : Option Turning) (scopes : Scopes) → IsAround f scopes → 
 enter-around None scopes around = tt
 enter-around (Some f) scopes around = record { names = around.names; told = around.told; inside = inside-enter f.outer scopes around.inside }
 
-loop-around : (f : Option Turning) (xs : VariablesTree Text) (scopes : Scopes) → IsAround f scopes → IsAround f (in_loop xs scopes)
-loop-around None xs scopes around = tt
-loop-around (Some f) xs scopes around = record { names = around.names; told = around.told; inside = inside-loop f.outer xs scopes around.inside }
+loop-around : (f : Option Turning) (word : LoopWord) (xs : VariablesTree Text) (item : ItemTree Text) (scopes : Scopes) → IsAround f scopes → IsAround f (in_loop scopes word xs item)
+loop-around None word xs item scopes around = tt
+loop-around (Some f) word xs item scopes around =
+    record { names = around.names; told = around.told; inside = inside-loop f.outer scopes word xs item (inside-enter f.outer scopes around.inside) }
 
 pub enter-stands : (f : Option Turning) (scopes : Scopes) → Stands f scopes → Stands f (enter scopes)
-enter-stands f scopes s = record { names = enter-scalar scopes s.names; around = enter-around f scopes s.around }
-
-pub loop-stands : (f : Option Turning) (xs : VariablesTree Text) (scopes : Scopes) → Stands f scopes → Stands f (in_loop xs scopes)
-loop-stands f xs scopes s = record { names = in_loop-scalar xs scopes s.names; around = loop-around f xs scopes s.around }
+enter-stands f scopes s = record { names = enter-variables scopes s.names; around = enter-around f scopes s.around }
 
 module _ (P : Place → Type 0) (scopes : Scopes) where
+  pub loop-stands : (f : Option Turning) (word : LoopWord) (xs : VariablesTree Text) (item : ItemTree Text) → Stands f scopes → ItemSpelt P item → closed_item item ≡ None
+      → header_breaches scopes word xs item ≡ [] → Stands f (in_loop scopes word xs item)
+  loop-stands f word xs item at s c h = record { names = in_loop-variables scopes P at.names word xs item s c h; around = loop-around f word xs item scopes at.around }
+
   behind-around : (f : Option Turning) (t : StmtTree Text) → IsAround f scopes → IsAround f (behind scopes t)
   behind-around None t around = tt
   behind-around (Some f) (Nothing at) around = around
@@ -119,25 +119,25 @@ module _ (P : Place → Type 0) (scopes : Scopes) where
   behind-around (Some f) (Coforall at xs word item intents body) around = around
   behind-around (Some f) (On at e body) around = around
 
-  behind-scalar : (f : Option Turning) (t : StmtTree Text) → AreScalar scopes → StmtSpelt P t → closed_stmt t ≡ None → stmt_breaches (sight_by f scopes) t ≡ [] → AreScalar (behind scopes t)
-  behind-scalar f (Nothing at) names s c h = names
-  behind-scalar f (Declare d) names s c h = declaration-scalar scopes P names d s c h
-  behind-scalar f (Assigned target sign item semicolon) names s c h = names
-  behind-scalar f (Call x dot call semicolon) names s c h = names
-  behind-scalar f (Write w) names s c h = names
-  behind-scalar f (Block from ts upto) names s c h = names
-  behind-scalar f (If at e first second) names s c h = names
-  behind-scalar f (While at e body) names s c h = names
-  behind-scalar f (For at xs word item body) names s c h = names
-  behind-scalar f (Forall at xs word item intents body) names s c h = names
-  behind-scalar f (Coforall at xs word item intents body) names s c h = names
-  behind-scalar f (On at e body) names s c h = names
+  behind-variables : (f : Option Turning) (t : StmtTree Text) → AreVariables scopes → StmtSpelt P t → closed_stmt t ≡ None → stmt_breaches (sight_by f scopes) t ≡ [] → AreVariables (behind scopes t)
+  behind-variables f (Nothing at) names s c h = names
+  behind-variables f (Declare d) names s c h = declaration-variables scopes P names d s c h
+  behind-variables f (Assigned target sign item semicolon) names s c h = names
+  behind-variables f (Call x dot call semicolon) names s c h = names
+  behind-variables f (Write w) names s c h = names
+  behind-variables f (Block from ts upto) names s c h = names
+  behind-variables f (If at e first second) names s c h = names
+  behind-variables f (While at e body) names s c h = names
+  behind-variables f (For at xs word item body) names s c h = names
+  behind-variables f (Forall at xs word item intents body) names s c h = names
+  behind-variables f (Coforall at xs word item intents body) names s c h = names
+  behind-variables f (On at e body) names s c h = names
 
   pub behind-stands : (f : Option Turning) (t : StmtTree Text) → Stands f scopes → StmtSpelt P t → closed_stmt t ≡ None → stmt_breaches (sight_by f scopes) t ≡ [] → Stands f (behind scopes t)
-  behind-stands f t at s c h = record { names = behind-scalar f t at.names s c h; around = behind-around f t at.around }
+  behind-stands f t at s c h = record { names = behind-variables f t at.names s c h; around = behind-around f t at.around }
 
 -- ---- `reduce=`: outside foralls there is none
-pub reduced-around : (f : Option Turning) (scopes : Scopes) → IsAround f scopes → (x : Text) (k : LeafKind) → kind_in scopes x ≡ Some (PlainKind k) → may_reduce_in (forall_by f) (lookup scopes x) ≡ true
-    → IsReduced scopes (intents_by f) x k
+pub reduced-around : (f : Option Turning) (scopes : Scopes) → IsAround f scopes → (x : Text) (k : VariableKind) → kind_in scopes x ≡ Some k → may_reduce_in (forall_by f) (lookup scopes x) ≡ true
+    → IsReduced scopes (intents_by f) x k × IsScalarKind k
 reduced-around None scopes around x k kind h = absurd cc
 reduced-around (Some f) scopes around x k kind h = reduced f.outer around.names f.intents around.told scopes around.inside x k kind h

@@ -14,7 +14,7 @@ use Rattle.dpl_spelling.specs.Declarations.{declare_end, declaration, config_dec
 use Rattle.dpl_spelling.specs.Statements.{assignment_end, call_end, named_statement, output, stmts_of, block, part, body, Conditional, consequence, Otherwise, alternative, if_else, while_loop, on_locale, variables, Loop, loop_head, for_loop, ParallelLoop, parallel_head, forall_loop, coforall_loop, simple_statement, plain_statement, statement}
 use Rattle.dpl_spelling.specs.Grammar.{Program, top, tops, program, grammar}
 use Rattle.dpl_spelling.specs.Theorem.{Spells}
-use Rattle.dpl_scalar.specs.Written.{HasSeveral, IsWrittenStmt, IsWrittenBody, AreWrittenStmts, IsWrittenTop, AreWrittenTops}
+use Rattle.dpl_runnable.specs.Written.{HasSeveral, IsWrittenStmt, IsWrittenBody, AreWrittenStmts, IsWrittenTop, AreWrittenTops}
 
 abbrev Anything : {T : Type 0} → T → Type 0
 Anything x = Unit {0}

@@ -1,0 +1,236 @@
+-- Declarations that a text spells, that need nothing which doesn't run and that break no rule are those of runnable programs:
+-- the type is `int`, `bool` or `domain` without a map or isn't written, and the value is of the variable's kind and its shape.
+use Rattle.std.proofs.Common.{◌≡◌, ℕ, true, false, List, [], ◌∷◌, ◌++◌, Option, Some, None, refl, sym, ap, ◌∙◌, subst}
+use Rattle.std.specs.Prelude.{not, ◌&&◌, ◌||◌}
+use Rattle.std.proofs.Math.Bool.{or-not_self}
+use Rattle.std.proofs.lemmas.Bool.{eq-eqb}
+use Rattle.dpl_syntax.specs.declared.place.Place.{Place}
+use Rattle.dpl_syntax.specs.declared.refusal.Breach.{Breach}
+use Rattle.dpl_syntax.specs.declared.refusal.Code.TheVariants.{NameTwice}
+use Rattle.dpl_language.specs.Tree.{Kind, ItemTree, MappedTree, TypeTree, ScalarType, SyncType, DomainType, ArrayType, InitTree, ItemInit, CreateInit, TypedTree, InitialTree, DeclareTree}
+use Rattle.dpl_language.specs.Names.{Text}
+use Rattle.dpl_language.specs.Declarations.{type_of as written_type}
+use Rattle.dpl_language.specs.Spelled.{SaysType}
+use Rattle.dpl_grammar.specs.Each.{IfThere}
+use Rattle.dpl_spelling.specs.Spelt.{InitSpelt, InitialSpelt, DeclareSpelt}
+use Rattle.dpl_closed.specs.Closed.{in_optional, closed_item, closed_mapped, closed_type, closed_typed, closed_init, closed_initial, closed_declare}
+use Rattle.dpl_rules.specs.Types.{Origin, ValueType, Scalar, Domain, is_any_scalar}
+use Rattle.dpl_rules.specs.Verdicts.{owed, owed_type}
+use Rattle.dpl_rules.specs.Places.{first_of_item}
+use Rattle.dpl_rules.specs.Sights.{Scopes, declared_here, origin_in}
+use Rattle.dpl_rules.specs.Expressions.{item_type, side_part, side_breaches}
+use Rattle.dpl_rules.specs.Maps.{mapped_breaches}
+use Rattle.dpl_rules.specs.Declarations.{type_rank, is_initial, is_kept, is_untyped, unless_refused, declared_type, agreeing, unmapped, init_part, type_breaches, untyped_breaches, typed_breaches, typed_initial, config_type, config_by, config_breaches, written_breaches, type_given, declaration_breaches}
+use Rattle.dpl_rules.proofs.Admission.{first_empty, second_empty}
+use Rattle.dpl_sound.proofs.Given.{some-same, owed_not-holds}
+use Rattle.dpl_words.specs.Words.{RangeLeaf}
+use Rattle.dpl_memory.specs.Memory.{VariableKind, PlainKind}
+use Rattle.dpl_typer.specs.Makers.{is_promoted}
+use Rattle.dpl_typer.specs.Leaves.{value_kind, kind_by}
+use Rattle.dpl_typer.specs.Shapes.{takes_shape}
+use Rattle.dpl_typer.proofs.OperatorKinds.{kind-same}
+use Rattle.dpl_nodes.specs.Faults.{IsNear}
+use Rattle.dpl_runnable.specs.Kinds.{IsVariable, AreVariables, IsScalarKind, IsDeclaredKind}
+use Rattle.dpl_runnable.specs.Runnable.{IsRunnableType, IsInitOf, IsInitialOf, IsShapedInit, IsShapedInitial, IsConfigOf, IsRunnableDeclare}
+use Rattle.dpl_runnable.proofs.Expressions.{variable-cases, first_open, second_open, RunnableItem}
+use Rattle.dpl_runnable.proofs.Owed.{owed_type-holds, is_scalar-is, scalar-by, is_any_scalar-kind, is_domain-kind, is_domain_of-kind}
+use Rattle.dpl_runnable.proofs.Scopes.{side-item, runnable_side, domain_type-rank, declared_by-variable}
+
+-- ---- kinds
+-- what is kept without a type
+is_kept-kind : (t : ValueType) (k : VariableKind) → is_promoted k ≡ false → value_kind t ≡ Some k → is_kept t ≡ true → IsDeclaredKind k
+is_kept-kind t k p e =
+    variable-cases (λ t. value_kind t ≡ Some k → is_kept t ≡ true → IsDeclaredKind k) (λ l e h. scalar-by IsDeclaredKind tt tt l k e)
+    (λ s e h. subst IsDeclaredKind (kind-same (PlainKind RangeLeaf) k e) tt) (λ rank s r e h. subst IsDeclaredKind (sym (is_domain-kind (Domain rank s) k e refl)) tt)
+    (λ rank r e h. absurd cc) t k p e e
+
+-- what a variable of a declared type may be given at first is of its kind
+is_initial-scalar : (l : Kind) (k : VariableKind) → value_kind (Scalar l) ≡ Some k → (t : ValueType) → is_initial (Scalar l) t ≡ true → value_kind t ≡ Some k
+is_initial-scalar l k e t h = ap value_kind (is_scalar-is l t h) ∙ e
+
+is_initial-domain : (rank : ℕ) (k : VariableKind) → value_kind (Domain rank false) ≡ Some k → (t : ValueType) (j : VariableKind) → value_kind t ≡ Some j → is_initial (Domain rank false) t ≡ true
+    → value_kind t ≡ Some k
+is_initial-domain rank k e t j f h = f ∙ ap Some (is_domain_of-kind rank false t j f h ∙ sym (is_domain-kind (Domain rank false) k e refl))
+
+-- ---- shapes
+-- what is kept without a type is of its own shape
+is_kept-shaped : (t : ValueType) (k : VariableKind) → is_promoted k ≡ false → value_kind t ≡ Some k → is_kept t ≡ true → takes_shape t t ≡ true
+is_kept-shaped =
+    variable-cases (λ t. is_kept t ≡ true → takes_shape t t ≡ true) (λ l h. refl) (λ s h. or-not_self s)
+    (λ rank s r h. ap (λ b. b && (s || not s)) (eq-eqb rank rank refl) ∙ or-not_self s) (λ rank r h. absurd cc)
+
+-- ---- types
+not_mapped : (m : Option (MappedTree Text)) → in_optional closed_mapped m ≡ None → m ≡ None
+not_mapped None c = refl
+not_mapped (Some m) c = absurd cc
+
+module _ (scopes : Scopes) (names : AreVariables scopes) where
+  type-runnable : (t : TypeTree Text) → closed_type t ≡ None → type_breaches scopes t ≡ [] → IsRunnableType (Some t)
+  type-runnable (ScalarType at k) c h = tt
+  type-runnable (SyncType at kind_at k) c h = absurd cc
+  type-runnable (DomainType d) c h = (not_mapped d.mapped c, domain_type-rank scopes IsNear names d h)
+  type-runnable (ArrayType a) c h = absurd cc
+
+  written-runnable : (w : Option (TypedTree Text)) (i : Option (InitialTree Text)) (self : Origin) → in_optional closed_typed w ≡ None → written_breaches scopes self (written_type w) i ≡ []
+      → IsRunnableType (written_type w)
+  written-runnable None i self c h = tt
+  written-runnable (Some t) i self c h = type-runnable t.type c (first_empty (type_breaches scopes t.type) (typed_initial scopes (declared_type scopes self t.type) i) h)
+
+  -- ---- values
+  -- a value's kind is that of its type
+  side-kind : (item : ItemTree Text) (k : VariableKind) → kind_by (side_part scopes item).type ≡ Some k → kind_by (item_type scopes item) ≡ Some k
+  side-kind item k e = ap kind_by (sym (side-item scopes IsNear names item)) ∙ e
+
+  untyped-init : (init : InitTree Text) (k : VariableKind) → InitSpelt IsNear init → closed_init init ≡ None → untyped_breaches scopes init ≡ [] → kind_by (init_part scopes init).type ≡ Some k
+      → IsInitOf scopes init k
+  untyped-init (ItemInit item None) k s c h e =
+      let side = side_breaches scopes item in
+      let kept = owed_type (is_untyped None) (first_of_item item) (side_part scopes item).type in
+      let told = first_empty side kept (first_empty (side ++ kept) (mapped_breaches scopes (type_rank (side_part scopes item).type) None) h) in
+      record { simple = (runnable_side scopes IsNear names item s.0 (first_open (closed_item item) None c) told).simple; kind = side-kind item k e; near = s.0 }
+  untyped-init (ItemInit item (Some m)) k s c h e = let no : Some m.at ≡ None = second_open (closed_item item) (Some m.at) c in absurd cc
+  untyped-init (CreateInit m) k s c h e = absurd cc
+
+  -- beside a type a value that is written is of a type that may be given to it at first
+  record IsFirst (t : ValueType) (item : ItemTree Text) : Type 0 where
+    value : RunnableItem scopes IsNear names item
+    fit : is_initial t value.variable.type ≡ true
+
+  typed-first : (t : ValueType) (item : ItemTree Text) → InitSpelt IsNear (ItemInit item None) → closed_init (ItemInit item None) ≡ None → typed_breaches scopes (Some t) (ItemInit item None) ≡ [] → IsFirst t item
+  typed-first t item s c h =
+      let side = side_breaches scopes item in
+      let agrees = agreeing (Some t) (side_part scopes item) in
+      let front = first_empty (side ++ agrees) (unmapped None) (first_empty (side ++ agrees ++ unmapped None) (mapped_breaches scopes (type_rank (side_part scopes item).type) None) h) in
+      let value = runnable_side scopes IsNear names item s.0 (first_open (closed_item item) None c) (first_empty side agrees front) in
+      let is = side-item scopes IsNear names item ∙ value.variable.is in
+      record { value = value; fit = owed_type-holds (is_initial t) (side_part scopes item).at (side_part scopes item).type value.variable.type is (second_empty side agrees front) }
+
+  -- a value fits a type that it may be given to at first
+  typed-init : (t : ValueType) (k : VariableKind) → ((u : ValueType) (j : VariableKind) → value_kind u ≡ Some j → is_initial t u ≡ true → value_kind u ≡ Some k)
+      → (init : InitTree Text) → InitSpelt IsNear init → closed_init init ≡ None → typed_breaches scopes (Some t) init ≡ [] → IsInitOf scopes init k
+  typed-init t k fits (ItemInit item None) s c h =
+      let first = typed-first t item s c h in
+      let p = first.value.variable in
+      record { simple = first.value.simple; kind = ap kind_by p.is ∙ fits p.type p.kind p.of_kind first.fit; near = s.0 }
+  typed-init t k fits (ItemInit item (Some m)) s c h = let no : Some m.at ≡ None = second_open (closed_item item) (Some m.at) c in absurd cc
+  typed-init t k fits (CreateInit m) s c h = absurd cc
+
+  type-initial : (t : TypeTree Text) (i : Option (InitialTree Text)) (self : Origin) (k : VariableKind) → IfThere (InitialSpelt IsNear) i → closed_type t ≡ None → in_optional closed_initial i ≡ None
+      → typed_initial scopes (declared_type scopes self t) i ≡ [] → kind_by (declared_type scopes self t) ≡ Some k → IsInitialOf scopes (Some t) i k
+  type-initial (ScalarType at l) None self k s v c h e = e
+  type-initial (ScalarType at l) (Some i) self k s v c h e = typed-init (Scalar l) k (λ u j f g. is_initial-scalar l k e u g) i.init s.1 c h
+  type-initial (SyncType at kind_at l) i self k s v c h e = absurd cc
+  type-initial (DomainType d) None self k s v c h e = is_domain-kind (Domain d.rank false) k e refl
+  type-initial (DomainType d) (Some i) self k s v c h e = typed-init (Domain d.rank false) k (λ u j f g. is_initial-domain d.rank k e u j f g) i.init s.1 c h
+  type-initial (ArrayType a) i self k s v c h e = absurd cc
+
+  written-initial : (w : Option (TypedTree Text)) (i : Option (InitialTree Text)) (self : Origin) (k : VariableKind) → SaysType w i → IfThere (InitialSpelt IsNear) i
+      → in_optional closed_typed w ≡ None → in_optional closed_initial i ≡ None → written_breaches scopes self (written_type w) i ≡ [] → kind_by (type_given scopes self (written_type w) i) ≡ Some k
+      → IsInitialOf scopes (written_type w) i k
+  written-initial None None self k says s v c h e = elim says [ ]
+  written-initial None (Some i) self k says s v c h e = untyped-init i.init k s.1 c h e
+  written-initial (Some t) i self k says s v c h e =
+      type-initial t.type i self k s v c (second_empty (type_breaches scopes t.type) (typed_initial scopes (declared_type scopes self t.type) i) h) e
+
+  -- ---- what a declaration gives a name
+  untyped-kept : (item : ItemTree Text) (p : IsVariable (side_part scopes item).type) → untyped_breaches scopes (ItemInit item None) ≡ [] → is_kept p.type ≡ true
+  untyped-kept item p h =
+      let side = side_breaches scopes item in
+      let kept = owed_type (is_untyped None) (first_of_item item) (side_part scopes item).type in
+      let told = second_empty side kept (first_empty (side ++ kept) (mapped_breaches scopes (type_rank (side_part scopes item).type) None) h) in
+      owed_type-holds (is_untyped None) (first_of_item item) (side_part scopes item).type p.type p.is told
+
+  init-kept : (init : InitTree Text) (p : IsVariable (init_part scopes init).type) → closed_init init ≡ None → untyped_breaches scopes init ≡ [] → IsDeclaredKind p.kind
+  init-kept (ItemInit item None) p c h = is_kept-kind p.type p.kind p.single p.of_kind (untyped-kept item p h)
+  init-kept (ItemInit item (Some m)) p c h = let no : Some m.at ≡ None = second_open (closed_item item) (Some m.at) c in absurd cc
+  init-kept (CreateInit m) p c h = absurd cc
+
+  type-kept : (t : TypeTree Text) (self : Origin) (k : VariableKind) → closed_type t ≡ None → kind_by (declared_type scopes self t) ≡ Some k → IsDeclaredKind k
+  type-kept (ScalarType at l) self k c e = scalar-by IsDeclaredKind tt tt l k e
+  type-kept (SyncType at kind_at l) self k c e = absurd cc
+  type-kept (DomainType d) self k c e = subst IsDeclaredKind (sym (is_domain-kind (Domain d.rank false) k e refl)) tt
+  type-kept (ArrayType a) self k c e = absurd cc
+
+  written-kept : (w : Option (TypedTree Text)) (i : Option (InitialTree Text)) (self : Origin) (p : IsVariable (type_given scopes self (written_type w) i)) → SaysType w i
+      → in_optional closed_typed w ≡ None → in_optional closed_initial i ≡ None → written_breaches scopes self (written_type w) i ≡ [] → IsDeclaredKind p.kind
+  written-kept None None self p says v c h = elim says [ ]
+  written-kept None (Some i) self p says v c h = init-kept i.init p c h
+  written-kept (Some t) i self p says v c h = type-kept t.type self p.kind v (ap kind_by p.is ∙ p.of_kind)
+
+  -- ---- the shape of what a declaration gives a name
+  untyped-shaped : (init : InitTree Text) (p : IsVariable (init_part scopes init).type) → closed_init init ≡ None → untyped_breaches scopes init ≡ [] → IsShapedInit scopes init p.type
+  untyped-shaped (ItemInit item None) p c h = (p.type, sym (side-item scopes IsNear names item) ∙ p.is, is_kept-shaped p.type p.kind p.single p.of_kind (untyped-kept item p h))
+  untyped-shaped (ItemInit item (Some m)) p c h = let no : Some m.at ≡ None = second_open (closed_item item) (Some m.at) c in absurd cc
+  untyped-shaped (CreateInit m) p c h = absurd cc
+
+  typed-shaped : (t : ValueType) → ((u : ValueType) → is_initial t u ≡ true → takes_shape t u ≡ true)
+      → (init : InitTree Text) → InitSpelt IsNear init → closed_init init ≡ None → typed_breaches scopes (Some t) init ≡ [] → IsShapedInit scopes init t
+  typed-shaped t fits (ItemInit item None) s c h =
+      let first = typed-first t item s c h in
+      let p = first.value.variable in
+      (p.type, p.is, fits p.type first.fit)
+  typed-shaped t fits (ItemInit item (Some m)) s c h = let no : Some m.at ≡ None = second_open (closed_item item) (Some m.at) c in absurd cc
+  typed-shaped t fits (CreateInit m) s c h = absurd cc
+
+  type-shaped : (t : TypeTree Text) (i : InitTree Text) (self : Origin) (u : ValueType) → InitSpelt IsNear i → closed_type t ≡ None → closed_init i ≡ None
+      → typed_breaches scopes (declared_type scopes self t) i ≡ [] → declared_type scopes self t ≡ Some u → IsShapedInit scopes i u
+  type-shaped (ScalarType at l) i self u s v c h e = subst (IsShapedInit scopes i) (some-same (Scalar l) u e) (typed-shaped (Scalar l) (λ w f. refl) i s c h)
+  type-shaped (SyncType at kind_at l) i self u s v c h e = absurd cc
+  type-shaped (DomainType d) i self u s v c h e = subst (IsShapedInit scopes i) (some-same (Domain d.rank false) u e) (typed-shaped (Domain d.rank false) (λ w f. f) i s c h)
+  type-shaped (ArrayType a) i self u s v c h e = absurd cc
+
+  written-shaped : (w : Option (TypedTree Text)) (i : Option (InitialTree Text)) (self : Origin) (p : IsVariable (type_given scopes self (written_type w) i)) → IfThere (InitialSpelt IsNear) i
+      → in_optional closed_typed w ≡ None → in_optional closed_initial i ≡ None → written_breaches scopes self (written_type w) i ≡ [] → IsShapedInitial scopes i p.type
+  written-shaped w None self p s v c h = tt
+  written-shaped None (Some i) self p s v c h = untyped-shaped i.init p c h
+  written-shaped (Some t) (Some i) self p s v c h =
+      type-shaped t.type i.init self p.type s.1 v c (second_empty (type_breaches scopes t.type) (typed_breaches scopes (declared_type scopes self t.type) i.init) h) p.is
+
+  -- ---- configs
+  type-config : (t : TypeTree Text) (self : Origin) (k : VariableKind) → closed_type t ≡ None → config_type t ≡ [] → kind_by (declared_type scopes self t) ≡ Some k → IsScalarKind k
+  type-config (ScalarType at l) self k c h e = scalar-by IsScalarKind tt tt l k e
+  type-config (SyncType at kind_at l) self k c h e = absurd cc
+  type-config (DomainType d) self k c h e = absurd cc
+  type-config (ArrayType a) self k c h e = absurd cc
+
+  written-config : (w : Option (TypedTree Text)) (i : Option (InitialTree Text)) (self : Origin) (p : IsVariable (type_given scopes self (written_type w) i)) → SaysType w i → in_optional closed_typed w ≡ None
+      → config_by scopes (written_type w) i ≡ [] → IsScalarKind p.kind
+  written-config None None self p says c h = elim says [ ]
+  written-config None (Some i) self p says c h =
+      is_any_scalar-kind p.type p.kind p.of_kind (owed_type-holds is_any_scalar (init_part scopes i.init).at (init_part scopes i.init).type p.type p.is h)
+  written-config (Some t) i self p says c h = type-config t.type self p.kind c h (ap kind_by p.is ∙ p.of_kind)
+
+  config-kind : (config : Option Place) (d : DeclareTree Text) (self : Origin) (p : IsVariable (type_given scopes self (written_type d.typed) d.initial)) → SaysType d.typed d.initial
+      → in_optional closed_typed d.typed ≡ None → config_breaches scopes config d ≡ [] → IsConfigOf config p.kind
+  config-kind None d self p says c h = tt
+  config-kind (Some at) d self p says c h = written-config d.typed d.initial self p says c h
+
+  unless_refused-none : (bs : List Breach) (o : Option ValueType) → bs ≡ [] → unless_refused bs o ≡ o
+  unless_refused-none [] o h = refl
+  unless_refused-none (b ∷ bs) o h = absurd cc
+
+  -- ---- declarations
+  pub runnable_declare : (d : DeclareTree Text) → DeclareSpelt IsNear d → closed_declare d ≡ None → declaration_breaches scopes d ≡ [] → IsRunnableDeclare scopes d
+  runnable_declare d s c h =
+      let self = origin_in scopes d.name.name in
+      let given = type_given scopes self (written_type d.typed) d.initial in
+      let once = owed (not (declared_here scopes d.name.name)) d.name.at NameTwice in
+      let written = written_breaches scopes self (written_type d.typed) d.initial in
+      let config = config_breaches scopes d.config d in
+      let front = first_empty (once ++ written) config h in
+      let told = second_empty once written front in
+      let typed = first_open (in_optional closed_typed d.typed) (in_optional closed_initial d.initial) c in
+      let initial = second_open (in_optional closed_typed d.typed) (in_optional closed_initial d.initial) c in
+      let same = unless_refused-none (declaration_breaches scopes d) given h in
+      let declared = declared_by-variable scopes IsNear names d s c h in
+      let variable : IsVariable given = record { kind = declared.kind; single = declared.single; type = declared.type; is = sym same ∙ declared.is; of_kind = declared.of_kind } in
+      record {
+        type = written-runnable d.typed d.initial self typed told;
+        kind = declared.kind;
+        initial = written-initial d.typed d.initial self declared.kind s.0 s.5 typed initial told (ap kind_by variable.is ∙ variable.of_kind);
+        declared = ap kind_by declared.is ∙ declared.of_kind;
+        kept = written-kept d.typed d.initial self variable s.0 typed initial told;
+        shaped = λ t e. subst (IsShapedInitial scopes d.initial) (some-same declared.type t (sym declared.is ∙ e)) (written-shaped d.typed d.initial self variable s.5 typed initial told);
+        fresh = owed_not-holds (declared_here scopes d.name.name) d.name.at NameTwice (first_empty once written front);
+        config = config-kind d.config d self variable s.0 typed (second_empty (once ++ written) config h);
+      }

@@ -1,0 +1,73 @@
+-- What a test on a type tells where it breaks no rule: that it holds, and of a test on a kind which type it is; and which kinds
+-- types have for which tests hold.
+use Rattle.std.proofs.Common.{◌≡◌, ℕ, Bool, true, false, [], Option, Some, None, is_some, refl, sym, ap, subst}
+use Rattle.dpl_syntax.specs.declared.place.Place.{Place}
+use Rattle.dpl_syntax.specs.declared.refusal.Code.{Code}
+use Rattle.dpl_syntax.specs.declared.refusal.Code.TheVariants.{WrongType}
+use Rattle.dpl_language.specs.Tree.{Kind, IntKind, BoolKind}
+use Rattle.dpl_rules.specs.Types.{ValueType, Scalar, Range, Domain, Array, Promoted, Tuple, Locale, AllLocales, Cell, same_kind, domain_of, is_any_scalar, is_domain, is_scalar, is_ranked, is_domain_of}
+use Rattle.dpl_rules.specs.Verdicts.{owed, owed_type}
+use Rattle.dpl_words.specs.Words.{IntLeaf, TruthLeaf}
+use Rattle.dpl_memory.specs.Memory.{VariableKind, PlainKind, DomainKind}
+use Rattle.dpl_typer.specs.Leaves.{is_rank, value_kind}
+use Rattle.dpl_typer.proofs.OperatorKinds.{kind-same, kind_if-some}
+use Rattle.dpl_runnable.specs.Kinds.{IsScalarKind}
+
+pub owed-holds : (b : Bool) (at : Place) (code : Code) → owed b at code ≡ [] → b ≡ true
+owed-holds true at code h = refl
+owed-holds false at code h = absurd cc
+
+pub owed_type-holds : (test : ValueType → Bool) (at : Place) (o : Option ValueType) (t : ValueType) → o ≡ Some t → owed_type test at o ≡ [] → test t ≡ true
+owed_type-holds test at o t e h = owed-holds (test t) at WrongType (subst (λ o. owed_type test at o ≡ []) e h)
+
+same_kind-is : (k l : Kind) → same_kind k l ≡ true → l ≡ k
+same_kind-is IntKind IntKind h = refl
+same_kind-is IntKind BoolKind h = absurd cc
+same_kind-is BoolKind IntKind h = absurd cc
+same_kind-is BoolKind BoolKind h = refl
+
+pub is_scalar-is : (k : Kind) (t : ValueType) → is_scalar k t ≡ true → t ≡ Scalar k
+is_scalar-is k (Scalar l) h = ap Scalar (same_kind-is k l h)
+is_scalar-is k (Range strided) h = absurd cc
+is_scalar-is k (Domain rank strided) h = absurd cc
+is_scalar-is k (Array l over) h = absurd cc
+is_scalar-is k (Promoted l over) h = absurd cc
+is_scalar-is k (Tuple rank) h = absurd cc
+is_scalar-is k Locale h = absurd cc
+is_scalar-is k AllLocales h = absurd cc
+is_scalar-is k (Cell l) h = absurd cc
+
+-- ---- kinds
+-- what is of the kinds of ints and truth values is of a scalar's
+pub scalar-by : (Q : VariableKind → Type 0) → Q (PlainKind IntLeaf) → Q (PlainKind TruthLeaf) → (l : Kind) (k : VariableKind) → value_kind (Scalar l) ≡ Some k → Q k
+scalar-by Q i t IntKind k e = subst Q (kind-same (PlainKind IntLeaf) k e) i
+scalar-by Q i t BoolKind k e = subst Q (kind-same (PlainKind TruthLeaf) k e) t
+
+pub is_any_scalar-kind : (t : ValueType) (k : VariableKind) → value_kind t ≡ Some k → is_any_scalar t ≡ true → IsScalarKind k
+is_any_scalar-kind (Scalar l) k e h = scalar-by IsScalarKind tt tt l k e
+is_any_scalar-kind (Range strided) k e h = absurd cc
+is_any_scalar-kind (Domain rank strided) k e h = absurd cc
+is_any_scalar-kind (Array l over) k e h = absurd cc
+is_any_scalar-kind (Promoted l over) k e h = absurd cc
+is_any_scalar-kind (Tuple rank) k e h = absurd cc
+is_any_scalar-kind Locale k e h = absurd cc
+is_any_scalar-kind AllLocales k e h = absurd cc
+is_any_scalar-kind (Cell l) k e h = absurd cc
+
+pub is_domain-kind : (t : ValueType) (k : VariableKind) → value_kind t ≡ Some k → is_domain t ≡ true → k ≡ DomainKind
+is_domain-kind (Scalar l) k e h = absurd cc
+is_domain-kind (Range strided) k e h = absurd cc
+is_domain-kind (Domain rank strided) k e h = sym (kind_if-some (is_rank rank) DomainKind k e).1
+is_domain-kind (Array l over) k e h = absurd cc
+is_domain-kind (Promoted l over) k e h = absurd cc
+is_domain-kind (Tuple rank) k e h = absurd cc
+is_domain-kind Locale k e h = absurd cc
+is_domain-kind AllLocales k e h = absurd cc
+is_domain-kind (Cell l) k e h = absurd cc
+
+ranked-some : (rank : ℕ) (may_stride : Bool) (o : Option (ℕ × Bool)) → is_ranked rank may_stride o ≡ true → is_some o ≡ true
+ranked-some rank may_stride None h = absurd cc
+ranked-some rank may_stride (Some d) h = refl
+
+pub is_domain_of-kind : (rank : ℕ) (may_stride : Bool) (t : ValueType) (k : VariableKind) → value_kind t ≡ Some k → is_domain_of rank may_stride t ≡ true → k ≡ DomainKind
+is_domain_of-kind rank may_stride t k e h = is_domain-kind t k e (ranked-some rank may_stride (domain_of t) h)

@@ -1,0 +1,91 @@
+-- Arguments and conditions that a text spells, that need nothing which doesn't run and that break no rule: an argument is a
+-- text, an int or a truth value, and a condition is a truth value.
+use Rattle.std.proofs.Common.{◌≡◌, true, false, List, [], ◌∷◌, ◌++◌, map, Option, Some, None, ap, ◌∙◌}
+use Rattle.dpl_language.specs.Tree.{Placed, AfterComma, Listed, BoolKind, ExprTree, One, ArgumentTree, TextArgument, ExprArgument}
+use Rattle.dpl_language.specs.Names.{Text}
+use Rattle.dpl_language.specs.Phrases.{bare_name}
+use Rattle.dpl_language.specs.Writing.{arguments_of}
+use Rattle.dpl_grammar.specs.Each.{Each, IfThere}
+use Rattle.dpl_spelling.specs.Spelt.{PartSpelt, ListSpelt, ExprSpelt, ArgumentSpelt}
+use Rattle.dpl_closed.specs.Closed.{in_optional, in_others, in_listed, closed_expr, closed_argument}
+use Rattle.dpl_rules.specs.Types.{ValueType, is_bool}
+use Rattle.dpl_rules.specs.Verdicts.{wanted, owed_type}
+use Rattle.dpl_rules.specs.Places.{first_of}
+use Rattle.dpl_rules.specs.Sights.{Scopes, Reducing}
+use Rattle.dpl_rules.specs.Expressions.{type_of, expr_breaches, side_part, side_breaches}
+use Rattle.dpl_rules.specs.Assignments.{is_printed, printed_breaches, condition_breaches}
+use Rattle.dpl_rules.proofs.Admission.{first_empty, second_empty}
+use Rattle.dpl_words.specs.Words.{TruthLeaf}
+use Rattle.dpl_memory.specs.Memory.{VariableKind, PlainKind}
+use Rattle.dpl_typer.specs.Makers.{is_promoted}
+use Rattle.dpl_typer.specs.Leaves.{value_kind, kind_by}
+use Rattle.dpl_nodes.specs.Faults.{IsNear}
+use Rattle.dpl_runnable.specs.Kinds.{AreVariables, IsScalarKind}
+use Rattle.dpl_runnable.specs.Runnable.{IsExprOf, IsRunnableArgument, AreRunnableArguments}
+use Rattle.dpl_runnable.proofs.Expressions.{variable-cases, first_open, second_open, runnable}
+use Rattle.dpl_runnable.proofs.Owed.{owed_type-holds, is_scalar-is, scalar-by, is_any_scalar-kind}
+use Rattle.dpl_runnable.proofs.Scopes.{side-item, runnable_side}
+use Rattle.dpl_runnable.proofs.Changes.{untasked}
+
+-- what is printed and no array is an int or a truth value
+is_printed-kind : (o : Option (Placed Text)) (t : ValueType) (k : VariableKind) → is_promoted k ≡ false → value_kind t ≡ Some k → is_printed o t ≡ true → IsScalarKind k
+is_printed-kind None t k p e h = is_any_scalar-kind t k e h
+is_printed-kind (Some x) t k p e h =
+    variable-cases (λ t. value_kind t ≡ Some k → is_printed (Some x) t ≡ true → IsScalarKind k) (λ l e h. scalar-by IsScalarKind tt tt l k e) (λ s e h. absurd cc) (λ rank s r e h. absurd cc)
+    (λ rank r e h. absurd cc) t k p e e h
+
+module _ (scopes : Scopes) (names : AreVariables scopes) (forall : Option Reducing) where
+  -- ---- arguments
+  argument-runnable : (a : ArgumentTree Text) (rest : List (ArgumentTree Text)) → ArgumentSpelt IsNear a → closed_argument a ≡ None
+      → printed_breaches (untasked scopes forall) (a ∷ rest) ≡ [] → IsRunnableArgument scopes a
+  argument-runnable (TextArgument at cs) rest s c h = tt
+  argument-runnable (ExprArgument e) rest s c h =
+      let sight = untasked scopes forall in
+      let side = side_breaches scopes (One e) in
+      let printed = wanted (is_printed (bare_name e)) (side_part scopes (One e)) in
+      let front = first_empty (side ++ printed) (printed_breaches sight rest) h in
+      let value = runnable_side scopes IsNear names (One e) s c (first_empty side printed front) in
+      let p = value.variable in
+      let shown = owed_type-holds (is_printed (bare_name e)) (side_part scopes (One e)).at (side_part scopes (One e)).type p.type
+      (side-item scopes IsNear names (One e) ∙ p.is) (second_empty side printed front) in
+      record {
+        kind = p.kind;
+        expr = record { simple = value.simple; kind = ap kind_by p.is ∙ p.of_kind; near = s };
+        scalar = is_printed-kind (bare_name e) p.type p.kind p.single p.of_kind shown;
+      }
+
+  argument-rest : (a : ArgumentTree Text) (rest : List (ArgumentTree Text)) → printed_breaches (untasked scopes forall) (a ∷ rest) ≡ []
+      → printed_breaches (untasked scopes forall) rest ≡ []
+  argument-rest (TextArgument at cs) rest h = h
+  argument-rest (ExprArgument e) rest h =
+      let sight = untasked scopes forall in
+      second_empty (side_breaches scopes (One e) ++ wanted (is_printed (bare_name e)) (side_part scopes (One e))) (printed_breaches sight rest) h
+
+  others-runnable : (xs : List (AfterComma (ArgumentTree Text))) → Each (PartSpelt IsNear (ArgumentSpelt IsNear)) xs → in_others closed_argument xs ≡ None
+      → printed_breaches (untasked scopes forall) (map {A = AfterComma (ArgumentTree Text)} {B = ArgumentTree Text} (λ x. x.part) xs) ≡ []
+      → AreRunnableArguments scopes (map {A = AfterComma (ArgumentTree Text)} {B = ArgumentTree Text} (λ x. x.part) xs)
+  others-runnable [] s c h = tt
+  others-runnable (x ∷ xs) s c h =
+      let rest = map {A = AfterComma (ArgumentTree Text)} {B = ArgumentTree Text} (λ x. x.part) xs in (
+        argument-runnable x.part rest s.0.1 (first_open (closed_argument x.part) (in_others closed_argument xs) c) h,
+        others-runnable xs s.1 (second_open (closed_argument x.part) (in_others closed_argument xs) c) (argument-rest x.part rest h),
+      )
+
+  pub runnable_arguments : (xs : Option (Listed (ArgumentTree Text))) → IfThere (ListSpelt IsNear (ArgumentSpelt IsNear)) xs → in_optional (in_listed closed_argument) xs ≡ None
+      → printed_breaches (untasked scopes forall) (arguments_of xs) ≡ [] → AreRunnableArguments scopes (arguments_of xs)
+  runnable_arguments None s c h = tt
+  runnable_arguments (Some xs) s c h =
+      let rest = map {A = AfterComma (ArgumentTree Text)} {B = ArgumentTree Text} (λ x. x.part) xs.others in (
+        argument-runnable xs.first rest s.0 (first_open (closed_argument xs.first) (in_others closed_argument xs.others) c) h,
+        others-runnable xs.others s.1 (second_open (closed_argument xs.first) (in_others closed_argument xs.others) c) (argument-rest xs.first rest h),
+      )
+
+  -- ---- conditions
+  pub runnable_condition : (e : ExprTree Text) → ExprSpelt IsNear e → closed_expr e ≡ None → condition_breaches (untasked scopes forall) e ≡ [] → IsExprOf scopes e (PlainKind TruthLeaf)
+  runnable_condition e s c h =
+      let own = expr_breaches scopes e in
+      let wrong = owed_type is_bool (first_of e) (type_of scopes e) in
+      let value = runnable scopes IsNear names e s c (first_empty own wrong h) in
+      let p = value.variable in
+      let one = is_scalar-is BoolKind p.type (owed_type-holds is_bool (first_of e) (type_of scopes e) p.type p.is (second_empty own wrong h)) in
+      record { simple = value.simple; kind = ap kind_by p.is ∙ ap value_kind one; near = s }

@@ -1,0 +1,211 @@
+-- Behind a declaration that needs nothing which doesn't run and that breaks no rule each name in sight has a type of a kind that
+-- is no array's again; and so has each in a loop's body.
+use Rattle.std.proofs.Common.{◌≡◌, ℕ, ◌==◌, Bool, true, false, List, [], ◌∷◌, ◌++◌, Option, Some, None, refl, sym, ap, ◌∙◌, subst, arith}
+use Rattle.std.specs.Prelude.{nat_lt, nat_le, ◌&&◌, ◌||◌, bytes_eq, if◌then◌else◌}
+use Rattle.std.proofs.lemmas.Option.{none-some}
+use Rattle.std.proofs.lemmas.Bool.Decides.{nat_tests}
+use Rattle.dpl_syntax.specs.declared.place.Place.{Place}
+use Rattle.dpl_syntax.specs.declared.refusal.Breach.{Breach}
+use Rattle.dpl_language.specs.Tree.{Placed, Kind, IntKind, BoolKind, ItemTree, One, RangeItem, VariablesTree, OneVariable, ManyVariables, DomainTypeTree, TypeTree, ScalarType, SyncType, DomainType, ArrayType, InitTree, ItemInit, CreateInit, TypedTree, InitialTree, DeclareTree, Declare}
+use Rattle.dpl_language.specs.Names.{Text}
+use Rattle.dpl_language.specs.Phrases.{ReadTree, item_read}
+use Rattle.dpl_language.specs.Declarations.{type_of as written_type}
+use Rattle.dpl_language.specs.Spelled.{SaysType}
+use Rattle.dpl_grammar.specs.Each.{IfThere}
+use Rattle.dpl_spelling.specs.Spelt.{ItemSpelt, InitSpelt, InitialSpelt, DeclareSpelt}
+use Rattle.dpl_closed.specs.Closed.{in_optional, closed_item, closed_type, closed_typed, closed_init, closed_initial, closed_declare}
+use Rattle.dpl_syntax.specs.declared.refusal.Code.TheVariants.{WrongType, WrongRank}
+use Rattle.dpl_rules.specs.Types.{Origin, ValueType, Scalar, Domain, Tuple, an_int, cell_of}
+use Rattle.dpl_rules.specs.Verdicts.{owed, owed_type, breach}
+use Rattle.dpl_rules.specs.Places.{first_of_item, first_of_variables}
+use Rattle.dpl_rules.specs.Sights.{Declared, LoopVariable, Scopes, find, or_else, lookup, type_declared, origin_in, add, enter}
+use Rattle.dpl_rules.specs.Expressions.{locales_or, none_where, item_type, item_breaches, cell_declared, read_or_type, read_or_breaches, kind_read, side_part, side_breaches}
+use Rattle.dpl_rules.specs.Maps.{mapped_breaches}
+use Rattle.dpl_rules.specs.Declarations.{type_rank, is_untyped, unless_refused, declared_type, type_breaches, init_part, untyped_breaches, typed_initial, config_breaches, written_breaches, type_given, declaration_breaches, declared_by}
+use Rattle.dpl_rules.specs.Loops.{LoopWord, ForWord, ForallWord, CoforallWord, over_domains, over_locales, runs_over, one_type, fits_variables, variable_type, typed_variable, header_of, over_type, over_breaches, variables_once, variables_of, add_variables, header_breaches, in_loop, behind}
+use Rattle.dpl_rules.specs.Breaches.{top}
+use Rattle.dpl_rules.proofs.Admission.{first_empty, second_empty}
+use Rattle.dpl_sound.proofs.Given.{some-same, both_so}
+use Rattle.dpl_words.specs.Words.{IntLeaf, TruthLeaf}
+use Rattle.dpl_memory.specs.Memory.{VariableKind, PlainKind, DomainKind, TupleKind}
+use Rattle.dpl_typer.specs.Makers.{is_promoted, kind_if}
+use Rattle.dpl_typer.specs.Leaves.{is_rank, is_tuple_rank, value_kind}
+use Rattle.dpl_runnable.specs.Kinds.{IsVariable, AreVariables}
+use Rattle.dpl_runnable.proofs.Owed.{owed-holds}
+use Rattle.dpl_runnable.proofs.Expressions.{variable-cases, first_open, second_open, not_bare, RunnableItem, runnable_item}
+
+-- ---- scopes
+pub top-variables : AreVariables top
+top-variables x d h = absurd (none-some d h)
+
+pub enter-variables : (scopes : Scopes) → AreVariables scopes → AreVariables (enter scopes)
+enter-variables scopes names x d h = names x d h
+
+found-variable : (b : Bool) (d : Declared) (o p : Option Declared) → IsVariable d.type → ((c : Declared) → or_else o p ≡ Some c → IsVariable c.type)
+    → (c : Declared) → or_else (if b then Some d else o) p ≡ Some c → IsVariable c.type
+found-variable true d o p variable others c h = subst (λ (c : Declared). IsVariable c.type) (some-same d c h) variable
+found-variable false d o p variable others c h = others c h
+
+pub add-variables : (scopes : Scopes) (d : Declared) → AreVariables scopes → IsVariable d.type → AreVariables (add d scopes)
+add-variables [] d names variable x c h = found-variable (bytes_eq x d.origin.name) d None None variable (λ c e. names x c e) c h
+add-variables (s ∷ ss) d names variable x c h = found-variable (bytes_eq x d.origin.name) d (find s x) (lookup ss x) variable (names x) c h
+
+-- ---- types
+scalar-variable : (k : Kind) → IsVariable (Some (Scalar k))
+scalar-variable IntKind = record { kind = PlainKind IntLeaf; single = refl; type = _; is = refl; of_kind = refl }
+scalar-variable BoolKind = record { kind = PlainKind TruthLeaf; single = refl; type = _; is = refl; of_kind = refl }
+
+domain-variable : (rank : ℕ) (strided : Bool) → is_rank rank ≡ true → IsVariable (Some (Domain rank strided))
+domain-variable rank strided r = record { kind = DomainKind; single = refl; type = _; is = refl; of_kind = ap (λ b. kind_if b DomainKind) r }
+
+-- the ranks that a domain's type may have
+pub one_to_three : (rank : ℕ) → (nat_le 1 rank && nat_le rank 3) ≡ true → is_rank rank ≡ true
+one_to_three rank e =
+    let both = both_so (nat_le 1 rank) (nat_le rank 3) e in
+    let from = both.0 in
+    let upto = both.1 in
+    let some : nat_lt 0 rank ≡ true = grind (arith, nat_tests, from) in
+    let few : nat_lt rank 4 ≡ true = grind (arith, nat_tests, upto) in
+    ap (λ b. b && nat_lt rank 4) some ∙ few
+
+-- ---- what loops run over
+-- what breaks no rule of a header is run over, by variables that fit it
+pub record IsTurned (word : LoopWord) (xs : VariablesTree Text) (t : ValueType) : Type 0 where
+  pub runs : runs_over word t ≡ true
+  pub fits : fits_variables xs t ≡ true
+
+pub header-turned : (word : LoopWord) (xs : VariablesTree Text) (item : ItemTree Text) (t : ValueType) → header_of word xs item (Some t) ≡ [] → IsTurned word xs t
+header-turned word xs item t h = by (runs_over word t) refl h
+  where
+    by : (b : Bool) → runs_over word t ≡ b → (if b then owed (fits_variables xs t) (first_of_variables xs) WrongRank else breach (first_of_item item) WrongType) ≡ [] → IsTurned word xs t
+    by true e h = record { runs = e; fits = owed-holds (fits_variables xs t) (first_of_variables xs) WrongRank h }
+    by false e h = absurd cc
+
+-- no loop runs over what is no range, no domain and not all locales
+pub runs_over-nothing : (word : LoopWord) → ((over_domains word && false) || (over_locales word && false)) ≡ true → ⊥
+runs_over-nothing ForWord h = absurd cc
+runs_over-nothing ForallWord h = absurd cc
+runs_over-nothing CoforallWord h = absurd cc
+
+-- ---- a loop's variables: ints, but for the one variable over a domain of more dimensions, which is a tuple
+pub two_or_three : (rank : ℕ) → is_rank rank ≡ true → (rank == 1) ≡ false → is_tuple_rank rank ≡ true
+two_or_three rank r e =
+    let both = both_so (nat_lt 0 rank) (nat_lt rank 4) r in
+    let some = both.0 in
+    let two : nat_lt 1 rank ≡ true = grind (arith, nat_tests, some, e) in
+    ap (λ b. b && nat_lt rank 4) two ∙ both.1
+
+tuple-variable : (rank : ℕ) → is_rank rank ≡ true → (b : Bool) → (rank == 1) ≡ b → IsVariable (Some (if b then an_int else Tuple rank))
+tuple-variable rank r true e = scalar-variable IntKind
+tuple-variable rank r false e = record { kind = TupleKind; single = refl; type = _; is = refl; of_kind = ap (λ b. kind_if b TupleKind) (two_or_three rank r e) }
+
+one_type-variable : (word : LoopWord) (t : ValueType) (k : VariableKind) → is_promoted k ≡ false → value_kind t ≡ Some k → runs_over word t ≡ true → IsVariable (Some (one_type t))
+one_type-variable word =
+    variable-cases (λ t. runs_over word t ≡ true → IsVariable (Some (one_type t))) (λ l h. absurd (runs_over-nothing word h)) (λ s h. scalar-variable IntKind)
+    (λ rank s r h. tuple-variable rank r (rank == 1) refl) (λ rank r h. absurd (runs_over-nothing word h))
+
+variable_type-variable : (word : LoopWord) (xs : VariablesTree Text) (t : ValueType) (k : VariableKind) → is_promoted k ≡ false → value_kind t ≡ Some k → IsTurned word xs t → IsVariable (variable_type xs t)
+variable_type-variable word (OneVariable x) t k p e h = one_type-variable word t k p e h.runs
+variable_type-variable word (ManyVariables from xs upto) t k p e h = subst (λ b. IsVariable (if b then Some an_int else None)) (sym h.fits) (scalar-variable IntKind)
+
+typed_variable-variable : (word : LoopWord) (xs : VariablesTree Text) (item : ItemTree Text) (o : Option ValueType) → IsVariable o → header_of word xs item o ≡ [] → IsVariable (typed_variable word xs o)
+typed_variable-variable word xs item o p h =
+    let told = header-turned word xs item p.type (subst (λ o. header_of word xs item o ≡ []) p.is h) in
+    subst (λ o. IsVariable (typed_variable word xs o)) (sym p.is)
+    (subst (λ b. IsVariable (if b then variable_type xs p.type else None)) (sym told.runs) (variable_type-variable word xs p.type p.kind p.single p.of_kind told))
+
+add_variables-variables : (o : Option ValueType) → IsVariable o → (xs : List (Placed Text)) (scopes : Scopes) → AreVariables scopes → AreVariables (add_variables o xs scopes)
+add_variables-variables o p [] scopes names = names
+add_variables-variables o p (x ∷ xs) scopes names =
+    let d : Declared = record { origin = origin_in scopes x.name; sort = LoopVariable; type = o } in
+    add_variables-variables o p xs (add d scopes) (add-variables scopes d names p)
+
+module _ (scopes : Scopes) (P : Place → Type 0) (names : AreVariables scopes) where
+  -- ---- right sides: no name is a cell's, so that none is read as one
+  no_cell : (o : Option Declared) → ((d : Declared) → o ≡ Some d → IsVariable d.type) → cell_declared (type_declared o) ≡ None
+  no_cell None h = refl
+  no_cell (Some d) h =
+      let p = h d refl in
+      ap cell_declared p.is ∙ variable-cases (λ t. cell_of t ≡ None) (λ l. refl) (λ s. refl) (λ rank s r. refl) (λ rank r. refl) p.type p.kind p.single p.of_kind
+
+  unread : (o : Option (ReadTree Text)) → kind_read scopes o ≡ None
+  unread None = refl
+  unread (Some r) = no_cell (lookup scopes r.name.name) (names r.name.name)
+
+  pub side-item : (item : ItemTree Text) → (side_part scopes item).type ≡ item_type scopes item
+  side-item item = ap (λ o. read_or_type o (item_type scopes item)) (unread (item_read item))
+
+  pub runnable_side : (item : ItemTree Text) → ItemSpelt P item → closed_item item ≡ None → side_breaches scopes item ≡ [] → RunnableItem scopes P names item
+  runnable_side item s c h = runnable_item scopes P names item s c (subst (λ o. read_or_breaches o (item_breaches scopes item) ≡ []) (unread (item_read item)) h)
+
+  side-variable : (item : ItemTree Text) → ItemSpelt P item → closed_item item ≡ None → side_breaches scopes item ≡ [] → IsVariable (side_part scopes item).type
+  side-variable item s c h = subst IsVariable (sym (side-item item)) (runnable_side item s c h).variable
+
+  -- ---- declarations
+  init-variable : (init : InitTree Text) → InitSpelt P init → closed_init init ≡ None → untyped_breaches scopes init ≡ [] → IsVariable (init_part scopes init).type
+  init-variable (ItemInit item None) s c h =
+      let side = side_breaches scopes item in
+      let kept = owed_type (is_untyped None) (first_of_item item) (side_part scopes item).type in
+      side-variable item s.0 (first_open (closed_item item) None c)
+      (first_empty side kept (first_empty (side ++ kept) (mapped_breaches scopes (type_rank (side_part scopes item).type) None) h))
+  init-variable (ItemInit item (Some m)) s c h = let no : Some m.at ≡ None = second_open (closed_item item) (Some m.at) c in absurd cc
+  init-variable (CreateInit m) s c h = absurd cc
+
+  -- a domain's type has a rank
+  pub domain_type-rank : (d : DomainTypeTree Text) → type_breaches scopes (DomainType d) ≡ [] → (nat_le 1 d.rank && nat_le d.rank 3) ≡ true
+  domain_type-rank d h =
+      let ranked = nat_le 1 d.rank && nat_le d.rank 3 in
+      owed-holds ranked d.rank_at WrongRank (first_empty (owed ranked d.rank_at WrongRank) (mapped_breaches scopes (Some d.rank) d.mapped) h)
+
+  type-variable : (self : Origin) (t : TypeTree Text) → closed_type t ≡ None → type_breaches scopes t ≡ [] → IsVariable (declared_type scopes self t)
+  type-variable self (ScalarType at k) c h = scalar-variable k
+  type-variable self (SyncType at kind_at k) c h = absurd cc
+  type-variable self (DomainType d) c h = domain-variable d.rank false (one_to_three d.rank (domain_type-rank d h))
+  type-variable self (ArrayType a) c h = absurd cc
+
+  given-variable : (self : Origin) (w : Option (TypedTree Text)) (i : Option (InitialTree Text)) → SaysType w i → IfThere (InitialSpelt P) i
+      → in_optional closed_typed w ≡ None → in_optional closed_initial i ≡ None → written_breaches scopes self (written_type w) i ≡ [] → IsVariable (type_given scopes self (written_type w) i)
+  given-variable self None None says s v c h = elim says [ ]
+  given-variable self None (Some i) says s v c h = init-variable i.init s.1 c h
+  given-variable self (Some t) i says s v c h = type-variable self t.type v (first_empty (type_breaches scopes t.type) (typed_initial scopes (declared_type scopes self t.type) i) h)
+
+  unrefused-variable : (bs : List Breach) (o : Option ValueType) → bs ≡ [] → IsVariable o → IsVariable (unless_refused bs o)
+  unrefused-variable [] o h p = p
+  unrefused-variable (b ∷ bs) o h p = absurd cc
+
+  -- what is declared has a type of such a kind
+  pub declared_by-variable : (d : DeclareTree Text) → DeclareSpelt P d → closed_declare d ≡ None → declaration_breaches scopes d ≡ [] → IsVariable (declared_by scopes d).type
+  declared_by-variable d s c h =
+      let self = origin_in scopes d.name.name in
+      let written = written_breaches scopes self (written_type d.typed) d.initial in
+      unrefused-variable (declaration_breaches scopes d) (type_given scopes self (written_type d.typed) d.initial) h
+      (given-variable self d.typed d.initial s.0 s.5 (first_open (in_optional closed_typed d.typed) (in_optional closed_initial d.initial) c)
+      (second_open (in_optional closed_typed d.typed) (in_optional closed_initial d.initial) c) (second_empty _ written (first_empty _ (config_breaches scopes d.config d) h)))
+
+  pub declaration-variables : (d : DeclareTree Text) → DeclareSpelt P d → closed_declare d ≡ None → declaration_breaches scopes d ≡ [] → AreVariables (behind scopes (Declare d))
+  declaration-variables d s c h = add-variables scopes (declared_by scopes d) names (declared_by-variable d s c h)
+
+  -- ---- loops
+  -- what a loop runs over is no bare word
+  pub over-type : (item : ItemTree Text) → closed_item item ≡ None → over_type scopes item ≡ item_type scopes item
+  over-type (One e) c = ap (λ o. locales_or o (item_type scopes (One e))) (not_bare e c)
+  over-type (RangeItem low at dots high by) c = refl
+
+  over-told : (item : ItemTree Text) → closed_item item ≡ None → over_breaches scopes item ≡ item_breaches scopes item
+  over-told (One e) c = ap (λ o. none_where o (item_breaches scopes (One e))) (not_bare e c)
+  over-told (RangeItem low at dots high by) c = refl
+
+  pub runnable_over : (item : ItemTree Text) → ItemSpelt P item → closed_item item ≡ None → over_breaches scopes item ≡ [] → RunnableItem scopes P names item
+  runnable_over item s c h = runnable_item scopes P names item s c (sym (over-told item c) ∙ h)
+
+  -- in a loop's body each variable of the loop is an int or a tuple
+  pub in_loop-variables : (word : LoopWord) (xs : VariablesTree Text) (item : ItemTree Text) → ItemSpelt P item → closed_item item ≡ None → header_breaches scopes word xs item ≡ []
+      → AreVariables (in_loop scopes word xs item)
+  in_loop-variables word xs item s c h =
+      let over = over_breaches scopes item in
+      let head = header_of word xs item (over_type scopes item) in
+      let front = first_empty (over ++ head) (variables_once scopes xs) h in
+      let type = typed_variable word xs (over_type scopes item) in
+      let variable = subst IsVariable (sym (over-type item c)) (runnable_over item s c (first_empty over head front)).variable in
+      enter-variables (add_variables type (variables_of xs) (enter scopes))
+      (add_variables-variables type (typed_variable-variable word xs item (over_type scopes item) variable (second_empty over head front)) (variables_of xs) (enter scopes) (enter-variables scopes names))
