@@ -3,19 +3,23 @@
 use Rattle.std.proofs.Common.{◌≡◌, false, Bor, List, Option, Some, None, refl, sym, ap, ◌∙◌, subst, option_map}
 use Rattle.dpl_language.specs.Tree.{Op, ExprTree, ItemTree}
 use Rattle.dpl_language.specs.Names.{Text}
-use Rattle.dpl_language.specs.Values.{Index}
+use Rattle.dpl_language.specs.Values.{Value, Index}
 use Rattle.dpl_language.specs.Phrases.{ReadTree, cell_read, item_read}
 use Rattle.dpl_language.specs.Scopes.{fits_expr, fits_item, fits_read, fits_side, fits_whole_side}
 use Rattle.dpl_language.specs.Renamed.{renamed_expr, renamed_item, renamed_read}
 use Rattle.dpl_language.proofs.RenamedParts.{item_read-renamed}
 use Rattle.dpl_language.proofs.RenamedSame.{renamed_expr-same, renamed_item-same}
 use Rattle.dpl_language.proofs.RenamedTwice.{renamed_expr-twice, renamed_item-twice}
+use Rattle.dpl_rules.specs.Types.{ValueType}
 use Rattle.dpl_rules.specs.Sights.{Scopes}
+use Rattle.dpl_rules.specs.Expressions.{item_type}
+use Rattle.dpl_sound.specs.Typed.{HasType, type_at}
 use Rattle.dpl_lowered.specs.Shapes.{hidden_item}
 use Rattle.dpl_lowered.specs.LoweredExpressions.{Times, Once, lowered_expr, lowered_item}
 use Rattle.dpl_lowered.specs.LoweredStatements.{lowered_side}
-use Rattle.dpl_memory.specs.Memory.{Variable, known_variable}
-use Rattle.dpl_memory.specs.Resolved.{Bound, Start, text_of, variable_of, resolving, Suits}
+use Rattle.dpl_words.specs.Words.{IntLeaf, TruthLeaf, RangeLeaf}
+use Rattle.dpl_memory.specs.Memory.{VariableKind, PlainKind, DomainKind, TupleKind, ArrayKind, Variable, known_variable}
+use Rattle.dpl_memory.specs.Resolved.{Bound, Start, text_of, variable_of, resolving, HasShape, Suits}
 use Rattle.dpl_memory.proofs.Fitting.{expr_fits, item_fits}
 use Rattle.dpl_nodes.specs.declared.tree.BoolExpr.{BoolExpr}
 use Rattle.dpl_typer.specs.declared.make.Typed.{Typed}
@@ -26,11 +30,13 @@ use Rattle.dpl_nodes.specs.Typed.{truth_view}
 use Rattle.dpl_nodes.specs.Promoted.{promoted_int, promoted_truth}
 use Rattle.dpl_typer.specs.Makers.{typed_item, kind_of, is_promoted}
 use Rattle.dpl_nodes.proofs.Unread.{cell_read-int, cell_read-truth, item_read-range, cell_read-domain}
-use Rattle.dpl_typer.specs.Leaves.{IsFound}
+use Rattle.dpl_typer.specs.Leaves.{value_kind, IsFound}
+use Rattle.dpl_typer.specs.Shapes.{shape_of}
 use Rattle.dpl_typer.specs.Sights.{bound_in, ArePlainScopes}
 use Rattle.dpl_typer.proofs.Fits.{names-simple, expr_names-simple, unread-simple}
 use Rattle.dpl_typer.proofs.Suited.{item-suits}
-use Rattle.dpl_planner.specs.Parts.{IsItem, IsCondition}
+use Rattle.dpl_typer.proofs.Shaped.{taken-shape, item-typed}
+use Rattle.dpl_planner.specs.Parts.{IsItem, IsTakenBy, IsCondition}
 use Rattle.dpl_planner.specs.Plans.{seen_of}
 
 -- TYPED TREES ARE NO CELL READS
@@ -69,6 +75,16 @@ not_hidden None i e = rw e refl
 not_hidden (Some x) i e = refl
 
 -- ITEMS
+-- what an item of a type gives is of the shape of a name whose type takes it
+item-shaped : (ss : Scopes) (i : ItemTree Text) (declared : ValueType) (k : VariableKind) (v : Value) → IsTakenBy k ss i declared → value_kind declared ≡ Some k → is_promoted k ≡ false
+    → ((u : ValueType) → item_type ss i ≡ Some u → HasType v (type_at u None)) → HasShape k (shape_of declared) v
+item-shaped ss i declared (PlainKind IntLeaf) v taken kind once typed = tt
+item-shaped ss i declared (PlainKind TruthLeaf) v taken kind once typed = tt
+item-shaped ss i declared (PlainKind RangeLeaf) v taken kind once typed = taken-shape declared taken.0 (PlainKind RangeLeaf) v kind taken.2 (typed taken.0 taken.1)
+item-shaped ss i declared DomainKind v taken kind once typed = taken-shape declared taken.0 DomainKind v kind taken.2 (typed taken.0 taken.1)
+item-shaped ss i declared TupleKind v taken kind once typed = taken-shape declared taken.0 TupleKind v kind taken.2 (typed taken.0 taken.1)
+item-shaped ss i declared (ArrayKind k) v taken kind once typed = tt
+
 module _ (ss : Scopes) (i : ItemTree Text) where
   pub item-text : renamed_item text_of (renamed_item (bound_in ss) i) ≡ i
   item-text = renamed_item-twice text_of (bound_in ss) i ∙ renamed_item-same i
@@ -85,8 +101,12 @@ module _ (ss : Scopes) (i : ItemTree Text) where
     pub item-unread : item_read (renamed_item (bound_in ss) i) ≡ None
     item-unread = item_read-renamed (bound_in ss) i ∙ ap (option_map (renamed_read (bound_in ss))) (unread-simple (IsFound ss) i is.found)
 
-    pub item-suited : is_promoted (kind_of t) ≡ false → Suits (kind_of t) (renamed_item (bound_in ss) i)
-    item-suited once = item-suits ss t i (is.node Once) once (unread-simple (IsFound ss) i is.found)
+    -- a name of a type of its kind may hold it, where the name's type takes the item's
+    pub item-suited : (declared : ValueType) (intents : List (Bound × Op)) → ArePlainScopes ss → is_promoted (kind_of t) ≡ false → value_kind declared ≡ Some (kind_of t) → IsTakenBy (kind_of t) ss i declared
+        → Suits (kind_of t) (shape_of declared) (renamed_item (bound_in ss) i) (seen_of ss intents)
+    item-suited declared intents plain once kind taken =
+        item-suits ss t i (is.node Once) (shape_of declared) (seen_of ss intents) once (unread-simple (IsFound ss) i is.found)
+        (λ limits s shaped v e. item-shaped ss i declared (kind_of t) v taken kind once (λ u typed. item-typed ss plain intents i is.found u typed limits s shaped v e))
 
     module _ (start : Start) (intents : List (Bound × Op)) (plain : ArePlainScopes ss) where
       pub item-fits : (k : Option Index) → fits_item (resolving start) k (renamed_item (bound_in ss) i) (seen_of ss intents)

@@ -3,6 +3,8 @@ pub mod Items
 pub mod Mapped
 pub mod Results
 pub mod Bodies
+pub mod Headers
+pub mod Opened
 pub mod Statements
 pub mod Lists
 pub mod Owed

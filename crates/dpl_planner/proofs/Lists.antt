@@ -47,7 +47,7 @@ module _ (Asks : Start → Scopes → Type 0) (old : Plan) (all : Stmts Text) wh
   rest-fits a b t rest start g plain here f =
       let at_scopes = subst (λ ss. fits_all (resolving start) (bound_stmts ss rest) (seen_of ss (map reducing_view b.intents.items))) g.scopes f in
       let at_intents = subst (λ is. fits_all (resolving start) (bound_stmts (behind a.scopes t) rest) (seen_of (behind a.scopes t) (map reducing_view is))) g.intents at_scopes in
-      subst (λ s. fits_all (resolving start) (bound_stmts (behind a.scopes t) rest) s) (sym (after-stmt start start t a.scopes (intents_in a) here (subst ArePlainScopes g.scopes plain))) at_intents
+      subst (λ s. fits_all (resolving start) (bound_stmts (behind a.scopes t) rest) s) (sym (after-stmt start t a.scopes (intents_in a) (subst ArePlainScopes g.scopes plain))) at_intents
 
   pub still-step : (a b : Plan) (t : StmtTree Text) (rest : Stmts Text) (s : Step) (steps : List Step) → ((start : Start) → Asks start b.scopes → Asks start a.scopes)
       → Still a (Then t rest) steps → StmtWhere Asks a b t s → Still b rest (steps ++ s ∷ [])

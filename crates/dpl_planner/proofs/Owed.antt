@@ -12,11 +12,12 @@ use Rattle.dpl_rules.specs.Declarations.{sort_of, declared_by}
 use Rattle.dpl_scopes.specs.Slots.{count_in, place_in, slot_or, slot_in}
 use Rattle.dpl_memory.specs.Resolved.{Bound, Start}
 use Rattle.dpl_typer.specs.Leaves.{kind_by, leaf_by}
+use Rattle.dpl_typer.specs.Shapes.{shape_by}
 use Rattle.dpl_typer.specs.Sights.{bound_in, bound_at}
 use Rattle.dpl_planner.specs.declared.progress.Plan.{Plan}
 use Rattle.dpl_nodes.specs.declared.step.Step.{Step}
 use Rattle.dpl_planner.specs.Bounds.{bound_new}
-use Rattle.dpl_planner.specs.Given.{IsGiven, IsConfig, AreGiven}
+use Rattle.dpl_planner.specs.Given.{IsOfLeaf, IsGiven, IsConfig, AreGiven}
 use Rattle.dpl_planner.specs.Parts.{IsOwed, IsOwedBy, PlansDeclare}
 use Rattle.dpl_planner.specs.Plans.{IsOneScope, PlansStmt, PlansTop}
 use Rattle.dpl_planner.proofs.Scoped.{unfound, next_open}
@@ -31,6 +32,7 @@ abbrev bound_by : Declared → Scope → Scopes → Text → Bool → Bound
 bound_by d s ss x t = record {
   text = x;
   variable = leaf_by (kind_by (type_declared (or_else (if t then Some d else find s x) (lookup ss x)))) (slot_or (if t then Some (length s + suc (count_in ss)) else place_in s x (suc (count_in ss))) (slot_in ss x));
+  shape = shape_by (type_declared (or_else (if t then Some d else find s x) (lookup ss x)));
 }
 
 abbrev GivenBy : Start → Declared → Scope → Scopes → Text → Bool → Type 0
@@ -51,29 +53,30 @@ same-text : (x : Text) → bytes_eq x x ≡ true
 same-text x = (bytes_eq-Decides x x).1 refl
 
 -- a `config const` is told by its name behind its declaration
-given-new : (start : Start) (d : Declared) (ss : Scopes) → is_configured d.sort ≡ true → AreGiven start (add d ss) → IsGiven start (bound_new ss d)
+given-new : (start : Start) (d : Declared) (ss : Scopes) → IsConfig (Some d) → AreGiven start (add d ss) → IsGiven start (bound_new ss d)
 given-new start d [] config given = subst (GivenBy start d [] [] d.origin.name) (same-text d.origin.name) (given d.origin.name) config
 given-new start d (s ∷ ss) config given =
     subst (λ n. IsGiven start (bound_at d n)) (next_open s ss) (subst (GivenBy start d s ss d.origin.name) (same-text d.origin.name) (given d.origin.name) config)
 
-pub given-owed : (start : Start) (ss : Scopes) (d : DeclareTree Text) → AreGiven start (add (declared_by ss d) ss) → IsOwed start ss d
-given-owed start ss d given = by d.config refl
+pub given-owed : (start : Start) (ss : Scopes) (d : DeclareTree Text) → ((at : Place) → d.config ≡ Some at → IsOfLeaf (declared_by ss d)) → AreGiven start (add (declared_by ss d) ss) → IsOwed start ss d
+given-owed start ss d leaf given = by d.config refl
   where
     by : (config : Option Place) → d.config ≡ config → IsOwedBy config start (bound_new ss (declared_by ss d))
     by None e = tt
-    by (Some at) e = given-new start (declared_by ss d) ss (ap (λ c. is_configured (sort_of c d.constant)) e) given
+    by (Some at) e = given-new start (declared_by ss d) ss (ap (λ c. is_configured (sort_of c d.constant)) e, leaf at e) given
 
-pub declare-top : (a b : Plan) (d : DeclareTree Text) (s : Step) → PlansDeclare a b d s → PlansTop a b (Declare d) s
-declare-top a b d s p = record {
+pub declare-top : (a b : Plan) (d : DeclareTree Text) (s : Step) → ((at : Place) → d.config ≡ Some at → IsOfLeaf (declared_by a.scopes d)) → PlansDeclare a b d s → PlansTop a b (Declare d) s
+declare-top a b d s leaf p = record {
   goes = p.goes;
   text = p.text;
   node = p.node;
-  resolves = λ start h le given. p.resolves start h le (given-owed start a.scopes d (subst (AreGiven start) p.goes.scopes given));
+  resolves = λ start h le given. p.resolves start h le (given-owed start a.scopes d leaf (subst (AreGiven start) p.goes.scopes given));
 }
 
 pub stmt-top : (a b : Plan) (t : StmtTree Text) (s : Step) → PlansStmt a b t s → PlansTop a b t s
 stmt-top a b t s p = record { goes = p.goes; text = p.text; node = p.node; resolves = λ start h le given. p.resolves start h le }
 
-pub declared-top : {E : Type 0} (r : Result Step E) (a b : Plan) (d : DeclareTree Text) → IfOk r (λ s. PlansDeclare a b d s) → IfOk r (λ s. PlansTop a b (Declare d) s)
-declared-top (Ok s) a b d p = declare-top a b d s p
-declared-top (Err e) a b d p = tt
+pub declared-top : {E : Type 0} (r : Result Step E) (a b : Plan) (d : DeclareTree Text) → IfOk r (λ s. (at : Place) → d.config ≡ Some at → IsOfLeaf (declared_by a.scopes d)) → IfOk r (λ s. PlansDeclare a b d s)
+    → IfOk r (λ s. PlansTop a b (Declare d) s)
+declared-top (Ok s) a b d leaf p = declare-top a b d s leaf p
+declared-top (Err e) a b d leaf p = tt

@@ -1,14 +1,15 @@
--- What isn't planned of a statement isn't scalar: right sides, initial values, arguments, and what a loop's head names.
--- What is planned of a scalar one is of its kind.
+-- What isn't planned of a statement doesn't run: right sides, initial values, arguments, and what a loop's head names.
+-- What is planned of one that runs is of its kind.
 use Rattle.std.proofs.Common.{◌≡◌, ◌≢◌, ◌⊎◌, inl, inr, ℕ, ◌+◌, ◌<◌, Bool, true, false, List, ◌∷◌, length, get_or, drop, Option, Some, None, refl, sym, ap, ◌∙◌, subst, map}
 use Rattle.std.specs.Prelude.{bytes_eq}
 use Rattle.std.proofs.lemmas.List.{drop_more}
 use Rattle.std.proofs.lemmas.Option.{none-some}
 use Rattle.std.proofs.lemmas.Slice.Eq.{bytes_eq-Decides}
-use Rattle.dpl_language.specs.Tree.{DeclareTree}
+use Rattle.dpl_language.specs.Tree.{ExprTree, ItemTree, DeclareTree}
 use Rattle.dpl_language.specs.Names.{Text}
 use Rattle.dpl_rules.specs.Types.{ValueType}
 use Rattle.dpl_rules.specs.Sights.{Declared, Scopes, declared_here}
+use Rattle.dpl_rules.specs.Expressions.{item_type, type_of as expr_type}
 use Rattle.dpl_rules.specs.Declarations.{declared_by}
 use Rattle.dpl_tree.specs.declared.operator.ScalarKind.{ScalarKind}
 use Rattle.dpl_tree.specs.declared.operator.ScalarKind.TheVariants.{Int as IntScalar, Bool as TruthScalar}
@@ -19,38 +20,70 @@ use Rattle.dpl_types.specs.declared.value_type.ValueType.{ValueType as TypeNode}
 use Rattle.dpl_types.specs.View.{type_view, of_type}
 use Rattle.dpl_scopes.specs.declared.declared.Declared.{Declared as DeclaredNode}
 use Rattle.dpl_scopes.specs.View.{declared_view}
-use Rattle.dpl_words.specs.Words.{LeafKind}
-use Rattle.dpl_memory.specs.Memory.{PlainKind}
+use Rattle.dpl_words.specs.Words.{RangeLeaf}
+use Rattle.dpl_memory.specs.Memory.{VariableKind, PlainKind, DomainKind, TupleKind, ArrayKind}
 use Rattle.dpl_typer.specs.declared.make.Typed.{Typed}
 use Rattle.dpl_typer.specs.Makers.{kind_of}
 use Rattle.dpl_nodes.specs.Steps.{scalar_leaf}
 use Rattle.dpl_typer.specs.Leaves.{value_kind, kind_by, IsOfType}
 use Rattle.dpl_typer.proofs.OperatorKinds.{kind-same}
-use Rattle.dpl_scalar.specs.Scalar.{IsScalarDeclare, AreToldAlike, IsScalarArgument, AreScalarArguments, IsScalarIntent, AreScalarIntents}
+use Rattle.dpl_runnable.specs.Kinds.{IsDeclaredKind, IsAssignedKind}
+use Rattle.dpl_runnable.specs.Runnable.{IsExprOf, IsItemOf, IsShapedInitial, IsRunnableDeclare, AreToldAlike, IsRunnableArgument, AreRunnableArguments, IsRunnableIntent, AreRunnableIntents}
 use Rattle.dpl_planner.specs.declared.progress.Reducing.{Reducing}
 use Rattle.dpl_planner.specs.Parts.{others_in, intents_among}
 use Rattle.dpl_planner.specs.Plans.{reducing_view}
 
 -- ---- KINDS
-pub no_kind : (t : Option ValueType) (k : LeafKind) → t ≡ None → kind_by t ≢ Some (PlainKind k)
-no_kind t k none e = none-some (PlainKind k) (sym (ap kind_by none) ∙ e)
+pub no_kind : (t : Option ValueType) (k : VariableKind) → t ≡ None → kind_by t ≢ Some k
+no_kind t k none e = none-some k (sym (ap kind_by none) ∙ e)
 
--- what is typed as plain is of that kind
-pub same_kind : (t : Typed) (u : Option ValueType) (k : LeafKind) → IsOfType t u → kind_by u ≡ Some (PlainKind k) → kind_of t ≡ PlainKind k
-same_kind t None k is e = absurd (none-some (PlainKind k) e)
-same_kind t (Some u) k is e = kind-same (kind_of t) (PlainKind k) (sym is.0 ∙ e)
+-- what has a kind has a type
+pub some-type : (o : Option ValueType) (k : VariableKind) → kind_by o ≡ Some k → (t : ValueType) × (o ≡ Some t)
+some-type None k e = absurd (none-some k e)
+some-type (Some t) k e = (t, refl)
 
--- ---- DECLARATIONS: one that is scalar has a type of its kind, and its name is new in its scope
-module _ (ss : Scopes) (d : DeclareTree Text) (made : DeclaredNode) (same : declared_view made ≡ declared_by ss d) (s : IsScalarDeclare ss d) where
-  declared-kind : kind_by (of_type made.value_type) ≡ Some (PlainKind s.kind)
-  declared-kind = subst (λ (o : Declared). kind_by o.type ≡ Some (PlainKind s.kind)) (sym same) s.declared
+-- what is typed as of a kind is of that kind
+pub same_kind : (t : Typed) (u : Option ValueType) (k : VariableKind) → IsOfType t u → kind_by u ≡ Some k → kind_of t ≡ k
+same_kind t None k is e = absurd (none-some k e)
+same_kind t (Some u) k is e = kind-same (kind_of t) k (sym is.0 ∙ e)
+
+-- so is what is made of an item, and of an expression
+pub item-kind : (ss : Scopes) (i : ItemTree Text) (k : VariableKind) (t : Typed) → IsOfType t (item_type ss i) → IsItemOf ss i k → kind_of t ≡ k
+item-kind ss i k t of_type is = same_kind t (item_type ss i) k of_type is.kind
+
+pub expr-kind : (ss : Scopes) (e : ExprTree Text) (k : VariableKind) (t : Typed) → IsOfType t (expr_type ss e) → IsExprOf ss e k → kind_of t ≡ k
+expr-kind ss e k t of_type is = same_kind t (expr_type ss e) k of_type is.kind
+
+-- what a loop runs over is of the one kind or of the other
+pub over-kind : (ss : Scopes) (i : ItemTree Text) (t : Typed) → IsOfType t (item_type ss i) → IsItemOf ss i (PlainKind RangeLeaf) ⊎ IsItemOf ss i DomainKind → (kind_of t ≡ PlainKind RangeLeaf) ⊎ (kind_of t ≡ DomainKind)
+over-kind ss i t of_type (inl is) = inl (item-kind ss i (PlainKind RangeLeaf) t of_type is)
+over-kind ss i t of_type (inr is) = inr (item-kind ss i DomainKind t of_type is)
+
+-- what has no type is neither
+pub no_iterable : (ss : Scopes) (i : ItemTree Text) → ((k : VariableKind) → IsItemOf ss i k → item_type ss i ≡ None) → IsItemOf ss i (PlainKind RangeLeaf) ⊎ IsItemOf ss i DomainKind → ⊥
+no_iterable ss i none (inl is) = no_kind (item_type ss i) (PlainKind RangeLeaf) (none (PlainKind RangeLeaf) is) is.kind
+no_iterable ss i none (inr is) = no_kind (item_type ss i) DomainKind (none DomainKind is) is.kind
+
+-- what is assigned is declared too
+pub assigned-declared : (k : VariableKind) → IsAssignedKind k → IsDeclaredKind k
+assigned-declared (PlainKind k) h = tt
+assigned-declared DomainKind h = tt
+assigned-declared TupleKind h = absurd h
+assigned-declared (ArrayKind k) h = absurd h
+
+-- ---- DECLARATIONS: one that runs has a type of its kind, and its name is new in its scope
+module _ (ss : Scopes) (d : DeclareTree Text) (made : DeclaredNode) (same : declared_view made ≡ declared_by ss d) (s : IsRunnableDeclare ss d) where
+  declared-kind : kind_by (of_type made.value_type) ≡ Some s.kind
+  declared-kind = subst (λ (o : Declared). kind_by o.type ≡ Some s.kind) (sym same) s.declared
 
   pub declared-typed : made.value_type ≢ None
-  declared-typed none =
-      none-some (PlainKind s.kind) (sym (ap (λ o. kind_by (of_type o)) none) ∙ declared-kind)
+  declared-typed none = none-some s.kind (sym (ap (λ o. kind_by (of_type o)) none) ∙ declared-kind)
 
-  pub declared-held : (t : TypeNode) → made.value_type ≡ Some t → value_kind (type_view t) ≡ Some (PlainKind s.kind)
-  declared-held t typed = subst (λ o. kind_by (of_type o) ≡ Some (PlainKind s.kind)) typed declared-kind
+  pub declared-held : (t : TypeNode) → made.value_type ≡ Some t → value_kind (type_view t) ≡ Some s.kind
+  declared-held t typed = subst (λ o. kind_by (of_type o) ≡ Some s.kind) typed declared-kind
+
+  pub declared-shaped : (t : TypeNode) → made.value_type ≡ Some t → IsShapedInitial ss d.initial (type_view t)
+  declared-shaped t typed = s.shaped (type_view t) (sym (ap (λ (o : Declared). o.type) same) ∙ ap of_type typed)
 
   pub declared-new : declared_here ss made.origin.name.now ≢ true
   declared-new old =
@@ -58,14 +91,14 @@ module _ (ss : Scopes) (d : DeclareTree Text) (made : DeclaredNode) (same : decl
       absurd cc
 
 -- ---- WHAT IS NEXT of arguments, of intents, and of the reduce variables around
-pub arguments-next : (ss : Scopes) (xs : List NextArgument) (i : ℕ) (past : NextArgument) → i < length xs → AreScalarArguments ss (others_in (drop i xs)) → IsScalarArgument ss (argument_view (get_or xs i past).argument)
+pub arguments-next : (ss : Scopes) (xs : List NextArgument) (i : ℕ) (past : NextArgument) → i < length xs → AreRunnableArguments ss (others_in (drop i xs)) → IsRunnableArgument ss (argument_view (get_or xs i past).argument)
 arguments-next ss xs i past within are =
-    let here : AreScalarArguments ss (others_in (get_or xs i past ∷ drop (i + 1) xs)) = subst (λ ys. AreScalarArguments ss (others_in ys)) (drop_more xs i past within) are in
+    let here : AreRunnableArguments ss (others_in (get_or xs i past ∷ drop (i + 1) xs)) = subst (λ ys. AreRunnableArguments ss (others_in ys)) (drop_more xs i past within) are in
     here.0
 
-pub intents-next : (ss : Scopes) (xs : List NextIntent) (i : ℕ) (past : NextIntent) → i < length xs → AreScalarIntents ss (intents_among (drop i xs)) → IsScalarIntent ss (intent_view (get_or xs i past).intent)
+pub intents-next : (ss : Scopes) (xs : List NextIntent) (i : ℕ) (past : NextIntent) → i < length xs → AreRunnableIntents ss (intents_among (drop i xs)) → IsRunnableIntent ss (intent_view (get_or xs i past).intent)
 intents-next ss xs i past within are =
-    let here : AreScalarIntents ss (intents_among (get_or xs i past ∷ drop (i + 1) xs)) = subst (λ ys. AreScalarIntents ss (intents_among ys)) (drop_more xs i past within) are in
+    let here : AreRunnableIntents ss (intents_among (get_or xs i past ∷ drop (i + 1) xs)) = subst (λ ys. AreRunnableIntents ss (intents_among ys)) (drop_more xs i past within) are in
     here.0
 
 slot_of-scalar_leaf : (k : ScalarKind) (slot : ℕ) → (scalar_leaf k slot).slot ≡ slot

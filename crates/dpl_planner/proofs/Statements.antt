@@ -1,44 +1,43 @@
 -- Statements with bodies: what is planned of their parts, one after the other, is a plan of the statement.
--- A loop's variable is an int in a scope of its own, around that of the body.
-use Rattle.std.proofs.Common.{◌≡◌, ℕ, ◌≤◌, ◌<◌, Bor, List, [], ◌∷◌, drop, refl, sym, ap, ◌∙◌, subst, arith, map, Option, Some, None}
+-- A loop's variables stand in a scope of their own, around that of the body.
+use Rattle.std.proofs.Common.{◌≡◌, ℕ, ◌≤◌, Bor, List, [], ◌∷◌, drop, refl, sym, ap, ◌∙◌, subst, arith, map, Option, Some, None}
 use Rattle.std.specs.Prelude.{option_map}
 use Rattle.std.specs.Global.{Vec}
 use Rattle.dpl_syntax.specs.declared.place.Place.{Place}
-use Rattle.dpl_language.specs.Tree.{Op, ExprTree, ItemTree, OneVariable, IntentTree, ReduceIntent, RefIntent, WithTree, Nothing, If, While, For, Forall, Body, Else}
+use Rattle.dpl_language.specs.Tree.{Placed, ExprTree, ItemTree, VariablesTree, IntentTree, ReduceIntent, RefIntent, WithTree, StmtTree, Nothing, If, While, For, Forall, Body, Else}
 use Rattle.dpl_language.specs.Names.{Text}
 use Rattle.dpl_language.specs.Phrases.{intents_of}
-use Rattle.dpl_language.specs.Scopes.{PlainSort, fits_body}
-use Rattle.dpl_language.specs.Renamed.{renamed_expr, renamed_item, renamed_intent, renamed_with, renamed_body, renamed_else, renamed_intents}
+use Rattle.dpl_language.specs.Scopes.{fits as fits_stmt, fits_body}
+use Rattle.dpl_language.specs.Renamed.{renamed_stmt, renamed_expr, renamed_item, renamed_intent, renamed_with, renamed_variables, renamed_body, renamed_else, renamed_intents}
 use Rattle.dpl_language.proofs.RenamedParts.{intents_of-renamed}
-use Rattle.dpl_language.specs.Tree.{Placed}
-use Rattle.dpl_rules.specs.Sights.{Scopes, enter, add}
+use Rattle.dpl_rules.specs.Types.{ValueType}
+use Rattle.dpl_rules.specs.Sights.{Scope, Scopes, enter}
+use Rattle.dpl_rules.specs.Loops.{ForWord, ForallWord, variables_of, add_variables}
 use Rattle.dpl_scopes.specs.Slots.{next_slot_in}
 use Rattle.dpl_lowered.specs.Shapes.{nowhere}
 use Rattle.dpl_lowered.specs.LoweredExpressions.{Once, lowered_expr, lowered_item}
-use Rattle.dpl_lowered.specs.LoweredStatements.{with_intents}
-use Rattle.dpl_words.specs.Words.{IntLeaf}
+use Rattle.dpl_lowered.specs.LoweredStatements.{with_intents, lowered_variables, lowered_stmt}
 use Rattle.dpl_memory.specs.Memory.{known_variable}
-use Rattle.dpl_memory.specs.Resolved.{Bound, Start, text_of, variable_of, resolving, sighted, bind, Declares}
-use Rattle.dpl_memory.proofs.Suiting.{Turns-ranges}
+use Rattle.dpl_memory.specs.Resolved.{Bound, text_of, variable_of, resolving}
 use Rattle.dpl_nodes.specs.declared.tree.BoolExpr.{BoolExpr}
-use Rattle.dpl_nodes.specs.declared.tree.RangeExpr.{RangeExpr}
-use Rattle.dpl_typer.specs.declared.make.Typed.TheVariants as typed
-use Rattle.dpl_nodes.specs.declared.step.Step.{Step, Nothing as NothingStep, If as IfStep, While as WhileStep, For as ForStep, Forall as ForallStep}
+use Rattle.dpl_nodes.specs.declared.step.Step.{Step, Nothing as NothingStep, If as IfStep, While as WhileStep}
 use Rattle.dpl_nodes.specs.declared.step.Intent.{Intent}
 use Rattle.dpl_nodes.specs.declared.step.Else.{Else as ElseNode}
+use Rattle.dpl_nodes.specs.declared.step.Names.{Names}
 use Rattle.dpl_nodes.specs.Typed.{truth_view}
-use Rattle.dpl_nodes.specs.Steps.{listed, variable_in, intent_view}
+use Rattle.dpl_nodes.specs.Steps.{listed, intent_view, names_view, steps_of, step_view}
 use Rattle.dpl_nodes.proofs.Rows.{steps_view-row}
-use Rattle.dpl_typer.specs.Sights.{bound_in, sight_of, ArePlainScopes}
-use Rattle.dpl_typer.proofs.Sights.{unused_next}
+use Rattle.dpl_typer.specs.Makers.{typed_item}
+use Rattle.dpl_typer.specs.Leaves.{value_kind}
+use Rattle.dpl_typer.specs.Sights.{bound_in, ArePlainScopes}
+use Rattle.dpl_planner.specs.declared.loops.Iterable.{Iterable}
 use Rattle.dpl_planner.specs.declared.progress.Plan.{Plan}
 use Rattle.dpl_planner.specs.declared.progress.Reducing.{Reducing}
-use Rattle.dpl_scalar.specs.Bodies.{loop_variable}
-use Rattle.dpl_planner.specs.Bounds.{bound_body, bound_else, bound_new}
-use Rattle.dpl_planner.specs.Parts.{IsItem, IsCondition, IsOpened}
-use Rattle.dpl_planner.specs.Plans.{reducing_view, seen_of, intents_in, body_leaves, else_leaves, PlansStmt, PlansBody, PlansElse}
-use Rattle.dpl_planner.proofs.Scoped.{sight_of-next, plain-add}
-use Rattle.dpl_planner.proofs.Items.{item-text, item-node, item-suited, item-fits, expr-text, condition-node, condition-fits}
+use Rattle.dpl_planner.specs.Bounds.{loop_variable, bound_variables, loop_type, bound_body, bound_else}
+use Rattle.dpl_planner.specs.Parts.{IsItem, AreTurnKinds, AreFresh, over_typed, IsCondition, IsOpened}
+use Rattle.dpl_planner.specs.Plans.{reducing_view, seen_of, intents_in, seen_in, Stands, body_leaves, else_leaves, PlansStmt, PlansBody, PlansElse}
+use Rattle.dpl_planner.proofs.Items.{item-text, item-node, item-fits, expr-text, condition-node, condition-fits}
+use Rattle.dpl_planner.proofs.Opened.{variables-text, turn-kind, variables-plain, variables-fit, inside-same, turns-suit}
 use Rattle.dpl_planner.proofs.Bodies.{goes-back, goes-nowhere, goes-then, goes-left, body-at, else-at, left}
 use Rattle.dpl_planner.proofs.Mapped.{map_listed-back}
 
@@ -73,50 +72,62 @@ if-plans a b c at e made first steps second other is p q =
     }
 
 -- ---- LOOPS
--- the scope of a loop's variable, and what its body has in sight
-abbrev variables : Scopes → Text → Scopes
-variables ss x = add (loop_variable (enter ss) x) (enter ss)
+dropped : (t : Option ValueType) (xs : List (Placed Text)) (s : Scope) (ss : Scopes) → drop 1 (add_variables t xs (s ∷ ss)) ≡ ss
+dropped t [] s ss = refl
+dropped t (x ∷ xs) s ss = dropped t xs (loop_variable t (s ∷ ss) x.name ∷ s) ss
 
-abbrev variable : Scopes → Text → Bound
-variable ss x = bound_new (enter ss) (loop_variable (enter ss) x)
+-- the scope of a loop's variables of a type, around that of its body
+abbrev turning : Option ValueType → VariablesTree Text → Scopes → Scopes
+turning t xs ss = add_variables t (variables_of xs) (enter ss)
 
-plain-variables : (ss : Scopes) (x : Text) → ArePlainScopes ss → ArePlainScopes (variables ss x)
-plain-variables ss x h = plain-add (loop_variable (enter ss) x) (enter ss) IntLeaf refl refl (tt, h)
+turning-plain : (t : ValueType) (xs : VariablesTree Text) (ss : Scopes) → AreTurnKinds xs (value_kind t) → AreFresh (Some t) (variables_of xs) (enter ss) → ArePlainScopes ss → ArePlainScopes (turning (Some t) xs ss)
+turning-plain t xs ss kinds fresh h =
+    let (k, kind, single) = turn-kind xs (value_kind t) kinds in
+    variables-plain t k kind single (variables_of xs) (enter ss) fresh (tt, h)
 
-inside-fits : (ss : Scopes) (x : Text) (is : List (Bound × Op)) (start : Start) (t : Body Bound) → fits_body (resolving start) t (seen_of (enter (variables ss x)) is)
-    → fits_body (resolving start) t (record { frames = [] ∷ bind (sighted (variable ss x) PlainSort) ([] ∷ sight_of ss); intents = is })
-inside-fits ss x is start t f =
-    subst (λ fs. fits_body (resolving start) t (record { frames = [] ∷ fs; intents = is })) (sight_of-next (loop_variable (enter ss) x) (enter ss)) f
+-- there are slots for all of them
+enough : (b : Plan) (vs : Scopes) (m n : ℕ) → b.scopes ≡ vs → next_slot_in b.scopes ≤ b.slots → b.slots ≤ m → m ≤ n → next_slot_in vs ≤ n
+enough b vs m n scopes below more le =
+    let here : next_slot_in vs ≤ b.slots = subst (λ ss. next_slot_in ss ≤ b.slots) scopes below in
+    omega (arith, here, more, le)
 
-variable-fits : (ss : Scopes) (x : Text) (is : List (Bound × Op)) (slot m n : ℕ) (start : Start) → slot ≡ next_slot_in (enter ss) → slot < m → m ≤ n → n ≤ start.slots → ArePlainScopes ss
-    → Declares start.slots (variable ss x) PlainSort (seen_of (enter ss) is)
-variable-fits ss x is slot m n start next below more le h = (record { unused = unused_next (enter ss) (tt, h); within = subst (λ k. k < start.slots) next (omega (arith, below, more, le)) }, λ e. e)
+module _ (at word : Place) (xs : VariablesTree Text) (item : ItemTree Text) (body : Body Text) where
+  -- a `for` whose variables are of a type, resolved
+  abbrev bound_for : Option ValueType → Scopes → StmtTree Bound
+  bound_for t ss = For at (bound_variables t (enter ss) xs) word (renamed_item (bound_in ss) item) (bound_body (enter (turning t xs ss)) body)
 
-pub for-plans : (a b c : Plan) (at word : Place) (spot : Bor Place) (x : Placed Text) (slot : ℕ) (item : ItemTree Text) (range : Bor RangeExpr) (body : Body Text) (steps : Bor (List Step))
-    → spot.now ≡ at → IsItem a.scopes item (typed.Range range) → IsOpened a b x.name slot → PlansBody b c body steps.now
-    → PlansStmt a (left c) (For at (OneVariable x) word item body) (ForStep spot slot range steps)
-for-plans a b c at word spot x slot item range body steps near is opened p =
-    let ss = a.scopes in
-    let vs = variables ss x.name in
-    let q = body-at b c body steps.now vs a.intents.items opened.scopes opened.intents p in
-    let more = opened.slots in
-    let grown = q.goes.slots in
-    let made = renamed_item (bound_in ss) item in
-    let items = lowered_item known_variable Once (renamed_item variable_of made) in
-    let turns = body_leaves (enter vs) body in
-    record {
-      goes = goes-left a c vs refl q.goes.scopes (omega (arith, more, grown)) (q.goes.intents ∙ opened.intents);
-      text = both (For at (OneVariable x) word) (item-text ss item) q.text;
-      node = ap (λ y. For y (variable_in (next_slot_in (enter ss))) nowhere items turns) (sym near)
-          ∙ ap (λ n. For spot.now (variable_in n) nowhere items turns) (sym opened.next)
-          ∙ both (For spot.now (variable_in slot) nowhere) (item-node ss item (typed.Range range) is Once) (q.node ∙ ap listed (sym (steps_view-row steps.now)));
-      resolves = λ start h le. (
-        item-fits ss item (typed.Range range) is start (intents_in a) h None,
-        Turns-ranges made (item-suited ss item (typed.Range range) is refl),
-        variable-fits ss x.name (intents_in a) slot b.slots c.slots start opened.next opened.below grown le h,
-        inside-fits ss x.name (intents_in a) start (bound_body (enter vs) body) (q.resolves start (subst ArePlainScopes (sym opened.scopes) (plain-variables ss x.name h)) le),
-      );
-    }
+  abbrev PlansFor : Option ValueType → Plan → Plan → Step → Type 0
+  PlansFor t old new step =
+      Stands old new old.scopes (renamed_stmt text_of (bound_for t old.scopes) ≡ For at xs word item body) (lowered_stmt known_variable (renamed_stmt variable_of (bound_for t old.scopes)) ≡ step_view step)
+      (λ start. fits_stmt (resolving start) (bound_for t old.scopes) (seen_in old))
+
+  pub for-plans : (a b c : Plan) (spot : Bor Place) (t : ValueType) (names : Names) (over : Iterable) (steps : Bor (List Step)) (s : Step)
+      → spot.now ≡ at → IsItem a.scopes item (over_typed over) → loop_type a.scopes ForWord xs item ≡ Some t → IsOpened a b t xs names → PlansBody b c body steps.now
+      → step_view s ≡ For spot.now (names_view names) nowhere (typed_item Once (over_typed over)) (listed (steps_of steps.now)) → PlansStmt a (left c) (For at xs word item body) s
+  for-plans a b c spot t names over steps s near is typed opened p made =
+      let ss = a.scopes in
+      let vs = turning (Some t) xs ss in
+      let q = body-at b c body steps.now vs a.intents.items opened.scopes opened.intents p in
+      let more = opened.slots in
+      let grown = q.goes.slots in
+      let items = lowered_item known_variable Once (renamed_item variable_of (renamed_item (bound_in ss) item)) in
+      let turns = body_leaves (enter vs) body in
+      let planned : PlansFor (Some t) a (left c) s = record {
+        goes = goes-left a c vs (dropped (Some t) (variables_of xs) [] ss) q.goes.scopes (omega (arith, more, grown)) (q.goes.intents ∙ opened.intents);
+        text = ap (λ ys. For at ys word (renamed_item text_of (renamed_item (bound_in ss) item)) (renamed_body text_of (bound_body (enter vs) body))) (variables-text (Some t) (enter ss) xs)
+            ∙ both (For at xs word) (item-text ss item) q.text;
+        node = ap (λ y. For y (lowered_variables (renamed_variables variable_of (bound_variables (Some t) (enter ss) xs))) nowhere items turns) (sym near)
+            ∙ ap (λ ys. For spot.now ys nowhere items turns) (sym opened.node)
+            ∙ both (For spot.now (names_view names) nowhere) (item-node ss item (over_typed over) is Once) q.node ∙ sym made;
+        resolves = λ start h le. (
+          item-fits ss item (over_typed over) is start (intents_in a) h None,
+          turns-suit start ss (intents_in a) item ForWord xs t h is.found typed opened.kinds,
+          variables-fit start t ss (intents_in a) xs opened.kinds opened.fresh h (enough b vs c.slots start.slots opened.scopes opened.below grown le),
+          subst (fits_body (resolving start) (bound_body (enter vs) body)) (sym (inside-same start t ss (intents_in a) xs))
+              (q.resolves start (subst ArePlainScopes (sym opened.scopes) (turning-plain t xs ss opened.kinds opened.fresh h)) le),
+        );
+      } in
+      subst (λ o. PlansFor o a (left c) s) (sym typed) planned
 
 -- reduce variables, with their names back
 with-text : (ss : Scopes) (w : Option (WithTree Text)) → option_map (renamed_with text_of) (option_map (renamed_with (bound_in ss)) w) ≡ w
@@ -137,37 +148,49 @@ module _ (ss : Scopes) (w : Option (WithTree Text)) (found : List Reducing) (nam
   intents-node : (is : List Intent) → map intent_view is ≡ renamed_intents variable_of (map reducing_view found) → intents_of (option_map (renamed_with variable_of) bound_with) ≡ map intent_view is
   intents-node is unnamed = intents_of-renamed variable_of bound_with ∙ ap (renamed_intents variable_of) (sym intents-bound) ∙ sym unnamed
 
-pub forall-plans : (a b c : Plan) (found none : Vec Reducing) (at word : Place) (spot : Bor Place) (x : Placed Text) (slot : ℕ) (item : ItemTree Text) (range : Bor RangeExpr)
-    (w : Option (WithTree Text)) (is : Bor (List Intent)) (body : Body Text) (steps : Bor (List Step))
-    → a.intents.items ≡ [] → none.items ≡ [] → spot.now ≡ at → IsItem a.scopes item (typed.Range range)
-    → map reducing_view found.items ≡ renamed_intents (bound_in a.scopes) (intents_of w) → map intent_view is.now ≡ renamed_intents variable_of (map reducing_view found.items)
-    → IsOpened (record a { intents = found }) b x.name slot → PlansBody b c body steps.now
-    → PlansStmt a (record (left c) { intents = none }) (Forall at (OneVariable x) word item w body) (ForallStep spot slot range is steps)
-forall-plans a b c found none at word spot x slot item range w is body steps outside empty near ranged named unnamed opened p =
-    let ss = a.scopes in
-    let vs = variables ss x.name in
-    let q = body-at b c body steps.now vs found.items opened.scopes opened.intents p in
-    let more = opened.slots in
-    let grown = q.goes.slots in
-    let made = renamed_item (bound_in ss) item in
-    let items = lowered_item known_variable Once (renamed_item variable_of made) in
-    let turns = body_leaves (enter vs) body in
-    let with = option_map (renamed_with (bound_in ss)) w in
-    let reduced = intents_of (option_map (renamed_with variable_of) with) in
-    record {
-      goes = goes-back a (record (left c) { intents = none }) (ap (drop 1) q.goes.scopes) (omega (arith, more, grown)) (empty ∙ sym outside);
-      text = ap (λ v. Forall at (OneVariable x) word (renamed_item text_of made) v (renamed_body text_of (bound_body (enter vs) body))) (with-text ss w)
-          ∙ both (λ i t. Forall at (OneVariable x) word i w t) (item-text ss item) q.text;
-      node = ap (λ y. Forall y (variable_in (next_slot_in (enter ss))) nowhere items (with_intents reduced) turns) (sym near)
-          ∙ ap (λ n. Forall spot.now (variable_in n) nowhere items (with_intents reduced) turns) (sym opened.next)
-          ∙ ap (λ v. Forall spot.now (variable_in slot) nowhere items (with_intents v) turns) (intents-node ss w found.items named is.now unnamed)
-          ∙ both (λ i t. Forall spot.now (variable_in slot) nowhere i (with_intents (map intent_view is.now)) t) (item-node ss item (typed.Range range) ranged Once) (q.node ∙ ap listed (sym (steps_view-row steps.now)));
-      resolves = λ start h le. (
-        item-fits ss item (typed.Range range) ranged start (intents_in a) h None,
-        Turns-ranges made (item-suited ss item (typed.Range range) ranged refl),
-        ap (map reducing_view) outside,
-        variable-fits ss x.name (intents_of with) slot b.slots c.slots start opened.next opened.below grown le h,
-        subst (λ v. fits_body (resolving start) (bound_body (enter vs) body) (record { frames = [] ∷ bind (sighted (variable ss x.name) PlainSort) ([] ∷ sight_of ss); intents = v })) (intents-bound ss w found.items named)
-            (inside-fits ss x.name (map reducing_view found.items) start (bound_body (enter vs) body) (q.resolves start (subst ArePlainScopes (sym opened.scopes) (plain-variables ss x.name h)) le)),
-      );
-    }
+module _ (at word : Place) (xs : VariablesTree Text) (item : ItemTree Text) (w : Option (WithTree Text)) (body : Body Text) where
+  abbrev bound_forall : Option ValueType → Scopes → StmtTree Bound
+  bound_forall t ss = Forall at (bound_variables t (enter ss) xs) word (renamed_item (bound_in ss) item) (option_map (renamed_with (bound_in ss)) w) (bound_body (enter (turning t xs ss)) body)
+
+  abbrev PlansForall : Option ValueType → Plan → Plan → Step → Type 0
+  PlansForall t old new step =
+      Stands old new old.scopes (renamed_stmt text_of (bound_forall t old.scopes) ≡ Forall at xs word item w body)
+      (lowered_stmt known_variable (renamed_stmt variable_of (bound_forall t old.scopes)) ≡ step_view step) (λ start. fits_stmt (resolving start) (bound_forall t old.scopes) (seen_in old))
+
+  pub forall-plans : (a b c : Plan) (found none : Vec Reducing) (spot : Bor Place) (t : ValueType) (names : Names) (over : Iterable) (is : Bor (List Intent)) (steps : Bor (List Step)) (s : Step)
+      → a.intents.items ≡ [] → none.items ≡ [] → spot.now ≡ at → IsItem a.scopes item (over_typed over) → loop_type a.scopes ForallWord xs item ≡ Some t
+      → map reducing_view found.items ≡ renamed_intents (bound_in a.scopes) (intents_of w) → map intent_view is.now ≡ renamed_intents variable_of (map reducing_view found.items)
+      → IsOpened (record a { intents = found }) b t xs names → PlansBody b c body steps.now
+      → step_view s ≡ Forall spot.now (names_view names) nowhere (typed_item Once (over_typed over)) (with_intents (map intent_view is.now)) (listed (steps_of steps.now))
+      → PlansStmt a (record (left c) { intents = none }) (Forall at xs word item w body) s
+  forall-plans a b c found none spot t names over is steps s outside empty near ranged typed named unnamed opened p made =
+      let ss = a.scopes in
+      let vs = turning (Some t) xs ss in
+      let q = body-at b c body steps.now vs found.items opened.scopes opened.intents p in
+      let more = opened.slots in
+      let grown = q.goes.slots in
+      let items = lowered_item known_variable Once (renamed_item variable_of (renamed_item (bound_in ss) item)) in
+      let turns = body_leaves (enter vs) body in
+      let with = option_map (renamed_with (bound_in ss)) w in
+      let reduced = intents_of (option_map (renamed_with variable_of) with) in
+      let intents : map reducing_view found.items ≡ intents_of with = intents-bound ss w found.items named in
+      let planned : PlansForall (Some t) a (record (left c) { intents = none }) s = record {
+        goes = goes-back a (record (left c) { intents = none }) (ap (drop 1) q.goes.scopes ∙ dropped (Some t) (variables_of xs) [] ss) (omega (arith, more, grown)) (empty ∙ sym outside);
+        text = ap (λ ys. Forall at ys word (renamed_item text_of (renamed_item (bound_in ss) item)) (option_map (renamed_with text_of) with) (renamed_body text_of (bound_body (enter vs) body))) (variables-text (Some t) (enter ss) xs)
+            ∙ ap (λ v. Forall at xs word (renamed_item text_of (renamed_item (bound_in ss) item)) v (renamed_body text_of (bound_body (enter vs) body))) (with-text ss w)
+            ∙ both (λ i t. Forall at xs word i w t) (item-text ss item) q.text;
+        node = ap (λ y. Forall y (lowered_variables (renamed_variables variable_of (bound_variables (Some t) (enter ss) xs))) nowhere items (with_intents reduced) turns) (sym near)
+            ∙ ap (λ ys. Forall spot.now ys nowhere items (with_intents reduced) turns) (sym opened.node)
+            ∙ ap (λ v. Forall spot.now (names_view names) nowhere items (with_intents v) turns) (intents-node ss w found.items named is.now unnamed)
+            ∙ both (λ i t. Forall spot.now (names_view names) nowhere i (with_intents (map intent_view is.now)) t) (item-node ss item (over_typed over) ranged Once) q.node ∙ sym made;
+        resolves = λ start h le. (
+          item-fits ss item (over_typed over) ranged start (intents_in a) h None,
+          turns-suit start ss (intents_in a) item ForallWord xs t h ranged.found typed opened.kinds,
+          ap (map reducing_view) outside,
+          variables-fit start t ss (intents_of with) xs opened.kinds opened.fresh h (enough b vs c.slots start.slots opened.scopes opened.below grown le),
+          subst (fits_body (resolving start) (bound_body (enter vs) body)) (sym (inside-same start t ss (intents_of with) xs))
+              (subst (λ v. fits_body (resolving start) (bound_body (enter vs) body) (seen_of (enter vs) v)) intents
+              (q.resolves start (subst ArePlainScopes (sym opened.scopes) (turning-plain t xs ss opened.kinds opened.fresh h)) le)),
+        );
+      } in
+      subst (λ o. PlansForall o a (record (left c) { intents = none }) s) (sym typed) planned

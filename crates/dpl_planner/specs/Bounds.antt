@@ -1,17 +1,17 @@
 -- A program with its names resolved by the scopes as they stand where each name does.
 -- A declared name has the next slot, and any other the leaf of its innermost declaration.
-use Rattle.std.specs.Prelude.{option_map}
-use Rattle.dpl_language.specs.Tree.{VariablesTree, OneVariable, ManyVariables, DeclareTree, StmtTree, Nothing, Declare, Assigned, Call, Write, Block, If, While, For, Forall, Coforall, On, Body, WordBody, BlockBody, Stmts, NoStmts, Then, Else, NoElse, ElseDo, ProgramTree}
+use Rattle.std.specs.Prelude.{List, [], ◌∷◌, Option, option_map}
+use Rattle.dpl_language.specs.Tree.{Placed, AfterComma, ItemTree, VariablesTree, OneVariable, ManyVariables, DeclareTree, StmtTree, Nothing, Declare, Assigned, Call, Write, Block, If, While, For, Forall, Coforall, On, Body, WordBody, BlockBody, Stmts, NoStmts, Then, Else, NoElse, ElseDo, ProgramTree}
 use Rattle.dpl_language.specs.Names.{Text}
-use Rattle.dpl_language.specs.Renamed.{renamed, renamed_expr, renamed_item, renamed_typed, renamed_initial, renamed_write, renamed_with, renamed_variables, renamed_target, renamed_call}
-use Rattle.dpl_rules.specs.Sights.{Declared, Scopes, enter}
+use Rattle.dpl_language.specs.Renamed.{renamed, renamed_expr, renamed_item, renamed_typed, renamed_initial, renamed_write, renamed_with, renamed_target, renamed_call}
+use Rattle.dpl_rules.specs.Types.{ValueType}
+use Rattle.dpl_rules.specs.Sights.{LoopVariable, Declared, Scopes, enter, add, origin_in}
 use Rattle.dpl_rules.specs.Declarations.{declared_by}
-use Rattle.dpl_rules.specs.Loops.{behind}
+use Rattle.dpl_rules.specs.Loops.{LoopWord, ForWord, ForallWord, CoforallWord, typed_variable, over_type, in_loop, behind}
 use Rattle.dpl_rules.specs.Breaches.{top}
 use Rattle.dpl_scopes.specs.Slots.{next_slot_in}
 use Rattle.dpl_memory.specs.Resolved.{Bound}
 use Rattle.dpl_typer.specs.Sights.{bound_in, bound_at}
-use Rattle.dpl_scalar.specs.Bodies.{loop_variable, of_variables, in_loop}
 
 -- a name that is declared here
 abbrev pub bound_new : Scopes → Declared → Bound
@@ -28,10 +28,26 @@ bound_declare ss d = record {
   semicolon = d.semicolon;
 }
 
--- LOOPS: over a range, of which each turn gives the variable an int
-abbrev pub bound_variables : Scopes → VariablesTree Text → VariablesTree Bound
-bound_variables ss (OneVariable x) = OneVariable (record { at = x.at; name = bound_new (enter ss) (loop_variable (enter ss) x.name) })
-bound_variables ss (ManyVariables from xs upto) = renamed_variables (bound_in (of_variables (ManyVariables from xs upto) ss)) (ManyVariables from xs upto)
+-- LOOPS: each variable is declared behind those before it, in the scope of the loop
+abbrev pub loop_variable : Option ValueType → Scopes → Text → Declared
+loop_variable t ss x = record { origin = origin_in ss x; sort = LoopVariable; type = t }
+
+abbrev pub bound_variable : Option ValueType → Scopes → Placed Text → Placed Bound
+bound_variable t ss x = record { at = x.at; name = bound_new ss (loop_variable t ss x.name) }
+
+abbrev pub bound_others : Option ValueType → Scopes → List (AfterComma (Placed Text)) → List (AfterComma (Placed Bound))
+bound_others t ss [] = []
+bound_others t ss (x ∷ xs) =
+    record { comma = x.comma; part = bound_variable t ss x.part } ∷ bound_others t (add (loop_variable t ss x.part.name) ss) xs
+
+abbrev pub bound_variables : Option ValueType → Scopes → VariablesTree Text → VariablesTree Bound
+bound_variables t ss (OneVariable x) = OneVariable (bound_variable t ss x)
+bound_variables t ss (ManyVariables from xs upto) =
+    ManyVariables from (record { first = bound_variable t ss xs.first; others = bound_others t (add (loop_variable t ss xs.first.name) ss) xs.others }) upto
+
+-- the type of each variable, by what the loop runs over
+abbrev pub loop_type : Scopes → LoopWord → VariablesTree Text → ItemTree Text → Option ValueType
+loop_type ss word xs item = typed_variable word xs (over_type ss item)
 
 -- STATEMENTS
 abbrev mutual
@@ -44,11 +60,13 @@ abbrev mutual
   bound_stmt ss (Block from body upto) = Block from (bound_stmts (enter ss) body) upto
   bound_stmt ss (If at e first second) = If at (renamed_expr (bound_in ss) e) (bound_body (enter ss) first) (bound_else ss second)
   bound_stmt ss (While at e body) = While at (renamed_expr (bound_in ss) e) (bound_body (enter ss) body)
-  bound_stmt ss (For at xs word item body) = For at (bound_variables ss xs) word (renamed_item (bound_in ss) item) (bound_body (in_loop xs ss) body)
+  bound_stmt ss (For at xs word item body) = For at (bound_variables (loop_type ss ForWord xs item) (enter ss) xs) word (renamed_item (bound_in ss) item) (bound_body (in_loop ss ForWord xs item) body)
   bound_stmt ss (Forall at xs word item intents body) =
-      Forall at (bound_variables ss xs) word (renamed_item (bound_in ss) item) (option_map (renamed_with (bound_in ss)) intents) (bound_body (in_loop xs ss) body)
+      Forall at (bound_variables (loop_type ss ForallWord xs item) (enter ss) xs) word (renamed_item (bound_in ss) item) (option_map (renamed_with (bound_in ss)) intents)
+      (bound_body (in_loop ss ForallWord xs item) body)
   bound_stmt ss (Coforall at xs word item intents body) =
-      Coforall at (bound_variables ss xs) word (renamed_item (bound_in ss) item) (option_map (renamed_with (bound_in ss)) intents) (bound_body (in_loop xs ss) body)
+      Coforall at (bound_variables (loop_type ss CoforallWord xs item) (enter ss) xs) word (renamed_item (bound_in ss) item) (option_map (renamed_with (bound_in ss)) intents)
+      (bound_body (in_loop ss CoforallWord xs item) body)
   bound_stmt ss (On at e body) = On at (renamed_expr (bound_in ss) e) (bound_body (enter ss) body)
 
   -- a body, in the scope that was opened for it

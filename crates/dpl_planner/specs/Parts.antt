@@ -1,39 +1,52 @@
 -- What is made of the parts of a statement: right sides, initial values, arguments, a loop's head.
 -- Each is the lowered tree of the part with its names resolved, and fits where they are in sight.
 use Rattle.std.specs.Borrow.{Bor}
-use Rattle.std.specs.Prelude.{◌≡◌, ◌<◌, ◌≤◌, ℕ, false, List, [], ◌∷◌, ◌++◌, map, option_map, Option, Some, None}
+use Rattle.std.specs.Prelude.{◌≡◌, ◌≤◌, ℕ, false, List, [], ◌∷◌, ◌++◌, map, option_map, Option, Some, None}
 use Rattle.dpl_syntax.specs.declared.place.Place.{Place}
-use Rattle.dpl_language.specs.Tree.{Op, Kind, ExprTree, ItemTree, One, TypedTree, TypeTree, ScalarType, SyncType, DomainType, ArrayType, InitTree, ItemInit, CreateInit, InitialTree, DeclareTree, Declare, ArgumentTree, IntentTree}
+use Rattle.dpl_language.specs.Tree.{Placed, Op, Assign, Kind, ExprTree, ItemTree, One, TypedTree, TypeTree, ScalarType, SyncType, DomainType, ArrayType, InitTree, ItemInit, CreateInit, InitialTree, DeclareTree, Whole, StmtTree, Declare, Assigned, ArgumentTree, IntentTree, VariablesTree, OneVariable, ManyVariables}
+use Rattle.dpl_language.specs.Arithmetic.{assign_divides}
 use Rattle.dpl_language.specs.Names.{Text}
 use Rattle.dpl_language.specs.Declarations.{type_of}
-use Rattle.dpl_language.specs.Renamed.{renamed_stmt, renamed_expr, renamed_item, renamed_typed, renamed_initial, renamed_argument}
+use Rattle.dpl_language.specs.Renamed.{renamed_stmt, renamed_expr, renamed_item, renamed_typed, renamed_initial, renamed_argument, renamed_variables}
 use Rattle.dpl_language.specs.Scopes.{PlainSort, sort_by, fits as fits_stmt, fits_type, side_by, fits_initial, suits_declared, fits_arguments}
+use Rattle.dpl_tree.specs.Words.{kind_view}
 use Rattle.dpl_tree.specs.declared.statement.NextArgument.{NextArgument}
 use Rattle.dpl_tree.specs.declared.statement.NextIntent.{NextIntent}
 use Rattle.dpl_tree.specs.Statements.{next_argument_view, next_intent_view}
-use Rattle.dpl_rules.specs.Types.{Scalar}
-use Rattle.dpl_rules.specs.Sights.{Scopes, add, enter}
-use Rattle.dpl_rules.specs.Loops.{behind}
+use Rattle.dpl_rules.specs.Types.{ValueType, Scalar}
+use Rattle.dpl_rules.specs.Sights.{Scopes, declared_here, origin_in, add, enter}
+use Rattle.dpl_rules.specs.Loops.{variables_of, add_variables, behind}
+use Rattle.dpl_rules.specs.Declarations.{type_given, declared_by}
 use Rattle.dpl_scopes.specs.Slots.{next_slot_in}
-use Rattle.dpl_rules.specs.Declarations.{declared_by}
-use Rattle.dpl_lowered.specs.Shapes.{nowhere}
+use Rattle.dpl_lowered.specs.Known.{may_be_whole}
+use Rattle.dpl_lowered.specs.Shapes.{nowhere, kept, placed}
 use Rattle.dpl_lowered.specs.LoweredExpressions.{Times, Once, lowered_expr, lowered_item}
-use Rattle.dpl_lowered.specs.LoweredStatements.{default_tree, written_initial, written_type, tells_name, declared_type, declared_initial, lowered_argument}
-use Rattle.dpl_memory.specs.Memory.{Variable, known_variable}
+use Rattle.dpl_lowered.specs.LoweredStatements.{default_tree, written_initial, written_type, tells_name, declared_type, declared_initial, lowered_argument, lowered_variables}
+use Rattle.dpl_words.specs.Words.{IntLeaf, TruthLeaf, RangeLeaf}
+use Rattle.dpl_memory.specs.Memory.{VariableKind, PlainKind, DomainKind, TupleKind, ArrayKind, Variable, variable, known_kind, known_variable}
 use Rattle.dpl_memory.specs.Resolved.{Bound, Seen, Start, text_of, variable_of, resolving}
-use Rattle.dpl_typer.specs.declared.make.Typed.{Typed}
 use Rattle.dpl_nodes.specs.declared.tree.BoolExpr.{BoolExpr}
-use Rattle.dpl_nodes.specs.Typed.{truth_view}
-use Rattle.dpl_nodes.specs.declared.step.Step.{Step}
 use Rattle.dpl_nodes.specs.declared.step.Argument.{Argument}
+use Rattle.dpl_nodes.specs.declared.step.Names.{Names}
+use Rattle.dpl_nodes.specs.declared.step.Names.TheVariants as names
+use Rattle.dpl_nodes.specs.declared.step.Step.{Step}
+use Rattle.dpl_nodes.specs.Typed.{truth_view}
+use Rattle.dpl_nodes.specs.Steps.{unplaced_leaf, dimensions, of_rank, argument_view, names_view, step_view}
+use Rattle.dpl_typer.specs.declared.make.Typed.{Typed}
+use Rattle.dpl_typer.specs.declared.make.Typed.TheVariants as typed
 use Rattle.dpl_typer.specs.Makers.{typed_item, kind_of, is_promoted}
-use Rattle.dpl_nodes.specs.Steps.{argument_view, step_view}
 use Rattle.dpl_typer.specs.Leaves.{value_kind, leaf_in, IsFound}
+use Rattle.dpl_typer.specs.Shapes.{shape_of, IsTaken}
 use Rattle.dpl_typer.specs.Simple.{IsSimple, IsSimpleItem}
 use Rattle.dpl_typer.specs.Sights.{bound_in, ArePlainScopes}
 use Rattle.dpl_planner.specs.declared.progress.Plan.{Plan}
-use Rattle.dpl_scalar.specs.Bodies.{loop_variable}
-use Rattle.dpl_planner.specs.Bounds.{bound_new, bound_stmt}
+use Rattle.dpl_planner.specs.declared.declaration.WrittenKind.{WrittenKind}
+use Rattle.dpl_planner.specs.declared.declaration.WrittenKind.TheVariants as kinds
+use Rattle.dpl_planner.specs.declared.declaration.Beginning.{Beginning}
+use Rattle.dpl_planner.specs.declared.declaration.Beginning.TheVariants as beginning
+use Rattle.dpl_planner.specs.declared.loops.Iterable.{Iterable}
+use Rattle.dpl_planner.specs.declared.loops.Iterable.TheVariants as over
+use Rattle.dpl_planner.specs.Bounds.{bound_new, loop_variable, bound_variables, bound_stmt}
 use Rattle.dpl_planner.specs.Given.{IsGiven}
 use Rattle.dpl_planner.specs.Plans.{seen_of, seen_in, Stands, stmt_leaves}
 
@@ -42,25 +55,79 @@ pub record IsItem (ss : Scopes) (i : ItemTree Text) (t : Typed) : Type 0 where
   pub node : (m : Times) → typed_item m t ≡ lowered_item known_variable m (renamed_item (leaf_in ss) i)
   pub found : IsSimpleItem (IsFound ss) i
 
--- DECLARATIONS: the type of a plain variable, or none that is written
-abbrev pub IsPlainType : Option (TypeTree Text) → Option Kind → Type 0
-IsPlainType None None = Unit {0}
-IsPlainType None (Some k) = ⊥
-IsPlainType (Some (ScalarType at l)) None = ⊥
-IsPlainType (Some (ScalarType at l)) (Some k) = l ≡ k
-IsPlainType (Some (SyncType at kind_at l)) k = ⊥
-IsPlainType (Some (DomainType d)) k = ⊥
-IsPlainType (Some (ArrayType a)) k = ⊥
+-- ASSIGNMENTS to a name, with its place where a fault tells it
+abbrev pub changed_to : Place → VariableKind → ℕ → Assign → Place → ItemTree Variable → StmtTree Variable
+changed_to at k slot op sign item =
+    Assigned (Whole (placed (may_be_whole (known_kind k)) (record { at = at; name = variable k slot })))
+    (record { at = kept (assign_divides op) sign; op = op; last = nowhere }) item nowhere
 
--- the default of a type
+-- of a range, a domain and a tuple, a name of a type may be given what the item gives; of numbers and truth values each may
+abbrev pub IsTakenBy : VariableKind → Scopes → ItemTree Text → ValueType → Type 0
+IsTakenBy (PlainKind IntLeaf) ss i t = Unit {0}
+IsTakenBy (PlainKind TruthLeaf) ss i t = Unit {0}
+IsTakenBy (PlainKind RangeLeaf) ss i t = IsTaken ss i t
+IsTakenBy DomainKind ss i t = IsTaken ss i t
+IsTakenBy TupleKind ss i t = IsTaken ss i t
+IsTakenBy (ArrayKind k) ss i t = Unit {0}
+
+abbrev pub IsTakenIn : VariableKind → Scopes → ItemTree Text → Option ValueType → Type 0
+IsTakenIn k ss i None = ⊥
+IsTakenIn k ss i (Some t) = IsTakenBy k ss i t
+
+-- DECLARATIONS: a type that is written, or none
+abbrev pub IsWrittenType : Option (TypeTree Text) → WrittenKind → Type 0
+IsWrittenType None kinds.Untyped = Unit {0}
+IsWrittenType None (kinds.Scalar k) = ⊥
+IsWrittenType None (kinds.Domain rank) = ⊥
+IsWrittenType (Some (ScalarType at l)) kinds.Untyped = ⊥
+IsWrittenType (Some (ScalarType at l)) (kinds.Scalar k) = l ≡ kind_view k
+IsWrittenType (Some (ScalarType at l)) (kinds.Domain rank) = ⊥
+IsWrittenType (Some (SyncType at kind_at l)) k = ⊥
+IsWrittenType (Some (DomainType d)) kinds.Untyped = ⊥
+IsWrittenType (Some (DomainType d)) (kinds.Scalar k) = ⊥
+IsWrittenType (Some (DomainType d)) (kinds.Domain rank) = (d.mapped ≡ None) × (d.rank ≡ dimensions rank)
+IsWrittenType (Some (ArrayType a)) k = ⊥
+
+-- what a variable begins with, as its kind and as the type and the initial value of its declaration
+abbrev pub begun_kind : Beginning → VariableKind
+begun_kind (beginning.Value t) = kind_of t
+begun_kind (beginning.Empty rank) = DomainKind
+
+abbrev pub begun_type : Beginning → Option (TypedTree Variable)
+begun_type (beginning.Value t) = None
+begun_type (beginning.Empty rank) = Some (written_type (of_rank rank))
+
+abbrev pub begun_value : Beginning → Option (InitialTree Variable)
+begun_value (beginning.Value t) = Some (written_initial nowhere (typed_item Once t))
+begun_value (beginning.Empty rank) = None
+
+abbrev pub begun_as : Option Place → Variable → Beginning → StmtTree Variable
+begun_as config x b = Declare (record {
+  config = config;
+  at = nowhere;
+  constant = false;
+  name = unplaced_leaf x;
+  typed = begun_type b;
+  initial = begun_value b;
+  semicolon = nowhere;
+})
+
+-- the default of a type: 0, false, or for a domain none
 abbrev pub IsDefault : Kind → Typed → Type 0
 IsDefault k t = (typed_item Once t ≡ One (default_tree k)) × (value_kind (Scalar k) ≡ Some (kind_of t))
 
--- an initial value without a map
-abbrev pub IsGivenInit : Scopes → InitTree Text → Typed → Type 0
-IsGivenInit ss (ItemInit i None) t = IsItem ss i t
-IsGivenInit ss (ItemInit i (Some m)) t = ⊥
-IsGivenInit ss (CreateInit c) t = ⊥
+abbrev pub BeginsByDefault : WrittenKind → Beginning → Type 0
+BeginsByDefault kinds.Untyped b = ⊥
+BeginsByDefault (kinds.Scalar k) (beginning.Value t) = IsDefault (kind_view k) t
+BeginsByDefault (kinds.Scalar k) (beginning.Empty rank) = ⊥
+BeginsByDefault (kinds.Domain rank) (beginning.Value t) = ⊥
+BeginsByDefault (kinds.Domain rank) (beginning.Empty other) = other ≡ rank
+
+-- an initial value without a map, which a name of the type may be given
+abbrev pub IsGivenInit : Scopes → InitTree Text → ValueType → Typed → Type 0
+IsGivenInit ss (ItemInit i None) t value = IsItem ss i value × IsTakenBy (kind_of value) ss i t
+IsGivenInit ss (ItemInit i (Some m)) t value = ⊥
+IsGivenInit ss (CreateInit c) t value = ⊥
 
 abbrev pub bound_typed : Scopes → Option (TypedTree Text) → Option (TypedTree Bound)
 bound_typed ss t = option_map (renamed_typed (bound_in ss)) t
@@ -68,23 +135,26 @@ bound_typed ss t = option_map (renamed_typed (bound_in ss)) t
 abbrev pub bound_initial : Scopes → Option (InitialTree Text) → Option (InitialTree Bound)
 bound_initial ss i = option_map (renamed_initial (bound_in ss)) i
 
--- such a type is spelled as it is, and goes where the initial value is written
+-- such a type is spelled as it is, and its name is a plain variable's
 pub record IsPlainTyped (ss : Scopes) (t : Option (TypedTree Text)) : Type 0 where
   pub spelled : option_map (renamed_typed text_of) (bound_typed ss t) ≡ t
   pub untold : tells_name (type_of (option_map (renamed_typed variable_of) (bound_typed ss t))) ≡ false
-  pub gone : (i : Option (InitialTree Variable)) → option_map written_type (declared_type known_variable (type_of (option_map (renamed_typed variable_of) (bound_typed ss t))) i) ≡ None
   pub sort : sort_by (type_of (bound_typed ss t)) ≡ PlainSort
   pub fits_here : (start : Start) (g : Seen) → fits_type (resolving start) (type_of (bound_typed ss t)) g
 
--- the initial value of a plain variable, which is written or the default of its type
-pub record IsInitial (ss : Scopes) (t : Option (TypedTree Text)) (i : Option (InitialTree Text)) (value : Typed) : Type 0 where
+-- What a variable of a declared type begins with: the initial value, which is written or the default of its type. The type goes
+-- where a value is written.
+pub record IsInitial (ss : Scopes) (t : Option (TypedTree Text)) (i : Option (InitialTree Text)) (declared : ValueType) (b : Beginning) : Type 0 where
   pub type : IsPlainTyped ss t
   pub text : option_map (renamed_initial text_of) (bound_initial ss i) ≡ i
-  pub node : declared_initial known_variable (type_of (option_map (renamed_typed variable_of) (bound_typed ss t))) (option_map (renamed_initial variable_of) (bound_initial ss i))
-      ≡ Some (written_initial nowhere (typed_item Once value))
+  pub typed : option_map written_type (declared_type known_variable (type_of (option_map (renamed_typed variable_of) (bound_typed ss t))) (option_map (renamed_initial variable_of) (bound_initial ss i)))
+      ≡ begun_type b
+  pub node : declared_initial known_variable (type_of (option_map (renamed_typed variable_of) (bound_typed ss t))) (option_map (renamed_initial variable_of) (bound_initial ss i)) ≡ begun_value b
   pub initial : (start : Start) (is : List (Bound × Op)) → ArePlainScopes ss
       → fits_initial (resolving start) (side_by (resolving start) (type_of (bound_typed ss t))) (bound_initial ss i) (seen_of ss is)
-  pub suits : (start : Start) (x : Bound) (g : Seen) → is_promoted (kind_of value) ≡ false → x.variable.kind ≡ kind_of value → suits_declared (resolving start) x (type_of (bound_typed ss t)) (bound_initial ss i) g
+  pub suits : (start : Start) (is : List (Bound × Op)) (x : Bound) → ArePlainScopes ss → is_promoted (begun_kind b) ≡ false → x.variable.kind ≡ begun_kind b → x.shape ≡ shape_of declared
+      → value_kind declared ≡ Some (begun_kind b) → type_given ss (origin_in ss x.text) (type_of t) i ≡ Some declared
+      → suits_declared (resolving start) x (type_of (bound_typed ss t)) (bound_initial ss i) (seen_of ss is)
 
 -- a `config const` is set alike by its text and by its slot
 abbrev pub IsOwedBy : Option Place → Start → Bound → Type 0
@@ -121,6 +191,48 @@ abbrev pub StillArguments : Scopes → List (ArgumentTree Text) → List (Argume
 StillArguments ss all left so_far = (more : List Argument) → AreArguments ss left more → AreArguments ss all (so_far ++ more)
 
 -- LOOPS AND CONDITIONS
+-- a loop's variables are ints, or one that is a tuple
+abbrev pub IsTurnKind : Option VariableKind → Type 0
+IsTurnKind None = ⊥
+IsTurnKind (Some (PlainKind IntLeaf)) = Unit {0}
+IsTurnKind (Some (PlainKind TruthLeaf)) = ⊥
+IsTurnKind (Some (PlainKind RangeLeaf)) = ⊥
+IsTurnKind (Some DomainKind) = ⊥
+IsTurnKind (Some TupleKind) = Unit {0}
+IsTurnKind (Some (ArrayKind k)) = ⊥
+
+abbrev pub AreTurnKinds : VariablesTree Text → Option VariableKind → Type 0
+AreTurnKinds (OneVariable x) o = IsTurnKind o
+AreTurnKinds (ManyVariables from xs upto) o = o ≡ Some (PlainKind IntLeaf)
+
+-- each is new in the scope, behind those before it
+abbrev pub AreFresh : Option ValueType → List (Placed Text) → Scopes → Type 0
+AreFresh t [] ss = Unit {0}
+AreFresh t (x ∷ xs) ss = (declared_here ss x.name ≡ false) × AreFresh t xs (add (loop_variable t ss x.name) ss)
+
+-- their slots, one behind the other
+abbrev pub slots_from : Option ValueType → List (Placed Text) → Scopes → List ℕ
+slots_from t [] ss = []
+slots_from t (x ∷ xs) ss = next_slot_in ss ∷ slots_from t xs (add (loop_variable t ss x.name) ss)
+
+-- variables that are declared one behind the other
+pub record AreDeclared (t : ValueType) (xs : List (Placed Text)) (old new : Plan) (made : List ℕ) : Type 0 where
+  pub scopes : new.scopes ≡ add_variables (Some t) xs old.scopes
+  pub places : made ≡ slots_from (Some t) xs old.scopes
+  pub fresh : AreFresh (Some t) xs old.scopes
+  pub below : next_slot_in old.scopes ≤ old.slots → next_slot_in new.scopes ≤ new.slots
+  pub slots : old.slots ≤ new.slots
+  pub intents : new.intents.items ≡ old.intents.items
+
+-- what is planned of those so far and of those that are left is planned of all
+abbrev pub StillDeclared : ValueType → List (Placed Text) → Plan → List (Placed Text) → Plan → List ℕ → Type 0
+StillDeclared t all old left now so_far =
+    (new : Plan) (more : List ℕ) → AreDeclared t left now new more → AreDeclared t all old new (so_far ++ more)
+
+abbrev pub over_typed : Iterable → Typed
+over_typed (over.Range r) = typed.Range r
+over_typed (over.Domain d) = typed.Domain d
+
 abbrev pub intents_among : List NextIntent → List (IntentTree Text)
 intents_among xs = map (λ x. x.part) (map next_intent_view xs)
 
@@ -128,10 +240,19 @@ pub record IsCondition (ss : Scopes) (e : ExprTree Text) (b : Bor BoolExpr) : Ty
   pub node : truth_view b.now ≡ lowered_expr known_variable Once (renamed_expr (leaf_in ss) e)
   pub found : IsSimple (IsFound ss) e
 
--- the scope of a loop's variable is open, and the variable has the next slot in it
-pub record IsOpened (old new : Plan) (x : Text) (slot : ℕ) : Type 0 where
-  pub scopes : new.scopes ≡ add (loop_variable (enter old.scopes) x) (enter old.scopes)
-  pub next : slot ≡ next_slot_in (enter old.scopes)
-  pub below : slot < new.slots
+-- over a range a loop has one variable, which is an int
+abbrev pub IsIntOver : Iterable → Names → Type 0
+IsIntOver (over.Range r) (names.Int slot) = Unit {0}
+IsIntOver (over.Range r) (names.Tuple slot) = ⊥
+IsIntOver (over.Range r) (names.Each first others) = ⊥
+IsIntOver (over.Domain d) n = Unit {0}
+
+-- the scope of a loop's variables is open, and each has the next slot in it
+pub record IsOpened (old new : Plan) (t : ValueType) (xs : VariablesTree Text) (names : Names) : Type 0 where
+  pub scopes : new.scopes ≡ add_variables (Some t) (variables_of xs) (enter old.scopes)
+  pub node : names_view names ≡ lowered_variables (renamed_variables variable_of (bound_variables (Some t) (enter old.scopes) xs))
+  pub kinds : AreTurnKinds xs (value_kind t)
+  pub fresh : AreFresh (Some t) (variables_of xs) (enter old.scopes)
+  pub below : next_slot_in new.scopes ≤ new.slots
   pub slots : old.slots ≤ new.slots
   pub intents : new.intents.items ≡ old.intents.items

@@ -10,7 +10,7 @@ use Rattle.dpl_rules.specs.Loops.{behind}
 use Rattle.dpl_rules.specs.Sound.{behind_all}
 use Rattle.dpl_lowered.specs.LoweredStatements.{lowered_stmt, lowered_stmts, lowered_body, lowered_else}
 use Rattle.dpl_memory.specs.Memory.{Variable, known_variable}
-use Rattle.dpl_memory.specs.Resolved.{Bound, Seen, Start, text_of, variable_of, resolving}
+use Rattle.dpl_memory.specs.Resolved.{no_shape, Bound, Seen, Start, text_of, variable_of, resolving}
 use Rattle.dpl_nodes.specs.declared.step.Step.{Step}
 use Rattle.dpl_nodes.specs.declared.step.Else.{Else as ElseNode}
 use Rattle.dpl_nodes.specs.Steps.{listed, intent_view, step_view, else_view, steps_of}
@@ -22,7 +22,7 @@ use Rattle.dpl_planner.specs.Bounds.{bound_stmt, bound_stmts, bound_body, bound_
 
 -- WHAT A PLAN HAS IN SIGHT
 abbrev pub reducing_view : Reducing → Bound × Op
-reducing_view r = (record { text = r.name.now; variable = (intent_view r.intent).0 }, (intent_view r.intent).1)
+reducing_view r = (record { text = r.name.now; variable = (intent_view r.intent).0; shape = no_shape }, (intent_view r.intent).1)
 
 abbrev pub seen_of : Scopes → List (Bound × Op) → Seen
 seen_of ss is = record { frames = sight_of ss; intents = is }

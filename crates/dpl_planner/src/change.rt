@@ -1,4 +1,4 @@
-// Assignments: each to a plain variable in sight, with an operator that takes its kind.
+// Assignments: each to a variable in sight, with an operator that takes its kind.
 // `reduce=` is by the operator of the forall around, which the name and its slot tell alike.
 
 ghost use Rattle.std.specs.Prelude.{◌≡◌, ◌≢◌, true, false, OnOk, IfOk, Err, Some, map, option_map};
@@ -9,12 +9,13 @@ ghost use Rattle.dpl_language.specs.Renamed.{renamed_intents};
 ghost use Rattle.dpl_tree.specs.Words.{assign_view, op_view};
 ghost use Rattle.dpl_tree.specs.View.{name_view, item_view};
 ghost use Rattle.dpl_tree.specs.Statements.{target_view, sign_view};
+ghost use Rattle.dpl_rules.specs.Types.{ValueType as ValueTypeTree, range_of};
 ghost use Rattle.dpl_types.specs.View.{type_view, of_type};
 ghost use Rattle.dpl_scopes.specs.Slots.{slot_in};
 ghost use Rattle.dpl_lowered.specs.Shapes.{kept};
 ghost use Rattle.dpl_lowered.specs.LoweredExpressions.{Once};
-ghost use Rattle.dpl_words.specs.Words.{LeafKind, TruthLeaf, RangeLeaf, intent_at, takes, is_logical as is_logical_of};
-ghost use Rattle.dpl_memory.specs.Memory.{PlainKind, variable, int_leaf, truth_leaf, range_leaf, intents_by_slot};
+ghost use Rattle.dpl_words.specs.Words.{TruthLeaf, intent_at, takes, is_logical as is_logical_of};
+ghost use Rattle.dpl_memory.specs.Memory.{DomainKind, variable, int_leaf, truth_leaf, intents_by_slot};
 ghost use Rattle.dpl_memory.specs.Resolved.{text_of, variable_of, kind_takes, KindCombines, IntentResolves};
 ghost use Rattle.dpl_nodes.specs.Faults.{IsNear};
 ghost use Rattle.dpl_typer.specs.Makers.{kind_of, typed_item};
@@ -22,27 +23,121 @@ ghost use Rattle.dpl_nodes.specs.declared.make.Stop.TheVariants as stop;
 ghost use Rattle.dpl_typer.specs.declared.make.Typed.TheVariants as typed;
 ghost use Rattle.dpl_nodes.specs.Steps.{step_view, assigned_to as assigns};
 ghost use Rattle.dpl_typer.specs.Leaves.{value_kind, type_in, kind_in};
-ghost use Rattle.dpl_scalar.specs.Scalar.{AreToldAlike, IsReducedBy, IsScalarStmt};
+ghost use Rattle.dpl_typer.specs.Shapes.{takes_shape as takes_shape_of, IsTaken};
+ghost use Rattle.dpl_runnable.specs.Kinds.{IsDeclaredKind, IsAssignedKind};
+ghost use Rattle.dpl_runnable.specs.Runnable.{AreToldAlike, IsReducedBy, IsRunnableStmt};
+ghost use Rattle.dpl_planner.specs.Parts.{IsTakenBy, IsTakenIn, changed_to};
 ghost use Rattle.dpl_planner.specs.Plans.{reducing_view, intents_in, seen_in, PlansStmt};
 
-use crate::progress::{Plan, Reducing, spot};
-use dpl_nodes::{BoolExpr, IntExpr, RangeExpr, Step, Stop, TruthDeed};
+use crate::progress::{Plan, Reducing, node, spot};
+use dpl_nodes::step::DomainName;
+use dpl_nodes::{BoolExpr, DomainExpr, IntExpr, Step, Stop, TruthDeed};
 use dpl_scopes::Scopes;
 use dpl_syntax::Place;
 use dpl_tree::{Arena, Assign, AssignSign, Assignment, Item, Name, Op, ScalarKind, Target};
 use dpl_typer::{Typed, item};
 use dpl_types::ValueType;
+use dpl_typing::expression::item as item_type;
 
-/// Whether a plain variable of a type holds the values of an expression.
+/// Whether a variable of a type holds the values of an expression.
 pub(crate) fn holds(t: ValueType<'_>, value: Typed<'_>) -> bool
     ensures yes { (result ≡ true) → value_kind (type_view t.entry) ≡ Some (kind_of value.entry) }
-    ensures no { (result ≡ false) → (k : LeafKind) → (kind_of value.entry ≡ PlainKind k) → value_kind (type_view t.entry) ≢ Some (PlainKind k) }
+    ensures no { (result ≡ false) → IsDeclaredKind (kind_of value.entry) → value_kind (type_view t.entry) ≢ Some (kind_of value.entry) }
 {
     match value {
         Typed::Int(_) => matches!(t, ValueType::Scalar(ScalarKind::Int)),
         Typed::Truth(_) => matches!(t, ValueType::Scalar(ScalarKind::Bool)),
         Typed::Range(_) => matches!(t, ValueType::Range { .. }),
-        Typed::Domain(_) | Typed::Tuple(_) | Typed::Ints(_) | Typed::Truths(_) => false,
+        Typed::Domain(_) => is_domain(t),
+        Typed::Tuple(_) | Typed::Ints(_) | Typed::Truths(_) => false,
+    }
+}
+
+/// Whether a type is that of domains of 1 to 3 dimensions.
+pub(crate) fn is_domain(t: ValueType<'_>) -> bool
+    ensures yes { (result ≡ true) → value_kind (type_view t.entry) ≡ Some DomainKind }
+    ensures no { (result ≡ false) → value_kind (type_view t.entry) ≢ Some DomainKind }
+{
+    match t {
+        ValueType::Domain { rank, .. } => rank > 0 && rank < 4,
+        ValueType::Scalar(_)
+        | ValueType::Range { .. }
+        | ValueType::Array(_, _)
+        | ValueType::Promoted(_, _)
+        | ValueType::Tuple(_)
+        | ValueType::Locale
+        | ValueType::AllLocales
+        | ValueType::Cell(_) => false,
+    }
+}
+
+// Whether the text strides a range, where something is one.
+fn strides(t: ValueType<'_>) -> Option<bool>
+    ensures { result ≡ range_of (type_view t.entry) }
+{
+    match t {
+        ValueType::Range { strided } => Some(strided),
+        ValueType::Domain { .. }
+        | ValueType::Scalar(_)
+        | ValueType::Array(_, _)
+        | ValueType::Promoted(_, _)
+        | ValueType::Tuple(_)
+        | ValueType::Locale
+        | ValueType::AllLocales
+        | ValueType::Cell(_) => None,
+    }
+}
+
+// Whether a name of a type may be given a value of another.
+fn takes_shape(t: ValueType<'_>, given: ValueType<'_>) -> bool
+    ensures { result ≡ takes_shape_of (type_view t.entry) (type_view given.entry) }
+{
+    match t {
+        ValueType::Scalar(_) | ValueType::Array(_, _) => true,
+        ValueType::Range { strided } => match strides(given) {
+            Some(other) => strided || !other,
+            None => false,
+        },
+        ValueType::Domain { rank, strided } => match given.domain() {
+            Some((other_rank, other)) => other_rank == rank && (strided || !other),
+            None => false,
+        },
+        ValueType::Promoted(_, _)
+        | ValueType::Tuple(_)
+        | ValueType::Locale
+        | ValueType::AllLocales
+        | ValueType::Cell(_) => false,
+    }
+}
+
+/// A range, a domain and a tuple are of a shape that a name of a type takes: as many dimensions, and strided only where they may be.
+///
+/// # Errors
+/// Out of memory; another shape.
+pub(crate) fn shaped(
+    arena: Arena<'_>,
+    scopes: &Scopes<'_>,
+    t: ValueType<'_>,
+    written: &Item<'_>,
+    value: Typed<'_>,
+) -> Result<(), Stop>
+    ensures taken { OnOk result (IsTakenBy (kind_of value.entry) scopes.now (item_view written.now) (type_view t.entry)) }
+    ensures ill_typed { (result ≡ Err stop.IllTyped) → IsTaken scopes.now (item_view written.now) (type_view t.entry) → ⊥ }
+{
+    match value {
+        Typed::Int(_) | Typed::Truth(_) | Typed::Ints(_) | Typed::Truths(_) => Ok(()),
+        Typed::Range(_) | Typed::Domain(_) | Typed::Tuple(_) => {
+            let mut first = None;
+            match item_type(arena.alloc(), scopes, written, &mut first) {
+                Ok(Some(given)) => if takes_shape(t, given) {
+                    Ok(())
+                } else {
+                    Err(Stop::IllTyped)
+                },
+                Ok(None) => Err(Stop::IllTyped),
+                Err(_) => Err(Stop::Memory),
+            }
+        }
     }
 }
 
@@ -60,7 +155,7 @@ pub(crate) fn declared_type<'s>(scopes: &Scopes<'s>, name: &[u8]) -> Option<Valu
 fn variable(scopes: &Scopes<'_>, name: &[u8], value: Typed<'_>) -> Result<usize, Stop>
     ensures kind { IfOk result (λ slot. kind_in scopes.now name.now ≡ Some (kind_of value.entry)) }
     ensures slot { IfOk result (λ slot. slot_in scopes.now name.now ≡ Some slot) }
-    ensures ill_typed { (result ≡ Err stop.IllTyped) → (k : LeafKind) → (kind_of value.entry ≡ PlainKind k) → kind_in scopes.now name.now ≢ Some (PlainKind k) }
+    ensures ill_typed { (result ≡ Err stop.IllTyped) → IsDeclaredKind (kind_of value.entry) → kind_in scopes.now name.now ≢ Some (kind_of value.entry) }
 {
     let Some(t) = declared_type(scopes, name) else {
         return Err(Stop::IllTyped);
@@ -70,6 +165,17 @@ fn variable(scopes: &Scopes<'_>, name: &[u8], value: Typed<'_>) -> Result<usize,
     }
     match scopes.slot(name) {
         Some(slot) => Ok(slot),
+        None => Err(Stop::IllTyped),
+    }
+}
+
+// What a name in sight is given is of its shape.
+fn taken(plan: &Plan<'_, '_>, name: &[u8], written: &Item<'_>, value: Typed<'_>) -> Result<(), Stop>
+    ensures taken { OnOk result (IsTakenIn (kind_of value.entry) plan.now.scopes (item_view written.now) (type_in plan.now.scopes name.now)) }
+    ensures ill_typed { (result ≡ Err stop.IllTyped) → (t : ValueTypeTree) → (type_in plan.now.scopes name.now ≡ Some t) → IsTaken plan.now.scopes (item_view written.now) t → ⊥ }
+{
+    match declared_type(&plan.scopes, name) {
+        Some(t) => shaped(plan.arena, &plan.scopes, t, written, value),
         None => Err(Stop::IllTyped),
     }
 }
@@ -112,13 +218,28 @@ fn of_truth<'t>(sign: AssignSign, slot: usize, e: &'t BoolExpr<'t>) -> Result<St
     }
 }
 
-// What a range is assigned: by `=` alone.
-fn of_range<'t>(sign: AssignSign, slot: usize, e: &'t RangeExpr<'t>) -> Result<Step<'t>, Stop>
-    ensures node { IfOk result (λ s. step_view s ≡ assigns (range_leaf slot) (assign_view sign.op) (kept (assign_divides (assign_view sign.op)) sign.at) (typed_item Once (typed.Range e.entry))) }
-    ensures takes { IfOk result (λ s. takes RangeLeaf (assign_view sign.op) ≡ true) }
+// What a domain is assigned: by `=` alone. No array in sight is declared over it.
+fn of_domain<'t>(
+    arena: Arena<'t>,
+    at: Place,
+    sign: AssignSign,
+    slot: usize,
+    e: &'t DomainExpr<'t>,
+) -> Result<Step<'t>, Stop>
+    ensures node { IfOk result (λ s. step_view s ≡ changed_to at DomainKind slot (assign_view sign.op) sign.at (typed_item Once (typed.Domain e.entry))) }
+    ensures takes { IfOk result (λ s. kind_takes DomainKind (assign_view sign.op) ≡ true) }
+    ensures ill_typed { (result ≡ Err stop.IllTyped) → kind_takes DomainKind (assign_view sign.op) ≡ true → IsNear at → ⊥ }
 {
     match sign.op {
-        Assign::Set => Ok(Step::SetRange(slot, e)),
+        Assign::Set => {
+            let at = spot(arena, at)?;
+            let name = DomainName {
+                at,
+                slot,
+                arrays: &[],
+            };
+            Ok(Step::SetDomain(node(arena, name)?, e))
+        }
         Assign::SetAdd
         | Assign::SetSubtract
         | Assign::SetMultiply
@@ -128,23 +249,24 @@ fn of_range<'t>(sign: AssignSign, slot: usize, e: &'t RangeExpr<'t>) -> Result<S
     }
 }
 
-// A plain variable that is assigned a value of its kind.
+// A variable that is assigned a value of its kind.
 fn change<'t>(
     arena: Arena<'t>,
+    at: Place,
     sign: AssignSign,
     slot: usize,
     value: Typed<'t>,
 ) -> Result<Step<'t>, Stop>
-    ensures node { IfOk result (λ s. step_view s ≡ assigns (variable (kind_of value.entry) slot) (assign_view sign.op) (kept (assign_divides (assign_view sign.op)) sign.at) (typed_item Once value.entry)) }
+    ensures node { IfOk result (λ s. step_view s ≡ changed_to at (kind_of value.entry) slot (assign_view sign.op) sign.at (typed_item Once value.entry)) }
     ensures takes { IfOk result (λ s. kind_takes (kind_of value.entry) (assign_view sign.op) ≡ true) }
-    ensures plain { IfOk result (λ s. (k : LeafKind) × (kind_of value.entry ≡ PlainKind k)) }
-    ensures ill_typed { (result ≡ Err stop.IllTyped) → (k : LeafKind) → (kind_of value.entry ≡ PlainKind k) → (k ≢ RangeLeaf) → takes k (assign_view sign.op) ≡ true → IsNear sign.at → ⊥ }
+    ensures kind { IfOk result (λ s. IsAssignedKind (kind_of value.entry)) }
+    ensures ill_typed { (result ≡ Err stop.IllTyped) → IsAssignedKind (kind_of value.entry) → kind_takes (kind_of value.entry) (assign_view sign.op) ≡ true → IsNear sign.at → IsNear at → ⊥ }
 {
     match value {
         Typed::Int(e) => of_int(arena, sign, slot, e),
         Typed::Truth(e) => of_truth(sign, slot, e),
-        Typed::Range(e) => of_range(sign, slot, e),
-        Typed::Domain(_) | Typed::Tuple(_) | Typed::Ints(_) | Typed::Truths(_) => {
+        Typed::Domain(e) => of_domain(arena, at, sign, slot, e),
+        Typed::Range(_) | Typed::Tuple(_) | Typed::Ints(_) | Typed::Truths(_) => {
             Err(Stop::IllTyped)
         }
     }
@@ -204,8 +326,8 @@ fn intent_resolves(
     slot: usize,
     value: Typed<'_>,
 ) -> Result<(), Stop>
-    ensures resolves { OnOk result (IntentResolves (assign_view op) (record { text = name.now; variable = variable (kind_of value.entry) slot }) (seen_in plan.now)) }
-    ensures ill_typed { (result ≡ Err stop.IllTyped) → slot_in plan.now.scopes name.now ≡ Some slot → (k : LeafKind) → (kind_of value.entry ≡ PlainKind k) → IsReducedBy plan.now.scopes (intents_in plan.now) name.now (assign_view op) k → ⊥ }
+    ensures resolves { OnOk result (IntentResolves (assign_view op) name.now (variable (kind_of value.entry) slot) (seen_in plan.now)) }
+    ensures ill_typed { (result ≡ Err stop.IllTyped) → slot_in plan.now.scopes name.now ≡ Some slot → IsReducedBy plan.now.scopes (intents_in plan.now) name.now (assign_view op) (kind_of value.entry) → ⊥ }
 {
     match op {
         Assign::Set
@@ -234,21 +356,22 @@ fn assigned_to<'t>(
     semicolon: Place,
 ) -> Result<Step<'t>, Stop>
     ensures plans { IfOk result (λ step. PlansStmt plan.now plan.now (AssignedTree (Whole (name_view name.now)) (sign_view sign) (item_view value.now) semicolon) step) }
-    ensures ill_typed { (result ≡ Err stop.IllTyped) → IsScalarStmt plan.now.scopes (intents_in plan.now) (AssignedTree (Whole (name_view name.now)) (sign_view sign) (item_view value.now) semicolon) → ⊥ }
+    ensures ill_typed { (result ≡ Err stop.IllTyped) → IsRunnableStmt plan.now.scopes (intents_in plan.now) (AssignedTree (Whole (name_view name.now)) (sign_view sign) (item_view value.now) semicolon) → ⊥ }
 {
     let made = item(plan.arena, &plan.scopes, value)?;
     let slot = variable(&plan.scopes, name.text, made)?;
+    taken(plan, name.text, value, made)?;
     intent_resolves(plan, sign.op, name.text, slot, made)?;
-    change(plan.arena, sign, slot, made)
+    change(plan.arena, name.at, sign, slot, made)
 }
 
 /// An assignment.
 ///
 /// # Errors
-/// Out of memory; what isn't a plain variable in sight, or doesn't take the value.
+/// Out of memory; what isn't a variable in sight, or doesn't take the value.
 pub(crate) fn assigned<'t>(plan: &Plan<'_, 't>, written: &Assignment<'_>) -> Result<Step<'t>, Stop>
     ensures plans { IfOk result (λ step. PlansStmt plan.now plan.now (AssignedTree (target_view written.now.target) (sign_view written.now.sign) (item_view written.now.value) written.now.semicolon) step) }
-    ensures ill_typed { (result ≡ Err stop.IllTyped) → IsScalarStmt plan.now.scopes (intents_in plan.now) (AssignedTree (target_view written.now.target) (sign_view written.now.sign) (item_view written.now.value) written.now.semicolon) → ⊥ }
+    ensures ill_typed { (result ≡ Err stop.IllTyped) → IsRunnableStmt plan.now.scopes (intents_in plan.now) (AssignedTree (target_view written.now.target) (sign_view written.now.sign) (item_view written.now.value) written.now.semicolon) → ⊥ }
 {
     match &written.target {
         Target::Whole(name) => assigned_to(

@@ -1,33 +1,56 @@
-// Declarations of plain variables: what each is declared as, its slot, and its initial value, which is written or its type's.
-// The type is the one that the check gives the name; a value of another kind is refused.
+// Declarations of variables: what each is declared as, its slot, and what it begins with: a value that is written, or its type's.
+// The type is the one that the check gives the name; a value of another kind or another shape is refused.
 
-ghost use Rattle.std.specs.Prelude.{◌≡◌, ◌≢◌, IfOk, Err, option_map};
+ghost use Rattle.std.specs.Prelude.{◌≡◌, ◌≢◌, nat_le, ◌&&◌, true, false, IfOk, Err, Some, None};
 ghost use Rattle.dpl_language.specs.Tree.{Declare as DeclareTree};
 ghost use Rattle.dpl_language.specs.Declarations.{type_of};
 ghost use Rattle.dpl_tree.specs.Words.{kind_view};
-ghost use Rattle.dpl_tree.specs.Declarations.{optional, typed_view as written_type_view, init_view, initial_view, declare_view};
+ghost use Rattle.dpl_tree.specs.Declarations.{optional, typed_view as written_type_view, init_view, initial_view, domain_type_view, declare_view};
 ghost use Rattle.dpl_rules.specs.Declarations.{declared_by};
+ghost use Rattle.dpl_types.specs.View.{type_view};
+ghost use Rattle.dpl_lowered.specs.Shapes.{nowhere};
 ghost use Rattle.dpl_lowered.specs.LoweredStatements.{unplaced_word};
 ghost use Rattle.dpl_scopes.specs.View.{declared_view};
-ghost use Rattle.dpl_lowered.specs.LoweredExpressions.{Once};
-ghost use Rattle.dpl_words.specs.Words.{LeafKind};
-ghost use Rattle.dpl_memory.specs.Memory.{PlainKind, variable};
+ghost use Rattle.dpl_memory.specs.Memory.{VariableKind, variable};
 ghost use Rattle.dpl_nodes.specs.declared.make.Stop.TheVariants as stop;
-ghost use Rattle.dpl_typer.specs.Makers.{kind_of, typed_item};
-ghost use Rattle.dpl_nodes.specs.Steps.{step_view, declared_as};
-ghost use Rattle.dpl_planner.specs.Parts.{IsPlainType, IsDefault, IsGivenInit, IsInitial, PlansDeclare};
-ghost use Rattle.dpl_scalar.specs.Scalar.{IsScalarType, IsInitOf, IsInitialOf, IsConfigOf, IsScalarDeclare, IsScalarStmt};
+ghost use Rattle.dpl_nodes.specs.Steps.{step_view, dimensions};
+ghost use Rattle.dpl_typer.specs.Makers.{kind_of};
+ghost use Rattle.dpl_typer.specs.Leaves.{value_kind};
+ghost use Rattle.dpl_planner.specs.declared.declaration.Beginning.TheVariants as beginning;
+ghost use Rattle.dpl_planner.specs.Given.{IsOfLeaf};
+ghost use Rattle.dpl_planner.specs.Parts.{IsWrittenType, IsDefault, BeginsByDefault, IsGivenInit, begun_kind, begun_as, IsInitial, PlansDeclare};
+ghost use Rattle.dpl_runnable.specs.Kinds.{IsScalarKind, IsDeclaredKind};
+ghost use Rattle.dpl_runnable.specs.Runnable.{IsRunnableType, IsInitOf, IsShapedInit, IsInitialOf, IsShapedInitial, IsConfigOf, IsRunnableDeclare, IsRunnableStmt};
 ghost use Rattle.dpl_planner.specs.Plans.{intents_in, PlansStmt};
 
-use crate::change::holds;
+use crate::change::{holds, is_domain, shaped};
 use crate::progress::Plan;
 use dpl_forms::declaration::declaration;
+use dpl_nodes::step::Rank;
 use dpl_nodes::{Step, Stop, TruthDeed};
 use dpl_scopes::{Declared, Scopes};
 use dpl_syntax::Place;
-use dpl_tree::{Arena, Declare, DeclaredType, Init, Initial, ScalarKind, Typed as WrittenType};
+use dpl_tree::{
+    Arena, Declare, DeclaredType, DomainType, Init, Initial, ScalarKind, Typed as WrittenType,
+};
 use dpl_typer::leaves::{number, truth_word};
 use dpl_typer::{Typed, item};
+use dpl_types::ValueType;
+
+/// The type that is written: none, `int` or `bool`, or `domain` with a rank.
+#[derive(Clone, Copy)]
+pub(crate) enum WrittenKind {
+    Untyped,
+    Scalar(ScalarKind),
+    Domain(Rank),
+}
+
+/// What a variable begins with: a value, or for a domain variable without one no index, in as many dimensions as its rank.
+#[derive(Clone, Copy)]
+pub(crate) enum Beginning<'t> {
+    Value(Typed<'t>),
+    Empty(Rank),
+}
 
 // The declaration, as the check has it.
 fn declared<'s>(plan: &Plan<'s, '_>, written: &Declare<'s>) -> Result<Declared<'s>, Stop>
@@ -41,23 +64,39 @@ fn declared<'s>(plan: &Plan<'s, '_>, written: &Declare<'s>) -> Result<Declared<'
     }
 }
 
-// The type of a plain variable, or none that is written.
-fn plain_type(written: &Option<WrittenType<'_>>) -> Result<Option<ScalarKind>, Stop>
-    ensures plain { IfOk result (λ k. IsPlainType (type_of (optional written_type_view written.now)) (option_map kind_view k)) }
-    ensures ill_typed { (result ≡ Err stop.IllTyped) → IsScalarType (type_of (optional written_type_view written.now)) → ⊥ }
+// The rank of a domain type.
+fn rank_of(written: &DomainType<'_>) -> Result<Rank, Stop>
+    ensures rank { IfOk result (λ r. (domain_type_view written.now).rank ≡ dimensions r) }
+    ensures ill_typed { (result ≡ Err stop.IllTyped) → (nat_le 1 (domain_type_view written.now).rank && nat_le (domain_type_view written.now).rank 3) ≡ true → ⊥ }
+{
+    match written.rank {
+        1 => Ok(Rank::Line),
+        2 => Ok(Rank::Plane),
+        3 => Ok(Rank::Space),
+        _ => Err(Stop::IllTyped),
+    }
+}
+
+// The type of a variable, or none that is written.
+fn written_kind(written: &Option<WrittenType<'_>>) -> Result<WrittenKind, Stop>
+    ensures written { IfOk result (λ k. IsWrittenType (type_of (optional written_type_view written.now)) k) }
+    ensures ill_typed { (result ≡ Err stop.IllTyped) → IsRunnableType (type_of (optional written_type_view written.now)) → ⊥ }
 {
     match written {
-        None => Ok(None),
-        Some(typed) => match typed.declared {
-            DeclaredType::Scalar(_, kind) => Ok(Some(kind)),
+        None => Ok(WrittenKind::Untyped),
+        Some(typed) => match &typed.declared {
+            DeclaredType::Scalar(_, kind) => Ok(WrittenKind::Scalar(*kind)),
             DeclaredType::Sync(_, _, _) => Err(Stop::IllTyped),
-            DeclaredType::Domain(_) => Err(Stop::IllTyped),
+            DeclaredType::Domain(domain) => match domain.mapped {
+                None => Ok(WrittenKind::Domain(rank_of(domain)?)),
+                Some(_) => Err(Stop::IllTyped),
+            },
             DeclaredType::Array(_) => Err(Stop::IllTyped),
         },
     }
 }
 
-// What a plain variable has where no value is written.
+// What an int and a truth value are where no value is written.
 fn default<'t>(arena: Arena<'t>, kind: ScalarKind) -> Result<Typed<'t>, Stop>
     ensures default { IfOk result (λ t. IsDefault (kind_view kind) t) }
     ensures ill_typed { result ≢ Err stop.IllTyped }
@@ -68,82 +107,153 @@ fn default<'t>(arena: Arena<'t>, kind: ScalarKind) -> Result<Typed<'t>, Stop>
     }
 }
 
+// What a variable of a written type begins with where no value is written.
+fn by_default<'t>(arena: Arena<'t>, kind: WrittenKind) -> Result<Beginning<'t>, Stop>
+    ensures default { IfOk result (λ b. BeginsByDefault kind b) }
+    ensures ill_typed { (result ≡ Err stop.IllTyped) → IsWrittenType None kind }
+{
+    match kind {
+        WrittenKind::Untyped => Err(Stop::IllTyped),
+        WrittenKind::Scalar(kind) => Ok(Beginning::Value(default(arena, kind)?)),
+        WrittenKind::Domain(rank) => Ok(Beginning::Empty(rank)),
+    }
+}
+
 // The initial value that is written.
-fn given<'t>(arena: Arena<'t>, scopes: &Scopes<'_>, written: &Init<'_>) -> Result<Typed<'t>, Stop>
-    ensures given { IfOk result (λ t. IsGivenInit scopes.now (init_view written.now) t) }
-    ensures kind { IfOk result (λ t. (k : LeafKind) → IsInitOf scopes.now (init_view written.now) k → kind_of t ≡ PlainKind k) }
-    ensures ill_typed { (result ≡ Err stop.IllTyped) → (k : LeafKind) → IsInitOf scopes.now (init_view written.now) k → ⊥ }
+fn given<'t>(
+    arena: Arena<'t>,
+    scopes: &Scopes<'_>,
+    declared: ValueType<'_>,
+    written: &Init<'_>,
+) -> Result<Typed<'t>, Stop>
+    ensures given { IfOk result (λ t. IsGivenInit scopes.now (init_view written.now) (type_view declared.entry) t) }
+    ensures kind { IfOk result (λ t. (k : VariableKind) → IsInitOf scopes.now (init_view written.now) k → kind_of t ≡ k) }
+    ensures ill_typed { (result ≡ Err stop.IllTyped) → (k : VariableKind) → IsInitOf scopes.now (init_view written.now) k → IsShapedInit scopes.now (init_view written.now) (type_view declared.entry) → ⊥ }
 {
     match written {
-        Init::Item(value, None) => item(arena, scopes, value),
+        Init::Item(written, None) => {
+            let value = item(arena, scopes, written)?;
+            shaped(arena, scopes, declared, written, value)?;
+            Ok(value)
+        }
         Init::Item(_, Some(_)) => Err(Stop::IllTyped),
         Init::Create(_) => Err(Stop::IllTyped),
     }
 }
 
-// The initial value.
+// What a variable of a declared type begins with.
 fn initial<'t>(
     arena: Arena<'t>,
     scopes: &Scopes<'_>,
+    declared: ValueType<'_>,
     typed: &Option<WrittenType<'_>>,
     written: &Option<Initial<'_>>,
-) -> Result<Typed<'t>, Stop>
-    ensures initial { IfOk result (λ t. IsInitial scopes.now (optional written_type_view typed.now) (optional initial_view written.now) t) }
-    ensures kind { IfOk result (λ t. (k : LeafKind) → IsInitialOf scopes.now (type_of (optional written_type_view typed.now)) (optional initial_view written.now) k → kind_of t ≡ PlainKind k) }
-    ensures ill_typed { (result ≡ Err stop.IllTyped) → (k : LeafKind) → IsScalarType (type_of (optional written_type_view typed.now))
-        → IsInitialOf scopes.now (type_of (optional written_type_view typed.now)) (optional initial_view written.now) k → ⊥ }
+) -> Result<Beginning<'t>, Stop>
+    ensures initial { IfOk result (λ b. IsInitial scopes.now (optional written_type_view typed.now) (optional initial_view written.now) (type_view declared.entry) b) }
+    ensures kind { IfOk result (λ b. (k : VariableKind) → IsInitialOf scopes.now (type_of (optional written_type_view typed.now)) (optional initial_view written.now) k → begun_kind b ≡ k) }
+    ensures ill_typed { (result ≡ Err stop.IllTyped) → (k : VariableKind) → IsRunnableType (type_of (optional written_type_view typed.now))
+        → IsInitialOf scopes.now (type_of (optional written_type_view typed.now)) (optional initial_view written.now) k
+        → IsShapedInitial scopes.now (optional initial_view written.now) (type_view declared.entry) → ⊥ }
 {
-    let kind = plain_type(typed)?;
+    let kind = written_kind(typed)?;
     match written {
-        Some(initial) => given(arena, scopes, &initial.init),
-        None => match kind {
-            Some(kind) => default(arena, kind),
-            None => Err(Stop::IllTyped),
-        },
+        Some(initial) => {
+            let value = given(arena, scopes, declared, &initial.init)?;
+            Ok(Beginning::Value(value))
+        }
+        None => by_default(arena, kind),
     }
 }
 
-// The statement: a `config const` is an int or a truth value.
-fn declares<'t>(config: Option<Place>, slot: usize, value: Typed<'t>) -> Result<Step<'t>, Stop>
-    ensures node { IfOk result (λ s. step_view s ≡ declared_as (unplaced_word config) (variable (kind_of value.entry) slot) (typed_item Once value.entry)) }
-    ensures plain { IfOk result (λ s. (k : LeafKind) × (kind_of value.entry ≡ PlainKind k)) }
-    ensures ill_typed { (result ≡ Err stop.IllTyped) → (k : LeafKind) → (kind_of value.entry ≡ PlainKind k) → IsConfigOf config k → ⊥ }
+// Whether a variable of a type holds what it begins with.
+fn begins(t: ValueType<'_>, begun: Beginning<'_>) -> bool
+    ensures yes { (result ≡ true) → value_kind (type_view t.entry) ≡ Some (begun_kind begun.entry) }
+    ensures no { (result ≡ false) → IsDeclaredKind (begun_kind begun.entry) → value_kind (type_view t.entry) ≢ Some (begun_kind begun.entry) }
 {
-    match (config, value) {
-        (None, Typed::Int(e)) => Ok(Step::DeclareInt(slot, e)),
-        (None, Typed::Truth(e)) => Ok(Step::Truth(TruthDeed::Declare, slot, e)),
-        (None, Typed::Range(e)) => Ok(Step::DeclareRange(slot, e)),
-        (Some(_), Typed::Int(e)) => Ok(Step::ConfigInt(slot, e)),
-        (Some(_), Typed::Truth(e)) => Ok(Step::Truth(TruthDeed::Config, slot, e)),
-        (Some(_), Typed::Range(_)) => Err(Stop::IllTyped),
-        (_, Typed::Domain(_) | Typed::Tuple(_) | Typed::Ints(_) | Typed::Truths(_)) => {
-            Err(Stop::IllTyped)
-        }
+    match begun {
+        Beginning::Value(value) => holds(t, value),
+        Beginning::Empty(_) => is_domain(t),
+    }
+}
+
+// A variable that begins with a value.
+fn declares_value<'t>(slot: usize, value: Typed<'t>) -> Result<Step<'t>, Stop>
+    ensures node { IfOk result (λ s. step_view s ≡ begun_as None (variable (kind_of value.entry) slot) (beginning.Value value.entry)) }
+    ensures kind { IfOk result (λ s. IsDeclaredKind (kind_of value.entry)) }
+    ensures ill_typed { (result ≡ Err stop.IllTyped) → IsDeclaredKind (kind_of value.entry) → ⊥ }
+{
+    match value {
+        Typed::Int(e) => Ok(Step::DeclareInt(slot, e)),
+        Typed::Truth(e) => Ok(Step::Truth(TruthDeed::Declare, slot, e)),
+        Typed::Range(e) => Ok(Step::DeclareRange(slot, e)),
+        Typed::Domain(e) => Ok(Step::DeclareDomain(slot, e)),
+        Typed::Tuple(_) | Typed::Ints(_) | Typed::Truths(_) => Err(Stop::IllTyped),
+    }
+}
+
+// A `config const`, which is an int or a truth value.
+fn configures<'t>(slot: usize, begun: Beginning<'t>) -> Result<Step<'t>, Stop>
+    ensures node { IfOk result (λ s. step_view s ≡ begun_as (Some nowhere) (variable (begun_kind begun.entry) slot) begun.entry) }
+    ensures kind { IfOk result (λ s. IsScalarKind (begun_kind begun.entry)) }
+    ensures ill_typed { (result ≡ Err stop.IllTyped) → IsScalarKind (begun_kind begun.entry) → ⊥ }
+{
+    match begun {
+        Beginning::Value(Typed::Int(e)) => Ok(Step::ConfigInt(slot, e)),
+        Beginning::Value(Typed::Truth(e)) => Ok(Step::Truth(TruthDeed::Config, slot, e)),
+        Beginning::Value(
+            Typed::Range(_)
+            | Typed::Domain(_)
+            | Typed::Tuple(_)
+            | Typed::Ints(_)
+            | Typed::Truths(_),
+        )
+        | Beginning::Empty(_) => Err(Stop::IllTyped),
+    }
+}
+
+// The statement.
+fn declares<'t>(config: Option<Place>, slot: usize, begun: Beginning<'t>) -> Result<Step<'t>, Stop>
+    ensures node { IfOk result (λ s. step_view s ≡ begun_as (unplaced_word config) (variable (begun_kind begun.entry) slot) begun.entry) }
+    ensures kind { IfOk result (λ s. IsDeclaredKind (begun_kind begun.entry) × IsConfigOf config (begun_kind begun.entry)) }
+    ensures ill_typed { (result ≡ Err stop.IllTyped) → IsDeclaredKind (begun_kind begun.entry) → IsConfigOf config (begun_kind begun.entry) → ⊥ }
+{
+    match config {
+        Some(_) => configures(slot, begun),
+        None => match begun {
+            Beginning::Value(value) => declares_value(slot, value),
+            Beginning::Empty(rank) => Ok(Step::DeclareEmpty(slot, rank)),
+        },
     }
 }
 
 /// A declaration, whose name is in sight behind it.
 ///
 /// # Errors
-/// Out of memory; a name that its scope has, what isn't a plain variable, or a value of another kind.
+/// Out of memory; a name that its scope has, what is no variable of one slot, or a value of another kind or shape.
 pub(crate) fn declare<'s, 't>(
     plan: &mut Plan<'s, 't>,
     written: &Declare<'s>,
 ) -> Result<Step<'t>, Stop>
     ensures plans { IfOk result (λ step. PlansDeclare plan.old plan.new (declare_view written.now) step) }
-    ensures ill_typed { (result ≡ Err stop.IllTyped) → IsScalarDeclare plan.old.scopes (declare_view written.now) → ⊥ }
+    ensures config { IfOk result (λ step. (at : Place) → ((declare_view written.now).config ≡ Some at) → IsOfLeaf (declared_by plan.old.scopes (declare_view written.now))) }
+    ensures ill_typed { (result ≡ Err stop.IllTyped) → IsRunnableDeclare plan.old.scopes (declare_view written.now) → ⊥ }
 {
     let declared = declared(plan, written)?;
-    let value = initial(plan.arena, &plan.scopes, &written.typed, &written.initial)?;
-    match declared.value_type {
-        Some(value_type) => if holds(value_type, value) {
-            let slot = plan.declare(declared.origin.name, declared.sort, value_type)?;
-            declares(written.config, slot, value)
-        } else {
-            Err(Stop::IllTyped)
-        },
-        None => Err(Stop::IllTyped),
+    let Some(value_type) = declared.value_type else {
+        return Err(Stop::IllTyped);
+    };
+    let begun = initial(
+        plan.arena,
+        &plan.scopes,
+        value_type,
+        &written.typed,
+        &written.initial,
+    )?;
+    if !begins(value_type, begun) {
+        return Err(Stop::IllTyped);
     }
+    let slot = plan.declare(declared.origin.name, declared.sort, value_type)?;
+    declares(written.config, slot, begun)
 }
 
 /// A declaration in a body: a `config const` stands at the top level alone.
@@ -155,7 +265,7 @@ pub(crate) fn declare_inside<'s, 't>(
     written: &Declare<'s>,
 ) -> Result<Step<'t>, Stop>
     ensures plans { IfOk result (λ step. PlansStmt plan.old plan.new (DeclareTree (declare_view written.now)) step) }
-    ensures ill_typed { (result ≡ Err stop.IllTyped) → IsScalarStmt plan.old.scopes (intents_in plan.old) (DeclareTree (declare_view written.now)) → ⊥ }
+    ensures ill_typed { (result ≡ Err stop.IllTyped) → IsRunnableStmt plan.old.scopes (intents_in plan.old) (DeclareTree (declare_view written.now)) → ⊥ }
 {
     if written.config.is_some() {
         return Err(Stop::IllTyped);

@@ -8,6 +8,7 @@ mod loops;
 mod program;
 mod progress;
 mod statement;
+mod turns;
 mod write;
 
 pub use program::{Planned, plan};

@@ -15,7 +15,7 @@ ghost use Rattle.dpl_typer.specs.Sights.{sight_of, ArePlainScopes};
 ghost use Rattle.dpl_planner.specs.Bounds.{bound_program};
 ghost use Rattle.dpl_planner.specs.Given.{AreGiven};
 ghost use Rattle.dpl_nodes.specs.declared.make.Stop.TheVariants as stop;
-ghost use Rattle.dpl_scalar.specs.Scalar.{IsScalarTop, AreScalarTops};
+ghost use Rattle.dpl_runnable.specs.Runnable.{IsRunnableTop, AreRunnableTops};
 ghost use Rattle.dpl_planner.specs.Plans.{intents_in, IsOneScope, PlansTop, PlansTops};
 
 use crate::declaration::declare;
@@ -38,7 +38,7 @@ pub struct Planned<'s, 't> {
 // A statement of the top level.
 fn top_stmt<'s, 't>(plan: &mut Plan<'s, 't>, written: &Stmt<'s>) -> Result<Step<'t>, Stop>
     ensures plans { IfOk result (λ step. PlansTop plan.old plan.new (stmt_view written.now) step) }
-    ensures ill_typed { (result ≡ Err stop.IllTyped) → (intents_in plan.old ≡ []) → IsScalarTop plan.old.scopes (stmt_view written.now) → ⊥ }
+    ensures ill_typed { (result ≡ Err stop.IllTyped) → (intents_in plan.old ≡ []) → IsRunnableTop plan.old.scopes (stmt_view written.now) → ⊥ }
 {
     match written {
         Stmt::Declare(declaration) => declare(plan, declaration),
@@ -59,7 +59,7 @@ fn top_stmt<'s, 't>(plan: &mut Plan<'s, 't>, written: &Stmt<'s>) -> Result<Step<
 // The statements of the top level.
 fn top_stmts<'s, 't>(plan: &mut Plan<'s, 't>, stmts: &[Stmt<'s>]) -> Result<&'t [Step<'t>], Stop>
     ensures plans { IfOk result (λ steps. PlansTops plan.old plan.new (stmts_of stmts.now) steps.now) }
-    ensures ill_typed { (result ≡ Err stop.IllTyped) → IsOneScope plan.old.scopes → (intents_in plan.old ≡ []) → AreScalarTops plan.old.scopes (stmts_of stmts.now) → ⊥ }
+    ensures ill_typed { (result ≡ Err stop.IllTyped) → IsOneScope plan.old.scopes → (intents_in plan.old ≡ []) → AreRunnableTops plan.old.scopes (stmts_of stmts.now) → ⊥ }
 {
     let mut steps = Vec::new(plan.arena.alloc());
     for next in stmts {
@@ -73,9 +73,9 @@ fn top_stmts<'s, 't>(plan: &mut Plan<'s, 't>, stmts: &[Stmt<'s>]) -> Result<&'t 
 /// declared name has a slot that no name in sight has, and any other that of its innermost declaration.
 ///
 /// # Errors
-/// Out of memory; what isn't a program of plain variables, as arrays, domains, cells, tasks and locales aren't; a `config`
-/// inside a body, and a forall inside one with reduce variables; a name that isn't in sight, or is declared twice in one
-/// scope; a value of another kind than its place takes.
+/// Out of memory; what doesn't run, as arrays, maps, cells, tasks and locales don't; a `config` inside a body, and a
+/// forall inside one with reduce variables; a name that isn't in sight, or is declared twice in one scope; a value of
+/// another kind or another shape than its place takes.
 pub fn plan<'s, 't>(arena: Arena<'t>, program: &Program<'s>) -> Result<Planned<'s, 't>, Stop>
     ensures text { IfOk result (λ p. renamed_program text_of (bound_program (program_view program.now)) ≡ program_view program.now) }
     ensures steps { IfOk result (λ p. (lowered_program known_variable (renamed_program variable_of (bound_program (program_view program.now)))).stmts ≡ steps_of p.steps.now) }
@@ -83,7 +83,7 @@ pub fn plan<'s, 't>(arena: Arena<'t>, program: &Program<'s>) -> Result<Planned<'
     ensures scopes { IfOk result (λ p. p.scopes ≡ behind_all top (stmts_of program.now.stmts.now)) }
     ensures left { IfOk result (λ p. (start : Start) → (after_all (resolving start) (bound_program (program_view program.now)).stmts first_seen).frames ≡ sight_of p.scopes) }
     ensures plain { IfOk result (λ p. ArePlainScopes p.scopes) }
-    ensures ill_typed { (result ≡ Err stop.IllTyped) → AreScalarTops top (stmts_of program.now.stmts.now) → ⊥ }
+    ensures ill_typed { (result ≡ Err stop.IllTyped) → AreRunnableTops top (stmts_of program.now.stmts.now) → ⊥ }
 {
     let mut plan = Plan::begin(arena)?;
     let steps = top_stmts(&mut plan, program.stmts)?;

@@ -8,14 +8,16 @@ ghost use Rattle.dpl_tree.specs.Declarations.{optional};
 ghost use Rattle.dpl_tree.specs.Statements.{variables_view, with_view, stmt_view, body_view, else_view, stmts_of};
 ghost use Rattle.dpl_rules.specs.Sights.{enter};
 ghost use Rattle.dpl_nodes.specs.declared.make.Stop.TheVariants as stop;
-ghost use Rattle.dpl_scalar.specs.Scalar.{IsScalarStmt, IsScalarBody, AreScalarStmts, IsScalarElse};
+ghost use Rattle.dpl_runnable.specs.Runnable.{IsRunnableStmt, IsRunnableBody, AreRunnableStmts, IsRunnableElse};
 ghost use Rattle.dpl_planner.specs.Plans.{intents_in, PlansStmt, PlansStmts, PlansOnly, PlansInner, PlansBody, PlansElse};
 
 use crate::change::assigned;
 use crate::declaration::declare_inside;
-use crate::loops::{condition, intents, open, outside, over, single, unnamed};
+use crate::loops::{condition, intents, open, outside, over, unnamed, variable_type};
 use crate::progress::{Plan, list, node, push, spot};
+use crate::turns::{for_step, forall_step};
 use crate::write::write;
+use dpl_forms::head::LoopWord;
 use dpl_nodes::step::Else as Otherwise;
 use dpl_nodes::{Step, Stop};
 use dpl_tree::{Body, Else, For, Forall, If, Stmt, While};
@@ -24,7 +26,7 @@ use dpl_tree::{Body, Else, For, Forall, If, Stmt, While};
 #[cycle(statement)]
 pub(crate) fn stmt<'s, 't>(plan: &mut Plan<'s, 't>, stmt: &Stmt<'s>) -> Result<Step<'t>, Stop>
     ensures plans { IfOk result (λ step. PlansStmt plan.old plan.new (stmt_view stmt.now) step) }
-    ensures ill_typed { (result ≡ Err stop.IllTyped) → IsScalarStmt plan.old.scopes (intents_in plan.old) (stmt_view stmt.now) → ⊥ }
+    ensures ill_typed { (result ≡ Err stop.IllTyped) → IsRunnableStmt plan.old.scopes (intents_in plan.old) (stmt_view stmt.now) → ⊥ }
 {
     match stmt {
         Stmt::Nothing(_) => Ok(Step::Nothing),
@@ -54,7 +56,7 @@ pub(crate) fn stmts<'s, 't>(
     stmts: &[Stmt<'s>],
 ) -> Result<&'t [Step<'t>], Stop>
     ensures plans { IfOk result (λ steps. PlansStmts plan.old plan.new (stmts_of stmts.now) steps.now) }
-    ensures ill_typed { (result ≡ Err stop.IllTyped) → AreScalarStmts plan.old.scopes (intents_in plan.old) (stmts_of stmts.now) → ⊥ }
+    ensures ill_typed { (result ≡ Err stop.IllTyped) → AreRunnableStmts plan.old.scopes (intents_in plan.old) (stmts_of stmts.now) → ⊥ }
 {
     let mut steps = Vec::new(plan.arena.alloc());
     for next in stmts {
@@ -68,7 +70,7 @@ pub(crate) fn stmts<'s, 't>(
 #[cycle(statement)]
 fn only<'s, 't>(plan: &mut Plan<'s, 't>, inner: &Stmt<'s>) -> Result<&'t [Step<'t>], Stop>
     ensures plans { IfOk result (λ steps. PlansOnly plan.old plan.new (stmt_view inner.now) steps.now) }
-    ensures ill_typed { (result ≡ Err stop.IllTyped) → IsScalarStmt plan.old.scopes (intents_in plan.old) (stmt_view inner.now) → ⊥ }
+    ensures ill_typed { (result ≡ Err stop.IllTyped) → IsRunnableStmt plan.old.scopes (intents_in plan.old) (stmt_view inner.now) → ⊥ }
 {
     let step = stmt(plan, inner)?;
     let mut steps = Vec::new(plan.arena.alloc());
@@ -80,7 +82,7 @@ fn only<'s, 't>(plan: &mut Plan<'s, 't>, inner: &Stmt<'s>) -> Result<&'t [Step<'
 #[cycle(statement)]
 fn inner<'s, 't>(plan: &mut Plan<'s, 't>, body: &Body<'s>) -> Result<&'t [Step<'t>], Stop>
     ensures plans { IfOk result (λ steps. PlansInner plan.old plan.new (body_view body.now) steps.now) }
-    ensures ill_typed { (result ≡ Err stop.IllTyped) → IsScalarBody plan.old.scopes (intents_in plan.old) (body_view body.now) → ⊥ }
+    ensures ill_typed { (result ≡ Err stop.IllTyped) → IsRunnableBody plan.old.scopes (intents_in plan.old) (body_view body.now) → ⊥ }
 {
     match body {
         Body::Word(_, inner) => only(plan, inner),
@@ -92,7 +94,7 @@ fn inner<'s, 't>(plan: &mut Plan<'s, 't>, body: &Body<'s>) -> Result<&'t [Step<'
 #[cycle(statement)]
 fn body<'s, 't>(plan: &mut Plan<'s, 't>, body: &Body<'s>) -> Result<&'t [Step<'t>], Stop>
     ensures plans { IfOk result (λ steps. PlansBody plan.old plan.new (body_view body.now) steps.now) }
-    ensures ill_typed { (result ≡ Err stop.IllTyped) → IsScalarBody (enter plan.old.scopes) (intents_in plan.old) (body_view body.now) → ⊥ }
+    ensures ill_typed { (result ≡ Err stop.IllTyped) → IsRunnableBody (enter plan.old.scopes) (intents_in plan.old) (body_view body.now) → ⊥ }
 {
     plan.enter()?;
     let steps = inner(plan, body)?;
@@ -104,7 +106,7 @@ fn body<'s, 't>(plan: &mut Plan<'s, 't>, body: &Body<'s>) -> Result<&'t [Step<'t
 #[cycle(statement)]
 fn otherwise<'s, 't>(plan: &mut Plan<'s, 't>, other: &Else<'s>) -> Result<Otherwise<'t>, Stop>
     ensures plans { IfOk result (λ otherwise. PlansElse plan.old plan.new (else_view other.now) otherwise) }
-    ensures ill_typed { (result ≡ Err stop.IllTyped) → IsScalarElse plan.old.scopes (intents_in plan.old) (else_view other.now) → ⊥ }
+    ensures ill_typed { (result ≡ Err stop.IllTyped) → IsRunnableElse plan.old.scopes (intents_in plan.old) (else_view other.now) → ⊥ }
 {
     match other {
         Else::Absent => Ok(Otherwise::Absent),
@@ -122,7 +124,7 @@ fn otherwise<'s, 't>(plan: &mut Plan<'s, 't>, other: &Else<'s>) -> Result<Otherw
 #[cycle(statement)]
 fn choose<'s, 't>(plan: &mut Plan<'s, 't>, choice: &If<'s>) -> Result<Step<'t>, Stop>
     ensures plans { IfOk result (λ step. PlansStmt plan.old plan.new (IfTree choice.now.at (expr_view choice.now.condition.now) (body_view choice.now.body) (else_view choice.now.otherwise)) step) }
-    ensures ill_typed { (result ≡ Err stop.IllTyped) → IsScalarStmt plan.old.scopes (intents_in plan.old) (IfTree choice.now.at (expr_view choice.now.condition.now) (body_view choice.now.body) (else_view choice.now.otherwise)) → ⊥ }
+    ensures ill_typed { (result ≡ Err stop.IllTyped) → IsRunnableStmt plan.old.scopes (intents_in plan.old) (IfTree choice.now.at (expr_view choice.now.condition.now) (body_view choice.now.body) (else_view choice.now.otherwise)) → ⊥ }
 {
     let condition = condition(plan, choice.condition)?;
     let body = body(plan, &choice.body)?;
@@ -138,7 +140,7 @@ fn choose<'s, 't>(plan: &mut Plan<'s, 't>, choice: &If<'s>) -> Result<Step<'t>, 
 #[cycle(statement)]
 fn repeat<'s, 't>(plan: &mut Plan<'s, 't>, turns: &While<'s>) -> Result<Step<'t>, Stop>
     ensures plans { IfOk result (λ step. PlansStmt plan.old plan.new (WhileTree turns.now.at (expr_view turns.now.condition.now) (body_view turns.now.body)) step) }
-    ensures ill_typed { (result ≡ Err stop.IllTyped) → IsScalarStmt plan.old.scopes (intents_in plan.old) (WhileTree turns.now.at (expr_view turns.now.condition.now) (body_view turns.now.body)) → ⊥ }
+    ensures ill_typed { (result ≡ Err stop.IllTyped) → IsRunnableStmt plan.old.scopes (intents_in plan.old) (WhileTree turns.now.at (expr_view turns.now.condition.now) (body_view turns.now.body)) → ⊥ }
 {
     let at = spot(plan.arena, turns.at)?;
     let condition = condition(plan, turns.condition)?;
@@ -154,20 +156,15 @@ fn repeat<'s, 't>(plan: &mut Plan<'s, 't>, turns: &While<'s>) -> Result<Step<'t>
 #[cycle(statement)]
 fn for_turns<'s, 't>(plan: &mut Plan<'s, 't>, turns: &For<'s>) -> Result<Step<'t>, Stop>
     ensures plans { IfOk result (λ step. PlansStmt plan.old plan.new (ForTree turns.now.at (variables_view turns.now.variables) turns.now.within (item_view turns.now.over) (body_view turns.now.body)) step) }
-    ensures ill_typed { (result ≡ Err stop.IllTyped) → IsScalarStmt plan.old.scopes (intents_in plan.old) (ForTree turns.now.at (variables_view turns.now.variables) turns.now.within (item_view turns.now.over) (body_view turns.now.body)) → ⊥ }
+    ensures ill_typed { (result ≡ Err stop.IllTyped) → IsRunnableStmt plan.old.scopes (intents_in plan.old) (ForTree turns.now.at (variables_view turns.now.variables) turns.now.within (item_view turns.now.over) (body_view turns.now.body)) → ⊥ }
 {
-    let name = single(&turns.variables)?;
     let at = spot(plan.arena, turns.at)?;
     let over = over(plan, &turns.over)?;
-    let slot = open(plan, name)?;
+    let t = variable_type(plan, LoopWord::For, &turns.variables, &turns.over)?;
+    let names = open(plan, &turns.variables, t)?;
     let body = body(plan, &turns.body)?;
     plan.leave();
-    Ok(Step::For {
-        at,
-        slot,
-        over,
-        body,
-    })
+    for_step(at, names, over, body)
 }
 
 // `forall`: within one with reduce variables there is no other.
@@ -175,26 +172,20 @@ fn for_turns<'s, 't>(plan: &mut Plan<'s, 't>, turns: &For<'s>) -> Result<Step<'t
 fn forall_turns<'s, 't>(plan: &mut Plan<'s, 't>, turns: &Forall<'s>) -> Result<Step<'t>, Stop>
     ensures plans { IfOk result (λ step. PlansStmt plan.old plan.new (ForallTree turns.now.at (variables_view turns.now.variables) turns.now.within (item_view turns.now.over) (optional with_view turns.now.with) (body_view turns.now.body)) step) }
     ensures ill_typed { (result ≡ Err stop.IllTyped)
-        → IsScalarStmt plan.old.scopes (intents_in plan.old) (ForallTree turns.now.at (variables_view turns.now.variables) turns.now.within (item_view turns.now.over) (optional with_view turns.now.with) (body_view turns.now.body)) → ⊥ }
+        → IsRunnableStmt plan.old.scopes (intents_in plan.old) (ForallTree turns.now.at (variables_view turns.now.variables) turns.now.within (item_view turns.now.over) (optional with_view turns.now.with) (body_view turns.now.body)) → ⊥ }
 {
     if !outside(&plan.intents) {
         return Err(Stop::IllTyped);
     }
-    let name = single(&turns.variables)?;
     let at = spot(plan.arena, turns.at)?;
     let over = over(plan, &turns.over)?;
+    let t = variable_type(plan, LoopWord::Forall, &turns.variables, &turns.over)?;
     let reducing = intents(plan, &turns.with)?;
     let unnamed = unnamed(plan.arena, &reducing)?;
     plan.intents = reducing;
-    let slot = open(plan, name)?;
+    let names = open(plan, &turns.variables, t)?;
     let body = body(plan, &turns.body)?;
     plan.leave();
     plan.intents = Vec::new(plan.arena.alloc());
-    Ok(Step::Forall {
-        at,
-        slot,
-        over,
-        intents: unnamed,
-        body,
-    })
+    forall_step(at, names, over, unnamed, body)
 }

@@ -11,7 +11,7 @@ ghost use Rattle.dpl_tree.specs.Declarations.{optional};
 ghost use Rattle.dpl_tree.specs.Statements.{argument_view, arguments_view, written_view};
 ghost use Rattle.dpl_planner.specs.Parts.{IsArgument, AreArguments, others_in, StillArguments};
 ghost use Rattle.dpl_nodes.specs.declared.make.Stop.TheVariants as stop;
-ghost use Rattle.dpl_scalar.specs.Scalar.{IsScalarExpr, IsScalarArgument, AreScalarArguments, IsScalarStmt};
+ghost use Rattle.dpl_runnable.specs.Runnable.{IsPrinted, IsRunnableArgument, AreRunnableArguments, IsRunnableStmt};
 ghost use Rattle.dpl_planner.specs.Plans.{intents_in, PlansStmt};
 
 use crate::progress::{Plan, list, push};
@@ -35,7 +35,7 @@ fn text<'t>(arena: Arena<'t>, bytes: &[u8]) -> Result<&'t [u8], Stop>
 // An expression: an int or a truth value.
 fn value<'t>(plan: &Plan<'_, 't>, e: &Expr<'_>) -> Result<Shown<'t>, Stop>
     ensures shown { IfOk result (λ shown. IsArgument plan.now.scopes (ExprArgument (expr_view e.now)) shown) }
-    ensures ill_typed { (result ≡ Err stop.IllTyped) → IsScalarExpr plan.now.scopes (expr_view e.now) → ⊥ }
+    ensures ill_typed { (result ≡ Err stop.IllTyped) → IsPrinted plan.now.scopes (expr_view e.now) → ⊥ }
 {
     let made = expression(plan.arena, &plan.scopes, e)?;
     match made {
@@ -51,7 +51,7 @@ fn value<'t>(plan: &Plan<'_, 't>, e: &Expr<'_>) -> Result<Shown<'t>, Stop>
 // An argument.
 fn argument<'t>(plan: &Plan<'_, 't>, written: &Argument<'_>) -> Result<Shown<'t>, Stop>
     ensures shown { IfOk result (λ shown. IsArgument plan.now.scopes (argument_view written.now) shown) }
-    ensures ill_typed { (result ≡ Err stop.IllTyped) → IsScalarArgument plan.now.scopes (argument_view written.now) → ⊥ }
+    ensures ill_typed { (result ≡ Err stop.IllTyped) → IsRunnableArgument plan.now.scopes (argument_view written.now) → ⊥ }
 {
     match written {
         Argument::Text(_, bytes) => Ok(Shown::Text(text(plan.arena, bytes)?)),
@@ -66,7 +66,7 @@ fn more_arguments<'t>(
     shown: &mut Vec<Shown<'t>>,
 ) -> Result<(), Stop>
     ensures shown { OnOk result ((all : List (ArgumentTree Text)) → StillArguments plan.now.scopes all (others_in others.now) shown.old.items → StillArguments plan.now.scopes all [] shown.new.items) }
-    ensures ill_typed { (result ≡ Err stop.IllTyped) → AreScalarArguments plan.now.scopes (others_in others.now) → ⊥ }
+    ensures ill_typed { (result ≡ Err stop.IllTyped) → AreRunnableArguments plan.now.scopes (others_in others.now) → ⊥ }
 {
     for next in others {
         let argument = argument(plan, &next.argument)?;
@@ -78,7 +78,7 @@ fn more_arguments<'t>(
 // One argument or more.
 fn some_arguments<'t>(plan: &Plan<'_, 't>, written: &Arguments<'_>) -> Result<&'t [Shown<'t>], Stop>
     ensures shown { IfOk result (λ shown. AreArguments plan.now.scopes (arguments_of (Some (arguments_view written.now))) shown.now) }
-    ensures ill_typed { (result ≡ Err stop.IllTyped) → AreScalarArguments plan.now.scopes (arguments_of (Some (arguments_view written.now))) → ⊥ }
+    ensures ill_typed { (result ≡ Err stop.IllTyped) → AreRunnableArguments plan.now.scopes (arguments_of (Some (arguments_view written.now))) → ⊥ }
 {
     let mut shown = Vec::new(plan.arena.alloc());
     let first = argument(plan, &written.first)?;
@@ -93,7 +93,7 @@ fn arguments<'t>(
     written: &Option<Arguments<'_>>,
 ) -> Result<&'t [Shown<'t>], Stop>
     ensures shown { IfOk result (λ shown. AreArguments plan.now.scopes (arguments_of (optional arguments_view written.now)) shown.now) }
-    ensures ill_typed { (result ≡ Err stop.IllTyped) → AreScalarArguments plan.now.scopes (arguments_of (optional arguments_view written.now)) → ⊥ }
+    ensures ill_typed { (result ≡ Err stop.IllTyped) → AreRunnableArguments plan.now.scopes (arguments_of (optional arguments_view written.now)) → ⊥ }
 {
     match written {
         None => Ok(&[]),
@@ -107,7 +107,7 @@ fn arguments<'t>(
 /// Out of memory; an argument that isn't a text, an int or a truth value.
 pub(crate) fn write<'t>(plan: &Plan<'_, 't>, written: &Write<'_>) -> Result<Step<'t>, Stop>
     ensures plans { IfOk result (λ step. PlansStmt plan.now plan.now (WriteTree (written_view written.now)) step) }
-    ensures ill_typed { (result ≡ Err stop.IllTyped) → IsScalarStmt plan.now.scopes (intents_in plan.now) (WriteTree (written_view written.now)) → ⊥ }
+    ensures ill_typed { (result ≡ Err stop.IllTyped) → IsRunnableStmt plan.now.scopes (intents_in plan.now) (WriteTree (written_view written.now)) → ⊥ }
 {
     let arguments = arguments(plan, &written.arguments)?;
     Ok(Step::Write {

@@ -1,18 +1,18 @@
 -- An assignment is planned where its name, its operator and its value are.
--- One that isn't is no scalar one: the kind of its value is that of the value that is made.
-use Rattle.std.proofs.Common.{rules, ◌≡◌, ◌≢◌, true, Some, Err, subst}
+-- One that isn't doesn't run: the kind of its value is that of what is made of it.
+use Rattle.std.proofs.Common.{rules, ◌≡◌, true, Some, Err, sym, ap, ◌∙◌, subst}
 use Rattle.dpl_rules.specs.Expressions.{item_type}
 use Rattle.dpl_tree.specs.Words.{assign_view}
 use Rattle.dpl_tree.specs.View.{name_view, item_view}
 use Rattle.dpl_tree.specs.Statements.{sign_view}
-use Rattle.dpl_words.specs.Words.{LeafKind, RangeLeaf, takes}
+use Rattle.dpl_memory.specs.Resolved.{kind_takes}
 use Rattle.dpl_nodes.specs.declared.make.Stop.TheVariants as stop
-use Rattle.dpl_typer.specs.Makers.{kind_of}
-use Rattle.dpl_typer.specs.Leaves.{kind_in}
-use Rattle.dpl_scalar.specs.Scalar.{IsReducedBy}
+use Rattle.dpl_typer.specs.Leaves.{type_in}
+use Rattle.dpl_runnable.specs.Kinds.{IsDeclaredKind, IsAssignedKind}
+use Rattle.dpl_runnable.specs.Runnable.{IsReducedBy}
 use Rattle.dpl_planner.specs.Plans.{intents_in}
 use Rattle.dpl_planner.proofs.Changed.{change-plans}
-use Rattle.dpl_planner.proofs.RefusedParts.{no_kind, same_kind}
+use Rattle.dpl_planner.proofs.RefusedParts.{some-type, no_kind, item-kind, assigned-declared}
 use Rattle.dpl_planner.proofs.change.assigned_to.Goals as goal
 
 pub returns-in_err-made-clause-ill_typed : goal.returns-in_err-made-clause-ill_typed
@@ -22,26 +22,30 @@ returns-in_err-made-clause-ill_typed c = λ e s.
 
 pub returns-in_err-slot-clause-ill_typed : goal.returns-in_err-slot-clause-ill_typed
 returns-in_err-slot-clause-ill_typed c = λ e s.
-    let ss = c.args.plan.now.scopes in
-    let same = same_kind c.in_ok-made.made (item_type ss (item_view c.args.value.now)) s.0.kind c.in_ok-made.ensures.kind s.0.item.kind in
+    let same = item-kind c.args.plan.now.scopes (item_view c.args.value.now) s.0.kind c.in_ok-made.made c.in_ok-made.ensures.kind s.0.item in
     let refused : c.variable.result ≡ Err stop.IllTyped = search rules in
-    c.variable.ensures.ill_typed refused s.0.kind same s.0.target
+    c.variable.ensures.ill_typed refused (subst IsDeclaredKind (sym same) (assigned-declared s.0.kind s.0.assigned)) (s.0.target ∙ ap (λ k. Some k) (sym same))
+
+pub returns-in_err-taken-clause-ill_typed : goal.returns-in_err-taken-clause-ill_typed
+returns-in_err-taken-clause-ill_typed c = λ e s.
+    let refused : c.taken.result ≡ Err stop.IllTyped = search rules in
+    let typed = some-type (type_in c.args.plan.now.scopes c.args.name.now.text.now) s.0.kind s.0.target in
+    c.taken.ensures.ill_typed refused typed.0 typed.1 (s.0.shaped typed.0 typed.1)
 
 pub returns-in_err-intent_resolves-clause-ill_typed : goal.returns-in_err-intent_resolves-clause-ill_typed
 returns-in_err-intent_resolves-clause-ill_typed c = λ e s.
     let plan = c.args.plan.now in
-    let same = same_kind c.in_ok-made.made (item_type plan.scopes (item_view c.args.value.now)) s.0.kind c.in_ok-made.ensures.kind s.0.item.kind in
+    let same = item-kind plan.scopes (item_view c.args.value.now) s.0.kind c.in_ok-made.made c.in_ok-made.ensures.kind s.0.item in
     let refused : c.intent_resolves.result ≡ Err stop.IllTyped = search rules in
-    c.intent_resolves.ensures.ill_typed refused c.in_ok-slot.ensures.slot s.0.kind same s.0.reduced
+    c.intent_resolves.ensures.ill_typed refused c.in_ok-slot.ensures.slot (subst (IsReducedBy plan.scopes (intents_in plan) c.args.name.now.text.now (assign_view c.args.sign.op)) (sym same) s.0.reduced)
 
 pub returns-clause-plans : goal.returns-clause-plans
 returns-clause-plans c =
-    change-plans c.change.result c.args.plan.now (name_view c.args.name.now) (sign_view c.args.sign) (item_view c.args.value.now) c.args.semicolon c.in_ok-made.made c.in_ok-slot.slot
-    (record { node = c.in_ok-made.ensures.node; found = c.in_ok-made.ensures.found }) c.in_ok-slot.ensures.kind c.in_ok-slot.ensures.slot c.in_ok-intent_resolves.ensures.resolves
-    c.change.ensures.takes c.change.ensures.plain c.change.ensures.node
+    change-plans c.args.plan.now (name_view c.args.name.now) (sign_view c.args.sign) (item_view c.args.value.now) c.args.semicolon c.in_ok-made.made c.in_ok-slot.slot c.change.result
+    (record { node = c.in_ok-made.ensures.node; found = c.in_ok-made.ensures.found }) c.in_ok-slot.ensures.kind c.in_ok-slot.ensures.slot c.in_ok-taken.ensures.taken c.in_ok-intent_resolves.ensures.resolves
+    c.change.ensures.takes c.change.ensures.kind c.change.ensures.node
 
 pub returns-clause-ill_typed : goal.returns-clause-ill_typed
 returns-clause-ill_typed c = λ e s.
-    let ss = c.args.plan.now.scopes in
-    let same = same_kind c.in_ok-made.made (item_type ss (item_view c.args.value.now)) s.0.kind c.in_ok-made.ensures.kind s.0.item.kind in
-    c.change.ensures.ill_typed e s.0.kind same s.0.scalar s.0.taken s.1
+    let same = item-kind c.args.plan.now.scopes (item_view c.args.value.now) s.0.kind c.in_ok-made.made c.in_ok-made.ensures.kind s.0.item in
+    c.change.ensures.ill_typed e (subst IsAssignedKind (sym same) s.0.assigned) (subst (λ k. kind_takes k (assign_view c.args.sign.op) ≡ true) (sym same) s.0.taken) s.1 s.2

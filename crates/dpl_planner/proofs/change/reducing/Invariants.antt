@@ -6,7 +6,7 @@ use Rattle.dpl_language.specs.Renamed.{renamed_intents}
 use Rattle.dpl_words.specs.Words.{intent_at}
 use Rattle.dpl_memory.specs.Memory.{intents_by_slot}
 use Rattle.dpl_memory.specs.Resolved.{text_of, variable_of}
-use Rattle.dpl_scalar.specs.Scalar.{AreToldAlike}
+use Rattle.dpl_runnable.specs.Runnable.{AreToldAlike}
 use Rattle.dpl_planner.specs.Plans.{reducing_view}
 use Rattle.dpl_planner.proofs.change.reducing.Given as goal
 

@@ -1,38 +1,57 @@
--- A declaration is planned where the check gives its type, and its value is of that type's kind.
-use Rattle.std.proofs.Common.{rules, ◌≡◌, Err, sym, subst}
+-- A declaration is planned where the check gives its type, and what it begins with is of that type's kind and shape.
+use Rattle.std.proofs.Common.{rules, ◌≡◌, true, false, Err, Some, None, sym, ap, ◌∙◌, subst}
 use Rattle.dpl_tree.specs.Declarations.{declare_view}
 use Rattle.dpl_nodes.specs.declared.make.Stop.TheVariants as stop
-use Rattle.dpl_scalar.specs.Scalar.{IsConfigOf}
-use Rattle.dpl_planner.proofs.Declared.{declares-plans}
-use Rattle.dpl_planner.proofs.RefusedParts.{declared-typed, declared-held, declared-new}
+use Rattle.dpl_typer.proofs.Names.{if_ok, if_both}
+use Rattle.dpl_runnable.specs.Kinds.{IsDeclaredKind}
+use Rattle.dpl_runnable.specs.Runnable.{IsConfigOf}
+use Rattle.dpl_planner.proofs.Declared.{declare-plans, declare-config}
+use Rattle.dpl_planner.proofs.RefusedParts.{declared-typed, declared-held, declared-shaped, declared-new}
 use Rattle.dpl_planner.proofs.declaration.declare.Goals as goal
 
-pub returns-in_ok-slot-in-Some-clause-plans : goal.returns-in_ok-slot-in-Some-clause-plans
-returns-in_ok-slot-in-Some-clause-plans c =
-    let made = c.in_ok-slot-in-Some.ensures in
-    declares-plans c.declares.result c.args.plan.now c.declare.new.self (declare_view c.args.written.now) c.in_ok-declared.declared c.in-Some.value_type c.in_ok-value.value c.in_ok-slot-in-Some.slot
-    c.in_ok-declared.ensures.declared c.in-Some.is c.in_ok-value.ensures.initial (c.holds.ensures.yes c.if-holds.true) c.declares.ensures.plain made.fresh made.next made.below made.slots made.scopes made.intents c.declares.ensures.node
+pub returns-clause-plans : goal.returns-clause-plans
+returns-clause-plans c =
+    let made = c.in_ok-slot.ensures in
+    let begun : c.begins.result ≡ true = search rules in
+    if_both c.declares.result
+    (λ s node kept.
+    declare-plans c.args.plan.now (declare_view c.args.written.now) c.in_ok-declared.declared c.in-Some.value_type c.in_ok-declared.ensures.declared c.in-Some.is c.declare.new.self c.in_ok-begun.begun c.in_ok-slot.slot s
+    c.in_ok-begun.ensures.initial (c.begins.ensures.yes begun) kept.0 made.fresh made.next made.below made.slots made.scopes made.intents node)
+    c.declares.ensures.node c.declares.ensures.kind
 
--- ---- what isn't planned is no scalar declaration
-pub returns-in_err-value-clause-ill_typed : goal.returns-in_err-value-clause-ill_typed
-returns-in_err-value-clause-ill_typed c = λ e s.
+pub returns-clause-config : goal.returns-clause-config
+returns-clause-config c =
+    let begun : c.begins.result ≡ true = search rules in
+    if_ok c.declares.result
+    (λ s kept.
+    declare-config c.args.plan.now (declare_view c.args.written.now) c.in_ok-declared.declared c.in-Some.value_type c.in_ok-declared.ensures.declared c.in-Some.is c.in_ok-begun.begun (c.begins.ensures.yes begun) kept.1)
+    c.declares.ensures.kind
+
+-- ---- what isn't planned doesn't run
+pub returns-in_err-begun-clause-ill_typed : goal.returns-in_err-begun-clause-ill_typed
+returns-in_err-begun-clause-ill_typed c = λ e s.
     let refused : c.initial.result ≡ Err stop.IllTyped = search rules in
     c.initial.ensures.ill_typed refused s.kind s.type s.initial
+    (declared-shaped c.args.plan.now.scopes (declare_view c.args.written.now) c.in_ok-declared.declared c.in_ok-declared.ensures.declared s c.in-Some.value_type c.in-Some.is)
 
-pub returns-else-holds-clause-ill_typed : goal.returns-else-holds-clause-ill_typed
-returns-else-holds-clause-ill_typed c = λ e s.
-    c.holds.ensures.no c.if-holds.false s.kind (c.in_ok-value.ensures.kind s.kind s.initial)
-    (declared-held c.args.plan.now.scopes (declare_view c.args.written.now) c.in_ok-declared.declared c.in_ok-declared.ensures.declared s c.in-Some.value_type c.in-Some.is)
+pub returns-then-not-begins-clause-ill_typed : goal.returns-then-not-begins-clause-ill_typed
+returns-then-not-begins-clause-ill_typed c = λ e s.
+    let same = c.in_ok-begun.ensures.kind s.kind s.initial in
+    let other : c.begins.result ≡ false = search rules in
+    c.begins.ensures.no other (subst IsDeclaredKind (sym same) s.kept)
+    (declared-held c.args.plan.now.scopes (declare_view c.args.written.now) c.in_ok-declared.declared c.in_ok-declared.ensures.declared s c.in-Some.value_type c.in-Some.is ∙ ap (λ k. Some k) (sym same))
 
-pub returns-in_err-slot-in-Some-clause-ill_typed : goal.returns-in_err-slot-in-Some-clause-ill_typed
-returns-in_err-slot-in-Some-clause-ill_typed c = λ e s.
+pub returns-in_err-slot-clause-ill_typed : goal.returns-in_err-slot-clause-ill_typed
+returns-in_err-slot-clause-ill_typed c = λ e s.
     let refused : c.declare.result ≡ Err stop.IllTyped = search rules in
     declared-new c.args.plan.now.scopes (declare_view c.args.written.now) c.in_ok-declared.declared c.in_ok-declared.ensures.declared s (c.declare.ensures.ill_typed refused)
 
-pub returns-in_ok-slot-in-Some-clause-ill_typed : goal.returns-in_ok-slot-in-Some-clause-ill_typed
-returns-in_ok-slot-in-Some-clause-ill_typed c = λ e s.
-    c.declares.ensures.ill_typed e s.kind (c.in_ok-value.ensures.kind s.kind s.initial) s.config
+pub returns-clause-ill_typed : goal.returns-clause-ill_typed
+returns-clause-ill_typed c = λ e s.
+    let same = c.in_ok-begun.ensures.kind s.kind s.initial in
+    c.declares.ensures.ill_typed e (subst IsDeclaredKind (sym same) s.kept) (subst (IsConfigOf (declare_view c.args.written.now).config) (sym same) s.config)
 
-pub returns-in-None-clause-ill_typed : goal.returns-in-None-clause-ill_typed
-returns-in-None-clause-ill_typed c = λ e s.
-    declared-typed c.args.plan.now.scopes (declare_view c.args.written.now) c.in_ok-declared.declared c.in_ok-declared.ensures.declared s c.in-None.is
+pub returns-in_default-clause-ill_typed : goal.returns-in_default-clause-ill_typed
+returns-in_default-clause-ill_typed c = λ e s.
+    let none : c.in_ok-declared.declared.value_type ≡ None = search rules in
+    declared-typed c.args.plan.now.scopes (declare_view c.args.written.now) c.in_ok-declared.declared c.in_ok-declared.ensures.declared s none

@@ -1,34 +1,57 @@
--- An initial value that is written is that of a plain variable.
+-- An initial value is the written one, or the default of the type.
 -- Its kind is the declaration's.
-use Rattle.std.proofs.Common.{◌≡◌, sym, subst, option_map}
+use Rattle.std.proofs.Common.{rules, ◌≡◌, Err, sym, subst}
 use Rattle.dpl_language.specs.Declarations.{type_of}
-use Rattle.dpl_tree.specs.Words.{kind_view}
 use Rattle.dpl_tree.specs.Declarations.{optional, typed_view, initial_view}
-use Rattle.dpl_words.specs.Words.{LeafKind}
-use Rattle.dpl_memory.specs.Memory.{PlainKind}
+use Rattle.dpl_types.specs.View.{type_view}
+use Rattle.dpl_memory.specs.Memory.{VariableKind}
+use Rattle.dpl_nodes.specs.declared.make.Stop.TheVariants as stop
 use Rattle.dpl_typer.specs.Makers.{kind_of}
-use Rattle.dpl_scalar.specs.Scalar.{IsInitialOf}
+use Rattle.dpl_runnable.specs.Runnable.{IsInitialOf, IsShapedInitial}
 use Rattle.dpl_typer.proofs.Names.{if_ok}
-use Rattle.dpl_planner.specs.Parts.{IsInitial}
-use Rattle.dpl_planner.proofs.Declared.{given-initial}
+use Rattle.dpl_planner.specs.declared.declaration.Beginning.TheVariants as beginning
+use Rattle.dpl_planner.specs.Parts.{IsInitial, begun_kind}
+use Rattle.dpl_planner.proofs.Declared.{given-initial, default-initial, default-begun, begun-untyped}
 use Rattle.dpl_planner.proofs.declaration.initial.Goals as goal
 
-pub returns-in-Some-clause-initial : goal.returns-in-Some-clause-initial
-returns-in-Some-clause-initial c =
+pub returns-in_ok-value-in-Some-clause-initial : goal.returns-in_ok-value-in-Some-clause-initial
+returns-in_ok-value-in-Some-clause-initial c =
     let ss = c.args.scopes.now in
     let t = optional typed_view c.args.typed.now in
-    if_ok c.given.result
-    (λ value is. subst (λ w. IsInitial ss t (optional initial_view w) value) (sym c.in-Some.is) (given-initial ss t (option_map kind_view c.in_ok-kind.kind) (initial_view c.in-Some.initial) value c.in_ok-kind.ensures.plain is))
-    c.given.ensures.given
+    let value = c.in_ok-value-in-Some.value in
+    subst (λ w. IsInitial ss t (optional initial_view w) (type_view c.args.declared) (beginning.Value value)) (sym c.in-Some.is)
+    (given-initial ss t c.in_ok-kind.kind (initial_view c.in-Some.initial) (type_view c.args.declared) value c.in_ok-kind.ensures.written c.in_ok-value-in-Some.ensures.given)
 
-pub returns-in-Some-clause-kind : goal.returns-in-Some-clause-kind
-returns-in-Some-clause-kind c =
+pub returns-in_ok-value-in-Some-clause-kind : goal.returns-in_ok-value-in-Some-clause-kind
+returns-in_ok-value-in-Some-clause-kind c =
+    let t = type_of (optional typed_view c.args.typed.now) in
+    subst (λ w. (k : VariableKind) → IsInitialOf c.args.scopes.now t (optional initial_view w) k → kind_of c.in_ok-value-in-Some.value ≡ k) (sym c.in-Some.is) c.in_ok-value-in-Some.ensures.kind
+
+pub returns-in_err-value-in-Some-clause-ill_typed : goal.returns-in_err-value-in-Some-clause-ill_typed
+returns-in_err-value-in-Some-clause-ill_typed c = λ e k h i s.
     let ss = c.args.scopes.now in
     let t = type_of (optional typed_view c.args.typed.now) in
-    if_ok c.given.result
-    (λ value same. subst (λ w. (k : LeafKind) → IsInitialOf ss t (optional initial_view w) k → kind_of value ≡ PlainKind k) (sym c.in-Some.is) same)
-    c.given.ensures.kind
+    let refused : c.given.result ≡ Err stop.IllTyped = search rules in
+    c.given.ensures.ill_typed refused k (subst (λ w. IsInitialOf ss t (optional initial_view w) k) c.in-Some.is i)
+    (subst (λ w. IsShapedInitial ss (optional initial_view w) (type_view c.args.declared)) c.in-Some.is s)
 
-pub returns-in-Some-clause-ill_typed : goal.returns-in-Some-clause-ill_typed
-returns-in-Some-clause-ill_typed c = λ e k h i.
-    c.given.ensures.ill_typed e k (subst (λ w. IsInitialOf c.args.scopes.now (type_of (optional typed_view c.args.typed.now)) (optional initial_view w) k) c.in-Some.is i)
+pub returns-in-None-clause-initial : goal.returns-in-None-clause-initial
+returns-in-None-clause-initial c =
+    let ss = c.args.scopes.now in
+    let t = optional typed_view c.args.typed.now in
+    if_ok c.by_default.result
+    (λ b is. subst (λ w. IsInitial ss t (optional initial_view w) (type_view c.args.declared) b) (sym c.in-None.is) (default-initial ss t c.in_ok-kind.kind (type_view c.args.declared) b c.in_ok-kind.ensures.written is))
+    c.by_default.ensures.default
+
+pub returns-in-None-clause-kind : goal.returns-in-None-clause-kind
+returns-in-None-clause-kind c =
+    let ss = c.args.scopes.now in
+    let t = type_of (optional typed_view c.args.typed.now) in
+    if_ok c.by_default.result
+    (λ b is. subst (λ w. (k : VariableKind) → IsInitialOf ss t (optional initial_view w) k → begun_kind b ≡ k) (sym c.in-None.is) (λ k. default-begun t c.in_ok-kind.kind b k c.in_ok-kind.ensures.written is))
+    c.by_default.ensures.default
+
+pub returns-in-None-clause-ill_typed : goal.returns-in-None-clause-ill_typed
+returns-in-None-clause-ill_typed c = λ e k h i s.
+    let t = type_of (optional typed_view c.args.typed.now) in
+    begun-untyped t c.in_ok-kind.kind k c.in_ok-kind.ensures.written (c.by_default.ensures.ill_typed e) (subst (λ w. IsInitialOf c.args.scopes.now t (optional initial_view w) k) c.in-None.is i)

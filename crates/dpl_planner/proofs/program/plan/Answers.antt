@@ -1,9 +1,9 @@
 -- What is in sight at the end is what the walk of the resolved program leaves.
--- It begins in one scope and without reduce variables, as a scalar program does.
+-- It begins in one scope and without reduce variables, as a program that runs does.
 use Rattle.std.proofs.Common.{rules, ◌≡◌, map, sym, ap, subst, Err}
 use Rattle.dpl_tree.specs.Statements.{stmts_of, program_view}
 use Rattle.dpl_nodes.specs.declared.make.Stop.TheVariants as stop
-use Rattle.dpl_scalar.specs.Scalar.{AreScalarTops}
+use Rattle.dpl_runnable.specs.Runnable.{AreRunnableTops}
 use Rattle.dpl_planner.specs.Plans.{reducing_view, IsOneScope}
 use Rattle.dpl_planner.proofs.Programs.{program-left}
 use Rattle.dpl_planner.proofs.program.plan.Goals as goal
@@ -15,4 +15,4 @@ pub returns-in_err-steps-clause-ill_typed : goal.returns-in_err-steps-clause-ill
 returns-in_err-steps-clause-ill_typed c = λ e h.
     let refused : c.top_stmts.result ≡ Err stop.IllTyped = search rules in
     let begun = sym c.in_ok-plan.ensures.scopes in
-    c.top_stmts.ensures.ill_typed refused (subst IsOneScope begun tt) (ap (map reducing_view) c.in_ok-plan.ensures.intents) (subst (λ ss. AreScalarTops ss (stmts_of c.args.program.now.stmts.now)) begun h)
+    c.top_stmts.ensures.ill_typed refused (subst IsOneScope begun tt) (ap (map reducing_view) c.in_ok-plan.ensures.intents) (subst (λ ss. AreRunnableTops ss (stmts_of c.args.program.now.stmts.now)) begun h)

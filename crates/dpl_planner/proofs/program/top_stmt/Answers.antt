@@ -12,4 +12,4 @@ pub returns-in-Declare-clause-plans : goal.returns-in-Declare-clause-plans
 returns-in-Declare-clause-plans c =
     let a = c.args.plan.now in
     let b = c.declare.new.plan in
-    subst (λ t. IfOk c.declare.result (λ s. PlansTop a b (stmt_view t) s)) (sym c.in-Declare.is) (declared-top c.declare.result a b (declare_view c.in-Declare.declaration.now) c.declare.ensures.plans)
+    subst (λ t. IfOk c.declare.result (λ s. PlansTop a b (stmt_view t) s)) (sym c.in-Declare.is) (declared-top c.declare.result a b (declare_view c.in-Declare.declaration.now) c.declare.ensures.config c.declare.ensures.plans)

@@ -1,5 +1,5 @@
 -- In one scope no name is hidden, so that what the end owes is owed all along.
--- No statement of a scalar program is refused, since there is no reduce variable around it.
+-- No statement of a program that runs is refused, since there is no reduce variable around it.
 use Rattle.std.proofs.Common.{rules, ◌≡◌, ◌+◌, [], drop, map, sym, ap, ◌∙◌, subst, Err}
 use Rattle.dpl_syntax.proofs.Walks.{drop-end}
 use Rattle.dpl_language.specs.Tree.{NoStmts}
@@ -17,7 +17,7 @@ loop-next-init c =
     let a = c.args.plan.now in
     let all = stmts_of c.args.stmts.now in
     let empty : c.new-steps.result.items ≡ [] = search rules in
-    record { still = λ one. subst (Still AreGiven a all a all) (sym empty) (still-begun AreGiven a all); scalar = λ h. h }
+    record { still = λ one. subst (Still AreGiven a all a all) (sym empty) (still-begun AreGiven a all); runnable = λ h. h }
 
 pub loop-next-preserved : goal.loop-next-preserved
 loop-next-preserved c =
@@ -32,7 +32,7 @@ loop-next-preserved c =
           subst (λ made. Still AreGiven old (stmts_of all) c.top_stmt.new.plan (stmts_of (drop (at.next-index + 1) all)) made) (sym c.in_ok-push.ensures.more)
           (still-at AreGiven old (stmts_of all) all at.next-index x at.plan c.top_stmt.new.plan c.in_ok-step.step at.steps.items c.loop-next-test.true c.next-item.is
           (λ start given. planned.goes.given (still.goes.one one) start given) still planned);
-      scalar = still_tops-at old (stmts_of all) all at.next-index x at.plan c.top_stmt.new.plan c.loop-next-test.true c.next-item.is at.invariant.scalar planned.goes;
+      runnable = still_tops-at old (stmts_of all) all at.next-index x at.plan c.top_stmt.new.plan c.loop-next-test.true c.next-item.is at.invariant.runnable planned.goes;
     }
 
 pub returns-in_err-step-clause-ill_typed : goal.returns-in_err-step-clause-ill_typed
@@ -41,7 +41,7 @@ returns-in_err-step-clause-ill_typed c = λ e one none h.
     let all = c.args.stmts.now in
     let refused : c.top_stmt.result ≡ Err stop.IllTyped = search rules in
     c.top_stmt.ensures.ill_typed refused (ap (map reducing_view) (at.invariant.still one).goes.intents ∙ none)
-    (still_tops-next c.args.plan.now (stmts_of all) all at.next-index c.next-item.result at.plan c.loop-next-test.true c.next-item.is at.invariant.scalar h).0
+    (still_tops-next c.args.plan.now (stmts_of all) all at.next-index c.next-item.result at.plan c.loop-next-test.true c.next-item.is at.invariant.runnable h).0
 
 pub returns-clause-plans : goal.returns-clause-plans
 returns-clause-plans c =

@@ -1,4 +1,4 @@
--- What is left to plan from here on is what was to plan at first, in one scope; and it is scalar if all was.
+-- What is left to plan from here on is what was to plan at first, in one scope; and it runs if all does.
 use Rattle.std.proofs.Common.{drop}
 use Rattle.dpl_tree.specs.Statements.{stmts_of}
 use Rattle.dpl_planner.specs.Given.{AreGiven}
@@ -10,5 +10,5 @@ use Rattle.dpl_planner.proofs.program.top_stmts.Given as goal
 abbrev pub invariant-loop-next : goal.invariant-loop-next
 invariant-loop-next l = record {
   still : IsOneScope l.initial.plan.scopes → Still AreGiven l.initial.plan (stmts_of l.stmts) l.plan (stmts_of (drop l.next-index l.stmts)) l.steps.items;
-  scalar : StillTops l.initial.plan (stmts_of l.stmts) l.plan (stmts_of (drop l.next-index l.stmts));
+  runnable : StillTops l.initial.plan (stmts_of l.stmts) l.plan (stmts_of (drop l.next-index l.stmts));
 }

@@ -1,27 +1,30 @@
 -- Each statement is planned part by part; a body's scope is entered and left.
-use Rattle.std.proofs.Common.{rules, ◌≡◌, ◌+◌, [], drop, map, refl, sym, ap, ◌∙◌, subst, Err}
+use Rattle.std.proofs.Common.{rules, ◌≡◌, ◌+◌, inl, inr, true, [], drop, map, Some, refl, sym, ap, ◌∙◌, subst, Err}
 use Rattle.dpl_syntax.proofs.Walks.{drop-end}
 use Rattle.dpl_language.specs.Tree.{NoStmts, Block, For, Forall, ElseDo}
 use Rattle.dpl_language.specs.Phrases.{intents_of}
 use Rattle.dpl_language.specs.Renamed.{renamed_intents}
 use Rattle.dpl_memory.specs.Resolved.{variable_of}
-use Rattle.dpl_tree.specs.View.{name_view, expr_view, item_view}
+use Rattle.dpl_tree.specs.View.{expr_view, item_view}
 use Rattle.dpl_tree.specs.Declarations.{optional}
 use Rattle.dpl_tree.specs.Statements.{variables_view, with_view, stmt_view, body_view, else_view, stmts_of}
+use Rattle.dpl_types.specs.View.{type_view}
+use Rattle.dpl_rules.specs.Loops.{ForWord, ForallWord}
 use Rattle.dpl_tree.proofs.StatementFields.{stmt_view_block, body_view_block}
 use Rattle.dpl_typer.specs.Sights.{bound_in}
 use Rattle.dpl_typer.proofs.Names.{if_ok}
 use Rattle.dpl_nodes.specs.declared.make.Stop.TheVariants as stop
-use Rattle.dpl_nodes.specs.declared.step.Step.{Block as BlockStep, For as ForStep, Forall as ForallStep}
+use Rattle.dpl_nodes.specs.declared.step.Step.{Block as BlockStep}
 use Rattle.dpl_nodes.specs.declared.step.Else.{Do as DoStep}
-use Rattle.dpl_scalar.specs.Scalar.{IsScalarStmt, IsScalarBody, IsScalarElse}
+use Rattle.dpl_runnable.specs.Runnable.{IsRunnableStmt, IsRunnableBody, IsRunnableElse}
 use Rattle.dpl_planner.specs.declared.progress.Plan.{Plan}
 use Rattle.dpl_planner.specs.Plans.{reducing_view, intents_in, PlansStmt, PlansStmts, PlansInner, PlansBody, PlansElse}
-use Rattle.dpl_planner.proofs.Bodies.{entered, left, block-plans, body-plans, block_stmt-plans, else-plans}
+use Rattle.dpl_planner.proofs.Bodies.{entered, block-plans, body-plans, block_stmt-plans, else-plans}
+use Rattle.dpl_planner.proofs.Headers.{header-over, header-untyped, header-kinds, header-fresh, header-int}
 use Rattle.dpl_planner.proofs.Statements.{while-plans, if-plans, for-plans, forall-plans}
 use Rattle.dpl_planner.proofs.Lists.{Still, still-begun, still-at, still-ended, nothing, asked-nothing, unasked}
 use Rattle.dpl_planner.proofs.Results.{listed}
-use Rattle.dpl_planner.proofs.RefusedStatements.{body-entered, stmts-entered, stmt-entered, else-behind, body-opened, reducing-none, still_scalar-next, still_scalar-at}
+use Rattle.dpl_planner.proofs.RefusedStatements.{body-entered, stmts-entered, stmt-entered, else-behind, body-opened, reducing-none, still_runnable-next, still_runnable-at}
 use Rattle.dpl_planner.proofs.statement.+statement.Goals as goal
 
 pub choose-returns-clause-plans : goal.choose-returns-clause-plans
@@ -40,29 +43,37 @@ pub for_turns-returns-clause-plans : goal.for_turns-returns-clause-plans
 for_turns-returns-clause-plans t c =
     let turns = c.args.turns.now in
     let a = c.args.plan.now in
-    let x = name_view c.in_ok-name.name.now in
-    let step = ForStep c.in_ok-at.at c.in_ok-slot.slot c.in_ok-over.over c.in_ok-body.body in
-    subst (λ p. PlansStmt a p (For turns.at (variables_view turns.variables) turns.within (item_view turns.over) (body_view turns.body)) step) (sym c.leave.ensures)
-    (subst (λ xs. PlansStmt a (left c.body.new.plan) (For turns.at xs turns.within (item_view turns.over) (body_view turns.body)) step) (sym c.in_ok-name.ensures.one)
-    (for-plans a c.open.new.plan c.body.new.plan turns.at turns.within c.in_ok-at.at x c.in_ok-slot.slot (item_view turns.over) c.in_ok-over.over (body_view turns.body) c.in_ok-body.body
-    c.in_ok-at.ensures.near c.in_ok-over.ensures.node c.in_ok-slot.ensures.opened c.in_ok-body.ensures.plans))
+    let xs = variables_view turns.variables in
+    let over = item_view turns.over in
+    let inside = body_view turns.body in
+    if_ok c.for_step.result
+    (λ s made.
+    subst (λ p. PlansStmt a p (For turns.at xs turns.within over inside) s) (sym c.leave.ensures)
+    (for-plans turns.at turns.within xs over inside a c.open.new.plan c.body.new.plan c.in_ok-at.at (type_view c.in_ok-t.t) c.in_ok-names.names c.in_ok-over.over c.in_ok-body.body s
+    c.in_ok-at.ensures.near c.in_ok-over.ensures.node c.in_ok-t.ensures.typed c.in_ok-names.ensures.opened c.in_ok-body.ensures.plans made))
+    c.for_step.ensures.node
 
 pub forall_turns-returns-clause-plans : goal.forall_turns-returns-clause-plans
 forall_turns-returns-clause-plans t c =
     let turns = c.args.turns.now in
     let a = c.args.plan.now in
-    let x = name_view c.in_ok-name.name.now in
+    let xs = variables_view turns.variables in
+    let over = item_view turns.over in
     let w = optional with_view turns.with in
+    let inside = body_view turns.body in
     let found = c.in_ok-reducing.reducing in
     let none = c.new.result in
     let taken : c.deref-2.result.now ≡ found.items = search rules in
     let same : c.deref.result.now ≡ a.intents.items = search rules in
-    let step = ForallStep c.in_ok-at.at c.in_ok-slot.slot c.in_ok-over.over c.in_ok-unnamed.unnamed c.in_ok-body.body in
-    subst (λ (p : Plan). PlansStmt a (record p { intents = none }) (Forall turns.at (variables_view turns.variables) turns.within (item_view turns.over) w (body_view turns.body)) step) (sym c.leave.ensures)
-    (subst (λ xs. PlansStmt a (record (left c.body.new.plan) { intents = none }) (Forall turns.at xs turns.within (item_view turns.over) w (body_view turns.body)) step) (sym c.in_ok-name.ensures.one)
-    (forall-plans a c.open.new.plan c.body.new.plan found none turns.at turns.within c.in_ok-at.at x c.in_ok-slot.slot (item_view turns.over) c.in_ok-over.over w c.in_ok-unnamed.unnamed (body_view turns.body) c.in_ok-body.body
-    (sym same ∙ c.outside.ensures.none (search rules)) (search rules) c.in_ok-at.ensures.near c.in_ok-over.ensures.node c.in_ok-reducing.ensures.found
-    (c.in_ok-unnamed.ensures.same ∙ ap (λ xs. renamed_intents variable_of (map reducing_view xs)) taken) c.in_ok-slot.ensures.opened c.in_ok-body.ensures.plans))
+    let empty : none.items ≡ [] = search rules in
+    let outer : c.outside.result ≡ true = search rules in
+    if_ok c.forall_step.result
+    (λ s made.
+    subst (λ (p : Plan). PlansStmt a (record p { intents = none }) (Forall turns.at xs turns.within over w inside) s) (sym c.leave.ensures)
+    (forall-plans turns.at turns.within xs over w inside a c.open.new.plan c.body.new.plan found none c.in_ok-at.at (type_view c.in_ok-t.t) c.in_ok-names.names c.in_ok-over.over c.in_ok-unnamed.unnamed c.in_ok-body.body s
+    (sym same ∙ c.outside.ensures.none outer) empty c.in_ok-at.ensures.near c.in_ok-over.ensures.node c.in_ok-t.ensures.typed c.in_ok-reducing.ensures.found
+    (c.in_ok-unnamed.ensures.same ∙ ap (λ xs. renamed_intents variable_of (map reducing_view xs)) taken) c.in_ok-names.ensures.opened c.in_ok-body.ensures.plans made))
+    c.forall_step.ensures.node
 
 pub body-returns-clause-plans : goal.body-returns-clause-plans
 body-returns-clause-plans t c =
@@ -107,7 +118,7 @@ stmts-loop-next-init t c =
     let a = c.args.plan.now in
     let all = stmts_of c.args.stmts.now in
     let empty : c.new-steps.result.items ≡ [] = search rules in
-    record { still = subst (Still nothing a all a all) (sym empty) (still-begun nothing a all); scalar = λ h. h }
+    record { still = subst (Still nothing a all a all) (sym empty) (still-begun nothing a all); runnable = λ h. h }
 
 pub stmts-loop-next-preserved : goal.stmts-loop-next-preserved
 stmts-loop-next-preserved t c =
@@ -120,7 +131,7 @@ stmts-loop-next-preserved t c =
       still = subst (λ made. Still nothing old (stmts_of all) c.stmt.new.plan (stmts_of (drop (at.next-index + 1) all)) made) (sym c.in_ok-push.ensures.more)
           (still-at nothing old (stmts_of all) all at.next-index x at.plan c.stmt.new.plan c.in_ok-step.step at.steps.items c.loop-next-test.true c.next-item.is
           (λ start u. tt) at.invariant.still (asked-nothing at.plan c.stmt.new.plan (stmt_view x) c.in_ok-step.step planned));
-      scalar = still_scalar-at old (stmts_of all) all at.next-index x at.plan c.stmt.new.plan c.loop-next-test.true c.next-item.is at.invariant.scalar planned.goes;
+      runnable = still_runnable-at old (stmts_of all) all at.next-index x at.plan c.stmt.new.plan c.loop-next-test.true c.next-item.is at.invariant.runnable planned.goes;
     }
 
 pub stmts-returns-in_err-step-clause-ill_typed : goal.stmts-returns-in_err-step-clause-ill_typed
@@ -128,7 +139,7 @@ stmts-returns-in_err-step-clause-ill_typed t c = λ e h.
     let at = c.loop-next in
     let all = c.args.stmts.now in
     let refused : c.stmt.result ≡ Err stop.IllTyped = search rules in
-    c.stmt.ensures.ill_typed refused (still_scalar-next c.args.plan.now (stmts_of all) all at.next-index c.next-item.result at.plan c.loop-next-test.true c.next-item.is at.invariant.scalar h).0
+    c.stmt.ensures.ill_typed refused (still_runnable-next c.args.plan.now (stmts_of all) all at.next-index c.next-item.result at.plan c.loop-next-test.true c.next-item.is at.invariant.runnable h).0
 
 pub stmts-returns-clause-plans : goal.stmts-returns-clause-plans
 stmts-returns-clause-plans t c =
@@ -139,7 +150,7 @@ stmts-returns-clause-plans t c =
     listed (PlansStmts old at.plan (stmts_of all)) at.steps.items c.list.result c.list.ensures.kept
     (unasked old at.plan (stmts_of all) at.steps.items (still-ended nothing old (stmts_of all) at.plan (stmts_of (drop at.next-index all)) at.steps.items none at.invariant.still))
 
--- ---- REFUSALS: what the planner doesn't take is no scalar statement
+-- ---- REFUSALS: what the planner doesn't take doesn't run
 pub choose-returns-in_err-condition-clause-ill_typed : goal.choose-returns-in_err-condition-clause-ill_typed
 choose-returns-in_err-condition-clause-ill_typed t c = λ e h.
     let refused : c.condition.result ≡ Err stop.IllTyped = search rules in
@@ -170,20 +181,37 @@ repeat-returns-in_err-body-clause-ill_typed t c = λ e h.
     let refused : c.body.result ≡ Err stop.IllTyped = search rules in
     c.body.ensures.ill_typed refused h.1
 
-pub for_turns-returns-in_err-name-clause-ill_typed : goal.for_turns-returns-in_err-name-clause-ill_typed
-for_turns-returns-in_err-name-clause-ill_typed t c = λ e h.
-    let refused : c.single.result ≡ Err stop.IllTyped = search rules in
-    c.single.ensures.ill_typed refused h.0
-
 pub for_turns-returns-in_err-at-clause-ill_typed : goal.for_turns-returns-in_err-at-clause-ill_typed
 for_turns-returns-in_err-at-clause-ill_typed t c = λ e h.
     let refused : c.spot.result ≡ Err stop.IllTyped = search rules in
-    c.spot.ensures.far refused h.3
+    c.spot.ensures.far refused h.2
 
 pub for_turns-returns-in_err-over-clause-ill_typed : goal.for_turns-returns-in_err-over-clause-ill_typed
 for_turns-returns-in_err-over-clause-ill_typed t c = λ e h.
+    let turns = c.args.turns.now in
     let refused : c.over.result ≡ Err stop.IllTyped = search rules in
-    c.over.ensures.ill_typed refused h.1
+    c.over.ensures.ill_typed refused (header-over c.args.plan.now.scopes (variables_view turns.variables) (item_view turns.over) h.0)
+
+pub for_turns-returns-in_err-t-clause-ill_typed : goal.for_turns-returns-in_err-t-clause-ill_typed
+for_turns-returns-in_err-t-clause-ill_typed t c = λ e h.
+    let turns = c.args.turns.now in
+    let refused : c.variable_type.result ≡ Err stop.IllTyped = search rules in
+    header-untyped c.args.plan.now.scopes (variables_view turns.variables) (item_view turns.over) h.0 ForWord (inl refl) (c.variable_type.ensures.ill_typed refused)
+
+pub for_turns-returns-in_err-names-clause-ill_typed : goal.for_turns-returns-in_err-names-clause-ill_typed
+for_turns-returns-in_err-names-clause-ill_typed t c = λ e h.
+    let turns = c.args.turns.now in
+    let ss = c.args.plan.now.scopes in
+    let xs = variables_view turns.variables in
+    let refused : c.open.result ≡ Err stop.IllTyped = search rules in
+    c.open.ensures.ill_typed refused (header-kinds ss xs (item_view turns.over) h.0 ForWord (inl refl) (type_view c.in_ok-t.t) c.in_ok-t.ensures.typed) (header-fresh ss xs (item_view turns.over) h.0 (Some (type_view c.in_ok-t.t)))
+
+pub for_turns-returns-clause-ill_typed : goal.for_turns-returns-clause-ill_typed
+for_turns-returns-clause-ill_typed t c = λ e h.
+    let turns = c.args.turns.now in
+    let a = c.args.plan.now in
+    c.for_step.ensures.ill_typed e
+    (header-int a.scopes (variables_view turns.variables) (item_view turns.over) h.0 ForWord (type_view c.in_ok-t.t) a c.open.new.plan c.in_ok-over.over c.in_ok-names.names c.in_ok-t.ensures.typed refl c.in_ok-over.ensures.kind c.in_ok-names.ensures.opened)
 
 pub for_turns-returns-in_err-body-clause-ill_typed : goal.for_turns-returns-in_err-body-clause-ill_typed
 for_turns-returns-in_err-body-clause-ill_typed t c = λ e h.
@@ -191,32 +219,49 @@ for_turns-returns-in_err-body-clause-ill_typed t c = λ e h.
     let turns = c.args.turns.now in
     let refused : c.body.result ≡ Err stop.IllTyped = search rules in
     c.body.ensures.ill_typed refused
-    (body-opened a c.open.new.plan (variables_view turns.variables) (name_view c.in_ok-name.name.now) c.in_ok-slot.slot (intents_in a) (body_view turns.body) c.in_ok-name.ensures.one c.in_ok-slot.ensures.opened refl h.2)
+    (body-opened a c.open.new.plan (variables_view turns.variables) (item_view turns.over) ForWord (type_view c.in_ok-t.t) c.in_ok-names.names (intents_in a) (body_view turns.body) c.in_ok-t.ensures.typed c.in_ok-names.ensures.opened refl h.1)
 
 pub forall_turns-returns-then-not-outside-clause-ill_typed : goal.forall_turns-returns-then-not-outside-clause-ill_typed
 forall_turns-returns-then-not-outside-clause-ill_typed t c = λ e h.
     let same : c.deref.result.now ≡ c.args.plan.now.intents.items = search rules in
     c.outside.ensures.some (search rules) (same ∙ reducing-none c.args.plan.now.intents.items h.0)
 
-pub forall_turns-returns-in_err-name-clause-ill_typed : goal.forall_turns-returns-in_err-name-clause-ill_typed
-forall_turns-returns-in_err-name-clause-ill_typed t c = λ e h.
-    let refused : c.single.result ≡ Err stop.IllTyped = search rules in
-    c.single.ensures.ill_typed refused h.1
-
 pub forall_turns-returns-in_err-at-clause-ill_typed : goal.forall_turns-returns-in_err-at-clause-ill_typed
 forall_turns-returns-in_err-at-clause-ill_typed t c = λ e h.
     let refused : c.spot.result ≡ Err stop.IllTyped = search rules in
-    c.spot.ensures.far refused h.5
+    c.spot.ensures.far refused h.4
 
 pub forall_turns-returns-in_err-over-clause-ill_typed : goal.forall_turns-returns-in_err-over-clause-ill_typed
 forall_turns-returns-in_err-over-clause-ill_typed t c = λ e h.
+    let turns = c.args.turns.now in
     let refused : c.over.result ≡ Err stop.IllTyped = search rules in
-    c.over.ensures.ill_typed refused h.2
+    c.over.ensures.ill_typed refused (header-over c.args.plan.now.scopes (variables_view turns.variables) (item_view turns.over) h.1)
+
+pub forall_turns-returns-in_err-t-clause-ill_typed : goal.forall_turns-returns-in_err-t-clause-ill_typed
+forall_turns-returns-in_err-t-clause-ill_typed t c = λ e h.
+    let turns = c.args.turns.now in
+    let refused : c.variable_type.result ≡ Err stop.IllTyped = search rules in
+    header-untyped c.args.plan.now.scopes (variables_view turns.variables) (item_view turns.over) h.1 ForallWord (inr refl) (c.variable_type.ensures.ill_typed refused)
+
+pub forall_turns-returns-in_err-names-clause-ill_typed : goal.forall_turns-returns-in_err-names-clause-ill_typed
+forall_turns-returns-in_err-names-clause-ill_typed t c = λ e h.
+    let turns = c.args.turns.now in
+    let ss = c.args.plan.now.scopes in
+    let xs = variables_view turns.variables in
+    let refused : c.open.result ≡ Err stop.IllTyped = search rules in
+    c.open.ensures.ill_typed refused (header-kinds ss xs (item_view turns.over) h.1 ForallWord (inr refl) (type_view c.in_ok-t.t) c.in_ok-t.ensures.typed) (header-fresh ss xs (item_view turns.over) h.1 (Some (type_view c.in_ok-t.t)))
+
+pub forall_turns-returns-clause-ill_typed : goal.forall_turns-returns-clause-ill_typed
+forall_turns-returns-clause-ill_typed t c = λ e h.
+    let turns = c.args.turns.now in
+    let a = c.args.plan.now in
+    c.forall_step.ensures.ill_typed e
+    (header-int a.scopes (variables_view turns.variables) (item_view turns.over) h.1 ForallWord (type_view c.in_ok-t.t) (record a { intents = c.in_ok-reducing.reducing }) c.open.new.plan c.in_ok-over.over c.in_ok-names.names c.in_ok-t.ensures.typed refl c.in_ok-over.ensures.kind c.in_ok-names.ensures.opened)
 
 pub forall_turns-returns-in_err-reducing-clause-ill_typed : goal.forall_turns-returns-in_err-reducing-clause-ill_typed
 forall_turns-returns-in_err-reducing-clause-ill_typed t c = λ e h.
     let refused : c.intents.result ≡ Err stop.IllTyped = search rules in
-    c.intents.ensures.ill_typed refused h.3
+    c.intents.ensures.ill_typed refused h.2
 
 pub forall_turns-returns-in_err-body-clause-ill_typed : goal.forall_turns-returns-in_err-body-clause-ill_typed
 forall_turns-returns-in_err-body-clause-ill_typed t c = λ e h.
@@ -226,8 +271,8 @@ forall_turns-returns-in_err-body-clause-ill_typed t c = λ e h.
     let named = renamed_intents (bound_in a.scopes) (intents_of (optional with_view turns.with)) in
     let refused : c.body.result ≡ Err stop.IllTyped = search rules in
     c.body.ensures.ill_typed refused
-    (body-opened (record a { intents = found }) c.open.new.plan (variables_view turns.variables) (name_view c.in_ok-name.name.now) c.in_ok-slot.slot named (body_view turns.body)
-    c.in_ok-name.ensures.one c.in_ok-slot.ensures.opened c.in_ok-reducing.ensures.found h.4)
+    (body-opened (record a { intents = found }) c.open.new.plan (variables_view turns.variables) (item_view turns.over) ForallWord (type_view c.in_ok-t.t) c.in_ok-names.names named (body_view turns.body)
+    c.in_ok-t.ensures.typed c.in_ok-names.ensures.opened c.in_ok-reducing.ensures.found h.3)
 
 pub body-returns-in_err-steps-clause-ill_typed : goal.body-returns-in_err-steps-clause-ill_typed
 body-returns-in_err-steps-clause-ill_typed t c = λ e h.
@@ -240,7 +285,7 @@ stmt-returns-in_err-steps-in-Block-clause-ill_typed t c = λ e h.
     let block = c.in-Block.block in
     let refused : c.stmts.result ≡ Err stop.IllTyped = search rules in
     c.stmts.ensures.ill_typed refused
-    (stmts-entered a c.enter.new.self (stmts_of block.now.stmts.now) c.in_ok-enter-in-Block.ensures.opened (subst (IsScalarStmt a.scopes (intents_in a)) (ap stmt_view c.in-Block.is ∙ stmt_view_block block) h))
+    (stmts-entered a c.enter.new.self (stmts_of block.now.stmts.now) c.in_ok-enter-in-Block.ensures.opened (subst (IsRunnableStmt a.scopes (intents_in a)) (ap stmt_view c.in-Block.is ∙ stmt_view_block block) h))
 
 pub otherwise-returns-in_err-step-in-Do-clause-ill_typed : goal.otherwise-returns-in_err-step-in-Do-clause-ill_typed
 otherwise-returns-in_err-step-in-Do-clause-ill_typed t c = λ e h.
@@ -248,9 +293,9 @@ otherwise-returns-in_err-step-in-Do-clause-ill_typed t c = λ e h.
     let inner = stmt_view c.in-Do.inner.now in
     let refused : c.stmt.result ≡ Err stop.IllTyped = search rules in
     c.stmt.ensures.ill_typed refused
-    (stmt-entered a c.enter.new.self inner c.in_ok-enter-in-Do.ensures.opened (subst (IsScalarElse a.scopes (intents_in a)) (ap else_view c.in-Do.is) h))
+    (stmt-entered a c.enter.new.self inner c.in_ok-enter-in-Do.ensures.opened (subst (IsRunnableElse a.scopes (intents_in a)) (ap else_view c.in-Do.is) h))
 
 pub inner-returns-in-Block-clause-ill_typed : goal.inner-returns-in-Block-clause-ill_typed
 inner-returns-in-Block-clause-ill_typed t c = λ e h.
     let a = c.args.plan.now in
-    c.stmts.ensures.ill_typed e (subst (IsScalarBody a.scopes (intents_in a)) (ap body_view c.in-Block.is ∙ body_view_block c.in-Block.block) h)
+    c.stmts.ensures.ill_typed e (subst (IsRunnableBody a.scopes (intents_in a)) (ap body_view c.in-Block.is ∙ body_view_block c.in-Block.block) h)

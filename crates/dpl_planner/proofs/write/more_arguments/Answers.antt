@@ -7,4 +7,4 @@ use Rattle.dpl_planner.proofs.write.more_arguments.Goals as goal
 pub returns-in_err-argument-clause-ill_typed : goal.returns-in_err-argument-clause-ill_typed
 returns-in_err-argument-clause-ill_typed c = λ e s.
     let refused : c.argument.result ≡ Err stop.IllTyped = search rules in
-    c.argument.ensures.ill_typed refused (arguments-next c.args.plan.now.scopes c.args.others.now c.loop-next.next-index _ c.loop-next-test.true (c.loop-next.invariant.scalar s))
+    c.argument.ensures.ill_typed refused (arguments-next c.args.plan.now.scopes c.args.others.now c.loop-next.next-index _ c.loop-next-test.true (c.loop-next.invariant.runnable s))

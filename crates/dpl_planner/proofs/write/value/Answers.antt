@@ -1,15 +1,13 @@
 -- An int and a truth value are shown as they are.
--- What isn't is no scalar expression.
+-- What isn't is no expression that is printed.
 use Rattle.std.proofs.Common.{rules, ◌≡◌, Err, sym, ap, ◌∙◌}
 use Rattle.dpl_rules.specs.Expressions.{type_of}
 use Rattle.dpl_tree.specs.View.{expr_view}
 use Rattle.dpl_nodes.specs.declared.make.Stop.TheVariants as stop
 use Rattle.dpl_lowered.specs.LoweredExpressions.{Once}
-use Rattle.dpl_words.specs.Words.{RangeLeaf}
-use Rattle.dpl_memory.specs.Memory.{PlainKind}
-use Rattle.dpl_typer.specs.Makers.{typed_view, kind_of}
+use Rattle.dpl_typer.specs.Makers.{typed_view}
 use Rattle.dpl_planner.proofs.Printed.{int-argument, truth-argument}
-use Rattle.dpl_planner.proofs.RefusedParts.{no_kind, same_kind}
+use Rattle.dpl_planner.proofs.RefusedParts.{no_kind}
 use Rattle.dpl_planner.proofs.write.value.Goals as goal
 
 pub returns-in_err-made-clause-ill_typed : goal.returns-in_err-made-clause-ill_typed
@@ -22,10 +20,3 @@ returns-in-Int-clause-shown c = int-argument c.args.plan.now.scopes (expr_view c
 
 pub returns-in-Truth-clause-shown : goal.returns-in-Truth-clause-shown
 returns-in-Truth-clause-shown c = truth-argument c.args.plan.now.scopes (expr_view c.args.e.now) c.in-Truth.e (ap (typed_view Once) (sym c.in-Truth.is) ∙ c.in_ok-made.ensures.node Once) c.in_ok-made.ensures.found
-
-pub returns-in-Range-clause-ill_typed : goal.returns-in-Range-clause-ill_typed
-returns-in-Range-clause-ill_typed c = λ e s.
-    let same = same_kind c.in_ok-made.made (type_of c.args.plan.now.scopes (expr_view c.args.e.now)) s.kind c.in_ok-made.ensures.kind s.expr.kind in
-    let both : PlainKind s.kind ≡ PlainKind RangeLeaf = sym same ∙ ap kind_of c.in-Range.is in
-    let is : s.kind ≡ RangeLeaf = cc in
-    s.scalar is
