@@ -10,20 +10,22 @@ use Rattle.dpl_language.specs.Environment.{Plain}
 use Rattle.dpl_language.specs.Names.{Text, Entry}
 use Rattle.dpl_language.specs.Scopes.{PlainSort}
 use Rattle.dpl_rules.specs.Sights.{Declared, Scope, Scopes, find, lookup, type_declared}
-use Rattle.dpl_rules.specs.Types.{ValueType, Scalar, Range}
+use Rattle.dpl_rules.specs.Types.{ValueType, Scalar, Range, Domain}
 use Rattle.dpl_rules.specs.Loops.{behind}
 use Rattle.dpl_rules.specs.Breaches.{top}
 use Rattle.dpl_rules.specs.Sound.{behind_all}
 use Rattle.dpl_scopes.specs.Slots.{slot_in}
-use Rattle.dpl_words.specs.Words.{LeafKind}
-use Rattle.dpl_memory.specs.Memory.{PlainKind, Memory}
+use Rattle.dpl_memory.specs.Memory.{VariableKind, PlainKind, DomainKind, TupleKind, ArrayKind, Memory}
 use Rattle.dpl_memory.specs.Resolved.{Sighted, outermost, sighted, entry_in, frame_in}
-use Rattle.dpl_scalar.proofs.Expressions.{plain-cases}
-use Rattle.dpl_typer.specs.Leaves.{kind_by, leaf_by}
+use Rattle.dpl_runnable.specs.Kinds.{IsDeclaredKind}
+use Rattle.dpl_runnable.proofs.Expressions.{variable-cases}
+use Rattle.dpl_typer.specs.Makers.{is_promoted}
+use Rattle.dpl_typer.specs.Leaves.{is_rank, is_tuple_rank, value_kind, kind_by, leaf_by}
+use Rattle.dpl_typer.specs.Shapes.{shape_by}
+use Rattle.dpl_typer.proofs.OperatorKinds.{kind_if-some}
 use Rattle.dpl_typer.specs.Sights.{bound_at, frame_from, sight_of, IsPlainScope, ArePlainScopes}
 use Rattle.dpl_run.specs.Names.{declared_by, declared_names}
-use Rattle.dpl_typer.proofs.Sights.{HasPlainKind, lookup-plain}
-use Rattle.dpl_run.specs.Leaving.{sighted_in, held_by, held_entry, held_frame}
+use Rattle.dpl_run.specs.Leaving.{sighted_in, held_by, held_entry, held_frame, IsLeft, AreLeft}
 
 -- the names of a scope, in order
 abbrev names_in : Scope → List Text
@@ -123,9 +125,9 @@ outermost-names ts plain =
     let g = behind_all-grown [] ts in
     outermost-one (behind_all top ts) g.scope (declared_names ts) g.one g.named plain
 
--- ---- what plain variables hold
+-- ---- what variables hold
 abbrev HoldsAlike : Memory → Text → Option ℕ → Option ValueType → Type 0
-HoldsAlike s x slot t = record { name = x; content = Plain (held_by t slot s) } ≡ entry_in s (sighted (record { text = x; variable = leaf_by (kind_by t) slot }) PlainSort)
+HoldsAlike s x slot t = record { name = x; content = Plain (held_by t slot s) } ≡ entry_in s (sighted (record { text = x; variable = leaf_by (kind_by t) slot; shape = shape_by t }) PlainSort)
 
 scalar-held : (s : Memory) (x : Text) (slot : Option ℕ) (l : Kind) → HoldsAlike s x slot (Some (Scalar l))
 scalar-held s x None IntKind = refl
@@ -137,16 +139,29 @@ range-held : (s : Memory) (x : Text) (slot : Option ℕ) (strided : Bool) → Ho
 range-held s x None strided = refl
 range-held s x (Some slot) strided = refl
 
-type-held : (s : Memory) (x : Text) (slot : Option ℕ) (t : Option ValueType) (k : LeafKind) → kind_by t ≡ Some (PlainKind k) → HoldsAlike s x slot t
-type-held s x slot None k e = absurd (none-some (PlainKind k) e)
-type-held s x slot (Some t) k e = plain-cases (λ t. HoldsAlike s x slot (Some t)) (scalar-held s x slot) (range-held s x slot) t k e
+domain-held : (s : Memory) (x : Text) (slot : Option ℕ) (rank : ℕ) (strided : Bool) → is_rank rank ≡ true → HoldsAlike s x slot (Some (Domain rank strided))
+domain-held s x None rank strided r = rw r refl
+domain-held s x (Some slot) rank strided r = rw r refl
 
-declared-held : (s : Memory) (x : Text) (slot : Option ℕ) (o : Option Declared) → HasPlainKind o → HoldsAlike s x slot (type_declared o)
-declared-held s x slot None plain = refl
-declared-held s x slot (Some d) plain = type-held s x slot d.type plain.0 plain.1
+-- what a declaration gives is no whole array
+declared-single : (k : VariableKind) → IsDeclaredKind k → is_promoted k ≡ false
+declared-single (PlainKind k) h = refl
+declared-single DomainKind h = refl
+declared-single TupleKind h = absurd h
+declared-single (ArrayKind k) h = absurd h
 
-pub held-frame : (scopes : Scopes) (s : Memory) → ArePlainScopes scopes → (xs : List Text) → held_frame scopes s xs ≡ frame_in s (map (sighted_in scopes) xs)
-held-frame scopes s plain [] = refl
-held-frame scopes s plain (x ∷ xs) =
-    ap (λ (e : Entry). e ∷ held_frame scopes s xs) (declared-held s x (slot_in scopes x) (lookup scopes x) (lookup-plain scopes x plain))
-    ∙ ap (λ es. entry_in s (sighted_in scopes x) ∷ es) (held-frame scopes s plain xs)
+type-held : (s : Memory) (x : Text) (slot : Option ℕ) (t : Option ValueType) (k : VariableKind) → kind_by t ≡ Some k → IsDeclaredKind k → HoldsAlike s x slot t
+type-held s x slot None k e kept = absurd (none-some k e)
+type-held s x slot (Some t) k e kept =
+    variable-cases (λ t. value_kind t ≡ Some k → HoldsAlike s x slot (Some t)) (λ l e. scalar-held s x slot l) (λ strided e. range-held s x slot strided) (λ rank strided r e. domain-held s x slot rank strided r)
+    (λ rank r e. absurd (subst IsDeclaredKind (sym (kind_if-some (is_tuple_rank rank) TupleKind k e).1) kept)) t k (declared-single k kept) e e
+
+declared-held : (s : Memory) (x : Text) (slot : Option ℕ) (o : Option Declared) → IsLeft o → HoldsAlike s x slot (type_declared o)
+declared-held s x slot None is = refl
+declared-held s x slot (Some d) is = type-held s x slot d.type is.0 is.1 is.2
+
+pub held-frame : (scopes : Scopes) (s : Memory) → AreLeft scopes → (xs : List Text) → held_frame scopes s xs ≡ frame_in s (map (sighted_in scopes) xs)
+held-frame scopes s are [] = refl
+held-frame scopes s are (x ∷ xs) =
+    ap (λ (e : Entry). e ∷ held_frame scopes s xs) (declared-held s x (slot_in scopes x) (lookup scopes x) (are x))
+    ∙ ap (λ es. entry_in s (sighted_in scopes x) ∷ es) (held-frame scopes s are xs)

@@ -8,4 +8,5 @@ pub mod Ends
 pub mod Meaning
 pub mod OneOutcome
 pub mod Stages
-pub mod Scalars
+pub mod Runnable
+pub mod Declared

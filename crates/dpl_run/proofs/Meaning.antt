@@ -16,13 +16,13 @@ use Rattle.dpl_language.specs.Renamed.{renamed_program, renamed_stmts}
 use Rattle.dpl_language.specs.Scopes.{fits_all, after_all}
 use Rattle.dpl_language.specs.Agreement.{EndsAlike}
 use Rattle.dpl_language.proofs.ProgramsAlike.{run_from}
-use Rattle.dpl_rules.specs.Types.{ValueType, Scalar, Range, scalar_of}
+use Rattle.dpl_rules.specs.Types.{ValueType, Scalar, Range, Domain, Tuple, scalar_of}
 use Rattle.dpl_rules.specs.Sights.{Scopes, lookup, type_declared}
 use Rattle.dpl_rules.specs.Sound.{behind_all, sets_fit}
 use Rattle.dpl_rules.specs.Breaches.{top}
 use Rattle.dpl_lowered.proofs.Runs.{exec_all-lowered}
 use Rattle.dpl_words.specs.Words.{LeafKind, IntLeaf, TruthLeaf, RangeLeaf}
-use Rattle.dpl_memory.specs.Memory.{PlainKind, Memory, known_variable, in_memory}
+use Rattle.dpl_memory.specs.Memory.{PlainKind, DomainKind, TupleKind, Memory, known_variable, in_memory}
 use Rattle.dpl_memory.specs.Resolved.{variable_of, Start, first_memory, first_seen, resolving, frame_in, outermost, left_in, StandsFor}
 use Rattle.dpl_memory.proofs.Known.{memory-known}
 use Rattle.dpl_memory.proofs.MemoryAgrees.{meaning-memory, left-memory}
@@ -34,8 +34,9 @@ use Rattle.dpl_says.specs.Given.{scalar_by, given, words_by}
 use Rattle.dpl_says.specs.Says.{run_of}
 use Rattle.dpl_given.specs.Words.{words_in}
 use Rattle.dpl_given.proofs.Alike.{kind_as, given-alike}
-use Rattle.dpl_typer.specs.Leaves.{value_kind, kind_by}
-use Rattle.dpl_scalar.proofs.Expressions.{plain-cases}
+use Rattle.dpl_typer.specs.Leaves.{is_rank, is_tuple_rank, value_kind, kind_by}
+use Rattle.dpl_typer.proofs.OperatorKinds.{kind_if-some}
+use Rattle.dpl_runnable.proofs.Expressions.{variable-cases}
 use Rattle.dpl_typer.specs.Sights.{sight_of, ArePlainScopes}
 use Rattle.dpl_run.specs.Plans.{IsPlan, IsGivenAlike}
 use Rattle.dpl_steps.specs.Runs.{having_printed}
@@ -79,8 +80,20 @@ of_range strided k e =
     let is : RangeLeaf ≡ k = cc in
     ap kind_as is
 
+of_domain : (rank : ℕ) (strided : Bool) (k : LeafKind) → value_kind (Domain rank strided) ≡ Some (PlainKind k) → ⊥
+of_domain rank strided k e =
+    let is : DomainKind ≡ PlainKind k = (kind_if-some (is_rank rank) DomainKind (PlainKind k) e).1 in
+    cc
+
+of_tuple : (rank : ℕ) (k : LeafKind) → value_kind (Tuple rank) ≡ Some (PlainKind k) → ⊥
+of_tuple rank k e =
+    let is : TupleKind ≡ PlainKind k = (kind_if-some (is_tuple_rank rank) TupleKind (PlainKind k) e).1 in
+    cc
+
 scalar-kind : (t : ValueType) (k : LeafKind) → value_kind t ≡ Some (PlainKind k) → scalar_of t ≡ kind_as k
-scalar-kind t k e = plain-cases (λ t. value_kind t ≡ Some (PlainKind k) → scalar_of t ≡ kind_as k) (λ l. of_scalar l k) (λ strided. of_range strided k) t k e e
+scalar-kind t k e =
+    variable-cases (λ t. value_kind t ≡ Some (PlainKind k) → scalar_of t ≡ kind_as k) (λ l. of_scalar l k) (λ strided. of_range strided k) (λ rank strided r e. absurd (of_domain rank strided k e)) (λ rank r e. absurd (of_tuple rank k e))
+    t (PlainKind k) refl e e
 
 declared-kind : (t : Option ValueType) (k : LeafKind) → kind_by t ≡ Some (PlainKind k) → scalar_by t ≡ kind_as k
 declared-kind None k e = absurd (none-some (PlainKind k) e)

@@ -1,6 +1,6 @@
 -- The plan that the planner gives, from its clauses; and that the sets of a program without a refusal fit it.
 -- A `config const` in sight is a plain variable, and has a slot.
-use Rattle.std.proofs.Common.{◌≡◌, ℕ, ◌≤◌, List, [], ◌∷◌, Bool, true, false, Option, Some, None, is_some, refl, sym, ap, ◌∙◌, subst}
+use Rattle.std.proofs.Common.{◌≡◌, ℕ, ◌≤◌, List, [], Bool, true, false, Option, Some, None, is_some, refl, sym, ap, ◌∙◌, subst}
 use Rattle.std.proofs.Math.Nat.{le_refl}
 use Rattle.dpl_syntax.specs.declared.place.Place.{Place}
 use Rattle.dpl_syntax.specs.declared.refusal.Refusal.{Refusal}
@@ -21,8 +21,8 @@ use Rattle.dpl_memory.specs.Resolved.{text_of, variable_of, Start, first_seen, r
 use Rattle.dpl_nodes.specs.declared.step.Step.{Step}
 use Rattle.dpl_nodes.specs.Steps.{steps_of}
 use Rattle.dpl_typer.specs.Leaves.{kind_by, kind_in, leaf_by}
+use Rattle.dpl_typer.specs.Shapes.{shape_in}
 use Rattle.dpl_typer.specs.Sights.{bound_in, sight_of, ArePlainScopes}
-use Rattle.dpl_typer.proofs.Sights.{HasPlainKind, lookup-plain}
 use Rattle.dpl_planner.specs.Bounds.{bound_program}
 use Rattle.dpl_planner.specs.Given.{IsGiven, IsConfig, AreGiven}
 use Rattle.dpl_closed.specs.Closed.{closed_stmts}
@@ -36,16 +36,16 @@ some-slot (Some slot) e = (slot, refl)
 -- ---- what the sets give
 given-leaf : (start : Start) (ss : Scopes) (x : Text) (k : LeafKind) (slot : ℕ) → IsGivenAlike ss start → kind_in ss x ≡ Some (PlainKind k) → slot_in ss x ≡ Some slot → IsGiven start (bound_in ss x)
 given-leaf start ss x k slot alike kind at =
-    subst (λ l. IsGiven start (record { text = x; variable = l })) (sym (ap (λ o. leaf_by o (slot_in ss x)) kind ∙ ap (leaf_by (Some (PlainKind k))) at)) (alike x k slot kind at)
+    subst (λ l. IsGiven start (record { text = x; variable = l; shape = shape_in ss x })) (sym (ap (λ o. leaf_by o (slot_in ss x)) kind ∙ ap (leaf_by (Some (PlainKind k))) at)) (alike x k slot kind at)
 
-configured-given : (start : Start) (ss : Scopes) (x : Text) → IsGivenAlike ss start → (o : Option Declared) → lookup ss x ≡ o → IsConfig o → HasPlainKind o → IsGiven start (bound_in ss x)
-configured-given start ss x alike None found config plain = absurd config
-configured-given start ss x alike (Some d) found config plain =
+configured-given : (start : Start) (ss : Scopes) (x : Text) → IsGivenAlike ss start → (o : Option Declared) → lookup ss x ≡ o → IsConfig o → IsGiven start (bound_in ss x)
+configured-given start ss x alike None found config = absurd config
+configured-given start ss x alike (Some d) found config =
     let slot = some-slot (slot_in ss x) (slot_in-lookup ss x ∙ ap is_some found) in
-    given-leaf start ss x plain.0 slot.0 alike (ap (λ o. kind_by (type_declared o)) found ∙ plain.1) slot.1
+    given-leaf start ss x config.1.0 slot.0 alike (ap (λ o. kind_by (type_declared o)) found ∙ config.1.1) slot.1
 
-are-given : (start : Start) (ss : Scopes) → ArePlainScopes ss → IsGivenAlike ss start → AreGiven start ss
-are-given start ss plain alike x config = configured-given start ss x alike (lookup ss x) refl config (lookup-plain ss x plain)
+are-given : (start : Start) (ss : Scopes) → IsGivenAlike ss start → AreGiven start ss
+are-given start ss alike x config = configured-given start ss x alike (lookup ss x) refl config
 
 pub planned : (t : ProgramTree Text) (slots : ℕ) (scopes : Scopes) (steps : List Step) → renamed_program text_of (bound_program t) ≡ t → (lowered_program known_variable (renamed_program variable_of (bound_program t))).stmts ≡ steps_of steps
     → ((start : Start) → slots ≤ start.slots → AreGiven start scopes → fits_all (resolving start) (bound_program t).stmts first_seen)
@@ -55,7 +55,7 @@ planned t slots scopes steps text nodes fits sight behind plain = record {
   resolved = bound_program t;
   text = text;
   nodes = nodes;
-  fits = λ start same alike. fits start (subst (λ n. slots ≤ n) (sym same) (le_refl slots)) (are-given start scopes plain alike);
+  fits = λ start same alike. fits start (subst (λ n. slots ≤ n) (sym same) (le_refl slots)) (are-given start scopes alike);
   sight = sight;
   behind = behind;
   plain = plain;

@@ -25,8 +25,8 @@ fn held(value_type: ValueType<'_>, slot: usize, frame: &Frame<'_>) -> Value
         ValueType::Scalar(ScalarKind::Int) => Value::Int(frame.number(slot)),
         ValueType::Scalar(ScalarKind::Bool) => Value::Bool(frame.number(slot) != 0),
         ValueType::Range { .. } => Value::Range(frame.range(slot)),
-        ValueType::Domain { .. }
-        | ValueType::Array(_, _)
+        ValueType::Domain { .. } => Value::Domain(frame.domain(slot)),
+        ValueType::Array(_, _)
         | ValueType::Promoted(_, _)
         | ValueType::Tuple(_)
         | ValueType::Locale

@@ -5,11 +5,11 @@ ghost use Rattle.std.specs.Prelude.{◌≡◌, map, option_map};
 ghost use Rattle.dpl_language.specs.Environment.{Plain};
 ghost use Rattle.dpl_language.specs.Names.{in_frame};
 
-use dpl_nodes::RangeWord;
+use dpl_nodes::{DomainWord, RangeWord};
 use std::marker::Model;
 
-/// What a plain variable holds.
-#[derive(Clone, Copy, PartialEq, Eq, Debug)]
+/// What a variable holds.
+#[derive(Clone, Copy, Debug)]
 pub enum Value {
     /// An int.
     Int(i64),
@@ -17,6 +17,8 @@ pub enum Value {
     Bool(bool),
     /// A range, with its members in order.
     Range(RangeWord),
+    /// A domain, with a range for each of its dimensions.
+    Domain(DomainWord),
 }
 
 /// A variable of the top level, with the value that it has when the run ends.

@@ -16,7 +16,7 @@ mod text;
 mod writer;
 
 pub use config::{Config, ConfigFault, MOST_TURNS, Maps};
-pub use dpl_nodes::{Fault, FaultCode, RangeWord, Turn};
+pub use dpl_nodes::{DomainWord, Fault, FaultCode, RangeWord, Turn};
 pub use dpl_syntax::{Code, Place, Refusal};
 pub use gate::{Gate, OpenGate};
 pub use left::{Left, Value, Variable};

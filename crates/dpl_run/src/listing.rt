@@ -1,5 +1,5 @@
 // The dump of what a program leaves: a line for each int and each truth value.
-// Ranges have none.
+// Ranges and domains have none.
 
 ghost use Rattle.std.specs.Prelude.{◌≡◌, ◌++◌, false, true, IfOk, OnOk};
 ghost use Rattle.std.specs.Io.KnownBytes.{Appends, Keeps};
@@ -34,7 +34,7 @@ fn add(alloc: Global, variable: &Variable, text: &mut Vec<u8>) -> Result<(), All
         }
         Value::Bool(true) => add_line(&variable.name, b"true", text),
         Value::Bool(false) => add_line(&variable.name, b"false", text),
-        Value::Range(_) => Ok(()),
+        Value::Range(_) | Value::Domain(_) => Ok(()),
     }
 }
 

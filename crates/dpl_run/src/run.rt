@@ -9,6 +9,7 @@ ghost use Rattle.dpl_tree.specs.Statements.{stmts_of};
 ghost use Rattle.dpl_memory.specs.Memory.{in_memory};
 ghost use Rattle.dpl_nodes.specs.Steps.{steps_of};
 ghost use Rattle.dpl_typer.specs.Sights.{ArePlainScopes};
+ghost use Rattle.dpl_run.specs.Leaving.{AreLeft};
 ghost use Rattle.dpl_run.specs.Runs.{RanTo};
 ghost use Rattle.dpl_run.specs.Writers.{Partly};
 
@@ -42,7 +43,7 @@ pub(crate) fn run<'t>(
     scopes: &Scopes<'_>,
     stmts: &[Stmt<'_>],
 ) -> Result<Ended, AllocError>
-    ensures { IfOk result (λ ended. ArePlainScopes scopes.now → RanTo scopes.now (stmts_of stmts.now) (exec_all frame.old.limits in_memory (steps_of steps.now) frame.old.memory no_deeds) ended.outcome ended.text.items) }
+    ensures { IfOk result (λ ended. ArePlainScopes scopes.now → AreLeft scopes.now → RanTo scopes.now (stmts_of stmts.now) (exec_all frame.old.limits in_memory (steps_of steps.now) frame.old.memory no_deeds) ended.outcome ended.text.items) }
 {
     let mut text = Vec::new(alloc);
     match run_steps(steps, frame, &mut text) {

@@ -7,7 +7,7 @@ ghost use Rattle.dpl_history.specs.declared.history.Event.{Event};
 ghost use Rattle.dpl_syntax.specs.declared.refusal.Refusal.{Refusal};
 ghost use Rattle.dpl_tree.specs.Statements.{stmts_of, program_view};
 ghost use Rattle.dpl_rules.specs.Breaches.{top};
-ghost use Rattle.dpl_scalar.specs.Scalar.{AreScalarTops};
+ghost use Rattle.dpl_runnable.specs.Runnable.{AreRunnableTops};
 ghost use Rattle.dpl_run.specs.Headline.{ComesTo, ComesToOnly, IsRead, Means, tree_refusal};
 ghost use Rattle.dpl_run.specs.Refusing.{IsRejection, IsCause};
 ghost use Rattle.dpl_run.specs.Settings.{limits_of};
@@ -62,7 +62,7 @@ fn tree_refusal<'t>(
     }
 }
 
-// The run of a program that has no refusal, which is scalar, so that the planner doesn't refuse it.
+// The run of a program that has no refusal: such a program runs, so that the planner doesn't refuse it.
 fn run_program<'t>(
     arena: Arena<'t>,
     program: &Program<'t>,
@@ -70,7 +70,7 @@ fn run_program<'t>(
     config: &Config,
 ) -> Result<Ended, AllocError>
     requires unrefused { tree_refusal (map (λ set. set.now) sets.now) (program_view program.now) ≡ None }
-    requires scalar { AreScalarTops top (stmts_of program.now.stmts.now) }
+    requires runnable { AreRunnableTops top (stmts_of program.now.stmts.now) }
     ensures { IfOk result (λ ended. (histories : List (List Event)) → Means (program_view program.now) (map (λ set. set.now) sets.now) (limits_of config.now) histories ended.outcome ended.text.items) }
 {
     let alloc = arena.alloc();

@@ -1,12 +1,12 @@
 -- Each stage that stops tells the text's refusal, and a program that has none comes to what its run comes to.
--- Such a program is scalar.
+-- Such a program runs.
 use Rattle.std.proofs.Common.{◌∙◌, map, sym, ap, subst, Err}
 use Rattle.std.proofs.lemmas.Result.{err_from_is_err_and}
 use Rattle.dpl_syntax.specs.Text.{Lexes}
 use Rattle.dpl_tree.specs.Statements.{program_view}
 use Rattle.dpl_run.specs.Headline.{IsProgram}
 use Rattle.dpl_run.specs.Settings.{limits_of}
-use Rattle.dpl_run.proofs.Scalars.{program-is_scalar}
+use Rattle.dpl_run.proofs.Runnable.{program-runs}
 use Rattle.dpl_run.proofs.Stages.{lex-stops, parse-stops, program-comes}
 use Rattle.dpl_run.proofs.text.stages.Goals as goal
 
@@ -22,14 +22,14 @@ returns-in_err-program-clause-stops c =
     rw (p.1, p.2)
     (parse-stops c.args.text.now (map (λ set. set.now) c.args.sets.now) c.as_slice.result.now c.in_err-program.field-0.0 lexes (λ r is. c.in_err-program.ensures.refused r (ap Err is)))
 
-pub run_program-requires-clause-scalar : goal.run_program-requires-clause-scalar
-run_program-requires-clause-scalar c =
+pub run_program-requires-clause-runnable : goal.run_program-requires-clause-runnable
+run_program-requires-clause-runnable c =
     let text = c.args.text.now in
     let sets = map (λ set. set.now) c.args.sets.now in
     let t = program_view c.in_ok-program.program in
     let lexes : Lexes text c.as_slice.result.now = subst (Lexes text) (sym c.as_slice.ensures.value) c.in_ok-tokens.ensures.found in
     let is : IsProgram text sets t = record { tokens = c.as_slice.result.now; lexes = lexes; spells = c.in_ok-program.ensures.found; unrefused = sym c.in_ok-refusal.ensures ∙ c.in-None.is } in
-    program-is_scalar text sets t is
+    program-runs text sets t is
 
 pub returns-clause-comes : goal.returns-clause-comes
 returns-clause-comes c =

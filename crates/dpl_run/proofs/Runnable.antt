@@ -1,4 +1,4 @@
--- A program that has no refusal is scalar: what the lexer, the grammar and the rules leave of it is what the planner takes.
+-- A program that has no refusal runs: what the lexer, the grammar and the rules leave of it is what the planner takes.
 -- Its places are near, since its text is short.
 use Rattle.std.proofs.Common.{◌≡◌, ℕ, suc, arith, List, [], ◌∷◌, ◌++◌, Option, Some, None, refl}
 use Rattle.dpl_syntax.specs.declared.place.Place.{Place}
@@ -21,9 +21,9 @@ use Rattle.dpl_rules.proofs.Admission.{first_empty}
 use Rattle.dpl_rules.proofs.Soundness.{sound_exactly}
 use Rattle.dpl_closed.specs.Closed.{closed_stmts}
 use Rattle.dpl_nodes.specs.Faults.{IsNear}
-use Rattle.dpl_scalar.specs.Scalar.{AreScalarTops}
-use Rattle.dpl_scalar.proofs.Spelled.{Spells-written}
-use Rattle.dpl_scalar.proofs.Statements.{program-scalar}
+use Rattle.dpl_runnable.specs.Runnable.{AreRunnableTops}
+use Rattle.dpl_runnable.proofs.Spelled.{Spells-written}
+use Rattle.dpl_runnable.proofs.Statements.{program-runnable}
 use Rattle.dpl_run.specs.Headline.{or_closed, IsProgram}
 
 near : (p : Place) → IsWithin (suc longest_text) p → IsNear p
@@ -50,8 +50,8 @@ walk-unbroken t h =
     let reductions = inner_reductions (stmts_deeds top t.stmts) in
     first_empty within reductions (first_empty (within ++ reductions) (count_breaches (all_declarations t.stmts)) h)
 
-pub program-is_scalar : (text : List ℕ) (sets : List (List ℕ)) (t : ProgramTree Text) → IsProgram text sets t → AreScalarTops top t.stmts
-program-is_scalar text sets t is =
+pub program-runs : (text : List ℕ) (sets : List (List ℕ)) (t : ProgramTree Text) → IsProgram text sets t → AreRunnableTops top t.stmts
+program-runs text sets t is =
     let sound = (sound_exactly t).1 (unbroken (closed_stmts t.stmts) (first_breach t) (sets_fit (behind_all top t.stmts) [] sets) is.unrefused) in
-    program-scalar t.stmts (Spells-spelt IsNear 64 is.tokens t is.spells (all-near is.tokens (Lexes-within text is.tokens is.lexes)))
+    program-runnable t.stmts (Spells-spelt IsNear 64 is.tokens t is.spells (all-near is.tokens (Lexes-within text is.tokens is.lexes)))
     (unclosed (closed_stmts t.stmts) (refusal t sets) is.unrefused) (Spells-written 64 is.tokens t is.spells) (walk-unbroken t sound)
