@@ -2,6 +2,7 @@
 // The bytes are those of the language's worked examples, and of its rules.
 
 mod closed;
+mod domains;
 mod explaining;
 mod growths;
 mod input;
@@ -13,7 +14,7 @@ mod sets;
 
 use dpl_range::Range;
 use dpl_run::{
-    Config, ConfigFault, Maps, OpenGate, Outcome, Plain, RangeWord, Refused, Value, dump, run_text,
+    Config, ConfigFault, Left, Maps, OpenGate, Outcome, Plain, Refused, Value, dump, run_text,
 };
 use std::process::Abort;
 use std::test::Fail;
@@ -180,9 +181,17 @@ fn nesting(rt: HostRuntime) -> Result<(), Fail> {
 
 const LEAVES: &str = "\
 var n = 5; const yes = n > 4; var r = 1..9 by -2; { var hidden = 1; }
-for i in 1..3 do n += i; config const c = 3; writeln(n);";
+for i in 1..3 do n += i; config const c = 3; writeln(n); var d = {0..1, 2..4}; d = d[1..1, 2..9];";
 
-// The variables of the top level, in order of declaration, and their dump, in which ranges have no line.
+// The int that a name is left with.
+fn int_left(left: &Left, name: &[u8]) -> Option<i64> {
+    match left.get(name)? {
+        Value::Int(n) => Some(n),
+        Value::Bool(_) | Value::Range(_) | Value::Domain(_) => None,
+    }
+}
+
+// The variables of the top level, in order of declaration, and their dump, in which ranges and domains have no line.
 #[test]
 fn leaves(rt: HostRuntime) -> Result<(), Fail> {
     let config = Config::new(1, 9, 9, [1, 1], [1, 1, 1], Maps::AsIs)?;
@@ -201,18 +210,25 @@ fn leaves(rt: HostRuntime) -> Result<(), Fail> {
         assert!(rt; false, "the program runs to its end");
         return Ok(());
     };
-    assert_eq!(rt; left.variables().len(), 4);
-    assert_eq!(rt; left.get(b"n"), Some(Value::Int(11)));
-    assert_eq!(rt; left.get(b"yes"), Some(Value::Bool(true)));
-    let range = Range::new(1, 9, -2)?;
-    let strided = true;
-    assert_eq!(rt;
-        left.get(b"r"),
-        Some(Value::Range(RangeWord { range, strided }))
-    );
-    assert_eq!(rt; left.get(b"c"), Some(Value::Int(-8)));
-    assert_eq!(rt; left.get(b"hidden"), None);
-    assert_eq!(rt; left.get(b"i"), None);
+    assert_eq!(rt; left.variables().len(), 5);
+    assert_eq!(rt; int_left(&left, b"n"), Some(11));
+    assert!(rt; matches!(left.get(b"yes"), Some(Value::Bool(true))));
+    let Some(Value::Range(r)) = left.get(b"r") else {
+        assert!(rt; false, "r is left as a range");
+        return Ok(());
+    };
+    assert_eq!(rt; r.range, Range::new(1, 9, -2)?);
+    assert!(rt; r.strided);
+    assert_eq!(rt; int_left(&left, b"c"), Some(-8));
+    let Some(Value::Domain(d)) = left.get(b"d") else {
+        assert!(rt; false, "d is left as a domain");
+        return Ok(());
+    };
+    assert_eq!(rt; d.rank(), 2);
+    assert_eq!(rt; d.dimension(0).range, Range::new(1, 1, 1)?);
+    assert_eq!(rt; d.dimension(1).range, Range::new(2, 4, 1)?);
+    assert!(rt; left.get(b"hidden").is_none());
+    assert!(rt; left.get(b"i").is_none());
     let mut lines = Plain::new(Vec::new(rt.alloc()));
     dump(rt.alloc(), &left, &mut lines)?;
     assert_eq!(rt;

@@ -12,7 +12,7 @@ pub(super) fn refusal_sentence(code: Code) -> &'static str {
         }
         Code::NumberTooLarge => "the number is greater than 9223372036854775807",
         Code::Unexpected => {
-            "no program goes on like this, or what begins here is not run: arrays, domains, reductions, locales, tasks, cells"
+            "no program goes on like this, or what begins here is not run: arrays, maps, reductions, locales, tasks, cells"
         }
         Code::TooDeep => "this is nested more than 64 levels deep",
         Code::UnknownName => "the name is not declared here",

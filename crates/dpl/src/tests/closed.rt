@@ -6,12 +6,18 @@ use std::test::Fail;
 
 const CLOSED: [(&str, &str); 17] = [
     ("var A: [1..3] int;", "! P1 at 1:8\n"),
-    ("writeln(5); const D = {1..8};", "! P1 at 1:23\n"),
+    (
+        "writeln(5); const D = {1..8}; var A: [D] int;",
+        "! P1 at 1:38\n",
+    ),
     (
         "const D = {1..8}; var A: [D] int; forall i in D do A[i] = A[i-1];",
-        "! P1 at 1:11\n",
+        "! P1 at 1:26\n",
     ),
-    ("const D: domain(1);", "! P1 at 1:10\n"),
+    (
+        "const D: domain(1) dmapped new blockDist({1..8});",
+        "! P1 at 1:20\n",
+    ),
     ("const D = blockDist.createDomain(1..8);", "! P1 at 1:11\n"),
     (
         "const r = (1..3) dmapped new cyclicDist(1);",
@@ -28,8 +34,8 @@ const CLOSED: [(&str, &str); 17] = [
         "if true then { while false { on here do ; } }",
         "! P1 at 1:30\n",
     ),
-    ("x = 1; const D = {1..8};", "! P1 at 1:18\n"),
-    ("const D = {1..8}; const E = ;", "! P1 at 1:29\n"),
+    ("x = 1; const D = {1..8}; var A: [D] int;", "! P1 at 1:33\n"),
+    ("var A: [1..8] int; const E = ;", "! P1 at 1:30\n"),
     ("A[1] = 2;", "! C1 at 1:1\n"),
 ];
 

@@ -23,7 +23,7 @@ const TOLD: [(&str, &str); 8] = [
     ),
     (
         "writeln(1",
-        "p.chpl:1:10: no program goes on like this, or what begins here is not run: arrays, domains, reductions, locales, tasks, cells\n\
+        "p.chpl:1:10: no program goes on like this, or what begins here is not run: arrays, maps, reductions, locales, tasks, cells\n\
          writeln(1\n\
          \u{20}        ^\n",
     ),
