@@ -2,7 +2,6 @@
 // The bytes are those of the language's worked examples, and of its rules.
 
 mod closed;
-mod domains;
 mod explaining;
 mod growths;
 mod input;
