@@ -18,8 +18,5 @@ pub mod Statements
 pub mod Names
 pub mod Program
 pub mod Together
--- What serves proofs alone: trees with other names, which names a tree may use where, and when two environments agree.
+-- What serves proofs alone: what is true of each tree that a text spells.
 pub mod Spelled
-pub mod Renamed
-pub mod Scopes
-pub mod Agreement

@@ -1,6 +1,6 @@
 -- What a program means, what it writes and what it leaves.
 -- A program is given what the command line sets, its limits, and for each coforall that it enters a history.
-use Rattle.std.specs.Prelude.{ℕ, pos, ◌==◌, if◌then◌else◌, List, [], ◌∷◌, ◌++◌, codes, Option, Some, None}
+use Rattle.std.specs.Prelude.{ℕ, pos, ◌==◌, if◌then◌else◌, List, [], ◌∷◌, ◌++◌, map, codes, Option, Some, None}
 use Rattle.std.specs.Fmt.{decimal}
 use Rattle.dpl_domain.specs.Texts.{index_text}
 use Rattle.dpl_syntax.specs.Lines.{place_text}
@@ -8,9 +8,9 @@ use Rattle.dpl_history.specs.declared.history.Event.{Event}
 use Rattle.dpl_language.specs.Tree.{ProgramTree}
 use Rattle.dpl_language.specs.Values.{Value, Turn, InNone, InTurn, InTask, Fault, fault, FaultCode, Outside, ZeroDivisor, PastLimit, EmptyEnd, Budget, NoLocale, CellStuck, ArrayTooLarge}
 use Rattle.dpl_language.specs.Outcome.{Deeds, no_deeds, Outcome, Done, Stop, Waits}
-use Rattle.dpl_language.specs.Environment.{Limits}
+use Rattle.dpl_language.specs.Environment.{Content, Plain, ArrayOf, CellOf, Limits}
 use Rattle.dpl_language.specs.Statements.{exec_all}
-use Rattle.dpl_language.specs.Names.{Text, Frame, Store, State, by_name}
+use Rattle.dpl_language.specs.Names.{Text, Entry, Frame, Store, State, by_name}
 
 -- an operation that waits outside tasks is F7 at once, at the cell's name
 abbrev pub settled : {S : Type 0} → Outcome S → Outcome S
@@ -68,6 +68,18 @@ abbrev pub top_level : Store → Frame
 top_level [] = []
 top_level (f ∷ []) = f
 top_level (f ∷ g ∷ fs) = top_level (g ∷ fs)
+
+-- What a name holds by itself: of an array its domain and its elements, whichever name it is declared over.
+abbrev pub own_content : {N : Type 0} → Content N → Content N
+own_content (Plain v) = Plain v
+own_content (ArrayOf over k rs vs) = ArrayOf None k rs vs
+own_content (CellOf k c) = CellOf k c
+
+abbrev pub own_entry : Entry → Entry
+own_entry e = record { name = e.name; content = own_content e.content }
+
+abbrev pub own_frame : Frame → Frame
+own_frame f = map {A = Entry} {B = Entry} own_entry f
 
 -- what a run that is done leaves: the top-level names and what they hold
 abbrev pub left : Outcome State → Option Frame

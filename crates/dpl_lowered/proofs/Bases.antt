@@ -10,7 +10,7 @@ use Rattle.dpl_language.specs.Outcome.{with_ok}
 use Rattle.dpl_language.specs.Environment.{Environment, Limits}
 use Rattle.dpl_language.specs.Phrases.{Base, BaseName, BaseLocales, OtherBase, base_of, item_base, bare_name, posts_read}
 use Rattle.dpl_language.specs.Expressions.{element_of, named, bracketed, value_of, item_of, values_of, post_of}
-use Rattle.dpl_language.proofs.RunsAlike.{with_ok-same}
+use Rattle.dpl_agreement.proofs.RunsAlike.{with_ok-same}
 use Rattle.dpl_lowered.specs.Known.{Known, Unknown, WholeArray, NoArray, PlainValue, may_be_array, IsAsKnown, IsKnown}
 use Rattle.dpl_lowered.specs.Shapes.{placed, in_brackets}
 use Rattle.dpl_lowered.specs.LoweredExpressions.{Once, rebased, name_base, read_base, told_base, based, rounds_by, rounds_of, lowered_expr}

@@ -13,7 +13,7 @@ use Rattle.dpl_language.specs.Environment.{Environment, Limits, Plain, Content}
 use Rattle.dpl_language.specs.Phrases.{declared_over}
 use Rattle.dpl_language.specs.Expressions.{items_of, whole_item, domain_of}
 use Rattle.dpl_language.specs.Declarations.{gathered, Shell, array_with, type_of, declaring, initial_then, declare_with, array_of_item, array_of_init, array_of, declare_array, declare_typed, given_or, declare_by, declare}
-use Rattle.dpl_language.proofs.RunsAlike.{with_ok-same}
+use Rattle.dpl_agreement.proofs.RunsAlike.{with_ok-same}
 use Rattle.dpl_lowered.specs.Known.{Known, IsKnown}
 use Rattle.dpl_lowered.specs.Shapes.{placed}
 use Rattle.dpl_lowered.specs.LoweredExpressions.{Once, EachTurn, lowered_item}

@@ -11,7 +11,7 @@ use Rattle.dpl_language.specs.Outcome.{with_ok}
 use Rattle.dpl_language.specs.Environment.{Environment, Limits}
 use Rattle.dpl_language.specs.Phrases.{OtherBase, base_of, item_base}
 use Rattle.dpl_language.specs.Expressions.{or_domain, unless_decided, whole_in, whole_item, whole_links, value_of, chained, item_of, items_of, more_items, values_of, more_values, behind, post_of}
-use Rattle.dpl_language.proofs.RunsAlike.{with_ok-same}
+use Rattle.dpl_agreement.proofs.RunsAlike.{with_ok-same}
 use Rattle.dpl_lowered.specs.Shapes.{kept, as_expr, as_item, as_items, as_more_items, hidden, hidden_item, two, grouped, passes_on, all_pass_on, nests, nested, stacked_on, stacked}
 
 -- VALUES ONE AFTER ANOTHER

@@ -11,10 +11,10 @@ use Rattle.dpl_language.specs.Statements.{exec}
 use Rattle.dpl_language.specs.Names.{Text, State, by_name}
 use Rattle.dpl_language.specs.Program.{settled, first_state, meaning, written}
 use Rattle.dpl_language.specs.Together.{Happened}
-use Rattle.dpl_language.specs.Renamed.{renamed_program}
-use Rattle.dpl_language.specs.Scopes.{Scoping, fits_all}
-use Rattle.dpl_language.specs.Agreement.{Simulates}
-use Rattle.dpl_language.proofs.ProgramsAlike.{run_from, written-same, happened-same}
+use Rattle.dpl_agreement.specs.Renamed.{renamed_program}
+use Rattle.dpl_agreement.specs.Scopes.{Scoping, fits_all}
+use Rattle.dpl_agreement.specs.Agreement.{Simulates}
+use Rattle.dpl_agreement.proofs.ProgramsAlike.{run_from, written-same, happened-same}
 use Rattle.dpl_lowered.specs.Known.{Known, nothing_known, IsKnown}
 use Rattle.dpl_lowered.specs.LoweredExpressions.{Once, EachTurn, lowered_expr}
 use Rattle.dpl_lowered.specs.LoweredStatements.{lowered_stmt, lowered_program}

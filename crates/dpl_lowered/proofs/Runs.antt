@@ -13,7 +13,7 @@ use Rattle.dpl_language.specs.Expressions.{value_of, item_of}
 use Rattle.dpl_language.specs.Loops.{within_budget, named_turn, scoped, turn_of}
 use Rattle.dpl_language.specs.Statements.{task_limit, holds, exec, exec_body, exec_all, exec_else}
 use Rattle.dpl_language.specs.Tasks.{tasks_of}
-use Rattle.dpl_language.proofs.RunsAlike.{with_ok-same}
+use Rattle.dpl_agreement.proofs.RunsAlike.{with_ok-same}
 use Rattle.dpl_lowered.specs.Known.{Known, IsKnown}
 use Rattle.dpl_lowered.specs.LoweredExpressions.{Once, lowered_expr}
 use Rattle.dpl_lowered.specs.LoweredStatements.{lowered_variables, with_intents, lowered_stmt, lowered_body, lowered_stmts, lowered_else}

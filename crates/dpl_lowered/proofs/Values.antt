@@ -12,7 +12,7 @@ use Rattle.dpl_language.specs.Ranges.{bounded, method_of}
 use Rattle.dpl_language.specs.Environment.{Environment, Limits}
 use Rattle.dpl_language.specs.Phrases.{Base, OtherBase, base_of}
 use Rattle.dpl_language.specs.Expressions.{or_domain, reduction, unless_decided, whole_in, whole_item, whole_links, named, value_of, chained, item_of, stridden, items_of, more_items, values_of, more_values, behind, post_of, answer_of}
-use Rattle.dpl_language.proofs.RunsAlike.{with_ok-same, with_ok-same_by}
+use Rattle.dpl_agreement.proofs.RunsAlike.{with_ok-same, with_ok-same_by}
 use Rattle.dpl_lowered.specs.Known.{Known, may_be_array, IsKnown}
 use Rattle.dpl_lowered.specs.Shapes.{kept, placed}
 use Rattle.dpl_lowered.specs.LoweredExpressions.{Times, Once, EachTurn, each_turn, unplaced_dots, is_end, based, lowered_expr, lowered_item, lowered_stride, lowered_links, lowered_posts, lowered_post, lowered_method, lowered_items, lowered_more_items, lowered_exprs, lowered_more_exprs}

@@ -15,11 +15,11 @@ use Rattle.dpl_language.specs.Declarations.{type_of}
 use Rattle.dpl_language.specs.Expressions.{item_of}
 use Rattle.dpl_language.specs.Loops.{scoped, declare_each, bound_to, turn_of}
 use Rattle.dpl_language.specs.Tasks.{replies_of, solo_of, first_fault, solos, tasks_end, tasks_of}
-use Rattle.dpl_language.specs.Renamed.{renamed, renamed_variables}
-use Rattle.dpl_language.specs.Scopes.{Scoping, IsLawful, PlainSort, sort_by, add_each, add_variables, inside, fits_each, fits_variables, holds_ints, suits_turns, after, after_all, after_body}
-use Rattle.dpl_language.specs.Agreement.{Simulates, EndsAlike, RunAlike}
-use Rattle.dpl_language.proofs.RunsAlike.{All-every, then_do-alike, solo_of-alike, stop_or-alike}
-use Rattle.dpl_language.proofs.RenamedParts.{parts-mapped}
+use Rattle.dpl_agreement.specs.Renamed.{renamed, renamed_variables}
+use Rattle.dpl_agreement.specs.Scopes.{Scoping, IsLawful, PlainSort, sort_by, add_each, add_variables, inside, fits_each, fits_variables, holds_ints, suits_turns, after, after_all, after_body}
+use Rattle.dpl_agreement.specs.Agreement.{Simulates, EndsAlike, RunAlike}
+use Rattle.dpl_agreement.proofs.RunsAlike.{All-every, then_do-alike, solo_of-alike, stop_or-alike}
+use Rattle.dpl_agreement.proofs.RenamedParts.{parts-mapped}
 
 -- a scope is left as it was entered
 module _ {N G : Type 0} (scoping : Scoping N G) (lawful : IsLawful scoping) where

@@ -6,7 +6,7 @@ use Rattle.dpl_language.specs.Tree.{AfterComma, Listed, Op, ExprTree, Number, Tr
 use Rattle.dpl_language.specs.Tree.{StartTree, StartExpr, StartTuple, MapTree, BlockMap, CyclicMap, BlockCyclicMap, MappedTree, TypeTree, ScalarType, SyncType, DomainType, ArrayType, InitTree, ItemInit, CreateInit, TypedTree, InitialTree, DeclareTree}
 use Rattle.dpl_language.specs.Tree.{ArgumentTree, TextArgument, ExprArgument, WriteTree, IntentTree, ReduceIntent, RefIntent, WithTree, VariablesTree, OneVariable, ManyVariables, TargetTree, Whole, Element, CallTree, ReadCall, ResetCall, WriteCall, StmtTree, Nothing, Declare, Assigned, Call, Write, Block, If, While, For, Forall, Coforall, On, Body, WordBody, BlockBody, Stmts, NoStmts, Then, Else, NoElse, ElseDo, ProgramTree}
 use Rattle.dpl_language.specs.Environment.{Content, Plain, ArrayOf, CellOf}
-use Rattle.dpl_language.specs.Renamed.{map_comma, map_listed, renamed, renamed_expr, renamed_item, renamed_stride, renamed_links, renamed_posts, renamed_post, renamed_method, renamed_items, renamed_more_items, renamed_exprs, renamed_more_exprs, renamed_start, renamed_map, renamed_mapped, renamed_type, renamed_init, renamed_typed, renamed_initial, renamed_declare, renamed_argument, renamed_write, renamed_intent, renamed_with, renamed_variables, renamed_target, renamed_call, renamed_stmt, renamed_body, renamed_stmts, renamed_else, renamed_program, renamed_content, renamed_intents}
+use Rattle.dpl_agreement.specs.Renamed.{map_comma, map_listed, renamed, renamed_expr, renamed_item, renamed_stride, renamed_links, renamed_posts, renamed_post, renamed_method, renamed_items, renamed_more_items, renamed_exprs, renamed_more_exprs, renamed_start, renamed_map, renamed_mapped, renamed_type, renamed_init, renamed_typed, renamed_initial, renamed_declare, renamed_argument, renamed_write, renamed_intent, renamed_with, renamed_variables, renamed_target, renamed_call, renamed_stmt, renamed_body, renamed_stmts, renamed_else, renamed_program, renamed_content, renamed_intents}
 
 -- a list with commas of which each part stays, and a part that may be there
 pub map_listed-same : {A : Type 0} (f : A → A) → ((x : A) → f x ≡ x) → (xs : Listed A) → map_listed f xs ≡ xs

@@ -1,18 +1,19 @@
 -- An environment seen through other names: each name of the one stands for a name of the other.
 -- A tree means there what it means with its names replaced.
 use Rattle.std.proofs.Common.{Option, ◌≡◌, [], refl, sym, ap, ◌∙◌, subst, None}
-use Rattle.dpl_language.specs.Tree.{ItemTree, Stmts}
+use Rattle.dpl_syntax.specs.declared.place.Place.{Place}
+use Rattle.dpl_language.specs.Tree.{ItemTree, Items, Stmts}
 use Rattle.dpl_language.specs.Values.{Index, index_of, ranges_in, array_domain, is_domain}
 use Rattle.dpl_language.specs.Outcome.{Deeds, Outcome, Done, Stop, Waits}
 use Rattle.dpl_language.specs.Environment.{Environment, Limits}
-use Rattle.dpl_language.specs.Expressions.{item_of, whole_item}
+use Rattle.dpl_language.specs.Expressions.{item_of, domain_of, whole_item}
 use Rattle.dpl_language.specs.Statements.{exec_all}
-use Rattle.dpl_language.specs.Renamed.{renamed_item, renamed_stmts, renamed_content, renamed_intents}
-use Rattle.dpl_language.specs.Agreement.{AnswersAlike, Simulates, EndsAlike}
-use Rattle.dpl_language.proofs.ExpressionsAlike.{item_of-renamed, whole_item-renamed}
-use Rattle.dpl_language.proofs.FreeNames.{anything, anything-lawful, item_fits, stmts_fit}
-use Rattle.dpl_language.proofs.Agreement.{exec_all-alike}
-use Rattle.dpl_language.proofs.AgreementWithItself.{answers_itself}
+use Rattle.dpl_agreement.specs.Renamed.{renamed_item, renamed_items, renamed_stmts, renamed_content, renamed_intents}
+use Rattle.dpl_agreement.specs.Agreement.{AnswersAlike, Simulates, EndsAlike}
+use Rattle.dpl_agreement.proofs.ExpressionsAlike.{item_of-renamed, domain_of-renamed, whole_item-renamed}
+use Rattle.dpl_agreement.proofs.FreeNames.{anything, anything-lawful, item_fits, items_fit, stmts_fit}
+use Rattle.dpl_agreement.proofs.Agreement.{exec_all-alike}
+use Rattle.dpl_agreement.proofs.AgreementWithItself.{answers_itself}
 
 abbrev pub through : {M N S : Type 0} → (N → M) → Environment M S → Environment N S
 through f env = record {
@@ -63,6 +64,8 @@ module _ {M N S : Type 0} (limits : Limits) (f : N → M) (env : Environment M S
     suited_initial = λ x over item t v g s1 s2 r f d e. tt;
     changed = λ x op t old w g s1 s2 r f e h. tt;
     turned = λ x item over g s1 s2 r a e k d lt. tt;
+    spanned = λ x from items v g s1 s2 r f d e. tt;
+    spanned_array = λ x over k from items v vs g s1 s2 r f e h. tt;
     given_holds = λ x v g s1 s2 r a e. tt;
     enters = λ g s1 s2 r. ap env.enter r;
     leaves = λ g s1 s2 r. ap env.leave r;
@@ -89,6 +92,10 @@ module _ {M N S : Type 0} (limits : Limits) (f : N → M) (env : Environment M S
   pub whole_item-through : (item : ItemTree N) (s : S) → whole_item limits (through f env) item s ≡ whole_item limits env (renamed_item f item) s
   whole_item-through item s =
       sym (whole_item-renamed limits f anything env (through f env) (λ g s1 s2. s1 ≡ s2) through_simulates item None tt s s refl (item_fits item None))
+
+  pub domain_of-through : (from : Place) (items : Items N) (s : S) → domain_of limits (through f env) from items s ≡ domain_of limits env from (renamed_items f items) s
+  domain_of-through from items s =
+      sym (domain_of-renamed limits f anything env (through f env) (λ g s1 s2. s1 ≡ s2) through_simulates from items tt s s refl (items_fit items))
 
   pub exec_all-through : (ts : Stmts N) (s : S) (done : Deeds) → exec_all limits (through f env) ts s done ≡ exec_all limits env (renamed_stmts f ts) s done
   exec_all-through ts s done =

@@ -8,7 +8,7 @@ use Rattle.dpl_history.specs.declared.cell.Reply.{Reply}
 use Rattle.dpl_history.specs.declared.history.Event.{Event}
 use Rattle.dpl_history.specs.Cells.{effect}
 use Rattle.dpl_history.specs.Histories.{after}
-use Rattle.dpl_language.proofs.Slots.{Bound}
+use Rattle.dpl_agreement.proofs.Slots.{Bound}
 use Rattle.dpl_range.specs.Equality.{TextRange}
 use Rattle.dpl_language.specs.Tree.{Op, Assign, Set, SetAdd, SetSubtract, SetMultiply, SetDivide, SetRemainder, SetReduce, ProgramTree}
 use Rattle.dpl_language.specs.Values.{Value, Index, index_of, ranges_in, array_domain, is_domain}
@@ -17,13 +17,13 @@ use Rattle.dpl_language.specs.Ranges.{indices_in}
 use Rattle.dpl_language.specs.Environment.{Content, Plain, ArrayOf, CellOf, Answer, Replied, Unanswered, Environment, Limits}
 use Rattle.dpl_language.specs.Names.{Text, State, paired, look_up, change_in, value_in, update_in, with_element, element_in, put_in, set_cell, with_cells, store_cells, declare_in, redomain_in, arrays_over, without_innermost, state_in, effect_on, call_in, next_history, cell_number, by_name}
 use Rattle.dpl_language.specs.Program.{meaning}
-use Rattle.dpl_language.specs.Renamed.{renamed_intents, renamed_program}
-use Rattle.dpl_language.specs.Scopes.{Sort, PlainSort, ArraySort, CellSort, sort_of, Scoping, IsLawful, fits_all, after_all}
-use Rattle.dpl_language.specs.Agreement.{AnswersAlike, Simulates, EndsAlike}
-use Rattle.dpl_language.proofs.Slots.{Sight, slot_of, IsFresh, IsApart, bind, without_frame, Slots, set_slot, text_of, spelled, store_at, look_up-slot, change_in-slot, declare_in-slot, IsApart-bind, IsApart-without_frame, without_innermost-store_at, without_frame-bind}
-use Rattle.dpl_language.proofs.SlotDomains.{any_over, redomain_slots, OverNamed, OverResolves, Overs, Overs-set, Overs-redomain, Overs-declare, redomain_in-slots, arrays_over-slots, Overs-without_frame}
-use Rattle.dpl_language.proofs.SlotCells.{state_of, with_state, cells_of, number_of, with_states, state_in-spelled, set_cell-spelled, with_state-resolves, store_cells-slots, cell_number-slots, with_cells-slots, Overs-with_states}
-use Rattle.dpl_language.proofs.ProgramsAlike.{run_from, meaning-alike}
+use Rattle.dpl_agreement.specs.Renamed.{renamed_intents, renamed_program}
+use Rattle.dpl_agreement.specs.Scopes.{Sort, PlainSort, ArraySort, CellSort, sort_of, Scoping, IsLawful, fits_all, after_all}
+use Rattle.dpl_agreement.specs.Agreement.{AnswersAlike, Simulates, EndsAlike}
+use Rattle.dpl_agreement.proofs.Slots.{Sight, slot_of, IsFresh, IsApart, bind, without_frame, Slots, set_slot, text_of, spelled, store_at, look_up-slot, change_in-slot, declare_in-slot, IsApart-bind, IsApart-without_frame, without_innermost-store_at, without_frame-bind}
+use Rattle.dpl_agreement.proofs.SlotDomains.{any_over, redomain_slots, OverNamed, OverResolves, Overs, Overs-set, Overs-redomain, Overs-declare, redomain_in-slots, arrays_over-slots, Overs-without_frame}
+use Rattle.dpl_agreement.proofs.SlotCells.{state_of, with_state, cells_of, number_of, with_states, state_in-spelled, set_cell-spelled, with_state-resolves, store_cells-slots, cell_number-slots, with_cells-slots, Overs-with_states}
+use Rattle.dpl_agreement.proofs.ProgramsAlike.{run_from, meaning-alike}
 
 -- THE ENVIRONMENT
 -- What the slots hold, the names in sight, and what else a state by names has.
@@ -139,6 +139,8 @@ resolving names = record {
   suits = λ x item g. Unit {0};
   suits_element = λ x item g. Unit {0};
   turns = λ x item g. Unit {0};
+  spans = λ x items g. Unit {0};
+  spans_array = λ x k items g. Unit {0};
   intends = λ is g. g.intents ≡ [];
   coforalls = λ g. Unit {0};
   moves = λ g. Unit {0};
@@ -347,6 +349,8 @@ module _ (names : ℕ → Text) where
     suited_initial = λ x over item t v g s1 s2 r f d e. tt;
     changed = λ x op t old w g s1 s2 r f e h. tt;
     turned = λ x item over g s1 s2 r f e k d lt. tt;
+    spanned = λ x from items v g s1 s2 r f d e. tt;
+    spanned_array = λ x over k from items v vs g s1 s2 r f e h. tt;
     given_holds = λ x v g s1 s2 r f e. tt;
     enters = λ g s1 s2 r. record {
       store = ap (λ s. [] ∷ s) r.store;

@@ -6,13 +6,13 @@ use Rattle.dpl_language.specs.Values.{index_of, ranges_in, array_domain, is_doma
 use Rattle.dpl_language.specs.Ranges.{indices_in, loop_ranges, loop_value}
 use Rattle.dpl_language.specs.Arithmetic.{assigned}
 use Rattle.dpl_language.specs.Outcome.{Deeds}
-use Rattle.dpl_language.specs.Environment.{Content, Plain, Answer, Replied, Unanswered, Environment, Limits}
+use Rattle.dpl_language.specs.Environment.{Content, Plain, ArrayOf, Answer, Replied, Unanswered, Environment, Limits}
 use Rattle.dpl_language.specs.Statements.{exec}
-use Rattle.dpl_language.specs.Scopes.{Scoping, IsLawful, fits}
-use Rattle.dpl_language.specs.Agreement.{AnswersAlike, Simulates, EndsAlike}
-use Rattle.dpl_language.proofs.RenamedSame.{renamed_stmt-same, renamed_content-same, renamed_intents-same}
-use Rattle.dpl_language.proofs.RunsAlike.{All-every}
-use Rattle.dpl_language.proofs.Agreement.{exec-alike}
+use Rattle.dpl_agreement.specs.Scopes.{Scoping, IsLawful, fits}
+use Rattle.dpl_agreement.specs.Agreement.{AnswersAlike, Simulates, EndsAlike}
+use Rattle.dpl_agreement.proofs.RenamedSame.{renamed_stmt-same, renamed_content-same, renamed_intents-same}
+use Rattle.dpl_agreement.proofs.RunsAlike.{All-every}
+use Rattle.dpl_agreement.proofs.Agreement.{exec-alike}
 
 pub answers_itself : {S : Type 0} (a : Answer S) → AnswersAlike (λ s1 s2. s1 ≡ s2) a a
 answers_itself (Replied c r s) = (s, refl, refl)
@@ -40,6 +40,8 @@ module _ {N G S : Type 0} (limits : Limits) (scoping : Scoping N G) (env : Envir
     suited_initial = λ x over item t v g s1 s2 r f d e. held x (Plain v);
     changed = λ x op t old w g s1 s2 r f e h. held x (Plain (assigned op None old w));
     turned = λ x item over g s1 s2 r f e. All-every (λ t. scoping.holds x (Plain (loop_value over t))) (λ t. held x (Plain (loop_value over t))) (indices_in (loop_ranges limits.locales over));
+    spanned = λ x from items v g s1 s2 r f d e. held x (Plain v);
+    spanned_array = λ x over k from items v vs g s1 s2 r f e h. held x (ArrayOf over k (ranges_in v) vs);
     given_holds = λ x v g s1 s2 r f e. held x (Plain v);
     enters = λ g s1 s2 r. ap env.enter r;
     leaves = λ g s1 s2 r. ap env.leave r;

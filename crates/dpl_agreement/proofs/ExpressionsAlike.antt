@@ -12,11 +12,11 @@ use Rattle.dpl_language.specs.Outcome.{naming_value}
 use Rattle.dpl_language.specs.Environment.{Environment, Limits}
 use Rattle.dpl_language.specs.Phrases.{Base, BaseName, BaseLocales, OtherBase, base_of}
 use Rattle.dpl_language.specs.Expressions.{or_domain, found, leading, locale_of, folded, reduction, unless_decided, whole_in, whole_item, whole_links, element_of, named, bracketed, value_of, chained, item_of, stridden, items_of, more_items, values_of, more_values, behind, post_of, answer_of, domain_of}
-use Rattle.dpl_language.specs.Renamed.{renamed, renamed_expr, renamed_item, renamed_stride, renamed_links, renamed_posts, renamed_post, renamed_method, renamed_items, renamed_more_items, renamed_exprs, renamed_more_exprs, renamed_base}
-use Rattle.dpl_language.specs.Scopes.{Scoping, more_items_in, items_in, fits_name, fits_element, fits_expr, fits_item, fits_stride, fits_links, fits_posts, fits_post, fits_method, fits_items, fits_more_items, fits_exprs, fits_more_exprs}
-use Rattle.dpl_language.specs.Agreement.{Simulates}
-use Rattle.dpl_language.proofs.RunsAlike.{with_ok-same, with_ok-same_by}
-use Rattle.dpl_language.proofs.RenamedParts.{base_of-renamed}
+use Rattle.dpl_agreement.specs.Renamed.{renamed, renamed_expr, renamed_item, renamed_stride, renamed_links, renamed_posts, renamed_post, renamed_method, renamed_items, renamed_more_items, renamed_exprs, renamed_more_exprs, renamed_base}
+use Rattle.dpl_agreement.specs.Scopes.{Scoping, more_items_in, items_in, fits_name, fits_element, fits_expr, fits_item, fits_stride, fits_links, fits_posts, fits_post, fits_method, fits_items, fits_more_items, fits_exprs, fits_more_exprs}
+use Rattle.dpl_agreement.specs.Agreement.{Simulates}
+use Rattle.dpl_agreement.proofs.RunsAlike.{with_ok-same, with_ok-same_by}
+use Rattle.dpl_agreement.proofs.RenamedParts.{base_of-renamed}
 
 folded-same : (op : Op) (a b : Index → Result Value Fault) (ts : List Index) (so_far : Value) → ((t : Index) → a t ≡ b t) → folded op a ts so_far ≡ folded op b ts so_far
 folded-same op a b [] so_far p = refl

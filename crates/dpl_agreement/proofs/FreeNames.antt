@@ -9,7 +9,7 @@ use Rattle.dpl_language.specs.Ranges.{empty_domain}
 use Rattle.dpl_language.specs.Phrases.{Base, BaseName, BaseLocales, OtherBase, base_of, bare_name, ReadTree, item_read, parts}
 use Rattle.dpl_language.specs.Declarations.{type_of}
 use Rattle.dpl_language.specs.Writing.{arguments_of}
-use Rattle.dpl_language.specs.Scopes.{Sort, sort_by, Scoping, IsLawful, items_in, fits_name, fits_element, fits_expr, fits_item, fits_stride, fits_links, fits_posts, fits_post, fits_method, fits_items, fits_more_items, fits_exprs, fits_more_exprs, fits_read, fits_side, fits_whole_side, fits_type, side_by, fits_init, fits_initial, fits_given, suits_init, suits_initial, suits_elements, suits_array, suits_declared, fits_declare, fits_target, side_for, suits_target, fits_call, fits_shown, fits_arguments, fits_each, fits_variables, holds_ints, suits_turns, fits, fits_body, fits_all, fits_else}
+use Rattle.dpl_agreement.specs.Scopes.{Sort, sort_by, Scoping, IsLawful, items_in, fits_name, fits_element, fits_expr, fits_item, fits_stride, fits_links, fits_posts, fits_post, fits_method, fits_items, fits_more_items, fits_exprs, fits_more_exprs, fits_read, fits_side, fits_whole_side, fits_type, side_by, fits_init, fits_initial, fits_given, suits_init, suits_initial, suits_elements, suits_array, suits_declared, fits_declare, fits_target, side_for, suits_target, fits_call, fits_shown, fits_arguments, fits_each, fits_variables, holds_ints, suits_turns, fits, fits_body, fits_all, fits_else}
 
 -- any name may be used in any way, and nothing is kept of what is in sight
 abbrev pub anything : {N : Type 0} → Scoping N (Unit {0})
@@ -27,6 +27,8 @@ anything = record {
   suits = λ x item g. Unit {0};
   suits_element = λ x item g. Unit {0};
   turns = λ x item g. Unit {0};
+  spans = λ x items g. Unit {0};
+  spans_array = λ x k items g. Unit {0};
   intends = λ is g. Unit {0};
   coforalls = λ g. Unit {0};
   moves = λ g. Unit {0};
@@ -93,7 +95,7 @@ module _ {N : Type 0} where
     method_fits (Expand at from e upto) = expr_fits e None
     method_fits (CellRead at w from upto) = tt
 
-    items_fit : (is : Items N) → fits_items anything is tt
+    pub items_fit : (is : Items N) → fits_items anything is tt
     items_fit (FirstItem i more) = (item_fits i None, more_items_fit more)
 
     more_items_fit : (is : MoreItems N) → fits_more_items anything is tt
@@ -145,7 +147,7 @@ module _ {N : Type 0} where
 
   init_suits : (x : N) (i : InitTree N) → suits_init anything x i tt
   init_suits x (ItemInit item mapped) = tt
-  init_suits x (CreateInit c) = λ c e. tt
+  init_suits x (CreateInit c) = tt
 
   initial_suits : (x : N) (v : Value) (i : Option (InitialTree N)) → suits_initial anything x v i tt
   initial_suits x v None = tt
@@ -164,7 +166,7 @@ module _ {N : Type 0} where
   declared_suits x (Some (ScalarType at k)) i = initial_suits x (default k) i
   declared_suits x (Some (SyncType at kind_at k)) i = λ c e. tt
   declared_suits x (Some (DomainType d)) i = initial_suits x (Domain (empty_domain d.rank)) i
-  declared_suits x (Some (ArrayType a)) i = (λ rs vs h. tt, array_suits x a.kind i)
+  declared_suits x (Some (ArrayType a)) i = (tt, array_suits x a.kind i)
 
   declare_fits : (d : DeclareTree N) → fits_declare anything d tt
   declare_fits d =

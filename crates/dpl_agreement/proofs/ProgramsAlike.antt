@@ -10,11 +10,11 @@ use Rattle.dpl_language.specs.Statements.{exec_all}
 use Rattle.dpl_language.specs.Names.{Text, State, by_name}
 use Rattle.dpl_language.specs.Program.{settled, first_state, meaning, written}
 use Rattle.dpl_language.specs.Together.{AllTogether, Happened}
-use Rattle.dpl_language.specs.Renamed.{renamed_program}
-use Rattle.dpl_language.specs.Scopes.{Scoping, after_all, fits_all}
-use Rattle.dpl_language.specs.Agreement.{Simulates, EndsAlike}
-use Rattle.dpl_language.proofs.RunsAlike.{settled-alike, written-alike, deeds_of-alike}
-use Rattle.dpl_language.proofs.Agreement.{exec_all-alike}
+use Rattle.dpl_agreement.specs.Renamed.{renamed_program}
+use Rattle.dpl_agreement.specs.Scopes.{Scoping, after_all, fits_all}
+use Rattle.dpl_agreement.specs.Agreement.{Simulates, EndsAlike}
+use Rattle.dpl_agreement.proofs.RunsAlike.{settled-alike, written-alike, deeds_of-alike}
+use Rattle.dpl_agreement.proofs.Agreement.{exec_all-alike}
 
 -- a run of a program's tree from a state
 abbrev pub run_from : {N S : Type 0} → Limits → Environment N S → ProgramTree N → S → Outcome S

@@ -1,21 +1,22 @@
 -- When two ways to keep variables agree: where each step of the one is a step of the other.
 -- Then each run by the one is a run by the other, which proofs/Agreement.antt shows.
 use Rattle.std.specs.Prelude.{◌≡◌, All, true, Ok, ℤ, Option, Some, None, List, []}
+use Rattle.dpl_syntax.specs.declared.place.Place.{Place}
 use Rattle.dpl_history.specs.declared.cell.CellOp.{CellOp}
 use Rattle.dpl_history.specs.declared.cell.Reply.{Reply}
 use Rattle.dpl_history.specs.declared.history.Event.{Event}
 use Rattle.dpl_range.specs.Equality.{TextRange}
-use Rattle.dpl_language.specs.Tree.{Op, Assign, ItemTree, Items}
+use Rattle.dpl_language.specs.Tree.{Op, Assign, Kind, ItemTree, Items}
 use Rattle.dpl_language.specs.Values.{Value, Index, index_of, ranges_in, array_domain, is_domain, cell_kind}
 use Rattle.dpl_language.specs.Arithmetic.{assigned}
 use Rattle.dpl_language.specs.Ranges.{indices_in, loop_ranges, loop_value}
 use Rattle.dpl_language.specs.Outcome.{Deeds, Outcome, Done, Stop, Waits, Run}
-use Rattle.dpl_language.specs.Environment.{Content, Plain, Answer, Replied, Unanswered, Environment, Limits}
+use Rattle.dpl_language.specs.Environment.{Content, Plain, ArrayOf, Answer, Replied, Unanswered, Environment, Limits}
 use Rattle.dpl_language.specs.Phrases.{ReadTree, item_read}
-use Rattle.dpl_language.specs.Expressions.{item_of, items_of, whole_item}
+use Rattle.dpl_language.specs.Expressions.{item_of, items_of, domain_of, whole_item}
 use Rattle.dpl_language.specs.Assignments.{reply_value}
-use Rattle.dpl_language.specs.Renamed.{renamed_content, renamed_intents}
-use Rattle.dpl_language.specs.Scopes.{Scoping, IsLawful, PlainSort, ArraySort, sort_of}
+use Rattle.dpl_agreement.specs.Renamed.{renamed_content, renamed_intents}
+use Rattle.dpl_agreement.specs.Scopes.{Scoping, IsLawful, PlainSort, ArraySort, sort_of}
 
 -- the same answer to an operation, with related states behind it
 abbrev pub AnswersAlike : {S1 S2 : Type 0} → (S1 → S2 → Type 0) → Answer S1 → Answer S2 → Type 0
@@ -99,6 +100,11 @@ pub record Simulates {M N G S1 S2 : Type 0} (limits : Limits) (name : N → M) (
       → second.element x t s2 ≡ Some old → scoping.holds x (Plain w) → scoping.holds x (Plain (assigned op None old w))
   pub turned : (x : N) (item : ItemTree N) (over : Value) (g : G) (s1 : S1) (s2 : S2) → R g s1 s2 → scoping.turns x item g
       → item_of limits second item None s2 ≡ Ok over → All (λ t. scoping.holds x (Plain (loop_value over t))) (indices_in (loop_ranges limits.locales over))
+  -- and the domain of a declaration's ranges, as a value and as that of an array of elements that it may hold
+  pub spanned : (x : N) (from : Place) (items : Items N) (v : Value) (g : G) (s1 : S1) (s2 : S2) → R g s1 s2 → scoping.spans x items g → scoping.declares x PlainSort g
+      → domain_of limits second from items s2 ≡ Ok v → scoping.holds x (Plain v)
+  pub spanned_array : (x : N) (over : Option N) (k : Kind) (from : Place) (items : Items N) (v : Value) (vs : List Value) (g : G) (s1 : S1) (s2 : S2) → R g s1 s2 → scoping.spans_array x k items g
+      → domain_of limits second from items s2 ≡ Ok v → All (λ v. scoping.holds x (Plain v)) vs → scoping.holds x (ArrayOf over k (ranges_in v) vs)
   pub given_holds : (x : N) (v : Value) (g : G) (s1 : S1) (s2 : S2) → R g s1 s2 → scoping.gives x g → second.given x s2 ≡ Some v → scoping.holds x (Plain v)
   -- scopes and foralls
   pub enters : (g : G) (s1 : S1) (s2 : S2) → R g s1 s2 → R (scoping.enter g) (first.enter s1) (second.enter s2)

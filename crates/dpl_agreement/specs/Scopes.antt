@@ -1,8 +1,7 @@
 -- Which names a tree may use where, over any way to keep what is in sight.
 -- A tree fits where each of its names is read, assigned, called and declared as that way allows, and holds what it may.
-use Rattle.std.specs.Prelude.{◌≡◌, ℤ, pos, All, Option, Some, None, List, [], ◌∷◌}
+use Rattle.std.specs.Prelude.{◌≡◌, ℤ, pos, Option, Some, None, List, [], ◌∷◌}
 use Rattle.dpl_syntax.specs.declared.place.Place.{Place}
-use Rattle.dpl_range.specs.Equality.{TextRange}
 use Rattle.dpl_language.specs.Tree.{Placed, Op, Assign, Kind, ExprTree, Number, TruthWord, Named, LocalesWord, LocaleCount, HereWord, Grouped, DomainLiteral, Prefixed, Reduced, Chain, Postfixed, ItemTree, One, RangeItem, Stride, NoStride, By, Links, NoLinks, Link, Posts, NoPosts, Post, PostTree, Brackets, Rounds, Dotted, MethodTree, Plainly, Dim, Contains, Expand, CellRead, Items, FirstItem, MoreItems, NoItems, NextItem, Exprs, FirstExpr, MoreExprs, NoExprs, NextExpr}
 use Rattle.dpl_language.specs.Tree.{TypeTree, ScalarType, SyncType, DomainType, ArrayType, InitTree, ItemInit, CreateInit, InitialTree, DeclareTree, ArgumentTree, TextArgument, ExprArgument, VariablesTree, OneVariable, ManyVariables, TargetTree, Whole, Element, CallTree, ReadCall, ResetCall, WriteCall, StmtTree, Nothing, Declare, Assigned, Call, Write, Block, If, While, For, Forall, Coforall, On, Body, WordBody, BlockBody, Stmts, NoStmts, Then, Else, NoElse, ElseDo}
 use Rattle.dpl_language.specs.Values.{Value, Int, Domain, Index, default}
@@ -57,6 +56,9 @@ pub record Scoping (N G : Type 0) : Type 1 where
   pub suits : N → ItemTree N → G → Type 0
   pub suits_element : N → ItemTree N → G → Type 0
   pub turns : N → ItemTree N → G → Type 0
+  -- a name may hold the domain of these ranges, and may be an array of this kind over it
+  pub spans : N → Items N → G → Type 0
+  pub spans_array : N → Kind → Items N → G → Type 0
   -- a forall with these reduce variables is run, and a coforall; and a body on a locale
   pub intends : List (N × Op) → G → Type 0
   pub coforalls : G → Type 0
@@ -196,22 +198,18 @@ module _ {N G : Type 0} (scoping : Scoping N G) where
       scoping.gives x g × scoping.declares x PlainSort g × (scoping.add x PlainSort g ≡ scoping.add x sort g)
 
   -- What a declaration makes is what its name may hold: of a plain variable its initial value, or where it has none what
-  -- its type gives; of a cell and a created domain each content of that sort; of an array each whose elements it may hold,
-  -- and these are those of its initial value, or where it has none what its kind gives.
-  abbrev pub holds_each : N → Sort N → Type 0
-  holds_each x sort = (c : Content N) → sort_of c ≡ sort → scoping.holds x c
+  -- its type gives; of a cell each content of a cell; of an array one over the domain that its type gives, with elements
+  -- that it may hold: those of its initial value, or where it has none what its kind gives.
+  abbrev pub holds_cells : N → Type 0
+  holds_cells x = (c : Content N) → sort_of c ≡ CellSort → scoping.holds x c
 
   abbrev pub suits_init : N → InitTree N → G → Type 0
   suits_init x (ItemInit item mapped) g = scoping.suits x item g
-  suits_init x (CreateInit c) g = holds_each x PlainSort
+  suits_init x (CreateInit c) g = scoping.spans x c.items g
 
   abbrev pub suits_initial : N → Value → Option (InitialTree N) → G → Type 0
   suits_initial x v None g = scoping.holds x (Plain v)
   suits_initial x v (Some i) g = suits_init x i.init g
-
-  abbrev pub holds_arrays : N → Option N → Kind → Type 0
-  holds_arrays x over k =
-      (rs : List TextRange) (vs : List Value) → All (λ v. scoping.holds x (Plain v)) vs → scoping.holds x (ArrayOf over k rs vs)
 
   abbrev pub suits_elements : N → Kind → InitTree N → G → Type 0
   suits_elements x k (ItemInit item mapped) g = scoping.suits x item g
@@ -224,10 +222,9 @@ module _ {N G : Type 0} (scoping : Scoping N G) where
   abbrev pub suits_declared : N → Option (TypeTree N) → Option (InitialTree N) → G → Type 0
   suits_declared x None initial g = suits_initial x (Int (pos 0)) initial g
   suits_declared x (Some (ScalarType at k)) initial g = suits_initial x (default k) initial g
-  suits_declared x (Some (SyncType at kind_at k)) initial g = holds_each x CellSort
+  suits_declared x (Some (SyncType at kind_at k)) initial g = holds_cells x
   suits_declared x (Some (DomainType d)) initial g = suits_initial x (Domain (empty_domain d.rank)) initial g
-  suits_declared x (Some (ArrayType a)) initial g =
-      holds_arrays x (declared_over a.over) a.kind × suits_array x a.kind initial g
+  suits_declared x (Some (ArrayType a)) initial g = scoping.spans_array x a.kind a.over g × suits_array x a.kind initial g
 
   abbrev pub fits_declare : DeclareTree N → G → Type 0
   fits_declare d g =

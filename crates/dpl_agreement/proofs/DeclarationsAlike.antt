@@ -14,13 +14,13 @@ use Rattle.dpl_language.specs.Environment.{Content, Plain, CellOf, Environment, 
 use Rattle.dpl_language.specs.Phrases.{declared_over}
 use Rattle.dpl_language.specs.Expressions.{item_of, whole_item}
 use Rattle.dpl_language.specs.Declarations.{gathered, filled, Shell, array_with, type_of, declaring, initial_then, declare_with, array_of_item, array_of_init, array_of, declare_array, declare_typed, given_or, declare_by, declare}
-use Rattle.dpl_language.specs.Renamed.{renamed, renamed_item, renamed_items, renamed_array_type, renamed_type, renamed_init, renamed_initial, renamed_declare, renamed_content}
-use Rattle.dpl_language.specs.Scopes.{Sort, PlainSort, ArraySort, CellSort, sort_of, sort_by, Scoping, side_by, fits_items, fits_side, fits_whole_side, fits_type, fits_init, fits_initial, fits_given, holds_each, holds_arrays, suits_elements, suits_array, suits_init, suits_initial, suits_declared, fits_declare}
-use Rattle.dpl_language.specs.Agreement.{WasOnce, Simulates, EndsAlike, RunAlike}
-use Rattle.dpl_language.proofs.RunsAlike.{All-every, with_ok-same, with_value-alike, with_value-alike_by, unless-alike}
-use Rattle.dpl_language.proofs.RenamedParts.{declared_over-renamed, type_of-renamed}
-use Rattle.dpl_language.proofs.ExpressionsAlike.{fits_item-once, item_of-renamed, domain_of-renamed, whole_item-renamed}
-use Rattle.dpl_language.proofs.AssignmentsAlike.{evaluated-alike_by, evaluated-alike}
+use Rattle.dpl_agreement.specs.Renamed.{renamed, renamed_item, renamed_items, renamed_array_type, renamed_type, renamed_init, renamed_initial, renamed_declare, renamed_content}
+use Rattle.dpl_agreement.specs.Scopes.{Sort, PlainSort, ArraySort, CellSort, sort_of, sort_by, Scoping, side_by, fits_items, fits_side, fits_whole_side, fits_type, fits_init, fits_initial, fits_given, holds_cells, suits_elements, suits_array, suits_init, suits_initial, suits_declared, fits_declare}
+use Rattle.dpl_agreement.specs.Agreement.{WasOnce, Simulates, EndsAlike, RunAlike}
+use Rattle.dpl_agreement.proofs.RunsAlike.{All-every, with_ok-same, with_value-alike, with_value-alike_by, unless-alike}
+use Rattle.dpl_agreement.proofs.RenamedParts.{declared_over-renamed, type_of-renamed}
+use Rattle.dpl_agreement.proofs.ExpressionsAlike.{fits_item-once, item_of-renamed, domain_of-renamed, whole_item-renamed}
+use Rattle.dpl_agreement.proofs.AssignmentsAlike.{evaluated-alike_by, evaluated-alike}
 
 gathered-same : (a b : Index → Result Value Fault) (ts : List Index) → ((t : Index) → a t ≡ b t) → gathered a ts ≡ gathered b ts
 gathered-same a b [] p = refl
@@ -51,7 +51,8 @@ module _ {M N G S1 S2 : Type 0} (limits : Limits) (name : N → M) (scoping : Sc
       evaluated-alike_by limits name scoping first second R sim item g (scoping.add x.name PlainSort g) _ _ f
       (λ v u1 u2 q m. declaring-alike x (Plain v) PlainSort g refl d (sim.suited_new x.name item v g u1 u2 q h d m)) s1 s2 done r
   plain_init-alike x (CreateInit c) g f d h s1 s2 done r =
-      initial_then-alike (CreateInit c) g (scoping.add x.name PlainSort g) _ _ f (λ v. declaring-alike x (Plain v) PlainSort g refl d (h (Plain v) refl)) s1 s2 done r
+      with_value-alike_by (R (scoping.add x.name PlainSort g)) _ _ _ _ s1 s2 done (domain_of-renamed limits name scoping first second R sim c.from c.items g s1 s2 r f)
+      (λ v e. declaring-alike x (Plain v) PlainSort g refl d (sim.spanned x.name c.from c.items v g s1 s2 r h d e) s1 s2 done r)
 
   declare_plain-alike : (x : Placed N) (w : Value) (i : Option (InitialTree N)) (g : G) → fits_initial scoping (fits_side scoping) i g → scoping.declares x.name PlainSort g → suits_initial scoping x.name w i g
       → RunAlike (R g) (R (scoping.add x.name PlainSort g)) (declare_with limits first (renamed name x) (Plain w) (λ v. Plain v) (option_map (renamed_initial name) i))
@@ -59,7 +60,7 @@ module _ {M N G S1 S2 : Type 0} (limits : Limits) (name : N → M) (scoping : Sc
   declare_plain-alike x w None g f d h s1 s2 done r = declaring-alike x (Plain w) PlainSort g refl d h s1 s2 done r
   declare_plain-alike x w (Some i) g f d h s1 s2 done r = plain_init-alike x i.init g f d h s1 s2 done r
 
-  declare_cell-alike : (x : Placed N) (k : Kind) (i : Option (InitialTree N)) (g : G) → fits_initial scoping (fits_side scoping) i g → scoping.declares x.name CellSort g → holds_each scoping x.name CellSort
+  declare_cell-alike : (x : Placed N) (k : Kind) (i : Option (InitialTree N)) (g : G) → fits_initial scoping (fits_side scoping) i g → scoping.declares x.name CellSort g → holds_cells scoping x.name
       → RunAlike (R g) (R (scoping.add x.name CellSort g)) (declare_with limits first (renamed name x) (CellOf k Empty) (λ v. CellOf k (Full (kept_number v))) (option_map (renamed_initial name) i))
       (declare_with limits second x (CellOf k Empty) (λ v. CellOf k (Full (kept_number v))) i)
   declare_cell-alike x k None g f d h s1 s2 done r = declaring-alike x (CellOf k Empty) CellSort g refl d (h (CellOf k Empty) refl) s1 s2 done r
@@ -68,9 +69,9 @@ module _ {M N G S1 S2 : Type 0} (limits : Limits) (name : N → M) (scoping : Sc
       (λ v. declaring-alike x (CellOf k (Full (kept_number v))) CellSort g refl d (h (CellOf k (Full (kept_number v))) refl)) s1 s2 done r
 
   -- ARRAYS
-  -- the name may hold each array of this shell whose elements it may hold, whatever the domain
+  -- the name may hold each array of this shell whose elements it may hold
   abbrev HoldsArray : Placed N → Shell N → Type 0
-  HoldsArray x a = holds_arrays scoping x.name a.over a.kind
+  HoldsArray x a = (vs : List Value) → All (λ v. scoping.holds x.name (Plain v)) vs → scoping.holds x.name (array_with a vs)
 
   abbrev renamed_shell : Shell N → Shell M
   renamed_shell a = record { over = option_map name a.over; kind = a.kind; ranges = a.ranges }
@@ -101,7 +102,7 @@ module _ {M N G S1 S2 : Type 0} (limits : Limits) (name : N → M) (scoping : Sc
       evaluated-alike_by limits name scoping first second R sim item g (scoping.add x.name (ArraySort a.over) g) _ _ (fits_item-once scoping [] item g (f.0 []), f.1)
       (λ v u1 u2 q m. unless-alike (nat_lt limits.budget (size_in a.ranges)) (fault Budget at) (R g) (R (scoping.add x.name (ArraySort a.over) g)) _ _
       (declaring-alike x (array_with a (filled v a.ranges)) (ArraySort a.over) g refl d
-      (h a.ranges (filled v a.ranges) (filled-held x v a.ranges (sim.suited_once x.name item v g u1 u2 q k (once refl) m))))) s1 s2 done r
+      (h (filled v a.ranges) (filled-held x v a.ranges (sim.suited_once x.name item v g u1 u2 q k (once refl) m))))) s1 s2 done r
   array_of_item-alike x a at item (Some arrays) g f d h k once s1 s2 done r =
       unless-alike (nat_lt limits.budget (size_in a.ranges)) (fault Budget at) (R g) (R (scoping.add x.name (ArraySort a.over) g))
       (λ s done. with_value (gathered (λ t. item_of limits first (renamed_item name item) (Some t) s) (indices_in a.ranges)) (λ vs. declaring limits first (renamed name x) (array_with (renamed_shell a) vs)) s done)
@@ -109,7 +110,7 @@ module _ {M N G S1 S2 : Type 0} (limits : Limits) (name : N → M) (scoping : Sc
       (λ s1 s2 done r. with_value-alike_by (R (scoping.add x.name (ArraySort a.over) g)) _ _ _ _ s1 s2 done
       (gathered-same _ _ (indices_in a.ranges) (λ t. item_of-renamed limits name scoping first second R sim item (Some t) g s1 s2 r (f.0 t)))
       (λ vs e. declaring-alike x (array_with a vs) (ArraySort a.over) g refl d
-      (h a.ranges vs (gathered-held x (λ t. item_of limits second item (Some t) s2) (λ t v m. sim.suited_initial x.name a.over item t v g s1 s2 r k d m) (indices_in a.ranges) vs e)) s1 s2 done r))
+      (h vs (gathered-held x (λ t. item_of limits second item (Some t) s2) (λ t v m. sim.suited_initial x.name a.over item t v g s1 s2 r k d m) (indices_in a.ranges) vs e)) s1 s2 done r))
       s1 s2 done r
 
   array_of_init-alike : (x : Placed N) (a : Shell N) (at : Place) (i : InitTree N) (g : G) → fits_init scoping (fits_whole_side scoping) i g → scoping.declares x.name (ArraySort a.over) g → HoldsArray x a → suits_elements scoping x.name a.kind i g
@@ -122,17 +123,17 @@ module _ {M N G S1 S2 : Type 0} (limits : Limits) (name : N → M) (scoping : Sc
       (λ o. (s1, s2, r, sym (whole_item-renamed limits name scoping first second R sim item (Some []) g s1 s2 r (f.0 [])) ∙ o)) s1 s2 done r)
   array_of_init-alike x a at (CreateInit c) g f d h k s1 s2 done r =
       declaring-alike x (array_with a (filled (default a.kind) a.ranges)) (ArraySort a.over) g refl d
-      (h a.ranges (filled (default a.kind) a.ranges) (filled-held x (default a.kind) a.ranges k)) s1 s2 done r
+      (h (filled (default a.kind) a.ranges) (filled-held x (default a.kind) a.ranges k)) s1 s2 done r
 
   array_of-alike : (x : Placed N) (a : Shell N) (i : Option (InitialTree N)) (g : G) → fits_initial scoping (fits_whole_side scoping) i g → scoping.declares x.name (ArraySort a.over) g → HoldsArray x a → suits_array scoping x.name a.kind i g
       → RunAlike (R g) (R (scoping.add x.name (ArraySort a.over) g)) (array_of limits first (renamed name x) (renamed_shell a) (option_map (renamed_initial name) i)) (array_of limits second x a i)
   array_of-alike x a None g f d h k s1 s2 done r =
       declaring-alike x (array_with a (filled (default a.kind) a.ranges)) (ArraySort a.over) g refl d
-      (h a.ranges (filled (default a.kind) a.ranges) (filled-held x (default a.kind) a.ranges k)) s1 s2 done r
+      (h (filled (default a.kind) a.ranges) (filled-held x (default a.kind) a.ranges k)) s1 s2 done r
   array_of-alike x a (Some i) g f d h k s1 s2 done r = array_of_init-alike x a i.equals i.init g f d h k s1 s2 done r
 
   -- an array's declaration, over the names that the renamed items are over
-  made-alike : (x : Placed N) (a : ArrayTypeTree N) (v : Value) (i : Option (InitialTree N)) (g : G) → fits_initial scoping (fits_whole_side scoping) i g → scoping.declares x.name (ArraySort (declared_over a.over)) g → holds_arrays scoping x.name (declared_over a.over) a.kind → suits_array scoping x.name a.kind i g
+  made-alike : (x : Placed N) (a : ArrayTypeTree N) (v : Value) (i : Option (InitialTree N)) (g : G) → fits_initial scoping (fits_whole_side scoping) i g → scoping.declares x.name (ArraySort (declared_over a.over)) g → HoldsArray x (record { over = declared_over a.over; kind = a.kind; ranges = ranges_in v }) → suits_array scoping x.name a.kind i g
       → RunAlike (R g) (R (scoping.add x.name (ArraySort (declared_over a.over)) g))
       (unless (too_large (ranges_in v)) (fault ArrayTooLarge x.at)
       (array_of limits first (renamed name x) (record { over = declared_over (renamed_items name a.over); kind = a.kind; ranges = ranges_in v }) (option_map (renamed_initial name) i)))
@@ -147,11 +148,11 @@ module _ {M N G S1 S2 : Type 0} (limits : Limits) (name : N → M) (scoping : Sc
       (sym (declared_over-renamed name a.over))
       (array_of-alike x (record { over = declared_over a.over; kind = a.kind; ranges = ranges_in v }) i g f d h k s1 s2 done r))
 
-  declare_array-alike : (x : Placed N) (a : ArrayTypeTree N) (i : Option (InitialTree N)) (g : G) → fits_items scoping a.over g → fits_initial scoping (fits_whole_side scoping) i g → scoping.declares x.name (ArraySort (declared_over a.over)) g → holds_arrays scoping x.name (declared_over a.over) a.kind → suits_array scoping x.name a.kind i g
+  declare_array-alike : (x : Placed N) (a : ArrayTypeTree N) (i : Option (InitialTree N)) (g : G) → fits_items scoping a.over g → fits_initial scoping (fits_whole_side scoping) i g → scoping.declares x.name (ArraySort (declared_over a.over)) g → scoping.spans_array x.name a.kind a.over g → suits_array scoping x.name a.kind i g
       → RunAlike (R g) (R (scoping.add x.name (ArraySort (declared_over a.over)) g)) (declare_array limits first (renamed name x) (renamed_array_type name a) (option_map (renamed_initial name) i)) (declare_array limits second x a i)
   declare_array-alike x a i g e f d h k s1 s2 done r =
-      with_value-alike (R (scoping.add x.name (ArraySort (declared_over a.over)) g)) _ _ _ _ s1 s2 done (domain_of-renamed limits name scoping first second R sim a.from a.over g s1 s2 r e)
-      (λ v. made-alike x a v i g f d h k s1 s2 done r)
+      with_value-alike_by (R (scoping.add x.name (ArraySort (declared_over a.over)) g)) _ _ _ _ s1 s2 done (domain_of-renamed limits name scoping first second R sim a.from a.over g s1 s2 r e)
+      (λ v m. made-alike x a v i g f d (λ vs. sim.spanned_array x.name (declared_over a.over) a.kind a.from a.over v vs g s1 s2 r h m) k s1 s2 done r)
 
   -- BY ITS TYPE
   declare_typed-alike : (x : Placed N) (type : Option (TypeTree N)) (i : Option (InitialTree N)) (g : G) → fits_type scoping type g → fits_initial scoping (side_by scoping type) i g → scoping.declares x.name (sort_by type) g → suits_declared scoping x.name type i g

@@ -4,11 +4,11 @@ use Rattle.std.proofs.Common.{◌≡◌, ℕ, ◌+◌, true, false, List, [], �
 use Rattle.std.specs.Prelude.{bytes_eq, ◌==◌, if◌then◌else◌}
 use Rattle.dpl_history.specs.declared.cell.CellState.{CellState}
 use Rattle.dpl_history.specs.declared.cell.CellState.TheVariants.{Empty}
-use Rattle.dpl_language.proofs.Slots.{Bound}
+use Rattle.dpl_agreement.proofs.Slots.{Bound}
 use Rattle.dpl_language.specs.Environment.{Content, Plain, ArrayOf, CellOf}
 use Rattle.dpl_language.specs.Names.{Text, cell_in, frame_cells, store_cells, plus, cells_before, or_number, cell_number, set_cell, set_cells, with_cells, state_in}
-use Rattle.dpl_language.proofs.Slots.{Sight, slot_in, or_slot, slot_of, IsFreshIn, IsFresh, IsApartFrame, IsApart, Slots, set_slot, spelled, entry_at, frame_at, store_at, same_slot, other_slot, set_slot_here, set_slot_other, SameIn, frame_at-same, SameIn-set, store_at-set, slot_in-apart, slot_of-fresh_before}
-use Rattle.dpl_language.proofs.SlotDomains.{OverResolves, Overs, Overs-set, some_same}
+use Rattle.dpl_agreement.proofs.Slots.{Sight, slot_in, or_slot, slot_of, IsFreshIn, IsFresh, IsApartFrame, IsApart, Slots, set_slot, spelled, entry_at, frame_at, store_at, same_slot, other_slot, set_slot_here, set_slot_other, SameIn, frame_at-same, SameIn-set, store_at-set, slot_in-apart, slot_of-fresh_before}
+use Rattle.dpl_agreement.proofs.SlotDomains.{OverResolves, Overs, Overs-set, some_same}
 
 -- BY SLOTS
 abbrev pub cell_of : Content Bound → List CellState

@@ -7,7 +7,7 @@ use Rattle.std.proofs.lemmas.List.{map-append}
 use Rattle.dpl_language.specs.Values.{Int}
 use Rattle.dpl_language.specs.Environment.{Content, Plain}
 use Rattle.dpl_language.specs.Names.{Text, Entry, Frame, Store, in_frame, or_content, look_up, behind_entry, changed, or_store, change_in, declare_in, without_innermost}
-use Rattle.dpl_language.specs.Renamed.{renamed_content}
+use Rattle.dpl_agreement.specs.Renamed.{renamed_content}
 
 -- a name's text, and the slot of its declaration
 pub record Bound : Type 0 where

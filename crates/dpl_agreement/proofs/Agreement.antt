@@ -11,15 +11,15 @@ use Rattle.dpl_language.specs.Environment.{Environment, Limits}
 use Rattle.dpl_language.specs.Phrases.{intents_of}
 use Rattle.dpl_language.specs.Loops.{within_budget, named_turn, turn_of}
 use Rattle.dpl_language.specs.Statements.{task_limit, holds, exec, exec_body, exec_all, exec_else}
-use Rattle.dpl_language.specs.Renamed.{renamed_expr, renamed_variables, renamed_stmt, renamed_body, renamed_stmts, renamed_else, renamed_intents}
-use Rattle.dpl_language.specs.Scopes.{Scoping, add_variables, inside, fits_expr, fits_variables, after, after_all, after_body, fits, fits_body, fits_all, fits_else}
-use Rattle.dpl_language.specs.Agreement.{Simulates, EndsAlike, RunAlike}
-use Rattle.dpl_language.proofs.RunsAlike.{with_ok-same, then_do-alike, with_value-alike, with_value-alike_by, choose-alike, unless-alike, repeated-alike, within_budget-alike, named_turns-alike}
-use Rattle.dpl_language.proofs.RenamedParts.{intents_of-renamed}
-use Rattle.dpl_language.proofs.ExpressionsAlike.{value_of-renamed, item_of-renamed}
-use Rattle.dpl_language.proofs.LoopsAlike.{leave-after_stmt_in, leave-after_all_in, leave-after_body_in, HoldsTurn, scoped-alike, turns-held, turn_of-alike, tasks_of-alike}
-use Rattle.dpl_language.proofs.AssignmentsAlike.{assign-alike, cell_call-alike, write-alike}
-use Rattle.dpl_language.proofs.DeclarationsAlike.{declare-alike}
+use Rattle.dpl_agreement.specs.Renamed.{renamed_expr, renamed_variables, renamed_stmt, renamed_body, renamed_stmts, renamed_else, renamed_intents}
+use Rattle.dpl_agreement.specs.Scopes.{Scoping, add_variables, inside, fits_expr, fits_variables, after, after_all, after_body, fits, fits_body, fits_all, fits_else}
+use Rattle.dpl_agreement.specs.Agreement.{Simulates, EndsAlike, RunAlike}
+use Rattle.dpl_agreement.proofs.RunsAlike.{with_ok-same, then_do-alike, with_value-alike, with_value-alike_by, choose-alike, unless-alike, repeated-alike, within_budget-alike, named_turns-alike}
+use Rattle.dpl_agreement.proofs.RenamedParts.{intents_of-renamed}
+use Rattle.dpl_agreement.proofs.ExpressionsAlike.{value_of-renamed, item_of-renamed}
+use Rattle.dpl_agreement.proofs.LoopsAlike.{leave-after_stmt_in, leave-after_all_in, leave-after_body_in, HoldsTurn, scoped-alike, turns-held, turn_of-alike, tasks_of-alike}
+use Rattle.dpl_agreement.proofs.AssignmentsAlike.{assign-alike, cell_call-alike, write-alike}
+use Rattle.dpl_agreement.proofs.DeclarationsAlike.{declare-alike}
 
 module _ {M N G S1 S2 : Type 0} (limits : Limits) (name : N → M) (scoping : Scoping N G) (first : Environment M S1) (second : Environment N S2) (R : G → S1 → S2 → Type 0) (sim : Simulates limits name scoping first second R) where
   holds-renamed : (e : ExprTree N) (g : G) (s1 : S1) (s2 : S2) → R g s1 s2 → fits_expr scoping None e g → holds limits first (renamed_expr name e) s1 ≡ holds limits second e s2

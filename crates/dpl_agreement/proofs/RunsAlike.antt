@@ -12,7 +12,7 @@ use Rattle.dpl_language.specs.Environment.{Limits}
 use Rattle.dpl_language.specs.Loops.{within_budget, named_turn}
 use Rattle.dpl_language.specs.Tasks.{solo_of, stop_or}
 use Rattle.dpl_language.specs.Program.{settled, deeds_of, written}
-use Rattle.dpl_language.specs.Agreement.{EndsAlike, RunAlike}
+use Rattle.dpl_agreement.specs.Agreement.{EndsAlike, RunAlike}
 
 -- VALUES
 pub with_ok-same : {A B : Type 0} (a b : Result A Fault) (f h : A → Result B Fault) → a ≡ b → ((v : A) → f v ≡ h v) → with_ok a f ≡ with_ok b h

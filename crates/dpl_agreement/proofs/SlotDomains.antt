@@ -5,13 +5,13 @@ use Rattle.std.specs.Prelude.{bytes_eq, ◌==◌, ◌||◌, if◌then◌else◌,
 use Rattle.std.proofs.lemmas.Bool.Decides.{Decides-eqb}
 use Rattle.std.proofs.lemmas.List.{append_assoc}
 use Rattle.std.proofs.lemmas.Slice.Eq.{bytes_eq-Decides}
-use Rattle.dpl_language.proofs.Slots.{Bound}
+use Rattle.dpl_agreement.proofs.Slots.{Bound}
 use Rattle.dpl_range.specs.Equality.{TextRange}
 use Rattle.dpl_language.specs.Values.{Domain}
 use Rattle.dpl_language.specs.Environment.{Content, Plain, ArrayOf, CellOf}
 use Rattle.dpl_language.specs.Names.{Text, behind_entry, or_store, redomained, is_over, redomain_content, redomain_all, redomain_behind, redomain_in, is_array_over, has_over, has_over_behind, or_further, arrays_over}
-use Rattle.dpl_language.proofs.Slots.{Sight, slot_in, or_slot, slot_of, IsFreshIn, IsFresh, IsApartFrame, IsApart, bind, without_frame, Slots, set_slot, text_of, spelled, entry_at, frame_at, store_at, same_slot, other_slot, set_slot_here, set_slot_other, SameIn, frame_at-same, slot_of-apart, slot_in-fresh_outside, slot_of-fresh_before, slot_in-apart, IsFreshIn-append}
-use Rattle.dpl_language.proofs.Respelled.{by_test}
+use Rattle.dpl_agreement.proofs.Slots.{Sight, slot_in, or_slot, slot_of, IsFreshIn, IsFresh, IsApartFrame, IsApart, bind, without_frame, Slots, set_slot, text_of, spelled, entry_at, frame_at, store_at, same_slot, other_slot, set_slot_here, set_slot_other, SameIn, frame_at-same, slot_of-apart, slot_in-fresh_outside, slot_of-fresh_before, slot_in-apart, IsFreshIn-append}
+use Rattle.dpl_agreement.proofs.Respelled.{by_test}
 
 -- BY SLOTS
 abbrev pub is_over_slot : ℕ → Option Bound → Bool

@@ -7,7 +7,7 @@ use Rattle.dpl_language.specs.Tree.{Placed, AfterComma, Listed, ExprTree, Number
 use Rattle.dpl_language.specs.Phrases.{parts, base_of, item_base, bare_name, method_read, post_read, posts_read, read_by, cell_read, item_read, name_of, item_over, declared_over, reduce_intents, intents_of}
 use Rattle.dpl_language.specs.Declarations.{type_of}
 use Rattle.dpl_language.specs.Writing.{arguments_of}
-use Rattle.dpl_language.specs.Renamed.{map_comma, map_listed, renamed, renamed_expr, renamed_item, renamed_posts, renamed_post, renamed_method, renamed_items, renamed_type, renamed_typed, renamed_argument, renamed_intent, renamed_with, renamed_base, renamed_read, renamed_intents}
+use Rattle.dpl_agreement.specs.Renamed.{map_comma, map_listed, renamed, renamed_expr, renamed_item, renamed_posts, renamed_post, renamed_method, renamed_items, renamed_type, renamed_typed, renamed_argument, renamed_intent, renamed_with, renamed_base, renamed_read, renamed_intents}
 
 pub parts-mapped : {A B : Type 0} (f : A → B) (xs : Listed A) → parts (map_listed f xs) ≡ map f (parts xs)
 parts-mapped f xs = ap (λ ys. f xs.first ∷ ys) (others-mapped xs.others)

@@ -20,12 +20,12 @@ use Rattle.dpl_language.specs.Expressions.{found, item_of, values_of, whole_item
 use Rattle.dpl_language.specs.Assignments.{reply_value, and_no_more, answered, called, read_or, evaluated, change, assign_array, assign_domain, assign_plain, assign_name, assign, cell_call}
 use Rattle.dpl_language.specs.Loops.{within_budget, named_turn}
 use Rattle.dpl_language.specs.Writing.{or_zero, line_end, arguments_of, name_shown, shown, arguments_then, write}
-use Rattle.dpl_language.specs.Renamed.{renamed, renamed_expr, renamed_item, renamed_exprs, renamed_target, renamed_call, renamed_argument, renamed_write, renamed_read}
-use Rattle.dpl_language.specs.Scopes.{Scoping, items_in, fits_item, fits_exprs, fits_read, fits_side, fits_whole_side, side_for, suits_target, fits_target, fits_call, fits_shown, fits_arguments}
-use Rattle.dpl_language.specs.Agreement.{MayRead, MayBe, WasDomain, WasArray, WasPlain, WasOnce, Simulates, EndsAlike, RunAlike, AnswersAlike}
-use Rattle.dpl_language.proofs.RunsAlike.{All-every, with_value-alike, with_value-alike_by, unless-alike, within_budget-alike, named_turn-alike}
-use Rattle.dpl_language.proofs.RenamedParts.{item_read-renamed, bare_name-renamed, arguments_of-renamed}
-use Rattle.dpl_language.proofs.ExpressionsAlike.{items_of-in, fits_item-once, value_of-renamed, item_of-renamed, values_of-renamed, whole_item-renamed}
+use Rattle.dpl_agreement.specs.Renamed.{renamed, renamed_expr, renamed_item, renamed_exprs, renamed_target, renamed_call, renamed_argument, renamed_write, renamed_read}
+use Rattle.dpl_agreement.specs.Scopes.{Scoping, items_in, fits_item, fits_exprs, fits_read, fits_side, fits_whole_side, side_for, suits_target, fits_target, fits_call, fits_shown, fits_arguments}
+use Rattle.dpl_agreement.specs.Agreement.{MayRead, MayBe, WasDomain, WasArray, WasPlain, WasOnce, Simulates, EndsAlike, RunAlike, AnswersAlike}
+use Rattle.dpl_agreement.proofs.RunsAlike.{All-every, with_value-alike, with_value-alike_by, unless-alike, within_budget-alike, named_turn-alike}
+use Rattle.dpl_agreement.proofs.RenamedParts.{item_read-renamed, bare_name-renamed, arguments_of-renamed}
+use Rattle.dpl_agreement.proofs.ExpressionsAlike.{items_of-in, fits_item-once, value_of-renamed, item_of-renamed, values_of-renamed, whole_item-renamed}
 
 -- a right side that is no wrong divisor stays as it is
 tested_divisor-same : (dividing : Bool) (at : Place) (v w : Value) → tested_divisor dividing at v ≡ Ok w → v ≡ w

@@ -6,19 +6,19 @@ use Rattle.std.specs.Int.{int_wrap}
 use Rattle.std.specs.Fmt.{digits}
 use Rattle.dpl_range.specs.Members.{members}
 use Rattle.dpl_domain.specs.Indices.{indices}
-use Rattle.dpl_language.proofs.Slots.{Bound}
+use Rattle.dpl_agreement.proofs.Slots.{Bound}
 use Rattle.dpl_language.specs.Tree.{ProgramTree}
 use Rattle.dpl_language.specs.Environment.{Plain}
 use Rattle.dpl_language.specs.Values.{AllLocales}
 use Rattle.dpl_language.specs.Names.{Text}
 use Rattle.dpl_language.specs.Program.{written}
-use Rattle.dpl_language.specs.Renamed.{renamed_program}
-use Rattle.dpl_language.specs.Scopes.{fits_all}
+use Rattle.dpl_agreement.specs.Renamed.{renamed_program}
+use Rattle.dpl_agreement.specs.Scopes.{fits_all}
 use Rattle.dpl_language.proofs.Says.{limits}
 use Rattle.dpl_language.proofs.ArraysSamples.{inner_array}
-use Rattle.dpl_language.proofs.Slots.{Slots, text_of}
-use Rattle.dpl_language.proofs.ProgramsAlike.{run_from}
-use Rattle.dpl_language.proofs.SlotsAgree.{by_slot, resolving, first_slots, first_seen}
+use Rattle.dpl_agreement.proofs.Slots.{Slots, text_of}
+use Rattle.dpl_agreement.proofs.ProgramsAlike.{run_from}
+use Rattle.dpl_agreement.proofs.SlotsAgree.{by_slot, resolving, first_slots, first_seen}
 
 -- D has slot 0, and A slot 1
 abbrev names : ℕ → Text

@@ -15,10 +15,10 @@ use Rattle.dpl_language.specs.Values.{Value, Domain, Index, index_of, ranges_in,
 use Rattle.dpl_language.specs.Environment.{Content, Plain, ArrayOf, CellOf, Answer, Replied, Unanswered, Limits}
 use Rattle.dpl_language.specs.Names.{Text, Entry, Frame, Store, State, paired, in_frame, or_content, look_up, behind_entry, changed, or_store, change_in, declare_in, without_innermost, value_in, update_in, element_in, put_in, redomained, is_over, redomain_content, redomain_all, redomain_behind, redomain_in, is_array_over, has_over, has_over_behind, or_further, arrays_over, cell_in, frame_cells, store_cells, plus, cells_before, or_number, cell_number, set_cell, set_cells, with_cells, state_in, effect_on, call_in, by_name}
 use Rattle.dpl_language.specs.Program.{first_state, meaning, written}
-use Rattle.dpl_language.specs.Renamed.{renamed_content, renamed_intents, renamed_program}
-use Rattle.dpl_language.specs.Agreement.{AnswersAlike, Simulates}
-use Rattle.dpl_language.proofs.FreeNames.{anything, anything-lawful, stmts_fit}
-use Rattle.dpl_language.proofs.ProgramsAlike.{written-same}
+use Rattle.dpl_agreement.specs.Renamed.{renamed_content, renamed_intents, renamed_program}
+use Rattle.dpl_agreement.specs.Agreement.{AnswersAlike, Simulates}
+use Rattle.dpl_agreement.proofs.FreeNames.{anything, anything-lawful, stmts_fit}
+use Rattle.dpl_agreement.proofs.ProgramsAlike.{written-same}
 
 -- two tests that are the same, with parts of which the one's are made from the other's
 pub by_test : {A B : Type 0} (h : A → B) (b c : Bool) (x y : B) (u v : A) → b ≡ c → x ≡ h u → y ≡ h v → (if b then x else y) ≡ h (if c then u else v)
@@ -292,6 +292,8 @@ module _ (f : Text → Text) (same : (x y : Text) → bytes_eq (f x) (f y) ≡ b
     suited_initial = λ x over item t v g s1 s2 r f d e. tt;
     changed = λ x op t old w g s1 s2 r f e h. tt;
     turned = λ x item over g s1 s2 r a e k d lt. tt;
+    spanned = λ x from items v g s1 s2 r f d e. tt;
+    spanned_array = λ x over k from items v vs g s1 s2 r f e h. tt;
     given_holds = λ x v g s1 s2 r a e. tt;
     enters = λ g s1 s2 r. ap by_name.enter r;
     leaves = λ g s1 s2 r. then_so by_name.leave by_name.leave (λ s. ap (λ t. record (respelled_state s) { store = t }) (without_innermost-respelled s.store)) s1 s2 r;
