@@ -4,4 +4,5 @@ pub mod Slices
 pub mod Expansions
 pub mod Members
 pub mod Words
+pub mod Spaced
 pub mod Layouts

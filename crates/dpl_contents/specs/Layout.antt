@@ -1,5 +1,5 @@
 -- What is printed of the first parts of an array, part by part.
-use Rattle.std.specs.Prelude.{ℕ, zero, suc, List, [], ℤ, map}
+use Rattle.std.specs.Prelude.{ℕ, zero, suc, List, [], ◌∷◌, ◌++◌, ℤ, map}
 use Rattle.dpl_range.specs.Equality.{TextRange}
 use Rattle.dpl_language.specs.Tree.{Kind}
 use Rattle.dpl_language.specs.Ranges.{size_in}
@@ -13,6 +13,11 @@ texts_of kind words = map printed (map (element_as kind) words)
 -- the first k parts, each of which is laid out by its own ranges
 abbrev pub first_laid_out : ℕ → List TextRange → List (List ℕ) → List ℕ
 first_laid_out k rs ts = joined (between rs) (map (laid_out rs) (pieces k (size_in rs) ts))
+
+-- each text behind a space
+abbrev pub spaced : List (List ℕ) → List ℕ
+spaced [] = []
+spaced (t ∷ ts) = 32 ∷ t ++ spaced ts
 
 -- what stands before the part with the number k
 abbrev pub gap_before : ℕ → List ℕ → List ℕ

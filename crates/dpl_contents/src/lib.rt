@@ -10,7 +10,7 @@ mod range;
 
 pub use array::ArrayWords;
 pub use domain::DomainWord;
-pub use print::{ElementKind, print_array};
+pub use print::{ElementKind, list_array, print_array};
 pub use range::RangeWord;
 
 #[cfg(test)]

@@ -8,7 +8,7 @@ ghost use Rattle.dpl_memory.specs.Memory.{element_as};
 ghost use Rattle.dpl_contents.specs.Range.{range_word};
 ghost use Rattle.dpl_contents.specs.Kinds.{kind_of};
 ghost use Rattle.dpl_contents.specs.Arrays.{words_of};
-ghost use Rattle.dpl_contents.specs.Layout.{texts_of, gap_before};
+ghost use Rattle.dpl_contents.specs.Layout.{texts_of, spaced, gap_before};
 
 use crate::parts::Parts;
 use crate::{ArrayWords, RangeWord};
@@ -45,6 +45,43 @@ pub fn print_array(
         Parts::Space(outer, middle, inner) => {
             print_space(kind, &outer, &middle, &inner, &mut walk, out)
         }
+    }
+}
+
+/// Appends each element of an array behind a space, in the order of its domain.
+///
+/// # Errors
+/// Out of memory for the elements.
+#[tactic(auto, using(crate::proofs::Spaced::spaced_next))]
+pub fn list_array(
+    kind: ElementKind,
+    array: &ArrayWords,
+    out: &mut Vec<u8>,
+) -> Result<(), AllocError>
+    ensures { OnOk result (out.new.items ≡ out.old.items ++ spaced (texts_of (kind_of kind) array.now.words)) }
+{
+    let mut walk = array.walk();
+    for _ in 0..array.domain().size() {
+        list_next(kind, &mut walk, out)?;
+    }
+    Ok(())
+}
+
+// Appends the next element behind a space, if there is one.
+fn list_next(
+    kind: ElementKind,
+    walk: &mut Walk<'_, i64>,
+    out: &mut Vec<u8>,
+) -> Result<(), AllocError>
+    ensures text { OnOk result (out.new.items ≡ out.old.items ++ spaced (texts_of (kind_of kind) (words_of (take 1 walk.old)))) }
+    ensures rest { walk.new ≡ drop 1 walk.old }
+{
+    match walk.next() {
+        Some((_, word)) => {
+            out.push(b' ')?;
+            print_word(kind, word, out)
+        }
+        None => Ok(()),
     }
 }
 

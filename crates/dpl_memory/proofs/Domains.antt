@@ -9,12 +9,13 @@ use Rattle.dpl_language.specs.Tree.{Kind}
 use Rattle.dpl_language.specs.Values.{Domain}
 use Rattle.dpl_language.specs.Environment.{Content, Plain, ArrayOf, CellOf}
 use Rattle.dpl_language.specs.Names.{Text, redomained}
-use Rattle.dpl_language.proofs.Slots.{Sight as SlotSight, Bound as SlotBound, IsFreshIn, IsFresh, IsApartFrame, IsApart, Slots, SameIn, frame_at, frame_at-same, store_at, same_slot, other_slot, slot_of-apart, IsFreshIn-append}
-use Rattle.dpl_language.proofs.SlotDomains.{is_over_slot, is_array_over_slot, redomained_content, redomain_slots, any_over_in, any_over, OverNamed, OverResolves, OversFrame, Overs}
+use Rattle.dpl_agreement.proofs.Slots.{Sight as SlotSight, Bound as SlotBound, IsFreshIn, IsFresh, IsApartFrame, IsApart, Slots, SameIn, frame_at, frame_at-same, store_at, same_slot, other_slot, slot_of-apart, IsFreshIn-append}
+use Rattle.dpl_agreement.proofs.SlotDomains.{is_over_slot, is_array_over_slot, redomained_content, redomain_slots, any_over_in, any_over, OverNamed, OverResolves, OversFrame, Overs}
 use Rattle.dpl_memory.specs.Memory.{VariableKind, PlainKind, DomainKind, TupleKind, ArrayKind, Variable, Held, Memory, no_domain, no_array, is_among, held_over_if, redomained_from, redomained_in, is_some_array, element_as, array_at}
 use Rattle.dpl_memory.specs.Resolved.{Bound, Sighted, Sight, is_over, arrays_in, arrays_over, HasSlots, array_content, content_in}
 use Rattle.dpl_memory.proofs.Elements.{redomained-words}
-use Rattle.dpl_memory.proofs.InSight.{placed_over, placed_frame, in_slots, Told, told_of, IsToldIn, IsTold, contents}
+use Rattle.dpl_memory.proofs.InSight.{placed_frame, in_slots, Told, IsToldIn, IsTold, contents}
+use Rattle.dpl_memory.proofs.OverShapes.{OverShapedIn, OversShaped, over-slot}
 
 -- OTHER TEXTS for a slot that no name in sight has
 module _ (names more : ℕ → Text) (slot : ℕ) (same : (j : ℕ) → j ≢ slot → more j ≡ names j) where
@@ -50,10 +51,6 @@ FitIn (b ∷ bs) = OverFits b.kind b.over × FitIn bs
 abbrev pub Fit : Sight → Type 0
 Fit [] = Unit {0}
 Fit (f ∷ fs) = FitIn f × Fit fs
-
-is_over-placed : (slot : ℕ) (over : Option Bound) → is_over_slot slot (placed_over over) ≡ is_over slot over
-is_over-placed slot None = refl
-is_over-placed slot (Some y) = refl
 
 -- WHICH SLOTS ARE AMONG THEM
 is_among-append : (j : ℕ) (xs ys : List ℕ) → is_among j (xs ++ ys) ≡ (is_among j xs || is_among j ys)
@@ -134,26 +131,27 @@ is_some-append : (xs ys : List ℕ) → is_some_array (xs ++ ys) ≡ (is_some_ar
 is_some-append [] ys = refl
 is_some-append (x ∷ xs) ys = refl
 
-content-over : (slot : ℕ) (k : VariableKind) (j : ℕ) (over : Option Bound) (s : Memory) → OverFits k over → is_array_over_slot slot (content_in k j (placed_over over) s) ≡ is_over slot over
-content-over slot (PlainKind k) j over s h = sym (ap (is_over slot) h)
-content-over slot DomainKind j over s h = sym (ap (is_over slot) h)
-content-over slot TupleKind j over s h = sym (ap (is_over slot) h)
-content-over slot (ArrayKind k) j over s h = is_over-placed slot over
+content-over : (slot : ℕ) (k : VariableKind) (j : ℕ) (over : Option SlotBound) (known : Option Bound) (s : Memory) → OverFits k known → is_over_slot slot over ≡ is_over slot known
+    → is_array_over_slot slot (content_in k j over s) ≡ is_over slot known
+content-over slot (PlainKind k) j over known s h e = sym (ap (is_over slot) h)
+content-over slot DomainKind j over known s h e = sym (ap (is_over slot) h)
+content-over slot TupleKind j over known s h e = sym (ap (is_over slot) h)
+content-over slot (ArrayKind k) j over known s h e = e
 
-module _ (slot slots : ℕ) (told : ℕ → Told) (s : Memory) where
-  any_over_in-told : (bs : List Sighted) → IsToldIn told slots bs → FitIn bs → any_over_in slot (contents told s) (placed_frame bs) ≡ is_some_array (arrays_in slot bs)
-  any_over_in-told [] h f = refl
-  any_over_in-told (b ∷ bs) h f =
-      ap (λ (t : Told). is_array_over_slot slot (content_in t.kind b.slot t.over s) || any_over_in slot (contents told s) (placed_frame bs)) h.0
-      ∙ ap (λ c. c || any_over_in slot (contents told s) (placed_frame bs)) (content-over slot b.kind b.slot b.over s f.0)
-      ∙ ap (λ c. is_over slot b.over || c) (any_over_in-told bs h.2 f.1)
+module _ (slot slots : ℕ) (told : ℕ → Told) (s : Memory) (domain : (told slot).kind ≡ DomainKind) where
+  any_over_in-told : (bs : List Sighted) (fs : Sight) → IsToldIn told slots bs → FitIn bs → OverShapedIn told fs bs → any_over_in slot (contents told s) (placed_frame bs) ≡ is_some_array (arrays_in slot bs)
+  any_over_in-told [] fs h f o = refl
+  any_over_in-told (b ∷ bs) fs h f o =
+      ap (λ c. c || any_over_in slot (contents told s) (placed_frame bs))
+      (content-over slot (told b.slot).kind b.slot (told b.slot).over b.over s (subst (λ (t : Told). OverFits t.kind b.over) (sym h.0) f.0) (over-slot told slot domain (told b.slot).over b.over b.shape fs o.0))
+      ∙ ap (λ c. is_over slot b.over || c) (any_over_in-told bs fs h.2 f.1 o.1)
       ∙ (elim (is_over slot b.over) as (λ c. (c || is_some_array (arrays_in slot bs)) ≡ is_some_array (if c then b.slot ∷ arrays_in slot bs else arrays_in slot bs)) [ true ↦ refl | false ↦ refl ])
 
-  pub any_over-told : (fs : Sight) → IsTold told slots fs → Fit fs → any_over slot (contents told s) (in_slots fs) ≡ is_some_array (arrays_over slot fs)
-  any_over-told [] h f = refl
-  any_over-told (bs ∷ fs) h f =
-      ap (λ c. c || any_over slot (contents told s) (in_slots fs)) (any_over_in-told bs h.0 f.0)
-      ∙ ap (λ c. is_some_array (arrays_in slot bs) || c) (any_over-told fs h.1 f.1)
+  pub any_over-told : (fs : Sight) → IsTold told slots fs → Fit fs → OversShaped told fs → any_over slot (contents told s) (in_slots fs) ≡ is_some_array (arrays_over slot fs)
+  any_over-told [] h f o = refl
+  any_over-told (bs ∷ fs) h f o =
+      ap (λ c. c || any_over slot (contents told s) (in_slots fs)) (any_over_in-told bs (bs ∷ fs) h.0 f.0 o.0)
+      ∙ ap (λ c. is_some_array (arrays_in slot bs) || c) (any_over-told fs h.1 f.1 o.1)
       ∙ sym (is_some-append (arrays_in slot bs) (arrays_over slot fs))
 
 -- ANOTHER DOMAIN for the arrays in some slots
@@ -216,7 +214,7 @@ module _ (x : Variable) (rs : List TextRange) (slots : ℕ) (s : Memory) (h : Ha
       ∙ ap (array_content over k) (sym (get_or-redomained 0 x.arrays rs s.arrays j no_array (subst (λ n. j < n) (sym h.arrays) within)))
 
   module _ (told : ℕ → Told) where
-    name-redomained : (b : Sighted) → told b.slot ≡ told_of b → b.slot < slots → (told x.slot).kind ≡ DomainKind → x.slot < slots → is_among b.slot x.arrays ≡ is_over x.slot b.over
+    name-redomained : (b : Sighted) → is_over_slot x.slot (told b.slot).over ≡ is_over x.slot b.over → b.slot < slots → (told x.slot).kind ≡ DomainKind → x.slot < slots → is_among b.slot x.arrays ≡ is_over x.slot b.over
         → redomain_slots x.slot rs (contents told s) b.slot ≡ contents told new b.slot
     name-redomained b t within d inside e =
         (elim (b.slot == x.slot) as (λ c. (c ≡ true → b.slot ≡ x.slot) → (b.slot ≡ x.slot → c ≡ true) → (if c then Plain (Domain rs) else redomained_content x.slot rs (contents told s b.slot)) ≡ contents told new b.slot) [
@@ -224,19 +222,20 @@ module _ (x : Variable) (rs : List TextRange) (slots : ℕ) (s : Memory) (h : Ha
               sym (ap (contents told new) (p refl) ∙ ap (λ k. content_in k x.slot (told x.slot).over new) d ∙ ap (content_in DomainKind x.slot (told x.slot).over) new-domain ∙ content-here (told x.slot).over inside)
           | false ↦ λ p i.
               content-other (told b.slot).kind b.slot (told b.slot).over (λ same. let no = i same in cc) within
-              (e ∙ sym (ap (λ (t : Told). is_over_slot x.slot t.over) t ∙ is_over-placed x.slot b.over))
+              (e ∙ sym t)
               ∙ ap (content_in (told b.slot).kind b.slot (told b.slot).over) (sym new-domain)
         ]) (Decides-eqb b.slot x.slot).0 (Decides-eqb b.slot x.slot).1
 
-    frame-redomained : (bs : List Sighted) → IsToldIn told slots bs → (told x.slot).kind ≡ DomainKind → x.slot < slots → TellsIn x.slot x.arrays bs
+    frame-redomained : (bs : List Sighted) (fs : Sight) → IsToldIn told slots bs → OverShapedIn told fs bs → (told x.slot).kind ≡ DomainKind → x.slot < slots → TellsIn x.slot x.arrays bs
         → SameIn (redomain_slots x.slot rs (contents told s)) (contents told new) (placed_frame bs)
-    frame-redomained [] t d inside e = tt
-    frame-redomained (b ∷ bs) t d inside e = (name-redomained b t.0 t.1 d inside e.0, frame-redomained bs t.2 d inside e.1)
+    frame-redomained [] fs t o d inside e = tt
+    frame-redomained (b ∷ bs) fs t o d inside e =
+        (name-redomained b (over-slot told x.slot d (told b.slot).over b.over b.shape fs o.0) t.1 d inside e.0, frame-redomained bs fs t.2 o.1 d inside e.1)
 
     -- all names in sight
-    pub store-redomained : (fs : Sight) → IsTold told slots fs → (told x.slot).kind ≡ DomainKind → x.slot < slots → Tells x.slot x.arrays fs
+    pub store-redomained : (fs : Sight) → IsTold told slots fs → OversShaped told fs → (told x.slot).kind ≡ DomainKind → x.slot < slots → Tells x.slot x.arrays fs
         → store_at (redomain_slots x.slot rs (contents told s)) (in_slots fs) ≡ store_at (contents told new) (in_slots fs)
-    store-redomained [] t d inside e = refl
-    store-redomained (f ∷ fs) t d inside e =
-        ap (λ es. es ∷ store_at (redomain_slots x.slot rs (contents told s)) (in_slots fs)) (frame_at-same _ _ (placed_frame f) (frame-redomained f t.0 d inside e.0))
-        ∙ ap (λ r. frame_at (contents told new) (placed_frame f) ∷ r) (store-redomained fs t.1 d inside e.1)
+    store-redomained [] t o d inside e = refl
+    store-redomained (f ∷ fs) t o d inside e =
+        ap (λ es. es ∷ store_at (redomain_slots x.slot rs (contents told s)) (in_slots fs)) (frame_at-same _ _ (placed_frame f) (frame-redomained f (f ∷ fs) t.0 o.0 d inside e.0))
+        ∙ ap (λ r. frame_at (contents told new) (placed_frame f) ∷ r) (store-redomained fs t.1 o.1 d inside e.1)

@@ -1,4 +1,4 @@
--- Resolved names in sight, as names in slots (dpl_language/proofs/Slots.antt): where it is told of each slot in sight which name,
+-- Resolved names in sight, as names in slots (dpl_agreement/proofs/Slots.antt): where it is told of each slot in sight which name,
 -- which kind and which domain it has, a slot holds what the memory has there.
 use Rattle.std.proofs.Common.{◌≡◌, ◌≢◌, ℕ, ◌<◌, true, false, List, [], ◌∷◌, ◌++◌, refl, sym, ap, ◌∙◌, subst, Some, None, Option, map}
 use Rattle.std.specs.Prelude.{bytes_eq, ◌==◌, if◌then◌else◌, option_map}
@@ -8,10 +8,11 @@ use Rattle.std.proofs.lemmas.Slice.Eq.{bytes_eq-Decides}
 use Rattle.dpl_language.specs.Tree.{Op}
 use Rattle.dpl_language.specs.Environment.{Content}
 use Rattle.dpl_language.specs.Names.{Text}
-use Rattle.dpl_language.proofs.Slots.{Sight as SlotSight, Bound as SlotBound, slot_in, or_slot, slot_of, IsFreshIn, IsFresh, bind as slot_bind, without_frame as slots_without_frame, Slots, set_slot, spelled, SameIn, frame_at, frame_at-same, store_at, same_slot, other_slot}
-use Rattle.dpl_language.proofs.SlotDomains.{OverResolves, Overs, Overs-kept}
+use Rattle.dpl_language.specs.Program.{own_content, own_frame}
+use Rattle.dpl_agreement.proofs.Slots.{Sight as SlotSight, Bound as SlotBound, slot_in, or_slot, slot_of, IsFreshIn, IsFresh, bind as slot_bind, without_frame as slots_without_frame, Slots, set_slot, spelled, SameIn, frame_at, frame_at-same, store_at, same_slot, other_slot}
+use Rattle.dpl_agreement.proofs.SlotDomains.{OverResolves, Overs, Overs-kept}
 use Rattle.dpl_memory.specs.Memory.{VariableKind, PlainKind, DomainKind, TupleKind, ArrayKind, Memory, intended}
-use Rattle.dpl_memory.specs.Resolved.{Shape, Bound, Sighted, Sight, Known, known_in, or_known, innermost, IsUnusedIn, IsUnused, bind, without_frame, over_text, content_in, entry_in, frame_in, store_in}
+use Rattle.dpl_memory.specs.Resolved.{Shape, Bound, Sighted, Sight, Known, known_in, or_known, innermost, IsUnusedIn, IsUnused, bind, without_frame, text_of, content_in, entry_in, frame_in, own_store, store_in}
 use Rattle.dpl_memory.proofs.OfKind.{content_in-intend}
 
 -- AS NAMES IN SLOTS
@@ -69,15 +70,16 @@ pub without_frame-bind : (x : Sighted) (fs : Sight) → without_frame (bind x fs
 without_frame-bind x [] = refl
 without_frame-bind x (f ∷ fs) = refl
 
--- WHAT IS TOLD OF A SLOT: the text of its name, its kind, the shape of its values, and of an array the domain name that it is over
+-- WHAT IS TOLD OF A SLOT: the text of its name, its kind, the shape of its values, and of an array the bare name that it is over,
+-- be that a domain's or a range's
 pub record Told : Type 0 where
   pub text : Text
   pub kind : VariableKind
   pub shape : Shape
   pub over : Option SlotBound
 
-abbrev pub told_of : Sighted → Told
-told_of b = record { text = b.text; kind = b.kind; shape = b.shape; over = placed_over b.over }
+abbrev pub told_of : Sighted → Option SlotBound → Told
+told_of b over = record { text = b.text; kind = b.kind; shape = b.shape; over = over }
 
 abbrev pub texts_of : (ℕ → Told) → ℕ → Text
 texts_of told j = (told j).text
@@ -85,7 +87,7 @@ texts_of told j = (told j).text
 -- it is so of each slot in sight, and each is one of the memory's
 abbrev pub IsToldIn : (ℕ → Told) → ℕ → List Sighted → Type 0
 IsToldIn told slots [] = Unit {0}
-IsToldIn told slots (b ∷ bs) = (told b.slot ≡ told_of b) × (b.slot < slots) × IsToldIn told slots bs
+IsToldIn told slots (b ∷ bs) = (told b.slot ≡ told_of b (told b.slot).over) × (b.slot < slots) × IsToldIn told slots bs
 
 abbrev pub IsTold : (ℕ → Told) → ℕ → Sight → Type 0
 IsTold told slots [] = Unit {0}
@@ -125,29 +127,38 @@ with_told_here slot t told = ap (λ b. if b then t else told slot) (same_slot sl
 pub with_told_other : (j slot : ℕ) (t : Told) (told : ℕ → Told) → j ≢ slot → with_told slot t told j ≡ told j
 with_told_other j slot t told ne = ap (λ b. if b then t else told j) (other_slot j slot ne)
 
-module _ (x : Sighted) (told : ℕ → Told) (slots : ℕ) where
+-- what is told of a name, whatever it is over
+told-here : (t : Told) (b : Sighted) (over : Option SlotBound) → t ≡ told_of b over → t ≡ told_of b t.over
+told-here t b over e = e ∙ sym (ap (λ (t : Told). told_of b t.over) e)
+
+told-still : (t u : Told) (b : Sighted) → u ≡ t → t ≡ told_of b t.over → u ≡ told_of b u.over
+told-still t u b e h = e ∙ h ∙ sym (ap (λ (t : Told). told_of b t.over) e)
+
+module _ (x : Sighted) (over : Option SlotBound) (told : ℕ → Told) (slots : ℕ) where
   abbrev after : ℕ → Told
-  after = with_told x.slot (told_of x) told
+  after = with_told x.slot (told_of x over) told
 
   IsToldIn-after : (bs : List Sighted) → IsUnusedIn x.slot bs → IsToldIn told slots bs → IsToldIn after slots bs
   IsToldIn-after [] u h = tt
-  IsToldIn-after (b ∷ bs) u h = (with_told_other b.slot x.slot (told_of x) told (λ e. u.0 (sym e)) ∙ h.0, h.1, IsToldIn-after bs u.1 h.2)
+  IsToldIn-after (b ∷ bs) u h = (told-still (told b.slot) (after b.slot) b (with_told_other b.slot x.slot (told_of x over) told (λ e. u.0 (sym e))) h.0, h.1, IsToldIn-after bs u.1 h.2)
 
   IsTold-after : (fs : Sight) → IsUnused x.slot fs → IsTold told slots fs → IsTold after slots fs
   IsTold-after [] u h = tt
   IsTold-after (f ∷ fs) u h = (IsToldIn-after f u.0 h.0, IsTold-after fs u.1 h.1)
 
-IsToldIn-append : (told : ℕ → Told) (slots : ℕ) (x : Sighted) (bs : List Sighted) → IsToldIn told slots bs → told x.slot ≡ told_of x → x.slot < slots → IsToldIn told slots (bs ++ x ∷ [])
+IsToldIn-append : (told : ℕ → Told) (slots : ℕ) (x : Sighted) (bs : List Sighted) → IsToldIn told slots bs → told x.slot ≡ told_of x (told x.slot).over → x.slot < slots → IsToldIn told slots (bs ++ x ∷ [])
 IsToldIn-append told slots x [] h t within = (t, within, tt)
 IsToldIn-append told slots x (b ∷ bs) h t within = (h.0, h.1, IsToldIn-append told slots x bs h.2 t within)
 
-IsTold-append : (told : ℕ → Told) (slots : ℕ) (x : Sighted) (fs : Sight) → IsTold told slots fs → told x.slot ≡ told_of x → x.slot < slots → IsTold told slots (bind x fs)
+IsTold-append : (told : ℕ → Told) (slots : ℕ) (x : Sighted) (fs : Sight) → IsTold told slots fs → told x.slot ≡ told_of x (told x.slot).over → x.slot < slots → IsTold told slots (bind x fs)
 IsTold-append told slots x [] h t within = ((t, within, tt), tt)
 IsTold-append told slots x (f ∷ fs) h t within = (IsToldIn-append told slots x f h.0 t within, h.1)
 
-pub IsTold-bind : (x : Sighted) (told : ℕ → Told) (slots : ℕ) (fs : Sight) → IsUnused x.slot fs → x.slot < slots → IsTold told slots fs → IsTold (with_told x.slot (told_of x) told) slots (bind x fs)
-IsTold-bind x told slots fs u within h =
-    IsTold-append (with_told x.slot (told_of x) told) slots x fs (IsTold-after x told slots fs u h) (with_told_here x.slot (told_of x) told) within
+pub IsTold-bind : (x : Sighted) (over : Option SlotBound) (told : ℕ → Told) (slots : ℕ) (fs : Sight) → IsUnused x.slot fs → x.slot < slots → IsTold told slots fs
+    → IsTold (with_told x.slot (told_of x over) told) slots (bind x fs)
+IsTold-bind x over told slots fs u within h =
+    IsTold-append (with_told x.slot (told_of x over) told) slots x fs (IsTold-after x over told slots fs u h)
+    (told-here (with_told x.slot (told_of x over) told x.slot) x over (with_told_here x.slot (told_of x over) told)) within
 
 pub IsTold-without_frame : (told : ℕ → Told) (slots : ℕ) (fs : Sight) → IsTold told slots fs → IsTold told slots (without_frame fs)
 IsTold-without_frame told slots [] h = tt
@@ -157,28 +168,30 @@ IsTold-without_frame told slots (f ∷ fs) h = h.1
 abbrev pub contents : (ℕ → Told) → Memory → Slots
 contents told s j = content_in (told j).kind j (told j).over s
 
-pub over_text-placed : (o : Option Bound) → option_map (λ (b : SlotBound). b.text) (placed_over o) ≡ over_text o
-over_text-placed None = refl
-over_text-placed (Some y) = refl
+-- by itself
+content_in-own : (k : VariableKind) (slot : ℕ) (over : Option SlotBound) (s : Memory) → own_content (spelled (content_in k slot over s)) ≡ content_in k slot None s
+content_in-own (PlainKind k) slot over s = refl
+content_in-own DomainKind slot over s = refl
+content_in-own TupleKind slot over s = refl
+content_in-own (ArrayKind k) slot over s = refl
 
-content_in-spelled : (k : VariableKind) (slot : ℕ) (over : Option Bound) (s : Memory) → spelled (content_in k slot (placed_over over) s) ≡ content_in k slot (over_text over) s
-content_in-spelled (PlainKind k) slot over s = refl
-content_in-spelled DomainKind slot over s = refl
-content_in-spelled TupleKind slot over s = refl
-content_in-spelled (ArrayKind k) slot over s = ap (λ o. content_in (ArrayKind k) slot o s) (over_text-placed over)
-
-frame_at-contents : (told : ℕ → Told) (slots : ℕ) (s : Memory) (bs : List Sighted) → IsToldIn told slots bs → frame_at (contents told s) (placed_frame bs) ≡ frame_in s bs
+frame_at-contents : (told : ℕ → Told) (slots : ℕ) (s : Memory) (bs : List Sighted) → IsToldIn told slots bs → own_frame (frame_at (contents told s) (placed_frame bs)) ≡ frame_in s bs
 frame_at-contents told slots s [] h = refl
 frame_at-contents told slots s (b ∷ bs) h =
-    ap (λ (t : Told). record { name = b.text; content = spelled (content_in t.kind b.slot t.over s) } ∷ frame_at (contents told s) (placed_frame bs)) h.0
-    ∙ ap (λ c. record { name = b.text; content = c } ∷ frame_at (contents told s) (placed_frame bs)) (content_in-spelled b.kind b.slot b.over s)
+    ap (λ c. record { name = b.text; content = c } ∷ own_frame (frame_at (contents told s) (placed_frame bs))) (content_in-own (told b.slot).kind b.slot (told b.slot).over s)
+    ∙ ap (λ (t : Told). record { name = b.text; content = content_in t.kind b.slot None s } ∷ own_frame (frame_at (contents told s) (placed_frame bs))) h.0
     ∙ ap (λ es. entry_in s b ∷ es) (frame_at-contents told slots s bs h.2)
 
 -- they stand for the store that the memory is
-pub store_at-contents : (told : ℕ → Told) (slots : ℕ) (s : Memory) (fs : Sight) → IsTold told slots fs → store_at (contents told s) (in_slots fs) ≡ store_in s fs
+pub store_at-contents : (told : ℕ → Told) (slots : ℕ) (s : Memory) (fs : Sight) → IsTold told slots fs → own_store (store_at (contents told s) (in_slots fs)) ≡ store_in s fs
 store_at-contents told slots s [] h = refl
 store_at-contents told slots s (f ∷ fs) h =
-    ap (λ es. es ∷ store_at (contents told s) (in_slots fs)) (frame_at-contents told slots s f h.0) ∙ ap (λ t. frame_in s f ∷ t) (store_at-contents told slots s fs h.1)
+    ap (λ es. es ∷ own_store (store_at (contents told s) (in_slots fs))) (frame_at-contents told slots s f h.0) ∙ ap (λ t. frame_in s f ∷ t) (store_at-contents told slots s fs h.1)
+
+-- the same of any name that an array is over
+pub over_text-placed : (o : Option Bound) → option_map (λ (b : SlotBound). b.text) (placed_over o) ≡ option_map text_of o
+over_text-placed None = refl
+over_text-placed (Some y) = refl
 
 SameIn-each : (m n : Slots) → ((j : ℕ) → m j ≡ n j) → (bs : List SlotBound) → SameIn m n bs
 SameIn-each m n e [] = tt

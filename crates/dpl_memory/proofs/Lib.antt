@@ -4,6 +4,7 @@ pub mod Known
 pub mod Elements
 pub mod OfKind
 pub mod InSight
+pub mod OverShapes
 pub mod Shapes
 pub mod Domains
 pub mod MemoryAgrees

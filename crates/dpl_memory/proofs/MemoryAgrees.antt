@@ -1,8 +1,9 @@
 -- A resolved data-parallel program runs in a memory as it runs by names.
 -- Each step of the one is a step of the other where a name has the kind and the slot of its innermost declaration and holds its kind.
 use Rattle.std.proofs.Common.{◌≡◌, ◌≢◌, ℕ, ◌<◌, ◌++◌, pos, true, List, [], ◌∷◌, refl, sym, ap, ◌∙◌, subst, Some, None, Option, map}
-use Rattle.std.specs.Prelude.{Ok, option_map}
+use Rattle.std.specs.Prelude.{All, Ok, option_map}
 use Rattle.std.proofs.lemmas.List.{length-replicate}
+use Rattle.std.proofs.lemmas.List.Elements.{All-weaker}
 use Rattle.dpl_history.specs.declared.history.Event.{Event}
 use Rattle.dpl_range.specs.Equality.{TextRange}
 use Rattle.dpl_language.specs.Tree.{Op, Kind, Assign, Set, SetAdd, SetSubtract, SetMultiply, SetDivide, SetRemainder, SetReduce, ItemTree, Stmts, ProgramTree}
@@ -14,27 +15,28 @@ use Rattle.dpl_language.specs.Environment.{Content, Plain, ArrayOf, CellOf, Limi
 use Rattle.dpl_language.specs.Phrases.{item_read}
 use Rattle.dpl_language.specs.Expressions.{item_of}
 use Rattle.dpl_language.specs.Statements.{exec_all}
-use Rattle.dpl_language.specs.Names.{Text, State, paired, look_up, change_in, declare_in, without_innermost, value_in as name_value, update_in, element_in, put_in, redomain_in, arrays_over as named_arrays, by_name}
-use Rattle.dpl_language.specs.Program.{first_state, meaning, top_level, left, written}
-use Rattle.dpl_language.specs.Renamed.{renamed_content, renamed_item, renamed_intents, renamed_stmts, renamed_program}
-use Rattle.dpl_language.specs.Scopes.{Sort, PlainSort, ArraySort, sort_of, IsLawful, after_all, fits_all}
-use Rattle.dpl_language.specs.Agreement.{MayRead, MayBe, WasDomain, Simulates, EndsAlike}
-use Rattle.dpl_language.proofs.Slots.{Bound as SlotBound, bind as slot_bind, IsApart, IsFresh, set_slot, spelled, store_at, slot_of, look_up-slot, change_in-slot, declare_in-slot, IsApart-bind, IsApart-without_frame, without_innermost-store_at}
-use Rattle.dpl_language.proofs.SlotDomains.{OverNamed, OverResolves, Overs, Overs-declare, Overs-without_frame, redomain_in-slots, arrays_over-slots}
-use Rattle.dpl_language.proofs.SlotsAgree.{updated, with_value_at as with_element_at, put-spelled}
-use Rattle.dpl_language.proofs.RunsAlike.{EndsAlike-weaker, settled-alike, written-alike}
-use Rattle.dpl_language.proofs.Through.{through, item_of-through_at, item_of-through, whole_item-through, exec_all-through}
-use Rattle.dpl_language.proofs.ProgramsAlike.{run_from}
-use Rattle.dpl_language.proofs.Agreement.{exec_all-alike}
+use Rattle.dpl_language.specs.Names.{Text, Store, State, paired, look_up, change_in, declare_in, without_innermost, value_in as name_value, update_in, element_in, put_in, redomain_in, arrays_over as named_arrays, by_name}
+use Rattle.dpl_language.specs.Program.{first_state, meaning, top_level, own_frame, left, written}
+use Rattle.dpl_agreement.specs.Renamed.{renamed_content, renamed_item, renamed_intents, renamed_stmts, renamed_program}
+use Rattle.dpl_agreement.specs.Scopes.{Sort, PlainSort, ArraySort, sort_of, IsLawful, after_all, fits_all}
+use Rattle.dpl_agreement.specs.Agreement.{MayRead, MayBe, WasDomain, Simulates, EndsAlike}
+use Rattle.dpl_agreement.proofs.Slots.{Bound as SlotBound, bind as slot_bind, IsApart, IsFresh, set_slot, spelled, store_at, slot_of, slot_of-apart, look_up-slot, change_in-slot, declare_in-slot, IsApart-bind, IsApart-without_frame, without_innermost-store_at}
+use Rattle.dpl_agreement.proofs.SlotDomains.{OverNamed, OverResolves, Overs, Overs-declare, Overs-without_frame, redomain_in-slots, arrays_over-slots}
+use Rattle.dpl_agreement.proofs.SlotsAgree.{updated, with_value_at as with_element_at, put-spelled}
+use Rattle.dpl_agreement.proofs.RunsAlike.{EndsAlike-weaker, settled-alike, written-alike}
+use Rattle.dpl_agreement.proofs.Through.{through, item_of-through_at, item_of-through, domain_of-through, whole_item-through, exec_all-through}
+use Rattle.dpl_agreement.proofs.ProgramsAlike.{run_from}
+use Rattle.dpl_agreement.proofs.Agreement.{exec_all-alike}
 use Rattle.dpl_sound.specs.Typed.{AreRanked}
 use Rattle.dpl_words.specs.Words.{IntLeaf, no_range, intent_at, set_at, given_as}
 use Rattle.dpl_words.proofs.OfKind.{given-kind}
-use Rattle.dpl_memory.specs.Memory.{VariableKind, PlainKind, DomainKind, TupleKind, ArrayKind, Held, Memory, no_domain, no_tuple, no_array, value_in, with_value_in, array_at, held_with, element_in as element_in_memory, with_element_in, declared_array, intents_by_slot, redomained_in, is_some_array, intended, given_in, in_memory}
-use Rattle.dpl_memory.specs.Resolved.{Bound, Sighted, Sight, text_of, variable_of, over_of, sighted, arrays_over, outermost, left_in, frame_in, store_in, content_in, IsUnused, bind, without_frame, Seen, first_seen, IsArrayOf, IsOf, IsWhole, HasShape, MayHold, Shape, no_shape, IsShaped, HasNoArray, GivesOnce, SuitsKind, ArraysResolve, IsNew, OverResolves as OverIsFound, Holds, kind_takes, KindCombines, IntentResolves, Resolves, Declares, IsGivenAs, Start, resolving, first_memory, HasSlots, StandsFor}
+use Rattle.dpl_memory.specs.Memory.{VariableKind, PlainKind, DomainKind, TupleKind, ArrayKind, Held, Memory, is_among, redomained_from, no_domain, no_tuple, no_array, value_in, with_value_in, array_at, held_with, element_in as element_in_memory, with_element_in, declared_array, intents_by_slot, redomained_in, is_some_array, intended, given_in, in_memory}
+use Rattle.dpl_memory.specs.Resolved.{Bound, Sighted, Sight, text_of, variable_of, written_over, if_domain, domain_among, over_of, sighted, arrays_over, outermost, left_in, frame_in, own_store, store_in, content_in, IsUnused, bind, without_frame, Seen, first_seen, MaySpan, IsOf, IsWhole, HasShape, MayHold, Shape, no_shape, IsShaped, HasNoArray, GivesOnce, SuitsKind, ArraysResolve, IsNew, OverResolves as OverIsFound, Holds, kind_takes, KindCombines, IntentResolves, Resolves, Declares, IsGivenAs, Start, resolving, first_memory, HasSlots, StandsFor}
 use Rattle.dpl_memory.proofs.Elements.{element_at-words, with_element-words, elements-kept, assigned-element}
 use Rattle.dpl_memory.proofs.OfKind.{content_in-set_same, content_in-set_other, content_in-array_same, content_in-array_other, slots-set, slots-array, intents-set_in, sets-set_in, value_in-array, value_in-plain, value_in-domain, assigned-of}
 use Rattle.dpl_memory.proofs.InSight.{placed, placed_over, in_slots, slot_of-innermost, IsFresh-in_slots, in_slots-bind, in_slots-without_frame, without_frame-bind, Told, told_of, texts_of, IsTold, Finds, innermost-told, with_told, with_told_here, with_told_other, IsTold-bind, IsTold-without_frame, contents, over_text-placed, store_at-contents, store_at-each, store_at-intend, set_slot-each, Overs-contents, Overs-each}
-use Rattle.dpl_memory.proofs.Shapes.{IsShapedBy, told-shaped, shaped-told, shaped-changed, shaped-declared, shaped-set, assigned-shaped, shaped-element, shaped-array, shaped-arrays, shaped-intended, given-shaped}
+use Rattle.dpl_memory.proofs.OverShapes.{KnownBy, OverKnown, OversShaped, over-after, OversShaped-bind, OversShaped-without_frame, arrays-shaped}
+use Rattle.dpl_memory.proofs.Shapes.{HasToldShape, IsShapedBy, told-shaped, shaped-told, shaped-changed, shaped-declared, shaped-set, assigned-shaped, shaped-element, shaped-array, shaped-redomained, shaped-intended, given-shaped}
 use Rattle.dpl_memory.proofs.Domains.{OverNamed-texts, Overs-texts, OverFits, FitIn, Fit, Tells, arrays_over-tells, any_over-told, redomained-slots, redomained-intents, store-redomained}
 
 -- THE RELATION: it is told of each slot in sight what it is, and the slots stand for the store
@@ -42,6 +44,7 @@ pub record Kept (start : Start) (g : Seen) (s1 : State) (s2 : Memory) : Type 0 w
   pub told : ℕ → Told
   pub is_told : IsTold told start.slots g.frames
   pub fit : Fit g.frames
+  pub overs_shaped : OversShaped told g.frames
   pub apart : IsApart (in_slots g.frames)
   pub overs : Overs (texts_of told) (contents told s2) (in_slots g.frames)
   pub store : s1.store ≡ store_at (contents told s2) (in_slots g.frames)
@@ -166,13 +169,13 @@ element-spelled (ArrayKind k) slot over t s = element_at-words k t (indices_in (
 abbrev made : List TextRange → List Value → Held
 made rs vs = record { ranges = rs; words = map kept_number vs }
 
-declared-content : (kind : VariableKind) (slot : ℕ) (over : Option SlotBound) (k : Kind) (rs : List TextRange) (vs : List Value) (slots : ℕ) (s : Memory) → IsArrayOf kind k vs → HasSlots slots s → slot < slots
+declared-content : (kind : VariableKind) (shape : Shape) (slot : ℕ) (over : Option SlotBound) (k : Kind) (rs : List TextRange) (vs : List Value) (slots : ℕ) (s : Memory) → MaySpan kind shape k rs → All (IsOf kind) vs → HasSlots slots s → slot < slots
     → content_in kind slot over (declared_array kind slot (made rs vs) s) ≡ ArrayOf over k rs vs
-declared-content (PlainKind l) slot over k rs vs slots s p h within = absurd p
-declared-content DomainKind slot over k rs vs slots s p h within = absurd p
-declared-content TupleKind slot over k rs vs slots s p h within = absurd p
-declared-content (ArrayKind l) slot over k rs vs slots s p h within =
-    content_in-array_same l slot over (made rs vs) slots s h within ∙ ap (λ vs. ArrayOf over l rs vs) (elements-kept l vs p.1) ∙ ap (λ k. ArrayOf over k rs vs) (sym p.0)
+declared-content (PlainKind l) shape slot over k rs vs slots s p q h within = absurd p
+declared-content DomainKind shape slot over k rs vs slots s p q h within = absurd p
+declared-content TupleKind shape slot over k rs vs slots s p q h within = absurd p
+declared-content (ArrayKind l) shape slot over k rs vs slots s p q h within =
+    content_in-array_same l slot over (made rs vs) slots s h within ∙ ap (λ vs. ArrayOf over l rs vs) (elements-kept l vs q) ∙ ap (λ k. ArrayOf over k rs vs) (sym p.0)
 
 declared-other : (j kind : VariableKind) (i slot : ℕ) (over : Option SlotBound) (a : Held) (s : Memory) → i ≢ slot → content_in j i over (declared_array kind slot a s) ≡ content_in j i over s
 declared-other j (PlainKind l) i slot over a s ne = refl
@@ -198,7 +201,7 @@ changed-held : (k : VariableKind) (shape : Shape) (op : Assign) (slot : ℕ) (t 
 changed-held (PlainKind k) shape op slot t s old w e takes p = cc
 changed-held DomainKind shape op slot t s old w e takes p = cc
 changed-held TupleKind shape op slot t s old w e takes p = cc
-changed-held (ArrayKind k) shape op slot t s old w e takes p = (assigned-element k op old w takes p, tt)
+changed-held (ArrayKind k) shape op slot t s old w e takes p = (assigned-element k op old w takes p, λ n. absurd (n tt))
 
 -- the value of a right side that is evaluated once, of no whole array
 once-held : (k : VariableKind) (shape : Shape) (item : ItemTree Bound) (g : Seen) → (IsWhole k → ⊥) → SuitsKind k shape item g → GivesOnce k shape item g
@@ -220,7 +223,7 @@ turn-held : (limits : Limits) (k : VariableKind) (shape : Shape) (item : ItemTre
 turn-held limits (PlainKind k) shape item g s t v shaped whole f e = absurd whole
 turn-held limits DomainKind shape item g s t v shaped whole f e = absurd whole
 turn-held limits TupleKind shape item g s t v shaped whole f e = absurd whole
-turn-held limits (ArrayKind k) shape item g s t v shaped whole f e = (f.1 limits s shaped t v e, tt)
+turn-held limits (ArrayKind k) shape item g s t v shaped whole f e = (f.1 limits s shaped t v e, λ n. absurd (n tt))
 
 -- what the command line gives
 given-alike : (k : VariableKind) (x : Bound) (start : Start) (s : Memory) → s.words.sets ≡ start.words → IsGivenAs k x start → paired x.text start.texts ≡ given_in k x.variable.slot s
@@ -230,7 +233,7 @@ given-alike TupleKind x start s e g = absurd g
 given-alike (ArrayKind k) x start s e g = absurd g
 
 given-held : (k : VariableKind) (shape : Shape) (slot : ℕ) (s : Memory) (v : Value) → given_in k slot s ≡ Some v → MayHold k shape v
-given-held (PlainKind k) shape slot s v e = (given-kind k (set_at slot s.words.sets) v e, given-shaped k shape (set_at slot s.words.sets) v e)
+given-held (PlainKind k) shape slot s v e = (given-kind k (set_at slot s.words.sets) v e, λ n. given-shaped k shape (set_at slot s.words.sets) v e)
 given-held DomainKind shape slot s v e = cc
 given-held TupleKind shape slot s v e = cc
 given-held (ArrayKind k) shape slot s v e = cc
@@ -241,6 +244,11 @@ arrays-known (PlainKind k) x g e a = cc
 arrays-known DomainKind x g e a = a
 arrays-known TupleKind x g e a = cc
 arrays-known (ArrayKind k) x g e a = cc
+
+top_level-own : (t : Store) → own_frame (top_level t) ≡ top_level (own_store t)
+top_level-own [] = refl
+top_level-own (f ∷ []) = refl
+top_level-own (f ∷ g ∷ fs) = top_level-own (g ∷ fs)
 
 top_level-store_in : (s : Memory) (fs : Sight) → top_level (store_in s fs) ≡ frame_in s (outermost fs)
 top_level-store_in s [] = refl
@@ -289,6 +297,7 @@ module _ (start : Start) where
         told = r.told;
         is_told = r.is_told;
         fit = r.fit;
+        overs_shaped = r.overs_shaped;
         apart = r.apart;
         overs = Overs-contents (texts_of r.told) r.told s2 new (in_slots g.frames) r.overs;
         store =
@@ -325,7 +334,7 @@ module _ (start : Start) where
       (shaped-set kind x.shape slot (assigned op intent (value_in kind slot s2) v) start.slots s2
       (λ n. assigned-of kind op intent (value_in kind slot s2) v n t (λ e. subst (λ is. KindCombines kind (intent_at slot is)) (sym r.intents_by_slots) (intent-combines op x g i e)) p.0)
       (assigned-shaped kind x.shape op intent (value_in kind slot s2) v t (λ e. subst (λ is. KindCombines kind (intent_at slot is)) (sym r.intents_by_slots) (intent-combines op x g i e)) p.1)
-      r.slots (finds x g s1 s2 r f).within)
+      (λ w. shaped_sight g s1 s2 r x f) r.slots (finds x g s1 s2 r f).within)
 
   put_alike : (x : Bound) (t : Index) (v : Value) (g : Seen) (s1 : State) (s2 : Memory) → Kept start g s1 s2 → Resolves x g → MayHold x.variable.kind x.shape v
       → Kept start g (by_name.put_element x.text t v s1) (in_memory.put_element x.variable t v s2)
@@ -338,31 +347,57 @@ module _ (start : Start) where
       (slots-element kind slot t v start.slots s2 r.slots)
       (ap (λ w. w.intents) (words-element kind slot t v s2))
       (ap (λ w. w.sets) (words-element kind slot t v s2))
-      (shaped-element kind x.shape slot t v s2 (shaped_sight g s1 s2 r x f))
+      (shaped-element kind x.shape slot t v start.slots s2 r.slots (finds x g s1 s2 r f).within (shaped_sight g s1 s2 r x f))
 
   -- A DECLARATION
+  -- what is told of a name that is declared
+  abbrev told_as : Bound → Sort Bound → Told
+  told_as x sort = told_of (sighted x sort) (placed_over (written_over sort))
+
+  -- the name that an array is declared over is in sight, and where it is a domain's, of the array's shape
+  over_known : (over : Option Bound) (shape : Shape) (g : Seen) (s1 : State) (s2 : Memory) (r : Kept start g s1 s2) → OverIsFound over shape g → OverKnown r.told (placed_over over) (domain_among over) shape g.frames
+  over_known None shape g s1 s2 r o = refl
+  over_known (Some y) shape g s1 s2 r o = (
+    λ j unused. slot_of-apart y.text (in_slots g.frames) j y.variable.slot (IsFresh-in_slots j g.frames unused) (placed_at y g o.0),
+    subst (λ k. KnownBy k (r.told y.variable.slot).shape (placed y) (if_domain y.variable.kind y) shape) (sym (finds y g s1 s2 r o.0).kind) (by y.variable.kind o.1),
+  )
+    where
+      by : (k : VariableKind) → (k ≡ DomainKind → y.shape ≡ shape) → KnownBy k (r.told y.variable.slot).shape (placed y) (if_domain k y) shape
+      by (PlainKind l) h = refl
+      by DomainKind h = (refl, (finds y g s1 s2 r o.0).shape ∙ h refl)
+      by TupleKind h = refl
+      by (ArrayKind l) h = refl
+
+  over_shaped : (x : Bound) (sort : Sort Bound) (g : Seen) (s1 : State) (s2 : Memory) (r : Kept start g s1 s2) → IsUnused x.variable.slot g.frames → OverIsFound (written_over sort) x.shape g
+      → OverKnown (with_told x.variable.slot (told_as x sort) r.told) (with_told x.variable.slot (told_as x sort) r.told x.variable.slot).over (over_of sort) x.shape (bind (sighted x sort) g.frames)
+  over_shaped x sort g s1 s2 r u o =
+      subst (λ (t : Told). OverKnown (with_told x.variable.slot (told_as x sort) r.told) t.over (over_of sort) x.shape (bind (sighted x sort) g.frames)) (sym (with_told_here x.variable.slot (told_as x sort) r.told))
+      (over-after r.told (sighted x sort) (told_as x sort) (placed_over (written_over sort)) (over_of sort) x.shape g.frames u (over_known (written_over sort) x.shape g s1 s2 r o))
+
   declared_alike : (x : Bound) (sort : Sort Bound) (c : Content SlotBound) (new : Memory) (g : Seen) (s1 : State) (s2 : Memory) (r : Kept start g s1 s2) → IsNew start.slots x g → OverFits x.variable.kind (over_of sort)
-      → content_in x.variable.kind x.variable.slot (placed_over (over_of sort)) new ≡ c
+      → content_in x.variable.kind x.variable.slot (placed_over (written_over sort)) new ≡ c
       → ((k : VariableKind) (j : ℕ) (over : Option SlotBound) → j ≢ x.variable.slot → content_in k j over new ≡ content_in k j over s2)
-      → OverResolves (texts_of (with_told x.variable.slot (told_of (sighted x sort)) r.told)) c (in_slots g.frames)
+      → OverResolves (texts_of (with_told x.variable.slot (told_as x sort) r.told)) c (in_slots g.frames)
       → HasSlots start.slots new → new.words.intents ≡ s2.words.intents → new.words.sets ≡ s2.words.sets → HasShape x.variable.kind x.shape (value_in x.variable.kind x.variable.slot new)
+      → OverIsFound (written_over sort) x.shape g
       → Kept start (record g { frames = bind (sighted x sort) g.frames }) (record s1 { store = declare_in x.text (spelled c) s1.store }) new
-  declared_alike x sort c new g s1 s2 r n fits here other resolves h i w shape =
+  declared_alike x sort c new g s1 s2 r n fits here other resolves h i w shape over =
       let slot = x.variable.slot in
-      let told = with_told slot (told_of (sighted x sort)) r.told in
+      let told = with_told slot (told_as x sort) r.told in
       let fresh : IsFresh slot (in_slots g.frames) = IsFresh-in_slots slot g.frames n.unused in
       let each : (j : ℕ) → set_slot slot c (contents r.told s2) j ≡ contents told new j = set_slot-each slot c (contents r.told s2) (contents told new)
-      (sym (ap (λ (t : Told). content_in t.kind slot t.over new) (with_told_here slot (told_of (sighted x sort)) r.told) ∙ here))
-      (λ j ne. sym (ap (λ (t : Told). content_in t.kind j t.over new) (with_told_other j slot (told_of (sighted x sort)) r.told ne) ∙ other (r.told j).kind j (r.told j).over ne)) in
+      (sym (ap (λ (t : Told). content_in t.kind slot t.over new) (with_told_here slot (told_as x sort) r.told) ∙ here))
+      (λ j ne. sym (ap (λ (t : Told). content_in t.kind j t.over new) (with_told_other j slot (told_as x sort) r.told ne) ∙ other (r.told j).kind j (r.told j).over ne)) in
       record {
         told = told;
-        is_told = IsTold-bind (sighted x sort) r.told start.slots g.frames n.unused n.within r.is_told;
+        is_told = IsTold-bind (sighted x sort) (placed_over (written_over sort)) r.told start.slots g.frames n.unused n.within r.is_told;
         fit = Fit-bind (sighted x sort) g.frames r.fit fits;
+        overs_shaped = OversShaped-bind r.told (sighted x sort) (told_as x sort) g.frames n.unused r.overs_shaped (over_shaped x sort g s1 s2 r n.unused over);
         apart = subst IsApart (sym (in_slots-bind (sighted x sort) g.frames)) (IsApart-bind (placed x) (in_slots g.frames) r.apart fresh);
         overs = subst (Overs (texts_of told) (contents told new)) (sym (in_slots-bind (sighted x sort) g.frames))
             (Overs-each (texts_of told) (set_slot slot c (contents r.told s2)) (contents told new) (slot_bind (placed x) (in_slots g.frames)) each
             (Overs-declare (texts_of told) (placed x) c (contents r.told s2) (in_slots g.frames) fresh
-            (Overs-texts (texts_of r.told) (texts_of told) slot (λ j ne. ap (λ (t : Told). t.text) (with_told_other j slot (told_of (sighted x sort)) r.told ne)) (contents r.told s2) (in_slots g.frames) fresh r.overs)
+            (Overs-texts (texts_of r.told) (texts_of told) slot (λ j ne. ap (λ (t : Told). t.text) (with_told_other j slot (told_as x sort) r.told ne)) (contents r.told s2) (in_slots g.frames) fresh r.overs)
             resolves));
         store =
             ap (declare_in x.text (spelled c)) r.store ∙ declare_in-slot (placed x) c (in_slots g.frames) (contents r.told s2) fresh
@@ -374,16 +409,16 @@ module _ (start : Start) where
         here = r.here;
         texts = r.texts;
         words = w ∙ r.words;
-        shaped = shaped-declared r.told slot (told_of (sighted x sort)) s2 new r.shaped other shape;
+        shaped = shaped-declared r.told slot (told_as x sort) s2 new r.shaped other shape;
       }
 
   -- the domain name that an array is declared over
-  over_alike : (over : Option Bound) (slot : ℕ) (t : Told) (g : Seen) (s1 : State) (s2 : Memory) (r : Kept start g s1 s2) → IsUnused slot g.frames → OverIsFound over g
+  over_alike : (over : Option Bound) (shape : Shape) (slot : ℕ) (t : Told) (g : Seen) (s1 : State) (s2 : Memory) (r : Kept start g s1 s2) → IsUnused slot g.frames → OverIsFound over shape g
       → OverNamed (texts_of (with_told slot t r.told)) (placed_over over) (in_slots g.frames)
-  over_alike None slot t g s1 s2 r u o = tt
-  over_alike (Some y) slot t g s1 s2 r u o =
+  over_alike None shape slot t g s1 s2 r u o = tt
+  over_alike (Some y) shape slot t g s1 s2 r u o =
       OverNamed-texts (texts_of r.told) (texts_of (with_told slot t r.told)) slot (λ j ne. ap (λ (t : Told). t.text) (with_told_other j slot t r.told ne)) (Some (placed y)) (in_slots g.frames)
-      (IsFresh-in_slots slot g.frames u) (placed_at y g o, sym (finds y g s1 s2 r o).text)
+      (IsFresh-in_slots slot g.frames u) (placed_at y g o.0, sym (finds y g s1 s2 r o.0).text)
 
   declare_alike : (x : Bound) (c : Content Bound) (g : Seen) (s1 : State) (s2 : Memory) → Kept start g s1 s2 → Declares start.slots x (sort_of c) g → Holds x.variable.kind x.shape c
       → Kept start (record g { frames = bind (sighted x (sort_of c)) g.frames }) (by_name.declare x.text (renamed_content text_of c) s1) (in_memory.declare x.variable (renamed_content variable_of c) s2)
@@ -393,30 +428,38 @@ module _ (start : Start) where
       declared_alike x PlainSort (Plain v) (with_value_in kind slot v s2) g s1 s2 r d.0 (fits-none kind)
       (content_in-set_same kind slot None v start.slots s2 p.0 d.1 r.slots d.0.within)
       (λ k j over ne. content_in-set_other k kind j slot over v s2 ne) tt (slots-set kind slot v start.slots s2 r.slots) (intents-set_in kind slot v s2) (sets-set_in kind slot v s2)
-      (shaped-set kind x.shape slot v start.slots s2 (λ n. p.0) p.1 r.slots d.0.within)
+      (shaped-set kind x.shape slot v start.slots s2 (λ n. p.0) p.1 (λ w. absurd (d.1 w)) r.slots d.0.within) tt
   declare_alike x (ArrayOf over k rs vs) g s1 s2 r d p =
       let kind = x.variable.kind in
       let slot = x.variable.slot in
       subst (λ o. Kept start (record g { frames = bind (sighted x (ArraySort over)) g.frames }) (record s1 { store = declare_in x.text (ArrayOf o k rs vs) s1.store }) (declared_array kind slot (made rs vs) s2))
       (over_text-placed over)
-      (declared_alike x (ArraySort over) (ArrayOf (placed_over over) k rs vs) (declared_array kind slot (made rs vs) s2) g s1 s2 r d.0 (fits-whole kind over d.1)
-      (declared-content kind slot (placed_over over) k rs vs start.slots s2 p r.slots d.0.within)
+      (declared_alike x (ArraySort over) (ArrayOf (placed_over over) k rs vs) (declared_array kind slot (made rs vs) s2) g s1 s2 r d.0 (fits-whole kind (domain_among over) d.1)
+      (declared-content kind x.shape slot (placed_over over) k rs vs start.slots s2 p.0 p.1 r.slots d.0.within)
       (λ l j o ne. declared-other l kind j slot o (made rs vs) s2 ne)
-      (over_alike over slot (told_of (sighted x (ArraySort over))) g s1 s2 r d.0.unused d.2)
+      (over_alike over x.shape slot (told_as x (ArraySort over)) g s1 s2 r d.0.unused d.2)
       (slots-declared kind slot (made rs vs) start.slots s2 r.slots) (ap (λ w. w.intents) (words-declared kind slot (made rs vs) s2)) (ap (λ w. w.sets) (words-declared kind slot (made rs vs) s2))
-      (shaped-array kind x.shape slot k rs vs (declared_array kind slot (made rs vs) s2) p))
+      (shaped-array kind x.shape slot k (made rs vs) start.slots s2 p.0 r.slots d.0.within) d.2)
   declare_alike x (CellOf k c) g s1 s2 r d p = absurd d
 
   -- A DOMAIN ASSIGNED
   was_domain : (x : Bound) (g : Seen) → WasDomain (through variable_of in_memory) (Kept start) x g → x.variable.kind ≡ DomainKind
   was_domain x g w = value_in-domain x.variable.kind x.variable.slot w.1 w.3
 
-  has_alike : (x : Bound) (g : Seen) (s1 : State) (s2 : Memory) → Kept start g s1 s2 → Resolves x g → x.variable.arrays ≡ arrays_over x.variable.slot g.frames
+  has_alike : (x : Bound) (g : Seen) (s1 : State) (s2 : Memory) → Kept start g s1 s2 → Resolves x g → x.variable.kind ≡ DomainKind → x.variable.arrays ≡ arrays_over x.variable.slot g.frames
       → by_name.has_arrays x.text s1 ≡ is_some_array x.variable.arrays
-  has_alike x g s1 s2 r f a =
+  has_alike x g s1 s2 r f d a =
       ap (named_arrays x.text) r.store
       ∙ arrays_over-slots (texts_of r.told) (placed x) (sym (finds x g s1 s2 r f).text) (contents r.told s2) (in_slots g.frames) r.apart r.overs (placed_at x g f)
-      ∙ any_over-told x.variable.slot start.slots r.told s2 g.frames r.is_told r.fit ∙ ap is_some_array (sym a)
+      ∙ any_over-told x.variable.slot start.slots r.told s2 ((finds x g s1 s2 r f).kind ∙ d) g.frames r.is_told r.fit r.overs_shaped ∙ ap is_some_array (sym a)
+
+  -- the arrays that stand with it have its shape
+  redomained_shape : (x : Bound) (rs : List TextRange) (g : Seen) (s1 : State) (s2 : Memory) (r : Kept start g s1 s2) → Resolves x g → x.variable.kind ≡ DomainKind → x.variable.arrays ≡ arrays_over x.variable.slot g.frames
+      → AreRanked x.shape.rank x.shape.strided rs → (j : ℕ) → is_among j x.variable.arrays ≡ true → AreRanked (r.told j).shape.rank (r.told j).shape.strided rs
+  redomained_shape x rs g s1 s2 r f d a shape j e =
+      let found = finds x g s1 s2 r f in
+      let alike = arrays-shaped r.told x.variable.slot (found.kind ∙ d) j start.slots g.frames r.is_told r.overs_shaped (subst (λ xs. is_among j xs ≡ true) a e) in
+      subst (λ (s : Shape). AreRanked s.rank s.strided rs) (sym (alike ∙ found.shape)) shape
 
   redomain_alike : (x : Bound) (rs : List TextRange) (g : Seen) (s1 : State) (s2 : Memory) → Kept start g s1 s2 → Resolves x g → x.variable.kind ≡ DomainKind → x.variable.arrays ≡ arrays_over x.variable.slot g.frames → AreRanked x.shape.rank x.shape.strided rs
       → Kept start g (by_name.redomain x.text rs s1) (in_memory.redomain x.variable rs s2)
@@ -424,12 +467,13 @@ module _ (start : Start) where
     told = r.told;
     is_told = r.is_told;
     fit = r.fit;
+    overs_shaped = r.overs_shaped;
     apart = r.apart;
     overs = Overs-contents (texts_of r.told) r.told s2 (redomained_in x.variable rs s2) (in_slots g.frames) r.overs;
     store =
         ap (redomain_in x.text rs) r.store
         ∙ redomain_in-slots (texts_of r.told) (placed x) (sym (finds x g s1 s2 r f).text) (contents r.told s2) rs (in_slots g.frames) r.apart r.overs (placed_at x g f)
-        ∙ store-redomained x.variable rs start.slots s2 r.slots d r.told g.frames r.is_told ((finds x g s1 s2 r f).kind ∙ d) (finds x g s1 s2 r f).within
+        ∙ store-redomained x.variable rs start.slots s2 r.slots d r.told g.frames r.is_told r.overs_shaped ((finds x g s1 s2 r f).kind ∙ d) (finds x g s1 s2 r f).within
         (subst (λ xs. Tells x.variable.slot xs g.frames) (sym a) (arrays_over-tells x.variable.slot g.frames r.apart));
     slots = redomained-slots x.variable rs start.slots s2 r.slots d;
     intents = r.intents;
@@ -438,11 +482,14 @@ module _ (start : Start) where
     texts = r.texts;
     words = ap (λ w. w.sets) (redomained-intents x.variable rs start.slots s2 r.slots d) ∙ r.words;
     shaped = λ j.
-        shaped-arrays (r.told j) j (redomained_in x.variable rs s2).arrays (with_value_in x.variable.kind x.variable.slot (Domain rs) s2)
+        subst (λ arrays. HasToldShape (r.told j) j (record (with_value_in x.variable.kind x.variable.slot (Domain rs) s2) { arrays = redomained_from 0 x.variable.arrays rs arrays }))
+        (subst (λ k. (with_value_in k x.variable.slot (Domain rs) s2).arrays ≡ s2.arrays) (sym d) refl)
+        (shaped-redomained (r.told j) j x.variable.arrays rs (with_value_in x.variable.kind x.variable.slot (Domain rs) s2) (redomained_shape x rs g s1 s2 r f d a shape j)
         (shaped-changed r.told x.variable.slot s2 (with_value_in x.variable.kind x.variable.slot (Domain rs) s2) r.shaped
         (λ k j over ne. content_in-set_other k x.variable.kind j x.variable.slot over (Domain rs) s2 ne)
         (shaped-told x.variable.kind x.shape (r.told x.variable.slot) x.variable.slot (with_value_in x.variable.kind x.variable.slot (Domain rs) s2) (finds x g s1 s2 r f).kind (finds x g s1 s2 r f).shape
-        (shaped-set x.variable.kind x.shape x.variable.slot (Domain rs) start.slots s2 (λ n. subst (λ k. IsOf k (Domain rs)) (sym d) (rs, refl)) (subst (λ k. HasShape k x.shape (Domain rs)) (sym d) shape) r.slots (finds x g s1 s2 r f).within)) j);
+        (shaped-set x.variable.kind x.shape x.variable.slot (Domain rs) start.slots s2 (λ n. subst (λ k. IsOf k (Domain rs)) (sym d) (rs, refl)) (λ n. subst (λ k. HasShape k x.shape (Domain rs)) (sym d) shape)
+        (λ w. absurd (subst IsWhole d w)) r.slots (finds x g s1 s2 r f).within)) j));
   }
 
   -- ALL TOGETHER
@@ -476,11 +523,15 @@ module _ (start : Start) where
         scalar-held x.variable.kind x.shape item g (limits, w.1, sym (whole_item-through limits variable_of in_memory item w.1) ∙ w.3) f.1 limits s2 (shaped_sight g s1 s2 r) v (evaluated_once limits item v s2 f.0 e);
     changed = λ x op t old w g s1 s2 r f e h. changed-held x.variable.kind x.shape op x.variable.slot t s2 old w e f.1 h.0;
     turned = λ x item over g s1 s2 r f e. f limits s2 (shaped_sight g s1 s2 r) over (sym (item_of-through limits variable_of in_memory item s2) ∙ e);
+    spanned = λ x from items v g s1 s2 r f d e. f limits s2 (shaped_sight g s1 s2 r) from v (sym (domain_of-through limits variable_of in_memory from items s2) ∙ e);
+    spanned_array = λ x over k from items v vs g s1 s2 r f e h.
+        (f limits s2 (shaped_sight g s1 s2 r) from v (sym (domain_of-through limits variable_of in_memory from items s2) ∙ e), All-weaker (MayHold x.variable.kind x.shape) (IsOf x.variable.kind) (λ v p. p.0) vs h);
     given_holds = λ x v g s1 s2 r f e. given-held x.variable.kind x.shape x.variable.slot s2 v e;
     enters = λ g s1 s2 r. record {
       told = r.told;
       is_told = (tt, r.is_told);
       fit = (tt, r.fit);
+      overs_shaped = (tt, r.overs_shaped);
       apart = (tt, r.apart);
       overs = (tt, r.overs);
       store = ap (λ s. [] ∷ s) r.store;
@@ -496,6 +547,7 @@ module _ (start : Start) where
       told = r.told;
       is_told = IsTold-without_frame r.told start.slots g.frames r.is_told;
       fit = Fit-without_frame g.frames r.fit;
+      overs_shaped = OversShaped-without_frame r.told g.frames r.overs_shaped;
       apart = subst IsApart (sym (in_slots-without_frame g.frames)) (IsApart-without_frame (in_slots g.frames) r.apart);
       overs = subst (Overs (texts_of r.told) (contents r.told s2)) (sym (in_slots-without_frame g.frames)) (Overs-without_frame (texts_of r.told) (contents r.told s2) (in_slots g.frames) r.overs);
       store =
@@ -513,6 +565,7 @@ module _ (start : Start) where
       told = r.told;
       is_told = r.is_told;
       fit = r.fit;
+      overs_shaped = r.overs_shaped;
       apart = r.apart;
       overs = Overs-contents (texts_of r.told) r.told s2 (intended (intents_by_slot (renamed_intents variable_of is)) s2) (in_slots g.frames) r.overs;
       store = r.store ∙ store_at-intend r.told (intents_by_slot (renamed_intents variable_of is)) s2 (in_slots g.frames);
@@ -528,6 +581,7 @@ module _ (start : Start) where
       told = r.told;
       is_told = r.is_told;
       fit = r.fit;
+      overs_shaped = r.overs_shaped;
       apart = r.apart;
       overs = Overs-contents (texts_of r.told) r.told s2 (intended [] s2) (in_slots g.frames) r.overs;
       store = r.store ∙ store_at-intend r.told [] s2 (in_slots g.frames);
@@ -539,10 +593,10 @@ module _ (start : Start) where
       words = r.words;
       shaped = shaped-intended r.told [] s2 r.shaped;
     };
-    has = λ x op g s1 s2 r f w. has_alike x g s1 s2 r f.0 (arrays-known x.variable.kind x g (was_domain x g w) f.3);
+    has = λ x op g s1 s2 r f w. has_alike x g s1 s2 r f.0 (was_domain x g w) (arrays-known x.variable.kind x g (was_domain x g w) f.3);
     redomains = λ x op v g s1 s2 r f w h.
         let domain = was_domain x g w in
-        redomain_alike x (ranges_in v) g s1 s2 r f.0 domain (arrays-known x.variable.kind x g domain f.3) (subst (λ k. HasShape k x.shape v) domain h.1);
+        redomain_alike x (ranges_in v) g s1 s2 r f.0 domain (arrays-known x.variable.kind x g domain f.3) (subst (λ k. HasShape k x.shape v) domain (h.1 (λ w. subst IsWhole domain w)));
     heres = λ g s1 s2 r. r.here;
     moves = λ k g s1 s2 r m. absurd m;
     calls = λ x op g s1 s2 r f. absurd f;
@@ -563,7 +617,7 @@ module _ (start : Start) where
 
   stands_for : (g : Seen) (s1 : State) (s2 : Memory) → Kept start g s1 s2 → StandsFor start g s1 s2
   stands_for g s1 s2 r = record {
-    store = r.store ∙ store_at-contents r.told start.slots s2 g.frames r.is_told;
+    store = ap own_store r.store ∙ store_at-contents r.told start.slots s2 g.frames r.is_told;
     slots = r.slots;
     intents = r.intents;
     intents_by_slots = r.intents_by_slots;
@@ -572,8 +626,8 @@ module _ (start : Start) where
     words = r.words;
   }
 
-  left-alike : (g : Seen) (a : Outcome State) (b : Outcome Memory) → EndsAlike (StandsFor start g) a b → left a ≡ left_in g.frames b
-  left-alike g (Done s done) b e = ap (λ t. Some (top_level t)) e.1.store ∙ ap (λ f. Some f) (top_level-store_in e.0 g.frames) ∙ sym (ap (left_in g.frames) e.2)
+  left-alike : (g : Seen) (a : Outcome State) (b : Outcome Memory) → EndsAlike (StandsFor start g) a b → option_map own_frame (left a) ≡ left_in g.frames b
+  left-alike g (Done s done) b e = ap (λ f. Some f) (top_level-own s.store) ∙ ap (λ t. Some (top_level t)) e.1.store ∙ ap (λ f. Some f) (top_level-store_in e.0 g.frames) ∙ sym (ap (left_in g.frames) e.2)
   left-alike g (Stop f done) b e = sym (ap (left_in g.frames) e)
   left-alike g (Waits at c op done) b e = sym (ap (left_in g.frames) e)
 
@@ -582,6 +636,7 @@ module _ (start : Start) where
     told = λ j. record { text = []; kind = PlainKind IntLeaf; shape = no_shape; over = None };
     is_told = (tt, tt);
     fit = (tt, tt);
+    overs_shaped = (tt, tt);
     apart = (tt, tt);
     overs = (tt, tt);
     store = refl;
@@ -622,7 +677,7 @@ module _ (start : Start) where
 
   -- and where it is done, it leaves the same top-level names with what stands in their slots
   pub left-memory : (limits : Limits) (t : ProgramTree Bound) (histories : List (List Event)) → fits_all (resolving start) t.stmts first_seen
-      → left (meaning (renamed_program text_of t) start.texts limits histories)
+      → option_map own_frame (left (meaning (renamed_program text_of t) start.texts limits histories))
       ≡ left_in (after_all (resolving start) t.stmts first_seen).frames (run_from limits in_memory (renamed_program variable_of t) (first_memory start))
   left-memory limits t histories f = left-alike (after_all (resolving start) t.stmts first_seen) _ _ (meaning-memory limits t histories f)
 

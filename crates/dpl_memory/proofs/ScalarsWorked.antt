@@ -8,16 +8,16 @@ use Rattle.dpl_range.specs.Members.{members}
 use Rattle.dpl_domain.specs.Indices.{indices}
 use Rattle.dpl_language.specs.Tree.{Placed, IntKind, ScalarType, Number, TruthWord, Named, Chain, Link, NoLinks, Less, One, RangeItem, Closed, NoStride, ItemInit, Sum, AllOf, SetAdd, SetReduce, ReduceIntent, OneVariable, Whole, TextArgument, ExprArgument, Declare, Assigned, For, Forall, Write, WordBody, BlockBody, Then, NoStmts, ProgramTree}
 use Rattle.dpl_language.specs.Program.{written}
-use Rattle.dpl_language.specs.Renamed.{renamed_program}
+use Rattle.dpl_agreement.specs.Renamed.{renamed_program}
 use Rattle.dpl_syntax.specs.declared.place.Place.{Place}
 use Rattle.dpl_language.proofs.ScalarsSamples.{configured}
-use Rattle.dpl_language.specs.Scopes.{PlainSort, after_all, fits_all}
+use Rattle.dpl_agreement.specs.Scopes.{PlainSort, after_all, fits_all}
 use Rattle.dpl_language.specs.Values.{Int, Truth, Range}
 use Rattle.dpl_language.specs.Ranges.{unstrided}
 use Rattle.dpl_language.specs.Environment.{Plain}
 use Rattle.dpl_language.proofs.Spelled.{at, name, after, declared, initial, listed, sign, typed, with_intents, written_line}
 use Rattle.dpl_language.proofs.Says.{limits, writes}
-use Rattle.dpl_language.proofs.ProgramsAlike.{run_from}
+use Rattle.dpl_agreement.proofs.ProgramsAlike.{run_from}
 use Rattle.dpl_words.specs.Words.{IntLeaf, TruthLeaf, RangeLeaf}
 use Rattle.dpl_memory.specs.Memory.{PlainKind, Variable, int_leaf, truth_leaf, range_leaf, in_memory}
 use Rattle.dpl_memory.specs.Resolved.{no_shape, Bound, Sighted, Sight, text_of, variable_of, left_in, Seen, first_seen, Suits, Start, resolving, first_memory, Declares, innermost, sighted}
@@ -71,7 +71,7 @@ placed x column = record { at = at 1 column; name = resolved x }
 
 -- b reduce= j < 4;
 below_four : (g : Seen) → Suits (PlainKind TruthLeaf) no_shape (One (Chain (Named (placed (codes "j") 135)) (Link (at 1 137) Less (Number (at 1 139) (pos 4)) NoLinks))) g
-below_four g = (refl, λ limits s shaped v e. ((int_lt (get_or s.words.numbers 3 (pos 0)) (pos 4), cc), tt))
+below_four g = (refl, λ limits s shaped v e. ((int_lt (get_or s.words.numbers 3 (pos 0)) (pos 4), cc), λ p. tt))
 
 -- what is in sight: s, then b, then r; in the loop i, and in the forall j and its reduce variables
 abbrev plainly : List ℕ → Sighted
@@ -88,7 +88,7 @@ in_turn = record { frames = [] ∷ (plainly (codes "j") ∷ []) ∷ top ∷ []; 
 
 sums_fit : fits_all (resolving start) sums_resolved.stmts first_seen
 sums_fit = ( -- var s: int;
-  (tt, tt, (record { unused = search rules; within = search rules }, λ e. e), tt, ((pos 0, refl), tt)),
+  (tt, tt, (record { unused = search rules; within = search rules }, λ e. e), tt, ((pos 0, refl), λ p. tt)),
   ( -- var b = true;
     (tt, (tt, tt), (record { unused = search rules; within = search rules }, λ e. e), tt, Suits-truth no_shape (seeing ((plainly (codes "s") ∷ []) ∷ [])) (at 1 21) true),
     ( -- const r = 1..4;

@@ -1,20 +1,22 @@
 -- Shapes of values: what is put into a slot keeps its shape there, and where one slot changes all others keep theirs.
 -- So in a memory that a program reaches each name in sight has a value of its shape.
-use Rattle.std.proofs.Common.{◌≡◌, ◌≢◌, ℕ, ◌<◌, Bool, true, false, List, [], ◌∷◌, refl, sym, ap, ◌∙◌, subst, Some, None, Option}
+use Rattle.std.proofs.Common.{◌≡◌, ◌≢◌, ℕ, ◌<◌, Bool, true, false, List, [], ◌∷◌, refl, sym, ap, ◌∙◌, subst, Some, None, Option, ◌+◌, arith}
 use Rattle.std.specs.Prelude.{◌==◌, option_map}
 use Rattle.std.proofs.lemmas.Bool.Decides.{Decides-eqb}
+use Rattle.std.proofs.lemmas.List.{get_or-set_same}
 use Rattle.dpl_range.specs.Equality.{TextRange}
 use Rattle.dpl_language.specs.Tree.{Op, Kind, Assign, Set, SetAdd, SetSubtract, SetMultiply, SetDivide, SetRemainder, SetReduce}
-use Rattle.dpl_language.specs.Values.{Value, Range, Array, Cell, Index}
+use Rattle.dpl_language.specs.Values.{Value, Range, Array, Cell, Index, kept_number}
 use Rattle.dpl_language.specs.Arithmetic.{assigned}
 use Rattle.dpl_language.specs.Environment.{Content, Plain, ArrayOf, CellOf}
-use Rattle.dpl_language.proofs.Slots.{Bound as SlotBound}
-use Rattle.dpl_sound.specs.Typed.{MayStride}
+use Rattle.dpl_agreement.proofs.Slots.{Bound as SlotBound}
+use Rattle.dpl_sound.specs.Typed.{MayStride, AreRanked}
 use Rattle.dpl_words.specs.Words.{LeafKind, IntLeaf, TruthLeaf, RangeLeaf, no_range, given_as}
-use Rattle.dpl_memory.specs.Memory.{VariableKind, PlainKind, DomainKind, TupleKind, ArrayKind, Held, Memory, value_in, with_value_in, with_element_in, intended}
-use Rattle.dpl_memory.specs.Resolved.{Shape, IsOf, IsWhole, IsArrayOf, HasShape, kind_takes, KindCombines, HasSlots, content_in}
+use Rattle.dpl_memory.specs.Memory.{VariableKind, PlainKind, DomainKind, TupleKind, ArrayKind, Held, Memory, no_array, array_at, with_array, held_with, is_among, redomained_from, declared_array, value_in, with_value_in, with_element_in, intended}
+use Rattle.dpl_memory.specs.Resolved.{Shape, IsOf, IsWhole, MaySpan, HasShape, kind_takes, KindCombines, HasSlots, content_in}
 use Rattle.dpl_memory.proofs.OfKind.{content_in-set_same, content_in-intend}
 use Rattle.dpl_memory.proofs.InSight.{Told, with_told, with_told_here, with_told_other}
+use Rattle.dpl_memory.proofs.OverShapes.{ranges-redomained}
 
 -- EACH SLOT has a value of the shape that is told of it
 abbrev pub HasToldShape : Told → ℕ → Memory → Type 0
@@ -68,17 +70,17 @@ shaped-declared told slot t s u h other here j =
           subst (λ t. HasToldShape t j u) (sym (with_told_other j slot t told apart)) (kept-shape (told j) j s u (other (told j).kind j None apart) (h j))
     ]) (Decides-eqb j slot).0 (Decides-eqb j slot).1
 
--- A VALUE THAT IS PUT is of its shape there; of a whole array nothing is put
+-- A VALUE THAT IS PUT is of its shape there; of a whole array nothing is put, and it keeps its domain
 set-value : (k : VariableKind) (slot : ℕ) (v : Value) (slots : ℕ) (s : Memory) → IsOf k v → (IsWhole k → ⊥) → HasSlots slots s → slot < slots → v ≡ value_in k slot (with_value_in k slot v s)
 set-value k slot v slots s p n h within =
     ap content_value (sym (content_in-set_same {N = SlotBound} k slot None v slots s p n h within)) ∙ value_in-content k slot (with_value_in k slot v s)
 
-pub shaped-set : (k : VariableKind) (shape : Shape) (slot : ℕ) (v : Value) (slots : ℕ) (s : Memory) → ((IsWhole k → ⊥) → IsOf k v) → HasShape k shape v → HasSlots slots s → slot < slots
-    → HasShape k shape (value_in k slot (with_value_in k slot v s))
-shaped-set (PlainKind k) shape slot v slots s p q h within = subst (HasShape (PlainKind k) shape) (set-value (PlainKind k) slot v slots s (p (λ e. e)) (λ e. e) h within) q
-shaped-set DomainKind shape slot v slots s p q h within = subst (HasShape DomainKind shape) (set-value DomainKind slot v slots s (p (λ e. e)) (λ e. e) h within) q
-shaped-set TupleKind shape slot v slots s p q h within = subst (HasShape TupleKind shape) (set-value TupleKind slot v slots s (p (λ e. e)) (λ e. e) h within) q
-shaped-set (ArrayKind k) shape slot v slots s p q h within = tt
+pub shaped-set : (k : VariableKind) (shape : Shape) (slot : ℕ) (v : Value) (slots : ℕ) (s : Memory) → ((IsWhole k → ⊥) → IsOf k v) → ((IsWhole k → ⊥) → HasShape k shape v) → (IsWhole k → HasShape k shape (value_in k slot s))
+    → HasSlots slots s → slot < slots → HasShape k shape (value_in k slot (with_value_in k slot v s))
+shaped-set (PlainKind k) shape slot v slots s p q old h within = subst (HasShape (PlainKind k) shape) (set-value (PlainKind k) slot v slots s (p (λ e. e)) (λ e. e) h within) (q (λ e. e))
+shaped-set DomainKind shape slot v slots s p q old h within = subst (HasShape DomainKind shape) (set-value DomainKind slot v slots s (p (λ e. e)) (λ e. e) h within) (q (λ e. e))
+shaped-set TupleKind shape slot v slots s p q old h within = subst (HasShape TupleKind shape) (set-value TupleKind slot v slots s (p (λ e. e)) (λ e. e) h within) (q (λ e. e))
+shaped-set (ArrayKind k) shape slot v slots s p q old h within = old tt
 
 -- ASSIGNMENTS: ranges, domains and tuples are given what stands on the right side
 only_set : (k : VariableKind) (shape : Shape) (op : Assign) (o : Option Op) (old v : Value) → kind_takes DomainKind op ≡ true → HasShape k shape v → HasShape k shape (assigned op o old v)
@@ -104,36 +106,48 @@ range_set shape SetReduce o old v t c p = by o (c refl)
     by None c = p
     by (Some op) c = cc
 
-pub assigned-shaped : (k : VariableKind) (shape : Shape) (op : Assign) (o : Option Op) (old v : Value) → kind_takes k op ≡ true → (op ≡ SetReduce → KindCombines k o) → HasShape k shape v → HasShape k shape (assigned op o old v)
-assigned-shaped (PlainKind IntLeaf) shape op o old v t c p = tt
-assigned-shaped (PlainKind TruthLeaf) shape op o old v t c p = tt
-assigned-shaped (PlainKind RangeLeaf) shape op o old v t c p = range_set shape op o old v t c p
-assigned-shaped DomainKind shape op o old v t c p = only_set DomainKind shape op o old v t p
-assigned-shaped TupleKind shape op o old v t c p = only_set TupleKind shape op o old v t p
-assigned-shaped (ArrayKind k) shape op o old v t c p = tt
+pub assigned-shaped : (k : VariableKind) (shape : Shape) (op : Assign) (o : Option Op) (old v : Value) → kind_takes k op ≡ true → (op ≡ SetReduce → KindCombines k o)
+    → ((IsWhole k → ⊥) → HasShape k shape v) → (IsWhole k → ⊥) → HasShape k shape (assigned op o old v)
+assigned-shaped (PlainKind IntLeaf) shape op o old v t c p n = tt
+assigned-shaped (PlainKind TruthLeaf) shape op o old v t c p n = tt
+assigned-shaped (PlainKind RangeLeaf) shape op o old v t c p n = range_set shape op o old v t c (p n)
+assigned-shaped DomainKind shape op o old v t c p n = only_set DomainKind shape op o old v t (p n)
+assigned-shaped TupleKind shape op o old v t c p n = only_set TupleKind shape op o old v t (p n)
+assigned-shaped (ArrayKind k) shape op o old v t c p n = absurd (n tt)
 
--- an element put, and an array declared
-pub shaped-element : (k : VariableKind) (shape : Shape) (slot : ℕ) (t : Index) (v : Value) (s : Memory) → HasShape k shape (value_in k slot s) → HasShape k shape (value_in k slot (with_element_in k slot t v s))
-shaped-element (PlainKind k) shape slot t v s h = h
-shaped-element DomainKind shape slot t v s h = h
-shaped-element TupleKind shape slot t v s h = h
-shaped-element (ArrayKind k) shape slot t v s h = tt
+-- AN ARRAY PUT into its slot has its domain there
+array-shaped : (shape : Shape) (slot : ℕ) (a : Held) (slots : ℕ) (s : Memory) → AreRanked shape.rank shape.strided a.ranges → HasSlots slots s → slot < slots
+    → AreRanked shape.rank shape.strided (array_at slot (with_array slot a s)).ranges
+array-shaped shape slot a slots s p h within =
+    subst (λ (b : Held). AreRanked shape.rank shape.strided b.ranges) (sym (get_or-set_same s.arrays slot a no_array (subst (λ n. slot < n) (sym h.arrays) within))) p
 
-pub shaped-array : (kind : VariableKind) (shape : Shape) (slot : ℕ) (k : Kind) (rs : List TextRange) (vs : List Value) (s : Memory) → IsArrayOf kind k vs → HasShape kind shape (value_in kind slot s)
-shaped-array (PlainKind l) shape slot k rs vs s h = absurd h
-shaped-array DomainKind shape slot k rs vs s h = absurd h
-shaped-array TupleKind shape slot k rs vs s h = absurd h
-shaped-array (ArrayKind l) shape slot k rs vs s h = tt
+-- with another element, and declared
+pub shaped-element : (k : VariableKind) (shape : Shape) (slot : ℕ) (t : Index) (v : Value) (slots : ℕ) (s : Memory) → HasSlots slots s → slot < slots
+    → HasShape k shape (value_in k slot s) → HasShape k shape (value_in k slot (with_element_in k slot t v s))
+shaped-element (PlainKind k) shape slot t v slots s n within h = h
+shaped-element DomainKind shape slot t v slots s n within h = h
+shaped-element TupleKind shape slot t v slots s n within h = h
+shaped-element (ArrayKind k) shape slot t v slots s n within h = array-shaped shape slot (held_with t (kept_number v) (array_at slot s)) slots s h n within
 
--- of arrays nothing is told, whatever they are
-pub shaped-arrays : (t : Told) (j : ℕ) (arrays : List Held) (s : Memory) → HasToldShape t j s → HasToldShape t j (record s { arrays = arrays })
-shaped-arrays t j arrays s = by t.kind
+pub shaped-array : (kind : VariableKind) (shape : Shape) (slot : ℕ) (k : Kind) (a : Held) (slots : ℕ) (s : Memory) → MaySpan kind shape k a.ranges → HasSlots slots s → slot < slots
+    → HasShape kind shape (value_in kind slot (declared_array kind slot a s))
+shaped-array (PlainKind l) shape slot k a slots s h n within = absurd h
+shaped-array DomainKind shape slot k a slots s h n within = absurd h
+shaped-array TupleKind shape slot k a slots s h n within = absurd h
+shaped-array (ArrayKind l) shape slot k a slots s h n within = array-shaped shape slot a slots s h.1 n within
+
+-- THE ARRAYS IN SOME SLOTS get another domain, which is of the shape of each
+pub shaped-redomained : (t : Told) (j : ℕ) (xs : List ℕ) (rs : List TextRange) (s : Memory) → (is_among j xs ≡ true → AreRanked t.shape.rank t.shape.strided rs)
+    → HasToldShape t j s → HasToldShape t j (record s { arrays = redomained_from 0 xs rs s.arrays })
+shaped-redomained t j xs rs s new = by t.kind
   where
-    by : (k : VariableKind) → HasShape k t.shape (value_in k j s) → HasShape k t.shape (value_in k j (record s { arrays = arrays }))
+    by : (k : VariableKind) → HasShape k t.shape (value_in k j s) → HasShape k t.shape (value_in k j (record s { arrays = redomained_from 0 xs rs s.arrays }))
     by (PlainKind k) h = h
     by DomainKind h = h
     by TupleKind h = h
-    by (ArrayKind k) h = tt
+    by (ArrayKind k) h =
+        let from_zero : j ≡ 0 + j = omega arith in
+        ranges-redomained (AreRanked t.shape.rank t.shape.strided) 0 xs rs s.arrays j no_array (subst (λ n. is_among n xs ≡ true → AreRanked t.shape.rank t.shape.strided rs) from_zero new) h
 
 pub shaped-intended : (told : ℕ → Told) (is : List (ℕ × Op)) (s : Memory) → IsShapedBy told s → IsShapedBy told (intended is s)
 shaped-intended told is s h j = kept-shape (told j) j s (intended is s) (sym (content_in-intend {N = SlotBound} (told j).kind j None is s)) (h j)

@@ -13,7 +13,7 @@ use Rattle.dpl_language.specs.Values.{Value, Range, number, Fault, fault, PastLi
 use Rattle.dpl_language.specs.Ranges.{unstrided, past_limit, high_bound, bad_count, bounded, indices_in, index_value, loop_ranges, loop_value}
 use Rattle.dpl_language.specs.Outcome.{with_ok}
 use Rattle.dpl_language.specs.Expressions.{value_of}
-use Rattle.dpl_language.specs.Renamed.{renamed_expr}
+use Rattle.dpl_agreement.specs.Renamed.{renamed_expr}
 use Rattle.dpl_sound.specs.Typed.{IsPlain, MayStride}
 use Rattle.dpl_words.specs.Words.{LeafKind, IntLeaf, TruthLeaf, RangeLeaf, value_at}
 use Rattle.dpl_words.proofs.OfKind.{value_at-kind}
@@ -22,10 +22,10 @@ use Rattle.dpl_memory.specs.Resolved.{Shape, Bound, Seen, variable_of, HasShape,
 
 -- RIGHT SIDES
 pub Suits-number : (shape : Shape) (g : Seen) (at : Place) (n : ℤ) → Suits (PlainKind IntLeaf) shape (One (Number at n)) g
-Suits-number shape g at n = (refl, λ limits s shaped v e. ((n, cc), tt))
+Suits-number shape g at n = (refl, λ limits s shaped v e. ((n, cc), λ p. tt))
 
 pub Suits-truth : (shape : Shape) (g : Seen) (at : Place) (b : Bool) → Suits (PlainKind TruthLeaf) shape (One (TruthWord at b)) g
-Suits-truth shape g at b = (refl, λ limits s shaped v e. ((b, cc), tt))
+Suits-truth shape g at b = (refl, λ limits s shaped v e. ((b, cc), λ p. tt))
 
 -- a name gives what is in its slot, which is of its shape
 pub Suits-name : (g : Seen) (x : Placed Bound) (k : LeafKind) → x.name.variable.kind ≡ PlainKind k → Resolves x.name g → Suits (PlainKind k) x.name.shape (One (Named x)) g
@@ -34,7 +34,7 @@ Suits-name g x k is resolves = (
   λ limits s shaped v e.
       let same : value_at k x.name.variable.slot s.words ≡ v = cc in
       let there : HasShape (PlainKind k) x.name.shape (value_at k x.name.variable.slot s.words) = subst (λ j. HasShape j x.name.shape (value_in j x.name.variable.slot s)) is (shaped x.name resolves) in
-      subst (MayHold (PlainKind k) x.name.shape) same (value_at-kind k x.name.variable.slot s.words, there),
+      subst (MayHold (PlainKind k) x.name.shape) same (value_at-kind k x.name.variable.slot s.words, λ p. there),
 )
 
 -- a value that is found goes through what is done with it
@@ -58,7 +58,7 @@ bounded-range shape at dots low z v = by (bounded at dots low z) (bounded-plain 
     by : (range : Result TextRange Fault) → ((r : TextRange) → range ≡ Ok r → IsPlain r) → with_ok range (λ r. Ok (Range r)) ≡ Ok v → MayHold (PlainKind RangeLeaf) shape v
     by (Ok r) plain e =
         let same : Range r ≡ v = cc in
-        subst (MayHold (PlainKind RangeLeaf) shape) same ((r, refl), plain-strides shape.strided r (plain r refl))
+        subst (MayHold (PlainKind RangeLeaf) shape) same ((r, refl), λ p. plain-strides shape.strided r (plain r refl))
     by (Err f) plain e = cc
 
 pub Suits-range_item : (shape : Shape) (g : Seen) (low : ExprTree Bound) (at : Place) (dots : Dots) (high : ExprTree Bound) → Suits (PlainKind RangeLeaf) shape (RangeItem low at dots high NoStride) g
@@ -73,7 +73,7 @@ Suits-range_item shape g low at dots high = (
 -- LOOPS
 each_turn : (shape : Shape) (is : List ℤ) → All (λ t. MayHold (PlainKind IntLeaf) shape (index_value t)) (flat_map (λ i. map (λ t. i ∷ t) ([] ∷ [])) is)
 each_turn shape [] = All-nil (λ t. MayHold (PlainKind IntLeaf) shape (index_value t))
-each_turn shape (i ∷ is) = All-cons (λ t. MayHold (PlainKind IntLeaf) shape (index_value t)) (i ∷ []) (flat_map (λ i. map (λ t. i ∷ t) ([] ∷ [])) is) ((i, refl), tt) (each_turn shape is)
+each_turn shape (i ∷ is) = All-cons (λ t. MayHold (PlainKind IntLeaf) shape (index_value t)) (i ∷ []) (flat_map (λ i. map (λ t. i ∷ t) ([] ∷ [])) is) ((i, refl), λ p. tt) (each_turn shape is)
 
 -- along one range the indices have one coordinate
 pub line_turns : (shape : Shape) (r : TextRange) → All (λ t. MayHold (PlainKind IntLeaf) shape (index_value t)) (indices_in (r ∷ []))

@@ -1,31 +1,31 @@
 -- Sample programs with their names in slots: what they write from a memory is what they mean.
 -- One of them is seen to fit, and so the theorem gives the same.
-use Rattle.std.proofs.Common.{◌≡◌, ℕ, ◌+◌, List, [], ◌∷◌, pos, true, false, refl, subst, ◌∙◌, rules, ℤ, Result, Option, Some, None}
-use Rattle.std.specs.Prelude.{codes, bytes_eq, if◌then◌else◌, Ok, Err, option_map}
+use Rattle.std.proofs.Common.{◌≡◌, ℕ, ◌+◌, List, [], ◌∷◌, pos, true, false, refl, sym, ap, subst, ◌∙◌, rules, ℤ, Result, Option, Some, None}
+use Rattle.std.specs.Prelude.{codes, bytes_eq, if◌then◌else◌, get_or, Ok, Err, option_map}
 use Rattle.std.specs.Int.{int_wrap}
 use Rattle.std.specs.Fmt.{digits}
-use Rattle.std.proofs.lemmas.List.Elements.{All-weaker}
+use Rattle.std.proofs.lemmas.List.{append-nil}
 use Rattle.dpl_range.specs.Members.{members}
 use Rattle.dpl_range.specs.Equality.{TextRange}
 use Rattle.dpl_domain.specs.Indices.{indices}
 use Rattle.dpl_syntax.specs.declared.place.Place.{Place}
 use Rattle.dpl_language.specs.Tree.{Placed, IntKind, BoolKind, Number, Named, One, RangeItem, Closed, NoStride, DomainLiteral, Items, FirstItem, NoItems, ProgramTree}
-use Rattle.dpl_language.specs.Values.{Value, Int, Array, Range, Domain, Fault, fault, PastLimit, all_ranges}
+use Rattle.dpl_language.specs.Values.{Value, Int, Array, Range, Domain, Fault, fault, PastLimit, all_ranges, ranges_in}
 use Rattle.dpl_language.specs.Ranges.{bounded, sized, too_many}
 use Rattle.dpl_language.specs.Outcome.{with_ok}
 use Rattle.dpl_language.specs.Expressions.{found}
 use Rattle.dpl_language.specs.Names.{Text}
 use Rattle.dpl_language.specs.Program.{written}
-use Rattle.dpl_language.specs.Renamed.{renamed_program}
-use Rattle.dpl_language.specs.Scopes.{PlainSort, ArraySort, fits_all}
+use Rattle.dpl_agreement.specs.Renamed.{renamed_program}
+use Rattle.dpl_agreement.specs.Scopes.{PlainSort, ArraySort, fits_all}
 use Rattle.dpl_language.proofs.Spelled.{at}
 use Rattle.dpl_language.proofs.Says.{limits, writes}
-use Rattle.dpl_language.proofs.ProgramsAlike.{run_from}
+use Rattle.dpl_agreement.proofs.ProgramsAlike.{run_from}
 use Rattle.dpl_language.proofs.ArraysSamples.{inner_array, changed_domain, not_over_the_name, truths_of_an_array, tuples, promoted, no_array_left, three_planes}
-use Rattle.dpl_sound.specs.Typed.{IsPlain}
+use Rattle.dpl_sound.specs.Typed.{IsPlain, AreRanked}
 use Rattle.dpl_words.specs.Words.{IntLeaf}
-use Rattle.dpl_memory.specs.Memory.{PlainKind, DomainKind, TupleKind, ArrayKind, Variable, variable, no_array, array_at, held_at, element_as, in_memory}
-use Rattle.dpl_memory.specs.Resolved.{Shape, Bound, text_of, Sighted, Sight, sighted, Seen, first_seen, IsElement, MayHold, Suits, SuitsElement, Start, resolving, first_memory}
+use Rattle.dpl_memory.specs.Memory.{PlainKind, DomainKind, TupleKind, ArrayKind, Variable, variable, no_domain, no_array, array_at, value_in, held_at, element_as, in_memory}
+use Rattle.dpl_memory.specs.Resolved.{Shape, Bound, text_of, Sighted, Sight, sighted, Seen, first_seen, HasShape, MayHold, Resolves, Suits, SuitsElement, SpansArray, Start, resolving, first_memory}
 use Rattle.dpl_memory.proofs.MemoryAgrees.{written-memory}
 use Rattle.dpl_memory.proofs.Suiting.{bounded-plain}
 
@@ -122,7 +122,7 @@ Suits-domain g from column low high upto = (refl, λ limits s shaped v e. by_bou
     by_size : (r : TextRange) (v : Value) → IsPlain r → sized from (r ∷ []) ≡ Ok v → MayHold DomainKind line v
     by_size r v plain =
         elim (too_many (r ∷ [])) as (λ b. (if b then Err (fault PastLimit from) else Ok (Domain (r ∷ []))) ≡ Ok v → MayHold DomainKind line v)
-        [ true ↦ λ e. cc | false ↦ λ e. let same : Domain (r ∷ []) ≡ v = cc in subst (MayHold DomainKind line) same ((r ∷ [], refl), (refl, (plain, tt))) ]
+        [ true ↦ λ e. cc | false ↦ λ e. let same : Domain (r ∷ []) ≡ v = cc in subst (MayHold DomainKind line) same ((r ∷ [], refl), λ p. (refl, (plain, tt))) ]
 
     by_bounds : (b : Result TextRange Fault) → ((r : TextRange) → b ≡ Ok r → IsPlain r) → (v : Value)
         → with_ok (with_ok (with_ok b (λ r. Ok (Range r))) (λ v. Ok (v ∷ []))) (λ vs. sized from (all_ranges vs)) ≡ Ok v → MayHold DomainKind line v
@@ -130,7 +130,26 @@ Suits-domain g from column low high upto = (refl, λ limits s shaped v e. by_bou
     by_bounds (Err f) plain v e = cc
 
 Suits-element : (g : Seen) (at : Place) (n : ℤ) → Suits (ArrayKind IntKind) line (One (Number at n)) g
-Suits-element g at n = (refl, (λ none limits s shaped v e. ((n, cc), tt), λ limits s shaped t v e. (n, cc)))
+Suits-element g at n = (refl, (λ none limits s shaped v e. ((n, cc), λ p. absurd (p tt)), λ limits s shaped t v e. (n, cc)))
+
+-- the domain of a name alone is what stands in its slot, and of its shape
+sized-ranges : (from : Place) (rs : List TextRange) (v : Value) → sized from rs ≡ Ok v → rs ≡ ranges_in v
+sized-ranges from rs v =
+    elim (too_many rs) as (λ b. (if b then Err (fault PastLimit from) else Ok (Domain rs)) ≡ Ok v → rs ≡ ranges_in v)
+    [ true ↦ λ e. cc | false ↦ λ e. let same : Domain rs ≡ v = cc in ap ranges_in same ]
+
+abbrev placed_d : ℕ → Placed Bound
+placed_d column = record { at = at 1 column; name = resolved (codes "D") }
+
+SpansArray-name : (g : Seen) (x : Placed Bound) → x.name ≡ resolved (codes "D") → Resolves x.name g → SpansArray (ArrayKind IntKind) line IntKind (FirstItem (One (Named x)) NoItems) g
+SpansArray-name g x is resolves limits s shaped from v e = (refl, by x.name is (shaped x.name resolves) e)
+  where
+    by : (y : Bound) → y ≡ resolved (codes "D") → HasShape y.variable.kind y.shape (value_in y.variable.kind y.variable.slot s)
+        → sized from (all_ranges (value_in y.variable.kind y.variable.slot s ∷ [])) ≡ Ok v → AreRanked 1 false (ranges_in v)
+    by y is =
+        subst (λ (y : Bound). HasShape y.variable.kind y.shape (value_in y.variable.kind y.variable.slot s)
+        → sized from (all_ranges (value_in y.variable.kind y.variable.slot s ∷ [])) ≡ Ok v → AreRanked 1 false (ranges_in v)) (sym is)
+        (λ h e. subst (AreRanked 1 false) (sym (append-nil (get_or s.domains 0 no_domain)) ∙ sized-ranges from _ v e) h)
 
 -- a whole array may be assigned another by its name, each element in its turn; an element may not
 abbrev a_array : Placed Bound
@@ -166,7 +185,7 @@ inner_array_fits = ( -- var D = {1..2};
   (tt, (((tt, tt, tt), tt), tt), (record { unused = (tt, tt); within = search rules }, λ e. e), tt, Suits-domain first_seen (at 1 9) 10 1 2 (at 1 14)),
   (
     ( -- var A: [D] int = 1;
-      ((refl, tt), (λ t. tt, tt), (record { unused = (tt, (((λ e. cc), tt), tt)); within = search rules }, tt, refl), tt, ((λ rs vs all. (refl, All-weaker (MayHold (ArrayKind IntKind) line) (IsElement IntKind) (λ v h. h.0) vs all)), Suits-element (seeing ([] ∷ d_frame ∷ [])) (at 1 36) (pos 1))),
+      ((refl, tt), (λ t. tt, tt), (record { unused = (tt, (((λ e. cc), tt), tt)); within = search rules }, tt, (refl, λ e. refl)), tt, (SpansArray-name (seeing ([] ∷ d_frame ∷ [])) (placed_d 33) refl refl, Suits-element (seeing ([] ∷ d_frame ∷ [])) (at 1 36) (pos 1))),
       ( -- D = {2..3};
         (((refl, refl, tt, refl), λ t. (refl, refl)), (λ t. ((tt, tt, tt), tt), tt), Suits-domain (seeing (a_frame ∷ d_frame ∷ [])) (at 1 43) 44 2 3 (at 1 48)),
         ( -- writeln(A);

@@ -1,17 +1,19 @@
 -- Data-parallel programs whose names are resolved: each stands with its text, and with the kind and the slot of its declaration.
 -- Where such a name may stand, and when a memory is the store by names.
 use Rattle.std.specs.Prelude.{◌≡◌, ◌≢◌, ℕ, ◌==◌, ◌<◌, ℤ, pos, Bool, true, false, not, All, bytes_eq, if◌then◌else◌, Option, Some, None, Ok, List, [], ◌∷◌, ◌++◌, map, option_map, length, replicate}
+use Rattle.dpl_syntax.specs.declared.place.Place.{Place}
 use Rattle.dpl_range.specs.Equality.{TextRange}
-use Rattle.dpl_language.specs.Tree.{Op, Assign, Set, SetAdd, SetSubtract, SetMultiply, SetDivide, SetRemainder, SetReduce, ItemTree, Kind, IntKind, BoolKind}
+use Rattle.dpl_language.specs.Tree.{Op, Assign, Set, SetAdd, SetSubtract, SetMultiply, SetDivide, SetRemainder, SetReduce, ItemTree, Items, Kind, IntKind, BoolKind}
 use Rattle.dpl_language.specs.Values.{Value, Int, Truth, Domain, Tuple, Index, ranges_in, coordinates}
 use Rattle.dpl_language.specs.Ranges.{indices_in, loop_ranges, loop_value}
 use Rattle.dpl_language.specs.Outcome.{Outcome, Done, Stop, Waits}
 use Rattle.dpl_language.specs.Environment.{Content, Plain, ArrayOf, CellOf, Limits}
 use Rattle.dpl_language.specs.Phrases.{item_read}
-use Rattle.dpl_language.specs.Expressions.{item_of, whole_item}
+use Rattle.dpl_language.specs.Expressions.{item_of, domain_of, whole_item}
 use Rattle.dpl_language.specs.Names.{Text, Entry, Frame, Store, State, paired}
-use Rattle.dpl_language.specs.Renamed.{renamed_item, renamed_intents}
-use Rattle.dpl_language.specs.Scopes.{Sort, PlainSort, ArraySort, CellSort, Scoping}
+use Rattle.dpl_language.specs.Program.{own_frame}
+use Rattle.dpl_agreement.specs.Renamed.{renamed_item, renamed_items, renamed_intents}
+use Rattle.dpl_agreement.specs.Scopes.{Sort, PlainSort, ArraySort, CellSort, Scoping}
 use Rattle.dpl_sound.specs.Typed.{MayStride, AreRanked}
 use Rattle.dpl_words.specs.Words.{IntLeaf, TruthLeaf, RangeLeaf, no_range, intent_at, set_at, given_as, IsOfKind, is_arithmetic, takes, Combines}
 use Rattle.dpl_memory.specs.Memory.{VariableKind, PlainKind, DomainKind, TupleKind, ArrayKind, Variable, Held, Memory, no_domain, no_tuple, no_array, element_as, value_in, array_at, intents_by_slot, in_memory}
@@ -38,7 +40,7 @@ abbrev pub variable_of : Bound → Variable
 variable_of b = b.variable
 
 -- WHAT IS IN SIGHT: frames, the innermost scope's first, each in order of declaration. Of a name they have its text, its kind
--- and its slot and the shape of its values, and of an array the bare domain name that it is declared over, if it is over one.
+-- and its slot and the shape of its values, and of an array the domain that it is declared over by its bare name, if it is over one.
 pub record Sighted : Type 0 where
   pub text : Text
   pub kind : VariableKind
@@ -84,11 +86,25 @@ abbrev pub without_frame : Sight → Sight
 without_frame [] = []
 without_frame (f ∷ fs) = fs
 
+-- a bare name between an array's brackets, which may be that of a range or of a domain, and which is one that is a domain's
+abbrev pub written_over : Sort Bound → Option Bound
+written_over PlainSort = None
+written_over (ArraySort over) = over
+written_over CellSort = None
+
+abbrev pub if_domain : VariableKind → Bound → Option Bound
+if_domain (PlainKind k) y = None
+if_domain DomainKind y = Some y
+if_domain TupleKind y = None
+if_domain (ArrayKind k) y = None
+
+abbrev pub domain_among : Option Bound → Option Bound
+domain_among None = None
+domain_among (Some y) = if_domain y.variable.kind y
+
 -- what is in sight of a declared name
 abbrev pub over_of : Sort Bound → Option Bound
-over_of PlainSort = None
-over_of (ArraySort over) = over
-over_of CellSort = None
+over_of sort = domain_among (written_over sort)
 
 abbrev pub sighted : Bound → Sort Bound → Sighted
 sighted x sort = record { text = x.text; kind = x.variable.kind; slot = x.variable.slot; shape = x.shape; over = over_of sort }
@@ -126,31 +142,38 @@ IsOf DomainKind v = (rs : List TextRange) × (v ≡ Domain rs)
 IsOf TupleKind v = (t : Index) × (v ≡ Tuple t)
 IsOf (ArrayKind k) v = IsElement k v
 
--- A value of a shape: as many ranges as the rank, which the text strides only where it may; and as many coordinates. What an
--- array's elements may be its kind says alone.
+-- A value of a shape: as many ranges as the rank, which the text strides only where it may; and as many coordinates. Of an
+-- array it is the shape of its domain.
 abbrev pub HasShape : VariableKind → Shape → Value → Type 0
 HasShape (PlainKind IntLeaf) shape v = Unit {0}
 HasShape (PlainKind TruthLeaf) shape v = Unit {0}
 HasShape (PlainKind RangeLeaf) shape v = MayStride shape.strided (ranges_in v)
 HasShape DomainKind shape v = AreRanked shape.rank shape.strided (ranges_in v)
 HasShape TupleKind shape v = length (coordinates v) ≡ shape.rank
-HasShape (ArrayKind k) shape v = Unit {0}
+HasShape (ArrayKind k) shape v = AreRanked shape.rank shape.strided (ranges_in v)
 
--- what a variable may be given
+-- what is no plain value: a whole array, which is given its elements one by one
+abbrev pub IsWhole : VariableKind → Type 0
+IsWhole (PlainKind k) = ⊥
+IsWhole DomainKind = ⊥
+IsWhole TupleKind = ⊥
+IsWhole (ArrayKind k) = Unit {0}
+
+-- what a variable may be given: a value of its kind and its shape, and an element of an array what its kind says alone
 abbrev pub MayHold : VariableKind → Shape → Value → Type 0
-MayHold kind shape v = IsOf kind v × HasShape kind shape v
+MayHold kind shape v = IsOf kind v × ((IsWhole kind → ⊥) → HasShape kind shape v)
 
--- an array's content is of its kind, and so is each element
-abbrev pub IsArrayOf : VariableKind → Kind → List Value → Type 0
-IsArrayOf (PlainKind l) k vs = ⊥
-IsArrayOf DomainKind k vs = ⊥
-IsArrayOf TupleKind k vs = ⊥
-IsArrayOf (ArrayKind l) k vs = (k ≡ l) × All (IsElement l) vs
+-- an array of a kind over some ranges is one that a variable may be
+abbrev pub MaySpan : VariableKind → Shape → Kind → List TextRange → Type 0
+MaySpan (PlainKind l) shape k rs = ⊥
+MaySpan DomainKind shape k rs = ⊥
+MaySpan TupleKind shape k rs = ⊥
+MaySpan (ArrayKind l) shape k rs = (k ≡ l) × AreRanked shape.rank shape.strided rs
 
--- what a variable may hold
+-- what a variable may hold; of an array each element is one that it may be given
 abbrev pub Holds : VariableKind → Shape → Content Bound → Type 0
 Holds kind shape (Plain v) = MayHold kind shape v
-Holds kind shape (ArrayOf over k rs vs) = IsArrayOf kind k vs
+Holds kind shape (ArrayOf over k rs vs) = MaySpan kind shape k rs × All (IsOf kind) vs
 Holds kind shape (CellOf k c) = ⊥
 
 -- `=` alone
@@ -246,25 +269,31 @@ Turns kind shape item g =
     → item_of limits in_memory (renamed_item variable_of item) None s ≡ Ok over
     → All (λ t. MayHold kind shape (loop_value over t)) (indices_in (loop_ranges limits.locales over))
 
+-- a domain of these ranges is one that a name may hold, and one that an array of this kind may have
+abbrev pub Spans : VariableKind → Shape → Items Bound → Seen → Type 0
+Spans kind shape items g =
+    (limits : Limits) (s : Memory) → IsShaped g s → (from : Place) (v : Value)
+    → domain_of limits in_memory from (renamed_items variable_of items) s ≡ Ok v → MayHold kind shape v
+
+abbrev pub SpansArray : VariableKind → Shape → Kind → Items Bound → Seen → Type 0
+SpansArray kind shape k items g =
+    (limits : Limits) (s : Memory) → IsShaped g s → (from : Place) (v : Value)
+    → domain_of limits in_memory from (renamed_items variable_of items) s ≡ Ok v → MaySpan kind shape k (ranges_in v)
+
 -- a declaration has a slot of the memory that no name in sight has
 pub record IsNew (slots : ℕ) (x : Bound) (g : Seen) : Type 0 where
   pub unused : IsUnused x.variable.slot g.frames
   pub within : x.variable.slot < slots
 
-abbrev pub IsWhole : VariableKind → Type 0
-IsWhole (PlainKind k) = ⊥
-IsWhole DomainKind = ⊥
-IsWhole TupleKind = ⊥
-IsWhole (ArrayKind k) = Unit {0}
+-- a bare name that an array of some shape is declared over: it is in sight, and a domain's has this shape
+abbrev pub OverResolves : Option Bound → Shape → Seen → Type 0
+OverResolves None shape g = Unit {0}
+OverResolves (Some y) shape g = Resolves y g × (y.variable.kind ≡ DomainKind → y.shape ≡ shape)
 
-abbrev pub OverResolves : Option Bound → Seen → Type 0
-OverResolves None g = Unit {0}
-OverResolves (Some y) g = Resolves y g
-
--- arrays are declared as arrays, over a domain name in sight, and all else as plain variables; there are no cells
+-- arrays are declared as arrays, over a name in sight, and all else as plain variables; there are no cells
 abbrev pub Declares : ℕ → Bound → Sort Bound → Seen → Type 0
 Declares slots x PlainSort g = IsNew slots x g × (IsWhole x.variable.kind → ⊥)
-Declares slots x (ArraySort over) g = IsNew slots x g × IsWhole x.variable.kind × OverResolves over g
+Declares slots x (ArraySort over) g = IsNew slots x g × IsWhole x.variable.kind × OverResolves over x.shape g
 Declares slots x CellSort g = ⊥
 
 -- How many slots a memory has; and what the command line sets, by texts and by slots.
@@ -297,6 +326,8 @@ resolving start = record {
   suits = λ x item. Suits x.variable.kind x.shape item;
   suits_element = λ x item. SuitsElement x.variable.kind x.shape item;
   turns = λ x item. Turns x.variable.kind x.shape item;
+  spans = λ x items. Spans x.variable.kind x.shape items;
+  spans_array = λ x k items. SpansArray x.variable.kind x.shape k items;
   intends = λ is g. g.intents ≡ [];
   coforalls = λ g. ⊥;
   moves = λ g. ⊥;
@@ -307,10 +338,7 @@ resolving start = record {
   begin = λ g. g;
 }
 
--- THE STORE that a memory is, of the names in sight
-abbrev pub over_text : Option Bound → Option Text
-over_text o = option_map text_of o
-
+-- THE STORE that a memory is, of the names in sight. Of an array it is its domain and its elements, whichever name it is over.
 abbrev pub array_content : {N : Type 0} → Option N → Kind → Held → Content N
 array_content over k a = ArrayOf over k a.ranges (map (element_as k) a.words)
 
@@ -321,7 +349,7 @@ content_in TupleKind slot over s = Plain (value_in TupleKind slot s)
 content_in (ArrayKind k) slot over s = array_content over k (array_at slot s)
 
 abbrev pub entry_in : Memory → Sighted → Entry
-entry_in s b = record { name = b.text; content = content_in b.kind b.slot (over_text b.over) s }
+entry_in s b = record { name = b.text; content = content_in b.kind b.slot None s }
 
 abbrev pub frame_in : Memory → List Sighted → Frame
 frame_in s bs = map {A = Sighted} {B = Entry} (entry_in s) bs
@@ -362,9 +390,12 @@ pub record HasSlots (slots : ℕ) (s : Memory) : Type 0 where
   pub tuples : length s.tuples ≡ slots
   pub arrays : length s.arrays ≡ slots
 
+abbrev pub own_store : Store → Store
+own_store fs = map {A = Frame} {B = Frame} own_frame fs
+
 -- A memory with as many slots as at the start is the store by names, and all else is the same.
 pub record StandsFor (start : Start) (g : Seen) (s1 : State) (s2 : Memory) : Type 0 where
-  pub store : s1.store ≡ store_in s2 g.frames
+  pub store : own_store s1.store ≡ store_in s2 g.frames
   pub slots : HasSlots start.slots s2
   pub intents : s1.intents ≡ renamed_intents text_of g.intents
   pub intents_by_slots : s2.words.intents ≡ intents_by_slot (renamed_intents variable_of g.intents)

@@ -112,6 +112,13 @@ impl<'t> Frame<'t> {
         }
     }
 
+    /// The arrays of all slots, of a frame that is done with.
+    pub fn into_arrays(self) -> Vec<Option<ArrayWords>>
+        ensures { map held_in result.items ≡ self.entry.memory.arrays }
+    {
+        self.arrays
+    }
+
     /// The domain of the array in a slot; `{1..0}` where there is none.
     pub fn array_domain(&self, slot: usize) -> DomainWord
         ensures { result ≡ (array_at slot self.now.memory).ranges }

@@ -6,7 +6,7 @@ mod declared;
 mod scopes;
 
 pub use declared::{Declared, Sort};
-pub use scopes::Scopes;
+pub use scopes::{Entry, Mark, Scopes};
 
 #[cfg(test)]
 mod tests;

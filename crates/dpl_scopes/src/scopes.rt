@@ -1,10 +1,10 @@
 // The scopes that are open, with their names.
 // What opens a scope and what declares a name is a mark on one list, and a map has where on it each name was declared last.
 
-ghost use Rattle.std.specs.Prelude.{◌≡◌, OnOk, OnErr, IfOk, [], ◌∷◌, length, drop, slice_get, option_map};
+ghost use Rattle.std.specs.Prelude.{◌≡◌, OnOk, OnErr, IfOk, [], ◌∷◌, length, drop, reverse, slice_get, option_map};
 ghost use Rattle.dpl_rules.specs.Sights.{Declared as Declaration, lookup, declared_here, enter, add, origin_in};
 ghost use Rattle.dpl_types.specs.View.{of_type};
-ghost use Rattle.dpl_scopes.specs.Marks.{unmarked_by};
+ghost use Rattle.dpl_scopes.specs.Marks.{unmarked_by, scopes_by, AreKept};
 ghost use Rattle.dpl_scopes.specs.Slots.{next_slot_in, slot_in};
 ghost use Rattle.dpl_scopes.specs.View.{sort_view, declared_view};
 
@@ -14,20 +14,20 @@ use indexmap::IndexMap;
 use std::alloc::{AllocError, Global};
 use std::marker::Model;
 
-// What was done to the scopes and isn't undone yet.
+/// What was done to the scopes and isn't undone yet.
 #[derive(Clone, Copy)]
-enum Mark<'t> {
-    // A scope was opened.
+pub enum Mark<'t> {
+    /// A scope was opened.
     Opens,
-    // A name was declared.
+    /// A name was declared.
     Declares(Entry<'t>),
 }
 
-// A declaration, and the place of the one that it hides, if it hides one.
+/// A declaration, and the place of the one that it hides, if it hides one.
 #[derive(Clone, Copy)]
-struct Entry<'t> {
-    declared: Declared<'t>,
-    hidden: Option<usize>,
+pub struct Entry<'t> {
+    pub declared: Declared<'t>,
+    pub hidden: Option<usize>,
 }
 
 /// Scopes that are open, the innermost first, with the names that are declared in each.
@@ -175,6 +175,14 @@ impl<'t> Scopes<'t> {
             Some(declared) => declared.origin.depth.max(1) == self.depth,
             None => false,
         }
+    }
+
+    /// What opened the scopes and declared their names, in order.
+    pub fn marks(&self) -> &[Mark<'t>]
+        ensures open { scopes_by (reverse result.now) ≡ self.now }
+        ensures kept { AreKept (reverse result.now) }
+    {
+        self.marks.as_slice()
     }
 
     /// How many scopes are open.
