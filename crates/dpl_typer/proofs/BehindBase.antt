@@ -6,7 +6,7 @@ use Rattle.dpl_syntax.specs.declared.place.Place.{Place}
 use Rattle.dpl_language.specs.Phrases.{Base, BaseName, BaseLocales, OtherBase}
 use Rattle.dpl_language.specs.Tree.{Placed, ExprTree, Named, Postfixed, NoPosts, Post, Word, Brackets, Rounds, Dotted, Plainly, Dim, Contains, Expand, Items, Exprs}
 use Rattle.dpl_language.specs.Names.{Text}
-use Rattle.dpl_language.specs.Renamed.{renamed_post}
+use Rattle.dpl_agreement.specs.Renamed.{renamed_post}
 use Rattle.dpl_rules.specs.Types.{ValueType, domain_of}
 use Rattle.dpl_rules.specs.Verdicts.{part, type_by, with_type}
 use Rattle.dpl_rules.specs.Places.{first_of}

@@ -7,7 +7,7 @@ use Rattle.dpl_syntax.specs.declared.place.Place.{Place}
 use Rattle.dpl_language.specs.Tree.{ExprTree, Infix, Add, Subtract, Multiply, Divide, Remainder, Less, LessEqual, Greater, GreaterEqual, Equal, NotEqual, And, Or, Chain, Links, NoLinks, Link}
 use Rattle.dpl_language.specs.Arithmetic.{divides}
 use Rattle.dpl_language.specs.Names.{Text}
-use Rattle.dpl_language.specs.Renamed.{renamed_links}
+use Rattle.dpl_agreement.specs.Renamed.{renamed_links}
 use Rattle.dpl_tree.specs.declared.expression.Link.{Link as LinkNode}
 use Rattle.dpl_tree.specs.Words.{infix_view}
 use Rattle.dpl_tree.specs.View.{links_of}

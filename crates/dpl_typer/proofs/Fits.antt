@@ -4,17 +4,17 @@ use Rattle.std.proofs.Common.{◌≡◌, Option, Some, None, refl, ap, ◌∙◌
 use Rattle.dpl_language.specs.Tree.{Placed, ExprTree, Number, TruthWord, Named, LocalesWord, LocaleCount, HereWord, Grouped, DomainLiteral, Prefixed, Reduced, Chain, Postfixed, ItemTree, One, RangeItem, Stride, NoStride, By, Links, NoLinks, Link, Posts, NoPosts, Post, PostTree, Brackets, Rounds, Dotted, MethodTree, Plainly, Dim, Contains, Expand, CellRead, Items, FirstItem, MoreItems, NoItems, NextItem, Exprs, FirstExpr, MoreExprs, NoExprs, NextExpr}
 use Rattle.dpl_language.specs.Names.{Text}
 use Rattle.dpl_language.specs.Phrases.{bare_name, method_read, post_read, posts_read, read_by, cell_read, item_read}
-use Rattle.dpl_language.specs.Renamed.{renamed_expr, renamed_item, renamed_stride, renamed_links, renamed_posts, renamed_post, renamed_method, renamed_items, renamed_more_items, renamed_exprs, renamed_more_exprs}
+use Rattle.dpl_agreement.specs.Renamed.{renamed_expr, renamed_item, renamed_stride, renamed_links, renamed_posts, renamed_post, renamed_method, renamed_items, renamed_more_items, renamed_exprs, renamed_more_exprs}
 use Rattle.dpl_rules.specs.Sights.{Scopes}
 use Rattle.dpl_memory.specs.Resolved.{Bound, innermost}
 use Rattle.dpl_memory.proofs.Fitting.{NamesAre, ItemNamesAre, StrideNamesAre, LinksNamesAre, PostsNamesAre, PostNamesAre, MethodNamesAre, ItemsNamesAre, MoreItemsNamesAre, ExprsNamesAre, MoreExprsNamesAre}
 use Rattle.dpl_typer.specs.Leaves.{IsFound}
 use Rattle.dpl_typer.specs.Simple.{IsSimple, IsSimpleItem, IsSimpleStride, AreSimpleLinks, AreSimplePosts, IsSimplePost, IsSimpleMethod, AreSimpleItems, AreSimpleMoreItems, AreSimpleExprs, AreSimpleMoreExprs}
-use Rattle.dpl_typer.specs.Sights.{bound_in, sight_of, ArePlainScopes}
+use Rattle.dpl_typer.specs.Sights.{bound_in, sight_of, AreKnownScopes}
 use Rattle.dpl_typer.proofs.Sights.{innermost-found}
 
 -- ---- names
-module _ (scopes : Scopes) (plain : ArePlainScopes scopes) where
+module _ (scopes : Scopes) (plain : AreKnownScopes scopes) where
   -- a name has the kind, the slot and the shape of its innermost declaration
   abbrev IsIn : Bound → Type 0
   IsIn b = innermost b.text (sight_of scopes) ≡ Some (b.variable.kind, b.variable.slot, b.shape)
@@ -79,10 +79,10 @@ module _ (scopes : Scopes) (plain : ArePlainScopes scopes) where
     more_exprs_names NoExprs h = tt
     more_exprs_names (NextExpr comma e more) h = (expr_names e h.0, more_exprs_names more h.1)
 
-pub expr_names-simple : (scopes : Scopes) (e : ExprTree Text) → ArePlainScopes scopes → IsSimple (IsFound scopes) e → NamesAre (λ b. innermost b.text (sight_of scopes) ≡ Some (b.variable.kind, b.variable.slot, b.shape)) (renamed_expr (bound_in scopes) e)
+pub expr_names-simple : (scopes : Scopes) (e : ExprTree Text) → AreKnownScopes scopes → IsSimple (IsFound scopes) e → NamesAre (λ b. innermost b.text (sight_of scopes) ≡ Some (b.variable.kind, b.variable.slot, b.shape)) (renamed_expr (bound_in scopes) e)
 expr_names-simple scopes e plain h = expr_names scopes plain e h
 
-pub names-simple : (scopes : Scopes) (i : ItemTree Text) → ArePlainScopes scopes → IsSimpleItem (IsFound scopes) i → ItemNamesAre (λ b. innermost b.text (sight_of scopes) ≡ Some (b.variable.kind, b.variable.slot, b.shape)) (renamed_item (bound_in scopes) i)
+pub names-simple : (scopes : Scopes) (i : ItemTree Text) → AreKnownScopes scopes → IsSimpleItem (IsFound scopes) i → ItemNamesAre (λ b. innermost b.text (sight_of scopes) ≡ Some (b.variable.kind, b.variable.slot, b.shape)) (renamed_item (bound_in scopes) i)
 names-simple scopes i plain h = item_names scopes plain i h
 
 -- ---- cell reads

@@ -54,7 +54,7 @@ module _ {N : Type 0} (Holds : N → Type 0) where
     method-formed (Expand at from e upto) h = expr-formed e h
     method-formed (CellRead at w from upto) h = absurd h
 
-    items-formed : (is : Items N) → AreSimpleItems Holds is → ItemsFormed is
+    pub items-formed : (is : Items N) → AreSimpleItems Holds is → ItemsFormed is
     items-formed (FirstItem i more) h = (item-formed i h.0, more-items-formed more h.1)
 
     more-items-formed : (is : MoreItems N) → AreSimpleMoreItems Holds is → MoreItemsFormed is

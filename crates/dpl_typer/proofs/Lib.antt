@@ -7,6 +7,8 @@ pub mod Sights
 pub mod Suited
 pub mod Formed
 pub mod Shaped
+pub mod Arrays
+pub mod Overs
 pub mod Fits
 pub mod PartKinds
 pub mod BaseKinds

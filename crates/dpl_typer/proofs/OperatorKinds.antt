@@ -69,20 +69,20 @@ name-untyped at (Some d) e = ap (λ t. type_by (with_type t (plain_name at))) e
 
 -- ---- operands
 -- the rank of what an operand is over is that of a domain
-abbrev IsRankedOver : Option Over → Type 0
+abbrev pub IsRankedOver : Option Over → Type 0
 IsRankedOver None = Unit {0}
 IsRankedOver (Some over) = is_rank over.rank ≡ true
 
-abbrev is_over : Option Over → Bool
+abbrev pub is_over : Option Over → Bool
 is_over None = false
 is_over (Some over) = true
 
 -- a type's operand, by its kind
-abbrev IsOperand : VariableKind → Option Operand → Type 0
+abbrev pub IsOperand : VariableKind → Option Operand → Type 0
 IsOperand k None = operand_kind k ≡ None
 IsOperand k (Some o) = (operand_kind k ≡ Some o.kind) × (is_promoted k ≡ is_over o.over) × IsRankedOver o.over
 
-operand : (v : ValueType) (k : VariableKind) → value_kind v ≡ Some k → IsOperand k (operand_of v)
+pub operand : (v : ValueType) (k : VariableKind) → value_kind v ≡ Some k → IsOperand k (operand_of v)
 operand (Scalar IntKind) k e = subst (λ k. IsOperand k (operand_of an_int)) (kind-same (PlainKind IntLeaf) k e) (refl, refl, tt)
 operand (Scalar BoolKind) k e = subst (λ k. IsOperand k (operand_of a_bool)) (kind-same (PlainKind TruthLeaf) k e) (refl, refl, tt)
 operand (Range s) k e = subst (λ k. operand_kind k ≡ None) (kind-same (PlainKind RangeLeaf) k e) refl

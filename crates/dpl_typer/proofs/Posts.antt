@@ -7,7 +7,7 @@ use Rattle.dpl_syntax.specs.declared.place.Place.{Place}
 use Rattle.dpl_language.specs.Tree.{Placed, ExprTree, Number, TruthWord, Named, LocalesWord, LocaleCount, HereWord, Grouped, DomainLiteral, Prefixed, Reduced, Chain, Postfixed, ItemTree, One, RangeItem, Links, NoLinks, Link, Posts, NoPosts, Post, PostTree, Brackets, Rounds, Dotted, MethodTree, Plainly, Dim, Contains, Expand, CellRead}
 use Rattle.dpl_language.specs.Names.{Text}
 use Rattle.dpl_language.specs.Phrases.{Base, BaseName, BaseLocales, OtherBase, base_of, item_base, bare_name, method_read, post_read, posts_read}
-use Rattle.dpl_language.specs.Renamed.{renamed_expr, renamed_item, renamed_posts, renamed_post, renamed_method}
+use Rattle.dpl_agreement.specs.Renamed.{renamed_expr, renamed_item, renamed_posts, renamed_post, renamed_method}
 use Rattle.dpl_language.specs.Spelled.{HasPosts}
 use Rattle.dpl_tree.specs.declared.expression.Post.{Post as PostNode}
 use Rattle.dpl_tree.specs.View.{posts_of}

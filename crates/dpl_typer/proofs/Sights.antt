@@ -4,15 +4,14 @@ use Rattle.std.proofs.Common.{◌≡◌, ◌≢◌, ℕ, suc, ◌+◌, ◌≤◌
 use Rattle.std.specs.Prelude.{bytes_eq, if◌then◌else◌}
 use Rattle.std.proofs.lemmas.Slice.Eq.{bytes_eq-Decides}
 use Rattle.dpl_language.specs.Names.{Text}
-use Rattle.dpl_language.specs.Scopes.{PlainSort}
 use Rattle.dpl_rules.specs.Sights.{Declared, Scope, Scopes, find, or_else, lookup, type_declared, enter, add}
+use Rattle.dpl_sound.proofs.Given.{some-same}
 use Rattle.dpl_scopes.specs.Slots.{count_in, next_slot_in, place_in, slot_or, slot_in}
 use Rattle.dpl_memory.specs.Memory.{Variable, VariableKind}
-use Rattle.dpl_memory.specs.Resolved.{Shape, Sighted, sighted, Known, known_in, or_known, innermost, IsUnusedIn, IsUnused, bind}
-use Rattle.dpl_typer.specs.Makers.{is_promoted}
+use Rattle.dpl_memory.specs.Resolved.{Shape, Sighted, Known, known_in, or_known, innermost, IsUnusedIn, IsUnused, bind}
 use Rattle.dpl_typer.specs.Leaves.{kind_by, leaf_by, leaf_in, IsFound}
 use Rattle.dpl_typer.specs.Shapes.{shape_by, shape_in}
-use Rattle.dpl_typer.specs.Sights.{bound_at, frame_from, sight_of, IsPlainScope, ArePlainScopes}
+use Rattle.dpl_typer.specs.Sights.{bound_at, sighted_at, frame_from, sight_of, is_promoted_by, IsKnownScope, AreKnownScopes}
 
 -- A NAME'S KIND, SLOT AND SHAPE
 abbrev known_of : Variable → Shape → Known
@@ -34,20 +33,20 @@ known_found None slot = None
 known_found (Some d) slot = Some (known_of (leaf_by (kind_by d.type) slot) (shape_by d.type))
 
 -- the latest declaration is found, or else one before it
-latest_found : (begin : ℕ) (x : Text) (d : Declared) (ds : Scope) → find ds d.origin.name ≡ None → known_in x (frame_from begin ds) ≡ known_found (find ds x) (place_in ds x begin)
+latest_found : (begin : ℕ) (outside : Scopes) (x : Text) (d : Declared) (ds : Scope) → find ds d.origin.name ≡ None → known_in x (frame_from begin outside ds) ≡ known_found (find ds x) (place_in ds x begin)
     → (t : Bool) → bytes_eq x d.origin.name ≡ t
-    → or_known (known_in x (frame_from begin ds)) (if t then Some (known_of (leaf_by (kind_by d.type) (Some (length ds + begin))) (shape_by d.type)) else None)
+    → or_known (known_in x (frame_from begin outside ds)) (if t then Some (known_of (leaf_by (kind_by d.type) (Some (length ds + begin))) (shape_by d.type)) else None)
     ≡ known_found (if t then Some d else find ds x) (if t then Some (length ds + begin) else place_in ds x begin)
-latest_found begin x d ds alone others true e =
+latest_found begin outside x d ds alone others true e =
     let none : find ds x ≡ None = subst (λ y. find ds y ≡ None) (sym ((bytes_eq-Decides x d.origin.name).0 e)) alone in
     ap (λ o. or_known o (Some (known_of (leaf_by (kind_by d.type) (Some (length ds + begin))) (shape_by d.type)))) (others ∙ ap (λ o. known_found o (place_in ds x begin)) none)
-latest_found begin x d ds alone others false e = or_known-none (known_in x (frame_from begin ds)) ∙ others
+latest_found begin outside x d ds alone others false e = or_known-none (known_in x (frame_from begin outside ds)) ∙ others
 
-known_in-frame_from : (begin : ℕ) (x : Text) (ds : Scope) → IsPlainScope ds → known_in x (frame_from begin ds) ≡ known_found (find ds x) (place_in ds x begin)
-known_in-frame_from begin x [] h = refl
-known_in-frame_from begin x (d ∷ ds) h =
-    known_in-append x (frame_from begin ds) (sighted (bound_at d (length ds + begin)) PlainSort ∷ [])
-    ∙ latest_found begin x d ds h.1 (known_in-frame_from begin x ds h.2) (bytes_eq x d.origin.name) refl
+known_in-frame_from : (begin depth : ℕ) (outside : Scopes) (x : Text) (ds : Scope) → IsKnownScope depth ds → known_in x (frame_from begin outside ds) ≡ known_found (find ds x) (place_in ds x begin)
+known_in-frame_from begin depth outside x [] h = refl
+known_in-frame_from begin depth outside x (d ∷ ds) h =
+    known_in-append x (frame_from begin outside ds) (sighted_at (ds ∷ outside) d (length ds + begin) ∷ [])
+    ∙ latest_found begin outside x d ds h.1 (known_in-frame_from begin depth outside x ds h.2) (bytes_eq x d.origin.name) refl
 
 -- a declaration is found where its place is
 abbrev FoundAlike : Option Declared → Option ℕ → Type 0
@@ -68,10 +67,10 @@ or_known-found None g (Some n) q h = absurd h
 or_known-found (Some d) g None q h = absurd h
 or_known-found (Some d) g (Some n) q h = refl
 
-innermost-sight_of : (x : Text) (ss : Scopes) → ArePlainScopes ss → innermost x (sight_of ss) ≡ known_found (lookup ss x) (slot_in ss x)
+innermost-sight_of : (x : Text) (ss : Scopes) → AreKnownScopes ss → innermost x (sight_of ss) ≡ known_found (lookup ss x) (slot_in ss x)
 innermost-sight_of x [] h = refl
 innermost-sight_of x (s ∷ ss) h =
-    ap (λ o. or_known o (innermost x (sight_of ss))) (known_in-frame_from (suc (count_in ss)) x s h.0)
+    ap (λ o. or_known o (innermost x (sight_of ss))) (known_in-frame_from (suc (count_in ss)) (suc (length ss)) ss x s h.0)
     ∙ ap (or_known (known_found (find s x) (place_in s x (suc (count_in ss))))) (innermost-sight_of x ss h.1)
     ∙ or_known-found (find s x) (lookup ss x) (place_in s x (suc (count_in ss))) (slot_in ss x) (found_alike (suc (count_in ss)) x s)
 
@@ -80,50 +79,67 @@ known_found-kind None p k e = absurd cc
 known_found-kind (Some d) p k e = refl
 
 -- a name in sight has those of its leaf, and its type's shape
-pub innermost-found : (x : Text) (ss : Scopes) → ArePlainScopes ss → IsFound ss x → innermost x (sight_of ss) ≡ Some ((leaf_in ss x).kind, (leaf_in ss x).slot, shape_in ss x)
+pub innermost-found : (x : Text) (ss : Scopes) → AreKnownScopes ss → IsFound ss x → innermost x (sight_of ss) ≡ Some ((leaf_in ss x).kind, (leaf_in ss x).slot, shape_in ss x)
 innermost-found x ss h (k, slot, kind, at) = innermost-sight_of x ss h ∙ known_found-kind (lookup ss x) (slot_in ss x) k kind
 
--- WHAT IS IN SIGHT IS PLAIN
-abbrev pub HasPlainKind : Option Declared → Type 0
-HasPlainKind None = Unit {0}
-HasPlainKind (Some d) = (k : VariableKind) × (kind_by d.type ≡ Some k) × (is_promoted k ≡ false)
+-- WHAT IS IN SIGHT HAS A KIND
+abbrev pub HasKnownKind : Option Declared → Type 0
+HasKnownKind None = Unit {0}
+HasKnownKind (Some d) = (k : VariableKind) × (kind_by d.type ≡ Some k) × (is_promoted_by d.type ≡ false)
 
-find-plain : (s : Scope) (x : Text) → IsPlainScope s → HasPlainKind (find s x)
-find-plain [] x h = tt
-find-plain (d ∷ ds) x h = elim (bytes_eq x d.origin.name) as (λ b. HasPlainKind (if b then Some d else find ds x)) [ true ↦ h.0 | false ↦ find-plain ds x h.2 ]
+find-known : (depth : ℕ) (s : Scope) (x : Text) → IsKnownScope depth s → HasKnownKind (find s x)
+find-known depth [] x h = tt
+find-known depth (d ∷ ds) x h = elim (bytes_eq x d.origin.name) as (λ b. HasKnownKind (if b then Some d else find ds x)) [ true ↦ (h.0.0, h.0.1, h.0.3) | false ↦ find-known depth ds x h.2 ]
 
-or-plain : (a b : Option Declared) → HasPlainKind a → HasPlainKind b → HasPlainKind (or_else a b)
-or-plain None b p q = q
-or-plain (Some d) b p q = p
+or-known : (a b : Option Declared) → HasKnownKind a → HasKnownKind b → HasKnownKind (or_else a b)
+or-known None b p q = q
+or-known (Some d) b p q = p
 
-pub lookup-plain : (ss : Scopes) (x : Text) → ArePlainScopes ss → HasPlainKind (lookup ss x)
-lookup-plain [] x h = tt
-lookup-plain (s ∷ ss) x h = or-plain (find s x) (lookup ss x) (find-plain s x h.0) (lookup-plain ss x h.1)
+pub lookup-known : (ss : Scopes) (x : Text) → AreKnownScopes ss → HasKnownKind (lookup ss x)
+lookup-known [] x h = tt
+lookup-known (s ∷ ss) x h = or-known (find s x) (lookup ss x) (find-known (suc (length ss)) s x h.0) (lookup-known ss x h.1)
+
+-- A DECLARATION THAT IS FOUND has the name
+pub find-name : (s : Scope) (x : Text) (d : Declared) → find s x ≡ Some d → x ≡ d.origin.name
+find-name [] x d e = absurd cc
+find-name (c ∷ cs) x d e = by (bytes_eq x c.origin.name) refl e (find-name cs x d)
+  where
+    by : (b : Bool) → bytes_eq x c.origin.name ≡ b → (if b then Some c else find cs x) ≡ Some d → (find cs x ≡ Some d → x ≡ d.origin.name) → x ≡ d.origin.name
+    by true q e more = (bytes_eq-Decides x c.origin.name).0 q ∙ ap (λ (d : Declared). d.origin.name) (some-same c d e)
+    by false q e more = more e
+
+pub lookup-name : (ss : Scopes) (x : Text) (d : Declared) → lookup ss x ≡ Some d → x ≡ d.origin.name
+lookup-name [] x d e = absurd cc
+lookup-name (s ∷ ss) x d e = by (find s x) e (find-name s x d) (lookup-name ss x d)
+  where
+    by : (o : Option Declared) → or_else o (lookup ss x) ≡ Some d → (o ≡ Some d → x ≡ d.origin.name) → (lookup ss x ≡ Some d → x ≡ d.origin.name) → x ≡ d.origin.name
+    by None e own others = others e
+    by (Some c) e own others = own e
 
 -- THE NEXT SLOT
 IsUnusedIn-append : (slot : ℕ) (bs : List Sighted) (b : Sighted) → IsUnusedIn slot bs → slot ≢ b.slot → IsUnusedIn slot (bs ++ b ∷ [])
 IsUnusedIn-append slot [] b h n = (n, tt)
 IsUnusedIn-append slot (c ∷ bs) b h n = (h.0, IsUnusedIn-append slot bs b h.1 n)
 
-unused_frame : (slot begin : ℕ) (ds : Scope) → IsPlainScope ds → length ds + begin ≤ slot → IsUnusedIn slot (frame_from begin ds)
-unused_frame slot begin [] h le = tt
-unused_frame slot begin (d ∷ ds) h le =
+unused_frame : (slot begin depth : ℕ) (outside : Scopes) (ds : Scope) → IsKnownScope depth ds → length ds + begin ≤ slot → IsUnusedIn slot (frame_from begin outside ds)
+unused_frame slot begin depth outside [] h le = tt
+unused_frame slot begin depth outside (d ∷ ds) h le =
     let others : length ds + begin ≤ slot = omega (arith, le) in
-    IsUnusedIn-append slot (frame_from begin ds) (sighted (bound_at d (length ds + begin)) PlainSort) (unused_frame slot begin ds h.2 others)
+    IsUnusedIn-append slot (frame_from begin outside ds) (sighted_at (ds ∷ outside) d (length ds + begin)) (unused_frame slot begin depth outside ds h.2 others)
     (subst (λ o. slot ≢ (leaf_by o (Some (length ds + begin))).slot) (sym h.0.1) (λ e. omega (arith, le, e)))
 
-unused_sight : (slot : ℕ) (ss : Scopes) → ArePlainScopes ss → count_in ss ≤ slot → IsUnused slot (sight_of ss)
+unused_sight : (slot : ℕ) (ss : Scopes) → AreKnownScopes ss → count_in ss ≤ slot → IsUnused slot (sight_of ss)
 unused_sight slot [] h le = tt
 unused_sight slot (s ∷ ss) h le =
     let outer : count_in ss ≤ slot = omega (arith, le) in
-    (unused_frame slot (suc (count_in ss)) s h.0 le, unused_sight slot ss h.1 outer)
+    (unused_frame slot (suc (count_in ss)) (suc (length ss)) ss s h.0 le, unused_sight slot ss h.1 outer)
 
-pub unused_next : (ss : Scopes) → ArePlainScopes ss → IsUnused (next_slot_in ss) (sight_of ss)
+pub unused_next : (ss : Scopes) → AreKnownScopes ss → IsUnused (next_slot_in ss) (sight_of ss)
 unused_next ss h = unused_sight (next_slot_in ss) ss h (omega arith)
 
 -- SCOPES
 pub sight_of-enter : (ss : Scopes) → sight_of (enter ss) ≡ [] ∷ sight_of ss
 sight_of-enter ss = refl
 
-pub sight_of-add : (d : Declared) (s : Scope) (ss : Scopes) → sight_of (add d (s ∷ ss)) ≡ bind (sighted (bound_at d (count_in (s ∷ ss))) PlainSort) (sight_of (s ∷ ss))
+pub sight_of-add : (d : Declared) (s : Scope) (ss : Scopes) → sight_of (add d (s ∷ ss)) ≡ bind (sighted_at (s ∷ ss) d (count_in (s ∷ ss))) (sight_of (s ∷ ss))
 sight_of-add d s ss = refl

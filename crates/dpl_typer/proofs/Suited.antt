@@ -8,9 +8,9 @@ use Rattle.dpl_language.specs.Environment.{Limits}
 use Rattle.dpl_language.specs.Names.{Text}
 use Rattle.dpl_language.specs.Phrases.{item_read}
 use Rattle.dpl_language.specs.Expressions.{item_of}
-use Rattle.dpl_language.specs.Renamed.{renamed_item, renamed_read}
-use Rattle.dpl_language.proofs.RenamedParts.{item_read-renamed}
-use Rattle.dpl_language.proofs.RenamedTwice.{renamed_item-twice}
+use Rattle.dpl_agreement.specs.Renamed.{renamed_item, renamed_read}
+use Rattle.dpl_agreement.proofs.RenamedParts.{item_read-renamed}
+use Rattle.dpl_agreement.proofs.RenamedTwice.{renamed_item-twice}
 use Rattle.dpl_rules.specs.Sights.{Scopes}
 use Rattle.dpl_lowered.specs.LoweredExpressions.{Once, lowered_item}
 use Rattle.dpl_lowered.proofs.Values.{item_of-lowered}
@@ -52,6 +52,6 @@ module _ (scopes : Scopes) (t : Typed) (item : ItemTree Text) (is : typed_item O
     item_read-renamed (bound_in scopes) item ∙ ap (option_map (renamed_read (bound_in scopes))) unread,
     kind-suits (kind_of t) shape (renamed_item (bound_in scopes) item) g once (λ limits s h v e. (
       given (kind_of t) (item_of limits in_memory (typed_item Once t) None s) v (typed_item_gives limits s t) once (sym (item_of-resolved limits s) ∙ e),
-      shaped limits s h v e,
+      λ n. shaped limits s h v e,
     )),
   )

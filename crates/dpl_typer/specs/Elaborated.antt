@@ -6,7 +6,7 @@ use Rattle.dpl_language.specs.Phrases.{Base, BaseName, BaseLocales, OtherBase}
 use Rattle.dpl_language.specs.Spelled.{HasPosts}
 use Rattle.dpl_language.specs.Tree.{Placed, ExprTree, Named, Chain, Postfixed, ItemTree, RangeItem, Stride, Links, Posts, NoPosts, Post, PostTree, Brackets, Rounds, Dotted, MethodTree, Contains, Expand, Items, Exprs}
 use Rattle.dpl_language.specs.Names.{Text}
-use Rattle.dpl_language.specs.Renamed.{renamed_expr, renamed_item, renamed_stride, renamed_links, renamed_posts, renamed_post, renamed_items, renamed_exprs}
+use Rattle.dpl_agreement.specs.Renamed.{renamed_expr, renamed_item, renamed_stride, renamed_links, renamed_posts, renamed_post, renamed_items, renamed_exprs}
 use Rattle.dpl_rules.specs.Types.{ValueType}
 use Rattle.dpl_rules.specs.Verdicts.{Part, type_by, judged, all_known}
 use Rattle.dpl_rules.specs.Sights.{Scopes}

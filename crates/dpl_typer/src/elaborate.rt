@@ -2,7 +2,7 @@
 // Locales, reductions and reads of cells are refused, and so are operands that an operator doesn't take.
 
 ghost use Rattle.std.specs.Prelude.{◌≡◌, IfOk, None, Option, Err};
-ghost use Rattle.dpl_language.specs.Renamed.{renamed_expr, renamed_item};
+ghost use Rattle.dpl_agreement.specs.Renamed.{renamed_expr, renamed_item};
 ghost use Rattle.dpl_language.specs.Tree.{NoLinks};
 ghost use Rattle.dpl_tree.specs.View.{expr_view, item_view, links_of};
 ghost use Rattle.dpl_rules.specs.Expressions.{type_of, item_type};
