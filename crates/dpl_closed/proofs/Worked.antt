@@ -3,8 +3,8 @@
 use Rattle.std.proofs.Common.{◌≡◌, ℕ, pos, true, false, [], ◌∷◌, Option, Some, None, refl}
 use Rattle.dpl_syntax.specs.declared.place.Place.{Place}
 use Rattle.dpl_language.specs.Names.{Text}
-use Rattle.dpl_language.specs.Tree.{Placed, Add, Sum, IntKind, Size, Closed, Set, Square, ExprTree, Number, Named, LocalesWord, LocaleCount, HereWord, Grouped, DomainLiteral, Reduced, Chain, Postfixed, One, RangeItem, By, NoLinks, Link, NoPosts, Post, Brackets, Rounds, Dotted, Contains, Plainly, FirstItem, NoItems, NextItem, FirstExpr, NoExprs, NextExpr}
-use Rattle.dpl_language.specs.Tree.{MappedTree, BlockMap, TypeTree, ScalarType, SyncType, DomainType, ArrayType, ItemInit, TypedTree, InitialTree, TextArgument, ExprArgument, StmtTree, Nothing, Declare, Assigned, Write, Block, If, While, Forall, Coforall, On, OneVariable, Element, WordBody, BlockBody, NoStmts, Then, NoElse, ElseDo}
+use Rattle.dpl_language.specs.Tree.{Placed, Add, Greater, Sum, Kind, IntKind, BoolKind, Size, DomainOf, Closed, Set, SetAdd, Square, Round, ExprTree, Number, Named, LocalesWord, LocaleCount, HereWord, Grouped, DomainLiteral, Reduced, Chain, Postfixed, One, RangeItem, NoStride, By, NoLinks, Link, NoPosts, Post, Brackets, Rounds, Dotted, Contains, Plainly, Items, FirstItem, NoItems, NextItem, FirstExpr, NoExprs, NextExpr}
+use Rattle.dpl_language.specs.Tree.{MappedTree, BlockMap, TypeTree, ScalarType, SyncType, DomainType, ArrayType, ItemInit, TypedTree, InitialTree, TextArgument, ExprArgument, StmtTree, Nothing, Declare, Assigned, Write, Block, If, While, Forall, Coforall, On, OneVariable, Whole, Element, WordBody, BlockBody, NoStmts, Then, NoElse, ElseDo}
 use Rattle.dpl_closed.specs.Closed.{closed_expr, closed_stmt, closed_stmts}
 
 abbrev at : ℕ → Place
@@ -63,6 +63,26 @@ a_set = refl
 in_a_set : closed_expr (DomainLiteral (at 1) (FirstItem (One (one 2)) (NextItem (at 3) (One (sum 4)) NoItems)) (at 5)) ≡ Some (at 4)
 in_a_set = refl
 
+-- an element by its index in either brackets, or by the tuple name of a loop
+element : closed_expr (Postfixed (Named (name 1)) (Post (Brackets (at 2) (FirstItem (One (one 3)) (NextItem (at 4) (One (one 5)) NoItems)) (at 6)) NoPosts)) ≡ None
+element = refl
+
+round_element : closed_expr (Postfixed (Named (name 1)) (Post (Rounds (at 2) (FirstExpr (one 3) (NextExpr (at 4) (one 5) NoExprs)) (at 6)) NoPosts)) ≡ None
+round_element = refl
+
+tuple_element : closed_expr (Postfixed (Named (name 1)) (Post (Brackets (at 2) (FirstItem (One (Named (name 3))) NoItems) (at 4)) NoPosts)) ≡ None
+tuple_element = refl
+
+promoted : closed_expr (Chain (Named (name 1)) (Link (at 2) Add (Named (name 3)) (Link (at 4) Greater (one 5) NoLinks))) ≡ None
+promoted = refl
+
+domain_of : closed_expr (Postfixed (Named (name 1)) (Post (Dotted (at 2) (Plainly (at 3) DomainOf)) NoPosts)) ≡ None
+domain_of = refl
+
+-- a whole array's sum is a reduction too
+summed : closed_expr (Chain (Named (name 1)) (Link (at 2) Add (sum 3) NoLinks)) ≡ Some (at 3)
+summed = refl
+
 -- DECLARATIONS
 abbrev written : Option (TypeTree Text) → Option (TypedTree Text)
 written None = None
@@ -102,8 +122,21 @@ a_domain = refl
 a_mapped_domain : closed_stmt (declared (Some (domain_type (Some by_blocks))) (Some (sum 21)) None) ≡ Some (at 10)
 a_mapped_domain = refl
 
-an_array : closed_stmt (declared (Some (ArrayType (record { from = at 4; over = FirstItem (One (sum 5)) NoItems; upto = at 6; kind_at = at 7; kind = IntKind }))) None None) ≡ Some (at 4)
+-- an array type, over what stands in its brackets
+abbrev array_type : Items Text → Kind → TypeTree Text
+array_type over kind = ArrayType (record { from = at 4; over = over; upto = at 8; kind_at = at 9; kind = kind })
+
+an_array : closed_stmt (declared (Some (array_type (FirstItem (One (Named (name 5))) NoItems) IntKind)) None None) ≡ None
 an_array = refl
+
+a_truth_array : closed_stmt (declared (Some (array_type (FirstItem (RangeItem (one 5) (at 5) Closed (one 5) NoStride) (NextItem (at 6) (RangeItem (one 7) (at 7) Closed (one 7) NoStride) NoItems)) BoolKind)) (Some (Named (name 21))) None) ≡ None
+a_truth_array = refl
+
+in_an_array : closed_stmt (declared (Some (array_type (FirstItem (One (one 5)) (NextItem (at 6) (One (sum 7)) NoItems)) IntKind)) (Some (sum 21)) None) ≡ Some (at 7)
+in_an_array = refl
+
+an_array_of_a_sum : closed_stmt (declared (Some (array_type (FirstItem (One (Named (name 5))) NoItems) IntKind)) (Some (sum 21)) None) ≡ Some (at 21)
+an_array_of_a_sum = refl
 
 an_initial_sum : closed_stmt (declared None (Some (sum 21)) None) ≡ Some (at 21)
 an_initial_sum = refl
@@ -135,6 +168,15 @@ over_before_body = refl
 
 target_before_value : closed_stmt (Assigned (Element (name 1) Square (at 2) (FirstExpr (sum 3) NoExprs) (at 4)) (record { at = at 5; op = Set; last = at 5 }) (One (sum 6)) (at 7)) ≡ Some (at 3)
 target_before_value = refl
+
+element_target : closed_stmt (Assigned (Element (name 1) Round (at 2) (FirstExpr (one 3) (NextExpr (at 3) (one 3) NoExprs)) (at 4)) (record { at = at 5; op = SetAdd; last = at 5 }) (One (one 6)) (at 7)) ≡ None
+element_target = refl
+
+whole_array : closed_stmt (Assigned (Whole (name 1)) (record { at = at 2; op = Set; last = at 2 }) (One (Chain (Named (name 3)) (Link (at 4) Add (Named (name 5)) NoLinks))) (at 6)) ≡ None
+whole_array = refl
+
+value_of_an_element : closed_stmt (Assigned (Element (name 1) Square (at 2) (FirstExpr (one 3) NoExprs) (at 4)) (record { at = at 5; op = Set; last = at 5 }) (One (sum 6)) (at 7)) ≡ Some (at 6)
+value_of_an_element = refl
 
 second_argument : closed_stmt (Write (record { at = at 1; ends_line = true; from = at 2; arguments = Some (record { first = TextArgument (at 3) []; others = record { comma = at 4; part = ExprArgument (sum 5) } ∷ [] }); upto = at 6; semicolon = at 7 })) ≡ Some (at 5)
 second_argument = refl

@@ -1,4 +1,4 @@
--- The forms that are read and checked, and don't run yet: arrays, the maps of domains, reductions in expressions, locales, tasks and cells.
+-- The forms that are read and checked, and don't run yet: the maps of domains, reductions in expressions, locales, tasks and cells.
 -- Of a program that has one the first token that needs it is told, in the order of the text.
 use Rattle.std.specs.Prelude.{Option, Some, None, List, [], ◌∷◌}
 use Rattle.dpl_syntax.specs.declared.place.Place.{Place}
@@ -89,7 +89,7 @@ module _ {N : Type 0} where
   closed_type (ScalarType at k) = None
   closed_type (SyncType at kind_at k) = Some at
   closed_type (DomainType d) = in_optional closed_mapped d.mapped
-  closed_type (ArrayType a) = Some a.from
+  closed_type (ArrayType a) = closed_items a.over
 
   abbrev pub closed_typed : TypedTree N → Option Place
   closed_typed t = closed_type t.type

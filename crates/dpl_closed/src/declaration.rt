@@ -5,7 +5,7 @@ ghost use Rattle.std.specs.Prelude.{◌≡◌};
 ghost use Rattle.dpl_tree.specs.Declarations.{optional, mapped_view, typed_view, init_view, initial_view, declare_view};
 ghost use Rattle.dpl_closed.specs.Closed.{or_place, in_optional, closed_mapped, closed_typed, closed_init, closed_initial, closed_declare};
 
-use crate::expression::{item, or_here};
+use crate::expression::{item, items, or_here};
 use dpl_syntax::Place;
 use dpl_tree::{Declare, DeclaredType, Init, Initial, Mapped, Typed};
 
@@ -31,7 +31,7 @@ fn typed(found: Option<Place>, typed: &Option<Typed<'_>>) -> Option<Place>
             DeclaredType::Scalar(_, _) => found,
             DeclaredType::Sync(at, _, _) => or_here(found, *at),
             DeclaredType::Domain(domain) => mapped(found, &domain.mapped),
-            DeclaredType::Array(array) => or_here(found, array.from),
+            DeclaredType::Array(array) => items(found, &array.over),
         },
     }
 }

@@ -111,10 +111,10 @@ fn method(found: Option<Place>, method: &Method<'_>) -> Option<Place>
     }
 }
 
-// In items between commas.
+/// In items between commas.
 #[cycle(expression)]
 #[tactic(auto, using(dpl_tree::proofs::Fields::items_view_fields, crate::proofs::Places::or_place_assoc))]
-fn items(found: Option<Place>, items: &Items<'_>) -> Option<Place>
+pub(crate) fn items(found: Option<Place>, items: &Items<'_>) -> Option<Place>
     ensures { result ≡ or_place found (closed_items (items_view items.now)) }
 {
     more_items(item(found, &items.first), items.others)

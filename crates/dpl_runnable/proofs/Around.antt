@@ -1,12 +1,12 @@
--- What is known around a statement: each name in sight has a type of a kind that is no array's, and the forall around, if there
--- is one, breaks no rule, so that its body holds no other forall and changes its reduce variables by `reduce=`.
+-- What is known around a statement: each name in sight has a type of some kind, and the forall around, if there is one, breaks
+-- no rule, so that its body holds no other forall and changes its reduce variables by `reduce=`.
 use Rattle.std.proofs.Common.{◌≡◌, true, List, [], ◌∷◌, ◌++◌, Option, Some, None, refl, sym, ap, ◌∙◌, append_assoc}
 use Rattle.dpl_syntax.specs.declared.place.Place.{Place}
 use Rattle.dpl_syntax.specs.declared.refusal.Breach.{Breach}
 use Rattle.dpl_language.specs.Tree.{Op, ItemTree, VariablesTree, WithTree, StmtTree, Nothing, Declare, Assigned, Call, Write, Block, If, While, For, Forall, Coforall, On}
 use Rattle.dpl_language.specs.Names.{Text}
 use Rattle.dpl_language.specs.Phrases.{intents_of}
-use Rattle.dpl_language.specs.Renamed.{renamed_intents}
+use Rattle.dpl_agreement.specs.Renamed.{renamed_intents}
 use Rattle.dpl_spelling.specs.Spelt.{ItemSpelt, StmtSpelt}
 use Rattle.dpl_closed.specs.Closed.{closed_item, closed_stmt}
 use Rattle.dpl_rules.specs.Types.{Origin}

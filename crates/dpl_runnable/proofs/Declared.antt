@@ -1,63 +1,57 @@
--- Declarations that a text spells, that need nothing which doesn't run and that break no rule are those of runnable programs:
--- the type is `int`, `bool` or `domain` without a map or isn't written, and the value is of the variable's kind and its shape.
-use Rattle.std.proofs.Common.{◌≡◌, ℕ, true, false, List, [], ◌∷◌, ◌++◌, Option, Some, None, refl, sym, ap, ◌∙◌, subst}
+-- Declarations that a text spells, that need nothing which doesn't run and that break no rule are those of runnable programs: the
+-- type is `int`, `bool`, `domain` without a map or an array's or isn't written, and the value is of the variable's kind and its
+-- shape, or one that an array's elements may be given.
+use Rattle.std.proofs.Common.{◌≡◌, ℕ, Bool, true, false, List, [], ◌∷◌, ◌++◌, Option, Some, None, refl, sym, ap, ◌∙◌, subst}
 use Rattle.std.specs.Prelude.{not, ◌&&◌, ◌||◌}
 use Rattle.std.proofs.Math.Bool.{or-not_self}
 use Rattle.std.proofs.lemmas.Bool.{eq-eqb}
 use Rattle.dpl_syntax.specs.declared.place.Place.{Place}
 use Rattle.dpl_syntax.specs.declared.refusal.Breach.{Breach}
 use Rattle.dpl_syntax.specs.declared.refusal.Code.TheVariants.{NameTwice}
-use Rattle.dpl_language.specs.Tree.{Kind, ItemTree, MappedTree, TypeTree, ScalarType, SyncType, DomainType, ArrayType, InitTree, ItemInit, CreateInit, TypedTree, InitialTree, DeclareTree}
+use Rattle.dpl_language.specs.Tree.{ItemTree, MappedTree, ArrayTypeTree, TypeTree, ScalarType, SyncType, DomainType, ArrayType, InitTree, ItemInit, CreateInit, TypedTree, InitialTree, DeclareTree}
 use Rattle.dpl_language.specs.Names.{Text}
 use Rattle.dpl_language.specs.Declarations.{type_of as written_type}
 use Rattle.dpl_language.specs.Spelled.{SaysType}
 use Rattle.dpl_grammar.specs.Each.{IfThere}
-use Rattle.dpl_spelling.specs.Spelt.{InitSpelt, InitialSpelt, DeclareSpelt}
+use Rattle.dpl_spelling.specs.Spelt.{TypeSpelt, InitSpelt, TypedSpelt, InitialSpelt, DeclareSpelt}
 use Rattle.dpl_closed.specs.Closed.{in_optional, closed_item, closed_mapped, closed_type, closed_typed, closed_init, closed_initial, closed_declare}
-use Rattle.dpl_rules.specs.Types.{Origin, ValueType, Scalar, Domain, is_any_scalar}
-use Rattle.dpl_rules.specs.Verdicts.{owed, owed_type}
+use Rattle.dpl_rules.specs.Types.{Origin, ValueType, Scalar, Domain, Array, is_any_scalar}
+use Rattle.dpl_rules.specs.Verdicts.{type_by, broken_by, owed, owed_type}
 use Rattle.dpl_rules.specs.Places.{first_of_item}
 use Rattle.dpl_rules.specs.Sights.{Scopes, declared_here, origin_in}
-use Rattle.dpl_rules.specs.Expressions.{item_type, side_part, side_breaches}
+use Rattle.dpl_rules.specs.Operators.{over_verdict}
+use Rattle.dpl_rules.specs.Expressions.{item_type, item_parts, items_breaches, side_part, side_breaches}
 use Rattle.dpl_rules.specs.Maps.{mapped_breaches}
-use Rattle.dpl_rules.specs.Declarations.{type_rank, is_initial, is_kept, is_untyped, unless_refused, declared_type, agreeing, unmapped, init_part, type_breaches, untyped_breaches, typed_breaches, typed_initial, config_type, config_by, config_breaches, written_breaches, type_given, declaration_breaches}
+use Rattle.dpl_rules.specs.Declarations.{domain_in, type_rank, is_initial, is_kept, is_untyped, unless_refused, declared_type, agreeing, unmapped, init_part, type_breaches, untyped_breaches, typed_breaches, typed_initial, config_type, config_by, config_breaches, written_breaches, type_given, declaration_breaches}
 use Rattle.dpl_rules.proofs.Admission.{first_empty, second_empty}
 use Rattle.dpl_sound.proofs.Given.{some-same, owed_not-holds}
 use Rattle.dpl_words.specs.Words.{RangeLeaf}
 use Rattle.dpl_memory.specs.Memory.{VariableKind, PlainKind}
-use Rattle.dpl_typer.specs.Makers.{is_promoted}
 use Rattle.dpl_typer.specs.Leaves.{value_kind, kind_by}
 use Rattle.dpl_typer.specs.Shapes.{takes_shape}
 use Rattle.dpl_typer.proofs.OperatorKinds.{kind-same}
 use Rattle.dpl_nodes.specs.Faults.{IsNear}
-use Rattle.dpl_runnable.specs.Kinds.{IsVariable, AreVariables, IsScalarKind, IsDeclaredKind}
+use Rattle.dpl_runnable.specs.Kinds.{IsVariable, AreVariables, IsScalarKind, IsDeclaredKind, IsGivenTo}
 use Rattle.dpl_runnable.specs.Runnable.{IsRunnableType, IsInitOf, IsInitialOf, IsShapedInit, IsShapedInitial, IsConfigOf, IsRunnableDeclare}
-use Rattle.dpl_runnable.proofs.Expressions.{variable-cases, first_open, second_open, RunnableItem}
-use Rattle.dpl_runnable.proofs.Owed.{owed_type-holds, is_scalar-is, scalar-by, is_any_scalar-kind, is_domain-kind, is_domain_of-kind}
+use Rattle.dpl_runnable.proofs.Expressions.{kind-cases, first_open, second_open, RunnableItem, runnable_items}
+use Rattle.dpl_runnable.proofs.Owed.{owed_type-holds, scalar-by, is_any_scalar-kind, is_domain-kind, same-given, is_scalar-given, is_domain_of-given, fits_array-given}
+use Rattle.dpl_runnable.proofs.Arrays.{over_domain-array, array_type-kind}
 use Rattle.dpl_runnable.proofs.Scopes.{side-item, runnable_side, domain_type-rank, declared_by-variable}
 
 -- ---- kinds
 -- what is kept without a type
-is_kept-kind : (t : ValueType) (k : VariableKind) → is_promoted k ≡ false → value_kind t ≡ Some k → is_kept t ≡ true → IsDeclaredKind k
-is_kept-kind t k p e =
-    variable-cases (λ t. value_kind t ≡ Some k → is_kept t ≡ true → IsDeclaredKind k) (λ l e h. scalar-by IsDeclaredKind tt tt l k e)
+is_kept-kind : (t : ValueType) (k : VariableKind) → value_kind t ≡ Some k → is_kept t ≡ true → IsDeclaredKind k
+is_kept-kind t k e =
+    kind-cases (λ t. value_kind t ≡ Some k → is_kept t ≡ true → IsDeclaredKind k) (λ l e h. scalar-by IsDeclaredKind tt tt l k e)
     (λ s e h. subst IsDeclaredKind (kind-same (PlainKind RangeLeaf) k e) tt) (λ rank s r e h. subst IsDeclaredKind (sym (is_domain-kind (Domain rank s) k e refl)) tt)
-    (λ rank r e h. absurd cc) t k p e e
-
--- what a variable of a declared type may be given at first is of its kind
-is_initial-scalar : (l : Kind) (k : VariableKind) → value_kind (Scalar l) ≡ Some k → (t : ValueType) → is_initial (Scalar l) t ≡ true → value_kind t ≡ Some k
-is_initial-scalar l k e t h = ap value_kind (is_scalar-is l t h) ∙ e
-
-is_initial-domain : (rank : ℕ) (k : VariableKind) → value_kind (Domain rank false) ≡ Some k → (t : ValueType) (j : VariableKind) → value_kind t ≡ Some j → is_initial (Domain rank false) t ≡ true
-    → value_kind t ≡ Some k
-is_initial-domain rank k e t j f h = f ∙ ap Some (is_domain_of-kind rank false t j f h ∙ sym (is_domain-kind (Domain rank false) k e refl))
+    (λ l over r e h. absurd cc) (λ l over r e h. absurd cc) (λ rank r e h. absurd cc) t k e e
 
 -- ---- shapes
 -- what is kept without a type is of its own shape
-is_kept-shaped : (t : ValueType) (k : VariableKind) → is_promoted k ≡ false → value_kind t ≡ Some k → is_kept t ≡ true → takes_shape t t ≡ true
+is_kept-shaped : (t : ValueType) (k : VariableKind) → value_kind t ≡ Some k → is_kept t ≡ true → takes_shape t t ≡ true
 is_kept-shaped =
-    variable-cases (λ t. is_kept t ≡ true → takes_shape t t ≡ true) (λ l h. refl) (λ s h. or-not_self s)
-    (λ rank s r h. ap (λ b. b && (s || not s)) (eq-eqb rank rank refl) ∙ or-not_self s) (λ rank r h. absurd cc)
+    kind-cases (λ t. is_kept t ≡ true → takes_shape t t ≡ true) (λ l h. refl) (λ s h. or-not_self s)
+    (λ rank s r h. ap (λ b. b && (s || not s)) (eq-eqb rank rank refl) ∙ or-not_self s) (λ l over r h. absurd cc) (λ l over r h. absurd cc) (λ rank r h. absurd cc)
 
 -- ---- types
 not_mapped : (m : Option (MappedTree Text)) → in_optional closed_mapped m ≡ None → m ≡ None
@@ -65,16 +59,22 @@ not_mapped None c = refl
 not_mapped (Some m) c = absurd cc
 
 module _ (scopes : Scopes) (names : AreVariables scopes) where
-  type-runnable : (t : TypeTree Text) → closed_type t ≡ None → type_breaches scopes t ≡ [] → IsRunnableType (Some t)
-  type-runnable (ScalarType at k) c h = tt
-  type-runnable (SyncType at kind_at k) c h = absurd cc
-  type-runnable (DomainType d) c h = (not_mapped d.mapped c, domain_type-rank scopes IsNear names d h)
-  type-runnable (ArrayType a) c h = absurd cc
+  type-runnable : (t : TypeTree Text) → TypeSpelt IsNear t → closed_type t ≡ None → type_breaches scopes t ≡ [] → IsRunnableType scopes (Some t)
+  type-runnable (ScalarType at k) s c h = tt
+  type-runnable (SyncType at kind_at k) s c h = absurd cc
+  type-runnable (DomainType d) s c h = (not_mapped d.mapped c, domain_type-rank scopes IsNear names d h)
+  type-runnable (ArrayType a) s c h =
+      let own = first_empty (items_breaches scopes a.over) (broken_by (over_verdict a.from (item_parts scopes a.over))) h in
+      ((runnable_items scopes IsNear names a.over s.1 c own).simple, s.1, s.0)
 
-  written-runnable : (w : Option (TypedTree Text)) (i : Option (InitialTree Text)) (self : Origin) → in_optional closed_typed w ≡ None → written_breaches scopes self (written_type w) i ≡ []
-      → IsRunnableType (written_type w)
-  written-runnable None i self c h = tt
-  written-runnable (Some t) i self c h = type-runnable t.type c (first_empty (type_breaches scopes t.type) (typed_initial scopes (declared_type scopes self t.type) i) h)
+  written-runnable : (w : Option (TypedTree Text)) (i : Option (InitialTree Text)) (self : Origin) → IfThere (TypedSpelt IsNear) w → in_optional closed_typed w ≡ None
+      → written_breaches scopes self (written_type w) i ≡ [] → IsRunnableType scopes (written_type w)
+  written-runnable None i self s c h = tt
+  written-runnable (Some t) i self s c h = type-runnable t.type s.1 c (first_empty (type_breaches scopes t.type) (typed_initial scopes (declared_type scopes self t.type) i) h)
+
+  -- the domain that an array is over
+  abbrev spread : ArrayTypeTree Text → Option (ℕ × Bool)
+  spread a = domain_in (type_by (over_verdict a.from (item_parts scopes a.over)))
 
   -- ---- values
   -- a value's kind is that of its type
@@ -87,7 +87,7 @@ module _ (scopes : Scopes) (names : AreVariables scopes) where
       let side = side_breaches scopes item in
       let kept = owed_type (is_untyped None) (first_of_item item) (side_part scopes item).type in
       let told = first_empty side kept (first_empty (side ++ kept) (mapped_breaches scopes (type_rank (side_part scopes item).type) None) h) in
-      record { simple = (runnable_side scopes IsNear names item s.0 (first_open (closed_item item) None c) told).simple; kind = side-kind item k e; near = s.0 }
+      (k, record { simple = (runnable_side scopes IsNear names item s.0 (first_open (closed_item item) None c) told).simple; kind = side-kind item k e; near = s.0 }, same-given k k refl)
   untyped-init (ItemInit item (Some m)) k s c h e = let no : Some m.at ≡ None = second_open (closed_item item) (Some m.at) c in absurd cc
   untyped-init (CreateInit m) k s c h e = absurd cc
 
@@ -106,29 +106,33 @@ module _ (scopes : Scopes) (names : AreVariables scopes) where
       record { value = value; fit = owed_type-holds (is_initial t) (side_part scopes item).at (side_part scopes item).type value.variable.type is (second_empty side agrees front) }
 
   -- a value fits a type that it may be given to at first
-  typed-init : (t : ValueType) (k : VariableKind) → ((u : ValueType) (j : VariableKind) → value_kind u ≡ Some j → is_initial t u ≡ true → value_kind u ≡ Some k)
+  typed-init : (t : ValueType) (k : VariableKind) → ((u : ValueType) (j : VariableKind) → value_kind u ≡ Some j → is_initial t u ≡ true → IsGivenTo k j)
       → (init : InitTree Text) → InitSpelt IsNear init → closed_init init ≡ None → typed_breaches scopes (Some t) init ≡ [] → IsInitOf scopes init k
   typed-init t k fits (ItemInit item None) s c h =
       let first = typed-first t item s c h in
       let p = first.value.variable in
-      record { simple = first.value.simple; kind = ap kind_by p.is ∙ fits p.type p.kind p.of_kind first.fit; near = s.0 }
+      (p.kind, record { simple = first.value.simple; kind = ap kind_by p.is ∙ p.of_kind; near = s.0 }, fits p.type p.kind p.of_kind first.fit)
   typed-init t k fits (ItemInit item (Some m)) s c h = let no : Some m.at ≡ None = second_open (closed_item item) (Some m.at) c in absurd cc
   typed-init t k fits (CreateInit m) s c h = absurd cc
 
   type-initial : (t : TypeTree Text) (i : Option (InitialTree Text)) (self : Origin) (k : VariableKind) → IfThere (InitialSpelt IsNear) i → closed_type t ≡ None → in_optional closed_initial i ≡ None
       → typed_initial scopes (declared_type scopes self t) i ≡ [] → kind_by (declared_type scopes self t) ≡ Some k → IsInitialOf scopes (Some t) i k
   type-initial (ScalarType at l) None self k s v c h e = e
-  type-initial (ScalarType at l) (Some i) self k s v c h e = typed-init (Scalar l) k (λ u j f g. is_initial-scalar l k e u g) i.init s.1 c h
+  type-initial (ScalarType at l) (Some i) self k s v c h e = (typed-init (Scalar l) k (λ u j f g. is_scalar-given k u j f l e g) i.init s.1 c h, s.0)
   type-initial (SyncType at kind_at l) i self k s v c h e = absurd cc
   type-initial (DomainType d) None self k s v c h e = is_domain-kind (Domain d.rank false) k e refl
-  type-initial (DomainType d) (Some i) self k s v c h e = typed-init (Domain d.rank false) k (λ u j f g. is_initial-domain d.rank k e u j f g) i.init s.1 c h
-  type-initial (ArrayType a) i self k s v c h e = absurd cc
+  type-initial (DomainType d) (Some i) self k s v c h e = (typed-init (Domain d.rank false) k (λ u j f g. is_domain_of-given k u j f d.rank false false e g) i.init s.1 c h, s.0)
+  type-initial (ArrayType a) None self k s v c h e = sym (array_type-kind scopes self a (spread a) k e).2
+  type-initial (ArrayType a) (Some i) self k s v c h e =
+      let (over, is, one) = array_type-kind scopes self a (spread a) k e in
+      let of_kind : value_kind (Array a.kind over) ≡ Some k = ap kind_by (sym is) ∙ e in
+      (typed-init (Array a.kind over) k (λ u j f g. fits_array-given k u j f a.kind over of_kind g) i.init s.1 c (subst (λ o. typed_breaches scopes o i.init ≡ []) is h), s.0)
 
   written-initial : (w : Option (TypedTree Text)) (i : Option (InitialTree Text)) (self : Origin) (k : VariableKind) → SaysType w i → IfThere (InitialSpelt IsNear) i
       → in_optional closed_typed w ≡ None → in_optional closed_initial i ≡ None → written_breaches scopes self (written_type w) i ≡ [] → kind_by (type_given scopes self (written_type w) i) ≡ Some k
       → IsInitialOf scopes (written_type w) i k
   written-initial None None self k says s v c h e = elim says [ ]
-  written-initial None (Some i) self k says s v c h e = untyped-init i.init k s.1 c h e
+  written-initial None (Some i) self k says s v c h e = (untyped-init i.init k s.1 c h e, s.0)
   written-initial (Some t) i self k says s v c h e =
       type-initial t.type i self k s v c (second_empty (type_breaches scopes t.type) (typed_initial scopes (declared_type scopes self t.type) i) h) e
 
@@ -141,7 +145,7 @@ module _ (scopes : Scopes) (names : AreVariables scopes) where
       owed_type-holds (is_untyped None) (first_of_item item) (side_part scopes item).type p.type p.is told
 
   init-kept : (init : InitTree Text) (p : IsVariable (init_part scopes init).type) → closed_init init ≡ None → untyped_breaches scopes init ≡ [] → IsDeclaredKind p.kind
-  init-kept (ItemInit item None) p c h = is_kept-kind p.type p.kind p.single p.of_kind (untyped-kept item p h)
+  init-kept (ItemInit item None) p c h = is_kept-kind p.type p.kind p.of_kind (untyped-kept item p h)
   init-kept (ItemInit item (Some m)) p c h = let no : Some m.at ≡ None = second_open (closed_item item) (Some m.at) c in absurd cc
   init-kept (CreateInit m) p c h = absurd cc
 
@@ -149,7 +153,7 @@ module _ (scopes : Scopes) (names : AreVariables scopes) where
   type-kept (ScalarType at l) self k c e = scalar-by IsDeclaredKind tt tt l k e
   type-kept (SyncType at kind_at l) self k c e = absurd cc
   type-kept (DomainType d) self k c e = subst IsDeclaredKind (sym (is_domain-kind (Domain d.rank false) k e refl)) tt
-  type-kept (ArrayType a) self k c e = absurd cc
+  type-kept (ArrayType a) self k c e = subst IsDeclaredKind (array_type-kind scopes self a (spread a) k e).2 tt
 
   written-kept : (w : Option (TypedTree Text)) (i : Option (InitialTree Text)) (self : Origin) (p : IsVariable (type_given scopes self (written_type w) i)) → SaysType w i
       → in_optional closed_typed w ≡ None → in_optional closed_initial i ≡ None → written_breaches scopes self (written_type w) i ≡ [] → IsDeclaredKind p.kind
@@ -159,7 +163,7 @@ module _ (scopes : Scopes) (names : AreVariables scopes) where
 
   -- ---- the shape of what a declaration gives a name
   untyped-shaped : (init : InitTree Text) (p : IsVariable (init_part scopes init).type) → closed_init init ≡ None → untyped_breaches scopes init ≡ [] → IsShapedInit scopes init p.type
-  untyped-shaped (ItemInit item None) p c h = (p.type, sym (side-item scopes IsNear names item) ∙ p.is, is_kept-shaped p.type p.kind p.single p.of_kind (untyped-kept item p h))
+  untyped-shaped (ItemInit item None) p c h = (p.type, sym (side-item scopes IsNear names item) ∙ p.is, is_kept-shaped p.type p.kind p.of_kind (untyped-kept item p h))
   untyped-shaped (ItemInit item (Some m)) p c h = let no : Some m.at ≡ None = second_open (closed_item item) (Some m.at) c in absurd cc
   untyped-shaped (CreateInit m) p c h = absurd cc
 
@@ -177,7 +181,9 @@ module _ (scopes : Scopes) (names : AreVariables scopes) where
   type-shaped (ScalarType at l) i self u s v c h e = subst (IsShapedInit scopes i) (some-same (Scalar l) u e) (typed-shaped (Scalar l) (λ w f. refl) i s c h)
   type-shaped (SyncType at kind_at l) i self u s v c h e = absurd cc
   type-shaped (DomainType d) i self u s v c h e = subst (IsShapedInit scopes i) (some-same (Domain d.rank false) u e) (typed-shaped (Domain d.rank false) (λ w f. f) i s c h)
-  type-shaped (ArrayType a) i self u s v c h e = absurd cc
+  type-shaped (ArrayType a) i self u s v c h e =
+      let (over, is) = over_domain-array scopes self a (spread a) u e in
+      subst (IsShapedInit scopes i) (sym is) (typed-shaped (Array a.kind over) (λ w f. refl) i s c (subst (λ o. typed_breaches scopes o i ≡ []) (e ∙ ap Some is) h))
 
   written-shaped : (w : Option (TypedTree Text)) (i : Option (InitialTree Text)) (self : Origin) (p : IsVariable (type_given scopes self (written_type w) i)) → IfThere (InitialSpelt IsNear) i
       → in_optional closed_typed w ≡ None → in_optional closed_initial i ≡ None → written_breaches scopes self (written_type w) i ≡ [] → IsShapedInitial scopes i p.type
@@ -223,9 +229,10 @@ module _ (scopes : Scopes) (names : AreVariables scopes) where
       let initial = second_open (in_optional closed_typed d.typed) (in_optional closed_initial d.initial) c in
       let same = unless_refused-none (declaration_breaches scopes d) given h in
       let declared = declared_by-variable scopes IsNear names d s c h in
-      let variable : IsVariable given = record { kind = declared.kind; single = declared.single; type = declared.type; is = sym same ∙ declared.is; of_kind = declared.of_kind } in
+      let variable : IsVariable given = record { kind = declared.kind; type = declared.type; is = sym same ∙ declared.is; of_kind = declared.of_kind } in
       record {
-        type = written-runnable d.typed d.initial self typed told;
+        type = written-runnable d.typed d.initial self s.4 typed told;
+        near = s.3;
         kind = declared.kind;
         initial = written-initial d.typed d.initial self declared.kind s.0 s.5 typed initial told (ap kind_by variable.is ∙ variable.of_kind);
         declared = ap kind_by declared.is ∙ declared.of_kind;

@@ -1,18 +1,18 @@
--- Where each name in sight has a type of a kind that is no array's, an expression that a text spells, that needs nothing
--- which doesn't run and that breaks no rule is simple, and its type is such a one too.
+-- Where each name in sight has a type of some kind, an expression that a text spells, that needs nothing which doesn't run and
+-- that breaks no rule is simple, and its type has a kind too.
 use Rattle.std.proofs.Common.{◌≡◌, ℕ, suc, arith, ne_eqb, Bool, true, false, List, [], ◌∷◌, ◌++◌, length, Option, Some, None, refl, sym, ap, ◌∙◌, subst}
-use Rattle.std.specs.Prelude.{nat_lt, ◌&&◌, ◌||◌, ◌==◌, option_map}
+use Rattle.std.specs.Prelude.{nat_lt, ◌&&◌, ◌==◌}
 use Rattle.std.proofs.lemmas.Option.{none-some}
 use Rattle.std.proofs.lemmas.Bool.Decides.{nat_tests}
 use Rattle.dpl_syntax.specs.declared.place.Place.{Place}
-use Rattle.dpl_language.specs.Tree.{Kind, ReadWord, Word, Size, First, Last, Low, High, LowBound, DomainOf, Id, Infix, Add, Subtract, Multiply, Divide, Remainder, Less, LessEqual, Greater, GreaterEqual, Equal, NotEqual, And, Or}
+use Rattle.dpl_language.specs.Tree.{Kind, ReadWord, Infix, Add, Subtract, Multiply, Divide, Remainder, Less, LessEqual, Greater, GreaterEqual, Equal, NotEqual, And, Or}
 use Rattle.dpl_language.specs.Tree.{ExprTree, Number, TruthWord, Named, LocalesWord, LocaleCount, HereWord, Grouped, DomainLiteral, Prefixed, Reduced, Chain, Postfixed}
 use Rattle.dpl_language.specs.Tree.{ItemTree, One, RangeItem, Stride, NoStride, By, Links, NoLinks, Link, Posts, NoPosts, Post, PostTree, Brackets, Rounds, Dotted}
 use Rattle.dpl_language.specs.Tree.{MethodTree, Plainly, Dim, Contains, Expand, CellRead, Items, FirstItem, MoreItems, NoItems, NextItem, Exprs, FirstExpr, MoreExprs, NoExprs, NextExpr}
 use Rattle.dpl_language.specs.Names.{Text}
 use Rattle.dpl_spelling.specs.Spelt.{Level, Conjunctions, Disjunctions, level_of, AreOfLevel, IsOneLevel, ExprSpelt, ItemSpelt, StrideSpelt, LinksSpelt, PostsSpelt, PostSpelt, MethodSpelt, ItemsSpelt, MoreItemsSpelt, ExprsSpelt, MoreExprsSpelt}
 use Rattle.dpl_closed.specs.Closed.{or_place, closed_expr, closed_item, closed_stride, closed_links, closed_posts, closed_post, closed_method, closed_items, closed_more_items, closed_exprs, closed_more_exprs}
-use Rattle.dpl_rules.specs.Types.{ValueType, Scalar, Range as RangeType, Domain, Array, Promoted, Tuple, Locale, AllLocales, Cell, an_int, a_bool, is_range}
+use Rattle.dpl_rules.specs.Types.{Over, ValueType, Scalar, Range as RangeType, Domain, Array, Promoted, Tuple, Locale, AllLocales, Cell, an_int, a_bool, is_range}
 use Rattle.dpl_syntax.specs.declared.refusal.Code.TheVariants.{WrongRank}
 use Rattle.dpl_rules.specs.Verdicts.{Part, part, type_by, broken_by, owed, with_type, all_known, each_wanted}
 use Rattle.dpl_rules.specs.Places.{first_of, last_of, last_of_post}
@@ -26,113 +26,47 @@ use Rattle.dpl_sound.proofs.Known.{IsTyped, told-typed, AreKnown, infix-by, post
 use Rattle.dpl_lowered.specs.Shapes.{passes_on, all_pass_on, nests}
 use Rattle.dpl_words.specs.Words.{IntLeaf, TruthLeaf, RangeLeaf}
 use Rattle.dpl_memory.specs.Memory.{VariableKind, PlainKind, DomainKind, TupleKind, ArrayKind}
-use Rattle.dpl_typer.specs.Makers.{is_promoted, kind_if, kind_over, leaf_of, before_kind, prefix_kind, between_kind, infix_kind, operand_kind, is_one_int, is_one_range, is_int, is_index, is_domain, are_ranges, literal_kind, element_kind, square_kind, round_kind, range_word_kind, domain_word_kind, array_word_kind, word_kind, contains_kind, dim_kind, expand_kind}
+use Rattle.dpl_typer.specs.Makers.{is_promoted, prefix_kind, infix_kind, literal_kind, square_kind, round_kind, word_kind, contains_kind, dim_kind, expand_kind}
 use Rattle.dpl_typer.specs.Leaves.{is_rank, is_tuple_rank, value_kind, kind_by, IsOfKind, MayBePlain}
 use Rattle.dpl_typer.specs.Simple.{IsSimple, IsSimpleItem, IsSimpleStride, AreSimpleLinks, AreSimplePosts, IsSimplePost, AreSimpleItems, AreSimpleMoreItems, AreSimpleExprs, AreSimpleMoreExprs}
 use Rattle.dpl_typer.specs.Elaborated.{AreOfKinds}
 use Rattle.dpl_typer.proofs.OperatorKinds.{IsNew, Gives, kind_if-some, prefix-gives, infix-gives}
 use Rattle.dpl_typer.proofs.PartKinds.{range_item-new, literal-gives}
 use Rattle.dpl_typer.proofs.BaseKinds.{IsBase, word-gives, contains-gives, square-gives, round-gives, dim-gives, expand-gives}
-use Rattle.dpl_runnable.specs.Kinds.{IsVariable, AreVariables}
+use Rattle.dpl_runnable.specs.Kinds.{IsVariable, IsNamed, AreVariables}
 use Rattle.dpl_runnable.proofs.Owed.{owed-holds}
 
--- ---- types of kinds that are no array's
+-- ---- types that have kinds
 pub variable-kind : (o : Option ValueType) (p : IsVariable o) → IsOfKind p.kind o
 variable-kind o p = subst (IsOfKind p.kind) (sym p.is) p.of_kind
 
 variable-base : (o : Option ValueType) (p : IsVariable o) → IsBase true p.kind o
 variable-base o p = subst (IsBase true p.kind) (sym p.is) (p.of_kind, λ e. refl)
 
--- what a form gives of operands that aren't promoted isn't promoted, where it has a type
-abbrev IsSingle : Option VariableKind → Type 0
-IsSingle None = Unit {0}
-IsSingle (Some k) = is_promoted k ≡ false
+-- what a form gives has a kind, where it has a type
+new-variable : (k : VariableKind) (o : Option ValueType) → IsNew k o → IsTyped o → IsVariable o
+new-variable k None h p = absurd (none-some p.0 p.1)
+new-variable k (Some t) h p = record { kind = k; type = t; is = refl; of_kind = h.0 }
 
-new-variable : (k : VariableKind) (o : Option ValueType) → is_promoted k ≡ false → IsNew k o → IsTyped o → IsVariable o
-new-variable k None q h p = absurd (none-some p.0 p.1)
-new-variable k (Some t) q h p = record { kind = k; single = q; type = t; is = refl; of_kind = h.0 }
+gives-variable : (g : Option VariableKind) (o : Option ValueType) → Gives g o → IsTyped o → IsVariable o
+gives-variable None o h p = absurd (none-some p.0 (sym h ∙ p.1))
+gives-variable (Some k) o h p = new-variable k o h p
 
-gives-variable : (g : Option VariableKind) (o : Option ValueType) → IsSingle g → Gives g o → IsTyped o → IsVariable o
-gives-variable None o q h p = absurd (none-some p.0 (sym h ∙ p.1))
-gives-variable (Some k) o q h p = new-variable k o q h p
+-- What holds of ints and truth values, of ranges, domains, arrays, promoted values and tuples holds of each type that has a kind.
+pub kind-cases : (Q : ValueType → Type 0) → ((l : Kind) → Q (Scalar l)) → ((s : Bool) → Q (RangeType s)) → ((rank : ℕ) (s : Bool) → is_rank rank ≡ true → Q (Domain rank s))
+    → ((l : Kind) (over : Over) → is_rank over.rank ≡ true → Q (Array l over)) → ((l : Kind) (over : Over) → is_rank over.rank ≡ true → Q (Promoted l over))
+    → ((rank : ℕ) → is_tuple_rank rank ≡ true → Q (Tuple rank)) → (t : ValueType) (k : VariableKind) → value_kind t ≡ Some k → Q t
+kind-cases Q q r d a p u (Scalar l) k e = q l
+kind-cases Q q r d a p u (RangeType s) k e = r s
+kind-cases Q q r d a p u (Domain rank s) k e = d rank s (kind_if-some (is_rank rank) DomainKind k e).0
+kind-cases Q q r d a p u (Array l over) k e = a l over (kind_if-some (is_rank over.rank) (ArrayKind l) k e).0
+kind-cases Q q r d a p u (Promoted l over) k e = p l over (kind_if-some (is_rank over.rank) (ArrayKind l) k e).0
+kind-cases Q q r d a p u (Tuple rank) k e = u rank (kind_if-some (is_tuple_rank rank) TupleKind k e).0
+kind-cases Q q r d a p u Locale k e = absurd (none-some k e)
+kind-cases Q q r d a p u AllLocales k e = absurd (none-some k e)
+kind-cases Q q r d a p u (Cell l) k e = absurd (none-some k e)
 
-if-single : (b : Bool) (k : VariableKind) → is_promoted k ≡ false → IsSingle (kind_if b k)
-if-single true k q = q
-if-single false k q = tt
-
-over-single : (b : Bool) (o : Option Kind) → b ≡ false → IsSingle (option_map (kind_over b) o)
-over-single true o q = absurd cc
-over-single false None q = tt
-over-single false (Some l) q = refl
-
-neither : (a b : Bool) → a ≡ false → b ≡ false → (a || b) ≡ false
-neither true b p q = absurd cc
-neither false b p q = q
-
-element-single : (l : Kind) (ks : List VariableKind) → IsSingle (element_kind true l ks)
-element-single l ks = if-single (true && is_index ks) (PlainKind (leaf_of l)) refl
-
-square-single : (k : VariableKind) (ks : List VariableKind) → IsSingle (square_kind true k ks)
-square-single (PlainKind IntLeaf) ks = tt
-square-single (PlainKind TruthLeaf) ks = tt
-square-single (PlainKind RangeLeaf) ks = if-single (is_one_range ks) (PlainKind RangeLeaf) refl
-square-single DomainKind ks = if-single (are_ranges ks) DomainKind refl
-square-single TupleKind ks = tt
-square-single (ArrayKind l) ks = element-single l ks
-
-round-single : (k : VariableKind) (ks : List VariableKind) → IsSingle (round_kind true k ks)
-round-single (PlainKind l) ks = tt
-round-single DomainKind ks = tt
-round-single TupleKind ks = tt
-round-single (ArrayKind l) ks = element-single l ks
-
-range_word-single : (w : Word) → IsSingle (range_word_kind w)
-range_word-single Size = refl
-range_word-single First = refl
-range_word-single Last = refl
-range_word-single Low = refl
-range_word-single High = refl
-range_word-single LowBound = tt
-range_word-single DomainOf = tt
-range_word-single Id = tt
-
-domain_word-single : (w : Word) → IsSingle (domain_word_kind w)
-domain_word-single Size = refl
-domain_word-single First = tt
-domain_word-single Last = tt
-domain_word-single Low = tt
-domain_word-single High = tt
-domain_word-single LowBound = tt
-domain_word-single DomainOf = tt
-domain_word-single Id = tt
-
-array_word-single : (w : Word) → IsSingle (array_word_kind true w)
-array_word-single Size = tt
-array_word-single First = tt
-array_word-single Last = tt
-array_word-single Low = tt
-array_word-single High = tt
-array_word-single LowBound = tt
-array_word-single DomainOf = refl
-array_word-single Id = tt
-
-word-single : (w : Word) (k : VariableKind) → IsSingle (word_kind w true k)
-word-single w (PlainKind IntLeaf) = tt
-word-single w (PlainKind TruthLeaf) = tt
-word-single w (PlainKind RangeLeaf) = range_word-single w
-word-single w DomainKind = domain_word-single w
-word-single w TupleKind = tt
-word-single w (ArrayKind l) = array_word-single w
-
-contains-single : (k : VariableKind) (ks : List VariableKind) → IsSingle (contains_kind k ks)
-contains-single (PlainKind IntLeaf) ks = tt
-contains-single (PlainKind TruthLeaf) ks = tt
-contains-single (PlainKind RangeLeaf) ks = if-single (is_one_int ks) (PlainKind TruthLeaf) refl
-contains-single DomainKind ks = if-single (is_index ks) (PlainKind TruthLeaf) refl
-contains-single TupleKind ks = tt
-contains-single (ArrayKind l) ks = tt
-
--- which types these are: what holds of ints, truth values, ranges, domains and tuples of some rank holds of them
+-- What holds of all but arrays and promoted values holds of each type that has a kind which is no array's.
 pub variable-cases : (Q : ValueType → Type 0) → ((l : Kind) → Q (Scalar l)) → ((s : Bool) → Q (RangeType s)) → ((rank : ℕ) (s : Bool) → is_rank rank ≡ true → Q (Domain rank s))
     → ((rank : ℕ) → is_tuple_rank rank ≡ true → Q (Tuple rank)) → (t : ValueType) (k : VariableKind) → is_promoted k ≡ false → value_kind t ≡ Some k → Q t
 variable-cases Q q r d u (Scalar l) k p e = q l
@@ -237,21 +171,28 @@ one_level-nests NoLinks h = elim h [ ]
 one_level-nests (Link at op e rest) h = level-passes_all op (level_of op) rest refl h
 
 -- ---- domain literals: there is a range in one, and more than three break a rule
-few : (from : Place) (ps : List Part) → IsTyped (type_by (ranges_verdict from ps)) → nat_lt (length ps) 4 ≡ true
+pub few : (from : Place) (ps : List Part) → IsTyped (type_by (ranges_verdict from ps)) → nat_lt (length ps) 4 ≡ true
 few from ps typed =
     owed-holds (nat_lt (length ps) 4) from WrongRank
     (second_empty (each_wanted is_range ps) (owed (nat_lt (length ps) 4) from WrongRank)
     (judged-gives (all_known ps) (ranges_breaches from ps) (Domain (length ps) (any_strided ps)) typed.0 typed.1).1)
 
-some-rank : (n : ℕ) → nat_lt (suc n) 4 ≡ true → is_rank (suc n) ≡ true
+pub some-rank : (n : ℕ) → nat_lt (suc n) 4 ≡ true → is_rank (suc n) ≡ true
 some-rank n e = both (nat_lt 0 (suc n)) (nat_lt (suc n) 4) (grind (arith, nat_tests)) e
 
 literal-rank : (scopes : Scopes) (items : Items Text) → nat_lt (length (item_parts scopes items)) 4 ≡ true → is_rank (length (item_parts scopes items)) ≡ true
 literal-rank scopes (FirstItem i more) e = some-rank (length (more_item_parts scopes more)) e
 
+-- ---- names
+-- an expression that is a name has the type of its declaration
+pub name_verdict-type : (at : Place) (d : Declared) (p : IsNamed d.type) → type_by (name_verdict at (Some d)) ≡ Some p.type
+name_verdict-type at d p =
+    ap (λ o. type_by (with_type o (plain_name at))) p.is
+    ∙ kind-cases (λ t. type_by (plain_name at t) ≡ Some t) (λ l. refl) (λ s. refl) (λ rank s r. refl) (λ l over r. refl) (λ l over r. refl) (λ rank r. refl) p.type p.kind p.of_kind
+
 -- ---- expressions
 module _ (scopes : Scopes) (P : Place → Type 0) (names : AreVariables scopes) where
-  known : AreKnown scopes
+  pub known : AreKnown scopes
   known x d h = let p = names x d h in (p.type, p.is)
 
   pub record RunnableExpr (e : ExprTree Text) : Type 0 where
@@ -275,20 +216,20 @@ module _ (scopes : Scopes) (P : Place → Type 0) (names : AreVariables scopes) 
     variable : IsVariable (type_by (post_verdict scopes last p o))
 
   -- between brackets
-  record RunnableItems (items : Items Text) : Type 0 where
-    simple : AreSimpleItems (MayBePlain scopes) items
-    kinds : List VariableKind
-    of_kinds : AreOfKinds kinds (item_parts scopes items)
+  pub record RunnableItems (items : Items Text) : Type 0 where
+    pub simple : AreSimpleItems (MayBePlain scopes) items
+    pub kinds : List VariableKind
+    pub of_kinds : AreOfKinds kinds (item_parts scopes items)
 
   record RunnableMoreItems (more : MoreItems Text) : Type 0 where
     simple : AreSimpleMoreItems (MayBePlain scopes) more
     kinds : List VariableKind
     of_kinds : AreOfKinds kinds (more_item_parts scopes more)
 
-  record RunnableExprs (es : Exprs Text) : Type 0 where
-    simple : AreSimpleExprs (MayBePlain scopes) es
-    kinds : List VariableKind
-    of_kinds : AreOfKinds kinds (expr_parts scopes es)
+  pub record RunnableExprs (es : Exprs Text) : Type 0 where
+    pub simple : AreSimpleExprs (MayBePlain scopes) es
+    pub kinds : List VariableKind
+    pub of_kinds : AreOfKinds kinds (expr_parts scopes es)
 
   record RunnableMoreExprs (more : MoreExprs Text) : Type 0 where
     simple : AreSimpleMoreExprs (MayBePlain scopes) more
@@ -296,22 +237,13 @@ module _ (scopes : Scopes) (P : Place → Type 0) (names : AreVariables scopes) 
     of_kinds : AreOfKinds kinds (more_expr_parts scopes more)
 
   -- ---- names
-  declared-variable : (o : Option Declared) → ((d : Declared) → o ≡ Some d → IsVariable d.type) → kind_by (type_declared o) ≡ None → type_declared o ≡ None
+  declared-variable : (o : Option Declared) → ((d : Declared) → o ≡ Some d → IsNamed d.type) → kind_by (type_declared o) ≡ None → type_declared o ≡ None
   declared-variable None h e = refl
   declared-variable (Some d) h e = let p = h d refl in absurd (none-some p.kind (sym e ∙ ap kind_by p.is ∙ p.of_kind))
 
-  name-variable : (at : Place) (o : Option Declared) → ((d : Declared) → o ≡ Some d → IsVariable d.type) → IsTyped (type_by (name_verdict at o)) → IsVariable (type_by (name_verdict at o))
+  name-variable : (at : Place) (o : Option Declared) → ((d : Declared) → o ≡ Some d → IsNamed d.type) → IsTyped (type_by (name_verdict at o)) → IsVariable (type_by (name_verdict at o))
   name-variable at None h p = absurd (none-some p.0 p.1)
-  name-variable at (Some d) h p =
-      let q = h d refl in
-      record {
-        kind = q.kind;
-        single = q.single;
-        type = q.type;
-        is = ap (λ o. type_by (with_type o (plain_name at))) q.is
-            ∙ variable-cases (λ t. type_by (plain_name at t) ≡ Some t) (λ l. refl) (λ s. refl) (λ rank s r. refl) (λ rank r. refl) q.type q.kind q.single q.of_kind;
-        of_kind = q.of_kind;
-      }
+  name-variable at (Some d) h p = let q = h d refl in record { kind = q.kind; type = q.type; is = name_verdict-type at d q; of_kind = q.of_kind }
 
   -- a cell read is no method of a value
   read-untyped : (at : Place) (w : ReadWord) (from upto : Place) (o : Option ValueType) → type_by (with_type o (method_verdict scopes (CellRead at w from upto))) ≡ None
@@ -320,8 +252,8 @@ module _ (scopes : Scopes) (P : Place → Type 0) (names : AreVariables scopes) 
 
   mutual
     pub runnable : (e : ExprTree Text) → ExprSpelt P e → closed_expr e ≡ None → expr_breaches scopes e ≡ [] → RunnableExpr e
-    runnable (Number at n) s c h = record { simple = tt; variable = record { kind = PlainKind IntLeaf; single = refl; type = an_int; is = refl; of_kind = refl } }
-    runnable (TruthWord at b) s c h = record { simple = tt; variable = record { kind = PlainKind TruthLeaf; single = refl; type = a_bool; is = refl; of_kind = refl } }
+    runnable (Number at n) s c h = record { simple = tt; variable = record { kind = PlainKind IntLeaf; type = an_int; is = refl; of_kind = refl } }
+    runnable (TruthWord at b) s c h = record { simple = tt; variable = record { kind = PlainKind TruthLeaf; type = a_bool; is = refl; of_kind = refl } }
     runnable (Named x) s c h = record {
       simple = declared-variable (lookup scopes x.name) (names x.name);
       variable = name-variable x.at (lookup scopes x.name) (names x.name) (type_of-known scopes known (Named x) h);
@@ -336,7 +268,7 @@ module _ (scopes : Scopes) (P : Place → Type 0) (names : AreVariables scopes) 
         let ranges = runnable_items items s.1 c (first_empty (items_breaches scopes items) (broken_by verdict) h) in
         record {
           simple = ranges.simple;
-          variable = gives-variable (literal_kind ranges.kinds) (type_by verdict) (if-single (are_ranges ranges.kinds) DomainKind refl)
+          variable = gives-variable (literal_kind ranges.kinds) (type_by verdict)
               (literal-gives from ranges.kinds (item_parts scopes items) ranges.of_kinds (literal-rank scopes items (few from (item_parts scopes items) typed))) typed;
         }
     runnable (Prefixed at op e) s c h =
@@ -345,7 +277,7 @@ module _ (scopes : Scopes) (P : Place → Type 0) (names : AreVariables scopes) 
         let kind = operand.variable.kind in
         record {
           simple = operand.simple;
-          variable = gives-variable (prefix_kind op kind) (type_by verdict) (over-single (is_promoted kind) (before_kind op (operand_kind kind)) operand.variable.single)
+          variable = gives-variable (prefix_kind op kind) (type_by verdict)
               (prefix-gives op at kind (type_of scopes e) (variable-kind (type_of scopes e) operand.variable))
               (type_of-known scopes known (Prefixed at op e) h);
         }
@@ -380,7 +312,7 @@ module _ (scopes : Scopes) (P : Place → Type 0) (names : AreVariables scopes) 
         let z = runnable_stride by s.4 (second_open (closed_expr high) (closed_stride by) behind) (second_empty ends (stride_breaches scopes by) parts) in
         record {
           simple = (x.simple, y.simple, z);
-          variable = new-variable (PlainKind RangeLeaf) (type_by verdict) refl
+          variable = new-variable (PlainKind RangeLeaf) (type_by verdict)
               (range_item-new scopes (part (first_of low) (type_of scopes low)) (part (first_of high) (type_of scopes high)) by) (item_type-known scopes known (RangeItem low at dots high by) h);
         }
 
@@ -398,7 +330,6 @@ module _ (scopes : Scopes) (P : Place → Type 0) (names : AreVariables scopes) 
         let q = right.variable in
         let typed = told-typed verdict (infix-by scopes known at op o (type_of scopes e) (p.type, p.is) (q.type, q.is)) (second_empty (expr_breaches scopes e) (broken_by verdict) front) in
         let next = gives-variable (infix_kind op p.kind q.kind) (type_by verdict)
-        (over-single (is_promoted p.kind || is_promoted q.kind) (between_kind op (operand_kind p.kind) (operand_kind q.kind)) (neither (is_promoted p.kind) (is_promoted q.kind) p.single q.single))
         (infix-gives op at p.kind q.kind o (type_of scopes e) (variable-kind o p) (variable-kind (type_of scopes e) q)) typed in
         let more = runnable_links rest (type_by verdict) next s.2 (second_open (closed_expr e) (closed_links rest) c) (second_empty (expr_breaches scopes e ++ broken_by verdict) others h) in
         record { simple = (right.simple, more.simple); variable = more.variable }
@@ -422,14 +353,14 @@ module _ (scopes : Scopes) (P : Place → Type 0) (names : AreVariables scopes) 
         let between = runnable_items items s.1 c h in
         record {
           simple = between.simple;
-          variable = gives-variable (square_kind true p.kind between.kinds) _ (square-single p.kind between.kinds)
+          variable = gives-variable (square_kind true p.kind between.kinds) _
               (square-gives last from (item_parts scopes items) true p.kind between.kinds o (variable-base o p) between.of_kinds) typed;
         }
     runnable_post (Rounds from es upto) last o p s c h typed =
         let between = runnable_exprs es s.1 c h in
         record {
           simple = between.simple;
-          variable = gives-variable (round_kind true p.kind between.kinds) _ (round-single p.kind between.kinds)
+          variable = gives-variable (round_kind true p.kind between.kinds) _
               (round-gives last from (expr_parts scopes es) true p.kind between.kinds o (variable-base o p) between.of_kinds) typed;
         }
     runnable_post (Dotted dot m) last o p s c h typed = runnable_method dot m last o p s.1 c h typed
@@ -438,30 +369,30 @@ module _ (scopes : Scopes) (P : Place → Type 0) (names : AreVariables scopes) 
         → IsTyped (type_by (post_verdict scopes last (Dotted dot m) o)) → RunnablePost last o (Dotted dot m)
     runnable_method dot (Plainly at w) last o p s c h typed = record {
       simple = tt;
-      variable = gives-variable (word_kind w true p.kind) _ (word-single w p.kind) (word-gives at w true p.kind o (variable-base o p)) typed;
+      variable = gives-variable (word_kind w true p.kind) _ (word-gives at w true p.kind o (variable-base o p)) typed;
     }
     runnable_method dot (Dim at from rank_at d upto) last o p s c h typed = record {
       simple = tt;
-      variable = gives-variable (dim_kind d p.kind) _ (if-single (is_domain p.kind && nat_lt d 3) (PlainKind RangeLeaf) refl) (dim-gives at rank_at d true p.kind o (variable-base o p)) typed;
+      variable = gives-variable (dim_kind d p.kind) _ (dim-gives at rank_at d true p.kind o (variable-base o p)) typed;
     }
     runnable_method dot (Contains at from es upto) last o p s c h typed =
         let index = runnable_exprs es s.2 c h in
         record {
           simple = index.simple;
-          variable = gives-variable (contains_kind p.kind index.kinds) _ (contains-single p.kind index.kinds)
+          variable = gives-variable (contains_kind p.kind index.kinds) _
               (contains-gives last from (expr_parts scopes es) at true p.kind index.kinds o (variable-base o p) index.of_kinds) typed;
         }
     runnable_method dot (Expand at from e upto) last o p s c h typed =
         let by = runnable e s.2 c h in
         record {
           simple = by.simple;
-          variable = gives-variable (expand_kind p.kind by.variable.kind) _ (if-single (is_domain p.kind && is_int by.variable.kind) DomainKind refl)
+          variable = gives-variable (expand_kind p.kind by.variable.kind) _
               (expand-gives at (first_of e) true p.kind by.variable.kind o (type_of scopes e) (variable-base o p) (variable-kind (type_of scopes e) by.variable)) typed;
         }
     runnable_method dot (CellRead at w from upto) last o p s c h typed = absurd (none-some typed.0 (sym (read-untyped at w from upto o) ∙ typed.1))
 
     -- ---- between brackets
-    runnable_items : (items : Items Text) → ItemsSpelt P items → closed_items items ≡ None → items_breaches scopes items ≡ [] → RunnableItems items
+    pub runnable_items : (items : Items Text) → ItemsSpelt P items → closed_items items ≡ None → items_breaches scopes items ≡ [] → RunnableItems items
     runnable_items (FirstItem i more) s c h =
         let first = runnable_item i s.0 (first_open (closed_item i) (closed_more_items more) c) (first_empty (item_breaches scopes i) (more_items_breaches scopes more) h) in
         let others = runnable_more_items more s.1 (second_open (closed_item i) (closed_more_items more) c) (second_empty (item_breaches scopes i) (more_items_breaches scopes more) h) in
@@ -474,7 +405,7 @@ module _ (scopes : Scopes) (P : Place → Type 0) (names : AreVariables scopes) 
         let others = runnable_more_items more s.2 (second_open (closed_item i) (closed_more_items more) c) (second_empty (item_breaches scopes i) (more_items_breaches scopes more) h) in
         record { simple = (first.simple, others.simple); kinds = first.variable.kind ∷ others.kinds; of_kinds = (variable-kind (item_type scopes i) first.variable, others.of_kinds) }
 
-    runnable_exprs : (es : Exprs Text) → ExprsSpelt P es → closed_exprs es ≡ None → exprs_breaches scopes es ≡ [] → RunnableExprs es
+    pub runnable_exprs : (es : Exprs Text) → ExprsSpelt P es → closed_exprs es ≡ None → exprs_breaches scopes es ≡ [] → RunnableExprs es
     runnable_exprs (FirstExpr e more) s c h =
         let first = runnable e s.0 (first_open (closed_expr e) (closed_more_exprs more) c) (first_empty (expr_breaches scopes e) (more_exprs_breaches scopes more) h) in
         let others = runnable_more_exprs more s.1 (second_open (closed_expr e) (closed_more_exprs more) c) (second_empty (expr_breaches scopes e) (more_exprs_breaches scopes more) h) in

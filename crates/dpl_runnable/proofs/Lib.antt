@@ -3,6 +3,7 @@ pub mod Expressions
 pub mod Scopes
 -- The parts of statements.
 pub mod Owed
+pub mod Arrays
 pub mod Declared
 pub mod Changes
 pub mod Printed

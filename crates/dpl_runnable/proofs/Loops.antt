@@ -1,6 +1,6 @@
 -- Loops that a text spells, that need nothing which doesn't run and that break no rule run over ranges and have one variable, or
 -- over domains and have one or as many as the rank.
-use Rattle.std.proofs.Common.{◌≡◌, ◌≢◌, Bool, true, false, List, [], ◌∷◌, ◌++◌, map, length, Some, None, refl, ap, ◌∙◌, subst}
+use Rattle.std.proofs.Common.{◌≡◌, ◌≢◌, Bool, true, List, [], ◌∷◌, ◌++◌, map, length, Some, None, refl, ap, ◌∙◌, subst}
 use Rattle.std.specs.Prelude.{◌==◌}
 use Rattle.dpl_language.specs.Tree.{Placed, AfterComma, ItemTree, VariablesTree, OneVariable, ManyVariables}
 use Rattle.dpl_language.specs.Names.{Text}
@@ -11,13 +11,12 @@ use Rattle.dpl_rules.specs.Sights.{Scopes}
 use Rattle.dpl_rules.specs.Loops.{LoopWord, fits_variables, header_of, over_type, over_breaches, variables_once, header_breaches}
 use Rattle.dpl_rules.proofs.Admission.{first_empty, second_empty}
 use Rattle.dpl_memory.specs.Memory.{VariableKind}
-use Rattle.dpl_typer.specs.Makers.{is_promoted}
 use Rattle.dpl_typer.specs.Leaves.{value_kind, kind_by}
 use Rattle.dpl_nodes.specs.Faults.{IsNear}
 use Rattle.dpl_runnable.specs.Kinds.{AreVariables}
 use Rattle.dpl_runnable.specs.Runnable.{IsOneVariable, RunsOver, IsRunnableHeader}
 use Rattle.dpl_runnable.specs.Written.{HasSeveral}
-use Rattle.dpl_runnable.proofs.Expressions.{two_or_more, variable-cases}
+use Rattle.dpl_runnable.proofs.Expressions.{two_or_more, kind-cases}
 use Rattle.dpl_runnable.proofs.Scopes.{IsTurned, header-turned, runs_over-nothing, over-type, runnable_over}
 
 -- ranges give one value a turn
@@ -31,10 +30,10 @@ one-variable (ManyVariables from xs upto) strided several h = by xs.others sever
         let no = two_or_more (length (map {A = AfterComma (Placed Text)} {B = Placed Text} (λ x. x.part) ys)) in
         absurd cc
 
-header-runs : (word : LoopWord) (xs : VariablesTree Text) → HasSeveral xs → (t : ValueType) (k : VariableKind) → is_promoted k ≡ false → value_kind t ≡ Some k → IsTurned word xs t → RunsOver xs t
+header-runs : (word : LoopWord) (xs : VariablesTree Text) → HasSeveral xs → (t : ValueType) (k : VariableKind) → value_kind t ≡ Some k → IsTurned word xs t → RunsOver xs t
 header-runs word xs several =
-    variable-cases (λ t. IsTurned word xs t → RunsOver xs t) (λ l h. absurd (runs_over-nothing word h.runs)) (λ s h. one-variable xs s several h.fits) (λ rank s r h. h.fits)
-    (λ rank r h. absurd (runs_over-nothing word h.runs))
+    kind-cases (λ t. IsTurned word xs t → RunsOver xs t) (λ l h. absurd (runs_over-nothing word h.runs)) (λ s h. one-variable xs s several h.fits) (λ rank s r h. h.fits)
+    (λ l over r h. absurd (runs_over-nothing word h.runs)) (λ l over r h. absurd (runs_over-nothing word h.runs)) (λ rank r h. absurd (runs_over-nothing word h.runs))
 
 pub runnable_header : (scopes : Scopes) → AreVariables scopes → (word : LoopWord) (xs : VariablesTree Text) (item : ItemTree Text) → HasSeveral xs → ItemSpelt IsNear item → closed_item item ≡ None
     → header_breaches scopes word xs item ≡ [] → IsRunnableHeader scopes xs item
@@ -50,6 +49,6 @@ runnable_header scopes names word xs item several s c h =
       over = record { simple = value.simple; kind = ap kind_by p.is ∙ p.of_kind; near = s };
       type = p.type;
       is = p.is;
-      runs = header-runs word xs several p.type p.kind p.single p.of_kind (header-turned word xs item p.type told);
+      runs = header-runs word xs several p.type p.kind p.of_kind (header-turned word xs item p.type told);
       once = second_empty (over ++ head) (variables_once scopes xs) h;
     }

@@ -1,17 +1,19 @@
 -- What a test on a type tells where it breaks no rule: that it holds, and of a test on a kind which type it is; and which kinds
 -- types have for which tests hold.
-use Rattle.std.proofs.Common.{◌≡◌, ℕ, Bool, true, false, [], Option, Some, None, is_some, refl, sym, ap, subst}
+use Rattle.std.proofs.Common.{◌≡◌, inl, inr, ℕ, Bool, true, false, [], Option, Some, None, is_some, refl, sym, ap, ◌∙◌, subst}
 use Rattle.dpl_syntax.specs.declared.place.Place.{Place}
 use Rattle.dpl_syntax.specs.declared.refusal.Code.{Code}
 use Rattle.dpl_syntax.specs.declared.refusal.Code.TheVariants.{WrongType}
 use Rattle.dpl_language.specs.Tree.{Kind, IntKind, BoolKind}
-use Rattle.dpl_rules.specs.Types.{ValueType, Scalar, Range, Domain, Array, Promoted, Tuple, Locale, AllLocales, Cell, same_kind, domain_of, is_any_scalar, is_domain, is_scalar, is_ranked, is_domain_of}
+use Rattle.dpl_rules.specs.Types.{Over, ValueType, Scalar, Range, Domain, Array, Promoted, Tuple, Locale, AllLocales, Cell, same_kind, domain_of, is_any_scalar, is_domain, is_scalar, is_ranked, is_domain_of, agrees, fits_array}
 use Rattle.dpl_rules.specs.Verdicts.{owed, owed_type}
 use Rattle.dpl_words.specs.Words.{IntLeaf, TruthLeaf}
-use Rattle.dpl_memory.specs.Memory.{VariableKind, PlainKind, DomainKind}
+use Rattle.dpl_sound.proofs.Given.{both_so}
+use Rattle.dpl_memory.specs.Memory.{VariableKind, PlainKind, DomainKind, TupleKind, ArrayKind}
+use Rattle.dpl_typer.specs.Makers.{leaf_of}
 use Rattle.dpl_typer.specs.Leaves.{is_rank, value_kind}
 use Rattle.dpl_typer.proofs.OperatorKinds.{kind-same, kind_if-some}
-use Rattle.dpl_runnable.specs.Kinds.{IsScalarKind}
+use Rattle.dpl_runnable.specs.Kinds.{IsScalarKind, IsGivenTo}
 
 pub owed-holds : (b : Bool) (at : Place) (code : Code) → owed b at code ≡ [] → b ≡ true
 owed-holds true at code h = refl
@@ -71,3 +73,48 @@ ranked-some rank may_stride (Some d) h = refl
 
 pub is_domain_of-kind : (rank : ℕ) (may_stride : Bool) (t : ValueType) (k : VariableKind) → value_kind t ≡ Some k → is_domain_of rank may_stride t ≡ true → k ≡ DomainKind
 is_domain_of-kind rank may_stride t k e h = is_domain-kind t k e (ranked-some rank may_stride (domain_of t) h)
+
+-- ---- what is given
+-- of its own kind
+pub same-given : (k j : VariableKind) → j ≡ k → IsGivenTo k j
+same-given (PlainKind l) j e = e
+same-given DomainKind j e = e
+same-given TupleKind j e = e
+same-given (ArrayKind l) j e = inl e
+
+pub scalar-leaf : (l : Kind) → value_kind (Scalar l) ≡ Some (PlainKind (leaf_of l))
+scalar-leaf IntKind = refl
+scalar-leaf BoolKind = refl
+
+pub array-kind : (l : Kind) (over : Over) (k : VariableKind) → value_kind (Array l over) ≡ Some k → ArrayKind l ≡ k
+array-kind l over k e = (kind_if-some (is_rank over.rank) (ArrayKind l) k e).1
+
+-- what each element of an array may be given
+elements-given : (l : Kind) (over : Over) (t : ValueType) (j : VariableKind) → value_kind t ≡ Some j → fits_array l over t ≡ true → IsGivenTo (ArrayKind l) j
+elements-given l over (Scalar m) j e h =
+    let same = same_kind-is l m (both_so (same_kind l m) (agrees over None) h).0 in
+    inr (sym (kind-same (PlainKind (leaf_of m)) j (sym (scalar-leaf m) ∙ e)) ∙ ap (λ m. PlainKind (leaf_of m)) same)
+elements-given l over (Range strided) j e h = absurd cc
+elements-given l over (Domain rank strided) j e h = absurd cc
+elements-given l over (Array m other) j e h =
+    let same = same_kind-is l m (both_so (same_kind l m) (agrees over (Some other)) h).0 in
+    inl (sym (array-kind m other j e) ∙ ap ArrayKind same)
+elements-given l over (Promoted m other) j e h =
+    let same = same_kind-is l m (both_so (same_kind l m) (agrees over (Some other)) h).0 in
+    inl (sym (array-kind m other j e) ∙ ap ArrayKind same)
+elements-given l over (Tuple rank) j e h = absurd cc
+elements-given l over Locale j e h = absurd cc
+elements-given l over AllLocales j e h = absurd cc
+elements-given l over (Cell m) j e h = absurd cc
+
+-- to a variable of some type a value for which that type's test holds
+module _ (k : VariableKind) (t : ValueType) (j : VariableKind) (e : value_kind t ≡ Some j) where
+  pub is_scalar-given : (l : Kind) → value_kind (Scalar l) ≡ Some k → is_scalar l t ≡ true → IsGivenTo k j
+  is_scalar-given l of_kind h = same-given k j (kind-same j k (sym e ∙ ap value_kind (is_scalar-is l t h) ∙ of_kind))
+
+  pub is_domain_of-given : (rank : ℕ) (strided may_stride : Bool) → value_kind (Domain rank strided) ≡ Some k → is_domain_of rank may_stride t ≡ true → IsGivenTo k j
+  is_domain_of-given rank strided may_stride of_kind h =
+      same-given k j (is_domain_of-kind rank may_stride t j e h ∙ sym (is_domain-kind (Domain rank strided) k of_kind refl))
+
+  pub fits_array-given : (l : Kind) (over : Over) → value_kind (Array l over) ≡ Some k → fits_array l over t ≡ true → IsGivenTo k j
+  fits_array-given l over of_kind h = subst (λ k. IsGivenTo k j) (array-kind l over k of_kind) (elements-given l over t j e h)

@@ -1,7 +1,7 @@
 -- Arguments and conditions that a text spells, that need nothing which doesn't run and that break no rule: an argument is a
--- text, an int or a truth value, and a condition is a truth value.
-use Rattle.std.proofs.Common.{◌≡◌, true, false, List, [], ◌∷◌, ◌++◌, map, Option, Some, None, ap, ◌∙◌}
-use Rattle.dpl_language.specs.Tree.{Placed, AfterComma, Listed, BoolKind, ExprTree, One, ArgumentTree, TextArgument, ExprArgument}
+-- text, an int, a truth value or a whole array's name, and a condition is a truth value.
+use Rattle.std.proofs.Common.{◌≡◌, true, List, [], ◌∷◌, ◌++◌, map, Option, Some, None, refl, ap, ◌∙◌, subst}
+use Rattle.dpl_language.specs.Tree.{Placed, AfterComma, Listed, BoolKind, ExprTree, Number, TruthWord, Named, LocalesWord, LocaleCount, HereWord, Grouped, DomainLiteral, Prefixed, Reduced, Chain, Postfixed, One, ArgumentTree, TextArgument, ExprArgument}
 use Rattle.dpl_language.specs.Names.{Text}
 use Rattle.dpl_language.specs.Phrases.{bare_name}
 use Rattle.dpl_language.specs.Writing.{arguments_of}
@@ -15,24 +15,48 @@ use Rattle.dpl_rules.specs.Sights.{Scopes, Reducing}
 use Rattle.dpl_rules.specs.Expressions.{type_of, expr_breaches, side_part, side_breaches}
 use Rattle.dpl_rules.specs.Assignments.{is_printed, printed_breaches, condition_breaches}
 use Rattle.dpl_rules.proofs.Admission.{first_empty, second_empty}
-use Rattle.dpl_words.specs.Words.{TruthLeaf}
-use Rattle.dpl_memory.specs.Memory.{VariableKind, PlainKind}
-use Rattle.dpl_typer.specs.Makers.{is_promoted}
+use Rattle.dpl_words.specs.Words.{IntLeaf, TruthLeaf, RangeLeaf}
+use Rattle.dpl_memory.specs.Memory.{VariableKind, PlainKind, DomainKind, TupleKind, ArrayKind}
 use Rattle.dpl_typer.specs.Leaves.{value_kind, kind_by}
 use Rattle.dpl_nodes.specs.Faults.{IsNear}
 use Rattle.dpl_runnable.specs.Kinds.{AreVariables, IsScalarKind}
-use Rattle.dpl_runnable.specs.Runnable.{IsExprOf, IsRunnableArgument, AreRunnableArguments}
-use Rattle.dpl_runnable.proofs.Expressions.{variable-cases, first_open, second_open, runnable}
-use Rattle.dpl_runnable.proofs.Owed.{owed_type-holds, is_scalar-is, scalar-by, is_any_scalar-kind}
+use Rattle.dpl_runnable.specs.Runnable.{IsExprOf, IsShown, IsRunnableArgument, AreRunnableArguments}
+use Rattle.dpl_runnable.proofs.Expressions.{kind-cases, first_open, second_open, runnable}
+use Rattle.dpl_runnable.proofs.Owed.{owed_type-holds, is_scalar-is, scalar-by, is_any_scalar-kind, array-kind}
 use Rattle.dpl_runnable.proofs.Scopes.{side-item, runnable_side}
 use Rattle.dpl_runnable.proofs.Changes.{untasked}
 
--- what is printed and no array is an int or a truth value
-is_printed-kind : (o : Option (Placed Text)) (t : ValueType) (k : VariableKind) → is_promoted k ≡ false → value_kind t ≡ Some k → is_printed o t ≡ true → IsScalarKind k
-is_printed-kind None t k p e h = is_any_scalar-kind t k e h
-is_printed-kind (Some x) t k p e h =
-    variable-cases (λ t. value_kind t ≡ Some k → is_printed (Some x) t ≡ true → IsScalarKind k) (λ l e h. scalar-by IsScalarKind tt tt l k e) (λ s e h. absurd cc) (λ rank s r e h. absurd cc)
-    (λ rank r e h. absurd cc) t k p e e h
+-- ---- what is printed is an int, a truth value or a whole array's name
+scalar-shown : (k : VariableKind) (e : ExprTree Text) → IsScalarKind k → IsShown k e
+scalar-shown (PlainKind IntLeaf) e h = tt
+scalar-shown (PlainKind TruthLeaf) e h = tt
+scalar-shown (PlainKind RangeLeaf) e h = absurd h
+scalar-shown DomainKind e h = absurd h
+scalar-shown TupleKind e h = absurd h
+scalar-shown (ArrayKind l) e h = absurd h
+
+module _ (t : ValueType) (k : VariableKind) (of_kind : value_kind t ≡ Some k) where
+  named-shown : (x : Placed Text) → is_printed (Some x) t ≡ true → IsShown k (Named x)
+  named-shown x =
+      kind-cases (λ t. value_kind t ≡ Some k → is_printed (Some x) t ≡ true → IsShown k (Named x)) (λ l e h. scalar-by (λ k. IsShown k (Named x)) tt tt l k e) (λ s e h. absurd cc)
+      (λ rank s r e h. absurd cc) (λ l over r e h. subst (λ k. IsShown k (Named x)) (array-kind l over k e) (x, refl)) (λ l over r e h. absurd cc) (λ rank r e h. absurd cc) t k of_kind of_kind
+
+  other-shown : (e : ExprTree Text) → is_printed None t ≡ true → IsShown k e
+  other-shown e h = scalar-shown k e (is_any_scalar-kind t k of_kind h)
+
+  is_printed-shown : (e : ExprTree Text) → is_printed (bare_name e) t ≡ true → IsShown k e
+  is_printed-shown (Number at n) h = other-shown (Number at n) h
+  is_printed-shown (TruthWord at b) h = other-shown (TruthWord at b) h
+  is_printed-shown (Named x) h = named-shown x h
+  is_printed-shown (LocalesWord at) h = other-shown (LocalesWord at) h
+  is_printed-shown (LocaleCount at) h = other-shown (LocaleCount at) h
+  is_printed-shown (HereWord at) h = other-shown (HereWord at) h
+  is_printed-shown (Grouped from item upto) h = other-shown (Grouped from item upto) h
+  is_printed-shown (DomainLiteral from items upto) h = other-shown (DomainLiteral from items upto) h
+  is_printed-shown (Prefixed at op e) h = other-shown (Prefixed at op e) h
+  is_printed-shown (Reduced at op word e) h = other-shown (Reduced at op word e) h
+  is_printed-shown (Chain e rest) h = other-shown (Chain e rest) h
+  is_printed-shown (Postfixed e posts) h = other-shown (Postfixed e posts) h
 
 module _ (scopes : Scopes) (names : AreVariables scopes) (forall : Option Reducing) where
   -- ---- arguments
@@ -51,7 +75,7 @@ module _ (scopes : Scopes) (names : AreVariables scopes) (forall : Option Reduci
       record {
         kind = p.kind;
         expr = record { simple = value.simple; kind = ap kind_by p.is ∙ p.of_kind; near = s };
-        scalar = is_printed-kind (bare_name e) p.type p.kind p.single p.of_kind shown;
+        shown = is_printed-shown p.type p.kind p.of_kind e shown;
       }
 
   argument-rest : (a : ArgumentTree Text) (rest : List (ArgumentTree Text)) → printed_breaches (untasked scopes forall) (a ∷ rest) ≡ []

@@ -9,7 +9,7 @@ use Rattle.dpl_syntax.specs.declared.refusal.Code.TheVariants.{NameTwice, Consta
 use Rattle.dpl_language.specs.Tree.{Placed, Kind, IntKind, BoolKind, Op, Sum, Product, AllOf, AnyOf, BitAnd, BitOr, BitXor, Least, Greatest, ItemTree, IntentTree, ReduceIntent, RefIntent, WithTree, VariablesTree}
 use Rattle.dpl_language.specs.Names.{Text, paired}
 use Rattle.dpl_language.specs.Phrases.{parts, reduce_intents, intents_of}
-use Rattle.dpl_language.specs.Renamed.{renamed_intents}
+use Rattle.dpl_agreement.specs.Renamed.{renamed_intents}
 use Rattle.dpl_rules.specs.Types.{ValueType, Scalar, is_cell, has, is_scalar, op_kind}
 use Rattle.dpl_rules.specs.Verdicts.{breach, owed, owed_type}
 use Rattle.dpl_rules.specs.Sights.{LoopVariable, Declared, Scope, Scopes, lookup, type_declared, origin_in, is_constant, is_outside, reduces, enter, find, or_else, add}
@@ -26,22 +26,22 @@ use Rattle.dpl_memory.specs.Resolved.{text_of, KindCombines}
 use Rattle.dpl_typer.specs.Leaves.{value_kind, kind_by, kind_in, leaf_by, leaf_in}
 use Rattle.dpl_typer.specs.Sights.{bound_in}
 use Rattle.dpl_typer.proofs.OperatorKinds.{kind-same}
-use Rattle.dpl_runnable.specs.Kinds.{IsVariable, AreVariables, IsScalarKind}
+use Rattle.dpl_runnable.specs.Kinds.{IsNamed, AreVariables, IsScalarKind}
 use Rattle.dpl_runnable.specs.Runnable.{AreToldAlike, IsReduced, AreRunnableIntents, HasRunnableIntents}
-use Rattle.dpl_runnable.proofs.Expressions.{variable-cases}
+use Rattle.dpl_runnable.proofs.Expressions.{kind-cases}
 use Rattle.dpl_runnable.proofs.Owed.{is_scalar-is, owed_type-holds, scalar-by}
 
 -- ---- intents
 -- an operator's variable has the type of its values
-reduce_intent-type : (op : Op) (at : Place) (o : Option Declared) → ((d : Declared) → o ≡ Some d → IsVariable d.type) → reduce_intent op at o ≡ [] → type_declared o ≡ Some (Scalar (op_kind op))
+reduce_intent-type : (op : Op) (at : Place) (o : Option Declared) → ((d : Declared) → o ≡ Some d → IsNamed d.type) → reduce_intent op at o ≡ [] → type_declared o ≡ Some (Scalar (op_kind op))
 reduce_intent-type op at None names h = absurd cc
 reduce_intent-type op at (Some d) names h =
     let p = names d refl in
     let typed = λ (o : Option ValueType). if has is_cell o then breach at CellMisused else owed_type (is_scalar (op_kind op)) at o in
     let told = second_empty (owed (not (is_constant d.sort)) at ConstantWritten) (typed d.type) h in
     p.is ∙ ap Some
-    (variable-cases (λ t. typed (Some t) ≡ [] → t ≡ Scalar (op_kind op)) (λ l h. is_scalar-is (op_kind op) (Scalar l) (owed_type-holds (is_scalar (op_kind op)) at (Some (Scalar l)) (Scalar l) refl h)) (λ s h. absurd cc)
-    (λ rank s r h. absurd cc) (λ rank r h. absurd cc) p.type p.kind p.single p.of_kind (subst (λ o. typed o ≡ []) p.is told))
+    (kind-cases (λ t. typed (Some t) ≡ [] → t ≡ Scalar (op_kind op)) (λ l h. is_scalar-is (op_kind op) (Scalar l) (owed_type-holds (is_scalar (op_kind op)) at (Some (Scalar l)) (Scalar l) refl h)) (λ s h. absurd cc)
+    (λ rank s r h. absurd cc) (λ l over r h. absurd cc) (λ l over r h. absurd cc) (λ rank r h. absurd cc) p.type p.kind p.of_kind (subst (λ o. typed o ≡ []) p.is told))
 
 scalar-kind : (l : Kind) → (k : VariableKind) × (value_kind (Scalar l) ≡ Some k) × IsScalarKind k
 scalar-kind IntKind = (PlainKind IntLeaf, refl, tt)

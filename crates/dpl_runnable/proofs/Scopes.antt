@@ -1,5 +1,5 @@
--- Behind a declaration that needs nothing which doesn't run and that breaks no rule each name in sight has a type of a kind that
--- is no array's again; and so has each in a loop's body.
+-- Behind a declaration that needs nothing which doesn't run and that breaks no rule each name in sight has a type of some kind
+-- again; and so has each in a loop's body.
 use Rattle.std.proofs.Common.{◌≡◌, ℕ, ◌==◌, Bool, true, false, List, [], ◌∷◌, ◌++◌, Option, Some, None, refl, sym, ap, ◌∙◌, subst, arith}
 use Rattle.std.specs.Prelude.{nat_lt, nat_le, ◌&&◌, ◌||◌, bytes_eq, if◌then◌else◌}
 use Rattle.std.proofs.lemmas.Option.{none-some}
@@ -12,27 +12,29 @@ use Rattle.dpl_language.specs.Phrases.{ReadTree, item_read}
 use Rattle.dpl_language.specs.Declarations.{type_of as written_type}
 use Rattle.dpl_language.specs.Spelled.{SaysType}
 use Rattle.dpl_grammar.specs.Each.{IfThere}
-use Rattle.dpl_spelling.specs.Spelt.{ItemSpelt, InitSpelt, InitialSpelt, DeclareSpelt}
+use Rattle.dpl_spelling.specs.Spelt.{ItemSpelt, TypeSpelt, InitSpelt, TypedSpelt, InitialSpelt, DeclareSpelt}
 use Rattle.dpl_closed.specs.Closed.{in_optional, closed_item, closed_type, closed_typed, closed_init, closed_initial, closed_declare}
 use Rattle.dpl_syntax.specs.declared.refusal.Code.TheVariants.{WrongType, WrongRank}
-use Rattle.dpl_rules.specs.Types.{Origin, ValueType, Scalar, Domain, Tuple, an_int, cell_of}
+use Rattle.dpl_rules.specs.Types.{Origin, ValueType, Scalar, Range, Domain, Array, Promoted, Tuple, Locale, AllLocales, Cell, an_int, cell_of}
 use Rattle.dpl_rules.specs.Verdicts.{owed, owed_type, breach}
 use Rattle.dpl_rules.specs.Places.{first_of_item, first_of_variables}
 use Rattle.dpl_rules.specs.Sights.{Declared, LoopVariable, Scopes, find, or_else, lookup, type_declared, origin_in, add, enter}
 use Rattle.dpl_rules.specs.Expressions.{locales_or, none_where, item_type, item_breaches, cell_declared, read_or_type, read_or_breaches, kind_read, side_part, side_breaches}
 use Rattle.dpl_rules.specs.Maps.{mapped_breaches}
-use Rattle.dpl_rules.specs.Declarations.{type_rank, is_untyped, unless_refused, declared_type, type_breaches, init_part, untyped_breaches, typed_initial, config_breaches, written_breaches, type_given, declaration_breaches, declared_by}
+use Rattle.dpl_rules.specs.Declarations.{type_rank, is_kept, is_untyped, unless_refused, declared_type, type_breaches, init_part, untyped_breaches, typed_initial, config_breaches, written_breaches, type_given, declaration_breaches, declared_by}
 use Rattle.dpl_rules.specs.Loops.{LoopWord, ForWord, ForallWord, CoforallWord, over_domains, over_locales, runs_over, one_type, fits_variables, variable_type, typed_variable, header_of, over_type, over_breaches, variables_once, variables_of, add_variables, header_breaches, in_loop, behind}
 use Rattle.dpl_rules.specs.Breaches.{top}
 use Rattle.dpl_rules.proofs.Admission.{first_empty, second_empty}
 use Rattle.dpl_sound.proofs.Given.{some-same, both_so}
 use Rattle.dpl_words.specs.Words.{IntLeaf, TruthLeaf}
 use Rattle.dpl_memory.specs.Memory.{VariableKind, PlainKind, DomainKind, TupleKind}
-use Rattle.dpl_typer.specs.Makers.{is_promoted, kind_if}
+use Rattle.dpl_typer.specs.Makers.{kind_if}
 use Rattle.dpl_typer.specs.Leaves.{is_rank, is_tuple_rank, value_kind}
-use Rattle.dpl_runnable.specs.Kinds.{IsVariable, AreVariables}
-use Rattle.dpl_runnable.proofs.Owed.{owed-holds}
-use Rattle.dpl_runnable.proofs.Expressions.{variable-cases, first_open, second_open, not_bare, RunnableItem, runnable_item}
+use Rattle.dpl_typer.specs.Sights.{is_promoted_type}
+use Rattle.dpl_runnable.specs.Kinds.{IsVariable, IsNamed, AreVariables}
+use Rattle.dpl_runnable.proofs.Arrays.{array_type-named}
+use Rattle.dpl_runnable.proofs.Owed.{owed-holds, owed_type-holds}
+use Rattle.dpl_runnable.proofs.Expressions.{kind-cases, first_open, second_open, not_bare, RunnableItem, runnable_item}
 
 -- ---- scopes
 pub top-variables : AreVariables top
@@ -41,22 +43,34 @@ top-variables x d h = absurd (none-some d h)
 pub enter-variables : (scopes : Scopes) → AreVariables scopes → AreVariables (enter scopes)
 enter-variables scopes names x d h = names x d h
 
-found-variable : (b : Bool) (d : Declared) (o p : Option Declared) → IsVariable d.type → ((c : Declared) → or_else o p ≡ Some c → IsVariable c.type)
-    → (c : Declared) → or_else (if b then Some d else o) p ≡ Some c → IsVariable c.type
-found-variable true d o p variable others c h = subst (λ (c : Declared). IsVariable c.type) (some-same d c h) variable
+found-variable : (b : Bool) (d : Declared) (o p : Option Declared) → IsNamed d.type → ((c : Declared) → or_else o p ≡ Some c → IsNamed c.type)
+    → (c : Declared) → or_else (if b then Some d else o) p ≡ Some c → IsNamed c.type
+found-variable true d o p variable others c h = subst (λ (c : Declared). IsNamed c.type) (some-same d c h) variable
 found-variable false d o p variable others c h = others c h
 
-pub add-variables : (scopes : Scopes) (d : Declared) → AreVariables scopes → IsVariable d.type → AreVariables (add d scopes)
+pub add-variables : (scopes : Scopes) (d : Declared) → AreVariables scopes → IsNamed d.type → AreVariables (add d scopes)
 add-variables [] d names variable x c h = found-variable (bytes_eq x d.origin.name) d None None variable (λ c e. names x c e) c h
 add-variables (s ∷ ss) d names variable x c h = found-variable (bytes_eq x d.origin.name) d (find s x) (lookup ss x) variable (names x) c h
 
 -- ---- types
-scalar-variable : (k : Kind) → IsVariable (Some (Scalar k))
-scalar-variable IntKind = record { kind = PlainKind IntLeaf; single = refl; type = _; is = refl; of_kind = refl }
-scalar-variable BoolKind = record { kind = PlainKind TruthLeaf; single = refl; type = _; is = refl; of_kind = refl }
+scalar-variable : (k : Kind) → IsNamed (Some (Scalar k))
+scalar-variable IntKind = record { kind = PlainKind IntLeaf; type = _; is = refl; of_kind = refl; single = refl }
+scalar-variable BoolKind = record { kind = PlainKind TruthLeaf; type = _; is = refl; of_kind = refl; single = refl }
 
-domain-variable : (rank : ℕ) (strided : Bool) → is_rank rank ≡ true → IsVariable (Some (Domain rank strided))
-domain-variable rank strided r = record { kind = DomainKind; single = refl; type = _; is = refl; of_kind = ap (λ b. kind_if b DomainKind) r }
+domain-variable : (rank : ℕ) (strided : Bool) → is_rank rank ≡ true → IsNamed (Some (Domain rank strided))
+domain-variable rank strided r = record { kind = DomainKind; type = _; is = refl; of_kind = ap (λ b. kind_if b DomainKind) r; single = refl }
+
+-- a name without a type is given nothing promoted
+is_kept-single : (t : ValueType) → is_kept t ≡ true → is_promoted_type t ≡ false
+is_kept-single (Scalar k) h = refl
+is_kept-single (Range strided) h = refl
+is_kept-single (Domain rank strided) h = refl
+is_kept-single (Array k over) h = refl
+is_kept-single (Promoted k over) h = absurd cc
+is_kept-single (Tuple rank) h = refl
+is_kept-single Locale h = refl
+is_kept-single AllLocales h = refl
+is_kept-single (Cell k) h = refl
 
 -- the ranks that a domain's type may have
 pub one_to_three : (rank : ℕ) → (nat_le 1 rank && nat_le rank 3) ≡ true → is_rank rank ≡ true
@@ -95,26 +109,27 @@ two_or_three rank r e =
     let two : nat_lt 1 rank ≡ true = grind (arith, nat_tests, some, e) in
     ap (λ b. b && nat_lt rank 4) two ∙ both.1
 
-tuple-variable : (rank : ℕ) → is_rank rank ≡ true → (b : Bool) → (rank == 1) ≡ b → IsVariable (Some (if b then an_int else Tuple rank))
+tuple-variable : (rank : ℕ) → is_rank rank ≡ true → (b : Bool) → (rank == 1) ≡ b → IsNamed (Some (if b then an_int else Tuple rank))
 tuple-variable rank r true e = scalar-variable IntKind
-tuple-variable rank r false e = record { kind = TupleKind; single = refl; type = _; is = refl; of_kind = ap (λ b. kind_if b TupleKind) (two_or_three rank r e) }
+tuple-variable rank r false e = record { kind = TupleKind; type = _; is = refl; of_kind = ap (λ b. kind_if b TupleKind) (two_or_three rank r e); single = refl }
 
-one_type-variable : (word : LoopWord) (t : ValueType) (k : VariableKind) → is_promoted k ≡ false → value_kind t ≡ Some k → runs_over word t ≡ true → IsVariable (Some (one_type t))
+one_type-variable : (word : LoopWord) (t : ValueType) (k : VariableKind) → value_kind t ≡ Some k → runs_over word t ≡ true → IsNamed (Some (one_type t))
 one_type-variable word =
-    variable-cases (λ t. runs_over word t ≡ true → IsVariable (Some (one_type t))) (λ l h. absurd (runs_over-nothing word h)) (λ s h. scalar-variable IntKind)
-    (λ rank s r h. tuple-variable rank r (rank == 1) refl) (λ rank r h. absurd (runs_over-nothing word h))
+    kind-cases (λ t. runs_over word t ≡ true → IsNamed (Some (one_type t))) (λ l h. absurd (runs_over-nothing word h)) (λ s h. scalar-variable IntKind)
+    (λ rank s r h. tuple-variable rank r (rank == 1) refl) (λ l over r h. absurd (runs_over-nothing word h)) (λ l over r h. absurd (runs_over-nothing word h))
+    (λ rank r h. absurd (runs_over-nothing word h))
 
-variable_type-variable : (word : LoopWord) (xs : VariablesTree Text) (t : ValueType) (k : VariableKind) → is_promoted k ≡ false → value_kind t ≡ Some k → IsTurned word xs t → IsVariable (variable_type xs t)
-variable_type-variable word (OneVariable x) t k p e h = one_type-variable word t k p e h.runs
-variable_type-variable word (ManyVariables from xs upto) t k p e h = subst (λ b. IsVariable (if b then Some an_int else None)) (sym h.fits) (scalar-variable IntKind)
+variable_type-variable : (word : LoopWord) (xs : VariablesTree Text) (t : ValueType) (k : VariableKind) → value_kind t ≡ Some k → IsTurned word xs t → IsNamed (variable_type xs t)
+variable_type-variable word (OneVariable x) t k e h = one_type-variable word t k e h.runs
+variable_type-variable word (ManyVariables from xs upto) t k e h = subst (λ b. IsNamed (if b then Some an_int else None)) (sym h.fits) (scalar-variable IntKind)
 
-typed_variable-variable : (word : LoopWord) (xs : VariablesTree Text) (item : ItemTree Text) (o : Option ValueType) → IsVariable o → header_of word xs item o ≡ [] → IsVariable (typed_variable word xs o)
+typed_variable-variable : (word : LoopWord) (xs : VariablesTree Text) (item : ItemTree Text) (o : Option ValueType) → IsVariable o → header_of word xs item o ≡ [] → IsNamed (typed_variable word xs o)
 typed_variable-variable word xs item o p h =
     let told = header-turned word xs item p.type (subst (λ o. header_of word xs item o ≡ []) p.is h) in
-    subst (λ o. IsVariable (typed_variable word xs o)) (sym p.is)
-    (subst (λ b. IsVariable (if b then variable_type xs p.type else None)) (sym told.runs) (variable_type-variable word xs p.type p.kind p.single p.of_kind told))
+    subst (λ o. IsNamed (typed_variable word xs o)) (sym p.is)
+    (subst (λ b. IsNamed (if b then variable_type xs p.type else None)) (sym told.runs) (variable_type-variable word xs p.type p.kind p.of_kind told))
 
-add_variables-variables : (o : Option ValueType) → IsVariable o → (xs : List (Placed Text)) (scopes : Scopes) → AreVariables scopes → AreVariables (add_variables o xs scopes)
+add_variables-variables : (o : Option ValueType) → IsNamed o → (xs : List (Placed Text)) (scopes : Scopes) → AreVariables scopes → AreVariables (add_variables o xs scopes)
 add_variables-variables o p [] scopes names = names
 add_variables-variables o p (x ∷ xs) scopes names =
     let d : Declared = record { origin = origin_in scopes x.name; sort = LoopVariable; type = o } in
@@ -122,11 +137,11 @@ add_variables-variables o p (x ∷ xs) scopes names =
 
 module _ (scopes : Scopes) (P : Place → Type 0) (names : AreVariables scopes) where
   -- ---- right sides: no name is a cell's, so that none is read as one
-  no_cell : (o : Option Declared) → ((d : Declared) → o ≡ Some d → IsVariable d.type) → cell_declared (type_declared o) ≡ None
+  no_cell : (o : Option Declared) → ((d : Declared) → o ≡ Some d → IsNamed d.type) → cell_declared (type_declared o) ≡ None
   no_cell None h = refl
   no_cell (Some d) h =
       let p = h d refl in
-      ap cell_declared p.is ∙ variable-cases (λ t. cell_of t ≡ None) (λ l. refl) (λ s. refl) (λ rank s r. refl) (λ rank r. refl) p.type p.kind p.single p.of_kind
+      ap cell_declared p.is ∙ kind-cases (λ t. cell_of t ≡ None) (λ l. refl) (λ s. refl) (λ rank s r. refl) (λ l over r. refl) (λ l over r. refl) (λ rank r. refl) p.type p.kind p.of_kind
 
   unread : (o : Option (ReadTree Text)) → kind_read scopes o ≡ None
   unread None = refl
@@ -142,12 +157,14 @@ module _ (scopes : Scopes) (P : Place → Type 0) (names : AreVariables scopes) 
   side-variable item s c h = subst IsVariable (sym (side-item item)) (runnable_side item s c h).variable
 
   -- ---- declarations
-  init-variable : (init : InitTree Text) → InitSpelt P init → closed_init init ≡ None → untyped_breaches scopes init ≡ [] → IsVariable (init_part scopes init).type
+  init-variable : (init : InitTree Text) → InitSpelt P init → closed_init init ≡ None → untyped_breaches scopes init ≡ [] → IsNamed (init_part scopes init).type
   init-variable (ItemInit item None) s c h =
       let side = side_breaches scopes item in
       let kept = owed_type (is_untyped None) (first_of_item item) (side_part scopes item).type in
-      side-variable item s.0 (first_open (closed_item item) None c)
-      (first_empty side kept (first_empty (side ++ kept) (mapped_breaches scopes (type_rank (side_part scopes item).type) None) h))
+      let front = first_empty (side ++ kept) (mapped_breaches scopes (type_rank (side_part scopes item).type) None) h in
+      let p = side-variable item s.0 (first_open (closed_item item) None c) (first_empty side kept front) in
+      let told = owed_type-holds (is_untyped None) (first_of_item item) (side_part scopes item).type p.type p.is (second_empty side kept front) in
+      record { kind = p.kind; type = p.type; is = p.is; of_kind = p.of_kind; single = is_kept-single p.type told }
   init-variable (ItemInit item (Some m)) s c h = let no : Some m.at ≡ None = second_open (closed_item item) (Some m.at) c in absurd cc
   init-variable (CreateInit m) s c h = absurd cc
 
@@ -157,29 +174,29 @@ module _ (scopes : Scopes) (P : Place → Type 0) (names : AreVariables scopes) 
       let ranked = nat_le 1 d.rank && nat_le d.rank 3 in
       owed-holds ranked d.rank_at WrongRank (first_empty (owed ranked d.rank_at WrongRank) (mapped_breaches scopes (Some d.rank) d.mapped) h)
 
-  type-variable : (self : Origin) (t : TypeTree Text) → closed_type t ≡ None → type_breaches scopes t ≡ [] → IsVariable (declared_type scopes self t)
-  type-variable self (ScalarType at k) c h = scalar-variable k
-  type-variable self (SyncType at kind_at k) c h = absurd cc
-  type-variable self (DomainType d) c h = domain-variable d.rank false (one_to_three d.rank (domain_type-rank d h))
-  type-variable self (ArrayType a) c h = absurd cc
+  type-variable : (self : Origin) (t : TypeTree Text) → TypeSpelt P t → closed_type t ≡ None → type_breaches scopes t ≡ [] → IsNamed (declared_type scopes self t)
+  type-variable self (ScalarType at k) s c h = scalar-variable k
+  type-variable self (SyncType at kind_at k) s c h = absurd cc
+  type-variable self (DomainType d) s c h = domain-variable d.rank false (one_to_three d.rank (domain_type-rank d h))
+  type-variable self (ArrayType a) s c h = array_type-named scopes P names self a s.1 c h
 
-  given-variable : (self : Origin) (w : Option (TypedTree Text)) (i : Option (InitialTree Text)) → SaysType w i → IfThere (InitialSpelt P) i
-      → in_optional closed_typed w ≡ None → in_optional closed_initial i ≡ None → written_breaches scopes self (written_type w) i ≡ [] → IsVariable (type_given scopes self (written_type w) i)
-  given-variable self None None says s v c h = elim says [ ]
-  given-variable self None (Some i) says s v c h = init-variable i.init s.1 c h
-  given-variable self (Some t) i says s v c h = type-variable self t.type v (first_empty (type_breaches scopes t.type) (typed_initial scopes (declared_type scopes self t.type) i) h)
+  given-variable : (self : Origin) (w : Option (TypedTree Text)) (i : Option (InitialTree Text)) → SaysType w i → IfThere (TypedSpelt P) w → IfThere (InitialSpelt P) i
+      → in_optional closed_typed w ≡ None → in_optional closed_initial i ≡ None → written_breaches scopes self (written_type w) i ≡ [] → IsNamed (type_given scopes self (written_type w) i)
+  given-variable self None None says r s v c h = elim says [ ]
+  given-variable self None (Some i) says r s v c h = init-variable i.init s.1 c h
+  given-variable self (Some t) i says r s v c h = type-variable self t.type r.1 v (first_empty (type_breaches scopes t.type) (typed_initial scopes (declared_type scopes self t.type) i) h)
 
-  unrefused-variable : (bs : List Breach) (o : Option ValueType) → bs ≡ [] → IsVariable o → IsVariable (unless_refused bs o)
+  unrefused-variable : (bs : List Breach) (o : Option ValueType) → bs ≡ [] → IsNamed o → IsNamed (unless_refused bs o)
   unrefused-variable [] o h p = p
   unrefused-variable (b ∷ bs) o h p = absurd cc
 
   -- what is declared has a type of such a kind
-  pub declared_by-variable : (d : DeclareTree Text) → DeclareSpelt P d → closed_declare d ≡ None → declaration_breaches scopes d ≡ [] → IsVariable (declared_by scopes d).type
+  pub declared_by-variable : (d : DeclareTree Text) → DeclareSpelt P d → closed_declare d ≡ None → declaration_breaches scopes d ≡ [] → IsNamed (declared_by scopes d).type
   declared_by-variable d s c h =
       let self = origin_in scopes d.name.name in
       let written = written_breaches scopes self (written_type d.typed) d.initial in
       unrefused-variable (declaration_breaches scopes d) (type_given scopes self (written_type d.typed) d.initial) h
-      (given-variable self d.typed d.initial s.0 s.5 (first_open (in_optional closed_typed d.typed) (in_optional closed_initial d.initial) c)
+      (given-variable self d.typed d.initial s.0 s.4 s.5 (first_open (in_optional closed_typed d.typed) (in_optional closed_initial d.initial) c)
       (second_open (in_optional closed_typed d.typed) (in_optional closed_initial d.initial) c) (second_empty _ written (first_empty _ (config_breaches scopes d.config d) h)))
 
   pub declaration-variables : (d : DeclareTree Text) → DeclareSpelt P d → closed_declare d ≡ None → declaration_breaches scopes d ≡ [] → AreVariables (behind scopes (Declare d))

@@ -1,10 +1,10 @@
 -- A statement that a text spells, that needs nothing which doesn't run and that breaks no rule is runnable, where each name in
--- sight has a type of a kind that is no array's; and so is a program.
+-- sight has a type of some kind; and so is a program.
 use Rattle.std.proofs.Common.{◌≡◌, false, [], ◌++◌, Option, Some, None, refl}
 use Rattle.dpl_language.specs.Tree.{Whole, Element, StmtTree, Nothing, Declare, Assigned, Call, Write, Block, If, While, For, Forall, Coforall, On, Body, WordBody, BlockBody, Stmts, NoStmts, Then, Else, NoElse, ElseDo}
 use Rattle.dpl_language.specs.Names.{Text}
 use Rattle.dpl_spelling.specs.Spelt.{StmtSpelt, BodySpelt, StmtsSpelt, ElseSpelt}
-use Rattle.dpl_closed.specs.Closed.{closed_expr, closed_item, closed_stmt, closed_body, closed_stmts, closed_else}
+use Rattle.dpl_closed.specs.Closed.{closed_expr, closed_item, closed_exprs, closed_stmt, closed_body, closed_stmts, closed_else}
 use Rattle.dpl_rules.specs.Sights.{Scopes, enter}
 use Rattle.dpl_rules.specs.Assignments.{assignment_breaches, condition_breaches}
 use Rattle.dpl_rules.specs.Loops.{ForWord, ForallWord, header_breaches, with_breaches, behind, in_loop}
@@ -19,7 +19,7 @@ use Rattle.dpl_runnable.specs.Written.{IsWrittenStmt, IsWrittenBody, AreWrittenS
 use Rattle.dpl_runnable.proofs.Expressions.{first_open, second_open}
 use Rattle.dpl_runnable.proofs.Scopes.{top-variables, in_loop-variables}
 use Rattle.dpl_runnable.proofs.Declared.{runnable_declare}
-use Rattle.dpl_runnable.proofs.Changes.{element-refuted, call-refuted, runnable_change}
+use Rattle.dpl_runnable.proofs.Changes.{runnable_element, call-refuted, runnable_change}
 use Rattle.dpl_runnable.proofs.Printed.{runnable_arguments, runnable_condition}
 use Rattle.dpl_runnable.proofs.Loops.{runnable_header}
 use Rattle.dpl_runnable.proofs.Reduced.{runnable_intents, inside-outer, inside-loop}
@@ -36,9 +36,12 @@ mutual
     s.1.0,
     s.0,
   )
-  runnable_stmt (Assigned (Element x shape from es upto) sign item semicolon) f ss stands s w c h m =
-      element-refuted ss stands.names (forall_by f) x shape from es upto sign item
-      (first_empty (assignment_breaches (sight_by f ss) (Element x shape from es upto) sign item) (promoted_breaches ss (Element x shape from es upto) item) h)
+  runnable_stmt (Assigned (Element x shape from es upto) sign item semicolon) f ss stands s w c h m = (
+    runnable_element ss stands.names (forall_by f) x shape from es upto sign item s.0.2 s.2 (first_open (closed_exprs es) (closed_item item) c) (second_open (closed_exprs es) (closed_item item) c)
+        (first_empty (assignment_breaches (sight_by f ss) (Element x shape from es upto) sign item) (promoted_breaches ss (Element x shape from es upto) item) h),
+    s.1.0,
+    s.0.0,
+  )
   runnable_stmt (Call x dot call semicolon) f ss stands s w c h m = call-refuted ss stands.names (forall_by f) x call h
   runnable_stmt (Write t) f ss stands s w c h m = runnable_arguments ss stands.names (forall_by f) t.arguments s.2 c h
   runnable_stmt (Block from ts upto) f ss stands s w c h m = runnable_stmts ts f (enter ss) (enter-stands f ss stands) s.1 w c h m

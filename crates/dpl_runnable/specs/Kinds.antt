@@ -1,27 +1,35 @@
--- The kinds of names: ints, truth values, ranges, domains, and the tuple names of loops.
+-- The kinds of names: ints, truth values, ranges, domains, the tuple names of loops, and arrays.
 -- In a program that runs and breaks no rule each name in sight has one.
-use Rattle.std.specs.Prelude.{◌≡◌, false, Option, Some}
+use Rattle.std.specs.Prelude.{◌≡◌, ◌⊎◌, false, Option, Some}
 use Rattle.dpl_language.specs.Names.{Text}
 use Rattle.dpl_rules.specs.Types.{ValueType}
 use Rattle.dpl_rules.specs.Sights.{Declared, Scopes, lookup}
 use Rattle.dpl_words.specs.Words.{IntLeaf, TruthLeaf, RangeLeaf}
 use Rattle.dpl_memory.specs.Memory.{VariableKind, PlainKind, DomainKind, TupleKind, ArrayKind}
-use Rattle.dpl_typer.specs.Makers.{is_promoted}
+use Rattle.dpl_typer.specs.Makers.{leaf_of}
 use Rattle.dpl_typer.specs.Leaves.{value_kind}
+use Rattle.dpl_typer.specs.Sights.{is_promoted_type}
 
--- there is a type, and it has a kind that is no array's
+-- there is a type, and it has a kind
 pub record IsVariable (o : Option ValueType) : Type 0 where
   pub kind : VariableKind
-  pub single : is_promoted kind ≡ false
   pub type : ValueType
   pub is : o ≡ Some type
   pub of_kind : value_kind type ≡ Some kind
 
+-- a name's type, which is none of promoted expressions, and its kind
+pub record IsNamed (o : Option ValueType) : Type 0 where
+  pub kind : VariableKind
+  pub type : ValueType
+  pub is : o ≡ Some type
+  pub of_kind : value_kind type ≡ Some kind
+  pub single : is_promoted_type type ≡ false
+
 -- each name in sight has such a type
 abbrev pub AreVariables : Scopes → Type 0
-AreVariables scopes = (x : Text) (d : Declared) → lookup scopes x ≡ Some d → IsVariable d.type
+AreVariables scopes = (x : Text) (d : Declared) → lookup scopes x ≡ Some d → IsNamed d.type
 
--- an int or a truth value: what `config const` gives, `write` prints and a forall reduces
+-- an int or a truth value: what `config const` gives, and a forall reduces
 abbrev pub IsScalarKind : VariableKind → Type 0
 IsScalarKind (PlainKind IntLeaf) = Unit {0}
 IsScalarKind (PlainKind TruthLeaf) = Unit {0}
@@ -30,18 +38,25 @@ IsScalarKind DomainKind = ⊥
 IsScalarKind TupleKind = ⊥
 IsScalarKind (ArrayKind k) = ⊥
 
--- what a declaration gives a name: all but tuples, which loops alone have, and arrays
+-- what a declaration gives a name: all but tuples, which loops alone have
 abbrev pub IsDeclaredKind : VariableKind → Type 0
 IsDeclaredKind (PlainKind k) = Unit {0}
 IsDeclaredKind DomainKind = Unit {0}
 IsDeclaredKind TupleKind = ⊥
-IsDeclaredKind (ArrayKind k) = ⊥
+IsDeclaredKind (ArrayKind k) = Unit {0}
 
--- what is assigned: ints, truth values and domains
+-- what is assigned: ints, truth values, domains and whole arrays
 abbrev pub IsAssignedKind : VariableKind → Type 0
 IsAssignedKind (PlainKind IntLeaf) = Unit {0}
 IsAssignedKind (PlainKind TruthLeaf) = Unit {0}
 IsAssignedKind (PlainKind RangeLeaf) = ⊥
 IsAssignedKind DomainKind = Unit {0}
 IsAssignedKind TupleKind = ⊥
-IsAssignedKind (ArrayKind k) = ⊥
+IsAssignedKind (ArrayKind k) = Unit {0}
+
+-- a name of the first kind is given a value of the second: one of its own, and a whole array also one that each element may be
+abbrev pub IsGivenTo : VariableKind → VariableKind → Type 0
+IsGivenTo (PlainKind l) k = k ≡ PlainKind l
+IsGivenTo DomainKind k = k ≡ DomainKind
+IsGivenTo TupleKind k = k ≡ TupleKind
+IsGivenTo (ArrayKind l) k = (k ≡ ArrayKind l) ⊎ (k ≡ PlainKind (leaf_of l))

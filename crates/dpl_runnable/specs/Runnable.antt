@@ -1,30 +1,32 @@
 -- Programs that run: what each statement is where these scopes are open, with the kinds of its parts told.
 -- Inside a forall its reduce variables are known, with their slots; `is` has them.
-use Rattle.std.specs.Prelude.{◌≡◌, ℕ, nat_le, true, false, ◌&&◌, List, [], ◌∷◌, Option, Some, None}
+use Rattle.std.specs.Prelude.{◌≡◌, ◌≢◌, ℕ, nat_le, true, false, ◌&&◌, List, [], ◌∷◌, Option, Some, None}
 use Rattle.dpl_syntax.specs.declared.place.Place.{Place}
-use Rattle.dpl_language.specs.Tree.{Op, Assign, Set, SetAdd, SetSubtract, SetMultiply, SetDivide, SetRemainder, SetReduce, ExprTree, ItemTree, TypeTree, ScalarType, SyncType, DomainType, ArrayType, InitTree, ItemInit, CreateInit, InitialTree, DeclareTree}
+use Rattle.dpl_language.specs.Tree.{Op, Assign, Set, SetAdd, SetSubtract, SetMultiply, SetDivide, SetRemainder, SetReduce, Placed, Kind, ExprTree, Named, Exprs, ItemTree, TypeTree, ScalarType, SyncType, DomainType, ArrayType, InitTree, ItemInit, CreateInit, InitialTree, DeclareTree}
 use Rattle.dpl_language.specs.Tree.{ArgumentTree, TextArgument, ExprArgument, IntentTree, ReduceIntent, RefIntent, WithTree, VariablesTree, OneVariable, ManyVariables, Whole, Element, StmtTree, Nothing, Declare, Assigned, Call, Write, Block, If, While, For, Forall, Coforall, On, Body, WordBody, BlockBody, Stmts, NoStmts, Then, Else, NoElse, ElseDo}
 use Rattle.dpl_language.specs.Names.{Text, paired}
 use Rattle.dpl_language.specs.Phrases.{parts, intents_of}
 use Rattle.dpl_language.specs.Declarations.{type_of as written_type}
-use Rattle.dpl_language.specs.Renamed.{renamed_intents}
+use Rattle.dpl_agreement.specs.Renamed.{renamed_intents}
 use Rattle.dpl_language.specs.Writing.{arguments_of}
 use Rattle.dpl_rules.specs.Types.{ValueType, Scalar, Range, Domain, Array, Promoted, Tuple, Locale, AllLocales, Cell}
 use Rattle.dpl_rules.specs.Sights.{Scopes, declared_here, enter}
-use Rattle.dpl_rules.specs.Expressions.{type_of, item_type}
+use Rattle.dpl_rules.specs.Expressions.{type_of, item_type, expr_parts}
 use Rattle.dpl_rules.specs.Declarations.{declared_by}
 use Rattle.dpl_rules.specs.Loops.{ForWord, ForallWord, fits_variables, variables_once, in_loop, behind}
 use Rattle.dpl_scopes.specs.Slots.{slot_in}
-use Rattle.dpl_words.specs.Words.{TruthLeaf}
-use Rattle.dpl_memory.specs.Memory.{VariableKind, PlainKind, DomainKind}
+use Rattle.dpl_words.specs.Words.{IntLeaf, TruthLeaf, RangeLeaf}
+use Rattle.dpl_memory.specs.Memory.{VariableKind, PlainKind, DomainKind, TupleKind, ArrayKind}
 use Rattle.dpl_memory.specs.Resolved.{Bound, text_of, kind_takes, KindCombines}
-use Rattle.dpl_spelling.specs.Spelt.{ExprSpelt, ItemSpelt}
+use Rattle.dpl_spelling.specs.Spelt.{ExprSpelt, ItemSpelt, ItemsSpelt, ExprsSpelt}
 use Rattle.dpl_nodes.specs.Faults.{IsNear}
 use Rattle.dpl_typer.specs.Leaves.{value_kind, kind_by, type_in, kind_in, MayBePlain}
 use Rattle.dpl_typer.specs.Shapes.{IsTaken}
-use Rattle.dpl_typer.specs.Simple.{IsSimple, IsSimpleItem}
+use Rattle.dpl_typer.specs.Simple.{IsSimple, IsSimpleItem, AreSimpleItems, AreSimpleExprs}
 use Rattle.dpl_typer.specs.Sights.{bound_in}
-use Rattle.dpl_runnable.specs.Kinds.{IsScalarKind, IsDeclaredKind, IsAssignedKind}
+use Rattle.dpl_typer.specs.Makers.{leaf_of}
+use Rattle.dpl_typer.specs.Elaborated.{IsNoIndex}
+use Rattle.dpl_runnable.specs.Kinds.{IsScalarKind, IsDeclaredKind, IsAssignedKind, IsGivenTo}
 
 -- EXPRESSIONS of a kind, whose places a fault's word has room for
 pub record IsExprOf (ss : Scopes) (e : ExprTree Text) (k : VariableKind) : Type 0 where
@@ -37,29 +39,30 @@ pub record IsItemOf (ss : Scopes) (i : ItemTree Text) (k : VariableKind) : Type 
   pub kind : kind_by (item_type ss i) ≡ Some k
   pub near : ItemSpelt IsNear i
 
--- DECLARATIONS: `int`, `bool`, `domain` of a rank without a map, or no type; and a value without a map, or the type's default
-abbrev pub IsRunnableType : Option (TypeTree Text) → Type 0
-IsRunnableType None = Unit {0}
-IsRunnableType (Some (ScalarType at k)) = Unit {0}
-IsRunnableType (Some (SyncType at kind_at k)) = ⊥
-IsRunnableType (Some (DomainType d)) = (d.mapped ≡ None) × ((nat_le 1 d.rank && nat_le d.rank 3) ≡ true)
-IsRunnableType (Some (ArrayType a)) = ⊥
+-- DECLARATIONS: `int`, `bool`, `domain` of a rank without a map, an array, or no type; and a value without a map, or the type's default
+abbrev pub IsRunnableType : Scopes → Option (TypeTree Text) → Type 0
+IsRunnableType ss None = Unit {0}
+IsRunnableType ss (Some (ScalarType at k)) = Unit {0}
+IsRunnableType ss (Some (SyncType at kind_at k)) = ⊥
+IsRunnableType ss (Some (DomainType d)) = (d.mapped ≡ None) × ((nat_le 1 d.rank && nat_le d.rank 3) ≡ true)
+IsRunnableType ss (Some (ArrayType a)) = AreSimpleItems (MayBePlain ss) a.over × ItemsSpelt IsNear a.over × IsNear a.from
 
 abbrev pub IsDefaultOf : Option (TypeTree Text) → VariableKind → Type 0
 IsDefaultOf None k = ⊥
 IsDefaultOf (Some (ScalarType at l)) k = value_kind (Scalar l) ≡ Some k
 IsDefaultOf (Some (SyncType at kind_at l)) k = ⊥
 IsDefaultOf (Some (DomainType d)) k = k ≡ DomainKind
-IsDefaultOf (Some (ArrayType a)) k = ⊥
+IsDefaultOf (Some (ArrayType a)) k = k ≡ ArrayKind a.kind
 
+-- a value of the name's kind, or of what an array's elements may be
 abbrev pub IsInitOf : Scopes → InitTree Text → VariableKind → Type 0
-IsInitOf ss (ItemInit i None) k = IsItemOf ss i k
+IsInitOf ss (ItemInit i None) k = (j : VariableKind) × IsItemOf ss i j × IsGivenTo k j
 IsInitOf ss (ItemInit i (Some m)) k = ⊥
 IsInitOf ss (CreateInit c) k = ⊥
 
 abbrev pub IsInitialOf : Scopes → Option (TypeTree Text) → Option (InitialTree Text) → VariableKind → Type 0
 IsInitialOf ss t None k = IsDefaultOf t k
-IsInitialOf ss t (Some i) k = IsInitOf ss i.init k
+IsInitialOf ss t (Some i) k = IsInitOf ss i.init k × IsNear i.equals
 
 -- a written value is of the shape that the declared type takes: a domain of its rank, strided only where it may be
 abbrev pub IsShapedInit : Scopes → InitTree Text → ValueType → Type 0
@@ -77,7 +80,8 @@ IsConfigOf (Some config) k = IsScalarKind k
 
 -- the name is new in its scope, and has a value of its type's kind
 pub record IsRunnableDeclare (ss : Scopes) (d : DeclareTree Text) : Type 0 where
-  pub type : IsRunnableType (written_type d.typed)
+  pub type : IsRunnableType ss (written_type d.typed)
+  pub near : IsNear d.name.at
   pub kind : VariableKind
   pub initial : IsInitialOf ss (written_type d.typed) d.initial kind
   pub declared : kind_by (declared_by ss d).type ≡ Some kind
@@ -102,23 +106,45 @@ IsReducedBy ss is x SetSubtract k = Unit {0}
 IsReducedBy ss is x SetMultiply k = Unit {0}
 IsReducedBy ss is x SetDivide k = Unit {0}
 IsReducedBy ss is x SetRemainder k = Unit {0}
-IsReducedBy ss is x SetReduce k = IsReduced ss is x k
+IsReducedBy ss is x SetReduce k = IsReduced ss is x k × IsScalarKind k
 
--- an int, a truth value or a domain is given one of its kind and its shape, by an operator that takes it; a range is given none
+-- An int, a truth value or a domain is given one of its kind and its shape, and a whole array one of its kind or of its
+-- elements', by an operator that takes it; a range is given none.
 pub record IsRunnableChange (ss : Scopes) (is : List (Bound × Op)) (x : Text) (op : Assign) (value : ItemTree Text) : Type 0 where
   pub kind : VariableKind
-  pub item : IsItemOf ss value kind
   pub target : kind_in ss x ≡ Some kind
+  pub given : VariableKind
+  pub item : IsItemOf ss value given
+  pub takes : IsGivenTo kind given
   pub shaped : (t : ValueType) → type_in ss x ≡ Some t → IsTaken ss value t
   pub assigned : IsAssignedKind kind
   pub taken : kind_takes kind op ≡ true
   pub reduced : IsReducedBy ss is x op kind
 
--- ARGUMENTS: texts, ints and truth values
+-- an element of an array is given what it may be, at an index that something of a type has
+pub record IsRunnableElement (ss : Scopes) (x : Text) (es : Exprs Text) (op : Assign) (value : ItemTree Text) : Type 0 where
+  pub kind : Kind
+  pub target : kind_in ss x ≡ Some (ArrayKind kind)
+  pub simple : AreSimpleExprs (MayBePlain ss) es
+  pub near : ExprsSpelt IsNear es
+  pub index : IsNoIndex (expr_parts ss es) → ⊥
+  pub item : IsItemOf ss value (PlainKind (leaf_of kind))
+  pub taken : kind_takes (ArrayKind kind) op ≡ true
+  pub unreduced : op ≢ SetReduce
+
+-- ARGUMENTS: texts, ints and truth values, and whole arrays by their names
+abbrev pub IsShown : VariableKind → ExprTree Text → Type 0
+IsShown (PlainKind IntLeaf) e = Unit {0}
+IsShown (PlainKind TruthLeaf) e = Unit {0}
+IsShown (PlainKind RangeLeaf) e = ⊥
+IsShown DomainKind e = ⊥
+IsShown TupleKind e = ⊥
+IsShown (ArrayKind k) e = (x : Placed Text) × (e ≡ Named x)
+
 pub record IsPrinted (ss : Scopes) (e : ExprTree Text) : Type 0 where
   pub kind : VariableKind
   pub expr : IsExprOf ss e kind
-  pub scalar : IsScalarKind kind
+  pub shown : IsShown kind e
 
 abbrev pub IsRunnableArgument : Scopes → ArgumentTree Text → Type 0
 IsRunnableArgument ss (TextArgument at cs) = Unit {0}
@@ -171,7 +197,7 @@ abbrev mutual
   IsRunnableStmt ss is (Nothing at) = Unit {0}
   IsRunnableStmt ss is (Declare d) = (d.config ≡ None) × IsRunnableDeclare ss d
   IsRunnableStmt ss is (Assigned (Whole x) sign item semicolon) = IsRunnableChange ss is x.name sign.op item × IsNear sign.at × IsNear x.at
-  IsRunnableStmt ss is (Assigned (Element x shape from es upto) sign item semicolon) = ⊥
+  IsRunnableStmt ss is (Assigned (Element x shape from es upto) sign item semicolon) = IsRunnableElement ss x.name es sign.op item × IsNear sign.at × IsNear x.at
   IsRunnableStmt ss is (Call x dot call semicolon) = ⊥
   IsRunnableStmt ss is (Write w) = AreRunnableArguments ss (arguments_of w.arguments)
   IsRunnableStmt ss is (Block from ts upto) = AreRunnableStmts (enter ss) is ts

@@ -1,0 +1,127 @@
+-- What stands in an array's type that breaks no rule is a domain, or 1 to 3 ranges, which make one; and behind an array's name
+-- what stands in brackets and breaks no rule is an index.
+use Rattle.std.proofs.Common.{◌≡◌, ℕ, Bool, true, List, [], ◌∷◌, ◌++◌, length, is_some, Option, Some, None, refl, sym, ap, ◌∙◌, subst}
+use Rattle.std.specs.Prelude.{◌&&◌}
+use Rattle.std.proofs.lemmas.Option.{none-some}
+use Rattle.dpl_syntax.specs.declared.place.Place.{Place}
+use Rattle.dpl_language.specs.Tree.{Kind, ArrayTypeTree, Items, FirstItem}
+use Rattle.dpl_language.specs.Names.{Text}
+use Rattle.dpl_language.specs.Phrases.{declared_over}
+use Rattle.dpl_spelling.specs.Spelt.{ItemsSpelt}
+use Rattle.dpl_closed.specs.Closed.{closed_items}
+use Rattle.dpl_rules.specs.Types.{Origin, Over, ValueType, Scalar, Domain, Array, domain_of}
+use Rattle.dpl_rules.specs.Verdicts.{Part, Verdict, type_by, broken_by, with_type, all_known}
+use Rattle.dpl_rules.specs.Sights.{Scopes}
+use Rattle.dpl_rules.specs.Operators.{any_strided, ranges_breaches, ranges_verdict, domain_or, over_verdict, index_breaches, round_verdict}
+use Rattle.dpl_rules.specs.Expressions.{item_parts, items_breaches}
+use Rattle.dpl_rules.specs.Declarations.{domain_in, base_over, over_domain, array_type}
+use Rattle.dpl_rules.proofs.Admission.{first_empty, second_empty}
+use Rattle.dpl_sound.proofs.Given.{some-same, judged-gives}
+use Rattle.dpl_sound.proofs.Known.{IsTold, told-typed, judged-told, items-known}
+use Rattle.dpl_memory.specs.Memory.{VariableKind, ArrayKind}
+use Rattle.dpl_typer.specs.Makers.{kind_if}
+use Rattle.dpl_typer.specs.Leaves.{is_rank, value_kind, kind_by, IsOfKind}
+use Rattle.dpl_typer.specs.Elaborated.{AreOfKinds, IsNoIndex}
+use Rattle.dpl_runnable.specs.Kinds.{IsNamed, AreVariables}
+use Rattle.dpl_runnable.proofs.Expressions.{kind-cases, some-rank, few, known, RunnableItems, runnable_items}
+use Rattle.dpl_runnable.proofs.Owed.{array-kind}
+
+-- ---- what an array is over
+record IsSpread (t : ValueType) : Type 0 where
+  rank : ℕ
+  strided : Bool
+  is : t ≡ Domain rank strided
+  ranked : is_rank rank ≡ true
+
+module _ (from : Place) where
+  -- the verdict is looked at
+  ranges-told : (ps : List Part) → all_known ps ≡ true → IsTold (ranges_verdict from ps)
+  ranges-told ps h = judged-told (all_known ps) (ranges_breaches from ps) (Domain (length ps) (any_strided ps)) h
+
+  domain_or-told : (o : Option (ℕ × Bool)) (v : Verdict) → IsTold v → IsTold (domain_or o v)
+  domain_or-told None v h = h
+  domain_or-told (Some d) v h = tt
+
+  one-told : (o : Option ValueType) (v : Verdict) → (is_some o && true) ≡ true → IsTold v → IsTold (with_type o (λ t. domain_or (domain_of t) v))
+  one-told None v h k = absurd cc
+  one-told (Some t) v h k = domain_or-told (domain_of t) v k
+
+  over_verdict-told : (ps : List Part) → all_known ps ≡ true → IsTold (over_verdict from ps)
+  over_verdict-told [] h = ranges-told [] h
+  over_verdict-told (p ∷ []) h = one-told p.type (ranges_verdict from (p ∷ [])) h (ranges-told (p ∷ []) h)
+  over_verdict-told (p ∷ q ∷ ps) h = ranges-told (p ∷ q ∷ ps) h
+
+  -- what it gives is a domain of 1 to 3 dimensions
+  ranges-spread : (p : Part) (ps : List Part) (t : ValueType) → type_by (ranges_verdict from (p ∷ ps)) ≡ Some t → IsSpread t
+  ranges-spread p ps t e =
+      let gives = judged-gives (all_known (p ∷ ps)) (ranges_breaches from (p ∷ ps)) (Domain (length (p ∷ ps)) (any_strided (p ∷ ps))) t e in
+      record { rank = length (p ∷ ps); strided = any_strided (p ∷ ps); is = sym gives.2; ranked = some-rank (length ps) (few from (p ∷ ps) (t, e)) }
+
+  one-spread : (o : Option ValueType) (k : VariableKind) → IsOfKind k o → (v : Verdict) → ((t : ValueType) → type_by v ≡ Some t → IsSpread t)
+      → (t : ValueType) → type_by (with_type o (λ t. domain_or (domain_of t) v)) ≡ Some t → IsSpread t
+  one-spread None k h v f t e = absurd (none-some t e)
+  one-spread (Some u) k h v f t e =
+      kind-cases (λ u. type_by (domain_or (domain_of u) v) ≡ Some t → IsSpread t) (λ l e. f t e) (λ s e. f t e)
+      (λ rank s r e. record { rank = rank; strided = s; is = sym (some-same (Domain rank s) t e); ranked = r }) (λ l over r e. f t e) (λ l over r e. f t e) (λ rank r e. f t e) u k h e
+
+  over_verdict-spread : (p : Part) (ps : List Part) (k : VariableKind) → IsOfKind k p.type → (t : ValueType) → type_by (over_verdict from (p ∷ ps)) ≡ Some t → IsSpread t
+  over_verdict-spread p [] k h t e = one-spread p.type k h (ranges_verdict from (p ∷ [])) (ranges-spread p []) t e
+  over_verdict-spread p (q ∷ ps) k h t e = ranges-spread p (q ∷ ps) t e
+
+-- an array's type, by the domain that it is over
+pub over_domain-array : (scopes : Scopes) (self : Origin) (a : ArrayTypeTree Text) (o : Option (ℕ × Bool)) (t : ValueType) → over_domain scopes self a o ≡ Some t → (over : Over) × (t ≡ Array a.kind over)
+over_domain-array scopes self a None t e = absurd (none-some t e)
+over_domain-array scopes self a (Some d) t e =
+    let over : Over = record { rank = d.0; strided = d.1; base = base_over scopes self (declared_over a.over) } in
+    (over, sym (some-same (Array a.kind over) t e))
+
+pub array_type-kind : (scopes : Scopes) (self : Origin) (a : ArrayTypeTree Text) (o : Option (ℕ × Bool)) (k : VariableKind) → kind_by (over_domain scopes self a o) ≡ Some k
+    → (over : Over) × (over_domain scopes self a o ≡ Some (Array a.kind over)) × (ArrayKind a.kind ≡ k)
+array_type-kind scopes self a None k e = absurd (none-some k e)
+array_type-kind scopes self a (Some d) k e =
+    let over : Over = record { rank = d.0; strided = d.1; base = base_over scopes self (declared_over a.over) } in
+    (over, refl, array-kind a.kind over k e)
+
+over_domain-named : (scopes : Scopes) (self : Origin) (a : ArrayTypeTree Text) (o : Option ValueType) (t : ValueType) → o ≡ Some t → IsSpread t → IsNamed (over_domain scopes self a (domain_in o))
+over_domain-named scopes self a o t e h =
+    subst (λ o. IsNamed (over_domain scopes self a (domain_in o))) (sym (e ∙ ap Some h.is))
+    (record { kind = ArrayKind a.kind; type = _; is = refl; of_kind = ap (λ b. kind_if b (ArrayKind a.kind)) h.ranked; single = refl })
+
+module _ (scopes : Scopes) (P : Place → Type 0) (names : AreVariables scopes) where
+  items-spread : (from : Place) (items : Items Text) → RunnableItems scopes P names items → (t : ValueType) → type_by (over_verdict from (item_parts scopes items)) ≡ Some t → IsSpread t
+  items-spread from (FirstItem i more) h t e = by h.kinds h.of_kinds
+    where
+      by : (ks : List VariableKind) → AreOfKinds ks (item_parts scopes (FirstItem i more)) → IsSpread t
+      by [] g = absurd g
+      by (k ∷ ks) g = over_verdict-spread from _ _ k g.0 t e
+
+  -- a type that breaks no rule is one of arrays
+  pub array_type-named : (self : Origin) (a : ArrayTypeTree Text) → ItemsSpelt P a.over → closed_items a.over ≡ None
+      → items_breaches scopes a.over ++ broken_by (over_verdict a.from (item_parts scopes a.over)) ≡ [] → IsNamed (array_type scopes self a)
+  array_type-named self a s c h =
+      let verdict = over_verdict a.from (item_parts scopes a.over) in
+      let own = first_empty (items_breaches scopes a.over) (broken_by verdict) h in
+      let told = over_verdict-told a.from (item_parts scopes a.over) (items-known scopes (known scopes P names) a.over own) in
+      let typed = told-typed verdict told (second_empty (items_breaches scopes a.over) (broken_by verdict) h) in
+      over_domain-named scopes self a (type_by verdict) typed.0 typed.1 (items-spread a.from a.over (runnable_items scopes P names a.over s c own) typed.0 typed.1)
+
+-- ---- elements
+-- what has elements is an array, and what stands in the brackets is an index of it
+pub record IsElementOf (t : ValueType) (ps : List Part) (u : ValueType) : Type 0 where
+  pub kind : Kind
+  pub over : Over
+  pub array : t ≡ Array kind over
+  pub element : u ≡ Scalar kind
+  pub index : IsNoIndex ps → ⊥
+
+pub round_verdict-element : (last from : Place) (ps : List Part) (t : ValueType) (k : VariableKind) → value_kind t ≡ Some k → (u : ValueType) → type_by (round_verdict last from ps t) ≡ Some u → IsElementOf t ps u
+round_verdict-element last from ps t k of_kind u e =
+    kind-cases (λ t. type_by (round_verdict last from ps t) ≡ Some u → IsElementOf t ps u) (λ l e. absurd (none-some u e)) (λ s e. absurd (none-some u e)) (λ rank s r e. absurd (none-some u e))
+    (λ l over r e. record {
+      kind = l;
+      over = over;
+      array = refl;
+      element = sym (judged-gives (all_known ps) (index_breaches last over.rank ps) (Scalar l) u e).2;
+      index = λ no. none-some u (sym (no last over.rank (Scalar l) r) ∙ e);
+    })
+    (λ l over r e. absurd (none-some u e)) (λ rank r e. absurd (none-some u e)) t k of_kind e
