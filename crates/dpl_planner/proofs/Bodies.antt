@@ -4,8 +4,8 @@ use Rattle.std.proofs.Common.{◌≡◌, ◌≤◌, Bor, List, [], ◌∷◌, dr
 use Rattle.dpl_syntax.specs.declared.place.Place.{Place}
 use Rattle.dpl_language.specs.Tree.{StmtTree, Block, Body, WordBody, BlockBody, Stmts, NoStmts, Then, Else, NoElse, ElseDo}
 use Rattle.dpl_language.specs.Names.{Text}
-use Rattle.dpl_language.specs.Renamed.{renamed_body, renamed_else}
-use Rattle.dpl_language.specs.Scopes.{fits_body, fits_else}
+use Rattle.dpl_agreement.specs.Renamed.{renamed_body, renamed_else}
+use Rattle.dpl_agreement.specs.Scopes.{fits_body, fits_else}
 use Rattle.dpl_rules.specs.Sights.{Scopes, enter}
 use Rattle.dpl_rules.specs.Loops.{behind}
 use Rattle.dpl_rules.specs.Sound.{behind_all}
@@ -15,20 +15,19 @@ use Rattle.dpl_nodes.specs.declared.step.Step.{Step, Block as BlockStep}
 use Rattle.dpl_nodes.specs.declared.step.Else.{Else as ElseNode, Absent, Do as DoStep}
 use Rattle.dpl_nodes.specs.Steps.{listed, else_view, steps_of}
 use Rattle.dpl_nodes.proofs.Rows.{steps_view-row}
-use Rattle.dpl_typer.specs.Sights.{ArePlainScopes}
 use Rattle.dpl_planner.specs.declared.progress.Plan.{Plan}
 use Rattle.dpl_planner.specs.declared.progress.Reducing.{Reducing}
 use Rattle.dpl_planner.specs.Given.{AreGiven}
 use Rattle.dpl_planner.specs.Bounds.{bound_body, bound_else}
-use Rattle.dpl_planner.specs.Plans.{reducing_view, seen_of, IsOneScope, Goes, Stands, body_leaves, else_leaves, PlansStmt, PlansStmts, PlansOnly, PlansInner, PlansBody, PlansElse, behind_body}
+use Rattle.dpl_planner.specs.Plans.{reducing_view, seen_of, AreOpen, IsOneScope, Goes, Stands, body_leaves, else_leaves, PlansStmt, PlansStmts, PlansOnly, PlansInner, PlansBody, PlansElse, behind_body}
 use Rattle.dpl_rules.proofs.Left.{leave_behind, leave_behind_all}
-use Rattle.dpl_planner.proofs.Scoped.{left-body}
+use Rattle.dpl_planner.proofs.Scoped.{left-body, open-known}
 
 -- where the scopes are again what they were
 pub goes-back : (a b : Plan) → b.scopes ≡ a.scopes → a.slots ≤ b.slots → b.intents.items ≡ a.intents.items → Goes a b a.scopes
 goes-back a b same slots intents = record {
   scopes = same;
-  plain = λ h. subst ArePlainScopes (sym same) h;
+  plain = λ h. subst AreOpen (sym same) h;
   one = λ h. subst IsOneScope (sym same) h;
   given = λ h start g. subst (AreGiven start) same g;
   slots = slots;
@@ -97,7 +96,7 @@ body-plans a b body steps p = record {
   goes = goes-left a b (behind_body (enter a.scopes) body) (left-body [] a.scopes body) p.goes.scopes p.goes.slots p.goes.intents;
   text = p.text;
   node = p.node;
-  resolves = λ start h le. p.resolves start (tt, h) le;
+  resolves = λ start h le. p.resolves start (tt, open-known a.scopes h) le;
 }
 
 pub block_stmt-plans : (a b : Plan) (from upto : Place) (ts : Stmts Text) (steps : Bor (List Step)) → PlansStmts (entered a) b ts steps.now → PlansStmt a (left b) (Block from ts upto) (BlockStep steps)
@@ -105,7 +104,7 @@ block_stmt-plans a b from upto ts steps p = record {
   goes = goes-left a b (behind_all (enter a.scopes) ts) (leave_behind_all [] a.scopes ts) p.goes.scopes p.goes.slots p.goes.intents;
   text = ap (λ us. Block from us upto) p.text;
   node = ap (λ us. Block nowhere us nowhere) (p.node ∙ sym (steps_view-row steps.now));
-  resolves = λ start h le. p.resolves start (tt, h) le;
+  resolves = λ start h le. p.resolves start (tt, open-known a.scopes h) le;
 }
 
 pub absent-plans : (a : Plan) → PlansElse a a NoElse Absent
@@ -116,5 +115,5 @@ else-plans a b at t s p = record {
   goes = goes-left a b (behind (enter a.scopes) t) (leave_behind [] a.scopes t) p.goes.scopes p.goes.slots p.goes.intents;
   text = ap (ElseDo at) p.text;
   node = ap (ElseDo nowhere) p.node;
-  resolves = λ start h le. p.resolves start (tt, h) le;
+  resolves = λ start h le. p.resolves start (tt, open-known a.scopes h) le;
 }

@@ -10,8 +10,8 @@ use Rattle.dpl_language.specs.Names.{Text}
 use Rattle.dpl_language.specs.Values.{Domain as DomainValue, default}
 use Rattle.dpl_language.specs.Ranges.{empty_domain}
 use Rattle.dpl_language.specs.Declarations.{type_of}
-use Rattle.dpl_language.specs.Renamed.{renamed_item, renamed_mapped, renamed_typed, renamed_initial}
-use Rattle.dpl_language.specs.Scopes.{PlainSort, fits_given}
+use Rattle.dpl_agreement.specs.Renamed.{renamed_item, renamed_mapped, renamed_typed, renamed_initial}
+use Rattle.dpl_agreement.specs.Scopes.{PlainSort, fits_given}
 use Rattle.dpl_tree.specs.Words.{kind_view}
 use Rattle.dpl_rules.specs.Types.{ValueType, Scalar, Domain}
 use Rattle.dpl_rules.specs.Sights.{Declared, Scopes, declared_here, add, origin_in}
@@ -35,12 +35,12 @@ use Rattle.dpl_typer.specs.declared.make.Typed.{Typed}
 use Rattle.dpl_typer.specs.Makers.{typed_view, kind_of, is_promoted}
 use Rattle.dpl_typer.specs.Leaves.{value_kind, kind_by, leaf_by}
 use Rattle.dpl_typer.specs.Shapes.{shape_of, shape_by}
-use Rattle.dpl_typer.specs.Sights.{bound_in, sight_of, ArePlainScopes}
+use Rattle.dpl_typer.specs.Sights.{bound_in, sight_of, is_promoted_by, AreKnownScopes}
 use Rattle.dpl_typer.proofs.Sights.{unused_next}
 use Rattle.dpl_typer.proofs.OperatorKinds.{kind-same}
 use Rattle.dpl_typer.proofs.Items.{typed_item-view}
 use Rattle.dpl_typer.proofs.Shaped.{typed-held}
-use Rattle.dpl_runnable.specs.Kinds.{IsDeclaredKind, IsScalarKind}
+use Rattle.dpl_runnable.specs.Kinds.{IsScalarKind}
 use Rattle.dpl_runnable.specs.Runnable.{IsDefaultOf, IsConfigOf}
 use Rattle.dpl_planner.specs.declared.progress.Plan.{Plan}
 use Rattle.dpl_planner.specs.declared.declaration.WrittenKind.{WrittenKind}
@@ -49,9 +49,9 @@ use Rattle.dpl_planner.specs.declared.declaration.Beginning.{Beginning}
 use Rattle.dpl_planner.specs.declared.declaration.Beginning.TheVariants as beginning
 use Rattle.dpl_planner.specs.Bounds.{bound_new}
 use Rattle.dpl_planner.specs.Given.{IsOfLeaf, AreGiven}
-use Rattle.dpl_planner.specs.Parts.{IsWrittenType, begun_kind, begun_type, begun_as, IsPlainTyped, IsDefault, BeginsByDefault, IsGivenInit, IsInitial, IsOwedBy, bound_typed, bound_initial, PlansDeclare}
-use Rattle.dpl_planner.specs.Plans.{seen_of, intents_in, IsOneScope, PlansStmt}
-use Rattle.dpl_planner.proofs.Scoped.{new-no_array, plain-add}
+use Rattle.dpl_planner.specs.Parts.{IsSingleKind, IsWrittenType, begun_kind, begun_type, begun_as, IsPlainTyped, IsDefault, BeginsByDefault, IsGivenInit, IsInitial, IsOwedBy, bound_typed, bound_initial, PlansDeclare}
+use Rattle.dpl_planner.specs.Plans.{seen_of, intents_in, AreOpen, IsOneScope, PlansStmt}
+use Rattle.dpl_planner.proofs.Scoped.{open-known, plain-add, new-no_array, single-type}
 use Rattle.dpl_planner.proofs.Owed.{one-add, given-before}
 use Rattle.dpl_planner.proofs.Items.{item-text, side-node, item-suited, side-fits}
 
@@ -79,7 +79,7 @@ module _ (ss : Scopes) where
     spelled-init : option_map (renamed_initial text_of) (bound_initial ss written) ≡ written
     spelled-init = ap (λ i. Some (record { equals = equals; init = ItemInit i None })) (item-text ss item)
 
-    suits-item : (is' : List (Bound × Op)) (x : Bound) → ArePlainScopes ss → is_promoted (kind_of value) ≡ false → x.variable.kind ≡ kind_of value → x.shape ≡ shape_of declared → value_kind declared ≡ Some (kind_of value)
+    suits-item : (is' : List (Bound × Op)) (x : Bound) → AreKnownScopes ss → is_promoted (kind_of value) ≡ false → x.variable.kind ≡ kind_of value → x.shape ≡ shape_of declared → value_kind declared ≡ Some (kind_of value)
         → Suits x.variable.kind x.shape (renamed_item (bound_in ss) item) (seen_of ss is')
     suits-item is' x plain once kind shape typed =
         let g = seen_of ss is' in
@@ -134,8 +134,8 @@ pub truth-default : (t : Typed) → ((m : Times) → typed_view m t ≡ TruthWor
 truth-default t node kind = (typed_item-view Once t ∙ ap as_item (node Once), ap (λ k. Some k) (sym kind))
 
 default-kind : (k : Kind) (l : VariableKind) (shape : _) → value_kind (Scalar k) ≡ Some l → MayHold l shape (default k)
-default-kind IntKind l shape e = subst (λ l. MayHold l shape (default IntKind)) (kind-same (PlainKind IntLeaf) l e) ((pos 0, refl), tt)
-default-kind BoolKind l shape e = subst (λ l. MayHold l shape (default BoolKind)) (kind-same (PlainKind TruthLeaf) l e) ((false, refl), tt)
+default-kind IntKind l shape e = subst (λ l. MayHold l shape (default IntKind)) (kind-same (PlainKind IntLeaf) l e) ((pos 0, refl), λ n. tt)
+default-kind BoolKind l shape e = subst (λ l. MayHold l shape (default BoolKind)) (kind-same (PlainKind TruthLeaf) l e) ((false, refl), λ n. tt)
 
 -- a domain variable of a rank holds the domain without an index of that rank
 empty-held : (x : Bound) (rank : ℕ) (declared : ValueType) → x.variable.kind ≡ DomainKind → x.shape ≡ shape_of declared → value_kind declared ≡ Some DomainKind → Some (Domain rank false) ≡ Some declared
@@ -193,7 +193,7 @@ default-begun (Some (DomainType y)) kinds.Untyped b k h is d = absurd h
 default-begun (Some (DomainType y)) (kinds.Scalar l) b k h is d = absurd h
 default-begun (Some (DomainType y)) (kinds.Domain rank) (beginning.Value value) k h is d = absurd is
 default-begun (Some (DomainType y)) (kinds.Domain rank) (beginning.Empty other) k h is d = sym d
-default-begun (Some (ArrayType a)) w b k h is d = absurd d
+default-begun (Some (ArrayType a)) w b k h is d = absurd h
 
 -- without a type and a value there is none
 pub begun-untyped : (t : Option (TypeTree Text)) (w : WrittenKind) (k : VariableKind) → IsWrittenType t w → IsWrittenType None w → IsDefaultOf t k → ⊥
@@ -205,11 +205,11 @@ begun-untyped (Some (SyncType at kind_at j)) w k h none d = d
 begun-untyped (Some (DomainType y)) kinds.Untyped k h none d = h
 begun-untyped (Some (DomainType y)) (kinds.Scalar l) k h none d = none
 begun-untyped (Some (DomainType y)) (kinds.Domain rank) k h none d = none
-begun-untyped (Some (ArrayType a)) w k h none d = d
+begun-untyped (Some (ArrayType a)) w k h none d = h
 
 -- ---- DECLARATIONS
 -- what the check declares is what is declared
-declared-same : (ss : Scopes) (made : DeclaredNode) (t : TypeNode) (d : DeclareTree Text) → declared_view made ≡ declared_by ss d → made.value_type ≡ Some t
+pub declared-same : (ss : Scopes) (made : DeclaredNode) (t : TypeNode) (d : DeclareTree Text) → declared_view made ≡ declared_by ss d → made.value_type ≡ Some t
     → add (record { origin = origin_in ss made.origin.name.now; sort = sort_view made.sort; type = Some (type_view t) }) ss ≡ add (declared_by ss d) ss
 declared-same ss made t d same typed =
     ap (λ o. add (record { origin = origin_in ss made.origin.name.now; sort = sort_view made.sort; type = of_type o }) ss) (sym typed)
@@ -220,12 +220,12 @@ given-fits start None x g owed declares = tt
 given-fits start (Some at) x g owed declares = (owed, declares, refl)
 
 -- a declaration that is refused declares no type
-unrefused : (bs : List Breach) (o : Option ValueType) (t : ValueType) → unless_refused bs o ≡ Some t → o ≡ Some t
+pub unrefused : (bs : List Breach) (o : Option ValueType) (t : ValueType) → unless_refused bs o ≡ Some t → o ≡ Some t
 unrefused [] o t e = e
 unrefused (b ∷ bs) o t e = absurd (none-some t e)
 
 -- what is declared, and configured, is no array
-declared-single : (k : VariableKind) → IsDeclaredKind k → is_promoted k ≡ false
+declared-single : (k : VariableKind) → IsSingleKind k → is_promoted k ≡ false
 declared-single (PlainKind k) h = refl
 declared-single DomainKind h = refl
 declared-single TupleKind h = absurd h
@@ -238,7 +238,7 @@ scalar-leaf TupleKind h = absurd h
 scalar-leaf (ArrayKind k) h = absurd h
 
 -- the lowered tree of a declaration
-abbrev lowered_as : DeclareTree Text → Bool → Variable → Option (TypedTree Variable) → Option (InitialTree Variable) → StmtTree Variable
+abbrev pub lowered_as : DeclareTree Text → Bool → Variable → Option (TypedTree Variable) → Option (InitialTree Variable) → StmtTree Variable
 lowered_as d told l y i = Declare (record { config = unplaced_word d.config; at = nowhere; constant = false; name = placed told (record { at = d.name.at; name = l }); typed = y; initial = i; semicolon = nowhere })
 
 module _ (a : Plan) (d : DeclareTree Text) (made : DeclaredNode) (t : TypeNode) (same : declared_view made ≡ declared_by a.scopes d) (typed : made.value_type ≡ Some t) where
@@ -251,7 +251,7 @@ module _ (a : Plan) (d : DeclareTree Text) (made : DeclaredNode) (t : TypeNode) 
   declared-given : type_given a.scopes (origin_in a.scopes d.name.name) (type_of d.typed) d.initial ≡ Some (type_view t)
   declared-given = unrefused (declaration_breaches a.scopes d) (type_given a.scopes (origin_in a.scopes d.name.name) (type_of d.typed) d.initial) (type_view t) is-typed
 
-  pub declare-plans : (b : Plan) (begun : Beginning) (slot : ℕ) (s : Step) → IsInitial a.scopes d.typed d.initial (type_view t) begun → value_kind (type_view t) ≡ Some (begun_kind begun) → IsDeclaredKind (begun_kind begun)
+  pub declare-plans : (b : Plan) (begun : Beginning) (slot : ℕ) (s : Step) → IsInitial a.scopes d.typed d.initial (type_view t) begun → value_kind (type_view t) ≡ Some (begun_kind begun) → IsSingleKind (begun_kind begun)
       → declared_here a.scopes made.origin.name.now ≡ false → slot ≡ next_slot_in a.scopes → slot < b.slots → a.slots ≤ b.slots
       → b.scopes ≡ add (record { origin = origin_in a.scopes made.origin.name.now; sort = sort_view made.sort; type = Some (type_view t) }) a.scopes → b.intents ≡ a.intents
       → step_view s ≡ begun_as (unplaced_word d.config) (variable (begun_kind begun) slot) begun
@@ -270,7 +270,7 @@ module _ (a : Plan) (d : DeclareTree Text) (made : DeclaredNode) (t : TypeNode) 
       record {
         goes = record {
           scopes = to;
-          plain = λ h. subst ArePlainScopes (sym to) (plain-add new ss (begun_kind begun) of_kind single alone h);
+          plain = λ h. subst AreOpen (sym to) (plain-add new ss (begun_kind begun) of_kind (ap is_promoted_by is-typed ∙ single-type (type_view t) (begun_kind begun) kind single) refl alone h);
           one = λ h. subst IsOneScope (sym to) (one-add new ss h);
           given = λ h start g. given-before start new ss alone h (subst (AreGiven start) to g);
           slots = more;
@@ -285,15 +285,16 @@ module _ (a : Plan) (d : DeclareTree Text) (made : DeclaredNode) (t : TypeNode) 
             ∙ sym step;
         resolves = λ start h le owed.
             let g = seen_of ss (intents_in a) in
+            let known = open-known ss h in
             let in_frame : slot < start.slots = omega (arith, below, le) in
-            let unused = subst (λ n. IsUnused n (sight_of ss)) (sym next) (unused_next ss h) in
+            let unused = subst (λ n. IsUnused n (sight_of ss)) (sym next) (unused_next ss known) in
             let fresh_slot = subst (λ (l : Variable). IsNew start.slots (record { text = x.text; variable = l; shape = x.shape }) g) (sym leaf) (record { unused = unused; within = in_frame }) in
-            let declares : Declares start.slots x PlainSort g = (fresh_slot, new-no_array ss new (begun_kind begun, of_kind, single)) in (
+            let declares : Declares start.slots x PlainSort g = (fresh_slot, new-no_array ss new (begun_kind begun) of_kind single) in (
               is.type.fits_here start g,
-              is.initial start (intents_in a) h,
+              is.initial start (intents_in a) known,
               subst (λ sort. Declares start.slots x sort g) (sym is.type.sort) declares,
               subst (λ sort. fits_given (resolving start) d.config x sort g) (sym is.type.sort) (given-fits start d.config x g owed declares),
-              is.suits start (intents_in a) x h single (ap (λ (l : Variable). l.kind) leaf) (ap shape_by is-typed) kind declared-given,
+              is.suits start (intents_in a) x known single (ap (λ (l : Variable). l.kind) leaf) (ap shape_by is-typed) kind declared-given,
             );
       }
 

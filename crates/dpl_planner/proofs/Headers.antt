@@ -1,20 +1,21 @@
 -- The head of a loop that runs: it is over a range or a domain, its variables have a type, and each has a name of its own.
 -- So the planner refuses no such head.
-use Rattle.std.proofs.Common.{◌≡◌, ◌≢◌, ◌⊎◌, inl, inr, ℕ, Bool, true, false, List, [], ◌∷◌, Option, Some, None, refl, sym, ap, ◌∙◌, subst}
-use Rattle.std.specs.Prelude.{◌==◌, not, if◌then◌else◌}
+use Rattle.std.proofs.Common.{◌≡◌, ◌≢◌, ◌⊎◌, inl, inr, ℕ, Bool, true, false, List, [], ◌∷◌, Option, Some, None, refl, sym, ap, ◌∙◌, subst, arith}
+use Rattle.std.specs.Prelude.{nat_lt, ◌==◌, ◌&&◌, not, if◌then◌else◌}
 use Rattle.std.proofs.lemmas.Option.{none-some}
+use Rattle.std.proofs.lemmas.Bool.Decides.{nat_tests}
 use Rattle.dpl_syntax.specs.declared.refusal.Code.TheVariants.{NameTwice}
 use Rattle.dpl_language.specs.Tree.{Placed, ExprTree, Number, TruthWord, Named, LocalesWord, LocaleCount, HereWord, Grouped, DomainLiteral, Prefixed, Reduced, Chain, Postfixed, ItemTree, One, RangeItem, VariablesTree, OneVariable, ManyVariables}
 use Rattle.dpl_language.specs.Names.{Text}
 use Rattle.dpl_language.specs.Phrases.{parts}
-use Rattle.dpl_language.specs.Renamed.{renamed_variables}
+use Rattle.dpl_agreement.specs.Renamed.{renamed_variables}
 use Rattle.dpl_rules.specs.Types.{ValueType, Scalar, Range, Domain, Array, Promoted, Tuple, Locale, AllLocales, Cell, an_int}
 use Rattle.dpl_rules.specs.Verdicts.{owed}
 use Rattle.dpl_rules.specs.Sights.{LoopVariable, Scopes, declared_here, enter, add, origin_in}
 use Rattle.dpl_rules.specs.Expressions.{item_type}
 use Rattle.dpl_rules.specs.Loops.{LoopWord, ForWord, ForallWord, one_type, variable_type, fits_variables, typed_variable, each_once, variables_once, variables_of, over_type}
 use Rattle.dpl_rules.proofs.Admission.{first_empty, second_empty}
-use Rattle.dpl_sound.proofs.Given.{some-same, owed_not-holds}
+use Rattle.dpl_sound.proofs.Given.{some-same, both_so, owed_not-holds}
 use Rattle.dpl_sound.proofs.Loops.{SameNames, same_names-add}
 use Rattle.dpl_lowered.specs.LoweredStatements.{lowered_variables}
 use Rattle.dpl_words.specs.Words.{IntLeaf, RangeLeaf}
@@ -25,10 +26,9 @@ use Rattle.dpl_nodes.specs.declared.step.Names.TheVariants as names
 use Rattle.dpl_nodes.specs.Steps.{names_view}
 use Rattle.dpl_typer.specs.Makers.{kind_if}
 use Rattle.dpl_typer.specs.Simple.{IsSimple, IsSimpleItem}
-use Rattle.dpl_typer.specs.Leaves.{is_rank, value_kind, kind_by, IsOfType}
+use Rattle.dpl_typer.specs.Leaves.{is_rank, is_tuple_rank, value_kind, kind_by, IsOfType}
 use Rattle.dpl_typer.proofs.OperatorKinds.{kind_if-some}
 use Rattle.dpl_runnable.specs.Runnable.{IsItemOf, IsOneVariable, RunsOver, IsRunnableHeader}
-use Rattle.dpl_runnable.proofs.Scopes.{two_or_three}
 use Rattle.dpl_planner.specs.declared.loops.Iterable.{Iterable}
 use Rattle.dpl_planner.specs.declared.loops.Iterable.TheVariants as over
 use Rattle.dpl_planner.specs.declared.progress.Plan.{Plan}
@@ -69,6 +69,14 @@ once-fresh ss (OneVariable x) t once = (refl, tt)
 once-fresh ss (ManyVariables from xs upto) t once = same_here (enter ss) (enter ss) (parts xs) t (λ x. refl) once
 
 -- THEIR TYPE
+-- a rank that is not one is that of a tuple
+two_or_three : (rank : ℕ) → is_rank rank ≡ true → (rank == 1) ≡ false → is_tuple_rank rank ≡ true
+two_or_three rank r e =
+    let both = both_so (nat_lt 0 rank) (nat_lt rank 4) r in
+    let some = both.0 in
+    let two : nat_lt 1 rank ≡ true = grind (arith, nat_tests, some, e) in
+    ap (λ b. b && nat_lt rank 4) two ∙ both.1
+
 tuple-turns : (rank : ℕ) → is_rank rank ≡ true → (b : Bool) → (rank == 1) ≡ b → IsTurnKind (value_kind (if b then an_int else Tuple rank))
 tuple-turns rank r true e = tt
 tuple-turns rank r false e = subst IsTurnKind (sym (ap (λ b. kind_if b TupleKind) (two_or_three rank r e))) tt

@@ -15,3 +15,6 @@ pub mod Reduced
 pub mod RefusedParts
 pub mod Programs
 pub mod RefusedStatements
+pub mod ChangedArrays
+pub mod DeclaredArrays
+pub mod FoundArrays

@@ -4,8 +4,8 @@ use Rattle.std.proofs.Common.{◌≡◌, ℕ, ◌+◌, ◌≤◌, ◌<◌, List,
 use Rattle.dpl_syntax.proofs.Walks.{drop-at}
 use Rattle.dpl_language.specs.Tree.{StmtTree, Stmts, NoStmts, Then}
 use Rattle.dpl_language.specs.Names.{Text}
-use Rattle.dpl_language.specs.Renamed.{renamed_stmt, renamed_stmts}
-use Rattle.dpl_language.specs.Scopes.{after, fits as fits_stmt, fits_all}
+use Rattle.dpl_agreement.specs.Renamed.{renamed_stmt, renamed_stmts}
+use Rattle.dpl_agreement.specs.Scopes.{after, fits as fits_stmt, fits_all}
 use Rattle.dpl_tree.specs.declared.statement.Stmt.{Stmt}
 use Rattle.dpl_tree.specs.Statements.{stmt_view, stmts_of}
 use Rattle.dpl_rules.specs.Sights.{Scopes}
@@ -14,11 +14,11 @@ use Rattle.dpl_rules.specs.Sound.{behind_all}
 use Rattle.dpl_memory.specs.Resolved.{Start, text_of, resolving}
 use Rattle.dpl_nodes.specs.declared.step.Step.{Step}
 use Rattle.dpl_nodes.specs.Steps.{step_view, steps_of}
-use Rattle.dpl_typer.specs.Sights.{ArePlainScopes}
+use Rattle.dpl_typer.specs.Sights.{AreKnownScopes}
 use Rattle.dpl_planner.specs.declared.progress.Plan.{Plan}
 use Rattle.dpl_planner.specs.Bounds.{bound_stmt, bound_stmts}
-use Rattle.dpl_planner.specs.Plans.{reducing_view, seen_of, intents_in, seen_in, Goes, Stands, stmt_leaves, stmts_leaves, PlansStmt, PlansStmts}
-use Rattle.dpl_planner.proofs.Scoped.{after-stmt}
+use Rattle.dpl_planner.specs.Plans.{reducing_view, seen_of, AreOpen, intents_in, seen_in, Goes, Stands, stmt_leaves, stmts_leaves, PlansStmt, PlansStmts}
+use Rattle.dpl_planner.proofs.Scoped.{after-stmt, open-known}
 use Rattle.dpl_planner.proofs.Bodies.{goes-nowhere, goes-then}
 
 -- a statement planned, where something is asked of the start and of the scopes behind it
@@ -38,16 +38,16 @@ module _ (Asks : Start → Scopes → Type 0) (old : Plan) (all : Stmts Text) wh
     pub to : behind_all now.scopes left ≡ behind_all old.scopes all
     pub text : renamed_stmts text_of (bound_stmts now.scopes left) ≡ left → renamed_stmts text_of (bound_stmts old.scopes all) ≡ all
     pub node : (more : List Step) → stmts_leaves now.scopes left ≡ steps_of more → stmts_leaves old.scopes all ≡ steps_of (steps ++ more)
-    pub resolves : (start : Start) → ArePlainScopes old.scopes → now.slots ≤ start.slots → Asks start now.scopes
+    pub resolves : (start : Start) → AreOpen old.scopes → now.slots ≤ start.slots → Asks start now.scopes
         → fits_all (resolving start) (bound_stmts now.scopes left) (seen_in now) → fits_all (resolving start) (bound_stmts old.scopes all) (seen_in old)
 
   -- what is known at these scopes is known of the plan there
-  rest-fits : (a b : Plan) (t : StmtTree Text) (rest : Stmts Text) (start : Start) → Goes a b (behind a.scopes t) → ArePlainScopes b.scopes → fits_stmt (resolving start) (bound_stmt a.scopes t) (seen_in a)
+  rest-fits : (a b : Plan) (t : StmtTree Text) (rest : Stmts Text) (start : Start) → Goes a b (behind a.scopes t) → AreKnownScopes b.scopes → fits_stmt (resolving start) (bound_stmt a.scopes t) (seen_in a)
       → fits_all (resolving start) (bound_stmts b.scopes rest) (seen_in b) → fits_all (resolving start) (bound_stmts (behind a.scopes t) rest) (after (resolving start) (bound_stmt a.scopes t) (seen_in a))
   rest-fits a b t rest start g plain here f =
       let at_scopes = subst (λ ss. fits_all (resolving start) (bound_stmts ss rest) (seen_of ss (map reducing_view b.intents.items))) g.scopes f in
       let at_intents = subst (λ is. fits_all (resolving start) (bound_stmts (behind a.scopes t) rest) (seen_of (behind a.scopes t) (map reducing_view is))) g.intents at_scopes in
-      subst (λ s. fits_all (resolving start) (bound_stmts (behind a.scopes t) rest) s) (sym (after-stmt start t a.scopes (intents_in a) (subst ArePlainScopes g.scopes plain))) at_intents
+      subst (λ s. fits_all (resolving start) (bound_stmts (behind a.scopes t) rest) s) (sym (after-stmt start t a.scopes (intents_in a) (subst AreKnownScopes g.scopes plain))) at_intents
 
   pub still-step : (a b : Plan) (t : StmtTree Text) (rest : Stmts Text) (s : Step) (steps : List Step) → ((start : Start) → Asks start b.scopes → Asks start a.scopes)
       → Still a (Then t rest) steps → StmtWhere Asks a b t s → Still b rest (steps ++ s ∷ [])
@@ -63,7 +63,7 @@ module _ (Asks : Start → Scopes → Type 0) (old : Plan) (all : Stmts Text) wh
             ∙ ap steps_of (sym (append_assoc steps (s ∷ []) more));
         resolves = λ start h le asked left.
             let fitting = p.resolves start (f.goes.plain h) le asked in
-            f.resolves start h (omega (arith, grown, le)) (kept start asked) (fitting, rest-fits a b t rest start p.goes (p.goes.plain (f.goes.plain h)) fitting left);
+            f.resolves start h (omega (arith, grown, le)) (kept start asked) (fitting, rest-fits a b t rest start p.goes (open-known b.scopes (p.goes.plain (f.goes.plain h))) fitting left);
       }
 
   pub still-ended : (b : Plan) (left : Stmts Text) (steps : List Step) → left ≡ NoStmts → Still b left steps → StmtsWhere Asks old b all steps

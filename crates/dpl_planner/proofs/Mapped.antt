@@ -2,7 +2,7 @@
 -- Such a list is as it was.
 use Rattle.std.proofs.Common.{◌≡◌, List, [], ◌∷◌, map, refl, ap, ◌∙◌}
 use Rattle.dpl_language.specs.Tree.{AfterComma, Listed}
-use Rattle.dpl_language.specs.Renamed.{map_comma, map_listed}
+use Rattle.dpl_agreement.specs.Renamed.{map_comma, map_listed}
 
 module _ {A B : Type 0} (f : B → A) (g : A → B) (back : (x : A) → f (g x) ≡ x) where
   others-back : (xs : List (AfterComma A)) → map (map_comma f) (map (map_comma g) xs) ≡ xs

@@ -9,8 +9,8 @@ use Rattle.dpl_language.specs.Tree.{Placed, AfterComma, Listed, Op, ItemTree, Va
 use Rattle.dpl_language.specs.Values.{Int}
 use Rattle.dpl_language.specs.Names.{Text}
 use Rattle.dpl_language.specs.Phrases.{parts}
-use Rattle.dpl_language.specs.Scopes.{fits_each, fits_variables, add_each, inside, holds_ints, suits_turns}
-use Rattle.dpl_language.specs.Renamed.{renamed, map_comma, renamed_item, renamed_variables}
+use Rattle.dpl_agreement.specs.Scopes.{fits_each, fits_variables, add_each, inside, holds_ints, suits_turns}
+use Rattle.dpl_agreement.specs.Renamed.{renamed, map_comma, renamed_item, renamed_variables}
 use Rattle.dpl_tree.specs.declared.statement.NextName.{NextName}
 use Rattle.dpl_tree.specs.View.{name_view}
 use Rattle.dpl_tree.specs.Statements.{next_name_view}
@@ -31,14 +31,14 @@ use Rattle.dpl_typer.specs.Makers.{is_promoted}
 use Rattle.dpl_typer.specs.Simple.{IsSimpleItem}
 use Rattle.dpl_typer.specs.Leaves.{value_kind, leaf_by, IsFound}
 use Rattle.dpl_typer.specs.Shapes.{shape_of}
-use Rattle.dpl_typer.specs.Sights.{bound_in, sight_of, ArePlainScopes}
+use Rattle.dpl_typer.specs.Sights.{bound_in, sight_of, AreKnownScopes}
 use Rattle.dpl_typer.proofs.Sights.{unused_next}
 use Rattle.dpl_typer.proofs.Shaped.{loop-turns}
 use Rattle.dpl_planner.specs.declared.progress.Plan.{Plan}
 use Rattle.dpl_planner.specs.Bounds.{bound_new, loop_variable, bound_variable, bound_others, bound_variables, loop_type}
 use Rattle.dpl_planner.specs.Parts.{IsTurnKind, AreTurnKinds, AreFresh, slots_from, AreDeclared, StillDeclared, IsOpened}
-use Rattle.dpl_planner.specs.Plans.{seen_of}
-use Rattle.dpl_planner.proofs.Scoped.{sight_of-next, new-no_array, plain-add}
+use Rattle.dpl_planner.specs.Plans.{seen_of, AreOpen}
+use Rattle.dpl_planner.proofs.Scoped.{sight_of-plain, plain-add, open-known, new-no_array, IsOverNone, single-over, single-type}
 use Rattle.dpl_planner.proofs.Headers.{over-simple}
 
 -- THEIR TEXTS
@@ -93,13 +93,13 @@ slots-later t (x ∷ xs) ss =
     omega (arith, here, more)
 
 module _ (t : ValueType) (k : VariableKind) (kind : value_kind t ≡ Some k) (single : is_promoted k ≡ false) where
-  pub variables-plain : (xs : List (Placed Text)) (ss : Scopes) → AreFresh (Some t) xs ss → ArePlainScopes ss → ArePlainScopes (add_variables (Some t) xs ss)
+  pub variables-plain : (xs : List (Placed Text)) (ss : Scopes) → AreFresh (Some t) xs ss → AreOpen ss → AreOpen (add_variables (Some t) xs ss)
   variables-plain [] ss fresh h = h
   variables-plain (x ∷ xs) ss fresh h =
       let d = loop_variable (Some t) ss x.name in
-      variables-plain xs (add d ss) fresh.1 (plain-add d ss k kind single fresh.0 h)
+      variables-plain xs (add d ss) fresh.1 (plain-add d ss k kind (single-type t k kind single) refl fresh.0 h)
 
-  each-fits : (start : Start) (is : List (Bound × Op)) (xs : List (Placed Text)) (ss : Scopes) → ArePlainScopes ss → AreFresh (Some t) xs ss → next_slot_in (add_variables (Some t) xs ss) ≤ start.slots
+  each-fits : (start : Start) (is : List (Bound × Op)) (xs : List (Placed Text)) (ss : Scopes) → AreOpen ss → AreFresh (Some t) xs ss → next_slot_in (add_variables (Some t) xs ss) ≤ start.slots
       → fits_each (resolving start) (bound_list (Some t) xs ss) (seen_of ss is)
   each-fits start is [] ss h fresh le = tt
   each-fits start is (x ∷ xs) ss h fresh le =
@@ -108,19 +108,19 @@ module _ (t : ValueType) (k : VariableKind) (kind : value_kind t ≡ Some k) (si
       let more = slots-later (Some t) xs (add d ss) in
       let leaf : (bound_new ss d).variable.slot ≡ next_slot_in ss = ap (λ o. (leaf_by o (Some (next_slot_in ss))).slot) kind in
       let within : (bound_new ss d).variable.slot < start.slots = omega (arith, here, more, le, leaf) in (
-        (record { unused = subst (λ n. IsUnused n (sight_of ss)) (sym leaf) (unused_next ss h); within = within }, new-no_array ss d (k, kind, single)),
-        subst (λ fs. fits_each (resolving start) (bound_list (Some t) xs (add d ss)) (record { frames = fs; intents = is })) (sight_of-next d ss) (each-fits start is xs (add d ss) (plain-add d ss k kind single fresh.0 h) fresh.1 le),
+        (record { unused = subst (λ n. IsUnused n (sight_of ss)) (sym leaf) (unused_next ss (open-known ss h)); within = within }, new-no_array ss d k kind single),
+        subst (λ fs. fits_each (resolving start) (bound_list (Some t) xs (add d ss)) (record { frames = fs; intents = is })) (sight_of-plain d ss (single-over t k kind single ss d.origin)) (each-fits start is xs (add d ss) (plain-add d ss k kind (single-type t k kind single) refl fresh.0 h) fresh.1 le),
       )
 
-added-each : (start : Start) (t : Option ValueType) (is : List (Bound × Op)) (xs : List (Placed Text)) (ss : Scopes) → add_each (resolving start) (bound_list t xs ss) (seen_of ss is) ≡ seen_of (add_variables t xs ss) is
-added-each start t is [] ss = refl
-added-each start t is (x ∷ xs) ss =
+added-each : (start : Start) (t : Option ValueType) → IsOverNone t → (is : List (Bound × Op)) (xs : List (Placed Text)) (ss : Scopes) → add_each (resolving start) (bound_list t xs ss) (seen_of ss is) ≡ seen_of (add_variables t xs ss) is
+added-each start t none is [] ss = refl
+added-each start t none is (x ∷ xs) ss =
     let d = loop_variable t ss x.name in
-    ap (λ fs. add_each (resolving start) (bound_list t xs (add d ss)) (record { frames = fs; intents = is })) (sym (sight_of-next d ss)) ∙ added-each start t is xs (add d ss)
+    ap (λ fs. add_each (resolving start) (bound_list t xs (add d ss)) (record { frames = fs; intents = is })) (sym (sight_of-plain d ss (none ss d.origin))) ∙ added-each start t none is xs (add d ss)
 
 -- THE VARIABLES of a loop over ss
 module _ (start : Start) (t : ValueType) (ss : Scopes) (is : List (Bound × Op)) where
-  pub variables-fit : (xs : VariablesTree Text) → AreTurnKinds xs (value_kind t) → AreFresh (Some t) (variables_of xs) (enter ss) → ArePlainScopes ss
+  pub variables-fit : (xs : VariablesTree Text) → AreTurnKinds xs (value_kind t) → AreFresh (Some t) (variables_of xs) (enter ss) → AreKnownScopes ss
       → next_slot_in (add_variables (Some t) (variables_of xs) (enter ss)) ≤ start.slots → fits_variables (resolving start) (bound_variables (Some t) (enter ss) xs) (seen_of (enter ss) is)
   variables-fit (OneVariable x) kinds fresh h le =
       let (k, kind, single) = turn-kind (OneVariable x) (value_kind t) kinds in
@@ -131,17 +131,17 @@ module _ (start : Start) (t : ValueType) (ss : Scopes) (is : List (Bound × Op))
       (each-fits t k kind single start is (parts xs) (enter ss) (tt, h) fresh le)
 
   -- what is in sight in the body
-  pub inside-same : (xs : VariablesTree Text) → inside (resolving start) (bound_variables (Some t) (enter ss) xs) (seen_of ss is) ≡ seen_of (enter (add_variables (Some t) (variables_of xs) (enter ss))) is
-  inside-same (OneVariable x) = ap (λ g. (resolving start).enter g) (added-each start (Some t) is (x ∷ []) (enter ss))
-  inside-same (ManyVariables from xs upto) =
+  pub inside-same : IsOverNone (Some t) → (xs : VariablesTree Text) → inside (resolving start) (bound_variables (Some t) (enter ss) xs) (seen_of ss is) ≡ seen_of (enter (add_variables (Some t) (variables_of xs) (enter ss))) is
+  inside-same none (OneVariable x) = ap (λ g. (resolving start).enter g) (added-each start (Some t) none is (x ∷ []) (enter ss))
+  inside-same none (ManyVariables from xs upto) =
       ap (λ ys. (resolving start).enter (add_each (resolving start) (bound_variable (Some t) (enter ss) xs.first ∷ ys) (seen_of (enter ss) is))) (others-parts (Some t) (add (loop_variable (Some t) (enter ss) xs.first.name) (enter ss)) xs.others)
-      ∙ ap (λ g. (resolving start).enter g) (added-each start (Some t) is (parts xs) (enter ss))
+      ∙ ap (λ g. (resolving start).enter g) (added-each start (Some t) none is (parts xs) (enter ss))
 
   -- ints, for each coordinate
   hold-ints : value_kind t ≡ Some (PlainKind IntLeaf) → (xs : List (Placed Text)) (rs : Scopes) → holds_ints (resolving start) (bound_list (Some t) xs rs)
   hold-ints kind [] rs = tt
   hold-ints kind (x ∷ xs) rs = (
-    λ i. subst (λ o. MayHold (leaf_by o (Some (next_slot_in rs))).kind (shape_of t) (Int i)) (sym kind) ((i, refl), tt),
+    λ i. subst (λ o. MayHold (leaf_by o (Some (next_slot_in rs))).kind (shape_of t) (Int i)) (sym kind) ((i, refl), λ n. tt),
     hold-ints kind xs (add (loop_variable (Some t) rs x.name) rs),
   )
 
@@ -150,7 +150,7 @@ type-runs : (word : LoopWord) (x : Placed Text) (o : Option ValueType) (t : Valu
 type-runs word x None t e = absurd (none-some t e)
 type-runs word x (Some u) t e = (u, refl, e)
 
-pub turns-suit : (start : Start) (ss : Scopes) (is : List (Bound × Op)) (item : ItemTree Text) (word : LoopWord) (xs : VariablesTree Text) (t : ValueType) → ArePlainScopes ss → IsSimpleItem (IsFound ss) item
+pub turns-suit : (start : Start) (ss : Scopes) (is : List (Bound × Op)) (item : ItemTree Text) (word : LoopWord) (xs : VariablesTree Text) (t : ValueType) → AreKnownScopes ss → IsSimpleItem (IsFound ss) item
     → loop_type ss word xs item ≡ Some t → AreTurnKinds xs (value_kind t) → suits_turns (resolving start) (bound_variables (Some t) (enter ss) xs) (renamed_item (bound_in ss) item) (seen_of ss is)
 turns-suit start ss is item word (OneVariable x) t h simple typed kinds =
     let (k, kind, single) = turn-kind (OneVariable x) (value_kind t) kinds in

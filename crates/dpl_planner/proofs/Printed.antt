@@ -2,39 +2,47 @@
 -- Arguments so far, with what is made of those that are left, are all arguments.
 use Rattle.std.proofs.Common.{◌≡◌, ℕ, List, [], ◌∷◌, ◌++◌, Bor, Option, Some, None, refl, sym, ap, ◌∙◌, subst, map, append_assoc, append-nil}
 use Rattle.std.specs.Prelude.{option_map}
+use Rattle.std.proofs.lemmas.Option.{none-some}
 use Rattle.dpl_syntax.specs.declared.place.Place.{Place}
-use Rattle.dpl_language.specs.Tree.{AfterComma, Listed, Op, ExprTree, Number, TruthWord, Named, LocalesWord, LocaleCount, HereWord, Grouped, DomainLiteral, Prefixed, Reduced, Chain, Postfixed, One, ArgumentTree, TextArgument, ExprArgument, WriteTree, Write}
+use Rattle.dpl_language.specs.Tree.{Placed, AfterComma, Listed, Op, ExprTree, Number, TruthWord, Named, LocalesWord, LocaleCount, HereWord, Grouped, DomainLiteral, Prefixed, Reduced, Chain, Postfixed, One, ArgumentTree, TextArgument, ExprArgument, WriteTree, Write}
 use Rattle.dpl_language.specs.Names.{Text}
 use Rattle.dpl_language.specs.Phrases.{bare_name, cell_read}
 use Rattle.dpl_language.specs.Writing.{arguments_of}
-use Rattle.dpl_language.specs.Renamed.{renamed_expr, renamed_argument, renamed_read, map_comma, map_listed}
-use Rattle.dpl_language.specs.Scopes.{fits_arguments, fits_read, fits_shown}
-use Rattle.dpl_language.proofs.RenamedParts.{item_read-renamed, arguments_of-renamed}
-use Rattle.dpl_language.proofs.RenamedTwice.{renamed_expr-twice}
+use Rattle.dpl_agreement.specs.Renamed.{renamed_expr, renamed_argument, renamed_read, map_comma, map_listed}
+use Rattle.dpl_agreement.specs.Scopes.{fits_arguments, fits_read, fits_shown}
+use Rattle.dpl_agreement.proofs.RenamedParts.{item_read-renamed, arguments_of-renamed}
+use Rattle.dpl_agreement.proofs.RenamedTwice.{renamed_expr-twice}
+use Rattle.dpl_tree.specs.declared.expression.Name.{Name as NameNode}
+use Rattle.dpl_tree.specs.View.{name_view}
 use Rattle.dpl_rules.specs.Sights.{Scopes}
+use Rattle.dpl_sound.proofs.Given.{some-same}
 use Rattle.dpl_lowered.specs.Shapes.{nowhere, hidden, relisted}
 use Rattle.dpl_lowered.specs.LoweredExpressions.{Once, lowered_expr}
 use Rattle.dpl_lowered.specs.LoweredStatements.{array_name, lowered_shown, lowered_argument}
-use Rattle.dpl_memory.specs.Memory.{Variable, known_variable}
+use Rattle.dpl_tree.specs.declared.operator.ScalarKind.{ScalarKind}
+use Rattle.dpl_scopes.specs.Slots.{slot_in}
+use Rattle.dpl_memory.specs.Memory.{ArrayKind, Variable, variable, known_variable}
 use Rattle.dpl_memory.proofs.Fitting.{NamesAre, expr_fits}
 use Rattle.dpl_nodes.specs.declared.tree.IntExpr.{IntExpr, Local as IntLocal}
 use Rattle.dpl_nodes.specs.declared.tree.BoolExpr.{BoolExpr, Local as TruthLocal}
-use Rattle.dpl_nodes.specs.Typed.{int_view, truth_view}
+use Rattle.dpl_nodes.specs.Typed.{kind_view, int_view, truth_view}
 use Rattle.dpl_memory.specs.Resolved.{Bound, Start, text_of, variable_of, resolving, Resolves}
 use Rattle.dpl_nodes.specs.declared.step.Argument.{Argument}
 use Rattle.dpl_nodes.specs.declared.step.Argument.TheVariants as node
 use Rattle.dpl_nodes.specs.declared.step.Step.{Write as WriteStep}
 use Rattle.dpl_nodes.specs.Steps.{argument_view, next_argument_view, arguments_view}
-use Rattle.dpl_typer.specs.Leaves.{leaf_in, IsFound}
+use Rattle.dpl_typer.specs.Leaves.{leaf_by, leaf_in, IsFound}
 use Rattle.dpl_typer.specs.Simple.{IsSimple}
-use Rattle.dpl_typer.specs.Sights.{bound_in, ArePlainScopes}
+use Rattle.dpl_typer.specs.Sights.{bound_in, AreKnownScopes}
+use Rattle.dpl_typer.proofs.Sights.{innermost-found}
 use Rattle.dpl_typer.proofs.Fits.{expr_names-simple, unread-simple}
 use Rattle.dpl_planner.specs.declared.progress.Plan.{Plan}
-use Rattle.dpl_planner.specs.Parts.{IsArgument, AreArguments, StillArguments}
+use Rattle.dpl_planner.specs.Parts.{IsWholeArray, IsArgument, AreArguments, StillArguments}
 use Rattle.dpl_planner.specs.Plans.{seen_of, intents_in, PlansStmt}
 use Rattle.dpl_nodes.proofs.Unread.{cell_read-int, cell_read-truth}
 use Rattle.dpl_planner.proofs.Items.{expr-text}
 use Rattle.dpl_planner.proofs.Bodies.{goes-nowhere}
+use Rattle.dpl_planner.proofs.Scoped.{open-known}
 
 -- ---- ONE ARGUMENT
 pub text-argument : (ss : Scopes) (at : Place) (cs : List ℕ) (b : Bor (List ℕ)) → b.now ≡ cs → IsArgument ss (TextArgument at cs) (node.Text b)
@@ -85,7 +93,7 @@ module _ (ss : Scopes) (e : ExprTree Text) (f : ExprTree Variable) (unread : cel
       ap ExprArgument (ap (λ g. lowered_shown known_variable (renamed_expr variable_of made) g) (ap (lowered_expr known_variable Once) (renamed_expr-twice variable_of (bound_in ss) e) ∙ sym is)
       ∙ shown-open (renamed_expr variable_of made) f unread no_array)
 
-  expr_fits-before : (start : Start) (intents : List (Bound × Op)) (rest : List (ArgumentTree Bound)) → ArePlainScopes ss
+  expr_fits-before : (start : Start) (intents : List (Bound × Op)) (rest : List (ArgumentTree Bound)) → AreKnownScopes ss
       → fits_arguments (resolving start) rest (seen_of ss intents) → fits_arguments (resolving start) (renamed_argument (bound_in ss) (ExprArgument e) ∷ rest) (seen_of ss intents)
   expr_fits-before start intents rest h f =
       let names = expr_names-simple ss e h found in
@@ -106,6 +114,24 @@ truth-argument ss e b is found = record {
   fits_before = expr_fits-before ss e (truth_view b.now) (cell_read-truth b.now) (array_name-truth b.now) is found;
 }
 
+-- a bare name is the name that it is
+pub bare-same : (o : Option (Bor NameNode)) (n : Bor NameNode) (x : Placed Text) → o ≡ Some n → option_map (λ x. name_view x.now) o ≡ Some x → n.now.text.now ≡ x.name
+bare-same None n x e is = absurd (none-some n e)
+bare-same (Some m) n x e is = ap (λ (y : Bor NameNode). y.now.text.now) (sym (some-same m n e)) ∙ ap (λ (y : Placed Text). y.name) (some-same (name_view m.now) x is)
+
+-- a whole array, by its name
+pub array-argument : (ss : Scopes) (e : ExprTree Text) (k : ScalarKind) (slot : ℕ) → IsWholeArray ss e (kind_view k) slot → IsArgument ss (ExprArgument e) (node.Array k slot)
+array-argument ss e k slot (x, named, kind, at) = subst (λ e. IsArgument ss (ExprArgument e) (node.Array k slot)) (sym named) (record {
+  text = refl;
+  node = ap (λ (l : Variable). lowered_argument known_variable (ExprArgument (Named (record { at = x.at; name = l })))) leaf;
+  fits_before = λ start is rest h f.
+      let found = innermost-found x.name ss h (ArrayKind (kind_view k), slot, kind, at) in
+      ((found, tt), λ t. found, f);
+})
+  where
+    leaf : leaf_in ss x.name ≡ variable (ArrayKind (kind_view k)) slot
+    leaf = ap (λ o. leaf_by o (slot_in ss x.name)) kind ∙ ap (leaf_by (Some (ArrayKind (kind_view k)))) at
+
 -- ---- ARGUMENTS, one by one
 pub arguments-step : (ss : Scopes) (all : List (ArgumentTree Text)) (a : ArgumentTree Text) (rest : List (ArgumentTree Text)) (so_far : List Argument) (b : Argument)
     → StillArguments ss all (a ∷ rest) so_far → IsArgument ss a b → StillArguments ss all rest (so_far ++ b ∷ [])
@@ -115,7 +141,7 @@ pub arguments-ended : (ss : Scopes) (all left : List (ArgumentTree Text)) (so_fa
 arguments-ended ss all left so_far none still = subst (AreArguments ss all) (append-nil so_far) (still [] (subst (λ xs. AreArguments ss xs []) (sym none) tt))
 
 -- ---- THE STATEMENT
-arguments-fit : (ss : Scopes) (xs : List (ArgumentTree Text)) (bs : List Argument) → AreArguments ss xs bs → (start : Start) (is : List (Bound × Op)) → ArePlainScopes ss
+arguments-fit : (ss : Scopes) (xs : List (ArgumentTree Text)) (bs : List Argument) → AreArguments ss xs bs → (start : Start) (is : List (Bound × Op)) → AreKnownScopes ss
     → fits_arguments (resolving start) (map (renamed_argument (bound_in ss)) xs) (seen_of ss is)
 arguments-fit ss [] [] f start is h = tt
 arguments-fit ss [] (b ∷ bs) f start is h = absurd f
@@ -166,5 +192,5 @@ write-plans a w bs f = record {
   node = ap (λ xs. Write (record { at = nowhere; ends_line = w.ends_line; from = nowhere; arguments = xs; upto = nowhere; semicolon = nowhere })) (arguments-node a.scopes w.arguments bs.now f);
   resolves = λ start h le.
       subst (λ xs. fits_arguments (resolving start) xs (seen_of a.scopes (intents_in a))) (sym (arguments_of-renamed (bound_in a.scopes) w.arguments))
-      (arguments-fit a.scopes (arguments_of w.arguments) bs.now f start (intents_in a) h);
+      (arguments-fit a.scopes (arguments_of w.arguments) bs.now f start (intents_in a) (open-known a.scopes h));
 }

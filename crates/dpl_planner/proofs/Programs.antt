@@ -3,8 +3,8 @@
 use Rattle.std.proofs.Common.{◌≡◌, ◌≤◌, List, [], map, sym, ap, ◌∙◌, subst}
 use Rattle.dpl_language.specs.Tree.{ProgramTree}
 use Rattle.dpl_language.specs.Names.{Text}
-use Rattle.dpl_language.specs.Renamed.{renamed_stmts, renamed_program}
-use Rattle.dpl_language.specs.Scopes.{fits_all, after_all}
+use Rattle.dpl_agreement.specs.Renamed.{renamed_stmts, renamed_program}
+use Rattle.dpl_agreement.specs.Scopes.{fits_all, after_all}
 use Rattle.dpl_rules.specs.Sights.{Scopes}
 use Rattle.dpl_rules.specs.Breaches.{top}
 use Rattle.dpl_rules.specs.Sound.{behind_all}
@@ -13,13 +13,13 @@ use Rattle.dpl_memory.specs.Memory.{known_variable}
 use Rattle.dpl_memory.specs.Resolved.{Start, text_of, variable_of, first_seen, resolving}
 use Rattle.dpl_nodes.specs.declared.step.Step.{Step}
 use Rattle.dpl_nodes.specs.Steps.{steps_of}
-use Rattle.dpl_typer.specs.Sights.{sight_of, ArePlainScopes}
+use Rattle.dpl_typer.specs.Sights.{sight_of, AreKnownScopes}
 use Rattle.dpl_planner.specs.declared.progress.Plan.{Plan}
 use Rattle.dpl_planner.specs.declared.progress.Reducing.{Reducing}
 use Rattle.dpl_planner.specs.Bounds.{bound_stmts, bound_program}
 use Rattle.dpl_planner.specs.Given.{AreGiven}
-use Rattle.dpl_planner.specs.Plans.{reducing_view, seen_of, IsOneScope, Stands, stmts_leaves, PlansTops}
-use Rattle.dpl_planner.proofs.Scoped.{after-stmts}
+use Rattle.dpl_planner.specs.Plans.{reducing_view, seen_of, AreOpen, IsOneScope, Stands, stmts_leaves, PlansTops}
+use Rattle.dpl_planner.proofs.Scoped.{after-stmts, open-known}
 
 module _ (a b : Plan) (t : ProgramTree Text) (steps : List Step) (begun : a.scopes ≡ top) (none : a.intents.items ≡ []) (p : PlansTops a b t.stmts steps) where
   abbrev At : Scopes → List Reducing → Type 0
@@ -30,8 +30,8 @@ module _ (a b : Plan) (t : ProgramTree Text) (steps : List Step) (begun : a.scop
   all : At top []
   all = subst (λ is. At top is) none (subst (λ ss. At ss a.intents.items) begun (p (subst IsOneScope (sym begun) tt)))
 
-  first_plain : ArePlainScopes a.scopes
-  first_plain = subst ArePlainScopes (sym begun) (tt, tt)
+  first_plain : AreOpen a.scopes
+  first_plain = subst AreOpen (sym begun) (tt, tt)
 
   pub program-text : renamed_program text_of (bound_program t) ≡ t
   program-text = ap (λ ts. record { uses = t.uses; stmts = ts; end = t.end }) all.text
@@ -45,10 +45,10 @@ module _ (a b : Plan) (t : ProgramTree Text) (steps : List Step) (begun : a.scop
   pub program-scopes : b.scopes ≡ behind_all top t.stmts
   program-scopes = all.goes.scopes
 
+  pub program-plain : AreKnownScopes b.scopes
+  program-plain = open-known b.scopes (all.goes.plain first_plain)
+
   pub program-left : (start : Start) → (after_all (resolving start) (bound_program t).stmts first_seen).frames ≡ sight_of b.scopes
   program-left start =
-      let plain = all.goes.plain first_plain in
-      ap (λ s. s.frames) (after-stmts start t.stmts top [] (subst ArePlainScopes all.goes.scopes plain)) ∙ ap sight_of (sym all.goes.scopes)
-
-  pub program-plain : ArePlainScopes b.scopes
-  program-plain = all.goes.plain first_plain
+      let plain = program-plain in
+      ap (λ s. s.frames) (after-stmts start t.stmts top [] (subst AreKnownScopes all.goes.scopes plain)) ∙ ap sight_of (sym all.goes.scopes)

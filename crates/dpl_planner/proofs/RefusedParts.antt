@@ -5,12 +5,14 @@ use Rattle.std.specs.Prelude.{bytes_eq}
 use Rattle.std.proofs.lemmas.List.{drop_more}
 use Rattle.std.proofs.lemmas.Option.{none-some}
 use Rattle.std.proofs.lemmas.Slice.Eq.{bytes_eq-Decides}
-use Rattle.dpl_language.specs.Tree.{ExprTree, ItemTree, DeclareTree}
+use Rattle.dpl_language.specs.Tree.{Op, Assign, Kind, ExprTree, ItemTree, TypeTree, ScalarType, SyncType, DomainType, ArrayType, DeclareTree}
 use Rattle.dpl_language.specs.Names.{Text}
-use Rattle.dpl_rules.specs.Types.{ValueType}
-use Rattle.dpl_rules.specs.Sights.{Declared, Scopes, declared_here}
+use Rattle.dpl_language.specs.Declarations.{type_of}
+use Rattle.dpl_rules.specs.Types.{ValueType, Scalar, Domain, Cell}
+use Rattle.dpl_rules.specs.Sights.{Declared, Scopes, declared_here, origin_in}
+use Rattle.dpl_sound.proofs.Given.{some-same}
 use Rattle.dpl_rules.specs.Expressions.{item_type, type_of as expr_type}
-use Rattle.dpl_rules.specs.Declarations.{declared_by}
+use Rattle.dpl_rules.specs.Declarations.{is_kept, type_given, declaration_breaches, declared_by}
 use Rattle.dpl_tree.specs.declared.operator.ScalarKind.{ScalarKind}
 use Rattle.dpl_tree.specs.declared.operator.ScalarKind.TheVariants.{Int as IntScalar, Bool as TruthScalar}
 use Rattle.dpl_tree.specs.declared.statement.NextArgument.{NextArgument}
@@ -20,18 +22,21 @@ use Rattle.dpl_types.specs.declared.value_type.ValueType.{ValueType as TypeNode}
 use Rattle.dpl_types.specs.View.{type_view, of_type}
 use Rattle.dpl_scopes.specs.declared.declared.Declared.{Declared as DeclaredNode}
 use Rattle.dpl_scopes.specs.View.{declared_view}
-use Rattle.dpl_words.specs.Words.{RangeLeaf}
+use Rattle.dpl_words.specs.Words.{IntLeaf, TruthLeaf, RangeLeaf}
 use Rattle.dpl_memory.specs.Memory.{VariableKind, PlainKind, DomainKind, TupleKind, ArrayKind}
 use Rattle.dpl_typer.specs.declared.make.Typed.{Typed}
-use Rattle.dpl_typer.specs.Makers.{kind_of}
+use Rattle.dpl_typer.specs.Makers.{kind_of, is_promoted}
 use Rattle.dpl_nodes.specs.Steps.{scalar_leaf}
-use Rattle.dpl_typer.specs.Leaves.{value_kind, kind_by, IsOfType}
+use Rattle.dpl_memory.specs.Resolved.{Bound}
+use Rattle.dpl_typer.specs.Leaves.{value_kind, kind_by, kind_in, IsOfType}
 use Rattle.dpl_typer.proofs.OperatorKinds.{kind-same}
-use Rattle.dpl_runnable.specs.Kinds.{IsDeclaredKind, IsAssignedKind}
-use Rattle.dpl_runnable.specs.Runnable.{IsExprOf, IsItemOf, IsShapedInitial, IsRunnableDeclare, AreToldAlike, IsRunnableArgument, AreRunnableArguments, IsRunnableIntent, AreRunnableIntents}
+use Rattle.dpl_runnable.specs.Kinds.{IsDeclaredKind, IsAssignedKind, IsGivenTo}
+use Rattle.dpl_runnable.specs.Runnable.{IsExprOf, IsItemOf, IsRunnableChange, IsRunnableType, IsShapedInitial, IsRunnableDeclare, AreToldAlike, IsRunnableArgument, AreRunnableArguments, IsRunnableIntent, AreRunnableIntents}
 use Rattle.dpl_planner.specs.declared.progress.Reducing.{Reducing}
-use Rattle.dpl_planner.specs.Parts.{others_in, intents_among}
+use Rattle.dpl_planner.specs.Arrays.{IsNoArrayType}
+use Rattle.dpl_planner.specs.Parts.{IsSingleKind, IsChangedKind, IsSingleType, others_in, intents_among}
 use Rattle.dpl_planner.specs.Plans.{reducing_view}
+use Rattle.dpl_planner.proofs.Scoped.{unless-both, kept-single, untyped-declared}
 
 -- ---- KINDS
 pub no_kind : (t : Option ValueType) (k : VariableKind) → t ≡ None → kind_by t ≢ Some k
@@ -64,12 +69,79 @@ pub no_iterable : (ss : Scopes) (i : ItemTree Text) → ((k : VariableKind) → 
 no_iterable ss i none (inl is) = no_kind (item_type ss i) (PlainKind RangeLeaf) (none (PlainKind RangeLeaf) is) is.kind
 no_iterable ss i none (inr is) = no_kind (item_type ss i) DomainKind (none DomainKind is) is.kind
 
--- what is assigned is declared too
-pub assigned-declared : (k : VariableKind) → IsAssignedKind k → IsDeclaredKind k
-assigned-declared (PlainKind k) h = tt
-assigned-declared DomainKind h = tt
-assigned-declared TupleKind h = absurd h
-assigned-declared (ArrayKind k) h = absurd h
+-- what is no array's is given a value of its own kind
+pub single-kind : (k : VariableKind) → IsDeclaredKind k → is_promoted k ≡ false → IsSingleKind k
+single-kind (PlainKind k) h e = tt
+single-kind DomainKind h e = tt
+single-kind TupleKind h e = absurd h
+single-kind (ArrayKind k) h e = absurd (let f : true ≡ false = e in cc)
+
+pub single-given : (k j : VariableKind) → IsSingleKind k → IsGivenTo k j → j ≡ k
+single-given (PlainKind k) j h e = e
+single-given DomainKind j h e = e
+single-given TupleKind j h e = absurd h
+single-given (ArrayKind k) j h e = absurd h
+
+pub given-kind : (ss : Scopes) (i : ItemTree Text) (t : Typed) (k j : VariableKind) → IsOfType t (item_type ss i) → IsSingleKind k → IsItemOf ss i j → IsGivenTo k j → kind_of t ≡ k
+given-kind ss i t k j of_type single is takes = item-kind ss i j t of_type is ∙ single-given k j single takes
+
+-- what is assigned, and no array's
+pub changed-kind : (k : VariableKind) → IsAssignedKind k → is_promoted k ≡ false → IsChangedKind k
+changed-kind (PlainKind IntLeaf) h e = tt
+changed-kind (PlainKind TruthLeaf) h e = tt
+changed-kind (PlainKind RangeLeaf) h e = absurd h
+changed-kind DomainKind h e = tt
+changed-kind TupleKind h e = absurd h
+changed-kind (ArrayKind k) h e = absurd (let f : true ≡ false = e in cc)
+
+pub changed-held : (k : VariableKind) → IsChangedKind k → IsSingleKind k
+changed-held (PlainKind k) h = tt
+changed-held DomainKind h = tt
+changed-held TupleKind h = absurd h
+changed-held (ArrayKind k) h = absurd h
+
+pub unarrayed : (o : Option VariableKind) (k : VariableKind) → ((l : Kind) → o ≢ Some (ArrayKind l)) → o ≡ Some k → is_promoted k ≡ false
+unarrayed o (PlainKind k) none e = refl
+unarrayed o DomainKind none e = refl
+unarrayed o TupleKind none e = refl
+unarrayed o (ArrayKind k) none e = absurd (none k e)
+
+-- an assignment that runs, to what is no array's: what is assigned is of the name's kind
+pub single-change : (ss : Scopes) (is : List (Bound × Op)) (x : Text) (op : Assign) (value : ItemTree Text) (t : Typed) → ((k : Kind) → kind_in ss x ≢ Some (ArrayKind k)) → IsOfType t (item_type ss value)
+    → (s : IsRunnableChange ss is x op value) → IsChangedKind s.kind × (kind_of t ≡ s.kind)
+single-change ss is x op value t none of_type s =
+    let changed = changed-kind s.kind s.assigned (unarrayed (kind_in ss x) s.kind none s.target) in
+    (changed, given-kind ss value t s.kind s.given of_type (changed-held s.kind changed) s.item s.takes)
+
+-- a type that runs, of what is no array
+pub single-type : (ss : Scopes) (t : Option (TypeTree Text)) → IsRunnableType ss t → IsNoArrayType t → IsSingleType t
+single-type ss None h n = tt
+single-type ss (Some (ScalarType at k)) h n = tt
+single-type ss (Some (SyncType at kind_at k)) h n = absurd h
+single-type ss (Some (DomainType d)) h n = h
+single-type ss (Some (ArrayType a)) h n = absurd n
+
+-- a declaration without an array's type is of no array
+single-kept : (ss : Scopes) (d : DeclareTree Text) (t : ValueType) (k : VariableKind) → IsNoArrayType (type_of d.typed) → (declared_by ss d).type ≡ Some t → value_kind t ≡ Some k → is_kept t ≡ true
+single-kept ss d t k none e kind = by (type_of d.typed) refl none
+  where
+    given : type_given ss (origin_in ss d.name.name) (type_of d.typed) d.initial ≡ Some t
+    given = (unless-both (declaration_breaches ss d) (type_given ss (origin_in ss d.name.name) (type_of d.typed) d.initial) t e).1
+
+    by : (y : Option (TypeTree Text)) → type_of d.typed ≡ y → IsNoArrayType y → is_kept t ≡ true
+    by None is n = untyped-declared ss d t is e
+    by (Some (ScalarType at l)) is n = ap is_kept (sym (some-same (Scalar l) t (subst (λ y. type_given ss (origin_in ss d.name.name) y d.initial ≡ Some t) is given)))
+    by (Some (SyncType at kind_at l)) is n =
+        let cell : Cell l ≡ t = some-same (Cell l) t (subst (λ y. type_given ss (origin_in ss d.name.name) y d.initial ≡ Some t) is given) in
+        absurd (none-some k (ap value_kind cell ∙ kind))
+    by (Some (DomainType y)) is n = ap is_kept (sym (some-same (Domain y.rank false) t (subst (λ y. type_given ss (origin_in ss d.name.name) y d.initial ≡ Some t) is given)))
+    by (Some (ArrayType a)) is n = absurd n
+
+pub declared-single_kind : (ss : Scopes) (d : DeclareTree Text) → IsNoArrayType (type_of d.typed) → (s : IsRunnableDeclare ss d) → IsSingleKind s.kind
+declared-single_kind ss d none s =
+    let typed = some-type (declared_by ss d).type s.kind s.declared in
+    let kind : value_kind typed.0 ≡ Some s.kind = ap kind_by (sym typed.1) ∙ s.declared in
+    single-kind s.kind s.kept (kept-single typed.0 s.kind (single-kept ss d typed.0 s.kind none typed.1 kind) kind)
 
 -- ---- DECLARATIONS: one that runs has a type of its kind, and its name is new in its scope
 module _ (ss : Scopes) (d : DeclareTree Text) (made : DeclaredNode) (same : declared_view made ≡ declared_by ss d) (s : IsRunnableDeclare ss d) where

@@ -7,9 +7,9 @@ use Rattle.dpl_syntax.specs.declared.place.Place.{Place}
 use Rattle.dpl_language.specs.Tree.{Placed, ExprTree, ItemTree, VariablesTree, IntentTree, ReduceIntent, RefIntent, WithTree, StmtTree, Nothing, If, While, For, Forall, Body, Else}
 use Rattle.dpl_language.specs.Names.{Text}
 use Rattle.dpl_language.specs.Phrases.{intents_of}
-use Rattle.dpl_language.specs.Scopes.{fits as fits_stmt, fits_body}
-use Rattle.dpl_language.specs.Renamed.{renamed_stmt, renamed_expr, renamed_item, renamed_intent, renamed_with, renamed_variables, renamed_body, renamed_else, renamed_intents}
-use Rattle.dpl_language.proofs.RenamedParts.{intents_of-renamed}
+use Rattle.dpl_agreement.specs.Scopes.{fits as fits_stmt, fits_body}
+use Rattle.dpl_agreement.specs.Renamed.{renamed_stmt, renamed_expr, renamed_item, renamed_intent, renamed_with, renamed_variables, renamed_body, renamed_else, renamed_intents}
+use Rattle.dpl_agreement.proofs.RenamedParts.{intents_of-renamed}
 use Rattle.dpl_rules.specs.Types.{ValueType}
 use Rattle.dpl_rules.specs.Sights.{Scope, Scopes, enter}
 use Rattle.dpl_rules.specs.Loops.{ForWord, ForallWord, variables_of, add_variables}
@@ -29,15 +29,16 @@ use Rattle.dpl_nodes.specs.Steps.{listed, intent_view, names_view, steps_of, ste
 use Rattle.dpl_nodes.proofs.Rows.{steps_view-row}
 use Rattle.dpl_typer.specs.Makers.{typed_item}
 use Rattle.dpl_typer.specs.Leaves.{value_kind}
-use Rattle.dpl_typer.specs.Sights.{bound_in, ArePlainScopes}
+use Rattle.dpl_typer.specs.Sights.{bound_in, AreKnownScopes}
 use Rattle.dpl_planner.specs.declared.loops.Iterable.{Iterable}
 use Rattle.dpl_planner.specs.declared.progress.Plan.{Plan}
 use Rattle.dpl_planner.specs.declared.progress.Reducing.{Reducing}
 use Rattle.dpl_planner.specs.Bounds.{loop_variable, bound_variables, loop_type, bound_body, bound_else}
 use Rattle.dpl_planner.specs.Parts.{IsItem, AreTurnKinds, AreFresh, over_typed, IsCondition, IsOpened}
-use Rattle.dpl_planner.specs.Plans.{reducing_view, seen_of, intents_in, seen_in, Stands, body_leaves, else_leaves, PlansStmt, PlansBody, PlansElse}
+use Rattle.dpl_planner.specs.Plans.{reducing_view, seen_of, AreOpen, intents_in, seen_in, Stands, body_leaves, else_leaves, PlansStmt, PlansBody, PlansElse}
 use Rattle.dpl_planner.proofs.Items.{item-text, item-node, item-fits, expr-text, condition-node, condition-fits}
 use Rattle.dpl_planner.proofs.Opened.{variables-text, turn-kind, variables-plain, variables-fit, inside-same, turns-suit}
+use Rattle.dpl_planner.proofs.Scoped.{open-known, IsOverNone, single-over}
 use Rattle.dpl_planner.proofs.Bodies.{goes-back, goes-nowhere, goes-then, goes-left, body-at, else-at, left}
 use Rattle.dpl_planner.proofs.Mapped.{map_listed-back}
 
@@ -54,7 +55,7 @@ while-plans a b at spot e made body steps near is p = record {
   text = both (While at) (expr-text a.scopes e) p.text;
   node = ap (λ x. While x (lowered_expr known_variable Once (renamed_expr variable_of (renamed_expr (bound_in a.scopes) e))) (body_leaves (enter a.scopes) body)) (sym near)
       ∙ both (While spot.now) (condition-node a.scopes e made is) (p.node ∙ ap listed (sym (steps_view-row steps.now)));
-  resolves = λ start h le. (condition-fits a.scopes e made is start (intents_in a) h, p.resolves start h le);
+  resolves = λ start h le. (condition-fits a.scopes e made is start (intents_in a) (open-known a.scopes h), p.resolves start h le);
 }
 
 pub if-plans : (a b c : Plan) (at : Place) (e : ExprTree Text) (made : Bor BoolExpr) (first : Body Text) (steps : Bor (List Step)) (second : Else Text) (other : ElseNode)
@@ -68,7 +69,7 @@ if-plans a b c at e made first steps second other is p q =
           ∙ both (If nowhere (truth_view made.now)) (p.node ∙ ap listed (sym (steps_view-row steps.now))) r.node;
       resolves = λ start h le.
           let m = r.goes.slots in
-          (condition-fits a.scopes e made is start (intents_in a) h, p.resolves start h (omega (arith, m, le)), r.resolves start (p.goes.plain h) le);
+          (condition-fits a.scopes e made is start (intents_in a) (open-known a.scopes h), p.resolves start h (omega (arith, m, le)), r.resolves start (p.goes.plain h) le);
     }
 
 -- ---- LOOPS
@@ -80,10 +81,16 @@ dropped t (x ∷ xs) s ss = dropped t xs (loop_variable t (s ∷ ss) x.name ∷ 
 abbrev turning : Option ValueType → VariablesTree Text → Scopes → Scopes
 turning t xs ss = add_variables t (variables_of xs) (enter ss)
 
-turning-plain : (t : ValueType) (xs : VariablesTree Text) (ss : Scopes) → AreTurnKinds xs (value_kind t) → AreFresh (Some t) (variables_of xs) (enter ss) → ArePlainScopes ss → ArePlainScopes (turning (Some t) xs ss)
+turning-plain : (t : ValueType) (xs : VariablesTree Text) (ss : Scopes) → AreTurnKinds xs (value_kind t) → AreFresh (Some t) (variables_of xs) (enter ss) → AreKnownScopes ss → AreOpen (turning (Some t) xs ss)
 turning-plain t xs ss kinds fresh h =
     let (k, kind, single) = turn-kind xs (value_kind t) kinds in
     variables-plain t k kind single (variables_of xs) (enter ss) fresh (tt, h)
+
+-- a loop's variable is over no domain
+turning-over : (t : ValueType) (xs : VariablesTree Text) → AreTurnKinds xs (value_kind t) → IsOverNone (Some t)
+turning-over t xs kinds =
+    let (k, kind, single) = turn-kind xs (value_kind t) kinds in
+    single-over t k kind single
 
 -- there are slots for all of them
 enough : (b : Plan) (vs : Scopes) (m n : ℕ) → b.scopes ≡ vs → next_slot_in b.scopes ≤ b.slots → b.slots ≤ m → m ≤ n → next_slot_in vs ≤ n
@@ -120,11 +127,11 @@ module _ (at word : Place) (xs : VariablesTree Text) (item : ItemTree Text) (bod
             ∙ ap (λ ys. For spot.now ys nowhere items turns) (sym opened.node)
             ∙ both (For spot.now (names_view names) nowhere) (item-node ss item (over_typed over) is Once) q.node ∙ sym made;
         resolves = λ start h le. (
-          item-fits ss item (over_typed over) is start (intents_in a) h None,
-          turns-suit start ss (intents_in a) item ForWord xs t h is.found typed opened.kinds,
-          variables-fit start t ss (intents_in a) xs opened.kinds opened.fresh h (enough b vs c.slots start.slots opened.scopes opened.below grown le),
-          subst (fits_body (resolving start) (bound_body (enter vs) body)) (sym (inside-same start t ss (intents_in a) xs))
-              (q.resolves start (subst ArePlainScopes (sym opened.scopes) (turning-plain t xs ss opened.kinds opened.fresh h)) le),
+          item-fits ss item (over_typed over) is start (intents_in a) (open-known ss h) None,
+          turns-suit start ss (intents_in a) item ForWord xs t (open-known ss h) is.found typed opened.kinds,
+          variables-fit start t ss (intents_in a) xs opened.kinds opened.fresh (open-known ss h) (enough b vs c.slots start.slots opened.scopes opened.below grown le),
+          subst (fits_body (resolving start) (bound_body (enter vs) body)) (sym (inside-same start t ss (intents_in a) (turning-over t xs opened.kinds) xs))
+              (q.resolves start (subst AreOpen (sym opened.scopes) (turning-plain t xs ss opened.kinds opened.fresh (open-known ss h))) le),
         );
       } in
       subst (λ o. PlansFor o a (left c) s) (sym typed) planned
@@ -184,13 +191,13 @@ module _ (at word : Place) (xs : VariablesTree Text) (item : ItemTree Text) (w :
             ∙ ap (λ v. Forall spot.now (names_view names) nowhere items (with_intents v) turns) (intents-node ss w found.items named is.now unnamed)
             ∙ both (λ i t. Forall spot.now (names_view names) nowhere i (with_intents (map intent_view is.now)) t) (item-node ss item (over_typed over) ranged Once) q.node ∙ sym made;
         resolves = λ start h le. (
-          item-fits ss item (over_typed over) ranged start (intents_in a) h None,
-          turns-suit start ss (intents_in a) item ForallWord xs t h ranged.found typed opened.kinds,
+          item-fits ss item (over_typed over) ranged start (intents_in a) (open-known ss h) None,
+          turns-suit start ss (intents_in a) item ForallWord xs t (open-known ss h) ranged.found typed opened.kinds,
           ap (map reducing_view) outside,
-          variables-fit start t ss (intents_of with) xs opened.kinds opened.fresh h (enough b vs c.slots start.slots opened.scopes opened.below grown le),
-          subst (fits_body (resolving start) (bound_body (enter vs) body)) (sym (inside-same start t ss (intents_of with) xs))
+          variables-fit start t ss (intents_of with) xs opened.kinds opened.fresh (open-known ss h) (enough b vs c.slots start.slots opened.scopes opened.below grown le),
+          subst (fits_body (resolving start) (bound_body (enter vs) body)) (sym (inside-same start t ss (intents_of with) (turning-over t xs opened.kinds) xs))
               (subst (λ v. fits_body (resolving start) (bound_body (enter vs) body) (seen_of (enter vs) v)) intents
-              (q.resolves start (subst ArePlainScopes (sym opened.scopes) (turning-plain t xs ss opened.kinds opened.fresh h)) le)),
+              (q.resolves start (subst AreOpen (sym opened.scopes) (turning-plain t xs ss opened.kinds opened.fresh (open-known ss h))) le)),
         );
       } in
       subst (λ o. PlansForall o a (record (left c) { intents = none }) s) (sym typed) planned

@@ -1,17 +1,20 @@
 -- A program with its names resolved by the scopes as they stand where each name does.
 -- A declared name has the next slot, and any other the leaf of its innermost declaration.
-use Rattle.std.specs.Prelude.{List, [], ◌∷◌, Option, option_map}
-use Rattle.dpl_language.specs.Tree.{Placed, AfterComma, ItemTree, VariablesTree, OneVariable, ManyVariables, DeclareTree, StmtTree, Nothing, Declare, Assigned, Call, Write, Block, If, While, For, Forall, Coforall, On, Body, WordBody, BlockBody, Stmts, NoStmts, Then, Else, NoElse, ElseDo, ProgramTree}
+use Rattle.std.specs.Prelude.{ℕ, List, [], ◌∷◌, Option, option_map}
+use Rattle.dpl_language.specs.Tree.{Placed, AfterComma, ItemTree, VariablesTree, OneVariable, ManyVariables, DeclareTree, TargetTree, Whole, Element, StmtTree, Nothing, Declare, Assigned, Call, Write, Block, If, While, For, Forall, Coforall, On, Body, WordBody, BlockBody, Stmts, NoStmts, Then, Else, NoElse, ElseDo, ProgramTree}
 use Rattle.dpl_language.specs.Names.{Text}
-use Rattle.dpl_language.specs.Renamed.{renamed, renamed_expr, renamed_item, renamed_typed, renamed_initial, renamed_write, renamed_with, renamed_target, renamed_call}
+use Rattle.dpl_agreement.specs.Renamed.{renamed, renamed_expr, renamed_exprs, renamed_item, renamed_typed, renamed_initial, renamed_write, renamed_with, renamed_call}
 use Rattle.dpl_rules.specs.Types.{ValueType}
 use Rattle.dpl_rules.specs.Sights.{LoopVariable, Declared, Scopes, enter, add, origin_in}
 use Rattle.dpl_rules.specs.Declarations.{declared_by}
 use Rattle.dpl_rules.specs.Loops.{LoopWord, ForWord, ForallWord, CoforallWord, typed_variable, over_type, in_loop, behind}
 use Rattle.dpl_rules.specs.Breaches.{top}
 use Rattle.dpl_scopes.specs.Slots.{next_slot_in}
-use Rattle.dpl_memory.specs.Resolved.{Bound}
-use Rattle.dpl_typer.specs.Sights.{bound_in, bound_at}
+use Rattle.dpl_memory.specs.Memory.{VariableKind, PlainKind, DomainKind, TupleKind, ArrayKind, Variable}
+use Rattle.dpl_memory.specs.Resolved.{Bound, arrays_over}
+use Rattle.dpl_typer.specs.Leaves.{leaf_in}
+use Rattle.dpl_typer.specs.Shapes.{shape_in}
+use Rattle.dpl_typer.specs.Sights.{bound_in, bound_at, sight_of}
 
 -- a name that is declared here
 abbrev pub bound_new : Scopes → Declared → Bound
@@ -27,6 +30,23 @@ bound_declare ss d = record {
   initial = option_map (renamed_initial (bound_in ss)) d.initial;
   semicolon = d.semicolon;
 }
+
+-- ASSIGNMENTS: where a domain is assigned, the arrays in sight that are over it stand with its name
+abbrev pub arrays_at : VariableKind → ℕ → Scopes → List ℕ
+arrays_at (PlainKind k) slot ss = []
+arrays_at DomainKind slot ss = arrays_over slot (sight_of ss)
+arrays_at TupleKind slot ss = []
+arrays_at (ArrayKind k) slot ss = []
+
+abbrev pub with_arrays : Scopes → Variable → Variable
+with_arrays ss x = record { kind = x.kind; slot = x.slot; arrays = arrays_at x.kind x.slot ss }
+
+abbrev pub assigned_in : Scopes → Text → Bound
+assigned_in ss x = record { text = x; variable = with_arrays ss (leaf_in ss x); shape = shape_in ss x }
+
+abbrev pub bound_target : Scopes → TargetTree Text → TargetTree Bound
+bound_target ss (Whole x) = Whole (renamed (assigned_in ss) x)
+bound_target ss (Element x shape from es upto) = Element (renamed (bound_in ss) x) shape from (renamed_exprs (bound_in ss) es) upto
 
 -- LOOPS: each variable is declared behind those before it, in the scope of the loop
 abbrev pub loop_variable : Option ValueType → Scopes → Text → Declared
@@ -54,7 +74,7 @@ abbrev mutual
   pub bound_stmt : Scopes → StmtTree Text → StmtTree Bound
   bound_stmt ss (Nothing at) = Nothing at
   bound_stmt ss (Declare d) = Declare (bound_declare ss d)
-  bound_stmt ss (Assigned target sign item semicolon) = Assigned (renamed_target (bound_in ss) target) sign (renamed_item (bound_in ss) item) semicolon
+  bound_stmt ss (Assigned target sign item semicolon) = Assigned (bound_target ss target) sign (renamed_item (bound_in ss) item) semicolon
   bound_stmt ss (Call x dot call semicolon) = Call (renamed (bound_in ss) x) dot (renamed_call (bound_in ss) call) semicolon
   bound_stmt ss (Write w) = Write (renamed_write (bound_in ss) w)
   bound_stmt ss (Block from body upto) = Block from (bound_stmts (enter ss) body) upto

@@ -1,14 +1,14 @@
 -- What is made of the parts of a statement: right sides, initial values, arguments, a loop's head.
 -- Each is the lowered tree of the part with its names resolved, and fits where they are in sight.
 use Rattle.std.specs.Borrow.{Bor}
-use Rattle.std.specs.Prelude.{◌≡◌, ◌≤◌, ℕ, false, List, [], ◌∷◌, ◌++◌, map, option_map, Option, Some, None}
+use Rattle.std.specs.Prelude.{◌≡◌, ◌≤◌, ℕ, nat_le, ◌&&◌, true, false, List, [], ◌∷◌, ◌++◌, map, option_map, Option, Some, None}
 use Rattle.dpl_syntax.specs.declared.place.Place.{Place}
-use Rattle.dpl_language.specs.Tree.{Placed, Op, Assign, Kind, ExprTree, ItemTree, One, TypedTree, TypeTree, ScalarType, SyncType, DomainType, ArrayType, InitTree, ItemInit, CreateInit, InitialTree, DeclareTree, Whole, StmtTree, Declare, Assigned, ArgumentTree, IntentTree, VariablesTree, OneVariable, ManyVariables}
+use Rattle.dpl_language.specs.Tree.{Placed, Op, Assign, Kind, ExprTree, Named, ItemTree, One, TypedTree, TypeTree, ScalarType, SyncType, DomainType, ArrayType, InitTree, ItemInit, CreateInit, InitialTree, DeclareTree, Whole, StmtTree, Declare, Assigned, ArgumentTree, IntentTree, VariablesTree, OneVariable, ManyVariables}
 use Rattle.dpl_language.specs.Arithmetic.{assign_divides}
 use Rattle.dpl_language.specs.Names.{Text}
 use Rattle.dpl_language.specs.Declarations.{type_of}
-use Rattle.dpl_language.specs.Renamed.{renamed_stmt, renamed_expr, renamed_item, renamed_typed, renamed_initial, renamed_argument, renamed_variables}
-use Rattle.dpl_language.specs.Scopes.{PlainSort, sort_by, fits as fits_stmt, fits_type, side_by, fits_initial, suits_declared, fits_arguments}
+use Rattle.dpl_agreement.specs.Renamed.{renamed_stmt, renamed_expr, renamed_item, renamed_typed, renamed_initial, renamed_argument, renamed_variables}
+use Rattle.dpl_agreement.specs.Scopes.{PlainSort, sort_by, fits as fits_stmt, fits_type, side_by, fits_initial, suits_declared, fits_arguments}
 use Rattle.dpl_tree.specs.Words.{kind_view}
 use Rattle.dpl_tree.specs.declared.statement.NextArgument.{NextArgument}
 use Rattle.dpl_tree.specs.declared.statement.NextIntent.{NextIntent}
@@ -17,7 +17,7 @@ use Rattle.dpl_rules.specs.Types.{ValueType, Scalar}
 use Rattle.dpl_rules.specs.Sights.{Scopes, declared_here, origin_in, add, enter}
 use Rattle.dpl_rules.specs.Loops.{variables_of, add_variables, behind}
 use Rattle.dpl_rules.specs.Declarations.{type_given, declared_by}
-use Rattle.dpl_scopes.specs.Slots.{next_slot_in}
+use Rattle.dpl_scopes.specs.Slots.{next_slot_in, slot_in}
 use Rattle.dpl_lowered.specs.Known.{may_be_whole}
 use Rattle.dpl_lowered.specs.Shapes.{nowhere, kept, placed}
 use Rattle.dpl_lowered.specs.LoweredExpressions.{Times, Once, lowered_expr, lowered_item}
@@ -35,10 +35,10 @@ use Rattle.dpl_nodes.specs.Steps.{unplaced_leaf, dimensions, of_rank, argument_v
 use Rattle.dpl_typer.specs.declared.make.Typed.{Typed}
 use Rattle.dpl_typer.specs.declared.make.Typed.TheVariants as typed
 use Rattle.dpl_typer.specs.Makers.{typed_item, kind_of, is_promoted}
-use Rattle.dpl_typer.specs.Leaves.{value_kind, leaf_in, IsFound}
+use Rattle.dpl_typer.specs.Leaves.{value_kind, kind_in, leaf_in, IsFound}
 use Rattle.dpl_typer.specs.Shapes.{shape_of, IsTaken}
 use Rattle.dpl_typer.specs.Simple.{IsSimple, IsSimpleItem}
-use Rattle.dpl_typer.specs.Sights.{bound_in, ArePlainScopes}
+use Rattle.dpl_typer.specs.Sights.{bound_in, AreKnownScopes}
 use Rattle.dpl_planner.specs.declared.progress.Plan.{Plan}
 use Rattle.dpl_planner.specs.declared.declaration.WrittenKind.{WrittenKind}
 use Rattle.dpl_planner.specs.declared.declaration.WrittenKind.TheVariants as kinds
@@ -46,7 +46,7 @@ use Rattle.dpl_planner.specs.declared.declaration.Beginning.{Beginning}
 use Rattle.dpl_planner.specs.declared.declaration.Beginning.TheVariants as beginning
 use Rattle.dpl_planner.specs.declared.loops.Iterable.{Iterable}
 use Rattle.dpl_planner.specs.declared.loops.Iterable.TheVariants as over
-use Rattle.dpl_planner.specs.Bounds.{bound_new, loop_variable, bound_variables, bound_stmt}
+use Rattle.dpl_planner.specs.Bounds.{with_arrays, bound_new, loop_variable, bound_variables, bound_stmt}
 use Rattle.dpl_planner.specs.Given.{IsGiven}
 use Rattle.dpl_planner.specs.Plans.{seen_of, seen_in, Stands, stmt_leaves}
 
@@ -55,10 +55,25 @@ pub record IsItem (ss : Scopes) (i : ItemTree Text) (t : Typed) : Type 0 where
   pub node : (m : Times) → typed_item m t ≡ lowered_item known_variable m (renamed_item (leaf_in ss) i)
   pub found : IsSimpleItem (IsFound ss) i
 
--- ASSIGNMENTS to a name, with its place where a fault tells it
-abbrev pub changed_to : Place → VariableKind → ℕ → Assign → Place → ItemTree Variable → StmtTree Variable
-changed_to at k slot op sign item =
-    Assigned (Whole (placed (may_be_whole (known_kind k)) (record { at = at; name = variable k slot })))
+-- KINDS: what one slot of words, ranges or domains holds and a declaration gives a name; and what of that is assigned
+abbrev pub IsSingleKind : VariableKind → Type 0
+IsSingleKind (PlainKind k) = Unit {0}
+IsSingleKind DomainKind = Unit {0}
+IsSingleKind TupleKind = ⊥
+IsSingleKind (ArrayKind k) = ⊥
+
+abbrev pub IsChangedKind : VariableKind → Type 0
+IsChangedKind (PlainKind IntLeaf) = Unit {0}
+IsChangedKind (PlainKind TruthLeaf) = Unit {0}
+IsChangedKind (PlainKind RangeLeaf) = ⊥
+IsChangedKind DomainKind = Unit {0}
+IsChangedKind TupleKind = ⊥
+IsChangedKind (ArrayKind k) = ⊥
+
+-- ASSIGNMENTS to a name, with its place where a fault tells it, and with the arrays that change with it
+abbrev pub changed_to : Scopes → Place → VariableKind → ℕ → Assign → Place → ItemTree Variable → StmtTree Variable
+changed_to ss at k slot op sign item =
+    Assigned (Whole (placed (may_be_whole (known_kind k)) (record { at = at; name = with_arrays ss (variable k slot) })))
     (record { at = kept (assign_divides op) sign; op = op; last = nowhere }) item nowhere
 
 -- of a range, a domain and a tuple, a name of a type may be given what the item gives; of numbers and truth values each may
@@ -87,6 +102,14 @@ IsWrittenType (Some (DomainType d)) kinds.Untyped = ⊥
 IsWrittenType (Some (DomainType d)) (kinds.Scalar k) = ⊥
 IsWrittenType (Some (DomainType d)) (kinds.Domain rank) = (d.mapped ≡ None) × (d.rank ≡ dimensions rank)
 IsWrittenType (Some (ArrayType a)) k = ⊥
+
+-- what is no array's runs: a domain's type without a map
+abbrev pub IsSingleType : Option (TypeTree Text) → Type 0
+IsSingleType None = Unit {0}
+IsSingleType (Some (ScalarType at k)) = Unit {0}
+IsSingleType (Some (SyncType at kind_at k)) = ⊥
+IsSingleType (Some (DomainType d)) = (d.mapped ≡ None) × ((nat_le 1 d.rank && nat_le d.rank 3) ≡ true)
+IsSingleType (Some (ArrayType a)) = ⊥
 
 -- what a variable begins with, as its kind and as the type and the initial value of its declaration
 abbrev pub begun_kind : Beginning → VariableKind
@@ -150,9 +173,9 @@ pub record IsInitial (ss : Scopes) (t : Option (TypedTree Text)) (i : Option (In
   pub typed : option_map written_type (declared_type known_variable (type_of (option_map (renamed_typed variable_of) (bound_typed ss t))) (option_map (renamed_initial variable_of) (bound_initial ss i)))
       ≡ begun_type b
   pub node : declared_initial known_variable (type_of (option_map (renamed_typed variable_of) (bound_typed ss t))) (option_map (renamed_initial variable_of) (bound_initial ss i)) ≡ begun_value b
-  pub initial : (start : Start) (is : List (Bound × Op)) → ArePlainScopes ss
+  pub initial : (start : Start) (is : List (Bound × Op)) → AreKnownScopes ss
       → fits_initial (resolving start) (side_by (resolving start) (type_of (bound_typed ss t))) (bound_initial ss i) (seen_of ss is)
-  pub suits : (start : Start) (is : List (Bound × Op)) (x : Bound) → ArePlainScopes ss → is_promoted (begun_kind b) ≡ false → x.variable.kind ≡ begun_kind b → x.shape ≡ shape_of declared
+  pub suits : (start : Start) (is : List (Bound × Op)) (x : Bound) → AreKnownScopes ss → is_promoted (begun_kind b) ≡ false → x.variable.kind ≡ begun_kind b → x.shape ≡ shape_of declared
       → value_kind declared ≡ Some (begun_kind b) → type_given ss (origin_in ss x.text) (type_of t) i ≡ Some declared
       → suits_declared (resolving start) x (type_of (bound_typed ss t)) (bound_initial ss i) (seen_of ss is)
 
@@ -170,11 +193,14 @@ PlansDeclare old new d step =
     Stands old new (behind old.scopes (Declare d)) (renamed_stmt text_of (bound_stmt old.scopes (Declare d)) ≡ Declare d) (stmt_leaves old.scopes (Declare d) ≡ step_view step)
     (λ start. IsOwed start old.scopes d → fits_stmt (resolving start) (bound_stmt old.scopes (Declare d)) (seen_in old))
 
--- ARGUMENTS
+-- ARGUMENTS: a whole array by its name
+abbrev pub IsWholeArray : Scopes → ExprTree Text → Kind → ℕ → Type 0
+IsWholeArray ss e k slot = (x : Placed Text) × (e ≡ Named x) × (kind_in ss x.name ≡ Some (ArrayKind k)) × (slot_in ss x.name ≡ Some slot)
+
 pub record IsArgument (ss : Scopes) (a : ArgumentTree Text) (b : Argument) : Type 0 where
   pub text : renamed_argument text_of (renamed_argument (bound_in ss) a) ≡ a
   pub node : lowered_argument known_variable (renamed_argument variable_of (renamed_argument (bound_in ss) a)) ≡ argument_view b
-  pub fits_before : (start : Start) (is : List (Bound × Op)) (rest : List (ArgumentTree Bound)) → ArePlainScopes ss
+  pub fits_before : (start : Start) (is : List (Bound × Op)) (rest : List (ArgumentTree Bound)) → AreKnownScopes ss
       → fits_arguments (resolving start) rest (seen_of ss is) → fits_arguments (resolving start) (renamed_argument (bound_in ss) a ∷ rest) (seen_of ss is)
 
 abbrev pub AreArguments : Scopes → List (ArgumentTree Text) → List Argument → Type 0

@@ -3,8 +3,8 @@
 use Rattle.std.specs.Prelude.{◌≡◌, ◌≤◌, List, [], ◌∷◌, map}
 use Rattle.dpl_language.specs.Tree.{Op, StmtTree, Body, WordBody, BlockBody, Stmts, NoStmts, Then, Else}
 use Rattle.dpl_language.specs.Names.{Text}
-use Rattle.dpl_language.specs.Renamed.{renamed_stmt, renamed_stmts, renamed_body, renamed_else}
-use Rattle.dpl_language.specs.Scopes.{fits as fits_stmt, fits_all, fits_body, fits_else}
+use Rattle.dpl_agreement.specs.Renamed.{renamed_stmt, renamed_stmts, renamed_body, renamed_else}
+use Rattle.dpl_agreement.specs.Scopes.{fits as fits_stmt, fits_all, fits_body, fits_else}
 use Rattle.dpl_rules.specs.Sights.{Scopes, enter}
 use Rattle.dpl_rules.specs.Loops.{behind}
 use Rattle.dpl_rules.specs.Sound.{behind_all}
@@ -14,7 +14,7 @@ use Rattle.dpl_memory.specs.Resolved.{no_shape, Bound, Seen, Start, text_of, var
 use Rattle.dpl_nodes.specs.declared.step.Step.{Step}
 use Rattle.dpl_nodes.specs.declared.step.Else.{Else as ElseNode}
 use Rattle.dpl_nodes.specs.Steps.{listed, intent_view, step_view, else_view, steps_of}
-use Rattle.dpl_typer.specs.Sights.{sight_of, ArePlainScopes}
+use Rattle.dpl_typer.specs.Sights.{sight_of, AreKnownScopes}
 use Rattle.dpl_planner.specs.declared.progress.Reducing.{Reducing}
 use Rattle.dpl_planner.specs.declared.progress.Plan.{Plan}
 use Rattle.dpl_planner.specs.Given.{AreGiven}
@@ -33,6 +33,11 @@ intents_in p = map reducing_view p.intents.items
 abbrev pub seen_in : Plan → Seen
 seen_in p = seen_of p.scopes (intents_in p)
 
+-- a scope is open, and all that is in sight is known
+abbrev pub AreOpen : Scopes → Type 0
+AreOpen [] = ⊥
+AreOpen (s ∷ ss) = AreKnownScopes (s ∷ ss)
+
 -- THE TOP LEVEL is one scope.
 abbrev pub IsOneScope : Scopes → Type 0
 IsOneScope [] = ⊥
@@ -43,7 +48,7 @@ IsOneScope (s ∷ t ∷ ss) = ⊥
 -- names are owed behind it, they are owed before it.
 pub record Goes (old new : Plan) (to : Scopes) : Type 0 where
   pub scopes : new.scopes ≡ to
-  pub plain : ArePlainScopes old.scopes → ArePlainScopes new.scopes
+  pub plain : AreOpen old.scopes → AreOpen new.scopes
   pub one : IsOneScope old.scopes → IsOneScope new.scopes
   pub given : IsOneScope old.scopes → (start : Start) → AreGiven start new.scopes → AreGiven start old.scopes
   pub slots : old.slots ≤ new.slots
@@ -54,7 +59,7 @@ pub record Stands (old new : Plan) (to : Scopes) (Spelled Lowered : Type 0) (Fit
   pub goes : Goes old new to
   pub text : Spelled
   pub node : Lowered
-  pub resolves : (start : Start) → ArePlainScopes old.scopes → new.slots ≤ start.slots → Fits start
+  pub resolves : (start : Start) → AreOpen old.scopes → new.slots ≤ start.slots → Fits start
 
 abbrev pub stmt_leaves : Scopes → StmtTree Text → StmtTree Variable
 stmt_leaves ss t = lowered_stmt known_variable (renamed_stmt variable_of (bound_stmt ss t))

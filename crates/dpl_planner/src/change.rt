@@ -2,10 +2,10 @@
 // `reduce=` is by the operator of the forall around, which the name and its slot tell alike.
 
 ghost use Rattle.std.specs.Prelude.{◌≡◌, ◌≢◌, true, false, OnOk, IfOk, Err, Some, map, option_map};
-ghost use Rattle.dpl_language.specs.Tree.{Whole, Assigned as AssignedTree};
+ghost use Rattle.dpl_language.specs.Tree.{Kind, Whole, Assigned as AssignedTree};
 ghost use Rattle.dpl_language.specs.Arithmetic.{assign_divides};
 ghost use Rattle.dpl_language.specs.Names.{paired};
-ghost use Rattle.dpl_language.specs.Renamed.{renamed_intents};
+ghost use Rattle.dpl_agreement.specs.Renamed.{renamed_intents};
 ghost use Rattle.dpl_tree.specs.Words.{assign_view, op_view};
 ghost use Rattle.dpl_tree.specs.View.{name_view, item_view};
 ghost use Rattle.dpl_tree.specs.Statements.{target_view, sign_view};
@@ -15,7 +15,7 @@ ghost use Rattle.dpl_scopes.specs.Slots.{slot_in};
 ghost use Rattle.dpl_lowered.specs.Shapes.{kept};
 ghost use Rattle.dpl_lowered.specs.LoweredExpressions.{Once};
 ghost use Rattle.dpl_words.specs.Words.{TruthLeaf, intent_at, takes, is_logical as is_logical_of};
-ghost use Rattle.dpl_memory.specs.Memory.{DomainKind, variable, int_leaf, truth_leaf, intents_by_slot};
+ghost use Rattle.dpl_memory.specs.Memory.{DomainKind, ArrayKind, variable, int_leaf, truth_leaf, intents_by_slot};
 ghost use Rattle.dpl_memory.specs.Resolved.{text_of, variable_of, kind_takes, KindCombines, IntentResolves};
 ghost use Rattle.dpl_nodes.specs.Faults.{IsNear};
 ghost use Rattle.dpl_typer.specs.Makers.{kind_of, typed_item};
@@ -24,11 +24,12 @@ ghost use Rattle.dpl_typer.specs.declared.make.Typed.TheVariants as typed;
 ghost use Rattle.dpl_nodes.specs.Steps.{step_view, assigned_to as assigns};
 ghost use Rattle.dpl_typer.specs.Leaves.{value_kind, type_in, kind_in};
 ghost use Rattle.dpl_typer.specs.Shapes.{takes_shape as takes_shape_of, IsTaken};
-ghost use Rattle.dpl_runnable.specs.Kinds.{IsDeclaredKind, IsAssignedKind};
 ghost use Rattle.dpl_runnable.specs.Runnable.{AreToldAlike, IsReducedBy, IsRunnableStmt};
-ghost use Rattle.dpl_planner.specs.Parts.{IsTakenBy, IsTakenIn, changed_to};
+ghost use Rattle.dpl_planner.specs.Parts.{IsSingleKind, IsChangedKind, IsTakenBy, IsTakenIn, changed_to};
 ghost use Rattle.dpl_planner.specs.Plans.{reducing_view, intents_in, seen_in, PlansStmt};
 
+use crate::elements::{array_named, set_array, set_element};
+use crate::overs::arrays_over;
 use crate::progress::{Plan, Reducing, node, spot};
 use dpl_nodes::step::DomainName;
 use dpl_nodes::{BoolExpr, DomainExpr, IntExpr, Step, Stop, TruthDeed};
@@ -42,7 +43,7 @@ use dpl_typing::expression::item as item_type;
 /// Whether a variable of a type holds the values of an expression.
 pub(crate) fn holds(t: ValueType<'_>, value: Typed<'_>) -> bool
     ensures yes { (result ≡ true) → value_kind (type_view t.entry) ≡ Some (kind_of value.entry) }
-    ensures no { (result ≡ false) → IsDeclaredKind (kind_of value.entry) → value_kind (type_view t.entry) ≢ Some (kind_of value.entry) }
+    ensures no { (result ≡ false) → IsSingleKind (kind_of value.entry) → value_kind (type_view t.entry) ≢ Some (kind_of value.entry) }
 {
     match value {
         Typed::Int(_) => matches!(t, ValueType::Scalar(ScalarKind::Int)),
@@ -155,7 +156,7 @@ pub(crate) fn declared_type<'s>(scopes: &Scopes<'s>, name: &[u8]) -> Option<Valu
 fn variable(scopes: &Scopes<'_>, name: &[u8], value: Typed<'_>) -> Result<usize, Stop>
     ensures kind { IfOk result (λ slot. kind_in scopes.now name.now ≡ Some (kind_of value.entry)) }
     ensures slot { IfOk result (λ slot. slot_in scopes.now name.now ≡ Some slot) }
-    ensures ill_typed { (result ≡ Err stop.IllTyped) → IsDeclaredKind (kind_of value.entry) → kind_in scopes.now name.now ≢ Some (kind_of value.entry) }
+    ensures ill_typed { (result ≡ Err stop.IllTyped) → IsSingleKind (kind_of value.entry) → kind_in scopes.now name.now ≢ Some (kind_of value.entry) }
 {
     let Some(t) = declared_type(scopes, name) else {
         return Err(Stop::IllTyped);
@@ -218,26 +219,24 @@ fn of_truth<'t>(sign: AssignSign, slot: usize, e: &'t BoolExpr<'t>) -> Result<St
     }
 }
 
-// What a domain is assigned: by `=` alone. No array in sight is declared over it.
+// What a domain is assigned: by `=` alone. The arrays in sight that are declared over it change with it.
 fn of_domain<'t>(
     arena: Arena<'t>,
+    scopes: &Scopes<'_>,
     at: Place,
     sign: AssignSign,
     slot: usize,
     e: &'t DomainExpr<'t>,
 ) -> Result<Step<'t>, Stop>
-    ensures node { IfOk result (λ s. step_view s ≡ changed_to at DomainKind slot (assign_view sign.op) sign.at (typed_item Once (typed.Domain e.entry))) }
+    ensures node { IfOk result (λ s. step_view s ≡ changed_to scopes.now at DomainKind slot (assign_view sign.op) sign.at (typed_item Once (typed.Domain e.entry))) }
     ensures takes { IfOk result (λ s. kind_takes DomainKind (assign_view sign.op) ≡ true) }
     ensures ill_typed { (result ≡ Err stop.IllTyped) → kind_takes DomainKind (assign_view sign.op) ≡ true → IsNear at → ⊥ }
 {
     match sign.op {
         Assign::Set => {
             let at = spot(arena, at)?;
-            let name = DomainName {
-                at,
-                slot,
-                arrays: &[],
-            };
+            let arrays = arrays_over(arena, scopes, slot)?;
+            let name = DomainName { at, slot, arrays };
             Ok(Step::SetDomain(node(arena, name)?, e))
         }
         Assign::SetAdd
@@ -252,20 +251,21 @@ fn of_domain<'t>(
 // A variable that is assigned a value of its kind.
 fn change<'t>(
     arena: Arena<'t>,
+    scopes: &Scopes<'_>,
     at: Place,
     sign: AssignSign,
     slot: usize,
     value: Typed<'t>,
 ) -> Result<Step<'t>, Stop>
-    ensures node { IfOk result (λ s. step_view s ≡ changed_to at (kind_of value.entry) slot (assign_view sign.op) sign.at (typed_item Once value.entry)) }
+    ensures node { IfOk result (λ s. step_view s ≡ changed_to scopes.now at (kind_of value.entry) slot (assign_view sign.op) sign.at (typed_item Once value.entry)) }
     ensures takes { IfOk result (λ s. kind_takes (kind_of value.entry) (assign_view sign.op) ≡ true) }
-    ensures kind { IfOk result (λ s. IsAssignedKind (kind_of value.entry)) }
-    ensures ill_typed { (result ≡ Err stop.IllTyped) → IsAssignedKind (kind_of value.entry) → kind_takes (kind_of value.entry) (assign_view sign.op) ≡ true → IsNear sign.at → IsNear at → ⊥ }
+    ensures kind { IfOk result (λ s. IsChangedKind (kind_of value.entry)) }
+    ensures ill_typed { (result ≡ Err stop.IllTyped) → IsChangedKind (kind_of value.entry) → kind_takes (kind_of value.entry) (assign_view sign.op) ≡ true → IsNear sign.at → IsNear at → ⊥ }
 {
     match value {
         Typed::Int(e) => of_int(arena, sign, slot, e),
         Typed::Truth(e) => of_truth(sign, slot, e),
-        Typed::Domain(e) => of_domain(arena, at, sign, slot, e),
+        Typed::Domain(e) => of_domain(arena, scopes, at, sign, slot, e),
         Typed::Range(_) | Typed::Tuple(_) | Typed::Ints(_) | Typed::Truths(_) => {
             Err(Stop::IllTyped)
         }
@@ -347,6 +347,25 @@ fn intent_resolves(
     }
 }
 
+// An assignment to a name that is no array's.
+fn set_single<'t>(
+    plan: &Plan<'_, 't>,
+    name: &Name<'_>,
+    sign: AssignSign,
+    value: &Item<'_>,
+    semicolon: Place,
+) -> Result<Step<'t>, Stop>
+    requires { (k : Kind) → kind_in plan.now.scopes name.now.text.now ≢ Some (ArrayKind k) }
+    ensures plans { IfOk result (λ step. PlansStmt plan.now plan.now (AssignedTree (Whole (name_view name.now)) (sign_view sign) (item_view value.now) semicolon) step) }
+    ensures ill_typed { (result ≡ Err stop.IllTyped) → IsRunnableStmt plan.now.scopes (intents_in plan.now) (AssignedTree (Whole (name_view name.now)) (sign_view sign) (item_view value.now) semicolon) → ⊥ }
+{
+    let made = item(plan.arena, &plan.scopes, value)?;
+    let slot = variable(&plan.scopes, name.text, made)?;
+    taken(plan, name.text, value, made)?;
+    intent_resolves(plan, sign.op, name.text, slot, made)?;
+    change(plan.arena, &plan.scopes, name.at, sign, slot, made)
+}
+
 // An assignment to a name.
 fn assigned_to<'t>(
     plan: &Plan<'_, 't>,
@@ -358,11 +377,10 @@ fn assigned_to<'t>(
     ensures plans { IfOk result (λ step. PlansStmt plan.now plan.now (AssignedTree (Whole (name_view name.now)) (sign_view sign) (item_view value.now) semicolon) step) }
     ensures ill_typed { (result ≡ Err stop.IllTyped) → IsRunnableStmt plan.now.scopes (intents_in plan.now) (AssignedTree (Whole (name_view name.now)) (sign_view sign) (item_view value.now) semicolon) → ⊥ }
 {
-    let made = item(plan.arena, &plan.scopes, value)?;
-    let slot = variable(&plan.scopes, name.text, made)?;
-    taken(plan, name.text, value, made)?;
-    intent_resolves(plan, sign.op, name.text, slot, made)?;
-    change(plan.arena, name.at, sign, slot, made)
+    match array_named(&plan.scopes, name.text) {
+        Some(kind) => set_array(plan, kind, name, sign, value, semicolon),
+        None => set_single(plan, name, sign, value, semicolon),
+    }
 }
 
 /// An assignment.
@@ -381,6 +399,12 @@ pub(crate) fn assigned<'t>(plan: &Plan<'_, 't>, written: &Assignment<'_>) -> Res
             &written.value,
             written.semicolon,
         ),
-        Target::Element(_) => Err(Stop::IllTyped),
+        Target::Element(element) => set_element(
+            plan,
+            element,
+            written.sign,
+            &written.value,
+            written.semicolon,
+        ),
     }
 }

@@ -1,16 +1,15 @@
 // Declarations of variables: what each is declared as, its slot, and what it begins with: a value that is written, or its type's.
 // The type is the one that the check gives the name; a value of another kind or another shape is refused.
 
-ghost use Rattle.std.specs.Prelude.{◌≡◌, ◌≢◌, nat_le, ◌&&◌, true, false, IfOk, Err, Some, None};
-ghost use Rattle.dpl_language.specs.Tree.{Declare as DeclareTree};
+ghost use Rattle.std.specs.Prelude.{◌≡◌, ◌≢◌, nat_le, ◌&&◌, true, false, IfOk, IfSome, IfNone, Err, Some, None};
+ghost use Rattle.dpl_language.specs.Tree.{ArrayType as ArrayTypeTree, Declare as DeclareTree};
 ghost use Rattle.dpl_language.specs.Declarations.{type_of};
 ghost use Rattle.dpl_tree.specs.Words.{kind_view};
-ghost use Rattle.dpl_tree.specs.Declarations.{optional, typed_view as written_type_view, init_view, initial_view, domain_type_view, declare_view};
+ghost use Rattle.dpl_tree.specs.Declarations.{optional, typed_view as written_type_view, init_view, initial_view, domain_type_view, array_type_view, declare_view};
 ghost use Rattle.dpl_rules.specs.Declarations.{declared_by};
 ghost use Rattle.dpl_types.specs.View.{type_view};
 ghost use Rattle.dpl_lowered.specs.Shapes.{nowhere};
 ghost use Rattle.dpl_lowered.specs.LoweredStatements.{unplaced_word};
-ghost use Rattle.dpl_scopes.specs.View.{declared_view};
 ghost use Rattle.dpl_memory.specs.Memory.{VariableKind, variable};
 ghost use Rattle.dpl_nodes.specs.declared.make.Stop.TheVariants as stop;
 ghost use Rattle.dpl_nodes.specs.Steps.{step_view, dimensions};
@@ -18,20 +17,22 @@ ghost use Rattle.dpl_typer.specs.Makers.{kind_of};
 ghost use Rattle.dpl_typer.specs.Leaves.{value_kind};
 ghost use Rattle.dpl_planner.specs.declared.declaration.Beginning.TheVariants as beginning;
 ghost use Rattle.dpl_planner.specs.Given.{IsOfLeaf};
-ghost use Rattle.dpl_planner.specs.Parts.{IsWrittenType, IsDefault, BeginsByDefault, IsGivenInit, begun_kind, begun_as, IsInitial, PlansDeclare};
-ghost use Rattle.dpl_runnable.specs.Kinds.{IsScalarKind, IsDeclaredKind};
-ghost use Rattle.dpl_runnable.specs.Runnable.{IsRunnableType, IsInitOf, IsShapedInit, IsInitialOf, IsShapedInitial, IsConfigOf, IsRunnableDeclare, IsRunnableStmt};
+ghost use Rattle.dpl_planner.specs.Arrays.{IsNoArrayType};
+ghost use Rattle.dpl_planner.specs.Parts.{IsSingleKind, IsSingleType, IsWrittenType, IsDefault, BeginsByDefault, IsGivenInit, begun_kind, begun_as, IsInitial, PlansDeclare};
+ghost use Rattle.dpl_runnable.specs.Kinds.{IsScalarKind};
+ghost use Rattle.dpl_runnable.specs.Runnable.{IsInitOf, IsShapedInit, IsInitialOf, IsShapedInitial, IsConfigOf, IsRunnableDeclare, IsRunnableStmt};
 ghost use Rattle.dpl_planner.specs.Plans.{intents_in, PlansStmt};
 
+use crate::arrays::{declare_array, declared};
 use crate::change::{holds, is_domain, shaped};
 use crate::progress::Plan;
-use dpl_forms::declaration::declaration;
 use dpl_nodes::step::Rank;
 use dpl_nodes::{Step, Stop, TruthDeed};
-use dpl_scopes::{Declared, Scopes};
+use dpl_scopes::Scopes;
 use dpl_syntax::Place;
 use dpl_tree::{
-    Arena, Declare, DeclaredType, DomainType, Init, Initial, ScalarKind, Typed as WrittenType,
+    Arena, ArrayType, Declare, DeclaredType, DomainType, Init, Initial, ScalarKind,
+    Typed as WrittenType,
 };
 use dpl_typer::leaves::{number, truth_word};
 use dpl_typer::{Typed, item};
@@ -52,18 +53,6 @@ pub(crate) enum Beginning<'t> {
     Empty(Rank),
 }
 
-// The declaration, as the check has it.
-fn declared<'s>(plan: &Plan<'s, '_>, written: &Declare<'s>) -> Result<Declared<'s>, Stop>
-    ensures declared { IfOk result (λ d. declared_view d ≡ declared_by plan.now.scopes (declare_view written.now)) }
-    ensures ill_typed { result ≢ Err stop.IllTyped }
-{
-    let mut first = None;
-    match declaration(plan.arena.alloc(), &plan.scopes, written, &mut first) {
-        Ok(declared) => Ok(declared),
-        Err(_) => Err(Stop::Memory),
-    }
-}
-
 // The rank of a domain type.
 fn rank_of(written: &DomainType<'_>) -> Result<Rank, Stop>
     ensures rank { IfOk result (λ r. (domain_type_view written.now).rank ≡ dimensions r) }
@@ -80,7 +69,7 @@ fn rank_of(written: &DomainType<'_>) -> Result<Rank, Stop>
 // The type of a variable, or none that is written.
 fn written_kind(written: &Option<WrittenType<'_>>) -> Result<WrittenKind, Stop>
     ensures written { IfOk result (λ k. IsWrittenType (type_of (optional written_type_view written.now)) k) }
-    ensures ill_typed { (result ≡ Err stop.IllTyped) → IsRunnableType (type_of (optional written_type_view written.now)) → ⊥ }
+    ensures ill_typed { (result ≡ Err stop.IllTyped) → IsSingleType (type_of (optional written_type_view written.now)) → ⊥ }
 {
     match written {
         None => Ok(WrittenKind::Untyped),
@@ -127,7 +116,7 @@ fn given<'t>(
     written: &Init<'_>,
 ) -> Result<Typed<'t>, Stop>
     ensures given { IfOk result (λ t. IsGivenInit scopes.now (init_view written.now) (type_view declared.entry) t) }
-    ensures kind { IfOk result (λ t. (k : VariableKind) → IsInitOf scopes.now (init_view written.now) k → kind_of t ≡ k) }
+    ensures kind { IfOk result (λ t. (k : VariableKind) → IsSingleKind k → IsInitOf scopes.now (init_view written.now) k → kind_of t ≡ k) }
     ensures ill_typed { (result ≡ Err stop.IllTyped) → (k : VariableKind) → IsInitOf scopes.now (init_view written.now) k → IsShapedInit scopes.now (init_view written.now) (type_view declared.entry) → ⊥ }
 {
     match written {
@@ -150,8 +139,8 @@ fn initial<'t>(
     written: &Option<Initial<'_>>,
 ) -> Result<Beginning<'t>, Stop>
     ensures initial { IfOk result (λ b. IsInitial scopes.now (optional written_type_view typed.now) (optional initial_view written.now) (type_view declared.entry) b) }
-    ensures kind { IfOk result (λ b. (k : VariableKind) → IsInitialOf scopes.now (type_of (optional written_type_view typed.now)) (optional initial_view written.now) k → begun_kind b ≡ k) }
-    ensures ill_typed { (result ≡ Err stop.IllTyped) → (k : VariableKind) → IsRunnableType (type_of (optional written_type_view typed.now))
+    ensures kind { IfOk result (λ b. (k : VariableKind) → IsSingleKind k → IsInitialOf scopes.now (type_of (optional written_type_view typed.now)) (optional initial_view written.now) k → begun_kind b ≡ k) }
+    ensures ill_typed { (result ≡ Err stop.IllTyped) → (k : VariableKind) → IsSingleType (type_of (optional written_type_view typed.now))
         → IsInitialOf scopes.now (type_of (optional written_type_view typed.now)) (optional initial_view written.now) k
         → IsShapedInitial scopes.now (optional initial_view written.now) (type_view declared.entry) → ⊥ }
 {
@@ -168,7 +157,7 @@ fn initial<'t>(
 // Whether a variable of a type holds what it begins with.
 fn begins(t: ValueType<'_>, begun: Beginning<'_>) -> bool
     ensures yes { (result ≡ true) → value_kind (type_view t.entry) ≡ Some (begun_kind begun.entry) }
-    ensures no { (result ≡ false) → IsDeclaredKind (begun_kind begun.entry) → value_kind (type_view t.entry) ≢ Some (begun_kind begun.entry) }
+    ensures no { (result ≡ false) → IsSingleKind (begun_kind begun.entry) → value_kind (type_view t.entry) ≢ Some (begun_kind begun.entry) }
 {
     match begun {
         Beginning::Value(value) => holds(t, value),
@@ -179,8 +168,8 @@ fn begins(t: ValueType<'_>, begun: Beginning<'_>) -> bool
 // A variable that begins with a value.
 fn declares_value<'t>(slot: usize, value: Typed<'t>) -> Result<Step<'t>, Stop>
     ensures node { IfOk result (λ s. step_view s ≡ begun_as None (variable (kind_of value.entry) slot) (beginning.Value value.entry)) }
-    ensures kind { IfOk result (λ s. IsDeclaredKind (kind_of value.entry)) }
-    ensures ill_typed { (result ≡ Err stop.IllTyped) → IsDeclaredKind (kind_of value.entry) → ⊥ }
+    ensures kind { IfOk result (λ s. IsSingleKind (kind_of value.entry)) }
+    ensures ill_typed { (result ≡ Err stop.IllTyped) → IsSingleKind (kind_of value.entry) → ⊥ }
 {
     match value {
         Typed::Int(e) => Ok(Step::DeclareInt(slot, e)),
@@ -214,8 +203,8 @@ fn configures<'t>(slot: usize, begun: Beginning<'t>) -> Result<Step<'t>, Stop>
 // The statement.
 fn declares<'t>(config: Option<Place>, slot: usize, begun: Beginning<'t>) -> Result<Step<'t>, Stop>
     ensures node { IfOk result (λ s. step_view s ≡ begun_as (unplaced_word config) (variable (begun_kind begun.entry) slot) begun.entry) }
-    ensures kind { IfOk result (λ s. IsDeclaredKind (begun_kind begun.entry) × IsConfigOf config (begun_kind begun.entry)) }
-    ensures ill_typed { (result ≡ Err stop.IllTyped) → IsDeclaredKind (begun_kind begun.entry) → IsConfigOf config (begun_kind begun.entry) → ⊥ }
+    ensures kind { IfOk result (λ s. IsSingleKind (begun_kind begun.entry) × IsConfigOf config (begun_kind begun.entry)) }
+    ensures ill_typed { (result ≡ Err stop.IllTyped) → IsSingleKind (begun_kind begun.entry) → IsConfigOf config (begun_kind begun.entry) → ⊥ }
 {
     match config {
         Some(_) => configures(slot, begun),
@@ -226,14 +215,9 @@ fn declares<'t>(config: Option<Place>, slot: usize, begun: Beginning<'t>) -> Res
     }
 }
 
-/// A declaration, whose name is in sight behind it.
-///
-/// # Errors
-/// Out of memory; a name that its scope has, what is no variable of one slot, or a value of another kind or shape.
-pub(crate) fn declare<'s, 't>(
-    plan: &mut Plan<'s, 't>,
-    written: &Declare<'s>,
-) -> Result<Step<'t>, Stop>
+// A declaration of what is no array, whose name is in sight behind it.
+fn declare_single<'s, 't>(plan: &mut Plan<'s, 't>, written: &Declare<'s>) -> Result<Step<'t>, Stop>
+    requires { IsNoArrayType (type_of (optional written_type_view written.now.typed)) }
     ensures plans { IfOk result (λ step. PlansDeclare plan.old plan.new (declare_view written.now) step) }
     ensures config { IfOk result (λ step. (at : Place) → ((declare_view written.now).config ≡ Some at) → IsOfLeaf (declared_by plan.old.scopes (declare_view written.now))) }
     ensures ill_typed { (result ≡ Err stop.IllTyped) → IsRunnableDeclare plan.old.scopes (declare_view written.now) → ⊥ }
@@ -254,6 +238,40 @@ pub(crate) fn declare<'s, 't>(
     }
     let slot = plan.declare(declared.origin.name, declared.sort, value_type)?;
     declares(written.config, slot, begun)
+}
+
+// The array type that is written.
+fn array_written<'w, 's>(typed: &'w Option<WrittenType<'s>>) -> Option<&'w ArrayType<'s>>
+    ensures some { IfSome result (λ a. type_of (optional written_type_view typed.now) ≡ Some (ArrayTypeTree (array_type_view a.now))) }
+    ensures none { IfNone result (IsNoArrayType (type_of (optional written_type_view typed.now))) }
+{
+    match typed {
+        None => None,
+        Some(typed) => match &typed.declared {
+            DeclaredType::Array(array) => Some(array),
+            DeclaredType::Scalar(_, _) | DeclaredType::Sync(_, _, _) | DeclaredType::Domain(_) => {
+                None
+            }
+        },
+    }
+}
+
+/// A declaration, whose name is in sight behind it.
+///
+/// # Errors
+/// Out of memory; a name that its scope has, what is no variable of one slot, or a value of another kind or shape.
+pub(crate) fn declare<'s, 't>(
+    plan: &mut Plan<'s, 't>,
+    written: &Declare<'s>,
+) -> Result<Step<'t>, Stop>
+    ensures plans { IfOk result (λ step. PlansDeclare plan.old plan.new (declare_view written.now) step) }
+    ensures config { IfOk result (λ step. (at : Place) → ((declare_view written.now).config ≡ Some at) → IsOfLeaf (declared_by plan.old.scopes (declare_view written.now))) }
+    ensures ill_typed { (result ≡ Err stop.IllTyped) → IsRunnableDeclare plan.old.scopes (declare_view written.now) → ⊥ }
+{
+    match array_written(&written.typed) {
+        Some(array) => declare_array(plan, written, array),
+        None => declare_single(plan, written),
+    }
 }
 
 /// A declaration in a body: a `config const` stands at the top level alone.

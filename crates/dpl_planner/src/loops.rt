@@ -3,7 +3,7 @@
 ghost use Rattle.std.specs.Prelude.{◌≡◌, ◌≢◌, ◌⊎◌, true, false, ◌++◌, ◌∷◌, [], OnOk, IfOk, Err, None, Some, map};
 ghost use Rattle.dpl_language.specs.Tree.{OneVariable};
 ghost use Rattle.dpl_language.specs.Phrases.{reduce_intents, intents_of};
-ghost use Rattle.dpl_language.specs.Renamed.{renamed_intents};
+ghost use Rattle.dpl_agreement.specs.Renamed.{renamed_intents};
 ghost use Rattle.dpl_tree.specs.Words.{op_view};
 ghost use Rattle.dpl_tree.specs.View.{expr_view, item_view};
 ghost use Rattle.dpl_tree.specs.Declarations.{optional};

@@ -2,8 +2,8 @@
 // A `config const` stands at the top level, where the names at the end tell it.
 
 ghost use Rattle.std.specs.Prelude.{◌≡◌, ◌≤◌, IfOk, Err, []};
-ghost use Rattle.dpl_language.specs.Renamed.{renamed_program};
-ghost use Rattle.dpl_language.specs.Scopes.{fits_all, after_all};
+ghost use Rattle.dpl_agreement.specs.Renamed.{renamed_program};
+ghost use Rattle.dpl_agreement.specs.Scopes.{fits_all, after_all};
 ghost use Rattle.dpl_tree.specs.Statements.{stmt_view, stmts_of, program_view};
 ghost use Rattle.dpl_rules.specs.Breaches.{top};
 ghost use Rattle.dpl_rules.specs.Sound.{behind_all};
@@ -11,7 +11,7 @@ ghost use Rattle.dpl_lowered.specs.LoweredStatements.{lowered_program};
 ghost use Rattle.dpl_memory.specs.Memory.{known_variable};
 ghost use Rattle.dpl_memory.specs.Resolved.{Start, text_of, variable_of, first_seen, resolving};
 ghost use Rattle.dpl_nodes.specs.Steps.{steps_of};
-ghost use Rattle.dpl_typer.specs.Sights.{sight_of, ArePlainScopes};
+ghost use Rattle.dpl_typer.specs.Sights.{sight_of, AreKnownScopes};
 ghost use Rattle.dpl_planner.specs.Bounds.{bound_program};
 ghost use Rattle.dpl_planner.specs.Given.{AreGiven};
 ghost use Rattle.dpl_nodes.specs.declared.make.Stop.TheVariants as stop;
@@ -73,7 +73,7 @@ fn top_stmts<'s, 't>(plan: &mut Plan<'s, 't>, stmts: &[Stmt<'s>]) -> Result<&'t 
 /// declared name has a slot that no name in sight has, and any other that of its innermost declaration.
 ///
 /// # Errors
-/// Out of memory; what doesn't run, as arrays, maps, cells, tasks and locales don't; a `config` inside a body, and a
+/// Out of memory; what doesn't run, as maps, cells, tasks and locales don't; a `config` inside a body, and a
 /// forall inside one with reduce variables; a name that isn't in sight, or is declared twice in one scope; a value of
 /// another kind or another shape than its place takes.
 pub fn plan<'s, 't>(arena: Arena<'t>, program: &Program<'s>) -> Result<Planned<'s, 't>, Stop>
@@ -82,7 +82,7 @@ pub fn plan<'s, 't>(arena: Arena<'t>, program: &Program<'s>) -> Result<Planned<'
     ensures fits { IfOk result (λ p. (start : Start) → p.slots ≤ start.slots → AreGiven start p.scopes → fits_all (resolving start) (bound_program (program_view program.now)).stmts first_seen) }
     ensures scopes { IfOk result (λ p. p.scopes ≡ behind_all top (stmts_of program.now.stmts.now)) }
     ensures left { IfOk result (λ p. (start : Start) → (after_all (resolving start) (bound_program (program_view program.now)).stmts first_seen).frames ≡ sight_of p.scopes) }
-    ensures plain { IfOk result (λ p. ArePlainScopes p.scopes) }
+    ensures plain { IfOk result (λ p. AreKnownScopes p.scopes) }
     ensures ill_typed { (result ≡ Err stop.IllTyped) → AreRunnableTops top (stmts_of program.now.stmts.now) → ⊥ }
 {
     let mut plan = Plan::begin(arena)?;

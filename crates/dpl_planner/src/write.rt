@@ -1,24 +1,29 @@
-// `write` and `writeln`: texts by the bytes that they mean, ints and truth values.
+// `write` and `writeln`: texts by the bytes that they mean, ints, truth values, and whole arrays by their names.
 // Arguments are planned in order, none is left out.
 
-ghost use Rattle.std.specs.Prelude.{◌≡◌, ◌≢◌, List, [], Some, OnOk, IfOk, Err};
+ghost use Rattle.std.specs.Prelude.{◌≡◌, ◌≢◌, List, [], Some, OnOk, IfOk, IfSome, IfNone, Err};
 ghost use Rattle.dpl_syntax.specs.Text.{text_value};
-ghost use Rattle.dpl_language.specs.Tree.{ArgumentTree, ExprArgument, Write as WriteTree};
+ghost use Rattle.dpl_language.specs.Tree.{Kind, Placed, Named, ArgumentTree, ExprArgument, Write as WriteTree};
 ghost use Rattle.dpl_language.specs.Names.{Text};
 ghost use Rattle.dpl_language.specs.Writing.{arguments_of};
 ghost use Rattle.dpl_tree.specs.View.{expr_view};
 ghost use Rattle.dpl_tree.specs.Declarations.{optional};
 ghost use Rattle.dpl_tree.specs.Statements.{argument_view, arguments_view, written_view};
-ghost use Rattle.dpl_planner.specs.Parts.{IsArgument, AreArguments, others_in, StillArguments};
+ghost use Rattle.dpl_memory.specs.Memory.{ArrayKind};
+ghost use Rattle.dpl_typer.specs.Leaves.{kind_in};
+ghost use Rattle.dpl_planner.specs.Parts.{IsWholeArray, IsArgument, AreArguments, others_in, StillArguments};
+ghost use Rattle.dpl_nodes.specs.Typed.{kind_view};
 ghost use Rattle.dpl_nodes.specs.declared.make.Stop.TheVariants as stop;
 ghost use Rattle.dpl_runnable.specs.Runnable.{IsPrinted, IsRunnableArgument, AreRunnableArguments, IsRunnableStmt};
 ghost use Rattle.dpl_planner.specs.Plans.{intents_in, PlansStmt};
 
+use crate::elements::array_named;
 use crate::progress::{Plan, list, push};
 use dpl_nodes::step::Argument as Shown;
 use dpl_nodes::{Step, Stop};
+use dpl_scopes::Scopes;
 use dpl_syntax::{Bytes, text_bytes};
-use dpl_tree::{Arena, Argument, Arguments, Expr, NextArgument, Write};
+use dpl_tree::{Arena, Argument, Arguments, Expr, NextArgument, ScalarKind, Write};
 use dpl_typer::{Typed, expression};
 
 // A text, by the bytes that its escapes mean.
@@ -32,10 +37,27 @@ fn text<'t>(arena: Arena<'t>, bytes: &[u8]) -> Result<&'t [u8], Stop>
     }
 }
 
-// An expression: an int or a truth value.
-fn value<'t>(plan: &Plan<'_, 't>, e: &Expr<'_>) -> Result<Shown<'t>, Stop>
+// The array that a bare name stands for, by the kind of its elements and its slot.
+fn whole_array(scopes: &Scopes<'_>, e: &Expr<'_>) -> Option<(ScalarKind, usize)>
+    ensures some { IfSome result (λ a. IsWholeArray scopes.now (expr_view e.now) (kind_view a.0) a.1) }
+    ensures none { IfNone result ((x : Placed Text) (k : Kind) → expr_view e.now ≡ Named x → kind_in scopes.now x.name ≢ Some (ArrayKind k)) }
+{
+    match e.bare_name() {
+        Some(name) => match array_named(scopes, name.text) {
+            Some(kind) => match scopes.slot(name.text) {
+                Some(slot) => Some((kind, slot)),
+                None => None,
+            },
+            None => None,
+        },
+        None => None,
+    }
+}
+
+// An expression that is no array's name: an int or a truth value.
+fn scalar<'t>(plan: &Plan<'_, 't>, e: &Expr<'_>) -> Result<Shown<'t>, Stop>
     ensures shown { IfOk result (λ shown. IsArgument plan.now.scopes (ExprArgument (expr_view e.now)) shown) }
-    ensures ill_typed { (result ≡ Err stop.IllTyped) → IsPrinted plan.now.scopes (expr_view e.now) → ⊥ }
+    ensures ill_typed { (result ≡ Err stop.IllTyped) → IsPrinted plan.now.scopes (expr_view e.now) → ((x : Placed Text) (k : Kind) → expr_view e.now ≡ Named x → kind_in plan.now.scopes x.name ≢ Some (ArrayKind k)) → ⊥ }
 {
     let made = expression(plan.arena, &plan.scopes, e)?;
     match made {
@@ -45,6 +67,17 @@ fn value<'t>(plan: &Plan<'_, 't>, e: &Expr<'_>) -> Result<Shown<'t>, Stop>
         Typed::Domain(_) | Typed::Tuple(_) | Typed::Ints(_) | Typed::Truths(_) => {
             Err(Stop::IllTyped)
         }
+    }
+}
+
+// An expression: an array's name, an int or a truth value.
+fn value<'t>(plan: &Plan<'_, 't>, e: &Expr<'_>) -> Result<Shown<'t>, Stop>
+    ensures shown { IfOk result (λ shown. IsArgument plan.now.scopes (ExprArgument (expr_view e.now)) shown) }
+    ensures ill_typed { (result ≡ Err stop.IllTyped) → IsPrinted plan.now.scopes (expr_view e.now) → ⊥ }
+{
+    match whole_array(&plan.scopes, e) {
+        Some((kind, slot)) => Ok(Shown::Array(kind, slot)),
+        None => scalar(plan, e),
     }
 }
 
@@ -104,7 +137,7 @@ fn arguments<'t>(
 /// What is printed.
 ///
 /// # Errors
-/// Out of memory; an argument that isn't a text, an int or a truth value.
+/// Out of memory; an argument that isn't a text, an int, a truth value or an array's name.
 pub(crate) fn write<'t>(plan: &Plan<'_, 't>, written: &Write<'_>) -> Result<Step<'t>, Stop>
     ensures plans { IfOk result (λ step. PlansStmt plan.now plan.now (WriteTree (written_view written.now)) step) }
     ensures ill_typed { (result ≡ Err stop.IllTyped) → IsRunnableStmt plan.now.scopes (intents_in plan.now) (WriteTree (written_view written.now)) → ⊥ }

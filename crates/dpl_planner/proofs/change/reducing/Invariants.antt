@@ -2,7 +2,7 @@
 -- Where all are told alike by it and its slot, those that are left are.
 use Rattle.std.proofs.Common.{◌≡◌, map, drop}
 use Rattle.dpl_language.specs.Names.{paired}
-use Rattle.dpl_language.specs.Renamed.{renamed_intents}
+use Rattle.dpl_agreement.specs.Renamed.{renamed_intents}
 use Rattle.dpl_words.specs.Words.{intent_at}
 use Rattle.dpl_memory.specs.Memory.{intents_by_slot}
 use Rattle.dpl_memory.specs.Resolved.{text_of, variable_of}

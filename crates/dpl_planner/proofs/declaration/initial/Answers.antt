@@ -10,7 +10,7 @@ use Rattle.dpl_typer.specs.Makers.{kind_of}
 use Rattle.dpl_runnable.specs.Runnable.{IsInitialOf, IsShapedInitial}
 use Rattle.dpl_typer.proofs.Names.{if_ok}
 use Rattle.dpl_planner.specs.declared.declaration.Beginning.TheVariants as beginning
-use Rattle.dpl_planner.specs.Parts.{IsInitial, begun_kind}
+use Rattle.dpl_planner.specs.Parts.{IsSingleKind, IsInitial, begun_kind}
 use Rattle.dpl_planner.proofs.Declared.{given-initial, default-initial, default-begun, begun-untyped}
 use Rattle.dpl_planner.proofs.declaration.initial.Goals as goal
 
@@ -25,14 +25,14 @@ returns-in_ok-value-in-Some-clause-initial c =
 pub returns-in_ok-value-in-Some-clause-kind : goal.returns-in_ok-value-in-Some-clause-kind
 returns-in_ok-value-in-Some-clause-kind c =
     let t = type_of (optional typed_view c.args.typed.now) in
-    subst (λ w. (k : VariableKind) → IsInitialOf c.args.scopes.now t (optional initial_view w) k → kind_of c.in_ok-value-in-Some.value ≡ k) (sym c.in-Some.is) c.in_ok-value-in-Some.ensures.kind
+    subst (λ w. (k : VariableKind) → IsSingleKind k → IsInitialOf c.args.scopes.now t (optional initial_view w) k → kind_of c.in_ok-value-in-Some.value ≡ k) (sym c.in-Some.is) (λ k single h. c.in_ok-value-in-Some.ensures.kind k single h.0)
 
 pub returns-in_err-value-in-Some-clause-ill_typed : goal.returns-in_err-value-in-Some-clause-ill_typed
 returns-in_err-value-in-Some-clause-ill_typed c = λ e k h i s.
     let ss = c.args.scopes.now in
     let t = type_of (optional typed_view c.args.typed.now) in
     let refused : c.given.result ≡ Err stop.IllTyped = search rules in
-    c.given.ensures.ill_typed refused k (subst (λ w. IsInitialOf ss t (optional initial_view w) k) c.in-Some.is i)
+    c.given.ensures.ill_typed refused k (subst (λ w. IsInitialOf ss t (optional initial_view w) k) c.in-Some.is i).0
     (subst (λ w. IsShapedInitial ss (optional initial_view w) (type_view c.args.declared)) c.in-Some.is s)
 
 pub returns-in-None-clause-initial : goal.returns-in-None-clause-initial
@@ -48,7 +48,7 @@ returns-in-None-clause-kind c =
     let ss = c.args.scopes.now in
     let t = type_of (optional typed_view c.args.typed.now) in
     if_ok c.by_default.result
-    (λ b is. subst (λ w. (k : VariableKind) → IsInitialOf ss t (optional initial_view w) k → begun_kind b ≡ k) (sym c.in-None.is) (λ k. default-begun t c.in_ok-kind.kind b k c.in_ok-kind.ensures.written is))
+    (λ b is. subst (λ w. (k : VariableKind) → IsSingleKind k → IsInitialOf ss t (optional initial_view w) k → begun_kind b ≡ k) (sym c.in-None.is) (λ k single. default-begun t c.in_ok-kind.kind b k c.in_ok-kind.ensures.written is))
     c.by_default.ensures.default
 
 pub returns-in-None-clause-ill_typed : goal.returns-in-None-clause-ill_typed

@@ -2,7 +2,7 @@
 -- Where all run, those that are left are.
 use Rattle.std.proofs.Common.{◌≡◌, ◌++◌, map, drop}
 use Rattle.dpl_language.specs.Phrases.{reduce_intents}
-use Rattle.dpl_language.specs.Renamed.{renamed_intents}
+use Rattle.dpl_agreement.specs.Renamed.{renamed_intents}
 use Rattle.dpl_typer.specs.Sights.{bound_in}
 use Rattle.dpl_runnable.specs.Runnable.{AreRunnableIntents}
 use Rattle.dpl_planner.specs.Parts.{intents_among}

@@ -1,6 +1,6 @@
 -- Those so far, with those that are left, are all.
 use Rattle.std.proofs.Common.{◌≡◌, ◌++◌, map, drop}
-use Rattle.dpl_language.specs.Renamed.{renamed_intents}
+use Rattle.dpl_agreement.specs.Renamed.{renamed_intents}
 use Rattle.dpl_memory.specs.Resolved.{variable_of}
 use Rattle.dpl_nodes.specs.Steps.{intent_view}
 use Rattle.dpl_planner.specs.Plans.{reducing_view}

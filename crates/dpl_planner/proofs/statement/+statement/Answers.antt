@@ -3,7 +3,7 @@ use Rattle.std.proofs.Common.{rules, ◌≡◌, ◌+◌, inl, inr, true, [], dro
 use Rattle.dpl_syntax.proofs.Walks.{drop-end}
 use Rattle.dpl_language.specs.Tree.{NoStmts, Block, For, Forall, ElseDo}
 use Rattle.dpl_language.specs.Phrases.{intents_of}
-use Rattle.dpl_language.specs.Renamed.{renamed_intents}
+use Rattle.dpl_agreement.specs.Renamed.{renamed_intents}
 use Rattle.dpl_memory.specs.Resolved.{variable_of}
 use Rattle.dpl_tree.specs.View.{expr_view, item_view}
 use Rattle.dpl_tree.specs.Declarations.{optional}

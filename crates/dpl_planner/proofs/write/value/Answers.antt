@@ -1,22 +1,7 @@
--- An int and a truth value are shown as they are.
--- What isn't is no expression that is printed.
-use Rattle.std.proofs.Common.{rules, ◌≡◌, Err, sym, ap, ◌∙◌}
-use Rattle.dpl_rules.specs.Expressions.{type_of}
+-- A whole array is shown by its name.
 use Rattle.dpl_tree.specs.View.{expr_view}
-use Rattle.dpl_nodes.specs.declared.make.Stop.TheVariants as stop
-use Rattle.dpl_lowered.specs.LoweredExpressions.{Once}
-use Rattle.dpl_typer.specs.Makers.{typed_view}
-use Rattle.dpl_planner.proofs.Printed.{int-argument, truth-argument}
-use Rattle.dpl_planner.proofs.RefusedParts.{no_kind}
+use Rattle.dpl_planner.proofs.Printed.{array-argument}
 use Rattle.dpl_planner.proofs.write.value.Goals as goal
 
-pub returns-in_err-made-clause-ill_typed : goal.returns-in_err-made-clause-ill_typed
-returns-in_err-made-clause-ill_typed c = λ e s.
-    let refused : c.expression.result ≡ Err stop.IllTyped = search rules in
-    no_kind (type_of c.args.plan.now.scopes (expr_view c.args.e.now)) s.kind (c.expression.ensures.ill_typed refused s.expr.simple s.expr.near) s.expr.kind
-
-pub returns-in-Int-clause-shown : goal.returns-in-Int-clause-shown
-returns-in-Int-clause-shown c = int-argument c.args.plan.now.scopes (expr_view c.args.e.now) c.in-Int.e (ap (typed_view Once) (sym c.in-Int.is) ∙ c.in_ok-made.ensures.node Once) c.in_ok-made.ensures.found
-
-pub returns-in-Truth-clause-shown : goal.returns-in-Truth-clause-shown
-returns-in-Truth-clause-shown c = truth-argument c.args.plan.now.scopes (expr_view c.args.e.now) c.in-Truth.e (ap (typed_view Once) (sym c.in-Truth.is) ∙ c.in_ok-made.ensures.node Once) c.in_ok-made.ensures.found
+pub returns-in-Some-clause-shown : goal.returns-in-Some-clause-shown
+returns-in-Some-clause-shown c = array-argument c.args.plan.now.scopes (expr_view c.args.e.now) c.in-Some.kind c.in-Some.slot c.in-Some.ensures.some

@@ -8,23 +8,23 @@ use Rattle.dpl_tree.specs.Statements.{sign_view}
 use Rattle.dpl_memory.specs.Resolved.{kind_takes}
 use Rattle.dpl_nodes.specs.declared.make.Stop.TheVariants as stop
 use Rattle.dpl_typer.specs.Leaves.{type_in}
-use Rattle.dpl_runnable.specs.Kinds.{IsDeclaredKind, IsAssignedKind}
 use Rattle.dpl_runnable.specs.Runnable.{IsReducedBy}
+use Rattle.dpl_planner.specs.Parts.{IsSingleKind, IsChangedKind}
 use Rattle.dpl_planner.specs.Plans.{intents_in}
 use Rattle.dpl_planner.proofs.Changed.{change-plans}
-use Rattle.dpl_planner.proofs.RefusedParts.{some-type, no_kind, item-kind, assigned-declared}
-use Rattle.dpl_planner.proofs.change.assigned_to.Goals as goal
+use Rattle.dpl_planner.proofs.RefusedParts.{some-type, no_kind, single-change, changed-held}
+use Rattle.dpl_planner.proofs.change.set_single.Goals as goal
 
 pub returns-in_err-made-clause-ill_typed : goal.returns-in_err-made-clause-ill_typed
 returns-in_err-made-clause-ill_typed c = λ e s.
     let refused : c.item.result ≡ Err stop.IllTyped = search rules in
-    no_kind (item_type c.args.plan.now.scopes (item_view c.args.value.now)) s.0.kind (c.item.ensures.ill_typed refused s.0.item.simple s.0.item.near) s.0.item.kind
+    no_kind (item_type c.args.plan.now.scopes (item_view c.args.value.now)) s.0.given (c.item.ensures.ill_typed refused s.0.item.simple s.0.item.near) s.0.item.kind
 
 pub returns-in_err-slot-clause-ill_typed : goal.returns-in_err-slot-clause-ill_typed
 returns-in_err-slot-clause-ill_typed c = λ e s.
-    let same = item-kind c.args.plan.now.scopes (item_view c.args.value.now) s.0.kind c.in_ok-made.made c.in_ok-made.ensures.kind s.0.item in
     let refused : c.variable.result ≡ Err stop.IllTyped = search rules in
-    c.variable.ensures.ill_typed refused (subst IsDeclaredKind (sym same) (assigned-declared s.0.kind s.0.assigned)) (s.0.target ∙ ap (λ k. Some k) (sym same))
+    let (changed, same) = single-change c.args.plan.now.scopes (intents_in c.args.plan.now) c.args.name.now.text.now (assign_view c.args.sign.op) (item_view c.args.value.now) c.in_ok-made.made c.requires c.in_ok-made.ensures.kind s.0 in
+    c.variable.ensures.ill_typed refused (subst IsSingleKind (sym same) (changed-held s.0.kind changed)) (s.0.target ∙ ap (λ k. Some k) (sym same))
 
 pub returns-in_err-taken-clause-ill_typed : goal.returns-in_err-taken-clause-ill_typed
 returns-in_err-taken-clause-ill_typed c = λ e s.
@@ -35,8 +35,8 @@ returns-in_err-taken-clause-ill_typed c = λ e s.
 pub returns-in_err-intent_resolves-clause-ill_typed : goal.returns-in_err-intent_resolves-clause-ill_typed
 returns-in_err-intent_resolves-clause-ill_typed c = λ e s.
     let plan = c.args.plan.now in
-    let same = item-kind plan.scopes (item_view c.args.value.now) s.0.kind c.in_ok-made.made c.in_ok-made.ensures.kind s.0.item in
     let refused : c.intent_resolves.result ≡ Err stop.IllTyped = search rules in
+    let (changed, same) = single-change plan.scopes (intents_in plan) c.args.name.now.text.now (assign_view c.args.sign.op) (item_view c.args.value.now) c.in_ok-made.made c.requires c.in_ok-made.ensures.kind s.0 in
     c.intent_resolves.ensures.ill_typed refused c.in_ok-slot.ensures.slot (subst (IsReducedBy plan.scopes (intents_in plan) c.args.name.now.text.now (assign_view c.args.sign.op)) (sym same) s.0.reduced)
 
 pub returns-clause-plans : goal.returns-clause-plans
@@ -47,5 +47,5 @@ returns-clause-plans c =
 
 pub returns-clause-ill_typed : goal.returns-clause-ill_typed
 returns-clause-ill_typed c = λ e s.
-    let same = item-kind c.args.plan.now.scopes (item_view c.args.value.now) s.0.kind c.in_ok-made.made c.in_ok-made.ensures.kind s.0.item in
-    c.change.ensures.ill_typed e (subst IsAssignedKind (sym same) s.0.assigned) (subst (λ k. kind_takes k (assign_view c.args.sign.op) ≡ true) (sym same) s.0.taken) s.1 s.2
+    let (changed, same) = single-change c.args.plan.now.scopes (intents_in c.args.plan.now) c.args.name.now.text.now (assign_view c.args.sign.op) (item_view c.args.value.now) c.in_ok-made.made c.requires c.in_ok-made.ensures.kind s.0 in
+    c.change.ensures.ill_typed e (subst IsChangedKind (sym same) changed) (subst (λ k. kind_takes k (assign_view c.args.sign.op) ≡ true) (sym same) s.0.taken) s.1 s.2

@@ -3,11 +3,11 @@ use Rattle.std.proofs.Common.{rules, ◌≡◌, true, false, Err, Some, None, sy
 use Rattle.dpl_tree.specs.Declarations.{declare_view}
 use Rattle.dpl_nodes.specs.declared.make.Stop.TheVariants as stop
 use Rattle.dpl_typer.proofs.Names.{if_ok, if_both}
-use Rattle.dpl_runnable.specs.Kinds.{IsDeclaredKind}
 use Rattle.dpl_runnable.specs.Runnable.{IsConfigOf}
 use Rattle.dpl_planner.proofs.Declared.{declare-plans, declare-config}
-use Rattle.dpl_planner.proofs.RefusedParts.{declared-typed, declared-held, declared-shaped, declared-new}
-use Rattle.dpl_planner.proofs.declaration.declare.Goals as goal
+use Rattle.dpl_planner.specs.Parts.{IsSingleKind}
+use Rattle.dpl_planner.proofs.RefusedParts.{single-type, declared-single_kind, declared-typed, declared-held, declared-shaped, declared-new}
+use Rattle.dpl_planner.proofs.declaration.declare_single.Goals as goal
 
 pub returns-clause-plans : goal.returns-clause-plans
 returns-clause-plans c =
@@ -31,14 +31,15 @@ returns-clause-config c =
 pub returns-in_err-begun-clause-ill_typed : goal.returns-in_err-begun-clause-ill_typed
 returns-in_err-begun-clause-ill_typed c = λ e s.
     let refused : c.initial.result ≡ Err stop.IllTyped = search rules in
-    c.initial.ensures.ill_typed refused s.kind s.type s.initial
+    c.initial.ensures.ill_typed refused s.kind (single-type c.args.plan.now.scopes _ s.type c.requires) s.initial
     (declared-shaped c.args.plan.now.scopes (declare_view c.args.written.now) c.in_ok-declared.declared c.in_ok-declared.ensures.declared s c.in-Some.value_type c.in-Some.is)
 
 pub returns-then-not-begins-clause-ill_typed : goal.returns-then-not-begins-clause-ill_typed
 returns-then-not-begins-clause-ill_typed c = λ e s.
-    let same = c.in_ok-begun.ensures.kind s.kind s.initial in
+    let single = declared-single_kind c.args.plan.now.scopes (declare_view c.args.written.now) c.requires s in
+    let same = c.in_ok-begun.ensures.kind s.kind single s.initial in
     let other : c.begins.result ≡ false = search rules in
-    c.begins.ensures.no other (subst IsDeclaredKind (sym same) s.kept)
+    c.begins.ensures.no other (subst IsSingleKind (sym same) single)
     (declared-held c.args.plan.now.scopes (declare_view c.args.written.now) c.in_ok-declared.declared c.in_ok-declared.ensures.declared s c.in-Some.value_type c.in-Some.is ∙ ap (λ k. Some k) (sym same))
 
 pub returns-in_err-slot-clause-ill_typed : goal.returns-in_err-slot-clause-ill_typed
@@ -48,8 +49,9 @@ returns-in_err-slot-clause-ill_typed c = λ e s.
 
 pub returns-clause-ill_typed : goal.returns-clause-ill_typed
 returns-clause-ill_typed c = λ e s.
-    let same = c.in_ok-begun.ensures.kind s.kind s.initial in
-    c.declares.ensures.ill_typed e (subst IsDeclaredKind (sym same) s.kept) (subst (IsConfigOf (declare_view c.args.written.now).config) (sym same) s.config)
+    let single = declared-single_kind c.args.plan.now.scopes (declare_view c.args.written.now) c.requires s in
+    let same = c.in_ok-begun.ensures.kind s.kind single s.initial in
+    c.declares.ensures.ill_typed e (subst IsSingleKind (sym same) single) (subst (IsConfigOf (declare_view c.args.written.now).config) (sym same) s.config)
 
 pub returns-in_default-clause-ill_typed : goal.returns-in_default-clause-ill_typed
 returns-in_default-clause-ill_typed c = λ e s.

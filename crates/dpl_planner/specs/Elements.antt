@@ -1,0 +1,41 @@
+-- What arrays are given: each element of a whole array what is evaluated at its index, or one element a value.
+-- An array's name has its place in either, since a fault may tell it.
+use Rattle.std.specs.Prelude.{◌≡◌, Some}
+use Rattle.dpl_syntax.specs.declared.place.Place.{Place}
+use Rattle.dpl_language.specs.Tree.{Placed, Assign, Kind, IntKind, BoolKind, ExprTree, Exprs, ItemTree, Whole, Element, Square, StmtTree, Assigned}
+use Rattle.dpl_language.specs.Arithmetic.{assign_divides}
+use Rattle.dpl_language.specs.Names.{Text}
+use Rattle.dpl_rules.specs.Types.{ValueType}
+use Rattle.dpl_rules.specs.Sights.{Scopes}
+use Rattle.dpl_rules.specs.Expressions.{item_type}
+use Rattle.dpl_lowered.specs.Shapes.{nowhere, kept}
+use Rattle.dpl_lowered.specs.LoweredExpressions.{EachTurn}
+use Rattle.dpl_memory.specs.Memory.{Variable}
+use Rattle.dpl_nodes.specs.Promoted.{promoted_int, promoted_truth}
+use Rattle.dpl_typer.specs.declared.make.Typed.{Typed}
+use Rattle.dpl_typer.specs.Leaves.{IsOfType}
+use Rattle.dpl_planner.specs.declared.elements.Elements.{Elements}
+use Rattle.dpl_planner.specs.declared.elements.Elements.TheVariants as elements
+
+abbrev pub elements_view : Elements → ExprTree Variable
+elements_view (elements.Ints e) = promoted_int EachTurn e.now
+elements_view (elements.Truths e) = promoted_truth EachTurn e.now
+
+abbrev pub elements_kind : Elements → Kind
+elements_kind (elements.Ints e) = IntKind
+elements_kind (elements.Truths e) = BoolKind
+
+-- an assignment to a whole array, with its operator's place, and one to an element, with that place where a fault tells it
+abbrev pub whole_changed : Placed Variable → Assign → Place → ItemTree Variable → StmtTree Variable
+whole_changed x op at item = Assigned (Whole x) (record { at = at; op = op; last = nowhere }) item nowhere
+
+abbrev pub element_changed : Placed Variable → Exprs Variable → Assign → Place → ItemTree Variable → StmtTree Variable
+element_changed x es op at item =
+    Assigned (Element x Square nowhere es nowhere) (record { at = kept (assign_divides op) at; op = op; last = nowhere }) item nowhere
+
+-- an item has a type, and what is made of it is of that type
+abbrev pub HasItemType : Scopes → ItemTree Text → Type 0
+HasItemType ss i = (u : ValueType) × (item_type ss i ≡ Some u)
+
+abbrev pub IsValued : Scopes → ItemTree Text → Typed → Type 0
+IsValued ss i t = (u : ValueType) × (item_type ss i ≡ Some u) × IsOfType t (Some u)

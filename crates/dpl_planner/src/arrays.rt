@@ -1,0 +1,310 @@
+// Declarations of arrays: what each is over, ranges or a domain, and what its elements begin with.
+// A domain's bare name stands as it is between the brackets, since the array changes with it; what only looks like one doesn't.
+
+ghost use Rattle.std.specs.Prelude.{◌≡◌, ◌≢◌, true, false, is_some, ◌∷◌, [], IfOk, IfSome, IfNone, Err, Some, None};
+ghost use Rattle.dpl_language.specs.Tree.{FirstItem, NoItems, One, ItemInit, ArrayType as ArrayTypeTree};
+ghost use Rattle.dpl_language.specs.Phrases.{item_over};
+ghost use Rattle.dpl_language.specs.Declarations.{type_of};
+ghost use Rattle.dpl_tree.specs.Words.{kind_view};
+ghost use Rattle.dpl_tree.specs.View.{item_view, items_view};
+ghost use Rattle.dpl_tree.specs.Declarations.{optional, typed_view as written_type_view, initial_view as written_initial_view, array_type_view, declare_view};
+ghost use Rattle.dpl_rules.specs.Declarations.{declared_by};
+ghost use Rattle.dpl_rules.specs.Expressions.{item_parts};
+ghost use Rattle.dpl_types.specs.View.{type_view, of_type};
+ghost use Rattle.dpl_lowered.specs.LoweredStatements.{written_initial};
+ghost use Rattle.dpl_memory.specs.Memory.{VariableKind, ArrayKind};
+ghost use Rattle.dpl_nodes.specs.Faults.{IsNear};
+ghost use Rattle.dpl_nodes.specs.Typed.{domain_view, range_item};
+ghost use Rattle.dpl_nodes.specs.Steps.{over_items, initial_kind, initial_view};
+ghost use Rattle.dpl_nodes.specs.declared.make.Stop.TheVariants as stop;
+ghost use Rattle.dpl_scopes.specs.View.{declared_view};
+ghost use Rattle.dpl_spelling.specs.Spelt.{ItemSpelt, ItemsSpelt};
+ghost use Rattle.dpl_typer.specs.Leaves.{kind_by, MayBePlain};
+ghost use Rattle.dpl_typer.specs.Simple.{IsSimpleItem, AreSimpleItems};
+ghost use Rattle.dpl_runnable.specs.Kinds.{IsGivenTo};
+ghost use Rattle.dpl_runnable.specs.Runnable.{IsItemOf, IsRunnableType, IsRunnableDeclare};
+ghost use Rattle.dpl_planner.specs.Elements.{elements_view, elements_kind};
+ghost use Rattle.dpl_planner.specs.Arrays.{between, AreMany, HasNoDomain, IsOver, IsArrayInitial, HasElements, IsArrayKind};
+ghost use Rattle.dpl_planner.specs.Parts.{PlansDeclare};
+
+use crate::elements::{Elements, array_kind, given_elements, valued};
+use crate::progress::{Plan, node, spot};
+use dpl_forms::declaration::declaration;
+use dpl_nodes::step::{Initial as Begun, Over as Between};
+use dpl_nodes::{ArrayDeclaration, DomainExpr, RangeExpr, RangesExpr, Spot, Step, Stop};
+use dpl_scopes::{Declared, Scopes};
+use dpl_syntax::Place;
+use dpl_tree::{Arena, ArrayType, Declare, Init, Initial, Item, Items, ScalarKind};
+use dpl_typer::parts::parts;
+use dpl_typer::{Parts, Typed, item};
+use dpl_types::ValueType;
+
+/// The declaration, as the check has it.
+///
+/// # Errors
+/// Out of memory.
+pub(crate) fn declared<'s>(plan: &Plan<'s, '_>, written: &Declare<'s>) -> Result<Declared<'s>, Stop>
+    ensures declared { IfOk result (λ d. declared_view d ≡ declared_by plan.now.scopes (declare_view written.now)) }
+    ensures ill_typed { result ≢ Err stop.IllTyped }
+{
+    let mut first = None;
+    match declaration(plan.arena.alloc(), &plan.scopes, written, &mut first) {
+        Ok(declared) => Ok(declared),
+        Err(_) => Err(Stop::Memory),
+    }
+}
+
+// Whether an item is a bare name.
+fn is_bare(written: &Item<'_>) -> bool
+    ensures { result ≡ is_some (item_over (item_view written.now)) }
+{
+    match written {
+        Item::One(e) => e.bare_name().is_some(),
+        Item::Range(_) => false,
+    }
+}
+
+// One range alone.
+fn line<'t>(arena: Arena<'t>, e: &'t RangeExpr<'t>) -> Result<Between<'t>, Stop>
+    ensures node { IfOk result (λ o. over_items o ≡ FirstItem (range_item e.now) NoItems) }
+    ensures ill_typed { result ≢ Err stop.IllTyped }
+{
+    Ok(Between::Ranges(node(arena, RangesExpr::Line(e))?))
+}
+
+// A domain: a name that isn't bare in the text is none between the brackets.
+fn over_domain<'t>(bare: bool, e: &'t DomainExpr<'t>) -> Between<'t>
+    ensures { over_items result ≡ FirstItem (between bare (One (domain_view e.now))) NoItems }
+{
+    if bare {
+        return Between::Domain(e);
+    }
+    match e {
+        DomainExpr::Local(_) => Between::HiddenDomain(e),
+        DomainExpr::OfArray(_, _)
+        | DomainExpr::Literal(_, _)
+        | DomainExpr::Slice(_, _)
+        | DomainExpr::Expanded(_, _, _) => Between::Domain(e),
+    }
+}
+
+// A range in the same way.
+fn over_range<'t>(arena: Arena<'t>, bare: bool, e: &'t RangeExpr<'t>) -> Result<Between<'t>, Stop>
+    ensures node { IfOk result (λ o. over_items o ≡ FirstItem (between bare (range_item e.now)) NoItems) }
+    ensures ill_typed { result ≢ Err stop.IllTyped }
+{
+    if bare {
+        return line(arena, e);
+    }
+    match e {
+        RangeExpr::Local(_) => Ok(Between::HiddenRange(e)),
+        RangeExpr::Between(_, _, _, _, _) | RangeExpr::Slice(_, _) | RangeExpr::Dimension(_, _) => {
+            line(arena, e)
+        }
+    }
+}
+
+// One item between the brackets.
+fn over_one<'t>(
+    arena: Arena<'t>,
+    scopes: &Scopes<'_>,
+    written: &Item<'_>,
+) -> Result<Between<'t>, Stop>
+    ensures over { IfOk result (λ o. IsOver scopes.now (FirstItem (item_view written.now) NoItems) o) }
+    ensures ill_typed { (result ≡ Err stop.IllTyped) → IsSimpleItem (MayBePlain scopes.now) (item_view written.now) → ItemSpelt IsNear (item_view written.now) → HasNoDomain (item_parts scopes.now (FirstItem (item_view written.now) NoItems)) }
+{
+    let bare = is_bare(written);
+    let made = item(arena, scopes, written)?;
+    match made {
+        Typed::Domain(e) => Ok(over_domain(bare, e)),
+        Typed::Range(e) => over_range(arena, bare, e),
+        Typed::Int(_) => Err(Stop::IllTyped),
+        Typed::Truth(_) => Err(Stop::IllTyped),
+        Typed::Tuple(_) => Err(Stop::IllTyped),
+        Typed::Ints(_) => Err(Stop::IllTyped),
+        Typed::Truths(_) => Err(Stop::IllTyped),
+    }
+}
+
+// Several ranges.
+fn over_many<'t>(
+    arena: Arena<'t>,
+    scopes: &Scopes<'_>,
+    written: &Items<'_>,
+) -> Result<Between<'t>, Stop>
+    requires { AreMany (items_view written.now) }
+    ensures over { IfOk result (λ o. IsOver scopes.now (items_view written.now) o) }
+    ensures ill_typed { (result ≡ Err stop.IllTyped) → AreSimpleItems (MayBePlain scopes.now) (items_view written.now) → ItemsSpelt IsNear (items_view written.now) → HasNoDomain (item_parts scopes.now (items_view written.now)) }
+{
+    let made = parts(arena, scopes, written)?;
+    match made {
+        Parts::Ranges(ranges) => Ok(Between::Ranges(ranges)),
+        Parts::Index(_) => Err(Stop::IllTyped),
+    }
+}
+
+// What an array is over.
+fn over<'t>(arena: Arena<'t>, scopes: &Scopes<'_>, written: &Items<'_>) -> Result<Between<'t>, Stop>
+    ensures over { IfOk result (λ o. IsOver scopes.now (items_view written.now) o) }
+    ensures ill_typed { (result ≡ Err stop.IllTyped) → AreSimpleItems (MayBePlain scopes.now) (items_view written.now) → ItemsSpelt IsNear (items_view written.now) → HasNoDomain (item_parts scopes.now (items_view written.now)) }
+{
+    match written.others {
+        [] => over_one(arena, scopes, &written.first),
+        [_, ..] => over_many(arena, scopes, written),
+    }
+}
+
+// What the elements of a kind are where no value is written.
+fn zeros<'t>(kind: ScalarKind) -> Begun<'t>
+    ensures node { initial_view result ≡ None }
+    ensures kind { initial_kind result ≡ kind_view kind }
+{
+    match kind {
+        ScalarKind::Int => Begun::Zeros,
+        ScalarKind::Bool => Begun::Falses,
+    }
+}
+
+// What they are given.
+fn begun<'t>(at: &'t Spot, elements: Elements<'t>) -> Begun<'t>
+    ensures node { initial_view result ≡ Some (written_initial at.now (One (elements_view elements.entry))) }
+    ensures kind { initial_kind result ≡ elements_kind elements.entry }
+{
+    match elements {
+        Elements::Ints(e) => Begun::Ints(at, e),
+        Elements::Truths(e) => Begun::Truths(at, e),
+    }
+}
+
+// An item that is written behind `=`.
+fn given_item<'t>(
+    arena: Arena<'t>,
+    scopes: &Scopes<'_>,
+    kind: ScalarKind,
+    equals: Place,
+    written: &Item<'_>,
+) -> Result<Begun<'t>, Stop>
+    ensures initial { IfOk result (λ b. IsArrayInitial scopes.now (kind_view kind) (Some (record { equals = equals; init = ItemInit (item_view written.now) None })) b) }
+    ensures ill_typed { (result ≡ Err stop.IllTyped) → IsNear equals → (k : VariableKind) → IsItemOf scopes.now (item_view written.now) k → IsGivenTo (ArrayKind (kind_view kind)) k → ⊥ }
+{
+    let value = valued(arena, scopes, written)?;
+    let elements = given_elements(arena, kind, value)?;
+    let at = spot(arena, equals)?;
+    Ok(begun(at, elements))
+}
+
+// A value that is written.
+fn given<'t>(
+    arena: Arena<'t>,
+    scopes: &Scopes<'_>,
+    kind: ScalarKind,
+    written: &Initial<'_>,
+) -> Result<Begun<'t>, Stop>
+    ensures initial { IfOk result (λ b. IsArrayInitial scopes.now (kind_view kind) (Some (written_initial_view written.now)) b) }
+    ensures ill_typed { (result ≡ Err stop.IllTyped) → HasElements scopes.now (kind_view kind) (Some (written_initial_view written.now)) → ⊥ }
+{
+    match &written.init {
+        Init::Item(item, None) => given_item(arena, scopes, kind, written.equals, item),
+        Init::Item(_, Some(_)) => Err(Stop::IllTyped),
+        Init::Create(_) => Err(Stop::IllTyped),
+    }
+}
+
+// What the elements begin with.
+fn initial<'t>(
+    arena: Arena<'t>,
+    scopes: &Scopes<'_>,
+    kind: ScalarKind,
+    written: &Option<Initial<'_>>,
+) -> Result<Begun<'t>, Stop>
+    ensures initial { IfOk result (λ b. IsArrayInitial scopes.now (kind_view kind) (optional written_initial_view written.now) b) }
+    ensures ill_typed { (result ≡ Err stop.IllTyped) → HasElements scopes.now (kind_view kind) (optional written_initial_view written.now) → ⊥ }
+{
+    match written {
+        Some(written) => given(arena, scopes, kind, written),
+        None => Ok(zeros(kind)),
+    }
+}
+
+// The parts of an array's declaration.
+#[derive(Clone, Copy)]
+struct ArrayParts<'t> {
+    at: &'t Spot,
+    from: &'t Spot,
+    over: Between<'t>,
+    initial: Begun<'t>,
+}
+
+// They are made in the scopes before it.
+fn array_parts<'t>(
+    arena: Arena<'t>,
+    scopes: &Scopes<'_>,
+    written: &Declare<'_>,
+    array: &ArrayType<'_>,
+) -> Result<ArrayParts<'t>, Stop>
+    ensures at { IfOk result (λ p. p.at.now ≡ written.now.name.at) }
+    ensures from { IfOk result (λ p. p.from.now ≡ array.now.from) }
+    ensures over { IfOk result (λ p. IsOver scopes.now (items_view array.now.over) p.over) }
+    ensures initial { IfOk result (λ p. IsArrayInitial scopes.now (kind_view array.now.kind) (optional written_initial_view written.now.initial) p.initial) }
+    ensures ill_typed { (result ≡ Err stop.IllTyped) → IsNear written.now.name.at → IsRunnableType scopes.now (Some (ArrayTypeTree (array_type_view array.now)))
+        → (HasNoDomain (item_parts scopes.now (items_view array.now.over)) → ⊥) → HasElements scopes.now (kind_view array.now.kind) (optional written_initial_view written.now.initial) → ⊥ }
+{
+    Ok(ArrayParts {
+        at: spot(arena, written.name.at)?,
+        from: spot(arena, array.from)?,
+        over: over(arena, scopes, &array.over)?,
+        initial: initial(arena, scopes, array.kind, &written.initial)?,
+    })
+}
+
+// The type that the check gives an array.
+fn array_type<'s>(declared: Declared<'s>) -> Result<ValueType<'s>, Stop>
+    ensures typed { IfOk result (λ t. declared.entry.value_type ≡ Some t) }
+    ensures kind { IfOk result (λ t. IsArrayKind (kind_by (Some (type_view t)))) }
+    ensures ill_typed { (result ≡ Err stop.IllTyped) → IsArrayKind (kind_by (of_type declared.entry.value_type)) → ⊥ }
+{
+    match declared.value_type {
+        Some(t) => match array_kind(t) {
+            Some(_) => Ok(t),
+            None => Err(Stop::IllTyped),
+        },
+        None => Err(Stop::IllTyped),
+    }
+}
+
+/// A declaration of an array, whose name is in sight behind it.
+///
+/// # Errors
+/// Out of memory; a name that its scope has; what is over neither a domain nor ranges; elements of another kind; a `config`.
+pub(crate) fn declare_array<'s, 't>(
+    plan: &mut Plan<'s, 't>,
+    written: &Declare<'s>,
+    array: &ArrayType<'s>,
+) -> Result<Step<'t>, Stop>
+    requires { type_of (optional written_type_view written.now.typed) ≡ Some (ArrayTypeTree (array_type_view array.now)) }
+    ensures plans { IfOk result (λ step. PlansDeclare plan.old plan.new (declare_view written.now) step) }
+    ensures config { IfOk result (λ step. (declare_view written.now).config ≡ None) }
+    ensures ill_typed { (result ≡ Err stop.IllTyped) → IsRunnableDeclare plan.old.scopes (declare_view written.now) → ⊥ }
+{
+    if written.config.is_some() {
+        return Err(Stop::IllTyped);
+    }
+    let declared = declared(plan, written)?;
+    let value_type = array_type(declared)?;
+    let parts = array_parts(plan.arena, &plan.scopes, written, array)?;
+    let slot = plan.declare(declared.origin.name, declared.sort, value_type)?;
+    let ArrayParts {
+        at,
+        from,
+        over,
+        initial,
+    } = parts;
+    let array = ArrayDeclaration {
+        at,
+        slot,
+        from,
+        over,
+        initial,
+    };
+    Ok(Step::DeclareArray(node(plan.arena, array)?))
+}
