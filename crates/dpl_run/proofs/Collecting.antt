@@ -6,26 +6,24 @@ use Rattle.std.proofs.lemmas.List.{map-append, append-nil}
 use Rattle.std.proofs.lemmas.Option.{none-some}
 use Rattle.std.proofs.lemmas.Slice.Eq.{bytes_eq-Decides}
 use Rattle.dpl_language.specs.Tree.{Kind, IntKind, BoolKind, StmtTree, Nothing, Declare, Assigned, Call, Write, Block, If, While, For, Forall, Coforall, On, Stmts, NoStmts, Then}
-use Rattle.dpl_language.specs.Environment.{Plain}
 use Rattle.dpl_language.specs.Names.{Text, Entry}
-use Rattle.dpl_language.specs.Scopes.{PlainSort}
+use Rattle.dpl_agreement.specs.Scopes.{PlainSort}
 use Rattle.dpl_rules.specs.Sights.{Declared, Scope, Scopes, find, lookup, type_declared}
-use Rattle.dpl_rules.specs.Types.{ValueType, Scalar, Range, Domain}
+use Rattle.dpl_rules.specs.Types.{Over, ValueType, Scalar, Range, Domain, Array, Promoted, Tuple, Locale, AllLocales, Cell}
 use Rattle.dpl_rules.specs.Loops.{behind}
 use Rattle.dpl_rules.specs.Breaches.{top}
 use Rattle.dpl_rules.specs.Sound.{behind_all}
 use Rattle.dpl_scopes.specs.Slots.{slot_in}
-use Rattle.dpl_memory.specs.Memory.{VariableKind, PlainKind, DomainKind, TupleKind, ArrayKind, Memory}
-use Rattle.dpl_memory.specs.Resolved.{Sighted, outermost, sighted, entry_in, frame_in}
+use Rattle.dpl_memory.specs.Memory.{VariableKind, DomainKind, TupleKind, ArrayKind, Memory}
+use Rattle.dpl_memory.specs.Resolved.{outermost, sighted, entry_in, frame_in}
 use Rattle.dpl_runnable.specs.Kinds.{IsDeclaredKind}
-use Rattle.dpl_runnable.proofs.Expressions.{variable-cases}
-use Rattle.dpl_typer.specs.Makers.{is_promoted}
-use Rattle.dpl_typer.specs.Leaves.{is_rank, is_tuple_rank, value_kind, kind_by, leaf_by}
+use Rattle.dpl_typer.specs.Leaves.{is_rank, is_tuple_rank, kind_by, leaf_by}
 use Rattle.dpl_typer.specs.Shapes.{shape_by}
 use Rattle.dpl_typer.proofs.OperatorKinds.{kind_if-some}
-use Rattle.dpl_typer.specs.Sights.{bound_at, frame_from, sight_of, IsPlainScope, ArePlainScopes}
+use Rattle.dpl_typer.specs.Sights.{bound_at, sighted_at, frame_from, sight_of, is_promoted_by, IsKnownScope, AreKnownScopes}
+use Rattle.dpl_typer.proofs.Sights.{HasKnownKind, lookup-known}
 use Rattle.dpl_run.specs.Names.{declared_by, declared_names}
-use Rattle.dpl_run.specs.Leaving.{sighted_in, held_by, held_entry, held_frame, IsLeft, AreLeft}
+use Rattle.dpl_run.specs.Leaving.{sighted_in, held_by, held_frame, IsLeft, AreLeft}
 
 -- the names of a scope, in order
 abbrev names_in : Scope → List Text
@@ -104,30 +102,33 @@ names-later d ds (x ∷ xs) h = ap (λ b. b ∷ map (sighted_in ((d ∷ ds) ∷ 
 name-latest : (d : Declared) (ds : Scope) → sighted_in ((d ∷ ds) ∷ []) d.origin.name ≡ sighted (bound_at d (length ds + 1)) PlainSort
 name-latest d ds = rw (same_bytes d.origin.name) refl
 
-frame-names : (ds : Scope) → IsPlainScope ds → frame_from 1 ds ≡ map (sighted_in (ds ∷ [])) (names_in ds)
-frame-names [] h = refl
-frame-names (d ∷ ds) h =
-    ap (λ bs. bs ++ sighted (bound_at d (length ds + 1)) PlainSort ∷ []) (frame-names ds h.2 ∙ sym (names-later d ds (names_in ds) (names-other d.origin.name ds h.1)))
-    ∙ ap (λ b. map (sighted_in ((d ∷ ds) ∷ [])) (names_in ds) ++ b ∷ []) (sym (name-latest d ds))
-    ∙ sym (map-append (sighted_in ((d ∷ ds) ∷ [])) (names_in ds) (d.origin.name ∷ []))
+-- what they hold in a memory; over which domain an array is makes no difference
+frame-names : (s : Memory) (ds : Scope) → IsKnownScope 1 ds → frame_in s (frame_from 1 [] ds) ≡ frame_in s (map (sighted_in (ds ∷ [])) (names_in ds))
+frame-names s [] h = refl
+frame-names s (d ∷ ds) h =
+    map-append (entry_in s) (frame_from 1 [] ds) (sighted_at (ds ∷ []) d (length ds + 1) ∷ [])
+    ∙ ap (λ es. es ++ entry_in s (sighted (bound_at d (length ds + 1)) PlainSort) ∷ []) (frame-names s ds h.2 ∙ ap (frame_in s) (sym (names-later d ds (names_in ds) (names-other d.origin.name ds h.1))))
+    ∙ ap (λ b. frame_in s (map (sighted_in ((d ∷ ds) ∷ [])) (names_in ds)) ++ entry_in s b ∷ []) (sym (name-latest d ds))
+    ∙ sym (map-append (entry_in s) (map (sighted_in ((d ∷ ds) ∷ [])) (names_in ds)) (sighted_in ((d ∷ ds) ∷ []) d.origin.name ∷ []))
+    ∙ ap (frame_in s) (sym (map-append (sighted_in ((d ∷ ds) ∷ [])) (names_in ds) (d.origin.name ∷ [])))
 
 -- ---- what is in sight at the end
-outermost-one : (ss : Scopes) (s : Scope) (names : List Text) → ss ≡ s ∷ [] → names_in s ≡ names → ArePlainScopes ss → outermost (sight_of ss) ≡ map (sighted_in ss) names
-outermost-one ss s names one named plain =
-    let scope : IsPlainScope s = (subst ArePlainScopes one plain).0 in
-    ap (λ ss. outermost (sight_of ss)) one
-    ∙ frame-names s scope
-    ∙ ap (map (sighted_in (s ∷ []))) named
-    ∙ ap (λ ss. map (sighted_in ss) names) (sym one)
+outermost-one : (m : Memory) (ss : Scopes) (s : Scope) (names : List Text) → ss ≡ s ∷ [] → names_in s ≡ names → AreKnownScopes ss → frame_in m (outermost (sight_of ss)) ≡ frame_in m (map (sighted_in ss) names)
+outermost-one m ss s names one named known =
+    let scope : IsKnownScope 1 s = (subst AreKnownScopes one known).0 in
+    ap (λ ss. frame_in m (outermost (sight_of ss))) one
+    ∙ frame-names m s scope
+    ∙ ap (λ xs. frame_in m (map (sighted_in (s ∷ [])) xs)) named
+    ∙ ap (λ ss. frame_in m (map (sighted_in ss) names)) (sym one)
 
-pub outermost-names : (ts : Stmts Text) → ArePlainScopes (behind_all top ts) → outermost (sight_of (behind_all top ts)) ≡ map (sighted_in (behind_all top ts)) (declared_names ts)
-outermost-names ts plain =
+pub outermost-names : (m : Memory) (ts : Stmts Text) → AreKnownScopes (behind_all top ts) → frame_in m (outermost (sight_of (behind_all top ts))) ≡ frame_in m (map (sighted_in (behind_all top ts)) (declared_names ts))
+outermost-names m ts known =
     let g = behind_all-grown [] ts in
-    outermost-one (behind_all top ts) g.scope (declared_names ts) g.one g.named plain
+    outermost-one m (behind_all top ts) g.scope (declared_names ts) g.one g.named known
 
 -- ---- what variables hold
 abbrev HoldsAlike : Memory → Text → Option ℕ → Option ValueType → Type 0
-HoldsAlike s x slot t = record { name = x; content = Plain (held_by t slot s) } ≡ entry_in s (sighted (record { text = x; variable = leaf_by (kind_by t) slot; shape = shape_by t }) PlainSort)
+HoldsAlike s x slot t = record { name = x; content = held_by t slot s } ≡ entry_in s (sighted (record { text = x; variable = leaf_by (kind_by t) slot; shape = shape_by t }) PlainSort)
 
 scalar-held : (s : Memory) (x : Text) (slot : Option ℕ) (l : Kind) → HoldsAlike s x slot (Some (Scalar l))
 scalar-held s x None IntKind = refl
@@ -143,25 +144,28 @@ domain-held : (s : Memory) (x : Text) (slot : Option ℕ) (rank : ℕ) (strided 
 domain-held s x None rank strided r = rw r refl
 domain-held s x (Some slot) rank strided r = rw r refl
 
--- what a declaration gives is no whole array
-declared-single : (k : VariableKind) → IsDeclaredKind k → is_promoted k ≡ false
-declared-single (PlainKind k) h = refl
-declared-single DomainKind h = refl
-declared-single TupleKind h = absurd h
-declared-single (ArrayKind k) h = absurd h
+array-held : (s : Memory) (x : Text) (slot : Option ℕ) (l : Kind) (over : Over) → is_rank over.rank ≡ true → HoldsAlike s x slot (Some (Array l over))
+array-held s x None l over r = rw r refl
+array-held s x (Some slot) l over r = rw r refl
 
-type-held : (s : Memory) (x : Text) (slot : Option ℕ) (t : Option ValueType) (k : VariableKind) → kind_by t ≡ Some k → IsDeclaredKind k → HoldsAlike s x slot t
-type-held s x slot None k e kept = absurd (none-some k e)
-type-held s x slot (Some t) k e kept =
-    variable-cases (λ t. value_kind t ≡ Some k → HoldsAlike s x slot (Some t)) (λ l e. scalar-held s x slot l) (λ strided e. range-held s x slot strided) (λ rank strided r e. domain-held s x slot rank strided r)
-    (λ rank r e. absurd (subst IsDeclaredKind (sym (kind_if-some (is_tuple_rank rank) TupleKind k e).1) kept)) t k (declared-single k kept) e e
+type-held : (s : Memory) (x : Text) (slot : Option ℕ) (t : Option ValueType) (k : VariableKind) → kind_by t ≡ Some k → IsDeclaredKind k → is_promoted_by t ≡ false → HoldsAlike s x slot t
+type-held s x slot None k e kept single = absurd (none-some k e)
+type-held s x slot (Some (Scalar l)) k e kept single = scalar-held s x slot l
+type-held s x slot (Some (Range strided)) k e kept single = range-held s x slot strided
+type-held s x slot (Some (Domain rank strided)) k e kept single = domain-held s x slot rank strided (kind_if-some (is_rank rank) DomainKind k e).0
+type-held s x slot (Some (Array l over)) k e kept single = array-held s x slot l over (kind_if-some (is_rank over.rank) (ArrayKind l) k e).0
+type-held s x slot (Some (Promoted l over)) k e kept single = absurd (let f : true ≡ false = single in cc)
+type-held s x slot (Some (Tuple rank)) k e kept single = absurd (subst IsDeclaredKind (sym (kind_if-some (is_tuple_rank rank) TupleKind k e).1) kept)
+type-held s x slot (Some Locale) k e kept single = absurd (none-some k e)
+type-held s x slot (Some AllLocales) k e kept single = absurd (none-some k e)
+type-held s x slot (Some (Cell l)) k e kept single = absurd (none-some k e)
 
-declared-held : (s : Memory) (x : Text) (slot : Option ℕ) (o : Option Declared) → IsLeft o → HoldsAlike s x slot (type_declared o)
-declared-held s x slot None is = refl
-declared-held s x slot (Some d) is = type-held s x slot d.type is.0 is.1 is.2
+declared-held : (s : Memory) (x : Text) (slot : Option ℕ) (o : Option Declared) → HasKnownKind o → IsLeft o → HoldsAlike s x slot (type_declared o)
+declared-held s x slot None known is = refl
+declared-held s x slot (Some d) known is = type-held s x slot d.type is.0 is.1 is.2 known.2
 
-pub held-frame : (scopes : Scopes) (s : Memory) → AreLeft scopes → (xs : List Text) → held_frame scopes s xs ≡ frame_in s (map (sighted_in scopes) xs)
-held-frame scopes s are [] = refl
-held-frame scopes s are (x ∷ xs) =
-    ap (λ (e : Entry). e ∷ held_frame scopes s xs) (declared-held s x (slot_in scopes x) (lookup scopes x) (are x))
-    ∙ ap (λ es. entry_in s (sighted_in scopes x) ∷ es) (held-frame scopes s are xs)
+pub held-frame : (scopes : Scopes) (s : Memory) → AreKnownScopes scopes → AreLeft scopes → (xs : List Text) → held_frame scopes s xs ≡ frame_in s (map (sighted_in scopes) xs)
+held-frame scopes s known are [] = refl
+held-frame scopes s known are (x ∷ xs) =
+    ap (λ (e : Entry). e ∷ held_frame scopes s xs) (declared-held s x (slot_in scopes x) (lookup scopes x) (lookup-known scopes x known) (are x))
+    ∙ ap (λ es. entry_in s (sighted_in scopes x) ∷ es) (held-frame scopes s known are xs)

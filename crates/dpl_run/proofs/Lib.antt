@@ -2,6 +2,8 @@
 pub mod LineEnds
 pub mod Collecting
 pub mod Taking
+pub mod Empty
+pub mod Dumped
 -- A run of a plan is what its program means, and each text comes to one outcome.
 pub mod Planned
 pub mod Ends

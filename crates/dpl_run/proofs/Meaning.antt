@@ -1,7 +1,7 @@
 -- A run of a program's plan in a memory is what the program means.
 -- From the agreement of a memory with names, from lowering, and from what the planner gives.
 use Rattle.std.proofs.Common.{◌≡◌, ℕ, Bool, List, [], map, Option, Some, None, refl, sym, ap, ◌∙◌, subst}
-use Rattle.std.specs.Prelude.{true}
+use Rattle.std.specs.Prelude.{true, option_map}
 use Rattle.dpl_history.specs.declared.history.Event.{Event}
 use Rattle.std.proofs.lemmas.Option.{none-some}
 use Rattle.dpl_language.specs.Tree.{ProgramTree, Kind, IntKind, BoolKind}
@@ -10,12 +10,12 @@ use Rattle.dpl_language.specs.Outcome.{Deeds, no_deeds, Outcome as Meant, Done, 
 use Rattle.dpl_language.specs.Environment.{Limits}
 use Rattle.dpl_language.specs.Statements.{exec_all}
 use Rattle.dpl_language.specs.Names.{Text, Frame, State, paired}
-use Rattle.dpl_language.specs.Program.{settled, meaning, written, left, top_level}
+use Rattle.dpl_language.specs.Program.{settled, meaning, written, left, top_level, own_frame}
 use Rattle.dpl_language.specs.Together.{Happened}
-use Rattle.dpl_language.specs.Renamed.{renamed_program, renamed_stmts}
-use Rattle.dpl_language.specs.Scopes.{fits_all, after_all}
-use Rattle.dpl_language.specs.Agreement.{EndsAlike}
-use Rattle.dpl_language.proofs.ProgramsAlike.{run_from}
+use Rattle.dpl_agreement.specs.Renamed.{renamed_program, renamed_stmts}
+use Rattle.dpl_agreement.specs.Scopes.{fits_all, after_all}
+use Rattle.dpl_agreement.specs.Agreement.{EndsAlike}
+use Rattle.dpl_agreement.proofs.ProgramsAlike.{run_from}
 use Rattle.dpl_rules.specs.Types.{ValueType, Scalar, Range, Domain, Tuple, scalar_of}
 use Rattle.dpl_rules.specs.Sights.{Scopes, lookup, type_declared}
 use Rattle.dpl_rules.specs.Sound.{behind_all, sets_fit}
@@ -37,7 +37,7 @@ use Rattle.dpl_given.proofs.Alike.{kind_as, given-alike}
 use Rattle.dpl_typer.specs.Leaves.{is_rank, is_tuple_rank, value_kind, kind_by}
 use Rattle.dpl_typer.proofs.OperatorKinds.{kind_if-some}
 use Rattle.dpl_runnable.proofs.Expressions.{variable-cases}
-use Rattle.dpl_typer.specs.Sights.{sight_of, ArePlainScopes}
+use Rattle.dpl_typer.specs.Sights.{sight_of, AreKnownScopes}
 use Rattle.dpl_run.specs.Plans.{IsPlan, IsGivenAlike}
 use Rattle.dpl_steps.specs.Runs.{having_printed}
 use Rattle.dpl_run.specs.declared.outcome.Outcome.{Outcome}
@@ -129,21 +129,21 @@ module _ (t : ProgramTree Text) (sets : List (List ℕ)) (slots : ℕ) (scopes :
 
     -- what the names of the top level hold at the end
     leaves : (histories : List (List Event)) (last : Memory) (done : Deeds) → exec_all limits in_memory (steps_of steps) (first_memory start) no_deeds ≡ Done last done
-        → left (run_of t sets limits histories) ≡ Some (frame_in last (map (sighted_in scopes) (declared_names t.stmts)))
+        → option_map own_frame (left (run_of t sets limits histories)) ≡ Some (frame_in last (map (sighted_in scopes) (declared_names t.stmts)))
     leaves histories last done e =
-        ap (λ p. left (meaning p (given t sets) limits histories)) (sym plan.text)
+        ap (λ p. option_map own_frame (left (meaning p (given t sets) limits histories))) (sym plan.text)
         ∙ left-memory start limits plan.resolved histories fits
         ∙ ap (left_in (after_all (resolving start) plan.resolved.stmts first_seen).frames) (by_plan (Done last done) e)
         ∙ ap (λ fs. Some (frame_in last (outermost fs))) (plan.sight start ∙ ap sight_of plan.behind)
-        ∙ ap (λ bs. Some (frame_in last bs)) (outermost-names t.stmts (subst ArePlainScopes plan.behind plan.plain))
+        ∙ ap (λ f. Some f) (outermost-names last t.stmts (subst AreKnownScopes plan.behind plan.plain))
         ∙ ap (λ ss. Some (frame_in last (map (sighted_in ss) (declared_names t.stmts)))) (sym plan.behind)
 
     means-done : (histories : List (List Event)) (last : Memory) (out : List ℕ) (frame : Frame) → exec_all limits in_memory (steps_of steps) (first_memory start) no_deeds ≡ Done last (having_printed out no_deeds)
         → frame ≡ frame_in last (map (sighted_in scopes) (declared_names t.stmts)) → Means t sets limits histories (DoneWith frame) out
     means-done histories last out frame e are =
         let d = done-alike _ (run_of t sets limits histories) _ last (having_printed out no_deeds) (ends histories) (by_plan (Done last (having_printed out no_deeds)) e) in
-        let held : Some (top_level d.0.store) ≡ Some (frame_in last (map (sighted_in scopes) (declared_names t.stmts))) = sym (ap left d.1) ∙ leaves histories last (having_printed out no_deeds) e in
-        let same : top_level d.0.store ≡ frame_in last (map (sighted_in scopes) (declared_names t.stmts)) = cc in
+        let held : Some (own_frame (top_level d.0.store)) ≡ Some (frame_in last (map (sighted_in scopes) (declared_names t.stmts))) = sym (ap (λ o. option_map own_frame (left o)) d.1) ∙ leaves histories last (having_printed out no_deeds) e in
+        let same : own_frame (top_level d.0.store) ≡ frame_in last (map (sighted_in scopes) (declared_names t.stmts)) = cc in
         record {
           happened = subst (λ (o : Meant State). Happened o) (sym d.1) tt;
           writes = ap written (sym d.1);

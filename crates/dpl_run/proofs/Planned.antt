@@ -7,8 +7,8 @@ use Rattle.dpl_syntax.specs.declared.refusal.Refusal.{Refusal}
 use Rattle.dpl_syntax.specs.declared.refusal.Breach.{Breach}
 use Rattle.dpl_language.specs.Tree.{ProgramTree}
 use Rattle.dpl_language.specs.Names.{Text}
-use Rattle.dpl_language.specs.Renamed.{renamed_program}
-use Rattle.dpl_language.specs.Scopes.{fits_all, after_all}
+use Rattle.dpl_agreement.specs.Renamed.{renamed_program}
+use Rattle.dpl_agreement.specs.Scopes.{fits_all, after_all}
 use Rattle.dpl_rules.specs.Sights.{Declared, Scopes, lookup, type_declared}
 use Rattle.dpl_rules.specs.Breaches.{top, first_breach}
 use Rattle.dpl_rules.specs.Sound.{behind_all, sets_fit, refusal_by, refusal}
@@ -22,7 +22,7 @@ use Rattle.dpl_nodes.specs.declared.step.Step.{Step}
 use Rattle.dpl_nodes.specs.Steps.{steps_of}
 use Rattle.dpl_typer.specs.Leaves.{kind_by, kind_in, leaf_by}
 use Rattle.dpl_typer.specs.Shapes.{shape_in}
-use Rattle.dpl_typer.specs.Sights.{bound_in, sight_of, ArePlainScopes}
+use Rattle.dpl_typer.specs.Sights.{bound_in, sight_of, AreKnownScopes}
 use Rattle.dpl_planner.specs.Bounds.{bound_program}
 use Rattle.dpl_planner.specs.Given.{IsGiven, IsConfig, AreGiven}
 use Rattle.dpl_closed.specs.Closed.{closed_stmts}
@@ -50,7 +50,7 @@ are-given start ss alike x config = configured-given start ss x alike (lookup ss
 pub planned : (t : ProgramTree Text) (slots : ℕ) (scopes : Scopes) (steps : List Step) → renamed_program text_of (bound_program t) ≡ t → (lowered_program known_variable (renamed_program variable_of (bound_program t))).stmts ≡ steps_of steps
     → ((start : Start) → slots ≤ start.slots → AreGiven start scopes → fits_all (resolving start) (bound_program t).stmts first_seen)
     → ((start : Start) → (after_all (resolving start) (bound_program t).stmts first_seen).frames ≡ sight_of scopes)
-    → scopes ≡ behind_all top t.stmts → ArePlainScopes scopes → IsPlan t slots scopes steps
+    → scopes ≡ behind_all top t.stmts → AreKnownScopes scopes → IsPlan t slots scopes steps
 planned t slots scopes steps text nodes fits sight behind plain = record {
   resolved = bound_program t;
   text = text;

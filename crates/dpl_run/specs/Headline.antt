@@ -10,7 +10,7 @@ use Rattle.dpl_language.specs.Tree.{ProgramTree}
 use Rattle.dpl_language.specs.Environment.{Limits}
 use Rattle.dpl_language.specs.Outcome.{Outcome as Meant, Done as DoneAt, Stop as StopAt, Waits as WaitsAt}
 use Rattle.dpl_language.specs.Names.{Text, State}
-use Rattle.dpl_language.specs.Program.{written, top_level}
+use Rattle.dpl_language.specs.Program.{written, top_level, own_frame}
 use Rattle.dpl_language.specs.Together.{Happened}
 use Rattle.dpl_nodes.specs.Faults.{fault_view}
 use Rattle.dpl_rules.specs.Sound.{refusal}
@@ -37,7 +37,7 @@ IsRefused text sets r = IsRefusedBy (tree_refusal sets) text r
 -- done, with what the top level's names hold, exactly where the meaning is done; stopped, by that fault, exactly where it
 -- stopped
 abbrev pub EndsAs : Meant State → Outcome → Type 0
-EndsAs (DoneAt s done) (Done left) = left ≡ top_level s.store
+EndsAs (DoneAt s done) (Done left) = left ≡ own_frame (top_level s.store)
 EndsAs (DoneAt s done) (Stopped f) = ⊥
 EndsAs (DoneAt s done) (Rejected r) = ⊥
 EndsAs (StopAt f done) (Done left) = ⊥

@@ -3,8 +3,8 @@
 use Rattle.std.specs.Prelude.{◌≡◌, ℕ, List, Some, option_map}
 use Rattle.dpl_language.specs.Tree.{ProgramTree}
 use Rattle.dpl_language.specs.Names.{Text, paired}
-use Rattle.dpl_language.specs.Renamed.{renamed_program}
-use Rattle.dpl_language.specs.Scopes.{fits_all, after_all}
+use Rattle.dpl_agreement.specs.Renamed.{renamed_program}
+use Rattle.dpl_agreement.specs.Scopes.{fits_all, after_all}
 use Rattle.dpl_rules.specs.Sights.{Scopes}
 use Rattle.dpl_rules.specs.Breaches.{top}
 use Rattle.dpl_rules.specs.Sound.{behind_all}
@@ -16,7 +16,7 @@ use Rattle.dpl_memory.specs.Resolved.{Bound, text_of, variable_of, Start, first_
 use Rattle.dpl_nodes.specs.declared.step.Step.{Step}
 use Rattle.dpl_nodes.specs.Steps.{steps_of}
 use Rattle.dpl_typer.specs.Leaves.{kind_in}
-use Rattle.dpl_typer.specs.Sights.{sight_of, ArePlainScopes}
+use Rattle.dpl_typer.specs.Sights.{sight_of, AreKnownScopes}
 
 -- by its slot each plain variable in sight is given what it is given by its text
 abbrev pub IsGivenAlike : Scopes → Start → Type 0
@@ -30,4 +30,4 @@ pub record IsPlan (t : ProgramTree Text) (slots : ℕ) (scopes : Scopes) (steps 
   pub fits : (start : Start) → start.slots ≡ slots → IsGivenAlike scopes start → fits_all (resolving start) resolved.stmts first_seen
   pub sight : (start : Start) → (after_all (resolving start) resolved.stmts first_seen).frames ≡ sight_of scopes
   pub behind : scopes ≡ behind_all top t.stmts
-  pub plain : ArePlainScopes scopes
+  pub plain : AreKnownScopes scopes

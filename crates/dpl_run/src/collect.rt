@@ -7,10 +7,10 @@ ghost use Rattle.dpl_types.specs.View.{type_view};
 ghost use Rattle.dpl_memory.specs.Memory.{int_leaf};
 ghost use Rattle.dpl_scopes.specs.Slots.{slot_in};
 ghost use Rattle.dpl_typer.specs.Leaves.{type_in};
-ghost use Rattle.dpl_run.specs.Leaving.{value_view, value_held, entry_of, held_as, held_by, held_entry, held_frame};
+ghost use Rattle.dpl_run.specs.Leaving.{value_held, content_kept, entry_kept, held_as, held_by, held_entry, held_frame};
 ghost use Rattle.dpl_run.specs.Names.{declared_by, declared_names};
 
-use crate::left::{Left, Value, Variable};
+use crate::left::{Kept, Left, Named};
 use dpl_nodes::Frame;
 use dpl_scopes::Scopes;
 use dpl_tree::{ScalarKind, Stmt};
@@ -18,26 +18,27 @@ use dpl_types::ValueType;
 use std::alloc::{AllocError, Global};
 
 // What a slot holds for a type. What has no slot of its own counts as the int in the first one.
-fn held(value_type: ValueType<'_>, slot: usize, frame: &Frame<'_>) -> Value
-    ensures { value_view result ≡ held_as (type_view value_type.entry) slot frame.now.memory }
+fn held(value_type: ValueType<'_>, slot: usize, frame: &Frame<'_>) -> Kept
+    ensures { content_kept frame.now.memory.arrays result ≡ held_as (type_view value_type.entry) slot frame.now.memory }
 {
     match value_type {
-        ValueType::Scalar(ScalarKind::Int) => Value::Int(frame.number(slot)),
-        ValueType::Scalar(ScalarKind::Bool) => Value::Bool(frame.number(slot) != 0),
-        ValueType::Range { .. } => Value::Range(frame.range(slot)),
-        ValueType::Domain { .. } => Value::Domain(frame.domain(slot)),
-        ValueType::Array(_, _)
-        | ValueType::Promoted(_, _)
+        ValueType::Scalar(ScalarKind::Int) => Kept::Int(frame.number(slot)),
+        ValueType::Scalar(ScalarKind::Bool) => Kept::Bool(frame.number(slot) != 0),
+        ValueType::Range { .. } => Kept::Range(frame.range(slot)),
+        ValueType::Domain { .. } => Kept::Domain(frame.domain(slot)),
+        ValueType::Array(ScalarKind::Int, _) => Kept::Ints(slot),
+        ValueType::Array(ScalarKind::Bool, _) => Kept::Bools(slot),
+        ValueType::Promoted(_, _)
         | ValueType::Tuple(_)
         | ValueType::Locale
         | ValueType::AllLocales
-        | ValueType::Cell(_) => Value::Int(frame.number(0)),
+        | ValueType::Cell(_) => Kept::Int(frame.number(0)),
     }
 }
 
 // What a name in sight holds.
-fn found(scopes: &Scopes<'_>, name: &[u8], frame: &Frame<'_>) -> Option<Value>
-    ensures some { IfSome result (λ v. value_view v ≡ held_by (type_in scopes.now name.now) (slot_in scopes.now name.now) frame.now.memory) }
+fn found(scopes: &Scopes<'_>, name: &[u8], frame: &Frame<'_>) -> Option<Kept>
+    ensures some { IfSome result (λ k. content_kept frame.now.memory.arrays k ≡ held_by (type_in scopes.now name.now) (slot_in scopes.now name.now) frame.now.memory) }
     ensures none { IfNone result (held_by (type_in scopes.now name.now) (slot_in scopes.now name.now) frame.now.memory ≡ value_held (int_leaf 0) frame.now.memory) }
 {
     let value_type = scopes.lookup(name)?.value_type?;
@@ -46,21 +47,21 @@ fn found(scopes: &Scopes<'_>, name: &[u8], frame: &Frame<'_>) -> Option<Value>
 }
 
 // A name with what it holds.
-fn variable(
+fn named(
     alloc: Global,
     scopes: &Scopes<'_>,
     name: &[u8],
     frame: &Frame<'_>,
-) -> Result<Variable, AllocError>
-    ensures { IfOk result (λ v. entry_of v ≡ held_entry scopes.now frame.now.memory name.now) }
+) -> Result<Named, AllocError>
+    ensures { IfOk result (λ v. entry_kept frame.now.memory.arrays v ≡ held_entry scopes.now frame.now.memory name.now) }
 {
-    let value = match found(scopes, name, frame) {
-        Some(value) => value,
-        None => Value::Int(frame.number(0)),
+    let kept = match found(scopes, name, frame) {
+        Some(kept) => kept,
+        None => Kept::Int(frame.number(0)),
     };
-    Ok(Variable {
+    Ok(Named {
         name: name.to_vec(alloc)?,
-        value,
+        kept,
     })
 }
 
@@ -70,13 +71,13 @@ fn add(
     scopes: &Scopes<'_>,
     stmt: &Stmt<'_>,
     frame: &Frame<'_>,
-    variables: &mut Vec<Variable>,
+    variables: &mut Vec<Named>,
 ) -> Result<(), AllocError>
-    ensures { OnOk result (map entry_of variables.new.items ≡ map entry_of variables.old.items ++ held_frame scopes.now frame.now.memory (declared_by (stmt_view stmt.now))) }
+    ensures { OnOk result (map (entry_kept frame.now.memory.arrays) variables.new.items ≡ map (entry_kept frame.now.memory.arrays) variables.old.items ++ held_frame scopes.now frame.now.memory (declared_by (stmt_view stmt.now))) }
 {
     match stmt {
         Stmt::Declare(declared) => {
-            let one = variable(alloc, scopes, declared.name.text, frame)?;
+            let one = named(alloc, scopes, declared.name.text, frame)?;
             variables.push(one)?;
             Ok(())
         }
@@ -94,7 +95,23 @@ fn add(
     }
 }
 
-/// The names that the statements of a program declare at its top level, with what they hold in a frame.
+// The names that statements declare at their own level, with what is kept of each.
+fn names(
+    alloc: Global,
+    scopes: &Scopes<'_>,
+    stmts: &[Stmt<'_>],
+    frame: &Frame<'_>,
+) -> Result<Vec<Named>, AllocError>
+    ensures { IfOk result (λ named. map (entry_kept frame.now.memory.arrays) named.items ≡ held_frame scopes.now frame.now.memory (declared_names (stmts_of stmts.now))) }
+{
+    let mut variables = Vec::new(alloc);
+    for stmt in stmts {
+        add(alloc, scopes, stmt, frame, &mut variables)?;
+    }
+    Ok(variables)
+}
+
+/// The names that the statements of a program declare at its top level, with what they hold in a frame. Arrays are moved.
 ///
 /// # Errors
 /// Out of memory.
@@ -102,13 +119,10 @@ pub(crate) fn collect(
     alloc: Global,
     scopes: &Scopes<'_>,
     stmts: &[Stmt<'_>],
-    frame: &Frame<'_>,
+    frame: Frame<'_>,
 ) -> Result<Left, AllocError>
-    ensures { IfOk result (λ left. left ≡ held_frame scopes.now frame.now.memory (declared_names (stmts_of stmts.now))) }
+    ensures { IfOk result (λ left. left ≡ held_frame scopes.now frame.entry.memory (declared_names (stmts_of stmts.now))) }
 {
-    let mut variables = Vec::new(alloc);
-    for stmt in stmts {
-        add(alloc, scopes, stmt, frame, &mut variables)?;
-    }
-    Ok(Left { variables })
+    let named = names(alloc, scopes, stmts, &frame)?;
+    Left::new(alloc, frame.into_arrays(), named)
 }

@@ -16,6 +16,7 @@ mod text;
 mod writer;
 
 pub use config::{Config, ConfigFault, MOST_TURNS, Maps};
+pub use dpl_contents::ArrayWords;
 pub use dpl_nodes::{DomainWord, Fault, FaultCode, RangeWord, Turn};
 pub use dpl_syntax::{Code, Place, Refusal};
 pub use gate::{Gate, OpenGate};

@@ -1,15 +1,18 @@
-// The dump of what a program leaves: a line for each int and each truth value.
+// The dump of what a program leaves: a line for each int, each truth value and each array.
 // Ranges and domains have none.
 
-ghost use Rattle.std.specs.Prelude.{◌≡◌, ◌++◌, false, true, IfOk, OnOk};
+ghost use Rattle.std.specs.Prelude.{◌≡◌, ◌++◌, false, true, None, take, drop, IfOk, OnOk};
 ghost use Rattle.std.specs.Io.KnownBytes.{Appends, Keeps};
-ghost use Rattle.dpl_says.specs.Dump.{dumped, plain_line, value_line};
+ghost use Rattle.dpl_says.specs.Dump.{dumped, line_of, value_line};
+ghost use Rattle.dpl_memory.specs.Resolved.{array_content};
+ghost use Rattle.dpl_contents.specs.Kinds.{kind_of};
 ghost use Rattle.dpl_run.specs.Leaving.{value_view};
 ghost use Rattle.dpl_run.specs.Writers.{Partly};
 
 use crate::left::{Left, Value, Variable};
 use crate::refused::Refused;
 use crate::writer::{Out, write_all};
+use dpl_contents::{ArrayWords, ElementKind, list_array};
 use std::alloc::{AllocError, Global};
 
 // Appends `name = `, a value's text, and the line's end.
@@ -23,33 +26,70 @@ fn add_line(name: &[u8], value: &[u8], text: &mut Vec<u8>) -> Result<(), AllocEr
     Ok(())
 }
 
+// Appends `name =`, an array's elements, each behind a space, and the line's end.
+fn add_array(
+    name: &[u8],
+    kind: ElementKind,
+    array: &ArrayWords,
+    text: &mut Vec<u8>,
+) -> Result<(), AllocError>
+    ensures { OnOk result (text.new.items ≡ text.old.items ++ line_of name.now (array_content None (kind_of kind) array.now)) }
+{
+    text.extend_from_slice(name)?;
+    text.extend_from_slice(b" =")?;
+    list_array(kind, array, text)?;
+    text.push(b'\n')?;
+    Ok(())
+}
+
 // Appends the line of a variable, if it has one.
-fn add(alloc: Global, variable: &Variable, text: &mut Vec<u8>) -> Result<(), AllocError>
-    ensures { OnOk result (text.new.items ≡ text.old.items ++ plain_line variable.now.name.items (value_view variable.now.value)) }
+fn add(alloc: Global, variable: &Variable<'_>, text: &mut Vec<u8>) -> Result<(), AllocError>
+    ensures { OnOk result (text.new.items ≡ text.old.items ++ line_of variable.now.name.now (value_view variable.now.value)) }
 {
     match variable.value {
         Value::Int(n) => {
             let shown = format!(in alloc; "{n}")?;
-            add_line(&variable.name, shown.as_bytes(), text)
+            add_line(variable.name, shown.as_bytes(), text)
         }
-        Value::Bool(true) => add_line(&variable.name, b"true", text),
-        Value::Bool(false) => add_line(&variable.name, b"false", text),
+        Value::Bool(true) => add_line(variable.name, b"true", text),
+        Value::Bool(false) => add_line(variable.name, b"false", text),
+        Value::Ints(array) => add_array(variable.name, ElementKind::Int, array, text),
+        Value::Bools(array) => add_array(variable.name, ElementKind::Truth, array, text),
         Value::Range(_) | Value::Domain(_) => Ok(()),
     }
 }
 
+// Appends the line of the variable with a number, if there is one and it has a line.
+fn add_numbered(
+    alloc: Global,
+    left: &Left,
+    number: usize,
+    text: &mut Vec<u8>,
+) -> Result<(), AllocError>
+    ensures { OnOk result (text.new.items ≡ text.old.items ++ dumped (take 1 (drop number left.now))) }
+{
+    match left.variable(number) {
+        Some(variable) => {
+            add(alloc, &variable, text)?;
+            Ok(())
+        }
+        None => Ok(()),
+    }
+}
+
 // The lines of all variables.
+#[tactic(auto, using(crate::proofs::Dumped::dumped_next))]
 fn lines(alloc: Global, left: &Left) -> Result<Vec<u8>, AllocError>
     ensures { IfOk result (λ text. text.items ≡ dumped left.now) }
 {
     let mut text = Vec::new(alloc);
-    for variable in left.variables() {
-        add(alloc, variable, &mut text)?;
+    for number in 0..left.len() {
+        add_numbered(alloc, left, number, &mut text)?;
     }
     Ok(text)
 }
 
-/// Writes a line for each int and each truth value that a program left, in order of declaration: `n = 5`.
+/// Writes a line for each int, each truth value and each array that a program left, in order of declaration: `n = 5`, `A = 1 4 9`.
 ///
 /// # Errors
 /// Out of memory, and nothing was written; or the writer failed, and it holds the first bytes of the lines.

@@ -8,7 +8,7 @@ ghost use Rattle.dpl_language.specs.Statements.{exec_all};
 ghost use Rattle.dpl_tree.specs.Statements.{stmts_of};
 ghost use Rattle.dpl_memory.specs.Memory.{in_memory};
 ghost use Rattle.dpl_nodes.specs.Steps.{steps_of};
-ghost use Rattle.dpl_typer.specs.Sights.{ArePlainScopes};
+ghost use Rattle.dpl_typer.specs.Sights.{AreKnownScopes};
 ghost use Rattle.dpl_run.specs.Leaving.{AreLeft};
 ghost use Rattle.dpl_run.specs.Runs.{RanTo};
 ghost use Rattle.dpl_run.specs.Writers.{Partly};
@@ -39,14 +39,14 @@ pub(crate) struct Ended {
 pub(crate) fn run<'t>(
     alloc: Global,
     steps: &[Step<'t>],
-    frame: &mut Frame<'t>,
+    mut frame: Frame<'t>,
     scopes: &Scopes<'_>,
     stmts: &[Stmt<'_>],
 ) -> Result<Ended, AllocError>
-    ensures { IfOk result (λ ended. ArePlainScopes scopes.now → AreLeft scopes.now → RanTo scopes.now (stmts_of stmts.now) (exec_all frame.old.limits in_memory (steps_of steps.now) frame.old.memory no_deeds) ended.outcome ended.text.items) }
+    ensures { IfOk result (λ ended. AreKnownScopes scopes.now → AreLeft scopes.now → RanTo scopes.now (stmts_of stmts.now) (exec_all frame.entry.limits in_memory (steps_of steps.now) frame.entry.memory no_deeds) ended.outcome ended.text.items) }
 {
     let mut text = Vec::new(alloc);
-    match run_steps(steps, frame, &mut text) {
+    match run_steps(steps, &mut frame, &mut text) {
         Ok(()) => {
             let left = collect(alloc, scopes, stmts, frame)?;
             let outcome = Outcome::Done(left);

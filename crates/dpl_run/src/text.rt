@@ -77,14 +77,8 @@ fn run_program<'t>(
     match plan(arena, program) {
         Ok(planned) => {
             let words = given(alloc, &planned.scopes, sets)?;
-            let mut frame = first_frame(alloc, planned.slots, &words, config)?;
-            run(
-                alloc,
-                planned.steps,
-                &mut frame,
-                &planned.scopes,
-                program.stmts,
-            )
+            let frame = first_frame(alloc, planned.slots, &words, config)?;
+            run(alloc, planned.steps, frame, &planned.scopes, program.stmts)
         }
         Err(PlanStop::Memory) => Err(AllocError),
         Err(PlanStop::IllTyped) => unreachable!(),

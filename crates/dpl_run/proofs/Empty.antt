@@ -1,0 +1,10 @@
+-- The array of a slot without one: it is over `{1..0}`, which has no indices.
+use Rattle.std.proofs.Common.{◌≡◌, pos, map, refl}
+use Rattle.dpl_range.specs.Members.{members}
+use Rattle.dpl_domain.specs.Indices.{indices}
+use Rattle.dpl_language.specs.Ranges.{indices_in}
+use Rattle.dpl_memory.specs.Memory.{no_domain, no_array}
+
+pub empty_array : record { ranges = no_domain; words = map (λ t. pos 0) (indices_in no_domain) } ≡ no_array
+unfolding members indices
+empty_array = refl
