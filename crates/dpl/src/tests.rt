@@ -1,7 +1,9 @@
 // Texts through `run_text`: what each writes, and what it leaves.
 // The bytes are those of the language's worked examples, and of its rules.
 
+mod arrays;
 mod closed;
+mod domains;
 mod explaining;
 mod growths;
 mod input;
@@ -135,14 +137,31 @@ fn written(rt: &HostRuntime, text: &[u8], budget: u64) -> Result<Vec<u8>, Fail> 
     written_by(rt, text, &[], budget)
 }
 
-// The first text that doesn't write its bytes, with no sets and a budget of 1000 turns.
-fn first_wrong<'a>(rt: &HostRuntime, rows: &[(&'a str, &str)]) -> Result<Option<&'a str>, Fail> {
+// What is written of a text by these settings, without sets.
+fn written_by_settings(rt: &HostRuntime, text: &[u8], config: &Config) -> Result<Vec<u8>, Fail> {
+    let mut out = Plain::new(Vec::new(rt.alloc()));
+    run_text(rt, rt.alloc(), text, &[], config, &OpenGate, &mut out)?;
+    Ok(out.writer)
+}
+
+// The first text that doesn't write its bytes by these settings.
+fn first_wrong_by<'a>(
+    rt: &HostRuntime,
+    rows: &[(&'a str, &str)],
+    config: &Config,
+) -> Result<Option<&'a str>, Fail> {
     for (text, bytes) in rows {
-        if written(rt, text.as_bytes(), 1000)?.as_slice() != bytes.as_bytes() {
+        if written_by_settings(rt, text.as_bytes(), config)?.as_slice() != bytes.as_bytes() {
             return Ok(Some(*text));
         }
     }
     Ok(None)
+}
+
+// The first text that doesn't write its bytes, with a budget of 1000 turns.
+fn first_wrong<'a>(rt: &HostRuntime, rows: &[(&'a str, &str)]) -> Result<Option<&'a str>, Fail> {
+    let config = Config::new(1, 1000, 9, [1, 1], [1, 1, 1], Maps::AsIs)?;
+    first_wrong_by(rt, rows, &config)
 }
 
 #[test]
@@ -179,17 +198,29 @@ fn nesting(rt: HostRuntime) -> Result<(), Fail> {
 
 const LEAVES: &str = "\
 var n = 5; const yes = n > 4; var r = 1..9 by -2; { var hidden = 1; }
-for i in 1..3 do n += i; config const c = 3; writeln(n); var d = {0..1, 2..4}; d = d[1..1, 2..9];";
+for i in 1..3 do n += i; config const c = 3; writeln(n); var d = {0..1, 2..4}; d = d[1..1, 2..9]; var a: [d] bool; a[1, 3] = true; { var a = 1; }";
 
 // The int that a name is left with.
 fn int_left(left: &Left, name: &[u8]) -> Option<i64> {
     match left.get(name)? {
         Value::Int(n) => Some(n),
-        Value::Bool(_) | Value::Range(_) | Value::Domain(_) => None,
+        Value::Bool(_) | Value::Range(_) | Value::Domain(_) | Value::Ints(_) | Value::Bools(_) => {
+            None
+        }
     }
 }
 
-// The variables of the top level, in order of declaration, and their dump, in which ranges and domains have no line.
+// How many members, indices or elements the range, the domain or the array has that a name is left with.
+fn size_left(left: &Left, name: &[u8]) -> Option<u64> {
+    match left.get(name)? {
+        Value::Int(_) | Value::Bool(_) => None,
+        Value::Range(range) => Some(range.range.size()),
+        Value::Domain(domain) => Some(domain.size()),
+        Value::Ints(array) | Value::Bools(array) => Some(array.domain().size()),
+    }
+}
+
+// The variables of the top level, and their dump, in which ranges and domains have no line.
 #[test]
 fn leaves(rt: HostRuntime) -> Result<(), Fail> {
     let config = Config::new(1, 9, 9, [1, 1], [1, 1, 1], Maps::AsIs)?;
@@ -208,16 +239,20 @@ fn leaves(rt: HostRuntime) -> Result<(), Fail> {
         assert!(rt; false, "the program runs to its end");
         return Ok(());
     };
-    assert_eq!(rt; left.variables().len(), 5);
+    assert_eq!(rt; left.len(), 6);
     assert_eq!(rt; int_left(&left, b"n"), Some(11));
     assert_eq!(rt; int_left(&left, b"c"), Some(-8));
-    assert_eq!(rt; int_left(&left, b"d"), None);
+    assert!(rt; matches!(left.get(b"yes"), Some(Value::Bool(true))));
+    assert_eq!(rt; size_left(&left, b"r"), Some(5));
+    assert_eq!(rt; size_left(&left, b"d"), Some(3));
+    assert_eq!(rt; size_left(&left, b"a"), Some(3));
+    assert_eq!(rt; int_left(&left, b"i"), None);
     assert_eq!(rt; int_left(&left, b"hidden"), None);
     let mut lines = Plain::new(Vec::new(rt.alloc()));
     dump(rt.alloc(), &left, &mut lines)?;
     assert_eq!(rt;
         lines.writer.as_slice(),
-        b"n = 11\nyes = true\nc = -8\n".as_slice()
+        b"n = 11\nyes = true\nc = -8\na = false true false\n".as_slice()
     );
     Ok(())
 }

@@ -4,16 +4,13 @@
 use super::first_wrong;
 use std::test::Fail;
 
-const CLOSED: [(&str, &str); 17] = [
-    ("var A: [1..3] int;", "! P1 at 1:8\n"),
+const CLOSED: [(&str, &str); 18] = [
+    ("var A: [1..3] int = + reduce 5;", "! P1 at 1:21\n"),
     (
-        "writeln(5); const D = {1..8}; var A: [D] int;",
-        "! P1 at 1:38\n",
+        "writeln(5); const D = {1..8}; var A: [D] int; writeln(max reduce A);",
+        "! P1 at 1:55\n",
     ),
-    (
-        "const D = {1..8}; var A: [D] int; forall i in D do A[i] = A[i-1];",
-        "! P1 at 1:26\n",
-    ),
+    ("var A: [1..(+ reduce 2)] int;", "! P1 at 1:13\n"),
     (
         "const D: domain(1) dmapped new blockDist({1..8});",
         "! P1 at 1:20\n",
@@ -34,8 +31,12 @@ const CLOSED: [(&str, &str); 17] = [
         "if true then { while false { on here do ; } }",
         "! P1 at 1:30\n",
     ),
-    ("x = 1; const D = {1..8}; var A: [D] int;", "! P1 at 1:33\n"),
+    (
+        "x = 1; const D = {1..8}; var A: [D] int; A[1] = here.id;",
+        "! P1 at 1:49\n",
+    ),
     ("var A: [1..8] int; const E = ;", "! P1 at 1:30\n"),
+    ("var A: [1..8] int; A[numLocales] = 1;", "! P1 at 1:22\n"),
     ("A[1] = 2;", "! C1 at 1:1\n"),
 ];
 
