@@ -1,6 +1,6 @@
 #!/bin/sh
-# Times dpl on a forall of ten million turns, on Collatz sequences up to a number, on 50,000 statements and on a mebibyte of spaces,
-# each beside lua5.4, python3 and C doing the same, all in one run.
+# Times dpl on a forall of ten million turns, on Collatz sequences up to a number, on a sieve and a stencil over arrays (benches/programs),
+# on 50,000 statements and on a mebibyte of spaces, each beside lua5.4, python3 and C doing the same, all in one run.
 # usage: scripts/bench-programs.sh [ROUNDS [LAST]]. Needs rt, lua5.4, python3 and cc; LAST, 1000000 without it, is where Collatz ends.
 set -eu
 
@@ -72,7 +72,8 @@ head -c 1048576 /dev/zero | tr '\0' ' ' > "$work/spaces.chpl"
 
 "$top/dpl" < /dev/null
 dpl=$top/crates/dpl/out/dpl
-for program in turns collatz; do cc -O2 -o "$work/$program" "$work/$program.c"; done
+cp "$top"/benches/programs/* "$work"
+for program in turns collatz sieve plate; do cc -O2 -o "$work/$program" "$work/$program.c"; done
 
 # The seconds that a command takes on a file of the benchmark.
 seconds() {
@@ -93,11 +94,13 @@ beside() {
 for _ in $(seq "$rounds"); do
     beside turns
     beside collatz
+    beside sieve
+    beside plate
     beside statements
     seconds spaces.chpl "$dpl"
     echo
 done | awk '
-    { for (i = 1; i <= 13; i++) if (NR == 1 || $i < best[i]) best[i] = $i }
+    { for (i = 1; i <= 21; i++) if (NR == 1 || $i < best[i]) best[i] = $i }
     function row(name, k) {
         printf "%-24s %8.3f %8.3f %8.3f %8.3f %9.2f %9.2f\n", name, best[k], best[k + 1], best[k + 2], best[k + 3], best[k] / best[k + 1], best[k] / best[k + 2]
     }
@@ -105,6 +108,8 @@ done | awk '
         printf "%-24s %8s %8s %8s %8s %9s %9s\n", "seconds, best of " NR, "dpl", "lua5.4", "python3", "C", "/ lua5.4", "/ python3"
         row("10,000,000 turns", 1)
         row("Collatz", 5)
-        row("50,000 statements", 9)
-        printf "%-24s %8.3f\n", "1 MiB of spaces", best[13]
+        row("sieve to 2,000,000", 9)
+        row("plate of 300 by 300", 13)
+        row("50,000 statements", 17)
+        printf "%-24s %8.3f\n", "1 MiB of spaces", best[21]
     }'
