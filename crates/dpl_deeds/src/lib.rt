@@ -12,5 +12,3 @@ pub mod whole;
 
 pub use deed::{Added, Deed, Holding, IndexPart, held, held_if};
 
-#[cfg(test)]
-mod tests;

@@ -11,6 +11,4 @@ pub mod intents;
 pub mod map;
 pub mod print;
 pub mod side;
-#[cfg(test)]
-mod tests;
 pub mod variables;
