@@ -202,21 +202,27 @@ for i in 1..3 do n += i; config const c = 3; writeln(n); var d = {0..1, 2..4}; d
 
 // The int that a name is left with.
 fn int_left(left: &Left, name: &[u8]) -> Option<i64> {
-    match left.get(name)? {
-        Value::Int(n) => Some(n),
-        Value::Bool(_) | Value::Range(_) | Value::Domain(_) | Value::Ints(_) | Value::Bools(_) => {
-            None
-        }
+    match left.get(name) {
+        Some(Value::Int(n)) => Some(n),
+        Some(Value::Bool(_) | Value::Range(_) | Value::Domain(_) | Value::Ints(_) | Value::Bools(_))
+        | None => None,
     }
 }
 
-// How many members, indices or elements the range, the domain or the array has that a name is left with.
-fn size_left(left: &Left, name: &[u8]) -> Option<u64> {
-    match left.get(name)? {
-        Value::Int(_) | Value::Bool(_) => None,
-        Value::Range(range) => Some(range.range.size()),
-        Value::Domain(domain) => Some(domain.size()),
-        Value::Ints(array) | Value::Bools(array) => Some(array.domain().size()),
+// How many members the range has that a name is left with.
+fn members_left(left: &Left, name: &[u8]) -> Option<u64> {
+    match left.get(name) {
+        Some(Value::Range(range)) => Some(range.range.size()),
+        Some(Value::Int(_) | Value::Bool(_) | Value::Domain(_) | Value::Ints(_) | Value::Bools(_))
+        | None => None,
+    }
+}
+
+// The element at two coordinates of the array that a name is left with.
+fn element_left(left: &Left, name: &[u8], i: i64, j: i64) -> Option<i64> {
+    match left.get(name) {
+        Some(Value::Ints(array) | Value::Bools(array)) => array.get_plane(i, j),
+        Some(Value::Int(_) | Value::Bool(_) | Value::Range(_) | Value::Domain(_)) | None => None,
     }
 }
 
@@ -243,9 +249,11 @@ fn leaves(rt: HostRuntime) -> Result<(), Fail> {
     assert_eq!(rt; int_left(&left, b"n"), Some(11));
     assert_eq!(rt; int_left(&left, b"c"), Some(-8));
     assert!(rt; matches!(left.get(b"yes"), Some(Value::Bool(true))));
-    assert_eq!(rt; size_left(&left, b"r"), Some(5));
-    assert_eq!(rt; size_left(&left, b"d"), Some(3));
-    assert_eq!(rt; size_left(&left, b"a"), Some(3));
+    assert_eq!(rt; members_left(&left, b"r"), Some(5));
+    assert!(rt; matches!(left.get(b"d"), Some(Value::Domain(_))));
+    assert_eq!(rt; element_left(&left, b"a", 1, 3), Some(1));
+    assert_eq!(rt; element_left(&left, b"a", 1, 2), Some(0));
+    assert_eq!(rt; element_left(&left, b"a", 0, 2), None);
     assert_eq!(rt; int_left(&left, b"i"), None);
     assert_eq!(rt; int_left(&left, b"hidden"), None);
     let mut lines = Plain::new(Vec::new(rt.alloc()));
