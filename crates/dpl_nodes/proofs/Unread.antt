@@ -7,7 +7,7 @@ use Rattle.dpl_memory.specs.Memory.{Variable}
 use Rattle.dpl_nodes.specs.declared.tree.IntExpr.{IntExpr, Number, Local as IntLocal, Negative', Sum', Difference', Product', Quotient', Remainder', Size', First', Last', Low', High', Count', Element'}
 use Rattle.dpl_nodes.specs.declared.tree.BoolExpr.{BoolExpr, Truth as TruthNode, Local as TruthLocal, Not', And', Or', Same', Differ', Compare, Contains, HasIndex, Element as TruthElement}
 use Rattle.dpl_nodes.specs.declared.tree.RangeExpr.{RangeExpr, Local as RangeLocal, Between', Slice', Dimension'}
-use Rattle.dpl_nodes.specs.declared.tree.DomainExpr.{DomainExpr, Local as DomainLocal, OfArray, Literal', Slice' as DomainSlice', Expanded'}
+use Rattle.dpl_nodes.specs.declared.tree.DomainExpr.{DomainExpr, Local as DomainLocal, OfArray, Literal', Slice' as DomainSlice', Expanded', Created'}
 use Rattle.dpl_nodes.specs.Typed.{int_view, truth_view, range_item, range_view, domain_view}
 
 read_by-none : (b : Option (Placed Variable)) → read_by b None ≡ None
@@ -56,3 +56,4 @@ cell_read-domain (OfArray k slot) = refl
 cell_read-domain (Literal' at p rs) = refl
 cell_read-domain (DomainSlice' p d q rs) = read_by-none (bare_name (domain_view d))
 cell_read-domain (Expanded' p d at q e) = read_by-none (bare_name (domain_view d))
+cell_read-domain (Created' at p d) = refl

@@ -17,7 +17,7 @@ use Rattle.dpl_nodes.specs.declared.tree.RangeExpr.{RangeExpr, Local as RangeLoc
 use Rattle.dpl_nodes.specs.declared.tree.Stride.{Stride as StrideNode, Absent, By'}
 use Rattle.dpl_nodes.specs.declared.tree.RangesExpr.{RangesExpr, Line' as LineRange', Plane' as PlaneRanges', Space' as SpaceRanges'}
 use Rattle.dpl_nodes.specs.declared.tree.IndexExpr.{IndexExpr, Line' as LineIndex', Plane' as PlaneIndex', Space' as SpaceIndex', Tuple as TupleIndex}
-use Rattle.dpl_nodes.specs.declared.tree.DomainExpr.{DomainExpr, Local as DomainLocal, OfArray, Literal', Slice' as DomainSlice', Expanded'}
+use Rattle.dpl_nodes.specs.declared.tree.DomainExpr.{DomainExpr, Local as DomainLocal, OfArray, Literal', Slice' as DomainSlice', Expanded', Created'}
 
 abbrev pub leaf_named : Variable → ExprTree Variable
 leaf_named x = Named (record { at = nowhere; name = x })
@@ -129,6 +129,7 @@ abbrev mutual
   domain_view (Literal' at p rs) = DomainLiteral at.now (ranges_items rs) nowhere
   domain_view (DomainSlice' p d q rs) = in_square (domain_view d) (ranges_items rs)
   domain_view (Expanded' p d at q e) = dotted (domain_view d) (Expand at.now nowhere (int_view e) nowhere)
+  domain_view (Created' at p d) = DomainLiteral at.now (items_one (One (domain_view d))) nowhere
 
 -- the coordinates of an index, as arguments
 abbrev pub index_exprs : IndexExpr → Exprs Variable

@@ -126,4 +126,6 @@ pub enum DomainExpr<'t> {
     Slice(&'t DomainExpr<'t>, &'t RangesExpr<'t>),
     /// `expand`, with the place where a bound past its limit and too many indices are told.
     Expanded(&'t DomainExpr<'t>, &'t Spot, &'t IntExpr<'t>),
+    /// What is created from a domain: the set of its ranges, with the place where it would be told that there are too many indices.
+    Created(&'t Spot, &'t DomainExpr<'t>),
 }

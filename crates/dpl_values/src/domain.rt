@@ -1,7 +1,8 @@
 // What is found at an index, indices by their coordinates, and domains that have to be small enough.
 // None of them looks at a frame.
 
-ghost use Rattle.std.specs.Prelude.{◌≡◌, ◌∷◌, []};
+ghost use Rattle.std.specs.Prelude.{◌≡◌, ◌∷◌, [], Ok, false};
+ghost use Rattle.dpl_language.specs.Ranges.{too_many};
 ghost use Rattle.dpl_values.specs.Elements.{word_found, sized_or};
 
 use dpl_domain::Index;
@@ -32,6 +33,19 @@ pub fn sized(at: &Spot, domain: Option<DomainWord>) -> Result<DomainWord, Trap>
         Some(domain) => Ok(domain),
         None => Err(Trap::new(FaultCode::PastLimit, *at)),
     }
+}
+
+/// A domain, which never has too many indices.
+///
+/// # Errors
+/// None.
+pub fn small(domain: DomainWord) -> Result<DomainWord, Trap>
+    ensures is { result ≡ Ok domain }
+    ensures small { too_many domain ≡ false }
+{
+    // Nothing is read here: that the domain is small enough is a clause of this call.
+    let _ = domain.size();
+    Ok(domain)
 }
 
 /// The index of one coordinate.

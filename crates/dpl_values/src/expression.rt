@@ -16,7 +16,7 @@ ghost use Rattle.dpl_values.specs.Bounds.{of_word};
 ghost use Rattle.dpl_values.specs.Elements.{word_found};
 
 use crate::comparison::holds;
-use crate::domain::{coordinate, found, plane, sized, space};
+use crate::domain::{coordinate, found, plane, sized, small, space};
 use crate::number::{difference, negative, product, quotient, remainder, sum};
 use crate::range::{bounded, contains, first, high, last, low, size, strided_by};
 use dpl_domain::Index;
@@ -274,6 +274,7 @@ pub fn domain_value(e: &DomainExpr<'_>, frame: &Frame<'_>) -> Result<DomainWord,
                 None => Err(Trap::new(FaultCode::PastLimit, **at)),
             }
         }
+        DomainExpr::Created(_, d) => small(domain_value(d, frame)?),
     }
 }
 
