@@ -11,4 +11,3 @@ pub mod statement;
 pub mod whole;
 
 pub use deed::{Added, Deed, Holding, IndexPart, held, held_if};
-

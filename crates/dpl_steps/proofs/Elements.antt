@@ -1,10 +1,10 @@
 -- Assignments to elements and to domains, by the values of their parts.
 -- Each lemma has the meaning of the plain statement on its left side.
-use Rattle.std.proofs.Common.{◌≡◌, Bool, true, false, ◌&&◌, List, None, Result, Ok, Err, refl, ap, ◌∙◌}
+use Rattle.std.proofs.Common.{◌≡◌, ℕ, ℤ, Bool, true, false, ◌&&◌, List, Option, Some, None, option_map, Result, Ok, Err, refl, ap, ◌∙◌}
 use Rattle.dpl_syntax.specs.declared.place.Place.{Place}
 use Rattle.dpl_range.specs.Equality.{TextRange}
-use Rattle.dpl_language.specs.Tree.{Placed, Assign, Set, ExprTree, One}
-use Rattle.dpl_language.specs.Values.{Value, Domain, Index, index_of, ranges_in, Fault, fault, ArrayTooLarge}
+use Rattle.dpl_language.specs.Tree.{Placed, Kind, Assign, Set, ExprTree, One}
+use Rattle.dpl_language.specs.Values.{Value, Domain, Index, index_of, kept_number, ranges_in, Fault, fault, ArrayTooLarge}
 use Rattle.dpl_language.specs.Arithmetic.{assign_divides, tested_divisor, assigned}
 use Rattle.dpl_language.specs.Ranges.{too_large}
 use Rattle.dpl_language.specs.Outcome.{Deeds, Done, Run, with_ok, with_value, unless}
@@ -14,12 +14,14 @@ use Rattle.dpl_language.specs.Expressions.{found, value_of, values_of}
 use Rattle.dpl_language.specs.Assignments.{change}
 use Rattle.dpl_language.specs.Statements.{exec}
 use Rattle.dpl_lowered.specs.Shapes.{nowhere, kept}
-use Rattle.dpl_memory.specs.Memory.{Variable, Memory, redomained_in, is_some_array, in_memory}
+use Rattle.dpl_memory.specs.Memory.{ArrayKind, Variable, Memory, element_as, with_element_in, array_at, with_array, held_at, held_with, redomained_in, is_some_array, in_memory}
 use Rattle.dpl_nodes.specs.declared.tree.IndexExpr.{IndexExpr}
+use Rattle.dpl_nodes.specs.declared.step.ArrayName.{ArrayName}
 use Rattle.dpl_nodes.specs.declared.step.DomainName.{DomainName}
 use Rattle.dpl_nodes.specs.Typed.{index_exprs}
-use Rattle.dpl_nodes.specs.Steps.{domain_leaf, element_set, whole_set}
-use Rattle.dpl_steps.specs.Changes.{signed, for_array_at}
+use Rattle.dpl_nodes.specs.Steps.{domain_leaf, array_leaf, element_set, whole_set}
+use Rattle.dpl_values.specs.Elements.{word_found}
+use Rattle.dpl_steps.specs.Changes.{ends_as, signed, put_memory, for_array_at}
 use Rattle.dpl_steps.proofs.Changing.{evaluated-item}
 
 -- the place of an operator that doesn't divide is never told
@@ -55,6 +57,35 @@ module _ (limits : Limits) where
           → with_value q (λ i. change limits in_memory x (signed op (kept (assign_divides op) at)) i w) s done ≡ with_value q (λ i. change limits in_memory x (signed op at) i w) s done
       kept-ends (Ok i) = change-kept x op at i w s done
       kept-ends (Err f) = refl
+
+  -- an element that is found is put by an operator that has no use for the old value
+  put-found : (k : Kind) (a : Place) (slot : ℕ) (op : Assign) (at : Place) (t : Index) (w : Value) (s : Memory) (done : Deeds) (o : Option ℤ)
+      → assign_divides op ≡ false → ((old new : Value) → assigned op None old new ≡ new)
+      → with_value (found a (option_map (element_as k) o)) (λ old. with_value (tested_divisor (assign_divides op) at w) (λ w s done. Done (with_element_in (ArrayKind k) slot t (assigned op None old w) s) done)) s done
+      ≡ ends_as (with_ok (word_found a o) (λ old. Ok (with_array slot (held_with t (kept_number w) (array_at slot s)) s))) done
+  put-found k a slot op at t w s done None divides replaces = refl
+  put-found k a slot op at t w s done (Some n) divides replaces =
+      ap (λ b. with_value (tested_divisor b at w) (λ w s done. Done (with_element_in (ArrayKind k) slot t (assigned op None (element_as k n) w) s) done) s done) divides
+      ∙ ap (λ v. Done (with_element_in (ArrayKind k) slot t v s) done) (replaces (element_as k n) w)
+
+  pub change-put : (k : Kind) (x : ArrayName) (op : Assign) (at : Place) (t : Index) (w : Value) (s : Memory) (done : Deeds)
+      → assign_divides op ≡ false → ((old new : Value) → assigned op None old new ≡ new)
+      → change limits in_memory (array_leaf k x) (signed op at) t w s done ≡ ends_as (put_memory x.at.now x.slot t (kept_number w) s) done
+  change-put k x op at t w s done = put-found k x.at.now x.slot op at t w s done (held_at t (array_at x.slot s))
+
+  -- an element is assigned by such an operator
+  pub exec-put : (k : Kind) (x : ArrayName) (t : IndexExpr) (op : Assign) (at : Place) (e : ExprTree Variable) (s : Memory) (done : Deeds) (w : Value)
+      → cell_read e ≡ None → value_of limits in_memory e None s ≡ Ok w → assign_divides op ≡ false → ((old new : Value) → assigned op None old new ≡ new)
+      → exec limits in_memory (element_set (array_leaf k x) t op at e) s done
+      ≡ ends_as (with_ok (values_of limits in_memory (index_exprs t) s) (λ vs. put_memory x.at.now x.slot (index_of vs) (kept_number w) s)) done
+  exec-put k x t op at e s done w read value divides replaces =
+      exec-element (array_leaf k x) t op at e s done w (with_ok (values_of limits in_memory (index_exprs t) s) (λ vs. Ok (index_of vs))) read value refl
+      ∙ by (values_of limits in_memory (index_exprs t) s)
+    where
+      by : (r : Result (List Value) Fault) → with_value (with_ok r (λ vs. Ok (index_of vs))) (λ i. change limits in_memory (array_leaf k x) (signed op at) i w) s done
+          ≡ ends_as (with_ok r (λ vs. put_memory x.at.now x.slot (index_of vs) (kept_number w) s)) done
+      by (Err f) = refl
+      by (Ok vs) = change-put k x op at (index_of vs) w s done divides replaces
 
   -- an assignment to a domain, by its value
   pub exec-domain : (x : DomainName) (e : ExprTree Variable) (s : Memory) (done : Deeds) (rs : List TextRange) → cell_read e ≡ None → value_of limits in_memory e None s ≡ Ok (Domain rs)

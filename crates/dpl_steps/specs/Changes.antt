@@ -1,21 +1,18 @@
 -- What declarations and assignments do to a memory: another memory, or a fault. They do nothing else.
 -- Each is by the value of its right side.
-use Rattle.std.specs.Prelude.{ℕ, ℤ, if◌then◌else◌, nat_lt, List, Option, Some, None, Result, Ok, Err}
+use Rattle.std.specs.Prelude.{ℕ, ℤ, Bool, if◌then◌else◌, nat_lt, List, Option, Some, None, Result, Ok, Err}
 use Rattle.dpl_syntax.specs.declared.place.Place.{Place}
-use Rattle.dpl_language.specs.Tree.{Assign, Set, SetReduce, AssignTree, Kind, ItemTree}
+use Rattle.dpl_language.specs.Tree.{Assign, Set, SetReduce, AssignTree, ItemTree}
 use Rattle.dpl_range.specs.Equality.{TextRange}
-use Rattle.dpl_language.specs.Values.{Value, kept_number, Fault, fault, ArrayTooLarge, Budget}
+use Rattle.dpl_language.specs.Values.{Value, Index, kept_number, Fault, fault, Outside, ArrayTooLarge, Budget}
 use Rattle.dpl_language.specs.Ranges.{size_in, too_large}
 use Rattle.dpl_language.specs.Arithmetic.{assign_divides, tested_divisor}
 use Rattle.dpl_language.specs.Outcome.{Deeds, Outcome, Done, Stop, with_ok}
 use Rattle.dpl_language.specs.Environment.{Limits, Plain}
-use Rattle.dpl_language.specs.Phrases.{declared_over}
 use Rattle.dpl_language.specs.Expressions.{item_of}
-use Rattle.dpl_language.specs.Declarations.{Shell}
 use Rattle.dpl_lowered.specs.Shapes.{nowhere}
-use Rattle.dpl_memory.specs.Memory.{Variable, Memory, truth_leaf, in_memory}
-use Rattle.dpl_nodes.specs.declared.step.Over.{Over}
-use Rattle.dpl_nodes.specs.Steps.{over_items}
+use Rattle.dpl_memory.specs.Memory.{Variable, Memory, truth_leaf, array_at, with_array, held_at, held_with, in_memory}
+use Rattle.dpl_values.specs.Elements.{word_found}
 use Rattle.dpl_nodes.specs.declared.step.TruthDeed.{TruthDeed}
 use Rattle.dpl_nodes.specs.declared.step.TruthDeed.TheVariants as deed
 
@@ -56,6 +53,16 @@ ends_as (Err f) done = Stop f done
 abbrev pub signed : Assign → Place → AssignTree
 signed op at = record { at = at; op = op; last = nowhere }
 
+-- nothing, or F1 at an array's name
+abbrev pub if_there : Place → Bool → Result (Unit {0}) Fault
+if_there at b = if b then Ok tt else Err (fault Outside at)
+
+-- the memory with an element of the array in a slot put; or F1 at the array's name, where it hasn't got the index
+abbrev pub put_memory : Place → ℕ → Index → ℤ → Memory → Result Memory Fault
+put_memory at slot t w s =
+    with_ok (word_found at (held_at t (array_at slot s)))
+    (λ old. Ok (with_array slot (held_with t w (array_at slot s)) s))
+
 -- a domain for an array, or F8 at a name
 abbrev pub for_array_at : Place → List TextRange → Result (List TextRange) Fault
 for_array_at at rs = if too_large rs then Err (fault ArrayTooLarge at) else Ok rs
@@ -67,7 +74,3 @@ within_at limits at rs = if nat_lt limits.budget (size_in rs) then Err (fault Bu
 -- the word of a value, or its fault
 abbrev pub kept_word : Result Value Fault → Result ℤ Fault
 kept_word r = with_ok r (λ v. Ok (kept_number v))
-
--- an array that is declared, but for its elements
-abbrev pub shell_over : Over → Kind → List TextRange → Shell Variable
-shell_over over kind rs = record { over = declared_over (over_items over); kind = kind; ranges = rs }

@@ -3,5 +3,6 @@ pub mod Runs
 -- What serves contracts and proofs alone.
 pub mod Tells
 pub mod Changes
+pub mod Arrays
 pub mod Texts
 pub mod Turns

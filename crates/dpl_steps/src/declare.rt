@@ -1,19 +1,20 @@
 // Declarations of arrays: the domain is evaluated and tested, and then the elements are.
 // An array's own name isn't known in its initial value, so that the elements are gathered before the slot is written.
 
-ghost use Rattle.std.specs.Prelude.{◌≡◌, IfOk, Ok, Some, None, false};
-ghost use Rattle.dpl_language.specs.Tree.{Kind, IntKind, BoolKind, One};
-ghost use Rattle.dpl_language.specs.Ranges.{indices_in, too_large, too_many};
+ghost use Rattle.std.specs.Prelude.{◌≡◌, IfOk, Ok, Some, false};
+ghost use Rattle.dpl_language.specs.Tree.{Kind, IntKind, BoolKind};
+ghost use Rattle.dpl_language.specs.Ranges.{indices_in, too_large};
 ghost use Rattle.dpl_language.specs.Outcome.{Deeds, naming_value};
-ghost use Rattle.dpl_language.specs.Expressions.{value_of, domain_of, whole_in};
-ghost use Rattle.dpl_language.specs.Declarations.{gathered, array_of_item, array_of};
+ghost use Rattle.dpl_language.specs.Expressions.{value_of, domain_of};
+ghost use Rattle.dpl_language.specs.Declarations.{gathered};
 ghost use Rattle.dpl_language.specs.Statements.{exec};
 ghost use Rattle.dpl_lowered.specs.LoweredExpressions.{EachTurn};
-ghost use Rattle.dpl_memory.specs.Memory.{ArrayKind, variable, in_memory};
+ghost use Rattle.dpl_memory.specs.Memory.{in_memory};
 ghost use Rattle.dpl_nodes.specs.Faults.{of_domain};
 ghost use Rattle.dpl_nodes.specs.Promoted.{promoted_int, promoted_truth};
-ghost use Rattle.dpl_nodes.specs.Steps.{placed_leaf, over_items, array_declared};
-ghost use Rattle.dpl_steps.specs.Changes.{kept_word, for_array_at, shell_over};
+ghost use Rattle.dpl_nodes.specs.Steps.{over_items, array_declared};
+ghost use Rattle.dpl_steps.specs.Changes.{kept_word, for_array_at};
+ghost use Rattle.dpl_steps.specs.Arrays.{declared_without, declared_with};
 ghost use Rattle.dpl_steps.specs.Runs.{RunEnds, Names, Gathers};
 
 use crate::domain::for_array;
@@ -24,7 +25,7 @@ use dpl_domain::Index;
 use dpl_nodes::{
     ArrayDeclaration, DomainWord, Frame, Initial, Over, PromotedInt, PromotedTruth, Spot, Trap,
 };
-use dpl_values::domain::{coordinate, sized};
+use dpl_values::domain::{coordinate, sized, small};
 use dpl_values::expression::literal;
 use dpl_values::{
     domain_value, int_domain, promoted_int_value, promoted_truth_value, range_value, truth_domain,
@@ -43,16 +44,6 @@ fn domain_over(over: &Over<'_>, from: &Spot, frame: &Frame<'_>) -> Result<Domain
             sized(from, DomainWord::new(&[range]))
         }
     }
-}
-
-// A domain, which never has too many indices.
-fn small(domain: DomainWord) -> Result<DomainWord, Trap>
-    ensures is { result ≡ Ok domain }
-    ensures small { too_many domain ≡ false }
-{
-    // Nothing is read here: that the domain is small enough is a clause of this call.
-    let _ = domain.size();
-    Ok(domain)
 }
 
 // What is evaluated at each index of an array.
@@ -120,7 +111,7 @@ fn declare_ints(
     frame: &mut Frame<'_>,
 ) -> Result<(), Halt>
     requires { too_large domain ≡ false }
-    ensures ends { (done : Deeds) → RunEnds result frame.new.memory done (array_of_item frame.old.limits in_memory (placed_leaf d.now.at.now (variable (ArrayKind IntKind) d.now.slot)) (shell_over d.now.over IntKind domain) at.now (One (promoted_int EachTurn e.now)) (whole_in frame.old.limits in_memory (promoted_int EachTurn e.now) frame.old.memory) frame.old.memory done) }
+    ensures ends { (done : Deeds) → RunEnds result frame.new.memory done (declared_with frame.old.limits d.now IntKind domain at.now (promoted_int EachTurn e.now) frame.old.memory done) }
     ensures limits { frame.new.limits ≡ frame.old.limits }
 {
     match int_domain(e, frame) {
@@ -148,7 +139,7 @@ fn declare_truths(
     frame: &mut Frame<'_>,
 ) -> Result<(), Halt>
     requires { too_large domain ≡ false }
-    ensures ends { (done : Deeds) → RunEnds result frame.new.memory done (array_of_item frame.old.limits in_memory (placed_leaf d.now.at.now (variable (ArrayKind BoolKind) d.now.slot)) (shell_over d.now.over BoolKind domain) at.now (One (promoted_truth EachTurn e.now)) (whole_in frame.old.limits in_memory (promoted_truth EachTurn e.now) frame.old.memory) frame.old.memory done) }
+    ensures ends { (done : Deeds) → RunEnds result frame.new.memory done (declared_with frame.old.limits d.now BoolKind domain at.now (promoted_truth EachTurn e.now) frame.old.memory done) }
     ensures limits { frame.new.limits ≡ frame.old.limits }
 {
     match truth_domain(e, frame) {
@@ -174,7 +165,7 @@ fn declare_zeros(
     frame: &mut Frame<'_>,
 ) -> Result<(), Halt>
     requires { too_large domain ≡ false }
-    ensures ends { (k : Kind) (done : Deeds) → RunEnds result frame.new.memory done (array_of frame.old.limits in_memory (placed_leaf d.now.at.now (variable (ArrayKind k) d.now.slot)) (shell_over d.now.over k domain) None frame.old.memory done) }
+    ensures ends { (k : Kind) (done : Deeds) → RunEnds result frame.new.memory done (declared_without frame.old.limits d.now k domain frame.old.memory done) }
     ensures limits { frame.new.limits ≡ frame.old.limits }
 {
     frame.declare_array(d.slot, domain, 0)?;

@@ -1,20 +1,21 @@
-// Elements of arrays: one is assigned by its index, and the old value goes into the operators but `=`.
+// Elements of arrays: one is put by `=`, and goes into what the other operators make of it.
 // The index is tested before the divisor.
 
-ghost use Rattle.std.specs.Prelude.{◌≡◌, ◌≢◌, true, pos, None};
+ghost use Rattle.std.specs.Prelude.{◌≡◌, ◌≢◌, true, false, pos, None};
 ghost use Rattle.dpl_syntax.specs.declared.place.Place.{Place};
 ghost use Rattle.dpl_language.specs.Tree.{IntKind, BoolKind, Set};
-ghost use Rattle.dpl_language.specs.Values.{Int, Truth};
+ghost use Rattle.dpl_language.specs.Values.{Value, Int, Truth, index_of, kept_number};
 ghost use Rattle.dpl_language.specs.Arithmetic.{assigned, assign_divides};
-ghost use Rattle.dpl_language.specs.Outcome.{Deeds};
+ghost use Rattle.dpl_language.specs.Outcome.{Deeds, with_ok};
+ghost use Rattle.dpl_language.specs.Expressions.{values_of};
 ghost use Rattle.dpl_language.specs.Assignments.{change};
 ghost use Rattle.dpl_language.specs.Statements.{exec};
 ghost use Rattle.dpl_lowered.specs.Shapes.{nowhere};
 ghost use Rattle.dpl_memory.specs.Memory.{in_memory};
 ghost use Rattle.dpl_tree.specs.Words.{assign_view};
-ghost use Rattle.dpl_nodes.specs.Typed.{int_view, truth_view};
+ghost use Rattle.dpl_nodes.specs.Typed.{int_view, truth_view, index_exprs};
 ghost use Rattle.dpl_nodes.specs.Steps.{array_leaf, element_set};
-ghost use Rattle.dpl_steps.specs.Changes.{memory_after, ends_as, signed};
+ghost use Rattle.dpl_steps.specs.Changes.{memory_after, ends_as, signed, if_there, put_memory};
 
 use dpl_domain::Index;
 use dpl_nodes::{ArrayName, BoolExpr, FaultCode, Frame, IndexExpr, IntExpr, Spot, Trap};
@@ -53,11 +54,44 @@ fn assigned(op: Assign, old: i64, value: i64) -> i64
     }
 }
 
-/// An element is changed.
-///
-/// # Errors
-/// `F1` at the array's name for an index outside it; `F2` at the operator for a division by zero.
-pub(crate) fn change(
+// Whether an operator has no use for the old value.
+#[inline(always)]
+fn replaces(op: Assign) -> bool
+    ensures value { (result ≡ true) → (old new : Value) → assigned (assign_view op) None old new ≡ new }
+    ensures divides { (result ≡ true) → assign_divides (assign_view op) ≡ false }
+{
+    match op {
+        Assign::Set | Assign::SetReduce => true,
+        Assign::SetAdd
+        | Assign::SetSubtract
+        | Assign::SetMultiply
+        | Assign::SetDivide
+        | Assign::SetRemainder => false,
+    }
+}
+
+// A truth value as an element's word.
+#[inline(always)]
+fn word_of(value: bool) -> i64
+    ensures { result ≡ kept_number (Truth value) }
+{
+    i64::from(value)
+}
+
+// What is told of an index that an array hasn't got.
+#[inline(always)]
+fn told(name: &ArrayName<'_>, there: bool) -> Result<(), Trap>
+    ensures { result ≡ if_there name.now.at.now there }
+{
+    if there {
+        Ok(())
+    } else {
+        Err(Trap::new(FaultCode::Outside, *name.at))
+    }
+}
+
+// An element goes into what an operator makes of it.
+fn combine(
     name: &ArrayName<'_>,
     op: Assign,
     sign: &Spot,
@@ -78,6 +112,27 @@ pub(crate) fn change(
     Ok(())
 }
 
+/// An element is changed.
+///
+/// # Errors
+/// `F1` at the array's name for an index outside it; `F2` at the operator for a division by zero.
+pub(crate) fn change(
+    name: &ArrayName<'_>,
+    op: Assign,
+    sign: &Spot,
+    index: Index,
+    value: i64,
+    frame: &mut Frame<'_>,
+) -> Result<(), Trap>
+    ensures ends { (done : Deeds) → change frame.old.limits in_memory (array_leaf IntKind name.now) (signed (assign_view op) sign.now) index (Int value) frame.old.memory done ≡ ends_as (memory_after result frame.new.memory) done }
+    ensures limits { frame.new.limits ≡ frame.old.limits }
+{
+    if replaces(op) {
+        return told(name, frame.put(name.slot, index, value));
+    }
+    combine(name, op, sign, index, value, frame)
+}
+
 /// An element that is a truth value is set.
 ///
 /// # Errors
@@ -91,10 +146,40 @@ pub(crate) fn change_truth(
     ensures ends { (at : Place) (done : Deeds) → change frame.old.limits in_memory (array_leaf BoolKind name.now) (signed Set at) index (Truth value) frame.old.memory done ≡ ends_as (memory_after result frame.new.memory) done }
     ensures limits { frame.new.limits ≡ frame.old.limits }
 {
-    if frame.put(name.slot, index, i64::from(value)) {
-        Ok(())
-    } else {
-        Err(Trap::new(FaultCode::Outside, *name.at))
+    told(name, frame.put(name.slot, index, i64::from(value)))
+}
+
+// Puts a word at an index, whose coordinates are evaluated from left to right. No index is made of coordinates.
+#[inline(always)]
+fn put_at(
+    name: &ArrayName<'_>,
+    t: &IndexExpr<'_>,
+    word: i64,
+    frame: &mut Frame<'_>,
+) -> Result<(), Trap>
+    ensures ends { with_ok (values_of frame.old.limits in_memory (index_exprs t.now) frame.old.memory) (λ vs. put_memory name.now.at.now name.now.slot (index_of vs) word frame.old.memory) ≡ memory_after result frame.new.memory }
+    ensures limits { frame.new.limits ≡ frame.old.limits }
+{
+    match t {
+        IndexExpr::Line(i) => {
+            let i = int_value(i, frame)?;
+            told(name, frame.put_line(name.slot, i, word))
+        }
+        IndexExpr::Plane(i, j) => {
+            let i = int_value(i, frame)?;
+            let j = int_value(j, frame)?;
+            told(name, frame.put_plane(name.slot, i, j, word))
+        }
+        IndexExpr::Space(i, j, k) => {
+            let i = int_value(i, frame)?;
+            let j = int_value(j, frame)?;
+            let k = int_value(k, frame)?;
+            told(name, frame.put_space(name.slot, i, j, k, word))
+        }
+        IndexExpr::Tuple(tuple) => {
+            let index = frame.tuple(*tuple);
+            told(name, frame.put(name.slot, index, word))
+        }
     }
 }
 
@@ -115,8 +200,11 @@ pub(crate) fn set_element(
     ensures limits { frame.new.limits ≡ frame.old.limits }
 {
     let value = int_value(e, frame)?;
+    if replaces(op) {
+        return put_at(name, t, value, frame);
+    }
     let index = index_value(t, frame)?;
-    change(name, op, sign, index, value, frame)
+    combine(name, op, sign, index, value, frame)
 }
 
 /// The same of an element that is a truth value.
@@ -134,6 +222,5 @@ pub(crate) fn set_truth_element(
     ensures limits { frame.new.limits ≡ frame.old.limits }
 {
     let value = truth_value(e, frame)?.get();
-    let index = index_value(t, frame)?;
-    change_truth(name, index, value, frame)
+    put_at(name, t, word_of(value), frame)
 }

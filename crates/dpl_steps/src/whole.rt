@@ -3,13 +3,13 @@
 
 ghost use Rattle.std.specs.Prelude.{◌≡◌, List, Some, None};
 ghost use Rattle.dpl_range.specs.Equality.{TextRange};
-ghost use Rattle.dpl_language.specs.Tree.{IntKind, BoolKind, Set, One};
+ghost use Rattle.dpl_language.specs.Tree.{IntKind, BoolKind, Set};
 ghost use Rattle.dpl_language.specs.Values.{Int, Truth};
 ghost use Rattle.dpl_language.specs.Ranges.{indices_in};
 ghost use Rattle.dpl_language.specs.Outcome.{Deeds, in_order, with_value};
 ghost use Rattle.dpl_language.specs.Loops.{within_budget, named_turn};
 ghost use Rattle.dpl_language.specs.Expressions.{value_of, whole_in};
-ghost use Rattle.dpl_language.specs.Assignments.{change, assign_array};
+ghost use Rattle.dpl_language.specs.Assignments.{change};
 ghost use Rattle.dpl_language.specs.Statements.{exec};
 ghost use Rattle.dpl_lowered.specs.LoweredExpressions.{EachTurn};
 ghost use Rattle.dpl_memory.specs.Memory.{in_memory};
@@ -17,6 +17,7 @@ ghost use Rattle.dpl_tree.specs.Words.{assign_view};
 ghost use Rattle.dpl_nodes.specs.Promoted.{promoted_int, promoted_truth};
 ghost use Rattle.dpl_nodes.specs.Steps.{array_leaf, whole_set};
 ghost use Rattle.dpl_steps.specs.Changes.{memory_after, ends_as, signed, within_at};
+ghost use Rattle.dpl_steps.specs.Arrays.{array_set};
 ghost use Rattle.dpl_steps.specs.Runs.{RunEnds};
 
 use crate::element::{change, change_truth};
@@ -171,7 +172,7 @@ fn set_once(
     frame: &mut Frame<'_>,
 ) -> Result<(), Halt>
     requires { whole_in frame.old.limits in_memory (promoted_int EachTurn e.now) frame.old.memory ≡ None }
-    ensures ends { (done : Deeds) → RunEnds result frame.new.memory done (assign_array frame.old.limits in_memory (array_leaf IntKind name.now) (signed (assign_view op) sign.now) (One (promoted_int EachTurn e.now)) domain None frame.old.memory done) }
+    ensures ends { (done : Deeds) → RunEnds result frame.new.memory done (array_set frame.old.limits IntKind name.now (assign_view op) sign.now (promoted_int EachTurn e.now) domain None frame.old.memory done) }
     ensures limits { frame.new.limits ≡ frame.old.limits }
 {
     let value = promoted_int_value(e, &coordinate(0), frame)?;
@@ -193,7 +194,7 @@ fn set_truth_once(
     frame: &mut Frame<'_>,
 ) -> Result<(), Halt>
     requires { whole_in frame.old.limits in_memory (promoted_truth EachTurn e.now) frame.old.memory ≡ None }
-    ensures ends { (done : Deeds) → RunEnds result frame.new.memory done (assign_array frame.old.limits in_memory (array_leaf BoolKind name.now) (signed Set sign.now) (One (promoted_truth EachTurn e.now)) domain None frame.old.memory done) }
+    ensures ends { (done : Deeds) → RunEnds result frame.new.memory done (array_set frame.old.limits BoolKind name.now Set sign.now (promoted_truth EachTurn e.now) domain None frame.old.memory done) }
     ensures limits { frame.new.limits ≡ frame.old.limits }
 {
     let value = promoted_truth_value(e, &coordinate(0), frame)?.get();
@@ -209,7 +210,7 @@ fn set_each(
     domain: DomainWord,
     frame: &mut Frame<'_>,
 ) -> Result<(), Halt>
-    ensures ends { (arrays : List TextRange) (done : Deeds) → RunEnds result frame.new.memory done (assign_array frame.old.limits in_memory (array_leaf IntKind name.now) (signed (assign_view op) sign.now) (One (promoted_int EachTurn e.now)) domain (Some arrays) frame.old.memory done) }
+    ensures ends { (arrays : List TextRange) (done : Deeds) → RunEnds result frame.new.memory done (array_set frame.old.limits IntKind name.now (assign_view op) sign.now (promoted_int EachTurn e.now) domain (Some arrays) frame.old.memory done) }
     ensures limits { frame.new.limits ≡ frame.old.limits }
 {
     each_within(&Promote { name, op, sign, e }, sign, domain, frame)
@@ -223,7 +224,7 @@ fn set_truth_each(
     domain: DomainWord,
     frame: &mut Frame<'_>,
 ) -> Result<(), Halt>
-    ensures ends { (arrays : List TextRange) (done : Deeds) → RunEnds result frame.new.memory done (assign_array frame.old.limits in_memory (array_leaf BoolKind name.now) (signed Set sign.now) (One (promoted_truth EachTurn e.now)) domain (Some arrays) frame.old.memory done) }
+    ensures ends { (arrays : List TextRange) (done : Deeds) → RunEnds result frame.new.memory done (array_set frame.old.limits BoolKind name.now Set sign.now (promoted_truth EachTurn e.now) domain (Some arrays) frame.old.memory done) }
     ensures limits { frame.new.limits ≡ frame.old.limits }
 {
     each_within(&PromoteTruth { name, sign, e }, sign, domain, frame)

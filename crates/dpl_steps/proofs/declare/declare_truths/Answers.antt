@@ -12,7 +12,7 @@ use Rattle.dpl_memory.specs.Memory.{in_memory}
 use Rattle.dpl_nodes.specs.Frames.{Framed}
 use Rattle.dpl_nodes.specs.Promoted.{promoted_truth}
 use Rattle.dpl_nodes.proofs.Promotions.{cell_read-promoted_truth, promoted_truth-once}
-use Rattle.dpl_steps.specs.Changes.{shell_over}
+use Rattle.dpl_steps.specs.Arrays.{shell_over}
 use Rattle.dpl_steps.proofs.Looping.{fault-ends}
 use Rattle.dpl_steps.proofs.ArrayItems.{array_of_item-fault, array_of_item-past, array_of_item-value, array_of_item-refused}
 use Rattle.dpl_steps.proofs.declare.declare_truths.Goals as goal

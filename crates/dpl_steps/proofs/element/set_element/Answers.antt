@@ -1,4 +1,4 @@
--- The right side goes first, then the index, and then the change.
+-- The right side goes first, then the index, and then the change; an operator without a use for the old value puts the element.
 use Rattle.std.proofs.Common.{rules, Ok, Err, sym, ap, ◌∙◌, w64, FitsSigned}
 use Rattle.std.proofs.lemmas.Int.{to_z-of_z}
 use Rattle.std.proofs.lemmas.Result.{err_from_is_err_and}
@@ -9,8 +9,16 @@ use Rattle.dpl_nodes.specs.Typed.{int_view}
 use Rattle.dpl_nodes.specs.Steps.{array_leaf}
 use Rattle.dpl_nodes.proofs.Unread.{cell_read-int}
 use Rattle.dpl_steps.specs.Changes.{memory_after, ends_as}
-use Rattle.dpl_steps.proofs.Elements.{exec-element}
+use Rattle.dpl_steps.proofs.Elements.{exec-element, exec-put}
 use Rattle.dpl_steps.proofs.element.set_element.Goals as goal
+
+pub returns-then-replaces-clause-ends : goal.returns-then-replaces-clause-ends
+returns-then-replaces-clause-ends c done =
+    let value_fits : FitsSigned w64 c.in_ok-value.value = search rules in
+    let put = simp to_z-of_z at c.put_at.ensures.ends in
+    exec-put c.args.frame.now.limits IntKind c.args.name.now c.args.t.now (assign_view c.args.op) c.args.sign.now (int_view c.args.e.now) c.args.frame.now.memory done (Int c.in_ok-value.value)
+    (cell_read-int c.args.e.now) c.in_ok-value.ensures (c.replaces.ensures.divides c.if-replaces.true) (c.replaces.ensures.value c.if-replaces.true)
+    ∙ ap (λ r. ends_as r done) put
 
 pub returns-in_err-index-clause-ends : goal.returns-in_err-index-clause-ends
 returns-in_err-index-clause-ends c done =
@@ -22,7 +30,7 @@ returns-in_err-index-clause-ends c done =
 pub returns-clause-ends : goal.returns-clause-ends
 returns-clause-ends c done =
     let value_fits : FitsSigned w64 c.in_ok-value.value = search rules in
-    let changed = simp to_z-of_z at c.change.ensures.ends done in
+    let changed = simp to_z-of_z at c.combine.ensures.ends done in
     exec-element c.args.frame.now.limits (array_leaf IntKind c.args.name.now) c.args.t.now (assign_view c.args.op) c.args.sign.now (int_view c.args.e.now) c.args.frame.now.memory done (Int c.in_ok-value.value) (Ok c.in_ok-index.index)
     (cell_read-int c.args.e.now) c.in_ok-value.ensures c.in_ok-index.ensures
     ∙ changed

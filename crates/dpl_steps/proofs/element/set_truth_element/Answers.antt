@@ -1,28 +1,26 @@
--- The right side goes first, then the index, and then the change.
-use Rattle.std.proofs.Common.{Ok, Err, sym, ap, ◌∙◌}
-use Rattle.std.proofs.lemmas.Result.{err_from_is_err_and}
+-- The right side goes first, then the element is put.
+use Rattle.std.proofs.Common.{refl, sym, ap, ◌∙◌, w64, FitsSigned, rules}
+use Rattle.std.proofs.lemmas.Int.{to_z-of_z}
 use Rattle.dpl_language.specs.Tree.{BoolKind, Set}
-use Rattle.dpl_language.specs.Values.{Truth}
-use Rattle.dpl_language.specs.Assignments.{change}
+use Rattle.dpl_language.specs.Values.{Truth, index_of, kept_number}
+use Rattle.dpl_language.specs.Outcome.{with_ok}
+use Rattle.dpl_language.specs.Expressions.{values_of}
 use Rattle.dpl_lowered.specs.Shapes.{nowhere}
 use Rattle.dpl_memory.specs.Memory.{in_memory}
-use Rattle.dpl_nodes.specs.Typed.{truth_view}
-use Rattle.dpl_nodes.specs.Steps.{array_leaf}
+use Rattle.dpl_nodes.specs.Typed.{truth_view, index_exprs}
 use Rattle.dpl_nodes.proofs.Unread.{cell_read-truth}
-use Rattle.dpl_steps.specs.Changes.{memory_after, ends_as, signed}
-use Rattle.dpl_steps.proofs.Elements.{exec-element}
+use Rattle.dpl_steps.specs.Changes.{ends_as, put_memory}
+use Rattle.dpl_steps.proofs.Elements.{exec-put}
 use Rattle.dpl_steps.proofs.element.set_truth_element.Goals as goal
-
-pub returns-in_err-index-clause-ends : goal.returns-in_err-index-clause-ends
-returns-in_err-index-clause-ends c done =
-    let p = err_from_is_err_and c.from_residual-in_err-index.result c.from_residual-in_err-index.ensures.1 in
-    exec-element c.args.frame.now.limits (array_leaf BoolKind c.args.name.now) c.args.t.now Set nowhere (truth_view c.args.e.now) c.args.frame.now.memory done (Truth c.in_ok-truth_value.field-0) (Err c.in_err-index.field-0.0)
-    (cell_read-truth c.args.e.now) c.in_ok-truth_value.ensures c.in_err-index.ensures
-    ∙ ap (λ r. ends_as (memory_after r c.args.frame.now.memory) done) (sym (p.1 ∙ ap Err p.2))
 
 pub returns-clause-ends : goal.returns-clause-ends
 returns-clause-ends c done =
-    exec-element c.args.frame.now.limits (array_leaf BoolKind c.args.name.now) c.args.t.now Set nowhere (truth_view c.args.e.now) c.args.frame.now.memory done (Truth c.in_ok-truth_value.field-0) (Ok c.in_ok-index.index)
-    (cell_read-truth c.args.e.now) c.in_ok-truth_value.ensures c.in_ok-index.ensures
-    ∙ ap (λ b. change c.args.frame.now.limits in_memory (array_leaf BoolKind c.args.name.now) (signed Set nowhere) c.in_ok-index.index (Truth b) c.args.frame.now.memory done) (sym c.get-value.ensures)
-    ∙ c.change_truth.ensures.ends nowhere done
+    let limits = c.args.frame.now.limits in
+    let s = c.args.frame.now.memory in
+    let word_fits : FitsSigned w64 c.word_of.result = search rules in
+    let put = simp to_z-of_z at c.put_at.ensures.ends in
+    exec-put limits BoolKind c.args.name.now c.args.t.now Set nowhere (truth_view c.args.e.now) s done (Truth c.in_ok-truth_value.field-0)
+    (cell_read-truth c.args.e.now) c.in_ok-truth_value.ensures refl (λ old new. refl)
+    ∙ ap (λ w. ends_as (with_ok (values_of limits in_memory (index_exprs c.args.t.now) s) (λ vs. put_memory c.args.name.now.at.now c.args.name.now.slot (index_of vs) w s)) done)
+    (ap (λ b. kept_number (Truth b)) (sym c.get-value.ensures) ∙ sym c.word_of.ensures)
+    ∙ ap (λ r. ends_as r done) put
