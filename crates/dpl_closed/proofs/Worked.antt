@@ -4,7 +4,7 @@ use Rattle.std.proofs.Common.{◌≡◌, ℕ, pos, true, false, [], ◌∷◌, O
 use Rattle.dpl_syntax.specs.declared.place.Place.{Place}
 use Rattle.dpl_language.specs.Names.{Text}
 use Rattle.dpl_language.specs.Tree.{Placed, Add, Greater, Sum, Kind, IntKind, BoolKind, Size, DomainOf, Closed, Set, SetAdd, Square, Round, ExprTree, Number, Named, LocalesWord, LocaleCount, HereWord, Grouped, DomainLiteral, Reduced, Chain, Postfixed, One, RangeItem, NoStride, By, NoLinks, Link, NoPosts, Post, Brackets, Rounds, Dotted, Contains, Plainly, Items, FirstItem, NoItems, NextItem, FirstExpr, NoExprs, NextExpr}
-use Rattle.dpl_language.specs.Tree.{MappedTree, BlockMap, TypeTree, ScalarType, SyncType, DomainType, ArrayType, ItemInit, TypedTree, InitialTree, TextArgument, ExprArgument, StmtTree, Nothing, Declare, Assigned, Write, Block, If, While, Forall, Coforall, On, OneVariable, Whole, Element, WordBody, BlockBody, NoStmts, Then, NoElse, ElseDo}
+use Rattle.dpl_language.specs.Tree.{MappedTree, BlockMap, CreateBlock, TypeTree, ScalarType, SyncType, DomainType, ArrayType, ItemInit, CreateInit, TypedTree, InitialTree, TextArgument, ExprArgument, StmtTree, Nothing, Declare, Assigned, Write, Block, If, While, Forall, Coforall, On, OneVariable, Whole, Element, WordBody, BlockBody, NoStmts, Then, NoElse, ElseDo}
 use Rattle.dpl_closed.specs.Closed.{closed_expr, closed_stmt, closed_stmts}
 
 abbrev at : ℕ → Place
@@ -119,8 +119,12 @@ by_blocks = record { at = at 10; map = BlockMap (record { new = at 11; word = at
 a_domain : closed_stmt (declared (Some (domain_type None)) (Some (one 21)) None) ≡ None
 a_domain = refl
 
-a_mapped_domain : closed_stmt (declared (Some (domain_type (Some by_blocks))) (Some (sum 21)) None) ≡ Some (at 10)
+-- a map needs nothing, though this one's box has a sum
+a_mapped_domain : closed_stmt (declared (Some (domain_type (Some by_blocks))) (Some (one 21)) None) ≡ None
 a_mapped_domain = refl
+
+behind_a_mapped_type : closed_stmt (declared (Some (domain_type (Some by_blocks))) (Some (sum 21)) None) ≡ Some (at 21)
+behind_a_mapped_type = refl
 
 -- an array type, over what stands in its brackets
 abbrev array_type : Items Text → Kind → TypeTree Text
@@ -141,11 +145,32 @@ an_array_of_a_sum = refl
 an_initial_sum : closed_stmt (declared None (Some (sum 21)) None) ≡ Some (at 21)
 an_initial_sum = refl
 
-a_map : closed_stmt (declared None (Some (Named (name 21))) (Some by_blocks)) ≡ Some (at 10)
+a_map : closed_stmt (declared None (Some (Named (name 21))) (Some by_blocks)) ≡ None
 a_map = refl
 
-a_value_before_its_map : closed_stmt (declared None (Some (sum 21)) (Some by_blocks)) ≡ Some (at 21)
-a_value_before_its_map = refl
+a_mapped_sum : closed_stmt (declared None (Some (sum 21)) (Some by_blocks)) ≡ Some (at 21)
+a_mapped_sum = refl
+
+-- what is created from a domain or from ranges
+abbrev created : Items Text → StmtTree Text
+created items = Declare (record {
+  config = None;
+  at = at 1;
+  constant = false;
+  name = name 2;
+  typed = None;
+  initial = Some (record { equals = at 3; init = CreateInit (record { at = at 4; word = CreateBlock; dot = at 5; method = at 6; from = at 7; items = items; upto = at 20 }) });
+  semicolon = at 99;
+})
+
+created_from_a_domain : closed_stmt (created (FirstItem (One (Named (name 8))) NoItems)) ≡ None
+created_from_a_domain = refl
+
+created_from_ranges : closed_stmt (created (FirstItem (RangeItem (one 8) (at 8) Closed (one 8) NoStride) (NextItem (at 9) (RangeItem (one 10) (at 10) Closed (one 10) NoStride) NoItems))) ≡ None
+created_from_ranges = refl
+
+created_from_a_sum : closed_stmt (created (FirstItem (RangeItem (one 8) (at 8) Closed (one 8) NoStride) (NextItem (at 9) (RangeItem (one 10) (at 10) Closed (sum 11) NoStride) NoItems))) ≡ Some (at 11)
+created_from_a_sum = refl
 
 -- STATEMENTS
 coforall : closed_stmt (Coforall (at 1) (OneVariable (name 2)) (at 3) (One (sum 4)) None (WordBody (at 5) (Nothing (at 6)))) ≡ Some (at 1)

@@ -1,9 +1,9 @@
--- The forms that are read and checked, and don't run yet: the maps of domains, reductions in expressions, locales, tasks and cells.
--- Of a program that has one the first token that needs it is told, in the order of the text.
+-- The forms that are read and checked, and don't run yet: reductions in expressions, locales, tasks and cells.
+-- Of a program that has one the first token that needs it is told, in the order of the text. A map is never evaluated, so that it needs nothing, whatever stands in it.
 use Rattle.std.specs.Prelude.{Option, Some, None, List, [], ◌∷◌}
 use Rattle.dpl_syntax.specs.declared.place.Place.{Place}
 use Rattle.dpl_language.specs.Tree.{AfterComma, Listed, ExprTree, Number, TruthWord, Named, LocalesWord, LocaleCount, HereWord, Grouped, DomainLiteral, Prefixed, Reduced, Chain, Postfixed, ItemTree, One, RangeItem, Stride, NoStride, By, Links, NoLinks, Link, Posts, NoPosts, Post, PostTree, Brackets, Rounds, Dotted, MethodTree, Plainly, Dim, Contains, Expand, CellRead, Items, FirstItem, MoreItems, NoItems, NextItem, Exprs, FirstExpr, MoreExprs, NoExprs, NextExpr}
-use Rattle.dpl_language.specs.Tree.{MappedTree, TypeTree, ScalarType, SyncType, DomainType, ArrayType, InitTree, ItemInit, CreateInit, TypedTree, InitialTree, DeclareTree, ArgumentTree, TextArgument, ExprArgument, TargetTree, Whole, Element, CallTree, ReadCall, ResetCall, WriteCall, StmtTree, Nothing, Declare, Assigned, Call, Write, Block, If, While, For, Forall, Coforall, On, Body, WordBody, BlockBody, Stmts, NoStmts, Then, Else, NoElse, ElseDo}
+use Rattle.dpl_language.specs.Tree.{TypeTree, ScalarType, SyncType, DomainType, ArrayType, InitTree, ItemInit, CreateInit, TypedTree, InitialTree, DeclareTree, ArgumentTree, TextArgument, ExprArgument, TargetTree, Whole, Element, CallTree, ReadCall, ResetCall, WriteCall, StmtTree, Nothing, Declare, Assigned, Call, Write, Block, If, While, For, Forall, Coforall, On, Body, WordBody, BlockBody, Stmts, NoStmts, Then, Else, NoElse, ElseDo}
 
 -- the first of two places, in the order of the text
 abbrev pub or_place : Option Place → Option Place → Option Place
@@ -81,22 +81,19 @@ module _ {N : Type 0} where
     closed_more_exprs NoExprs = None
     closed_more_exprs (NextExpr comma e more) = or_place (closed_expr e) (closed_more_exprs more)
 
-  -- DECLARATIONS. A map is told by `dmapped`, whatever it is.
-  abbrev pub closed_mapped : MappedTree N → Option Place
-  closed_mapped m = Some m.at
-
+  -- DECLARATIONS. A map is not looked at, and `createDomain(X)` needs what X does.
   abbrev pub closed_type : TypeTree N → Option Place
   closed_type (ScalarType at k) = None
   closed_type (SyncType at kind_at k) = Some at
-  closed_type (DomainType d) = in_optional closed_mapped d.mapped
+  closed_type (DomainType d) = None
   closed_type (ArrayType a) = closed_items a.over
 
   abbrev pub closed_typed : TypedTree N → Option Place
   closed_typed t = closed_type t.type
 
   abbrev pub closed_init : InitTree N → Option Place
-  closed_init (ItemInit item mapped) = or_place (closed_item item) (in_optional closed_mapped mapped)
-  closed_init (CreateInit c) = Some c.at
+  closed_init (ItemInit item mapped) = closed_item item
+  closed_init (CreateInit c) = closed_items c.items
 
   abbrev pub closed_initial : InitialTree N → Option Place
   closed_initial i = closed_init i.init

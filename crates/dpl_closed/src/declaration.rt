@@ -2,25 +2,14 @@
 // A type stands before the initial value.
 
 ghost use Rattle.std.specs.Prelude.{◌≡◌};
-ghost use Rattle.dpl_tree.specs.Declarations.{optional, mapped_view, typed_view, init_view, initial_view, declare_view};
-ghost use Rattle.dpl_closed.specs.Closed.{or_place, in_optional, closed_mapped, closed_typed, closed_init, closed_initial, closed_declare};
+ghost use Rattle.dpl_tree.specs.Declarations.{optional, typed_view, init_view, initial_view, declare_view};
+ghost use Rattle.dpl_closed.specs.Closed.{or_place, in_optional, closed_typed, closed_init, closed_initial, closed_declare};
 
 use crate::expression::{item, items, or_here};
 use dpl_syntax::Place;
-use dpl_tree::{Declare, DeclaredType, Init, Initial, Mapped, Typed};
+use dpl_tree::{Declare, DeclaredType, Init, Initial, Typed};
 
-// In a map, which is told by its first word.
-#[tactic(auto, using(crate::proofs::Places::or_place_none))]
-fn mapped(found: Option<Place>, mapped: &Option<Mapped<'_>>) -> Option<Place>
-    ensures { result ≡ or_place found (in_optional closed_mapped (optional mapped_view mapped.now)) }
-{
-    match mapped {
-        None => found,
-        Some(mapped) => or_here(found, mapped.at),
-    }
-}
-
-// In a declared type.
+// In a declared type. A domain's has nothing that is evaluated: its map isn't.
 #[tactic(auto, using(crate::proofs::Places::or_place_none))]
 fn typed(found: Option<Place>, typed: &Option<Typed<'_>>) -> Option<Place>
     ensures { result ≡ or_place found (in_optional closed_typed (optional typed_view typed.now)) }
@@ -30,20 +19,19 @@ fn typed(found: Option<Place>, typed: &Option<Typed<'_>>) -> Option<Place>
         Some(typed) => match &typed.declared {
             DeclaredType::Scalar(_, _) => found,
             DeclaredType::Sync(at, _, _) => or_here(found, *at),
-            DeclaredType::Domain(domain) => mapped(found, &domain.mapped),
+            DeclaredType::Domain(_) => found,
             DeclaredType::Array(array) => items(found, &array.over),
         },
     }
 }
 
-// In an initial value.
-#[tactic(auto, using(crate::proofs::Places::or_place_assoc))]
+// In an initial value, whose map isn't looked at.
 fn init(found: Option<Place>, init: &Init<'_>) -> Option<Place>
     ensures { result ≡ or_place found (closed_init (init_view init.now)) }
 {
     match init {
-        Init::Item(value, map) => mapped(item(found, value), map),
-        Init::Create(create) => or_here(found, create.at),
+        Init::Item(value, _) => item(found, value),
+        Init::Create(create) => items(found, &create.items),
     }
 }
 
