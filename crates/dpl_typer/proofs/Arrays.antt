@@ -13,12 +13,12 @@ use Rattle.dpl_language.specs.Ranges.{sized, too_many}
 use Rattle.dpl_language.specs.Outcome.{with_ok}
 use Rattle.dpl_language.specs.Environment.{Environment, Limits}
 use Rattle.dpl_language.specs.Phrases.{item_read}
-use Rattle.dpl_language.specs.Expressions.{item_of, items_of, domain_of, whole_item}
+use Rattle.dpl_language.specs.Expressions.{items_of, domain_of, whole_item}
 use Rattle.dpl_agreement.specs.Renamed.{renamed_item, renamed_items, renamed_read}
 use Rattle.dpl_agreement.proofs.RenamedParts.{item_read-renamed}
 use Rattle.dpl_agreement.proofs.RenamedTwice.{renamed_item-twice, renamed_items-twice}
 use Rattle.dpl_agreement.proofs.Through.{through, domain_of-through}
-use Rattle.dpl_rules.specs.Types.{Over, ValueType, Scalar, Range, Domain, Array, Promoted, Tuple, Locale, AllLocales, Cell, Operand, operand_of, is_array, domain_of as domain_type}
+use Rattle.dpl_rules.specs.Types.{ValueType, Scalar, Range, Domain, Array, Promoted, Tuple, Locale, AllLocales, Cell, Operand, operand_of, is_array, domain_of as domain_type}
 use Rattle.dpl_rules.specs.Sights.{Scopes}
 use Rattle.dpl_rules.specs.Verdicts.{Part, type_by}
 use Rattle.dpl_rules.specs.Operators.{ranges_verdict, domain_or, over_verdict}
@@ -30,8 +30,8 @@ use Rattle.dpl_sound.proofs.Sound.{ranges_verdict-has}
 use Rattle.dpl_sound.proofs.Outcomes.{items_sound, type_at-operand}
 use Rattle.dpl_lowered.specs.LoweredExpressions.{Once, lowered_item}
 use Rattle.dpl_lowered.proofs.Values.{whole_item-lowered}
-use Rattle.dpl_memory.specs.Memory.{VariableKind, ArrayKind, Memory, known_variable, array_at, in_memory}
-use Rattle.dpl_memory.specs.Resolved.{Shape, Bound, Seen, variable_of, IsElement, IsShaped, HasNoArray, Suits, SuitsElement, SpansArray}
+use Rattle.dpl_memory.specs.Memory.{VariableKind, DomainKind, ArrayKind, Memory, known_variable, array_at, in_memory}
+use Rattle.dpl_memory.specs.Resolved.{Shape, Bound, Seen, variable_of, HasShape, IsElement, IsShaped, HasNoArray, Suits, SuitsElement, Spans, SpansArray}
 use Rattle.dpl_memory.proofs.Known.{memory-known}
 use Rattle.dpl_nodes.specs.declared.promoted.PromotedInt.{PromotedInt, Scalar as IntScalar, Element as IntElement, Negative', Sum', Difference', Product', Quotient', Remainder'}
 use Rattle.dpl_nodes.specs.declared.promoted.PromotedTruth.{PromotedTruth, Scalar as TruthScalar, Element as TruthElement, Not', And', Or', Same', Differ', Compare}
@@ -39,12 +39,13 @@ use Rattle.dpl_nodes.specs.Promoted.{promoted_int, promoted_truth}
 use Rattle.dpl_typer.specs.declared.make.Typed.{Typed}
 use Rattle.dpl_typer.specs.declared.make.Typed.TheVariants.{Int, Truth, Range as RangeTyped, Domain as DomainTyped, Tuple as TupleTyped, Ints, Truths}
 use Rattle.dpl_typer.specs.Makers.{typed_item, kind_of, operand_kind, whole_ints, whole_truths, is_whole}
-use Rattle.dpl_typer.specs.Leaves.{value_kind, leaf_in, IsFound, IsOfType}
+use Rattle.dpl_typer.specs.Leaves.{is_rank, value_kind, leaf_in, IsFound, IsOfType}
+use Rattle.dpl_typer.specs.Shapes.{shape_of, takes_shape}
 use Rattle.dpl_typer.specs.Simple.{IsSimpleItem, AreSimpleItems}
 use Rattle.dpl_typer.specs.Sights.{bound_in, sight_of, AreKnownScopes}
-use Rattle.dpl_typer.proofs.OperatorKinds.{IsOperand, operand}
+use Rattle.dpl_typer.proofs.OperatorKinds.{IsOperand, kind_if-some, operand}
 use Rattle.dpl_typer.proofs.Formed.{items-formed}
-use Rattle.dpl_typer.proofs.Shaped.{fits-shaped, item-typed_at}
+use Rattle.dpl_typer.proofs.Shaped.{taken-shape, fits-shaped, item-typed_at}
 
 -- VALUES OF A KIND: what is of an operand's type has elements of its kind
 same_kind_by : (j : VariableKind) (k : Kind) (o : Option Operand) → IsOperand j o → operand_kind j ≡ Some k → (p : Operand) × (o ≡ Some p) × (p.kind ≡ k)
@@ -163,6 +164,38 @@ module _ (from at : Place) (v : Value) where
       by_part p given.0 w vs given.1 given.2 h ok
   by_verdict (p ∷ q ∷ ps) w vs e h ok = by_ranges (p ∷ q ∷ ps) w vs e h ok
 
+-- a domain that is made is one, and of the shape of a name whose type takes its own
+domain-value : (at : Place) (v : Value) (r : Result (List Value) Fault) → with_ok r (λ vs. sized at (all_ranges vs)) ≡ Ok v → (rs : List TextRange) × (v ≡ DomainValue rs)
+domain-value at v (Ok vs) e = by (too_many (all_ranges vs)) e
+  where
+    by : (b : Bool) → (if b then Err (fault PastLimit at) else Ok (DomainValue (all_ranges vs))) ≡ Ok v → (rs : List TextRange) × (v ≡ DomainValue rs)
+    by true e = cc
+    by false e = let same : DomainValue (all_ranges vs) ≡ v = cc in (all_ranges vs, sym same)
+domain-value at v (Err f) e = cc
+
+created-shape : (t w : ValueType) (rs : List TextRange) (v : Value) → value_kind t ≡ Some DomainKind → takes_shape t w ≡ true → v ≡ DomainValue rs → IsRankedBy w (ranges_in v) → HasShape DomainKind (shape_of t) v
+created-shape (Scalar IntKind) w rs v kind taken is ranked = cc
+created-shape (Scalar BoolKind) w rs v kind taken is ranked = cc
+created-shape (Range may) w rs v kind taken is ranked = cc
+created-shape (Domain rank may) w rs v kind taken is ranked = by w taken ranked
+  where
+    by : (w : ValueType) → takes_shape (Domain rank may) w ≡ true → IsRankedBy w (ranges_in v) → HasShape DomainKind (shape_of (Domain rank may)) v
+    by (Scalar k) taken ranked = absurd (let f : false ≡ true = taken in cc)
+    by (Range s) taken ranked = absurd (let f : false ≡ true = taken in cc)
+    by (Domain n s) taken ranked = taken-shape (Domain rank may) (Domain n s) DomainKind v kind refl taken (rs, is, subst (λ v. AreRanked n s (ranges_in v)) is (ranked n s refl))
+    by (Array k over) taken ranked = absurd (let f : false ≡ true = taken in cc)
+    by (Promoted k over) taken ranked = absurd (let f : false ≡ true = taken in cc)
+    by (Tuple n) taken ranked = absurd (let f : false ≡ true = taken in cc)
+    by Locale taken ranked = absurd (let f : false ≡ true = taken in cc)
+    by AllLocales taken ranked = absurd (let f : false ≡ true = taken in cc)
+    by (Cell k) taken ranked = absurd (let f : false ≡ true = taken in cc)
+created-shape (Array k over) w rs v kind taken is ranked = let same : ArrayKind k ≡ DomainKind = (kind_if-some (is_rank over.rank) (ArrayKind k) DomainKind kind).1 in cc
+created-shape (Promoted k over) w rs v kind taken is ranked = let same : ArrayKind k ≡ DomainKind = (kind_if-some (is_rank over.rank) (ArrayKind k) DomainKind kind).1 in cc
+created-shape (Tuple n) w rs v kind taken is ranked = absurd (let f : false ≡ true = taken in cc)
+created-shape Locale w rs v kind taken is ranked = absurd (let f : false ≡ true = taken in cc)
+created-shape AllLocales w rs v kind taken is ranked = absurd (let f : false ≡ true = taken in cc)
+created-shape (Cell k) w rs v kind taken is ranked = absurd (let f : false ≡ true = taken in cc)
+
 module _ (scopes : Scopes) (known : AreKnownScopes scopes) (intents : List (Bound × Op)) where
   abbrev g : Seen
   g = record { frames = sight_of scopes; intents = intents }
@@ -201,15 +234,24 @@ module _ (scopes : Scopes) (known : AreKnownScopes scopes) (intents : List (Boun
   abbrev env : Environment Text Memory
   env = through (leaf_in scopes) in_memory
 
-  pub spans-array : (items : Items Text) → AreSimpleItems (IsFound scopes) items → (from : Place) (w : ValueType) → type_by (over_verdict from (item_parts scopes items)) ≡ Some w
-      → (rank : ℕ) (strided : Bool) → domain_type w ≡ Some (rank, strided) → (k : Kind) → SpansArray (ArrayKind k) (record { rank = rank; strided = strided }) k (renamed_items (bound_in scopes) items) g
-  spans-array items simple from w e rank strided of k limits s shaped at v ok = (refl, by (items_of limits env items s) (items_sound limits env scopes s (fits-shaped scopes known intents s shaped) items) once)
-    where
-      once : with_ok (items_of limits env items s) (λ vs. sized at (all_ranges vs)) ≡ Ok v
-      once =
-          domain_of-through limits (leaf_in scopes) in_memory at items s
-          ∙ ap (λ is. domain_of limits in_memory at is s) (sym (renamed_items-twice variable_of (bound_in scopes) items)) ∙ ok
+  module _ (items : Items Text) (simple : AreSimpleItems (IsFound scopes) items) (from : Place) (w : ValueType) (e : type_by (over_verdict from (item_parts scopes items)) ≡ Some w) where
+    spanned : (limits : Limits) (s : Memory) → IsShaped g s → (at : Place) (v : Value) → domain_of limits in_memory at (renamed_items variable_of (renamed_items (bound_in scopes) items)) s ≡ Ok v → IsRankedBy w (ranges_in v)
+    spanned limits s shaped at v ok = by (items_of limits env items s) (items_sound limits env scopes s (fits-shaped scopes known intents s shaped) items) once
+      where
+        once : with_ok (items_of limits env items s) (λ vs. sized at (all_ranges vs)) ≡ Ok v
+        once =
+            domain_of-through limits (leaf_in scopes) in_memory at items s
+            ∙ ap (λ is. domain_of limits in_memory at is s) (sym (renamed_items-twice variable_of (bound_in scopes) items)) ∙ ok
 
-      by : (r : Result (List Value) Fault) → ((vs : List Value) → ItemsFormed items → r ≡ Ok vs → HaveTypes vs (item_parts scopes items)) → with_ok r (λ vs. sized at (all_ranges vs)) ≡ Ok v → AreRanked rank strided (ranges_in v)
-      by (Ok vs) have e2 = by_verdict from at v (item_parts scopes items) w vs e (have vs (items-formed (IsFound scopes) items simple) refl) e2 rank strided of
-      by (Err f) have e2 = cc
+        by : (r : Result (List Value) Fault) → ((vs : List Value) → ItemsFormed items → r ≡ Ok vs → HaveTypes vs (item_parts scopes items)) → with_ok r (λ vs. sized at (all_ranges vs)) ≡ Ok v → IsRankedBy w (ranges_in v)
+        by (Ok vs) have e2 = by_verdict from at v (item_parts scopes items) w vs e (have vs (items-formed (IsFound scopes) items simple) refl) e2
+        by (Err f) have e2 = cc
+
+    pub spans-array : (rank : ℕ) (strided : Bool) → domain_type w ≡ Some (rank, strided) → (k : Kind) → SpansArray (ArrayKind k) (record { rank = rank; strided = strided }) k (renamed_items (bound_in scopes) items) g
+    spans-array rank strided of k limits s shaped at v ok = (refl, spanned limits s shaped at v ok rank strided of)
+
+    -- and that of a created domain, in a name whose type takes it
+    pub spans-created : (t : ValueType) → value_kind t ≡ Some DomainKind → takes_shape t w ≡ true → Spans DomainKind (shape_of t) (renamed_items (bound_in scopes) items) g
+    spans-created t kind taken limits s shaped at v ok =
+        let (rs, is) = domain-value at v (items_of limits in_memory (renamed_items variable_of (renamed_items (bound_in scopes) items)) s) ok in
+        ((rs, is), λ n. created-shape t w rs v kind taken is (spanned limits s shaped at v ok))

@@ -4,7 +4,7 @@ use Rattle.std.proofs.Common.{◌≡◌, Bool, true, false, List, get_or, Result
 use Rattle.std.specs.Prelude.{if◌then◌else◌}
 use Rattle.dpl_syntax.specs.declared.place.Place.{Place}
 use Rattle.dpl_range.specs.Equality.{TextRange}
-use Rattle.dpl_language.specs.Tree.{ExprTree}
+use Rattle.dpl_language.specs.Tree.{ExprTree, One}
 use Rattle.dpl_language.specs.Values.{Value, Domain, Tuple, Index, number, ranges_in, all_ranges, Fault, fault, PastLimit}
 use Rattle.dpl_language.specs.Ranges.{too_many, sized, all_sliced, expanded}
 use Rattle.dpl_language.specs.Outcome.{with_ok}
@@ -13,8 +13,8 @@ use Rattle.dpl_language.specs.Expressions.{bracketed, value_of, item_of, items_o
 use Rattle.dpl_language.specs.Phrases.{Base, base_of}
 use Rattle.dpl_lowered.specs.LoweredExpressions.{Once}
 use Rattle.dpl_memory.specs.Memory.{VariableKind, PlainKind, DomainKind, TupleKind, ArrayKind, Variable, Memory, no_domain, no_tuple, array_at, in_memory}
-use Rattle.dpl_nodes.specs.declared.tree.DomainExpr.{DomainExpr, Local as DomainLocal, OfArray, Literal', Slice' as DomainSlice', Expanded'}
-use Rattle.dpl_nodes.specs.Typed.{int_view, ranges_items, domain_view}
+use Rattle.dpl_nodes.specs.declared.tree.DomainExpr.{DomainExpr, Local as DomainLocal, OfArray, Literal', Slice' as DomainSlice', Expanded', Created'}
+use Rattle.dpl_nodes.specs.Typed.{items_one, int_view, ranges_items, domain_view}
 use Rattle.dpl_nodes.proofs.Evaluated.{Gives, int_gives, truth_gives, item_gives}
 use Rattle.dpl_typer.specs.declared.make.Typed.{Typed}
 use Rattle.dpl_typer.specs.declared.make.Typed.TheVariants as typed
@@ -71,6 +71,7 @@ module _ (limits : Limits) (s : Memory) where
   domain_gives (Literal' at p rs) = sized-gives at.now (items_of limits in_memory (ranges_items rs) s)
   domain_gives (DomainSlice' p d q rs) = domain_sliced (base_of (domain_view d)) (value (domain_view d)) (items_of limits in_memory (ranges_items rs) s) (domain_gives d)
   domain_gives (Expanded' p d at q e) = expanded-gives at.now (value (domain_view d)) (value (int_view e))
+  domain_gives (Created' at p d) = sized-gives at.now (items_of limits in_memory (items_one (One (domain_view d))) s)
 
   -- an item that is evaluated once; of promoted expressions nothing is said, which are evaluated at each index
   pub typed_item_gives : (t : Typed) → GivesOnce (kind_of t) (item_of limits in_memory (typed_item Once t) None s)

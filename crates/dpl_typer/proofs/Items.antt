@@ -5,7 +5,7 @@ use Rattle.dpl_language.specs.Tree.{One}
 use Rattle.dpl_lowered.specs.Shapes.{as_expr, as_item}
 use Rattle.dpl_lowered.specs.LoweredExpressions.{Times}
 use Rattle.dpl_nodes.specs.declared.make.Typed.TheVariants as node
-use Rattle.dpl_nodes.specs.declared.tree.DomainExpr.{DomainExpr, Local as DomainLocal, OfArray, Literal', Slice' as DomainSlice', Expanded'}
+use Rattle.dpl_nodes.specs.declared.tree.DomainExpr.{DomainExpr, Local as DomainLocal, OfArray, Literal', Slice' as DomainSlice', Expanded', Created'}
 use Rattle.dpl_nodes.specs.declared.promoted.PromotedInt.{PromotedInt, Scalar as IntScalar, Element as IntElement, Negative' as NegativeInts, Sum' as SumInts, Difference' as DifferenceInts, Product' as ProductInts, Quotient' as QuotientInts, Remainder' as RemainderInts}
 use Rattle.dpl_nodes.specs.declared.promoted.PromotedTruth.{PromotedTruth, Scalar as TruthScalar, Element as WholeTruths, Not' as NotTruths, And' as AndTruths, Or' as OrTruths, Same' as SameTruths, Differ' as DifferTruths, Compare as CompareInts}
 use Rattle.dpl_nodes.specs.Typed.{domain_view}
@@ -30,6 +30,7 @@ domain_item (OfArray k slot) = refl
 domain_item (Literal' at p rs) = refl
 domain_item (DomainSlice' p d q rs) = refl
 domain_item (Expanded' p d at q e) = refl
+domain_item (Created' at p d) = refl
 
 ints_item : (m : Times) (e : PromotedInt) → One (promoted_int m e) ≡ as_item (promoted_int m e)
 ints_item m (IntScalar e) = nodes.typed_item-view (node.Int e)

@@ -15,3 +15,4 @@ pub mod BaseKinds
 pub mod Posts
 pub mod BehindBase
 pub mod Listed
+pub mod CreatedFrom

@@ -5,7 +5,7 @@ use Rattle.std.specs.Prelude.{bytes_eq, ◌==◌, ◌&&◌, if◌then◌else◌,
 use Rattle.std.proofs.lemmas.Option.{none-some}
 use Rattle.std.proofs.lemmas.Slice.Eq.{bytes_eq-Decides}
 use Rattle.dpl_syntax.specs.declared.place.Place.{Place}
-use Rattle.dpl_language.specs.Tree.{Op, Kind, IntKind, BoolKind, Placed, ExprTree, Number, TruthWord, Named, LocalesWord, LocaleCount, HereWord, Grouped, DomainLiteral, Prefixed, Reduced, Chain, Postfixed, ItemTree, One, RangeItem, Items, FirstItem, NoItems, NextItem}
+use Rattle.dpl_language.specs.Tree.{Op, Kind, IntKind, BoolKind, Placed, Number, TruthWord, Named, LocalesWord, LocaleCount, HereWord, Grouped, DomainLiteral, Prefixed, Reduced, Chain, Postfixed, One, RangeItem, Items, FirstItem, NoItems, NextItem}
 use Rattle.dpl_language.specs.Names.{Text}
 use Rattle.dpl_language.specs.Phrases.{declared_over}
 use Rattle.dpl_agreement.proofs.Slots.{same_slot, other_slot}
@@ -22,7 +22,7 @@ use Rattle.dpl_scopes.proofs.Slots.{slot_in-lookup}
 use Rattle.dpl_words.specs.Words.{IntLeaf, TruthLeaf, RangeLeaf}
 use Rattle.dpl_memory.specs.Memory.{VariableKind, PlainKind, DomainKind, TupleKind, ArrayKind}
 use Rattle.dpl_memory.specs.Resolved.{Shape, Bound, Seen, if_domain, domain_among, OverResolves}
-use Rattle.dpl_typer.specs.Leaves.{is_rank, is_tuple_rank, value_kind, kind_by, kind_in, leaf_by, leaf_in, type_in, IsFound}
+use Rattle.dpl_typer.specs.Leaves.{is_rank, is_tuple_rank, kind_by, kind_in, leaf_by, leaf_in, type_in, IsFound}
 use Rattle.dpl_typer.specs.Shapes.{shape_of, shape_by}
 use Rattle.dpl_typer.specs.Simple.{AreSimpleItems}
 use Rattle.dpl_typer.specs.Sights.{bound_in, over_by, sight_of, IsKnownScope, AreKnownScopes}

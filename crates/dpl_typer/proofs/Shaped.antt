@@ -1,6 +1,6 @@
 -- In a memory in which each name in sight has a value of its shape, an item has a value of the type that the check gives it.
 -- So the shape of what a name is given, and of what a loop gives its variable, is known before the run.
-use Rattle.std.proofs.Common.{◌≡◌, ℕ, suc, ℤ, Bool, true, false, List, [], ◌∷◌, ◌++◌, length, is_some, Option, Some, None, Ok, refl, sym, ap, ◌∙◌, subst, map}
+use Rattle.std.proofs.Common.{◌≡◌, ℕ, suc, ℤ, Bool, true, false, List, [], ◌∷◌, length, is_some, Option, Some, None, Ok, refl, sym, ap, ◌∙◌, subst, map}
 use Rattle.std.specs.Prelude.{All, option_map, flat_map, ◌&&◌, ◌||◌, ◌==◌, not, if◌then◌else◌}
 use Rattle.std.proofs.lemmas.Bool.Decides.{Decides-eqb}
 use Rattle.std.proofs.lemmas.List.Elements.{All-nil, All-cons, All-append, All-map, All-weaker}
@@ -17,7 +17,7 @@ use Rattle.dpl_language.specs.Expressions.{item_of}
 use Rattle.dpl_agreement.specs.Renamed.{renamed_item}
 use Rattle.dpl_agreement.proofs.Through.{through, item_of-through_at}
 use Rattle.dpl_agreement.proofs.RenamedTwice.{renamed_item-twice}
-use Rattle.dpl_rules.specs.Types.{Over, ValueType, Scalar, Range, Domain, Array, Promoted, Tuple, Locale, AllLocales, Cell}
+use Rattle.dpl_rules.specs.Types.{ValueType, Scalar, Range, Domain, Array, Promoted, Tuple, Locale, AllLocales, Cell}
 use Rattle.dpl_rules.specs.Sights.{Declared, Scopes, lookup, type_declared}
 use Rattle.dpl_rules.specs.Expressions.{item_type}
 use Rattle.dpl_rules.specs.Loops.{LoopWord, runs_over, one_type}
@@ -29,11 +29,11 @@ use Rattle.dpl_scopes.specs.Slots.{slot_in}
 use Rattle.dpl_scopes.proofs.Slots.{slot_in-lookup}
 use Rattle.dpl_words.specs.Words.{IntLeaf, TruthLeaf, RangeLeaf}
 use Rattle.dpl_memory.specs.Memory.{VariableKind, PlainKind, DomainKind, TupleKind, ArrayKind, Memory, array_at, held_at, element_as, element_in, value_in, in_memory}
-use Rattle.dpl_memory.specs.Resolved.{Shape, Bound, Seen, variable_of, HasShape, MayHold, IsShaped, Turns}
-use Rattle.dpl_typer.specs.Makers.{is_promoted, kind_if}
+use Rattle.dpl_memory.specs.Resolved.{Bound, Seen, variable_of, HasShape, MayHold, IsShaped, Turns}
+use Rattle.dpl_typer.specs.Makers.{is_promoted}
 use Rattle.dpl_typer.specs.Simple.{IsSimpleItem}
-use Rattle.dpl_typer.specs.Leaves.{is_rank, is_tuple_rank, value_kind, kind_by, kind_in, leaf_by, leaf_in, type_in, IsFound}
-use Rattle.dpl_typer.specs.Shapes.{shape_of, shape_by, shape_in, may_be_strided, takes_shape}
+use Rattle.dpl_typer.specs.Leaves.{is_rank, is_tuple_rank, value_kind, kind_by, kind_in, leaf_by, leaf_in, IsFound}
+use Rattle.dpl_typer.specs.Shapes.{shape_of, shape_by, takes_shape}
 use Rattle.dpl_typer.specs.Sights.{bound_in, sight_of, is_promoted_type, is_promoted_by, AreKnownScopes}
 use Rattle.dpl_typer.proofs.OperatorKinds.{kind_if-some}
 use Rattle.dpl_typer.proofs.Sights.{HasKnownKind, lookup-known, innermost-found}

@@ -11,7 +11,7 @@ use Rattle.dpl_memory.specs.Memory.{Variable, VariableKind}
 use Rattle.dpl_memory.specs.Resolved.{Shape, Sighted, Known, known_in, or_known, innermost, IsUnusedIn, IsUnused, bind}
 use Rattle.dpl_typer.specs.Leaves.{kind_by, leaf_by, leaf_in, IsFound}
 use Rattle.dpl_typer.specs.Shapes.{shape_by, shape_in}
-use Rattle.dpl_typer.specs.Sights.{bound_at, sighted_at, frame_from, sight_of, is_promoted_by, IsKnownScope, AreKnownScopes}
+use Rattle.dpl_typer.specs.Sights.{sighted_at, frame_from, sight_of, is_promoted_by, IsKnownScope, AreKnownScopes}
 
 -- A NAME'S KIND, SLOT AND SHAPE
 abbrev known_of : Variable → Shape → Known

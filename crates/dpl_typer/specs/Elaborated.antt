@@ -4,16 +4,16 @@ use Rattle.std.specs.Prelude.{◌≡◌, ℕ, true, false, ◌&&◌, List, [], �
 use Rattle.dpl_syntax.specs.declared.place.Place.{Place}
 use Rattle.dpl_language.specs.Phrases.{Base, BaseName, BaseLocales, OtherBase}
 use Rattle.dpl_language.specs.Spelled.{HasPosts}
-use Rattle.dpl_language.specs.Tree.{Placed, ExprTree, Named, Chain, Postfixed, ItemTree, RangeItem, Stride, Links, Posts, NoPosts, Post, PostTree, Brackets, Rounds, Dotted, MethodTree, Contains, Expand, Items, Exprs}
+use Rattle.dpl_language.specs.Tree.{Placed, ExprTree, Named, DomainLiteral, Chain, Postfixed, ItemTree, One, RangeItem, Stride, Links, Posts, NoPosts, Post, PostTree, Brackets, Rounds, Dotted, MethodTree, Contains, Expand, Items, FirstItem, NoItems, NextItem, Exprs}
 use Rattle.dpl_language.specs.Names.{Text}
 use Rattle.dpl_agreement.specs.Renamed.{renamed_expr, renamed_item, renamed_stride, renamed_links, renamed_posts, renamed_post, renamed_items, renamed_exprs}
 use Rattle.dpl_rules.specs.Types.{ValueType}
 use Rattle.dpl_rules.specs.Verdicts.{Part, type_by, judged, all_known}
 use Rattle.dpl_rules.specs.Sights.{Scopes}
-use Rattle.dpl_rules.specs.Operators.{ranges_verdict, slice_verdict, index_breaches}
+use Rattle.dpl_rules.specs.Operators.{ranges_verdict, over_verdict, slice_verdict, index_breaches}
 use Rattle.dpl_rules.specs.Expressions.{range_item_verdict, chain_type, posts_type, post_verdict, item_parts, expr_parts}
 use Rattle.dpl_lowered.specs.Known.{may_be_array}
-use Rattle.dpl_lowered.specs.Shapes.{kept, placed, grouped, stacked_on, as_items}
+use Rattle.dpl_lowered.specs.Shapes.{nowhere, kept, placed, grouped, stacked_on, as_items}
 use Rattle.dpl_lowered.specs.LoweredExpressions.{Times, Once, EachTurn, each_turn, rebased, told_base, lowered_expr, lowered_item, lowered_stride, lowered_links, lowered_posts, lowered_post, lowered_items, lowered_exprs}
 use Rattle.dpl_memory.specs.Memory.{VariableKind, PlainKind, DomainKind, TupleKind, ArrayKind, Variable, variable, known_variable}
 use Rattle.dpl_tree.specs.declared.expression.Chain.{Chain as ChainNode, out-Chain}
@@ -25,7 +25,7 @@ use Rattle.dpl_typer.specs.declared.make.Typed.{Typed}
 use Rattle.dpl_typer.specs.declared.pieces.Parts.{Parts}
 use Rattle.dpl_nodes.specs.declared.tree.IndexExpr.{IndexExpr}
 use Rattle.dpl_nodes.specs.Typed.{leaf_named, array_named, index_items, index_exprs}
-use Rattle.dpl_typer.specs.Makers.{typed_view, is_whole, parts_items, parts_kinds, index_kinds}
+use Rattle.dpl_typer.specs.Makers.{typed_view, typed_item, kind_of, is_whole, parts_items, parts_kinds, index_kinds}
 use Rattle.dpl_nodes.specs.Faults.{IsNear}
 use Rattle.dpl_spelling.specs.Spelt.{LinksSpelt, PostsSpelt}
 use Rattle.dpl_typer.specs.Leaves.{leaf_in, is_rank, IsFound, IsOfKind, IsOfType, MayBePlain}
@@ -114,6 +114,22 @@ pub record AreNoParts (ps : List Part) : Type 0 where
   pub index : IsNoIndex ps
   pub ranges : (from : Place) → type_by (ranges_verdict from ps) ≡ None
   pub slice : (last : Place) (rank : ℕ) (t : ValueType) → is_rank rank ≡ true → type_by (slice_verdict last rank ps t) ≡ None
+
+-- A DOMAIN that an array is over, and that a domain is created from: one domain, or ranges
+-- two items or more
+abbrev pub AreMany : Items Text → Type 0
+AreMany (FirstItem i NoItems) = ⊥
+AreMany (FirstItem i (NextItem comma j more)) = Unit {0}
+
+-- these are no domain, and no ranges
+abbrev pub HasNoDomain : List Part → Type 0
+HasNoDomain ps = (from : Place) → type_by (over_verdict from ps) ≡ None
+
+-- what is made of a created domain: the domain literal of what it is created from
+pub record IsCreated (scopes : Scopes) (from : Place) (is : Items Text) (t : Typed) : Type 0 where
+  pub node : typed_item Once t ≡ One (DomainLiteral from (items_leaves scopes is) nowhere)
+  pub kind : kind_of t ≡ DomainKind
+  pub found : AreSimpleItems (IsFound scopes) is
 
 -- POSTS
 -- a base, and what stands behind it

@@ -45,6 +45,9 @@ takes_shape Locale t = false
 takes_shape AllLocales t = false
 takes_shape (Cell k) t = false
 
--- a name of a type may be given what the item gives
+-- a name of a type may be given what is of this type, if it has one; and what the item gives
+abbrev pub IsTakenOf : Option ValueType → ValueType → Type 0
+IsTakenOf o t = (u : ValueType) × (o ≡ Some u) × (takes_shape t u ≡ true)
+
 abbrev pub IsTaken : Scopes → ItemTree Text → ValueType → Type 0
-IsTaken ss i t = (u : ValueType) × (item_type ss i ≡ Some u) × (takes_shape t u ≡ true)
+IsTaken ss i t = IsTakenOf (item_type ss i) t

@@ -3,11 +3,12 @@
 
 ghost use Rattle.std.specs.Prelude.{◌≡◌, true, false, nat_lt, IfOk, IfNone, IfSome, None, Some, Err};
 ghost use Rattle.dpl_language.specs.Phrases.{natural};
-ghost use Rattle.dpl_language.specs.Tree.{DomainLiteral, Plainly, Dim, Expand};
+ghost use Rattle.dpl_language.specs.Tree.{DomainLiteral, One, Plainly, Dim, Expand};
 ghost use Rattle.dpl_lowered.specs.Shapes.{nowhere, kept};
 ghost use Rattle.dpl_lowered.specs.LoweredExpressions.{Times, Once, is_end};
 ghost use Rattle.dpl_tree.specs.Words.{word_view};
-ghost use Rattle.dpl_nodes.specs.Typed.{dotted, domain_view};
+ghost use Rattle.dpl_memory.specs.Memory.{DomainKind};
+ghost use Rattle.dpl_nodes.specs.Typed.{dotted, items_one, domain_view};
 ghost use Rattle.dpl_nodes.specs.Faults.{IsNear};
 ghost use Rattle.dpl_typer.specs.Makers.{typed_view, kind_of, parts_items, parts_kinds, literal_kind, domain_word_kind, is_domain, dim_kind, expand_kind};
 ghost use Rattle.dpl_nodes.specs.declared.make.Stop.TheVariants as stop;
@@ -35,6 +36,23 @@ pub fn literal<'t>(arena: Arena<'t>, from: Place, parts: Parts<'t>) -> Result<Ty
         }
         Parts::Index(_) => Err(Stop::IllTyped),
     }
+}
+
+/// A domain that is created from another one, of the same ranges; that one which is too large would be told at the opening bracket.
+///
+/// # Errors
+/// Out of memory; a place past 2^21, which no text has.
+pub fn created_from<'t>(
+    arena: Arena<'t>,
+    from: Place,
+    base: &'t DomainExpr<'t>,
+) -> Result<Typed<'t>, Stop>
+    ensures node { IfOk result (λ t. (m : Times) → typed_view m t ≡ DomainLiteral from (items_one (One (domain_view base.now))) nowhere) }
+    ensures kind { IfOk result (λ t. kind_of t ≡ DomainKind) }
+    ensures ill_typed { (result ≡ Err stop.IllTyped) → IsNear from → ⊥ }
+{
+    let from = spot(arena, from)?;
+    domain(arena.node(DomainExpr::Created(from, base)))
 }
 
 // A method without arguments of a domain.

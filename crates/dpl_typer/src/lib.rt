@@ -4,6 +4,7 @@
 
 pub mod behind;
 pub mod chain;
+pub mod created;
 pub mod domains;
 pub mod elaborate;
 pub mod leaf;
