@@ -1,5 +1,5 @@
--- What stands in an array's type that breaks no rule is a domain, or 1 to 3 ranges, which make one; and behind an array's name
--- what stands in brackets and breaks no rule is an index.
+-- What stands in an array's type that breaks no rule, and what a domain is created from, is a domain, or 1 to 3 ranges, which make one;
+-- and behind an array's name what stands in brackets and breaks no rule is an index.
 use Rattle.std.proofs.Common.{◌≡◌, ℕ, Bool, true, List, [], ◌∷◌, ◌++◌, length, is_some, Option, Some, None, refl, sym, ap, ◌∙◌, subst}
 use Rattle.std.specs.Prelude.{◌&&◌}
 use Rattle.std.proofs.lemmas.Option.{none-some}
@@ -18,7 +18,7 @@ use Rattle.dpl_rules.specs.Declarations.{domain_in, base_over, over_domain, arra
 use Rattle.dpl_rules.proofs.Admission.{first_empty, second_empty}
 use Rattle.dpl_sound.proofs.Given.{some-same, judged-gives}
 use Rattle.dpl_sound.proofs.Known.{IsTold, told-typed, judged-told, items-known}
-use Rattle.dpl_memory.specs.Memory.{VariableKind, ArrayKind}
+use Rattle.dpl_memory.specs.Memory.{VariableKind, DomainKind, ArrayKind}
 use Rattle.dpl_typer.specs.Makers.{kind_if}
 use Rattle.dpl_typer.specs.Leaves.{is_rank, value_kind, kind_by, IsOfKind}
 use Rattle.dpl_typer.specs.Elaborated.{AreOfKinds, IsNoIndex}
@@ -27,11 +27,11 @@ use Rattle.dpl_runnable.proofs.Expressions.{kind-cases, some-rank, few, known, R
 use Rattle.dpl_runnable.proofs.Owed.{array-kind}
 
 -- ---- what an array is over
-record IsSpread (t : ValueType) : Type 0 where
-  rank : ℕ
-  strided : Bool
-  is : t ≡ Domain rank strided
-  ranked : is_rank rank ≡ true
+pub record IsSpread (t : ValueType) : Type 0 where
+  pub rank : ℕ
+  pub strided : Bool
+  pub is : t ≡ Domain rank strided
+  pub ranked : is_rank rank ≡ true
 
 module _ (from : Place) where
   -- the verdict is looked at
@@ -95,15 +95,31 @@ module _ (scopes : Scopes) (P : Place → Type 0) (names : AreVariables scopes) 
       by [] g = absurd g
       by (k ∷ ks) g = over_verdict-spread from _ _ k g.0 t e
 
+  -- so what breaks no rule has such a type
+  module _ (from : Place) (items : Items Text) (s : ItemsSpelt P items) (c : closed_items items ≡ None) (h : items_breaches scopes items ++ broken_by (over_verdict from (item_parts scopes items)) ≡ []) where
+    pub over-spread : (t : ValueType) × (type_by (over_verdict from (item_parts scopes items)) ≡ Some t) × IsSpread t
+    over-spread =
+        let verdict = over_verdict from (item_parts scopes items) in
+        let own = first_empty (items_breaches scopes items) (broken_by verdict) h in
+        let told = over_verdict-told from (item_parts scopes items) (items-known scopes (known scopes P names) items own) in
+        let typed = told-typed verdict told (second_empty (items_breaches scopes items) (broken_by verdict) h) in
+        (typed.0, typed.1, items-spread from items (runnable_items scopes P names items s c own) typed.0 typed.1)
+
+    -- and a created domain is one
+    pub created-kind : kind_by (type_by (over_verdict from (item_parts scopes items))) ≡ Some DomainKind
+    created-kind = let (t, e, spread) = over-spread in ap kind_by (e ∙ ap Some spread.is) ∙ ap (λ b. kind_if b DomainKind) spread.ranked
+
+    pub created-named : IsNamed (type_by (over_verdict from (item_parts scopes items)))
+    created-named =
+        let (t, e, spread) = over-spread in
+        subst IsNamed (sym (e ∙ ap Some spread.is)) (record { kind = DomainKind; type = _; is = refl; of_kind = ap (λ b. kind_if b DomainKind) spread.ranked; single = refl })
+
   -- a type that breaks no rule is one of arrays
   pub array_type-named : (self : Origin) (a : ArrayTypeTree Text) → ItemsSpelt P a.over → closed_items a.over ≡ None
       → items_breaches scopes a.over ++ broken_by (over_verdict a.from (item_parts scopes a.over)) ≡ [] → IsNamed (array_type scopes self a)
   array_type-named self a s c h =
-      let verdict = over_verdict a.from (item_parts scopes a.over) in
-      let own = first_empty (items_breaches scopes a.over) (broken_by verdict) h in
-      let told = over_verdict-told a.from (item_parts scopes a.over) (items-known scopes (known scopes P names) a.over own) in
-      let typed = told-typed verdict told (second_empty (items_breaches scopes a.over) (broken_by verdict) h) in
-      over_domain-named scopes self a (type_by verdict) typed.0 typed.1 (items-spread a.from a.over (runnable_items scopes P names a.over s c own) typed.0 typed.1)
+      let (t, e, spread) = over-spread a.from a.over s c h in
+      over_domain-named scopes self a (type_by (over_verdict a.from (item_parts scopes a.over))) t e spread
 
 -- ---- elements
 -- what has elements is an array, and what stands in the brackets is an index of it

@@ -1,32 +1,32 @@
 -- Declarations that a text spells, that need nothing which doesn't run and that break no rule are those of runnable programs: the
--- type is `int`, `bool`, `domain` without a map or an array's or isn't written, and the value is of the variable's kind and its
--- shape, or one that an array's elements may be given.
+-- type is `int`, `bool`, `domain` or an array's or isn't written, and the value is of the variable's kind and its shape, or one that an
+-- array's elements may be given. A map may stand where the rules let it.
 use Rattle.std.proofs.Common.{◌≡◌, ℕ, Bool, true, false, List, [], ◌∷◌, ◌++◌, Option, Some, None, refl, sym, ap, ◌∙◌, subst}
 use Rattle.std.specs.Prelude.{not, ◌&&◌, ◌||◌}
 use Rattle.std.proofs.Math.Bool.{or-not_self}
 use Rattle.std.proofs.lemmas.Bool.{eq-eqb}
 use Rattle.dpl_syntax.specs.declared.place.Place.{Place}
 use Rattle.dpl_syntax.specs.declared.refusal.Breach.{Breach}
-use Rattle.dpl_syntax.specs.declared.refusal.Code.TheVariants.{NameTwice}
-use Rattle.dpl_language.specs.Tree.{ItemTree, MappedTree, ArrayTypeTree, TypeTree, ScalarType, SyncType, DomainType, ArrayType, InitTree, ItemInit, CreateInit, TypedTree, InitialTree, DeclareTree}
+use Rattle.dpl_syntax.specs.declared.refusal.Code.TheVariants.{NameTwice, WrongType}
+use Rattle.dpl_language.specs.Tree.{ItemTree, MappedTree, ArrayTypeTree, TypeTree, ScalarType, SyncType, DomainType, ArrayType, CreateTree, InitTree, ItemInit, CreateInit, TypedTree, InitialTree, DeclareTree}
 use Rattle.dpl_language.specs.Names.{Text}
 use Rattle.dpl_language.specs.Declarations.{type_of as written_type}
 use Rattle.dpl_language.specs.Spelled.{SaysType}
 use Rattle.dpl_grammar.specs.Each.{IfThere}
 use Rattle.dpl_spelling.specs.Spelt.{TypeSpelt, InitSpelt, TypedSpelt, InitialSpelt, DeclareSpelt}
-use Rattle.dpl_closed.specs.Closed.{in_optional, closed_item, closed_mapped, closed_type, closed_typed, closed_init, closed_initial, closed_declare}
+use Rattle.dpl_closed.specs.Closed.{in_optional, closed_type, closed_typed, closed_init, closed_initial, closed_declare}
 use Rattle.dpl_rules.specs.Types.{Origin, ValueType, Scalar, Domain, Array, is_any_scalar}
-use Rattle.dpl_rules.specs.Verdicts.{type_by, broken_by, owed, owed_type}
+use Rattle.dpl_rules.specs.Verdicts.{type_by, broken_by, breach, owed, owed_type}
 use Rattle.dpl_rules.specs.Places.{first_of_item}
 use Rattle.dpl_rules.specs.Sights.{Scopes, declared_here, origin_in}
 use Rattle.dpl_rules.specs.Operators.{over_verdict}
 use Rattle.dpl_rules.specs.Expressions.{item_type, item_parts, items_breaches, side_part, side_breaches}
 use Rattle.dpl_rules.specs.Maps.{mapped_breaches}
-use Rattle.dpl_rules.specs.Declarations.{domain_in, type_rank, is_initial, is_kept, is_untyped, unless_refused, declared_type, agreeing, unmapped, init_part, type_breaches, untyped_breaches, typed_breaches, typed_initial, config_type, config_by, config_breaches, written_breaches, type_given, declaration_breaches}
+use Rattle.dpl_rules.specs.Declarations.{domain_in, type_rank, is_initial, is_kept, is_untyped, unless_refused, declared_type, agreeing, unmapped, init_part, create_breaches, type_breaches, untyped_breaches, typed_breaches, typed_initial, config_type, config_by, config_breaches, written_breaches, type_given, declaration_breaches}
 use Rattle.dpl_rules.proofs.Admission.{first_empty, second_empty}
 use Rattle.dpl_sound.proofs.Given.{some-same, owed_not-holds}
 use Rattle.dpl_words.specs.Words.{RangeLeaf}
-use Rattle.dpl_memory.specs.Memory.{VariableKind, PlainKind}
+use Rattle.dpl_memory.specs.Memory.{VariableKind, PlainKind, DomainKind}
 use Rattle.dpl_typer.specs.Leaves.{value_kind, kind_by}
 use Rattle.dpl_typer.specs.Shapes.{takes_shape}
 use Rattle.dpl_typer.proofs.OperatorKinds.{kind-same}
@@ -35,8 +35,8 @@ use Rattle.dpl_runnable.specs.Kinds.{IsVariable, AreVariables, IsScalarKind, IsD
 use Rattle.dpl_runnable.specs.Runnable.{IsRunnableType, IsInitOf, IsInitialOf, IsShapedInit, IsShapedInitial, IsConfigOf, IsRunnableDeclare}
 use Rattle.dpl_runnable.proofs.Expressions.{kind-cases, first_open, second_open, RunnableItem, runnable_items}
 use Rattle.dpl_runnable.proofs.Owed.{owed_type-holds, scalar-by, is_any_scalar-kind, is_domain-kind, same-given, is_scalar-given, is_domain_of-given, fits_array-given}
-use Rattle.dpl_runnable.proofs.Arrays.{over_domain-array, array_type-kind}
-use Rattle.dpl_runnable.proofs.Scopes.{side-item, runnable_side, domain_type-rank, declared_by-variable}
+use Rattle.dpl_runnable.proofs.Arrays.{over-spread, created-kind, over_domain-array, array_type-kind}
+use Rattle.dpl_runnable.proofs.Scopes.{is_untyped-kept, side-item, runnable_side, domain_type-rank, declared_by-variable}
 
 -- ---- kinds
 -- what is kept without a type
@@ -54,15 +54,11 @@ is_kept-shaped =
     (λ rank s r h. ap (λ b. b && (s || not s)) (eq-eqb rank rank refl) ∙ or-not_self s) (λ l over r h. absurd cc) (λ l over r h. absurd cc) (λ rank r h. absurd cc)
 
 -- ---- types
-not_mapped : (m : Option (MappedTree Text)) → in_optional closed_mapped m ≡ None → m ≡ None
-not_mapped None c = refl
-not_mapped (Some m) c = absurd cc
-
 module _ (scopes : Scopes) (names : AreVariables scopes) where
   type-runnable : (t : TypeTree Text) → TypeSpelt IsNear t → closed_type t ≡ None → type_breaches scopes t ≡ [] → IsRunnableType scopes (Some t)
   type-runnable (ScalarType at k) s c h = tt
   type-runnable (SyncType at kind_at k) s c h = absurd cc
-  type-runnable (DomainType d) s c h = (not_mapped d.mapped c, domain_type-rank scopes IsNear names d h)
+  type-runnable (DomainType d) s c h = domain_type-rank scopes IsNear names d h
   type-runnable (ArrayType a) s c h =
       let own = first_empty (items_breaches scopes a.over) (broken_by (over_verdict a.from (item_parts scopes a.over))) h in
       ((runnable_items scopes IsNear names a.over s.1 c own).simple, s.1, s.0)
@@ -83,37 +79,43 @@ module _ (scopes : Scopes) (names : AreVariables scopes) where
 
   untyped-init : (init : InitTree Text) (k : VariableKind) → InitSpelt IsNear init → closed_init init ≡ None → untyped_breaches scopes init ≡ [] → kind_by (init_part scopes init).type ≡ Some k
       → IsInitOf scopes init k
-  untyped-init (ItemInit item None) k s c h e =
+  untyped-init (ItemInit item mapped) k s c h e =
       let side = side_breaches scopes item in
-      let kept = owed_type (is_untyped None) (first_of_item item) (side_part scopes item).type in
-      let told = first_empty side kept (first_empty (side ++ kept) (mapped_breaches scopes (type_rank (side_part scopes item).type) None) h) in
-      (k, record { simple = (runnable_side scopes IsNear names item s.0 (first_open (closed_item item) None c) told).simple; kind = side-kind item k e; near = s.0 }, same-given k k refl)
-  untyped-init (ItemInit item (Some m)) k s c h e = let no : Some m.at ≡ None = second_open (closed_item item) (Some m.at) c in absurd cc
-  untyped-init (CreateInit m) k s c h e = absurd cc
+      let kept = owed_type (is_untyped mapped) (first_of_item item) (side_part scopes item).type in
+      let told = first_empty side kept (first_empty (side ++ kept) (mapped_breaches scopes (type_rank (side_part scopes item).type) mapped) h) in
+      (k, record { simple = (runnable_side scopes IsNear names item s.0 c told).simple; kind = side-kind item k e; near = s.0 }, same-given k k refl)
+  untyped-init (CreateInit m) k s c h e =
+      let own = first_empty (items_breaches scopes m.items) (broken_by (over_verdict m.from (item_parts scopes m.items))) h in
+      let kind = created-kind scopes IsNear names m.from m.items s.4 c h in
+      (record { simple = (runnable_items scopes IsNear names m.items s.4 c own).simple; kind = kind; near = s.4; from = s.3 }, kind-same k DomainKind (sym e ∙ kind))
 
   -- beside a type a value that is written is of a type that may be given to it at first
   record IsFirst (t : ValueType) (item : ItemTree Text) : Type 0 where
     value : RunnableItem scopes IsNear names item
     fit : is_initial t value.variable.type ≡ true
 
-  typed-first : (t : ValueType) (item : ItemTree Text) → InitSpelt IsNear (ItemInit item None) → closed_init (ItemInit item None) ≡ None → typed_breaches scopes (Some t) (ItemInit item None) ≡ [] → IsFirst t item
-  typed-first t item s c h =
+  typed-first : (t : ValueType) (item : ItemTree Text) (mapped : Option (MappedTree Text)) → InitSpelt IsNear (ItemInit item mapped) → closed_init (ItemInit item mapped) ≡ None → typed_breaches scopes (Some t) (ItemInit item mapped) ≡ []
+      → IsFirst t item
+  typed-first t item mapped s c h =
       let side = side_breaches scopes item in
       let agrees = agreeing (Some t) (side_part scopes item) in
-      let front = first_empty (side ++ agrees) (unmapped None) (first_empty (side ++ agrees ++ unmapped None) (mapped_breaches scopes (type_rank (side_part scopes item).type) None) h) in
-      let value = runnable_side scopes IsNear names item s.0 (first_open (closed_item item) None c) (first_empty side agrees front) in
+      let front = first_empty (side ++ agrees) (unmapped mapped) (first_empty (side ++ agrees ++ unmapped mapped) (mapped_breaches scopes (type_rank (side_part scopes item).type) mapped) h) in
+      let value = runnable_side scopes IsNear names item s.0 c (first_empty side agrees front) in
       let is = side-item scopes IsNear names item ∙ value.variable.is in
       record { value = value; fit = owed_type-holds (is_initial t) (side_part scopes item).at (side_part scopes item).type value.variable.type is (second_empty side agrees front) }
+
+  -- and a created domain stands beside none
+  untyped-created : (o : Option ValueType) (m : CreateTree Text) → typed_breaches scopes o (CreateInit m) ≡ [] → ⊥
+  untyped-created o m h = let none : breach m.at WrongType ≡ [] = second_empty (create_breaches scopes m) (breach m.at WrongType) h in cc
 
   -- a value fits a type that it may be given to at first
   typed-init : (t : ValueType) (k : VariableKind) → ((u : ValueType) (j : VariableKind) → value_kind u ≡ Some j → is_initial t u ≡ true → IsGivenTo k j)
       → (init : InitTree Text) → InitSpelt IsNear init → closed_init init ≡ None → typed_breaches scopes (Some t) init ≡ [] → IsInitOf scopes init k
-  typed-init t k fits (ItemInit item None) s c h =
-      let first = typed-first t item s c h in
+  typed-init t k fits (ItemInit item mapped) s c h =
+      let first = typed-first t item mapped s c h in
       let p = first.value.variable in
       (p.kind, record { simple = first.value.simple; kind = ap kind_by p.is ∙ p.of_kind; near = s.0 }, fits p.type p.kind p.of_kind first.fit)
-  typed-init t k fits (ItemInit item (Some m)) s c h = let no : Some m.at ≡ None = second_open (closed_item item) (Some m.at) c in absurd cc
-  typed-init t k fits (CreateInit m) s c h = absurd cc
+  typed-init t k fits (CreateInit m) s c h = absurd (untyped-created (Some t) m h)
 
   type-initial : (t : TypeTree Text) (i : Option (InitialTree Text)) (self : Origin) (k : VariableKind) → IfThere (InitialSpelt IsNear) i → closed_type t ≡ None → in_optional closed_initial i ≡ None
       → typed_initial scopes (declared_type scopes self t) i ≡ [] → kind_by (declared_type scopes self t) ≡ Some k → IsInitialOf scopes (Some t) i k
@@ -137,17 +139,15 @@ module _ (scopes : Scopes) (names : AreVariables scopes) where
       type-initial t.type i self k s v c (second_empty (type_breaches scopes t.type) (typed_initial scopes (declared_type scopes self t.type) i) h) e
 
   -- ---- what a declaration gives a name
-  untyped-kept : (item : ItemTree Text) (p : IsVariable (side_part scopes item).type) → untyped_breaches scopes (ItemInit item None) ≡ [] → is_kept p.type ≡ true
-  untyped-kept item p h =
+  untyped-kept : (init : InitTree Text) (p : IsVariable (init_part scopes init).type) → InitSpelt IsNear init → closed_init init ≡ None → untyped_breaches scopes init ≡ [] → is_kept p.type ≡ true
+  untyped-kept (ItemInit item mapped) p s c h =
       let side = side_breaches scopes item in
-      let kept = owed_type (is_untyped None) (first_of_item item) (side_part scopes item).type in
-      let told = second_empty side kept (first_empty (side ++ kept) (mapped_breaches scopes (type_rank (side_part scopes item).type) None) h) in
-      owed_type-holds (is_untyped None) (first_of_item item) (side_part scopes item).type p.type p.is told
-
-  init-kept : (init : InitTree Text) (p : IsVariable (init_part scopes init).type) → closed_init init ≡ None → untyped_breaches scopes init ≡ [] → IsDeclaredKind p.kind
-  init-kept (ItemInit item None) p c h = is_kept-kind p.type p.kind p.of_kind (untyped-kept item p h)
-  init-kept (ItemInit item (Some m)) p c h = let no : Some m.at ≡ None = second_open (closed_item item) (Some m.at) c in absurd cc
-  init-kept (CreateInit m) p c h = absurd cc
+      let kept = owed_type (is_untyped mapped) (first_of_item item) (side_part scopes item).type in
+      let told = second_empty side kept (first_empty (side ++ kept) (mapped_breaches scopes (type_rank (side_part scopes item).type) mapped) h) in
+      is_untyped-kept mapped p.type (owed_type-holds (is_untyped mapped) (first_of_item item) (side_part scopes item).type p.type p.is told)
+  untyped-kept (CreateInit m) p s c h =
+      let (t, e, spread) = over-spread scopes IsNear names m.from m.items s.4 c h in
+      subst (λ t. is_kept t ≡ true) (sym spread.is ∙ some-same t p.type (sym e ∙ p.is)) refl
 
   type-kept : (t : TypeTree Text) (self : Origin) (k : VariableKind) → closed_type t ≡ None → kind_by (declared_type scopes self t) ≡ Some k → IsDeclaredKind k
   type-kept (ScalarType at l) self k c e = scalar-by IsDeclaredKind tt tt l k e
@@ -155,26 +155,24 @@ module _ (scopes : Scopes) (names : AreVariables scopes) where
   type-kept (DomainType d) self k c e = subst IsDeclaredKind (sym (is_domain-kind (Domain d.rank false) k e refl)) tt
   type-kept (ArrayType a) self k c e = subst IsDeclaredKind (array_type-kind scopes self a (spread a) k e).2 tt
 
-  written-kept : (w : Option (TypedTree Text)) (i : Option (InitialTree Text)) (self : Origin) (p : IsVariable (type_given scopes self (written_type w) i)) → SaysType w i
+  written-kept : (w : Option (TypedTree Text)) (i : Option (InitialTree Text)) (self : Origin) (p : IsVariable (type_given scopes self (written_type w) i)) → SaysType w i → IfThere (InitialSpelt IsNear) i
       → in_optional closed_typed w ≡ None → in_optional closed_initial i ≡ None → written_breaches scopes self (written_type w) i ≡ [] → IsDeclaredKind p.kind
-  written-kept None None self p says v c h = elim says [ ]
-  written-kept None (Some i) self p says v c h = init-kept i.init p c h
-  written-kept (Some t) i self p says v c h = type-kept t.type self p.kind v (ap kind_by p.is ∙ p.of_kind)
+  written-kept None None self p says s v c h = elim says [ ]
+  written-kept None (Some i) self p says s v c h = is_kept-kind p.type p.kind p.of_kind (untyped-kept i.init p s.1 c h)
+  written-kept (Some t) i self p says s v c h = type-kept t.type self p.kind v (ap kind_by p.is ∙ p.of_kind)
 
   -- ---- the shape of what a declaration gives a name
-  untyped-shaped : (init : InitTree Text) (p : IsVariable (init_part scopes init).type) → closed_init init ≡ None → untyped_breaches scopes init ≡ [] → IsShapedInit scopes init p.type
-  untyped-shaped (ItemInit item None) p c h = (p.type, sym (side-item scopes IsNear names item) ∙ p.is, is_kept-shaped p.type p.kind p.of_kind (untyped-kept item p h))
-  untyped-shaped (ItemInit item (Some m)) p c h = let no : Some m.at ≡ None = second_open (closed_item item) (Some m.at) c in absurd cc
-  untyped-shaped (CreateInit m) p c h = absurd cc
+  untyped-shaped : (init : InitTree Text) (p : IsVariable (init_part scopes init).type) → is_kept p.type ≡ true → IsShapedInit scopes init p.type
+  untyped-shaped (ItemInit item mapped) p kept = (p.type, sym (side-item scopes IsNear names item) ∙ p.is, is_kept-shaped p.type p.kind p.of_kind kept)
+  untyped-shaped (CreateInit m) p kept = (p.type, p.is, is_kept-shaped p.type p.kind p.of_kind kept)
 
   typed-shaped : (t : ValueType) → ((u : ValueType) → is_initial t u ≡ true → takes_shape t u ≡ true)
       → (init : InitTree Text) → InitSpelt IsNear init → closed_init init ≡ None → typed_breaches scopes (Some t) init ≡ [] → IsShapedInit scopes init t
-  typed-shaped t fits (ItemInit item None) s c h =
-      let first = typed-first t item s c h in
+  typed-shaped t fits (ItemInit item mapped) s c h =
+      let first = typed-first t item mapped s c h in
       let p = first.value.variable in
       (p.type, p.is, fits p.type first.fit)
-  typed-shaped t fits (ItemInit item (Some m)) s c h = let no : Some m.at ≡ None = second_open (closed_item item) (Some m.at) c in absurd cc
-  typed-shaped t fits (CreateInit m) s c h = absurd cc
+  typed-shaped t fits (CreateInit m) s c h = absurd (untyped-created (Some t) m h)
 
   type-shaped : (t : TypeTree Text) (i : InitTree Text) (self : Origin) (u : ValueType) → InitSpelt IsNear i → closed_type t ≡ None → closed_init i ≡ None
       → typed_breaches scopes (declared_type scopes self t) i ≡ [] → declared_type scopes self t ≡ Some u → IsShapedInit scopes i u
@@ -188,7 +186,7 @@ module _ (scopes : Scopes) (names : AreVariables scopes) where
   written-shaped : (w : Option (TypedTree Text)) (i : Option (InitialTree Text)) (self : Origin) (p : IsVariable (type_given scopes self (written_type w) i)) → IfThere (InitialSpelt IsNear) i
       → in_optional closed_typed w ≡ None → in_optional closed_initial i ≡ None → written_breaches scopes self (written_type w) i ≡ [] → IsShapedInitial scopes i p.type
   written-shaped w None self p s v c h = tt
-  written-shaped None (Some i) self p s v c h = untyped-shaped i.init p c h
+  written-shaped None (Some i) self p s v c h = untyped-shaped i.init p (untyped-kept i.init p s.1 c h)
   written-shaped (Some t) (Some i) self p s v c h =
       type-shaped t.type i.init self p.type s.1 v c (second_empty (type_breaches scopes t.type) (typed_breaches scopes (declared_type scopes self t.type) i.init) h) p.is
 
@@ -236,7 +234,7 @@ module _ (scopes : Scopes) (names : AreVariables scopes) where
         kind = declared.kind;
         initial = written-initial d.typed d.initial self declared.kind s.0 s.5 typed initial told (ap kind_by variable.is ∙ variable.of_kind);
         declared = ap kind_by declared.is ∙ declared.of_kind;
-        kept = written-kept d.typed d.initial self variable s.0 typed initial told;
+        kept = written-kept d.typed d.initial self variable s.0 s.5 typed initial told;
         shaped = λ t e. subst (IsShapedInitial scopes d.initial) (some-same declared.type t (sym declared.is ∙ e)) (written-shaped d.typed d.initial self variable s.5 typed initial told);
         fresh = owed_not-holds (declared_here scopes d.name.name) d.name.at NameTwice (first_empty once written front);
         config = config-kind d.config d self variable s.0 typed (second_empty (once ++ written) config h);

@@ -6,7 +6,7 @@ use Rattle.std.proofs.lemmas.Option.{none-some}
 use Rattle.std.proofs.lemmas.Bool.Decides.{nat_tests}
 use Rattle.dpl_syntax.specs.declared.place.Place.{Place}
 use Rattle.dpl_syntax.specs.declared.refusal.Breach.{Breach}
-use Rattle.dpl_language.specs.Tree.{Placed, Kind, IntKind, BoolKind, ItemTree, One, RangeItem, VariablesTree, OneVariable, ManyVariables, DomainTypeTree, TypeTree, ScalarType, SyncType, DomainType, ArrayType, InitTree, ItemInit, CreateInit, TypedTree, InitialTree, DeclareTree, Declare}
+use Rattle.dpl_language.specs.Tree.{Placed, Kind, IntKind, BoolKind, ItemTree, One, RangeItem, VariablesTree, OneVariable, ManyVariables, MappedTree, DomainTypeTree, TypeTree, ScalarType, SyncType, DomainType, ArrayType, InitTree, ItemInit, CreateInit, TypedTree, InitialTree, DeclareTree, Declare}
 use Rattle.dpl_language.specs.Names.{Text}
 use Rattle.dpl_language.specs.Phrases.{ReadTree, item_read}
 use Rattle.dpl_language.specs.Declarations.{type_of as written_type}
@@ -15,7 +15,7 @@ use Rattle.dpl_grammar.specs.Each.{IfThere}
 use Rattle.dpl_spelling.specs.Spelt.{ItemSpelt, TypeSpelt, InitSpelt, TypedSpelt, InitialSpelt, DeclareSpelt}
 use Rattle.dpl_closed.specs.Closed.{in_optional, closed_item, closed_type, closed_typed, closed_init, closed_initial, closed_declare}
 use Rattle.dpl_syntax.specs.declared.refusal.Code.TheVariants.{WrongType, WrongRank}
-use Rattle.dpl_rules.specs.Types.{Origin, ValueType, Scalar, Range, Domain, Array, Promoted, Tuple, Locale, AllLocales, Cell, an_int, cell_of}
+use Rattle.dpl_rules.specs.Types.{Origin, ValueType, Scalar, Range, Domain, Array, Promoted, Tuple, Locale, AllLocales, Cell, is_domain, an_int, cell_of}
 use Rattle.dpl_rules.specs.Verdicts.{owed, owed_type, breach}
 use Rattle.dpl_rules.specs.Places.{first_of_item, first_of_variables}
 use Rattle.dpl_rules.specs.Sights.{Declared, LoopVariable, Scopes, find, or_else, lookup, type_declared, origin_in, add, enter}
@@ -32,7 +32,7 @@ use Rattle.dpl_typer.specs.Makers.{kind_if}
 use Rattle.dpl_typer.specs.Leaves.{is_rank, is_tuple_rank, value_kind}
 use Rattle.dpl_typer.specs.Sights.{is_promoted_type}
 use Rattle.dpl_runnable.specs.Kinds.{IsVariable, IsNamed, AreVariables}
-use Rattle.dpl_runnable.proofs.Arrays.{array_type-named}
+use Rattle.dpl_runnable.proofs.Arrays.{created-named, array_type-named}
 use Rattle.dpl_runnable.proofs.Owed.{owed-holds, owed_type-holds}
 use Rattle.dpl_runnable.proofs.Expressions.{kind-cases, first_open, second_open, not_bare, RunnableItem, runnable_item}
 
@@ -71,6 +71,22 @@ is_kept-single (Tuple rank) h = refl
 is_kept-single Locale h = refl
 is_kept-single AllLocales h = refl
 is_kept-single (Cell k) h = refl
+
+-- what is mapped is a domain, which may be kept too
+pub is_domain-kept : (t : ValueType) → is_domain t ≡ true → is_kept t ≡ true
+is_domain-kept (Scalar k) h = absurd cc
+is_domain-kept (Range strided) h = absurd cc
+is_domain-kept (Domain rank strided) h = refl
+is_domain-kept (Array k over) h = absurd cc
+is_domain-kept (Promoted k over) h = absurd cc
+is_domain-kept (Tuple rank) h = absurd cc
+is_domain-kept Locale h = absurd cc
+is_domain-kept AllLocales h = absurd cc
+is_domain-kept (Cell k) h = absurd cc
+
+pub is_untyped-kept : (mapped : Option (MappedTree Text)) (t : ValueType) → is_untyped mapped t ≡ true → is_kept t ≡ true
+is_untyped-kept None t h = h
+is_untyped-kept (Some m) t h = is_domain-kept t h
 
 -- the ranks that a domain's type may have
 pub one_to_three : (rank : ℕ) → (nat_le 1 rank && nat_le rank 3) ≡ true → is_rank rank ≡ true
@@ -158,15 +174,14 @@ module _ (scopes : Scopes) (P : Place → Type 0) (names : AreVariables scopes) 
 
   -- ---- declarations
   init-variable : (init : InitTree Text) → InitSpelt P init → closed_init init ≡ None → untyped_breaches scopes init ≡ [] → IsNamed (init_part scopes init).type
-  init-variable (ItemInit item None) s c h =
+  init-variable (ItemInit item mapped) s c h =
       let side = side_breaches scopes item in
-      let kept = owed_type (is_untyped None) (first_of_item item) (side_part scopes item).type in
-      let front = first_empty (side ++ kept) (mapped_breaches scopes (type_rank (side_part scopes item).type) None) h in
-      let p = side-variable item s.0 (first_open (closed_item item) None c) (first_empty side kept front) in
-      let told = owed_type-holds (is_untyped None) (first_of_item item) (side_part scopes item).type p.type p.is (second_empty side kept front) in
-      record { kind = p.kind; type = p.type; is = p.is; of_kind = p.of_kind; single = is_kept-single p.type told }
-  init-variable (ItemInit item (Some m)) s c h = let no : Some m.at ≡ None = second_open (closed_item item) (Some m.at) c in absurd cc
-  init-variable (CreateInit m) s c h = absurd cc
+      let kept = owed_type (is_untyped mapped) (first_of_item item) (side_part scopes item).type in
+      let front = first_empty (side ++ kept) (mapped_breaches scopes (type_rank (side_part scopes item).type) mapped) h in
+      let p = side-variable item s.0 c (first_empty side kept front) in
+      let told = owed_type-holds (is_untyped mapped) (first_of_item item) (side_part scopes item).type p.type p.is (second_empty side kept front) in
+      record { kind = p.kind; type = p.type; is = p.is; of_kind = p.of_kind; single = is_kept-single p.type (is_untyped-kept mapped p.type told) }
+  init-variable (CreateInit m) s c h = created-named scopes P names m.from m.items s.4 c h
 
   -- a domain's type has a rank
   pub domain_type-rank : (d : DomainTypeTree Text) → type_breaches scopes (DomainType d) ≡ [] → (nat_le 1 d.rank && nat_le d.rank 3) ≡ true

@@ -2,7 +2,7 @@
 -- Inside a forall its reduce variables are known, with their slots; `is` has them.
 use Rattle.std.specs.Prelude.{◌≡◌, ◌≢◌, ℕ, nat_le, true, false, ◌&&◌, List, [], ◌∷◌, Option, Some, None}
 use Rattle.dpl_syntax.specs.declared.place.Place.{Place}
-use Rattle.dpl_language.specs.Tree.{Op, Assign, Set, SetAdd, SetSubtract, SetMultiply, SetDivide, SetRemainder, SetReduce, Placed, Kind, ExprTree, Named, Exprs, ItemTree, TypeTree, ScalarType, SyncType, DomainType, ArrayType, InitTree, ItemInit, CreateInit, InitialTree, DeclareTree}
+use Rattle.dpl_language.specs.Tree.{Op, Assign, Set, SetAdd, SetSubtract, SetMultiply, SetDivide, SetRemainder, SetReduce, Placed, Kind, ExprTree, Named, Exprs, ItemTree, TypeTree, ScalarType, SyncType, DomainType, ArrayType, CreateTree, InitTree, ItemInit, CreateInit, InitialTree, DeclareTree}
 use Rattle.dpl_language.specs.Tree.{ArgumentTree, TextArgument, ExprArgument, IntentTree, ReduceIntent, RefIntent, WithTree, VariablesTree, OneVariable, ManyVariables, Whole, Element, StmtTree, Nothing, Declare, Assigned, Call, Write, Block, If, While, For, Forall, Coforall, On, Body, WordBody, BlockBody, Stmts, NoStmts, Then, Else, NoElse, ElseDo}
 use Rattle.dpl_language.specs.Names.{Text, paired}
 use Rattle.dpl_language.specs.Phrases.{parts, intents_of}
@@ -11,7 +11,9 @@ use Rattle.dpl_agreement.specs.Renamed.{renamed_intents}
 use Rattle.dpl_language.specs.Writing.{arguments_of}
 use Rattle.dpl_rules.specs.Types.{ValueType, Scalar, Range, Domain, Array, Promoted, Tuple, Locale, AllLocales, Cell}
 use Rattle.dpl_rules.specs.Sights.{Scopes, declared_here, enter}
-use Rattle.dpl_rules.specs.Expressions.{type_of, item_type, expr_parts}
+use Rattle.dpl_rules.specs.Verdicts.{type_by}
+use Rattle.dpl_rules.specs.Operators.{over_verdict}
+use Rattle.dpl_rules.specs.Expressions.{type_of, item_type, item_parts, expr_parts}
 use Rattle.dpl_rules.specs.Declarations.{declared_by}
 use Rattle.dpl_rules.specs.Loops.{ForWord, ForallWord, fits_variables, variables_once, in_loop, behind}
 use Rattle.dpl_scopes.specs.Slots.{slot_in}
@@ -21,7 +23,7 @@ use Rattle.dpl_memory.specs.Resolved.{Bound, text_of, kind_takes, KindCombines}
 use Rattle.dpl_spelling.specs.Spelt.{ExprSpelt, ItemSpelt, ItemsSpelt, ExprsSpelt}
 use Rattle.dpl_nodes.specs.Faults.{IsNear}
 use Rattle.dpl_typer.specs.Leaves.{value_kind, kind_by, type_in, kind_in, MayBePlain}
-use Rattle.dpl_typer.specs.Shapes.{IsTaken}
+use Rattle.dpl_typer.specs.Shapes.{IsTakenOf, IsTaken}
 use Rattle.dpl_typer.specs.Simple.{IsSimple, IsSimpleItem, AreSimpleItems, AreSimpleExprs}
 use Rattle.dpl_typer.specs.Sights.{bound_in}
 use Rattle.dpl_typer.specs.Makers.{leaf_of}
@@ -39,12 +41,13 @@ pub record IsItemOf (ss : Scopes) (i : ItemTree Text) (k : VariableKind) : Type 
   pub kind : kind_by (item_type ss i) ≡ Some k
   pub near : ItemSpelt IsNear i
 
--- DECLARATIONS: `int`, `bool`, `domain` of a rank without a map, an array, or no type; and a value without a map, or the type's default
+-- DECLARATIONS: `int`, `bool`, `domain` of a rank, an array, or no type; and a value, a created domain, or the type's default. Of a map
+-- nothing is asked, since it is never evaluated.
 abbrev pub IsRunnableType : Scopes → Option (TypeTree Text) → Type 0
 IsRunnableType ss None = Unit {0}
 IsRunnableType ss (Some (ScalarType at k)) = Unit {0}
 IsRunnableType ss (Some (SyncType at kind_at k)) = ⊥
-IsRunnableType ss (Some (DomainType d)) = (d.mapped ≡ None) × ((nat_le 1 d.rank && nat_le d.rank 3) ≡ true)
+IsRunnableType ss (Some (DomainType d)) = (nat_le 1 d.rank && nat_le d.rank 3) ≡ true
 IsRunnableType ss (Some (ArrayType a)) = AreSimpleItems (MayBePlain ss) a.over × ItemsSpelt IsNear a.over × IsNear a.from
 
 abbrev pub IsDefaultOf : Option (TypeTree Text) → VariableKind → Type 0
@@ -54,11 +57,20 @@ IsDefaultOf (Some (SyncType at kind_at l)) k = ⊥
 IsDefaultOf (Some (DomainType d)) k = k ≡ DomainKind
 IsDefaultOf (Some (ArrayType a)) k = k ≡ ArrayKind a.kind
 
--- a value of the name's kind, or of what an array's elements may be
+-- a domain that is created from these has the type of what an array over them has for its domain
+abbrev pub created_type : Scopes → CreateTree Text → Option ValueType
+created_type ss c = type_by (over_verdict c.from (item_parts ss c.items))
+
+pub record IsCreatedOf (ss : Scopes) (c : CreateTree Text) (k : VariableKind) : Type 0 where
+  pub simple : AreSimpleItems (MayBePlain ss) c.items
+  pub kind : kind_by (created_type ss c) ≡ Some k
+  pub near : ItemsSpelt IsNear c.items
+  pub from : IsNear c.from
+
+-- a value of the name's kind, or of what an array's elements may be; no array is given a domain
 abbrev pub IsInitOf : Scopes → InitTree Text → VariableKind → Type 0
-IsInitOf ss (ItemInit i None) k = (j : VariableKind) × IsItemOf ss i j × IsGivenTo k j
-IsInitOf ss (ItemInit i (Some m)) k = ⊥
-IsInitOf ss (CreateInit c) k = ⊥
+IsInitOf ss (ItemInit i mapped) k = (j : VariableKind) × IsItemOf ss i j × IsGivenTo k j
+IsInitOf ss (CreateInit c) k = IsCreatedOf ss c DomainKind × (k ≡ DomainKind)
 
 abbrev pub IsInitialOf : Scopes → Option (TypeTree Text) → Option (InitialTree Text) → VariableKind → Type 0
 IsInitialOf ss t None k = IsDefaultOf t k
@@ -66,8 +78,8 @@ IsInitialOf ss t (Some i) k = IsInitOf ss i.init k × IsNear i.equals
 
 -- a written value is of the shape that the declared type takes: a domain of its rank, strided only where it may be
 abbrev pub IsShapedInit : Scopes → InitTree Text → ValueType → Type 0
-IsShapedInit ss (ItemInit i m) t = IsTaken ss i t
-IsShapedInit ss (CreateInit c) t = Unit {0}
+IsShapedInit ss (ItemInit i mapped) t = IsTaken ss i t
+IsShapedInit ss (CreateInit c) t = IsTakenOf (created_type ss c) t
 
 abbrev pub IsShapedInitial : Scopes → Option (InitialTree Text) → ValueType → Type 0
 IsShapedInitial ss None t = Unit {0}
