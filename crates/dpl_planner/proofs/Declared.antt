@@ -5,13 +5,14 @@ use Rattle.std.specs.Prelude.{option_map}
 use Rattle.std.proofs.lemmas.Option.{none-some}
 use Rattle.dpl_syntax.specs.declared.place.Place.{Place}
 use Rattle.dpl_syntax.specs.declared.refusal.Breach.{Breach}
-use Rattle.dpl_language.specs.Tree.{Op, Kind, IntKind, BoolKind, Number, TruthWord, ItemTree, One, TypeTree, ScalarType, SyncType, DomainType, ArrayType, TypedTree, InitTree, ItemInit, CreateInit, InitialTree, DeclareTree, StmtTree, Declare}
+use Rattle.dpl_language.specs.Tree.{Op, Kind, IntKind, BoolKind, Number, TruthWord, DomainLiteral, ItemTree, One, MappedTree, CreateTree, TypeTree, ScalarType, SyncType, DomainType, ArrayType, TypedTree, InitTree, ItemInit, CreateInit, InitialTree, DeclareTree, StmtTree, Declare}
 use Rattle.dpl_language.specs.Names.{Text}
 use Rattle.dpl_language.specs.Values.{Domain as DomainValue, default}
 use Rattle.dpl_language.specs.Ranges.{empty_domain}
 use Rattle.dpl_language.specs.Declarations.{type_of}
-use Rattle.dpl_agreement.specs.Renamed.{renamed_item, renamed_mapped, renamed_typed, renamed_initial}
-use Rattle.dpl_agreement.specs.Scopes.{PlainSort, fits_given}
+use Rattle.dpl_agreement.specs.Renamed.{renamed_item, renamed_items, renamed_init, renamed_typed, renamed_initial}
+use Rattle.dpl_agreement.specs.Scopes.{PlainSort, fits_side, fits_init, fits_given, suits_init}
+use Rattle.dpl_agreement.proofs.RenamedTwice.{renamed_items-twice}
 use Rattle.dpl_tree.specs.Words.{kind_view}
 use Rattle.dpl_rules.specs.Types.{ValueType, Scalar, Domain}
 use Rattle.dpl_rules.specs.Sights.{Declared, Scopes, declared_here, add, origin_in}
@@ -24,15 +25,15 @@ use Rattle.dpl_scopes.specs.declared.declared.Declared.{Declared as DeclaredNode
 use Rattle.dpl_scopes.specs.View.{sort_view, declared_view}
 use Rattle.dpl_scopes.specs.Slots.{next_slot_in}
 use Rattle.dpl_lowered.specs.Shapes.{nowhere, placed, as_item}
-use Rattle.dpl_lowered.specs.LoweredStatements.{default_tree, written_initial, written_type, unplaced_word, declared_type, declared_initial}
-use Rattle.dpl_lowered.specs.LoweredExpressions.{Times, Once}
+use Rattle.dpl_lowered.specs.LoweredStatements.{default_tree, written_initial, written_type, unplaced_word, lowered_init, declared_type, declared_initial}
+use Rattle.dpl_lowered.specs.LoweredExpressions.{Times, Once, lowered_items}
 use Rattle.dpl_words.specs.Words.{LeafKind, IntLeaf, TruthLeaf}
 use Rattle.dpl_memory.specs.Memory.{VariableKind, PlainKind, DomainKind, TupleKind, ArrayKind, Variable, variable, known_variable}
-use Rattle.dpl_memory.specs.Resolved.{Bound, Seen, Start, text_of, variable_of, resolving, MayHold, IsUnused, IsNew, Declares, Suits}
+use Rattle.dpl_memory.specs.Resolved.{Bound, Seen, Start, text_of, variable_of, resolving, MayHold, IsUnused, IsNew, Declares, Suits, Spans}
 use Rattle.dpl_nodes.specs.declared.step.Step.{Step}
 use Rattle.dpl_nodes.specs.Steps.{step_view, dimensions}
 use Rattle.dpl_typer.specs.declared.make.Typed.{Typed}
-use Rattle.dpl_typer.specs.Makers.{typed_view, kind_of, is_promoted}
+use Rattle.dpl_typer.specs.Makers.{typed_view, typed_item, kind_of, is_promoted}
 use Rattle.dpl_typer.specs.Leaves.{value_kind, kind_by, leaf_by}
 use Rattle.dpl_typer.specs.Shapes.{shape_of, shape_by}
 use Rattle.dpl_typer.specs.Sights.{bound_in, sight_of, is_promoted_by, AreKnownScopes}
@@ -40,6 +41,7 @@ use Rattle.dpl_typer.proofs.Sights.{unused_next}
 use Rattle.dpl_typer.proofs.OperatorKinds.{kind-same}
 use Rattle.dpl_typer.proofs.Items.{typed_item-view}
 use Rattle.dpl_typer.proofs.Shaped.{typed-held}
+use Rattle.dpl_typer.proofs.Arrays.{spans-created}
 use Rattle.dpl_runnable.specs.Kinds.{IsScalarKind}
 use Rattle.dpl_runnable.specs.Runnable.{IsDefaultOf, IsConfigOf}
 use Rattle.dpl_planner.specs.declared.progress.Plan.{Plan}
@@ -53,7 +55,8 @@ use Rattle.dpl_planner.specs.Parts.{IsSingleKind, IsWrittenType, begun_kind, beg
 use Rattle.dpl_planner.specs.Plans.{seen_of, intents_in, AreOpen, IsOneScope, PlansStmt}
 use Rattle.dpl_planner.proofs.Scoped.{open-known, plain-add, new-no_array, single-type}
 use Rattle.dpl_planner.proofs.Owed.{one-add, given-before}
-use Rattle.dpl_planner.proofs.Items.{item-text, side-node, item-suited, side-fits}
+use Rattle.dpl_planner.proofs.Items.{side-node, item-suited, side-fits, items-fit}
+use Rattle.dpl_planner.proofs.Mapped.{mapped-back, mapped_item-back, created-back}
 
 -- ---- TYPES
 module _ (ss : Scopes) where
@@ -67,64 +70,83 @@ module _ (ss : Scopes) where
       by_type colon (DomainType d) kinds.Untyped h = absurd h
       by_type colon (DomainType d) (kinds.Scalar k) h = absurd h
       by_type colon (DomainType d) (kinds.Domain rank) h =
-          let unmapped : option_map (renamed_mapped text_of) (option_map (renamed_mapped (bound_in ss)) d.mapped) ≡ d.mapped = ap (λ m. option_map (renamed_mapped text_of) (option_map (renamed_mapped (bound_in ss)) m)) h.0 ∙ sym h.0 in
-          record { spelled = ap (λ m. Some (record { colon = colon; type = DomainType (record d { mapped = m }) })) unmapped; untold = refl; sort = refl; fits_here = λ start g. tt }
+          record { spelled = ap (λ m. Some (record { colon = colon; type = DomainType (record d { mapped = m }) })) (mapped-back ss d.mapped); untold = refl; sort = refl; fits_here = λ start g. tt }
       by_type colon (ArrayType a) k h = absurd h
 
-  -- ---- INITIAL VALUES that are written
-  module _ (equals : Place) (item : ItemTree Text) (declared : ValueType) (value : Typed) (is : IsGivenInit ss (ItemInit item None) declared value) where
-    abbrev written : Option (InitialTree Text)
-    written = Some (record { equals = equals; init = ItemInit item None })
+  -- ---- INITIAL VALUES that are written: an item, mapped or not, and a created domain
+  record IsWritten (init : InitTree Text) (declared : ValueType) (value : Typed) : Type 0 where
+    text : renamed_init text_of (renamed_init (bound_in ss) init) ≡ init
+    node : lowered_init known_variable (renamed_init variable_of (renamed_init (bound_in ss) init)) ≡ typed_item Once value
+    fits : (start : Start) (is : List (Bound × Op)) → AreKnownScopes ss → fits_init (resolving start) (fits_side (resolving start)) (renamed_init (bound_in ss) init) (seen_of ss is)
+    suits : (start : Start) (is : List (Bound × Op)) (x : Bound) → AreKnownScopes ss → is_promoted (kind_of value) ≡ false → x.variable.kind ≡ kind_of value → x.shape ≡ shape_of declared
+        → value_kind declared ≡ Some (kind_of value) → suits_init (resolving start) x (renamed_init (bound_in ss) init) (seen_of ss is)
 
-    spelled-init : option_map (renamed_initial text_of) (bound_initial ss written) ≡ written
-    spelled-init = ap (λ i. Some (record { equals = equals; init = ItemInit i None })) (item-text ss item)
-
-    suits-item : (is' : List (Bound × Op)) (x : Bound) → AreKnownScopes ss → is_promoted (kind_of value) ≡ false → x.variable.kind ≡ kind_of value → x.shape ≡ shape_of declared → value_kind declared ≡ Some (kind_of value)
-        → Suits x.variable.kind x.shape (renamed_item (bound_in ss) item) (seen_of ss is')
-    suits-item is' x plain once kind shape typed =
-        let g = seen_of ss is' in
+  item-written : (item : ItemTree Text) (mapped : Option (MappedTree Text)) (declared : ValueType) (value : Typed) → IsGivenInit ss (ItemInit item mapped) declared value → IsWritten (ItemInit item mapped) declared value
+  item-written item mapped declared value is = record {
+    text = mapped_item-back ss item mapped;
+    node = side-node ss item value is.0 Once;
+    fits = λ start intents known. side-fits ss item value is.0 start intents known;
+    suits = λ start intents x known once kind shape typed.
+        let g = seen_of ss intents in
         subst (λ k. Suits k x.shape (renamed_item (bound_in ss) item) g) (sym kind)
-        (subst (λ shape. Suits (kind_of value) shape (renamed_item (bound_in ss) item) g) (sym shape) (item-suited ss item value is.0 declared is' plain once typed is.1))
+        (subst (λ shape. Suits (kind_of value) shape (renamed_item (bound_in ss) item) g) (sym shape) (item-suited ss item value is.0 declared intents known once typed is.1));
+  }
 
-    item-initial : (t : Option (TypedTree Text)) (k : WrittenKind) → IsWrittenType (type_of t) k → IsInitial ss t written declared (beginning.Value value)
-    item-initial None k h = record {
+  created-written : (c : CreateTree Text) (declared : ValueType) (value : Typed) → IsGivenInit ss (CreateInit c) declared value → IsWritten (CreateInit c) declared value
+  created-written c declared value is = record {
+    text = created-back ss c;
+    node = ap (λ is. One (DomainLiteral c.from (lowered_items known_variable is) nowhere)) (renamed_items-twice variable_of (bound_in ss) c.items) ∙ sym is.0.node;
+    fits = λ start intents known. items-fit ss c.items known is.0.found start intents;
+    suits = λ start intents x known once kind shape typed.
+        let g = seen_of ss intents in
+        let (w, given, takes) = is.1 in
+        subst (λ k. Spans k x.shape (renamed_items (bound_in ss) c.items) g) (sym (kind ∙ is.0.kind))
+        (subst (λ shape. Spans DomainKind shape (renamed_items (bound_in ss) c.items) g) (sym shape)
+        (spans-created ss known intents c.items is.0.found c.from w given declared (typed ∙ ap (λ k. Some k) is.0.kind) takes));
+  }
+
+  module _ (equals : Place) (init : InitTree Text) (declared : ValueType) (value : Typed) (is : IsWritten init declared value) where
+    abbrev written : Option (InitialTree Text)
+    written = Some (record { equals = equals; init = init })
+
+    written-initial : (t : Option (TypedTree Text)) (k : WrittenKind) → IsWrittenType (type_of t) k → IsInitial ss t written declared (beginning.Value value)
+    written-initial None k h = record {
       type = typed-plain None k h;
-      text = spelled-init;
+      text = ap (λ i. Some (record { equals = equals; init = i })) is.text;
       typed = refl;
-      node = ap (λ i. Some (written_initial nowhere i)) (side-node ss item value is.0 Once);
-      initial = λ start intents plain. side-fits ss item value is.0 start intents plain;
-      suits = λ start intents x plain once kind shape typed given. suits-item intents x plain once kind shape typed;
+      node = ap (λ i. Some (written_initial nowhere i)) is.node;
+      initial = is.fits;
+      suits = λ start intents x known once kind shape typed given. is.suits start intents x known once kind shape typed;
     }
-    item-initial (Some t) k h = by_type t.colon t.type k h
+    written-initial (Some t) k h = by_type t.colon t.type k h
       where
         by_type : (colon : Place) (y : TypeTree Text) (k : WrittenKind) → IsWrittenType (Some y) k → IsInitial ss (Some (record { colon = colon; type = y })) written declared (beginning.Value value)
         by_type colon (ScalarType at l) k h = record {
           type = typed-plain (Some (record { colon = colon; type = ScalarType at l })) k h;
-          text = spelled-init;
+          text = ap (λ i. Some (record { equals = equals; init = i })) is.text;
           typed = refl;
-          node = ap (λ i. Some (written_initial nowhere i)) (side-node ss item value is.0 Once);
-          initial = λ start intents plain. side-fits ss item value is.0 start intents plain;
-          suits = λ start intents x plain once kind shape typed given. suits-item intents x plain once kind shape typed;
+          node = ap (λ i. Some (written_initial nowhere i)) is.node;
+          initial = is.fits;
+          suits = λ start intents x known once kind shape typed given. is.suits start intents x known once kind shape typed;
         }
         by_type colon (SyncType at kind_at l) k h = absurd h
         by_type colon (DomainType d) k h = record {
           type = typed-plain (Some (record { colon = colon; type = DomainType d })) k h;
-          text = spelled-init;
+          text = ap (λ i. Some (record { equals = equals; init = i })) is.text;
           typed = refl;
-          node = ap (λ i. Some (written_initial nowhere i)) (side-node ss item value is.0 Once);
-          initial = λ start intents plain. side-fits ss item value is.0 start intents plain;
-          suits = λ start intents x plain once kind shape typed given. suits-item intents x plain once kind shape typed;
+          node = ap (λ i. Some (written_initial nowhere i)) is.node;
+          initial = is.fits;
+          suits = λ start intents x known once kind shape typed given. is.suits start intents x known once kind shape typed;
         }
         by_type colon (ArrayType a) k h = absurd h
 
   pub given-initial : (t : Option (TypedTree Text)) (k : WrittenKind) (i : InitialTree Text) (declared : ValueType) (value : Typed) → IsWrittenType (type_of t) k → IsGivenInit ss i.init declared value
       → IsInitial ss t (Some i) declared (beginning.Value value)
-  given-initial t k i declared value h is = by_init i.equals i.init is
+  given-initial t k i declared value h is = written-initial i.equals i.init declared value (by i.init is) t k h
     where
-      by_init : (equals : Place) (init : InitTree Text) → IsGivenInit ss init declared value → IsInitial ss t (Some (record { equals = equals; init = init })) declared (beginning.Value value)
-      by_init equals (ItemInit item None) is = item-initial equals item declared value is t k h
-      by_init equals (ItemInit item (Some m)) is = absurd is
-      by_init equals (CreateInit c) is = absurd is
+      by : (init : InitTree Text) → IsGivenInit ss init declared value → IsWritten init declared value
+      by (ItemInit item mapped) is = item-written item mapped declared value is
+      by (CreateInit c) is = created-written c declared value is
 
 -- ---- DEFAULTS: 0 and false, and a domain without an index
 pub number-default : (t : Typed) → ((m : Times) → typed_view m t ≡ Number nowhere (pos 0)) → kind_of t ≡ PlainKind IntLeaf → IsDefault IntKind t
@@ -172,7 +194,7 @@ default-initial ss (Some t) k declared b h is = by_type t.colon t.type k b h is
     by_type colon (DomainType d) (kinds.Domain rank) (beginning.Empty other) h is = record {
       type = typed-plain ss (Some (record { colon = colon; type = DomainType d })) (kinds.Domain rank) h;
       text = refl;
-      typed = ap (λ n. Some (written_type (DomainType (record { at = nowhere; from = nowhere; rank_at = nowhere; rank = n; upto = nowhere; mapped = None })))) (h.1 ∙ ap dimensions (sym is));
+      typed = ap (λ n. Some (written_type (DomainType (record { at = nowhere; from = nowhere; rank_at = nowhere; rank = n; upto = nowhere; mapped = None })))) (h ∙ ap dimensions (sym is));
       node = refl;
       initial = λ start intents plain. tt;
       suits = λ start intents x plain once kind shape typed given. empty-held x d.rank declared kind shape typed given;

@@ -1,10 +1,10 @@
 -- Declarations of arrays: what stands between the brackets is a domain's ranges, and what the elements begin with is of their kind.
 -- The name is in sight behind the declaration with the next slot, over the domain whose bare name stands there.
-use Rattle.std.proofs.Common.{◌≡◌, ℕ, ◌≤◌, ◌<◌, Bool, true, false, Bor, List, [], ◌∷◌, length, is_some, Option, Some, None, refl, sym, ap, ◌∙◌, subst, pos, arith}
-use Rattle.std.specs.Prelude.{◌&&◌, option_map}
+use Rattle.std.proofs.Common.{◌≡◌, ℕ, ◌≤◌, ◌<◌, Bool, true, false, Bor, is_some, Option, Some, None, refl, sym, ap, ◌∙◌, subst, pos, arith}
+use Rattle.std.specs.Prelude.{option_map}
 use Rattle.std.proofs.lemmas.Option.{none-some}
 use Rattle.dpl_syntax.specs.declared.place.Place.{Place}
-use Rattle.dpl_language.specs.Tree.{Kind, IntKind, BoolKind, ExprTree, ItemTree, One, Items, FirstItem, NoItems, NextItem, ArrayTypeTree, TypeTree, ScalarType, SyncType, DomainType, ArrayType, TypedTree, ItemInit, InitialTree, DeclareTree, StmtTree, Declare}
+use Rattle.dpl_language.specs.Tree.{Kind, IntKind, BoolKind, ExprTree, ItemTree, One, Items, FirstItem, NoItems, NextItem, ArrayTypeTree, TypeTree, ScalarType, SyncType, DomainType, ArrayType, TypedTree, MappedTree, ItemInit, InitialTree, DeclareTree, StmtTree, Declare}
 use Rattle.dpl_language.specs.Names.{Text}
 use Rattle.dpl_language.specs.Values.{default}
 use Rattle.dpl_language.specs.Phrases.{item_over, declared_over}
@@ -14,16 +14,11 @@ use Rattle.dpl_agreement.specs.Scopes.{sort_by, fits_type, side_by, fits_initial
 use Rattle.dpl_agreement.proofs.RenamedParts.{declared_over-renamed, type_of-renamed}
 use Rattle.dpl_agreement.proofs.RenamedSame.{renamed_items-same}
 use Rattle.dpl_agreement.proofs.RenamedTwice.{renamed_items-twice}
-use Rattle.dpl_tree.specs.declared.expression.Items.{Items as ItemsNode, out-Items}
-use Rattle.dpl_tree.specs.declared.expression.NextItem.{NextItem as NextItemNode}
-use Rattle.dpl_tree.specs.View.{item_view, items_view, more_items_of}
-use Rattle.dpl_tree.proofs.Fields.{items_view_fields}
-use Rattle.dpl_rules.specs.Types.{ValueType, Scalar, Range, Domain, Array, Promoted, Tuple, Locale, AllLocales, Cell, domain_of}
-use Rattle.dpl_rules.specs.Verdicts.{part, type_by}
+use Rattle.dpl_rules.specs.Types.{ValueType, Array, domain_of}
+use Rattle.dpl_rules.specs.Verdicts.{type_by}
 use Rattle.dpl_rules.specs.Sights.{Declared, Scopes, declared_here, add, origin_in}
-use Rattle.dpl_rules.specs.Places.{first_of_item}
-use Rattle.dpl_rules.specs.Operators.{ranges_verdict, domain_or, over_verdict}
-use Rattle.dpl_rules.specs.Expressions.{item_type, item_parts}
+use Rattle.dpl_rules.specs.Operators.{over_verdict}
+use Rattle.dpl_rules.specs.Expressions.{item_parts}
 use Rattle.dpl_rules.specs.Declarations.{domain_in, base_over, over_domain, type_given, declaration_breaches, declared_by}
 use Rattle.dpl_types.specs.declared.value_type.ValueType.{ValueType as TypeNode}
 use Rattle.dpl_types.specs.View.{type_view, of_type}
@@ -33,10 +28,9 @@ use Rattle.dpl_scopes.specs.Slots.{next_slot_in}
 use Rattle.dpl_lowered.specs.Shapes.{nowhere, placed, hidden_item}
 use Rattle.dpl_lowered.specs.LoweredExpressions.{Once, EachTurn, lowered_item}
 use Rattle.dpl_lowered.specs.LoweredStatements.{written_initial, written_type, tells_name, unplaced_word, lowered_over, array_initial, declared_type, declared_initial}
-use Rattle.dpl_memory.specs.Memory.{VariableKind, DomainKind, ArrayKind, Variable, variable, known_variable}
+use Rattle.dpl_memory.specs.Memory.{VariableKind, ArrayKind, Variable, variable, known_variable}
 use Rattle.dpl_memory.specs.Resolved.{Bound, Seen, Shape, Start, text_of, variable_of, resolving, IsElement, MayHold, IsNew, IsWhole, OverResolves, SpansArray, Suits}
 use Rattle.dpl_nodes.specs.declared.tree.RangesExpr.{RangesExpr}
-use Rattle.dpl_nodes.specs.declared.tree.IndexExpr.{IndexExpr, Line' as LineIndex', Plane' as PlaneIndex', Space' as SpaceIndex', Tuple as TupleIndex}
 use Rattle.dpl_nodes.specs.declared.step.Over.{Over}
 use Rattle.dpl_nodes.specs.declared.step.Over.TheVariants as over
 use Rattle.dpl_nodes.specs.declared.step.Initial.{Initial}
@@ -45,14 +39,11 @@ use Rattle.dpl_nodes.specs.declared.step.Step.{Step}
 use Rattle.dpl_nodes.specs.Steps.{placed_leaf, declared_with, over_items, initial_kind, initial_view, array_declared, step_view}
 use Rattle.dpl_typer.specs.declared.make.Typed.{Typed}
 use Rattle.dpl_typer.specs.declared.pieces.Parts.TheVariants as parts
-use Rattle.dpl_typer.specs.Makers.{typed_item, kind_of, operand_kind, is_range, is_domain, kind_if, index_kinds, literal_kind}
-use Rattle.dpl_typer.specs.Leaves.{is_rank, value_kind, kind_by, leaf_by, leaf_in, IsOfType}
+use Rattle.dpl_typer.specs.Makers.{typed_item, kind_of, operand_kind, kind_if}
+use Rattle.dpl_typer.specs.Leaves.{is_rank, value_kind, kind_by, leaf_by, leaf_in}
 use Rattle.dpl_typer.specs.Shapes.{shape_of, shape_by}
-use Rattle.dpl_typer.specs.Elaborated.{ArePartsOf}
 use Rattle.dpl_typer.specs.Sights.{bound_in, is_promoted_by, AreKnownScopes}
-use Rattle.dpl_typer.proofs.OperatorKinds.{kind_if-some, gives-nothing}
-use Rattle.dpl_typer.proofs.PartKinds.{literal-gives}
-use Rattle.dpl_typer.proofs.Listed.{literal-refused}
+use Rattle.dpl_typer.proofs.OperatorKinds.{kind_if-some}
 use Rattle.dpl_typer.proofs.Sights.{unused_next}
 use Rattle.dpl_typer.proofs.Arrays.{spans-array}
 use Rattle.dpl_typer.proofs.Overs.{over-resolves}
@@ -60,13 +51,15 @@ use Rattle.dpl_runnable.specs.Runnable.{IsConfigOf, IsInitialOf, IsRunnableDecla
 use Rattle.dpl_planner.specs.declared.progress.Plan.{Plan}
 use Rattle.dpl_planner.specs.Bounds.{bound_new}
 use Rattle.dpl_planner.specs.Given.{AreGiven}
-use Rattle.dpl_planner.specs.Arrays.{between, AreMany, HasNoDomain, IsOver, IsArrayInitial, HasElements, IsArrayKind}
+use Rattle.dpl_typer.specs.Elaborated.{AreMany, HasNoDomain, ArePartsOf}
+use Rattle.dpl_planner.specs.Arrays.{between, IsOver, IsArrayInitial, HasElements, IsArrayKind}
 use Rattle.dpl_planner.specs.Elements.{IsValued}
 use Rattle.dpl_planner.specs.Parts.{IsItem, bound_typed, bound_initial, PlansDeclare}
 use Rattle.dpl_planner.specs.Plans.{seen_of, intents_in, AreOpen, IsOneScope}
 use Rattle.dpl_planner.proofs.Scoped.{open-known, plain-add, unless-both, array-typed}
 use Rattle.dpl_planner.proofs.Owed.{one-add, given-before}
-use Rattle.dpl_planner.proofs.Items.{item-text, side-node, whole_side-fits, items-fit}
+use Rattle.dpl_planner.proofs.Items.{side-node, whole_side-fits, items-fit}
+use Rattle.dpl_planner.proofs.Mapped.{mapped_item-back}
 use Rattle.dpl_planner.proofs.ChangedArrays.{given-suits}
 use Rattle.dpl_planner.proofs.Declared.{declared-same}
 
@@ -94,64 +87,6 @@ pub many-over : (ss : Scopes) (is : Items Text) (rs : Bor RangesExpr) → AreMan
 many-over ss (FirstItem i NoItems) rs many made = absurd many
 many-over ss (FirstItem i (NextItem comma j more)) rs many made = record { node = made.node; found = made.found }
 
--- what is made of several nodes
-many-nodes : (first : ItemTree Text) (ns : List NextItemNode) → 1 ≤ length ns → AreMany (FirstItem first (more_items_of ns))
-many-nodes first [] h = absurd (omega (arith, h))
-many-nodes first (n ∷ ns) h = tt
-
-pub many-view : (v : ItemsNode) → 1 ≤ length (out-Items v).others.now → AreMany (items_view v)
-many-view v h = subst AreMany (sym (items_view_fields v)) (many-nodes (item_view (out-Items v).first) (out-Items v).others.now h)
-
--- ---- what no array is over
-none-no_domain : (at : Place) (o : Option ValueType) → o ≡ None → HasNoDomain (part at o ∷ [])
-none-no_domain at o e = subst (λ o. HasNoDomain (part at o ∷ [])) (sym e) (λ from. refl)
-
-kind-no_domain : (at : Place) (u : ValueType) (k : VariableKind) → value_kind u ≡ Some k → is_range k ≡ false → is_domain k ≡ false → HasNoDomain (part at (Some u) ∷ [])
-kind-no_domain at u k e no_range no_domain = λ from. by from u e
-  where
-    ranges : (from : Place) (u : ValueType) → value_kind u ≡ Some k → type_by (ranges_verdict from (part at (Some u) ∷ [])) ≡ None
-    ranges from u e =
-        gives-nothing (literal_kind (k ∷ [])) (type_by (ranges_verdict from (part at (Some u) ∷ []))) (literal-gives from (k ∷ []) (part at (Some u) ∷ []) (e, tt) refl)
-        (ap (λ b. kind_if (b && true) DomainKind) no_range)
-
-    by : (from : Place) (u : ValueType) → value_kind u ≡ Some k → type_by (domain_or (domain_of u) (ranges_verdict from (part at (Some u) ∷ []))) ≡ None
-    by from (Scalar l) e = ranges from (Scalar l) e
-    by from (Range s) e = ranges from (Range s) e
-    by from (Domain rank s) e =
-        let same : DomainKind ≡ k = (kind_if-some (is_rank rank) DomainKind k e).1 in
-        absurd (let f : true ≡ false = ap is_domain same ∙ no_domain in cc)
-    by from (Array l o) e = ranges from (Array l o) e
-    by from (Promoted l o) e = ranges from (Promoted l o) e
-    by from (Tuple rank) e = ranges from (Tuple rank) e
-    by from Locale e = ranges from Locale e
-    by from AllLocales e = ranges from AllLocales e
-    by from (Cell l) e = ranges from (Cell l) e
-
--- an item without a type, and one that is neither a range nor a domain
-pub untyped-no_domain : (ss : Scopes) (i : ItemTree Text) → item_type ss i ≡ None → HasNoDomain (item_parts ss (FirstItem i NoItems))
-untyped-no_domain ss i e = none-no_domain (first_of_item i) (item_type ss i) e
-
-pub other-no_domain : (ss : Scopes) (i : ItemTree Text) (t : Typed) → IsOfType t (item_type ss i) → is_range (kind_of t) ≡ false → is_domain (kind_of t) ≡ false → HasNoDomain (item_parts ss (FirstItem i NoItems))
-other-no_domain ss i t of_type no_range no_domain = by (item_type ss i) of_type
-  where
-    by : (o : Option ValueType) → IsOfType t o → HasNoDomain (part (first_of_item i) o ∷ [])
-    by None h = none-no_domain (first_of_item i) None refl
-    by (Some u) h = kind-no_domain (first_of_item i) u (kind_of t) h.0 no_range no_domain
-
--- several parts that are no ranges
-pub many-no_domain : (ss : Scopes) (is : Items Text) → AreMany is → ((from : Place) → type_by (ranges_verdict from (item_parts ss is)) ≡ None) → HasNoDomain (item_parts ss is)
-many-no_domain ss (FirstItem i NoItems) many h = absurd many
-many-no_domain ss (FirstItem i (NextItem comma j more)) many h = h
-
-index-literal : (t : IndexExpr) → literal_kind (index_kinds t) ≡ None
-index-literal (LineIndex' p a) = refl
-index-literal (PlaneIndex' p a q b) = refl
-index-literal (SpaceIndex' p a q b r c) = refl
-index-literal (TupleIndex slot) = refl
-
-pub index-no_domain : (ss : Scopes) (is : Items Text) (t : Bor IndexExpr) → AreMany is → ArePartsOf ss is (parts.Index t) → HasNoDomain (item_parts ss is)
-index-no_domain ss is t many made = many-no_domain ss is many (λ from. literal-refused ss from nowhere is (parts.Index t) made (index-literal t.now))
-
 -- ---- WHAT THE ELEMENTS BEGIN WITH
 element-default : (k : Kind) → IsElement k (default k)
 element-default IntKind = (pos 0, refl)
@@ -166,10 +101,10 @@ default-array ss k b node kind = record {
   suits = λ start is x known of_kind. subst (λ j. MayHold j x.shape (default k)) (sym of_kind) (element-default k, λ n. absurd (n tt));
 }
 
-pub given-array : (ss : Scopes) (k : Kind) (equals : Place) (item : ItemTree Text) (t : Typed) (e : ExprTree Variable) (b : Initial) → IsItem ss item t → IsValued ss item t → operand_kind (kind_of t) ≡ Some k → One e ≡ typed_item EachTurn t
-    → initial_view b ≡ Some (written_initial equals (One e)) → initial_kind b ≡ k → IsArrayInitial ss k (Some (record { equals = equals; init = ItemInit item None })) b
-given-array ss k equals item t e b is valued given same node kind = record {
-  text = ap (λ i. Some (record { equals = equals; init = ItemInit i None })) (item-text ss item);
+pub given-array : (ss : Scopes) (k : Kind) (equals : Place) (item : ItemTree Text) (mapped : Option (MappedTree Text)) (t : Typed) (e : ExprTree Variable) (b : Initial) → IsItem ss item t → IsValued ss item t → operand_kind (kind_of t) ≡ Some k → One e ≡ typed_item EachTurn t
+    → initial_view b ≡ Some (written_initial equals (One e)) → initial_kind b ≡ k → IsArrayInitial ss k (Some (record { equals = equals; init = ItemInit item mapped })) b
+given-array ss k equals item mapped t e b is valued given same node kind = record {
+  text = ap (λ i. Some (record { equals = equals; init = i })) (mapped_item-back ss item mapped);
   node = ap (λ i. Some (written_initial equals i)) (side-node ss item t is EachTurn ∙ sym same) ∙ sym node;
   kind = kind;
   fits_here = λ start intents known. whole_side-fits ss item t is start intents known;

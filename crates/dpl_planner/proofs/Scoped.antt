@@ -6,7 +6,7 @@ use Rattle.std.proofs.lemmas.Option.{none-some}
 use Rattle.dpl_syntax.specs.declared.place.Place.{Place}
 use Rattle.dpl_syntax.specs.declared.refusal.Breach.{Breach}
 use Rattle.dpl_syntax.specs.declared.refusal.Code.TheVariants.{NameTwice}
-use Rattle.dpl_language.specs.Tree.{Op, Kind, IntKind, BoolKind, MappedTree, ArrayTypeTree, TypeTree, ScalarType, SyncType, DomainType, ArrayType, TypedTree, InitTree, ItemInit, CreateInit, InitialTree, DeclareTree, StmtTree, Nothing, Declare, Assigned, Call, Write, Block, If, While, For, Forall, Coforall, On, Body, WordBody, BlockBody, Stmts, NoStmts, Then}
+use Rattle.dpl_language.specs.Tree.{Op, Kind, IntKind, BoolKind, ArrayTypeTree, TypeTree, ScalarType, SyncType, DomainType, ArrayType, TypedTree, InitTree, ItemInit, CreateInit, InitialTree, DeclareTree, StmtTree, Nothing, Declare, Assigned, Call, Write, Block, If, While, For, Forall, Coforall, On, Body, WordBody, BlockBody, Stmts, NoStmts, Then}
 use Rattle.dpl_language.specs.Names.{Text}
 use Rattle.dpl_language.specs.Phrases.{declared_over}
 use Rattle.dpl_language.specs.Declarations.{type_of}
@@ -37,6 +37,7 @@ use Rattle.dpl_typer.proofs.OperatorKinds.{kind_if-some, kind-same}
 use Rattle.dpl_typer.proofs.Sights.{HasKnownKind}
 use Rattle.dpl_typer.proofs.Overs.{over-declared}
 use Rattle.dpl_runnable.proofs.Owed.{owed_type-holds}
+use Rattle.dpl_runnable.proofs.Scopes.{is_domain-kept, is_untyped-kept}
 use Rattle.dpl_planner.specs.Bounds.{bound_new, bound_declare, bound_stmt, bound_stmts}
 use Rattle.dpl_planner.specs.Plans.{seen_of, AreOpen, behind_body}
 
@@ -162,21 +163,6 @@ kind-typed : (o : Option ValueType) (k : VariableKind) → kind_by o ≡ Some k 
 kind-typed None k e = absurd (none-some k e)
 kind-typed (Some t) k e = (t, refl)
 
-domain-kept : (t : ValueType) → is_domain t ≡ true → is_kept t ≡ true
-domain-kept (Scalar k) h = refl
-domain-kept (Range strided) h = refl
-domain-kept (Domain rank strided) h = refl
-domain-kept (Array l over) h = h
-domain-kept (Promoted l over) h = h
-domain-kept (Tuple rank) h = h
-domain-kept Locale h = refl
-domain-kept AllLocales h = h
-domain-kept (Cell l) h = h
-
-untyped-kept : (m : Option (MappedTree Text)) (t : ValueType) → is_untyped m t ≡ true → is_kept t ≡ true
-untyped-kept None t h = h
-untyped-kept (Some m) t h = domain-kept t h
-
 -- what stands between an array's brackets is of a domain's type
 ranges-domain : (from : Place) (ps : List Part) (t : ValueType) → type_by (ranges_verdict from ps) ≡ Some t → is_domain t ≡ true
 ranges-domain from ps t e = ap is_domain (sym (judged-gives (all_known ps) (ranges_breaches from ps) (Domain (length ps) (any_strided ps)) t e).2)
@@ -198,8 +184,8 @@ module _ (ss : Scopes) where
       let side = side_breaches ss item in
       let kept = owed_type (is_untyped mapped) (first_of_item item) (side_part ss item).type in
       let told = second_empty side kept (first_empty (side ++ kept) (mapped_breaches ss (type_rank (side_part ss item).type) mapped) h) in
-      untyped-kept mapped t (owed_type-holds (is_untyped mapped) (first_of_item item) (side_part ss item).type t e told)
-  init-kept (CreateInit c) t h e = domain-kept t (over-domain c.from (item_parts ss c.items) t e)
+      is_untyped-kept mapped t (owed_type-holds (is_untyped mapped) (first_of_item item) (side_part ss item).type t e told)
+  init-kept (CreateInit c) t h e = is_domain-kept t (over-domain c.from (item_parts ss c.items) t e)
 
   initial-kept : (i : Option (InitialTree Text)) (t : ValueType) → untyped_initial ss i ≡ [] → initial_type ss i ≡ Some t → is_kept t ≡ true
   initial-kept None t h e = absurd (none-some t e)

@@ -1,15 +1,12 @@
 -- The parts of an array's declaration: what stands between the brackets, and what the elements begin with.
 -- Each is the lowered tree of the part with its names resolved, and fits where they are in sight.
 use Rattle.std.specs.Prelude.{◌≡◌, Bool, true, false, List, Option, Some, None, option_map}
-use Rattle.dpl_syntax.specs.declared.place.Place.{Place}
-use Rattle.dpl_language.specs.Tree.{Op, Kind, ItemTree, Items, FirstItem, NoItems, NextItem, TypeTree, ScalarType, SyncType, DomainType, ArrayType, InitialTree}
+use Rattle.dpl_language.specs.Tree.{Op, Kind, ItemTree, Items, TypeTree, ScalarType, SyncType, DomainType, ArrayType, InitialTree}
 use Rattle.dpl_language.specs.Names.{Text}
 use Rattle.dpl_language.specs.Phrases.{item_over}
 use Rattle.dpl_agreement.specs.Renamed.{renamed_items, renamed_initial}
 use Rattle.dpl_agreement.specs.Scopes.{fits_whole_side, fits_initial, suits_array}
 use Rattle.dpl_rules.specs.Sights.{Scopes}
-use Rattle.dpl_rules.specs.Verdicts.{Part, type_by}
-use Rattle.dpl_rules.specs.Operators.{over_verdict}
 use Rattle.dpl_lowered.specs.Shapes.{item_in_brackets}
 use Rattle.dpl_lowered.specs.LoweredStatements.{lowered_over, array_initial}
 use Rattle.dpl_memory.specs.Memory.{VariableKind, PlainKind, DomainKind, TupleKind, ArrayKind, Variable, known_variable}
@@ -30,15 +27,6 @@ use Rattle.dpl_planner.specs.Plans.{seen_of}
 abbrev pub between : Bool → ItemTree Variable → ItemTree Variable
 between true item = item
 between false item = item_in_brackets (item_over item) item
-
--- two items or more
-abbrev pub AreMany : Items Text → Type 0
-AreMany (FirstItem i NoItems) = ⊥
-AreMany (FirstItem i (NextItem comma j more)) = Unit {0}
-
--- no array is over them
-abbrev pub HasNoDomain : List Part → Type 0
-HasNoDomain ps = (from : Place) → type_by (over_verdict from ps) ≡ None
 
 pub record IsOver (ss : Scopes) (is : Items Text) (o : Over) : Type 0 where
   pub node : over_items o ≡ lowered_over known_variable (renamed_items (leaf_in ss) is)

@@ -36,9 +36,11 @@ use Rattle.dpl_typer.specs.declared.make.Typed.{Typed}
 use Rattle.dpl_typer.specs.declared.make.Typed.TheVariants as typed
 use Rattle.dpl_typer.specs.Makers.{typed_item, kind_of, is_promoted}
 use Rattle.dpl_typer.specs.Leaves.{value_kind, kind_in, leaf_in, IsFound}
-use Rattle.dpl_typer.specs.Shapes.{shape_of, IsTaken}
+use Rattle.dpl_typer.specs.Shapes.{shape_of, IsTakenOf, IsTaken}
 use Rattle.dpl_typer.specs.Simple.{IsSimple, IsSimpleItem}
+use Rattle.dpl_typer.specs.Elaborated.{IsCreated}
 use Rattle.dpl_typer.specs.Sights.{bound_in, AreKnownScopes}
+use Rattle.dpl_runnable.specs.Runnable.{created_type}
 use Rattle.dpl_planner.specs.declared.progress.Plan.{Plan}
 use Rattle.dpl_planner.specs.declared.declaration.WrittenKind.{WrittenKind}
 use Rattle.dpl_planner.specs.declared.declaration.WrittenKind.TheVariants as kinds
@@ -100,15 +102,15 @@ IsWrittenType (Some (ScalarType at l)) (kinds.Domain rank) = ⊥
 IsWrittenType (Some (SyncType at kind_at l)) k = ⊥
 IsWrittenType (Some (DomainType d)) kinds.Untyped = ⊥
 IsWrittenType (Some (DomainType d)) (kinds.Scalar k) = ⊥
-IsWrittenType (Some (DomainType d)) (kinds.Domain rank) = (d.mapped ≡ None) × (d.rank ≡ dimensions rank)
+IsWrittenType (Some (DomainType d)) (kinds.Domain rank) = d.rank ≡ dimensions rank
 IsWrittenType (Some (ArrayType a)) k = ⊥
 
--- what is no array's runs: a domain's type without a map
+-- what is no array's runs: of a domain's type the rank is asked, and nothing of its map
 abbrev pub IsSingleType : Option (TypeTree Text) → Type 0
 IsSingleType None = Unit {0}
 IsSingleType (Some (ScalarType at k)) = Unit {0}
 IsSingleType (Some (SyncType at kind_at k)) = ⊥
-IsSingleType (Some (DomainType d)) = (d.mapped ≡ None) × ((nat_le 1 d.rank && nat_le d.rank 3) ≡ true)
+IsSingleType (Some (DomainType d)) = (nat_le 1 d.rank && nat_le d.rank 3) ≡ true
 IsSingleType (Some (ArrayType a)) = ⊥
 
 -- what a variable begins with, as its kind and as the type and the initial value of its declaration
@@ -146,11 +148,10 @@ BeginsByDefault (kinds.Scalar k) (beginning.Empty rank) = ⊥
 BeginsByDefault (kinds.Domain rank) (beginning.Value t) = ⊥
 BeginsByDefault (kinds.Domain rank) (beginning.Empty other) = other ≡ rank
 
--- an initial value without a map, which a name of the type may be given
+-- an initial value, which a name of the type may be given: an item with a map or without one, or a created domain
 abbrev pub IsGivenInit : Scopes → InitTree Text → ValueType → Typed → Type 0
-IsGivenInit ss (ItemInit i None) t value = IsItem ss i value × IsTakenBy (kind_of value) ss i t
-IsGivenInit ss (ItemInit i (Some m)) t value = ⊥
-IsGivenInit ss (CreateInit c) t value = ⊥
+IsGivenInit ss (ItemInit i mapped) t value = IsItem ss i value × IsTakenBy (kind_of value) ss i t
+IsGivenInit ss (CreateInit c) t value = IsCreated ss c.from c.items value × IsTakenOf (created_type ss c) t
 
 abbrev pub bound_typed : Scopes → Option (TypedTree Text) → Option (TypedTree Bound)
 bound_typed ss t = option_map (renamed_typed (bound_in ss)) t

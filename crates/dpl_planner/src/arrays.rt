@@ -1,8 +1,9 @@
 // Declarations of arrays: what each is over, ranges or a domain, and what its elements begin with.
 // A domain's bare name stands as it is between the brackets, since the array changes with it; what only looks like one doesn't.
 
-ghost use Rattle.std.specs.Prelude.{◌≡◌, ◌≢◌, true, false, is_some, ◌∷◌, [], IfOk, IfSome, IfNone, Err, Some, None};
-ghost use Rattle.dpl_language.specs.Tree.{FirstItem, NoItems, One, ItemInit, ArrayType as ArrayTypeTree};
+ghost use Rattle.std.specs.Prelude.{◌≡◌, ◌≢◌, true, false, is_some, ◌∷◌, [], Option, IfOk, IfSome, IfNone, Err, Some, None};
+ghost use Rattle.dpl_language.specs.Tree.{FirstItem, NoItems, One, MappedTree, ItemInit, ArrayType as ArrayTypeTree};
+ghost use Rattle.dpl_language.specs.Names.{Text};
 ghost use Rattle.dpl_language.specs.Phrases.{item_over};
 ghost use Rattle.dpl_language.specs.Declarations.{type_of};
 ghost use Rattle.dpl_tree.specs.Words.{kind_view};
@@ -24,7 +25,8 @@ ghost use Rattle.dpl_typer.specs.Simple.{IsSimpleItem, AreSimpleItems};
 ghost use Rattle.dpl_runnable.specs.Kinds.{IsGivenTo};
 ghost use Rattle.dpl_runnable.specs.Runnable.{IsItemOf, IsRunnableType, IsRunnableDeclare};
 ghost use Rattle.dpl_planner.specs.Elements.{elements_view, elements_kind};
-ghost use Rattle.dpl_planner.specs.Arrays.{between, AreMany, HasNoDomain, IsOver, IsArrayInitial, HasElements, IsArrayKind};
+ghost use Rattle.dpl_typer.specs.Elaborated.{AreMany, HasNoDomain};
+ghost use Rattle.dpl_planner.specs.Arrays.{between, IsOver, IsArrayInitial, HasElements, IsArrayKind};
 ghost use Rattle.dpl_planner.specs.Parts.{PlansDeclare};
 
 use crate::elements::{Elements, array_kind, given_elements, valued};
@@ -84,7 +86,8 @@ fn over_domain<'t>(bare: bool, e: &'t DomainExpr<'t>) -> Between<'t>
         DomainExpr::OfArray(_, _)
         | DomainExpr::Literal(_, _)
         | DomainExpr::Slice(_, _)
-        | DomainExpr::Expanded(_, _, _) => Between::Domain(e),
+        | DomainExpr::Expanded(_, _, _)
+        | DomainExpr::Created(_, _) => Between::Domain(e),
     }
 }
 
@@ -176,7 +179,7 @@ fn begun<'t>(at: &'t Spot, elements: Elements<'t>) -> Begun<'t>
     }
 }
 
-// An item that is written behind `=`.
+// An item that is written behind `=`, with a map or without one.
 fn given_item<'t>(
     arena: Arena<'t>,
     scopes: &Scopes<'_>,
@@ -184,7 +187,7 @@ fn given_item<'t>(
     equals: Place,
     written: &Item<'_>,
 ) -> Result<Begun<'t>, Stop>
-    ensures initial { IfOk result (λ b. IsArrayInitial scopes.now (kind_view kind) (Some (record { equals = equals; init = ItemInit (item_view written.now) None })) b) }
+    ensures initial { IfOk result (λ b. (mapped : Option (MappedTree Text)) → IsArrayInitial scopes.now (kind_view kind) (Some (record { equals = equals; init = ItemInit (item_view written.now) mapped })) b) }
     ensures ill_typed { (result ≡ Err stop.IllTyped) → IsNear equals → (k : VariableKind) → IsItemOf scopes.now (item_view written.now) k → IsGivenTo (ArrayKind (kind_view kind)) k → ⊥ }
 {
     let value = valued(arena, scopes, written)?;
@@ -204,8 +207,7 @@ fn given<'t>(
     ensures ill_typed { (result ≡ Err stop.IllTyped) → HasElements scopes.now (kind_view kind) (Some (written_initial_view written.now)) → ⊥ }
 {
     match &written.init {
-        Init::Item(item, None) => given_item(arena, scopes, kind, written.equals, item),
-        Init::Item(_, Some(_)) => Err(Stop::IllTyped),
+        Init::Item(item, _) => given_item(arena, scopes, kind, written.equals, item),
         Init::Create(_) => Err(Stop::IllTyped),
     }
 }

@@ -23,7 +23,7 @@ ghost use Rattle.dpl_nodes.specs.declared.make.Stop.TheVariants as stop;
 ghost use Rattle.dpl_typer.specs.declared.make.Typed.TheVariants as typed;
 ghost use Rattle.dpl_nodes.specs.Steps.{step_view, assigned_to as assigns};
 ghost use Rattle.dpl_typer.specs.Leaves.{value_kind, type_in, kind_in};
-ghost use Rattle.dpl_typer.specs.Shapes.{takes_shape as takes_shape_of, IsTaken};
+ghost use Rattle.dpl_typer.specs.Shapes.{takes_shape as takes_shape_of, IsTakenOf, IsTaken};
 ghost use Rattle.dpl_runnable.specs.Runnable.{AreToldAlike, IsReducedBy, IsRunnableStmt};
 ghost use Rattle.dpl_planner.specs.Parts.{IsSingleKind, IsChangedKind, IsTakenBy, IsTakenIn, changed_to};
 ghost use Rattle.dpl_planner.specs.Plans.{reducing_view, intents_in, seen_in, PlansStmt};
@@ -111,6 +111,26 @@ fn takes_shape(t: ValueType<'_>, given: ValueType<'_>) -> bool
     }
 }
 
+/// What is of a type may be given to a name of another one.
+///
+/// # Errors
+/// It has no type, or one of another shape.
+pub(crate) fn taken_type(t: ValueType<'_>, given: Option<ValueType<'_>>) -> Result<(), Stop>
+    ensures taken { OnOk result (IsTakenOf (of_type given.entry) (type_view t.entry)) }
+    ensures ill_typed { (result ≡ Err stop.IllTyped) → IsTakenOf (of_type given.entry) (type_view t.entry) → ⊥ }
+{
+    match given {
+        Some(given) => {
+            if takes_shape(t, given) {
+                Ok(())
+            } else {
+                Err(Stop::IllTyped)
+            }
+        }
+        None => Err(Stop::IllTyped),
+    }
+}
+
 /// A range, a domain and a tuple are of a shape that a name of a type takes: as many dimensions, and strided only where they may be.
 ///
 /// # Errors
@@ -130,12 +150,7 @@ pub(crate) fn shaped(
         Typed::Range(_) | Typed::Domain(_) | Typed::Tuple(_) => {
             let mut first = None;
             match item_type(arena.alloc(), scopes, written, &mut first) {
-                Ok(Some(given)) => if takes_shape(t, given) {
-                    Ok(())
-                } else {
-                    Err(Stop::IllTyped)
-                },
-                Ok(None) => Err(Stop::IllTyped),
+                Ok(given) => taken_type(t, given),
                 Err(_) => Err(Stop::Memory),
             }
         }

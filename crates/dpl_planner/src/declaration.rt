@@ -5,38 +5,44 @@ ghost use Rattle.std.specs.Prelude.{◌≡◌, ◌≢◌, nat_le, ◌&&◌, true
 ghost use Rattle.dpl_language.specs.Tree.{ArrayType as ArrayTypeTree, Declare as DeclareTree};
 ghost use Rattle.dpl_language.specs.Declarations.{type_of};
 ghost use Rattle.dpl_tree.specs.Words.{kind_view};
-ghost use Rattle.dpl_tree.specs.Declarations.{optional, typed_view as written_type_view, init_view, initial_view, domain_type_view, array_type_view, declare_view};
+ghost use Rattle.dpl_tree.specs.View.{items_view};
+ghost use Rattle.dpl_tree.specs.Declarations.{optional, typed_view as written_type_view, created_view, init_view, initial_view, domain_type_view, array_type_view, declare_view};
 ghost use Rattle.dpl_rules.specs.Declarations.{declared_by};
-ghost use Rattle.dpl_types.specs.View.{type_view};
+ghost use Rattle.dpl_types.specs.View.{type_view, of_type};
 ghost use Rattle.dpl_lowered.specs.Shapes.{nowhere};
 ghost use Rattle.dpl_lowered.specs.LoweredStatements.{unplaced_word};
-ghost use Rattle.dpl_memory.specs.Memory.{VariableKind, variable};
+ghost use Rattle.dpl_memory.specs.Memory.{VariableKind, DomainKind, variable};
 ghost use Rattle.dpl_nodes.specs.declared.make.Stop.TheVariants as stop;
 ghost use Rattle.dpl_nodes.specs.Steps.{step_view, dimensions};
 ghost use Rattle.dpl_typer.specs.Makers.{kind_of};
 ghost use Rattle.dpl_typer.specs.Leaves.{value_kind};
+ghost use Rattle.dpl_typer.specs.Shapes.{IsTakenOf};
+ghost use Rattle.dpl_typer.specs.Elaborated.{IsCreated};
 ghost use Rattle.dpl_planner.specs.declared.declaration.Beginning.TheVariants as beginning;
 ghost use Rattle.dpl_planner.specs.Given.{IsOfLeaf};
 ghost use Rattle.dpl_planner.specs.Arrays.{IsNoArrayType};
 ghost use Rattle.dpl_planner.specs.Parts.{IsSingleKind, IsSingleType, IsWrittenType, IsDefault, BeginsByDefault, IsGivenInit, begun_kind, begun_as, IsInitial, PlansDeclare};
 ghost use Rattle.dpl_runnable.specs.Kinds.{IsScalarKind};
-ghost use Rattle.dpl_runnable.specs.Runnable.{IsInitOf, IsShapedInit, IsInitialOf, IsShapedInitial, IsConfigOf, IsRunnableDeclare, IsRunnableStmt};
+ghost use Rattle.dpl_runnable.specs.Runnable.{created_type, IsCreatedOf, IsInitOf, IsShapedInit, IsInitialOf, IsShapedInitial, IsConfigOf, IsRunnableDeclare, IsRunnableStmt};
 ghost use Rattle.dpl_planner.specs.Plans.{intents_in, PlansStmt};
 
 use crate::arrays::{declare_array, declared};
-use crate::change::{holds, is_domain, shaped};
+use crate::change::{holds, is_domain, shaped, taken_type};
 use crate::progress::Plan;
 use dpl_nodes::step::Rank;
 use dpl_nodes::{Step, Stop, TruthDeed};
 use dpl_scopes::Scopes;
 use dpl_syntax::Place;
 use dpl_tree::{
-    Arena, ArrayType, Declare, DeclaredType, DomainType, Init, Initial, ScalarKind,
+    Arena, ArrayType, Create, Declare, DeclaredType, DomainType, Init, Initial, ScalarKind,
     Typed as WrittenType,
 };
+use dpl_typer::created::created;
 use dpl_typer::leaves::{number, truth_word};
 use dpl_typer::{Typed, item};
 use dpl_types::ValueType;
+use dpl_types::range::over;
+use dpl_typing::expression::items;
 
 /// The type that is written: none, `int` or `bool`, or `domain` with a rank.
 #[derive(Clone, Copy)]
@@ -76,10 +82,7 @@ fn written_kind(written: &Option<WrittenType<'_>>) -> Result<WrittenKind, Stop>
         Some(typed) => match &typed.declared {
             DeclaredType::Scalar(_, kind) => Ok(WrittenKind::Scalar(*kind)),
             DeclaredType::Sync(_, _, _) => Err(Stop::IllTyped),
-            DeclaredType::Domain(domain) => match domain.mapped {
-                None => Ok(WrittenKind::Domain(rank_of(domain)?)),
-                Some(_) => Err(Stop::IllTyped),
-            },
+            DeclaredType::Domain(domain) => Ok(WrittenKind::Domain(rank_of(domain)?)),
             DeclaredType::Array(_) => Err(Stop::IllTyped),
         },
     }
@@ -108,7 +111,40 @@ fn by_default<'t>(arena: Arena<'t>, kind: WrittenKind) -> Result<Beginning<'t>, 
     }
 }
 
-// The initial value that is written.
+// The type of a created domain, as the check has it.
+fn domain_type<'s>(
+    arena: Arena<'_>,
+    scopes: &Scopes<'s>,
+    written: &Create<'_>,
+) -> Result<Option<ValueType<'s>>, Stop>
+    ensures typed { IfOk result (λ t. of_type t ≡ created_type scopes.now (created_view written.now)) }
+    ensures ill_typed { result ≢ Err stop.IllTyped }
+{
+    let mut first = None;
+    match items(arena.alloc(), scopes, &written.items, &mut first) {
+        Ok(parts) => Ok(over(written.from, &parts, &mut first)),
+        Err(_) => Err(Stop::Memory),
+    }
+}
+
+// A created domain, which a name of the type may be given.
+fn created_domain<'t>(
+    arena: Arena<'t>,
+    scopes: &Scopes<'_>,
+    declared: ValueType<'_>,
+    written: &Create<'_>,
+) -> Result<Typed<'t>, Stop>
+    ensures created { IfOk result (λ t. IsCreated scopes.now written.now.from (items_view written.now.items) t) }
+    ensures taken { IfOk result (λ t. IsTakenOf (created_type scopes.now (created_view written.now)) (type_view declared.entry)) }
+    ensures ill_typed { (result ≡ Err stop.IllTyped) → IsCreatedOf scopes.now (created_view written.now) DomainKind → IsTakenOf (created_type scopes.now (created_view written.now)) (type_view declared.entry) → ⊥ }
+{
+    let value = created(arena, scopes, written.from, &written.items)?;
+    let given = domain_type(arena, scopes, written)?;
+    taken_type(declared, given)?;
+    Ok(value)
+}
+
+// The initial value that is written. Its map isn't looked at.
 fn given<'t>(
     arena: Arena<'t>,
     scopes: &Scopes<'_>,
@@ -120,13 +156,12 @@ fn given<'t>(
     ensures ill_typed { (result ≡ Err stop.IllTyped) → (k : VariableKind) → IsInitOf scopes.now (init_view written.now) k → IsShapedInit scopes.now (init_view written.now) (type_view declared.entry) → ⊥ }
 {
     match written {
-        Init::Item(written, None) => {
+        Init::Item(written, _) => {
             let value = item(arena, scopes, written)?;
             shaped(arena, scopes, declared, written, value)?;
             Ok(value)
         }
-        Init::Item(_, Some(_)) => Err(Stop::IllTyped),
-        Init::Create(_) => Err(Stop::IllTyped),
+        Init::Create(written) => created_domain(arena, scopes, declared, written),
     }
 }
 

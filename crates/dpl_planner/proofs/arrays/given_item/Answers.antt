@@ -15,7 +15,8 @@ pub returns-clause-initial : goal.returns-clause-initial
 returns-clause-initial c =
     let value = c.in_ok-value in
     let each = c.in_ok-elements in
-    given-array c.args.scopes.now (kind_view c.args.kind) c.args.equals (item_view c.args.written.now) value.value (elements_view each.elements) c.begun.result value.ensures.item value.ensures.valued each.ensures.given each.ensures.node
+    λ mapped.
+    given-array c.args.scopes.now (kind_view c.args.kind) c.args.equals (item_view c.args.written.now) mapped value.value (elements_view each.elements) c.begun.result value.ensures.item value.ensures.valued each.ensures.given each.ensures.node
     (c.begun.ensures.node ∙ ap (λ place. Some (written_initial place (One (elements_view each.elements)))) c.in_ok-at.ensures.near) (c.begun.ensures.kind ∙ each.ensures.kind)
 
 pub returns-in_err-elements-clause-ill_typed : goal.returns-in_err-elements-clause-ill_typed

@@ -7,8 +7,9 @@ use Rattle.dpl_typer.specs.Leaves.{MayBePlain}
 use Rattle.dpl_typer.specs.Simple.{AreSimpleItems}
 use Rattle.dpl_typer.proofs.Listed.{one_node}
 use Rattle.dpl_typer.proofs.Names.{if_ok}
-use Rattle.dpl_planner.specs.Arrays.{HasNoDomain, IsOver}
-use Rattle.dpl_planner.proofs.DeclaredArrays.{many-view}
+use Rattle.dpl_typer.specs.Elaborated.{HasNoDomain}
+use Rattle.dpl_typer.proofs.CreatedFrom.{many-view}
+use Rattle.dpl_planner.specs.Arrays.{IsOver}
 use Rattle.dpl_planner.proofs.arrays.over.Goals as goal
 
 pub over_many-requires : goal.over_many-requires

@@ -3,7 +3,7 @@ use Rattle.std.proofs.Common.{rules, ◌≡◌, Err, subst}
 use Rattle.dpl_tree.specs.View.{items_view}
 use Rattle.dpl_nodes.specs.declared.make.Stop.TheVariants as stop
 use Rattle.dpl_typer.specs.Elaborated.{ArePartsOf}
-use Rattle.dpl_planner.proofs.DeclaredArrays.{many-no_domain, index-no_domain}
+use Rattle.dpl_typer.proofs.CreatedFrom.{many-no_domain, index-no_domain}
 use Rattle.dpl_planner.proofs.arrays.over_many.Goals as goal
 
 pub returns-in_err-made-clause-ill_typed : goal.returns-in_err-made-clause-ill_typed

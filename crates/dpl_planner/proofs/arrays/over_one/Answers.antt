@@ -7,7 +7,8 @@ use Rattle.dpl_lowered.specs.LoweredExpressions.{Once}
 use Rattle.dpl_typer.specs.Makers.{typed_item, kind_of, is_range, is_domain}
 use Rattle.dpl_typer.proofs.Names.{if_ok}
 use Rattle.dpl_planner.specs.Arrays.{between}
-use Rattle.dpl_planner.proofs.DeclaredArrays.{one-over, other-no_domain}
+use Rattle.dpl_typer.proofs.CreatedFrom.{other-no_domain}
+use Rattle.dpl_planner.proofs.DeclaredArrays.{one-over}
 use Rattle.dpl_planner.proofs.arrays.over_one.Goals as goal
 
 pub returns-in-Domain-clause-over : goal.returns-in-Domain-clause-over
