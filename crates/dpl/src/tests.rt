@@ -9,6 +9,7 @@ mod growths;
 mod input;
 mod lines;
 mod long;
+mod maps;
 mod messages;
 mod scalars;
 mod sets;

@@ -4,22 +4,13 @@
 use super::first_wrong;
 use std::test::Fail;
 
-const CLOSED: [(&str, &str); 18] = [
+const CLOSED: [(&str, &str); 15] = [
     ("var A: [1..3] int = + reduce 5;", "! P1 at 1:21\n"),
     (
         "writeln(5); const D = {1..8}; var A: [D] int; writeln(max reduce A);",
         "! P1 at 1:55\n",
     ),
     ("var A: [1..(+ reduce 2)] int;", "! P1 at 1:13\n"),
-    (
-        "const D: domain(1) dmapped new blockDist({1..8});",
-        "! P1 at 1:20\n",
-    ),
-    ("const D = blockDist.createDomain(1..8);", "! P1 at 1:11\n"),
-    (
-        "const r = (1..3) dmapped new cyclicDist(1);",
-        "! P1 at 1:18\n",
-    ),
     ("var c: sync int;", "! P1 at 1:8\n"),
     ("writeln(numLocales);", "! P1 at 1:9\n"),
     ("writeln(here.id);", "! P1 at 1:9\n"),
