@@ -1,32 +1,36 @@
 -- A typed expression evaluates to a fault or to a value of its type, in every frame.
 -- So what is put into a slot is of the slot's kind.
 use Rattle.std.proofs.Common.{ℕ, ℤ, pos, Bool, true, false, not, List, [], ◌∷◌, get_or, Result, Ok, Err, Option, Some, None, refl, sym, subst}
-use Rattle.std.specs.Prelude.{◌&&◌, ◌||◌, ◌+ℤ◌, ◌-ℤ◌, ◌*ℤ◌, neg_ℤ, int_lt, int_le, int_div, int_rem, option_map}
+use Rattle.std.specs.Prelude.{◌&&◌, ◌||◌, ◌+ℤ◌, ◌-ℤ◌, ◌*ℤ◌, neg_ℤ, nat_lt, int_lt, int_le, int_div, int_rem, if◌then◌else◌, option_map}
+use Rattle.std.specs.Int.{int_min, int_max, int_bit_and, int_bit_or, int_bit_xor}
+use mir.Syntax.{w64}
 use Rattle.std.specs.Ordering.{int_eq}
-use Rattle.dpl_language.specs.Arithmetic.{wrap, infix_of, decides, divides}
+use Rattle.dpl_language.specs.Arithmetic.{wrap, infix_of, decides, divides, combined, unit_of}
 use Rattle.dpl_syntax.specs.declared.place.Place.{Place}
 use Rattle.dpl_range.specs.Equality.{TextRange}
-use Rattle.dpl_language.specs.Tree.{IntKind, BoolKind, ExprTree, FirstItem, NoItems, FirstExpr, NoExprs}
-use Rattle.dpl_language.specs.Values.{Value, Int, Truth, Range, number, truth, kept_number, ranges_in, all_ranges, index_of, Fault}
+use Rattle.dpl_language.specs.Tree.{Op, IntKind, BoolKind, ExprTree, FirstItem, NoItems, FirstExpr, NoExprs}
+use Rattle.dpl_language.specs.Values.{Value, Int, Truth, Range, number, truth, kept_number, ranges_in, all_ranges, Index, index_of, Fault, fault, Budget}
 use Rattle.dpl_language.specs.Arithmetic.{tested_divisor}
-use Rattle.dpl_language.specs.Ranges.{size_in, bounded, strided_by, range_sliced, contains_index, dimension, members_of_first, end_of, first_of, last_of, least_of, greatest_of}
-use Rattle.dpl_language.specs.Outcome.{with_ok}
+use Rattle.dpl_language.specs.Ranges.{indices_in, size_in, bounded, strided_by, range_sliced, contains_index, dimension, members_of_first, end_of, first_of, last_of, least_of, greatest_of}
+use Rattle.dpl_language.specs.Outcome.{with_ok, naming_value}
 use Rattle.dpl_language.specs.Environment.{Limits}
-use Rattle.dpl_language.specs.Expressions.{found, unless_decided, bracketed, value_of, item_of, stridden, items_of, values_of}
+use Rattle.dpl_language.specs.Expressions.{folded, fold_over, reduction, found, unless_decided, bracketed, whole_in, value_of, item_of, stridden, items_of, values_of}
 use Rattle.dpl_language.specs.Phrases.{Base, base_of}
 use Rattle.dpl_lowered.specs.Shapes.{nowhere}
+use Rattle.dpl_lowered.specs.LoweredExpressions.{EachTurn}
 use Rattle.dpl_words.specs.Words.{LeafKind, IntLeaf, TruthLeaf, RangeLeaf, no_range, IsOfKind}
 use Rattle.dpl_memory.specs.Memory.{Variable, Memory, element_as, array_at, held_at, in_memory}
-use Rattle.dpl_nodes.specs.declared.make.Typed.{Typed}
-use Rattle.dpl_nodes.specs.declared.make.Typed.TheVariants as typed
 use Rattle.dpl_nodes.specs.declared.tree.Comparison.{Comparison}
 use Rattle.dpl_nodes.specs.declared.tree.Comparison.TheVariants as comparison
-use Rattle.dpl_nodes.specs.declared.tree.IntExpr.{IntExpr, Number as NumberNode, Local as IntLocal, Negative', Sum', Difference', Product', Quotient', Remainder', Size', First', Last', Low', High', Count', Element'}
-use Rattle.dpl_nodes.specs.declared.tree.BoolExpr.{BoolExpr, Truth as TruthNode, Local as TruthLocal, Not', And', Or', Same', Differ', Compare as CompareNode, Contains as ContainsNode, HasIndex as HasIndexNode, Element as TruthElement}
+use Rattle.dpl_nodes.specs.declared.fold.IntFold.{IntFold}
+use Rattle.dpl_nodes.specs.declared.fold.IntFold.TheVariants as ints
+use Rattle.dpl_nodes.specs.declared.fold.TruthFold.{TruthFold}
+use Rattle.dpl_nodes.specs.declared.fold.TruthFold.TheVariants as truths
+use Rattle.dpl_nodes.specs.declared.tree.IntExpr.{IntExpr, Number as NumberNode, Local as IntLocal, Negative', Sum', Difference', Product', Quotient', Remainder', Size', First', Last', Low', High', Count', Element', Reduced' as IntReduced'}
+use Rattle.dpl_nodes.specs.declared.tree.BoolExpr.{BoolExpr, Truth as TruthNode, Local as TruthLocal, Not', And', Or', Same', Differ', Compare as CompareNode, Contains as ContainsNode, HasIndex as HasIndexNode, Element as TruthElement, Reduced' as TruthReduced'}
 use Rattle.dpl_nodes.specs.declared.tree.RangeExpr.{RangeExpr, Local as RangeLocal, Between', Slice', Dimension'}
 use Rattle.dpl_nodes.specs.declared.tree.Stride.{Stride as StrideNode, Absent, By'}
-use Rattle.dpl_nodes.specs.Typed.{comparison_view, dots_view, int_view, truth_view, range_view, range_item, stride_view, index_items, index_exprs, domain_view}
-use Rattle.dpl_nodes.specs.Makers.{typed_view, typed_item, kind_of}
+use Rattle.dpl_nodes.specs.Typed.{comparison_view, dots_view, int_view, truth_view, range_view, range_item, stride_view, index_items, index_exprs, domain_view, promoted_int, promoted_truth, int_fold_view, truth_fold_view}
 
 -- a value of a kind, or a fault
 abbrev pub Gives : LeafKind → Result Value Fault → Type 0
@@ -117,6 +121,50 @@ elements : (k : LeafKind) (at : List Value → Result Value Fault) → ((vs : Li
 elements k at h (Ok vs) = h vs
 elements k at h (Err e) = tt
 
+-- ---- reductions: what an operator gives over nothing, and of two values, and so of however many
+int_unit : (f : IntFold) → IsOfKind IntLeaf (unit_of (int_fold_view f))
+int_unit ints.Sum = (pos 0, refl)
+int_unit ints.Product = (pos 1, refl)
+int_unit ints.BitAnd = (neg_ℤ (pos 1), refl)
+int_unit ints.BitOr = (pos 0, refl)
+int_unit ints.BitXor = (pos 0, refl)
+int_unit ints.Least = (pos 9223372036854775807, refl)
+int_unit ints.Greatest = (neg_ℤ (pos 9223372036854775808), refl)
+
+ints_combined : (f : IntFold) (v w : Value) → IsOfKind IntLeaf (combined (int_fold_view f) v w)
+ints_combined ints.Sum v w = (wrap (number v +ℤ number w), refl)
+ints_combined ints.Product v w = (wrap (number v *ℤ number w), refl)
+ints_combined ints.BitAnd v w = (int_bit_and w64 (number v) (number w), refl)
+ints_combined ints.BitOr v w = (int_bit_or w64 (number v) (number w), refl)
+ints_combined ints.BitXor v w = (int_bit_xor w64 (number v) (number w), refl)
+ints_combined ints.Least v w = (int_min (number v) (number w), refl)
+ints_combined ints.Greatest v w = (int_max (number v) (number w), refl)
+
+truth_unit : (f : TruthFold) → IsOfKind TruthLeaf (unit_of (truth_fold_view f))
+truth_unit truths.AllOf = (true, refl)
+truth_unit truths.AnyOf = (false, refl)
+
+truths_combined : (f : TruthFold) (v w : Value) → IsOfKind TruthLeaf (combined (truth_fold_view f) v w)
+truths_combined truths.AllOf v w = (truth v && truth w, refl)
+truths_combined truths.AnyOf v w = (truth v || truth w, refl)
+
+module _ (k : LeafKind) (op : Op) (unit : IsOfKind k (unit_of op)) (both : (v w : Value) → IsOfKind k (combined op v w)) where
+  folded-gives : (value : Index → Result Value Fault) (ts : List Index) (so_far : Value) → IsOfKind k so_far → Gives k (folded op value ts so_far)
+  folded-gives value [] so_far h = h
+  folded-gives value (t ∷ ts) so_far h = by (value t) (λ v. folded-gives value ts (combined op so_far v) (both so_far v))
+    where
+      by : (r : Result Value Fault) → ((v : Value) → Gives k (folded op value ts (combined op so_far v))) → Gives k (with_ok r (λ v. folded op value ts (combined op so_far v)))
+      by (Ok v) more = more v
+      by (Err f) more = tt
+
+  reduction-gives : (budget : ℕ) (at : Place) (value : Index → Result Value Fault) (domain : Option (List TextRange)) → Gives k (reduction budget at op value domain)
+  reduction-gives budget at value None = unit
+  reduction-gives budget at value (Some rs) = by (nat_lt budget (size_in rs))
+    where
+      by : (b : Bool) → Gives k (if b then Err (fault Budget at) else fold_over op value rs)
+      by true = tt
+      by false = folded-gives (λ t. naming_value t (value t)) (indices_in rs) (unit_of op) unit
+
 module _ (limits : Limits) (s : Memory) where
   abbrev value : ExprTree Variable → Result Value Fault
   value e = value_of limits in_memory e None s
@@ -147,6 +195,9 @@ module _ (limits : Limits) (s : Memory) where
   int_gives (Element' slot p t at) =
       elements IntLeaf (λ vs. found at.now (option_map (element_as IntKind) (held_at (index_of vs) (array_at slot s))))
       (λ vs. int_found at.now (held_at (index_of vs) (array_at slot s))) (items_of limits in_memory (index_items t) s)
+  int_gives (IntReduced' f p e at) =
+      reduction-gives IntLeaf (int_fold_view f) (int_unit f) (ints_combined f) limits.budget at.now (λ t. value_of limits in_memory (promoted_int EachTurn e) (Some t) s)
+      (whole_in limits in_memory (promoted_int EachTurn e) s)
 
   stridden-gives : (by : StrideNode) (range : Result TextRange Fault) → Gives RangeLeaf (stridden limits in_memory (stride_view by) range s)
   stridden-gives Absent range = bounded-gives range
@@ -182,14 +233,6 @@ module _ (limits : Limits) (s : Memory) where
   truth_gives (TruthElement slot t at) =
       elements TruthLeaf (λ vs. found at.now (option_map (element_as BoolKind) (held_at (index_of vs) (array_at slot s))))
       (λ vs. truth_found at.now (held_at (index_of vs) (array_at slot s))) (items_of limits in_memory (index_items t.now) s)
-
-  pub typed_gives : (t : Typed) → Gives (kind_of t) (value (typed_view t))
-  typed_gives (typed.Int e) = int_gives e.now
-  typed_gives (typed.Truth e) = truth_gives e.now
-  typed_gives (typed.Range e) = range_gives e.now
-
-  -- and as an item
-  pub typed_item_gives : (t : Typed) → Gives (kind_of t) (item_of limits in_memory (typed_item t) None s)
-  typed_item_gives (typed.Int e) = int_gives e.now
-  typed_item_gives (typed.Truth e) = truth_gives e.now
-  typed_item_gives (typed.Range e) = item_gives e.now
+  truth_gives (TruthReduced' f p e at) =
+      reduction-gives TruthLeaf (truth_fold_view f) (truth_unit f) (truths_combined f) limits.budget at.now (λ t. value_of limits in_memory (promoted_truth EachTurn e) (Some t) s)
+      (whole_in limits in_memory (promoted_truth EachTurn e) s)

@@ -11,17 +11,16 @@ use Rattle.dpl_language.specs.Expressions.{or_domain, whole_in, value_of}
 use Rattle.dpl_lowered.specs.Shapes.{nowhere, two}
 use Rattle.dpl_lowered.specs.LoweredExpressions.{Times}
 use Rattle.dpl_memory.specs.Memory.{Variable, Memory, in_memory, array_at}
-use Rattle.dpl_nodes.specs.declared.tree.IntExpr.{IntExpr, Number, Local as IntLocal, Negative' as IntNegative', Sum' as IntSum', Difference' as IntDifference', Product' as IntProduct', Quotient' as IntQuotient', Remainder' as IntRemainder', Size', First', Last', Low', High', Count', Element'}
-use Rattle.dpl_nodes.specs.declared.tree.BoolExpr.{BoolExpr, Truth as TruthNode, Local as TruthLocal, Not' as TruthNot', And' as TruthAnd', Or' as TruthOr', Same' as TruthSame', Differ' as TruthDiffer', Compare as TruthCompare, Contains, HasIndex, Element as TruthAt}
-use Rattle.dpl_nodes.specs.declared.promoted.PromotedInt.{PromotedInt, Scalar as IntScalar, Element as IntElement, Negative', Sum', Difference', Product', Quotient', Remainder'}
-use Rattle.dpl_nodes.specs.declared.promoted.PromotedTruth.{PromotedTruth, Scalar as TruthScalar, Element as TruthElement, Not', And', Or', Same', Differ', Compare}
-use Rattle.dpl_nodes.specs.Typed.{int_view, truth_view, comparison_view}
-use Rattle.dpl_nodes.specs.Promoted.{promoted_int, promoted_truth}
+use Rattle.dpl_nodes.specs.declared.tree.IntExpr.{IntExpr, Number, Local as IntLocal, Negative' as IntNegative', Sum' as IntSum', Difference' as IntDifference', Product' as IntProduct', Quotient' as IntQuotient', Remainder' as IntRemainder', Size', First', Last', Low', High', Count', Element', Reduced' as IntReduced'}
+use Rattle.dpl_nodes.specs.declared.tree.BoolExpr.{BoolExpr, Truth as TruthNode, Local as TruthLocal, Not' as TruthNot', And' as TruthAnd', Or' as TruthOr', Same' as TruthSame', Differ' as TruthDiffer', Compare as TruthCompare, Contains, HasIndex, Element as TruthAt, Reduced' as TruthReduced'}
+use Rattle.dpl_nodes.specs.declared.tree.PromotedInt.{PromotedInt, Scalar' as IntScalar', Element as IntElement, Negative', Sum', Difference', Product', Quotient', Remainder'}
+use Rattle.dpl_nodes.specs.declared.tree.PromotedTruth.{PromotedTruth, Scalar' as TruthScalar', Element as TruthElement, Not', And', Or', Same', Differ', Compare}
+use Rattle.dpl_nodes.specs.Typed.{int_view, truth_view, comparison_view, promoted_int, promoted_truth}
 use Rattle.dpl_nodes.proofs.Unread.{cell_read-int, cell_read-truth}
 
 -- ---- no cell reads
 pub cell_read-promoted_int : (m : Times) (e : PromotedInt) → cell_read (promoted_int m e) ≡ None
-cell_read-promoted_int m (IntScalar e) = cell_read-int e.now
+cell_read-promoted_int m (IntScalar' p e) = cell_read-int e
 cell_read-promoted_int m (IntElement slot at) = refl
 cell_read-promoted_int m (Negative' p e) = refl
 cell_read-promoted_int m (Sum' p a q b) = refl
@@ -31,7 +30,7 @@ cell_read-promoted_int m (Quotient' p a q b at) = refl
 cell_read-promoted_int m (Remainder' p a q b at) = refl
 
 pub cell_read-promoted_truth : (m : Times) (e : PromotedTruth) → cell_read (promoted_truth m e) ≡ None
-cell_read-promoted_truth m (TruthScalar e) = cell_read-truth e.now
+cell_read-promoted_truth m (TruthScalar' p e) = cell_read-truth e
 cell_read-promoted_truth m (TruthElement slot at) = refl
 cell_read-promoted_truth m (Not' p e) = refl
 cell_read-promoted_truth m (And' p a q b) = refl
@@ -99,6 +98,7 @@ module _ (limits : Limits) (s : Memory) where
   int_view-whole (High' p r at) = refl
   int_view-whole (Count' p d) = refl
   int_view-whole (Element' slot p t at) = refl
+  int_view-whole (IntReduced' f p e at) = refl
 
   pub truth_view-whole : (e : BoolExpr) → whole_in limits in_memory (truth_view e) s ≡ None
   truth_view-whole (TruthNode b) = refl
@@ -112,6 +112,7 @@ module _ (limits : Limits) (s : Memory) where
   truth_view-whole (Contains r i) = refl
   truth_view-whole (HasIndex d t) = refl
   truth_view-whole (TruthAt slot t at) = refl
+  truth_view-whole (TruthReduced' f p e at) = refl
 
   pub int_view-at : (e : IntExpr) (t : Index) → IsSameAt t (int_view e)
   int_view-at (Number n) t = refl
@@ -129,6 +130,7 @@ module _ (limits : Limits) (s : Memory) where
   int_view-at (High' p r at) t = refl
   int_view-at (Count' p d) t = refl
   int_view-at (Element' slot p i at) t = refl
+  int_view-at (IntReduced' f p e at) t = refl
 
   pub truth_view-at : (e : BoolExpr) (t : Index) → IsSameAt t (truth_view e)
   truth_view-at (TruthNode b) t = refl
@@ -142,10 +144,11 @@ module _ (limits : Limits) (s : Memory) where
   truth_view-at (Contains r i) t = refl
   truth_view-at (HasIndex d i) t = refl
   truth_view-at (TruthAt slot i at) t = refl
+  truth_view-at (TruthReduced' f p e at) t = refl
 
   -- ---- promoted expressions in which there is none, and which so are evaluated once
   pub promoted_int-once : (m : Times) (e : PromotedInt) (t : Index) → whole_in limits in_memory (promoted_int m e) s ≡ None → IsSameAt t (promoted_int m e)
-  promoted_int-once m (IntScalar e) t none = int_view-at e.now t
+  promoted_int-once m (IntScalar' p e) t none = int_view-at e t
   promoted_int-once m (IntElement slot at) t none = absurd (is_whole (array_at slot s).ranges none)
   promoted_int-once m (Negative' p e) t none = prefixed-at t Minus (promoted_int m e) (promoted_int-once m e t none)
   promoted_int-once m (Sum' p a q b) t none = two-once t (promoted_int m a) (promoted_int m b) nowhere Add (promoted_int-once m a t) (promoted_int-once m b t) none
@@ -155,7 +158,7 @@ module _ (limits : Limits) (s : Memory) where
   promoted_int-once m (Remainder' p a q b at) t none = two-once t (promoted_int m a) (promoted_int m b) at.now Remainder (promoted_int-once m a t) (promoted_int-once m b t) none
 
   pub promoted_truth-once : (m : Times) (e : PromotedTruth) (t : Index) → whole_in limits in_memory (promoted_truth m e) s ≡ None → IsSameAt t (promoted_truth m e)
-  promoted_truth-once m (TruthScalar e) t none = truth_view-at e.now t
+  promoted_truth-once m (TruthScalar' p e) t none = truth_view-at e t
   promoted_truth-once m (TruthElement slot at) t none = absurd (is_whole (array_at slot s).ranges none)
   promoted_truth-once m (Not' p e) t none = prefixed-at t Not (promoted_truth m e) (promoted_truth-once m e t none)
   promoted_truth-once m (And' p a q b) t none = two-once t (promoted_truth m a) (promoted_truth m b) nowhere And (promoted_truth-once m a t) (promoted_truth-once m b t) none

@@ -4,8 +4,8 @@ use Rattle.std.proofs.Common.{◌≡◌, Option, Some, None, refl}
 use Rattle.dpl_language.specs.Tree.{Placed}
 use Rattle.dpl_language.specs.Phrases.{bare_name, read_by, cell_read, item_read}
 use Rattle.dpl_memory.specs.Memory.{Variable}
-use Rattle.dpl_nodes.specs.declared.tree.IntExpr.{IntExpr, Number, Local as IntLocal, Negative', Sum', Difference', Product', Quotient', Remainder', Size', First', Last', Low', High', Count', Element'}
-use Rattle.dpl_nodes.specs.declared.tree.BoolExpr.{BoolExpr, Truth as TruthNode, Local as TruthLocal, Not', And', Or', Same', Differ', Compare, Contains, HasIndex, Element as TruthElement}
+use Rattle.dpl_nodes.specs.declared.tree.IntExpr.{IntExpr, Number, Local as IntLocal, Negative', Sum', Difference', Product', Quotient', Remainder', Size', First', Last', Low', High', Count', Element', Reduced'}
+use Rattle.dpl_nodes.specs.declared.tree.BoolExpr.{BoolExpr, Truth as TruthNode, Local as TruthLocal, Not', And', Or', Same', Differ', Compare, Contains, HasIndex, Element as TruthElement, Reduced' as TruthReduced'}
 use Rattle.dpl_nodes.specs.declared.tree.RangeExpr.{RangeExpr, Local as RangeLocal, Between', Slice', Dimension'}
 use Rattle.dpl_nodes.specs.declared.tree.DomainExpr.{DomainExpr, Local as DomainLocal, OfArray, Literal', Slice' as DomainSlice', Expanded', Created'}
 use Rattle.dpl_nodes.specs.Typed.{int_view, truth_view, range_item, range_view, domain_view}
@@ -30,6 +30,7 @@ cell_read-int (Low' p r at) = read_by-none (bare_name (range_view r))
 cell_read-int (High' p r at) = read_by-none (bare_name (range_view r))
 cell_read-int (Count' p d) = read_by-none (bare_name (domain_view d))
 cell_read-int (Element' slot p t at) = refl
+cell_read-int (Reduced' f p e at) = refl
 
 pub cell_read-truth : (e : BoolExpr) → cell_read (truth_view e) ≡ None
 cell_read-truth (TruthNode b) = refl
@@ -43,6 +44,7 @@ cell_read-truth (Compare c a b) = refl
 cell_read-truth (Contains r i) = read_by-none (bare_name (range_view r.now))
 cell_read-truth (HasIndex d t) = read_by-none (bare_name (domain_view d.now))
 cell_read-truth (TruthElement slot t at) = refl
+cell_read-truth (TruthReduced' f p e at) = refl
 
 pub item_read-range : (e : RangeExpr) → item_read (range_item e) ≡ None
 item_read-range (RangeLocal slot) = refl

@@ -2,7 +2,7 @@
 use Rattle.std.specs.Prelude.{ℕ, ◌<◌, zero, suc, ℤ, Bool, Result, Ok, Err, List, [], ◌∷◌}
 use Rattle.dpl_range.specs.Equality.{TextRange}
 use Rattle.dpl_syntax.specs.declared.place.Place.{Place}
-use Rattle.dpl_language.specs.Values.{Value, Int, Truth, Range, Domain, FaultCode, Outside, ZeroDivisor, PastLimit, EmptyEnd, Budget, NoLocale, CellStuck, ArrayTooLarge, Turn, InNone, InTurn, Fault}
+use Rattle.dpl_language.specs.Values.{Value, Int, Truth, Range, Domain, FaultCode, Outside, ZeroDivisor, PastLimit, EmptyEnd, Budget, NoLocale, CellStuck, ArrayTooLarge, Turn, InNone, InTurn, Fault, in_the_turn}
 use Rattle.dpl_nodes.specs.declared.fault.FaultCode.{FaultCode as CodeNode}
 use Rattle.dpl_nodes.specs.declared.fault.FaultCode.TheVariants as code
 use Rattle.dpl_nodes.specs.declared.fault.Turn.{Turn as TurnNode}
@@ -41,6 +41,11 @@ turn_view (turn.Space i j k) = InTurn (i ∷ j ∷ k ∷ [])
 
 abbrev pub fault_view : FaultNode → Fault
 fault_view f = record { code = code_view f.code; at = f.at; turn = turn_view f.turn }
+
+-- what a walk hands back, with the turn that stands beside it
+abbrev pub telling : {A : Type 0} → TurnNode → Result A Fault → Result A Fault
+telling t (Ok a) = Ok a
+telling t (Err f) = Err (in_the_turn (turn_view t) f)
 
 -- a place that a fault's word has room for
 abbrev pub IsNear : Place → Type 0

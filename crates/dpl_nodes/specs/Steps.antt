@@ -26,12 +26,13 @@ use Rattle.dpl_nodes.specs.declared.step.Rank.{Rank}
 use Rattle.dpl_nodes.specs.declared.step.Rank.TheVariants as rank
 use Rattle.dpl_nodes.specs.declared.step.Names.{Names}
 use Rattle.dpl_nodes.specs.declared.step.Names.TheVariants.{Int as IntName, Tuple as TupleName, Each}
-use Rattle.dpl_nodes.specs.declared.step.Step.{Step, Nothing as NothingStep, DeclareInt, DeclareRange, ConfigInt, SetInt, SetRange, Add, Subtract, Multiply, Divide, Remainder, ReduceInt, Truth as TruthStep, DeclareDomain, DeclareEmpty, SetDomain, DeclareArray, SetElement, SetTruthElement, SetArray, SetTruthArray, Write as WriteStep, Block', If', While', For', Forall', ForEach', ForallEach', Row_of-Step, end_of-Step, more_of-Step}
+use Rattle.dpl_nodes.specs.declared.step.Step.{Step, Nothing as NothingStep, Int as IntStep, DeclareRange, SetRange, Truth as TruthStep, DeclareDomain, DeclareEmpty, SetDomain, DeclareArray, SetElement, SetTruthElement, SetArray, SetTruthArray, Write as WriteStep, Block', If', While', For', Forall', ForEach', ForallEach', Row_of-Step, end_of-Step, more_of-Step}
+use Rattle.dpl_nodes.specs.declared.step.IntDeed.{IntDeed}
+use Rattle.dpl_nodes.specs.declared.step.IntDeed.TheVariants as deeds
 use Rattle.dpl_nodes.specs.declared.step.TruthDeed.{TruthDeed}
 use Rattle.dpl_nodes.specs.declared.step.TruthDeed.TheVariants as deed
 use Rattle.dpl_nodes.specs.declared.step.Else.{Else as ElseNode, Absent, Do'}
-use Rattle.dpl_nodes.specs.Typed.{kind_view, leaf_named, items_one, int_view, truth_view, range_item, ranges_items, index_exprs, domain_view}
-use Rattle.dpl_nodes.specs.Promoted.{promoted_int, promoted_truth}
+use Rattle.dpl_nodes.specs.Typed.{kind_view, leaf_named, items_one, int_view, truth_view, range_item, ranges_items, index_exprs, domain_view, promoted_int, promoted_truth}
 
 -- a name that no fault tells
 abbrev pub unplaced_leaf : Variable → Placed Variable
@@ -65,6 +66,18 @@ element_set x t op at e =
 
 abbrev pub whole_set : Placed Variable → Assign → Place → ExprTree Variable → StmtTree Variable
 whole_set x op at e = Assigned (Whole x) (record { at = at; op = op; last = nowhere }) (One e) nowhere
+
+-- what is done to an int
+abbrev pub int_changed : IntDeed → ℕ → ItemTree Variable → StmtTree Variable
+int_changed deeds.Declare slot item = declared_as None (int_leaf slot) item
+int_changed deeds.Config slot item = declared_as (Some nowhere) (int_leaf slot) item
+int_changed deeds.Set slot item = assigned_to (int_leaf slot) Set nowhere item
+int_changed deeds.Add slot item = assigned_to (int_leaf slot) SetAdd nowhere item
+int_changed deeds.Subtract slot item = assigned_to (int_leaf slot) SetSubtract nowhere item
+int_changed deeds.Multiply slot item = assigned_to (int_leaf slot) SetMultiply nowhere item
+int_changed (deeds.Divide at) slot item = assigned_to (int_leaf slot) SetDivide at.now item
+int_changed (deeds.Remainder at) slot item = assigned_to (int_leaf slot) SetRemainder at.now item
+int_changed deeds.Reduce slot item = assigned_to (int_leaf slot) SetReduce nowhere item
 
 -- what is done to a truth value
 abbrev pub truth_changed : TruthDeed → ℕ → ItemTree Variable → StmtTree Variable
@@ -191,17 +204,9 @@ listed ts = BlockBody nowhere ts nowhere
 abbrev mutual
   pub step_view : Step → StmtTree Variable
   step_view NothingStep = Nothing nowhere
-  step_view (DeclareInt slot e) = declared_as None (int_leaf slot) (One (int_view e.now))
+  step_view (IntStep deed slot e) = int_changed deed slot (One (int_view e.now))
   step_view (DeclareRange slot e) = declared_as None (range_leaf slot) (range_item e.now)
-  step_view (ConfigInt slot e) = declared_as (Some nowhere) (int_leaf slot) (One (int_view e.now))
-  step_view (SetInt slot e) = assigned_to (int_leaf slot) Set nowhere (One (int_view e.now))
   step_view (SetRange slot e) = assigned_to (range_leaf slot) Set nowhere (range_item e.now)
-  step_view (Add slot e) = assigned_to (int_leaf slot) SetAdd nowhere (One (int_view e.now))
-  step_view (Subtract slot e) = assigned_to (int_leaf slot) SetSubtract nowhere (One (int_view e.now))
-  step_view (Multiply slot e) = assigned_to (int_leaf slot) SetMultiply nowhere (One (int_view e.now))
-  step_view (Divide slot at e) = assigned_to (int_leaf slot) SetDivide at.now (One (int_view e.now))
-  step_view (Remainder slot at e) = assigned_to (int_leaf slot) SetRemainder at.now (One (int_view e.now))
-  step_view (ReduceInt slot e) = assigned_to (int_leaf slot) SetReduce nowhere (One (int_view e.now))
   step_view (TruthStep deed slot e) = truth_changed deed slot (One (truth_view e.now))
   step_view (DeclareDomain slot e) = declared_as None (variable DomainKind slot) (One (domain_view e.now))
   step_view (DeclareEmpty slot rank) = declared_with (unplaced_leaf (variable DomainKind slot)) (of_rank rank) None

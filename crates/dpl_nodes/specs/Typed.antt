@@ -2,8 +2,9 @@
 -- It is a lowered tree over slots: two operands to an operator, no brackets, and the places of faults alone.
 use Rattle.std.specs.Prelude.{ℕ}
 use Rattle.dpl_syntax.specs.declared.place.Place.{Place}
-use Rattle.dpl_language.specs.Tree.{Kind, IntKind, BoolKind, Minus, Not, Infix, Add, Subtract, Multiply, Divide, Remainder, Less, LessEqual, Greater, GreaterEqual, Equal, NotEqual, And, Or, Dots, Closed, HalfOpen, Counted, Size, First, Last, Low, High, DomainOf, ExprTree, Number, TruthWord, Named, Grouped, DomainLiteral, Prefixed, Postfixed, ItemTree, One, RangeItem, Stride, NoStride, By, NoPosts, Post, Brackets, Dotted, MethodTree, Plainly, Dim, Contains, Expand, Items, FirstItem, NoItems, NextItem, Exprs, FirstExpr, NoExprs, NextExpr}
-use Rattle.dpl_lowered.specs.Shapes.{nowhere, two}
+use Rattle.dpl_language.specs.Tree.{Kind, IntKind, BoolKind, Minus, Not, Infix, Add, Subtract, Multiply, Divide, Remainder, Less, LessEqual, Greater, GreaterEqual, Equal, NotEqual, And, Or, Dots, Closed, HalfOpen, Counted, Size, First, Last, Low, High, DomainOf, Op, Sum, Product, AllOf, AnyOf, BitAnd, BitOr, BitXor, Least, Greatest, ExprTree, Number, TruthWord, Named, Grouped, DomainLiteral, Prefixed, Reduced, Postfixed, ItemTree, One, RangeItem, Stride, NoStride, By, NoPosts, Post, Brackets, Dotted, MethodTree, Plainly, Dim, Contains, Expand, Items, FirstItem, NoItems, NextItem, Exprs, FirstExpr, NoExprs, NextExpr}
+use Rattle.dpl_lowered.specs.Shapes.{nowhere, kept, two}
+use Rattle.dpl_lowered.specs.LoweredExpressions.{Times, EachTurn, each_turn}
 use Rattle.dpl_tree.specs.declared.operator.ScalarKind.{ScalarKind}
 use Rattle.dpl_tree.specs.declared.operator.ScalarKind.TheVariants.{Int as IntScalar, Bool as TruthScalar}
 use Rattle.dpl_memory.specs.Memory.{DomainKind, TupleKind, ArrayKind, Variable, variable, int_leaf, truth_leaf, range_leaf}
@@ -11,13 +12,21 @@ use Rattle.dpl_nodes.specs.declared.tree.Dots.{Dots as DotsNode}
 use Rattle.dpl_nodes.specs.declared.tree.Dots.TheVariants as dots
 use Rattle.dpl_nodes.specs.declared.tree.Comparison.{Comparison}
 use Rattle.dpl_nodes.specs.declared.tree.Comparison.TheVariants as comparison
-use Rattle.dpl_nodes.specs.declared.tree.IntExpr.{IntExpr, Number as NumberNode, Local as IntLocal, Negative', Sum', Difference', Product', Quotient', Remainder', Size', First', Last', Low', High', Count', Element'}
-use Rattle.dpl_nodes.specs.declared.tree.BoolExpr.{BoolExpr, Truth as TruthNode, Local as TruthLocal, Not', And', Or', Same', Differ', Compare as CompareNode, Contains as ContainsNode, HasIndex as HasIndexNode, Element as TruthElement}
+use Rattle.dpl_nodes.specs.declared.tree.IntExpr.{IntExpr, Number as NumberNode, Local as IntLocal, Negative', Sum', Difference', Product', Quotient', Remainder', Size', First', Last', Low', High', Count', Element', Reduced' as IntReduced'}
+use Rattle.dpl_nodes.specs.declared.tree.BoolExpr.{BoolExpr, Truth as TruthNode, Local as TruthLocal, Not', And', Or', Same', Differ', Compare as CompareNode, Contains as ContainsNode, HasIndex as HasIndexNode, Element as TruthElement, Reduced' as TruthReduced'}
 use Rattle.dpl_nodes.specs.declared.tree.RangeExpr.{RangeExpr, Local as RangeLocal, Between', Slice', Dimension'}
 use Rattle.dpl_nodes.specs.declared.tree.Stride.{Stride as StrideNode, Absent, By'}
 use Rattle.dpl_nodes.specs.declared.tree.RangesExpr.{RangesExpr, Line' as LineRange', Plane' as PlaneRanges', Space' as SpaceRanges'}
 use Rattle.dpl_nodes.specs.declared.tree.IndexExpr.{IndexExpr, Line' as LineIndex', Plane' as PlaneIndex', Space' as SpaceIndex', Tuple as TupleIndex}
 use Rattle.dpl_nodes.specs.declared.tree.DomainExpr.{DomainExpr, Local as DomainLocal, OfArray, Literal', Slice' as DomainSlice', Expanded', Created'}
+use Rattle.dpl_nodes.specs.declared.tree.PromotedInt.{PromotedInt, Scalar' as IntScalar', Element as IntsElement, Negative' as Negatives', Sum' as Sums', Difference' as Differences', Product' as Products', Quotient' as Quotients', Remainder' as Remainders'}
+use Rattle.dpl_nodes.specs.declared.tree.PromotedTruth.{PromotedTruth, Scalar' as TruthScalar', Element as TruthsElement, Not' as Nots', And' as Ands', Or' as Ors', Same' as Sames', Differ' as Differs', Compare as Compares}
+use Rattle.dpl_nodes.specs.declared.fold.IntFold.{IntFold}
+use Rattle.dpl_nodes.specs.declared.fold.IntFold.TheVariants as ints
+use Rattle.dpl_nodes.specs.declared.fold.TruthFold.{TruthFold}
+use Rattle.dpl_nodes.specs.declared.fold.TruthFold.TheVariants as truths
+use Rattle.dpl_nodes.specs.declared.fold.Fold.{Fold}
+use Rattle.dpl_nodes.specs.declared.fold.Fold.TheVariants as fold
 
 abbrev pub leaf_named : Variable → ExprTree Variable
 leaf_named x = Named (record { at = nowhere; name = x })
@@ -74,6 +83,23 @@ comparison_view comparison.AtMost = LessEqual
 comparison_view comparison.Greater = Greater
 comparison_view comparison.AtLeast = GreaterEqual
 
+abbrev pub int_fold_view : IntFold → Op
+int_fold_view ints.Sum = Sum
+int_fold_view ints.Product = Product
+int_fold_view ints.BitAnd = BitAnd
+int_fold_view ints.BitOr = BitOr
+int_fold_view ints.BitXor = BitXor
+int_fold_view ints.Least = Least
+int_fold_view ints.Greatest = Greatest
+
+abbrev pub truth_fold_view : TruthFold → Op
+truth_fold_view truths.AllOf = AllOf
+truth_fold_view truths.AnyOf = AnyOf
+
+abbrev pub fold_view : Fold → Op
+fold_view (fold.Ints f) = int_fold_view f
+fold_view (fold.Truths f) = truth_fold_view f
+
 abbrev mutual
   pub int_view : IntExpr → ExprTree Variable
   int_view (NumberNode n) = Number nowhere n
@@ -91,6 +117,7 @@ abbrev mutual
   int_view (High' p r at) = dotted (range_view r) (Plainly at.now High)
   int_view (Count' p d) = dotted (domain_view d) (Plainly nowhere Size)
   int_view (Element' slot p t at) = in_square (array_named IntKind slot at.now) (index_items t)
+  int_view (IntReduced' f p e at) = Reduced nowhere (int_fold_view f) at.now (promoted_int EachTurn e)
 
   -- a range as an item
   pub range_item : RangeExpr → ItemTree Variable
@@ -131,6 +158,18 @@ abbrev mutual
   domain_view (Expanded' p d at q e) = dotted (domain_view d) (Expand at.now nowhere (int_view e) nowhere)
   domain_view (Created' at p d) = DomainLiteral at.now (items_one (One (domain_view d))) nowhere
 
+  -- A promoted expression: a whole array is its name. Where the expression is evaluated at each index, the name has its
+  -- place, for there it is told that the array hasn't the index.
+  pub promoted_int : Times → PromotedInt → ExprTree Variable
+  promoted_int m (IntScalar' p e) = int_view e
+  promoted_int m (IntsElement slot at) = array_named IntKind slot (kept (each_turn m) at.now)
+  promoted_int m (Negatives' p e) = Prefixed nowhere Minus (promoted_int m e)
+  promoted_int m (Sums' p a q b) = two (promoted_int m a) nowhere Add (promoted_int m b)
+  promoted_int m (Differences' p a q b) = two (promoted_int m a) nowhere Subtract (promoted_int m b)
+  promoted_int m (Products' p a q b) = two (promoted_int m a) nowhere Multiply (promoted_int m b)
+  promoted_int m (Quotients' p a q b at) = two (promoted_int m a) at.now Divide (promoted_int m b)
+  promoted_int m (Remainders' p a q b at) = two (promoted_int m a) at.now Remainder (promoted_int m b)
+
 -- the coordinates of an index, as arguments
 abbrev pub index_exprs : IndexExpr → Exprs Variable
 index_exprs (LineIndex' p a) = exprs_one (int_view a)
@@ -138,15 +177,27 @@ index_exprs (PlaneIndex' p a q b) = exprs_two (int_view a) (int_view b)
 index_exprs (SpaceIndex' p a q b r c) = exprs_three (int_view a) (int_view b) (int_view c)
 index_exprs (TupleIndex slot) = exprs_one (tuple_named slot)
 
-abbrev pub truth_view : BoolExpr → ExprTree Variable
-truth_view (TruthNode b) = TruthWord nowhere b
-truth_view (TruthLocal slot) = leaf_named (truth_leaf slot)
-truth_view (Not' p e) = Prefixed nowhere Not (truth_view e)
-truth_view (And' p a q b) = two (truth_view a) nowhere And (truth_view b)
-truth_view (Or' p a q b) = two (truth_view a) nowhere Or (truth_view b)
-truth_view (Same' p a q b) = two (truth_view a) nowhere Equal (truth_view b)
-truth_view (Differ' p a q b) = two (truth_view a) nowhere NotEqual (truth_view b)
-truth_view (CompareNode c a b) = two (int_view a.now) nowhere (comparison_view c) (int_view b.now)
-truth_view (ContainsNode r i) = dotted (range_view r.now) (Contains nowhere nowhere (FirstExpr (int_view i.now) NoExprs) nowhere)
-truth_view (HasIndexNode d t) = dotted (domain_view d.now) (Contains nowhere nowhere (index_exprs t.now) nowhere)
-truth_view (TruthElement slot t at) = in_square (array_named BoolKind slot at.now) (index_items t.now)
+abbrev mutual
+  pub truth_view : BoolExpr → ExprTree Variable
+  truth_view (TruthNode b) = TruthWord nowhere b
+  truth_view (TruthLocal slot) = leaf_named (truth_leaf slot)
+  truth_view (Not' p e) = Prefixed nowhere Not (truth_view e)
+  truth_view (And' p a q b) = two (truth_view a) nowhere And (truth_view b)
+  truth_view (Or' p a q b) = two (truth_view a) nowhere Or (truth_view b)
+  truth_view (Same' p a q b) = two (truth_view a) nowhere Equal (truth_view b)
+  truth_view (Differ' p a q b) = two (truth_view a) nowhere NotEqual (truth_view b)
+  truth_view (CompareNode c a b) = two (int_view a.now) nowhere (comparison_view c) (int_view b.now)
+  truth_view (ContainsNode r i) = dotted (range_view r.now) (Contains nowhere nowhere (FirstExpr (int_view i.now) NoExprs) nowhere)
+  truth_view (HasIndexNode d t) = dotted (domain_view d.now) (Contains nowhere nowhere (index_exprs t.now) nowhere)
+  truth_view (TruthElement slot t at) = in_square (array_named BoolKind slot at.now) (index_items t.now)
+  truth_view (TruthReduced' f p e at) = Reduced nowhere (truth_fold_view f) at.now (promoted_truth EachTurn e)
+
+  pub promoted_truth : Times → PromotedTruth → ExprTree Variable
+  promoted_truth m (TruthScalar' p e) = truth_view e
+  promoted_truth m (TruthsElement slot at) = array_named BoolKind slot (kept (each_turn m) at.now)
+  promoted_truth m (Nots' p e) = Prefixed nowhere Not (promoted_truth m e)
+  promoted_truth m (Ands' p a q b) = two (promoted_truth m a) nowhere And (promoted_truth m b)
+  promoted_truth m (Ors' p a q b) = two (promoted_truth m a) nowhere Or (promoted_truth m b)
+  promoted_truth m (Sames' p a q b) = two (promoted_truth m a) nowhere Equal (promoted_truth m b)
+  promoted_truth m (Differs' p a q b) = two (promoted_truth m a) nowhere NotEqual (promoted_truth m b)
+  promoted_truth m (Compares c a b) = two (promoted_int m a.now) nowhere (comparison_view c) (promoted_int m b.now)

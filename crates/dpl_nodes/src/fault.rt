@@ -1,9 +1,9 @@
 // What a walk hands back beside a value: a fault in one word, and a truth value in one word.
-// Results of one word and one tag stay in registers.
+// Results of one word and one tag stay in registers; the turn that a fault names stands beside them.
 
 ghost use Rattle.std.specs.Prelude.{◌≡◌, ◌<◌, ◌^◌, ◌/◌, ◌%◌, IfSome, IsSome};
 ghost use Rattle.dpl_syntax.specs.declared.place.Place.{Place as PlaceNode};
-ghost use Rattle.dpl_language.specs.Values.{fault, InTurn};
+ghost use Rattle.dpl_language.specs.Values.{fault, InNone, InTurn, in_the_turn};
 ghost use Rattle.dpl_nodes.specs.Faults.{code_view, code_of, turn_view, fault_view};
 
 use dpl_domain::Index;
@@ -131,48 +131,100 @@ impl Spot {
     }
 }
 
-/// A fault in one word: its code, its line and its column. It names no turn.
+/// A fault in one word, as a walk hands it back: its code, its line and its column. The turn that it names stands beside it.
 #[derive(Drop)]
-pub struct Trap {
+pub struct Alarm {
     word: u64,
 }
 
-impl Model for Trap {
+impl Model for Alarm {
     ghost use Rattle.std.specs.Prelude.{◌^◌, ◌/◌, ◌%◌};
     ghost use Rattle.dpl_language.specs.Values.{Fault, InNone};
     ghost use Rattle.dpl_nodes.specs.Faults.{code_of};
 
     ghost Value = { Fault };
 
-    ghost view = { λ t. record { code = code_of (t.word / 2 ^ 42); at = record { line = t.word / 2097152 % 2097152; column = t.word % 2097152 }; turn = InNone } };
+    ghost view = { λ a. record { code = code_of (a.word / 2 ^ 42); at = record { line = a.word / 2097152 % 2097152; column = a.word % 2097152 }; turn = InNone } };
+}
+
+impl Alarm {
+    // The fault of a code, at a place.
+    fn packed(code: FaultCode, at: Spot) -> Alarm
+        ensures { result ≡ fault (code_view code) at }
+    {
+        Alarm {
+            word: (code.number() * 2_097_152 + u64::from(at.line)) * 2_097_152
+                + u64::from(at.column),
+        }
+    }
+
+    /// The fault of a code, at a place, in no turn.
+    #[cold]
+    #[inline(never)]
+    pub fn new(code: FaultCode, at: Spot, turn: &mut Turn) -> Alarm
+        ensures alarm { result ≡ fault (code_view code) at }
+        ensures no_turn { turn_view turn.new ≡ InNone }
+    {
+        *turn = Turn::Absent;
+        Alarm::packed(code, at)
+    }
+
+    /// The fault, in the turn that stands beside it.
+    #[cold]
+    #[inline(never)]
+    pub fn in_turn(self, turn: &Turn) -> Trap
+        ensures { result ≡ in_the_turn (turn_view turn.now) self }
+    {
+        Trap {
+            alarm: self,
+            turn: *turn,
+        }
+    }
+}
+
+/// A fault, with the turn of a reduction in which it arose, if in one.
+#[derive(Drop)]
+pub struct Trap {
+    alarm: Alarm,
+    turn: Turn,
+}
+
+impl Model for Trap {
+    ghost use Rattle.dpl_language.specs.Values.{Fault, in_the_turn};
+    ghost use Rattle.dpl_nodes.specs.Faults.{turn_view};
+
+    ghost Value = { Fault };
+
+    ghost view = { λ t. in_the_turn (turn_view t.turn) t.alarm };
 }
 
 impl Trap {
-    /// The fault of a code, at a place.
+    /// The fault of a code, at a place, in no turn.
     #[cold]
     #[inline(never)]
     pub fn new(code: FaultCode, at: Spot) -> Trap
         ensures { result ≡ fault (code_view code) at }
     {
         Trap {
-            word: (code.number() * 2_097_152 + u64::from(at.line)) * 2_097_152
-                + u64::from(at.column),
+            alarm: Alarm::packed(code, at),
+            turn: Turn::Absent,
         }
     }
 
-    /// The fault, in no turn.
+    /// The fault.
     #[cold]
     #[inline(never)]
     pub fn fault(self) -> Fault
         ensures { fault_view result ≡ self }
     {
+        let word = self.alarm.word;
         Fault {
-            code: numbered(self.word / 4_398_046_511_104),
+            code: numbered(word / 4_398_046_511_104),
             at: Place {
-                line: (self.word / 2_097_152 % 2_097_152) as u32,
-                column: (self.word % 2_097_152) as u32,
+                line: (word / 2_097_152 % 2_097_152) as u32,
+                column: (word % 2_097_152) as u32,
             },
-            turn: Turn::Absent,
+            turn: self.turn,
         }
     }
 }

@@ -4,23 +4,22 @@
 
 pub mod arrays;
 pub mod fault;
+pub mod fold;
 pub mod frame;
-pub mod leaves;
-pub mod make;
-pub mod promoted;
-pub mod ranges;
 pub mod step;
+pub mod stop;
 pub mod tree;
 
 pub use dpl_contents::{DomainWord, RangeWord};
-pub use fault::{Fault, FaultCode, Spot, Trap, Truth, Turn};
+pub use fault::{Alarm, Fault, FaultCode, Spot, Trap, Truth, Turn};
+pub use fold::{Fold, IntFold, TruthFold};
 pub use frame::Frame;
-pub use make::{Stop, Typed};
-pub use promoted::{PromotedInt, PromotedTruth};
 pub use step::{
-    Argument, ArrayDeclaration, ArrayName, DomainName, Else, Initial, Intent, Names, Over, Rank,
-    Step, TruthDeed,
+    Argument, ArrayDeclaration, ArrayName, DomainName, Else, Initial, IntDeed, Intent, Names, Over,
+    Rank, Step, TruthDeed,
 };
+pub use stop::Stop;
 pub use tree::{
-    BoolExpr, Comparison, DomainExpr, Dots, IndexExpr, IntExpr, RangeExpr, RangesExpr, Stride,
+    BoolExpr, Comparison, DomainExpr, Dots, IndexExpr, IntExpr, PromotedInt, PromotedTruth,
+    RangeExpr, RangesExpr, Stride,
 };

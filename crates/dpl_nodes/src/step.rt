@@ -2,8 +2,9 @@
 // They lie in the arena of the tree; specs/Steps.antt gives the plain statement that each stands for.
 
 use crate::fault::Spot;
-use crate::promoted::{PromotedInt, PromotedTruth};
-use crate::tree::{BoolExpr, DomainExpr, IndexExpr, IntExpr, RangeExpr, RangesExpr};
+use crate::tree::{
+    BoolExpr, DomainExpr, IndexExpr, IntExpr, PromotedInt, PromotedTruth, RangeExpr, RangesExpr,
+};
 use dpl_tree::{Assign, Op, ScalarKind};
 
 /// What is handed to `write`: a text by its bytes, an int, a truth value, or the array in a slot, whose elements are printed.
@@ -87,8 +88,31 @@ pub struct Intent {
     pub op: Op,
 }
 
-/// What a truth value's statement does. Truth values share one variant of `Step`: of each type that a statement points at,
-/// the check counts all that it reaches.
+/// What an int's statement does. Ints share one variant of `Step`: of each type that a statement points at, the check counts
+/// all that it reaches.
+#[derive(Clone, Copy)]
+pub enum IntDeed<'t> {
+    /// A declaration, with its initial value.
+    Declare,
+    /// A `config const`, to which the command line may give another value.
+    Config,
+    /// `=`
+    Set,
+    /// `+=`
+    Add,
+    /// `-=`
+    Subtract,
+    /// `*=`
+    Multiply,
+    /// `/=`, with the place where a division by zero is told.
+    Divide(&'t Spot),
+    /// `%=`, with the same.
+    Remainder(&'t Spot),
+    /// `reduce=`, by the operator of the forall's intent.
+    Reduce,
+}
+
+/// What a truth value's statement does.
 #[derive(Clone, Copy, PartialEq, Eq, Debug)]
 pub enum TruthDeed {
     /// A declaration, with its initial value.
@@ -107,26 +131,12 @@ pub enum TruthDeed {
 pub enum Step<'t> {
     /// `;`
     Nothing,
-    /// A declaration, with its initial value.
-    DeclareInt(usize, &'t IntExpr<'t>),
+    /// An int's declaration, or an assignment to it.
+    Int(IntDeed<'t>, usize, &'t IntExpr<'t>),
+    /// A range's declaration, with its initial value.
     DeclareRange(usize, &'t RangeExpr<'t>),
-    /// A `config const`, to which the command line may give another value.
-    ConfigInt(usize, &'t IntExpr<'t>),
-    /// `=`
-    SetInt(usize, &'t IntExpr<'t>),
+    /// `=` to a range.
     SetRange(usize, &'t RangeExpr<'t>),
-    /// `+=`
-    Add(usize, &'t IntExpr<'t>),
-    /// `-=`
-    Subtract(usize, &'t IntExpr<'t>),
-    /// `*=`
-    Multiply(usize, &'t IntExpr<'t>),
-    /// `/=`, with the place where a division by zero is told.
-    Divide(usize, &'t Spot, &'t IntExpr<'t>),
-    /// `%=`, with the same.
-    Remainder(usize, &'t Spot, &'t IntExpr<'t>),
-    /// `reduce=`, by the operator of the forall's intent.
-    ReduceInt(usize, &'t IntExpr<'t>),
     /// A truth value's declaration, or an assignment to it.
     Truth(TruthDeed, usize, &'t BoolExpr<'t>),
     /// A domain's declaration, with its initial value; or without one, with its rank.

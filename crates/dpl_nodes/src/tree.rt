@@ -2,6 +2,7 @@
 // They lie in the arena of the tree; specs/Typed.antt gives the plain tree that each stands for.
 
 use crate::fault::Spot;
+use crate::fold::{IntFold, TruthFold};
 use dpl_tree::ScalarKind;
 
 /// How a range's second number is meant: `..`, `..<` or `..#`.
@@ -37,6 +38,8 @@ pub enum IntExpr<'t> {
     Count(&'t DomainExpr<'t>),
     /// An element of the array in a slot, with the place where an index outside it is told.
     Element(usize, &'t IndexExpr<'t>, &'t Spot),
+    /// The ints at all indices put together, with the place of `reduce`, where it is told that they are too many.
+    Reduced(IntFold, &'t PromotedInt<'t>, &'t Spot),
 }
 
 /// How two ints are compared.
@@ -51,6 +54,7 @@ pub enum Comparison {
 }
 
 /// An expression that is a truth value.
+#[cycle(truth)]
 #[derive(Clone, Copy)]
 pub enum BoolExpr<'t> {
     Truth(bool),
@@ -69,6 +73,8 @@ pub enum BoolExpr<'t> {
     HasIndex(&'t DomainExpr<'t>, &'t IndexExpr<'t>),
     /// An element of the array in a slot, with the place where an index outside it is told.
     Element(usize, &'t IndexExpr<'t>, &'t Spot),
+    /// The truth values at all indices put together, with the place of `reduce`, where it is told that they are too many.
+    Reduced(TruthFold, &'t PromotedTruth<'t>, &'t Spot),
 }
 
 /// A stride, with the place where it is told to be past its limits; or none.
@@ -128,4 +134,38 @@ pub enum DomainExpr<'t> {
     Expanded(&'t DomainExpr<'t>, &'t Spot, &'t IntExpr<'t>),
     /// What is created from a domain: the set of its ranges, with the place where it would be told that there are too many indices.
     Created(&'t Spot, &'t DomainExpr<'t>),
+}
+
+/// An int at each index of the whole arrays in it, as `A * 2 + 1`. It is walked at one index after another.
+#[cycle(typed)]
+#[derive(Clone, Copy)]
+pub enum PromotedInt<'t> {
+    /// An int without a whole array, which is evaluated at each index anew.
+    Scalar(&'t IntExpr<'t>),
+    /// The element of the array in a slot, with the place of its name, where it is told that the array hasn't the index.
+    Element(usize, &'t Spot),
+    Negative(&'t PromotedInt<'t>),
+    Sum(&'t PromotedInt<'t>, &'t PromotedInt<'t>),
+    Difference(&'t PromotedInt<'t>, &'t PromotedInt<'t>),
+    Product(&'t PromotedInt<'t>, &'t PromotedInt<'t>),
+    /// With the place where a division by zero is told.
+    Quotient(&'t PromotedInt<'t>, &'t PromotedInt<'t>, &'t Spot),
+    Remainder(&'t PromotedInt<'t>, &'t PromotedInt<'t>, &'t Spot),
+}
+
+/// A truth value at each index.
+#[cycle(truth)]
+#[derive(Clone, Copy)]
+pub enum PromotedTruth<'t> {
+    /// A truth value without a whole array, which is evaluated at each index anew.
+    Scalar(&'t BoolExpr<'t>),
+    /// The element of the array in a slot, with the place of its name, where it is told that the array hasn't the index.
+    Element(usize, &'t Spot),
+    Not(&'t PromotedTruth<'t>),
+    And(&'t PromotedTruth<'t>, &'t PromotedTruth<'t>),
+    Or(&'t PromotedTruth<'t>, &'t PromotedTruth<'t>),
+    /// Two truth values are the same, or differ.
+    Same(&'t PromotedTruth<'t>, &'t PromotedTruth<'t>),
+    Differ(&'t PromotedTruth<'t>, &'t PromotedTruth<'t>),
+    Compare(Comparison, &'t PromotedInt<'t>, &'t PromotedInt<'t>),
 }
