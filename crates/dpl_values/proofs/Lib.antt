@@ -1,3 +1,4 @@
 pub mod Ranges
 pub mod Views
 pub mod Wrapped
+pub mod Folds

@@ -3,9 +3,11 @@
 use Rattle.std.specs.Prelude.{◌≡◌, true, ℤ, Option, Some, None, Result, Ok, Err}
 use Rattle.dpl_range.specs.Equality.{TextRange}
 use Rattle.dpl_language.specs.Values.{Fault}
-use Rattle.dpl_language.specs.Ranges.{past_limit}
+use Rattle.dpl_language.specs.Ranges.{past_limit, bounded}
 use Rattle.dpl_contents.specs.declared.range.RangeWord.{RangeWord}
 use Rattle.dpl_contents.specs.Range.{range_word}
+use Rattle.dpl_nodes.specs.Typed.{dots_view}
+use Rattle.dpl_values.specs.declared.range.Written.{Written}
 
 -- the bound, or none where it is past the limit
 abbrev pub FitsOrPast : ℤ → Option ℤ → Type 0
@@ -16,3 +18,7 @@ FitsOrPast z None = past_limit z ≡ true
 abbrev pub of_word : Result RangeWord Fault → Result TextRange Fault
 of_word (Ok r) = Ok (range_word r)
 of_word (Err f) = Err f
+
+-- the range of bounds that are written, or the fault that is told at its dots
+abbrev pub bounds_of : Written → Result TextRange Fault
+bounds_of w = bounded w.at (dots_view w.dots) w.low w.number

@@ -1,24 +1,25 @@
 // What is found at an index, indices by their coordinates, and domains that have to be small enough.
 // None of them looks at a frame.
 
-ghost use Rattle.std.specs.Prelude.{◌≡◌, ◌∷◌, [], Ok, false};
+ghost use Rattle.std.specs.Prelude.{◌≡◌, ◌∷◌, [], false};
 ghost use Rattle.dpl_language.specs.Ranges.{too_many};
+ghost use Rattle.dpl_nodes.specs.Faults.{telling};
 ghost use Rattle.dpl_values.specs.Elements.{word_found, sized_or};
 
 use dpl_domain::Index;
-use dpl_nodes::{DomainWord, FaultCode, Spot, Trap};
+use dpl_nodes::{Alarm, DomainWord, FaultCode, Spot, Turn};
 
 /// The word that was found at an index.
 ///
 /// # Errors
 /// `F1` at the array's name where there is none.
 #[inline(always)]
-pub fn found(at: &Spot, word: Option<i64>) -> Result<i64, Trap>
-    ensures { result ≡ word_found at.now word }
+pub(crate) fn found(at: &Spot, word: Option<i64>, turn: &mut Turn) -> Result<i64, Alarm>
+    ensures { telling turn.new result ≡ word_found at.now word }
 {
     match word {
         Some(word) => Ok(word),
-        None => Err(Trap::new(FaultCode::Outside, *at)),
+        None => Err(Alarm::new(FaultCode::Outside, *at, turn)),
     }
 }
 
@@ -26,26 +27,27 @@ pub fn found(at: &Spot, word: Option<i64>) -> Result<i64, Trap>
 ///
 /// # Errors
 /// `F3` at the opening bracket.
-pub fn sized(at: &Spot, domain: Option<DomainWord>) -> Result<DomainWord, Trap>
-    ensures { result ≡ sized_or at.now domain }
+pub(crate) fn sized(
+    at: &Spot,
+    domain: Option<DomainWord>,
+    turn: &mut Turn,
+) -> Result<DomainWord, Alarm>
+    ensures { telling turn.new result ≡ sized_or at.now domain }
 {
     match domain {
         Some(domain) => Ok(domain),
-        None => Err(Trap::new(FaultCode::PastLimit, *at)),
+        None => Err(Alarm::new(FaultCode::PastLimit, *at, turn)),
     }
 }
 
 /// A domain, which never has too many indices.
-///
-/// # Errors
-/// None.
-pub fn small(domain: DomainWord) -> Result<DomainWord, Trap>
-    ensures is { result ≡ Ok domain }
+pub fn small(domain: DomainWord) -> DomainWord
+    ensures is { result ≡ domain }
     ensures small { too_many domain ≡ false }
 {
     // Nothing is read here: that the domain is small enough is a clause of this call.
     let _ = domain.size();
-    Ok(domain)
+    domain
 }
 
 /// The index of one coordinate.

@@ -11,83 +11,85 @@ ghost use Rattle.dpl_language.specs.Tree.{Plainly, Size, First, Last, Low, High}
 ghost use Rattle.dpl_lowered.specs.Shapes.{nowhere};
 ghost use Rattle.dpl_memory.specs.Memory.{array_at, held_at};
 ghost use Rattle.dpl_nodes.specs.Typed.{int_view, truth_view, range_item, range_view, stride_view, dotted, ranges_items, index_items, index_exprs, domain_view};
-ghost use Rattle.dpl_nodes.specs.Faults.{of_int, of_truth, of_range, of_domain};
-ghost use Rattle.dpl_values.specs.Bounds.{of_word};
+ghost use Rattle.dpl_nodes.specs.Faults.{of_int, of_truth, of_range, of_domain, telling};
+ghost use Rattle.dpl_values.specs.Bounds.{bounds_of};
 ghost use Rattle.dpl_values.specs.Elements.{word_found};
 
 use crate::comparison::holds;
 use crate::domain::{coordinate, found, plane, sized, small, space};
 use crate::number::{difference, negative, product, quotient, remainder, sum};
-use crate::range::{bounded, contains, first, high, last, low, size, strided_by};
+use crate::range::{Written, bounded, contains, first, high, last, low, size, strided_by};
+use crate::reduction::{reduced_int, reduced_truth};
 use dpl_domain::Index;
 use dpl_nodes::{
-    BoolExpr, DomainExpr, DomainWord, FaultCode, Frame, IndexExpr, IntExpr, RangeExpr, RangeWord,
-    RangesExpr, Spot, Stride, Trap, Truth,
+    Alarm, BoolExpr, DomainExpr, DomainWord, FaultCode, Frame, IndexExpr, IntExpr, RangeExpr,
+    RangeWord, RangesExpr, Spot, Stride, Truth, Turn,
 };
 
 // An operand: a leaf at once, and else by a walk.
 #[cycle(walk)]
 #[inline(always)]
-pub(crate) fn operand(e: &IntExpr<'_>, frame: &Frame<'_>) -> Result<i64, Trap>
-    ensures { value_of frame.now.limits in_memory (int_view e.now) None frame.now.memory ≡ of_int result }
+pub(crate) fn operand(e: &IntExpr<'_>, frame: &Frame<'_>, turn: &mut Turn) -> Result<i64, Alarm>
+    ensures { value_of frame.now.limits in_memory (int_view e.now) None frame.now.memory ≡ of_int (telling turn.new result) }
 {
     match e {
         IntExpr::Local(slot) => Ok(frame.number(*slot)),
         IntExpr::Number(n) => Ok(*n),
-        _ => int_value(e, frame),
+        _ => int_value(e, frame, turn),
     }
 }
 
 /// The value of an int.
 ///
 /// # Errors
-/// `F2` at a division by zero.
+/// `F2` at a division by zero; the fault of a part.
 #[cycle(walk)]
-pub fn int_value(e: &IntExpr<'_>, frame: &Frame<'_>) -> Result<i64, Trap>
-    ensures { value_of frame.now.limits in_memory (int_view e.now) None frame.now.memory ≡ of_int result }
+pub(crate) fn int_value(e: &IntExpr<'_>, frame: &Frame<'_>, turn: &mut Turn) -> Result<i64, Alarm>
+    ensures { value_of frame.now.limits in_memory (int_view e.now) None frame.now.memory ≡ of_int (telling turn.new result) }
 {
     match e {
         IntExpr::Number(n) => Ok(*n),
         IntExpr::Local(slot) => Ok(frame.number(*slot)),
-        IntExpr::Negative(e) => Ok(negative(operand(e, frame)?)),
+        IntExpr::Negative(e) => Ok(negative(operand(e, frame, turn)?)),
         IntExpr::Sum(a, b) => {
-            let left = operand(a, frame)?;
-            let right = operand(b, frame)?;
+            let left = operand(a, frame, turn)?;
+            let right = operand(b, frame, turn)?;
             Ok(sum(left, right))
         }
         IntExpr::Difference(a, b) => {
-            let left = operand(a, frame)?;
-            let right = operand(b, frame)?;
+            let left = operand(a, frame, turn)?;
+            let right = operand(b, frame, turn)?;
             Ok(difference(left, right))
         }
         IntExpr::Product(a, b) => {
-            let left = operand(a, frame)?;
-            let right = operand(b, frame)?;
+            let left = operand(a, frame, turn)?;
+            let right = operand(b, frame, turn)?;
             Ok(product(left, right))
         }
         IntExpr::Quotient(a, b, at) => {
-            let left = operand(a, frame)?;
-            let right = operand(b, frame)?;
+            let left = operand(a, frame, turn)?;
+            let right = operand(b, frame, turn)?;
             if right == 0 {
-                return Err(Trap::new(FaultCode::ZeroDivisor, **at));
+                return Err(Alarm::new(FaultCode::ZeroDivisor, **at, turn));
             }
             Ok(quotient(left, right))
         }
         IntExpr::Remainder(a, b, at) => {
-            let left = operand(a, frame)?;
-            let right = operand(b, frame)?;
+            let left = operand(a, frame, turn)?;
+            let right = operand(b, frame, turn)?;
             if right == 0 {
-                return Err(Trap::new(FaultCode::ZeroDivisor, **at));
+                return Err(Alarm::new(FaultCode::ZeroDivisor, **at, turn));
             }
             Ok(remainder(left, right))
         }
-        IntExpr::Size(r) => size_of(r, frame),
-        IntExpr::First(r, at) => first_of(r, at, frame),
-        IntExpr::Last(r, at) => last_of(r, at, frame),
-        IntExpr::Low(r, at) => low_of(r, at, frame),
-        IntExpr::High(r, at) => high_of(r, at, frame),
-        IntExpr::Count(d) => count_of(d, frame),
-        IntExpr::Element(slot, t, at) => element(*slot, t, at, frame),
+        IntExpr::Size(r) => size_of(r, frame, turn),
+        IntExpr::First(r, at) => first_of(r, at, frame, turn),
+        IntExpr::Last(r, at) => last_of(r, at, frame, turn),
+        IntExpr::Low(r, at) => low_of(r, at, frame, turn),
+        IntExpr::High(r, at) => high_of(r, at, frame, turn),
+        IntExpr::Count(d) => count_of(d, frame, turn),
+        IntExpr::Element(slot, t, at) => element(*slot, t, at, frame, turn),
+        IntExpr::Reduced(fold, e, at) => reduced_int(*fold, e, at, frame, turn),
     }
 }
 
@@ -96,55 +98,59 @@ pub fn int_value(e: &IntExpr<'_>, frame: &Frame<'_>) -> Result<i64, Trap>
 // `size`
 #[cycle(walk)]
 #[inline(never)]
-fn size_of(r: &RangeExpr<'_>, frame: &Frame<'_>) -> Result<i64, Trap>
-    ensures { value_of frame.now.limits in_memory (dotted (range_view r.now) (Plainly nowhere Size)) None frame.now.memory ≡ of_int result }
+fn size_of(r: &RangeExpr<'_>, frame: &Frame<'_>, turn: &mut Turn) -> Result<i64, Alarm>
+    ensures { value_of frame.now.limits in_memory (dotted (range_view r.now) (Plainly nowhere Size)) None frame.now.memory ≡ of_int (telling turn.new result) }
 {
-    Ok(size(range_value(r, frame)?))
+    Ok(size(range_value(r, frame, turn)?))
 }
 
 // `first`
 #[cycle(walk)]
 #[inline(never)]
-fn first_of(r: &RangeExpr<'_>, at: &Spot, frame: &Frame<'_>) -> Result<i64, Trap>
-    ensures { value_of frame.now.limits in_memory (dotted (range_view r.now) (Plainly at.now First)) None frame.now.memory ≡ of_int result }
+fn first_of(r: &RangeExpr<'_>, at: &Spot, frame: &Frame<'_>, turn: &mut Turn) -> Result<i64, Alarm>
+    ensures { value_of frame.now.limits in_memory (dotted (range_view r.now) (Plainly at.now First)) None frame.now.memory ≡ of_int (telling turn.new result) }
 {
-    first(range_value(r, frame)?, *at)
+    let range = range_value(r, frame, turn)?;
+    first(range, *at, turn)
 }
 
 // `last`
 #[cycle(walk)]
 #[inline(never)]
-fn last_of(r: &RangeExpr<'_>, at: &Spot, frame: &Frame<'_>) -> Result<i64, Trap>
-    ensures { value_of frame.now.limits in_memory (dotted (range_view r.now) (Plainly at.now Last)) None frame.now.memory ≡ of_int result }
+fn last_of(r: &RangeExpr<'_>, at: &Spot, frame: &Frame<'_>, turn: &mut Turn) -> Result<i64, Alarm>
+    ensures { value_of frame.now.limits in_memory (dotted (range_view r.now) (Plainly at.now Last)) None frame.now.memory ≡ of_int (telling turn.new result) }
 {
-    last(range_value(r, frame)?, *at)
+    let range = range_value(r, frame, turn)?;
+    last(range, *at, turn)
 }
 
 // `low`
 #[cycle(walk)]
 #[inline(never)]
-fn low_of(r: &RangeExpr<'_>, at: &Spot, frame: &Frame<'_>) -> Result<i64, Trap>
-    ensures { value_of frame.now.limits in_memory (dotted (range_view r.now) (Plainly at.now Low)) None frame.now.memory ≡ of_int result }
+fn low_of(r: &RangeExpr<'_>, at: &Spot, frame: &Frame<'_>, turn: &mut Turn) -> Result<i64, Alarm>
+    ensures { value_of frame.now.limits in_memory (dotted (range_view r.now) (Plainly at.now Low)) None frame.now.memory ≡ of_int (telling turn.new result) }
 {
-    low(range_value(r, frame)?, *at)
+    let range = range_value(r, frame, turn)?;
+    low(range, *at, turn)
 }
 
 // `high`
 #[cycle(walk)]
 #[inline(never)]
-fn high_of(r: &RangeExpr<'_>, at: &Spot, frame: &Frame<'_>) -> Result<i64, Trap>
-    ensures { value_of frame.now.limits in_memory (dotted (range_view r.now) (Plainly at.now High)) None frame.now.memory ≡ of_int result }
+fn high_of(r: &RangeExpr<'_>, at: &Spot, frame: &Frame<'_>, turn: &mut Turn) -> Result<i64, Alarm>
+    ensures { value_of frame.now.limits in_memory (dotted (range_view r.now) (Plainly at.now High)) None frame.now.memory ≡ of_int (telling turn.new result) }
 {
-    high(range_value(r, frame)?, *at)
+    let range = range_value(r, frame, turn)?;
+    high(range, *at, turn)
 }
 
 // `size` of a domain
 #[cycle(walk)]
 #[inline(never)]
-fn count_of(d: &DomainExpr<'_>, frame: &Frame<'_>) -> Result<i64, Trap>
-    ensures { value_of frame.now.limits in_memory (dotted (domain_view d.now) (Plainly nowhere Size)) None frame.now.memory ≡ of_int result }
+fn count_of(d: &DomainExpr<'_>, frame: &Frame<'_>, turn: &mut Turn) -> Result<i64, Alarm>
+    ensures { value_of frame.now.limits in_memory (dotted (domain_view d.now) (Plainly nowhere Size)) None frame.now.memory ≡ of_int (telling turn.new result) }
 {
-    Ok(domain_value(d, frame)?.size() as i64)
+    Ok(domain_value(d, frame, turn)?.size() as i64)
 }
 
 /// The word of an element of an array, by the coordinates of its index.
@@ -152,26 +158,32 @@ fn count_of(d: &DomainExpr<'_>, frame: &Frame<'_>) -> Result<i64, Trap>
 /// # Errors
 /// `F1` at the array's name for an index outside it.
 #[cycle(walk)]
-pub fn element(slot: usize, t: &IndexExpr<'_>, at: &Spot, frame: &Frame<'_>) -> Result<i64, Trap>
-    ensures { with_ok (items_of frame.now.limits in_memory (index_items t.now) frame.now.memory) (λ vs. word_found at.now (held_at (index_of vs) (array_at slot frame.now.memory))) ≡ result }
+pub(crate) fn element(
+    slot: usize,
+    t: &IndexExpr<'_>,
+    at: &Spot,
+    frame: &Frame<'_>,
+    turn: &mut Turn,
+) -> Result<i64, Alarm>
+    ensures { with_ok (items_of frame.now.limits in_memory (index_items t.now) frame.now.memory) (λ vs. word_found at.now (held_at (index_of vs) (array_at slot frame.now.memory))) ≡ telling turn.new result }
 {
     match t {
         IndexExpr::Line(i) => {
-            let i = operand(i, frame)?;
-            found(at, frame.element_line(slot, i))
+            let i = operand(i, frame, turn)?;
+            found(at, frame.element_line(slot, i), turn)
         }
         IndexExpr::Plane(i, j) => {
-            let i = operand(i, frame)?;
-            let j = operand(j, frame)?;
-            found(at, frame.element_plane(slot, i, j))
+            let i = operand(i, frame, turn)?;
+            let j = operand(j, frame, turn)?;
+            found(at, frame.element_plane(slot, i, j), turn)
         }
         IndexExpr::Space(i, j, k) => {
-            let i = operand(i, frame)?;
-            let j = operand(j, frame)?;
-            let k = operand(k, frame)?;
-            found(at, frame.element_space(slot, i, j, k))
+            let i = operand(i, frame, turn)?;
+            let j = operand(j, frame, turn)?;
+            let k = operand(k, frame, turn)?;
+            found(at, frame.element_space(slot, i, j, k), turn)
         }
-        IndexExpr::Tuple(tuple) => found(at, frame.element(slot, frame.tuple(*tuple))),
+        IndexExpr::Tuple(tuple) => found(at, frame.element(slot, frame.tuple(*tuple)), turn),
     }
 }
 
@@ -179,20 +191,24 @@ pub fn element(slot: usize, t: &IndexExpr<'_>, at: &Spot, frame: &Frame<'_>) -> 
 ///
 /// # Errors
 /// The fault of a coordinate.
-pub fn index_value(t: &IndexExpr<'_>, frame: &Frame<'_>) -> Result<Index, Trap>
-    ensures { with_ok (values_of frame.now.limits in_memory (index_exprs t.now) frame.now.memory) (λ vs. Ok (index_of vs)) ≡ result }
+pub(crate) fn index_value(
+    t: &IndexExpr<'_>,
+    frame: &Frame<'_>,
+    turn: &mut Turn,
+) -> Result<Index, Alarm>
+    ensures { with_ok (values_of frame.now.limits in_memory (index_exprs t.now) frame.now.memory) (λ vs. Ok (index_of vs)) ≡ telling turn.new result }
 {
     match t {
-        IndexExpr::Line(i) => Ok(coordinate(operand(i, frame)?)),
+        IndexExpr::Line(i) => Ok(coordinate(operand(i, frame, turn)?)),
         IndexExpr::Plane(i, j) => {
-            let i = operand(i, frame)?;
-            let j = operand(j, frame)?;
+            let i = operand(i, frame, turn)?;
+            let j = operand(j, frame, turn)?;
             Ok(plane(i, j))
         }
         IndexExpr::Space(i, j, k) => {
-            let i = operand(i, frame)?;
-            let j = operand(j, frame)?;
-            let k = operand(k, frame)?;
+            let i = operand(i, frame, turn)?;
+            let j = operand(j, frame, turn)?;
+            let k = operand(k, frame, turn)?;
             Ok(space(i, j, k))
         }
         IndexExpr::Tuple(tuple) => Ok(frame.tuple(*tuple)),
@@ -204,47 +220,57 @@ pub fn index_value(t: &IndexExpr<'_>, frame: &Frame<'_>) -> Result<Index, Trap>
 /// # Errors
 /// The fault of a range; `F3` at the opening bracket for too many indices.
 #[cycle(walk)]
-pub fn literal(at: &Spot, ranges: &RangesExpr<'_>, frame: &Frame<'_>) -> Result<DomainWord, Trap>
-    ensures { with_ok (items_of frame.now.limits in_memory (ranges_items ranges.now) frame.now.memory) (λ vs. sized_of at.now (all_ranges vs)) ≡ of_domain result }
+pub(crate) fn literal(
+    at: &Spot,
+    ranges: &RangesExpr<'_>,
+    frame: &Frame<'_>,
+    turn: &mut Turn,
+) -> Result<DomainWord, Alarm>
+    ensures { with_ok (items_of frame.now.limits in_memory (ranges_items ranges.now) frame.now.memory) (λ vs. sized_of at.now (all_ranges vs)) ≡ of_domain (telling turn.new result) }
 {
     match ranges {
         RangesExpr::Line(a) => {
-            let a = range_value(a, frame)?;
-            sized(at, DomainWord::new(&[a]))
+            let a = range_value(a, frame, turn)?;
+            sized(at, DomainWord::new(&[a]), turn)
         }
         RangesExpr::Plane(a, b) => {
-            let a = range_value(a, frame)?;
-            let b = range_value(b, frame)?;
-            sized(at, DomainWord::new(&[a, b]))
+            let a = range_value(a, frame, turn)?;
+            let b = range_value(b, frame, turn)?;
+            sized(at, DomainWord::new(&[a, b]), turn)
         }
         RangesExpr::Space(a, b, c) => {
-            let a = range_value(a, frame)?;
-            let b = range_value(b, frame)?;
-            let c = range_value(c, frame)?;
-            sized(at, DomainWord::new(&[a, b, c]))
+            let a = range_value(a, frame, turn)?;
+            let b = range_value(b, frame, turn)?;
+            let c = range_value(c, frame, turn)?;
+            sized(at, DomainWord::new(&[a, b, c]), turn)
         }
     }
 }
 
 // A domain with each dimension between the bounds of its range.
 #[cycle(walk)]
-fn cut(domain: DomainWord, ranges: &RangesExpr<'_>, frame: &Frame<'_>) -> Result<DomainWord, Trap>
-    ensures { with_ok (items_of frame.now.limits in_memory (ranges_items ranges.now) frame.now.memory) (λ vs. Ok (Domain (all_sliced domain (all_ranges vs)))) ≡ of_domain result }
+fn cut(
+    domain: DomainWord,
+    ranges: &RangesExpr<'_>,
+    frame: &Frame<'_>,
+    turn: &mut Turn,
+) -> Result<DomainWord, Alarm>
+    ensures { with_ok (items_of frame.now.limits in_memory (ranges_items ranges.now) frame.now.memory) (λ vs. Ok (Domain (all_sliced domain (all_ranges vs)))) ≡ of_domain (telling turn.new result) }
 {
     match ranges {
         RangesExpr::Line(a) => {
-            let a = range_value(a, frame)?;
+            let a = range_value(a, frame, turn)?;
             Ok(domain.sliced(&[a]))
         }
         RangesExpr::Plane(a, b) => {
-            let a = range_value(a, frame)?;
-            let b = range_value(b, frame)?;
+            let a = range_value(a, frame, turn)?;
+            let b = range_value(b, frame, turn)?;
             Ok(domain.sliced(&[a, b]))
         }
         RangesExpr::Space(a, b, c) => {
-            let a = range_value(a, frame)?;
-            let b = range_value(b, frame)?;
-            let c = range_value(c, frame)?;
+            let a = range_value(a, frame, turn)?;
+            let b = range_value(b, frame, turn)?;
+            let c = range_value(c, frame, turn)?;
             Ok(domain.sliced(&[a, b, c]))
         }
     }
@@ -255,43 +281,52 @@ fn cut(domain: DomainWord, ranges: &RangesExpr<'_>, frame: &Frame<'_>) -> Result
 /// # Errors
 /// `F3` at the opening bracket for too many indices, and at `expand` for these or for a bound past its limit.
 #[cycle(walk)]
-pub fn domain_value(e: &DomainExpr<'_>, frame: &Frame<'_>) -> Result<DomainWord, Trap>
-    ensures { value_of frame.now.limits in_memory (domain_view e.now) None frame.now.memory ≡ of_domain result }
+pub(crate) fn domain_value(
+    e: &DomainExpr<'_>,
+    frame: &Frame<'_>,
+    turn: &mut Turn,
+) -> Result<DomainWord, Alarm>
+    ensures { value_of frame.now.limits in_memory (domain_view e.now) None frame.now.memory ≡ of_domain (telling turn.new result) }
 {
     match e {
         DomainExpr::Local(slot) => Ok(frame.domain(*slot)),
         DomainExpr::OfArray(_, slot) => Ok(frame.array_domain(*slot)),
-        DomainExpr::Literal(at, ranges) => literal(at, ranges, frame),
+        DomainExpr::Literal(at, ranges) => literal(at, ranges, frame, turn),
         DomainExpr::Slice(d, ranges) => {
-            let domain = domain_value(d, frame)?;
-            cut(domain, ranges, frame)
+            let domain = domain_value(d, frame, turn)?;
+            cut(domain, ranges, frame, turn)
         }
         DomainExpr::Expanded(d, at, k) => {
-            let domain = domain_value(d, frame)?;
-            let k = operand(k, frame)?;
+            let domain = domain_value(d, frame, turn)?;
+            let k = operand(k, frame, turn)?;
             match domain.expanded(k) {
                 Some(domain) => Ok(domain),
-                None => Err(Trap::new(FaultCode::PastLimit, **at)),
+                None => Err(Alarm::new(FaultCode::PastLimit, **at, turn)),
             }
         }
-        DomainExpr::Created(_, d) => small(domain_value(d, frame)?),
+        DomainExpr::Created(_, d) => {
+            let domain = domain_value(d, frame, turn)?;
+            Ok(small(domain))
+        }
     }
 }
 
-// A range with the stride that is written, which is evaluated before the fault of its bounds is told.
+// A range by its bounds, with the stride that is written, which is evaluated before the fault of its bounds is told.
 #[cycle(walk)]
 fn stridden(
     stride: &Stride<'_>,
+    written: Written,
     frame: &Frame<'_>,
-    bounds: Result<RangeWord, Trap>,
-) -> Result<RangeWord, Trap>
-    ensures { stridden_of frame.now.limits in_memory (stride_view stride.now) (of_word bounds) frame.now.memory ≡ of_range result }
+    turn: &mut Turn,
+) -> Result<RangeWord, Alarm>
+    ensures { stridden_of frame.now.limits in_memory (stride_view stride.now) (bounds_of written) frame.now.memory ≡ of_range (telling turn.new result) }
 {
     match stride {
-        Stride::Absent => bounds,
+        Stride::Absent => bounded(written, turn),
         Stride::By(at, e) => {
-            let stride = operand(e, frame)?;
-            strided_by(**at, stride, bounds?)
+            let stride = operand(e, frame, turn)?;
+            let range = bounded(written, turn)?;
+            strided_by(**at, stride, range, turn)
         }
     }
 }
@@ -301,22 +336,32 @@ fn stridden(
 /// # Errors
 /// `F3` at the dots for a bound or a count past its limit, and at `by` for a stride.
 #[cycle(walk)]
-pub fn range_value(e: &RangeExpr<'_>, frame: &Frame<'_>) -> Result<RangeWord, Trap>
-    ensures { item_of frame.now.limits in_memory (range_item e.now) None frame.now.memory ≡ of_range result }
+pub(crate) fn range_value(
+    e: &RangeExpr<'_>,
+    frame: &Frame<'_>,
+    turn: &mut Turn,
+) -> Result<RangeWord, Alarm>
+    ensures { item_of frame.now.limits in_memory (range_item e.now) None frame.now.memory ≡ of_range (telling turn.new result) }
 {
     match e {
         RangeExpr::Local(slot) => Ok(frame.range(*slot)),
         RangeExpr::Between(low, at, dots, high, stride) => {
-            let low = operand(low, frame)?;
-            let high = operand(high, frame)?;
-            stridden(stride, frame, bounded(**at, *dots, low, high))
+            let low = operand(low, frame, turn)?;
+            let high = operand(high, frame, turn)?;
+            let written = Written {
+                at: **at,
+                dots: *dots,
+                low,
+                number: high,
+            };
+            stridden(stride, written, frame, turn)
         }
         RangeExpr::Slice(r, cut) => {
-            let range = range_value(r, frame)?;
-            let cut = range_value(cut, frame)?;
+            let range = range_value(r, frame, turn)?;
+            let cut = range_value(cut, frame, turn)?;
             Ok(range.sliced(&cut))
         }
-        RangeExpr::Dimension(d, n) => Ok(domain_value(d, frame)?.dimension(*n)),
+        RangeExpr::Dimension(d, n) => Ok(domain_value(d, frame, turn)?.dimension(*n)),
     }
 }
 
@@ -324,52 +369,58 @@ pub fn range_value(e: &RangeExpr<'_>, frame: &Frame<'_>) -> Result<RangeWord, Tr
 ///
 /// # Errors
 /// The fault of an operand.
-pub fn truth_value(e: &BoolExpr<'_>, frame: &Frame<'_>) -> Result<Truth, Trap>
-    ensures { value_of frame.now.limits in_memory (truth_view e.now) None frame.now.memory ≡ of_truth result }
+#[cycle(truth)]
+pub(crate) fn truth_value(
+    e: &BoolExpr<'_>,
+    frame: &Frame<'_>,
+    turn: &mut Turn,
+) -> Result<Truth, Alarm>
+    ensures { value_of frame.now.limits in_memory (truth_view e.now) None frame.now.memory ≡ of_truth (telling turn.new result) }
 {
     match e {
         BoolExpr::Truth(b) => Ok(Truth::new(*b)),
         BoolExpr::Local(slot) => Ok(Truth::new(frame.number(*slot) != 0)),
-        BoolExpr::Not(e) => Ok(Truth::new(!truth_value(e, frame)?.get())),
+        BoolExpr::Not(e) => Ok(Truth::new(!truth_value(e, frame, turn)?.get())),
         BoolExpr::And(a, b) => {
-            let left = truth_value(a, frame)?;
+            let left = truth_value(a, frame, turn)?;
             if !left.get() {
                 return Ok(left);
             }
-            truth_value(b, frame)
+            truth_value(b, frame, turn)
         }
         BoolExpr::Or(a, b) => {
-            let left = truth_value(a, frame)?;
+            let left = truth_value(a, frame, turn)?;
             if left.get() {
                 return Ok(left);
             }
-            truth_value(b, frame)
+            truth_value(b, frame, turn)
         }
         BoolExpr::Same(a, b) => {
-            let left = truth_value(a, frame)?.get();
-            let right = truth_value(b, frame)?.get();
+            let left = truth_value(a, frame, turn)?.get();
+            let right = truth_value(b, frame, turn)?.get();
             Ok(Truth::new(left == right))
         }
         BoolExpr::Differ(a, b) => {
-            let left = truth_value(a, frame)?.get();
-            let right = truth_value(b, frame)?.get();
+            let left = truth_value(a, frame, turn)?.get();
+            let right = truth_value(b, frame, turn)?.get();
             Ok(Truth::new(left != right))
         }
         BoolExpr::Compare(comparison, a, b) => {
-            let left = operand(a, frame)?;
-            let right = operand(b, frame)?;
+            let left = operand(a, frame, turn)?;
+            let right = operand(b, frame, turn)?;
             Ok(Truth::new(holds(*comparison, left, right)))
         }
         BoolExpr::Contains(r, i) => {
-            let range = range_value(r, frame)?;
-            let i = operand(i, frame)?;
+            let range = range_value(r, frame, turn)?;
+            let i = operand(i, frame, turn)?;
             Ok(Truth::new(contains(range, i)))
         }
         BoolExpr::HasIndex(d, t) => {
-            let domain = domain_value(d, frame)?;
-            let index = index_value(t, frame)?;
+            let domain = domain_value(d, frame, turn)?;
+            let index = index_value(t, frame, turn)?;
             Ok(Truth::new(domain.contains(index)))
         }
-        BoolExpr::Element(slot, t, at) => Ok(Truth::new(element(*slot, t, at, frame)? != 0)),
+        BoolExpr::Element(slot, t, at) => Ok(Truth::new(element(*slot, t, at, frame, turn)? != 0)),
+        BoolExpr::Reduced(fold, e, at) => reduced_truth(*fold, e, at, frame, turn),
     }
 }

@@ -2,12 +2,19 @@
 // No walk takes memory, and none has an arm for what can't be.
 #![tactic(auto)]
 
-pub mod comparison;
+pub mod budget;
+mod comparison;
 pub mod domain;
-pub mod expression;
+mod expression;
+pub mod fold;
 pub mod number;
-pub mod promoted;
-pub mod range;
+mod promoted;
+mod range;
+mod reduction;
+mod values;
 
-pub use expression::{domain_value, element, index_value, int_value, range_value, truth_value};
-pub use promoted::{int_domain, promoted_int_value, promoted_truth_value, truth_domain};
+pub use promoted::{int_domain, truth_domain};
+pub use values::{
+    domain_value, index_value, int_value, literal, promoted_int_value, promoted_truth_value,
+    range_value, sized, truth_value,
+};

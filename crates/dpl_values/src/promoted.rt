@@ -1,35 +1,40 @@
 // The values of promoted expressions at an index, and the domain whose indices they are evaluated at.
-// A fault names no turn here: whoever goes through the indices knows which one it was.
+// Whoever goes through the indices names the turn of a fault: it is that of the outermost walk.
 
 ghost use Rattle.std.specs.Prelude.{◌≡◌, Some};
 ghost use Rattle.dpl_language.specs.Expressions.{value_of, whole_in};
 ghost use Rattle.dpl_lowered.specs.LoweredExpressions.{EachTurn};
 ghost use Rattle.dpl_memory.specs.Memory.{in_memory};
-ghost use Rattle.dpl_nodes.specs.Promoted.{promoted_int, promoted_truth};
-ghost use Rattle.dpl_nodes.specs.Faults.{of_int, of_truth};
+ghost use Rattle.dpl_nodes.specs.Typed.{promoted_int, promoted_truth};
+ghost use Rattle.dpl_nodes.specs.Faults.{of_int, of_truth, telling};
 
 use crate::comparison::holds;
 use crate::domain::found;
 use crate::expression::{operand as scalar_operand, truth_value};
 use crate::number::{difference, negative, product, quotient, remainder, sum};
 use dpl_domain::Index;
-use dpl_nodes::{DomainWord, FaultCode, Frame, PromotedInt, PromotedTruth, Trap, Truth};
+use dpl_nodes::{Alarm, DomainWord, FaultCode, Frame, PromotedInt, PromotedTruth, Truth, Turn};
 
 // An operand: an element or a scalar at once, and else by a walk.
-#[cycle(promoted)]
+#[cycle(walk)]
 #[inline(always)]
-fn operand(e: &PromotedInt<'_>, index: &Index, frame: &Frame<'_>) -> Result<i64, Trap>
-    ensures { value_of frame.now.limits in_memory (promoted_int EachTurn e.now) (Some index.now) frame.now.memory ≡ of_int result }
+pub(crate) fn operand(
+    e: &PromotedInt<'_>,
+    index: &Index,
+    frame: &Frame<'_>,
+    turn: &mut Turn,
+) -> Result<i64, Alarm>
+    ensures { value_of frame.now.limits in_memory (promoted_int EachTurn e.now) (Some index.now) frame.now.memory ≡ of_int (telling turn.new result) }
 {
     match e {
-        PromotedInt::Scalar(e) => scalar_operand(e, frame),
-        PromotedInt::Element(slot, at) => found(at, frame.element(*slot, *index)),
+        PromotedInt::Scalar(e) => scalar_operand(e, frame, turn),
+        PromotedInt::Element(slot, at) => found(at, frame.element(*slot, *index), turn),
         PromotedInt::Negative(_)
         | PromotedInt::Sum(..)
         | PromotedInt::Difference(..)
         | PromotedInt::Product(..)
         | PromotedInt::Quotient(..)
-        | PromotedInt::Remainder(..) => promoted_int_value(e, index, frame),
+        | PromotedInt::Remainder(..) => promoted_int_value(e, index, frame, turn),
     }
 }
 
@@ -37,46 +42,47 @@ fn operand(e: &PromotedInt<'_>, index: &Index, frame: &Frame<'_>) -> Result<i64,
 ///
 /// # Errors
 /// `F1` at the name of an array that hasn't the index, and `F2` at a division by zero.
-#[cycle(promoted)]
-pub fn promoted_int_value(
+#[cycle(walk)]
+pub(crate) fn promoted_int_value(
     e: &PromotedInt<'_>,
     index: &Index,
     frame: &Frame<'_>,
-) -> Result<i64, Trap>
-    ensures { value_of frame.now.limits in_memory (promoted_int EachTurn e.now) (Some index.now) frame.now.memory ≡ of_int result }
+    turn: &mut Turn,
+) -> Result<i64, Alarm>
+    ensures { value_of frame.now.limits in_memory (promoted_int EachTurn e.now) (Some index.now) frame.now.memory ≡ of_int (telling turn.new result) }
 {
     match e {
-        PromotedInt::Scalar(e) => scalar_operand(e, frame),
-        PromotedInt::Element(slot, at) => found(at, frame.element(*slot, *index)),
-        PromotedInt::Negative(e) => Ok(negative(operand(e, index, frame)?)),
+        PromotedInt::Scalar(e) => scalar_operand(e, frame, turn),
+        PromotedInt::Element(slot, at) => found(at, frame.element(*slot, *index), turn),
+        PromotedInt::Negative(e) => Ok(negative(operand(e, index, frame, turn)?)),
         PromotedInt::Sum(a, b) => {
-            let left = operand(a, index, frame)?;
-            let right = operand(b, index, frame)?;
+            let left = operand(a, index, frame, turn)?;
+            let right = operand(b, index, frame, turn)?;
             Ok(sum(left, right))
         }
         PromotedInt::Difference(a, b) => {
-            let left = operand(a, index, frame)?;
-            let right = operand(b, index, frame)?;
+            let left = operand(a, index, frame, turn)?;
+            let right = operand(b, index, frame, turn)?;
             Ok(difference(left, right))
         }
         PromotedInt::Product(a, b) => {
-            let left = operand(a, index, frame)?;
-            let right = operand(b, index, frame)?;
+            let left = operand(a, index, frame, turn)?;
+            let right = operand(b, index, frame, turn)?;
             Ok(product(left, right))
         }
         PromotedInt::Quotient(a, b, at) => {
-            let left = operand(a, index, frame)?;
-            let right = operand(b, index, frame)?;
+            let left = operand(a, index, frame, turn)?;
+            let right = operand(b, index, frame, turn)?;
             if right == 0 {
-                return Err(Trap::new(FaultCode::ZeroDivisor, **at));
+                return Err(Alarm::new(FaultCode::ZeroDivisor, **at, turn));
             }
             Ok(quotient(left, right))
         }
         PromotedInt::Remainder(a, b, at) => {
-            let left = operand(a, index, frame)?;
-            let right = operand(b, index, frame)?;
+            let left = operand(a, index, frame, turn)?;
+            let right = operand(b, index, frame, turn)?;
             if right == 0 {
-                return Err(Trap::new(FaultCode::ZeroDivisor, **at));
+                return Err(Alarm::new(FaultCode::ZeroDivisor, **at, turn));
             }
             Ok(remainder(left, right))
         }
@@ -87,46 +93,50 @@ pub fn promoted_int_value(
 ///
 /// # Errors
 /// The fault of an operand, and `F1` at the name of an array that hasn't the index.
-pub fn promoted_truth_value(
+#[cycle(truth)]
+pub(crate) fn promoted_truth_value(
     e: &PromotedTruth<'_>,
     index: &Index,
     frame: &Frame<'_>,
-) -> Result<Truth, Trap>
-    ensures { value_of frame.now.limits in_memory (promoted_truth EachTurn e.now) (Some index.now) frame.now.memory ≡ of_truth result }
+    turn: &mut Turn,
+) -> Result<Truth, Alarm>
+    ensures { value_of frame.now.limits in_memory (promoted_truth EachTurn e.now) (Some index.now) frame.now.memory ≡ of_truth (telling turn.new result) }
 {
     match e {
-        PromotedTruth::Scalar(e) => truth_value(e, frame),
+        PromotedTruth::Scalar(e) => truth_value(e, frame, turn),
         PromotedTruth::Element(slot, at) => {
-            Ok(Truth::new(found(at, frame.element(*slot, *index))? != 0))
+            Ok(Truth::new(found(at, frame.element(*slot, *index), turn)? != 0))
         }
-        PromotedTruth::Not(e) => Ok(Truth::new(!promoted_truth_value(e, index, frame)?.get())),
+        PromotedTruth::Not(e) => Ok(Truth::new(!promoted_truth_value(
+            e, index, frame, turn,
+        )?.get())),
         PromotedTruth::And(a, b) => {
-            let left = promoted_truth_value(a, index, frame)?;
+            let left = promoted_truth_value(a, index, frame, turn)?;
             if !left.get() {
                 return Ok(left);
             }
-            promoted_truth_value(b, index, frame)
+            promoted_truth_value(b, index, frame, turn)
         }
         PromotedTruth::Or(a, b) => {
-            let left = promoted_truth_value(a, index, frame)?;
+            let left = promoted_truth_value(a, index, frame, turn)?;
             if left.get() {
                 return Ok(left);
             }
-            promoted_truth_value(b, index, frame)
+            promoted_truth_value(b, index, frame, turn)
         }
         PromotedTruth::Same(a, b) => {
-            let left = promoted_truth_value(a, index, frame)?.get();
-            let right = promoted_truth_value(b, index, frame)?.get();
+            let left = promoted_truth_value(a, index, frame, turn)?.get();
+            let right = promoted_truth_value(b, index, frame, turn)?.get();
             Ok(Truth::new(left == right))
         }
         PromotedTruth::Differ(a, b) => {
-            let left = promoted_truth_value(a, index, frame)?.get();
-            let right = promoted_truth_value(b, index, frame)?.get();
+            let left = promoted_truth_value(a, index, frame, turn)?.get();
+            let right = promoted_truth_value(b, index, frame, turn)?.get();
             Ok(Truth::new(left != right))
         }
         PromotedTruth::Compare(comparison, a, b) => {
-            let left = operand(a, index, frame)?;
-            let right = operand(b, index, frame)?;
+            let left = operand(a, index, frame, turn)?;
+            let right = operand(b, index, frame, turn)?;
             Ok(Truth::new(holds(*comparison, left, right)))
         }
     }

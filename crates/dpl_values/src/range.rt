@@ -2,14 +2,14 @@
 // A bound is a whole number without a limit until it is tested.
 
 ghost use Rattle.std.specs.Prelude.{◌≡◌, false, pos, [], ◌∷◌};
-ghost use Rattle.dpl_language.specs.Ranges.{bounded as bounded_of, strided_by as strided_by_of, high_bound as high_bound_of, bad_count as bad_count_of};
+ghost use Rattle.dpl_language.specs.Ranges.{strided_by as strided_by_of, high_bound as high_bound_of, bad_count as bad_count_of};
 ghost use Rattle.dpl_language.specs.Ranges.{size_in, members_in, end_of, first_of, last_of, least_of, greatest_of, contains_index};
 ghost use Rattle.dpl_nodes.specs.Typed.{dots_view};
-ghost use Rattle.dpl_nodes.specs.Faults.{of_int};
+ghost use Rattle.dpl_nodes.specs.Faults.{of_int, telling};
 ghost use Rattle.dpl_contents.specs.Range.{range_word};
-ghost use Rattle.dpl_values.specs.Bounds.{FitsOrPast, of_word};
+ghost use Rattle.dpl_values.specs.Bounds.{FitsOrPast, of_word, bounds_of};
 
-use dpl_nodes::{Dots, FaultCode, RangeWord, Spot, Trap};
+use dpl_nodes::{Alarm, Dots, FaultCode, RangeWord, Spot, Turn};
 use dpl_range::Range;
 
 // The high bound, where it is an int.
@@ -33,24 +33,34 @@ fn is_bad_count(dots: Dots, number: i64) -> bool
     }
 }
 
+/// The bounds of a range as they are written: a low bound, and a high bound or a count, with the place where it is told that
+/// they are past their limits.
+#[derive(Clone, Copy)]
+pub(crate) struct Written {
+    pub(crate) at: Spot,
+    pub(crate) dots: Dots,
+    pub(crate) low: i64,
+    pub(crate) number: i64,
+}
+
 /// A range by its bounds, without a stride.
 ///
 /// # Errors
 /// `F3` at the dots for a bad count, and for a bound past its limit.
-pub fn bounded(at: Spot, dots: Dots, low: i64, number: i64) -> Result<RangeWord, Trap>
-    ensures { of_word result ≡ bounded_of at (dots_view dots) low number }
+pub(crate) fn bounded(written: Written, turn: &mut Turn) -> Result<RangeWord, Alarm>
+    ensures { of_word (telling turn.new result) ≡ bounds_of written }
 {
-    if is_bad_count(dots, number) {
-        return Err(Trap::new(FaultCode::PastLimit, at));
+    if is_bad_count(written.dots, written.number) {
+        return Err(Alarm::new(FaultCode::PastLimit, written.at, turn));
     }
-    match high_bound(dots, low, number) {
-        None => Err(Trap::new(FaultCode::PastLimit, at)),
-        Some(high) => match Range::new(low, high, 1) {
+    match high_bound(written.dots, written.low, written.number) {
+        None => Err(Alarm::new(FaultCode::PastLimit, written.at, turn)),
+        Some(high) => match Range::new(written.low, high, 1) {
             Ok(range) => Ok(RangeWord {
                 range,
                 strided: false,
             }),
-            Err(_) => Err(Trap::new(FaultCode::PastLimit, at)),
+            Err(_) => Err(Alarm::new(FaultCode::PastLimit, written.at, turn)),
         },
     }
 }
@@ -59,15 +69,20 @@ pub fn bounded(at: Spot, dots: Dots, low: i64, number: i64) -> Result<RangeWord,
 ///
 /// # Errors
 /// `F3` at `by` for a stride past its limits.
-pub fn strided_by(at: Spot, stride: i64, range: RangeWord) -> Result<RangeWord, Trap>
-    ensures { of_word result ≡ strided_by_of at stride (range_word range) }
+pub(crate) fn strided_by(
+    at: Spot,
+    stride: i64,
+    range: RangeWord,
+    turn: &mut Turn,
+) -> Result<RangeWord, Alarm>
+    ensures { of_word (telling turn.new result) ≡ strided_by_of at stride (range_word range) }
 {
     match Range::new(range.range.low_bound(), range.range.high_bound(), stride) {
         Ok(range) => Ok(RangeWord {
             range,
             strided: true,
         }),
-        Err(_) => Err(Trap::new(FaultCode::PastLimit, at)),
+        Err(_) => Err(Alarm::new(FaultCode::PastLimit, at, turn)),
     }
 }
 
@@ -82,12 +97,12 @@ pub fn size(range: RangeWord) -> i64
 ///
 /// # Errors
 /// `F4` at the method's name for an empty one.
-pub fn first(range: RangeWord, at: Spot) -> Result<i64, Trap>
-    ensures { of_int result ≡ end_of at first_of (members_in (range_word range)) }
+pub(crate) fn first(range: RangeWord, at: Spot, turn: &mut Turn) -> Result<i64, Alarm>
+    ensures { of_int (telling turn.new result) ≡ end_of at first_of (members_in (range_word range)) }
 {
     match range.range.first() {
         Some(end) => Ok(end),
-        None => Err(Trap::new(FaultCode::EmptyEnd, at)),
+        None => Err(Alarm::new(FaultCode::EmptyEnd, at, turn)),
     }
 }
 
@@ -95,12 +110,12 @@ pub fn first(range: RangeWord, at: Spot) -> Result<i64, Trap>
 ///
 /// # Errors
 /// `F4` at the method's name for an empty one.
-pub fn last(range: RangeWord, at: Spot) -> Result<i64, Trap>
-    ensures { of_int result ≡ end_of at last_of (members_in (range_word range)) }
+pub(crate) fn last(range: RangeWord, at: Spot, turn: &mut Turn) -> Result<i64, Alarm>
+    ensures { of_int (telling turn.new result) ≡ end_of at last_of (members_in (range_word range)) }
 {
     match range.range.last() {
         Some(end) => Ok(end),
-        None => Err(Trap::new(FaultCode::EmptyEnd, at)),
+        None => Err(Alarm::new(FaultCode::EmptyEnd, at, turn)),
     }
 }
 
@@ -108,12 +123,12 @@ pub fn last(range: RangeWord, at: Spot) -> Result<i64, Trap>
 ///
 /// # Errors
 /// `F4` at the method's name for an empty one.
-pub fn low(range: RangeWord, at: Spot) -> Result<i64, Trap>
-    ensures { of_int result ≡ end_of at least_of (members_in (range_word range)) }
+pub(crate) fn low(range: RangeWord, at: Spot, turn: &mut Turn) -> Result<i64, Alarm>
+    ensures { of_int (telling turn.new result) ≡ end_of at least_of (members_in (range_word range)) }
 {
     match range.range.low() {
         Some(end) => Ok(end),
-        None => Err(Trap::new(FaultCode::EmptyEnd, at)),
+        None => Err(Alarm::new(FaultCode::EmptyEnd, at, turn)),
     }
 }
 
@@ -121,12 +136,12 @@ pub fn low(range: RangeWord, at: Spot) -> Result<i64, Trap>
 ///
 /// # Errors
 /// `F4` at the method's name for an empty one.
-pub fn high(range: RangeWord, at: Spot) -> Result<i64, Trap>
-    ensures { of_int result ≡ end_of at greatest_of (members_in (range_word range)) }
+pub(crate) fn high(range: RangeWord, at: Spot, turn: &mut Turn) -> Result<i64, Alarm>
+    ensures { of_int (telling turn.new result) ≡ end_of at greatest_of (members_in (range_word range)) }
 {
     match range.range.high() {
         Some(end) => Ok(end),
-        None => Err(Trap::new(FaultCode::EmptyEnd, at)),
+        None => Err(Alarm::new(FaultCode::EmptyEnd, at, turn)),
     }
 }
 

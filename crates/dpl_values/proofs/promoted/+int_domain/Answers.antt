@@ -3,7 +3,7 @@ use Rattle.std.proofs.Common.{sym, ap, ◌∙◌}
 use Rattle.dpl_language.specs.Expressions.{whole_in}
 use Rattle.dpl_lowered.specs.LoweredExpressions.{EachTurn}
 use Rattle.dpl_memory.specs.Memory.{in_memory}
-use Rattle.dpl_nodes.specs.Promoted.{promoted_int}
+use Rattle.dpl_nodes.specs.Typed.{promoted_int}
 use Rattle.dpl_nodes.proofs.Promotions.{int_view-whole}
 use Rattle.dpl_values.proofs.promoted.+int_domain.Goals as goal
 

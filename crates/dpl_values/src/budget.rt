@@ -1,0 +1,39 @@
+// How many turns a loop may have.
+// Loops, whole arrays and reductions all test it before their first turn.
+
+ghost use Rattle.std.specs.Prelude.{◌≡◌};
+ghost use Rattle.dpl_nodes.specs.Faults.{telling};
+ghost use Rattle.dpl_values.specs.Elements.{within_at};
+
+use dpl_nodes::{Alarm, DomainWord, FaultCode, Frame, Spot, Trap, Turn};
+
+/// A domain whose indices a loop may go through.
+///
+/// # Errors
+/// `F5` at a place for more than the budget.
+pub fn within_budget(domain: &DomainWord, at: &Spot, frame: &Frame<'_>) -> Result<(), Trap>
+    ensures { result ≡ within_at frame.now.limits at.now domain.now }
+{
+    if frame.budget() < domain.size() {
+        return Err(Trap::new(FaultCode::Budget, *at));
+    }
+    Ok(())
+}
+
+/// The same of a reduction.
+///
+/// # Errors
+/// `F5` at a place for more than the budget.
+pub(crate) fn within_turns(
+    domain: &DomainWord,
+    at: &Spot,
+    frame: &Frame<'_>,
+    turn: &mut Turn,
+) -> Result<(), Alarm>
+    ensures { telling turn.new result ≡ within_at frame.now.limits at.now domain.now }
+{
+    if frame.budget() < domain.size() {
+        return Err(Alarm::new(FaultCode::Budget, *at, turn));
+    }
+    Ok(())
+}

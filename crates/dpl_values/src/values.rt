@@ -1,0 +1,155 @@
+// The values of ints, truth values, ranges, domains and indices over a frame, or the fault with the turn that it names.
+// Each is the walk of its expression, for which a place for the turn stands ready.
+
+ghost use Rattle.std.specs.Prelude.{◌≡◌, None, Some, Ok};
+ghost use Rattle.dpl_language.specs.Values.{all_ranges, index_of};
+ghost use Rattle.dpl_language.specs.Ranges.{sized as sized_of};
+ghost use Rattle.dpl_language.specs.Outcome.{with_ok};
+ghost use Rattle.dpl_language.specs.Expressions.{value_of, item_of, items_of, values_of};
+ghost use Rattle.dpl_lowered.specs.LoweredExpressions.{EachTurn};
+ghost use Rattle.dpl_memory.specs.Memory.{in_memory};
+ghost use Rattle.dpl_nodes.specs.Typed.{int_view, truth_view, range_item, ranges_items, index_exprs, domain_view, promoted_int, promoted_truth};
+ghost use Rattle.dpl_nodes.specs.Faults.{of_int, of_truth, of_range, of_domain};
+ghost use Rattle.dpl_values.specs.Elements.{sized_or};
+
+use crate::expression::operand;
+use crate::{domain, expression, promoted};
+use dpl_domain::Index;
+use dpl_nodes::{
+    BoolExpr, DomainExpr, DomainWord, Frame, IndexExpr, IntExpr, PromotedInt, PromotedTruth,
+    RangeExpr, RangeWord, RangesExpr, Spot, Trap, Truth, Turn,
+};
+
+/// The value of an int.
+///
+/// # Errors
+/// The fault of a part: `F2` at a division by zero, `F4` at an end of an empty range, `F1` at an array's name, `F5` at `reduce`.
+pub fn int_value(e: &IntExpr<'_>, frame: &Frame<'_>) -> Result<i64, Trap>
+    ensures { value_of frame.now.limits in_memory (int_view e.now) None frame.now.memory ≡ of_int result }
+{
+    let mut turn = Turn::Absent;
+    match operand(e, frame, &mut turn) {
+        Ok(value) => Ok(value),
+        Err(alarm) => Err(alarm.in_turn(&turn)),
+    }
+}
+
+/// The value of a truth value. `&&` after false and `||` after true don't look at their right side.
+///
+/// # Errors
+/// The fault of an operand.
+pub fn truth_value(e: &BoolExpr<'_>, frame: &Frame<'_>) -> Result<Truth, Trap>
+    ensures { value_of frame.now.limits in_memory (truth_view e.now) None frame.now.memory ≡ of_truth result }
+{
+    let mut turn = Turn::Absent;
+    match expression::truth_value(e, frame, &mut turn) {
+        Ok(value) => Ok(value),
+        Err(alarm) => Err(alarm.in_turn(&turn)),
+    }
+}
+
+/// The value of a range.
+///
+/// # Errors
+/// `F3` at the dots for a bound or a count past its limit, and at `by` for a stride; the fault of a part.
+pub fn range_value(e: &RangeExpr<'_>, frame: &Frame<'_>) -> Result<RangeWord, Trap>
+    ensures { item_of frame.now.limits in_memory (range_item e.now) None frame.now.memory ≡ of_range result }
+{
+    let mut turn = Turn::Absent;
+    match expression::range_value(e, frame, &mut turn) {
+        Ok(value) => Ok(value),
+        Err(alarm) => Err(alarm.in_turn(&turn)),
+    }
+}
+
+/// The value of a domain.
+///
+/// # Errors
+/// `F3` at the opening bracket for too many indices, and at `expand` for these or for a bound past its limit; the fault of a part.
+pub fn domain_value(e: &DomainExpr<'_>, frame: &Frame<'_>) -> Result<DomainWord, Trap>
+    ensures { value_of frame.now.limits in_memory (domain_view e.now) None frame.now.memory ≡ of_domain result }
+{
+    let mut turn = Turn::Absent;
+    match expression::domain_value(e, frame, &mut turn) {
+        Ok(value) => Ok(value),
+        Err(alarm) => Err(alarm.in_turn(&turn)),
+    }
+}
+
+/// An index, by its coordinates.
+///
+/// # Errors
+/// The fault of a coordinate.
+pub fn index_value(t: &IndexExpr<'_>, frame: &Frame<'_>) -> Result<Index, Trap>
+    ensures { with_ok (values_of frame.now.limits in_memory (index_exprs t.now) frame.now.memory) (λ vs. Ok (index_of vs)) ≡ result }
+{
+    let mut turn = Turn::Absent;
+    match expression::index_value(t, frame, &mut turn) {
+        Ok(value) => Ok(value),
+        Err(alarm) => Err(alarm.in_turn(&turn)),
+    }
+}
+
+/// A domain by its ranges.
+///
+/// # Errors
+/// The fault of a range; `F3` at the opening bracket for too many indices.
+pub fn literal(at: &Spot, ranges: &RangesExpr<'_>, frame: &Frame<'_>) -> Result<DomainWord, Trap>
+    ensures { with_ok (items_of frame.now.limits in_memory (ranges_items ranges.now) frame.now.memory) (λ vs. sized_of at.now (all_ranges vs)) ≡ of_domain result }
+{
+    let mut turn = Turn::Absent;
+    match expression::literal(at, ranges, frame, &mut turn) {
+        Ok(value) => Ok(value),
+        Err(alarm) => Err(alarm.in_turn(&turn)),
+    }
+}
+
+/// A domain, if it is small enough.
+///
+/// # Errors
+/// `F3` at the opening bracket.
+pub fn sized(at: &Spot, domain: Option<DomainWord>) -> Result<DomainWord, Trap>
+    ensures { result ≡ sized_or at.now domain }
+{
+    let mut turn = Turn::Absent;
+    match domain::sized(at, domain, &mut turn) {
+        Ok(value) => Ok(value),
+        Err(alarm) => Err(alarm.in_turn(&turn)),
+    }
+}
+
+/// The value of a promoted int at an index. Its fault names no turn but that of a reduction in it.
+///
+/// # Errors
+/// `F1` at the name of an array that hasn't the index; the fault of a part.
+pub fn promoted_int_value(
+    e: &PromotedInt<'_>,
+    index: &Index,
+    frame: &Frame<'_>,
+) -> Result<i64, Trap>
+    ensures { value_of frame.now.limits in_memory (promoted_int EachTurn e.now) (Some index.now) frame.now.memory ≡ of_int result }
+{
+    let mut turn = Turn::Absent;
+    match promoted::operand(e, index, frame, &mut turn) {
+        Ok(value) => Ok(value),
+        Err(alarm) => Err(alarm.in_turn(&turn)),
+    }
+}
+
+/// The value of a promoted truth value at an index. Its fault names no turn but that of a reduction in it.
+///
+/// # Errors
+/// `F1` at the name of an array that hasn't the index; the fault of a part.
+pub fn promoted_truth_value(
+    e: &PromotedTruth<'_>,
+    index: &Index,
+    frame: &Frame<'_>,
+) -> Result<Truth, Trap>
+    ensures { value_of frame.now.limits in_memory (promoted_truth EachTurn e.now) (Some index.now) frame.now.memory ≡ of_truth result }
+{
+    let mut turn = Turn::Absent;
+    match promoted::promoted_truth_value(e, index, frame, &mut turn) {
+        Ok(value) => Ok(value),
+        Err(alarm) => Err(alarm.in_turn(&turn)),
+    }
+}
