@@ -2,7 +2,7 @@
 -- Each lemma has the meaning of the plain statement on its left side.
 use Rattle.std.proofs.Common.{◌≡◌, ℕ, Option, Some, None, Result, Ok, Err, refl, sym, ap, ◌∙◌}
 use Rattle.dpl_syntax.specs.declared.place.Place.{Place}
-use Rattle.dpl_language.specs.Tree.{Assign, Set, SetReduce, ItemTree}
+use Rattle.dpl_language.specs.Tree.{Assign, Set, SetAdd, SetSubtract, SetMultiply, SetDivide, SetRemainder, SetReduce, ItemTree}
 use Rattle.dpl_language.specs.Values.{Value, Fault, is_domain}
 use Rattle.dpl_language.specs.Arithmetic.{assign_divides, tested_divisor}
 use Rattle.dpl_language.specs.Outcome.{Deeds, Outcome, Done, Stop, Run, with_ok, with_value}
@@ -13,17 +13,19 @@ use Rattle.dpl_language.specs.Assignments.{read_or, evaluated, assign_name}
 use Rattle.dpl_language.specs.Declarations.{given_or}
 use Rattle.dpl_language.specs.Statements.{exec}
 use Rattle.dpl_lowered.specs.Shapes.{nowhere}
-use Rattle.dpl_words.specs.Words.{LeafKind, TruthLeaf}
-use Rattle.dpl_memory.specs.Memory.{PlainKind, Variable, Memory, variable, truth_leaf, in_memory}
+use Rattle.dpl_words.specs.Words.{LeafKind, IntLeaf, TruthLeaf}
+use Rattle.dpl_memory.specs.Memory.{PlainKind, Variable, Memory, variable, int_leaf, truth_leaf, in_memory}
 use Rattle.dpl_memory.proofs.Known.{memory-known}
+use Rattle.dpl_nodes.specs.declared.step.IntDeed.{IntDeed}
+use Rattle.dpl_nodes.specs.declared.step.IntDeed.TheVariants as deeds
 use Rattle.dpl_nodes.specs.declared.step.TruthDeed.{TruthDeed}
 use Rattle.dpl_nodes.specs.declared.step.TruthDeed.TheVariants as deed
-use Rattle.dpl_nodes.specs.Steps.{unplaced_leaf, declared_as, assigned_to, truth_changed}
+use Rattle.dpl_nodes.specs.Steps.{unplaced_leaf, declared_as, assigned_to, int_changed, truth_changed}
 use Rattle.dpl_steps.specs.declared.halt.Halt.{Halt}
 use Rattle.dpl_steps.specs.declared.halt.Halt.TheVariants.{Fault as FaultHalt, Memory as OutOfMemory}
 use Rattle.dpl_steps.specs.Runs.{RunEnds}
 use Rattle.dpl_steps.specs.Tells.{TellsSame}
-use Rattle.dpl_steps.specs.Changes.{declared_memory, given_memory, assigned_memory, truth_memory, memory_after, ends_as}
+use Rattle.dpl_steps.specs.Changes.{declared_memory, given_memory, assigned_memory, int_memory, truth_memory, memory_after, ends_as}
 
 -- a change that is told ends the run as the memory after it does
 pub told-ends : (r : Result (Unit {0}) Fault) (h : Result (Unit {0}) Halt) (s : Memory) (done : Deeds) (o : Outcome Memory) → TellsSame r h → o ≡ ends_as (memory_after r s) done → RunEnds h s done o
@@ -77,6 +79,19 @@ module _ (limits : Limits) where
       ∙ ap (λ b. assign_name limits in_memory (unplaced_leaf x) (record { at = at; op = op; last = nowhere }) item None b s done) (memory-known x s).1
       ∙ evaluated-item item (λ v. with_value (tested_divisor (assign_divides op) at v) (λ w s done. Done (in_memory.update x op w s) done)) s done e
       ∙ assigned-value x op at s done (item_of limits in_memory item None s)
+
+  -- what is done to an int
+  pub exec-int : (d : IntDeed) (slot : ℕ) (item : ItemTree Variable) (s : Memory) (done : Deeds) → item_read item ≡ None
+      → exec limits in_memory (int_changed d slot item) s done ≡ ends_as (int_memory limits d slot item s) done
+  exec-int deeds.Declare slot item s done e = exec-declared (int_leaf slot) item s done e
+  exec-int deeds.Config slot item s done e = exec-config (int_leaf slot) item s done e
+  exec-int deeds.Set slot item s done e = exec-assigned IntLeaf slot Set nowhere item s done e
+  exec-int deeds.Add slot item s done e = exec-assigned IntLeaf slot SetAdd nowhere item s done e
+  exec-int deeds.Subtract slot item s done e = exec-assigned IntLeaf slot SetSubtract nowhere item s done e
+  exec-int deeds.Multiply slot item s done e = exec-assigned IntLeaf slot SetMultiply nowhere item s done e
+  exec-int (deeds.Divide at) slot item s done e = exec-assigned IntLeaf slot SetDivide at.now item s done e
+  exec-int (deeds.Remainder at) slot item s done e = exec-assigned IntLeaf slot SetRemainder at.now item s done e
+  exec-int deeds.Reduce slot item s done e = exec-assigned IntLeaf slot SetReduce nowhere item s done e
 
   -- what is done to a truth value
   pub exec-truth : (d : TruthDeed) (slot : ℕ) (item : ItemTree Variable) (s : Memory) (done : Deeds) → item_read item ≡ None

@@ -13,7 +13,7 @@ use Rattle.dpl_language.specs.Environment.{Limits}
 use Rattle.dpl_language.specs.Expressions.{item_of}
 use Rattle.dpl_memory.specs.Memory.{Variable, Memory, in_memory}
 use Rattle.dpl_values.proofs.Ranges.{size_in-one}
-use Rattle.dpl_steps.specs.Changes.{within_at}
+use Rattle.dpl_values.specs.Elements.{within_at}
 use Rattle.dpl_steps.specs.Turns.{within, looped_over}
 
 module _ (limits : Limits) (at : Place) (item : ItemTree Variable) (s : Memory) (r : TextRange) where

@@ -1,18 +1,20 @@
 -- What declarations and assignments do to a memory: another memory, or a fault. They do nothing else.
 -- Each is by the value of its right side.
-use Rattle.std.specs.Prelude.{ℕ, ℤ, Bool, if◌then◌else◌, nat_lt, List, Option, Some, None, Result, Ok, Err}
+use Rattle.std.specs.Prelude.{ℕ, ℤ, Bool, if◌then◌else◌, List, Option, Some, None, Result, Ok, Err}
 use Rattle.dpl_syntax.specs.declared.place.Place.{Place}
-use Rattle.dpl_language.specs.Tree.{Assign, Set, SetReduce, AssignTree, ItemTree}
+use Rattle.dpl_language.specs.Tree.{Assign, Set, SetAdd, SetSubtract, SetMultiply, SetDivide, SetRemainder, SetReduce, AssignTree, ItemTree}
 use Rattle.dpl_range.specs.Equality.{TextRange}
-use Rattle.dpl_language.specs.Values.{Value, Index, kept_number, Fault, fault, Outside, ArrayTooLarge, Budget}
-use Rattle.dpl_language.specs.Ranges.{size_in, too_large}
+use Rattle.dpl_language.specs.Values.{Value, Index, kept_number, Fault, fault, Outside, ArrayTooLarge}
+use Rattle.dpl_language.specs.Ranges.{too_large}
 use Rattle.dpl_language.specs.Arithmetic.{assign_divides, tested_divisor}
 use Rattle.dpl_language.specs.Outcome.{Deeds, Outcome, Done, Stop, with_ok}
 use Rattle.dpl_language.specs.Environment.{Limits, Plain}
 use Rattle.dpl_language.specs.Expressions.{item_of}
 use Rattle.dpl_lowered.specs.Shapes.{nowhere}
-use Rattle.dpl_memory.specs.Memory.{Variable, Memory, truth_leaf, array_at, with_array, held_at, held_with, in_memory}
+use Rattle.dpl_memory.specs.Memory.{Variable, Memory, int_leaf, truth_leaf, array_at, with_array, held_at, held_with, in_memory}
 use Rattle.dpl_values.specs.Elements.{word_found}
+use Rattle.dpl_nodes.specs.declared.step.IntDeed.{IntDeed}
+use Rattle.dpl_nodes.specs.declared.step.IntDeed.TheVariants as deeds
 use Rattle.dpl_nodes.specs.declared.step.TruthDeed.{TruthDeed}
 use Rattle.dpl_nodes.specs.declared.step.TruthDeed.TheVariants as deed
 
@@ -31,6 +33,18 @@ module _ (limits : Limits) where
   assigned_memory x op at item s =
       with_ok (item_of limits in_memory item None s)
       (λ v. with_ok (tested_divisor (assign_divides op) at v) (λ w. Ok (in_memory.update x op w s)))
+
+  -- and after what is done to an int
+  abbrev pub int_memory : IntDeed → ℕ → ItemTree Variable → Memory → Result Memory Fault
+  int_memory deeds.Declare slot item s = declared_memory (int_leaf slot) item s
+  int_memory deeds.Config slot item s = given_memory (int_leaf slot) item (in_memory.given (int_leaf slot) s) s
+  int_memory deeds.Set slot item s = assigned_memory (int_leaf slot) Set nowhere item s
+  int_memory deeds.Add slot item s = assigned_memory (int_leaf slot) SetAdd nowhere item s
+  int_memory deeds.Subtract slot item s = assigned_memory (int_leaf slot) SetSubtract nowhere item s
+  int_memory deeds.Multiply slot item s = assigned_memory (int_leaf slot) SetMultiply nowhere item s
+  int_memory (deeds.Divide at) slot item s = assigned_memory (int_leaf slot) SetDivide at.now item s
+  int_memory (deeds.Remainder at) slot item s = assigned_memory (int_leaf slot) SetRemainder at.now item s
+  int_memory deeds.Reduce slot item s = assigned_memory (int_leaf slot) SetReduce nowhere item s
 
   -- and after what is done to a truth value
   abbrev pub truth_memory : TruthDeed → ℕ → ItemTree Variable → Memory → Result Memory Fault
@@ -66,10 +80,6 @@ put_memory at slot t w s =
 -- a domain for an array, or F8 at a name
 abbrev pub for_array_at : Place → List TextRange → Result (List TextRange) Fault
 for_array_at at rs = if too_large rs then Err (fault ArrayTooLarge at) else Ok rs
-
--- no more indices than the budget, or F5
-abbrev pub within_at : Limits → Place → List TextRange → Result (Unit {0}) Fault
-within_at limits at rs = if nat_lt limits.budget (size_in rs) then Err (fault Budget at) else Ok tt
 
 -- the word of a value, or its fault
 abbrev pub kept_word : Result Value Fault → Result ℤ Fault

@@ -6,16 +6,16 @@ ghost use Rattle.dpl_lowered.specs.Shapes.{nowhere};
 ghost use Rattle.dpl_language.specs.Tree.{One, SetAdd, SetSubtract, SetMultiply, SetDivide, SetRemainder, SetReduce};
 ghost use Rattle.dpl_memory.specs.Memory.{int_leaf, truth_leaf, range_leaf, in_memory};
 ghost use Rattle.dpl_nodes.specs.Typed.{int_view, truth_view, range_item};
-ghost use Rattle.dpl_steps.specs.Changes.{declared_memory, given_memory, assigned_memory, truth_memory, memory_after};
+ghost use Rattle.dpl_steps.specs.Changes.{declared_memory, given_memory, assigned_memory, int_memory, truth_memory, memory_after};
 
 use crate::reduce::{reduced_int, reduced_truth};
-use dpl_nodes::{BoolExpr, FaultCode, Frame, IntExpr, RangeExpr, Spot, Trap, TruthDeed};
+use dpl_nodes::{BoolExpr, FaultCode, Frame, IntDeed, IntExpr, RangeExpr, Spot, Trap, TruthDeed};
 use dpl_values::number::{difference, product, quotient, remainder, sum};
 use dpl_values::{int_value, range_value, truth_value};
 
-/// An int's declaration, or an assignment to it.
+// An int's declaration, or an assignment to it.
 #[inline(always)]
-pub(crate) fn declare_int(slot: usize, e: &IntExpr<'_>, frame: &mut Frame<'_>) -> Result<(), Trap>
+fn declare_int(slot: usize, e: &IntExpr<'_>, frame: &mut Frame<'_>) -> Result<(), Trap>
     ensures memory { declared_memory frame.old.limits (int_leaf slot) (One (int_view e.now)) frame.old.memory ≡ memory_after result frame.new.memory }
     ensures limits { frame.new.limits ≡ frame.old.limits }
 {
@@ -49,9 +49,9 @@ pub(crate) fn declare_range(
     Ok(())
 }
 
-/// A `config const` that is an int.
+// A `config const` that is an int.
 #[inline(never)]
-pub(crate) fn config_int(slot: usize, e: &IntExpr<'_>, frame: &mut Frame<'_>) -> Result<(), Trap>
+fn config_int(slot: usize, e: &IntExpr<'_>, frame: &mut Frame<'_>) -> Result<(), Trap>
     ensures memory { given_memory frame.old.limits (int_leaf slot) (One (int_view e.now)) (in_memory.given (int_leaf slot) frame.old.memory) frame.old.memory ≡ memory_after result frame.new.memory }
     ensures limits { frame.new.limits ≡ frame.old.limits }
 {
@@ -78,9 +78,9 @@ fn config_truth(slot: usize, e: &BoolExpr<'_>, frame: &mut Frame<'_>) -> Result<
     }
 }
 
-/// `+=`
+// `+=`
 #[inline(always)]
-pub(crate) fn add(slot: usize, e: &IntExpr<'_>, frame: &mut Frame<'_>) -> Result<(), Trap>
+fn add(slot: usize, e: &IntExpr<'_>, frame: &mut Frame<'_>) -> Result<(), Trap>
     ensures memory { assigned_memory frame.old.limits (int_leaf slot) SetAdd nowhere (One (int_view e.now)) frame.old.memory ≡ memory_after result frame.new.memory }
     ensures limits { frame.new.limits ≡ frame.old.limits }
 {
@@ -89,9 +89,9 @@ pub(crate) fn add(slot: usize, e: &IntExpr<'_>, frame: &mut Frame<'_>) -> Result
     Ok(())
 }
 
-/// `-=`
+// `-=`
 #[inline(always)]
-pub(crate) fn subtract(slot: usize, e: &IntExpr<'_>, frame: &mut Frame<'_>) -> Result<(), Trap>
+fn subtract(slot: usize, e: &IntExpr<'_>, frame: &mut Frame<'_>) -> Result<(), Trap>
     ensures memory { assigned_memory frame.old.limits (int_leaf slot) SetSubtract nowhere (One (int_view e.now)) frame.old.memory ≡ memory_after result frame.new.memory }
     ensures limits { frame.new.limits ≡ frame.old.limits }
 {
@@ -100,9 +100,9 @@ pub(crate) fn subtract(slot: usize, e: &IntExpr<'_>, frame: &mut Frame<'_>) -> R
     Ok(())
 }
 
-/// `*=`
+// `*=`
 #[inline(always)]
-pub(crate) fn multiply(slot: usize, e: &IntExpr<'_>, frame: &mut Frame<'_>) -> Result<(), Trap>
+fn multiply(slot: usize, e: &IntExpr<'_>, frame: &mut Frame<'_>) -> Result<(), Trap>
     ensures memory { assigned_memory frame.old.limits (int_leaf slot) SetMultiply nowhere (One (int_view e.now)) frame.old.memory ≡ memory_after result frame.new.memory }
     ensures limits { frame.new.limits ≡ frame.old.limits }
 {
@@ -111,14 +111,9 @@ pub(crate) fn multiply(slot: usize, e: &IntExpr<'_>, frame: &mut Frame<'_>) -> R
     Ok(())
 }
 
-/// `/=`
+// `/=`
 #[inline(never)]
-pub(crate) fn divide(
-    slot: usize,
-    at: &Spot,
-    e: &IntExpr<'_>,
-    frame: &mut Frame<'_>,
-) -> Result<(), Trap>
+fn divide(slot: usize, at: &Spot, e: &IntExpr<'_>, frame: &mut Frame<'_>) -> Result<(), Trap>
     ensures memory { assigned_memory frame.old.limits (int_leaf slot) SetDivide at.now (One (int_view e.now)) frame.old.memory ≡ memory_after result frame.new.memory }
     ensures limits { frame.new.limits ≡ frame.old.limits }
 {
@@ -130,14 +125,9 @@ pub(crate) fn divide(
     Ok(())
 }
 
-/// `%=`
+// `%=`
 #[inline(never)]
-pub(crate) fn rest(
-    slot: usize,
-    at: &Spot,
-    e: &IntExpr<'_>,
-    frame: &mut Frame<'_>,
-) -> Result<(), Trap>
+fn rest(slot: usize, at: &Spot, e: &IntExpr<'_>, frame: &mut Frame<'_>) -> Result<(), Trap>
     ensures memory { assigned_memory frame.old.limits (int_leaf slot) SetRemainder at.now (One (int_view e.now)) frame.old.memory ≡ memory_after result frame.new.memory }
     ensures limits { frame.new.limits ≡ frame.old.limits }
 {
@@ -149,9 +139,9 @@ pub(crate) fn rest(
     Ok(())
 }
 
-/// `reduce=` to an int
+// `reduce=` to an int
 #[inline(never)]
-pub(crate) fn reduce_int(slot: usize, e: &IntExpr<'_>, frame: &mut Frame<'_>) -> Result<(), Trap>
+fn reduce_int(slot: usize, e: &IntExpr<'_>, frame: &mut Frame<'_>) -> Result<(), Trap>
     ensures memory { assigned_memory frame.old.limits (int_leaf slot) SetReduce nowhere (One (int_view e.now)) frame.old.memory ≡ memory_after result frame.new.memory }
     ensures limits { frame.new.limits ≡ frame.old.limits }
 {
@@ -170,6 +160,30 @@ fn reduce_truth(slot: usize, e: &BoolExpr<'_>, frame: &mut Frame<'_>) -> Result<
     let number = reduced_truth(frame.operator(slot), frame.number(slot) != 0, value);
     frame.set_number(slot, number);
     Ok(())
+}
+
+/// What is done to an int.
+#[inline(always)]
+pub(crate) fn change_int(
+    deed: &IntDeed<'_>,
+    slot: usize,
+    e: &IntExpr<'_>,
+    frame: &mut Frame<'_>,
+) -> Result<(), Trap>
+    ensures memory { int_memory frame.old.limits deed.now slot (One (int_view e.now)) frame.old.memory ≡ memory_after result frame.new.memory }
+    ensures limits { frame.new.limits ≡ frame.old.limits }
+{
+    match deed {
+        IntDeed::Declare => declare_int(slot, e, frame),
+        IntDeed::Config => config_int(slot, e, frame),
+        IntDeed::Set => declare_int(slot, e, frame),
+        IntDeed::Add => add(slot, e, frame),
+        IntDeed::Subtract => subtract(slot, e, frame),
+        IntDeed::Multiply => multiply(slot, e, frame),
+        IntDeed::Divide(at) => divide(slot, at, e, frame),
+        IntDeed::Remainder(at) => rest(slot, at, e, frame),
+        IntDeed::Reduce => reduce_int(slot, e, frame),
+    }
 }
 
 /// What is done to a truth value.

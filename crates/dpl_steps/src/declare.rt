@@ -11,7 +11,7 @@ ghost use Rattle.dpl_language.specs.Statements.{exec};
 ghost use Rattle.dpl_lowered.specs.LoweredExpressions.{EachTurn};
 ghost use Rattle.dpl_memory.specs.Memory.{in_memory};
 ghost use Rattle.dpl_nodes.specs.Faults.{of_domain};
-ghost use Rattle.dpl_nodes.specs.Promoted.{promoted_int, promoted_truth};
+ghost use Rattle.dpl_nodes.specs.Typed.{promoted_int, promoted_truth};
 ghost use Rattle.dpl_nodes.specs.Steps.{over_items, array_declared};
 ghost use Rattle.dpl_steps.specs.Changes.{kept_word, for_array_at};
 ghost use Rattle.dpl_steps.specs.Arrays.{declared_without, declared_with};
@@ -19,16 +19,16 @@ ghost use Rattle.dpl_steps.specs.Runs.{RunEnds, Names, Gathers};
 
 use crate::domain::for_array;
 use crate::halt::Halt;
-use crate::whole::within_budget;
 use dpl_contents::ArrayWords;
 use dpl_domain::Index;
 use dpl_nodes::{
     ArrayDeclaration, DomainWord, Frame, Initial, Over, PromotedInt, PromotedTruth, Spot, Trap,
 };
-use dpl_values::domain::{coordinate, sized, small};
-use dpl_values::expression::literal;
+use dpl_values::budget::within_budget;
+use dpl_values::domain::{coordinate, small};
 use dpl_values::{
-    domain_value, int_domain, promoted_int_value, promoted_truth_value, range_value, truth_domain,
+    domain_value, int_domain, literal, promoted_int_value, promoted_truth_value, range_value,
+    sized, truth_domain,
 };
 
 // The domain that stands between an array's brackets.
@@ -37,8 +37,8 @@ fn domain_over(over: &Over<'_>, from: &Spot, frame: &Frame<'_>) -> Result<Domain
 {
     match over {
         Over::Ranges(ranges) => literal(from, ranges, frame),
-        Over::Domain(d) => small(domain_value(d, frame)?),
-        Over::HiddenDomain(d) => small(domain_value(d, frame)?),
+        Over::Domain(d) => Ok(small(domain_value(d, frame)?)),
+        Over::HiddenDomain(d) => Ok(small(domain_value(d, frame)?)),
         Over::HiddenRange(r) => {
             let range = range_value(r, frame)?;
             sized(from, DomainWord::new(&[range]))

@@ -21,9 +21,9 @@ ghost use Rattle.dpl_steps.specs.Turns.{each_bound, index_turn, looped_over};
 
 use crate::halt::Halt;
 use crate::statement::run;
-use crate::whole::within_budget;
 use dpl_domain::Index;
 use dpl_nodes::{DomainExpr, DomainWord, Frame, Intent, Names, Spot, Step, Trap};
+use dpl_values::budget::within_budget;
 use dpl_values::domain_value;
 
 // What a loop runs over: its domain is evaluated once, and its size is tested against the budget.

@@ -6,33 +6,27 @@ ghost use Rattle.dpl_language.specs.Values.{number, kept_number, Int, Truth};
 ghost use Rattle.dpl_language.specs.Arithmetic.{combined as combined_of, by_intent};
 ghost use Rattle.dpl_tree.specs.Words.{op_view};
 
+use dpl_nodes::Fold;
 use dpl_tree::Op;
-use dpl_values::number::{product, sum};
+use dpl_values::fold::{combined_ints, combined_truths};
 
 // Two ints.
-fn combined_ints(op: Op, a: i64, b: i64) -> i64
+fn two_ints(op: Op, a: i64, b: i64) -> i64
     ensures { result ≡ number (combined_of (op_view op) (Int a) (Int b)) }
 {
-    match op {
-        Op::Sum => sum(a, b),
-        Op::Product => product(a, b),
-        Op::AllOf | Op::AnyOf => 0,
-        Op::BitAnd => a & b,
-        Op::BitOr => a | b,
-        Op::BitXor => a ^ b,
-        Op::Least => a.min(b),
-        Op::Greatest => a.max(b),
+    match Fold::of(op) {
+        Fold::Ints(fold) => combined_ints(fold, a, b),
+        Fold::Truths(_) => 0,
     }
 }
 
 // Two truth values, as a number.
-fn combined_truths(op: Op, a: bool, b: bool) -> i64
+fn two_truths(op: Op, a: bool, b: bool) -> i64
     ensures { result ≡ kept_number (combined_of (op_view op) (Truth a) (Truth b)) }
 {
-    match op {
-        Op::AllOf => i64::from(a && b),
-        Op::AnyOf => i64::from(a || b),
-        Op::Sum | Op::Product | Op::BitAnd | Op::BitOr | Op::BitXor | Op::Least | Op::Greatest => 0,
+    match Fold::of(op) {
+        Fold::Truths(fold) => i64::from(combined_truths(fold, a, b)),
+        Fold::Ints(_) => 0,
     }
 }
 
@@ -42,7 +36,7 @@ pub(crate) fn reduced_int(op: Option<Op>, old: i64, value: i64) -> i64
 {
     match op {
         None => value,
-        Some(op) => combined_ints(op, old, value),
+        Some(op) => two_ints(op, old, value),
     }
 }
 
@@ -52,6 +46,6 @@ pub(crate) fn reduced_truth(op: Option<Op>, old: bool, value: bool) -> i64
 {
     match op {
         None => i64::from(value),
-        Some(op) => combined_truths(op, old, value),
+        Some(op) => two_truths(op, old, value),
     }
 }

@@ -14,10 +14,7 @@ ghost use Rattle.dpl_nodes.specs.Faults.{of_range};
 ghost use Rattle.dpl_steps.specs.Runs.{having_printed, RunEnds};
 ghost use Rattle.dpl_steps.specs.Turns.{in_turn, turn_in_memory, named_in_memory, looped_over, forall_tree};
 
-use crate::change::{
-    add, change_truth, config_int, declare_int, declare_range, divide, multiply, reduce_int, rest,
-    subtract,
-};
+use crate::change::{change_int, change_truth, declare_range};
 use crate::declare::declare_array;
 use crate::domain::{declare_domain, declare_empty, set_domain};
 use crate::each::{for_each, forall_each};
@@ -67,17 +64,9 @@ fn statement<'t>(step: &Step<'t>, frame: &mut Frame<'t>, out: &mut Vec<u8>) -> R
 {
     match step {
         Step::Nothing => Ok(()),
-        Step::DeclareInt(slot, e) => told(declare_int(*slot, e, frame)),
+        Step::Int(deed, slot, e) => told(change_int(deed, *slot, e, frame)),
         Step::DeclareRange(slot, e) => told(declare_range(*slot, e, frame)),
-        Step::ConfigInt(slot, e) => told(config_int(*slot, e, frame)),
-        Step::SetInt(slot, e) => told(declare_int(*slot, e, frame)),
         Step::SetRange(slot, e) => told(declare_range(*slot, e, frame)),
-        Step::Add(slot, e) => told(add(*slot, e, frame)),
-        Step::Subtract(slot, e) => told(subtract(*slot, e, frame)),
-        Step::Multiply(slot, e) => told(multiply(*slot, e, frame)),
-        Step::Divide(slot, at, e) => told(divide(*slot, at, e, frame)),
-        Step::Remainder(slot, at, e) => told(rest(*slot, at, e, frame)),
-        Step::ReduceInt(slot, e) => told(reduce_int(*slot, e, frame)),
         Step::Truth(deed, slot, e) => told(change_truth(*deed, *slot, e, frame)),
         Step::DeclareDomain(slot, e) => told(declare_domain(*slot, e, frame)),
         Step::DeclareEmpty(slot, rank) => {

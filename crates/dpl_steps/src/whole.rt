@@ -14,17 +14,18 @@ ghost use Rattle.dpl_language.specs.Statements.{exec};
 ghost use Rattle.dpl_lowered.specs.LoweredExpressions.{EachTurn};
 ghost use Rattle.dpl_memory.specs.Memory.{in_memory};
 ghost use Rattle.dpl_tree.specs.Words.{assign_view};
-ghost use Rattle.dpl_nodes.specs.Promoted.{promoted_int, promoted_truth};
+ghost use Rattle.dpl_nodes.specs.Typed.{promoted_int, promoted_truth};
 ghost use Rattle.dpl_nodes.specs.Steps.{array_leaf, whole_set};
-ghost use Rattle.dpl_steps.specs.Changes.{memory_after, ends_as, signed, within_at};
+ghost use Rattle.dpl_steps.specs.Changes.{memory_after, ends_as, signed};
 ghost use Rattle.dpl_steps.specs.Arrays.{array_set};
 ghost use Rattle.dpl_steps.specs.Runs.{RunEnds};
 
 use crate::element::{change, change_truth};
 use crate::halt::Halt;
 use dpl_domain::Index;
-use dpl_nodes::{ArrayName, DomainWord, FaultCode, Frame, PromotedInt, PromotedTruth, Spot, Trap};
+use dpl_nodes::{ArrayName, DomainWord, Frame, PromotedInt, PromotedTruth, Spot, Trap};
 use dpl_tree::Assign;
+use dpl_values::budget::within_budget;
 use dpl_values::domain::coordinate;
 use dpl_values::{int_domain, promoted_int_value, promoted_truth_value, truth_domain};
 
@@ -135,20 +136,7 @@ fn each<T: Turn>(turn: &T, domain: DomainWord, frame: &mut Frame<'_>) -> Result<
     Ok(())
 }
 
-/// A domain whose indices a loop may go through.
-///
-/// # Errors
-/// `F5` at a place for more than the budget.
-pub(crate) fn within_budget(domain: &DomainWord, at: &Spot, frame: &Frame<'_>) -> Result<(), Trap>
-    ensures { result ≡ within_at frame.now.limits at.now domain.now }
-{
-    if frame.budget() < domain.size() {
-        return Err(Trap::new(FaultCode::Budget, *at));
-    }
-    Ok(())
-}
-
-// The same, of a domain that has no more indices than the budget.
+// The turns of a domain that has no more indices than the budget.
 fn each_within<T: Turn>(
     turn: &T,
     at: &Spot,

@@ -3,7 +3,7 @@ use Rattle.std.proofs.Common.{◌≡◌, ◌<◌, ◌-◌, ℤ, pos, true, false
 use Rattle.std.proofs.lemmas.Option.{slice_get-get_or}
 use Rattle.std.proofs.lemmas.Result.{err_from_is_err_and}
 use Rattle.dpl_range.specs.Range.{members_of}
-use Rattle.dpl_language.specs.Tree.{One, Set, SetAdd, SetSubtract, SetMultiply, SetDivide, SetRemainder, SetReduce}
+use Rattle.dpl_language.specs.Tree.{One, Set}
 use Rattle.dpl_language.specs.Values.{Truth, Domain}
 use Rattle.dpl_language.specs.Outcome.{Done, then_do, in_order, repeated}
 use Rattle.dpl_language.specs.Ranges.{indices_in}
@@ -11,8 +11,8 @@ use Rattle.dpl_language.specs.Loops.{named_turn}
 use Rattle.dpl_language.specs.Expressions.{value_of}
 use Rattle.dpl_language.specs.Statements.{holds, exec, exec_all}
 use Rattle.dpl_lowered.specs.Shapes.{nowhere}
-use Rattle.dpl_words.specs.Words.{IntLeaf, RangeLeaf}
-use Rattle.dpl_memory.specs.Memory.{int_leaf, range_leaf, in_memory}
+use Rattle.dpl_words.specs.Words.{RangeLeaf}
+use Rattle.dpl_memory.specs.Memory.{range_leaf, in_memory}
 use Rattle.dpl_nodes.specs.Typed.{int_view, truth_view, range_item, domain_view}
 use Rattle.dpl_nodes.specs.Steps.{intent_view, names_view, step_view, else_view, steps_of}
 use Rattle.dpl_contents.specs.Range.{range_word}
@@ -21,20 +21,20 @@ use Rattle.dpl_steps.specs.Runs.{having_printed}
 use Rattle.dpl_steps.specs.Changes.{ends_as}
 use Rattle.dpl_steps.specs.Turns.{in_turn, turn_in_memory, named_in_memory, index_turn}
 use Rattle.dpl_nodes.proofs.Unread.{cell_read-int, cell_read-truth, item_read-range}
-use Rattle.dpl_steps.proofs.Changing.{told-ends, exec-declared, exec-config, exec-assigned, exec-truth}
+use Rattle.dpl_steps.proofs.Changing.{told-ends, exec-declared, exec-assigned, exec-int, exec-truth}
 use Rattle.dpl_steps.proofs.Looping.{in_order-done, in_order-halts, for-order, forall-order, then_do-halts, halts-alike, ends-alike, scoped-same, fault-ends, in_turn-done, in_turn-halts, for-turns, forall-turns, repeated-fault, repeated-ends, repeated-step, holds-value, holds-fault, if-then, exec-while}
 use Rattle.dpl_array.proofs.WalkLemmas.{walk-next, walk-end}
 use Rattle.dpl_steps.proofs.Views.{for_each_view, forall_each_view, block_view, if_view, while_view, for_view, forall_view}
 use Rattle.dpl_steps.proofs.+run.Goals as goal
 
 -- DECLARATIONS AND ASSIGNMENTS
-pub statement::statement-returns-in-DeclareInt-clause-ends : goal.statement::statement-returns-in-DeclareInt-clause-ends
-statement::statement-returns-in-DeclareInt-clause-ends t c done =
+pub statement::statement-returns-in-Int-clause-ends : goal.statement::statement-returns-in-Int-clause-ends
+statement::statement-returns-in-Int-clause-ends t c done =
     let limits = c.args.frame.now.limits in
     let w = c.args.frame.now.memory in
     let d = having_printed c.args.out.now.items done in
-    told-ends c.declare_int.result c.told.result c.declare_int.new.frame.memory d _ c.told.ensures
-    (ap (λ s. exec limits in_memory (step_view s) w d) c.in-DeclareInt.is ∙ exec-declared limits (int_leaf c.in-DeclareInt.slot) (One (int_view c.in-DeclareInt.e.now)) w d (cell_read-int c.in-DeclareInt.e.now) ∙ ap (λ r. ends_as r d) c.declare_int.ensures.memory)
+    told-ends c.change_int.result c.told.result c.change_int.new.frame.memory d _ c.told.ensures
+    (ap (λ s. exec limits in_memory (step_view s) w d) c.in-Int.is ∙ exec-int limits c.in-Int.deed c.in-Int.slot (One (int_view c.in-Int.e.now)) w d (cell_read-int c.in-Int.e.now) ∙ ap (λ r. ends_as r d) c.change_int.ensures.memory)
 
 pub statement::statement-returns-in-DeclareRange-clause-ends : goal.statement::statement-returns-in-DeclareRange-clause-ends
 statement::statement-returns-in-DeclareRange-clause-ends t c done =
@@ -44,22 +44,6 @@ statement::statement-returns-in-DeclareRange-clause-ends t c done =
     told-ends c.declare_range.result c.told-in-DeclareRange.result c.declare_range.new.frame.memory d _ c.told-in-DeclareRange.ensures
     (ap (λ s. exec limits in_memory (step_view s) w d) c.in-DeclareRange.is ∙ exec-declared limits (range_leaf c.in-DeclareRange.slot) (range_item c.in-DeclareRange.e.now) w d (item_read-range c.in-DeclareRange.e.now) ∙ ap (λ r. ends_as r d) c.declare_range.ensures.memory)
 
-pub statement::statement-returns-in-ConfigInt-clause-ends : goal.statement::statement-returns-in-ConfigInt-clause-ends
-statement::statement-returns-in-ConfigInt-clause-ends t c done =
-    let limits = c.args.frame.now.limits in
-    let w = c.args.frame.now.memory in
-    let d = having_printed c.args.out.now.items done in
-    told-ends c.config_int.result c.told-in-ConfigInt.result c.config_int.new.frame.memory d _ c.told-in-ConfigInt.ensures
-    (ap (λ s. exec limits in_memory (step_view s) w d) c.in-ConfigInt.is ∙ exec-config limits (int_leaf c.in-ConfigInt.slot) (One (int_view c.in-ConfigInt.e.now)) w d (cell_read-int c.in-ConfigInt.e.now) ∙ ap (λ r. ends_as r d) c.config_int.ensures.memory)
-
-pub statement::statement-returns-in-SetInt-clause-ends : goal.statement::statement-returns-in-SetInt-clause-ends
-statement::statement-returns-in-SetInt-clause-ends t c done =
-    let limits = c.args.frame.now.limits in
-    let w = c.args.frame.now.memory in
-    let d = having_printed c.args.out.now.items done in
-    told-ends c.declare_int-in-SetInt.result c.told-in-SetInt.result c.declare_int-in-SetInt.new.frame.memory d _ c.told-in-SetInt.ensures
-    (ap (λ s. exec limits in_memory (step_view s) w d) c.in-SetInt.is ∙ exec-assigned limits IntLeaf c.in-SetInt.slot Set nowhere (One (int_view c.in-SetInt.e.now)) w d (cell_read-int c.in-SetInt.e.now) ∙ ap (λ r. ends_as r d) c.declare_int-in-SetInt.ensures.memory)
-
 pub statement::statement-returns-in-SetRange-clause-ends : goal.statement::statement-returns-in-SetRange-clause-ends
 statement::statement-returns-in-SetRange-clause-ends t c done =
     let limits = c.args.frame.now.limits in
@@ -67,54 +51,6 @@ statement::statement-returns-in-SetRange-clause-ends t c done =
     let d = having_printed c.args.out.now.items done in
     told-ends c.declare_range-in-SetRange.result c.told-in-SetRange.result c.declare_range-in-SetRange.new.frame.memory d _ c.told-in-SetRange.ensures
     (ap (λ s. exec limits in_memory (step_view s) w d) c.in-SetRange.is ∙ exec-assigned limits RangeLeaf c.in-SetRange.slot Set nowhere (range_item c.in-SetRange.e.now) w d (item_read-range c.in-SetRange.e.now) ∙ ap (λ r. ends_as r d) c.declare_range-in-SetRange.ensures.memory)
-
-pub statement::statement-returns-in-Add-clause-ends : goal.statement::statement-returns-in-Add-clause-ends
-statement::statement-returns-in-Add-clause-ends t c done =
-    let limits = c.args.frame.now.limits in
-    let w = c.args.frame.now.memory in
-    let d = having_printed c.args.out.now.items done in
-    told-ends c.add.result c.told-in-Add.result c.add.new.frame.memory d _ c.told-in-Add.ensures
-    (ap (λ s. exec limits in_memory (step_view s) w d) c.in-Add.is ∙ exec-assigned limits IntLeaf c.in-Add.slot SetAdd nowhere (One (int_view c.in-Add.e.now)) w d (cell_read-int c.in-Add.e.now) ∙ ap (λ r. ends_as r d) c.add.ensures.memory)
-
-pub statement::statement-returns-in-Subtract-clause-ends : goal.statement::statement-returns-in-Subtract-clause-ends
-statement::statement-returns-in-Subtract-clause-ends t c done =
-    let limits = c.args.frame.now.limits in
-    let w = c.args.frame.now.memory in
-    let d = having_printed c.args.out.now.items done in
-    told-ends c.subtract.result c.told-in-Subtract.result c.subtract.new.frame.memory d _ c.told-in-Subtract.ensures
-    (ap (λ s. exec limits in_memory (step_view s) w d) c.in-Subtract.is ∙ exec-assigned limits IntLeaf c.in-Subtract.slot SetSubtract nowhere (One (int_view c.in-Subtract.e.now)) w d (cell_read-int c.in-Subtract.e.now) ∙ ap (λ r. ends_as r d) c.subtract.ensures.memory)
-
-pub statement::statement-returns-in-Multiply-clause-ends : goal.statement::statement-returns-in-Multiply-clause-ends
-statement::statement-returns-in-Multiply-clause-ends t c done =
-    let limits = c.args.frame.now.limits in
-    let w = c.args.frame.now.memory in
-    let d = having_printed c.args.out.now.items done in
-    told-ends c.multiply.result c.told-in-Multiply.result c.multiply.new.frame.memory d _ c.told-in-Multiply.ensures
-    (ap (λ s. exec limits in_memory (step_view s) w d) c.in-Multiply.is ∙ exec-assigned limits IntLeaf c.in-Multiply.slot SetMultiply nowhere (One (int_view c.in-Multiply.e.now)) w d (cell_read-int c.in-Multiply.e.now) ∙ ap (λ r. ends_as r d) c.multiply.ensures.memory)
-
-pub statement::statement-returns-in-Divide-clause-ends : goal.statement::statement-returns-in-Divide-clause-ends
-statement::statement-returns-in-Divide-clause-ends t c done =
-    let limits = c.args.frame.now.limits in
-    let w = c.args.frame.now.memory in
-    let d = having_printed c.args.out.now.items done in
-    told-ends c.divide.result c.told-in-Divide.result c.divide.new.frame.memory d _ c.told-in-Divide.ensures
-    (ap (λ s. exec limits in_memory (step_view s) w d) c.in-Divide.is ∙ exec-assigned limits IntLeaf c.in-Divide.slot SetDivide c.in-Divide.at.now (One (int_view c.in-Divide.e.now)) w d (cell_read-int c.in-Divide.e.now) ∙ ap (λ r. ends_as r d) c.divide.ensures.memory)
-
-pub statement::statement-returns-in-Remainder-clause-ends : goal.statement::statement-returns-in-Remainder-clause-ends
-statement::statement-returns-in-Remainder-clause-ends t c done =
-    let limits = c.args.frame.now.limits in
-    let w = c.args.frame.now.memory in
-    let d = having_printed c.args.out.now.items done in
-    told-ends c.rest.result c.told-in-Remainder.result c.rest.new.frame.memory d _ c.told-in-Remainder.ensures
-    (ap (λ s. exec limits in_memory (step_view s) w d) c.in-Remainder.is ∙ exec-assigned limits IntLeaf c.in-Remainder.slot SetRemainder c.in-Remainder.at.now (One (int_view c.in-Remainder.e.now)) w d (cell_read-int c.in-Remainder.e.now) ∙ ap (λ r. ends_as r d) c.rest.ensures.memory)
-
-pub statement::statement-returns-in-ReduceInt-clause-ends : goal.statement::statement-returns-in-ReduceInt-clause-ends
-statement::statement-returns-in-ReduceInt-clause-ends t c done =
-    let limits = c.args.frame.now.limits in
-    let w = c.args.frame.now.memory in
-    let d = having_printed c.args.out.now.items done in
-    told-ends c.reduce_int.result c.told-in-ReduceInt.result c.reduce_int.new.frame.memory d _ c.told-in-ReduceInt.ensures
-    (ap (λ s. exec limits in_memory (step_view s) w d) c.in-ReduceInt.is ∙ exec-assigned limits IntLeaf c.in-ReduceInt.slot SetReduce nowhere (One (int_view c.in-ReduceInt.e.now)) w d (cell_read-int c.in-ReduceInt.e.now) ∙ ap (λ r. ends_as r d) c.reduce_int.ensures.memory)
 
 pub statement::statement-returns-in-Truth-clause-ends : goal.statement::statement-returns-in-Truth-clause-ends
 statement::statement-returns-in-Truth-clause-ends t c done =

@@ -10,7 +10,7 @@ use Rattle.dpl_language.specs.Expressions.{whole_in}
 use Rattle.dpl_lowered.specs.LoweredExpressions.{EachTurn}
 use Rattle.dpl_memory.specs.Memory.{in_memory}
 use Rattle.dpl_nodes.specs.Frames.{Framed}
-use Rattle.dpl_nodes.specs.Promoted.{promoted_truth}
+use Rattle.dpl_nodes.specs.Typed.{promoted_truth}
 use Rattle.dpl_nodes.proofs.Promotions.{cell_read-promoted_truth, promoted_truth-once}
 use Rattle.dpl_steps.specs.Arrays.{shell_over}
 use Rattle.dpl_steps.proofs.Looping.{fault-ends}

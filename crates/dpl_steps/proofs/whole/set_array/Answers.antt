@@ -3,7 +3,7 @@ use Rattle.std.proofs.Common.{Some, None}
 use Rattle.dpl_language.specs.Tree.{IntKind}
 use Rattle.dpl_lowered.specs.LoweredExpressions.{EachTurn}
 use Rattle.dpl_tree.specs.Words.{assign_view}
-use Rattle.dpl_nodes.specs.Promoted.{promoted_int}
+use Rattle.dpl_nodes.specs.Typed.{promoted_int}
 use Rattle.dpl_steps.proofs.Looping.{ends-alike}
 use Rattle.dpl_steps.proofs.Wholes.{exec-whole_set}
 use Rattle.dpl_steps.proofs.whole.set_array.Goals as goal

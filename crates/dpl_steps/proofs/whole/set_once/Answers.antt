@@ -7,7 +7,7 @@ use Rattle.dpl_language.specs.Tree.{IntKind}
 use Rattle.dpl_language.specs.Values.{Int}
 use Rattle.dpl_lowered.specs.LoweredExpressions.{EachTurn}
 use Rattle.dpl_tree.specs.Words.{assign_view}
-use Rattle.dpl_nodes.specs.Promoted.{promoted_int}
+use Rattle.dpl_nodes.specs.Typed.{promoted_int}
 use Rattle.dpl_nodes.specs.Steps.{array_leaf}
 use Rattle.dpl_nodes.proofs.Promotions.{cell_read-promoted_int, promoted_int-once}
 use Rattle.dpl_steps.specs.Changes.{signed}

@@ -2,7 +2,7 @@
 use Rattle.std.proofs.Common.{Some, None}
 use Rattle.dpl_language.specs.Tree.{BoolKind, Set}
 use Rattle.dpl_lowered.specs.LoweredExpressions.{EachTurn}
-use Rattle.dpl_nodes.specs.Promoted.{promoted_truth}
+use Rattle.dpl_nodes.specs.Typed.{promoted_truth}
 use Rattle.dpl_steps.proofs.Looping.{ends-alike}
 use Rattle.dpl_steps.proofs.Wholes.{exec-whole_set}
 use Rattle.dpl_steps.proofs.whole.set_truth_array.Goals as goal

@@ -4,7 +4,7 @@ use Rattle.std.proofs.lemmas.Result.{err_from_is_err_and}
 use Rattle.dpl_language.specs.Tree.{BoolKind, Set}
 use Rattle.dpl_language.specs.Values.{Truth}
 use Rattle.dpl_lowered.specs.LoweredExpressions.{EachTurn}
-use Rattle.dpl_nodes.specs.Promoted.{promoted_truth}
+use Rattle.dpl_nodes.specs.Typed.{promoted_truth}
 use Rattle.dpl_nodes.specs.Steps.{array_leaf}
 use Rattle.dpl_nodes.proofs.Promotions.{cell_read-promoted_truth, promoted_truth-once}
 use Rattle.dpl_steps.specs.Changes.{signed}
