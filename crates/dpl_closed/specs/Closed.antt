@@ -1,4 +1,4 @@
--- The forms that are read and checked, and don't run yet: reductions in expressions, locales, tasks and cells.
+-- The forms that are read and checked, and don't run yet: locales, tasks and cells.
 -- Of a program that has one the first token that needs it is told, in the order of the text. A map is never evaluated, so that it needs nothing, whatever stands in it.
 use Rattle.std.specs.Prelude.{Option, Some, None, List, [], ◌∷◌}
 use Rattle.dpl_syntax.specs.declared.place.Place.{Place}
@@ -35,7 +35,7 @@ module _ {N : Type 0} where
     closed_expr (Grouped from item upto) = closed_item item
     closed_expr (DomainLiteral from items upto) = closed_items items
     closed_expr (Prefixed at op e) = closed_expr e
-    closed_expr (Reduced at op word e) = Some at
+    closed_expr (Reduced at op word e) = closed_expr e
     closed_expr (Chain e rest) = or_place (closed_expr e) (closed_links rest)
     closed_expr (Postfixed e posts) = or_place (closed_expr e) (closed_posts posts)
 

@@ -30,7 +30,7 @@ pub(crate) fn expr(found: Option<Place>, e: &Expr<'_>) -> Option<Place>
         Expr::Grouped { item: inner, .. } => item(found, inner),
         Expr::Domain { items: inner, .. } => items(found, inner),
         Expr::Prefixed { operand, .. } => expr(found, operand),
-        Expr::Reduced(reduced) => or_here(found, reduced.at),
+        Expr::Reduced(reduced) => expr(found, reduced.operand),
         Expr::Chain(chain) => links(expr(found, chain.first), chain.links),
         Expr::Postfixed(postfixed) => posts(expr(found, postfixed.base), postfixed.posts),
     }

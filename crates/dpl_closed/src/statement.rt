@@ -132,7 +132,7 @@ fn stmts(found: Option<Place>, stmts: &[Stmt<'_>]) -> Option<Place>
     found
 }
 
-/// The first token of a program that needs what doesn't run yet: reductions in expressions, locales, tasks or cells.
+/// The first token of a program that needs what doesn't run yet: locales, tasks or cells.
 /// None, if all of it runs.
 pub fn closed(program: &Program<'_>) -> Option<Place>
     ensures { result ≡ closed_stmts (program_view program.now).stmts }
