@@ -33,9 +33,9 @@ use Rattle.dpl_lowered.proofs.Values.{whole_item-lowered}
 use Rattle.dpl_memory.specs.Memory.{VariableKind, DomainKind, ArrayKind, Memory, known_variable, array_at, in_memory}
 use Rattle.dpl_memory.specs.Resolved.{Shape, Bound, Seen, variable_of, HasShape, IsElement, IsShaped, HasNoArray, Suits, SuitsElement, Spans, SpansArray}
 use Rattle.dpl_memory.proofs.Known.{memory-known}
-use Rattle.dpl_nodes.specs.declared.promoted.PromotedInt.{PromotedInt, Scalar as IntScalar, Element as IntElement, Negative', Sum', Difference', Product', Quotient', Remainder'}
-use Rattle.dpl_nodes.specs.declared.promoted.PromotedTruth.{PromotedTruth, Scalar as TruthScalar, Element as TruthElement, Not', And', Or', Same', Differ', Compare}
-use Rattle.dpl_nodes.specs.Promoted.{promoted_int, promoted_truth}
+use Rattle.dpl_nodes.specs.declared.tree.PromotedInt.{PromotedInt, Scalar' as IntScalar', Element as IntElement, Negative', Sum', Difference', Product', Quotient', Remainder'}
+use Rattle.dpl_nodes.specs.declared.tree.PromotedTruth.{PromotedTruth, Scalar' as TruthScalar', Element as TruthElement, Not', And', Or', Same', Differ', Compare}
+use Rattle.dpl_nodes.specs.Typed.{promoted_int, promoted_truth}
 use Rattle.dpl_typer.specs.declared.make.Typed.{Typed}
 use Rattle.dpl_typer.specs.declared.make.Typed.TheVariants.{Int, Truth, Range as RangeTyped, Domain as DomainTyped, Tuple as TupleTyped, Ints, Truths}
 use Rattle.dpl_typer.specs.Makers.{typed_item, kind_of, operand_kind, whole_ints, whole_truths, is_whole}
@@ -77,7 +77,7 @@ element-value BoolKind v h = h
 
 -- A WHOLE ARRAY by its name is one in every memory
 ints-whole : (limits : Limits) (s : Memory) (e : PromotedInt) → whole_ints e ≡ true → whole_item limits in_memory (One (promoted_int Once e)) s ≡ None → ⊥
-ints-whole limits s (IntScalar e) w none = absurd (let f : false ≡ true = w in cc)
+ints-whole limits s (IntScalar' p e) w none = absurd (let f : false ≡ true = w in cc)
 ints-whole limits s (IntElement slot at) w none = absurd (let f : Some (array_at slot s).ranges ≡ None = none in cc)
 ints-whole limits s (Negative' p e) w none = absurd (let f : false ≡ true = w in cc)
 ints-whole limits s (Sum' p a q b) w none = absurd (let f : false ≡ true = w in cc)
@@ -87,7 +87,7 @@ ints-whole limits s (Quotient' p a q b at) w none = absurd (let f : false ≡ tr
 ints-whole limits s (Remainder' p a q b at) w none = absurd (let f : false ≡ true = w in cc)
 
 truths-whole : (limits : Limits) (s : Memory) (e : PromotedTruth) → whole_truths e ≡ true → whole_item limits in_memory (One (promoted_truth Once e)) s ≡ None → ⊥
-truths-whole limits s (TruthScalar e) w none = absurd (let f : false ≡ true = w in cc)
+truths-whole limits s (TruthScalar' p e) w none = absurd (let f : false ≡ true = w in cc)
 truths-whole limits s (TruthElement slot at) w none = absurd (let f : Some (array_at slot s).ranges ≡ None = none in cc)
 truths-whole limits s (Not' p e) w none = absurd (let f : false ≡ true = w in cc)
 truths-whole limits s (And' p a q b) w none = absurd (let f : false ≡ true = w in cc)

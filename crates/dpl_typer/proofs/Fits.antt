@@ -33,7 +33,7 @@ module _ (scopes : Scopes) (plain : AreKnownScopes scopes) where
     expr_names (Grouped from item upto) h = item_names item h
     expr_names (DomainLiteral from items upto) h = items_names items h
     expr_names (Prefixed at op e) h = expr_names e h
-    expr_names (Reduced at op word e) h = absurd h
+    expr_names (Reduced at op word e) h = expr_names e h
     expr_names (Chain e rest) h = (expr_names e h.0, links_names rest h.1)
     expr_names (Postfixed e posts) h = (expr_names e h.0, posts_names posts h.1)
 

@@ -22,7 +22,7 @@ module _ {N : Type 0} (Holds : N → Type 0) where
     expr-formed (Grouped from item upto) h = item-formed item h
     expr-formed (DomainLiteral from items upto) h = items-formed items h
     expr-formed (Prefixed at op e) h = expr-formed e h
-    expr-formed (Reduced at op word e) h = absurd h
+    expr-formed (Reduced at op word e) h = expr-formed e h
     expr-formed (Chain e rest) h = (nests-links rest h.2, expr-formed e h.0, links-formed rest h.1)
     expr-formed (Postfixed e posts) h = (h.2, expr-formed e h.0, posts-formed posts h.1)
 

@@ -5,16 +5,16 @@ use Rattle.std.specs.Prelude.{◌&&◌, ◌||◌, if◌then◌else◌, option_ma
 use Rattle.std.proofs.lemmas.Option.{none-some}
 use Rattle.dpl_syntax.specs.declared.place.Place.{Place}
 use Rattle.dpl_syntax.specs.declared.refusal.Code.TheVariants.{CellMisused}
-use Rattle.dpl_language.specs.Tree.{Kind, IntKind, BoolKind, Prefix, Minus, Not, Infix, Add, Subtract, Multiply, Divide, Remainder, Less, LessEqual, Greater, GreaterEqual, Equal, NotEqual, And, Or}
-use Rattle.dpl_rules.specs.Types.{Over, ValueType, Scalar, Range, Domain, Array, Promoted, Tuple, Locale, AllLocales, Cell, an_int, a_bool, is_array, is_cell, Operand, operand_of, same_kind}
+use Rattle.dpl_language.specs.Tree.{Kind, IntKind, BoolKind, Prefix, Minus, Not, Infix, Add, Subtract, Multiply, Divide, Remainder, Less, LessEqual, Greater, GreaterEqual, Equal, NotEqual, And, Or, Op, Sum, Product, AllOf, AnyOf, BitAnd, BitOr, BitXor, Least, Greatest}
+use Rattle.dpl_rules.specs.Types.{Over, ValueType, Scalar, Range, Domain, Array, Promoted, Tuple, Locale, AllLocales, Cell, an_int, a_bool, is_array, is_cell, Operand, operand_of, same_kind, op_kind}
 use Rattle.dpl_rules.specs.Verdicts.{Has, Breaks, breach, type_by, with_type, has_if}
 use Rattle.dpl_rules.specs.Sights.{Declared, type_declared}
-use Rattle.dpl_rules.specs.Operators.{prefix_kind as taken_before, prefix_verdict, prefixed, infix_verdict, Takes, Ints, Alike, Bools, taken, taking, between, alike, both_bools, over_arrays, over_both, agree}
+use Rattle.dpl_rules.specs.Operators.{prefix_kind as taken_before, prefix_verdict, prefixed, reduced_over, reduced, reduction_verdict, infix_verdict, Takes, Ints, Alike, Bools, taken, taking, between, alike, both_bools, over_arrays, over_both, agree}
 use Rattle.dpl_rules.specs.Expressions.{plain_name, name_verdict}
 use Rattle.dpl_words.specs.Words.{IntLeaf, TruthLeaf, RangeLeaf}
 use Rattle.dpl_memory.specs.Memory.{VariableKind, PlainKind, DomainKind, TupleKind, ArrayKind}
 use Rattle.dpl_typer.specs.declared.make.Typed.{Typed}
-use Rattle.dpl_typer.specs.Makers.{kind_if, kind_of, operand_kind, is_promoted, kind_over, before_kind, prefix_kind, ints_kind, truths_kind, between_kind, infix_kind}
+use Rattle.dpl_typer.specs.Makers.{kind_if, kind_of, operand_kind, is_promoted, kind_over, before_kind, prefix_kind, ints_kind, truths_kind, between_kind, infix_kind, fold_kind, folded_kind, reduced_kind}
 use Rattle.dpl_typer.specs.Leaves.{is_rank, is_tuple_rank, value_kind, IsOfKind, IsOfType}
 
 -- ---- what a form gives: no type, where its maker takes no such operands, and else one of its maker's kind, and no whole array
@@ -124,6 +124,44 @@ before-gives op at k (Some o) h = rw h.0 (rw h.1 (by op o.kind))
 pub prefix-gives : (op : Prefix) (at : Place) (k : VariableKind) (t : Option ValueType) → IsOfKind k t → Gives (prefix_kind op k) (type_by (prefix_verdict at op t))
 prefix-gives op at k None h = gives-none (prefix_kind op k)
 prefix-gives op at k (Some v) h = before-gives op at k (operand_of v) (operand v k h)
+
+-- ---- reductions
+op_kind-fold : (op : Op) → op_kind op ≡ fold_kind op
+op_kind-fold Sum = refl
+op_kind-fold Product = refl
+op_kind-fold AllOf = refl
+op_kind-fold AnyOf = refl
+op_kind-fold BitAnd = refl
+op_kind-fold BitOr = refl
+op_kind-fold BitXor = refl
+op_kind-fold Least = refl
+op_kind-fold Greatest = refl
+
+folded-gives : (j k : Kind) (at : Place) → Gives (folded_kind j k) (type_by (has_if (same_kind j k) (Scalar j) at))
+folded-gives IntKind IntKind at = (refl, refl)
+folded-gives IntKind BoolKind at = refl
+folded-gives BoolKind IntKind at = refl
+folded-gives BoolKind BoolKind at = (refl, refl)
+
+-- of what is promoted, or of nothing
+over-gives : (op : Op) (at : Place) (k : VariableKind) (l : Kind) (over : Option Over) → operand_kind k ≡ Some l → is_promoted k ≡ is_over over
+    → Gives (reduced_kind op k) (type_by (reduced_over at (op_kind op) l over))
+over-gives op at k l None e p = gives-none (reduced_kind op k)
+over-gives op at (PlainKind k) l (Some over) e p = absurd (let f : false ≡ true = p in cc)
+over-gives op at DomainKind l (Some over) e p = absurd (let f : false ≡ true = p in cc)
+over-gives op at TupleKind l (Some over) e p = absurd (let f : false ≡ true = p in cc)
+over-gives op at (ArrayKind k) l (Some over) e p =
+    let same : k ≡ l = cc in
+    subst (λ l. Gives (folded_kind (fold_kind op) k) (type_by (has_if (same_kind (op_kind op) l) (Scalar (op_kind op)) at))) same
+    (subst (λ j. Gives (folded_kind (fold_kind op) k) (type_by (has_if (same_kind j k) (Scalar j) at))) (sym (op_kind-fold op)) (folded-gives (fold_kind op) k at))
+
+reduced-gives : (op : Op) (at : Place) (k : VariableKind) (o : Option Operand) → IsOperand k o → Gives (reduced_kind op k) (type_by (reduced at (op_kind op) o))
+reduced-gives op at k None h = gives-none (reduced_kind op k)
+reduced-gives op at k (Some o) h = over-gives op at k o.kind o.over h.0 h.1
+
+pub reduction-gives : (op : Op) (at : Place) (k : VariableKind) (t : Option ValueType) → IsOfKind k t → Gives (reduced_kind op k) (type_by (reduction_verdict at op t))
+reduction-gives op at k None h = gives-none (reduced_kind op k)
+reduction-gives op at k (Some v) h = reduced-gives op at k (operand_of v) (operand v k h)
 
 -- ---- operators between two operands
 is_over-both : (a b : Option Over) → is_over (over_both a b) ≡ (is_over a || is_over b)

@@ -22,9 +22,9 @@ use Rattle.dpl_lowered.proofs.Formed.{as_expr-as_item, lowered-formed}
 use Rattle.dpl_memory.specs.Memory.{Variable, known_variable}
 use Rattle.dpl_typer.specs.declared.make.Typed.{Typed}
 use Rattle.dpl_typer.specs.declared.make.Typed.TheVariants as typed
-use Rattle.dpl_nodes.specs.declared.promoted.PromotedInt.{PromotedInt, Scalar as IntScalar, Element as IntElement, Negative' as NegativeInts, Sum' as SumInts, Difference' as DifferenceInts, Product' as ProductInts, Quotient' as QuotientInts, Remainder' as RemainderInts}
-use Rattle.dpl_nodes.specs.declared.promoted.PromotedTruth.{PromotedTruth, Scalar as TruthScalar, Element as WholeTruths, Not' as NotTruths, And' as AndTruths, Or' as OrTruths, Same' as SameTruths, Differ' as DifferTruths, Compare as CompareInts}
-use Rattle.dpl_nodes.specs.Promoted.{promoted_int, promoted_truth}
+use Rattle.dpl_nodes.specs.declared.tree.PromotedInt.{PromotedInt, Scalar' as IntScalar', Element as IntElement, Negative' as NegativeInts, Sum' as SumInts, Difference' as DifferenceInts, Product' as ProductInts, Quotient' as QuotientInts, Remainder' as RemainderInts}
+use Rattle.dpl_nodes.specs.declared.tree.PromotedTruth.{PromotedTruth, Scalar' as TruthScalar', Element as WholeTruths, Not' as NotTruths, And' as AndTruths, Or' as OrTruths, Same' as SameTruths, Differ' as DifferTruths, Compare as CompareInts}
+use Rattle.dpl_nodes.specs.Typed.{promoted_int, promoted_truth}
 use Rattle.dpl_typer.specs.Makers.{typed_view, is_whole, whole_ints, whole_truths}
 use Rattle.dpl_typer.specs.Leaves.{leaf_in, IsFound, IsOfType}
 use Rattle.dpl_typer.specs.Simple.{IsSimple, IsSimpleItem, AreSimplePosts, IsSimplePost, IsSimpleMethod}
@@ -54,7 +54,7 @@ abbrev pub known_of : ExprTree Variable → Option Known
 known_of e = option_map (λ (y : Placed Variable). known_variable y.name) (bare_name e)
 
 ints-known : (m : Times) (e : PromotedInt) → whole_ints e ≡ true → known_of (promoted_int m e) ≡ Some WholeArray
-ints-known m (IntScalar e) h = absurd (let f : false ≡ true = h in cc)
+ints-known m (IntScalar' p e) h = absurd (let f : false ≡ true = h in cc)
 ints-known m (IntElement slot at) h = refl
 ints-known m (NegativeInts p e) h = absurd (let f : false ≡ true = h in cc)
 ints-known m (SumInts p a q b) h = absurd (let f : false ≡ true = h in cc)
@@ -64,7 +64,7 @@ ints-known m (QuotientInts p a q b at) h = absurd (let f : false ≡ true = h in
 ints-known m (RemainderInts p a q b at) h = absurd (let f : false ≡ true = h in cc)
 
 truths-known : (m : Times) (e : PromotedTruth) → whole_truths e ≡ true → known_of (promoted_truth m e) ≡ Some WholeArray
-truths-known m (TruthScalar e) h = absurd (let f : false ≡ true = h in cc)
+truths-known m (TruthScalar' p e) h = absurd (let f : false ≡ true = h in cc)
 truths-known m (WholeTruths slot at) h = refl
 truths-known m (NotTruths p e) h = absurd (let f : false ≡ true = h in cc)
 truths-known m (AndTruths p a q b) h = absurd (let f : false ≡ true = h in cc)
@@ -125,7 +125,7 @@ module _ (scopes : Scopes) (P : Text → Type 0) where
     stands t (Grouped from item upto) h seen = item_stands t item h seen
     stands t (DomainLiteral from items upto) h seen = not_whole t (leaves_of scopes Once (DomainLiteral from items upto)) (seen Once) refl
     stands t (Prefixed at op e) h seen = not_whole t (leaves_of scopes Once (Prefixed at op e)) (seen Once) refl
-    stands t (Reduced at op word e) h seen = absurd h
+    stands t (Reduced at op word e) h seen = not_whole t (leaves_of scopes Once (Reduced at op word e)) (seen Once) refl
     stands t (Chain e rest) h seen = not_whole t (leaves_of scopes Once (Chain e rest)) (seen Once) (nested-unnamed (leaves_of scopes Once e) (links_leaves scopes Once rest))
     stands t (Postfixed e posts) h seen =
         not_whole t (leaves_of scopes Once (Postfixed e posts)) (seen Once)

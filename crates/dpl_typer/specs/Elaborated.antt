@@ -116,7 +116,10 @@ pub record AreNoParts (ps : List Part) : Type 0 where
   pub slice : (last : Place) (rank : ℕ) (t : ValueType) → is_rank rank ≡ true → type_by (slice_verdict last rank ps t) ≡ None
 
 -- A DOMAIN that an array is over, and that a domain is created from: one domain, or ranges
--- two items or more
+-- one item, and two or more
+abbrev pub alone : ItemTree Text → Items Text
+alone i = FirstItem i NoItems
+
 abbrev pub AreMany : Items Text → Type 0
 AreMany (FirstItem i NoItems) = ⊥
 AreMany (FirstItem i (NextItem comma j more)) = Unit {0}

@@ -2,6 +2,7 @@
 -- A type is told by the kind that a variable of it has; whole arrays alone have elements and a domain.
 use Rattle.std.specs.Prelude.{ℕ, nat_lt, Bool, true, false, ◌&&◌, ◌||◌, List, [], ◌∷◌, Option, Some, None, option_map}
 use Rattle.dpl_language.specs.Tree.{Kind, IntKind, BoolKind, ExprTree, Prefix, Minus, Not, Infix, Add, Subtract, Multiply, Divide, Remainder, Less, LessEqual, Greater, GreaterEqual, Equal, NotEqual, And, Or, Word, Size, First, Last, Low, High, LowBound, DomainOf, Id, ItemTree, One, Items}
+use Rattle.dpl_language.specs.Tree.{Op, Sum, Product, AllOf, AnyOf, BitAnd, BitOr, BitXor, Least, Greatest}
 use Rattle.dpl_lowered.specs.LoweredExpressions.{Times}
 use Rattle.dpl_words.specs.Words.{LeafKind, IntLeaf, TruthLeaf, RangeLeaf}
 use Rattle.dpl_memory.specs.Memory.{VariableKind, PlainKind, DomainKind, TupleKind, ArrayKind, Variable}
@@ -9,12 +10,11 @@ use Rattle.dpl_typer.specs.declared.make.Typed.{Typed}
 use Rattle.dpl_typer.specs.declared.make.Typed.TheVariants.{Int, Truth, Range, Domain, Tuple, Ints, Truths}
 use Rattle.dpl_typer.specs.declared.pieces.Parts.{Parts}
 use Rattle.dpl_typer.specs.declared.pieces.Parts.TheVariants as parts
-use Rattle.dpl_nodes.specs.declared.promoted.PromotedInt.{PromotedInt, Scalar as IntScalar, Element as IntElement, Negative', Sum', Difference', Product', Quotient', Remainder'}
-use Rattle.dpl_nodes.specs.declared.promoted.PromotedTruth.{PromotedTruth, Scalar as TruthScalar, Element as TruthElement, Not', And', Or', Same', Differ', Compare}
+use Rattle.dpl_nodes.specs.declared.tree.PromotedInt.{PromotedInt, Scalar' as IntScalar', Element as IntElement, Negative', Sum', Difference', Product', Quotient', Remainder'}
+use Rattle.dpl_nodes.specs.declared.tree.PromotedTruth.{PromotedTruth, Scalar' as TruthScalar', Element as TruthElement, Not', And', Or', Same', Differ', Compare}
 use Rattle.dpl_nodes.specs.declared.tree.RangesExpr.{RangesExpr, Line' as LineRange', Plane' as PlaneRanges', Space' as SpaceRanges'}
 use Rattle.dpl_nodes.specs.declared.tree.IndexExpr.{IndexExpr, Line' as LineIndex', Plane' as PlaneIndex', Space' as SpaceIndex', Tuple as TupleIndex}
-use Rattle.dpl_nodes.specs.Typed.{int_view, truth_view, range_view, range_item, domain_view, tuple_named, ranges_items, index_items}
-use Rattle.dpl_nodes.specs.Promoted.{promoted_int, promoted_truth}
+use Rattle.dpl_nodes.specs.Typed.{int_view, truth_view, range_view, range_item, domain_view, tuple_named, ranges_items, index_items, promoted_int, promoted_truth}
 
 -- evaluated once, or at each index of the arrays in it; of promoted expressions alone this makes a difference
 abbrev pub typed_view : Times → Typed → ExprTree Variable
@@ -47,7 +47,7 @@ kind_of (Truths e) = ArrayKind BoolKind
 
 -- a whole array by its name, and nothing promoted
 abbrev pub whole_ints : PromotedInt → Bool
-whole_ints (IntScalar e) = false
+whole_ints (IntScalar' p e) = false
 whole_ints (IntElement slot at) = true
 whole_ints (Negative' p e) = false
 whole_ints (Sum' p a q b) = false
@@ -57,7 +57,7 @@ whole_ints (Quotient' p a q b at) = false
 whole_ints (Remainder' p a q b at) = false
 
 abbrev pub whole_truths : PromotedTruth → Bool
-whole_truths (TruthScalar e) = false
+whole_truths (TruthScalar' p e) = false
 whole_truths (TruthElement slot at) = true
 whole_truths (Not' p e) = false
 whole_truths (And' p a q b) = false
@@ -153,6 +153,33 @@ between_kind op (Some BoolKind) (Some BoolKind) = truths_kind op
 
 abbrev pub infix_kind : Infix → VariableKind → VariableKind → Option VariableKind
 infix_kind op k l = option_map (kind_over (is_promoted k || is_promoted l)) (between_kind op (operand_kind k) (operand_kind l))
+
+-- REDUCTIONS
+-- what an operator puts together: truth values or ints
+abbrev pub fold_kind : Op → Kind
+fold_kind Sum = IntKind
+fold_kind Product = IntKind
+fold_kind AllOf = BoolKind
+fold_kind AnyOf = BoolKind
+fold_kind BitAnd = IntKind
+fold_kind BitOr = IntKind
+fold_kind BitXor = IntKind
+fold_kind Least = IntKind
+fold_kind Greatest = IntKind
+
+-- what is put together is one value of the same kind
+abbrev pub folded_kind : Kind → Kind → Option VariableKind
+folded_kind IntKind IntKind = Some (PlainKind IntLeaf)
+folded_kind IntKind BoolKind = None
+folded_kind BoolKind IntKind = None
+folded_kind BoolKind BoolKind = Some (PlainKind TruthLeaf)
+
+-- a reduction takes a whole array or what is promoted, of its operator's kind
+abbrev pub reduced_kind : Op → VariableKind → Option VariableKind
+reduced_kind op (PlainKind k) = None
+reduced_kind op DomainKind = None
+reduced_kind op TupleKind = None
+reduced_kind op (ArrayKind k) = folded_kind (fold_kind op) k
 
 -- PARTS, between brackets
 abbrev pub parts_items : Parts → Items Variable

@@ -1,4 +1,4 @@
--- The expressions of a data-parallel program on one locale: all but what tells of locales, reductions, and reads of cells.
+-- The expressions of a data-parallel program on one locale: all but what tells of locales, and reads of cells.
 -- What its names are is asked of each.
 use Rattle.std.specs.Prelude.{◌≡◌, true}
 use Rattle.dpl_language.specs.Tree.{ExprTree, Number, TruthWord, Named, LocalesWord, LocaleCount, HereWord, Grouped, DomainLiteral, Prefixed, Reduced, Chain, Postfixed, ItemTree, One, RangeItem, Stride, NoStride, By, Links, NoLinks, Link, Posts, NoPosts, Post, PostTree, Brackets, Rounds, Dotted, MethodTree, Plainly, Dim, Contains, Expand, CellRead, Items, FirstItem, MoreItems, NoItems, NextItem, Exprs, FirstExpr, MoreExprs, NoExprs, NextExpr}
@@ -17,7 +17,7 @@ module _ {N : Type 0} (Holds : N → Type 0) where
     IsSimple (Grouped from item upto) = IsSimpleItem item
     IsSimple (DomainLiteral from items upto) = AreSimpleItems items
     IsSimple (Prefixed at op e) = IsSimple e
-    IsSimple (Reduced at op word e) = ⊥
+    IsSimple (Reduced at op word e) = IsSimple e
     -- a chain of operators that nest, as those that a text spells do
     IsSimple (Chain e rest) = IsSimple e × AreSimpleLinks rest × (nests rest ≡ true)
     -- a base with something behind it, as each that a text spells has

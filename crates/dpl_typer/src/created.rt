@@ -2,15 +2,14 @@
 // Something else is refused.
 
 ghost use Rattle.std.specs.Prelude.{◌≡◌, IfOk, Err};
-ghost use Rattle.dpl_language.specs.Tree.{FirstItem, NoItems};
 ghost use Rattle.dpl_tree.specs.View.{item_view, items_view};
 ghost use Rattle.dpl_rules.specs.Expressions.{item_parts};
 ghost use Rattle.dpl_nodes.specs.Faults.{IsNear};
-ghost use Rattle.dpl_nodes.specs.declared.make.Stop.TheVariants as stop;
+ghost use Rattle.dpl_nodes.specs.declared.stop.Stop.TheVariants as stop;
 ghost use Rattle.dpl_spelling.specs.Spelt.{ItemSpelt, ItemsSpelt};
 ghost use Rattle.dpl_typer.specs.Leaves.{MayBePlain};
 ghost use Rattle.dpl_typer.specs.Simple.{IsSimpleItem, AreSimpleItems};
-ghost use Rattle.dpl_typer.specs.Elaborated.{AreMany, HasNoDomain, IsCreated};
+ghost use Rattle.dpl_typer.specs.Elaborated.{alone, AreMany, HasNoDomain, IsCreated};
 
 use crate::domains::{created_from, literal};
 use crate::elaborate::item;
@@ -29,8 +28,8 @@ fn of_one<'t>(
     from: Place,
     written: &Item<'_>,
 ) -> Result<Typed<'t>, Stop>
-    ensures created { IfOk result (λ t. IsCreated scopes.now from (FirstItem (item_view written.now) NoItems) t) }
-    ensures ill_typed { (result ≡ Err stop.IllTyped) → IsNear from → IsSimpleItem (MayBePlain scopes.now) (item_view written.now) → ItemSpelt IsNear (item_view written.now) → HasNoDomain (item_parts scopes.now (FirstItem (item_view written.now) NoItems)) }
+    ensures created { IfOk result (λ t. IsCreated scopes.now from (alone (item_view written.now)) t) }
+    ensures ill_typed { (result ≡ Err stop.IllTyped) → IsNear from → IsSimpleItem (MayBePlain scopes.now) (item_view written.now) → ItemSpelt IsNear (item_view written.now) → HasNoDomain (item_parts scopes.now (alone (item_view written.now))) }
 {
     let made = item(arena, scopes, written)?;
     match made {

@@ -1,5 +1,5 @@
 // Expressions and items: each typed expression stands for the lowered tree, over the leaves of its names.
-// Locales, reductions and reads of cells are refused, and so are operands that an operator doesn't take.
+// Locales and reads of cells are refused, and so are operands that an operator doesn't take.
 
 ghost use Rattle.std.specs.Prelude.{◌≡◌, IfOk, None, Option, Err};
 ghost use Rattle.dpl_agreement.specs.Renamed.{renamed_expr, renamed_item};
@@ -9,7 +9,7 @@ ghost use Rattle.dpl_rules.specs.Expressions.{type_of, item_type};
 ghost use Rattle.dpl_lowered.specs.LoweredExpressions.{Times, lowered_expr, lowered_item};
 ghost use Rattle.dpl_memory.specs.Memory.{known_variable};
 ghost use Rattle.dpl_typer.specs.Makers.{typed_view, typed_item};
-ghost use Rattle.dpl_nodes.specs.declared.make.Stop.TheVariants as stop;
+ghost use Rattle.dpl_nodes.specs.declared.stop.Stop.TheVariants as stop;
 ghost use Rattle.dpl_typer.specs.Leaves.{leaf_in, IsFound, IsOfType, MayBePlain};
 ghost use Rattle.dpl_typer.specs.Simple.{IsSimple, IsSimpleItem, AreSimpleLinks};
 ghost use Rattle.dpl_spelling.specs.Spelt.{ExprSpelt, ItemSpelt, LinksSpelt};
@@ -25,6 +25,7 @@ use crate::operators::{combined, prefixed};
 use crate::parts::parts;
 use crate::post::postfixed;
 use crate::range::range;
+use crate::reduction::reduced;
 use dpl_nodes::Stop;
 use dpl_scopes::Scopes;
 use dpl_tree::{Arena, Chain, Expr, Item, Link};
@@ -33,7 +34,7 @@ use dpl_tree::{Arena, Chain, Expr, Item, Link};
 ///
 /// # Errors
 /// Out of memory; an operand that an operator or a method doesn't take, a name of a locale or a cell, or a form that tells of
-/// locales, reduces, or reads a cell; a place past 2^21, which no text has.
+/// locales or reads a cell; a place past 2^21, which no text has.
 #[cycle(expression)]
 #[tactic(auto, using(dpl_tree::proofs::Fields::chain_view_fields, dpl_tree::proofs::Fields::expr_view_postfixed))]
 pub fn expression<'t>(
@@ -59,12 +60,15 @@ pub fn expression<'t>(
             let operand = expression(arena, scopes, operand)?;
             prefixed(arena, *op, operand)
         }
+        Expr::Reduced(reduction) => {
+            let operand = expression(arena, scopes, reduction.operand)?;
+            reduced(arena, reduction.op, reduction.reduce, operand)
+        }
         Expr::Chain(chain) => chained(arena, scopes, chain),
         Expr::Postfixed(e) => postfixed(arena, scopes, e),
         Expr::Locales(_) => Err(Stop::IllTyped),
         Expr::LocaleCount(_) => Err(Stop::IllTyped),
         Expr::Here(_) => Err(Stop::IllTyped),
-        Expr::Reduced(_) => Err(Stop::IllTyped),
     }
 }
 

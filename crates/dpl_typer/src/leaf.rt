@@ -7,7 +7,7 @@ ghost use Rattle.dpl_types.specs.View.{type_view, of_type};
 ghost use Rattle.dpl_lowered.specs.LoweredExpressions.{Times};
 ghost use Rattle.dpl_nodes.specs.Faults.{IsNear};
 ghost use Rattle.dpl_typer.specs.Makers.{typed_view, kind_of};
-ghost use Rattle.dpl_nodes.specs.declared.make.Stop.TheVariants as stop;
+ghost use Rattle.dpl_nodes.specs.declared.stop.Stop.TheVariants as stop;
 ghost use Rattle.dpl_typer.specs.Leaves.{value_kind, type_in, kind_in, IsFound, IsOfType};
 ghost use Rattle.dpl_typer.specs.Elaborated.{leaf_view, name_leaf};
 

@@ -10,7 +10,7 @@ ghost use Rattle.dpl_memory.specs.Memory.{PlainKind, DomainKind, TupleKind, Arra
 ghost use Rattle.dpl_nodes.specs.Typed.{leaf_named, array_named, kind_view};
 ghost use Rattle.dpl_nodes.specs.Faults.{IsNear};
 ghost use Rattle.dpl_typer.specs.Makers.{typed_view, kind_of, is_whole};
-ghost use Rattle.dpl_nodes.specs.declared.make.Stop.TheVariants as stop;
+ghost use Rattle.dpl_nodes.specs.declared.stop.Stop.TheVariants as stop;
 
 use crate::make::{Typed, domain, int, ints, range, spot, truth, truths};
 use dpl_nodes::{BoolExpr, DomainExpr, IntExpr, PromotedInt, PromotedTruth, RangeExpr, Stop};

@@ -1,4 +1,4 @@
-// From parsed expressions to typed ones: typed trees of all expressions but reductions, locales, `here` and reads of cells.
+// From parsed expressions to typed ones: typed trees of all expressions but locales, `here` and reads of cells.
 // The makers of nodes refuse operands of wrong types; above them, each function stands for its part of the lowered tree.
 #![tactic(auto)]
 
@@ -16,6 +16,7 @@ pub mod pieces;
 pub mod post;
 pub mod range;
 pub mod ranges;
+pub mod reduction;
 
 pub use elaborate::{expression, item};
 pub use make::Typed;

@@ -5,7 +5,7 @@ ghost use Rattle.std.specs.Prelude.{◌≡◌, ◌≢◌, true, false, [], ◌�
 ghost use Rattle.dpl_lowered.specs.LoweredExpressions.{Once};
 ghost use Rattle.dpl_nodes.specs.Typed.{index_items, index_exprs, items_one, items_two, items_three, exprs_one, exprs_two, exprs_three};
 ghost use Rattle.dpl_typer.specs.Makers.{typed_view, typed_item, kind_of, parts_items, parts_kinds, index_kinds, is_int, is_range, are_parts, is_index};
-ghost use Rattle.dpl_nodes.specs.declared.make.Stop.TheVariants as stop;
+ghost use Rattle.dpl_nodes.specs.declared.stop.Stop.TheVariants as stop;
 ghost use Rattle.dpl_typer.specs.declared.make.Typed.TheVariants as typed;
 ghost use Rattle.dpl_typer.specs.declared.pieces.Parts.TheVariants as parts;
 

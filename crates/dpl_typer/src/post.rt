@@ -11,7 +11,7 @@ ghost use Rattle.dpl_lowered.specs.Shapes.{nowhere};
 ghost use Rattle.dpl_language.specs.Phrases.{natural};
 ghost use Rattle.dpl_nodes.specs.Typed.{dotted};
 ghost use Rattle.dpl_typer.specs.Makers.{typed_view, kind_of, dim_kind};
-ghost use Rattle.dpl_nodes.specs.declared.make.Stop.TheVariants as stop;
+ghost use Rattle.dpl_nodes.specs.declared.stop.Stop.TheVariants as stop;
 ghost use Rattle.dpl_typer.specs.Leaves.{IsFound, IsOfType, MayBePlain};
 ghost use Rattle.dpl_typer.specs.Simple.{IsSimple, AreSimplePosts, IsSimplePost, IsSimpleMethod, AreSimpleItems, AreSimpleExprs};
 ghost use Rattle.dpl_spelling.specs.Spelt.{ExprSpelt, PostsSpelt, PostSpelt, MethodSpelt, ItemsSpelt, ExprsSpelt};

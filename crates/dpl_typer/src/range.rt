@@ -7,7 +7,7 @@ ghost use Rattle.dpl_rules.specs.Expressions.{item_type};
 ghost use Rattle.dpl_lowered.specs.LoweredExpressions.{Times};
 ghost use Rattle.dpl_nodes.specs.Typed.{stride_view};
 ghost use Rattle.dpl_typer.specs.Makers.{typed_item};
-ghost use Rattle.dpl_nodes.specs.declared.make.Stop.TheVariants as stop;
+ghost use Rattle.dpl_nodes.specs.declared.stop.Stop.TheVariants as stop;
 ghost use Rattle.dpl_typer.specs.Leaves.{IsFound, IsOfType, MayBePlain};
 ghost use Rattle.dpl_typer.specs.Simple.{IsSimpleItem, IsSimpleStride};
 ghost use Rattle.dpl_spelling.specs.Spelt.{ItemSpelt, StrideSpelt};

@@ -8,25 +8,26 @@ use Rattle.dpl_tree.specs.declared.expression.Chain.{out-Chain}
 use Rattle.dpl_tree.specs.declared.expression.Contains.{out-Contains}
 use Rattle.dpl_tree.specs.declared.expression.Items.{out-Items}
 use Rattle.dpl_tree.specs.declared.expression.Exprs.{out-Exprs}
-use Rattle.dpl_tree.specs.Words.{infix_view, word_view}
+use Rattle.dpl_tree.specs.Words.{infix_view, word_view, op_view}
 use Rattle.dpl_tree.specs.View.{expr_view, item_view, items_view, exprs_view, more_items_of, more_exprs_of, stride_view, post_view, method_view, links_of, posts_of}
 use Rattle.dpl_tree.proofs.Fields.{items_view_fields, exprs_view_fields, method_view_contains}
-use Rattle.dpl_rules.specs.Verdicts.{part}
+use Rattle.dpl_rules.specs.Verdicts.{part, type_by}
+use Rattle.dpl_rules.specs.Operators.{reduction_verdict}
 use Rattle.dpl_rules.specs.Places.{first_of, first_of_item}
 use Rattle.dpl_rules.specs.Expressions.{type_of, item_type, item_parts, more_item_parts, expr_parts, more_expr_parts, chain_type}
 use Rattle.dpl_lowered.specs.Shapes.{as_expr, as_item}
 use Rattle.dpl_words.specs.Words.{RangeLeaf}
 use Rattle.dpl_memory.specs.Memory.{PlainKind}
-use Rattle.dpl_nodes.specs.declared.make.Stop.TheVariants as stop
-use Rattle.dpl_typer.specs.Makers.{kind_of}
+use Rattle.dpl_nodes.specs.declared.stop.Stop.TheVariants as stop
+use Rattle.dpl_typer.specs.Makers.{kind_of, reduced_kind}
 use Rattle.dpl_nodes.specs.Faults.{IsNear}
 use Rattle.dpl_spelling.specs.Spelt.{ExprSpelt, PostSpelt, MethodSpelt, ItemsSpelt, ExprsSpelt}
 use Rattle.dpl_typer.proofs.Items.{typed_view-item, typed_item-view}
-use Rattle.dpl_typer.specs.Leaves.{MayBePlain}
+use Rattle.dpl_typer.specs.Leaves.{IsOfType, MayBePlain}
 use Rattle.dpl_typer.specs.Simple.{IsSimplePost, IsSimpleMethod, AreSimpleItems, AreSimpleExprs}
 use Rattle.dpl_typer.specs.Elaborated.{leaves_of, item_leaves, IsChainSoFar, IsPostOf, ArePostsSoFar, HasNoPost, ArePartsOf, IsIndexOf, AreNoParts, IsNoIndex, range_tree}
 use Rattle.dpl_typer.proofs.Names.{if_ok, if_both, if_three}
-use Rattle.dpl_typer.proofs.OperatorKinds.{type-kind, gives-type}
+use Rattle.dpl_typer.proofs.OperatorKinds.{type-kind, gives-type, gives-nothing, reduction-gives}
 use Rattle.dpl_typer.proofs.Chains.{chain_type-untyped, chain-step, chain-untyped, chain-refused, chain-node}
 use Rattle.dpl_typer.proofs.PartKinds.{bounds_kind-range, none-no_int, range_item-new, low-refused, high-refused, bounds-refused}
 use Rattle.dpl_typer.proofs.Posts.{has_posts, posts-begun, posts-step, posts-refused, base-untyped, postfixed-node, postfixed-kind, postfixed-found}
@@ -488,3 +489,27 @@ range::range-returns-clause-ill_typed t c = λ e s n.
     let high = expr_view v.high.now in
     bounds-refused scopes (part (first_of low) (type_of scopes low)) (part (first_of high) (type_of scopes high)) (stride_view v.by) (kind_of c.in_ok-low.low) (kind_of c.in_ok-high.high)
     (c.bounded.ensures.ill_typed e n.1) (type-kind c.in_ok-low.low (type_of scopes low) c.in_ok-low.ensures.kind) (type-kind c.in_ok-high.high (type_of scopes high) c.in_ok-high.ensures.kind)
+
+-- ---- reductions
+pub elaborate::expression-returns-in_ok-operand-in-Reduced-clause-kind : goal.elaborate::expression-returns-in_ok-operand-in-Reduced-clause-kind
+elaborate::expression-returns-in_ok-operand-in-Reduced-clause-kind t c =
+    let scopes = c.args.scopes.now in
+    let v = c.in-Reduced.reduction.now in
+    let operand = c.in_ok-operand-in-Reduced.operand in
+    let u = type_of scopes (expr_view v.operand.now) in
+    let gives = reduction-gives (op_view v.op) v.at (kind_of operand) u (type-kind operand u c.in_ok-operand-in-Reduced.ensures.kind) in
+    if_ok c.reduced.result
+    (λ made e. subst (λ x. IsOfType made (type_of scopes (expr_view x))) (sym c.in-Reduced.is)
+    (gives-type (reduced_kind (op_view v.op) (kind_of operand)) made (type_by (reduction_verdict v.at (op_view v.op) u)) gives e))
+    c.reduced.ensures.kind
+
+pub elaborate::expression-returns-in_ok-operand-in-Reduced-clause-ill_typed : goal.elaborate::expression-returns-in_ok-operand-in-Reduced-clause-ill_typed
+elaborate::expression-returns-in_ok-operand-in-Reduced-clause-ill_typed t c = λ refused simple near.
+    let scopes = c.args.scopes.now in
+    let v = c.in-Reduced.reduction.now in
+    let operand = c.in_ok-operand-in-Reduced.operand in
+    let u = type_of scopes (expr_view v.operand.now) in
+    let gives = reduction-gives (op_view v.op) v.at (kind_of operand) u (type-kind operand u c.in_ok-operand-in-Reduced.ensures.kind) in
+    let spelt = subst (λ x. ExprSpelt IsNear (expr_view x)) c.in-Reduced.is near in
+    subst (λ x. type_of scopes (expr_view x) ≡ None) (sym c.in-Reduced.is)
+    (gives-nothing (reduced_kind (op_view v.op) (kind_of operand)) (type_by (reduction_verdict v.at (op_view v.op) u)) gives (c.reduced.ensures.ill_typed refused spelt.1))
