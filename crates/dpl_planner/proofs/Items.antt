@@ -24,12 +24,10 @@ use Rattle.dpl_memory.proofs.Fitting.{expr_fits, item_fits}
 use Rattle.dpl_nodes.specs.declared.tree.BoolExpr.{BoolExpr}
 use Rattle.dpl_typer.specs.declared.make.Typed.{Typed}
 use Rattle.dpl_typer.specs.declared.make.Typed.TheVariants as typed
-use Rattle.dpl_nodes.specs.declared.promoted.PromotedInt.{PromotedInt, Scalar as IntScalar, Element as IntElement, Negative', Sum', Difference', Product', Quotient', Remainder'}
-use Rattle.dpl_nodes.specs.declared.promoted.PromotedTruth.{PromotedTruth, Scalar as TruthScalar, Element as TruthElement, Not', And', Or', Same', Differ', Compare}
 use Rattle.dpl_nodes.specs.Typed.{truth_view}
-use Rattle.dpl_nodes.specs.Promoted.{promoted_int, promoted_truth}
 use Rattle.dpl_typer.specs.Makers.{typed_item, kind_of, is_promoted}
 use Rattle.dpl_nodes.proofs.Unread.{cell_read-int, cell_read-truth, item_read-range, cell_read-domain}
+use Rattle.dpl_nodes.proofs.Promotions.{cell_read-promoted_int, cell_read-promoted_truth}
 use Rattle.dpl_typer.specs.Leaves.{value_kind, IsFound}
 use Rattle.dpl_typer.specs.Simple.{AreSimpleItems, AreSimpleExprs}
 use Rattle.dpl_typer.specs.Shapes.{shape_of}
@@ -41,34 +39,14 @@ use Rattle.dpl_planner.specs.Parts.{IsItem, IsTakenBy, IsCondition}
 use Rattle.dpl_planner.specs.Plans.{seen_of}
 
 -- TYPED TREES ARE NO CELL READS
-cell_read-ints : (m : Times) (e : PromotedInt) → cell_read (promoted_int m e) ≡ None
-cell_read-ints m (IntScalar e) = cell_read-int e.now
-cell_read-ints m (IntElement slot at) = refl
-cell_read-ints m (Negative' p e) = refl
-cell_read-ints m (Sum' p a q b) = refl
-cell_read-ints m (Difference' p a q b) = refl
-cell_read-ints m (Product' p a q b) = refl
-cell_read-ints m (Quotient' p a q b at) = refl
-cell_read-ints m (Remainder' p a q b at) = refl
-
-cell_read-truths : (m : Times) (e : PromotedTruth) → cell_read (promoted_truth m e) ≡ None
-cell_read-truths m (TruthScalar e) = cell_read-truth e.now
-cell_read-truths m (TruthElement slot at) = refl
-cell_read-truths m (Not' p e) = refl
-cell_read-truths m (And' p a q b) = refl
-cell_read-truths m (Or' p a q b) = refl
-cell_read-truths m (Same' p a q b) = refl
-cell_read-truths m (Differ' p a q b) = refl
-cell_read-truths m (Compare c a b) = refl
-
 item_read-typed : (m : Times) (t : Typed) → item_read (typed_item m t) ≡ None
 item_read-typed m (typed.Int e) = cell_read-int e.now
 item_read-typed m (typed.Truth e) = cell_read-truth e.now
 item_read-typed m (typed.Range e) = item_read-range e.now
 item_read-typed m (typed.Domain e) = cell_read-domain e.now
 item_read-typed m (typed.Tuple slot) = refl
-item_read-typed m (typed.Ints e) = cell_read-ints m e.now
-item_read-typed m (typed.Truths e) = cell_read-truths m e.now
+item_read-typed m (typed.Ints e) = cell_read-promoted_int m e.now
+item_read-typed m (typed.Truths e) = cell_read-promoted_truth m e.now
 
 -- what is no cell read stands as it is
 not_hidden : (r : Option (ReadTree Variable)) (i : ItemTree Variable) → item_read i ≡ None → hidden_item r (item_read i) i ≡ i

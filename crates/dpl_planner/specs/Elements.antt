@@ -11,7 +11,7 @@ use Rattle.dpl_rules.specs.Expressions.{item_type}
 use Rattle.dpl_lowered.specs.Shapes.{nowhere, kept}
 use Rattle.dpl_lowered.specs.LoweredExpressions.{EachTurn}
 use Rattle.dpl_memory.specs.Memory.{Variable}
-use Rattle.dpl_nodes.specs.Promoted.{promoted_int, promoted_truth}
+use Rattle.dpl_nodes.specs.Typed.{promoted_int, promoted_truth}
 use Rattle.dpl_typer.specs.declared.make.Typed.{Typed}
 use Rattle.dpl_typer.specs.Leaves.{IsOfType}
 use Rattle.dpl_planner.specs.declared.elements.Elements.{Elements}

@@ -17,7 +17,7 @@ ghost use Rattle.dpl_memory.specs.Memory.{VariableKind, ArrayKind};
 ghost use Rattle.dpl_nodes.specs.Faults.{IsNear};
 ghost use Rattle.dpl_nodes.specs.Typed.{domain_view, range_item};
 ghost use Rattle.dpl_nodes.specs.Steps.{over_items, initial_kind, initial_view};
-ghost use Rattle.dpl_nodes.specs.declared.make.Stop.TheVariants as stop;
+ghost use Rattle.dpl_nodes.specs.declared.stop.Stop.TheVariants as stop;
 ghost use Rattle.dpl_scopes.specs.View.{declared_view};
 ghost use Rattle.dpl_spelling.specs.Spelt.{ItemSpelt, ItemsSpelt};
 ghost use Rattle.dpl_typer.specs.Leaves.{kind_by, MayBePlain};

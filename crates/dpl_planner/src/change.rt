@@ -19,7 +19,7 @@ ghost use Rattle.dpl_memory.specs.Memory.{DomainKind, ArrayKind, variable, int_l
 ghost use Rattle.dpl_memory.specs.Resolved.{text_of, variable_of, kind_takes, KindCombines, IntentResolves};
 ghost use Rattle.dpl_nodes.specs.Faults.{IsNear};
 ghost use Rattle.dpl_typer.specs.Makers.{kind_of, typed_item};
-ghost use Rattle.dpl_nodes.specs.declared.make.Stop.TheVariants as stop;
+ghost use Rattle.dpl_nodes.specs.declared.stop.Stop.TheVariants as stop;
 ghost use Rattle.dpl_typer.specs.declared.make.Typed.TheVariants as typed;
 ghost use Rattle.dpl_nodes.specs.Steps.{step_view, assigned_to as assigns};
 ghost use Rattle.dpl_typer.specs.Leaves.{value_kind, type_in, kind_in};
@@ -32,7 +32,7 @@ use crate::elements::{array_named, set_array, set_element};
 use crate::overs::arrays_over;
 use crate::progress::{Plan, Reducing, node, spot};
 use dpl_nodes::step::DomainName;
-use dpl_nodes::{BoolExpr, DomainExpr, IntExpr, Step, Stop, TruthDeed};
+use dpl_nodes::{BoolExpr, DomainExpr, IntDeed, IntExpr, Step, Stop, TruthDeed};
 use dpl_scopes::Scopes;
 use dpl_syntax::Place;
 use dpl_tree::{Arena, Assign, AssignSign, Assignment, Item, Name, Op, ScalarKind, Target};
@@ -207,13 +207,19 @@ fn of_int<'t>(
     ensures ill_typed { (result ≡ Err stop.IllTyped) → IsNear sign.at → ⊥ }
 {
     match sign.op {
-        Assign::Set => Ok(Step::SetInt(slot, e)),
-        Assign::SetAdd => Ok(Step::Add(slot, e)),
-        Assign::SetSubtract => Ok(Step::Subtract(slot, e)),
-        Assign::SetMultiply => Ok(Step::Multiply(slot, e)),
-        Assign::SetDivide => Ok(Step::Divide(slot, spot(arena, sign.at)?, e)),
-        Assign::SetRemainder => Ok(Step::Remainder(slot, spot(arena, sign.at)?, e)),
-        Assign::SetReduce => Ok(Step::ReduceInt(slot, e)),
+        Assign::Set => Ok(Step::Int(IntDeed::Set, slot, e)),
+        Assign::SetAdd => Ok(Step::Int(IntDeed::Add, slot, e)),
+        Assign::SetSubtract => Ok(Step::Int(IntDeed::Subtract, slot, e)),
+        Assign::SetMultiply => Ok(Step::Int(IntDeed::Multiply, slot, e)),
+        Assign::SetDivide => {
+            let at = spot(arena, sign.at)?;
+            Ok(Step::Int(IntDeed::Divide(at), slot, e))
+        }
+        Assign::SetRemainder => {
+            let at = spot(arena, sign.at)?;
+            Ok(Step::Int(IntDeed::Remainder(at), slot, e))
+        }
+        Assign::SetReduce => Ok(Step::Int(IntDeed::Reduce, slot, e)),
     }
 }
 

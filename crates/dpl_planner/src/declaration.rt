@@ -12,7 +12,7 @@ ghost use Rattle.dpl_types.specs.View.{type_view, of_type};
 ghost use Rattle.dpl_lowered.specs.Shapes.{nowhere};
 ghost use Rattle.dpl_lowered.specs.LoweredStatements.{unplaced_word};
 ghost use Rattle.dpl_memory.specs.Memory.{VariableKind, DomainKind, variable};
-ghost use Rattle.dpl_nodes.specs.declared.make.Stop.TheVariants as stop;
+ghost use Rattle.dpl_nodes.specs.declared.stop.Stop.TheVariants as stop;
 ghost use Rattle.dpl_nodes.specs.Steps.{step_view, dimensions};
 ghost use Rattle.dpl_typer.specs.Makers.{kind_of};
 ghost use Rattle.dpl_typer.specs.Leaves.{value_kind};
@@ -30,7 +30,7 @@ use crate::arrays::{declare_array, declared};
 use crate::change::{holds, is_domain, shaped, taken_type};
 use crate::progress::Plan;
 use dpl_nodes::step::Rank;
-use dpl_nodes::{Step, Stop, TruthDeed};
+use dpl_nodes::{IntDeed, Step, Stop, TruthDeed};
 use dpl_scopes::Scopes;
 use dpl_syntax::Place;
 use dpl_tree::{
@@ -207,7 +207,7 @@ fn declares_value<'t>(slot: usize, value: Typed<'t>) -> Result<Step<'t>, Stop>
     ensures ill_typed { (result ≡ Err stop.IllTyped) → IsSingleKind (kind_of value.entry) → ⊥ }
 {
     match value {
-        Typed::Int(e) => Ok(Step::DeclareInt(slot, e)),
+        Typed::Int(e) => Ok(Step::Int(IntDeed::Declare, slot, e)),
         Typed::Truth(e) => Ok(Step::Truth(TruthDeed::Declare, slot, e)),
         Typed::Range(e) => Ok(Step::DeclareRange(slot, e)),
         Typed::Domain(e) => Ok(Step::DeclareDomain(slot, e)),
@@ -222,7 +222,7 @@ fn configures<'t>(slot: usize, begun: Beginning<'t>) -> Result<Step<'t>, Stop>
     ensures ill_typed { (result ≡ Err stop.IllTyped) → IsScalarKind (begun_kind begun.entry) → ⊥ }
 {
     match begun {
-        Beginning::Value(Typed::Int(e)) => Ok(Step::ConfigInt(slot, e)),
+        Beginning::Value(Typed::Int(e)) => Ok(Step::Int(IntDeed::Config, slot, e)),
         Beginning::Value(Typed::Truth(e)) => Ok(Step::Truth(TruthDeed::Config, slot, e)),
         Beginning::Value(
             Typed::Range(_)

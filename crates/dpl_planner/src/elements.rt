@@ -16,7 +16,7 @@ ghost use Rattle.dpl_memory.specs.Resolved.{element_takes};
 ghost use Rattle.dpl_nodes.specs.Faults.{IsNear};
 ghost use Rattle.dpl_nodes.specs.Typed.{index_exprs};
 ghost use Rattle.dpl_nodes.specs.Steps.{step_view, array_leaf};
-ghost use Rattle.dpl_nodes.specs.declared.make.Stop.TheVariants as stop;
+ghost use Rattle.dpl_nodes.specs.declared.stop.Stop.TheVariants as stop;
 ghost use Rattle.dpl_typer.specs.declared.make.Typed.TheVariants as typed;
 ghost use Rattle.dpl_typer.specs.Makers.{typed_item, kind_of, operand_kind, leaf_of};
 ghost use Rattle.dpl_typer.specs.Leaves.{value_kind, kind_in};

@@ -16,7 +16,7 @@ ghost use Rattle.dpl_forms.specs.Heads.{word_view, names_in};
 ghost use Rattle.dpl_words.specs.Words.{IntLeaf, TruthLeaf, RangeLeaf};
 ghost use Rattle.dpl_memory.specs.Memory.{VariableKind, PlainKind, DomainKind};
 ghost use Rattle.dpl_memory.specs.Resolved.{variable_of};
-ghost use Rattle.dpl_nodes.specs.declared.make.Stop.TheVariants as stop;
+ghost use Rattle.dpl_nodes.specs.declared.stop.Stop.TheVariants as stop;
 ghost use Rattle.dpl_nodes.specs.Steps.{intent_view as step_intent, unplaced_leaf, names_view};
 ghost use Rattle.dpl_typer.specs.Leaves.{value_kind, kind_in, leaf_by, IsOfType};
 ghost use Rattle.dpl_typer.specs.Sights.{bound_in};

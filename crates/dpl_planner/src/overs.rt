@@ -6,7 +6,7 @@ ghost use Rattle.dpl_rules.specs.Sights.{enter as enter_scopes, add};
 ghost use Rattle.dpl_types.specs.View.{origin_view, type_view, of_type};
 ghost use Rattle.dpl_scopes.specs.View.{declared_view};
 ghost use Rattle.dpl_memory.specs.Resolved.{is_over as is_over_of, arrays_over as arrays_over_of};
-ghost use Rattle.dpl_nodes.specs.declared.make.Stop.TheVariants as stop;
+ghost use Rattle.dpl_nodes.specs.declared.stop.Stop.TheVariants as stop;
 ghost use Rattle.dpl_typer.specs.Leaves.{is_rank as is_rank_of, value_kind, kind_by, leaf_by, leaf_in};
 ghost use Rattle.dpl_typer.specs.Sights.{over_by, sight_of};
 ghost use Rattle.dpl_planner.specs.Overs.{slot_of_bound, IsFoundBy, passed, IsAsDeep};

@@ -14,7 +14,7 @@ ghost use Rattle.dpl_nodes.specs.Steps.{steps_of};
 ghost use Rattle.dpl_typer.specs.Sights.{sight_of, AreKnownScopes};
 ghost use Rattle.dpl_planner.specs.Bounds.{bound_program};
 ghost use Rattle.dpl_planner.specs.Given.{AreGiven};
-ghost use Rattle.dpl_nodes.specs.declared.make.Stop.TheVariants as stop;
+ghost use Rattle.dpl_nodes.specs.declared.stop.Stop.TheVariants as stop;
 ghost use Rattle.dpl_runnable.specs.Runnable.{IsRunnableTop, AreRunnableTops};
 ghost use Rattle.dpl_planner.specs.Plans.{intents_in, IsOneScope, PlansTop, PlansTops};
 

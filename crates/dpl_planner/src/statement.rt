@@ -7,7 +7,7 @@ ghost use Rattle.dpl_tree.specs.View.{expr_view, item_view};
 ghost use Rattle.dpl_tree.specs.Declarations.{optional};
 ghost use Rattle.dpl_tree.specs.Statements.{variables_view, with_view, stmt_view, body_view, else_view, stmts_of};
 ghost use Rattle.dpl_rules.specs.Sights.{enter};
-ghost use Rattle.dpl_nodes.specs.declared.make.Stop.TheVariants as stop;
+ghost use Rattle.dpl_nodes.specs.declared.stop.Stop.TheVariants as stop;
 ghost use Rattle.dpl_runnable.specs.Runnable.{IsRunnableStmt, IsRunnableBody, AreRunnableStmts, IsRunnableElse};
 ghost use Rattle.dpl_planner.specs.Plans.{intents_in, PlansStmt, PlansStmts, PlansOnly, PlansInner, PlansBody, PlansElse};
 

@@ -5,7 +5,7 @@ ghost use Rattle.dpl_language.specs.Tree.{For as ForTree, Forall as ForallTree};
 ghost use Rattle.dpl_lowered.specs.Shapes.{nowhere};
 ghost use Rattle.dpl_lowered.specs.LoweredExpressions.{Once};
 ghost use Rattle.dpl_lowered.specs.LoweredStatements.{with_intents};
-ghost use Rattle.dpl_nodes.specs.declared.make.Stop.TheVariants as stop;
+ghost use Rattle.dpl_nodes.specs.declared.stop.Stop.TheVariants as stop;
 ghost use Rattle.dpl_nodes.specs.Steps.{listed, intent_view, names_view, steps_of, step_view};
 ghost use Rattle.dpl_typer.specs.Makers.{typed_item};
 ghost use Rattle.dpl_planner.specs.Parts.{over_typed, IsIntOver};

@@ -13,7 +13,7 @@ ghost use Rattle.dpl_memory.specs.Memory.{ArrayKind};
 ghost use Rattle.dpl_typer.specs.Leaves.{kind_in};
 ghost use Rattle.dpl_planner.specs.Parts.{IsWholeArray, IsArgument, AreArguments, others_in, StillArguments};
 ghost use Rattle.dpl_nodes.specs.Typed.{kind_view};
-ghost use Rattle.dpl_nodes.specs.declared.make.Stop.TheVariants as stop;
+ghost use Rattle.dpl_nodes.specs.declared.stop.Stop.TheVariants as stop;
 ghost use Rattle.dpl_runnable.specs.Runnable.{IsPrinted, IsRunnableArgument, AreRunnableArguments, IsRunnableStmt};
 ghost use Rattle.dpl_planner.specs.Plans.{intents_in, PlansStmt};
 

@@ -17,7 +17,7 @@ use Rattle.dpl_syntax.specs.declared.refusal.Code.TheVariants.{WrongRank}
 use Rattle.dpl_rules.specs.Verdicts.{Part, part, type_by, broken_by, owed, with_type, all_known, each_wanted}
 use Rattle.dpl_rules.specs.Places.{first_of, last_of, last_of_post}
 use Rattle.dpl_rules.specs.Sights.{Declared, Scopes, lookup, type_declared}
-use Rattle.dpl_rules.specs.Operators.{prefix_verdict, infix_verdict, any_strided, ranges_breaches, ranges_verdict}
+use Rattle.dpl_rules.specs.Operators.{prefix_verdict, reduction_verdict, infix_verdict, any_strided, ranges_breaches, ranges_verdict}
 use Rattle.dpl_rules.specs.Expressions.{plain_name, name_verdict, bare_locales, locales_or, none_where, type_of, item_type, range_item_verdict, chain_type, posts_type, post_verdict, method_verdict, item_parts, more_item_parts, expr_parts, more_expr_parts}
 use Rattle.dpl_rules.specs.Expressions.{expr_breaches, item_breaches, stride_breaches, chain_breaches, posts_breaches, post_breaches, method_breaches, items_breaches, more_items_breaches, exprs_breaches, more_exprs_breaches}
 use Rattle.dpl_rules.proofs.Admission.{first_empty, second_empty}
@@ -26,11 +26,11 @@ use Rattle.dpl_sound.proofs.Known.{IsTyped, told-typed, AreKnown, infix-by, post
 use Rattle.dpl_lowered.specs.Shapes.{passes_on, all_pass_on, nests}
 use Rattle.dpl_words.specs.Words.{IntLeaf, TruthLeaf, RangeLeaf}
 use Rattle.dpl_memory.specs.Memory.{VariableKind, PlainKind, DomainKind, TupleKind, ArrayKind}
-use Rattle.dpl_typer.specs.Makers.{is_promoted, prefix_kind, infix_kind, literal_kind, square_kind, round_kind, word_kind, contains_kind, dim_kind, expand_kind}
+use Rattle.dpl_typer.specs.Makers.{is_promoted, prefix_kind, reduced_kind, infix_kind, literal_kind, square_kind, round_kind, word_kind, contains_kind, dim_kind, expand_kind}
 use Rattle.dpl_typer.specs.Leaves.{is_rank, is_tuple_rank, value_kind, kind_by, IsOfKind, MayBePlain}
 use Rattle.dpl_typer.specs.Simple.{IsSimple, IsSimpleItem, IsSimpleStride, AreSimpleLinks, AreSimplePosts, IsSimplePost, AreSimpleItems, AreSimpleMoreItems, AreSimpleExprs, AreSimpleMoreExprs}
 use Rattle.dpl_typer.specs.Elaborated.{AreOfKinds}
-use Rattle.dpl_typer.proofs.OperatorKinds.{IsNew, Gives, kind_if-some, prefix-gives, infix-gives}
+use Rattle.dpl_typer.proofs.OperatorKinds.{IsNew, Gives, kind_if-some, prefix-gives, reduction-gives, infix-gives}
 use Rattle.dpl_typer.proofs.PartKinds.{range_item-new, literal-gives}
 use Rattle.dpl_typer.proofs.BaseKinds.{IsBase, word-gives, contains-gives, square-gives, round-gives, dim-gives, expand-gives}
 use Rattle.dpl_runnable.specs.Kinds.{IsVariable, IsNamed, AreVariables}
@@ -281,7 +281,16 @@ module _ (scopes : Scopes) (P : Place → Type 0) (names : AreVariables scopes) 
               (prefix-gives op at kind (type_of scopes e) (variable-kind (type_of scopes e) operand.variable))
               (type_of-known scopes known (Prefixed at op e) h);
         }
-    runnable (Reduced at op word e) s c h = absurd cc
+    runnable (Reduced at op word e) s c h =
+        let verdict = reduction_verdict at op (type_of scopes e) in
+        let operand = runnable e s.2 c (first_empty (expr_breaches scopes e) (broken_by verdict) h) in
+        let kind = operand.variable.kind in
+        record {
+          simple = operand.simple;
+          variable = gives-variable (reduced_kind op kind) (type_by verdict)
+              (reduction-gives op at kind (type_of scopes e) (variable-kind (type_of scopes e) operand.variable))
+              (type_of-known scopes known (Reduced at op word e) h);
+        }
     runnable (Chain e rest) s c h =
         let told = chain_breaches scopes (type_of scopes e) rest in
         let first = runnable e s.1 (first_open (closed_expr e) (closed_links rest) c) (first_empty (expr_breaches scopes e) told h) in
