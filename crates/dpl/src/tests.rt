@@ -11,6 +11,8 @@ mod lines;
 mod long;
 mod maps;
 mod messages;
+mod reduction_faults;
+mod reductions;
 mod scalars;
 mod sets;
 
@@ -22,6 +24,9 @@ use std::test::Fail;
 
 const SQUARES: &str =
     "var s: int; forall i in 1..8 by 2 with (+ reduce s) do s += i*i; writeln(s);";
+
+const SUMMED: &str =
+    "const D = {1..8} dmapped new blockDist(boundingBox={1..8}); var A: [D] int; forall i in D do A[i] = i*i; writeln(+ reduce A); writeln(A);";
 
 // Each text with its budget, and the bytes that are written of it.
 const ROWS: [(&str, u64, &str); 34] = [

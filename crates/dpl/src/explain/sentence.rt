@@ -12,7 +12,7 @@ pub(super) fn refusal_sentence(code: Code) -> &'static str {
         }
         Code::NumberTooLarge => "the number is greater than 9223372036854775807",
         Code::Unexpected => {
-            "no program goes on like this, or what begins here is not run: arrays, maps, reductions, locales, tasks, cells"
+            "no program goes on like this, or what begins here is not run: locales, tasks, cells"
         }
         Code::TooDeep => "this is nested more than 64 levels deep",
         Code::UnknownName => "the name is not declared here",
@@ -50,7 +50,8 @@ pub(super) fn fault_sentence(code: FaultCode) -> &'static str {
             "a bound or a stride is past 2^60, a stride is 0, a count is negative, or there are too many indices or tasks"
         }
         FaultCode::EmptyEnd => "an empty range has no first, last, lowest or highest member",
-        FaultCode::Budget => "the loop has more turns than the budget; --budget sets another",
+        FaultCode::Budget =>
+            "a loop, a reduction or a whole array has more turns than the budget; --budget sets another",
         FaultCode::NoLocale => "there is no locale of this number",
         FaultCode::CellStuck => "the sync variable stays blocked",
         FaultCode::ArrayTooLarge => "the array has more than 16777216 elements",

@@ -5,19 +5,19 @@ use super::first_wrong;
 use std::test::Fail;
 
 const CLOSED: [(&str, &str); 15] = [
-    ("var A: [1..3] int = + reduce 5;", "! P1 at 1:21\n"),
+    ("var A: [1..3] int = numLocales;", "! P1 at 1:21\n"),
     (
-        "writeln(5); const D = {1..8}; var A: [D] int; writeln(max reduce A);",
-        "! P1 at 1:55\n",
+        "writeln(5); const D = {1..8}; var A: [D] int; writeln(max reduce (A * here.id));",
+        "! P1 at 1:71\n",
     ),
-    ("var A: [1..(+ reduce 2)] int;", "! P1 at 1:13\n"),
+    ("var A: [1..(+ reduce numLocales)] int;", "! P1 at 1:22\n"),
     ("var c: sync int;", "! P1 at 1:8\n"),
     ("writeln(numLocales);", "! P1 at 1:9\n"),
     ("writeln(here.id);", "! P1 at 1:9\n"),
     ("for l in Locales do ;", "! P1 at 1:10\n"),
     ("on Locales[0] do ;", "! P1 at 1:1\n"),
     ("coforall k in 0..1 do ;", "! P1 at 1:1\n"),
-    ("var s = + reduce (1..3);", "! P1 at 1:9\n"),
+    ("var s = + reduce (1..numLocales);", "! P1 at 1:22\n"),
     (
         "if true then { while false { on here do ; } }",
         "! P1 at 1:30\n",

@@ -4,7 +4,7 @@
 use super::input::{asked, ran};
 use std::test::Fail;
 
-const TOLD: [(&str, &str); 8] = [
+const TOLD: [(&str, &str); 10] = [
     (
         "var s: int;\nforall i in 1..3 do\ts += i;\n",
         "p.chpl:2:21: a forall changes an outer variable through a reduce intent alone, and does not read a reduce variable\n\
@@ -23,7 +23,7 @@ const TOLD: [(&str, &str); 8] = [
     ),
     (
         "writeln(1",
-        "p.chpl:1:10: no program goes on like this, or what begins here is not run: arrays, maps, reductions, locales, tasks, cells\n\
+        "p.chpl:1:10: no program goes on like this, or what begins here is not run: locales, tasks, cells\n\
          writeln(1\n\
          \u{20}        ^\n",
     ),
@@ -36,6 +36,18 @@ const TOLD: [(&str, &str); 8] = [
     (
         "x = 1;",
         "p.chpl:1:1: the name is not declared here\nx = 1;\n^\n",
+    ),
+    (
+        "var A: [1..2, 5..6] int = 1;\nA[1, 6] = 0;\nwriteln(+ reduce (1 / A));",
+        "p.chpl:3:21: division by zero, in turn 1,6\n\
+         writeln(+ reduce (1 / A));\n\
+         \u{20}                   ^\n",
+    ),
+    (
+        "var A: [0..9] int; writeln(max reduce A);",
+        "p.chpl:1:32: a loop, a reduction or a whole array has more turns than the budget; --budget sets another\n\
+         var A: [0..9] int; writeln(max reduce A);\n\
+         \u{20}                              ^\n",
     ),
     ("writeln(1);\n", ""),
     (";\n", ""),

@@ -260,12 +260,12 @@ const REFUSED: [(&str, &str); 14] = [
 // What a created domain and what is mapped need, they need as any other value.
 const CLOSED: [(&str, &str); 3] = [
     (
-        "var A: [1..3] int; const D = blockDist.createDomain(1..(+ reduce A));",
-        "! P1 at 1:57\n",
+        "var A: [1..3] int; const D = blockDist.createDomain(1..(+ reduce (A * numLocales)));",
+        "! P1 at 1:71\n",
     ),
     (
-        "var A: [1..3] int; const D = {1..(+ reduce A)} dmapped new cyclicDist(1);",
-        "! P1 at 1:35\n",
+        "var A: [1..3] int; const D = {1..(+ reduce A + here.id)} dmapped new cyclicDist(1);",
+        "! P1 at 1:48\n",
     ),
     (
         "const D = blockDist.createDomain(1..numLocales);",

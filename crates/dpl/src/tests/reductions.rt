@@ -1,0 +1,311 @@
+// Programs with reductions, a row for each branch of the language, with the bytes that each writes.
+// Each row is written from the rules; what reductions fault at, and where they are refused, stands in `reduction_faults`.
+
+use super::{SUMMED, first_wrong, first_wrong_by, written, written_by};
+use dpl_run::{Config, Maps, OpenGate, Plain, Refused, run_text};
+use std::test::Fail;
+
+// The nine operators: over many indices, over one and over none; in each rank, and by strides.
+const OPERATORS: [(&str, &str); 18] = [
+    (
+        "var A: [1..5] int; forall i in 1..5 do A[i] = i * i - 7; writeln(+ reduce A, ' ', * reduce A, ' ', min reduce A, ' ', max reduce A, ' ', & reduce A, ' ', | reduce A, ' ', ^ reduce A);",
+        "20 5832 -6 18 0 -1 30\n",
+    ),
+    (
+        "var A: [1..3] int = 14; A[2] = 12; A[3] = 28; writeln(+ reduce A, ' ', * reduce A, ' ', min reduce A, ' ', max reduce A, ' ', & reduce A, ' ', | reduce A, ' ', ^ reduce A);",
+        "54 4704 12 28 12 30 30\n",
+    ),
+    // over one index, and over none
+    (
+        "var A: [5..5] int = -6; writeln(+ reduce A, ' ', * reduce A, ' ', min reduce A, ' ', max reduce A, ' ', & reduce A, ' ', | reduce A, ' ', ^ reduce A);",
+        "-6 -6 -6 -6 -6 -6 -6\n",
+    ),
+    (
+        "var A: [1..0] int; writeln(+ reduce A, ' ', * reduce A, ' ', min reduce A, ' ', max reduce A, ' ', & reduce A, ' ', | reduce A, ' ', ^ reduce A);",
+        "0 1 9223372036854775807 -9223372036854775808 -1 0 0\n",
+    ),
+    (
+        "var A: [1..0] int; writeln(max reduce A);",
+        "-9223372036854775808\n",
+    ),
+    (
+        "var A: [1..2, 5..1] int; var B: [1..0, 1..2, 1..2] bool; writeln(+ reduce A, ' ', * reduce A, ' ', min reduce A, ' ', max reduce A, ' ', & reduce A, ' ', | reduce A, ' ', ^ reduce A); writeln(&& reduce B, ' ', || reduce B);",
+        "0 1 9223372036854775807 -9223372036854775808 -1 0 0\ntrue false\n",
+    ),
+    (
+        "var D: domain(3); var A: [D] int; const B: [D] bool; writeln(+ reduce A, ' ', * reduce A, ' ', min reduce A, ' ', max reduce A, ' ', & reduce A, ' ', | reduce A, ' ', ^ reduce A); writeln(&& reduce B, ' ', || reduce B);",
+        "0 1 9223372036854775807 -9223372036854775808 -1 0 0\ntrue false\n",
+    ),
+    ("var A: [1..0] bool; writeln(&& reduce A);", "true\n"),
+    (
+        "var B: [1..0] bool; writeln(&& reduce B, ' ', || reduce B); const C: [7..7] bool = true; writeln(&& reduce C, ' ', || reduce C, ' ', || reduce (!C));",
+        "true false\ntrue true false\n",
+    ),
+    (
+        "var B: [1..3] bool = true; writeln(&& reduce B, ' ', || reduce B); B[2] = false; writeln(&& reduce B, ' ', || reduce B); B = false; writeln(&& reduce B, ' ', || reduce B);",
+        "true true\nfalse true\nfalse false\n",
+    ),
+    // sums and products wrap
+    (
+        "var A: [1..2] int = 9223372036854775807; writeln(+ reduce A, ' ', * reduce A, ' ', + reduce (A + 1), ' ', - + reduce (-A - 1));",
+        "-2 1 0 0\n",
+    ),
+    (
+        "var A: [1..3] int = 3037000500; writeln(* reduce A, ' ', + reduce (A * A), ' ', max reduce (A * A));",
+        "441805193841096000 -9223372036418353232 -9223372036709301616\n",
+    ),
+    // ranks and strides
+    (
+        "var A: [1..9 by 3, 4..0 by 1] int; writeln(+ reduce A, ' ', * reduce A, ' ', min reduce A, ' ', max reduce A, ' ', & reduce A, ' ', | reduce A, ' ', ^ reduce A);",
+        "0 1 9223372036854775807 -9223372036854775808 -1 0 0\n",
+    ),
+    (
+        "var A: [1..9 by 3, 0..4 by -2] int; forall (i, j) in A.domain do A[i, j] = 10 * i + j; writeln(+ reduce A, ' ', * reduce A, ' ', min reduce A, ' ', max reduce A, ' ', & reduce A, ' ', | reduce A, ' ', ^ reduce A);",
+        "378 46316261376000 10 74 0 110 98\n",
+    ),
+    (
+        "var A: [1..2, 1..2, 1..2] int; forall (i, j, k) in A.domain do A[i, j, k] = 100 * i + 10 * j + k; writeln(+ reduce A, ' ', * reduce A, ' ', min reduce A, ' ', max reduce A, ' ', & reduce A, ' ', | reduce A, ' ', ^ reduce A);",
+        "1332 402763185247078656 111 222 64 255 24\n",
+    ),
+    (
+        "var B: [0..1, 0..2] bool = true; B[1, 2] = false; writeln(&& reduce B, ' ', || reduce B); var C: [0..6 by 3, 0..0, 0..8 by -4] bool; C[3, 0, 8] = true; writeln(&& reduce C, || reduce C);",
+        "false true\nfalsetrue\n",
+    ),
+    (SUMMED, "204\n1 4 9 16 25 36 49 64\n"),
+    (
+        "const D = {1..4, 1..4} dmapped new cyclicDist(startIdx=(1, 1)); var A: [D] int; forall (i, j) in D do A[i, j] = i - j; writeln(+ reduce A, max reduce A, min reduce (A * A), || reduce (A == 2));",
+        "030true\n",
+    ),
+];
+
+// What is reduced: a whole array, or a promoted expression by each operator.
+const OPERANDS: [(&str, &str); 12] = [
+    (
+        "const D = {1..4}; var A: [D] int; var B: [D] int = 3; forall i in D do A[i] = i; B = A * B + 1; writeln(B); B += 2; writeln(max reduce (A - B));",
+        "4 7 10 13\n-5\n",
+    ),
+    // each operator at each index: A is 1 2 3 4, and B is 4 1 -2 -5
+    (
+        "const D = {1..4}; var A: [D] int; var B: [D] int; forall i in D { A[i] = i; B[i] = 7 - 3 * i; } writeln(+ reduce (A + B), ' ', * reduce (A - B), ' ', min reduce (A * B), ' ', max reduce (B / A), ' ', | reduce (B % A), ' ', + reduce (-A));",
+        "8 -135 -20 4 -1 -10\n",
+    ),
+    (
+        "const D = {1..4}; var A: [D] int; var B: [D] int; forall i in D { A[i] = i; B[i] = 7 - 3 * i; } writeln(&& reduce (A < B), || reduce (A < B), && reduce (A <= 4), || reduce (A > 4), && reduce (A >= 1), || reduce (A == B), && reduce (A != B));",
+        "falsetruetruefalsetruefalsetrue\n",
+    ),
+    (
+        "const D = {1..2}; var B: [D] bool; var C: [D] bool = true; B[2] = true; writeln(&& reduce (B == C), || reduce (B == C), && reduce (B != (1 < 2)), || reduce (!B), && reduce (!B != B), && reduce ((C)));",
+        "falsetruefalsetruetruetrue\n",
+    ),
+    // scalars in it have a value at each index, and may be read off the arrays themselves
+    (
+        "const D = {1..3}; var A: [D] int = 2; A[3] = 5; var n = 4; writeln(+ reduce (A * A[3] + n), ' ', * reduce (A + A.domain.size - (1..n by 2).size), ' ', max reduce (n - A), ' ', && reduce (A > 1 == D.contains(n - 1)));",
+        "57 54 2 true\n",
+    ),
+    (
+        "var A: [1..2, 1..2] int = 1; A[2, 1] = 6; writeln(+ reduce (A * A(2, 1) - A.domain.dim(0).high), ' ', && reduce (A == 1 == (3 < 2 || A[1, 1] == 1)));",
+        "46 false\n",
+    ),
+    // how tightly it binds: A is 1 2 3
+    (
+        "var A: [1..3] int; forall i in A.domain do A[i] = i; writeln(+ reduce A + 1, ' ', + reduce (A + 1), ' ', 2 * + reduce A, ' ', - + reduce A, ' ', 10 - + reduce A - 1, ' ', 2 * - max reduce A, ' ', + reduce A / max reduce A, ' ', * reduce A % 4, ' ', + reduce((A)));",
+        "7 9 12 -6 3 -6 2 2 6\n",
+    ),
+    (
+        "var A: [1..3] int; forall i in A.domain do A[i] = i; writeln(! && reduce (A > 1), ' ', + reduce A == * reduce A, ' ', min reduce A < max reduce A && || reduce (A > 2), ' ', (+ reduce A) * (+ reduce A), ' ', max reduce A-min reduce A);",
+        "true true true 36 2\n",
+    ),
+    // `&&` and `||` between truth values leave out a whole reduction
+    (
+        "var A: [1..2] int; writeln(1 > 2 && + reduce (1 / A) > 0, ' ', 1 < 2 || && reduce (1 / A > 0));",
+        "false true\n",
+    ),
+    // an operand without an index has no fault
+    (
+        "var A: [1..0] int; writeln(+ reduce (A + 1 / 0), ' ', && reduce (A == A[1]), ' ', min reduce (A / A));",
+        "0 true 9223372036854775807\n",
+    ),
+    // where the domain is a variable
+    (
+        "var D = {1..4}; var A: [D] int = 1; write(+ reduce A); D = {3..8}; write(' ', + reduce A, max reduce A, min reduce A); D = {5..4}; writeln(' ', * reduce A);",
+        "4 210 1\n",
+    ),
+    (
+        "var D = {1..2, 1..2}; var A: [D] int = 2; { var D = {1..3}; var A: [D] int = 3; write(* reduce A, ' '); } writeln(* reduce A);",
+        "27 16\n",
+    ),
+];
+
+// Where a reduction may stand: wherever an int or a truth value may, outside of foralls' bodies and of promoted expressions.
+const FORMS: [(&str, &str); 16] = [
+    // conditions
+    (
+        "var A: [1..3] int = 2; if + reduce A > 5 then writeln(1); else writeln(2); if && reduce (A == 3) { writeln(3); } else if || reduce (A == 2) { writeln(4); }",
+        "1\n4\n",
+    ),
+    (
+        "var A: [1..3] int; forall i in 1..3 do A[i] = i; while max reduce A < 10 do A += 3; writeln(A);",
+        "10 11 12\n",
+    ),
+    (
+        "var B: [1..3] bool; var k = 0; while ! && reduce B { k += 1; B[k] = true; } writeln(k, ' ', B);",
+        "3 true true true\n",
+    ),
+    // ranges: bounds, counts, strides, slices
+    (
+        "var A: [1..3] int = 2; for i in + reduce A..#max reduce A + 2 do write(i, ' '); for i in 1..* reduce A by min reduce A do write(i, ' '); for i in 5..<+ reduce A + 1 by -1 do write(i); writeln();",
+        "6 7 8 9 1 3 5 7 65\n",
+    ),
+    (
+        "var A: [1..3] int = 2; const r = 1..9 by + reduce A; writeln(r.size, (1..9)[max reduce A..+ reduce A].size, (1..9).contains(* reduce A), (+ reduce A..9).first);",
+        "25true6\n",
+    ),
+    // domains: literals, slices, `expand`, `contains`, array types and `createDomain`
+    (
+        "var A: [1..3] int = 1; var D = {1..+ reduce A}; write(D.size); D = {max reduce A..* reduce A + 4}; write(D.size, D[+ reduce A..9].size, D.expand(min reduce A).size, D.contains(+ reduce A)); var B: [1..+ reduce A, 0..#* reduce A] bool; writeln(B.domain.size);",
+        "3537true3\n",
+    ),
+    (
+        "var A: [1..3] int = 1; const D = blockDist.createDomain(1..(+ reduce A)); const E = {0..+ reduce A} dmapped new cyclicDist(1); const F = cyclicDist.createDomain({+ reduce A..5, 1..+ reduce A}); writeln(D.size, E.size, F.size);",
+        "349\n",
+    ),
+    (
+        "var D = {1..2}; var A: [D] int = 2; D = {1..+ reduce A}; writeln(A); D = D.expand(- max reduce A + 1); writeln(A);",
+        "2 2 0 0\n2 0\n",
+    ),
+    // indices, of elements that are read and written
+    (
+        "var A: [1..3] int = 1; var B: [1..3, 1..3] int; A[+ reduce A] = 7; A(min reduce A) += max reduce A; B[max reduce A - 6, min reduce A] = + reduce A; B[1, 1] -= * reduce A; writeln(A, ' ', A[max reduce A - 6], ' ', B);",
+        "8 1 7 1 -56 0 0\n16 0 0\n0 0 0\n",
+    ),
+    // loops over what a reduction gives, also of a forall, and reductions in the body of a `for`
+    (
+        "var A: [1..4] int = 1; var s = 0; forall i in 1..+ reduce A with (+ reduce s) do s += i; for (i, j) in {1..+ reduce A, max reduce A..2} { s += 1; A[i] += + reduce A - i; } writeln(s, ' ', A);",
+        "18 10 34 130 514\n",
+    ),
+    // arguments, initial values and assignments of scalars
+    (
+        "var A: [1..3] int = 4; write('<', + reduce A, '>'); const c = * reduce A; var x: int = max reduce A; x += + reduce A; write(' ', x); x -= 2 * + reduce A; write(' ', x); x *= min reduce A; write(' ', x); x /= + reduce A; write(' ', x); x %= max reduce A; x = -x; writeln(' ', x, ' ', c);",
+        "<12> 16 -8 -32 -2 2 64\n",
+    ),
+    (
+        "var A: [1..3] int = 2; config const n = + reduce A; config const b: bool = && reduce (A == 2); writeln(n, b);",
+        "6true\n",
+    ),
+    (
+        "var B: [1..3] bool = true; const b = && reduce B; var c: bool = || reduce (!B); B[2] = b == c; c = && reduce B; writeln(b, c, B);",
+        "truefalsetrue false true\n",
+    ),
+    // to a whole array it is one value, though its array is of another domain, or the one that is assigned
+    (
+        "var A: [1..2] int; var B: [1..3] int = 2; A = + reduce B; writeln(A); A += + reduce A; writeln(A); A *= max reduce B; A /= + reduce B; A -= min reduce B; A %= + reduce B - 3; writeln(A); B = B * 2; A = max reduce (B - 1) + 1; writeln(A);",
+        "6 6\n18 18\n1 1\n4 4\n",
+    ),
+    (
+        "var D = {1..3}; var A: [D] int; A[2] = 6; var B: [D] int = + reduce A; var C: [D] bool = || reduce (A == 6); A = min reduce A + max reduce A + + reduce A; C = && reduce C == (1 > 2); writeln(A, ' ', B, ' ', C);",
+        "12 12 12 6 6 6 false false false\n",
+    ),
+    (
+        "var D = {1..2}; var A: [D] int = 3; { var A: [D] int = + reduce A; writeln(A, ' ', + reduce A); } writeln(+ reduce A);",
+        "6 6 12\n6\n",
+    ),
+];
+
+// Each text with one set, by which an initial value isn't evaluated.
+const SETS: [(&str, &str, &str); 5] = [
+    (
+        "var A: [1..3] int = 2; config const n = + reduce A; writeln(n);",
+        "n=5",
+        "5\n",
+    ),
+    (
+        "var A: [1..3] int; config const n = + reduce (1 / A); writeln(n);",
+        "n=5",
+        "5\n",
+    ),
+    (
+        "var A: [1..99] int; config const b = && reduce (A == 0); writeln(b);",
+        "b=false",
+        "false\n",
+    ),
+    (
+        "config const n = 3; var A: [1..n] int = n; writeln(+ reduce A, ' ', * reduce A);",
+        "n=4",
+        "16 256\n",
+    ),
+    (
+        "var A: [1..3] int = 2; config const n = + reduce A; writeln(n);",
+        "b=true",
+        "! C14\n",
+    ),
+];
+
+#[test]
+fn values(rt: HostRuntime) -> Result<(), Fail> {
+    assert_eq!(rt; first_wrong(&rt, &OPERATORS)?, None);
+    assert_eq!(rt; first_wrong(&rt, &OPERANDS)?, None);
+    assert_eq!(rt; first_wrong(&rt, &FORMS)?, None);
+    Ok(())
+}
+
+#[test]
+fn sets(rt: HostRuntime) -> Result<(), Fail> {
+    for (text, set, bytes) in &SETS {
+        let out = written_by(&rt, text.as_bytes(), &[*set], 9)?;
+        assert_eq!(rt; out.as_slice(), bytes.as_bytes(), "{text} {set}");
+    }
+    Ok(())
+}
+
+// By 1, 3, 4 and 64 locales, each by the maps of the text, by blocks and round and round, the same is written.
+#[test]
+fn locales_and_maps(rt: HostRuntime) -> Result<(), Fail> {
+    const LAYOUTS: [(u32, [u32; 2], [u32; 3]); 4] = [
+        (1, [1, 1], [1, 1, 1]),
+        (3, [1, 3], [3, 1, 1]),
+        (4, [2, 2], [1, 2, 2]),
+        (64, [8, 8], [4, 4, 4]),
+    ];
+    for (locales, grid2, grid3) in LAYOUTS {
+        for maps in [Maps::AsIs, Maps::Block, Maps::Cyclic] {
+            let config = Config::new(locales, 1000, 9, grid2, grid3, maps)?;
+            assert_eq!(rt; first_wrong_by(&rt, &OPERATORS, &config)?, None);
+            assert_eq!(rt; first_wrong_by(&rt, &OPERANDS, &config)?, None);
+            assert_eq!(rt; first_wrong_by(&rt, &FORMS, &config)?, None);
+        }
+    }
+    Ok(())
+}
+
+// A writer that takes three bytes of a sum and of its array, and then fails, has these.
+#[test]
+fn a_writer_that_fails(rt: HostRuntime) -> Result<(), Fail> {
+    let config = Config::new(4, 1000, 9, [2, 2], [4, 1, 1], Maps::AsIs)?;
+    let mut room = [0u8; 3];
+    let mut out = Plain::new(room.as_mut_slice());
+    let result = run_text(
+        &rt,
+        rt.alloc(),
+        SUMMED.as_bytes(),
+        &[],
+        &config,
+        &OpenGate,
+        &mut out,
+    );
+    assert!(rt; matches!(result, Err(Refused::Writer)));
+    assert!(rt; out.failed);
+    assert!(rt; room == *b"204");
+    Ok(())
+}
+
+// Each beginning of a program is one, or has a refusal, and writes whole lines.
+#[test]
+fn beginnings(rt: HostRuntime) -> Result<(), Fail> {
+    let mut text = Vec::new(rt.alloc());
+    for byte in SUMMED.as_bytes() {
+        let out = written(&rt, &text, 8)?;
+        assert!(rt; out.is_empty() || out.last() == Some(&b'\n'));
+        text.push(*byte)?;
+    }
+    Ok(())
+}
