@@ -1,5 +1,5 @@
 #!/bin/sh
-# Times dpl on a forall of ten million turns, on Collatz sequences up to a number, on a sieve and a stencil over arrays (benches/programs),
+# Times dpl on a forall of ten million turns, on Collatz sequences up to a number, on a sieve, a stencil and two sums over arrays (benches/programs),
 # on 50,000 statements and on a mebibyte of spaces, each beside lua5.4, python3 and C doing the same, all in one run.
 # usage: scripts/bench-programs.sh [ROUNDS [LAST]]. Needs rt, lua5.4, python3 and cc; LAST, 1000000 without it, is where Collatz ends.
 set -eu
@@ -73,7 +73,7 @@ head -c 1048576 /dev/zero | tr '\0' ' ' > "$work/spaces.chpl"
 "$top/dpl" < /dev/null
 dpl=$top/crates/dpl/out/dpl
 cp "$top"/benches/programs/* "$work"
-for program in turns collatz sieve plate; do cc -O2 -o "$work/$program" "$work/$program.c"; done
+for program in turns collatz sieve plate sums promoted; do cc -O2 -o "$work/$program" "$work/$program.c"; done
 
 # The seconds that a command takes on a file of the benchmark.
 seconds() {
@@ -96,11 +96,13 @@ for _ in $(seq "$rounds"); do
     beside collatz
     beside sieve
     beside plate
+    beside sums
+    beside promoted
     beside statements
     seconds spaces.chpl "$dpl"
     echo
 done | awk '
-    { for (i = 1; i <= 21; i++) if (NR == 1 || $i < best[i]) best[i] = $i }
+    { for (i = 1; i <= 29; i++) if (NR == 1 || $i < best[i]) best[i] = $i }
     function row(name, k) {
         printf "%-24s %8.3f %8.3f %8.3f %8.3f %9.2f %9.2f\n", name, best[k], best[k + 1], best[k + 2], best[k + 3], best[k] / best[k + 1], best[k] / best[k + 2]
     }
@@ -110,6 +112,8 @@ done | awk '
         row("Collatz", 5)
         row("sieve to 2,000,000", 9)
         row("plate of 300 by 300", 13)
-        row("50,000 statements", 17)
-        printf "%-24s %8.3f\n", "1 MiB of spaces", best[21]
+        row("+ reduce A", 17)
+        row("+ reduce (A * 2 + 1)", 21)
+        row("50,000 statements", 25)
+        printf "%-24s %8.3f\n", "1 MiB of spaces", best[29]
     }'
