@@ -1,6 +1,6 @@
 -- The pieces that stand in the places of their locales.
 -- They take the invariant of the pieces, and serve its calls one by one.
-use Rattle.std.proofs.Common.{◌≡◌, ◌<◌, ◌+◌, ◌⊎◌, ℕ, zero, suc, ℤ, List, [], ◌∷◌, ◌++◌, length, map, slice_get, slice_set, slice_index_or, Option, Some, None, is_some, IsSome, IfSome, All, true, false, refl, ap, sym, subst, ◌∙◌, arith, ⊎_elim, inl, inr, length-set}
+use Rattle.std.proofs.Common.{◌≡◌, ◌<◌, ◌+◌, ◌⊎◌, ℕ, zero, suc, ℤ, List, [], ◌∷◌, ◌++◌, length, map, slice_get, slice_set, slice_index_or, Option, Some, None, is_some, IsSome, IfSome, All, Bool, true, false, refl, ap, sym, subst, ◌∙◌, arith, ⊎_elim, inl, inr, length-set}
 use Rattle.std.specs.Option.{option_map, option_copied}
 use Rattle.std.specs.Borrow.{Bor}
 use Rattle.std.proofs.lemmas.List.{length-map, get_or_default, map-set}
@@ -107,6 +107,11 @@ module _ {T : Type 0} (domain : List RangeValue) (axes : List AxisValue) (held :
         (λ (there : slice_get held k ≡ Some (Some p)). are.fits k p there)
         (set-cases held l o k (Some p) found);
   }
+
+  -- a piece is written or left as it is
+  pub held-put : (l : ℕ) (p q : PieceValue T) → slice_index_or held l None ≡ Some p → (t : List ℤ) (v : T) (written : Bool) → (written ≡ true → q ≡ piece_with t v p) → (written ≡ false → q ≡ p) → AreHeld domain axes (slice_set held l (Some q))
+  held-put l p q there t v true changes same = held-set l (Some q) (λ r is. held-with l p there t v r (sym (same_Some q r is) ∙ changes refl))
+  held-put l p q there t v false changes same = subst (AreHeld domain axes) (sym (held-unwritten l p q there (same refl))) are
 
 is_some-slot : {T : Type 0} (o : Option (PieceValue T)) → is_some (slot_of o) ≡ is_some o
 is_some-slot None = refl

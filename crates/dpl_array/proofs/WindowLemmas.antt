@@ -15,7 +15,7 @@ use Rattle.dpl_map.specs.Parts.{part}
 use Rattle.dpl_array.specs.Elements.{value_at, tabulated}
 use Rattle.dpl_array.specs.PieceFields.{kept_at, IsKept}
 use Rattle.dpl_array.specs.Rows.{row_of}
-use Rattle.dpl_array.specs.Windows.{IsLineOf, IsPlaneOf, IsSpanOf}
+use Rattle.dpl_array.specs.Windows.{IsLineOf, IsPlaneOf, IsSpanOf, StandsOnLine, StandsOnPlane}
 use Rattle.dpl_array.proofs.PieceLemmas.{Places, piece-there, place-within, places-alone}
 
 -- the member at a place of a range of stride 1
@@ -57,49 +57,52 @@ plane-below q r rows columns size row column large =
     let le : (q + 1) * columns ≤ rows * columns = mul-le-mul_right columns (omega arith) in
     omega (arith, le, add-mul q 1 columns)
 
+-- A PART THAT IS ONE DOMAIN
+module _ (parts : List (List RangeValue)) (d : List RangeValue) (alone : parts ≡ d ∷ []) (o m i : RangeValue) where
+  row-alone : row_of parts ≡ indices d
+  row-alone = ap row_of alone ∙ append-nil (indices d)
+
+  -- the integers of its line are its indices
+  pub stands-on_line : d ≡ last_of 1 o m i → IsPadded point 1 o m → (low : ℤ) (size : ℕ) → IsSpanOf (members_of i) low size → StandsOnLine (row_of parts) low size
+  stands-on_line is padded low size span k below =
+      ap (λ ts. slice_get ts k) row-alone ∙ ap (λ e. slice_get (indices e) k) is ∙ index-on_line o m i k (low +ℤ pos k) padded (span.each k below)
+
+  -- and those of its plane
+  pub stands-on_plane : d ≡ last_of 2 o m i → IsPadded point 2 o m → (top : ℤ) (rows : ℕ) (left : ℤ) (columns : ℕ) → IsSpanOf (members_of m) top rows → IsSpanOf (members_of i) left columns → StandsOnPlane (row_of parts) top rows left columns
+  stands-on_plane is padded top rows left columns down across q r row column =
+      let wide : columns ≡ length (members_of i) = across.all (omega arith) in
+      ap (λ ts. slice_get ts (q * columns + r)) row-alone
+      ∙ ap (λ e. slice_get (indices e) (q * columns + r)) is
+      ∙ ap (λ n. slice_get (indices (last_of 2 o m i)) (q * n + r)) wide
+      ∙ index-on_plane o m i q r (top +ℤ pos q) (left +ℤ pos r) padded (down.each q row) (across.each r column)
+
+-- a plane has no more integers than the row has indices
+pub plane-long : (row : List (List ℤ)) (top : ℤ) (rows : ℕ) (left : ℤ) (columns : ℕ) → StandsOnPlane row top rows left columns → rows * columns ≤ length row
+plane-long row top zero left columns on = omega arith
+plane-long row top (suc q) left zero on = omega arith
+plane-long row top (suc q) left (suc r) on =
+    let last = slice_get_within row (q * suc r + r) ((top +ℤ pos q) ∷ (left +ℤ pos r) ∷ []) (on q r (omega arith) (omega arith)) in
+    omega (arith, last, suc-mul q (suc r))
+
 module _ {T : Type 0} (domain : List RangeValue) (axes : List AxisValue) (locale : ℕ) (parts : List (List RangeValue)) (starts : List ℕ) (values : List T) (kept : IsKept domain axes locale parts starts (length values)) where
-  -- a place of the only domain is one of the row
-  places-one : (d : List RangeValue) → parts ≡ d ∷ [] → (k : ℕ) (t : List ℤ) → slice_get (indices d) k ≡ Some t → Places parts t (Some k)
-  places-one d alone k t found =
-      let row : row_of parts ≡ indices d = ap row_of alone ∙ append-nil (indices d) in
-      places-alone parts t k kept.distinct (ap (λ ts. slice_get ts k) row ∙ found)
+  -- what stands at a place of the row has the value there
+  pub value-found : (k : ℕ) (t : List ℤ) → slice_get (row_of parts) k ≡ Some t → value_at t (tabulated (part domain axes locale) (kept_at parts values)) ≡ slice_get values k
+  value-found k t found = piece-there domain axes locale parts starts values kept parts refl t k (places-alone parts t k kept.distinct found)
 
-  -- and has a value
-  value-one : (d : List RangeValue) → parts ≡ d ∷ [] → (k : ℕ) (t : List ℤ) → slice_get (indices d) k ≡ Some t → value_at t (tabulated (part domain axes locale) (kept_at parts values)) ≡ slice_get values k
-  value-one d alone k t found = piece-there domain axes locale parts starts values kept parts refl t k (places-one d alone k t found)
+  pub within-found : (k : ℕ) (t : List ℤ) → slice_get (row_of parts) k ≡ Some t → k < length values
+  within-found k t found = place-within domain axes locale parts starts values kept parts refl t k (places-alone parts t k kept.distinct found)
 
-  within-one : (d : List RangeValue) → parts ≡ d ∷ [] → (k : ℕ) (t : List ℤ) → slice_get (indices d) k ≡ Some t → k < length values
-  within-one d alone k t found = place-within domain axes locale parts starts values kept parts refl t k (places-one d alone k t found)
+  -- the elements of a piece as a line
+  pub kept-line : (low : ℤ) (size : ℕ) → StandsOnLine (row_of parts) low size → IsLineOf (tabulated (part domain axes locale) (kept_at parts values)) values low size
+  kept-line low size on k below = value-found k ((low +ℤ pos k) ∷ []) (on k below)
 
-  module _ (d : List RangeValue) (alone : parts ≡ d ∷ []) (o m i : RangeValue) where
-    module _ (is : d ≡ last_of 1 o m i) (padded : IsPadded point 1 o m) (low : ℤ) where
-      on-line : (size : ℕ) → IsSpanOf (members_of i) low size → (k : ℕ) → k < size → slice_get (indices d) k ≡ Some ((low +ℤ pos k) ∷ [])
-      on-line size span k below = ap (λ e. slice_get (indices e) k) is ∙ index-on_line o m i k (low +ℤ pos k) padded (span.each k below)
+  pub long-line : (low : ℤ) (size : ℕ) → StandsOnLine (row_of parts) low size → size ≤ length values
+  long-line low zero on = omega arith
+  long-line low (suc n) on = let last = within-found n ((low +ℤ pos n) ∷ []) (on n (omega arith)) in omega (arith, last)
 
-      -- the elements of a piece as a line
-      pub kept-line : (size : ℕ) → IsSpanOf (members_of i) low size → IsLineOf (tabulated (part domain axes locale) (kept_at parts values)) values low size
-      kept-line size span k below = value-one d alone k ((low +ℤ pos k) ∷ []) (on-line size span k below)
+  -- and as a plane
+  pub kept-plane : (top : ℤ) (rows : ℕ) (left : ℤ) (columns : ℕ) → StandsOnPlane (row_of parts) top rows left columns → IsPlaneOf (tabulated (part domain axes locale) (kept_at parts values)) values top rows left columns
+  kept-plane top rows left columns on q r row column = value-found (q * columns + r) ((top +ℤ pos q) ∷ (left +ℤ pos r) ∷ []) (on q r row column)
 
-      pub long-line : (size : ℕ) → IsSpanOf (members_of i) low size → size ≤ length values
-      long-line zero span = omega arith
-      long-line (suc n) span = let last = within-one d alone n ((low +ℤ pos n) ∷ []) (on-line (suc n) span n (omega arith)) in omega (arith, last)
-
-    module _ (is : d ≡ last_of 2 o m i) (padded : IsPadded point 2 o m) (top left : ℤ) where
-      on-plane : (rows columns : ℕ) → IsSpanOf (members_of m) top rows → IsSpanOf (members_of i) left columns → (q r : ℕ) → q < rows → r < columns → slice_get (indices d) (q * columns + r) ≡ Some ((top +ℤ pos q) ∷ (left +ℤ pos r) ∷ [])
-      on-plane rows columns down across q r row column =
-          let wide : columns ≡ length (members_of i) = across.all (omega arith) in
-          ap (λ e. slice_get (indices e) (q * columns + r)) is
-          ∙ ap (λ n. slice_get (indices (last_of 2 o m i)) (q * n + r)) wide
-          ∙ index-on_plane o m i q r (top +ℤ pos q) (left +ℤ pos r) padded (down.each q row) (across.each r column)
-
-      -- the elements of a piece as a plane
-      pub kept-plane : (rows columns : ℕ) → IsSpanOf (members_of m) top rows → IsSpanOf (members_of i) left columns → IsPlaneOf (tabulated (part domain axes locale) (kept_at parts values)) values top rows left columns
-      kept-plane rows columns down across q r row column =
-          value-one d alone (q * columns + r) ((top +ℤ pos q) ∷ (left +ℤ pos r) ∷ []) (on-plane rows columns down across q r row column)
-
-      pub long-plane : (rows columns : ℕ) → IsSpanOf (members_of m) top rows → IsSpanOf (members_of i) left columns → rows * columns ≤ length values
-      long-plane zero columns down across = omega arith
-      long-plane (suc q) zero down across = omega arith
-      long-plane (suc q) (suc r) down across =
-          let last = within-one d alone (q * suc r + r) ((top +ℤ pos q) ∷ (left +ℤ pos r) ∷ []) (on-plane (suc q) (suc r) down across q r (omega arith) (omega arith)) in
-          omega (arith, last, suc-mul q (suc r))
+  pub long-plane : (top : ℤ) (rows : ℕ) (left : ℤ) (columns : ℕ) → StandsOnPlane (row_of parts) top rows left columns → rows * columns ≤ length values
+  long-plane top rows left columns on = let most = plane-long (row_of parts) top rows left columns on in omega (arith, most, kept.long)

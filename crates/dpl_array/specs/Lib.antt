@@ -9,4 +9,5 @@ pub mod PieceFields
 pub mod PiecesFields
 pub mod WalkFields
 pub mod Windows
+pub mod Spans
 pub mod ReaderFields

@@ -16,4 +16,4 @@ IsLineIn a l = IsLineOf a.elements l.values.now l.span.low l.span.size
 
 -- and so has the plane
 abbrev pub IsPlaneIn : {T : Type 0} → ArrayValue T → Plane T → Type 0
-IsPlaneIn a p = IsPlaneOf a.elements p.values.now p.rows.low p.rows.size p.columns.low p.columns.size
+IsPlaneIn a p = IsPlaneOf a.elements p.values.now p.grid.rows.low p.grid.rows.size p.grid.columns.low p.grid.columns.size

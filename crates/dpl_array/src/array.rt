@@ -7,6 +7,7 @@ ghost use Rattle.dpl_map.specs.Maps.{locales};
 ghost use Rattle.dpl_array.specs.Elements.{value_at};
 ghost use Rattle.dpl_array.specs.Arrays.{IsArray, IsSmallArray, IsWhole, array_with, filled_array, pieces_of, restriction, union};
 
+use crate::coordinates::Coordinates;
 use crate::{Piece, Pieces};
 use dpl_domain::{Domain, Index};
 use dpl_map::Map;
@@ -90,15 +91,44 @@ impl<T: Copy> DArray<T> {
     pub fn get(&self, index: Index) -> Option<T>
         ensures { result ≡ value_at index self.now.elements }
     {
+        self.get_at(&index)
+    }
+
+    // The value where it is found without a search. It is short enough to stand in a loop.
+    #[inline(always)]
+    pub(crate) fn quick<C: Coordinates>(&self, at: &C) -> Option<T>
+        ensures { IfSome result (λ v. value_at (C.tuple at.now) self.now.elements ≡ Some v) }
+    {
+        self.pieces.guessed(at)
+    }
+
+    // The value, if the array has the index.
+    #[inline(always)]
+    pub(crate) fn get_at<C: Coordinates>(&self, at: &C) -> Option<T>
+        ensures { result ≡ value_at (C.tuple at.now) self.now.elements }
+    {
+        if let Some(value) = self.quick(at) {
+            return Some(value);
+        }
+        self.searched(at.index())
+    }
+
+    // The same by a search. It stands apart, so that no room is set aside for it in a loop.
+    #[inline(never)]
+    fn searched(&self, index: Index) -> Option<T>
+        ensures { result ≡ value_at index self.now.elements }
+    {
         self.pieces.get(index)
     }
 
-    // The value at an index, where it is found without a search. It is short enough to stand in a loop.
+    // Puts a value, if the array has the index. False if it hasn't, and then nothing is changed.
     #[inline(always)]
-    pub(crate) fn quick(&self, index: Index) -> Option<T>
-        ensures { IfSome result (λ v. value_at index self.now.elements ≡ Some v) }
+    pub(crate) fn set_at<C: Coordinates>(&mut self, at: &C, value: T) -> bool
+        ensures there { result ≡ is_some (value_at (C.tuple at.now) self.old.elements) }
+        ensures changes { self.new ≡ array_with (C.tuple at.now) value self.old }
+        ensures unchanged { result ≡ false → self.new ≡ self.old }
     {
-        self.pieces.guessed(index)
+        self.pieces.set(at, value)
     }
 
     /// Puts a value at an index, if the array has it. False if it hasn't, and then nothing is changed.
@@ -107,7 +137,7 @@ impl<T: Copy> DArray<T> {
         ensures changes { self.new ≡ array_with index value self.old }
         ensures unchanged { result ≡ false → self.new ≡ self.old }
     {
-        self.pieces.set(index, value)
+        self.set_at(&index, value)
     }
 
     /// The piece of a locale, if the map has the locale.

@@ -1,146 +1,124 @@
-// Elements by plain coordinates, for loops over arrays of the ranks 1, 2 and 3.
-// They are the calls that take an index, of the index with these coordinates.
+// What names an element: its index, or one, two or three plain coordinates of it.
+// Where a part is one domain of stride 1, plain coordinates tell a place without an index.
 
-ghost use Rattle.std.specs.Prelude.{◌≡◌, [], ◌∷◌, false, is_some};
-ghost use Rattle.dpl_array.specs.Elements.{value_at};
-ghost use Rattle.dpl_array.specs.Arrays.{array_with, piece_with};
+ghost use Rattle.std.specs.Prelude.{◌≡◌, [], ◌∷◌};
 
-use crate::{DArray, Piece};
-use dpl_domain::Index;
+use crate::place::place_alone;
+use crate::seats::Seats;
+use crate::spans::Spans;
+use dpl_domain::{Domain, Index};
 
-impl<T: Copy> DArray<T> {
-    /// The value at one coordinate, if the array is of rank 1 and has it.
-    #[inline]
-    pub fn get_line(&self, i: i64) -> Option<T>
-        ensures { result ≡ value_at (i ∷ []) self.now.elements }
-    {
-        if let Some(value) = self.quick(line(i)) {
-            return Some(value);
+/// What names an element.
+pub(crate) trait Coordinates {
+    ghost use Rattle.std.specs.Prelude.{◌≡◌, ℤ, List, Some, IfSome, slice_get};
+    ghost use Rattle.dpl_array.specs.Rows.{row_of};
+    ghost use Rattle.dpl_array.specs.Spans.{AreSpansOf};
+
+    ghost tuple: { Self → List ℤ };
+
+    /// The index.
+    fn index(&self) -> Index
+        ensures { result ≡ tuple self.now };
+
+    /// The number of the locale that seems to own it.
+    fn seat(&self, seats: &Seats) -> usize;
+
+    /// Its place in the row of a part's domains, where it is found without a search.
+    fn place(&self, parts: &[Domain], spans: &Spans) -> Option<usize>
+        requires { AreSpansOf (row_of parts.now) spans.now }
+        ensures { IfSome result (λ k. slice_get (row_of parts.now) k ≡ Some (tuple self.now)) };
+}
+
+impl Coordinates for Index {
+    ghost tuple = { λ t. t };
+
+    fn index(&self) -> Index {
+        *self
+    }
+
+    #[inline(always)]
+    fn seat(&self, seats: &Seats) -> usize {
+        seats.guess(*self)
+    }
+
+    #[inline(always)]
+    fn place(&self, parts: &[Domain], spans: &Spans) -> Option<usize> {
+        let (_, y, z) = self.numbers();
+        match self.rank() {
+            1 => spans.line.offset(z),
+            2 => spans.grid.place(y, z),
+            _ => place_alone(parts, *self),
         }
-        self.searched_line(i)
-    }
-
-    /// The value at two coordinates, if the array is of rank 2 and has them.
-    #[inline]
-    pub fn get_plane(&self, i: i64, j: i64) -> Option<T>
-        ensures { result ≡ value_at (i ∷ j ∷ []) self.now.elements }
-    {
-        if let Some(value) = self.quick(plane(i, j)) {
-            return Some(value);
-        }
-        self.searched_plane(i, j)
-    }
-
-    /// The value at three coordinates, if the array is of rank 3 and has them.
-    #[inline]
-    pub fn get_space(&self, i: i64, j: i64, k: i64) -> Option<T>
-        ensures { result ≡ value_at (i ∷ j ∷ k ∷ []) self.now.elements }
-    {
-        if let Some(value) = self.quick(space(i, j, k)) {
-            return Some(value);
-        }
-        self.searched_space(i, j, k)
-    }
-
-    /// Puts a value at one coordinate. False if the array hasn't got it, and then nothing is changed.
-    pub fn set_line(&mut self, i: i64, value: T) -> bool
-        ensures there { result ≡ is_some (value_at (i ∷ []) self.old.elements) }
-        ensures changes { self.new ≡ array_with (i ∷ []) value self.old }
-        ensures unchanged { result ≡ false → self.new ≡ self.old }
-    {
-        self.set(line(i), value)
-    }
-
-    /// Puts a value at two coordinates. False if the array hasn't got them, and then nothing is changed.
-    pub fn set_plane(&mut self, i: i64, j: i64, value: T) -> bool
-        ensures there { result ≡ is_some (value_at (i ∷ j ∷ []) self.old.elements) }
-        ensures changes { self.new ≡ array_with (i ∷ j ∷ []) value self.old }
-        ensures unchanged { result ≡ false → self.new ≡ self.old }
-    {
-        self.set(plane(i, j), value)
-    }
-
-    /// Puts a value at three coordinates. False if the array hasn't got them, and then nothing is changed.
-    pub fn set_space(&mut self, i: i64, j: i64, k: i64, value: T) -> bool
-        ensures there { result ≡ is_some (value_at (i ∷ j ∷ k ∷ []) self.old.elements) }
-        ensures changes { self.new ≡ array_with (i ∷ j ∷ k ∷ []) value self.old }
-        ensures unchanged { result ≡ false → self.new ≡ self.old }
-    {
-        self.set(space(i, j, k), value)
     }
 }
 
-// The same by a search. They stand apart, with plain numbers, so that no index is made for the ones above.
-impl<T: Copy> DArray<T> {
-    #[inline(never)]
-    fn searched_line(&self, i: i64) -> Option<T>
-        ensures { result ≡ value_at (i ∷ []) self.now.elements }
-    {
-        self.get(line(i))
+/// An index that is looked for in the domain of a part, whatever its strides are.
+#[derive(Clone, Copy)]
+pub(crate) struct Strided(pub(crate) Index);
+
+impl Coordinates for Strided {
+    ghost tuple = { λ c. c.0 };
+
+    fn index(&self) -> Index {
+        self.0
     }
 
-    #[inline(never)]
-    fn searched_plane(&self, i: i64, j: i64) -> Option<T>
-        ensures { result ≡ value_at (i ∷ j ∷ []) self.now.elements }
-    {
-        self.get(plane(i, j))
+    #[inline(always)]
+    fn seat(&self, seats: &Seats) -> usize {
+        seats.guess(self.0)
     }
 
-    #[inline(never)]
-    fn searched_space(&self, i: i64, j: i64, k: i64) -> Option<T>
-        ensures { result ≡ value_at (i ∷ j ∷ k ∷ []) self.now.elements }
-    {
-        self.get(space(i, j, k))
+    #[inline(always)]
+    fn place(&self, parts: &[Domain], _: &Spans) -> Option<usize> {
+        place_alone(parts, self.0)
     }
 }
 
-impl<T: Copy> Piece<T> {
-    /// The value at one coordinate, if the piece is of rank 1 and has it.
-    pub fn get_line(&self, i: i64) -> Option<T>
-        ensures { result ≡ value_at (i ∷ []) self.now.elements }
-    {
-        self.get(line(i))
+/// One coordinate.
+#[derive(Clone, Copy)]
+pub(crate) struct OnLine(pub(crate) i64);
+
+impl Coordinates for OnLine {
+    ghost use Rattle.std.specs.Prelude.{[], ◌∷◌};
+
+    ghost tuple = { λ c. c.0 ∷ [] };
+
+    fn index(&self) -> Index {
+        line(self.0)
     }
 
-    /// The value at two coordinates, if the piece is of rank 2 and has them.
-    pub fn get_plane(&self, i: i64, j: i64) -> Option<T>
-        ensures { result ≡ value_at (i ∷ j ∷ []) self.now.elements }
-    {
-        self.get(plane(i, j))
+    #[inline(always)]
+    fn seat(&self, seats: &Seats) -> usize {
+        seats.of_line(self.0)
     }
 
-    /// The value at three coordinates, if the piece is of rank 3 and has them.
-    pub fn get_space(&self, i: i64, j: i64, k: i64) -> Option<T>
-        ensures { result ≡ value_at (i ∷ j ∷ k ∷ []) self.now.elements }
-    {
-        self.get(space(i, j, k))
+    #[inline(always)]
+    fn place(&self, _: &[Domain], spans: &Spans) -> Option<usize> {
+        spans.line.offset(self.0)
+    }
+}
+
+/// Two coordinates.
+#[derive(Clone, Copy)]
+pub(crate) struct OnPlane(pub(crate) i64, pub(crate) i64);
+
+impl Coordinates for OnPlane {
+    ghost use Rattle.std.specs.Prelude.{[], ◌∷◌};
+
+    ghost tuple = { λ c. c.0 ∷ c.1 ∷ [] };
+
+    fn index(&self) -> Index {
+        plane(self.0, self.1)
     }
 
-    /// Puts a value at one coordinate. False if the piece hasn't got it, and then nothing is changed.
-    pub fn set_line(&mut self, i: i64, value: T) -> bool
-        ensures there { result ≡ is_some (value_at (i ∷ []) self.old.elements) }
-        ensures changes { self.new ≡ piece_with (i ∷ []) value self.old }
-        ensures unchanged { result ≡ false → self.new ≡ self.old }
-    {
-        self.set(line(i), value)
+    #[inline(always)]
+    fn seat(&self, seats: &Seats) -> usize {
+        seats.of_plane(self.0, self.1)
     }
 
-    /// Puts a value at two coordinates. False if the piece hasn't got them, and then nothing is changed.
-    pub fn set_plane(&mut self, i: i64, j: i64, value: T) -> bool
-        ensures there { result ≡ is_some (value_at (i ∷ j ∷ []) self.old.elements) }
-        ensures changes { self.new ≡ piece_with (i ∷ j ∷ []) value self.old }
-        ensures unchanged { result ≡ false → self.new ≡ self.old }
-    {
-        self.set(plane(i, j), value)
-    }
-
-    /// Puts a value at three coordinates. False if the piece hasn't got them, and then nothing is changed.
-    pub fn set_space(&mut self, i: i64, j: i64, k: i64, value: T) -> bool
-        ensures there { result ≡ is_some (value_at (i ∷ j ∷ k ∷ []) self.old.elements) }
-        ensures changes { self.new ≡ piece_with (i ∷ j ∷ k ∷ []) value self.old }
-        ensures unchanged { result ≡ false → self.new ≡ self.old }
-    {
-        self.set(space(i, j, k), value)
+    #[inline(always)]
+    fn place(&self, _: &[Domain], spans: &Spans) -> Option<usize> {
+        spans.grid.place(self.0, self.1)
     }
 }
 

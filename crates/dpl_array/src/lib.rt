@@ -4,6 +4,7 @@
 
 mod array;
 mod coordinates;
+mod elements;
 mod piece;
 mod piece_walk;
 mod pieces;
@@ -13,6 +14,8 @@ mod redomain;
 mod row;
 mod same;
 mod seats;
+mod span;
+mod spans;
 mod walk;
 mod window;
 

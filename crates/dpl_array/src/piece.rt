@@ -1,13 +1,15 @@
 // A piece of an array: the elements that one locale owns, in one dense vector.
 // An element is found by the search of the map in the domains of the part; a value at each place of their row.
 
-ghost use Rattle.std.specs.Prelude.{◌≡◌, ◌≤◌, ◌^◌, Some, false, is_some, IfOk, IfSome, length, replicate, slice_get};
+ghost use Rattle.std.specs.Prelude.{◌≡◌, ◌≤◌, ◌^◌, Some, true, false, is_some, IfOk, IfSome, length, replicate, slice_get};
 ghost use Rattle.dpl_domain.specs.Indices.{indices};
 ghost use Rattle.dpl_map.specs.Parts.{part};
 ghost use Rattle.dpl_array.specs.Elements.{value_at, filled, keys_of};
 ghost use Rattle.dpl_array.specs.Arrays.{IsPiece, piece_with};
 
-use crate::place::{each_once, place_alone, place_in, starts_of};
+use crate::coordinates::Coordinates;
+use crate::place::{each_once, place_in, starts_of};
+use crate::spans::Spans;
 use dpl_domain::{Domain, Index};
 use dpl_map::Map;
 use std::alloc::{AllocError, Global};
@@ -22,6 +24,7 @@ pub struct Piece<T> {
     locale: u32,
     pub(crate) parts: Vec<Domain>,
     starts: Vec<usize>,
+    pub(crate) spans: Spans,
     pub(crate) values: Vec<T>,
 }
 
@@ -32,10 +35,12 @@ impl<T> Model for Piece<T> {
 
     ghost use Rattle.std.specs.Prelude.{length};
     ghost use Rattle.dpl_array.specs.PieceFields.{piece_of, IsKept};
+    ghost use Rattle.dpl_array.specs.Rows.{row_of};
+    ghost use Rattle.dpl_array.specs.Spans.{AreSpansOf};
 
     ghost view = { piece_of };
 
-    ghost invariant = { λ p. IsKept p.domain p.map p.locale p.parts.items p.starts.items (length p.values.items) };
+    ghost invariant = { λ p. IsKept p.domain p.map p.locale p.parts.items p.starts.items (length p.values.items) × AreSpansOf (row_of p.parts.items) p.spans };
 }
 
 impl<T: Copy> Piece<T> {
@@ -55,6 +60,7 @@ impl<T: Copy> Piece<T> {
             return Err(AllocError);
         };
         let (starts, size) = starts_of(alloc, &parts)?;
+        let spans = Spans::of(&parts);
         let values = row(alloc, size, value)?;
         Ok(Piece {
             domain,
@@ -62,6 +68,7 @@ impl<T: Copy> Piece<T> {
             locale,
             parts,
             starts,
+            spans,
             values,
         })
     }
@@ -106,13 +113,29 @@ impl<T: Copy> Piece<T> {
         Some(self.values[place])
     }
 
-    // The value at an index of a piece whose part is one domain, if it has the index. It is short enough to stand in a loop.
+    // The value where its place is found without a search, if the piece has it. It is short enough to stand in a loop.
     #[inline(always)]
-    pub(crate) fn quick(&self, index: Index) -> Option<T>
-        ensures { IfSome result (λ v. value_at index self.now.elements ≡ Some v) }
+    pub(crate) fn quick<C: Coordinates>(&self, at: &C) -> Option<T>
+        ensures { IfSome result (λ v. value_at (C.tuple at.now) self.now.elements ≡ Some v) }
     {
-        let place = place_alone(&self.parts, index)?;
+        let place = at.place(&self.parts, &self.spans)?;
         Some(self.values[place])
+    }
+
+    // Puts a value where its place is found without a search, if the piece has it.
+    #[inline(always)]
+    pub(crate) fn quick_set<C: Coordinates>(&mut self, at: &C, value: T) -> bool
+        ensures there { result ≡ true → is_some (value_at (C.tuple at.now) self.old.elements) ≡ true }
+        ensures changes { result ≡ true → self.new ≡ piece_with (C.tuple at.now) value self.old }
+        ensures unchanged { result ≡ false → self.new ≡ self.old }
+    {
+        match at.place(&self.parts, &self.spans) {
+            None => false,
+            Some(place) => {
+                self.values[place] = value;
+                true
+            }
+        }
     }
 
     /// Puts a value at an index, if the piece has it. False if it hasn't, and then nothing is changed.

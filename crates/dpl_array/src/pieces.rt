@@ -8,6 +8,7 @@ ghost use Rattle.dpl_array.specs.Same.{texts_of};
 ghost use Rattle.dpl_array.specs.Arrays.{ArePieces, IsWhole, IsSmallArray, filled_array, held_at, piece_in, pieces_of, with_slot, written_at};
 
 use crate::Piece;
+use crate::coordinates::{Coordinates, Strided};
 use crate::same::same_domain;
 use crate::seats::Seats;
 use dpl_domain::{Domain, Index};
@@ -149,19 +150,19 @@ impl<T: Copy> Pieces<T> {
     pub(crate) fn get(&self, index: Index) -> Option<T>
         ensures { result ≡ held_at self.now index }
     {
-        if let Some(value) = self.guessed(index) {
+        if let Some(value) = self.guessed(&Strided(index)) {
             return Some(value);
         }
         self.searched(index)
     }
 
-    // What the piece that stands where the owner's seems to stand holds at an index.
+    // What the piece that stands where the owner's seems to stand holds, if it is found without a search.
     #[inline(always)]
-    pub(crate) fn guessed(&self, index: Index) -> Option<T>
-        ensures { IfSome result (λ v. held_at self.now index ≡ Some v) }
+    pub(crate) fn guessed<C: Coordinates>(&self, at: &C) -> Option<T>
+        ensures { IfSome result (λ v. held_at self.now (C.tuple at.now) ≡ Some v) }
     {
-        let seat = self.seats.guess(index);
-        self.held.get(seat)?.as_ref()?.quick(index)
+        let seat = at.seat(&self.seats);
+        self.held.get(seat)?.as_ref()?.quick(at)
     }
 
     // What the piece of the owner holds at an index.
@@ -172,31 +173,45 @@ impl<T: Copy> Pieces<T> {
         self.held[owner].as_ref()?.get(index)
     }
 
-    // Puts a value at an index, if the pieces have it.
-    pub(crate) fn set(&mut self, index: Index, value: T) -> bool
+    // Puts a value, if the pieces have the index.
+    #[inline(always)]
+    pub(crate) fn set<C: Coordinates>(&mut self, at: &C, value: T) -> bool
+        ensures there { result ≡ is_some (held_at self.old (C.tuple at.now)) }
+        ensures changes { self.new ≡ written_at (C.tuple at.now) value self.old }
+    {
+        if self.set_guessed(at, value) {
+            return true;
+        }
+        self.set_anywhere(at.index(), value)
+    }
+
+    // The same by a search.
+    #[inline(never)]
+    fn set_anywhere(&mut self, index: Index, value: T) -> bool
         ensures there { result ≡ is_some (held_at self.old index) }
         ensures changes { self.new ≡ written_at index value self.old }
     {
-        if self.set_guessed(index, value) {
+        if self.set_guessed(&Strided(index), value) {
             return true;
         }
         self.set_searched(index, value)
     }
 
-    // Puts a value at an index into the piece that stands where the owner's seems to stand, if it has the index.
-    fn set_guessed(&mut self, index: Index, value: T) -> bool
-        ensures there { result ≡ true → is_some (held_at self.old index) ≡ true }
-        ensures changes { result ≡ true → self.new ≡ written_at index value self.old }
+    // Puts a value into the piece that stands where the owner's seems to stand, if its place there is found without a search.
+    #[inline(always)]
+    fn set_guessed<C: Coordinates>(&mut self, at: &C, value: T) -> bool
+        ensures there { result ≡ true → is_some (held_at self.old (C.tuple at.now)) ≡ true }
+        ensures changes { result ≡ true → self.new ≡ written_at (C.tuple at.now) value self.old }
         ensures unchanged { result ≡ false → self.new ≡ self.old }
     {
-        let seat = self.seats.guess(index);
+        let seat = at.seat(&self.seats);
         if seat >= self.held.len() {
             return false;
         }
         let Some(piece) = &mut self.held[seat] else {
             return false;
         };
-        piece.set(index, value)
+        piece.quick_set(at, value)
     }
 
     // Puts a value at an index into the piece of the owner, if it has the index.

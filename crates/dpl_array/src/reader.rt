@@ -5,7 +5,7 @@ ghost use Rattle.std.specs.Prelude.{◌≡◌, ℕ, [], ◌∷◌, Some, IfSome}
 ghost use Rattle.dpl_array.specs.Arrays.{restriction};
 ghost use Rattle.dpl_array.specs.Elements.{value_at};
 
-use crate::coordinates::{line, plane, space};
+use crate::coordinates::{Strided, line, plane, space};
 use crate::window::{Line, Plane};
 use crate::{DArray, Piece};
 use dpl_domain::Index;
@@ -88,7 +88,7 @@ impl<'a, T: Copy> Reader<'a, T> {
     fn quick(&self, index: Index) -> Option<T>
         ensures { IfSome result (λ v. value_at index self.now.elements ≡ Some v) }
     {
-        self.piece?.quick(index)
+        self.piece?.quick(&Strided(index))
     }
 
     // Remembers the piece of an index's owner, and reads there.

@@ -71,13 +71,25 @@ impl Seats {
         }
     }
 
-    // The number of the locale that seems to own an index.
+    // The number of the locale that seems to own the index of one coordinate.
+    #[inline(always)]
+    pub(crate) fn of_line(&self, i: i64) -> usize {
+        self.inner.number(i)
+    }
+
+    // The same of two.
+    #[inline(always)]
+    pub(crate) fn of_plane(&self, i: i64, j: i64) -> usize {
+        self.inner.behind(self.middle.number(i), j)
+    }
+
+    // The same of an index.
     #[inline(always)]
     pub(crate) fn guess(&self, index: Index) -> usize {
         let (x, y, z) = index.numbers();
         match index.rank() {
-            1 => self.inner.number(z),
-            2 => self.inner.behind(self.middle.number(y), z),
+            1 => self.of_line(z),
+            2 => self.of_plane(y, z),
             _ => {
                 let row = self.middle.behind(self.outer.number(x), y);
                 self.inner.behind(row, z)

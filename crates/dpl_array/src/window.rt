@@ -1,21 +1,11 @@
 // What a reader sees of a piece by plain numbers: values at the integers of a line, or of the rows and columns of a plane.
-// A piece has one where its part is one domain of stride 1. Elsewhere a window is empty, and the piece itself is asked.
+// Where a piece's part isn't one domain of stride 1, a window is empty, and the piece itself is asked.
 
-ghost use Rattle.std.specs.Prelude.{◌≡◌, ◌≤◌, ◌<◌, ◌*◌, ◌^◌, ◌+ℤ◌, ◌≤ℤ◌, pos, [], ◌∷◌, IfSome, length};
-ghost use Rattle.dpl_range.specs.Range.{members_of};
-ghost use Rattle.dpl_array.specs.Windows.{IsLineOf, IsOnLine, IsOnPlane, IsPlaneOf, IsSpanOf};
+ghost use Rattle.std.specs.Prelude.{◌≡◌, ◌≤◌, ◌*◌, IfSome, length};
+ghost use Rattle.dpl_array.specs.Windows.{IsLineOf, IsOnLine, IsOnPlane, IsPlaneOf};
 
 use crate::Piece;
-use dpl_domain::Domain;
-use dpl_range::Range;
-
-/// So many integers from a low one on.
-#[derive(Clone, Copy)]
-pub(crate) struct Span {
-    low: i64,
-    size: usize,
-    ghost within: { (low +ℤ pos size) ≤ℤ pos (2 ^ 63) },
-}
+use crate::span::{Grid, Span};
 
 /// A value at each integer of a span.
 #[derive(Drop)]
@@ -29,44 +19,8 @@ pub(crate) struct Line<'a, T> {
 #[derive(Drop)]
 pub(crate) struct Plane<'a, T> {
     values: &'a [T],
-    rows: Span,
-    columns: Span,
-    ghost long: { rows.size * columns.size ≤ length values.now },
-}
-
-impl Span {
-    // No integers.
-    fn none() -> Span
-        ensures { result.size ≡ 0 }
-    {
-        Span { low: 0, size: 0 }
-    }
-
-    // The members of a range whose stride is 1, and no integers where it is another.
-    fn of(range: &Range) -> Span
-        ensures { IsSpanOf (members_of range.now) result.low result.size }
-    {
-        if range.stride() != 1 {
-            return Span::none();
-        }
-        Span {
-            low: range.low_bound(),
-            size: range.size() as usize,
-        }
-    }
-
-    // How far an integer lies behind the low one, if it is one of them.
-    #[inline(always)]
-    fn offset(&self, i: i64) -> Option<usize>
-        ensures { IfSome result (λ k. (k < self.now.size) × (i ≡ self.now.low +ℤ pos k)) }
-    {
-        let offset = i.wrapping_sub(self.low).cast_unsigned() as usize;
-        if offset < self.size {
-            Some(offset)
-        } else {
-            None
-        }
-    }
+    grid: Grid,
+    ghost long: { grid.rows.size * grid.columns.size ≤ length values.now },
 }
 
 impl<'a, T: Copy> Line<'a, T> {
@@ -93,23 +47,21 @@ impl<'a, T: Copy> Line<'a, T> {
 impl<'a, T: Copy> Plane<'a, T> {
     /// No values.
     pub(crate) fn none() -> Plane<'a, T>
-        ensures { result.rows.size ≡ 0 }
+        ensures { result.grid.rows.size ≡ 0 }
     {
         Plane {
             values: &[],
-            rows: Span::none(),
-            columns: Span::none(),
+            grid: Grid::none(),
         }
     }
 
     /// The value at two integers, if there is one.
     #[inline(always)]
     pub(crate) fn get(&self, i: i64, j: i64) -> Option<T>
-        ensures { IfSome result (λ v. IsOnPlane self.now.values.now self.now.rows.low self.now.rows.size self.now.columns.low self.now.columns.size i j v) }
+        ensures { IfSome result (λ v. IsOnPlane self.now.values.now self.now.grid.rows.low self.now.grid.rows.size self.now.grid.columns.low self.now.grid.columns.size i j v) }
     {
-        let row = self.rows.offset(i)?;
-        let column = self.columns.offset(j)?;
-        Some(self.values[row * self.columns.size + column])
+        let place = self.grid.place(i, j)?;
+        Some(self.values[place])
     }
 }
 
@@ -118,41 +70,19 @@ impl<T: Copy> Piece<T> {
     pub(crate) fn line(&self) -> Line<'_, T>
         ensures { IsLineOf self.now.elements result.values.now result.span.low result.span.size }
     {
-        let Some(part) = alone(&self.parts, 1) else {
-            return Line::none();
-        };
-        let (_, _, inner) = part.ranges();
         Line {
             values: &self.values,
-            span: Span::of(&inner),
+            span: self.spans.line,
         }
     }
 
     /// The values of the piece as a plane, where it is of rank 2.
     pub(crate) fn plane(&self) -> Plane<'_, T>
-        ensures { IsPlaneOf self.now.elements result.values.now result.rows.low result.rows.size result.columns.low result.columns.size }
+        ensures { IsPlaneOf self.now.elements result.values.now result.grid.rows.low result.grid.rows.size result.grid.columns.low result.grid.columns.size }
     {
-        let Some(part) = alone(&self.parts, 2) else {
-            return Plane::none();
-        };
-        let (_, middle, inner) = part.ranges();
         Plane {
             values: &self.values,
-            rows: Span::of(&middle),
-            columns: Span::of(&inner),
+            grid: self.spans.grid,
         }
     }
-}
-
-// The one domain of a part, where it is one and of a given rank.
-fn alone(parts: &[Domain], rank: u32) -> Option<&Domain>
-    ensures { IfSome result (λ d. (parts.now ≡ d.now ∷ []) × (length d.now ≡ rank)) }
-{
-    let [part] = parts else {
-        return None;
-    };
-    if part.rank() != rank {
-        return None;
-    }
-    Some(part)
 }

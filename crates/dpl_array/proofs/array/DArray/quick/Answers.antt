@@ -9,6 +9,6 @@ use Rattle.dpl_array.proofs.array.DArray.quick.Goals as goal
 pub returns : goal.returns
 returns g c = by c.guessed.result c.guessed.ensures
   where
-    by : (o : Option g.row.T.Denot) → IfSome o (λ v. held_at c.self.inside.pieces c.args.index ≡ Some v) → IfSome o (λ v. value_at c.args.index c.args.self.now.elements ≡ Some v)
+    by : (o : Option g.row.T.Denot) → IfSome o (λ v. held_at c.self.inside.pieces (g.C.Coordinates.tuple c.args.at.now) ≡ Some v) → IfSome o (λ v. value_at (g.C.Coordinates.tuple c.args.at.now) c.args.self.now.elements ≡ Some v)
     by None held = tt
-    by (Some v) held = ap (λ a. value_at c.args.index a.elements) (sym c.self.view_is) ∙ union-at c.self.inside.pieces c.self.invariant.1 c.args.index ∙ held
+    by (Some v) held = ap (λ a. value_at (g.C.Coordinates.tuple c.args.at.now) a.elements) (sym c.self.view_is) ∙ union-at c.self.inside.pieces c.self.invariant.1 (g.C.Coordinates.tuple c.args.at.now) ∙ held

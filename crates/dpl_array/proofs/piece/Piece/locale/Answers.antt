@@ -8,4 +8,4 @@ use Rattle.dpl_array.proofs.piece.Piece.locale.Goals as goal
 pub returns-clause-over : goal.returns-clause-over
 returns-clause-over g c =
     let p = c.self.inside in
-    subst IsPiece c.self.view_is (kept-over p.domain p.map p.locale p.parts.items p.starts.items p.values.items c.self.invariant)
+    subst IsPiece c.self.view_is (kept-over p.domain p.map p.locale p.parts.items p.starts.items p.values.items c.self.invariant.0)

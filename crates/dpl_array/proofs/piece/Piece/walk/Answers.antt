@@ -30,18 +30,18 @@ all-of g c =
           ∙ walk-some values parts w.in-Some.first.now (ap (λ ds. slice_get ds 0) (sym c.deref.ensures.value) ∙ sym w.in-Some.ensures.value)
       | in-None w ↦
           ap (λ i. zip (i.0 ++ row_of (drop i.1 parts)) values) w.indices-is
-          ∙ walk-none values parts w.cursor-in-None.result (no-first parts (ap (λ ds. slice_get ds 0) (sym c.deref.ensures.value) ∙ sym w.in-None.ensures.value)) c.self.invariant.long
+          ∙ walk-none values parts w.cursor-in-None.result (no-first parts (ap (λ ds. slice_get ds 0) (sym c.deref.ensures.value) ∙ sym w.in-None.ensures.value)) c.self.invariant.0.long
     ]
 
 pub returns-clause-walk : goal.returns-clause-walk
 returns-clause-walk g c =
     let p = c.self.inside in
     let start = zip (c.match-first.indices.0 ++ row_of (drop c.match-first.indices.1 c.deref-2.result.now)) c.deref-3.result.now in
-    let over : IsWalkOf (piece_of p) (zip (row_of p.parts.items) p.values.items) = (p.parts.items, c.self.invariant.rows, c.self.invariant.cut, kept-row p.domain p.map p.locale p.parts.items p.starts.items p.values.items c.self.invariant) in
+    let over : IsWalkOf (piece_of p) (zip (row_of p.parts.items) p.values.items) = (p.parts.items, c.self.invariant.0.rows, c.self.invariant.0.cut, kept-row p.domain p.map p.locale p.parts.items p.starts.items p.values.items c.self.invariant.0) in
     subst (λ q. IsWalkOf q start) c.self.view_is (subst (IsWalkOf (piece_of p)) (sym (all-of g c)) over)
 
 pub returns-clause-single : goal.returns-clause-single
 returns-clause-single g c = λ single.
     let p = c.self.inside in
-    let few = c.self.invariant.one (subst (λ q. AreSingle q.map) (sym c.self.view_is) single) in
-    all-of g c ∙ kept-one p.domain p.map p.locale p.parts.items p.starts.items p.values.items c.self.invariant few ∙ ap (λ q. q.elements) c.self.view_is
+    let few = c.self.invariant.0.one (subst (λ q. AreSingle q.map) (sym c.self.view_is) single) in
+    all-of g c ∙ kept-one p.domain p.map p.locale p.parts.items p.starts.items p.values.items c.self.invariant.0 few ∙ ap (λ q. q.elements) c.self.view_is

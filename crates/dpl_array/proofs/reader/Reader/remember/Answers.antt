@@ -12,5 +12,5 @@ invariant_of-self g c =
     let plane = c.plane-self-inside.result in (
       kept,
       remembered-line c.self.inside.array.now c.args.piece.now line.values.now line.span.low line.span.size kept line.long c.line-self-inside.ensures,
-      remembered-plane c.self.inside.array.now c.args.piece.now plane.values.now plane.rows.low plane.rows.size plane.columns.low plane.columns.size kept plane.long c.plane-self-inside.ensures,
+      remembered-plane c.self.inside.array.now c.args.piece.now plane.values.now plane.grid.rows.low plane.grid.rows.size plane.grid.columns.low plane.grid.columns.size kept plane.long c.plane-self-inside.ensures,
     )

@@ -4,7 +4,7 @@ use Rattle.std.proofs.Common.{◌≡◌, arith, pos, FitsSigned, w64, rules, ◌
 use Rattle.std.proofs.lemmas.Int.{ints, to_z-of_z}
 use Rattle.dpl_range.proofs.MemberLemmas.{length-members_limit}
 use Rattle.dpl_array.proofs.WindowLemmas.{unit-member}
-use Rattle.dpl_array.proofs.window.Span.of.Goals as goal
+use Rattle.dpl_array.proofs.span.Span.of.Goals as goal
 
 pub invariant_of-result : goal.invariant_of-result
 invariant_of-result c =
