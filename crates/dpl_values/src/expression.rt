@@ -39,6 +39,28 @@ pub(crate) fn operand(e: &IntExpr<'_>, frame: &Frame<'_>, turn: &mut Turn) -> Re
     }
 }
 
+/// A coordinate of an element: what a slot holds, and that more or less a number, at once; and else by a walk. The turn that
+/// a fault names is put into a place of the caller's.
+///
+/// # Errors
+/// The fault of a part.
+#[cycle(walk)]
+#[inline(always)]
+pub fn coordinate_value(e: &IntExpr<'_>, frame: &Frame<'_>, turn: &mut Turn) -> Result<i64, Alarm>
+    ensures { value_of frame.now.limits in_memory (int_view e.now) None frame.now.memory ≡ of_int (telling turn.new result) }
+{
+    match e {
+        IntExpr::Local(slot) => Ok(frame.number(*slot)),
+        IntExpr::Sum(IntExpr::Local(slot), IntExpr::Number(n)) => {
+            Ok(sum(frame.number(*slot), *n))
+        }
+        IntExpr::Difference(IntExpr::Local(slot), IntExpr::Number(n)) => {
+            Ok(difference(frame.number(*slot), *n))
+        }
+        _ => int_value(e, frame, turn),
+    }
+}
+
 /// The value of an int.
 ///
 /// # Errors
@@ -169,18 +191,18 @@ pub(crate) fn element(
 {
     match t {
         IndexExpr::Line(i) => {
-            let i = operand(i, frame, turn)?;
+            let i = coordinate_value(i, frame, turn)?;
             found(at, frame.element_line(slot, i), turn)
         }
         IndexExpr::Plane(i, j) => {
-            let i = operand(i, frame, turn)?;
-            let j = operand(j, frame, turn)?;
+            let i = coordinate_value(i, frame, turn)?;
+            let j = coordinate_value(j, frame, turn)?;
             found(at, frame.element_plane(slot, i, j), turn)
         }
         IndexExpr::Space(i, j, k) => {
-            let i = operand(i, frame, turn)?;
-            let j = operand(j, frame, turn)?;
-            let k = operand(k, frame, turn)?;
+            let i = coordinate_value(i, frame, turn)?;
+            let j = coordinate_value(j, frame, turn)?;
+            let k = coordinate_value(k, frame, turn)?;
             found(at, frame.element_space(slot, i, j, k), turn)
         }
         IndexExpr::Tuple(tuple) => found(at, frame.element(slot, frame.tuple(*tuple)), turn),

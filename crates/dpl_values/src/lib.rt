@@ -13,6 +13,7 @@ mod range;
 mod reduction;
 mod values;
 
+pub use expression::coordinate_value;
 pub use promoted::{int_domain, truth_domain};
 pub use values::{
     domain_value, index_value, int_value, literal, promoted_int_value, promoted_truth_value,

@@ -24,6 +24,7 @@ use dpl_nodes::{
 ///
 /// # Errors
 /// The fault of a part: `F2` at a division by zero, `F4` at an end of an empty range, `F1` at an array's name, `F5` at `reduce`.
+#[inline(always)]
 pub fn int_value(e: &IntExpr<'_>, frame: &Frame<'_>) -> Result<i64, Trap>
     ensures { value_of frame.now.limits in_memory (int_view e.now) None frame.now.memory ≡ of_int result }
 {
