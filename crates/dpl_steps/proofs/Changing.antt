@@ -25,7 +25,7 @@ use Rattle.dpl_steps.specs.declared.halt.Halt.{Halt}
 use Rattle.dpl_steps.specs.declared.halt.Halt.TheVariants.{Fault as FaultHalt, Memory as OutOfMemory}
 use Rattle.dpl_steps.specs.Runs.{RunEnds}
 use Rattle.dpl_steps.specs.Tells.{TellsSame}
-use Rattle.dpl_steps.specs.Changes.{declared_memory, given_memory, assigned_memory, int_memory, truth_memory, memory_after, ends_as}
+use Rattle.dpl_steps.specs.Changes.{declared_memory, given_memory, assigned_memory, int_changed_by, int_memory, truth_memory, memory_after, ends_as}
 
 -- a change that is told ends the run as the memory after it does
 pub told-ends : (r : Result (Unit {0}) Fault) (h : Result (Unit {0}) Halt) (s : Memory) (done : Deeds) (o : Outcome Memory) → TellsSame r h → o ≡ ends_as (memory_after r s) done → RunEnds h s done o
@@ -80,11 +80,15 @@ module _ (limits : Limits) where
       ∙ evaluated-item item (λ v. with_value (tested_divisor (assign_divides op) at v) (λ w s done. Done (in_memory.update x op w s) done)) s done e
       ∙ assigned-value x op at s done (item_of limits in_memory item None s)
 
+  given-int : (slot : ℕ) (item : ItemTree Variable) (s : Memory) (given : Option Value) → given_memory limits (int_leaf slot) item given s ≡ int_changed_by limits given deeds.Config slot item s
+  given-int slot item s None = refl
+  given-int slot item s (Some v) = refl
+
   -- what is done to an int
   pub exec-int : (d : IntDeed) (slot : ℕ) (item : ItemTree Variable) (s : Memory) (done : Deeds) → item_read item ≡ None
       → exec limits in_memory (int_changed d slot item) s done ≡ ends_as (int_memory limits d slot item s) done
   exec-int deeds.Declare slot item s done e = exec-declared (int_leaf slot) item s done e
-  exec-int deeds.Config slot item s done e = exec-config (int_leaf slot) item s done e
+  exec-int deeds.Config slot item s done e = exec-config (int_leaf slot) item s done e ∙ ap (λ r. ends_as r done) (given-int slot item s (in_memory.given (int_leaf slot) s))
   exec-int deeds.Set slot item s done e = exec-assigned IntLeaf slot Set nowhere item s done e
   exec-int deeds.Add slot item s done e = exec-assigned IntLeaf slot SetAdd nowhere item s done e
   exec-int deeds.Subtract slot item s done e = exec-assigned IntLeaf slot SetSubtract nowhere item s done e

@@ -18,6 +18,34 @@ use Rattle.dpl_nodes.specs.declared.step.IntDeed.TheVariants as deeds
 use Rattle.dpl_nodes.specs.declared.step.TruthDeed.{TruthDeed}
 use Rattle.dpl_nodes.specs.declared.step.TruthDeed.TheVariants as deed
 
+-- what the command line gives to an int, where it is declared so
+abbrev pub int_given : IntDeed → ℕ → Memory → Option Value
+int_given deeds.Declare slot s = None
+int_given deeds.Config slot s = in_memory.given (int_leaf slot) s
+int_given deeds.Set slot s = None
+int_given deeds.Add slot s = None
+int_given deeds.Subtract slot s = None
+int_given deeds.Multiply slot s = None
+int_given (deeds.Divide at) slot s = None
+int_given (deeds.Remainder at) slot s = None
+int_given deeds.Reduce slot s = None
+
+-- a variable after an operator and the value of its right side
+abbrev pub updated_by : Variable → Assign → Place → Value → Memory → Result Memory Fault
+updated_by x op at v s = with_ok (tested_divisor (assign_divides op) at v) (λ w. Ok (in_memory.update x op w s))
+
+-- what the value of its right side does to an int
+abbrev pub int_put : IntDeed → ℕ → Value → Memory → Result Memory Fault
+int_put deeds.Declare slot v s = Ok (in_memory.declare (int_leaf slot) (Plain v) s)
+int_put deeds.Config slot v s = Ok (in_memory.declare (int_leaf slot) (Plain v) s)
+int_put deeds.Set slot v s = updated_by (int_leaf slot) Set nowhere v s
+int_put deeds.Add slot v s = updated_by (int_leaf slot) SetAdd nowhere v s
+int_put deeds.Subtract slot v s = updated_by (int_leaf slot) SetSubtract nowhere v s
+int_put deeds.Multiply slot v s = updated_by (int_leaf slot) SetMultiply nowhere v s
+int_put (deeds.Divide at) slot v s = updated_by (int_leaf slot) SetDivide at.now v s
+int_put (deeds.Remainder at) slot v s = updated_by (int_leaf slot) SetRemainder at.now v s
+int_put deeds.Reduce slot v s = updated_by (int_leaf slot) SetReduce nowhere v s
+
 module _ (limits : Limits) where
   -- the memory after a declaration
   abbrev pub declared_memory : Variable → ItemTree Variable → Memory → Result Memory Fault
@@ -31,20 +59,15 @@ module _ (limits : Limits) where
   -- and after an assignment
   abbrev pub assigned_memory : Variable → Assign → Place → ItemTree Variable → Memory → Result Memory Fault
   assigned_memory x op at item s =
-      with_ok (item_of limits in_memory item None s)
-      (λ v. with_ok (tested_divisor (assign_divides op) at v) (λ w. Ok (in_memory.update x op w s)))
+      with_ok (item_of limits in_memory item None s) (λ v. updated_by x op at v s)
 
-  -- and after what is done to an int
+  -- and after what is done to an int: what the command line gives is taken before the right side is looked at
+  abbrev pub int_changed_by : Option Value → IntDeed → ℕ → ItemTree Variable → Memory → Result Memory Fault
+  int_changed_by None d slot item s = with_ok (item_of limits in_memory item None s) (λ v. int_put d slot v s)
+  int_changed_by (Some v) d slot item s = Ok (in_memory.declare (int_leaf slot) (Plain v) s)
+
   abbrev pub int_memory : IntDeed → ℕ → ItemTree Variable → Memory → Result Memory Fault
-  int_memory deeds.Declare slot item s = declared_memory (int_leaf slot) item s
-  int_memory deeds.Config slot item s = given_memory (int_leaf slot) item (in_memory.given (int_leaf slot) s) s
-  int_memory deeds.Set slot item s = assigned_memory (int_leaf slot) Set nowhere item s
-  int_memory deeds.Add slot item s = assigned_memory (int_leaf slot) SetAdd nowhere item s
-  int_memory deeds.Subtract slot item s = assigned_memory (int_leaf slot) SetSubtract nowhere item s
-  int_memory deeds.Multiply slot item s = assigned_memory (int_leaf slot) SetMultiply nowhere item s
-  int_memory (deeds.Divide at) slot item s = assigned_memory (int_leaf slot) SetDivide at.now item s
-  int_memory (deeds.Remainder at) slot item s = assigned_memory (int_leaf slot) SetRemainder at.now item s
-  int_memory deeds.Reduce slot item s = assigned_memory (int_leaf slot) SetReduce nowhere item s
+  int_memory d slot item s = int_changed_by (int_given d slot s) d slot item s
 
   -- and after what is done to a truth value
   abbrev pub truth_memory : TruthDeed → ℕ → ItemTree Variable → Memory → Result Memory Fault

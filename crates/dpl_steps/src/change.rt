@@ -1,28 +1,18 @@
 // Declarations and assignments: a right side is evaluated, and its value goes into a slot.
 // They print nothing and take no memory.
 
-ghost use Rattle.std.specs.Prelude.{◌≡◌};
+ghost use Rattle.std.specs.Prelude.{◌≡◌, Ok, option_map};
+ghost use Rattle.dpl_language.specs.Values.{Int};
 ghost use Rattle.dpl_lowered.specs.Shapes.{nowhere};
-ghost use Rattle.dpl_language.specs.Tree.{One, SetAdd, SetSubtract, SetMultiply, SetDivide, SetRemainder, SetReduce};
+ghost use Rattle.dpl_language.specs.Tree.{One, SetDivide, SetRemainder, SetReduce};
 ghost use Rattle.dpl_memory.specs.Memory.{int_leaf, truth_leaf, range_leaf, in_memory};
 ghost use Rattle.dpl_nodes.specs.Typed.{int_view, truth_view, range_item};
-ghost use Rattle.dpl_steps.specs.Changes.{declared_memory, given_memory, assigned_memory, int_memory, truth_memory, memory_after};
+ghost use Rattle.dpl_steps.specs.Changes.{declared_memory, given_memory, assigned_memory, int_given, int_put, int_memory, truth_memory, updated_by, memory_after};
 
 use crate::reduce::{reduced_int, reduced_truth};
 use dpl_nodes::{BoolExpr, FaultCode, Frame, IntDeed, IntExpr, RangeExpr, Spot, Trap, TruthDeed};
 use dpl_values::number::{difference, product, quotient, remainder, sum};
 use dpl_values::{int_value, range_value, truth_value};
-
-// An int's declaration, or an assignment to it.
-#[inline(always)]
-fn declare_int(slot: usize, e: &IntExpr<'_>, frame: &mut Frame<'_>) -> Result<(), Trap>
-    ensures memory { declared_memory frame.old.limits (int_leaf slot) (One (int_view e.now)) frame.old.memory ≡ memory_after result frame.new.memory }
-    ensures limits { frame.new.limits ≡ frame.old.limits }
-{
-    let value = int_value(e, frame)?;
-    frame.set_number(slot, value);
-    Ok(())
-}
 
 // A truth value's.
 fn declare_truth(slot: usize, e: &BoolExpr<'_>, frame: &mut Frame<'_>) -> Result<(), Trap>
@@ -35,7 +25,7 @@ fn declare_truth(slot: usize, e: &BoolExpr<'_>, frame: &mut Frame<'_>) -> Result
 }
 
 /// A range's.
-#[inline(never)]
+#[inline(always)]
 pub(crate) fn declare_range(
     slot: usize,
     e: &RangeExpr<'_>,
@@ -49,22 +39,7 @@ pub(crate) fn declare_range(
     Ok(())
 }
 
-// A `config const` that is an int.
-#[inline(never)]
-fn config_int(slot: usize, e: &IntExpr<'_>, frame: &mut Frame<'_>) -> Result<(), Trap>
-    ensures memory { given_memory frame.old.limits (int_leaf slot) (One (int_view e.now)) (in_memory.given (int_leaf slot) frame.old.memory) frame.old.memory ≡ memory_after result frame.new.memory }
-    ensures limits { frame.new.limits ≡ frame.old.limits }
-{
-    match frame.given(slot) {
-        None => declare_int(slot, e, frame),
-        Some(number) => {
-            frame.set_number(slot, number);
-            Ok(())
-        }
-    }
-}
-
-// One that is a truth value.
+// A `config const` that is a truth value.
 fn config_truth(slot: usize, e: &BoolExpr<'_>, frame: &mut Frame<'_>) -> Result<(), Trap>
     ensures memory { given_memory frame.old.limits (truth_leaf slot) (One (truth_view e.now)) (in_memory.given (truth_leaf slot) frame.old.memory) frame.old.memory ≡ memory_after result frame.new.memory }
     ensures limits { frame.new.limits ≡ frame.old.limits }
@@ -78,46 +53,29 @@ fn config_truth(slot: usize, e: &BoolExpr<'_>, frame: &mut Frame<'_>) -> Result<
     }
 }
 
-// `+=`
+// What the command line gives to an int, if it is declared so.
 #[inline(always)]
-fn add(slot: usize, e: &IntExpr<'_>, frame: &mut Frame<'_>) -> Result<(), Trap>
-    ensures memory { assigned_memory frame.old.limits (int_leaf slot) SetAdd nowhere (One (int_view e.now)) frame.old.memory ≡ memory_after result frame.new.memory }
-    ensures limits { frame.new.limits ≡ frame.old.limits }
+fn given(deed: &IntDeed<'_>, slot: usize, frame: &Frame<'_>) -> Option<i64>
+    ensures { option_map Int result ≡ int_given deed.now slot frame.now.memory }
 {
-    let value = int_value(e, frame)?;
-    frame.set_number(slot, sum(frame.number(slot), value));
-    Ok(())
-}
-
-// `-=`
-#[inline(always)]
-fn subtract(slot: usize, e: &IntExpr<'_>, frame: &mut Frame<'_>) -> Result<(), Trap>
-    ensures memory { assigned_memory frame.old.limits (int_leaf slot) SetSubtract nowhere (One (int_view e.now)) frame.old.memory ≡ memory_after result frame.new.memory }
-    ensures limits { frame.new.limits ≡ frame.old.limits }
-{
-    let value = int_value(e, frame)?;
-    frame.set_number(slot, difference(frame.number(slot), value));
-    Ok(())
-}
-
-// `*=`
-#[inline(always)]
-fn multiply(slot: usize, e: &IntExpr<'_>, frame: &mut Frame<'_>) -> Result<(), Trap>
-    ensures memory { assigned_memory frame.old.limits (int_leaf slot) SetMultiply nowhere (One (int_view e.now)) frame.old.memory ≡ memory_after result frame.new.memory }
-    ensures limits { frame.new.limits ≡ frame.old.limits }
-{
-    let value = int_value(e, frame)?;
-    frame.set_number(slot, product(frame.number(slot), value));
-    Ok(())
+    match deed {
+        IntDeed::Config => frame.given(slot),
+        IntDeed::Declare => None,
+        IntDeed::Set => None,
+        IntDeed::Add => None,
+        IntDeed::Subtract => None,
+        IntDeed::Multiply => None,
+        IntDeed::Divide(_) => None,
+        IntDeed::Remainder(_) => None,
+        IntDeed::Reduce => None,
+    }
 }
 
 // `/=`
-#[inline(never)]
-fn divide(slot: usize, at: &Spot, e: &IntExpr<'_>, frame: &mut Frame<'_>) -> Result<(), Trap>
-    ensures memory { assigned_memory frame.old.limits (int_leaf slot) SetDivide at.now (One (int_view e.now)) frame.old.memory ≡ memory_after result frame.new.memory }
+fn divide(slot: usize, at: &Spot, value: i64, frame: &mut Frame<'_>) -> Result<(), Trap>
+    ensures memory { updated_by (int_leaf slot) SetDivide at.now (Int value) frame.old.memory ≡ memory_after result frame.new.memory }
     ensures limits { frame.new.limits ≡ frame.old.limits }
 {
-    let value = int_value(e, frame)?;
     if value == 0 {
         return Err(Trap::new(FaultCode::ZeroDivisor, *at));
     }
@@ -126,12 +84,10 @@ fn divide(slot: usize, at: &Spot, e: &IntExpr<'_>, frame: &mut Frame<'_>) -> Res
 }
 
 // `%=`
-#[inline(never)]
-fn rest(slot: usize, at: &Spot, e: &IntExpr<'_>, frame: &mut Frame<'_>) -> Result<(), Trap>
-    ensures memory { assigned_memory frame.old.limits (int_leaf slot) SetRemainder at.now (One (int_view e.now)) frame.old.memory ≡ memory_after result frame.new.memory }
+fn rest(slot: usize, at: &Spot, value: i64, frame: &mut Frame<'_>) -> Result<(), Trap>
+    ensures memory { updated_by (int_leaf slot) SetRemainder at.now (Int value) frame.old.memory ≡ memory_after result frame.new.memory }
     ensures limits { frame.new.limits ≡ frame.old.limits }
 {
-    let value = int_value(e, frame)?;
     if value == 0 {
         return Err(Trap::new(FaultCode::ZeroDivisor, *at));
     }
@@ -139,15 +95,33 @@ fn rest(slot: usize, at: &Spot, e: &IntExpr<'_>, frame: &mut Frame<'_>) -> Resul
     Ok(())
 }
 
-// `reduce=` to an int
+// `reduce=`
 #[inline(never)]
-fn reduce_int(slot: usize, e: &IntExpr<'_>, frame: &mut Frame<'_>) -> Result<(), Trap>
-    ensures memory { assigned_memory frame.old.limits (int_leaf slot) SetReduce nowhere (One (int_view e.now)) frame.old.memory ≡ memory_after result frame.new.memory }
+fn reduce_int(slot: usize, value: i64, frame: &mut Frame<'_>)
+    ensures memory { updated_by (int_leaf slot) SetReduce nowhere (Int value) frame.old.memory ≡ Ok frame.new.memory }
     ensures limits { frame.new.limits ≡ frame.old.limits }
 {
-    let value = int_value(e, frame)?;
     let number = reduced_int(frame.operator(slot), frame.number(slot), value);
     frame.set_number(slot, number);
+}
+
+// A value goes into an int, or into what an operator makes of it.
+#[inline(always)]
+fn put(deed: &IntDeed<'_>, slot: usize, value: i64, frame: &mut Frame<'_>) -> Result<(), Trap>
+    ensures memory { int_put deed.now slot (Int value) frame.old.memory ≡ memory_after result frame.new.memory }
+    ensures limits { frame.new.limits ≡ frame.old.limits }
+{
+    match deed {
+        IntDeed::Declare => frame.set_number(slot, value),
+        IntDeed::Config => frame.set_number(slot, value),
+        IntDeed::Set => frame.set_number(slot, value),
+        IntDeed::Add => frame.set_number(slot, sum(frame.number(slot), value)),
+        IntDeed::Subtract => frame.set_number(slot, difference(frame.number(slot), value)),
+        IntDeed::Multiply => frame.set_number(slot, product(frame.number(slot), value)),
+        IntDeed::Divide(at) => return divide(slot, at, value, frame),
+        IntDeed::Remainder(at) => return rest(slot, at, value, frame),
+        IntDeed::Reduce => reduce_int(slot, value, frame),
+    }
     Ok(())
 }
 
@@ -162,7 +136,7 @@ fn reduce_truth(slot: usize, e: &BoolExpr<'_>, frame: &mut Frame<'_>) -> Result<
     Ok(())
 }
 
-/// What is done to an int.
+/// What is done to an int: its right side is evaluated in one place, whatever is done with the value.
 #[inline(always)]
 pub(crate) fn change_int(
     deed: &IntDeed<'_>,
@@ -173,21 +147,16 @@ pub(crate) fn change_int(
     ensures memory { int_memory frame.old.limits deed.now slot (One (int_view e.now)) frame.old.memory ≡ memory_after result frame.new.memory }
     ensures limits { frame.new.limits ≡ frame.old.limits }
 {
-    match deed {
-        IntDeed::Declare => declare_int(slot, e, frame),
-        IntDeed::Config => config_int(slot, e, frame),
-        IntDeed::Set => declare_int(slot, e, frame),
-        IntDeed::Add => add(slot, e, frame),
-        IntDeed::Subtract => subtract(slot, e, frame),
-        IntDeed::Multiply => multiply(slot, e, frame),
-        IntDeed::Divide(at) => divide(slot, at, e, frame),
-        IntDeed::Remainder(at) => rest(slot, at, e, frame),
-        IntDeed::Reduce => reduce_int(slot, e, frame),
+    if let Some(number) = given(deed, slot, frame) {
+        frame.set_number(slot, number);
+        return Ok(());
     }
+    let value = int_value(e, frame)?;
+    put(deed, slot, value, frame)
 }
 
 /// What is done to a truth value.
-#[inline(never)]
+#[inline(always)]
 pub(crate) fn change_truth(
     deed: TruthDeed,
     slot: usize,

@@ -21,7 +21,7 @@ use dpl_values::domain_value;
 const MOST_ELEMENTS: u64 = 16_777_216;
 
 /// A domain's declaration, with its initial value.
-#[inline(never)]
+#[inline(always)]
 pub(crate) fn declare_domain(
     slot: usize,
     e: &DomainExpr<'_>,

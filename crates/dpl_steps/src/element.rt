@@ -14,14 +14,17 @@ ghost use Rattle.dpl_lowered.specs.Shapes.{nowhere};
 ghost use Rattle.dpl_memory.specs.Memory.{in_memory};
 ghost use Rattle.dpl_tree.specs.Words.{assign_view};
 ghost use Rattle.dpl_nodes.specs.Typed.{int_view, truth_view, index_exprs};
+ghost use Rattle.dpl_nodes.specs.Faults.{telling};
 ghost use Rattle.dpl_nodes.specs.Steps.{array_leaf, element_set};
 ghost use Rattle.dpl_steps.specs.Changes.{memory_after, ends_as, signed, if_there, put_memory};
 
 use dpl_domain::Index;
-use dpl_nodes::{ArrayName, BoolExpr, FaultCode, Frame, IndexExpr, IntExpr, Spot, Trap};
+use dpl_nodes::{
+    Alarm, ArrayName, BoolExpr, FaultCode, Frame, IndexExpr, IntExpr, Spot, Trap, Turn,
+};
 use dpl_tree::Assign;
 use dpl_values::number::{difference, product, quotient, remainder, sum};
-use dpl_values::{index_value, int_value, truth_value};
+use dpl_values::{coordinate_value, index_value, int_value, truth_value};
 
 // Whether an operator divides.
 #[inline(always)]
@@ -149,7 +152,54 @@ pub(crate) fn change_truth(
     told(name, frame.put(name.slot, index, i64::from(value)))
 }
 
+// The same, for a caller that has a place for the turn of a fault.
+#[inline(always)]
+fn told_in(name: &ArrayName<'_>, there: bool, turn: &mut Turn) -> Result<(), Alarm>
+    ensures { telling turn.new result ≡ if_there name.now.at.now there }
+{
+    if there {
+        Ok(())
+    } else {
+        Err(Alarm::new(FaultCode::Outside, *name.at, turn))
+    }
+}
+
 // Puts a word at an index, whose coordinates are evaluated from left to right. No index is made of coordinates.
+#[inline(always)]
+fn put_word(
+    name: &ArrayName<'_>,
+    t: &IndexExpr<'_>,
+    word: i64,
+    frame: &mut Frame<'_>,
+    turn: &mut Turn,
+) -> Result<(), Alarm>
+    ensures ends { with_ok (values_of frame.old.limits in_memory (index_exprs t.now) frame.old.memory) (λ vs. put_memory name.now.at.now name.now.slot (index_of vs) word frame.old.memory) ≡ memory_after (telling turn.new result) frame.new.memory }
+    ensures limits { frame.new.limits ≡ frame.old.limits }
+{
+    match t {
+        IndexExpr::Line(i) => {
+            let i = coordinate_value(i, frame, turn)?;
+            told_in(name, frame.put_line(name.slot, i, word), turn)
+        }
+        IndexExpr::Plane(i, j) => {
+            let i = coordinate_value(i, frame, turn)?;
+            let j = coordinate_value(j, frame, turn)?;
+            told_in(name, frame.put_plane(name.slot, i, j, word), turn)
+        }
+        IndexExpr::Space(i, j, k) => {
+            let i = coordinate_value(i, frame, turn)?;
+            let j = coordinate_value(j, frame, turn)?;
+            let k = coordinate_value(k, frame, turn)?;
+            told_in(name, frame.put_space(name.slot, i, j, k, word), turn)
+        }
+        IndexExpr::Tuple(tuple) => {
+            let index = frame.tuple(*tuple);
+            told_in(name, frame.put(name.slot, index, word), turn)
+        }
+    }
+}
+
+// The same, whose fault has its turn.
 #[inline(always)]
 fn put_at(
     name: &ArrayName<'_>,
@@ -160,26 +210,10 @@ fn put_at(
     ensures ends { with_ok (values_of frame.old.limits in_memory (index_exprs t.now) frame.old.memory) (λ vs. put_memory name.now.at.now name.now.slot (index_of vs) word frame.old.memory) ≡ memory_after result frame.new.memory }
     ensures limits { frame.new.limits ≡ frame.old.limits }
 {
-    match t {
-        IndexExpr::Line(i) => {
-            let i = int_value(i, frame)?;
-            told(name, frame.put_line(name.slot, i, word))
-        }
-        IndexExpr::Plane(i, j) => {
-            let i = int_value(i, frame)?;
-            let j = int_value(j, frame)?;
-            told(name, frame.put_plane(name.slot, i, j, word))
-        }
-        IndexExpr::Space(i, j, k) => {
-            let i = int_value(i, frame)?;
-            let j = int_value(j, frame)?;
-            let k = int_value(k, frame)?;
-            told(name, frame.put_space(name.slot, i, j, k, word))
-        }
-        IndexExpr::Tuple(tuple) => {
-            let index = frame.tuple(*tuple);
-            told(name, frame.put(name.slot, index, word))
-        }
+    let mut turn = Turn::Absent;
+    match put_word(name, t, word, frame, &mut turn) {
+        Ok(()) => Ok(()),
+        Err(alarm) => Err(alarm.in_turn(&turn)),
     }
 }
 
@@ -187,7 +221,7 @@ fn put_at(
 ///
 /// # Errors
 /// The fault of a part; `F1` at the array's name; `F2` at the operator.
-#[inline(never)]
+#[inline(always)]
 pub(crate) fn set_element(
     name: &ArrayName<'_>,
     t: &IndexExpr<'_>,
@@ -211,7 +245,7 @@ pub(crate) fn set_element(
 ///
 /// # Errors
 /// The fault of a part; `F1` at the array's name.
-#[inline(never)]
+#[inline(always)]
 pub(crate) fn set_truth_element(
     name: &ArrayName<'_>,
     t: &IndexExpr<'_>,

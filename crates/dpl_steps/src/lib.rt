@@ -11,7 +11,8 @@ mod element;
 pub mod halt;
 mod print;
 mod reduce;
-pub mod statement;
+pub mod simple;
+mod statement;
 mod whole;
 
 pub use halt::Halt;

@@ -14,13 +14,13 @@ ghost use Rattle.dpl_nodes.specs.Faults.{of_range};
 ghost use Rattle.dpl_steps.specs.Runs.{having_printed, RunEnds};
 ghost use Rattle.dpl_steps.specs.Turns.{in_turn, turn_in_memory, named_in_memory, looped_over, forall_tree};
 
-use crate::change::{change_int, change_truth, declare_range};
+use crate::change::change_int;
 use crate::declare::declare_array;
-use crate::domain::{declare_domain, declare_empty, set_domain};
+use crate::domain::{declare_empty, set_domain};
 use crate::each::{for_each, forall_each};
-use crate::element::{set_element, set_truth_element};
 use crate::halt::{Halt, told};
 use crate::print::write;
+use crate::simple;
 use crate::whole::{set_array, set_truth_array};
 use dpl_nodes::{BoolExpr, Else, FaultCode, Frame, Intent, RangeExpr, RangeWord, Spot, Step, Trap};
 use dpl_range::Range;
@@ -65,20 +65,18 @@ fn statement<'t>(step: &Step<'t>, frame: &mut Frame<'t>, out: &mut Vec<u8>) -> R
     match step {
         Step::Nothing => Ok(()),
         Step::Int(deed, slot, e) => told(change_int(deed, *slot, e, frame)),
-        Step::DeclareRange(slot, e) => told(declare_range(*slot, e, frame)),
-        Step::SetRange(slot, e) => told(declare_range(*slot, e, frame)),
-        Step::Truth(deed, slot, e) => told(change_truth(*deed, *slot, e, frame)),
-        Step::DeclareDomain(slot, e) => told(declare_domain(*slot, e, frame)),
+        Step::DeclareRange(slot, e) => simple::range(*slot, e, frame),
+        Step::SetRange(slot, e) => simple::range(*slot, e, frame),
+        Step::Truth(deed, slot, e) => simple::truth(*deed, *slot, e, frame),
+        Step::DeclareDomain(slot, e) => simple::domain(*slot, e, frame),
         Step::DeclareEmpty(slot, rank) => {
             declare_empty(*slot, *rank, frame);
             Ok(())
         }
         Step::SetDomain(name, e) => set_domain(name, e, frame),
         Step::DeclareArray(declared) => declare_array(declared, frame),
-        Step::SetElement(name, t, op, sign, e) => {
-            told(set_element(name, t, *op, sign, e, frame))
-        }
-        Step::SetTruthElement(name, t, e) => told(set_truth_element(name, t, e, frame)),
+        Step::SetElement(name, t, op, sign, e) => simple::element(name, t, *op, sign, e, frame),
+        Step::SetTruthElement(name, t, e) => simple::truth_element(name, t, e, frame),
         Step::SetArray(name, op, sign, e) => set_array(name, *op, sign, e, frame),
         Step::SetTruthArray(name, sign, e) => set_truth_array(name, sign, e, frame),
         Step::Write {

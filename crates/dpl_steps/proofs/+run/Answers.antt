@@ -41,24 +41,27 @@ statement::statement-returns-in-DeclareRange-clause-ends t c done =
     let limits = c.args.frame.now.limits in
     let w = c.args.frame.now.memory in
     let d = having_printed c.args.out.now.items done in
-    told-ends c.declare_range.result c.told-in-DeclareRange.result c.declare_range.new.frame.memory d _ c.told-in-DeclareRange.ensures
-    (ap (λ s. exec limits in_memory (step_view s) w d) c.in-DeclareRange.is ∙ exec-declared limits (range_leaf c.in-DeclareRange.slot) (range_item c.in-DeclareRange.e.now) w d (item_read-range c.in-DeclareRange.e.now) ∙ ap (λ r. ends_as r d) c.declare_range.ensures.memory)
+    ends-alike c.range.result c.range.new.frame.memory d _ _
+    (ap (λ s. exec limits in_memory (step_view s) w d) c.in-DeclareRange.is ∙ exec-declared limits (range_leaf c.in-DeclareRange.slot) (range_item c.in-DeclareRange.e.now) w d (item_read-range c.in-DeclareRange.e.now))
+    (c.range.ensures.ends d)
 
 pub statement::statement-returns-in-SetRange-clause-ends : goal.statement::statement-returns-in-SetRange-clause-ends
 statement::statement-returns-in-SetRange-clause-ends t c done =
     let limits = c.args.frame.now.limits in
     let w = c.args.frame.now.memory in
     let d = having_printed c.args.out.now.items done in
-    told-ends c.declare_range-in-SetRange.result c.told-in-SetRange.result c.declare_range-in-SetRange.new.frame.memory d _ c.told-in-SetRange.ensures
-    (ap (λ s. exec limits in_memory (step_view s) w d) c.in-SetRange.is ∙ exec-assigned limits RangeLeaf c.in-SetRange.slot Set nowhere (range_item c.in-SetRange.e.now) w d (item_read-range c.in-SetRange.e.now) ∙ ap (λ r. ends_as r d) c.declare_range-in-SetRange.ensures.memory)
+    ends-alike c.range-in-SetRange.result c.range-in-SetRange.new.frame.memory d _ _
+    (ap (λ s. exec limits in_memory (step_view s) w d) c.in-SetRange.is ∙ exec-assigned limits RangeLeaf c.in-SetRange.slot Set nowhere (range_item c.in-SetRange.e.now) w d (item_read-range c.in-SetRange.e.now))
+    (c.range-in-SetRange.ensures.ends d)
 
 pub statement::statement-returns-in-Truth-clause-ends : goal.statement::statement-returns-in-Truth-clause-ends
 statement::statement-returns-in-Truth-clause-ends t c done =
     let limits = c.args.frame.now.limits in
     let w = c.args.frame.now.memory in
     let d = having_printed c.args.out.now.items done in
-    told-ends c.change_truth.result c.told-in-Truth.result c.change_truth.new.frame.memory d _ c.told-in-Truth.ensures
-    (ap (λ s. exec limits in_memory (step_view s) w d) c.in-Truth.is ∙ exec-truth limits c.in-Truth.deed c.in-Truth.slot (One (truth_view c.in-Truth.e.now)) w d (cell_read-truth c.in-Truth.e.now) ∙ ap (λ r. ends_as r d) c.change_truth.ensures.memory)
+    ends-alike c.truth.result c.truth.new.frame.memory d _ _
+    (ap (λ s. exec limits in_memory (step_view s) w d) c.in-Truth.is ∙ exec-truth limits c.in-Truth.deed c.in-Truth.slot (One (truth_view c.in-Truth.e.now)) w d (cell_read-truth c.in-Truth.e.now))
+    (c.truth.ensures.ends d)
 
 pub statement::turns-returns-in_err-turn-clause-ends : goal.statement::turns-returns-in_err-turn-clause-ends
 statement::turns-returns-in_err-turn-clause-ends t c done =
@@ -134,8 +137,8 @@ statement::named_turns-loop-k-preserved t c =
 pub statement::statement-returns-in-DeclareDomain-clause-ends : goal.statement::statement-returns-in-DeclareDomain-clause-ends
 statement::statement-returns-in-DeclareDomain-clause-ends t c done =
     let d = having_printed c.args.out.now.items done in
-    told-ends c.declare_domain.result c.told-in-DeclareDomain.result c.declare_domain.new.frame.memory d _ c.told-in-DeclareDomain.ensures
-    (ap (λ s. exec c.args.frame.now.limits in_memory (step_view s) c.args.frame.now.memory d) c.in-DeclareDomain.is ∙ c.declare_domain.ensures.ends d)
+    ends-alike c.domain.result c.domain.new.frame.memory d _ _
+    (ap (λ s. exec c.args.frame.now.limits in_memory (step_view s) c.args.frame.now.memory d) c.in-DeclareDomain.is) (c.domain.ensures.ends d)
 
 pub statement::statement-returns-in-DeclareEmpty-clause-ends : goal.statement::statement-returns-in-DeclareEmpty-clause-ends
 statement::statement-returns-in-DeclareEmpty-clause-ends t c done =
@@ -157,14 +160,14 @@ statement::statement-returns-in-DeclareArray-clause-ends t c done =
 pub statement::statement-returns-in-SetElement-clause-ends : goal.statement::statement-returns-in-SetElement-clause-ends
 statement::statement-returns-in-SetElement-clause-ends t c done =
     let d = having_printed c.args.out.now.items done in
-    told-ends c.set_element.result c.told-in-SetElement.result c.set_element.new.frame.memory d _ c.told-in-SetElement.ensures
-    (ap (λ s. exec c.args.frame.now.limits in_memory (step_view s) c.args.frame.now.memory d) c.in-SetElement.is ∙ c.set_element.ensures.ends d)
+    ends-alike c.element.result c.element.new.frame.memory d _ _
+    (ap (λ s. exec c.args.frame.now.limits in_memory (step_view s) c.args.frame.now.memory d) c.in-SetElement.is) (c.element.ensures.ends d)
 
 pub statement::statement-returns-in-SetTruthElement-clause-ends : goal.statement::statement-returns-in-SetTruthElement-clause-ends
 statement::statement-returns-in-SetTruthElement-clause-ends t c done =
     let d = having_printed c.args.out.now.items done in
-    told-ends c.set_truth_element.result c.told-in-SetTruthElement.result c.set_truth_element.new.frame.memory d _ c.told-in-SetTruthElement.ensures
-    (ap (λ s. exec c.args.frame.now.limits in_memory (step_view s) c.args.frame.now.memory d) c.in-SetTruthElement.is ∙ c.set_truth_element.ensures.ends d)
+    ends-alike c.truth_element.result c.truth_element.new.frame.memory d _ _
+    (ap (λ s. exec c.args.frame.now.limits in_memory (step_view s) c.args.frame.now.memory d) c.in-SetTruthElement.is) (c.truth_element.ensures.ends d)
 
 pub statement::statement-returns-in-SetArray-clause-ends : goal.statement::statement-returns-in-SetArray-clause-ends
 statement::statement-returns-in-SetArray-clause-ends t c done =

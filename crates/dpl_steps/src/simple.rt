@@ -1,0 +1,85 @@
+// Statements that make no turns, as runs: a fault is told as what ended the run.
+// Each is a function of its own, so that a statement keeps no room for the ends of others.
+
+ghost use Rattle.std.specs.Prelude.{◌≡◌, None};
+ghost use Rattle.dpl_language.specs.Tree.{IntKind, BoolKind, One, Set};
+ghost use Rattle.dpl_language.specs.Outcome.{Deeds};
+ghost use Rattle.dpl_language.specs.Statements.{exec};
+ghost use Rattle.dpl_lowered.specs.Shapes.{nowhere};
+ghost use Rattle.dpl_memory.specs.Memory.{DomainKind, variable, range_leaf, in_memory};
+ghost use Rattle.dpl_tree.specs.Words.{assign_view};
+ghost use Rattle.dpl_nodes.specs.Typed.{int_view, truth_view, range_item, domain_view};
+ghost use Rattle.dpl_nodes.specs.Steps.{array_leaf, declared_as, element_set};
+ghost use Rattle.dpl_steps.specs.Changes.{declared_memory, truth_memory, ends_as};
+ghost use Rattle.dpl_steps.specs.Runs.{RunEnds};
+
+use crate::change::{change_truth, declare_range};
+use crate::domain::declare_domain;
+use crate::element::{set_element, set_truth_element};
+use crate::halt::{Halt, told};
+use dpl_nodes::{
+    ArrayName, BoolExpr, DomainExpr, Frame, IndexExpr, IntExpr, RangeExpr, Spot, TruthDeed,
+};
+use dpl_tree::Assign;
+
+/// A range's declaration, or an assignment to it.
+#[inline(never)]
+pub(crate) fn range(slot: usize, e: &RangeExpr<'_>, frame: &mut Frame<'_>) -> Result<(), Halt>
+    ensures ends { (done : Deeds) → RunEnds result frame.new.memory done (ends_as (declared_memory frame.old.limits (range_leaf slot) (range_item e.now) frame.old.memory) done) }
+    ensures limits { frame.new.limits ≡ frame.old.limits }
+{
+    told(declare_range(slot, e, frame))
+}
+
+/// What is done to a truth value.
+#[inline(never)]
+pub(crate) fn truth(
+    deed: TruthDeed,
+    slot: usize,
+    e: &BoolExpr<'_>,
+    frame: &mut Frame<'_>,
+) -> Result<(), Halt>
+    ensures ends { (done : Deeds) → RunEnds result frame.new.memory done (ends_as (truth_memory frame.old.limits deed slot (One (truth_view e.now)) frame.old.memory) done) }
+    ensures limits { frame.new.limits ≡ frame.old.limits }
+{
+    told(change_truth(deed, slot, e, frame))
+}
+
+/// A domain's declaration, with its initial value.
+#[inline(never)]
+pub(crate) fn domain(slot: usize, e: &DomainExpr<'_>, frame: &mut Frame<'_>) -> Result<(), Halt>
+    ensures ends { (done : Deeds) → RunEnds result frame.new.memory done (exec frame.old.limits in_memory (declared_as None (variable DomainKind slot) (One (domain_view e.now))) frame.old.memory done) }
+    ensures limits { frame.new.limits ≡ frame.old.limits }
+{
+    told(declare_domain(slot, e, frame))
+}
+
+/// An assignment to an element.
+#[inline(never)]
+pub(crate) fn element(
+    name: &ArrayName<'_>,
+    t: &IndexExpr<'_>,
+    op: Assign,
+    sign: &Spot,
+    e: &IntExpr<'_>,
+    frame: &mut Frame<'_>,
+) -> Result<(), Halt>
+    ensures ends { (done : Deeds) → RunEnds result frame.new.memory done (exec frame.old.limits in_memory (element_set (array_leaf IntKind name.now) t.now (assign_view op) sign.now (int_view e.now)) frame.old.memory done) }
+    ensures limits { frame.new.limits ≡ frame.old.limits }
+{
+    told(set_element(name, t, op, sign, e, frame))
+}
+
+/// The same of an element that is a truth value.
+#[inline(never)]
+pub(crate) fn truth_element(
+    name: &ArrayName<'_>,
+    t: &IndexExpr<'_>,
+    e: &BoolExpr<'_>,
+    frame: &mut Frame<'_>,
+) -> Result<(), Halt>
+    ensures ends { (done : Deeds) → RunEnds result frame.new.memory done (exec frame.old.limits in_memory (element_set (array_leaf BoolKind name.now) t.now Set nowhere (truth_view e.now)) frame.old.memory done) }
+    ensures limits { frame.new.limits ≡ frame.old.limits }
+{
+    told(set_truth_element(name, t, e, frame))
+}
