@@ -1,4 +1,5 @@
 pub mod Kept
+pub mod Underived
 pub mod Items
 pub mod Evaluated
 pub mod Rows

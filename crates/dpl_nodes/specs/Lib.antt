@@ -2,4 +2,5 @@
 pub mod Typed
 pub mod Steps
 pub mod Faults
+pub mod Roots
 pub mod Frames

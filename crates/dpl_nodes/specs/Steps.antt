@@ -208,8 +208,8 @@ abbrev mutual
   step_view (DeclareRange slot e) = declared_as None (range_leaf slot) (range_item e.now)
   step_view (SetRange slot e) = assigned_to (range_leaf slot) Set nowhere (range_item e.now)
   step_view (TruthStep deed slot e) = truth_changed deed slot (One (truth_view e.now))
-  step_view (DeclareDomain slot e) = declared_as None (variable DomainKind slot) (One (domain_view e.now))
-  step_view (DeclareEmpty slot rank) = declared_with (unplaced_leaf (variable DomainKind slot)) (of_rank rank) None
+  step_view (DeclareDomain slot e placing) = declared_as None (variable DomainKind slot) (One (domain_view e.now))
+  step_view (DeclareEmpty slot rank placing) = declared_with (unplaced_leaf (variable DomainKind slot)) (of_rank rank) None
   step_view (SetDomain x e) = whole_set (domain_leaf x.now) Set nowhere (domain_view e.now)
   step_view (DeclareArray d) = array_declared d.now
   step_view (SetElement x t op at e) = element_set (array_leaf IntKind x.now) t.now (assign_view op) at.now (int_view e.now)

@@ -13,16 +13,29 @@ use dpl_domain::Index;
 use dpl_map::Map;
 use std::alloc::{AllocError, Global};
 
-// An array of one word.
-fn filled(alloc: Global, domain: DomainWord, word: i64) -> Result<ArrayWords, AllocError>
+// An array of one word, which is dealt out by a map.
+fn filled(
+    alloc: Global,
+    domain: DomainWord,
+    owner: Map,
+    word: i64,
+) -> Result<ArrayWords, AllocError>
     requires { too_large domain ≡ false }
     ensures { IfOk result (λ a. a ≡ record { ranges = domain; words = map (λ t. word) (indices_in domain) }) }
 {
-    match ArrayWords::new(alloc, domain, Map::whole(), word) {
+    match ArrayWords::new(alloc, domain, owner, word) {
         Ok(array) => Ok(array),
         Err(ArrayFault::Memory) => Err(AllocError),
         Err(ArrayFault::Size) => unreachable!(),
     }
+}
+
+// An array of zeros in one piece, for a slot that had none.
+fn zeroed(alloc: Global, domain: DomainWord) -> Result<ArrayWords, AllocError>
+    requires { too_large domain ≡ false }
+    ensures { IfOk result (λ a. a ≡ record { ranges = domain; words = map (λ t. pos 0) (indices_in domain) }) }
+{
+    filled(alloc, domain, Map::whole(), 0)
 }
 
 // The array over another domain, where it keeps the elements whose indices are in both.
@@ -36,7 +49,7 @@ fn moved(
     ensures { IfOk result (λ a. a ≡ held_over domain (held_in array)) }
 {
     match array {
-        None => filled(alloc, domain, 0),
+        None => zeroed(alloc, domain),
         Some(array) => match array.redomain(alloc, domain) {
             Ok(array) => Ok(array),
             Err(ArrayFault::Memory) => Err(AllocError),
@@ -225,15 +238,15 @@ impl<'t> Frame<'t> {
         }
     }
 
-    /// The array over a domain that holds 0 everywhere. It is in no slot.
+    /// The array over a domain that holds 0 everywhere, by the map of a slot. It is in no slot.
     ///
     /// # Errors
     /// Out of memory.
-    pub fn zeros(&self, domain: DomainWord) -> Result<ArrayWords, AllocError>
+    pub fn zeros(&self, slot: usize, domain: DomainWord) -> Result<ArrayWords, AllocError>
         requires { too_large domain ≡ false }
         ensures { IfOk result (λ a. a ≡ record { ranges = domain; words = map (λ t. pos 0) (indices_in domain) }) }
     {
-        filled(self.alloc, domain, 0)
+        filled(self.alloc, domain, self.owner(slot), 0)
     }
 
     /// Puts an array into a slot; past the last one it does nothing.
@@ -246,7 +259,7 @@ impl<'t> Frame<'t> {
         }
     }
 
-    /// Declares an array in a slot: over a domain, with one word everywhere. Past the last slot it does nothing.
+    /// Declares an array in a slot: over a domain, by the slot's map, with one word everywhere. Past the last slot it does nothing.
     ///
     /// # Errors
     /// Out of memory; then the frame is as it was.
@@ -260,7 +273,7 @@ impl<'t> Frame<'t> {
         ensures declared { OnOk result (self.new ≡ with_memory (with_array slot (record { ranges = domain; words = map (λ t. word) (indices_in domain) }) self.old.memory) self.old) }
         ensures unchanged { IfErr result (λ e. self.new ≡ self.old) }
     {
-        let array = filled(self.alloc, domain, word)?;
+        let array = filled(self.alloc, domain, self.owner(slot), word)?;
         self.keep(slot, array);
         Ok(())
     }

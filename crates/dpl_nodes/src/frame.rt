@@ -1,18 +1,21 @@
-// The frame of a run: what its slots hold, the reduce variables of the forall around, and what is set.
+// The frame of a run: what its slots hold and by which maps, the reduce variables of the forall around, and what is set.
 // A word is a value of every kind, so that no walk can leave a frame ill typed.
 
-ghost use Rattle.std.specs.Prelude.{◌≡◌, pos, [], ◌∷◌, ◌++◌, get_or, set, replicate, map, option_map, IfOk};
+ghost use Rattle.std.specs.Prelude.{◌≡◌, pos, [], ◌∷◌, ◌++◌, get_or, set, replicate, map, option_map, slice_get, IfOk};
 ghost use Rattle.dpl_tree.specs.Words.{op_view};
 ghost use Rattle.dpl_words.specs.Words.{no_range, intent_at, set_at};
 ghost use Rattle.dpl_memory.specs.Memory.{no_domain, no_tuple, no_array, intents_by_slot};
-ghost use Rattle.dpl_memory.specs.Resolved.{first_memory};
 ghost use Rattle.dpl_contents.specs.Range.{range_word};
 ghost use Rattle.dpl_nodes.specs.Steps.{intent_view};
-ghost use Rattle.dpl_nodes.specs.Frames.{with_memory, with_words, held_in};
+ghost use Rattle.dpl_map.specs.Maps.{whole_map};
+ghost use Rattle.dpl_nodes.specs.Frames.{with_memory, with_words, first_frame, with_owner, held_in};
 
+use crate::placing::MapExpr;
 use crate::step::Intent;
 use dpl_contents::{ArrayWords, DomainWord, RangeWord};
 use dpl_domain::Index;
+use dpl_layout::Layout;
+use dpl_map::Map;
 use dpl_tree::Op;
 use std::alloc::{AllocError, Global};
 use std::marker::Model;
@@ -37,7 +40,8 @@ fn no_arrays(alloc: Global, slots: usize) -> Result<Vec<Option<ArrayWords>>, All
 }
 
 /// The slots of a run, with the reduce variables of the forall around and their operators, what the command line sets,
-/// the budget of a loop and the number of locales. A frame has as many of everything as slots.
+/// the budget of a loop and the number of locales; the maps that the program names, and by which map the domain or array in a slot is dealt out over locales. A
+/// frame has as many of everything as slots.
 #[derive(Drop)]
 pub struct Frame<'t> {
     numbers: Vec<i64>,
@@ -50,6 +54,9 @@ pub struct Frame<'t> {
     sets: Vec<(usize, i64)>,
     budget: u64,
     locales: u32,
+    layout: Layout,
+    maps: &'t [MapExpr<'t>],
+    owners: Vec<Map>,
 }
 
 impl<'t> Model for Frame<'t> {
@@ -58,8 +65,15 @@ impl<'t> Model for Frame<'t> {
     ghost use Rattle.dpl_contents.specs.Range.{range_word};
     ghost use Rattle.dpl_nodes.specs.Steps.{intent_view};
     ghost use Rattle.dpl_nodes.specs.Frames.{Framed, held_in};
+    ghost use Rattle.dpl_nodes.specs.contracts.tree.DomainExpr as domain;
+    ghost use Rattle.dpl_nodes.specs.contracts.tree.IndexExpr as index;
+    ghost use mir.Syntax.{named};
+    ghost use Rattle.std.specs.Prelude.{[]};
+    ghost use Rattle.std.specs.Coded.{codes};
 
     ghost Value = { Framed };
+
+    ghost coded = { Prim.hlevel (codes, (domain.the_row (record { mir = named 0; lft = [] })).coded, (index.the_row (record { mir = named 0; lft = [] })).coded) };
 
     ghost view = { λ f. record {
       memory = record {
@@ -69,12 +83,15 @@ impl<'t> Model for Frame<'t> {
         arrays = map held_in f.arrays.items;
       };
       limits = record { budget = f.budget; locales = f.locales };
+      layout = f.layout;
+      maps = f.maps.now;
+      owners = f.owners.items;
     } };
 }
 
 impl<'t> Frame<'t> {
     /// A frame with so many slots: its words are 0, its ranges `1..0`, its domains `{1..0}`, its tuples the index 0, and its
-    /// arrays have no elements. Nothing is set, and there are no reduce variables.
+    /// arrays have no elements; each slot has the whole map. Nothing is set, and there are no reduce variables.
     ///
     /// # Errors
     /// Out of memory.
@@ -84,8 +101,10 @@ impl<'t> Frame<'t> {
         slots: usize,
         budget: u64,
         locales: u32,
+        layout: Layout,
+        maps: &'t [MapExpr<'t>],
     ) -> Result<Frame<'t>, AllocError>
-        ensures { IfOk result (λ f. f ≡ record { memory = first_memory (record { slots = slots; texts = []; words = [] }); limits = record { budget = budget; locales = locales } }) }
+        ensures { IfOk result (λ f. f ≡ first_frame slots (record { budget = budget; locales = locales }) layout maps.now) }
     {
         Ok(Frame {
             numbers: vec![in alloc; 0; slots]?,
@@ -98,6 +117,9 @@ impl<'t> Frame<'t> {
             sets: Vec::new(alloc),
             budget,
             locales,
+            layout,
+            maps,
+            owners: vec![in alloc; Map::whole(); slots]?,
         })
     }
 
@@ -175,6 +197,39 @@ impl<'t> Frame<'t> {
     {
         if slot < self.tuples.len() {
             self.tuples[slot] = index;
+        }
+    }
+
+    /// How locales are laid out, and which maps roots get.
+    pub fn layout(&self) -> Layout
+        ensures { result ≡ self.now.layout }
+    {
+        self.layout
+    }
+
+    /// A map that the program names, by its number, if there are so many.
+    pub fn named_map(&self, number: usize) -> Option<&MapExpr<'t>>
+        ensures { option_map (λ e. e.now) result ≡ slice_get self.now.maps number }
+    {
+        self.maps.get(number)
+    }
+
+    /// The map of the domain or array in a slot; the whole map past the last one.
+    pub fn owner(&self, slot: usize) -> Map
+        ensures { result ≡ get_or self.now.owners slot whole_map }
+    {
+        match self.owners.get(slot) {
+            Some(map) => *map,
+            None => Map::whole(),
+        }
+    }
+
+    /// Gives a slot a map; past the last one it does nothing.
+    pub fn set_owner(&mut self, slot: usize, map: Map)
+        ensures { self.new ≡ with_owner slot map self.old }
+    {
+        if slot < self.owners.len() {
+            self.owners[slot] = map;
         }
     }
 

@@ -6,6 +6,7 @@ pub mod arrays;
 pub mod fault;
 pub mod fold;
 pub mod frame;
+pub mod placing;
 pub mod step;
 pub mod stop;
 pub mod tree;
@@ -14,6 +15,7 @@ pub use dpl_contents::{DomainWord, RangeWord};
 pub use fault::{Alarm, Fault, FaultCode, Spot, Trap, Truth, Turn};
 pub use fold::{Fold, IntFold, TruthFold};
 pub use frame::Frame;
+pub use placing::{MapExpr, Placing, StartExpr};
 pub use step::{
     Argument, ArrayDeclaration, ArrayName, DomainName, Else, Initial, IntDeed, Intent, Names, Over,
     Rank, Step, TruthDeed,

@@ -2,6 +2,7 @@
 // They lie in the arena of the tree; specs/Steps.antt gives the plain statement that each stands for.
 
 use crate::fault::Spot;
+use crate::placing::Placing;
 use crate::tree::{
     BoolExpr, DomainExpr, IndexExpr, IntExpr, PromotedInt, PromotedTruth, RangeExpr, RangesExpr,
 };
@@ -139,9 +140,9 @@ pub enum Step<'t> {
     SetRange(usize, &'t RangeExpr<'t>),
     /// A truth value's declaration, or an assignment to it.
     Truth(TruthDeed, usize, &'t BoolExpr<'t>),
-    /// A domain's declaration, with its initial value; or without one, with its rank.
-    DeclareDomain(usize, &'t DomainExpr<'t>),
-    DeclareEmpty(usize, Rank),
+    /// A domain's declaration, with its initial value; or without one, with its rank. And with its map.
+    DeclareDomain(usize, &'t DomainExpr<'t>, Placing),
+    DeclareEmpty(usize, Rank, Placing),
     /// `=` to a domain, with which the arrays that are declared over it change.
     SetDomain(&'t DomainName<'t>, &'t DomainExpr<'t>),
     DeclareArray(&'t ArrayDeclaration<'t>),
