@@ -11,10 +11,12 @@ pub mod number;
 mod promoted;
 mod range;
 mod reduction;
+mod root;
 mod values;
 
 pub use expression::coordinate_value;
 pub use promoted::{int_domain, truth_domain};
+pub use root::placed;
 pub use values::{
     domain_value, index_value, int_value, literal, promoted_int_value, promoted_truth_value,
     range_value, sized, truth_value,

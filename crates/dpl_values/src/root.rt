@@ -1,0 +1,73 @@
+// The map of a declared domain or array: that of another's root, or of a root by the map that is named.
+// A map is never the cause of a fault: where an argument has no value, no map is named.
+
+ghost use Rattle.std.specs.Prelude.{slice_get};
+ghost use Rattle.dpl_values.specs.Placed.{IsStart, IsNamedBy, IsNamedAt, IsPlaced};
+
+use crate::values::{domain_value, index_value};
+use dpl_domain::Index;
+use dpl_layout::{Named, from_least, least};
+use dpl_map::Map;
+use dpl_nodes::{DomainWord, Frame, MapExpr, Placing, StartExpr};
+
+// Where a map starts; none where that has no value.
+fn start(e: &StartExpr<'_>, frame: &Frame<'_>) -> Option<Index>
+    ensures { IsStart frame.now.limits frame.now.memory e.now result }
+{
+    match e {
+        StartExpr::Index(t) => match index_value(t, frame) {
+            Ok(index) => Some(index),
+            Err(_) => None,
+        },
+        StartExpr::Least(d) => match domain_value(d, frame) {
+            Ok(domain) => least(&domain.domain()),
+            Err(_) => None,
+        },
+    }
+}
+
+// A map that is named, its arguments evaluated.
+fn named(e: &MapExpr<'_>, frame: &Frame<'_>) -> Named
+    ensures { IsNamedBy frame.now.limits frame.now.memory e.now result }
+{
+    match e {
+        MapExpr::Block(d) => match domain_value(d, frame) {
+            Ok(domain) => Named::Block(domain.domain()),
+            Err(_) => Named::Whole,
+        },
+        MapExpr::Cyclic(from) => match start(from, frame) {
+            Some(from) => Named::Cyclic(from),
+            None => Named::Whole,
+        },
+        MapExpr::BlockCyclic(from, sizes) => match (start(from, frame), start(sizes, frame)) {
+            (Some(from), Some(sizes)) => Named::BlockCyclic(from, sizes),
+            (Some(_), None) => Named::Whole,
+            (None, _) => Named::Whole,
+        },
+    }
+}
+
+// A map that the program names, by its number.
+fn named_at(number: usize, frame: &Frame<'_>) -> Named
+    ensures { IsNamedAt frame.now.limits frame.now.memory (slice_get frame.now.maps number) result }
+{
+    match frame.named_map(number) {
+        Some(e) => named(e, frame),
+        None => Named::Whole,
+    }
+}
+
+/// The map of a domain or array that is declared with this domain.
+pub fn placed(placing: Placing, domain: DomainWord, frame: &Frame<'_>) -> Map
+    ensures { IsPlaced frame.now placing domain result }
+{
+    let layout = frame.layout();
+    let value = domain.domain();
+    match placing {
+        Placing::Of(slot) => frame.owner(slot),
+        Placing::Unmapped => layout.root(&value, &Named::Whole),
+        Placing::Mapped(number) => layout.root(&value, &named_at(number, frame)),
+        Placing::BlockCreated => layout.root(&value, &Named::Block(value)),
+        Placing::CyclicCreated => layout.root(&value, &from_least(&value)),
+    }
+}
