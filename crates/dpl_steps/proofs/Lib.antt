@@ -3,6 +3,7 @@ pub mod Changing
 pub mod Writing
 pub mod Growing
 pub mod Looping
+pub mod Owning
 pub mod Views
 pub mod Tested
 pub mod Elements

@@ -1,7 +1,7 @@
 // Declarations of arrays: the domain is evaluated and tested, and then the elements are.
 // An array's own name isn't known in its initial value, so that the elements are gathered before the slot is written.
 
-ghost use Rattle.std.specs.Prelude.{◌≡◌, IfOk, Ok, Some, false};
+ghost use Rattle.std.specs.Prelude.{◌≡◌, IfOk, OnOk, Ok, Some, false};
 ghost use Rattle.dpl_language.specs.Tree.{Kind, IntKind, BoolKind};
 ghost use Rattle.dpl_language.specs.Ranges.{indices_in, too_large};
 ghost use Rattle.dpl_language.specs.Outcome.{Deeds, naming_value};
@@ -15,10 +15,13 @@ ghost use Rattle.dpl_nodes.specs.Typed.{promoted_int, promoted_truth};
 ghost use Rattle.dpl_nodes.specs.Steps.{over_items, array_declared};
 ghost use Rattle.dpl_steps.specs.Changes.{kept_word, for_array_at};
 ghost use Rattle.dpl_steps.specs.Arrays.{declared_without, declared_with};
+ghost use Rattle.dpl_nodes.specs.Roots.{derived_over, placing_by};
 ghost use Rattle.dpl_steps.specs.Runs.{RunEnds, Names, Gathers};
+ghost use Rattle.dpl_steps.specs.Owners.{IsOwned};
 
 use crate::domain::for_array;
 use crate::halt::Halt;
+use crate::owner::own;
 use dpl_contents::ArrayWords;
 use dpl_domain::Index;
 use dpl_nodes::{
@@ -86,14 +89,19 @@ fn named<E: Elements>(e: &E, index: Index, frame: &Frame<'_>) -> Result<i64, Hal
     }
 }
 
-// The array over a domain that has at each index what is evaluated there.
-fn gathered<E: Elements>(e: &E, domain: DomainWord, frame: &Frame<'_>) -> Result<ArrayWords, Halt>
+// The array over a domain that has at each index what is evaluated there, by the map of a slot.
+fn gathered<E: Elements>(
+    e: &E,
+    slot: usize,
+    domain: DomainWord,
+    frame: &Frame<'_>,
+) -> Result<ArrayWords, Halt>
     requires { too_large domain ≡ false }
     ensures { Gathers result domain (gathered (E.element e.now frame.now.limits frame.now.memory) (indices_in domain)) }
 {
     // Nothing is read here: that no index is listed twice is a clause of this call.
     let _ = domain.domain();
-    let mut array = frame.zeros(domain)?;
+    let mut array = frame.zeros(slot, domain)?;
     let mut indices = domain.cursor();
     while let Some(index) = indices.next() {
         let word = named(e, index, frame)?;
@@ -113,6 +121,7 @@ fn declare_ints(
     requires { too_large domain ≡ false }
     ensures ends { (done : Deeds) → RunEnds result frame.new.memory done (declared_with frame.old.limits d.now IntKind domain at.now (promoted_int EachTurn e.now) frame.old.memory done) }
     ensures limits { frame.new.limits ≡ frame.old.limits }
+    ensures owners { frame.new.owners ≡ frame.old.owners }
 {
     match int_domain(e, frame) {
         None => {
@@ -123,7 +132,7 @@ fn declare_ints(
         }
         Some(_) => {
             within_budget(&domain, at, frame)?;
-            let array = gathered(e, domain, frame)?;
+            let array = gathered(e, d.slot, domain, frame)?;
             frame.keep(d.slot, array);
             Ok(())
         }
@@ -141,6 +150,7 @@ fn declare_truths(
     requires { too_large domain ≡ false }
     ensures ends { (done : Deeds) → RunEnds result frame.new.memory done (declared_with frame.old.limits d.now BoolKind domain at.now (promoted_truth EachTurn e.now) frame.old.memory done) }
     ensures limits { frame.new.limits ≡ frame.old.limits }
+    ensures owners { frame.new.owners ≡ frame.old.owners }
 {
     match truth_domain(e, frame) {
         None => {
@@ -151,7 +161,7 @@ fn declare_truths(
         }
         Some(_) => {
             within_budget(&domain, at, frame)?;
-            let array = gathered(e, domain, frame)?;
+            let array = gathered(e, d.slot, domain, frame)?;
             frame.keep(d.slot, array);
             Ok(())
         }
@@ -167,6 +177,7 @@ fn declare_zeros(
     requires { too_large domain ≡ false }
     ensures ends { (k : Kind) (done : Deeds) → RunEnds result frame.new.memory done (declared_without frame.old.limits d.now k domain frame.old.memory done) }
     ensures limits { frame.new.limits ≡ frame.old.limits }
+    ensures owners { frame.new.owners ≡ frame.old.owners }
 {
     frame.declare_array(d.slot, domain, 0)?;
     Ok(())
@@ -180,7 +191,7 @@ fn sized_for_array(at: &Spot, domain: DomainWord) -> Result<DomainWord, Trap>
     for_array(at, domain)
 }
 
-/// The declaration of an array.
+/// The declaration of an array, which has the map of its domain's root, or is a root.
 ///
 /// # Errors
 /// The fault of its domain; `F8` at the name for more than 2^24 elements; the fault of an initial value that is evaluated
@@ -189,8 +200,10 @@ fn sized_for_array(at: &Spot, domain: DomainWord) -> Result<DomainWord, Trap>
 pub(crate) fn declare_array(d: &ArrayDeclaration<'_>, frame: &mut Frame<'_>) -> Result<(), Halt>
     ensures ends { (done : Deeds) → RunEnds result frame.new.memory done (exec frame.old.limits in_memory (array_declared d.now) frame.old.memory done) }
     ensures limits { frame.new.limits ≡ frame.old.limits }
+    ensures owned { OnOk result (IsOwned frame.old frame.new d.now.slot (placing_by (derived_over (over_items d.now.over))) (domain_of frame.old.limits in_memory d.now.from.now (over_items d.now.over) frame.old.memory)) }
 {
     let domain = domain_over(&d.over, d.from, frame)?;
+    own(d.over.placing(), d.slot, domain, frame);
     let domain = sized_for_array(d.at, domain)?;
     match d.initial {
         Initial::Zeros => declare_zeros(d, domain, frame),

@@ -1,10 +1,11 @@
 // Domain variables: they are declared, and assigned together with the arrays that are declared over them.
 // What runs over a domain stands elsewhere.
 
-ghost use Rattle.std.specs.Prelude.{◌≡◌, None, Ok};
+ghost use Rattle.std.specs.Prelude.{◌≡◌, None, Ok, OnOk};
 ghost use Rattle.dpl_language.specs.Tree.{One, Set};
 ghost use Rattle.dpl_language.specs.Ranges.{empty_domain};
 ghost use Rattle.dpl_language.specs.Outcome.{Deeds};
+ghost use Rattle.dpl_language.specs.Expressions.{value_of};
 ghost use Rattle.dpl_language.specs.Statements.{exec};
 ghost use Rattle.dpl_lowered.specs.Shapes.{nowhere};
 ghost use Rattle.dpl_memory.specs.Memory.{DomainKind, variable, in_memory};
@@ -12,36 +13,44 @@ ghost use Rattle.dpl_nodes.specs.Typed.{domain_view};
 ghost use Rattle.dpl_nodes.specs.Steps.{unplaced_leaf, declared_as, declared_with, dimensions, of_rank, domain_leaf, whole_set};
 ghost use Rattle.dpl_steps.specs.Changes.{memory_after, ends_as, for_array_at};
 ghost use Rattle.dpl_steps.specs.Runs.{RunEnds};
+ghost use Rattle.dpl_steps.specs.Owners.{IsOwned, IsOwnedBy};
 
 use crate::halt::Halt;
-use dpl_nodes::{DomainExpr, DomainName, DomainWord, FaultCode, Frame, Rank, Spot, Trap};
+use crate::owner::own;
+use dpl_nodes::{DomainExpr, DomainName, DomainWord, FaultCode, Frame, Placing, Rank, Spot, Trap};
 use dpl_values::domain_value;
 
 /// How many elements an array may have.
 const MOST_ELEMENTS: u64 = 16_777_216;
 
-/// A domain's declaration, with its initial value.
+/// A domain's declaration, with its initial value and its map.
 #[inline(always)]
 pub(crate) fn declare_domain(
     slot: usize,
     e: &DomainExpr<'_>,
+    placing: Placing,
     frame: &mut Frame<'_>,
 ) -> Result<(), Trap>
     ensures ends { (done : Deeds) → exec frame.old.limits in_memory (declared_as None (variable DomainKind slot) (One (domain_view e.now))) frame.old.memory done ≡ ends_as (memory_after result frame.new.memory) done }
     ensures limits { frame.new.limits ≡ frame.old.limits }
+    ensures owned { OnOk result (IsOwned frame.old frame.new slot placing (value_of frame.old.limits in_memory (domain_view e.now) None frame.old.memory)) }
 {
     let value = domain_value(e, frame)?;
+    own(placing, slot, value, frame);
     frame.set_domain(slot, value);
     Ok(())
 }
 
 /// A domain's declaration without one: it has no index.
 #[inline(never)]
-pub(crate) fn declare_empty(slot: usize, rank: Rank, frame: &mut Frame<'_>)
+pub(crate) fn declare_empty(slot: usize, rank: Rank, placing: Placing, frame: &mut Frame<'_>)
     ensures ends { (done : Deeds) → exec frame.old.limits in_memory (declared_with (unplaced_leaf (variable DomainKind slot)) (of_rank rank) None) frame.old.memory done ≡ ends_as (Ok frame.new.memory) done }
     ensures limits { frame.new.limits ≡ frame.old.limits }
+    ensures owned { IsOwnedBy frame.old frame.new slot placing (empty_domain (dimensions rank)) }
 {
-    frame.set_domain(slot, empty(rank));
+    let value = empty(rank);
+    own(placing, slot, value, frame);
+    frame.set_domain(slot, value);
 }
 
 // The domain of a rank that has no index.

@@ -9,6 +9,7 @@ mod domain;
 mod each;
 mod element;
 pub mod halt;
+mod owner;
 mod print;
 mod reduce;
 pub mod simple;

@@ -18,7 +18,7 @@ use crate::domain::declare_domain;
 use crate::element::{set_element, set_truth_element};
 use crate::halt::{Halt, told};
 use dpl_nodes::{
-    ArrayName, BoolExpr, DomainExpr, Frame, IndexExpr, IntExpr, RangeExpr, Spot, TruthDeed,
+    ArrayName, BoolExpr, DomainExpr, Frame, IndexExpr, IntExpr, Placing, RangeExpr, Spot, TruthDeed,
 };
 use dpl_tree::Assign;
 
@@ -45,13 +45,18 @@ pub(crate) fn truth(
     told(change_truth(deed, slot, e, frame))
 }
 
-/// A domain's declaration, with its initial value.
+/// A domain's declaration, with its initial value and its map.
 #[inline(never)]
-pub(crate) fn domain(slot: usize, e: &DomainExpr<'_>, frame: &mut Frame<'_>) -> Result<(), Halt>
+pub(crate) fn domain(
+    slot: usize,
+    e: &DomainExpr<'_>,
+    placing: Placing,
+    frame: &mut Frame<'_>,
+) -> Result<(), Halt>
     ensures ends { (done : Deeds) → RunEnds result frame.new.memory done (exec frame.old.limits in_memory (declared_as None (variable DomainKind slot) (One (domain_view e.now))) frame.old.memory done) }
     ensures limits { frame.new.limits ≡ frame.old.limits }
 {
-    told(declare_domain(slot, e, frame))
+    told(declare_domain(slot, e, placing, frame))
 }
 
 /// An assignment to an element.

@@ -68,9 +68,9 @@ fn statement<'t>(step: &Step<'t>, frame: &mut Frame<'t>, out: &mut Vec<u8>) -> R
         Step::DeclareRange(slot, e) => simple::range(*slot, e, frame),
         Step::SetRange(slot, e) => simple::range(*slot, e, frame),
         Step::Truth(deed, slot, e) => simple::truth(*deed, *slot, e, frame),
-        Step::DeclareDomain(slot, e) => simple::domain(*slot, e, frame),
-        Step::DeclareEmpty(slot, rank) => {
-            declare_empty(*slot, *rank, frame);
+        Step::DeclareDomain(slot, e, placing) => simple::domain(*slot, e, *placing, frame),
+        Step::DeclareEmpty(slot, rank, placing) => {
+            declare_empty(*slot, *rank, *placing, frame);
             Ok(())
         }
         Step::SetDomain(name, e) => set_domain(name, e, frame),

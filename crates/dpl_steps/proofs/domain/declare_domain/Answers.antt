@@ -1,9 +1,9 @@
--- The value goes into the domain's slot.
-use Rattle.std.proofs.Common.{Ok, sym, ap, ◌∙◌}
+-- The value goes into the domain's slot, which has its map.
+use Rattle.std.proofs.Common.{Ok, set, sym, ap, ◌∙◌}
 use Rattle.dpl_language.specs.Tree.{One}
 use Rattle.dpl_language.specs.Outcome.{Done, with_ok}
 use Rattle.dpl_language.specs.Environment.{Plain}
-use Rattle.dpl_memory.specs.Memory.{DomainKind, variable, in_memory}
+use Rattle.dpl_memory.specs.Memory.{Memory, DomainKind, variable, in_memory}
 use Rattle.dpl_nodes.specs.Typed.{domain_view}
 use Rattle.dpl_nodes.specs.Frames.{Framed}
 use Rattle.dpl_nodes.proofs.Unread.{cell_read-domain}
@@ -16,4 +16,10 @@ returns-clause-ends c done =
     let s = c.args.frame.now.memory in
     exec-declared c.args.frame.now.limits (variable DomainKind c.args.slot) (One (domain_view c.args.e.now)) s done (cell_read-domain c.args.e.now)
     ∙ ap (λ r. ends_as (with_ok r (λ v. Ok (in_memory.declare (variable DomainKind c.args.slot) (Plain v) s))) done) c.in_ok-value.ensures
+    ∙ ap (λ (m : Memory). Done (record m { domains = set m.domains c.args.slot c.in_ok-value.value }) done) (sym c.own.ensures.memory)
     ∙ ap (λ (f : Framed). Done f.memory done) (sym c.set_domain.ensures)
+
+pub returns-clause-owned : goal.returns-clause-owned
+returns-clause-owned c =
+    let (m, placed, owners) = c.own.ensures.owned in
+    (c.in_ok-value.value, c.in_ok-value.ensures, (m, placed, ap (λ (f : Framed). f.owners) c.set_domain.ensures ∙ owners))
