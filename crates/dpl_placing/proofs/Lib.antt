@@ -1,0 +1,4 @@
+pub mod Types
+pub mod Lows
+pub mod Tuples
+pub mod Worked

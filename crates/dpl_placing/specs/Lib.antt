@@ -1,0 +1,3 @@
+-- The map that a text names, as a typed one: what it stands for, and which has a typed form.
+pub mod Starts
+pub mod Named
