@@ -29,8 +29,9 @@ ghost use Rattle.dpl_planner.specs.Plans.{intents_in, PlansStmt};
 use crate::arrays::{declare_array, declared};
 use crate::change::{holds, is_domain, shaped, taken_type};
 use crate::progress::Plan;
+use crate::root::{place, root_of};
 use dpl_nodes::step::Rank;
-use dpl_nodes::{IntDeed, Step, Stop, TruthDeed};
+use dpl_nodes::{IntDeed, Placing, Step, Stop, TruthDeed};
 use dpl_scopes::Scopes;
 use dpl_syntax::Place;
 use dpl_tree::{
@@ -200,8 +201,8 @@ fn begins(t: ValueType<'_>, begun: Beginning<'_>) -> bool
     }
 }
 
-// A variable that begins with a value.
-fn declares_value<'t>(slot: usize, value: Typed<'t>) -> Result<Step<'t>, Stop>
+// A variable that begins with a value. A domain has its map beside it.
+fn declares_value<'t>(slot: usize, value: Typed<'t>, placing: Placing) -> Result<Step<'t>, Stop>
     ensures node { IfOk result (λ s. step_view s ≡ begun_as None (variable (kind_of value.entry) slot) (beginning.Value value.entry)) }
     ensures kind { IfOk result (λ s. IsSingleKind (kind_of value.entry)) }
     ensures ill_typed { (result ≡ Err stop.IllTyped) → IsSingleKind (kind_of value.entry) → ⊥ }
@@ -210,7 +211,7 @@ fn declares_value<'t>(slot: usize, value: Typed<'t>) -> Result<Step<'t>, Stop>
         Typed::Int(e) => Ok(Step::Int(IntDeed::Declare, slot, e)),
         Typed::Truth(e) => Ok(Step::Truth(TruthDeed::Declare, slot, e)),
         Typed::Range(e) => Ok(Step::DeclareRange(slot, e)),
-        Typed::Domain(e) => Ok(Step::DeclareDomain(slot, e)),
+        Typed::Domain(e) => Ok(Step::DeclareDomain(slot, e, placing)),
         Typed::Tuple(_) | Typed::Ints(_) | Typed::Truths(_) => Err(Stop::IllTyped),
     }
 }
@@ -236,7 +237,12 @@ fn configures<'t>(slot: usize, begun: Beginning<'t>) -> Result<Step<'t>, Stop>
 }
 
 // The statement.
-fn declares<'t>(config: Option<Place>, slot: usize, begun: Beginning<'t>) -> Result<Step<'t>, Stop>
+fn declares<'t>(
+    config: Option<Place>,
+    slot: usize,
+    begun: Beginning<'t>,
+    placing: Placing,
+) -> Result<Step<'t>, Stop>
     ensures node { IfOk result (λ s. step_view s ≡ begun_as (unplaced_word config) (variable (begun_kind begun.entry) slot) begun.entry) }
     ensures kind { IfOk result (λ s. IsSingleKind (begun_kind begun.entry) × IsConfigOf config (begun_kind begun.entry)) }
     ensures ill_typed { (result ≡ Err stop.IllTyped) → IsSingleKind (begun_kind begun.entry) → IsConfigOf config (begun_kind begun.entry) → ⊥ }
@@ -244,8 +250,8 @@ fn declares<'t>(config: Option<Place>, slot: usize, begun: Beginning<'t>) -> Res
     match config {
         Some(_) => configures(slot, begun),
         None => match begun {
-            Beginning::Value(value) => declares_value(slot, value),
-            Beginning::Empty(rank) => Ok(Step::DeclareEmpty(slot, rank)),
+            Beginning::Value(value) => declares_value(slot, value, placing),
+            Beginning::Empty(rank) => Ok(Step::DeclareEmpty(slot, rank, placing)),
         },
     }
 }
@@ -271,8 +277,16 @@ fn declare_single<'s, 't>(plan: &mut Plan<'s, 't>, written: &Declare<'s>) -> Res
     if !begins(value_type, begun) {
         return Err(Stop::IllTyped);
     }
+    let root = root_of(
+        plan.arena,
+        &plan.scopes,
+        &written.typed,
+        &written.initial,
+        begun,
+    )?;
     let slot = plan.declare(declared.origin.name, declared.sort, value_type)?;
-    declares(written.config, slot, begun)
+    let placing = place(plan, root)?;
+    declares(written.config, slot, begun, placing)
 }
 
 // The array type that is written.

@@ -10,6 +10,7 @@ mod loops;
 mod overs;
 mod program;
 mod progress;
+mod root;
 mod statement;
 mod turns;
 mod write;

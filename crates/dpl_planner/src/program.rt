@@ -21,7 +21,7 @@ ghost use Rattle.dpl_planner.specs.Plans.{intents_in, IsOneScope, PlansTop, Plan
 use crate::declaration::declare;
 use crate::progress::{Plan, list, push};
 use crate::statement::stmt;
-use dpl_nodes::{Step, Stop};
+use dpl_nodes::{MapExpr, Step, Stop};
 use dpl_scopes::Scopes;
 use dpl_tree::{Arena, Program, Stmt};
 
@@ -31,6 +31,8 @@ pub struct Planned<'s, 't> {
     pub steps: &'t [Step<'t>],
     /// How many slots a frame needs.
     pub slots: usize,
+    /// The maps that it names, to which steps refer by their numbers.
+    pub maps: Vec<MapExpr<'t>>,
     /// The names at the program's end: its top level.
     pub scopes: Scopes<'s>,
 }
@@ -90,6 +92,7 @@ pub fn plan<'s, 't>(arena: Arena<'t>, program: &Program<'s>) -> Result<Planned<'
     Ok(Planned {
         steps,
         slots: plan.slots,
+        maps: plan.maps,
         scopes: plan.scopes,
     })
 }

@@ -1,4 +1,4 @@
-// What a plan has so far: the names in sight, how many slots there are, and the reduce variables of the forall around.
+// What a plan has so far: the names in sight, how many slots there are, the reduce variables of the forall around, and the maps.
 // A scope is opened and left here, and a name is declared here, with the next slot.
 
 ghost use Rattle.std.specs.Prelude.{◌≡◌, ◌≢◌, ◌≤◌, ◌<◌, ◌++◌, ◌∷◌, [], drop, true, false, Err, Some, OnOk, IfOk};
@@ -10,7 +10,7 @@ ghost use Rattle.dpl_scopes.specs.View.{sort_view};
 ghost use Rattle.dpl_nodes.specs.Faults.{IsNear};
 ghost use Rattle.dpl_nodes.specs.declared.stop.Stop.TheVariants as stop;
 
-use dpl_nodes::{Intent, Spot, Stop};
+use dpl_nodes::{Intent, MapExpr, Spot, Stop};
 use dpl_scopes::{Scopes, Sort};
 use dpl_syntax::Place;
 use dpl_tree::Arena;
@@ -33,6 +33,8 @@ pub(crate) struct Plan<'s, 't> {
     pub slots: usize,
     /// The reduce variables of the forall around, if there is one.
     pub intents: Vec<Reducing<'s>>,
+    /// The maps that are named so far.
+    pub maps: Vec<MapExpr<'t>>,
 }
 
 impl<'s, 't> Plan<'s, 't> {
@@ -48,6 +50,7 @@ impl<'s, 't> Plan<'s, 't> {
                 scopes,
                 slots: 0,
                 intents: Vec::new(arena.alloc()),
+                maps: Vec::new(arena.alloc()),
             }),
             Err(_) => Err(Stop::Memory),
         }

@@ -1,5 +1,5 @@
 -- A declaration is planned where the check gives its type, and what it begins with is of that type's kind and shape.
-use Rattle.std.proofs.Common.{rules, ◌≡◌, true, false, Err, Some, None, sym, ap, ◌∙◌, subst}
+use Rattle.std.proofs.Common.{rules, ◌≡◌, ◌<◌, ◌≤◌, true, false, Err, Some, None, sym, ap, ◌∙◌, subst}
 use Rattle.dpl_tree.specs.Declarations.{declare_view}
 use Rattle.dpl_nodes.specs.declared.stop.Stop.TheVariants as stop
 use Rattle.dpl_typer.proofs.Names.{if_ok, if_both}
@@ -12,11 +12,14 @@ use Rattle.dpl_planner.proofs.declaration.declare_single.Goals as goal
 pub returns-clause-plans : goal.returns-clause-plans
 returns-clause-plans c =
     let made = c.in_ok-slot.ensures in
+    let placed = c.place.ensures in
     let begun : c.begins.result ≡ true = search rules in
     if_both c.declares.result
     (λ s node kept.
-    declare-plans c.args.plan.now (declare_view c.args.written.now) c.in_ok-declared.declared c.in-Some.value_type c.in_ok-declared.ensures.declared c.in-Some.is c.declare.new.self c.in_ok-begun.begun c.in_ok-slot.slot s
-    c.in_ok-begun.ensures.initial (c.begins.ensures.yes begun) kept.0 made.fresh made.next made.below made.slots made.scopes made.intents node)
+    declare-plans c.args.plan.now (declare_view c.args.written.now) c.in_ok-declared.declared c.in-Some.value_type c.in_ok-declared.ensures.declared c.in-Some.is c.place.new.plan c.in_ok-begun.begun c.in_ok-slot.slot s
+    c.in_ok-begun.ensures.initial (c.begins.ensures.yes begun) kept.0 made.fresh made.next
+    (subst (λ n. c.in_ok-slot.slot < n) (sym placed.slots) made.below) (subst (λ n. c.args.plan.now.slots ≤ n) (sym placed.slots) made.slots)
+    (placed.scopes ∙ made.scopes) (placed.intents ∙ made.intents) node)
     c.declares.ensures.node c.declares.ensures.kind
 
 pub returns-clause-config : goal.returns-clause-config
