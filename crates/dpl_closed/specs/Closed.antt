@@ -1,5 +1,5 @@
 -- The forms that are read and checked, and don't run yet: locales, tasks and cells.
--- Of a program that has one the first token that needs it is told, in the order of the text. A map is never evaluated, so that it needs nothing, whatever stands in it.
+-- Of a program that has one the first token that needs it is told, in the order of the text. No meaning evaluates a map, so that it needs nothing, whatever stands in it.
 use Rattle.std.specs.Prelude.{Option, Some, None, List, [], ◌∷◌}
 use Rattle.dpl_syntax.specs.declared.place.Place.{Place}
 use Rattle.dpl_language.specs.Tree.{AfterComma, Listed, ExprTree, Number, TruthWord, Named, LocalesWord, LocaleCount, HereWord, Grouped, DomainLiteral, Prefixed, Reduced, Chain, Postfixed, ItemTree, One, RangeItem, Stride, NoStride, By, Links, NoLinks, Link, Posts, NoPosts, Post, PostTree, Brackets, Rounds, Dotted, MethodTree, Plainly, Dim, Contains, Expand, CellRead, Items, FirstItem, MoreItems, NoItems, NextItem, Exprs, FirstExpr, MoreExprs, NoExprs, NextExpr}

@@ -1,6 +1,6 @@
 -- What a plan of a program is to whoever runs it: its names resolved, its steps, and the scopes that it leaves.
 -- The planner promises each part of it by a clause of its own.
-use Rattle.std.specs.Prelude.{◌≡◌, ℕ, List, Some, option_map}
+use Rattle.std.specs.Prelude.{◌≡◌, ℕ, List, [], Some, option_map}
 use Rattle.dpl_language.specs.Tree.{ProgramTree}
 use Rattle.dpl_language.specs.Names.{Text, paired}
 use Rattle.dpl_agreement.specs.Renamed.{renamed_program}
@@ -9,6 +9,7 @@ use Rattle.dpl_rules.specs.Sights.{Scopes}
 use Rattle.dpl_rules.specs.Breaches.{top}
 use Rattle.dpl_rules.specs.Sound.{behind_all}
 use Rattle.dpl_scopes.specs.Slots.{slot_in}
+use Rattle.dpl_given.specs.Words.{words_in}
 use Rattle.dpl_lowered.specs.LoweredStatements.{lowered_program}
 use Rattle.dpl_words.specs.Words.{LeafKind, set_at, given_as}
 use Rattle.dpl_memory.specs.Memory.{PlainKind, known_variable}
@@ -22,6 +23,10 @@ use Rattle.dpl_typer.specs.Sights.{sight_of, AreKnownScopes}
 abbrev pub IsGivenAlike : Scopes → Start → Type 0
 IsGivenAlike scopes start =
     (x : Text) (k : LeafKind) (slot : ℕ) → kind_in scopes x ≡ Some (PlainKind k) → slot_in scopes x ≡ Some slot → paired x start.texts ≡ option_map (given_as k) (set_at slot start.words)
+
+-- a run with so many slots, in which the sets give their words
+abbrev pub start_of : ℕ → Scopes → List (List ℕ) → Start
+start_of slots scopes sets = record { slots = slots; texts = []; words = words_in scopes sets }
 
 pub record IsPlan (t : ProgramTree Text) (slots : ℕ) (scopes : Scopes) (steps : List Step) : Type 0 where
   pub resolved : ProgramTree Bound

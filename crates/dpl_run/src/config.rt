@@ -2,24 +2,14 @@
 // A run's meaning sees the budget alone; the other numbers say where work is done.
 
 ghost use Rattle.std.specs.Prelude.{◌≡◌, ◌↔◌, IsOk, IfOk, IsTrue};
-ghost use Rattle.dpl_run.specs.Settings.{Settings, AreLocales, IsCount, IsGrid2, IsGrid3};
+ghost use Rattle.dpl_run.specs.Settings.{Settings, AreLocales, IsCount, IsGrid2, IsGrid3, layout_of};
 
+use dpl_layout::{Layout, Maps};
 use std::marker::Model;
 use thiserror::Error;
 
 /// The greatest budget, and the greatest number of tries: 2^32.
 pub const MOST_TURNS: u64 = 1 << 32;
-
-/// Which maps the domains of a program get.
-#[derive(Clone, Copy, PartialEq, Eq, Debug)]
-pub enum Maps {
-    /// Those that the text names.
-    AsIs,
-    /// A block map over its own box for each.
-    Block,
-    /// A cyclic map from its least members for each.
-    Cyclic,
-}
 
 /// Why numbers are no settings. Of several causes the first one here is told.
 #[derive(Clone, Copy, PartialEq, Eq, Debug, Error)]
@@ -54,9 +44,13 @@ pub struct Config {
 }
 
 impl Model for Config {
+    ghost use Rattle.dpl_run.specs.Settings.{Settings, IsLaidOut};
+
     ghost Value = { Settings };
 
     ghost view = { λ c. record { locales = c.locales; budget = c.budget; tries = c.tries; grid2 = c.grid2; grid3 = c.grid3; maps = c.maps } };
+
+    ghost invariant = { λ c. IsLaidOut c.locales c.grid2 c.grid3 };
 
     ghost inverse = { λ s. record { locales = s.locales; budget = s.budget; tries = s.tries; grid2 = s.grid2; grid3 = s.grid3; maps = s.maps } };
 }
@@ -113,6 +107,16 @@ impl Config {
         ensures { result ≡ self.now.locales }
     {
         self.locales
+    }
+
+    /// How locales are laid out, and which maps roots get.
+    pub(crate) fn layout(&self) -> Layout
+        ensures { result ≡ layout_of self.now }
+    {
+        let Some(layout) = Layout::new(self.locales, self.grid2, self.grid3, self.maps) else {
+            unreachable!()
+        };
+        layout
     }
 
     /// How many turns a loop may have, from 1 to 2^32.

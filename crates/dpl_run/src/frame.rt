@@ -1,12 +1,12 @@
-// The frame that a run starts from: its slots, and what the command line gives to them.
+// The frame that a run starts from: its slots, what the command line gives to them, and how locales are laid out.
 
 ghost use Rattle.std.specs.Prelude.{◌≡◌, ◌++◌, [], IfOk, OnOk};
 ghost use Rattle.dpl_memory.specs.Resolved.{first_memory};
-ghost use Rattle.dpl_nodes.specs.Frames.{with_words};
-ghost use Rattle.dpl_run.specs.Settings.{limits_of};
+ghost use Rattle.dpl_nodes.specs.Frames.{first_frame, with_memory, with_words};
+ghost use Rattle.dpl_run.specs.Settings.{limits_of, layout_of};
 
 use crate::config::Config;
-use dpl_nodes::Frame;
+use dpl_nodes::{Frame, MapExpr};
 use std::alloc::{AllocError, Global};
 
 // Gives these words to their slots, behind what was given before.
@@ -19,7 +19,7 @@ fn give_all(frame: &mut Frame<'_>, words: &[(usize, i64)]) -> Result<(), AllocEr
     Ok(())
 }
 
-/// A frame with so many slots, in which these words are given.
+/// A frame with so many slots, in which these words are given, for a program that names these maps.
 ///
 /// # Errors
 /// Out of memory.
@@ -28,10 +28,18 @@ pub(crate) fn first_frame<'t>(
     slots: usize,
     words: &[(usize, i64)],
     config: &Config,
+    maps: &'t [MapExpr<'t>],
 ) -> Result<Frame<'t>, AllocError>
-    ensures { IfOk result (λ f. f ≡ record { memory = first_memory (record { slots = slots; texts = []; words = words.now }); limits = limits_of config.now }) }
+    ensures { IfOk result (λ f. f ≡ with_memory (first_memory (record { slots = slots; texts = []; words = words.now })) (first_frame slots (limits_of config.now) (layout_of config.now) maps.now)) }
 {
-    let mut frame = Frame::new(alloc, slots, config.budget(), config.locales())?;
+    let mut frame = Frame::new(
+        alloc,
+        slots,
+        config.budget(),
+        config.locales(),
+        config.layout(),
+        maps,
+    )?;
     give_all(&mut frame, words)?;
     Ok(frame)
 }

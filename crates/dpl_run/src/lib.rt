@@ -15,8 +15,9 @@ mod run;
 mod text;
 mod writer;
 
-pub use config::{Config, ConfigFault, MOST_TURNS, Maps};
+pub use config::{Config, ConfigFault, MOST_TURNS};
 pub use dpl_contents::ArrayWords;
+pub use dpl_layout::Maps;
 pub use dpl_nodes::{DomainWord, Fault, FaultCode, RangeWord, Turn};
 pub use dpl_syntax::{Code, Place, Refusal};
 pub use gate::{Gate, OpenGate};
@@ -26,3 +27,6 @@ pub use outcome::Outcome;
 pub use refused::Refused;
 pub use text::run_text;
 pub use writer::{Out, OutFault, Plain, write_all};
+
+#[cfg(test)]
+mod tests;

@@ -6,7 +6,16 @@ ghost use Rattle.std.specs.Io.KnownBytes.{Appends, Keeps};
 ghost use Rattle.dpl_history.specs.declared.history.Event.{Event};
 ghost use Rattle.dpl_syntax.specs.declared.refusal.Refusal.{Refusal};
 ghost use Rattle.dpl_tree.specs.Statements.{stmts_of, program_view};
+ghost use Rattle.dpl_language.specs.Outcome.{no_deeds};
+ghost use Rattle.dpl_language.specs.Statements.{exec_all};
 ghost use Rattle.dpl_rules.specs.Breaches.{top};
+ghost use Rattle.dpl_memory.specs.Memory.{in_memory};
+ghost use Rattle.dpl_memory.specs.Resolved.{first_memory};
+ghost use Rattle.dpl_nodes.specs.Steps.{steps_of};
+ghost use Rattle.dpl_typer.specs.Sights.{AreKnownScopes};
+ghost use Rattle.dpl_run.specs.Leaving.{AreLeft};
+ghost use Rattle.dpl_run.specs.Plans.{start_of};
+ghost use Rattle.dpl_run.specs.Runs.{RanTo};
 ghost use Rattle.dpl_runnable.specs.Runnable.{AreRunnableTops};
 ghost use Rattle.dpl_run.specs.Headline.{ComesTo, ComesToOnly, IsRead, Means, tree_refusal};
 ghost use Rattle.dpl_run.specs.Refusing.{IsRejection, IsCause};
@@ -26,11 +35,11 @@ use bumpalo::Bump;
 use dpl_checker::refusal;
 use dpl_closed::closed;
 use dpl_given::given;
-use dpl_nodes::Stop as PlanStop;
+use dpl_nodes::{MapExpr, Stop as PlanStop};
 use dpl_parser::parse;
-use dpl_planner::plan;
+use dpl_planner::{Planned, plan};
 use dpl_syntax::{Code, Refusal, Stop, lex};
-use dpl_tree::{Arena, Program};
+use dpl_tree::{Arena, Program, Stmt};
 use std::alloc::{AllocError, Global};
 
 // A refused text writes its refusal's line alone.
@@ -62,6 +71,37 @@ fn tree_refusal<'t>(
     }
 }
 
+// The maps that a program names, in the arena, where steps look for them.
+fn kept<'t>(arena: Arena<'t>, maps: Vec<MapExpr<'t>>) -> Result<&'t [MapExpr<'t>], AllocError> {
+    match arena.list(maps) {
+        Ok(maps) => Ok(maps),
+        Err(_) => Err(AllocError),
+    }
+}
+
+// The run of a plan, in a frame that has what the sets give.
+fn run_planned<'t>(
+    arena: Arena<'t>,
+    planned: Planned<'_, 't>,
+    stmts: &[Stmt<'_>],
+    sets: &[&str],
+    config: &Config,
+) -> Result<Ended, AllocError>
+    ensures { IfOk result (λ ended. AreKnownScopes planned.entry.scopes → AreLeft planned.entry.scopes → RanTo planned.entry.scopes (stmts_of stmts.now)
+        (exec_all (limits_of config.now) in_memory (steps_of planned.entry.steps.now) (first_memory (start_of planned.entry.slots planned.entry.scopes (map (λ set. set.now) sets.now))) no_deeds) ended.outcome ended.text.items) }
+{
+    let alloc = arena.alloc();
+    let Planned {
+        steps,
+        slots,
+        maps,
+        scopes,
+    } = planned;
+    let words = given(alloc, &scopes, sets)?;
+    let frame = first_frame(alloc, slots, &words, config, kept(arena, maps)?)?;
+    run(alloc, steps, frame, &scopes, stmts)
+}
+
 // The run of a program that has no refusal: such a program runs, so that the planner doesn't refuse it.
 fn run_program<'t>(
     arena: Arena<'t>,
@@ -73,13 +113,8 @@ fn run_program<'t>(
     requires runnable { AreRunnableTops top (stmts_of program.now.stmts.now) }
     ensures { IfOk result (λ ended. (histories : List (List Event)) → Means (program_view program.now) (map (λ set. set.now) sets.now) (limits_of config.now) histories ended.outcome ended.text.items) }
 {
-    let alloc = arena.alloc();
     match plan(arena, program) {
-        Ok(planned) => {
-            let words = given(alloc, &planned.scopes, sets)?;
-            let frame = first_frame(alloc, planned.slots, &words, config)?;
-            run(alloc, planned.steps, frame, &planned.scopes, program.stmts)
-        }
+        Ok(planned) => run_planned(arena, planned, program.stmts, sets, config),
         Err(PlanStop::Memory) => Err(AllocError),
         Err(PlanStop::IllTyped) => unreachable!(),
     }

@@ -1,34 +1,25 @@
 -- The run of the plan, from the memory with what the sets give, is what the program means.
-use Rattle.std.proofs.Common.{[], map, sym, ap, ◌∙◌, subst}
-use Rattle.dpl_language.specs.Outcome.{no_deeds}
-use Rattle.dpl_language.specs.Statements.{exec_all}
+use Rattle.std.proofs.Common.{map, sym, subst}
 use Rattle.dpl_tree.specs.Statements.{program_view}
-use Rattle.dpl_memory.specs.Memory.{in_memory}
-use Rattle.dpl_memory.specs.Resolved.{first_memory}
-use Rattle.dpl_nodes.specs.Frames.{Framed}
-use Rattle.dpl_nodes.specs.Steps.{steps_of}
 use Rattle.dpl_typer.proofs.Names.{if_ok}
 use Rattle.dpl_rules.specs.Breaches.{top}
 use Rattle.dpl_run.specs.Leaving.{AreLeft}
 use Rattle.dpl_run.specs.Plans.{IsPlan}
-use Rattle.dpl_run.specs.Runs.{RanTo}
 use Rattle.dpl_run.specs.Settings.{limits_of}
 use Rattle.dpl_run.proofs.Meaning.{means-ran}
 use Rattle.dpl_run.proofs.Declared.{top-left, tops-left}
 use Rattle.dpl_run.proofs.Planned.{planned, sets-fit}
 use Rattle.dpl_run.proofs.text.run_program.Goals as goal
 
-pub returns-in_ok-frame-in-Ok : goal.returns-in_ok-frame-in-Ok
-returns-in_ok-frame-in-Ok c =
+pub returns-in-Ok : goal.returns-in-Ok
+returns-in-Ok c =
     let t = program_view c.args.program.now in
     let sets = map (λ set. set.now) c.args.sets.now in
     let p = c.in-Ok.planned in
     let steps = p.steps.now in
     let e = c.in-Ok.ensures in
     let plan : IsPlan t p.slots p.scopes steps = planned t p.slots p.scopes steps e.text e.steps e.fits e.left e.scopes e.plain in
-    let given = c.deref.ensures.value ∙ c.in_ok-words-in-Ok.ensures in
-    let frame = c.in_ok-frame-in-Ok.ensures ∙ ap (λ ws. record { memory = first_memory (record { slots = p.slots; texts = []; words = ws }); limits = limits_of c.args.config.now }) given in
-    if_ok c.run.result
+    if_ok c.run_planned.result
     (λ ended ran histories. means-ran t sets p.slots p.scopes steps plan (sets-fit t sets c.requires.unrefused) (limits_of c.args.config.now) histories ended.outcome ended.text.items
-    (subst (λ (f : Framed). RanTo p.scopes t.stmts (exec_all f.limits in_memory (steps_of steps) f.memory no_deeds) ended.outcome ended.text.items) frame (ran e.plain (subst AreLeft (sym e.scopes) (tops-left t.stmts top c.requires.runnable top-left)))))
-    c.run.ensures
+    (ran e.plain (subst AreLeft (sym e.scopes) (tops-left t.stmts top c.requires.runnable top-left))))
+    c.run_planned.ensures
