@@ -1,18 +1,13 @@
 // Texts through `run_text`: what each writes, and what it leaves.
 // The bytes are those of the language's worked examples, and of its rules.
 
-mod arrays;
 mod closed;
-mod domains;
 mod explaining;
 mod growths;
 mod input;
 mod lines;
 mod long;
-mod maps;
 mod messages;
-mod reduction_faults;
-mod reductions;
 mod scalars;
 mod sets;
 
@@ -24,9 +19,6 @@ use std::test::Fail;
 
 const SQUARES: &str =
     "var s: int; forall i in 1..8 by 2 with (+ reduce s) do s += i*i; writeln(s);";
-
-const SUMMED: &str =
-    "const D = {1..8} dmapped new blockDist(boundingBox={1..8}); var A: [D] int; forall i in D do A[i] = i*i; writeln(+ reduce A); writeln(A);";
 
 // Each text with its budget, and the bytes that are written of it.
 const ROWS: [(&str, u64, &str); 34] = [
@@ -143,31 +135,14 @@ fn written(rt: &HostRuntime, text: &[u8], budget: u64) -> Result<Vec<u8>, Fail> 
     written_by(rt, text, &[], budget)
 }
 
-// What is written of a text by these settings, without sets.
-fn written_by_settings(rt: &HostRuntime, text: &[u8], config: &Config) -> Result<Vec<u8>, Fail> {
-    let mut out = Plain::new(Vec::new(rt.alloc()));
-    run_text(rt, rt.alloc(), text, &[], config, &OpenGate, &mut out)?;
-    Ok(out.writer)
-}
-
-// The first text that doesn't write its bytes by these settings.
-fn first_wrong_by<'a>(
-    rt: &HostRuntime,
-    rows: &[(&'a str, &str)],
-    config: &Config,
-) -> Result<Option<&'a str>, Fail> {
+// The first text that doesn't write its bytes, with a budget of 1000 turns.
+fn first_wrong<'a>(rt: &HostRuntime, rows: &[(&'a str, &str)]) -> Result<Option<&'a str>, Fail> {
     for (text, bytes) in rows {
-        if written_by_settings(rt, text.as_bytes(), config)?.as_slice() != bytes.as_bytes() {
+        if written(rt, text.as_bytes(), 1000)?.as_slice() != bytes.as_bytes() {
             return Ok(Some(*text));
         }
     }
     Ok(None)
-}
-
-// The first text that doesn't write its bytes, with a budget of 1000 turns.
-fn first_wrong<'a>(rt: &HostRuntime, rows: &[(&'a str, &str)]) -> Result<Option<&'a str>, Fail> {
-    let config = Config::new(1, 1000, 9, [1, 1], [1, 1, 1], Maps::AsIs)?;
-    first_wrong_by(rt, rows, &config)
 }
 
 #[test]

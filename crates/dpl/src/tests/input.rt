@@ -102,12 +102,26 @@ fn longest_text_is_run(rt: HostRuntime) -> Result<(), Fail> {
 }
 
 // Each text with its status, its output and its dump.
-const ENDS: [(&str, u8, &str, &str); 5] = [
+const ENDS: [(&str, u8, &str, &str); 7] = [
     ("var n = 5; writeln(n);", 0, "5\n", "n = 5\n"),
     ("", 0, "", ""),
     ("var n = 5; writeln(1/0);", 1, "! F2 at 1:21\n", ""),
     ("var n = 5; writeln(m);", 2, "! C1 at 1:20\n", ""),
     ("var n = 5; for i in 1..10 do ;", 1, "! F5 at 1:12\n", ""),
+    // domains have no line in the dump
+    (
+        "const n = 2; const D = {1..n}; var b = D.contains(n); var E: domain(2); E = {D.dim(0), 0..1};",
+        0,
+        "",
+        "n = 2\nb = true\n",
+    ),
+    // an array has one, and one without elements too
+    (
+        "const n = 2; var D = {1..n}; var A: [D] int = 7; { var H: [D] int; } var B: [1..2, 1..2] bool; B[2, 1] = true; var C: [1..0] int; D = {2..3};",
+        0,
+        "",
+        "n = 2\nA = 7 0\nB = false false true false\nC =\n",
+    ),
 ];
 
 #[test]

@@ -1,9 +1,7 @@
 // Programs of domains without arrays, a row for each branch of the language, with the bytes that each writes.
 // Each is run with a budget of 1000 turns, where its row names no other, and again where locales, grids and maps are others.
 
-use super::input::{asked, ran};
-use super::{first_wrong, first_wrong_by, written};
-use dpl_run::{Config, Maps};
+use crate::writing::{first_wrong, first_wrong_anywhere, first_wrong_within};
 use std::test::Fail;
 
 // Domains as values: their sizes, dimensions and members, slices, expanded domains, and what is assigned.
@@ -272,50 +270,48 @@ const REFUSED: [(&str, &str); 15] = [
 
 #[test]
 fn straight(rt: HostRuntime) -> Result<(), Fail> {
-    assert_eq!(rt; first_wrong(&rt, &VALUES)?, None);
-    assert_eq!(rt; first_wrong(&rt, &FAULTS)?, None);
-    assert_eq!(rt; first_wrong(&rt, &REFUSED)?, None);
+    assert_eq!(rt;
+        first_wrong(
+            &rt,
+            &[VALUES.as_slice(), FAULTS.as_slice(), REFUSED.as_slice()]
+        )?,
+        None
+    );
     Ok(())
 }
 
 #[test]
 fn turned(rt: HostRuntime) -> Result<(), Fail> {
-    assert_eq!(rt; first_wrong(&rt, &LOOPS)?, None);
-    assert_eq!(rt; first_wrong(&rt, &FORALLS)?, None);
-    assert_eq!(rt; first_wrong(&rt, &TURNS)?, None);
+    assert_eq!(rt;
+        first_wrong(
+            &rt,
+            &[LOOPS.as_slice(), FORALLS.as_slice(), TURNS.as_slice()]
+        )?,
+        None
+    );
     Ok(())
 }
 
 #[test]
 fn budgets(rt: HostRuntime) -> Result<(), Fail> {
-    for (text, budget, bytes) in &BUDGETS {
-        let out = written(&rt, text.as_bytes(), *budget)?;
-        assert_eq!(rt; out.as_slice(), bytes.as_bytes(), "{text}");
-    }
+    assert_eq!(rt; first_wrong_within(&rt, &BUDGETS)?, None);
     Ok(())
 }
 
 // Locales, grids and maps change nothing of what is written, nor which turn is told.
 #[test]
 fn locales_and_maps(rt: HostRuntime) -> Result<(), Fail> {
-    let block = Config::new(6, 1000, 9, [2, 3], [1, 2, 3], Maps::Block)?;
-    assert_eq!(rt; first_wrong_by(&rt, &VALUES, &block)?, None);
-    assert_eq!(rt; first_wrong_by(&rt, &FORALLS, &block)?, None);
-    assert_eq!(rt; first_wrong_by(&rt, &TURNS, &block)?, None);
-    let cyclic = Config::new(4, 1000, 9, [4, 1], [2, 1, 2], Maps::Cyclic)?;
-    assert_eq!(rt; first_wrong_by(&rt, &LOOPS, &cyclic)?, None);
-    assert_eq!(rt; first_wrong_by(&rt, &FORALLS, &cyclic)?, None);
-    assert_eq!(rt; first_wrong_by(&rt, &TURNS, &cyclic)?, None);
+    assert_eq!(rt;
+        first_wrong_anywhere(
+            &rt,
+            &[
+                VALUES.as_slice(),
+                LOOPS.as_slice(),
+                FORALLS.as_slice(),
+                TURNS.as_slice()
+            ]
+        )?,
+        None
+    );
     Ok(())
-}
-
-// Domains have no line in the dump.
-#[test]
-fn dumped(rt: HostRuntime) {
-    let text =
-        "const n = 2; const D = {1..n}; var b = D.contains(n); var E: domain(2); E = {D.dim(0), 0..1};";
-    let got = ran(&rt, text.as_bytes(), &asked(&rt, true), false);
-    assert_eq!(rt; got.status, 0);
-    assert!(rt; got.out.is_empty());
-    assert_eq!(rt; got.errors.as_slice(), b"n = 2\nb = true\n".as_slice());
 }

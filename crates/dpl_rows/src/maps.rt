@@ -1,8 +1,7 @@
 // Programs with maps: each kind of map, on an initial value and on a type, and created domains, with the bytes that each writes.
 // A map changes nothing of what is written and is the cause of no fault, so that each row is run again by other locales and maps.
 
-use super::{first_wrong, first_wrong_by};
-use dpl_run::{Config, Maps};
+use crate::writing::{first_wrong, first_wrong_anywhere};
 use std::test::Fail;
 
 // Arrays over mapped domains: loops over these are made in the order of the domain, whoever owns an index.
@@ -275,35 +274,34 @@ const CLOSED: [(&str, &str); 3] = [
 
 #[test]
 fn values(rt: HostRuntime) -> Result<(), Fail> {
-    assert_eq!(rt; first_wrong(&rt, &VALUES)?, None);
-    assert_eq!(rt; first_wrong(&rt, &UNFAULTED)?, None);
+    assert_eq!(rt;
+        first_wrong(&rt, &[VALUES.as_slice(), UNFAULTED.as_slice()])?,
+        None
+    );
     Ok(())
 }
 
 #[test]
 fn faults(rt: HostRuntime) -> Result<(), Fail> {
-    assert_eq!(rt; first_wrong(&rt, &FAULTS)?, None);
-    assert_eq!(rt; first_wrong(&rt, &REFUSED)?, None);
-    assert_eq!(rt; first_wrong(&rt, &CLOSED)?, None);
+    assert_eq!(rt;
+        first_wrong(
+            &rt,
+            &[FAULTS.as_slice(), REFUSED.as_slice(), CLOSED.as_slice()]
+        )?,
+        None
+    );
     Ok(())
 }
 
-// By 1, 3, 4 and 64 locales, each by the maps of the text, by blocks and round and round, the same is written.
+// Whatever the locales and their grids, by the maps of the text, by blocks and round and round, the same is written.
 #[test]
 fn locales_and_maps(rt: HostRuntime) -> Result<(), Fail> {
-    const LAYOUTS: [(u32, [u32; 2], [u32; 3]); 4] = [
-        (1, [1, 1], [1, 1, 1]),
-        (3, [1, 3], [3, 1, 1]),
-        (4, [2, 2], [1, 2, 2]),
-        (64, [8, 8], [4, 4, 4]),
-    ];
-    for (locales, grid2, grid3) in LAYOUTS {
-        for maps in [Maps::AsIs, Maps::Block, Maps::Cyclic] {
-            let config = Config::new(locales, 1000, 9, grid2, grid3, maps)?;
-            assert_eq!(rt; first_wrong_by(&rt, &VALUES, &config)?, None);
-            assert_eq!(rt; first_wrong_by(&rt, &UNFAULTED, &config)?, None);
-            assert_eq!(rt; first_wrong_by(&rt, &FAULTS, &config)?, None);
-        }
-    }
+    assert_eq!(rt;
+        first_wrong_anywhere(
+            &rt,
+            &[VALUES.as_slice(), UNFAULTED.as_slice(), FAULTS.as_slice()]
+        )?,
+        None
+    );
     Ok(())
 }

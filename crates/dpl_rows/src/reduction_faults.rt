@@ -1,8 +1,7 @@
 // What reductions fault at, in which turn, and where the rules and the grammar refuse them.
 // Each row's place is that of the token that the rules name.
 
-use super::{first_wrong, first_wrong_by, written};
-use dpl_run::{Config, Maps};
+use crate::writing::{first_wrong, first_wrong_anywhere, first_wrong_within};
 use std::test::Fail;
 
 // Faults: in the turn of an index, or in none.
@@ -511,34 +510,25 @@ const REFUSED: [(&str, &str); 62] = [
 
 #[test]
 fn faults(rt: HostRuntime) -> Result<(), Fail> {
-    assert_eq!(rt; first_wrong(&rt, &FAULTS)?, None);
-    assert_eq!(rt; first_wrong(&rt, &REFUSED)?, None);
+    assert_eq!(rt; first_wrong(&rt, &[FAULTS.as_slice()])?, None);
+    Ok(())
+}
+
+#[test]
+fn refused(rt: HostRuntime) -> Result<(), Fail> {
+    assert_eq!(rt; first_wrong(&rt, &[REFUSED.as_slice()])?, None);
     Ok(())
 }
 
 #[test]
 fn budgets(rt: HostRuntime) -> Result<(), Fail> {
-    for (text, budget, bytes) in &BUDGETS {
-        let out = written(&rt, text.as_bytes(), *budget)?;
-        assert_eq!(rt; out.as_slice(), bytes.as_bytes(), "{text}");
-    }
+    assert_eq!(rt; first_wrong_within(&rt, &BUDGETS)?, None);
     Ok(())
 }
 
 // The first turn in the order of the domain is told, whoever owns its index.
 #[test]
 fn locales_and_maps(rt: HostRuntime) -> Result<(), Fail> {
-    const LAYOUTS: [(u32, [u32; 2], [u32; 3]); 4] = [
-        (1, [1, 1], [1, 1, 1]),
-        (3, [1, 3], [3, 1, 1]),
-        (4, [2, 2], [1, 2, 2]),
-        (64, [8, 8], [4, 4, 4]),
-    ];
-    for (locales, grid2, grid3) in LAYOUTS {
-        for maps in [Maps::AsIs, Maps::Block, Maps::Cyclic] {
-            let config = Config::new(locales, 1000, 9, grid2, grid3, maps)?;
-            assert_eq!(rt; first_wrong_by(&rt, &FAULTS, &config)?, None);
-        }
-    }
+    assert_eq!(rt; first_wrong_anywhere(&rt, &[FAULTS.as_slice()])?, None);
     Ok(())
 }

@@ -1,9 +1,7 @@
 // Programs of arrays, a row for each branch of the language, with the bytes that each writes.
 // Most are worked rows of the definition; each is run again where locales, grids and maps are others.
 
-use super::input::{asked, ran};
-use super::{first_wrong, first_wrong_by, written};
-use dpl_run::{Config, Maps};
+use crate::writing::{first_wrong, first_wrong_anywhere, first_wrong_within};
 use std::test::Fail;
 
 // Arrays that are declared, assigned, shown and given another domain.
@@ -259,48 +257,34 @@ const BUDGETS: [(&str, u64, &str); 7] = [
 
 #[test]
 fn values(rt: HostRuntime) -> Result<(), Fail> {
-    assert_eq!(rt; first_wrong(&rt, &VALUES)?, None);
+    assert_eq!(rt; first_wrong(&rt, &[VALUES.as_slice()])?, None);
     Ok(())
 }
 
 #[test]
 fn faults(rt: HostRuntime) -> Result<(), Fail> {
-    assert_eq!(rt; first_wrong(&rt, &FAULTS)?, None);
-    assert_eq!(rt; first_wrong(&rt, &REFUSED)?, None);
+    assert_eq!(rt; first_wrong(&rt, &[FAULTS.as_slice()])?, None);
+    Ok(())
+}
+
+#[test]
+fn refused(rt: HostRuntime) -> Result<(), Fail> {
+    assert_eq!(rt; first_wrong(&rt, &[REFUSED.as_slice()])?, None);
     Ok(())
 }
 
 #[test]
 fn budgets(rt: HostRuntime) -> Result<(), Fail> {
-    for (text, budget, bytes) in &BUDGETS {
-        let out = written(&rt, text.as_bytes(), *budget)?;
-        assert_eq!(rt; out.as_slice(), bytes.as_bytes(), "{text}");
-    }
+    assert_eq!(rt; first_wrong_within(&rt, &BUDGETS)?, None);
     Ok(())
 }
 
 // Locales, grids and maps change nothing of what is written, nor which turn is told.
 #[test]
 fn locales_and_maps(rt: HostRuntime) -> Result<(), Fail> {
-    let block = Config::new(6, 1000, 9, [2, 3], [1, 2, 3], Maps::Block)?;
-    assert_eq!(rt; first_wrong_by(&rt, &VALUES, &block)?, None);
-    assert_eq!(rt; first_wrong_by(&rt, &FAULTS, &block)?, None);
-    let cyclic = Config::new(64, 1000, 9, [8, 8], [4, 4, 4], Maps::Cyclic)?;
-    assert_eq!(rt; first_wrong_by(&rt, &VALUES, &cyclic)?, None);
-    assert_eq!(rt; first_wrong_by(&rt, &FAULTS, &cyclic)?, None);
-    Ok(())
-}
-
-// An array has a line in the dump, one without elements too.
-#[test]
-fn dumped(rt: HostRuntime) {
-    let text =
-        "const n = 2; var D = {1..n}; var A: [D] int = 7; { var H: [D] int; } var B: [1..2, 1..2] bool; B[2, 1] = true; var C: [1..0] int; D = {2..3};";
-    let got = ran(&rt, text.as_bytes(), &asked(&rt, true), false);
-    assert_eq!(rt; got.status, 0);
-    assert!(rt; got.out.is_empty());
     assert_eq!(rt;
-        got.errors.as_slice(),
-        b"n = 2\nA = 7 0\nB = false false true false\nC =\n".as_slice()
+        first_wrong_anywhere(&rt, &[VALUES.as_slice(), FAULTS.as_slice()])?,
+        None
     );
+    Ok(())
 }

@@ -1,7 +1,7 @@
 // Programs with reductions, a row for each branch of the language, with the bytes that each writes.
 // Each row is written from the rules; what reductions fault at, and where they are refused, stands in `reduction_faults`.
 
-use super::{SUMMED, first_wrong, first_wrong_by, written, written_by};
+use crate::writing::{first_wrong, first_wrong_anywhere, one_locale, written};
 use dpl_run::{Config, Maps, OpenGate, Plain, Refused, run_text};
 use std::test::Fail;
 
@@ -242,40 +242,41 @@ const SETS: [(&str, &str, &str); 5] = [
 
 #[test]
 fn values(rt: HostRuntime) -> Result<(), Fail> {
-    assert_eq!(rt; first_wrong(&rt, &OPERATORS)?, None);
-    assert_eq!(rt; first_wrong(&rt, &OPERANDS)?, None);
-    assert_eq!(rt; first_wrong(&rt, &FORMS)?, None);
+    assert_eq!(rt;
+        first_wrong(
+            &rt,
+            &[OPERATORS.as_slice(), OPERANDS.as_slice(), FORMS.as_slice()]
+        )?,
+        None
+    );
     Ok(())
 }
 
 #[test]
 fn sets(rt: HostRuntime) -> Result<(), Fail> {
+    let config = one_locale(9)?;
     for (text, set, bytes) in &SETS {
-        let out = written_by(&rt, text.as_bytes(), &[*set], 9)?;
+        let out = written(&rt, text.as_bytes(), &[*set], &config)?;
         assert_eq!(rt; out.as_slice(), bytes.as_bytes(), "{text} {set}");
     }
     Ok(())
 }
 
-// By 1, 3, 4 and 64 locales, each by the maps of the text, by blocks and round and round, the same is written.
+// Whatever the locales and their grids, by the maps of the text, by blocks and round and round, the same is written.
 #[test]
 fn locales_and_maps(rt: HostRuntime) -> Result<(), Fail> {
-    const LAYOUTS: [(u32, [u32; 2], [u32; 3]); 4] = [
-        (1, [1, 1], [1, 1, 1]),
-        (3, [1, 3], [3, 1, 1]),
-        (4, [2, 2], [1, 2, 2]),
-        (64, [8, 8], [4, 4, 4]),
-    ];
-    for (locales, grid2, grid3) in LAYOUTS {
-        for maps in [Maps::AsIs, Maps::Block, Maps::Cyclic] {
-            let config = Config::new(locales, 1000, 9, grid2, grid3, maps)?;
-            assert_eq!(rt; first_wrong_by(&rt, &OPERATORS, &config)?, None);
-            assert_eq!(rt; first_wrong_by(&rt, &OPERANDS, &config)?, None);
-            assert_eq!(rt; first_wrong_by(&rt, &FORMS, &config)?, None);
-        }
-    }
+    assert_eq!(rt;
+        first_wrong_anywhere(
+            &rt,
+            &[OPERATORS.as_slice(), OPERANDS.as_slice(), FORMS.as_slice()]
+        )?,
+        None
+    );
     Ok(())
 }
+
+const SUMMED: &str =
+    "const D = {1..8} dmapped new blockDist(boundingBox={1..8}); var A: [D] int; forall i in D do A[i] = i*i; writeln(+ reduce A); writeln(A);";
 
 // A writer that takes three bytes of a sum and of its array, and then fails, has these.
 #[test]
@@ -301,9 +302,10 @@ fn a_writer_that_fails(rt: HostRuntime) -> Result<(), Fail> {
 // Each beginning of a program is one, or has a refusal, and writes whole lines.
 #[test]
 fn beginnings(rt: HostRuntime) -> Result<(), Fail> {
+    let config = one_locale(8)?;
     let mut text = Vec::new(rt.alloc());
     for byte in SUMMED.as_bytes() {
-        let out = written(&rt, &text, 8)?;
+        let out = written(&rt, &text, &[], &config)?;
         assert!(rt; out.is_empty() || out.last() == Some(&b'\n'));
         text.push(*byte)?;
     }
