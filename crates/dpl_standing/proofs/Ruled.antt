@@ -1,0 +1,136 @@
+-- What breaks no rule stands where it may. In a forall's turn C9 forbids prints and loops that make turns or tasks;
+-- outside it is asked that nothing needs what doesn't run yet, so that there are no tasks.
+use Rattle.std.proofs.Common.{◌≡◌, false, List, [], ◌∷◌, ◌++◌, Option, Some, None, refl, sym, ap, ◌∙◌, append_assoc}
+use Rattle.dpl_syntax.specs.declared.place.Place.{Place}
+use Rattle.dpl_syntax.specs.declared.refusal.Breach.{Breach}
+use Rattle.dpl_language.specs.Tree.{StmtTree, Nothing, Declare, Assigned, Call, Write, Block, If, While, For, Forall, Coforall, On, Body, WordBody, BlockBody, Stmts, NoStmts, Then, Else, NoElse, ElseDo}
+use Rattle.dpl_language.specs.Names.{Text}
+use Rattle.dpl_closed.specs.Closed.{or_place, closed_expr, closed_item, closed_stmt, closed_body, closed_stmts, closed_else}
+use Rattle.dpl_rules.specs.Types.{Origin}
+use Rattle.dpl_rules.specs.Sights.{Scopes, Sight, enter, inside}
+use Rattle.dpl_rules.specs.Assignments.{condition_breaches}
+use Rattle.dpl_rules.specs.Loops.{ForWord, ForallWord, header_breaches, with_breaches, in_loop, behind}
+use Rattle.dpl_rules.specs.Deeds.{Deed, expr_deeds, item_deeds}
+use Rattle.dpl_rules.specs.Doings.{stmt_deeds, body_deeds, stmts_deeds, else_deeds}
+use Rattle.dpl_rules.specs.Bodies.{Turns, turns_of, written_arrays, each, deed_breaches, forall_breaches}
+use Rattle.dpl_rules.specs.Breaches.{in_forall, stmt_breaches, body_breaches, stmts_breaches, else_breaches}
+use Rattle.dpl_rules.proofs.Admission.{first_empty, second_empty}
+use Rattle.dpl_standing.specs.Standing.{Outside, InTurn, MayStand, BodyMayStand, AllMayStand, ElseMayStand}
+
+-- ---- in a turn: what it does breaks no rule of a forall's body
+each-append : (g : Deed → List Breach) (ds es : List Deed) → each g (ds ++ es) ≡ each g ds ++ each g es
+each-append g [] es = refl
+each-append g (d ∷ ds) es = ap (λ cs. g d ++ cs) (each-append g ds es) ∙ sym (append_assoc (g d) (each g ds) (each g es))
+
+module _ (loop : Turns) (written : List Origin) where
+  abbrev MayBeDone : List Deed → Type 0
+  MayBeDone ds = each (deed_breaches loop written) ds ≡ []
+
+  first_done : (ds es : List Deed) → MayBeDone (ds ++ es) → MayBeDone ds
+  first_done ds es m =
+      let g = deed_breaches loop written in
+      first_empty (each g ds) (each g es) (sym (each-append g ds es) ∙ m)
+
+  second_done : (ds es : List Deed) → MayBeDone (ds ++ es) → MayBeDone es
+  second_done ds es m =
+      let g = deed_breaches loop written in
+      second_empty (each g ds) (each g es) (sym (each-append g ds es) ∙ m)
+
+  mutual
+    pub turn-stands : (ss : Scopes) (t : StmtTree Text) → each (deed_breaches loop written) (stmt_deeds ss t) ≡ [] → MayStand InTurn t
+    turn-stands ss (Nothing at) m = tt
+    turn-stands ss (Declare d) m = tt
+    turn-stands ss (Assigned target sign item semicolon) m = tt
+    turn-stands ss (Call x dot call semicolon) m = tt
+    turn-stands ss (Write t) m = absurd cc
+    turn-stands ss (Block from ts upto) m = turn_stmts-stand (enter ss) ts m
+    turn-stands ss (If at e first second) m =
+        let tested = expr_deeds ss false e in
+        let first_deeds = body_deeds (enter ss) first in
+        let second_deeds = else_deeds (enter ss) second in (
+          turn_body-stands (enter ss) first (second_done tested first_deeds (first_done (tested ++ first_deeds) second_deeds m)),
+          turn_else-stands (enter ss) second (second_done (tested ++ first_deeds) second_deeds m),
+        )
+    turn-stands ss (While at e body) m = turn_body-stands (enter ss) body (second_done (expr_deeds ss false e) (body_deeds (enter ss) body) m)
+    turn-stands ss (For at xs word item body) m =
+        let inner = in_loop ss ForWord xs item in
+        turn_body-stands inner body (second_done (item_deeds ss false item) (body_deeds inner body) m)
+    turn-stands ss (Forall at xs word item intents body) m = absurd cc
+    turn-stands ss (Coforall at xs word item intents body) m = absurd cc
+    turn-stands ss (On at e body) m = absurd cc
+
+    pub turn_body-stands : (ss : Scopes) (t : Body Text) → each (deed_breaches loop written) (body_deeds ss t) ≡ [] → BodyMayStand InTurn t
+    turn_body-stands ss (WordBody at t) m = turn-stands ss t m
+    turn_body-stands ss (BlockBody from ts upto) m = turn_stmts-stand ss ts m
+
+    pub turn_stmts-stand : (ss : Scopes) (ts : Stmts Text) → each (deed_breaches loop written) (stmts_deeds ss ts) ≡ [] → AllMayStand InTurn ts
+    turn_stmts-stand ss NoStmts m = tt
+    turn_stmts-stand ss (Then t rest) m =
+        let done = stmt_deeds ss t in
+        let more = stmts_deeds (behind ss t) rest in
+        (turn-stands ss t (first_done done more m), turn_stmts-stand (behind ss t) rest (second_done done more m))
+
+    pub turn_else-stands : (ss : Scopes) (t : Else Text) → each (deed_breaches loop written) (else_deeds ss t) ≡ [] → ElseMayStand InTurn t
+    turn_else-stands ss NoElse m = tt
+    turn_else-stands ss (ElseDo at t) m = turn-stands ss t m
+
+-- ---- outside of foralls: no part needs what doesn't run
+first_open : (a b : Option Place) → or_place a b ≡ None → a ≡ None
+first_open None b c = refl
+first_open (Some at) b c = absurd cc
+
+second_open : (a b : Option Place) → or_place a b ≡ None → b ≡ None
+second_open None b c = c
+second_open (Some at) b c = absurd cc
+
+mutual
+  pub program-stands : (sight : Sight) (t : StmtTree Text) → closed_stmt t ≡ None → stmt_breaches sight t ≡ [] → MayStand Outside t
+  program-stands sight (Nothing at) c h = tt
+  program-stands sight (Declare d) c h = tt
+  program-stands sight (Assigned target sign item semicolon) c h = tt
+  program-stands sight (Call x dot call semicolon) c h = tt
+  program-stands sight (Write t) c h = tt
+  program-stands sight (Block from ts upto) c h = program_stmts-stand (inside sight (enter sight.scopes)) ts c h
+  program-stands sight (If at e first second) c h =
+      let within = inside sight (enter sight.scopes) in
+      let test = condition_breaches sight e in
+      let one = body_breaches within first in
+      let other = else_breaches within second in
+      let behind_test = second_open (closed_expr e) (or_place (closed_body first) (closed_else second)) c in (
+        program_body-stands within first (first_open (closed_body first) (closed_else second) behind_test) (second_empty test one (first_empty (test ++ one) other h)),
+        program_else-stands within second (second_open (closed_body first) (closed_else second) behind_test) (second_empty (test ++ one) other h),
+      )
+  program-stands sight (While at e body) c h =
+      let within = inside sight (enter sight.scopes) in
+      program_body-stands within body (second_open (closed_expr e) (closed_body body) c) (second_empty (condition_breaches sight e) (body_breaches within body) h)
+  program-stands sight (For at xs word item body) c h =
+      let within = inside sight (in_loop sight.scopes ForWord xs item) in
+      program_body-stands within body (second_open (closed_item item) (closed_body body) c) (second_empty (header_breaches sight.scopes ForWord xs item) (body_breaches within body) h)
+  program-stands sight (Forall at xs word item intents body) c h =
+      let inner = in_loop sight.scopes ForallWord xs item in
+      let ds = body_deeds inner body in
+      let loop = turns_of sight.scopes xs intents in
+      let heads = header_breaches sight.scopes ForallWord xs item ++ with_breaches sight.scopes intents in
+      let told = forall_breaches loop ds in
+      let others = body_breaches (in_forall sight xs item intents) body in
+      (tt, turn_body-stands loop (written_arrays loop ds) inner body (second_empty heads told (first_empty (heads ++ told) others h)))
+  program-stands sight (Coforall at xs word item intents body) c h = absurd cc
+  program-stands sight (On at e body) c h = absurd cc
+
+  pub program_body-stands : (sight : Sight) (t : Body Text) → closed_body t ≡ None → body_breaches sight t ≡ [] → BodyMayStand Outside t
+  program_body-stands sight (WordBody at t) c h = program-stands sight t c h
+  program_body-stands sight (BlockBody from ts upto) c h = program_stmts-stand sight ts c h
+
+  pub program_stmts-stand : (sight : Sight) (ts : Stmts Text) → closed_stmts ts ≡ None → stmts_breaches sight ts ≡ [] → AllMayStand Outside ts
+  program_stmts-stand sight NoStmts c h = tt
+  program_stmts-stand sight (Then t rest) c h =
+      let within = inside sight (behind sight.scopes t) in
+      let own = stmt_breaches sight t in
+      let others = stmts_breaches within rest in (
+        program-stands sight t (first_open (closed_stmt t) (closed_stmts rest) c) (first_empty own others h),
+        program_stmts-stand within rest (second_open (closed_stmt t) (closed_stmts rest) c) (second_empty own others h),
+      )
+
+  pub program_else-stands : (sight : Sight) (t : Else Text) → closed_else t ≡ None → else_breaches sight t ≡ [] → ElseMayStand Outside t
+  program_else-stands sight NoElse c h = tt
+  program_else-stands sight (ElseDo at t) c h = program-stands sight t c h

@@ -1,0 +1,2 @@
+-- Where statements stand, and which may stand there.
+pub mod Standing
