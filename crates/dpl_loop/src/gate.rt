@@ -1,7 +1,7 @@
 // Gates: what a worker asks before each of its turns.
 // A gate may refuse entries, and its contract names those that it may.
 
-ghost use Rattle.std.specs.Prelude.{◌≡◌, ℕ, IsTrue};
+ghost use Rattle.std.specs.Prelude.{◌≡◌, ℕ, false};
 
 /// A gate before the turns of loops. A worker enters with its locale and the turn's place in the loop's domain, and
 /// ends at the first refusal.
@@ -11,7 +11,7 @@ pub trait Gate {
 
     /// Whether a worker may make the turn at a place. It may wait before it answers.
     fn enter(&self, worker: u32, place: u64) -> bool
-        ensures { (may_refuse self.now worker place → ⊥) → IsTrue result };
+        ensures { result ≡ false → may_refuse self.now worker place };
 }
 
 /// The gate that refuses nothing.
@@ -21,6 +21,7 @@ pub struct OpenGate;
 impl Gate for OpenGate {
     ghost may_refuse = { λ _ _ _. ⊥ };
 
+    #[inline(always)]
     fn enter(&self, _worker: u32, _place: u64) -> bool {
         true
     }

@@ -1,0 +1,29 @@
+-- The indices of a range alone, by its members.
+use Rattle.std.proofs.Common.{◌≡◌, ℕ, zero, suc, ◌<◌, ℤ, List, [], ◌∷◌, length, slice_get, None, refl, sym, subst, ap}
+use Rattle.std.specs.Option.{option_map}
+use Rattle.std.specs.List.{flat_map}
+use Rattle.dpl_range.specs.Range.{members_of}
+use Rattle.dpl_range.specs.Equality.{TextRange}
+use Rattle.dpl_domain.specs.Indices.{indices}
+use Rattle.dpl_language.specs.Ranges.{indices_in}
+use Rattle.dpl_loop.proofs.Places.{within-there}
+
+alone-at : (is : List ℤ) (k : ℕ) → slice_get (flat_map (λ i. (i ∷ []) ∷ []) is) k ≡ option_map (λ i. i ∷ []) (slice_get is k)
+alone-at [] k = refl
+alone-at (i ∷ is) zero = refl
+alone-at (i ∷ is) (suc k) = alone-at is k
+
+pub line-at : (r : TextRange) (k : ℕ) → slice_get (indices_in (r ∷ [])) k ≡ option_map (λ i. i ∷ []) (slice_get (members_of r.value) k)
+unfolding indices
+line-at r k = alone-at (members_of r.value) k
+
+alone-length : (is : List ℤ) → length (flat_map (λ i. (i ∷ []) ∷ []) is) ≡ length is
+alone-length [] = refl
+alone-length (i ∷ is) = ap suc (alone-length is)
+
+pub line-length : (r : TextRange) → length (indices_in (r ∷ [])) ≡ length (members_of r.value)
+unfolding indices
+line-length r = alone-length (members_of r.value)
+
+pub line-there : (r : TextRange) (k : ℕ) → k < length (members_of r.value) → slice_get (indices_in (r ∷ [])) k ≡ None → ⊥
+line-there r k within none = within-there (indices_in (r ∷ [])) k (subst (λ n. k < n) (sym (line-length r)) within) none

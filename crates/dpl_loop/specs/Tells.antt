@@ -1,0 +1,25 @@
+-- How a fault is told as the reason why a loop or a run ended early.
+-- That memory ran out tells no fault, and that a gate refused tells none.
+use Rattle.std.specs.Prelude.{◌≡◌, Result, Ok, Err}
+use Rattle.dpl_language.specs.Values.{Index, Fault, InTurn, in_the_turn}
+use Rattle.dpl_nodes.specs.Faults.{fault_view}
+use Rattle.dpl_loop.specs.declared.stop.Stop.{Stop}
+use Rattle.dpl_loop.specs.declared.stop.Stop.TheVariants as stop
+
+abbrev pub IsFault : Fault → Stop → Type 0
+IsFault f (stop.Fault g) = fault_view g ≡ f
+IsFault f stop.Memory = ⊥
+IsFault f stop.Gate = ⊥
+
+-- both have ended well, or by the same fault
+abbrev pub TellsSame : Result (Unit {0}) Fault → Result (Unit {0}) Stop → Type 0
+TellsSame (Ok v) (Ok w) = Unit {0}
+TellsSame (Ok v) (Err h) = ⊥
+TellsSame (Err f) (Ok w) = ⊥
+TellsSame (Err f) (Err h) = IsFault f h
+
+-- the second is the first in the turn of an index
+abbrev pub NamesTurn : Index → Stop → Stop → Type 0
+NamesTurn t (stop.Fault f) h = IsFault (in_the_turn (InTurn t) (fault_view f)) h
+NamesTurn t stop.Memory h = h ≡ stop.Memory
+NamesTurn t stop.Gate h = h ≡ stop.Gate

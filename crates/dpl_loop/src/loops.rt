@@ -1,0 +1,112 @@
+// Foralls over ranges and domains: the turns are made one by one, in order, and each asks the gate first.
+// A worker enters for a turn as the locale that owns the turn's index.
+
+ghost use Rattle.std.specs.Prelude.{◌≡◌, ℕ, [], ◌∷◌, Some, slice_get};
+ghost use Rattle.dpl_language.specs.Ranges.{indices_in};
+ghost use Rattle.dpl_language.specs.Outcome.{Deeds, in_order};
+ghost use Rattle.dpl_language.specs.Loops.{named_turn};
+ghost use Rattle.dpl_map.specs.Maps.{owner};
+ghost use Rattle.dpl_contents.specs.Range.{range_word};
+ghost use Rattle.dpl_loop.specs.Runs.{RunsTo};
+ghost use Rattle.dpl_loop.specs.Entries.{MayRefuse};
+
+use crate::gate::Gate;
+use crate::stop::Stop;
+use crate::turns::Turns;
+use dpl_contents::{DomainWord, RangeWord};
+use dpl_domain::Index;
+use dpl_map::Map;
+use dpl_nodes::Frame;
+
+// The turn of an index at a place, once its owner has entered. Its fault names it.
+#[inline(always)]
+fn entered<'t, T: Turns<'t>, G: Gate>(
+    turns: &T,
+    index: Index,
+    place: u64,
+    map: &Map,
+    frame: &mut Frame<'t>,
+    gate: &G,
+) -> Result<(), Stop>
+    ensures ends { (done : Deeds) → RunsTo (G.may_refuse gate.now (owner map.now index) place) result frame.new.memory done
+        (named_turn (T.turn turns.now frame.old.limits) index frame.old.memory done) }
+    ensures limits { frame.new.limits ≡ frame.old.limits }
+{
+    if !gate.enter(map.owner(index), place) {
+        return Err(Stop::Gate);
+    }
+    match turns.make(index, frame) {
+        Ok(()) => Ok(()),
+        Err(stop) => Err(stop.in_turn(index)),
+    }
+}
+
+/// A forall over a domain. Each turn is made by the owner of its index.
+///
+/// # Errors
+/// The fault of the first turn that has one, with its turn; out of memory; or the gate refused an entry, which it may. Where the
+/// gate refused and where memory ran out, nothing is said of the frame's memory.
+pub fn forall<'t, T: Turns<'t>, G: Gate>(
+    turns: &T,
+    over: DomainWord,
+    map: &Map,
+    frame: &mut Frame<'t>,
+    gate: &G,
+) -> Result<(), Stop>
+    ensures ends { (done : Deeds) → RunsTo (MayRefuse (G.may_refuse gate.now) map.now over) result frame.new.memory done
+        (in_order (named_turn (T.turn turns.now frame.old.limits)) (indices_in over) frame.old.memory done) }
+    ensures limits { frame.new.limits ≡ frame.old.limits }
+{
+    let domain = over.domain();
+    let mut indices = domain.cursor();
+    for place in 0..domain.size() {
+        let Some(index) = indices.next() else {
+            unreachable!()
+        };
+        entered(turns, index, place, map, frame, gate)?;
+    }
+    Ok(())
+}
+
+// The index of one coordinate.
+#[inline(always)]
+fn line(i: i64) -> Index
+    ensures { result ≡ i ∷ [] }
+{
+    Index::new(&[i]).unwrap()
+}
+
+// The index at a place of a range.
+#[inline(always)]
+fn line_index(range: &RangeWord, place: u64) -> Option<Index>
+    ensures { result ≡ slice_get (indices_in (range_word range.now ∷ [])) place }
+{
+    match range.range.nth(place) {
+        Some(i) => Some(line(i)),
+        None => None,
+    }
+}
+
+/// A forall over a range, as over the domain of this range alone. Ranges may have more members than a domain.
+///
+/// # Errors
+/// As for [`forall`].
+pub fn forall_line<'t, T: Turns<'t>, G: Gate>(
+    turns: &T,
+    over: &RangeWord,
+    map: &Map,
+    frame: &mut Frame<'t>,
+    gate: &G,
+) -> Result<(), Stop>
+    ensures ends { (done : Deeds) → RunsTo (MayRefuse (G.may_refuse gate.now) map.now (range_word over.now ∷ [])) result frame.new.memory done
+        (in_order (named_turn (T.turn turns.now frame.old.limits)) (indices_in (range_word over.now ∷ [])) frame.old.memory done) }
+    ensures limits { frame.new.limits ≡ frame.old.limits }
+{
+    for place in 0..over.range.size() {
+        let Some(index) = line_index(over, place) else {
+            unreachable!()
+        };
+        entered(turns, index, place, map, frame, gate)?;
+    }
+    Ok(())
+}

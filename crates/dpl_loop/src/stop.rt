@@ -1,0 +1,81 @@
+// What ends a loop, and a run, early.
+// A fault is an outcome of the program; that memory ran out and that a gate refused are none.
+
+ghost use Rattle.std.specs.Prelude.{◌≡◌, Err};
+ghost use Rattle.dpl_nodes.specs.Faults.{fault_view};
+ghost use Rattle.dpl_loop.specs.declared.stop.Stop.{Stop};
+ghost use Rattle.dpl_loop.specs.Tells.{IsFault, TellsSame, NamesTurn};
+
+use dpl_domain::Index;
+use dpl_nodes::{Fault, Trap, Turn};
+use std::alloc::{AllocError, AllocFailed};
+
+/// Why a loop, or a run, ended early: by a fault, out of memory, or because a gate refused an entry.
+#[derive(Clone, Copy, PartialEq, Eq, Debug)]
+pub enum Stop {
+    Fault(Fault),
+    Memory,
+    Gate,
+}
+
+impl From<Trap> for Stop {
+    ghost from_gives = { λ f e. IsFault f e };
+
+    fn from(trap: Trap) -> Stop {
+        Stop::Fault(trap.fault())
+    }
+}
+
+impl From<AllocError> for Stop {
+    ghost from_gives = { λ _ e. e ≡ Stop.Memory };
+
+    fn from(_: AllocError) -> Stop {
+        Stop::Memory
+    }
+}
+
+impl<T: Drop> From<AllocFailed<T>> for Stop {
+    ghost from_gives = { λ _ e. e ≡ Stop.Memory };
+
+    fn from(_: AllocFailed<T>) -> Stop {
+        Stop::Memory
+    }
+}
+
+// A fault that is told.
+#[cold]
+#[inline(never)]
+fn stopped(trap: Trap) -> Result<(), Stop>
+    ensures { TellsSame (Err trap) result }
+{
+    Err(Stop::Fault(trap.fault()))
+}
+
+/// The end of a change.
+#[inline(always)]
+pub fn told(end: Result<(), Trap>) -> Result<(), Stop>
+    ensures { TellsSame end result }
+{
+    match end {
+        Ok(()) => Ok(()),
+        Err(trap) => stopped(trap),
+    }
+}
+
+impl Stop {
+    /// The same, in the turn of an index of a forall.
+    #[cold]
+    pub fn in_turn(self, index: Index) -> Stop
+        ensures { NamesTurn index self result }
+    {
+        match self {
+            Stop::Fault(fault) => Stop::Fault(Fault {
+                code: fault.code,
+                at: fault.at,
+                turn: Turn::of(index),
+            }),
+            Stop::Memory => Stop::Memory,
+            Stop::Gate => Stop::Gate,
+        }
+    }
+}
