@@ -5,7 +5,7 @@ use Rattle.dpl_syntax.specs.declared.place.Place.{Place}
 use Rattle.dpl_language.specs.Tree.{Assign, Set, SetAdd, SetSubtract, SetMultiply, SetDivide, SetRemainder, SetReduce, ItemTree}
 use Rattle.dpl_language.specs.Values.{Value, Fault, is_domain}
 use Rattle.dpl_language.specs.Arithmetic.{assign_divides, tested_divisor}
-use Rattle.dpl_language.specs.Outcome.{Deeds, Outcome, Done, Stop, Run, with_ok, with_value}
+use Rattle.dpl_language.specs.Outcome.{Deeds, Outcome, Done, Stop as StopAt, Run, with_ok, with_value}
 use Rattle.dpl_language.specs.Environment.{Limits, Plain}
 use Rattle.dpl_language.specs.Phrases.{item_read}
 use Rattle.dpl_language.specs.Expressions.{item_of}
@@ -21,19 +21,20 @@ use Rattle.dpl_nodes.specs.declared.step.IntDeed.TheVariants as deeds
 use Rattle.dpl_nodes.specs.declared.step.TruthDeed.{TruthDeed}
 use Rattle.dpl_nodes.specs.declared.step.TruthDeed.TheVariants as deed
 use Rattle.dpl_nodes.specs.Steps.{unplaced_leaf, declared_as, assigned_to, int_changed, truth_changed}
-use Rattle.dpl_steps.specs.declared.halt.Halt.{Halt}
-use Rattle.dpl_steps.specs.declared.halt.Halt.TheVariants.{Fault as FaultHalt, Memory as OutOfMemory}
-use Rattle.dpl_steps.specs.Runs.{RunEnds}
-use Rattle.dpl_steps.specs.Tells.{TellsSame}
+use Rattle.dpl_loop.specs.declared.stop.Stop.{Stop}
+use Rattle.dpl_loop.specs.declared.stop.Stop.TheVariants as stop
+use Rattle.dpl_loop.specs.Runs.{RunsTo}
+use Rattle.dpl_loop.specs.Tells.{TellsSame}
 use Rattle.dpl_steps.specs.Changes.{declared_memory, given_memory, assigned_memory, int_changed_by, int_memory, truth_memory, memory_after, ends_as}
 
 -- a change that is told ends the run as the memory after it does
-pub told-ends : (r : Result (Unit {0}) Fault) (h : Result (Unit {0}) Halt) (s : Memory) (done : Deeds) (o : Outcome Memory) → TellsSame r h → o ≡ ends_as (memory_after r s) done → RunEnds h s done o
-told-ends (Ok v) (Ok w) s done o t e = e
-told-ends (Ok v) (Err h) s done o t e = absurd t
-told-ends (Err f) (Ok w) s done o t e = absurd t
-told-ends (Err f) (Err (FaultHalt g)) s done o t e = e ∙ ap (λ f. Stop f done) (sym t)
-told-ends (Err f) (Err OutOfMemory) s done o t e = absurd t
+pub told-ends : (may : Type 0) (r : Result (Unit {0}) Fault) (h : Result (Unit {0}) Stop) (s : Memory) (done : Deeds) (o : Outcome Memory) → TellsSame r h → o ≡ ends_as (memory_after r s) done → RunsTo may h s done o
+told-ends may (Ok v) (Ok w) s done o t e = e
+told-ends may (Ok v) (Err h) s done o t e = absurd t
+told-ends may (Err f) (Ok w) s done o t e = absurd t
+told-ends may (Err f) (Err (stop.Fault g)) s done o t e = e ∙ ap (λ f. StopAt f done) (sym t)
+told-ends may (Err f) (Err stop.Memory) s done o t e = absurd t
+told-ends may (Err f) (Err stop.Gate) s done o t e = absurd t
 
 module _ (limits : Limits) where
   pub evaluated-item : (item : ItemTree Variable) (go : Value → Run Memory) (s : Memory) (done : Deeds) → item_read item ≡ None

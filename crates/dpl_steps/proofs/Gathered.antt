@@ -12,8 +12,8 @@ use Rattle.dpl_language.specs.Declarations.{gathered}
 use Rattle.dpl_memory.specs.Memory.{Held, with_word, held_with}
 use Rattle.dpl_contents.specs.Domains.{AreWritten}
 use Rattle.dpl_nodes.specs.Faults.{fault_view}
-use Rattle.dpl_steps.specs.declared.halt.Halt.{Halt}
-use Rattle.dpl_steps.specs.declared.halt.Halt.TheVariants.{Fault as FaultHalt, Memory as OutOfMemory}
+use Rattle.dpl_loop.specs.declared.stop.Stop.{Stop}
+use Rattle.dpl_loop.specs.declared.stop.Stop.TheVariants as stop
 use Rattle.dpl_steps.specs.Runs.{Names, Gathers}
 use Rattle.dpl_steps.proofs.Listed.{indices_in-distinct, with_word-behind}
 
@@ -101,11 +101,12 @@ module _ (value : Index → Result Value Fault) (rs : List TextRange) where
     gathered-next e = next-with so_far.rest refl e
 
   -- a fault there is the fault of all
-  pub gathered-halts : (t : Index) (left : List Index) (a : Held) (h : Halt) → AreGathered value rs (t ∷ left) a → Names (Err h) (naming_value t (value t)) → Gathers (Err h) rs (gathered value (indices_in rs))
-  gathered-halts t left a (FaultHalt f) so_far e =
+  pub gathered-halts : (t : Index) (left : List Index) (a : Held) (h : Stop) → AreGathered value rs (t ∷ left) a → Names (Err h) (naming_value t (value t)) → Gathers (Err h) rs (gathered value (indices_in rs))
+  gathered-halts t left a (stop.Fault f) so_far e =
       behind_words-fault rs [] (gathered value (indices_in rs)) (fault_view f)
       (sym so_far.ends ∙ ap (λ r. behind_words rs so_far.words (with_ok r (λ v. with_ok (gathered value left) (λ vs. Ok (v ∷ vs))))) e)
-  gathered-halts t left a OutOfMemory so_far e = tt
+  gathered-halts t left a stop.Memory so_far e = tt
+  gathered-halts t left a stop.Gate so_far e = absurd e
 
   -- with no index left it is the array of all words
   pub gathered-last : (a : Held) → AreGathered value rs [] a → Gathers (Ok a) rs (gathered value (indices_in rs))

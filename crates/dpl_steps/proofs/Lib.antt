@@ -4,7 +4,9 @@ pub mod Writing
 pub mod Growing
 pub mod Looping
 pub mod Owning
+pub mod Dealing
 pub mod Views
+pub mod Standing
 pub mod Tested
 pub mod Elements
 pub mod Binding

@@ -8,10 +8,10 @@ use Rattle.dpl_range.specs.Equality.{TextRange}
 use Rattle.dpl_range.proofs.Lists.{drop-slice_get}
 use Rattle.dpl_domain.specs.Indices.{indices}
 use mathlib.Core.Path.{fun_ext}
-use Rattle.dpl_language.specs.Tree.{AfterComma, Op, ExprTree, ItemTree, VariablesTree, IntentTree, If, While, For, Forall, Else}
-use Rattle.dpl_language.specs.Values.{Value, Truth, truth, Range, Index, Fault, fault, Budget}
+use Rattle.dpl_language.specs.Tree.{AfterComma, Op, ExprTree, ItemTree, VariablesTree, OneVariable, ManyVariables, IntentTree, If, While, For, Forall, Else, Stmts}
+use Rattle.dpl_language.specs.Values.{Value, Truth, truth, Range, Domain, Index, Fault, fault, Budget}
 use Rattle.dpl_language.specs.Ranges.{indices_in, size_in, loop_ranges}
-use Rattle.dpl_language.specs.Outcome.{Deeds, Outcome, Done, Stop, Waits, Run, with_ok, with_value, then_do, choose, in_order, naming, repeated}
+use Rattle.dpl_language.specs.Outcome.{Deeds, Outcome, Done, Stop as StopAt, Waits, Run, with_ok, with_value, then_do, choose, in_order, repeated}
 use Rattle.dpl_language.specs.Environment.{Limits}
 use Rattle.dpl_language.specs.Phrases.{reduce_intents, intents_of}
 use Rattle.dpl_language.specs.Expressions.{value_of, item_of}
@@ -20,47 +20,27 @@ use Rattle.dpl_language.specs.Statements.{holds, exec, exec_all, exec_else}
 use Rattle.dpl_lowered.specs.Shapes.{nowhere}
 use Rattle.dpl_lowered.specs.LoweredStatements.{behind_comma, with_intents}
 use Rattle.dpl_memory.specs.Memory.{Variable, Memory, in_memory}
-use Rattle.dpl_nodes.specs.declared.step.Step.{Step}
-use Rattle.dpl_nodes.specs.Steps.{steps_of, listed, variable_in}
-use Rattle.dpl_steps.specs.declared.halt.Halt.{Halt}
-use Rattle.dpl_steps.specs.declared.halt.Halt.TheVariants.{Fault as FaultHalt, Memory as OutOfMemory}
-use Rattle.dpl_steps.specs.Runs.{RunEnds}
-use Rattle.dpl_steps.specs.Tells.{IsFault, NamesTurn}
-use Rattle.dpl_steps.specs.Turns.{in_turn, turn_in_memory, named_in_memory, within, looped_over}
+use Rattle.dpl_nodes.specs.declared.step.Names.{Names}
+use Rattle.dpl_nodes.specs.Steps.{listed, variable_in, names_view}
+use Rattle.dpl_loop.specs.declared.stop.Stop.{Stop}
+use Rattle.dpl_loop.specs.Runs.{RunsTo}
+use Rattle.dpl_loop.proofs.Ends.{then_do-halts, halts-alike}
+use Rattle.dpl_steps.specs.Turns.{in_turn, turn_in_memory, bound_at, index_turn, within, looped_over}
 
 -- RUNS ONE AFTER ANOTHER
 then_do-done : (o : Outcome Memory) → then_do o (λ s done. Done s done) ≡ o
 then_do-done (Done s done) = refl
-then_do-done (Stop f done) = refl
+then_do-done (StopAt f done) = refl
 then_do-done (Waits at c op done) = refl
 
 then_do-same : (o : Outcome Memory) (f g : Run Memory) → ((s : Memory) (done : Deeds) → f s done ≡ g s done) → then_do o f ≡ then_do o g
 then_do-same (Done s done) f g same = same s done
-then_do-same (Stop f done) g h same = refl
+then_do-same (StopAt f done) g h same = refl
 then_do-same (Waits at c op done) f g same = refl
-
--- a run that ended early ends what would follow it
-pub then_do-halts : (h : Halt) (s next : Memory) (done : Deeds) (o : Outcome Memory) (go : Run Memory) → RunEnds (Err h) s done o → RunEnds (Err h) next done (then_do o go)
-then_do-halts (FaultHalt f) s next done o go e = ap (λ o. then_do o go) e
-then_do-halts OutOfMemory s next done o go e = tt
-
--- how a run ended early is said of no words
-pub halts-alike : (h : Halt) (s next : Memory) (done : Deeds) (o p : Outcome Memory) → p ≡ o → RunEnds (Err h) s done o → RunEnds (Err h) next done p
-halts-alike (FaultHalt f) s next done o p e ends = e ∙ ends
-halts-alike OutOfMemory s next done o p e ends = tt
-
-pub ends-alike : (r : Result (Unit {0}) Halt) (s : Memory) (done : Deeds) (o p : Outcome Memory) → p ≡ o → RunEnds r s done o → RunEnds r s done p
-ends-alike (Ok v) s done o p e ends = e ∙ ends
-ends-alike (Err h) s done o p e ends = halts-alike h s s done o p e ends
 
 -- a scope does nothing of its own
 pub scoped-same : (body : Run Memory) (s : Memory) (done : Deeds) → scoped in_memory body s done ≡ body s done
 scoped-same body s done = then_do-done (body s done)
-
--- a fault that is told
-pub fault-ends : (f : Fault) (h : Halt) (s : Memory) (done : Deeds) (o : Outcome Memory) → IsFault f h → o ≡ Stop f done → RunEnds (Err h) s done o
-fault-ends f (FaultHalt g) s done o is e = e ∙ ap (λ f. Stop f done) (sym is)
-fault-ends f OutOfMemory s done o is e = absurd is
 
 -- TURNS
 pub in_turn-done : (turn : ℤ → Run Memory) (is : List ℤ) (k : ℕ) (i : ℤ) (s next : Memory) (done after : Deeds) → slice_get is k ≡ Some i → turn i s done ≡ Done next after
@@ -68,29 +48,22 @@ pub in_turn-done : (turn : ℤ → Run Memory) (is : List ℤ) (k : ℕ) (i : �
 in_turn-done turn is k i s next done after at e =
     sym (ap (λ is. in_turn turn is s done) (drop-slice_get is k i at) ∙ ap (λ o. then_do o (in_turn turn (drop (k + 1) is))) e)
 
-pub in_turn-halts : (turn : ℤ → Run Memory) (is : List ℤ) (k : ℕ) (i : ℤ) (h : Halt) (s next : Memory) (done after : Deeds) → slice_get is k ≡ Some i → RunEnds (Err h) next after (turn i s done)
-    → RunEnds (Err h) next after (in_turn turn (drop k is) s done)
-in_turn-halts turn is k i h s next done after at e =
-    halts-alike h next next after (then_do (turn i s done) (in_turn turn (drop (k + 1) is))) (in_turn turn (drop k is) s done)
-    (ap (λ is. in_turn turn is s done) (drop-slice_get is k i at)) (then_do-halts h next next after (turn i s done) (in_turn turn (drop (k + 1) is)) e)
-
--- a fault in a named turn names it
-pub naming-halts : (t : Index) (h g : Halt) (s : Memory) (done : Deeds) (o : Outcome Memory) → NamesTurn t h g → RunEnds (Err h) s done o → RunEnds (Err g) s done (naming t o)
-naming-halts t (FaultHalt f) (FaultHalt g) s done o names ends = ap (naming t) ends ∙ ap (λ f. Stop f done) (sym names)
-naming-halts t (FaultHalt f) OutOfMemory s done o names ends = absurd names
-naming-halts t OutOfMemory (FaultHalt g) s done o names ends = absurd (let no : FaultHalt g ≡ OutOfMemory = names in cc)
-naming-halts t OutOfMemory OutOfMemory s done o names ends = tt
+pub in_turn-halts : (may : Type 0) (turn : ℤ → Run Memory) (is : List ℤ) (k : ℕ) (i : ℤ) (h : Stop) (s next : Memory) (done after : Deeds) → slice_get is k ≡ Some i → RunsTo may (Err h) next after (turn i s done)
+    → RunsTo may (Err h) next after (in_turn turn (drop k is) s done)
+in_turn-halts may turn is k i h s next done after at e =
+    halts-alike may h next next after (then_do (turn i s done) (in_turn turn (drop (k + 1) is))) (in_turn turn (drop k is) s done)
+    (ap (λ is. in_turn turn is s done) (drop-slice_get is k i at)) (then_do-halts may h next next after (turn i s done) (in_turn turn (drop (k + 1) is)) e)
 
 -- the indices of a domain, one after another
 pub in_order-done : (turn : Index → Run Memory) (ts left : List Index) (t : Index) (s next : Memory) (done after : Deeds) → ts ≡ t ∷ left → turn t s done ≡ Done next after
     → in_order turn left next after ≡ in_order turn ts s done
 in_order-done turn ts left t s next done after at e = sym (ap (λ is. in_order turn is s done) at ∙ ap (λ o. then_do o (in_order turn left)) e)
 
-pub in_order-halts : (turn : Index → Run Memory) (ts left : List Index) (t : Index) (h : Halt) (s next : Memory) (done after : Deeds) → ts ≡ t ∷ left → RunEnds (Err h) next after (turn t s done)
-    → RunEnds (Err h) next after (in_order turn ts s done)
-in_order-halts turn ts left t h s next done after at e =
-    halts-alike h next next after (then_do (turn t s done) (in_order turn left)) (in_order turn ts s done)
-    (ap (λ is. in_order turn is s done) at) (then_do-halts h next next after (turn t s done) (in_order turn left) e)
+pub in_order-halts : (may : Type 0) (turn : Index → Run Memory) (ts left : List Index) (t : Index) (h : Stop) (s next : Memory) (done after : Deeds) → ts ≡ t ∷ left → RunsTo may (Err h) next after (turn t s done)
+    → RunsTo may (Err h) next after (in_order turn ts s done)
+in_order-halts may turn ts left t h s next done after at e =
+    halts-alike may h next next after (then_do (turn t s done) (in_order turn left)) (in_order turn ts s done)
+    (ap (λ is. in_order turn is s done) at) (then_do-halts may h next next after (turn t s done) (in_order turn left) e)
 
 in_order-turns : (T : Index → Run Memory) (turn : ℤ → Run Memory) (is : List ℤ) (s : Memory) (done : Deeds) → ((i : ℤ) (s : Memory) (done : Deeds) → T (i ∷ []) s done ≡ turn i s done)
     → in_order T (flat_map (λ i. (i ∷ []) ∷ []) is) s done ≡ in_turn turn is s done
@@ -109,18 +82,18 @@ intents_of-with [] = refl
 intents_of-with (i ∷ is) = ap (λ rest. i ∷ rest) (reduce_intents-listed is)
 
 -- A LOOP with whatever variables, by what it runs over
-module _ (limits : Limits) (xs : VariablesTree Variable) (body : List Step) where
+module _ (limits : Limits) (xs : VariablesTree Variable) (body : Stmts Variable) where
   abbrev turn_over : Value → Index → Run Memory
-  turn_over v = turn_of in_memory xs v (exec_all limits in_memory (steps_of body))
+  turn_over v = turn_of in_memory xs v (exec_all limits in_memory body)
 
   -- a turn: the variables hold the index, and the body runs
   abbrev bound_turn : Value → Index → Run Memory
-  bound_turn v t s done = exec_all limits in_memory (steps_of body) (bound_to in_memory xs v t s) done
+  bound_turn v t s done = exec_all limits in_memory body (bound_to in_memory xs v t s) done
 
   turn_over-bound : (v : Value) (t : Index) (s : Memory) (done : Deeds) → turn_over v t s done ≡ bound_turn v t s done
   turn_over-bound v t s done =
-      scoped-same (λ s done. scoped in_memory (exec_all limits in_memory (steps_of body)) (bound_to in_memory xs v t s) done) s done
-      ∙ scoped-same (exec_all limits in_memory (steps_of body)) (bound_to in_memory xs v t s) done
+      scoped-same (λ s done. scoped in_memory (exec_all limits in_memory body) (bound_to in_memory xs v t s) done) s done
+      ∙ scoped-same (exec_all limits in_memory body) (bound_to in_memory xs v t s) done
 
   in_order-bound : (v : Value) (ts : List Index) (s : Memory) (done : Deeds) → in_order (turn_over v) ts s done ≡ in_order (bound_turn v) ts s done
   in_order-bound v ts s done = ap (λ turn. in_order turn ts s done) (fun_ext (λ t. fun_ext (λ s. fun_ext (λ done. turn_over-bound v t s done))))
@@ -142,15 +115,15 @@ module _ (limits : Limits) (xs : VariablesTree Variable) (body : List Step) wher
   for-value at s done (Err f) = refl
 
   exec-for : (at : Place) (item : ItemTree Variable) (s : Memory) (done : Deeds)
-      → exec limits in_memory (For at xs nowhere item (listed (steps_of body))) s done ≡ with_value (looped_over limits at item s) for_by s done
+      → exec limits in_memory (For at xs nowhere item (listed body)) s done ≡ with_value (looped_over limits at item s) for_by s done
   exec-for at item s done = for-value at s done (item_of limits in_memory item None s)
 
   pub for-fault : (at : Place) (item : ItemTree Variable) (s : Memory) (done : Deeds) (f : Fault) → looped_over limits at item s ≡ Err f
-      → exec limits in_memory (For at xs nowhere item (listed (steps_of body))) s done ≡ Stop f done
+      → exec limits in_memory (For at xs nowhere item (listed body)) s done ≡ StopAt f done
   for-fault at item s done f e = exec-for at item s done ∙ ap (λ r. with_value r for_by s done) e
 
   pub for-order : (at : Place) (item : ItemTree Variable) (s : Memory) (done : Deeds) (v : Value) → looped_over limits at item s ≡ Ok v
-      → exec limits in_memory (For at xs nowhere item (listed (steps_of body))) s done ≡ in_order (bound_turn v) (indices_in (loop_ranges limits.locales v)) s done
+      → exec limits in_memory (For at xs nowhere item (listed body)) s done ≡ in_order (bound_turn v) (indices_in (loop_ranges limits.locales v)) s done
   for-order at item s done v e =
       exec-for at item s done ∙ ap (λ r. with_value r for_by s done) e ∙ in_order-bound v (indices_in (loop_ranges limits.locales v)) s done
 
@@ -174,49 +147,74 @@ module _ (limits : Limits) (xs : VariablesTree Variable) (body : List Step) wher
     forall-value at s done (Err f) = refl
 
     exec-forall : (at : Place) (item : ItemTree Variable) (s : Memory) (done : Deeds)
-        → exec limits in_memory (Forall at xs nowhere item (with_intents is) (listed (steps_of body))) s done ≡ with_value (looped_over limits at item s) (forall_by is) s done
+        → exec limits in_memory (Forall at xs nowhere item (with_intents is) (listed body)) s done ≡ with_value (looped_over limits at item s) (forall_by is) s done
     exec-forall at item s done =
         ap (λ intents. with_value (item_of limits in_memory item None s) (tested_forall at intents) s done) (intents_of-with is)
         ∙ forall-value at s done (item_of limits in_memory item None s)
 
     pub forall-fault : (at : Place) (item : ItemTree Variable) (s : Memory) (done : Deeds) (f : Fault) → looped_over limits at item s ≡ Err f
-        → exec limits in_memory (Forall at xs nowhere item (with_intents is) (listed (steps_of body))) s done ≡ Stop f done
+        → exec limits in_memory (Forall at xs nowhere item (with_intents is) (listed body)) s done ≡ StopAt f done
     forall-fault at item s done f e = exec-forall at item s done ∙ ap (λ r. with_value r (forall_by is) s done) e
 
     pub forall-order : (at : Place) (item : ItemTree Variable) (s : Memory) (done : Deeds) (v : Value) → looped_over limits at item s ≡ Ok v
-        → exec limits in_memory (Forall at xs nowhere item (with_intents is) (listed (steps_of body))) s done
+        → exec limits in_memory (Forall at xs nowhere item (with_intents is) (listed body)) s done
         ≡ then_do (in_order (named_turn (bound_turn v)) (indices_in (loop_ranges limits.locales v)) (in_memory.intend is s) done) (λ s done. Done (in_memory.intend [] s) done)
     forall-order at item s done v e =
         exec-forall at item s done ∙ ap (λ r. with_value r (forall_by is) s done) e
         ∙ ap (λ o. then_do o (λ s done. Done (in_memory.intend [] s) done)) (in_order-named v (indices_in (loop_ranges limits.locales v)) (in_memory.intend is s) done)
 
 -- OVER A RANGE, by its members
-module _ (limits : Limits) (slot : ℕ) (body : List Step) where
+module _ (limits : Limits) (slot : ℕ) (body : Stmts Variable) where
   in_order-members : (r : TextRange) (s : Memory) (done : Deeds)
       → in_order (bound_turn limits (variable_in slot) body (Range r)) (indices_in (r ∷ [])) s done ≡ in_turn (turn_in_memory limits slot body) (members_of r.value) s done
   unfolding indices
   in_order-members r s done = in_order-turns (bound_turn limits (variable_in slot) body (Range r)) (turn_in_memory limits slot body) (members_of r.value) s done (λ i s done. refl)
 
-  in_order-named_members : (r : TextRange) (s : Memory) (done : Deeds)
-      → in_order (named_turn (bound_turn limits (variable_in slot) body (Range r))) (indices_in (r ∷ [])) s done ≡ in_turn (named_in_memory limits slot body) (members_of r.value) s done
-  unfolding indices
-  in_order-named_members r s done =
-      in_order-turns (named_turn (bound_turn limits (variable_in slot) body (Range r))) (named_in_memory limits slot body) (members_of r.value) s done (λ i s done. refl)
-
   pub for-turns : (at : Place) (item : ItemTree Variable) (s : Memory) (done : Deeds) (r : TextRange) → looped_over limits at item s ≡ Ok (Range r)
-      → exec limits in_memory (For at (variable_in slot) nowhere item (listed (steps_of body))) s done ≡ in_turn (turn_in_memory limits slot body) (members_of r.value) s done
+      → exec limits in_memory (For at (variable_in slot) nowhere item (listed body)) s done ≡ in_turn (turn_in_memory limits slot body) (members_of r.value) s done
   for-turns at item s done r e = for-order limits (variable_in slot) body at item s done (Range r) e ∙ in_order-members r s done
 
-  pub forall-turns : (is : List (Variable × Op)) (at : Place) (item : ItemTree Variable) (s : Memory) (done : Deeds) (r : TextRange) → looped_over limits at item s ≡ Ok (Range r)
-      → exec limits in_memory (Forall at (variable_in slot) nowhere item (with_intents is) (listed (steps_of body))) s done
-      ≡ then_do (in_turn (named_in_memory limits slot body) (members_of r.value) (in_memory.intend is s) done) (λ s done. Done (in_memory.intend [] s) done)
-  forall-turns is at item s done r e =
-      forall-order limits (variable_in slot) body is at item s done (Range r) e
-      ∙ ap (λ o. then_do o (λ s done. Done (in_memory.intend [] s) done)) (in_order-named_members r (in_memory.intend is s) done)
+-- OVER A DOMAIN, by its indices; a forall over a range is one over the domain of this range alone
+bound-domain : (xs : VariablesTree Variable) (rs : List TextRange) (t : Index) (s : Memory) → bound_to in_memory xs (Domain rs) t s ≡ bound_to in_memory xs (Domain []) t s
+bound-domain (OneVariable x) rs t s = refl
+bound-domain (ManyVariables from ys upto) rs t s = refl
+
+bound-range : (xs : VariablesTree Variable) (r : TextRange) (t : Index) (s : Memory) → bound_to in_memory xs (Range r) t s ≡ bound_to in_memory xs (Domain []) t s
+bound-range (OneVariable x) r t s = refl
+bound-range (ManyVariables from ys upto) r t s = refl
+
+module _ (limits : Limits) (names : Names) (body : Stmts Variable) where
+  bound_turn-index : (v : Value) → ((t : Index) (s : Memory) → bound_to in_memory (names_view names) v t s ≡ bound_at names t s) → bound_turn limits (names_view names) body v ≡ index_turn limits names body
+  bound_turn-index v same = fun_ext (λ t. fun_ext (λ s. fun_ext (λ done. ap (λ s. exec_all limits in_memory body s done) (same t s))))
+
+  pub for-domain : (at : Place) (item : ItemTree Variable) (s : Memory) (done : Deeds) (rs : List TextRange) → looped_over limits at item s ≡ Ok (Domain rs)
+      → exec limits in_memory (For at (names_view names) nowhere item (listed body)) s done ≡ in_order (index_turn limits names body) (indices_in rs) s done
+  for-domain at item s done rs e =
+      for-order limits (names_view names) body at item s done (Domain rs) e
+      ∙ ap (λ turn. in_order turn (indices_in rs) s done) (bound_turn-index (Domain rs) (bound-domain (names_view names) rs))
+
+  module _ (is : List (Variable × Op)) (at : Place) (item : ItemTree Variable) (s : Memory) (done : Deeds) where
+    -- the turns with the reduce variables, which are none behind them
+    abbrev pub named_turns : List TextRange → Outcome Memory
+    named_turns rs = then_do (in_order (named_turn (index_turn limits names body)) (indices_in rs) (in_memory.intend is s) done) (λ s done. Done (in_memory.intend [] s) done)
+
+    forall-over : (v : Value) → ((t : Index) (s : Memory) → bound_to in_memory (names_view names) v t s ≡ bound_at names t s) → looped_over limits at item s ≡ Ok v
+        → exec limits in_memory (Forall at (names_view names) nowhere item (with_intents is) (listed body)) s done ≡ named_turns (loop_ranges limits.locales v)
+    forall-over v same e =
+        forall-order limits (names_view names) body is at item s done v e
+        ∙ ap (λ turn. then_do (in_order (named_turn turn) (indices_in (loop_ranges limits.locales v)) (in_memory.intend is s) done) (λ s done. Done (in_memory.intend [] s) done)) (bound_turn-index v same)
+
+    pub forall-domain : (rs : List TextRange) → looped_over limits at item s ≡ Ok (Domain rs)
+        → exec limits in_memory (Forall at (names_view names) nowhere item (with_intents is) (listed body)) s done ≡ named_turns rs
+    forall-domain rs e = forall-over (Domain rs) (bound-domain (names_view names) rs) e
+
+    pub forall-range : (r : TextRange) → looped_over limits at item s ≡ Ok (Range r)
+        → exec limits in_memory (Forall at (names_view names) nowhere item (with_intents is) (listed body)) s done ≡ named_turns (r ∷ [])
+    forall-range r e = forall-over (Range r) (bound-range (names_view names) r) e
 
 -- WHILES, by the turns that are left
 module _ (at : Place) (test : Memory → Result Bool Fault) (body : Run Memory) where
-  pub repeated-fault : (n : ℕ) (s : Memory) (done : Deeds) (f : Fault) → test s ≡ Err f → repeated n at test body s done ≡ Stop f done
+  pub repeated-fault : (n : ℕ) (s : Memory) (done : Deeds) (f : Fault) → test s ≡ Err f → repeated n at test body s done ≡ StopAt f done
   repeated-fault zero s done f e = rw e refl
   repeated-fault (suc n) s done f e = rw e refl
 
@@ -224,7 +222,7 @@ module _ (at : Place) (test : Memory → Result Bool Fault) (body : Run Memory) 
   repeated-ends zero s done e = rw e refl
   repeated-ends (suc n) s done e = rw e refl
 
-  pub repeated-past : (s : Memory) (done : Deeds) → test s ≡ Ok true → repeated zero at test body s done ≡ Stop (fault Budget at) done
+  pub repeated-past : (s : Memory) (done : Deeds) → test s ≡ Ok true → repeated zero at test body s done ≡ StopAt (fault Budget at) done
   repeated-past s done e = rw e refl
 
   pub repeated-turn : (n : ℕ) (s : Memory) (done : Deeds) → test s ≡ Ok true → repeated (suc n) at test body s done ≡ then_do (body s done) (repeated n at test body)
@@ -244,13 +242,13 @@ module _ (limits : Limits) where
   pub holds-fault : (e : ExprTree Variable) (s : Memory) (f : Fault) → value_of limits in_memory e None s ≡ Err f → holds limits in_memory e s ≡ Err f
   holds-fault e s f value = ap (λ r. with_ok r (λ v. Ok (truth v))) value
 
-  pub if-then : (e : ExprTree Variable) (body : List Step) (other : Else Variable) (s : Memory) (done : Deeds) → value_of limits in_memory e None s ≡ Ok (Truth true)
-      → exec limits in_memory (If nowhere e (listed (steps_of body)) other) s done ≡ exec_all limits in_memory (steps_of body) s done
+  pub if-then : (e : ExprTree Variable) (body : Stmts Variable) (other : Else Variable) (s : Memory) (done : Deeds) → value_of limits in_memory e None s ≡ Ok (Truth true)
+      → exec limits in_memory (If nowhere e (listed body) other) s done ≡ exec_all limits in_memory body s done
   if-then e body other s done value =
-      ap (λ r. with_value r (λ b. choose b (scoped in_memory (exec_all limits in_memory (steps_of body))) (exec_else limits in_memory other)) s done) (holds-value e s true value)
-      ∙ scoped-same (exec_all limits in_memory (steps_of body)) s done
+      ap (λ r. with_value r (λ b. choose b (scoped in_memory (exec_all limits in_memory body)) (exec_else limits in_memory other)) s done) (holds-value e s true value)
+      ∙ scoped-same (exec_all limits in_memory body) s done
 
-  pub exec-while : (at : Place) (e : ExprTree Variable) (body : List Step) (s : Memory) (done : Deeds)
-      → exec limits in_memory (While at e (listed (steps_of body))) s done ≡ repeated limits.budget at (holds limits in_memory e) (exec_all limits in_memory (steps_of body)) s done
+  pub exec-while : (at : Place) (e : ExprTree Variable) (body : Stmts Variable) (s : Memory) (done : Deeds)
+      → exec limits in_memory (While at e (listed body)) s done ≡ repeated limits.budget at (holds limits in_memory e) (exec_all limits in_memory body) s done
   exec-while at e body s done =
-      ap (λ run. repeated limits.budget at (holds limits in_memory e) run s done) (fun_ext (λ s. fun_ext (λ done. scoped-same (exec_all limits in_memory (steps_of body)) s done)))
+      ap (λ run. repeated limits.budget at (holds limits in_memory e) run s done) (fun_ext (λ s. fun_ext (λ done. scoped-same (exec_all limits in_memory body) s done)))

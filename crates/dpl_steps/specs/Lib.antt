@@ -1,9 +1,13 @@
--- How a run answers, by how the language's meaning ends.
+-- What statements are read as where they stand.
+pub mod Readings
+-- How their parts answer, by how the language's meaning ends.
 pub mod Runs
 -- By which map a declared domain or array is dealt out.
 pub mod Owners
+-- By which map the turns of a forall are dealt out, by which array they write first.
+pub mod Dealt
+pub mod Written
 -- What serves contracts and proofs alone.
-pub mod Tells
 pub mod Changes
 pub mod Arrays
 pub mod Texts

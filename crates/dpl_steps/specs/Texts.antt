@@ -15,8 +15,8 @@ use Rattle.dpl_nodes.specs.declared.step.Argument.{Argument}
 use Rattle.dpl_nodes.specs.declared.step.Argument.TheVariants.{Text, Int, Truth, Array}
 use Rattle.dpl_nodes.specs.Typed.{kind_view, int_view, truth_view}
 use Rattle.dpl_nodes.specs.Faults.{fault_view}
-use Rattle.dpl_steps.specs.declared.halt.Halt.{Halt}
-use Rattle.dpl_steps.specs.declared.halt.Halt.TheVariants.{Fault as FaultHalt, Memory as OutOfMemory}
+use Rattle.dpl_loop.specs.declared.stop.Stop.{Stop}
+use Rattle.dpl_loop.specs.declared.stop.Stop.TheVariants as stop
 
 -- an array's elements, in the order of its domain
 abbrev pub array_text : ScalarKind → ℕ → Memory → List ℕ
@@ -45,7 +45,8 @@ abbrev pub Grew : List ℕ → List ℕ → Type 0
 Grew old new = (more : List ℕ) × (new ≡ old ++ more)
 
 -- a text grew by another; or there is the fault, and the text grew somehow
-abbrev pub GrewBy : Result (Unit {0}) Halt → List ℕ → List ℕ → Result (List ℕ) Fault → Type 0
+abbrev pub GrewBy : Result (Unit {0}) Stop → List ℕ → List ℕ → Result (List ℕ) Fault → Type 0
 GrewBy (Ok v) old new more = behind old more ≡ Ok new
-GrewBy (Err (FaultHalt f)) old new more = (more ≡ Err (fault_view f)) × Grew old new
-GrewBy (Err OutOfMemory) old new more = Unit {0}
+GrewBy (Err (stop.Fault f)) old new more = (more ≡ Err (fault_view f)) × Grew old new
+GrewBy (Err stop.Memory) old new more = Unit {0}
+GrewBy (Err stop.Gate) old new more = ⊥

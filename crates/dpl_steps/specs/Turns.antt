@@ -1,44 +1,29 @@
 -- The turns of a loop over a range, by its members.
 -- What a loop runs over is evaluated and tested before its first turn.
-use Rattle.std.specs.Prelude.{ℕ, ◌+◌, nat_lt, ℤ, pos, get_or, if◌then◌else◌, None, List, [], ◌∷◌, map, Result, Ok, Err}
+use Rattle.std.specs.Prelude.{ℕ, ◌+◌, nat_lt, ℤ, pos, get_or, if◌then◌else◌, None, List, [], ◌∷◌, Result, Ok, Err}
 use Rattle.dpl_syntax.specs.declared.place.Place.{Place}
-use Rattle.dpl_language.specs.Tree.{ItemTree, StmtTree, Forall}
+use Rattle.dpl_language.specs.Tree.{ItemTree, Stmts}
 use Rattle.dpl_language.specs.Values.{Value, Int, Domain, Index, Fault, fault, Budget}
-use Rattle.dpl_range.specs.Equality.{TextRange}
 use Rattle.dpl_language.specs.Ranges.{size_in, loop_ranges}
-use Rattle.dpl_language.specs.Outcome.{Done, Run, with_ok, then_do, naming}
+use Rattle.dpl_language.specs.Outcome.{Done, Run, with_ok, then_do}
 use Rattle.dpl_language.specs.Environment.{Limits}
 use Rattle.dpl_language.specs.Loops.{bound_to}
 use Rattle.dpl_language.specs.Expressions.{item_of}
 use Rattle.dpl_language.specs.Statements.{exec_all}
-use Rattle.dpl_lowered.specs.Shapes.{nowhere}
-use Rattle.dpl_lowered.specs.LoweredStatements.{with_intents}
 use Rattle.dpl_words.specs.Words.{IntLeaf}
 use Rattle.dpl_memory.specs.Memory.{PlainKind, Variable, Memory, with_value_in, in_memory}
-use Rattle.dpl_nodes.specs.declared.step.Intent.{Intent}
 use Rattle.dpl_nodes.specs.declared.step.Names.{Names}
-use Rattle.dpl_nodes.specs.declared.step.Step.{Step}
-use Rattle.dpl_nodes.specs.Steps.{listed, variable_in, names_view, intent_view, steps_of}
+use Rattle.dpl_nodes.specs.Steps.{names_view}
 
 -- the turns of some indices, in order
 abbrev pub in_turn : (ℤ → Run Memory) → List ℤ → Run Memory
 in_turn turn [] s done = Done s done
 in_turn turn (i ∷ is) s done = then_do (turn i s done) (in_turn turn is)
 
--- a forall over an item, with these reduce variables
-abbrev pub forall_tree : Place → ℕ → ItemTree Variable → List Intent → List Step → StmtTree Variable
-forall_tree at slot item intents body =
-    Forall at (variable_in slot) nowhere item (with_intents (map intent_view intents)) (listed (steps_of body))
-
 module _ (limits : Limits) where
   -- a turn: the variable is the index, and the body runs
-  abbrev pub turn_in_memory : ℕ → List Step → ℤ → Run Memory
-  turn_in_memory slot body i s done =
-      exec_all limits in_memory (steps_of body) (with_value_in (PlainKind IntLeaf) slot (Int i) s) done
-
-  -- a turn of a forall, whose fault names it
-  abbrev pub named_in_memory : ℕ → List Step → ℤ → Run Memory
-  named_in_memory slot body i s done = naming (i ∷ []) (turn_in_memory slot body i s done)
+  abbrev pub turn_in_memory : ℕ → Stmts Variable → ℤ → Run Memory
+  turn_in_memory slot body i s done = exec_all limits in_memory body (with_value_in (PlainKind IntLeaf) slot (Int i) s) done
 
   abbrev pub within : Place → Value → Result Value Fault
   within at v =
@@ -53,7 +38,9 @@ abbrev pub each_bound : ℕ → List ℕ → Index → Memory → Memory
 each_bound d [] t s = s
 each_bound d (slot ∷ slots) t s = each_bound (d + 1) slots t (with_value_in (PlainKind IntLeaf) slot (Int (get_or t d (pos 0))) s)
 
--- a turn of a loop over a domain: its variables hold the index, and the body runs
-abbrev pub index_turn : Limits → Names → List Step → List TextRange → Index → Run Memory
-index_turn limits names body rs t s done =
-    exec_all limits in_memory (steps_of body) (bound_to in_memory (names_view names) (Domain rs) t s) done
+-- the variables of a loop over a domain hold an index, and then a body runs
+abbrev pub bound_at : Names → Index → Memory → Memory
+bound_at names t s = bound_to in_memory (names_view names) (Domain []) t s
+
+abbrev pub index_turn : Limits → Names → Stmts Variable → Index → Run Memory
+index_turn limits names body t s done = exec_all limits in_memory body (bound_at names t s) done

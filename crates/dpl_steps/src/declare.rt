@@ -16,14 +16,15 @@ ghost use Rattle.dpl_nodes.specs.Steps.{over_items, array_declared};
 ghost use Rattle.dpl_steps.specs.Changes.{kept_word, for_array_at};
 ghost use Rattle.dpl_steps.specs.Arrays.{declared_without, declared_with};
 ghost use Rattle.dpl_nodes.specs.Roots.{derived_over, placing_by};
-ghost use Rattle.dpl_steps.specs.Runs.{RunEnds, Names, Gathers};
+ghost use Rattle.dpl_loop.specs.Runs.{RunEnds};
+ghost use Rattle.dpl_steps.specs.Runs.{Names, Gathers};
 ghost use Rattle.dpl_steps.specs.Owners.{IsOwned};
 
 use crate::domain::for_array;
-use crate::halt::Halt;
 use crate::owner::own;
 use dpl_contents::ArrayWords;
 use dpl_domain::Index;
+use dpl_loop::Stop;
 use dpl_nodes::{
     ArrayDeclaration, DomainWord, Frame, Initial, Over, PromotedInt, PromotedTruth, Spot, Trap,
 };
@@ -80,12 +81,12 @@ impl<'t> Elements for PromotedTruth<'t> {
 }
 
 // The word of an index, in whose turn its fault is.
-fn named<E: Elements>(e: &E, index: Index, frame: &Frame<'_>) -> Result<i64, Halt>
+fn named<E: Elements>(e: &E, index: Index, frame: &Frame<'_>) -> Result<i64, Stop>
     ensures { Names result (naming_value index (E.element e.now frame.now.limits frame.now.memory index)) }
 {
     match e.word(&index, frame) {
         Ok(word) => Ok(word),
-        Err(trap) => Err(Halt::from(trap).in_turn(index)),
+        Err(trap) => Err(Stop::from(trap).in_turn(index)),
     }
 }
 
@@ -95,7 +96,7 @@ fn gathered<E: Elements>(
     slot: usize,
     domain: DomainWord,
     frame: &Frame<'_>,
-) -> Result<ArrayWords, Halt>
+) -> Result<ArrayWords, Stop>
     requires { too_large domain ≡ false }
     ensures { Gathers result domain (gathered (E.element e.now frame.now.limits frame.now.memory) (indices_in domain)) }
 {
@@ -117,7 +118,7 @@ fn declare_ints(
     e: &PromotedInt<'_>,
     domain: DomainWord,
     frame: &mut Frame<'_>,
-) -> Result<(), Halt>
+) -> Result<(), Stop>
     requires { too_large domain ≡ false }
     ensures ends { (done : Deeds) → RunEnds result frame.new.memory done (declared_with frame.old.limits d.now IntKind domain at.now (promoted_int EachTurn e.now) frame.old.memory done) }
     ensures limits { frame.new.limits ≡ frame.old.limits }
@@ -146,7 +147,7 @@ fn declare_truths(
     e: &PromotedTruth<'_>,
     domain: DomainWord,
     frame: &mut Frame<'_>,
-) -> Result<(), Halt>
+) -> Result<(), Stop>
     requires { too_large domain ≡ false }
     ensures ends { (done : Deeds) → RunEnds result frame.new.memory done (declared_with frame.old.limits d.now BoolKind domain at.now (promoted_truth EachTurn e.now) frame.old.memory done) }
     ensures limits { frame.new.limits ≡ frame.old.limits }
@@ -173,7 +174,7 @@ fn declare_zeros(
     d: &ArrayDeclaration<'_>,
     domain: DomainWord,
     frame: &mut Frame<'_>,
-) -> Result<(), Halt>
+) -> Result<(), Stop>
     requires { too_large domain ≡ false }
     ensures ends { (k : Kind) (done : Deeds) → RunEnds result frame.new.memory done (declared_without frame.old.limits d.now k domain frame.old.memory done) }
     ensures limits { frame.new.limits ≡ frame.old.limits }
@@ -197,7 +198,7 @@ fn sized_for_array(at: &Spot, domain: DomainWord) -> Result<DomainWord, Trap>
 /// The fault of its domain; `F8` at the name for more than 2^24 elements; the fault of an initial value that is evaluated
 /// once; `F5` at `=` for more elements than the budget; the fault of an index, in its turn; out of memory.
 #[inline(never)]
-pub(crate) fn declare_array(d: &ArrayDeclaration<'_>, frame: &mut Frame<'_>) -> Result<(), Halt>
+pub(crate) fn declare_array(d: &ArrayDeclaration<'_>, frame: &mut Frame<'_>) -> Result<(), Stop>
     ensures ends { (done : Deeds) → RunEnds result frame.new.memory done (exec frame.old.limits in_memory (array_declared d.now) frame.old.memory done) }
     ensures limits { frame.new.limits ≡ frame.old.limits }
     ensures owned { OnOk result (IsOwned frame.old frame.new d.now.slot (placing_by (derived_over (over_items d.now.over))) (domain_of frame.old.limits in_memory d.now.from.now (over_items d.now.over) frame.old.memory)) }

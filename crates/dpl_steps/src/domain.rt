@@ -12,11 +12,11 @@ ghost use Rattle.dpl_memory.specs.Memory.{DomainKind, variable, in_memory};
 ghost use Rattle.dpl_nodes.specs.Typed.{domain_view};
 ghost use Rattle.dpl_nodes.specs.Steps.{unplaced_leaf, declared_as, declared_with, dimensions, of_rank, domain_leaf, whole_set};
 ghost use Rattle.dpl_steps.specs.Changes.{memory_after, ends_as, for_array_at};
-ghost use Rattle.dpl_steps.specs.Runs.{RunEnds};
+ghost use Rattle.dpl_loop.specs.Runs.{RunEnds};
 ghost use Rattle.dpl_steps.specs.Owners.{IsOwned, IsOwnedBy};
 
-use crate::halt::Halt;
 use crate::owner::own;
+use dpl_loop::Stop;
 use dpl_nodes::{DomainExpr, DomainName, DomainWord, FaultCode, Frame, Placing, Rank, Spot, Trap};
 use dpl_values::domain_value;
 
@@ -86,7 +86,7 @@ pub(crate) fn set_domain(
     name: &DomainName<'_>,
     e: &DomainExpr<'_>,
     frame: &mut Frame<'_>,
-) -> Result<(), Halt>
+) -> Result<(), Stop>
     ensures ends { (done : Deeds) → RunEnds result frame.new.memory done (exec frame.old.limits in_memory (whole_set (domain_leaf name.now) Set nowhere (domain_view e.now)) frame.old.memory done) }
     ensures limits { frame.new.limits ≡ frame.old.limits }
 {

@@ -1,34 +1,41 @@
 // Loops over domains: the variables of a turn hold its index, as one int, as a tuple, or coordinate by coordinate.
 // Their turns run the same statements as those of loops over ranges.
 
-ghost use Rattle.std.specs.Prelude.{◌≡◌, List, pos, get_or, map};
-ghost use Rattle.dpl_range.specs.Equality.{TextRange};
-ghost use Rattle.dpl_language.specs.Tree.{One, For as ForTree, Forall as ForallTree};
-ghost use Rattle.dpl_language.specs.Values.{Domain, number};
+ghost use Rattle.std.specs.Prelude.{◌≡◌, pos, get_or};
+ghost use Rattle.dpl_language.specs.Tree.{One, For as ForTree};
+ghost use Rattle.dpl_language.specs.Values.{number};
 ghost use Rattle.dpl_language.specs.Ranges.{index_value, indices_in};
 ghost use Rattle.dpl_language.specs.Outcome.{Deeds, in_order};
-ghost use Rattle.dpl_language.specs.Loops.{bound_to, named_turn};
 ghost use Rattle.dpl_language.specs.Statements.{exec};
 ghost use Rattle.dpl_lowered.specs.Shapes.{nowhere};
-ghost use Rattle.dpl_lowered.specs.LoweredStatements.{with_intents};
 ghost use Rattle.dpl_memory.specs.Memory.{in_memory};
 ghost use Rattle.dpl_nodes.specs.Faults.{of_domain};
 ghost use Rattle.dpl_nodes.specs.Frames.{with_memory};
 ghost use Rattle.dpl_nodes.specs.Typed.{domain_view};
-ghost use Rattle.dpl_nodes.specs.Steps.{listed, names_view, intent_view, steps_of};
-ghost use Rattle.dpl_steps.specs.Runs.{having_printed, RunEnds};
-ghost use Rattle.dpl_steps.specs.Turns.{each_bound, index_turn, looped_over};
+ghost use Rattle.dpl_nodes.specs.Steps.{listed, names_view};
+ghost use Rattle.dpl_loop.specs.Runs.{RunsTo};
+ghost use Rattle.dpl_loop.specs.Entries.{MayRefuseSome};
+ghost use Rattle.dpl_steps.specs.Readings.{steps_in};
+ghost use Rattle.dpl_steps.specs.Turns.{each_bound, bound_at, index_turn, looped_over};
 
-use crate::halt::Halt;
+use crate::context::Context;
 use crate::statement::run;
 use dpl_domain::Index;
-use dpl_nodes::{DomainExpr, DomainWord, Frame, Intent, Names, Spot, Step, Trap};
+use dpl_loop::Stop;
+use dpl_nodes::{DomainExpr, DomainWord, Frame, Names, Spot, Step, Trap};
 use dpl_values::budget::within_budget;
 use dpl_values::domain_value;
 
-// What a loop runs over: its domain is evaluated once, and its size is tested against the budget.
+/// What a loop runs over: its domain is evaluated once, and its size is tested against the budget.
+///
+/// # Errors
+/// The fault of the domain; `F5` at the loop where it has more indices than the budget.
 #[tactic(auto, using(crate::proofs::Tested::within_domain))]
-fn domain_indices(at: &Spot, over: &DomainExpr<'_>, frame: &Frame<'_>) -> Result<DomainWord, Trap>
+pub fn domain_indices(
+    at: &Spot,
+    over: &DomainExpr<'_>,
+    frame: &Frame<'_>,
+) -> Result<DomainWord, Trap>
     ensures { looped_over frame.now.limits at.now (One (domain_view over.now)) frame.now.memory ≡ of_domain result }
 {
     let domain = domain_value(over, frame)?;
@@ -37,6 +44,7 @@ fn domain_indices(at: &Spot, over: &DomainExpr<'_>, frame: &Frame<'_>) -> Result
 }
 
 // The coordinate in a dimension, and 0 past the last one.
+#[inline(always)]
 fn coordinate(index: Index, d: usize) -> i64
     ensures { result ≡ get_or index d (pos 0) }
 {
@@ -50,6 +58,7 @@ fn coordinate(index: Index, d: usize) -> i64
 }
 
 // The coordinate of an index that has one; 0 of another.
+#[inline(always)]
 fn sole(index: Index) -> i64
     ensures { result ≡ number (index_value index) }
 {
@@ -70,10 +79,11 @@ fn bind_others(others: &[usize], index: Index, frame: &mut Frame<'_>)
     }
 }
 
-// The variables of a turn hold its index.
+/// The variables of a turn hold its index.
 #[tactic(auto, using(crate::proofs::Binding::coordinates_index_value))]
-fn bind(names: &Names<'_>, index: Index, frame: &mut Frame<'_>)
-    ensures { (rs : List TextRange) → frame.new ≡ with_memory (bound_to in_memory (names_view names.now) (Domain rs) index frame.old.memory) frame.old }
+#[inline(always)]
+pub fn bind(names: &Names<'_>, index: Index, frame: &mut Frame<'_>)
+    ensures { frame.new ≡ with_memory (bound_at names.now index frame.old.memory) frame.old }
 {
     match names {
         Names::Int(slot) => frame.set_number(*slot, sole(index)),
@@ -88,79 +98,40 @@ fn bind(names: &Names<'_>, index: Index, frame: &mut Frame<'_>)
 // The turn of an index.
 #[cycle(run)]
 #[inline(always)]
-fn domain_turn<'t>(
+fn domain_turn<'t, C: Context>(
     index: Index,
     names: &Names<'t>,
     body: &[Step<'t>],
+    context: &C,
     frame: &mut Frame<'t>,
-    out: &mut Vec<u8>,
-) -> Result<(), Halt>
-    ensures ends { (rs : List TextRange) (done : Deeds) → RunEnds result frame.new.memory (having_printed out.new.items done)
-        (index_turn frame.old.limits names.now body.now rs index frame.old.memory (having_printed out.old.items done)) }
+    out: &mut C::Out,
+) -> Result<(), Stop>
+    ensures ends { (done : Deeds) → RunsTo (MayRefuseSome (C.may context.now)) result frame.new.memory (C.having out.new done)
+        (index_turn frame.old.limits names.now (steps_in C.standing body.now) index frame.old.memory (C.having out.old done)) }
     ensures limits { frame.new.limits ≡ frame.old.limits }
 {
     bind(names, index, frame);
-    run(body, frame, out)
+    run(body, context, frame, out)
 }
 
 // The turns of a domain's indices, in its order.
 #[cycle(run)]
 #[inline(never)]
-fn domain_turns<'t>(
+fn domain_turns<'t, C: Context>(
     domain: DomainWord,
     names: &Names<'t>,
     body: &[Step<'t>],
+    context: &C,
     frame: &mut Frame<'t>,
-    out: &mut Vec<u8>,
-) -> Result<(), Halt>
-    ensures ends { (done : Deeds) → RunEnds result frame.new.memory (having_printed out.new.items done)
-        (in_order (index_turn frame.old.limits names.now body.now domain) (indices_in domain) frame.old.memory (having_printed out.old.items done)) }
+    out: &mut C::Out,
+) -> Result<(), Stop>
+    ensures ends { (done : Deeds) → RunsTo (MayRefuseSome (C.may context.now)) result frame.new.memory (C.having out.new done)
+        (in_order (index_turn frame.old.limits names.now (steps_in C.standing body.now)) (indices_in domain) frame.old.memory (C.having out.old done)) }
     ensures limits { frame.new.limits ≡ frame.old.limits }
 {
     let mut indices = domain.cursor();
     while let Some(index) = indices.next() {
-        domain_turn(index, names, body, frame, out)?;
-    }
-    Ok(())
-}
-
-// The turn of an index of a forall, whose fault names it.
-#[cycle(run)]
-#[inline(always)]
-fn named_domain_turn<'t>(
-    index: Index,
-    names: &Names<'t>,
-    body: &[Step<'t>],
-    frame: &mut Frame<'t>,
-    out: &mut Vec<u8>,
-) -> Result<(), Halt>
-    ensures ends { (rs : List TextRange) (done : Deeds) → RunEnds result frame.new.memory (having_printed out.new.items done)
-        (named_turn (index_turn frame.old.limits names.now body.now rs) index frame.old.memory (having_printed out.old.items done)) }
-    ensures limits { frame.new.limits ≡ frame.old.limits }
-{
-    match domain_turn(index, names, body, frame, out) {
-        Ok(()) => Ok(()),
-        Err(halt) => Err(halt.in_turn(index)),
-    }
-}
-
-// The turns of a forall's indices, in the order of its domain.
-#[cycle(run)]
-#[inline(never)]
-fn named_domain_turns<'t>(
-    domain: DomainWord,
-    names: &Names<'t>,
-    body: &[Step<'t>],
-    frame: &mut Frame<'t>,
-    out: &mut Vec<u8>,
-) -> Result<(), Halt>
-    ensures ends { (done : Deeds) → RunEnds result frame.new.memory (having_printed out.new.items done)
-        (in_order (named_turn (index_turn frame.old.limits names.now body.now domain)) (indices_in domain) frame.old.memory (having_printed out.old.items done)) }
-    ensures limits { frame.new.limits ≡ frame.old.limits }
-{
-    let mut indices = domain.cursor();
-    while let Some(index) = indices.next() {
-        named_domain_turn(index, names, body, frame, out)?;
+        domain_turn(index, names, body, context, frame, out)?;
     }
     Ok(())
 }
@@ -168,41 +139,19 @@ fn named_domain_turns<'t>(
 /// A `for` over a domain.
 #[cycle(run)]
 #[inline(never)]
-pub(crate) fn for_each<'t>(
+pub(crate) fn for_each<'t, C: Context>(
     at: &Spot,
     names: &Names<'t>,
     over: &DomainExpr<'t>,
     body: &[Step<'t>],
+    context: &C,
     frame: &mut Frame<'t>,
-    out: &mut Vec<u8>,
-) -> Result<(), Halt>
-    ensures ends { (done : Deeds) → RunEnds result frame.new.memory (having_printed out.new.items done)
-        (exec frame.old.limits in_memory (ForTree at.now (names_view names.now) nowhere (One (domain_view over.now)) (listed (steps_of body.now))) frame.old.memory (having_printed out.old.items done)) }
+    out: &mut C::Out,
+) -> Result<(), Stop>
+    ensures ends { (done : Deeds) → RunsTo (MayRefuseSome (C.may context.now)) result frame.new.memory (C.having out.new done)
+        (exec frame.old.limits in_memory (ForTree at.now (names_view names.now) nowhere (One (domain_view over.now)) (listed (steps_in C.standing body.now))) frame.old.memory (C.having out.old done)) }
     ensures limits { frame.new.limits ≡ frame.old.limits }
 {
     let domain = domain_indices(at, over, frame)?;
-    domain_turns(domain, names, body, frame, out)
-}
-
-/// A `forall` over a domain, with its reduce variables.
-#[cycle(run)]
-#[inline(never)]
-pub(crate) fn forall_each<'t>(
-    at: &Spot,
-    names: &Names<'t>,
-    over: &DomainExpr<'t>,
-    intents: &'t [Intent],
-    body: &[Step<'t>],
-    frame: &mut Frame<'t>,
-    out: &mut Vec<u8>,
-) -> Result<(), Halt>
-    ensures ends { (done : Deeds) → RunEnds result frame.new.memory (having_printed out.new.items done)
-        (exec frame.old.limits in_memory (ForallTree at.now (names_view names.now) nowhere (One (domain_view over.now)) (with_intents (map intent_view intents.now)) (listed (steps_of body.now))) frame.old.memory (having_printed out.old.items done)) }
-    ensures limits { frame.new.limits ≡ frame.old.limits }
-{
-    let domain = domain_indices(at, over, frame)?;
-    frame.intend(intents);
-    named_domain_turns(domain, names, body, frame, out)?;
-    frame.intend(&[]);
-    Ok(())
+    domain_turns(domain, names, body, context, frame, out)
 }

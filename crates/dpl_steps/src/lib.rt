@@ -1,14 +1,14 @@
-// Typed statements, run over a frame: what the language's meaning gives for the plain statements that they stand for.
-// Turns take no memory but for what they print.
+// Typed statements, run over a frame where they stand: what the language's meaning gives for the plain statements that they stand for.
+// A print and a forall are left to the context in which they stand.
 #![tactic(auto)]
 
 mod array_text;
 mod change;
+mod context;
 mod declare;
 mod domain;
 mod each;
 mod element;
-pub mod halt;
 mod owner;
 mod print;
 mod reduce;
@@ -16,5 +16,8 @@ pub mod simple;
 mod statement;
 mod whole;
 
-pub use halt::Halt;
-pub use statement::run;
+pub use context::Context;
+pub use each::{bind, domain_indices};
+pub use print::write;
+pub use statement::{range_indices, run};
+pub use whole::{set_array, set_truth_array};

@@ -8,11 +8,12 @@ ghost use Rattle.dpl_language.specs.Writing.{line_end};
 ghost use Rattle.dpl_language.specs.Statements.{exec};
 ghost use Rattle.dpl_memory.specs.Memory.{in_memory};
 ghost use Rattle.dpl_nodes.specs.Steps.{written_as};
-ghost use Rattle.dpl_steps.specs.Runs.{having_printed, RunEnds};
+ghost use Rattle.dpl_loop.specs.Runs.{RunEnds};
+ghost use Rattle.dpl_steps.specs.Runs.{having_printed};
 ghost use Rattle.dpl_steps.specs.Texts.{argument_text, arguments_text, GrewBy};
 
 use crate::array_text::show_array;
-use crate::halt::Halt;
+use dpl_loop::Stop;
 use dpl_nodes::{Argument, Frame};
 use dpl_values::{int_value, truth_value};
 use itoa::Buffer;
@@ -29,7 +30,7 @@ fn print(n: i64, out: &mut Vec<u8>) -> Result<(), AllocError>
 
 // Appends the text of an argument.
 #[tactic(auto, using(crate::proofs::Shown::shown_int, crate::proofs::Shown::shown_truth))]
-fn show(argument: &Argument<'_>, frame: &Frame<'_>, out: &mut Vec<u8>) -> Result<(), Halt>
+fn show(argument: &Argument<'_>, frame: &Frame<'_>, out: &mut Vec<u8>) -> Result<(), Stop>
     ensures { GrewBy result out.old.items out.new.items (argument_text frame.now.limits argument.now frame.now.memory) }
 {
     match argument {
@@ -51,7 +52,7 @@ fn show(argument: &Argument<'_>, frame: &Frame<'_>, out: &mut Vec<u8>) -> Result
 }
 
 // Appends the texts of arguments.
-fn show_all(arguments: &[Argument<'_>], frame: &Frame<'_>, out: &mut Vec<u8>) -> Result<(), Halt>
+fn show_all(arguments: &[Argument<'_>], frame: &Frame<'_>, out: &mut Vec<u8>) -> Result<(), Stop>
     ensures { GrewBy result out.old.items out.new.items (arguments_text frame.now.limits arguments.now frame.now.memory) }
 {
     for argument in arguments {
@@ -74,12 +75,12 @@ fn end_line(ends_line: bool, out: &mut Vec<u8>) -> Result<(), AllocError>
 ///
 /// # Errors
 /// The fault of an argument, which prints nothing; out of memory for what is printed.
-pub(crate) fn write(
+pub fn write(
     ends_line: bool,
     arguments: &[Argument<'_>],
     frame: &Frame<'_>,
     out: &mut Vec<u8>,
-) -> Result<(), Halt>
+) -> Result<(), Stop>
     ensures { (done : Deeds) → RunEnds result frame.now.memory (having_printed out.new.items done)
         (exec frame.now.limits in_memory (written_as ends_line arguments.now) frame.now.memory (having_printed out.old.items done)) }
 {

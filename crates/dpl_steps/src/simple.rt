@@ -11,12 +11,13 @@ ghost use Rattle.dpl_tree.specs.Words.{assign_view};
 ghost use Rattle.dpl_nodes.specs.Typed.{int_view, truth_view, range_item, domain_view};
 ghost use Rattle.dpl_nodes.specs.Steps.{array_leaf, declared_as, element_set};
 ghost use Rattle.dpl_steps.specs.Changes.{declared_memory, truth_memory, ends_as};
-ghost use Rattle.dpl_steps.specs.Runs.{RunEnds};
+ghost use Rattle.dpl_loop.specs.Runs.{RunEnds};
 
 use crate::change::{change_truth, declare_range};
 use crate::domain::declare_domain;
 use crate::element::{set_element, set_truth_element};
-use crate::halt::{Halt, told};
+use dpl_loop::Stop;
+use dpl_loop::stop::told;
 use dpl_nodes::{
     ArrayName, BoolExpr, DomainExpr, Frame, IndexExpr, IntExpr, Placing, RangeExpr, Spot, TruthDeed,
 };
@@ -24,7 +25,7 @@ use dpl_tree::Assign;
 
 /// A range's declaration, or an assignment to it.
 #[inline(never)]
-pub(crate) fn range(slot: usize, e: &RangeExpr<'_>, frame: &mut Frame<'_>) -> Result<(), Halt>
+pub(crate) fn range(slot: usize, e: &RangeExpr<'_>, frame: &mut Frame<'_>) -> Result<(), Stop>
     ensures ends { (done : Deeds) → RunEnds result frame.new.memory done (ends_as (declared_memory frame.old.limits (range_leaf slot) (range_item e.now) frame.old.memory) done) }
     ensures limits { frame.new.limits ≡ frame.old.limits }
 {
@@ -38,7 +39,7 @@ pub(crate) fn truth(
     slot: usize,
     e: &BoolExpr<'_>,
     frame: &mut Frame<'_>,
-) -> Result<(), Halt>
+) -> Result<(), Stop>
     ensures ends { (done : Deeds) → RunEnds result frame.new.memory done (ends_as (truth_memory frame.old.limits deed slot (One (truth_view e.now)) frame.old.memory) done) }
     ensures limits { frame.new.limits ≡ frame.old.limits }
 {
@@ -52,7 +53,7 @@ pub(crate) fn domain(
     e: &DomainExpr<'_>,
     placing: Placing,
     frame: &mut Frame<'_>,
-) -> Result<(), Halt>
+) -> Result<(), Stop>
     ensures ends { (done : Deeds) → RunEnds result frame.new.memory done (exec frame.old.limits in_memory (declared_as None (variable DomainKind slot) (One (domain_view e.now))) frame.old.memory done) }
     ensures limits { frame.new.limits ≡ frame.old.limits }
 {
@@ -68,7 +69,7 @@ pub(crate) fn element(
     sign: &Spot,
     e: &IntExpr<'_>,
     frame: &mut Frame<'_>,
-) -> Result<(), Halt>
+) -> Result<(), Stop>
     ensures ends { (done : Deeds) → RunEnds result frame.new.memory done (exec frame.old.limits in_memory (element_set (array_leaf IntKind name.now) t.now (assign_view op) sign.now (int_view e.now)) frame.old.memory done) }
     ensures limits { frame.new.limits ≡ frame.old.limits }
 {
@@ -82,7 +83,7 @@ pub(crate) fn truth_element(
     t: &IndexExpr<'_>,
     e: &BoolExpr<'_>,
     frame: &mut Frame<'_>,
-) -> Result<(), Halt>
+) -> Result<(), Stop>
     ensures ends { (done : Deeds) → RunEnds result frame.new.memory done (exec frame.old.limits in_memory (element_set (array_leaf BoolKind name.now) t.now Set nowhere (truth_view e.now)) frame.old.memory done) }
     ensures limits { frame.new.limits ≡ frame.old.limits }
 {

@@ -6,7 +6,7 @@ use Rattle.dpl_nodes.specs.Typed.{promoted_int, promoted_truth}
 use Rattle.dpl_nodes.specs.declared.step.Initial.TheVariants.{Zeros, Falses, Ints, Truths}
 use Rattle.dpl_values.specs.Placed.{IsPlaced}
 use Rattle.dpl_steps.specs.Arrays.{declared_without, declared_with}
-use Rattle.dpl_steps.proofs.Looping.{ends-alike}
+use Rattle.dpl_loop.proofs.Ends.{ends-alike}
 use Rattle.dpl_steps.proofs.Owning.{owned-same, on-ok}
 use Rattle.dpl_steps.proofs.ArrayItems.{exec-array_declared}
 use Rattle.dpl_steps.proofs.declare.declare_array.Goals as goal
@@ -15,7 +15,7 @@ pub returns-in-Zeros-clause-ends : goal.returns-in-Zeros-clause-ends
 returns-in-Zeros-clause-ends c done =
     let d = c.args.d.now in
     let rs = c.in_ok-domain-2.domain in
-    ends-alike c.declare_zeros.result c.declare_zeros.new.frame.memory done _ _
+    ends-alike _ c.declare_zeros.result c.declare_zeros.new.frame.memory done _ _
     (exec-array_declared c.args.frame.now.limits d c.args.frame.now.memory done Zeros c.in_ok-domain.domain rs c.in-Zeros.is c.in_ok-domain.ensures c.in_ok-domain-2.ensures.is
     ∙ owned-same (λ l s. declared_without l d IntKind rs s done) c.own.new.frame c.args.frame.now c.own.ensures.memory c.own.ensures.limits)
     (c.declare_zeros.ensures.ends IntKind done)
@@ -29,7 +29,7 @@ pub returns-in-Falses-clause-ends : goal.returns-in-Falses-clause-ends
 returns-in-Falses-clause-ends c done =
     let d = c.args.d.now in
     let rs = c.in_ok-domain-2.domain in
-    ends-alike c.declare_zeros-in-Falses.result c.declare_zeros-in-Falses.new.frame.memory done _ _
+    ends-alike _ c.declare_zeros-in-Falses.result c.declare_zeros-in-Falses.new.frame.memory done _ _
     (exec-array_declared c.args.frame.now.limits d c.args.frame.now.memory done Falses c.in_ok-domain.domain rs c.in-Falses.is c.in_ok-domain.ensures c.in_ok-domain-2.ensures.is
     ∙ owned-same (λ l s. declared_without l d BoolKind rs s done) c.own.new.frame c.args.frame.now c.own.ensures.memory c.own.ensures.limits)
     (c.declare_zeros-in-Falses.ensures.ends BoolKind done)
@@ -43,7 +43,7 @@ pub returns-in-Ints-clause-ends : goal.returns-in-Ints-clause-ends
 returns-in-Ints-clause-ends c done =
     let d = c.args.d.now in
     let rs = c.in_ok-domain-2.domain in
-    ends-alike c.declare_ints.result c.declare_ints.new.frame.memory done _ _
+    ends-alike _ c.declare_ints.result c.declare_ints.new.frame.memory done _ _
     (exec-array_declared c.args.frame.now.limits d c.args.frame.now.memory done (Ints c.in-Ints.at c.in-Ints.e) c.in_ok-domain.domain rs c.in-Ints.is c.in_ok-domain.ensures c.in_ok-domain-2.ensures.is
     ∙ owned-same (λ l s. declared_with l d IntKind rs c.in-Ints.at.now (promoted_int EachTurn c.in-Ints.e.now) s done) c.own.new.frame c.args.frame.now c.own.ensures.memory c.own.ensures.limits)
     (c.declare_ints.ensures.ends done)
@@ -57,7 +57,7 @@ pub returns-in-Truths-clause-ends : goal.returns-in-Truths-clause-ends
 returns-in-Truths-clause-ends c done =
     let d = c.args.d.now in
     let rs = c.in_ok-domain-2.domain in
-    ends-alike c.declare_truths.result c.declare_truths.new.frame.memory done _ _
+    ends-alike _ c.declare_truths.result c.declare_truths.new.frame.memory done _ _
     (exec-array_declared c.args.frame.now.limits d c.args.frame.now.memory done (Truths c.in-Truths.at c.in-Truths.e) c.in_ok-domain.domain rs c.in-Truths.is c.in_ok-domain.ensures c.in_ok-domain-2.ensures.is
     ∙ owned-same (λ l s. declared_with l d BoolKind rs c.in-Truths.at.now (promoted_truth EachTurn c.in-Truths.e.now) s done) c.own.new.frame c.args.frame.now c.own.ensures.memory c.own.ensures.limits)
     (c.declare_truths.ensures.ends done)

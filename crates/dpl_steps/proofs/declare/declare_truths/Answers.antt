@@ -13,7 +13,7 @@ use Rattle.dpl_nodes.specs.Frames.{Framed}
 use Rattle.dpl_nodes.specs.Typed.{promoted_truth}
 use Rattle.dpl_nodes.proofs.Promotions.{cell_read-promoted_truth, promoted_truth-once}
 use Rattle.dpl_steps.specs.Arrays.{shell_over}
-use Rattle.dpl_steps.proofs.Looping.{fault-ends}
+use Rattle.dpl_loop.proofs.Ends.{fault-ends}
 use Rattle.dpl_steps.proofs.ArrayItems.{array_of_item-fault, array_of_item-past, array_of_item-value, array_of_item-refused}
 use Rattle.dpl_steps.proofs.declare.declare_truths.Goals as goal
 
@@ -26,7 +26,7 @@ returns-in_err-promoted_truth_value-in-None-clause-ends c done =
     let f = c.in_err-promoted_truth_value-in-None.field-0.0 in
     let p = err_from_is_err_and c.from_residual.result c.from_residual.ensures.1 in
     rw p.1
-    (fault-ends f p.0 s done _ p.2
+    (fault-ends _ f p.0 s done _ p.2
     (array_of_item-fault limits c.args.d.now.at.now BoolKind c.args.d.now.slot (shell_over c.args.d.now.over BoolKind c.args.domain) s done c.args.at.now e (whole_in limits in_memory e s)
     t c.in-None.ensures (cell_read-promoted_truth EachTurn c.args.e.now) (promoted_truth-once limits s EachTurn c.args.e.now t (sym c.in-None.ensures)) f c.in_err-promoted_truth_value-in-None.ensures))
 
@@ -39,7 +39,7 @@ returns-in_err-within_budget-in-None-clause-ends c done =
     let f = c.in_err-within_budget-in-None.field-0.0 in
     let p = err_from_is_err_and c.from_residual-in_err-within_budget-in-None.result c.from_residual-in_err-within_budget-in-None.ensures.1 in
     rw p.1
-    (fault-ends f p.0 s done _ p.2
+    (fault-ends _ f p.0 s done _ p.2
     (array_of_item-past limits c.args.d.now.at.now BoolKind c.args.d.now.slot (shell_over c.args.d.now.over BoolKind c.args.domain) s done c.args.at.now e (whole_in limits in_memory e s)
     t c.in-None.ensures (cell_read-promoted_truth EachTurn c.args.e.now) (promoted_truth-once limits s EachTurn c.args.e.now t (sym c.in-None.ensures)) (Truth c.in_ok-promoted_truth_value-in-None.field-0) f c.in_ok-promoted_truth_value-in-None.ensures
     c.in_err-within_budget-in-None.ensures))
@@ -52,7 +52,7 @@ returns-in_err-within_budget-in-Some-clause-ends c done =
     let f = c.in_err-within_budget-in-Some.field-0.0 in
     let p = err_from_is_err_and c.from_residual-in_err-within_budget-in-Some.result c.from_residual-in_err-within_budget-in-Some.ensures.1 in
     rw p.1
-    (fault-ends f p.0 s done _ p.2
+    (fault-ends _ f p.0 s done _ p.2
     (array_of_item-refused limits c.args.d.now.at.now BoolKind c.args.d.now.slot (shell_over c.args.d.now.over BoolKind c.args.domain) s done c.args.at.now e (whole_in limits in_memory e s)
     c.in-Some.field-0 f c.in-Some.ensures c.in_err-within_budget-in-Some.ensures))
 

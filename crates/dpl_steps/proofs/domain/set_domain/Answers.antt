@@ -10,7 +10,7 @@ use Rattle.dpl_nodes.specs.Steps.{domain_leaf}
 use Rattle.dpl_nodes.specs.Frames.{Framed, with_memory}
 use Rattle.dpl_nodes.proofs.Unread.{cell_read-domain}
 use Rattle.dpl_steps.proofs.Elements.{exec-domain, for_array-fault, for_array-value, and-false}
-use Rattle.dpl_steps.proofs.Looping.{fault-ends}
+use Rattle.dpl_loop.proofs.Ends.{fault-ends}
 use Rattle.dpl_steps.proofs.domain.set_domain.Goals as goal
 use Rattle.dpl_steps.proofs.domain.set_domain.Goals.{then-not-is_empty+in_ok-for_array, else-not-is_empty}
 
@@ -24,7 +24,7 @@ returns-in_err-for_array-clause-ends c done =
     let some : is_some_array x.arrays.now ≡ true = search rules in
     let p = err_from_is_err_and c.from_residual-in_err-for_array.result c.from_residual-in_err-for_array.ensures.1 in
     rw p.1
-    (fault-ends f p.0 s done _ p.2
+    (fault-ends _ f p.0 s done _ p.2
     (exec-domain c.args.frame.now.limits x (domain_view c.args.e.now) s done rs (cell_read-domain c.args.e.now) c.in_ok-value.ensures
     ∙ rw (told.0, some) (ap (λ f. Stop f done) told.1)))
 

@@ -4,4 +4,4 @@ use Rattle.dpl_steps.proofs.Changing.{told-ends}
 use Rattle.dpl_steps.proofs.simple.element.Goals as goal
 
 pub returns-clause-ends : goal.returns-clause-ends
-returns-clause-ends c done = told-ends c.set_element.result c.told.result c.set_element.new.frame.memory done _ c.told.ensures (c.set_element.ensures.ends done)
+returns-clause-ends c done = told-ends _ c.set_element.result c.told.result c.set_element.new.frame.memory done _ c.told.ensures (c.set_element.ensures.ends done)

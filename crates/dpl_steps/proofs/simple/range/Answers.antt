@@ -6,4 +6,4 @@ use Rattle.dpl_steps.proofs.Changing.{told-ends}
 use Rattle.dpl_steps.proofs.simple.range.Goals as goal
 
 pub returns-clause-ends : goal.returns-clause-ends
-returns-clause-ends c done = told-ends c.declare_range.result c.told.result c.declare_range.new.frame.memory done _ c.told.ensures (ap (λ r. ends_as r done) c.declare_range.ensures.memory)
+returns-clause-ends c done = told-ends _ c.declare_range.result c.told.result c.declare_range.new.frame.memory done _ c.told.ensures (ap (λ r. ends_as r done) c.declare_range.ensures.memory)

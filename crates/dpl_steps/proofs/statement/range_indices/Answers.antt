@@ -4,7 +4,7 @@ use Rattle.dpl_range.specs.Range.{members_of}
 use Rattle.dpl_nodes.specs.Typed.{range_item}
 use Rattle.dpl_contents.specs.Range.{range_word}
 use Rattle.dpl_steps.proofs.Tested.{looped_over-tested}
-use Rattle.dpl_steps.proofs.statement.indices.Goals as goal
+use Rattle.dpl_steps.proofs.statement.range_indices.Goals as goal
 
 pub returns-then-budget-size : goal.returns-then-budget-size
 returns-then-budget-size c =

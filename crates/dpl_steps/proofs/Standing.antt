@@ -1,0 +1,59 @@
+-- A statement that may stand where it stands is read as the plain statement that it stands for.
+-- Each lemma has the reading on its left side.
+use Rattle.std.proofs.Common.{◌≡◌, List, [], ◌∷◌, refl, ap, ◌∙◌}
+use Rattle.dpl_language.specs.Tree.{One, StmtTree, Block, If, While, For, Then, ElseDo}
+use Rattle.dpl_lowered.specs.Shapes.{nowhere}
+use Rattle.dpl_memory.specs.Memory.{Variable}
+use Rattle.dpl_standing.specs.Standing.{Standing, Outside, InTurn, IsOutside, MayStand, AllMayStand, ElseMayStand}
+use Rattle.dpl_nodes.specs.declared.step.Step.{Step, Nothing as NothingStep, Int as IntStep, DeclareRange, SetRange, Truth as TruthStep, DeclareDomain, DeclareEmpty, SetDomain, DeclareArray, SetElement, SetTruthElement, SetArray, SetTruthArray, Write as WriteStep, Block', If', While', For', Forall', ForEach', ForallEach', Row_of-Step, end_of-Step, more_of-Step}
+use Rattle.dpl_nodes.specs.declared.step.Else.{Else as ElseNode, Absent, Do'}
+use Rattle.dpl_nodes.specs.Typed.{truth_view, range_item, domain_view}
+use Rattle.dpl_nodes.specs.Steps.{variable_in, names_view, written_as, listed, step_view, else_view, steps_view, steps_of}
+use Rattle.dpl_steps.specs.Readings.{outside, forall_of, step_in, else_in, row_in, steps_in}
+
+outside-itself : (w : Standing) (t : StmtTree Variable) → IsOutside w → outside w t ≡ t
+outside-itself Outside t is = refl
+outside-itself InTurn t is = absurd is
+
+mutual
+  step_in-view : (w : Standing) (s : Step) → MayStand w (step_view s) → step_in w s ≡ step_view s
+  step_in-view w NothingStep may = refl
+  step_in-view w (IntStep deed slot e) may = refl
+  step_in-view w (DeclareRange slot e) may = refl
+  step_in-view w (SetRange slot e) may = refl
+  step_in-view w (TruthStep deed slot e) may = refl
+  step_in-view w (DeclareDomain slot e placing) may = refl
+  step_in-view w (DeclareEmpty slot rank placing) may = refl
+  step_in-view w (SetDomain x e) may = refl
+  step_in-view w (DeclareArray d) may = refl
+  step_in-view w (SetElement x t op at e) may = refl
+  step_in-view w (SetTruthElement x t e) may = refl
+  step_in-view w (SetArray x op at e) may = refl
+  step_in-view w (SetTruthArray x at e) may = refl
+  step_in-view w (WriteStep ends_line arguments) may = outside-itself w (written_as ends_line arguments.now) may
+  step_in-view w (Block' p shape row) may = ap (λ ts. Block nowhere ts nowhere) (row_in-view w row may)
+  step_in-view w (If' condition p shape row otherwise) may =
+      ap (λ ts. If nowhere (truth_view condition.now) (listed ts) (else_in w otherwise)) (row_in-view w row may.0)
+      ∙ ap (If nowhere (truth_view condition.now) (listed (steps_view row))) (else_in-view w otherwise may.1)
+  step_in-view w (While' at condition p shape row) may = ap (λ ts. While at.now (truth_view condition.now) (listed ts)) (row_in-view w row may)
+  step_in-view w (For' at slot over p shape row) may = ap (λ ts. For at.now (variable_in slot) nowhere (range_item over.now) (listed ts)) (row_in-view w row may)
+  step_in-view w (Forall' at slot over intents p shape row) may =
+      outside-itself w (forall_of at.now (variable_in slot) (range_item over.now) intents.now (row_in InTurn row)) may.0
+      ∙ ap (forall_of at.now (variable_in slot) (range_item over.now) intents.now) (row_in-view InTurn row may.1)
+  step_in-view w (ForEach' at names over p shape row) may = ap (λ ts. For at.now (names_view names) nowhere (One (domain_view over.now)) (listed ts)) (row_in-view w row may)
+  step_in-view w (ForallEach' at names over intents p shape row) may =
+      outside-itself w (forall_of at.now (names_view names) (One (domain_view over.now)) intents.now (row_in InTurn row)) may.0
+      ∙ ap (forall_of at.now (names_view names) (One (domain_view over.now)) intents.now) (row_in-view InTurn row may.1)
+
+  else_in-view : (w : Standing) (o : ElseNode) → ElseMayStand w (else_view o) → else_in w o ≡ else_view o
+  else_in-view w Absent may = refl
+  else_in-view w (Do' p s) may = ap (ElseDo nowhere) (step_in-view w s may)
+
+  row_in-view : (w : Standing) {m : _} (row : Row_of-Step m) → AllMayStand w (steps_view row) → row_in w row ≡ steps_view row
+  row_in-view w end_of-Step may = refl
+  row_in-view w (more_of-Step s row) may =
+      ap (λ t. Then t (row_in w row)) (step_in-view w s may.0) ∙ ap (Then (step_view s)) (row_in-view w row may.1)
+
+pub steps_in-of : (w : Standing) (ss : List Step) → AllMayStand w (steps_of ss) → steps_in w ss ≡ steps_of ss
+steps_in-of w [] may = refl
+steps_in-of w (s ∷ ss) may = ap (λ t. Then t (steps_in w ss)) (step_in-view w s may.0) ∙ ap (Then (step_view s)) (steps_in-of w ss may.1)
