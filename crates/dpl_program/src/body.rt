@@ -1,0 +1,100 @@
+// The body of a forall, as its turns.
+// It runs in a context in which nothing is printed and no turns are made; a program that breaks no rule asks for neither there.
+
+ghost use Rattle.dpl_standing.specs.Standing.{InTurn};
+ghost use Rattle.dpl_steps.specs.Readings.{steps_in};
+ghost use Rattle.dpl_steps.specs.Turns.{index_turn};
+
+use dpl_domain::Index;
+use dpl_loop::{OpenGate, Stop, Turns};
+use dpl_nodes::{
+    Argument, ArrayName, DomainExpr, Frame, Intent, Names, PromotedInt, PromotedTruth, RangeExpr,
+    Spot, Step,
+};
+use dpl_steps::{Context, bind, run, set_array, set_truth_array};
+use dpl_tree::Assign;
+
+// In a turn of a forall.
+struct TurnContext;
+
+impl Context for TurnContext {
+    type Out = ();
+
+    ghost standing = { InTurn };
+
+    ghost having = { λ _ done. done };
+
+    ghost may = { λ _ _ _. ⊥ };
+
+    fn write(
+        &self,
+        _ends_line: bool,
+        _arguments: &[Argument<'_>],
+        _frame: &Frame<'_>,
+        _out: &mut (),
+    ) -> Result<(), Stop> {
+        Ok(())
+    }
+
+    fn set_array(
+        &self,
+        name: &ArrayName<'_>,
+        op: Assign,
+        sign: &Spot,
+        e: &PromotedInt<'_>,
+        frame: &mut Frame<'_>,
+    ) -> Result<(), Stop> {
+        set_array(name, op, sign, e, frame, &OpenGate)
+    }
+
+    fn set_truth_array(
+        &self,
+        name: &ArrayName<'_>,
+        sign: &Spot,
+        e: &PromotedTruth<'_>,
+        frame: &mut Frame<'_>,
+    ) -> Result<(), Stop> {
+        set_truth_array(name, sign, e, frame, &OpenGate)
+    }
+
+    fn forall_line<'t>(
+        &self,
+        _at: &Spot,
+        _slot: usize,
+        _over: &RangeExpr<'t>,
+        _intents: &'t [Intent],
+        _body: &[Step<'t>],
+        _frame: &mut Frame<'t>,
+    ) -> Result<(), Stop> {
+        Ok(())
+    }
+
+    fn forall<'t>(
+        &self,
+        _at: &Spot,
+        _names: &Names<'t>,
+        _over: &DomainExpr<'t>,
+        _intents: &'t [Intent],
+        _body: &[Step<'t>],
+        _frame: &mut Frame<'t>,
+    ) -> Result<(), Stop> {
+        Ok(())
+    }
+}
+
+/// The turns of a forall: its variables hold the index, and its statements run.
+#[derive(Drop)]
+pub(crate) struct Body<'b, 't> {
+    pub(crate) names: Names<'t>,
+    pub(crate) steps: &'b [Step<'t>],
+}
+
+impl<'b, 't> Turns<'t> for Body<'b, 't> {
+    ghost turn = { λ body limits. index_turn limits body.names (steps_in InTurn body.steps.now) };
+
+    #[inline(always)]
+    fn make(&self, index: Index, frame: &mut Frame<'t>) -> Result<(), Stop> {
+        bind(&self.names, index, frame);
+        run(self.steps, &TurnContext, frame, &mut ())
+    }
+}

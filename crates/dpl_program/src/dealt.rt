@@ -1,0 +1,33 @@
+// By which map the turns of a forall are dealt out over the locales.
+
+ghost use Rattle.std.specs.Prelude.{◌≡◌};
+ghost use Rattle.dpl_standing.specs.Standing.{InTurn};
+ghost use Rattle.dpl_steps.specs.Readings.{steps_in};
+ghost use Rattle.dpl_steps.specs.Dealt.{placed_by, dealt_by};
+ghost use Rattle.dpl_steps.specs.Written.{written_among};
+
+use crate::written::written;
+use dpl_map::Map;
+use dpl_nodes::{Frame, Placing, Step};
+
+// The map of the name from which what a forall runs over is derived; the whole map, which gives all to locale 0, where it is
+// derived from none.
+fn over_map(placing: Placing, frame: &Frame<'_>) -> Map
+    ensures { result ≡ placed_by frame.now placing }
+{
+    match placing {
+        Placing::Of(slot) => frame.owner(slot),
+        Placing::Unmapped | Placing::Mapped(_) | Placing::BlockCreated | Placing::CyclicCreated =>
+            Map::whole(),
+    }
+}
+
+/// The map of the first array that the turns write; where they write none, that of what the forall runs over.
+pub(crate) fn dealt(body: &[Step<'_>], over: Placing, frame: &Frame<'_>) -> Map
+    ensures { result ≡ dealt_by frame.now over (written_among (steps_in InTurn body.now)) }
+{
+    match written(body) {
+        Some(slot) => frame.owner(slot),
+        None => over_map(over, frame),
+    }
+}
