@@ -5,7 +5,7 @@ use Rattle.std.specs.Io.KnownBytes.{Appends, Keeps}
 use Rattle.dpl_history.specs.declared.history.Event.{Event}
 use Rattle.dpl_run.specs.declared.outcome.Outcome.{Outcome}
 use Rattle.dpl_run.specs.declared.refused.Refused.{Refused}
-use Rattle.dpl_run.specs.declared.refused.Refused.TheVariants.{Memory, Writer}
+use Rattle.dpl_run.specs.declared.refused.Refused.TheVariants.{Memory, Gate, Writer}
 use Rattle.dpl_run.specs.Headline.{ComesTo, ComesToOnly}
 use Rattle.dpl_run.specs.Settings.{Settings, limits_of}
 use Rattle.dpl_run.specs.Writers.{Partly}
@@ -18,11 +18,12 @@ abbrev pub IsTextOf : Option (List ℕ) → List ℕ → Type 0
 IsTextOf input text = IfSome input (λ bytes. text ≡ take 1048577 bytes)
 
 -- What the text comes to by these sets and these settings is what became of it, and was written. Without memory nothing was
--- written, and of what a writer failed to take the first bytes. A text that is there was read.
+-- written, and of what a writer failed to take the first bytes. The program's gate refuses nothing. A text that is there was read.
 abbrev pub IsRunOf : List ℕ → List (List ℕ) → Settings → Option (List ℕ) → Option (List ℕ) → Ended → Type 0
 IsRunOf text sets settings old new (Ran o) =
     (said : List ℕ) × Appends old new said × ((histories : List (List Event)) → ComesToOnly text sets (limits_of settings) histories o said)
 IsRunOf text sets settings old new (Failed Memory) = Keeps old new
+IsRunOf text sets settings old new (Failed Gate) = ⊥
 IsRunOf text sets settings old new (Failed Writer) =
     (o : Outcome) × (said : List ℕ) × ((histories : List (List Event)) → ComesTo text sets (limits_of settings) histories o said) × Partly old new said
 IsRunOf text sets settings old new Unread = ⊥
@@ -31,6 +32,7 @@ IsRunOf text sets settings old new Unread = ⊥
 abbrev pub HasRun : Option (List ℕ) → List (List ℕ) → Settings → Option (List ℕ) → Option (List ℕ) → Ended → Type 0
 HasRun input sets settings old new (Ran o) = (text : List ℕ) × IsTextOf input text × IsRunOf text sets settings old new (Ran o)
 HasRun input sets settings old new (Failed Memory) = Keeps old new
+HasRun input sets settings old new (Failed Gate) = ⊥
 HasRun input sets settings old new (Failed Writer) = (text : List ℕ) × IsTextOf input text × IsRunOf text sets settings old new (Failed Writer)
 HasRun input sets settings old new Unread = Keeps old new
 

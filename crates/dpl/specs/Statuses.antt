@@ -6,15 +6,16 @@ use Rattle.dpl_settings.specs.declared.fault.LineFault.{LineFault}
 use Rattle.dpl_settings.specs.declared.fault.LineFault.TheVariants.{Line, Value, Memory as LineMemory}
 use Rattle.dpl_run.specs.declared.outcome.Outcome.TheVariants.{Done, Stopped, Rejected}
 use Rattle.dpl_run.specs.declared.refused.Refused.{Refused}
-use Rattle.dpl_run.specs.declared.refused.Refused.TheVariants.{Memory, Writer}
+use Rattle.dpl_run.specs.declared.refused.Refused.TheVariants.{Memory, Gate, Writer}
 use Rattle.dpl_run.specs.Refusals.{refused_text}
 use Rattle.dpl_says.specs.Dump.{dumped}
 use Rattle.dpl.specs.declared.ended.Ended.{Ended}
 use Rattle.dpl.specs.declared.ended.Ended.TheVariants.{Ran, Failed, Unread}
 
--- out of memory; a writer that failed
+-- out of memory, or a gate that refused; a writer that failed
 abbrev pub refused_status : Refused → ℕ
 refused_status Memory = 3
+refused_status Gate = 3
 refused_status Writer = 4
 
 -- done, unless what is told of it can't be written; stopped by a fault; a text that isn't a program; a refused run; a text

@@ -38,7 +38,7 @@ fn refused_status(refused: Refused) -> u8
     ensures { result ≡ refused_status refused }
 {
     match refused {
-        Refused::Memory => 3,
+        Refused::Memory | Refused::Gate => 3,
         Refused::Writer => 4,
     }
 }
@@ -65,6 +65,7 @@ pub(crate) fn refused_line(refused: Refused) -> &'static str
 {
     match refused {
         Refused::Memory => "dpl: M1\n",
+        Refused::Gate => "dpl: G1\n",
         Refused::Writer => "dpl: W1\n",
     }
 }

@@ -2,38 +2,43 @@
 -- What is printed is all of its deeds.
 use Rattle.std.proofs.Common.{◌≡◌, ℕ, List, [], map, Result, Ok, Err, subst}
 use Rattle.dpl_language.specs.Tree.{Stmts}
-use Rattle.dpl_language.specs.Outcome.{Deeds, no_deeds}
+use Rattle.dpl_language.specs.Outcome.{Deeds, Outcome, no_deeds}
 use Rattle.dpl_language.specs.Environment.{Limits}
 use Rattle.dpl_language.specs.Statements.{exec_all}
 use Rattle.dpl_language.specs.Names.{Text, Frame}
 use Rattle.dpl_language.specs.Program.{fault_text, line_ended}
 use Rattle.std.specs.Prelude.{◌++◌, ◌∷◌}
 use Rattle.dpl_rules.specs.Sights.{Scopes}
-use Rattle.dpl_memory.specs.Memory.{Memory, in_memory}
+use Rattle.dpl_memory.specs.Memory.{Variable, Memory, in_memory}
 use Rattle.dpl_memory.specs.Resolved.{frame_in}
-use Rattle.dpl_nodes.specs.declared.step.Step.{Step}
 use Rattle.dpl_nodes.specs.declared.fault.Fault.{Fault}
-use Rattle.dpl_nodes.specs.Steps.{steps_of}
 use Rattle.dpl_nodes.specs.Faults.{fault_view}
-use Rattle.dpl_steps.specs.declared.halt.Halt.{Halt}
-use Rattle.dpl_steps.specs.declared.halt.Halt.TheVariants.{Fault as FaultHalt}
-use Rattle.dpl_steps.specs.Runs.{having_printed, RunEnds}
+use Rattle.dpl_loop.specs.declared.stop.Stop.{Stop}
+use Rattle.dpl_loop.specs.declared.stop.Stop.TheVariants as stop
+use Rattle.dpl_loop.specs.Runs.{RunsTo}
+use Rattle.dpl_steps.specs.Runs.{having_printed}
 use Rattle.dpl_run.specs.declared.outcome.Outcome.TheVariants.{Done, Stopped}
 use Rattle.dpl_run.specs.Leaving.{sighted_in}
 use Rattle.dpl_run.specs.Names.{declared_names}
 use Rattle.dpl_run.specs.Runs.{RanTo}
 
-module _ (limits : Limits) (scopes : Scopes) (ts : Stmts Text) (steps : List Step) (words last : Memory) (none out : List ℕ) (empty : none ≡ []) where
-  abbrev Ends : Result (Unit {0}) Halt → Type 0
-  Ends r = (done : Deeds) → RunEnds r last (having_printed out done) (exec_all limits in_memory (steps_of steps) words (having_printed none done))
+-- a run that a gate refused
+pub refused-may : (may : Type 0) (h : Stop) (s : Memory) (done : Deeds) (o : Outcome Memory) → h ≡ stop.Gate → RunsTo may (Err h) s done o → may
+refused-may may (stop.Fault f) s done o is ends = absurd (let no : stop.Fault f ≡ stop.Gate = is in cc)
+refused-may may stop.Memory s done o is ends = absurd (let no : stop.Memory ≡ stop.Gate = is in cc)
+refused-may may stop.Gate s done o is ends = ends
 
-  started : (r : Result (Unit {0}) Halt) → Ends r → RunEnds r last (having_printed out no_deeds) (exec_all limits in_memory (steps_of steps) words no_deeds)
-  started r ends = subst (λ t. RunEnds r last (having_printed out no_deeds) (exec_all limits in_memory (steps_of steps) words (having_printed t no_deeds))) empty (ends no_deeds)
+module _ (may : Type 0) (limits : Limits) (scopes : Scopes) (ts : Stmts Text) (steps : Stmts Variable) (words last : Memory) (none out : List ℕ) (empty : none ≡ []) where
+  abbrev Ends : Result (Unit {0}) Stop → Type 0
+  Ends r = (done : Deeds) → RunsTo may r last (having_printed out done) (exec_all limits in_memory steps words (having_printed none done))
+
+  started : (r : Result (Unit {0}) Stop) → Ends r → RunsTo may r last (having_printed out no_deeds) (exec_all limits in_memory steps words no_deeds)
+  started r ends = subst (λ t. RunsTo may r last (having_printed out no_deeds) (exec_all limits in_memory steps words (having_printed t no_deeds))) empty (ends no_deeds)
 
   pub ran-done : (v : Unit {0}) (left : Frame) → Ends (Ok v) → left ≡ frame_in last (map (sighted_in scopes) (declared_names ts))
-      → RanTo scopes ts (exec_all limits in_memory (steps_of steps) words no_deeds) (Done left) out
+      → RanTo scopes ts (exec_all limits in_memory steps words no_deeds) (Done left) out
   ran-done v left ends are = (last, started (Ok v) ends, are)
 
-  pub ran-stop : (h : Halt) (fault : Fault) (said : List ℕ) → h ≡ FaultHalt fault → Ends (Err h) → said ≡ out ++ line_ended out ++ fault_text (fault_view fault) ++ 10 ∷ []
-      → RanTo scopes ts (exec_all limits in_memory (steps_of steps) words no_deeds) (Stopped fault) said
-  ran-stop h fault said is ends says = (out, started (Err (FaultHalt fault)) (subst (λ h. Ends (Err h)) is ends), says)
+  pub ran-stop : (h : Stop) (fault : Fault) (said : List ℕ) → h ≡ stop.Fault fault → Ends (Err h) → said ≡ out ++ line_ended out ++ fault_text (fault_view fault) ++ 10 ∷ []
+      → RanTo scopes ts (exec_all limits in_memory steps words no_deeds) (Stopped fault) said
+  ran-stop h fault said is ends says = (out, started (Err (stop.Fault fault)) (subst (λ h. Ends (Err h)) is ends), says)

@@ -6,6 +6,7 @@ pub mod Empty
 pub mod Dumped
 -- A run of a plan is what its program means, and each text comes to one outcome.
 pub mod Planned
+pub mod Standing
 pub mod Ends
 pub mod Meaning
 pub mod OneOutcome

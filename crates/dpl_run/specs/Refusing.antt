@@ -7,6 +7,8 @@ use Rattle.dpl_syntax.specs.declared.stop.Stop.TheVariants as stage
 use Rattle.dpl_syntax.specs.Lines.{refusal_text}
 use Rattle.dpl_run.specs.declared.outcome.Outcome.{Outcome}
 use Rattle.dpl_run.specs.declared.outcome.Outcome.TheVariants.{Rejected}
+use Rattle.dpl_run.specs.declared.refused.Refused.{Refused}
+use Rattle.dpl_run.specs.declared.refused.Refused.TheVariants as refused
 use Rattle.dpl_run.specs.Headline.{IsRefused}
 
 -- a refusal is the text's
@@ -17,3 +19,9 @@ IsCause text sets stage.Memory = Unit {0}
 -- a refusal's line alone
 abbrev pub IsRejection : Refusal → Outcome → List ℕ → Type 0
 IsRejection r o said = (o ≡ Rejected r) × (said ≡ refusal_text r ++ 10 ∷ [])
+
+-- why a run came to no outcome before anything was written: memory ran out, or a gate refused an entry, as it may
+abbrev pub IsUnwritten : Type 0 → Refused → Type 0
+IsUnwritten may refused.Memory = Unit {0}
+IsUnwritten may refused.Gate = may
+IsUnwritten may refused.Writer = ⊥

@@ -7,7 +7,8 @@ ghost use Rattle.dpl_run.specs.Settings.{limits_of, layout_of};
 
 use crate::config::Config;
 use dpl_nodes::{Frame, MapExpr};
-use std::alloc::{AllocError, Global};
+use dpl_tree::Arena;
+use std::alloc::AllocError;
 
 // Gives these words to their slots, behind what was given before.
 fn give_all(frame: &mut Frame<'_>, words: &[(usize, i64)]) -> Result<(), AllocError>
@@ -19,21 +20,24 @@ fn give_all(frame: &mut Frame<'_>, words: &[(usize, i64)]) -> Result<(), AllocEr
     Ok(())
 }
 
-/// A frame with so many slots, in which these words are given, for a program that names these maps.
+/// A frame with so many slots, in which these words are given, for a program that names these maps; they are kept in the arena.
 ///
 /// # Errors
 /// Out of memory.
 pub(crate) fn first_frame<'t>(
-    alloc: Global,
+    arena: Arena<'t>,
     slots: usize,
     words: &[(usize, i64)],
     config: &Config,
-    maps: &'t [MapExpr<'t>],
+    maps: Vec<MapExpr<'t>>,
 ) -> Result<Frame<'t>, AllocError>
-    ensures { IfOk result (λ f. f ≡ with_memory (first_memory (record { slots = slots; texts = []; words = words.now })) (first_frame slots (limits_of config.now) (layout_of config.now) maps.now)) }
+    ensures { IfOk result (λ f. f ≡ with_memory (first_memory (record { slots = slots; texts = []; words = words.now })) (first_frame slots (limits_of config.now) (layout_of config.now) maps.entry.items)) }
 {
+    let Ok(maps) = arena.list(maps) else {
+        return Err(AllocError);
+    };
     let mut frame = Frame::new(
-        alloc,
+        arena.alloc(),
         slots,
         config.budget(),
         config.locales(),

@@ -5,7 +5,6 @@
 mod collect;
 mod config;
 mod frame;
-mod gate;
 mod left;
 mod lines;
 mod listing;
@@ -18,9 +17,9 @@ mod writer;
 pub use config::{Config, ConfigFault, MOST_TURNS};
 pub use dpl_contents::ArrayWords;
 pub use dpl_layout::Maps;
+pub use dpl_loop::{Gate, OpenGate};
 pub use dpl_nodes::{DomainWord, Fault, FaultCode, RangeWord, Turn};
 pub use dpl_syntax::{Code, Place, Refusal};
-pub use gate::{Gate, OpenGate};
 pub use left::{Left, Value, Variable};
 pub use listing::dump;
 pub use outcome::Outcome;

@@ -1,7 +1,7 @@
 // The dump of what a program leaves: a line for each int, each truth value and each array.
 // Ranges and domains have none.
 
-ghost use Rattle.std.specs.Prelude.{◌≡◌, ◌++◌, false, true, None, take, drop, IfOk, OnOk};
+ghost use Rattle.std.specs.Prelude.{◌≡◌, ◌≢◌, ◌++◌, false, true, None, take, drop, IfOk, OnOk};
 ghost use Rattle.std.specs.Io.KnownBytes.{Appends, Keeps};
 ghost use Rattle.dpl_says.specs.Dump.{dumped, line_of, value_line};
 ghost use Rattle.dpl_memory.specs.Resolved.{array_content};
@@ -98,6 +98,7 @@ pub fn dump<W: Out>(alloc: Global, left: &Left, out: &mut W) -> Result<(), Refus
     ensures written { OnOk result (Appends (W.contents out.old) (W.contents out.new) (dumped left.now)) }
     ensures unfailed { OnOk result (W.has_failed out.new ≡ false) }
     ensures memory { result ≡ Err Refused.Memory → Keeps (W.contents out.old) (W.contents out.new) × (W.has_failed out.new ≡ false) }
+    ensures gate { result ≢ Err Refused.Gate }
     ensures writer { result ≡ Err Refused.Writer → (W.has_failed out.new ≡ true) × Partly (W.contents out.old) (W.contents out.new) (dumped left.now) }
 {
     let text = lines(alloc, left)?;

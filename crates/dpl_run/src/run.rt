@@ -7,9 +7,12 @@ ghost use Rattle.dpl_language.specs.Outcome.{no_deeds};
 ghost use Rattle.dpl_language.specs.Statements.{exec_all};
 ghost use Rattle.dpl_tree.specs.Statements.{stmts_of};
 ghost use Rattle.dpl_memory.specs.Memory.{in_memory};
-ghost use Rattle.dpl_nodes.specs.Steps.{steps_of};
+ghost use Rattle.dpl_standing.specs.Standing.{Outside};
+ghost use Rattle.dpl_loop.specs.Entries.{MayRefuseSome};
+ghost use Rattle.dpl_steps.specs.Readings.{steps_in};
 ghost use Rattle.dpl_typer.specs.Sights.{AreKnownScopes};
 ghost use Rattle.dpl_run.specs.Leaving.{AreLeft};
+ghost use Rattle.dpl_run.specs.Refusing.{IsUnwritten};
 ghost use Rattle.dpl_run.specs.Runs.{RanTo};
 ghost use Rattle.dpl_run.specs.Writers.{Partly};
 
@@ -18,11 +21,12 @@ use crate::lines::tell_fault;
 use crate::outcome::Outcome;
 use crate::refused::Refused;
 use crate::writer::{Out, write_all};
+use dpl_loop::{Gate, Stop};
 use dpl_nodes::{Frame, Step};
+use dpl_program::run as run_steps;
 use dpl_scopes::Scopes;
-use dpl_steps::{Halt, run as run_steps};
 use dpl_tree::Stmt;
-use std::alloc::{AllocError, Global};
+use std::alloc::Global;
 
 /// What a run came to, and all that it writes.
 #[derive(Drop)]
@@ -35,29 +39,32 @@ pub(crate) struct Ended {
 /// have the names that they leave.
 ///
 /// # Errors
-/// Out of memory.
-pub(crate) fn run<'t>(
+/// Out of memory; or the gate refused an entry.
+pub(crate) fn run<'t, G: Gate>(
     alloc: Global,
     steps: &[Step<'t>],
     mut frame: Frame<'t>,
     scopes: &Scopes<'_>,
     stmts: &[Stmt<'_>],
-) -> Result<Ended, AllocError>
-    ensures { IfOk result (λ ended. AreKnownScopes scopes.now → AreLeft scopes.now → RanTo scopes.now (stmts_of stmts.now) (exec_all frame.entry.limits in_memory (steps_of steps.now) frame.entry.memory no_deeds) ended.outcome ended.text.items) }
+    gate: &G,
+) -> Result<Ended, Refused>
+    ensures ends { IfOk result (λ ended. AreKnownScopes scopes.now → AreLeft scopes.now → RanTo scopes.now (stmts_of stmts.now) (exec_all frame.entry.limits in_memory (steps_in Outside steps.now) frame.entry.memory no_deeds) ended.outcome ended.text.items) }
+    ensures unwritten { IfErr result (IsUnwritten (MayRefuseSome (G.may_refuse gate.now))) }
 {
     let mut text = Vec::new(alloc);
-    match run_steps(steps, &mut frame, &mut text) {
+    match run_steps(steps, &mut frame, gate, &mut text) {
         Ok(()) => {
             let left = collect(alloc, scopes, stmts, frame)?;
             let outcome = Outcome::Done(left);
             Ok(Ended { outcome, text })
         }
-        Err(Halt::Fault(fault)) => {
+        Err(Stop::Fault(fault)) => {
             tell_fault(alloc, fault, &mut text)?;
             let outcome = Outcome::Stopped(fault);
             Ok(Ended { outcome, text })
         }
-        Err(Halt::Memory) => Err(AllocError),
+        Err(Stop::Memory) => Err(Refused::Memory),
+        Err(Stop::Gate) => Err(Refused::Gate),
     }
 }
 

@@ -5,11 +5,12 @@ use crate::config::Config;
 use crate::frame::first_frame;
 use bumpalo::Bump;
 use dpl_layout::Maps;
+use dpl_loop::OpenGate;
 use dpl_nodes::{DomainWord, Frame};
 use dpl_parser::parse;
 use dpl_planner::{Planned, plan};
+use dpl_program::run as run_steps;
 use dpl_scopes::Scopes;
-use dpl_steps::run as run_steps;
 use dpl_syntax::lex;
 use dpl_tree::Arena;
 use dpl_types::ValueType;
@@ -276,10 +277,9 @@ fn when_run<'t>(
         maps,
         scopes,
     } = planned;
-    let maps = arena.list(maps).ok()?;
-    let mut frame = first_frame(alloc, slots, &[], config, maps).ok()?;
+    let mut frame = first_frame(arena, slots, &[], config, maps).ok()?;
     let mut out = Vec::new(alloc);
-    run_steps(steps, &mut frame, &mut out).ok()?;
+    run_steps(steps, &mut frame, &OpenGate, &mut out).ok()?;
     digits_of(alloc, &scopes, name.as_bytes(), &frame)
 }
 

@@ -11,21 +11,22 @@ ghost use Rattle.dpl_language.specs.Statements.{exec_all};
 ghost use Rattle.dpl_rules.specs.Breaches.{top};
 ghost use Rattle.dpl_memory.specs.Memory.{in_memory};
 ghost use Rattle.dpl_memory.specs.Resolved.{first_memory};
-ghost use Rattle.dpl_nodes.specs.Steps.{steps_of};
+ghost use Rattle.dpl_standing.specs.Standing.{Outside};
+ghost use Rattle.dpl_loop.specs.Entries.{MayRefuseSome};
+ghost use Rattle.dpl_steps.specs.Readings.{steps_in};
 ghost use Rattle.dpl_typer.specs.Sights.{AreKnownScopes};
 ghost use Rattle.dpl_run.specs.Leaving.{AreLeft};
 ghost use Rattle.dpl_run.specs.Plans.{start_of};
 ghost use Rattle.dpl_run.specs.Runs.{RanTo};
 ghost use Rattle.dpl_runnable.specs.Runnable.{AreRunnableTops};
 ghost use Rattle.dpl_run.specs.Headline.{ComesTo, ComesToOnly, IsRead, Means, tree_refusal};
-ghost use Rattle.dpl_run.specs.Refusing.{IsRejection, IsCause};
+ghost use Rattle.dpl_run.specs.Refusing.{IsRejection, IsCause, IsUnwritten};
 ghost use Rattle.dpl_run.specs.Settings.{limits_of};
 ghost use Rattle.dpl_run.specs.declared.outcome.Outcome.{Outcome};
 ghost use Rattle.dpl_run.specs.Writers.{Partly};
 
 use crate::config::Config;
 use crate::frame::first_frame;
-use crate::gate::Gate;
 use crate::lines::tell_refusal;
 use crate::outcome::Outcome;
 use crate::refused::Refused;
@@ -35,7 +36,8 @@ use bumpalo::Bump;
 use dpl_checker::refusal;
 use dpl_closed::closed;
 use dpl_given::given;
-use dpl_nodes::{MapExpr, Stop as PlanStop};
+use dpl_loop::Gate;
+use dpl_nodes::Stop as PlanStop;
 use dpl_parser::parse;
 use dpl_planner::{Planned, plan};
 use dpl_syntax::{Code, Refusal, Stop, lex};
@@ -71,24 +73,18 @@ fn tree_refusal<'t>(
     }
 }
 
-// The maps that a program names, in the arena, where steps look for them.
-fn kept<'t>(arena: Arena<'t>, maps: Vec<MapExpr<'t>>) -> Result<&'t [MapExpr<'t>], AllocError> {
-    match arena.list(maps) {
-        Ok(maps) => Ok(maps),
-        Err(_) => Err(AllocError),
-    }
-}
-
 // The run of a plan, in a frame that has what the sets give.
-fn run_planned<'t>(
+fn run_planned<'t, G: Gate>(
     arena: Arena<'t>,
     planned: Planned<'_, 't>,
     stmts: &[Stmt<'_>],
     sets: &[&str],
     config: &Config,
-) -> Result<Ended, AllocError>
-    ensures { IfOk result (λ ended. AreKnownScopes planned.entry.scopes → AreLeft planned.entry.scopes → RanTo planned.entry.scopes (stmts_of stmts.now)
-        (exec_all (limits_of config.now) in_memory (steps_of planned.entry.steps.now) (first_memory (start_of planned.entry.slots planned.entry.scopes (map (λ set. set.now) sets.now))) no_deeds) ended.outcome ended.text.items) }
+    gate: &G,
+) -> Result<Ended, Refused>
+    ensures ends { IfOk result (λ ended. AreKnownScopes planned.entry.scopes → AreLeft planned.entry.scopes → RanTo planned.entry.scopes (stmts_of stmts.now)
+        (exec_all (limits_of config.now) in_memory (steps_in Outside planned.entry.steps.now) (first_memory (start_of planned.entry.slots planned.entry.scopes (map (λ set. set.now) sets.now))) no_deeds) ended.outcome ended.text.items) }
+    ensures unwritten { IfErr result (IsUnwritten (MayRefuseSome (G.may_refuse gate.now))) }
 {
     let alloc = arena.alloc();
     let Planned {
@@ -98,31 +94,41 @@ fn run_planned<'t>(
         scopes,
     } = planned;
     let words = given(alloc, &scopes, sets)?;
-    let frame = first_frame(alloc, slots, &words, config, kept(arena, maps)?)?;
-    run(alloc, steps, frame, &scopes, stmts)
+    let frame = first_frame(arena, slots, &words, config, maps)?;
+    run(alloc, steps, frame, &scopes, stmts, gate)
 }
 
 // The run of a program that has no refusal: such a program runs, so that the planner doesn't refuse it.
-fn run_program<'t>(
+fn run_program<'t, G: Gate>(
     arena: Arena<'t>,
     program: &Program<'t>,
     sets: &[&str],
     config: &Config,
-) -> Result<Ended, AllocError>
+    gate: &G,
+) -> Result<Ended, Refused>
     requires unrefused { tree_refusal (map (λ set. set.now) sets.now) (program_view program.now) ≡ None }
     requires runnable { AreRunnableTops top (stmts_of program.now.stmts.now) }
-    ensures { IfOk result (λ ended. (histories : List (List Event)) → Means (program_view program.now) (map (λ set. set.now) sets.now) (limits_of config.now) histories ended.outcome ended.text.items) }
+    ensures means { IfOk result (λ ended. (histories : List (List Event)) → Means (program_view program.now) (map (λ set. set.now) sets.now) (limits_of config.now) histories ended.outcome ended.text.items) }
+    ensures unwritten { IfErr result (IsUnwritten (MayRefuseSome (G.may_refuse gate.now))) }
 {
     match plan(arena, program) {
-        Ok(planned) => run_planned(arena, planned, program.stmts, sets, config),
-        Err(PlanStop::Memory) => Err(AllocError),
+        Ok(planned) => run_planned(arena, planned, program.stmts, sets, config, gate),
+        Err(PlanStop::Memory) => Err(Refused::Memory),
         Err(PlanStop::IllTyped) => unreachable!(),
     }
 }
 
-// What a text comes to, or its refusal. The tokens are dropped at the end, since the tree points into the text alone.
-fn stages(alloc: Global, text: &[u8], sets: &[&str], config: &Config) -> Result<Ended, Stop>
-    ensures comes { IfOk result (λ ended. (histories : List (List Event)) → ComesTo text.now (map (λ set. set.now) sets.now) (limits_of config.now) histories ended.outcome ended.text.items) }
+// The run of a text's program, or the text's refusal. The tokens are dropped at the end, since the tree points into the text
+// alone.
+fn stages<G: Gate>(
+    alloc: Global,
+    text: &[u8],
+    sets: &[&str],
+    config: &Config,
+    gate: &G,
+) -> Result<Result<Ended, Refused>, Stop>
+    ensures comes { IfOk result (λ ran. IfOk ran (λ ended. (histories : List (List Event)) → ComesTo text.now (map (λ set. set.now) sets.now) (limits_of config.now) histories ended.outcome ended.text.items)) }
+    ensures unwritten { IfOk result (λ ran. IfErr ran (IsUnwritten (MayRefuseSome (G.may_refuse gate.now)))) }
     ensures stops { IfErr result (IsCause text.now (map (λ set. set.now) sets.now)) }
 {
     let tokens = lex(alloc, text)?;
@@ -131,30 +137,38 @@ fn stages(alloc: Global, text: &[u8], sets: &[&str], config: &Config) -> Result<
     let program = parse(arena, tokens.as_slice())?;
     match tree_refusal(arena, &program, sets)? {
         Some(refusal) => Err(Stop::Refused(refusal)),
-        None => Ok(run_program(arena, &program, sets, config)?),
+        None => Ok(run_program(arena, &program, sets, config, gate)),
     }
 }
 
 // What a text comes to: the run of its program, or its refusal.
-fn outcome(alloc: Global, text: &[u8], sets: &[&str], config: &Config) -> Result<Ended, AllocError>
+fn outcome<G: Gate>(
+    alloc: Global,
+    text: &[u8],
+    sets: &[&str],
+    config: &Config,
+    gate: &G,
+) -> Result<Ended, Refused>
     ensures comes { IfOk result (λ ended. (histories : List (List Event)) → ComesTo text.now (map (λ set. set.now) sets.now) (limits_of config.now) histories ended.outcome ended.text.items) }
+    ensures unwritten { IfErr result (IsUnwritten (MayRefuseSome (G.may_refuse gate.now))) }
 {
-    match stages(alloc, text, sets, config) {
-        Ok(ended) => Ok(ended),
-        Err(Stop::Refused(refusal)) => reject(alloc, refusal),
-        Err(Stop::Memory) => Err(AllocError),
+    match stages(alloc, text, sets, config, gate) {
+        Ok(ran) => ran,
+        Err(Stop::Refused(refusal)) => Ok(reject(alloc, refusal)?),
+        Err(Stop::Memory) => Err(Refused::Memory),
     }
 }
 
 /// Runs a text: what is written, and the outcome, are those of the language's definition, in which a forall is a plain
 /// loop. Settings but the budget and the number of locales change neither.
 ///
-/// `text` is any bytes. `sets` are words `name=value`, which give values to the program's `config const`s. `rt` and `gate`
-/// serve loops on workers; here each loop runs on the caller's thread, and the gate isn't asked. Output is held until the
+/// `text` is any bytes. `sets` are words `name=value`, which give values to the program's `config const`s. `rt` serves loops on
+/// workers; here each loop runs on the caller's thread. The gate is asked before each turn of a forall. Output is held until the
 /// run has ended, and goes to `out`, which must not have failed before.
 ///
 /// # Errors
-/// Out of memory, and nothing was written; or the writer failed, and it holds the first bytes of what the text writes.
+/// Out of memory, or the gate refused an entry, and nothing was written; or the writer failed, and it holds the first bytes of
+/// what the text writes.
 pub fn run_text<R: Sync, G: Gate + Sync, W: Out>(
     rt: &R,
     alloc: Global,
@@ -174,13 +188,15 @@ pub fn run_text<R: Sync, G: Gate + Sync, W: Out>(
     // Without memory nothing was written.
     ensures memory { result ≡ Err Refused.Memory
         → Keeps (W.contents out.old) (W.contents out.new) × (W.has_failed out.new ≡ false) }
+    // The gate refused an entry only where it may. Nothing was written.
+    ensures gate { result ≡ Err Refused.Gate → MayRefuseSome (G.may_refuse gate.now)
+        × Keeps (W.contents out.old) (W.contents out.new) × (W.has_failed out.new ≡ false) }
     // A writer that failed holds the first bytes of what the text writes.
     ensures writer { result ≡ Err Refused.Writer → (W.has_failed out.new ≡ true)
         × ((outcome : Outcome) × (said : List ℕ) × ((histories : List (List Event)) → ComesTo text.now (map (λ set. set.now) sets.now) (limits_of config.now) histories outcome said)
         × Partly (W.contents out.old) (W.contents out.new) said) }
 {
     let _ = rt;
-    let _ = gate;
-    let ended = outcome(alloc, text, sets, config)?;
+    let ended = outcome(alloc, text, sets, config, gate)?;
     deliver(ended, out)
 }

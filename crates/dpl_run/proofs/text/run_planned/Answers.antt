@@ -6,14 +6,15 @@ use Rattle.dpl_tree.specs.Statements.{stmts_of}
 use Rattle.dpl_memory.specs.Memory.{in_memory}
 use Rattle.dpl_memory.specs.Resolved.{first_memory}
 use Rattle.dpl_nodes.specs.Frames.{Framed}
-use Rattle.dpl_nodes.specs.Steps.{steps_of}
+use Rattle.dpl_standing.specs.Standing.{Outside}
+use Rattle.dpl_steps.specs.Readings.{steps_in}
 use Rattle.dpl_typer.proofs.Names.{if_ok}
 use Rattle.dpl_run.specs.Plans.{start_of}
 use Rattle.dpl_run.specs.Runs.{RanTo}
 use Rattle.dpl_run.proofs.text.run_planned.Goals as goal
 
-pub returns : goal.returns
-returns c =
+pub returns-clause-ends : goal.returns-clause-ends
+returns-clause-ends g c =
     let p = c.args.planned in
     let ts = stmts_of c.args.stmts.now in
     let sets = map (λ set. set.now) c.args.sets.now in
@@ -23,7 +24,7 @@ returns c =
     let memory = ap (λ (f : Framed). f.memory) c.in_ok-frame.ensures ∙ ap (λ ws. first_memory (record { slots = p.slots; texts = []; words = ws })) given in
     if_ok c.run.result
     (λ ended ran known left.
-    subst (λ l. RanTo p.scopes ts (exec_all l in_memory (steps_of p.steps.now) (first_memory (start_of p.slots p.scopes sets)) no_deeds) ended.outcome ended.text.items) limits
-    (subst (λ m. RanTo p.scopes ts (exec_all frame.limits in_memory (steps_of p.steps.now) m no_deeds) ended.outcome ended.text.items) memory
+    subst (λ l. RanTo p.scopes ts (exec_all l in_memory (steps_in Outside p.steps.now) (first_memory (start_of p.slots p.scopes sets)) no_deeds) ended.outcome ended.text.items) limits
+    (subst (λ m. RanTo p.scopes ts (exec_all frame.limits in_memory (steps_in Outside p.steps.now) m no_deeds) ended.outcome ended.text.items) memory
     (ran known left)))
-    c.run.ensures
+    c.run.ensures.ends
