@@ -1,44 +1,22 @@
--- Types and kinds: what is typed as something else than a domain is none, and an int is an index by itself.
+-- Types and kinds: an int is an index by itself, and ints, as many as a domain may have dimensions, are one.
 use Rattle.std.proofs.Common.{◌≡◌, Bool, true, false, List, [], ◌∷◌, length, Option, Some, None, refl, sym, ap, ◌∙◌}
 use Rattle.std.specs.Prelude.{◌&&◌}
 use Rattle.std.proofs.lemmas.Option.{same_Some}
 use Rattle.std.proofs.lemmas.Bool.Decides.{Decides-eqb}
 use Rattle.dpl_syntax.specs.declared.place.Place.{Place}
 use Rattle.dpl_language.specs.Tree.{IntKind, BoolKind}
-use Rattle.dpl_rules.specs.Types.{ValueType, Scalar, Range, Domain, Array, Promoted, Tuple, Locale, AllLocales, Cell, has, is_int, is_domain, an_int}
+use Rattle.dpl_rules.specs.Types.{ValueType, Scalar, Range, Domain, Array, Promoted, Tuple, Locale, AllLocales, Cell, has, is_int, an_int}
 use Rattle.dpl_rules.specs.Verdicts.{Part, type_by, judged, all_known, each_wanted}
 use Rattle.dpl_rules.specs.Operators.{index_breaches}
 use Rattle.dpl_words.specs.Words.{IntLeaf}
-use Rattle.dpl_memory.specs.Memory.{VariableKind, PlainKind, DomainKind}
+use Rattle.dpl_memory.specs.Memory.{PlainKind}
 use Rattle.dpl_typer.specs.declared.make.Typed.{Typed}
-use Rattle.dpl_typer.specs.Makers.{kind_of, kind_if, is_index, is_domain as is_domain_kind}
+use Rattle.dpl_typer.specs.Makers.{kind_of, is_index}
 use Rattle.dpl_typer.specs.Leaves.{is_rank, IsOfType}
 use Rattle.dpl_typer.specs.Elaborated.{IsNoIndex}
 use Rattle.dpl_placing.specs.Starts.{are_ints}
 
-pub untyped : (test : ValueType → Bool) (o : Option ValueType) → o ≡ None → has test o ≡ false
-untyped test o e = ap (has test) e
-
--- ---- domains
-ranked-kind : (b : Bool) (k l : VariableKind) → kind_if b k ≡ Some l → k ≡ l
-ranked-kind true k l e = same_Some k l e
-ranked-kind false k l e = absurd (let f : None ≡ Some l = e in cc)
-
-pub no-domain : (t : Typed) (o : Option ValueType) → IsOfType t o → is_domain_kind (kind_of t) ≡ false → has is_domain o ≡ false
-no-domain t None h other = refl
-no-domain t (Some (Scalar k)) h other = refl
-no-domain t (Some (Range strided)) h other = refl
-no-domain t (Some (Domain rank strided)) h other =
-    let same : DomainKind ≡ kind_of t = ranked-kind (is_rank rank) DomainKind (kind_of t) h.0 in
-    ap is_domain_kind same ∙ other
-no-domain t (Some (Array k over)) h other = refl
-no-domain t (Some (Promoted k over)) h other = refl
-no-domain t (Some (Tuple rank)) h other = refl
-no-domain t (Some Locale) h other = refl
-no-domain t (Some AllLocales) h other = refl
-no-domain t (Some (Cell k)) h other = refl
-
--- ---- ints
+-- what is no index by itself is no int
 pub no-int : (t : Typed) (o : Option ValueType) → IsOfType t o → is_index (kind_of t ∷ []) ≡ false → has is_int o ≡ false
 no-int t None h other = refl
 no-int t (Some (Scalar IntKind)) h other =

@@ -3,6 +3,9 @@
 use Rattle.std.specs.Prelude.{◌≡◌, Bool, true, false, ◌&&◌, ◌||◌, List, [], ◌∷◌, length, Option, Some, None}
 use Rattle.dpl_language.specs.Tree.{AfterComma, Listed, ExprTree, Number, TruthWord, Named, LocalesWord, LocaleCount, HereWord, Grouped, DomainLiteral, Prefixed, Reduced, Chain, Postfixed, Posts, NoPosts, Post, Exprs, FirstExpr, MoreExprs, NoExprs, NextExpr, StartTree, StartExpr, StartTuple}
 use Rattle.dpl_language.specs.Names.{Text}
+use Rattle.dpl_tree.specs.declared.expression.Expr.{Expr as ExprNode}
+use Rattle.dpl_tree.specs.declared.expression.Post.{Post as PostNode}
+use Rattle.dpl_tree.specs.View.{expr_view, posts_of}
 use Rattle.dpl_rules.specs.Types.{has, is_int, is_domain}
 use Rattle.dpl_rules.specs.Verdicts.{Part}
 use Rattle.dpl_rules.specs.Sights.{Scopes}
@@ -13,7 +16,9 @@ use Rattle.dpl_nodes.specs.declared.tree.DomainExpr.{DomainExpr}
 use Rattle.dpl_nodes.specs.declared.placing.StartExpr.{StartExpr as StartNode}
 use Rattle.dpl_nodes.specs.declared.placing.StartExpr.TheVariants.{Index, Least}
 use Rattle.dpl_nodes.specs.Typed.{domain_view, index_exprs, exprs_one}
-use Rattle.dpl_typer.specs.Leaves.{is_rank}
+use Rattle.dpl_nodes.specs.Faults.{IsNear}
+use Rattle.dpl_spelling.specs.Spelt.{ExprSpelt}
+use Rattle.dpl_typer.specs.Leaves.{MayBePlain, is_rank}
 use Rattle.dpl_typer.specs.Simple.{IsSimple, AreSimpleExprs}
 use Rattle.dpl_typer.specs.Elaborated.{leaves_of, exprs_leaves}
 
@@ -21,6 +26,10 @@ use Rattle.dpl_typer.specs.Elaborated.{leaves_of, exprs_leaves}
 abbrev pub behind : ExprTree Text → Posts Text → ExprTree Text
 behind e NoPosts = e
 behind e (Post p rest) = Postfixed e (Post p rest)
+
+-- the same as they are parsed
+abbrev pub standing_tree : ExprNode → List PostNode → ExprTree Text
+standing_tree base posts = behind (expr_view base) (posts_of posts)
 
 -- the same of an expression
 abbrev pub unposted : ExprTree Text → ExprTree Text
@@ -54,6 +63,10 @@ tuple_exprs xs = FirstExpr xs.first (more_exprs xs.others)
 abbrev pub IsSimpleStart : (Text → Type 0) → StartTree Text → Type 0
 IsSimpleStart Holds (StartExpr e) = IsSimple Holds e
 IsSimpleStart Holds (StartTuple from xs upto) = AreSimpleExprs Holds (tuple_exprs xs)
+
+-- an expression may have a typed form: it is simple, and a text spells it
+abbrev pub MayBeTyped : Scopes → ExprTree Text → Type 0
+MayBeTyped scopes e = IsSimple (MayBePlain scopes) e × ExprSpelt IsNear e
 
 -- parts that are ints
 abbrev pub are_ints : List Part → Bool

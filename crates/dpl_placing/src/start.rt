@@ -13,12 +13,11 @@ ghost use Rattle.dpl_lowered.specs.LoweredExpressions.{Once};
 ghost use Rattle.dpl_nodes.specs.Typed.{domain_view, index_exprs, exprs_one};
 ghost use Rattle.dpl_nodes.specs.Faults.{IsNear};
 ghost use Rattle.dpl_nodes.specs.declared.stop.Stop.TheVariants as stop;
-ghost use Rattle.dpl_spelling.specs.Spelt.{ExprSpelt, StartSpelt};
+ghost use Rattle.dpl_spelling.specs.Spelt.{StartSpelt};
 ghost use Rattle.dpl_typer.specs.Makers.{typed_view};
 ghost use Rattle.dpl_typer.specs.Leaves.{MayBePlain, IsOfType};
-ghost use Rattle.dpl_typer.specs.Simple.{IsSimple};
 ghost use Rattle.dpl_typer.specs.Elaborated.{leaves_of, postfixed_tree};
-ghost use Rattle.dpl_placing.specs.Starts.{behind, IsLow, IsSimpleStart, IsLeastOf, is_least, IsStartOf, is_start};
+ghost use Rattle.dpl_placing.specs.Starts.{standing_tree, IsLow, IsSimpleStart, MayBeTyped, IsLeastOf, is_least, IsStartOf, is_start};
 
 use dpl_nodes::{DomainExpr, IndexExpr, StartExpr, Stop};
 use dpl_scopes::Scopes;
@@ -68,9 +67,9 @@ fn standing<'t>(
     base: &Expr<'_>,
     posts: &[Post<'_>],
 ) -> Result<Typed<'t>, Stop>
-    ensures node { IfOk result (λ t. typed_view Once t ≡ leaves_of scopes.now Once (behind (expr_view base.now) (posts_of posts.now))) }
-    ensures kind { IfOk result (λ t. IsOfType t (type_of scopes.now (behind (expr_view base.now) (posts_of posts.now)))) }
-    ensures ill_typed { (result ≡ Err stop.IllTyped) → IsSimple (MayBePlain scopes.now) (behind (expr_view base.now) (posts_of posts.now)) → ExprSpelt IsNear (behind (expr_view base.now) (posts_of posts.now)) → type_of scopes.now (behind (expr_view base.now) (posts_of posts.now)) ≡ None }
+    ensures node { IfOk result (λ t. typed_view Once t ≡ leaves_of scopes.now Once (standing_tree base.now posts.now)) }
+    ensures kind { IfOk result (λ t. IsOfType t (type_of scopes.now (standing_tree base.now posts.now))) }
+    ensures ill_typed { (result ≡ Err stop.IllTyped) → MayBeTyped scopes.now (standing_tree base.now posts.now) → type_of scopes.now (standing_tree base.now posts.now) ≡ None }
 {
     if posts.is_empty() {
         expression(arena, scopes, base)
@@ -86,8 +85,8 @@ fn domain<'t>(
     base: &Expr<'_>,
     posts: &[Post<'_>],
 ) -> Result<Option<&'t DomainExpr<'t>>, Stop>
-    ensures node { IfOk result (λ o. IfSome o (λ d. domain_view d.now ≡ leaves_of scopes.now Once (behind (expr_view base.now) (posts_of posts.now)))) }
-    ensures other { IfOk result (λ o. IfNone o (IsSimple (MayBePlain scopes.now) (behind (expr_view base.now) (posts_of posts.now)) → ExprSpelt IsNear (behind (expr_view base.now) (posts_of posts.now)) → has is_domain (type_of scopes.now (behind (expr_view base.now) (posts_of posts.now))) ≡ false)) }
+    ensures node { IfOk result (λ o. IfSome o (λ d. domain_view d.now ≡ leaves_of scopes.now Once (standing_tree base.now posts.now))) }
+    ensures other { IfOk result (λ o. IfNone o (MayBeTyped scopes.now (standing_tree base.now posts.now) → has is_domain (type_of scopes.now (standing_tree base.now posts.now)) ≡ false)) }
     ensures ill_typed { result ≢ Err stop.IllTyped }
 {
     match standing(arena, scopes, base, posts) {
@@ -110,7 +109,7 @@ fn least<'t>(
     e: &Postfixed<'_>,
 ) -> Result<Option<&'t DomainExpr<'t>>, Stop>
     ensures least { IfOk result (λ o. IfSome o (λ d. IsLeastOf scopes.now (low_of (postfixed_tree e.now)) d.now)) }
-    ensures other { IfOk result (λ o. IfNone o (IsSimple (MayBePlain scopes.now) (postfixed_tree e.now) → ExprSpelt IsNear (postfixed_tree e.now) → is_least scopes.now (low_of (postfixed_tree e.now)) ≡ false)) }
+    ensures other { IfOk result (λ o. IfNone o (MayBeTyped scopes.now (postfixed_tree e.now) → is_least scopes.now (low_of (postfixed_tree e.now)) ≡ false)) }
     ensures ill_typed { result ≢ Err stop.IllTyped }
 {
     match before_low(e.posts) {
@@ -122,7 +121,7 @@ fn least<'t>(
 // An index by itself, as an int.
 fn plain<'t>(arena: Arena<'t>, scopes: &Scopes<'_>, e: &Expr<'_>) -> Result<&'t IndexExpr<'t>, Stop>
     ensures exprs { IfOk result (λ t. index_exprs t.now ≡ exprs_one (leaves_of scopes.now Once (expr_view e.now))) }
-    ensures ill_typed { (result ≡ Err stop.IllTyped) → IsSimple (MayBePlain scopes.now) (expr_view e.now) → ExprSpelt IsNear (expr_view e.now) → has is_int (type_of scopes.now (expr_view e.now)) ≡ false }
+    ensures ill_typed { (result ≡ Err stop.IllTyped) → MayBeTyped scopes.now (expr_view e.now) → has is_int (type_of scopes.now (expr_view e.now)) ≡ false }
 {
     let t = expression(arena, scopes, e)?;
     index_of_one(arena, t)
@@ -132,7 +131,7 @@ fn plain<'t>(arena: Arena<'t>, scopes: &Scopes<'_>, e: &Expr<'_>) -> Result<&'t 
 #[tactic(auto, using(dpl_tree::proofs::Fields::expr_view_postfixed))]
 fn single<'t>(arena: Arena<'t>, scopes: &Scopes<'_>, e: &Expr<'_>) -> Result<StartExpr<'t>, Stop>
     ensures start { IfOk result (λ s. IsStartOf scopes.now (StartExprTree (expr_view e.now)) s) }
-    ensures ill_typed { (result ≡ Err stop.IllTyped) → IsSimple (MayBePlain scopes.now) (expr_view e.now) → ExprSpelt IsNear (expr_view e.now) → is_start scopes.now (StartExprTree (expr_view e.now)) ≡ false }
+    ensures ill_typed { (result ≡ Err stop.IllTyped) → MayBeTyped scopes.now (expr_view e.now) → is_start scopes.now (StartExprTree (expr_view e.now)) ≡ false }
 {
     match e {
         Expr::Postfixed(postfixed) => match least(arena, scopes, postfixed)? {

@@ -4,7 +4,7 @@ use Rattle.std.proofs.Common.{◌≡◌, true, false, Bor, List, Option, Some, N
 use Rattle.dpl_language.specs.Tree.{Op, ExprTree, TruthWord, DomainLiteral, Postfixed, ItemTree, NoPosts, Post, Dotted, Contains, Items, Exprs}
 use Rattle.dpl_language.specs.Names.{Text}
 use Rattle.dpl_language.specs.Values.{Value, Index}
-use Rattle.dpl_language.specs.Phrases.{ReadTree, cell_read, item_read}
+use Rattle.dpl_language.specs.Phrases.{ReadTree, item_read}
 use Rattle.dpl_agreement.specs.Scopes.{fits_expr, fits_item, fits_items, fits_exprs, fits_read, fits_side, fits_whole_side}
 use Rattle.dpl_agreement.specs.Renamed.{renamed_expr, renamed_item, renamed_items, renamed_exprs, renamed_read}
 use Rattle.dpl_agreement.proofs.RenamedParts.{item_read-renamed}

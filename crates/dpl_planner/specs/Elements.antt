@@ -5,6 +5,12 @@ use Rattle.dpl_syntax.specs.declared.place.Place.{Place}
 use Rattle.dpl_language.specs.Tree.{Placed, Assign, Kind, IntKind, BoolKind, ExprTree, Exprs, ItemTree, Whole, Element, Square, StmtTree, Assigned}
 use Rattle.dpl_language.specs.Arithmetic.{assign_divides}
 use Rattle.dpl_language.specs.Names.{Text}
+use Rattle.dpl_tree.specs.declared.expression.Item.{Item as ItemNode}
+use Rattle.dpl_tree.specs.declared.statement.Element.{Element as ElementNode}
+use Rattle.dpl_tree.specs.declared.statement.AssignSign.{AssignSign}
+use Rattle.dpl_tree.specs.Words.{shape_view}
+use Rattle.dpl_tree.specs.View.{name_view, exprs_view, item_view}
+use Rattle.dpl_tree.specs.Statements.{sign_view}
 use Rattle.dpl_rules.specs.Types.{ValueType}
 use Rattle.dpl_rules.specs.Sights.{Scopes}
 use Rattle.dpl_rules.specs.Expressions.{item_type}
@@ -32,6 +38,11 @@ whole_changed x op at item = Assigned (Whole x) (record { at = at; op = op; last
 abbrev pub element_changed : Placed Variable → Exprs Variable → Assign → Place → ItemTree Variable → StmtTree Variable
 element_changed x es op at item =
     Assigned (Element x Square nowhere es nowhere) (record { at = kept (assign_divides op) at; op = op; last = nowhere }) item nowhere
+
+-- the statement that assigns an item to an element, as it is parsed
+abbrev pub element_tree : ElementNode → AssignSign → ItemNode → Place → StmtTree Text
+element_tree target sign value semicolon =
+    Assigned (Element (name_view target.name) (shape_view target.shape) target.from (exprs_view target.exprs) target.upto) (sign_view sign) (item_view value) semicolon
 
 -- an item has a type, and what is made of it is of that type
 abbrev pub HasItemType : Scopes → ItemTree Text → Type 0

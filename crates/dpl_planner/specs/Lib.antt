@@ -1,8 +1,6 @@
 -- Programs with their names resolved, and what the command line owes them.
 pub mod Bounds
 pub mod Given
--- By which maps domains are dealt out.
-pub mod Roots
 -- What serves contracts and proofs alone.
 pub mod Plans
 pub mod Parts

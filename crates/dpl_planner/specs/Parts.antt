@@ -113,7 +113,7 @@ IsSingleType (Some (SyncType at kind_at k)) = ⊥
 IsSingleType (Some (DomainType d)) = (nat_le 1 d.rank && nat_le d.rank 3) ≡ true
 IsSingleType (Some (ArrayType a)) = ⊥
 
--- what a variable begins with, as its kind and as the type and the initial value of its declaration
+-- what a variable begins with, as its kind, as the type and the initial value of its declaration, and as a value that is evaluated
 abbrev pub begun_kind : Beginning → VariableKind
 begun_kind (beginning.Value t) = kind_of t
 begun_kind (beginning.Empty rank) = DomainKind
@@ -125,6 +125,10 @@ begun_type (beginning.Empty rank) = Some (written_type (of_rank rank))
 abbrev pub begun_value : Beginning → Option (InitialTree Variable)
 begun_value (beginning.Value t) = Some (written_initial nowhere (typed_item Once t))
 begun_value (beginning.Empty rank) = None
+
+abbrev pub begun_typed : Beginning → Option Typed
+begun_typed (beginning.Value t) = Some t
+begun_typed (beginning.Empty rank) = None
 
 abbrev pub begun_as : Option Place → Variable → Beginning → StmtTree Variable
 begun_as config x b = Declare (record {

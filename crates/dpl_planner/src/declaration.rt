@@ -21,7 +21,7 @@ ghost use Rattle.dpl_typer.specs.Elaborated.{IsCreated};
 ghost use Rattle.dpl_planner.specs.declared.declaration.Beginning.TheVariants as beginning;
 ghost use Rattle.dpl_planner.specs.Given.{IsOfLeaf};
 ghost use Rattle.dpl_planner.specs.Arrays.{IsNoArrayType};
-ghost use Rattle.dpl_planner.specs.Parts.{IsSingleKind, IsSingleType, IsWrittenType, IsDefault, BeginsByDefault, IsGivenInit, begun_kind, begun_as, IsInitial, PlansDeclare};
+ghost use Rattle.dpl_planner.specs.Parts.{IsSingleKind, IsSingleType, IsWrittenType, IsDefault, BeginsByDefault, IsGivenInit, begun_kind, begun_typed, begun_as, IsInitial, PlansDeclare};
 ghost use Rattle.dpl_runnable.specs.Kinds.{IsScalarKind};
 ghost use Rattle.dpl_runnable.specs.Runnable.{created_type, IsCreatedOf, IsInitOf, IsShapedInit, IsInitialOf, IsShapedInitial, IsConfigOf, IsRunnableDeclare, IsRunnableStmt};
 ghost use Rattle.dpl_planner.specs.Plans.{intents_in, PlansStmt};
@@ -29,9 +29,9 @@ ghost use Rattle.dpl_planner.specs.Plans.{intents_in, PlansStmt};
 use crate::arrays::{declare_array, declared};
 use crate::change::{holds, is_domain, shaped, taken_type};
 use crate::progress::Plan;
-use crate::root::{place, root_of};
 use dpl_nodes::step::Rank;
 use dpl_nodes::{IntDeed, Placing, Step, Stop, TruthDeed};
+use dpl_placing::root_of;
 use dpl_scopes::Scopes;
 use dpl_syntax::Place;
 use dpl_tree::{
@@ -58,6 +58,18 @@ pub(crate) enum WrittenKind {
 pub(crate) enum Beginning<'t> {
     Value(Typed<'t>),
     Empty(Rank),
+}
+
+impl<'t> Beginning<'t> {
+    // The value, if it is one.
+    fn value(self) -> Option<Typed<'t>>
+        ensures { result ≡ begun_typed self.entry }
+    {
+        match self {
+            Beginning::Value(value) => Some(value),
+            Beginning::Empty(_) => None,
+        }
+    }
 }
 
 // The rank of a domain type.
@@ -282,10 +294,10 @@ fn declare_single<'s, 't>(plan: &mut Plan<'s, 't>, written: &Declare<'s>) -> Res
         &plan.scopes,
         &written.typed,
         &written.initial,
-        begun,
+        begun.value(),
     )?;
     let slot = plan.declare(declared.origin.name, declared.sort, value_type)?;
-    let placing = place(plan, root)?;
+    let placing = plan.place(root)?;
     declares(written.config, slot, begun, placing)
 }
 

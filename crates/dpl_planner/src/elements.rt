@@ -2,9 +2,9 @@
 // A whole array takes arrays of its own kind, promoted or not, and whatever one of its elements takes.
 
 ghost use Rattle.std.specs.Prelude.{◌≡◌, ◌≢◌, true, OnOk, IfOk, IfSome, IfNone, Err, Some, None};
-ghost use Rattle.dpl_language.specs.Tree.{Kind, IntKind, BoolKind, One, SetReduce, Whole, Element as ElementTree, Assigned as AssignedTree};
-ghost use Rattle.dpl_tree.specs.Words.{kind_view, assign_view, shape_view};
-ghost use Rattle.dpl_tree.specs.View.{name_view, item_view, exprs_view};
+ghost use Rattle.dpl_language.specs.Tree.{Kind, IntKind, BoolKind, One, SetReduce, Whole, Assigned as AssignedTree};
+ghost use Rattle.dpl_tree.specs.Words.{kind_view, assign_view};
+ghost use Rattle.dpl_tree.specs.View.{name_view, item_view};
 ghost use Rattle.dpl_tree.specs.Statements.{sign_view};
 ghost use Rattle.dpl_rules.specs.Expressions.{item_type as item_type_of};
 ghost use Rattle.dpl_types.specs.View.{type_view};
@@ -23,7 +23,7 @@ ghost use Rattle.dpl_typer.specs.Leaves.{value_kind, kind_in};
 ghost use Rattle.dpl_runnable.specs.Runnable.{IsItemOf, IsRunnableStmt};
 ghost use Rattle.dpl_planner.specs.Parts.{IsItem};
 ghost use Rattle.dpl_planner.specs.declared.elements.Elements.TheVariants as each;
-ghost use Rattle.dpl_planner.specs.Elements.{elements_view, elements_kind, whole_changed, element_changed, HasItemType, IsValued};
+ghost use Rattle.dpl_planner.specs.Elements.{elements_view, elements_kind, whole_changed, element_tree, element_changed, HasItemType, IsValued};
 ghost use Rattle.dpl_planner.specs.Plans.{intents_in, PlansStmt};
 
 use crate::change::declared_type;
@@ -368,9 +368,8 @@ pub(crate) fn set_element<'t>(
     value: &Item<'_>,
     semicolon: Place,
 ) -> Result<Step<'t>, Stop>
-    ensures plans { IfOk result (λ step. PlansStmt plan.now plan.now (AssignedTree (ElementTree (name_view target.now.name) (shape_view target.now.shape) target.now.from (exprs_view target.now.exprs) target.now.upto) (sign_view sign) (item_view value.now) semicolon) step) }
-    ensures ill_typed { (result ≡ Err stop.IllTyped)
-        → IsRunnableStmt plan.now.scopes (intents_in plan.now) (AssignedTree (ElementTree (name_view target.now.name) (shape_view target.now.shape) target.now.from (exprs_view target.now.exprs) target.now.upto) (sign_view sign) (item_view value.now) semicolon) → ⊥ }
+    ensures plans { IfOk result (λ step. PlansStmt plan.now plan.now (element_tree target.now sign value.now semicolon) step) }
+    ensures ill_typed { (result ≡ Err stop.IllTyped) → IsRunnableStmt plan.now.scopes (intents_in plan.now) (element_tree target.now sign value.now semicolon) → ⊥ }
 {
     let Some(kind) = array_named(&plan.scopes, target.name.text) else {
         return Err(Stop::IllTyped);

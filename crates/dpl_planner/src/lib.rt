@@ -10,7 +10,6 @@ mod loops;
 mod overs;
 mod program;
 mod progress;
-mod root;
 mod statement;
 mod turns;
 mod write;

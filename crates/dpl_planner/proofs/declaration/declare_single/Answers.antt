@@ -16,7 +16,7 @@ returns-clause-plans c =
     let begun : c.begins.result ≡ true = search rules in
     if_both c.declares.result
     (λ s node kept.
-    declare-plans c.args.plan.now (declare_view c.args.written.now) c.in_ok-declared.declared c.in-Some.value_type c.in_ok-declared.ensures.declared c.in-Some.is c.place.new.plan c.in_ok-begun.begun c.in_ok-slot.slot s
+    declare-plans c.args.plan.now (declare_view c.args.written.now) c.in_ok-declared.declared c.in-Some.value_type c.in_ok-declared.ensures.declared c.in-Some.is c.place.new.self c.in_ok-begun.begun c.in_ok-slot.slot s
     c.in_ok-begun.ensures.initial (c.begins.ensures.yes begun) kept.0 made.fresh made.next
     (subst (λ n. c.in_ok-slot.slot < n) (sym placed.slots) made.below) (subst (λ n. c.args.plan.now.slots ≤ n) (sym placed.slots) made.slots)
     (placed.scopes ∙ made.scopes) (placed.intents ∙ made.intents) node)

@@ -6,12 +6,10 @@ ghost use Rattle.dpl_language.specs.Declarations.{type_of};
 ghost use Rattle.dpl_tree.specs.Words.{create_view};
 ghost use Rattle.dpl_tree.specs.Declarations.{optional, typed_view, map_view, mapped_view, init_view, initial_view};
 ghost use Rattle.dpl_nodes.specs.declared.stop.Stop.TheVariants as stop;
-ghost use Rattle.dpl_planner.specs.Roots.{created_root, typed_root, derived_root, IsNamedRoot, IsInitRoot, IsGivenRoot, IsTypedRoot, IsRootOf, IsPlacedAs};
+ghost use Rattle.dpl_placing.specs.Roots.{created_root, typed_root, derived_root, IsNamedRoot, IsInitRoot, IsGivenRoot, IsTypedRoot, IsRootOf};
 
-use crate::declaration::Beginning;
-use crate::progress::{Plan, push};
+use crate::map::mapped;
 use dpl_nodes::{MapExpr, Placing, Stop};
-use dpl_placing::mapped;
 use dpl_scopes::Scopes;
 use dpl_tree::{
     Arena, CreateWord, DeclaredType, DomainType, Init, Initial, Mapped, Typed as WrittenType,
@@ -20,7 +18,7 @@ use dpl_typer::Typed;
 
 /// Which map a declared domain gets: a map that is named, or what is told without one.
 #[derive(Clone, Copy)]
-pub(crate) enum Root<'t> {
+pub enum Root<'t> {
     Placed(Placing),
     Named(MapExpr<'t>),
 }
@@ -50,13 +48,13 @@ fn of_value(value: Typed<'_>) -> Placing
     }
 }
 
-// The same of what a variable begins with.
-fn derived(begun: Beginning<'_>) -> Placing
-    ensures { result ≡ derived_root begun.entry }
+// The same of an initial value, if there is one.
+fn derived(value: Option<Typed<'_>>) -> Placing
+    ensures { result ≡ derived_root value.entry }
 {
-    match begun {
-        Beginning::Value(value) => of_value(value),
-        Beginning::Empty(_) => Placing::Unmapped,
+    match value {
+        Some(value) => of_value(value),
+        None => Placing::Unmapped,
     }
 }
 
@@ -78,7 +76,7 @@ fn of_init<'t>(
     written: &Init<'_>,
     otherwise: Placing,
 ) -> Result<Root<'t>, Stop>
-    ensures root { IfOk result (λ p. IsInitRoot scopes.now (init_view written.now) otherwise p) }
+    ensures root { IfOk result (λ r. IsInitRoot scopes.now (init_view written.now) otherwise r) }
     ensures ill_typed { result ≢ Err stop.IllTyped }
 {
     match written {
@@ -95,7 +93,7 @@ fn given<'t>(
     written: &Option<Initial<'_>>,
     otherwise: Placing,
 ) -> Result<Root<'t>, Stop>
-    ensures root { IfOk result (λ p. IsGivenRoot scopes.now (optional initial_view written.now) otherwise p) }
+    ensures root { IfOk result (λ r. IsGivenRoot scopes.now (optional initial_view written.now) otherwise r) }
     ensures ill_typed { result ≢ Err stop.IllTyped }
 {
     match written {
@@ -111,7 +109,7 @@ fn of_type<'t>(
     domain: &DomainType<'_>,
     initial: &Option<Initial<'_>>,
 ) -> Result<Root<'t>, Stop>
-    ensures root { IfOk result (λ p. IsTypedRoot scopes.now (optional mapped_view domain.now.mapped) (optional initial_view initial.now) p) }
+    ensures root { IfOk result (λ r. IsTypedRoot scopes.now (optional mapped_view domain.now.mapped) (optional initial_view initial.now) r) }
     ensures ill_typed { result ≢ Err stop.IllTyped }
 {
     match &domain.mapped {
@@ -120,48 +118,27 @@ fn of_type<'t>(
     }
 }
 
-/// The map of a declared domain, by its type, its initial value and what it begins with.
+/// The map of a declared domain, by its type and its initial value, as they are written, and by that value, evaluated.
 ///
 /// # Errors
 /// Out of memory.
-pub(crate) fn root_of<'t>(
+pub fn root_of<'t>(
     arena: Arena<'t>,
     scopes: &Scopes<'_>,
     typed: &Option<WrittenType<'_>>,
     initial: &Option<Initial<'_>>,
-    begun: Beginning<'t>,
+    value: Option<Typed<'_>>,
 ) -> Result<Root<'t>, Stop>
-    ensures root { IfOk result (λ p. IsRootOf scopes.now (type_of (optional typed_view typed.now)) (optional initial_view initial.now) begun.entry p) }
+    ensures root { IfOk result (λ r. IsRootOf scopes.now (type_of (optional typed_view typed.now)) (optional initial_view initial.now) value.entry r) }
     ensures ill_typed { result ≢ Err stop.IllTyped }
 {
     let Some(typed) = typed else {
-        return given(arena, scopes, initial, derived(begun));
+        return given(arena, scopes, initial, derived(value));
     };
     match &typed.declared {
         DeclaredType::Domain(domain) => of_type(arena, scopes, domain, initial),
         DeclaredType::Scalar(_, _) | DeclaredType::Sync(_, _, _) | DeclaredType::Array(_) => {
             Ok(Root::Placed(Placing::Unmapped))
-        }
-    }
-}
-
-/// A root's map, to which a step refers: one that is named is put behind those that were named before, and has its number there.
-///
-/// # Errors
-/// Out of memory.
-pub(crate) fn place<'t>(plan: &mut Plan<'_, 't>, root: Root<'t>) -> Result<Placing, Stop>
-    ensures placed { IfOk result (λ p. IsPlacedAs plan.new.maps.items root.entry p) }
-    ensures scopes { plan.new.scopes ≡ plan.old.scopes }
-    ensures slots { plan.new.slots ≡ plan.old.slots }
-    ensures intents { plan.new.intents ≡ plan.old.intents }
-    ensures ill_typed { result ≢ Err stop.IllTyped }
-{
-    match root {
-        Root::Placed(placing) => Ok(placing),
-        Root::Named(map) => {
-            let number = plan.maps.len();
-            push(&mut plan.maps, map)?;
-            Ok(Placing::Mapped(number))
         }
     }
 }
