@@ -1,11 +1,8 @@
 // Programs of arrays, a row for each branch of the language, with the bytes that each writes.
-// Most are worked rows of the definition; each is run again where locales, grids and maps are others.
-
-use crate::writing::{first_wrong, first_wrong_anywhere, first_wrong_within};
-use std::test::Fail;
+// Most are worked rows of the definition.
 
 // Arrays that are declared, assigned, shown and given another domain.
-const VALUES: [(&str, &str); 38] = [
+pub(crate) const VALUES: [(&str, &str); 38] = [
     (
         "var D = {1..4}; var A: [D] int; forall i in D do A[i] = i; D = {3..6}; writeln(A);",
         "3 4 0 0\n",
@@ -152,7 +149,7 @@ const VALUES: [(&str, &str); 38] = [
 ];
 
 // Faults, their turns, and of two the one that comes first.
-const FAULTS: [(&str, &str); 24] = [
+pub(crate) const FAULTS: [(&str, &str); 24] = [
     (
         "const D = {1..8}; var A: [D] int; var B: [D] int; forall i in D do B[i] = A[i-1];",
         "! F1 at 1:75 in turn 1\n",
@@ -213,7 +210,7 @@ const FAULTS: [(&str, &str); 24] = [
 ];
 
 // Refusals of the rules that speak of arrays.
-const REFUSED: [(&str, &str); 12] = [
+pub(crate) const REFUSED: [(&str, &str); 12] = [
     ("var A: [1..3] int; A[1, 2] = 1;", "! C5 at 1:20\n"),
     ("var A: [1..3] int; writeln((A));", "! C3 at 1:28\n"),
     ("var A: [1..3] int; writeln(A + 1);", "! C3 at 1:28\n"),
@@ -241,7 +238,7 @@ const REFUSED: [(&str, &str); 12] = [
 ];
 
 // Budgets: what is evaluated once is evaluated before the budget is tested.
-const BUDGETS: [(&str, u64, &str); 7] = [
+pub(crate) const BUDGETS: [(&str, u64, &str); 7] = [
     ("var A: [1..4] int = 1/0;", 3, "! F2 at 1:22\n"),
     ("var A: [1..4] int = 1;", 3, "! F5 at 1:19\n"),
     ("var A: [1..4] int; A = 1;", 3, "! F5 at 1:22\n"),
@@ -254,37 +251,3 @@ const BUDGETS: [(&str, u64, &str); 7] = [
         "0 0 0 0 0 0 0 0 0\n",
     ),
 ];
-
-#[test]
-fn values(rt: HostRuntime) -> Result<(), Fail> {
-    assert_eq!(rt; first_wrong(&rt, &[VALUES.as_slice()])?, None);
-    Ok(())
-}
-
-#[test]
-fn faults(rt: HostRuntime) -> Result<(), Fail> {
-    assert_eq!(rt; first_wrong(&rt, &[FAULTS.as_slice()])?, None);
-    Ok(())
-}
-
-#[test]
-fn refused(rt: HostRuntime) -> Result<(), Fail> {
-    assert_eq!(rt; first_wrong(&rt, &[REFUSED.as_slice()])?, None);
-    Ok(())
-}
-
-#[test]
-fn budgets(rt: HostRuntime) -> Result<(), Fail> {
-    assert_eq!(rt; first_wrong_within(&rt, &BUDGETS)?, None);
-    Ok(())
-}
-
-// Locales, grids and maps change nothing of what is written, nor which turn is told.
-#[test]
-fn locales_and_maps(rt: HostRuntime) -> Result<(), Fail> {
-    assert_eq!(rt;
-        first_wrong_anywhere(&rt, &[VALUES.as_slice(), FAULTS.as_slice()])?,
-        None
-    );
-    Ok(())
-}

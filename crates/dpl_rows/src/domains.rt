@@ -1,11 +1,8 @@
 // Programs of domains without arrays, a row for each branch of the language, with the bytes that each writes.
-// Each is run with a budget of 1000 turns, where its row names no other, and again where locales, grids and maps are others.
-
-use crate::writing::{first_wrong, first_wrong_anywhere, first_wrong_within};
-use std::test::Fail;
+// Which tables are run by which settings stands in `tests`.
 
 // Domains as values: their sizes, dimensions and members, slices, expanded domains, and what is assigned.
-const VALUES: [(&str, &str); 13] = [
+pub(crate) const VALUES: [(&str, &str); 13] = [
     (
         "writeln({1..4}.size, \" \", {1..3, 0..#5}.size, \" \", {0..<2, 1..3, -1..1}.size, \" \", {7..7}.size); writeln({5..4}.size, {1..3, 5..1}.size, {0..#0, 1..3}.size, {1..1152921504606846976, 1..1152921504606846976, 1..0}.size);",
         "4 15 18 1\n0000\n",
@@ -61,7 +58,7 @@ const VALUES: [(&str, &str); 13] = [
 ];
 
 // Turns go row by row, the last dimension fastest. One name is an int or a tuple, several are ints.
-const LOOPS: [(&str, &str); 9] = [
+pub(crate) const LOOPS: [(&str, &str); 9] = [
     (
         "for i in {3..5} do write(i); for i in {1..10 by -3} do write(\" \", i); writeln(); for (i, j) in {1..2, 1..3} do write(i, j, \" \");",
         "345 10 7 4 1\n11 12 13 21 22 23 ",
@@ -100,7 +97,7 @@ const LOOPS: [(&str, &str); 9] = [
     ),
 ];
 
-const FORALLS: [(&str, &str); 7] = [
+pub(crate) const FORALLS: [(&str, &str); 7] = [
     (
         "var s = 10; forall i in {1..4} with (+ reduce s) do s += i; forall (i, j, k) in {0..1, 0..2, 0..3} with (+ reduce s) do s += 100*i + 10*j + k; writeln(s);",
         "1496\n",
@@ -132,7 +129,7 @@ const FORALLS: [(&str, &str); 7] = [
 ];
 
 // Faults outside any turn of a forall, each at its place.
-const FAULTS: [(&str, &str); 8] = [
+pub(crate) const FAULTS: [(&str, &str); 8] = [
     (
         "writeln(5); const D = {1..1048576, 1..1048577};",
         "5\n! F3 at 1:23\n",
@@ -168,7 +165,7 @@ const FAULTS: [(&str, &str); 8] = [
 ];
 
 // Faults in a turn, which is told by all its coordinates; one of what the loop runs over is in no turn.
-const TURNS: [(&str, &str); 7] = [
+pub(crate) const TURNS: [(&str, &str); 7] = [
     (
         "var s = 0; forall (i, j) in {1..2, 1..3} with (+ reduce s) do s += 6 / (i + j - 4); writeln(s);",
         "! F2 at 1:70 in turn 1,3\n",
@@ -197,7 +194,7 @@ const TURNS: [(&str, &str); 7] = [
 ];
 
 // Each text with its budget.
-const BUDGETS: [(&str, u64, &str); 5] = [
+pub(crate) const BUDGETS: [(&str, u64, &str); 5] = [
     (
         "for (i, j) in {1..3, 1..4} do write(j);",
         12,
@@ -226,7 +223,7 @@ const BUDGETS: [(&str, u64, &str); 5] = [
 ];
 
 // Refusals of the rules that speak of domains, of their methods and of the names of their turns.
-const REFUSED: [(&str, &str); 15] = [
+pub(crate) const REFUSED: [(&str, &str); 15] = [
     (
         "var D = {1..3}; const E = {1..3, 1..3}; D = E;",
         "! C3 at 1:45\n",
@@ -267,51 +264,3 @@ const REFUSED: [(&str, &str); 15] = [
     ),
     ("forall i in {1..9} { const E = {1..i}; }", "! C9 at 1:22\n"),
 ];
-
-#[test]
-fn straight(rt: HostRuntime) -> Result<(), Fail> {
-    assert_eq!(rt;
-        first_wrong(
-            &rt,
-            &[VALUES.as_slice(), FAULTS.as_slice(), REFUSED.as_slice()]
-        )?,
-        None
-    );
-    Ok(())
-}
-
-#[test]
-fn turned(rt: HostRuntime) -> Result<(), Fail> {
-    assert_eq!(rt;
-        first_wrong(
-            &rt,
-            &[LOOPS.as_slice(), FORALLS.as_slice(), TURNS.as_slice()]
-        )?,
-        None
-    );
-    Ok(())
-}
-
-#[test]
-fn budgets(rt: HostRuntime) -> Result<(), Fail> {
-    assert_eq!(rt; first_wrong_within(&rt, &BUDGETS)?, None);
-    Ok(())
-}
-
-// Locales, grids and maps change nothing of what is written, nor which turn is told.
-#[test]
-fn locales_and_maps(rt: HostRuntime) -> Result<(), Fail> {
-    assert_eq!(rt;
-        first_wrong_anywhere(
-            &rt,
-            &[
-                VALUES.as_slice(),
-                LOOPS.as_slice(),
-                FORALLS.as_slice(),
-                TURNS.as_slice()
-            ]
-        )?,
-        None
-    );
-    Ok(())
-}

@@ -1,11 +1,8 @@
 // Programs with maps: each kind of map, on an initial value and on a type, and created domains, with the bytes that each writes.
-// A map changes nothing of what is written and is the cause of no fault, so that each row is run again by other locales and maps.
-
-use crate::writing::{first_wrong, first_wrong_anywhere};
-use std::test::Fail;
+// A map changes nothing of what is written and is the cause of no fault.
 
 // Arrays over mapped domains: loops over these are made in the order of the domain, whoever owns an index.
-const VALUES: [(&str, &str); 23] = [
+pub(crate) const VALUES: [(&str, &str); 23] = [
     (
         "const D = {1..8} dmapped new blockDist(boundingBox={1..8}); var A: [D] int; forall i in D do A[i] = i*i; writeln(A);",
         "1 4 9 16 25 36 49 64\n",
@@ -104,7 +101,7 @@ const VALUES: [(&str, &str); 23] = [
 ];
 
 // A map is never the cause of a fault: it isn't evaluated, whatever its box, its start and its sizes are.
-const UNFAULTED: [(&str, &str); 12] = [
+pub(crate) const UNFAULTED: [(&str, &str); 12] = [
     (
         "const D = {1..3} dmapped new blockDist(boundingBox={1..0}); writeln(D.size);",
         "3\n",
@@ -156,7 +153,7 @@ const UNFAULTED: [(&str, &str); 12] = [
 ];
 
 // Faults beside maps: what is mapped and what a domain is created from is evaluated as ever.
-const FAULTS: [(&str, &str); 10] = [
+pub(crate) const FAULTS: [(&str, &str); 10] = [
     (
         "const D = {1..8} dmapped new blockDist(boundingBox={1..8});\nvar A: [D] int;\nforall i in D do\n  A[i] = 12 / ((i-3)*(i-7));",
         "! F2 at 4:13 in turn 3\n",
@@ -200,7 +197,7 @@ const FAULTS: [(&str, &str); 10] = [
 ];
 
 // Refusals: the rules look at maps and created domains as at all else, though the run doesn't.
-const REFUSED: [(&str, &str); 14] = [
+pub(crate) const REFUSED: [(&str, &str); 14] = [
     (
         "const D = {1..8} dmapped new blockDist({1..8, 1..8});",
         "! C5 at 1:30\n",
@@ -257,7 +254,7 @@ const REFUSED: [(&str, &str); 14] = [
 ];
 
 // What a created domain and what is mapped need, they need as any other value.
-const CLOSED: [(&str, &str); 3] = [
+pub(crate) const CLOSED: [(&str, &str); 3] = [
     (
         "var A: [1..3] int; const D = blockDist.createDomain(1..(+ reduce (A * numLocales)));",
         "! P1 at 1:71\n",
@@ -271,37 +268,3 @@ const CLOSED: [(&str, &str); 3] = [
         "! P1 at 1:37\n",
     ),
 ];
-
-#[test]
-fn values(rt: HostRuntime) -> Result<(), Fail> {
-    assert_eq!(rt;
-        first_wrong(&rt, &[VALUES.as_slice(), UNFAULTED.as_slice()])?,
-        None
-    );
-    Ok(())
-}
-
-#[test]
-fn faults(rt: HostRuntime) -> Result<(), Fail> {
-    assert_eq!(rt;
-        first_wrong(
-            &rt,
-            &[FAULTS.as_slice(), REFUSED.as_slice(), CLOSED.as_slice()]
-        )?,
-        None
-    );
-    Ok(())
-}
-
-// Whatever the locales and their grids, by the maps of the text, by blocks and round and round, the same is written.
-#[test]
-fn locales_and_maps(rt: HostRuntime) -> Result<(), Fail> {
-    assert_eq!(rt;
-        first_wrong_anywhere(
-            &rt,
-            &[VALUES.as_slice(), UNFAULTED.as_slice(), FAULTS.as_slice()]
-        )?,
-        None
-    );
-    Ok(())
-}

@@ -1,11 +1,8 @@
 // What reductions fault at, in which turn, and where the rules and the grammar refuse them.
 // Each row's place is that of the token that the rules name.
 
-use crate::writing::{first_wrong, first_wrong_anywhere, first_wrong_within};
-use std::test::Fail;
-
 // Faults: in the turn of an index, or in none.
-const FAULTS: [(&str, &str); 43] = [
+pub(crate) const FAULTS: [(&str, &str); 43] = [
     // in the turn of its index, the first in the order of the domain
     (
         "var A: [0..1, 0..3] int = 1;\nA[0, 3] = 0; A[1, 0] = 0;\nwriteln(+ reduce (6 / A));",
@@ -188,7 +185,7 @@ const FAULTS: [(&str, &str); 43] = [
 ];
 
 // Each text with its budget.
-const BUDGETS: [(&str, u64, &str); 23] = [
+pub(crate) const BUDGETS: [(&str, u64, &str); 23] = [
     // more indices than the budget are F5 at `reduce`, before the first turn
     (
         "var A: [1..4] int; writeln(+ reduce A);",
@@ -306,7 +303,7 @@ const BUDGETS: [(&str, u64, &str); 23] = [
 ];
 
 // Refusals of the rules and of the grammar that speak of reductions.
-const REFUSED: [(&str, &str); 62] = [
+pub(crate) const REFUSED: [(&str, &str); 62] = [
     // an operator and what it takes: the place is the operator's
     ("var B: [1..2] bool; writeln(+ reduce B);", "! C3 at 1:29\n"),
     ("var B: [1..2] bool; writeln(* reduce B);", "! C3 at 1:29\n"),
@@ -507,28 +504,3 @@ const REFUSED: [(&str, &str); 62] = [
         "! C3 at 1:28\n",
     ),
 ];
-
-#[test]
-fn faults(rt: HostRuntime) -> Result<(), Fail> {
-    assert_eq!(rt; first_wrong(&rt, &[FAULTS.as_slice()])?, None);
-    Ok(())
-}
-
-#[test]
-fn refused(rt: HostRuntime) -> Result<(), Fail> {
-    assert_eq!(rt; first_wrong(&rt, &[REFUSED.as_slice()])?, None);
-    Ok(())
-}
-
-#[test]
-fn budgets(rt: HostRuntime) -> Result<(), Fail> {
-    assert_eq!(rt; first_wrong_within(&rt, &BUDGETS)?, None);
-    Ok(())
-}
-
-// The first turn in the order of the domain is told, whoever owns its index.
-#[test]
-fn locales_and_maps(rt: HostRuntime) -> Result<(), Fail> {
-    assert_eq!(rt; first_wrong_anywhere(&rt, &[FAULTS.as_slice()])?, None);
-    Ok(())
-}

@@ -1,12 +1,12 @@
 // Programs with reductions, a row for each branch of the language, with the bytes that each writes.
 // Each row is written from the rules; what reductions fault at, and where they are refused, stands in `reduction_faults`.
 
-use crate::writing::{first_wrong, first_wrong_anywhere, one_locale, written};
-use dpl_run::{Config, Maps, OpenGate, Plain, Refused, run_text};
-use std::test::Fail;
+// A sum and its array: a row, and the text of the tests of a writer that fails and of beginnings.
+pub(crate) const SUMMED: &str =
+    "const D = {1..8} dmapped new blockDist(boundingBox={1..8}); var A: [D] int; forall i in D do A[i] = i*i; writeln(+ reduce A); writeln(A);";
 
 // The nine operators: over many indices, over one and over none; in each rank, and by strides.
-const OPERATORS: [(&str, &str); 18] = [
+pub(crate) const OPERATORS: [(&str, &str); 18] = [
     (
         "var A: [1..5] int; forall i in 1..5 do A[i] = i * i - 7; writeln(+ reduce A, ' ', * reduce A, ' ', min reduce A, ' ', max reduce A, ' ', & reduce A, ' ', | reduce A, ' ', ^ reduce A);",
         "20 5832 -6 18 0 -1 30\n",
@@ -79,7 +79,7 @@ const OPERATORS: [(&str, &str); 18] = [
 ];
 
 // What is reduced: a whole array, or a promoted expression by each operator.
-const OPERANDS: [(&str, &str); 12] = [
+pub(crate) const OPERANDS: [(&str, &str); 12] = [
     (
         "const D = {1..4}; var A: [D] int; var B: [D] int = 3; forall i in D do A[i] = i; B = A * B + 1; writeln(B); B += 2; writeln(max reduce (A - B));",
         "4 7 10 13\n-5\n",
@@ -137,7 +137,7 @@ const OPERANDS: [(&str, &str); 12] = [
 ];
 
 // Where a reduction may stand: wherever an int or a truth value may, outside of foralls' bodies and of promoted expressions.
-const FORMS: [(&str, &str); 16] = [
+pub(crate) const FORMS: [(&str, &str); 16] = [
     // conditions
     (
         "var A: [1..3] int = 2; if + reduce A > 5 then writeln(1); else writeln(2); if && reduce (A == 3) { writeln(3); } else if || reduce (A == 2) { writeln(4); }",
@@ -212,7 +212,7 @@ const FORMS: [(&str, &str); 16] = [
 ];
 
 // Each text with one set, by which an initial value isn't evaluated.
-const SETS: [(&str, &str, &str); 5] = [
+pub(crate) const SETS: [(&str, &str, &str); 5] = [
     (
         "var A: [1..3] int = 2; config const n = + reduce A; writeln(n);",
         "n=5",
@@ -239,75 +239,3 @@ const SETS: [(&str, &str, &str); 5] = [
         "! C14\n",
     ),
 ];
-
-#[test]
-fn values(rt: HostRuntime) -> Result<(), Fail> {
-    assert_eq!(rt;
-        first_wrong(
-            &rt,
-            &[OPERATORS.as_slice(), OPERANDS.as_slice(), FORMS.as_slice()]
-        )?,
-        None
-    );
-    Ok(())
-}
-
-#[test]
-fn sets(rt: HostRuntime) -> Result<(), Fail> {
-    let config = one_locale(9)?;
-    for (text, set, bytes) in &SETS {
-        let out = written(&rt, text.as_bytes(), &[*set], &config)?;
-        assert_eq!(rt; out.as_slice(), bytes.as_bytes(), "{text} {set}");
-    }
-    Ok(())
-}
-
-// Whatever the locales and their grids, by the maps of the text, by blocks and round and round, the same is written.
-#[test]
-fn locales_and_maps(rt: HostRuntime) -> Result<(), Fail> {
-    assert_eq!(rt;
-        first_wrong_anywhere(
-            &rt,
-            &[OPERATORS.as_slice(), OPERANDS.as_slice(), FORMS.as_slice()]
-        )?,
-        None
-    );
-    Ok(())
-}
-
-const SUMMED: &str =
-    "const D = {1..8} dmapped new blockDist(boundingBox={1..8}); var A: [D] int; forall i in D do A[i] = i*i; writeln(+ reduce A); writeln(A);";
-
-// A writer that takes three bytes of a sum and of its array, and then fails, has these.
-#[test]
-fn a_writer_that_fails(rt: HostRuntime) -> Result<(), Fail> {
-    let config = Config::new(4, 1000, 9, [2, 2], [4, 1, 1], Maps::AsIs)?;
-    let mut room = [0u8; 3];
-    let mut out = Plain::new(room.as_mut_slice());
-    let result = run_text(
-        &rt,
-        rt.alloc(),
-        SUMMED.as_bytes(),
-        &[],
-        &config,
-        &OpenGate,
-        &mut out,
-    );
-    assert!(rt; matches!(result, Err(Refused::Writer)));
-    assert!(rt; out.failed);
-    assert!(rt; room == *b"204");
-    Ok(())
-}
-
-// Each beginning of a program is one, or has a refusal, and writes whole lines.
-#[test]
-fn beginnings(rt: HostRuntime) -> Result<(), Fail> {
-    let config = one_locale(8)?;
-    let mut text = Vec::new(rt.alloc());
-    for byte in SUMMED.as_bytes() {
-        let out = written(&rt, &text, &[], &config)?;
-        assert!(rt; out.is_empty() || out.last() == Some(&b'\n'));
-        text.push(*byte)?;
-    }
-    Ok(())
-}

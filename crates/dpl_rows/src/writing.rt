@@ -4,8 +4,14 @@
 use dpl_run::{Config, ConfigFault, Maps, OpenGate, Plain, run_text};
 use std::test::Fail;
 
-// A text, and the bytes that are written of it.
-type Row = (&'static str, &'static str);
+/// A text, and the bytes that are written of it.
+pub(crate) type Row = (&'static str, &'static str);
+
+/// A text, its budget, and the bytes that are written of it.
+pub(crate) type BudgetRow = (&'static str, u64, &'static str);
+
+/// A text, one set, and the bytes that are written of it.
+pub(crate) type SetRow = (&'static str, &'static str, &'static str);
 
 /// The settings of one locale, with this budget.
 pub(crate) fn one_locale(budget: u64) -> Result<Config, ConfigFault> {
@@ -49,15 +55,17 @@ pub(crate) fn first_wrong(
     first_wrong_by(rt, tables, &config)
 }
 
-/// The first text that doesn't write its bytes with its budget.
+/// The first text of these tables that doesn't write its bytes on one locale, with its budget.
 pub(crate) fn first_wrong_within(
     rt: &HostRuntime,
-    rows: &[(&'static str, u64, &str)],
+    tables: &[&[BudgetRow]],
 ) -> Result<Option<&'static str>, Fail> {
-    for (text, budget, bytes) in rows {
-        let config = one_locale(*budget)?;
-        if written(rt, text.as_bytes(), &[], &config)?.as_slice() != bytes.as_bytes() {
-            return Ok(Some(*text));
+    for rows in tables {
+        for (text, budget, bytes) in *rows {
+            let config = one_locale(*budget)?;
+            if written(rt, text.as_bytes(), &[], &config)?.as_slice() != bytes.as_bytes() {
+                return Ok(Some(*text));
+            }
         }
     }
     Ok(None)

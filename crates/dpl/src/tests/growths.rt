@@ -2,9 +2,11 @@
 // The run then tells that memory ran out, and writes nothing, and the next run is whole.
 // scripts/growths.sh refuses those of the whole program, one after another.
 
-use super::SQUARES;
 use dpl_run::{Config, Maps, OpenGate, Outcome, Plain, Refused, run_text};
 use std::test::Fail;
+
+const SQUARES: &str =
+    "var s: int; forall i in 1..8 by 2 with (+ reduce s) do s += i*i; writeln(s);";
 
 const SUMMED: &str =
     "const D = {1..8} dmapped new blockDist(boundingBox={1..8}); var A: [D] int; forall i in D do A[i] = i*i; writeln(+ reduce A); writeln(A);";

@@ -1,8 +1,8 @@
-// A text of many statements over many names, beside the same sums of plain numbers.
+// Texts that are made: one of many statements over many names, beside the same sums of plain numbers, and nested brackets.
+// What is written of them is compared in `tests`.
 
 ghost use Rattle.std.specs.Prelude.{◌<◌};
 
-use super::written;
 use std::test::Fail;
 
 const NAMES: usize = 20;
@@ -16,8 +16,8 @@ fn name_at(k: u8, step: u8) -> usize
     (k as usize * step as usize + 5) % NAMES
 }
 
-// `var v0 = 1; ..`, then `v7 = v11 + v18; ..`, and a `writeln` of each.
-fn program(rt: &HostRuntime) -> Result<String, Fail> {
+/// `var v0 = 1; ..`, then `v7 = v11 + v18; ..`, and a `writeln` of each.
+pub(crate) fn program(rt: &HostRuntime) -> Result<String, Fail> {
     let mut text = String::new(rt.alloc());
     for name in 0..NAMES {
         text.push_str(&format!(in rt.alloc(); "var v{name} = {name} * {name} + 1;\n")?)?;
@@ -34,8 +34,8 @@ fn program(rt: &HostRuntime) -> Result<String, Fail> {
     Ok(text)
 }
 
-// What the names hold in the end, by wrapping sums.
-fn sums() -> [i64; NAMES] {
+/// What the names hold in the end, by wrapping sums.
+pub(crate) fn sums() -> [i64; NAMES] {
     let mut values = [0i64; NAMES];
     for name in 0..NAMES {
         values[name] = (name * name) as i64 + 1;
@@ -47,14 +47,16 @@ fn sums() -> [i64; NAMES] {
     values
 }
 
-#[test]
-fn many_statements(rt: HostRuntime) -> Result<(), Fail> {
-    let text = program(&rt)?;
-    let out = written(&rt, text.as_bytes(), 9)?;
-    let mut want = String::new(rt.alloc());
-    for value in &sums() {
-        want.push_str(&format!(in rt.alloc(); "{value}\n")?)?;
+/// `writeln`, so many brackets, 1, as many brackets, and `;`.
+pub(crate) fn nested(rt: &HostRuntime, brackets: usize) -> Result<Vec<u8>, Fail> {
+    let mut text = b"writeln".to_vec(rt.alloc())?;
+    for _ in 0..brackets {
+        text.push(b'(')?;
     }
-    assert_eq!(rt; out.as_slice(), want.as_bytes());
-    Ok(())
+    text.push(b'1')?;
+    for _ in 0..brackets {
+        text.push(b')')?;
+    }
+    text.push(b';')?;
+    Ok(text)
 }

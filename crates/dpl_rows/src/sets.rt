@@ -1,11 +1,8 @@
 // Sets of the command line: the values that they give to `config const`s, and the ways in which they fit none, which is C14.
 // C14 comes last of all refusals, and before the run.
 
-use super::{first_wrong, written_by};
-use std::test::Fail;
-
 // Each text with one set, and the bytes that are written.
-const ONE: [(&str, &str, &str); 27] = [
+pub(crate) const ONE: [(&str, &str, &str); 27] = [
     ("config const n = 4; writeln(n);", "n=7", "7\n"),
     ("config const n = 4; writeln(n);", "n=-3", "-3\n"),
     ("config const n = 4; writeln(n);", "n=007", "7\n"),
@@ -55,17 +52,8 @@ const ONE: [(&str, &str, &str); 27] = [
     ),
 ];
 
-#[test]
-fn one_set(rt: HostRuntime) -> Result<(), Fail> {
-    for (text, set, bytes) in &ONE {
-        let out = written_by(&rt, text.as_bytes(), &[*set], 9)?;
-        assert_eq!(rt; out.as_slice(), bytes.as_bytes(), "{text} {set}");
-    }
-    Ok(())
-}
-
 // Each text with two sets.
-const TWO: [(&str, [&str; 2], &str); 7] = [
+pub(crate) const TWO: [(&str, [&str; 2], &str); 7] = [
     (
         "config const a = 1; config const b = a; writeln(a, b);",
         ["a=5", "b=2"],
@@ -95,17 +83,8 @@ const TWO: [(&str, [&str; 2], &str); 7] = [
     ),
 ];
 
-#[test]
-fn two_sets(rt: HostRuntime) -> Result<(), Fail> {
-    for (text, sets, bytes) in &TWO {
-        let out = written_by(&rt, text.as_bytes(), sets, 9)?;
-        assert_eq!(rt; out.as_slice(), bytes.as_bytes(), "{text}");
-    }
-    Ok(())
-}
-
 // Each text without sets.
-const NONE: [(&str, &str); 5] = [
+pub(crate) const NONE: [(&str, &str); 5] = [
     ("config const n = 4; writeln(n);", "4\n"),
     (
         "config const n: int; config const b: bool; writeln(n, b);",
@@ -118,9 +97,3 @@ const NONE: [(&str, &str); 5] = [
     ("config const n = 1 / 0; writeln(n);", "! F2 at 1:20\n"),
     ("config const r = 1..3;", "! C3 at 1:18\n"),
 ];
-
-#[test]
-fn no_sets(rt: HostRuntime) -> Result<(), Fail> {
-    assert_eq!(rt; first_wrong(&rt, &NONE)?, None);
-    Ok(())
-}

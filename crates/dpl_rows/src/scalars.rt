@@ -1,10 +1,7 @@
 // Programs of ints, truth values and ranges, a row for each branch of the language, with the bytes that each writes.
-// Each is run with a budget of 1000 turns, where its row names no other.
+// Which tables are run by which settings stands in `tests`.
 
-use super::{first_wrong, written};
-use std::test::Fail;
-
-const PRINTING: [(&str, &str); 12] = [
+pub(crate) const PRINTING: [(&str, &str); 12] = [
     ("writeln(true, \" \", false);", "true false\n"),
     (
         "writeln(\"a\\tb\\\"c\\\\d\\'e\\n\", 'f\"g');",
@@ -28,7 +25,7 @@ const PRINTING: [(&str, &str); 12] = [
     ("write(1, 1/0);", "! F2 at 1:11\n"),
 ];
 
-const OPERATORS: [(&str, &str); 16] = [
+pub(crate) const OPERATORS: [(&str, &str); 16] = [
     (
         "writeln(1 < 2, 2 <= 1, 3 > 3, 3 >= 3, 1 == 1, 1 != 1, true == false, true != false);",
         "truefalsefalsetruetruefalsefalsetrue\n",
@@ -77,7 +74,7 @@ const OPERATORS: [(&str, &str); 16] = [
     ),
 ];
 
-const CHOICES: [(&str, &str); 8] = [
+pub(crate) const CHOICES: [(&str, &str); 8] = [
     ("if 1 < 2 then writeln(1); else writeln(2);", "1\n"),
     (
         "if 2 < 1 then writeln(1); else if true then writeln(2); else writeln(3);",
@@ -100,7 +97,7 @@ const CHOICES: [(&str, &str); 8] = [
     ("if 1 / 0 == 0 then ;", "! F2 at 1:6\n"),
 ];
 
-const LOOPS: [(&str, &str); 17] = [
+pub(crate) const LOOPS: [(&str, &str); 17] = [
     ("while false do writeln(1);", ""),
     (
         "var done = false; var n = 0; while !done { n += 1; done = n * n > 50; } writeln(n, done);",
@@ -141,7 +138,7 @@ const LOOPS: [(&str, &str); 17] = [
     ("for i in 1..1152921504606846976 do ;", "! F5 at 1:1\n"),
 ];
 
-const SCOPES: [(&str, &str); 6] = [
+pub(crate) const SCOPES: [(&str, &str); 6] = [
     (
         "var x = 1; { var x = 2; writeln(x); x = 3; } writeln(x);",
         "2\n1\n",
@@ -162,7 +159,7 @@ const SCOPES: [(&str, &str); 6] = [
     ),
 ];
 
-const RANGES: [(&str, &str); 24] = [
+pub(crate) const RANGES: [(&str, &str); 24] = [
     (
         "const r = 2..11 by 3; writeln(r.size, \" \", r.first, \" \", r.last, \" \", r.low, \" \", r.high, \" \", r.contains(8), \" \", r.contains(9));",
         "4 2 11 2 11 true false\n",
@@ -228,7 +225,7 @@ const RANGES: [(&str, &str); 24] = [
     ("var r = 1..3; r = 4..5;", "! C3 at 1:17\n"),
 ];
 
-const INTENTS: [(&str, &str); 20] = [
+pub(crate) const INTENTS: [(&str, &str); 20] = [
     (
         "var s = 10; forall i in 1..4 with (+ reduce s) do s += i; writeln(s);",
         "20\n",
@@ -306,7 +303,7 @@ const INTENTS: [(&str, &str); 20] = [
 ];
 
 // Faults in a turn, with their place and their turn.
-const TURNS: [(&str, &str); 6] = [
+pub(crate) const TURNS: [(&str, &str); 6] = [
     (
         "var s = 0; forall i in 1..5 with (+ reduce s) do s += 12 / (i - 3); writeln(s);",
         "! F2 at 1:58 in turn 3\n",
@@ -331,7 +328,7 @@ const TURNS: [(&str, &str); 6] = [
 ];
 
 // Each text with its budget.
-const BUDGETS: [(&str, u64, &str); 12] = [
+pub(crate) const BUDGETS: [(&str, u64, &str); 12] = [
     (
         "var n = 27; var steps = 0; while n != 1 { if n % 2 == 0 then n /= 2; else n = 3 * n + 1; steps += 1; } writeln(steps);",
         111,
@@ -369,30 +366,3 @@ const BUDGETS: [(&str, u64, &str); 12] = [
     ("for i in 1..9 by 4 do write(i);", 3, "159"),
     ("for i in 1..0 do write(i); while false do ;", 1, ""),
 ];
-
-#[test]
-fn straight(rt: HostRuntime) -> Result<(), Fail> {
-    assert_eq!(rt; first_wrong(&rt, &PRINTING)?, None);
-    assert_eq!(rt; first_wrong(&rt, &OPERATORS)?, None);
-    assert_eq!(rt; first_wrong(&rt, &SCOPES)?, None);
-    assert_eq!(rt; first_wrong(&rt, &RANGES)?, None);
-    Ok(())
-}
-
-#[test]
-fn turned(rt: HostRuntime) -> Result<(), Fail> {
-    assert_eq!(rt; first_wrong(&rt, &CHOICES)?, None);
-    assert_eq!(rt; first_wrong(&rt, &LOOPS)?, None);
-    assert_eq!(rt; first_wrong(&rt, &INTENTS)?, None);
-    assert_eq!(rt; first_wrong(&rt, &TURNS)?, None);
-    Ok(())
-}
-
-#[test]
-fn budgets(rt: HostRuntime) -> Result<(), Fail> {
-    for (text, budget, bytes) in &BUDGETS {
-        let out = written(&rt, text.as_bytes(), *budget)?;
-        assert_eq!(rt; out.as_slice(), bytes.as_bytes(), "{text}");
-    }
-    Ok(())
-}

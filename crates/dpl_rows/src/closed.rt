@@ -1,10 +1,7 @@
 // Forms of the language that are read and checked, and don't run: of a text that has one the first token that needs it is P1.
 // What else is wrong with such a text isn't told, but for what its grammar refuses.
 
-use super::first_wrong;
-use std::test::Fail;
-
-const CLOSED: [(&str, &str); 15] = [
+pub(crate) const CLOSED: [(&str, &str); 15] = [
     ("var A: [1..3] int = numLocales;", "! P1 at 1:21\n"),
     (
         "writeln(5); const D = {1..8}; var A: [D] int; writeln(max reduce (A * here.id));",
@@ -30,9 +27,3 @@ const CLOSED: [(&str, &str); 15] = [
     ("var A: [1..8] int; A[numLocales] = 1;", "! P1 at 1:22\n"),
     ("A[1] = 2;", "! C1 at 1:1\n"),
 ];
-
-#[test]
-fn told(rt: HostRuntime) -> Result<(), Fail> {
-    assert_eq!(rt; first_wrong(&rt, &CLOSED)?, None);
-    Ok(())
-}
