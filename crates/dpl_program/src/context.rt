@@ -1,5 +1,6 @@
 // Statements outside of all foralls.
-// A forall is evaluated and tested here; its turns are made by the loop of foralls.
+// A forall is evaluated and tested here; its turns are made by the loop of foralls. None of these calls is inlined, so that the walk
+// of statements keeps no room for them: the compiler clears it at each statement.
 
 ghost use Rattle.std.specs.Prelude.{◌≡◌};
 ghost use Rattle.dpl_language.specs.Outcome.{Deeds};
@@ -38,6 +39,7 @@ impl<'g, G: Gate> Context for ProgramContext<'g, G> {
 
     ghost may = { λ context. G.may_refuse context.gate.now };
 
+    #[inline(never)]
     fn write(
         &self,
         ends_line: bool,
@@ -48,6 +50,7 @@ impl<'g, G: Gate> Context for ProgramContext<'g, G> {
         write(ends_line, arguments, frame, out)
     }
 
+    #[inline(never)]
     fn set_array(
         &self,
         name: &ArrayName<'_>,
@@ -59,6 +62,7 @@ impl<'g, G: Gate> Context for ProgramContext<'g, G> {
         set_array(name, op, sign, e, frame, self.gate)
     }
 
+    #[inline(never)]
     fn set_truth_array(
         &self,
         name: &ArrayName<'_>,
@@ -69,6 +73,7 @@ impl<'g, G: Gate> Context for ProgramContext<'g, G> {
         set_truth_array(name, sign, e, frame, self.gate)
     }
 
+    #[inline(never)]
     fn forall_line<'t>(
         &self,
         at: &Spot,
@@ -90,6 +95,7 @@ impl<'g, G: Gate> Context for ProgramContext<'g, G> {
         Ok(())
     }
 
+    #[inline(never)]
     fn forall<'t>(
         &self,
         at: &Spot,
