@@ -1,9 +1,6 @@
-pub mod Kept
 pub mod Underived
 pub mod Items
 pub mod Evaluated
 pub mod Rows
 pub mod Unread
-pub mod EmptySlots
-pub mod Redomained
 pub mod Promotions

@@ -1,6 +1,5 @@
 -- The plain trees that typed trees stand for; and what serves contracts alone.
 pub mod Typed
 pub mod Steps
-pub mod Faults
+pub mod Spots
 pub mod Roots
-pub mod Frames

@@ -1,8 +1,8 @@
 // Typed statements. A variable is its slot, a body is a list, and each declaration of a plain variable has an initial value.
 // They lie in the arena of the tree; specs/Steps.antt gives the plain statement that each stands for.
 
-use crate::fault::Spot;
 use crate::placing::Placing;
+use crate::spot::Spot;
 use crate::tree::{
     BoolExpr, DomainExpr, IndexExpr, IntExpr, PromotedInt, PromotedTruth, RangeExpr, RangesExpr,
 };

@@ -1,8 +1,8 @@
 // Typed expressions. An expression has the type of its enum, a variable is its slot, and a chain is a nest of two operands each.
 // They lie in the arena of the tree; specs/Typed.antt gives the plain tree that each stands for.
 
-use crate::fault::Spot;
 use crate::fold::{IntFold, TruthFold};
+use crate::spot::Spot;
 use dpl_tree::ScalarKind;
 
 /// How a range's second number is meant: `..`, `..<` or `..#`.

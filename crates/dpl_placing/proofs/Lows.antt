@@ -10,7 +10,7 @@ use Rattle.dpl_rules.specs.Types.{has, is_domain}
 use Rattle.dpl_rules.specs.Sights.{Scopes}
 use Rattle.dpl_rules.specs.Expressions.{type_of}
 use Rattle.dpl_rules.specs.Maps.{LowTree, post_low, posts_low, front_of, low_of}
-use Rattle.dpl_nodes.specs.Faults.{IsNear}
+use Rattle.dpl_nodes.specs.Spots.{IsNear}
 use Rattle.dpl_spelling.specs.Spelt.{PostsSpelt}
 use Rattle.dpl_typer.specs.Leaves.{MayBePlain}
 use Rattle.dpl_typer.specs.Simple.{AreSimplePosts}

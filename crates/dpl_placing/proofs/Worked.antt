@@ -3,7 +3,7 @@ use Rattle.std.proofs.Common.{[], ◌∷◌, None, pos, refl, lit<}
 use Rattle.dpl_syntax.specs.declared.place.Place.{Place}
 use Rattle.dpl_language.specs.Tree.{Closed, ExprTree, Number, DomainLiteral, Postfixed, One, RangeItem, NoStride, NoPosts, Post, Dotted, Plainly, Low, FirstItem, NoItems, StartExpr, StartTuple, BlockMap, CyclicMap, BlockCyclicMap}
 use Rattle.dpl_language.specs.Names.{Text}
-use Rattle.dpl_nodes.specs.Faults.{IsNear}
+use Rattle.dpl_nodes.specs.Spots.{IsNear}
 use Rattle.dpl_placing.specs.Named.{HasMap}
 
 abbrev at : Place

@@ -9,7 +9,7 @@ use Rattle.dpl_lowered.specs.LoweredExpressions.{Once}
 use Rattle.dpl_nodes.specs.declared.placing.MapExpr.{MapExpr}
 use Rattle.dpl_nodes.specs.declared.placing.MapExpr.TheVariants.{Block, Cyclic, BlockCyclic}
 use Rattle.dpl_nodes.specs.Typed.{domain_view}
-use Rattle.dpl_nodes.specs.Faults.{IsNear}
+use Rattle.dpl_nodes.specs.Spots.{IsNear}
 use Rattle.dpl_spelling.specs.Spelt.{MapSpelt}
 use Rattle.dpl_typer.specs.Leaves.{MayBePlain}
 use Rattle.dpl_typer.specs.Simple.{IsSimpleItem}

@@ -16,7 +16,7 @@ use Rattle.dpl_nodes.specs.declared.tree.DomainExpr.{DomainExpr}
 use Rattle.dpl_nodes.specs.declared.placing.StartExpr.{StartExpr as StartNode}
 use Rattle.dpl_nodes.specs.declared.placing.StartExpr.TheVariants.{Index, Least}
 use Rattle.dpl_nodes.specs.Typed.{domain_view, index_exprs, exprs_one}
-use Rattle.dpl_nodes.specs.Faults.{IsNear}
+use Rattle.dpl_nodes.specs.Spots.{IsNear}
 use Rattle.dpl_spelling.specs.Spelt.{ExprSpelt}
 use Rattle.dpl_typer.specs.Leaves.{MayBePlain, is_rank}
 use Rattle.dpl_typer.specs.Simple.{IsSimple, AreSimpleExprs}

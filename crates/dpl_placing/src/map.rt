@@ -9,7 +9,7 @@ ghost use Rattle.dpl_rules.specs.Types.{has, is_domain};
 ghost use Rattle.dpl_rules.specs.Expressions.{item_type};
 ghost use Rattle.dpl_lowered.specs.LoweredExpressions.{Once};
 ghost use Rattle.dpl_nodes.specs.Typed.{domain_view};
-ghost use Rattle.dpl_nodes.specs.Faults.{IsNear};
+ghost use Rattle.dpl_nodes.specs.Spots.{IsNear};
 ghost use Rattle.dpl_nodes.specs.declared.stop.Stop.TheVariants as stop;
 ghost use Rattle.dpl_spelling.specs.Spelt.{ItemSpelt};
 ghost use Rattle.dpl_typer.specs.Leaves.{MayBePlain};

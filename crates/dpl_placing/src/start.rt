@@ -11,7 +11,7 @@ ghost use Rattle.dpl_rules.specs.Expressions.{type_of};
 ghost use Rattle.dpl_rules.specs.Maps.{post_low, posts_low, front_of, low_of};
 ghost use Rattle.dpl_lowered.specs.LoweredExpressions.{Once};
 ghost use Rattle.dpl_nodes.specs.Typed.{domain_view, index_exprs, exprs_one};
-ghost use Rattle.dpl_nodes.specs.Faults.{IsNear};
+ghost use Rattle.dpl_nodes.specs.Spots.{IsNear};
 ghost use Rattle.dpl_nodes.specs.declared.stop.Stop.TheVariants as stop;
 ghost use Rattle.dpl_spelling.specs.Spelt.{StartSpelt};
 ghost use Rattle.dpl_typer.specs.Makers.{typed_view};

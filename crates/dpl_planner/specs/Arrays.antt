@@ -11,7 +11,7 @@ use Rattle.dpl_lowered.specs.Shapes.{item_in_brackets}
 use Rattle.dpl_lowered.specs.LoweredStatements.{lowered_over, array_initial}
 use Rattle.dpl_memory.specs.Memory.{VariableKind, PlainKind, DomainKind, TupleKind, ArrayKind, Variable, known_variable}
 use Rattle.dpl_memory.specs.Resolved.{Bound, Start, text_of, variable_of, resolving}
-use Rattle.dpl_nodes.specs.Faults.{IsNear}
+use Rattle.dpl_nodes.specs.Spots.{IsNear}
 use Rattle.dpl_nodes.specs.declared.step.Over.{Over}
 use Rattle.dpl_nodes.specs.declared.step.Initial.{Initial}
 use Rattle.dpl_nodes.specs.Steps.{over_items, initial_kind, initial_view}

@@ -14,7 +14,7 @@ ghost use Rattle.dpl_rules.specs.Expressions.{item_parts};
 ghost use Rattle.dpl_types.specs.View.{type_view, of_type};
 ghost use Rattle.dpl_lowered.specs.LoweredStatements.{written_initial};
 ghost use Rattle.dpl_memory.specs.Memory.{VariableKind, ArrayKind};
-ghost use Rattle.dpl_nodes.specs.Faults.{IsNear};
+ghost use Rattle.dpl_nodes.specs.Spots.{IsNear};
 ghost use Rattle.dpl_nodes.specs.Typed.{domain_view, range_item};
 ghost use Rattle.dpl_nodes.specs.Steps.{over_items, initial_kind, initial_view};
 ghost use Rattle.dpl_nodes.specs.declared.stop.Stop.TheVariants as stop;

@@ -17,7 +17,7 @@ ghost use Rattle.dpl_lowered.specs.LoweredExpressions.{Once};
 ghost use Rattle.dpl_words.specs.Words.{TruthLeaf, intent_at, takes, is_logical as is_logical_of};
 ghost use Rattle.dpl_memory.specs.Memory.{DomainKind, ArrayKind, variable, int_leaf, truth_leaf, intents_by_slot};
 ghost use Rattle.dpl_memory.specs.Resolved.{text_of, variable_of, kind_takes, KindCombines, IntentResolves};
-ghost use Rattle.dpl_nodes.specs.Faults.{IsNear};
+ghost use Rattle.dpl_nodes.specs.Spots.{IsNear};
 ghost use Rattle.dpl_typer.specs.Makers.{kind_of, typed_item};
 ghost use Rattle.dpl_nodes.specs.declared.stop.Stop.TheVariants as stop;
 ghost use Rattle.dpl_typer.specs.declared.make.Typed.TheVariants as typed;

@@ -13,7 +13,7 @@ ghost use Rattle.dpl_lowered.specs.LoweredExpressions.{Once, EachTurn};
 ghost use Rattle.dpl_words.specs.Words.{IntLeaf, TruthLeaf};
 ghost use Rattle.dpl_memory.specs.Memory.{VariableKind, PlainKind, ArrayKind};
 ghost use Rattle.dpl_memory.specs.Resolved.{element_takes};
-ghost use Rattle.dpl_nodes.specs.Faults.{IsNear};
+ghost use Rattle.dpl_nodes.specs.Spots.{IsNear};
 ghost use Rattle.dpl_nodes.specs.Typed.{index_exprs};
 ghost use Rattle.dpl_nodes.specs.Steps.{step_view, array_leaf};
 ghost use Rattle.dpl_nodes.specs.declared.stop.Stop.TheVariants as stop;

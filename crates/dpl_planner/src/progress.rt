@@ -7,7 +7,7 @@ ghost use Rattle.dpl_rules.specs.Breaches.{top};
 ghost use Rattle.dpl_types.specs.View.{type_view};
 ghost use Rattle.dpl_scopes.specs.Slots.{next_slot_in};
 ghost use Rattle.dpl_scopes.specs.View.{sort_view};
-ghost use Rattle.dpl_nodes.specs.Faults.{IsNear};
+ghost use Rattle.dpl_nodes.specs.Spots.{IsNear};
 ghost use Rattle.dpl_nodes.specs.declared.stop.Stop.TheVariants as stop;
 ghost use Rattle.dpl_planner.specs.Plans.{IsPlacedAs};
 

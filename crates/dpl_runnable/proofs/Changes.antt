@@ -25,7 +25,7 @@ use Rattle.dpl_typer.specs.Leaves.{value_kind, kind_by, type_in, kind_in}
 use Rattle.dpl_typer.specs.Sights.{is_promoted_type}
 use Rattle.dpl_typer.specs.Shapes.{takes_shape, IsTaken}
 use Rattle.dpl_typer.proofs.OperatorKinds.{kind-same}
-use Rattle.dpl_nodes.specs.Faults.{IsNear}
+use Rattle.dpl_nodes.specs.Spots.{IsNear}
 use Rattle.dpl_runnable.specs.Kinds.{IsNamed, AreVariables, IsScalarKind, IsAssignedKind, IsGivenTo}
 use Rattle.dpl_runnable.specs.Runnable.{IsReduced, IsReducedBy, IsRunnableChange, IsRunnableElement}
 use Rattle.dpl_runnable.proofs.Expressions.{kind-cases, known, name_verdict-type, RunnableItem, RunnableExprs, runnable_exprs}

@@ -30,7 +30,7 @@ use Rattle.dpl_memory.specs.Memory.{VariableKind, PlainKind, DomainKind}
 use Rattle.dpl_typer.specs.Leaves.{value_kind, kind_by}
 use Rattle.dpl_typer.specs.Shapes.{takes_shape}
 use Rattle.dpl_typer.proofs.OperatorKinds.{kind-same}
-use Rattle.dpl_nodes.specs.Faults.{IsNear}
+use Rattle.dpl_nodes.specs.Spots.{IsNear}
 use Rattle.dpl_runnable.specs.Kinds.{IsVariable, AreVariables, IsScalarKind, IsDeclaredKind, IsGivenTo}
 use Rattle.dpl_runnable.specs.Runnable.{IsRunnableType, IsInitOf, IsInitialOf, IsShapedInit, IsShapedInitial, IsConfigOf, IsRunnableDeclare}
 use Rattle.dpl_runnable.proofs.Expressions.{kind-cases, first_open, second_open, RunnableItem, runnable_items}

@@ -12,7 +12,7 @@ use Rattle.dpl_rules.specs.Loops.{LoopWord, fits_variables, header_of, over_type
 use Rattle.dpl_rules.proofs.Admission.{first_empty, second_empty}
 use Rattle.dpl_memory.specs.Memory.{VariableKind}
 use Rattle.dpl_typer.specs.Leaves.{value_kind, kind_by}
-use Rattle.dpl_nodes.specs.Faults.{IsNear}
+use Rattle.dpl_nodes.specs.Spots.{IsNear}
 use Rattle.dpl_runnable.specs.Kinds.{AreVariables}
 use Rattle.dpl_runnable.specs.Runnable.{IsOneVariable, RunsOver, IsRunnableHeader}
 use Rattle.dpl_runnable.specs.Written.{HasSeveral}

@@ -18,7 +18,7 @@ use Rattle.dpl_rules.proofs.Admission.{first_empty, second_empty}
 use Rattle.dpl_words.specs.Words.{IntLeaf, TruthLeaf, RangeLeaf}
 use Rattle.dpl_memory.specs.Memory.{VariableKind, PlainKind, DomainKind, TupleKind, ArrayKind}
 use Rattle.dpl_typer.specs.Leaves.{value_kind, kind_by}
-use Rattle.dpl_nodes.specs.Faults.{IsNear}
+use Rattle.dpl_nodes.specs.Spots.{IsNear}
 use Rattle.dpl_runnable.specs.Kinds.{AreVariables, IsScalarKind}
 use Rattle.dpl_runnable.specs.Runnable.{IsExprOf, IsShown, IsRunnableArgument, AreRunnableArguments}
 use Rattle.dpl_runnable.proofs.Expressions.{kind-cases, first_open, second_open, runnable}

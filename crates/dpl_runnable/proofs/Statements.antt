@@ -13,7 +13,7 @@ use Rattle.dpl_rules.specs.Doings.{with_deeds, stmt_deeds, body_deeds, stmts_dee
 use Rattle.dpl_rules.specs.Bodies.{turns_of, written_arrays, forall_breaches, promoted_breaches}
 use Rattle.dpl_rules.specs.Breaches.{top, top_sight, in_forall, stmt_breaches, body_breaches, stmts_breaches, else_breaches}
 use Rattle.dpl_rules.proofs.Admission.{first_empty, second_empty}
-use Rattle.dpl_nodes.specs.Faults.{IsNear}
+use Rattle.dpl_nodes.specs.Spots.{IsNear}
 use Rattle.dpl_runnable.specs.Runnable.{IsRunnableStmt, IsRunnableBody, AreRunnableStmts, IsRunnableElse, IsRunnableTop, AreRunnableTops}
 use Rattle.dpl_runnable.specs.Written.{IsWrittenStmt, IsWrittenBody, AreWrittenStmts, IsWrittenElse, IsWrittenTop, AreWrittenTops}
 use Rattle.dpl_runnable.proofs.Expressions.{first_open, second_open}

@@ -21,7 +21,7 @@ use Rattle.dpl_words.specs.Words.{IntLeaf, TruthLeaf, RangeLeaf}
 use Rattle.dpl_memory.specs.Memory.{VariableKind, PlainKind, DomainKind, TupleKind, ArrayKind}
 use Rattle.dpl_memory.specs.Resolved.{Bound, text_of, kind_takes, KindCombines}
 use Rattle.dpl_spelling.specs.Spelt.{ExprSpelt, ItemSpelt, ItemsSpelt, ExprsSpelt}
-use Rattle.dpl_nodes.specs.Faults.{IsNear}
+use Rattle.dpl_nodes.specs.Spots.{IsNear}
 use Rattle.dpl_typer.specs.Leaves.{value_kind, kind_by, type_in, kind_in, MayBePlain}
 use Rattle.dpl_typer.specs.Shapes.{IsTakenOf, IsTaken}
 use Rattle.dpl_typer.specs.Simple.{IsSimple, IsSimpleItem, AreSimpleItems, AreSimpleExprs}

@@ -26,7 +26,7 @@ use Rattle.dpl_typer.specs.declared.pieces.Parts.{Parts}
 use Rattle.dpl_nodes.specs.declared.tree.IndexExpr.{IndexExpr}
 use Rattle.dpl_nodes.specs.Typed.{leaf_named, array_named, index_items, index_exprs}
 use Rattle.dpl_typer.specs.Makers.{typed_view, typed_item, kind_of, is_whole, parts_items, parts_kinds, index_kinds}
-use Rattle.dpl_nodes.specs.Faults.{IsNear}
+use Rattle.dpl_nodes.specs.Spots.{IsNear}
 use Rattle.dpl_spelling.specs.Spelt.{LinksSpelt, PostsSpelt}
 use Rattle.dpl_typer.specs.Leaves.{leaf_in, is_rank, IsFound, IsOfKind, IsOfType, MayBePlain}
 use Rattle.dpl_typer.specs.Simple.{AreSimpleLinks, AreSimplePosts, IsSimplePost, AreSimpleItems, AreSimpleExprs}

@@ -10,7 +10,7 @@ ghost use Rattle.dpl_tree.specs.Words.{word_view};
 ghost use Rattle.dpl_memory.specs.Memory.{PlainKind};
 ghost use Rattle.dpl_words.specs.Words.{TruthLeaf, RangeLeaf};
 ghost use Rattle.dpl_nodes.specs.Typed.{dotted, in_square, range_view, ranges_items, index_items, index_exprs, promoted_int, promoted_truth};
-ghost use Rattle.dpl_nodes.specs.Faults.{IsNear};
+ghost use Rattle.dpl_nodes.specs.Spots.{IsNear};
 ghost use Rattle.dpl_typer.specs.Makers.{typed_view, kind_of, is_whole, whole_ints, whole_truths, parts_items, parts_kinds, ranges_kinds, index_kinds};
 ghost use Rattle.dpl_typer.specs.Makers.{element_kind, square_kind, round_kind, array_word_kind, word_kind, contains_kind, is_one_range, is_one_int, kind_if};
 ghost use Rattle.dpl_nodes.specs.declared.stop.Stop.TheVariants as stop;

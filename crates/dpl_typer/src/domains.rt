@@ -9,7 +9,7 @@ ghost use Rattle.dpl_lowered.specs.LoweredExpressions.{Times, Once, is_end};
 ghost use Rattle.dpl_tree.specs.Words.{word_view};
 ghost use Rattle.dpl_memory.specs.Memory.{DomainKind};
 ghost use Rattle.dpl_nodes.specs.Typed.{dotted, items_one, domain_view};
-ghost use Rattle.dpl_nodes.specs.Faults.{IsNear};
+ghost use Rattle.dpl_nodes.specs.Spots.{IsNear};
 ghost use Rattle.dpl_typer.specs.Makers.{typed_view, kind_of, parts_items, parts_kinds, literal_kind, domain_word_kind, is_domain, dim_kind, expand_kind};
 ghost use Rattle.dpl_nodes.specs.declared.stop.Stop.TheVariants as stop;
 ghost use Rattle.dpl_typer.specs.declared.make.Typed.TheVariants as typed;

@@ -13,7 +13,7 @@ ghost use Rattle.dpl_nodes.specs.declared.stop.Stop.TheVariants as stop;
 ghost use Rattle.dpl_typer.specs.Leaves.{leaf_in, IsFound, IsOfType, MayBePlain};
 ghost use Rattle.dpl_typer.specs.Simple.{IsSimple, IsSimpleItem, AreSimpleLinks};
 ghost use Rattle.dpl_spelling.specs.Spelt.{ExprSpelt, ItemSpelt, LinksSpelt};
-ghost use Rattle.dpl_nodes.specs.Faults.{IsNear};
+ghost use Rattle.dpl_nodes.specs.Spots.{IsNear};
 ghost use Rattle.dpl_typer.specs.Elaborated.{leaves_of, chain_tree, IsChainSoFar, HasNoChain};
 
 use crate::chain::nests;

@@ -5,7 +5,7 @@ ghost use Rattle.std.specs.Prelude.{◌≡◌, IfOk, None, Some, Err};
 ghost use Rattle.dpl_tree.specs.View.{name_view};
 ghost use Rattle.dpl_types.specs.View.{type_view, of_type};
 ghost use Rattle.dpl_lowered.specs.LoweredExpressions.{Times};
-ghost use Rattle.dpl_nodes.specs.Faults.{IsNear};
+ghost use Rattle.dpl_nodes.specs.Spots.{IsNear};
 ghost use Rattle.dpl_typer.specs.Makers.{typed_view, kind_of};
 ghost use Rattle.dpl_nodes.specs.declared.stop.Stop.TheVariants as stop;
 ghost use Rattle.dpl_typer.specs.Leaves.{value_kind, type_in, kind_in, IsFound, IsOfType};

@@ -8,7 +8,7 @@ ghost use Rattle.dpl_lowered.specs.Shapes.{nowhere, kept};
 ghost use Rattle.dpl_words.specs.Words.{IntLeaf, TruthLeaf, RangeLeaf};
 ghost use Rattle.dpl_memory.specs.Memory.{PlainKind, DomainKind, TupleKind, ArrayKind, variable, int_leaf, truth_leaf, range_leaf};
 ghost use Rattle.dpl_nodes.specs.Typed.{leaf_named, array_named, kind_view};
-ghost use Rattle.dpl_nodes.specs.Faults.{IsNear};
+ghost use Rattle.dpl_nodes.specs.Spots.{IsNear};
 ghost use Rattle.dpl_typer.specs.Makers.{typed_view, kind_of, is_whole};
 ghost use Rattle.dpl_nodes.specs.declared.stop.Stop.TheVariants as stop;
 

@@ -2,7 +2,7 @@
 // Operators, leaves, ranges, domains and elements are made of these in files of their own.
 
 ghost use Rattle.std.specs.Prelude.{◌≡◌, IfOk, IfErr, Ok, Err};
-ghost use Rattle.dpl_nodes.specs.Faults.{IsNear};
+ghost use Rattle.dpl_nodes.specs.Spots.{IsNear};
 ghost use Rattle.dpl_nodes.specs.declared.stop.Stop.TheVariants as stop;
 ghost use Rattle.dpl_typer.specs.declared.make.Typed.TheVariants as typed;
 

@@ -10,7 +10,7 @@ ghost use Rattle.dpl_tree.specs.Words.{infix_view, prefix_view};
 ghost use Rattle.dpl_words.specs.Words.{IntLeaf, TruthLeaf};
 ghost use Rattle.dpl_memory.specs.Memory.{PlainKind, ArrayKind};
 ghost use Rattle.dpl_nodes.specs.Typed.{comparison_view, int_view, truth_view, promoted_int, promoted_truth};
-ghost use Rattle.dpl_nodes.specs.Faults.{IsNear};
+ghost use Rattle.dpl_nodes.specs.Spots.{IsNear};
 ghost use Rattle.dpl_typer.specs.Makers.{typed_view, kind_of, kind_over, infix_kind, ints_kind, truths_kind, prefix_kind};
 ghost use Rattle.dpl_nodes.specs.declared.stop.Stop.TheVariants as stop;
 

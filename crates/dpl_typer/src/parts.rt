@@ -4,7 +4,7 @@
 ghost use Rattle.std.specs.Prelude.{◌≡◌, IfOk, Err};
 ghost use Rattle.dpl_tree.specs.View.{items_view, exprs_view};
 ghost use Rattle.dpl_rules.specs.Expressions.{item_parts, expr_parts};
-ghost use Rattle.dpl_nodes.specs.Faults.{IsNear};
+ghost use Rattle.dpl_nodes.specs.Spots.{IsNear};
 ghost use Rattle.dpl_nodes.specs.declared.stop.Stop.TheVariants as stop;
 ghost use Rattle.dpl_spelling.specs.Spelt.{ItemsSpelt, ExprsSpelt};
 ghost use Rattle.dpl_typer.specs.Leaves.{MayBePlain};

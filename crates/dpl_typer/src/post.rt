@@ -15,7 +15,7 @@ ghost use Rattle.dpl_nodes.specs.declared.stop.Stop.TheVariants as stop;
 ghost use Rattle.dpl_typer.specs.Leaves.{IsFound, IsOfType, MayBePlain};
 ghost use Rattle.dpl_typer.specs.Simple.{IsSimple, AreSimplePosts, IsSimplePost, IsSimpleMethod, AreSimpleItems, AreSimpleExprs};
 ghost use Rattle.dpl_spelling.specs.Spelt.{ExprSpelt, PostsSpelt, PostSpelt, MethodSpelt, ItemsSpelt, ExprsSpelt};
-ghost use Rattle.dpl_nodes.specs.Faults.{IsNear};
+ghost use Rattle.dpl_nodes.specs.Spots.{IsNear};
 ghost use Rattle.dpl_typer.specs.Elaborated.{leaves_of, postfixed_tree, IsPostOf, ArePostsSoFar, HasNoPost, HasNoSquare, HasNoRound, HasNoMethod, HasNoContains, HasNoExpand, HaveNoPosts};
 
 use crate::behind::{called, containing, element, square};

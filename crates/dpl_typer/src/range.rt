@@ -11,7 +11,7 @@ ghost use Rattle.dpl_nodes.specs.declared.stop.Stop.TheVariants as stop;
 ghost use Rattle.dpl_typer.specs.Leaves.{IsFound, IsOfType, MayBePlain};
 ghost use Rattle.dpl_typer.specs.Simple.{IsSimpleItem, IsSimpleStride};
 ghost use Rattle.dpl_spelling.specs.Spelt.{ItemSpelt, StrideSpelt};
-ghost use Rattle.dpl_nodes.specs.Faults.{IsNear};
+ghost use Rattle.dpl_nodes.specs.Spots.{IsNear};
 ghost use Rattle.dpl_typer.specs.Elaborated.{item_leaves, stride_leaves, range_tree, HasNoRange};
 
 use crate::elaborate::expression;

@@ -7,7 +7,7 @@ ghost use Rattle.dpl_lowered.specs.Shapes.{nowhere, kept};
 ghost use Rattle.dpl_lowered.specs.LoweredExpressions.{Times, Once, unplaced_dots, is_end};
 ghost use Rattle.dpl_tree.specs.Words.{word_view, dots_view as dots_of};
 ghost use Rattle.dpl_nodes.specs.Typed.{dots_view, dotted, range_view, stride_view};
-ghost use Rattle.dpl_nodes.specs.Faults.{IsNear};
+ghost use Rattle.dpl_nodes.specs.Spots.{IsNear};
 ghost use Rattle.dpl_typer.specs.Makers.{typed_view, typed_item, kind_of, range_word_kind, bounds_kind, is_int};
 ghost use Rattle.dpl_nodes.specs.declared.stop.Stop.TheVariants as stop;
 

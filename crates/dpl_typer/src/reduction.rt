@@ -7,7 +7,7 @@ ghost use Rattle.dpl_lowered.specs.LoweredExpressions.{Times, EachTurn};
 ghost use Rattle.dpl_lowered.specs.Shapes.{nowhere};
 ghost use Rattle.dpl_tree.specs.Words.{op_view};
 ghost use Rattle.dpl_nodes.specs.Typed.{int_fold_view, truth_fold_view};
-ghost use Rattle.dpl_nodes.specs.Faults.{IsNear};
+ghost use Rattle.dpl_nodes.specs.Spots.{IsNear};
 ghost use Rattle.dpl_typer.specs.Makers.{typed_view, kind_of, reduced_kind};
 ghost use Rattle.dpl_nodes.specs.declared.stop.Stop.TheVariants as stop;
 

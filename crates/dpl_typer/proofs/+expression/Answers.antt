@@ -20,7 +20,7 @@ use Rattle.dpl_words.specs.Words.{RangeLeaf}
 use Rattle.dpl_memory.specs.Memory.{PlainKind}
 use Rattle.dpl_nodes.specs.declared.stop.Stop.TheVariants as stop
 use Rattle.dpl_typer.specs.Makers.{kind_of, reduced_kind}
-use Rattle.dpl_nodes.specs.Faults.{IsNear}
+use Rattle.dpl_nodes.specs.Spots.{IsNear}
 use Rattle.dpl_spelling.specs.Spelt.{ExprSpelt, PostSpelt, MethodSpelt, ItemsSpelt, ExprsSpelt}
 use Rattle.dpl_typer.proofs.Items.{typed_view-item, typed_item-view}
 use Rattle.dpl_typer.specs.Leaves.{IsOfType, MayBePlain}

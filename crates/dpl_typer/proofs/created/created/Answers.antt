@@ -1,6 +1,6 @@
 -- One item, or several of them.
 use Rattle.std.proofs.Common.{sym, subst}
-use Rattle.dpl_nodes.specs.Faults.{IsNear}
+use Rattle.dpl_nodes.specs.Spots.{IsNear}
 use Rattle.dpl_rules.specs.Expressions.{item_parts}
 use Rattle.dpl_spelling.specs.Spelt.{ItemsSpelt}
 use Rattle.dpl_typer.specs.Leaves.{MayBePlain}

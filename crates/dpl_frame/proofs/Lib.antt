@@ -1,0 +1,3 @@
+pub mod Kept
+pub mod EmptySlots
+pub mod Redomained

@@ -1,0 +1,12 @@
+-- The array that is put into the slot is the one of one word.
+use Rattle.std.proofs.Common.{ap, ◌∙◌, w64, FitsSigned}
+use Rattle.std.proofs.lemmas.Int.{to_z-of_z}
+use Rattle.dpl_memory.specs.Memory.{with_array}
+use Rattle.dpl_frame.specs.Frames.{with_memory}
+use Rattle.dpl_frame.proofs.frame.Frame.declare_array.Goals as goal
+
+pub returns-clause-declared : goal.returns-clause-declared
+returns-clause-declared c =
+    let word_fits : FitsSigned w64 c.args.word = c.ranges.word in
+    let array = simp to_z-of_z at c.in_ok-array.ensures in
+    c.keep.ensures ∙ ap (λ a. with_memory (with_array c.args.slot a c.args.self.now.memory) c.args.self.now) array

@@ -1,0 +1,283 @@
+// The frame of a run: what its slots hold and by which maps, the reduce variables of the forall around, and what is set.
+// A word is a value of every kind, so that no walk can leave a frame ill typed.
+
+ghost use Rattle.std.specs.Prelude.{◌≡◌, pos, [], ◌∷◌, ◌++◌, get_or, set, replicate, map, option_map, slice_get, IfOk};
+ghost use Rattle.dpl_tree.specs.Words.{op_view};
+ghost use Rattle.dpl_words.specs.Words.{no_range, intent_at, set_at};
+ghost use Rattle.dpl_memory.specs.Memory.{no_domain, no_tuple, no_array, intents_by_slot};
+ghost use Rattle.dpl_contents.specs.Range.{range_word};
+ghost use Rattle.dpl_nodes.specs.Steps.{intent_view};
+ghost use Rattle.dpl_map.specs.Maps.{whole_map};
+ghost use Rattle.dpl_frame.specs.Frames.{with_memory, with_words, first_frame, with_owner, held_in};
+
+use dpl_contents::{ArrayWords, DomainWord, RangeWord};
+use dpl_domain::Index;
+use dpl_layout::Layout;
+use dpl_map::Map;
+use dpl_nodes::{Intent, MapExpr};
+use dpl_tree::Op;
+use std::alloc::{AllocError, Global};
+use std::marker::Model;
+
+// The index 0.
+fn no_tuple() -> Index
+    ensures { result ≡ no_tuple }
+{
+    Index::new(&[0]).unwrap()
+}
+
+// So many slots without an array.
+#[tactic(auto, using(crate::proofs::EmptySlots::replicate_next))]
+fn no_arrays(alloc: Global, slots: usize) -> Result<Vec<Option<ArrayWords>>, AllocError>
+    ensures { IfOk result (λ arrays. map held_in arrays.items ≡ replicate slots no_array) }
+{
+    let mut arrays = Vec::new(alloc);
+    for _ in 0..slots {
+        arrays.push(None)?;
+    }
+    Ok(arrays)
+}
+
+/// The slots of a run, with the reduce variables of the forall around and their operators, what the command line sets,
+/// the budget of a loop and the number of locales; the maps that the program names, and by which map the domain or array in a slot is dealt out over locales. A
+/// frame has as many of everything as slots.
+#[derive(Drop)]
+pub struct Frame<'t> {
+    numbers: Vec<i64>,
+    ranges: Vec<RangeWord>,
+    domains: Vec<DomainWord>,
+    tuples: Vec<Index>,
+    pub(crate) alloc: Global,
+    pub(crate) arrays: Vec<Option<ArrayWords>>,
+    intents: &'t [Intent],
+    sets: Vec<(usize, i64)>,
+    budget: u64,
+    locales: u32,
+    layout: Layout,
+    maps: &'t [MapExpr<'t>],
+    owners: Vec<Map>,
+}
+
+impl<'t> Model for Frame<'t> {
+    ghost use Rattle.std.specs.Prelude.{map};
+    ghost use Rattle.dpl_memory.specs.Memory.{intents_by_slot};
+    ghost use Rattle.dpl_contents.specs.Range.{range_word};
+    ghost use Rattle.dpl_nodes.specs.Steps.{intent_view};
+    ghost use Rattle.dpl_frame.specs.Frames.{Framed, held_in};
+    ghost use Rattle.dpl_nodes.specs.contracts.tree.DomainExpr as domain;
+    ghost use Rattle.dpl_nodes.specs.contracts.tree.IndexExpr as index;
+    ghost use mir.Syntax.{named};
+    ghost use Rattle.std.specs.Prelude.{[]};
+    ghost use Rattle.std.specs.Coded.{codes};
+
+    ghost Value = { Framed };
+
+    ghost coded = { Prim.hlevel (codes, (domain.the_row (record { mir = named 0; lft = [] })).coded, (index.the_row (record { mir = named 0; lft = [] })).coded) };
+
+    ghost view = { λ f. record {
+      memory = record {
+        words = record { numbers = f.numbers.items; ranges = map range_word f.ranges.items; intents = intents_by_slot (map intent_view f.intents.now); sets = f.sets.items };
+        domains = f.domains.items;
+        tuples = f.tuples.items;
+        arrays = map held_in f.arrays.items;
+      };
+      limits = record { budget = f.budget; locales = f.locales };
+      layout = f.layout;
+      maps = f.maps.now;
+      owners = f.owners.items;
+    } };
+}
+
+impl<'t> Frame<'t> {
+    /// A frame with so many slots: its words are 0, its ranges `1..0`, its domains `{1..0}`, its tuples the index 0, and its
+    /// arrays have no elements; each slot has the whole map. Nothing is set, and there are no reduce variables.
+    ///
+    /// # Errors
+    /// Out of memory.
+    #[tactic(auto, using(crate::proofs::Kept::map_replicate))]
+    pub fn new(
+        alloc: Global,
+        slots: usize,
+        budget: u64,
+        locales: u32,
+        layout: Layout,
+        maps: &'t [MapExpr<'t>],
+    ) -> Result<Frame<'t>, AllocError>
+        ensures { IfOk result (λ f. f ≡ first_frame slots (record { budget = budget; locales = locales }) layout maps.now) }
+    {
+        Ok(Frame {
+            numbers: vec![in alloc; 0; slots]?,
+            ranges: vec![in alloc; RangeWord::none(); slots]?,
+            domains: vec![in alloc; DomainWord::empty(1); slots]?,
+            tuples: vec![in alloc; no_tuple(); slots]?,
+            alloc,
+            arrays: no_arrays(alloc, slots)?,
+            intents: &[],
+            sets: Vec::new(alloc),
+            budget,
+            locales,
+            layout,
+            maps,
+            owners: vec![in alloc; Map::whole(); slots]?,
+        })
+    }
+
+    /// The word in a slot; 0 past the last one.
+    pub fn number(&self, slot: usize) -> i64
+        ensures { result ≡ get_or self.now.memory.words.numbers slot (pos 0) }
+    {
+        match self.numbers.get(slot) {
+            Some(number) => *number,
+            None => 0,
+        }
+    }
+
+    /// The range in a slot; `1..0` past the last one.
+    pub fn range(&self, slot: usize) -> RangeWord
+        ensures { range_word result ≡ get_or self.now.memory.words.ranges slot no_range }
+    {
+        match self.ranges.get(slot) {
+            Some(range) => *range,
+            None => RangeWord::none(),
+        }
+    }
+
+    /// Puts a word into a slot; past the last one it does nothing.
+    pub fn set_number(&mut self, slot: usize, number: i64)
+        ensures { self.new ≡ with_words (record self.old.memory.words { numbers = set self.old.memory.words.numbers slot number }) self.old }
+    {
+        if slot < self.numbers.len() {
+            self.numbers[slot] = number;
+        }
+    }
+
+    /// Puts a range into a slot; past the last one it does nothing.
+    #[tactic(auto, using(crate::proofs::Kept::map_set))]
+    pub fn set_range(&mut self, slot: usize, range: RangeWord)
+        ensures { self.new ≡ with_words (record self.old.memory.words { ranges = set self.old.memory.words.ranges slot (range_word range) }) self.old }
+    {
+        if slot < self.ranges.len() {
+            self.ranges[slot] = range;
+        }
+    }
+
+    /// The domain in a slot; `{1..0}` past the last one.
+    pub fn domain(&self, slot: usize) -> DomainWord
+        ensures { result ≡ get_or self.now.memory.domains slot no_domain }
+    {
+        match self.domains.get(slot) {
+            Some(domain) => *domain,
+            None => DomainWord::empty(1),
+        }
+    }
+
+    /// The index in a slot; 0 past the last one.
+    pub fn tuple(&self, slot: usize) -> Index
+        ensures { result ≡ get_or self.now.memory.tuples slot no_tuple }
+    {
+        match self.tuples.get(slot) {
+            Some(index) => *index,
+            None => no_tuple(),
+        }
+    }
+
+    /// Puts a domain into a slot; past the last one it does nothing.
+    pub fn set_domain(&mut self, slot: usize, domain: DomainWord)
+        ensures { self.new ≡ with_memory (record self.old.memory { domains = set self.old.memory.domains slot domain }) self.old }
+    {
+        if slot < self.domains.len() {
+            self.domains[slot] = domain;
+        }
+    }
+
+    /// Puts an index into a slot; past the last one it does nothing.
+    pub fn set_tuple(&mut self, slot: usize, index: Index)
+        ensures { self.new ≡ with_memory (record self.old.memory { tuples = set self.old.memory.tuples slot index }) self.old }
+    {
+        if slot < self.tuples.len() {
+            self.tuples[slot] = index;
+        }
+    }
+
+    /// How locales are laid out, and which maps roots get.
+    pub fn layout(&self) -> Layout
+        ensures { result ≡ self.now.layout }
+    {
+        self.layout
+    }
+
+    /// A map that the program names, by its number, if there are so many.
+    pub fn named_map(&self, number: usize) -> Option<&MapExpr<'t>>
+        ensures { option_map (λ e. e.now) result ≡ slice_get self.now.maps number }
+    {
+        self.maps.get(number)
+    }
+
+    /// The map of the domain or array in a slot; the whole map past the last one.
+    pub fn owner(&self, slot: usize) -> Map
+        ensures { result ≡ get_or self.now.owners slot whole_map }
+    {
+        match self.owners.get(slot) {
+            Some(map) => *map,
+            None => Map::whole(),
+        }
+    }
+
+    /// Gives a slot a map; past the last one it does nothing.
+    pub fn set_owner(&mut self, slot: usize, map: Map)
+        ensures { self.new ≡ with_owner slot map self.old }
+    {
+        if slot < self.owners.len() {
+            self.owners[slot] = map;
+        }
+    }
+
+    /// How many turns each entry of a loop may have.
+    pub fn budget(&self) -> u64
+        ensures { result ≡ self.now.limits.budget }
+    {
+        self.budget
+    }
+
+    /// The number that the command line gives to the variable in a slot; of a truth value 0 is false.
+    pub fn given(&self, slot: usize) -> Option<i64>
+        ensures { result ≡ set_at slot self.now.memory.words.sets }
+    {
+        for set in &self.sets {
+            if slot == set.0 {
+                return Some(set.1);
+            }
+        }
+        None
+    }
+
+    /// The command line gives a number to the variable in a slot, if it didn't before.
+    ///
+    /// # Errors
+    /// Out of memory.
+    pub fn give(&mut self, slot: usize, number: i64) -> Result<(), AllocError>
+        ensures { IfOk result (λ v. self.new ≡ with_words (record self.old.memory.words { sets = self.old.memory.words.sets ++ (slot, number) ∷ [] }) self.old) }
+    {
+        self.sets.push((slot, number))?;
+        Ok(())
+    }
+
+    /// The operator of the first reduce variable in a slot.
+    pub fn operator(&self, slot: usize) -> Option<Op>
+        ensures { option_map op_view result ≡ intent_at slot self.now.memory.words.intents }
+    {
+        for intent in self.intents {
+            if slot == intent.slot {
+                return Some(intent.op);
+            }
+        }
+        None
+    }
+
+    /// Makes these the reduce variables.
+    pub fn intend(&mut self, intents: &'t [Intent])
+        ensures { self.new ≡ with_words (record self.old.memory.words { intents = intents_by_slot (map intent_view intents.now) }) self.old }
+    {
+        self.intents = intents;
+    }
+}
