@@ -4,3 +4,4 @@ pub mod Order
 -- Lists by places, and the indices of a range.
 pub mod Places
 pub mod Lines
+pub mod Folding

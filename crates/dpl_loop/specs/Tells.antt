@@ -1,8 +1,8 @@
 -- How a fault is told as the reason why a loop or a run ended early.
 -- That memory ran out tells no fault, and that a gate refused tells none.
 use Rattle.std.specs.Prelude.{◌≡◌, Result, Ok, Err}
-use Rattle.dpl_language.specs.Values.{Index, Fault, InTurn, in_the_turn}
-use Rattle.dpl_nodes.specs.Faults.{fault_view}
+use Rattle.dpl_language.specs.Values.{Index, Turn, Fault, InTurn, in_the_turn}
+use Rattle.dpl_frame.specs.Faults.{Halt, Faulted, Refused, fault_view}
 use Rattle.dpl_loop.specs.declared.stop.Stop.{Stop}
 use Rattle.dpl_loop.specs.declared.stop.Stop.TheVariants as stop
 
@@ -10,6 +10,11 @@ abbrev pub IsFault : Fault → Stop → Type 0
 IsFault f (stop.Fault g) = fault_view g ≡ f
 IsFault f stop.Memory = ⊥
 IsFault f stop.Gate = ⊥
+
+-- a walk ended so, in a turn
+abbrev pub IsHalt : Turn → Halt → Stop → Type 0
+IsHalt t (Faulted f) h = IsFault (in_the_turn t f) h
+IsHalt t Refused h = h ≡ stop.Gate
 
 -- both have ended well, or by the same fault
 abbrev pub TellsSame : Result (Unit {0}) Fault → Result (Unit {0}) Stop → Type 0

@@ -1,13 +1,15 @@
-// The loop of a forall: it makes the turns of its indices, and asks a gate before each.
-// Read `forall`, whose contract says that a forall is a plain loop, and then `Gate` and `Turns`, which it takes.
+// The loops of foralls and of reductions: they go through the indices of a domain, and ask a gate at each.
+// Read `forall`, whose contract says that a forall is a plain loop, with `Gate` and `Turns`, which it takes; and then `reduce`.
 #![tactic(auto)]
 
 pub mod gate;
 mod loops;
+mod reduction;
 pub mod stop;
 mod turns;
 
 pub use gate::{Gate, OpenGate};
 pub use loops::{forall, forall_line};
+pub use reduction::{Operator, reduce};
 pub use stop::Stop;
 pub use turns::Turns;

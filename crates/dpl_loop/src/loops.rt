@@ -15,8 +15,8 @@ use crate::stop::Stop;
 use crate::turns::Turns;
 use dpl_contents::{DomainWord, RangeWord};
 use dpl_domain::Index;
+use dpl_frame::Frame;
 use dpl_map::Map;
-use dpl_nodes::Frame;
 
 // The turn of an index at a place, once its owner has entered. Its fault names it.
 #[inline(always)]
@@ -41,7 +41,7 @@ fn entered<'t, T: Turns<'t>, G: Gate>(
     }
 }
 
-/// A forall over a domain. Each turn is made by the owner of its index.
+/// A forall over a domain. For each turn the owner of its index enters the gate.
 ///
 /// # Errors
 /// The fault of the first turn that has one, with its turn; out of memory; or the gate refused an entry, which it may. Where the

@@ -2,12 +2,12 @@
 // A fault is an outcome of the program; that memory ran out and that a gate refused are none.
 
 ghost use Rattle.std.specs.Prelude.{◌≡◌, Err};
-ghost use Rattle.dpl_nodes.specs.Faults.{fault_view};
+ghost use Rattle.dpl_frame.specs.Faults.{fault_view, turn_view};
 ghost use Rattle.dpl_loop.specs.declared.stop.Stop.{Stop};
-ghost use Rattle.dpl_loop.specs.Tells.{IsFault, TellsSame, NamesTurn};
+ghost use Rattle.dpl_loop.specs.Tells.{IsFault, IsHalt, TellsSame, NamesTurn};
 
 use dpl_domain::Index;
-use dpl_nodes::{Fault, Trap, Turn};
+use dpl_frame::{Alarm, Fault, Trap, Turn};
 use std::alloc::{AllocError, AllocFailed};
 
 /// Why a loop, or a run, ended early: by a fault, out of memory, or because a gate refused an entry.
@@ -63,6 +63,18 @@ pub fn told(end: Result<(), Trap>) -> Result<(), Stop>
 }
 
 impl Stop {
+    /// Why a walk ended, with the turn that stands beside it.
+    #[cold]
+    #[inline(never)]
+    pub fn of(alarm: Alarm, turn: &Turn) -> Stop
+        ensures { IsHalt (turn_view turn.now) alarm result }
+    {
+        match alarm.fault(turn) {
+            Some(fault) => Stop::Fault(fault),
+            None => Stop::Gate,
+        }
+    }
+
     /// The same, in the turn of an index of a forall.
     #[cold]
     pub fn in_turn(self, index: Index) -> Stop

@@ -9,7 +9,7 @@ ghost use Rattle.dpl_loop.specs.Runs.{RunEnds};
 
 use crate::stop::Stop;
 use dpl_domain::Index;
-use dpl_nodes::Frame;
+use dpl_frame::Frame;
 
 /// The turns of a forall. A turn prints nothing and changes the memory alone.
 pub trait Turns<'t> {

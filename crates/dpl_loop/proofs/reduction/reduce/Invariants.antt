@@ -1,0 +1,16 @@
+use Rattle.std.proofs.Common.{◌≡◌, Result, drop}
+use Rattle.dpl_language.specs.Values.{Value, Index, Fault}
+use Rattle.dpl_language.specs.Ranges.{indices_in}
+use Rattle.dpl_language.specs.Outcome.{naming_value}
+use Rattle.dpl_language.specs.Expressions.{folded, fold_over}
+use Rattle.dpl_loop.specs.Values.{AnswersTell}
+use Rattle.dpl_loop.proofs.reduction.reduce.Given as goal
+
+-- the items so far and those of the indices that are left, from here, are those of all indices from the start
+abbrev pub invariant-loop-place : goal.invariant-loop-place
+invariant-loop-place g l = record {
+  folds : (meaning : Index → Result Value Fault) → AnswersTell g.O.Operator.value (λ t before r after. g.F.Fn.post l.fn.item_at (t, (before, tt)) (r, (after, tt))) meaning
+      → let op = g.O.Operator.op l.operator in
+      folded op (λ t. naming_value t (meaning t)) (drop l.place (indices_in l.fn.over)) (g.O.Operator.value l.so_far) ≡ fold_over op meaning l.fn.over;
+  left : l.indices ≡ drop l.place (indices_in l.fn.over);
+}
