@@ -2,3 +2,5 @@ pub mod Ranges
 pub mod Views
 pub mod Wrapped
 pub mod Folds
+pub mod First
+pub mod Telling

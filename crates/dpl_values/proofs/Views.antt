@@ -16,6 +16,10 @@ use Rattle.dpl_lowered.specs.Shapes.{nowhere}
 use Rattle.dpl_memory.specs.Memory.{Variable, Memory, in_memory}
 use Rattle.dpl_nodes.specs.declared.tree.RangeExpr.{RangeExpr, Local, Between', Slice', Dimension'}
 use Rattle.dpl_nodes.specs.declared.tree.DomainExpr.{DomainExpr}
+use Rattle.dpl_frame.specs.declared.fault.Turn.{Turn}
+use Rattle.dpl_frame.specs.Faults.{Halt, Tells, as_range}
+use Rattle.dpl_contents.specs.declared.range.RangeWord.{RangeWord}
+use Rattle.dpl_loop.proofs.Folding.{with_ok-ends}
 use Rattle.dpl_nodes.specs.Typed.{range_item, range_view, dotted, in_square, bracketed, domain_view}
 
 -- `contains` of an int
@@ -54,20 +58,30 @@ module _ (limits : Limits) (w : Memory) where
   behind_range r posts a e = ap (λ x. with_ok x (behind limits in_memory posts (base_of (range_view r)) w)) (range_view_value r ∙ e)
 
   -- ---- methods
-  pub method_fault : (r : RangeExpr) (m : MethodTree Variable) (f : Fault) → item_of limits in_memory (range_item r) None w ≡ Err f
-      → value_of limits in_memory (dotted (range_view r) m) None w ≡ Err f
-  method_fault r m f e = behind_range r (Post (Dotted nowhere m) NoPosts) (Err f) e
+  pub method_ends : {A : Type 0} (may : Type 0) (value : A → Value) (t : Turn) (h : Halt) (r : RangeExpr) (m : MethodTree Variable)
+      → Tells {A = RangeWord} may as_range t (Err h) (item_of limits in_memory (range_item r) None w) → Tells may value t (Err h) (value_of limits in_memory (dotted (range_view r) m) None w)
+  method_ends may value t h r m tells =
+      let item = item_of limits in_memory (range_item r) None w in
+      let posts : Posts Variable = Post (Dotted nowhere m) NoPosts in
+      with_ok-ends may may as_range t h item (behind limits in_memory posts (base_of (range_view r)) w) _ value (λ may. may) (behind_range r posts item refl) tells
 
   pub method_answer : (r : RangeExpr) (m : MethodTree Variable) (x : TextRange) (a : Result Value Fault) → item_of limits in_memory (range_item r) None w ≡ Ok (Range x)
       → answer_of limits in_memory m w (Range x) ≡ a → value_of limits in_memory (dotted (range_view r) m) None w ≡ a
   method_answer r m x a e answer =
       behind_range r (Post (Dotted nowhere m) NoPosts) (Ok (Range x)) e ∙ ap (λ y. with_ok y (λ v. Ok v)) answer ∙ as_it_is a
 
-  pub contains_fault : (r : RangeExpr) (e : ExprTree Variable) (x : TextRange) (f : Fault) → item_of limits in_memory (range_item r) None w ≡ Ok (Range x)
-      → value_of limits in_memory e None w ≡ Err f → value_of limits in_memory (dotted (range_view r) (containing e)) None w ≡ Err f
-  contains_fault r e x f range index =
-      method_answer r (containing e) x (Err f) range
-      (ap (λ a. with_ok (with_ok a (λ v. with_ok (Ok []) (λ vs. Ok (v ∷ vs)))) (λ vs. Ok (Truth (contains_index (x ∷ []) (index_of vs))))) index)
+  contained : (x : TextRange) (a : Result Value Fault)
+      → with_ok (with_ok a (λ v. with_ok (Ok []) (λ vs. Ok (v ∷ vs)))) (λ vs. Ok (Truth (contains_index (x ∷ []) (index_of vs)))) ≡ with_ok a (λ v. Ok (Truth (contains_index (x ∷ []) (index_of (v ∷ [])))))
+  contained x (Ok v) = refl
+  contained x (Err f) = refl
+
+  pub contains_ends : {A B : Type 0} (may : Type 0) (one : A → Value) (value : B → Value) (t : Turn) (h : Halt) (r : RangeExpr) (e : ExprTree Variable) (x : TextRange)
+      → item_of limits in_memory (range_item r) None w ≡ Ok (Range x) → Tells may one t (Err h) (value_of limits in_memory e None w)
+      → Tells may value t (Err h) (value_of limits in_memory (dotted (range_view r) (containing e)) None w)
+  contains_ends may one value t h r e x range tells =
+      let index = value_of limits in_memory e None w in
+      let go = λ (v : Value). Ok (Truth (contains_index (x ∷ []) (index_of (v ∷ [])))) in
+      with_ok-ends may may one t h index go _ value (λ may. may) (method_answer r (containing e) x (with_ok index go) range (contained x index)) tells
 
   pub contains_answer : (r : RangeExpr) (e : ExprTree Variable) (x : TextRange) (n : ℤ) → item_of limits in_memory (range_item r) None w ≡ Ok (Range x)
       → value_of limits in_memory e None w ≡ Ok (Int n) → value_of limits in_memory (dotted (range_view r) (containing e)) None w ≡ Ok (Truth (contains_index (x ∷ []) (n ∷ [])))
@@ -76,9 +90,12 @@ module _ (limits : Limits) (w : Memory) where
       (ap (λ a. with_ok (with_ok a (λ v. with_ok (Ok []) (λ vs. Ok (v ∷ vs)))) (λ vs. Ok (Truth (contains_index (x ∷ []) (index_of vs))))) index)
 
   -- ---- slices
-  pub slice_fault : (r cut : RangeExpr) (f : Fault) → item_of limits in_memory (range_item r) None w ≡ Err f
-      → value_of limits in_memory (bracketed (range_view r) (range_item cut)) None w ≡ Err f
-  slice_fault r cut f e = behind_range r (Post (Brackets nowhere (FirstItem (range_item cut) NoItems) nowhere) NoPosts) (Err f) e
+  pub slice_ends : {A : Type 0} (may : Type 0) (value : A → Value) (t : Turn) (h : Halt) (r cut : RangeExpr)
+      → Tells {A = RangeWord} may as_range t (Err h) (item_of limits in_memory (range_item r) None w) → Tells may value t (Err h) (value_of limits in_memory (bracketed (range_view r) (range_item cut)) None w)
+  slice_ends may value t h r cut tells =
+      let item = item_of limits in_memory (range_item r) None w in
+      let posts : Posts Variable = Post (Brackets nowhere (FirstItem (range_item cut) NoItems) nowhere) NoPosts in
+      with_ok-ends may may as_range t h item (behind limits in_memory posts (base_of (range_view r)) w) _ value (λ may. may) (behind_range r posts item refl) tells
 
   -- behind a range, by what its cut is
   cut_value : (r cut : RangeExpr) (x : TextRange) (a : Result Value Fault) → item_of limits in_memory (range_item r) None w ≡ Ok (Range x)
@@ -89,9 +106,17 @@ module _ (limits : Limits) (w : Memory) where
       behind_range r (Post (Brackets nowhere (FirstItem (range_item cut) NoItems) nowhere) NoPosts) (Ok (Range x)) range
       ∙ ap (λ b. with_ok (with_ok (with_ok b (λ v. with_ok (Ok []) (λ vs. Ok (v ∷ vs)))) (λ vs. Ok (Range (range_sliced x (all_ranges vs))))) (λ v. Ok v)) e
 
-  pub slice_cut_fault : (r cut : RangeExpr) (x : TextRange) (f : Fault) → item_of limits in_memory (range_item r) None w ≡ Ok (Range x)
-      → item_of limits in_memory (range_item cut) None w ≡ Err f → value_of limits in_memory (bracketed (range_view r) (range_item cut)) None w ≡ Err f
-  slice_cut_fault r cut x f range e = cut_value r cut x (Err f) range e
+  cut_by : (x : TextRange) (a : Result Value Fault)
+      → with_ok (with_ok (with_ok a (λ v. with_ok (Ok []) (λ vs. Ok (v ∷ vs)))) (λ vs. Ok (Range (range_sliced x (all_ranges vs))))) (λ v. Ok v) ≡ with_ok a (λ v. Ok (Range (range_sliced x (all_ranges (v ∷ [])))))
+  cut_by x (Ok v) = refl
+  cut_by x (Err f) = refl
+
+  pub cut_ends : {A : Type 0} (may : Type 0) (value : A → Value) (t : Turn) (h : Halt) (r cut : RangeExpr) (x : TextRange)
+      → item_of limits in_memory (range_item r) None w ≡ Ok (Range x) → Tells {A = RangeWord} may as_range t (Err h) (item_of limits in_memory (range_item cut) None w)
+      → Tells may value t (Err h) (value_of limits in_memory (bracketed (range_view r) (range_item cut)) None w)
+  cut_ends may value t h r cut x range tells =
+      let item = item_of limits in_memory (range_item cut) None w in
+      with_ok-ends may may as_range t h item (λ (v : Value). Ok (Range (range_sliced x (all_ranges (v ∷ []))))) _ value (λ may. may) (cut_value r cut x item range refl ∙ cut_by x item) tells
 
   pub slice_answer : (r cut : RangeExpr) (x y : TextRange) → item_of limits in_memory (range_item r) None w ≡ Ok (Range x)
       → item_of limits in_memory (range_item cut) None w ≡ Ok (Range y)

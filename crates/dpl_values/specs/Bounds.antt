@@ -1,11 +1,9 @@
 -- What the functions on bounds promise: a number that is one of the language's, or a fault.
 -- A bound is a whole number without a limit; one that is no int is past the limit.
-use Rattle.std.specs.Prelude.{◌≡◌, true, ℤ, Option, Some, None, Result, Ok, Err}
+use Rattle.std.specs.Prelude.{◌≡◌, true, ℤ, Option, Some, None, Result}
 use Rattle.dpl_range.specs.Equality.{TextRange}
 use Rattle.dpl_language.specs.Values.{Fault}
 use Rattle.dpl_language.specs.Ranges.{past_limit, bounded}
-use Rattle.dpl_contents.specs.declared.range.RangeWord.{RangeWord}
-use Rattle.dpl_contents.specs.Range.{range_word}
 use Rattle.dpl_nodes.specs.Typed.{dots_view}
 use Rattle.dpl_values.specs.declared.range.Written.{Written}
 
@@ -13,11 +11,6 @@ use Rattle.dpl_values.specs.declared.range.Written.{Written}
 abbrev pub FitsOrPast : ℤ → Option ℤ → Type 0
 FitsOrPast z (Some n) = n ≡ z
 FitsOrPast z None = past_limit z ≡ true
-
--- a range, or a fault
-abbrev pub of_word : Result RangeWord Fault → Result TextRange Fault
-of_word (Ok r) = Ok (range_word r)
-of_word (Err f) = Err f
 
 -- the range of bounds that are written, or the fault that is told at its dots
 abbrev pub bounds_of : Written → Result TextRange Fault

@@ -19,8 +19,8 @@ use Rattle.dpl_nodes.specs.declared.placing.MapExpr.{MapExpr}
 use Rattle.dpl_nodes.specs.declared.placing.MapExpr.TheVariants as maps
 use Rattle.dpl_nodes.specs.declared.placing.Placing.{Placing}
 use Rattle.dpl_nodes.specs.declared.placing.Placing.TheVariants.{Of, Unmapped, Mapped, BlockCreated, CyclicCreated}
-use Rattle.dpl_nodes.specs.Frames.{Framed}
-use Rattle.dpl_nodes.specs.Faults.{of_domain}
+use Rattle.dpl_frame.specs.Frames.{Framed}
+use Rattle.dpl_frame.specs.Faults.{of_domain}
 use Rattle.dpl_nodes.specs.Typed.{domain_view, index_exprs}
 
 -- the index, or none at a fault

@@ -2,10 +2,11 @@
 // Loops, whole arrays and reductions all test it before their first turn.
 
 ghost use Rattle.std.specs.Prelude.{◌≡◌};
-ghost use Rattle.dpl_nodes.specs.Faults.{telling};
+ghost use Rattle.dpl_frame.specs.Faults.{Tells};
 ghost use Rattle.dpl_values.specs.Elements.{within_at};
 
-use dpl_nodes::{Alarm, DomainWord, FaultCode, Frame, Spot, Trap, Turn};
+use dpl_frame::{Alarm, DomainWord, FaultCode, Frame, Trap, Turn};
+use dpl_nodes::Spot;
 
 /// A domain whose indices a loop may go through.
 ///
@@ -30,7 +31,7 @@ pub(crate) fn within_turns(
     frame: &Frame<'_>,
     turn: &mut Turn,
 ) -> Result<(), Alarm>
-    ensures { telling turn.new result ≡ within_at frame.now.limits at.now domain.now }
+    ensures { Tells ⊥ (λ v. v) turn.new result (within_at frame.now.limits at.now domain.now) }
 {
     if frame.budget() < domain.size() {
         return Err(Alarm::new(FaultCode::Budget, *at, turn));

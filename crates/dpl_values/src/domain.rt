@@ -3,11 +3,12 @@
 
 ghost use Rattle.std.specs.Prelude.{◌≡◌, ◌∷◌, [], false};
 ghost use Rattle.dpl_language.specs.Ranges.{too_many};
-ghost use Rattle.dpl_nodes.specs.Faults.{telling};
+ghost use Rattle.dpl_frame.specs.Faults.{Tells};
 ghost use Rattle.dpl_values.specs.Elements.{word_found, sized_or};
 
 use dpl_domain::Index;
-use dpl_nodes::{Alarm, DomainWord, FaultCode, Spot, Turn};
+use dpl_frame::{Alarm, DomainWord, FaultCode, Turn};
+use dpl_nodes::Spot;
 
 /// The word that was found at an index.
 ///
@@ -15,7 +16,7 @@ use dpl_nodes::{Alarm, DomainWord, FaultCode, Spot, Turn};
 /// `F1` at the array's name where there is none.
 #[inline(always)]
 pub(crate) fn found(at: &Spot, word: Option<i64>, turn: &mut Turn) -> Result<i64, Alarm>
-    ensures { telling turn.new result ≡ word_found at.now word }
+    ensures { Tells ⊥ (λ w. w) turn.new result (word_found at.now word) }
 {
     match word {
         Some(word) => Ok(word),
@@ -32,7 +33,7 @@ pub(crate) fn sized(
     domain: Option<DomainWord>,
     turn: &mut Turn,
 ) -> Result<DomainWord, Alarm>
-    ensures { telling turn.new result ≡ sized_or at.now domain }
+    ensures { Tells ⊥ (λ d. d) turn.new result (sized_or at.now domain) }
 {
     match domain {
         Some(domain) => Ok(domain),

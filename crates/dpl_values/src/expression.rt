@@ -1,8 +1,8 @@
 // The values of ints, truth values, ranges and domains.
-// Operands go from left to right, and a fault ends the walk.
+// Operands go from left to right, and a fault ends the walk, or a gate that refused an entry of a reduction.
 
 ghost use Rattle.std.specs.Prelude.{◌≡◌, None, Ok};
-ghost use Rattle.dpl_language.specs.Values.{Domain, all_ranges, index_of};
+ghost use Rattle.dpl_language.specs.Values.{Int, Truth as TruthValue, Domain as DomainValue, all_ranges, index_of};
 ghost use Rattle.dpl_language.specs.Ranges.{sized as sized_of, all_sliced};
 ghost use Rattle.dpl_language.specs.Outcome.{with_ok};
 ghost use Rattle.dpl_language.specs.Expressions.{value_of, item_of, items_of, values_of, stridden as stridden_of};
@@ -10,8 +10,9 @@ ghost use Rattle.dpl_memory.specs.Memory.{in_memory};
 ghost use Rattle.dpl_language.specs.Tree.{Plainly, Size, First, Last, Low, High};
 ghost use Rattle.dpl_lowered.specs.Shapes.{nowhere};
 ghost use Rattle.dpl_memory.specs.Memory.{array_at, held_at};
+ghost use Rattle.dpl_loop.specs.Entries.{MayRefuseSome};
 ghost use Rattle.dpl_nodes.specs.Typed.{int_view, truth_view, range_item, range_view, stride_view, dotted, ranges_items, index_items, index_exprs, domain_view};
-ghost use Rattle.dpl_nodes.specs.Faults.{of_int, of_truth, of_range, of_domain, telling};
+ghost use Rattle.dpl_frame.specs.Faults.{Tells, as_range};
 ghost use Rattle.dpl_values.specs.Bounds.{bounds_of};
 ghost use Rattle.dpl_values.specs.Elements.{word_found};
 
@@ -21,21 +22,25 @@ use crate::number::{difference, negative, product, quotient, remainder, sum};
 use crate::range::{Written, bounded, contains, first, high, last, low, size, strided_by};
 use crate::reduction::{reduced_int, reduced_truth};
 use dpl_domain::Index;
-use dpl_nodes::{
-    Alarm, BoolExpr, DomainExpr, DomainWord, FaultCode, Frame, IndexExpr, IntExpr, RangeExpr,
-    RangeWord, RangesExpr, Spot, Stride, Truth, Turn,
-};
+use dpl_frame::{Alarm, DomainWord, FaultCode, Frame, RangeWord, Truth, Turn};
+use dpl_loop::Gate;
+use dpl_nodes::{BoolExpr, DomainExpr, IndexExpr, IntExpr, RangeExpr, RangesExpr, Spot, Stride};
 
 // An operand: a leaf at once, and else by a walk.
 #[cycle(walk)]
 #[inline(always)]
-pub(crate) fn operand(e: &IntExpr<'_>, frame: &Frame<'_>, turn: &mut Turn) -> Result<i64, Alarm>
-    ensures { value_of frame.now.limits in_memory (int_view e.now) None frame.now.memory ≡ of_int (telling turn.new result) }
+pub(crate) fn operand<G: Gate>(
+    e: &IntExpr<'_>,
+    frame: &Frame<'_>,
+    gate: &G,
+    turn: &mut Turn,
+) -> Result<i64, Alarm>
+    ensures { Tells (MayRefuseSome (G.may_refuse gate.now)) Int turn.new result (value_of frame.now.limits in_memory (int_view e.now) None frame.now.memory) }
 {
     match e {
         IntExpr::Local(slot) => Ok(frame.number(*slot)),
         IntExpr::Number(n) => Ok(*n),
-        _ => int_value(e, frame, turn),
+        _ => int_value(e, frame, gate, turn),
     }
 }
 
@@ -46,8 +51,13 @@ pub(crate) fn operand(e: &IntExpr<'_>, frame: &Frame<'_>, turn: &mut Turn) -> Re
 /// The fault of a part.
 #[cycle(walk)]
 #[inline(always)]
-pub fn coordinate_value(e: &IntExpr<'_>, frame: &Frame<'_>, turn: &mut Turn) -> Result<i64, Alarm>
-    ensures { value_of frame.now.limits in_memory (int_view e.now) None frame.now.memory ≡ of_int (telling turn.new result) }
+pub fn coordinate_value<G: Gate>(
+    e: &IntExpr<'_>,
+    frame: &Frame<'_>,
+    gate: &G,
+    turn: &mut Turn,
+) -> Result<i64, Alarm>
+    ensures { Tells (MayRefuseSome (G.may_refuse gate.now)) Int turn.new result (value_of frame.now.limits in_memory (int_view e.now) None frame.now.memory) }
 {
     match e {
         IntExpr::Local(slot) => Ok(frame.number(*slot)),
@@ -57,7 +67,7 @@ pub fn coordinate_value(e: &IntExpr<'_>, frame: &Frame<'_>, turn: &mut Turn) -> 
         IntExpr::Difference(IntExpr::Local(slot), IntExpr::Number(n)) => {
             Ok(difference(frame.number(*slot), *n))
         }
-        _ => int_value(e, frame, turn),
+        _ => int_value(e, frame, gate, turn),
     }
 }
 
@@ -66,52 +76,57 @@ pub fn coordinate_value(e: &IntExpr<'_>, frame: &Frame<'_>, turn: &mut Turn) -> 
 /// # Errors
 /// `F2` at a division by zero; the fault of a part.
 #[cycle(walk)]
-pub(crate) fn int_value(e: &IntExpr<'_>, frame: &Frame<'_>, turn: &mut Turn) -> Result<i64, Alarm>
-    ensures { value_of frame.now.limits in_memory (int_view e.now) None frame.now.memory ≡ of_int (telling turn.new result) }
+pub(crate) fn int_value<G: Gate>(
+    e: &IntExpr<'_>,
+    frame: &Frame<'_>,
+    gate: &G,
+    turn: &mut Turn,
+) -> Result<i64, Alarm>
+    ensures { Tells (MayRefuseSome (G.may_refuse gate.now)) Int turn.new result (value_of frame.now.limits in_memory (int_view e.now) None frame.now.memory) }
 {
     match e {
         IntExpr::Number(n) => Ok(*n),
         IntExpr::Local(slot) => Ok(frame.number(*slot)),
-        IntExpr::Negative(e) => Ok(negative(operand(e, frame, turn)?)),
+        IntExpr::Negative(e) => Ok(negative(operand(e, frame, gate, turn)?)),
         IntExpr::Sum(a, b) => {
-            let left = operand(a, frame, turn)?;
-            let right = operand(b, frame, turn)?;
+            let left = operand(a, frame, gate, turn)?;
+            let right = operand(b, frame, gate, turn)?;
             Ok(sum(left, right))
         }
         IntExpr::Difference(a, b) => {
-            let left = operand(a, frame, turn)?;
-            let right = operand(b, frame, turn)?;
+            let left = operand(a, frame, gate, turn)?;
+            let right = operand(b, frame, gate, turn)?;
             Ok(difference(left, right))
         }
         IntExpr::Product(a, b) => {
-            let left = operand(a, frame, turn)?;
-            let right = operand(b, frame, turn)?;
+            let left = operand(a, frame, gate, turn)?;
+            let right = operand(b, frame, gate, turn)?;
             Ok(product(left, right))
         }
         IntExpr::Quotient(a, b, at) => {
-            let left = operand(a, frame, turn)?;
-            let right = operand(b, frame, turn)?;
+            let left = operand(a, frame, gate, turn)?;
+            let right = operand(b, frame, gate, turn)?;
             if right == 0 {
                 return Err(Alarm::new(FaultCode::ZeroDivisor, **at, turn));
             }
             Ok(quotient(left, right))
         }
         IntExpr::Remainder(a, b, at) => {
-            let left = operand(a, frame, turn)?;
-            let right = operand(b, frame, turn)?;
+            let left = operand(a, frame, gate, turn)?;
+            let right = operand(b, frame, gate, turn)?;
             if right == 0 {
                 return Err(Alarm::new(FaultCode::ZeroDivisor, **at, turn));
             }
             Ok(remainder(left, right))
         }
-        IntExpr::Size(r) => size_of(r, frame, turn),
-        IntExpr::First(r, at) => first_of(r, at, frame, turn),
-        IntExpr::Last(r, at) => last_of(r, at, frame, turn),
-        IntExpr::Low(r, at) => low_of(r, at, frame, turn),
-        IntExpr::High(r, at) => high_of(r, at, frame, turn),
-        IntExpr::Count(d) => count_of(d, frame, turn),
-        IntExpr::Element(slot, t, at) => element(*slot, t, at, frame, turn),
-        IntExpr::Reduced(fold, e, at) => reduced_int(*fold, e, at, frame, turn),
+        IntExpr::Size(r) => size_of(r, frame, gate, turn),
+        IntExpr::First(r, at) => first_of(r, at, frame, gate, turn),
+        IntExpr::Last(r, at) => last_of(r, at, frame, gate, turn),
+        IntExpr::Low(r, at) => low_of(r, at, frame, gate, turn),
+        IntExpr::High(r, at) => high_of(r, at, frame, gate, turn),
+        IntExpr::Count(d) => count_of(d, frame, gate, turn),
+        IntExpr::Element(slot, t, at) => element(*slot, t, at, frame, gate, turn),
+        IntExpr::Reduced(fold, e, at) => reduced_int(*fold, e, at, frame, gate, turn),
     }
 }
 
@@ -120,59 +135,93 @@ pub(crate) fn int_value(e: &IntExpr<'_>, frame: &Frame<'_>, turn: &mut Turn) -> 
 // `size`
 #[cycle(walk)]
 #[inline(never)]
-fn size_of(r: &RangeExpr<'_>, frame: &Frame<'_>, turn: &mut Turn) -> Result<i64, Alarm>
-    ensures { value_of frame.now.limits in_memory (dotted (range_view r.now) (Plainly nowhere Size)) None frame.now.memory ≡ of_int (telling turn.new result) }
+fn size_of<G: Gate>(
+    r: &RangeExpr<'_>,
+    frame: &Frame<'_>,
+    gate: &G,
+    turn: &mut Turn,
+) -> Result<i64, Alarm>
+    ensures { Tells (MayRefuseSome (G.may_refuse gate.now)) Int turn.new result (value_of frame.now.limits in_memory (dotted (range_view r.now) (Plainly nowhere Size)) None frame.now.memory) }
 {
-    Ok(size(range_value(r, frame, turn)?))
+    Ok(size(range_value(r, frame, gate, turn)?))
 }
 
 // `first`
 #[cycle(walk)]
 #[inline(never)]
-fn first_of(r: &RangeExpr<'_>, at: &Spot, frame: &Frame<'_>, turn: &mut Turn) -> Result<i64, Alarm>
-    ensures { value_of frame.now.limits in_memory (dotted (range_view r.now) (Plainly at.now First)) None frame.now.memory ≡ of_int (telling turn.new result) }
+fn first_of<G: Gate>(
+    r: &RangeExpr<'_>,
+    at: &Spot,
+    frame: &Frame<'_>,
+    gate: &G,
+    turn: &mut Turn,
+) -> Result<i64, Alarm>
+    ensures { Tells (MayRefuseSome (G.may_refuse gate.now)) Int turn.new result (value_of frame.now.limits in_memory (dotted (range_view r.now) (Plainly at.now First)) None frame.now.memory) }
 {
-    let range = range_value(r, frame, turn)?;
+    let range = range_value(r, frame, gate, turn)?;
     first(range, *at, turn)
 }
 
 // `last`
 #[cycle(walk)]
 #[inline(never)]
-fn last_of(r: &RangeExpr<'_>, at: &Spot, frame: &Frame<'_>, turn: &mut Turn) -> Result<i64, Alarm>
-    ensures { value_of frame.now.limits in_memory (dotted (range_view r.now) (Plainly at.now Last)) None frame.now.memory ≡ of_int (telling turn.new result) }
+fn last_of<G: Gate>(
+    r: &RangeExpr<'_>,
+    at: &Spot,
+    frame: &Frame<'_>,
+    gate: &G,
+    turn: &mut Turn,
+) -> Result<i64, Alarm>
+    ensures { Tells (MayRefuseSome (G.may_refuse gate.now)) Int turn.new result (value_of frame.now.limits in_memory (dotted (range_view r.now) (Plainly at.now Last)) None frame.now.memory) }
 {
-    let range = range_value(r, frame, turn)?;
+    let range = range_value(r, frame, gate, turn)?;
     last(range, *at, turn)
 }
 
 // `low`
 #[cycle(walk)]
 #[inline(never)]
-fn low_of(r: &RangeExpr<'_>, at: &Spot, frame: &Frame<'_>, turn: &mut Turn) -> Result<i64, Alarm>
-    ensures { value_of frame.now.limits in_memory (dotted (range_view r.now) (Plainly at.now Low)) None frame.now.memory ≡ of_int (telling turn.new result) }
+fn low_of<G: Gate>(
+    r: &RangeExpr<'_>,
+    at: &Spot,
+    frame: &Frame<'_>,
+    gate: &G,
+    turn: &mut Turn,
+) -> Result<i64, Alarm>
+    ensures { Tells (MayRefuseSome (G.may_refuse gate.now)) Int turn.new result (value_of frame.now.limits in_memory (dotted (range_view r.now) (Plainly at.now Low)) None frame.now.memory) }
 {
-    let range = range_value(r, frame, turn)?;
+    let range = range_value(r, frame, gate, turn)?;
     low(range, *at, turn)
 }
 
 // `high`
 #[cycle(walk)]
 #[inline(never)]
-fn high_of(r: &RangeExpr<'_>, at: &Spot, frame: &Frame<'_>, turn: &mut Turn) -> Result<i64, Alarm>
-    ensures { value_of frame.now.limits in_memory (dotted (range_view r.now) (Plainly at.now High)) None frame.now.memory ≡ of_int (telling turn.new result) }
+fn high_of<G: Gate>(
+    r: &RangeExpr<'_>,
+    at: &Spot,
+    frame: &Frame<'_>,
+    gate: &G,
+    turn: &mut Turn,
+) -> Result<i64, Alarm>
+    ensures { Tells (MayRefuseSome (G.may_refuse gate.now)) Int turn.new result (value_of frame.now.limits in_memory (dotted (range_view r.now) (Plainly at.now High)) None frame.now.memory) }
 {
-    let range = range_value(r, frame, turn)?;
+    let range = range_value(r, frame, gate, turn)?;
     high(range, *at, turn)
 }
 
 // `size` of a domain
 #[cycle(walk)]
 #[inline(never)]
-fn count_of(d: &DomainExpr<'_>, frame: &Frame<'_>, turn: &mut Turn) -> Result<i64, Alarm>
-    ensures { value_of frame.now.limits in_memory (dotted (domain_view d.now) (Plainly nowhere Size)) None frame.now.memory ≡ of_int (telling turn.new result) }
+fn count_of<G: Gate>(
+    d: &DomainExpr<'_>,
+    frame: &Frame<'_>,
+    gate: &G,
+    turn: &mut Turn,
+) -> Result<i64, Alarm>
+    ensures { Tells (MayRefuseSome (G.may_refuse gate.now)) Int turn.new result (value_of frame.now.limits in_memory (dotted (domain_view d.now) (Plainly nowhere Size)) None frame.now.memory) }
 {
-    Ok(domain_value(d, frame, turn)?.size() as i64)
+    Ok(domain_value(d, frame, gate, turn)?.size() as i64)
 }
 
 /// The word of an element of an array, by the coordinates of its index.
@@ -180,29 +229,30 @@ fn count_of(d: &DomainExpr<'_>, frame: &Frame<'_>, turn: &mut Turn) -> Result<i6
 /// # Errors
 /// `F1` at the array's name for an index outside it.
 #[cycle(walk)]
-pub(crate) fn element(
+pub(crate) fn element<G: Gate>(
     slot: usize,
     t: &IndexExpr<'_>,
     at: &Spot,
     frame: &Frame<'_>,
+    gate: &G,
     turn: &mut Turn,
 ) -> Result<i64, Alarm>
-    ensures { with_ok (items_of frame.now.limits in_memory (index_items t.now) frame.now.memory) (λ vs. word_found at.now (held_at (index_of vs) (array_at slot frame.now.memory))) ≡ telling turn.new result }
+    ensures { Tells (MayRefuseSome (G.may_refuse gate.now)) (λ v. v) turn.new result (with_ok (items_of frame.now.limits in_memory (index_items t.now) frame.now.memory) (λ vs. word_found at.now (held_at (index_of vs) (array_at slot frame.now.memory)))) }
 {
     match t {
         IndexExpr::Line(i) => {
-            let i = coordinate_value(i, frame, turn)?;
+            let i = coordinate_value(i, frame, gate, turn)?;
             found(at, frame.element_line(slot, i), turn)
         }
         IndexExpr::Plane(i, j) => {
-            let i = coordinate_value(i, frame, turn)?;
-            let j = coordinate_value(j, frame, turn)?;
+            let i = coordinate_value(i, frame, gate, turn)?;
+            let j = coordinate_value(j, frame, gate, turn)?;
             found(at, frame.element_plane(slot, i, j), turn)
         }
         IndexExpr::Space(i, j, k) => {
-            let i = coordinate_value(i, frame, turn)?;
-            let j = coordinate_value(j, frame, turn)?;
-            let k = coordinate_value(k, frame, turn)?;
+            let i = coordinate_value(i, frame, gate, turn)?;
+            let j = coordinate_value(j, frame, gate, turn)?;
+            let k = coordinate_value(k, frame, gate, turn)?;
             found(at, frame.element_space(slot, i, j, k), turn)
         }
         IndexExpr::Tuple(tuple) => found(at, frame.element(slot, frame.tuple(*tuple)), turn),
@@ -213,24 +263,25 @@ pub(crate) fn element(
 ///
 /// # Errors
 /// The fault of a coordinate.
-pub(crate) fn index_value(
+pub(crate) fn index_value<G: Gate>(
     t: &IndexExpr<'_>,
     frame: &Frame<'_>,
+    gate: &G,
     turn: &mut Turn,
 ) -> Result<Index, Alarm>
-    ensures { with_ok (values_of frame.now.limits in_memory (index_exprs t.now) frame.now.memory) (λ vs. Ok (index_of vs)) ≡ telling turn.new result }
+    ensures { Tells (MayRefuseSome (G.may_refuse gate.now)) (λ v. v) turn.new result (with_ok (values_of frame.now.limits in_memory (index_exprs t.now) frame.now.memory) (λ vs. Ok (index_of vs))) }
 {
     match t {
-        IndexExpr::Line(i) => Ok(coordinate(operand(i, frame, turn)?)),
+        IndexExpr::Line(i) => Ok(coordinate(operand(i, frame, gate, turn)?)),
         IndexExpr::Plane(i, j) => {
-            let i = operand(i, frame, turn)?;
-            let j = operand(j, frame, turn)?;
+            let i = operand(i, frame, gate, turn)?;
+            let j = operand(j, frame, gate, turn)?;
             Ok(plane(i, j))
         }
         IndexExpr::Space(i, j, k) => {
-            let i = operand(i, frame, turn)?;
-            let j = operand(j, frame, turn)?;
-            let k = operand(k, frame, turn)?;
+            let i = operand(i, frame, gate, turn)?;
+            let j = operand(j, frame, gate, turn)?;
+            let k = operand(k, frame, gate, turn)?;
             Ok(space(i, j, k))
         }
         IndexExpr::Tuple(tuple) => Ok(frame.tuple(*tuple)),
@@ -242,28 +293,29 @@ pub(crate) fn index_value(
 /// # Errors
 /// The fault of a range; `F3` at the opening bracket for too many indices.
 #[cycle(walk)]
-pub(crate) fn literal(
+pub(crate) fn literal<G: Gate>(
     at: &Spot,
     ranges: &RangesExpr<'_>,
     frame: &Frame<'_>,
+    gate: &G,
     turn: &mut Turn,
 ) -> Result<DomainWord, Alarm>
-    ensures { with_ok (items_of frame.now.limits in_memory (ranges_items ranges.now) frame.now.memory) (λ vs. sized_of at.now (all_ranges vs)) ≡ of_domain (telling turn.new result) }
+    ensures { Tells (MayRefuseSome (G.may_refuse gate.now)) DomainValue turn.new result (with_ok (items_of frame.now.limits in_memory (ranges_items ranges.now) frame.now.memory) (λ vs. sized_of at.now (all_ranges vs))) }
 {
     match ranges {
         RangesExpr::Line(a) => {
-            let a = range_value(a, frame, turn)?;
+            let a = range_value(a, frame, gate, turn)?;
             sized(at, DomainWord::new(&[a]), turn)
         }
         RangesExpr::Plane(a, b) => {
-            let a = range_value(a, frame, turn)?;
-            let b = range_value(b, frame, turn)?;
+            let a = range_value(a, frame, gate, turn)?;
+            let b = range_value(b, frame, gate, turn)?;
             sized(at, DomainWord::new(&[a, b]), turn)
         }
         RangesExpr::Space(a, b, c) => {
-            let a = range_value(a, frame, turn)?;
-            let b = range_value(b, frame, turn)?;
-            let c = range_value(c, frame, turn)?;
+            let a = range_value(a, frame, gate, turn)?;
+            let b = range_value(b, frame, gate, turn)?;
+            let c = range_value(c, frame, gate, turn)?;
             sized(at, DomainWord::new(&[a, b, c]), turn)
         }
     }
@@ -271,28 +323,29 @@ pub(crate) fn literal(
 
 // A domain with each dimension between the bounds of its range.
 #[cycle(walk)]
-fn cut(
+fn cut<G: Gate>(
     domain: DomainWord,
     ranges: &RangesExpr<'_>,
     frame: &Frame<'_>,
+    gate: &G,
     turn: &mut Turn,
 ) -> Result<DomainWord, Alarm>
-    ensures { with_ok (items_of frame.now.limits in_memory (ranges_items ranges.now) frame.now.memory) (λ vs. Ok (Domain (all_sliced domain (all_ranges vs)))) ≡ of_domain (telling turn.new result) }
+    ensures { Tells (MayRefuseSome (G.may_refuse gate.now)) DomainValue turn.new result (with_ok (items_of frame.now.limits in_memory (ranges_items ranges.now) frame.now.memory) (λ vs. Ok (DomainValue (all_sliced domain (all_ranges vs))))) }
 {
     match ranges {
         RangesExpr::Line(a) => {
-            let a = range_value(a, frame, turn)?;
+            let a = range_value(a, frame, gate, turn)?;
             Ok(domain.sliced(&[a]))
         }
         RangesExpr::Plane(a, b) => {
-            let a = range_value(a, frame, turn)?;
-            let b = range_value(b, frame, turn)?;
+            let a = range_value(a, frame, gate, turn)?;
+            let b = range_value(b, frame, gate, turn)?;
             Ok(domain.sliced(&[a, b]))
         }
         RangesExpr::Space(a, b, c) => {
-            let a = range_value(a, frame, turn)?;
-            let b = range_value(b, frame, turn)?;
-            let c = range_value(c, frame, turn)?;
+            let a = range_value(a, frame, gate, turn)?;
+            let b = range_value(b, frame, gate, turn)?;
+            let c = range_value(c, frame, gate, turn)?;
             Ok(domain.sliced(&[a, b, c]))
         }
     }
@@ -303,31 +356,32 @@ fn cut(
 /// # Errors
 /// `F3` at the opening bracket for too many indices, and at `expand` for these or for a bound past its limit.
 #[cycle(walk)]
-pub(crate) fn domain_value(
+pub(crate) fn domain_value<G: Gate>(
     e: &DomainExpr<'_>,
     frame: &Frame<'_>,
+    gate: &G,
     turn: &mut Turn,
 ) -> Result<DomainWord, Alarm>
-    ensures { value_of frame.now.limits in_memory (domain_view e.now) None frame.now.memory ≡ of_domain (telling turn.new result) }
+    ensures { Tells (MayRefuseSome (G.may_refuse gate.now)) DomainValue turn.new result (value_of frame.now.limits in_memory (domain_view e.now) None frame.now.memory) }
 {
     match e {
         DomainExpr::Local(slot) => Ok(frame.domain(*slot)),
         DomainExpr::OfArray(_, slot) => Ok(frame.array_domain(*slot)),
-        DomainExpr::Literal(at, ranges) => literal(at, ranges, frame, turn),
+        DomainExpr::Literal(at, ranges) => literal(at, ranges, frame, gate, turn),
         DomainExpr::Slice(d, ranges) => {
-            let domain = domain_value(d, frame, turn)?;
-            cut(domain, ranges, frame, turn)
+            let domain = domain_value(d, frame, gate, turn)?;
+            cut(domain, ranges, frame, gate, turn)
         }
         DomainExpr::Expanded(d, at, k) => {
-            let domain = domain_value(d, frame, turn)?;
-            let k = operand(k, frame, turn)?;
+            let domain = domain_value(d, frame, gate, turn)?;
+            let k = operand(k, frame, gate, turn)?;
             match domain.expanded(k) {
                 Some(domain) => Ok(domain),
                 None => Err(Alarm::new(FaultCode::PastLimit, **at, turn)),
             }
         }
         DomainExpr::Created(_, d) => {
-            let domain = domain_value(d, frame, turn)?;
+            let domain = domain_value(d, frame, gate, turn)?;
             Ok(small(domain))
         }
     }
@@ -335,18 +389,19 @@ pub(crate) fn domain_value(
 
 // A range by its bounds, with the stride that is written, which is evaluated before the fault of its bounds is told.
 #[cycle(walk)]
-fn stridden(
+fn stridden<G: Gate>(
     stride: &Stride<'_>,
     written: Written,
     frame: &Frame<'_>,
+    gate: &G,
     turn: &mut Turn,
 ) -> Result<RangeWord, Alarm>
-    ensures { stridden_of frame.now.limits in_memory (stride_view stride.now) (bounds_of written) frame.now.memory ≡ of_range (telling turn.new result) }
+    ensures { Tells (MayRefuseSome (G.may_refuse gate.now)) as_range turn.new result (stridden_of frame.now.limits in_memory (stride_view stride.now) (bounds_of written) frame.now.memory) }
 {
     match stride {
         Stride::Absent => bounded(written, turn),
         Stride::By(at, e) => {
-            let stride = operand(e, frame, turn)?;
+            let stride = operand(e, frame, gate, turn)?;
             let range = bounded(written, turn)?;
             strided_by(**at, stride, range, turn)
         }
@@ -358,32 +413,33 @@ fn stridden(
 /// # Errors
 /// `F3` at the dots for a bound or a count past its limit, and at `by` for a stride.
 #[cycle(walk)]
-pub(crate) fn range_value(
+pub(crate) fn range_value<G: Gate>(
     e: &RangeExpr<'_>,
     frame: &Frame<'_>,
+    gate: &G,
     turn: &mut Turn,
 ) -> Result<RangeWord, Alarm>
-    ensures { item_of frame.now.limits in_memory (range_item e.now) None frame.now.memory ≡ of_range (telling turn.new result) }
+    ensures { Tells (MayRefuseSome (G.may_refuse gate.now)) as_range turn.new result (item_of frame.now.limits in_memory (range_item e.now) None frame.now.memory) }
 {
     match e {
         RangeExpr::Local(slot) => Ok(frame.range(*slot)),
         RangeExpr::Between(low, at, dots, high, stride) => {
-            let low = operand(low, frame, turn)?;
-            let high = operand(high, frame, turn)?;
+            let low = operand(low, frame, gate, turn)?;
+            let high = operand(high, frame, gate, turn)?;
             let written = Written {
                 at: **at,
                 dots: *dots,
                 low,
                 number: high,
             };
-            stridden(stride, written, frame, turn)
+            stridden(stride, written, frame, gate, turn)
         }
         RangeExpr::Slice(r, cut) => {
-            let range = range_value(r, frame, turn)?;
-            let cut = range_value(cut, frame, turn)?;
+            let range = range_value(r, frame, gate, turn)?;
+            let cut = range_value(cut, frame, gate, turn)?;
             Ok(range.sliced(&cut))
         }
-        RangeExpr::Dimension(d, n) => Ok(domain_value(d, frame, turn)?.dimension(*n)),
+        RangeExpr::Dimension(d, n) => Ok(domain_value(d, frame, gate, turn)?.dimension(*n)),
     }
 }
 
@@ -392,57 +448,60 @@ pub(crate) fn range_value(
 /// # Errors
 /// The fault of an operand.
 #[cycle(truth)]
-pub(crate) fn truth_value(
+pub(crate) fn truth_value<G: Gate>(
     e: &BoolExpr<'_>,
     frame: &Frame<'_>,
+    gate: &G,
     turn: &mut Turn,
 ) -> Result<Truth, Alarm>
-    ensures { value_of frame.now.limits in_memory (truth_view e.now) None frame.now.memory ≡ of_truth (telling turn.new result) }
+    ensures { Tells (MayRefuseSome (G.may_refuse gate.now)) TruthValue turn.new result (value_of frame.now.limits in_memory (truth_view e.now) None frame.now.memory) }
 {
     match e {
         BoolExpr::Truth(b) => Ok(Truth::new(*b)),
         BoolExpr::Local(slot) => Ok(Truth::new(frame.number(*slot) != 0)),
-        BoolExpr::Not(e) => Ok(Truth::new(!truth_value(e, frame, turn)?.get())),
+        BoolExpr::Not(e) => Ok(Truth::new(!truth_value(e, frame, gate, turn)?.get())),
         BoolExpr::And(a, b) => {
-            let left = truth_value(a, frame, turn)?;
+            let left = truth_value(a, frame, gate, turn)?;
             if !left.get() {
                 return Ok(left);
             }
-            truth_value(b, frame, turn)
+            truth_value(b, frame, gate, turn)
         }
         BoolExpr::Or(a, b) => {
-            let left = truth_value(a, frame, turn)?;
+            let left = truth_value(a, frame, gate, turn)?;
             if left.get() {
                 return Ok(left);
             }
-            truth_value(b, frame, turn)
+            truth_value(b, frame, gate, turn)
         }
         BoolExpr::Same(a, b) => {
-            let left = truth_value(a, frame, turn)?.get();
-            let right = truth_value(b, frame, turn)?.get();
+            let left = truth_value(a, frame, gate, turn)?.get();
+            let right = truth_value(b, frame, gate, turn)?.get();
             Ok(Truth::new(left == right))
         }
         BoolExpr::Differ(a, b) => {
-            let left = truth_value(a, frame, turn)?.get();
-            let right = truth_value(b, frame, turn)?.get();
+            let left = truth_value(a, frame, gate, turn)?.get();
+            let right = truth_value(b, frame, gate, turn)?.get();
             Ok(Truth::new(left != right))
         }
         BoolExpr::Compare(comparison, a, b) => {
-            let left = operand(a, frame, turn)?;
-            let right = operand(b, frame, turn)?;
+            let left = operand(a, frame, gate, turn)?;
+            let right = operand(b, frame, gate, turn)?;
             Ok(Truth::new(holds(*comparison, left, right)))
         }
         BoolExpr::Contains(r, i) => {
-            let range = range_value(r, frame, turn)?;
-            let i = operand(i, frame, turn)?;
+            let range = range_value(r, frame, gate, turn)?;
+            let i = operand(i, frame, gate, turn)?;
             Ok(Truth::new(contains(range, i)))
         }
         BoolExpr::HasIndex(d, t) => {
-            let domain = domain_value(d, frame, turn)?;
-            let index = index_value(t, frame, turn)?;
+            let domain = domain_value(d, frame, gate, turn)?;
+            let index = index_value(t, frame, gate, turn)?;
             Ok(Truth::new(domain.contains(index)))
         }
-        BoolExpr::Element(slot, t, at) => Ok(Truth::new(element(*slot, t, at, frame, turn)? != 0)),
-        BoolExpr::Reduced(fold, e, at) => reduced_truth(*fold, e, at, frame, turn),
+        BoolExpr::Element(slot, t, at) => Ok(Truth::new(
+            element(*slot, t, at, frame, gate, turn)? != 0,
+        )),
+        BoolExpr::Reduced(fold, e, at) => reduced_truth(*fold, e, at, frame, gate, turn),
     }
 }

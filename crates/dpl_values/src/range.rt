@@ -2,14 +2,16 @@
 // A bound is a whole number without a limit until it is tested.
 
 ghost use Rattle.std.specs.Prelude.{◌≡◌, false, pos, [], ◌∷◌};
+ghost use Rattle.dpl_language.specs.Values.{Int};
 ghost use Rattle.dpl_language.specs.Ranges.{strided_by as strided_by_of, high_bound as high_bound_of, bad_count as bad_count_of};
 ghost use Rattle.dpl_language.specs.Ranges.{size_in, members_in, end_of, first_of, last_of, least_of, greatest_of, contains_index};
 ghost use Rattle.dpl_nodes.specs.Typed.{dots_view};
-ghost use Rattle.dpl_nodes.specs.Faults.{of_int, telling};
+ghost use Rattle.dpl_frame.specs.Faults.{Tells};
 ghost use Rattle.dpl_contents.specs.Range.{range_word};
-ghost use Rattle.dpl_values.specs.Bounds.{FitsOrPast, of_word, bounds_of};
+ghost use Rattle.dpl_values.specs.Bounds.{FitsOrPast, bounds_of};
 
-use dpl_nodes::{Alarm, Dots, FaultCode, RangeWord, Spot, Turn};
+use dpl_frame::{Alarm, FaultCode, RangeWord, Turn};
+use dpl_nodes::{Dots, Spot};
 use dpl_range::Range;
 
 // The high bound, where it is an int.
@@ -48,7 +50,7 @@ pub(crate) struct Written {
 /// # Errors
 /// `F3` at the dots for a bad count, and for a bound past its limit.
 pub(crate) fn bounded(written: Written, turn: &mut Turn) -> Result<RangeWord, Alarm>
-    ensures { of_word (telling turn.new result) ≡ bounds_of written }
+    ensures { Tells ⊥ range_word turn.new result (bounds_of written) }
 {
     if is_bad_count(written.dots, written.number) {
         return Err(Alarm::new(FaultCode::PastLimit, written.at, turn));
@@ -75,7 +77,7 @@ pub(crate) fn strided_by(
     range: RangeWord,
     turn: &mut Turn,
 ) -> Result<RangeWord, Alarm>
-    ensures { of_word (telling turn.new result) ≡ strided_by_of at stride (range_word range) }
+    ensures { Tells ⊥ range_word turn.new result (strided_by_of at stride (range_word range)) }
 {
     match Range::new(range.range.low_bound(), range.range.high_bound(), stride) {
         Ok(range) => Ok(RangeWord {
@@ -98,7 +100,7 @@ pub fn size(range: RangeWord) -> i64
 /// # Errors
 /// `F4` at the method's name for an empty one.
 pub(crate) fn first(range: RangeWord, at: Spot, turn: &mut Turn) -> Result<i64, Alarm>
-    ensures { of_int (telling turn.new result) ≡ end_of at first_of (members_in (range_word range)) }
+    ensures { Tells ⊥ Int turn.new result (end_of at first_of (members_in (range_word range))) }
 {
     match range.range.first() {
         Some(end) => Ok(end),
@@ -111,7 +113,7 @@ pub(crate) fn first(range: RangeWord, at: Spot, turn: &mut Turn) -> Result<i64, 
 /// # Errors
 /// `F4` at the method's name for an empty one.
 pub(crate) fn last(range: RangeWord, at: Spot, turn: &mut Turn) -> Result<i64, Alarm>
-    ensures { of_int (telling turn.new result) ≡ end_of at last_of (members_in (range_word range)) }
+    ensures { Tells ⊥ Int turn.new result (end_of at last_of (members_in (range_word range))) }
 {
     match range.range.last() {
         Some(end) => Ok(end),
@@ -124,7 +126,7 @@ pub(crate) fn last(range: RangeWord, at: Spot, turn: &mut Turn) -> Result<i64, A
 /// # Errors
 /// `F4` at the method's name for an empty one.
 pub(crate) fn low(range: RangeWord, at: Spot, turn: &mut Turn) -> Result<i64, Alarm>
-    ensures { of_int (telling turn.new result) ≡ end_of at least_of (members_in (range_word range)) }
+    ensures { Tells ⊥ Int turn.new result (end_of at least_of (members_in (range_word range))) }
 {
     match range.range.low() {
         Some(end) => Ok(end),
@@ -137,7 +139,7 @@ pub(crate) fn low(range: RangeWord, at: Spot, turn: &mut Turn) -> Result<i64, Al
 /// # Errors
 /// `F4` at the method's name for an empty one.
 pub(crate) fn high(range: RangeWord, at: Spot, turn: &mut Turn) -> Result<i64, Alarm>
-    ensures { of_int (telling turn.new result) ≡ end_of at greatest_of (members_in (range_word range)) }
+    ensures { Tells ⊥ Int turn.new result (end_of at greatest_of (members_in (range_word range))) }
 {
     match range.range.high() {
         Some(end) => Ok(end),

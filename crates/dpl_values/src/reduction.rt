@@ -1,124 +1,125 @@
-// Reductions: the values of a promoted expression at all indices of its domain, put together in their order.
-// The domain is that of the first whole array in the expression.
+// Reductions: the values of a promoted expression at all indices of its domain, put together in their order by the loop of reductions.
+// The domain and the map are those of the first whole array in the expression.
 
-ghost use Rattle.std.specs.Prelude.{◌≡◌, Some};
-ghost use Rattle.dpl_language.specs.Outcome.{naming_value};
+ghost use Rattle.std.specs.Prelude.{◌≡◌, ◌⊎◌, Some, Result, get_or};
+ghost use Rattle.dpl_language.specs.Values.{Value, Fault, Index as IndexValue, Int, Truth as TruthValue};
 ghost use Rattle.dpl_language.specs.Expressions.{value_of, whole_in, fold_over, reduction};
 ghost use Rattle.dpl_lowered.specs.LoweredExpressions.{EachTurn};
-ghost use Rattle.dpl_memory.specs.Memory.{in_memory};
+ghost use Rattle.dpl_memory.specs.Memory.{array_at, in_memory};
 ghost use Rattle.dpl_nodes.specs.Typed.{promoted_int, promoted_truth, int_fold_view, truth_fold_view};
-ghost use Rattle.dpl_nodes.specs.Faults.{of_int, of_truth, telling};
+ghost use Rattle.dpl_frame.specs.Faults.{Tells};
+ghost use Rattle.dpl_loop.specs.Entries.{MayRefuse, MayRefuseSome};
+ghost use Rattle.dpl_loop.specs.Values.{AnswersTell, MayAnswerRefused};
+ghost use Rattle.dpl_map.specs.Maps.{whole_map};
 
 use crate::budget::within_turns;
 use crate::fold::{combined_ints, combined_truths, int_over_none, truth_over_none};
-use crate::promoted::{int_domain, promoted_int_value, promoted_truth_value, truth_domain};
+use crate::promoted::{int_array, operand, promoted_truth_value, truth_array};
 use dpl_domain::Index;
-use dpl_nodes::{
-    Alarm, DomainWord, Frame, IntFold, PromotedInt, PromotedTruth, Spot, Truth, TruthFold, Turn,
-};
+use dpl_frame::{Alarm, Frame, Truth, Turn};
+use dpl_loop::{Gate, Operator, reduce};
+use dpl_nodes::{IntFold, PromotedInt, PromotedTruth, Spot, TruthFold};
 
-// The int of an index, whose fault names its turn.
-#[cycle(walk)]
-#[inline(always)]
-fn int_at(
-    e: &PromotedInt<'_>,
-    index: Index,
-    frame: &Frame<'_>,
-    turn: &mut Turn,
-) -> Result<i64, Alarm>
-    ensures { naming_value index (value_of frame.now.limits in_memory (promoted_int EachTurn e.now) (Some index) frame.now.memory) ≡ of_int (telling turn.new result) }
-{
-    match promoted_int_value(e, &index, frame, turn) {
-        Ok(n) => Ok(n),
-        Err(alarm) => {
-            *turn = Turn::of(index);
-            Err(alarm)
-        }
+// An operator on ints.
+#[derive(Clone, Copy)]
+struct Ints {
+    fold: IntFold,
+}
+
+impl Operator for Ints {
+    type Item = i64;
+
+    ghost value = { Int };
+
+    ghost op = { λ o. int_fold_view o.fold };
+
+    #[inline(always)]
+    fn over_none(&self) -> i64 {
+        int_over_none(self.fold)
+    }
+
+    #[inline(always)]
+    fn combined(&self, a: i64, b: i64) -> i64 {
+        combined_ints(self.fold, a, b)
     }
 }
 
-// The ints of a domain's indices.
-#[cycle(walk)]
-fn folded_ints(
-    fold: IntFold,
-    e: &PromotedInt<'_>,
-    domain: DomainWord,
-    frame: &Frame<'_>,
-    turn: &mut Turn,
-) -> Result<i64, Alarm>
-    ensures { fold_over (int_fold_view fold) (λ i. value_of frame.now.limits in_memory (promoted_int EachTurn e.now) (Some i) frame.now.memory) domain ≡ of_int (telling turn.new result) }
-{
-    let mut so_far = int_over_none(fold);
-    let mut indices = domain.cursor();
-    while let Some(index) = indices.next() {
-        let value = int_at(e, index, frame, turn)?;
-        so_far = combined_ints(fold, so_far, value);
+// An operator on truth values. All of them are looked at, whatever the first are.
+#[derive(Clone, Copy)]
+struct Truths {
+    fold: TruthFold,
+}
+
+impl Operator for Truths {
+    type Item = Truth;
+
+    ghost value = { TruthValue };
+
+    ghost op = { λ o. truth_fold_view o.fold };
+
+    #[inline(always)]
+    fn over_none(&self) -> Truth {
+        Truth::new(truth_over_none(self.fold))
     }
-    Ok(so_far)
+
+    #[inline(always)]
+    fn combined(&self, a: Truth, b: Truth) -> Truth {
+        Truth::new(combined_truths(self.fold, a.get(), b.get()))
+    }
+}
+
+// The items at the indices of the array in a slot put together; its map tells who enters.
+#[inline(always)]
+fn folded<O: Operator, F: Fn(Index, &mut Turn) -> Result<O::Item, Alarm>, G: Gate>(
+    operator: &O,
+    slot: usize,
+    frame: &Frame<'_>,
+    item_at: F,
+    gate: &G,
+    turn: &mut Turn,
+) -> Result<O::Item, Alarm>
+    requires { F.IsAlwaysCallable item_at }
+    ensures { (meaning : IndexValue → Result Value Fault) → AnswersTell O.value (F.post item_at) meaning
+        → Tells (MayRefuse (G.may_refuse gate.now) (get_or frame.now.owners slot whole_map) (array_at slot frame.now.memory).ranges ⊎ MayAnswerRefused (F.post item_at)) O.value turn.new result (fold_over (O.op operator.now) meaning (array_at slot frame.now.memory).ranges) }
+{
+    let map = frame.owner(slot);
+    reduce(
+        operator,
+        frame.array_domain(slot),
+        &map,
+        item_at,
+        gate,
+        turn,
+    )
 }
 
 /// The ints of a promoted int put together. Without a whole array in it, which no checked program reduces, there are none.
 ///
 /// # Errors
-/// `F5` at `reduce` for more indices than the budget, before the first is looked at; the fault of an index, in its turn.
+/// `F5` at `reduce` for more indices than the budget, before the first is looked at; the fault of an index, in its turn; or the
+/// gate refused the entry of an index's owner. No gate is asked for the value at an index.
 #[cycle(walk)]
 #[inline(never)]
-pub(crate) fn reduced_int(
+pub(crate) fn reduced_int<G: Gate>(
     fold: IntFold,
     e: &PromotedInt<'_>,
     at: &Spot,
     frame: &Frame<'_>,
+    gate: &G,
     turn: &mut Turn,
 ) -> Result<i64, Alarm>
-    ensures { reduction frame.now.limits.budget at.now (int_fold_view fold) (λ i. value_of frame.now.limits in_memory (promoted_int EachTurn e.now) (Some i) frame.now.memory) (whole_in frame.now.limits in_memory (promoted_int EachTurn e.now) frame.now.memory) ≡ of_int (telling turn.new result) }
+    ensures { Tells (MayRefuseSome (G.may_refuse gate.now)) Int turn.new result
+        (reduction frame.now.limits.budget at.now (int_fold_view fold) (λ i. value_of frame.now.limits in_memory (promoted_int EachTurn e.now) (Some i) frame.now.memory) (whole_in frame.now.limits in_memory (promoted_int EachTurn e.now) frame.now.memory)) }
 {
-    match int_domain(e, frame) {
-        None => Ok(int_over_none(fold)),
-        Some(domain) => {
-            within_turns(&domain, at, frame, turn)?;
-            folded_ints(fold, e, domain, frame, turn)
-        }
-    }
-}
-
-// The truth value of an index, whose fault names its turn.
-#[cycle(truth)]
-#[inline(always)]
-fn truth_at(
-    e: &PromotedTruth<'_>,
-    index: Index,
-    frame: &Frame<'_>,
-    turn: &mut Turn,
-) -> Result<Truth, Alarm>
-    ensures { naming_value index (value_of frame.now.limits in_memory (promoted_truth EachTurn e.now) (Some index) frame.now.memory) ≡ of_truth (telling turn.new result) }
-{
-    match promoted_truth_value(e, &index, frame, turn) {
-        Ok(b) => Ok(b),
-        Err(alarm) => {
-            *turn = Turn::of(index);
-            Err(alarm)
-        }
-    }
-}
-
-// The truth values of a domain's indices. All of them are looked at, whatever the first are.
-#[cycle(truth)]
-fn folded_truths(
-    fold: TruthFold,
-    e: &PromotedTruth<'_>,
-    domain: DomainWord,
-    frame: &Frame<'_>,
-    turn: &mut Turn,
-) -> Result<Truth, Alarm>
-    ensures { fold_over (truth_fold_view fold) (λ i. value_of frame.now.limits in_memory (promoted_truth EachTurn e.now) (Some i) frame.now.memory) domain ≡ of_truth (telling turn.new result) }
-{
-    let mut so_far = truth_over_none(fold);
-    let mut indices = domain.cursor();
-    while let Some(index) = indices.next() {
-        let value = truth_at(e, index, frame, turn)?.get();
-        so_far = combined_truths(fold, so_far, value);
-    }
-    Ok(Truth::new(so_far))
+    let Some(slot) = int_array(e) else {
+        return Ok(int_over_none(fold));
+    };
+    let domain = frame.array_domain(slot);
+    within_turns(&domain, at, frame, turn)?;
+    let item_at = |index: Index, turn: &mut Turn| -> Result<i64, Alarm>
+        ensures { Tells (MayRefuseSome (G.may_refuse gate.entry.now)) Int turn.new result (value_of frame.entry.now.limits in_memory (promoted_int EachTurn e.entry.now) (Some index) frame.entry.now.memory) }
+    { operand(e, &index, frame, gate, turn) };
+    folded(&Ints { fold }, slot, frame, item_at, gate, turn)
 }
 
 /// The truth values of a promoted truth value put together.
@@ -127,20 +128,24 @@ fn folded_truths(
 /// As for ints.
 #[cycle(truth)]
 #[inline(never)]
-pub(crate) fn reduced_truth(
+pub(crate) fn reduced_truth<G: Gate>(
     fold: TruthFold,
     e: &PromotedTruth<'_>,
     at: &Spot,
     frame: &Frame<'_>,
+    gate: &G,
     turn: &mut Turn,
 ) -> Result<Truth, Alarm>
-    ensures { reduction frame.now.limits.budget at.now (truth_fold_view fold) (λ i. value_of frame.now.limits in_memory (promoted_truth EachTurn e.now) (Some i) frame.now.memory) (whole_in frame.now.limits in_memory (promoted_truth EachTurn e.now) frame.now.memory) ≡ of_truth (telling turn.new result) }
+    ensures { Tells (MayRefuseSome (G.may_refuse gate.now)) TruthValue turn.new result
+        (reduction frame.now.limits.budget at.now (truth_fold_view fold) (λ i. value_of frame.now.limits in_memory (promoted_truth EachTurn e.now) (Some i) frame.now.memory) (whole_in frame.now.limits in_memory (promoted_truth EachTurn e.now) frame.now.memory)) }
 {
-    match truth_domain(e, frame) {
-        None => Ok(Truth::new(truth_over_none(fold))),
-        Some(domain) => {
-            within_turns(&domain, at, frame, turn)?;
-            folded_truths(fold, e, domain, frame, turn)
-        }
-    }
+    let Some(slot) = truth_array(e) else {
+        return Ok(Truth::new(truth_over_none(fold)));
+    };
+    let domain = frame.array_domain(slot);
+    within_turns(&domain, at, frame, turn)?;
+    let item_at = |index: Index, turn: &mut Turn| -> Result<Truth, Alarm>
+        ensures { Tells (MayRefuseSome (G.may_refuse gate.entry.now)) TruthValue turn.new result (value_of frame.entry.now.limits in_memory (promoted_truth EachTurn e.entry.now) (Some index) frame.entry.now.memory) }
+    { promoted_truth_value(e, &index, frame, gate, turn) };
+    folded(&Truths { fold }, slot, frame, item_at, gate, turn)
 }

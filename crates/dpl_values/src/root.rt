@@ -1,25 +1,43 @@
 // The map of a declared domain or array: that of another's root, or of a root by the map that is named.
 // A map is never the cause of a fault: where an argument has no value, no map is named.
 
-ghost use Rattle.std.specs.Prelude.{slice_get};
+ghost use Rattle.std.specs.Prelude.{◌≡◌, None, slice_get};
+ghost use Rattle.dpl_language.specs.Expressions.{value_of};
+ghost use Rattle.dpl_memory.specs.Memory.{in_memory};
+ghost use Rattle.dpl_nodes.specs.Typed.{domain_view};
+ghost use Rattle.dpl_frame.specs.Faults.{of_domain};
 ghost use Rattle.dpl_values.specs.Placed.{IsStart, IsNamedBy, IsNamedAt, IsPlaced};
 
-use crate::values::{domain_value, index_value};
+use crate::expression::domain_value;
+use crate::values::index_value;
 use dpl_domain::Index;
+use dpl_frame::{DomainWord, Frame, Trap, Turn};
 use dpl_layout::{Named, from_least, least};
+use dpl_loop::OpenGate;
 use dpl_map::Map;
-use dpl_nodes::{DomainWord, Frame, MapExpr, Placing, StartExpr};
+use dpl_nodes::{DomainExpr, MapExpr, Placing, StartExpr};
+
+// A domain that a map names, or its fault. No gate is asked for a map's argument.
+fn domain_argument(d: &DomainExpr<'_>, frame: &Frame<'_>) -> Result<DomainWord, Trap>
+    ensures { value_of frame.now.limits in_memory (domain_view d.now) None frame.now.memory ≡ of_domain result }
+{
+    let mut turn = Turn::Absent;
+    match domain_value(d, frame, &OpenGate, &mut turn) {
+        Ok(domain) => Ok(domain),
+        Err(alarm) => Err(alarm.in_turn(&turn)),
+    }
+}
 
 // Where a map starts; none where that has no value.
 fn start(e: &StartExpr<'_>, frame: &Frame<'_>) -> Option<Index>
     ensures { IsStart frame.now.limits frame.now.memory e.now result }
 {
     match e {
-        StartExpr::Index(t) => match index_value(t, frame) {
+        StartExpr::Index(t) => match index_value(t, frame, &OpenGate) {
             Ok(index) => Some(index),
             Err(_) => None,
         },
-        StartExpr::Least(d) => match domain_value(d, frame) {
+        StartExpr::Least(d) => match domain_argument(d, frame) {
             Ok(domain) => least(&domain.domain()),
             Err(_) => None,
         },
@@ -31,7 +49,7 @@ fn named(e: &MapExpr<'_>, frame: &Frame<'_>) -> Named
     ensures { IsNamedBy frame.now.limits frame.now.memory e.now result }
 {
     match e {
-        MapExpr::Block(d) => match domain_value(d, frame) {
+        MapExpr::Block(d) => match domain_argument(d, frame) {
             Ok(domain) => Named::Block(domain.domain()),
             Err(_) => Named::Whole,
         },

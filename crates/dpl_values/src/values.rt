@@ -1,37 +1,42 @@
-// The values of ints, truth values, ranges, domains and indices over a frame, or the fault with the turn that it names.
+// The values of ints, truth values, ranges, domains and indices over a frame, or the fault with the turn that it names; reductions ask a gate.
 // Each is the walk of its expression, for which a place for the turn stands ready.
 
 ghost use Rattle.std.specs.Prelude.{◌≡◌, None, Some, Ok};
-ghost use Rattle.dpl_language.specs.Values.{all_ranges, index_of};
+ghost use Rattle.dpl_language.specs.Values.{Int, Truth as TruthValue, Domain as DomainValue, all_ranges, index_of};
 ghost use Rattle.dpl_language.specs.Ranges.{sized as sized_of};
 ghost use Rattle.dpl_language.specs.Outcome.{with_ok};
 ghost use Rattle.dpl_language.specs.Expressions.{value_of, item_of, items_of, values_of};
 ghost use Rattle.dpl_lowered.specs.LoweredExpressions.{EachTurn};
 ghost use Rattle.dpl_memory.specs.Memory.{in_memory};
 ghost use Rattle.dpl_nodes.specs.Typed.{int_view, truth_view, range_item, ranges_items, index_exprs, domain_view, promoted_int, promoted_truth};
-ghost use Rattle.dpl_nodes.specs.Faults.{of_int, of_truth, of_range, of_domain};
+ghost use Rattle.dpl_frame.specs.Faults.{as_range};
+ghost use Rattle.dpl_loop.specs.Entries.{MayRefuseSome};
+ghost use Rattle.dpl_loop.specs.Values.{Gives};
 ghost use Rattle.dpl_values.specs.Elements.{sized_or};
 
 use crate::expression::operand;
 use crate::{domain, expression, promoted};
 use dpl_domain::Index;
+use dpl_frame::{DomainWord, Frame, RangeWord, Trap, Truth, Turn};
+use dpl_loop::{Gate, Stop};
 use dpl_nodes::{
-    BoolExpr, DomainExpr, DomainWord, Frame, IndexExpr, IntExpr, PromotedInt, PromotedTruth,
-    RangeExpr, RangeWord, RangesExpr, Spot, Trap, Truth, Turn,
+    BoolExpr, DomainExpr, IndexExpr, IntExpr, PromotedInt, PromotedTruth, RangeExpr, RangesExpr,
+    Spot,
 };
 
 /// The value of an int.
 ///
 /// # Errors
-/// The fault of a part: `F2` at a division by zero, `F4` at an end of an empty range, `F1` at an array's name, `F5` at `reduce`.
+/// The fault of a part: `F2` at a division by zero, `F4` at an end of an empty range, `F1` at an array's name, `F5` at `reduce`;
+/// or the gate refused an entry of a reduction, as for each value here.
 #[inline(always)]
-pub fn int_value(e: &IntExpr<'_>, frame: &Frame<'_>) -> Result<i64, Trap>
-    ensures { value_of frame.now.limits in_memory (int_view e.now) None frame.now.memory ≡ of_int result }
+pub fn int_value<G: Gate>(e: &IntExpr<'_>, frame: &Frame<'_>, gate: &G) -> Result<i64, Stop>
+    ensures { Gives (MayRefuseSome (G.may_refuse gate.now)) Int result (value_of frame.now.limits in_memory (int_view e.now) None frame.now.memory) }
 {
     let mut turn = Turn::Absent;
-    match operand(e, frame, &mut turn) {
+    match operand(e, frame, gate, &mut turn) {
         Ok(value) => Ok(value),
-        Err(alarm) => Err(alarm.in_turn(&turn)),
+        Err(alarm) => Err(Stop::of(alarm, &turn)),
     }
 }
 
@@ -39,13 +44,13 @@ pub fn int_value(e: &IntExpr<'_>, frame: &Frame<'_>) -> Result<i64, Trap>
 ///
 /// # Errors
 /// The fault of an operand.
-pub fn truth_value(e: &BoolExpr<'_>, frame: &Frame<'_>) -> Result<Truth, Trap>
-    ensures { value_of frame.now.limits in_memory (truth_view e.now) None frame.now.memory ≡ of_truth result }
+pub fn truth_value<G: Gate>(e: &BoolExpr<'_>, frame: &Frame<'_>, gate: &G) -> Result<Truth, Stop>
+    ensures { Gives (MayRefuseSome (G.may_refuse gate.now)) TruthValue result (value_of frame.now.limits in_memory (truth_view e.now) None frame.now.memory) }
 {
     let mut turn = Turn::Absent;
-    match expression::truth_value(e, frame, &mut turn) {
+    match expression::truth_value(e, frame, gate, &mut turn) {
         Ok(value) => Ok(value),
-        Err(alarm) => Err(alarm.in_turn(&turn)),
+        Err(alarm) => Err(Stop::of(alarm, &turn)),
     }
 }
 
@@ -53,13 +58,17 @@ pub fn truth_value(e: &BoolExpr<'_>, frame: &Frame<'_>) -> Result<Truth, Trap>
 ///
 /// # Errors
 /// `F3` at the dots for a bound or a count past its limit, and at `by` for a stride; the fault of a part.
-pub fn range_value(e: &RangeExpr<'_>, frame: &Frame<'_>) -> Result<RangeWord, Trap>
-    ensures { item_of frame.now.limits in_memory (range_item e.now) None frame.now.memory ≡ of_range result }
+pub fn range_value<G: Gate>(
+    e: &RangeExpr<'_>,
+    frame: &Frame<'_>,
+    gate: &G,
+) -> Result<RangeWord, Stop>
+    ensures { Gives (MayRefuseSome (G.may_refuse gate.now)) as_range result (item_of frame.now.limits in_memory (range_item e.now) None frame.now.memory) }
 {
     let mut turn = Turn::Absent;
-    match expression::range_value(e, frame, &mut turn) {
+    match expression::range_value(e, frame, gate, &mut turn) {
         Ok(value) => Ok(value),
-        Err(alarm) => Err(alarm.in_turn(&turn)),
+        Err(alarm) => Err(Stop::of(alarm, &turn)),
     }
 }
 
@@ -67,13 +76,17 @@ pub fn range_value(e: &RangeExpr<'_>, frame: &Frame<'_>) -> Result<RangeWord, Tr
 ///
 /// # Errors
 /// `F3` at the opening bracket for too many indices, and at `expand` for these or for a bound past its limit; the fault of a part.
-pub fn domain_value(e: &DomainExpr<'_>, frame: &Frame<'_>) -> Result<DomainWord, Trap>
-    ensures { value_of frame.now.limits in_memory (domain_view e.now) None frame.now.memory ≡ of_domain result }
+pub fn domain_value<G: Gate>(
+    e: &DomainExpr<'_>,
+    frame: &Frame<'_>,
+    gate: &G,
+) -> Result<DomainWord, Stop>
+    ensures { Gives (MayRefuseSome (G.may_refuse gate.now)) DomainValue result (value_of frame.now.limits in_memory (domain_view e.now) None frame.now.memory) }
 {
     let mut turn = Turn::Absent;
-    match expression::domain_value(e, frame, &mut turn) {
+    match expression::domain_value(e, frame, gate, &mut turn) {
         Ok(value) => Ok(value),
-        Err(alarm) => Err(alarm.in_turn(&turn)),
+        Err(alarm) => Err(Stop::of(alarm, &turn)),
     }
 }
 
@@ -81,13 +94,13 @@ pub fn domain_value(e: &DomainExpr<'_>, frame: &Frame<'_>) -> Result<DomainWord,
 ///
 /// # Errors
 /// The fault of a coordinate.
-pub fn index_value(t: &IndexExpr<'_>, frame: &Frame<'_>) -> Result<Index, Trap>
-    ensures { with_ok (values_of frame.now.limits in_memory (index_exprs t.now) frame.now.memory) (λ vs. Ok (index_of vs)) ≡ result }
+pub fn index_value<G: Gate>(t: &IndexExpr<'_>, frame: &Frame<'_>, gate: &G) -> Result<Index, Stop>
+    ensures { Gives (MayRefuseSome (G.may_refuse gate.now)) (λ t. t) result (with_ok (values_of frame.now.limits in_memory (index_exprs t.now) frame.now.memory) (λ vs. Ok (index_of vs))) }
 {
     let mut turn = Turn::Absent;
-    match expression::index_value(t, frame, &mut turn) {
+    match expression::index_value(t, frame, gate, &mut turn) {
         Ok(value) => Ok(value),
-        Err(alarm) => Err(alarm.in_turn(&turn)),
+        Err(alarm) => Err(Stop::of(alarm, &turn)),
     }
 }
 
@@ -95,13 +108,18 @@ pub fn index_value(t: &IndexExpr<'_>, frame: &Frame<'_>) -> Result<Index, Trap>
 ///
 /// # Errors
 /// The fault of a range; `F3` at the opening bracket for too many indices.
-pub fn literal(at: &Spot, ranges: &RangesExpr<'_>, frame: &Frame<'_>) -> Result<DomainWord, Trap>
-    ensures { with_ok (items_of frame.now.limits in_memory (ranges_items ranges.now) frame.now.memory) (λ vs. sized_of at.now (all_ranges vs)) ≡ of_domain result }
+pub fn literal<G: Gate>(
+    at: &Spot,
+    ranges: &RangesExpr<'_>,
+    frame: &Frame<'_>,
+    gate: &G,
+) -> Result<DomainWord, Stop>
+    ensures { Gives (MayRefuseSome (G.may_refuse gate.now)) DomainValue result (with_ok (items_of frame.now.limits in_memory (ranges_items ranges.now) frame.now.memory) (λ vs. sized_of at.now (all_ranges vs))) }
 {
     let mut turn = Turn::Absent;
-    match expression::literal(at, ranges, frame, &mut turn) {
+    match expression::literal(at, ranges, frame, gate, &mut turn) {
         Ok(value) => Ok(value),
-        Err(alarm) => Err(alarm.in_turn(&turn)),
+        Err(alarm) => Err(Stop::of(alarm, &turn)),
     }
 }
 
@@ -123,17 +141,18 @@ pub fn sized(at: &Spot, domain: Option<DomainWord>) -> Result<DomainWord, Trap>
 ///
 /// # Errors
 /// `F1` at the name of an array that hasn't the index; the fault of a part.
-pub fn promoted_int_value(
+pub fn promoted_int_value<G: Gate>(
     e: &PromotedInt<'_>,
     index: &Index,
     frame: &Frame<'_>,
-) -> Result<i64, Trap>
-    ensures { value_of frame.now.limits in_memory (promoted_int EachTurn e.now) (Some index.now) frame.now.memory ≡ of_int result }
+    gate: &G,
+) -> Result<i64, Stop>
+    ensures { Gives (MayRefuseSome (G.may_refuse gate.now)) Int result (value_of frame.now.limits in_memory (promoted_int EachTurn e.now) (Some index.now) frame.now.memory) }
 {
     let mut turn = Turn::Absent;
-    match promoted::operand(e, index, frame, &mut turn) {
+    match promoted::operand(e, index, frame, gate, &mut turn) {
         Ok(value) => Ok(value),
-        Err(alarm) => Err(alarm.in_turn(&turn)),
+        Err(alarm) => Err(Stop::of(alarm, &turn)),
     }
 }
 
@@ -141,16 +160,17 @@ pub fn promoted_int_value(
 ///
 /// # Errors
 /// `F1` at the name of an array that hasn't the index; the fault of a part.
-pub fn promoted_truth_value(
+pub fn promoted_truth_value<G: Gate>(
     e: &PromotedTruth<'_>,
     index: &Index,
     frame: &Frame<'_>,
-) -> Result<Truth, Trap>
-    ensures { value_of frame.now.limits in_memory (promoted_truth EachTurn e.now) (Some index.now) frame.now.memory ≡ of_truth result }
+    gate: &G,
+) -> Result<Truth, Stop>
+    ensures { Gives (MayRefuseSome (G.may_refuse gate.now)) TruthValue result (value_of frame.now.limits in_memory (promoted_truth EachTurn e.now) (Some index.now) frame.now.memory) }
 {
     let mut turn = Turn::Absent;
-    match promoted::promoted_truth_value(e, index, frame, &mut turn) {
+    match promoted::promoted_truth_value(e, index, frame, gate, &mut turn) {
         Ok(value) => Ok(value),
-        Err(alarm) => Err(alarm.in_turn(&turn)),
+        Err(alarm) => Err(Stop::of(alarm, &turn)),
     }
 }

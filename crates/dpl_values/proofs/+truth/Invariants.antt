@@ -1,19 +1,16 @@
--- What the values so far and those of the indices that are left give, from here, is what all give from the start.
-use Rattle.std.proofs.Common.{◌≡◌, length}
-use Rattle.dpl_language.specs.Values.{Truth}
-use Rattle.dpl_language.specs.Arithmetic.{unit_of}
-use Rattle.dpl_language.specs.Ranges.{indices_in}
-use Rattle.dpl_language.specs.Expressions.{folded}
-use Rattle.dpl_lowered.specs.LoweredExpressions.{EachTurn}
-use Rattle.dpl_nodes.specs.Typed.{promoted_truth, truth_fold_view}
-use Rattle.dpl_values.proofs.Folds.{value_at}
+-- A walk goes down a tree. Of one tree a reduction comes before the function that gives its items, and that before the walk itself.
+use Rattle.std.proofs.Common.{◌+◌, ◌*◌}
+use Rattle.dpl_nodes.specs.declared.tree.PromotedTruth.{size-PromotedTruth}
 use Rattle.dpl_values.proofs.+truth.Given as goal
 
-abbrev pub invariant-reduction::folded_truths-loop-index : goal.invariant-reduction::folded_truths-loop-index
-invariant-reduction::folded_truths-loop-index l =
-    let op = truth_fold_view l.fold in
-    let value = value_at l.frame.limits l.frame.memory (promoted_truth EachTurn l.e) in
-    folded op value l.indices (Truth l.so_far) ≡ folded op value (indices_in l.fn.domain) (unit_of op)
+abbrev pub decreases-expression::truth_value : goal.decreases-expression::truth_value
+decreases-expression::truth_value g l = 4 * goal.size-expression::truth_value g l
 
-abbrev pub decreases-reduction::folded_truths-loop-index : goal.decreases-reduction::folded_truths-loop-index
-decreases-reduction::folded_truths-loop-index l = length l.indices
+abbrev pub decreases-promoted::promoted_truth_value : goal.decreases-promoted::promoted_truth_value
+decreases-promoted::promoted_truth_value g l = 4 * goal.size-promoted::promoted_truth_value g l
+
+abbrev pub decreases-reduction::reduced_truth-item_at : goal.decreases-reduction::reduced_truth-item_at
+decreases-reduction::reduced_truth-item_at g l = 4 * size-PromotedTruth l.e.now + 2
+
+abbrev pub decreases-reduction::reduced_truth : goal.decreases-reduction::reduced_truth
+decreases-reduction::reduced_truth g l = 4 * goal.size-reduction::reduced_truth g l + 3

@@ -1,80 +1,110 @@
 -- What stands behind a range or a domain is by its value, and a scalar has at an index the value that it has without one;
--- all else the prover finds by itself.
-use Rattle.std.proofs.Common.{◌≡◌, ◌<◌, rules, length, drop, subst, pos, true, false, [], ◌∷◌, None, Some, Ok, Err, refl, sym, ap, ◌∙◌, w64, to_z, of_z, FitsSigned}
+-- a reduction is the fold of the items at all indices. All else the prover finds by itself.
+use Rattle.std.proofs.Common.{get_or, ◌≡◌, ⊎_elim, rules, pos, true, false, [], ◌∷◌, None, Some, Ok, Err, refl, sym, subst, ap, ◌∙◌, w64, to_z, of_z, FitsSigned}
 use Rattle.std.proofs.lemmas.Int.{to_z-of_z}
+use Rattle.std.proofs.lemmas.Result.{err_from_is_err_and}
+use Rattle.std.specs.Option.{option_map}
 use Rattle.dpl_language.specs.Tree.{Plainly, Size, First, Last, Low, High, Expand}
-use Rattle.dpl_language.specs.Values.{Int, Domain, number, fault, PastLimit, InNone, in_the_turn}
+use Rattle.dpl_language.specs.Values.{Index, Int, Domain, number, fault, PastLimit}
 use Rattle.dpl_language.specs.Ranges.{size_in, expanded}
 use Rattle.dpl_language.specs.Outcome.{with_ok}
-use Rattle.dpl_language.specs.Expressions.{folded, value_of, item_of}
+use Rattle.dpl_language.specs.Expressions.{value_of, item_of, reduction, fold_over}
 use Rattle.dpl_lowered.specs.Shapes.{nowhere}
 use Rattle.dpl_lowered.specs.LoweredExpressions.{EachTurn}
-use Rattle.dpl_memory.specs.Memory.{in_memory}
+use Rattle.dpl_memory.specs.Memory.{array_at, in_memory}
 use Rattle.dpl_nodes.specs.Typed.{int_view, range_item, ranges_items, domain_view, promoted_int, int_fold_view}
-use Rattle.dpl_nodes.specs.Faults.{of_int, of_domain, telling}
 use Rattle.dpl_nodes.proofs.Promotions.{int_view-at}
+use Rattle.dpl_frame.specs.Faults.{Tells, as_range}
 use Rattle.dpl_contents.specs.Range.{range_word}
-use Rattle.dpl_values.proofs.Views.{method_fault, method_answer, slice_fault, slice_cut_fault, slice_answer, expanded-within, expanded-past, domain_answer, domain_slice}
-use Rattle.dpl_values.proofs.Folds.{value_at, left-end, left-smaller, folded-next}
+use Rattle.dpl_loop.specs.Entries.{MayRefuseSome}
+use Rattle.dpl_map.specs.Maps.{owner, whole_map}
+use Rattle.dpl_loop.proofs.Folding.{with_ok-ends}
+use Rattle.dpl_values.specs.Elements.{within_at}
+use Rattle.dpl_values.proofs.First.{ints_whole}
+use Rattle.dpl_values.proofs.Folds.{reduction-within}
+use Rattle.dpl_values.proofs.Telling.{told, tells-as}
+use Rattle.dpl_values.proofs.Views.{method_ends, method_answer, slice_ends, cut_ends, slice_answer, expanded-within, expanded-past, domain_answer, domain_slice}
 use Rattle.dpl_values.proofs.+walk.Goals as goal
 
 pub expression::size_of-returns-in_err-range_value : goal.expression::size_of-returns-in_err-range_value
-expression::size_of-returns-in_err-range_value t c =
-    method_fault c.args.frame.now.limits c.args.frame.now.memory c.args.r.now (Plainly nowhere Size) _ c.in_err-range_value.ensures ∙ search rules
+expression::size_of-returns-in_err-range_value g t c =
+    let p = err_from_is_err_and c.from_residual.result c.from_residual.ensures.1 in
+    rw (p.1, p.2)
+    (method_ends c.args.frame.now.limits c.args.frame.now.memory (MayRefuseSome (g.G.Gate.may_refuse c.args.gate.now)) Int c.range_value.new.turn c.in_err-range_value.field-0.0 c.args.r.now (Plainly nowhere Size) c.in_err-range_value.ensures)
 
 pub expression::size_of-returns : goal.expression::size_of-returns
-expression::size_of-returns t c =
+expression::size_of-returns g t c =
     let x = range_word c.in_ok-range_value.field-0 in
     method_answer c.args.frame.now.limits c.args.frame.now.memory c.args.r.now (Plainly nowhere Size) x (Ok (Int (pos (size_in (x ∷ []))))) c.in_ok-range_value.ensures refl ∙ search rules
 
 pub expression::first_of-returns-in_err-range : goal.expression::first_of-returns-in_err-range
-expression::first_of-returns-in_err-range t c =
-    method_fault c.args.frame.now.limits c.args.frame.now.memory c.args.r.now (Plainly c.args.at.now First) _ c.in_err-range.ensures ∙ search rules
+expression::first_of-returns-in_err-range g t c =
+    let p = err_from_is_err_and c.from_residual.result c.from_residual.ensures.1 in
+    rw (p.1, p.2)
+    (method_ends c.args.frame.now.limits c.args.frame.now.memory (MayRefuseSome (g.G.Gate.may_refuse c.args.gate.now)) Int c.range_value.new.turn c.in_err-range.field-0.0 c.args.r.now (Plainly c.args.at.now First) c.in_err-range.ensures)
 
 pub expression::first_of-returns : goal.expression::first_of-returns
-expression::first_of-returns t c =
-    method_answer c.args.frame.now.limits c.args.frame.now.memory c.args.r.now (Plainly c.args.at.now First) (range_word c.in_ok-range.range) (of_int (telling c.first.new.turn c.first.result)) c.in_ok-range.ensures (sym c.first.ensures)
+expression::first_of-returns g t c =
+    tells-as ⊥ Int c.first.new.turn _ c.first.result _ _ absurd
+    (method_answer c.args.frame.now.limits c.args.frame.now.memory c.args.r.now (Plainly c.args.at.now First) (range_word c.in_ok-range.range) _ c.in_ok-range.ensures refl)
+    c.first.ensures
 
 pub expression::last_of-returns-in_err-range : goal.expression::last_of-returns-in_err-range
-expression::last_of-returns-in_err-range t c =
-    method_fault c.args.frame.now.limits c.args.frame.now.memory c.args.r.now (Plainly c.args.at.now Last) _ c.in_err-range.ensures ∙ search rules
+expression::last_of-returns-in_err-range g t c =
+    let p = err_from_is_err_and c.from_residual.result c.from_residual.ensures.1 in
+    rw (p.1, p.2)
+    (method_ends c.args.frame.now.limits c.args.frame.now.memory (MayRefuseSome (g.G.Gate.may_refuse c.args.gate.now)) Int c.range_value.new.turn c.in_err-range.field-0.0 c.args.r.now (Plainly c.args.at.now Last) c.in_err-range.ensures)
 
 pub expression::last_of-returns : goal.expression::last_of-returns
-expression::last_of-returns t c =
-    method_answer c.args.frame.now.limits c.args.frame.now.memory c.args.r.now (Plainly c.args.at.now Last) (range_word c.in_ok-range.range) (of_int (telling c.last.new.turn c.last.result)) c.in_ok-range.ensures (sym c.last.ensures)
+expression::last_of-returns g t c =
+    tells-as ⊥ Int c.last.new.turn _ c.last.result _ _ absurd
+    (method_answer c.args.frame.now.limits c.args.frame.now.memory c.args.r.now (Plainly c.args.at.now Last) (range_word c.in_ok-range.range) _ c.in_ok-range.ensures refl)
+    c.last.ensures
 
 pub expression::low_of-returns-in_err-range : goal.expression::low_of-returns-in_err-range
-expression::low_of-returns-in_err-range t c =
-    method_fault c.args.frame.now.limits c.args.frame.now.memory c.args.r.now (Plainly c.args.at.now Low) _ c.in_err-range.ensures ∙ search rules
+expression::low_of-returns-in_err-range g t c =
+    let p = err_from_is_err_and c.from_residual.result c.from_residual.ensures.1 in
+    rw (p.1, p.2)
+    (method_ends c.args.frame.now.limits c.args.frame.now.memory (MayRefuseSome (g.G.Gate.may_refuse c.args.gate.now)) Int c.range_value.new.turn c.in_err-range.field-0.0 c.args.r.now (Plainly c.args.at.now Low) c.in_err-range.ensures)
 
 pub expression::low_of-returns : goal.expression::low_of-returns
-expression::low_of-returns t c =
-    method_answer c.args.frame.now.limits c.args.frame.now.memory c.args.r.now (Plainly c.args.at.now Low) (range_word c.in_ok-range.range) (of_int (telling c.low.new.turn c.low.result)) c.in_ok-range.ensures (sym c.low.ensures)
+expression::low_of-returns g t c =
+    tells-as ⊥ Int c.low.new.turn _ c.low.result _ _ absurd
+    (method_answer c.args.frame.now.limits c.args.frame.now.memory c.args.r.now (Plainly c.args.at.now Low) (range_word c.in_ok-range.range) _ c.in_ok-range.ensures refl)
+    c.low.ensures
 
 pub expression::high_of-returns-in_err-range : goal.expression::high_of-returns-in_err-range
-expression::high_of-returns-in_err-range t c =
-    method_fault c.args.frame.now.limits c.args.frame.now.memory c.args.r.now (Plainly c.args.at.now High) _ c.in_err-range.ensures ∙ search rules
+expression::high_of-returns-in_err-range g t c =
+    let p = err_from_is_err_and c.from_residual.result c.from_residual.ensures.1 in
+    rw (p.1, p.2)
+    (method_ends c.args.frame.now.limits c.args.frame.now.memory (MayRefuseSome (g.G.Gate.may_refuse c.args.gate.now)) Int c.range_value.new.turn c.in_err-range.field-0.0 c.args.r.now (Plainly c.args.at.now High) c.in_err-range.ensures)
 
 pub expression::high_of-returns : goal.expression::high_of-returns
-expression::high_of-returns t c =
-    method_answer c.args.frame.now.limits c.args.frame.now.memory c.args.r.now (Plainly c.args.at.now High) (range_word c.in_ok-range.range) (of_int (telling c.high.new.turn c.high.result)) c.in_ok-range.ensures (sym c.high.ensures)
+expression::high_of-returns g t c =
+    tells-as ⊥ Int c.high.new.turn _ c.high.result _ _ absurd
+    (method_answer c.args.frame.now.limits c.args.frame.now.memory c.args.r.now (Plainly c.args.at.now High) (range_word c.in_ok-range.range) _ c.in_ok-range.ensures refl)
+    c.high.ensures
 
 pub expression::range_value-returns-in_err-range-in-Slice : goal.expression::range_value-returns-in_err-range-in-Slice
-expression::range_value-returns-in_err-range-in-Slice t c =
+expression::range_value-returns-in_err-range-in-Slice g t c =
     let limits = c.args.frame.now.limits in
     let w = c.args.frame.now.memory in
-    ap (λ e. item_of limits in_memory (range_item e) None w) c.in-Slice.is
-    ∙ slice_fault limits w c.in-Slice.r.now c.in-Slice.cut.now _ c.in_err-range-in-Slice.ensures ∙ search rules
+    let p = err_from_is_err_and c.from_residual-in_err-range-in-Slice.result c.from_residual-in_err-range-in-Slice.ensures.1 in
+    rw (p.1, p.2)
+    (subst (λ e. Tells (MayRefuseSome (g.G.Gate.may_refuse c.args.gate.now)) as_range c.range_value.new.turn (Err c.in_err-range-in-Slice.field-0.0) (item_of limits in_memory (range_item e) None w)) (sym c.in-Slice.is)
+    (slice_ends limits w (MayRefuseSome (g.G.Gate.may_refuse c.args.gate.now)) as_range c.range_value.new.turn c.in_err-range-in-Slice.field-0.0 c.in-Slice.r.now c.in-Slice.cut.now c.in_err-range-in-Slice.ensures))
 
 pub expression::range_value-returns-in_err-cut-in-Slice : goal.expression::range_value-returns-in_err-cut-in-Slice
-expression::range_value-returns-in_err-cut-in-Slice t c =
+expression::range_value-returns-in_err-cut-in-Slice g t c =
     let limits = c.args.frame.now.limits in
     let w = c.args.frame.now.memory in
-    ap (λ e. item_of limits in_memory (range_item e) None w) c.in-Slice.is
-    ∙ slice_cut_fault limits w c.in-Slice.r.now c.in-Slice.cut.now (range_word c.in_ok-range-in-Slice.range) _ c.in_ok-range-in-Slice.ensures c.in_err-cut-in-Slice.ensures ∙ search rules
+    let p = err_from_is_err_and c.from_residual-in_err-cut-in-Slice.result c.from_residual-in_err-cut-in-Slice.ensures.1 in
+    rw (p.1, p.2)
+    (subst (λ e. Tells (MayRefuseSome (g.G.Gate.may_refuse c.args.gate.now)) as_range c.range_value-in-Slice.new.turn (Err c.in_err-cut-in-Slice.field-0.0) (item_of limits in_memory (range_item e) None w)) (sym c.in-Slice.is)
+    (cut_ends limits w (MayRefuseSome (g.G.Gate.may_refuse c.args.gate.now)) as_range c.range_value-in-Slice.new.turn c.in_err-cut-in-Slice.field-0.0 c.in-Slice.r.now c.in-Slice.cut.now (range_word c.in_ok-range-in-Slice.range) c.in_ok-range-in-Slice.ensures c.in_err-cut-in-Slice.ensures))
 
 pub expression::range_value-returns-in_ok-cut-in-Slice : goal.expression::range_value-returns-in_ok-cut-in-Slice
-expression::range_value-returns-in_ok-cut-in-Slice t c =
+expression::range_value-returns-in_ok-cut-in-Slice g t c =
     let limits = c.args.frame.now.limits in
     let w = c.args.frame.now.memory in
     ap (λ e. item_of limits in_memory (range_item e) None w) c.in-Slice.is
@@ -82,14 +112,16 @@ expression::range_value-returns-in_ok-cut-in-Slice t c =
     ∙ search rules
 
 pub expression::domain_value-returns-in_ok-domain-in-Slice : goal.expression::domain_value-returns-in_ok-domain-in-Slice
-expression::domain_value-returns-in_ok-domain-in-Slice t c =
+expression::domain_value-returns-in_ok-domain-in-Slice g t c =
     let limits = c.args.frame.now.limits in
     let w = c.args.frame.now.memory in
-    ap (λ e. value_of limits in_memory (domain_view e) None w) c.in-Slice.is
-    ∙ domain_slice limits w c.in-Slice.d.now (ranges_items c.in-Slice.ranges.now) c.in_ok-domain-in-Slice.domain (of_domain (telling c.cut.new.turn c.cut.result)) c.in_ok-domain-in-Slice.ensures c.cut.ensures
+    tells-as _ Domain c.cut.new.turn _ c.cut.result _ _ (λ m. m)
+    (ap (λ e. value_of limits in_memory (domain_view e) None w) c.in-Slice.is
+    ∙ domain_slice limits w c.in-Slice.d.now (ranges_items c.in-Slice.ranges.now) c.in_ok-domain-in-Slice.domain _ c.in_ok-domain-in-Slice.ensures refl)
+    c.cut.ensures
 
 pub expression::domain_value-returns-in-Some : goal.expression::domain_value-returns-in-Some
-expression::domain_value-returns-in-Some t c =
+expression::domain_value-returns-in-Some g t c =
     let limits = c.args.frame.now.limits in
     let w = c.args.frame.now.memory in
     let at = c.in-Expanded.at.now in
@@ -103,7 +135,7 @@ expression::domain_value-returns-in-Some t c =
     (ap (λ r. with_ok r (λ v. expanded at (number v) d)) c.in_ok-k-in-Expanded.ensures ∙ ap (λ n. expanded at n d) (sym (to_z-of_z w64 k fits)) ∙ expanded-within at z d small.0 small.1 ∙ ap (λ rs. Ok (Domain rs)) (sym c.in-Some.ensures.held))
 
 pub expression::domain_value-returns-in-None : goal.expression::domain_value-returns-in-None
-expression::domain_value-returns-in-None t c =
+expression::domain_value-returns-in-None g t c =
     let limits = c.args.frame.now.limits in
     let w = c.args.frame.now.memory in
     let at = c.in-Expanded.at.now in
@@ -111,50 +143,61 @@ expression::domain_value-returns-in-None t c =
     let k = c.in_ok-k-in-Expanded.k in
     let fits : FitsSigned w64 k = search rules in
     let z = to_z w64 (of_z w64 k) in
-    ap (λ e. value_of limits in_memory (domain_view e) None w) c.in-Expanded.is
+    told _ Domain c.new.new.turn c.new.result (fault PastLimit at) _ c.new.ensures.alarm c.new.ensures.no_turn
+    (ap (λ e. value_of limits in_memory (domain_view e) None w) c.in-Expanded.is
     ∙ domain_answer limits w c.in-Expanded.d.now (Expand at nowhere (int_view c.in-Expanded.k.now) nowhere) d (Err (fault PastLimit at)) c.in_ok-domain-in-Expanded.ensures
     (ap (λ r. with_ok r (λ v. expanded at (number v) d)) c.in_ok-k-in-Expanded.ensures ∙ ap (λ n. expanded at n d) (sym (to_z-of_z w64 k fits))
-    ∙ expanded-past at z d (λ both. (let clash : false ≡ true = c.in-None.ensures.some.1 both in cc)))
-    ∙ sym (ap (λ t. Err (in_the_turn t c.new.result)) c.new.ensures.no_turn ∙ ap (λ f. Err (in_the_turn InNone f)) c.new.ensures.alarm)
+    ∙ expanded-past at z d (λ both. (let clash : false ≡ true = c.in-None.ensures.some.1 both in cc))))
 
 pub promoted::operand-returns-in-Scalar : goal.promoted::operand-returns-in-Scalar
-promoted::operand-returns-in-Scalar t c =
+promoted::operand-returns-in-Scalar g t c =
     let limits = c.args.frame.now.limits in
     let w = c.args.frame.now.memory in
-    ap (λ e. value_of limits in_memory (promoted_int EachTurn e) (Some c.args.index.now) w) c.in-Scalar.is
-    ∙ int_view-at limits w c.in-Scalar.e.now c.args.index.now ∙ c.operand.ensures
+    tells-as _ Int c.operand.new.turn _ c.operand.result _ _ (λ m. m)
+    (ap (λ e. value_of limits in_memory (promoted_int EachTurn e) (Some c.args.index.now) w) c.in-Scalar.is ∙ int_view-at limits w c.in-Scalar.e.now c.args.index.now)
+    c.operand.ensures
 
 pub promoted::promoted_int_value-returns-in-Scalar : goal.promoted::promoted_int_value-returns-in-Scalar
-promoted::promoted_int_value-returns-in-Scalar t c =
+promoted::promoted_int_value-returns-in-Scalar g t c =
     let limits = c.args.frame.now.limits in
     let w = c.args.frame.now.memory in
-    ap (λ e. value_of limits in_memory (promoted_int EachTurn e) (Some c.args.index.now) w) c.in-Scalar.is
-    ∙ int_view-at limits w c.in-Scalar.e.now c.args.index.now ∙ c.operand.ensures
+    tells-as _ Int c.operand.new.turn _ c.operand.result _ _ (λ m. m)
+    (ap (λ e. value_of limits in_memory (promoted_int EachTurn e) (Some c.args.index.now) w) c.in-Scalar.is ∙ int_view-at limits w c.in-Scalar.e.now c.args.index.now)
+    c.operand.ensures
 
 -- ---- reductions
-pub reduction::folded_ints-loop-index-smaller : goal.reduction::folded_ints-loop-index-smaller
-reduction::folded_ints-loop-index-smaller t c =
-    let ts = c.loop-index.indices in
-    subst (λ us. length us < length ts) (sym c.next.ensures.rest) (left-smaller ts c.in-Some.index (sym c.in-Some.ensures.next))
-
-pub reduction::folded_ints-loop-index-preserved : goal.reduction::folded_ints-loop-index-preserved
-reduction::folded_ints-loop-index-preserved t c =
+pub reduction::reduced_int-returns-in_default : goal.reduction::reduced_int-returns-in_default
+reduction::reduced_int-returns-in_default g t c =
+    let limits = c.args.frame.now.limits in
+    let w = c.args.frame.now.memory in
     let op = int_fold_view c.args.fold in
-    let value = value_at c.args.frame.now.limits c.args.frame.now.memory (promoted_int EachTurn c.args.e.now) in
-    let ts = c.loop-index.indices in
-    let n = c.in_ok-value.value in
-    let r = c.combined_ints-so_far.result in
-    let one_fits : FitsSigned w64 n = search rules in
-    let fits : FitsSigned w64 r = search rules in
-    ap (λ n. folded op value c.next.new.self (Int n)) (to_z-of_z w64 r fits)
-    ∙ ap (λ us. folded op value us (Int r)) c.next.ensures.rest
-    ∙ ap (λ v. folded op value (drop 1 ts) v) c.combined_ints-so_far.ensures
-    ∙ folded-next op value ts c.in-Some.index (Int (to_z w64 (of_z w64 n))) (Int (to_z w64 c.loop-index.so_far-bits)) (sym c.in-Some.ensures.next)
-    (c.in_ok-value.ensures ∙ ap (λ k. Ok (Int k)) (sym (to_z-of_z w64 n one_fits)))
-    ∙ c.loop-index.invariant
+    let value = λ (i : Index). value_of limits in_memory (promoted_int EachTurn c.args.e.now) (Some i) w in
+    ap (reduction limits.budget c.args.at.now op value) (ints_whole limits w c.args.e.now ∙ ap (option_map (λ slot. (array_at slot w).ranges)) (sym c.int_array.ensures ∙ c.in_default.is))
+    ∙ ap (λ v. Ok v) (sym c.int_over_none.ensures) ∙ search rules
 
-pub reduction::folded_ints-returns : goal.reduction::folded_ints-returns
-reduction::folded_ints-returns t c =
+pub reduction::reduced_int-returns-in_err-within_turns : goal.reduction::reduced_int-returns-in_err-within_turns
+reduction::reduced_int-returns-in_err-within_turns g t c =
+    let limits = c.args.frame.now.limits in
+    let w = c.args.frame.now.memory in
     let op = int_fold_view c.args.fold in
-    let value = value_at c.args.frame.now.limits c.args.frame.now.memory (promoted_int EachTurn c.args.e.now) in
-    sym c.loop-index.invariant ∙ ap (λ us. folded op value us (Int (to_z w64 c.loop-index.so_far-bits))) (left-end c.loop-index.indices (sym c.in_default.ensures.next))
+    let value = λ (i : Index). value_of limits in_memory (promoted_int EachTurn c.args.e.now) (Some i) w in
+    let p = err_from_is_err_and c.from_residual.result c.from_residual.ensures.1 in
+    rw (p.1, p.2)
+    (with_ok-ends ⊥ _ (λ v. v) c.within_turns.new.turn c.in_err-within_turns.field-0.0 (within_at limits c.args.at.now c.array_domain-domain.result) (λ v. fold_over op value c.array_domain-domain.result) _ Int absurd
+    (ap (reduction limits.budget c.args.at.now op value) (ints_whole limits w c.args.e.now ∙ ap (option_map (λ slot. (array_at slot w).ranges)) (sym c.int_array.ensures ∙ c.in-Some.is) ∙ ap (λ rs. Some rs) (sym c.array_domain-domain.ensures))
+    ∙ reduction-within limits c.args.at.now op value c.array_domain-domain.result)
+    c.in_err-within_turns.ensures)
+
+pub reduction::reduced_int-returns : goal.reduction::reduced_int-returns
+reduction::reduced_int-returns g t c =
+    let limits = c.args.frame.now.limits in
+    let w = c.args.frame.now.memory in
+    let op = int_fold_view c.args.fold in
+    let value = λ (i : Index). value_of limits in_memory (promoted_int EachTurn c.args.e.now) (Some i) w in
+    tells-as _ Int c.folded.new.turn _ c.folded.result _ _
+    (⊎_elim (λ own. (owner (get_or c.args.frame.now.owners c.in-Some.slot whole_map) own.1, own.0, own.3)) (λ said. said.3.1))
+    (ap (reduction limits.budget c.args.at.now op value) (ints_whole limits w c.args.e.now ∙ ap (option_map (λ slot. (array_at slot w).ranges)) (sym c.int_array.ensures ∙ c.in-Some.is) ∙ ap (λ rs. Some rs) (sym c.array_domain-domain.ensures))
+    ∙ reduction-within limits c.args.at.now op value c.array_domain-domain.result
+    ∙ ap (λ r. with_ok r (λ v. fold_over op value c.array_domain-domain.result)) c.in_ok-within_turns.ensures
+    ∙ ap (fold_over op value) c.array_domain-domain.ensures)
+    (c.folded.ensures value (λ i before after r post. tells-as _ Int after.now (Unit {0}) r _ _ (λ m. tt) refl post.1))

@@ -10,6 +10,6 @@ pub returns-in-Some : goal.returns-in-Some
 returns-in-Some c =
     let fits : FitsSigned w64 c.in-Some.end = search rules in
     let limits : IsRange c.args.range.range = search rules in
-    ap (λ n. Ok (Int n)) (to_z-of_z w64 c.in-Some.end fits)
+    sym (ap (λ n. Ok (Int n)) (to_z-of_z w64 c.in-Some.end fits)
     ∙ ap (told_end c.args.at) (sym c.in-Some.is)
-    ∙ sym (end_of-greatest c.args.at c.args.range.range c.high.result limits (c.high.ensures.empty, c.high.ensures.member, c.high.ensures.greatest))
+    ∙ sym (end_of-greatest c.args.at c.args.range.range c.high.result limits (c.high.ensures.empty, c.high.ensures.member, c.high.ensures.greatest)))
