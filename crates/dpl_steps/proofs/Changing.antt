@@ -23,9 +23,31 @@ use Rattle.dpl_nodes.specs.declared.step.TruthDeed.TheVariants as deed
 use Rattle.dpl_nodes.specs.Steps.{unplaced_leaf, declared_as, assigned_to, int_changed, truth_changed}
 use Rattle.dpl_loop.specs.declared.stop.Stop.{Stop}
 use Rattle.dpl_loop.specs.declared.stop.Stop.TheVariants as stop
+use Rattle.dpl_frame.specs.Faults.{fault_view}
 use Rattle.dpl_loop.specs.Runs.{RunsTo}
-use Rattle.dpl_loop.specs.Tells.{TellsSame}
+use Rattle.dpl_loop.specs.Values.{Gives}
+use Rattle.dpl_loop.specs.Tells.{IsFault, TellsSame}
 use Rattle.dpl_steps.specs.Changes.{declared_memory, given_memory, assigned_memory, int_changed_by, int_memory, truth_memory, memory_after, ends_as}
+
+-- what is evaluated ends the run early: by its fault, as the meaning does, or where an entry was refused
+pub gives-halts : {A B : Type 0} (may more : Type 0) (value : A → B) (h : Stop) (v : Result B Fault) (s : Memory) (done : Deeds) (o : Outcome Memory)
+    → (may → more) → ((f : Fault) → v ≡ Err f → o ≡ StopAt f done) → Gives may value (Err h) v → RunsTo more (Err h) s done o
+gives-halts may more value (stop.Fault f) v s done o go faults gives = faults (fault_view f) gives
+gives-halts may more value stop.Memory v s done o go faults gives = absurd gives
+gives-halts may more value stop.Gate v s done o go faults gives = go gives
+
+-- a fault that is told
+pub fault-gives : {A B : Type 0} (may : Type 0) (value : A → B) (f : Fault) (h : Stop) (v : Result B Fault) → IsFault f h → v ≡ Err f → Gives may value (Err h) v
+fault-gives may value f (stop.Fault g) v is e = e ∙ ap Err (sym is)
+fault-gives may value f stop.Memory v is e = absurd is
+fault-gives may value f stop.Gate v is e = absurd is
+
+-- a change ends the run as the memory after it does
+pub gives-ends : (may : Type 0) (r : Result (Unit {0}) Stop) (s : Memory) (done : Deeds) (m : Result Memory Fault) (o : Outcome Memory) → o ≡ ends_as m done → Gives may (λ v. s) r m → RunsTo may r s done o
+gives-ends may (Ok v) s done m o e gives = e ∙ ap (λ m. ends_as m done) gives
+gives-ends may (Err (stop.Fault f)) s done m o e gives = e ∙ ap (λ m. ends_as m done) gives
+gives-ends may (Err stop.Memory) s done m o e gives = absurd gives
+gives-ends may (Err stop.Gate) s done m o e gives = gives
 
 -- a change that is told ends the run as the memory after it does
 pub told-ends : (may : Type 0) (r : Result (Unit {0}) Fault) (h : Result (Unit {0}) Stop) (s : Memory) (done : Deeds) (o : Outcome Memory) → TellsSame r h → o ≡ ends_as (memory_after r s) done → RunsTo may h s done o

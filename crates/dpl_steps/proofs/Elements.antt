@@ -7,7 +7,7 @@ use Rattle.dpl_language.specs.Tree.{Placed, Kind, Assign, Set, ExprTree, One}
 use Rattle.dpl_language.specs.Values.{Value, Domain, Index, index_of, kept_number, ranges_in, Fault, fault, ArrayTooLarge}
 use Rattle.dpl_language.specs.Arithmetic.{assign_divides, tested_divisor, assigned}
 use Rattle.dpl_language.specs.Ranges.{too_large}
-use Rattle.dpl_language.specs.Outcome.{Deeds, Done, Run, with_ok, with_value, unless}
+use Rattle.dpl_language.specs.Outcome.{Deeds, Done, Stop, Run, with_ok, with_value, unless}
 use Rattle.dpl_language.specs.Environment.{Limits}
 use Rattle.dpl_language.specs.Phrases.{cell_read}
 use Rattle.dpl_language.specs.Expressions.{found, value_of, values_of}
@@ -87,6 +87,14 @@ module _ (limits : Limits) where
       by (Err f) = refl
       by (Ok vs) = change-put k x op at (index_of vs) w s done divides replaces
 
+  -- an assignment to an element whose right side is a fault
+  pub exec-element-fault : (x : Placed Variable) (t : IndexExpr) (op : Assign) (at : Place) (e : ExprTree Variable) (s : Memory) (done : Deeds) (f : Fault)
+      → cell_read e ≡ None → value_of limits in_memory e None s ≡ Err f → exec limits in_memory (element_set x t op at e) s done ≡ Stop f done
+  exec-element-fault x t op at e s done f read value =
+      let signed_at = signed op (kept (assign_divides op) at) in
+      let go = λ (w : Value) (s : Memory) (done : Deeds). with_value (values_of limits in_memory (index_exprs t) s) (λ is. change limits in_memory x signed_at (index_of is) w) s done in
+      evaluated-item limits (One e) go s done read ∙ ap (λ r. with_value r go s done) value
+
   -- an assignment to a domain, by its value
   pub exec-domain : (x : DomainName) (e : ExprTree Variable) (s : Memory) (done : Deeds) (rs : List TextRange) → cell_read e ≡ None → value_of limits in_memory e None s ≡ Ok (Domain rs)
       → exec limits in_memory (whole_set (domain_leaf x) Set nowhere e) s done
@@ -94,6 +102,12 @@ module _ (limits : Limits) where
   exec-domain x e s done rs read value =
       evaluated-item limits (One e) (λ v s done. unless (too_large (ranges_in v) && is_some_array x.arrays.now) (fault ArrayTooLarge x.at.now) (λ s done. Done (redomained_in (domain_leaf x).name (ranges_in v) s) done) s done) s done read
       ∙ ap (λ r. with_value r (λ v s done. unless (too_large (ranges_in v) && is_some_array x.arrays.now) (fault ArrayTooLarge x.at.now) (λ s done. Done (redomained_in (domain_leaf x).name (ranges_in v) s) done) s done) s done) value
+
+  pub exec-domain-fault : (x : DomainName) (e : ExprTree Variable) (s : Memory) (done : Deeds) (f : Fault) → cell_read e ≡ None → value_of limits in_memory e None s ≡ Err f
+      → exec limits in_memory (whole_set (domain_leaf x) Set nowhere e) s done ≡ Stop f done
+  exec-domain-fault x e s done f read value =
+      let go = λ (v : Value) (s : Memory) (done : Deeds). unless (too_large (ranges_in v) && is_some_array x.arrays.now) (fault ArrayTooLarge x.at.now) (λ s done. Done (redomained_in (domain_leaf x).name (ranges_in v) s) done) s done in
+      evaluated-item limits (One e) go s done read ∙ ap (λ r. with_value r go s done) value
 
 -- what the test of a domain tells
 pub for_array-fault : (at : Place) (rs : List TextRange) (f : Fault) → for_array_at at rs ≡ Err f → (too_large rs ≡ true) × (fault ArrayTooLarge at ≡ f)

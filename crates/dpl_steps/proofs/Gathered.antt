@@ -11,7 +11,7 @@ use Rattle.dpl_language.specs.Outcome.{with_ok, naming_value}
 use Rattle.dpl_language.specs.Declarations.{gathered}
 use Rattle.dpl_memory.specs.Memory.{Held, with_word, held_with}
 use Rattle.dpl_contents.specs.Domains.{AreWritten}
-use Rattle.dpl_nodes.specs.Faults.{fault_view}
+use Rattle.dpl_frame.specs.Faults.{fault_view}
 use Rattle.dpl_loop.specs.declared.stop.Stop.{Stop}
 use Rattle.dpl_loop.specs.declared.stop.Stop.TheVariants as stop
 use Rattle.dpl_steps.specs.Runs.{Names, Gathers}
@@ -97,20 +97,21 @@ module _ (value : Index → Result Value Fault) (rs : List TextRange) where
       ends = sym (behind_words-value rs so_far.words w (naming_value t (value t)) (gathered value left) e) ∙ so_far.ends;
     }
 
-    pub gathered-next : Names (Ok w) (naming_value t (value t)) → AreGathered value rs left (held_with t w a)
-    gathered-next e = next-with so_far.rest refl e
+    pub gathered-next : (may : Type 0) → Names may (Ok w) (naming_value t (value t)) → AreGathered value rs left (held_with t w a)
+    gathered-next may e = next-with so_far.rest refl e
 
   -- a fault there is the fault of all
-  pub gathered-halts : (t : Index) (left : List Index) (a : Held) (h : Stop) → AreGathered value rs (t ∷ left) a → Names (Err h) (naming_value t (value t)) → Gathers (Err h) rs (gathered value (indices_in rs))
-  gathered-halts t left a (stop.Fault f) so_far e =
+  pub gathered-halts : (may more : Type 0) (t : Index) (left : List Index) (a : Held) (h : Stop) → (may → more) → AreGathered value rs (t ∷ left) a → Names may (Err h) (naming_value t (value t))
+      → Gathers more (Err h) rs (gathered value (indices_in rs))
+  gathered-halts may more t left a (stop.Fault f) go so_far e =
       behind_words-fault rs [] (gathered value (indices_in rs)) (fault_view f)
       (sym so_far.ends ∙ ap (λ r. behind_words rs so_far.words (with_ok r (λ v. with_ok (gathered value left) (λ vs. Ok (v ∷ vs))))) e)
-  gathered-halts t left a stop.Memory so_far e = tt
-  gathered-halts t left a stop.Gate so_far e = absurd e
+  gathered-halts may more t left a stop.Memory go so_far e = tt
+  gathered-halts may more t left a stop.Gate go so_far e = go e
 
   -- with no index left it is the array of all words
-  pub gathered-last : (a : Held) → AreGathered value rs [] a → Gathers (Ok a) rs (gathered value (indices_in rs))
-  gathered-last a so_far =
+  pub gathered-last : (may : Type 0) (a : Held) → AreGathered value rs [] a → Gathers may (Ok a) rs (gathered value (indices_in rs))
+  gathered-last may a so_far =
       let none : so_far.rest ≡ [] = no_words so_far.rest so_far.waits in
       sym so_far.ends
       ∙ ap Ok (sym (held-is a rs (so_far.words ++ []) so_far.ranges (so_far.held ∙ ap (λ ws. so_far.words ++ ws) none)))

@@ -12,10 +12,10 @@ use Rattle.dpl_language.specs.Statements.{exec}
 use Rattle.dpl_memory.specs.Memory.{Memory, in_memory}
 use Rattle.dpl_nodes.specs.declared.step.Argument.{Argument}
 use Rattle.dpl_nodes.specs.Steps.{written_as}
-use Rattle.dpl_nodes.specs.Faults.{fault_view}
+use Rattle.dpl_frame.specs.Faults.{fault_view}
 use Rattle.dpl_loop.specs.declared.stop.Stop.{Stop}
 use Rattle.dpl_loop.specs.declared.stop.Stop.TheVariants as stop
-use Rattle.dpl_loop.specs.Runs.{RunEnds}
+use Rattle.dpl_loop.specs.Runs.{RunsTo}
 use Rattle.dpl_steps.specs.Runs.{having_printed}
 use Rattle.dpl_steps.specs.Texts.{argument_text, arguments_text, behind, Grew, GrewBy}
 use Rattle.dpl_steps.proofs.Writing.{behind-append, exec-written}
@@ -54,15 +54,15 @@ module _ (limits : Limits) where
     grew_more first old new so_far.1 (behind-grew old new (argument_text limits a s) shown),
   )
 
-  pub texts-halt : (xs : List Argument) (k : ℕ) (a : Argument) (s : Memory) (first old new : List ℕ) (h : Stop) → k < length xs → a ≡ get_or xs k a → GrewBy (Err h) old new (argument_text limits a s)
-      → (behind old (arguments_text limits (drop k xs) s) ≡ behind first (arguments_text limits xs s)) × Grew first old → GrewBy (Err h) first new (arguments_text limits xs s)
-  texts-halt xs k a s first old new (stop.Fault f) within is shown so_far = (
+  pub texts-halt : (may : Type 0) (xs : List Argument) (k : ℕ) (a : Argument) (s : Memory) (first old new : List ℕ) (h : Stop) → k < length xs → a ≡ get_or xs k a → GrewBy may (Err h) old new (argument_text limits a s)
+      → (behind old (arguments_text limits (drop k xs) s) ≡ behind first (arguments_text limits xs s)) × Grew first old → GrewBy may (Err h) first new (arguments_text limits xs s)
+  texts-halt may xs k a s first old new (stop.Fault f) within is shown so_far = (
     behind-fault first (arguments_text limits xs s) (fault_view f)
         (sym so_far.0 ∙ ap (behind old) (texts-at xs k a s within is ∙ ap (λ r. with_ok r (λ t. with_ok (arguments_text limits (drop (k + 1) xs) s) (λ more. Ok (t ++ more)))) shown.0)),
     grew_more first old new so_far.1 shown.1,
   )
-  texts-halt xs k a s first old new stop.Memory within is shown so_far = tt
-  texts-halt xs k a s first old new stop.Gate within is shown so_far = absurd shown
+  texts-halt may xs k a s first old new stop.Memory within is shown so_far = tt
+  texts-halt may xs k a s first old new stop.Gate within is shown so_far = shown
 
   -- WRITES
   written-value : (ends_line : Bool) (s : Memory) (done : Deeds) (old new : List ℕ) (r : Result (List ℕ) Fault) → behind old r ≡ Ok new
@@ -77,11 +77,11 @@ module _ (limits : Limits) where
   written-ends ends_line xs s done old new e =
       exec-written limits ends_line xs s (having_printed old done) ∙ written-value ends_line s done old new (arguments_text limits xs s) e
 
-  pub written-halts : (ends_line : Bool) (xs : List Argument) (s : Memory) (done : Deeds) (old new : List ℕ) (h : Stop) → GrewBy (Err h) old new (arguments_text limits xs s)
-      → RunEnds (Err h) s (having_printed (take (length old) new) done) (exec limits in_memory (written_as ends_line xs) s (having_printed old done))
-  written-halts ends_line xs s done old new (stop.Fault f) e =
+  pub written-halts : (may : Type 0) (ends_line : Bool) (xs : List Argument) (s : Memory) (done : Deeds) (old new : List ℕ) (h : Stop) → GrewBy may (Err h) old new (arguments_text limits xs s)
+      → RunsTo may (Err h) s (having_printed (take (length old) new) done) (exec limits in_memory (written_as ends_line xs) s (having_printed old done))
+  written-halts may ends_line xs s done old new (stop.Fault f) e =
       exec-written limits ends_line xs s (having_printed old done)
       ∙ ap (λ r. with_value r (λ text s done. Done s (with_text (text ++ line_end ends_line) done)) s (having_printed old done)) e.0
       ∙ ap (λ text. StopAt (fault_view f) (having_printed text done)) (sym (ap (take (length old)) e.1.1 ∙ take-append_seam old e.1.0))
-  written-halts ends_line xs s done old new stop.Memory e = tt
-  written-halts ends_line xs s done old new stop.Gate e = absurd e
+  written-halts may ends_line xs s done old new stop.Memory e = tt
+  written-halts may ends_line xs s done old new stop.Gate e = e

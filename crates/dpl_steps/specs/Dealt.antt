@@ -1,13 +1,10 @@
 -- By which map the turns of a forall are dealt out over the locales: by that of the array that they write first; where they write
 -- none, by that of the name from which the loop's domain is derived; else locale 0 makes them all.
-use Rattle.std.specs.Prelude.{◌≡◌, ℕ, get_or, List, Option, Some, None, Result, Ok}
+use Rattle.std.specs.Prelude.{ℕ, get_or, List, Option, Some, None}
 use Rattle.dpl_map.specs.Maps.{AxisValue, whole_map}
 use Rattle.dpl_nodes.specs.declared.placing.Placing.{Placing}
 use Rattle.dpl_nodes.specs.declared.placing.Placing.TheVariants.{Of, Unmapped, Mapped, BlockCreated, CyclicCreated}
-use Rattle.dpl_nodes.specs.Frames.{Framed}
-use Rattle.dpl_language.specs.Values.{Value, Fault}
-use Rattle.dpl_language.specs.Ranges.{loop_ranges}
-use Rattle.dpl_loop.specs.Entries.{MayRefuse}
+use Rattle.dpl_frame.specs.Frames.{Framed}
 
 -- the map that a slot has in a frame
 abbrev pub owned_by : Framed → ℕ → List AxisValue
@@ -23,7 +20,3 @@ placed_by f CyclicCreated = whole_map
 abbrev pub dealt_by : Framed → Placing → Option ℕ → List AxisValue
 dealt_by f over (Some slot) = owned_by f slot
 dealt_by f over None = placed_by f over
-
--- a gate may refuse an entry of a forall over this value, where there is one
-abbrev pub MayRefuseOver : (ℕ → ℕ → Type 0) → ℕ → List AxisValue → Result Value Fault → Type 0
-MayRefuseOver may locales map over = (v : Value) × (over ≡ Ok v) × MayRefuse may map (loop_ranges locales v)

@@ -4,7 +4,7 @@ use Rattle.dpl_range.specs.Equality.{TextRange}
 use Rattle.dpl_map.specs.Maps.{AxisValue}
 use Rattle.dpl_language.specs.Values.{Value, Domain, Fault}
 use Rattle.dpl_nodes.specs.declared.placing.Placing.{Placing}
-use Rattle.dpl_nodes.specs.Frames.{Framed}
+use Rattle.dpl_frame.specs.Frames.{Framed}
 use Rattle.dpl_values.specs.Placed.{IsPlaced}
 
 -- the slot, and no other one, has the map of a domain with this value

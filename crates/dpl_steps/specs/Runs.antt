@@ -5,7 +5,7 @@ use Rattle.dpl_range.specs.Equality.{TextRange}
 use Rattle.dpl_language.specs.Values.{Value, kept_number, Fault as FaultValue}
 use Rattle.dpl_language.specs.Outcome.{Deeds, with_ok}
 use Rattle.dpl_memory.specs.Memory.{Held}
-use Rattle.dpl_nodes.specs.Faults.{fault_view}
+use Rattle.dpl_frame.specs.Faults.{fault_view}
 use Rattle.dpl_loop.specs.declared.stop.Stop.{Stop}
 use Rattle.dpl_loop.specs.declared.stop.Stop.TheVariants as stop
 
@@ -13,16 +13,16 @@ use Rattle.dpl_loop.specs.declared.stop.Stop.TheVariants as stop
 abbrev pub having_printed : List ℕ → Deeds → Deeds
 having_printed text done = record done { text = text }
 
--- the word of a value, or its fault
-abbrev pub Names : Result ℤ Stop → Result Value FaultValue → Type 0
-Names (Ok w) r = with_ok r (λ v. Ok (kept_number v)) ≡ Ok w
-Names (Err (stop.Fault f)) r = r ≡ Err (fault_view f)
-Names (Err stop.Memory) r = Unit {0}
-Names (Err stop.Gate) r = ⊥
+-- the word of a value, or its fault; or an entry was refused, which may be
+abbrev pub Names : Type 0 → Result ℤ Stop → Result Value FaultValue → Type 0
+Names may (Ok w) r = with_ok r (λ v. Ok (kept_number v)) ≡ Ok w
+Names may (Err (stop.Fault f)) r = r ≡ Err (fault_view f)
+Names may (Err stop.Memory) r = Unit {0}
+Names may (Err stop.Gate) r = may
 
--- an array of the words of values, over a domain; or their first fault
-abbrev pub Gathers : Result Held Stop → List TextRange → Result (List Value) FaultValue → Type 0
-Gathers (Ok a) rs g = with_ok g (λ vs. Ok (record { ranges = rs; words = map kept_number vs })) ≡ Ok a
-Gathers (Err (stop.Fault f)) rs g = g ≡ Err (fault_view f)
-Gathers (Err stop.Memory) rs g = Unit {0}
-Gathers (Err stop.Gate) rs g = ⊥
+-- an array of the words of values, over a domain; or their first fault; or an entry was refused
+abbrev pub Gathers : Type 0 → Result Held Stop → List TextRange → Result (List Value) FaultValue → Type 0
+Gathers may (Ok a) rs g = with_ok g (λ vs. Ok (record { ranges = rs; words = map kept_number vs })) ≡ Ok a
+Gathers may (Err (stop.Fault f)) rs g = g ≡ Err (fault_view f)
+Gathers may (Err stop.Memory) rs g = Unit {0}
+Gathers may (Err stop.Gate) rs g = may

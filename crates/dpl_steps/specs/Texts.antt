@@ -14,7 +14,7 @@ use Rattle.dpl_tree.specs.declared.operator.ScalarKind.{ScalarKind}
 use Rattle.dpl_nodes.specs.declared.step.Argument.{Argument}
 use Rattle.dpl_nodes.specs.declared.step.Argument.TheVariants.{Text, Int, Truth, Array}
 use Rattle.dpl_nodes.specs.Typed.{kind_view, int_view, truth_view}
-use Rattle.dpl_nodes.specs.Faults.{fault_view}
+use Rattle.dpl_frame.specs.Faults.{fault_view}
 use Rattle.dpl_loop.specs.declared.stop.Stop.{Stop}
 use Rattle.dpl_loop.specs.declared.stop.Stop.TheVariants as stop
 
@@ -44,9 +44,9 @@ behind text more = with_ok more (λ more. Ok (text ++ more))
 abbrev pub Grew : List ℕ → List ℕ → Type 0
 Grew old new = (more : List ℕ) × (new ≡ old ++ more)
 
--- a text grew by another; or there is the fault, and the text grew somehow
-abbrev pub GrewBy : Result (Unit {0}) Stop → List ℕ → List ℕ → Result (List ℕ) Fault → Type 0
-GrewBy (Ok v) old new more = behind old more ≡ Ok new
-GrewBy (Err (stop.Fault f)) old new more = (more ≡ Err (fault_view f)) × Grew old new
-GrewBy (Err stop.Memory) old new more = Unit {0}
-GrewBy (Err stop.Gate) old new more = ⊥
+-- a text grew by another; there is the fault, and the text grew somehow; or an entry was refused, which may be
+abbrev pub GrewBy : Type 0 → Result (Unit {0}) Stop → List ℕ → List ℕ → Result (List ℕ) Fault → Type 0
+GrewBy may (Ok v) old new more = behind old more ≡ Ok new
+GrewBy may (Err (stop.Fault f)) old new more = (more ≡ Err (fault_view f)) × Grew old new
+GrewBy may (Err stop.Memory) old new more = Unit {0}
+GrewBy may (Err stop.Gate) old new more = may

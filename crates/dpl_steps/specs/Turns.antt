@@ -2,12 +2,12 @@
 -- What a loop runs over is evaluated and tested before its first turn.
 use Rattle.std.specs.Prelude.{ℕ, ◌+◌, nat_lt, ℤ, pos, get_or, if◌then◌else◌, None, List, [], ◌∷◌, Result, Ok, Err}
 use Rattle.dpl_syntax.specs.declared.place.Place.{Place}
-use Rattle.dpl_language.specs.Tree.{ItemTree, Stmts}
+use Rattle.dpl_language.specs.Tree.{ItemTree, Stmts, Op}
 use Rattle.dpl_language.specs.Values.{Value, Int, Domain, Index, Fault, fault, Budget}
 use Rattle.dpl_language.specs.Ranges.{size_in, loop_ranges}
-use Rattle.dpl_language.specs.Outcome.{Done, Run, with_ok, then_do}
+use Rattle.dpl_language.specs.Outcome.{Done, Run, with_ok, then_do, in_order}
 use Rattle.dpl_language.specs.Environment.{Limits}
-use Rattle.dpl_language.specs.Loops.{bound_to}
+use Rattle.dpl_language.specs.Loops.{bound_to, named_turn}
 use Rattle.dpl_language.specs.Expressions.{item_of}
 use Rattle.dpl_language.specs.Statements.{exec_all}
 use Rattle.dpl_words.specs.Words.{IntLeaf}
@@ -44,3 +44,8 @@ bound_at names t s = bound_to in_memory (names_view names) (Domain []) t s
 
 abbrev pub index_turn : Limits → Names → Stmts Variable → Index → Run Memory
 index_turn limits names body t s done = exec_all limits in_memory body (bound_at names t s) done
+
+-- the turns of a forall, between its reduce variables
+abbrev pub intended_turns : List (Variable × Op) → (Index → Run Memory) → List Index → Run Memory
+intended_turns intents turn ts s done =
+    then_do (in_order (named_turn turn) ts (in_memory.intend intents s) done) (λ s done. Done (in_memory.intend [] s) done)

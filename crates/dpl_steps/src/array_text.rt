@@ -7,7 +7,7 @@ ghost use Rattle.dpl_nodes.specs.Typed.{kind_view};
 ghost use Rattle.dpl_steps.specs.Texts.{array_text};
 
 use dpl_contents::{ElementKind, print_array};
-use dpl_nodes::Frame;
+use dpl_frame::Frame;
 use dpl_tree::ScalarKind;
 use std::alloc::AllocError;
 

@@ -7,45 +7,61 @@ ghost use Rattle.dpl_lowered.specs.Shapes.{nowhere};
 ghost use Rattle.dpl_language.specs.Tree.{One, SetDivide, SetRemainder, SetReduce};
 ghost use Rattle.dpl_memory.specs.Memory.{int_leaf, truth_leaf, range_leaf, in_memory};
 ghost use Rattle.dpl_nodes.specs.Typed.{int_view, truth_view, range_item};
+ghost use Rattle.dpl_loop.specs.Entries.{MayRefuseSome};
+ghost use Rattle.dpl_loop.specs.Values.{Gives};
 ghost use Rattle.dpl_steps.specs.Changes.{declared_memory, given_memory, assigned_memory, int_given, int_put, int_memory, truth_memory, updated_by, memory_after};
 
 use crate::reduce::{reduced_int, reduced_truth};
-use dpl_nodes::{BoolExpr, FaultCode, Frame, IntDeed, IntExpr, RangeExpr, Spot, Trap, TruthDeed};
+use dpl_frame::{FaultCode, Frame, Trap};
+use dpl_loop::stop::told;
+use dpl_loop::{Gate, Stop};
+use dpl_nodes::{BoolExpr, IntDeed, IntExpr, RangeExpr, Spot, TruthDeed};
 use dpl_values::number::{difference, product, quotient, remainder, sum};
 use dpl_values::{int_value, range_value, truth_value};
 
 // A truth value's.
-fn declare_truth(slot: usize, e: &BoolExpr<'_>, frame: &mut Frame<'_>) -> Result<(), Trap>
-    ensures memory { declared_memory frame.old.limits (truth_leaf slot) (One (truth_view e.now)) frame.old.memory ≡ memory_after result frame.new.memory }
+fn declare_truth<G: Gate>(
+    slot: usize,
+    e: &BoolExpr<'_>,
+    frame: &mut Frame<'_>,
+    gate: &G,
+) -> Result<(), Stop>
+    ensures memory { Gives (MayRefuseSome (G.may_refuse gate.now)) (λ v. frame.new.memory) result (declared_memory frame.old.limits (truth_leaf slot) (One (truth_view e.now)) frame.old.memory) }
     ensures limits { frame.new.limits ≡ frame.old.limits }
 {
-    let value = truth_value(e, frame)?.get();
+    let value = truth_value(e, frame, gate)?.get();
     frame.set_number(slot, i64::from(value));
     Ok(())
 }
 
 /// A range's.
 #[inline(always)]
-pub(crate) fn declare_range(
+pub(crate) fn declare_range<G: Gate>(
     slot: usize,
     e: &RangeExpr<'_>,
     frame: &mut Frame<'_>,
-) -> Result<(), Trap>
-    ensures memory { declared_memory frame.old.limits (range_leaf slot) (range_item e.now) frame.old.memory ≡ memory_after result frame.new.memory }
+    gate: &G,
+) -> Result<(), Stop>
+    ensures memory { Gives (MayRefuseSome (G.may_refuse gate.now)) (λ v. frame.new.memory) result (declared_memory frame.old.limits (range_leaf slot) (range_item e.now) frame.old.memory) }
     ensures limits { frame.new.limits ≡ frame.old.limits }
 {
-    let value = range_value(e, frame)?;
+    let value = range_value(e, frame, gate)?;
     frame.set_range(slot, value);
     Ok(())
 }
 
 // A `config const` that is a truth value.
-fn config_truth(slot: usize, e: &BoolExpr<'_>, frame: &mut Frame<'_>) -> Result<(), Trap>
-    ensures memory { given_memory frame.old.limits (truth_leaf slot) (One (truth_view e.now)) (in_memory.given (truth_leaf slot) frame.old.memory) frame.old.memory ≡ memory_after result frame.new.memory }
+fn config_truth<G: Gate>(
+    slot: usize,
+    e: &BoolExpr<'_>,
+    frame: &mut Frame<'_>,
+    gate: &G,
+) -> Result<(), Stop>
+    ensures memory { Gives (MayRefuseSome (G.may_refuse gate.now)) (λ v. frame.new.memory) result (given_memory frame.old.limits (truth_leaf slot) (One (truth_view e.now)) (in_memory.given (truth_leaf slot) frame.old.memory) frame.old.memory) }
     ensures limits { frame.new.limits ≡ frame.old.limits }
 {
     match frame.given(slot) {
-        None => declare_truth(slot, e, frame),
+        None => declare_truth(slot, e, frame, gate),
         Some(number) => {
             frame.set_number(slot, i64::from(number != 0));
             Ok(())
@@ -126,11 +142,16 @@ fn put(deed: &IntDeed<'_>, slot: usize, value: i64, frame: &mut Frame<'_>) -> Re
 }
 
 // `reduce=` to a truth value
-fn reduce_truth(slot: usize, e: &BoolExpr<'_>, frame: &mut Frame<'_>) -> Result<(), Trap>
-    ensures memory { assigned_memory frame.old.limits (truth_leaf slot) SetReduce nowhere (One (truth_view e.now)) frame.old.memory ≡ memory_after result frame.new.memory }
+fn reduce_truth<G: Gate>(
+    slot: usize,
+    e: &BoolExpr<'_>,
+    frame: &mut Frame<'_>,
+    gate: &G,
+) -> Result<(), Stop>
+    ensures memory { Gives (MayRefuseSome (G.may_refuse gate.now)) (λ v. frame.new.memory) result (assigned_memory frame.old.limits (truth_leaf slot) SetReduce nowhere (One (truth_view e.now)) frame.old.memory) }
     ensures limits { frame.new.limits ≡ frame.old.limits }
 {
-    let value = truth_value(e, frame)?.get();
+    let value = truth_value(e, frame, gate)?.get();
     let number = reduced_truth(frame.operator(slot), frame.number(slot) != 0, value);
     frame.set_number(slot, number);
     Ok(())
@@ -138,38 +159,40 @@ fn reduce_truth(slot: usize, e: &BoolExpr<'_>, frame: &mut Frame<'_>) -> Result<
 
 /// What is done to an int: its right side is evaluated in one place, whatever is done with the value.
 #[inline(always)]
-pub(crate) fn change_int(
+pub(crate) fn change_int<G: Gate>(
     deed: &IntDeed<'_>,
     slot: usize,
     e: &IntExpr<'_>,
     frame: &mut Frame<'_>,
-) -> Result<(), Trap>
-    ensures memory { int_memory frame.old.limits deed.now slot (One (int_view e.now)) frame.old.memory ≡ memory_after result frame.new.memory }
+    gate: &G,
+) -> Result<(), Stop>
+    ensures memory { Gives (MayRefuseSome (G.may_refuse gate.now)) (λ v. frame.new.memory) result (int_memory frame.old.limits deed.now slot (One (int_view e.now)) frame.old.memory) }
     ensures limits { frame.new.limits ≡ frame.old.limits }
 {
     if let Some(number) = given(deed, slot, frame) {
         frame.set_number(slot, number);
         return Ok(());
     }
-    let value = int_value(e, frame)?;
-    put(deed, slot, value, frame)
+    let value = int_value(e, frame, gate)?;
+    told(put(deed, slot, value, frame))
 }
 
 /// What is done to a truth value.
 #[inline(always)]
-pub(crate) fn change_truth(
+pub(crate) fn change_truth<G: Gate>(
     deed: TruthDeed,
     slot: usize,
     e: &BoolExpr<'_>,
     frame: &mut Frame<'_>,
-) -> Result<(), Trap>
-    ensures memory { truth_memory frame.old.limits deed slot (One (truth_view e.now)) frame.old.memory ≡ memory_after result frame.new.memory }
+    gate: &G,
+) -> Result<(), Stop>
+    ensures memory { Gives (MayRefuseSome (G.may_refuse gate.now)) (λ v. frame.new.memory) result (truth_memory frame.old.limits deed slot (One (truth_view e.now)) frame.old.memory) }
     ensures limits { frame.new.limits ≡ frame.old.limits }
 {
     match deed {
-        TruthDeed::Declare => declare_truth(slot, e, frame),
-        TruthDeed::Config => config_truth(slot, e, frame),
-        TruthDeed::Set => declare_truth(slot, e, frame),
-        TruthDeed::Reduce => reduce_truth(slot, e, frame),
+        TruthDeed::Declare => declare_truth(slot, e, frame, gate),
+        TruthDeed::Config => config_truth(slot, e, frame, gate),
+        TruthDeed::Set => declare_truth(slot, e, frame, gate),
+        TruthDeed::Reduce => reduce_truth(slot, e, frame, gate),
     }
 }

@@ -10,24 +10,28 @@ ghost use Rattle.dpl_language.specs.Declarations.{gathered};
 ghost use Rattle.dpl_language.specs.Statements.{exec};
 ghost use Rattle.dpl_lowered.specs.LoweredExpressions.{EachTurn};
 ghost use Rattle.dpl_memory.specs.Memory.{in_memory};
-ghost use Rattle.dpl_nodes.specs.Faults.{of_domain};
+ghost use Rattle.dpl_language.specs.Values.{Domain as DomainValue};
 ghost use Rattle.dpl_nodes.specs.Typed.{promoted_int, promoted_truth};
 ghost use Rattle.dpl_nodes.specs.Steps.{over_items, array_declared};
 ghost use Rattle.dpl_steps.specs.Changes.{kept_word, for_array_at};
 ghost use Rattle.dpl_steps.specs.Arrays.{declared_without, declared_with};
 ghost use Rattle.dpl_nodes.specs.Roots.{derived_over, placing_by};
-ghost use Rattle.dpl_loop.specs.Runs.{RunEnds};
+ghost use Rattle.dpl_loop.specs.Entries.{MayRefuse, MayRefuseSome};
+ghost use Rattle.dpl_loop.specs.Runs.{RunsTo, RunEnds};
+ghost use Rattle.dpl_loop.specs.Values.{Gives};
 ghost use Rattle.dpl_steps.specs.Runs.{Names, Gathers};
 ghost use Rattle.dpl_steps.specs.Owners.{IsOwned};
+ghost use Rattle.dpl_steps.specs.Dealt.{owned_by};
+ghost use Rattle.dpl_map.specs.Maps.{owner};
 
 use crate::domain::for_array;
 use crate::owner::own;
 use dpl_contents::ArrayWords;
 use dpl_domain::Index;
-use dpl_loop::Stop;
-use dpl_nodes::{
-    ArrayDeclaration, DomainWord, Frame, Initial, Over, PromotedInt, PromotedTruth, Spot, Trap,
-};
+use dpl_frame::{DomainWord, Frame, Trap};
+use dpl_loop::{Gate, OpenGate, Stop};
+use dpl_map::Map;
+use dpl_nodes::{ArrayDeclaration, Initial, Over, PromotedInt, PromotedTruth, Spot};
 use dpl_values::budget::within_budget;
 use dpl_values::domain::{coordinate, small};
 use dpl_values::{
@@ -36,16 +40,21 @@ use dpl_values::{
 };
 
 // The domain that stands between an array's brackets.
-fn domain_over(over: &Over<'_>, from: &Spot, frame: &Frame<'_>) -> Result<DomainWord, Trap>
-    ensures { domain_of frame.now.limits in_memory from.now (over_items over.now) frame.now.memory ≡ of_domain result }
+fn domain_over<G: Gate>(
+    over: &Over<'_>,
+    from: &Spot,
+    frame: &Frame<'_>,
+    gate: &G,
+) -> Result<DomainWord, Stop>
+    ensures { Gives (MayRefuseSome (G.may_refuse gate.now)) DomainValue result (domain_of frame.now.limits in_memory from.now (over_items over.now) frame.now.memory) }
 {
     match over {
-        Over::Ranges(ranges) => literal(from, ranges, frame),
-        Over::Domain(d) => Ok(small(domain_value(d, frame)?)),
-        Over::HiddenDomain(d) => Ok(small(domain_value(d, frame)?)),
+        Over::Ranges(ranges) => literal(from, ranges, frame, gate),
+        Over::Domain(d) => Ok(small(domain_value(d, frame, gate)?)),
+        Over::HiddenDomain(d) => Ok(small(domain_value(d, frame, gate)?)),
         Over::HiddenRange(r) => {
-            let range = range_value(r, frame)?;
-            sized(from, DomainWord::new(&[range]))
+            let range = range_value(r, frame, gate)?;
+            Ok(sized(from, DomainWord::new(&[range]))?)
         }
     }
 }
@@ -56,84 +65,101 @@ trait Elements {
     ghost use Rattle.dpl_language.specs.Values.{Value, Index, Fault};
     ghost use Rattle.dpl_language.specs.Environment.{Limits};
     ghost use Rattle.dpl_memory.specs.Memory.{Memory};
+    ghost use Rattle.dpl_loop.specs.Values.{Gives};
     ghost use Rattle.dpl_steps.specs.Changes.{kept_word};
 
     ghost element: { Self → Limits → Memory → Index → Result Value Fault };
 
-    fn word(&self, index: &Index, frame: &Frame<'_>) -> Result<i64, Trap>
-        ensures { kept_word (element self.now frame.now.limits frame.now.memory index.now) ≡ result };
+    // No gate is asked for it.
+    fn word(&self, index: &Index, frame: &Frame<'_>) -> Result<i64, Stop>
+        ensures { Gives ⊥ (λ w. w) result (kept_word (element self.now frame.now.limits frame.now.memory index.now)) };
 }
 
 impl<'t> Elements for PromotedInt<'t> {
     ghost element = { λ e limits s t. value_of limits in_memory (promoted_int EachTurn e) (Some t) s };
 
-    fn word(&self, index: &Index, frame: &Frame<'_>) -> Result<i64, Trap> {
-        promoted_int_value(self, index, frame)
+    fn word(&self, index: &Index, frame: &Frame<'_>) -> Result<i64, Stop> {
+        promoted_int_value(self, index, frame, &OpenGate)
     }
 }
 
 impl<'t> Elements for PromotedTruth<'t> {
     ghost element = { λ e limits s t. value_of limits in_memory (promoted_truth EachTurn e) (Some t) s };
 
-    fn word(&self, index: &Index, frame: &Frame<'_>) -> Result<i64, Trap> {
-        Ok(i64::from(promoted_truth_value(self, index, frame)?.get()))
+    fn word(&self, index: &Index, frame: &Frame<'_>) -> Result<i64, Stop> {
+        Ok(i64::from(promoted_truth_value(self, index, frame, &OpenGate)?.get()))
     }
 }
 
-// The word of an index, in whose turn its fault is.
-fn named<E: Elements>(e: &E, index: Index, frame: &Frame<'_>) -> Result<i64, Stop>
-    ensures { Names result (naming_value index (E.element e.now frame.now.limits frame.now.memory index)) }
+// The word of an index at a place, once its owner has entered. Its fault names the index.
+fn entered<E: Elements, G: Gate>(
+    e: &E,
+    index: Index,
+    place: u64,
+    map: &Map,
+    frame: &Frame<'_>,
+    gate: &G,
+) -> Result<i64, Stop>
+    ensures { Names (G.may_refuse gate.now (owner map.now index) place) result (naming_value index (E.element e.now frame.now.limits frame.now.memory index)) }
 {
+    if !gate.enter(map.owner(index), place) {
+        return Err(Stop::Gate);
+    }
     match e.word(&index, frame) {
         Ok(word) => Ok(word),
-        Err(trap) => Err(Stop::from(trap).in_turn(index)),
+        Err(stop) => Err(stop.in_turn(index)),
     }
 }
 
-// The array over a domain that has at each index what is evaluated there, by the map of a slot.
-fn gathered<E: Elements>(
+// The array over a domain that has at each index what is evaluated there, by the map of the declared array.
+fn gathered<E: Elements, G: Gate>(
     e: &E,
-    slot: usize,
+    d: &ArrayDeclaration<'_>,
     domain: DomainWord,
     frame: &Frame<'_>,
+    gate: &G,
 ) -> Result<ArrayWords, Stop>
     requires { too_large domain ≡ false }
-    ensures { Gathers result domain (gathered (E.element e.now frame.now.limits frame.now.memory) (indices_in domain)) }
+    ensures { Gathers (MayRefuse (G.may_refuse gate.now) (owned_by frame.now d.now.slot) domain) result domain (gathered (E.element e.now frame.now.limits frame.now.memory) (indices_in domain)) }
 {
-    // Nothing is read here: that no index is listed twice is a clause of this call.
-    let _ = domain.domain();
-    let mut array = frame.zeros(slot, domain)?;
+    let map = frame.owner(d.slot);
+    let all = domain.domain();
+    let mut array = frame.zeros(d.slot, domain)?;
     let mut indices = domain.cursor();
-    while let Some(index) = indices.next() {
-        let word = named(e, index, frame)?;
+    for place in 0..all.size() {
+        let Some(index) = indices.next() else {
+            unreachable!()
+        };
+        let word = entered(e, index, place, &map, frame, gate)?;
         array.set(index, word);
     }
     Ok(array)
 }
 
 // An array of ints with an initial value.
-fn declare_ints(
+fn declare_ints<G: Gate>(
     d: &ArrayDeclaration<'_>,
     at: &Spot,
     e: &PromotedInt<'_>,
     domain: DomainWord,
     frame: &mut Frame<'_>,
+    gate: &G,
 ) -> Result<(), Stop>
     requires { too_large domain ≡ false }
-    ensures ends { (done : Deeds) → RunEnds result frame.new.memory done (declared_with frame.old.limits d.now IntKind domain at.now (promoted_int EachTurn e.now) frame.old.memory done) }
+    ensures ends { (done : Deeds) → RunsTo (MayRefuseSome (G.may_refuse gate.now)) result frame.new.memory done (declared_with frame.old.limits d.now IntKind domain at.now (promoted_int EachTurn e.now) frame.old.memory done) }
     ensures limits { frame.new.limits ≡ frame.old.limits }
     ensures owners { frame.new.owners ≡ frame.old.owners }
 {
     match int_domain(e, frame) {
         None => {
-            let word = promoted_int_value(e, &coordinate(0), frame)?;
+            let word = promoted_int_value(e, &coordinate(0), frame, gate)?;
             within_budget(&domain, at, frame)?;
             frame.declare_array(d.slot, domain, word)?;
             Ok(())
         }
         Some(_) => {
             within_budget(&domain, at, frame)?;
-            let array = gathered(e, d.slot, domain, frame)?;
+            let array = gathered(e, d, domain, frame, gate)?;
             frame.keep(d.slot, array);
             Ok(())
         }
@@ -141,28 +167,29 @@ fn declare_ints(
 }
 
 // The same of truth values.
-fn declare_truths(
+fn declare_truths<G: Gate>(
     d: &ArrayDeclaration<'_>,
     at: &Spot,
     e: &PromotedTruth<'_>,
     domain: DomainWord,
     frame: &mut Frame<'_>,
+    gate: &G,
 ) -> Result<(), Stop>
     requires { too_large domain ≡ false }
-    ensures ends { (done : Deeds) → RunEnds result frame.new.memory done (declared_with frame.old.limits d.now BoolKind domain at.now (promoted_truth EachTurn e.now) frame.old.memory done) }
+    ensures ends { (done : Deeds) → RunsTo (MayRefuseSome (G.may_refuse gate.now)) result frame.new.memory done (declared_with frame.old.limits d.now BoolKind domain at.now (promoted_truth EachTurn e.now) frame.old.memory done) }
     ensures limits { frame.new.limits ≡ frame.old.limits }
     ensures owners { frame.new.owners ≡ frame.old.owners }
 {
     match truth_domain(e, frame) {
         None => {
-            let value = promoted_truth_value(e, &coordinate(0), frame)?.get();
+            let value = promoted_truth_value(e, &coordinate(0), frame, gate)?.get();
             within_budget(&domain, at, frame)?;
             frame.declare_array(d.slot, domain, i64::from(value))?;
             Ok(())
         }
         Some(_) => {
             within_budget(&domain, at, frame)?;
-            let array = gathered(e, d.slot, domain, frame)?;
+            let array = gathered(e, d, domain, frame, gate)?;
             frame.keep(d.slot, array);
             Ok(())
         }
@@ -196,20 +223,25 @@ fn sized_for_array(at: &Spot, domain: DomainWord) -> Result<DomainWord, Trap>
 ///
 /// # Errors
 /// The fault of its domain; `F8` at the name for more than 2^24 elements; the fault of an initial value that is evaluated
-/// once; `F5` at `=` for more elements than the budget; the fault of an index, in its turn; out of memory.
+/// once; `F5` at `=` for more elements than the budget; the fault of an index, in its turn; out of memory; or the gate refused
+/// the entry of an index's owner.
 #[inline(never)]
-pub(crate) fn declare_array(d: &ArrayDeclaration<'_>, frame: &mut Frame<'_>) -> Result<(), Stop>
-    ensures ends { (done : Deeds) → RunEnds result frame.new.memory done (exec frame.old.limits in_memory (array_declared d.now) frame.old.memory done) }
+pub(crate) fn declare_array<G: Gate>(
+    d: &ArrayDeclaration<'_>,
+    frame: &mut Frame<'_>,
+    gate: &G,
+) -> Result<(), Stop>
+    ensures ends { (done : Deeds) → RunsTo (MayRefuseSome (G.may_refuse gate.now)) result frame.new.memory done (exec frame.old.limits in_memory (array_declared d.now) frame.old.memory done) }
     ensures limits { frame.new.limits ≡ frame.old.limits }
     ensures owned { OnOk result (IsOwned frame.old frame.new d.now.slot (placing_by (derived_over (over_items d.now.over))) (domain_of frame.old.limits in_memory d.now.from.now (over_items d.now.over) frame.old.memory)) }
 {
-    let domain = domain_over(&d.over, d.from, frame)?;
+    let domain = domain_over(&d.over, d.from, frame, gate)?;
     own(d.over.placing(), d.slot, domain, frame);
     let domain = sized_for_array(d.at, domain)?;
     match d.initial {
         Initial::Zeros => declare_zeros(d, domain, frame),
         Initial::Falses => declare_zeros(d, domain, frame),
-        Initial::Ints(at, e) => declare_ints(d, at, e, domain, frame),
-        Initial::Truths(at, e) => declare_truths(d, at, e, domain, frame),
+        Initial::Ints(at, e) => declare_ints(d, at, e, domain, frame, gate),
+        Initial::Truths(at, e) => declare_truths(d, at, e, domain, frame, gate),
     }
 }

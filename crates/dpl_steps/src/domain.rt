@@ -12,12 +12,14 @@ ghost use Rattle.dpl_memory.specs.Memory.{DomainKind, variable, in_memory};
 ghost use Rattle.dpl_nodes.specs.Typed.{domain_view};
 ghost use Rattle.dpl_nodes.specs.Steps.{unplaced_leaf, declared_as, declared_with, dimensions, of_rank, domain_leaf, whole_set};
 ghost use Rattle.dpl_steps.specs.Changes.{memory_after, ends_as, for_array_at};
-ghost use Rattle.dpl_loop.specs.Runs.{RunEnds};
+ghost use Rattle.dpl_loop.specs.Entries.{MayRefuseSome};
+ghost use Rattle.dpl_loop.specs.Runs.{RunsTo};
 ghost use Rattle.dpl_steps.specs.Owners.{IsOwned, IsOwnedBy};
 
 use crate::owner::own;
-use dpl_loop::Stop;
-use dpl_nodes::{DomainExpr, DomainName, DomainWord, FaultCode, Frame, Placing, Rank, Spot, Trap};
+use dpl_frame::{DomainWord, FaultCode, Frame, Trap};
+use dpl_loop::{Gate, Stop};
+use dpl_nodes::{DomainExpr, DomainName, Placing, Rank, Spot};
 use dpl_values::domain_value;
 
 /// How many elements an array may have.
@@ -25,17 +27,18 @@ const MOST_ELEMENTS: u64 = 16_777_216;
 
 /// A domain's declaration, with its initial value and its map.
 #[inline(always)]
-pub(crate) fn declare_domain(
+pub(crate) fn declare_domain<G: Gate>(
     slot: usize,
     e: &DomainExpr<'_>,
     placing: Placing,
     frame: &mut Frame<'_>,
-) -> Result<(), Trap>
-    ensures ends { (done : Deeds) → exec frame.old.limits in_memory (declared_as None (variable DomainKind slot) (One (domain_view e.now))) frame.old.memory done ≡ ends_as (memory_after result frame.new.memory) done }
+    gate: &G,
+) -> Result<(), Stop>
+    ensures ends { (done : Deeds) → RunsTo (MayRefuseSome (G.may_refuse gate.now)) result frame.new.memory done (exec frame.old.limits in_memory (declared_as None (variable DomainKind slot) (One (domain_view e.now))) frame.old.memory done) }
     ensures limits { frame.new.limits ≡ frame.old.limits }
     ensures owned { OnOk result (IsOwned frame.old frame.new slot placing (value_of frame.old.limits in_memory (domain_view e.now) None frame.old.memory)) }
 {
-    let value = domain_value(e, frame)?;
+    let value = domain_value(e, frame, gate)?;
     own(placing, slot, value, frame);
     frame.set_domain(slot, value);
     Ok(())
@@ -82,15 +85,16 @@ pub(crate) fn for_array(at: &Spot, domain: DomainWord) -> Result<DomainWord, Tra
 /// # Errors
 /// `F8` at the domain's name, where there are such arrays; out of memory for them.
 #[inline(never)]
-pub(crate) fn set_domain(
+pub(crate) fn set_domain<G: Gate>(
     name: &DomainName<'_>,
     e: &DomainExpr<'_>,
     frame: &mut Frame<'_>,
+    gate: &G,
 ) -> Result<(), Stop>
-    ensures ends { (done : Deeds) → RunEnds result frame.new.memory done (exec frame.old.limits in_memory (whole_set (domain_leaf name.now) Set nowhere (domain_view e.now)) frame.old.memory done) }
+    ensures ends { (done : Deeds) → RunsTo (MayRefuseSome (G.may_refuse gate.now)) result frame.new.memory done (exec frame.old.limits in_memory (whole_set (domain_leaf name.now) Set nowhere (domain_view e.now)) frame.old.memory done) }
     ensures limits { frame.new.limits ≡ frame.old.limits }
 {
-    let value = domain_value(e, frame)?;
+    let value = domain_value(e, frame, gate)?;
     if !name.arrays.is_empty() {
         for_array(name.at, value)?;
     }

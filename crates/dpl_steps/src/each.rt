@@ -3,26 +3,27 @@
 
 ghost use Rattle.std.specs.Prelude.{◌≡◌, pos, get_or};
 ghost use Rattle.dpl_language.specs.Tree.{One, For as ForTree};
-ghost use Rattle.dpl_language.specs.Values.{number};
+ghost use Rattle.dpl_language.specs.Values.{number, Domain as DomainValue};
 ghost use Rattle.dpl_language.specs.Ranges.{index_value, indices_in};
 ghost use Rattle.dpl_language.specs.Outcome.{Deeds, in_order};
 ghost use Rattle.dpl_language.specs.Statements.{exec};
 ghost use Rattle.dpl_lowered.specs.Shapes.{nowhere};
 ghost use Rattle.dpl_memory.specs.Memory.{in_memory};
-ghost use Rattle.dpl_nodes.specs.Faults.{of_domain};
-ghost use Rattle.dpl_nodes.specs.Frames.{with_memory};
+ghost use Rattle.dpl_frame.specs.Frames.{with_memory};
 ghost use Rattle.dpl_nodes.specs.Typed.{domain_view};
 ghost use Rattle.dpl_nodes.specs.Steps.{listed, names_view};
 ghost use Rattle.dpl_loop.specs.Runs.{RunsTo};
 ghost use Rattle.dpl_loop.specs.Entries.{MayRefuseSome};
+ghost use Rattle.dpl_loop.specs.Values.{Gives};
 ghost use Rattle.dpl_steps.specs.Readings.{steps_in};
 ghost use Rattle.dpl_steps.specs.Turns.{each_bound, bound_at, index_turn, looped_over};
 
 use crate::context::Context;
 use crate::statement::run;
 use dpl_domain::Index;
-use dpl_loop::Stop;
-use dpl_nodes::{DomainExpr, DomainWord, Frame, Names, Spot, Step, Trap};
+use dpl_frame::{DomainWord, Frame, Trap};
+use dpl_loop::{Gate, Stop};
+use dpl_nodes::{DomainExpr, Names, Spot, Step};
 use dpl_values::budget::within_budget;
 use dpl_values::domain_value;
 
@@ -31,14 +32,15 @@ use dpl_values::domain_value;
 /// # Errors
 /// The fault of the domain; `F5` at the loop where it has more indices than the budget.
 #[tactic(auto, using(crate::proofs::Tested::within_domain))]
-pub fn domain_indices(
+pub fn domain_indices<G: Gate>(
     at: &Spot,
     over: &DomainExpr<'_>,
     frame: &Frame<'_>,
-) -> Result<DomainWord, Trap>
-    ensures { looped_over frame.now.limits at.now (One (domain_view over.now)) frame.now.memory ≡ of_domain result }
+    gate: &G,
+) -> Result<DomainWord, Stop>
+    ensures { Gives (MayRefuseSome (G.may_refuse gate.now)) DomainValue result (looped_over frame.now.limits at.now (One (domain_view over.now)) frame.now.memory) }
 {
-    let domain = domain_value(over, frame)?;
+    let domain = domain_value(over, frame, gate)?;
     within_budget(&domain, at, frame)?;
     Ok(domain)
 }
@@ -106,7 +108,7 @@ fn domain_turn<'t, C: Context>(
     frame: &mut Frame<'t>,
     out: &mut C::Out,
 ) -> Result<(), Stop>
-    ensures ends { (done : Deeds) → RunsTo (MayRefuseSome (C.may context.now)) result frame.new.memory (C.having out.new done)
+    ensures ends { (done : Deeds) → RunsTo (MayRefuseSome (C.may_refuse context.now)) result frame.new.memory (C.having out.new done)
         (index_turn frame.old.limits names.now (steps_in C.standing body.now) index frame.old.memory (C.having out.old done)) }
     ensures limits { frame.new.limits ≡ frame.old.limits }
 {
@@ -125,7 +127,7 @@ fn domain_turns<'t, C: Context>(
     frame: &mut Frame<'t>,
     out: &mut C::Out,
 ) -> Result<(), Stop>
-    ensures ends { (done : Deeds) → RunsTo (MayRefuseSome (C.may context.now)) result frame.new.memory (C.having out.new done)
+    ensures ends { (done : Deeds) → RunsTo (MayRefuseSome (C.may_refuse context.now)) result frame.new.memory (C.having out.new done)
         (in_order (index_turn frame.old.limits names.now (steps_in C.standing body.now)) (indices_in domain) frame.old.memory (C.having out.old done)) }
     ensures limits { frame.new.limits ≡ frame.old.limits }
 {
@@ -148,10 +150,10 @@ pub(crate) fn for_each<'t, C: Context>(
     frame: &mut Frame<'t>,
     out: &mut C::Out,
 ) -> Result<(), Stop>
-    ensures ends { (done : Deeds) → RunsTo (MayRefuseSome (C.may context.now)) result frame.new.memory (C.having out.new done)
+    ensures ends { (done : Deeds) → RunsTo (MayRefuseSome (C.may_refuse context.now)) result frame.new.memory (C.having out.new done)
         (exec frame.old.limits in_memory (ForTree at.now (names_view names.now) nowhere (One (domain_view over.now)) (listed (steps_in C.standing body.now))) frame.old.memory (C.having out.old done)) }
     ensures limits { frame.new.limits ≡ frame.old.limits }
 {
-    let domain = domain_indices(at, over, frame)?;
+    let domain = domain_indices(at, over, frame, context)?;
     domain_turns(domain, names, body, context, frame, out)
 }

@@ -14,14 +14,18 @@ ghost use Rattle.dpl_lowered.specs.Shapes.{nowhere};
 ghost use Rattle.dpl_memory.specs.Memory.{in_memory};
 ghost use Rattle.dpl_tree.specs.Words.{assign_view};
 ghost use Rattle.dpl_nodes.specs.Typed.{int_view, truth_view, index_exprs};
-ghost use Rattle.dpl_nodes.specs.Faults.{telling};
+ghost use Rattle.dpl_frame.specs.Faults.{Tells};
 ghost use Rattle.dpl_nodes.specs.Steps.{array_leaf, element_set};
+ghost use Rattle.dpl_loop.specs.Entries.{MayRefuseSome};
+ghost use Rattle.dpl_loop.specs.Runs.{RunsTo};
+ghost use Rattle.dpl_loop.specs.Values.{Gives};
 ghost use Rattle.dpl_steps.specs.Changes.{memory_after, ends_as, signed, if_there, put_memory};
 
 use dpl_domain::Index;
-use dpl_nodes::{
-    Alarm, ArrayName, BoolExpr, FaultCode, Frame, IndexExpr, IntExpr, Spot, Trap, Turn,
-};
+use dpl_frame::{Alarm, FaultCode, Frame, Trap, Turn};
+use dpl_loop::stop::told as ended;
+use dpl_loop::{Gate, Stop};
+use dpl_nodes::{ArrayName, BoolExpr, IndexExpr, IntExpr, Spot};
 use dpl_tree::Assign;
 use dpl_values::number::{difference, product, quotient, remainder, sum};
 use dpl_values::{coordinate_value, index_value, int_value, truth_value};
@@ -155,7 +159,7 @@ pub(crate) fn change_truth(
 // The same, for a caller that has a place for the turn of a fault.
 #[inline(always)]
 fn told_in(name: &ArrayName<'_>, there: bool, turn: &mut Turn) -> Result<(), Alarm>
-    ensures { telling turn.new result ≡ if_there name.now.at.now there }
+    ensures { Tells ⊥ (λ v. v) turn.new result (if_there name.now.at.now there) }
 {
     if there {
         Ok(())
@@ -166,30 +170,31 @@ fn told_in(name: &ArrayName<'_>, there: bool, turn: &mut Turn) -> Result<(), Ala
 
 // Puts a word at an index, whose coordinates are evaluated from left to right. No index is made of coordinates.
 #[inline(always)]
-fn put_word(
+fn put_word<G: Gate>(
     name: &ArrayName<'_>,
     t: &IndexExpr<'_>,
     word: i64,
     frame: &mut Frame<'_>,
+    gate: &G,
     turn: &mut Turn,
 ) -> Result<(), Alarm>
-    ensures ends { with_ok (values_of frame.old.limits in_memory (index_exprs t.now) frame.old.memory) (λ vs. put_memory name.now.at.now name.now.slot (index_of vs) word frame.old.memory) ≡ memory_after (telling turn.new result) frame.new.memory }
+    ensures ends { Tells (MayRefuseSome (G.may_refuse gate.now)) (λ v. frame.new.memory) turn.new result (with_ok (values_of frame.old.limits in_memory (index_exprs t.now) frame.old.memory) (λ vs. put_memory name.now.at.now name.now.slot (index_of vs) word frame.old.memory)) }
     ensures limits { frame.new.limits ≡ frame.old.limits }
 {
     match t {
         IndexExpr::Line(i) => {
-            let i = coordinate_value(i, frame, turn)?;
+            let i = coordinate_value(i, frame, gate, turn)?;
             told_in(name, frame.put_line(name.slot, i, word), turn)
         }
         IndexExpr::Plane(i, j) => {
-            let i = coordinate_value(i, frame, turn)?;
-            let j = coordinate_value(j, frame, turn)?;
+            let i = coordinate_value(i, frame, gate, turn)?;
+            let j = coordinate_value(j, frame, gate, turn)?;
             told_in(name, frame.put_plane(name.slot, i, j, word), turn)
         }
         IndexExpr::Space(i, j, k) => {
-            let i = coordinate_value(i, frame, turn)?;
-            let j = coordinate_value(j, frame, turn)?;
-            let k = coordinate_value(k, frame, turn)?;
+            let i = coordinate_value(i, frame, gate, turn)?;
+            let j = coordinate_value(j, frame, gate, turn)?;
+            let k = coordinate_value(k, frame, gate, turn)?;
             told_in(name, frame.put_space(name.slot, i, j, k, word), turn)
         }
         IndexExpr::Tuple(tuple) => {
@@ -201,19 +206,20 @@ fn put_word(
 
 // The same, whose fault has its turn.
 #[inline(always)]
-fn put_at(
+fn put_at<G: Gate>(
     name: &ArrayName<'_>,
     t: &IndexExpr<'_>,
     word: i64,
     frame: &mut Frame<'_>,
-) -> Result<(), Trap>
-    ensures ends { with_ok (values_of frame.old.limits in_memory (index_exprs t.now) frame.old.memory) (λ vs. put_memory name.now.at.now name.now.slot (index_of vs) word frame.old.memory) ≡ memory_after result frame.new.memory }
+    gate: &G,
+) -> Result<(), Stop>
+    ensures ends { Gives (MayRefuseSome (G.may_refuse gate.now)) (λ v. frame.new.memory) result (with_ok (values_of frame.old.limits in_memory (index_exprs t.now) frame.old.memory) (λ vs. put_memory name.now.at.now name.now.slot (index_of vs) word frame.old.memory)) }
     ensures limits { frame.new.limits ≡ frame.old.limits }
 {
     let mut turn = Turn::Absent;
-    match put_word(name, t, word, frame, &mut turn) {
+    match put_word(name, t, word, frame, gate, &mut turn) {
         Ok(()) => Ok(()),
-        Err(alarm) => Err(alarm.in_turn(&turn)),
+        Err(alarm) => Err(Stop::of(alarm, &turn)),
     }
 }
 
@@ -222,23 +228,24 @@ fn put_at(
 /// # Errors
 /// The fault of a part; `F1` at the array's name; `F2` at the operator.
 #[inline(always)]
-pub(crate) fn set_element(
+pub(crate) fn set_element<G: Gate>(
     name: &ArrayName<'_>,
     t: &IndexExpr<'_>,
     op: Assign,
     sign: &Spot,
     e: &IntExpr<'_>,
     frame: &mut Frame<'_>,
-) -> Result<(), Trap>
-    ensures ends { (done : Deeds) → exec frame.old.limits in_memory (element_set (array_leaf IntKind name.now) t.now (assign_view op) sign.now (int_view e.now)) frame.old.memory done ≡ ends_as (memory_after result frame.new.memory) done }
+    gate: &G,
+) -> Result<(), Stop>
+    ensures ends { (done : Deeds) → RunsTo (MayRefuseSome (G.may_refuse gate.now)) result frame.new.memory done (exec frame.old.limits in_memory (element_set (array_leaf IntKind name.now) t.now (assign_view op) sign.now (int_view e.now)) frame.old.memory done) }
     ensures limits { frame.new.limits ≡ frame.old.limits }
 {
-    let value = int_value(e, frame)?;
+    let value = int_value(e, frame, gate)?;
     if replaces(op) {
-        return put_at(name, t, value, frame);
+        return put_at(name, t, value, frame, gate);
     }
-    let index = index_value(t, frame)?;
-    combine(name, op, sign, index, value, frame)
+    let index = index_value(t, frame, gate)?;
+    ended(combine(name, op, sign, index, value, frame))
 }
 
 /// The same of an element that is a truth value.
@@ -246,15 +253,16 @@ pub(crate) fn set_element(
 /// # Errors
 /// The fault of a part; `F1` at the array's name.
 #[inline(always)]
-pub(crate) fn set_truth_element(
+pub(crate) fn set_truth_element<G: Gate>(
     name: &ArrayName<'_>,
     t: &IndexExpr<'_>,
     e: &BoolExpr<'_>,
     frame: &mut Frame<'_>,
-) -> Result<(), Trap>
-    ensures ends { (done : Deeds) → exec frame.old.limits in_memory (element_set (array_leaf BoolKind name.now) t.now Set nowhere (truth_view e.now)) frame.old.memory done ≡ ends_as (memory_after result frame.new.memory) done }
+    gate: &G,
+) -> Result<(), Stop>
+    ensures ends { (done : Deeds) → RunsTo (MayRefuseSome (G.may_refuse gate.now)) result frame.new.memory done (exec frame.old.limits in_memory (element_set (array_leaf BoolKind name.now) t.now Set nowhere (truth_view e.now)) frame.old.memory done) }
     ensures limits { frame.new.limits ≡ frame.old.limits }
 {
-    let value = truth_value(e, frame)?.get();
-    put_at(name, t, word_of(value), frame)
+    let value = truth_value(e, frame, gate)?.get();
+    put_at(name, t, word_of(value), frame, gate)
 }

@@ -20,4 +20,3 @@ pub use context::Context;
 pub use each::{bind, domain_indices};
 pub use print::write;
 pub use statement::{range_indices, run};
-pub use whole::{set_array, set_truth_array};

@@ -4,7 +4,8 @@
 ghost use Rattle.std.specs.Prelude.{◌≡◌};
 ghost use Rattle.dpl_steps.specs.Owners.{IsOwnedBy};
 
-use dpl_nodes::{DomainWord, Frame, Placing};
+use dpl_frame::{DomainWord, Frame};
+use dpl_nodes::Placing;
 use dpl_values::placed;
 
 /// Gives a slot the map of a domain or array that is declared with this domain.

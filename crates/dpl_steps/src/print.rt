@@ -8,13 +8,15 @@ ghost use Rattle.dpl_language.specs.Writing.{line_end};
 ghost use Rattle.dpl_language.specs.Statements.{exec};
 ghost use Rattle.dpl_memory.specs.Memory.{in_memory};
 ghost use Rattle.dpl_nodes.specs.Steps.{written_as};
-ghost use Rattle.dpl_loop.specs.Runs.{RunEnds};
+ghost use Rattle.dpl_loop.specs.Entries.{MayRefuseSome};
+ghost use Rattle.dpl_loop.specs.Runs.{RunsTo};
 ghost use Rattle.dpl_steps.specs.Runs.{having_printed};
 ghost use Rattle.dpl_steps.specs.Texts.{argument_text, arguments_text, GrewBy};
 
 use crate::array_text::show_array;
-use dpl_loop::Stop;
-use dpl_nodes::{Argument, Frame};
+use dpl_frame::Frame;
+use dpl_loop::{Gate, Stop};
+use dpl_nodes::Argument;
 use dpl_values::{int_value, truth_value};
 use itoa::Buffer;
 use std::alloc::AllocError;
@@ -30,18 +32,23 @@ fn print(n: i64, out: &mut Vec<u8>) -> Result<(), AllocError>
 
 // Appends the text of an argument.
 #[tactic(auto, using(crate::proofs::Shown::shown_int, crate::proofs::Shown::shown_truth))]
-fn show(argument: &Argument<'_>, frame: &Frame<'_>, out: &mut Vec<u8>) -> Result<(), Stop>
-    ensures { GrewBy result out.old.items out.new.items (argument_text frame.now.limits argument.now frame.now.memory) }
+fn show<G: Gate>(
+    argument: &Argument<'_>,
+    frame: &Frame<'_>,
+    gate: &G,
+    out: &mut Vec<u8>,
+) -> Result<(), Stop>
+    ensures { GrewBy (MayRefuseSome (G.may_refuse gate.now)) result out.old.items out.new.items (argument_text frame.now.limits argument.now frame.now.memory) }
 {
     match argument {
         Argument::Text(bytes) => out.extend_from_slice(bytes)?,
         Argument::Int(e) => {
-            let number = int_value(e, frame)?;
+            let number = int_value(e, frame, gate)?;
             print(number, out)?;
         }
         Argument::Array(kind, slot) => show_array(*kind, *slot, frame, out)?,
         Argument::Truth(e) => {
-            if truth_value(e, frame)?.get() {
+            if truth_value(e, frame, gate)?.get() {
                 out.extend_from_slice(b"true")?;
             } else {
                 out.extend_from_slice(b"false")?;
@@ -52,11 +59,16 @@ fn show(argument: &Argument<'_>, frame: &Frame<'_>, out: &mut Vec<u8>) -> Result
 }
 
 // Appends the texts of arguments.
-fn show_all(arguments: &[Argument<'_>], frame: &Frame<'_>, out: &mut Vec<u8>) -> Result<(), Stop>
-    ensures { GrewBy result out.old.items out.new.items (arguments_text frame.now.limits arguments.now frame.now.memory) }
+fn show_all<G: Gate>(
+    arguments: &[Argument<'_>],
+    frame: &Frame<'_>,
+    gate: &G,
+    out: &mut Vec<u8>,
+) -> Result<(), Stop>
+    ensures { GrewBy (MayRefuseSome (G.may_refuse gate.now)) result out.old.items out.new.items (arguments_text frame.now.limits arguments.now frame.now.memory) }
 {
     for argument in arguments {
-        show(argument, frame, out)?;
+        show(argument, frame, gate, out)?;
     }
     Ok(())
 }
@@ -75,17 +87,18 @@ fn end_line(ends_line: bool, out: &mut Vec<u8>) -> Result<(), AllocError>
 ///
 /// # Errors
 /// The fault of an argument, which prints nothing; out of memory for what is printed.
-pub fn write(
+pub fn write<G: Gate>(
     ends_line: bool,
     arguments: &[Argument<'_>],
     frame: &Frame<'_>,
+    gate: &G,
     out: &mut Vec<u8>,
 ) -> Result<(), Stop>
-    ensures { (done : Deeds) → RunEnds result frame.now.memory (having_printed out.new.items done)
+    ensures { (done : Deeds) → RunsTo (MayRefuseSome (G.may_refuse gate.now)) result frame.now.memory (having_printed out.new.items done)
         (exec frame.now.limits in_memory (written_as ends_line arguments.now) frame.now.memory (having_printed out.old.items done)) }
 {
     let start = out.len();
-    if let Err(halt) = show_all(arguments, frame, out) {
+    if let Err(halt) = show_all(arguments, frame, gate, out) {
         out.truncate(start);
         return Err(halt);
     }

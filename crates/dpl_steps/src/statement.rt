@@ -10,9 +10,10 @@ ghost use Rattle.dpl_nodes.specs.Typed.{truth_view, range_item};
 ghost use Rattle.dpl_language.specs.Tree.{For as ForTree};
 ghost use Rattle.dpl_lowered.specs.Shapes.{nowhere};
 ghost use Rattle.dpl_nodes.specs.Steps.{listed, variable_in};
-ghost use Rattle.dpl_nodes.specs.Faults.{of_range};
+ghost use Rattle.dpl_frame.specs.Faults.{as_range};
 ghost use Rattle.dpl_loop.specs.Runs.{RunsTo};
 ghost use Rattle.dpl_loop.specs.Entries.{MayRefuseSome};
+ghost use Rattle.dpl_loop.specs.Values.{Gives};
 ghost use Rattle.dpl_steps.specs.Readings.{step_in, else_in, steps_in};
 ghost use Rattle.dpl_steps.specs.Turns.{in_turn, turn_in_memory, looped_over};
 
@@ -22,9 +23,11 @@ use crate::declare::declare_array;
 use crate::domain::{declare_empty, set_domain};
 use crate::each::for_each;
 use crate::simple;
-use dpl_loop::Stop;
+use crate::whole::{set_array, set_truth_array};
+use dpl_frame::{FaultCode, Frame, RangeWord, Trap};
 use dpl_loop::stop::told;
-use dpl_nodes::{BoolExpr, Else, FaultCode, Frame, RangeExpr, RangeWord, Spot, Step, Trap};
+use dpl_loop::{Gate, Stop};
+use dpl_nodes::{BoolExpr, Else, RangeExpr, Spot, Step};
 use dpl_range::Range;
 use dpl_values::{range_value, truth_value};
 
@@ -32,12 +35,17 @@ use dpl_values::{range_value, truth_value};
 ///
 /// # Errors
 /// The fault of the range; `F5` at the loop where it has more members than the budget.
-pub fn range_indices(at: &Spot, over: &RangeExpr<'_>, frame: &Frame<'_>) -> Result<RangeWord, Trap>
-    ensures { looped_over frame.now.limits at.now (range_item over.now) frame.now.memory ≡ of_range result }
+pub fn range_indices<G: Gate>(
+    at: &Spot,
+    over: &RangeExpr<'_>,
+    frame: &Frame<'_>,
+    gate: &G,
+) -> Result<RangeWord, Stop>
+    ensures { Gives (MayRefuseSome (G.may_refuse gate.now)) as_range result (looped_over frame.now.limits at.now (range_item over.now) frame.now.memory) }
 {
-    let range = range_value(over, frame)?;
+    let range = range_value(over, frame, gate)?;
     if frame.budget() < range.range.size() {
-        return Err(Trap::new(FaultCode::Budget, *at));
+        return Err(Stop::from(Trap::new(FaultCode::Budget, *at)));
     }
     Ok(range)
 }
@@ -54,7 +62,7 @@ pub fn run<'t, C: Context>(
     frame: &mut Frame<'t>,
     out: &mut C::Out,
 ) -> Result<(), Stop>
-    ensures ends { (done : Deeds) → RunsTo (MayRefuseSome (C.may context.now)) result frame.new.memory (C.having out.new done)
+    ensures ends { (done : Deeds) → RunsTo (MayRefuseSome (C.may_refuse context.now)) result frame.new.memory (C.having out.new done)
         (exec_all frame.old.limits in_memory (steps_in C.standing steps.now) frame.old.memory (C.having out.old done)) }
     ensures limits { frame.new.limits ≡ frame.old.limits }
 {
@@ -72,27 +80,29 @@ fn statement<'t, C: Context>(
     frame: &mut Frame<'t>,
     out: &mut C::Out,
 ) -> Result<(), Stop>
-    ensures ends { (done : Deeds) → RunsTo (MayRefuseSome (C.may context.now)) result frame.new.memory (C.having out.new done)
+    ensures ends { (done : Deeds) → RunsTo (MayRefuseSome (C.may_refuse context.now)) result frame.new.memory (C.having out.new done)
         (exec frame.old.limits in_memory (step_in C.standing step.now) frame.old.memory (C.having out.old done)) }
     ensures limits { frame.new.limits ≡ frame.old.limits }
 {
     match step {
         Step::Nothing => Ok(()),
-        Step::Int(deed, slot, e) => told(change_int(deed, *slot, e, frame)),
-        Step::DeclareRange(slot, e) => simple::range(*slot, e, frame),
-        Step::SetRange(slot, e) => simple::range(*slot, e, frame),
-        Step::Truth(deed, slot, e) => simple::truth(*deed, *slot, e, frame),
-        Step::DeclareDomain(slot, e, placing) => simple::domain(*slot, e, *placing, frame),
+        Step::Int(deed, slot, e) => change_int(deed, *slot, e, frame, context),
+        Step::DeclareRange(slot, e) => simple::range(*slot, e, frame, context),
+        Step::SetRange(slot, e) => simple::range(*slot, e, frame, context),
+        Step::Truth(deed, slot, e) => simple::truth(*deed, *slot, e, frame, context),
+        Step::DeclareDomain(slot, e, placing) => simple::domain(*slot, e, *placing, frame, context),
         Step::DeclareEmpty(slot, rank, placing) => {
             declare_empty(*slot, *rank, *placing, frame);
             Ok(())
         }
-        Step::SetDomain(name, e) => set_domain(name, e, frame),
-        Step::DeclareArray(declared) => declare_array(declared, frame),
-        Step::SetElement(name, t, op, sign, e) => simple::element(name, t, *op, sign, e, frame),
-        Step::SetTruthElement(name, t, e) => simple::truth_element(name, t, e, frame),
-        Step::SetArray(name, op, sign, e) => context.set_array(name, *op, sign, e, frame),
-        Step::SetTruthArray(name, sign, e) => context.set_truth_array(name, sign, e, frame),
+        Step::SetDomain(name, e) => set_domain(name, e, frame, context),
+        Step::DeclareArray(declared) => declare_array(declared, frame, context),
+        Step::SetElement(name, t, op, sign, e) => simple::element(
+            name, t, *op, sign, e, frame, context,
+        ),
+        Step::SetTruthElement(name, t, e) => simple::truth_element(name, t, e, frame, context),
+        Step::SetArray(name, op, sign, e) => set_array(name, *op, sign, e, frame, context),
+        Step::SetTruthArray(name, sign, e) => set_truth_array(name, sign, e, frame, context),
         Step::Write {
             ends_line,
             arguments,
@@ -103,7 +113,7 @@ fn statement<'t, C: Context>(
             body,
             otherwise,
         } => {
-            if truth_value(condition, frame)?.get() {
+            if truth_value(condition, frame, context)?.get() {
                 run(body, context, frame, out)
             } else {
                 alternative(otherwise, context, frame, out)
@@ -155,11 +165,11 @@ fn for_loop<'t, C: Context>(
     frame: &mut Frame<'t>,
     out: &mut C::Out,
 ) -> Result<(), Stop>
-    ensures ends { (done : Deeds) → RunsTo (MayRefuseSome (C.may context.now)) result frame.new.memory (C.having out.new done)
+    ensures ends { (done : Deeds) → RunsTo (MayRefuseSome (C.may_refuse context.now)) result frame.new.memory (C.having out.new done)
         (exec frame.old.limits in_memory (ForTree at.now (variable_in slot) nowhere (range_item over.now) (listed (steps_in C.standing body.now))) frame.old.memory (C.having out.old done)) }
     ensures limits { frame.new.limits ≡ frame.old.limits }
 {
-    let range = range_indices(at, over, frame)?.range;
+    let range = range_indices(at, over, frame, context)?.range;
     turns(range, slot, body, context, frame, out)
 }
 
@@ -171,7 +181,7 @@ fn alternative<'t, C: Context>(
     frame: &mut Frame<'t>,
     out: &mut C::Out,
 ) -> Result<(), Stop>
-    ensures ends { (done : Deeds) → RunsTo (MayRefuseSome (C.may context.now)) result frame.new.memory (C.having out.new done)
+    ensures ends { (done : Deeds) → RunsTo (MayRefuseSome (C.may_refuse context.now)) result frame.new.memory (C.having out.new done)
         (exec_else frame.old.limits in_memory (else_in C.standing otherwise.now) frame.old.memory (C.having out.old done)) }
     ensures limits { frame.new.limits ≡ frame.old.limits }
 {
@@ -192,12 +202,12 @@ fn while_loop<'t, C: Context>(
     frame: &mut Frame<'t>,
     out: &mut C::Out,
 ) -> Result<(), Stop>
-    ensures ends { (done : Deeds) → RunsTo (MayRefuseSome (C.may context.now)) result frame.new.memory (C.having out.new done)
+    ensures ends { (done : Deeds) → RunsTo (MayRefuseSome (C.may_refuse context.now)) result frame.new.memory (C.having out.new done)
         (repeated frame.old.limits.budget at.now (holds frame.old.limits in_memory (truth_view condition.now)) (exec_all frame.old.limits in_memory (steps_in C.standing body.now)) frame.old.memory (C.having out.old done)) }
     ensures limits { frame.new.limits ≡ frame.old.limits }
 {
     let mut left = frame.budget();
-    while truth_value(condition, frame)?.get() {
+    while truth_value(condition, frame, context)?.get() {
         if left == 0 {
             return told(Err(Trap::new(FaultCode::Budget, *at)));
         }
@@ -220,7 +230,7 @@ fn turn<'t, C: Context>(
     out: &mut C::Out,
 ) -> Result<(), Stop>
     requires { k < length (members_of range) }
-    ensures ends { (i : ℤ) (done : Deeds) → slice_get (members_of range) k ≡ Some i → RunsTo (MayRefuseSome (C.may context.now)) result frame.new.memory (C.having out.new done)
+    ensures ends { (i : ℤ) (done : Deeds) → slice_get (members_of range) k ≡ Some i → RunsTo (MayRefuseSome (C.may_refuse context.now)) result frame.new.memory (C.having out.new done)
         (turn_in_memory frame.old.limits slot (steps_in C.standing body.now) i frame.old.memory (C.having out.old done)) }
     ensures limits { frame.new.limits ≡ frame.old.limits }
 {
@@ -242,7 +252,7 @@ fn turns<'t, C: Context>(
     frame: &mut Frame<'t>,
     out: &mut C::Out,
 ) -> Result<(), Stop>
-    ensures ends { (done : Deeds) → RunsTo (MayRefuseSome (C.may context.now)) result frame.new.memory (C.having out.new done)
+    ensures ends { (done : Deeds) → RunsTo (MayRefuseSome (C.may_refuse context.now)) result frame.new.memory (C.having out.new done)
         (in_turn (turn_in_memory frame.old.limits slot (steps_in C.standing body.now)) (members_of range) frame.old.memory (C.having out.old done)) }
     ensures limits { frame.new.limits ≡ frame.old.limits }
 {

@@ -20,13 +20,14 @@ ghost use Rattle.dpl_steps.specs.Changes.{signed};
 ghost use Rattle.dpl_steps.specs.Arrays.{array_set};
 ghost use Rattle.dpl_steps.specs.Dealt.{owned_by};
 ghost use Rattle.dpl_loop.specs.Runs.{RunsTo};
-ghost use Rattle.dpl_loop.specs.Entries.{MayRefuse};
+ghost use Rattle.dpl_loop.specs.Entries.{MayRefuse, MayRefuseSome};
 
 use crate::element::{change, change_truth};
 use dpl_domain::Index;
+use dpl_frame::{DomainWord, Frame};
 use dpl_loop::stop::told;
-use dpl_loop::{Gate, Stop, Turns, forall};
-use dpl_nodes::{ArrayName, DomainWord, Frame, PromotedInt, PromotedTruth, Spot};
+use dpl_loop::{Gate, OpenGate, Stop, Turns, forall};
+use dpl_nodes::{ArrayName, PromotedInt, PromotedTruth, Spot};
 use dpl_tree::Assign;
 use dpl_values::budget::within_budget;
 use dpl_values::domain::coordinate;
@@ -64,7 +65,7 @@ impl<'e, 'x, 't> Turns<'t> for Promote<'e, 'x> {
 
     #[inline(always)]
     fn make(&self, index: Index, frame: &mut Frame<'t>) -> Result<(), Stop> {
-        let value = promoted_int_value(self.e, &index, frame)?;
+        let value = promoted_int_value(self.e, &index, frame, &OpenGate)?;
         told(change(self.name, self.op, self.sign, index, value, frame))
     }
 }
@@ -99,26 +100,26 @@ impl<'e, 'x, 't> Turns<'t> for PromoteTruth<'e, 'x> {
 
     #[inline(always)]
     fn make(&self, index: Index, frame: &mut Frame<'t>) -> Result<(), Stop> {
-        let value = promoted_truth_value(self.e, &index, frame)?.get();
+        let value = promoted_truth_value(self.e, &index, frame, &OpenGate)?.get();
         told(change_truth(self.name, index, value, frame))
     }
 }
 
-// The turns of a domain that has no more indices than the budget, by the map of a slot.
+// The turns of a domain that has no more indices than the budget, by the map of the array of a name.
 fn each_within<'t, T: Turns<'t>, G: Gate>(
     turns: &T,
     at: &Spot,
-    slot: usize,
+    name: &ArrayName<'_>,
     domain: DomainWord,
     frame: &mut Frame<'t>,
     gate: &G,
 ) -> Result<(), Stop>
-    ensures ends { (done : Deeds) → RunsTo (MayRefuse (G.may_refuse gate.now) (owned_by frame.old slot) domain) result frame.new.memory done
+    ensures ends { (done : Deeds) → RunsTo (MayRefuse (G.may_refuse gate.now) (owned_by frame.old name.now.slot) domain) result frame.new.memory done
         (within_budget frame.old.limits at.now domain (named_turn (T.turn turns.now frame.old.limits)) frame.old.memory done) }
     ensures limits { frame.new.limits ≡ frame.old.limits }
 {
     within_budget(&domain, at, frame)?;
-    let map = frame.owner(slot);
+    let map = frame.owner(name.slot);
     forall(turns, domain, &map, frame, gate)
 }
 
@@ -133,18 +134,18 @@ fn set_once<'t, G: Gate>(
     gate: &G,
 ) -> Result<(), Stop>
     requires { whole_in frame.old.limits in_memory (promoted_int EachTurn e.now) frame.old.memory ≡ None }
-    ensures ends { (done : Deeds) → RunsTo (MayRefuse (G.may_refuse gate.now) (owned_by frame.old name.now.slot) domain) result frame.new.memory done
+    ensures ends { (done : Deeds) → RunsTo (MayRefuseSome (G.may_refuse gate.now)) result frame.new.memory done
         (array_set frame.old.limits IntKind name.now (assign_view op) sign.now (promoted_int EachTurn e.now) domain None frame.old.memory done) }
     ensures limits { frame.new.limits ≡ frame.old.limits }
 {
-    let value = promoted_int_value(e, &coordinate(0), frame)?;
+    let value = promoted_int_value(e, &coordinate(0), frame, gate)?;
     let turns = Fill {
         name,
         op,
         sign,
         value,
     };
-    each_within(&turns, sign, name.slot, domain, frame, gate)
+    each_within(&turns, sign, name, domain, frame, gate)
 }
 
 // The same of truth values.
@@ -157,13 +158,13 @@ fn set_truth_once<'t, G: Gate>(
     gate: &G,
 ) -> Result<(), Stop>
     requires { whole_in frame.old.limits in_memory (promoted_truth EachTurn e.now) frame.old.memory ≡ None }
-    ensures ends { (done : Deeds) → RunsTo (MayRefuse (G.may_refuse gate.now) (owned_by frame.old name.now.slot) domain) result frame.new.memory done
+    ensures ends { (done : Deeds) → RunsTo (MayRefuseSome (G.may_refuse gate.now)) result frame.new.memory done
         (array_set frame.old.limits BoolKind name.now Set sign.now (promoted_truth EachTurn e.now) domain None frame.old.memory done) }
     ensures limits { frame.new.limits ≡ frame.old.limits }
 {
-    let value = promoted_truth_value(e, &coordinate(0), frame)?.get();
+    let value = promoted_truth_value(e, &coordinate(0), frame, gate)?.get();
     let turns = FillTruth { name, sign, value };
-    each_within(&turns, sign, name.slot, domain, frame, gate)
+    each_within(&turns, sign, name, domain, frame, gate)
 }
 
 // An int with a whole array is evaluated at the index of each element.
@@ -181,7 +182,7 @@ fn set_each<'t, G: Gate>(
     ensures limits { frame.new.limits ≡ frame.old.limits }
 {
     let turns = Promote { name, op, sign, e };
-    each_within(&turns, sign, name.slot, domain, frame, gate)
+    each_within(&turns, sign, name, domain, frame, gate)
 }
 
 // The same of truth values.
@@ -198,7 +199,7 @@ fn set_truth_each<'t, G: Gate>(
     ensures limits { frame.new.limits ≡ frame.old.limits }
 {
     let turns = PromoteTruth { name, sign, e };
-    each_within(&turns, sign, name.slot, domain, frame, gate)
+    each_within(&turns, sign, name, domain, frame, gate)
 }
 
 /// An assignment to a whole array of ints.
@@ -207,7 +208,7 @@ fn set_truth_each<'t, G: Gate>(
 /// The fault of a right side that is evaluated once; `F5` at the operator for more elements than the budget; the fault of
 /// an index, in its turn; or the gate refused the entry of an element's owner.
 #[inline(never)]
-pub fn set_array<'t, G: Gate>(
+pub(crate) fn set_array<'t, G: Gate>(
     name: &ArrayName<'_>,
     op: Assign,
     sign: &Spot,
@@ -215,7 +216,7 @@ pub fn set_array<'t, G: Gate>(
     frame: &mut Frame<'t>,
     gate: &G,
 ) -> Result<(), Stop>
-    ensures ends { (done : Deeds) → RunsTo (MayRefuse (G.may_refuse gate.now) (owned_by frame.old name.now.slot) (array_at name.now.slot frame.old.memory).ranges) result frame.new.memory done
+    ensures ends { (done : Deeds) → RunsTo (MayRefuseSome (G.may_refuse gate.now)) result frame.new.memory done
         (exec frame.old.limits in_memory (whole_set (array_leaf IntKind name.now) (assign_view op) sign.now (promoted_int EachTurn e.now)) frame.old.memory done) }
     ensures limits { frame.new.limits ≡ frame.old.limits }
 {
@@ -231,14 +232,14 @@ pub fn set_array<'t, G: Gate>(
 /// # Errors
 /// As for ints.
 #[inline(never)]
-pub fn set_truth_array<'t, G: Gate>(
+pub(crate) fn set_truth_array<'t, G: Gate>(
     name: &ArrayName<'_>,
     sign: &Spot,
     e: &PromotedTruth<'_>,
     frame: &mut Frame<'t>,
     gate: &G,
 ) -> Result<(), Stop>
-    ensures ends { (done : Deeds) → RunsTo (MayRefuse (G.may_refuse gate.now) (owned_by frame.old name.now.slot) (array_at name.now.slot frame.old.memory).ranges) result frame.new.memory done
+    ensures ends { (done : Deeds) → RunsTo (MayRefuseSome (G.may_refuse gate.now)) result frame.new.memory done
         (exec frame.old.limits in_memory (whole_set (array_leaf BoolKind name.now) Set sign.now (promoted_truth EachTurn e.now)) frame.old.memory done) }
     ensures limits { frame.new.limits ≡ frame.old.limits }
 {

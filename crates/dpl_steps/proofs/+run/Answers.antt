@@ -13,16 +13,14 @@ use Rattle.dpl_words.specs.Words.{RangeLeaf}
 use Rattle.dpl_memory.specs.Memory.{range_leaf, in_memory}
 use Rattle.dpl_nodes.specs.Typed.{int_view, truth_view, range_item, domain_view}
 use Rattle.dpl_contents.specs.Range.{range_word}
-use Rattle.dpl_nodes.specs.Frames.{Framed}
+use Rattle.dpl_frame.specs.Frames.{Framed}
 use Rattle.dpl_steps.specs.Readings.{step_in, else_in, steps_in}
-use Rattle.dpl_steps.specs.Changes.{ends_as}
 use Rattle.dpl_steps.specs.Turns.{turn_in_memory, index_turn}
 use Rattle.dpl_nodes.proofs.Unread.{cell_read-int, cell_read-truth, item_read-range}
 use Rattle.dpl_array.proofs.WalkLemmas.{walk-next, walk-end}
-use Rattle.dpl_loop.proofs.Ends.{then_do-halts, halts-alike, ends-alike, ends-within, fault-ends}
-use Rattle.dpl_steps.proofs.Changing.{told-ends, exec-declared, exec-assigned, exec-int, exec-truth}
+use Rattle.dpl_loop.proofs.Ends.{then_do-halts, halts-alike, ends-alike}
+use Rattle.dpl_steps.proofs.Changing.{gives-halts, gives-ends, exec-declared, exec-assigned, exec-int, exec-truth}
 use Rattle.dpl_steps.proofs.Looping.{in_order-done, in_order-halts, for-domain, scoped-same, in_turn-done, in_turn-halts, for-turns, repeated-fault, repeated-ends, repeated-step, holds-value, holds-fault, if-then, exec-while}
-use Rattle.dpl_steps.proofs.Dealing.{ends-of-entry, ends-over}
 use Rattle.dpl_steps.proofs.Views.{for_each_in, forall_in, block_in, if_in, while_in, for_in, forall_line_in}
 use Rattle.dpl_steps.proofs.+run.Goals as goal
 
@@ -34,8 +32,9 @@ statement::statement-returns-in-Int-clause-ends g t c done =
     let limits = c.args.frame.now.limits in
     let w = c.args.frame.now.memory in
     let d = having c.args.out.now done in
-    told-ends _ c.change_int.result c.told.result c.change_int.new.frame.memory d _ c.told.ensures
-    (ap (λ s. exec limits in_memory (step_in standing s) w d) c.in-Int.is ∙ exec-int limits c.in-Int.deed c.in-Int.slot (One (int_view c.in-Int.e.now)) w d (cell_read-int c.in-Int.e.now) ∙ ap (λ r. ends_as r d) c.change_int.ensures.memory)
+    gives-ends _ c.change_int.result c.change_int.new.frame.memory d _ _
+    (ap (λ s. exec limits in_memory (step_in standing s) w d) c.in-Int.is ∙ exec-int limits c.in-Int.deed c.in-Int.slot (One (int_view c.in-Int.e.now)) w d (cell_read-int c.in-Int.e.now))
+    c.change_int.ensures.memory
 
 pub statement::statement-returns-in-DeclareRange-clause-ends : goal.statement::statement-returns-in-DeclareRange-clause-ends
 statement::statement-returns-in-DeclareRange-clause-ends g t c done =
@@ -44,7 +43,7 @@ statement::statement-returns-in-DeclareRange-clause-ends g t c done =
     let limits = c.args.frame.now.limits in
     let w = c.args.frame.now.memory in
     let d = having c.args.out.now done in
-    ends-within _ c.range.result c.range.new.frame.memory d _ _
+    ends-alike _ c.range.result c.range.new.frame.memory d _ _
     (ap (λ s. exec limits in_memory (step_in standing s) w d) c.in-DeclareRange.is ∙ exec-declared limits (range_leaf c.in-DeclareRange.slot) (range_item c.in-DeclareRange.e.now) w d (item_read-range c.in-DeclareRange.e.now))
     (c.range.ensures.ends d)
 
@@ -55,7 +54,7 @@ statement::statement-returns-in-SetRange-clause-ends g t c done =
     let limits = c.args.frame.now.limits in
     let w = c.args.frame.now.memory in
     let d = having c.args.out.now done in
-    ends-within _ c.range-in-SetRange.result c.range-in-SetRange.new.frame.memory d _ _
+    ends-alike _ c.range-in-SetRange.result c.range-in-SetRange.new.frame.memory d _ _
     (ap (λ s. exec limits in_memory (step_in standing s) w d) c.in-SetRange.is ∙ exec-assigned limits RangeLeaf c.in-SetRange.slot Set nowhere (range_item c.in-SetRange.e.now) w d (item_read-range c.in-SetRange.e.now))
     (c.range-in-SetRange.ensures.ends d)
 
@@ -66,7 +65,7 @@ statement::statement-returns-in-Truth-clause-ends g t c done =
     let limits = c.args.frame.now.limits in
     let w = c.args.frame.now.memory in
     let d = having c.args.out.now done in
-    ends-within _ c.truth.result c.truth.new.frame.memory d _ _
+    ends-alike _ c.truth.result c.truth.new.frame.memory d _ _
     (ap (λ s. exec limits in_memory (step_in standing s) w d) c.in-Truth.is ∙ exec-truth limits c.in-Truth.deed c.in-Truth.slot (One (truth_view c.in-Truth.e.now)) w d (cell_read-truth c.in-Truth.e.now))
     (c.truth.ensures.ends d)
 
@@ -115,7 +114,7 @@ statement::statement-returns-in-DeclareDomain-clause-ends g t c done =
     let having = g.C.Context.having in
     let standing = g.C.Context.standing in
     let d = having c.args.out.now done in
-    ends-within _ c.domain.result c.domain.new.frame.memory d _ _
+    ends-alike _ c.domain.result c.domain.new.frame.memory d _ _
     (ap (λ s. exec c.args.frame.now.limits in_memory (step_in standing s) c.args.frame.now.memory d) c.in-DeclareDomain.is) (c.domain.ensures.ends d)
 
 pub statement::statement-returns-in-DeclareEmpty-clause-ends : goal.statement::statement-returns-in-DeclareEmpty-clause-ends
@@ -130,7 +129,7 @@ statement::statement-returns-in-SetDomain-clause-ends g t c done =
     let having = g.C.Context.having in
     let standing = g.C.Context.standing in
     let d = having c.args.out.now done in
-    ends-within _ c.set_domain.result c.set_domain.new.frame.memory d _ _
+    ends-alike _ c.set_domain.result c.set_domain.new.frame.memory d _ _
     (ap (λ s. exec c.args.frame.now.limits in_memory (step_in standing s) c.args.frame.now.memory d) c.in-SetDomain.is) (c.set_domain.ensures.ends d)
 
 pub statement::statement-returns-in-DeclareArray-clause-ends : goal.statement::statement-returns-in-DeclareArray-clause-ends
@@ -138,7 +137,7 @@ statement::statement-returns-in-DeclareArray-clause-ends g t c done =
     let having = g.C.Context.having in
     let standing = g.C.Context.standing in
     let d = having c.args.out.now done in
-    ends-within _ c.declare_array.result c.declare_array.new.frame.memory d _ _
+    ends-alike _ c.declare_array.result c.declare_array.new.frame.memory d _ _
     (ap (λ s. exec c.args.frame.now.limits in_memory (step_in standing s) c.args.frame.now.memory d) c.in-DeclareArray.is) (c.declare_array.ensures.ends d)
 
 pub statement::statement-returns-in-SetElement-clause-ends : goal.statement::statement-returns-in-SetElement-clause-ends
@@ -146,7 +145,7 @@ statement::statement-returns-in-SetElement-clause-ends g t c done =
     let having = g.C.Context.having in
     let standing = g.C.Context.standing in
     let d = having c.args.out.now done in
-    ends-within _ c.element.result c.element.new.frame.memory d _ _
+    ends-alike _ c.element.result c.element.new.frame.memory d _ _
     (ap (λ s. exec c.args.frame.now.limits in_memory (step_in standing s) c.args.frame.now.memory d) c.in-SetElement.is) (c.element.ensures.ends d)
 
 pub statement::statement-returns-in-SetTruthElement-clause-ends : goal.statement::statement-returns-in-SetTruthElement-clause-ends
@@ -154,7 +153,7 @@ statement::statement-returns-in-SetTruthElement-clause-ends g t c done =
     let having = g.C.Context.having in
     let standing = g.C.Context.standing in
     let d = having c.args.out.now done in
-    ends-within _ c.truth_element.result c.truth_element.new.frame.memory d _ _
+    ends-alike _ c.truth_element.result c.truth_element.new.frame.memory d _ _
     (ap (λ s. exec c.args.frame.now.limits in_memory (step_in standing s) c.args.frame.now.memory d) c.in-SetTruthElement.is) (c.truth_element.ensures.ends d)
 
 pub statement::statement-returns-in-SetArray-clause-ends : goal.statement::statement-returns-in-SetArray-clause-ends
@@ -162,7 +161,7 @@ statement::statement-returns-in-SetArray-clause-ends g t c done =
     let having = g.C.Context.having in
     let standing = g.C.Context.standing in
     let d = having c.args.out.now done in
-    ends-of-entry _ _ _ c.set_array.result c.set_array.new.frame.memory d _ _
+    ends-alike _ c.set_array.result c.set_array.new.frame.memory d _ _
     (ap (λ s. exec c.args.frame.now.limits in_memory (step_in standing s) c.args.frame.now.memory d) c.in-SetArray.is) (c.set_array.ensures.ends d)
 
 pub statement::statement-returns-in-SetTruthArray-clause-ends : goal.statement::statement-returns-in-SetTruthArray-clause-ends
@@ -170,7 +169,7 @@ statement::statement-returns-in-SetTruthArray-clause-ends g t c done =
     let having = g.C.Context.having in
     let standing = g.C.Context.standing in
     let d = having c.args.out.now done in
-    ends-of-entry _ _ _ c.set_truth_array.result c.set_truth_array.new.frame.memory d _ _
+    ends-alike _ c.set_truth_array.result c.set_truth_array.new.frame.memory d _ _
     (ap (λ s. exec c.args.frame.now.limits in_memory (step_in standing s) c.args.frame.now.memory d) c.in-SetTruthArray.is) (c.set_truth_array.ensures.ends d)
 
 -- BLOCKS, BRANCHES AND LOOPS
@@ -231,7 +230,7 @@ statement::statement-returns-in-Forall-clause-ends g t c done =
     let limits = c.args.frame.now.limits in
     let w = c.args.frame.now.memory in
     let d = having c.args.out.now done in
-    ends-over _ _ _ _ c.forall_line.result c.forall_line.new.frame.memory d _ _
+    ends-alike _ c.forall_line.result c.forall_line.new.frame.memory d _ _
     (ap (λ s. exec limits in_memory (step_in standing s) w d) c.in-Forall.is
     ∙ ap (λ t. exec limits in_memory t w d) (forall_line_in standing c.in-Forall.at c.in-Forall.slot c.in-Forall.over c.in-Forall.intents c.in-Forall.body))
     (c.forall_line.ensures.ends d)
@@ -254,12 +253,12 @@ statement::while_loop-returns-in_err-truth_value-clause-ends g t c done =
     let body = exec_all limits in_memory (steps_in standing c.args.body.now) in
     let w = c.loop-left.frame.memory in
     let d = having c.loop-left.out done in
-    let f = c.in_err-truth_value.field-0.0 in
     let p = err_from_is_err_and c.from_residual.result c.from_residual.ensures.1 in
-    rw p.1
-    (fault-ends _ f p.0 w d _ p.2
-    (sym (c.loop-left.invariant.ends done)
-    ∙ repeated-fault c.args.at.now (holds limits in_memory e) body c.loop-left.left w d f (holds-fault limits e w f (ap (λ l. value_of l in_memory e None w) (sym c.loop-left.invariant.limits) ∙ c.in_err-truth_value.ensures))))
+    rw (p.1, p.2)
+    (gives-halts _ _ Truth c.in_err-truth_value.field-0.0 _ w d _ (λ m. m)
+    (λ f is. sym (c.loop-left.invariant.ends done)
+    ∙ repeated-fault c.args.at.now (holds limits in_memory e) body c.loop-left.left w d f (holds-fault limits e w f (ap (λ l. value_of l in_memory e None w) (sym c.loop-left.invariant.limits) ∙ is)))
+    c.in_err-truth_value.ensures)
 
 pub statement::while_loop-loop-left-preserved : goal.statement::while_loop-loop-left-preserved
 statement::while_loop-loop-left-preserved g t c =
@@ -334,7 +333,7 @@ statement::statement-returns-in-ForallEach-clause-ends g t c done =
     let limits = c.args.frame.now.limits in
     let w = c.args.frame.now.memory in
     let d = having c.args.out.now done in
-    ends-over _ _ _ _ c.forall.result c.forall.new.frame.memory d _ _
+    ends-alike _ c.forall.result c.forall.new.frame.memory d _ _
     (ap (λ s. exec limits in_memory (step_in standing s) w d) c.in-ForallEach.is
     ∙ ap (λ t. exec limits in_memory t w d) (forall_in standing c.in-ForallEach.at c.in-ForallEach.names c.in-ForallEach.over c.in-ForallEach.intents c.in-ForallEach.body))
     (c.forall.ensures.ends d)

@@ -9,29 +9,30 @@ use Rattle.dpl_language.specs.Outcome.{Done}
 use Rattle.dpl_language.specs.Expressions.{whole_in}
 use Rattle.dpl_lowered.specs.LoweredExpressions.{EachTurn}
 use Rattle.dpl_memory.specs.Memory.{in_memory}
-use Rattle.dpl_nodes.specs.Frames.{Framed}
+use Rattle.dpl_frame.specs.Frames.{Framed}
 use Rattle.dpl_nodes.specs.Typed.{promoted_truth}
 use Rattle.dpl_nodes.proofs.Promotions.{cell_read-promoted_truth, promoted_truth-once}
 use Rattle.dpl_steps.specs.Arrays.{shell_over}
 use Rattle.dpl_loop.proofs.Ends.{fault-ends}
+use Rattle.dpl_steps.proofs.Changing.{gives-halts}
 use Rattle.dpl_steps.proofs.ArrayItems.{array_of_item-fault, array_of_item-past, array_of_item-value, array_of_item-refused}
 use Rattle.dpl_steps.proofs.declare.declare_truths.Goals as goal
 
 pub returns-in_err-promoted_truth_value-in-None-clause-ends : goal.returns-in_err-promoted_truth_value-in-None-clause-ends
-returns-in_err-promoted_truth_value-in-None-clause-ends c done =
+returns-in_err-promoted_truth_value-in-None-clause-ends g c done =
     let limits = c.args.frame.now.limits in
     let s = c.args.frame.now.memory in
     let e = promoted_truth EachTurn c.args.e.now in
     let t = c.coordinate.result in
-    let f = c.in_err-promoted_truth_value-in-None.field-0.0 in
     let p = err_from_is_err_and c.from_residual.result c.from_residual.ensures.1 in
-    rw p.1
-    (fault-ends _ f p.0 s done _ p.2
-    (array_of_item-fault limits c.args.d.now.at.now BoolKind c.args.d.now.slot (shell_over c.args.d.now.over BoolKind c.args.domain) s done c.args.at.now e (whole_in limits in_memory e s)
-    t c.in-None.ensures (cell_read-promoted_truth EachTurn c.args.e.now) (promoted_truth-once limits s EachTurn c.args.e.now t (sym c.in-None.ensures)) f c.in_err-promoted_truth_value-in-None.ensures))
+    rw (p.1, p.2)
+    (gives-halts _ _ Truth c.in_err-promoted_truth_value-in-None.field-0.0 _ s done _ (λ m. m)
+    (λ f is. array_of_item-fault limits c.args.d.now.at.now BoolKind c.args.d.now.slot (shell_over c.args.d.now.over BoolKind c.args.domain) s done c.args.at.now e (whole_in limits in_memory e s)
+    t c.in-None.ensures (cell_read-promoted_truth EachTurn c.args.e.now) (promoted_truth-once limits s EachTurn c.args.e.now t (sym c.in-None.ensures)) f is)
+    c.in_err-promoted_truth_value-in-None.ensures)
 
 pub returns-in_err-within_budget-in-None-clause-ends : goal.returns-in_err-within_budget-in-None-clause-ends
-returns-in_err-within_budget-in-None-clause-ends c done =
+returns-in_err-within_budget-in-None-clause-ends g c done =
     let limits = c.args.frame.now.limits in
     let s = c.args.frame.now.memory in
     let e = promoted_truth EachTurn c.args.e.now in
@@ -45,7 +46,7 @@ returns-in_err-within_budget-in-None-clause-ends c done =
     c.in_err-within_budget-in-None.ensures))
 
 pub returns-in_err-within_budget-in-Some-clause-ends : goal.returns-in_err-within_budget-in-Some-clause-ends
-returns-in_err-within_budget-in-Some-clause-ends c done =
+returns-in_err-within_budget-in-Some-clause-ends g c done =
     let limits = c.args.frame.now.limits in
     let s = c.args.frame.now.memory in
     let e = promoted_truth EachTurn c.args.e.now in
@@ -57,7 +58,7 @@ returns-in_err-within_budget-in-Some-clause-ends c done =
     c.in-Some.field-0 f c.in-Some.ensures c.in_err-within_budget-in-Some.ensures))
 
 pub returns-in_ok-declare_array-in-None-clause-ends : goal.returns-in_ok-declare_array-in-None-clause-ends
-returns-in_ok-declare_array-in-None-clause-ends c done =
+returns-in_ok-declare_array-in-None-clause-ends g c done =
     let limits = c.args.frame.now.limits in
     let s = c.args.frame.now.memory in
     let e = promoted_truth EachTurn c.args.e.now in

@@ -1,7 +1,7 @@
 -- Each element is 0, or `false`.
 use Rattle.std.proofs.Common.{refl, sym, ap, ◌∙◌}
 use Rattle.dpl_language.specs.Outcome.{Done}
-use Rattle.dpl_nodes.specs.Frames.{Framed}
+use Rattle.dpl_frame.specs.Frames.{Framed}
 use Rattle.dpl_steps.specs.Arrays.{shell_over}
 use Rattle.dpl_steps.proofs.ArrayItems.{array_of-zeros}
 use Rattle.dpl_steps.proofs.declare.declare_zeros.Goals as goal

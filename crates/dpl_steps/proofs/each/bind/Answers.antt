@@ -4,7 +4,7 @@ use Rattle.std.proofs.lemmas.Int.{to_z-of_z}
 use Rattle.dpl_language.specs.Values.{Int}
 use Rattle.dpl_words.specs.Words.{IntLeaf}
 use Rattle.dpl_memory.specs.Memory.{PlainKind, with_value_in}
-use Rattle.dpl_nodes.specs.Frames.{Framed, with_memory}
+use Rattle.dpl_frame.specs.Frames.{Framed, with_memory}
 use Rattle.dpl_steps.specs.Turns.{each_bound, bound_at}
 use Rattle.dpl_steps.proofs.Binding.{declare-names}
 use Rattle.dpl_steps.proofs.each.bind.Goals as goal

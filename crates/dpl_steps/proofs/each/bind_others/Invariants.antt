@@ -1,5 +1,5 @@
 use Rattle.std.proofs.Common.{◌≡◌, ◌+◌, drop}
-use Rattle.dpl_nodes.specs.Frames.{with_memory}
+use Rattle.dpl_frame.specs.Frames.{with_memory}
 use Rattle.dpl_steps.specs.Turns.{each_bound}
 use Rattle.dpl_steps.proofs.each.bind_others.Given as goal
 

@@ -4,13 +4,13 @@ use Rattle.dpl_steps.proofs.Growing.{texts-step, texts-halt}
 use Rattle.dpl_steps.proofs.print.show_all.Goals as goal
 
 pub returns-in_err-show : goal.returns-in_err-show
-returns-in_err-show c =
+returns-in_err-show g c =
     let p = err_from_is_err_and c.from_residual.result c.from_residual.ensures.1 in
     rw (p.1, p.2)
-    (texts-halt c.args.frame.now.limits c.args.arguments.now c.loop-argument.argument-index c.argument-item.result c.args.frame.now.memory c.args.out.now.items c.loop-argument.out.items c.show.new.out.items c.in_err-show.field-0.0
+    (texts-halt c.args.frame.now.limits _ c.args.arguments.now c.loop-argument.argument-index c.argument-item.result c.args.frame.now.memory c.args.out.now.items c.loop-argument.out.items c.show.new.out.items c.in_err-show.field-0.0
     c.loop-argument-test.true c.argument-item.is c.in_err-show.ensures c.loop-argument.invariant)
 
 pub loop-argument-preserved : goal.loop-argument-preserved
-loop-argument-preserved c =
+loop-argument-preserved g c =
     texts-step c.args.frame.now.limits c.args.arguments.now c.loop-argument.argument-index c.argument-item.result c.args.frame.now.memory c.args.out.now.items c.loop-argument.out.items c.show.new.out.items
     c.loop-argument-test.true c.argument-item.is c.in_ok-show.ensures c.loop-argument.invariant

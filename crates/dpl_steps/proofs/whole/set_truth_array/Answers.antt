@@ -3,21 +3,21 @@ use Rattle.std.proofs.Common.{Some, None}
 use Rattle.dpl_language.specs.Tree.{BoolKind, Set}
 use Rattle.dpl_lowered.specs.LoweredExpressions.{EachTurn}
 use Rattle.dpl_nodes.specs.Typed.{promoted_truth}
-use Rattle.dpl_steps.specs.Dealt.{owned_by}
-use Rattle.dpl_steps.proofs.Dealing.{ends-dealt}
+use Rattle.dpl_steps.proofs.Dealing.{ends-of-entry}
+use Rattle.dpl_loop.proofs.Ends.{ends-alike}
 use Rattle.dpl_steps.proofs.Wholes.{exec-whole_set}
 use Rattle.dpl_steps.proofs.whole.set_truth_array.Goals as goal
 
 pub returns-in-None-clause-ends : goal.returns-in-None-clause-ends
 returns-in-None-clause-ends g c done =
-    ends-dealt (g.G.Gate.may_refuse c.args.gate.now) (owned_by c.args.frame.now c.args.name.now.slot) _ _ c.set_truth_once.result c.set_truth_once.new.frame.memory done _ _ c.array_domain-domain.ensures
+    ends-alike _ c.set_truth_once.result c.set_truth_once.new.frame.memory done _ _
     (exec-whole_set c.args.frame.now.limits BoolKind c.args.name.now Set c.args.sign.now (promoted_truth EachTurn c.args.e.now) c.args.frame.now.memory done c.array_domain-domain.result None
     c.array_domain-domain.ensures c.in-None.ensures)
     (c.set_truth_once.ensures.ends done)
 
 pub returns-in-Some-clause-ends : goal.returns-in-Some-clause-ends
 returns-in-Some-clause-ends g c done =
-    ends-dealt (g.G.Gate.may_refuse c.args.gate.now) (owned_by c.args.frame.now c.args.name.now.slot) _ _ c.set_truth_each.result c.set_truth_each.new.frame.memory done _ _ c.array_domain-domain.ensures
+    ends-of-entry _ _ _ c.set_truth_each.result c.set_truth_each.new.frame.memory done _ _
     (exec-whole_set c.args.frame.now.limits BoolKind c.args.name.now Set c.args.sign.now (promoted_truth EachTurn c.args.e.now) c.args.frame.now.memory done c.array_domain-domain.result (Some c.in-Some.field-0)
     c.array_domain-domain.ensures c.in-Some.ensures)
     (c.set_truth_each.ensures.ends c.in-Some.field-0 done)
