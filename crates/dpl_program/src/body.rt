@@ -6,16 +6,22 @@ ghost use Rattle.dpl_steps.specs.Readings.{steps_in};
 ghost use Rattle.dpl_steps.specs.Turns.{index_turn};
 
 use dpl_domain::Index;
-use dpl_loop::{OpenGate, Stop, Turns};
-use dpl_nodes::{
-    Argument, ArrayName, DomainExpr, Frame, Intent, Names, PromotedInt, PromotedTruth, RangeExpr,
-    Spot, Step,
-};
-use dpl_steps::{Context, bind, run, set_array, set_truth_array};
-use dpl_tree::Assign;
+use dpl_frame::Frame;
+use dpl_loop::{Gate, Stop, Turns};
+use dpl_nodes::{Argument, DomainExpr, Intent, Names, RangeExpr, Spot, Step};
+use dpl_steps::{Context, bind, run};
 
 // In a turn of a forall.
 struct TurnContext;
+
+impl Gate for TurnContext {
+    ghost may_refuse = { λ _ _ _. ⊥ };
+
+    #[inline(always)]
+    fn enter(&self, _worker: u32, _place: u64) -> bool {
+        true
+    }
+}
 
 impl Context for TurnContext {
     type Out = ();
@@ -23,8 +29,6 @@ impl Context for TurnContext {
     ghost standing = { InTurn };
 
     ghost having = { λ _ done. done };
-
-    ghost may = { λ _ _ _. ⊥ };
 
     fn write(
         &self,
@@ -34,27 +38,6 @@ impl Context for TurnContext {
         _out: &mut (),
     ) -> Result<(), Stop> {
         Ok(())
-    }
-
-    fn set_array(
-        &self,
-        name: &ArrayName<'_>,
-        op: Assign,
-        sign: &Spot,
-        e: &PromotedInt<'_>,
-        frame: &mut Frame<'_>,
-    ) -> Result<(), Stop> {
-        set_array(name, op, sign, e, frame, &OpenGate)
-    }
-
-    fn set_truth_array(
-        &self,
-        name: &ArrayName<'_>,
-        sign: &Spot,
-        e: &PromotedTruth<'_>,
-        frame: &mut Frame<'_>,
-    ) -> Result<(), Stop> {
-        set_truth_array(name, sign, e, frame, &OpenGate)
     }
 
     fn forall_line<'t>(

@@ -2,32 +2,95 @@
 // A forall is evaluated and tested here; its turns are made by the loop of foralls. None of these calls is inlined, so that the walk
 // of statements keeps no room for them: the compiler clears it at each statement.
 
-ghost use Rattle.std.specs.Prelude.{◌≡◌};
+ghost use Rattle.std.specs.Prelude.{◌≡◌, [], ◌∷◌, map};
 ghost use Rattle.dpl_language.specs.Outcome.{Deeds};
+ghost use Rattle.dpl_language.specs.Ranges.{indices_in};
 ghost use Rattle.dpl_language.specs.Statements.{exec_all};
 ghost use Rattle.dpl_memory.specs.Memory.{in_memory};
-ghost use Rattle.dpl_standing.specs.Standing.{Outside};
+ghost use Rattle.dpl_standing.specs.Standing.{Outside, InTurn};
+ghost use Rattle.dpl_nodes.specs.Typed.{domain_view};
+ghost use Rattle.dpl_nodes.specs.Steps.{intent_view};
+ghost use Rattle.dpl_nodes.specs.Roots.{derived_from, placing_by};
+ghost use Rattle.dpl_nodes.specs.declared.placing.Placing.TheVariants.{Unmapped};
+ghost use Rattle.dpl_nodes.specs.declared.step.Names.TheVariants.{Int as IntName};
+ghost use Rattle.dpl_contents.specs.Range.{range_word};
 ghost use Rattle.dpl_loop.specs.Runs.{RunsTo};
-ghost use Rattle.dpl_loop.specs.Entries.{MayRefuseSome};
+ghost use Rattle.dpl_loop.specs.Entries.{MayRefuse, MayRefuseSome};
 ghost use Rattle.dpl_steps.specs.Readings.{steps_in};
+ghost use Rattle.dpl_steps.specs.Dealt.{dealt_by};
+ghost use Rattle.dpl_steps.specs.Written.{written_among};
+ghost use Rattle.dpl_steps.specs.Turns.{index_turn, intended_turns};
 ghost use Rattle.dpl_steps.specs.Runs.{having_printed};
 
 use crate::body::Body;
 use crate::dealt::dealt;
+use dpl_frame::{DomainWord, Frame, RangeWord};
 use dpl_loop::{Gate, Stop, forall, forall_line};
-use dpl_nodes::{
-    Argument, ArrayName, DomainExpr, Frame, Intent, Names, Placing, PromotedInt, PromotedTruth,
-    RangeExpr, Spot, Step,
-};
-use dpl_steps::{
-    Context, domain_indices, range_indices, run as run_steps, set_array, set_truth_array, write,
-};
-use dpl_tree::Assign;
+use dpl_nodes::{Argument, DomainExpr, Intent, Names, Placing, RangeExpr, Spot, Step};
+use dpl_steps::{Context, domain_indices, range_indices, run as run_steps, write};
 
 // Outside of all foralls.
 #[derive(Drop)]
 struct ProgramContext<'g, G> {
     gate: &'g G,
+}
+
+impl<'g, G: Gate> Gate for ProgramContext<'g, G> {
+    ghost may_refuse = { λ context. G.may_refuse context.gate.now };
+
+    #[inline(always)]
+    fn enter(&self, worker: u32, place: u64) -> bool {
+        self.gate.enter(worker, place)
+    }
+}
+
+// The turns of a forall over a domain with its reduce variables, dealt out by the map that its text tells.
+fn turns_of<'t, G: Gate>(
+    names: &Names<'t>,
+    over: &DomainExpr<'_>,
+    indices: DomainWord,
+    intents: &'t [Intent],
+    body: &[Step<'t>],
+    frame: &mut Frame<'t>,
+    gate: &G,
+) -> Result<(), Stop>
+    ensures ends { (done : Deeds) → RunsTo (MayRefuse (G.may_refuse gate.now) (dealt_by frame.old (placing_by (derived_from (domain_view over.now))) (written_among (steps_in InTurn body.now))) indices) result frame.new.memory done
+        (intended_turns (map intent_view intents.now) (index_turn frame.old.limits names.now (steps_in InTurn body.now)) (indices_in indices) frame.old.memory done) }
+    ensures limits { frame.new.limits ≡ frame.old.limits }
+{
+    let map = dealt(body, over.placing(), frame);
+    let turns = Body {
+        names: *names,
+        steps: body,
+    };
+    frame.intend(intents);
+    forall(&turns, indices, &map, frame, gate)?;
+    frame.intend(&[]);
+    Ok(())
+}
+
+// The same of a forall over a range.
+fn turns_of_line<'t, G: Gate>(
+    slot: usize,
+    indices: &RangeWord,
+    intents: &'t [Intent],
+    body: &[Step<'t>],
+    frame: &mut Frame<'t>,
+    gate: &G,
+) -> Result<(), Stop>
+    ensures ends { (done : Deeds) → RunsTo (MayRefuse (G.may_refuse gate.now) (dealt_by frame.old Unmapped (written_among (steps_in InTurn body.now))) (range_word indices.now ∷ [])) result frame.new.memory done
+        (intended_turns (map intent_view intents.now) (index_turn frame.old.limits (IntName slot) (steps_in InTurn body.now)) (indices_in (range_word indices.now ∷ [])) frame.old.memory done) }
+    ensures limits { frame.new.limits ≡ frame.old.limits }
+{
+    let map = dealt(body, Placing::Unmapped, frame);
+    let turns = Body {
+        names: Names::Int(slot),
+        steps: body,
+    };
+    frame.intend(intents);
+    forall_line(&turns, indices, &map, frame, gate)?;
+    frame.intend(&[]);
+    Ok(())
 }
 
 impl<'g, G: Gate> Context for ProgramContext<'g, G> {
@@ -37,8 +100,6 @@ impl<'g, G: Gate> Context for ProgramContext<'g, G> {
 
     ghost having = { λ out. having_printed out.items };
 
-    ghost may = { λ context. G.may_refuse context.gate.now };
-
     #[inline(never)]
     fn write(
         &self,
@@ -47,30 +108,7 @@ impl<'g, G: Gate> Context for ProgramContext<'g, G> {
         frame: &Frame<'_>,
         out: &mut Vec<u8>,
     ) -> Result<(), Stop> {
-        write(ends_line, arguments, frame, out)
-    }
-
-    #[inline(never)]
-    fn set_array(
-        &self,
-        name: &ArrayName<'_>,
-        op: Assign,
-        sign: &Spot,
-        e: &PromotedInt<'_>,
-        frame: &mut Frame<'_>,
-    ) -> Result<(), Stop> {
-        set_array(name, op, sign, e, frame, self.gate)
-    }
-
-    #[inline(never)]
-    fn set_truth_array(
-        &self,
-        name: &ArrayName<'_>,
-        sign: &Spot,
-        e: &PromotedTruth<'_>,
-        frame: &mut Frame<'_>,
-    ) -> Result<(), Stop> {
-        set_truth_array(name, sign, e, frame, self.gate)
+        write(ends_line, arguments, frame, self, out)
     }
 
     #[inline(never)]
@@ -83,16 +121,8 @@ impl<'g, G: Gate> Context for ProgramContext<'g, G> {
         body: &[Step<'t>],
         frame: &mut Frame<'t>,
     ) -> Result<(), Stop> {
-        let indices = range_indices(at, over, frame)?;
-        let map = dealt(body, Placing::Unmapped, frame);
-        let turns = Body {
-            names: Names::Int(slot),
-            steps: body,
-        };
-        frame.intend(intents);
-        forall_line(&turns, &indices, &map, frame, self.gate)?;
-        frame.intend(&[]);
-        Ok(())
+        let indices = range_indices(at, over, frame, self)?;
+        turns_of_line(slot, &indices, intents, body, frame, self)
     }
 
     #[inline(never)]
@@ -105,16 +135,8 @@ impl<'g, G: Gate> Context for ProgramContext<'g, G> {
         body: &[Step<'t>],
         frame: &mut Frame<'t>,
     ) -> Result<(), Stop> {
-        let indices = domain_indices(at, over, frame)?;
-        let map = dealt(body, over.placing(), frame);
-        let turns = Body {
-            names: *names,
-            steps: body,
-        };
-        frame.intend(intents);
-        forall(&turns, indices, &map, frame, self.gate)?;
-        frame.intend(&[]);
-        Ok(())
+        let indices = domain_indices(at, over, frame, self)?;
+        turns_of(names, over, indices, intents, body, frame, self)
     }
 }
 

@@ -7,8 +7,9 @@ ghost use Rattle.dpl_steps.specs.Dealt.{placed_by, dealt_by};
 ghost use Rattle.dpl_steps.specs.Written.{written_among};
 
 use crate::written::written;
+use dpl_frame::Frame;
 use dpl_map::Map;
-use dpl_nodes::{Frame, Placing, Step};
+use dpl_nodes::{Placing, Step};
 
 // The map of the name from which what a forall runs over is derived; the whole map, which gives all to locale 0, where it is
 // derived from none.
