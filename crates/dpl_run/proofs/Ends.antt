@@ -11,8 +11,8 @@ use Rattle.std.specs.Prelude.{◌++◌, ◌∷◌}
 use Rattle.dpl_rules.specs.Sights.{Scopes}
 use Rattle.dpl_memory.specs.Memory.{Variable, Memory, in_memory}
 use Rattle.dpl_memory.specs.Resolved.{frame_in}
-use Rattle.dpl_nodes.specs.declared.fault.Fault.{Fault}
-use Rattle.dpl_nodes.specs.Faults.{fault_view}
+use Rattle.dpl_frame.specs.declared.fault.Fault.{Fault}
+use Rattle.dpl_frame.specs.Faults.{fault_view}
 use Rattle.dpl_loop.specs.declared.stop.Stop.{Stop}
 use Rattle.dpl_loop.specs.declared.stop.Stop.TheVariants as stop
 use Rattle.dpl_loop.specs.Runs.{RunsTo}

@@ -26,10 +26,10 @@ use Rattle.dpl_memory.specs.Memory.{PlainKind, DomainKind, TupleKind, Memory, kn
 use Rattle.dpl_memory.specs.Resolved.{variable_of, Start, first_memory, first_seen, resolving, frame_in, outermost, left_in, StandsFor}
 use Rattle.dpl_memory.proofs.Known.{memory-known}
 use Rattle.dpl_memory.proofs.MemoryAgrees.{meaning-memory, left-memory}
-use Rattle.dpl_nodes.specs.declared.fault.Fault.{Fault as FaultNode}
+use Rattle.dpl_frame.specs.declared.fault.Fault.{Fault as FaultNode}
 use Rattle.dpl_nodes.specs.declared.step.Step.{Step}
 use Rattle.dpl_nodes.specs.Steps.{steps_of}
-use Rattle.dpl_nodes.specs.Faults.{fault_view}
+use Rattle.dpl_frame.specs.Faults.{fault_view}
 use Rattle.dpl_says.specs.Given.{scalar_by, given, words_by}
 use Rattle.dpl_says.specs.Says.{run_of}
 use Rattle.dpl_given.specs.Words.{words_in}

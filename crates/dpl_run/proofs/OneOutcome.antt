@@ -9,12 +9,12 @@ use Rattle.dpl_language.specs.Values.{FaultCode, Outside, ZeroDivisor, PastLimit
 use Rattle.dpl_language.specs.Environment.{Limits}
 use Rattle.dpl_language.specs.Outcome.{Outcome as Meant, Done as DoneAt, Stop as StopAt, Waits as WaitsAt}
 use Rattle.dpl_language.specs.Names.{Text, State}
-use Rattle.dpl_nodes.specs.declared.fault.FaultCode.{FaultCode as CodeNode}
-use Rattle.dpl_nodes.specs.declared.fault.FaultCode.TheVariants as code
-use Rattle.dpl_nodes.specs.declared.fault.Turn.{Turn as TurnNode}
-use Rattle.dpl_nodes.specs.declared.fault.Turn.TheVariants as turn
-use Rattle.dpl_nodes.specs.declared.fault.Fault.{Fault}
-use Rattle.dpl_nodes.specs.Faults.{code_view, turn_view, fault_view}
+use Rattle.dpl_frame.specs.declared.fault.FaultCode.{FaultCode as CodeNode}
+use Rattle.dpl_frame.specs.declared.fault.FaultCode.TheVariants as code
+use Rattle.dpl_frame.specs.declared.fault.Turn.{Turn as TurnNode}
+use Rattle.dpl_frame.specs.declared.fault.Turn.TheVariants as turn
+use Rattle.dpl_frame.specs.declared.fault.Fault.{Fault}
+use Rattle.dpl_frame.specs.Faults.{code_view, turn_view, fault_view}
 use Rattle.dpl_says.specs.Says.{run_of}
 use Rattle.dpl_says.proofs.OneSaying.{IsProgramBy-one, IsProgramBy-unrefused, IsRefusedBy-one, IsProgramBy-or_refused}
 use Rattle.dpl_run.specs.declared.outcome.Outcome.{Outcome}

@@ -20,7 +20,7 @@ use Rattle.dpl_rules.specs.Sound.{IsSound, sets_fit, behind_all, refusal_by, ref
 use Rattle.dpl_rules.proofs.Admission.{first_empty}
 use Rattle.dpl_rules.proofs.Soundness.{sound_exactly}
 use Rattle.dpl_closed.specs.Closed.{closed_stmts}
-use Rattle.dpl_nodes.specs.Faults.{IsNear}
+use Rattle.dpl_nodes.specs.Spots.{IsNear}
 use Rattle.dpl_runnable.specs.Runnable.{AreRunnableTops}
 use Rattle.dpl_runnable.proofs.Spelled.{Spells-written}
 use Rattle.dpl_runnable.proofs.Statements.{program-runnable}

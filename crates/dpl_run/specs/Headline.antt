@@ -12,7 +12,7 @@ use Rattle.dpl_language.specs.Outcome.{Outcome as Meant, Done as DoneAt, Stop as
 use Rattle.dpl_language.specs.Names.{Text, State}
 use Rattle.dpl_language.specs.Program.{written, top_level, own_frame}
 use Rattle.dpl_language.specs.Together.{Happened}
-use Rattle.dpl_nodes.specs.Faults.{fault_view}
+use Rattle.dpl_frame.specs.Faults.{fault_view}
 use Rattle.dpl_rules.specs.Sound.{refusal}
 use Rattle.dpl_closed.specs.Closed.{closed_stmts}
 use Rattle.dpl_says.specs.Says.{IsProgramBy, IsRefusedBy, run_of}

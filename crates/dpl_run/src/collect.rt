@@ -11,7 +11,7 @@ ghost use Rattle.dpl_run.specs.Leaving.{value_held, content_kept, entry_kept, he
 ghost use Rattle.dpl_run.specs.Names.{declared_by, declared_names};
 
 use crate::left::{Kept, Left, Named};
-use dpl_nodes::Frame;
+use dpl_frame::Frame;
 use dpl_scopes::Scopes;
 use dpl_tree::{ScalarKind, Stmt};
 use dpl_types::ValueType;

@@ -2,11 +2,12 @@
 
 ghost use Rattle.std.specs.Prelude.{◌≡◌, ◌++◌, [], IfOk, OnOk};
 ghost use Rattle.dpl_memory.specs.Resolved.{first_memory};
-ghost use Rattle.dpl_nodes.specs.Frames.{first_frame, with_memory, with_words};
+ghost use Rattle.dpl_frame.specs.Frames.{first_frame, with_memory, with_words};
 ghost use Rattle.dpl_run.specs.Settings.{limits_of, layout_of};
 
 use crate::config::Config;
-use dpl_nodes::{Frame, MapExpr};
+use dpl_frame::Frame;
+use dpl_nodes::MapExpr;
 use dpl_tree::Arena;
 use std::alloc::AllocError;
 

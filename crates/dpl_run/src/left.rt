@@ -4,13 +4,13 @@
 ghost use Rattle.std.specs.Prelude.{◌≡◌, IfOk, map, get_or, length, slice_get, option_map};
 ghost use Rattle.dpl_language.specs.Names.{in_frame};
 ghost use Rattle.dpl_memory.specs.Memory.{no_array};
-ghost use Rattle.dpl_nodes.specs.Frames.{held_in};
+ghost use Rattle.dpl_frame.specs.Frames.{held_in};
 ghost use Rattle.dpl_run.specs.Leaving.{variable_view, value_view, content_kept, entry_kept};
 
 use dpl_array::ArrayFault;
 use dpl_contents::ArrayWords;
+use dpl_frame::{DomainWord, RangeWord};
 use dpl_map::Map;
-use dpl_nodes::{DomainWord, RangeWord};
 use std::alloc::{AllocError, Global};
 use std::marker::Model;
 
@@ -74,7 +74,7 @@ impl Model for Left {
 
     ghost use Rattle.std.specs.Prelude.{◌≡◌, map};
     ghost use Rattle.dpl_memory.specs.Memory.{no_array};
-    ghost use Rattle.dpl_nodes.specs.Frames.{held_in};
+    ghost use Rattle.dpl_frame.specs.Frames.{held_in};
     ghost use Rattle.dpl_run.specs.Leaving.{entry_kept};
 
     ghost view = { λ left. map (entry_kept (map held_in left.arrays.items)) left.named.items };

@@ -5,10 +5,10 @@ ghost use Rattle.std.specs.Prelude.{◌≡◌, ◌++◌, ◌∷◌, [], None, If
 ghost use Rattle.dpl_syntax.specs.Lines.{refusal_text};
 ghost use Rattle.dpl_language.specs.Program.{fault_code_text, fault_text, line_ended, turn_text};
 ghost use Rattle.dpl_language.specs.Values.{InNone, InTurn};
-ghost use Rattle.dpl_nodes.specs.Faults.{code_view, fault_view, turn_view};
+ghost use Rattle.dpl_frame.specs.Faults.{code_view, fault_view, turn_view};
 
 use dpl_domain::Index;
-use dpl_nodes::{Fault, FaultCode, Turn};
+use dpl_frame::{Fault, FaultCode, Turn};
 use dpl_syntax::Refusal;
 use dpl_values::domain::{coordinate, plane, space};
 use std::alloc::{AllocError, Global};

@@ -2,7 +2,7 @@
 // Each outcome is one of the language's meaning.
 
 use crate::left::Left;
-use dpl_nodes::Fault;
+use dpl_frame::Fault;
 use dpl_syntax::Refusal;
 
 /// How a run came out.

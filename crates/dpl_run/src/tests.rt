@@ -4,9 +4,9 @@
 use crate::config::Config;
 use crate::frame::first_frame;
 use bumpalo::Bump;
+use dpl_frame::{DomainWord, Frame};
 use dpl_layout::Maps;
 use dpl_loop::OpenGate;
-use dpl_nodes::{DomainWord, Frame};
 use dpl_parser::parse;
 use dpl_planner::{Planned, plan};
 use dpl_program::run as run_steps;

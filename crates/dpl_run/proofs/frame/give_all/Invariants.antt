@@ -1,6 +1,6 @@
 -- What is given so far, and what is left, is all.
 use Rattle.std.proofs.Common.{◌≡◌, ◌++◌, take}
-use Rattle.dpl_nodes.specs.Frames.{with_words}
+use Rattle.dpl_frame.specs.Frames.{with_words}
 use Rattle.dpl_run.proofs.frame.give_all.Given as goal
 
 abbrev pub invariant-loop-word : goal.invariant-loop-word

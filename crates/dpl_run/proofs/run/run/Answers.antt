@@ -1,7 +1,7 @@
 -- Done or stopped, the run is told by how the statements end over words.
 use Rattle.std.proofs.Common.{◌≡◌, ◌∙◌, ◌++◌, ◌∷◌, [], rules}
 use Rattle.dpl_language.specs.Program.{fault_text, line_ended}
-use Rattle.dpl_nodes.specs.Faults.{fault_view}
+use Rattle.dpl_frame.specs.Faults.{fault_view}
 use Rattle.dpl_tree.specs.Statements.{stmts_of}
 use Rattle.dpl_standing.specs.Standing.{Outside}
 use Rattle.dpl_loop.specs.Entries.{MayRefuseSome}

@@ -5,7 +5,7 @@ use Rattle.dpl_language.specs.Statements.{exec_all}
 use Rattle.dpl_tree.specs.Statements.{stmts_of}
 use Rattle.dpl_memory.specs.Memory.{in_memory}
 use Rattle.dpl_memory.specs.Resolved.{first_memory}
-use Rattle.dpl_nodes.specs.Frames.{Framed}
+use Rattle.dpl_frame.specs.Frames.{Framed}
 use Rattle.dpl_standing.specs.Standing.{Outside}
 use Rattle.dpl_steps.specs.Readings.{steps_in}
 use Rattle.dpl_typer.proofs.Names.{if_ok}
