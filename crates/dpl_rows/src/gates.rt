@@ -1,5 +1,5 @@
-// Which locale enters the gate for each turn of a forall or a whole array, with which place: by gates that let some entries pass,
-// or all but one.
+// Which locale enters the gate for each turn of a forall, a whole array, a reduction or an initial value, with which place: by gates
+// that let some entries pass, or all but one.
 // There are four locales, in grids of 2x2 and of 2x2x1.
 
 use dpl_run::{Config, Gate, Plain, Refused, run_text};
@@ -10,7 +10,7 @@ pub(crate) type Entry = (u32, u64);
 // A program, the entries of its turns in order, and what it writes.
 pub(crate) type Row = (&'static str, &'static [Entry], &'static str);
 
-pub(crate) const ENTRIES: [Row; 16] = [
+pub(crate) const ENTRIES: [Row; 28] = [
     // The map of the array that is written decides, also where the loop runs over something else.
     (
         "const D = {1..8} dmapped new blockDist(boundingBox={1..8}); var A: [D] int; forall i in D do A[i] = i; writeln(A);",
@@ -117,6 +117,71 @@ pub(crate) const ENTRIES: [Row; 16] = [
         &[],
         "0\n",
     ),
+    // A reduction enters by the map of the arrays in it, wherever it stands.
+    (
+        "const D = {1..8} dmapped new blockDist(boundingBox={1..8}); var A: [D] int; writeln(+ reduce A);",
+        &[
+            (0, 0),
+            (0, 1),
+            (1, 2),
+            (1, 3),
+            (2, 4),
+            (2, 5),
+            (3, 6),
+            (3, 7),
+        ],
+        "0\n",
+    ),
+    (
+        "const D = {1..3} dmapped new cyclicDist(startIdx=0); var A: [D] int; var B: [D] int; writeln(max reduce (2 - B + A));",
+        &[(1, 0), (2, 1), (3, 2)],
+        "2\n",
+    ),
+    (
+        "const D = {1..2} dmapped new cyclicDist(startIdx=1); var A: [D] bool; const b = || reduce A; writeln(b);",
+        &[(0, 0), (1, 1)],
+        "false\n",
+    ),
+    (
+        "var A: [1..1] int; while (+ reduce A) < 2 do A[1] += 1; writeln(A);",
+        &[(0, 0)],
+        "2\n",
+    ),
+    (
+        "const D = {1..2} dmapped new cyclicDist(startIdx=-1); var A: [D] int; var s: int; forall i in 1..(+ reduce A) + 1 with (+ reduce s) do s += i; writeln(s);",
+        &[(2, 0), (3, 1), (0, 0)],
+        "1\n",
+    ),
+    (
+        "const D = {1..2} dmapped new cyclicDist(startIdx=-1); var A: [D] int; var B: [1..1] int; B[(+ reduce A) + 1] = 7; B = B + 1; writeln(B);",
+        &[(2, 0), (3, 1), (0, 0)],
+        "8\n",
+    ),
+    // One that isn't looked at enters nowhere, nor does one over no index or over more than the budget.
+    (
+        "var A: [1..2] int; if 1 > 2 && (+ reduce A) == 0 then writeln(1); writeln(2);",
+        &[],
+        "2\n",
+    ),
+    ("var A: [1..0] int; writeln(* reduce A);", &[], "1\n"),
+    (
+        "var A: [1..1001] int; writeln(+ reduce A);",
+        &[],
+        "! F5 at 1:33\n",
+    ),
+    // Behind the fault of an index no other enters.
+    (
+        "var A: [1..2] int; writeln(+ reduce (6 / A));",
+        &[(0, 0)],
+        "! F2 at 1:40 in turn 1\n",
+    ),
+    // An initial value with a whole array enters by the map of the declared array; one without has no turns.
+    (
+        "const D = {1..3} dmapped new cyclicDist(startIdx=0); var A: [D] int; var B: [D] int = A + 1; writeln(B);",
+        &[(1, 0), (2, 1), (3, 2)],
+        "1 1 1\n",
+    ),
+    ("var A: [1..2] bool = true; writeln(A);", &[], "true true\n"),
     // More indices than the budget are told before any entry, and so is a fault of what the loop runs over.
     ("forall i in 1..1001 { }", &[], "! F5 at 1:1\n"),
 ];
