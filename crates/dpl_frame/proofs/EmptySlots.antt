@@ -1,4 +1,4 @@
--- Slots without an array: what they hold, how many of them there are, and what is put into the slots of a frame.
+-- Slots without an array: what they hold, how many of them there are, and what is put into slots.
 -- Each lemma has what such slots hold on its left side.
 use Rattle.std.proofs.Common.{◌≡◌, ℕ, ◌+◌, ◌<◌, ◌≤◌, ℤ, pos, List, [], ◌∷◌, ◌++◌, length, map, replicate, set, get_or, Option, None, refl, sym, subst, ap, ◌∙◌}
 use Rattle.std.proofs.Math.ListN.{get_or-eq_default}
@@ -6,8 +6,8 @@ use Rattle.std.proofs.lemmas.List.{get_or-map, map-set, set-set, set_past, lengt
 use Rattle.dpl_range.specs.Equality.{TextRange}
 use Rattle.dpl_language.specs.Values.{Index}
 use Rattle.dpl_language.specs.Ranges.{indices_in}
-use Rattle.dpl_memory.specs.Memory.{Held, no_array, array_at, with_array, word_at, with_word, held_at, held_with, held_over, or_zero}
-use Rattle.dpl_frame.specs.Frames.{Framed, with_memory, held_in}
+use Rattle.dpl_memory.specs.Memory.{Held, no_array, word_at, with_word, held_at, held_with, held_over, or_zero}
+use Rattle.dpl_frame.specs.Frames.{held_in}
 
 word_at-no_words : (t : Index) (is : List Index) → word_at t is [] ≡ None
 word_at-no_words t [] = refl
@@ -39,27 +39,17 @@ none_past xs slot past = get_or-eq_default (map held_in xs) no_array (subst (λ 
 pub held_within : (xs : List (Option Held)) (slot : ℕ) (d : Option Held) → slot < length xs → get_or (map held_in xs) slot no_array ≡ held_in (get_or xs slot d)
 held_within xs slot d within = get_or-map held_in xs slot d no_array within
 
--- what is read of a slot that is there, and what is put into it, as the frame is seen
-module _ (xs : List (Option Held)) (slot : ℕ) (was : Option Held) (seen now : Framed) (view : seen ≡ now) (arrays : seen.memory.arrays ≡ map held_in xs)
-    (within : slot < length xs) (is : was ≡ get_or xs slot was) where
-  pub array_at-seen : array_at slot now.memory ≡ held_in was
-  array_at-seen =
-      sym (ap (λ (f : Framed). array_at slot f.memory) view) ∙ ap (λ hs. get_or hs slot no_array) arrays ∙ held_within xs slot was within ∙ sym (ap held_in is)
+-- what is read of a slot that is there, and what is put into it
+module _ (xs : List (Option Held)) (slot : ℕ) (was : Option Held) (seen : List Held) (view : map held_in xs ≡ seen) (within : slot < length xs) (is : was ≡ get_or xs slot was) where
+  pub held-seen : get_or seen slot no_array ≡ held_in was
+  held-seen = sym (ap (λ hs. get_or hs slot no_array) view) ∙ held_within xs slot was within ∙ sym (ap held_in is)
 
-  pub with_array-seen : (f : Held → Held) (a : Option Held) → held_in a ≡ f (held_in was)
-      → with_memory (record seen.memory { arrays = map held_in (set xs slot a) }) seen ≡ with_memory (with_array slot (f (array_at slot now.memory)) now.memory) now
-  with_array-seen f a e =
-      ap (λ hs. with_memory (record seen.memory { arrays = hs }) seen) (held_set xs slot a ∙ ap (set (map held_in xs) slot) (e ∙ ap f (sym array_at-seen)))
-      ∙ ap (λ hs. with_memory (record seen.memory { arrays = set hs slot (f (array_at slot now.memory)) }) seen) (sym arrays)
-      ∙ ap (λ (v : Framed). with_memory (with_array slot (f (array_at slot now.memory)) v.memory) v) view
+  pub set-seen : (f : Held → Held) (a : Option Held) → held_in a ≡ f (held_in was) → map held_in (set xs slot a) ≡ set seen slot (f (get_or seen slot no_array))
+  set-seen f a e = held_set xs slot a ∙ ap (λ hs. set hs slot (held_in a)) view ∙ ap (set seen slot) (e ∙ ap f (sym held-seen))
 
   -- what stood there before changes nothing
-  pub with_array-taken : (gone : Option Held) (a : Held) → with_memory (with_array slot a (record seen.memory { arrays = map held_in (set xs slot gone) })) seen ≡ with_memory (with_array slot a now.memory) now
-  with_array-taken gone a =
-      ap (λ hs. with_memory (record seen.memory { arrays = set hs slot a }) seen) (held_set xs slot gone)
-      ∙ ap (λ hs. with_memory (record seen.memory { arrays = hs }) seen) (set-set (map held_in xs) slot (held_in gone) a)
-      ∙ ap (λ hs. with_memory (record seen.memory { arrays = set hs slot a }) seen) (sym arrays)
-      ∙ ap (λ (v : Framed). with_memory (with_array slot a v.memory) v) view
+  pub set-taken : (f : Held → Held) (gone a : Option Held) → held_in a ≡ f (held_in was) → map held_in (set (set xs slot gone) slot a) ≡ set seen slot (f (get_or seen slot no_array))
+  set-taken f gone a e = ap (map held_in) (set-set xs slot gone a) ∙ set-seen f a e
 
 -- over another domain it holds 0 everywhere
 zeros-held : (ts : List Index) → map (λ t. or_zero (held_at t no_array)) ts ≡ map (λ t. pos 0) ts

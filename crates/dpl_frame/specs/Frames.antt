@@ -1,6 +1,6 @@
 -- What a frame stands for: the memory of its slots, the numbers that a turn may ask for, and who owns what.
 -- The memory is all that a meaning sees of it, beside the numbers.
-use Rattle.std.specs.Prelude.{ℕ, Option, Some, None, List, [], set, replicate}
+use Rattle.std.specs.Prelude.{ℕ, Option, Some, None, List, [], get_or, set, replicate}
 use Rattle.dpl_map.specs.Maps.{AxisValue, whole_map}
 use Rattle.dpl_layout.specs.Layouts.{LayoutValue}
 use Rattle.dpl_memory.specs.Resolved.{first_memory}
@@ -37,6 +37,10 @@ with_words w f = with_memory (record f.memory { words = w }) f
 -- the same frame, in which a slot has another map
 abbrev pub with_owner : ℕ → List AxisValue → Framed → Framed
 with_owner slot m f = record f { owners = set f.owners slot m }
+
+-- the map that a slot has
+abbrev pub owned_by : Framed → ℕ → List AxisValue
+owned_by f slot = get_or f.owners slot whole_map
 
 -- the array in a slot, which may have none
 abbrev pub held_in : Option Held → Held

@@ -1,16 +1,18 @@
 // The frame of a run: what its slots hold and by which maps, the reduce variables of the forall around, and what is set.
 // A word is a value of every kind, so that no walk can leave a frame ill typed.
 
-ghost use Rattle.std.specs.Prelude.{◌≡◌, pos, [], ◌∷◌, ◌++◌, get_or, set, replicate, map, option_map, slice_get, IfOk};
+ghost use Rattle.std.specs.Prelude.{◌≡◌, pos, [], ◌∷◌, ◌++◌, get_or, set, map, option_map, slice_get, IfOk};
 ghost use Rattle.dpl_tree.specs.Words.{op_view};
 ghost use Rattle.dpl_words.specs.Words.{no_range, intent_at, set_at};
-ghost use Rattle.dpl_memory.specs.Memory.{no_domain, no_tuple, no_array, intents_by_slot};
+ghost use Rattle.dpl_memory.specs.Memory.{no_domain, no_tuple, intents_by_slot};
 ghost use Rattle.dpl_contents.specs.Range.{range_word};
 ghost use Rattle.dpl_nodes.specs.Steps.{intent_view};
 ghost use Rattle.dpl_map.specs.Maps.{whole_map};
-ghost use Rattle.dpl_frame.specs.Frames.{with_memory, with_words, first_frame, with_owner, held_in};
+ghost use Rattle.dpl_frame.specs.Frames.{with_memory, with_words, first_frame, with_owner};
 
-use dpl_contents::{ArrayWords, DomainWord, RangeWord};
+use crate::arrays::Arrays;
+use crate::slots::Slots;
+use dpl_contents::{DomainWord, RangeWord};
 use dpl_domain::Index;
 use dpl_layout::Layout;
 use dpl_map::Map;
@@ -26,29 +28,17 @@ fn no_tuple() -> Index
     Index::new(&[0]).unwrap()
 }
 
-// So many slots without an array.
-#[tactic(auto, using(crate::proofs::EmptySlots::replicate_next))]
-fn no_arrays(alloc: Global, slots: usize) -> Result<Vec<Option<ArrayWords>>, AllocError>
-    ensures { IfOk result (λ arrays. map held_in arrays.items ≡ replicate slots no_array) }
-{
-    let mut arrays = Vec::new(alloc);
-    for _ in 0..slots {
-        arrays.push(None)?;
-    }
-    Ok(arrays)
-}
-
 /// The slots of a run, with the reduce variables of the forall around and their operators, what the command line sets,
 /// the budget of a loop and the number of locales; the maps that the program names, and by which map the domain or array in a slot is dealt out over locales. A
-/// frame has as many of everything as slots.
+/// frame has as many of everything as slots. How its arrays are kept is a parameter, and shows in nothing that it stands for.
 #[derive(Drop)]
-pub struct Frame<'t> {
+pub struct Frame<'t, A: Arrays = Slots> {
     numbers: Vec<i64>,
     ranges: Vec<RangeWord>,
     domains: Vec<DomainWord>,
     tuples: Vec<Index>,
     pub(crate) alloc: Global,
-    pub(crate) arrays: Vec<Option<ArrayWords>>,
+    pub(crate) arrays: A,
     intents: &'t [Intent],
     sets: Vec<(usize, i64)>,
     budget: u64,
@@ -58,12 +48,12 @@ pub struct Frame<'t> {
     owners: Vec<Map>,
 }
 
-impl<'t> Model for Frame<'t> {
+impl<'t, A: Arrays> Model for Frame<'t, A> {
     ghost use Rattle.std.specs.Prelude.{map};
     ghost use Rattle.dpl_memory.specs.Memory.{intents_by_slot};
     ghost use Rattle.dpl_contents.specs.Range.{range_word};
     ghost use Rattle.dpl_nodes.specs.Steps.{intent_view};
-    ghost use Rattle.dpl_frame.specs.Frames.{Framed, held_in};
+    ghost use Rattle.dpl_frame.specs.Frames.{Framed};
     ghost use Rattle.dpl_nodes.specs.contracts.tree.DomainExpr as domain;
     ghost use Rattle.dpl_nodes.specs.contracts.tree.IndexExpr as index;
     ghost use mir.Syntax.{named};
@@ -79,7 +69,7 @@ impl<'t> Model for Frame<'t> {
         words = record { numbers = f.numbers.items; ranges = map range_word f.ranges.items; intents = intents_by_slot (map intent_view f.intents.now); sets = f.sets.items };
         domains = f.domains.items;
         tuples = f.tuples.items;
-        arrays = map held_in f.arrays.items;
+        arrays = A.held f.arrays;
       };
       limits = record { budget = f.budget; locales = f.locales };
       layout = f.layout;
@@ -88,7 +78,7 @@ impl<'t> Model for Frame<'t> {
     } };
 }
 
-impl<'t> Frame<'t> {
+impl<'t> Frame<'t, Slots> {
     /// A frame with so many slots: its words are 0, its ranges `1..0`, its domains `{1..0}`, its tuples the index 0, and its
     /// arrays have no elements; each slot has the whole map. Nothing is set, and there are no reduce variables.
     ///
@@ -111,7 +101,7 @@ impl<'t> Frame<'t> {
             domains: vec![in alloc; DomainWord::empty(1); slots]?,
             tuples: vec![in alloc; no_tuple(); slots]?,
             alloc,
-            arrays: no_arrays(alloc, slots)?,
+            arrays: Slots::new(alloc, slots)?,
             intents: &[],
             sets: Vec::new(alloc),
             budget,
@@ -121,7 +111,9 @@ impl<'t> Frame<'t> {
             owners: vec![in alloc; Map::whole(); slots]?,
         })
     }
+}
 
+impl<'t, A: Arrays> Frame<'t, A> {
     /// The word in a slot; 0 past the last one.
     pub fn number(&self, slot: usize) -> i64
         ensures { result ≡ get_or self.now.memory.words.numbers slot (pos 0) }

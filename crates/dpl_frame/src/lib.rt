@@ -1,11 +1,16 @@
 // The frame of a run, and what a walk over it hands back.
-// Read `Frame` first: what its slots hold is a memory of the language's meaning. `Alarm` is a fault in one word.
+// Read `Frame` first: what its slots hold is a memory of the language's meaning, however its arrays are kept (`Arrays`). `Alarm` is a fault in one word.
 #![tactic(auto)]
 
 pub mod arrays;
+mod elements;
 pub mod fault;
+mod filled;
 pub mod frame;
+pub mod slots;
 
+pub use arrays::Arrays;
 pub use dpl_contents::{DomainWord, RangeWord};
 pub use fault::{Alarm, Fault, FaultCode, Trap, Truth, Turn};
 pub use frame::Frame;
+pub use slots::Slots;

@@ -6,7 +6,7 @@ use Rattle.dpl_frame.specs.Frames.{with_memory}
 use Rattle.dpl_frame.proofs.frame.Frame.declare_array.Goals as goal
 
 pub returns-clause-declared : goal.returns-clause-declared
-returns-clause-declared c =
+returns-clause-declared g c =
     let word_fits : FitsSigned w64 c.args.word = c.ranges.word in
     let array = simp to_z-of_z at c.in_ok-array.ensures in
     c.keep.ensures ∙ ap (λ a. with_memory (with_array c.args.slot a c.args.self.now.memory) c.args.self.now) array

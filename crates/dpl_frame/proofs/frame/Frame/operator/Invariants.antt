@@ -6,5 +6,5 @@ use Rattle.dpl_frame.proofs.frame.Frame.operator.Given as goal
 
 -- what is left to look through gives what all gives
 abbrev pub invariant-loop-intent : goal.invariant-loop-intent
-invariant-loop-intent l =
+invariant-loop-intent g l =
     intent_at l.slot (intents_by_slot (map intent_view (drop l.intent-index l.intent-items))) ≡ intent_at l.slot l.self.memory.words.intents

@@ -1,7 +1,7 @@
 -- An array of one word is what it is made as.
 use Rattle.std.proofs.Common.{w64, FitsSigned}
 use Rattle.std.proofs.lemmas.Int.{to_z-of_z}
-use Rattle.dpl_frame.proofs.arrays.filled.Goals as goal
+use Rattle.dpl_frame.proofs.filled.filled.Goals as goal
 
 pub returns-in-Ok : goal.returns-in-Ok
 returns-in-Ok c =

@@ -1,0 +1,149 @@
+// The arrays of a frame: declared, read and written by their slots, and given another domain.
+// A slot without an array holds the array over `{1..0}`, which has no elements.
+
+ghost use Rattle.std.specs.Prelude.{◌≡◌, pos, [], ◌∷◌, true, false, is_some, map, option_map, IfErr, IfOk, OnOk};
+ghost use Rattle.dpl_language.specs.Ranges.{indices_in, too_large};
+ghost use Rattle.dpl_memory.specs.Memory.{array_at, held_at, held_with, is_some_array, redomained_from, with_array};
+ghost use Rattle.dpl_frame.specs.Frames.{with_memory, held_in};
+
+use crate::arrays::Arrays;
+use crate::filled::filled;
+use crate::frame::Frame;
+use crate::slots::Slots;
+use dpl_contents::{ArrayWords, DomainWord};
+use dpl_domain::Index;
+use std::alloc::AllocError;
+
+impl<'t> Frame<'t, Slots> {
+    /// The array in a slot, if it has one.
+    pub fn array(&self, slot: usize) -> Option<&ArrayWords>
+        ensures { held_in (option_map (λ a. a.now) result) ≡ array_at slot self.now.memory }
+    {
+        self.arrays.array(slot)
+    }
+
+    /// The arrays of all slots, of a frame that is done with.
+    pub fn into_arrays(self) -> Vec<Option<ArrayWords>>
+        ensures { map held_in result.items ≡ self.entry.memory.arrays }
+    {
+        self.arrays.into_arrays()
+    }
+}
+
+impl<'t, A: Arrays> Frame<'t, A> {
+    /// The domain of the array in a slot; `{1..0}` where there is none.
+    pub fn array_domain(&self, slot: usize) -> DomainWord
+        ensures { result ≡ (array_at slot self.now.memory).ranges }
+    {
+        self.arrays.domain(slot)
+    }
+
+    /// The word of an element of the array in a slot, if the array has the index.
+    pub fn element(&self, slot: usize, index: Index) -> Option<i64>
+        ensures { result ≡ held_at index (array_at slot self.now.memory) }
+    {
+        self.arrays.element(slot, index)
+    }
+
+    /// The same at one coordinate.
+    pub fn element_line(&self, slot: usize, i: i64) -> Option<i64>
+        ensures { result ≡ held_at (i ∷ []) (array_at slot self.now.memory) }
+    {
+        self.arrays.element_line(slot, i)
+    }
+
+    /// The same at two coordinates.
+    pub fn element_plane(&self, slot: usize, i: i64, j: i64) -> Option<i64>
+        ensures { result ≡ held_at (i ∷ j ∷ []) (array_at slot self.now.memory) }
+    {
+        self.arrays.element_plane(slot, i, j)
+    }
+
+    /// The same at three coordinates.
+    pub fn element_space(&self, slot: usize, i: i64, j: i64, k: i64) -> Option<i64>
+        ensures { result ≡ held_at (i ∷ j ∷ k ∷ []) (array_at slot self.now.memory) }
+    {
+        self.arrays.element_space(slot, i, j, k)
+    }
+
+    /// Puts a word at one coordinate of the array in a slot. False if the array hasn't got it, and then nothing is changed.
+    pub fn put_line(&mut self, slot: usize, i: i64, word: i64) -> bool
+        ensures there { result ≡ is_some (held_at (i ∷ []) (array_at slot self.old.memory)) }
+        ensures changes { self.new ≡ with_memory (with_array slot (held_with (i ∷ []) word (array_at slot self.old.memory)) self.old.memory) self.old }
+    {
+        self.arrays.put_line(slot, i, word)
+    }
+
+    /// Puts a word at two coordinates of the array in a slot. False if the array hasn't got them, and then nothing is changed.
+    pub fn put_plane(&mut self, slot: usize, i: i64, j: i64, word: i64) -> bool
+        ensures there { result ≡ is_some (held_at (i ∷ j ∷ []) (array_at slot self.old.memory)) }
+        ensures changes { self.new ≡ with_memory (with_array slot (held_with (i ∷ j ∷ []) word (array_at slot self.old.memory)) self.old.memory) self.old }
+    {
+        self.arrays.put_plane(slot, i, j, word)
+    }
+
+    /// Puts a word at three coordinates of the array in a slot. False if the array hasn't got them, and then nothing is changed.
+    pub fn put_space(&mut self, slot: usize, i: i64, j: i64, k: i64, word: i64) -> bool
+        ensures there { result ≡ is_some (held_at (i ∷ j ∷ k ∷ []) (array_at slot self.old.memory)) }
+        ensures changes { self.new ≡ with_memory (with_array slot (held_with (i ∷ j ∷ k ∷ []) word (array_at slot self.old.memory)) self.old.memory) self.old }
+    {
+        self.arrays.put_space(slot, i, j, k, word)
+    }
+
+    /// Puts a word at an index of the array in a slot. False if the array hasn't got it, and then nothing is changed.
+    pub fn put(&mut self, slot: usize, index: Index, word: i64) -> bool
+        ensures there { result ≡ is_some (held_at index (array_at slot self.old.memory)) }
+        ensures changes { self.new ≡ with_memory (with_array slot (held_with index word (array_at slot self.old.memory)) self.old.memory) self.old }
+    {
+        self.arrays.put(slot, index, word)
+    }
+
+    /// The array over a domain that holds 0 everywhere, by the map of a slot. It is in no slot.
+    ///
+    /// # Errors
+    /// Out of memory.
+    pub fn zeros(&self, slot: usize, domain: DomainWord) -> Result<ArrayWords, AllocError>
+        requires { too_large domain ≡ false }
+        ensures { IfOk result (λ a. a ≡ record { ranges = domain; words = map (λ t. pos 0) (indices_in domain) }) }
+    {
+        filled(self.alloc, domain, self.owner(slot), 0)
+    }
+
+    /// Puts an array into a slot; past the last one it does nothing.
+    pub fn keep(&mut self, slot: usize, array: ArrayWords)
+        ensures { self.new ≡ with_memory (with_array slot array self.old.memory) self.old }
+    {
+        self.arrays.keep(slot, array);
+    }
+
+    /// Declares an array in a slot: over a domain, by the slot's map, with one word everywhere. Past the last slot it does nothing.
+    ///
+    /// # Errors
+    /// Out of memory; then the frame is as it was.
+    pub fn declare_array(
+        &mut self,
+        slot: usize,
+        domain: DomainWord,
+        word: i64,
+    ) -> Result<(), AllocError>
+        requires { too_large domain ≡ false }
+        ensures declared { OnOk result (self.new ≡ with_memory (with_array slot (record { ranges = domain; words = map (λ t. word) (indices_in domain) }) self.old.memory) self.old) }
+        ensures unchanged { IfErr result (λ e. self.new ≡ self.old) }
+    {
+        let array = filled(self.alloc, domain, self.owner(slot), word)?;
+        self.keep(slot, array);
+        Ok(())
+    }
+
+    /// Gives the arrays in some slots another domain: each keeps the elements whose indices are in both.
+    ///
+    /// # Errors
+    /// Out of memory; then nothing is said of the arrays.
+    pub fn redomain(&mut self, slots: &[usize], domain: DomainWord) -> Result<(), AllocError>
+        requires { is_some_array slots.now ≡ true → too_large domain ≡ false }
+        ensures limits { self.new.limits ≡ self.old.limits }
+        ensures moved { OnOk result (self.new ≡ with_memory (record self.old.memory { arrays = redomained_from 0 slots.now domain self.old.memory.arrays }) self.old) }
+    {
+        self.arrays.redomain(self.alloc, slots, domain)
+    }
+}
