@@ -12,4 +12,4 @@ pub use gate::{Gate, OpenGate};
 pub use loops::{forall, forall_line};
 pub use reduction::{Operator, reduce};
 pub use stop::Stop;
-pub use turns::Turns;
+pub use turns::{AnyFrame, Turns};

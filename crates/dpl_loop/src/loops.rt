@@ -15,17 +15,17 @@ use crate::stop::Stop;
 use crate::turns::Turns;
 use dpl_contents::{DomainWord, RangeWord};
 use dpl_domain::Index;
-use dpl_frame::Frame;
+use dpl_frame::{Arrays, Frame};
 use dpl_map::Map;
 
 // The turn of an index at a place, once its owner has entered. Its fault names it.
 #[inline(always)]
-fn entered<'t, T: Turns<'t>, G: Gate>(
+fn entered<'t, A: Arrays, T: Turns<Frame<'t, A>>, G: Gate>(
     turns: &T,
     index: Index,
     place: u64,
     map: &Map,
-    frame: &mut Frame<'t>,
+    frame: &mut Frame<'t, A>,
     gate: &G,
 ) -> Result<(), Stop>
     ensures ends { (done : Deeds) → RunsTo (G.may_refuse gate.now (owner map.now index) place) result frame.new.memory done
@@ -46,11 +46,11 @@ fn entered<'t, T: Turns<'t>, G: Gate>(
 /// # Errors
 /// The fault of the first turn that has one, with its turn; out of memory; or the gate refused an entry, which it may. Where the
 /// gate refused and where memory ran out, nothing is said of the frame's memory.
-pub fn forall<'t, T: Turns<'t>, G: Gate>(
+pub fn forall<'t, A: Arrays, T: Turns<Frame<'t, A>>, G: Gate>(
     turns: &T,
     over: DomainWord,
     map: &Map,
-    frame: &mut Frame<'t>,
+    frame: &mut Frame<'t, A>,
     gate: &G,
 ) -> Result<(), Stop>
     ensures ends { (done : Deeds) → RunsTo (MayRefuse (G.may_refuse gate.now) map.now over) result frame.new.memory done
@@ -91,11 +91,11 @@ fn line_index(range: &RangeWord, place: u64) -> Option<Index>
 ///
 /// # Errors
 /// As for [`forall`].
-pub fn forall_line<'t, T: Turns<'t>, G: Gate>(
+pub fn forall_line<'t, A: Arrays, T: Turns<Frame<'t, A>>, G: Gate>(
     turns: &T,
     over: &RangeWord,
     map: &Map,
-    frame: &mut Frame<'t>,
+    frame: &mut Frame<'t, A>,
     gate: &G,
 ) -> Result<(), Stop>
     ensures ends { (done : Deeds) → RunsTo (MayRefuse (G.may_refuse gate.now) map.now (range_word over.now ∷ [])) result frame.new.memory done

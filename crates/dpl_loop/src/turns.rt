@@ -5,14 +5,25 @@ ghost use Rattle.dpl_language.specs.Values.{Index as IndexValue};
 ghost use Rattle.dpl_language.specs.Outcome.{Deeds, Run};
 ghost use Rattle.dpl_language.specs.Environment.{Limits};
 ghost use Rattle.dpl_memory.specs.Memory.{Memory};
+ghost use Rattle.dpl_frame.specs.Frames.{Framed};
 ghost use Rattle.dpl_loop.specs.Runs.{RunEnds};
 
 use crate::stop::Stop;
 use dpl_domain::Index;
-use dpl_frame::Frame;
+use dpl_frame::{Arrays, Frame};
 
-/// The turns of a forall. A turn prints nothing and changes the memory alone.
-pub trait Turns<'t> {
+/// A frame of some text and some arrays. Turns are of a type of frames, and know of it what it stands for.
+pub trait AnyFrame {
+    // What the frame stands for.
+    ghost framed: { Self → Framed };
+}
+
+impl<'t, A: Arrays> AnyFrame for Frame<'t, A> {
+    ghost framed = { λ frame. frame };
+}
+
+/// The turns of a forall over a type of frames. A turn prints nothing and changes the memory alone.
+pub trait Turns<F: AnyFrame> {
     // What the turn of an index does, by the limits of the run.
     ghost turn: { Self → Limits → IndexValue → Run Memory };
 
@@ -20,7 +31,7 @@ pub trait Turns<'t> {
     ///
     /// # Errors
     /// The turn's fault, or out of memory. No gate is asked within a turn.
-    fn make(&self, index: Index, frame: &mut Frame<'t>) -> Result<(), Stop>
-        ensures ends { (done : Deeds) → RunEnds result frame.new.memory done (turn self.now frame.old.limits index frame.old.memory done) }
-        ensures limits { frame.new.limits ≡ frame.old.limits };
+    fn make(&self, index: Index, frame: &mut F) -> Result<(), Stop>
+        ensures ends { (done : Deeds) → RunEnds result (F.framed frame.new).memory done (turn self.now (F.framed frame.old).limits index (F.framed frame.old).memory done) }
+        ensures limits { (F.framed frame.new).limits ≡ (F.framed frame.old).limits };
 }
