@@ -4,3 +4,4 @@ pub mod Wrapped
 pub mod Folds
 pub mod First
 pub mod Telling
+pub mod Worked

@@ -58,12 +58,12 @@ module _ (limits : Limits) (w : Memory) where
   behind_range r posts a e = ap (λ x. with_ok x (behind limits in_memory posts (base_of (range_view r)) w)) (range_view_value r ∙ e)
 
   -- ---- methods
-  pub method_ends : {A : Type 0} (may : Type 0) (value : A → Value) (t : Turn) (h : Halt) (r : RangeExpr) (m : MethodTree Variable)
-      → Tells {A = RangeWord} may as_range t (Err h) (item_of limits in_memory (range_item r) None w) → Tells may value t (Err h) (value_of limits in_memory (dotted (range_view r) m) None w)
-  method_ends may value t h r m tells =
+  pub method_ends : {A : Type 0} (may more : Type 0) (wider : may → more) (value : A → Value) (t : Turn) (h : Halt) (r : RangeExpr) (m : MethodTree Variable)
+      → Tells {A = RangeWord} may as_range t (Err h) (item_of limits in_memory (range_item r) None w) → Tells more value t (Err h) (value_of limits in_memory (dotted (range_view r) m) None w)
+  method_ends may more wider value t h r m tells =
       let item = item_of limits in_memory (range_item r) None w in
       let posts : Posts Variable = Post (Dotted nowhere m) NoPosts in
-      with_ok-ends may may as_range t h item (behind limits in_memory posts (base_of (range_view r)) w) _ value (λ may. may) (behind_range r posts item refl) tells
+      with_ok-ends may more as_range t h item (behind limits in_memory posts (base_of (range_view r)) w) _ value wider (behind_range r posts item refl) tells
 
   pub method_answer : (r : RangeExpr) (m : MethodTree Variable) (x : TextRange) (a : Result Value Fault) → item_of limits in_memory (range_item r) None w ≡ Ok (Range x)
       → answer_of limits in_memory m w (Range x) ≡ a → value_of limits in_memory (dotted (range_view r) m) None w ≡ a
@@ -75,13 +75,13 @@ module _ (limits : Limits) (w : Memory) where
   contained x (Ok v) = refl
   contained x (Err f) = refl
 
-  pub contains_ends : {A B : Type 0} (may : Type 0) (one : A → Value) (value : B → Value) (t : Turn) (h : Halt) (r : RangeExpr) (e : ExprTree Variable) (x : TextRange)
+  pub contains_ends : {A B : Type 0} (may more : Type 0) (wider : may → more) (one : A → Value) (value : B → Value) (t : Turn) (h : Halt) (r : RangeExpr) (e : ExprTree Variable) (x : TextRange)
       → item_of limits in_memory (range_item r) None w ≡ Ok (Range x) → Tells may one t (Err h) (value_of limits in_memory e None w)
-      → Tells may value t (Err h) (value_of limits in_memory (dotted (range_view r) (containing e)) None w)
-  contains_ends may one value t h r e x range tells =
+      → Tells more value t (Err h) (value_of limits in_memory (dotted (range_view r) (containing e)) None w)
+  contains_ends may more wider one value t h r e x range tells =
       let index = value_of limits in_memory e None w in
       let go = λ (v : Value). Ok (Truth (contains_index (x ∷ []) (index_of (v ∷ [])))) in
-      with_ok-ends may may one t h index go _ value (λ may. may) (method_answer r (containing e) x (with_ok index go) range (contained x index)) tells
+      with_ok-ends may more one t h index go _ value wider (method_answer r (containing e) x (with_ok index go) range (contained x index)) tells
 
   pub contains_answer : (r : RangeExpr) (e : ExprTree Variable) (x : TextRange) (n : ℤ) → item_of limits in_memory (range_item r) None w ≡ Ok (Range x)
       → value_of limits in_memory e None w ≡ Ok (Int n) → value_of limits in_memory (dotted (range_view r) (containing e)) None w ≡ Ok (Truth (contains_index (x ∷ []) (n ∷ [])))
@@ -90,12 +90,12 @@ module _ (limits : Limits) (w : Memory) where
       (ap (λ a. with_ok (with_ok a (λ v. with_ok (Ok []) (λ vs. Ok (v ∷ vs)))) (λ vs. Ok (Truth (contains_index (x ∷ []) (index_of vs))))) index)
 
   -- ---- slices
-  pub slice_ends : {A : Type 0} (may : Type 0) (value : A → Value) (t : Turn) (h : Halt) (r cut : RangeExpr)
-      → Tells {A = RangeWord} may as_range t (Err h) (item_of limits in_memory (range_item r) None w) → Tells may value t (Err h) (value_of limits in_memory (bracketed (range_view r) (range_item cut)) None w)
-  slice_ends may value t h r cut tells =
+  pub slice_ends : {A : Type 0} (may more : Type 0) (wider : may → more) (value : A → Value) (t : Turn) (h : Halt) (r cut : RangeExpr)
+      → Tells {A = RangeWord} may as_range t (Err h) (item_of limits in_memory (range_item r) None w) → Tells more value t (Err h) (value_of limits in_memory (bracketed (range_view r) (range_item cut)) None w)
+  slice_ends may more wider value t h r cut tells =
       let item = item_of limits in_memory (range_item r) None w in
       let posts : Posts Variable = Post (Brackets nowhere (FirstItem (range_item cut) NoItems) nowhere) NoPosts in
-      with_ok-ends may may as_range t h item (behind limits in_memory posts (base_of (range_view r)) w) _ value (λ may. may) (behind_range r posts item refl) tells
+      with_ok-ends may more as_range t h item (behind limits in_memory posts (base_of (range_view r)) w) _ value wider (behind_range r posts item refl) tells
 
   -- behind a range, by what its cut is
   cut_value : (r cut : RangeExpr) (x : TextRange) (a : Result Value Fault) → item_of limits in_memory (range_item r) None w ≡ Ok (Range x)
@@ -111,12 +111,12 @@ module _ (limits : Limits) (w : Memory) where
   cut_by x (Ok v) = refl
   cut_by x (Err f) = refl
 
-  pub cut_ends : {A : Type 0} (may : Type 0) (value : A → Value) (t : Turn) (h : Halt) (r cut : RangeExpr) (x : TextRange)
+  pub cut_ends : {A : Type 0} (may more : Type 0) (wider : may → more) (value : A → Value) (t : Turn) (h : Halt) (r cut : RangeExpr) (x : TextRange)
       → item_of limits in_memory (range_item r) None w ≡ Ok (Range x) → Tells {A = RangeWord} may as_range t (Err h) (item_of limits in_memory (range_item cut) None w)
-      → Tells may value t (Err h) (value_of limits in_memory (bracketed (range_view r) (range_item cut)) None w)
-  cut_ends may value t h r cut x range tells =
+      → Tells more value t (Err h) (value_of limits in_memory (bracketed (range_view r) (range_item cut)) None w)
+  cut_ends may more wider value t h r cut x range tells =
       let item = item_of limits in_memory (range_item cut) None w in
-      with_ok-ends may may as_range t h item (λ (v : Value). Ok (Range (range_sliced x (all_ranges (v ∷ []))))) _ value (λ may. may) (cut_value r cut x item range refl ∙ cut_by x item) tells
+      with_ok-ends may more as_range t h item (λ (v : Value). Ok (Range (range_sliced x (all_ranges (v ∷ []))))) _ value wider (cut_value r cut x item range refl ∙ cut_by x item) tells
 
   pub slice_answer : (r cut : RangeExpr) (x y : TextRange) → item_of limits in_memory (range_item r) None w ≡ Ok (Range x)
       → item_of limits in_memory (range_item cut) None w ≡ Ok (Range y)

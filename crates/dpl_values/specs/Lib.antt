@@ -1,7 +1,8 @@
 -- Which map a declared domain or array gets.
 pub mod Placed
--- Whose map deals out the indices of a reduction.
+-- Whose map deals out the indices of a reduction; and which entries the reductions of an expression ask for.
 pub mod Reducing
+pub mod Reductions
 -- What serves contracts and proofs alone.
 pub mod Bounds
 pub mod Elements

@@ -1,10 +1,10 @@
 -- Which map a declared domain or array gets: that of a root, or by the map that is named, its arguments being evaluated.
 -- A map is never the cause of a fault: where evaluating an argument would be one, no map is named.
-use Rattle.std.specs.Prelude.{◌≡◌, ℤ, List, [], Option, Some, None, get_or, slice_get, Result, Ok, Err}
+use Rattle.std.specs.Prelude.{◌≡◌, ℤ, List, [], Option, Some, None, slice_get, Result, Ok, Err}
 use Rattle.dpl_range.specs.Equality.{TextRange}
 use Rattle.dpl_domain.specs.Indices.{indices}
 use Rattle.dpl_domain.specs.Equality.{values_of}
-use Rattle.dpl_map.specs.Maps.{AxisValue, whole_map}
+use Rattle.dpl_map.specs.Maps.{AxisValue}
 use Rattle.dpl_layout.specs.declared.named.Named.{Named}
 use Rattle.dpl_layout.specs.declared.named.Named.TheVariants.{Whole, Block, Cyclic, BlockCyclic}
 use Rattle.dpl_layout.specs.Roots.{IsLeastOf, IsFromLeast, IsRootMap}
@@ -19,7 +19,7 @@ use Rattle.dpl_nodes.specs.declared.placing.MapExpr.{MapExpr}
 use Rattle.dpl_nodes.specs.declared.placing.MapExpr.TheVariants as maps
 use Rattle.dpl_nodes.specs.declared.placing.Placing.{Placing}
 use Rattle.dpl_nodes.specs.declared.placing.Placing.TheVariants.{Of, Unmapped, Mapped, BlockCreated, CyclicCreated}
-use Rattle.dpl_frame.specs.Frames.{Framed}
+use Rattle.dpl_frame.specs.Frames.{Framed, owned_by}
 use Rattle.dpl_frame.specs.Faults.{of_domain}
 use Rattle.dpl_nodes.specs.Typed.{domain_view, index_exprs}
 
@@ -67,7 +67,7 @@ module _ (limits : Limits) (s : Memory) where
 
 -- the map of a domain with this value: of the root in another slot; or of a root, by what is named and what is asked for all roots
 abbrev pub IsPlaced : Framed → Placing → List TextRange → List AxisValue → Type 0
-IsPlaced f (Of slot) rs m = m ≡ get_or f.owners slot whole_map
+IsPlaced f (Of slot) rs m = m ≡ owned_by f slot
 IsPlaced f Unmapped rs m = IsRootMap f.layout Whole (values_of rs) m
 IsPlaced f (Mapped k) rs m = (n : Named) × IsNamedAt f.limits f.memory (slice_get f.maps k) n × IsRootMap f.layout n (values_of rs) m
 IsPlaced f BlockCreated rs m = IsRootMap f.layout (Block (values_of rs)) (values_of rs) m

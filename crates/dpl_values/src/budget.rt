@@ -5,14 +5,18 @@ ghost use Rattle.std.specs.Prelude.{◌≡◌};
 ghost use Rattle.dpl_frame.specs.Faults.{Tells};
 ghost use Rattle.dpl_values.specs.Elements.{within_at};
 
-use dpl_frame::{Alarm, DomainWord, FaultCode, Frame, Trap, Turn};
+use dpl_frame::{Alarm, Arrays, DomainWord, FaultCode, Frame, Trap, Turn};
 use dpl_nodes::Spot;
 
 /// A domain whose indices a loop may go through.
 ///
 /// # Errors
 /// `F5` at a place for more than the budget.
-pub fn within_budget(domain: &DomainWord, at: &Spot, frame: &Frame<'_>) -> Result<(), Trap>
+pub fn within_budget<A: Arrays>(
+    domain: &DomainWord,
+    at: &Spot,
+    frame: &Frame<'_, A>,
+) -> Result<(), Trap>
     ensures { result ≡ within_at frame.now.limits at.now domain.now }
 {
     if frame.budget() < domain.size() {
@@ -25,10 +29,10 @@ pub fn within_budget(domain: &DomainWord, at: &Spot, frame: &Frame<'_>) -> Resul
 ///
 /// # Errors
 /// `F5` at a place for more than the budget.
-pub(crate) fn within_turns(
+pub(crate) fn within_turns<A: Arrays>(
     domain: &DomainWord,
     at: &Spot,
-    frame: &Frame<'_>,
+    frame: &Frame<'_, A>,
     turn: &mut Turn,
 ) -> Result<(), Alarm>
     ensures { Tells ⊥ (λ v. v) turn.new result (within_at frame.now.limits at.now domain.now) }

@@ -10,11 +10,11 @@ ghost use Rattle.dpl_memory.specs.Memory.{in_memory};
 ghost use Rattle.dpl_language.specs.Tree.{Plainly, Size, First, Last, Low, High};
 ghost use Rattle.dpl_lowered.specs.Shapes.{nowhere};
 ghost use Rattle.dpl_memory.specs.Memory.{array_at, held_at};
-ghost use Rattle.dpl_loop.specs.Entries.{MayRefuseSome};
 ghost use Rattle.dpl_nodes.specs.Typed.{int_view, truth_view, range_item, range_view, stride_view, dotted, ranges_items, index_items, index_exprs, domain_view};
 ghost use Rattle.dpl_frame.specs.Faults.{Tells, as_range};
 ghost use Rattle.dpl_values.specs.Bounds.{bounds_of};
 ghost use Rattle.dpl_values.specs.Elements.{word_found};
+ghost use Rattle.dpl_values.specs.Reductions.{MayRefuseReduction, EachInInt, EachInTruth, EachInRange, EachInStride, EachInRanges, EachInIndex, EachInDomain};
 
 use crate::comparison::holds;
 use crate::domain::{coordinate, found, plane, sized, small, space};
@@ -22,20 +22,20 @@ use crate::number::{difference, negative, product, quotient, remainder, sum};
 use crate::range::{Written, bounded, contains, first, high, last, low, size, strided_by};
 use crate::reduction::{reduced_int, reduced_truth};
 use dpl_domain::Index;
-use dpl_frame::{Alarm, DomainWord, FaultCode, Frame, RangeWord, Truth, Turn};
+use dpl_frame::{Alarm, Arrays, DomainWord, FaultCode, Frame, RangeWord, Truth, Turn};
 use dpl_loop::Gate;
 use dpl_nodes::{BoolExpr, DomainExpr, IndexExpr, IntExpr, RangeExpr, RangesExpr, Spot, Stride};
 
 // An operand: a leaf at once, and else by a walk.
 #[cycle(walk)]
 #[inline(always)]
-pub(crate) fn operand<G: Gate>(
+pub(crate) fn operand<A: Arrays, G: Gate>(
     e: &IntExpr<'_>,
-    frame: &Frame<'_>,
+    frame: &Frame<'_, A>,
     gate: &G,
     turn: &mut Turn,
 ) -> Result<i64, Alarm>
-    ensures { Tells (MayRefuseSome (G.may_refuse gate.now)) Int turn.new result (value_of frame.now.limits in_memory (int_view e.now) None frame.now.memory) }
+    ensures { Tells (MayRefuseReduction (G.may_refuse gate.now) frame.now (EachInInt e.now)) Int turn.new result (value_of frame.now.limits in_memory (int_view e.now) None frame.now.memory) }
 {
     match e {
         IntExpr::Local(slot) => Ok(frame.number(*slot)),
@@ -51,13 +51,13 @@ pub(crate) fn operand<G: Gate>(
 /// The fault of a part.
 #[cycle(walk)]
 #[inline(always)]
-pub fn coordinate_value<G: Gate>(
+pub fn coordinate_value<A: Arrays, G: Gate>(
     e: &IntExpr<'_>,
-    frame: &Frame<'_>,
+    frame: &Frame<'_, A>,
     gate: &G,
     turn: &mut Turn,
 ) -> Result<i64, Alarm>
-    ensures { Tells (MayRefuseSome (G.may_refuse gate.now)) Int turn.new result (value_of frame.now.limits in_memory (int_view e.now) None frame.now.memory) }
+    ensures { Tells (MayRefuseReduction (G.may_refuse gate.now) frame.now (EachInInt e.now)) Int turn.new result (value_of frame.now.limits in_memory (int_view e.now) None frame.now.memory) }
 {
     match e {
         IntExpr::Local(slot) => Ok(frame.number(*slot)),
@@ -76,13 +76,13 @@ pub fn coordinate_value<G: Gate>(
 /// # Errors
 /// `F2` at a division by zero; the fault of a part.
 #[cycle(walk)]
-pub(crate) fn int_value<G: Gate>(
+pub(crate) fn int_value<A: Arrays, G: Gate>(
     e: &IntExpr<'_>,
-    frame: &Frame<'_>,
+    frame: &Frame<'_, A>,
     gate: &G,
     turn: &mut Turn,
 ) -> Result<i64, Alarm>
-    ensures { Tells (MayRefuseSome (G.may_refuse gate.now)) Int turn.new result (value_of frame.now.limits in_memory (int_view e.now) None frame.now.memory) }
+    ensures { Tells (MayRefuseReduction (G.may_refuse gate.now) frame.now (EachInInt e.now)) Int turn.new result (value_of frame.now.limits in_memory (int_view e.now) None frame.now.memory) }
 {
     match e {
         IntExpr::Number(n) => Ok(*n),
@@ -135,13 +135,13 @@ pub(crate) fn int_value<G: Gate>(
 // `size`
 #[cycle(walk)]
 #[inline(never)]
-fn size_of<G: Gate>(
+fn size_of<A: Arrays, G: Gate>(
     r: &RangeExpr<'_>,
-    frame: &Frame<'_>,
+    frame: &Frame<'_, A>,
     gate: &G,
     turn: &mut Turn,
 ) -> Result<i64, Alarm>
-    ensures { Tells (MayRefuseSome (G.may_refuse gate.now)) Int turn.new result (value_of frame.now.limits in_memory (dotted (range_view r.now) (Plainly nowhere Size)) None frame.now.memory) }
+    ensures { Tells (MayRefuseReduction (G.may_refuse gate.now) frame.now (EachInRange r.now)) Int turn.new result (value_of frame.now.limits in_memory (dotted (range_view r.now) (Plainly nowhere Size)) None frame.now.memory) }
 {
     Ok(size(range_value(r, frame, gate, turn)?))
 }
@@ -149,14 +149,14 @@ fn size_of<G: Gate>(
 // `first`
 #[cycle(walk)]
 #[inline(never)]
-fn first_of<G: Gate>(
+fn first_of<A: Arrays, G: Gate>(
     r: &RangeExpr<'_>,
     at: &Spot,
-    frame: &Frame<'_>,
+    frame: &Frame<'_, A>,
     gate: &G,
     turn: &mut Turn,
 ) -> Result<i64, Alarm>
-    ensures { Tells (MayRefuseSome (G.may_refuse gate.now)) Int turn.new result (value_of frame.now.limits in_memory (dotted (range_view r.now) (Plainly at.now First)) None frame.now.memory) }
+    ensures { Tells (MayRefuseReduction (G.may_refuse gate.now) frame.now (EachInRange r.now)) Int turn.new result (value_of frame.now.limits in_memory (dotted (range_view r.now) (Plainly at.now First)) None frame.now.memory) }
 {
     let range = range_value(r, frame, gate, turn)?;
     first(range, *at, turn)
@@ -165,14 +165,14 @@ fn first_of<G: Gate>(
 // `last`
 #[cycle(walk)]
 #[inline(never)]
-fn last_of<G: Gate>(
+fn last_of<A: Arrays, G: Gate>(
     r: &RangeExpr<'_>,
     at: &Spot,
-    frame: &Frame<'_>,
+    frame: &Frame<'_, A>,
     gate: &G,
     turn: &mut Turn,
 ) -> Result<i64, Alarm>
-    ensures { Tells (MayRefuseSome (G.may_refuse gate.now)) Int turn.new result (value_of frame.now.limits in_memory (dotted (range_view r.now) (Plainly at.now Last)) None frame.now.memory) }
+    ensures { Tells (MayRefuseReduction (G.may_refuse gate.now) frame.now (EachInRange r.now)) Int turn.new result (value_of frame.now.limits in_memory (dotted (range_view r.now) (Plainly at.now Last)) None frame.now.memory) }
 {
     let range = range_value(r, frame, gate, turn)?;
     last(range, *at, turn)
@@ -181,14 +181,14 @@ fn last_of<G: Gate>(
 // `low`
 #[cycle(walk)]
 #[inline(never)]
-fn low_of<G: Gate>(
+fn low_of<A: Arrays, G: Gate>(
     r: &RangeExpr<'_>,
     at: &Spot,
-    frame: &Frame<'_>,
+    frame: &Frame<'_, A>,
     gate: &G,
     turn: &mut Turn,
 ) -> Result<i64, Alarm>
-    ensures { Tells (MayRefuseSome (G.may_refuse gate.now)) Int turn.new result (value_of frame.now.limits in_memory (dotted (range_view r.now) (Plainly at.now Low)) None frame.now.memory) }
+    ensures { Tells (MayRefuseReduction (G.may_refuse gate.now) frame.now (EachInRange r.now)) Int turn.new result (value_of frame.now.limits in_memory (dotted (range_view r.now) (Plainly at.now Low)) None frame.now.memory) }
 {
     let range = range_value(r, frame, gate, turn)?;
     low(range, *at, turn)
@@ -197,14 +197,14 @@ fn low_of<G: Gate>(
 // `high`
 #[cycle(walk)]
 #[inline(never)]
-fn high_of<G: Gate>(
+fn high_of<A: Arrays, G: Gate>(
     r: &RangeExpr<'_>,
     at: &Spot,
-    frame: &Frame<'_>,
+    frame: &Frame<'_, A>,
     gate: &G,
     turn: &mut Turn,
 ) -> Result<i64, Alarm>
-    ensures { Tells (MayRefuseSome (G.may_refuse gate.now)) Int turn.new result (value_of frame.now.limits in_memory (dotted (range_view r.now) (Plainly at.now High)) None frame.now.memory) }
+    ensures { Tells (MayRefuseReduction (G.may_refuse gate.now) frame.now (EachInRange r.now)) Int turn.new result (value_of frame.now.limits in_memory (dotted (range_view r.now) (Plainly at.now High)) None frame.now.memory) }
 {
     let range = range_value(r, frame, gate, turn)?;
     high(range, *at, turn)
@@ -213,13 +213,13 @@ fn high_of<G: Gate>(
 // `size` of a domain
 #[cycle(walk)]
 #[inline(never)]
-fn count_of<G: Gate>(
+fn count_of<A: Arrays, G: Gate>(
     d: &DomainExpr<'_>,
-    frame: &Frame<'_>,
+    frame: &Frame<'_, A>,
     gate: &G,
     turn: &mut Turn,
 ) -> Result<i64, Alarm>
-    ensures { Tells (MayRefuseSome (G.may_refuse gate.now)) Int turn.new result (value_of frame.now.limits in_memory (dotted (domain_view d.now) (Plainly nowhere Size)) None frame.now.memory) }
+    ensures { Tells (MayRefuseReduction (G.may_refuse gate.now) frame.now (EachInDomain d.now)) Int turn.new result (value_of frame.now.limits in_memory (dotted (domain_view d.now) (Plainly nowhere Size)) None frame.now.memory) }
 {
     Ok(domain_value(d, frame, gate, turn)?.size() as i64)
 }
@@ -229,15 +229,15 @@ fn count_of<G: Gate>(
 /// # Errors
 /// `F1` at the array's name for an index outside it.
 #[cycle(walk)]
-pub(crate) fn element<G: Gate>(
+pub(crate) fn element<A: Arrays, G: Gate>(
     slot: usize,
     t: &IndexExpr<'_>,
     at: &Spot,
-    frame: &Frame<'_>,
+    frame: &Frame<'_, A>,
     gate: &G,
     turn: &mut Turn,
 ) -> Result<i64, Alarm>
-    ensures { Tells (MayRefuseSome (G.may_refuse gate.now)) (λ v. v) turn.new result (with_ok (items_of frame.now.limits in_memory (index_items t.now) frame.now.memory) (λ vs. word_found at.now (held_at (index_of vs) (array_at slot frame.now.memory)))) }
+    ensures { Tells (MayRefuseReduction (G.may_refuse gate.now) frame.now (EachInIndex t.now)) (λ v. v) turn.new result (with_ok (items_of frame.now.limits in_memory (index_items t.now) frame.now.memory) (λ vs. word_found at.now (held_at (index_of vs) (array_at slot frame.now.memory)))) }
 {
     match t {
         IndexExpr::Line(i) => {
@@ -263,13 +263,13 @@ pub(crate) fn element<G: Gate>(
 ///
 /// # Errors
 /// The fault of a coordinate.
-pub(crate) fn index_value<G: Gate>(
+pub(crate) fn index_value<A: Arrays, G: Gate>(
     t: &IndexExpr<'_>,
-    frame: &Frame<'_>,
+    frame: &Frame<'_, A>,
     gate: &G,
     turn: &mut Turn,
 ) -> Result<Index, Alarm>
-    ensures { Tells (MayRefuseSome (G.may_refuse gate.now)) (λ v. v) turn.new result (with_ok (values_of frame.now.limits in_memory (index_exprs t.now) frame.now.memory) (λ vs. Ok (index_of vs))) }
+    ensures { Tells (MayRefuseReduction (G.may_refuse gate.now) frame.now (EachInIndex t.now)) (λ v. v) turn.new result (with_ok (values_of frame.now.limits in_memory (index_exprs t.now) frame.now.memory) (λ vs. Ok (index_of vs))) }
 {
     match t {
         IndexExpr::Line(i) => Ok(coordinate(operand(i, frame, gate, turn)?)),
@@ -293,14 +293,14 @@ pub(crate) fn index_value<G: Gate>(
 /// # Errors
 /// The fault of a range; `F3` at the opening bracket for too many indices.
 #[cycle(walk)]
-pub(crate) fn literal<G: Gate>(
+pub(crate) fn literal<A: Arrays, G: Gate>(
     at: &Spot,
     ranges: &RangesExpr<'_>,
-    frame: &Frame<'_>,
+    frame: &Frame<'_, A>,
     gate: &G,
     turn: &mut Turn,
 ) -> Result<DomainWord, Alarm>
-    ensures { Tells (MayRefuseSome (G.may_refuse gate.now)) DomainValue turn.new result (with_ok (items_of frame.now.limits in_memory (ranges_items ranges.now) frame.now.memory) (λ vs. sized_of at.now (all_ranges vs))) }
+    ensures { Tells (MayRefuseReduction (G.may_refuse gate.now) frame.now (EachInRanges ranges.now)) DomainValue turn.new result (with_ok (items_of frame.now.limits in_memory (ranges_items ranges.now) frame.now.memory) (λ vs. sized_of at.now (all_ranges vs))) }
 {
     match ranges {
         RangesExpr::Line(a) => {
@@ -323,14 +323,14 @@ pub(crate) fn literal<G: Gate>(
 
 // A domain with each dimension between the bounds of its range.
 #[cycle(walk)]
-fn cut<G: Gate>(
+fn cut<A: Arrays, G: Gate>(
     domain: DomainWord,
     ranges: &RangesExpr<'_>,
-    frame: &Frame<'_>,
+    frame: &Frame<'_, A>,
     gate: &G,
     turn: &mut Turn,
 ) -> Result<DomainWord, Alarm>
-    ensures { Tells (MayRefuseSome (G.may_refuse gate.now)) DomainValue turn.new result (with_ok (items_of frame.now.limits in_memory (ranges_items ranges.now) frame.now.memory) (λ vs. Ok (DomainValue (all_sliced domain (all_ranges vs))))) }
+    ensures { Tells (MayRefuseReduction (G.may_refuse gate.now) frame.now (EachInRanges ranges.now)) DomainValue turn.new result (with_ok (items_of frame.now.limits in_memory (ranges_items ranges.now) frame.now.memory) (λ vs. Ok (DomainValue (all_sliced domain (all_ranges vs))))) }
 {
     match ranges {
         RangesExpr::Line(a) => {
@@ -356,13 +356,13 @@ fn cut<G: Gate>(
 /// # Errors
 /// `F3` at the opening bracket for too many indices, and at `expand` for these or for a bound past its limit.
 #[cycle(walk)]
-pub(crate) fn domain_value<G: Gate>(
+pub(crate) fn domain_value<A: Arrays, G: Gate>(
     e: &DomainExpr<'_>,
-    frame: &Frame<'_>,
+    frame: &Frame<'_, A>,
     gate: &G,
     turn: &mut Turn,
 ) -> Result<DomainWord, Alarm>
-    ensures { Tells (MayRefuseSome (G.may_refuse gate.now)) DomainValue turn.new result (value_of frame.now.limits in_memory (domain_view e.now) None frame.now.memory) }
+    ensures { Tells (MayRefuseReduction (G.may_refuse gate.now) frame.now (EachInDomain e.now)) DomainValue turn.new result (value_of frame.now.limits in_memory (domain_view e.now) None frame.now.memory) }
 {
     match e {
         DomainExpr::Local(slot) => Ok(frame.domain(*slot)),
@@ -389,14 +389,14 @@ pub(crate) fn domain_value<G: Gate>(
 
 // A range by its bounds, with the stride that is written, which is evaluated before the fault of its bounds is told.
 #[cycle(walk)]
-fn stridden<G: Gate>(
+fn stridden<A: Arrays, G: Gate>(
     stride: &Stride<'_>,
     written: Written,
-    frame: &Frame<'_>,
+    frame: &Frame<'_, A>,
     gate: &G,
     turn: &mut Turn,
 ) -> Result<RangeWord, Alarm>
-    ensures { Tells (MayRefuseSome (G.may_refuse gate.now)) as_range turn.new result (stridden_of frame.now.limits in_memory (stride_view stride.now) (bounds_of written) frame.now.memory) }
+    ensures { Tells (MayRefuseReduction (G.may_refuse gate.now) frame.now (EachInStride stride.now)) as_range turn.new result (stridden_of frame.now.limits in_memory (stride_view stride.now) (bounds_of written) frame.now.memory) }
 {
     match stride {
         Stride::Absent => bounded(written, turn),
@@ -413,13 +413,13 @@ fn stridden<G: Gate>(
 /// # Errors
 /// `F3` at the dots for a bound or a count past its limit, and at `by` for a stride.
 #[cycle(walk)]
-pub(crate) fn range_value<G: Gate>(
+pub(crate) fn range_value<A: Arrays, G: Gate>(
     e: &RangeExpr<'_>,
-    frame: &Frame<'_>,
+    frame: &Frame<'_, A>,
     gate: &G,
     turn: &mut Turn,
 ) -> Result<RangeWord, Alarm>
-    ensures { Tells (MayRefuseSome (G.may_refuse gate.now)) as_range turn.new result (item_of frame.now.limits in_memory (range_item e.now) None frame.now.memory) }
+    ensures { Tells (MayRefuseReduction (G.may_refuse gate.now) frame.now (EachInRange e.now)) as_range turn.new result (item_of frame.now.limits in_memory (range_item e.now) None frame.now.memory) }
 {
     match e {
         RangeExpr::Local(slot) => Ok(frame.range(*slot)),
@@ -448,13 +448,13 @@ pub(crate) fn range_value<G: Gate>(
 /// # Errors
 /// The fault of an operand.
 #[cycle(truth)]
-pub(crate) fn truth_value<G: Gate>(
+pub(crate) fn truth_value<A: Arrays, G: Gate>(
     e: &BoolExpr<'_>,
-    frame: &Frame<'_>,
+    frame: &Frame<'_, A>,
     gate: &G,
     turn: &mut Turn,
 ) -> Result<Truth, Alarm>
-    ensures { Tells (MayRefuseSome (G.may_refuse gate.now)) TruthValue turn.new result (value_of frame.now.limits in_memory (truth_view e.now) None frame.now.memory) }
+    ensures { Tells (MayRefuseReduction (G.may_refuse gate.now) frame.now (EachInTruth e.now)) TruthValue turn.new result (value_of frame.now.limits in_memory (truth_view e.now) None frame.now.memory) }
 {
     match e {
         BoolExpr::Truth(b) => Ok(Truth::new(*b)),

@@ -7,30 +7,30 @@ ghost use Rattle.dpl_language.specs.Expressions.{value_of, whole_in};
 ghost use Rattle.dpl_lowered.specs.LoweredExpressions.{EachTurn};
 ghost use Rattle.dpl_memory.specs.Memory.{in_memory};
 ghost use Rattle.dpl_values.specs.Reducing.{first_of_ints, first_of_truths};
-ghost use Rattle.dpl_loop.specs.Entries.{MayRefuseSome};
 ghost use Rattle.dpl_nodes.specs.Typed.{promoted_int, promoted_truth};
 ghost use Rattle.dpl_frame.specs.Faults.{Tells};
+ghost use Rattle.dpl_values.specs.Reductions.{MayRefuseReduction, EachInInts, EachInTruths};
 
 use crate::comparison::holds;
 use crate::domain::found;
 use crate::expression::{operand as scalar_operand, truth_value};
 use crate::number::{difference, negative, product, quotient, remainder, sum};
 use dpl_domain::Index;
-use dpl_frame::{Alarm, DomainWord, FaultCode, Frame, Truth, Turn};
+use dpl_frame::{Alarm, Arrays, DomainWord, FaultCode, Frame, Truth, Turn};
 use dpl_loop::Gate;
 use dpl_nodes::{PromotedInt, PromotedTruth};
 
 // An operand: an element or a scalar at once, and else by a walk.
 #[cycle(walk)]
 #[inline(always)]
-pub(crate) fn operand<G: Gate>(
+pub(crate) fn operand<A: Arrays, G: Gate>(
     e: &PromotedInt<'_>,
     index: &Index,
-    frame: &Frame<'_>,
+    frame: &Frame<'_, A>,
     gate: &G,
     turn: &mut Turn,
 ) -> Result<i64, Alarm>
-    ensures { Tells (MayRefuseSome (G.may_refuse gate.now)) Int turn.new result (value_of frame.now.limits in_memory (promoted_int EachTurn e.now) (Some index.now) frame.now.memory) }
+    ensures { Tells (MayRefuseReduction (G.may_refuse gate.now) frame.now (EachInInts e.now)) Int turn.new result (value_of frame.now.limits in_memory (promoted_int EachTurn e.now) (Some index.now) frame.now.memory) }
 {
     match e {
         PromotedInt::Scalar(e) => scalar_operand(e, frame, gate, turn),
@@ -49,14 +49,14 @@ pub(crate) fn operand<G: Gate>(
 /// # Errors
 /// `F1` at the name of an array that hasn't the index, and `F2` at a division by zero.
 #[cycle(walk)]
-pub(crate) fn promoted_int_value<G: Gate>(
+pub(crate) fn promoted_int_value<A: Arrays, G: Gate>(
     e: &PromotedInt<'_>,
     index: &Index,
-    frame: &Frame<'_>,
+    frame: &Frame<'_, A>,
     gate: &G,
     turn: &mut Turn,
 ) -> Result<i64, Alarm>
-    ensures { Tells (MayRefuseSome (G.may_refuse gate.now)) Int turn.new result (value_of frame.now.limits in_memory (promoted_int EachTurn e.now) (Some index.now) frame.now.memory) }
+    ensures { Tells (MayRefuseReduction (G.may_refuse gate.now) frame.now (EachInInts e.now)) Int turn.new result (value_of frame.now.limits in_memory (promoted_int EachTurn e.now) (Some index.now) frame.now.memory) }
 {
     match e {
         PromotedInt::Scalar(e) => scalar_operand(e, frame, gate, turn),
@@ -101,14 +101,14 @@ pub(crate) fn promoted_int_value<G: Gate>(
 /// # Errors
 /// The fault of an operand, and `F1` at the name of an array that hasn't the index.
 #[cycle(truth)]
-pub(crate) fn promoted_truth_value<G: Gate>(
+pub(crate) fn promoted_truth_value<A: Arrays, G: Gate>(
     e: &PromotedTruth<'_>,
     index: &Index,
-    frame: &Frame<'_>,
+    frame: &Frame<'_, A>,
     gate: &G,
     turn: &mut Turn,
 ) -> Result<Truth, Alarm>
-    ensures { Tells (MayRefuseSome (G.may_refuse gate.now)) TruthValue turn.new result (value_of frame.now.limits in_memory (promoted_truth EachTurn e.now) (Some index.now) frame.now.memory) }
+    ensures { Tells (MayRefuseReduction (G.may_refuse gate.now) frame.now (EachInTruths e.now)) TruthValue turn.new result (value_of frame.now.limits in_memory (promoted_truth EachTurn e.now) (Some index.now) frame.now.memory) }
 {
     match e {
         PromotedTruth::Scalar(e) => truth_value(e, frame, gate, turn),
@@ -192,7 +192,7 @@ pub(crate) fn truth_array(e: &PromotedTruth<'_>) -> Option<usize>
 }
 
 /// The domain of the first whole array in a promoted int, if there is one.
-pub fn int_domain(e: &PromotedInt<'_>, frame: &Frame<'_>) -> Option<DomainWord>
+pub fn int_domain<A: Arrays>(e: &PromotedInt<'_>, frame: &Frame<'_, A>) -> Option<DomainWord>
     ensures { result ≡ whole_in frame.now.limits in_memory (promoted_int EachTurn e.now) frame.now.memory }
 {
     match int_array(e) {
@@ -202,7 +202,7 @@ pub fn int_domain(e: &PromotedInt<'_>, frame: &Frame<'_>) -> Option<DomainWord>
 }
 
 /// The domain of the first whole array in a promoted truth value, if there is one.
-pub fn truth_domain(e: &PromotedTruth<'_>, frame: &Frame<'_>) -> Option<DomainWord>
+pub fn truth_domain<A: Arrays>(e: &PromotedTruth<'_>, frame: &Frame<'_, A>) -> Option<DomainWord>
     ensures { result ≡ whole_in frame.now.limits in_memory (promoted_truth EachTurn e.now) frame.now.memory }
 {
     match truth_array(e) {

@@ -1,22 +1,24 @@
 // Reductions: the values of a promoted expression at all indices of its domain, put together in their order by the loop of reductions.
 // The domain and the map are those of the first whole array in the expression.
 
-ghost use Rattle.std.specs.Prelude.{◌≡◌, ◌⊎◌, Some, Result, get_or};
+ghost use Rattle.std.specs.Prelude.{◌≡◌, ◌⊎◌, Some, Result};
 ghost use Rattle.dpl_language.specs.Values.{Value, Fault, Index as IndexValue, Int, Truth as TruthValue};
 ghost use Rattle.dpl_language.specs.Expressions.{value_of, whole_in, fold_over, reduction};
 ghost use Rattle.dpl_lowered.specs.LoweredExpressions.{EachTurn};
 ghost use Rattle.dpl_memory.specs.Memory.{array_at, in_memory};
 ghost use Rattle.dpl_nodes.specs.Typed.{promoted_int, promoted_truth, int_fold_view, truth_fold_view};
+ghost use Rattle.dpl_frame.specs.Frames.{owned_by};
 ghost use Rattle.dpl_frame.specs.Faults.{Tells};
-ghost use Rattle.dpl_loop.specs.Entries.{MayRefuse, MayRefuseSome};
+ghost use Rattle.dpl_loop.specs.Entries.{MayRefuse};
 ghost use Rattle.dpl_loop.specs.Values.{AnswersTell, MayAnswerRefused};
-ghost use Rattle.dpl_map.specs.Maps.{whole_map};
+ghost use Rattle.dpl_values.specs.Reducing.{first_of_ints, first_of_truths};
+ghost use Rattle.dpl_values.specs.Reductions.{MayRefuseReduction, OfSlot, EachInInts, EachInTruths};
 
 use crate::budget::within_turns;
 use crate::fold::{combined_ints, combined_truths, int_over_none, truth_over_none};
 use crate::promoted::{int_array, operand, promoted_truth_value, truth_array};
 use dpl_domain::Index;
-use dpl_frame::{Alarm, Frame, Truth, Turn};
+use dpl_frame::{Alarm, Arrays, Frame, Truth, Turn};
 use dpl_loop::{Gate, Operator, reduce};
 use dpl_nodes::{IntFold, PromotedInt, PromotedTruth, Spot, TruthFold};
 
@@ -70,17 +72,17 @@ impl Operator for Truths {
 
 // The items at the indices of the array in a slot put together; its map tells who enters.
 #[inline(always)]
-fn folded<O: Operator, F: Fn(Index, &mut Turn) -> Result<O::Item, Alarm>, G: Gate>(
+fn folded<A: Arrays, O: Operator, F: Fn(Index, &mut Turn) -> Result<O::Item, Alarm>, G: Gate>(
     operator: &O,
     slot: usize,
-    frame: &Frame<'_>,
+    frame: &Frame<'_, A>,
     item_at: F,
     gate: &G,
     turn: &mut Turn,
 ) -> Result<O::Item, Alarm>
     requires { F.IsAlwaysCallable item_at }
     ensures { (meaning : IndexValue → Result Value Fault) → AnswersTell O.value (F.post item_at) meaning
-        → Tells (MayRefuse (G.may_refuse gate.now) (get_or frame.now.owners slot whole_map) (array_at slot frame.now.memory).ranges ⊎ MayAnswerRefused (F.post item_at)) O.value turn.new result (fold_over (O.op operator.now) meaning (array_at slot frame.now.memory).ranges) }
+        → Tells (MayRefuse (G.may_refuse gate.now) (owned_by frame.now slot) (array_at slot frame.now.memory).ranges ⊎ MayAnswerRefused (F.post item_at)) O.value turn.new result (fold_over (O.op operator.now) meaning (array_at slot frame.now.memory).ranges) }
 {
     let map = frame.owner(slot);
     reduce(
@@ -100,15 +102,15 @@ fn folded<O: Operator, F: Fn(Index, &mut Turn) -> Result<O::Item, Alarm>, G: Gat
 /// gate refused the entry of an index's owner. No gate is asked for the value at an index.
 #[cycle(walk)]
 #[inline(never)]
-pub(crate) fn reduced_int<G: Gate>(
+pub(crate) fn reduced_int<A: Arrays, G: Gate>(
     fold: IntFold,
     e: &PromotedInt<'_>,
     at: &Spot,
-    frame: &Frame<'_>,
+    frame: &Frame<'_, A>,
     gate: &G,
     turn: &mut Turn,
 ) -> Result<i64, Alarm>
-    ensures { Tells (MayRefuseSome (G.may_refuse gate.now)) Int turn.new result
+    ensures { Tells (MayRefuseReduction (G.may_refuse gate.now) frame.now (λ Holds. OfSlot (first_of_ints e.now) Holds × EachInInts e.now Holds)) Int turn.new result
         (reduction frame.now.limits.budget at.now (int_fold_view fold) (λ i. value_of frame.now.limits in_memory (promoted_int EachTurn e.now) (Some i) frame.now.memory) (whole_in frame.now.limits in_memory (promoted_int EachTurn e.now) frame.now.memory)) }
 {
     let Some(slot) = int_array(e) else {
@@ -117,7 +119,7 @@ pub(crate) fn reduced_int<G: Gate>(
     let domain = frame.array_domain(slot);
     within_turns(&domain, at, frame, turn)?;
     let item_at = |index: Index, turn: &mut Turn| -> Result<i64, Alarm>
-        ensures { Tells (MayRefuseSome (G.may_refuse gate.entry.now)) Int turn.new result (value_of frame.entry.now.limits in_memory (promoted_int EachTurn e.entry.now) (Some index) frame.entry.now.memory) }
+        ensures { Tells (MayRefuseReduction (G.may_refuse gate.entry.now) frame.entry.now (EachInInts e.entry.now)) Int turn.new result (value_of frame.entry.now.limits in_memory (promoted_int EachTurn e.entry.now) (Some index) frame.entry.now.memory) }
     { operand(e, &index, frame, gate, turn) };
     folded(&Ints { fold }, slot, frame, item_at, gate, turn)
 }
@@ -128,15 +130,15 @@ pub(crate) fn reduced_int<G: Gate>(
 /// As for ints.
 #[cycle(truth)]
 #[inline(never)]
-pub(crate) fn reduced_truth<G: Gate>(
+pub(crate) fn reduced_truth<A: Arrays, G: Gate>(
     fold: TruthFold,
     e: &PromotedTruth<'_>,
     at: &Spot,
-    frame: &Frame<'_>,
+    frame: &Frame<'_, A>,
     gate: &G,
     turn: &mut Turn,
 ) -> Result<Truth, Alarm>
-    ensures { Tells (MayRefuseSome (G.may_refuse gate.now)) TruthValue turn.new result
+    ensures { Tells (MayRefuseReduction (G.may_refuse gate.now) frame.now (λ Holds. OfSlot (first_of_truths e.now) Holds × EachInTruths e.now Holds)) TruthValue turn.new result
         (reduction frame.now.limits.budget at.now (truth_fold_view fold) (λ i. value_of frame.now.limits in_memory (promoted_truth EachTurn e.now) (Some i) frame.now.memory) (whole_in frame.now.limits in_memory (promoted_truth EachTurn e.now) frame.now.memory)) }
 {
     let Some(slot) = truth_array(e) else {
@@ -145,7 +147,7 @@ pub(crate) fn reduced_truth<G: Gate>(
     let domain = frame.array_domain(slot);
     within_turns(&domain, at, frame, turn)?;
     let item_at = |index: Index, turn: &mut Turn| -> Result<Truth, Alarm>
-        ensures { Tells (MayRefuseSome (G.may_refuse gate.entry.now)) TruthValue turn.new result (value_of frame.entry.now.limits in_memory (promoted_truth EachTurn e.entry.now) (Some index) frame.entry.now.memory) }
+        ensures { Tells (MayRefuseReduction (G.may_refuse gate.entry.now) frame.entry.now (EachInTruths e.entry.now)) TruthValue turn.new result (value_of frame.entry.now.limits in_memory (promoted_truth EachTurn e.entry.now) (Some index) frame.entry.now.memory) }
     { promoted_truth_value(e, &index, frame, gate, turn) };
     folded(&Truths { fold }, slot, frame, item_at, gate, turn)
 }

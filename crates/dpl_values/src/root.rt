@@ -11,14 +11,14 @@ ghost use Rattle.dpl_values.specs.Placed.{IsStart, IsNamedBy, IsNamedAt, IsPlace
 use crate::expression::domain_value;
 use crate::values::index_value;
 use dpl_domain::Index;
-use dpl_frame::{DomainWord, Frame, Trap, Turn};
+use dpl_frame::{Arrays, DomainWord, Frame, Trap, Turn};
 use dpl_layout::{Named, from_least, least};
 use dpl_loop::OpenGate;
 use dpl_map::Map;
 use dpl_nodes::{DomainExpr, MapExpr, Placing, StartExpr};
 
 // A domain that a map names, or its fault. No gate is asked for a map's argument.
-fn domain_argument(d: &DomainExpr<'_>, frame: &Frame<'_>) -> Result<DomainWord, Trap>
+fn domain_argument<A: Arrays>(d: &DomainExpr<'_>, frame: &Frame<'_, A>) -> Result<DomainWord, Trap>
     ensures { value_of frame.now.limits in_memory (domain_view d.now) None frame.now.memory ≡ of_domain result }
 {
     let mut turn = Turn::Absent;
@@ -29,7 +29,7 @@ fn domain_argument(d: &DomainExpr<'_>, frame: &Frame<'_>) -> Result<DomainWord, 
 }
 
 // Where a map starts; none where that has no value.
-fn start(e: &StartExpr<'_>, frame: &Frame<'_>) -> Option<Index>
+fn start<A: Arrays>(e: &StartExpr<'_>, frame: &Frame<'_, A>) -> Option<Index>
     ensures { IsStart frame.now.limits frame.now.memory e.now result }
 {
     match e {
@@ -45,7 +45,7 @@ fn start(e: &StartExpr<'_>, frame: &Frame<'_>) -> Option<Index>
 }
 
 // A map that is named, its arguments evaluated.
-fn named(e: &MapExpr<'_>, frame: &Frame<'_>) -> Named
+fn named<A: Arrays>(e: &MapExpr<'_>, frame: &Frame<'_, A>) -> Named
     ensures { IsNamedBy frame.now.limits frame.now.memory e.now result }
 {
     match e {
@@ -66,7 +66,7 @@ fn named(e: &MapExpr<'_>, frame: &Frame<'_>) -> Named
 }
 
 // A map that the program names, by its number.
-fn named_at(number: usize, frame: &Frame<'_>) -> Named
+fn named_at<A: Arrays>(number: usize, frame: &Frame<'_, A>) -> Named
     ensures { IsNamedAt frame.now.limits frame.now.memory (slice_get frame.now.maps number) result }
 {
     match frame.named_map(number) {
@@ -76,7 +76,7 @@ fn named_at(number: usize, frame: &Frame<'_>) -> Named
 }
 
 /// The map of a domain or array that is declared with this domain.
-pub fn placed(placing: Placing, domain: DomainWord, frame: &Frame<'_>) -> Map
+pub fn placed<A: Arrays>(placing: Placing, domain: DomainWord, frame: &Frame<'_, A>) -> Map
     ensures { IsPlaced frame.now placing domain result }
 {
     let layout = frame.layout();

@@ -10,14 +10,14 @@ ghost use Rattle.dpl_lowered.specs.LoweredExpressions.{EachTurn};
 ghost use Rattle.dpl_memory.specs.Memory.{in_memory};
 ghost use Rattle.dpl_nodes.specs.Typed.{int_view, truth_view, range_item, ranges_items, index_exprs, domain_view, promoted_int, promoted_truth};
 ghost use Rattle.dpl_frame.specs.Faults.{as_range};
-ghost use Rattle.dpl_loop.specs.Entries.{MayRefuseSome};
 ghost use Rattle.dpl_loop.specs.Values.{Gives};
 ghost use Rattle.dpl_values.specs.Elements.{sized_or};
+ghost use Rattle.dpl_values.specs.Reductions.{MayRefuseReduction, EachInInt, EachInTruth, EachInRange, EachInRanges, EachInIndex, EachInDomain, EachInInts, EachInTruths};
 
 use crate::expression::operand;
 use crate::{domain, expression, promoted};
 use dpl_domain::Index;
-use dpl_frame::{DomainWord, Frame, RangeWord, Trap, Truth, Turn};
+use dpl_frame::{Arrays, DomainWord, Frame, RangeWord, Trap, Truth, Turn};
 use dpl_loop::{Gate, Stop};
 use dpl_nodes::{
     BoolExpr, DomainExpr, IndexExpr, IntExpr, PromotedInt, PromotedTruth, RangeExpr, RangesExpr,
@@ -30,8 +30,12 @@ use dpl_nodes::{
 /// The fault of a part: `F2` at a division by zero, `F4` at an end of an empty range, `F1` at an array's name, `F5` at `reduce`;
 /// or the gate refused an entry of a reduction, as for each value here.
 #[inline(always)]
-pub fn int_value<G: Gate>(e: &IntExpr<'_>, frame: &Frame<'_>, gate: &G) -> Result<i64, Stop>
-    ensures { Gives (MayRefuseSome (G.may_refuse gate.now)) Int result (value_of frame.now.limits in_memory (int_view e.now) None frame.now.memory) }
+pub fn int_value<A: Arrays, G: Gate>(
+    e: &IntExpr<'_>,
+    frame: &Frame<'_, A>,
+    gate: &G,
+) -> Result<i64, Stop>
+    ensures { Gives (MayRefuseReduction (G.may_refuse gate.now) frame.now (EachInInt e.now)) Int result (value_of frame.now.limits in_memory (int_view e.now) None frame.now.memory) }
 {
     let mut turn = Turn::Absent;
     match operand(e, frame, gate, &mut turn) {
@@ -44,8 +48,12 @@ pub fn int_value<G: Gate>(e: &IntExpr<'_>, frame: &Frame<'_>, gate: &G) -> Resul
 ///
 /// # Errors
 /// The fault of an operand.
-pub fn truth_value<G: Gate>(e: &BoolExpr<'_>, frame: &Frame<'_>, gate: &G) -> Result<Truth, Stop>
-    ensures { Gives (MayRefuseSome (G.may_refuse gate.now)) TruthValue result (value_of frame.now.limits in_memory (truth_view e.now) None frame.now.memory) }
+pub fn truth_value<A: Arrays, G: Gate>(
+    e: &BoolExpr<'_>,
+    frame: &Frame<'_, A>,
+    gate: &G,
+) -> Result<Truth, Stop>
+    ensures { Gives (MayRefuseReduction (G.may_refuse gate.now) frame.now (EachInTruth e.now)) TruthValue result (value_of frame.now.limits in_memory (truth_view e.now) None frame.now.memory) }
 {
     let mut turn = Turn::Absent;
     match expression::truth_value(e, frame, gate, &mut turn) {
@@ -58,12 +66,12 @@ pub fn truth_value<G: Gate>(e: &BoolExpr<'_>, frame: &Frame<'_>, gate: &G) -> Re
 ///
 /// # Errors
 /// `F3` at the dots for a bound or a count past its limit, and at `by` for a stride; the fault of a part.
-pub fn range_value<G: Gate>(
+pub fn range_value<A: Arrays, G: Gate>(
     e: &RangeExpr<'_>,
-    frame: &Frame<'_>,
+    frame: &Frame<'_, A>,
     gate: &G,
 ) -> Result<RangeWord, Stop>
-    ensures { Gives (MayRefuseSome (G.may_refuse gate.now)) as_range result (item_of frame.now.limits in_memory (range_item e.now) None frame.now.memory) }
+    ensures { Gives (MayRefuseReduction (G.may_refuse gate.now) frame.now (EachInRange e.now)) as_range result (item_of frame.now.limits in_memory (range_item e.now) None frame.now.memory) }
 {
     let mut turn = Turn::Absent;
     match expression::range_value(e, frame, gate, &mut turn) {
@@ -76,12 +84,12 @@ pub fn range_value<G: Gate>(
 ///
 /// # Errors
 /// `F3` at the opening bracket for too many indices, and at `expand` for these or for a bound past its limit; the fault of a part.
-pub fn domain_value<G: Gate>(
+pub fn domain_value<A: Arrays, G: Gate>(
     e: &DomainExpr<'_>,
-    frame: &Frame<'_>,
+    frame: &Frame<'_, A>,
     gate: &G,
 ) -> Result<DomainWord, Stop>
-    ensures { Gives (MayRefuseSome (G.may_refuse gate.now)) DomainValue result (value_of frame.now.limits in_memory (domain_view e.now) None frame.now.memory) }
+    ensures { Gives (MayRefuseReduction (G.may_refuse gate.now) frame.now (EachInDomain e.now)) DomainValue result (value_of frame.now.limits in_memory (domain_view e.now) None frame.now.memory) }
 {
     let mut turn = Turn::Absent;
     match expression::domain_value(e, frame, gate, &mut turn) {
@@ -94,8 +102,12 @@ pub fn domain_value<G: Gate>(
 ///
 /// # Errors
 /// The fault of a coordinate.
-pub fn index_value<G: Gate>(t: &IndexExpr<'_>, frame: &Frame<'_>, gate: &G) -> Result<Index, Stop>
-    ensures { Gives (MayRefuseSome (G.may_refuse gate.now)) (λ t. t) result (with_ok (values_of frame.now.limits in_memory (index_exprs t.now) frame.now.memory) (λ vs. Ok (index_of vs))) }
+pub fn index_value<A: Arrays, G: Gate>(
+    t: &IndexExpr<'_>,
+    frame: &Frame<'_, A>,
+    gate: &G,
+) -> Result<Index, Stop>
+    ensures { Gives (MayRefuseReduction (G.may_refuse gate.now) frame.now (EachInIndex t.now)) (λ t. t) result (with_ok (values_of frame.now.limits in_memory (index_exprs t.now) frame.now.memory) (λ vs. Ok (index_of vs))) }
 {
     let mut turn = Turn::Absent;
     match expression::index_value(t, frame, gate, &mut turn) {
@@ -108,13 +120,13 @@ pub fn index_value<G: Gate>(t: &IndexExpr<'_>, frame: &Frame<'_>, gate: &G) -> R
 ///
 /// # Errors
 /// The fault of a range; `F3` at the opening bracket for too many indices.
-pub fn literal<G: Gate>(
+pub fn literal<A: Arrays, G: Gate>(
     at: &Spot,
     ranges: &RangesExpr<'_>,
-    frame: &Frame<'_>,
+    frame: &Frame<'_, A>,
     gate: &G,
 ) -> Result<DomainWord, Stop>
-    ensures { Gives (MayRefuseSome (G.may_refuse gate.now)) DomainValue result (with_ok (items_of frame.now.limits in_memory (ranges_items ranges.now) frame.now.memory) (λ vs. sized_of at.now (all_ranges vs))) }
+    ensures { Gives (MayRefuseReduction (G.may_refuse gate.now) frame.now (EachInRanges ranges.now)) DomainValue result (with_ok (items_of frame.now.limits in_memory (ranges_items ranges.now) frame.now.memory) (λ vs. sized_of at.now (all_ranges vs))) }
 {
     let mut turn = Turn::Absent;
     match expression::literal(at, ranges, frame, gate, &mut turn) {
@@ -141,13 +153,13 @@ pub fn sized(at: &Spot, domain: Option<DomainWord>) -> Result<DomainWord, Trap>
 ///
 /// # Errors
 /// `F1` at the name of an array that hasn't the index; the fault of a part.
-pub fn promoted_int_value<G: Gate>(
+pub fn promoted_int_value<A: Arrays, G: Gate>(
     e: &PromotedInt<'_>,
     index: &Index,
-    frame: &Frame<'_>,
+    frame: &Frame<'_, A>,
     gate: &G,
 ) -> Result<i64, Stop>
-    ensures { Gives (MayRefuseSome (G.may_refuse gate.now)) Int result (value_of frame.now.limits in_memory (promoted_int EachTurn e.now) (Some index.now) frame.now.memory) }
+    ensures { Gives (MayRefuseReduction (G.may_refuse gate.now) frame.now (EachInInts e.now)) Int result (value_of frame.now.limits in_memory (promoted_int EachTurn e.now) (Some index.now) frame.now.memory) }
 {
     let mut turn = Turn::Absent;
     match promoted::operand(e, index, frame, gate, &mut turn) {
@@ -160,13 +172,13 @@ pub fn promoted_int_value<G: Gate>(
 ///
 /// # Errors
 /// `F1` at the name of an array that hasn't the index; the fault of a part.
-pub fn promoted_truth_value<G: Gate>(
+pub fn promoted_truth_value<A: Arrays, G: Gate>(
     e: &PromotedTruth<'_>,
     index: &Index,
-    frame: &Frame<'_>,
+    frame: &Frame<'_, A>,
     gate: &G,
 ) -> Result<Truth, Stop>
-    ensures { Gives (MayRefuseSome (G.may_refuse gate.now)) TruthValue result (value_of frame.now.limits in_memory (promoted_truth EachTurn e.now) (Some index.now) frame.now.memory) }
+    ensures { Gives (MayRefuseReduction (G.may_refuse gate.now) frame.now (EachInTruths e.now)) TruthValue result (value_of frame.now.limits in_memory (promoted_truth EachTurn e.now) (Some index.now) frame.now.memory) }
 {
     let mut turn = Turn::Absent;
     match promoted::promoted_truth_value(e, index, frame, gate, &mut turn) {

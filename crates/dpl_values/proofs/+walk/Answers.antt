@@ -1,6 +1,6 @@
 -- What stands behind a range or a domain is by its value, and a scalar has at an index the value that it has without one;
 -- a reduction is the fold of the items at all indices. All else the prover finds by itself.
-use Rattle.std.proofs.Common.{get_or, ◌≡◌, ⊎_elim, rules, pos, true, false, [], ◌∷◌, None, Some, Ok, Err, refl, sym, subst, ap, ◌∙◌, w64, to_z, of_z, FitsSigned}
+use Rattle.std.proofs.Common.{◌≡◌, ℕ, ⊎_elim, rules, pos, true, false, [], ◌∷◌, None, Some, Ok, Err, refl, sym, subst, ap, ◌∙◌, w64, to_z, of_z, FitsSigned}
 use Rattle.std.proofs.lemmas.Int.{to_z-of_z}
 use Rattle.std.proofs.lemmas.Result.{err_from_is_err_and}
 use Rattle.std.specs.Option.{option_map}
@@ -14,23 +14,27 @@ use Rattle.dpl_lowered.specs.LoweredExpressions.{EachTurn}
 use Rattle.dpl_memory.specs.Memory.{array_at, in_memory}
 use Rattle.dpl_nodes.specs.Typed.{int_view, range_item, ranges_items, domain_view, promoted_int, int_fold_view}
 use Rattle.dpl_nodes.proofs.Promotions.{int_view-at}
+use Rattle.dpl_frame.specs.Frames.{owned_by}
 use Rattle.dpl_frame.specs.Faults.{Tells, as_range}
 use Rattle.dpl_contents.specs.Range.{range_word}
-use Rattle.dpl_loop.specs.Entries.{MayRefuseSome}
-use Rattle.dpl_map.specs.Maps.{owner, whole_map}
+use Rattle.dpl_map.specs.Maps.{owner}
+use Rattle.dpl_loop.specs.Entries.{MayRefuse}
 use Rattle.dpl_loop.proofs.Folding.{with_ok-ends}
 use Rattle.dpl_values.specs.Elements.{within_at}
+use Rattle.dpl_values.specs.Reducing.{first_of_ints}
+use Rattle.dpl_values.specs.Reductions.{MayRefuseReduction, OfSlot, EachInInt, EachInRange, EachInRanges, EachInDomain, EachInInts}
 use Rattle.dpl_values.proofs.First.{ints_whole}
 use Rattle.dpl_values.proofs.Folds.{reduction-within}
-use Rattle.dpl_values.proofs.Telling.{told, tells-as}
+use Rattle.dpl_values.proofs.Telling.{told, tells-as, refused-within}
 use Rattle.dpl_values.proofs.Views.{method_ends, method_answer, slice_ends, cut_ends, slice_answer, expanded-within, expanded-past, domain_answer, domain_slice}
 use Rattle.dpl_values.proofs.+walk.Goals as goal
 
 pub expression::size_of-returns-in_err-range_value : goal.expression::size_of-returns-in_err-range_value
 expression::size_of-returns-in_err-range_value g t c =
+    let may = MayRefuseReduction (g.G.Gate.may_refuse c.args.gate.now) c.args.frame.now (EachInRange c.args.r.now) in
     let p = err_from_is_err_and c.from_residual.result c.from_residual.ensures.1 in
     rw (p.1, p.2)
-    (method_ends c.args.frame.now.limits c.args.frame.now.memory (MayRefuseSome (g.G.Gate.may_refuse c.args.gate.now)) Int c.range_value.new.turn c.in_err-range_value.field-0.0 c.args.r.now (Plainly nowhere Size) c.in_err-range_value.ensures)
+    (method_ends c.args.frame.now.limits c.args.frame.now.memory may may (λ m. m) Int c.range_value.new.turn c.in_err-range_value.field-0.0 c.args.r.now (Plainly nowhere Size) c.in_err-range_value.ensures)
 
 pub expression::size_of-returns : goal.expression::size_of-returns
 expression::size_of-returns g t c =
@@ -39,9 +43,10 @@ expression::size_of-returns g t c =
 
 pub expression::first_of-returns-in_err-range : goal.expression::first_of-returns-in_err-range
 expression::first_of-returns-in_err-range g t c =
+    let may = MayRefuseReduction (g.G.Gate.may_refuse c.args.gate.now) c.args.frame.now (EachInRange c.args.r.now) in
     let p = err_from_is_err_and c.from_residual.result c.from_residual.ensures.1 in
     rw (p.1, p.2)
-    (method_ends c.args.frame.now.limits c.args.frame.now.memory (MayRefuseSome (g.G.Gate.may_refuse c.args.gate.now)) Int c.range_value.new.turn c.in_err-range.field-0.0 c.args.r.now (Plainly c.args.at.now First) c.in_err-range.ensures)
+    (method_ends c.args.frame.now.limits c.args.frame.now.memory may may (λ m. m) Int c.range_value.new.turn c.in_err-range.field-0.0 c.args.r.now (Plainly c.args.at.now First) c.in_err-range.ensures)
 
 pub expression::first_of-returns : goal.expression::first_of-returns
 expression::first_of-returns g t c =
@@ -51,9 +56,10 @@ expression::first_of-returns g t c =
 
 pub expression::last_of-returns-in_err-range : goal.expression::last_of-returns-in_err-range
 expression::last_of-returns-in_err-range g t c =
+    let may = MayRefuseReduction (g.G.Gate.may_refuse c.args.gate.now) c.args.frame.now (EachInRange c.args.r.now) in
     let p = err_from_is_err_and c.from_residual.result c.from_residual.ensures.1 in
     rw (p.1, p.2)
-    (method_ends c.args.frame.now.limits c.args.frame.now.memory (MayRefuseSome (g.G.Gate.may_refuse c.args.gate.now)) Int c.range_value.new.turn c.in_err-range.field-0.0 c.args.r.now (Plainly c.args.at.now Last) c.in_err-range.ensures)
+    (method_ends c.args.frame.now.limits c.args.frame.now.memory may may (λ m. m) Int c.range_value.new.turn c.in_err-range.field-0.0 c.args.r.now (Plainly c.args.at.now Last) c.in_err-range.ensures)
 
 pub expression::last_of-returns : goal.expression::last_of-returns
 expression::last_of-returns g t c =
@@ -63,9 +69,10 @@ expression::last_of-returns g t c =
 
 pub expression::low_of-returns-in_err-range : goal.expression::low_of-returns-in_err-range
 expression::low_of-returns-in_err-range g t c =
+    let may = MayRefuseReduction (g.G.Gate.may_refuse c.args.gate.now) c.args.frame.now (EachInRange c.args.r.now) in
     let p = err_from_is_err_and c.from_residual.result c.from_residual.ensures.1 in
     rw (p.1, p.2)
-    (method_ends c.args.frame.now.limits c.args.frame.now.memory (MayRefuseSome (g.G.Gate.may_refuse c.args.gate.now)) Int c.range_value.new.turn c.in_err-range.field-0.0 c.args.r.now (Plainly c.args.at.now Low) c.in_err-range.ensures)
+    (method_ends c.args.frame.now.limits c.args.frame.now.memory may may (λ m. m) Int c.range_value.new.turn c.in_err-range.field-0.0 c.args.r.now (Plainly c.args.at.now Low) c.in_err-range.ensures)
 
 pub expression::low_of-returns : goal.expression::low_of-returns
 expression::low_of-returns g t c =
@@ -75,9 +82,10 @@ expression::low_of-returns g t c =
 
 pub expression::high_of-returns-in_err-range : goal.expression::high_of-returns-in_err-range
 expression::high_of-returns-in_err-range g t c =
+    let may = MayRefuseReduction (g.G.Gate.may_refuse c.args.gate.now) c.args.frame.now (EachInRange c.args.r.now) in
     let p = err_from_is_err_and c.from_residual.result c.from_residual.ensures.1 in
     rw (p.1, p.2)
-    (method_ends c.args.frame.now.limits c.args.frame.now.memory (MayRefuseSome (g.G.Gate.may_refuse c.args.gate.now)) Int c.range_value.new.turn c.in_err-range.field-0.0 c.args.r.now (Plainly c.args.at.now High) c.in_err-range.ensures)
+    (method_ends c.args.frame.now.limits c.args.frame.now.memory may may (λ m. m) Int c.range_value.new.turn c.in_err-range.field-0.0 c.args.r.now (Plainly c.args.at.now High) c.in_err-range.ensures)
 
 pub expression::high_of-returns : goal.expression::high_of-returns
 expression::high_of-returns g t c =
@@ -89,19 +97,23 @@ pub expression::range_value-returns-in_err-range-in-Slice : goal.expression::ran
 expression::range_value-returns-in_err-range-in-Slice g t c =
     let limits = c.args.frame.now.limits in
     let w = c.args.frame.now.memory in
+    let may = λ (each : (ℕ → Type 0) → Type 0). MayRefuseReduction (g.G.Gate.may_refuse c.args.gate.now) c.args.frame.now each in
+    let wider = refused-within (g.G.Gate.may_refuse c.args.gate.now) c.args.frame.now in
     let p = err_from_is_err_and c.from_residual-in_err-range-in-Slice.result c.from_residual-in_err-range-in-Slice.ensures.1 in
     rw (p.1, p.2)
-    (subst (λ e. Tells (MayRefuseSome (g.G.Gate.may_refuse c.args.gate.now)) as_range c.range_value.new.turn (Err c.in_err-range-in-Slice.field-0.0) (item_of limits in_memory (range_item e) None w)) (sym c.in-Slice.is)
-    (slice_ends limits w (MayRefuseSome (g.G.Gate.may_refuse c.args.gate.now)) as_range c.range_value.new.turn c.in_err-range-in-Slice.field-0.0 c.in-Slice.r.now c.in-Slice.cut.now c.in_err-range-in-Slice.ensures))
+    (subst (λ e. Tells (may (EachInRange e)) as_range c.range_value.new.turn (Err c.in_err-range-in-Slice.field-0.0) (item_of limits in_memory (range_item e) None w)) (sym c.in-Slice.is)
+    (slice_ends limits w (may (EachInRange c.in-Slice.r.now)) _ (wider (EachInRange c.in-Slice.r.now) (λ Holds. EachInRange c.in-Slice.r.now Holds × EachInRange c.in-Slice.cut.now Holds) (λ Holds all. all.0)) as_range c.range_value.new.turn c.in_err-range-in-Slice.field-0.0 c.in-Slice.r.now c.in-Slice.cut.now c.in_err-range-in-Slice.ensures))
 
 pub expression::range_value-returns-in_err-cut-in-Slice : goal.expression::range_value-returns-in_err-cut-in-Slice
 expression::range_value-returns-in_err-cut-in-Slice g t c =
     let limits = c.args.frame.now.limits in
     let w = c.args.frame.now.memory in
+    let may = λ (each : (ℕ → Type 0) → Type 0). MayRefuseReduction (g.G.Gate.may_refuse c.args.gate.now) c.args.frame.now each in
+    let wider = refused-within (g.G.Gate.may_refuse c.args.gate.now) c.args.frame.now in
     let p = err_from_is_err_and c.from_residual-in_err-cut-in-Slice.result c.from_residual-in_err-cut-in-Slice.ensures.1 in
     rw (p.1, p.2)
-    (subst (λ e. Tells (MayRefuseSome (g.G.Gate.may_refuse c.args.gate.now)) as_range c.range_value-in-Slice.new.turn (Err c.in_err-cut-in-Slice.field-0.0) (item_of limits in_memory (range_item e) None w)) (sym c.in-Slice.is)
-    (cut_ends limits w (MayRefuseSome (g.G.Gate.may_refuse c.args.gate.now)) as_range c.range_value-in-Slice.new.turn c.in_err-cut-in-Slice.field-0.0 c.in-Slice.r.now c.in-Slice.cut.now (range_word c.in_ok-range-in-Slice.range) c.in_ok-range-in-Slice.ensures c.in_err-cut-in-Slice.ensures))
+    (subst (λ e. Tells (may (EachInRange e)) as_range c.range_value-in-Slice.new.turn (Err c.in_err-cut-in-Slice.field-0.0) (item_of limits in_memory (range_item e) None w)) (sym c.in-Slice.is)
+    (cut_ends limits w (may (EachInRange c.in-Slice.cut.now)) _ (wider (EachInRange c.in-Slice.cut.now) (λ Holds. EachInRange c.in-Slice.r.now Holds × EachInRange c.in-Slice.cut.now Holds) (λ Holds all. all.1)) as_range c.range_value-in-Slice.new.turn c.in_err-cut-in-Slice.field-0.0 c.in-Slice.r.now c.in-Slice.cut.now (range_word c.in_ok-range-in-Slice.range) c.in_ok-range-in-Slice.ensures c.in_err-cut-in-Slice.ensures))
 
 pub expression::range_value-returns-in_ok-cut-in-Slice : goal.expression::range_value-returns-in_ok-cut-in-Slice
 expression::range_value-returns-in_ok-cut-in-Slice g t c =
@@ -113,9 +125,11 @@ expression::range_value-returns-in_ok-cut-in-Slice g t c =
 
 pub expression::domain_value-returns-in_ok-domain-in-Slice : goal.expression::domain_value-returns-in_ok-domain-in-Slice
 expression::domain_value-returns-in_ok-domain-in-Slice g t c =
+    let wider = refused-within (g.G.Gate.may_refuse c.args.gate.now) c.args.frame.now in
     let limits = c.args.frame.now.limits in
     let w = c.args.frame.now.memory in
-    tells-as _ Domain c.cut.new.turn _ c.cut.result _ _ (λ m. m)
+    tells-as _ Domain c.cut.new.turn _ c.cut.result _ _
+    (wider (EachInRanges c.in-Slice.ranges.now) (EachInDomain c.args.e.now) (λ Holds all. (subst (λ e. EachInDomain e Holds) c.in-Slice.is all).1))
     (ap (λ e. value_of limits in_memory (domain_view e) None w) c.in-Slice.is
     ∙ domain_slice limits w c.in-Slice.d.now (ranges_items c.in-Slice.ranges.now) c.in_ok-domain-in-Slice.domain _ c.in_ok-domain-in-Slice.ensures refl)
     c.cut.ensures
@@ -151,17 +165,21 @@ expression::domain_value-returns-in-None g t c =
 
 pub promoted::operand-returns-in-Scalar : goal.promoted::operand-returns-in-Scalar
 promoted::operand-returns-in-Scalar g t c =
+    let wider = refused-within (g.G.Gate.may_refuse c.args.gate.now) c.args.frame.now in
     let limits = c.args.frame.now.limits in
     let w = c.args.frame.now.memory in
-    tells-as _ Int c.operand.new.turn _ c.operand.result _ _ (λ m. m)
+    tells-as _ Int c.operand.new.turn _ c.operand.result _ _
+    (wider (EachInInt c.in-Scalar.e.now) (EachInInts c.args.e.now) (λ Holds all. subst (λ e. EachInInts e Holds) c.in-Scalar.is all))
     (ap (λ e. value_of limits in_memory (promoted_int EachTurn e) (Some c.args.index.now) w) c.in-Scalar.is ∙ int_view-at limits w c.in-Scalar.e.now c.args.index.now)
     c.operand.ensures
 
 pub promoted::promoted_int_value-returns-in-Scalar : goal.promoted::promoted_int_value-returns-in-Scalar
 promoted::promoted_int_value-returns-in-Scalar g t c =
+    let wider = refused-within (g.G.Gate.may_refuse c.args.gate.now) c.args.frame.now in
     let limits = c.args.frame.now.limits in
     let w = c.args.frame.now.memory in
-    tells-as _ Int c.operand.new.turn _ c.operand.result _ _ (λ m. m)
+    tells-as _ Int c.operand.new.turn _ c.operand.result _ _
+    (wider (EachInInt c.in-Scalar.e.now) (EachInInts c.args.e.now) (λ Holds all. subst (λ e. EachInInts e Holds) c.in-Scalar.is all))
     (ap (λ e. value_of limits in_memory (promoted_int EachTurn e) (Some c.args.index.now) w) c.in-Scalar.is ∙ int_view-at limits w c.in-Scalar.e.now c.args.index.now)
     c.operand.ensures
 
@@ -190,12 +208,15 @@ reduction::reduced_int-returns-in_err-within_turns g t c =
 
 pub reduction::reduced_int-returns : goal.reduction::reduced_int-returns
 reduction::reduced_int-returns g t c =
+    let wider = refused-within (g.G.Gate.may_refuse c.args.gate.now) c.args.frame.now in
     let limits = c.args.frame.now.limits in
     let w = c.args.frame.now.memory in
     let op = int_fold_view c.args.fold in
     let value = λ (i : Index). value_of limits in_memory (promoted_int EachTurn c.args.e.now) (Some i) w in
     tells-as _ Int c.folded.new.turn _ c.folded.result _ _
-    (⊎_elim (λ own. (owner (get_or c.args.frame.now.owners c.in-Some.slot whole_map) own.1, own.0, own.3)) (λ said. said.3.1))
+    (⊎_elim
+    (λ own. ((owner (owned_by c.args.frame.now c.in-Some.slot) own.1, own.0, own.3), λ all. subst (λ slot. OfSlot slot (λ slot. MayRefuse (g.G.Gate.may_refuse c.args.gate.now) (owned_by c.args.frame.now slot) (array_at slot w).ranges → ⊥)) (sym c.int_array.ensures ∙ c.in-Some.is) all.0 own))
+    (λ said. wider (EachInInts c.args.e.now) (λ Holds. OfSlot (first_of_ints c.args.e.now) Holds × EachInInts c.args.e.now Holds) (λ Holds all. all.1) said.3.1))
     (ap (reduction limits.budget c.args.at.now op value) (ints_whole limits w c.args.e.now ∙ ap (option_map (λ slot. (array_at slot w).ranges)) (sym c.int_array.ensures ∙ c.in-Some.is) ∙ ap (λ rs. Some rs) (sym c.array_domain-domain.ensures))
     ∙ reduction-within limits c.args.at.now op value c.array_domain-domain.result
     ∙ ap (λ r. with_ok r (λ v. fold_over op value c.array_domain-domain.result)) c.in_ok-within_turns.ensures
