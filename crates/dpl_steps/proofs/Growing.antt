@@ -1,6 +1,6 @@
 -- How what was printed grows by the texts of arguments, one by one, and what a `write` leaves of it.
 -- Where an argument is a fault, cutting the text back to what it was leaves what was printed before.
-use Rattle.std.proofs.Common.{◌≡◌, ℕ, ◌+◌, ◌<◌, Bool, List, [], ◌++◌, length, drop, take, get_or, Result, Ok, Err, sym, ap, ◌∙◌}
+use Rattle.std.proofs.Common.{◌≡◌, ℕ, zero, suc, ◌+◌, ◌<◌, arith, Bool, List, [], ◌∷◌, ◌++◌, length, drop, take, get_or, Result, Ok, Err, sym, subst, ap, ◌∙◌}
 use Rattle.std.proofs.lemmas.List.{append_assoc, append-nil}
 use Rattle.std.proofs.Math.Seq.{take-append_seam}
 use Rattle.dpl_syntax.proofs.Walks.{drop-at}
@@ -18,6 +18,7 @@ use Rattle.dpl_loop.specs.declared.stop.Stop.TheVariants as stop
 use Rattle.dpl_loop.specs.Runs.{RunsTo}
 use Rattle.dpl_steps.specs.Runs.{having_printed}
 use Rattle.dpl_steps.specs.Texts.{argument_text, arguments_text, behind, Grew, GrewBy}
+use Rattle.dpl_steps.specs.Refusals.{EachInArgument, EachInArguments}
 use Rattle.dpl_steps.proofs.Writing.{behind-append, exec-written}
 
 -- TEXTS THAT GREW
@@ -40,6 +41,12 @@ behind-fault : (old : List ℕ) (r : Result (List ℕ) Fault) (f : Fault) → be
 behind-fault old (Ok t) f e = absurd (let no : Ok (old ++ t) ≡ Err f = e in cc)
 behind-fault old (Err g) f e = e
 
+-- what holds of the reductions in all arguments holds of those in each
+pub each-argument : (xs : List Argument) (k : ℕ) (a : Argument) (Holds : ℕ → Type 0) → k < length xs → a ≡ get_or xs k a → EachInArguments xs Holds → EachInArgument a Holds
+each-argument [] k a Holds within is all = absurd (omega (arith, within))
+each-argument (x ∷ xs) zero a Holds within is all = subst (λ x. EachInArgument x Holds) (sym is) all.0
+each-argument (x ∷ xs) (suc k) a Holds within is all = each-argument xs k a Holds (omega (arith, within)) is all.1
+
 module _ (limits : Limits) where
   -- ARGUMENTS ONE BY ONE
   texts-at : (xs : List Argument) (k : ℕ) (a : Argument) (s : Memory) → k < length xs → a ≡ get_or xs k a
@@ -54,15 +61,15 @@ module _ (limits : Limits) where
     grew_more first old new so_far.1 (behind-grew old new (argument_text limits a s) shown),
   )
 
-  pub texts-halt : (may : Type 0) (xs : List Argument) (k : ℕ) (a : Argument) (s : Memory) (first old new : List ℕ) (h : Stop) → k < length xs → a ≡ get_or xs k a → GrewBy may (Err h) old new (argument_text limits a s)
-      → (behind old (arguments_text limits (drop k xs) s) ≡ behind first (arguments_text limits xs s)) × Grew first old → GrewBy may (Err h) first new (arguments_text limits xs s)
-  texts-halt may xs k a s first old new (stop.Fault f) within is shown so_far = (
+  pub texts-halt : (may more : Type 0) (xs : List Argument) (k : ℕ) (a : Argument) (s : Memory) (first old new : List ℕ) (h : Stop) → (may → more) → k < length xs → a ≡ get_or xs k a → GrewBy may (Err h) old new (argument_text limits a s)
+      → (behind old (arguments_text limits (drop k xs) s) ≡ behind first (arguments_text limits xs s)) × Grew first old → GrewBy more (Err h) first new (arguments_text limits xs s)
+  texts-halt may more xs k a s first old new (stop.Fault f) wider within is shown so_far = (
     behind-fault first (arguments_text limits xs s) (fault_view f)
         (sym so_far.0 ∙ ap (behind old) (texts-at xs k a s within is ∙ ap (λ r. with_ok r (λ t. with_ok (arguments_text limits (drop (k + 1) xs) s) (λ more. Ok (t ++ more)))) shown.0)),
     grew_more first old new so_far.1 shown.1,
   )
-  texts-halt may xs k a s first old new stop.Memory within is shown so_far = tt
-  texts-halt may xs k a s first old new stop.Gate within is shown so_far = shown
+  texts-halt may more xs k a s first old new stop.Memory wider within is shown so_far = tt
+  texts-halt may more xs k a s first old new stop.Gate wider within is shown so_far = wider shown
 
   -- WRITES
   written-value : (ends_line : Bool) (s : Memory) (done : Deeds) (old new : List ℕ) (r : Result (List ℕ) Fault) → behind old r ≡ Ok new

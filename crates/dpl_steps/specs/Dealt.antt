@@ -1,14 +1,10 @@
 -- By which map the turns of a forall are dealt out over the locales: by that of the array that they write first; where they write
 -- none, by that of the name from which the loop's domain is derived; else locale 0 makes them all.
-use Rattle.std.specs.Prelude.{ℕ, get_or, List, Option, Some, None}
+use Rattle.std.specs.Prelude.{ℕ, List, Option, Some, None}
 use Rattle.dpl_map.specs.Maps.{AxisValue, whole_map}
 use Rattle.dpl_nodes.specs.declared.placing.Placing.{Placing}
 use Rattle.dpl_nodes.specs.declared.placing.Placing.TheVariants.{Of, Unmapped, Mapped, BlockCreated, CyclicCreated}
-use Rattle.dpl_frame.specs.Frames.{Framed}
-
--- the map that a slot has in a frame
-abbrev pub owned_by : Framed → ℕ → List AxisValue
-owned_by f slot = get_or f.owners slot whole_map
+use Rattle.dpl_frame.specs.Frames.{Framed, owned_by}
 
 abbrev pub placed_by : Framed → Placing → List AxisValue
 placed_by f (Of slot) = owned_by f slot

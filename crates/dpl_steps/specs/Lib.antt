@@ -7,6 +7,8 @@ pub mod Owners
 -- By which map the turns of a forall are dealt out, by which array they write first.
 pub mod Dealt
 pub mod Written
+-- Which entries a gate may refuse of one statement.
+pub mod Refusals
 -- What serves contracts and proofs alone.
 pub mod Changes
 pub mod Arrays

@@ -10,8 +10,9 @@ ghost use Rattle.dpl_standing.specs.Standing.{Standing, InTurn};
 ghost use Rattle.dpl_nodes.specs.Typed.{range_item, domain_view};
 ghost use Rattle.dpl_nodes.specs.Steps.{variable_in, names_view, written_as};
 ghost use Rattle.dpl_loop.specs.Runs.{RunsTo};
-ghost use Rattle.dpl_loop.specs.Entries.{MayRefuseSome};
+ghost use Rattle.dpl_values.specs.Reductions.{MayRefuseReduction};
 ghost use Rattle.dpl_steps.specs.Readings.{outside, forall_of, steps_in};
+ghost use Rattle.dpl_steps.specs.Refusals.{MayRefuseForall, MayRefuseForallLine, EachInArguments};
 
 use dpl_frame::Frame;
 use dpl_loop::{Gate, Stop};
@@ -30,7 +31,8 @@ pub trait Context: Gate {
     /// Prints the texts of all arguments, and then the line's end if one is asked for.
     ///
     /// # Errors
-    /// The fault of an argument, which prints nothing; out of memory for what is printed.
+    /// The fault of an argument, which prints nothing; out of memory for what is printed; or a gate refused an entry of a reduction
+    /// in an argument.
     fn write(
         &self,
         ends_line: bool,
@@ -38,13 +40,14 @@ pub trait Context: Gate {
         frame: &Frame<'_>,
         out: &mut Self::Out,
     ) -> Result<(), Stop>
-        ensures { (done : Deeds) → RunsTo (MayRefuseSome (Self.may_refuse self.now)) result frame.now.memory (having out.new done)
+        ensures { (done : Deeds) → RunsTo (MayRefuseReduction (Self.may_refuse self.now) frame.now (EachInArguments arguments.now)) result frame.now.memory (having out.new done)
             (exec frame.now.limits in_memory (outside standing (written_as ends_line arguments.now)) frame.now.memory (having out.old done)) };
 
     /// A forall over a range, with its reduce variables.
     ///
     /// # Errors
-    /// The fault of what it runs over, or of the first turn that has one; out of memory; or a gate refused an entry.
+    /// The fault of what it runs over, or of the first turn that has one; out of memory; or a gate refused the entry of a turn, or
+    /// of a reduction in what it runs over.
     fn forall_line<'t>(
         &self,
         at: &Spot,
@@ -54,7 +57,7 @@ pub trait Context: Gate {
         body: &[Step<'t>],
         frame: &mut Frame<'t>,
     ) -> Result<(), Stop>
-        ensures ends { (done : Deeds) → RunsTo (MayRefuseSome (Self.may_refuse self.now)) result frame.new.memory done
+        ensures ends { (done : Deeds) → RunsTo (MayRefuseForallLine (Self.may_refuse self.now) frame.old at.now over.now (steps_in InTurn body.now)) result frame.new.memory done
             (exec frame.old.limits in_memory (outside standing (forall_of at.now (variable_in slot) (range_item over.now) intents.now (steps_in InTurn body.now))) frame.old.memory done) }
         ensures limits { frame.new.limits ≡ frame.old.limits };
 
@@ -71,7 +74,7 @@ pub trait Context: Gate {
         body: &[Step<'t>],
         frame: &mut Frame<'t>,
     ) -> Result<(), Stop>
-        ensures ends { (done : Deeds) → RunsTo (MayRefuseSome (Self.may_refuse self.now)) result frame.new.memory done
+        ensures ends { (done : Deeds) → RunsTo (MayRefuseForall (Self.may_refuse self.now) frame.old at.now over.now (steps_in InTurn body.now)) result frame.new.memory done
             (exec frame.old.limits in_memory (outside standing (forall_of at.now (names_view names.now) (One (domain_view over.now)) intents.now (steps_in InTurn body.now))) frame.old.memory done) }
         ensures limits { frame.new.limits ≡ frame.old.limits };
 }

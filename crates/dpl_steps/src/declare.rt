@@ -21,7 +21,7 @@ ghost use Rattle.dpl_loop.specs.Runs.{RunsTo, RunEnds};
 ghost use Rattle.dpl_loop.specs.Values.{Gives};
 ghost use Rattle.dpl_steps.specs.Runs.{Names, Gathers};
 ghost use Rattle.dpl_steps.specs.Owners.{IsOwned};
-ghost use Rattle.dpl_steps.specs.Dealt.{owned_by};
+ghost use Rattle.dpl_frame.specs.Frames.{owned_by};
 ghost use Rattle.dpl_map.specs.Maps.{owner};
 
 use crate::domain::for_array;

@@ -15,6 +15,7 @@ ghost use Rattle.dpl_nodes.specs.Steps.{listed, names_view};
 ghost use Rattle.dpl_loop.specs.Runs.{RunsTo};
 ghost use Rattle.dpl_loop.specs.Entries.{MayRefuseSome};
 ghost use Rattle.dpl_loop.specs.Values.{Gives};
+ghost use Rattle.dpl_values.specs.Reductions.{MayRefuseReduction, EachInDomain};
 ghost use Rattle.dpl_steps.specs.Readings.{steps_in};
 ghost use Rattle.dpl_steps.specs.Turns.{each_bound, bound_at, index_turn, looped_over};
 
@@ -30,7 +31,8 @@ use dpl_values::domain_value;
 /// What a loop runs over: its domain is evaluated once, and its size is tested against the budget.
 ///
 /// # Errors
-/// The fault of the domain; `F5` at the loop where it has more indices than the budget.
+/// The fault of the domain; `F5` at the loop where it has more indices than the budget; or the gate refused an entry of a reduction
+/// in the domain.
 #[tactic(auto, using(crate::proofs::Tested::within_domain))]
 pub fn domain_indices<G: Gate>(
     at: &Spot,
@@ -38,7 +40,7 @@ pub fn domain_indices<G: Gate>(
     frame: &Frame<'_>,
     gate: &G,
 ) -> Result<DomainWord, Stop>
-    ensures { Gives (MayRefuseSome (G.may_refuse gate.now)) DomainValue result (looped_over frame.now.limits at.now (One (domain_view over.now)) frame.now.memory) }
+    ensures { Gives (MayRefuseReduction (G.may_refuse gate.now) frame.now (EachInDomain over.now)) DomainValue result (looped_over frame.now.limits at.now (One (domain_view over.now)) frame.now.memory) }
 {
     let domain = domain_value(over, frame, gate)?;
     within_budget(&domain, at, frame)?;

@@ -8,8 +8,9 @@ ghost use Rattle.dpl_language.specs.Writing.{line_end};
 ghost use Rattle.dpl_language.specs.Statements.{exec};
 ghost use Rattle.dpl_memory.specs.Memory.{in_memory};
 ghost use Rattle.dpl_nodes.specs.Steps.{written_as};
-ghost use Rattle.dpl_loop.specs.Entries.{MayRefuseSome};
 ghost use Rattle.dpl_loop.specs.Runs.{RunsTo};
+ghost use Rattle.dpl_values.specs.Reductions.{MayRefuseReduction};
+ghost use Rattle.dpl_steps.specs.Refusals.{EachInArgument, EachInArguments};
 ghost use Rattle.dpl_steps.specs.Runs.{having_printed};
 ghost use Rattle.dpl_steps.specs.Texts.{argument_text, arguments_text, GrewBy};
 
@@ -38,7 +39,7 @@ fn show<G: Gate>(
     gate: &G,
     out: &mut Vec<u8>,
 ) -> Result<(), Stop>
-    ensures { GrewBy (MayRefuseSome (G.may_refuse gate.now)) result out.old.items out.new.items (argument_text frame.now.limits argument.now frame.now.memory) }
+    ensures { GrewBy (MayRefuseReduction (G.may_refuse gate.now) frame.now (EachInArgument argument.now)) result out.old.items out.new.items (argument_text frame.now.limits argument.now frame.now.memory) }
 {
     match argument {
         Argument::Text(bytes) => out.extend_from_slice(bytes)?,
@@ -65,7 +66,7 @@ fn show_all<G: Gate>(
     gate: &G,
     out: &mut Vec<u8>,
 ) -> Result<(), Stop>
-    ensures { GrewBy (MayRefuseSome (G.may_refuse gate.now)) result out.old.items out.new.items (arguments_text frame.now.limits arguments.now frame.now.memory) }
+    ensures { GrewBy (MayRefuseReduction (G.may_refuse gate.now) frame.now (EachInArguments arguments.now)) result out.old.items out.new.items (arguments_text frame.now.limits arguments.now frame.now.memory) }
 {
     for argument in arguments {
         show(argument, frame, gate, out)?;
@@ -86,7 +87,8 @@ fn end_line(ends_line: bool, out: &mut Vec<u8>) -> Result<(), AllocError>
 /// Prints the texts of all arguments, and then the line's end if one is asked for.
 ///
 /// # Errors
-/// The fault of an argument, which prints nothing; out of memory for what is printed.
+/// The fault of an argument, which prints nothing; out of memory for what is printed; or the gate refused an entry of a reduction in
+/// an argument, and then nothing is printed.
 pub fn write<G: Gate>(
     ends_line: bool,
     arguments: &[Argument<'_>],
@@ -94,7 +96,7 @@ pub fn write<G: Gate>(
     gate: &G,
     out: &mut Vec<u8>,
 ) -> Result<(), Stop>
-    ensures { (done : Deeds) → RunsTo (MayRefuseSome (G.may_refuse gate.now)) result frame.now.memory (having_printed out.new.items done)
+    ensures { (done : Deeds) → RunsTo (MayRefuseReduction (G.may_refuse gate.now) frame.now (EachInArguments arguments.now)) result frame.now.memory (having_printed out.new.items done)
         (exec frame.now.limits in_memory (written_as ends_line arguments.now) frame.now.memory (having_printed out.old.items done)) }
 {
     let start = out.len();

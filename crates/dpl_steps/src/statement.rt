@@ -14,6 +14,7 @@ ghost use Rattle.dpl_frame.specs.Faults.{as_range};
 ghost use Rattle.dpl_loop.specs.Runs.{RunsTo};
 ghost use Rattle.dpl_loop.specs.Entries.{MayRefuseSome};
 ghost use Rattle.dpl_loop.specs.Values.{Gives};
+ghost use Rattle.dpl_values.specs.Reductions.{MayRefuseReduction, EachInRange};
 ghost use Rattle.dpl_steps.specs.Readings.{step_in, else_in, steps_in};
 ghost use Rattle.dpl_steps.specs.Turns.{in_turn, turn_in_memory, looped_over};
 
@@ -34,14 +35,15 @@ use dpl_values::{range_value, truth_value};
 /// What a loop runs over: its range is evaluated once, and its size is tested against the budget.
 ///
 /// # Errors
-/// The fault of the range; `F5` at the loop where it has more members than the budget.
+/// The fault of the range; `F5` at the loop where it has more members than the budget; or the gate refused an entry of a reduction
+/// in the range.
 pub fn range_indices<G: Gate>(
     at: &Spot,
     over: &RangeExpr<'_>,
     frame: &Frame<'_>,
     gate: &G,
 ) -> Result<RangeWord, Stop>
-    ensures { Gives (MayRefuseSome (G.may_refuse gate.now)) as_range result (looped_over frame.now.limits at.now (range_item over.now) frame.now.memory) }
+    ensures { Gives (MayRefuseReduction (G.may_refuse gate.now) frame.now (EachInRange over.now)) as_range result (looped_over frame.now.limits at.now (range_item over.now) frame.now.memory) }
 {
     let range = range_value(over, frame, gate)?;
     if frame.budget() < range.range.size() {

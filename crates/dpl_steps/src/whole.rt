@@ -2,7 +2,7 @@
 // A right side without a whole array is evaluated once; one with a whole array is evaluated at each index anew. Each is a forall
 // over the array's domain.
 
-ghost use Rattle.std.specs.Prelude.{◌≡◌, List, Some, None};
+ghost use Rattle.std.specs.Prelude.{◌≡◌, ◌⊎◌, List, Some, None};
 ghost use Rattle.dpl_range.specs.Equality.{TextRange};
 ghost use Rattle.dpl_language.specs.Tree.{IntKind, BoolKind, Set};
 ghost use Rattle.dpl_language.specs.Values.{Int, Truth};
@@ -12,15 +12,17 @@ ghost use Rattle.dpl_language.specs.Expressions.{value_of, whole_in};
 ghost use Rattle.dpl_language.specs.Assignments.{change};
 ghost use Rattle.dpl_language.specs.Statements.{exec};
 ghost use Rattle.dpl_lowered.specs.LoweredExpressions.{EachTurn};
-ghost use Rattle.dpl_memory.specs.Memory.{array_at, in_memory};
+ghost use Rattle.dpl_memory.specs.Memory.{in_memory};
 ghost use Rattle.dpl_tree.specs.Words.{assign_view};
 ghost use Rattle.dpl_nodes.specs.Typed.{promoted_int, promoted_truth};
 ghost use Rattle.dpl_nodes.specs.Steps.{array_leaf, whole_set};
 ghost use Rattle.dpl_steps.specs.Changes.{signed};
 ghost use Rattle.dpl_steps.specs.Arrays.{array_set};
-ghost use Rattle.dpl_steps.specs.Dealt.{owned_by};
+ghost use Rattle.dpl_frame.specs.Frames.{owned_by};
 ghost use Rattle.dpl_loop.specs.Runs.{RunsTo};
-ghost use Rattle.dpl_loop.specs.Entries.{MayRefuse, MayRefuseSome};
+ghost use Rattle.dpl_loop.specs.Entries.{MayRefuse};
+ghost use Rattle.dpl_values.specs.Reductions.{MayRefuseReduction, EachInInts, EachInTruths};
+ghost use Rattle.dpl_steps.specs.Refusals.{MayRefuseWhole};
 
 use crate::element::{change, change_truth};
 use dpl_domain::Index;
@@ -42,7 +44,7 @@ struct Fill<'e> {
     value: i64,
 }
 
-impl<'e, 't> Turns<'t> for Fill<'e> {
+impl<'e, 't> Turns<Frame<'t>> for Fill<'e> {
     ghost turn = { λ c limits t. change limits in_memory (array_leaf IntKind c.name.now) (signed (assign_view c.op) c.sign.now) t (Int c.value) };
 
     #[inline(always)]
@@ -60,7 +62,7 @@ struct Promote<'e, 'x> {
     e: &'e PromotedInt<'x>,
 }
 
-impl<'e, 'x, 't> Turns<'t> for Promote<'e, 'x> {
+impl<'e, 'x, 't> Turns<Frame<'t>> for Promote<'e, 'x> {
     ghost turn = { λ c limits t s done. with_value (value_of limits in_memory (promoted_int EachTurn c.e.now) (Some t) s) (change limits in_memory (array_leaf IntKind c.name.now) (signed (assign_view c.op) c.sign.now) t) s done };
 
     #[inline(always)]
@@ -78,7 +80,7 @@ struct FillTruth<'e> {
     value: bool,
 }
 
-impl<'e, 't> Turns<'t> for FillTruth<'e> {
+impl<'e, 't> Turns<Frame<'t>> for FillTruth<'e> {
     ghost turn = { λ c limits t. change limits in_memory (array_leaf BoolKind c.name.now) (signed Set c.sign.now) t (Truth c.value) };
 
     #[inline(always)]
@@ -95,7 +97,7 @@ struct PromoteTruth<'e, 'x> {
     e: &'e PromotedTruth<'x>,
 }
 
-impl<'e, 'x, 't> Turns<'t> for PromoteTruth<'e, 'x> {
+impl<'e, 'x, 't> Turns<Frame<'t>> for PromoteTruth<'e, 'x> {
     ghost turn = { λ c limits t s done. with_value (value_of limits in_memory (promoted_truth EachTurn c.e.now) (Some t) s) (change limits in_memory (array_leaf BoolKind c.name.now) (signed Set c.sign.now) t) s done };
 
     #[inline(always)]
@@ -106,7 +108,7 @@ impl<'e, 'x, 't> Turns<'t> for PromoteTruth<'e, 'x> {
 }
 
 // The turns of a domain that has no more indices than the budget, by the map of the array of a name.
-fn each_within<'t, T: Turns<'t>, G: Gate>(
+fn each_within<'t, T: Turns<Frame<'t>>, G: Gate>(
     turns: &T,
     at: &Spot,
     name: &ArrayName<'_>,
@@ -134,7 +136,7 @@ fn set_once<'t, G: Gate>(
     gate: &G,
 ) -> Result<(), Stop>
     requires { whole_in frame.old.limits in_memory (promoted_int EachTurn e.now) frame.old.memory ≡ None }
-    ensures ends { (done : Deeds) → RunsTo (MayRefuseSome (G.may_refuse gate.now)) result frame.new.memory done
+    ensures ends { (done : Deeds) → RunsTo (MayRefuse (G.may_refuse gate.now) (owned_by frame.old name.now.slot) domain ⊎ MayRefuseReduction (G.may_refuse gate.now) frame.old (EachInInts e.now)) result frame.new.memory done
         (array_set frame.old.limits IntKind name.now (assign_view op) sign.now (promoted_int EachTurn e.now) domain None frame.old.memory done) }
     ensures limits { frame.new.limits ≡ frame.old.limits }
 {
@@ -158,7 +160,7 @@ fn set_truth_once<'t, G: Gate>(
     gate: &G,
 ) -> Result<(), Stop>
     requires { whole_in frame.old.limits in_memory (promoted_truth EachTurn e.now) frame.old.memory ≡ None }
-    ensures ends { (done : Deeds) → RunsTo (MayRefuseSome (G.may_refuse gate.now)) result frame.new.memory done
+    ensures ends { (done : Deeds) → RunsTo (MayRefuse (G.may_refuse gate.now) (owned_by frame.old name.now.slot) domain ⊎ MayRefuseReduction (G.may_refuse gate.now) frame.old (EachInTruths e.now)) result frame.new.memory done
         (array_set frame.old.limits BoolKind name.now Set sign.now (promoted_truth EachTurn e.now) domain None frame.old.memory done) }
     ensures limits { frame.new.limits ≡ frame.old.limits }
 {
@@ -206,7 +208,8 @@ fn set_truth_each<'t, G: Gate>(
 ///
 /// # Errors
 /// The fault of a right side that is evaluated once; `F5` at the operator for more elements than the budget; the fault of
-/// an index, in its turn; or the gate refused the entry of an element's owner.
+/// an index, in its turn; or the gate refused the entry of an element's owner, or of a reduction in a right side that is evaluated
+/// once.
 #[inline(never)]
 pub(crate) fn set_array<'t, G: Gate>(
     name: &ArrayName<'_>,
@@ -216,7 +219,7 @@ pub(crate) fn set_array<'t, G: Gate>(
     frame: &mut Frame<'t>,
     gate: &G,
 ) -> Result<(), Stop>
-    ensures ends { (done : Deeds) → RunsTo (MayRefuseSome (G.may_refuse gate.now)) result frame.new.memory done
+    ensures ends { (done : Deeds) → RunsTo (MayRefuseWhole (G.may_refuse gate.now) frame.old name.now.slot (EachInInts e.now)) result frame.new.memory done
         (exec frame.old.limits in_memory (whole_set (array_leaf IntKind name.now) (assign_view op) sign.now (promoted_int EachTurn e.now)) frame.old.memory done) }
     ensures limits { frame.new.limits ≡ frame.old.limits }
 {
@@ -239,7 +242,7 @@ pub(crate) fn set_truth_array<'t, G: Gate>(
     frame: &mut Frame<'t>,
     gate: &G,
 ) -> Result<(), Stop>
-    ensures ends { (done : Deeds) → RunsTo (MayRefuseSome (G.may_refuse gate.now)) result frame.new.memory done
+    ensures ends { (done : Deeds) → RunsTo (MayRefuseWhole (G.may_refuse gate.now) frame.old name.now.slot (EachInTruths e.now)) result frame.new.memory done
         (exec frame.old.limits in_memory (whole_set (array_leaf BoolKind name.now) Set sign.now (promoted_truth EachTurn e.now)) frame.old.memory done) }
     ensures limits { frame.new.limits ≡ frame.old.limits }
 {

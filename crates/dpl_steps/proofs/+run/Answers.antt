@@ -19,6 +19,8 @@ use Rattle.dpl_steps.specs.Turns.{turn_in_memory, index_turn}
 use Rattle.dpl_nodes.proofs.Unread.{cell_read-int, cell_read-truth, item_read-range}
 use Rattle.dpl_array.proofs.WalkLemmas.{walk-next, walk-end}
 use Rattle.dpl_loop.proofs.Ends.{then_do-halts, halts-alike, ends-alike}
+use Rattle.dpl_values.specs.Reductions.{EachInInts, EachInTruths, EachInRange, EachInDomain}
+use Rattle.dpl_steps.proofs.Dealing.{ends-wider, some-of-whole, some-of-forall}
 use Rattle.dpl_steps.proofs.Changing.{gives-halts, gives-ends, exec-declared, exec-assigned, exec-int, exec-truth}
 use Rattle.dpl_steps.proofs.Looping.{in_order-done, in_order-halts, for-domain, scoped-same, in_turn-done, in_turn-halts, for-turns, repeated-fault, repeated-ends, repeated-step, holds-value, holds-fault, if-then, exec-while}
 use Rattle.dpl_steps.proofs.Views.{for_each_in, forall_in, block_in, if_in, while_in, for_in, forall_line_in}
@@ -161,7 +163,7 @@ statement::statement-returns-in-SetArray-clause-ends g t c done =
     let having = g.C.Context.having in
     let standing = g.C.Context.standing in
     let d = having c.args.out.now done in
-    ends-alike _ c.set_array.result c.set_array.new.frame.memory d _ _
+    ends-wider _ _ c.set_array.result c.set_array.new.frame.memory d _ _ (some-of-whole _ c.args.frame.now (EachInInts c.in-SetArray.e.now) _ _)
     (ap (λ s. exec c.args.frame.now.limits in_memory (step_in standing s) c.args.frame.now.memory d) c.in-SetArray.is) (c.set_array.ensures.ends d)
 
 pub statement::statement-returns-in-SetTruthArray-clause-ends : goal.statement::statement-returns-in-SetTruthArray-clause-ends
@@ -169,7 +171,7 @@ statement::statement-returns-in-SetTruthArray-clause-ends g t c done =
     let having = g.C.Context.having in
     let standing = g.C.Context.standing in
     let d = having c.args.out.now done in
-    ends-alike _ c.set_truth_array.result c.set_truth_array.new.frame.memory d _ _
+    ends-wider _ _ c.set_truth_array.result c.set_truth_array.new.frame.memory d _ _ (some-of-whole _ c.args.frame.now (EachInTruths c.in-SetTruthArray.e.now) _ _)
     (ap (λ s. exec c.args.frame.now.limits in_memory (step_in standing s) c.args.frame.now.memory d) c.in-SetTruthArray.is) (c.set_truth_array.ensures.ends d)
 
 -- BLOCKS, BRANCHES AND LOOPS
@@ -230,7 +232,7 @@ statement::statement-returns-in-Forall-clause-ends g t c done =
     let limits = c.args.frame.now.limits in
     let w = c.args.frame.now.memory in
     let d = having c.args.out.now done in
-    ends-alike _ c.forall_line.result c.forall_line.new.frame.memory d _ _
+    ends-wider _ _ c.forall_line.result c.forall_line.new.frame.memory d _ _ (some-of-forall _ c.args.frame.now (EachInRange c.in-Forall.over.now) _ _ _)
     (ap (λ s. exec limits in_memory (step_in standing s) w d) c.in-Forall.is
     ∙ ap (λ t. exec limits in_memory t w d) (forall_line_in standing c.in-Forall.at c.in-Forall.slot c.in-Forall.over c.in-Forall.intents c.in-Forall.body))
     (c.forall_line.ensures.ends d)
@@ -255,7 +257,7 @@ statement::while_loop-returns-in_err-truth_value-clause-ends g t c done =
     let d = having c.loop-left.out done in
     let p = err_from_is_err_and c.from_residual.result c.from_residual.ensures.1 in
     rw (p.1, p.2)
-    (gives-halts _ _ Truth c.in_err-truth_value.field-0.0 _ w d _ (λ m. m)
+    (gives-halts _ _ Truth c.in_err-truth_value.field-0.0 _ w d _ (λ m. m.0)
     (λ f is. sym (c.loop-left.invariant.ends done)
     ∙ repeated-fault c.args.at.now (holds limits in_memory e) body c.loop-left.left w d f (holds-fault limits e w f (ap (λ l. value_of l in_memory e None w) (sym c.loop-left.invariant.limits) ∙ is)))
     c.in_err-truth_value.ensures)
@@ -333,7 +335,7 @@ statement::statement-returns-in-ForallEach-clause-ends g t c done =
     let limits = c.args.frame.now.limits in
     let w = c.args.frame.now.memory in
     let d = having c.args.out.now done in
-    ends-alike _ c.forall.result c.forall.new.frame.memory d _ _
+    ends-wider _ _ c.forall.result c.forall.new.frame.memory d _ _ (some-of-forall _ c.args.frame.now (EachInDomain c.in-ForallEach.over.now) _ _ _)
     (ap (λ s. exec limits in_memory (step_in standing s) w d) c.in-ForallEach.is
     ∙ ap (λ t. exec limits in_memory t w d) (forall_in standing c.in-ForallEach.at c.in-ForallEach.names c.in-ForallEach.over c.in-ForallEach.intents c.in-ForallEach.body))
     (c.forall.ensures.ends d)

@@ -26,7 +26,7 @@ returns-in_err-word-in-None-clause-ends g c done =
     let t = c.coordinate.result in
     let p = err_from_is_err_and c.from_residual.result c.from_residual.ensures.1 in
     rw (p.1, p.2)
-    (gives-halts _ _ Int c.in_err-word-in-None.field-0.0 _ s done _ (λ m. m)
+    (gives-halts _ _ Int c.in_err-word-in-None.field-0.0 _ s done _ (λ m. m.0)
     (λ f is. array_of_item-fault limits c.args.d.now.at.now IntKind c.args.d.now.slot (shell_over c.args.d.now.over IntKind c.args.domain) s done c.args.at.now e (whole_in limits in_memory e s)
     t c.in-None.ensures (cell_read-promoted_int EachTurn c.args.e.now) (promoted_int-once limits s EachTurn c.args.e.now t (sym c.in-None.ensures)) f is)
     c.in_err-word-in-None.ensures)

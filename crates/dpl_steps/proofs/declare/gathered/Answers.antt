@@ -10,7 +10,7 @@ use Rattle.dpl_array.proofs.WalkLemmas.{walk-next}
 use Rattle.dpl_loop.proofs.Places.{slice_get-drop_first, drop-drop_one, within-there}
 use Rattle.dpl_loop.specs.Entries.{MayRefuse}
 use Rattle.dpl_memory.specs.Memory.{held_with}
-use Rattle.dpl_steps.specs.Dealt.{owned_by}
+use Rattle.dpl_frame.specs.Frames.{owned_by}
 use Rattle.dpl_steps.proofs.Gathered.{AreGathered, gathered-first, gathered-next, gathered-halts, gathered-last}
 use Rattle.dpl_steps.proofs.declare.gathered.Goals as goal
 

@@ -18,7 +18,7 @@ returns-in_err-value-clause-ends g c done =
     let s = c.args.frame.now.memory in
     let p = err_from_is_err_and c.from_residual.result c.from_residual.ensures.1 in
     rw (p.1, p.2)
-    (gives-halts _ _ Domain c.in_err-value.field-0.0 _ s done _ (λ m. m)
+    (gives-halts _ _ Domain c.in_err-value.field-0.0 _ s done _ (λ m. m.0)
     (λ f e.
     exec-declared c.args.frame.now.limits (variable DomainKind c.args.slot) (One (domain_view c.args.e.now)) s done (cell_read-domain c.args.e.now)
     ∙ ap (λ r. ends_as (with_ok r (λ v. Ok (in_memory.declare (variable DomainKind c.args.slot) (Plain v) s))) done) e)

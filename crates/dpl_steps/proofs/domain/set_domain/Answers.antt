@@ -19,7 +19,7 @@ pub returns-in_err-value-clause-ends : goal.returns-in_err-value-clause-ends
 returns-in_err-value-clause-ends g c done =
     let p = err_from_is_err_and c.from_residual.result c.from_residual.ensures.1 in
     rw (p.1, p.2)
-    (gives-halts _ _ Domain c.in_err-value.field-0.0 _ c.args.frame.now.memory done _ (λ m. m)
+    (gives-halts _ _ Domain c.in_err-value.field-0.0 _ c.args.frame.now.memory done _ (λ m. m.0)
     (λ f e. exec-domain-fault c.args.frame.now.limits c.args.name.now (domain_view c.args.e.now) c.args.frame.now.memory done f (cell_read-domain c.args.e.now) e)
     c.in_err-value.ensures)
 

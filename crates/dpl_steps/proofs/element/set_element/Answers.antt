@@ -17,7 +17,7 @@ returns-in_err-value-clause-ends g c done =
     let s = c.args.frame.now.memory in
     let p = err_from_is_err_and c.from_residual.result c.from_residual.ensures.1 in
     rw (p.1, p.2)
-    (gives-halts _ _ Int c.in_err-value.field-0.0 _ s done _ (λ m. m)
+    (gives-halts _ _ Int c.in_err-value.field-0.0 _ s done _ (λ m. m.0)
     (λ f e. exec-element-fault c.args.frame.now.limits (array_leaf IntKind c.args.name.now) c.args.t.now (assign_view c.args.op) c.args.sign.now (int_view c.args.e.now) s done f (cell_read-int c.args.e.now) e)
     c.in_err-value.ensures)
 
@@ -35,7 +35,7 @@ returns-in_err-index-clause-ends g c done =
     let s = c.args.frame.now.memory in
     let p = err_from_is_err_and c.from_residual-in_err-index.result c.from_residual-in_err-index.ensures.1 in
     rw (p.1, p.2)
-    (gives-halts _ _ (λ t. t) c.in_err-index.field-0.0 _ s done _ (λ m. m)
+    (gives-halts _ _ (λ t. t) c.in_err-index.field-0.0 _ s done _ (λ m. m.0)
     (λ f e. exec-element c.args.frame.now.limits (array_leaf IntKind c.args.name.now) c.args.t.now (assign_view c.args.op) c.args.sign.now (int_view c.args.e.now) s done (Int c.in_ok-value.value) (Err f)
     (cell_read-int c.args.e.now) c.in_ok-value.ensures e)
     c.in_err-index.ensures)

@@ -21,7 +21,7 @@ returns-in_err-truth_value-clause-ends g c done =
     let s = c.args.frame.now.memory in
     let p = err_from_is_err_and c.from_residual.result c.from_residual.ensures.1 in
     rw (p.1, p.2)
-    (gives-halts _ _ Truth c.in_err-truth_value.field-0.0 _ s done _ (λ m. m)
+    (gives-halts _ _ Truth c.in_err-truth_value.field-0.0 _ s done _ (λ m. m.0)
     (λ f e. exec-element-fault c.args.frame.now.limits (array_leaf BoolKind c.args.name.now) c.args.t.now Set nowhere (truth_view c.args.e.now) s done f (cell_read-truth c.args.e.now) e)
     c.in_err-truth_value.ensures)
 

@@ -1,5 +1,5 @@
 -- The right side is evaluated once, at an index that doesn't matter.
-use Rattle.std.proofs.Common.{◌≡◌, Ok, ap, ◌∙◌, rules}
+use Rattle.std.proofs.Common.{◌≡◌, inl, inr, Ok, ap, ◌∙◌, rules}
 use Rattle.std.proofs.lemmas.Result.{err_from_is_err_and}
 use Rattle.dpl_language.specs.Tree.{BoolKind, Set}
 use Rattle.dpl_language.specs.Values.{Truth}
@@ -9,7 +9,7 @@ use Rattle.dpl_nodes.specs.Steps.{array_leaf}
 use Rattle.dpl_nodes.proofs.Promotions.{cell_read-promoted_truth, promoted_truth-once}
 use Rattle.dpl_steps.specs.Changes.{signed}
 use Rattle.dpl_steps.proofs.Changing.{gives-halts}
-use Rattle.dpl_steps.proofs.Dealing.{ends-of-entry}
+use Rattle.dpl_steps.proofs.Dealing.{ends-wider}
 use Rattle.dpl_steps.proofs.Wholes.{assign_array-value, assign_array-fault}
 use Rattle.dpl_steps.proofs.whole.set_truth_once.Goals as goal
 
@@ -20,7 +20,7 @@ returns-in_err-promoted_truth_value-clause-ends g c done =
     let t = c.coordinate.result in
     let p = err_from_is_err_and c.from_residual.result c.from_residual.ensures.1 in
     rw (p.1, p.2)
-    (gives-halts _ _ Truth c.in_err-promoted_truth_value.field-0.0 _ s done _ (λ m. m)
+    (gives-halts _ _ Truth c.in_err-promoted_truth_value.field-0.0 _ s done _ inr
     (λ f is. assign_array-fault limits (array_leaf BoolKind c.args.name.now) (signed Set c.args.sign.now) (promoted_truth EachTurn c.args.e.now) c.args.domain t s done
     (cell_read-promoted_truth EachTurn c.args.e.now) (promoted_truth-once limits s EachTurn c.args.e.now t c.requires) f is)
     c.in_err-promoted_truth_value.ensures)
@@ -31,7 +31,7 @@ returns-clause-ends g c done =
     let s = c.args.frame.now.memory in
     let t = c.coordinate.result in
     let got : c.in_ok-promoted_truth_value.field-0 ≡ c.get-value.result = search rules in
-    ends-of-entry _ _ _ c.each_within.result c.each_within.new.frame.memory done _ _
+    ends-wider _ _ c.each_within.result c.each_within.new.frame.memory done _ _ inl
     (assign_array-value limits (array_leaf BoolKind c.args.name.now) (signed Set c.args.sign.now) (promoted_truth EachTurn c.args.e.now) c.args.domain t s done
     (cell_read-promoted_truth EachTurn c.args.e.now) (promoted_truth-once limits s EachTurn c.args.e.now t c.requires) (Truth c.get-value.result) (c.in_ok-promoted_truth_value.ensures ∙ ap (λ b. Ok (Truth b)) got))
     (c.each_within.ensures.ends done)

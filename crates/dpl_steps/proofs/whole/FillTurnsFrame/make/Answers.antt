@@ -2,7 +2,7 @@
 use Rattle.std.proofs.Common.{FitsSigned, w64, rules}
 use Rattle.std.proofs.lemmas.Int.{to_z-of_z}
 use Rattle.dpl_steps.proofs.Changing.{told-ends}
-use Rattle.dpl_steps.proofs.whole.FillTurns.make.Goals as goal
+use Rattle.dpl_steps.proofs.whole.FillTurnsFrame.make.Goals as goal
 
 pub returns-clause-ends : goal.returns-clause-ends
 returns-clause-ends c done =

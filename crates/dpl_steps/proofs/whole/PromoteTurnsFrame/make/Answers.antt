@@ -9,7 +9,7 @@ use Rattle.dpl_tree.specs.Words.{assign_view}
 use Rattle.dpl_nodes.specs.Steps.{array_leaf}
 use Rattle.dpl_steps.specs.Changes.{signed}
 use Rattle.dpl_steps.proofs.Changing.{told-ends}
-use Rattle.dpl_steps.proofs.whole.PromoteTurns.make.Goals as goal
+use Rattle.dpl_steps.proofs.whole.PromoteTurnsFrame.make.Goals as goal
 
 pub returns-clause-ends : goal.returns-clause-ends
 returns-clause-ends c done =
