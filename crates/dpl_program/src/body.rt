@@ -72,7 +72,7 @@ pub(crate) struct Body<'b, 't> {
     pub(crate) steps: &'b [Step<'t>],
 }
 
-impl<'b, 't> Turns<'t> for Body<'b, 't> {
+impl<'b, 't> Turns<Frame<'t>> for Body<'b, 't> {
     ghost turn = { λ body limits. index_turn limits body.names (steps_in InTurn body.steps.now) };
 
     #[inline(always)]
