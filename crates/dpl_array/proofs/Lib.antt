@@ -10,4 +10,5 @@ pub mod SameLemmas
 mod Worked
 pub mod WalkLemmas
 pub mod WindowLemmas
+pub mod RunLemmas
 pub mod ReaderLemmas

@@ -1,6 +1,6 @@
 -- Elements: a finite map from indices to values.
 -- It is a list of pairs, so that it can be read in order, with a search by index.
-use Rattle.std.specs.Prelude.{◌≡◌, ℕ, ℤ, List, [], ◌∷◌, Bool, true, false, ◌&&◌, ◌==◌, Option, Some, None, map, filter, if◌then◌else◌}
+use Rattle.std.specs.Prelude.{◌≡◌, ℕ, ℤ, pos, ◌+ℤ◌, List, [], ◌∷◌, Bool, true, false, ◌&&◌, ◌==◌, Option, Some, None, map, filter, slice_get, if◌then◌else◌}
 use Rattle.std.specs.Ordering.{int_eq}
 use Rattle.dpl_map.specs.Maps.{AxisValue, owner}
 
@@ -14,6 +14,12 @@ same_index [] [] = true
 same_index [] (j ∷ js) = false
 same_index (i ∷ is) [] = false
 same_index (i ∷ is) (j ∷ js) = int_eq i j && same_index is js
+
+-- the index that lies so far behind another in the last dimension
+abbrev pub behind : ℕ → List ℤ → List ℤ
+behind k [] = []
+behind k (i ∷ []) = (i +ℤ pos k) ∷ []
+behind k (i ∷ j ∷ is) = i ∷ behind k (j ∷ is)
 
 -- the value at an index, if the map has the index
 abbrev pub value_at : {T : Type 0} → List ℤ → Elements T → Option T
@@ -50,3 +56,7 @@ tabulated (t ∷ ts) f = element_before t (f t) (tabulated ts f)
 pub record IsOver {T : Type 0} (ts : List (List ℤ)) (es : Elements T) : Type 0 where
   pub keys : keys_of es ≡ ts
   pub values : tabulated ts (λ t. value_at t es) ≡ es
+
+-- the values of a row stand at an index and at those behind it in the last dimension
+abbrev pub IsRunOf : {T : Type 0} → Elements T → List ℤ → List T → Type 0
+IsRunOf {T = T} es t values = (k : ℕ) (v : T) → slice_get values k ≡ Some v → value_at (behind k t) es ≡ Some v

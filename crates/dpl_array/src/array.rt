@@ -4,7 +4,7 @@
 ghost use Rattle.std.specs.Prelude.{◌≡◌, ◌≤◌, ◌^◌, ◌↔◌, ◌<◌, false, is_some, IsSome, IfOk, IfSome};
 ghost use Rattle.dpl_domain.specs.Indices.{indices};
 ghost use Rattle.dpl_map.specs.Maps.{locales};
-ghost use Rattle.dpl_array.specs.Elements.{value_at};
+ghost use Rattle.dpl_array.specs.Elements.{value_at, IsRunOf};
 ghost use Rattle.dpl_array.specs.Arrays.{IsArray, IsSmallArray, IsWhole, array_with, filled_array, pieces_of, restriction, union};
 
 use crate::coordinates::Coordinates;
@@ -100,6 +100,16 @@ impl<T: Copy> DArray<T> {
         ensures { IfSome result (λ v. value_at (C.tuple at.now) self.now.elements ≡ Some v) }
     {
         self.pieces.guessed(at)
+    }
+
+    /// Values at an index and at those behind it in its last dimension, as they stand side by side in a piece: of rank 1 and 2 those up
+    /// to the end of the piece's part or of its row, where the part is one domain of stride 1. Of another part or index there may be
+    /// none, though the array has the index.
+    #[inline(always)]
+    pub fn run(&self, index: Index) -> &[T]
+        ensures { IsRunOf self.now.elements index result.now }
+    {
+        self.pieces.run(index)
     }
 
     // The value, if the array has the index.

@@ -4,7 +4,7 @@
 ghost use Rattle.std.specs.Prelude.{◌≡◌, ◌≤◌, ◌^◌, Some, true, false, is_some, IfOk, IfSome, length, replicate, slice_get};
 ghost use Rattle.dpl_domain.specs.Indices.{indices};
 ghost use Rattle.dpl_map.specs.Parts.{part};
-ghost use Rattle.dpl_array.specs.Elements.{value_at, filled, keys_of};
+ghost use Rattle.dpl_array.specs.Elements.{value_at, filled, keys_of, IsRunOf};
 ghost use Rattle.dpl_array.specs.Arrays.{IsPiece, piece_with};
 
 use crate::coordinates::Coordinates;
@@ -120,6 +120,20 @@ impl<T: Copy> Piece<T> {
     {
         let place = at.place(&self.parts, &self.spans)?;
         Some(self.values[place])
+    }
+
+    // The values at an index and at those behind it in its last dimension, as far as they stand side by side and plain numbers tell
+    // it. No values are always right.
+    #[inline(always)]
+    pub(crate) fn run(&self, index: Index) -> &[T]
+        ensures { IsRunOf self.now.elements index result.now }
+    {
+        let (place, size) = self.spans.run(index);
+        let end = place.wrapping_add(size);
+        match self.values.get(place..end) {
+            Some(values) => values,
+            None => &[],
+        }
     }
 
     // Puts a value where its place is found without a search, if the piece has it.

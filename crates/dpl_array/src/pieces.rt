@@ -1,10 +1,11 @@
 // The pieces of an array: one for each locale of its map, taken out and put back.
 // A piece goes only into the free place of its locale, and only where its domain and its map are the array's.
 
-ghost use Rattle.std.specs.Prelude.{◌≡◌, ◌≤◌, ◌<◌, ◌^◌, ◌↔◌, Some, None, true, false, is_some, length, slice_get, IsTrue, IsOk, IfOk, IfErr, IfSome, OnOk, OnErr};
+ghost use Rattle.std.specs.Prelude.{◌≡◌, ◌≤◌, ◌<◌, ◌^◌, ◌↔◌, ℕ, Some, None, true, false, is_some, length, slice_get, IsTrue, IsOk, IfOk, IfErr, IfSome, OnOk, OnErr};
 ghost use Rattle.dpl_domain.specs.Equality.{SameDomain};
 ghost use Rattle.dpl_map.specs.Maps.{owner, locales};
 ghost use Rattle.dpl_array.specs.Same.{texts_of};
+ghost use Rattle.dpl_array.specs.Elements.{behind};
 ghost use Rattle.dpl_array.specs.Arrays.{ArePieces, IsWhole, IsSmallArray, filled_array, held_at, piece_in, pieces_of, with_slot, written_at};
 
 use crate::Piece;
@@ -163,6 +164,18 @@ impl<T: Copy> Pieces<T> {
     {
         let seat = at.seat(&self.seats);
         self.held.get(seat)?.as_ref()?.quick(at)
+    }
+
+    // What the piece that stands where the owner's seems to stand holds at an index and at those behind it, as far as it is found
+    // without a search.
+    #[inline(always)]
+    pub(crate) fn run(&self, index: Index) -> &[T]
+        ensures { (k : ℕ) (v : T) → slice_get result.now k ≡ Some v → held_at self.now (behind k index) ≡ Some v }
+    {
+        let Some(Some(piece)) = self.held.get(self.seats.guess(index)) else {
+            return &[];
+        };
+        piece.run(index)
     }
 
     // What the piece of the owner holds at an index.

@@ -189,6 +189,59 @@ fn coordinates(rt: HostRuntime) -> Result<(), Fail> {
     Ok(())
 }
 
+// How many values stand side by side from an index on. Each is the one that the array has there.
+fn run_at(rt: &impl Abort, array: &DArray<i64>, index: Index) -> usize {
+    let run = array.run(index);
+    let (_, row, column) = index.numbers();
+    let mut at = column;
+    for value in run {
+        let there = if index.rank() == 1 {
+            array.get_line(at)
+        } else {
+            array.get_plane(row, at)
+        };
+        assert_eq!(rt; there, Some(*value));
+        at = at.wrapping_add(1);
+    }
+    run.len()
+}
+
+// Of a line they go to the end of the part, where that has the stride 1, and else there are none.
+#[test]
+fn runs_of_a_line(rt: HostRuntime) -> Result<(), Fail> {
+    let domain = line(1, 40, 1)?;
+    let maps = maps(&rt, &domain, 4)?;
+    for (map, length) in [(maps[0], 34), (maps[1], 4), (maps[2], 0), (maps[3], 0)] {
+        let array = squares(&rt, rt.alloc(), domain, map)?;
+        assert_eq!(&rt; run_at(&rt, &array, at(&rt, 7)), length);
+        assert_eq!(&rt; run_at(&rt, &array, at(&rt, 41)), 0);
+        assert_eq!(&rt; run_at(&rt, &array, at(&rt, 0)), 0);
+    }
+    Ok(())
+}
+
+// Of a plane they go to the end of the row.
+#[test]
+fn runs_of_a_plane(rt: HostRuntime) -> Result<(), Fail> {
+    let plane = Domain::new(&[Range::new(1, 3, 1)?, Range::new(1, 5, 1)?])?;
+    let mut array = DArray::new(rt.alloc(), plane, Map::whole(), 0)?;
+    assert!(&rt; array.set_plane(2, 3, 7));
+    for (i, j, length) in [
+        (1, 1, 5),
+        (2, 2, 4),
+        (3, 5, 1),
+        (2, 6, 0),
+        (4, 1, 0),
+        (2, 0, 0),
+    ] {
+        let Some(index) = Index::new(&[i, j]) else {
+            panic!(&rt; "two coordinates make an index")
+        };
+        assert_eq!(&rt; run_at(&rt, &array, index), length);
+    }
+    Ok(())
+}
+
 // One growth is refused, so of two arrays one is made all the same, and of two made so one changes its domain.
 #[test]
 fn a_growth_refused(rt: HostRuntime) -> Result<(), Fail> {
