@@ -1,7 +1,8 @@
 // An array with a word for each element, in the order of its domain.
 // It is a finite map over the domain, whose map says who owns its indices, and the domain with its flags.
 
-ghost use Rattle.std.specs.Prelude.{◌≡◌, ◌↔◌, [], ◌∷◌, true, false, is_some, length, map, IfOk};
+ghost use Rattle.std.specs.Prelude.{◌≡◌, ◌↔◌, ℕ, ℤ, [], ◌∷◌, Some, true, false, is_some, length, map, slice_get, IfOk};
+ghost use Rattle.dpl_array.specs.Elements.{behind};
 ghost use Rattle.dpl_language.specs.Ranges.{indices_in, size_in, too_large};
 ghost use Rattle.dpl_memory.specs.Memory.{held_at, held_with, held_over};
 ghost use Rattle.dpl_contents.specs.Arrays.{words_of};
@@ -63,6 +64,15 @@ impl ArrayWords {
         ensures { result ≡ held_at index self.now }
     {
         self.array.get(index)
+    }
+
+    /// Words at an index and at those behind it in its last dimension, as they stand side by side in a piece. There may be none, though the array has the
+    /// index: [`DArray::run`] tells where.
+    #[inline(always)]
+    pub fn run(&self, index: Index) -> &[i64]
+        ensures { (k : ℕ) (word : ℤ) → slice_get result.now k ≡ Some word → held_at (behind k index) self.now ≡ Some word }
+    {
+        self.array.run(index)
     }
 
     /// The word at one coordinate, if the array is of rank 1 and has it.

@@ -1,7 +1,8 @@
 // The arrays of a frame, however they are kept: read, written and declared by their slots.
 // A slot without an array holds the array over `{1..0}`, which has no elements.
 
-ghost use Rattle.std.specs.Prelude.{◌≡◌, List, [], ◌∷◌, true, false, is_some, get_or, set, OnOk};
+ghost use Rattle.std.specs.Prelude.{◌≡◌, ℕ, ℤ, List, [], ◌∷◌, Some, true, false, is_some, get_or, set, slice_get, OnOk};
+ghost use Rattle.dpl_array.specs.Elements.{behind};
 ghost use Rattle.dpl_language.specs.Ranges.{too_large};
 ghost use Rattle.dpl_memory.specs.Memory.{Held, no_array, held_at, held_with, is_some_array, redomained_from};
 
@@ -33,6 +34,11 @@ pub trait Arrays {
     /// The same at three coordinates.
     fn element_space(&self, slot: usize, i: i64, j: i64, k: i64) -> Option<i64>
         ensures { result ≡ held_at (i ∷ j ∷ k ∷ []) (get_or (held self.now) slot no_array) };
+
+    /// Words at an index of the array in a slot and at those behind it in its last dimension, as they stand side by side. There may be
+    /// none, though the array has the index; they spare a loop the reads one by one.
+    fn run(&self, slot: usize, index: Index) -> &[i64]
+        ensures { (k : ℕ) (word : ℤ) → slice_get result.now k ≡ Some word → held_at (behind k index) (get_or (held self.now) slot no_array) ≡ Some word };
 
     /// Puts a word at an index of the array in a slot. False if the array hasn't got it, and then nothing is changed.
     fn put(&mut self, slot: usize, index: Index, word: i64) -> bool

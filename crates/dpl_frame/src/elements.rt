@@ -1,7 +1,8 @@
 // The arrays of a frame: declared, read and written by their slots, and given another domain.
 // A slot without an array holds the array over `{1..0}`, which has no elements.
 
-ghost use Rattle.std.specs.Prelude.{◌≡◌, pos, [], ◌∷◌, true, false, is_some, map, option_map, IfErr, IfOk, OnOk};
+ghost use Rattle.std.specs.Prelude.{◌≡◌, ℕ, ℤ, pos, [], ◌∷◌, Some, true, false, is_some, map, option_map, slice_get, IfErr, IfOk, OnOk};
+ghost use Rattle.dpl_array.specs.Elements.{behind};
 ghost use Rattle.dpl_language.specs.Ranges.{indices_in, too_large};
 ghost use Rattle.dpl_memory.specs.Memory.{array_at, held_at, held_with, is_some_array, redomained_from, with_array};
 ghost use Rattle.dpl_frame.specs.Frames.{with_memory, held_in};
@@ -32,6 +33,7 @@ impl<'t> Frame<'t, Slots> {
 
 impl<'t, A: Arrays> Frame<'t, A> {
     /// The domain of the array in a slot; `{1..0}` where there is none.
+    #[inline(always)]
     pub fn array_domain(&self, slot: usize) -> DomainWord
         ensures { result ≡ (array_at slot self.now.memory).ranges }
     {
@@ -39,6 +41,7 @@ impl<'t, A: Arrays> Frame<'t, A> {
     }
 
     /// The word of an element of the array in a slot, if the array has the index.
+    #[inline(always)]
     pub fn element(&self, slot: usize, index: Index) -> Option<i64>
         ensures { result ≡ held_at index (array_at slot self.now.memory) }
     {
@@ -46,6 +49,7 @@ impl<'t, A: Arrays> Frame<'t, A> {
     }
 
     /// The same at one coordinate.
+    #[inline(always)]
     pub fn element_line(&self, slot: usize, i: i64) -> Option<i64>
         ensures { result ≡ held_at (i ∷ []) (array_at slot self.now.memory) }
     {
@@ -53,6 +57,7 @@ impl<'t, A: Arrays> Frame<'t, A> {
     }
 
     /// The same at two coordinates.
+    #[inline(always)]
     pub fn element_plane(&self, slot: usize, i: i64, j: i64) -> Option<i64>
         ensures { result ≡ held_at (i ∷ j ∷ []) (array_at slot self.now.memory) }
     {
@@ -60,13 +65,24 @@ impl<'t, A: Arrays> Frame<'t, A> {
     }
 
     /// The same at three coordinates.
+    #[inline(always)]
     pub fn element_space(&self, slot: usize, i: i64, j: i64, k: i64) -> Option<i64>
         ensures { result ≡ held_at (i ∷ j ∷ k ∷ []) (array_at slot self.now.memory) }
     {
         self.arrays.element_space(slot, i, j, k)
     }
 
+    /// Words at an index of the array in a slot and at those behind it in its last dimension, as they stand side by side. There may be
+    /// none, though the array has the index.
+    #[inline(always)]
+    pub fn run(&self, slot: usize, index: Index) -> &[i64]
+        ensures { (k : ℕ) (word : ℤ) → slice_get result.now k ≡ Some word → held_at (behind k index) (array_at slot self.now.memory) ≡ Some word }
+    {
+        self.arrays.run(slot, index)
+    }
+
     /// Puts a word at one coordinate of the array in a slot. False if the array hasn't got it, and then nothing is changed.
+    #[inline(always)]
     pub fn put_line(&mut self, slot: usize, i: i64, word: i64) -> bool
         ensures there { result ≡ is_some (held_at (i ∷ []) (array_at slot self.old.memory)) }
         ensures changes { self.new ≡ with_memory (with_array slot (held_with (i ∷ []) word (array_at slot self.old.memory)) self.old.memory) self.old }
@@ -75,6 +91,7 @@ impl<'t, A: Arrays> Frame<'t, A> {
     }
 
     /// Puts a word at two coordinates of the array in a slot. False if the array hasn't got them, and then nothing is changed.
+    #[inline(always)]
     pub fn put_plane(&mut self, slot: usize, i: i64, j: i64, word: i64) -> bool
         ensures there { result ≡ is_some (held_at (i ∷ j ∷ []) (array_at slot self.old.memory)) }
         ensures changes { self.new ≡ with_memory (with_array slot (held_with (i ∷ j ∷ []) word (array_at slot self.old.memory)) self.old.memory) self.old }
@@ -83,6 +100,7 @@ impl<'t, A: Arrays> Frame<'t, A> {
     }
 
     /// Puts a word at three coordinates of the array in a slot. False if the array hasn't got them, and then nothing is changed.
+    #[inline(always)]
     pub fn put_space(&mut self, slot: usize, i: i64, j: i64, k: i64, word: i64) -> bool
         ensures there { result ≡ is_some (held_at (i ∷ j ∷ k ∷ []) (array_at slot self.old.memory)) }
         ensures changes { self.new ≡ with_memory (with_array slot (held_with (i ∷ j ∷ k ∷ []) word (array_at slot self.old.memory)) self.old.memory) self.old }
@@ -91,6 +109,7 @@ impl<'t, A: Arrays> Frame<'t, A> {
     }
 
     /// Puts a word at an index of the array in a slot. False if the array hasn't got it, and then nothing is changed.
+    #[inline(always)]
     pub fn put(&mut self, slot: usize, index: Index, word: i64) -> bool
         ensures there { result ≡ is_some (held_at index (array_at slot self.old.memory)) }
         ensures changes { self.new ≡ with_memory (with_array slot (held_with index word (array_at slot self.old.memory)) self.old.memory) self.old }
@@ -110,6 +129,7 @@ impl<'t, A: Arrays> Frame<'t, A> {
     }
 
     /// Puts an array into a slot; past the last one it does nothing.
+    #[inline(always)]
     pub fn keep(&mut self, slot: usize, array: ArrayWords)
         ensures { self.new ≡ with_memory (with_array slot array self.old.memory) self.old }
     {

@@ -216,6 +216,14 @@ impl Arrays for Slots {
         }
     }
 
+    #[inline(always)]
+    fn run(&self, slot: usize, index: Index) -> &[i64] {
+        match self.array(slot) {
+            Some(array) => array.run(index),
+            None => &[],
+        }
+    }
+
     // As for reads.
     #[inline(always)]
     fn put(&mut self, slot: usize, index: Index, word: i64) -> bool {
