@@ -15,6 +15,12 @@ pub with_ok-ends : {A B C D : Type 0} (may more : Type 0) (value : A → B) (t :
 with_ok-ends may more value t (Faulted f) v go all given where_more e tells = e ∙ ap (λ r. with_ok r go) tells
 with_ok-ends may more value t Refused v go all given where_more e tells = where_more tells
 
+-- where more may be refused
+pub tells-where : {A B : Type 0} (may more : Type 0) (value : A → B) (t : Turn) (r : Result A Halt) (v : Result B Fault) → (may → more) → Tells may value t r v → Tells more value t r v
+tells-where may more value t (Ok a) v go tells = tells
+tells-where may more value t (Err (Faulted f)) v go tells = tells
+tells-where may more value t (Err Refused) v go tells = go tells
+
 module _ (op : Op) (value : Index → Result Value Fault) (ts : List Index) (k : ℕ) (t : Index) (so_far : Value) (at : slice_get ts k ≡ Some t) where
   pub folded-at : folded op value (drop k ts) so_far ≡ with_ok (value t) (λ v. folded op value (drop (k + 1) ts) (combined op so_far v))
   folded-at = ap (λ ts. folded op value ts so_far) (drop-slice_get ts k t at)

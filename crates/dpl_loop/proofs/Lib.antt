@@ -5,3 +5,5 @@ pub mod Order
 pub mod Places
 pub mod Lines
 pub mod Folding
+-- Strips.
+pub mod Behind

@@ -1,5 +1,7 @@
 -- What an evaluation gives, and what a reduction asks of the function that gives its items.
-use Rattle.std.specs.Prelude.{◌≡◌, Result, Ok, Err}
+use Rattle.std.specs.Prelude.{◌≡◌, ◌<◌, ℕ, ℤ, pos, get_or, Result, Ok, Err}
+use Rattle.dpl_array.specs.Elements.{behind}
+use Rattle.dpl_loop.specs.declared.strip.Strip.{Strip}
 use Rattle.std.specs.Borrow.{MutBor}
 use Rattle.dpl_language.specs.Values.{Value, Index, Fault}
 use Rattle.dpl_frame.specs.declared.fault.Turn.{Turn}
@@ -23,3 +25,11 @@ module _ {V : Type 0} where
   -- some answer is a refusal
   abbrev pub MayAnswerRefused : (Index → MutBor Turn → Result V Halt → MutBor Turn → Type 0) → Type 0
   MayAnswerRefused answers = (t : Index) × (before : MutBor Turn) × (after : MutBor Turn) × answers t before (Err Refused) after
+
+-- each int of a strip is the value at its index
+abbrev pub HoldsStrip : (ℤ → Value) → (Index → Result Value Fault) → Strip → Type 0
+HoldsStrip value meaning s = (k : ℕ) → k < s.size → k < 64 → meaning (behind k s.first) ≡ Ok (value (get_or s.words k (pos 0)))
+
+-- and so it is of all strips that a function gives
+abbrev pub StripsTell : (ℤ → Value) → (Index → Strip → Type 0) → (Index → Result Value Fault) → Type 0
+StripsTell value strips meaning = (t : Index) (s : Strip) → strips t s → HoldsStrip value meaning s

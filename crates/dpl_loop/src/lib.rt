@@ -6,10 +6,14 @@ pub mod gate;
 mod loops;
 mod reduction;
 pub mod stop;
+mod strip;
+mod strips;
 mod turns;
 
 pub use gate::{Gate, OpenGate};
 pub use loops::{forall, forall_line};
 pub use reduction::{Operator, reduce};
 pub use stop::Stop;
+pub use strip::{STRIP, Strip};
+pub use strips::reduce_ints;
 pub use turns::{AnyFrame, Turns};

@@ -1,7 +1,7 @@
 // Foralls over ranges and domains: the turns are made one by one, in order, and each asks the gate first.
 // A worker enters for a turn as the locale that owns the turn's index.
 
-ghost use Rattle.std.specs.Prelude.{◌≡◌, ℕ, [], ◌∷◌, Some, slice_get};
+ghost use Rattle.std.specs.Prelude.{◌≡◌, [], ◌∷◌, Some, slice_get};
 ghost use Rattle.dpl_language.specs.Ranges.{indices_in};
 ghost use Rattle.dpl_language.specs.Outcome.{Deeds, in_order};
 ghost use Rattle.dpl_language.specs.Loops.{named_turn};
@@ -70,7 +70,7 @@ pub fn forall<'t, A: Arrays, T: Turns<Frame<'t, A>>, G: Gate>(
 
 // The index of one coordinate.
 #[inline(always)]
-fn line(i: i64) -> Index
+pub(crate) fn line(i: i64) -> Index
     ensures { result ≡ i ∷ [] }
 {
     Index::new(&[i]).unwrap()

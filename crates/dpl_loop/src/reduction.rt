@@ -37,7 +37,27 @@ pub trait Operator {
         ensures { value result ≡ combined_of (op self.now) (value a) (value b) };
 }
 
-// The item of an index at a place, once its owner has entered. Its fault names it.
+// The item of an index. Its fault names it.
+#[inline(always)]
+pub(crate) fn named<V, F: Fn(Index, &mut Turn) -> Result<V, Alarm>>(
+    item_at: &F,
+    index: Index,
+    turn: &mut Turn,
+) -> Result<V, Alarm>
+    requires { F.IsAlwaysCallable item_at.now }
+    ensures { (value : V → Value) (meaning : IndexValue → Result Value Fault) → AnswersTell value (F.post item_at.now) meaning
+        → Tells (MayAnswerRefused (F.post item_at.now)) value turn.new result (naming_value index (meaning index)) }
+{
+    match item_at(index, turn) {
+        Ok(item) => Ok(item),
+        Err(alarm) => {
+            *turn = Turn::of(index);
+            Err(alarm)
+        }
+    }
+}
+
+// The item of an index at a place, once its owner has entered.
 #[inline(always)]
 fn entered<V, F: Fn(Index, &mut Turn) -> Result<V, Alarm>, G: Gate>(
     item_at: &F,
@@ -54,13 +74,7 @@ fn entered<V, F: Fn(Index, &mut Turn) -> Result<V, Alarm>, G: Gate>(
     if !gate.enter(map.owner(index), place) {
         return Err(Alarm::refused());
     }
-    match item_at(index, turn) {
-        Ok(item) => Ok(item),
-        Err(alarm) => {
-            *turn = Turn::of(index);
-            Err(alarm)
-        }
-    }
+    named(item_at, index, turn)
 }
 
 /// The items of a domain's indices put together, in their order. For each index its owner enters the gate. An item is what `item_at`

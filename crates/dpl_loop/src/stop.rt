@@ -2,7 +2,7 @@
 // A fault is an outcome of the program; that memory ran out and that a gate refused are none.
 
 ghost use Rattle.std.specs.Prelude.{◌≡◌, Err};
-ghost use Rattle.dpl_frame.specs.Faults.{fault_view, turn_view};
+ghost use Rattle.dpl_frame.specs.Faults.{turn_view};
 ghost use Rattle.dpl_loop.specs.declared.stop.Stop.{Stop};
 ghost use Rattle.dpl_loop.specs.Tells.{IsFault, IsHalt, TellsSame, NamesTurn};
 
