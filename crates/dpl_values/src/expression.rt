@@ -1,7 +1,7 @@
 // The values of ints, truth values, ranges and domains.
 // Operands go from left to right, and a fault ends the walk, or a gate that refused an entry of a reduction.
 
-ghost use Rattle.std.specs.Prelude.{◌≡◌, None, Ok};
+ghost use Rattle.std.specs.Prelude.{None, Ok};
 ghost use Rattle.dpl_language.specs.Values.{Int, Truth as TruthValue, Domain as DomainValue, all_ranges, index_of};
 ghost use Rattle.dpl_language.specs.Ranges.{sized as sized_of, all_sliced};
 ghost use Rattle.dpl_language.specs.Outcome.{with_ok};

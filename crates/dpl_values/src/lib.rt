@@ -12,6 +12,7 @@ mod promoted;
 mod range;
 mod reduction;
 mod root;
+mod strip;
 mod values;
 
 pub use expression::coordinate_value;

@@ -1,7 +1,7 @@
 // Reductions: the values of a promoted expression at all indices of its domain, put together in their order by the loop of reductions.
 // The domain and the map are those of the first whole array in the expression.
 
-ghost use Rattle.std.specs.Prelude.{◌≡◌, ◌⊎◌, Some, Result};
+ghost use Rattle.std.specs.Prelude.{◌⊎◌, Some, Result};
 ghost use Rattle.dpl_language.specs.Values.{Value, Fault, Index as IndexValue, Int, Truth as TruthValue};
 ghost use Rattle.dpl_language.specs.Expressions.{value_of, whole_in, fold_over, reduction};
 ghost use Rattle.dpl_lowered.specs.LoweredExpressions.{EachTurn};
@@ -10,16 +10,17 @@ ghost use Rattle.dpl_nodes.specs.Typed.{promoted_int, promoted_truth, int_fold_v
 ghost use Rattle.dpl_frame.specs.Frames.{owned_by};
 ghost use Rattle.dpl_frame.specs.Faults.{Tells};
 ghost use Rattle.dpl_loop.specs.Entries.{MayRefuse};
-ghost use Rattle.dpl_loop.specs.Values.{AnswersTell, MayAnswerRefused};
+ghost use Rattle.dpl_loop.specs.Values.{AnswersTell, MayAnswerRefused, HoldsStrip, StripsTell};
 ghost use Rattle.dpl_values.specs.Reducing.{first_of_ints, first_of_truths};
 ghost use Rattle.dpl_values.specs.Reductions.{MayRefuseReduction, OfSlot, EachInInts, EachInTruths};
 
 use crate::budget::within_turns;
 use crate::fold::{combined_ints, combined_truths, int_over_none, truth_over_none};
 use crate::promoted::{int_array, operand, promoted_truth_value, truth_array};
+use crate::strip::strip;
 use dpl_domain::Index;
 use dpl_frame::{Alarm, Arrays, Frame, Truth, Turn};
-use dpl_loop::{Gate, Operator, reduce};
+use dpl_loop::{Gate, Operator, Strip, reduce, reduce_ints};
 use dpl_nodes::{IntFold, PromotedInt, PromotedTruth, Spot, TruthFold};
 
 // An operator on ints.
@@ -95,6 +96,39 @@ fn folded<A: Arrays, O: Operator, F: Fn(Index, &mut Turn) -> Result<O::Item, Ala
     )
 }
 
+// The same of ints, several of which may be evaluated at once.
+#[inline(always)]
+fn folded_ints<
+    A: Arrays,
+    F: Fn(Index, &mut Turn) -> Result<i64, Alarm>,
+    S: Fn(Index) -> Strip,
+    G: Gate,
+>(
+    operator: &Ints,
+    slot: usize,
+    frame: &Frame<'_, A>,
+    item_at: F,
+    strip_at: S,
+    gate: &G,
+    turn: &mut Turn,
+) -> Result<i64, Alarm>
+    requires items { F.IsAlwaysCallable item_at }
+    requires strips { S.IsAlwaysCallable strip_at }
+    ensures { (meaning : IndexValue → Result Value Fault) → AnswersTell Int (F.post item_at) meaning → StripsTell Int (S.post strip_at) meaning
+        → Tells (MayRefuse (G.may_refuse gate.now) (owned_by frame.now slot) (array_at slot frame.now.memory).ranges ⊎ MayAnswerRefused (F.post item_at)) Int turn.new result (fold_over (int_fold_view operator.now.fold) meaning (array_at slot frame.now.memory).ranges) }
+{
+    let domain = frame.array_domain(slot);
+    reduce_ints(
+        operator,
+        domain,
+        &frame.owner(slot),
+        item_at,
+        strip_at,
+        gate,
+        turn,
+    )
+}
+
 /// The ints of a promoted int put together. Without a whole array in it, which no checked program reduces, there are none.
 ///
 /// # Errors
@@ -121,7 +155,10 @@ pub(crate) fn reduced_int<A: Arrays, G: Gate>(
     let item_at = |index: Index, turn: &mut Turn| -> Result<i64, Alarm>
         ensures { Tells (MayRefuseReduction (G.may_refuse gate.entry.now) frame.entry.now (EachInInts e.entry.now)) Int turn.new result (value_of frame.entry.now.limits in_memory (promoted_int EachTurn e.entry.now) (Some index) frame.entry.now.memory) }
     { operand(e, &index, frame, gate, turn) };
-    folded(&Ints { fold }, slot, frame, item_at, gate, turn)
+    let strip_at = |index: Index| -> Strip
+        ensures { HoldsStrip Int (λ i. value_of frame.entry.now.limits in_memory (promoted_int EachTurn e.entry.now) (Some i) frame.entry.now.memory) result }
+    { strip(e, index, frame) };
+    folded_ints(&Ints { fold }, slot, frame, item_at, strip_at, gate, turn)
 }
 
 /// The truth values of a promoted truth value put together.

@@ -213,7 +213,7 @@ reduction::reduced_int-returns g t c =
     let w = c.args.frame.now.memory in
     let op = int_fold_view c.args.fold in
     let value = λ (i : Index). value_of limits in_memory (promoted_int EachTurn c.args.e.now) (Some i) w in
-    tells-as _ Int c.folded.new.turn _ c.folded.result _ _
+    tells-as _ Int c.folded_ints.new.turn _ c.folded_ints.result _ _
     (⊎_elim
     (λ own. ((owner (owned_by c.args.frame.now c.in-Some.slot) own.1, own.0, own.3), λ all. subst (λ slot. OfSlot slot (λ slot. MayRefuse (g.G.Gate.may_refuse c.args.gate.now) (owned_by c.args.frame.now slot) (array_at slot w).ranges → ⊥)) (sym c.int_array.ensures ∙ c.in-Some.is) all.0 own))
     (λ said. wider (EachInInts c.args.e.now) (λ Holds. OfSlot (first_of_ints c.args.e.now) Holds × EachInInts c.args.e.now Holds) (λ Holds all. all.1) said.3.1))
@@ -221,4 +221,4 @@ reduction::reduced_int-returns g t c =
     ∙ reduction-within limits c.args.at.now op value c.array_domain-domain.result
     ∙ ap (λ r. with_ok r (λ v. fold_over op value c.array_domain-domain.result)) c.in_ok-within_turns.ensures
     ∙ ap (fold_over op value) c.array_domain-domain.ensures)
-    (c.folded.ensures value (λ i before after r post. tells-as _ Int after.now (Unit {0}) r _ _ (λ m. tt) refl post.1))
+    (c.folded_ints.ensures value (λ i before after r post. tells-as _ Int after.now (Unit {0}) r _ _ (λ m. tt) refl post.1) (λ i strip post. post.1))
