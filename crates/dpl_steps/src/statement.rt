@@ -1,7 +1,7 @@
 // Statements one after another, branches and loops.
 // A loop's size is tested once against the budget, and then its turns are made one by one.
 
-ghost use Rattle.std.specs.Prelude.{◌≡◌, ◌<◌, ℕ, ℤ, Some, length, slice_get};
+ghost use Rattle.std.specs.Prelude.{◌≡◌, ◌<◌, ℤ, Some, length, slice_get};
 ghost use Rattle.dpl_range.specs.Range.{members_of};
 ghost use Rattle.dpl_language.specs.Outcome.{Deeds, repeated};
 ghost use Rattle.dpl_language.specs.Statements.{exec, exec_all, exec_else, holds};
