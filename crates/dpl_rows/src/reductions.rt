@@ -239,3 +239,131 @@ pub(crate) const SETS: [(&str, &str, &str); 5] = [
         "! C14\n",
     ),
 ];
+
+// Ints that are evaluated several at once: lengths around those of strips, in each rank, by strides, and what ends a strip or has none.
+pub(crate) const STRIPS: [(&str, &str); 31] = [
+    (
+        "var A: [1..1] int; forall i in 1..1 do A[i] = i * i - 9 * i; writeln(+ reduce A, ' ', + reduce (A * 2 - 3), ' ', max reduce (7 - A), ' ', min reduce (A * A - A), ' ', ^ reduce (-A));",
+        "-8 -19 15 72 8\n",
+    ),
+    (
+        "var A: [1..2] int; forall i in 1..2 do A[i] = i * i - 9 * i; writeln(+ reduce A, ' ', + reduce (A * 2 - 3), ' ', max reduce (7 - A), ' ', min reduce (A * A - A), ' ', ^ reduce (-A));",
+        "-22 -50 21 72 6\n",
+    ),
+    (
+        "var A: [1..15] int; forall i in 1..15 do A[i] = i * i - 9 * i; writeln(+ reduce A, ' ', + reduce (A * 2 - 3), ' ', max reduce (7 - A), ' ', min reduce (A * A - A), ' ', ^ reduce (-A));",
+        "160 275 27 0 16\n",
+    ),
+    (
+        "var A: [1..16] int; forall i in 1..16 do A[i] = i * i - 9 * i; writeln(+ reduce A, ' ', + reduce (A * 2 - 3), ' ', max reduce (7 - A), ' ', min reduce (A * A - A), ' ', ^ reduce (-A));",
+        "272 496 27 0 -128\n",
+    ),
+    (
+        "var A: [1..63] int; forall i in 1..63 do A[i] = i * i - 9 * i; writeln(+ reduce A, ' ', + reduce (A * 2 - 3), ' ', max reduce (7 - A), ' ', min reduce (A * A - A), ' ', ^ reduce (-A));",
+        "67200 134211 27 0 64\n",
+    ),
+    (
+        "var A: [1..64] int; forall i in 1..64 do A[i] = i * i - 9 * i; writeln(+ reduce A, ' ', + reduce (A * 2 - 3), ' ', max reduce (7 - A), ' ', min reduce (A * A - A), ' ', ^ reduce (-A));",
+        "70720 141248 27 0 -3584\n",
+    ),
+    (
+        "var A: [1..65] int; forall i in 1..65 do A[i] = i * i - 9 * i; writeln(+ reduce A, ' ', + reduce (A * 2 - 3), ' ', max reduce (7 - A), ' ', min reduce (A * A - A), ' ', ^ reduce (-A));",
+        "74360 148525 27 0 968\n",
+    ),
+    (
+        "var A: [1..127] int; forall i in 1..127 do A[i] = i * i - 9 * i; writeln(+ reduce A, ' ', + reduce (A * 2 - 3), ' ', max reduce (7 - A), ' ', min reduce (A * A - A), ' ', ^ reduce (-A));",
+        "617728 1235075 27 0 5248\n",
+    ),
+    (
+        "var A: [1..128] int; forall i in 1..128 do A[i] = i * i - 9 * i; writeln(+ reduce A, ' ', + reduce (A * 2 - 3), ' ', max reduce (7 - A), ' ', min reduce (A * A - A), ' ', ^ reduce (-A));",
+        "632960 1265536 27 0 -12288\n",
+    ),
+    (
+        "var A: [1..129] int; forall i in 1..129 do A[i] = i * i - 9 * i; writeln(+ reduce A, ' ', + reduce (A * 2 - 3), ' ', max reduce (7 - A), ' ', min reduce (A * A - A), ' ', ^ reduce (-A));",
+        "648440 1296493 27 0 5000\n",
+    ),
+    (
+        "var A: [1..300] int; forall i in 1..300 do A[i] = i * i - 9 * i; writeln(+ reduce A, ' ', + reduce (A * 2 - 3), ' ', max reduce (7 - A), ' ', min reduce (A * A - A), ' ', ^ reduce (-A));",
+        "8638700 17276500 27 0 -63936\n",
+    ),
+    (
+        "var A: [1..40, 0..0] int; forall (i, j) in A.domain do A[i, j] = 100 * i + j; writeln(+ reduce A, ' ', + reduce (A * A - 1), ' ', max reduce (-A));",
+        "82000 221399960 -100\n",
+    ),
+    (
+        "var A: [1..9, 0..4] int; forall (i, j) in A.domain do A[i, j] = 100 * i + j; writeln(+ reduce A, ' ', + reduce (A * A - 1), ' ', max reduce (-A));",
+        "22590 14340225 -100\n",
+    ),
+    (
+        "var A: [1..3, 0..63] int; forall (i, j) in A.domain do A[i, j] = 100 * i + j; writeln(+ reduce A, ' ', + reduce (A * A - 1), ' ', max reduce (-A));",
+        "44448 11635040 -100\n",
+    ),
+    (
+        "var A: [1..3, 0..64] int; forall (i, j) in A.domain do A[i, j] = 100 * i + j; writeln(+ reduce A, ' ', + reduce (A * A - 1), ' ', max reduce (-A));",
+        "45240 11864125 -100\n",
+    ),
+    (
+        "var A: [1..2, 0..129] int; forall (i, j) in A.domain do A[i, j] = 100 * i + j; writeln(+ reduce A, ' ', + reduce (A * A - 1), ' ', max reduce (-A));",
+        "55770 12978550 -100\n",
+    ),
+    (
+        "var A: [1..1, 0..69] int; forall (i, j) in A.domain do A[i, j] = 100 * i + j; writeln(+ reduce A, ' ', + reduce (A * A - 1), ' ', max reduce (-A));",
+        "9415 1294825 -100\n",
+    ),
+    (
+        "var A: [1..2, 1..2, 1..70] int; forall (i, j, k) in A.domain do A[i, j, k] = 10000 * i + 100 * j + k; writeln(+ reduce A, ' ', max reduce (A * 3 + 1));",
+        "4251940 60811\n",
+    ),
+    (
+        "var A: [1..399 by 3] int; forall i in A.domain do A[i] = i; writeln(+ reduce A, ' ', + reduce (A + A * 2));",
+        "26467 79401\n",
+    ),
+    (
+        "var A: [1..399 by -3] int; forall i in A.domain do A[i] = i; writeln(+ reduce (A - 1));",
+        "26600\n",
+    ),
+    (
+        "var A: [-70..70] int; forall i in A.domain do A[i] = 7 * i; writeln(+ reduce A, ' ', min reduce (A + 1), ' ', & reduce A);",
+        "0 -489 0\n",
+    ),
+    (
+        "var D = {1..100}; var A: [D] int; var B: [D] int; forall i in D do A[i] = i; forall i in D do B[i] = 3 * i; writeln(+ reduce (A + B), ' ', + reduce (A * B), ' ', max reduce (A - B)); D = {0..130}; B[130] = 7; writeln(+ reduce (A - B), ' ', max reduce B);",
+        "20200 1015050 -2\n-10107 300\n",
+    ),
+    (
+        "var A: [1..100] int; forall i in 1..100 do A[i] = i; writeln(+ reduce (A / 3 + A), ' ', + reduce (A % 7), ' ', + reduce (-(50 - A) / 4), ' ', max reduce (A * 2 % 9));",
+        "6700 297 12 8\n",
+    ),
+    (
+        "var n = 5; var A: [1..100] int; forall i in 1..100 do A[i] = i; writeln(+ reduce (A * n), ' ', + reduce (A - (n + 1)), ' ', + reduce (A + A[7]), ' ', + reduce (n - A * (1..9).size)); n = -2; writeln(+ reduce (n * A));",
+        "25250 4450 5750 -44950\n-10100\n",
+    ),
+    (
+        "var A: [1..70] int = 9223372036854775807; writeln(+ reduce A, ' ', + reduce (A + A), ' ', + reduce (-A - 2), ' ', * reduce (A * 2), ' ', min reduce (A * A));",
+        "-70 -140 -70 0 1\n",
+    ),
+    (
+        "var A: [1..100] int; var s = 0; for k in 1..3 { A[k * 30] = k; s += + reduce (A * 2); } writeln(s);",
+        "20\n",
+    ),
+    (
+        "var A: [1..80] int; forall i in 1..80 do A[i] = i; var B: [1..3] int; forall i in 1..3 do B[i] = i; var s: int; forall i in 1..3 with (+ reduce s) do s += B[i]; writeln(s * (+ reduce A));",
+        "19440\n",
+    ),
+    (
+        "var A: [1..100] int = 1; A[70] = 0; writeln(+ reduce (9 / A));",
+        "! F2 at 1:57 in turn 70\n",
+    ),
+    (
+        "const D = {0..3, 0..99}; var A: [D] int = 2; var B: [D] int = 1; B[2, 68] = 0; writeln(+ reduce (A + A % B));",
+        "! F2 at 1:104 in turn 2,68\n",
+    ),
+    (
+        "var A: [1..90] int; writeln(+ reduce (A * 2 + A[91]));",
+        "! F1 at 1:47 in turn 1\n",
+    ),
+    (
+        "var A: [1..90] int; var B: [1..90, 1..2] int; writeln(+ reduce (A + B[90, 2]));",
+        "0\n",
+    ),
+];

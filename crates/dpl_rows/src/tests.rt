@@ -15,7 +15,7 @@ use dpl_run::{
 use std::test::Fail;
 
 // Run on one locale, and by every setting.
-const ANYWHERE: [&[Row]; 23] = [
+const ANYWHERE: [&[Row]; 24] = [
     &scalars::PRINTING,
     &scalars::OPERATORS,
     &scalars::CHOICES,
@@ -38,6 +38,7 @@ const ANYWHERE: [&[Row]; 23] = [
     &reductions::OPERATORS,
     &reductions::OPERANDS,
     &reductions::FORMS,
+    &reductions::STRIPS,
     &reduction_faults::FAULTS,
 ];
 
