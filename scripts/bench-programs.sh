@@ -1,7 +1,9 @@
 #!/bin/sh
-# Times dpl on a forall of ten million turns, on Collatz sequences up to a number, on a sieve, a stencil and two sums over arrays (benches/programs),
-# on 50,000 statements and on a mebibyte of spaces, each beside lua5.4, python3 and C doing the same, all in one run.
-# usage: scripts/bench-programs.sh [ROUNDS [LAST]]. Needs rt, lua5.4, python3 and cc; LAST, 1000000 without it, is where Collatz ends.
+# Times dpl on a forall of ten million turns, on Collatz sequences up to a number, on the programs of benches/programs (a sieve, stencils over a
+# line and a plane, sums over arrays, an assignment to a whole array, and the print of one), on 50,000 statements and on a mebibyte of spaces, each beside lua5.4,
+# python3, numpy and C doing the same where they have it, all in one run. At the end stands how much memory the stencil over a plane takes.
+# usage: scripts/bench-programs.sh [ROUNDS [LAST]]. Needs rt, lua5.4, python3 and cc, and numpy for /usr/bin/python3 (its column is 0 without it);
+# LAST, 1000000 without it, is where Collatz ends.
 set -eu
 
 rounds=${1:-5}
@@ -73,7 +75,7 @@ head -c 1048576 /dev/zero | tr '\0' ' ' > "$work/spaces.chpl"
 "$top/dpl" < /dev/null
 dpl=$top/crates/dpl/out/dpl
 cp "$top"/benches/programs/* "$work"
-for program in turns collatz sieve plate sums promoted; do cc -O2 -o "$work/$program" "$work/$program.c"; done
+for program in turns collatz sieve line plane plate sums promoted assigned printed; do cc -O2 -o "$work/$program" "$work/$program.c"; done
 
 # The seconds that a command takes on a file of the benchmark.
 seconds() {
@@ -84,36 +86,37 @@ seconds() {
     echo "$begun $(date +%s%N)" | awk '{ printf "%.3f", ($2 - $1) / 1000000000 }'
 }
 
-# Times of dpl, lua5.4 and python3 on the same program, and of C where there is one.
+# A line of times on the same program: its name, and those of dpl, lua5.4, python3, numpy and C, 0 where there is none.
 beside() {
-    printf '%s %s %s ' "$(seconds "$1.chpl" "$dpl" --budget 4294967296)" "$(seconds "$1.lua" lua5.4 -)" "$(seconds "$1.py" python3 -)"
-    if [ -x "$work/$1" ]; then seconds "$1.chpl" "$work/$1"; else printf 0; fi
+    printf '%s %s %s %s ' "$1" "$(seconds "$1.chpl" "$dpl" --budget 4294967296)" "$(seconds "$1.lua" lua5.4 -)" "$(seconds "$1.py" python3 -)"
+    if [ -f "$work/$1.np.py" ] && /usr/bin/python3 -c 'import numpy' 2> /dev/null; then seconds "$1.np.py" /usr/bin/python3 -; else printf 0; fi
     printf ' '
+    if [ -x "$work/$1" ]; then seconds "$1.chpl" "$work/$1"; else printf 0; fi
+    echo
 }
 
 for _ in $(seq "$rounds"); do
-    beside turns
-    beside collatz
-    beside sieve
-    beside plate
-    beside sums
-    beside promoted
-    beside statements
-    seconds spaces.chpl "$dpl"
-    echo
+    for program in turns collatz sieve line plane plate sums promoted assigned printed statements; do beside "$program"; done
+    echo "spaces $(seconds spaces.chpl "$dpl") 0 0 0 0"
 done | awk '
-    { for (i = 1; i <= 29; i++) if (NR == 1 || $i < best[i]) best[i] = $i }
-    function row(name, k) {
-        printf "%-24s %8.3f %8.3f %8.3f %8.3f %9.2f %9.2f\n", name, best[k], best[k + 1], best[k + 2], best[k + 3], best[k] / best[k + 1], best[k] / best[k + 2]
-    }
+    !($1 in order) { order[$1] = ++rows; name[rows] = $1; for (k = 2; k <= 6; k++) best[$1, k] = $k }
+    { for (k = 2; k <= 6; k++) if ($k < best[$1, k]) best[$1, k] = $k }
+    function ratio(a, b) { return b > 0 ? sprintf("%.2f", a / b) : "" }
     END {
-        printf "%-24s %8s %8s %8s %8s %9s %9s\n", "seconds, best of " NR, "dpl", "lua5.4", "python3", "C", "/ lua5.4", "/ python3"
-        row("10,000,000 turns", 1)
-        row("Collatz", 5)
-        row("sieve to 2,000,000", 9)
-        row("plate of 300 by 300", 13)
-        row("+ reduce A", 17)
-        row("+ reduce (A * 2 + 1)", 21)
-        row("50,000 statements", 25)
-        printf "%-24s %8.3f\n", "1 MiB of spaces", best[29]
+        printf "%-12s %8s %8s %8s %8s %8s %9s %9s\n", "seconds", "dpl", "lua5.4", "python3", "numpy", "C", "/ lua5.4", "/ numpy"
+        for (r = 1; r <= rows; r++) {
+            p = name[r]
+            printf "%-12s %8.3f %8.3f %8.3f %8.3f %8.3f %9s %9s\n", p, best[p, 2], best[p, 3], best[p, 4], best[p, 5], best[p, 6], ratio(best[p, 2], best[p, 3]), ratio(best[p, 2], best[p, 5])
+        }
     }'
+
+# The most memory that the stencil over a plane had, and that its two arrays of 1002 by 1002 ints take.
+"$dpl" --budget 4294967296 "$work/plane.chpl" > /dev/null &
+wait_for=$!
+most=0
+while [ -r "/proc/$wait_for/status" ]; do
+    now=$(awk '/^VmHWM/ { print $2 }' "/proc/$wait_for/status" 2> /dev/null || true)
+    [ "${now:-0}" -gt "$most" ] && most=$now
+    sleep 0.01
+done
+echo "plane: $most KiB, of which its arrays take $((2 * 1002 * 1002 * 8 / 1024))"

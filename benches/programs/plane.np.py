@@ -1,0 +1,10 @@
+# A stencil of four points over a plane of 1000 by 1000 ints, ten times, by numpy.
+import numpy
+n = 1000
+a = numpy.zeros((n + 2, n + 2), dtype=numpy.int64)
+a[1:n + 1, 1:n + 1] = numpy.arange(1, n + 1)[:, None] + numpy.arange(1, n + 1)[None, :]
+b = numpy.zeros((n + 2, n + 2), dtype=numpy.int64)
+for step in range(1, 11):
+    a[step, step] = -step
+    b[1:n + 1, 1:n + 1] = a[0:n, 1:n + 1] + a[2:n + 2, 1:n + 1] + a[1:n + 1, 0:n] + a[1:n + 1, 2:n + 2]
+print(b[1, 1], b[n, n], b[5, 6])
