@@ -11,4 +11,5 @@ mod Worked
 pub mod WalkLemmas
 pub mod WindowLemmas
 pub mod RunLemmas
+pub mod PutLemmas
 pub mod ReaderLemmas

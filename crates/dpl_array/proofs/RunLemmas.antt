@@ -5,7 +5,7 @@ use Rattle.std.proofs.lemmas.Option.{none-some}
 use Rattle.dpl_range.specs.Range.{RangeValue}
 use Rattle.dpl_map.specs.Maps.{AxisValue}
 use Rattle.dpl_map.specs.Parts.{part}
-use Rattle.dpl_array.specs.Elements.{behind, tabulated, value_at, IsRunOf}
+use Rattle.dpl_array.specs.Elements.{behind, tabulated, IsRunOf}
 use Rattle.dpl_array.specs.PieceFields.{kept_at, IsKept}
 use Rattle.dpl_array.specs.Rows.{row_of}
 use Rattle.dpl_array.specs.Windows.{IsPlaceOn, StandsOnLine, StandsOnPlane}

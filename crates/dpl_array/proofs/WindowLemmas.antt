@@ -16,7 +16,7 @@ use Rattle.dpl_array.specs.Elements.{value_at, tabulated}
 use Rattle.dpl_array.specs.PieceFields.{kept_at, IsKept}
 use Rattle.dpl_array.specs.Rows.{row_of}
 use Rattle.dpl_array.specs.Windows.{IsLineOf, IsPlaneOf, IsSpanOf, StandsOnLine, StandsOnPlane}
-use Rattle.dpl_array.proofs.PieceLemmas.{Places, piece-there, place-within, places-alone}
+use Rattle.dpl_array.proofs.PieceLemmas.{piece-there, place-within, places-alone}
 
 -- the member at a place of a range of stride 1
 pub unit-member : (r : RangeValue) → IsRange r → r.stride ≡ pos 1 → (low : ℤ) → low ≡ r.low → (k : ℕ) → k < length (members_of r) → slice_get (members_of r) k ≡ Some (low +ℤ pos k)

@@ -1,6 +1,6 @@
 -- Elements: a finite map from indices to values.
 -- It is a list of pairs, so that it can be read in order, with a search by index.
-use Rattle.std.specs.Prelude.{◌≡◌, ℕ, ℤ, pos, ◌+ℤ◌, List, [], ◌∷◌, Bool, true, false, ◌&&◌, ◌==◌, Option, Some, None, map, filter, slice_get, if◌then◌else◌}
+use Rattle.std.specs.Prelude.{◌≡◌, ℕ, zero, suc, ℤ, pos, ◌+ℤ◌, List, [], ◌∷◌, Bool, true, false, ◌&&◌, ◌==◌, Option, Some, None, map, filter, slice_get, if◌then◌else◌}
 use Rattle.std.specs.Ordering.{int_eq}
 use Rattle.dpl_map.specs.Maps.{AxisValue, owner}
 
@@ -60,3 +60,14 @@ pub record IsOver {T : Type 0} (ts : List (List ℤ)) (es : Elements T) : Type 0
 -- the values of a row stand at an index and at those behind it in the last dimension
 abbrev pub IsRunOf : {T : Type 0} → Elements T → List ℤ → List T → Type 0
 IsRunOf {T = T} es t values = (k : ℕ) (v : T) → slice_get values k ≡ Some v → value_at (behind k t) es ≡ Some v
+
+-- what putting a value, where there is one, makes of something
+abbrev pub put_some : {M T : Type 0} → (List ℤ → T → M → M) → List ℤ → Option T → M → M
+put_some put t None m = m
+put_some put t (Some v) m = put t v m
+
+-- The first values of a list, so many of them, put one after another: each at the index that lies so far behind another in the last
+-- dimension.
+abbrev pub put_in_row : {M T : Type 0} → (List ℤ → T → M → M) → List ℤ → List T → ℕ → M → M
+put_in_row put t vs zero m = m
+put_in_row put t vs (suc k) m = put_some put (behind k t) (slice_get vs k) (put_in_row put t vs k m)

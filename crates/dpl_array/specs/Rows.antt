@@ -1,6 +1,6 @@
 -- A part's indices in one row: those of its first domain, then those of its second, and so on.
 -- Contracts of private functions and the invariant of a piece speak of this row.
-use Rattle.std.specs.Prelude.{◌≡◌, ◌≢◌, ◌<◌, ℕ, ℤ, List, [], All, length, slice_get, slice_index_or, Some, take}
+use Rattle.std.specs.Prelude.{◌≡◌, ◌≢◌, ◌<◌, ◌+◌, ℕ, zero, suc, ℤ, List, [], All, length, slice_get, slice_set, slice_index_or, Option, Some, None, take}
 use Rattle.std.specs.List.{flat_map, sum_by}
 use Rattle.dpl_range.specs.Range.{RangeValue}
 use Rattle.dpl_domain.specs.Indices.{indices}
@@ -21,6 +21,16 @@ start_of domains k = sum_by (λ d. length (indices d)) (take k domains)
 pub record AreStarts (domains : List (List RangeValue)) (starts : List ℕ) : Type 0 where
   pub long : length starts ≡ length domains
   pub each : (k : ℕ) → k < length domains → slice_index_or starts k 0 ≡ start_of domains k
+
+-- a list with another element at a place, where there is one for it
+abbrev pub set_some : {X : Type 0} → ℕ → Option X → List X → List X
+set_some place None xs = xs
+set_some place (Some x) xs = slice_set xs place x
+
+-- a list with the first elements of another one, so many of them, side by side from a place on
+abbrev pub set_side_by_side : {X : Type 0} → ℕ → List X → ℕ → List X → List X
+set_side_by_side place ys zero xs = xs
+set_side_by_side place ys (suc k) xs = set_some (place + k) (slice_get ys k) (set_side_by_side place ys k xs)
 
 -- no element stands at two places
 abbrev pub IsDistinct : {X : Type 0} → List X → Type 0

@@ -1,10 +1,10 @@
 // Arrays, as finite maps from indices to values.
 // An array is its pieces, which are all there; taking it apart and putting it together move them and no more.
 
-ghost use Rattle.std.specs.Prelude.{◌≡◌, ◌≤◌, ◌^◌, ◌↔◌, ◌<◌, false, is_some, IsSome, IfOk, IfSome};
+ghost use Rattle.std.specs.Prelude.{◌≡◌, ◌≤◌, ◌^◌, ◌↔◌, ◌<◌, ℕ, true, false, is_some, length, IsSome, IfOk, IfSome};
 ghost use Rattle.dpl_domain.specs.Indices.{indices};
 ghost use Rattle.dpl_map.specs.Maps.{locales};
-ghost use Rattle.dpl_array.specs.Elements.{value_at, IsRunOf};
+ghost use Rattle.dpl_array.specs.Elements.{value_at, behind, put_in_row, IsRunOf};
 ghost use Rattle.dpl_array.specs.Arrays.{IsArray, IsSmallArray, IsWhole, array_with, filled_array, pieces_of, restriction, union};
 
 use crate::coordinates::Coordinates;
@@ -148,6 +148,18 @@ impl<T: Copy> DArray<T> {
         ensures unchanged { result ≡ false → self.new ≡ self.old }
     {
         self.set_at(&index, value)
+    }
+
+    /// Puts the first of some values at an index and at those behind it in its last dimension, as many as stand side by side in a piece,
+    /// and answers how many were put: of rank 1 and 2 at most those up to the end of the piece's part or of its row, where the part is one
+    /// domain of stride 1. Of another part or index there may be none, though the array has the index.
+    #[inline(always)]
+    pub fn set_run(&mut self, index: Index, values: &[T]) -> usize
+        ensures most { result ≤ length values.now }
+        ensures there { (k : ℕ) → k < result → is_some (value_at (behind k index) self.old.elements) ≡ true }
+        ensures changes { self.new ≡ put_in_row array_with index values.now result self.old }
+    {
+        self.pieces.set_run(index, values)
     }
 
     /// The piece of a locale, if the map has the locale.

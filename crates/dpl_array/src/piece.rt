@@ -1,11 +1,12 @@
 // A piece of an array: the elements that one locale owns, in one dense vector.
 // An element is found by the search of the map in the domains of the part; a value at each place of their row.
 
-ghost use Rattle.std.specs.Prelude.{◌≡◌, ◌≤◌, ◌^◌, Some, true, false, is_some, IfOk, IfSome, length, replicate, slice_get};
+ghost use Rattle.std.specs.Prelude.{◌≡◌, ◌≤◌, ◌<◌, ◌+◌, ◌^◌, ℕ, Some, true, false, is_some, IfOk, IfSome, length, replicate, slice_get};
 ghost use Rattle.dpl_domain.specs.Indices.{indices};
 ghost use Rattle.dpl_map.specs.Parts.{part};
-ghost use Rattle.dpl_array.specs.Elements.{value_at, filled, keys_of, IsRunOf};
+ghost use Rattle.dpl_array.specs.Elements.{value_at, behind, filled, keys_of, put_in_row, IsRunOf};
 ghost use Rattle.dpl_array.specs.Arrays.{IsPiece, piece_with};
+ghost use Rattle.dpl_array.specs.Rows.{set_side_by_side};
 
 use crate::coordinates::Coordinates;
 use crate::place::{each_once, place_in, starts_of};
@@ -152,6 +153,20 @@ impl<T: Copy> Piece<T> {
         }
     }
 
+    // Puts the first of some values at an index and at those behind it in its last dimension, as far as they stand side by side and
+    // plain numbers tell it. How many were put; none is always right.
+    #[inline(always)]
+    pub(crate) fn set_run(&mut self, index: Index, values: &[T]) -> usize
+        ensures most { result ≤ length values.now }
+        ensures there { (k : ℕ) → k < result → is_some (value_at (behind k index) self.old.elements) ≡ true }
+        ensures changes { self.new ≡ put_in_row piece_with index values.now result self.old }
+    {
+        let (place, size) = self.spans.run(index);
+        let size = size.min(values.len());
+        set_side_by_side(&mut self.values, place, values, size);
+        size
+    }
+
     /// Puts a value at an index, if the piece has it. False if it hasn't, and then nothing is changed.
     pub fn set(&mut self, index: Index, value: T) -> bool
         ensures there { result ≡ is_some (value_at index self.old.elements) }
@@ -177,6 +192,18 @@ impl<T: Copy> Piece<T> {
             return self.get(index);
         }
         Some(self.values[place])
+    }
+}
+
+// Writes the first of some values, so many of them, side by side into a row from a place on.
+#[inline(always)]
+fn set_side_by_side<T: Copy>(row: &mut [T], place: usize, values: &[T], size: usize)
+    requires within { (k : ℕ) → k < size → place + k < length row.old }
+    requires most { size ≤ length values.now }
+    ensures { row.new ≡ set_side_by_side place values.now size row.old }
+{
+    for k in 0..size {
+        row[place + k] = values[k];
     }
 }
 

@@ -5,7 +5,7 @@ ghost use Rattle.std.specs.Prelude.{◌≡◌, ◌≤◌, ◌<◌, ◌^◌, ◌�
 ghost use Rattle.dpl_domain.specs.Equality.{SameDomain};
 ghost use Rattle.dpl_map.specs.Maps.{owner, locales};
 ghost use Rattle.dpl_array.specs.Same.{texts_of};
-ghost use Rattle.dpl_array.specs.Elements.{behind};
+ghost use Rattle.dpl_array.specs.Elements.{behind, put_in_row};
 ghost use Rattle.dpl_array.specs.Arrays.{ArePieces, IsWhole, IsSmallArray, filled_array, held_at, piece_in, pieces_of, with_slot, written_at};
 
 use crate::Piece;
@@ -225,6 +225,24 @@ impl<T: Copy> Pieces<T> {
             return false;
         };
         piece.quick_set(at, value)
+    }
+
+    // Puts the first of some values, at an index and at those behind it, into the piece that stands where the owner's seems to stand, as
+    // far as their places there are found without a search.
+    #[inline(always)]
+    pub(crate) fn set_run(&mut self, index: Index, values: &[T]) -> usize
+        ensures most { result ≤ length values.now }
+        ensures there { (k : ℕ) → k < result → is_some (held_at self.old (behind k index)) ≡ true }
+        ensures changes { self.new ≡ put_in_row written_at index values.now result self.old }
+    {
+        let seat = self.seats.guess(index);
+        if seat >= self.held.len() {
+            return 0;
+        }
+        let Some(piece) = &mut self.held[seat] else {
+            return 0;
+        };
+        piece.set_run(index, values)
     }
 
     // Puts a value at an index into the piece of the owner, if it has the index.

@@ -20,7 +20,7 @@ fn at(rt: &impl Abort, i: i64) -> Index {
     index
 }
 
-// An array in which each index of rank 1 holds its own square.
+// An array in which each index holds the square of its last coordinate.
 fn squares(rt: &impl Abort, alloc: Global, domain: Domain, map: Map) -> Result<DArray<i64>, Fail> {
     let mut array = DArray::new(alloc, domain, map, 0)?;
     let mut indices = domain.cursor();
@@ -238,6 +238,68 @@ fn runs_of_a_plane(rt: HostRuntime) -> Result<(), Fail> {
             panic!(&rt; "two coordinates make an index")
         };
         assert_eq!(&rt; run_at(&rt, &array, index), length);
+    }
+    Ok(())
+}
+
+// How many of some values were put side by side from an index on. They stand there then, and beside them still the squares.
+fn put_at(rt: &impl Abort, array: &mut DArray<i64>, index: Index, values: &[i64]) -> usize {
+    let put = array.set_run(index, values);
+    let (_, row, first) = index.numbers();
+    let mut indices = array.domain().cursor();
+    for _ in 0..array.domain().size() {
+        let Some(there) = indices.next() else {
+            panic!(rt; "there are as many indices as the domain has")
+        };
+        let (_, i, j) = there.numbers();
+        let behind = j.wrapping_sub(first).cast_unsigned() as usize;
+        let value = if i == row && behind < put {
+            values.get(behind).copied()
+        } else {
+            Some(j.wrapping_mul(j))
+        };
+        assert_eq!(rt; array.get(there), value);
+    }
+    put
+}
+
+// On a line they are put up to the end of the part, where that has the stride 1, and else none is.
+#[test]
+fn rows_put_on_a_line(rt: HostRuntime) -> Result<(), Fail> {
+    let domain = line(1, 40, 1)?;
+    let maps = maps(&rt, &domain, 4)?;
+    let many = [-1, -2, -3, -4, -5, -6, -7, -8];
+    for (map, there) in [(maps[0], 4), (maps[1], 4), (maps[2], 0), (maps[3], 0)] {
+        for values in [&many[..0], &many[..1], &many[..3], &many[..8]] {
+            let mut array = squares(&rt, rt.alloc(), domain, map)?;
+            let put = put_at(&rt, &mut array, at(&rt, 37), values);
+            assert_eq!(&rt; put, values.len().min(there));
+            assert_eq!(&rt; array.set_run(at(&rt, 41), values), 0);
+            assert_eq!(&rt; array.set_run(at(&rt, 0), values), 0);
+        }
+    }
+    Ok(())
+}
+
+// On a plane they are put up to the end of the row.
+#[test]
+fn rows_put_on_a_plane(rt: HostRuntime) -> Result<(), Fail> {
+    let plane = Domain::new(&[Range::new(1, 3, 1)?, Range::new(1, 8, 1)?])?;
+    let grid = Grid::new(&[1, 2])?;
+    let (Some(start), Some(index)) = (Index::new(&[1, 1]), Index::new(&[2, 6])) else {
+        panic!(&rt; "two coordinates make an index")
+    };
+    let many = [-1, -2, -3, -4, -5];
+    for (map, there) in [
+        (Map::whole(), 3),
+        (Map::block(&plane, grid)?, 3),
+        (Map::cyclic(start, grid)?, 0),
+    ] {
+        for values in [&many[..0], &many[..1], &many[..2], &many[..5]] {
+            let mut array = squares(&rt, rt.alloc(), plane, map)?;
+            let put = put_at(&rt, &mut array, index, values);
+            assert_eq!(&rt; put, values.len().min(there));
+        }
     }
     Ok(())
 }

@@ -1,6 +1,6 @@
 -- A piece that has an index is that of its owner.
 -- These are the answers to the goals of `Pieces::set_guessed`.
-use Rattle.std.proofs.Common.{ap, sym, ◌∙◌, None, Some, is_some, map, ◌<◌, length, arith}
+use Rattle.std.proofs.Common.{ap, sym, ◌∙◌, None, is_some, map, ◌<◌, length, arith}
 use Rattle.std.proofs.lemmas.List.{get_or_read}
 use Rattle.dpl_array.specs.Elements.{value_at}
 use Rattle.dpl_array.specs.Arrays.{held_at, written_at}

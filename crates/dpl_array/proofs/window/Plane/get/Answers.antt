@@ -1,6 +1,6 @@
 -- A place in the plane lies among its values.
 -- These are the answers to the goals of `Plane::get`.
-use Rattle.std.proofs.Common.{◌<◌, ◌+◌, ◌*◌, length, rules, sym, subst, w64, ◌∙◌}
+use Rattle.std.proofs.Common.{◌<◌, length, rules, sym, subst, w64, ◌∙◌}
 use Rattle.std.proofs.lemmas.Int.{to_z-of_z}
 use Rattle.std.proofs.lemmas.Option.{slice_get-get_or}
 use Rattle.dpl_array.proofs.WindowLemmas.{plane-below}
