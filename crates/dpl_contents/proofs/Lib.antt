@@ -4,5 +4,6 @@ pub mod Slices
 pub mod Expansions
 pub mod Members
 pub mod Words
+pub mod PutLemmas
 pub mod Spaced
 pub mod Layouts

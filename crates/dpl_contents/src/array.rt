@@ -1,8 +1,8 @@
 // An array with a word for each element, in the order of its domain.
 // It is a finite map over the domain, whose map says who owns its indices, and the domain with its flags.
 
-ghost use Rattle.std.specs.Prelude.{◌≡◌, ◌↔◌, ℕ, ℤ, [], ◌∷◌, Some, true, false, is_some, length, map, slice_get, IfOk};
-ghost use Rattle.dpl_array.specs.Elements.{behind};
+ghost use Rattle.std.specs.Prelude.{◌≡◌, ◌≤◌, ◌<◌, ◌↔◌, ℕ, ℤ, [], ◌∷◌, Some, true, false, is_some, length, map, slice_get, IfOk};
+ghost use Rattle.dpl_array.specs.Elements.{behind, put_in_row};
 ghost use Rattle.dpl_language.specs.Ranges.{indices_in, size_in, too_large};
 ghost use Rattle.dpl_memory.specs.Memory.{held_at, held_with, held_over};
 ghost use Rattle.dpl_contents.specs.Arrays.{words_of};
@@ -103,6 +103,17 @@ impl ArrayWords {
         ensures unchanged { result ≡ false → self.new ≡ self.old }
     {
         self.array.set(index, word)
+    }
+
+    /// Puts the first of some words at an index and at those behind it in its last dimension, as many as stand side by side in a piece, and
+    /// answers how many were put. There may be none, though the array has the index: [`DArray::set_run`] tells where.
+    #[inline(always)]
+    pub fn set_run(&mut self, index: Index, words: &[i64]) -> usize
+        ensures most { result ≤ length words.now }
+        ensures there { (k : ℕ) → k < result → is_some (held_at (behind k index) self.old) ≡ true }
+        ensures changes { self.new ≡ put_in_row held_with index words.now result self.old }
+    {
+        self.array.set_run(index, words)
     }
 
     /// Puts a word at one coordinate. False if the array hasn't got it, and then nothing is changed.

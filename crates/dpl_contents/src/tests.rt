@@ -168,6 +168,10 @@ fn planes(rt: HostRuntime) -> Result<(), Fail> {
         panic!(rt; "two coordinates make an index")
     };
     assert_eq!(rt; plane.get(index), Some(40));
+    assert_eq!(rt;
+        (plane.set_run(index, &[7, 8, 9, 10]), plane.run(index)),
+        (3, [7, 8, 9].as_slice())
+    );
     Ok(())
 }
 

@@ -4,7 +4,6 @@ use Rattle.std.proofs.lemmas.List.{append-nil, length-map, drop-drop}
 use Rattle.dpl_language.specs.Ranges.{size_in}
 use Rattle.dpl_array.specs.Elements.{Elements}
 use Rattle.dpl_contents.specs.Kinds.{kind_of}
-use Rattle.dpl_contents.specs.Arrays.{words_of}
 use Rattle.dpl_contents.specs.Layout.{texts_of, spaced}
 use Rattle.dpl_contents.proofs.Spaced.{listed, spaced_next}
 use Rattle.dpl_contents.proofs.print.list_array.Goals as goal
