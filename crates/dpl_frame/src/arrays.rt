@@ -1,8 +1,8 @@
 // The arrays of a frame, however they are kept: read, written and declared by their slots.
 // A slot without an array holds the array over `{1..0}`, which has no elements.
 
-ghost use Rattle.std.specs.Prelude.{◌≡◌, ℕ, ℤ, List, [], ◌∷◌, Some, true, false, is_some, get_or, set, slice_get, OnOk};
-ghost use Rattle.dpl_array.specs.Elements.{behind};
+ghost use Rattle.std.specs.Prelude.{◌≡◌, ◌≤◌, ◌<◌, ℕ, ℤ, List, [], ◌∷◌, Some, true, false, is_some, length, get_or, set, slice_get, OnOk};
+ghost use Rattle.dpl_array.specs.Elements.{behind, put_in_row};
 ghost use Rattle.dpl_language.specs.Ranges.{too_large};
 ghost use Rattle.dpl_memory.specs.Memory.{Held, no_array, held_at, held_with, is_some_array, redomained_from};
 
@@ -59,6 +59,13 @@ pub trait Arrays {
     fn put_space(&mut self, slot: usize, i: i64, j: i64, k: i64, word: i64) -> bool
         ensures there { result ≡ is_some (held_at (i ∷ j ∷ k ∷ []) (get_or (held self.old) slot no_array)) }
         ensures changes { held self.new ≡ set (held self.old) slot (held_with (i ∷ j ∷ k ∷ []) word (get_or (held self.old) slot no_array)) };
+
+    /// Puts the first of some words at an index of the array in a slot and at those behind it in its last dimension, as many as stand side by
+    /// side, and answers how many were put. There may be none, though the array has the index; they spare a loop the writes one by one.
+    fn put_run(&mut self, slot: usize, index: Index, words: &[i64]) -> usize
+        ensures most { result ≤ length words.now }
+        ensures there { (k : ℕ) → k < result → is_some (held_at (behind k index) (get_or (held self.old) slot no_array)) ≡ true }
+        ensures changes { held self.new ≡ set (held self.old) slot (put_in_row held_with index words.now result (get_or (held self.old) slot no_array)) };
 
     /// Puts an array into a slot; past the last one it does nothing.
     fn keep(&mut self, slot: usize, array: ArrayWords)

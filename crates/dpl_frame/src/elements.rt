@@ -1,8 +1,8 @@
 // The arrays of a frame: declared, read and written by their slots, and given another domain.
 // A slot without an array holds the array over `{1..0}`, which has no elements.
 
-ghost use Rattle.std.specs.Prelude.{◌≡◌, ℕ, ℤ, pos, [], ◌∷◌, Some, true, false, is_some, map, option_map, slice_get, IfErr, IfOk, OnOk};
-ghost use Rattle.dpl_array.specs.Elements.{behind};
+ghost use Rattle.std.specs.Prelude.{◌≡◌, ◌≤◌, ◌<◌, ℕ, ℤ, pos, [], ◌∷◌, Some, true, false, is_some, length, map, option_map, slice_get, IfErr, IfOk, OnOk};
+ghost use Rattle.dpl_array.specs.Elements.{behind, put_in_row};
 ghost use Rattle.dpl_language.specs.Ranges.{indices_in, too_large};
 ghost use Rattle.dpl_memory.specs.Memory.{array_at, held_at, held_with, is_some_array, redomained_from, with_array};
 ghost use Rattle.dpl_frame.specs.Frames.{with_memory, held_in};
@@ -115,6 +115,17 @@ impl<'t, A: Arrays> Frame<'t, A> {
         ensures changes { self.new ≡ with_memory (with_array slot (held_with index word (array_at slot self.old.memory)) self.old.memory) self.old }
     {
         self.arrays.put(slot, index, word)
+    }
+
+    /// Puts the first of some words at an index of the array in a slot and at those behind it in its last dimension, as many as stand side by
+    /// side, and answers how many were put. There may be none, though the array has the index.
+    #[inline(always)]
+    pub fn put_run(&mut self, slot: usize, index: Index, words: &[i64]) -> usize
+        ensures most { result ≤ length words.now }
+        ensures there { (k : ℕ) → k < result → is_some (held_at (behind k index) (array_at slot self.old.memory)) ≡ true }
+        ensures changes { self.new ≡ with_memory (with_array slot (put_in_row held_with index words.now result (array_at slot self.old.memory)) self.old.memory) self.old }
+    {
+        self.arrays.put_run(slot, index, words)
     }
 
     /// The array over a domain that holds 0 everywhere, by the map of a slot. It is in no slot.

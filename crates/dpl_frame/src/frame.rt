@@ -1,7 +1,7 @@
 // The frame of a run: what its slots hold and by which maps, the reduce variables of the forall around, and what is set.
 // A word is a value of every kind, so that no walk can leave a frame ill typed.
 
-ghost use Rattle.std.specs.Prelude.{◌≡◌, pos, [], ◌∷◌, ◌++◌, get_or, set, map, option_map, slice_get, IfOk};
+ghost use Rattle.std.specs.Prelude.{◌≡◌, ◌↔◌, ◌<◌, pos, [], ◌∷◌, ◌++◌, get_or, set, map, length, option_map, slice_get, IfOk, IsTrue};
 ghost use Rattle.dpl_tree.specs.Words.{op_view};
 ghost use Rattle.dpl_words.specs.Words.{no_range, intent_at, set_at};
 ghost use Rattle.dpl_memory.specs.Memory.{no_domain, no_tuple, intents_by_slot};
@@ -124,6 +124,13 @@ impl<'t, A: Arrays> Frame<'t, A> {
         }
     }
 
+    /// Whether there is such a slot, and a word in it.
+    pub fn has_number(&self, slot: usize) -> bool
+        ensures { IsTrue result ↔ (slot < length self.now.memory.words.numbers) }
+    {
+        slot < self.numbers.len()
+    }
+
     /// The range in a slot; `1..0` past the last one.
     pub fn range(&self, slot: usize) -> RangeWord
         ensures { range_word result ≡ get_or self.now.memory.words.ranges slot no_range }
@@ -171,6 +178,13 @@ impl<'t, A: Arrays> Frame<'t, A> {
             Some(index) => *index,
             None => no_tuple(),
         }
+    }
+
+    /// Whether there is such a slot, and an index in it.
+    pub fn has_tuple(&self, slot: usize) -> bool
+        ensures { IsTrue result ↔ (slot < length self.now.memory.tuples) }
+    {
+        slot < self.tuples.len()
     }
 
     /// Puts a domain into a slot; past the last one it does nothing.

@@ -1,7 +1,8 @@
 // Arrays in a vector, which has an array for each slot that was given one.
 // They are the arrays of a run; a slot that was given none holds the array over `{1..0}`.
 
-ghost use Rattle.std.specs.Prelude.{◌≡◌, ◌<◌, pos, [], ◌∷◌, true, false, is_some, length, map, option_map, get_or, set, replicate, IfOk, OnOk};
+ghost use Rattle.std.specs.Prelude.{◌≡◌, ◌≤◌, ◌<◌, ℕ, pos, [], ◌∷◌, true, false, is_some, length, map, option_map, get_or, set, replicate, IfOk, OnOk};
+ghost use Rattle.dpl_array.specs.Elements.{behind, put_in_row};
 ghost use Rattle.dpl_language.specs.Ranges.{indices_in, too_large};
 ghost use Rattle.dpl_memory.specs.Memory.{no_array, held_at, held_with, held_over, held_over_if, is_among, is_some_array};
 ghost use Rattle.dpl_frame.specs.Frames.{held_in};
@@ -76,6 +77,18 @@ fn put_space_in(array: &mut Option<ArrayWords>, i: i64, j: i64, k: i64, word: i6
     match array {
         Some(array) => array.set_space(i, j, k, word),
         None => false,
+    }
+}
+
+// Puts the first of some words at an index and at those behind it, if there is an array that has them side by side.
+fn put_run_in(array: &mut Option<ArrayWords>, index: Index, words: &[i64]) -> usize
+    ensures most { result ≤ length words.now }
+    ensures there { (k : ℕ) → k < result → is_some (held_at (behind k index) (held_in array.old)) ≡ true }
+    ensures changes { held_in array.new ≡ put_in_row held_with index words.now result (held_in array.old) }
+{
+    match array {
+        Some(array) => array.set_run(index, words),
+        None => 0,
     }
 }
 
@@ -262,6 +275,16 @@ impl Arrays for Slots {
             put_space_in(&mut self.arrays[slot], i, j, k, word)
         } else {
             false
+        }
+    }
+
+    #[tactic(auto, using(crate::proofs::EmptySlots::put_past, crate::proofs::EmptySlots::none_past, crate::proofs::EmptySlots::held_within, crate::proofs::EmptySlots::held_set))]
+    #[inline(always)]
+    fn put_run(&mut self, slot: usize, index: Index, words: &[i64]) -> usize {
+        if slot < self.arrays.len() {
+            put_run_in(&mut self.arrays[slot], index, words)
+        } else {
+            0
         }
     }
 
