@@ -7,3 +7,4 @@ pub mod Lines
 pub mod Folding
 -- Strips.
 pub mod Behind
+pub mod InRows

@@ -1,11 +1,14 @@
 -- The turns of a loop from a place on, by the turn at that place.
-use Rattle.std.proofs.Common.{◌≡◌, ℕ, ◌+◌, List, drop, slice_get, Some, Err, sym, ap, ◌∙◌}
+use Rattle.std.proofs.Common.{◌≡◌, ℕ, zero, suc, ◌+◌, ◌≤◌, ◌<◌, arith, List, drop, length, slice_get, Some, Err, sym, ap, ◌∙◌}
+use Rattle.std.proofs.lemmas.Option.{slice_get_within}
 use Rattle.dpl_range.proofs.Lists.{drop-slice_get}
+use Rattle.dpl_array.specs.Elements.{behind}
 use Rattle.dpl_language.specs.Values.{Index}
-use Rattle.dpl_language.specs.Outcome.{Deeds, Done, Run, then_do, in_order}
+use Rattle.dpl_language.specs.Outcome.{Deeds, Done, Run, then_do, in_order, naming}
+use Rattle.dpl_language.specs.Loops.{named_turn}
 use Rattle.dpl_memory.specs.Memory.{Memory}
 use Rattle.dpl_loop.specs.declared.stop.Stop.{Stop}
-use Rattle.dpl_loop.specs.Runs.{RunsTo}
+use Rattle.dpl_loop.specs.Runs.{AreDone, RunsTo}
 use Rattle.dpl_loop.proofs.Ends.{then_do-halts, halts-alike}
 
 module _ (turn : Index → Run Memory) (ts : List Index) (k : ℕ) (t : Index) (s next : Memory) (done after : Deeds) (at : slice_get ts k ≡ Some t) where
@@ -19,3 +22,27 @@ module _ (turn : Index → Run Memory) (ts : List Index) (k : ℕ) (t : Index) (
   order-halts may h e =
       halts-alike may h next next after (then_do (turn t s done) (in_order turn (drop (k + 1) ts))) (in_order turn (drop k ts) s done) order-at
       (then_do-halts may h next next after (turn t s done) (in_order turn (drop (k + 1) ts)) e)
+
+-- places that all have an index end where the list does, at the latest
+pub run-within : (ts : List Index) (place size : ℕ) → ((k : ℕ) → k < size → (t : Index) × (slice_get ts (place + k) ≡ Some t)) → place < length ts → place + size ≤ length ts
+run-within ts place zero run within = omega (arith, within)
+run-within ts place (suc k) run within = let last = run k (omega arith) in let below = slice_get_within ts (place + k) last.0 last.1 in omega (arith, below)
+
+-- the turns of a row, which are done
+module _ (turn : Index → Run Memory) (ts : List Index) (place : ℕ) (t : Index) (size : ℕ) (s next : Memory) (done : Deeds) (are : AreDone turn t size s next) (row : (k : ℕ) → k < size → slice_get ts (place + k) ≡ Some (behind k t)) where
+  order-some : (n : ℕ) → n ≤ size → in_order (named_turn turn) (drop (place + n) ts) (are.between n) done ≡ in_order (named_turn turn) (drop place ts) s done
+  order-some zero most =
+      let same : place + 0 ≡ place = omega arith in
+      ap (λ k. in_order (named_turn turn) (drop k ts) (are.between 0) done) same
+      ∙ ap (λ m. in_order (named_turn turn) (drop place ts) m done) are.begins
+  order-some (suc n) most =
+      let below : n < size = omega (arith, most) in
+      let next_place : place + suc n ≡ (place + n) + 1 = omega arith in
+      let next_one : suc n ≡ n + 1 = omega arith in
+      ap (λ k. in_order (named_turn turn) (drop k ts) (are.between (suc n)) done) next_place
+      ∙ ap (λ k. in_order (named_turn turn) (drop ((place + n) + 1) ts) (are.between k) done) next_one
+      ∙ order-done (named_turn turn) ts (place + n) (behind n t) (are.between n) (are.between (n + 1)) done done (row n below) (ap (naming (behind n t)) (are.each n below done))
+      ∙ order-some n (omega (arith, most))
+
+  pub order-row : in_order (named_turn turn) (drop (place + size) ts) next done ≡ in_order (named_turn turn) (drop place ts) s done
+  order-row = ap (λ m. in_order (named_turn turn) (drop (place + size) ts) m done) (sym are.ends) ∙ order-some size (omega arith)

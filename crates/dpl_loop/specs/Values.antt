@@ -1,5 +1,8 @@
 -- What an evaluation gives, and what a reduction asks of the function that gives its items.
-use Rattle.std.specs.Prelude.{◌≡◌, ◌<◌, ℕ, ℤ, pos, get_or, Result, Ok, Err}
+use Rattle.std.specs.Prelude.{◌≡◌, ◌<◌, ℕ, ℤ, pos, List, drop, get_or, slice_get, Some, Result, Ok, Err}
+use Rattle.dpl_map.specs.Maps.{AxisValue, owner}
+use Rattle.dpl_language.specs.Tree.{Op}
+use Rattle.dpl_language.specs.Expressions.{folded}
 use Rattle.dpl_array.specs.Elements.{behind}
 use Rattle.dpl_loop.specs.declared.strip.Strip.{Strip}
 use Rattle.std.specs.Borrow.{MutBor}
@@ -30,6 +33,15 @@ module _ {V : Type 0} where
 abbrev pub HoldsStrip : (ℤ → Value) → (Index → Result Value Fault) → Strip → Type 0
 HoldsStrip value meaning s = (k : ℕ) → k < s.size → k < 64 → meaning (behind k s.first) ≡ Ok (value (get_or s.words k (pos 0)))
 
--- and so it is of all strips that a function gives
+-- and so it is of all strips that a function gives, each of which begins at the index that it is asked for
 abbrev pub StripsTell : (ℤ → Value) → (Index → Strip → Type 0) → (Index → Result Value Fault) → Type 0
-StripsTell value strips meaning = (t : Index) (s : Strip) → strips t s → HoldsStrip value meaning s
+StripsTell value strips meaning = (t : Index) (s : Strip) → strips t s → (s.first ≡ t) × HoldsStrip value meaning s
+
+-- what was put together up to a place, with what follows it, is the fold of all: so it goes on from a later place, or ends
+abbrev pub GoesOn : Type 0 → (ℤ → Value) → Op → (Index → Result Value Fault) → List Index → ℕ → ℤ → Turn → Result (ℤ × ℕ) Halt → Type 0
+GoesOn may value op named ts place before turn (Ok r) = folded op named (drop r.1 ts) (value r.0) ≡ folded op named (drop place ts) (value before)
+GoesOn may value op named ts place before turn (Err h) = Tells {A = ℤ} may value turn (Err h) (folded op named (drop place ts) (value before))
+
+-- a gate may refuse the entry of an index's owner, with its place in a list
+abbrev pub MayRefuseAmong : (ℕ → ℕ → Type 0) → List AxisValue → List Index → Type 0
+MayRefuseAmong may map ts = (place : ℕ) × (t : Index) × (slice_get ts place ≡ Some t) × may (owner map t) place

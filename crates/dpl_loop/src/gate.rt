@@ -1,7 +1,11 @@
 // Gates: what a worker asks before each of its turns.
 // A gate may refuse entries, and its contract names those that it may.
 
-ghost use Rattle.std.specs.Prelude.{◌≡◌, ℕ, false};
+ghost use Rattle.std.specs.Prelude.{◌≡◌, ℕ, true, false};
+ghost use Rattle.dpl_map.specs.Maps.{owner};
+
+use dpl_domain::Index;
+use dpl_map::Map;
 
 /// A gate before the turns of loops. A worker enters with its locale and the turn's place in the loop's domain, and
 /// ends at the first refusal.
@@ -12,6 +16,21 @@ pub trait Gate {
     /// Whether a worker may make the turn at a place. It may wait before it answers.
     fn enter(&self, worker: u32, place: u64) -> bool
         ensures { result ≡ false → may_refuse self.now worker place };
+
+    /// Whether the gate refuses nothing. Then no worker enters it, and it isn't looked up who would.
+    fn is_open(&self) -> bool
+        ensures { result ≡ true → (worker place : ℕ) → may_refuse self.now worker place → ⊥ }
+    {
+        false
+    }
+}
+
+/// Whether the owner of an index may make the turn at a place.
+#[inline(always)]
+pub(crate) fn enters<G: Gate>(gate: &G, map: &Map, index: Index, place: u64) -> bool
+    ensures { result ≡ false → G.may_refuse gate.now (owner map.now index) place }
+{
+    gate.is_open() || gate.enter(map.owner(index), place)
 }
 
 /// The gate that refuses nothing.
@@ -23,6 +42,11 @@ impl Gate for OpenGate {
 
     #[inline(always)]
     fn enter(&self, _worker: u32, _place: u64) -> bool {
+        true
+    }
+
+    #[inline(always)]
+    fn is_open(&self) -> bool {
         true
     }
 }

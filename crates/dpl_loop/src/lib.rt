@@ -5,9 +5,11 @@
 pub mod gate;
 mod loops;
 mod reduction;
+mod rows;
 pub mod stop;
 mod strip;
 mod strips;
+mod together;
 mod turns;
 
 pub use gate::{Gate, OpenGate};

@@ -1,7 +1,7 @@
 // Foralls over ranges and domains: the turns are made one by one, in order, and each asks the gate first.
 // A worker enters for a turn as the locale that owns the turn's index.
 
-ghost use Rattle.std.specs.Prelude.{◌≡◌, [], ◌∷◌, Some, slice_get};
+ghost use Rattle.std.specs.Prelude.{◌≡◌, [], ◌∷◌};
 ghost use Rattle.dpl_language.specs.Ranges.{indices_in};
 ghost use Rattle.dpl_language.specs.Outcome.{Deeds, in_order};
 ghost use Rattle.dpl_language.specs.Loops.{named_turn};
@@ -10,17 +10,19 @@ ghost use Rattle.dpl_contents.specs.Range.{range_word};
 ghost use Rattle.dpl_loop.specs.Runs.{RunsTo};
 ghost use Rattle.dpl_loop.specs.Entries.{MayRefuse};
 
-use crate::gate::Gate;
+use crate::gate::{Gate, enters};
+use crate::rows::Places;
 use crate::stop::Stop;
+use crate::together::{begun, together};
 use crate::turns::Turns;
 use dpl_contents::{DomainWord, RangeWord};
 use dpl_domain::Index;
 use dpl_frame::{Arrays, Frame};
 use dpl_map::Map;
 
-// The turn of an index at a place, once its owner has entered. Its fault names it.
+/// The turn of an index at a place, once its owner has entered. Its fault names it.
 #[inline(always)]
-fn entered<'t, A: Arrays, T: Turns<Frame<'t, A>>, G: Gate>(
+pub(crate) fn entered<'t, A: Arrays, T: Turns<Frame<'t, A>>, G: Gate>(
     turns: &T,
     index: Index,
     place: u64,
@@ -32,7 +34,7 @@ fn entered<'t, A: Arrays, T: Turns<Frame<'t, A>>, G: Gate>(
         (named_turn (T.turn turns.now frame.old.limits) index frame.old.memory done) }
     ensures limits { frame.new.limits ≡ frame.old.limits }
 {
-    if !gate.enter(map.owner(index), place) {
+    if !enters(gate, map, index, place) {
         return Err(Stop::Gate);
     }
     match turns.make(index, frame) {
@@ -58,6 +60,10 @@ pub fn forall<'t, A: Arrays, T: Turns<Frame<'t, A>>, G: Gate>(
     ensures limits { frame.new.limits ≡ frame.old.limits }
 {
     let domain = over.domain();
+    let made = begun(turns, &domain, frame, gate);
+    if made != 0 {
+        return together(turns, &domain, made, map, frame, gate);
+    }
     let mut indices = domain.cursor();
     for place in 0..domain.size() {
         let Some(index) = indices.next() else {
@@ -66,25 +72,6 @@ pub fn forall<'t, A: Arrays, T: Turns<Frame<'t, A>>, G: Gate>(
         entered(turns, index, place, map, frame, gate)?;
     }
     Ok(())
-}
-
-// The index of one coordinate.
-#[inline(always)]
-pub(crate) fn line(i: i64) -> Index
-    ensures { result ≡ i ∷ [] }
-{
-    Index::new(&[i]).unwrap()
-}
-
-// The index at a place of a range.
-#[inline(always)]
-fn line_index(range: &RangeWord, place: u64) -> Option<Index>
-    ensures { result ≡ slice_get (indices_in (range_word range.now ∷ [])) place }
-{
-    match range.range.nth(place) {
-        Some(i) => Some(line(i)),
-        None => None,
-    }
 }
 
 /// A forall over a range, as over the domain of this range alone. Ranges may have more members than a domain.
@@ -102,8 +89,12 @@ pub fn forall_line<'t, A: Arrays, T: Turns<Frame<'t, A>>, G: Gate>(
         (in_order (named_turn (T.turn turns.now frame.old.limits)) (indices_in (range_word over.now ∷ [])) frame.old.memory done) }
     ensures limits { frame.new.limits ≡ frame.old.limits }
 {
+    let made = begun(turns, over, frame, gate);
+    if made != 0 {
+        return together(turns, over, made, map, frame, gate);
+    }
     for place in 0..over.range.size() {
-        let Some(index) = line_index(over, place) else {
+        let Some(index) = over.at(place) else {
             unreachable!()
         };
         entered(turns, index, place, map, frame, gate)?;

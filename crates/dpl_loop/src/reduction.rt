@@ -12,7 +12,7 @@ ghost use Rattle.dpl_frame.specs.Faults.{Tells};
 ghost use Rattle.dpl_loop.specs.Entries.{MayRefuse};
 ghost use Rattle.dpl_loop.specs.Values.{AnswersTell, MayAnswerRefused};
 
-use crate::gate::Gate;
+use crate::gate::{Gate, enters};
 use dpl_contents::DomainWord;
 use dpl_domain::Index;
 use dpl_frame::{Alarm, Turn};
@@ -59,7 +59,7 @@ pub(crate) fn named<V, F: Fn(Index, &mut Turn) -> Result<V, Alarm>>(
 
 // The item of an index at a place, once its owner has entered.
 #[inline(always)]
-fn entered<V, F: Fn(Index, &mut Turn) -> Result<V, Alarm>, G: Gate>(
+pub(crate) fn entered<V, F: Fn(Index, &mut Turn) -> Result<V, Alarm>, G: Gate>(
     item_at: &F,
     index: Index,
     place: u64,
@@ -71,7 +71,7 @@ fn entered<V, F: Fn(Index, &mut Turn) -> Result<V, Alarm>, G: Gate>(
     ensures { (value : V → Value) (meaning : IndexValue → Result Value Fault) → AnswersTell value (F.post item_at.now) meaning
         → Tells (G.may_refuse gate.now (owner map.now index) place ⊎ MayAnswerRefused (F.post item_at.now)) value turn.new result (naming_value index (meaning index)) }
 {
-    if !gate.enter(map.owner(index), place) {
+    if !enters(gate, map, index, place) {
         return Err(Alarm::refused());
     }
     named(item_at, index, turn)

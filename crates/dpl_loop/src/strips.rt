@@ -1,94 +1,119 @@
 // Reductions of ints that are evaluated strip by strip: several indices at once where that is found to serve, and else index by index.
 // What is put together, in which order, and which gate is asked is as for `reduce`.
 
-ghost use Rattle.std.specs.Prelude.{◌≡◌, ℤ, Ok, Result, ◌⊎◌, IfSome};
+ghost use Rattle.std.specs.Prelude.{◌≡◌, ◌+◌, ◌≤◌, ◌<◌, ◌^◌, ℕ, List, Some, false, Result, ◌⊎◌, drop, length, slice_get, IfOk};
+ghost use Rattle.dpl_domain.specs.Indices.{indices};
+ghost use Rattle.dpl_array.specs.Elements.{behind};
 ghost use Rattle.dpl_language.specs.Values.{Value, Fault, Index as IndexValue};
 ghost use Rattle.dpl_language.specs.Outcome.{naming_value};
-ghost use Rattle.dpl_language.specs.Expressions.{fold_over};
-ghost use Rattle.dpl_map.specs.Maps.{owner};
+ghost use Rattle.dpl_language.specs.Expressions.{folded, fold_over};
 ghost use Rattle.dpl_frame.specs.Faults.{Tells};
 ghost use Rattle.dpl_loop.specs.Entries.{MayRefuse};
-ghost use Rattle.dpl_loop.specs.Values.{AnswersTell, MayAnswerRefused, HoldsStrip, StripsTell};
+ghost use Rattle.dpl_loop.specs.Values.{AnswersTell, MayAnswerRefused, HoldsStrip, StripsTell, GoesOn, MayRefuseAmong};
 
-use crate::gate::Gate;
-use crate::loops::line;
-use crate::reduction::{Operator, named};
-use crate::strip::Strip;
+use crate::gate::{Gate, enters};
+use crate::reduction::{Operator, entered, reduce};
+use crate::rows::Places;
+use crate::strip::{STRIP, Strip};
 use dpl_contents::DomainWord;
-use dpl_domain::Index;
+use dpl_domain::{Domain, Index};
 use dpl_frame::{Alarm, Turn};
 use dpl_map::Map;
 
-// What one more strip costs, in indices, and how much may be spent before strips have served.
-const COST: usize = 16;
+// The fewest ints in the first strip for which others are asked for: one with fewer costs more than it serves.
+const FEW: usize = 16;
 
-const CREDIT: usize = 256;
-
-// The strip that was made last, and what may be spent on others. A strip that is asked for and comes out short, as where an array goes round, costs
-// more than it serves: after some of these none is asked for any more.
-#[derive(Drop)]
-struct Strips {
-    strip: Strip,
-    credit: usize,
-}
-
-impl Strips {
-    // Takes another strip in place of the last one.
-    #[inline(always)]
-    fn take(&mut self, strip: Strip)
-        ensures { self.new.strip ≡ strip }
-    {
-        self.credit = self.credit.saturating_add(strip.size).saturating_sub(COST);
-        self.strip = strip;
-    }
-}
-
-// The int at an index, if a strip has it: the last one, or another that is made now.
-#[inline(always)]
-fn found<S: Fn(Index) -> Strip>(strip_at: &S, strips: &mut Strips, index: Index) -> Option<i64>
-    requires { S.IsAlwaysCallable strip_at.now }
-    ensures holds { (value : ℤ → Value) (meaning : IndexValue → Result Value Fault) → StripsTell value (S.post strip_at.now) meaning → HoldsStrip value meaning strips.old.strip
-        → HoldsStrip value meaning strips.new.strip }
-    ensures word { (value : ℤ → Value) (meaning : IndexValue → Result Value Fault) → StripsTell value (S.post strip_at.now) meaning → HoldsStrip value meaning strips.old.strip
-        → IfSome result (λ word. meaning index ≡ Ok (value word)) }
+// Whether the owners of so many indices may enter, from a place on.
+fn all_enter<G: Gate>(gate: &G, map: &Map, domain: &Domain, place: u64, size: u64) -> bool
+    requires within { place + size ≤ length (indices domain.now) }
+    requires fits { place + size < 2 ^ 64 }
+    ensures { result ≡ false → MayRefuseAmong (G.may_refuse gate.now) map.now (indices domain.now) }
 {
-    if let Some(word) = strips.strip.at(index) {
-        return Some(word);
+    if gate.is_open() {
+        return true;
     }
-    if strips.credit == 0 {
-        return None;
+    for k in place..place + size {
+        let Some(index) = domain.nth(k) else {
+            unreachable!()
+        };
+        if !enters(gate, map, index, k) {
+            return false;
+        }
     }
-    strips.take(strip_at(index));
-    strips.strip.at(index)
+    true
 }
 
-// The int of an index at a place, once its owner has entered. Its fault names it.
-#[inline(always)]
-fn entered<F: Fn(Index, &mut Turn) -> Result<i64, Alarm>, S: Fn(Index) -> Strip, G: Gate>(
+// So many ints of a strip put to what was put together before them.
+fn put_together<O: Operator<Item = i64>>(
+    operator: &O,
+    before: i64,
+    strip: &Strip,
+    size: usize,
+) -> i64
+    requires { size ≤ 64 }
+    ensures { (meaning : IndexValue → Result Value Fault) (ts : List IndexValue) (place : ℕ) → size ≤ strip.now.size → HoldsStrip O.value meaning strip.now
+        → ((k : ℕ) → k < size → slice_get ts (place + k) ≡ Some (behind k strip.now.first))
+        → folded (O.op operator.now) (λ t. naming_value t (meaning t)) (drop (place + size) ts) (O.value result) ≡ folded (O.op operator.now) (λ t. naming_value t (meaning t)) (drop place ts) (O.value before) }
+{
+    let mut so_far = before;
+    for k in 0..size {
+        so_far = operator.combined(so_far, strip.words[k]);
+    }
+    so_far
+}
+
+// How many ints of a strip are in the row of the place where it begins.
+fn in_row(strip: &Strip, domain: &Domain, place: u64) -> usize
+    ensures strip { result ≤ strip.now.size }
+    ensures all { result ≤ 64 }
+    ensures row { (t : IndexValue) → slice_get (indices domain.now) place ≡ Some t → (k : ℕ) → k < result → slice_get (indices domain.now) (place + k) ≡ Some (behind k t) }
+{
+    let size = strip.size.min(STRIP);
+    size.min(domain.row_left(place) as usize)
+}
+
+// The ints from a place on put to what was put together before it, as many as a strip has in the row of the place, or that of the place alone;
+// and the next place.
+fn gone_on<
+    O: Operator<Item = i64>,
+    F: Fn(Index, &mut Turn) -> Result<i64, Alarm>,
+    S: Fn(Index) -> Strip,
+    G: Gate,
+>(
+    operator: &O,
+    domain: &Domain,
+    place: u64,
+    before: i64,
+    map: &Map,
     item_at: &F,
     strip_at: &S,
-    strips: &mut Strips,
-    index: Index,
-    place: u64,
-    map: &Map,
     gate: &G,
     turn: &mut Turn,
-) -> Result<i64, Alarm>
+) -> Result<(i64, u64), Alarm>
+    requires place { place < length (indices domain.now) }
+    requires small { length (indices domain.now) < 2 ^ 64 }
     requires items { F.IsAlwaysCallable item_at.now }
     requires strips { S.IsAlwaysCallable strip_at.now }
-    ensures holds { (value : ℤ → Value) (meaning : IndexValue → Result Value Fault) → StripsTell value (S.post strip_at.now) meaning → HoldsStrip value meaning strips.old.strip
-        → HoldsStrip value meaning strips.new.strip }
-    ensures item { (value : ℤ → Value) (meaning : IndexValue → Result Value Fault) → AnswersTell value (F.post item_at.now) meaning
-        → StripsTell value (S.post strip_at.now) meaning → HoldsStrip value meaning strips.old.strip
-        → Tells (G.may_refuse gate.now (owner map.now index) place ⊎ MayAnswerRefused (F.post item_at.now)) value turn.new result (naming_value index (meaning index)) }
+    ensures next { IfOk result (λ r. (place < r.1) × (r.1 ≤ length (indices domain.now))) }
+    ensures folds { (meaning : IndexValue → Result Value Fault) → AnswersTell O.value (F.post item_at.now) meaning → StripsTell O.value (S.post strip_at.now) meaning
+        → GoesOn (MayRefuseAmong (G.may_refuse gate.now) map.now (indices domain.now) ⊎ MayAnswerRefused (F.post item_at.now)) O.value (O.op operator.now) (λ t. naming_value t (meaning t)) (indices domain.now) place before turn.new result }
 {
-    if !gate.enter(map.owner(index), place) {
+    let Some(index) = domain.nth(place) else {
+        unreachable!()
+    };
+    let strip = strip_at(index);
+    let size = in_row(&strip, domain, place);
+    if size == 0 {
+        let item = entered(item_at, index, place, map, gate, turn)?;
+        return Ok((operator.combined(before, item), place + 1));
+    }
+    if !all_enter(gate, map, domain, place, size as u64) {
         return Err(Alarm::refused());
     }
-    match found(strip_at, strips, index) {
-        Some(word) => Ok(word),
-        None => named(item_at, index, turn),
-    }
+    Ok((
+        put_together(operator, before, &strip, size),
+        place + size as u64,
+    ))
 }
 
 /// The ints of a domain's indices put together, as [`reduce`](crate::reduce) does it. Beside what answers for one index stands what answers
@@ -116,27 +141,19 @@ pub fn reduce_ints<
         → Tells (MayRefuse (G.may_refuse gate.now) map.now over ⊎ MayAnswerRefused (F.post item_at)) O.value turn.new result (fold_over (O.op operator.now) meaning over) }
 {
     let domain = over.domain();
-    let mut indices = domain.cursor();
-    let mut so_far = operator.over_none();
-    let mut strips = Strips {
-        strip: Strip::none(line(0)),
-        credit: CREDIT,
+    let serves = match domain.nth(0) {
+        Some(first) => FEW <= strip_at(first).size,
+        None => false,
     };
-    for place in 0..domain.size() {
-        let Some(index) = indices.next() else {
-            unreachable!()
-        };
-        let item = entered(
-            &item_at,
-            &strip_at,
-            &mut strips,
-            index,
-            place,
-            map,
-            gate,
-            turn,
+    if !serves {
+        return reduce(operator, over, map, item_at, gate, turn);
+    }
+    let mut so_far = operator.over_none();
+    let mut place = 0;
+    while place < domain.size() {
+        (so_far, place) = gone_on(
+            operator, &domain, place, so_far, map, &item_at, &strip_at, gate, turn,
         )?;
-        so_far = operator.combined(so_far, item);
     }
     Ok(so_far)
 }

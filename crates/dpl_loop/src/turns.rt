@@ -1,12 +1,12 @@
 // What a forall does at each index of what it runs over.
 
-ghost use Rattle.std.specs.Prelude.{◌≡◌};
+ghost use Rattle.std.specs.Prelude.{◌≡◌, ◌≤◌};
 ghost use Rattle.dpl_language.specs.Values.{Index as IndexValue};
 ghost use Rattle.dpl_language.specs.Outcome.{Deeds, Run};
 ghost use Rattle.dpl_language.specs.Environment.{Limits};
 ghost use Rattle.dpl_memory.specs.Memory.{Memory};
 ghost use Rattle.dpl_frame.specs.Frames.{Framed};
-ghost use Rattle.dpl_loop.specs.Runs.{RunEnds};
+ghost use Rattle.dpl_loop.specs.Runs.{AreDone, RunEnds};
 
 use crate::stop::Stop;
 use dpl_domain::Index;
@@ -34,4 +34,14 @@ pub trait Turns<F: AnyFrame> {
     fn make(&self, index: Index, frame: &mut F) -> Result<(), Stop>
         ensures ends { (done : Deeds) → RunEnds result (F.framed frame.new).memory done (turn self.now (F.framed frame.old).limits index (F.framed frame.old).memory done) }
         ensures limits { (F.framed frame.new).limits ≡ (F.framed frame.old).limits };
+
+    /// Makes the turns of an index and of those behind it in the last dimension, at most so many, where several are done at once; how
+    /// many it has made. There may be none, and none of them has a fault.
+    fn make_row(&self, first: Index, most: usize, frame: &mut F) -> usize
+        ensures most { result ≤ most }
+        ensures done { AreDone (turn self.now (F.framed frame.old).limits) first result (F.framed frame.old).memory (F.framed frame.new).memory }
+        ensures limits { (F.framed frame.new).limits ≡ (F.framed frame.old).limits }
+    {
+        0
+    }
 }

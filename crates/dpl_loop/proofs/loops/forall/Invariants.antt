@@ -7,8 +7,8 @@ use Rattle.dpl_loop.proofs.loops.forall.Given as goal
 -- the indices that are left, from here, are all indices from the start
 abbrev pub invariant-loop-place : goal.invariant-loop-place
 invariant-loop-place g l = record {
-  ends : (done : Deeds) → let turn = named_turn (g.T.Turns.turn l.turns l.initial.frame.limits) in
-      in_order turn (drop l.place (indices_in l.fn.over)) l.frame.memory done ≡ in_order turn (indices_in l.fn.over) l.initial.frame.memory done;
+  ends : (done : Deeds) → let turn = named_turn (g.T.Turns.turn l.turns l.fn.frame.limits) in
+      in_order turn (drop l.place (indices_in l.fn.over)) l.frame.memory done ≡ in_order turn (indices_in l.fn.over) l.fn.frame.memory done;
   left : l.indices ≡ drop l.place (indices_in l.fn.over);
-  limits : l.frame.limits ≡ l.initial.frame.limits;
+  limits : l.frame.limits ≡ l.fn.frame.limits;
 }

@@ -15,14 +15,14 @@ use Rattle.dpl_loop.proofs.loops.forall_line.Goals as goal
 pub unreachable-requires : goal.unreachable-requires
 unreachable-requires g c =
     let r = range_word c.args.over.now in
-    line-there r c.loop-place.place (subst (λ n. c.loop-place.place < n) c.size-place-end.ensures.length c.loop-place-test.true) (sym c.line_index.ensures ∙ c.in_default.is)
+    line-there r c.loop-place.place (subst (λ n. c.loop-place.place < n) c.size-place-end.ensures.length c.loop-place-test.true) (sym c.at.ensures ∙ c.in_default.is)
 
 pub loop-place-preserved : goal.loop-place-preserved
 loop-place-preserved g c =
     let turn = named_turn (g.T.Turns.turn c.args.turns.now c.args.frame.now.limits) in
     let ts = indices_in (range_word c.args.over.now ∷ []) in
     let s = c.loop-place.frame.memory in
-    let at = sym c.line_index.ensures ∙ c.in-Some.is in
+    let at = sym c.at.ensures ∙ c.in-Some.is in
     record {
       ends = λ done.
           order-done turn ts c.loop-place.place c.in-Some.index s c.entered.new.frame.memory done done at
@@ -38,7 +38,7 @@ returns-in_err-entered-clause-ends g c done =
     let s = c.loop-place.frame.memory in
     let next = c.entered.new.frame.memory in
     let h = c.in_err-entered.field-0.0 in
-    let at = sym c.line_index.ensures ∙ c.in-Some.is in
+    let at = sym c.at.ensures ∙ c.in-Some.is in
     let may = g.G.Gate.may_refuse c.args.gate.now (owner c.args.map.now c.in-Some.index) c.loop-place.place in
     let p = err_from_is_err_and c.from_residual.result c.from_residual.ensures.1 in
     rw (p.1, p.2)

@@ -8,7 +8,7 @@ use Rattle.dpl_loop.proofs.loops.forall_line.Given as goal
 -- the indices that are left, from here, are all indices from the start
 abbrev pub invariant-loop-place : goal.invariant-loop-place
 invariant-loop-place g l = record {
-  ends : (done : Deeds) → let turn = named_turn (g.T.Turns.turn l.turns l.initial.frame.limits) in
-      in_order turn (drop l.place (indices_in (range_word l.over ∷ []))) l.frame.memory done ≡ in_order turn (indices_in (range_word l.over ∷ [])) l.initial.frame.memory done;
-  limits : l.frame.limits ≡ l.initial.frame.limits;
+  ends : (done : Deeds) → let turn = named_turn (g.T.Turns.turn l.turns l.fn.frame.limits) in
+      in_order turn (drop l.place (indices_in (range_word l.over ∷ []))) l.frame.memory done ≡ in_order turn (indices_in (range_word l.over ∷ [])) l.fn.frame.memory done;
+  limits : l.frame.limits ≡ l.fn.frame.limits;
 }

@@ -1,63 +1,52 @@
--- The next index's int is put to the others, or ends the loop; at the end no index is left.
-use Rattle.std.proofs.Common.{◌≡◌, ◌+◌, ◌<◌, ◌≤◌, arith, inl, inr, ⊎_elim, drop, length, slice_get, sym, subst, ap, ◌∙◌, FitsSigned, w64, to_z, of_z, rules}
+-- The ints of the next places are put to the others, or one ends the loop; at the end no index is left.
+-- These are the answers to the goals of `reduce_ints`.
+use Rattle.std.proofs.Common.{◌≤◌, drop, length, sym, ap, ◌∙◌, arith, FitsSigned, w64, to_z, rules}
 use Rattle.std.proofs.lemmas.Int.{to_z-of_z}
 use Rattle.std.proofs.lemmas.List.{drop_all}
 use Rattle.std.proofs.lemmas.Result.{err_from_is_err_and}
 use Rattle.dpl_domain.specs.Indices.{indices}
 use Rattle.dpl_language.specs.Values.{Index}
-use Rattle.dpl_language.specs.Arithmetic.{combined}
-use Rattle.dpl_language.specs.Ranges.{indices_in}
 use Rattle.dpl_language.specs.Outcome.{naming_value}
 use Rattle.dpl_language.specs.Expressions.{folded}
-use Rattle.dpl_loop.proofs.Folding.{with_ok-ends, folded-at, folded-next}
-use Rattle.dpl_loop.proofs.Places.{slice_get-drop_first, drop-drop_one, within-there}
+use Rattle.dpl_loop.proofs.Folding.{goes-ends}
+use Rattle.dpl_loop.proofs.Places.{among}
 use Rattle.dpl_loop.proofs.strips.reduce_ints.Goals as goal
 
-pub unreachable-requires : goal.unreachable-requires
-unreachable-requires g c =
-    let ts = indices_in c.args.over in
-    let none = sym (slice_get-drop_first ts c.loop-place.place) ∙ ap (λ ts. slice_get ts 0) (sym c.loop-place.invariant.left) ∙ sym c.next.ensures.next ∙ c.in_default.is in
-    let size : c.size-place-end.result ≡ length ts = c.size-place-end.ensures.size ∙ ap (λ d. length (indices d)) c.domain-domain.ensures.domain in
-    within-there ts c.loop-place.place (subst (λ n. c.loop-place.place < n) size c.loop-place-test.true) none
+pub returns-then-not-serves : goal.returns-then-not-serves
+returns-then-not-serves g c meaning answers strips = c.reduce.ensures meaning answers
 
 pub loop-place-preserved : goal.loop-place-preserved
 loop-place-preserved g c =
     let op = g.O.Operator.op c.args.operator.now in
     let value = g.O.Operator.value in
-    let ts = indices_in c.args.over in
-    let k = c.loop-place.place in
-    let at = sym (slice_get-drop_first ts k) ∙ ap (λ ts. slice_get ts 0) (sym c.loop-place.invariant.left) ∙ sym c.in-Some.ensures.next in
-    let item_fits : FitsSigned w64 c.in_ok-item.item = search rules in
-    let next_fits : FitsSigned w64 c.combined-so_far.result = search rules in
-    let combines = simp to_z-of_z at c.combined-so_far.ensures in
+    let ts = indices c.domain-domain.result in
+    let next_fits : FitsSigned w64 c.in_ok-so_far.field-0-0 = search rules in
     record {
+      within = c.in_ok-so_far.ensures.next.1;
       folds = λ meaning answers strips.
-          folded-next op (λ t. naming_value t (meaning t)) ts k c.in-Some.index (value (to_z w64 c.loop-place.so_far-bits)) at (value c.in_ok-item.item) (value (to_z w64 (of_z w64 c.combined-so_far.result)))
-          (c.in_ok-item.ensures.item value meaning answers strips (c.loop-place.invariant.holds meaning strips)) (ap value (to_z-of_z w64 c.combined-so_far.result next_fits) ∙ combines)
+          ap (λ n. folded op (λ t. naming_value t (meaning t)) (drop c.in_ok-so_far.field-0-1 ts) (value n)) (to_z-of_z w64 c.in_ok-so_far.field-0-0 next_fits)
+          ∙ c.in_ok-so_far.ensures.folds meaning answers strips
           ∙ c.loop-place.invariant.folds meaning answers strips;
-      holds = λ meaning strips. c.in_ok-item.ensures.holds value meaning strips (c.loop-place.invariant.holds meaning strips);
-      left = c.next.ensures.rest ∙ ap (drop 1) c.loop-place.invariant.left ∙ drop-drop_one ts k;
     }
 
-pub returns-in_err-item : goal.returns-in_err-item
-returns-in_err-item g c meaning answers strips =
+pub returns-in_err-so_far : goal.returns-in_err-so_far
+returns-in_err-so_far g c meaning answers strips =
     let op = g.O.Operator.op c.args.operator.now in
     let value = g.O.Operator.value in
-    let ts = indices_in c.args.over in
-    let k = c.loop-place.place in
-    let t = c.in-Some.index in
     let named = λ (t : Index). naming_value t (meaning t) in
-    let at = sym (slice_get-drop_first ts k) ∙ ap (λ ts. slice_get ts 0) (sym c.loop-place.invariant.left) ∙ sym c.in-Some.ensures.next in
+    let ts = indices c.domain-domain.result in
     let p = err_from_is_err_and c.from_residual.result c.from_residual.ensures.1 in
     rw (p.1, p.2)
-    (with_ok-ends _ _ value c.entered.new.turn c.in_err-item.field-0.0 (named t) (λ v. folded op named (drop (k + 1) ts) (combined op (value (to_z w64 c.loop-place.so_far-bits)) v)) _ value
-    (λ refused. ⊎_elim (λ may. inl (k, t, at, may)) (λ answered. inr answered) refused)
-    (sym (c.loop-place.invariant.folds meaning answers strips) ∙ folded-at op named ts k t (value (to_z w64 c.loop-place.so_far-bits)) at)
-    (c.in_err-item.ensures.item value meaning answers strips (c.loop-place.invariant.holds meaning strips)))
+    (goes-ends _ _ value op named ts c.loop-place.place (to_z w64 c.loop-place.so_far-bits) c.gone_on.new.turn c.in_err-so_far.field-0.0 _
+    (among (g.G.Gate.may_refuse c.args.gate.now) c.args.map.now ts c.args.over _ (ap indices c.domain-domain.ensures.domain))
+    (c.loop-place.invariant.folds meaning answers strips)
+    (c.in_err-so_far.ensures.folds meaning answers strips))
 
 pub returns : goal.returns
 returns g c meaning answers strips =
     let op = g.O.Operator.op c.args.operator.now in
-    let ts = indices_in c.args.over in
-    let past : length ts ≤ c.loop-place.place = let size = c.size-place-end.ensures.size ∙ ap (λ d. length (indices d)) c.domain-domain.ensures.domain in let test = c.loop-place-test.false in omega (arith, size, test) in
-    sym (c.loop-place.invariant.folds meaning answers strips) ∙ ap (λ ts. folded op (λ t. naming_value t (meaning t)) ts (g.O.Operator.value (to_z w64 c.loop-place.so_far-bits))) (drop_all c.loop-place.place ts past)
+    let value = g.O.Operator.value in
+    let ts = indices c.domain-domain.result in
+    let past : length ts ≤ c.loop-place.place = omega (arith, c.size.ensures.size, c.loop-place-test.false) in
+    sym (c.loop-place.invariant.folds meaning answers strips)
+    ∙ ap (λ ts. folded op (λ t. naming_value t (meaning t)) ts (value (to_z w64 c.loop-place.so_far-bits))) (drop_all c.loop-place.place ts past)

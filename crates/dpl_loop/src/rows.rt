@@ -1,0 +1,85 @@
+// What a loop runs over by places, and how many of the next indices lie behind one another in the last dimension.
+
+ghost use Rattle.std.specs.Prelude.{◌≡◌, ◌+◌, ◌<◌, ℕ, ℤ, List, [], ◌∷◌, Some, length, slice_get};
+ghost use Rattle.dpl_domain.specs.Indices.{indices};
+ghost use Rattle.dpl_array.specs.Elements.{behind};
+ghost use Rattle.dpl_language.specs.Values.{Index as IndexValue};
+ghost use Rattle.dpl_language.specs.Ranges.{indices_in};
+ghost use Rattle.dpl_contents.specs.Range.{range_word};
+
+use dpl_contents::RangeWord;
+use dpl_domain::{Domain, Index};
+
+/// Indices in order, by places from 0 on.
+pub(crate) trait Places {
+    // The indices.
+    ghost indices: { Self → List IndexValue };
+
+    /// How many there are.
+    fn size(&self) -> u64
+        ensures { result ≡ length (indices self.now) };
+
+    /// The index at a place.
+    fn at(&self, place: u64) -> Option<Index>
+        ensures { result ≡ slice_get (indices self.now) place };
+
+    /// How many indices there are from a place to the end of its row, where the last dimension has the stride 1; each lies behind
+    /// the one at the place. Of another stride none.
+    fn row_left(&self, place: u64) -> u64
+        ensures { (t : IndexValue) → slice_get (indices self.now) place ≡ Some t → (k : ℕ) → k < result → slice_get (indices self.now) (place + k) ≡ Some (behind k t) };
+}
+
+impl Places for Domain {
+    ghost indices = { λ d. indices d };
+
+    #[inline(always)]
+    fn size(&self) -> u64 {
+        Domain::size(self)
+    }
+
+    #[inline(always)]
+    fn at(&self, place: u64) -> Option<Index> {
+        self.nth(place)
+    }
+
+    fn row_left(&self, place: u64) -> u64 {
+        let (_, _, inner) = self.ranges();
+        let size = inner.size();
+        if inner.stride() != 1 || size == 0 {
+            return 0;
+        }
+        size - place % size
+    }
+}
+
+// The index of one coordinate.
+#[inline(always)]
+fn line(i: i64) -> Index
+    ensures { result ≡ i ∷ [] }
+{
+    Index::new(&[i]).unwrap()
+}
+
+impl Places for RangeWord {
+    ghost indices = { λ r. indices_in (range_word r ∷ []) };
+
+    #[inline(always)]
+    fn size(&self) -> u64 {
+        self.range.size()
+    }
+
+    #[inline(always)]
+    fn at(&self, place: u64) -> Option<Index> {
+        match self.range.nth(place) {
+            Some(i) => Some(line(i)),
+            None => None,
+        }
+    }
+
+    fn row_left(&self, place: u64) -> u64 {
+        if self.range.stride() != 1 {
+            return 0;
+        }
+        self.range.size().saturating_sub(place)
+    }
+}
