@@ -3,6 +3,7 @@ pub mod Views
 pub mod Wrapped
 pub mod Folds
 pub mod Strips
+pub mod Paces
 pub mod First
 pub mod Telling
 pub mod Worked

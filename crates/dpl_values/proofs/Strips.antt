@@ -1,19 +1,15 @@
 -- Words that are written one after another; and the values of sums, differences and products by those of both sides.
-use Rattle.std.proofs.Common.{◌≡◌, ◌<◌, ◌+◌, ℕ, zero, suc, ℤ, pos, ◌+ℤ◌, ◌-ℤ◌, ◌*ℤ◌, List, length, get_or, set, replicate, Some, Result, Ok, arith, refl, sym, subst, ap, ◌∙◌, ◌⊎◌, ⊎_elim, inl, inr}
+use Rattle.std.proofs.Common.{◌≡◌, ◌<◌, ◌+◌, ℕ, zero, suc, ℤ, pos, ◌+ℤ◌, ◌-ℤ◌, ◌*ℤ◌, List, length, get_or, set, replicate, Option, Result, Ok, arith, refl, sym, subst, ap, ◌∙◌, ◌⊎◌, ⊎_elim, inl, inr}
 use Rattle.std.proofs.lemmas.List.{get_or-set_same, get_or-set_other}
 use Rattle.dpl_language.specs.Arithmetic.{wrap}
 use Rattle.dpl_array.specs.Elements.{behind}
-use Rattle.dpl_language.specs.Tree.{Chain, Link, NoLinks, Add, Subtract, Multiply}
+use Rattle.dpl_language.specs.Tree.{ExprTree, Add, Subtract, Multiply}
 use Rattle.dpl_language.specs.Values.{Value, Fault, Index, Int}
 use Rattle.dpl_language.specs.Expressions.{value_of}
 use Rattle.dpl_language.specs.Environment.{Limits}
-use Rattle.dpl_lowered.specs.LoweredExpressions.{EachTurn}
-use Rattle.dpl_memory.specs.Memory.{Memory, in_memory}
-use Rattle.dpl_nodes.specs.declared.tree.PromotedInt.{PromotedInt}
-use Rattle.dpl_nodes.specs.Typed.{promoted_int}
-use Rattle.dpl_lowered.specs.Shapes.{nowhere}
+use Rattle.dpl_lowered.specs.Shapes.{nowhere, two}
+use Rattle.dpl_memory.specs.Memory.{Variable, Memory, in_memory}
 use Rattle.dpl_loop.specs.declared.strip.Strip.{Strip}
-use Rattle.dpl_loop.specs.Values.{HoldsStrip}
 
 -- one word more is written
 pub written : (Fits : ℕ → ℤ → Type 0) (ws : List ℤ) (k : ℕ) (w : ℤ) → k < length ws → ((j : ℕ) → j < k → Fits j (get_or ws j (pos 0))) → Fits k w → (j : ℕ) → j < k + 1 → Fits j (get_or (set ws k w) j (pos 0))
@@ -35,26 +31,31 @@ repeated zero k w below = absurd (omega (arith, below))
 repeated (suc n) zero w below = refl
 repeated (suc n) (suc k) w below = repeated n k w (omega (arith, below))
 
--- what an operator makes of the ints of two strips, where it makes the whole's value of theirs
-pub both-hold : (left_at right_at whole_at : Index → Result Value Fault) (apply : ℤ → ℤ → ℤ)
-    → ((t : Index) (x y : ℤ) → left_at t ≡ Ok (Int x) → right_at t ≡ Ok (Int y) → whole_at t ≡ Ok (Int (apply x y)))
+-- what strips hold: each int is what is meant at its index, in each memory that suits the index
+abbrev HoldsWhere : (Index → Memory → Type 0) → (Index → Memory → Result Value Fault) → Strip → Type 0
+HoldsWhere Suits meaning strip =
+    (k : ℕ) → k < strip.size → k < 64 → (u : Memory) → Suits (behind k strip.first) u → meaning (behind k strip.first) u ≡ Ok (Int (get_or strip.words k (pos 0)))
+
+-- what is made of the ints of two strips, where that makes the whole's value of theirs
+pub both-hold : (Suits : Index → Memory → Type 0) (left_at right_at whole_at : Index → Memory → Result Value Fault) (apply : ℤ → ℤ → ℤ)
+    → ((t : Index) (u : Memory) (x y : ℤ) → left_at t u ≡ Ok (Int x) → right_at t u ≡ Ok (Int y) → whole_at t u ≡ Ok (Int (apply x y)))
     → (left right made : Strip) → right.first ≡ left.first → made.first ≡ left.first → ((k : ℕ) → k < made.size → k < left.size) → ((k : ℕ) → k < made.size → k < right.size)
-    → HoldsStrip Int left_at left → HoldsStrip Int right_at right
+    → HoldsWhere Suits left_at left → HoldsWhere Suits right_at right
     → ((k : ℕ) → k < 64 → get_or made.words k (pos 0) ≡ apply (get_or left.words k (pos 0)) (get_or right.words k (pos 0)))
-    → HoldsStrip Int whole_at made
-both-hold left_at right_at whole_at apply whole left right made beside behind_left in_left in_right left_holds right_holds words k below within =
-    ap (λ t. whole_at (behind k t)) behind_left
-    ∙ whole (behind k left.first) (get_or left.words k (pos 0)) (get_or right.words k (pos 0))
-    (left_holds k (in_left k below) within)
-    (ap (λ t. right_at (behind k t)) (sym beside) ∙ right_holds k (in_right k below) within)
+    → HoldsWhere Suits whole_at made
+both-hold Suits left_at right_at whole_at apply whole left right made beside behind_left in_left in_right left_holds right_holds words k below within u suits =
+    ap (λ t. whole_at (behind k t) u) behind_left
+    ∙ whole (behind k left.first) u (get_or left.words k (pos 0)) (get_or right.words k (pos 0))
+    (left_holds k (in_left k below) within u (subst (λ t. Suits (behind k t) u) behind_left suits))
+    (ap (λ t. right_at (behind k t) u) (sym beside) ∙ right_holds k (in_right k below) within u (subst (λ t. Suits (behind k t) u) (behind_left ∙ sym beside) suits))
     ∙ ap (λ n. Ok (Int n)) (sym (words k within))
 
-module _ (limits : Limits) (a b : PromotedInt) (s : Memory) (t : Index) (x y : ℤ) (left : value_of limits in_memory (promoted_int EachTurn a) (Some t) s ≡ Ok (Int x)) (right : value_of limits in_memory (promoted_int EachTurn b) (Some t) s ≡ Ok (Int y)) where
-  pub sum-at : value_of limits in_memory (Chain (promoted_int EachTurn a) (Link nowhere Add (promoted_int EachTurn b) NoLinks)) (Some t) s ≡ Ok (Int (wrap (x +ℤ y)))
+module _ (limits : Limits) (a b : ExprTree Variable) (t : Option Index) (s : Memory) (x y : ℤ) (left : value_of limits in_memory a t s ≡ Ok (Int x)) (right : value_of limits in_memory b t s ≡ Ok (Int y)) where
+  pub sum-at : value_of limits in_memory (two a nowhere Add b) t s ≡ Ok (Int (wrap (x +ℤ y)))
   sum-at = rw left (rw right refl)
 
-  pub difference-at : value_of limits in_memory (Chain (promoted_int EachTurn a) (Link nowhere Subtract (promoted_int EachTurn b) NoLinks)) (Some t) s ≡ Ok (Int (wrap (x -ℤ y)))
+  pub difference-at : value_of limits in_memory (two a nowhere Subtract b) t s ≡ Ok (Int (wrap (x -ℤ y)))
   difference-at = rw left (rw right refl)
 
-  pub product-at : value_of limits in_memory (Chain (promoted_int EachTurn a) (Link nowhere Multiply (promoted_int EachTurn b) NoLinks)) (Some t) s ≡ Ok (Int (wrap (x *ℤ y)))
+  pub product-at : value_of limits in_memory (two a nowhere Multiply b) t s ≡ Ok (Int (wrap (x *ℤ y)))
   product-at = rw left (rw right refl)

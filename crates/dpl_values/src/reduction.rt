@@ -1,7 +1,7 @@
 // Reductions: the values of a promoted expression at all indices of its domain, put together in their order by the loop of reductions.
 // The domain and the map are those of the first whole array in the expression.
 
-ghost use Rattle.std.specs.Prelude.{◌⊎◌, Some, Result};
+ghost use Rattle.std.specs.Prelude.{◌≡◌, ◌⊎◌, Some, Result};
 ghost use Rattle.dpl_language.specs.Values.{Value, Fault, Index as IndexValue, Int, Truth as TruthValue};
 ghost use Rattle.dpl_language.specs.Expressions.{value_of, whole_in, fold_over, reduction};
 ghost use Rattle.dpl_lowered.specs.LoweredExpressions.{EachTurn};
@@ -17,7 +17,7 @@ ghost use Rattle.dpl_values.specs.Reductions.{MayRefuseReduction, OfSlot, EachIn
 use crate::budget::within_turns;
 use crate::fold::{combined_ints, combined_truths, int_over_none, truth_over_none};
 use crate::promoted::{int_array, operand, promoted_truth_value, truth_array};
-use crate::strip::strip;
+use crate::strip::promoted_strip;
 use dpl_domain::Index;
 use dpl_frame::{Alarm, Arrays, Frame, Truth, Turn};
 use dpl_loop::{Gate, Operator, Strip, reduce, reduce_ints};
@@ -156,8 +156,8 @@ pub(crate) fn reduced_int<A: Arrays, G: Gate>(
         ensures { Tells (MayRefuseReduction (G.may_refuse gate.entry.now) frame.entry.now (EachInInts e.entry.now)) Int turn.new result (value_of frame.entry.now.limits in_memory (promoted_int EachTurn e.entry.now) (Some index) frame.entry.now.memory) }
     { operand(e, &index, frame, gate, turn) };
     let strip_at = |index: Index| -> Strip
-        ensures { HoldsStrip Int (λ i. value_of frame.entry.now.limits in_memory (promoted_int EachTurn e.entry.now) (Some i) frame.entry.now.memory) result }
-    { strip(e, index, frame) };
+        ensures { (result.first ≡ index) × HoldsStrip Int (λ i. value_of frame.entry.now.limits in_memory (promoted_int EachTurn e.entry.now) (Some i) frame.entry.now.memory) result }
+    { promoted_strip(e, index, frame) };
     folded_ints(&Ints { fold }, slot, frame, item_at, strip_at, gate, turn)
 }
 

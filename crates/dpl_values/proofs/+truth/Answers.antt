@@ -16,13 +16,13 @@ use Rattle.dpl_contents.specs.Range.{range_word}
 use Rattle.dpl_frame.specs.Frames.{owned_by}
 use Rattle.dpl_frame.specs.Faults.{Tells}
 use Rattle.dpl_loop.specs.Entries.{MayRefuse}
-use Rattle.dpl_loop.proofs.Folding.{with_ok-ends}
+use Rattle.dpl_loop.proofs.Folding.{with_ok-ends, tells-as}
 use Rattle.dpl_values.specs.Elements.{within_at}
 use Rattle.dpl_values.specs.Reducing.{first_of_truths}
 use Rattle.dpl_values.specs.Reductions.{MayRefuseReduction, OfSlot, EachInInt, EachInTruth, EachInRange, EachInIndex, EachInTruths}
 use Rattle.dpl_values.proofs.First.{truths_whole}
 use Rattle.dpl_values.proofs.Folds.{reduction-within}
-use Rattle.dpl_values.proofs.Telling.{tells-as, refused-within}
+use Rattle.dpl_values.proofs.Telling.{refused-within}
 use Rattle.dpl_values.proofs.Views.{method_ends, containing, contains_ends, contains_answer, domain_contains}
 use Rattle.dpl_values.proofs.+truth.Goals as goal
 

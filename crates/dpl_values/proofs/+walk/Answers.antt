@@ -19,13 +19,13 @@ use Rattle.dpl_frame.specs.Faults.{Tells, as_range}
 use Rattle.dpl_contents.specs.Range.{range_word}
 use Rattle.dpl_map.specs.Maps.{owner}
 use Rattle.dpl_loop.specs.Entries.{MayRefuse}
-use Rattle.dpl_loop.proofs.Folding.{with_ok-ends}
+use Rattle.dpl_loop.proofs.Folding.{with_ok-ends, tells-as}
 use Rattle.dpl_values.specs.Elements.{within_at}
 use Rattle.dpl_values.specs.Reducing.{first_of_ints}
 use Rattle.dpl_values.specs.Reductions.{MayRefuseReduction, OfSlot, EachInInt, EachInRange, EachInRanges, EachInDomain, EachInInts}
 use Rattle.dpl_values.proofs.First.{ints_whole}
 use Rattle.dpl_values.proofs.Folds.{reduction-within}
-use Rattle.dpl_values.proofs.Telling.{told, tells-as, refused-within}
+use Rattle.dpl_values.proofs.Telling.{told, refused-within}
 use Rattle.dpl_values.proofs.Views.{method_ends, method_answer, slice_ends, cut_ends, slice_answer, expanded-within, expanded-past, domain_answer, domain_slice}
 use Rattle.dpl_values.proofs.+walk.Goals as goal
 
