@@ -10,6 +10,10 @@ pub mod Standing
 pub mod Tested
 pub mod Elements
 pub mod Binding
+pub mod Alongside
+pub mod PutRows
+pub mod BoundAgain
+pub mod RowTurns
 pub mod Listed
 pub mod Wholes
 pub mod Gathered

@@ -14,3 +14,4 @@ pub mod Changes
 pub mod Arrays
 pub mod Texts
 pub mod Turns
+pub mod Rows

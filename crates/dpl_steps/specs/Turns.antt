@@ -1,7 +1,8 @@
 -- The turns of a loop over a range, by its members.
 -- What a loop runs over is evaluated and tested before its first turn.
-use Rattle.std.specs.Prelude.{ℕ, ◌+◌, nat_lt, ℤ, pos, get_or, if◌then◌else◌, None, List, [], ◌∷◌, Result, Ok, Err}
+use Rattle.std.specs.Prelude.{◌≡◌, ℕ, ◌+◌, ◌^◌, nat_lt, ℤ, pos, ◌+ℤ◌, ◌<ℤ◌, length, get_or, if◌then◌else◌, None, List, [], ◌∷◌, Result, Ok, Err}
 use Rattle.dpl_syntax.specs.declared.place.Place.{Place}
+use Rattle.dpl_domain.specs.Ranks.{last_of}
 use Rattle.dpl_language.specs.Tree.{ItemTree, Stmts, Op}
 use Rattle.dpl_language.specs.Values.{Value, Int, Domain, Index, Fault, fault, Budget}
 use Rattle.dpl_language.specs.Ranges.{size_in, loop_ranges}
@@ -49,3 +50,7 @@ index_turn limits names body t s done = exec_all limits in_memory body (bound_at
 abbrev pub intended_turns : List (Variable × Op) → (Index → Run Memory) → List Index → Run Memory
 intended_turns intents turn ts s done =
     then_do (in_order (named_turn turn) ts (in_memory.intend intents s) done) (λ s done. Done (in_memory.intend [] s) done)
+
+-- the last coordinate of an index can be so much greater
+abbrev pub HasRoom : Index → ℕ → Type 0
+HasRoom t k = (x y z : ℤ) → t ≡ last_of (length t) x y z → (z +ℤ pos k) <ℤ pos (2 ^ 63)

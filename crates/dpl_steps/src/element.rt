@@ -30,9 +30,9 @@ use dpl_tree::Assign;
 use dpl_values::number::{difference, product, quotient, remainder, sum};
 use dpl_values::{coordinate_value, index_value, int_value, truth_value};
 
-// Whether an operator divides.
+/// Whether an operator divides.
 #[inline(always)]
-fn divides(op: Assign) -> bool
+pub(crate) fn divides(op: Assign) -> bool
     ensures { result ≡ assign_divides (assign_view op) }
 {
     match op {
@@ -45,9 +45,9 @@ fn divides(op: Assign) -> bool
     }
 }
 
-// What an operator makes of an element. Outside foralls, and of an element always, `reduce=` is `=`.
+/// What an operator makes of an element. Outside foralls, and of an element always, `reduce=` is `=`.
 #[inline(always)]
-fn assigned(op: Assign, old: i64, value: i64) -> i64
+pub(crate) fn assigned(op: Assign, old: i64, value: i64) -> i64
     requires { assign_divides (assign_view op) ≡ true → value ≢ pos 0 }
     ensures { Int result ≡ assigned (assign_view op) None (Int old) (Int value) }
 {
@@ -61,9 +61,9 @@ fn assigned(op: Assign, old: i64, value: i64) -> i64
     }
 }
 
-// Whether an operator has no use for the old value.
+/// Whether an operator has no use for the old value.
 #[inline(always)]
-fn replaces(op: Assign) -> bool
+pub(crate) fn replaces(op: Assign) -> bool
     ensures value { (result ≡ true) → (old new : Value) → assigned (assign_view op) None old new ≡ new }
     ensures divides { (result ≡ true) → assign_divides (assign_view op) ≡ false }
 {

@@ -12,11 +12,14 @@ mod element;
 mod owner;
 mod print;
 mod reduce;
+mod row;
 pub mod simple;
 mod statement;
+mod turn;
 mod whole;
 
 pub use context::Context;
 pub use each::{bind, domain_indices};
 pub use print::write;
 pub use statement::{range_indices, run};
+pub use turn::make_row;

@@ -25,6 +25,7 @@ ghost use Rattle.dpl_values.specs.Reductions.{MayRefuseReduction, EachInInts, Ea
 ghost use Rattle.dpl_steps.specs.Refusals.{MayRefuseWhole};
 
 use crate::element::{change, change_truth};
+use crate::row::{filled, put_row};
 use dpl_domain::Index;
 use dpl_frame::{DomainWord, Frame};
 use dpl_loop::stop::told;
@@ -33,7 +34,9 @@ use dpl_nodes::{ArrayName, PromotedInt, PromotedTruth, Spot};
 use dpl_tree::Assign;
 use dpl_values::budget::within_budget;
 use dpl_values::domain::coordinate;
-use dpl_values::{int_domain, promoted_int_value, promoted_truth_value, truth_domain};
+use dpl_values::{
+    int_domain, promoted_int_value, promoted_strip, promoted_truth_value, truth_domain,
+};
 
 // One int at each index.
 #[derive(Clone, Copy)]
@@ -50,6 +53,11 @@ impl<'e, 't> Turns<Frame<'t>> for Fill<'e> {
     #[inline(always)]
     fn make(&self, index: Index, frame: &mut Frame<'t>) -> Result<(), Stop> {
         told(change(self.name, self.op, self.sign, index, self.value, frame))
+    }
+
+    fn make_row(&self, first: Index, most: usize, frame: &mut Frame<'t>) -> usize {
+        let strip = filled(first, self.value);
+        put_row(self.name, self.op, self.sign, first, strip, most, frame)
     }
 }
 
@@ -69,6 +77,11 @@ impl<'e, 'x, 't> Turns<Frame<'t>> for Promote<'e, 'x> {
     fn make(&self, index: Index, frame: &mut Frame<'t>) -> Result<(), Stop> {
         let value = promoted_int_value(self.e, &index, frame, &OpenGate)?;
         told(change(self.name, self.op, self.sign, index, value, frame))
+    }
+
+    fn make_row(&self, first: Index, most: usize, frame: &mut Frame<'t>) -> usize {
+        let strip = promoted_strip(self.e, first, frame);
+        put_row(self.name, self.op, self.sign, first, strip, most, frame)
     }
 }
 

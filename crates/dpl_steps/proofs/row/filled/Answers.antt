@@ -1,0 +1,11 @@
+-- One int stands everywhere.
+-- These are the answers to the goals of `filled`.
+use Rattle.std.proofs.Common.{FitsSigned, w64, ◌∙◌}
+use Rattle.std.proofs.lemmas.Int.{to_z-of_z}
+use Rattle.dpl_values.proofs.Strips.{repeated}
+use Rattle.dpl_steps.proofs.row.filled.Goals as goal
+
+pub returns : goal.returns
+returns c k below =
+    let fits : FitsSigned w64 c.args.word = c.ranges.word in
+    repeated 64 k _ below ∙ to_z-of_z w64 c.args.word fits

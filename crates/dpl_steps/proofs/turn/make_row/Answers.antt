@@ -1,0 +1,14 @@
+-- Of another body no turns are made.
+-- These are the answers to the goals of `make_row`.
+use Rattle.std.proofs.Common.{refl, arith}
+use Rattle.dpl_steps.proofs.RowTurns.{none-done}
+use Rattle.dpl_steps.proofs.turn.make_row.Goals as goal
+
+pub returns-in_default-clause-done : goal.returns-in_default-clause-done
+returns-in_default-clause-done c = none-done _ c.args.first c.args.frame.now.memory
+
+pub returns-in_default-2-clause-done : goal.returns-in_default-2-clause-done
+returns-in_default-2-clause-done c = none-done _ c.args.first c.args.frame.now.memory
+
+pub returns-in_default-step : goal.returns-in_default-step
+returns-in_default-step c = record { most = omega arith; done = none-done _ c.args.first c.args.frame.now.memory; limits = refl }

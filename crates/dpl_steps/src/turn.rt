@@ -1,0 +1,100 @@
+// Turns of a forall that are made at once: those whose body is one assignment to an element, along a row of indices.
+// The ints are evaluated for several turns, and then put side by side.
+
+ghost use Rattle.std.specs.Prelude.{◌≡◌, ◌≤◌, true};
+ghost use Rattle.dpl_array.specs.Elements.{behind};
+ghost use Rattle.dpl_language.specs.Tree.{IntKind, NoStmts, Then};
+ghost use Rattle.dpl_standing.specs.Standing.{InTurn};
+ghost use Rattle.dpl_tree.specs.Words.{assign_view};
+ghost use Rattle.dpl_nodes.specs.Typed.{int_view};
+ghost use Rattle.dpl_nodes.specs.Steps.{array_leaf, element_set};
+ghost use Rattle.dpl_loop.specs.Runs.{AreDone};
+ghost use Rattle.dpl_steps.specs.Readings.{steps_in};
+ghost use Rattle.dpl_steps.specs.Turns.{HasRoom, index_turn};
+
+use crate::each::bind;
+use crate::row::put_row;
+use dpl_domain::Index;
+use dpl_frame::Frame;
+use dpl_loop::STRIP;
+use dpl_nodes::{ArrayName, IndexExpr, IntExpr, Names, Spot, Step};
+use dpl_tree::Assign;
+use dpl_values::domain::{coordinate, plane, space};
+use dpl_values::{turn_index, turn_strip};
+
+// Whether the last coordinate of an index can be greater by a whole strip.
+fn has_room(first: Index) -> bool
+    ensures { result ≡ true → HasRoom first 64 }
+{
+    // Nothing is read here: that an index has coordinates is a clause of this call.
+    let _ = first.rank();
+    let (_, _, inner) = first.numbers();
+    inner.checked_add(STRIP as i64).is_some()
+}
+
+// The index so far behind another.
+fn behind(first: Index, k: usize) -> Index
+    requires most { k ≤ 64 }
+    requires room { HasRoom first 64 }
+    ensures { result ≡ behind k first }
+{
+    let (outer, middle, inner) = first.numbers();
+    let last = inner + k as i64;
+    match first.rank() {
+        1 => coordinate(last),
+        2 => plane(middle, last),
+        _ => space(outer, middle, last),
+    }
+}
+
+// An assignment to an element, in the turns of an index and of those behind it.
+fn assign_row<'t>(
+    names: &Names<'t>,
+    name: &ArrayName<'t>,
+    index: &IndexExpr<'t>,
+    op: Assign,
+    sign: &Spot,
+    e: &IntExpr<'t>,
+    first: Index,
+    most: usize,
+    frame: &mut Frame<'t>,
+) -> usize
+    ensures most { result ≤ most }
+    ensures done { AreDone (index_turn frame.old.limits names.now (Then (element_set (array_leaf IntKind name.now) index.now (assign_view op) sign.now (int_view e.now)) NoStmts)) first result frame.old.memory frame.new.memory }
+    ensures limits { frame.new.limits ≡ frame.old.limits }
+{
+    if !has_room(first) {
+        return 0;
+    }
+    let Some(at) = turn_index(index, names, first, frame) else {
+        return 0;
+    };
+    let strip = turn_strip(e, names, name.slot, first, frame);
+    let made = put_row(name, op, sign, at, strip, most, frame);
+    if made > 0 {
+        bind(names, behind(first, made - 1), frame);
+    }
+    made
+}
+
+/// Makes the turns of an index and of those behind it, at most so many, where the body is one assignment to an element and its ints are
+/// found several at once; how many.
+pub fn make_row<'t>(
+    names: &Names<'t>,
+    body: &[Step<'t>],
+    first: Index,
+    most: usize,
+    frame: &mut Frame<'t>,
+) -> usize
+    ensures most { result ≤ most }
+    ensures done { AreDone (index_turn frame.old.limits names.now (steps_in InTurn body.now)) first result frame.old.memory frame.new.memory }
+    ensures limits { frame.new.limits ≡ frame.old.limits }
+{
+    let [step] = body else {
+        return 0;
+    };
+    let Step::SetElement(name, index, op, sign, e) = step else {
+        return 0;
+    };
+    assign_row(names, name, index, *op, sign, e, first, most, frame)
+}
