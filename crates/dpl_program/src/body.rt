@@ -9,7 +9,7 @@ use dpl_domain::Index;
 use dpl_frame::Frame;
 use dpl_loop::{Gate, Stop, Turns};
 use dpl_nodes::{Argument, DomainExpr, Intent, Names, RangeExpr, Spot, Step};
-use dpl_steps::{Context, bind, run};
+use dpl_steps::{Context, bind, make_row, run};
 
 // In a turn of a forall.
 struct TurnContext;
@@ -19,6 +19,11 @@ impl Gate for TurnContext {
 
     #[inline(always)]
     fn enter(&self, _worker: u32, _place: u64) -> bool {
+        true
+    }
+
+    #[inline(always)]
+    fn is_open(&self) -> bool {
         true
     }
 }
@@ -79,5 +84,9 @@ impl<'b, 't> Turns<Frame<'t>> for Body<'b, 't> {
     fn make(&self, index: Index, frame: &mut Frame<'t>) -> Result<(), Stop> {
         bind(&self.names, index, frame);
         run(self.steps, &TurnContext, frame, &mut ())
+    }
+
+    fn make_row(&self, first: Index, most: usize, frame: &mut Frame<'t>) -> usize {
+        make_row(&self.names, self.steps, first, most, frame)
     }
 }

@@ -42,6 +42,11 @@ impl<'g, G: Gate> Gate for ProgramContext<'g, G> {
     fn enter(&self, worker: u32, place: u64) -> bool {
         self.gate.enter(worker, place)
     }
+
+    #[inline(always)]
+    fn is_open(&self) -> bool {
+        self.gate.is_open()
+    }
 }
 
 // The turns of a forall over a domain with its reduce variables, dealt out by the map that its text tells.
