@@ -186,6 +186,28 @@ pub(crate) const ENTRIES: [Row; 28] = [
     ("forall i in 1..1001 { }", &[], "! F5 at 1:1\n"),
 ];
 
+// Reductions that take several indices at once: the places, how many one after another each locale has, and what is written.
+const STRIPS: [(&str, u64, u64, &str); 3] = [
+    (
+        "var A: [1..40] int = 2; writeln(+ reduce A);",
+        40,
+        40,
+        "80\n",
+    ),
+    (
+        "const D = {1..68} dmapped new blockDist(boundingBox={1..68}); var A: [D] int = 3; writeln(+ reduce (A * 2 - 1));",
+        68,
+        17,
+        "340\n",
+    ),
+    (
+        "const D = {1..2, 1..36} dmapped new blockDist(boundingBox={1..2, 1..36}); var A: [D] int = 1; writeln(+ reduce A);",
+        72,
+        18,
+        "72\n",
+    ),
+];
+
 // Lets these entries pass alone.
 #[derive(Drop)]
 struct Passing(&'static [Entry]);
@@ -200,6 +222,24 @@ impl Gate for Passing {
             }
         }
         false
+    }
+}
+
+// The locale of a place, where each has so many one after another.
+fn locale_of(place: u64, size: u64) -> Option<u32> {
+    let block = place.checked_div(size)?;
+    u32::try_from(block).ok()
+}
+
+// Lets those entries pass in which each locale has so many places one after another.
+#[derive(Drop)]
+struct Blocks(u64);
+
+impl Gate for Blocks {
+    ghost may_refuse = { λ _ _ _. Unit {0} };
+
+    fn enter(&self, worker: u32, place: u64) -> bool {
+        locale_of(place, self.0) == Some(worker)
     }
 }
 
@@ -244,7 +284,23 @@ fn writes<G: Gate + Sync>(
     }
 }
 
-// Whether a run is refused where one of these entries is, and where another worker's entry is, is not.
+// Whether a run is refused where an entry is, and where another worker's entry is, is not.
+fn asks_for(
+    rt: &HostRuntime,
+    text: &str,
+    entry: Entry,
+    bytes: &str,
+    config: &Config,
+) -> Result<bool, Refused> {
+    let (worker, place) = entry;
+    if written(rt, text, config, &Refusing(worker, place))?.is_some() {
+        return Ok(false);
+    }
+    let other = Refusing(worker.wrapping_add(1) % 4, place);
+    writes(rt, text, bytes, config, &other)
+}
+
+// The same of each of these entries.
 fn asks(
     rt: &HostRuntime,
     text: &str,
@@ -252,12 +308,28 @@ fn asks(
     bytes: &str,
     config: &Config,
 ) -> Result<bool, Refused> {
-    for (worker, place) in entries {
-        if written(rt, text, config, &Refusing(*worker, *place))?.is_some() {
+    for entry in entries {
+        if !asks_for(rt, text, *entry, bytes, config)? {
             return Ok(false);
         }
-        let other = Refusing(worker.wrapping_add(1) % 4, *place);
-        if !writes(rt, text, bytes, config, &other)? {
+    }
+    Ok(true)
+}
+
+// The same of so many places, of which each locale has so many one after another.
+fn asks_in_blocks(
+    rt: &HostRuntime,
+    text: &str,
+    places: u64,
+    size: u64,
+    bytes: &str,
+    config: &Config,
+) -> Result<bool, Refused> {
+    for place in 0..places {
+        let Some(locale) = locale_of(place, size) else {
+            return Ok(false);
+        };
+        if !asks_for(rt, text, (locale, place), bytes, config)? {
             return Ok(false);
         }
     }
@@ -273,6 +345,20 @@ pub(crate) fn first_wrong_at_the_gate(
     for (text, entries, bytes) in rows {
         let passes = writes(rt, text, bytes, config, &Passing(*entries))?;
         if !passes || !asks(rt, text, entries, bytes, config)? {
+            return Ok(Some(*text));
+        }
+    }
+    Ok(None)
+}
+
+/// The first text whose places aren't entered in blocks.
+pub(crate) fn first_wrong_in_blocks(
+    rt: &HostRuntime,
+    config: &Config,
+) -> Result<Option<&'static str>, Refused> {
+    for (text, places, size, bytes) in &STRIPS {
+        let passes = writes(rt, text, bytes, config, &Blocks(*size))?;
+        if !passes || !asks_in_blocks(rt, text, *places, *size, bytes, config)? {
             return Ok(Some(*text));
         }
     }

@@ -5,6 +5,8 @@
 #[cfg(test)]
 mod arrays;
 #[cfg(test)]
+mod at_once;
+#[cfg(test)]
 mod closed;
 #[cfg(test)]
 mod domains;

@@ -1,14 +1,16 @@
 // The tests over the tables and texts of the other files: by which settings each is run.
 // A failure names the text of the first row that writes something else.
 
-use crate::gates::{ENTRIES, first_wrong_at_the_gate};
+use crate::gates::{ENTRIES, first_wrong_at_the_gate, first_wrong_in_blocks};
 use crate::leaves::{LEAVES, element_left, int_left, members_left};
 use crate::long::{nested, program, sums};
 use crate::writing::{
     BudgetRow, Row, SetRow, first_wrong, first_wrong_anywhere, first_wrong_within, one_locale,
     written,
 };
-use crate::{arrays, closed, domains, maps, reduction_faults, reductions, scalars, sets, worked};
+use crate::{
+    arrays, at_once, closed, domains, maps, reduction_faults, reductions, scalars, sets, worked,
+};
 use dpl_run::{
     Config, ConfigFault, Maps, OpenGate, Outcome, Plain, Refused, Value, dump, run_text,
 };
@@ -40,6 +42,16 @@ const ANYWHERE: [&[Row]; 24] = [
     &reductions::FORMS,
     &reductions::STRIPS,
     &reduction_faults::FAULTS,
+];
+
+// Run by every setting, in a test of its own: the prover goes through all tables of a test together, and has a limit for it.
+const AT_ONCE: [&[Row]; 6] = [
+    &at_once::LENGTHS,
+    &at_once::INDICES,
+    &at_once::RIGHT_SIDES,
+    &at_once::OPERATORS,
+    &at_once::FAULTS,
+    &at_once::PIECES,
 ];
 
 // Run on one locale alone: refusals, which come before any run.
@@ -81,6 +93,12 @@ fn within_budgets(rt: HostRuntime) -> Result<(), Fail> {
 #[test]
 fn by_every_setting(rt: HostRuntime) -> Result<(), Fail> {
     assert_eq!(rt; first_wrong_anywhere(&rt, &ANYWHERE)?, None);
+    Ok(())
+}
+
+#[test]
+fn turns_at_once(rt: HostRuntime) -> Result<(), Fail> {
+    assert_eq!(rt; first_wrong_anywhere(&rt, &AT_ONCE)?, None);
     Ok(())
 }
 
@@ -243,6 +261,7 @@ fn refusals(rt: HostRuntime) -> Result<(), Fail> {
 #[test]
 fn entries(rt: HostRuntime) -> Result<(), Fail> {
     let config = Config::new(4, 1000, 9, [2, 2], [2, 2, 1], Maps::AsIs)?;
+    assert_eq!(rt; first_wrong_in_blocks(&rt, &config)?, None);
     assert_eq!(rt; first_wrong_at_the_gate(&rt, &ENTRIES, &config)?, None);
     Ok(())
 }
