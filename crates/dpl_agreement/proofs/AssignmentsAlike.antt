@@ -7,7 +7,7 @@ use Rattle.dpl_syntax.specs.declared.place.Place.{Place}
 use Rattle.dpl_history.specs.declared.cell.CellOp.{CellOp}
 use Rattle.dpl_history.specs.declared.cell.CellOp.TheVariants.{Reset}
 use Rattle.dpl_history.specs.declared.cell.Reply.{Reply}
-use Rattle.dpl_range.specs.Equality.{TextRange}
+use Rattle.dpl_sets.specs.TextRanges.{TextRange}
 use Rattle.dpl_language.specs.Tree.{Placed, Kind, AssignTree, ItemTree, One, Exprs, TargetTree, Whole, Element, CallTree, ReadCall, ResetCall, WriteCall, ArgumentTree, TextArgument, ExprArgument, WriteTree}
 use Rattle.dpl_language.specs.Values.{Value, Index, index_of, ranges_in, array_domain, is_domain, cell_kind, kept_number, number, fault, ZeroDivisor, ArrayTooLarge}
 use Rattle.dpl_language.specs.Arithmetic.{assigned, assign_divides, tested_divisor}

@@ -3,7 +3,7 @@
 use Rattle.std.proofs.Common.{◌≡◌, ℕ, List, [], ◌∷◌, refl, ap, ◌∙◌, Ok, Err, Some, None, Result, Option, nat_lt}
 use Rattle.std.specs.Prelude.{if◌then◌else◌}
 use Rattle.dpl_syntax.specs.declared.place.Place.{Place}
-use Rattle.dpl_range.specs.Equality.{TextRange}
+use Rattle.dpl_sets.specs.TextRanges.{TextRange}
 use Rattle.dpl_language.specs.Tree.{Placed, Op, ExprTree, Number, TruthWord, Named, LocalesWord, LocaleCount, HereWord, Grouped, DomainLiteral, Prefixed, Reduced, Chain, Postfixed, ItemTree, One, RangeItem, Stride, NoStride, By, Links, NoLinks, Link, Posts, NoPosts, Post, PostTree, Brackets, Rounds, Dotted, MethodTree, Plainly, Dim, Contains, Expand, CellRead, Items, FirstItem, MoreItems, NoItems, NextItem, Exprs, FirstExpr, MoreExprs, NoExprs, NextExpr}
 use Rattle.dpl_language.specs.Values.{Value, Int, Truth, Range, Domain, Array, Cell, Locale, AllLocales, Tuple, Index, number, index_of, array_domain, Fault, fault, Budget}
 use Rattle.dpl_language.specs.Arithmetic.{infix_of, divides, tested_divisor, decides, combined, unit_of}

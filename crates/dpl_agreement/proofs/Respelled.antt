@@ -9,7 +9,7 @@ use Rattle.dpl_history.specs.declared.cell.Reply.{Reply}
 use Rattle.dpl_history.specs.declared.history.Event.{Event}
 use Rattle.dpl_history.specs.Cells.{effect}
 use Rattle.dpl_history.specs.Histories.{after}
-use Rattle.dpl_range.specs.Equality.{TextRange}
+use Rattle.dpl_sets.specs.TextRanges.{TextRange}
 use Rattle.dpl_language.specs.Tree.{Op, Assign, ProgramTree}
 use Rattle.dpl_language.specs.Values.{Value, Domain, Index, index_of, ranges_in, array_domain, is_domain}
 use Rattle.dpl_language.specs.Environment.{Content, Plain, ArrayOf, CellOf, Answer, Replied, Unanswered, Limits}

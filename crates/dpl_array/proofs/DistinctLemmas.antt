@@ -3,9 +3,9 @@
 use Rattle.std.proofs.Common.{◌≡◌, ◌<◌, ◌≤◌, ◌+◌, ◌==◌, ℕ, zero, suc, ℤ, List, [], ◌∷◌, length, filter, slice_get, Bool, true, false, cond, Some, IfSome, All, refl, ap, sym, subst, ◌∙◌, arith, append-nil, eq-eqb}
 use Rattle.std.specs.List.{zip}
 use Rattle.std.proofs.lemmas.Option.{same_Some, slice_get_within, get_or_from_slice_get}
-use Rattle.dpl_range.specs.Range.{RangeValue}
+use Rattle.dpl_sets.specs.Ranges.{RangeValue}
 use Rattle.dpl_range.specs.Invariant.{IsRange}
-use Rattle.dpl_domain.specs.Indices.{indices}
+use Rattle.dpl_sets.specs.Indices.{indices}
 use Rattle.dpl_domain.specs.Ranks.{last_of}
 use Rattle.dpl_domain.proofs.DistinctLemmas.{indices-distinct, AreRanges}
 use Rattle.dpl_map.specs.Cuts.{AreCut}

@@ -3,8 +3,8 @@
 use Rattle.std.proofs.Common.{◌≡◌, ◌↔◌, ◌≤◌, ◌==◌, filter, ◌<◌, ℕ, ℤ, List, [], ◌∷◌, ◌++◌, drop, length, slice_get, slice_set, replicate, Option, Some, None, refl, ap, sym, subst, ◌∙◌, arith}
 use Rattle.std.specs.List.{zip}
 use Rattle.std.proofs.lemmas.Option.{none-some, same_Some, slice_get_within}
-use Rattle.dpl_range.specs.Range.{RangeValue}
-use Rattle.dpl_domain.specs.Indices.{indices}
+use Rattle.dpl_sets.specs.Ranges.{RangeValue}
+use Rattle.dpl_sets.specs.Indices.{indices}
 use Rattle.dpl_map.specs.Maps.{AxisValue, owner}
 use Rattle.dpl_map.specs.Parts.{part}
 use Rattle.dpl_array.specs.Elements.{Elements, value_at, with_value, keys_of, IsOver, filled, tabulated}

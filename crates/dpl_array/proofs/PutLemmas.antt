@@ -3,7 +3,7 @@
 use Rattle.std.proofs.Common.{◌≡◌, ◌<◌, ◌≤◌, ◌+◌, ℕ, zero, suc, ℤ, List, [], ◌∷◌, length, map, slice_get, slice_set, slice_index_or, Option, Some, None, is_some, true, refl, ap, sym, subst, ◌∙◌, arith, length-set, get_or-set_same}
 use Rattle.std.proofs.lemmas.List.{set-set}
 use Rattle.std.proofs.lemmas.Option.{same_Some, slice_get_within}
-use Rattle.dpl_range.specs.Range.{RangeValue}
+use Rattle.dpl_sets.specs.Ranges.{RangeValue}
 use Rattle.dpl_map.specs.Maps.{AxisValue}
 use Rattle.dpl_map.specs.Parts.{part}
 use Rattle.dpl_array.specs.Elements.{behind, put_in_row, put_some, tabulated, value_at}

@@ -8,12 +8,12 @@ use mir.Val.{of_z, to_z}
 use Rattle.std.proofs.lemmas.Bool.{cases_lt}
 use Rattle.std.proofs.lemmas.Bool.Decides.{Decides-int_eq}
 use Rattle.std.proofs.lemmas.Option.{same_Some}
-use Rattle.dpl_range.specs.Range.{RangeValue, members_of}
+use Rattle.dpl_sets.specs.Ranges.{RangeValue, members_of}
 use Rattle.dpl_range.specs.Invariant.{IsRange}
-use Rattle.dpl_range.specs.Equality.{SameRange}
+use Rattle.dpl_sets.specs.TextRanges.{SameRange}
 use Rattle.dpl_range.proofs.EqualityLemmas.{SameRange-self}
-use Rattle.dpl_domain.specs.Indices.{indices}
-use Rattle.dpl_domain.specs.Equality.{SameDomain, values_of}
+use Rattle.dpl_sets.specs.Indices.{indices}
+use Rattle.dpl_sets.specs.TextDomains.{SameDomain, values_of}
 use Rattle.dpl_domain.specs.Progression.{progression}
 use Rattle.dpl_domain.specs.Ranks.{last_of, point, IsPadded}
 use Rattle.dpl_domain.proofs.EqualityLemmas.{DomainsAlike-same}

@@ -7,8 +7,8 @@ use Rattle.std.proofs.lemmas.List.Sums.{length-filter, count_by-le-length}
 use Rattle.std.specs.Option.{option_map}
 use Rattle.std.proofs.lemmas.Option.{none-some, same_Some}
 use Rattle.dpl_array.specs.Elements.{Elements, same_index, value_at, with_value, keys_of, owned, element_before, filled, tabulated, IsOver}
-use Rattle.dpl_range.specs.Range.{RangeValue}
-use Rattle.dpl_domain.specs.Indices.{indices, IsSmall}
+use Rattle.dpl_sets.specs.Ranges.{RangeValue}
+use Rattle.dpl_sets.specs.Indices.{indices, IsSmall}
 use Rattle.dpl_map.specs.Maps.{AxisValue, owner, locales}
 use Rattle.dpl_array.specs.Arrays.{ArrayValue, IsArray, or_value, taken_over}
 use Rattle.dpl_array.specs.Rows.{StandsIn}

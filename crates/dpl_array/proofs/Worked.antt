@@ -1,9 +1,9 @@
 -- Worked rows of the definitions, each by computation.
 -- They are small enough to be worked out on paper beside the definitions.
 use Rattle.std.proofs.Common.{◌≡◌, ℕ, ℤ, pos, negsuc, List, [], ◌∷◌, Some, None, length, map, refl}
-use Rattle.dpl_range.specs.Members.{members}
-use Rattle.dpl_range.specs.Range.{RangeValue}
-use Rattle.dpl_domain.specs.Indices.{indices}
+use Rattle.dpl_sets.specs.Members.{members}
+use Rattle.dpl_sets.specs.Ranges.{RangeValue}
+use Rattle.dpl_sets.specs.Indices.{indices}
 use Rattle.dpl_map.specs.Maps.{owner, cyclic_map, block_cyclic_map, whole_map, Block}
 use Rattle.dpl_map.specs.Places.{block_place, cyclic_place, block_cyclic_place}
 use Rattle.dpl_array.specs.Elements.{Elements, value_at, with_value, tabulated}

@@ -1,7 +1,7 @@
 -- How pieces are kept: one in the place of each locale.
 -- A place without a piece is an empty slot in the model too.
 use Rattle.std.specs.Prelude.{◌≡◌, ◌<◌, ℕ, ℤ, List, Option, Some, None, map, length, slice_get}
-use Rattle.dpl_range.specs.Range.{RangeValue}
+use Rattle.dpl_sets.specs.Ranges.{RangeValue}
 use Rattle.dpl_map.specs.Maps.{AxisValue, owner, locales}
 use Rattle.dpl_map.specs.Parts.{part}
 use Rattle.dpl_array.specs.Elements.{Elements, IsOver}

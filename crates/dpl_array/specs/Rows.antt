@@ -2,8 +2,8 @@
 -- Contracts of private functions and the invariant of a piece speak of this row.
 use Rattle.std.specs.Prelude.{◌≡◌, ◌≢◌, ◌<◌, ◌+◌, ℕ, zero, suc, ℤ, List, [], All, length, slice_get, slice_set, slice_index_or, Option, Some, None, take}
 use Rattle.std.specs.List.{flat_map, sum_by}
-use Rattle.dpl_range.specs.Range.{RangeValue}
-use Rattle.dpl_domain.specs.Indices.{indices}
+use Rattle.dpl_sets.specs.Ranges.{RangeValue}
+use Rattle.dpl_sets.specs.Indices.{indices}
 
 -- the row of some domains
 abbrev pub row_of : List (List RangeValue) → List (List ℤ)

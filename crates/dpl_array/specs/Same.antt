@@ -2,8 +2,8 @@
 -- A value says nothing of how its text was written, so the stride has to tell it.
 use Rattle.std.specs.Prelude.{List, pos, not, map}
 use Rattle.std.specs.Ordering.{int_eq}
-use Rattle.dpl_range.specs.Range.{RangeValue}
-use Rattle.dpl_range.specs.Equality.{TextRange}
+use Rattle.dpl_sets.specs.Ranges.{RangeValue}
+use Rattle.dpl_sets.specs.TextRanges.{TextRange}
 
 -- a range whose stride is 1 counts as one that the text makes unstrided, so that its bounds are compared
 abbrev pub text_of : RangeValue → TextRange

@@ -1,7 +1,7 @@
 -- What a walk over the elements of an array has still to give.
 -- The model of a walk is that list, and its invariant says that nothing is left out of it.
 use Rattle.std.specs.Prelude.{◌≡◌, ◌≤◌, ◌<◌, ◌==◌, ◌++◌, ℕ, List, ℤ, filter, length, slice_index_or}
-use Rattle.dpl_domain.specs.Indices.{indices, IsSmall}
+use Rattle.dpl_sets.specs.Indices.{indices, IsSmall}
 use Rattle.dpl_map.specs.Maps.{AxisValue, owner, locales}
 use Rattle.dpl_array.specs.Elements.{Elements, value_at, tabulated}
 use Rattle.dpl_array.specs.Arrays.{ArrayValue, IsArray}

@@ -2,7 +2,7 @@
 // An array is its pieces, which are all there; taking it apart and putting it together move them and no more.
 
 ghost use Rattle.std.specs.Prelude.{◌≡◌, ◌≤◌, ◌^◌, ◌↔◌, ◌<◌, ℕ, true, false, is_some, length, IsSome, IfOk, IfSome};
-ghost use Rattle.dpl_domain.specs.Indices.{indices};
+ghost use Rattle.dpl_sets.specs.Indices.{indices};
 ghost use Rattle.dpl_map.specs.Maps.{locales};
 ghost use Rattle.dpl_array.specs.Elements.{value_at, behind, put_in_row, IsRunOf};
 ghost use Rattle.dpl_array.specs.Arrays.{IsArray, IsSmallArray, IsWhole, array_with, filled_array, pieces_of, restriction, union};

@@ -2,7 +2,7 @@
 // An element is found by the search of the map in the domains of the part; a value at each place of their row.
 
 ghost use Rattle.std.specs.Prelude.{◌≡◌, ◌≤◌, ◌<◌, ◌+◌, ◌^◌, ℕ, Some, true, false, is_some, IfOk, IfSome, length, replicate, slice_get};
-ghost use Rattle.dpl_domain.specs.Indices.{indices};
+ghost use Rattle.dpl_sets.specs.Indices.{indices};
 ghost use Rattle.dpl_map.specs.Parts.{part};
 ghost use Rattle.dpl_array.specs.Elements.{value_at, behind, filled, keys_of, put_in_row, IsRunOf};
 ghost use Rattle.dpl_array.specs.Arrays.{IsPiece, piece_with};

@@ -2,7 +2,7 @@
 // A piece goes only into the free place of its locale, and only where its domain and its map are the array's.
 
 ghost use Rattle.std.specs.Prelude.{◌≡◌, ◌≤◌, ◌<◌, ◌^◌, ◌↔◌, ℕ, Some, None, true, false, is_some, length, slice_get, IsTrue, IsOk, IfOk, IfErr, IfSome, OnOk, OnErr};
-ghost use Rattle.dpl_domain.specs.Equality.{SameDomain};
+ghost use Rattle.dpl_sets.specs.TextDomains.{SameDomain};
 ghost use Rattle.dpl_map.specs.Maps.{owner, locales};
 ghost use Rattle.dpl_array.specs.Same.{texts_of};
 ghost use Rattle.dpl_array.specs.Elements.{behind, put_in_row};

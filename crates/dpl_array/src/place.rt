@@ -3,7 +3,7 @@
 
 ghost use Rattle.std.specs.Prelude.{◌≡◌, ◌≤◌, ◌^◌, ◌↔◌, ℕ, Some, IfOk, IfSome, slice_get, length};
 ghost use Rattle.dpl_map.specs.Orders.{ArePart};
-ghost use Rattle.dpl_domain.specs.Indices.{indices};
+ghost use Rattle.dpl_sets.specs.Indices.{indices};
 ghost use Rattle.dpl_array.specs.Rows.{row_of, AreStarts, IsDistinct};
 
 use dpl_domain::{Domain, Index};

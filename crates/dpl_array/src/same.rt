@@ -2,9 +2,9 @@
 // Equal domains may have other bounds and strides; a piece of one fits into an array over the other.
 
 ghost use Rattle.std.specs.Prelude.{◌≡◌, ◌↔◌, IsTrue};
-ghost use Rattle.dpl_range.specs.Range.{members_of};
-ghost use Rattle.dpl_range.specs.Equality.{SameRange};
-ghost use Rattle.dpl_domain.specs.Equality.{SameDomain};
+ghost use Rattle.dpl_sets.specs.Ranges.{members_of};
+ghost use Rattle.dpl_sets.specs.TextRanges.{SameRange};
+ghost use Rattle.dpl_sets.specs.TextDomains.{SameDomain};
 ghost use Rattle.dpl_array.specs.Same.{text_of, texts_of};
 
 use dpl_domain::Domain;

@@ -2,7 +2,7 @@
 // An integer is found among them by plain numbers.
 
 ghost use Rattle.std.specs.Prelude.{◌≡◌, ◌≤◌, ◌<◌, ◌+◌, ◌*◌, ◌^◌, ◌+ℤ◌, ◌≤ℤ◌, ℕ, pos, IfSome};
-ghost use Rattle.dpl_range.specs.Range.{members_of};
+ghost use Rattle.dpl_sets.specs.Ranges.{members_of};
 ghost use Rattle.dpl_array.specs.Windows.{IsSpanOf, IsPlaceOn};
 
 use dpl_range::Range;

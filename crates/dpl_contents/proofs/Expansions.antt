@@ -1,7 +1,7 @@
 -- The bounds of an expanded domain, range by range.
 use Rattle.std.proofs.Common.{◌≡◌, Bool, true, false, not, ◌||◌, List, [], ◌∷◌, ℤ, ◌↔◌, refl}
-use Rattle.dpl_range.specs.Range.{IsBound, is_bound}
-use Rattle.dpl_range.specs.Equality.{TextRange}
+use Rattle.dpl_sets.specs.Ranges.{IsBound, is_bound}
+use Rattle.dpl_sets.specs.TextRanges.{TextRange}
 use Rattle.dpl_range.proofs.LimitLemmas.{is_bound-IsBound}
 use Rattle.dpl_language.specs.Ranges.{past_limit, bounds_past_limit}
 

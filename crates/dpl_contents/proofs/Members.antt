@@ -4,9 +4,9 @@ use Rattle.std.specs.Cmp.{IsEquivalence}
 use Rattle.std.specs.Ordering.{int_eq}
 use Rattle.std.proofs.lemmas.Cmp.{int_eq_equiv}
 use Rattle.std.proofs.lemmas.Map.Views.{list_any-from_Contains, Contains-from_any}
-use Rattle.dpl_range.specs.Equality.{TextRange}
-use Rattle.dpl_domain.specs.Indices.{indices}
-use Rattle.dpl_domain.specs.Equality.{values_of}
+use Rattle.dpl_sets.specs.TextRanges.{TextRange}
+use Rattle.dpl_sets.specs.Indices.{indices}
+use Rattle.dpl_sets.specs.TextDomains.{values_of}
 use Rattle.dpl_language.specs.Ranges.{same_index as is_index, contains_index}
 use Rattle.dpl_array.specs.Elements.{same_index}
 use Rattle.dpl_array.proofs.ElementLemmas.{same_index-refl, same_index-true}

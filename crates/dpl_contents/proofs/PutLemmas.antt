@@ -1,7 +1,7 @@
 -- Words put side by side into the finite map that they are kept as.
 -- Each lemma is by the count of the words that are put.
 use Rattle.std.proofs.Common.{◌≡◌, ℕ, zero, suc, List, ℤ, slice_get, Option, Some, None, refl, ap, ◌∙◌}
-use Rattle.dpl_range.specs.Equality.{TextRange}
+use Rattle.dpl_sets.specs.TextRanges.{TextRange}
 use Rattle.dpl_language.specs.Values.{Index}
 use Rattle.dpl_memory.specs.Memory.{held_with}
 use Rattle.dpl_array.specs.Elements.{behind, put_in_row, put_some}

@@ -4,12 +4,12 @@ use Rattle.std.proofs.Common.{◌≡◌, ◌↔◌, refl, ap, sym, subst, ◌∙
 use Rattle.std.proofs.Math.Nat.{add-div_right, div-eq_of_lt}
 use Rattle.std.proofs.lemmas.Bool.{ltb-false, le-ltb}
 use Rattle.std.proofs.lemmas.Int.{ints, by_lt_z}
-use Rattle.dpl_range.specs.Range.{RangeValue, members_of}
+use Rattle.dpl_sets.specs.Ranges.{RangeValue, members_of}
 use Rattle.dpl_range.specs.Invariant.{IsRange}
-use Rattle.dpl_range.specs.Equality.{TextRange}
+use Rattle.dpl_sets.specs.TextRanges.{TextRange}
 use Rattle.dpl_range.proofs.MemberLemmas.{length-members, members-empty, span_of}
-use Rattle.dpl_domain.specs.Indices.{tuples, indices, IsRank, IsSmall}
-use Rattle.dpl_domain.specs.Equality.{values_of}
+use Rattle.dpl_sets.specs.Indices.{tuples, indices, IsRank, IsSmall}
+use Rattle.dpl_sets.specs.TextDomains.{values_of}
 use Rattle.dpl_domain.proofs.TupleLemmas.{length-rows}
 use Rattle.dpl_language.specs.Ranges.{span, count_in, size_in, too_many, too_large}
 use Rattle.dpl_contents.specs.declared.parts.Parts.{Parts}

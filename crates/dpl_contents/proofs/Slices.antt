@@ -1,10 +1,10 @@
 -- The slices of a domain, dimension by dimension.
 use Rattle.std.proofs.Common.{◌≡◌, ◌≤◌, ℕ, ◌*◌, List, [], ◌∷◌, length, drop, ℤ, refl, ap, sym, ◌∙◌, arith}
 use Rattle.std.proofs.lemmas.Nat.{mul-le}
-use Rattle.dpl_range.specs.Range.{RangeValue, members_of}
+use Rattle.dpl_sets.specs.Ranges.{RangeValue, members_of}
 use Rattle.dpl_range.specs.Invariant.{IsRange}
-use Rattle.dpl_range.specs.Equality.{TextRange}
-use Rattle.dpl_range.specs.Slices.{members_within}
+use Rattle.dpl_sets.specs.TextRanges.{TextRange}
+use Rattle.dpl_sets.specs.RangeSlices.{members_within}
 use Rattle.dpl_domain.proofs.PlaceLemmas.{length-filter_le}
 use Rattle.dpl_language.specs.Ranges.{count_in, all_sliced, range_sliced}
 use Rattle.dpl_contents.specs.Flags.{flagged}

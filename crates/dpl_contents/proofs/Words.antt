@@ -1,9 +1,9 @@
 -- The words of an array as the finite map that they are: a read, a write, and another domain.
 use Rattle.std.proofs.Common.{◌≡◌, ◌^◌, length, Bool, true, false, cond, List, [], ◌∷◌, ℤ, pos, map, Option, Some, None, Result, Ok, Err, ◌↔◌, refl, ap, sym, subst, ◌∙◌, arith, ⊎_elim}
-use Rattle.dpl_range.specs.Equality.{TextRange}
-use Rattle.dpl_range.specs.Range.{RangeValue}
-use Rattle.dpl_domain.specs.Indices.{indices}
-use Rattle.dpl_domain.specs.Equality.{values_of}
+use Rattle.dpl_sets.specs.TextRanges.{TextRange}
+use Rattle.dpl_sets.specs.Ranges.{RangeValue}
+use Rattle.dpl_sets.specs.Indices.{indices}
+use Rattle.dpl_sets.specs.TextDomains.{values_of}
 use Rattle.dpl_domain.proofs.DistinctLemmas.{AreRanges, indices-distinct}
 use Rattle.dpl_language.specs.Values.{Index}
 use Rattle.dpl_language.specs.Ranges.{indices_in, size_in, too_large}

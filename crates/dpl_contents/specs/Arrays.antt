@@ -1,7 +1,7 @@
 -- The words of an array that is kept as a finite map from indices.
 use Rattle.std.specs.Prelude.{◌≡◌, List, ℤ, map}
-use Rattle.dpl_range.specs.Equality.{TextRange}
-use Rattle.dpl_domain.specs.Equality.{values_of}
+use Rattle.dpl_sets.specs.TextRanges.{TextRange}
+use Rattle.dpl_sets.specs.TextDomains.{values_of}
 use Rattle.dpl_array.specs.Elements.{Elements}
 use Rattle.dpl_array.specs.Arrays.{ArrayValue, IsArray}
 use Rattle.dpl_contents.specs.Domains.{AreWritten}

@@ -1,8 +1,8 @@
 -- The fields that keep the ranges of a domain and their flags.
 use Rattle.std.specs.Prelude.{◌≡◌, Bool, false, List, [], ◌∷◌, refl}
 use Rattle.std.proofs.Common.{arith}
-use Rattle.dpl_range.specs.Range.{RangeValue}
-use Rattle.dpl_range.specs.Equality.{TextRange}
+use Rattle.dpl_sets.specs.Ranges.{RangeValue}
+use Rattle.dpl_sets.specs.TextRanges.{TextRange}
 use Rattle.dpl_contents.specs.declared.domain.DomainWord.TheInside.{Inside}
 use Rattle.dpl_contents.specs.Domains.{text_ranges, IsFlagged}
 

@@ -1,8 +1,8 @@
 -- The domain that the ranges of a `Domain` are, with three flags that say which of them the text strides.
 use Rattle.std.specs.Prelude.{Bool, false, List, [], ◌∷◌, length}
-use Rattle.dpl_range.specs.Range.{RangeValue, IsStride}
+use Rattle.dpl_sets.specs.Ranges.{RangeValue, IsStride}
 use Rattle.dpl_range.specs.Invariant.{IsRange}
-use Rattle.dpl_range.specs.Equality.{TextRange}
+use Rattle.dpl_sets.specs.TextRanges.{TextRange}
 use Rattle.dpl_domain.specs.Ranks.{IsPadded}
 use Rattle.dpl_contents.specs.Flags.{flagged}
 

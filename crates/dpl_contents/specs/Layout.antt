@@ -1,6 +1,6 @@
 -- What is printed of the first parts of an array, part by part.
 use Rattle.std.specs.Prelude.{ℕ, zero, suc, List, [], ◌∷◌, ◌++◌, ℤ, map}
-use Rattle.dpl_range.specs.Equality.{TextRange}
+use Rattle.dpl_sets.specs.TextRanges.{TextRange}
 use Rattle.dpl_language.specs.Tree.{Kind}
 use Rattle.dpl_language.specs.Ranges.{size_in}
 use Rattle.dpl_language.specs.Printing.{printed, joined, pieces, between, laid_out}

@@ -1,6 +1,6 @@
 -- The ranges of a domain, taken apart by its rank.
 use Rattle.std.specs.Prelude.{List, [], ◌∷◌}
-use Rattle.dpl_range.specs.Equality.{TextRange}
+use Rattle.dpl_sets.specs.TextRanges.{TextRange}
 use Rattle.dpl_contents.specs.declared.parts.Parts.{Parts}
 use Rattle.dpl_contents.specs.declared.parts.Parts.TheVariants.{Line, Plane, Space}
 use Rattle.dpl_contents.specs.Range.{range_word}

@@ -1,5 +1,5 @@
 -- A range as a value of the language.
-use Rattle.dpl_range.specs.Equality.{TextRange}
+use Rattle.dpl_sets.specs.TextRanges.{TextRange}
 use Rattle.dpl_contents.specs.declared.range.RangeWord.{RangeWord}
 
 -- its members in order, and whether the text strides it

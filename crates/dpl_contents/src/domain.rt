@@ -2,8 +2,8 @@
 // It is kept as a `Domain` and three flags, so that loops and arrays have the `Domain` without work.
 
 ghost use Rattle.std.specs.Prelude.{◌≡◌, ◌≤◌, ◌^◌, ◌↔◌, false, length, map, slice_get, IsSome, IfSome};
-ghost use Rattle.dpl_domain.specs.Equality.{values_of, text_expanded};
-ghost use Rattle.dpl_domain.specs.Indices.{IsRank};
+ghost use Rattle.dpl_sets.specs.TextDomains.{values_of, text_expanded};
+ghost use Rattle.dpl_sets.specs.Indices.{IsRank};
 ghost use Rattle.dpl_language.specs.Ranges.{all_sliced, bounds_past_limit, contains_index, dimension, empty_domain, indices_in, size_in, too_many};
 ghost use Rattle.dpl_contents.specs.Range.{range_word};
 ghost use Rattle.dpl_contents.specs.Parts.{ranges_of};
@@ -25,7 +25,7 @@ pub struct DomainWord {
 
 impl Model for DomainWord {
     ghost use Rattle.std.specs.Prelude.{List};
-    ghost use Rattle.dpl_range.specs.Equality.{TextRange};
+    ghost use Rattle.dpl_sets.specs.TextRanges.{TextRange};
 
     ghost Value = { List TextRange };
 

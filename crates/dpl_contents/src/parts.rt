@@ -2,9 +2,9 @@
 // Whatever is done to a domain dimension by dimension is done here.
 
 ghost use Rattle.std.specs.Prelude.{◌≡◌, ◌≤◌, ◌↔◌, ◌∷◌, [], false, length, map, drop, IsSome, IfSome};
-ghost use Rattle.dpl_domain.specs.Indices.{IsRank};
+ghost use Rattle.dpl_sets.specs.Indices.{IsRank};
 ghost use Rattle.dpl_domain.specs.Ranks.{IsPadded};
-ghost use Rattle.dpl_domain.specs.Equality.{values_of, text_expanded};
+ghost use Rattle.dpl_sets.specs.TextDomains.{values_of, text_expanded};
 ghost use Rattle.dpl_language.specs.Ranges.{all_sliced, range_sliced, bounds_past_limit, count_in, dimension, size_in, too_many};
 ghost use Rattle.dpl_contents.specs.Range.{range_word};
 ghost use Rattle.dpl_contents.specs.Parts.{ranges_of};

@@ -1,7 +1,7 @@
 // A range as a value: its members in order, and whether the text strides it.
 // A clause says what it is by `range_word`, the language's range.
 
-ghost use Rattle.dpl_range.specs.Range.{IsStride};
+ghost use Rattle.dpl_sets.specs.Ranges.{IsStride};
 
 use dpl_range::Range;
 
@@ -15,10 +15,10 @@ pub struct RangeWord {
 
 impl RangeWord {
     ghost use Rattle.std.specs.Prelude.{◌≡◌, ◌≤◌, ◌↔◌, false, pos, [], ◌∷◌, IsSome, IfSome};
-    ghost use Rattle.dpl_range.specs.Range.{IsStride};
+    ghost use Rattle.dpl_sets.specs.Ranges.{IsStride};
     ghost use Rattle.dpl_range.specs.Invariant.{IsRange};
-    ghost use Rattle.dpl_range.specs.Equality.{text_sliced};
-    ghost use Rattle.dpl_domain.specs.Equality.{text_moved};
+    ghost use Rattle.dpl_sets.specs.TextRanges.{text_sliced};
+    ghost use Rattle.dpl_sets.specs.TextDomains.{text_moved};
     ghost use Rattle.dpl_language.specs.Ranges.{unstrided, count_in, bounds_past_limit};
     ghost use Rattle.dpl_contents.specs.Range.{range_word};
     ghost use Rattle.dpl_contents.specs.Flags.{flagged};

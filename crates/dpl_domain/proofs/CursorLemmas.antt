@@ -1,11 +1,11 @@
 -- The steps of a walk over the indices, and the indices as what a walk goes over.
 use Rattle.std.proofs.Common.{◌≡◌, ℕ, zero, suc, ◌<◌, List, [], ◌∷◌, ◌++◌, length, refl, ap, sym, ◌∙◌, arith, ℤ, pos, drop, All, map, flat_map, subst}
 use Rattle.std.proofs.lemmas.List.{map-append, append-nil}
-use Rattle.dpl_range.specs.Range.{RangeValue, members_of}
+use Rattle.dpl_sets.specs.Ranges.{RangeValue, members_of}
 use Rattle.dpl_domain.specs.declared.walk.Track.{Track}
 use Rattle.dpl_domain.specs.declared.walk.Cursor.TheInside.{Inside}
 use Rattle.dpl_domain.specs.Cursor.{terms_of, rest_of, IsCursor}
-use Rattle.dpl_domain.specs.Indices.{tuples, indices}
+use Rattle.dpl_sets.specs.Indices.{tuples, indices}
 use Rattle.dpl_domain.specs.Progression.{progression, line_of, plane_of, space_of}
 use Rattle.dpl_domain.specs.Ranks.{last_of, point, IsPadded}
 use Rattle.dpl_domain.proofs.TupleLemmas.{members-point}

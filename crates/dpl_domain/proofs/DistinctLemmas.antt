@@ -3,10 +3,10 @@ use Rattle.std.proofs.Common.{◌≡◌, ℕ, zero, suc, ◌+◌, ◌*◌, ◌/�
 use Rattle.std.proofs.lemmas.Bool.{cases_lt}
 use Rattle.std.proofs.lemmas.Nat.{div-add-mod', mod_below}
 use Rattle.std.proofs.lemmas.Option.{none-some, same_Some, slice_get_within}
-use Rattle.dpl_range.specs.Range.{RangeValue, members_of}
+use Rattle.dpl_sets.specs.Ranges.{RangeValue, members_of}
 use Rattle.dpl_range.specs.Invariant.{IsRange}
 use Rattle.dpl_range.proofs.MemberLemmas.{members-distinct}
-use Rattle.dpl_domain.specs.Indices.{tuples, indices}
+use Rattle.dpl_sets.specs.Indices.{tuples, indices}
 use Rattle.dpl_domain.proofs.TupleLemmas.{cons_at, length-rows, slice_get-rows}
 
 -- no element stands at two places

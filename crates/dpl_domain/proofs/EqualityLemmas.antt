@@ -1,13 +1,13 @@
 -- Equal domains are told apart by no function of the language.
 use Rattle.std.proofs.Common.{◌≡◌, ℕ, zero, suc, List, [], ◌∷◌, length, ap, sym, ◌∙◌, refl, ℤ, slice_get, Contains, ◌↔◌, Option, Some, None, subst, map}
-use Rattle.dpl_range.specs.Range.{members_of}
-use Rattle.dpl_range.specs.Equality.{TextRange, IsTextRange, SameRange}
+use Rattle.dpl_sets.specs.Ranges.{members_of}
+use Rattle.dpl_sets.specs.TextRanges.{TextRange, IsTextRange, SameRange}
 use Rattle.dpl_range.specs.Invariant.{IsRange}
 use Rattle.dpl_range.proofs.EqualityLemmas.{SameRange-sliced}
-use Rattle.dpl_domain.specs.Indices.{tuples, indices}
-use Rattle.dpl_domain.specs.Slices.{AreBounds}
-use Rattle.dpl_domain.specs.Expansions.{expanded}
-use Rattle.dpl_domain.specs.Equality.{values_of, SameDomain, IsUnstrided, text_sliced_by}
+use Rattle.dpl_sets.specs.Indices.{tuples, indices}
+use Rattle.dpl_sets.specs.DomainSlices.{AreBounds}
+use Rattle.dpl_sets.specs.Expansions.{expanded}
+use Rattle.dpl_sets.specs.TextDomains.{values_of, SameDomain, IsUnstrided, text_sliced_by}
 
 -- two dimensions, where there are such
 abbrev pub SameDim : Option TextRange → Option TextRange → Type 0

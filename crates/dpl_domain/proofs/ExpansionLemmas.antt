@@ -2,10 +2,10 @@
 use Rattle.std.proofs.Common.{◌≡◌, ℕ, zero, suc, ◌*◌, ◌<◌, ◌≤◌, ◌^◌, ◌-◌, [], ◌∷◌, length, refl, ap, sym, ◌∙◌, arith, ℤ, pos, min, ⊎_elim, ◌↔◌}
 use Rattle.std.proofs.lemmas.Bool.{cases_lt}
 use Rattle.std.proofs.Math.Nat.{mul_comm, mul_assoc, le-mul_of_pos_right}
-use Rattle.dpl_range.specs.Range.{RangeValue, members_of}
-use Rattle.dpl_domain.specs.Indices.{IsSmall}
+use Rattle.dpl_sets.specs.Ranges.{RangeValue, members_of}
+use Rattle.dpl_sets.specs.Indices.{IsSmall}
 use Rattle.dpl_domain.specs.Ranks.{last_of, point, IsPadded}
-use Rattle.dpl_domain.specs.Expansions.{moved, expanded}
+use Rattle.dpl_sets.specs.Expansions.{moved, expanded}
 use Rattle.dpl_domain.proofs.TupleLemmas.{length-indices}
 
 -- a factor that is cut off at a limit changes no product that is cut off there

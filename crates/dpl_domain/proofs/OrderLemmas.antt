@@ -6,8 +6,8 @@ use Rattle.std.specs.Ordering.{ordering_then, nat_cmp, int_cmp}
 use Rattle.std.specs.Cmp.{IsTotalOrder}
 use Rattle.std.specs.Cmp.Lexicographic.{slice_cmp}
 use Rattle.std.proofs.lemmas.Cmp.{nat_cmp_total, int_cmp_total, on_total, then_total, lists_total, int_ranked, tied_itself}
-use Rattle.dpl_domain.specs.Indices.{IsRank}
-use Rattle.dpl_domain.specs.Order.{row_order}
+use Rattle.dpl_sets.specs.Indices.{IsRank}
+use Rattle.dpl_sets.specs.Order.{row_order}
 use Rattle.dpl_domain.specs.contracts.tuple.IndexOrd.TheImpl.{cmp-value}
 
 -- the order that the derive makes: of the ranks, and then of the three numbers

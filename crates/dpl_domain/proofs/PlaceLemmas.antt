@@ -3,8 +3,8 @@ use Rattle.std.proofs.Common.{◌≡◌, ℕ, zero, suc, ◌+◌, ◌*◌, ◌/�
 use Rattle.std.proofs.lemmas.Bool.{cases_lt}
 use Rattle.std.proofs.lemmas.Option.{none-some, same_Some, slice_get_within}
 use Rattle.std.proofs.Math.Nat.{add-mul, mul-le-mul_right, mul-le-mul_left, mul-le-mul}
-use Rattle.dpl_range.specs.Range.{RangeValue, members_of}
-use Rattle.dpl_domain.specs.Indices.{indices, IsSmall}
+use Rattle.dpl_sets.specs.Ranges.{RangeValue, members_of}
+use Rattle.dpl_sets.specs.Indices.{indices, IsSmall}
 use Rattle.dpl_domain.specs.Ranks.{last_of, point, IsPadded}
 use Rattle.dpl_domain.proofs.TupleLemmas.{cons_at, point-members, slice_get-line, tuple_at-some, tuple_at-parts, last_of-parts, length-last_of, slice_get-indices, slice_get-indices_at, indices-empty, place-indices, length-indices, IsPadded-coordinates}
 

@@ -4,7 +4,7 @@ use Rattle.std.proofs.lemmas.Bool.{cases_lt}
 use Rattle.std.proofs.lemmas.Int.{ints}
 use Rattle.std.proofs.lemmas.Option.{slice_get_past, slice_get_within, same_Some}
 use Rattle.std.proofs.Math.Nat.{suc-mul}
-use Rattle.dpl_range.specs.Range.{RangeValue, members_of, IsBound}
+use Rattle.dpl_sets.specs.Ranges.{RangeValue, members_of, IsBound}
 use Rattle.dpl_range.specs.Invariant.{IsRange}
 use Rattle.dpl_range.specs.Walk.{walked}
 use Rattle.dpl_range.proofs.Lists.{same_places}

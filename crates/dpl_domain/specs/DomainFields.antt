@@ -1,7 +1,7 @@
 -- The sizes that a domain keeps beside its ranges.
 use Rattle.std.specs.Prelude.{◌≡◌, ℕ, List, length}
-use Rattle.dpl_range.specs.Range.{RangeValue, members_of}
-use Rattle.dpl_domain.specs.Indices.{indices, IsRank, IsSmall}
+use Rattle.dpl_sets.specs.Ranges.{RangeValue, members_of}
+use Rattle.dpl_sets.specs.Indices.{indices, IsRank, IsSmall}
 use Rattle.dpl_domain.specs.Ranks.{point}
 use Rattle.dpl_domain.specs.DimensionFields.{fields_of}
 

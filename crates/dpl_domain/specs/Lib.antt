@@ -1,11 +1,4 @@
--- The language's definitions.
-pub mod Indices
-pub mod Order
-pub mod Texts
-pub mod Slices
-pub mod Expansions
-pub mod Equality
--- What only contracts and proofs speak of.
+-- What contracts and proofs of the code speak of; a domain's list, its slices and its expansions are definitions of dpl_sets.
 pub mod Ranks
 pub mod DimensionFields
 pub mod DomainFields

@@ -1,6 +1,6 @@
 -- What the code keeps of a range that is moved.
 use Rattle.std.specs.Prelude.{◌<◌, ◌^◌, ◌≤ℤ◌, pos, neg_ℤ, unsigned_abs}
-use Rattle.dpl_range.specs.Range.{RangeValue}
+use Rattle.dpl_sets.specs.Ranges.{RangeValue}
 
 -- What holds of every range that is moved by a machine number: its bounds stay within -2^64..2^64.
 pub record IsMoved (r : RangeValue) : Type 0 where

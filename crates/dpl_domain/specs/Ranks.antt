@@ -1,6 +1,6 @@
 -- Up to three things as three, the last one last: a lower rank leaves the first ones unused.
 use Rattle.std.specs.Prelude.{ℕ, zero, suc, ◌≤◌, ◌≡◌, ◌<◌, List, [], ◌∷◌, pos}
-use Rattle.dpl_range.specs.Range.{RangeValue}
+use Rattle.dpl_sets.specs.Ranges.{RangeValue}
 
 -- the last one, two or all three of three things
 abbrev pub last_of : {A : Type 0} → ℕ → A → A → A → List A

@@ -1,10 +1,10 @@
 // The ranges of an expanded domain, whose bounds may lie outside the limits of a range.
 
 ghost use Rattle.std.specs.Prelude.{◌≡◌, ◌*◌, ◌-◌, ◌<◌, ◌^◌, ◌↔◌, ◌≤ℤ◌, ◌+ℤ◌, pos, min, length, IsTrue, IsSome, IfSome, unsigned_abs};
-ghost use Rattle.dpl_range.specs.Range.{members_of, IsBound};
-ghost use Rattle.dpl_domain.specs.Indices.{IsSmall};
+ghost use Rattle.dpl_sets.specs.Ranges.{members_of, IsBound};
+ghost use Rattle.dpl_sets.specs.Indices.{IsSmall};
 ghost use Rattle.dpl_domain.specs.Ranks.{last_of, point, IsPadded};
-ghost use Rattle.dpl_domain.specs.Expansions.{moved, expanded, IsUnit, IsBounded, AreUnit, AreBounded};
+ghost use Rattle.dpl_sets.specs.Expansions.{moved, expanded, IsUnit, IsBounded, AreUnit, AreBounded};
 
 use crate::product::product;
 use crate::{Domain, MOST_INDICES};
@@ -20,7 +20,7 @@ struct Moved {
 }
 
 impl Model for Moved {
-    ghost use Rattle.dpl_range.specs.Range.{RangeValue};
+    ghost use Rattle.dpl_sets.specs.Ranges.{RangeValue};
     ghost use Rattle.dpl_domain.specs.Moved.{IsMoved};
 
     ghost Value = { RangeValue };
@@ -101,7 +101,7 @@ pub(crate) struct Expansion {
 
 impl Model for Expansion {
     ghost use Rattle.std.specs.Prelude.{List};
-    ghost use Rattle.dpl_range.specs.Range.{RangeValue};
+    ghost use Rattle.dpl_sets.specs.Ranges.{RangeValue};
     ghost use Rattle.dpl_domain.specs.Ranks.{last_of, point, IsPadded};
 
     ghost Value = { List RangeValue };

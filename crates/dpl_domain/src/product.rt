@@ -1,13 +1,13 @@
 // A domain: the product of one to three ranges.
 
 ghost use Rattle.std.specs.Prelude.{All, min, ◌≢◌, ◌*◌, ◌-◌, ◌≡◌, ◌≤◌, ◌<◌, ◌↔◌, ◌^◌, ℕ, pos, [], ◌∷◌, length, slice_get, Contains, IsTrue, IsOk, IfOk};
-ghost use Rattle.dpl_range.specs.Range.{members_of};
-ghost use Rattle.dpl_domain.specs.Indices.{indices, IsRank, IsSmall};
+ghost use Rattle.dpl_sets.specs.Ranges.{members_of};
+ghost use Rattle.dpl_sets.specs.Indices.{indices, IsRank, IsSmall};
 ghost use Rattle.dpl_domain.specs.Ranks.{last_of, point, IsPadded};
 ghost use Rattle.dpl_domain.specs.DomainFields.{line_count, line_size};
-ghost use Rattle.dpl_domain.specs.Slices.{sliced_by, AreBounds};
-ghost use Rattle.dpl_range.specs.Slices.{sliced};
-ghost use Rattle.dpl_domain.specs.Expansions.{expanded, AreUnit, AreBounded};
+ghost use Rattle.dpl_sets.specs.DomainSlices.{sliced_by, AreBounds};
+ghost use Rattle.dpl_sets.specs.RangeSlices.{sliced};
+ghost use Rattle.dpl_sets.specs.Expansions.{expanded, AreUnit, AreBounded};
 
 use crate::expansion::Expansion;
 use crate::{Cursor, Dimensions, Index};
@@ -53,12 +53,12 @@ pub struct Domain {
 
 impl Model for Domain {
     ghost use Rattle.std.specs.Prelude.{List};
-    ghost use Rattle.dpl_range.specs.Range.{RangeValue};
+    ghost use Rattle.dpl_sets.specs.Ranges.{RangeValue};
 
     ghost Value = { List RangeValue };
 
     ghost use Rattle.std.specs.Prelude.{length};
-    ghost use Rattle.dpl_domain.specs.Indices.{indices};
+    ghost use Rattle.dpl_sets.specs.Indices.{indices};
     ghost use Rattle.dpl_domain.specs.DomainFields.{line_count, line_size, IsDomain};
 
     ghost view = { λ d. d.ranges };

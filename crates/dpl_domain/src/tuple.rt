@@ -1,9 +1,9 @@
 // An index: a tuple of one to three whole numbers.
 
 ghost use Rattle.std.specs.Prelude.{pos, ◌≡◌, ◌≤◌, ◌↔◌, [], ◌∷◌, length, slice_get, Some, IsSome, IfSome};
-ghost use Rattle.dpl_domain.specs.Indices.{IsRank};
+ghost use Rattle.dpl_sets.specs.Indices.{IsRank};
 ghost use Rattle.dpl_domain.specs.Ranks.{last_of, IsPadded};
-ghost use Rattle.dpl_domain.specs.Texts.{index_text};
+ghost use Rattle.dpl_sets.specs.IndexTexts.{index_text};
 
 use crate::Dimensions;
 use std::fmt;
@@ -22,7 +22,7 @@ impl Model for Index {
 
     ghost Value = { List ℤ };
 
-    ghost use Rattle.dpl_domain.specs.Indices.{IsRank};
+    ghost use Rattle.dpl_sets.specs.Indices.{IsRank};
 
     ghost view = { λ x. x.coordinates };
 

@@ -1,8 +1,8 @@
 // A walk over the indices of a domain, one by one.
 
 ghost use Rattle.std.specs.Prelude.{◌≡◌, ◌≤◌, ◌<◌, ◌^◌, pos, ◌+ℤ◌, ◌-◌, All, drop, slice_get, unsigned_abs};
-ghost use Rattle.dpl_range.specs.Range.{members_of, IsBound};
-ghost use Rattle.dpl_domain.specs.Indices.{indices};
+ghost use Rattle.dpl_sets.specs.Ranges.{members_of, IsBound};
+ghost use Rattle.dpl_sets.specs.Indices.{indices};
 ghost use Rattle.dpl_domain.specs.Progression.{progression};
 ghost use Rattle.dpl_domain.specs.Ranks.{last_of, point, IsPadded};
 

@@ -2,7 +2,7 @@
 -- Each lemma has the values of the kept ranges on its left side.
 use Rattle.std.proofs.Common.{◌≡◌, ℕ, zero, suc, List, ◌∷◌, map, replicate, set, refl, ap, ◌∙◌}
 use Rattle.std.proofs.lemmas.List.{map-set}
-use Rattle.dpl_range.specs.Equality.{TextRange}
+use Rattle.dpl_sets.specs.TextRanges.{TextRange}
 use Rattle.dpl_contents.specs.declared.range.RangeWord.{RangeWord}
 use Rattle.dpl_contents.specs.Range.{range_word}
 

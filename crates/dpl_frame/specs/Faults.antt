@@ -1,6 +1,6 @@
 -- The faults that words stand for, and what a walk hands back.
 use Rattle.std.specs.Prelude.{◌≡◌, ℕ, ◌^◌, ◌/◌, ◌%◌, zero, suc, nat_lt, ℤ, Bool, if◌then◌else◌, Option, Some, None, Result, Ok, Err, List, [], ◌∷◌}
-use Rattle.dpl_range.specs.Equality.{TextRange}
+use Rattle.dpl_sets.specs.TextRanges.{TextRange}
 use Rattle.dpl_language.specs.Values.{Value, Int, Truth, Range, Domain, FaultCode, Outside, ZeroDivisor, PastLimit, EmptyEnd, Budget, NoLocale, CellStuck, ArrayTooLarge, Turn, InNone, InTurn, Fault, in_the_turn}
 use Rattle.dpl_frame.specs.declared.fault.FaultCode.{FaultCode as CodeNode}
 use Rattle.dpl_frame.specs.declared.fault.FaultCode.TheVariants as code

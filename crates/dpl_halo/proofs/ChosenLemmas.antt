@@ -8,8 +8,8 @@ use Rattle.std.specs.Map.{lookup}
 use Rattle.std.specs.Cmp.{nat_cmp_is}
 use Rattle.std.proofs.lemmas.Bool.{cases_eq, cases_lt}
 use Rattle.std.proofs.lemmas.Option.{none-some, same_Some}
-use Rattle.dpl_range.specs.Range.{RangeValue}
-use Rattle.dpl_domain.specs.Indices.{indices}
+use Rattle.dpl_sets.specs.Ranges.{RangeValue}
+use Rattle.dpl_sets.specs.Indices.{indices}
 use Rattle.dpl_array.specs.Elements.{Elements, same_index, value_at, with_value, element_before, tabulated}
 use Rattle.dpl_array.specs.Rows.{IsDistinct, StandsIn}
 use Rattle.dpl_array.proofs.DistinctLemmas.{distinct-head, distinct-tail}

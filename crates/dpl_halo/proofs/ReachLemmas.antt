@@ -2,8 +2,8 @@
 -- What was looked at and what is left are the turns.
 use Rattle.std.proofs.Common.{◌≡◌, ◌⊎◌, ◌&&◌, ◌^◌, ℕ, ℤ, pos, neg_ℤ, ◌+ℤ◌, ◌-ℤ◌, List, [], ◌∷◌, ◌++◌, map, length, slice_index_or, Bool, true, false, cond, not, None, inl, inr, refl, ap, sym, subst, ◌∙◌, ⊎_elim, arith, append_assoc, append-nil, eq-eqb}
 use Rattle.std.proofs.lemmas.Int.{ints, by_lt_z}
-use Rattle.dpl_range.specs.Range.{RangeValue, IsBound}
-use Rattle.dpl_domain.specs.Indices.{indices}
+use Rattle.dpl_sets.specs.Ranges.{RangeValue, IsBound}
+use Rattle.dpl_sets.specs.Indices.{indices}
 use Rattle.dpl_map.specs.Maps.{owner}
 use Rattle.dpl_array.specs.Elements.{value_at}
 use Rattle.dpl_array.specs.Arrays.{ArrayValue}

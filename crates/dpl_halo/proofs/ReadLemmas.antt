@@ -2,8 +2,8 @@
 -- The domains have the indices of the part, so both are the same.
 use Rattle.std.proofs.Common.{◌≡◌, ℤ, List, map, All, subst}
 use Rattle.std.specs.List.{flat_map}
-use Rattle.dpl_range.specs.Range.{RangeValue}
-use Rattle.dpl_domain.specs.Indices.{indices}
+use Rattle.dpl_sets.specs.Ranges.{RangeValue}
+use Rattle.dpl_sets.specs.Indices.{indices}
 use Rattle.dpl_map.specs.Cuts.{AreCut}
 use Rattle.dpl_map.specs.Orders.{StandsInOne}
 use Rattle.dpl_array.specs.Rows.{StandsIn}

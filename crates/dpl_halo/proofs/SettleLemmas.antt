@@ -4,7 +4,7 @@ use Rattle.std.proofs.Common.{◌≡◌, ℤ, List, [], ◌∷◌, map, true, fa
 use Rattle.std.specs.Option.{option_map}
 use Rattle.std.proofs.lemmas.Bool.{cases_Bool}
 use Rattle.std.proofs.lemmas.Option.{none-some}
-use Rattle.dpl_domain.specs.Indices.{indices}
+use Rattle.dpl_sets.specs.Indices.{indices}
 use Rattle.dpl_array.specs.Elements.{Elements, same_index, value_at, with_value, element_before, tabulated, IsOver}
 use Rattle.dpl_array.specs.Arrays.{ArrayValue, IsArray, array_with, or_value}
 use Rattle.dpl_array.specs.Rows.{StandsIn}

@@ -4,11 +4,11 @@ use Rattle.std.proofs.Common.{◌≡◌, ◌↔◌, ◌<◌, ◌≤◌, ◌^◌,
 use Rattle.std.specs.Int.{w64}
 use Rattle.std.proofs.lemmas.Int.{ints, int_wrap_fits}
 use Rattle.std.proofs.lemmas.Option.{slice_get_within, get_or_from_slice_get}
-use Rattle.dpl_range.specs.Range.{RangeValue, members_of, IsBound}
+use Rattle.dpl_sets.specs.Ranges.{RangeValue, members_of, IsBound}
 use Rattle.dpl_range.specs.Invariant.{IsRange}
-use Rattle.dpl_range.specs.Slices.{members_within}
+use Rattle.dpl_sets.specs.RangeSlices.{members_within}
 use Rattle.dpl_range.proofs.Ends.{Contains-slice_get}
-use Rattle.dpl_domain.specs.Indices.{tuples, indices, IsSmall}
+use Rattle.dpl_sets.specs.Indices.{tuples, indices, IsSmall}
 use Rattle.dpl_domain.specs.Ranks.{last_of, point, IsPadded}
 use Rattle.dpl_domain.proofs.PlaceLemmas.{fewer-indices, length-filter_le}
 use Rattle.dpl_map.specs.Boxes.{AreBetween}

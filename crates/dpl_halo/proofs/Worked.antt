@@ -2,9 +2,9 @@
 -- They are small enough to be worked out on paper beside the definitions.
 use Rattle.std.proofs.Common.{◌≡◌, ℕ, ℤ, pos, negsuc, List, [], ◌∷◌, length, map, refl}
 use Rattle.std.specs.Int.{int_wrap}
-use Rattle.dpl_range.specs.Members.{members}
-use Rattle.dpl_range.specs.Range.{RangeValue}
-use Rattle.dpl_domain.specs.Indices.{indices}
+use Rattle.dpl_sets.specs.Members.{members}
+use Rattle.dpl_sets.specs.Ranges.{RangeValue}
+use Rattle.dpl_sets.specs.Indices.{indices}
 use Rattle.dpl_map.specs.Maps.{AxisValue, owner, cyclic_map, Block}
 use Rattle.dpl_map.specs.Parts.{part}
 use Rattle.dpl_map.specs.Places.{block_place, cyclic_place}

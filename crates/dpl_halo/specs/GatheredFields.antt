@@ -3,7 +3,7 @@
 use Rattle.std.specs.Prelude.{◌≡◌, ◌<◌, ℕ, Some, length}
 use Rattle.std.specs.Ordering.{nat_cmp}
 use Rattle.std.specs.BTreeMap.{get}
-use Rattle.dpl_domain.specs.Indices.{indices, IsSmall}
+use Rattle.dpl_sets.specs.Indices.{indices, IsSmall}
 use Rattle.dpl_array.specs.Rows.{IsDistinct}
 use Rattle.dpl_halo.specs.declared.gathered.Gathered.TheInside.{Inside}
 use Rattle.dpl_halo.specs.Gathering.{GatheredValue, chosen}

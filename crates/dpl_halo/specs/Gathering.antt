@@ -1,7 +1,7 @@
 -- How elements of an array are gathered, one index after another.
 -- Functions of the crate speak of it by what a gathering holds at each index.
 use Rattle.std.specs.Prelude.{◌≡◌, ◌+◌, ℕ, suc, List, [], ◌∷◌, ◌++◌, ℤ, Bool, true, false, ◌&&◌, cond, Option, None, Some, length}
-use Rattle.dpl_range.specs.Range.{RangeValue}
+use Rattle.dpl_sets.specs.Ranges.{RangeValue}
 use Rattle.dpl_array.specs.Elements.{Elements, same_index, value_at, element_before}
 use Rattle.dpl_array.specs.Arrays.{ArrayValue}
 use Rattle.dpl_halo.specs.Halos.{is_foreign}

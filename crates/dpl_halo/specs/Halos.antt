@@ -1,7 +1,7 @@
 -- Halos: what a locale reads of an array and does not own.
 -- Its turns are the indices that it owns of the loop's domain, by the map that places the turns.
 use Rattle.std.specs.Prelude.{ℕ, List, ℤ, Bool, not, ◌&&◌, ◌==◌, filter}
-use Rattle.dpl_range.specs.Range.{RangeValue}
+use Rattle.dpl_sets.specs.Ranges.{RangeValue}
 use Rattle.dpl_map.specs.Maps.{AxisValue, owner}
 use Rattle.dpl_map.specs.Parts.{part}
 use Rattle.dpl_array.specs.Elements.{Elements}

@@ -1,8 +1,8 @@
 -- Loans: elements of an array that are lent to be written.
 -- When a loan is settled, the array takes its values, and keeps all others.
 use Rattle.std.specs.Prelude.{List, ℤ, map, filter, flat_map}
-use Rattle.dpl_range.specs.Range.{RangeValue}
-use Rattle.dpl_domain.specs.Indices.{indices}
+use Rattle.dpl_sets.specs.Ranges.{RangeValue}
+use Rattle.dpl_sets.specs.Indices.{indices}
 use Rattle.dpl_array.specs.Elements.{Elements, value_at, with_value}
 use Rattle.dpl_array.specs.Arrays.{ArrayValue, or_value}
 use Rattle.dpl_halo.specs.Listed.{is_listed}

@@ -1,7 +1,7 @@
 -- Some of a loop's turns: those whose coordinate in one dimension lies between two numbers, and those between two corners.
 use Rattle.std.specs.Prelude.{◌↔◌, List, ℕ, ℤ, pos, neg_ℤ, ◌^◌, ◌≤ℤ◌, ◌<ℤ◌, slice_index_or}
-use Rattle.dpl_range.specs.Range.{RangeValue}
-use Rattle.dpl_domain.specs.Indices.{indices}
+use Rattle.dpl_sets.specs.Ranges.{RangeValue}
+use Rattle.dpl_sets.specs.Indices.{indices}
 use Rattle.dpl_map.specs.Boxes.{AreBetween}
 use Rattle.dpl_array.specs.Rows.{StandsIn}
 use Rattle.dpl_halo.specs.declared.shift.Step.{Step}

@@ -2,7 +2,7 @@
 // They are kept by their places in the array's domain, so a search goes by one number.
 
 ghost use Rattle.std.specs.Prelude.{◌≡◌, ◌∷◌, [], ◌++◌, List, ℤ, Bool, Some, false, true, cond, is_some, length, IfSome, IfNone, OnOk};
-ghost use Rattle.dpl_domain.specs.Indices.{indices, IsSmall};
+ghost use Rattle.dpl_sets.specs.Indices.{indices, IsSmall};
 ghost use Rattle.dpl_array.specs.Elements.{value_at, with_value, tabulated, same_index};
 ghost use Rattle.dpl_array.specs.Rows.{IsDistinct, StandsIn};
 ghost use Rattle.dpl_halo.specs.Gathering.{IsGathered, IsTaken};

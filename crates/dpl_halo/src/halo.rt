@@ -2,7 +2,7 @@
 // They are gathered before the first turn, so that a worker is lent its own piece and its halo, and no other piece.
 
 ghost use Rattle.std.specs.Prelude.{◌≡◌, ◌∷◌, [], map, flat_map, length, OnOk, IfOk};
-ghost use Rattle.dpl_domain.specs.Indices.{indices};
+ghost use Rattle.dpl_sets.specs.Indices.{indices};
 ghost use Rattle.dpl_array.specs.Elements.{value_at};
 ghost use Rattle.dpl_halo.specs.Gathering.{AddsForeign};
 ghost use Rattle.dpl_halo.specs.Halos.{remote};

@@ -2,7 +2,7 @@
 // A locale that writes elements of arrays whose map is another than the loop's writes a loan of each.
 
 ghost use Rattle.std.specs.Prelude.{◌≡◌, ◌∷◌, [], ◌++◌, List, ℤ, false, is_some, length, OnOk, IfOk};
-ghost use Rattle.dpl_domain.specs.Indices.{indices};
+ghost use Rattle.dpl_sets.specs.Indices.{indices};
 ghost use Rattle.dpl_array.specs.Elements.{value_at};
 ghost use Rattle.dpl_halo.specs.Gathering.{IsGathered, every};
 ghost use Rattle.dpl_halo.specs.Loans.{lent, loan_with, settled};

@@ -3,7 +3,7 @@
 
 ghost use Rattle.std.specs.Prelude.{◌≡◌, ◌↔◌, ◌+ℤ◌, pos, [], ◌∷◌, slice_index_or, IsTrue, IsSome, IfSome, FitsSigned};
 ghost use Rattle.std.specs.Int.{w64, int_wrap};
-ghost use Rattle.dpl_domain.specs.Indices.{IsRank};
+ghost use Rattle.dpl_sets.specs.Indices.{IsRank};
 ghost use Rattle.dpl_halo.specs.Shifts.{moved, shifted};
 ghost use Rattle.dpl_halo.specs.Turns.{KeepsStep, KeepsShift};
 
@@ -44,7 +44,7 @@ impl Model for Shift {
 
     ghost Value = { List Step };
 
-    ghost use Rattle.dpl_domain.specs.Indices.{IsRank};
+    ghost use Rattle.dpl_sets.specs.Indices.{IsRank};
 
     ghost view = { λ s. s.steps };
 

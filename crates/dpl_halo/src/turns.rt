@@ -2,8 +2,8 @@
 // The turns in between are told by their two corners, so that nobody has to look at each of them.
 
 ghost use Rattle.std.specs.Prelude.{◌≡◌, ◌≤◌, ◌<◌, ℤ, List, pos, slice_index_or, length, IsTrue, IfSome};
-ghost use Rattle.dpl_range.specs.Range.{IsBound};
-ghost use Rattle.dpl_domain.specs.Indices.{indices};
+ghost use Rattle.dpl_sets.specs.Ranges.{IsBound};
+ghost use Rattle.dpl_sets.specs.Indices.{indices};
 ghost use Rattle.dpl_domain.specs.Ranks.{last_of};
 ghost use Rattle.dpl_map.specs.Maps.{owner};
 ghost use Rattle.dpl_array.specs.Rows.{StandsIn};

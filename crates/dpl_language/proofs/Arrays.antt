@@ -4,8 +4,8 @@ use Rattle.std.proofs.Common.{◌≡◌, refl}
 use Rattle.std.specs.Prelude.{codes, []}
 use Rattle.std.specs.Int.{int_wrap}
 use Rattle.std.specs.Fmt.{digits}
-use Rattle.dpl_range.specs.Members.{members}
-use Rattle.dpl_domain.specs.Indices.{indices}
+use Rattle.dpl_sets.specs.Members.{members}
+use Rattle.dpl_sets.specs.Indices.{indices}
 use Rattle.dpl_language.proofs.Says.{limits, says, writes}
 use Rattle.dpl_language.proofs.ArraysSamples.{changed_domain, divided_empty, element_among_wholes, element_as_right_side, empty_at_first, empty_square, falling_array, hidden_array, hidden_domain, inner_array, mirrored, name_in_brackets, no_array_left, not_over_the_name, promoted, promoted_difference, promoted_minus, domain_assigned, three_planes, max_of_no_elements, squares_in_blocks, plate_of_neighbours, shifted, truths_of_an_array, tuples, two_roots, units, units_of_truths}
 

@@ -4,8 +4,8 @@ use Rattle.std.proofs.Common.{◌≡◌, refl}
 use Rattle.std.specs.Prelude.{codes, []}
 use Rattle.std.specs.Int.{int_wrap}
 use Rattle.std.specs.Fmt.{digits}
-use Rattle.dpl_range.specs.Members.{members}
-use Rattle.dpl_domain.specs.Indices.{indices}
+use Rattle.dpl_sets.specs.Members.{members}
+use Rattle.dpl_sets.specs.Indices.{indices}
 use Rattle.dpl_language.proofs.Says.{limits, says, writes}
 use Rattle.dpl_language.proofs.FaultsSamples.{bound_before_the_least, bound_past_the_limit, bounds_before_stride, budget_before_promotion, budget_of_a_declaration, budget_of_a_for, budget_of_a_forall, budget_of_a_reduction, budget_of_an_assignment, budget_that_is_enough, created_past_the_limit, divided_scalar, domain_of_one_too_many, domain_past_the_limit, element_in_no_turn, expanded_past_a_bound, expanded_past_the_limit, fault_of_the_loop_itself, first_turn_of_two, indices_before_access, initial_in_its_turn, large_before_its_value, outside_before_zero, outside_in_brackets, outside_read, ranges_of_a_type, reduction_in_its_turn, remainder_by_zero, right_side_before_access, right_side_before_indices, fault_behind_output, index_outside, array_too_large, negative_count, first_of_none, neighbour_outside, first_turn_to_fail, scalar_in_no_turn, stopped_within_a_line, stride_evaluated_before_bounds, stride_of_zero, stride_past_the_limit, too_large_again, too_large_from_inside, too_large_inside, value_before_budget, whole_divided_in_its_turn, whole_in_its_turn}
 

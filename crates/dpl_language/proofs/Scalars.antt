@@ -4,8 +4,8 @@ use Rattle.std.proofs.Common.{◌≡◌, refl}
 use Rattle.std.specs.Prelude.{codes, [], ◌∷◌, pos}
 use Rattle.std.specs.Int.{int_wrap}
 use Rattle.std.specs.Fmt.{digits}
-use Rattle.dpl_range.specs.Members.{members}
-use Rattle.dpl_domain.specs.Indices.{indices}
+use Rattle.dpl_sets.specs.Members.{members}
+use Rattle.dpl_sets.specs.Indices.{indices}
 use Rattle.dpl_language.specs.Values.{Int}
 use Rattle.dpl_language.proofs.Says.{limits, says, writes}
 use Rattle.dpl_language.proofs.ScalarsSamples.{a_use, bounds_of_an_empty_slice, created, dimensions, ends_of_a_slice, ends_of_ranges, equal_ends, equal_truths, expanded_slices, expansions, falling_ends, given_at_the_top_alone, given_before_its_value, greatest_domain, greatest_range, hidden_names, looks_where_needed, low_end_of_a_slice, memberships, negated_least, no_fault_of_a_map, other_operators, product_of_twenty, sum_of_squares, wrapping, while_past_the_budget, max_over_nothing, configured, falling_range, slice_of_a_falling_range, signs_of_division, strided_pairs, three_intents, truth_intent, truths, two_intents, whiles}

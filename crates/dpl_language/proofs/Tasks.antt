@@ -4,8 +4,8 @@ use Rattle.std.proofs.Common.{◌≡◌, refl}
 use Rattle.std.specs.Prelude.{codes, [], ◌∷◌, pos, negsuc}
 use Rattle.std.specs.Int.{int_wrap}
 use Rattle.std.specs.Fmt.{digits}
-use Rattle.dpl_range.specs.Members.{members}
-use Rattle.dpl_domain.specs.Indices.{indices}
+use Rattle.dpl_sets.specs.Members.{members}
+use Rattle.dpl_sets.specs.Indices.{indices}
 use Rattle.dpl_history.specs.declared.cell.CellOp.TheVariants.{ReadFE, WriteEF, WriteXF}
 use Rattle.dpl_history.specs.declared.cell.Reply.TheVariants.{Value as Given, Done as NoValue}
 use Rattle.dpl_history.specs.Histories.{event}

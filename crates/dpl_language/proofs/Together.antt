@@ -4,8 +4,8 @@ use Rattle.std.proofs.Common.{◌≡◌, pos, List, [], ◌∷◌, refl, arith, 
 use Rattle.std.specs.Prelude.{codes, Some}
 use Rattle.std.specs.Int.{int_wrap}
 use Rattle.std.specs.Fmt.{digits}
-use Rattle.dpl_range.specs.Members.{members}
-use Rattle.dpl_domain.specs.Indices.{indices}
+use Rattle.dpl_sets.specs.Members.{members}
+use Rattle.dpl_sets.specs.Indices.{indices}
 use Rattle.dpl_history.specs.declared.cell.CellState.TheVariants.{Empty}
 use Rattle.dpl_history.specs.declared.cell.CellOp.TheVariants.{WriteEF}
 use Rattle.dpl_history.specs.declared.cell.Reply.TheVariants.{Done}

@@ -6,7 +6,7 @@ use Rattle.dpl_history.specs.declared.cell.CellOp.TheVariants.{Reset}
 use Rattle.dpl_history.specs.declared.cell.Reply.{Reply}
 use Rattle.dpl_history.specs.declared.cell.Reply.TheVariants.{Value as Given, Done as NoValue}
 use Rattle.dpl_language.specs.Tree.{Placed, Kind, AssignTree, ItemTree, Exprs, TargetTree, Whole, Element, CallTree, ReadCall, ResetCall, WriteCall}
-use Rattle.dpl_range.specs.Equality.{TextRange}
+use Rattle.dpl_sets.specs.TextRanges.{TextRange}
 use Rattle.dpl_language.specs.Values.{Value, Int, Index, ranges_in, index_of, array_domain, is_domain, cell_kind, kept_number, value_kept, fault, ArrayTooLarge}
 use Rattle.dpl_language.specs.Arithmetic.{assigned, assign_divides, tested_divisor}
 use Rattle.dpl_language.specs.Ranges.{too_large}

@@ -4,7 +4,7 @@ use Rattle.std.specs.Prelude.{nat_lt, pos, Option, Some, None, Result, Ok, List,
 use Rattle.dpl_syntax.specs.declared.place.Place.{Place}
 use Rattle.dpl_history.specs.declared.cell.CellState.TheVariants.{Empty, Full}
 use Rattle.dpl_language.specs.Tree.{Placed, Kind, ItemTree, TypeTree, ScalarType, SyncType, DomainType, ArrayType, ArrayTypeTree, InitTree, ItemInit, CreateInit, TypedTree, InitialTree, DeclareTree}
-use Rattle.dpl_range.specs.Equality.{TextRange}
+use Rattle.dpl_sets.specs.TextRanges.{TextRange}
 use Rattle.dpl_language.specs.Values.{Value, Int, Domain, Index, ranges_in, default, kept_number, Fault, fault, Budget, ArrayTooLarge}
 use Rattle.dpl_language.specs.Ranges.{indices_in, size_in, too_large, empty_domain}
 use Rattle.dpl_language.specs.Outcome.{Done, Run, with_ok, with_value, unless, naming_value}

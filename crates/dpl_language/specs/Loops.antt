@@ -3,7 +3,7 @@
 use Rattle.std.specs.Prelude.{nat_lt, pos, List, [], ◌∷◌}
 use Rattle.dpl_syntax.specs.declared.place.Place.{Place}
 use Rattle.dpl_language.specs.Tree.{Placed, VariablesTree, OneVariable, ManyVariables}
-use Rattle.dpl_range.specs.Equality.{TextRange}
+use Rattle.dpl_sets.specs.TextRanges.{TextRange}
 use Rattle.dpl_language.specs.Values.{Value, Int, Index, fault, Budget}
 use Rattle.dpl_language.specs.Ranges.{indices_in, size_in, loop_value}
 use Rattle.dpl_language.specs.Outcome.{Done, Run, then_do, unless, in_order, naming}

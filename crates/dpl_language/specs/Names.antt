@@ -10,7 +10,7 @@ use Rattle.dpl_history.specs.declared.history.Event.{Event}
 use Rattle.dpl_history.specs.Cells.{effect}
 use Rattle.dpl_history.specs.Histories.{after}
 use Rattle.dpl_language.specs.Tree.{Op, Kind, Assign}
-use Rattle.dpl_range.specs.Equality.{TextRange}
+use Rattle.dpl_sets.specs.TextRanges.{TextRange}
 use Rattle.dpl_language.specs.Values.{Value, Int, Array, Cell, Domain, Index, default}
 use Rattle.dpl_language.specs.Arithmetic.{assigned}
 use Rattle.dpl_language.specs.Ranges.{indices_in, same_index}

@@ -2,7 +2,7 @@
 -- An int prints in decimal, a truth value as `true` or `false`; no other value but an array is printed.
 use Rattle.std.specs.Prelude.{ℕ, zero, suc, true, false, List, [], ◌∷◌, ◌++◌, codes, map, take, drop}
 use Rattle.std.specs.Fmt.{signed_decimal}
-use Rattle.dpl_range.specs.Equality.{TextRange}
+use Rattle.dpl_sets.specs.TextRanges.{TextRange}
 use Rattle.dpl_language.specs.Values.{Value, Int, Truth, Range, Domain, Array, Cell, Locale, AllLocales, Tuple}
 use Rattle.dpl_language.specs.Ranges.{count_in, size_in}
 

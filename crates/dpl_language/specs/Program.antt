@@ -2,7 +2,7 @@
 -- A program is given what the command line sets, its limits, and for each coforall that it enters a history.
 use Rattle.std.specs.Prelude.{ℕ, pos, ◌==◌, if◌then◌else◌, List, [], ◌∷◌, ◌++◌, map, codes, Option, Some, None}
 use Rattle.std.specs.Fmt.{decimal}
-use Rattle.dpl_domain.specs.Texts.{index_text}
+use Rattle.dpl_sets.specs.IndexTexts.{index_text}
 use Rattle.dpl_syntax.specs.Lines.{place_text}
 use Rattle.dpl_history.specs.declared.history.Event.{Event}
 use Rattle.dpl_language.specs.Tree.{ProgramTree}

@@ -5,11 +5,11 @@ use Rattle.std.specs.Ordering.{int_eq}
 use Rattle.std.specs.Int.{int_min, int_max}
 use Rattle.std.specs.List.{list_any}
 use Rattle.dpl_syntax.specs.declared.place.Place.{Place}
-use Rattle.dpl_range.specs.Range.{members_of, is_bound, is_stride}
-use Rattle.dpl_domain.specs.Equality.{text_expanded}
-use Rattle.dpl_domain.specs.Indices.{indices}
+use Rattle.dpl_sets.specs.Ranges.{members_of, is_bound, is_stride}
+use Rattle.dpl_sets.specs.TextDomains.{text_expanded}
+use Rattle.dpl_sets.specs.Indices.{indices}
 use Rattle.dpl_language.specs.Tree.{Dots, Closed, HalfOpen, Counted, Word, Size, First, Last, Low, High, LowBound, DomainOf, Id}
-use Rattle.dpl_range.specs.Equality.{TextRange, text_sliced}
+use Rattle.dpl_sets.specs.TextRanges.{TextRange, text_sliced}
 use Rattle.dpl_language.specs.Values.{Value, Int, Truth, Range, Domain, Array, Cell, Locale, AllLocales, Tuple, Index, number, ranges_in, Fault, fault, PastLimit, EmptyEnd}
 
 -- a range without `by`

@@ -2,7 +2,7 @@
 -- No sound program asks for another kind; each such case has an answer so that every program has a meaning.
 use Rattle.std.specs.Prelude.{ℕ, ℤ, pos, Bool, true, false, Option, Some, None, List, [], ◌∷◌, ◌++◌, int_lt}
 use Rattle.dpl_syntax.specs.declared.place.Place.{Place}
-use Rattle.dpl_range.specs.Equality.{TextRange}
+use Rattle.dpl_sets.specs.TextRanges.{TextRange}
 use Rattle.dpl_language.specs.Tree.{Kind, IntKind, BoolKind}
 
 -- an index: the list of its one to three coordinates

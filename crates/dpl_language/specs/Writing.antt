@@ -2,7 +2,7 @@
 -- An argument may be a cell read, which changes the state even where a later argument is a fault.
 use Rattle.std.specs.Prelude.{ℕ, pos, Bool, true, false, Option, Some, None, List, [], ◌∷◌, ◌++◌, map}
 use Rattle.dpl_language.specs.Tree.{Placed, One, ArgumentTree, TextArgument, ExprArgument, Listed, WriteTree}
-use Rattle.dpl_range.specs.Equality.{TextRange}
+use Rattle.dpl_sets.specs.TextRanges.{TextRange}
 use Rattle.dpl_language.specs.Values.{Value, Int, array_domain}
 use Rattle.dpl_language.specs.Ranges.{indices_in}
 use Rattle.dpl_language.specs.Printing.{printed, printed_array}

@@ -3,9 +3,9 @@ use Rattle.std.proofs.Common.{◌≡◌, ◌≤ℤ◌, ◌⊎◌, inl, inr, ⊎_
 use Rattle.std.proofs.lemmas.Bool.{cases_Bool, cases_eq}
 use Rattle.std.proofs.lemmas.Int.{ints}
 use Rattle.std.proofs.lemmas.List.Elements.{All-nil, All-cons, All-head, All-tail, All-contains}
-use Rattle.dpl_range.specs.Range.{RangeValue, members_of, IsBound, is_bound}
+use Rattle.dpl_sets.specs.Ranges.{RangeValue, members_of, IsBound, is_bound}
 use Rattle.dpl_range.proofs.LimitLemmas.{is_bound-IsBound}
-use Rattle.dpl_domain.specs.Indices.{indices}
+use Rattle.dpl_sets.specs.Indices.{indices}
 use Rattle.dpl_map.specs.Maps.{AxisValue, Block as BlockRule, IsBox, IsBlockMap, IsBlocksize}
 use Rattle.dpl_layout.specs.declared.maps.Maps.{Maps}
 use Rattle.dpl_layout.specs.declared.maps.Maps.TheVariants as roots

@@ -2,11 +2,11 @@
 use Rattle.std.proofs.Common.{◌≡◌, ◌<◌, ◌≤ℤ◌, ℤ, pos, negsuc, List, [], ◌∷◌, All, Contains, refl, ap, ◌∙◌, arith, unsigned_abs}
 use Rattle.std.proofs.lemmas.Int.{ints}
 use Rattle.std.proofs.lemmas.List.Elements.{All-from_recursion, All-head}
-use Rattle.dpl_range.specs.Members.{members}
-use Rattle.dpl_range.specs.Range.{RangeValue, members_of, IsBound}
+use Rattle.dpl_sets.specs.Members.{members}
+use Rattle.dpl_sets.specs.Ranges.{RangeValue, members_of, IsBound}
 use Rattle.dpl_range.proofs.Ends.{slice_get-Contains}
 use Rattle.dpl_range.proofs.MemberLemmas.{member-within}
-use Rattle.dpl_domain.specs.Indices.{indices}
+use Rattle.dpl_sets.specs.Indices.{indices}
 use Rattle.dpl_map.specs.Maps.{AxisValue, Block as BlockRule, Cyclic as CyclicRule, BlockCyclic as BlockCyclicRule, IsBox, IsBlocksize, owner, whole_map}
 use Rattle.dpl_map.specs.Places.{block_place}
 use Rattle.dpl_map.proofs.ListLemmas.{All-members}

@@ -1,8 +1,8 @@
 -- The map that a root gets. A map is never the cause of a fault: where indices can't be dealt out as the text says, the
 -- root gets the whole map, and so each of its indices is on locale 0.
 use Rattle.std.specs.Prelude.{◌≡◌, ◌≢◌, ◌≤ℤ◌, ℤ, List, [], ◌∷◌, length, All, Contains}
-use Rattle.dpl_range.specs.Range.{RangeValue, members_of, IsBound}
-use Rattle.dpl_domain.specs.Indices.{indices}
+use Rattle.dpl_sets.specs.Ranges.{RangeValue, members_of, IsBound}
+use Rattle.dpl_sets.specs.Indices.{indices}
 use Rattle.dpl_map.specs.Maps.{AxisValue, whole_map, cyclic_map, block_cyclic_map, IsBlockMap, IsBlocksize}
 use Rattle.dpl_layout.specs.Layouts.{LayoutValue, grid_of}
 use Rattle.dpl_layout.specs.declared.maps.Maps.{Maps}

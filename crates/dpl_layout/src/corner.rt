@@ -1,7 +1,7 @@
 // The corner of a domain at which a cyclic map begins: its least members.
 
 ghost use Rattle.std.specs.Prelude.{◌≡◌, ◌↔◌, [], IsNone, IfSome};
-ghost use Rattle.dpl_domain.specs.Indices.{indices};
+ghost use Rattle.dpl_sets.specs.Indices.{indices};
 ghost use Rattle.dpl_layout.specs.Roots.{IsLeastOf, IsFromLeast};
 
 use crate::Named;

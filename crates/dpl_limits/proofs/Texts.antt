@@ -5,7 +5,7 @@ use Rattle.std.proofs.lemmas.Bool.Decides.{nat_tests}
 use Rattle.std.proofs.Math.Bool.{and-false}
 use Rattle.dpl_syntax.specs.Gaps.{all_are}
 use Rattle.dpl_syntax.specs.Text.{is_digit, digit_value, value_after}
-use Rattle.dpl_syntax.proofs.Numerals.{value_after-grows, one_digit}
+use Rattle.dpl_lexer.proofs.Numerals.{value_after-grows, one_digit}
 use Rattle.dpl_language.specs.Names.{Text}
 use Rattle.dpl_rules.specs.Sound.{is_decimal}
 

@@ -4,9 +4,9 @@ use Rattle.std.proofs.lemmas.Option.{none-some, same_Some}
 use Rattle.std.specs.Option.{option_map}
 use Rattle.std.specs.List.{flat_map}
 use Rattle.dpl_range.specs.Invariant.{IsRange}
-use Rattle.dpl_range.specs.Range.{members_of}
-use Rattle.dpl_range.specs.Equality.{TextRange}
-use Rattle.dpl_domain.specs.Indices.{indices}
+use Rattle.dpl_sets.specs.Ranges.{members_of}
+use Rattle.dpl_sets.specs.TextRanges.{TextRange}
+use Rattle.dpl_sets.specs.Indices.{indices}
 use Rattle.dpl_array.specs.Elements.{behind}
 use Rattle.dpl_language.specs.Ranges.{indices_in}
 use Rattle.dpl_loop.proofs.InRows.{later-member}

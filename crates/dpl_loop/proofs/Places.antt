@@ -1,6 +1,6 @@
 -- What stands at a place of a list, and what is left from there on.
 use Rattle.std.proofs.Common.{◌≡◌, ℕ, zero, suc, ◌+◌, ◌<◌, arith, List, [], ◌∷◌, drop, length, slice_get, None, refl, ap, ◌∙◌, subst, ◌⊎◌, ⊎_elim, inl, inr}
-use Rattle.dpl_range.specs.Equality.{TextRange}
+use Rattle.dpl_sets.specs.TextRanges.{TextRange}
 use Rattle.dpl_map.specs.Maps.{AxisValue}
 use Rattle.dpl_language.specs.Values.{Index}
 use Rattle.dpl_language.specs.Ranges.{indices_in}

@@ -1,7 +1,7 @@
 // What a loop runs over by places, and how many of the next indices lie behind one another in the last dimension.
 
 ghost use Rattle.std.specs.Prelude.{◌≡◌, ◌+◌, ◌<◌, ℕ, ℤ, List, [], ◌∷◌, Some, length, slice_get};
-ghost use Rattle.dpl_domain.specs.Indices.{indices};
+ghost use Rattle.dpl_sets.specs.Indices.{indices};
 ghost use Rattle.dpl_array.specs.Elements.{behind};
 ghost use Rattle.dpl_language.specs.Values.{Index as IndexValue};
 ghost use Rattle.dpl_language.specs.Ranges.{indices_in};

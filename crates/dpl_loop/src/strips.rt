@@ -2,7 +2,7 @@
 // What is put together, in which order, and which gate is asked is as for `reduce`.
 
 ghost use Rattle.std.specs.Prelude.{◌≡◌, ◌+◌, ◌≤◌, ◌<◌, ◌^◌, ℕ, List, Some, false, Result, ◌⊎◌, drop, length, slice_get, IfOk};
-ghost use Rattle.dpl_domain.specs.Indices.{indices};
+ghost use Rattle.dpl_sets.specs.Indices.{indices};
 ghost use Rattle.dpl_array.specs.Elements.{behind};
 ghost use Rattle.dpl_language.specs.Values.{Value, Fault, Index as IndexValue};
 ghost use Rattle.dpl_language.specs.Outcome.{naming_value};

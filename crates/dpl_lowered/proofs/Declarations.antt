@@ -4,7 +4,7 @@ use Rattle.std.proofs.Common.{◌≡◌, nat_lt, Bool, true, false, List, refl, 
 use Rattle.std.specs.Prelude.{pos}
 use mathlib.Core.Path.{fun_ext}
 use Rattle.dpl_syntax.specs.declared.place.Place.{Place}
-use Rattle.dpl_range.specs.Equality.{TextRange}
+use Rattle.dpl_sets.specs.TextRanges.{TextRange}
 use Rattle.dpl_language.specs.Values.{Value, Int, ranges_in, default, fault, Budget, ArrayTooLarge}
 use Rattle.dpl_language.specs.Ranges.{indices_in, size_in, too_large}
 use Rattle.dpl_language.specs.Tree.{Placed, Kind, IntKind, BoolKind, ItemTree, Items, FirstItem, NoItems, NextItem, ArrayTypeTree, TypeTree, ScalarType, SyncType, DomainType, ArrayType, InitTree, ItemInit, CreateInit, InitialTree, DeclareTree}

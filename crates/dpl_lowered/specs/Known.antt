@@ -1,7 +1,7 @@
 -- What a lowering may know of a name: whether its values are those of whole arrays.
 -- With nothing known, lowered trees mean the same in every environment; with more known, in each that agrees with it.
 use Rattle.std.specs.Prelude.{◌≡◌, Bool, true, false, Some, None, List}
-use Rattle.dpl_range.specs.Equality.{TextRange}
+use Rattle.dpl_sets.specs.TextRanges.{TextRange}
 use Rattle.dpl_language.specs.Values.{Value, array_domain, is_domain}
 use Rattle.dpl_language.specs.Environment.{Environment}
 

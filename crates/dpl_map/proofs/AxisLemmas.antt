@@ -7,8 +7,8 @@ use Rattle.std.proofs.lemmas.Int.{ints, by_lt_z}
 use Rattle.std.proofs.lemmas.Nat.{mod_below, div_below, le-div, div-add-mod', mod-mul-add}
 use Rattle.std.proofs.Math.Nat.{mul-le-mul_right, div-mul-le_self, mod-eq_of_lt}
 use Rattle.dpl_range.specs.Congruence.{is_congruent}
-use Rattle.dpl_range.specs.Members.{count_of}
-use Rattle.dpl_range.specs.Range.{RangeValue, members_of, IsBound}
+use Rattle.dpl_sets.specs.Members.{count_of}
+use Rattle.dpl_sets.specs.Ranges.{RangeValue, members_of, IsBound}
 use Rattle.dpl_range.specs.Invariant.{IsRange}
 use Rattle.dpl_range.proofs.MemberLemmas.{member-within}
 use Rattle.dpl_map.specs.AxisFields.{IsAxis, IsRule}

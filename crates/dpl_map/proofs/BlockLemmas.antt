@@ -5,7 +5,7 @@ use Rattle.std.specs.Int.{int_div_euclid, int_rem_euclid}
 use Rattle.std.proofs.lemmas.Int.{ints, int_rem_euclid_is}
 use Rattle.std.proofs.lemmas.Nat.{mod_below, div-mul-add, mod-mul-add, mul-add-lt}
 use Rattle.std.proofs.Math.Nat.{mul-le-mul_right, add-mul-div_right, add-mul-mod_self_right, mod-add-mod, div-add-mod, mul_comm, mul_assoc, add-mul, suc-mul, mul-mod_left, div-lt_iff_lt-mul, le-div_iff_mul-le}
-use Rattle.dpl_range.specs.Members.{count_of}
+use Rattle.dpl_sets.specs.Members.{count_of}
 use Rattle.dpl_range.specs.Congruence.{is_congruent}
 use Rattle.dpl_range.proofs.Congruence.{divides-ahead}
 use Rattle.dpl_map.specs.Places.{block_cyclic_place}

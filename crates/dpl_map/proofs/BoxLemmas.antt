@@ -1,7 +1,7 @@
 -- The members of a range are within the limits, and so is a box of them.
 use Rattle.std.proofs.Common.{arith, Option, Some, None, ℤ, Contains, IsNone, IfSome, unwrap_or, refl}
 use Rattle.std.proofs.lemmas.Int.{ints}
-use Rattle.dpl_range.specs.Range.{RangeValue, members_of, IsBound}
+use Rattle.dpl_sets.specs.Ranges.{RangeValue, members_of, IsBound}
 use Rattle.dpl_range.specs.Invariant.{IsRange}
 use Rattle.dpl_range.proofs.Ends.{slice_get-Contains}
 use Rattle.dpl_range.proofs.MemberLemmas.{member-within}

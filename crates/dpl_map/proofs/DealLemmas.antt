@@ -10,8 +10,8 @@ use Rattle.std.proofs.lemmas.Nat.{mod_below, mul-add-lt}
 use Rattle.std.proofs.lemmas.List.Elements.{All-weaker, All-filter, All-contains}
 use Rattle.std.proofs.Math.Nat.{mul_comm, mul-le-mul, add-mul, div-add-mod, div-mul-le_self, le-div_iff_mul-le}
 use Rattle.dpl_range.specs.Congruence.{is_congruent}
-use Rattle.dpl_range.specs.Members.{count_of}
-use Rattle.dpl_range.specs.Range.{RangeValue, members_of}
+use Rattle.dpl_sets.specs.Members.{count_of}
+use Rattle.dpl_sets.specs.Ranges.{RangeValue, members_of}
 use Rattle.dpl_range.specs.Walk.{walked}
 use Rattle.dpl_range.proofs.MemberLemmas.{count_of-natural, members-within, nth-walked}
 use Rattle.dpl_range.proofs.SliceLemmas.{passes, passed}

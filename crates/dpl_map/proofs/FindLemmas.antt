@@ -2,8 +2,8 @@
 use Rattle.std.proofs.Common.{◌≡◌, ◌≢◌, ◌↔◌, ◌<◌, ◌≤◌, ℕ, zero, suc, ℤ, pos, List, [], ◌∷◌, length, slice_get, Option, Some, None, IfSome, IsNone, inr, refl, ap, sym, subst, ◌∙◌, arith, ⊎_elim}
 use Rattle.std.proofs.lemmas.Int.{ints}
 use Rattle.std.proofs.lemmas.Option.{none-some, same_Some}
-use Rattle.dpl_range.specs.Range.{RangeValue}
-use Rattle.dpl_domain.specs.Indices.{indices}
+use Rattle.dpl_sets.specs.Ranges.{RangeValue}
+use Rattle.dpl_sets.specs.Indices.{indices}
 use Rattle.dpl_domain.specs.Ranks.{last_of, IsPadded}
 use Rattle.dpl_map.specs.Maps.{RuleValue, Block, Cyclic, BlockCyclic, AxisValue}
 use Rattle.dpl_map.specs.Axes.{IsSingle}

@@ -3,7 +3,7 @@ use Rattle.std.proofs.Common.{◌≡◌, ◌≤◌, ◌<◌, ◌*◌, ◌==◌, 
 use Rattle.std.proofs.Math.Nat.{mul-le-mul}
 use Rattle.std.proofs.lemmas.Int.{ints}
 use Rattle.std.proofs.lemmas.List.Elements.{All-contains}
-use Rattle.dpl_range.specs.Range.{RangeValue, members_of}
+use Rattle.dpl_sets.specs.Ranges.{RangeValue, members_of}
 use Rattle.dpl_range.proofs.Ends.{Contains-slice_get}
 use Rattle.dpl_range.proofs.MemberLemmas.{slice_get-members}
 use Rattle.dpl_domain.specs.Ranks.{last_of, point}

@@ -1,9 +1,9 @@
 -- The domains of a part stand row by row.
 use Rattle.std.proofs.Common.{◌≡◌, ◌≢◌, ◌==◌, ℕ, zero, suc, List, [], ◌∷◌, ℤ, map, filter, length, slice_get, Some, All, Contains, IfSome, refl, sym, subst, ◌∙◌, arith, eqb-true}
 use Rattle.std.proofs.lemmas.List.{length-map}
-use Rattle.dpl_range.specs.Range.{RangeValue, members_of}
+use Rattle.dpl_sets.specs.Ranges.{RangeValue, members_of}
 use Rattle.dpl_range.proofs.Ends.{Contains-slice_get, slice_get-Contains}
-use Rattle.dpl_domain.specs.Indices.{tuples, indices}
+use Rattle.dpl_sets.specs.Indices.{tuples, indices}
 use Rattle.dpl_domain.specs.Ranks.{last_of}
 use Rattle.dpl_map.specs.Maps.{AxisValue}
 use Rattle.dpl_map.specs.Parts.{part}

@@ -4,7 +4,7 @@ use Rattle.std.specs.Int.{int_rem_euclid}
 use Rattle.std.proofs.lemmas.Int.{ints}
 use Rattle.std.proofs.lemmas.Nat.{div_below}
 use Rattle.std.proofs.Math.Nat.{mul-le-mul_right}
-use Rattle.dpl_range.specs.Members.{count_of}
+use Rattle.dpl_sets.specs.Members.{count_of}
 use Rattle.dpl_map.specs.Places.{block_place}
 
 pub under : (a b : ℤ) → a <ℤ b → int_lt a b ≡ true

@@ -7,8 +7,8 @@ use Rattle.std.proofs.lemmas.List.Elements.{All-weaker, All-contains, Contains-a
 use Rattle.std.proofs.lemmas.Int.{ints}
 use Rattle.std.proofs.lemmas.Option.{slice_get_within}
 use Rattle.std.proofs.Math.Nat.{mul_comm, mul_assoc, add-mul, mul-le-mul_right}
-use Rattle.dpl_range.specs.Range.{RangeValue, members_of}
-use Rattle.dpl_domain.specs.Indices.{tuples, indices}
+use Rattle.dpl_sets.specs.Ranges.{RangeValue, members_of}
+use Rattle.dpl_sets.specs.Indices.{tuples, indices}
 use Rattle.dpl_domain.specs.Ranks.{last_of}
 use Rattle.dpl_map.specs.Cuts.{AreCut, AreSorted}
 use Rattle.dpl_map.specs.Orders.{IsBefore}

@@ -1,8 +1,8 @@
 -- Products of lists, and so the indices of a domain.
 use Rattle.std.proofs.Common.{◌≡◌, ℕ, zero, suc, List, [], ◌∷◌, refl, ap, sym, ◌∙◌, arith, ℤ, pos, map, flat_map}
-use Rattle.dpl_range.specs.Members.{members}
-use Rattle.dpl_range.specs.Range.{RangeValue, members_of}
-use Rattle.dpl_domain.specs.Indices.{tuples, indices}
+use Rattle.dpl_sets.specs.Members.{members}
+use Rattle.dpl_sets.specs.Ranges.{RangeValue, members_of}
+use Rattle.dpl_sets.specs.Indices.{tuples, indices}
 use Rattle.dpl_domain.specs.Ranks.{last_of, point, IsPadded}
 
 -- a product with a list that is empty is empty

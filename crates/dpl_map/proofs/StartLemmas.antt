@@ -2,7 +2,7 @@
 use Rattle.std.proofs.Common.{◌≡◌, ℕ, zero, suc, ◌*◌, ◌≤◌, List, refl, arith, ℤ, pos, All}
 use Rattle.std.proofs.lemmas.Int.{ints}
 use Rattle.std.proofs.Math.Nat.{mul-le-mul_left, mul-le-mul_right}
-use Rattle.dpl_range.specs.Range.{RangeValue, IsBound}
+use Rattle.dpl_sets.specs.Ranges.{RangeValue, IsBound}
 use Rattle.dpl_domain.specs.Ranks.{last_of, IsPadded, IsFilled}
 use Rattle.dpl_map.specs.Grids.{grid_size, IsGridSize}
 use Rattle.dpl_map.specs.Maps.{AxisValue, Cyclic, BlockCyclic, cyclic_map, block_cyclic_map, IsBlocksize, IsBoxed, IsBlockMap}

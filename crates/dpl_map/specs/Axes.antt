@@ -1,6 +1,6 @@
 -- One dimension of a map by itself.
 use Rattle.std.specs.Prelude.{◌==◌, ℕ, List, [], ◌∷◌, ℤ, filter}
-use Rattle.dpl_range.specs.Range.{RangeValue, members_of}
+use Rattle.dpl_sets.specs.Ranges.{RangeValue, members_of}
 use Rattle.dpl_map.specs.Maps.{RuleValue, Block, Cyclic, BlockCyclic, AxisValue, axis_coordinate}
 
 -- what a coordinate of one dimension owns of a range: the members that the dimension's rule gives it

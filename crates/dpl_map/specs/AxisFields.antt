@@ -1,6 +1,6 @@
 -- What holds of an axis, and the fields of one that has a given value.
 use Rattle.std.specs.Prelude.{◌≡◌, ℕ, pos, ◌≤ℤ◌, refl}
-use Rattle.dpl_range.specs.Range.{IsBound}
+use Rattle.dpl_sets.specs.Ranges.{IsBound}
 use Rattle.dpl_map.specs.Grids.{IsGridSize}
 use Rattle.dpl_map.specs.Maps.{RuleValue, Block, Cyclic, BlockCyclic, AxisValue}
 use Rattle.dpl_map.specs.declared.axis.Rule.{Rule}

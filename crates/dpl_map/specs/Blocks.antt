@@ -1,7 +1,7 @@
 -- Where an integer lies in blocks that are dealt out in rounds. Private functions of the crate speak of it.
 use Rattle.std.specs.Prelude.{◌≡◌, ◌⊎◌, ◌<◌, ◌≤◌, ◌*◌, ◌/◌, ◌%◌, ◌^◌, ℕ, ℤ, pos, ◌+ℤ◌, ◌-ℤ◌, ◌≤ℤ◌}
-use Rattle.dpl_range.specs.Members.{count_of}
-use Rattle.dpl_range.specs.Range.{RangeValue}
+use Rattle.dpl_sets.specs.Members.{count_of}
+use Rattle.dpl_sets.specs.Ranges.{RangeValue}
 use Rattle.dpl_range.specs.Invariant.{IsRange}
 
 -- how far an integer lies past an origin

@@ -1,6 +1,6 @@
 -- What a coordinate gets of a range, by its blocks. Private functions of the crate speak of it.
 use Rattle.std.specs.Prelude.{◌==◌, ◌/◌, ◌%◌, ◌<◌, ◌+◌, ◌*◌, ℕ, List, ℤ, filter}
-use Rattle.dpl_range.specs.Range.{RangeValue, members_of}
+use Rattle.dpl_sets.specs.Ranges.{RangeValue, members_of}
 use Rattle.dpl_map.specs.Blocks.{block_number, block_offset}
 use Rattle.dpl_map.specs.Cuts.{AreSorted}
 use Rattle.dpl_map.specs.declared.blocks.Deal.{Deal}

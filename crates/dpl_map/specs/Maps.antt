@@ -1,6 +1,6 @@
 -- Maps: a map deals out each dimension by a rule over an extent of a grid. The whole map deals out none.
 use Rattle.std.specs.Prelude.{◌≡◌, ℕ, List, [], ◌∷◌, ℤ, pos, map, length, nat_eq, if◌then◌else◌, Contains, All, ◌≤ℤ◌}
-use Rattle.dpl_range.specs.Range.{RangeValue, members_of}
+use Rattle.dpl_sets.specs.Ranges.{RangeValue, members_of}
 use Rattle.dpl_map.specs.Grids.{grid_size, grid_locale}
 use Rattle.dpl_map.specs.Places.{block_place, cyclic_place, block_cyclic_place}
 

@@ -1,8 +1,8 @@
 -- In what order the domains of a part stand.
 use Rattle.std.specs.Prelude.{◌≡◌, ◌⊎◌, ◌↔◌, ◌≤◌, ◌<◌, ◌≢◌, ℕ, List, [], ◌∷◌, ℤ, pos, ◌-ℤ◌, ◌<ℤ◌, length, slice_get, Some, All}
 use Rattle.std.specs.Int.{int_rem_euclid}
-use Rattle.dpl_range.specs.Range.{RangeValue, members_of}
-use Rattle.dpl_domain.specs.Indices.{tuples, indices}
+use Rattle.dpl_sets.specs.Ranges.{RangeValue, members_of}
+use Rattle.dpl_sets.specs.Indices.{tuples, indices}
 use Rattle.dpl_domain.specs.Ranks.{last_of}
 use Rattle.dpl_map.specs.Maps.{RuleValue, Block, Cyclic, BlockCyclic, AxisValue}
 use Rattle.dpl_map.specs.Counts.{rule_block}

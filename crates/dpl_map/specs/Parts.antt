@@ -1,7 +1,7 @@
 -- A locale's part of a domain.
 use Rattle.std.specs.Prelude.{ℕ, List, ℤ, filter, ◌==◌}
-use Rattle.dpl_range.specs.Range.{RangeValue}
-use Rattle.dpl_domain.specs.Indices.{indices}
+use Rattle.dpl_sets.specs.Ranges.{RangeValue}
+use Rattle.dpl_sets.specs.Indices.{indices}
 use Rattle.dpl_map.specs.Maps.{AxisValue, owner}
 
 -- the part of a locale: the indices that it owns, in their order

@@ -2,7 +2,7 @@
 -- Division is rounded down, and a remainder by n is from 0 to n - 1.
 use Rattle.std.specs.Prelude.{ℕ, ◌-◌, ℤ, pos, ◌+ℤ◌, ◌-ℤ◌, ◌*ℤ◌, int_lt, if◌then◌else◌}
 use Rattle.std.specs.Int.{int_div_euclid, int_rem_euclid}
-use Rattle.dpl_range.specs.Members.{count_of}
+use Rattle.dpl_sets.specs.Members.{count_of}
 
 -- Block, with a box low..high over n coordinates: an index i in the box goes to
 -- floor((i - low) * n / (high - low + 1)), one below the box to 0, and one above it to n - 1.

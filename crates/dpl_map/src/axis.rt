@@ -3,7 +3,7 @@
 ghost use Rattle.std.specs.Prelude.{◌≡◌, ◌≢◌, ◌↔◌, ◌+◌, ◌*◌, ◌^◌, ◌≤◌, ◌<◌, ◌≤ℤ◌, ◌-ℤ◌, IsTrue, ◌==◌, ◌&&◌, ℕ, ℤ, pos, neg_ℤ, int_le, filter, length, All, Some};
 ghost use Rattle.std.specs.Prelude.{IfOk, []};
 ghost use Rattle.std.specs.Int.{int_div_euclid, int_rem_euclid};
-ghost use Rattle.dpl_range.specs.Range.{members_of, IsBound};
+ghost use Rattle.dpl_sets.specs.Ranges.{members_of, IsBound};
 ghost use Rattle.dpl_range.specs.Invariant.{IsRange};
 ghost use Rattle.dpl_map.specs.AxisFields.{IsAxis};
 ghost use Rattle.dpl_map.specs.Grids.{IsGridSize};

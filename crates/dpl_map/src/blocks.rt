@@ -4,7 +4,7 @@
 ghost use Rattle.std.specs.Prelude.{◌≡◌, ◌≢◌, ◌≤◌, ◌<◌, ◌+◌, ◌-◌, ◌*◌, ◌/◌, ◌%◌, ◌==◌, ◌&&◌, ◌^◌, ℕ, pos, ◌≤ℤ◌, ◌+ℤ◌, ◌-ℤ◌, neg_ℤ, int_le, [], filter, length};
 ghost use Rattle.std.specs.Prelude.{IfOk, IfSome, IsNone, OnOk, All};
 ghost use Rattle.std.specs.Int.{int_div_euclid};
-ghost use Rattle.dpl_range.specs.Range.{members_of, IsBound};
+ghost use Rattle.dpl_sets.specs.Ranges.{members_of, IsBound};
 ghost use Rattle.dpl_map.specs.Grids.{IsGridSize};
 ghost use Rattle.dpl_map.specs.Maps.{BlockCyclic};
 ghost use Rattle.dpl_map.specs.Axes.{block_cyclic_axis, owned_of};

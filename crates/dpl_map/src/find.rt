@@ -1,7 +1,7 @@
 // Where an index stands in a part.
 
 ghost use Rattle.std.specs.Prelude.{◌≡◌, ◌↔◌, ◌<◌, ◌≤◌, ℕ, ℤ, List, [], ◌∷◌, length, slice_get, Some, IsTrue, IfSome, IsNone};
-ghost use Rattle.dpl_domain.specs.Indices.{indices};
+ghost use Rattle.dpl_sets.specs.Indices.{indices};
 ghost use Rattle.dpl_domain.specs.Ranks.{last_of};
 ghost use Rattle.dpl_map.specs.Orders.{keys, IsBefore, IsAt, AreRowByRow, ArePart, HasNone, three};
 

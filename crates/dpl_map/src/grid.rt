@@ -1,7 +1,7 @@
 // A grid: the locales that a map deals indices out to, in one to three dimensions.
 
 ghost use Rattle.std.specs.Prelude.{◌≡◌, ◌≤◌, ◌*◌, ◌↔◌, length, IsOk, IfOk};
-ghost use Rattle.dpl_domain.specs.Indices.{IsRank};
+ghost use Rattle.dpl_sets.specs.Indices.{IsRank};
 ghost use Rattle.dpl_domain.specs.Ranks.{last_of, IsPadded};
 ghost use Rattle.dpl_map.specs.Grids.{grid_size, IsGridSize};
 

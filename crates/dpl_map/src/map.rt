@@ -1,9 +1,9 @@
 // Maps: who owns an index.
 
 ghost use Rattle.std.specs.Prelude.{◌≡◌, ◌≢◌, ◌*◌, ◌≤◌, ◌<◌, ◌↔◌, List, [], ℕ, ℤ, pos, Contains, length, slice_get, All, Some, IsTrue, IsOk, IfOk};
-ghost use Rattle.dpl_domain.specs.Indices.{indices, IsRank};
+ghost use Rattle.dpl_sets.specs.Indices.{indices, IsRank};
 ghost use Rattle.dpl_domain.specs.Ranks.{last_of, IsPadded};
-ghost use Rattle.dpl_range.specs.Range.{RangeValue, IsBound};
+ghost use Rattle.dpl_sets.specs.Ranges.{RangeValue, IsBound};
 ghost use Rattle.dpl_map.specs.AxisFields.{IsAxis};
 ghost use Rattle.dpl_map.specs.MapFields.{IsMap};
 ghost use Rattle.dpl_map.specs.Maps.{Block, owner, locales, whole_map, cyclic_map, block_cyclic_map, IsBlocksize, IsBlockMap};

@@ -2,7 +2,7 @@
 
 ghost use Rattle.std.specs.Prelude.{◌≡◌, ◌≢◌, ◌≤◌, ◌<◌, ◌*◌, ◌+◌, [], length, All, IfOk, IfSome, IfNone, OnErr};
 ghost use Rattle.std.specs.List.{sum_by};
-ghost use Rattle.dpl_domain.specs.Indices.{indices, IsSmall};
+ghost use Rattle.dpl_sets.specs.Indices.{indices, IsSmall};
 ghost use Rattle.dpl_map.specs.Maps.{locales};
 ghost use Rattle.dpl_map.specs.Axes.{AreSingle};
 ghost use Rattle.dpl_map.specs.Counts.{AreFew};

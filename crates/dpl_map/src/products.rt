@@ -1,8 +1,8 @@
 // Products of ranges that are cut out of the dimensions of a domain: domains that are cut out of it.
 
 ghost use Rattle.std.specs.Prelude.{◌≡◌, ◌≢◌, ◌≤◌, ◌<◌, ◌*◌, ◌/◌, ◌%◌, ℕ, ℤ, List, [], length, slice_get, Some, All, IfOk};
-ghost use Rattle.dpl_range.specs.Range.{RangeValue, members_of};
-ghost use Rattle.dpl_domain.specs.Indices.{tuples, indices, IsSmall};
+ghost use Rattle.dpl_sets.specs.Ranges.{RangeValue, members_of};
+ghost use Rattle.dpl_sets.specs.Indices.{tuples, indices, IsSmall};
 ghost use Rattle.dpl_domain.specs.Ranks.{last_of};
 ghost use Rattle.dpl_map.specs.Orders.{AreProducts};
 

@@ -3,7 +3,7 @@
 use Rattle.std.proofs.Common.{◌≡◌, ◌≢◌, ℕ, ◌<◌, true, List, refl, sym, ap, ◌∙◌, subst, Some, None, Option}
 use Rattle.std.specs.Prelude.{get_or, set}
 use Rattle.std.proofs.lemmas.List.{get_or-set_same, get_or-set_other, length-set}
-use Rattle.dpl_range.specs.Equality.{TextRange}
+use Rattle.dpl_sets.specs.TextRanges.{TextRange}
 use Rattle.dpl_language.specs.Tree.{Op, Kind, Assign, Set, SetAdd, SetSubtract, SetMultiply, SetDivide, SetRemainder, SetReduce}
 use Rattle.dpl_language.specs.Values.{Value, Domain, Tuple, ranges_in, coordinates, array_domain, is_domain}
 use Rattle.dpl_language.specs.Arithmetic.{assigned}

@@ -4,8 +4,8 @@ use Rattle.std.proofs.Common.{◌≡◌, ℕ, List, [], ◌∷◌, pos, true, fa
 use Rattle.std.specs.Prelude.{codes, bytes_eq, int_lt, get_or, if◌then◌else◌}
 use Rattle.std.specs.Int.{int_wrap}
 use Rattle.std.specs.Fmt.{digits}
-use Rattle.dpl_range.specs.Members.{members}
-use Rattle.dpl_domain.specs.Indices.{indices}
+use Rattle.dpl_sets.specs.Members.{members}
+use Rattle.dpl_sets.specs.Indices.{indices}
 use Rattle.dpl_language.specs.Tree.{Placed, IntKind, ScalarType, Number, TruthWord, Named, Chain, Link, NoLinks, Less, One, RangeItem, Closed, NoStride, ItemInit, Sum, AllOf, SetAdd, SetReduce, ReduceIntent, OneVariable, Whole, TextArgument, ExprArgument, Declare, Assigned, For, Forall, Write, WordBody, BlockBody, Then, NoStmts, ProgramTree}
 use Rattle.dpl_language.specs.Program.{written}
 use Rattle.dpl_agreement.specs.Renamed.{renamed_program}

@@ -5,9 +5,9 @@ use Rattle.std.proofs.Common.{◌≡◌, ℤ, Bool, true, false, List, [], ◌�
 use Rattle.std.specs.Prelude.{All, flat_map, map, ◌||◌, if◌then◌else◌}
 use Rattle.std.proofs.lemmas.List.Elements.{All-nil, All-cons}
 use Rattle.dpl_syntax.specs.declared.place.Place.{Place}
-use Rattle.dpl_domain.specs.Indices.{indices}
-use Rattle.dpl_range.specs.Equality.{TextRange}
-use Rattle.dpl_range.specs.Range.{members_of}
+use Rattle.dpl_sets.specs.Indices.{indices}
+use Rattle.dpl_sets.specs.TextRanges.{TextRange}
+use Rattle.dpl_sets.specs.Ranges.{members_of}
 use Rattle.dpl_language.specs.Tree.{Placed, Dots, ExprTree, Number, TruthWord, Named, ItemTree, One, RangeItem, NoStride}
 use Rattle.dpl_language.specs.Values.{Value, Range, number, Fault, fault, PastLimit}
 use Rattle.dpl_language.specs.Ranges.{unstrided, past_limit, high_bound, bad_count, bounded, indices_in, index_value, loop_ranges, loop_value}

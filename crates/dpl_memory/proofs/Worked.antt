@@ -5,9 +5,9 @@ use Rattle.std.specs.Prelude.{codes, bytes_eq, if◌then◌else◌, get_or, Ok, 
 use Rattle.std.specs.Int.{int_wrap}
 use Rattle.std.specs.Fmt.{digits}
 use Rattle.std.proofs.lemmas.List.{append-nil}
-use Rattle.dpl_range.specs.Members.{members}
-use Rattle.dpl_range.specs.Equality.{TextRange}
-use Rattle.dpl_domain.specs.Indices.{indices}
+use Rattle.dpl_sets.specs.Members.{members}
+use Rattle.dpl_sets.specs.TextRanges.{TextRange}
+use Rattle.dpl_sets.specs.Indices.{indices}
 use Rattle.dpl_syntax.specs.declared.place.Place.{Place}
 use Rattle.dpl_language.specs.Tree.{Placed, IntKind, BoolKind, Number, Named, One, RangeItem, Closed, NoStride, DomainLiteral, Items, FirstItem, NoItems, ProgramTree}
 use Rattle.dpl_language.specs.Values.{Value, Int, Array, Range, Domain, Fault, fault, PastLimit, all_ranges, ranges_in}

@@ -2,7 +2,7 @@
 -- It is what a checked data-parallel program does on one locale; it has no cells and no other locales, and answers as if there were none.
 use Rattle.std.specs.Prelude.{ℕ, ◌+◌, ◌==◌, ℤ, pos, Bool, true, false, if◌then◌else◌, Option, Some, None, List, [], ◌∷◌, get_or, set, map, option_map}
 use Rattle.std.specs.List.{list_any}
-use Rattle.dpl_range.specs.Equality.{TextRange}
+use Rattle.dpl_sets.specs.TextRanges.{TextRange}
 use Rattle.dpl_language.specs.Tree.{Op, Kind, IntKind, BoolKind}
 use Rattle.dpl_language.specs.Values.{Value, Int, Domain, Array, Tuple, Index, ranges_in, coordinates, kept_number}
 use Rattle.dpl_language.specs.Arithmetic.{assigned}

@@ -2,7 +2,7 @@
 -- Where such a name may stand, and when a memory is the store by names.
 use Rattle.std.specs.Prelude.{◌≡◌, ◌≢◌, ℕ, ◌==◌, ◌<◌, ℤ, pos, Bool, true, false, not, All, bytes_eq, if◌then◌else◌, Option, Some, None, Ok, List, [], ◌∷◌, ◌++◌, map, option_map, length, replicate}
 use Rattle.dpl_syntax.specs.declared.place.Place.{Place}
-use Rattle.dpl_range.specs.Equality.{TextRange}
+use Rattle.dpl_sets.specs.TextRanges.{TextRange}
 use Rattle.dpl_language.specs.Tree.{Op, Assign, Set, SetAdd, SetSubtract, SetMultiply, SetDivide, SetRemainder, SetReduce, ItemTree, Items, Kind, IntKind, BoolKind}
 use Rattle.dpl_language.specs.Values.{Value, Int, Truth, Domain, Tuple, Index, ranges_in, coordinates}
 use Rattle.dpl_language.specs.Ranges.{indices_in, loop_ranges, loop_value}

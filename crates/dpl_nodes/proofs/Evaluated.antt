@@ -7,7 +7,7 @@ use mir.Syntax.{w64}
 use Rattle.std.specs.Ordering.{int_eq}
 use Rattle.dpl_language.specs.Arithmetic.{wrap, infix_of, decides, divides, combined, unit_of}
 use Rattle.dpl_syntax.specs.declared.place.Place.{Place}
-use Rattle.dpl_range.specs.Equality.{TextRange}
+use Rattle.dpl_sets.specs.TextRanges.{TextRange}
 use Rattle.dpl_language.specs.Tree.{Op, IntKind, BoolKind, ExprTree, FirstItem, NoItems, FirstExpr, NoExprs}
 use Rattle.dpl_language.specs.Values.{Value, Int, Truth, Range, number, truth, kept_number, ranges_in, all_ranges, Index, index_of, Fault, fault, Budget}
 use Rattle.dpl_language.specs.Arithmetic.{tested_divisor}

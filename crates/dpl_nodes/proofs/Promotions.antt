@@ -2,7 +2,7 @@
 -- without a whole array has at each index the value that it has without one.
 use Rattle.std.proofs.Common.{◌≡◌, List, Option, Some, None, refl, sym, ◌∙◌}
 use Rattle.dpl_syntax.specs.declared.place.Place.{Place}
-use Rattle.dpl_range.specs.Equality.{TextRange}
+use Rattle.dpl_sets.specs.TextRanges.{TextRange}
 use Rattle.dpl_language.specs.Tree.{Prefix, Minus, Not, Infix, Add, Subtract, Multiply, Divide, Remainder, Equal, NotEqual, And, Or, ExprTree, Prefixed}
 use Rattle.dpl_language.specs.Values.{Index}
 use Rattle.dpl_language.specs.Phrases.{cell_read}

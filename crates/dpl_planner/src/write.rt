@@ -19,10 +19,11 @@ ghost use Rattle.dpl_planner.specs.Plans.{intents_in, PlansStmt};
 
 use crate::elements::array_named;
 use crate::progress::{Plan, list, push};
+use dpl_lexer::text_bytes;
 use dpl_nodes::step::Argument as Shown;
 use dpl_nodes::{Step, Stop};
 use dpl_scopes::Scopes;
-use dpl_syntax::{Bytes, text_bytes};
+use dpl_syntax::Bytes;
 use dpl_tree::{Arena, Argument, Arguments, Expr, NextArgument, ScalarKind, Write};
 use dpl_typer::{Typed, expression};
 

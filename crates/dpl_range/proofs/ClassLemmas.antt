@@ -7,8 +7,8 @@ use Rattle.std.proofs.Math.Nat.{add-mul, mul_assoc, mul_comm, suc-mul, mul-le-mu
 use Rattle.std.specs.Int.{int_rem_euclid}
 use Rattle.dpl_range.specs.Congruence.{is_congruent}
 use Rattle.dpl_range.proofs.Congruence.{congruent-walked, step-remainder, periodic}
-use Rattle.dpl_range.specs.Members.{every, spaced}
-use Rattle.dpl_range.specs.Range.{RangeValue, members_of, IsBound}
+use Rattle.dpl_sets.specs.Members.{every, spaced}
+use Rattle.dpl_sets.specs.Ranges.{RangeValue, members_of, IsBound}
 use Rattle.dpl_range.specs.Invariant.{IsRange}
 use Rattle.dpl_range.specs.Walk.{walked, nearer, begun, ahead, SameWay}
 use Rattle.dpl_range.proofs.Lists.{slice_get-spaced, same_places, spaced-drop, filter-spaced, filter-none}

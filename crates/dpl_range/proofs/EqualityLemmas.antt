@@ -2,9 +2,9 @@
 -- equal ranges are equal.
 use Rattle.std.proofs.Common.{◌≡◌, ℕ, ◌-◌, List, length, ap, sym, ◌∙◌, refl, ℤ, ◌≤ℤ◌, slice_get, All, Contains, ◌↔◌, subst, filter, int_le, ◌&&◌}
 use Rattle.std.specs.Int.{int_max, int_min}
-use Rattle.dpl_range.specs.Range.{RangeValue, members_of, IsBound}
-use Rattle.dpl_range.specs.Slices.{members_within}
-use Rattle.dpl_range.specs.Equality.{TextRange, IsTextRange, SameRange, text_sliced}
+use Rattle.dpl_sets.specs.Ranges.{RangeValue, members_of, IsBound}
+use Rattle.dpl_sets.specs.RangeSlices.{members_within}
+use Rattle.dpl_sets.specs.TextRanges.{TextRange, IsTextRange, SameRange, text_sliced}
 use Rattle.dpl_range.specs.Invariant.{IsRange}
 use Rattle.dpl_range.proofs.SliceLemmas.{members-sliced, sliced-unit}
 

@@ -1,6 +1,5 @@
 pub mod Lists
 pub mod MemberLemmas
-mod Worked
 pub mod Ends
 pub mod Ordered
 pub mod SliceLemmas

@@ -2,7 +2,7 @@
 use Rattle.std.proofs.Common.{◌≡◌, ◌≤◌, true, arith, ℤ, pos, negsuc, unsigned_abs, ◌↔◌}
 use Rattle.std.proofs.lemmas.Int.{ints}
 use Rattle.std.proofs.lemmas.Bool.Decides.{nat_tests}
-use Rattle.dpl_range.specs.Range.{limit, IsBound, IsStride, is_bound, is_stride}
+use Rattle.dpl_sets.specs.Ranges.{limit, IsBound, IsStride, is_bound, is_stride}
 
 pub IsBound-abs : (i : ℤ) → (unsigned_abs i ≤ limit) ↔ IsBound i
 IsBound-abs (pos n) = ((λ h. (omega (arith, ints, h), omega (arith, ints, h))), (λ b. omega (arith, ints, b.1)))

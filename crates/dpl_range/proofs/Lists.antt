@@ -3,7 +3,7 @@ use Rattle.std.proofs.Common.{◌≡◌, ℕ, zero, suc, ◌+◌, ◌-◌, ◌*�
 use Rattle.std.proofs.lemmas.Option.{same_Some, slice_get-get_or, slice_get_within, get_or_from_slice_get}
 use Rattle.std.proofs.lemmas.List.{get_or-reverse, length-reverse, drop_more, take_more}
 use Rattle.std.proofs.Math.Nat.{suc-mul}
-use Rattle.dpl_range.specs.Members.{spaced}
+use Rattle.dpl_sets.specs.Members.{spaced}
 
 -- the k-th kept element of a list
 pub slice_get-spaced : (gap wait : ℕ) (is : List ℤ) (k : ℕ) → slice_get (spaced gap wait is) k ≡ slice_get is (wait + k * suc gap)

@@ -6,8 +6,8 @@ use Rattle.std.proofs.lemmas.Int.{ints, by_lt_z}
 use Rattle.std.proofs.lemmas.List.{length-reverse}
 use Rattle.std.proofs.Math.Nat.{le-div_iff_mul-le, div-lt_iff_lt-mul, div-add-mod, mul-div_cancel, mul-mod_left, div-le_self}
 use Rattle.std.proofs.lemmas.Bool.{cases_lt}
-use Rattle.dpl_range.specs.Members.{members, between, rising, spaced, count_of}
-use Rattle.dpl_range.specs.Range.{RangeValue, members_of}
+use Rattle.dpl_sets.specs.Members.{members, between, rising, spaced, count_of}
+use Rattle.dpl_sets.specs.Ranges.{RangeValue, members_of}
 use Rattle.dpl_range.specs.Invariant.{IsRange}
 use Rattle.dpl_range.specs.Walk.{walked}
 use Rattle.dpl_range.proofs.Lists.{slice_get-spaced, slice_get-reverse, length-by_places}

@@ -5,7 +5,7 @@ use Rattle.std.proofs.lemmas.Option.{slice_get_within, get_or_from_slice_get, sa
 use Rattle.std.proofs.lemmas.List.Kept.{AllPairs-filter}
 use Rattle.std.proofs.lemmas.Int.{ints}
 use Rattle.std.proofs.Math.Nat.{mul-lt-mul_of_pos_right}
-use Rattle.dpl_range.specs.Range.{RangeValue, members_of}
+use Rattle.dpl_sets.specs.Ranges.{RangeValue, members_of}
 use Rattle.dpl_range.specs.Invariant.{IsRange}
 use Rattle.dpl_range.specs.Walk.{walked}
 use Rattle.dpl_range.proofs.MemberLemmas.{nth-walked, member-within, place-walked}

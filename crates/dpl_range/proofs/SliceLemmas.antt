@@ -9,9 +9,9 @@ use Rattle.std.proofs.lemmas.Nat.{div-add-mod', mod_below}
 use Rattle.std.proofs.Math.Nat.{mul-mod_left, add-mul, le_of_mul-le-mul_right, div-add-mod, lt_of_mul-lt-mul_right, mul-le-mul_right}
 use Rattle.std.proofs.lemmas.Bool.Decides.{Decides-int_eq}
 use Rattle.std.specs.Ordering.{int_eq}
-use Rattle.dpl_range.specs.Members.{members}
-use Rattle.dpl_range.specs.Range.{RangeValue, members_of, IsBound}
-use Rattle.dpl_range.specs.Slices.{members_within, narrowed, begun_with, sliced}
+use Rattle.dpl_sets.specs.Members.{members}
+use Rattle.dpl_sets.specs.Ranges.{RangeValue, members_of, IsBound}
+use Rattle.dpl_sets.specs.RangeSlices.{members_within, narrowed, begun_with, sliced}
 use Rattle.dpl_range.specs.Invariant.{IsRange}
 use Rattle.dpl_range.specs.Walk.{walked, nearer, begun, SameWay}
 use Rattle.dpl_range.proofs.MemberLemmas.{span_of, slice_get-members, members-empty}

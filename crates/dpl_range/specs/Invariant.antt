@@ -1,6 +1,6 @@
 -- What holds of every range that is kept.
 use Rattle.std.specs.Prelude.{◌^◌, ◌<◌, ◌≤◌, unsigned_abs}
-use Rattle.dpl_range.specs.Range.{RangeValue, IsBound}
+use Rattle.dpl_sets.specs.Ranges.{RangeValue, IsBound}
 
 -- Its bounds are bounds, and its stride is not 0. The stride of a congruence class of a range can be longer than
 -- one that is written, and no longer than the bounds are apart.

@@ -1,9 +1,4 @@
--- The language's definitions.
-pub mod Members
-pub mod Range
-pub mod Slices
-pub mod Equality
--- What only contracts and proofs speak of.
+-- What contracts and proofs of the code speak of; a range's list, its slices and its limits are definitions of dpl_sets.
 pub mod Congruence
 pub mod Invariant
 pub mod Walk

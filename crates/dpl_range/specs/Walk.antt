@@ -1,6 +1,6 @@
 -- Where a walk over a range's integers stands after some steps. Private functions of the crate speak of it.
 use Rattle.std.specs.Prelude.{ℕ, ℤ, pos, negsuc, ◌+ℤ◌, ◌-ℤ◌}
-use Rattle.dpl_range.specs.Range.{RangeValue}
+use Rattle.dpl_sets.specs.Ranges.{RangeValue}
 
 -- the integer that lies `offset` past the lowest, or, where the stride goes down, before the highest
 abbrev pub walked : ℤ → ℤ → ℤ → ℕ → ℤ

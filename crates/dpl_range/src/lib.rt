@@ -6,9 +6,9 @@ ghost use Rattle.std.specs.Prelude.{◌≡◌, ◌*◌, neg_ℤ, drop, ◌↔◌
 ghost use Rattle.std.specs.Prelude.{IsNone, ◌<ℤ◌, ◌≤ℤ◌, length, slice_get, IsTrue, IsOk, IfOk, IfSome, IfNone, MatchOption, unsigned_abs};
 ghost use Rattle.std.specs.Int.{int_max, int_min, int_rem_euclid};
 ghost use Rattle.dpl_range.specs.Congruence.{is_congruent};
-ghost use Rattle.dpl_range.specs.Members.{every};
-ghost use Rattle.dpl_range.specs.Range.{members_of, IsBound, IsStride};
-ghost use Rattle.dpl_range.specs.Slices.{members_within, begun_with, sliced};
+ghost use Rattle.dpl_sets.specs.Members.{every};
+ghost use Rattle.dpl_sets.specs.Ranges.{members_of, IsBound, IsStride};
+ghost use Rattle.dpl_sets.specs.RangeSlices.{members_within, begun_with, sliced};
 ghost use Rattle.dpl_range.specs.Invariant.{IsRange};
 ghost use Rattle.dpl_range.specs.Walk.{walked, nearer, begun, ahead, SameWay};
 
@@ -44,7 +44,7 @@ pub struct Range {
 }
 
 impl Model for Range {
-    ghost use Rattle.dpl_range.specs.Range.{RangeValue};
+    ghost use Rattle.dpl_sets.specs.Ranges.{RangeValue};
     ghost use Rattle.dpl_range.specs.Invariant.{IsRange};
 
     ghost Value = { RangeValue };

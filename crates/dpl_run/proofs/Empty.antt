@@ -1,7 +1,7 @@
 -- The array of a slot without one: it is over `{1..0}`, which has no indices.
 use Rattle.std.proofs.Common.{◌≡◌, pos, map, refl}
-use Rattle.dpl_range.specs.Members.{members}
-use Rattle.dpl_domain.specs.Indices.{indices}
+use Rattle.dpl_sets.specs.Members.{members}
+use Rattle.dpl_sets.specs.Indices.{indices}
 use Rattle.dpl_language.specs.Ranges.{indices_in}
 use Rattle.dpl_memory.specs.Memory.{no_domain, no_array}
 

@@ -7,7 +7,7 @@ use Rattle.dpl_syntax.specs.declared.refusal.Breach.{Breach}
 use Rattle.dpl_syntax.specs.declared.token.Token.{Token}
 use Rattle.dpl_syntax.specs.Places.{IsWithin, AllWithin}
 use Rattle.dpl_syntax.specs.Text.{longest_text}
-use Rattle.dpl_syntax.proofs.Places.{Lexes-within}
+use Rattle.dpl_lexer.proofs.Places.{Lexes-within}
 use Rattle.dpl_language.specs.Tree.{ProgramTree}
 use Rattle.dpl_language.specs.Names.{Text}
 use Rattle.dpl_grammar.specs.Each.{Each}

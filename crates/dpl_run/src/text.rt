@@ -36,11 +36,12 @@ use bumpalo::Bump;
 use dpl_checker::refusal;
 use dpl_closed::closed;
 use dpl_given::given;
+use dpl_lexer::lex;
 use dpl_loop::Gate;
 use dpl_nodes::Stop as PlanStop;
 use dpl_parser::parse;
 use dpl_planner::{Planned, plan};
-use dpl_syntax::{Code, Refusal, Stop, lex};
+use dpl_syntax::{Code, Refusal, Stop};
 use dpl_tree::{Arena, Program, Stmt};
 use std::alloc::{AllocError, Global};
 

@@ -5,8 +5,8 @@ use Rattle.dpl_syntax.specs.declared.token.Token.{Token}
 use Rattle.dpl_syntax.specs.declared.refusal.Refusal.{Refusal}
 use Rattle.dpl_syntax.specs.Text.{Lexes}
 use Rattle.dpl_syntax.specs.Lines.{refusal_text}
-use Rattle.dpl_syntax.proofs.Laws.{lexes_once, lexes_unrefused, refuses_once}
-use Rattle.dpl_syntax.proofs.Total.{lexes_or_refuses}
+use Rattle.dpl_lexer.proofs.Laws.{lexes_once, lexes_unrefused, refuses_once}
+use Rattle.dpl_lexer.proofs.Total.{lexes_or_refuses}
 use Rattle.dpl_history.specs.declared.history.Event.{Event}
 use Rattle.dpl_language.specs.Tree.{ProgramTree}
 use Rattle.dpl_language.specs.Names.{Text}

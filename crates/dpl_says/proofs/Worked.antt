@@ -4,7 +4,7 @@ use Rattle.std.proofs.Common.{◌≡◌, ℕ, pos, negsuc, true, false, List, []
 use Rattle.std.specs.Fmt.{digits}
 use Rattle.dpl_syntax.specs.declared.place.Place.{Place}
 use Rattle.dpl_history.specs.declared.cell.CellState.TheVariants.{Empty, Full}
-use Rattle.dpl_range.specs.Equality.{TextRange}
+use Rattle.dpl_sets.specs.TextRanges.{TextRange}
 use Rattle.dpl_language.specs.Tree.{IntKind, BoolKind, ExprTree, Number, TruthWord, One, ScalarType, ItemInit, StmtTree, Declare, NoStmts, Then, ProgramTree}
 use Rattle.dpl_language.specs.Values.{Int, Truth, Range, Domain}
 use Rattle.dpl_language.specs.Ranges.{unstrided}

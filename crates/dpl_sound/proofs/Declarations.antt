@@ -7,7 +7,7 @@ use Rattle.std.proofs.lemmas.Result.{IfOk-weaker}
 use Rattle.std.proofs.lemmas.List.{append-nil}
 use Rattle.dpl_syntax.specs.declared.place.Place.{Place}
 use Rattle.dpl_syntax.specs.declared.refusal.Breach.{Breach}
-use Rattle.dpl_range.specs.Equality.{TextRange}
+use Rattle.dpl_sets.specs.TextRanges.{TextRange}
 use Rattle.dpl_history.specs.declared.cell.CellState.TheVariants.{Empty, Full}
 use Rattle.dpl_language.specs.Tree.{Placed, Kind, Items, ItemTree, MappedTree, ArrayTypeTree, TypeTree, ScalarType, SyncType}
 use Rattle.dpl_language.specs.Tree.{DomainType as DomainWritten, ArrayType as ArrayWritten, InitTree, ItemInit, CreateInit, InitialTree, DeclareTree, Declare}

@@ -3,7 +3,7 @@
 use Rattle.std.proofs.Common.{◌≡◌, ◌⊎◌, inl, inr, ℕ, ℤ, Bool, List, [], ◌∷◌, Option, Some, None, Result, Ok, Err, refl, sym, ap, ◌∙◌, subst}
 use Rattle.std.specs.Result.{IfOk}
 use Rattle.std.proofs.lemmas.Result.{IfOk-at_ok}
-use Rattle.dpl_range.specs.Equality.{TextRange}
+use Rattle.dpl_sets.specs.TextRanges.{TextRange}
 use Rattle.dpl_history.specs.declared.cell.Reply.TheVariants.{Value as Given}
 use Rattle.dpl_language.specs.Tree.{Kind, IntKind, BoolKind, ExprTree, ItemTree, Items, Exprs}
 use Rattle.dpl_language.specs.Values.{Value, Int, Truth, Range, Domain, Array, Locale, Index, Fault, cell_kind, value_kept}

@@ -5,7 +5,7 @@ use Rattle.std.specs.Prelude.{◌&&◌, ◌||◌, if◌then◌else◌, nat_lt, i
 use Rattle.std.specs.Result.{IfOk}
 use Rattle.dpl_syntax.specs.declared.place.Place.{Place}
 use Rattle.dpl_syntax.specs.declared.refusal.Code.TheVariants.{WrongType}
-use Rattle.dpl_domain.specs.Equality.{text_expanded}
+use Rattle.dpl_sets.specs.TextDomains.{text_expanded}
 use Rattle.dpl_language.specs.Tree.{Kind, IntKind, Word, Size, First, Last, Low, High, LowBound, DomainOf, Id, Posts}
 use Rattle.dpl_language.specs.Tree.{NoPosts, Post, PostTree, Brackets, Rounds, Dotted, MethodTree, Plainly, Dim, Contains, Expand, CellRead}
 use Rattle.dpl_language.specs.Values.{Value, Range, Domain, Locale, Index, Fault, fault, PastLimit, NoLocale, number, ranges_in, all_ranges, index_of}

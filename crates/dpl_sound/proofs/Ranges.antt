@@ -3,8 +3,8 @@
 use Rattle.std.proofs.Common.{◌≡◌, ℕ, zero, suc, ℤ, pos, Bool, true, false, List, [], ◌∷◌, ◌++◌, length, Option, Some, None, refl, sym, ap, subst}
 use Rattle.std.specs.Prelude.{◌||◌, is_some, slice_index_or}
 use Rattle.dpl_syntax.specs.declared.place.Place.{Place}
-use Rattle.dpl_range.specs.Equality.{TextRange, text_sliced}
-use Rattle.dpl_domain.specs.Equality.{text_moved, text_expanded}
+use Rattle.dpl_sets.specs.TextRanges.{TextRange, text_sliced}
+use Rattle.dpl_sets.specs.TextDomains.{text_moved, text_expanded}
 use Rattle.dpl_language.specs.Values.{Value, Range, ranges_in, all_ranges}
 use Rattle.dpl_language.specs.Ranges.{unstrided, all_sliced, range_sliced, dimension}
 use Rattle.dpl_rules.specs.Types.{ValueType, Scalar, Range as RangeType, Domain as DomainType, Array as ArrayType, Promoted}

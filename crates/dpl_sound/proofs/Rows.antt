@@ -2,9 +2,9 @@
 -- Expressions stand behind their texts.
 use Rattle.std.proofs.Common.{◌≡◌, ℕ, ℤ, pos, Bool, true, false, List, [], ◌∷◌, length, Option, Some, None, Ok, refl, ap, ◌∙◌}
 use Rattle.std.specs.Prelude.{codes}
-use Rattle.dpl_range.specs.Equality.{TextRange}
-use Rattle.dpl_domain.specs.Indices.{indices}
-use Rattle.dpl_range.specs.Members.{members}
+use Rattle.dpl_sets.specs.TextRanges.{TextRange}
+use Rattle.dpl_sets.specs.Indices.{indices}
+use Rattle.dpl_sets.specs.Members.{members}
 use Rattle.dpl_language.specs.Tree.{BoolKind, Closed, ExprTree, Number, Named, DomainLiteral, Chain, Postfixed, ItemTree, One, RangeItem, NoStride, By}
 use Rattle.dpl_language.specs.Tree.{Link, NoLinks, Less, Posts, NoPosts, Post, Brackets, Dotted, Dim, FirstItem, NoItems, NextItem}
 use Rattle.dpl_language.specs.Values.{Value, Int, Truth, Range, Domain, Array, Index}

@@ -1,7 +1,7 @@
 -- An expression of an array's type has a whole array in it, and a cell read has none: so a right side without a whole
 -- array is no array by its type, and one with a whole array is no cell read.
 use Rattle.std.proofs.Common.{◌≡◌, List, Option, Some, None, refl, sym, ap, ◌∙◌, subst}
-use Rattle.dpl_range.specs.Equality.{TextRange}
+use Rattle.dpl_sets.specs.TextRanges.{TextRange}
 use Rattle.dpl_language.specs.Tree.{Kind, ExprTree, Number, TruthWord, Named, LocalesWord, LocaleCount, HereWord, Grouped, DomainLiteral, Prefixed, Reduced, Chain, Postfixed, ItemTree, One, RangeItem}
 use Rattle.dpl_language.specs.Values.{array_domain}
 use Rattle.dpl_language.specs.Names.{Text}

@@ -1,7 +1,7 @@
 -- Which values are of a type, and what a state owes to the names in sight: a value of its declared type for each.
 -- Type soundness is that an expression with a type then evaluates to a fault or to a value of that type.
 use Rattle.std.specs.Prelude.{◌≡◌, ℕ, ℤ, Bool, true, false, List, [], ◌∷◌, length, Option, Some, None}
-use Rattle.dpl_range.specs.Equality.{TextRange}
+use Rattle.dpl_sets.specs.TextRanges.{TextRange}
 use Rattle.dpl_language.specs.Tree.{Kind, IntKind, BoolKind}
 use Rattle.dpl_language.specs.Values.{Value, Int, Truth, Range, Domain, Array, Cell, Locale, AllLocales, Tuple, Index}
 use Rattle.dpl_language.specs.Ranges.{unstrided}

@@ -3,7 +3,7 @@
 use Rattle.std.proofs.Common.{◌≡◌, ℕ, ℤ, pos, Bool, true, false, nat_lt, if◌then◌else◌, Option, Some, None, List, [], ◌∷◌, map, Result, Ok, Err, refl, sym, ap, ◌∙◌}
 use Rattle.std.specs.Prelude.{IfOk}
 use Rattle.dpl_syntax.specs.declared.place.Place.{Place}
-use Rattle.dpl_range.specs.Equality.{TextRange}
+use Rattle.dpl_sets.specs.TextRanges.{TextRange}
 use Rattle.dpl_language.specs.Tree.{Placed, Kind, IntKind, BoolKind, ExprTree, One}
 use Rattle.dpl_language.specs.Values.{Value, Domain, Index, ranges_in, default, kept_number, Fault, fault, Budget, ArrayTooLarge}
 use Rattle.dpl_language.specs.Ranges.{indices_in, size_in, too_large}

@@ -1,6 +1,6 @@
 -- A loop or a reduction that a gate refuses refuses the run around it.
 use Rattle.std.proofs.Common.{◌≡◌, ◌⊎◌, ⊎_elim, ℕ, List, Result}
-use Rattle.dpl_range.specs.Equality.{TextRange}
+use Rattle.dpl_sets.specs.TextRanges.{TextRange}
 use Rattle.dpl_map.specs.Maps.{AxisValue, owner}
 use Rattle.dpl_language.specs.Values.{Value, Fault}
 use Rattle.dpl_language.specs.Outcome.{Deeds, Outcome}

@@ -2,7 +2,7 @@
 -- Each lemma has the meaning of the plain statement on its left side.
 use Rattle.std.proofs.Common.{◌≡◌, ℕ, ℤ, Bool, true, false, ◌&&◌, List, Option, Some, None, option_map, Result, Ok, Err, refl, ap, ◌∙◌}
 use Rattle.dpl_syntax.specs.declared.place.Place.{Place}
-use Rattle.dpl_range.specs.Equality.{TextRange}
+use Rattle.dpl_sets.specs.TextRanges.{TextRange}
 use Rattle.dpl_language.specs.Tree.{Placed, Kind, Assign, Set, ExprTree, One}
 use Rattle.dpl_language.specs.Values.{Value, Domain, Index, index_of, kept_number, ranges_in, Fault, fault, ArrayTooLarge}
 use Rattle.dpl_language.specs.Arithmetic.{assign_divides, tested_divisor, assigned}

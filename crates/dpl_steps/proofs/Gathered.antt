@@ -2,8 +2,8 @@
 -- Each lemma has what is gathered at the indices that are left on its left side.
 use Rattle.std.proofs.Common.{◌≡◌, ℤ, pos, List, [], ◌∷◌, ◌++◌, length, map, Result, Ok, Err, refl, sym, subst, ap, ◌∙◌, arith}
 use Rattle.std.proofs.lemmas.List.{append_assoc, length-map, length-append}
-use Rattle.dpl_range.specs.Equality.{TextRange}
-use Rattle.dpl_domain.specs.Equality.{values_of}
+use Rattle.dpl_sets.specs.TextRanges.{TextRange}
+use Rattle.dpl_sets.specs.TextDomains.{values_of}
 use Rattle.dpl_array.specs.Rows.{IsDistinct}
 use Rattle.dpl_language.specs.Values.{Value, kept_number, Index, Fault}
 use Rattle.dpl_language.specs.Ranges.{indices_in}

@@ -1,8 +1,8 @@
 -- The indices of a domain, none of which is listed twice: the words that are read and written at them.
 -- Each lemma has a read or a write on its left side.
 use Rattle.std.proofs.Common.{◌≡◌, suc, ℤ, true, false, List, [], ◌∷◌, ◌++◌, length, map, Option, Some, if◌then◌else◌, refl, subst, ap, ◌∙◌, arith}
-use Rattle.dpl_range.specs.Equality.{TextRange}
-use Rattle.dpl_domain.specs.Equality.{values_of}
+use Rattle.dpl_sets.specs.TextRanges.{TextRange}
+use Rattle.dpl_sets.specs.TextDomains.{values_of}
 use Rattle.dpl_domain.proofs.DistinctLemmas.{AreRanges, indices-distinct}
 use Rattle.dpl_array.specs.Rows.{IsDistinct, StandsIn}
 use Rattle.dpl_array.proofs.ElementLemmas.{same_index-refl, not-same}

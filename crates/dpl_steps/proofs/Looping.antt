@@ -3,10 +3,10 @@
 use Rattle.std.proofs.Common.{◌≡◌, ℕ, zero, suc, ◌+◌, ◌-◌, ◌<◌, arith, nat_lt, ℤ, Bool, true, false, List, [], ◌∷◌, drop, map, slice_get, Some, None, Result, Ok, Err, refl, sym, ap, ◌∙◌}
 use Rattle.std.specs.List.{flat_map}
 use Rattle.dpl_syntax.specs.declared.place.Place.{Place}
-use Rattle.dpl_range.specs.Range.{members_of}
-use Rattle.dpl_range.specs.Equality.{TextRange}
+use Rattle.dpl_sets.specs.Ranges.{members_of}
+use Rattle.dpl_sets.specs.TextRanges.{TextRange}
 use Rattle.dpl_range.proofs.Lists.{drop-slice_get}
-use Rattle.dpl_domain.specs.Indices.{indices}
+use Rattle.dpl_sets.specs.Indices.{indices}
 use mathlib.Core.Path.{fun_ext}
 use Rattle.dpl_language.specs.Tree.{AfterComma, Op, ExprTree, ItemTree, VariablesTree, OneVariable, ManyVariables, IntentTree, If, While, For, Forall, Else, Stmts}
 use Rattle.dpl_language.specs.Values.{Value, Truth, truth, Range, Domain, Index, Fault, fault, Budget}

@@ -2,7 +2,7 @@
 -- No index is listed twice, so that the elements in the domain's order are the words in theirs.
 use Rattle.std.proofs.Common.{◌≡◌, ℕ, List, length, map, sym, ap, ◌∙◌}
 use Rattle.std.specs.Prelude.{option_map}
-use Rattle.dpl_domain.specs.Equality.{values_of}
+use Rattle.dpl_sets.specs.TextDomains.{values_of}
 use Rattle.dpl_language.specs.Tree.{Kind}
 use Rattle.dpl_language.specs.Ranges.{indices_in, size_in}
 use Rattle.dpl_language.specs.Printing.{printed_array}

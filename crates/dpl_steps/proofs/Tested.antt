@@ -2,9 +2,9 @@
 -- A range's size is the number of its members.
 use Rattle.std.proofs.Common.{◌≡◌, ℕ, nat_lt, Bool, true, false, if◌then◌else◌, List, length, None, Result, Ok, Err, refl, ap, ◌∙◌}
 use Rattle.dpl_syntax.specs.declared.place.Place.{Place}
-use Rattle.dpl_range.specs.Range.{members_of}
+use Rattle.dpl_sets.specs.Ranges.{members_of}
 use Rattle.dpl_range.specs.Invariant.{IsRange}
-use Rattle.dpl_range.specs.Equality.{TextRange}
+use Rattle.dpl_sets.specs.TextRanges.{TextRange}
 use Rattle.dpl_language.specs.Tree.{ItemTree}
 use Rattle.dpl_language.specs.Values.{Value, Range, Domain, Fault, fault, Budget}
 use Rattle.dpl_language.specs.Ranges.{size_in}

@@ -2,7 +2,7 @@
 -- Each lemma has the meaning of the assignment on its left side.
 use Rattle.std.proofs.Common.{◌≡◌, Option, Some, None, List, Ok, Err, sym, ap, ◌∙◌}
 use Rattle.dpl_syntax.specs.declared.place.Place.{Place}
-use Rattle.dpl_range.specs.Equality.{TextRange}
+use Rattle.dpl_sets.specs.TextRanges.{TextRange}
 use Rattle.dpl_language.specs.Tree.{Placed, Assign, Kind, AssignTree, ExprTree, One}
 use Rattle.dpl_language.specs.Values.{Value, Index, Fault}
 use Rattle.dpl_language.specs.Phrases.{cell_read}

@@ -2,7 +2,7 @@
 -- The place is the one of the sign, and the expression is promoted where it has a whole array.
 use Rattle.std.specs.Prelude.{None, Option, List}
 use Rattle.dpl_syntax.specs.declared.place.Place.{Place}
-use Rattle.dpl_range.specs.Equality.{TextRange}
+use Rattle.dpl_sets.specs.TextRanges.{TextRange}
 use Rattle.dpl_language.specs.Tree.{Placed, Kind, Assign, ExprTree, One}
 use Rattle.dpl_language.specs.Outcome.{Run}
 use Rattle.dpl_language.specs.Environment.{Limits}

@@ -1,6 +1,6 @@
 -- A declared domain or array has its map: that of its root.
 use Rattle.std.specs.Prelude.{◌≡◌, ℕ, List, set, Result, Ok}
-use Rattle.dpl_range.specs.Equality.{TextRange}
+use Rattle.dpl_sets.specs.TextRanges.{TextRange}
 use Rattle.dpl_map.specs.Maps.{AxisValue}
 use Rattle.dpl_language.specs.Values.{Value, Domain, Fault}
 use Rattle.dpl_nodes.specs.declared.placing.Placing.{Placing}

@@ -1,7 +1,7 @@
 -- What was done once something is printed, and how parts of statements answer: a word, or an array of words.
 -- Where memory ran out nothing is said.
 use Rattle.std.specs.Prelude.{◌≡◌, ℕ, ℤ, List, map, Result, Ok, Err}
-use Rattle.dpl_range.specs.Equality.{TextRange}
+use Rattle.dpl_sets.specs.TextRanges.{TextRange}
 use Rattle.dpl_language.specs.Values.{Value, kept_number, Fault as FaultValue}
 use Rattle.dpl_language.specs.Outcome.{Deeds, with_ok}
 use Rattle.dpl_memory.specs.Memory.{Held}

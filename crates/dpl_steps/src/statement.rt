@@ -2,7 +2,7 @@
 // A loop's size is tested once against the budget, and then its turns are made one by one.
 
 ghost use Rattle.std.specs.Prelude.{◌≡◌, ◌<◌, ℤ, Some, length, slice_get};
-ghost use Rattle.dpl_range.specs.Range.{members_of};
+ghost use Rattle.dpl_sets.specs.Ranges.{members_of};
 ghost use Rattle.dpl_language.specs.Outcome.{Deeds, repeated};
 ghost use Rattle.dpl_language.specs.Statements.{exec, exec_all, exec_else, holds};
 ghost use Rattle.dpl_memory.specs.Memory.{in_memory};

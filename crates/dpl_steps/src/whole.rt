@@ -3,7 +3,7 @@
 // over the array's domain.
 
 ghost use Rattle.std.specs.Prelude.{◌≡◌, ◌⊎◌, List, Some, None};
-ghost use Rattle.dpl_range.specs.Equality.{TextRange};
+ghost use Rattle.dpl_sets.specs.TextRanges.{TextRange};
 ghost use Rattle.dpl_language.specs.Tree.{IntKind, BoolKind, Set};
 ghost use Rattle.dpl_language.specs.Values.{Int, Truth};
 ghost use Rattle.dpl_language.specs.Outcome.{Deeds, with_value};

@@ -7,4 +7,3 @@ pub mod Places
 pub mod Lines
 -- What serves contracts and proofs alone.
 pub mod Stops
-pub mod Scan

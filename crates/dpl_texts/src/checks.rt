@@ -5,8 +5,8 @@ use crate::refusals::{ALONE, HOUSE, IN_HOUSE};
 use crate::tests::parted;
 use bumpalo::Bump;
 use dpl_checker::refusal;
+use dpl_lexer::lex;
 use dpl_parser::{Arena, parse};
-use dpl_syntax::lex;
 use std::alloc::{AllocError, Global};
 use std::test::Fail;
 

@@ -3,8 +3,8 @@
 
 use crate::table::TABLE;
 use bumpalo::Bump;
+use dpl_lexer::lex;
 use dpl_parser::{Arena, parse};
-use dpl_syntax::lex;
 use std::alloc::{AllocError, Global};
 use std::test::Fail;
 

@@ -5,7 +5,7 @@ use Rattle.std.specs.Prelude.{IfOk, if◌then◌else◌, option_map}
 use Rattle.std.proofs.lemmas.List.{append-nil}
 use Rattle.std.proofs.lemmas.Option.{none-some}
 use Rattle.dpl_syntax.specs.declared.place.Place.{Place}
-use Rattle.dpl_range.specs.Equality.{TextRange}
+use Rattle.dpl_sets.specs.TextRanges.{TextRange}
 use Rattle.dpl_language.specs.Tree.{Op, Kind, IntKind, BoolKind, ItemTree, One, Items}
 use Rattle.dpl_language.specs.Names.{Text}
 use Rattle.dpl_language.specs.Values.{Value, Domain as DomainValue, Index, Fault, fault, PastLimit, ranges_in, all_ranges}

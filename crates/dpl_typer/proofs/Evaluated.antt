@@ -3,7 +3,7 @@
 use Rattle.std.proofs.Common.{◌≡◌, Bool, true, false, List, get_or, Result, Ok, Err, None, refl, sym, subst}
 use Rattle.std.specs.Prelude.{if◌then◌else◌}
 use Rattle.dpl_syntax.specs.declared.place.Place.{Place}
-use Rattle.dpl_range.specs.Equality.{TextRange}
+use Rattle.dpl_sets.specs.TextRanges.{TextRange}
 use Rattle.dpl_language.specs.Tree.{ExprTree, One}
 use Rattle.dpl_language.specs.Values.{Value, Domain, Tuple, Index, number, ranges_in, all_ranges, Fault, fault, PastLimit}
 use Rattle.dpl_language.specs.Ranges.{too_many, sized, all_sliced, expanded}

@@ -5,9 +5,9 @@ use Rattle.std.specs.Prelude.{All, option_map, flat_map, ◌&&◌, ◌||◌, ◌
 use Rattle.std.proofs.lemmas.Bool.Decides.{Decides-eqb}
 use Rattle.std.proofs.lemmas.List.Elements.{All-nil, All-cons, All-append, All-map, All-weaker}
 use Rattle.std.proofs.lemmas.Option.{none-some}
-use Rattle.dpl_domain.specs.Indices.{tuples, indices}
-use Rattle.dpl_range.specs.Equality.{TextRange}
-use Rattle.dpl_range.specs.Range.{members_of}
+use Rattle.dpl_sets.specs.Indices.{tuples, indices}
+use Rattle.dpl_sets.specs.TextRanges.{TextRange}
+use Rattle.dpl_sets.specs.Ranges.{members_of}
 use Rattle.dpl_language.specs.Tree.{Op, Kind, IntKind, BoolKind, ItemTree}
 use Rattle.dpl_language.specs.Names.{Text}
 use Rattle.dpl_language.specs.Values.{Value, Index}

@@ -1,7 +1,7 @@
 -- The domain of a promoted expression is that of its first whole array.
 use Rattle.std.proofs.Common.{◌≡◌, ℕ, List, Option, Some, None, refl, ap, ◌∙◌}
 use Rattle.std.specs.Option.{option_map}
-use Rattle.dpl_range.specs.Equality.{TextRange}
+use Rattle.dpl_sets.specs.TextRanges.{TextRange}
 use Rattle.dpl_language.specs.Environment.{Limits}
 use Rattle.dpl_language.specs.Expressions.{or_domain, whole_in}
 use Rattle.dpl_lowered.specs.LoweredExpressions.{EachTurn}

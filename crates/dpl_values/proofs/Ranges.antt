@@ -11,12 +11,12 @@ use Rattle.std.proofs.lemmas.Bool.Decides.{Decides-int_eq, Decides-at}
 use Rattle.std.proofs.lemmas.Cmp.{int_eq_equiv}
 use Rattle.std.proofs.lemmas.Map.Views.{list_any-from_Contains, Contains-from_any}
 use Rattle.dpl_syntax.specs.declared.place.Place.{Place}
-use Rattle.dpl_range.specs.Range.{RangeValue, members_of}
+use Rattle.dpl_sets.specs.Ranges.{RangeValue, members_of}
 use Rattle.dpl_range.specs.Invariant.{IsRange}
-use Rattle.dpl_range.specs.Equality.{TextRange}
+use Rattle.dpl_sets.specs.TextRanges.{TextRange}
 use Rattle.dpl_range.proofs.MemberLemmas.{length-members, members-empty, span_of}
 use Rattle.dpl_range.proofs.Ends.{Contains-slice_get, least-first, least-last, greatest-first, greatest-last}
-use Rattle.dpl_domain.specs.Indices.{indices}
+use Rattle.dpl_sets.specs.Indices.{indices}
 use Rattle.dpl_language.specs.Values.{Value, Int, Fault, fault, EmptyEnd}
 use Rattle.dpl_language.specs.Ranges.{span, count_in, size_in, end_of, last_of, least_of, greatest_of, contains_index, same_index}
 

@@ -3,8 +3,8 @@
 use Rattle.std.proofs.Common.{◌≡◌, ℤ, Bool, true, false, List, [], ◌∷◌, None, Result, Ok, Err, refl, ap, ◌∙◌}
 use Rattle.std.specs.Prelude.{◌||◌, if◌then◌else◌}
 use Rattle.dpl_syntax.specs.declared.place.Place.{Place}
-use Rattle.dpl_domain.specs.Equality.{text_expanded}
-use Rattle.dpl_range.specs.Equality.{TextRange, text_sliced}
+use Rattle.dpl_sets.specs.TextDomains.{text_expanded}
+use Rattle.dpl_sets.specs.TextRanges.{TextRange, text_sliced}
 use Rattle.dpl_language.specs.Tree.{ExprTree, Posts, NoPosts, Post, Brackets, Dotted, MethodTree, Contains, Items, FirstItem, NoItems, Exprs, FirstExpr, NoExprs}
 use Rattle.dpl_language.specs.Values.{Value, Index, Int, Truth, Range, Domain, all_ranges, index_of, Fault, fault, PastLimit}
 use Rattle.dpl_language.specs.Ranges.{contains_index, range_sliced, all_sliced, bounds_past_limit, too_many, expanded}

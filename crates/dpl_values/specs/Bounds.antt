@@ -1,7 +1,7 @@
 -- What the functions on bounds promise: a number that is one of the language's, or a fault.
 -- A bound is a whole number without a limit; one that is no int is past the limit.
 use Rattle.std.specs.Prelude.{◌≡◌, true, ℤ, Option, Some, None, Result}
-use Rattle.dpl_range.specs.Equality.{TextRange}
+use Rattle.dpl_sets.specs.TextRanges.{TextRange}
 use Rattle.dpl_language.specs.Values.{Fault}
 use Rattle.dpl_language.specs.Ranges.{past_limit, bounded}
 use Rattle.dpl_nodes.specs.Typed.{dots_view}

@@ -1,7 +1,7 @@
 -- What a walk finds at an index, a domain that is made, and one that a loop may go through; or the fault of it.
 use Rattle.std.specs.Prelude.{if◌then◌else◌, nat_lt, ℤ, List, Option, Some, None, Result, Ok, Err}
 use Rattle.dpl_syntax.specs.declared.place.Place.{Place}
-use Rattle.dpl_range.specs.Equality.{TextRange}
+use Rattle.dpl_sets.specs.TextRanges.{TextRange}
 use Rattle.dpl_language.specs.Values.{Fault, fault, Outside, PastLimit, Budget}
 use Rattle.dpl_language.specs.Ranges.{size_in}
 use Rattle.dpl_language.specs.Environment.{Limits}

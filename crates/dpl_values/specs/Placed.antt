@@ -1,9 +1,9 @@
 -- Which map a declared domain or array gets: that of a root, or by the map that is named, its arguments being evaluated.
 -- A map is never the cause of a fault: where evaluating an argument would be one, no map is named.
 use Rattle.std.specs.Prelude.{◌≡◌, ℤ, List, [], Option, Some, None, slice_get, Result, Ok, Err}
-use Rattle.dpl_range.specs.Equality.{TextRange}
-use Rattle.dpl_domain.specs.Indices.{indices}
-use Rattle.dpl_domain.specs.Equality.{values_of}
+use Rattle.dpl_sets.specs.TextRanges.{TextRange}
+use Rattle.dpl_sets.specs.Indices.{indices}
+use Rattle.dpl_sets.specs.TextDomains.{values_of}
 use Rattle.dpl_map.specs.Maps.{AxisValue}
 use Rattle.dpl_layout.specs.declared.named.Named.{Named}
 use Rattle.dpl_layout.specs.declared.named.Named.TheVariants.{Whole, Block, Cyclic, BlockCyclic}

@@ -2,7 +2,7 @@
 -- A word is a value of every kind, so that no list of words is ill typed.
 use Rattle.std.specs.Prelude.{◌≡◌, ℕ, ◌==◌, ℤ, pos, Bool, true, false, not, if◌then◌else◌, Option, Some, None, List, [], ◌∷◌, get_or, set}
 use Rattle.std.specs.Ordering.{int_eq}
-use Rattle.dpl_range.specs.Equality.{TextRange}
+use Rattle.dpl_sets.specs.TextRanges.{TextRange}
 use Rattle.dpl_language.specs.Tree.{Op, Sum, Product, AllOf, AnyOf, BitAnd, BitOr, BitXor, Least, Greatest, Assign, Set, SetAdd, SetSubtract, SetMultiply, SetDivide, SetRemainder, SetReduce}
 use Rattle.dpl_language.specs.Values.{Value, Int, Truth, Range, number, kept_number, ranges_in}
 use Rattle.dpl_language.specs.Ranges.{unstrided}

@@ -2,7 +2,7 @@
 use Rattle.std.proofs.Common.{◌≡◌, ◌<◌, ◌-◌, ℤ, pos, true, false, drop, length, get_or, slice_get, Some, None, Ok, sym, subst, ap, ◌∙◌, rules}
 use Rattle.std.proofs.lemmas.Option.{slice_get-get_or}
 use Rattle.std.proofs.lemmas.Result.{err_from_is_err_and}
-use Rattle.dpl_range.specs.Range.{members_of}
+use Rattle.dpl_sets.specs.Ranges.{members_of}
 use Rattle.dpl_language.specs.Tree.{One, Set}
 use Rattle.dpl_language.specs.Values.{Truth}
 use Rattle.dpl_language.specs.Outcome.{then_do, in_order, repeated}

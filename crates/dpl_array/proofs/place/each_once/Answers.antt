@@ -1,7 +1,7 @@
 -- The ranges are within their limits, so no tuple of their members comes twice.
 -- These are the answers to the goals of `each_once`.
 use Rattle.std.proofs.Common.{length, sym, subst}
-use Rattle.dpl_domain.specs.Indices.{indices}
+use Rattle.dpl_sets.specs.Indices.{indices}
 use Rattle.dpl_array.specs.Rows.{IsDistinct}
 use Rattle.dpl_array.proofs.DistinctLemmas.{distinct-indices}
 use Rattle.dpl_array.proofs.place.each_once.Goals as goal

@@ -2,7 +2,7 @@
 -- These are the answers to the goals of `same_members`.
 use mir.Val.{of_z}
 use Rattle.std.proofs.Common.{rules, w64, ◌≡◌, ◌≤◌, length, true, false, refl, sym, ap, ◌∙◌, arith, slice_get}
-use Rattle.dpl_range.specs.Range.{members_of}
+use Rattle.dpl_sets.specs.Ranges.{members_of}
 use Rattle.dpl_array.proofs.SameLemmas.{members-same, strides-same, words-same, options-same}
 use Rattle.dpl_array.proofs.same.same_members.Goals as goal
 use Rattle.dpl_array.proofs.same.same_members.Goals.{else-size-ge2-via-then-size-ge2+else-stride, else-size-ge2-via-else-size-ge2}

@@ -1,5 +1,5 @@
 -- A filter keeps no more than there was.
-use Rattle.dpl_range.specs.Range.{members_of}
+use Rattle.dpl_sets.specs.Ranges.{members_of}
 use Rattle.dpl_domain.proofs.PlaceLemmas.{length-filter_le}
 use Rattle.dpl_domain.proofs.product.slice_of.Goals as goal
 

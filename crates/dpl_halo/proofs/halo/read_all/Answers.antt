@@ -3,7 +3,7 @@
 use Rattle.std.proofs.Common.{◌++◌, ◌+◌, take, map, refl, ◌∙◌, subst, arith}
 use Rattle.std.proofs.lemmas.List.{take_all}
 use Rattle.std.proofs.lemmas.Option.{slice_get_read}
-use Rattle.dpl_domain.specs.Indices.{indices}
+use Rattle.dpl_sets.specs.Indices.{indices}
 use Rattle.dpl_halo.specs.Gathering.{IsGathered}
 use Rattle.dpl_halo.specs.Halos.{is_foreign}
 use Rattle.dpl_halo.specs.Shifts.{reads, shifted}

@@ -1,7 +1,7 @@
 -- The shifts so far are read.
 -- This is what the loop of `read_all` keeps.
 use Rattle.std.proofs.Common.{◌≡◌, ◌++◌, List, ℤ, take}
-use Rattle.dpl_domain.specs.Indices.{indices}
+use Rattle.dpl_sets.specs.Indices.{indices}
 use Rattle.dpl_halo.specs.Gathering.{IsGathered}
 use Rattle.dpl_halo.specs.Halos.{is_foreign}
 use Rattle.dpl_halo.specs.Shifts.{reads}

@@ -1,7 +1,7 @@
 -- One turn after another.
 -- These are the answers to the goals of `read_each`.
 use Rattle.std.proofs.Common.{◌≡◌, ◌∷◌, [], ◌++◌, map, drop, refl, ap, sym, ◌∙◌, append_assoc, append-nil, subst}
-use Rattle.dpl_domain.specs.Indices.{indices}
+use Rattle.dpl_sets.specs.Indices.{indices}
 use Rattle.dpl_array.proofs.WalkLemmas.{walk-next, walk-end}
 use Rattle.dpl_halo.specs.Gathering.{IsGathered}
 use Rattle.dpl_halo.specs.Halos.{is_foreign}

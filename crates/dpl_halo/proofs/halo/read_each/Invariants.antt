@@ -1,7 +1,7 @@
 -- The turns that are gone over are looked at.
 -- This is what the loop of `read_each` keeps.
 use Rattle.std.proofs.Common.{◌≡◌, ◌++◌, List, ℤ, map, length}
-use Rattle.dpl_domain.specs.Indices.{indices}
+use Rattle.dpl_sets.specs.Indices.{indices}
 use Rattle.dpl_halo.specs.Gathering.{IsGathered}
 use Rattle.dpl_halo.specs.Halos.{is_foreign}
 use Rattle.dpl_halo.specs.Shifts.{shifted}

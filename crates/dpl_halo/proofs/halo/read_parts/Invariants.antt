@@ -2,7 +2,7 @@
 -- This is what the loop of `read_parts` keeps.
 use Rattle.std.proofs.Common.{◌≡◌, ◌++◌, List, ℤ, take}
 use Rattle.std.specs.List.{flat_map}
-use Rattle.dpl_domain.specs.Indices.{indices}
+use Rattle.dpl_sets.specs.Indices.{indices}
 use Rattle.dpl_halo.specs.Gathering.{IsGathered}
 use Rattle.dpl_halo.specs.Halos.{is_foreign}
 use Rattle.dpl_halo.specs.Shifts.{reads}

@@ -1,7 +1,7 @@
 -- One index after another.
 -- These are the answers to the goals of `lend`.
 use Rattle.std.proofs.Common.{◌≡◌, ◌∷◌, [], ◌++◌, drop, refl, ap, sym, ◌∙◌, append_assoc, append-nil, subst}
-use Rattle.dpl_domain.specs.Indices.{indices}
+use Rattle.dpl_sets.specs.Indices.{indices}
 use Rattle.dpl_array.proofs.WalkLemmas.{walk-next, walk-end}
 use Rattle.dpl_halo.specs.Gathering.{IsGathered, every}
 use Rattle.dpl_halo.proofs.GatherLemmas.{gather-onto, gather-start}

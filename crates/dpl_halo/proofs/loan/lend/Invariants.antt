@@ -1,7 +1,7 @@
 -- The indices that are gone over are looked at.
 -- This is what the loop of `lend` keeps.
 use Rattle.std.proofs.Common.{◌≡◌, ◌++◌, List, ℤ, length}
-use Rattle.dpl_domain.specs.Indices.{indices}
+use Rattle.dpl_sets.specs.Indices.{indices}
 use Rattle.dpl_halo.specs.Gathering.{IsGathered, every}
 use Rattle.dpl_halo.proofs.loan.lend.Given as goal
 

@@ -2,7 +2,7 @@
 -- These are the answers to the goals of `corners`.
 use Rattle.std.proofs.Common.{◌≡◌, sym, ap, ◌∙◌, subst, length, ℕ, ℤ, List, FitsSigned, w64, rules}
 use Rattle.std.proofs.lemmas.Int.{to_z-of_z}
-use Rattle.dpl_range.specs.Range.{RangeValue}
+use Rattle.dpl_sets.specs.Ranges.{RangeValue}
 use Rattle.dpl_domain.specs.Ranks.{last_of}
 use Rattle.dpl_halo.specs.Turns.{AreCorners}
 use Rattle.dpl_halo.proofs.TurnLemmas.{corners-are}

@@ -1,7 +1,7 @@
 -- There are no least members exactly where a range has no member.
 use Rattle.std.proofs.Common.{◌≡◌, sym, subst, ap, ◌∙◌, IsNone, [], refl, arith}
-use Rattle.dpl_range.specs.Range.{members_of}
-use Rattle.dpl_domain.specs.Indices.{indices}
+use Rattle.dpl_sets.specs.Ranges.{members_of}
+use Rattle.dpl_sets.specs.Indices.{indices}
 use Rattle.dpl_layout.proofs.CornerLemmas.{outer-empty, middle-empty, inner-empty, all-some, is-some, not-both}
 use Rattle.dpl_layout.proofs.corner.least.Goals as goal
 use Rattle.dpl_layout.proofs.corner.least.Goals.{After-rank}

@@ -3,7 +3,7 @@
 use Rattle.std.proofs.Common.{◌+◌, ◌<◌, ◌^◌, inl, inr, ⊎_elim, drop, Some, sym, ap, ◌∙◌, arith, FitsSigned, w64, to_z, of_z, rules}
 use Rattle.std.proofs.lemmas.Int.{to_z-of_z}
 use Rattle.std.proofs.lemmas.Result.{err_from_is_err_and}
-use Rattle.dpl_domain.specs.Indices.{indices}
+use Rattle.dpl_sets.specs.Indices.{indices}
 use Rattle.dpl_array.specs.Elements.{behind}
 use Rattle.dpl_language.specs.Values.{Index}
 use Rattle.dpl_language.specs.Arithmetic.{combined}

@@ -4,7 +4,7 @@ use Rattle.std.proofs.Common.{◌≤◌, drop, length, sym, ap, ◌∙◌, arith
 use Rattle.std.proofs.lemmas.Int.{to_z-of_z}
 use Rattle.std.proofs.lemmas.List.{drop_all}
 use Rattle.std.proofs.lemmas.Result.{err_from_is_err_and}
-use Rattle.dpl_domain.specs.Indices.{indices}
+use Rattle.dpl_sets.specs.Indices.{indices}
 use Rattle.dpl_language.specs.Values.{Index}
 use Rattle.dpl_language.specs.Outcome.{naming_value}
 use Rattle.dpl_language.specs.Expressions.{folded}

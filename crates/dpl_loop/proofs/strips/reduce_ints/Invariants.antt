@@ -1,5 +1,5 @@
 use Rattle.std.proofs.Common.{◌≡◌, ◌≤◌, ◌-◌, Result, drop, length}
-use Rattle.dpl_domain.specs.Indices.{indices}
+use Rattle.dpl_sets.specs.Indices.{indices}
 use Rattle.dpl_language.specs.Values.{Value, Index, Fault}
 use Rattle.dpl_language.specs.Outcome.{naming_value}
 use Rattle.dpl_language.specs.Expressions.{folded, fold_over}

@@ -1,7 +1,7 @@
 -- Where the second integer is below the first, nothing lies between them.
 use Rattle.std.proofs.Common.{◌∙◌, arith, ◌<ℤ◌}
 use Rattle.std.proofs.lemmas.Int.{ints}
-use Rattle.dpl_range.specs.Range.{members_of}
+use Rattle.dpl_sets.specs.Ranges.{members_of}
 use Rattle.dpl_map.proofs.AxisLemmas.{between-none}
 use Rattle.dpl_map.proofs.axis.between.Goals as goal
 

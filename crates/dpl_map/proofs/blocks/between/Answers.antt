@@ -3,7 +3,7 @@ use Rattle.std.proofs.Common.{◌≡◌, ◌&&◌, ap, sym, ◌∙◌, arith, po
 use mir.Syntax.{w128}
 use Rattle.std.specs.Int.{int_max, int_min}
 use Rattle.std.proofs.lemmas.Int.{ints, clamps, to_z-of_z, fits_signed_from_abs}
-use Rattle.dpl_range.specs.Range.{members_of}
+use Rattle.dpl_sets.specs.Ranges.{members_of}
 use Rattle.dpl_range.proofs.SliceLemmas.{slice-none, slice-cut}
 use Rattle.dpl_map.proofs.blocks.between.Goals as goal
 use Rattle.dpl_map.proofs.blocks.between.Goals.{After-min-high}

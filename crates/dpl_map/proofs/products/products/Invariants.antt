@@ -1,7 +1,7 @@
 -- The products so far are cut out of the tuples of their numbers, whatever lists the ranges are cut out of.
 use Rattle.std.proofs.Common.{◌≡◌, ◌≢◌, ◌<◌, ℤ, List, [], filter, length, nat_lt, All}
-use Rattle.dpl_range.specs.Range.{members_of}
-use Rattle.dpl_domain.specs.Indices.{tuples, indices}
+use Rattle.dpl_sets.specs.Ranges.{members_of}
+use Rattle.dpl_sets.specs.Indices.{tuples, indices}
 use Rattle.dpl_domain.specs.Ranks.{last_of}
 use Rattle.dpl_map.specs.Cuts.{AreSorted}
 use Rattle.dpl_map.proofs.ProductCuts.{IsCutWhole, number-at}

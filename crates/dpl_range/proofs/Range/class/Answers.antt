@@ -2,7 +2,7 @@
 use Rattle.std.proofs.Common.{◌≡◌, ap, sym, ◌∙◌, arith, w64, pos, ◌<◌, ◌*◌, ◌+◌, ◌+ℤ◌, ◌%◌, ℕ, length, to_z, of_z}
 use Rattle.std.proofs.lemmas.Int.{ints}
 use Rattle.std.specs.Int.{int_rem_euclid}
-use Rattle.dpl_range.specs.Range.{members_of}
+use Rattle.dpl_sets.specs.Ranges.{members_of}
 use Rattle.dpl_range.specs.Walk.{ahead}
 use Rattle.dpl_range.proofs.ClassLemmas.{class-members, class-none}
 use Rattle.dpl_range.proofs.Congruence.{never-multiple}

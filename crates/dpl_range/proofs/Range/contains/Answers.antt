@@ -1,7 +1,7 @@
 -- What has a place is contained.
 use Rattle.std.proofs.Common.{FitsSigned, w64}
 use Rattle.std.proofs.lemmas.Int.{to_z-of_z}
-use Rattle.dpl_range.specs.Range.{members_of}
+use Rattle.dpl_sets.specs.Ranges.{members_of}
 use Rattle.dpl_range.proofs.Ends.{contains-place}
 use Rattle.dpl_range.proofs.Range.contains.Goals as goal
 

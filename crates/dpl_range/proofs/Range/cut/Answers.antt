@@ -1,8 +1,8 @@
 -- What is cut out begins at the first whole number of strides that reaches it.
 use Rattle.std.proofs.Common.{◌≡◌, pos, ap, sym, ◌∙◌, arith, FitsSigned, w64, rules, subst}
 use Rattle.std.proofs.lemmas.Int.{ints, to_z-of_z}
-use Rattle.dpl_range.specs.Range.{RangeValue, members_of}
-use Rattle.dpl_range.specs.Slices.{members_within, begun_with}
+use Rattle.dpl_sets.specs.Ranges.{RangeValue, members_of}
+use Rattle.dpl_sets.specs.RangeSlices.{members_within, begun_with}
 use Rattle.dpl_range.specs.Invariant.{IsRange}
 use Rattle.dpl_range.specs.Walk.{walked, nearer, begun}
 use Rattle.dpl_range.proofs.SliceLemmas.{cut-none, cut-members, cut-value, nearer-high}

@@ -2,7 +2,7 @@
 use Rattle.std.proofs.Common.{◌≡◌, ap, sym, ◌∙◌, arith, FitsSigned, w64, rules, ℤ, pos, ◌<◌, ◌≤◌, ◌*◌, ◌+◌, ◌+ℤ◌, ◌≤ℤ◌, unsigned_abs, length}
 use Rattle.std.proofs.lemmas.Int.{to_z-of_z}
 use Rattle.std.proofs.Math.Nat.{mul-le-mul}
-use Rattle.dpl_range.specs.Range.{RangeValue, members_of, IsBound}
+use Rattle.dpl_sets.specs.Ranges.{RangeValue, members_of, IsBound}
 use Rattle.dpl_range.specs.Walk.{walked, nearer, begun}
 use Rattle.dpl_range.proofs.MemberLemmas.{walk-within, walk-short}
 use Rattle.dpl_range.proofs.ClassLemmas.{only-members, begun-members, begun-short, begun-two, IsBound-walked}

@@ -1,7 +1,7 @@
 -- The greatest member is an end of the list, by the stride's sign.
 use Rattle.std.proofs.Common.{pos, ◌<ℤ◌, ◌≤ℤ◌, arith}
 use Rattle.std.proofs.lemmas.Int.{ints}
-use Rattle.dpl_range.specs.Range.{members_of}
+use Rattle.dpl_sets.specs.Ranges.{members_of}
 use Rattle.dpl_range.specs.Invariant.{IsRange}
 use Rattle.dpl_range.proofs.Ends.{IsNone-first, IsNone-last, IfSome-slice_get, greatest-first, greatest-last}
 use Rattle.dpl_range.proofs.Range.high.Goals as goal

@@ -3,7 +3,7 @@ use Rattle.std.proofs.Common.{◌≡◌, ◌*◌, ◌≤◌, ◌^◌, ap, ◌∙
 use Rattle.std.proofs.Math.IntN.{◌*ℤ◌}
 use Rattle.std.proofs.lemmas.Int.{ints, to_z-of_z, unsigned_abs-mul, fits_signed_from_abs}
 use Rattle.std.proofs.Math.Nat.{mul-le-mul_right}
-use Rattle.dpl_range.specs.Range.{RangeValue}
+use Rattle.dpl_sets.specs.Ranges.{RangeValue}
 use Rattle.dpl_range.proofs.Range.lengthened.Goals as goal
 
 pub returns-clause-size : goal.returns-clause-size

@@ -2,9 +2,9 @@
 use Rattle.std.proofs.Common.{◌≡◌, ℤ, pos, ◌<ℤ◌, ap, sym, ◌∙◌, arith, FitsSigned, w64, rules}
 use Rattle.std.proofs.lemmas.Int.{ints, to_z-of_z}
 use Rattle.std.specs.Int.{int_max, int_min}
-use Rattle.dpl_range.specs.Range.{RangeValue, IsBound}
+use Rattle.dpl_sets.specs.Ranges.{RangeValue, IsBound}
 use Rattle.dpl_range.specs.Invariant.{IsRange}
-use Rattle.dpl_range.specs.Slices.{narrowed, begun_with}
+use Rattle.dpl_sets.specs.RangeSlices.{narrowed, begun_with}
 use Rattle.dpl_range.proofs.SliceLemmas.{slice-unit, slice-none, slice-cut, sliced-unit, sliced-none, sliced-other, IsBound-int_max, IsBound-int_min}
 use Rattle.dpl_range.proofs.Range.slice.Goals as goal
 use Rattle.dpl_range.proofs.Range.slice.Goals.{After-min-high, After-unit}

@@ -1,6 +1,6 @@
 -- The elements in the domain's order are the words of the array.
 use Rattle.std.proofs.Common.{◌≡◌, ◌++◌, OnOk, sym, subst}
-use Rattle.dpl_domain.specs.Equality.{values_of}
+use Rattle.dpl_sets.specs.TextDomains.{values_of}
 use Rattle.dpl_contents.specs.Domains.{AreWritten}
 use Rattle.dpl_contents.specs.Kinds.{kind_of}
 use Rattle.dpl_steps.proofs.ShownArrays.{array_text-words}

@@ -1,6 +1,6 @@
 -- A range's size is tested once.
 use Rattle.std.proofs.Common.{◌≡◌, rules, true, false, nat_lt, length, sym, ap, ◌∙◌, Err}
-use Rattle.dpl_range.specs.Range.{members_of}
+use Rattle.dpl_sets.specs.Ranges.{members_of}
 use Rattle.dpl_nodes.specs.Typed.{range_item}
 use Rattle.dpl_contents.specs.Range.{range_word}
 use Rattle.dpl_frame.specs.Faults.{as_range}

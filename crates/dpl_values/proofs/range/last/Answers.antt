@@ -1,7 +1,7 @@
 -- The last member is the list's last element.
 use Rattle.std.proofs.Common.{ap, sym, ◌∙◌, rules, Ok, w64, FitsSigned}
 use Rattle.std.proofs.lemmas.Int.{to_z-of_z}
-use Rattle.dpl_range.specs.Range.{members_of}
+use Rattle.dpl_sets.specs.Ranges.{members_of}
 use Rattle.dpl_language.specs.Values.{Int, EmptyEnd, fault}
 use Rattle.dpl_values.proofs.Ranges.{end_of-last, told_end}
 use Rattle.dpl_values.proofs.Telling.{told}

@@ -1,7 +1,7 @@
 -- The pieces are those of the array with one value everywhere.
 -- These are the answers to the goals of `DArray::new`.
 use Rattle.std.proofs.Common.{◌<◌, ℤ, List, ap, sym, ◌∙◌, subst}
-use Rattle.dpl_domain.specs.Indices.{indices}
+use Rattle.dpl_sets.specs.Indices.{indices}
 use Rattle.dpl_map.specs.Maps.{owner, locales}
 use Rattle.dpl_array.specs.Arrays.{IsWhole, filled_array, union}
 use Rattle.dpl_array.proofs.ElementLemmas.{over-filled}

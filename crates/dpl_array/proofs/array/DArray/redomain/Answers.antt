@@ -1,7 +1,7 @@
 -- Index by index the values are taken over.
 -- These are the answers to the goals of `DArray::redomain`.
 use Rattle.std.proofs.Common.{◌≡◌, ◌∷◌, drop, refl, ap, sym, subst, ◌∙◌}
-use Rattle.dpl_domain.specs.Indices.{indices}
+use Rattle.dpl_sets.specs.Indices.{indices}
 use Rattle.dpl_array.specs.Elements.{value_at}
 use Rattle.dpl_array.proofs.WalkLemmas.{AreTaken, taken-first, taken-next, taken-last, walk-next, walk-end, array-is}
 use Rattle.dpl_array.proofs.array.DArray.redomain.Goals as goal

@@ -1,7 +1,7 @@
 -- Of the indices that are left the array still has the given value.
 -- This is what the loop of `DArray::redomain` keeps.
 use Rattle.std.proofs.Common.{◌≡◌, length}
-use Rattle.dpl_domain.specs.Indices.{indices}
+use Rattle.dpl_sets.specs.Indices.{indices}
 use Rattle.dpl_array.proofs.WalkLemmas.{AreTaken}
 use Rattle.dpl_array.proofs.array.DArray.redomain.Given as goal
 

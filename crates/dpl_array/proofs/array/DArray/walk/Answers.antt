@@ -1,7 +1,7 @@
 -- Nothing is gone over yet.
 -- These are the answers to the goals of `DArray::walk`.
 use Rattle.std.proofs.Common.{◌≡◌, ◌≤◌, replicate, sym, ap, ◌∙◌, subst, arith}
-use Rattle.dpl_domain.specs.Indices.{indices, IsSmall}
+use Rattle.dpl_sets.specs.Indices.{indices, IsSmall}
 use Rattle.dpl_map.specs.Maps.{locales}
 use Rattle.dpl_array.specs.WalkFields.{IsLeft}
 use Rattle.dpl_array.proofs.WalkLemmas.{left-first}

@@ -3,7 +3,7 @@
 use Rattle.std.proofs.Common.{◌≡◌, ◌<◌, ap, sym, ◌∙◌, Some, map, slice_get, slice_set, length, arith, refl, subst}
 use Rattle.std.proofs.lemmas.List.{map-set}
 use Rattle.std.proofs.lemmas.Option.{same_Some}
-use Rattle.dpl_domain.specs.Equality.{SameDomain}
+use Rattle.dpl_sets.specs.TextDomains.{SameDomain}
 use Rattle.dpl_array.specs.Arrays.{with_slot}
 use Rattle.dpl_array.specs.PiecesFields.{slot_of}
 use Rattle.dpl_array.specs.Same.{texts_of}

@@ -1,7 +1,7 @@
 -- The test and the definition decide the same.
 use Rattle.std.proofs.Common.{subst, Contains, Decides}
 use Rattle.std.proofs.lemmas.Bool.Decides.{same_from_decides}
-use Rattle.dpl_domain.specs.Indices.{indices}
+use Rattle.dpl_sets.specs.Indices.{indices}
 use Rattle.dpl_language.specs.Ranges.{contains_index}
 use Rattle.dpl_contents.proofs.Members.{Decides-contains_index}
 use Rattle.dpl_contents.proofs.Sizes.{values_of-seen}

@@ -1,7 +1,7 @@
 -- All bounds of a domain are within the limits where each range's are.
 use Rattle.std.proofs.Common.{◌≡◌, [], ◌∷◌, false, refl, subst, sym, w64, FitsSigned}
 use Rattle.std.proofs.lemmas.Int.{to_z-of_z}
-use Rattle.dpl_domain.specs.Equality.{text_expanded, text_moved}
+use Rattle.dpl_sets.specs.TextDomains.{text_expanded, text_moved}
 use Rattle.dpl_language.specs.Ranges.{bounds_past_limit}
 use Rattle.dpl_contents.specs.Range.{range_word}
 use Rattle.dpl_contents.specs.Parts.{ranges_of}

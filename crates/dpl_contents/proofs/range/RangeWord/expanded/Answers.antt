@@ -1,8 +1,8 @@
 -- The moved bounds are tested by the making of the range.
 use Rattle.std.proofs.Common.{◌≡◌, refl, sym, subst, arith, w64, to_z, of_z}
 use Rattle.std.proofs.lemmas.Int.{ints}
-use Rattle.dpl_range.specs.Range.{IsBound, IsStride}
-use Rattle.dpl_domain.specs.Equality.{text_moved}
+use Rattle.dpl_sets.specs.Ranges.{IsBound, IsStride}
+use Rattle.dpl_sets.specs.TextDomains.{text_moved}
 use Rattle.dpl_contents.specs.Range.{range_word}
 use Rattle.dpl_contents.proofs.Expansions.{bounds-within}
 use Rattle.dpl_contents.proofs.range.RangeWord.expanded.Goals as goal

@@ -1,7 +1,7 @@
 -- The product of the sizes says how many tuples there are.
 use Rattle.std.proofs.Common.{◌≡◌, ◌*◌, ◌-◌, ◌^◌, ◌∙◌, arith, length, min}
 use Rattle.std.proofs.lemmas.Bool.Decides.{nat_tests}
-use Rattle.dpl_range.specs.Range.{members_of}
+use Rattle.dpl_sets.specs.Ranges.{members_of}
 use Rattle.dpl_domain.proofs.ExpansionLemmas.{IsSmall-sizes}
 use Rattle.dpl_domain.proofs.expansion.Expansion.is_small.Goals as goal
 

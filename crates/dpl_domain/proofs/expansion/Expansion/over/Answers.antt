@@ -2,7 +2,7 @@
 use Rattle.std.proofs.Common.{◌≡◌, ◌<◌, arith, w64, to_z, of_z, pos, ap, ◌∙◌}
 use Rattle.std.proofs.lemmas.Int.{ints}
 use Rattle.dpl_domain.specs.Ranks.{last_of}
-use Rattle.dpl_domain.specs.Expansions.{moved}
+use Rattle.dpl_sets.specs.Expansions.{moved}
 use Rattle.dpl_domain.proofs.ExpansionLemmas.{expanded-last_of, IsPadded-moved}
 use Rattle.dpl_domain.proofs.expansion.Expansion.over.Goals as goal
 use Rattle.dpl_domain.proofs.expansion.Expansion.over.Goals.{After-over-3, then-rank-lt3, else-rank-lt3, then-rank-lt2, else-rank-lt2}

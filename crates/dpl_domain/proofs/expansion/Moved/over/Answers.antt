@@ -2,8 +2,8 @@
 use Rattle.std.proofs.Common.{◌≡◌, arith, ◌+ℤ◌, ◌-ℤ◌, ℤ, w64, to_z, of_z, refl}
 use Rattle.std.proofs.lemmas.Int.{ints}
 use Rattle.std.specs.Int.{w128}
-use Rattle.dpl_range.specs.Range.{RangeValue}
-use Rattle.dpl_domain.specs.Expansions.{moved}
+use Rattle.dpl_sets.specs.Ranges.{RangeValue}
+use Rattle.dpl_sets.specs.Expansions.{moved}
 use Rattle.dpl_domain.proofs.expansion.Moved.over.Goals as goal
 
 -- a range value is its three numbers

@@ -1,7 +1,7 @@
 -- The size is the length of the members, by their closed form.
 use Rattle.std.proofs.Common.{◌≡◌, ◌<ℤ◌, ◌+◌, ◌-◌, ◌/◌, ◌^◌, length, ap, sym, ◌∙◌, arith, min}
 use Rattle.std.proofs.lemmas.Int.{ints}
-use Rattle.dpl_range.specs.Range.{members_of}
+use Rattle.dpl_sets.specs.Ranges.{members_of}
 use Rattle.dpl_range.proofs.MemberLemmas.{members-empty, length-members}
 use Rattle.dpl_domain.proofs.expansion.Moved.size.Goals as goal
 

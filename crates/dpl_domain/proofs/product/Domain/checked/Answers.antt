@@ -1,7 +1,7 @@
 -- The indices of a domain are as many as the tuples of its three ranges.
 use Rattle.std.proofs.Common.{◌≡◌, ◌≤◌, ◌<◌, ◌*◌, ◌^◌, length, arith, refl, ap, ◌∙◌}
-use Rattle.dpl_range.specs.Range.{members_of}
-use Rattle.dpl_domain.specs.Indices.{indices}
+use Rattle.dpl_sets.specs.Ranges.{members_of}
+use Rattle.dpl_sets.specs.Indices.{indices}
 use Rattle.dpl_domain.proofs.TupleLemmas.{length-indices, IsPadded-IsFilled}
 use Rattle.dpl_domain.proofs.product.Domain.checked.Goals as goal
 use Rattle.dpl_domain.proofs.product.Domain.checked.Goals.{After-tuples}

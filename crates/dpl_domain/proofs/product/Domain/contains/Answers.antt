@@ -1,5 +1,5 @@
 -- What has a place is contained.
-use Rattle.dpl_domain.specs.Indices.{indices}
+use Rattle.dpl_sets.specs.Indices.{indices}
 use Rattle.dpl_range.proofs.Ends.{contains-place}
 use Rattle.dpl_domain.proofs.product.Domain.contains.Goals as goal
 

@@ -2,9 +2,9 @@
 use Rattle.std.proofs.Common.{◌≡◌, ap, sym, ◌∙◌, refl, arith, subst, w64, to_z, of_z, Option, Some, None, Err, IfOk, IfSome, is_some, true}
 use Rattle.std.proofs.lemmas.Int.{ints}
 use Rattle.std.specs.Option.{ok_or}
-use Rattle.dpl_domain.specs.Indices.{IsSmall}
+use Rattle.dpl_sets.specs.Indices.{IsSmall}
 use Rattle.dpl_domain.specs.Ranks.{last_of}
-use Rattle.dpl_domain.specs.Expansions.{expanded, AreUnit, AreBounded}
+use Rattle.dpl_sets.specs.Expansions.{expanded, AreUnit, AreBounded}
 use Rattle.dpl_domain.specs.declared.product.DomainFault.TheVariants.{Size, Stride, Bound}
 use Rattle.dpl_domain.proofs.product.Domain.expand.Goals as goal
 use Rattle.dpl_domain.proofs.product.Domain.expand.Goals.{After-over-moved, Then-not-is_small, Then-not-is_unit, After-ok_or}

@@ -1,7 +1,7 @@
 -- What is kept beside the ranges are the sizes that they have.
 use Rattle.std.proofs.Common.{◌≡◌, ap, sym, ◌∙◌, arith, length, ◌*◌}
-use Rattle.dpl_range.specs.Range.{members_of}
-use Rattle.dpl_domain.specs.Indices.{indices}
+use Rattle.dpl_sets.specs.Ranges.{members_of}
+use Rattle.dpl_sets.specs.Indices.{indices}
 use Rattle.dpl_domain.proofs.TupleLemmas.{length-indices, line_count-places, line_size-places, IsPadded-IsFilled}
 use Rattle.dpl_domain.proofs.product.Domain.kept.Goals as goal
 

@@ -1,8 +1,8 @@
 -- A place is a place in a line, in a plane and in the whole.
 use Rattle.std.proofs.Common.{◌≡◌, sym, ◌∙◌, arith, ap, length, ◌/◌, ◌%◌, ◌⊎◌, inl, inr, slice_get, Some, FitsSigned, w64, rules}
 use Rattle.std.proofs.lemmas.Int.{to_z-of_z}
-use Rattle.dpl_range.specs.Range.{members_of}
-use Rattle.dpl_domain.specs.Indices.{indices}
+use Rattle.dpl_sets.specs.Ranges.{members_of}
+use Rattle.dpl_sets.specs.Indices.{indices}
 use Rattle.dpl_domain.specs.Ranks.{last_of}
 use Rattle.dpl_domain.proofs.TupleLemmas.{slice_get-indices_at, indices-empty, line_count-places, line_size-places, IsFilled-IsPadded, tuple_at, tuple_at-some, tuple_at-no_outer, tuple_at-no_middle, tuple_at-no_inner, IsPadded-coordinates}
 use Rattle.dpl_domain.proofs.product.Domain.nth.Goals as goal

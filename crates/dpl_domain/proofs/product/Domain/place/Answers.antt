@@ -3,8 +3,8 @@ use Rattle.std.proofs.Common.{◌≡◌, sym, ◌∙◌, arith, ap, length, Fits
 use Rattle.std.proofs.lemmas.Int.{to_z-of_z}
 use Rattle.std.proofs.lemmas.Option.{slice_get_within}
 use Rattle.dpl_domain.proofs.TupleLemmas.{length-indices, line_count-places, line_size-places, IsFilled-IsPadded}
-use Rattle.dpl_range.specs.Range.{members_of}
-use Rattle.dpl_domain.specs.Indices.{IsSmall}
+use Rattle.dpl_sets.specs.Ranges.{members_of}
+use Rattle.dpl_sets.specs.Indices.{IsSmall}
 use Rattle.dpl_domain.specs.DomainFields.{line_count, line_size}
 use Rattle.dpl_domain.specs.Ranks.{last_of, IsPadded}
 use Rattle.dpl_domain.proofs.PlaceLemmas.{place-one, no-outer, no-middle, no-inner, place-some, place-two, place-unused, place-steps, plane-steps, place-other}

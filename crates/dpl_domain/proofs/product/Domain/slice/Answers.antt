@@ -1,6 +1,6 @@
 -- Slices have no more members than what they are slices of, so their product is small enough.
 use Rattle.std.proofs.Common.{length, arith, subst}
-use Rattle.dpl_domain.specs.Indices.{IsSmall}
+use Rattle.dpl_sets.specs.Indices.{IsSmall}
 use Rattle.dpl_domain.specs.Ranks.{last_of}
 use Rattle.dpl_domain.proofs.PlaceLemmas.{fewer-one, fewer-two, fewer-three}
 use Rattle.dpl_domain.proofs.product.Domain.slice.Goals as goal

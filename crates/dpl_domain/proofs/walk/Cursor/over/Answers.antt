@@ -1,6 +1,6 @@
 -- A walk goes over all tuples of the three ranges, which are the indices.
 use Rattle.std.proofs.Common.{◌≡◌, ℕ, ap, sym, ◌∙◌, arith, pos, ◌*◌, length, All, subst, ◌⊎◌, inl, inr, refl}
-use Rattle.dpl_range.specs.Range.{members_of}
+use Rattle.dpl_sets.specs.Ranges.{members_of}
 use Rattle.dpl_domain.specs.Progression.{space_of}
 use Rattle.dpl_domain.specs.Cursor.{terms_of}
 use Rattle.dpl_domain.proofs.TupleLemmas.{length-indices}

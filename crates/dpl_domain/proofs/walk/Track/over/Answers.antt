@@ -1,7 +1,7 @@
 -- The members of a range are a progression from its first on.
 use Rattle.std.proofs.Common.{◌≡◌, ap, sym, ◌∙◌, FitsSigned, w64, rules}
 use Rattle.std.proofs.lemmas.Int.{to_z-of_z}
-use Rattle.dpl_range.specs.Range.{members_of}
+use Rattle.dpl_sets.specs.Ranges.{members_of}
 use Rattle.dpl_domain.specs.Progression.{progression}
 use Rattle.dpl_domain.proofs.ProgressionLemmas.{progression-members, members-bounds, none-empty}
 use Rattle.dpl_domain.proofs.walk.Track.over.Goals as goal

@@ -2,7 +2,7 @@
 -- These are the answers to the goals of `Gathered::domain`.
 use Rattle.std.proofs.Common.{◌≡◌, nat_cmp, subst}
 use Rattle.std.specs.BTreeMap.{get}
-use Rattle.dpl_domain.specs.Indices.{indices}
+use Rattle.dpl_sets.specs.Indices.{indices}
 use Rattle.dpl_array.specs.Elements.{value_at, tabulated}
 use Rattle.dpl_halo.proofs.ChosenLemmas.{chosen-formed}
 use Rattle.dpl_halo.proofs.gathered.Gathered.domain.Goals as goal

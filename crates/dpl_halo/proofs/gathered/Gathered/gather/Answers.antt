@@ -1,7 +1,7 @@
 -- What the array holds at the index is added.
 -- These are the answers to the goals of `Gathered::gather`.
 use Rattle.std.proofs.Common.{inr, sym, subst}
-use Rattle.dpl_domain.specs.Indices.{indices}
+use Rattle.dpl_sets.specs.Indices.{indices}
 use Rattle.dpl_array.specs.Rows.{StandsIn}
 use Rattle.dpl_array.proofs.ElementLemmas.{over-stands}
 use Rattle.dpl_halo.proofs.GatherLemmas.{gather-nothing, gather-some}

@@ -3,7 +3,7 @@
 use Rattle.std.proofs.Common.{nat_cmp, refl, sym, ap, ◌∙◌}
 use Rattle.std.specs.BTreeMap.{get}
 use Rattle.std.proofs.lemmas.Option.{none-some}
-use Rattle.dpl_domain.specs.Indices.{indices}
+use Rattle.dpl_sets.specs.Indices.{indices}
 use Rattle.dpl_array.specs.Elements.{value_at}
 use Rattle.dpl_halo.proofs.ChosenLemmas.{chosen-at, chosen-none}
 use Rattle.dpl_halo.proofs.gathered.Gathered.get.Goals as goal

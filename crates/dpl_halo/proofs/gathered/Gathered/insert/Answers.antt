@@ -3,7 +3,7 @@
 use Rattle.std.proofs.Common.{◌≡◌, ◌+◌, Some, is_some, not, false, true, cond, length, nat_cmp, arith, refl, sym, ap, ◌∙◌}
 use Rattle.std.specs.BTreeMap.{get}
 use Rattle.std.proofs.lemmas.Option.{slice_get_within}
-use Rattle.dpl_domain.specs.Indices.{indices}
+use Rattle.dpl_sets.specs.Indices.{indices}
 use Rattle.dpl_array.specs.Elements.{same_index, value_at}
 use Rattle.dpl_halo.specs.Gathering.{chosen}
 use Rattle.dpl_halo.proofs.ChosenLemmas.{chosen-put, chosen-count, chosen-short, entry-put, within-put}

@@ -3,7 +3,7 @@
 use Rattle.std.proofs.Common.{length, nat_cmp, sym, ap, ◌∙◌}
 use Rattle.std.specs.BTreeMap.{get}
 use Rattle.std.proofs.lemmas.Option.{none-some}
-use Rattle.dpl_domain.specs.Indices.{indices}
+use Rattle.dpl_sets.specs.Indices.{indices}
 use Rattle.dpl_halo.proofs.ChosenLemmas.{chosen-nothing, entry-none}
 use Rattle.dpl_halo.proofs.gathered.Gathered.new.Goals as goal
 

@@ -4,7 +4,7 @@ use Rattle.std.proofs.Common.{◌≡◌, ◌+◌, ◌<◌, ◌≤◌, ℕ, ℤ, 
 use Rattle.std.specs.BTreeMap.{get}
 use Rattle.std.proofs.lemmas.Bool.{cases_lt}
 use Rattle.std.proofs.lemmas.Option.{none-some, slice_get-get_or}
-use Rattle.dpl_domain.specs.Indices.{indices}
+use Rattle.dpl_sets.specs.Indices.{indices}
 use Rattle.dpl_halo.specs.Gathering.{IsTaken, chosen}
 use Rattle.dpl_halo.proofs.ChosenLemmas.{chosen-nothing, chosen-taken, entry-none, entry-taken, none-left, within-taken}
 use Rattle.dpl_halo.proofs.gathered.Gathered.pop.Goals as goal

@@ -3,7 +3,7 @@
 use Rattle.std.proofs.Common.{◌≡◌, ◌+◌, cond, is_some, false, true, length, arith, nat_cmp, refl, sym, ap, ◌∙◌}
 use Rattle.std.specs.BTreeMap.{get}
 use Rattle.std.proofs.lemmas.Option.{none-some, slice_get_within}
-use Rattle.dpl_domain.specs.Indices.{indices}
+use Rattle.dpl_sets.specs.Indices.{indices}
 use Rattle.dpl_array.specs.Elements.{value_at}
 use Rattle.dpl_array.proofs.ElementLemmas.{with_value-absent}
 use Rattle.dpl_array.proofs.UnionLemmas.{absent, some-of}

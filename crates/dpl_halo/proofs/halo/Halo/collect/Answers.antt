@@ -2,7 +2,7 @@
 -- These are the answers to the goals of `Halo::collect`.
 use Rattle.std.proofs.Common.{[], ◌∙◌, subst}
 use Rattle.std.specs.List.{flat_map}
-use Rattle.dpl_domain.specs.Indices.{indices}
+use Rattle.dpl_sets.specs.Indices.{indices}
 use Rattle.dpl_map.specs.Parts.{part}
 use Rattle.dpl_halo.specs.Gathering.{IsGathered}
 use Rattle.dpl_halo.specs.Halos.{is_foreign}

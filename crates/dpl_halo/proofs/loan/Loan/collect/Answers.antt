@@ -4,7 +4,7 @@ use Rattle.std.proofs.Common.{◌+◌, take, refl, ◌∙◌, subst, arith}
 use Rattle.std.specs.List.{flat_map}
 use Rattle.std.proofs.lemmas.List.{take_all}
 use Rattle.std.proofs.lemmas.Option.{slice_get_read}
-use Rattle.dpl_domain.specs.Indices.{indices}
+use Rattle.dpl_sets.specs.Indices.{indices}
 use Rattle.dpl_halo.specs.Gathering.{IsGathered, every}
 use Rattle.dpl_halo.proofs.GatherLemmas.{gather-first, gather-last, gather-more, flat-take, lent-is}
 use Rattle.dpl_halo.proofs.loan.Loan.collect.Goals as goal

@@ -2,7 +2,7 @@
 -- This is what the loop of `Loan::collect` keeps.
 use Rattle.std.proofs.Common.{◌≡◌, take}
 use Rattle.std.specs.List.{flat_map}
-use Rattle.dpl_domain.specs.Indices.{indices}
+use Rattle.dpl_sets.specs.Indices.{indices}
 use Rattle.dpl_halo.specs.Gathering.{IsGathered, every}
 use Rattle.dpl_halo.proofs.loan.Loan.collect.Given as goal
 

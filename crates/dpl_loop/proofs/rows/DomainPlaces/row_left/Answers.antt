@@ -2,8 +2,8 @@
 -- These are the answers to the goals of `row_left` of a domain.
 use Rattle.std.proofs.Common.{◌≡◌, ◌+◌, ◌<◌, ◌-◌, ◌%◌, pos, length, slice_get, subst, sym, ap, ◌∙◌, arith}
 use Rattle.std.proofs.lemmas.Int.{ints}
-use Rattle.dpl_range.specs.Range.{members_of}
-use Rattle.dpl_domain.specs.Indices.{indices}
+use Rattle.dpl_sets.specs.Ranges.{members_of}
+use Rattle.dpl_sets.specs.Indices.{indices}
 use Rattle.dpl_domain.specs.Ranks.{last_of}
 use Rattle.dpl_loop.proofs.InRows.{row-behind}
 use Rattle.dpl_loop.proofs.rows.DomainPlaces.row_left.Goals as goal

@@ -2,7 +2,7 @@
 -- These are the answers to the goals of `row_left` of a range.
 use Rattle.std.proofs.Common.{◌≡◌, ◌+◌, ◌<◌, pos, length, arith}
 use Rattle.std.proofs.lemmas.Int.{ints}
-use Rattle.dpl_range.specs.Range.{members_of}
+use Rattle.dpl_sets.specs.Ranges.{members_of}
 use Rattle.dpl_contents.specs.Range.{range_word}
 use Rattle.dpl_loop.proofs.Lines.{line-behind}
 use Rattle.dpl_loop.proofs.rows.RangeWordPlaces.row_left.Goals as goal

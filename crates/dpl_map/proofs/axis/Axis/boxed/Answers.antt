@@ -1,7 +1,7 @@
 -- A range with a member has a least and a greatest one.
 use Rattle.std.proofs.Common.{rules, arith, ℤ, ◌≤ℤ◌, Contains, All, subst, sym, FitsSigned, w64}
 use Rattle.std.proofs.lemmas.Int.{ints, to_z-of_z}
-use Rattle.dpl_range.specs.Range.{members_of}
+use Rattle.dpl_sets.specs.Ranges.{members_of}
 use Rattle.std.proofs.lemmas.Option.{slice_get_within, get_or_from_slice_get}
 use Rattle.dpl_range.proofs.Ends.{slice_get-Contains}
 use Rattle.dpl_map.proofs.BoxLemmas.{IsBound-member, unwrapped}

@@ -2,7 +2,7 @@
 use Rattle.std.proofs.Common.{rules, ap, arith, ◌∙◌, pos, FitsSigned, w64, ◌==◌, ◌<◌, ◌+ℤ◌}
 use Rattle.std.proofs.lemmas.Int.{to_z-of_z}
 use Rattle.dpl_range.specs.Congruence.{is_congruent}
-use Rattle.dpl_range.specs.Range.{members_of}
+use Rattle.dpl_sets.specs.Ranges.{members_of}
 use Rattle.dpl_map.specs.Maps.{AxisValue}
 use Rattle.dpl_map.specs.Places.{cyclic_place}
 use Rattle.dpl_map.proofs.AxisLemmas.{class-cyclic}

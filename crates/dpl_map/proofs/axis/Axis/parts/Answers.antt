@@ -2,7 +2,7 @@
 use Rattle.std.proofs.Common.{rules, arith, ◌<ℤ◌, ◌≡◌, ◌≢◌, [], ℤ, List, ap, subst, refl, length, ◌∙◌, FitsSigned, w64}
 use Rattle.std.proofs.lemmas.Int.{ints, to_z-of_z}
 use Rattle.std.proofs.lemmas.List.Elements.{All-nil}
-use Rattle.dpl_range.specs.Range.{RangeValue, members_of}
+use Rattle.dpl_sets.specs.Ranges.{RangeValue, members_of}
 use Rattle.dpl_map.specs.Cuts.{behind}
 use Rattle.dpl_map.specs.Counts.{rule_block, AreFewRanges}
 use Rattle.dpl_map.specs.Maps.{RuleValue, Block, Cyclic, BlockCyclic}

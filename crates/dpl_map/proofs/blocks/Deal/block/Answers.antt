@@ -2,7 +2,7 @@
 use Rattle.std.proofs.Common.{◌+ℤ◌, ◌*◌, ◌&&◌, pos, int_le, filter, ap, ◌∙◌, FitsSigned, rules}
 use mir.Syntax.{w128}
 use Rattle.std.proofs.lemmas.Int.{to_z-of_z}
-use Rattle.dpl_range.specs.Range.{members_of}
+use Rattle.dpl_sets.specs.Ranges.{members_of}
 use Rattle.dpl_map.proofs.DealLemmas.{between-members}
 use Rattle.dpl_map.proofs.blocks.Deal.block.Goals as goal
 

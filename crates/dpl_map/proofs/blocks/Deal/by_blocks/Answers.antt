@@ -2,7 +2,7 @@
 use Rattle.std.proofs.Common.{◌≡◌, ◌≢◌, ◌<◌, ◌+◌, ◌/◌, ◌%◌, ◌==◌, ◌∙◌, ap, refl, sym, subst, List, [], filter, length, All, nat_lt, arith}
 use Rattle.std.proofs.Math.Nat.{add-mul}
 use Rattle.std.proofs.lemmas.List.Elements.{All-nil}
-use Rattle.dpl_range.specs.Range.{RangeValue, members_of}
+use Rattle.dpl_sets.specs.Ranges.{RangeValue, members_of}
 use Rattle.dpl_map.specs.Cuts.{AreSorted}
 use Rattle.dpl_map.specs.Blocks.{block_number}
 use Rattle.dpl_map.proofs.CutLemmas.{filter-between_none, AreSorted-begin, AreSorted-behind, AreSorted-end, All-behind}

@@ -1,7 +1,7 @@
 -- Offset by offset, the members that lie there are cut out.
 use Rattle.std.proofs.Common.{◌≢◌, ◌<◌, ◌+◌, ◌%◌, ◌==◌, ap, sym, subst, List, [], filter, length, All, nat_lt, arith}
 use Rattle.std.proofs.lemmas.List.Elements.{All-nil, All-weaker}
-use Rattle.dpl_range.specs.Range.{RangeValue, members_of}
+use Rattle.dpl_sets.specs.Ranges.{RangeValue, members_of}
 use Rattle.dpl_map.specs.Cuts.{AreSorted}
 use Rattle.dpl_map.specs.Blocks.{block_number, block_offset}
 use Rattle.dpl_map.proofs.CutLemmas.{AreSorted-begin, AreSorted-behind, AreSorted-end, All-behind}

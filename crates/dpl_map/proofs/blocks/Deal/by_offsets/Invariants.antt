@@ -1,6 +1,6 @@
 -- What is cut out so far.
 use Rattle.std.proofs.Common.{◌≢◌, ◌<◌, ◌≤◌, ◌%◌, ◌==◌, [], nat_lt, filter, length, All}
-use Rattle.dpl_range.specs.Range.{members_of}
+use Rattle.dpl_sets.specs.Ranges.{members_of}
 use Rattle.dpl_map.specs.Cuts.{AreSorted}
 use Rattle.dpl_map.specs.Blocks.{block_number, block_offset}
 use Rattle.dpl_map.proofs.ValueLemmas.{IsWithinBelow}

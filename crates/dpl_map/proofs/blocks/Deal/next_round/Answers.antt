@@ -3,7 +3,7 @@ use Rattle.std.proofs.Common.{◌≡◌, ◌<◌, ◌+◌, ◌-◌, ◌*◌, ◌
 use mir.Syntax.{w128}
 use Rattle.std.proofs.lemmas.Int.{to_z-of_z}
 use Rattle.std.proofs.lemmas.List.Elements.{All-contains}
-use Rattle.dpl_range.specs.Range.{members_of}
+use Rattle.dpl_sets.specs.Ranges.{members_of}
 use Rattle.dpl_map.specs.Blocks.{block_number}
 use Rattle.dpl_map.proofs.RoundLemmas.{le-found, left-members, left-none, left-passed, left-past}
 use Rattle.dpl_map.proofs.blocks.Deal.next_round.Goals as goal

@@ -1,7 +1,7 @@
 -- A domain with an index has a box in each dimension.
 use Rattle.std.proofs.Common.{◌≡◌, ap, sym, ◌∙◌, length, ℕ, List, [], subst}
-use Rattle.dpl_range.specs.Range.{RangeValue}
-use Rattle.dpl_domain.specs.Indices.{indices}
+use Rattle.dpl_sets.specs.Ranges.{RangeValue}
+use Rattle.dpl_sets.specs.Indices.{indices}
 use Rattle.dpl_domain.specs.Ranks.{last_of}
 use Rattle.dpl_map.specs.Maps.{AxisValue, IsBlockMap}
 use Rattle.dpl_map.proofs.ProductLemmas.{outer-some, middle-some, inner-some}

@@ -1,7 +1,7 @@
 -- A start by its numbers.
 use Rattle.std.proofs.Common.{rules, ◌≡◌, ap, sym, ◌∙◌, length, List, ℕ, ℤ, refl, true, false, All, IsTrue, FitsSigned, w64, to_z, of_z}
 use Rattle.std.proofs.lemmas.Int.{to_z-of_z}
-use Rattle.dpl_range.specs.Range.{IsBound}
+use Rattle.dpl_sets.specs.Ranges.{IsBound}
 use Rattle.dpl_domain.specs.Ranks.{last_of}
 use Rattle.dpl_map.specs.Maps.{AxisValue, cyclic_map}
 use Rattle.dpl_map.proofs.StartLemmas.{All-bounds, bounds-All, cyclic_map-last_of, cyclic_axis}

@@ -1,7 +1,7 @@
 -- The axes by the numbers of the start and of the sizes.
 use Rattle.std.proofs.Common.{rules, ap, sym, ◌∙◌, length, List, ℕ, ℤ, FitsSigned, w64}
 use Rattle.std.proofs.lemmas.Int.{to_z-of_z}
-use Rattle.dpl_range.specs.Range.{IsBound}
+use Rattle.dpl_sets.specs.Ranges.{IsBound}
 use Rattle.dpl_domain.specs.Ranks.{last_of}
 use Rattle.dpl_map.specs.Maps.{AxisValue, block_cyclic_map, IsBlocksize}
 use Rattle.dpl_map.proofs.StartLemmas.{bounds-All, sizes-All, block_cyclic_map-last_of, block_cyclic_axis}

@@ -3,7 +3,7 @@ use Rattle.std.proofs.Common.{rules, ap, ◌≡◌, ◌∙◌, sym, subst, ℤ, 
 use Rattle.std.specs.Int.{w128}
 use Rattle.std.proofs.lemmas.Int.{to_z-of_z}
 use Rattle.std.proofs.lemmas.Option.{same_Some}
-use Rattle.dpl_domain.specs.Indices.{indices}
+use Rattle.dpl_sets.specs.Indices.{indices}
 use Rattle.dpl_domain.specs.Ranks.{last_of}
 use Rattle.dpl_map.specs.Orders.{keys, IsBefore}
 use Rattle.dpl_map.proofs.FindLemmas.{before-keys}

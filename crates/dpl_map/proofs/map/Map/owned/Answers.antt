@@ -1,7 +1,7 @@
 -- The place's coordinates, and what is owned by it.
 use Rattle.std.proofs.Common.{◌≡◌, ◌≢◌, ◌≤◌, ◌<◌, ◌*◌, ◌/◌, ◌%◌, ap, sym, subst, ◌∙◌, arith, length, ℕ, ℤ, List, [], All, IfOk, inr}
-use Rattle.dpl_range.specs.Range.{RangeValue, members_of}
-use Rattle.dpl_domain.specs.Indices.{tuples, indices}
+use Rattle.dpl_sets.specs.Ranges.{RangeValue, members_of}
+use Rattle.dpl_sets.specs.Indices.{tuples, indices}
 use Rattle.dpl_domain.specs.Ranks.{last_of}
 use Rattle.dpl_map.specs.Counts.{AreFewRanges, AreFew}
 use Rattle.dpl_map.specs.Cuts.{AreCut, AreSorted}

@@ -1,7 +1,7 @@
 -- A domain that is empty or of another rank, and a locale that is no place.
 use Rattle.std.proofs.Common.{rules, inl, ◌≡◌, ◌≢◌, [], ◌∷◌, ap, sym, ◌∙◌, arith, length}
 use Rattle.std.proofs.lemmas.List.Elements.{All-nil, All-cons}
-use Rattle.dpl_domain.specs.Indices.{indices}
+use Rattle.dpl_sets.specs.Indices.{indices}
 use Rattle.dpl_map.specs.Parts.{part}
 use Rattle.dpl_map.proofs.CutLemmas.{AreCut-none, AreCut-one}
 use Rattle.dpl_map.proofs.FewLemmas.{AreFew-none, AreFew-some}

@@ -1,0 +1,15 @@
+pub mod ByteTests
+pub mod Fronts
+pub mod Gaps
+pub mod Specials
+pub mod Signs
+pub mod Sorts
+pub mod Quotes
+pub mod Numerals
+pub mod Lexemes
+pub mod Steps
+pub mod Laws
+pub mod Scans
+pub mod Total
+pub mod Worked
+pub mod Places

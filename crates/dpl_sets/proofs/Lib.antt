@@ -1,0 +1,2 @@
+mod WorkedRanges
+mod WorkedDomains
