@@ -9,8 +9,8 @@ ghost use Rattle.dpl_frame.specs.Faults.{code_view, fault_view, turn_view};
 
 use dpl_domain::Index;
 use dpl_frame::{Fault, FaultCode, Turn};
+use dpl_strips::index::{coordinate, plane, space};
 use dpl_syntax::Refusal;
-use dpl_values::domain::{coordinate, plane, space};
 use std::alloc::{AllocError, Global};
 
 // Whether a text ends within a line.

@@ -20,7 +20,7 @@ use Rattle.dpl_nodes.specs.Steps.{array_leaf, element_set}
 use Rattle.dpl_nodes.proofs.Unread.{cell_read-int}
 use Rattle.dpl_loop.specs.declared.strip.Strip.{Strip}
 use Rattle.dpl_loop.specs.Runs.{AreDone}
-use Rattle.dpl_values.specs.Strips.{IsSameAt, IsInTurn, HoldsInTurns, GoesFrom}
+use Rattle.dpl_strips.specs.Strips.{IsSameAt, IsInTurn, HoldsInTurns, GoesFrom}
 use Rattle.dpl_steps.specs.Changes.{signed}
 use Rattle.dpl_steps.specs.Rows.{ArePut}
 use Rattle.dpl_steps.specs.Turns.{bound_at, index_turn}

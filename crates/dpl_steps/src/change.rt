@@ -16,7 +16,7 @@ use dpl_frame::{FaultCode, Frame, Trap};
 use dpl_loop::stop::told;
 use dpl_loop::{Gate, Stop};
 use dpl_nodes::{BoolExpr, IntDeed, IntExpr, RangeExpr, Spot, TruthDeed};
-use dpl_values::number::{difference, product, quotient, remainder, sum};
+use dpl_strips::number::{difference, product, quotient, remainder, sum};
 use dpl_values::{int_value, range_value, truth_value};
 
 // A truth value's.

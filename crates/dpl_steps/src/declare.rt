@@ -32,8 +32,9 @@ use dpl_frame::{DomainWord, Frame, Trap};
 use dpl_loop::{Gate, OpenGate, Stop};
 use dpl_map::Map;
 use dpl_nodes::{ArrayDeclaration, Initial, Over, PromotedInt, PromotedTruth, Spot};
+use dpl_strips::index::coordinate;
 use dpl_values::budget::within_budget;
-use dpl_values::domain::{coordinate, small};
+use dpl_values::domain::small;
 use dpl_values::{
     domain_value, int_domain, literal, promoted_int_value, promoted_truth_value, range_value,
     sized, truth_domain,

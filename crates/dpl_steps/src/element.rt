@@ -26,8 +26,8 @@ use dpl_frame::{Alarm, FaultCode, Frame, Trap, Turn};
 use dpl_loop::stop::told as ended;
 use dpl_loop::{Gate, Stop};
 use dpl_nodes::{ArrayName, BoolExpr, IndexExpr, IntExpr, Spot};
+use dpl_strips::number::{difference, product, quotient, remainder, sum};
 use dpl_tree::Assign;
-use dpl_values::number::{difference, product, quotient, remainder, sum};
 use dpl_values::{coordinate_value, index_value, int_value, truth_value};
 
 /// Whether an operator divides.

@@ -18,17 +18,6 @@ use dpl_loop::{STRIP, Strip};
 use dpl_nodes::{ArrayName, Spot};
 use dpl_tree::Assign;
 
-/// One int for all elements of a row.
-pub(crate) fn filled(first: Index, word: i64) -> Strip
-    ensures { (k : ℕ) → k < 64 → get_or result.words k (pos 0) ≡ word }
-{
-    Strip {
-        first,
-        words: [word; STRIP],
-        size: STRIP,
-    }
-}
-
 // What an operator makes of elements that stand side by side and of ints for them; nothing of an operator that divides.
 fn changed(name: &ArrayName<'_>, op: Assign, at: Index, strip: Strip, frame: &Frame<'_>) -> Strip
     ensures size { result.size ≤ strip.size }

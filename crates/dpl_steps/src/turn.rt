@@ -18,9 +18,9 @@ use dpl_domain::Index;
 use dpl_frame::Frame;
 use dpl_loop::STRIP;
 use dpl_nodes::{ArrayName, IndexExpr, IntExpr, Names, Spot, Step};
+use dpl_strips::index::{coordinate, plane, space};
+use dpl_strips::{turn_index, turn_strip};
 use dpl_tree::Assign;
-use dpl_values::domain::{coordinate, plane, space};
-use dpl_values::{turn_index, turn_strip};
 
 // Whether the last coordinate of an index can be greater by a whole strip.
 fn has_room(first: Index) -> bool

@@ -25,18 +25,17 @@ ghost use Rattle.dpl_values.specs.Reductions.{MayRefuseReduction, EachInInts, Ea
 ghost use Rattle.dpl_steps.specs.Refusals.{MayRefuseWhole};
 
 use crate::element::{change, change_truth};
-use crate::row::{filled, put_row};
+use crate::row::put_row;
 use dpl_domain::Index;
 use dpl_frame::{DomainWord, Frame};
 use dpl_loop::stop::told;
 use dpl_loop::{Gate, OpenGate, Stop, Turns, forall};
 use dpl_nodes::{ArrayName, PromotedInt, PromotedTruth, Spot};
+use dpl_strips::index::coordinate;
+use dpl_strips::{promoted_strip, repeated};
 use dpl_tree::Assign;
 use dpl_values::budget::within_budget;
-use dpl_values::domain::coordinate;
-use dpl_values::{
-    int_domain, promoted_int_value, promoted_strip, promoted_truth_value, truth_domain,
-};
+use dpl_values::{int_domain, promoted_int_value, promoted_truth_value, truth_domain};
 
 // One int at each index.
 #[derive(Clone, Copy)]
@@ -56,7 +55,7 @@ impl<'e, 't> Turns<Frame<'t>> for Fill<'e> {
     }
 
     fn make_row(&self, first: Index, most: usize, frame: &mut Frame<'t>) -> usize {
-        let strip = filled(first, self.value);
+        let strip = repeated(first, self.value);
         put_row(self.name, self.op, self.sign, first, strip, most, frame)
     }
 }

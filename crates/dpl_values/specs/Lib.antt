@@ -3,8 +3,6 @@ pub mod Placed
 -- Whose map deals out the indices of a reduction; and which entries the reductions of an expression ask for.
 pub mod Reducing
 pub mod Reductions
--- Ints of several indices at once.
-pub mod Strips
 -- What serves contracts and proofs alone.
 pub mod Bounds
 pub mod Elements

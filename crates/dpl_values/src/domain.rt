@@ -1,12 +1,11 @@
-// What is found at an index, indices by their coordinates, and domains that have to be small enough.
+// What is found at an index, and domains that have to be small enough.
 // None of them looks at a frame.
 
-ghost use Rattle.std.specs.Prelude.{◌≡◌, ◌∷◌, [], false};
+ghost use Rattle.std.specs.Prelude.{◌≡◌, false};
 ghost use Rattle.dpl_language.specs.Ranges.{too_many};
 ghost use Rattle.dpl_frame.specs.Faults.{Tells};
 ghost use Rattle.dpl_values.specs.Elements.{word_found, sized_or};
 
-use dpl_domain::Index;
 use dpl_frame::{Alarm, DomainWord, FaultCode, Turn};
 use dpl_nodes::Spot;
 
@@ -49,25 +48,4 @@ pub fn small(domain: DomainWord) -> DomainWord
     // Nothing is read here: that the domain is small enough is a clause of this call.
     let _ = domain.size();
     domain
-}
-
-/// The index of one coordinate.
-pub fn coordinate(i: i64) -> Index
-    ensures { result ≡ i ∷ [] }
-{
-    Index::new(&[i]).unwrap()
-}
-
-/// The index of two coordinates.
-pub fn plane(i: i64, j: i64) -> Index
-    ensures { result ≡ i ∷ j ∷ [] }
-{
-    Index::new(&[i, j]).unwrap()
-}
-
-/// The index of three coordinates.
-pub fn space(i: i64, j: i64, k: i64) -> Index
-    ensures { result ≡ i ∷ j ∷ k ∷ [] }
-{
-    Index::new(&[i, j, k]).unwrap()
 }

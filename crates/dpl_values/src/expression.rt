@@ -17,14 +17,15 @@ ghost use Rattle.dpl_values.specs.Elements.{word_found};
 ghost use Rattle.dpl_values.specs.Reductions.{MayRefuseReduction, EachInInt, EachInTruth, EachInRange, EachInStride, EachInRanges, EachInIndex, EachInDomain};
 
 use crate::comparison::holds;
-use crate::domain::{coordinate, found, plane, sized, small, space};
-use crate::number::{difference, negative, product, quotient, remainder, sum};
+use crate::domain::{found, sized, small};
 use crate::range::{Written, bounded, contains, first, high, last, low, size, strided_by};
 use crate::reduction::{reduced_int, reduced_truth};
 use dpl_domain::Index;
 use dpl_frame::{Alarm, Arrays, DomainWord, FaultCode, Frame, RangeWord, Truth, Turn};
 use dpl_loop::Gate;
 use dpl_nodes::{BoolExpr, DomainExpr, IndexExpr, IntExpr, RangeExpr, RangesExpr, Spot, Stride};
+use dpl_strips::index::{coordinate, plane, space};
+use dpl_strips::number::{difference, negative, product, quotient, remainder, sum};
 
 // An operand: a leaf at once, and else by a walk.
 #[cycle(walk)]

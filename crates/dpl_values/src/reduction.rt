@@ -17,11 +17,11 @@ ghost use Rattle.dpl_values.specs.Reductions.{MayRefuseReduction, OfSlot, EachIn
 use crate::budget::within_turns;
 use crate::fold::{combined_ints, combined_truths, int_over_none, truth_over_none};
 use crate::promoted::{int_array, operand, promoted_truth_value, truth_array};
-use crate::strip::promoted_strip;
 use dpl_domain::Index;
 use dpl_frame::{Alarm, Arrays, Frame, Truth, Turn};
 use dpl_loop::{Gate, Operator, Strip, reduce, reduce_ints};
 use dpl_nodes::{IntFold, PromotedInt, PromotedTruth, Spot, TruthFold};
+use dpl_strips::promoted_strip;
 
 // An operator on ints.
 #[derive(Clone, Copy)]

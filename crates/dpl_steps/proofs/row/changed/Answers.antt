@@ -7,7 +7,7 @@ use Rattle.std.proofs.lemmas.Option.{same_Some, slice_get-get_or}
 use Rattle.dpl_language.specs.Values.{Int}
 use Rattle.dpl_language.specs.Arithmetic.{assigned}
 use Rattle.dpl_tree.specs.Words.{assign_view}
-use Rattle.dpl_values.proofs.Strips.{written}
+use Rattle.dpl_strips.proofs.Strips.{written}
 use Rattle.dpl_steps.proofs.row.changed.Goals as goal
 
 pub loop-k-preserved : goal.loop-k-preserved

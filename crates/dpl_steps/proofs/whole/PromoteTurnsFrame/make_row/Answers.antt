@@ -14,7 +14,7 @@ use Rattle.dpl_nodes.specs.Typed.{promoted_int}
 use Rattle.dpl_nodes.specs.Steps.{array_leaf}
 use Rattle.dpl_frame.specs.Frames.{Framed}
 use Rattle.dpl_loop.specs.Runs.{AreDone}
-use Rattle.dpl_values.specs.Strips.{IsSameAt}
+use Rattle.dpl_strips.specs.Strips.{IsSameAt}
 use Rattle.dpl_steps.specs.Changes.{signed}
 use Rattle.dpl_steps.proofs.RowTurns.{whole-row}
 use Rattle.dpl_steps.proofs.whole.PromoteTurnsFrame.make_row.Goals as goal

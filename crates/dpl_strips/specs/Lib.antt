@@ -1,0 +1,2 @@
+-- Ints of several indices at once.
+pub mod Strips

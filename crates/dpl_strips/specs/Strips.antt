@@ -1,0 +1,74 @@
+-- Ints of several indices at once, and how far turns may change a memory before they are used.
+-- A strip is evaluated before those turns, and each of its ints is the value in the turn of its index all the same.
+use Rattle.std.specs.Prelude.{◌≡◌, ◌≢◌, ◌<◌, ℕ, ℤ, pos, ◌+ℤ◌, List, [], ◌∷◌, get_or, set, None, Result, Ok, FitsSigned}
+use Rattle.std.specs.Int.{w64}
+use Rattle.dpl_array.specs.Elements.{behind}
+use Rattle.dpl_language.specs.Values.{Value, Int, Domain, Index, index_of, Fault}
+use Rattle.dpl_language.specs.Outcome.{with_ok}
+use Rattle.dpl_language.specs.Environment.{Limits}
+use Rattle.dpl_language.specs.Expressions.{value_of, values_of}
+use Rattle.dpl_language.specs.Loops.{bound_to}
+use Rattle.dpl_memory.specs.Memory.{Memory, array_at, held_at, no_tuple, in_memory}
+use Rattle.dpl_nodes.specs.declared.tree.IntExpr.{IntExpr}
+use Rattle.dpl_nodes.specs.declared.tree.IndexExpr.{IndexExpr}
+use Rattle.dpl_nodes.specs.declared.step.Names.{Names}
+use Rattle.dpl_nodes.specs.Typed.{int_view, index_exprs}
+use Rattle.dpl_nodes.specs.Steps.{names_view}
+use Rattle.dpl_loop.specs.declared.strip.Strip.{Strip}
+use Rattle.dpl_strips.specs.declared.pace.Pace.{Pace}
+use Rattle.dpl_strips.specs.declared.pace.Pace.TheVariants.{Steady, Stepping}
+
+-- what is found at an index is the same in two memories: elements at other indices may differ
+pub record IsSameAt (t : Index) (s u : Memory) : Type 0 where
+  pub words : u.words ≡ s.words
+  pub elements : (slot : ℕ) → held_at t (array_at slot u) ≡ held_at t (array_at slot s)
+
+-- each int of a strip is the value at its index, also where elements at other indices have changed
+abbrev pub HoldsAtIndices : (Index → Memory → Result Value Fault) → Memory → Strip → Type 0
+HoldsAtIndices meaning s strip =
+    (k : ℕ) → k < strip.size → k < 64 → (u : Memory) → IsSameAt (behind k strip.first) s u → meaning (behind k strip.first) u ≡ Ok (Int (get_or strip.words k (pos 0)))
+
+-- a memory in the turn of an index: the variables of the loop hold the index, and else the array of one slot alone may have changed
+pub record IsInTurn (names : Names) (target : ℕ) (t : Index) (s u : Memory) : Type 0 where
+  pub numbers : (slot : ℕ) → get_or u.words.numbers slot (pos 0) ≡ get_or (bound_to in_memory (names_view names) (Domain []) t s).words.numbers slot (pos 0)
+  pub tuples : (slot : ℕ) → get_or u.tuples slot no_tuple ≡ get_or (bound_to in_memory (names_view names) (Domain []) t s).tuples slot no_tuple
+  pub arrays : (slot : ℕ) → slot ≢ target → array_at slot u ≡ array_at slot s
+
+-- each int of a strip is the value in the turn of its index
+abbrev pub HoldsInTurns : Names → ℕ → (Memory → Result Value Fault) → Memory → Strip → Type 0
+HoldsInTurns names target meaning s strip =
+    (k : ℕ) → k < strip.size → k < 64 → (u : Memory) → IsInTurn names target (behind k strip.first) s u → meaning u ≡ Ok (Int (get_or strip.words k (pos 0)))
+
+-- the int in the k-th turn of one that goes so
+abbrev pub paced : Pace → ℕ → ℤ
+paced (Steady c) k = c
+paced (Stepping c) k = c +ℤ pos k
+
+-- it fits a word in all turns of a strip
+abbrev pub FitsTurns : Pace → Type 0
+FitsTurns pace = (k : ℕ) → k < 64 → FitsSigned w64 (paced pace k)
+
+-- the word in a slot goes so, by the words of each turn
+abbrev pub GoesIn : (ℕ → List ℤ) → ℕ → Pace → Type 0
+GoesIn numbers slot pace = FitsTurns pace × ((k : ℕ) → k < 64 → get_or (numbers k) slot (pos 0) ≡ paced pace k)
+
+-- the coordinates of an index, one each in slots; a slot without one gets 0
+abbrev pub each_put : List ℕ → Index → List ℤ → List ℤ
+each_put [] t words = words
+each_put (slot ∷ slots) [] words = each_put slots [] (set words slot (pos 0))
+each_put (slot ∷ slots) (i ∷ t) words = each_put slots t (set words slot i)
+
+-- the words of the turns of an index and of those behind it, as the variables of the loop have them
+abbrev pub turn_numbers : Names → Index → Memory → ℕ → List ℤ
+turn_numbers names first s k = (bound_to in_memory (names_view names) (Domain []) (behind k first) s).words.numbers
+
+-- an int goes so through the turns of an index and of those behind it
+abbrev pub GoesAt : Limits → Names → Index → Memory → IntExpr → Pace → Type 0
+GoesAt limits names first s e pace =
+    (target k : ℕ) → k < 64 → (u : Memory) → IsInTurn names target (behind k first) s u → value_of limits in_memory (int_view e) None u ≡ Ok (Int (paced pace k))
+
+-- the index that is found in a turn lies as far behind another as the turn behind the first
+abbrev pub GoesFrom : Limits → Names → Index → Memory → IndexExpr → Index → Type 0
+GoesFrom limits names first s index t =
+    (target k : ℕ) → k < 64 → (u : Memory) → IsInTurn names target (behind k first) s u
+    → with_ok (values_of limits in_memory (index_exprs index) u) (λ vs. Ok (index_of vs)) ≡ Ok (behind k t)

@@ -1,0 +1,180 @@
+// How an int goes from turn to turn of a loop: it stays, or it steps along with the last coordinate of the turns' indices.
+// So elements are found, and put, several turns at once.
+
+ghost use Rattle.std.specs.Prelude.{◌≡◌, ◌<◌, ℕ, ℤ, pos, ◌+ℤ◌, ◌-ℤ◌, List, ◌∷◌, length, get_or, set, Ok, IfSome};
+ghost use Rattle.dpl_array.specs.Elements.{behind};
+ghost use Rattle.dpl_language.specs.Arithmetic.{wrap};
+ghost use Rattle.dpl_language.specs.Values.{Int};
+ghost use Rattle.dpl_memory.specs.Memory.{Memory};
+ghost use Rattle.dpl_strips.specs.Strips.{IsInTurn, paced, FitsTurns, GoesIn, each_put, turn_numbers, GoesAt};
+ghost use Rattle.dpl_strips.specs.declared.pace.Pace.TheVariants.{Steady as SteadyPace, Stepping as SteppingPace};
+
+use crate::number::{difference, sum};
+use dpl_domain::Index;
+use dpl_frame::{Arrays, Frame};
+use dpl_loop::STRIP;
+use dpl_nodes::{IntExpr, Names};
+
+/// The int of each turn: the same in all turns of a strip; or this one in the first turn, and one more in each turn than in the one
+/// before.
+#[derive(Clone, Copy)]
+pub(crate) enum Pace {
+    Steady(i64),
+    Stepping(i64),
+}
+
+// The pace of an int that steps, if it does so all through a strip without leaving its word.
+fn stepping(from: i64) -> Option<Pace>
+    ensures { IfSome result (λ p. FitsTurns p × (p ≡ SteppingPace from)) }
+{
+    from.checked_add(STRIP as i64 - 1)?;
+    Some(Pace::Stepping(from))
+}
+
+impl Pace {
+    // How the sum of two ints goes. Where both step there is no pace for it.
+    fn plus(self, other: Pace) -> Option<Pace>
+        ensures { IfSome result (λ p. FitsTurns p × ((k : ℕ) → k < 64 → wrap (paced self k +ℤ paced other k) ≡ paced p k)) }
+    {
+        match (self, other) {
+            (Pace::Steady(a), Pace::Steady(b)) => Some(Pace::Steady(sum(a, b))),
+            (Pace::Stepping(a), Pace::Steady(b)) => stepping(a.checked_add(b)?),
+            (Pace::Steady(a), Pace::Stepping(b)) => stepping(a.checked_add(b)?),
+            (Pace::Stepping(_), Pace::Stepping(_)) => None,
+        }
+    }
+
+    // How their difference goes. There is no pace where the second one steps.
+    fn minus(self, other: Pace) -> Option<Pace>
+        ensures { IfSome result (λ p. FitsTurns p × ((k : ℕ) → k < 64 → wrap (paced self k -ℤ paced other k) ≡ paced p k)) }
+    {
+        match (self, other) {
+            (Pace::Steady(a), Pace::Steady(b)) => Some(Pace::Steady(difference(a, b))),
+            (Pace::Stepping(a), Pace::Steady(b)) => stepping(a.checked_sub(b)?),
+            (_, Pace::Stepping(_)) => None,
+        }
+    }
+}
+
+// How the word in a slot goes once a variable has got its int in each turn: as that one, where the variable stands in the slot, and
+// else as before. A variable in no slot of the frame gets no int, and there is no pace for it.
+fn after<A: Arrays>(
+    slot: usize,
+    variable: usize,
+    held: Pace,
+    before: Option<Pace>,
+    frame: &Frame<'_, A>,
+) -> Option<Pace>
+    ensures { (numbers : ℕ → List ℤ) → ((k : ℕ) → length (numbers k) ≡ length frame.now.memory.words.numbers) → IfSome before (GoesIn numbers slot) → IfSome result (GoesIn (λ k. set (numbers k) variable (paced held k)) slot) }
+{
+    if slot != variable {
+        return before;
+    }
+    if !frame.has_number(slot) {
+        return None;
+    }
+    match held {
+        Pace::Steady(_) => Some(held),
+        Pace::Stepping(from) => stepping(from),
+    }
+}
+
+// How the word in a slot goes once variables have got the coordinates of an index, one each. Of several variables in one slot the last
+// one gets its int last.
+fn each_held<A: Arrays>(
+    slot: usize,
+    variable: usize,
+    others: &[usize],
+    first: Index,
+    frame: &Frame<'_, A>,
+) -> Option<Pace>
+    ensures { IfSome result (GoesIn (λ k. each_put (variable ∷ others.now) (behind k first) frame.now.memory.words.numbers) slot) }
+{
+    let before = Some(Pace::Steady(frame.number(slot)));
+    let (outer, middle, inner) = first.numbers();
+    match (first.rank(), others.len()) {
+        (1, 0) => after(slot, variable, Pace::Stepping(inner), before, frame),
+        (2, 1) => {
+            let before = after(slot, variable, Pace::Steady(middle), before, frame);
+            after(slot, others[0], Pace::Stepping(inner), before, frame)
+        }
+        (3, 2) => {
+            let before = after(slot, variable, Pace::Steady(outer), before, frame);
+            let before = after(slot, others[0], Pace::Steady(middle), before, frame);
+            after(slot, others[1], Pace::Stepping(inner), before, frame)
+        }
+        _ => None,
+    }
+}
+
+// How the word in a slot goes, by what the variables of the loop hold.
+fn local<A: Arrays>(
+    slot: usize,
+    names: &Names<'_>,
+    first: Index,
+    frame: &Frame<'_, A>,
+) -> Option<Pace>
+    ensures { IfSome result (GoesIn (turn_numbers names.now first frame.now.memory) slot) }
+{
+    match names {
+        Names::Tuple(_) => Some(Pace::Steady(frame.number(slot))),
+        Names::Int(variable) if first.rank() == 1 => each_held(slot, *variable, &[], first, frame),
+        Names::Int(_) => None,
+        Names::Each(variable, others) => each_held(slot, *variable, others, first, frame),
+    }
+}
+
+/// How an int goes through the turns of an index and of those behind it, as far as that is told by its text and by what the frame
+/// holds. An int in which an element, a quotient or more than sums and differences stand has no pace.
+pub(crate) fn pace_of<A: Arrays>(
+    e: &IntExpr<'_>,
+    names: &Names<'_>,
+    first: Index,
+    frame: &Frame<'_, A>,
+) -> Option<Pace>
+    ensures { IfSome result (λ p. FitsTurns p × GoesAt frame.now.limits names.now first frame.now.memory e.now p) }
+{
+    match e {
+        IntExpr::Number(n) => Some(Pace::Steady(*n)),
+        IntExpr::Local(slot) => local(*slot, names, first, frame),
+        IntExpr::Sum(a, b) => {
+            let left = pace_of(a, names, first, frame)?;
+            left.plus(pace_of(b, names, first, frame)?)
+        }
+        IntExpr::Difference(a, b) => {
+            let left = pace_of(a, names, first, frame)?;
+            left.minus(pace_of(b, names, first, frame)?)
+        }
+        _ => None,
+    }
+}
+
+/// The int that is the same in all turns, if there is one.
+pub(crate) fn steady<A: Arrays>(
+    e: &IntExpr<'_>,
+    names: &Names<'_>,
+    first: Index,
+    frame: &Frame<'_, A>,
+) -> Option<i64>
+    ensures { IfSome result (λ n. GoesAt frame.now.limits names.now first frame.now.memory e.now (SteadyPace n)) }
+{
+    match pace_of(e, names, first, frame)? {
+        Pace::Steady(n) => Some(n),
+        Pace::Stepping(_) => None,
+    }
+}
+
+/// The int in the first turn of one that steps.
+pub(crate) fn first_step<A: Arrays>(
+    e: &IntExpr<'_>,
+    names: &Names<'_>,
+    first: Index,
+    frame: &Frame<'_, A>,
+) -> Option<i64>
+    ensures { IfSome result (λ n. GoesAt frame.now.limits names.now first frame.now.memory e.now (SteppingPace n)) }
+{
+    match pace_of(e, names, first, frame)? {
+        Pace::Steady(_) => None,
+        Pace::Stepping(from) => Some(from),
+    }
+}

@@ -1,0 +1,151 @@
+// The values of a promoted int at several indices at once, where that needs no look at each: whole arrays, ints at hand, and sums,
+// differences and products of these. And what strips are made of.
+
+ghost use Rattle.std.specs.Prelude.{◌≡◌, ◌<◌, ℕ, pos, neg_ℤ, Ok, Some, get_or, slice_get, IfSome};
+ghost use Rattle.dpl_language.specs.Arithmetic.{wrap};
+ghost use Rattle.dpl_language.specs.Values.{Int, Index as IndexValue};
+ghost use Rattle.dpl_language.specs.Expressions.{value_of};
+ghost use Rattle.dpl_lowered.specs.LoweredExpressions.{EachTurn};
+ghost use Rattle.dpl_memory.specs.Memory.{Memory, in_memory};
+ghost use Rattle.dpl_nodes.specs.Typed.{promoted_int};
+ghost use Rattle.dpl_strips.specs.Strips.{HoldsAtIndices};
+
+use crate::number::{difference, negative, product, sum};
+use dpl_domain::Index;
+use dpl_frame::{Arrays, Frame};
+use dpl_loop::{STRIP, Strip};
+use dpl_nodes::{IntExpr, PromotedInt};
+
+/// One int at all indices of a strip.
+pub fn repeated(first: Index, word: i64) -> Strip
+    ensures first { result.first ≡ first }
+    ensures words { (k : ℕ) → k < 64 → get_or result.words k (pos 0) ≡ word }
+{
+    Strip {
+        first,
+        words: [word; STRIP],
+        size: STRIP,
+    }
+}
+
+/// A strip of words that stand side by side.
+pub(crate) fn copied(first: Index, words: &[i64]) -> Strip
+    ensures first { result.first ≡ first }
+    ensures words { (k : ℕ) → k < result.size → k < 64 → slice_get words.now k ≡ Some (get_or result.words k (pos 0)) }
+{
+    let mut copies = [0; STRIP];
+    let size = words.len().min(STRIP);
+    for k in 0..size {
+        copies[k] = words[k];
+    }
+    Strip {
+        first,
+        words: copies,
+        size,
+    }
+}
+
+/// What an operator makes of the ints of two strips.
+#[inline(always)]
+pub(crate) fn both<F: Fn(i64, i64) -> i64>(left: &Strip, right: &Strip, apply: F) -> Strip
+    requires { F.IsAlwaysCallable apply }
+    ensures first { result.first ≡ left.now.first }
+    ensures left { (k : ℕ) → k < result.size → k < left.now.size }
+    ensures right { (k : ℕ) → k < result.size → k < right.now.size }
+    ensures words { (k : ℕ) → k < 64 → F.post apply (get_or left.now.words k (pos 0)) (get_or right.now.words k (pos 0)) (get_or result.words k (pos 0)) }
+{
+    let mut made = [0; STRIP];
+    for k in 0..STRIP {
+        made[k] = apply(left.words[k], right.words[k]);
+    }
+    Strip {
+        first: left.first,
+        words: made,
+        size: left.size.min(right.size),
+    }
+}
+
+/// What an operator makes of the ints of a strip, each with one int on its right.
+#[inline(always)]
+pub(crate) fn with_each<F: Fn(i64, i64) -> i64>(left: &Strip, right: i64, apply: F) -> Strip
+    requires { F.IsAlwaysCallable apply }
+    ensures first { result.first ≡ left.now.first }
+    ensures size { result.size ≡ left.now.size }
+    ensures words { (k : ℕ) → k < 64 → F.post apply (get_or left.now.words k (pos 0)) right (get_or result.words k (pos 0)) }
+{
+    let mut made = [0; STRIP];
+    for k in 0..STRIP {
+        made[k] = apply(left.words[k], right);
+    }
+    Strip {
+        first: left.first,
+        words: made,
+        size: left.size,
+    }
+}
+
+/// The ints of a strip with the other sign.
+pub(crate) fn negated(strip: &Strip) -> Strip
+    ensures first { result.first ≡ strip.now.first }
+    ensures size { result.size ≡ strip.now.size }
+    ensures words { (k : ℕ) → k < 64 → get_or result.words k (pos 0) ≡ wrap (neg_ℤ (get_or strip.now.words k (pos 0))) }
+{
+    let mut negatives = [0; STRIP];
+    for k in 0..STRIP {
+        negatives[k] = negative(strip.words[k]);
+    }
+    Strip {
+        first: strip.first,
+        words: negatives,
+        size: strip.size,
+    }
+}
+
+// An int that is the same at all indices, as a slot holds it or as it stands in the text.
+fn steady<A: Arrays>(e: &PromotedInt<'_>, frame: &Frame<'_, A>) -> Option<i64>
+    ensures { IfSome result (λ n. (t : IndexValue) (u : Memory) → u.words ≡ frame.now.memory.words → value_of frame.now.limits in_memory (promoted_int EachTurn e.now) (Some t) u ≡ Ok (Int n)) }
+{
+    match e {
+        PromotedInt::Scalar(IntExpr::Number(n)) => Some(*n),
+        PromotedInt::Scalar(IntExpr::Local(slot)) => Some(frame.number(*slot)),
+        _ => None,
+    }
+}
+
+/// The values of a promoted int at an index and at those behind it in the last dimension, as far as they are found at once. There may be
+/// none. They stay the values there while elements at other indices change.
+pub fn promoted_strip<A: Arrays>(e: &PromotedInt<'_>, first: Index, frame: &Frame<'_, A>) -> Strip
+    ensures first { result.first ≡ first }
+    ensures values { HoldsAtIndices (λ i u. value_of frame.now.limits in_memory (promoted_int EachTurn e.now) (Some i) u) frame.now.memory result }
+{
+    match e {
+        PromotedInt::Scalar(_) => match steady(e, frame) {
+            Some(n) => repeated(first, n),
+            None => Strip::none(first),
+        },
+        PromotedInt::Element(slot, _) => copied(first, frame.run(*slot, first)),
+        PromotedInt::Negative(e) => negated(&promoted_strip(e, first, frame)),
+        PromotedInt::Sum(a, b) => {
+            let left = promoted_strip(a, first, frame);
+            match steady(b, frame) {
+                Some(n) => with_each(&left, n, sum),
+                None => both(&left, &promoted_strip(b, first, frame), sum),
+            }
+        }
+        PromotedInt::Difference(a, b) => {
+            let left = promoted_strip(a, first, frame);
+            match steady(b, frame) {
+                Some(n) => with_each(&left, n, difference),
+                None => both(&left, &promoted_strip(b, first, frame), difference),
+            }
+        }
+        PromotedInt::Product(a, b) => {
+            let left = promoted_strip(a, first, frame);
+            match steady(b, frame) {
+                Some(n) => with_each(&left, n, product),
+                None => both(&left, &promoted_strip(b, first, frame), product),
+            }
+        }
+        PromotedInt::Quotient(_, _, _) | PromotedInt::Remainder(_, _, _) => Strip::none(first),
+    }
+}

@@ -1,0 +1,158 @@
+// The ints of an expression in several turns of a loop at once, and where the elements lie that these turns find.
+// What is read is read before the turns, and so from no array that they write.
+
+ghost use Rattle.std.specs.Prelude.{◌≡◌, ◌<◌, ℕ, pos, ◌+ℤ◌, None, get_or, IfSome};
+ghost use Rattle.dpl_syntax.specs.declared.place.Place.{Place};
+ghost use Rattle.dpl_language.specs.Arithmetic.{wrap};
+ghost use Rattle.dpl_language.specs.Tree.{IntKind};
+ghost use Rattle.dpl_language.specs.Expressions.{value_of};
+ghost use Rattle.dpl_memory.specs.Memory.{in_memory};
+ghost use Rattle.dpl_nodes.specs.declared.tree.IndexExpr.{Tuple as TupleIndex};
+ghost use Rattle.dpl_nodes.specs.Typed.{array_named, in_square, index_items, int_view};
+ghost use Rattle.dpl_strips.specs.Strips.{paced, FitsTurns, HoldsInTurns, GoesFrom};
+
+use crate::index::{coordinate, plane, space};
+use crate::number::{difference, product, sum};
+use crate::pace::{Pace, first_step, pace_of, steady};
+use crate::strip::{both, copied, negated, repeated, with_each};
+use dpl_domain::Index;
+use dpl_frame::{Arrays, Frame};
+use dpl_loop::{STRIP, Strip};
+use dpl_nodes::{IndexExpr, IntExpr, Names};
+
+// Ints that follow one another.
+fn counted(first: Index, from: i64) -> Strip
+    ensures first { result.first ≡ first }
+    ensures words { (k : ℕ) → k < 64 → get_or result.words k (pos 0) ≡ wrap (from +ℤ pos k) }
+{
+    let mut words = [0; STRIP];
+    for k in 0..STRIP {
+        words[k] = sum(from, k as i64);
+    }
+    Strip {
+        first,
+        words,
+        size: STRIP,
+    }
+}
+
+// The ints of one that goes so.
+fn of_pace(first: Index, pace: Pace) -> Strip
+    ensures first { result.first ≡ first }
+    ensures words { FitsTurns pace → (k : ℕ) → k < 64 → get_or result.words k (pos 0) ≡ paced pace k }
+{
+    match pace {
+        Pace::Steady(n) => repeated(first, n),
+        Pace::Stepping(from) => counted(first, from),
+    }
+}
+
+// The index that a tuple's slot holds in the first turn, if it holds that of each turn.
+fn tuple_index<A: Arrays>(
+    slot: usize,
+    names: &Names<'_>,
+    first: Index,
+    frame: &Frame<'_, A>,
+) -> Option<Index>
+    ensures { IfSome result (λ t. GoesFrom frame.now.limits names.now first frame.now.memory (TupleIndex slot) t) }
+{
+    match names {
+        Names::Tuple(variable) if *variable == slot && frame.has_tuple(slot) => Some(first),
+        _ => None,
+    }
+}
+
+/// The index that the first turn finds, where each turn finds one so far behind it as the turn's own lies behind the first.
+pub fn turn_index<A: Arrays>(
+    index: &IndexExpr<'_>,
+    names: &Names<'_>,
+    first: Index,
+    frame: &Frame<'_, A>,
+) -> Option<Index>
+    ensures { IfSome result (λ t. GoesFrom frame.now.limits names.now first frame.now.memory index.now t) }
+{
+    match index {
+        IndexExpr::Line(i) => Some(coordinate(first_step(i, names, first, frame)?)),
+        IndexExpr::Plane(i, j) => {
+            let i = steady(i, names, first, frame)?;
+            let j = first_step(j, names, first, frame)?;
+            Some(plane(i, j))
+        }
+        IndexExpr::Space(i, j, k) => {
+            let i = steady(i, names, first, frame)?;
+            let j = steady(j, names, first, frame)?;
+            let k = first_step(k, names, first, frame)?;
+            Some(space(i, j, k))
+        }
+        IndexExpr::Tuple(slot) => tuple_index(*slot, names, first, frame),
+    }
+}
+
+// The elements of an array that the turns find, where they lie side by side and no turn writes them.
+fn of_element<A: Arrays>(
+    slot: usize,
+    index: &IndexExpr<'_>,
+    names: &Names<'_>,
+    target: usize,
+    first: Index,
+    frame: &Frame<'_, A>,
+) -> Strip
+    ensures first { result.first ≡ first }
+    ensures values { (at : Place) → HoldsInTurns names.now target (λ u. value_of frame.now.limits in_memory (in_square (array_named IntKind slot at) (index_items index.now)) None u) frame.now.memory result }
+{
+    if slot == target {
+        return Strip::none(first);
+    }
+    match turn_index(index, names, first, frame) {
+        Some(index) => copied(first, frame.run(slot, index)),
+        None => Strip::none(first),
+    }
+}
+
+/// The ints of an expression in the turns of an index and of those behind it in the last dimension, as far as they are found at once.
+/// There may be none. The turns may write the array in one slot, which is not read here.
+pub fn turn_strip<A: Arrays>(
+    e: &IntExpr<'_>,
+    names: &Names<'_>,
+    target: usize,
+    first: Index,
+    frame: &Frame<'_, A>,
+) -> Strip
+    ensures first { result.first ≡ first }
+    ensures values { HoldsInTurns names.now target (λ u. value_of frame.now.limits in_memory (int_view e.now) None u) frame.now.memory result }
+{
+    match e {
+        IntExpr::Number(_) | IntExpr::Local(_) => match pace_of(e, names, first, frame) {
+            Some(pace) => of_pace(first, pace),
+            None => Strip::none(first),
+        },
+        IntExpr::Element(slot, index, _) => of_element(*slot, index, names, target, first, frame),
+        IntExpr::Negative(e) => negated(&turn_strip(e, names, target, first, frame)),
+        IntExpr::Sum(a, b) => {
+            let left = turn_strip(a, names, target, first, frame);
+            match steady(b, names, first, frame) {
+                Some(n) => with_each(&left, n, sum),
+                None => both(&left, &turn_strip(b, names, target, first, frame), sum),
+            }
+        }
+        IntExpr::Difference(a, b) => {
+            let left = turn_strip(a, names, target, first, frame);
+            match steady(b, names, first, frame) {
+                Some(n) => with_each(&left, n, difference),
+                None => both(
+                    &left,
+                    &turn_strip(b, names, target, first, frame),
+                    difference,
+                ),
+            }
+        }
+        IntExpr::Product(a, b) => {
+            let left = turn_strip(a, names, target, first, frame);
+            match steady(b, names, first, frame) {
+                Some(n) => with_each(&left, n, product),
+                None => both(&left, &turn_strip(b, names, target, first, frame), product),
+            }
+        }
+        _ => Strip::none(first),
+    }
+}
