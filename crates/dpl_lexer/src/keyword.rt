@@ -1,8 +1,7 @@
 // Reserved and contextual words, found by their texts.
-// ORDER: the texts stand in specs/Tokens.antt too; change both together.
+// Their texts stand in dpl_syntax.
 
 ghost use Rattle.std.specs.Prelude.{◌≡◌, ◌≢◌, ◌<◌, IfSome, IfNone, true};
-ghost use Rattle.dpl_syntax.specs.Tokens.{keyword_text, contextual_text};
 ghost use Rattle.dpl_syntax.specs.Gaps.{next_is};
 ghost use Rattle.dpl_syntax.specs.Text.{is_letter};
 ghost use Rattle.dpl_lexer.specs.Scan.{special_text, specials_before, special_at};
@@ -87,91 +86,12 @@ const BEFORE: [usize; 59] = [
     59, 59, 59,
 ];
 
-/// How a reserved word is spelled.
-#[tactic(auto, unfolding(crate::specs::Tokens::keyword_text))]
-fn text_of(keyword: Keyword) -> &'static [u8]
-    ensures { result.now ≡ keyword_text keyword }
-{
-    match keyword {
-        Keyword::Bool => b"bool",
-        Keyword::By => b"by",
-        Keyword::BlockCycDist => b"blockCycDist",
-        Keyword::BlockDist => b"blockDist",
-        Keyword::Config => b"config",
-        Keyword::Const => b"const",
-        Keyword::Coforall => b"coforall",
-        Keyword::CyclicDist => b"cyclicDist",
-        Keyword::Dmapped => b"dmapped",
-        Keyword::Do => b"do",
-        Keyword::Domain => b"domain",
-        Keyword::Else => b"else",
-        Keyword::False => b"false",
-        Keyword::For => b"for",
-        Keyword::Forall => b"forall",
-        Keyword::Here => b"here",
-        Keyword::If => b"if",
-        Keyword::In => b"in",
-        Keyword::Int => b"int",
-        Keyword::Locales => b"Locales",
-        Keyword::Max => b"max",
-        Keyword::Min => b"min",
-        Keyword::New => b"new",
-        Keyword::NumLocales => b"numLocales",
-        Keyword::On => b"on",
-        Keyword::Reduce => b"reduce",
-        Keyword::Ref => b"ref",
-        Keyword::Sync => b"sync",
-        Keyword::Then => b"then",
-        Keyword::True => b"true",
-        Keyword::Use => b"use",
-        Keyword::Var => b"var",
-        Keyword::While => b"while",
-        Keyword::With => b"with",
-        Keyword::Write => b"write",
-        Keyword::Writeln => b"writeln",
-    }
-}
-
-impl Contextual {
-    /// How the word is spelled.
-    #[tactic(auto, unfolding(crate::specs::Tokens::contextual_text))]
-    pub fn text(self) -> &'static [u8]
-        ensures { result.now ≡ contextual_text self }
-    {
-        match self {
-            Contextual::BlockDist => b"BlockDist",
-            Contextual::CyclicDist => b"CyclicDist",
-            Contextual::BlockCycDist => b"BlockCycDist",
-            Contextual::CreateDomain => b"createDomain",
-            Contextual::BoundingBox => b"boundingBox",
-            Contextual::StartIdx => b"startIdx",
-            Contextual::Blocksize => b"blocksize",
-            Contextual::WriteEF => b"writeEF",
-            Contextual::WriteFF => b"writeFF",
-            Contextual::WriteXF => b"writeXF",
-            Contextual::Reset => b"reset",
-            Contextual::ReadFE => b"readFE",
-            Contextual::ReadFF => b"readFF",
-            Contextual::Size => b"size",
-            Contextual::First => b"first",
-            Contextual::Last => b"last",
-            Contextual::Low => b"low",
-            Contextual::High => b"high",
-            Contextual::LowBound => b"lowBound",
-            Contextual::Id => b"id",
-            Contextual::Dim => b"dim",
-            Contextual::Contains => b"contains",
-            Contextual::Expand => b"expand",
-        }
-    }
-}
-
 /// How one of them is spelled.
 fn special_text(special: Special) -> &'static [u8]
     ensures { result.now ≡ special_text special }
 {
     match special {
-        Special::Keyword(keyword) => text_of(keyword),
+        Special::Keyword(keyword) => keyword.text(),
         Special::Contextual(word) => word.text(),
     }
 }

@@ -57,7 +57,7 @@ fn word_len(bytes: &[u8]) -> usize
 }
 
 /// The sign of two bytes.
-#[tactic(auto, unfolding(crate::specs::Tokens::sign_text))]
+#[tactic(auto, unfolding(dpl_syntax::specs::Tokens::sign_text))]
 fn pair(first: u8, second: u8) -> Option<Sign>
     ensures some { IfSome result (λ s. sign_text s ≡ first ∷ second ∷ []) }
     ensures none { IfNone result ((s : Sign) → sign_text s ≢ first ∷ second ∷ []) }
@@ -80,7 +80,7 @@ fn pair(first: u8, second: u8) -> Option<Sign>
 }
 
 /// The sign of one byte.
-#[tactic(auto, unfolding(crate::specs::Tokens::sign_text))]
+#[tactic(auto, unfolding(dpl_syntax::specs::Tokens::sign_text))]
 fn single(byte: u8) -> Option<Sign>
     ensures some { IfSome result (λ s. sign_text s ≡ byte ∷ []) }
     ensures none { IfNone result ((s : Sign) → sign_text s ≢ byte ∷ []) }
@@ -138,7 +138,7 @@ fn sign(bytes: &[u8]) -> Option<Sign>
 }
 
 /// How many bytes a sign has.
-#[tactic(auto, unfolding(crate::specs::Tokens::sign_text))]
+#[tactic(auto, unfolding(dpl_syntax::specs::Tokens::sign_text))]
 fn sign_len(sign: Sign) -> usize
     ensures { result ≡ length (sign_text sign) }
 {

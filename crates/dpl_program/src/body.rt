@@ -3,7 +3,7 @@
 
 ghost use Rattle.dpl_standing.specs.Standing.{InTurn};
 ghost use Rattle.dpl_steps.specs.Readings.{steps_in};
-ghost use Rattle.dpl_steps.specs.Turns.{index_turn};
+ghost use Rattle.dpl_elements.specs.Turns.{index_turn};
 
 use dpl_domain::Index;
 use dpl_frame::Frame;

@@ -19,15 +19,16 @@ ghost use Rattle.dpl_loop.specs.Entries.{MayRefuse, MayRefuseSome};
 ghost use Rattle.dpl_steps.specs.Readings.{steps_in};
 ghost use Rattle.dpl_steps.specs.Dealt.{dealt_by};
 ghost use Rattle.dpl_steps.specs.Written.{written_among};
-ghost use Rattle.dpl_steps.specs.Turns.{index_turn, intended_turns};
-ghost use Rattle.dpl_steps.specs.Runs.{having_printed};
+ghost use Rattle.dpl_elements.specs.Turns.{index_turn, intended_turns};
+ghost use Rattle.dpl_print.specs.Texts.{having_printed};
 
 use crate::body::Body;
 use crate::dealt::dealt;
 use dpl_frame::{DomainWord, Frame, RangeWord};
 use dpl_loop::{Gate, Stop, forall, forall_line};
 use dpl_nodes::{Argument, DomainExpr, Intent, Names, Placing, RangeExpr, Spot, Step};
-use dpl_steps::{Context, domain_indices, range_indices, run as run_steps, write};
+use dpl_print::write;
+use dpl_steps::{Context, domain_indices, range_indices, run as run_steps};
 
 // Outside of all foralls.
 #[derive(Drop)]

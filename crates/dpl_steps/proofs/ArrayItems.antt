@@ -18,9 +18,9 @@ use Rattle.dpl_nodes.specs.declared.step.Initial.{Initial}
 use Rattle.dpl_nodes.specs.declared.step.ArrayDeclaration.{ArrayDeclaration}
 use Rattle.dpl_nodes.specs.Steps.{placed_leaf, over_items, initial_kind, initial_view, array_declared}
 use Rattle.dpl_values.specs.Elements.{within_at}
-use Rattle.dpl_steps.specs.Changes.{for_array_at}
-use Rattle.dpl_steps.specs.Arrays.{shell_over}
-use Rattle.dpl_steps.proofs.Changing.{evaluated-item}
+use Rattle.dpl_elements.specs.Changes.{for_array_at}
+use Rattle.dpl_elements.specs.Arrays.{shell_over}
+use Rattle.dpl_elements.proofs.Changing.{evaluated-item}
 
 -- THE BUDGET
 -- a fault where a test says so

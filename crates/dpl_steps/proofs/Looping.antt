@@ -25,7 +25,7 @@ use Rattle.dpl_nodes.specs.Steps.{listed, variable_in, names_view}
 use Rattle.dpl_loop.specs.declared.stop.Stop.{Stop}
 use Rattle.dpl_loop.specs.Runs.{RunsTo}
 use Rattle.dpl_loop.proofs.Ends.{then_do-halts, halts-alike}
-use Rattle.dpl_steps.specs.Turns.{in_turn, turn_in_memory, bound_at, index_turn, within, looped_over}
+use Rattle.dpl_elements.specs.Turns.{in_turn, turn_in_memory, bound_at, index_turn, within, looped_over}
 
 -- RUNS ONE AFTER ANOTHER
 then_do-done : (o : Outcome Memory) → then_do o (λ s done. Done s done) ≡ o

@@ -9,9 +9,3 @@ pub mod Dealt
 pub mod Written
 -- Which entries a gate may refuse of one statement.
 pub mod Refusals
--- What serves contracts and proofs alone.
-pub mod Changes
-pub mod Arrays
-pub mod Texts
-pub mod Turns
-pub mod Rows

@@ -1,17 +1,13 @@
--- What was done once something is printed, and how parts of statements answer: a word, or an array of words.
+-- How parts of statements answer: a word, or an array of words.
 -- Where memory ran out nothing is said.
-use Rattle.std.specs.Prelude.{◌≡◌, ℕ, ℤ, List, map, Result, Ok, Err}
+use Rattle.std.specs.Prelude.{◌≡◌, ℤ, List, map, Result, Ok, Err}
 use Rattle.dpl_sets.specs.TextRanges.{TextRange}
 use Rattle.dpl_language.specs.Values.{Value, kept_number, Fault as FaultValue}
-use Rattle.dpl_language.specs.Outcome.{Deeds, with_ok}
+use Rattle.dpl_language.specs.Outcome.{with_ok}
 use Rattle.dpl_memory.specs.Memory.{Held}
 use Rattle.dpl_frame.specs.Faults.{fault_view}
 use Rattle.dpl_loop.specs.declared.stop.Stop.{Stop}
 use Rattle.dpl_loop.specs.declared.stop.Stop.TheVariants as stop
-
--- all that was done, this text being what was printed
-abbrev pub having_printed : List ℕ → Deeds → Deeds
-having_printed text done = record done { text = text }
 
 -- the word of a value, or its fault; or an entry was refused, which may be
 abbrev pub Names : Type 0 → Result ℤ Stop → Result Value FaultValue → Type 0

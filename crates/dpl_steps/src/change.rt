@@ -9,7 +9,7 @@ ghost use Rattle.dpl_memory.specs.Memory.{int_leaf, truth_leaf, range_leaf, in_m
 ghost use Rattle.dpl_nodes.specs.Typed.{int_view, truth_view, range_item};
 ghost use Rattle.dpl_loop.specs.Entries.{MayRefuseSome};
 ghost use Rattle.dpl_loop.specs.Values.{Gives};
-ghost use Rattle.dpl_steps.specs.Changes.{declared_memory, given_memory, assigned_memory, int_given, int_put, int_memory, truth_memory, updated_by, memory_after};
+ghost use Rattle.dpl_elements.specs.Changes.{declared_memory, given_memory, assigned_memory, int_given, int_put, int_memory, truth_memory, updated_by, memory_after};
 
 use crate::reduce::{reduced_int, reduced_truth};
 use dpl_frame::{FaultCode, Frame, Trap};

@@ -12,7 +12,8 @@ ghost use Rattle.dpl_nodes.specs.Steps.{variable_in, names_view, written_as};
 ghost use Rattle.dpl_loop.specs.Runs.{RunsTo};
 ghost use Rattle.dpl_values.specs.Reductions.{MayRefuseReduction};
 ghost use Rattle.dpl_steps.specs.Readings.{outside, forall_of, steps_in};
-ghost use Rattle.dpl_steps.specs.Refusals.{MayRefuseForall, MayRefuseForallLine, EachInArguments};
+ghost use Rattle.dpl_values.specs.Arguments.{EachInArguments};
+ghost use Rattle.dpl_steps.specs.Refusals.{MayRefuseForall, MayRefuseForallLine};
 
 use dpl_frame::Frame;
 use dpl_loop::{Gate, Stop};

@@ -13,8 +13,8 @@ ghost use Rattle.dpl_memory.specs.Memory.{in_memory};
 ghost use Rattle.dpl_language.specs.Values.{Domain as DomainValue};
 ghost use Rattle.dpl_nodes.specs.Typed.{promoted_int, promoted_truth};
 ghost use Rattle.dpl_nodes.specs.Steps.{over_items, array_declared};
-ghost use Rattle.dpl_steps.specs.Changes.{kept_word, for_array_at};
-ghost use Rattle.dpl_steps.specs.Arrays.{declared_without, declared_with};
+ghost use Rattle.dpl_elements.specs.Changes.{kept_word, for_array_at};
+ghost use Rattle.dpl_elements.specs.Arrays.{declared_without, declared_with};
 ghost use Rattle.dpl_nodes.specs.Roots.{derived_over, placing_by};
 ghost use Rattle.dpl_loop.specs.Entries.{MayRefuse, MayRefuseSome};
 ghost use Rattle.dpl_loop.specs.Runs.{RunsTo, RunEnds};
@@ -67,7 +67,7 @@ trait Elements {
     ghost use Rattle.dpl_language.specs.Environment.{Limits};
     ghost use Rattle.dpl_memory.specs.Memory.{Memory};
     ghost use Rattle.dpl_loop.specs.Values.{Gives};
-    ghost use Rattle.dpl_steps.specs.Changes.{kept_word};
+    ghost use Rattle.dpl_elements.specs.Changes.{kept_word};
 
     ghost element: { Self → Limits → Memory → Index → Result Value Fault };
 

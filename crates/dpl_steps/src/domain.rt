@@ -11,7 +11,7 @@ ghost use Rattle.dpl_lowered.specs.Shapes.{nowhere};
 ghost use Rattle.dpl_memory.specs.Memory.{DomainKind, variable, in_memory};
 ghost use Rattle.dpl_nodes.specs.Typed.{domain_view};
 ghost use Rattle.dpl_nodes.specs.Steps.{unplaced_leaf, declared_as, declared_with, dimensions, of_rank, domain_leaf, whole_set};
-ghost use Rattle.dpl_steps.specs.Changes.{ends_as, for_array_at};
+ghost use Rattle.dpl_elements.specs.Changes.{ends_as, for_array_at};
 ghost use Rattle.dpl_loop.specs.Entries.{MayRefuseSome};
 ghost use Rattle.dpl_loop.specs.Runs.{RunsTo};
 ghost use Rattle.dpl_steps.specs.Owners.{IsOwned, IsOwnedBy};

@@ -17,7 +17,7 @@ ghost use Rattle.dpl_loop.specs.Entries.{MayRefuseSome};
 ghost use Rattle.dpl_loop.specs.Values.{Gives};
 ghost use Rattle.dpl_values.specs.Reductions.{MayRefuseReduction, EachInDomain};
 ghost use Rattle.dpl_steps.specs.Readings.{steps_in};
-ghost use Rattle.dpl_steps.specs.Turns.{each_bound, bound_at, index_turn, looped_over};
+ghost use Rattle.dpl_elements.specs.Turns.{each_bound, bound_at, index_turn, looped_over};
 
 use crate::context::Context;
 use crate::statement::run;
@@ -74,7 +74,7 @@ fn sole(index: Index) -> i64
 }
 
 // Puts the coordinates into slots, from the one in dimension 1 on.
-#[tactic(auto, using(crate::proofs::Binding::each_bound_at))]
+#[tactic(auto, using(dpl_elements::proofs::Binding::each_bound_at))]
 fn bind_others(others: &[usize], index: Index, frame: &mut Frame<'_>)
     ensures { frame.new ≡ with_memory (each_bound 1 others.now index frame.old.memory) frame.old }
 {
@@ -84,7 +84,7 @@ fn bind_others(others: &[usize], index: Index, frame: &mut Frame<'_>)
 }
 
 /// The variables of a turn hold its index.
-#[tactic(auto, using(crate::proofs::Binding::coordinates_index_value))]
+#[tactic(auto, using(dpl_elements::proofs::Binding::coordinates_index_value))]
 #[inline(always)]
 pub fn bind(names: &Names<'_>, index: Index, frame: &mut Frame<'_>)
     ensures { frame.new ≡ with_memory (bound_at names.now index frame.old.memory) frame.old }

@@ -2,24 +2,18 @@
 // A print and a forall are left to the context in which they stand.
 #![tactic(auto)]
 
-mod array_text;
 mod change;
 mod context;
 mod declare;
 mod domain;
 mod each;
-mod element;
 mod owner;
-mod print;
 mod reduce;
-mod row;
 pub mod simple;
 mod statement;
 mod turn;
-mod whole;
 
 pub use context::Context;
 pub use each::{bind, domain_indices};
-pub use print::write;
 pub use statement::{range_indices, run};
 pub use turn::make_row;

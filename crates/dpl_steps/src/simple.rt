@@ -10,13 +10,13 @@ ghost use Rattle.dpl_memory.specs.Memory.{DomainKind, variable, range_leaf, in_m
 ghost use Rattle.dpl_tree.specs.Words.{assign_view};
 ghost use Rattle.dpl_nodes.specs.Typed.{int_view, truth_view, range_item, domain_view};
 ghost use Rattle.dpl_nodes.specs.Steps.{array_leaf, declared_as, element_set};
-ghost use Rattle.dpl_steps.specs.Changes.{declared_memory, truth_memory, ends_as};
+ghost use Rattle.dpl_elements.specs.Changes.{declared_memory, truth_memory, ends_as};
 ghost use Rattle.dpl_loop.specs.Entries.{MayRefuseSome};
 ghost use Rattle.dpl_loop.specs.Runs.{RunsTo};
 
 use crate::change::{change_truth, declare_range};
 use crate::domain::declare_domain;
-use crate::element::{set_element, set_truth_element};
+use dpl_elements::{set_element, set_truth_element};
 use dpl_frame::Frame;
 use dpl_loop::{Gate, Stop};
 use dpl_nodes::{

@@ -16,7 +16,7 @@ ghost use Rattle.dpl_loop.specs.Entries.{MayRefuseSome};
 ghost use Rattle.dpl_loop.specs.Values.{Gives};
 ghost use Rattle.dpl_values.specs.Reductions.{MayRefuseReduction, EachInRange};
 ghost use Rattle.dpl_steps.specs.Readings.{step_in, else_in, steps_in};
-ghost use Rattle.dpl_steps.specs.Turns.{in_turn, turn_in_memory, looped_over};
+ghost use Rattle.dpl_elements.specs.Turns.{in_turn, turn_in_memory, looped_over};
 
 use crate::change::change_int;
 use crate::context::Context;
@@ -24,7 +24,7 @@ use crate::declare::declare_array;
 use crate::domain::{declare_empty, set_domain};
 use crate::each::for_each;
 use crate::simple;
-use crate::whole::{set_array, set_truth_array};
+use dpl_elements::{set_array, set_truth_array};
 use dpl_frame::{FaultCode, Frame, RangeWord, Trap};
 use dpl_loop::stop::told;
 use dpl_loop::{Gate, Stop};

@@ -10,11 +10,11 @@ ghost use Rattle.dpl_nodes.specs.Typed.{int_view};
 ghost use Rattle.dpl_nodes.specs.Steps.{array_leaf, element_set};
 ghost use Rattle.dpl_loop.specs.Runs.{AreDone};
 ghost use Rattle.dpl_steps.specs.Readings.{steps_in};
-ghost use Rattle.dpl_steps.specs.Turns.{HasRoom, index_turn};
+ghost use Rattle.dpl_elements.specs.Turns.{HasRoom, index_turn};
 
 use crate::each::bind;
-use crate::row::put_row;
 use dpl_domain::Index;
+use dpl_elements::put_row;
 use dpl_frame::Frame;
 use dpl_loop::STRIP;
 use dpl_nodes::{ArrayName, IndexExpr, IntExpr, Names, Spot, Step};

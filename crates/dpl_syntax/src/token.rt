@@ -1,5 +1,8 @@
 // The tokens of a text.
-// ORDER: the texts of words and signs stand in specs/Tokens.antt and in the lexer; change all together.
+// ORDER: the texts of words stand here and in specs/Tokens.antt, those of signs there and in the lexer; change them together.
+
+ghost use Rattle.std.specs.Prelude.{◌≡◌};
+ghost use Rattle.dpl_syntax.specs.Tokens.{keyword_text, contextual_text};
 
 use crate::bytes::Bytes;
 use crate::place::Place;
@@ -43,6 +46,53 @@ pub enum Keyword {
     With,
     Write,
     Writeln,
+}
+
+impl Keyword {
+    /// How the word is spelled.
+    #[tactic(auto, unfolding(crate::specs::Tokens::keyword_text))]
+    pub fn text(self) -> &'static [u8]
+        ensures { result.now ≡ keyword_text self }
+    {
+        match self {
+            Keyword::Bool => b"bool",
+            Keyword::By => b"by",
+            Keyword::BlockCycDist => b"blockCycDist",
+            Keyword::BlockDist => b"blockDist",
+            Keyword::Config => b"config",
+            Keyword::Const => b"const",
+            Keyword::Coforall => b"coforall",
+            Keyword::CyclicDist => b"cyclicDist",
+            Keyword::Dmapped => b"dmapped",
+            Keyword::Do => b"do",
+            Keyword::Domain => b"domain",
+            Keyword::Else => b"else",
+            Keyword::False => b"false",
+            Keyword::For => b"for",
+            Keyword::Forall => b"forall",
+            Keyword::Here => b"here",
+            Keyword::If => b"if",
+            Keyword::In => b"in",
+            Keyword::Int => b"int",
+            Keyword::Locales => b"Locales",
+            Keyword::Max => b"max",
+            Keyword::Min => b"min",
+            Keyword::New => b"new",
+            Keyword::NumLocales => b"numLocales",
+            Keyword::On => b"on",
+            Keyword::Reduce => b"reduce",
+            Keyword::Ref => b"ref",
+            Keyword::Sync => b"sync",
+            Keyword::Then => b"then",
+            Keyword::True => b"true",
+            Keyword::Use => b"use",
+            Keyword::Var => b"var",
+            Keyword::While => b"while",
+            Keyword::With => b"with",
+            Keyword::Write => b"write",
+            Keyword::Writeln => b"writeln",
+        }
+    }
 }
 
 /// A word that means something of its own in some places, and is a name in all others.
@@ -94,6 +144,40 @@ pub enum Contextual {
     Contains,
     /// `expand`
     Expand,
+}
+
+impl Contextual {
+    /// How the word is spelled.
+    #[tactic(auto, unfolding(crate::specs::Tokens::contextual_text))]
+    pub fn text(self) -> &'static [u8]
+        ensures { result.now ≡ contextual_text self }
+    {
+        match self {
+            Contextual::BlockDist => b"BlockDist",
+            Contextual::CyclicDist => b"CyclicDist",
+            Contextual::BlockCycDist => b"BlockCycDist",
+            Contextual::CreateDomain => b"createDomain",
+            Contextual::BoundingBox => b"boundingBox",
+            Contextual::StartIdx => b"startIdx",
+            Contextual::Blocksize => b"blocksize",
+            Contextual::WriteEF => b"writeEF",
+            Contextual::WriteFF => b"writeFF",
+            Contextual::WriteXF => b"writeXF",
+            Contextual::Reset => b"reset",
+            Contextual::ReadFE => b"readFE",
+            Contextual::ReadFF => b"readFF",
+            Contextual::Size => b"size",
+            Contextual::First => b"first",
+            Contextual::Last => b"last",
+            Contextual::Low => b"low",
+            Contextual::High => b"high",
+            Contextual::LowBound => b"lowBound",
+            Contextual::Id => b"id",
+            Contextual::Dim => b"dim",
+            Contextual::Contains => b"contains",
+            Contextual::Expand => b"expand",
+        }
+    }
 }
 
 /// A sign.

@@ -3,6 +3,7 @@ pub mod Placed
 -- Whose map deals out the indices of a reduction; and which entries the reductions of an expression ask for.
 pub mod Reducing
 pub mod Reductions
+pub mod Arguments
 -- What serves contracts and proofs alone.
 pub mod Bounds
 pub mod Elements

@@ -15,13 +15,14 @@ use Rattle.dpl_nodes.specs.Typed.{int_view, truth_view, range_item, domain_view}
 use Rattle.dpl_contents.specs.Range.{range_word}
 use Rattle.dpl_frame.specs.Frames.{Framed}
 use Rattle.dpl_steps.specs.Readings.{step_in, else_in, steps_in}
-use Rattle.dpl_steps.specs.Turns.{turn_in_memory, index_turn}
+use Rattle.dpl_elements.specs.Turns.{turn_in_memory, index_turn}
 use Rattle.dpl_nodes.proofs.Unread.{cell_read-int, cell_read-truth, item_read-range}
 use Rattle.dpl_array.proofs.WalkLemmas.{walk-next, walk-end}
 use Rattle.dpl_loop.proofs.Ends.{then_do-halts, halts-alike, ends-alike}
 use Rattle.dpl_values.specs.Reductions.{EachInInts, EachInTruths, EachInRange, EachInDomain}
-use Rattle.dpl_steps.proofs.Dealing.{ends-wider, some-of-whole, some-of-forall}
-use Rattle.dpl_steps.proofs.Changing.{gives-halts, gives-ends, exec-declared, exec-assigned, exec-int, exec-truth}
+use Rattle.dpl_elements.proofs.Dealing.{ends-wider, some-of-whole}
+use Rattle.dpl_steps.proofs.Refusing.{some-of-forall}
+use Rattle.dpl_elements.proofs.Changing.{gives-halts, gives-ends, exec-declared, exec-assigned, exec-int, exec-truth}
 use Rattle.dpl_steps.proofs.Looping.{in_order-done, in_order-halts, for-domain, scoped-same, in_turn-done, in_turn-halts, for-turns, repeated-fault, repeated-ends, repeated-step, holds-value, holds-fault, if-then, exec-while}
 use Rattle.dpl_steps.proofs.Views.{for_each_in, forall_in, block_in, if_in, while_in, for_in, forall_line_in}
 use Rattle.dpl_steps.proofs.+run.Goals as goal

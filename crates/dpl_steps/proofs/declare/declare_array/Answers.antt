@@ -5,7 +5,7 @@ use Rattle.dpl_lowered.specs.LoweredExpressions.{EachTurn}
 use Rattle.dpl_nodes.specs.Typed.{promoted_int, promoted_truth}
 use Rattle.dpl_nodes.specs.declared.step.Initial.TheVariants.{Zeros, Falses, Ints, Truths}
 use Rattle.dpl_values.specs.Placed.{IsPlaced}
-use Rattle.dpl_steps.specs.Arrays.{declared_without, declared_with}
+use Rattle.dpl_elements.specs.Arrays.{declared_without, declared_with}
 use Rattle.dpl_loop.proofs.Ends.{ends-alike, ends-within}
 use Rattle.dpl_steps.proofs.Owning.{owned-same, on-ok}
 use Rattle.dpl_steps.proofs.ArrayItems.{exec-array_declared}

@@ -12,9 +12,9 @@ use Rattle.dpl_memory.specs.Memory.{in_memory}
 use Rattle.dpl_frame.specs.Frames.{Framed}
 use Rattle.dpl_nodes.specs.Typed.{promoted_int}
 use Rattle.dpl_nodes.proofs.Promotions.{cell_read-promoted_int, promoted_int-once}
-use Rattle.dpl_steps.specs.Arrays.{shell_over}
+use Rattle.dpl_elements.specs.Arrays.{shell_over}
 use Rattle.dpl_loop.proofs.Ends.{fault-ends}
-use Rattle.dpl_steps.proofs.Changing.{gives-halts}
+use Rattle.dpl_elements.proofs.Changing.{gives-halts}
 use Rattle.dpl_steps.proofs.ArrayItems.{array_of_item-fault, array_of_item-past, array_of_item-value, array_of_item-refused}
 use Rattle.dpl_steps.proofs.declare.declare_ints.Goals as goal
 

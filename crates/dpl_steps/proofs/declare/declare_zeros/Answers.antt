@@ -2,7 +2,7 @@
 use Rattle.std.proofs.Common.{refl, sym, ap, ◌∙◌}
 use Rattle.dpl_language.specs.Outcome.{Done}
 use Rattle.dpl_frame.specs.Frames.{Framed}
-use Rattle.dpl_steps.specs.Arrays.{shell_over}
+use Rattle.dpl_elements.specs.Arrays.{shell_over}
 use Rattle.dpl_steps.proofs.ArrayItems.{array_of-zeros}
 use Rattle.dpl_steps.proofs.declare.declare_zeros.Goals as goal
 

@@ -9,8 +9,8 @@ use Rattle.dpl_memory.specs.Memory.{Memory, DomainKind, variable, in_memory}
 use Rattle.dpl_nodes.specs.Typed.{domain_view}
 use Rattle.dpl_frame.specs.Frames.{Framed}
 use Rattle.dpl_nodes.proofs.Unread.{cell_read-domain}
-use Rattle.dpl_steps.specs.Changes.{ends_as}
-use Rattle.dpl_steps.proofs.Changing.{gives-halts, exec-declared}
+use Rattle.dpl_elements.specs.Changes.{ends_as}
+use Rattle.dpl_elements.proofs.Changing.{gives-halts, exec-declared}
 use Rattle.dpl_steps.proofs.domain.declare_domain.Goals as goal
 
 pub returns-in_err-value-clause-ends : goal.returns-in_err-value-clause-ends

@@ -9,9 +9,9 @@ use Rattle.dpl_nodes.specs.Typed.{domain_view}
 use Rattle.dpl_nodes.specs.Steps.{domain_leaf}
 use Rattle.dpl_frame.specs.Frames.{Framed, with_memory}
 use Rattle.dpl_nodes.proofs.Unread.{cell_read-domain}
-use Rattle.dpl_steps.proofs.Elements.{exec-domain, exec-domain-fault, for_array-fault, for_array-value, and-false}
+use Rattle.dpl_elements.proofs.Elements.{exec-domain, exec-domain-fault, for_array-fault, for_array-value, and-false}
 use Rattle.dpl_loop.proofs.Ends.{fault-ends}
-use Rattle.dpl_steps.proofs.Changing.{gives-halts}
+use Rattle.dpl_elements.proofs.Changing.{gives-halts}
 use Rattle.dpl_steps.proofs.domain.set_domain.Goals as goal
 use Rattle.dpl_steps.proofs.domain.set_domain.Goals.{then-not-is_empty+in_ok-for_array, else-not-is_empty}
 

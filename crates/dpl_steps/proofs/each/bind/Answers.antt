@@ -5,8 +5,8 @@ use Rattle.dpl_language.specs.Values.{Int}
 use Rattle.dpl_words.specs.Words.{IntLeaf}
 use Rattle.dpl_memory.specs.Memory.{PlainKind, with_value_in}
 use Rattle.dpl_frame.specs.Frames.{Framed, with_memory}
-use Rattle.dpl_steps.specs.Turns.{each_bound, bound_at}
-use Rattle.dpl_steps.proofs.Binding.{declare-names}
+use Rattle.dpl_elements.specs.Turns.{each_bound, bound_at}
+use Rattle.dpl_elements.proofs.Binding.{declare-names}
 use Rattle.dpl_steps.proofs.each.bind.Goals as goal
 
 pub returns-in-Each : goal.returns-in-Each

@@ -1,6 +1,6 @@
 use Rattle.std.proofs.Common.{◌≡◌, ◌+◌, drop}
 use Rattle.dpl_frame.specs.Frames.{with_memory}
-use Rattle.dpl_steps.specs.Turns.{each_bound}
+use Rattle.dpl_elements.specs.Turns.{each_bound}
 use Rattle.dpl_steps.proofs.each.bind_others.Given as goal
 
 -- the slots that are left give what all give at the start

@@ -1,7 +1,7 @@
 -- A change ends the run as the memory after it does.
 -- These are the answers to the goals of `truth`.
 use Rattle.std.proofs.Common.{refl}
-use Rattle.dpl_steps.proofs.Changing.{gives-ends}
+use Rattle.dpl_elements.proofs.Changing.{gives-ends}
 use Rattle.dpl_steps.proofs.simple.truth.Goals as goal
 
 pub returns-clause-ends : goal.returns-clause-ends

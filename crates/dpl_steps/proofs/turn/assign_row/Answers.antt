@@ -9,9 +9,9 @@ use Rattle.dpl_nodes.specs.Typed.{int_view}
 use Rattle.dpl_nodes.specs.Steps.{array_leaf, element_set}
 use Rattle.dpl_frame.specs.Frames.{Framed}
 use Rattle.dpl_loop.specs.Runs.{AreDone}
-use Rattle.dpl_steps.specs.Turns.{bound_at, index_turn}
-use Rattle.dpl_steps.proofs.BoundAgain.{bound_at-over}
-use Rattle.dpl_steps.proofs.RowTurns.{none-done, row-done, row-made}
+use Rattle.dpl_elements.specs.Turns.{bound_at, index_turn}
+use Rattle.dpl_elements.proofs.BoundAgain.{bound_at-over}
+use Rattle.dpl_elements.proofs.RowTurns.{none-done, row-done, row-made}
 use Rattle.dpl_steps.proofs.turn.assign_row.Goals as goal
 
 pub returns-then-not-has_room-clause-done : goal.returns-then-not-has_room-clause-done

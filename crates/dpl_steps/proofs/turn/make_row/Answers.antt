@@ -1,7 +1,7 @@
 -- Of another body no turns are made.
 -- These are the answers to the goals of `make_row`.
 use Rattle.std.proofs.Common.{refl, arith}
-use Rattle.dpl_steps.proofs.RowTurns.{none-done}
+use Rattle.dpl_elements.proofs.RowTurns.{none-done}
 use Rattle.dpl_steps.proofs.turn.make_row.Goals as goal
 
 pub returns-in_default-clause-done : goal.returns-in_default-clause-done

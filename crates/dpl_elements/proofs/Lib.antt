@@ -1,0 +1,10 @@
+pub mod Changing
+pub mod Dealing
+pub mod Elements
+pub mod Binding
+pub mod Alongside
+pub mod PutRows
+pub mod BoundAgain
+pub mod RowTurns
+pub mod Listed
+pub mod Wholes

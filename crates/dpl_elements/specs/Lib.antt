@@ -1,0 +1,7 @@
+-- Which entries a gate may refuse of an assignment to a whole array.
+pub mod Refusals
+-- What serves contracts and proofs alone.
+pub mod Changes
+pub mod Arrays
+pub mod Turns
+pub mod Rows

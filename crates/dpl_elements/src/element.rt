@@ -1,0 +1,268 @@
+// Elements of arrays: one is put by `=`, and goes into what the other operators make of it.
+// The index is tested before the divisor.
+
+ghost use Rattle.std.specs.Prelude.{◌≡◌, ◌≢◌, true, false, pos, None};
+ghost use Rattle.dpl_syntax.specs.declared.place.Place.{Place};
+ghost use Rattle.dpl_language.specs.Tree.{IntKind, BoolKind, Set};
+ghost use Rattle.dpl_language.specs.Values.{Value, Int, Truth, index_of, kept_number};
+ghost use Rattle.dpl_language.specs.Arithmetic.{assigned, assign_divides};
+ghost use Rattle.dpl_language.specs.Outcome.{Deeds, with_ok};
+ghost use Rattle.dpl_language.specs.Expressions.{values_of};
+ghost use Rattle.dpl_language.specs.Assignments.{change};
+ghost use Rattle.dpl_language.specs.Statements.{exec};
+ghost use Rattle.dpl_lowered.specs.Shapes.{nowhere};
+ghost use Rattle.dpl_memory.specs.Memory.{in_memory};
+ghost use Rattle.dpl_tree.specs.Words.{assign_view};
+ghost use Rattle.dpl_nodes.specs.Typed.{int_view, truth_view, index_exprs};
+ghost use Rattle.dpl_frame.specs.Faults.{Tells};
+ghost use Rattle.dpl_nodes.specs.Steps.{array_leaf, element_set};
+ghost use Rattle.dpl_loop.specs.Entries.{MayRefuseSome};
+ghost use Rattle.dpl_loop.specs.Runs.{RunsTo};
+ghost use Rattle.dpl_loop.specs.Values.{Gives};
+ghost use Rattle.dpl_elements.specs.Changes.{memory_after, ends_as, signed, if_there, put_memory};
+
+use dpl_domain::Index;
+use dpl_frame::{Alarm, FaultCode, Frame, Trap, Turn};
+use dpl_loop::stop::told as ended;
+use dpl_loop::{Gate, Stop};
+use dpl_nodes::{ArrayName, BoolExpr, IndexExpr, IntExpr, Spot};
+use dpl_strips::number::{difference, product, quotient, remainder, sum};
+use dpl_tree::Assign;
+use dpl_values::{coordinate_value, index_value, int_value, truth_value};
+
+/// Whether an operator divides.
+#[inline(always)]
+pub(crate) fn divides(op: Assign) -> bool
+    ensures { result ≡ assign_divides (assign_view op) }
+{
+    match op {
+        Assign::SetDivide | Assign::SetRemainder => true,
+        Assign::Set
+        | Assign::SetAdd
+        | Assign::SetSubtract
+        | Assign::SetMultiply
+        | Assign::SetReduce => false,
+    }
+}
+
+/// What an operator makes of an element. Outside foralls, and of an element always, `reduce=` is `=`.
+#[inline(always)]
+pub(crate) fn assigned(op: Assign, old: i64, value: i64) -> i64
+    requires { assign_divides (assign_view op) ≡ true → value ≢ pos 0 }
+    ensures { Int result ≡ assigned (assign_view op) None (Int old) (Int value) }
+{
+    match op {
+        Assign::Set | Assign::SetReduce => value,
+        Assign::SetAdd => sum(old, value),
+        Assign::SetSubtract => difference(old, value),
+        Assign::SetMultiply => product(old, value),
+        Assign::SetDivide => quotient(old, value),
+        Assign::SetRemainder => remainder(old, value),
+    }
+}
+
+/// Whether an operator has no use for the old value.
+#[inline(always)]
+pub(crate) fn replaces(op: Assign) -> bool
+    ensures value { (result ≡ true) → (old new : Value) → assigned (assign_view op) None old new ≡ new }
+    ensures divides { (result ≡ true) → assign_divides (assign_view op) ≡ false }
+{
+    match op {
+        Assign::Set | Assign::SetReduce => true,
+        Assign::SetAdd
+        | Assign::SetSubtract
+        | Assign::SetMultiply
+        | Assign::SetDivide
+        | Assign::SetRemainder => false,
+    }
+}
+
+// A truth value as an element's word.
+#[inline(always)]
+fn word_of(value: bool) -> i64
+    ensures { result ≡ kept_number (Truth value) }
+{
+    i64::from(value)
+}
+
+// What is told of an index that an array hasn't got.
+#[inline(always)]
+fn told(name: &ArrayName<'_>, there: bool) -> Result<(), Trap>
+    ensures { result ≡ if_there name.now.at.now there }
+{
+    if there {
+        Ok(())
+    } else {
+        Err(Trap::new(FaultCode::Outside, *name.at))
+    }
+}
+
+// An element goes into what an operator makes of it.
+fn combine(
+    name: &ArrayName<'_>,
+    op: Assign,
+    sign: &Spot,
+    index: Index,
+    value: i64,
+    frame: &mut Frame<'_>,
+) -> Result<(), Trap>
+    ensures ends { (done : Deeds) → change frame.old.limits in_memory (array_leaf IntKind name.now) (signed (assign_view op) sign.now) index (Int value) frame.old.memory done ≡ ends_as (memory_after result frame.new.memory) done }
+    ensures limits { frame.new.limits ≡ frame.old.limits }
+{
+    let Some(old) = frame.element(name.slot, index) else {
+        return Err(Trap::new(FaultCode::Outside, *name.at));
+    };
+    if divides(op) && value == 0 {
+        return Err(Trap::new(FaultCode::ZeroDivisor, *sign));
+    }
+    frame.put(name.slot, index, assigned(op, old, value));
+    Ok(())
+}
+
+/// An element is changed.
+///
+/// # Errors
+/// `F1` at the array's name for an index outside it; `F2` at the operator for a division by zero.
+pub(crate) fn change(
+    name: &ArrayName<'_>,
+    op: Assign,
+    sign: &Spot,
+    index: Index,
+    value: i64,
+    frame: &mut Frame<'_>,
+) -> Result<(), Trap>
+    ensures ends { (done : Deeds) → change frame.old.limits in_memory (array_leaf IntKind name.now) (signed (assign_view op) sign.now) index (Int value) frame.old.memory done ≡ ends_as (memory_after result frame.new.memory) done }
+    ensures limits { frame.new.limits ≡ frame.old.limits }
+{
+    if replaces(op) {
+        return told(name, frame.put(name.slot, index, value));
+    }
+    combine(name, op, sign, index, value, frame)
+}
+
+/// An element that is a truth value is set.
+///
+/// # Errors
+/// `F1` at the array's name for an index outside it.
+pub(crate) fn change_truth(
+    name: &ArrayName<'_>,
+    index: Index,
+    value: bool,
+    frame: &mut Frame<'_>,
+) -> Result<(), Trap>
+    ensures ends { (at : Place) (done : Deeds) → change frame.old.limits in_memory (array_leaf BoolKind name.now) (signed Set at) index (Truth value) frame.old.memory done ≡ ends_as (memory_after result frame.new.memory) done }
+    ensures limits { frame.new.limits ≡ frame.old.limits }
+{
+    told(name, frame.put(name.slot, index, i64::from(value)))
+}
+
+// The same, for a caller that has a place for the turn of a fault.
+#[inline(always)]
+fn told_in(name: &ArrayName<'_>, there: bool, turn: &mut Turn) -> Result<(), Alarm>
+    ensures { Tells ⊥ (λ v. v) turn.new result (if_there name.now.at.now there) }
+{
+    if there {
+        Ok(())
+    } else {
+        Err(Alarm::new(FaultCode::Outside, *name.at, turn))
+    }
+}
+
+// Puts a word at an index, whose coordinates are evaluated from left to right. No index is made of coordinates.
+#[inline(always)]
+fn put_word<G: Gate>(
+    name: &ArrayName<'_>,
+    t: &IndexExpr<'_>,
+    word: i64,
+    frame: &mut Frame<'_>,
+    gate: &G,
+    turn: &mut Turn,
+) -> Result<(), Alarm>
+    ensures ends { Tells (MayRefuseSome (G.may_refuse gate.now)) (λ v. frame.new.memory) turn.new result (with_ok (values_of frame.old.limits in_memory (index_exprs t.now) frame.old.memory) (λ vs. put_memory name.now.at.now name.now.slot (index_of vs) word frame.old.memory)) }
+    ensures limits { frame.new.limits ≡ frame.old.limits }
+{
+    match t {
+        IndexExpr::Line(i) => {
+            let i = coordinate_value(i, frame, gate, turn)?;
+            told_in(name, frame.put_line(name.slot, i, word), turn)
+        }
+        IndexExpr::Plane(i, j) => {
+            let i = coordinate_value(i, frame, gate, turn)?;
+            let j = coordinate_value(j, frame, gate, turn)?;
+            told_in(name, frame.put_plane(name.slot, i, j, word), turn)
+        }
+        IndexExpr::Space(i, j, k) => {
+            let i = coordinate_value(i, frame, gate, turn)?;
+            let j = coordinate_value(j, frame, gate, turn)?;
+            let k = coordinate_value(k, frame, gate, turn)?;
+            told_in(name, frame.put_space(name.slot, i, j, k, word), turn)
+        }
+        IndexExpr::Tuple(tuple) => {
+            let index = frame.tuple(*tuple);
+            told_in(name, frame.put(name.slot, index, word), turn)
+        }
+    }
+}
+
+// The same, whose fault has its turn.
+#[inline(always)]
+fn put_at<G: Gate>(
+    name: &ArrayName<'_>,
+    t: &IndexExpr<'_>,
+    word: i64,
+    frame: &mut Frame<'_>,
+    gate: &G,
+) -> Result<(), Stop>
+    ensures ends { Gives (MayRefuseSome (G.may_refuse gate.now)) (λ v. frame.new.memory) result (with_ok (values_of frame.old.limits in_memory (index_exprs t.now) frame.old.memory) (λ vs. put_memory name.now.at.now name.now.slot (index_of vs) word frame.old.memory)) }
+    ensures limits { frame.new.limits ≡ frame.old.limits }
+{
+    let mut turn = Turn::Absent;
+    match put_word(name, t, word, frame, gate, &mut turn) {
+        Ok(()) => Ok(()),
+        Err(alarm) => Err(Stop::of(alarm, &turn)),
+    }
+}
+
+/// An assignment to an element: the right side, then the indices, then the change.
+///
+/// # Errors
+/// The fault of a part; `F1` at the array's name; `F2` at the operator.
+#[inline(always)]
+pub fn set_element<G: Gate>(
+    name: &ArrayName<'_>,
+    t: &IndexExpr<'_>,
+    op: Assign,
+    sign: &Spot,
+    e: &IntExpr<'_>,
+    frame: &mut Frame<'_>,
+    gate: &G,
+) -> Result<(), Stop>
+    ensures ends { (done : Deeds) → RunsTo (MayRefuseSome (G.may_refuse gate.now)) result frame.new.memory done (exec frame.old.limits in_memory (element_set (array_leaf IntKind name.now) t.now (assign_view op) sign.now (int_view e.now)) frame.old.memory done) }
+    ensures limits { frame.new.limits ≡ frame.old.limits }
+{
+    let value = int_value(e, frame, gate)?;
+    if replaces(op) {
+        return put_at(name, t, value, frame, gate);
+    }
+    let index = index_value(t, frame, gate)?;
+    ended(combine(name, op, sign, index, value, frame))
+}
+
+/// The same of an element that is a truth value.
+///
+/// # Errors
+/// The fault of a part; `F1` at the array's name.
+#[inline(always)]
+pub fn set_truth_element<G: Gate>(
+    name: &ArrayName<'_>,
+    t: &IndexExpr<'_>,
+    e: &BoolExpr<'_>,
+    frame: &mut Frame<'_>,
+    gate: &G,
+) -> Result<(), Stop>
+    ensures ends { (done : Deeds) → RunsTo (MayRefuseSome (G.may_refuse gate.now)) result frame.new.memory done (exec frame.old.limits in_memory (element_set (array_leaf BoolKind name.now) t.now Set nowhere (truth_view e.now)) frame.old.memory done) }
+    ensures limits { frame.new.limits ≡ frame.old.limits }
+{
+    let value = truth_value(e, frame, gate)?.get();
+    put_at(name, t, word_of(value), frame, gate)
+}

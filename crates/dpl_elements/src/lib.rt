@@ -1,0 +1,11 @@
+// Elements and whole arrays are assigned: one element, a row of elements side by side, an array at each of its indices.
+// What is assigned is evaluated as the language's meaning has it, and the memory afterwards is that of the meaning.
+#![tactic(auto)]
+
+mod element;
+mod row;
+mod whole;
+
+pub use element::{set_element, set_truth_element};
+pub use row::put_row;
+pub use whole::{set_array, set_truth_array};

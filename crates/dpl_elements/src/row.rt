@@ -1,0 +1,66 @@
+// Ints that go into elements side by side, by whichever operator divides none.
+// It is as if each went into its element alone, one after another: none of them has a fault.
+
+ghost use Rattle.std.specs.Prelude.{◌≡◌, ◌≤◌, ◌<◌, ℕ, ℤ, pos, false, List, Some, None, get_or};
+ghost use Rattle.dpl_array.specs.Elements.{behind};
+ghost use Rattle.dpl_language.specs.Values.{Int};
+ghost use Rattle.dpl_language.specs.Arithmetic.{assigned, assign_divides};
+ghost use Rattle.dpl_memory.specs.Memory.{Held, array_at, held_at};
+ghost use Rattle.dpl_tree.specs.Words.{assign_view};
+ghost use Rattle.dpl_frame.specs.Frames.{with_memory};
+ghost use Rattle.dpl_elements.specs.Changes.{signed};
+ghost use Rattle.dpl_elements.specs.Rows.{ArePut};
+
+use crate::element::{assigned, divides, replaces};
+use dpl_domain::Index;
+use dpl_frame::Frame;
+use dpl_loop::{STRIP, Strip};
+use dpl_nodes::{ArrayName, Spot};
+use dpl_tree::Assign;
+
+// What an operator makes of elements that stand side by side and of ints for them; nothing of an operator that divides.
+fn changed(name: &ArrayName<'_>, op: Assign, at: Index, strip: Strip, frame: &Frame<'_>) -> Strip
+    ensures size { result.size ≤ strip.size }
+    ensures divides { 0 < result.size → assign_divides (assign_view op) ≡ false }
+    ensures words { (k : ℕ) (old : ℤ) → k < result.size → k < 64 → held_at (behind k at) (array_at name.now.slot frame.now.memory) ≡ Some old → assigned (assign_view op) None (Int old) (Int (get_or strip.words k (pos 0))) ≡ Int (get_or result.words k (pos 0)) }
+{
+    if replaces(op) {
+        return strip;
+    }
+    if divides(op) {
+        return Strip::none(strip.first);
+    }
+    let old = frame.run(name.slot, at);
+    let size = strip.size.min(old.len()).min(STRIP);
+    let mut words = strip.words;
+    for k in 0..size {
+        words[k] = assigned(op, old[k], words[k]);
+    }
+    Strip {
+        first: strip.first,
+        words,
+        size,
+    }
+}
+
+/// Puts the ints of a strip into the elements at an index and behind it, at most so many of them, as an operator makes them; how many.
+pub fn put_row(
+    name: &ArrayName<'_>,
+    op: Assign,
+    sign: &Spot,
+    at: Index,
+    strip: Strip,
+    most: usize,
+    frame: &mut Frame<'_>,
+) -> usize
+    ensures most { result ≤ most }
+    ensures strip { result ≤ strip.size }
+    ensures cap { result ≤ 64 }
+    ensures put { (arrays : List Held) × (frame.new ≡ with_memory (record frame.old.memory { arrays = arrays }) frame.old) × ArePut frame.old.limits name.now (signed (assign_view op) sign.now) at strip result frame.old.memory.arrays arrays }
+{
+    // Nothing is read here: that an index has coordinates is a clause of this call.
+    let _ = at.rank();
+    let strip = changed(name, op, at, strip, frame);
+    let size = strip.size.min(most).min(STRIP);
+    frame.put_run(name.slot, at, &strip.words[..size])
+}

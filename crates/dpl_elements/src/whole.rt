@@ -1,0 +1,266 @@
+// Assignments to whole arrays: each element is changed, in the order of the domain, and a fault names its index.
+// A right side without a whole array is evaluated once; one with a whole array is evaluated at each index anew. Each is a forall
+// over the array's domain.
+
+ghost use Rattle.std.specs.Prelude.{◌≡◌, ◌⊎◌, List, Some, None};
+ghost use Rattle.dpl_sets.specs.TextRanges.{TextRange};
+ghost use Rattle.dpl_language.specs.Tree.{IntKind, BoolKind, Set};
+ghost use Rattle.dpl_language.specs.Values.{Int, Truth};
+ghost use Rattle.dpl_language.specs.Outcome.{Deeds, with_value};
+ghost use Rattle.dpl_language.specs.Loops.{within_budget, named_turn};
+ghost use Rattle.dpl_language.specs.Expressions.{value_of, whole_in};
+ghost use Rattle.dpl_language.specs.Assignments.{change};
+ghost use Rattle.dpl_language.specs.Statements.{exec};
+ghost use Rattle.dpl_lowered.specs.LoweredExpressions.{EachTurn};
+ghost use Rattle.dpl_memory.specs.Memory.{in_memory};
+ghost use Rattle.dpl_tree.specs.Words.{assign_view};
+ghost use Rattle.dpl_nodes.specs.Typed.{promoted_int, promoted_truth};
+ghost use Rattle.dpl_nodes.specs.Steps.{array_leaf, whole_set};
+ghost use Rattle.dpl_elements.specs.Changes.{signed};
+ghost use Rattle.dpl_elements.specs.Arrays.{array_set};
+ghost use Rattle.dpl_frame.specs.Frames.{owned_by};
+ghost use Rattle.dpl_loop.specs.Runs.{RunsTo};
+ghost use Rattle.dpl_loop.specs.Entries.{MayRefuse};
+ghost use Rattle.dpl_values.specs.Reductions.{MayRefuseReduction, EachInInts, EachInTruths};
+ghost use Rattle.dpl_elements.specs.Refusals.{MayRefuseWhole};
+
+use crate::element::{change, change_truth};
+use crate::row::put_row;
+use dpl_domain::Index;
+use dpl_frame::{DomainWord, Frame};
+use dpl_loop::stop::told;
+use dpl_loop::{Gate, OpenGate, Stop, Turns, forall};
+use dpl_nodes::{ArrayName, PromotedInt, PromotedTruth, Spot};
+use dpl_strips::index::coordinate;
+use dpl_strips::{promoted_strip, repeated};
+use dpl_tree::Assign;
+use dpl_values::budget::within_budget;
+use dpl_values::{int_domain, promoted_int_value, promoted_truth_value, truth_domain};
+
+// One int at each index.
+#[derive(Clone, Copy)]
+struct Fill<'e> {
+    name: &'e ArrayName<'e>,
+    op: Assign,
+    sign: &'e Spot,
+    value: i64,
+}
+
+impl<'e, 't> Turns<Frame<'t>> for Fill<'e> {
+    ghost turn = { λ c limits t. change limits in_memory (array_leaf IntKind c.name.now) (signed (assign_view c.op) c.sign.now) t (Int c.value) };
+
+    #[inline(always)]
+    fn make(&self, index: Index, frame: &mut Frame<'t>) -> Result<(), Stop> {
+        told(change(self.name, self.op, self.sign, index, self.value, frame))
+    }
+
+    fn make_row(&self, first: Index, most: usize, frame: &mut Frame<'t>) -> usize {
+        let strip = repeated(first, self.value);
+        put_row(self.name, self.op, self.sign, first, strip, most, frame)
+    }
+}
+
+// An int that is evaluated at each index.
+#[derive(Clone, Copy)]
+struct Promote<'e, 'x> {
+    name: &'e ArrayName<'e>,
+    op: Assign,
+    sign: &'e Spot,
+    e: &'e PromotedInt<'x>,
+}
+
+impl<'e, 'x, 't> Turns<Frame<'t>> for Promote<'e, 'x> {
+    ghost turn = { λ c limits t s done. with_value (value_of limits in_memory (promoted_int EachTurn c.e.now) (Some t) s) (change limits in_memory (array_leaf IntKind c.name.now) (signed (assign_view c.op) c.sign.now) t) s done };
+
+    #[inline(always)]
+    fn make(&self, index: Index, frame: &mut Frame<'t>) -> Result<(), Stop> {
+        let value = promoted_int_value(self.e, &index, frame, &OpenGate)?;
+        told(change(self.name, self.op, self.sign, index, value, frame))
+    }
+
+    fn make_row(&self, first: Index, most: usize, frame: &mut Frame<'t>) -> usize {
+        let strip = promoted_strip(self.e, first, frame);
+        put_row(self.name, self.op, self.sign, first, strip, most, frame)
+    }
+}
+
+// One truth value at each index.
+#[derive(Clone, Copy)]
+struct FillTruth<'e> {
+    name: &'e ArrayName<'e>,
+    sign: &'e Spot,
+    value: bool,
+}
+
+impl<'e, 't> Turns<Frame<'t>> for FillTruth<'e> {
+    ghost turn = { λ c limits t. change limits in_memory (array_leaf BoolKind c.name.now) (signed Set c.sign.now) t (Truth c.value) };
+
+    #[inline(always)]
+    fn make(&self, index: Index, frame: &mut Frame<'t>) -> Result<(), Stop> {
+        told(change_truth(self.name, index, self.value, frame))
+    }
+}
+
+// A truth value that is evaluated at each index.
+#[derive(Clone, Copy)]
+struct PromoteTruth<'e, 'x> {
+    name: &'e ArrayName<'e>,
+    sign: &'e Spot,
+    e: &'e PromotedTruth<'x>,
+}
+
+impl<'e, 'x, 't> Turns<Frame<'t>> for PromoteTruth<'e, 'x> {
+    ghost turn = { λ c limits t s done. with_value (value_of limits in_memory (promoted_truth EachTurn c.e.now) (Some t) s) (change limits in_memory (array_leaf BoolKind c.name.now) (signed Set c.sign.now) t) s done };
+
+    #[inline(always)]
+    fn make(&self, index: Index, frame: &mut Frame<'t>) -> Result<(), Stop> {
+        let value = promoted_truth_value(self.e, &index, frame, &OpenGate)?.get();
+        told(change_truth(self.name, index, value, frame))
+    }
+}
+
+// The turns of a domain that has no more indices than the budget, by the map of the array of a name.
+fn each_within<'t, T: Turns<Frame<'t>>, G: Gate>(
+    turns: &T,
+    at: &Spot,
+    name: &ArrayName<'_>,
+    domain: DomainWord,
+    frame: &mut Frame<'t>,
+    gate: &G,
+) -> Result<(), Stop>
+    ensures ends { (done : Deeds) → RunsTo (MayRefuse (G.may_refuse gate.now) (owned_by frame.old name.now.slot) domain) result frame.new.memory done
+        (within_budget frame.old.limits at.now domain (named_turn (T.turn turns.now frame.old.limits)) frame.old.memory done) }
+    ensures limits { frame.new.limits ≡ frame.old.limits }
+{
+    within_budget(&domain, at, frame)?;
+    let map = frame.owner(name.slot);
+    forall(turns, domain, &map, frame, gate)
+}
+
+// An int without a whole array goes into each element.
+fn set_once<'t, G: Gate>(
+    name: &ArrayName<'_>,
+    op: Assign,
+    sign: &Spot,
+    e: &PromotedInt<'_>,
+    domain: DomainWord,
+    frame: &mut Frame<'t>,
+    gate: &G,
+) -> Result<(), Stop>
+    requires { whole_in frame.old.limits in_memory (promoted_int EachTurn e.now) frame.old.memory ≡ None }
+    ensures ends { (done : Deeds) → RunsTo (MayRefuse (G.may_refuse gate.now) (owned_by frame.old name.now.slot) domain ⊎ MayRefuseReduction (G.may_refuse gate.now) frame.old (EachInInts e.now)) result frame.new.memory done
+        (array_set frame.old.limits IntKind name.now (assign_view op) sign.now (promoted_int EachTurn e.now) domain None frame.old.memory done) }
+    ensures limits { frame.new.limits ≡ frame.old.limits }
+{
+    let value = promoted_int_value(e, &coordinate(0), frame, gate)?;
+    let turns = Fill {
+        name,
+        op,
+        sign,
+        value,
+    };
+    each_within(&turns, sign, name, domain, frame, gate)
+}
+
+// The same of truth values.
+fn set_truth_once<'t, G: Gate>(
+    name: &ArrayName<'_>,
+    sign: &Spot,
+    e: &PromotedTruth<'_>,
+    domain: DomainWord,
+    frame: &mut Frame<'t>,
+    gate: &G,
+) -> Result<(), Stop>
+    requires { whole_in frame.old.limits in_memory (promoted_truth EachTurn e.now) frame.old.memory ≡ None }
+    ensures ends { (done : Deeds) → RunsTo (MayRefuse (G.may_refuse gate.now) (owned_by frame.old name.now.slot) domain ⊎ MayRefuseReduction (G.may_refuse gate.now) frame.old (EachInTruths e.now)) result frame.new.memory done
+        (array_set frame.old.limits BoolKind name.now Set sign.now (promoted_truth EachTurn e.now) domain None frame.old.memory done) }
+    ensures limits { frame.new.limits ≡ frame.old.limits }
+{
+    let value = promoted_truth_value(e, &coordinate(0), frame, gate)?.get();
+    let turns = FillTruth { name, sign, value };
+    each_within(&turns, sign, name, domain, frame, gate)
+}
+
+// An int with a whole array is evaluated at the index of each element.
+fn set_each<'t, G: Gate>(
+    name: &ArrayName<'_>,
+    op: Assign,
+    sign: &Spot,
+    e: &PromotedInt<'_>,
+    domain: DomainWord,
+    frame: &mut Frame<'t>,
+    gate: &G,
+) -> Result<(), Stop>
+    ensures ends { (arrays : List TextRange) (done : Deeds) → RunsTo (MayRefuse (G.may_refuse gate.now) (owned_by frame.old name.now.slot) domain) result frame.new.memory done
+        (array_set frame.old.limits IntKind name.now (assign_view op) sign.now (promoted_int EachTurn e.now) domain (Some arrays) frame.old.memory done) }
+    ensures limits { frame.new.limits ≡ frame.old.limits }
+{
+    let turns = Promote { name, op, sign, e };
+    each_within(&turns, sign, name, domain, frame, gate)
+}
+
+// The same of truth values.
+fn set_truth_each<'t, G: Gate>(
+    name: &ArrayName<'_>,
+    sign: &Spot,
+    e: &PromotedTruth<'_>,
+    domain: DomainWord,
+    frame: &mut Frame<'t>,
+    gate: &G,
+) -> Result<(), Stop>
+    ensures ends { (arrays : List TextRange) (done : Deeds) → RunsTo (MayRefuse (G.may_refuse gate.now) (owned_by frame.old name.now.slot) domain) result frame.new.memory done
+        (array_set frame.old.limits BoolKind name.now Set sign.now (promoted_truth EachTurn e.now) domain (Some arrays) frame.old.memory done) }
+    ensures limits { frame.new.limits ≡ frame.old.limits }
+{
+    let turns = PromoteTruth { name, sign, e };
+    each_within(&turns, sign, name, domain, frame, gate)
+}
+
+/// An assignment to a whole array of ints.
+///
+/// # Errors
+/// The fault of a right side that is evaluated once; `F5` at the operator for more elements than the budget; the fault of
+/// an index, in its turn; or the gate refused the entry of an element's owner, or of a reduction in a right side that is evaluated
+/// once.
+#[inline(never)]
+pub fn set_array<'t, G: Gate>(
+    name: &ArrayName<'_>,
+    op: Assign,
+    sign: &Spot,
+    e: &PromotedInt<'_>,
+    frame: &mut Frame<'t>,
+    gate: &G,
+) -> Result<(), Stop>
+    ensures ends { (done : Deeds) → RunsTo (MayRefuseWhole (G.may_refuse gate.now) frame.old name.now.slot (EachInInts e.now)) result frame.new.memory done
+        (exec frame.old.limits in_memory (whole_set (array_leaf IntKind name.now) (assign_view op) sign.now (promoted_int EachTurn e.now)) frame.old.memory done) }
+    ensures limits { frame.new.limits ≡ frame.old.limits }
+{
+    let domain = frame.array_domain(name.slot);
+    match int_domain(e, frame) {
+        None => set_once(name, op, sign, e, domain, frame, gate),
+        Some(_) => set_each(name, op, sign, e, domain, frame, gate),
+    }
+}
+
+/// `=` to a whole array of truth values.
+///
+/// # Errors
+/// As for ints.
+#[inline(never)]
+pub fn set_truth_array<'t, G: Gate>(
+    name: &ArrayName<'_>,
+    sign: &Spot,
+    e: &PromotedTruth<'_>,
+    frame: &mut Frame<'t>,
+    gate: &G,
+) -> Result<(), Stop>
+    ensures ends { (done : Deeds) → RunsTo (MayRefuseWhole (G.may_refuse gate.now) frame.old name.now.slot (EachInTruths e.now)) result frame.new.memory done
+        (exec frame.old.limits in_memory (whole_set (array_leaf BoolKind name.now) Set sign.now (promoted_truth EachTurn e.now)) frame.old.memory done) }
+    ensures limits { frame.new.limits ≡ frame.old.limits }
+{
+    let domain = frame.array_domain(name.slot);
+    match truth_domain(e, frame) {
+        None => set_truth_once(name, sign, e, domain, frame, gate),
+        Some(_) => set_truth_each(name, sign, e, domain, frame, gate),
+    }
+}

@@ -1,0 +1,4 @@
+pub mod Shown
+pub mod Writing
+pub mod Growing
+pub mod ShownArrays

@@ -1,0 +1,2 @@
+-- What is printed, and how what was printed grows by it.
+pub mod Texts
