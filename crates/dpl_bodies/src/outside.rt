@@ -7,7 +7,7 @@ ghost use Rattle.dpl_tree.specs.Statements.{target_view};
 ghost use Rattle.dpl_rules.specs.Bodies.{not_inner as not_inner_of, inner_reduction as inner_reduction_of, inner_reductions as inner_reductions_of};
 ghost use Rattle.dpl_rules.specs.Bodies.{element_read as element_read_of, each, whole_target as whole_target_of};
 ghost use Rattle.dpl_rules.specs.Breaches.{least_from};
-ghost use Rattle.dpl_types.specs.View.{origin_view};
+ghost use Rattle.dpl_scopes.specs.Types.{origin_view};
 ghost use Rattle.dpl_scopes.specs.View.{declared_view};
 ghost use Rattle.dpl_deeds.specs.View.{holding_view, deed_view};
 ghost use Rattle.dpl_bodies.specs.Promoted.{promoted_by};
@@ -15,10 +15,10 @@ ghost use Rattle.dpl_bodies.specs.Promoted.{promoted_by};
 use dpl_deeds::name::is_array;
 use dpl_deeds::whole::is_whole_item;
 use dpl_deeds::{Deed, Holding};
-use dpl_scopes::{Declared, Scopes};
+use dpl_scopes::{Declared, Origin, Scopes};
 use dpl_syntax::{Breach, Code};
 use dpl_tree::{Item, Target};
-use dpl_types::{Origin, owed};
+use dpl_types::owed;
 
 // Whether it is anything but a reduction in a promoted expression or in a map's argument.
 fn not_inner(holding: Holding) -> bool

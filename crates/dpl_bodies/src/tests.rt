@@ -4,10 +4,9 @@
 use crate::Turns;
 use crate::forall::forall_breaches;
 use dpl_deeds::Deed;
-use dpl_scopes::{Declared, Sort};
+use dpl_scopes::{Declared, Origin, Over, Sort, ValueType};
 use dpl_syntax::{Breach, Code, Place};
 use dpl_tree::{Assign, Name, ScalarKind, Variables};
-use dpl_types::{Origin, Over, ValueType};
 use std::test::Fail;
 
 // forall i in .. { A = ..; .. A ..; }, where A is read on the first line and written on the second

@@ -13,16 +13,15 @@ ghost use Rattle.dpl_rules.specs.Bodies.{is_own as is_own_of, is_outer as is_out
 ghost use Rattle.dpl_rules.specs.Bodies.{is_product as is_product_of, goes_on as goes_on_of, goes_on_in as goes_on_in_of};
 ghost use Rattle.dpl_rules.specs.Bodies.{is_scalar_or_domain as is_scalar_or_domain_of, may_change as may_change_of};
 ghost use Rattle.dpl_scopes.specs.View.{declared_view};
-ghost use Rattle.dpl_types.specs.View.{of_type};
+ghost use Rattle.dpl_scopes.specs.Types.{of_type};
 ghost use Rattle.dpl_deeds.specs.View.{index_view};
 ghost use Rattle.dpl_bodies.specs.View.{turns_view, next_names};
 ghost use Rattle.dpl_bodies.specs.Intents.{operator_of, intent_operator as intent_operator_of, next_operator as next_operator_of};
 
 use dpl_deeds::IndexPart;
 use dpl_deeds::name::is_array;
-use dpl_scopes::Declared;
+use dpl_scopes::{Declared, ValueType};
 use dpl_tree::{Assign, Intent, Name, NextIntent, NextName, Op, Variables, With};
-use dpl_types::ValueType;
 
 /// A forall, as the rules on its body see it.
 #[derive(Clone, Copy)]

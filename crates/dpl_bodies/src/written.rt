@@ -3,10 +3,10 @@
 
 ghost use Rattle.std.specs.Prelude.{◌≡◌, [], OnOk};
 ghost use Rattle.dpl_rules.specs.Bodies.{is_in};
-ghost use Rattle.dpl_types.specs.View.{origin_view};
+ghost use Rattle.dpl_scopes.specs.Types.{origin_view};
 ghost use Rattle.dpl_bodies.specs.Written.{with_origin};
 
-use dpl_types::Origin;
+use dpl_scopes::Origin;
 use indexmap::IndexSet;
 use std::alloc::{AllocError, Global};
 use std::marker::Model;

@@ -12,7 +12,7 @@ use Rattle.dpl_rules.specs.Declarations.{config_initial, config_type, untyped_in
 use Rattle.dpl_rules.specs.Sights.{Scopes}
 use Rattle.dpl_rules.specs.Operators.{over_verdict}
 use Rattle.dpl_rules.specs.Expressions.{item_parts, items_breaches}
-use Rattle.dpl_types.specs.declared.value_type.ValueType.{ValueType as TypeNode}
+use Rattle.dpl_scopes.specs.declared.value_type.ValueType.{ValueType as TypeNode}
 use Rattle.dpl_typing.specs.Told.{Tells}
 
 -- what an array is over, or a domain is created from

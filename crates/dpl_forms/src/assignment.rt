@@ -11,7 +11,8 @@ ghost use Rattle.dpl_rules.specs.Sights.{type_declared};
 ghost use Rattle.dpl_rules.specs.Expressions.{side_part, side_breaches, exprs_breaches};
 ghost use Rattle.dpl_rules.specs.Assignments.{written_name as written_name_of, set_breaches, change_breaches, reduce_breaches, fitting as fitting_of};
 ghost use Rattle.dpl_rules.specs.Assignments.{fitting_target as fitting_target_of, is_int_kind, may_reduce_in, assignment_breaches};
-ghost use Rattle.dpl_types.specs.View.{type_view, of_type, part_view};
+ghost use Rattle.dpl_scopes.specs.Types.{type_view, of_type};
+ghost use Rattle.dpl_types.specs.View.{part_view};
 ghost use Rattle.dpl_types.specs.Wants.{takes};
 ghost use Rattle.dpl_scopes.specs.View.{declared_view};
 ghost use Rattle.dpl_typing.specs.Told.{Tells};
@@ -21,13 +22,13 @@ ghost use Rattle.dpl_forms.specs.Assigned.{element_verdict, whole_told, element_
 
 use crate::around::{Reducing, may_reduce};
 use crate::side::side;
-use dpl_scopes::{Declared, Scopes};
+use dpl_scopes::{Declared, Scopes, ValueType};
 use dpl_syntax::{Breach, Code, Place};
 use dpl_tree::{Assign, AssignSign, Assignment, Element, Name, ScalarKind, Target};
 use dpl_types::found::is_cell;
 use dpl_types::index::round;
 use dpl_types::part::wanted;
-use dpl_types::{Part, ValueType, Want, note, owed};
+use dpl_types::{Part, Want, note, owed};
 use dpl_typing::expression::{Judged, exprs};
 use dpl_typing::name::named;
 use std::alloc::{AllocError, Global};

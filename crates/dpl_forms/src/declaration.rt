@@ -16,7 +16,8 @@ ghost use Rattle.dpl_rules.specs.Declarations.{is_initial, type_rank as type_ran
 ghost use Rattle.dpl_rules.specs.Declarations.{base_over as base_over_of, over_domain, domain_in as domain_in_of, config_type as config_type_of, declared_type};
 ghost use Rattle.dpl_rules.specs.Declarations.{type_breaches, untyped_breaches, typed_breaches, initial_type, init_part, create_breaches, config_breaches};
 ghost use Rattle.dpl_rules.specs.Declarations.{written_breaches, type_given, declaration_breaches, declared_by, sort_of, typed_initial as typed_initial_of};
-ghost use Rattle.dpl_types.specs.View.{type_view, of_type, origin_view, part_view};
+ghost use Rattle.dpl_scopes.specs.Types.{type_view, of_type, origin_view};
+ghost use Rattle.dpl_types.specs.View.{part_view};
 ghost use Rattle.dpl_types.specs.Wants.{takes};
 ghost use Rattle.dpl_scopes.specs.View.{declared_view, sort_view};
 ghost use Rattle.dpl_forms.specs.Told.{domain_given, over_told, untyped_told, TypedTold, given, given_told};
@@ -25,13 +26,13 @@ ghost use Rattle.dpl_typing.specs.Told.{Tells, TellsPart};
 
 use crate::map::mapped;
 use crate::side::{bare_name, side};
-use dpl_scopes::{Declared, Scopes, Sort};
+use dpl_scopes::{Declared, Origin, Over, Scopes, Sort, ValueType};
 use dpl_syntax::{Breach, Code, Place};
 use dpl_tree::{ArrayType, Declare, DeclaredType, DomainType, Init, Initial, Item, Items, Mapped};
 use dpl_types::found::is_domain;
 use dpl_types::part::wanted;
 use dpl_types::range::over;
-use dpl_types::{Origin, Over, Part, ValueType, Want, note, owed, tell};
+use dpl_types::{Part, Want, note, owed, tell};
 use dpl_typing::expression::{Judged, items};
 use std::alloc::{AllocError, Global};
 

@@ -8,14 +8,14 @@ ghost use Rattle.dpl_rules.specs.Breaches.{least_from};
 ghost use Rattle.dpl_rules.specs.Places.{first_of_variables as first_of_tree};
 ghost use Rattle.dpl_rules.specs.Loops.{over_domains as over_domains_of, over_locales as over_locales_of, runs_over as runs_over_of, turn_rank as turn_rank_of};
 ghost use Rattle.dpl_rules.specs.Loops.{one_type as one_type_of, fits_variables, typed_variable, header_of as header_of_loop, over_type, over_breaches};
-ghost use Rattle.dpl_types.specs.View.{type_view, of_type};
+ghost use Rattle.dpl_scopes.specs.Types.{type_view, of_type};
 ghost use Rattle.dpl_typing.specs.Told.{Tells};
 ghost use Rattle.dpl_forms.specs.Heads.{word_view, head_type, head_told};
 
-use dpl_scopes::Scopes;
+use dpl_scopes::{Scopes, ValueType};
 use dpl_syntax::{Breach, Code, Place};
 use dpl_tree::{Item, ScalarKind, Variables};
-use dpl_types::{ValueType, note, owed};
+use dpl_types::{note, owed};
 use dpl_typing::expression::{Judged, base, item};
 use dpl_typing::place::first_of_item;
 use std::alloc::Global;

@@ -12,11 +12,11 @@ ghost use Rattle.dpl_forms.specs.Around.{intents_in};
 ghost use Rattle.dpl_forms.specs.Seen.{see, named, intent_name, intent_told, seen_told};
 
 use crate::assignment::tell_wanted;
+use dpl_scopes::value_type::kind_of;
 use dpl_scopes::{Declared, Scopes, Sort};
 use dpl_syntax::{Breach, Code, Place};
 use dpl_tree::{Intent, Name, NextIntent, Op, With};
 use dpl_types::found::is_cell;
-use dpl_types::value_type::kind_of;
 use dpl_types::{Part, Want, note, owed};
 use std::alloc::{AllocError, Global};
 

@@ -9,10 +9,10 @@ ghost use Rattle.dpl_rules.specs.Sights.{lookup, type_declared};
 ghost use Rattle.dpl_rules.specs.Expressions.{cell_declared, kind_read as kind_read_of, side_part, side_breaches};
 ghost use Rattle.dpl_typing.specs.Told.{TellsPart};
 
-use dpl_scopes::Scopes;
+use dpl_scopes::{Scopes, ValueType};
 use dpl_syntax::Breach;
 use dpl_tree::{Expr, Item, Method, Name, Post, ScalarKind};
-use dpl_types::{Part, ValueType};
+use dpl_types::Part;
 use dpl_typing::expression::item_part;
 use dpl_typing::place::first_of_item;
 use std::alloc::{AllocError, Global};

@@ -7,13 +7,13 @@ ghost use Rattle.dpl_tree.specs.Statements.{variables_view};
 ghost use Rattle.dpl_rules.specs.Breaches.{least_from};
 ghost use Rattle.dpl_rules.specs.Sights.{enter};
 ghost use Rattle.dpl_rules.specs.Loops.{variables_of, add_variables, each_once, variables_once};
-ghost use Rattle.dpl_types.specs.View.{of_type};
+ghost use Rattle.dpl_scopes.specs.Types.{of_type};
 ghost use Rattle.dpl_forms.specs.Heads.{names_in};
 
-use dpl_scopes::{Scopes, Sort};
+use dpl_scopes::{Scopes, Sort, ValueType};
 use dpl_syntax::{Breach, Code};
 use dpl_tree::{Name, NextName, Variables};
-use dpl_types::{ValueType, owed};
+use dpl_types::owed;
 use std::alloc::AllocError;
 
 // A variable, in the innermost scope.

@@ -1,9 +1,8 @@
 // The words that sets give: of ints and bools in sight, each by the slot of its name.
 
 use crate::given;
-use dpl_scopes::{Scopes, Sort};
+use dpl_scopes::{Scopes, Sort, ValueType};
 use dpl_tree::ScalarKind;
-use dpl_types::ValueType;
 use std::test::Fail;
 
 #[test]

@@ -3,10 +3,9 @@
 
 use crate::{limits, sets_fit};
 use bumpalo::Bump;
-use dpl_scopes::{Scopes, Sort};
+use dpl_scopes::{Scopes, Sort, ValueType};
 use dpl_syntax::Place;
 use dpl_tree::{Arena, Declare, DeclaredType, Name, ScalarKind, Stmt, Typed};
-use dpl_types::ValueType;
 use std::alloc::{AllocError, Global};
 use std::test::Fail;
 

@@ -20,8 +20,8 @@ use Rattle.dpl_rules.specs.Sights.{Declared, Scopes, declared_here, add, origin_
 use Rattle.dpl_rules.specs.Operators.{over_verdict}
 use Rattle.dpl_rules.specs.Expressions.{item_parts}
 use Rattle.dpl_rules.specs.Declarations.{domain_in, base_over, over_domain, type_given, declaration_breaches, declared_by}
-use Rattle.dpl_types.specs.declared.value_type.ValueType.{ValueType as TypeNode}
-use Rattle.dpl_types.specs.View.{type_view, of_type}
+use Rattle.dpl_scopes.specs.declared.value_type.ValueType.{ValueType as TypeNode}
+use Rattle.dpl_scopes.specs.Types.{type_view, of_type}
 use Rattle.dpl_scopes.specs.declared.declared.Declared.{Declared as DeclaredNode}
 use Rattle.dpl_scopes.specs.View.{sort_view, declared_view}
 use Rattle.dpl_scopes.specs.Slots.{next_slot_in}

@@ -18,8 +18,8 @@ use Rattle.dpl_tree.specs.declared.operator.ScalarKind.TheVariants.{Int as IntSc
 use Rattle.dpl_tree.specs.declared.statement.NextArgument.{NextArgument}
 use Rattle.dpl_tree.specs.declared.statement.NextIntent.{NextIntent}
 use Rattle.dpl_tree.specs.Statements.{argument_view, intent_view}
-use Rattle.dpl_types.specs.declared.value_type.ValueType.{ValueType as TypeNode}
-use Rattle.dpl_types.specs.View.{type_view, of_type}
+use Rattle.dpl_scopes.specs.declared.value_type.ValueType.{ValueType as TypeNode}
+use Rattle.dpl_scopes.specs.Types.{type_view, of_type}
 use Rattle.dpl_scopes.specs.declared.declared.Declared.{Declared as DeclaredNode}
 use Rattle.dpl_scopes.specs.View.{declared_view}
 use Rattle.dpl_words.specs.Words.{IntLeaf, TruthLeaf, RangeLeaf}

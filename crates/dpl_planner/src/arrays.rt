@@ -11,7 +11,7 @@ ghost use Rattle.dpl_tree.specs.View.{item_view, items_view};
 ghost use Rattle.dpl_tree.specs.Declarations.{optional, typed_view as written_type_view, initial_view as written_initial_view, array_type_view, declare_view};
 ghost use Rattle.dpl_rules.specs.Declarations.{declared_by};
 ghost use Rattle.dpl_rules.specs.Expressions.{item_parts};
-ghost use Rattle.dpl_types.specs.View.{type_view, of_type};
+ghost use Rattle.dpl_scopes.specs.Types.{type_view, of_type};
 ghost use Rattle.dpl_lowered.specs.LoweredStatements.{written_initial};
 ghost use Rattle.dpl_memory.specs.Memory.{VariableKind, ArrayKind};
 ghost use Rattle.dpl_nodes.specs.Spots.{IsNear};
@@ -34,12 +34,11 @@ use crate::progress::{Plan, node, spot};
 use dpl_forms::declaration::declaration;
 use dpl_nodes::step::{Initial as Begun, Over as Between};
 use dpl_nodes::{ArrayDeclaration, DomainExpr, RangeExpr, RangesExpr, Spot, Step, Stop};
-use dpl_scopes::{Declared, Scopes};
+use dpl_scopes::{Declared, Scopes, ValueType};
 use dpl_syntax::Place;
 use dpl_tree::{Arena, ArrayType, Declare, Init, Initial, Item, Items, ScalarKind};
 use dpl_typer::parts::parts;
 use dpl_typer::{Parts, Typed, item};
-use dpl_types::ValueType;
 
 /// The declaration, as the check has it.
 ///

@@ -10,7 +10,7 @@ ghost use Rattle.dpl_tree.specs.Words.{assign_view, op_view};
 ghost use Rattle.dpl_tree.specs.View.{name_view, item_view};
 ghost use Rattle.dpl_tree.specs.Statements.{target_view, sign_view};
 ghost use Rattle.dpl_rules.specs.Types.{ValueType as ValueTypeTree, range_of};
-ghost use Rattle.dpl_types.specs.View.{type_view, of_type};
+ghost use Rattle.dpl_scopes.specs.Types.{type_view, of_type};
 ghost use Rattle.dpl_scopes.specs.Slots.{slot_in};
 ghost use Rattle.dpl_lowered.specs.Shapes.{kept};
 ghost use Rattle.dpl_lowered.specs.LoweredExpressions.{Once};
@@ -33,11 +33,10 @@ use crate::overs::arrays_over;
 use crate::progress::{Plan, Reducing, node, spot};
 use dpl_nodes::step::DomainName;
 use dpl_nodes::{BoolExpr, DomainExpr, IntDeed, IntExpr, Step, Stop, TruthDeed};
-use dpl_scopes::Scopes;
+use dpl_scopes::{Scopes, ValueType};
 use dpl_syntax::Place;
 use dpl_tree::{Arena, Assign, AssignSign, Assignment, Item, Name, Op, ScalarKind, Target};
 use dpl_typer::{Typed, item};
-use dpl_types::ValueType;
 use dpl_typing::expression::item as item_type;
 
 /// Whether a variable of a type holds the values of an expression.

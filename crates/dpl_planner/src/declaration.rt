@@ -8,7 +8,7 @@ ghost use Rattle.dpl_tree.specs.Words.{kind_view};
 ghost use Rattle.dpl_tree.specs.View.{items_view};
 ghost use Rattle.dpl_tree.specs.Declarations.{optional, typed_view as written_type_view, created_view, init_view, initial_view, domain_type_view, array_type_view, declare_view};
 ghost use Rattle.dpl_rules.specs.Declarations.{declared_by};
-ghost use Rattle.dpl_types.specs.View.{type_view, of_type};
+ghost use Rattle.dpl_scopes.specs.Types.{type_view, of_type};
 ghost use Rattle.dpl_lowered.specs.Shapes.{nowhere};
 ghost use Rattle.dpl_lowered.specs.LoweredStatements.{unplaced_word};
 ghost use Rattle.dpl_memory.specs.Memory.{VariableKind, DomainKind, variable};
@@ -32,7 +32,7 @@ use crate::progress::Plan;
 use dpl_nodes::step::Rank;
 use dpl_nodes::{IntDeed, Placing, Step, Stop, TruthDeed};
 use dpl_placing::root_of;
-use dpl_scopes::Scopes;
+use dpl_scopes::{Scopes, ValueType};
 use dpl_syntax::Place;
 use dpl_tree::{
     Arena, ArrayType, Create, Declare, DeclaredType, DomainType, Init, Initial, ScalarKind,
@@ -41,7 +41,6 @@ use dpl_tree::{
 use dpl_typer::created::created;
 use dpl_typer::leaves::{number, truth_word};
 use dpl_typer::{Typed, item};
-use dpl_types::ValueType;
 use dpl_types::range::over;
 use dpl_typing::expression::items;
 

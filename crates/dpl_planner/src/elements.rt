@@ -7,7 +7,7 @@ ghost use Rattle.dpl_tree.specs.Words.{kind_view, assign_view};
 ghost use Rattle.dpl_tree.specs.View.{name_view, item_view};
 ghost use Rattle.dpl_tree.specs.Statements.{sign_view};
 ghost use Rattle.dpl_rules.specs.Expressions.{item_type as item_type_of};
-ghost use Rattle.dpl_types.specs.View.{type_view};
+ghost use Rattle.dpl_scopes.specs.Types.{type_view};
 ghost use Rattle.dpl_scopes.specs.Slots.{slot_in};
 ghost use Rattle.dpl_lowered.specs.LoweredExpressions.{Once, EachTurn};
 ghost use Rattle.dpl_words.specs.Words.{IntLeaf, TruthLeaf};
@@ -29,12 +29,11 @@ ghost use Rattle.dpl_planner.specs.Plans.{intents_in, PlansStmt};
 use crate::change::declared_type;
 use crate::progress::{Plan, node, spot};
 use dpl_nodes::{ArrayName, BoolExpr, IndexExpr, IntExpr, PromotedInt, PromotedTruth, Step, Stop};
-use dpl_scopes::Scopes;
+use dpl_scopes::{Scopes, ValueType};
 use dpl_syntax::Place;
 use dpl_tree::{Arena, Assign, AssignSign, Element, Item, Name, ScalarKind};
 use dpl_typer::parts::index;
 use dpl_typer::{Typed, item};
-use dpl_types::ValueType;
 use dpl_typing::expression::item as item_type;
 
 /// What each element is given, evaluated at each index.

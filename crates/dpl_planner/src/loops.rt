@@ -8,7 +8,7 @@ ghost use Rattle.dpl_tree.specs.Words.{op_view};
 ghost use Rattle.dpl_tree.specs.View.{expr_view, item_view};
 ghost use Rattle.dpl_tree.specs.Declarations.{optional};
 ghost use Rattle.dpl_tree.specs.Statements.{variables_view, intent_view, with_view};
-ghost use Rattle.dpl_types.specs.View.{type_view};
+ghost use Rattle.dpl_scopes.specs.Types.{type_view};
 ghost use Rattle.dpl_rules.specs.Sights.{enter};
 ghost use Rattle.dpl_rules.specs.Expressions.{item_type};
 ghost use Rattle.dpl_rules.specs.Loops.{variables_of};
@@ -31,12 +31,11 @@ use crate::progress::{Plan, Reducing, list, push};
 use dpl_forms::head::{LoopWord, head};
 use dpl_nodes::step::Names;
 use dpl_nodes::{BoolExpr, DomainExpr, Intent as Reduced, RangeExpr, Stop};
-use dpl_scopes::{Scopes, Sort};
+use dpl_scopes::{Scopes, Sort, ValueType};
 use dpl_tree::{
     Arena, Expr, Intent, Item, Name, NextIntent, NextName, Op, ScalarKind, Variables, With,
 };
 use dpl_typer::{Typed, expression, item};
-use dpl_types::ValueType;
 
 /// What a loop runs over.
 #[derive(Clone, Copy)]

@@ -3,7 +3,7 @@
 
 ghost use Rattle.std.specs.Prelude.{◌≡◌, ◌≢◌, ◌≤◌, ◌+◌, [], length, insert, is_some, option_map, IfOk, OnOk, Err};
 ghost use Rattle.dpl_rules.specs.Sights.{enter as enter_scopes, add};
-ghost use Rattle.dpl_types.specs.View.{origin_view, type_view, of_type};
+ghost use Rattle.dpl_scopes.specs.Types.{origin_view, type_view, of_type};
 ghost use Rattle.dpl_scopes.specs.View.{declared_view};
 ghost use Rattle.dpl_memory.specs.Resolved.{is_over as is_over_of, arrays_over as arrays_over_of};
 ghost use Rattle.dpl_nodes.specs.declared.stop.Stop.TheVariants as stop;
@@ -14,9 +14,8 @@ ghost use Rattle.dpl_planner.specs.Overs.{slot_of_bound, IsFoundBy, passed, IsAs
 use crate::change::declared_type;
 use crate::progress::list;
 use dpl_nodes::Stop;
-use dpl_scopes::{Declared, Mark, Scopes};
+use dpl_scopes::{Declared, Mark, Scopes, ValueType};
 use dpl_tree::Arena;
-use dpl_types::ValueType;
 use std::alloc::Global;
 
 // The scopes so far, and the arrays over a domain in them, of which those of the innermost scope come first.

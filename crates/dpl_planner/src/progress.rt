@@ -4,7 +4,7 @@
 ghost use Rattle.std.specs.Prelude.{◌≡◌, ◌≢◌, ◌≤◌, ◌<◌, ◌++◌, ◌∷◌, [], drop, true, false, Err, Some, OnOk, IfOk};
 ghost use Rattle.dpl_rules.specs.Sights.{enter as enter_scopes, add, declared_here, origin_in};
 ghost use Rattle.dpl_rules.specs.Breaches.{top};
-ghost use Rattle.dpl_types.specs.View.{type_view};
+ghost use Rattle.dpl_scopes.specs.Types.{type_view};
 ghost use Rattle.dpl_scopes.specs.Slots.{next_slot_in};
 ghost use Rattle.dpl_scopes.specs.View.{sort_view};
 ghost use Rattle.dpl_nodes.specs.Spots.{IsNear};
@@ -13,10 +13,9 @@ ghost use Rattle.dpl_planner.specs.Plans.{IsPlacedAs};
 
 use dpl_nodes::{Intent, MapExpr, Placing, Spot, Stop};
 use dpl_placing::Root;
-use dpl_scopes::{Scopes, Sort};
+use dpl_scopes::{Scopes, Sort, ValueType};
 use dpl_syntax::Place;
 use dpl_tree::Arena;
-use dpl_types::ValueType;
 
 /// A reduce variable of the forall around: its name, and its kind, its slot and its operator.
 #[derive(Clone, Copy)]

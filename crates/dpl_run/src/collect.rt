@@ -3,7 +3,7 @@
 
 ghost use Rattle.std.specs.Prelude.{◌≡◌, ◌++◌, IfOk, OnOk, map, IfSome, IfNone};
 ghost use Rattle.dpl_tree.specs.Statements.{stmt_view, stmts_of};
-ghost use Rattle.dpl_types.specs.View.{type_view};
+ghost use Rattle.dpl_scopes.specs.Types.{type_view};
 ghost use Rattle.dpl_memory.specs.Memory.{int_leaf};
 ghost use Rattle.dpl_scopes.specs.Slots.{slot_in};
 ghost use Rattle.dpl_typer.specs.Leaves.{type_in};
@@ -12,9 +12,8 @@ ghost use Rattle.dpl_run.specs.Names.{declared_by, declared_names};
 
 use crate::left::{Kept, Left, Named};
 use dpl_frame::Frame;
-use dpl_scopes::Scopes;
+use dpl_scopes::{Scopes, ValueType};
 use dpl_tree::{ScalarKind, Stmt};
-use dpl_types::ValueType;
 use std::alloc::{AllocError, Global};
 
 // What a slot holds for a type. What has no slot of its own counts as the int in the first one.

@@ -11,9 +11,8 @@ use dpl_loop::OpenGate;
 use dpl_parser::parse;
 use dpl_planner::{Planned, plan};
 use dpl_program::run as run_steps;
-use dpl_scopes::Scopes;
+use dpl_scopes::{Scopes, ValueType};
 use dpl_tree::Arena;
-use dpl_types::ValueType;
 use std::alloc::Global;
 use std::test::Fail;
 

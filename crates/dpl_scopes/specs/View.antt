@@ -1,7 +1,7 @@
 -- The declarations that those in memory stand for.
 -- A declaration's name is its text.
 use Rattle.dpl_rules.specs.Sights.{Sort, Configured, Constant, Variable, LoopVariable, Declared}
-use Rattle.dpl_types.specs.View.{origin_view, of_type}
+use Rattle.dpl_scopes.specs.Types.{origin_view, of_type}
 use Rattle.dpl_scopes.specs.declared.declared.Sort.{Sort as SortNode}
 use Rattle.dpl_scopes.specs.declared.declared.Sort.TheVariants as node
 use Rattle.dpl_scopes.specs.declared.declared.Declared.{Declared as DeclaredNode}

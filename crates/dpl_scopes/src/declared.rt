@@ -5,7 +5,7 @@ ghost use Rattle.std.specs.Prelude.{◌≡◌};
 ghost use Rattle.dpl_rules.specs.Sights.{is_constant};
 ghost use Rattle.dpl_scopes.specs.View.{sort_view};
 
-use dpl_types::{Origin, ValueType};
+use crate::{Origin, ValueType};
 
 /// How a name is declared.
 #[derive(Clone, Copy)]

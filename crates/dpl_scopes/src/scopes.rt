@@ -3,13 +3,12 @@
 
 ghost use Rattle.std.specs.Prelude.{◌≡◌, OnOk, OnErr, IfOk, [], ◌∷◌, length, drop, reverse, slice_get, option_map};
 ghost use Rattle.dpl_rules.specs.Sights.{Declared as Declaration, lookup, declared_here, enter, add, origin_in};
-ghost use Rattle.dpl_types.specs.View.{of_type};
+ghost use Rattle.dpl_scopes.specs.Types.{of_type};
 ghost use Rattle.dpl_scopes.specs.Marks.{unmarked_by, scopes_by, AreKept};
 ghost use Rattle.dpl_scopes.specs.Slots.{next_slot_in, slot_in};
 ghost use Rattle.dpl_scopes.specs.View.{sort_view, declared_view};
 
-use crate::{Declared, Sort};
-use dpl_types::{Origin, ValueType};
+use crate::{Declared, Origin, Sort, ValueType};
 use indexmap::IndexMap;
 use std::alloc::{AllocError, Global};
 use std::marker::Model;

@@ -1,8 +1,7 @@
 // Rows of names in sight, on the built code: names that hide others, scopes that are closed, and as many of both as there may be.
 
-use crate::{Scopes, Sort};
+use crate::{Scopes, Sort, ValueType};
 use dpl_tree::ScalarKind;
-use dpl_types::ValueType;
 use std::alloc::AllocError;
 use std::process::Abort;
 use std::test::Fail;

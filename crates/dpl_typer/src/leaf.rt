@@ -3,7 +3,7 @@
 
 ghost use Rattle.std.specs.Prelude.{◌≡◌, IfOk, None, Some, Err};
 ghost use Rattle.dpl_tree.specs.View.{name_view};
-ghost use Rattle.dpl_types.specs.View.{type_view, of_type};
+ghost use Rattle.dpl_scopes.specs.Types.{type_view, of_type};
 ghost use Rattle.dpl_lowered.specs.LoweredExpressions.{Times};
 ghost use Rattle.dpl_nodes.specs.Spots.{IsNear};
 ghost use Rattle.dpl_typer.specs.Makers.{typed_view, kind_of};
@@ -16,10 +16,9 @@ use crate::leaves::{
 };
 use crate::make::Typed;
 use dpl_nodes::Stop;
-use dpl_scopes::Scopes;
+use dpl_scopes::{Scopes, ValueType};
 use dpl_syntax::Place;
 use dpl_tree::{Arena, Name, ScalarKind};
-use dpl_types::ValueType;
 
 // The variable of a type, in a slot.
 fn variable<'t>(

@@ -6,7 +6,7 @@ use Rattle.dpl_rules.specs.Types.{ValueType, is_int, is_bool, is_scalar, is_any_
 use Rattle.dpl_rules.specs.Declarations.{is_kept}
 use Rattle.dpl_types.specs.declared.want.Want.{Want}
 use Rattle.dpl_types.specs.declared.want.Want.TheVariants as want
-use Rattle.dpl_types.specs.View.{over_view}
+use Rattle.dpl_scopes.specs.Types.{over_view}
 
 abbrev pub takes : Want → ValueType → Bool
 takes want.Nothing t = false

@@ -3,9 +3,9 @@
 
 ghost use Rattle.std.specs.Prelude.{◌≡◌};
 ghost use Rattle.dpl_rules.specs.Types.{has, is_array as is_array_type, is_cell as is_cell_type, is_domain as is_domain_type};
-ghost use Rattle.dpl_types.specs.View.{of_type};
+ghost use Rattle.dpl_scopes.specs.Types.{of_type};
 
-use crate::value_type::ValueType;
+use dpl_scopes::value_type::ValueType;
 
 /// Whether there is a type, and it is an array.
 pub fn is_array(found: Option<ValueType<'_>>) -> bool

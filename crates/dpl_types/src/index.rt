@@ -8,14 +8,15 @@ ghost use Rattle.dpl_rules.specs.Operators.{slice_breaches as slice_breaches_of,
 ghost use Rattle.dpl_rules.specs.Operators.{round_verdict};
 ghost use Rattle.dpl_rules.specs.Types.{AllLocales};
 ghost use Rattle.dpl_rules.specs.Verdicts.{with_type};
-ghost use Rattle.dpl_types.specs.View.{type_view, of_type, part_view};
+ghost use Rattle.dpl_scopes.specs.Types.{type_view, of_type};
+ghost use Rattle.dpl_types.specs.View.{part_view};
 ghost use Rattle.dpl_types.specs.Judges.{Judges, Owes};
 
 use crate::breach::owed;
 use crate::part::{Part, all_known, each_wanted};
-use crate::value_type::ValueType;
 use crate::verdict::{judged, mistyped, wrong_rank};
 use crate::want::Want;
+use dpl_scopes::value_type::ValueType;
 use dpl_syntax::{Breach, Code, Place};
 use dpl_tree::ScalarKind;
 

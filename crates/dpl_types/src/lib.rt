@@ -9,11 +9,9 @@ pub mod method;
 pub mod operator;
 pub mod part;
 pub mod range;
-pub mod value_type;
 pub mod verdict;
 pub mod want;
 
 pub use breach::{note, owed, tell};
 pub use part::Part;
-pub use value_type::{Operand, Origin, Over, ValueType};
 pub use want::Want;

@@ -8,15 +8,16 @@ ghost use Rattle.dpl_language.specs.Phrases.{natural};
 ghost use Rattle.dpl_rules.specs.Types.{an_int, is_int, domain_of};
 ghost use Rattle.dpl_rules.specs.Operators.{index_rank as index_rank_of, word_verdict, dim_verdict, contains_verdict, expand_verdict};
 ghost use Rattle.dpl_rules.specs.Verdicts.{with_type, has_if as has_if_of, owed as owed_of, wanted as wanted_of};
-ghost use Rattle.dpl_types.specs.View.{type_view, of_type, part_view};
+ghost use Rattle.dpl_scopes.specs.Types.{type_view, of_type};
+ghost use Rattle.dpl_types.specs.View.{part_view};
 ghost use Rattle.dpl_types.specs.Judges.{Judges, Owes};
 
 use crate::breach::owed;
 use crate::index::index;
 use crate::part::{Part, all_known, wanted};
-use crate::value_type::ValueType;
 use crate::verdict::{has_if, judged, misranked, mistyped};
 use crate::want::Want;
+use dpl_scopes::value_type::ValueType;
 use dpl_syntax::{Breach, Code, Place};
 use dpl_tree::{ScalarKind, Word};
 

@@ -5,11 +5,11 @@ ghost use Rattle.std.specs.Prelude.{◌≡◌, option_map};
 ghost use Rattle.dpl_tree.specs.Words.{kind_view, prefix_view, infix_view, op_view};
 ghost use Rattle.dpl_rules.specs.Operators.{over_arrays as over_arrays_of, prefix_kind as prefix_kind_of, prefix_verdict, reduction_verdict};
 ghost use Rattle.dpl_rules.specs.Operators.{over_both as over_both_of, agree as agree_of, between as between_of, alike as alike_of, infix_verdict};
-ghost use Rattle.dpl_types.specs.View.{over_view, type_view, operand_view, of_type};
+ghost use Rattle.dpl_scopes.specs.Types.{over_view, type_view, operand_view, of_type};
 ghost use Rattle.dpl_types.specs.Judges.{Judges};
 
-use crate::value_type::{Operand, Over, ValueType, is_same_kind, kind_of};
 use crate::verdict::{has_if, mistyped};
+use dpl_scopes::value_type::{Operand, Over, ValueType, is_same_kind, kind_of};
 use dpl_syntax::{Breach, Place};
 use dpl_tree::{Infix, Op, Prefix, ScalarKind};
 

@@ -5,13 +5,14 @@ ghost use Rattle.std.specs.Prelude.{◌≡◌, is_some, map};
 ghost use Rattle.dpl_rules.specs.Types.{has};
 ghost use Rattle.dpl_rules.specs.Operators.{is_strided_range, any_strided as any_strided_of};
 ghost use Rattle.dpl_rules.specs.Verdicts.{owed_type as owed_type_of, wanted as wanted_of, each_wanted as each_wanted_of, all_known as all_known_of};
-ghost use Rattle.dpl_types.specs.View.{of_type, part_view};
+ghost use Rattle.dpl_scopes.specs.Types.{of_type};
+ghost use Rattle.dpl_types.specs.View.{part_view};
 ghost use Rattle.dpl_types.specs.Wants.{takes};
 ghost use Rattle.dpl_types.specs.Judges.{Owes};
 
 use crate::breach::owed;
-use crate::value_type::ValueType;
 use crate::want::Want;
+use dpl_scopes::value_type::ValueType;
 use dpl_syntax::{Breach, Code, Place};
 
 /// A part of a form: its first token, and its type if it has one.

@@ -10,9 +10,9 @@ ghost use Rattle.dpl_types.specs.Judges.{Judges, Owes};
 
 use crate::breach::owed;
 use crate::part::{Part, all_known, any_strided, each_wanted};
-use crate::value_type::ValueType;
 use crate::verdict::judged;
 use crate::want::Want;
+use dpl_scopes::value_type::ValueType;
 use dpl_syntax::{Breach, Code, Place};
 
 /// A range, by its ends, or its low end and its count, and its stride if it has one: ints.

@@ -4,11 +4,11 @@
 ghost use Rattle.std.specs.Prelude.{◌≡◌};
 ghost use Rattle.dpl_syntax.specs.declared.refusal.Code.TheVariants.{WrongRank as WrongRankCode};
 ghost use Rattle.dpl_rules.specs.Verdicts.{breach as breach_of, has_if as has_if_of, mistyped as mistyped_of, misranked as misranked_of, type_by};
-ghost use Rattle.dpl_types.specs.View.{type_view, of_type};
+ghost use Rattle.dpl_scopes.specs.Types.{type_view, of_type};
 ghost use Rattle.dpl_types.specs.Judges.{Judges, Owes, judged_type};
 
 use crate::breach::note;
-use crate::value_type::ValueType;
+use dpl_scopes::value_type::ValueType;
 use dpl_syntax::{Breach, Code, Place};
 
 /// Tells that a type isn't taken.

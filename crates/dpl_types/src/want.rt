@@ -4,10 +4,10 @@
 ghost use Rattle.std.specs.Prelude.{◌≡◌, option_map};
 ghost use Rattle.dpl_tree.specs.Words.{kind_view};
 ghost use Rattle.dpl_rules.specs.Types.{is_scalar, is_domain_of, fits_array};
-ghost use Rattle.dpl_types.specs.View.{over_view, type_view};
+ghost use Rattle.dpl_scopes.specs.Types.{over_view, type_view};
 ghost use Rattle.dpl_types.specs.Wants.{takes};
 
-use crate::value_type::{Over, ValueType, is_same_kind};
+use dpl_scopes::value_type::{Over, ValueType, is_same_kind};
 use dpl_tree::ScalarKind;
 
 /// What a place in a form takes.

@@ -15,9 +15,10 @@ use Rattle.dpl_rules.specs.Sights.{Scopes}
 use Rattle.dpl_rules.specs.Operators.{infix_verdict}
 use Rattle.dpl_rules.specs.Expressions.{type_of, post_verdict, post_breaches, method_verdict, method_breaches}
 use Rattle.dpl_rules.specs.Breaches.{least_from}
-use Rattle.dpl_types.specs.declared.value_type.ValueType.{ValueType as TypeNode}
+use Rattle.dpl_scopes.specs.declared.value_type.ValueType.{ValueType as TypeNode}
 use Rattle.dpl_types.specs.declared.part.Part.{Part as PartNode}
-use Rattle.dpl_types.specs.View.{of_type, part_view}
+use Rattle.dpl_scopes.specs.Types.{of_type}
+use Rattle.dpl_types.specs.View.{part_view}
 
 -- a type, and the first of a breach that was told before and these
 abbrev pub Tells : Option ValueType → List Breach → Option TypeNode → Option Breach → Option Breach → Type 0

@@ -9,23 +9,24 @@ ghost use Rattle.dpl_rules.specs.Expressions.{bare_locales, locales_or, none_whe
 ghost use Rattle.dpl_rules.specs.Expressions.{item_parts, more_item_parts, expr_parts, more_expr_parts};
 ghost use Rattle.dpl_rules.specs.Expressions.{expr_breaches, item_breaches, chain_breaches, posts_breaches, items_breaches};
 ghost use Rattle.dpl_rules.specs.Expressions.{more_items_breaches, exprs_breaches, more_exprs_breaches};
-ghost use Rattle.dpl_types.specs.View.{of_type, part_view};
+ghost use Rattle.dpl_scopes.specs.Types.{of_type};
+ghost use Rattle.dpl_types.specs.View.{part_view};
 ghost use Rattle.dpl_types.specs.Judges.{Judges};
 ghost use Rattle.dpl_typing.specs.Told.{range_view, link_verdict, post_told, called, called_told, Tells, TellsPart, TellsParts};
 
 use crate::name::named;
 use crate::place::{first_of, first_of_item, last_of, last_of_post};
-use dpl_scopes::Scopes;
+use dpl_scopes::{Scopes, ValueType};
 use dpl_syntax::{Breach, Place};
 use dpl_tree::{
     Expr, Exprs, Item, Items, Link, Method, NextExpr, NextItem, Post, Range, ScalarKind, Stride,
 };
+use dpl_types::Part;
 use dpl_types::index::{round, square};
 use dpl_types::method::{contains, dim, expand, word};
 use dpl_types::operator::{infix, prefix, reduction};
 use dpl_types::range::{range, ranges};
 use dpl_types::verdict::mistyped;
-use dpl_types::{Part, ValueType};
 use std::alloc::{AllocError, Global};
 
 /// A type, or out of memory.

@@ -6,10 +6,10 @@ ghost use Rattle.dpl_rules.specs.Sights.{lookup};
 ghost use Rattle.dpl_rules.specs.Expressions.{name_verdict};
 ghost use Rattle.dpl_types.specs.Judges.{Judges};
 
-use dpl_scopes::Scopes;
+use dpl_scopes::{Scopes, ValueType};
 use dpl_syntax::{Breach, Code};
 use dpl_tree::Name;
-use dpl_types::{ValueType, note};
+use dpl_types::note;
 
 /// A name that is read.
 pub fn named<'t>(

@@ -7,7 +7,7 @@ use Rattle.dpl_rules.specs.Verdicts.{type_by, broken_by}
 use Rattle.dpl_rules.specs.Places.{first_of, last_of, last_of_posts}
 use Rattle.dpl_rules.specs.Declarations.{domain_in}
 use Rattle.dpl_rules.specs.Maps.{int_start}
-use Rattle.dpl_types.specs.View.{of_type}
+use Rattle.dpl_scopes.specs.Types.{of_type}
 use Rattle.dpl_forms.specs.Starts.{low_at, low_told}
 use Rattle.dpl_forms.proofs.Starts.{typed_start_domain, typed_start_plain, plain_start_push}
 use Rattle.dpl_forms.proofs.map.low_start.Goals as goal

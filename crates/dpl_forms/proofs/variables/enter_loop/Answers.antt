@@ -4,7 +4,7 @@ use Rattle.dpl_tree.specs.Statements.{variables_view}
 use Rattle.dpl_rules.specs.Breaches.{least_from}
 use Rattle.dpl_rules.specs.Sights.{enter}
 use Rattle.dpl_rules.specs.Loops.{add_variables, each_once, variables_once}
-use Rattle.dpl_types.specs.View.{of_type}
+use Rattle.dpl_scopes.specs.Types.{of_type}
 use Rattle.dpl_forms.specs.Heads.{names_in}
 use Rattle.dpl_forms.proofs.Heads.{names_next}
 use Rattle.dpl_forms.proofs.Once.{variables_begin}

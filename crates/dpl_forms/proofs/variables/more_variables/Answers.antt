@@ -1,5 +1,5 @@
 use Rattle.std.proofs.Common.{◌∙◌}
-use Rattle.dpl_types.specs.View.{of_type}
+use Rattle.dpl_scopes.specs.Types.{of_type}
 use Rattle.dpl_forms.proofs.Once.{variables_step}
 use Rattle.dpl_forms.proofs.variables.more_variables.Goals as goal
 

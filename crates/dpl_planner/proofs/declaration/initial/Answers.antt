@@ -3,7 +3,7 @@
 use Rattle.std.proofs.Common.{rules, ◌≡◌, Err, sym, subst}
 use Rattle.dpl_language.specs.Declarations.{type_of}
 use Rattle.dpl_tree.specs.Declarations.{optional, typed_view, initial_view}
-use Rattle.dpl_types.specs.View.{type_view}
+use Rattle.dpl_scopes.specs.Types.{type_view}
 use Rattle.dpl_memory.specs.Memory.{VariableKind}
 use Rattle.dpl_nodes.specs.declared.stop.Stop.TheVariants as stop
 use Rattle.dpl_typer.specs.Makers.{kind_of}

@@ -1,7 +1,7 @@
 -- Each is declared behind those before it, with the next slot.
 use Rattle.std.proofs.Common.{rules, ◌≡◌, ◌+◌, [], Some, drop, sym, subst, Err}
 use Rattle.dpl_syntax.proofs.Walks.{drop-end}
-use Rattle.dpl_types.specs.View.{type_view}
+use Rattle.dpl_scopes.specs.Types.{type_view}
 use Rattle.dpl_forms.specs.Heads.{names_in}
 use Rattle.dpl_nodes.specs.declared.stop.Stop.TheVariants as stop
 use Rattle.dpl_planner.specs.Parts.{AreFresh, AreDeclared, StillDeclared}

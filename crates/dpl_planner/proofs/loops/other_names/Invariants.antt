@@ -1,7 +1,7 @@
 -- What is planned of those so far and of those that are left is planned of all.
 -- Where all are new in the scope, those that are left are.
 use Rattle.std.proofs.Common.{Some, drop}
-use Rattle.dpl_types.specs.View.{type_view}
+use Rattle.dpl_scopes.specs.Types.{type_view}
 use Rattle.dpl_forms.specs.Heads.{names_in}
 use Rattle.dpl_planner.specs.Parts.{AreFresh, StillDeclared}
 use Rattle.dpl_planner.proofs.loops.other_names.Given as goal

@@ -8,7 +8,7 @@ use Rattle.dpl_memory.specs.Resolved.{variable_of}
 use Rattle.dpl_tree.specs.View.{expr_view, item_view}
 use Rattle.dpl_tree.specs.Declarations.{optional}
 use Rattle.dpl_tree.specs.Statements.{variables_view, with_view, stmt_view, body_view, else_view, stmts_of}
-use Rattle.dpl_types.specs.View.{type_view}
+use Rattle.dpl_scopes.specs.Types.{type_view}
 use Rattle.dpl_rules.specs.Loops.{ForWord, ForallWord}
 use Rattle.dpl_tree.proofs.StatementFields.{stmt_view_block, body_view_block}
 use Rattle.dpl_typer.specs.Sights.{bound_in}

@@ -2,7 +2,7 @@ use Rattle.std.proofs.Common.{sym, ap, ◌∙◌}
 use Rattle.dpl_typer.specs.Leaves.{kind_by}
 use Rattle.dpl_typer.specs.Makers.{kind_of}
 use Rattle.dpl_typer.proofs.Names.{if_ok, kind_in-unsighted}
-use Rattle.dpl_types.specs.View.{of_type}
+use Rattle.dpl_scopes.specs.Types.{of_type}
 use Rattle.dpl_typer.proofs.leaf.named.Goals as goal
 
 -- a name without a slot is not in sight

@@ -1,5 +1,5 @@
 use Rattle.std.proofs.Common.{◌∙◌}
-use Rattle.dpl_types.specs.View.{of_type}
+use Rattle.dpl_scopes.specs.Types.{of_type}
 use Rattle.dpl_typing.proofs.Steps.{links_step, posts_step, items_step, exprs_step}
 use Rattle.dpl_typing.proofs.expression.+expression.Goals as goal
 

@@ -3,7 +3,8 @@ use Rattle.dpl_tree.specs.View.{links_of, posts_of, more_items_of, more_exprs_of
 use Rattle.dpl_rules.specs.Breaches.{least_from}
 use Rattle.dpl_rules.specs.Expressions.{chain_type, posts_type, more_item_parts, more_expr_parts}
 use Rattle.dpl_rules.specs.Expressions.{chain_breaches, posts_breaches, more_items_breaches, more_exprs_breaches}
-use Rattle.dpl_types.specs.View.{of_type, part_view}
+use Rattle.dpl_scopes.specs.Types.{of_type}
+use Rattle.dpl_types.specs.View.{part_view}
 use Rattle.dpl_typing.proofs.expression.+expression.Given as goal
 
 -- what is left gives and tells what all gave and told at first

@@ -1,5 +1,5 @@
 use Rattle.std.proofs.Common.{ap, ◌∙◌}
-use Rattle.dpl_types.specs.View.{origin_view}
+use Rattle.dpl_scopes.specs.Types.{origin_view}
 use Rattle.dpl_rules.specs.Bodies.{is_in}
 use Rattle.dpl_bodies.proofs.Keys.{list_any-keys}
 use Rattle.dpl_bodies.proofs.written.Written.has.Goals as goal

@@ -1,5 +1,5 @@
 use Rattle.std.proofs.Common.{map, ap, ◌∙◌}
-use Rattle.dpl_types.specs.View.{origin_view}
+use Rattle.dpl_scopes.specs.Types.{origin_view}
 use Rattle.dpl_bodies.specs.Written.{key_origin, with_origin}
 use Rattle.dpl_bodies.proofs.Keys.{map-insert_key}
 use Rattle.dpl_bodies.proofs.written.Written.put.Goals as goal

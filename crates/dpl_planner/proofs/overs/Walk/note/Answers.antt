@@ -1,7 +1,7 @@
 -- An array over the domain is found behind those of its scope; anything else changes nothing.
 use Rattle.std.proofs.Common.{rules, ◌≡◌, true, false, Some, sym, ap, ◌∙◌}
 use Rattle.std.specs.Prelude.{insert}
-use Rattle.dpl_types.specs.View.{of_type}
+use Rattle.dpl_scopes.specs.Types.{of_type}
 use Rattle.dpl_scopes.specs.View.{declared_view}
 use Rattle.dpl_typer.specs.Leaves.{kind_by, leaf_by}
 use Rattle.dpl_planner.proofs.FoundArrays.{found-array, found-other, on_both}

@@ -6,7 +6,7 @@ ghost use Rattle.dpl_tree.specs.Words.{kind_view, op_view};
 ghost use Rattle.dpl_rules.specs.Types.{same_kind, same_origin, scalar_of, range_of, domain_of, array_of, tuple_of, cell_of, operand_of};
 ghost use Rattle.dpl_rules.specs.Types.{is_scalar, is_int, is_bool, is_any_scalar, is_range, is_domain, is_array, is_cell, is_locale, is_all_locales};
 ghost use Rattle.dpl_rules.specs.Types.{is_plain_range, is_domain_of, fits_array, agrees, op_kind};
-ghost use Rattle.dpl_types.specs.View.{origin_view, over_view, type_view, operand_view, array_view};
+ghost use Rattle.dpl_scopes.specs.Types.{origin_view, over_view, type_view, operand_view, array_view};
 
 use dpl_tree::{Op, ScalarKind};
 
