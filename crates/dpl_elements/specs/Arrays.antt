@@ -11,14 +11,14 @@ use Rattle.dpl_language.specs.Expressions.{whole_in}
 use Rattle.dpl_language.specs.Assignments.{assign_array}
 use Rattle.dpl_language.specs.Declarations.{Shell, array_of, array_of_item}
 use Rattle.dpl_memory.specs.Memory.{ArrayKind, Variable, variable, Memory, in_memory}
-use Rattle.dpl_nodes.specs.declared.step.Over.{Over}
+use Rattle.dpl_nodes.specs.declared.step.DeclaredOver.{DeclaredOver}
 use Rattle.dpl_nodes.specs.declared.step.ArrayDeclaration.{ArrayDeclaration}
 use Rattle.dpl_nodes.specs.declared.step.ArrayName.{ArrayName}
 use Rattle.dpl_nodes.specs.Steps.{placed_leaf, array_leaf, over_items}
 use Rattle.dpl_elements.specs.Changes.{signed}
 
 -- an array that is declared, but for its elements
-abbrev pub shell_over : Over → Kind → List TextRange → Shell Variable
+abbrev pub shell_over : DeclaredOver → Kind → List TextRange → Shell Variable
 shell_over over kind rs = record { over = declared_over (over_items over); kind = kind; ranges = rs }
 
 abbrev pub array_declared_as : Kind → ArrayDeclaration → Placed Variable

@@ -3,7 +3,7 @@
 use Rattle.std.proofs.Common.{◌≡◌, Bool, true, false, not, List, [], ◌∷◌, ◌++◌, refl}
 use Rattle.dpl_grammar.specs.Classes.{Class, apart, within}
 use Rattle.dpl_grammar.specs.Rule.{Names, Grammar}
-use Rattle.dpl_grammar.specs.Reading.{Shape, shape_late, late, Fault, GoesOn, BeginsAlike, MayBeEmpty, Unnamed, Misnamed, shared, lacking, unless, empty_faults, then_faults, extend_faults, either_faults, many_faults, late_faults, unnamed_faults, below_faults}
+use Rattle.dpl_grammar.specs.Reading.{RuleForm, shape_late, late, Fault, GoesOn, BeginsAlike, MayBeEmpty, Unnamed, Misnamed, shared, lacking, unless, empty_faults, then_faults, extend_faults, either_faults, many_faults, late_faults, unnamed_faults, below_faults}
 
 pub no_one : (a b : List Fault) → a ++ b ≡ [] → a ≡ []
 no_one [] b h = refl
@@ -24,7 +24,7 @@ not_none : (b : Bool) → unless (not b) MayBeEmpty ≡ [] → b ≡ false
 not_none true h = absurd cc
 not_none false h = refl
 
-module _ (a b : Shape) where
+module _ (a b : RuleForm) where
   pub no_then : then_faults a b ≡ [] → apart b.first a.more ≡ true
   no_then h = unless_none (apart b.first a.more) (GoesOn (shared b.first a.more)) h
 
@@ -37,7 +37,7 @@ module _ (a b : Shape) where
       let S = unless (apart b.first a.first) F in
       (not_none a.nullable (no_one (empty_faults a) S h), unless_none (apart b.first a.first) F (no_two (empty_faults a) S h))
 
-pub no_many : (a : Shape) → many_faults a ≡ [] → (a.nullable ≡ false) × (apart a.first a.more ≡ true)
+pub no_many : (a : RuleForm) → many_faults a ≡ [] → (a.nullable ≡ false) × (apart a.first a.more ≡ true)
 no_many a h =
     let F = BeginsAlike (shared a.first a.more) in
     let S = unless (apart a.first a.more) F in

@@ -8,13 +8,13 @@ use Rattle.dpl_grammar.specs.Reader.{Reader, done_at, token_at, choose, many_at,
 use Rattle.dpl_grammar.specs.Rule.{Names, Beginning, Whole, Begun, Rule, token, below, either, many, run, complete, whole, ◌⟶◌, Parts, none, ◌⨾◌, ◌↓◌, Late, closed, opened, lower, choice, ended, dangling, Grammar}
 
 -- of a rule: whether no token may spell a value, what the first token may be, which next token may go on with a value
-pub record Shape : Type 0 where
+pub record RuleForm : Type 0 where
   pub nullable : Bool
   pub first : Class
   pub more : Class
 
 -- one after the other
-abbrev then_shape : Shape → Shape → Shape
+abbrev then_shape : RuleForm → RuleForm → RuleForm
 then_shape a b = record {
   nullable = cond a.nullable b.nullable false;
   first = cond a.nullable (a.first ++ b.first) a.first;
@@ -22,24 +22,24 @@ then_shape a b = record {
 }
 
 -- the one or the other
-abbrev either_shape : Shape → Shape → Shape
+abbrev either_shape : RuleForm → RuleForm → RuleForm
 either_shape a b = record { nullable = b.nullable; first = a.first ++ b.first; more = cond b.nullable (a.first ++ (a.more ++ b.more)) (a.more ++ b.more) }
 
 -- any number
-abbrev repeated_shape : Shape → Shape
+abbrev repeated_shape : RuleForm → RuleForm
 repeated_shape a = record { nullable = true; first = a.first; more = a.first ++ a.more }
 
 -- behind some values only
-abbrev maybe_shape : Shape → Shape
+abbrev maybe_shape : RuleForm → RuleForm
 maybe_shape a = record { nullable = true; first = a.first; more = a.more }
 
 -- with the late tokens
-abbrev whole_shape : Shape → Class → Shape
+abbrev whole_shape : RuleForm → Class → RuleForm
 whole_shape a late = record { nullable = a.nullable; first = a.first; more = a.more ++ late }
 
 -- the shape of a rule; of a late one, `more` has only what isn't late
 abbrev mutual
-  pub shape : {W : Names} {T : Type 0} → Rule W T → Shape
+  pub shape : {W : Names} {T : Type 0} → Rule W T → RuleForm
   shape (token class) = record { nullable = false; first = class; more = [] }
   shape {W = W} (below n) = record { nullable = false; first = W.first n; more = W.more n ++ W.late n }
   shape (either a b) = either_shape (shape a) (shape b)
@@ -49,12 +49,12 @@ abbrev mutual
   shape (whole a) = whole_shape (shape_late a) (late a)
   shape (parts ⟶ f) = shape_parts parts
 
-  pub shape_parts : {W : Names} {R T : Type 0} → Parts W R T → Shape
+  pub shape_parts : {W : Names} {R T : Type 0} → Parts W R T → RuleForm
   shape_parts none = record { nullable = true; first = []; more = [] }
   shape_parts (a ⨾ parts) = then_shape (shape a) (shape_parts parts)
   shape_parts (class ↓ parts) = record { nullable = false; first = class; more = (shape_parts parts).more }
 
-  pub shape_late : {W : Names} {T : Type 0} {lets : T → Bool} → Late W T lets → Shape
+  pub shape_late : {W : Names} {T : Type 0} {lets : T → Bool} → Late W T lets → RuleForm
   shape_late (closed a) = shape a
   shape_late (opened a f h) = record { nullable = (shape a).nullable; first = (shape a).first; more = [] }
   shape_late {W = W} (lower n) = record { nullable = false; first = W.first n; more = W.more n }
@@ -184,23 +184,23 @@ abbrev pub unless : Bool → Fault → List Fault
 unless true fault = []
 unless false fault = fault ∷ []
 
-abbrev pub empty_faults : Shape → List Fault
+abbrev pub empty_faults : RuleForm → List Fault
 empty_faults a = unless (not a.nullable) MayBeEmpty
 
 -- of one after the other
-abbrev pub then_faults : Shape → Shape → List Fault
+abbrev pub then_faults : RuleForm → RuleForm → List Fault
 then_faults a b = unless (apart b.first a.more) (GoesOn (shared b.first a.more))
 
 -- of one, and maybe the other
-abbrev pub extend_faults : Shape → Shape → List Fault
+abbrev pub extend_faults : RuleForm → RuleForm → List Fault
 extend_faults a b = empty_faults b ++ then_faults a b
 
 -- of the one or the other
-abbrev pub either_faults : Shape → Shape → List Fault
+abbrev pub either_faults : RuleForm → RuleForm → List Fault
 either_faults a b = empty_faults a ++ unless (apart b.first a.first) (BeginsAlike (shared a.first b.first))
 
 -- of any number
-abbrev pub many_faults : Shape → List Fault
+abbrev pub many_faults : RuleForm → List Fault
 many_faults a = empty_faults a ++ unless (apart a.first a.more) (BeginsAlike (shared a.first a.more))
 
 -- of a rule one level deeper: none behind a token that opens that level, and else it must begin on its own

@@ -309,14 +309,14 @@ pub data VariablesTree (N : Type 0) : Type 0 where
   ManyVariables : Place → Listed (Placed N) → Place → VariablesTree N
 
 -- the two shapes of the brackets round an element's indices
-pub data Shape : Type 0 where
-  Square : Shape
-  Round : Shape
+pub data BracketPair : Type 0 where
+  Square : BracketPair
+  Round : BracketPair
 
 -- what is assigned: a name, or an element of an array
 pub data TargetTree (N : Type 0) : Type 0 where
   Whole : Placed N → TargetTree N
-  Element : Placed N → Shape → Place → Exprs N → Place → TargetTree N
+  Element : Placed N → BracketPair → Place → Exprs N → Place → TargetTree N
 
 -- a cell's call as a statement: the place of its word, and those of its brackets
 pub data CallTree (N : Type 0) : Type 0 where

@@ -14,7 +14,7 @@ use Rattle.dpl_syntax.specs.Refused.{IsNumberAt}
 use Rattle.dpl_lexer.specs.Scan.{IsDark, IsBare, IsLexemeAt, IsFlawAt, IsSignAt}
 use Rattle.dpl_syntax.specs.declared.token.Sign.{Sign}
 use Rattle.dpl_syntax.specs.declared.token.Sign.TheVariants.{DotDotLess, DotDot, Dot, Equal, NotEqual, LessEqual, GreaterEqual, AndAnd, OrOr, PlusAssign, MinusAssign, StarAssign, SlashAssign, PercentAssign, Assign, Less, Greater, Not, Plus, Minus, Star, Slash, Percent, And, Or, Caret, Hash, OpenRound, CloseRound, OpenSquare, CloseSquare, OpenCurly, CloseCurly, Comma, Semicolon, Colon}
-use Rattle.dpl_lexer.specs.declared.scan.Shape.TheVariants.{Word, Number, Text, Sign as Signed}
+use Rattle.dpl_lexer.specs.declared.scan.LexemeKind.TheVariants.{Word, Number, Text, Sign as Signed}
 use Rattle.dpl_syntax.specs.declared.refusal.Code.TheVariants.{BadCharacter}
 use Rattle.dpl_lexer.proofs.ByteTests.{all_are-tail, letter_goes_on}
 use Rattle.dpl_lexer.proofs.Signs.{is_sign_text}

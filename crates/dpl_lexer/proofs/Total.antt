@@ -11,7 +11,7 @@ use Rattle.dpl_syntax.specs.Tokens.{sign_text}
 use Rattle.dpl_syntax.specs.Gaps.{is_space, on_line, all_are, next_is, opens_line, opens_block, after_comments}
 use Rattle.dpl_syntax.specs.Text.{is_letter, is_digit, is_quote, goes_on, goes_on_in, base_named, sticks, after_quote, between, is_escaped, well_escaped, well_escape, is_word, number_value, greatest, IsLexeme, Ends, longest_text, IsText, start, after, end_at, Begins, Lexes}
 use Rattle.dpl_syntax.specs.Refused.{refusal_at, IsFlaw, LexRefuses}
-use Rattle.dpl_lexer.specs.Scan.{IsDark, IsBare, IsPieceAt, IsShape, IsLexemeAt, IsFlawAt, IsSignAt, starts_based, IsStart, special_text}
+use Rattle.dpl_lexer.specs.Scan.{IsDark, IsBare, IsPieceAt, IsOfKind, IsLexemeAt, IsFlawAt, IsSignAt, starts_based, IsStart, special_text}
 use Rattle.dpl_syntax.specs.declared.place.Place.{Place}
 use Rattle.dpl_syntax.specs.declared.token.Sign.{Sign}
 use Rattle.dpl_syntax.specs.declared.token.Sign.TheVariants.{DotDotLess}
@@ -21,8 +21,8 @@ use Rattle.dpl_syntax.specs.declared.token.Kind.TheVariants.{Name, Contextual as
 use Rattle.dpl_lexer.specs.declared.keyword.Special.{Special}
 use Rattle.dpl_lexer.specs.declared.keyword.Special.TheVariants.{Keyword as KeywordWord, Contextual as ContextualWord}
 use Rattle.dpl_lexer.specs.declared.keyword.TheConstants.{SPECIALS}
-use Rattle.dpl_lexer.specs.declared.scan.Shape.{Shape}
-use Rattle.dpl_lexer.specs.declared.scan.Shape.TheVariants.{Word, Number as NumberShape, Text as TextShape, Sign as SignShape}
+use Rattle.dpl_lexer.specs.declared.scan.LexemeKind.{LexemeKind}
+use Rattle.dpl_lexer.specs.declared.scan.LexemeKind.TheVariants.{Word, Number as NumberShape, Text as TextShape, Sign as SignShape}
 use Rattle.dpl_lexer.specs.declared.scan.Lexeme.{Lexeme}
 use Rattle.dpl_lexer.specs.declared.scan.Flaw.{Flaw}
 use Rattle.dpl_syntax.specs.declared.refusal.Code.{Code}
@@ -76,15 +76,15 @@ word_kind u word = at (bytes_eq (special_text (special_of SPECIALS u)) u) refl
     at true same = special (special_of SPECIALS u) (sym (bytes_eq-true (special_text (special_of SPECIALS u)) u same))
     at false other = (Name u, (refl, word, λ k. no_special u other (KeywordWord k), λ w. no_special u other (ContextualWord w)))
 
-shape_kind : (shape : Shape) (u : List ℕ) → IsShape shape u → (k : Kind) × IsLexeme k u
-shape_kind Word u word = word_kind u word
-shape_kind (NumberShape n) u number = (Number n, number)
-shape_kind TextShape u (quoted, good) = (Text (between u), (refl, quoted, good))
-shape_kind (SignShape s) u sign = (Signed s, sign)
+kind_found : (shape : LexemeKind) (u : List ℕ) → IsOfKind shape u → (k : Kind) × IsLexeme k u
+kind_found Word u word = word_kind u word
+kind_found (NumberShape n) u number = (Number n, number)
+kind_found TextShape u (quoted, good) = (Text (between u), (refl, quoted, good))
+kind_found (SignShape s) u sign = (Signed s, sign)
 
 front_lexeme : (text : List ℕ) (found : Lexeme) → IsLexemeAt text found → Front text
 front_lexeme text found at =
-    let kind = shape_kind found.shape (take found.len text) at.shape in
+    let kind = kind_found found.shape (take found.len text) at.shape in
     Here kind.0 found.len at.some at.within kind.1 at.ends
 
 front_flaw : (text : List ℕ) (flaw : Flaw) → IsFlawAt text flaw → Front text

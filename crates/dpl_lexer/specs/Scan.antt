@@ -10,8 +10,8 @@ use Rattle.dpl_lexer.specs.declared.keyword.Special.{Special}
 use Rattle.dpl_lexer.specs.declared.keyword.Special.TheVariants.{Keyword, Contextual}
 use Rattle.dpl_lexer.specs.declared.keyword.TheConstants.{SPECIALS, BEFORE}
 use Rattle.dpl_syntax.specs.declared.token.Keyword.TheVariants.{Writeln}
-use Rattle.dpl_lexer.specs.declared.scan.Shape.{Shape}
-use Rattle.dpl_lexer.specs.declared.scan.Shape.TheVariants.{Word, Number, Text, Sign as Signed}
+use Rattle.dpl_lexer.specs.declared.scan.LexemeKind.{LexemeKind}
+use Rattle.dpl_lexer.specs.declared.scan.LexemeKind.TheVariants.{Word, Number, Text, Sign as Signed}
 use Rattle.dpl_lexer.specs.declared.scan.Lexeme.{Lexeme}
 use Rattle.dpl_lexer.specs.declared.scan.Flaw.{Flaw}
 
@@ -60,17 +60,17 @@ IsStart text base skipped =
     ⊎ ((base ≡ base_named (get_or text 1 0)) × (skipped ≡ 2) × (starts_based text ≡ true))
 
 -- the bytes have this shape
-abbrev pub IsShape : Shape → List ℕ → Type 0
-IsShape Word u = is_word u ≡ true
-IsShape (Number n) u = (n ≡ pos (number_value u)) × (is_number u ≡ true) × (number_value u ≤ greatest)
-IsShape Text u = (is_quoted u ≡ true) × (well_escaped (between u) ≡ between u)
-IsShape (Signed s) u = u ≡ sign_text s
+abbrev pub IsOfKind : LexemeKind → List ℕ → Type 0
+IsOfKind Word u = is_word u ≡ true
+IsOfKind (Number n) u = (n ≡ pos (number_value u)) × (is_number u ≡ true) × (number_value u ≤ greatest)
+IsOfKind Text u = (is_quoted u ≡ true) × (well_escaped (between u) ≡ between u)
+IsOfKind (Signed s) u = u ≡ sign_text s
 
 -- the token at the front
 pub record IsLexemeAt (text : List ℕ) (found : Lexeme) : Type 0 where
   pub some : 0 < found.len
   pub within : found.len ≤ length text
-  pub shape : IsShape found.shape (take found.len text)
+  pub shape : IsOfKind found.shape (take found.len text)
   pub ends : Ends (take found.len text) (drop found.len text)
 
 -- what keeps the text from being read on

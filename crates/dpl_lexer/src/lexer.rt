@@ -5,7 +5,7 @@ ghost use Rattle.std.specs.Prelude.{true, ◌≡◌, ◌⊎◌, ◌+◌, ◌^◌
 ghost use Rattle.dpl_syntax.specs.Text.{is_word, IsLexeme, IsText, Lexes, EndsOnce, after};
 ghost use Rattle.dpl_syntax.specs.Refused.{LexRefuses};
 ghost use Rattle.dpl_syntax.specs.Stops.{Tells};
-ghost use Rattle.dpl_lexer.specs.Scan.{IsShape};
+ghost use Rattle.dpl_lexer.specs.Scan.{IsOfKind};
 ghost use Rattle.dpl_syntax.specs.declared.token.Token.{Token};
 ghost use Rattle.dpl_syntax.specs.declared.refusal.Refusal.{Refusal};
 ghost use Rattle.dpl_syntax.specs.declared.stop.Stop.TheVariants.{Refused, Memory};
@@ -13,7 +13,7 @@ ghost use Rattle.dpl_syntax.specs.declared.stop.Stop.TheVariants.{Refused, Memor
 use crate::gap::piece_len;
 use crate::keyword::{Special, special_of};
 use crate::quoted::between;
-use crate::scan::{Shape, scan};
+use crate::scan::{LexemeKind, scan};
 use dpl_syntax::{Bytes, Code, Kind, LexStop, Place, Refusal, Stop, Token};
 use std::alloc::Global;
 
@@ -45,15 +45,15 @@ fn after(at: Place, bytes: &[u8]) -> Place
 }
 
 /// The kind of a token with these bytes, whose shape is known.
-fn kind_of(shape: Shape, bytes: &[u8]) -> Kind<'_>
-    requires { IsShape shape bytes.now }
+fn kind_of(shape: LexemeKind, bytes: &[u8]) -> Kind<'_>
+    requires { IsOfKind shape bytes.now }
     ensures { IsLexeme result bytes.now }
 {
     match shape {
-        Shape::Word => word_kind(bytes),
-        Shape::Number(n) => Kind::Number(n),
-        Shape::Text => Kind::Text(Bytes::new(between(bytes))),
-        Shape::Sign(sign) => Kind::Sign(sign),
+        LexemeKind::Word => word_kind(bytes),
+        LexemeKind::Number(n) => Kind::Number(n),
+        LexemeKind::Text => Kind::Text(Bytes::new(between(bytes))),
+        LexemeKind::Sign(sign) => Kind::Sign(sign),
     }
 }
 

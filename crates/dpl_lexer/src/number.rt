@@ -7,7 +7,7 @@ ghost use Rattle.dpl_syntax.specs.Text.{is_digit, goes_on_in, value_after, great
 ghost use Rattle.dpl_lexer.specs.Scan.{starts_based, IsStart, IsLexemeAt, IsFlawAt};
 
 use crate::ascii::{base_named, digit_value, goes_on_in, is_digit_of, next_sticks};
-use crate::scan::{Flaw, Lexeme, Shape};
+use crate::scan::{Flaw, Lexeme, LexemeKind};
 use dpl_syntax::Code;
 
 /// The greatest number.
@@ -78,7 +78,7 @@ fn number_from(bytes: &[u8], base: u8, skipped: usize) -> Result<Lexeme, Flaw>
         });
     }
     Ok(Lexeme {
-        shape: Shape::Number(value),
+        shape: LexemeKind::Number(value),
         len: skipped + len,
     })
 }

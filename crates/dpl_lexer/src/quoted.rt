@@ -7,7 +7,7 @@ ghost use Rattle.dpl_syntax.specs.Text.{is_quote, after_quote, between, well_esc
 ghost use Rattle.dpl_lexer.specs.Scan.{IsLexemeAt, IsFlawAt};
 
 use crate::ascii::{escaped, is_escaped};
-use crate::scan::{Flaw, Lexeme, Shape};
+use crate::scan::{Flaw, Lexeme, LexemeKind};
 use dpl_syntax::{Bytes, Code};
 use std::alloc::{AllocError, Global};
 
@@ -85,7 +85,7 @@ pub fn quoted(bytes: &[u8]) -> Result<Lexeme, Flaw>
             offset: n + 1,
         }),
         None => Ok(Lexeme {
-            shape: Shape::Text,
+            shape: LexemeKind::Text,
             len,
         }),
     }

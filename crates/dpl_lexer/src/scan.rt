@@ -16,7 +16,7 @@ use dpl_syntax::{Code, Sign};
 
 /// What a token looks like.
 #[derive(Clone, Copy)]
-pub enum Shape {
+pub enum LexemeKind {
     /// A word, reserved or not.
     Word,
     /// A number, at most the greatest one.
@@ -30,7 +30,7 @@ pub enum Shape {
 /// A token at the front of a text.
 #[derive(Clone, Copy)]
 pub struct Lexeme {
-    pub shape: Shape,
+    pub shape: LexemeKind,
     /// How many bytes it has.
     pub len: usize,
 }
@@ -198,7 +198,7 @@ fn signed(bytes: &[u8]) -> Result<Lexeme, Flaw>
     }
     match sign(bytes) {
         Some(sign) => Ok(Lexeme {
-            shape: Shape::Sign(sign),
+            shape: LexemeKind::Sign(sign),
             len: sign_len(sign),
         }),
         None => Err(Flaw {
@@ -218,7 +218,7 @@ pub fn scan(bytes: &[u8]) -> Result<Lexeme, Flaw>
     let first = bytes[0];
     if is_letter(first) {
         return Ok(Lexeme {
-            shape: Shape::Word,
+            shape: LexemeKind::Word,
             len: word_len(bytes),
         });
     }

@@ -15,8 +15,8 @@ use Rattle.dpl_nodes.specs.declared.tree.IndexExpr.{IndexExpr}
 use Rattle.dpl_nodes.specs.declared.step.Argument.{Argument}
 use Rattle.dpl_nodes.specs.declared.step.Argument.TheVariants.{Text as TextNode, Int as IntNode, Truth as TruthNode, Array as ArrayNode}
 use Rattle.dpl_nodes.specs.declared.step.Intent.{Intent}
-use Rattle.dpl_nodes.specs.declared.step.Over.{Over}
-use Rattle.dpl_nodes.specs.declared.step.Over.TheVariants.{Ranges, Domain, HiddenDomain, HiddenRange}
+use Rattle.dpl_nodes.specs.declared.step.DeclaredOver.{DeclaredOver}
+use Rattle.dpl_nodes.specs.declared.step.DeclaredOver.TheVariants.{Ranges, Domain, HiddenDomain, HiddenRange}
 use Rattle.dpl_nodes.specs.declared.step.Initial.{Initial}
 use Rattle.dpl_nodes.specs.declared.step.Initial.TheVariants.{Zeros, Falses, Ints, Truths}
 use Rattle.dpl_nodes.specs.declared.step.ArrayDeclaration.{ArrayDeclaration}
@@ -147,7 +147,7 @@ of_rank rank = DomainType (record {
 })
 
 -- what stands between an array's brackets
-abbrev pub over_items : Over → Items Variable
+abbrev pub over_items : DeclaredOver → Items Variable
 over_items (Ranges rs) = ranges_items rs.now
 over_items (Domain d) = items_one (One (domain_view d.now))
 over_items (HiddenDomain d) = items_one (One (Grouped nowhere (One (domain_view d.now)) nowhere))

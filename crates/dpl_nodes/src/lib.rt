@@ -13,8 +13,8 @@ pub use fold::{Fold, IntFold, TruthFold};
 pub use placing::{MapExpr, Placing, StartExpr};
 pub use spot::Spot;
 pub use step::{
-    Argument, ArrayDeclaration, ArrayName, DomainName, Else, Initial, IntDeed, Intent, Names, Over,
-    Rank, Step, TruthDeed,
+    Argument, ArrayDeclaration, ArrayName, DeclaredOver, DomainName, Else, Initial, IntDeed,
+    Intent, Names, Rank, Step, TruthDeed,
 };
 pub use stop::Stop;
 pub use tree::{

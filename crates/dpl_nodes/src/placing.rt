@@ -6,7 +6,7 @@ ghost use Rattle.dpl_nodes.specs.Typed.{domain_view};
 ghost use Rattle.dpl_nodes.specs.Steps.{over_items};
 ghost use Rattle.dpl_nodes.specs.Roots.{derived_from, derived_over, placing_by};
 
-use crate::step::Over;
+use crate::step::DeclaredOver;
 use crate::tree::{DomainExpr, IndexExpr};
 
 /// Where a map starts, or how large its blocks are: an index, or the least members of a domain.
@@ -57,17 +57,17 @@ impl<'t> DomainExpr<'t> {
     }
 }
 
-impl<'t> Over<'t> {
+impl<'t> DeclaredOver<'t> {
     /// The map of an array: that of its domain's root; over ranges, and over a domain that is derived from no name, the array is
     /// a root.
     pub fn placing(&self) -> Placing
         ensures { result ≡ placing_by (derived_over (over_items self.now)) }
     {
         match self {
-            Over::Ranges(_) => Placing::Unmapped,
-            Over::Domain(d) => d.placing(),
-            Over::HiddenDomain(d) => d.placing(),
-            Over::HiddenRange(_) => Placing::Unmapped,
+            DeclaredOver::Ranges(_) => Placing::Unmapped,
+            DeclaredOver::Domain(d) => d.placing(),
+            DeclaredOver::HiddenDomain(d) => d.placing(),
+            DeclaredOver::HiddenRange(_) => Placing::Unmapped,
         }
     }
 }

@@ -20,7 +20,7 @@ pub enum Argument<'t> {
 /// What stands between an array's brackets: ranges, or a domain. A domain name that stands alone is the bare name over which
 /// the array is declared; in brackets of its own, as in `[(D)]`, it is none.
 #[derive(Clone, Copy)]
-pub enum Over<'t> {
+pub enum DeclaredOver<'t> {
     Ranges(&'t RangesExpr<'t>),
     Domain(&'t DomainExpr<'t>),
     /// A domain, or a range, in brackets of its own.
@@ -45,7 +45,7 @@ pub struct ArrayDeclaration<'t> {
     pub at: &'t Spot,
     pub slot: usize,
     pub from: &'t Spot,
-    pub over: Over<'t>,
+    pub over: DeclaredOver<'t>,
     pub initial: Initial<'t>,
 }
 

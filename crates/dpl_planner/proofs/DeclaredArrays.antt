@@ -31,8 +31,8 @@ use Rattle.dpl_lowered.specs.LoweredStatements.{written_initial, written_type, t
 use Rattle.dpl_memory.specs.Memory.{VariableKind, ArrayKind, Variable, variable, known_variable}
 use Rattle.dpl_memory.specs.Resolved.{Bound, Seen, Shape, Start, text_of, variable_of, resolving, IsElement, MayHold, IsNew, IsWhole, OverResolves, SpansArray, Suits}
 use Rattle.dpl_nodes.specs.declared.tree.RangesExpr.{RangesExpr}
-use Rattle.dpl_nodes.specs.declared.step.Over.{Over}
-use Rattle.dpl_nodes.specs.declared.step.Over.TheVariants as over
+use Rattle.dpl_nodes.specs.declared.step.DeclaredOver.{DeclaredOver}
+use Rattle.dpl_nodes.specs.declared.step.DeclaredOver.TheVariants as over
 use Rattle.dpl_nodes.specs.declared.step.Initial.{Initial}
 use Rattle.dpl_nodes.specs.declared.step.ArrayDeclaration.{ArrayDeclaration}
 use Rattle.dpl_nodes.specs.declared.step.Step.{Step}
@@ -72,7 +72,7 @@ is_some-mapped : {A B : Type 0} (f : A → B) (o : Option A) → is_some o ≡ i
 is_some-mapped f None = refl
 is_some-mapped f (Some x) = refl
 
-pub one-over : (ss : Scopes) (i : ItemTree Text) (t : Typed) (bare : Bool) (o : Over) → IsItem ss i t → bare ≡ is_some (item_over i) → over_items o ≡ FirstItem (between bare (typed_item Once t)) NoItems → IsOver ss (FirstItem i NoItems) o
+pub one-over : (ss : Scopes) (i : ItemTree Text) (t : Typed) (bare : Bool) (o : DeclaredOver) → IsItem ss i t → bare ≡ is_some (item_over i) → over_items o ≡ FirstItem (between bare (typed_item Once t)) NoItems → IsOver ss (FirstItem i NoItems) o
 one-over ss i t bare o is same made =
     let leaves = renamed_item (leaf_in ss) i in
     let lowered = lowered_item known_variable Once leaves in

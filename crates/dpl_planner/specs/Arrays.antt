@@ -12,7 +12,7 @@ use Rattle.dpl_lowered.specs.LoweredStatements.{lowered_over, array_initial}
 use Rattle.dpl_memory.specs.Memory.{VariableKind, PlainKind, DomainKind, TupleKind, ArrayKind, Variable, known_variable}
 use Rattle.dpl_memory.specs.Resolved.{Bound, Start, text_of, variable_of, resolving}
 use Rattle.dpl_nodes.specs.Spots.{IsNear}
-use Rattle.dpl_nodes.specs.declared.step.Over.{Over}
+use Rattle.dpl_nodes.specs.declared.step.DeclaredOver.{DeclaredOver}
 use Rattle.dpl_nodes.specs.declared.step.Initial.{Initial}
 use Rattle.dpl_nodes.specs.Steps.{over_items, initial_kind, initial_view}
 use Rattle.dpl_typer.specs.Leaves.{leaf_in, IsFound}
@@ -28,7 +28,7 @@ abbrev pub between : Bool → ItemTree Variable → ItemTree Variable
 between true item = item
 between false item = item_in_brackets (item_over item) item
 
-pub record IsOver (ss : Scopes) (is : Items Text) (o : Over) : Type 0 where
+pub record IsOver (ss : Scopes) (is : Items Text) (o : DeclaredOver) : Type 0 where
   pub node : over_items o ≡ lowered_over known_variable (renamed_items (leaf_in ss) is)
   pub found : AreSimpleItems (IsFound ss) is
 

@@ -6,7 +6,7 @@ use Rattle.dpl_syntax.specs.declared.token.Keyword.{Keyword}
 use Rattle.dpl_syntax.specs.declared.token.Keyword.TheVariants as word_of
 use Rattle.dpl_syntax.specs.declared.token.Contextual.TheVariants as contextual_of
 use Rattle.dpl_syntax.specs.declared.token.Sign.TheVariants as sign_of
-use Rattle.dpl_language.specs.Tree.{Placed, Op, Sum, Product, AllOf, AnyOf, BitAnd, BitOr, BitXor, Least, Greatest, Assign, AssignTree, Set, SetAdd, SetSubtract, SetMultiply, SetDivide, SetRemainder, SetReduce, ReadWord, ReadFEWord, ReadFFWord, WriteWord, WriteEFWord, WriteFFWord, WriteXFWord, ArgumentTree, TextArgument, ExprArgument, IntentTree, ReduceIntent, RefIntent, WithTree, VariablesTree, OneVariable, ManyVariables, Shape, Square, Round, TargetTree, Whole, Element, CallTree, ReadCall, ResetCall, WriteCall, Nothing, Assigned, Call, Write, Block, If, While, For, Forall, Coforall, On, Body, WordBody, BlockBody, Stmts, NoStmts, Then, NoElse, ElseDo}
+use Rattle.dpl_language.specs.Tree.{Placed, Op, Sum, Product, AllOf, AnyOf, BitAnd, BitOr, BitXor, Least, Greatest, Assign, AssignTree, Set, SetAdd, SetSubtract, SetMultiply, SetDivide, SetRemainder, SetReduce, ReadWord, ReadFEWord, ReadFFWord, WriteWord, WriteEFWord, WriteFFWord, WriteXFWord, ArgumentTree, TextArgument, ExprArgument, IntentTree, ReduceIntent, RefIntent, WithTree, VariablesTree, OneVariable, ManyVariables, BracketPair, Square, Round, TargetTree, Whole, Element, CallTree, ReadCall, ResetCall, WriteCall, Nothing, Assigned, Call, Write, Block, If, While, For, Forall, Coforall, On, Body, WordBody, BlockBody, Stmts, NoStmts, Then, NoElse, ElseDo}
 use Rattle.dpl_grammar.specs.Classes.{Class, texts, sign, keyword, contextual}
 use Rattle.dpl_grammar.specs.Rule.{token, below, either, many, ◌⟶◌, ◌⨾◌, ◌↓◌, ◌∎, done, maybe, means, closed, lower, choice, ended, dangling}
 use Rattle.dpl_spelling.specs.Nested.{Expression, Item, Statement, ExpressionBelow, StatementBelow, PlainBelow, takes_else, body_takes_else, Rule, Late}
@@ -16,7 +16,7 @@ use Rattle.dpl_spelling.specs.Declarations.{if_there, declaration}
 -- Statements that begin with a name.
 
 -- "[" expr { "," expr } "]" and the like, behind a name
-abbrev pub element : Shape → Class → Class → Rule (Placed (List ℕ) → TargetTree (List ℕ))
+abbrev pub element : BracketPair → Class → Class → Rule (Placed (List ℕ) → TargetTree (List ℕ))
 element shape from upto = from ↓ exprs ⨾ token upto ∎ ⟶ λ k es l x. Element x shape k.at es l.at
 
 -- [ "[" expr { "," expr } "]" | "(" expr { "," expr } ")" ], behind a target's name

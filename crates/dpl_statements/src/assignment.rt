@@ -4,7 +4,7 @@
 ghost use Rattle.std.specs.Prelude.{◌≡◌, ◌<◌, ◌≤◌, length, IfOk};
 ghost use Rattle.dpl_grammar.specs.Classes.{sign as sign_class, contextual as contextual_class};
 ghost use Rattle.dpl_grammar.specs.Gives.{Gives};
-ghost use Rattle.dpl_tree.specs.Words.{assign_view, read_view, shape_view, write_view};
+ghost use Rattle.dpl_tree.specs.Words.{assign_view, read_view, pair_view, write_view};
 ghost use Rattle.dpl_tree.specs.View.{name_view};
 ghost use Rattle.dpl_tree.specs.Statements.{target_view, sign_view, call_view, stmt_view};
 ghost use Rattle.dpl_spelling.specs.Statements.{element as element_rule, target_end as target_end_rule, assign_by as assign_by_rule};
@@ -22,8 +22,8 @@ use dpl_expressions::token::{
 };
 use dpl_syntax::{Contextual, Keyword, Sign, Token};
 use dpl_tree::{
-    Arena, Assign, AssignSign, Assignment, Call, CellCall, Element, Name, ReadWord, Shape, Stmt,
-    Target, WriteWord,
+    Arena, Assign, AssignSign, Assignment, BracketPair, Call, CellCall, Element, Name, ReadWord,
+    Stmt, Target, WriteWord,
 };
 
 /// "[" expr { "," expr } "]" | "(" expr { "," expr } ")", behind a name
@@ -32,10 +32,10 @@ fn element<'t>(
     arena: Arena<'t>,
     room: u32,
     name: Name<'t>,
-    shape: (Shape, Sign, Sign),
+    shape: (BracketPair, Sign, Sign),
     tokens: Tokens<'t>,
 ) -> Parsed<'t, Target<'t>>
-    ensures gives { Gives (λ x. (target_view x.0, x.1.now)) result (at (told (name_view name.entry) (element_rule (shape_view shape.0) (sign_class shape.1) (sign_class shape.2))) room tokens.now) }
+    ensures gives { Gives (λ x. (target_view x.0, x.1.now)) result (at (told (name_view name.entry) (element_rule (pair_view shape.0) (sign_class shape.1) (sign_class shape.2))) room tokens.now) }
     ensures shorter { IfOk result (λ x. length x.1.now < length tokens.now) }
 {
     let (open, room, rest) = deeper(room, shape.1, tokens)?;
@@ -63,10 +63,10 @@ fn target_end<'t>(
     ensures shorter { IfOk result (λ x. length x.1.now ≤ length tokens.now) }
 {
     if is_sign(tokens, Sign::OpenSquare) {
-        let shape = (Shape::Square, Sign::OpenSquare, Sign::CloseSquare);
+        let shape = (BracketPair::Square, Sign::OpenSquare, Sign::CloseSquare);
         element(arena, room, name, shape, tokens)
     } else if is_sign(tokens, Sign::OpenRound) {
-        let shape = (Shape::Round, Sign::OpenRound, Sign::CloseRound);
+        let shape = (BracketPair::Round, Sign::OpenRound, Sign::CloseRound);
         element(arena, room, name, shape, tokens)
     } else {
         Ok((Target::Whole(name), tokens))

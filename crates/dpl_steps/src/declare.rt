@@ -31,7 +31,7 @@ use dpl_domain::Index;
 use dpl_frame::{DomainWord, Frame, Trap};
 use dpl_loop::{Gate, OpenGate, Stop};
 use dpl_map::Map;
-use dpl_nodes::{ArrayDeclaration, Initial, Over, PromotedInt, PromotedTruth, Spot};
+use dpl_nodes::{ArrayDeclaration, DeclaredOver, Initial, PromotedInt, PromotedTruth, Spot};
 use dpl_strips::index::coordinate;
 use dpl_values::budget::within_budget;
 use dpl_values::domain::small;
@@ -42,7 +42,7 @@ use dpl_values::{
 
 // The domain that stands between an array's brackets.
 fn domain_over<G: Gate>(
-    over: &Over<'_>,
+    over: &DeclaredOver<'_>,
     from: &Spot,
     frame: &Frame<'_>,
     gate: &G,
@@ -50,10 +50,10 @@ fn domain_over<G: Gate>(
     ensures { Gives (MayRefuseSome (G.may_refuse gate.now)) DomainValue result (domain_of frame.now.limits in_memory from.now (over_items over.now) frame.now.memory) }
 {
     match over {
-        Over::Ranges(ranges) => literal(from, ranges, frame, gate),
-        Over::Domain(d) => Ok(small(domain_value(d, frame, gate)?)),
-        Over::HiddenDomain(d) => Ok(small(domain_value(d, frame, gate)?)),
-        Over::HiddenRange(r) => {
+        DeclaredOver::Ranges(ranges) => literal(from, ranges, frame, gate),
+        DeclaredOver::Domain(d) => Ok(small(domain_value(d, frame, gate)?)),
+        DeclaredOver::HiddenDomain(d) => Ok(small(domain_value(d, frame, gate)?)),
+        DeclaredOver::HiddenRange(r) => {
             let range = range_value(r, frame, gate)?;
             Ok(sized(from, DomainWord::new(&[range]))?)
         }

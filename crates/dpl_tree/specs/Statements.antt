@@ -2,7 +2,7 @@
 -- What is written as a text stands for the bytes that its escapes mean.
 use Rattle.std.specs.Prelude.{ℕ, List, [], ◌∷◌, map}
 use Rattle.dpl_syntax.specs.Text.{text_value}
-use Rattle.dpl_tree.specs.Words.{op_view, assign_view, read_view, write_view, shape_view, module_view}
+use Rattle.dpl_tree.specs.Words.{op_view, assign_view, read_view, write_view, pair_view, module_view}
 use Rattle.dpl_tree.specs.View.{Spelled, name_view, expr_view, exprs_view, item_view}
 use Rattle.dpl_tree.specs.Declarations.{optional, declare_view}
 use Rattle.dpl_tree.specs.declared.statement.Argument.{Argument}
@@ -63,7 +63,7 @@ variables_view (variables.Many from first others upto) = ManyVariables from (rec
 
 abbrev pub target_view : Target → Spelled TargetTree
 target_view (target.Whole x) = Whole (name_view x)
-target_view (target.Element e) = Element (name_view e.now.name) (shape_view e.now.shape) e.now.from (exprs_view e.now.exprs) e.now.upto
+target_view (target.Element e) = Element (name_view e.now.name) (pair_view e.now.shape) e.now.from (exprs_view e.now.exprs) e.now.upto
 
 abbrev pub sign_view : AssignSign → AssignTree
 sign_view s = record { at = s.at; op = assign_view s.op; last = s.last }

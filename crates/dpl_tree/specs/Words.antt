@@ -20,11 +20,11 @@ use Rattle.dpl_tree.specs.declared.operator.ScalarKind.{ScalarKind}
 use Rattle.dpl_tree.specs.declared.operator.ScalarKind.TheVariants.{Int, Bool}
 use Rattle.dpl_tree.specs.declared.operator.CreateWord.{CreateWord as CreateNode}
 use Rattle.dpl_tree.specs.declared.operator.CreateWord.TheVariants as create
-use Rattle.dpl_tree.specs.declared.operator.Shape.{Shape as ShapeNode}
-use Rattle.dpl_tree.specs.declared.operator.Shape.TheVariants as shape
+use Rattle.dpl_tree.specs.declared.operator.BracketPair.{BracketPair as PairNode}
+use Rattle.dpl_tree.specs.declared.operator.BracketPair.TheVariants as shape
 use Rattle.dpl_tree.specs.declared.operator.Module.{Module as ModuleNode}
 use Rattle.dpl_tree.specs.declared.operator.Module.TheVariants as module_word
-use Rattle.dpl_language.specs.Tree.{Kind, IntKind, BoolKind, CreateWord, CreateBlock, CreateCyclic, Shape, Square, Round, Module, BlockModule, CyclicModule, BlockCyclicModule}
+use Rattle.dpl_language.specs.Tree.{Kind, IntKind, BoolKind, CreateWord, CreateBlock, CreateCyclic, BracketPair, Square, Round, Module, BlockModule, CyclicModule, BlockCyclicModule}
 use Rattle.dpl_language.specs.Tree.{Prefix, Minus, Not, Infix, Add, Subtract, Multiply, Divide, Remainder, Less, LessEqual, Greater, GreaterEqual, Equal, NotEqual, And, Or, Op, Sum, Product, AllOf, AnyOf, BitAnd, BitOr, BitXor, Least, Greatest, Assign, Set, SetAdd, SetSubtract, SetMultiply, SetDivide, SetRemainder, SetReduce, Dots, Closed, HalfOpen, Counted, Word, Size, First, Last, Low, High, LowBound, DomainOf, Id, ReadWord, ReadFEWord, ReadFFWord, WriteWord, WriteEFWord, WriteFFWord, WriteXFWord}
 
 abbrev pub prefix_view : PrefixNode → Prefix
@@ -98,9 +98,9 @@ abbrev pub create_view : CreateNode → CreateWord
 create_view create.Block = CreateBlock
 create_view create.Cyclic = CreateCyclic
 
-abbrev pub shape_view : ShapeNode → Shape
-shape_view shape.Square = Square
-shape_view shape.Round = Round
+abbrev pub pair_view : PairNode → BracketPair
+pair_view shape.Square = Square
+pair_view shape.Round = Round
 
 abbrev pub module_view : ModuleNode → Module
 module_view module_word.Block = BlockModule

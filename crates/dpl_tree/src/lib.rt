@@ -20,7 +20,7 @@ pub use expression::{
     Post, Postfixed, Range, Reduction, Stride,
 };
 pub use operator::{
-    Assign, CreateWord, Dots, Infix, Module, Op, Prefix, ReadWord, ScalarKind, Shape, Word,
+    Assign, BracketPair, CreateWord, Dots, Infix, Module, Op, Prefix, ReadWord, ScalarKind, Word,
     WriteWord,
 };
 pub use statement::{

@@ -142,7 +142,7 @@ pub enum CreateWord {
 
 /// The two shapes of the brackets round an element's indices.
 #[derive(Clone, Copy, PartialEq, Eq, Debug)]
-pub enum Shape {
+pub enum BracketPair {
     /// `[` and `]`
     Square,
     /// `(` and `)`

@@ -3,7 +3,7 @@
 
 use crate::declaration::Declare;
 use crate::expression::{Expr, Exprs, Item, Name};
-use crate::operator::{Assign, Module, Op, ReadWord, Shape, WriteWord};
+use crate::operator::{Assign, BracketPair, Module, Op, ReadWord, WriteWord};
 use dpl_syntax::Place;
 
 /// What is handed to `write`.
@@ -89,7 +89,7 @@ pub enum Variables<'t> {
 #[derive(Clone, Copy)]
 pub struct Element<'t> {
     pub name: Name<'t>,
-    pub shape: Shape,
+    pub shape: BracketPair,
     pub from: Place,
     pub exprs: Exprs<'t>,
     pub upto: Place,

@@ -3,7 +3,7 @@ use Rattle.std.proofs.Common.{sym, ap, ◌∙◌}
 use Rattle.dpl_nodes.specs.Steps.{over_items}
 use Rattle.dpl_nodes.specs.Roots.{derived_over, placing_by}
 use Rattle.dpl_nodes.proofs.Underived.{item-underived, ranges-underived}
-use Rattle.dpl_nodes.proofs.step.Over.placing.Goals as goal
+use Rattle.dpl_nodes.proofs.step.DeclaredOver.placing.Goals as goal
 
 pub returns-in-Ranges : goal.returns-in-Ranges
 returns-in-Ranges c = sym (ap (λ o. placing_by (derived_over (over_items o))) c.in-Ranges.is ∙ ranges-underived c.in-Ranges.field-0.now)
