@@ -4,6 +4,8 @@ pub mod Placed
 pub mod Reducing
 pub mod Reductions
 pub mod Arguments
+-- The meanings of expressions, which contracts name.
+pub mod Meanings
 -- What serves contracts and proofs alone.
 pub mod Bounds
 pub mod Elements

@@ -2,19 +2,13 @@
 // Operands go from left to right, and a fault ends the walk, or a gate that refused an entry of a reduction.
 
 ghost use Rattle.std.specs.Prelude.{None, Ok};
-ghost use Rattle.dpl_language.specs.Values.{Int, Truth as TruthValue, Domain as DomainValue, all_ranges, index_of};
-ghost use Rattle.dpl_language.specs.Ranges.{sized as sized_of, all_sliced};
-ghost use Rattle.dpl_language.specs.Outcome.{with_ok};
-ghost use Rattle.dpl_language.specs.Expressions.{value_of, item_of, items_of, values_of, stridden as stridden_of};
-ghost use Rattle.dpl_memory.specs.Memory.{in_memory};
-ghost use Rattle.dpl_language.specs.Tree.{Plainly, Size, First, Last, Low, High};
+ghost use Rattle.dpl_language.specs.Values.{Int, Truth as TruthValue, Domain as DomainValue};
+ghost use Rattle.dpl_language.specs.Tree.{Size, First, Last, Low, High};
 ghost use Rattle.dpl_lowered.specs.Shapes.{nowhere};
-ghost use Rattle.dpl_memory.specs.Memory.{array_at, held_at};
-ghost use Rattle.dpl_nodes.specs.Typed.{int_view, truth_view, range_item, range_view, stride_view, dotted, ranges_items, index_items, index_exprs, domain_view};
 ghost use Rattle.dpl_frame.specs.Faults.{Tells, as_range};
 ghost use Rattle.dpl_values.specs.Bounds.{bounds_of};
-ghost use Rattle.dpl_values.specs.Elements.{word_found};
 ghost use Rattle.dpl_values.specs.Reductions.{MayRefuseReduction, EachInInt, EachInTruth, EachInRange, EachInStride, EachInRanges, EachInIndex, EachInDomain};
+ghost use Rattle.dpl_values.specs.Meanings.{int_in, truth_in, range_in, strided_in, domain_in, index_in, element_in, literal_in, sliced_in, range_end, domain_size};
 
 use crate::comparison::holds;
 use crate::domain::{found, sized, small};
@@ -36,7 +30,7 @@ pub(crate) fn operand<A: Arrays, G: Gate>(
     gate: &G,
     turn: &mut Turn,
 ) -> Result<i64, Alarm>
-    ensures { Tells (MayRefuseReduction (G.may_refuse gate.now) frame.now (EachInInt e.now)) Int turn.new result (value_of frame.now.limits in_memory (int_view e.now) None frame.now.memory) }
+    ensures { Tells (MayRefuseReduction (G.may_refuse gate.now) frame.now (EachInInt e.now)) Int turn.new result (int_in frame.now e.now) }
 {
     match e {
         IntExpr::Local(slot) => Ok(frame.number(*slot)),
@@ -58,7 +52,7 @@ pub fn coordinate_value<A: Arrays, G: Gate>(
     gate: &G,
     turn: &mut Turn,
 ) -> Result<i64, Alarm>
-    ensures { Tells (MayRefuseReduction (G.may_refuse gate.now) frame.now (EachInInt e.now)) Int turn.new result (value_of frame.now.limits in_memory (int_view e.now) None frame.now.memory) }
+    ensures { Tells (MayRefuseReduction (G.may_refuse gate.now) frame.now (EachInInt e.now)) Int turn.new result (int_in frame.now e.now) }
 {
     match e {
         IntExpr::Local(slot) => Ok(frame.number(*slot)),
@@ -83,7 +77,7 @@ pub(crate) fn int_value<A: Arrays, G: Gate>(
     gate: &G,
     turn: &mut Turn,
 ) -> Result<i64, Alarm>
-    ensures { Tells (MayRefuseReduction (G.may_refuse gate.now) frame.now (EachInInt e.now)) Int turn.new result (value_of frame.now.limits in_memory (int_view e.now) None frame.now.memory) }
+    ensures { Tells (MayRefuseReduction (G.may_refuse gate.now) frame.now (EachInInt e.now)) Int turn.new result (int_in frame.now e.now) }
 {
     match e {
         IntExpr::Number(n) => Ok(*n),
@@ -142,7 +136,7 @@ fn size_of<A: Arrays, G: Gate>(
     gate: &G,
     turn: &mut Turn,
 ) -> Result<i64, Alarm>
-    ensures { Tells (MayRefuseReduction (G.may_refuse gate.now) frame.now (EachInRange r.now)) Int turn.new result (value_of frame.now.limits in_memory (dotted (range_view r.now) (Plainly nowhere Size)) None frame.now.memory) }
+    ensures { Tells (MayRefuseReduction (G.may_refuse gate.now) frame.now (EachInRange r.now)) Int turn.new result (range_end frame.now r.now nowhere Size) }
 {
     Ok(size(range_value(r, frame, gate, turn)?))
 }
@@ -157,7 +151,7 @@ fn first_of<A: Arrays, G: Gate>(
     gate: &G,
     turn: &mut Turn,
 ) -> Result<i64, Alarm>
-    ensures { Tells (MayRefuseReduction (G.may_refuse gate.now) frame.now (EachInRange r.now)) Int turn.new result (value_of frame.now.limits in_memory (dotted (range_view r.now) (Plainly at.now First)) None frame.now.memory) }
+    ensures { Tells (MayRefuseReduction (G.may_refuse gate.now) frame.now (EachInRange r.now)) Int turn.new result (range_end frame.now r.now at.now First) }
 {
     let range = range_value(r, frame, gate, turn)?;
     first(range, *at, turn)
@@ -173,7 +167,7 @@ fn last_of<A: Arrays, G: Gate>(
     gate: &G,
     turn: &mut Turn,
 ) -> Result<i64, Alarm>
-    ensures { Tells (MayRefuseReduction (G.may_refuse gate.now) frame.now (EachInRange r.now)) Int turn.new result (value_of frame.now.limits in_memory (dotted (range_view r.now) (Plainly at.now Last)) None frame.now.memory) }
+    ensures { Tells (MayRefuseReduction (G.may_refuse gate.now) frame.now (EachInRange r.now)) Int turn.new result (range_end frame.now r.now at.now Last) }
 {
     let range = range_value(r, frame, gate, turn)?;
     last(range, *at, turn)
@@ -189,7 +183,7 @@ fn low_of<A: Arrays, G: Gate>(
     gate: &G,
     turn: &mut Turn,
 ) -> Result<i64, Alarm>
-    ensures { Tells (MayRefuseReduction (G.may_refuse gate.now) frame.now (EachInRange r.now)) Int turn.new result (value_of frame.now.limits in_memory (dotted (range_view r.now) (Plainly at.now Low)) None frame.now.memory) }
+    ensures { Tells (MayRefuseReduction (G.may_refuse gate.now) frame.now (EachInRange r.now)) Int turn.new result (range_end frame.now r.now at.now Low) }
 {
     let range = range_value(r, frame, gate, turn)?;
     low(range, *at, turn)
@@ -205,7 +199,7 @@ fn high_of<A: Arrays, G: Gate>(
     gate: &G,
     turn: &mut Turn,
 ) -> Result<i64, Alarm>
-    ensures { Tells (MayRefuseReduction (G.may_refuse gate.now) frame.now (EachInRange r.now)) Int turn.new result (value_of frame.now.limits in_memory (dotted (range_view r.now) (Plainly at.now High)) None frame.now.memory) }
+    ensures { Tells (MayRefuseReduction (G.may_refuse gate.now) frame.now (EachInRange r.now)) Int turn.new result (range_end frame.now r.now at.now High) }
 {
     let range = range_value(r, frame, gate, turn)?;
     high(range, *at, turn)
@@ -220,7 +214,7 @@ fn count_of<A: Arrays, G: Gate>(
     gate: &G,
     turn: &mut Turn,
 ) -> Result<i64, Alarm>
-    ensures { Tells (MayRefuseReduction (G.may_refuse gate.now) frame.now (EachInDomain d.now)) Int turn.new result (value_of frame.now.limits in_memory (dotted (domain_view d.now) (Plainly nowhere Size)) None frame.now.memory) }
+    ensures { Tells (MayRefuseReduction (G.may_refuse gate.now) frame.now (EachInDomain d.now)) Int turn.new result (domain_size frame.now d.now) }
 {
     Ok(domain_value(d, frame, gate, turn)?.size() as i64)
 }
@@ -238,7 +232,7 @@ pub(crate) fn element<A: Arrays, G: Gate>(
     gate: &G,
     turn: &mut Turn,
 ) -> Result<i64, Alarm>
-    ensures { Tells (MayRefuseReduction (G.may_refuse gate.now) frame.now (EachInIndex t.now)) (λ v. v) turn.new result (with_ok (items_of frame.now.limits in_memory (index_items t.now) frame.now.memory) (λ vs. word_found at.now (held_at (index_of vs) (array_at slot frame.now.memory)))) }
+    ensures { Tells (MayRefuseReduction (G.may_refuse gate.now) frame.now (EachInIndex t.now)) (λ v. v) turn.new result (element_in frame.now slot t.now at.now) }
 {
     match t {
         IndexExpr::Line(i) => {
@@ -270,7 +264,7 @@ pub(crate) fn index_value<A: Arrays, G: Gate>(
     gate: &G,
     turn: &mut Turn,
 ) -> Result<Index, Alarm>
-    ensures { Tells (MayRefuseReduction (G.may_refuse gate.now) frame.now (EachInIndex t.now)) (λ v. v) turn.new result (with_ok (values_of frame.now.limits in_memory (index_exprs t.now) frame.now.memory) (λ vs. Ok (index_of vs))) }
+    ensures { Tells (MayRefuseReduction (G.may_refuse gate.now) frame.now (EachInIndex t.now)) (λ v. v) turn.new result (index_in frame.now t.now) }
 {
     match t {
         IndexExpr::Line(i) => Ok(coordinate(operand(i, frame, gate, turn)?)),
@@ -301,7 +295,7 @@ pub(crate) fn literal<A: Arrays, G: Gate>(
     gate: &G,
     turn: &mut Turn,
 ) -> Result<DomainWord, Alarm>
-    ensures { Tells (MayRefuseReduction (G.may_refuse gate.now) frame.now (EachInRanges ranges.now)) DomainValue turn.new result (with_ok (items_of frame.now.limits in_memory (ranges_items ranges.now) frame.now.memory) (λ vs. sized_of at.now (all_ranges vs))) }
+    ensures { Tells (MayRefuseReduction (G.may_refuse gate.now) frame.now (EachInRanges ranges.now)) DomainValue turn.new result (literal_in frame.now at.now ranges.now) }
 {
     match ranges {
         RangesExpr::Line(a) => {
@@ -331,7 +325,7 @@ fn cut<A: Arrays, G: Gate>(
     gate: &G,
     turn: &mut Turn,
 ) -> Result<DomainWord, Alarm>
-    ensures { Tells (MayRefuseReduction (G.may_refuse gate.now) frame.now (EachInRanges ranges.now)) DomainValue turn.new result (with_ok (items_of frame.now.limits in_memory (ranges_items ranges.now) frame.now.memory) (λ vs. Ok (DomainValue (all_sliced domain (all_ranges vs))))) }
+    ensures { Tells (MayRefuseReduction (G.may_refuse gate.now) frame.now (EachInRanges ranges.now)) DomainValue turn.new result (sliced_in frame.now domain ranges.now) }
 {
     match ranges {
         RangesExpr::Line(a) => {
@@ -363,7 +357,7 @@ pub(crate) fn domain_value<A: Arrays, G: Gate>(
     gate: &G,
     turn: &mut Turn,
 ) -> Result<DomainWord, Alarm>
-    ensures { Tells (MayRefuseReduction (G.may_refuse gate.now) frame.now (EachInDomain e.now)) DomainValue turn.new result (value_of frame.now.limits in_memory (domain_view e.now) None frame.now.memory) }
+    ensures { Tells (MayRefuseReduction (G.may_refuse gate.now) frame.now (EachInDomain e.now)) DomainValue turn.new result (domain_in frame.now e.now) }
 {
     match e {
         DomainExpr::Local(slot) => Ok(frame.domain(*slot)),
@@ -397,7 +391,7 @@ fn stridden<A: Arrays, G: Gate>(
     gate: &G,
     turn: &mut Turn,
 ) -> Result<RangeWord, Alarm>
-    ensures { Tells (MayRefuseReduction (G.may_refuse gate.now) frame.now (EachInStride stride.now)) as_range turn.new result (stridden_of frame.now.limits in_memory (stride_view stride.now) (bounds_of written) frame.now.memory) }
+    ensures { Tells (MayRefuseReduction (G.may_refuse gate.now) frame.now (EachInStride stride.now)) as_range turn.new result (strided_in frame.now stride.now (bounds_of written)) }
 {
     match stride {
         Stride::Absent => bounded(written, turn),
@@ -420,7 +414,7 @@ pub(crate) fn range_value<A: Arrays, G: Gate>(
     gate: &G,
     turn: &mut Turn,
 ) -> Result<RangeWord, Alarm>
-    ensures { Tells (MayRefuseReduction (G.may_refuse gate.now) frame.now (EachInRange e.now)) as_range turn.new result (item_of frame.now.limits in_memory (range_item e.now) None frame.now.memory) }
+    ensures { Tells (MayRefuseReduction (G.may_refuse gate.now) frame.now (EachInRange e.now)) as_range turn.new result (range_in frame.now e.now) }
 {
     match e {
         RangeExpr::Local(slot) => Ok(frame.range(*slot)),
@@ -455,7 +449,7 @@ pub(crate) fn truth_value<A: Arrays, G: Gate>(
     gate: &G,
     turn: &mut Turn,
 ) -> Result<Truth, Alarm>
-    ensures { Tells (MayRefuseReduction (G.may_refuse gate.now) frame.now (EachInTruth e.now)) TruthValue turn.new result (value_of frame.now.limits in_memory (truth_view e.now) None frame.now.memory) }
+    ensures { Tells (MayRefuseReduction (G.may_refuse gate.now) frame.now (EachInTruth e.now)) TruthValue turn.new result (truth_in frame.now e.now) }
 {
     match e {
         BoolExpr::Truth(b) => Ok(Truth::new(*b)),

@@ -3,13 +3,14 @@
 
 ghost use Rattle.std.specs.Prelude.{◌≡◌, Some};
 ghost use Rattle.dpl_language.specs.Values.{Int, Truth as TruthValue};
-ghost use Rattle.dpl_language.specs.Expressions.{value_of, whole_in};
+ghost use Rattle.dpl_language.specs.Expressions.{whole_in};
 ghost use Rattle.dpl_lowered.specs.LoweredExpressions.{EachTurn};
 ghost use Rattle.dpl_memory.specs.Memory.{in_memory};
 ghost use Rattle.dpl_values.specs.Reducing.{first_of_ints, first_of_truths};
 ghost use Rattle.dpl_nodes.specs.Typed.{promoted_int, promoted_truth};
 ghost use Rattle.dpl_frame.specs.Faults.{Tells};
 ghost use Rattle.dpl_values.specs.Reductions.{MayRefuseReduction, EachInInts, EachInTruths};
+ghost use Rattle.dpl_values.specs.Meanings.{int_at, truth_at};
 
 use crate::comparison::holds;
 use crate::domain::found;
@@ -30,7 +31,7 @@ pub(crate) fn operand<A: Arrays, G: Gate>(
     gate: &G,
     turn: &mut Turn,
 ) -> Result<i64, Alarm>
-    ensures { Tells (MayRefuseReduction (G.may_refuse gate.now) frame.now (EachInInts e.now)) Int turn.new result (value_of frame.now.limits in_memory (promoted_int EachTurn e.now) (Some index.now) frame.now.memory) }
+    ensures { Tells (MayRefuseReduction (G.may_refuse gate.now) frame.now (EachInInts e.now)) Int turn.new result (int_at frame.now e.now index.now) }
 {
     match e {
         PromotedInt::Scalar(e) => scalar_operand(e, frame, gate, turn),
@@ -56,7 +57,7 @@ pub(crate) fn promoted_int_value<A: Arrays, G: Gate>(
     gate: &G,
     turn: &mut Turn,
 ) -> Result<i64, Alarm>
-    ensures { Tells (MayRefuseReduction (G.may_refuse gate.now) frame.now (EachInInts e.now)) Int turn.new result (value_of frame.now.limits in_memory (promoted_int EachTurn e.now) (Some index.now) frame.now.memory) }
+    ensures { Tells (MayRefuseReduction (G.may_refuse gate.now) frame.now (EachInInts e.now)) Int turn.new result (int_at frame.now e.now index.now) }
 {
     match e {
         PromotedInt::Scalar(e) => scalar_operand(e, frame, gate, turn),
@@ -108,7 +109,7 @@ pub(crate) fn promoted_truth_value<A: Arrays, G: Gate>(
     gate: &G,
     turn: &mut Turn,
 ) -> Result<Truth, Alarm>
-    ensures { Tells (MayRefuseReduction (G.may_refuse gate.now) frame.now (EachInTruths e.now)) TruthValue turn.new result (value_of frame.now.limits in_memory (promoted_truth EachTurn e.now) (Some index.now) frame.now.memory) }
+    ensures { Tells (MayRefuseReduction (G.may_refuse gate.now) frame.now (EachInTruths e.now)) TruthValue turn.new result (truth_at frame.now e.now index.now) }
 {
     match e {
         PromotedTruth::Scalar(e) => truth_value(e, frame, gate, turn),

@@ -3,7 +3,7 @@
 
 ghost use Rattle.std.specs.Prelude.{◌≡◌, ◌⊎◌, Some, Result};
 ghost use Rattle.dpl_language.specs.Values.{Value, Fault, Index as IndexValue, Int, Truth as TruthValue};
-ghost use Rattle.dpl_language.specs.Expressions.{value_of, whole_in, fold_over, reduction};
+ghost use Rattle.dpl_language.specs.Expressions.{whole_in, fold_over, reduction};
 ghost use Rattle.dpl_lowered.specs.LoweredExpressions.{EachTurn};
 ghost use Rattle.dpl_memory.specs.Memory.{array_at, in_memory};
 ghost use Rattle.dpl_nodes.specs.Typed.{promoted_int, promoted_truth, int_fold_view, truth_fold_view};
@@ -13,6 +13,7 @@ ghost use Rattle.dpl_loop.specs.Entries.{MayRefuse};
 ghost use Rattle.dpl_loop.specs.Values.{AnswersTell, MayAnswerRefused, HoldsStrip, StripsTell};
 ghost use Rattle.dpl_values.specs.Reducing.{first_of_ints, first_of_truths};
 ghost use Rattle.dpl_values.specs.Reductions.{MayRefuseReduction, OfSlot, EachInInts, EachInTruths};
+ghost use Rattle.dpl_values.specs.Meanings.{int_at, truth_at};
 
 use crate::budget::within_turns;
 use crate::fold::{combined_ints, combined_truths, int_over_none, truth_over_none};
@@ -145,7 +146,7 @@ pub(crate) fn reduced_int<A: Arrays, G: Gate>(
     turn: &mut Turn,
 ) -> Result<i64, Alarm>
     ensures { Tells (MayRefuseReduction (G.may_refuse gate.now) frame.now (λ Holds. OfSlot (first_of_ints e.now) Holds × EachInInts e.now Holds)) Int turn.new result
-        (reduction frame.now.limits.budget at.now (int_fold_view fold) (λ i. value_of frame.now.limits in_memory (promoted_int EachTurn e.now) (Some i) frame.now.memory) (whole_in frame.now.limits in_memory (promoted_int EachTurn e.now) frame.now.memory)) }
+        (reduction frame.now.limits.budget at.now (int_fold_view fold) (λ i. int_at frame.now e.now i) (whole_in frame.now.limits in_memory (promoted_int EachTurn e.now) frame.now.memory)) }
 {
     let Some(slot) = int_array(e) else {
         return Ok(int_over_none(fold));
@@ -153,10 +154,10 @@ pub(crate) fn reduced_int<A: Arrays, G: Gate>(
     let domain = frame.array_domain(slot);
     within_turns(&domain, at, frame, turn)?;
     let item_at = |index: Index, turn: &mut Turn| -> Result<i64, Alarm>
-        ensures { Tells (MayRefuseReduction (G.may_refuse gate.entry.now) frame.entry.now (EachInInts e.entry.now)) Int turn.new result (value_of frame.entry.now.limits in_memory (promoted_int EachTurn e.entry.now) (Some index) frame.entry.now.memory) }
+        ensures { Tells (MayRefuseReduction (G.may_refuse gate.entry.now) frame.entry.now (EachInInts e.entry.now)) Int turn.new result (int_at frame.entry.now e.entry.now index) }
     { operand(e, &index, frame, gate, turn) };
     let strip_at = |index: Index| -> Strip
-        ensures { (result.first ≡ index) × HoldsStrip Int (λ i. value_of frame.entry.now.limits in_memory (promoted_int EachTurn e.entry.now) (Some i) frame.entry.now.memory) result }
+        ensures { (result.first ≡ index) × HoldsStrip Int (λ i. int_at frame.entry.now e.entry.now i) result }
     { promoted_strip(e, index, frame) };
     folded_ints(&Ints { fold }, slot, frame, item_at, strip_at, gate, turn)
 }
@@ -176,7 +177,7 @@ pub(crate) fn reduced_truth<A: Arrays, G: Gate>(
     turn: &mut Turn,
 ) -> Result<Truth, Alarm>
     ensures { Tells (MayRefuseReduction (G.may_refuse gate.now) frame.now (λ Holds. OfSlot (first_of_truths e.now) Holds × EachInTruths e.now Holds)) TruthValue turn.new result
-        (reduction frame.now.limits.budget at.now (truth_fold_view fold) (λ i. value_of frame.now.limits in_memory (promoted_truth EachTurn e.now) (Some i) frame.now.memory) (whole_in frame.now.limits in_memory (promoted_truth EachTurn e.now) frame.now.memory)) }
+        (reduction frame.now.limits.budget at.now (truth_fold_view fold) (λ i. truth_at frame.now e.now i) (whole_in frame.now.limits in_memory (promoted_truth EachTurn e.now) frame.now.memory)) }
 {
     let Some(slot) = truth_array(e) else {
         return Ok(Truth::new(truth_over_none(fold)));
@@ -184,7 +185,7 @@ pub(crate) fn reduced_truth<A: Arrays, G: Gate>(
     let domain = frame.array_domain(slot);
     within_turns(&domain, at, frame, turn)?;
     let item_at = |index: Index, turn: &mut Turn| -> Result<Truth, Alarm>
-        ensures { Tells (MayRefuseReduction (G.may_refuse gate.entry.now) frame.entry.now (EachInTruths e.entry.now)) TruthValue turn.new result (value_of frame.entry.now.limits in_memory (promoted_truth EachTurn e.entry.now) (Some index) frame.entry.now.memory) }
+        ensures { Tells (MayRefuseReduction (G.may_refuse gate.entry.now) frame.entry.now (EachInTruths e.entry.now)) TruthValue turn.new result (truth_at frame.entry.now e.entry.now index) }
     { promoted_truth_value(e, &index, frame, gate, turn) };
     folded(&Truths { fold }, slot, frame, item_at, gate, turn)
 }

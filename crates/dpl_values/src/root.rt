@@ -2,11 +2,9 @@
 // A map is never the cause of a fault: where an argument has no value, no map is named.
 
 ghost use Rattle.std.specs.Prelude.{◌≡◌, None, slice_get};
-ghost use Rattle.dpl_language.specs.Expressions.{value_of};
-ghost use Rattle.dpl_memory.specs.Memory.{in_memory};
-ghost use Rattle.dpl_nodes.specs.Typed.{domain_view};
 ghost use Rattle.dpl_frame.specs.Faults.{of_domain};
 ghost use Rattle.dpl_values.specs.Placed.{IsStart, IsNamedBy, IsNamedAt, IsPlaced};
+ghost use Rattle.dpl_values.specs.Meanings.{domain_in};
 
 use crate::expression::domain_value;
 use crate::values::index_value;
@@ -19,7 +17,7 @@ use dpl_nodes::{DomainExpr, MapExpr, Placing, StartExpr};
 
 // A domain that a map names, or its fault. No gate is asked for a map's argument.
 fn domain_argument<A: Arrays>(d: &DomainExpr<'_>, frame: &Frame<'_, A>) -> Result<DomainWord, Trap>
-    ensures { value_of frame.now.limits in_memory (domain_view d.now) None frame.now.memory ≡ of_domain result }
+    ensures { domain_in frame.now d.now ≡ of_domain result }
 {
     let mut turn = Turn::Absent;
     match domain_value(d, frame, &OpenGate, &mut turn) {

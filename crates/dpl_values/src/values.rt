@@ -1,18 +1,13 @@
 // The values of ints, truth values, ranges, domains and indices over a frame, or the fault with the turn that it names; reductions ask a gate.
 // Each is the walk of its expression, for which a place for the turn stands ready.
 
-ghost use Rattle.std.specs.Prelude.{◌≡◌, None, Some, Ok};
-ghost use Rattle.dpl_language.specs.Values.{Int, Truth as TruthValue, Domain as DomainValue, all_ranges, index_of};
-ghost use Rattle.dpl_language.specs.Ranges.{sized as sized_of};
-ghost use Rattle.dpl_language.specs.Outcome.{with_ok};
-ghost use Rattle.dpl_language.specs.Expressions.{value_of, item_of, items_of, values_of};
-ghost use Rattle.dpl_lowered.specs.LoweredExpressions.{EachTurn};
-ghost use Rattle.dpl_memory.specs.Memory.{in_memory};
-ghost use Rattle.dpl_nodes.specs.Typed.{int_view, truth_view, range_item, ranges_items, index_exprs, domain_view, promoted_int, promoted_truth};
+ghost use Rattle.std.specs.Prelude.{◌≡◌, Ok};
+ghost use Rattle.dpl_language.specs.Values.{Int, Truth as TruthValue, Domain as DomainValue};
 ghost use Rattle.dpl_frame.specs.Faults.{as_range};
 ghost use Rattle.dpl_loop.specs.Values.{Gives};
 ghost use Rattle.dpl_values.specs.Elements.{sized_or};
 ghost use Rattle.dpl_values.specs.Reductions.{MayRefuseReduction, EachInInt, EachInTruth, EachInRange, EachInRanges, EachInIndex, EachInDomain, EachInInts, EachInTruths};
+ghost use Rattle.dpl_values.specs.Meanings.{int_in, truth_in, range_in, domain_in, index_in, literal_in, int_at, truth_at};
 
 use crate::expression::operand;
 use crate::{domain, expression, promoted};
@@ -35,7 +30,7 @@ pub fn int_value<A: Arrays, G: Gate>(
     frame: &Frame<'_, A>,
     gate: &G,
 ) -> Result<i64, Stop>
-    ensures { Gives (MayRefuseReduction (G.may_refuse gate.now) frame.now (EachInInt e.now)) Int result (value_of frame.now.limits in_memory (int_view e.now) None frame.now.memory) }
+    ensures { Gives (MayRefuseReduction (G.may_refuse gate.now) frame.now (EachInInt e.now)) Int result (int_in frame.now e.now) }
 {
     let mut turn = Turn::Absent;
     match operand(e, frame, gate, &mut turn) {
@@ -53,7 +48,7 @@ pub fn truth_value<A: Arrays, G: Gate>(
     frame: &Frame<'_, A>,
     gate: &G,
 ) -> Result<Truth, Stop>
-    ensures { Gives (MayRefuseReduction (G.may_refuse gate.now) frame.now (EachInTruth e.now)) TruthValue result (value_of frame.now.limits in_memory (truth_view e.now) None frame.now.memory) }
+    ensures { Gives (MayRefuseReduction (G.may_refuse gate.now) frame.now (EachInTruth e.now)) TruthValue result (truth_in frame.now e.now) }
 {
     let mut turn = Turn::Absent;
     match expression::truth_value(e, frame, gate, &mut turn) {
@@ -71,7 +66,7 @@ pub fn range_value<A: Arrays, G: Gate>(
     frame: &Frame<'_, A>,
     gate: &G,
 ) -> Result<RangeWord, Stop>
-    ensures { Gives (MayRefuseReduction (G.may_refuse gate.now) frame.now (EachInRange e.now)) as_range result (item_of frame.now.limits in_memory (range_item e.now) None frame.now.memory) }
+    ensures { Gives (MayRefuseReduction (G.may_refuse gate.now) frame.now (EachInRange e.now)) as_range result (range_in frame.now e.now) }
 {
     let mut turn = Turn::Absent;
     match expression::range_value(e, frame, gate, &mut turn) {
@@ -89,7 +84,7 @@ pub fn domain_value<A: Arrays, G: Gate>(
     frame: &Frame<'_, A>,
     gate: &G,
 ) -> Result<DomainWord, Stop>
-    ensures { Gives (MayRefuseReduction (G.may_refuse gate.now) frame.now (EachInDomain e.now)) DomainValue result (value_of frame.now.limits in_memory (domain_view e.now) None frame.now.memory) }
+    ensures { Gives (MayRefuseReduction (G.may_refuse gate.now) frame.now (EachInDomain e.now)) DomainValue result (domain_in frame.now e.now) }
 {
     let mut turn = Turn::Absent;
     match expression::domain_value(e, frame, gate, &mut turn) {
@@ -107,7 +102,7 @@ pub fn index_value<A: Arrays, G: Gate>(
     frame: &Frame<'_, A>,
     gate: &G,
 ) -> Result<Index, Stop>
-    ensures { Gives (MayRefuseReduction (G.may_refuse gate.now) frame.now (EachInIndex t.now)) (λ t. t) result (with_ok (values_of frame.now.limits in_memory (index_exprs t.now) frame.now.memory) (λ vs. Ok (index_of vs))) }
+    ensures { Gives (MayRefuseReduction (G.may_refuse gate.now) frame.now (EachInIndex t.now)) (λ t. t) result (index_in frame.now t.now) }
 {
     let mut turn = Turn::Absent;
     match expression::index_value(t, frame, gate, &mut turn) {
@@ -126,7 +121,7 @@ pub fn literal<A: Arrays, G: Gate>(
     frame: &Frame<'_, A>,
     gate: &G,
 ) -> Result<DomainWord, Stop>
-    ensures { Gives (MayRefuseReduction (G.may_refuse gate.now) frame.now (EachInRanges ranges.now)) DomainValue result (with_ok (items_of frame.now.limits in_memory (ranges_items ranges.now) frame.now.memory) (λ vs. sized_of at.now (all_ranges vs))) }
+    ensures { Gives (MayRefuseReduction (G.may_refuse gate.now) frame.now (EachInRanges ranges.now)) DomainValue result (literal_in frame.now at.now ranges.now) }
 {
     let mut turn = Turn::Absent;
     match expression::literal(at, ranges, frame, gate, &mut turn) {
@@ -159,7 +154,7 @@ pub fn promoted_int_value<A: Arrays, G: Gate>(
     frame: &Frame<'_, A>,
     gate: &G,
 ) -> Result<i64, Stop>
-    ensures { Gives (MayRefuseReduction (G.may_refuse gate.now) frame.now (EachInInts e.now)) Int result (value_of frame.now.limits in_memory (promoted_int EachTurn e.now) (Some index.now) frame.now.memory) }
+    ensures { Gives (MayRefuseReduction (G.may_refuse gate.now) frame.now (EachInInts e.now)) Int result (int_at frame.now e.now index.now) }
 {
     let mut turn = Turn::Absent;
     match promoted::operand(e, index, frame, gate, &mut turn) {
@@ -178,7 +173,7 @@ pub fn promoted_truth_value<A: Arrays, G: Gate>(
     frame: &Frame<'_, A>,
     gate: &G,
 ) -> Result<Truth, Stop>
-    ensures { Gives (MayRefuseReduction (G.may_refuse gate.now) frame.now (EachInTruths e.now)) TruthValue result (value_of frame.now.limits in_memory (promoted_truth EachTurn e.now) (Some index.now) frame.now.memory) }
+    ensures { Gives (MayRefuseReduction (G.may_refuse gate.now) frame.now (EachInTruths e.now)) TruthValue result (truth_at frame.now e.now index.now) }
 {
     let mut turn = Turn::Absent;
     match promoted::promoted_truth_value(e, index, frame, gate, &mut turn) {

@@ -1,0 +1,70 @@
+-- The language's meaning of each kind of expression over a frame: its value, or its fault.
+-- An expression is read as the plain tree that it stands for, and its names as the slots of the frame's memory.
+use Rattle.std.specs.Prelude.{ℕ, ℤ, None, Some, Result, Ok}
+use Rattle.dpl_syntax.specs.declared.place.Place.{Place}
+use Rattle.dpl_sets.specs.TextRanges.{TextRange}
+use Rattle.dpl_language.specs.Tree.{Word, Plainly, Size}
+use Rattle.dpl_language.specs.Values.{Value, Domain, Index, Fault, all_ranges, index_of}
+use Rattle.dpl_language.specs.Ranges.{sized, all_sliced}
+use Rattle.dpl_language.specs.Outcome.{with_ok}
+use Rattle.dpl_language.specs.Expressions.{value_of, item_of, items_of, values_of, stridden}
+use Rattle.dpl_lowered.specs.Shapes.{nowhere}
+use Rattle.dpl_lowered.specs.LoweredExpressions.{EachTurn}
+use Rattle.dpl_memory.specs.Memory.{array_at, held_at, in_memory}
+use Rattle.dpl_nodes.specs.declared.tree.IntExpr.{IntExpr}
+use Rattle.dpl_nodes.specs.declared.tree.BoolExpr.{BoolExpr}
+use Rattle.dpl_nodes.specs.declared.tree.RangeExpr.{RangeExpr}
+use Rattle.dpl_nodes.specs.declared.tree.RangesExpr.{RangesExpr}
+use Rattle.dpl_nodes.specs.declared.tree.Stride.{Stride}
+use Rattle.dpl_nodes.specs.declared.tree.DomainExpr.{DomainExpr}
+use Rattle.dpl_nodes.specs.declared.tree.IndexExpr.{IndexExpr}
+use Rattle.dpl_nodes.specs.declared.tree.PromotedInt.{PromotedInt}
+use Rattle.dpl_nodes.specs.declared.tree.PromotedTruth.{PromotedTruth}
+use Rattle.dpl_nodes.specs.Typed.{int_view, truth_view, range_item, range_view, stride_view, dotted, ranges_items, index_items, index_exprs, domain_view, promoted_int, promoted_truth}
+use Rattle.dpl_frame.specs.Frames.{Framed}
+use Rattle.dpl_values.specs.Elements.{word_found}
+
+module _ (f : Framed) where
+  -- an int and a truth value
+  abbrev pub int_in : IntExpr → Result Value Fault
+  int_in e = value_of f.limits in_memory (int_view e) None f.memory
+
+  abbrev pub truth_in : BoolExpr → Result Value Fault
+  truth_in e = value_of f.limits in_memory (truth_view e) None f.memory
+
+  -- a range; what its stride makes of its bounds; and a method of it without arguments, by the place of its name
+  abbrev pub range_in : RangeExpr → Result Value Fault
+  range_in r = item_of f.limits in_memory (range_item r) None f.memory
+
+  abbrev pub strided_in : Stride → Result TextRange Fault → Result Value Fault
+  strided_in stride bounds = stridden f.limits in_memory (stride_view stride) bounds f.memory
+
+  abbrev pub range_end : RangeExpr → Place → Word → Result Value Fault
+  range_end r at method = value_of f.limits in_memory (dotted (range_view r) (Plainly at method)) None f.memory
+
+  -- a domain: as it is written, by its ranges, cut by ranges; and how many indices it has
+  abbrev pub domain_in : DomainExpr → Result Value Fault
+  domain_in d = value_of f.limits in_memory (domain_view d) None f.memory
+
+  abbrev pub literal_in : Place → RangesExpr → Result Value Fault
+  literal_in at ranges = with_ok (items_of f.limits in_memory (ranges_items ranges) f.memory) (λ vs. sized at (all_ranges vs))
+
+  abbrev pub sliced_in : List TextRange → RangesExpr → Result Value Fault
+  sliced_in domain ranges = with_ok (items_of f.limits in_memory (ranges_items ranges) f.memory) (λ vs. Ok (Domain (all_sliced domain (all_ranges vs))))
+
+  abbrev pub domain_size : DomainExpr → Result Value Fault
+  domain_size d = value_of f.limits in_memory (dotted (domain_view d) (Plainly nowhere Size)) None f.memory
+
+  -- an index, and the word of the element at it of the array in a slot
+  abbrev pub index_in : IndexExpr → Result Index Fault
+  index_in t = with_ok (values_of f.limits in_memory (index_exprs t) f.memory) (λ vs. Ok (index_of vs))
+
+  abbrev pub element_in : ℕ → IndexExpr → Place → Result ℤ Fault
+  element_in slot t at = with_ok (items_of f.limits in_memory (index_items t) f.memory) (λ vs. word_found at (held_at (index_of vs) (array_at slot f.memory)))
+
+  -- a promoted expression at an index of its arrays
+  abbrev pub int_at : PromotedInt → Index → Result Value Fault
+  int_at e t = value_of f.limits in_memory (promoted_int EachTurn e) (Some t) f.memory
+
+  abbrev pub truth_at : PromotedTruth → Index → Result Value Fault
+  truth_at e t = value_of f.limits in_memory (promoted_truth EachTurn e) (Some t) f.memory
