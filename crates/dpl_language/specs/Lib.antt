@@ -18,5 +18,5 @@ pub mod Statements
 pub mod Names
 pub mod Program
 pub mod Together
--- What serves proofs alone: what is true of each tree that a text spells.
+-- What serves contracts and proofs alone: what is true of each tree that a text spells.
 pub mod Spelled

@@ -1,4 +1,4 @@
-// Gates: what a worker asks before each of its turns.
+// Gates: what a worker asks before each of its turns, unless the gate says that it is open.
 // A gate may refuse entries, and its contract names those that it may.
 
 ghost use Rattle.std.specs.Prelude.{◌≡◌, ℕ, true, false};

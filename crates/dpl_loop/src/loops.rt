@@ -1,5 +1,5 @@
-// Foralls over ranges and domains: the turns are made one by one, in order, and each asks the gate first.
-// A worker enters for a turn as the locale that owns the turn's index.
+// Foralls over ranges and domains: what they do is what their turns do one after another, in order. Each turn asks the gate first, and a
+// worker enters for it as the locale that owns its index. Where the gate is open, the turns of a row may be made at once (together.rt).
 
 ghost use Rattle.std.specs.Prelude.{◌≡◌, [], ◌∷◌};
 ghost use Rattle.dpl_language.specs.Ranges.{indices_in};
@@ -43,7 +43,7 @@ pub(crate) fn entered<'t, A: Arrays, T: Turns<Frame<'t, A>>, G: Gate>(
     }
 }
 
-/// A forall over a domain. For each turn the owner of its index enters the gate.
+/// A forall over a domain. For each turn the owner of its index enters the gate, unless the gate is open.
 ///
 /// # Errors
 /// The fault of the first turn that has one, with its turn; out of memory; or the gate refused an entry, which it may. Where the

@@ -1,5 +1,5 @@
-// Reductions: the values at all indices of a domain are put together in their order, and each index asks the gate first.
-// A worker enters for an index as the locale that owns it.
+// Reductions: the values at all indices of a domain are put together in their order. Each index asks the gate first, unless it is open:
+// a worker enters for an index as the locale that owns it.
 
 ghost use Rattle.std.specs.Prelude.{◌≡◌, Result, ◌⊎◌};
 ghost use Rattle.dpl_language.specs.Tree.{Op};
@@ -77,8 +77,8 @@ pub(crate) fn entered<V, F: Fn(Index, &mut Turn) -> Result<V, Alarm>, G: Gate>(
     named(item_at, index, turn)
 }
 
-/// The items of a domain's indices put together, in their order. For each index its owner enters the gate. An item is what `item_at`
-/// answers; it is handed a place for the turn that its fault names.
+/// The items of a domain's indices put together, in their order. For each index its owner enters the gate, unless it is open. An item is
+/// what `item_at` answers; it is handed a place for the turn that its fault names.
 ///
 /// # Errors
 /// The fault of the first index whose item has one, in the turn of that index; or the gate refused the entry of an index's owner,

@@ -1,4 +1,4 @@
--- What is known of names, how a lowered tree is put together, and lowered trees.
+-- What serves contracts and proofs alone: what is known of names, how a lowered tree is put together, and lowered trees.
 pub mod Known
 pub mod Shapes
 pub mod LoweredExpressions

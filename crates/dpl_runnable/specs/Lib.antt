@@ -1,4 +1,4 @@
--- What each name in sight of a program that runs is, what its statements are, and what each tree that is written is.
+-- What serves contracts and proofs alone: what each name in sight of a program that runs is, what its statements are, and what each tree that is written is.
 pub mod Kinds
 pub mod Runnable
 pub mod Written

@@ -1,4 +1,4 @@
--- What type soundness says, in reading order: all of it is to be believed.
+-- What type soundness says, in reading order. It serves contracts and proofs alone: it is no part of the language, and none of it is to be believed.
 pub mod Formed
 pub mod Typed
 -- The environment by names: stores that have what the scopes declare.

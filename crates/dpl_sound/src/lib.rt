@@ -1,3 +1,4 @@
 // Type soundness of the whole language's expressions: what has a type evaluates to a fault or to a value of that type.
-// Definitions in specs/ and laws in proofs/ alone: no code, and nothing that runs is proved against them yet.
+// Definitions in specs/ and laws in proofs/ alone: no code. That each value that a run gives a name is one that the name may hold rests on
+// them (proofs/Shaped.antt of dpl_typer).
 #![tactic(auto)]

@@ -5,7 +5,7 @@ pub mod Declarations
 pub mod Statements
 pub mod Grammar
 pub mod Theorem
--- What is true of each tree that tokens spell.
+-- What is true of each tree that tokens spell, which serves contracts and proofs alone.
 pub mod Spelt
 -- What serves contracts and proofs alone.
 pub mod Reading

@@ -1,2 +1,2 @@
--- Where statements stand, and which may stand there.
+-- What serves contracts and proofs alone: where statements stand, and which may stand there.
 pub mod Standing

@@ -1,2 +1,2 @@
--- The kinds of plain variables, and their words.
+-- What serves contracts and proofs alone: the kinds of plain variables, and their words.
 pub mod Words
