@@ -1,5 +1,9 @@
-// The loops of foralls and of reductions: they go through the indices of a domain, and ask a gate at each.
+// The loops of foralls and of reductions: they go through the indices of a domain, and ask a gate at each unless it is open.
 // Read `forall`, whose contract says that a forall is a plain loop, with `Gate` and `Turns`, which it takes; and then `reduce`.
+// A loop over turns asks them for a whole row at its first index and, where that made some, at each next one (together.rt); how many of the
+// next indices lie behind one another, their place tells (rows.rt). A reduction takes the walk of an item as a closure: a cycle of calls
+// may go through one, where it may not go through a trait. A walk is handed the gate that its reductions ask, and so ends by its value, by
+// a fault, or refused (`Tells` of dpl_frame, and `Gives` for callers that have no place for the turn). Within a turn no gate is asked.
 #![tactic(auto)]
 
 pub mod gate;

@@ -1,5 +1,7 @@
 // The run of a text, as calls: what is written, and the outcome, are those of the language's definition.
 // Read `run_text`, whose contract is the theorem, and then `Config`, `Out` and `Outcome`, which it speaks of.
+// That what `run` of dpl_program gives, through the plan, is what the program means is a page of proof (proofs/Meaning.antt): desugaring,
+// the simulation of names by a memory, and what the planner promises, one after another.
 #![tactic(auto)]
 
 mod collect;

@@ -1,5 +1,6 @@
 // The trees of programs as they lie in an arena: what is spelled, with the place of each token.
 // Each is seen as a plain tree of the language's definition (specs/View.antt), without where its nodes lie.
+// Trees are `Copy`, and the caller passes the arena: so no function drops a part of a tree.
 #![tactic(auto)]
 
 pub mod arena;
