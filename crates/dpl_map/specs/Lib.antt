@@ -3,8 +3,8 @@ pub mod Places
 pub mod Grids
 pub mod Maps
 pub mod Parts
+-- From here on: what serves contracts and proofs alone. Indices between two others; how a part is cut, into how few domains and in what order they stand.
 pub mod Boxes
--- From here on: what serves contracts and proofs alone. How a part is cut, into how few domains and in what order they stand.
 pub mod Axes
 pub mod Cuts
 pub mod Counts

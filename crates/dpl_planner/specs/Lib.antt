@@ -1,4 +1,4 @@
--- Programs with their names resolved, and what the command line owes them.
+-- Programs with their names resolved, and what the command line sets of them.
 pub mod Bounds
 pub mod Given
 -- What serves contracts and proofs alone.
