@@ -2,8 +2,8 @@
 // A print and a forall are left to the context in which they stand.
 // The compiler clears every local that lives in memory at the entry of its function, so a function that is called at each statement must
 // have few. Hence walks hand back one word (`Alarm` of dpl_frame), change.rt evaluates an int's right side in one place whatever is done
-// with it, and statements that make no turns are functions of their own (simple.rt). row.rt and turn.rt show that turns made at once are
-// the turns one after another (`AreDone`).
+// with it, and statements that make no turns are functions of their own (simple.rt). turn.rt shows that turns made at once are the turns one after
+// another (`AreDone`).
 #![tactic(auto)]
 
 mod change;

@@ -1,11 +1,7 @@
 // The values of typed expressions over a frame: what the language's meaning gives for the plain trees that they stand for.
 // No walk takes memory, and none has an arm for what can't be.
 // What a reduction folds is a promoted expression, evaluated at each index of the first whole array in it and dealt out by that one's map
-// (reduction.rt). Ints of several indices are evaluated at once in strips. A strip says of each int that it has that it is the value at its
-// index, and never how many it has: what it lacks is evaluated index by index, so that a fault and its turn are the walk's alone. It is
-// read before the turns that write, so it must not see what they write. A promoted expression reads at the index that is written alone; an
-// expression in a turn reads elsewhere, so it has no strip where it reads the array that the turn writes (specs/Strips.antt: `IsSameAt`,
-// `IsInTurn`).
+// (reduction.rt). Ints of several indices are evaluated at once where there are strips (dpl_strips).
 #![tactic(auto)]
 
 pub mod budget;
