@@ -1,4 +1,4 @@
-// The types of names and expressions in a check, and what each rule on them says: a type, or where it is broken.
+// What each rule of the check on types says of a form, by the types of its parts: a type, or where it is broken.
 // Each rule stands for its definition in dpl_rules; none takes memory.
 #![tactic(auto)]
 
