@@ -5,17 +5,13 @@ use Rattle.std.specs.Prelude.{ℕ, pos, codes, List, Option, Some, None}
 use Rattle.dpl_syntax.specs.declared.place.Place.{Place}
 use Rattle.dpl_language.specs.Tree.{ArrayType, BoolKind, By, Closed, Declare, DomainLiteral, FirstItem, HereWord, IntKind, ItemInit, Named, NextItem, NoItems, NoStmts}
 use Rattle.dpl_language.specs.Tree.{NoStride, Number, One, RangeItem, ScalarType, SyncType, Then}
-use Rattle.dpl_language.specs.Tree.{Stmts, Items, StartTree, ArgumentName, BlockCyclicTree, CreateWord, CreateTree, ProgramTree}
+use Rattle.dpl_language.specs.Tree.{Stmts, Items, CreateWord, CreateTree, ProgramTree}
 use Rattle.dpl_language.proofs.Spelled.{at, name, array_type, declared, initial, typed}
 use Rattle.dpl_syntax.specs.declared.refusal.Code.{Code}
 use Rattle.dpl_syntax.specs.declared.refusal.Breach.{Breach}
 use Rattle.dpl_rules.specs.Breaches.{breaches, first_breach}
 
--- the records that no other sample spells, by their fields in order
-abbrev pub block_cyclic_map : Place → Place → Place → Option ArgumentName → StartTree (List ℕ) → Place → Option ArgumentName → StartTree (List ℕ) → Place → BlockCyclicTree (List ℕ)
-block_cyclic_map new word from start_argument start comma size_argument size upto =
-    record { new = new; word = word; from = from; start_argument = start_argument; start = start; comma = comma; size_argument = size_argument; size = size; upto = upto }
-
+-- the record that no other sample spells, by its fields in order
 abbrev pub created : Place → CreateWord → Place → Place → Place → Items (List ℕ) → Place → CreateTree (List ℕ)
 created at word dot method from items upto =
     record { at = at; word = word; dot = dot; method = method; from = from; items = items; upto = upto }

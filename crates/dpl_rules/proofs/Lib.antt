@@ -1,15 +1,9 @@
 -- Worked rows: the first breach of sample texts, computed from the definitions.
 pub mod House
 pub mod Names
-pub mod Operators
-pub mod Postfixes
-pub mod Declarations
+pub mod Expressions
 pub mod Statements
-pub mod Ranks
 pub mod Foralls
-pub mod Outer
-pub mod Holdings
-pub mod Sound
 pub mod Lists
 pub mod Runs
 pub mod Limits
