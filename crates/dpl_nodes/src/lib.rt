@@ -18,7 +18,7 @@ pub use step::{
     Argument, ArrayDeclaration, ArrayName, DeclaredOver, DomainName, Else, Initial, IntDeed,
     Intent, Names, Rank, Step, TruthDeed,
 };
-pub use stop::Stop;
+pub use stop::NoNode;
 pub use tree::{
     BoolExpr, Comparison, DomainExpr, Dots, IndexExpr, IntExpr, PromotedInt, PromotedTruth,
     RangeExpr, RangesExpr, Stride,

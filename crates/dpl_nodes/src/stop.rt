@@ -3,7 +3,7 @@
 
 /// Why there is no node.
 #[derive(Clone, Copy, PartialEq, Eq, Debug)]
-pub enum Stop {
+pub enum NoNode {
     /// Out of memory.
     Memory,
     /// An operand is of a type that the operator doesn't take; or a fault's place has a line or a column from 2^21 on, as no

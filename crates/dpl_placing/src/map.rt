@@ -10,7 +10,7 @@ ghost use Rattle.dpl_rules.specs.Expressions.{item_type};
 ghost use Rattle.dpl_lowered.specs.LoweredExpressions.{Once};
 ghost use Rattle.dpl_nodes.specs.Typed.{domain_view};
 ghost use Rattle.dpl_nodes.specs.Spots.{IsNear};
-ghost use Rattle.dpl_nodes.specs.declared.stop.Stop.TheVariants as stop;
+ghost use Rattle.dpl_nodes.specs.declared.stop.NoNode.TheVariants as stop;
 ghost use Rattle.dpl_spelling.specs.Spelt.{ItemSpelt};
 ghost use Rattle.dpl_typer.specs.Leaves.{MayBePlain};
 ghost use Rattle.dpl_typer.specs.Simple.{IsSimpleItem};
@@ -18,7 +18,7 @@ ghost use Rattle.dpl_typer.specs.Elaborated.{item_leaves};
 ghost use Rattle.dpl_placing.specs.Named.{IsMapOf, HasMap};
 
 use crate::start::start;
-use dpl_nodes::{DomainExpr, MapExpr, Stop};
+use dpl_nodes::{DomainExpr, MapExpr, NoNode};
 use dpl_scopes::Scopes;
 use dpl_tree::{Arena, Item, Map, Mapped};
 use dpl_typer::{Typed, item};
@@ -28,24 +28,24 @@ fn boxed<'t>(
     arena: Arena<'t>,
     scopes: &Scopes<'_>,
     written: &Item<'_>,
-) -> Result<&'t DomainExpr<'t>, Stop>
+) -> Result<&'t DomainExpr<'t>, NoNode>
     ensures node { IfOk result (λ d. item_leaves scopes.now Once (item_view written.now) ≡ One (domain_view d.now)) }
     ensures ill_typed { (result ≡ Err stop.IllTyped) → IsSimpleItem (MayBePlain scopes.now) (item_view written.now) → ItemSpelt IsNear (item_view written.now) → has is_domain (item_type scopes.now (item_view written.now)) ≡ false }
 {
     let made = item(arena, scopes, written)?;
     match made {
         Typed::Domain(d) => Ok(d),
-        Typed::Int(_) => Err(Stop::IllTyped),
-        Typed::Truth(_) => Err(Stop::IllTyped),
-        Typed::Range(_) => Err(Stop::IllTyped),
-        Typed::Tuple(_) => Err(Stop::IllTyped),
-        Typed::Ints(_) => Err(Stop::IllTyped),
-        Typed::Truths(_) => Err(Stop::IllTyped),
+        Typed::Int(_) => Err(NoNode::IllTyped),
+        Typed::Truth(_) => Err(NoNode::IllTyped),
+        Typed::Range(_) => Err(NoNode::IllTyped),
+        Typed::Tuple(_) => Err(NoNode::IllTyped),
+        Typed::Ints(_) => Err(NoNode::IllTyped),
+        Typed::Truths(_) => Err(NoNode::IllTyped),
     }
 }
 
 // A map, by its arguments.
-fn map<'t>(arena: Arena<'t>, scopes: &Scopes<'_>, written: &Map<'_>) -> Result<MapExpr<'t>, Stop>
+fn map<'t>(arena: Arena<'t>, scopes: &Scopes<'_>, written: &Map<'_>) -> Result<MapExpr<'t>, NoNode>
     ensures map { IfOk result (λ e. IsMapOf scopes.now (map_view written.now) e) }
     ensures ill_typed { (result ≡ Err stop.IllTyped) → HasMap scopes.now (map_view written.now) → ⊥ }
 {
@@ -75,14 +75,14 @@ pub fn mapped<'t>(
     arena: Arena<'t>,
     scopes: &Scopes<'_>,
     written: &Mapped<'_>,
-) -> Result<Option<MapExpr<'t>>, Stop>
+) -> Result<Option<MapExpr<'t>>, NoNode>
     ensures mapped { IfOk result (λ o. IfSome o (λ e. IsMapOf scopes.now (map_view written.now.map) e)) }
     ensures exact { IfOk result (λ o. IfNone o (HasMap scopes.now (map_view written.now.map) → ⊥)) }
     ensures ill_typed { result ≢ Err stop.IllTyped }
 {
     match map(arena, scopes, &written.map) {
         Ok(e) => Ok(Some(e)),
-        Err(Stop::IllTyped) => Ok(None),
-        Err(Stop::Memory) => Err(Stop::Memory),
+        Err(NoNode::IllTyped) => Ok(None),
+        Err(NoNode::Memory) => Err(NoNode::Memory),
     }
 }

@@ -5,11 +5,11 @@ ghost use Rattle.std.specs.Prelude.{◌≡◌, ◌≢◌, IfOk, Err};
 ghost use Rattle.dpl_language.specs.Declarations.{type_of};
 ghost use Rattle.dpl_tree.specs.Words.{create_view};
 ghost use Rattle.dpl_tree.specs.Declarations.{optional, typed_view, map_view, mapped_view, init_view, initial_view};
-ghost use Rattle.dpl_nodes.specs.declared.stop.Stop.TheVariants as stop;
+ghost use Rattle.dpl_nodes.specs.declared.stop.NoNode.TheVariants as stop;
 ghost use Rattle.dpl_placing.specs.Roots.{created_root, typed_root, derived_root, IsNamedRoot, IsInitRoot, IsGivenRoot, IsTypedRoot, IsRootOf};
 
 use crate::map::mapped;
-use dpl_nodes::{MapExpr, Placing, Stop};
+use dpl_nodes::{MapExpr, NoNode, Placing};
 use dpl_scopes::Scopes;
 use dpl_tree::{
     Arena, CreateWord, DeclaredType, DomainType, Init, Initial, Mapped, Typed as WrittenType,
@@ -59,7 +59,11 @@ fn derived(value: Option<Typed<'_>>) -> Placing
 }
 
 // A map that is named; where it isn't typed there is none.
-fn named<'t>(arena: Arena<'t>, scopes: &Scopes<'_>, written: &Mapped<'_>) -> Result<Root<'t>, Stop>
+fn named<'t>(
+    arena: Arena<'t>,
+    scopes: &Scopes<'_>,
+    written: &Mapped<'_>,
+) -> Result<Root<'t>, NoNode>
     ensures root { IfOk result (λ r. IsNamedRoot scopes.now (map_view written.now.map) r) }
     ensures ill_typed { result ≢ Err stop.IllTyped }
 {
@@ -75,7 +79,7 @@ fn of_init<'t>(
     scopes: &Scopes<'_>,
     written: &Init<'_>,
     otherwise: Placing,
-) -> Result<Root<'t>, Stop>
+) -> Result<Root<'t>, NoNode>
     ensures root { IfOk result (λ r. IsInitRoot scopes.now (init_view written.now) otherwise r) }
     ensures ill_typed { result ≢ Err stop.IllTyped }
 {
@@ -92,7 +96,7 @@ fn given<'t>(
     scopes: &Scopes<'_>,
     written: &Option<Initial<'_>>,
     otherwise: Placing,
-) -> Result<Root<'t>, Stop>
+) -> Result<Root<'t>, NoNode>
     ensures root { IfOk result (λ r. IsGivenRoot scopes.now (optional initial_view written.now) otherwise r) }
     ensures ill_typed { result ≢ Err stop.IllTyped }
 {
@@ -108,7 +112,7 @@ fn of_type<'t>(
     scopes: &Scopes<'_>,
     domain: &DomainType<'_>,
     initial: &Option<Initial<'_>>,
-) -> Result<Root<'t>, Stop>
+) -> Result<Root<'t>, NoNode>
     ensures root { IfOk result (λ r. IsTypedRoot scopes.now (optional mapped_view domain.now.mapped) (optional initial_view initial.now) r) }
     ensures ill_typed { result ≢ Err stop.IllTyped }
 {
@@ -128,7 +132,7 @@ pub fn root_of<'t>(
     typed: &Option<WrittenType<'_>>,
     initial: &Option<Initial<'_>>,
     value: Option<Typed<'_>>,
-) -> Result<Root<'t>, Stop>
+) -> Result<Root<'t>, NoNode>
     ensures root { IfOk result (λ r. IsRootOf scopes.now (type_of (optional typed_view typed.now)) (optional initial_view initial.now) value.entry r) }
     ensures ill_typed { result ≢ Err stop.IllTyped }
 {

@@ -12,14 +12,14 @@ ghost use Rattle.dpl_rules.specs.Maps.{post_low, posts_low, front_of, low_of};
 ghost use Rattle.dpl_lowered.specs.LoweredExpressions.{Once};
 ghost use Rattle.dpl_nodes.specs.Typed.{domain_view, index_exprs, exprs_one};
 ghost use Rattle.dpl_nodes.specs.Spots.{IsNear};
-ghost use Rattle.dpl_nodes.specs.declared.stop.Stop.TheVariants as stop;
+ghost use Rattle.dpl_nodes.specs.declared.stop.NoNode.TheVariants as stop;
 ghost use Rattle.dpl_spelling.specs.Spelt.{StartSpelt};
 ghost use Rattle.dpl_typer.specs.Makers.{typed_view};
 ghost use Rattle.dpl_typer.specs.Leaves.{MayBePlain, IsOfType};
 ghost use Rattle.dpl_typer.specs.Elaborated.{leaves_of, postfixed_tree};
 ghost use Rattle.dpl_placing.specs.Starts.{standing_tree, IsLow, IsSimpleStart, MayBeTyped, IsLeastOf, is_least, IsStartOf, is_start};
 
-use dpl_nodes::{DomainExpr, IndexExpr, StartExpr, Stop};
+use dpl_nodes::{DomainExpr, IndexExpr, NoNode, StartExpr};
 use dpl_scopes::Scopes;
 use dpl_tree::{Arena, Expr, Exprs, Method, Post, Postfixed, Start, Word};
 use dpl_typer::parts::index;
@@ -66,7 +66,7 @@ fn standing<'t>(
     scopes: &Scopes<'_>,
     base: &Expr<'_>,
     posts: &[Post<'_>],
-) -> Result<Typed<'t>, Stop>
+) -> Result<Typed<'t>, NoNode>
     ensures node { IfOk result (λ t. typed_view Once t ≡ leaves_of scopes.now Once (standing_tree base.now posts.now)) }
     ensures kind { IfOk result (λ t. IsOfType t (type_of scopes.now (standing_tree base.now posts.now))) }
     ensures ill_typed { (result ≡ Err stop.IllTyped) → MayBeTyped scopes.now (standing_tree base.now posts.now) → type_of scopes.now (standing_tree base.now posts.now) ≡ None }
@@ -84,7 +84,7 @@ fn domain<'t>(
     scopes: &Scopes<'_>,
     base: &Expr<'_>,
     posts: &[Post<'_>],
-) -> Result<Option<&'t DomainExpr<'t>>, Stop>
+) -> Result<Option<&'t DomainExpr<'t>>, NoNode>
     ensures node { IfOk result (λ o. IfSome o (λ d. domain_view d.now ≡ leaves_of scopes.now Once (standing_tree base.now posts.now))) }
     ensures other { IfOk result (λ o. IfNone o (MayBeTyped scopes.now (standing_tree base.now posts.now) → has is_domain (type_of scopes.now (standing_tree base.now posts.now)) ≡ false)) }
     ensures ill_typed { result ≢ Err stop.IllTyped }
@@ -97,8 +97,8 @@ fn domain<'t>(
         Ok(Typed::Tuple(_)) => Ok(None),
         Ok(Typed::Ints(_)) => Ok(None),
         Ok(Typed::Truths(_)) => Ok(None),
-        Err(Stop::IllTyped) => Ok(None),
-        Err(Stop::Memory) => Err(Stop::Memory),
+        Err(NoNode::IllTyped) => Ok(None),
+        Err(NoNode::Memory) => Err(NoNode::Memory),
     }
 }
 
@@ -107,7 +107,7 @@ fn least<'t>(
     arena: Arena<'t>,
     scopes: &Scopes<'_>,
     e: &Postfixed<'_>,
-) -> Result<Option<&'t DomainExpr<'t>>, Stop>
+) -> Result<Option<&'t DomainExpr<'t>>, NoNode>
     ensures least { IfOk result (λ o. IfSome o (λ d. IsLeastOf scopes.now (low_of (postfixed_tree e.now)) d.now)) }
     ensures other { IfOk result (λ o. IfNone o (MayBeTyped scopes.now (postfixed_tree e.now) → is_least scopes.now (low_of (postfixed_tree e.now)) ≡ false)) }
     ensures ill_typed { result ≢ Err stop.IllTyped }
@@ -119,7 +119,11 @@ fn least<'t>(
 }
 
 // An index by itself, as an int.
-fn plain<'t>(arena: Arena<'t>, scopes: &Scopes<'_>, e: &Expr<'_>) -> Result<&'t IndexExpr<'t>, Stop>
+fn plain<'t>(
+    arena: Arena<'t>,
+    scopes: &Scopes<'_>,
+    e: &Expr<'_>,
+) -> Result<&'t IndexExpr<'t>, NoNode>
     ensures exprs { IfOk result (λ t. index_exprs t.now ≡ exprs_one (leaves_of scopes.now Once (expr_view e.now))) }
     ensures ill_typed { (result ≡ Err stop.IllTyped) → MayBeTyped scopes.now (expr_view e.now) → has is_int (type_of scopes.now (expr_view e.now)) ≡ false }
 {
@@ -129,7 +133,7 @@ fn plain<'t>(arena: Arena<'t>, scopes: &Scopes<'_>, e: &Expr<'_>) -> Result<&'t 
 
 // An expression: the least members of a domain, or an index by itself.
 #[tactic(auto, using(dpl_tree::proofs::Fields::expr_view_postfixed))]
-fn single<'t>(arena: Arena<'t>, scopes: &Scopes<'_>, e: &Expr<'_>) -> Result<StartExpr<'t>, Stop>
+fn single<'t>(arena: Arena<'t>, scopes: &Scopes<'_>, e: &Expr<'_>) -> Result<StartExpr<'t>, NoNode>
     ensures start { IfOk result (λ s. IsStartOf scopes.now (StartExprTree (expr_view e.now)) s) }
     ensures ill_typed { (result ≡ Err stop.IllTyped) → MayBeTyped scopes.now (expr_view e.now) → is_start scopes.now (StartExprTree (expr_view e.now)) ≡ false }
 {
@@ -161,7 +165,7 @@ pub(crate) fn start<'t>(
     arena: Arena<'t>,
     scopes: &Scopes<'_>,
     written: &Start<'_>,
-) -> Result<StartExpr<'t>, Stop>
+) -> Result<StartExpr<'t>, NoNode>
     ensures start { IfOk result (λ s. IsStartOf scopes.now (start_view written.now) s) }
     ensures ill_typed { (result ≡ Err stop.IllTyped) → IsSimpleStart (MayBePlain scopes.now) (start_view written.now) → StartSpelt IsNear (start_view written.now) → is_start scopes.now (start_view written.now) ≡ false }
 {

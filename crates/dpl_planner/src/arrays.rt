@@ -17,7 +17,7 @@ ghost use Rattle.dpl_memory.specs.Memory.{VariableKind, ArrayKind};
 ghost use Rattle.dpl_nodes.specs.Spots.{IsNear};
 ghost use Rattle.dpl_nodes.specs.Typed.{domain_view, range_item};
 ghost use Rattle.dpl_nodes.specs.Steps.{over_items, initial_kind, initial_view};
-ghost use Rattle.dpl_nodes.specs.declared.stop.Stop.TheVariants as stop;
+ghost use Rattle.dpl_nodes.specs.declared.stop.NoNode.TheVariants as stop;
 ghost use Rattle.dpl_scopes.specs.View.{declared_view};
 ghost use Rattle.dpl_spelling.specs.Spelt.{ItemSpelt, ItemsSpelt};
 ghost use Rattle.dpl_typer.specs.Leaves.{kind_by, MayBePlain};
@@ -33,7 +33,7 @@ use crate::elements::{Elements, array_kind, given_elements, valued};
 use crate::progress::{Plan, node, spot};
 use dpl_forms::declaration::declaration;
 use dpl_nodes::step::{Initial as Begun, Over as Between};
-use dpl_nodes::{ArrayDeclaration, DomainExpr, RangeExpr, RangesExpr, Spot, Step, Stop};
+use dpl_nodes::{ArrayDeclaration, DomainExpr, NoNode, RangeExpr, RangesExpr, Spot, Step};
 use dpl_scopes::{Declared, Scopes, ValueType};
 use dpl_syntax::Place;
 use dpl_tree::{Arena, ArrayType, Declare, Init, Initial, Item, Items, ScalarKind};
@@ -44,14 +44,17 @@ use dpl_typer::{Parts, Typed, item};
 ///
 /// # Errors
 /// Out of memory.
-pub(crate) fn declared<'s>(plan: &Plan<'s, '_>, written: &Declare<'s>) -> Result<Declared<'s>, Stop>
+pub(crate) fn declared<'s>(
+    plan: &Plan<'s, '_>,
+    written: &Declare<'s>,
+) -> Result<Declared<'s>, NoNode>
     ensures declared { IfOk result (λ d. declared_view d ≡ declared_by plan.now.scopes (declare_view written.now)) }
     ensures ill_typed { result ≢ Err stop.IllTyped }
 {
     let mut first = None;
     match declaration(plan.arena.alloc(), &plan.scopes, written, &mut first) {
         Ok(declared) => Ok(declared),
-        Err(_) => Err(Stop::Memory),
+        Err(_) => Err(NoNode::Memory),
     }
 }
 
@@ -66,7 +69,7 @@ fn is_bare(written: &Item<'_>) -> bool
 }
 
 // One range alone.
-fn line<'t>(arena: Arena<'t>, e: &'t RangeExpr<'t>) -> Result<Between<'t>, Stop>
+fn line<'t>(arena: Arena<'t>, e: &'t RangeExpr<'t>) -> Result<Between<'t>, NoNode>
     ensures node { IfOk result (λ o. over_items o ≡ FirstItem (range_item e.now) NoItems) }
     ensures ill_typed { result ≢ Err stop.IllTyped }
 {
@@ -91,7 +94,7 @@ fn over_domain<'t>(bare: bool, e: &'t DomainExpr<'t>) -> Between<'t>
 }
 
 // A range in the same way.
-fn over_range<'t>(arena: Arena<'t>, bare: bool, e: &'t RangeExpr<'t>) -> Result<Between<'t>, Stop>
+fn over_range<'t>(arena: Arena<'t>, bare: bool, e: &'t RangeExpr<'t>) -> Result<Between<'t>, NoNode>
     ensures node { IfOk result (λ o. over_items o ≡ FirstItem (between bare (range_item e.now)) NoItems) }
     ensures ill_typed { result ≢ Err stop.IllTyped }
 {
@@ -111,7 +114,7 @@ fn over_one<'t>(
     arena: Arena<'t>,
     scopes: &Scopes<'_>,
     written: &Item<'_>,
-) -> Result<Between<'t>, Stop>
+) -> Result<Between<'t>, NoNode>
     ensures over { IfOk result (λ o. IsOver scopes.now (FirstItem (item_view written.now) NoItems) o) }
     ensures ill_typed { (result ≡ Err stop.IllTyped) → IsSimpleItem (MayBePlain scopes.now) (item_view written.now) → ItemSpelt IsNear (item_view written.now) → HasNoDomain (item_parts scopes.now (FirstItem (item_view written.now) NoItems)) }
 {
@@ -120,11 +123,11 @@ fn over_one<'t>(
     match made {
         Typed::Domain(e) => Ok(over_domain(bare, e)),
         Typed::Range(e) => over_range(arena, bare, e),
-        Typed::Int(_) => Err(Stop::IllTyped),
-        Typed::Truth(_) => Err(Stop::IllTyped),
-        Typed::Tuple(_) => Err(Stop::IllTyped),
-        Typed::Ints(_) => Err(Stop::IllTyped),
-        Typed::Truths(_) => Err(Stop::IllTyped),
+        Typed::Int(_) => Err(NoNode::IllTyped),
+        Typed::Truth(_) => Err(NoNode::IllTyped),
+        Typed::Tuple(_) => Err(NoNode::IllTyped),
+        Typed::Ints(_) => Err(NoNode::IllTyped),
+        Typed::Truths(_) => Err(NoNode::IllTyped),
     }
 }
 
@@ -133,7 +136,7 @@ fn over_many<'t>(
     arena: Arena<'t>,
     scopes: &Scopes<'_>,
     written: &Items<'_>,
-) -> Result<Between<'t>, Stop>
+) -> Result<Between<'t>, NoNode>
     requires { AreMany (items_view written.now) }
     ensures over { IfOk result (λ o. IsOver scopes.now (items_view written.now) o) }
     ensures ill_typed { (result ≡ Err stop.IllTyped) → AreSimpleItems (MayBePlain scopes.now) (items_view written.now) → ItemsSpelt IsNear (items_view written.now) → HasNoDomain (item_parts scopes.now (items_view written.now)) }
@@ -141,12 +144,16 @@ fn over_many<'t>(
     let made = parts(arena, scopes, written)?;
     match made {
         Parts::Ranges(ranges) => Ok(Between::Ranges(ranges)),
-        Parts::Index(_) => Err(Stop::IllTyped),
+        Parts::Index(_) => Err(NoNode::IllTyped),
     }
 }
 
 // What an array is over.
-fn over<'t>(arena: Arena<'t>, scopes: &Scopes<'_>, written: &Items<'_>) -> Result<Between<'t>, Stop>
+fn over<'t>(
+    arena: Arena<'t>,
+    scopes: &Scopes<'_>,
+    written: &Items<'_>,
+) -> Result<Between<'t>, NoNode>
     ensures over { IfOk result (λ o. IsOver scopes.now (items_view written.now) o) }
     ensures ill_typed { (result ≡ Err stop.IllTyped) → AreSimpleItems (MayBePlain scopes.now) (items_view written.now) → ItemsSpelt IsNear (items_view written.now) → HasNoDomain (item_parts scopes.now (items_view written.now)) }
 {
@@ -185,7 +192,7 @@ fn given_item<'t>(
     kind: ScalarKind,
     equals: Place,
     written: &Item<'_>,
-) -> Result<Begun<'t>, Stop>
+) -> Result<Begun<'t>, NoNode>
     ensures initial { IfOk result (λ b. (mapped : Option (MappedTree Text)) → IsArrayInitial scopes.now (kind_view kind) (Some (record { equals = equals; init = ItemInit (item_view written.now) mapped })) b) }
     ensures ill_typed { (result ≡ Err stop.IllTyped) → IsNear equals → (k : VariableKind) → IsItemOf scopes.now (item_view written.now) k → IsGivenTo (ArrayKind (kind_view kind)) k → ⊥ }
 {
@@ -201,13 +208,13 @@ fn given<'t>(
     scopes: &Scopes<'_>,
     kind: ScalarKind,
     written: &Initial<'_>,
-) -> Result<Begun<'t>, Stop>
+) -> Result<Begun<'t>, NoNode>
     ensures initial { IfOk result (λ b. IsArrayInitial scopes.now (kind_view kind) (Some (written_initial_view written.now)) b) }
     ensures ill_typed { (result ≡ Err stop.IllTyped) → HasElements scopes.now (kind_view kind) (Some (written_initial_view written.now)) → ⊥ }
 {
     match &written.init {
         Init::Item(item, _) => given_item(arena, scopes, kind, written.equals, item),
-        Init::Create(_) => Err(Stop::IllTyped),
+        Init::Create(_) => Err(NoNode::IllTyped),
     }
 }
 
@@ -217,7 +224,7 @@ fn initial<'t>(
     scopes: &Scopes<'_>,
     kind: ScalarKind,
     written: &Option<Initial<'_>>,
-) -> Result<Begun<'t>, Stop>
+) -> Result<Begun<'t>, NoNode>
     ensures initial { IfOk result (λ b. IsArrayInitial scopes.now (kind_view kind) (optional written_initial_view written.now) b) }
     ensures ill_typed { (result ≡ Err stop.IllTyped) → HasElements scopes.now (kind_view kind) (optional written_initial_view written.now) → ⊥ }
 {
@@ -242,7 +249,7 @@ fn array_parts<'t>(
     scopes: &Scopes<'_>,
     written: &Declare<'_>,
     array: &ArrayType<'_>,
-) -> Result<ArrayParts<'t>, Stop>
+) -> Result<ArrayParts<'t>, NoNode>
     ensures at { IfOk result (λ p. p.at.now ≡ written.now.name.at) }
     ensures from { IfOk result (λ p. p.from.now ≡ array.now.from) }
     ensures over { IfOk result (λ p. IsOver scopes.now (items_view array.now.over) p.over) }
@@ -259,7 +266,7 @@ fn array_parts<'t>(
 }
 
 // The type that the check gives an array.
-fn array_type<'s>(declared: Declared<'s>) -> Result<ValueType<'s>, Stop>
+fn array_type<'s>(declared: Declared<'s>) -> Result<ValueType<'s>, NoNode>
     ensures typed { IfOk result (λ t. declared.entry.value_type ≡ Some t) }
     ensures kind { IfOk result (λ t. IsArrayKind (kind_by (Some (type_view t)))) }
     ensures ill_typed { (result ≡ Err stop.IllTyped) → IsArrayKind (kind_by (of_type declared.entry.value_type)) → ⊥ }
@@ -267,9 +274,9 @@ fn array_type<'s>(declared: Declared<'s>) -> Result<ValueType<'s>, Stop>
     match declared.value_type {
         Some(t) => match array_kind(t) {
             Some(_) => Ok(t),
-            None => Err(Stop::IllTyped),
+            None => Err(NoNode::IllTyped),
         },
-        None => Err(Stop::IllTyped),
+        None => Err(NoNode::IllTyped),
     }
 }
 
@@ -281,14 +288,14 @@ pub(crate) fn declare_array<'s, 't>(
     plan: &mut Plan<'s, 't>,
     written: &Declare<'s>,
     array: &ArrayType<'s>,
-) -> Result<Step<'t>, Stop>
+) -> Result<Step<'t>, NoNode>
     requires { type_of (optional written_type_view written.now.typed) ≡ Some (ArrayTypeTree (array_type_view array.now)) }
     ensures plans { IfOk result (λ step. PlansDeclare plan.old plan.new (declare_view written.now) step) }
     ensures config { IfOk result (λ step. (declare_view written.now).config ≡ None) }
     ensures ill_typed { (result ≡ Err stop.IllTyped) → IsRunnableDeclare plan.old.scopes (declare_view written.now) → ⊥ }
 {
     if written.config.is_some() {
-        return Err(Stop::IllTyped);
+        return Err(NoNode::IllTyped);
     }
     let declared = declared(plan, written)?;
     let value_type = array_type(declared)?;

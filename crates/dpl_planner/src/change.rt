@@ -19,7 +19,7 @@ ghost use Rattle.dpl_memory.specs.Memory.{DomainKind, ArrayKind, variable, int_l
 ghost use Rattle.dpl_memory.specs.Resolved.{text_of, variable_of, kind_takes, KindCombines, IntentResolves};
 ghost use Rattle.dpl_nodes.specs.Spots.{IsNear};
 ghost use Rattle.dpl_typer.specs.Makers.{kind_of, typed_item};
-ghost use Rattle.dpl_nodes.specs.declared.stop.Stop.TheVariants as stop;
+ghost use Rattle.dpl_nodes.specs.declared.stop.NoNode.TheVariants as stop;
 ghost use Rattle.dpl_typer.specs.declared.make.Typed.TheVariants as typed;
 ghost use Rattle.dpl_nodes.specs.Steps.{step_view, assigned_to as assigns};
 ghost use Rattle.dpl_typer.specs.Leaves.{value_kind, type_in, kind_in};
@@ -32,7 +32,7 @@ use crate::elements::{array_named, set_array, set_element};
 use crate::overs::arrays_over;
 use crate::progress::{Plan, Reducing, node, spot};
 use dpl_nodes::step::DomainName;
-use dpl_nodes::{BoolExpr, DomainExpr, IntDeed, IntExpr, Step, Stop, TruthDeed};
+use dpl_nodes::{BoolExpr, DomainExpr, IntDeed, IntExpr, NoNode, Step, TruthDeed};
 use dpl_scopes::{Scopes, ValueType};
 use dpl_syntax::Place;
 use dpl_tree::{Arena, Assign, AssignSign, Assignment, Item, Name, Op, ScalarKind, Target};
@@ -114,7 +114,7 @@ fn takes_shape(t: ValueType<'_>, given: ValueType<'_>) -> bool
 ///
 /// # Errors
 /// It has no type, or one of another shape.
-pub(crate) fn taken_type(t: ValueType<'_>, given: Option<ValueType<'_>>) -> Result<(), Stop>
+pub(crate) fn taken_type(t: ValueType<'_>, given: Option<ValueType<'_>>) -> Result<(), NoNode>
     ensures taken { OnOk result (IsTakenOf (of_type given.entry) (type_view t.entry)) }
     ensures ill_typed { (result ≡ Err stop.IllTyped) → IsTakenOf (of_type given.entry) (type_view t.entry) → ⊥ }
 {
@@ -123,10 +123,10 @@ pub(crate) fn taken_type(t: ValueType<'_>, given: Option<ValueType<'_>>) -> Resu
             if takes_shape(t, given) {
                 Ok(())
             } else {
-                Err(Stop::IllTyped)
+                Err(NoNode::IllTyped)
             }
         }
-        None => Err(Stop::IllTyped),
+        None => Err(NoNode::IllTyped),
     }
 }
 
@@ -140,7 +140,7 @@ pub(crate) fn shaped(
     t: ValueType<'_>,
     written: &Item<'_>,
     value: Typed<'_>,
-) -> Result<(), Stop>
+) -> Result<(), NoNode>
     ensures taken { OnOk result (IsTakenBy (kind_of value.entry) scopes.now (item_view written.now) (type_view t.entry)) }
     ensures ill_typed { (result ≡ Err stop.IllTyped) → IsTaken scopes.now (item_view written.now) (type_view t.entry) → ⊥ }
 {
@@ -150,7 +150,7 @@ pub(crate) fn shaped(
             let mut first = None;
             match item_type(arena.alloc(), scopes, written, &mut first) {
                 Ok(given) => taken_type(t, given),
-                Err(_) => Err(Stop::Memory),
+                Err(_) => Err(NoNode::Memory),
             }
         }
     }
@@ -167,31 +167,36 @@ pub(crate) fn declared_type<'s>(scopes: &Scopes<'s>, name: &[u8]) -> Option<Valu
 }
 
 // The slot of a variable in sight that holds the values of an expression.
-fn variable(scopes: &Scopes<'_>, name: &[u8], value: Typed<'_>) -> Result<usize, Stop>
+fn variable(scopes: &Scopes<'_>, name: &[u8], value: Typed<'_>) -> Result<usize, NoNode>
     ensures kind { IfOk result (λ slot. kind_in scopes.now name.now ≡ Some (kind_of value.entry)) }
     ensures slot { IfOk result (λ slot. slot_in scopes.now name.now ≡ Some slot) }
     ensures ill_typed { (result ≡ Err stop.IllTyped) → IsSingleKind (kind_of value.entry) → kind_in scopes.now name.now ≢ Some (kind_of value.entry) }
 {
     let Some(t) = declared_type(scopes, name) else {
-        return Err(Stop::IllTyped);
+        return Err(NoNode::IllTyped);
     };
     if !holds(t, value) {
-        return Err(Stop::IllTyped);
+        return Err(NoNode::IllTyped);
     }
     match scopes.slot(name) {
         Some(slot) => Ok(slot),
-        None => Err(Stop::IllTyped),
+        None => Err(NoNode::IllTyped),
     }
 }
 
 // What a name in sight is given is of its shape.
-fn taken(plan: &Plan<'_, '_>, name: &[u8], written: &Item<'_>, value: Typed<'_>) -> Result<(), Stop>
+fn taken(
+    plan: &Plan<'_, '_>,
+    name: &[u8],
+    written: &Item<'_>,
+    value: Typed<'_>,
+) -> Result<(), NoNode>
     ensures taken { OnOk result (IsTakenIn (kind_of value.entry) plan.now.scopes (item_view written.now) (type_in plan.now.scopes name.now)) }
     ensures ill_typed { (result ≡ Err stop.IllTyped) → (t : ValueTypeTree) → (type_in plan.now.scopes name.now ≡ Some t) → IsTaken plan.now.scopes (item_view written.now) t → ⊥ }
 {
     match declared_type(&plan.scopes, name) {
         Some(t) => shaped(plan.arena, &plan.scopes, t, written, value),
-        None => Err(Stop::IllTyped),
+        None => Err(NoNode::IllTyped),
     }
 }
 
@@ -201,7 +206,7 @@ fn of_int<'t>(
     sign: AssignSign,
     slot: usize,
     e: &'t IntExpr<'t>,
-) -> Result<Step<'t>, Stop>
+) -> Result<Step<'t>, NoNode>
     ensures node { IfOk result (λ s. step_view s ≡ assigns (int_leaf slot) (assign_view sign.op) (kept (assign_divides (assign_view sign.op)) sign.at) (typed_item Once (typed.Int e.entry))) }
     ensures ill_typed { (result ≡ Err stop.IllTyped) → IsNear sign.at → ⊥ }
 {
@@ -223,7 +228,7 @@ fn of_int<'t>(
 }
 
 // What a truth value is assigned: arithmetic doesn't take it.
-fn of_truth<'t>(sign: AssignSign, slot: usize, e: &'t BoolExpr<'t>) -> Result<Step<'t>, Stop>
+fn of_truth<'t>(sign: AssignSign, slot: usize, e: &'t BoolExpr<'t>) -> Result<Step<'t>, NoNode>
     ensures node { IfOk result (λ s. step_view s ≡ assigns (truth_leaf slot) (assign_view sign.op) (kept (assign_divides (assign_view sign.op)) sign.at) (typed_item Once (typed.Truth e.entry))) }
     ensures takes { IfOk result (λ s. takes TruthLeaf (assign_view sign.op) ≡ true) }
     ensures ill_typed { (result ≡ Err stop.IllTyped) → takes TruthLeaf (assign_view sign.op) ≡ false }
@@ -235,7 +240,7 @@ fn of_truth<'t>(sign: AssignSign, slot: usize, e: &'t BoolExpr<'t>) -> Result<St
         | Assign::SetSubtract
         | Assign::SetMultiply
         | Assign::SetDivide
-        | Assign::SetRemainder => Err(Stop::IllTyped),
+        | Assign::SetRemainder => Err(NoNode::IllTyped),
     }
 }
 
@@ -247,7 +252,7 @@ fn of_domain<'t>(
     sign: AssignSign,
     slot: usize,
     e: &'t DomainExpr<'t>,
-) -> Result<Step<'t>, Stop>
+) -> Result<Step<'t>, NoNode>
     ensures node { IfOk result (λ s. step_view s ≡ changed_to scopes.now at DomainKind slot (assign_view sign.op) sign.at (typed_item Once (typed.Domain e.entry))) }
     ensures takes { IfOk result (λ s. kind_takes DomainKind (assign_view sign.op) ≡ true) }
     ensures ill_typed { (result ≡ Err stop.IllTyped) → kind_takes DomainKind (assign_view sign.op) ≡ true → IsNear at → ⊥ }
@@ -264,7 +269,7 @@ fn of_domain<'t>(
         | Assign::SetMultiply
         | Assign::SetDivide
         | Assign::SetRemainder
-        | Assign::SetReduce => Err(Stop::IllTyped),
+        | Assign::SetReduce => Err(NoNode::IllTyped),
     }
 }
 
@@ -276,7 +281,7 @@ fn change<'t>(
     sign: AssignSign,
     slot: usize,
     value: Typed<'t>,
-) -> Result<Step<'t>, Stop>
+) -> Result<Step<'t>, NoNode>
     ensures node { IfOk result (λ s. step_view s ≡ changed_to scopes.now at (kind_of value.entry) slot (assign_view sign.op) sign.at (typed_item Once value.entry)) }
     ensures takes { IfOk result (λ s. kind_takes (kind_of value.entry) (assign_view sign.op) ≡ true) }
     ensures kind { IfOk result (λ s. IsChangedKind (kind_of value.entry)) }
@@ -287,13 +292,13 @@ fn change<'t>(
         Typed::Truth(e) => of_truth(sign, slot, e),
         Typed::Domain(e) => of_domain(arena, scopes, at, sign, slot, e),
         Typed::Range(_) | Typed::Tuple(_) | Typed::Ints(_) | Typed::Truths(_) => {
-            Err(Stop::IllTyped)
+            Err(NoNode::IllTyped)
         }
     }
 }
 
 // The operator by which a variable is reduced, told alike by its name and by its slot.
-fn reducing(intents: &[Reducing<'_>], name: &[u8], slot: usize) -> Result<Option<Op>, Stop>
+fn reducing(intents: &[Reducing<'_>], name: &[u8], slot: usize) -> Result<Option<Op>, NoNode>
     ensures named { IfOk result (λ op. paired name.now (renamed_intents text_of (map reducing_view intents.now)) ≡ option_map op_view op) }
     ensures slotted { IfOk result (λ op. intent_at slot (intents_by_slot (renamed_intents variable_of (map reducing_view intents.now))) ≡ option_map op_view op) }
     ensures ill_typed { (result ≡ Err stop.IllTyped) → AreToldAlike name.now slot (map reducing_view intents.now) → ⊥ }
@@ -305,7 +310,7 @@ fn reducing(intents: &[Reducing<'_>], name: &[u8], slot: usize) -> Result<Option
             return Ok(Some(next.intent.op));
         }
         if by_name || by_slot {
-            return Err(Stop::IllTyped);
+            return Err(NoNode::IllTyped);
         }
     }
     Ok(None)
@@ -345,7 +350,7 @@ fn intent_resolves(
     name: &[u8],
     slot: usize,
     value: Typed<'_>,
-) -> Result<(), Stop>
+) -> Result<(), NoNode>
     ensures resolves { OnOk result (IntentResolves (assign_view op) name.now (variable (kind_of value.entry) slot) (seen_in plan.now)) }
     ensures ill_typed { (result ≡ Err stop.IllTyped) → slot_in plan.now.scopes name.now ≡ Some slot → IsReducedBy plan.now.scopes (intents_in plan.now) name.now (assign_view op) (kind_of value.entry) → ⊥ }
 {
@@ -361,7 +366,7 @@ fn intent_resolves(
             if combines(value, by) {
                 Ok(())
             } else {
-                Err(Stop::IllTyped)
+                Err(NoNode::IllTyped)
             }
         }
     }
@@ -374,7 +379,7 @@ fn set_single<'t>(
     sign: AssignSign,
     value: &Item<'_>,
     semicolon: Place,
-) -> Result<Step<'t>, Stop>
+) -> Result<Step<'t>, NoNode>
     requires { (k : Kind) → kind_in plan.now.scopes name.now.text.now ≢ Some (ArrayKind k) }
     ensures plans { IfOk result (λ step. PlansStmt plan.now plan.now (AssignedTree (Whole (name_view name.now)) (sign_view sign) (item_view value.now) semicolon) step) }
     ensures ill_typed { (result ≡ Err stop.IllTyped) → IsRunnableStmt plan.now.scopes (intents_in plan.now) (AssignedTree (Whole (name_view name.now)) (sign_view sign) (item_view value.now) semicolon) → ⊥ }
@@ -393,7 +398,7 @@ fn assigned_to<'t>(
     sign: AssignSign,
     value: &Item<'_>,
     semicolon: Place,
-) -> Result<Step<'t>, Stop>
+) -> Result<Step<'t>, NoNode>
     ensures plans { IfOk result (λ step. PlansStmt plan.now plan.now (AssignedTree (Whole (name_view name.now)) (sign_view sign) (item_view value.now) semicolon) step) }
     ensures ill_typed { (result ≡ Err stop.IllTyped) → IsRunnableStmt plan.now.scopes (intents_in plan.now) (AssignedTree (Whole (name_view name.now)) (sign_view sign) (item_view value.now) semicolon) → ⊥ }
 {
@@ -407,7 +412,10 @@ fn assigned_to<'t>(
 ///
 /// # Errors
 /// Out of memory; what isn't a variable in sight, or doesn't take the value.
-pub(crate) fn assigned<'t>(plan: &Plan<'_, 't>, written: &Assignment<'_>) -> Result<Step<'t>, Stop>
+pub(crate) fn assigned<'t>(
+    plan: &Plan<'_, 't>,
+    written: &Assignment<'_>,
+) -> Result<Step<'t>, NoNode>
     ensures plans { IfOk result (λ step. PlansStmt plan.now plan.now (AssignedTree (target_view written.now.target) (sign_view written.now.sign) (item_view written.now.value) written.now.semicolon) step) }
     ensures ill_typed { (result ≡ Err stop.IllTyped) → IsRunnableStmt plan.now.scopes (intents_in plan.now) (AssignedTree (target_view written.now.target) (sign_view written.now.sign) (item_view written.now.value) written.now.semicolon) → ⊥ }
 {

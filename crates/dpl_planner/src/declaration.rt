@@ -12,7 +12,7 @@ ghost use Rattle.dpl_scopes.specs.Types.{type_view, of_type};
 ghost use Rattle.dpl_lowered.specs.Shapes.{nowhere};
 ghost use Rattle.dpl_lowered.specs.LoweredStatements.{unplaced_word};
 ghost use Rattle.dpl_memory.specs.Memory.{VariableKind, DomainKind, variable};
-ghost use Rattle.dpl_nodes.specs.declared.stop.Stop.TheVariants as stop;
+ghost use Rattle.dpl_nodes.specs.declared.stop.NoNode.TheVariants as stop;
 ghost use Rattle.dpl_nodes.specs.Steps.{step_view, dimensions};
 ghost use Rattle.dpl_typer.specs.Makers.{kind_of};
 ghost use Rattle.dpl_typer.specs.Leaves.{value_kind};
@@ -30,7 +30,7 @@ use crate::arrays::{declare_array, declared};
 use crate::change::{holds, is_domain, shaped, taken_type};
 use crate::progress::Plan;
 use dpl_nodes::step::Rank;
-use dpl_nodes::{IntDeed, Placing, Step, Stop, TruthDeed};
+use dpl_nodes::{IntDeed, NoNode, Placing, Step, TruthDeed};
 use dpl_placing::root_of;
 use dpl_scopes::{Scopes, ValueType};
 use dpl_syntax::Place;
@@ -72,7 +72,7 @@ impl<'t> Beginning<'t> {
 }
 
 // The rank of a domain type.
-fn rank_of(written: &DomainType<'_>) -> Result<Rank, Stop>
+fn rank_of(written: &DomainType<'_>) -> Result<Rank, NoNode>
     ensures rank { IfOk result (λ r. (domain_type_view written.now).rank ≡ dimensions r) }
     ensures ill_typed { (result ≡ Err stop.IllTyped) → (nat_le 1 (domain_type_view written.now).rank && nat_le (domain_type_view written.now).rank 3) ≡ true → ⊥ }
 {
@@ -80,12 +80,12 @@ fn rank_of(written: &DomainType<'_>) -> Result<Rank, Stop>
         1 => Ok(Rank::Line),
         2 => Ok(Rank::Plane),
         3 => Ok(Rank::Space),
-        _ => Err(Stop::IllTyped),
+        _ => Err(NoNode::IllTyped),
     }
 }
 
 // The type of a variable, or none that is written.
-fn written_kind(written: &Option<WrittenType<'_>>) -> Result<WrittenKind, Stop>
+fn written_kind(written: &Option<WrittenType<'_>>) -> Result<WrittenKind, NoNode>
     ensures written { IfOk result (λ k. IsWrittenType (type_of (optional written_type_view written.now)) k) }
     ensures ill_typed { (result ≡ Err stop.IllTyped) → IsSingleType (type_of (optional written_type_view written.now)) → ⊥ }
 {
@@ -93,15 +93,15 @@ fn written_kind(written: &Option<WrittenType<'_>>) -> Result<WrittenKind, Stop>
         None => Ok(WrittenKind::Untyped),
         Some(typed) => match &typed.declared {
             DeclaredType::Scalar(_, kind) => Ok(WrittenKind::Scalar(*kind)),
-            DeclaredType::Sync(_, _, _) => Err(Stop::IllTyped),
+            DeclaredType::Sync(_, _, _) => Err(NoNode::IllTyped),
             DeclaredType::Domain(domain) => Ok(WrittenKind::Domain(rank_of(domain)?)),
-            DeclaredType::Array(_) => Err(Stop::IllTyped),
+            DeclaredType::Array(_) => Err(NoNode::IllTyped),
         },
     }
 }
 
 // What an int and a truth value are where no value is written.
-fn default<'t>(arena: Arena<'t>, kind: ScalarKind) -> Result<Typed<'t>, Stop>
+fn default<'t>(arena: Arena<'t>, kind: ScalarKind) -> Result<Typed<'t>, NoNode>
     ensures default { IfOk result (λ t. IsDefault (kind_view kind) t) }
     ensures ill_typed { result ≢ Err stop.IllTyped }
 {
@@ -112,12 +112,12 @@ fn default<'t>(arena: Arena<'t>, kind: ScalarKind) -> Result<Typed<'t>, Stop>
 }
 
 // What a variable of a written type begins with where no value is written.
-fn by_default<'t>(arena: Arena<'t>, kind: WrittenKind) -> Result<Beginning<'t>, Stop>
+fn by_default<'t>(arena: Arena<'t>, kind: WrittenKind) -> Result<Beginning<'t>, NoNode>
     ensures default { IfOk result (λ b. BeginsByDefault kind b) }
     ensures ill_typed { (result ≡ Err stop.IllTyped) → IsWrittenType None kind }
 {
     match kind {
-        WrittenKind::Untyped => Err(Stop::IllTyped),
+        WrittenKind::Untyped => Err(NoNode::IllTyped),
         WrittenKind::Scalar(kind) => Ok(Beginning::Value(default(arena, kind)?)),
         WrittenKind::Domain(rank) => Ok(Beginning::Empty(rank)),
     }
@@ -128,14 +128,14 @@ fn domain_type<'s>(
     arena: Arena<'_>,
     scopes: &Scopes<'s>,
     written: &Create<'_>,
-) -> Result<Option<ValueType<'s>>, Stop>
+) -> Result<Option<ValueType<'s>>, NoNode>
     ensures typed { IfOk result (λ t. of_type t ≡ created_type scopes.now (created_view written.now)) }
     ensures ill_typed { result ≢ Err stop.IllTyped }
 {
     let mut first = None;
     match items(arena.alloc(), scopes, &written.items, &mut first) {
         Ok(parts) => Ok(over(written.from, &parts, &mut first)),
-        Err(_) => Err(Stop::Memory),
+        Err(_) => Err(NoNode::Memory),
     }
 }
 
@@ -145,7 +145,7 @@ fn created_domain<'t>(
     scopes: &Scopes<'_>,
     declared: ValueType<'_>,
     written: &Create<'_>,
-) -> Result<Typed<'t>, Stop>
+) -> Result<Typed<'t>, NoNode>
     ensures created { IfOk result (λ t. IsCreated scopes.now written.now.from (items_view written.now.items) t) }
     ensures taken { IfOk result (λ t. IsTakenOf (created_type scopes.now (created_view written.now)) (type_view declared.entry)) }
     ensures ill_typed { (result ≡ Err stop.IllTyped) → IsCreatedOf scopes.now (created_view written.now) DomainKind → IsTakenOf (created_type scopes.now (created_view written.now)) (type_view declared.entry) → ⊥ }
@@ -162,7 +162,7 @@ fn given<'t>(
     scopes: &Scopes<'_>,
     declared: ValueType<'_>,
     written: &Init<'_>,
-) -> Result<Typed<'t>, Stop>
+) -> Result<Typed<'t>, NoNode>
     ensures given { IfOk result (λ t. IsGivenInit scopes.now (init_view written.now) (type_view declared.entry) t) }
     ensures kind { IfOk result (λ t. (k : VariableKind) → IsSingleKind k → IsInitOf scopes.now (init_view written.now) k → kind_of t ≡ k) }
     ensures ill_typed { (result ≡ Err stop.IllTyped) → (k : VariableKind) → IsInitOf scopes.now (init_view written.now) k → IsShapedInit scopes.now (init_view written.now) (type_view declared.entry) → ⊥ }
@@ -184,7 +184,7 @@ fn initial<'t>(
     declared: ValueType<'_>,
     typed: &Option<WrittenType<'_>>,
     written: &Option<Initial<'_>>,
-) -> Result<Beginning<'t>, Stop>
+) -> Result<Beginning<'t>, NoNode>
     ensures initial { IfOk result (λ b. IsInitial scopes.now (optional written_type_view typed.now) (optional initial_view written.now) (type_view declared.entry) b) }
     ensures kind { IfOk result (λ b. (k : VariableKind) → IsSingleKind k → IsInitialOf scopes.now (type_of (optional written_type_view typed.now)) (optional initial_view written.now) k → begun_kind b ≡ k) }
     ensures ill_typed { (result ≡ Err stop.IllTyped) → (k : VariableKind) → IsSingleType (type_of (optional written_type_view typed.now))
@@ -213,7 +213,7 @@ fn begins(t: ValueType<'_>, begun: Beginning<'_>) -> bool
 }
 
 // A variable that begins with a value. A domain has its map beside it.
-fn declares_value<'t>(slot: usize, value: Typed<'t>, placing: Placing) -> Result<Step<'t>, Stop>
+fn declares_value<'t>(slot: usize, value: Typed<'t>, placing: Placing) -> Result<Step<'t>, NoNode>
     ensures node { IfOk result (λ s. step_view s ≡ begun_as None (variable (kind_of value.entry) slot) (beginning.Value value.entry)) }
     ensures kind { IfOk result (λ s. IsSingleKind (kind_of value.entry)) }
     ensures ill_typed { (result ≡ Err stop.IllTyped) → IsSingleKind (kind_of value.entry) → ⊥ }
@@ -223,12 +223,12 @@ fn declares_value<'t>(slot: usize, value: Typed<'t>, placing: Placing) -> Result
         Typed::Truth(e) => Ok(Step::Truth(TruthDeed::Declare, slot, e)),
         Typed::Range(e) => Ok(Step::DeclareRange(slot, e)),
         Typed::Domain(e) => Ok(Step::DeclareDomain(slot, e, placing)),
-        Typed::Tuple(_) | Typed::Ints(_) | Typed::Truths(_) => Err(Stop::IllTyped),
+        Typed::Tuple(_) | Typed::Ints(_) | Typed::Truths(_) => Err(NoNode::IllTyped),
     }
 }
 
 // A `config const`, which is an int or a truth value.
-fn configures<'t>(slot: usize, begun: Beginning<'t>) -> Result<Step<'t>, Stop>
+fn configures<'t>(slot: usize, begun: Beginning<'t>) -> Result<Step<'t>, NoNode>
     ensures node { IfOk result (λ s. step_view s ≡ begun_as (Some nowhere) (variable (begun_kind begun.entry) slot) begun.entry) }
     ensures kind { IfOk result (λ s. IsScalarKind (begun_kind begun.entry)) }
     ensures ill_typed { (result ≡ Err stop.IllTyped) → IsScalarKind (begun_kind begun.entry) → ⊥ }
@@ -243,7 +243,7 @@ fn configures<'t>(slot: usize, begun: Beginning<'t>) -> Result<Step<'t>, Stop>
             | Typed::Ints(_)
             | Typed::Truths(_),
         )
-        | Beginning::Empty(_) => Err(Stop::IllTyped),
+        | Beginning::Empty(_) => Err(NoNode::IllTyped),
     }
 }
 
@@ -253,7 +253,7 @@ fn declares<'t>(
     slot: usize,
     begun: Beginning<'t>,
     placing: Placing,
-) -> Result<Step<'t>, Stop>
+) -> Result<Step<'t>, NoNode>
     ensures node { IfOk result (λ s. step_view s ≡ begun_as (unplaced_word config) (variable (begun_kind begun.entry) slot) begun.entry) }
     ensures kind { IfOk result (λ s. IsSingleKind (begun_kind begun.entry) × IsConfigOf config (begun_kind begun.entry)) }
     ensures ill_typed { (result ≡ Err stop.IllTyped) → IsSingleKind (begun_kind begun.entry) → IsConfigOf config (begun_kind begun.entry) → ⊥ }
@@ -268,7 +268,10 @@ fn declares<'t>(
 }
 
 // A declaration of what is no array, whose name is in sight behind it.
-fn declare_single<'s, 't>(plan: &mut Plan<'s, 't>, written: &Declare<'s>) -> Result<Step<'t>, Stop>
+fn declare_single<'s, 't>(
+    plan: &mut Plan<'s, 't>,
+    written: &Declare<'s>,
+) -> Result<Step<'t>, NoNode>
     requires { IsNoArrayType (type_of (optional written_type_view written.now.typed)) }
     ensures plans { IfOk result (λ step. PlansDeclare plan.old plan.new (declare_view written.now) step) }
     ensures config { IfOk result (λ step. (at : Place) → ((declare_view written.now).config ≡ Some at) → IsOfLeaf (declared_by plan.old.scopes (declare_view written.now))) }
@@ -276,7 +279,7 @@ fn declare_single<'s, 't>(plan: &mut Plan<'s, 't>, written: &Declare<'s>) -> Res
 {
     let declared = declared(plan, written)?;
     let Some(value_type) = declared.value_type else {
-        return Err(Stop::IllTyped);
+        return Err(NoNode::IllTyped);
     };
     let begun = initial(
         plan.arena,
@@ -286,7 +289,7 @@ fn declare_single<'s, 't>(plan: &mut Plan<'s, 't>, written: &Declare<'s>) -> Res
         &written.initial,
     )?;
     if !begins(value_type, begun) {
-        return Err(Stop::IllTyped);
+        return Err(NoNode::IllTyped);
     }
     let root = root_of(
         plan.arena,
@@ -323,7 +326,7 @@ fn array_written<'w, 's>(typed: &'w Option<WrittenType<'s>>) -> Option<&'w Array
 pub(crate) fn declare<'s, 't>(
     plan: &mut Plan<'s, 't>,
     written: &Declare<'s>,
-) -> Result<Step<'t>, Stop>
+) -> Result<Step<'t>, NoNode>
     ensures plans { IfOk result (λ step. PlansDeclare plan.old plan.new (declare_view written.now) step) }
     ensures config { IfOk result (λ step. (at : Place) → ((declare_view written.now).config ≡ Some at) → IsOfLeaf (declared_by plan.old.scopes (declare_view written.now))) }
     ensures ill_typed { (result ≡ Err stop.IllTyped) → IsRunnableDeclare plan.old.scopes (declare_view written.now) → ⊥ }
@@ -341,12 +344,12 @@ pub(crate) fn declare<'s, 't>(
 pub(crate) fn declare_inside<'s, 't>(
     plan: &mut Plan<'s, 't>,
     written: &Declare<'s>,
-) -> Result<Step<'t>, Stop>
+) -> Result<Step<'t>, NoNode>
     ensures plans { IfOk result (λ step. PlansStmt plan.old plan.new (DeclareTree (declare_view written.now)) step) }
     ensures ill_typed { (result ≡ Err stop.IllTyped) → IsRunnableStmt plan.old.scopes (intents_in plan.old) (DeclareTree (declare_view written.now)) → ⊥ }
 {
     if written.config.is_some() {
-        return Err(Stop::IllTyped);
+        return Err(NoNode::IllTyped);
     }
     declare(plan, written)
 }

@@ -16,7 +16,7 @@ ghost use Rattle.dpl_memory.specs.Resolved.{element_takes};
 ghost use Rattle.dpl_nodes.specs.Spots.{IsNear};
 ghost use Rattle.dpl_nodes.specs.Typed.{index_exprs};
 ghost use Rattle.dpl_nodes.specs.Steps.{step_view, array_leaf};
-ghost use Rattle.dpl_nodes.specs.declared.stop.Stop.TheVariants as stop;
+ghost use Rattle.dpl_nodes.specs.declared.stop.NoNode.TheVariants as stop;
 ghost use Rattle.dpl_typer.specs.declared.make.Typed.TheVariants as typed;
 ghost use Rattle.dpl_typer.specs.Makers.{typed_item, kind_of, operand_kind, leaf_of};
 ghost use Rattle.dpl_typer.specs.Leaves.{value_kind, kind_in};
@@ -28,7 +28,9 @@ ghost use Rattle.dpl_planner.specs.Plans.{intents_in, PlansStmt};
 
 use crate::change::declared_type;
 use crate::progress::{Plan, node, spot};
-use dpl_nodes::{ArrayName, BoolExpr, IndexExpr, IntExpr, PromotedInt, PromotedTruth, Step, Stop};
+use dpl_nodes::{
+    ArrayName, BoolExpr, IndexExpr, IntExpr, NoNode, PromotedInt, PromotedTruth, Step,
+};
 use dpl_scopes::{Scopes, ValueType};
 use dpl_syntax::Place;
 use dpl_tree::{Arena, Assign, AssignSign, Element, Item, Name, ScalarKind};
@@ -78,15 +80,15 @@ pub(crate) fn array_named(scopes: &Scopes<'_>, name: &[u8]) -> Option<ScalarKind
 }
 
 // An item has a type.
-fn known(arena: Arena<'_>, scopes: &Scopes<'_>, written: &Item<'_>) -> Result<(), Stop>
+fn known(arena: Arena<'_>, scopes: &Scopes<'_>, written: &Item<'_>) -> Result<(), NoNode>
     ensures known { OnOk result (HasItemType scopes.now (item_view written.now)) }
     ensures ill_typed { (result ≡ Err stop.IllTyped) → item_type_of scopes.now (item_view written.now) ≡ None }
 {
     let mut first = None;
     match item_type(arena.alloc(), scopes, written, &mut first) {
         Ok(Some(_)) => Ok(()),
-        Ok(None) => Err(Stop::IllTyped),
-        Err(_) => Err(Stop::Memory),
+        Ok(None) => Err(NoNode::IllTyped),
+        Err(_) => Err(NoNode::Memory),
     }
 }
 
@@ -98,7 +100,7 @@ pub(crate) fn valued<'t>(
     arena: Arena<'t>,
     scopes: &Scopes<'_>,
     written: &Item<'_>,
-) -> Result<Typed<'t>, Stop>
+) -> Result<Typed<'t>, NoNode>
     ensures item { IfOk result (λ t. IsItem scopes.now (item_view written.now) t) }
     ensures valued { IfOk result (λ t. IsValued scopes.now (item_view written.now) t) }
     ensures ill_typed { (result ≡ Err stop.IllTyped) → (k : VariableKind) → IsItemOf scopes.now (item_view written.now) k → ⊥ }
@@ -109,7 +111,7 @@ pub(crate) fn valued<'t>(
 }
 
 // Ints at each index.
-fn given_ints<'t>(arena: Arena<'t>, value: Typed<'t>) -> Result<Elements<'t>, Stop>
+fn given_ints<'t>(arena: Arena<'t>, value: Typed<'t>) -> Result<Elements<'t>, NoNode>
     ensures node { IfOk result (λ e. One (elements_view e) ≡ typed_item EachTurn value.entry) }
     ensures kind { IfOk result (λ e. elements_kind e ≡ IntKind) }
     ensures given { IfOk result (λ e. operand_kind (kind_of value.entry) ≡ Some IntKind) }
@@ -119,12 +121,12 @@ fn given_ints<'t>(arena: Arena<'t>, value: Typed<'t>) -> Result<Elements<'t>, St
         Typed::Int(e) => Ok(Elements::Ints(node(arena, PromotedInt::Scalar(e))?)),
         Typed::Ints(e) => Ok(Elements::Ints(e)),
         Typed::Truth(_) | Typed::Range(_) | Typed::Domain(_) | Typed::Tuple(_) | Typed::Truths(_) =>
-            Err(Stop::IllTyped),
+            Err(NoNode::IllTyped),
     }
 }
 
 // Truth values at each index.
-fn given_truths<'t>(arena: Arena<'t>, value: Typed<'t>) -> Result<Elements<'t>, Stop>
+fn given_truths<'t>(arena: Arena<'t>, value: Typed<'t>) -> Result<Elements<'t>, NoNode>
     ensures node { IfOk result (λ e. One (elements_view e) ≡ typed_item EachTurn value.entry) }
     ensures kind { IfOk result (λ e. elements_kind e ≡ BoolKind) }
     ensures given { IfOk result (λ e. operand_kind (kind_of value.entry) ≡ Some BoolKind) }
@@ -134,7 +136,7 @@ fn given_truths<'t>(arena: Arena<'t>, value: Typed<'t>) -> Result<Elements<'t>, 
         Typed::Truth(e) => Ok(Elements::Truths(node(arena, PromotedTruth::Scalar(e))?)),
         Typed::Truths(e) => Ok(Elements::Truths(e)),
         Typed::Int(_) | Typed::Range(_) | Typed::Domain(_) | Typed::Tuple(_) | Typed::Ints(_) =>
-            Err(Stop::IllTyped),
+            Err(NoNode::IllTyped),
     }
 }
 
@@ -146,7 +148,7 @@ pub(crate) fn given_elements<'t>(
     arena: Arena<'t>,
     kind: ScalarKind,
     value: Typed<'t>,
-) -> Result<Elements<'t>, Stop>
+) -> Result<Elements<'t>, NoNode>
     ensures node { IfOk result (λ e. One (elements_view e) ≡ typed_item EachTurn value.entry) }
     ensures kind { IfOk result (λ e. elements_kind e ≡ kind_view kind) }
     ensures given { IfOk result (λ e. operand_kind (kind_of value.entry) ≡ Some (kind_view kind)) }
@@ -163,7 +165,7 @@ fn array_name<'t>(
     arena: Arena<'t>,
     scopes: &Scopes<'_>,
     name: &Name<'_>,
-) -> Result<&'t ArrayName<'t>, Stop>
+) -> Result<&'t ArrayName<'t>, NoNode>
     ensures slot { IfOk result (λ x. slot_in scopes.now name.now.text.now ≡ Some x.now.slot) }
     ensures at { IfOk result (λ x. x.now.at.now ≡ name.now.at) }
     ensures ill_typed { (result ≡ Err stop.IllTyped) → (k : VariableKind) → kind_in scopes.now name.now.text.now ≡ Some k → IsNear name.now.at → ⊥ }
@@ -173,7 +175,7 @@ fn array_name<'t>(
             let at = spot(arena, name.at)?;
             node(arena, ArrayName { at, slot })
         }
-        None => Err(Stop::IllTyped),
+        None => Err(NoNode::IllTyped),
     }
 }
 
@@ -183,7 +185,7 @@ fn set_ints<'t>(
     x: &'t ArrayName<'t>,
     sign: AssignSign,
     e: &'t PromotedInt<'t>,
-) -> Result<Step<'t>, Stop>
+) -> Result<Step<'t>, NoNode>
     ensures node { IfOk result (λ s. step_view s ≡ whole_changed (array_leaf IntKind x.now) (assign_view sign.op) sign.at (One (elements_view (each.Ints e.entry)))) }
     ensures takes { IfOk result (λ s. element_takes IntKind (assign_view sign.op) ≡ true) }
     ensures unreduced { IfOk result (λ s. assign_view sign.op ≢ SetReduce) }
@@ -199,7 +201,7 @@ fn set_ints<'t>(
             let at = spot(arena, sign.at)?;
             Ok(Step::SetArray(x, sign.op, at, e))
         }
-        Assign::SetReduce => Err(Stop::IllTyped),
+        Assign::SetReduce => Err(NoNode::IllTyped),
     }
 }
 
@@ -209,7 +211,7 @@ fn set_truths<'t>(
     x: &'t ArrayName<'t>,
     sign: AssignSign,
     e: &'t PromotedTruth<'t>,
-) -> Result<Step<'t>, Stop>
+) -> Result<Step<'t>, NoNode>
     ensures node { IfOk result (λ s. step_view s ≡ whole_changed (array_leaf BoolKind x.now) (assign_view sign.op) sign.at (One (elements_view (each.Truths e.entry)))) }
     ensures takes { IfOk result (λ s. element_takes BoolKind (assign_view sign.op) ≡ true) }
     ensures unreduced { IfOk result (λ s. assign_view sign.op ≢ SetReduce) }
@@ -225,7 +227,7 @@ fn set_truths<'t>(
         | Assign::SetMultiply
         | Assign::SetDivide
         | Assign::SetRemainder
-        | Assign::SetReduce => Err(Stop::IllTyped),
+        | Assign::SetReduce => Err(NoNode::IllTyped),
     }
 }
 
@@ -235,7 +237,7 @@ fn set_elements<'t>(
     x: &'t ArrayName<'t>,
     sign: AssignSign,
     elements: Elements<'t>,
-) -> Result<Step<'t>, Stop>
+) -> Result<Step<'t>, NoNode>
     ensures node { IfOk result (λ s. step_view s ≡ whole_changed (array_leaf (elements_kind elements.entry) x.now) (assign_view sign.op) sign.at (One (elements_view elements.entry))) }
     ensures takes { IfOk result (λ s. element_takes (elements_kind elements.entry) (assign_view sign.op) ≡ true) }
     ensures unreduced { IfOk result (λ s. assign_view sign.op ≢ SetReduce) }
@@ -258,7 +260,7 @@ pub(crate) fn set_array<'t>(
     sign: AssignSign,
     value: &Item<'_>,
     semicolon: Place,
-) -> Result<Step<'t>, Stop>
+) -> Result<Step<'t>, NoNode>
     requires { kind_in plan.now.scopes name.now.text.now ≡ Some (ArrayKind (kind_view kind)) }
     ensures plans { IfOk result (λ step. PlansStmt plan.now plan.now (AssignedTree (Whole (name_view name.now)) (sign_view sign) (item_view value.now) semicolon) step) }
     ensures ill_typed { (result ≡ Err stop.IllTyped) → IsRunnableStmt plan.now.scopes (intents_in plan.now) (AssignedTree (Whole (name_view name.now)) (sign_view sign) (item_view value.now) semicolon) → ⊥ }
@@ -276,7 +278,7 @@ fn set_int<'t>(
     index: &'t IndexExpr<'t>,
     sign: AssignSign,
     e: &'t IntExpr<'t>,
-) -> Result<Step<'t>, Stop>
+) -> Result<Step<'t>, NoNode>
     ensures node { IfOk result (λ s. step_view s ≡ element_changed (array_leaf IntKind x.now) (index_exprs index.now) (assign_view sign.op) sign.at (typed_item Once (typed.Int e.entry))) }
     ensures takes { IfOk result (λ s. element_takes IntKind (assign_view sign.op) ≡ true) }
     ensures unreduced { IfOk result (λ s. assign_view sign.op ≢ SetReduce) }
@@ -292,7 +294,7 @@ fn set_int<'t>(
             let at = spot(arena, sign.at)?;
             Ok(Step::SetElement(x, index, sign.op, at, e))
         }
-        Assign::SetReduce => Err(Stop::IllTyped),
+        Assign::SetReduce => Err(NoNode::IllTyped),
     }
 }
 
@@ -302,7 +304,7 @@ fn set_truth<'t>(
     index: &'t IndexExpr<'t>,
     sign: AssignSign,
     e: &'t BoolExpr<'t>,
-) -> Result<Step<'t>, Stop>
+) -> Result<Step<'t>, NoNode>
     ensures node { IfOk result (λ s. step_view s ≡ element_changed (array_leaf BoolKind x.now) (index_exprs index.now) (assign_view sign.op) sign.at (typed_item Once (typed.Truth e.entry))) }
     ensures takes { IfOk result (λ s. element_takes BoolKind (assign_view sign.op) ≡ true) }
     ensures unreduced { IfOk result (λ s. assign_view sign.op ≢ SetReduce) }
@@ -315,7 +317,7 @@ fn set_truth<'t>(
         | Assign::SetMultiply
         | Assign::SetDivide
         | Assign::SetRemainder
-        | Assign::SetReduce => Err(Stop::IllTyped),
+        | Assign::SetReduce => Err(NoNode::IllTyped),
     }
 }
 
@@ -327,7 +329,7 @@ fn element_step<'t>(
     index: &'t IndexExpr<'t>,
     sign: AssignSign,
     value: Typed<'t>,
-) -> Result<Step<'t>, Stop>
+) -> Result<Step<'t>, NoNode>
     ensures node { IfOk result (λ s. step_view s ≡ element_changed (array_leaf (kind_view kind) x.now) (index_exprs index.now) (assign_view sign.op) sign.at (typed_item Once value.entry)) }
     ensures takes { IfOk result (λ s. element_takes (kind_view kind) (assign_view sign.op) ≡ true) }
     ensures unreduced { IfOk result (λ s. assign_view sign.op ≢ SetReduce) }
@@ -342,7 +344,7 @@ fn element_step<'t>(
             | Typed::Domain(_)
             | Typed::Tuple(_)
             | Typed::Ints(_)
-            | Typed::Truths(_) => Err(Stop::IllTyped),
+            | Typed::Truths(_) => Err(NoNode::IllTyped),
         },
         ScalarKind::Bool => match value {
             Typed::Truth(e) => set_truth(x, index, sign, e),
@@ -351,7 +353,7 @@ fn element_step<'t>(
             | Typed::Domain(_)
             | Typed::Tuple(_)
             | Typed::Ints(_)
-            | Typed::Truths(_) => Err(Stop::IllTyped),
+            | Typed::Truths(_) => Err(NoNode::IllTyped),
         },
     }
 }
@@ -366,12 +368,12 @@ pub(crate) fn set_element<'t>(
     sign: AssignSign,
     value: &Item<'_>,
     semicolon: Place,
-) -> Result<Step<'t>, Stop>
+) -> Result<Step<'t>, NoNode>
     ensures plans { IfOk result (λ step. PlansStmt plan.now plan.now (element_tree target.now sign value.now semicolon) step) }
     ensures ill_typed { (result ≡ Err stop.IllTyped) → IsRunnableStmt plan.now.scopes (intents_in plan.now) (element_tree target.now sign value.now semicolon) → ⊥ }
 {
     let Some(kind) = array_named(&plan.scopes, target.name.text) else {
-        return Err(Stop::IllTyped);
+        return Err(NoNode::IllTyped);
     };
     let x = array_name(plan.arena, &plan.scopes, &target.name)?;
     let index = index(plan.arena, &plan.scopes, &target.exprs)?;

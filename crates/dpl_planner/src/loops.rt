@@ -16,7 +16,7 @@ ghost use Rattle.dpl_forms.specs.Heads.{word_view, names_in};
 ghost use Rattle.dpl_words.specs.Words.{IntLeaf, TruthLeaf, RangeLeaf};
 ghost use Rattle.dpl_memory.specs.Memory.{VariableKind, PlainKind, DomainKind};
 ghost use Rattle.dpl_memory.specs.Resolved.{variable_of};
-ghost use Rattle.dpl_nodes.specs.declared.stop.Stop.TheVariants as stop;
+ghost use Rattle.dpl_nodes.specs.declared.stop.NoNode.TheVariants as stop;
 ghost use Rattle.dpl_nodes.specs.Steps.{intent_view as step_intent, unplaced_leaf, names_view};
 ghost use Rattle.dpl_typer.specs.Leaves.{value_kind, kind_in, leaf_by, IsOfType};
 ghost use Rattle.dpl_typer.specs.Sights.{bound_in};
@@ -30,7 +30,7 @@ use crate::change::declared_type;
 use crate::progress::{Plan, Reducing, list, push};
 use dpl_forms::head::{LoopWord, head};
 use dpl_nodes::step::Names;
-use dpl_nodes::{BoolExpr, DomainExpr, Intent as Reduced, RangeExpr, Stop};
+use dpl_nodes::{BoolExpr, DomainExpr, Intent as Reduced, NoNode, RangeExpr};
 use dpl_scopes::{Scopes, Sort, ValueType};
 use dpl_tree::{
     Arena, Expr, Intent, Item, Name, NextIntent, NextName, Op, ScalarKind, Variables, With,
@@ -48,7 +48,7 @@ pub(crate) enum Iterable<'t> {
 ///
 /// # Errors
 /// Out of memory; what is neither a range nor a domain.
-pub(crate) fn over<'t>(plan: &Plan<'_, 't>, written: &Item<'_>) -> Result<Iterable<'t>, Stop>
+pub(crate) fn over<'t>(plan: &Plan<'_, 't>, written: &Item<'_>) -> Result<Iterable<'t>, NoNode>
     ensures node { IfOk result (λ o. IsItem plan.now.scopes (item_view written.now) (over_typed o)) }
     ensures kind { IfOk result (λ o. IsOfType (over_typed o) (item_type plan.now.scopes (item_view written.now))) }
     ensures ill_typed { (result ≡ Err stop.IllTyped) → IsItemOf plan.now.scopes (item_view written.now) (PlainKind RangeLeaf) ⊎ IsItemOf plan.now.scopes (item_view written.now) DomainKind → ⊥ }
@@ -58,7 +58,7 @@ pub(crate) fn over<'t>(plan: &Plan<'_, 't>, written: &Item<'_>) -> Result<Iterab
         Typed::Range(range) => Ok(Iterable::Range(range)),
         Typed::Domain(domain) => Ok(Iterable::Domain(domain)),
         Typed::Int(_) | Typed::Truth(_) | Typed::Tuple(_) | Typed::Ints(_) | Typed::Truths(_) =>
-            Err(Stop::IllTyped),
+            Err(NoNode::IllTyped),
     }
 }
 
@@ -66,7 +66,7 @@ pub(crate) fn over<'t>(plan: &Plan<'_, 't>, written: &Item<'_>) -> Result<Iterab
 ///
 /// # Errors
 /// Out of memory; what isn't a truth value.
-pub(crate) fn condition<'t>(plan: &Plan<'_, 't>, e: &Expr<'_>) -> Result<&'t BoolExpr<'t>, Stop>
+pub(crate) fn condition<'t>(plan: &Plan<'_, 't>, e: &Expr<'_>) -> Result<&'t BoolExpr<'t>, NoNode>
     ensures node { IfOk result (λ b. IsCondition plan.now.scopes (expr_view e.now) b) }
     ensures ill_typed { (result ≡ Err stop.IllTyped) → IsExprOf plan.now.scopes (expr_view e.now) (PlainKind TruthLeaf) → ⊥ }
 {
@@ -78,7 +78,7 @@ pub(crate) fn condition<'t>(plan: &Plan<'_, 't>, e: &Expr<'_>) -> Result<&'t Boo
         | Typed::Domain(_)
         | Typed::Tuple(_)
         | Typed::Ints(_)
-        | Typed::Truths(_) => Err(Stop::IllTyped),
+        | Typed::Truths(_) => Err(NoNode::IllTyped),
     }
 }
 
@@ -91,7 +91,7 @@ pub(crate) fn variable_type<'s>(
     word: LoopWord,
     variables: &Variables<'_>,
     over: &Item<'_>,
-) -> Result<ValueType<'s>, Stop>
+) -> Result<ValueType<'s>, NoNode>
     ensures typed { IfOk result (λ t. loop_type plan.now.scopes (word_view word) (variables_view variables.now) (item_view over.now) ≡ Some (type_view t)) }
     ensures ill_typed { (result ≡ Err stop.IllTyped) → loop_type plan.now.scopes (word_view word) (variables_view variables.now) (item_view over.now) ≡ None }
 {
@@ -105,8 +105,8 @@ pub(crate) fn variable_type<'s>(
         &mut first,
     ) {
         Ok(Some(t)) => Ok(t),
-        Ok(None) => Err(Stop::IllTyped),
-        Err(_) => Err(Stop::Memory),
+        Ok(None) => Err(NoNode::IllTyped),
+        Err(_) => Err(NoNode::Memory),
     }
 }
 
@@ -122,7 +122,7 @@ pub(crate) fn outside(intents: &[Reducing<'_>]) -> bool
 }
 
 // A loop's only variable in its slot: an int, or a tuple.
-fn one_name<'t>(t: ValueType<'_>, slot: usize) -> Result<Names<'t>, Stop>
+fn one_name<'t>(t: ValueType<'_>, slot: usize) -> Result<Names<'t>, NoNode>
     ensures node { IfOk result (λ names. names_view names ≡ OneVariable (unplaced_leaf (leaf_by (value_kind (type_view t.entry)) (Some slot)))) }
     ensures kind { IfOk result (λ names. IsTurnKind (value_kind (type_view t.entry))) }
     ensures ill_typed { (result ≡ Err stop.IllTyped) → IsTurnKind (value_kind (type_view t.entry)) → ⊥ }
@@ -133,7 +133,7 @@ fn one_name<'t>(t: ValueType<'_>, slot: usize) -> Result<Names<'t>, Stop>
             if rank > 1 && rank < 4 {
                 Ok(Names::Tuple(slot))
             } else {
-                Err(Stop::IllTyped)
+                Err(NoNode::IllTyped)
             }
         }
         ValueType::Scalar(ScalarKind::Bool)
@@ -143,7 +143,7 @@ fn one_name<'t>(t: ValueType<'_>, slot: usize) -> Result<Names<'t>, Stop>
         | ValueType::Promoted(_, _)
         | ValueType::Locale
         | ValueType::AllLocales
-        | ValueType::Cell(_) => Err(Stop::IllTyped),
+        | ValueType::Cell(_) => Err(NoNode::IllTyped),
     }
 }
 
@@ -160,7 +160,7 @@ fn other_names<'s, 't>(
     plan: &mut Plan<'s, 't>,
     t: ValueType<'s>,
     others: &[NextName<'s>],
-) -> Result<&'t [usize], Stop>
+) -> Result<&'t [usize], NoNode>
     ensures declared { IfOk result (λ slots. AreDeclared (type_view t.entry) (names_in others.now) plan.old plan.new slots.now) }
     ensures ill_typed { (result ≡ Err stop.IllTyped) → AreFresh (Some (type_view t.entry)) (names_in others.now) plan.old.scopes → ⊥ }
 {
@@ -180,7 +180,7 @@ pub(crate) fn open<'s, 't>(
     plan: &mut Plan<'s, 't>,
     variables: &Variables<'s>,
     t: ValueType<'s>,
-) -> Result<Names<'t>, Stop>
+) -> Result<Names<'t>, NoNode>
     ensures opened { IfOk result (λ names. IsOpened plan.old plan.new (type_view t.entry) (variables_view variables.now) names) }
     ensures ill_typed { (result ≡ Err stop.IllTyped) → AreTurnKinds (variables_view variables.now) (value_kind (type_view t.entry))
         → AreFresh (Some (type_view t.entry)) (variables_of (variables_view variables.now)) (enter plan.old.scopes) → ⊥ }
@@ -193,7 +193,7 @@ pub(crate) fn open<'s, 't>(
         }
         Variables::Many { first, others, .. } => {
             if !is_int(t) {
-                return Err(Stop::IllTyped);
+                return Err(NoNode::IllTyped);
             }
             let first = plan.declare(first.text, Sort::LoopVariable, t)?;
             let others = other_names(plan, t, others)?;
@@ -203,19 +203,19 @@ pub(crate) fn open<'s, 't>(
 }
 
 // A reduce variable, with its slot.
-fn reduced<'s>(scopes: &Scopes<'_>, op: Op, name: &Name<'s>) -> Result<Reducing<'s>, Stop>
+fn reduced<'s>(scopes: &Scopes<'_>, op: Op, name: &Name<'s>) -> Result<Reducing<'s>, NoNode>
     ensures reduced { IfOk result (λ r. reducing_view r ≡ (bound_in scopes.now name.now.text.now, op_view op)) }
     ensures ill_typed { (result ≡ Err stop.IllTyped) → (k : VariableKind) → kind_in scopes.now name.now.text.now ≡ Some k → IsScalarKind k → ⊥ }
 {
     let Some(ValueType::Scalar(kind)) = declared_type(scopes, name.text) else {
-        return Err(Stop::IllTyped);
+        return Err(NoNode::IllTyped);
     };
     match scopes.slot(name.text) {
         Some(slot) => Ok(Reducing {
             name: name.text,
             intent: Reduced { kind, slot, op },
         }),
-        None => Err(Stop::IllTyped),
+        None => Err(NoNode::IllTyped),
     }
 }
 
@@ -224,7 +224,7 @@ fn intent<'s>(
     scopes: &Scopes<'_>,
     written: &Intent<'s>,
     found: &mut Vec<Reducing<'s>>,
-) -> Result<(), Stop>
+) -> Result<(), NoNode>
     ensures found { OnOk result (map reducing_view found.new.items ≡ map reducing_view found.old.items ++ renamed_intents (bound_in scopes.now) (reduce_intents (intent_view written.now ∷ []))) }
     ensures ill_typed { (result ≡ Err stop.IllTyped) → IsRunnableIntent scopes.now (intent_view written.now) → ⊥ }
 {
@@ -239,7 +239,7 @@ fn more_intents<'s>(
     scopes: &Scopes<'_>,
     others: &[NextIntent<'s>],
     found: &mut Vec<Reducing<'s>>,
-) -> Result<(), Stop>
+) -> Result<(), NoNode>
     ensures found { OnOk result (map reducing_view found.new.items ≡ map reducing_view found.old.items ++ renamed_intents (bound_in scopes.now) (reduce_intents (intents_among others.now))) }
     ensures ill_typed { (result ≡ Err stop.IllTyped) → AreRunnableIntents scopes.now (intents_among others.now) → ⊥ }
 {
@@ -256,7 +256,7 @@ fn more_intents<'s>(
 pub(crate) fn intents<'s>(
     plan: &Plan<'s, '_>,
     with: &Option<With<'s>>,
-) -> Result<Vec<Reducing<'s>>, Stop>
+) -> Result<Vec<Reducing<'s>>, NoNode>
     ensures found { IfOk result (λ found. map reducing_view found.items ≡ renamed_intents (bound_in plan.now.scopes) (intents_of (optional with_view with.now))) }
     ensures ill_typed { (result ≡ Err stop.IllTyped) → HasRunnableIntents plan.now.scopes (optional with_view with.now) → ⊥ }
 {
@@ -275,7 +275,7 @@ pub(crate) fn intents<'s>(
 ///
 /// # Errors
 /// Out of memory.
-pub(crate) fn unnamed<'t>(arena: Arena<'t>, found: &[Reducing<'_>]) -> Result<&'t [Reduced], Stop>
+pub(crate) fn unnamed<'t>(arena: Arena<'t>, found: &[Reducing<'_>]) -> Result<&'t [Reduced], NoNode>
     ensures same { IfOk result (λ is. map step_intent is.now ≡ renamed_intents variable_of (map reducing_view found.now)) }
     ensures ill_typed { result ≢ Err stop.IllTyped }
 {

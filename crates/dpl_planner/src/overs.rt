@@ -6,14 +6,14 @@ ghost use Rattle.dpl_rules.specs.Sights.{enter as enter_scopes, add};
 ghost use Rattle.dpl_scopes.specs.Types.{origin_view, type_view, of_type};
 ghost use Rattle.dpl_scopes.specs.View.{declared_view};
 ghost use Rattle.dpl_memory.specs.Resolved.{is_over as is_over_of, arrays_over as arrays_over_of};
-ghost use Rattle.dpl_nodes.specs.declared.stop.Stop.TheVariants as stop;
+ghost use Rattle.dpl_nodes.specs.declared.stop.NoNode.TheVariants as stop;
 ghost use Rattle.dpl_typer.specs.Leaves.{is_rank as is_rank_of, value_kind, kind_by, leaf_by, leaf_in};
 ghost use Rattle.dpl_typer.specs.Sights.{over_by, sight_of};
 ghost use Rattle.dpl_planner.specs.Overs.{slot_of_bound, IsFoundBy, passed, IsAsDeep};
 
 use crate::change::declared_type;
 use crate::progress::list;
-use dpl_nodes::Stop;
+use dpl_nodes::NoNode;
 use dpl_scopes::{Declared, Mark, Scopes, ValueType};
 use dpl_tree::Arena;
 use std::alloc::Global;
@@ -104,7 +104,7 @@ fn is_over(before: &Scopes<'_>, declared: Declared<'_>, slot: usize) -> bool
 
 impl<'s> Walk<'s> {
     // No scope is open.
-    fn begin(alloc: Global) -> Result<Walk<'s>, Stop>
+    fn begin(alloc: Global) -> Result<Walk<'s>, NoNode>
         ensures before { IfOk result (λ walk. walk.before ≡ []) }
         ensures found { IfOk result (λ walk. walk.slots.items ≡ []) }
         ensures inner { IfOk result (λ walk. walk.inner ≡ 0) }
@@ -119,12 +119,12 @@ impl<'s> Walk<'s> {
                     inner: 0,
                 })
             }
-            Err(_) => Err(Stop::Memory),
+            Err(_) => Err(NoNode::Memory),
         }
     }
 
     // A scope is opened.
-    fn enter(&mut self) -> Result<(), Stop>
+    fn enter(&mut self) -> Result<(), NoNode>
         ensures before { OnOk result (self.new.before ≡ enter_scopes self.old.before) }
         ensures slots { OnOk result (self.new.slots ≡ self.old.slots) }
         ensures inner { OnOk result (self.new.inner ≡ 0) }
@@ -135,12 +135,12 @@ impl<'s> Walk<'s> {
                 self.inner = 0;
                 Ok(())
             }
-            Err(_) => Err(Stop::Memory),
+            Err(_) => Err(NoNode::Memory),
         }
     }
 
     // An array is found, behind those of its scope.
-    fn find(&mut self, found: usize) -> Result<(), Stop>
+    fn find(&mut self, found: usize) -> Result<(), NoNode>
         requires { self.old.inner ≤ length self.old.slots.items }
         ensures before { OnOk result (self.new.before ≡ self.old.before) }
         ensures slots { OnOk result (self.new.slots.items ≡ insert self.old.slots.items self.old.inner found) }
@@ -152,12 +152,12 @@ impl<'s> Walk<'s> {
                 self.inner += 1;
                 Ok(())
             }
-            Err(_) => Err(Stop::Memory),
+            Err(_) => Err(NoNode::Memory),
         }
     }
 
     // What is declared is noted, if it is an array over the domain in a slot.
-    fn note(&mut self, declared: Declared<'s>, slot: usize) -> Result<(), Stop>
+    fn note(&mut self, declared: Declared<'s>, slot: usize) -> Result<(), NoNode>
         requires { IsFoundBy slot self.old.before self.old.slots.items self.old.inner }
         ensures before { OnOk result (self.new.before ≡ self.old.before) }
         ensures found { OnOk result (IsFoundBy slot (add (declared_view declared.entry) self.old.before) self.new.slots.items self.new.inner) }
@@ -172,7 +172,7 @@ impl<'s> Walk<'s> {
     }
 
     // A name is declared, as deep as it was.
-    fn declare(&mut self, declared: Declared<'s>, slot: usize) -> Result<(), Stop>
+    fn declare(&mut self, declared: Declared<'s>, slot: usize) -> Result<(), NoNode>
         requires found { IsFoundBy slot self.old.before self.old.slots.items self.old.inner }
         requires deep { declared.origin.depth ≡ length self.old.before }
         ensures before { OnOk result (self.new.before ≡ add (declared_view declared.entry) self.old.before) }
@@ -185,14 +185,14 @@ impl<'s> Walk<'s> {
             .declare(declared.origin.name, declared.sort, declared.value_type)
         {
             Ok(()) => Ok(()),
-            Err(_) => Err(Stop::Memory),
+            Err(_) => Err(NoNode::Memory),
         }
     }
 }
 
 impl<'s> Walk<'s> {
     // A mark is gone by.
-    fn pass(&mut self, mark: &Mark<'s>, slot: usize) -> Result<(), Stop>
+    fn pass(&mut self, mark: &Mark<'s>, slot: usize) -> Result<(), NoNode>
         requires found { IsFoundBy slot self.old.before self.old.slots.items self.old.inner }
         requires deep { IsAsDeep mark.now self.old.before }
         ensures before { OnOk result (self.new.before ≡ passed mark.now self.old.before) }
@@ -207,7 +207,7 @@ impl<'s> Walk<'s> {
 }
 
 // All scopes are gone through.
-fn walked<'s>(alloc: Global, scopes: &Scopes<'s>, slot: usize) -> Result<Walk<'s>, Stop>
+fn walked<'s>(alloc: Global, scopes: &Scopes<'s>, slot: usize) -> Result<Walk<'s>, NoNode>
     ensures found { IfOk result (λ walk. walk.slots.items ≡ arrays_over_of slot (sight_of scopes.now)) }
     ensures ill_typed { result ≢ Err stop.IllTyped }
 {
@@ -228,7 +228,7 @@ pub(crate) fn arrays_over<'t>(
     arena: Arena<'t>,
     scopes: &Scopes<'_>,
     slot: usize,
-) -> Result<&'t [usize], Stop>
+) -> Result<&'t [usize], NoNode>
     ensures arrays { IfOk result (λ slots. slots.now ≡ arrays_over_of slot (sight_of scopes.now)) }
     ensures ill_typed { result ≢ Err stop.IllTyped }
 {

@@ -14,14 +14,14 @@ ghost use Rattle.dpl_nodes.specs.Steps.{steps_of};
 ghost use Rattle.dpl_typer.specs.Sights.{sight_of, AreKnownScopes};
 ghost use Rattle.dpl_planner.specs.Bounds.{bound_program};
 ghost use Rattle.dpl_planner.specs.Given.{AreGiven};
-ghost use Rattle.dpl_nodes.specs.declared.stop.Stop.TheVariants as stop;
+ghost use Rattle.dpl_nodes.specs.declared.stop.NoNode.TheVariants as stop;
 ghost use Rattle.dpl_runnable.specs.Runnable.{IsRunnableTop, AreRunnableTops};
 ghost use Rattle.dpl_planner.specs.Plans.{intents_in, IsOneScope, PlansTop, PlansTops};
 
 use crate::declaration::declare;
 use crate::progress::{Plan, list, push};
 use crate::statement::stmt;
-use dpl_nodes::{MapExpr, Step, Stop};
+use dpl_nodes::{MapExpr, NoNode, Step};
 use dpl_scopes::Scopes;
 use dpl_tree::{Arena, Program, Stmt};
 
@@ -38,7 +38,7 @@ pub struct Planned<'s, 't> {
 }
 
 // A statement of the top level.
-fn top_stmt<'s, 't>(plan: &mut Plan<'s, 't>, written: &Stmt<'s>) -> Result<Step<'t>, Stop>
+fn top_stmt<'s, 't>(plan: &mut Plan<'s, 't>, written: &Stmt<'s>) -> Result<Step<'t>, NoNode>
     ensures plans { IfOk result (λ step. PlansTop plan.old plan.new (stmt_view written.now) step) }
     ensures ill_typed { (result ≡ Err stop.IllTyped) → (intents_in plan.old ≡ []) → IsRunnableTop plan.old.scopes (stmt_view written.now) → ⊥ }
 {
@@ -59,7 +59,7 @@ fn top_stmt<'s, 't>(plan: &mut Plan<'s, 't>, written: &Stmt<'s>) -> Result<Step<
 }
 
 // The statements of the top level.
-fn top_stmts<'s, 't>(plan: &mut Plan<'s, 't>, stmts: &[Stmt<'s>]) -> Result<&'t [Step<'t>], Stop>
+fn top_stmts<'s, 't>(plan: &mut Plan<'s, 't>, stmts: &[Stmt<'s>]) -> Result<&'t [Step<'t>], NoNode>
     ensures plans { IfOk result (λ steps. PlansTops plan.old plan.new (stmts_of stmts.now) steps.now) }
     ensures ill_typed { (result ≡ Err stop.IllTyped) → IsOneScope plan.old.scopes → (intents_in plan.old ≡ []) → AreRunnableTops plan.old.scopes (stmts_of stmts.now) → ⊥ }
 {
@@ -78,7 +78,7 @@ fn top_stmts<'s, 't>(plan: &mut Plan<'s, 't>, stmts: &[Stmt<'s>]) -> Result<&'t 
 /// Out of memory; what doesn't run, as maps, cells, tasks and locales don't; a `config` inside a body, and a
 /// forall inside one with reduce variables; a name that isn't in sight, or is declared twice in one scope; a value of
 /// another kind or another shape than its place takes.
-pub fn plan<'s, 't>(arena: Arena<'t>, program: &Program<'s>) -> Result<Planned<'s, 't>, Stop>
+pub fn plan<'s, 't>(arena: Arena<'t>, program: &Program<'s>) -> Result<Planned<'s, 't>, NoNode>
     ensures text { IfOk result (λ p. renamed_program text_of (bound_program (program_view program.now)) ≡ program_view program.now) }
     ensures steps { IfOk result (λ p. (lowered_program known_variable (renamed_program variable_of (bound_program (program_view program.now)))).stmts ≡ steps_of p.steps.now) }
     ensures fits { IfOk result (λ p. (start : Start) → p.slots ≤ start.slots → AreGiven start p.scopes → fits_all (resolving start) (bound_program (program_view program.now)).stmts first_seen) }

@@ -8,10 +8,10 @@ ghost use Rattle.dpl_scopes.specs.Types.{type_view};
 ghost use Rattle.dpl_scopes.specs.Slots.{next_slot_in};
 ghost use Rattle.dpl_scopes.specs.View.{sort_view};
 ghost use Rattle.dpl_nodes.specs.Spots.{IsNear};
-ghost use Rattle.dpl_nodes.specs.declared.stop.Stop.TheVariants as stop;
+ghost use Rattle.dpl_nodes.specs.declared.stop.NoNode.TheVariants as stop;
 ghost use Rattle.dpl_planner.specs.Plans.{IsPlacedAs};
 
-use dpl_nodes::{Intent, MapExpr, Placing, Spot, Stop};
+use dpl_nodes::{Intent, MapExpr, NoNode, Placing, Spot};
 use dpl_placing::Root;
 use dpl_scopes::{Scopes, Sort, ValueType};
 use dpl_syntax::Place;
@@ -40,7 +40,7 @@ pub(crate) struct Plan<'s, 't> {
 
 impl<'s, 't> Plan<'s, 't> {
     /// A plan of nothing, with one open scope.
-    pub(crate) fn begin(arena: Arena<'t>) -> Result<Plan<'s, 't>, Stop>
+    pub(crate) fn begin(arena: Arena<'t>) -> Result<Plan<'s, 't>, NoNode>
         ensures scopes { IfOk result (λ plan. plan.scopes ≡ top) }
         ensures intents { IfOk result (λ plan. plan.intents.items ≡ []) }
         ensures ill_typed { result ≢ Err stop.IllTyped }
@@ -53,18 +53,18 @@ impl<'s, 't> Plan<'s, 't> {
                 intents: Vec::new(arena.alloc()),
                 maps: Vec::new(arena.alloc()),
             }),
-            Err(_) => Err(Stop::Memory),
+            Err(_) => Err(NoNode::Memory),
         }
     }
 
     /// Opens a scope.
-    pub(crate) fn enter(&mut self) -> Result<(), Stop>
+    pub(crate) fn enter(&mut self) -> Result<(), NoNode>
         ensures opened { OnOk result (self.new ≡ record self.old { scopes = enter_scopes self.old.scopes }) }
         ensures ill_typed { result ≢ Err stop.IllTyped }
     {
         match self.scopes.enter() {
             Ok(()) => Ok(()),
-            Err(_) => Err(Stop::Memory),
+            Err(_) => Err(NoNode::Memory),
         }
     }
 
@@ -84,7 +84,7 @@ impl<'s, 't> Plan<'s, 't> {
         name: &'s [u8],
         sort: Sort,
         value_type: ValueType<'s>,
-    ) -> Result<usize, Stop>
+    ) -> Result<usize, NoNode>
         ensures fresh { IfOk result (λ slot. declared_here self.old.scopes name.now ≡ false) }
         ensures next { IfOk result (λ slot. slot ≡ next_slot_in self.old.scopes) }
         ensures below { IfOk result (λ slot. slot < self.new.slots) }
@@ -94,18 +94,18 @@ impl<'s, 't> Plan<'s, 't> {
         ensures ill_typed { (result ≡ Err stop.IllTyped) → declared_here self.old.scopes name.now ≡ true }
     {
         if self.scopes.declared_here(name) {
-            return Err(Stop::IllTyped);
+            return Err(NoNode::IllTyped);
         }
         let slot = self.scopes.next_slot();
         let Some(slots) = slot.checked_add(1) else {
-            return Err(Stop::Memory);
+            return Err(NoNode::Memory);
         };
         match self.scopes.declare(name, sort, Some(value_type)) {
             Ok(()) => {
                 self.slots = self.slots.max(slots);
                 Ok(slot)
             }
-            Err(_) => Err(Stop::Memory),
+            Err(_) => Err(NoNode::Memory),
         }
     }
 
@@ -114,7 +114,7 @@ impl<'s, 't> Plan<'s, 't> {
     ///
     /// # Errors
     /// Out of memory.
-    pub(crate) fn place(&mut self, root: Root<'t>) -> Result<Placing, Stop>
+    pub(crate) fn place(&mut self, root: Root<'t>) -> Result<Placing, NoNode>
         ensures placed { IfOk result (λ p. IsPlacedAs self.new.maps.items root.entry p) }
         ensures scopes { self.new.scopes ≡ self.old.scopes }
         ensures slots { self.new.slots ≡ self.old.slots }
@@ -133,45 +133,45 @@ impl<'s, 't> Plan<'s, 't> {
 }
 
 /// One more at the end of a list.
-pub(crate) fn push<T: Copy>(list: &mut Vec<T>, x: T) -> Result<(), Stop>
+pub(crate) fn push<T: Copy>(list: &mut Vec<T>, x: T) -> Result<(), NoNode>
     ensures more { OnOk result (list.new.items ≡ list.old.items ++ x ∷ []) }
     ensures ill_typed { result ≢ Err stop.IllTyped }
 {
     match list.push(x) {
         Ok(()) => Ok(()),
-        Err(_) => Err(Stop::Memory),
+        Err(_) => Err(NoNode::Memory),
     }
 }
 
 /// A node in the arena.
-pub(crate) fn node<'t, T: Copy>(arena: Arena<'t>, node: T) -> Result<&'t T, Stop>
+pub(crate) fn node<'t, T: Copy>(arena: Arena<'t>, node: T) -> Result<&'t T, NoNode>
     ensures kept { IfOk result (λ r. r.now ≡ node) }
     ensures ill_typed { result ≢ Err stop.IllTyped }
 {
     match arena.node(node) {
         Ok(r) => Ok(r),
-        Err(_) => Err(Stop::Memory),
+        Err(_) => Err(NoNode::Memory),
     }
 }
 
 /// A list in the arena.
-pub(crate) fn list<'t, T: Copy>(arena: Arena<'t>, nodes: Vec<T>) -> Result<&'t [T], Stop>
+pub(crate) fn list<'t, T: Copy>(arena: Arena<'t>, nodes: Vec<T>) -> Result<&'t [T], NoNode>
     ensures kept { IfOk result (λ r. r.now ≡ nodes.items) }
     ensures ill_typed { result ≢ Err stop.IllTyped }
 {
     match arena.list(nodes) {
         Ok(r) => Ok(r),
-        Err(_) => Err(Stop::Memory),
+        Err(_) => Err(NoNode::Memory),
     }
 }
 
 /// The place of a fault, in the arena.
-pub(crate) fn spot<'t>(arena: Arena<'t>, at: Place) -> Result<&'t Spot, Stop>
+pub(crate) fn spot<'t>(arena: Arena<'t>, at: Place) -> Result<&'t Spot, NoNode>
     ensures near { IfOk result (λ s. s.now ≡ at) }
     ensures far { (result ≡ Err stop.IllTyped) → IsNear at → ⊥ }
 {
     match Spot::new(at) {
         Some(spot) => node(arena, spot),
-        None => Err(Stop::IllTyped),
+        None => Err(NoNode::IllTyped),
     }
 }

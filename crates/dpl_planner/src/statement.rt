@@ -7,7 +7,7 @@ ghost use Rattle.dpl_tree.specs.View.{expr_view, item_view};
 ghost use Rattle.dpl_tree.specs.Declarations.{optional};
 ghost use Rattle.dpl_tree.specs.Statements.{variables_view, with_view, stmt_view, body_view, else_view, stmts_of};
 ghost use Rattle.dpl_rules.specs.Sights.{enter};
-ghost use Rattle.dpl_nodes.specs.declared.stop.Stop.TheVariants as stop;
+ghost use Rattle.dpl_nodes.specs.declared.stop.NoNode.TheVariants as stop;
 ghost use Rattle.dpl_runnable.specs.Runnable.{IsRunnableStmt, IsRunnableBody, AreRunnableStmts, IsRunnableElse};
 ghost use Rattle.dpl_planner.specs.Plans.{intents_in, PlansStmt, PlansStmts, PlansOnly, PlansInner, PlansBody, PlansElse};
 
@@ -19,12 +19,12 @@ use crate::turns::{for_step, forall_step};
 use crate::write::write;
 use dpl_forms::head::LoopWord;
 use dpl_nodes::step::Else as Otherwise;
-use dpl_nodes::{Step, Stop};
+use dpl_nodes::{NoNode, Step};
 use dpl_tree::{Body, Else, For, Forall, If, Stmt, While};
 
 /// A statement.
 #[cycle(statement)]
-pub(crate) fn stmt<'s, 't>(plan: &mut Plan<'s, 't>, stmt: &Stmt<'s>) -> Result<Step<'t>, Stop>
+pub(crate) fn stmt<'s, 't>(plan: &mut Plan<'s, 't>, stmt: &Stmt<'s>) -> Result<Step<'t>, NoNode>
     ensures plans { IfOk result (λ step. PlansStmt plan.old plan.new (stmt_view stmt.now) step) }
     ensures ill_typed { (result ≡ Err stop.IllTyped) → IsRunnableStmt plan.old.scopes (intents_in plan.old) (stmt_view stmt.now) → ⊥ }
 {
@@ -43,9 +43,9 @@ pub(crate) fn stmt<'s, 't>(plan: &mut Plan<'s, 't>, stmt: &Stmt<'s>) -> Result<S
         Stmt::While(turns) => repeat(plan, turns),
         Stmt::For(turns) => for_turns(plan, turns),
         Stmt::Forall(turns) => forall_turns(plan, turns),
-        Stmt::Call(_) => Err(Stop::IllTyped),
-        Stmt::Coforall(_) => Err(Stop::IllTyped),
-        Stmt::On(_) => Err(Stop::IllTyped),
+        Stmt::Call(_) => Err(NoNode::IllTyped),
+        Stmt::Coforall(_) => Err(NoNode::IllTyped),
+        Stmt::On(_) => Err(NoNode::IllTyped),
     }
 }
 
@@ -54,7 +54,7 @@ pub(crate) fn stmt<'s, 't>(plan: &mut Plan<'s, 't>, stmt: &Stmt<'s>) -> Result<S
 pub(crate) fn stmts<'s, 't>(
     plan: &mut Plan<'s, 't>,
     stmts: &[Stmt<'s>],
-) -> Result<&'t [Step<'t>], Stop>
+) -> Result<&'t [Step<'t>], NoNode>
     ensures plans { IfOk result (λ steps. PlansStmts plan.old plan.new (stmts_of stmts.now) steps.now) }
     ensures ill_typed { (result ≡ Err stop.IllTyped) → AreRunnableStmts plan.old.scopes (intents_in plan.old) (stmts_of stmts.now) → ⊥ }
 {
@@ -68,7 +68,7 @@ pub(crate) fn stmts<'s, 't>(
 
 // One statement as a list.
 #[cycle(statement)]
-fn only<'s, 't>(plan: &mut Plan<'s, 't>, inner: &Stmt<'s>) -> Result<&'t [Step<'t>], Stop>
+fn only<'s, 't>(plan: &mut Plan<'s, 't>, inner: &Stmt<'s>) -> Result<&'t [Step<'t>], NoNode>
     ensures plans { IfOk result (λ steps. PlansOnly plan.old plan.new (stmt_view inner.now) steps.now) }
     ensures ill_typed { (result ≡ Err stop.IllTyped) → IsRunnableStmt plan.old.scopes (intents_in plan.old) (stmt_view inner.now) → ⊥ }
 {
@@ -80,7 +80,7 @@ fn only<'s, 't>(plan: &mut Plan<'s, 't>, inner: &Stmt<'s>) -> Result<&'t [Step<'
 
 // A body, in the scope that was opened for it.
 #[cycle(statement)]
-fn inner<'s, 't>(plan: &mut Plan<'s, 't>, body: &Body<'s>) -> Result<&'t [Step<'t>], Stop>
+fn inner<'s, 't>(plan: &mut Plan<'s, 't>, body: &Body<'s>) -> Result<&'t [Step<'t>], NoNode>
     ensures plans { IfOk result (λ steps. PlansInner plan.old plan.new (body_view body.now) steps.now) }
     ensures ill_typed { (result ≡ Err stop.IllTyped) → IsRunnableBody plan.old.scopes (intents_in plan.old) (body_view body.now) → ⊥ }
 {
@@ -92,7 +92,7 @@ fn inner<'s, 't>(plan: &mut Plan<'s, 't>, body: &Body<'s>) -> Result<&'t [Step<'
 
 // A body, in a scope of its own.
 #[cycle(statement)]
-fn body<'s, 't>(plan: &mut Plan<'s, 't>, body: &Body<'s>) -> Result<&'t [Step<'t>], Stop>
+fn body<'s, 't>(plan: &mut Plan<'s, 't>, body: &Body<'s>) -> Result<&'t [Step<'t>], NoNode>
     ensures plans { IfOk result (λ steps. PlansBody plan.old plan.new (body_view body.now) steps.now) }
     ensures ill_typed { (result ≡ Err stop.IllTyped) → IsRunnableBody (enter plan.old.scopes) (intents_in plan.old) (body_view body.now) → ⊥ }
 {
@@ -104,7 +104,7 @@ fn body<'s, 't>(plan: &mut Plan<'s, 't>, body: &Body<'s>) -> Result<&'t [Step<'t
 
 // What stands behind `else`, in a scope of its own.
 #[cycle(statement)]
-fn otherwise<'s, 't>(plan: &mut Plan<'s, 't>, other: &Else<'s>) -> Result<Otherwise<'t>, Stop>
+fn otherwise<'s, 't>(plan: &mut Plan<'s, 't>, other: &Else<'s>) -> Result<Otherwise<'t>, NoNode>
     ensures plans { IfOk result (λ otherwise. PlansElse plan.old plan.new (else_view other.now) otherwise) }
     ensures ill_typed { (result ≡ Err stop.IllTyped) → IsRunnableElse plan.old.scopes (intents_in plan.old) (else_view other.now) → ⊥ }
 {
@@ -122,7 +122,7 @@ fn otherwise<'s, 't>(plan: &mut Plan<'s, 't>, other: &Else<'s>) -> Result<Otherw
 
 // `if`, perhaps with `else`.
 #[cycle(statement)]
-fn choose<'s, 't>(plan: &mut Plan<'s, 't>, choice: &If<'s>) -> Result<Step<'t>, Stop>
+fn choose<'s, 't>(plan: &mut Plan<'s, 't>, choice: &If<'s>) -> Result<Step<'t>, NoNode>
     ensures plans { IfOk result (λ step. PlansStmt plan.old plan.new (IfTree choice.now.at (expr_view choice.now.condition.now) (body_view choice.now.body) (else_view choice.now.otherwise)) step) }
     ensures ill_typed { (result ≡ Err stop.IllTyped) → IsRunnableStmt plan.old.scopes (intents_in plan.old) (IfTree choice.now.at (expr_view choice.now.condition.now) (body_view choice.now.body) (else_view choice.now.otherwise)) → ⊥ }
 {
@@ -138,7 +138,7 @@ fn choose<'s, 't>(plan: &mut Plan<'s, 't>, choice: &If<'s>) -> Result<Step<'t>, 
 
 // `while`.
 #[cycle(statement)]
-fn repeat<'s, 't>(plan: &mut Plan<'s, 't>, turns: &While<'s>) -> Result<Step<'t>, Stop>
+fn repeat<'s, 't>(plan: &mut Plan<'s, 't>, turns: &While<'s>) -> Result<Step<'t>, NoNode>
     ensures plans { IfOk result (λ step. PlansStmt plan.old plan.new (WhileTree turns.now.at (expr_view turns.now.condition.now) (body_view turns.now.body)) step) }
     ensures ill_typed { (result ≡ Err stop.IllTyped) → IsRunnableStmt plan.old.scopes (intents_in plan.old) (WhileTree turns.now.at (expr_view turns.now.condition.now) (body_view turns.now.body)) → ⊥ }
 {
@@ -154,7 +154,7 @@ fn repeat<'s, 't>(plan: &mut Plan<'s, 't>, turns: &While<'s>) -> Result<Step<'t>
 
 // `for`.
 #[cycle(statement)]
-fn for_turns<'s, 't>(plan: &mut Plan<'s, 't>, turns: &For<'s>) -> Result<Step<'t>, Stop>
+fn for_turns<'s, 't>(plan: &mut Plan<'s, 't>, turns: &For<'s>) -> Result<Step<'t>, NoNode>
     ensures plans { IfOk result (λ step. PlansStmt plan.old plan.new (ForTree turns.now.at (variables_view turns.now.variables) turns.now.within (item_view turns.now.over) (body_view turns.now.body)) step) }
     ensures ill_typed { (result ≡ Err stop.IllTyped) → IsRunnableStmt plan.old.scopes (intents_in plan.old) (ForTree turns.now.at (variables_view turns.now.variables) turns.now.within (item_view turns.now.over) (body_view turns.now.body)) → ⊥ }
 {
@@ -169,13 +169,13 @@ fn for_turns<'s, 't>(plan: &mut Plan<'s, 't>, turns: &For<'s>) -> Result<Step<'t
 
 // `forall`: within one with reduce variables there is no other.
 #[cycle(statement)]
-fn forall_turns<'s, 't>(plan: &mut Plan<'s, 't>, turns: &Forall<'s>) -> Result<Step<'t>, Stop>
+fn forall_turns<'s, 't>(plan: &mut Plan<'s, 't>, turns: &Forall<'s>) -> Result<Step<'t>, NoNode>
     ensures plans { IfOk result (λ step. PlansStmt plan.old plan.new (ForallTree turns.now.at (variables_view turns.now.variables) turns.now.within (item_view turns.now.over) (optional with_view turns.now.with) (body_view turns.now.body)) step) }
     ensures ill_typed { (result ≡ Err stop.IllTyped)
         → IsRunnableStmt plan.old.scopes (intents_in plan.old) (ForallTree turns.now.at (variables_view turns.now.variables) turns.now.within (item_view turns.now.over) (optional with_view turns.now.with) (body_view turns.now.body)) → ⊥ }
 {
     if !outside(&plan.intents) {
-        return Err(Stop::IllTyped);
+        return Err(NoNode::IllTyped);
     }
     let at = spot(plan.arena, turns.at)?;
     let over = over(plan, &turns.over)?;

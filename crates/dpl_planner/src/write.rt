@@ -13,7 +13,7 @@ ghost use Rattle.dpl_memory.specs.Memory.{ArrayKind};
 ghost use Rattle.dpl_typer.specs.Leaves.{kind_in};
 ghost use Rattle.dpl_planner.specs.Parts.{IsWholeArray, IsArgument, AreArguments, others_in, StillArguments};
 ghost use Rattle.dpl_nodes.specs.Typed.{kind_view};
-ghost use Rattle.dpl_nodes.specs.declared.stop.Stop.TheVariants as stop;
+ghost use Rattle.dpl_nodes.specs.declared.stop.NoNode.TheVariants as stop;
 ghost use Rattle.dpl_runnable.specs.Runnable.{IsPrinted, IsRunnableArgument, AreRunnableArguments, IsRunnableStmt};
 ghost use Rattle.dpl_planner.specs.Plans.{intents_in, PlansStmt};
 
@@ -21,20 +21,20 @@ use crate::elements::array_named;
 use crate::progress::{Plan, list, push};
 use dpl_lexer::text_bytes;
 use dpl_nodes::step::Argument as Shown;
-use dpl_nodes::{Step, Stop};
+use dpl_nodes::{NoNode, Step};
 use dpl_scopes::Scopes;
 use dpl_syntax::Bytes;
 use dpl_tree::{Arena, Argument, Arguments, Expr, NextArgument, ScalarKind, Write};
 use dpl_typer::{Typed, expression};
 
 // A text, by the bytes that its escapes mean.
-fn text<'t>(arena: Arena<'t>, bytes: &[u8]) -> Result<&'t [u8], Stop>
+fn text<'t>(arena: Arena<'t>, bytes: &[u8]) -> Result<&'t [u8], NoNode>
     ensures meant { IfOk result (λ meant. meant.now ≡ text_value bytes.now) }
     ensures ill_typed { result ≢ Err stop.IllTyped }
 {
     match text_bytes(arena.alloc(), &Bytes::new(bytes)) {
         Ok(meant) => list(arena, meant),
-        Err(_) => Err(Stop::Memory),
+        Err(_) => Err(NoNode::Memory),
     }
 }
 
@@ -56,7 +56,7 @@ fn whole_array(scopes: &Scopes<'_>, e: &Expr<'_>) -> Option<(ScalarKind, usize)>
 }
 
 // An expression that is no array's name: an int or a truth value.
-fn scalar<'t>(plan: &Plan<'_, 't>, e: &Expr<'_>) -> Result<Shown<'t>, Stop>
+fn scalar<'t>(plan: &Plan<'_, 't>, e: &Expr<'_>) -> Result<Shown<'t>, NoNode>
     ensures shown { IfOk result (λ shown. IsArgument plan.now.scopes (ExprArgument (expr_view e.now)) shown) }
     ensures ill_typed { (result ≡ Err stop.IllTyped) → IsPrinted plan.now.scopes (expr_view e.now) → ((x : Placed Text) (k : Kind) → expr_view e.now ≡ Named x → kind_in plan.now.scopes x.name ≢ Some (ArrayKind k)) → ⊥ }
 {
@@ -64,15 +64,15 @@ fn scalar<'t>(plan: &Plan<'_, 't>, e: &Expr<'_>) -> Result<Shown<'t>, Stop>
     match made {
         Typed::Int(e) => Ok(Shown::Int(e)),
         Typed::Truth(e) => Ok(Shown::Truth(e)),
-        Typed::Range(_) => Err(Stop::IllTyped),
+        Typed::Range(_) => Err(NoNode::IllTyped),
         Typed::Domain(_) | Typed::Tuple(_) | Typed::Ints(_) | Typed::Truths(_) => {
-            Err(Stop::IllTyped)
+            Err(NoNode::IllTyped)
         }
     }
 }
 
 // An expression: an array's name, an int or a truth value.
-fn value<'t>(plan: &Plan<'_, 't>, e: &Expr<'_>) -> Result<Shown<'t>, Stop>
+fn value<'t>(plan: &Plan<'_, 't>, e: &Expr<'_>) -> Result<Shown<'t>, NoNode>
     ensures shown { IfOk result (λ shown. IsArgument plan.now.scopes (ExprArgument (expr_view e.now)) shown) }
     ensures ill_typed { (result ≡ Err stop.IllTyped) → IsPrinted plan.now.scopes (expr_view e.now) → ⊥ }
 {
@@ -83,7 +83,7 @@ fn value<'t>(plan: &Plan<'_, 't>, e: &Expr<'_>) -> Result<Shown<'t>, Stop>
 }
 
 // An argument.
-fn argument<'t>(plan: &Plan<'_, 't>, written: &Argument<'_>) -> Result<Shown<'t>, Stop>
+fn argument<'t>(plan: &Plan<'_, 't>, written: &Argument<'_>) -> Result<Shown<'t>, NoNode>
     ensures shown { IfOk result (λ shown. IsArgument plan.now.scopes (argument_view written.now) shown) }
     ensures ill_typed { (result ≡ Err stop.IllTyped) → IsRunnableArgument plan.now.scopes (argument_view written.now) → ⊥ }
 {
@@ -98,7 +98,7 @@ fn more_arguments<'t>(
     plan: &Plan<'_, 't>,
     others: &[NextArgument<'_>],
     shown: &mut Vec<Shown<'t>>,
-) -> Result<(), Stop>
+) -> Result<(), NoNode>
     ensures shown { OnOk result ((all : List (ArgumentTree Text)) → StillArguments plan.now.scopes all (others_in others.now) shown.old.items → StillArguments plan.now.scopes all [] shown.new.items) }
     ensures ill_typed { (result ≡ Err stop.IllTyped) → AreRunnableArguments plan.now.scopes (others_in others.now) → ⊥ }
 {
@@ -110,7 +110,10 @@ fn more_arguments<'t>(
 }
 
 // One argument or more.
-fn some_arguments<'t>(plan: &Plan<'_, 't>, written: &Arguments<'_>) -> Result<&'t [Shown<'t>], Stop>
+fn some_arguments<'t>(
+    plan: &Plan<'_, 't>,
+    written: &Arguments<'_>,
+) -> Result<&'t [Shown<'t>], NoNode>
     ensures shown { IfOk result (λ shown. AreArguments plan.now.scopes (arguments_of (Some (arguments_view written.now))) shown.now) }
     ensures ill_typed { (result ≡ Err stop.IllTyped) → AreRunnableArguments plan.now.scopes (arguments_of (Some (arguments_view written.now))) → ⊥ }
 {
@@ -125,7 +128,7 @@ fn some_arguments<'t>(plan: &Plan<'_, 't>, written: &Arguments<'_>) -> Result<&'
 fn arguments<'t>(
     plan: &Plan<'_, 't>,
     written: &Option<Arguments<'_>>,
-) -> Result<&'t [Shown<'t>], Stop>
+) -> Result<&'t [Shown<'t>], NoNode>
     ensures shown { IfOk result (λ shown. AreArguments plan.now.scopes (arguments_of (optional arguments_view written.now)) shown.now) }
     ensures ill_typed { (result ≡ Err stop.IllTyped) → AreRunnableArguments plan.now.scopes (arguments_of (optional arguments_view written.now)) → ⊥ }
 {
@@ -139,7 +142,7 @@ fn arguments<'t>(
 ///
 /// # Errors
 /// Out of memory; an argument that isn't a text, an int, a truth value or an array's name.
-pub(crate) fn write<'t>(plan: &Plan<'_, 't>, written: &Write<'_>) -> Result<Step<'t>, Stop>
+pub(crate) fn write<'t>(plan: &Plan<'_, 't>, written: &Write<'_>) -> Result<Step<'t>, NoNode>
     ensures plans { IfOk result (λ step. PlansStmt plan.now plan.now (WriteTree (written_view written.now)) step) }
     ensures ill_typed { (result ≡ Err stop.IllTyped) → IsRunnableStmt plan.now.scopes (intents_in plan.now) (WriteTree (written_view written.now)) → ⊥ }
 {

@@ -38,7 +38,7 @@ use dpl_closed::closed;
 use dpl_given::given;
 use dpl_lexer::lex;
 use dpl_loop::Gate;
-use dpl_nodes::Stop as PlanStop;
+use dpl_nodes::NoNode;
 use dpl_parser::parse;
 use dpl_planner::{Planned, plan};
 use dpl_syntax::{Code, Refusal, Stop};
@@ -114,8 +114,8 @@ fn run_program<'t, G: Gate>(
 {
     match plan(arena, program) {
         Ok(planned) => run_planned(arena, planned, program.stmts, sets, config, gate),
-        Err(PlanStop::Memory) => Err(Refused::Memory),
-        Err(PlanStop::IllTyped) => unreachable!(),
+        Err(NoNode::Memory) => Err(Refused::Memory),
+        Err(NoNode::IllTyped) => unreachable!(),
     }
 }
 

@@ -13,15 +13,15 @@ ghost use Rattle.dpl_nodes.specs.Typed.{dotted, in_square, range_view, ranges_it
 ghost use Rattle.dpl_nodes.specs.Spots.{IsNear};
 ghost use Rattle.dpl_typer.specs.Makers.{typed_view, kind_of, is_whole, whole_ints, whole_truths, parts_items, parts_kinds, ranges_kinds, index_kinds};
 ghost use Rattle.dpl_typer.specs.Makers.{element_kind, square_kind, round_kind, array_word_kind, word_kind, contains_kind, is_one_range, is_one_int, kind_if};
-ghost use Rattle.dpl_nodes.specs.declared.stop.Stop.TheVariants as stop;
+ghost use Rattle.dpl_nodes.specs.declared.stop.NoNode.TheVariants as stop;
 
 use crate::domains::of_domain;
 use crate::make::{Typed, domain, int, range, truth};
 use crate::pieces::Parts;
 use crate::ranges::of_range;
 use dpl_nodes::{
-    BoolExpr, DomainExpr, IndexExpr, IntExpr, PromotedInt, PromotedTruth, RangeExpr, RangesExpr,
-    Stop,
+    BoolExpr, DomainExpr, IndexExpr, IntExpr, NoNode, PromotedInt, PromotedTruth, RangeExpr,
+    RangesExpr,
 };
 use dpl_syntax::Place;
 use dpl_tree::{Arena, ScalarKind, Word};
@@ -31,7 +31,7 @@ fn int_element<'t>(
     arena: Arena<'t>,
     base: &'t PromotedInt<'t>,
     index: &'t IndexExpr<'t>,
-) -> Result<Typed<'t>, Stop>
+) -> Result<Typed<'t>, NoNode>
     ensures node { IfOk result (λ t. (m : Times) → typed_view m t ≡ in_square (promoted_int EachTurn base.now) (index_items index.now)) }
     ensures kind { IfOk result (λ t. element_kind (whole_ints base.now) IntKind (index_kinds index.now) ≡ Some (kind_of t)) }
     ensures ill_typed { (result ≡ Err stop.IllTyped) → element_kind (whole_ints base.now) IntKind (index_kinds index.now) ≡ None }
@@ -44,7 +44,7 @@ fn int_element<'t>(
         | PromotedInt::Difference(_, _)
         | PromotedInt::Product(_, _)
         | PromotedInt::Quotient(_, _, _)
-        | PromotedInt::Remainder(_, _, _) => Err(Stop::IllTyped),
+        | PromotedInt::Remainder(_, _, _) => Err(NoNode::IllTyped),
     }
 }
 
@@ -53,7 +53,7 @@ fn truth_element<'t>(
     arena: Arena<'t>,
     base: &'t PromotedTruth<'t>,
     index: &'t IndexExpr<'t>,
-) -> Result<Typed<'t>, Stop>
+) -> Result<Typed<'t>, NoNode>
     ensures node { IfOk result (λ t. (m : Times) → typed_view m t ≡ in_square (promoted_truth EachTurn base.now) (index_items index.now)) }
     ensures kind { IfOk result (λ t. element_kind (whole_truths base.now) BoolKind (index_kinds index.now) ≡ Some (kind_of t)) }
     ensures ill_typed { (result ≡ Err stop.IllTyped) → element_kind (whole_truths base.now) BoolKind (index_kinds index.now) ≡ None }
@@ -66,7 +66,7 @@ fn truth_element<'t>(
         | PromotedTruth::Or(_, _)
         | PromotedTruth::Same(_, _)
         | PromotedTruth::Differ(_, _)
-        | PromotedTruth::Compare(_, _, _) => Err(Stop::IllTyped),
+        | PromotedTruth::Compare(_, _, _) => Err(NoNode::IllTyped),
     }
 }
 
@@ -75,19 +75,23 @@ fn range_slice<'t>(
     arena: Arena<'t>,
     base: &'t RangeExpr<'t>,
     cuts: &'t RangesExpr<'t>,
-) -> Result<Typed<'t>, Stop>
+) -> Result<Typed<'t>, NoNode>
     ensures node { IfOk result (λ t. (m : Times) → typed_view m t ≡ in_square (range_view base.now) (ranges_items cuts.now)) }
     ensures kind { IfOk result (λ t. kind_if (is_one_range (ranges_kinds cuts.now)) (PlainKind RangeLeaf) ≡ Some (kind_of t)) }
     ensures ill_typed { (result ≡ Err stop.IllTyped) → kind_if (is_one_range (ranges_kinds cuts.now)) (PlainKind RangeLeaf) ≡ None }
 {
     match cuts {
         RangesExpr::Line(cut) => range(arena.node(RangeExpr::Slice(base, cut))),
-        RangesExpr::Plane(_, _) | RangesExpr::Space(_, _, _) => Err(Stop::IllTyped),
+        RangesExpr::Plane(_, _) | RangesExpr::Space(_, _, _) => Err(NoNode::IllTyped),
     }
 }
 
 // A base cut by ranges.
-fn slice<'t>(arena: Arena<'t>, base: Typed<'t>, cuts: &'t RangesExpr<'t>) -> Result<Typed<'t>, Stop>
+fn slice<'t>(
+    arena: Arena<'t>,
+    base: Typed<'t>,
+    cuts: &'t RangesExpr<'t>,
+) -> Result<Typed<'t>, NoNode>
     ensures node { IfOk result (λ t. (m : Times) → typed_view m t ≡ in_square (typed_view EachTurn base.entry) (ranges_items cuts.now)) }
     ensures kind { IfOk result (λ t. square_kind (is_whole base.entry) (kind_of base.entry) (ranges_kinds cuts.now) ≡ Some (kind_of t)) }
     ensures ill_typed { (result ≡ Err stop.IllTyped) → square_kind (is_whole base.entry) (kind_of base.entry) (ranges_kinds cuts.now) ≡ None }
@@ -96,7 +100,7 @@ fn slice<'t>(arena: Arena<'t>, base: Typed<'t>, cuts: &'t RangesExpr<'t>) -> Res
         Typed::Range(base) => range_slice(arena, base, cuts),
         Typed::Domain(base) => domain(arena.node(DomainExpr::Slice(base, cuts))),
         Typed::Int(_) | Typed::Truth(_) | Typed::Tuple(_) | Typed::Ints(_) | Typed::Truths(_) =>
-            Err(Stop::IllTyped),
+            Err(NoNode::IllTyped),
     }
 }
 
@@ -108,7 +112,7 @@ pub fn element<'t>(
     arena: Arena<'t>,
     base: Typed<'t>,
     index: &'t IndexExpr<'t>,
-) -> Result<Typed<'t>, Stop>
+) -> Result<Typed<'t>, NoNode>
     ensures node { IfOk result (λ t. (m : Times) → typed_view m t ≡ in_square (typed_view EachTurn base.entry) (index_items index.now)) }
     ensures whole { IfOk result (λ t. is_whole base.entry ≡ true) }
     ensures kind { IfOk result (λ t. round_kind (is_whole base.entry) (kind_of base.entry) (index_kinds index.now) ≡ Some (kind_of t)) }
@@ -118,7 +122,7 @@ pub fn element<'t>(
         Typed::Ints(base) => int_element(arena, base, index),
         Typed::Truths(base) => truth_element(arena, base, index),
         Typed::Int(_) | Typed::Truth(_) | Typed::Range(_) | Typed::Domain(_) | Typed::Tuple(_) =>
-            Err(Stop::IllTyped),
+            Err(NoNode::IllTyped),
     }
 }
 
@@ -126,7 +130,7 @@ pub fn element<'t>(
 ///
 /// # Errors
 /// Out of memory; a base or parts of other types.
-pub fn square<'t>(arena: Arena<'t>, base: Typed<'t>, parts: Parts<'t>) -> Result<Typed<'t>, Stop>
+pub fn square<'t>(arena: Arena<'t>, base: Typed<'t>, parts: Parts<'t>) -> Result<Typed<'t>, NoNode>
     ensures node { IfOk result (λ t. (m : Times) → typed_view m t ≡ in_square (typed_view EachTurn base.entry) (parts_items parts.entry)) }
     ensures kind { IfOk result (λ t. square_kind (is_whole base.entry) (kind_of base.entry) (parts_kinds parts.entry) ≡ Some (kind_of t)) }
     ensures ill_typed { (result ≡ Err stop.IllTyped) → square_kind (is_whole base.entry) (kind_of base.entry) (parts_kinds parts.entry) ≡ None }
@@ -138,7 +142,7 @@ pub fn square<'t>(arena: Arena<'t>, base: Typed<'t>, parts: Parts<'t>) -> Result
 }
 
 // A method without arguments of ints at each index: the domain of a whole array.
-fn of_ints<'t>(arena: Arena<'t>, word: Word, base: &'t PromotedInt<'t>) -> Result<Typed<'t>, Stop>
+fn of_ints<'t>(arena: Arena<'t>, word: Word, base: &'t PromotedInt<'t>) -> Result<Typed<'t>, NoNode>
     ensures node { IfOk result (λ t. (at : PlaceOf) (m : Times) → typed_view m t ≡ dotted (promoted_int Once base.now) (Plainly (kept (is_end (word_view word)) at) (word_view word))) }
     ensures kind { IfOk result (λ t. array_word_kind (whole_ints base.now) (word_view word) ≡ Some (kind_of t)) }
     ensures ill_typed { (result ≡ Err stop.IllTyped) → array_word_kind (whole_ints base.now) (word_view word) ≡ None }
@@ -155,7 +159,7 @@ fn of_ints<'t>(arena: Arena<'t>, word: Word, base: &'t PromotedInt<'t>) -> Resul
             | PromotedInt::Difference(_, _)
             | PromotedInt::Product(_, _)
             | PromotedInt::Quotient(_, _, _)
-            | PromotedInt::Remainder(_, _, _) => Err(Stop::IllTyped),
+            | PromotedInt::Remainder(_, _, _) => Err(NoNode::IllTyped),
         },
         Word::Size
         | Word::First
@@ -163,7 +167,7 @@ fn of_ints<'t>(arena: Arena<'t>, word: Word, base: &'t PromotedInt<'t>) -> Resul
         | Word::Low
         | Word::High
         | Word::LowBound
-        | Word::Id => Err(Stop::IllTyped),
+        | Word::Id => Err(NoNode::IllTyped),
     }
 }
 
@@ -172,7 +176,7 @@ fn of_truths<'t>(
     arena: Arena<'t>,
     word: Word,
     base: &'t PromotedTruth<'t>,
-) -> Result<Typed<'t>, Stop>
+) -> Result<Typed<'t>, NoNode>
     ensures node { IfOk result (λ t. (at : PlaceOf) (m : Times) → typed_view m t ≡ dotted (promoted_truth Once base.now) (Plainly (kept (is_end (word_view word)) at) (word_view word))) }
     ensures kind { IfOk result (λ t. array_word_kind (whole_truths base.now) (word_view word) ≡ Some (kind_of t)) }
     ensures ill_typed { (result ≡ Err stop.IllTyped) → array_word_kind (whole_truths base.now) (word_view word) ≡ None }
@@ -189,7 +193,7 @@ fn of_truths<'t>(
             | PromotedTruth::Or(_, _)
             | PromotedTruth::Same(_, _)
             | PromotedTruth::Differ(_, _)
-            | PromotedTruth::Compare(_, _, _) => Err(Stop::IllTyped),
+            | PromotedTruth::Compare(_, _, _) => Err(NoNode::IllTyped),
         },
         Word::Size
         | Word::First
@@ -197,7 +201,7 @@ fn of_truths<'t>(
         | Word::Low
         | Word::High
         | Word::LowBound
-        | Word::Id => Err(Stop::IllTyped),
+        | Word::Id => Err(NoNode::IllTyped),
     }
 }
 
@@ -210,7 +214,7 @@ pub fn called<'t>(
     word: Word,
     at: Place,
     base: Typed<'t>,
-) -> Result<Typed<'t>, Stop>
+) -> Result<Typed<'t>, NoNode>
     ensures node { IfOk result (λ t. (m : Times) → typed_view m t ≡ dotted (typed_view Once base.entry) (Plainly (kept (is_end (word_view word)) at) (word_view word))) }
     ensures kind { IfOk result (λ t. word_kind (word_view word) (is_whole base.entry) (kind_of base.entry) ≡ Some (kind_of t)) }
     ensures ill_typed { (result ≡ Err stop.IllTyped) → IsNear at → word_kind (word_view word) (is_whole base.entry) (kind_of base.entry) ≡ None }
@@ -220,7 +224,7 @@ pub fn called<'t>(
         Typed::Domain(base) => of_domain(arena, word, at, base),
         Typed::Ints(base) => of_ints(arena, word, base),
         Typed::Truths(base) => of_truths(arena, word, base),
-        Typed::Int(_) | Typed::Truth(_) | Typed::Tuple(_) => Err(Stop::IllTyped),
+        Typed::Int(_) | Typed::Truth(_) | Typed::Tuple(_) => Err(NoNode::IllTyped),
     }
 }
 
@@ -229,7 +233,7 @@ fn in_range<'t>(
     arena: Arena<'t>,
     base: &'t RangeExpr<'t>,
     index: &'t IndexExpr<'t>,
-) -> Result<Typed<'t>, Stop>
+) -> Result<Typed<'t>, NoNode>
     ensures node { IfOk result (λ t. (m : Times) → typed_view m t ≡ dotted (range_view base.now) (Contains nowhere nowhere (index_exprs index.now) nowhere)) }
     ensures kind { IfOk result (λ t. kind_if (is_one_int (index_kinds index.now)) (PlainKind TruthLeaf) ≡ Some (kind_of t)) }
     ensures ill_typed { (result ≡ Err stop.IllTyped) → kind_if (is_one_int (index_kinds index.now)) (PlainKind TruthLeaf) ≡ None }
@@ -237,7 +241,7 @@ fn in_range<'t>(
     match index {
         IndexExpr::Line(i) => truth(arena.node(BoolExpr::Contains(base, i))),
         IndexExpr::Plane(_, _) | IndexExpr::Space(_, _, _) | IndexExpr::Tuple(_) => Err(
-            Stop::IllTyped,
+            NoNode::IllTyped,
         ),
     }
 }
@@ -250,7 +254,7 @@ pub fn containing<'t>(
     arena: Arena<'t>,
     base: Typed<'t>,
     index: &'t IndexExpr<'t>,
-) -> Result<Typed<'t>, Stop>
+) -> Result<Typed<'t>, NoNode>
     ensures node { IfOk result (λ t. (m : Times) → typed_view m t ≡ dotted (typed_view Once base.entry) (Contains nowhere nowhere (index_exprs index.now) nowhere)) }
     ensures kind { IfOk result (λ t. contains_kind (kind_of base.entry) (index_kinds index.now) ≡ Some (kind_of t)) }
     ensures ill_typed { (result ≡ Err stop.IllTyped) → contains_kind (kind_of base.entry) (index_kinds index.now) ≡ None }
@@ -259,6 +263,6 @@ pub fn containing<'t>(
         Typed::Range(base) => in_range(arena, base, index),
         Typed::Domain(base) => truth(arena.node(BoolExpr::HasIndex(base, index))),
         Typed::Int(_) | Typed::Truth(_) | Typed::Tuple(_) | Typed::Ints(_) | Typed::Truths(_) =>
-            Err(Stop::IllTyped),
+            Err(NoNode::IllTyped),
     }
 }

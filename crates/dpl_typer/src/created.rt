@@ -5,7 +5,7 @@ ghost use Rattle.std.specs.Prelude.{◌≡◌, IfOk, Err};
 ghost use Rattle.dpl_tree.specs.View.{item_view, items_view};
 ghost use Rattle.dpl_rules.specs.Expressions.{item_parts};
 ghost use Rattle.dpl_nodes.specs.Spots.{IsNear};
-ghost use Rattle.dpl_nodes.specs.declared.stop.Stop.TheVariants as stop;
+ghost use Rattle.dpl_nodes.specs.declared.stop.NoNode.TheVariants as stop;
 ghost use Rattle.dpl_spelling.specs.Spelt.{ItemSpelt, ItemsSpelt};
 ghost use Rattle.dpl_typer.specs.Leaves.{MayBePlain};
 ghost use Rattle.dpl_typer.specs.Simple.{IsSimpleItem, AreSimpleItems};
@@ -16,7 +16,7 @@ use crate::elaborate::item;
 use crate::make::Typed;
 use crate::parts::parts;
 use crate::pieces::one;
-use dpl_nodes::Stop;
+use dpl_nodes::NoNode;
 use dpl_scopes::Scopes;
 use dpl_syntax::Place;
 use dpl_tree::{Arena, Item, Items};
@@ -27,7 +27,7 @@ fn of_one<'t>(
     scopes: &Scopes<'_>,
     from: Place,
     written: &Item<'_>,
-) -> Result<Typed<'t>, Stop>
+) -> Result<Typed<'t>, NoNode>
     ensures created { IfOk result (λ t. IsCreated scopes.now from (alone (item_view written.now)) t) }
     ensures ill_typed { (result ≡ Err stop.IllTyped) → IsNear from → IsSimpleItem (MayBePlain scopes.now) (item_view written.now) → ItemSpelt IsNear (item_view written.now) → HasNoDomain (item_parts scopes.now (alone (item_view written.now))) }
 {
@@ -38,11 +38,11 @@ fn of_one<'t>(
             let parts = one(arena, made)?;
             literal(arena, from, parts)
         }
-        Typed::Int(_) => Err(Stop::IllTyped),
-        Typed::Truth(_) => Err(Stop::IllTyped),
-        Typed::Tuple(_) => Err(Stop::IllTyped),
-        Typed::Ints(_) => Err(Stop::IllTyped),
-        Typed::Truths(_) => Err(Stop::IllTyped),
+        Typed::Int(_) => Err(NoNode::IllTyped),
+        Typed::Truth(_) => Err(NoNode::IllTyped),
+        Typed::Tuple(_) => Err(NoNode::IllTyped),
+        Typed::Ints(_) => Err(NoNode::IllTyped),
+        Typed::Truths(_) => Err(NoNode::IllTyped),
     }
 }
 
@@ -52,7 +52,7 @@ fn of_many<'t>(
     scopes: &Scopes<'_>,
     from: Place,
     written: &Items<'_>,
-) -> Result<Typed<'t>, Stop>
+) -> Result<Typed<'t>, NoNode>
     requires { AreMany (items_view written.now) }
     ensures created { IfOk result (λ t. IsCreated scopes.now from (items_view written.now) t) }
     ensures ill_typed { (result ≡ Err stop.IllTyped) → IsNear from → AreSimpleItems (MayBePlain scopes.now) (items_view written.now) → ItemsSpelt IsNear (items_view written.now) → HasNoDomain (item_parts scopes.now (items_view written.now)) }
@@ -70,7 +70,7 @@ pub fn created<'t>(
     scopes: &Scopes<'_>,
     from: Place,
     written: &Items<'_>,
-) -> Result<Typed<'t>, Stop>
+) -> Result<Typed<'t>, NoNode>
     ensures created { IfOk result (λ t. IsCreated scopes.now from (items_view written.now) t) }
     ensures ill_typed { (result ≡ Err stop.IllTyped) → IsNear from → AreSimpleItems (MayBePlain scopes.now) (items_view written.now) → ItemsSpelt IsNear (items_view written.now) → HasNoDomain (item_parts scopes.now (items_view written.now)) }
 {

@@ -11,12 +11,12 @@ ghost use Rattle.dpl_memory.specs.Memory.{DomainKind};
 ghost use Rattle.dpl_nodes.specs.Typed.{dotted, items_one, domain_view};
 ghost use Rattle.dpl_nodes.specs.Spots.{IsNear};
 ghost use Rattle.dpl_typer.specs.Makers.{typed_view, kind_of, parts_items, parts_kinds, literal_kind, domain_word_kind, is_domain, dim_kind, expand_kind};
-ghost use Rattle.dpl_nodes.specs.declared.stop.Stop.TheVariants as stop;
+ghost use Rattle.dpl_nodes.specs.declared.stop.NoNode.TheVariants as stop;
 ghost use Rattle.dpl_typer.specs.declared.make.Typed.TheVariants as typed;
 
 use crate::make::{Typed, domain, int, range, spot};
 use crate::pieces::{Parts, int_in};
-use dpl_nodes::{DomainExpr, IntExpr, RangeExpr, Stop};
+use dpl_nodes::{DomainExpr, IntExpr, NoNode, RangeExpr};
 use dpl_syntax::Place;
 use dpl_tree::{Arena, Word};
 
@@ -24,7 +24,7 @@ use dpl_tree::{Arena, Word};
 ///
 /// # Errors
 /// Out of memory; parts that are no ranges; a place past 2^21, which no text has.
-pub fn literal<'t>(arena: Arena<'t>, from: Place, parts: Parts<'t>) -> Result<Typed<'t>, Stop>
+pub fn literal<'t>(arena: Arena<'t>, from: Place, parts: Parts<'t>) -> Result<Typed<'t>, NoNode>
     ensures node { IfOk result (λ t. (m : Times) → typed_view m t ≡ DomainLiteral from (parts_items parts.entry) nowhere) }
     ensures kind { IfOk result (λ t. literal_kind (parts_kinds parts.entry) ≡ Some (kind_of t)) }
     ensures ill_typed { (result ≡ Err stop.IllTyped) → IsNear from → literal_kind (parts_kinds parts.entry) ≡ None }
@@ -34,7 +34,7 @@ pub fn literal<'t>(arena: Arena<'t>, from: Place, parts: Parts<'t>) -> Result<Ty
             let from = spot(arena, from)?;
             domain(arena.node(DomainExpr::Literal(from, ranges)))
         }
-        Parts::Index(_) => Err(Stop::IllTyped),
+        Parts::Index(_) => Err(NoNode::IllTyped),
     }
 }
 
@@ -46,7 +46,7 @@ pub fn created_from<'t>(
     arena: Arena<'t>,
     from: Place,
     base: &'t DomainExpr<'t>,
-) -> Result<Typed<'t>, Stop>
+) -> Result<Typed<'t>, NoNode>
     ensures node { IfOk result (λ t. (m : Times) → typed_view m t ≡ DomainLiteral from (items_one (One (domain_view base.now))) nowhere) }
     ensures kind { IfOk result (λ t. kind_of t ≡ DomainKind) }
     ensures ill_typed { (result ≡ Err stop.IllTyped) → IsNear from → ⊥ }
@@ -61,7 +61,7 @@ pub(crate) fn of_domain<'t>(
     word: Word,
     at: Place,
     base: &'t DomainExpr<'t>,
-) -> Result<Typed<'t>, Stop>
+) -> Result<Typed<'t>, NoNode>
     ensures node { IfOk result (λ t. (m : Times) → typed_view m t ≡ dotted (domain_view base.now) (Plainly (kept (is_end (word_view word)) at) (word_view word))) }
     ensures kind { IfOk result (λ t. domain_word_kind (word_view word) ≡ Some (kind_of t)) }
     ensures ill_typed { (result ≡ Err stop.IllTyped) → domain_word_kind (word_view word) ≡ None }
@@ -74,12 +74,12 @@ pub(crate) fn of_domain<'t>(
         | Word::High
         | Word::LowBound
         | Word::DomainOf
-        | Word::Id => Err(Stop::IllTyped),
+        | Word::Id => Err(NoNode::IllTyped),
     }
 }
 
 // The domain that a base is.
-fn domain_in<'t>(base: Typed<'t>) -> Result<&'t DomainExpr<'t>, Stop>
+fn domain_in<'t>(base: Typed<'t>) -> Result<&'t DomainExpr<'t>, NoNode>
     ensures ok { IfOk result (λ e. base.entry ≡ typed.Domain e) }
     ensures ill_typed { (result ≡ Err stop.IllTyped) → is_domain (kind_of base.entry) ≡ false }
 {
@@ -90,7 +90,7 @@ fn domain_in<'t>(base: Typed<'t>) -> Result<&'t DomainExpr<'t>, Stop>
         | Typed::Range(_)
         | Typed::Tuple(_)
         | Typed::Ints(_)
-        | Typed::Truths(_) => Err(Stop::IllTyped),
+        | Typed::Truths(_) => Err(NoNode::IllTyped),
     }
 }
 
@@ -115,7 +115,7 @@ fn dimension(number: i64) -> Option<u32>
 ///
 /// # Errors
 /// Out of memory; something else than a domain; a dimension that no domain has.
-pub fn dimension_of<'t>(arena: Arena<'t>, base: Typed<'t>, number: i64) -> Result<Typed<'t>, Stop>
+pub fn dimension_of<'t>(arena: Arena<'t>, base: Typed<'t>, number: i64) -> Result<Typed<'t>, NoNode>
     ensures node { IfOk result (λ t. (m : Times) → typed_view m t ≡ dotted (typed_view Once base.entry) (Dim nowhere nowhere nowhere (natural number) nowhere)) }
     ensures kind { IfOk result (λ t. dim_kind (natural number) (kind_of base.entry) ≡ Some (kind_of t)) }
     ensures ill_typed { (result ≡ Err stop.IllTyped) → dim_kind (natural number) (kind_of base.entry) ≡ None }
@@ -123,7 +123,7 @@ pub fn dimension_of<'t>(arena: Arena<'t>, base: Typed<'t>, number: i64) -> Resul
     let base = domain_in(base)?;
     match dimension(number) {
         Some(number) => range(arena.node(RangeExpr::Dimension(base, number))),
-        None => Err(Stop::IllTyped),
+        None => Err(NoNode::IllTyped),
     }
 }
 
@@ -136,7 +136,7 @@ pub fn expanded<'t>(
     base: Typed<'t>,
     at: Place,
     by: Typed<'t>,
-) -> Result<Typed<'t>, Stop>
+) -> Result<Typed<'t>, NoNode>
     ensures node { IfOk result (λ t. (m : Times) → typed_view m t ≡ dotted (typed_view Once base.entry) (Expand at nowhere (typed_view Once by.entry) nowhere)) }
     ensures kind { IfOk result (λ t. expand_kind (kind_of base.entry) (kind_of by.entry) ≡ Some (kind_of t)) }
     ensures ill_typed { (result ≡ Err stop.IllTyped) → IsNear at → expand_kind (kind_of base.entry) (kind_of by.entry) ≡ None }

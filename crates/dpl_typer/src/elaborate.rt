@@ -9,7 +9,7 @@ ghost use Rattle.dpl_rules.specs.Expressions.{type_of, item_type};
 ghost use Rattle.dpl_lowered.specs.LoweredExpressions.{Times, lowered_expr, lowered_item};
 ghost use Rattle.dpl_memory.specs.Memory.{known_variable};
 ghost use Rattle.dpl_typer.specs.Makers.{typed_view, typed_item};
-ghost use Rattle.dpl_nodes.specs.declared.stop.Stop.TheVariants as stop;
+ghost use Rattle.dpl_nodes.specs.declared.stop.NoNode.TheVariants as stop;
 ghost use Rattle.dpl_typer.specs.Leaves.{leaf_in, IsFound, IsOfType, MayBePlain};
 ghost use Rattle.dpl_typer.specs.Simple.{IsSimple, IsSimpleItem, AreSimpleLinks};
 ghost use Rattle.dpl_spelling.specs.Spelt.{ExprSpelt, ItemSpelt, LinksSpelt};
@@ -26,7 +26,7 @@ use crate::parts::parts;
 use crate::post::postfixed;
 use crate::range::range;
 use crate::reduction::reduced;
-use dpl_nodes::Stop;
+use dpl_nodes::NoNode;
 use dpl_scopes::Scopes;
 use dpl_tree::{Arena, Chain, Expr, Item, Link};
 
@@ -41,7 +41,7 @@ pub fn expression<'t>(
     arena: Arena<'t>,
     scopes: &Scopes<'_>,
     e: &Expr<'_>,
-) -> Result<Typed<'t>, Stop>
+) -> Result<Typed<'t>, NoNode>
     ensures node { IfOk result (λ t. (m : Times) → typed_view m t ≡ lowered_expr known_variable m (renamed_expr (leaf_in scopes.now) (expr_view e.now))) }
     ensures kind { IfOk result (λ t. IsOfType t (type_of scopes.now (expr_view e.now))) }
     ensures found { IfOk result (λ t. IsSimple (IsFound scopes.now) (expr_view e.now)) }
@@ -66,9 +66,9 @@ pub fn expression<'t>(
         }
         Expr::Chain(chain) => chained(arena, scopes, chain),
         Expr::Postfixed(e) => postfixed(arena, scopes, e),
-        Expr::Locales(_) => Err(Stop::IllTyped),
-        Expr::LocaleCount(_) => Err(Stop::IllTyped),
-        Expr::Here(_) => Err(Stop::IllTyped),
+        Expr::Locales(_) => Err(NoNode::IllTyped),
+        Expr::LocaleCount(_) => Err(NoNode::IllTyped),
+        Expr::Here(_) => Err(NoNode::IllTyped),
     }
 }
 
@@ -77,7 +77,7 @@ pub fn expression<'t>(
 /// # Errors
 /// As for an expression.
 #[cycle(expression)]
-pub fn item<'t>(arena: Arena<'t>, scopes: &Scopes<'_>, item: &Item<'_>) -> Result<Typed<'t>, Stop>
+pub fn item<'t>(arena: Arena<'t>, scopes: &Scopes<'_>, item: &Item<'_>) -> Result<Typed<'t>, NoNode>
     ensures node { IfOk result (λ t. (m : Times) → typed_item m t ≡ lowered_item known_variable m (renamed_item (leaf_in scopes.now) (item_view item.now))) }
     ensures kind { IfOk result (λ t. IsOfType t (item_type scopes.now (item_view item.now))) }
     ensures found { IfOk result (λ t. IsSimpleItem (IsFound scopes.now) (item_view item.now)) }
@@ -91,7 +91,11 @@ pub fn item<'t>(arena: Arena<'t>, scopes: &Scopes<'_>, item: &Item<'_>) -> Resul
 
 // A chain.
 #[cycle(expression)]
-fn chained<'t>(arena: Arena<'t>, scopes: &Scopes<'_>, chain: &Chain<'_>) -> Result<Typed<'t>, Stop>
+fn chained<'t>(
+    arena: Arena<'t>,
+    scopes: &Scopes<'_>,
+    chain: &Chain<'_>,
+) -> Result<Typed<'t>, NoNode>
     ensures node { IfOk result (λ t. (m : Times) → typed_view m t ≡ leaves_of scopes.now m (chain_tree chain.now)) }
     ensures kind { IfOk result (λ t. IsOfType t (type_of scopes.now (chain_tree chain.now))) }
     ensures found { IfOk result (λ t. IsSimple (IsFound scopes.now) (chain_tree chain.now)) }
@@ -101,7 +105,7 @@ fn chained<'t>(arena: Arena<'t>, scopes: &Scopes<'_>, chain: &Chain<'_>) -> Resu
         let first = expression(arena, scopes, chain.first)?;
         links(arena, scopes, first, chain.links)
     } else {
-        Err(Stop::IllTyped)
+        Err(NoNode::IllTyped)
     }
 }
 
@@ -112,7 +116,7 @@ fn links<'t>(
     scopes: &Scopes<'_>,
     first: Typed<'t>,
     links: &[Link<'_>],
-) -> Result<Typed<'t>, Stop>
+) -> Result<Typed<'t>, NoNode>
     ensures so_far { IfOk result (λ t. IsChainSoFar scopes.now first.entry (links_of links.now) t NoLinks) }
     ensures ill_typed { (result ≡ Err stop.IllTyped) → AreSimpleLinks (MayBePlain scopes.now) (links_of links.now) → LinksSpelt IsNear (links_of links.now) → HasNoChain scopes.now first.entry (links_of links.now) }
 {

@@ -10,10 +10,10 @@ ghost use Rattle.dpl_memory.specs.Memory.{PlainKind, DomainKind, TupleKind, Arra
 ghost use Rattle.dpl_nodes.specs.Typed.{leaf_named, array_named, kind_view};
 ghost use Rattle.dpl_nodes.specs.Spots.{IsNear};
 ghost use Rattle.dpl_typer.specs.Makers.{typed_view, kind_of, is_whole};
-ghost use Rattle.dpl_nodes.specs.declared.stop.Stop.TheVariants as stop;
+ghost use Rattle.dpl_nodes.specs.declared.stop.NoNode.TheVariants as stop;
 
 use crate::make::{Typed, domain, int, ints, range, spot, truth, truths};
-use dpl_nodes::{BoolExpr, DomainExpr, IntExpr, PromotedInt, PromotedTruth, RangeExpr, Stop};
+use dpl_nodes::{BoolExpr, DomainExpr, IntExpr, NoNode, PromotedInt, PromotedTruth, RangeExpr};
 use dpl_syntax::Place;
 use dpl_tree::{Arena, ScalarKind};
 
@@ -21,7 +21,7 @@ use dpl_tree::{Arena, ScalarKind};
 ///
 /// # Errors
 /// Out of memory.
-pub fn number<'t>(arena: Arena<'t>, n: i64) -> Result<Typed<'t>, Stop>
+pub fn number<'t>(arena: Arena<'t>, n: i64) -> Result<Typed<'t>, NoNode>
     ensures node { IfOk result (λ t. (m : Times) → typed_view m t ≡ Number nowhere n) }
     ensures kind { IfOk result (λ t. kind_of t ≡ PlainKind IntLeaf) }
     ensures ill_typed { result ≢ Err stop.IllTyped }
@@ -33,7 +33,7 @@ pub fn number<'t>(arena: Arena<'t>, n: i64) -> Result<Typed<'t>, Stop>
 ///
 /// # Errors
 /// Out of memory.
-pub fn truth_word<'t>(arena: Arena<'t>, b: bool) -> Result<Typed<'t>, Stop>
+pub fn truth_word<'t>(arena: Arena<'t>, b: bool) -> Result<Typed<'t>, NoNode>
     ensures node { IfOk result (λ t. (m : Times) → typed_view m t ≡ TruthWord nowhere b) }
     ensures kind { IfOk result (λ t. kind_of t ≡ PlainKind TruthLeaf) }
     ensures ill_typed { result ≢ Err stop.IllTyped }
@@ -45,7 +45,7 @@ pub fn truth_word<'t>(arena: Arena<'t>, b: bool) -> Result<Typed<'t>, Stop>
 ///
 /// # Errors
 /// Out of memory.
-pub fn int_variable<'t>(arena: Arena<'t>, slot: usize) -> Result<Typed<'t>, Stop>
+pub fn int_variable<'t>(arena: Arena<'t>, slot: usize) -> Result<Typed<'t>, NoNode>
     ensures node { IfOk result (λ t. (m : Times) → typed_view m t ≡ leaf_named (int_leaf slot)) }
     ensures kind { IfOk result (λ t. kind_of t ≡ PlainKind IntLeaf) }
     ensures ill_typed { result ≢ Err stop.IllTyped }
@@ -57,7 +57,7 @@ pub fn int_variable<'t>(arena: Arena<'t>, slot: usize) -> Result<Typed<'t>, Stop
 ///
 /// # Errors
 /// Out of memory.
-pub fn truth_variable<'t>(arena: Arena<'t>, slot: usize) -> Result<Typed<'t>, Stop>
+pub fn truth_variable<'t>(arena: Arena<'t>, slot: usize) -> Result<Typed<'t>, NoNode>
     ensures node { IfOk result (λ t. (m : Times) → typed_view m t ≡ leaf_named (truth_leaf slot)) }
     ensures kind { IfOk result (λ t. kind_of t ≡ PlainKind TruthLeaf) }
     ensures ill_typed { result ≢ Err stop.IllTyped }
@@ -69,7 +69,7 @@ pub fn truth_variable<'t>(arena: Arena<'t>, slot: usize) -> Result<Typed<'t>, St
 ///
 /// # Errors
 /// Out of memory.
-pub fn range_variable<'t>(arena: Arena<'t>, slot: usize) -> Result<Typed<'t>, Stop>
+pub fn range_variable<'t>(arena: Arena<'t>, slot: usize) -> Result<Typed<'t>, NoNode>
     ensures node { IfOk result (λ t. (m : Times) → typed_view m t ≡ leaf_named (range_leaf slot)) }
     ensures kind { IfOk result (λ t. kind_of t ≡ PlainKind RangeLeaf) }
     ensures ill_typed { result ≢ Err stop.IllTyped }
@@ -81,7 +81,7 @@ pub fn range_variable<'t>(arena: Arena<'t>, slot: usize) -> Result<Typed<'t>, St
 ///
 /// # Errors
 /// Out of memory.
-pub fn domain_variable<'t>(arena: Arena<'t>, slot: usize) -> Result<Typed<'t>, Stop>
+pub fn domain_variable<'t>(arena: Arena<'t>, slot: usize) -> Result<Typed<'t>, NoNode>
     ensures node { IfOk result (λ t. (m : Times) → typed_view m t ≡ leaf_named (variable DomainKind slot)) }
     ensures kind { IfOk result (λ t. kind_of t ≡ DomainKind) }
     ensures ill_typed { result ≢ Err stop.IllTyped }
@@ -107,7 +107,7 @@ pub fn array_variable<'t>(
     kind: ScalarKind,
     slot: usize,
     at: Place,
-) -> Result<Typed<'t>, Stop>
+) -> Result<Typed<'t>, NoNode>
     ensures node { IfOk result (λ t. (m : Times) → typed_view m t ≡ array_named (kind_view kind) slot (kept (each_turn m) at)) }
     ensures kind { IfOk result (λ t. kind_of t ≡ ArrayKind (kind_view kind)) }
     ensures whole { IfOk result (λ t. is_whole t ≡ true) }

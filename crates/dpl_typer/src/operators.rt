@@ -12,10 +12,10 @@ ghost use Rattle.dpl_memory.specs.Memory.{PlainKind, ArrayKind};
 ghost use Rattle.dpl_nodes.specs.Typed.{comparison_view, int_view, truth_view, promoted_int, promoted_truth};
 ghost use Rattle.dpl_nodes.specs.Spots.{IsNear};
 ghost use Rattle.dpl_typer.specs.Makers.{typed_view, kind_of, kind_over, infix_kind, ints_kind, truths_kind, prefix_kind};
-ghost use Rattle.dpl_nodes.specs.declared.stop.Stop.TheVariants as stop;
+ghost use Rattle.dpl_nodes.specs.declared.stop.NoNode.TheVariants as stop;
 
 use crate::make::{Typed, int, ints, spot, truth, truths};
-use dpl_nodes::{BoolExpr, Comparison, IntExpr, PromotedInt, PromotedTruth, Stop};
+use dpl_nodes::{BoolExpr, Comparison, IntExpr, NoNode, PromotedInt, PromotedTruth};
 use dpl_syntax::Place;
 use dpl_tree::{Arena, Infix, Prefix};
 
@@ -26,7 +26,7 @@ fn of_ints<'t>(
     at: Place,
     left: &'t IntExpr<'t>,
     right: &'t IntExpr<'t>,
-) -> Result<Typed<'t>, Stop>
+) -> Result<Typed<'t>, NoNode>
     ensures node { IfOk result (λ t. (m : Times) → typed_view m t ≡ two (int_view left.now) (kept (divides (infix_view op)) at) (infix_view op) (int_view right.now)) }
     ensures kind { IfOk result (λ t. option_map (kind_over false) (ints_kind (infix_view op)) ≡ Some (kind_of t)) }
     ensures ill_typed { (result ≡ Err stop.IllTyped) → IsNear at → ints_kind (infix_view op) ≡ None }
@@ -49,7 +49,7 @@ fn of_ints<'t>(
         Infix::GreaterEqual => compared(arena, Comparison::AtLeast, left, right),
         Infix::Equal => compared(arena, Comparison::Equal, left, right),
         Infix::NotEqual => compared(arena, Comparison::Unequal, left, right),
-        Infix::And | Infix::Or => Err(Stop::IllTyped),
+        Infix::And | Infix::Or => Err(NoNode::IllTyped),
     }
 }
 
@@ -59,7 +59,7 @@ fn compared<'t>(
     comparison: Comparison,
     left: &'t IntExpr<'t>,
     right: &'t IntExpr<'t>,
-) -> Result<Typed<'t>, Stop>
+) -> Result<Typed<'t>, NoNode>
     ensures node { IfOk result (λ t. (m : Times) → typed_view m t ≡ two (int_view left.now) nowhere (comparison_view comparison) (int_view right.now)) }
     ensures kind { IfOk result (λ t. kind_of t ≡ PlainKind TruthLeaf) }
     ensures ill_typed { result ≢ Err stop.IllTyped }
@@ -73,7 +73,7 @@ fn of_truths<'t>(
     op: Infix,
     left: &'t BoolExpr<'t>,
     right: &'t BoolExpr<'t>,
-) -> Result<Typed<'t>, Stop>
+) -> Result<Typed<'t>, NoNode>
     ensures node { IfOk result (λ t. (m : Times) → typed_view m t ≡ two (truth_view left.now) nowhere (infix_view op) (truth_view right.now)) }
     ensures kind { IfOk result (λ t. option_map (kind_over false) (truths_kind (infix_view op)) ≡ Some (kind_of t)) }
     ensures ill_typed { (result ≡ Err stop.IllTyped) → truths_kind (infix_view op) ≡ None }
@@ -91,7 +91,7 @@ fn of_truths<'t>(
         | Infix::Less
         | Infix::LessEqual
         | Infix::Greater
-        | Infix::GreaterEqual => Err(Stop::IllTyped),
+        | Infix::GreaterEqual => Err(NoNode::IllTyped),
     }
 }
 
@@ -102,7 +102,7 @@ fn of_promoted_ints<'t>(
     at: Place,
     left: &'t PromotedInt<'t>,
     right: &'t PromotedInt<'t>,
-) -> Result<Typed<'t>, Stop>
+) -> Result<Typed<'t>, NoNode>
     ensures node { IfOk result (λ t. (m : Times) → typed_view m t ≡ two (promoted_int m left.now) (kept (divides (infix_view op)) at) (infix_view op) (promoted_int m right.now)) }
     ensures kind { IfOk result (λ t. option_map (kind_over true) (ints_kind (infix_view op)) ≡ Some (kind_of t)) }
     ensures ill_typed { (result ≡ Err stop.IllTyped) → IsNear at → ints_kind (infix_view op) ≡ None }
@@ -125,7 +125,7 @@ fn of_promoted_ints<'t>(
         Infix::GreaterEqual => promoted_compared(arena, Comparison::AtLeast, left, right),
         Infix::Equal => promoted_compared(arena, Comparison::Equal, left, right),
         Infix::NotEqual => promoted_compared(arena, Comparison::Unequal, left, right),
-        Infix::And | Infix::Or => Err(Stop::IllTyped),
+        Infix::And | Infix::Or => Err(NoNode::IllTyped),
     }
 }
 
@@ -135,7 +135,7 @@ fn promoted_compared<'t>(
     comparison: Comparison,
     left: &'t PromotedInt<'t>,
     right: &'t PromotedInt<'t>,
-) -> Result<Typed<'t>, Stop>
+) -> Result<Typed<'t>, NoNode>
     ensures node { IfOk result (λ t. (m : Times) → typed_view m t ≡ two (promoted_int m left.now) nowhere (comparison_view comparison) (promoted_int m right.now)) }
     ensures kind { IfOk result (λ t. kind_of t ≡ ArrayKind BoolKind) }
     ensures ill_typed { result ≢ Err stop.IllTyped }
@@ -149,7 +149,7 @@ fn of_promoted_truths<'t>(
     op: Infix,
     left: &'t PromotedTruth<'t>,
     right: &'t PromotedTruth<'t>,
-) -> Result<Typed<'t>, Stop>
+) -> Result<Typed<'t>, NoNode>
     ensures node { IfOk result (λ t. (m : Times) → typed_view m t ≡ two (promoted_truth m left.now) nowhere (infix_view op) (promoted_truth m right.now)) }
     ensures kind { IfOk result (λ t. option_map (kind_over true) (truths_kind (infix_view op)) ≡ Some (kind_of t)) }
     ensures ill_typed { (result ≡ Err stop.IllTyped) → truths_kind (infix_view op) ≡ None }
@@ -167,29 +167,32 @@ fn of_promoted_truths<'t>(
         | Infix::Less
         | Infix::LessEqual
         | Infix::Greater
-        | Infix::GreaterEqual => Err(Stop::IllTyped),
+        | Infix::GreaterEqual => Err(NoNode::IllTyped),
     }
 }
 
 // An int beside a whole array: it is evaluated at each index anew.
-fn repeated_int<'t>(arena: Arena<'t>, e: &'t IntExpr<'t>) -> Result<&'t PromotedInt<'t>, Stop>
+fn repeated_int<'t>(arena: Arena<'t>, e: &'t IntExpr<'t>) -> Result<&'t PromotedInt<'t>, NoNode>
     ensures node { IfOk result (λ r. (m : Times) → promoted_int m r.now ≡ int_view e.now) }
     ensures ill_typed { result ≢ Err stop.IllTyped }
 {
     match arena.node(PromotedInt::Scalar(e)) {
         Ok(e) => Ok(e),
-        Err(_) => Err(Stop::Memory),
+        Err(_) => Err(NoNode::Memory),
     }
 }
 
 // A truth value beside a whole array.
-fn repeated_truth<'t>(arena: Arena<'t>, e: &'t BoolExpr<'t>) -> Result<&'t PromotedTruth<'t>, Stop>
+fn repeated_truth<'t>(
+    arena: Arena<'t>,
+    e: &'t BoolExpr<'t>,
+) -> Result<&'t PromotedTruth<'t>, NoNode>
     ensures node { IfOk result (λ r. (m : Times) → promoted_truth m r.now ≡ truth_view e.now) }
     ensures ill_typed { result ≢ Err stop.IllTyped }
 {
     match arena.node(PromotedTruth::Scalar(e)) {
         Ok(e) => Ok(e),
-        Err(_) => Err(Stop::Memory),
+        Err(_) => Err(NoNode::Memory),
     }
 }
 
@@ -200,7 +203,7 @@ fn behind_int<'t>(
     at: Place,
     left: &'t IntExpr<'t>,
     right: Typed<'t>,
-) -> Result<Typed<'t>, Stop>
+) -> Result<Typed<'t>, NoNode>
     ensures node { IfOk result (λ t. (m : Times) → typed_view m t ≡ two (int_view left.now) (kept (divides (infix_view op)) at) (infix_view op) (typed_view m right.entry)) }
     ensures kind { IfOk result (λ t. infix_kind (infix_view op) (PlainKind IntLeaf) (kind_of right.entry) ≡ Some (kind_of t)) }
     ensures ill_typed { (result ≡ Err stop.IllTyped) → IsNear at → infix_kind (infix_view op) (PlainKind IntLeaf) (kind_of right.entry) ≡ None }
@@ -212,7 +215,7 @@ fn behind_int<'t>(
             of_promoted_ints(arena, op, at, left, right)
         }
         Typed::Truth(_) | Typed::Range(_) | Typed::Domain(_) | Typed::Tuple(_) | Typed::Truths(_) =>
-            Err(Stop::IllTyped),
+            Err(NoNode::IllTyped),
     }
 }
 
@@ -223,7 +226,7 @@ fn behind_ints<'t>(
     at: Place,
     left: &'t PromotedInt<'t>,
     right: Typed<'t>,
-) -> Result<Typed<'t>, Stop>
+) -> Result<Typed<'t>, NoNode>
     ensures node { IfOk result (λ t. (m : Times) → typed_view m t ≡ two (promoted_int m left.now) (kept (divides (infix_view op)) at) (infix_view op) (typed_view m right.entry)) }
     ensures kind { IfOk result (λ t. infix_kind (infix_view op) (ArrayKind IntKind) (kind_of right.entry) ≡ Some (kind_of t)) }
     ensures ill_typed { (result ≡ Err stop.IllTyped) → IsNear at → infix_kind (infix_view op) (ArrayKind IntKind) (kind_of right.entry) ≡ None }
@@ -235,7 +238,7 @@ fn behind_ints<'t>(
         }
         Typed::Ints(right) => of_promoted_ints(arena, op, at, left, right),
         Typed::Truth(_) | Typed::Range(_) | Typed::Domain(_) | Typed::Tuple(_) | Typed::Truths(_) =>
-            Err(Stop::IllTyped),
+            Err(NoNode::IllTyped),
     }
 }
 
@@ -245,7 +248,7 @@ fn behind_truth<'t>(
     op: Infix,
     left: &'t BoolExpr<'t>,
     right: Typed<'t>,
-) -> Result<Typed<'t>, Stop>
+) -> Result<Typed<'t>, NoNode>
     ensures node { IfOk result (λ t. (m : Times) → typed_view m t ≡ two (truth_view left.now) nowhere (infix_view op) (typed_view m right.entry)) }
     ensures kind { IfOk result (λ t. infix_kind (infix_view op) (PlainKind TruthLeaf) (kind_of right.entry) ≡ Some (kind_of t)) }
     ensures ill_typed { (result ≡ Err stop.IllTyped) → infix_kind (infix_view op) (PlainKind TruthLeaf) (kind_of right.entry) ≡ None }
@@ -257,7 +260,7 @@ fn behind_truth<'t>(
             of_promoted_truths(arena, op, left, right)
         }
         Typed::Int(_) | Typed::Range(_) | Typed::Domain(_) | Typed::Tuple(_) | Typed::Ints(_) =>
-            Err(Stop::IllTyped),
+            Err(NoNode::IllTyped),
     }
 }
 
@@ -267,7 +270,7 @@ fn behind_truths<'t>(
     op: Infix,
     left: &'t PromotedTruth<'t>,
     right: Typed<'t>,
-) -> Result<Typed<'t>, Stop>
+) -> Result<Typed<'t>, NoNode>
     ensures node { IfOk result (λ t. (m : Times) → typed_view m t ≡ two (promoted_truth m left.now) nowhere (infix_view op) (typed_view m right.entry)) }
     ensures kind { IfOk result (λ t. infix_kind (infix_view op) (ArrayKind BoolKind) (kind_of right.entry) ≡ Some (kind_of t)) }
     ensures ill_typed { (result ≡ Err stop.IllTyped) → infix_kind (infix_view op) (ArrayKind BoolKind) (kind_of right.entry) ≡ None }
@@ -279,7 +282,7 @@ fn behind_truths<'t>(
         }
         Typed::Truths(right) => of_promoted_truths(arena, op, left, right),
         Typed::Int(_) | Typed::Range(_) | Typed::Domain(_) | Typed::Tuple(_) | Typed::Ints(_) =>
-            Err(Stop::IllTyped),
+            Err(NoNode::IllTyped),
     }
 }
 
@@ -293,7 +296,7 @@ pub fn combined<'t>(
     at: Place,
     left: Typed<'t>,
     right: Typed<'t>,
-) -> Result<Typed<'t>, Stop>
+) -> Result<Typed<'t>, NoNode>
     ensures node { IfOk result (λ t. (m : Times) → typed_view m t ≡ two (typed_view m left.entry) (kept (divides (infix_view op)) at) (infix_view op) (typed_view m right.entry)) }
     ensures kind { IfOk result (λ t. infix_kind (infix_view op) (kind_of left.entry) (kind_of right.entry) ≡ Some (kind_of t)) }
     ensures ill_typed { (result ≡ Err stop.IllTyped) → IsNear at → infix_kind (infix_view op) (kind_of left.entry) (kind_of right.entry) ≡ None }
@@ -303,12 +306,12 @@ pub fn combined<'t>(
         Typed::Truth(left) => behind_truth(arena, op, left, right),
         Typed::Ints(left) => behind_ints(arena, op, at, left, right),
         Typed::Truths(left) => behind_truths(arena, op, left, right),
-        Typed::Range(_) | Typed::Domain(_) | Typed::Tuple(_) => Err(Stop::IllTyped),
+        Typed::Range(_) | Typed::Domain(_) | Typed::Tuple(_) => Err(NoNode::IllTyped),
     }
 }
 
 // `-` before an operand.
-fn negative<'t>(arena: Arena<'t>, operand: Typed<'t>) -> Result<Typed<'t>, Stop>
+fn negative<'t>(arena: Arena<'t>, operand: Typed<'t>) -> Result<Typed<'t>, NoNode>
     ensures node { IfOk result (λ t. (m : Times) → typed_view m t ≡ Prefixed nowhere Minus (typed_view m operand.entry)) }
     ensures kind { IfOk result (λ t. prefix_kind Minus (kind_of operand.entry) ≡ Some (kind_of t)) }
     ensures ill_typed { (result ≡ Err stop.IllTyped) → prefix_kind Minus (kind_of operand.entry) ≡ None }
@@ -317,12 +320,12 @@ fn negative<'t>(arena: Arena<'t>, operand: Typed<'t>) -> Result<Typed<'t>, Stop>
         Typed::Int(operand) => int(arena.node(IntExpr::Negative(operand))),
         Typed::Ints(operand) => ints(arena.node(PromotedInt::Negative(operand))),
         Typed::Truth(_) | Typed::Range(_) | Typed::Domain(_) | Typed::Tuple(_) | Typed::Truths(_) =>
-            Err(Stop::IllTyped),
+            Err(NoNode::IllTyped),
     }
 }
 
 // `!` before an operand.
-fn negated<'t>(arena: Arena<'t>, operand: Typed<'t>) -> Result<Typed<'t>, Stop>
+fn negated<'t>(arena: Arena<'t>, operand: Typed<'t>) -> Result<Typed<'t>, NoNode>
     ensures node { IfOk result (λ t. (m : Times) → typed_view m t ≡ Prefixed nowhere Not (typed_view m operand.entry)) }
     ensures kind { IfOk result (λ t. prefix_kind Not (kind_of operand.entry) ≡ Some (kind_of t)) }
     ensures ill_typed { (result ≡ Err stop.IllTyped) → prefix_kind Not (kind_of operand.entry) ≡ None }
@@ -331,7 +334,7 @@ fn negated<'t>(arena: Arena<'t>, operand: Typed<'t>) -> Result<Typed<'t>, Stop>
         Typed::Truth(operand) => truth(arena.node(BoolExpr::Not(operand))),
         Typed::Truths(operand) => truths(arena.node(PromotedTruth::Not(operand))),
         Typed::Int(_) | Typed::Range(_) | Typed::Domain(_) | Typed::Tuple(_) | Typed::Ints(_) =>
-            Err(Stop::IllTyped),
+            Err(NoNode::IllTyped),
     }
 }
 
@@ -339,7 +342,7 @@ fn negated<'t>(arena: Arena<'t>, operand: Typed<'t>) -> Result<Typed<'t>, Stop>
 ///
 /// # Errors
 /// Out of memory; an operand that the operator doesn't take.
-pub fn prefixed<'t>(arena: Arena<'t>, op: Prefix, operand: Typed<'t>) -> Result<Typed<'t>, Stop>
+pub fn prefixed<'t>(arena: Arena<'t>, op: Prefix, operand: Typed<'t>) -> Result<Typed<'t>, NoNode>
     ensures node { IfOk result (λ t. (m : Times) → typed_view m t ≡ Prefixed nowhere (prefix_view op) (typed_view m operand.entry)) }
     ensures kind { IfOk result (λ t. prefix_kind (prefix_view op) (kind_of operand.entry) ≡ Some (kind_of t)) }
     ensures ill_typed { (result ≡ Err stop.IllTyped) → prefix_kind (prefix_view op) (kind_of operand.entry) ≡ None }

@@ -5,7 +5,7 @@ ghost use Rattle.std.specs.Prelude.{◌≡◌, IfOk, Err};
 ghost use Rattle.dpl_tree.specs.View.{items_view, exprs_view};
 ghost use Rattle.dpl_rules.specs.Expressions.{item_parts, expr_parts};
 ghost use Rattle.dpl_nodes.specs.Spots.{IsNear};
-ghost use Rattle.dpl_nodes.specs.declared.stop.Stop.TheVariants as stop;
+ghost use Rattle.dpl_nodes.specs.declared.stop.NoNode.TheVariants as stop;
 ghost use Rattle.dpl_spelling.specs.Spelt.{ItemsSpelt, ExprsSpelt};
 ghost use Rattle.dpl_typer.specs.Leaves.{MayBePlain};
 ghost use Rattle.dpl_typer.specs.Simple.{AreSimpleItems, AreSimpleExprs};
@@ -13,7 +13,7 @@ ghost use Rattle.dpl_typer.specs.Elaborated.{ArePartsOf, IsIndexOf, IsNoIndex, A
 
 use crate::elaborate::{expression, item};
 use crate::pieces::{Parts, index_of_one, index_of_three, index_of_two, one, three, two};
-use dpl_nodes::{IndexExpr, Stop};
+use dpl_nodes::{IndexExpr, NoNode};
 use dpl_scopes::Scopes;
 use dpl_tree::{Arena, Exprs, Items};
 
@@ -26,7 +26,7 @@ pub fn parts<'t>(
     arena: Arena<'t>,
     scopes: &Scopes<'_>,
     items: &Items<'_>,
-) -> Result<Parts<'t>, Stop>
+) -> Result<Parts<'t>, NoNode>
     ensures made { IfOk result (λ ps. ArePartsOf scopes.now (items_view items.now) ps) }
     ensures ill_typed { (result ≡ Err stop.IllTyped) → AreSimpleItems (MayBePlain scopes.now) (items_view items.now) → ItemsSpelt IsNear (items_view items.now) → AreNoParts (item_parts scopes.now (items_view items.now)) }
 {
@@ -42,7 +42,7 @@ pub fn parts<'t>(
             let third = item(arena, scopes, &last.item)?;
             three(arena, first, middle, third)
         }
-        [_, _, _, ..] => Err(Stop::IllTyped),
+        [_, _, _, ..] => Err(NoNode::IllTyped),
     }
 }
 
@@ -55,7 +55,7 @@ pub fn index<'t>(
     arena: Arena<'t>,
     scopes: &Scopes<'_>,
     exprs: &Exprs<'_>,
-) -> Result<&'t IndexExpr<'t>, Stop>
+) -> Result<&'t IndexExpr<'t>, NoNode>
     ensures made { IfOk result (λ t. IsIndexOf scopes.now (exprs_view exprs.now) t.now) }
     ensures ill_typed { (result ≡ Err stop.IllTyped) → AreSimpleExprs (MayBePlain scopes.now) (exprs_view exprs.now) → ExprsSpelt IsNear (exprs_view exprs.now) → IsNoIndex (expr_parts scopes.now (exprs_view exprs.now)) }
 {
@@ -71,6 +71,6 @@ pub fn index<'t>(
             let third = expression(arena, scopes, last.expr)?;
             index_of_three(arena, first, middle, third)
         }
-        [_, _, _, ..] => Err(Stop::IllTyped),
+        [_, _, _, ..] => Err(NoNode::IllTyped),
     }
 }

@@ -5,12 +5,12 @@ ghost use Rattle.std.specs.Prelude.{◌≡◌, ◌≢◌, true, false, [], ◌�
 ghost use Rattle.dpl_lowered.specs.LoweredExpressions.{Once};
 ghost use Rattle.dpl_nodes.specs.Typed.{index_items, index_exprs, items_one, items_two, items_three, exprs_one, exprs_two, exprs_three};
 ghost use Rattle.dpl_typer.specs.Makers.{typed_view, typed_item, kind_of, parts_items, parts_kinds, index_kinds, is_int, is_range, are_parts, is_index};
-ghost use Rattle.dpl_nodes.specs.declared.stop.Stop.TheVariants as stop;
+ghost use Rattle.dpl_nodes.specs.declared.stop.NoNode.TheVariants as stop;
 ghost use Rattle.dpl_typer.specs.declared.make.Typed.TheVariants as typed;
 ghost use Rattle.dpl_typer.specs.declared.pieces.Parts.TheVariants as parts;
 
 use crate::make::Typed;
-use dpl_nodes::{IndexExpr, IntExpr, RangeExpr, RangesExpr, Stop};
+use dpl_nodes::{IndexExpr, IntExpr, NoNode, RangeExpr, RangesExpr};
 use dpl_tree::Arena;
 use std::alloc::AllocError;
 
@@ -22,7 +22,7 @@ pub enum Parts<'t> {
 }
 
 // The int that a part is.
-pub(crate) fn int_in<'t>(part: Typed<'t>) -> Result<&'t IntExpr<'t>, Stop>
+pub(crate) fn int_in<'t>(part: Typed<'t>) -> Result<&'t IntExpr<'t>, NoNode>
     ensures ok { IfOk result (λ e. part.entry ≡ typed.Int e) }
     ensures ill_typed { (result ≡ Err stop.IllTyped) → is_int (kind_of part.entry) ≡ false }
 {
@@ -33,12 +33,12 @@ pub(crate) fn int_in<'t>(part: Typed<'t>) -> Result<&'t IntExpr<'t>, Stop>
         | Typed::Domain(_)
         | Typed::Tuple(_)
         | Typed::Ints(_)
-        | Typed::Truths(_) => Err(Stop::IllTyped),
+        | Typed::Truths(_) => Err(NoNode::IllTyped),
     }
 }
 
 // The range that a part is.
-fn range_in<'t>(part: Typed<'t>) -> Result<&'t RangeExpr<'t>, Stop>
+fn range_in<'t>(part: Typed<'t>) -> Result<&'t RangeExpr<'t>, NoNode>
     ensures ok { IfOk result (λ e. part.entry ≡ typed.Range e) }
     ensures ill_typed { (result ≡ Err stop.IllTyped) → is_range (kind_of part.entry) ≡ false }
 {
@@ -49,34 +49,34 @@ fn range_in<'t>(part: Typed<'t>) -> Result<&'t RangeExpr<'t>, Stop>
         | Typed::Domain(_)
         | Typed::Tuple(_)
         | Typed::Ints(_)
-        | Typed::Truths(_) => Err(Stop::IllTyped),
+        | Typed::Truths(_) => Err(NoNode::IllTyped),
     }
 }
 
 // An index that lies in the arena, unless memory ran out.
-fn index_node<'t>(node: Result<&'t IndexExpr<'t>, AllocError>) -> Result<&'t IndexExpr<'t>, Stop>
+fn index_node<'t>(node: Result<&'t IndexExpr<'t>, AllocError>) -> Result<&'t IndexExpr<'t>, NoNode>
     ensures ok { IfOk node.entry (λ e. result ≡ Ok e) }
     ensures memory { IfErr node.entry (λ f. result ≡ Err stop.Memory) }
 {
     match node {
         Ok(e) => Ok(e),
-        Err(_) => Err(Stop::Memory),
+        Err(_) => Err(NoNode::Memory),
     }
 }
 
 // Ranges that lie in the arena, unless memory ran out.
-fn ranges<'t>(node: Result<&'t RangesExpr<'t>, AllocError>) -> Result<Parts<'t>, Stop>
+fn ranges<'t>(node: Result<&'t RangesExpr<'t>, AllocError>) -> Result<Parts<'t>, NoNode>
     ensures ok { IfOk node.entry (λ e. result ≡ Ok (parts.Ranges e)) }
     ensures memory { IfErr node.entry (λ f. result ≡ Err stop.Memory) }
 {
     match node {
         Ok(e) => Ok(Parts::Ranges(e)),
-        Err(_) => Err(Stop::Memory),
+        Err(_) => Err(NoNode::Memory),
     }
 }
 
 // An index as parts.
-fn coordinates<'t>(index: Result<&'t IndexExpr<'t>, Stop>) -> Result<Parts<'t>, Stop>
+fn coordinates<'t>(index: Result<&'t IndexExpr<'t>, NoNode>) -> Result<Parts<'t>, NoNode>
     ensures ok { IfOk index.entry (λ e. result ≡ Ok (parts.Index e)) }
     ensures stop { IfErr index.entry (λ f. result ≡ Err f) }
 {
@@ -90,7 +90,7 @@ fn coordinates<'t>(index: Result<&'t IndexExpr<'t>, Stop>) -> Result<Parts<'t>, 
 ///
 /// # Errors
 /// Out of memory; a part of another type.
-pub fn index_of_one<'t>(arena: Arena<'t>, a: Typed<'t>) -> Result<&'t IndexExpr<'t>, Stop>
+pub fn index_of_one<'t>(arena: Arena<'t>, a: Typed<'t>) -> Result<&'t IndexExpr<'t>, NoNode>
     ensures items { IfOk result (λ t. index_items t.now ≡ items_one (typed_item Once a.entry)) }
     ensures exprs { IfOk result (λ t. index_exprs t.now ≡ exprs_one (typed_view Once a.entry)) }
     ensures kinds { IfOk result (λ t. index_kinds t.now ≡ kind_of a.entry ∷ []) }
@@ -100,7 +100,7 @@ pub fn index_of_one<'t>(arena: Arena<'t>, a: Typed<'t>) -> Result<&'t IndexExpr<
         Typed::Int(e) => index_node(arena.node(IndexExpr::Line(e))),
         Typed::Tuple(slot) => index_node(arena.node(IndexExpr::Tuple(slot))),
         Typed::Truth(_) | Typed::Range(_) | Typed::Domain(_) | Typed::Ints(_) | Typed::Truths(_) =>
-            Err(Stop::IllTyped),
+            Err(NoNode::IllTyped),
     }
 }
 
@@ -112,7 +112,7 @@ pub fn index_of_two<'t>(
     arena: Arena<'t>,
     a: Typed<'t>,
     b: Typed<'t>,
-) -> Result<&'t IndexExpr<'t>, Stop>
+) -> Result<&'t IndexExpr<'t>, NoNode>
     ensures items { IfOk result (λ t. index_items t.now ≡ items_two (typed_item Once a.entry) (typed_item Once b.entry)) }
     ensures exprs { IfOk result (λ t. index_exprs t.now ≡ exprs_two (typed_view Once a.entry) (typed_view Once b.entry)) }
     ensures kinds { IfOk result (λ t. index_kinds t.now ≡ kind_of a.entry ∷ kind_of b.entry ∷ []) }
@@ -132,7 +132,7 @@ pub fn index_of_three<'t>(
     a: Typed<'t>,
     b: Typed<'t>,
     c: Typed<'t>,
-) -> Result<&'t IndexExpr<'t>, Stop>
+) -> Result<&'t IndexExpr<'t>, NoNode>
     ensures items { IfOk result (λ t. index_items t.now ≡ items_three (typed_item Once a.entry) (typed_item Once b.entry) (typed_item Once c.entry)) }
     ensures exprs { IfOk result (λ t. index_exprs t.now ≡ exprs_three (typed_view Once a.entry) (typed_view Once b.entry) (typed_view Once c.entry)) }
     ensures kinds { IfOk result (λ t. index_kinds t.now ≡ kind_of a.entry ∷ kind_of b.entry ∷ kind_of c.entry ∷ []) }
@@ -148,7 +148,7 @@ pub fn index_of_three<'t>(
 ///
 /// # Errors
 /// Out of memory; a part of another type.
-pub fn one<'t>(arena: Arena<'t>, a: Typed<'t>) -> Result<Parts<'t>, Stop>
+pub fn one<'t>(arena: Arena<'t>, a: Typed<'t>) -> Result<Parts<'t>, NoNode>
     ensures node { IfOk result (λ ps. parts_items ps ≡ items_one (typed_item Once a.entry)) }
     ensures kinds { IfOk result (λ ps. parts_kinds ps ≡ kind_of a.entry ∷ []) }
     ensures ill_typed { (result ≡ Err stop.IllTyped) → are_parts (kind_of a.entry ∷ []) ≡ false }
@@ -168,7 +168,7 @@ pub fn one<'t>(arena: Arena<'t>, a: Typed<'t>) -> Result<Parts<'t>, Stop>
 ///
 /// # Errors
 /// Out of memory; a part of another type.
-pub fn two<'t>(arena: Arena<'t>, a: Typed<'t>, b: Typed<'t>) -> Result<Parts<'t>, Stop>
+pub fn two<'t>(arena: Arena<'t>, a: Typed<'t>, b: Typed<'t>) -> Result<Parts<'t>, NoNode>
     ensures node { IfOk result (λ ps. parts_items ps ≡ items_two (typed_item Once a.entry) (typed_item Once b.entry)) }
     ensures kinds { IfOk result (λ ps. parts_kinds ps ≡ kind_of a.entry ∷ kind_of b.entry ∷ []) }
     ensures ill_typed { (result ≡ Err stop.IllTyped) → are_parts (kind_of a.entry ∷ kind_of b.entry ∷ []) ≡ false }
@@ -196,7 +196,7 @@ pub fn three<'t>(
     a: Typed<'t>,
     b: Typed<'t>,
     c: Typed<'t>,
-) -> Result<Parts<'t>, Stop>
+) -> Result<Parts<'t>, NoNode>
     ensures node { IfOk result (λ ps. parts_items ps ≡ items_three (typed_item Once a.entry) (typed_item Once b.entry) (typed_item Once c.entry)) }
     ensures kinds { IfOk result (λ ps. parts_kinds ps ≡ kind_of a.entry ∷ kind_of b.entry ∷ kind_of c.entry ∷ []) }
     ensures ill_typed { (result ≡ Err stop.IllTyped) → are_parts (kind_of a.entry ∷ kind_of b.entry ∷ kind_of c.entry ∷ []) ≡ false }

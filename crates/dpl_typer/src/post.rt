@@ -11,7 +11,7 @@ ghost use Rattle.dpl_lowered.specs.Shapes.{nowhere};
 ghost use Rattle.dpl_language.specs.Phrases.{natural};
 ghost use Rattle.dpl_nodes.specs.Typed.{dotted};
 ghost use Rattle.dpl_typer.specs.Makers.{typed_view, kind_of, dim_kind};
-ghost use Rattle.dpl_nodes.specs.declared.stop.Stop.TheVariants as stop;
+ghost use Rattle.dpl_nodes.specs.declared.stop.NoNode.TheVariants as stop;
 ghost use Rattle.dpl_typer.specs.Leaves.{IsFound, IsOfType, MayBePlain};
 ghost use Rattle.dpl_typer.specs.Simple.{IsSimple, AreSimplePosts, IsSimplePost, IsSimpleMethod, AreSimpleItems, AreSimpleExprs};
 ghost use Rattle.dpl_spelling.specs.Spelt.{ExprSpelt, PostsSpelt, PostSpelt, MethodSpelt, ItemsSpelt, ExprsSpelt};
@@ -23,7 +23,7 @@ use crate::domains::{dimension_of, expanded};
 use crate::elaborate::expression;
 use crate::make::Typed;
 use crate::parts::{index, parts};
-use dpl_nodes::Stop;
+use dpl_nodes::NoNode;
 use dpl_scopes::Scopes;
 use dpl_syntax::Place;
 use dpl_tree::{Arena, Dim, Expr, Exprs, Items, Method, Post, Postfixed};
@@ -37,14 +37,14 @@ pub fn postfixed<'t>(
     arena: Arena<'t>,
     scopes: &Scopes<'_>,
     e: &Postfixed<'_>,
-) -> Result<Typed<'t>, Stop>
+) -> Result<Typed<'t>, NoNode>
     ensures node { IfOk result (λ t. (m : Times) → typed_view m t ≡ leaves_of scopes.now m (postfixed_tree e.now)) }
     ensures kind { IfOk result (λ t. IsOfType t (type_of scopes.now (postfixed_tree e.now))) }
     ensures found { IfOk result (λ t. IsSimple (IsFound scopes.now) (postfixed_tree e.now)) }
     ensures ill_typed { (result ≡ Err stop.IllTyped) → IsSimple (MayBePlain scopes.now) (postfixed_tree e.now) → ExprSpelt IsNear (postfixed_tree e.now) → type_of scopes.now (postfixed_tree e.now) ≡ None }
 {
     if e.posts.is_empty() {
-        Err(Stop::IllTyped)
+        Err(NoNode::IllTyped)
     } else {
         let base = expression(arena, scopes, e.base)?;
         posts(arena, scopes, base, e.posts)
@@ -58,7 +58,7 @@ fn posts<'t>(
     scopes: &Scopes<'_>,
     base: Typed<'t>,
     posts: &[Post<'_>],
-) -> Result<Typed<'t>, Stop>
+) -> Result<Typed<'t>, NoNode>
     ensures so_far { IfOk result (λ t. ArePostsSoFar scopes.now base.entry (posts_of posts.now) t NoPosts) }
     ensures ill_typed { (result ≡ Err stop.IllTyped) → AreSimplePosts (MayBePlain scopes.now) (posts_of posts.now) → PostsSpelt IsNear (posts_of posts.now) → HaveNoPosts scopes.now base.entry (posts_of posts.now) }
 {
@@ -76,7 +76,7 @@ fn post<'t>(
     scopes: &Scopes<'_>,
     base: Typed<'t>,
     post: &Post<'_>,
-) -> Result<Typed<'t>, Stop>
+) -> Result<Typed<'t>, NoNode>
     ensures made { IfOk result (λ t. IsPostOf scopes.now base.entry (post_view post.now) t) }
     ensures ill_typed { (result ≡ Err stop.IllTyped) → IsSimplePost (MayBePlain scopes.now) (post_view post.now) → PostSpelt IsNear (post_view post.now) → HasNoPost scopes.now base.entry (post_view post.now) }
 {
@@ -94,7 +94,7 @@ fn in_square<'t>(
     scopes: &Scopes<'_>,
     base: Typed<'t>,
     items: &Items<'_>,
-) -> Result<Typed<'t>, Stop>
+) -> Result<Typed<'t>, NoNode>
     ensures made { IfOk result (λ t. (from upto : PlaceOf) → IsPostOf scopes.now base.entry (Brackets from (items_view items.now) upto) t) }
     ensures ill_typed { (result ≡ Err stop.IllTyped) → AreSimpleItems (MayBePlain scopes.now) (items_view items.now) → ItemsSpelt IsNear (items_view items.now) → HasNoSquare scopes.now base.entry (items_view items.now) }
 {
@@ -109,7 +109,7 @@ fn in_round<'t>(
     scopes: &Scopes<'_>,
     base: Typed<'t>,
     exprs: &Exprs<'_>,
-) -> Result<Typed<'t>, Stop>
+) -> Result<Typed<'t>, NoNode>
     ensures made { IfOk result (λ t. (from upto : PlaceOf) → IsPostOf scopes.now base.entry (Rounds from (exprs_view exprs.now) upto) t) }
     ensures ill_typed { (result ≡ Err stop.IllTyped) → AreSimpleExprs (MayBePlain scopes.now) (exprs_view exprs.now) → ExprsSpelt IsNear (exprs_view exprs.now) → HasNoRound scopes.now base.entry (exprs_view exprs.now) }
 {
@@ -124,7 +124,7 @@ fn method<'t>(
     scopes: &Scopes<'_>,
     base: Typed<'t>,
     method: &Method<'_>,
-) -> Result<Typed<'t>, Stop>
+) -> Result<Typed<'t>, NoNode>
     ensures made { IfOk result (λ t. (dot : PlaceOf) → IsPostOf scopes.now base.entry (Dotted dot (method_view method.now)) t) }
     ensures ill_typed { (result ≡ Err stop.IllTyped) → IsSimpleMethod (MayBePlain scopes.now) (method_view method.now) → MethodSpelt IsNear (method_view method.now) → HasNoMethod scopes.now base.entry (method_view method.now) }
 {
@@ -133,12 +133,12 @@ fn method<'t>(
         Method::Contains(asked) => contains(arena, scopes, base, &asked.exprs),
         Method::Dim(asked) => dimension(arena, base, asked),
         Method::Expand(asked) => expand(arena, scopes, base, asked.at, asked.by),
-        Method::CellRead { .. } => Err(Stop::IllTyped),
+        Method::CellRead { .. } => Err(NoNode::IllTyped),
     }
 }
 
 // `dim`.
-fn dimension<'t>(arena: Arena<'t>, base: Typed<'t>, asked: &Dim) -> Result<Typed<'t>, Stop>
+fn dimension<'t>(arena: Arena<'t>, base: Typed<'t>, asked: &Dim) -> Result<Typed<'t>, NoNode>
     ensures node { IfOk result (λ t. (m : Times) → typed_view m t ≡ dotted (typed_view Once base.entry) (DimOf nowhere nowhere nowhere (natural asked.now.number) nowhere)) }
     ensures kind { IfOk result (λ t. dim_kind (natural asked.now.number) (kind_of base.entry) ≡ Some (kind_of t)) }
     ensures ill_typed { (result ≡ Err stop.IllTyped) → dim_kind (natural asked.now.number) (kind_of base.entry) ≡ None }
@@ -153,7 +153,7 @@ fn contains<'t>(
     scopes: &Scopes<'_>,
     base: Typed<'t>,
     exprs: &Exprs<'_>,
-) -> Result<Typed<'t>, Stop>
+) -> Result<Typed<'t>, NoNode>
     ensures made { IfOk result (λ t. (dot at from upto : PlaceOf) → IsPostOf scopes.now base.entry (Dotted dot (Contains at from (exprs_view exprs.now) upto)) t) }
     ensures ill_typed { (result ≡ Err stop.IllTyped) → AreSimpleExprs (MayBePlain scopes.now) (exprs_view exprs.now) → ExprsSpelt IsNear (exprs_view exprs.now) → HasNoContains scopes.now base.entry (exprs_view exprs.now) }
 {
@@ -169,7 +169,7 @@ fn expand<'t>(
     base: Typed<'t>,
     at: Place,
     by: &Expr<'_>,
-) -> Result<Typed<'t>, Stop>
+) -> Result<Typed<'t>, NoNode>
     ensures made { IfOk result (λ t. (dot from upto : PlaceOf) → IsPostOf scopes.now base.entry (Dotted dot (Expand at from (expr_view by.now) upto)) t) }
     ensures ill_typed { (result ≡ Err stop.IllTyped) → IsNear at → IsSimple (MayBePlain scopes.now) (expr_view by.now) → ExprSpelt IsNear (expr_view by.now) → HasNoExpand scopes.now base.entry at (expr_view by.now) }
 {

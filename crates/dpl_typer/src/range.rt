@@ -7,7 +7,7 @@ ghost use Rattle.dpl_rules.specs.Expressions.{item_type};
 ghost use Rattle.dpl_lowered.specs.LoweredExpressions.{Times};
 ghost use Rattle.dpl_nodes.specs.Typed.{stride_view};
 ghost use Rattle.dpl_typer.specs.Makers.{typed_item};
-ghost use Rattle.dpl_nodes.specs.declared.stop.Stop.TheVariants as stop;
+ghost use Rattle.dpl_nodes.specs.declared.stop.NoNode.TheVariants as stop;
 ghost use Rattle.dpl_typer.specs.Leaves.{IsFound, IsOfType, MayBePlain};
 ghost use Rattle.dpl_typer.specs.Simple.{IsSimpleItem, IsSimpleStride};
 ghost use Rattle.dpl_spelling.specs.Spelt.{ItemSpelt, StrideSpelt};
@@ -17,7 +17,7 @@ ghost use Rattle.dpl_typer.specs.Elaborated.{item_leaves, stride_leaves, range_t
 use crate::elaborate::expression;
 use crate::make::Typed;
 use crate::ranges::{bounded, strided};
-use dpl_nodes::Stop;
+use dpl_nodes::NoNode;
 use dpl_scopes::Scopes;
 use dpl_tree::{Arena, Range, Stride};
 
@@ -30,7 +30,7 @@ pub fn range<'t>(
     arena: Arena<'t>,
     scopes: &Scopes<'_>,
     range: &Range<'_>,
-) -> Result<Typed<'t>, Stop>
+) -> Result<Typed<'t>, NoNode>
     ensures node { IfOk result (λ t. (m : Times) → typed_item m t ≡ item_leaves scopes.now m (range_tree range.now)) }
     ensures kind { IfOk result (λ t. IsOfType t (item_type scopes.now (range_tree range.now))) }
     ensures found { IfOk result (λ t. IsSimpleItem (IsFound scopes.now) (range_tree range.now)) }
@@ -48,7 +48,7 @@ fn stride<'t>(
     arena: Arena<'t>,
     scopes: &Scopes<'_>,
     by: &Stride<'_>,
-) -> Result<dpl_nodes::Stride<'t>, Stop>
+) -> Result<dpl_nodes::Stride<'t>, NoNode>
     ensures node { IfOk result (λ s. stride_view s ≡ stride_leaves scopes.now (stride_tree by.now)) }
     ensures found { IfOk result (λ s. IsSimpleStride (IsFound scopes.now) (stride_tree by.now)) }
     ensures ill_typed { (result ≡ Err stop.IllTyped) → IsSimpleStride (MayBePlain scopes.now) (stride_tree by.now) → StrideSpelt IsNear (stride_tree by.now) → HasNoRange scopes.now (stride_tree by.now) }

@@ -9,11 +9,11 @@ ghost use Rattle.dpl_tree.specs.Words.{word_view, dots_view as dots_of};
 ghost use Rattle.dpl_nodes.specs.Typed.{dots_view, dotted, range_view, stride_view};
 ghost use Rattle.dpl_nodes.specs.Spots.{IsNear};
 ghost use Rattle.dpl_typer.specs.Makers.{typed_view, typed_item, kind_of, range_word_kind, bounds_kind, is_int};
-ghost use Rattle.dpl_nodes.specs.declared.stop.Stop.TheVariants as stop;
+ghost use Rattle.dpl_nodes.specs.declared.stop.NoNode.TheVariants as stop;
 
 use crate::make::{Typed, int, range, spot};
 use crate::pieces::int_in;
-use dpl_nodes::{Dots, IntExpr, RangeExpr, Stop, Stride};
+use dpl_nodes::{Dots, IntExpr, NoNode, RangeExpr, Stride};
 use dpl_syntax::Place;
 use dpl_tree::{Arena, Word};
 
@@ -23,7 +23,7 @@ pub(crate) fn of_range<'t>(
     word: Word,
     at: Place,
     base: &'t RangeExpr<'t>,
-) -> Result<Typed<'t>, Stop>
+) -> Result<Typed<'t>, NoNode>
     ensures node { IfOk result (λ t. (m : Times) → typed_view m t ≡ dotted (range_view base.now) (Plainly (kept (is_end (word_view word)) at) (word_view word))) }
     ensures kind { IfOk result (λ t. range_word_kind (word_view word) ≡ Some (kind_of t)) }
     ensures ill_typed { (result ≡ Err stop.IllTyped) → IsNear at → range_word_kind (word_view word) ≡ None }
@@ -46,7 +46,7 @@ pub(crate) fn of_range<'t>(
             let at = spot(arena, at)?;
             int(arena.node(IntExpr::High(base, at)))
         }
-        Word::LowBound | Word::DomainOf | Word::Id => Err(Stop::IllTyped),
+        Word::LowBound | Word::DomainOf | Word::Id => Err(NoNode::IllTyped),
     }
 }
 
@@ -65,7 +65,7 @@ fn dots(written: dpl_tree::Dots) -> Dots
 ///
 /// # Errors
 /// Out of memory; a stride that is no int; a place past 2^21, which no text has.
-pub fn strided<'t>(arena: Arena<'t>, at: Place, stride: Typed<'t>) -> Result<Stride<'t>, Stop>
+pub fn strided<'t>(arena: Arena<'t>, at: Place, stride: Typed<'t>) -> Result<Stride<'t>, NoNode>
     ensures node { IfOk result (λ s. stride_view s ≡ By at (typed_view Once stride.entry)) }
     ensures ill_typed { (result ≡ Err stop.IllTyped) → IsNear at → is_int (kind_of stride.entry) ≡ false }
 {
@@ -85,7 +85,7 @@ pub fn bounded<'t>(
     written: dpl_tree::Dots,
     high: Typed<'t>,
     stride: Stride<'t>,
-) -> Result<Typed<'t>, Stop>
+) -> Result<Typed<'t>, NoNode>
     ensures node { IfOk result (λ t. (m : Times) → typed_item m t ≡ RangeItem (typed_view Once low.entry) at (unplaced_dots (dots_of written)) (typed_view Once high.entry) (stride_view stride.entry)) }
     ensures kind { IfOk result (λ t. bounds_kind (kind_of low.entry) (kind_of high.entry) ≡ Some (kind_of t)) }
     ensures ill_typed { (result ≡ Err stop.IllTyped) → IsNear at → bounds_kind (kind_of low.entry) (kind_of high.entry) ≡ None }

@@ -9,10 +9,10 @@ ghost use Rattle.dpl_tree.specs.Words.{op_view};
 ghost use Rattle.dpl_nodes.specs.Typed.{int_fold_view, truth_fold_view};
 ghost use Rattle.dpl_nodes.specs.Spots.{IsNear};
 ghost use Rattle.dpl_typer.specs.Makers.{typed_view, kind_of, reduced_kind};
-ghost use Rattle.dpl_nodes.specs.declared.stop.Stop.TheVariants as stop;
+ghost use Rattle.dpl_nodes.specs.declared.stop.NoNode.TheVariants as stop;
 
 use crate::make::{Typed, int, spot, truth};
-use dpl_nodes::{BoolExpr, Fold, IntExpr, IntFold, Stop, TruthFold};
+use dpl_nodes::{BoolExpr, Fold, IntExpr, IntFold, NoNode, TruthFold};
 use dpl_syntax::Place;
 use dpl_tree::{Arena, Op};
 
@@ -22,7 +22,7 @@ fn of_ints<'t>(
     fold: IntFold,
     word: Place,
     operand: Typed<'t>,
-) -> Result<Typed<'t>, Stop>
+) -> Result<Typed<'t>, NoNode>
     ensures node { IfOk result (λ t. (m : Times) → typed_view m t ≡ Reduced nowhere (int_fold_view fold) word (typed_view EachTurn operand.entry)) }
     ensures kind { IfOk result (λ t. reduced_kind (int_fold_view fold) (kind_of operand.entry) ≡ Some (kind_of t)) }
     ensures ill_typed { (result ≡ Err stop.IllTyped) → IsNear word → reduced_kind (int_fold_view fold) (kind_of operand.entry) ≡ None }
@@ -37,7 +37,7 @@ fn of_ints<'t>(
         | Typed::Range(_)
         | Typed::Domain(_)
         | Typed::Tuple(_)
-        | Typed::Truths(_) => Err(Stop::IllTyped),
+        | Typed::Truths(_) => Err(NoNode::IllTyped),
     }
 }
 
@@ -47,7 +47,7 @@ fn of_truths<'t>(
     fold: TruthFold,
     word: Place,
     operand: Typed<'t>,
-) -> Result<Typed<'t>, Stop>
+) -> Result<Typed<'t>, NoNode>
     ensures node { IfOk result (λ t. (m : Times) → typed_view m t ≡ Reduced nowhere (truth_fold_view fold) word (typed_view EachTurn operand.entry)) }
     ensures kind { IfOk result (λ t. reduced_kind (truth_fold_view fold) (kind_of operand.entry) ≡ Some (kind_of t)) }
     ensures ill_typed { (result ≡ Err stop.IllTyped) → IsNear word → reduced_kind (truth_fold_view fold) (kind_of operand.entry) ≡ None }
@@ -62,7 +62,7 @@ fn of_truths<'t>(
         | Typed::Range(_)
         | Typed::Domain(_)
         | Typed::Tuple(_)
-        | Typed::Ints(_) => Err(Stop::IllTyped),
+        | Typed::Ints(_) => Err(NoNode::IllTyped),
     }
 }
 
@@ -76,7 +76,7 @@ pub fn reduced<'t>(
     op: Op,
     word: Place,
     operand: Typed<'t>,
-) -> Result<Typed<'t>, Stop>
+) -> Result<Typed<'t>, NoNode>
     ensures node { IfOk result (λ t. (m : Times) → typed_view m t ≡ Reduced nowhere (op_view op) word (typed_view EachTurn operand.entry)) }
     ensures kind { IfOk result (λ t. reduced_kind (op_view op) (kind_of operand.entry) ≡ Some (kind_of t)) }
     ensures ill_typed { (result ≡ Err stop.IllTyped) → IsNear word → reduced_kind (op_view op) (kind_of operand.entry) ≡ None }

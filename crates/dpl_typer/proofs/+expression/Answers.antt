@@ -18,7 +18,7 @@ use Rattle.dpl_rules.specs.Expressions.{type_of, item_type, item_parts, more_ite
 use Rattle.dpl_lowered.specs.Shapes.{as_expr, as_item}
 use Rattle.dpl_words.specs.Words.{RangeLeaf}
 use Rattle.dpl_memory.specs.Memory.{PlainKind}
-use Rattle.dpl_nodes.specs.declared.stop.Stop.TheVariants as stop
+use Rattle.dpl_nodes.specs.declared.stop.NoNode.TheVariants as stop
 use Rattle.dpl_typer.specs.Makers.{kind_of, reduced_kind}
 use Rattle.dpl_nodes.specs.Spots.{IsNear}
 use Rattle.dpl_spelling.specs.Spelt.{ExprSpelt, PostSpelt, MethodSpelt, ItemsSpelt, ExprsSpelt}

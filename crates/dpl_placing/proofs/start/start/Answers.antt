@@ -7,7 +7,7 @@ use Rattle.dpl_tree.specs.View.{expr_view, next_expr_view}
 use Rattle.dpl_tree.specs.Declarations.{start_view}
 use Rattle.dpl_rules.specs.Expressions.{expr_parts}
 use Rattle.dpl_nodes.specs.Spots.{IsNear}
-use Rattle.dpl_nodes.specs.declared.stop.Stop.TheVariants as stop
+use Rattle.dpl_nodes.specs.declared.stop.NoNode.TheVariants as stop
 use Rattle.dpl_nodes.specs.declared.placing.StartExpr.TheVariants as starts
 use Rattle.dpl_spelling.specs.Spelt.{ExprsSpelt, StartSpelt}
 use Rattle.dpl_typer.specs.Leaves.{MayBePlain}

@@ -5,7 +5,7 @@ use Rattle.dpl_tree.specs.Words.{kind_view}
 use Rattle.dpl_tree.specs.View.{items_view}
 use Rattle.dpl_tree.specs.Declarations.{optional, initial_view, array_type_view, declare_view}
 use Rattle.dpl_nodes.specs.declared.step.ArrayDeclaration.{ArrayDeclaration}
-use Rattle.dpl_nodes.specs.declared.stop.Stop.TheVariants as stop
+use Rattle.dpl_nodes.specs.declared.stop.NoNode.TheVariants as stop
 use Rattle.dpl_nodes.specs.declared.step.Step.{DeclareArray}
 use Rattle.dpl_runnable.specs.Runnable.{IsRunnableType}
 use Rattle.dpl_planner.specs.Arrays.{IsOver, IsArrayInitial}

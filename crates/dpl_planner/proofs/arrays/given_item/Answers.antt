@@ -4,7 +4,7 @@ use Rattle.dpl_language.specs.Tree.{One}
 use Rattle.dpl_tree.specs.Words.{kind_view}
 use Rattle.dpl_tree.specs.View.{item_view}
 use Rattle.dpl_lowered.specs.LoweredStatements.{written_initial}
-use Rattle.dpl_nodes.specs.declared.stop.Stop.TheVariants as stop
+use Rattle.dpl_nodes.specs.declared.stop.NoNode.TheVariants as stop
 use Rattle.dpl_typer.specs.Makers.{operand_kind}
 use Rattle.dpl_planner.specs.Elements.{elements_view}
 use Rattle.dpl_planner.proofs.ChangedArrays.{valued-kind, given-operand}

@@ -1,7 +1,7 @@
 -- Several items are ranges, or no array is over them.
 use Rattle.std.proofs.Common.{rules, ◌≡◌, Err, subst}
 use Rattle.dpl_tree.specs.View.{items_view}
-use Rattle.dpl_nodes.specs.declared.stop.Stop.TheVariants as stop
+use Rattle.dpl_nodes.specs.declared.stop.NoNode.TheVariants as stop
 use Rattle.dpl_typer.specs.Elaborated.{ArePartsOf}
 use Rattle.dpl_typer.proofs.CreatedFrom.{many-no_domain, index-no_domain}
 use Rattle.dpl_planner.proofs.arrays.over_many.Goals as goal

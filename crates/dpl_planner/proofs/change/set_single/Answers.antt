@@ -6,7 +6,7 @@ use Rattle.dpl_tree.specs.Words.{assign_view}
 use Rattle.dpl_tree.specs.View.{name_view, item_view}
 use Rattle.dpl_tree.specs.Statements.{sign_view}
 use Rattle.dpl_memory.specs.Resolved.{kind_takes}
-use Rattle.dpl_nodes.specs.declared.stop.Stop.TheVariants as stop
+use Rattle.dpl_nodes.specs.declared.stop.NoNode.TheVariants as stop
 use Rattle.dpl_typer.specs.Leaves.{type_in}
 use Rattle.dpl_runnable.specs.Runnable.{IsReducedBy}
 use Rattle.dpl_planner.specs.Parts.{IsSingleKind, IsChangedKind}

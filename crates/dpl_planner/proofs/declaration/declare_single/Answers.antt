@@ -1,7 +1,7 @@
 -- A declaration is planned where the check gives its type, and what it begins with is of that type's kind and shape.
 use Rattle.std.proofs.Common.{rules, ◌≡◌, ◌<◌, ◌≤◌, true, false, Err, Some, None, sym, ap, ◌∙◌, subst}
 use Rattle.dpl_tree.specs.Declarations.{declare_view}
-use Rattle.dpl_nodes.specs.declared.stop.Stop.TheVariants as stop
+use Rattle.dpl_nodes.specs.declared.stop.NoNode.TheVariants as stop
 use Rattle.dpl_typer.proofs.Names.{if_ok, if_both}
 use Rattle.dpl_runnable.specs.Runnable.{IsConfigOf}
 use Rattle.dpl_planner.proofs.Declared.{declare-plans, declare-config}

@@ -5,7 +5,7 @@ use Rattle.dpl_language.specs.Declarations.{type_of}
 use Rattle.dpl_tree.specs.Declarations.{optional, typed_view, initial_view}
 use Rattle.dpl_scopes.specs.Types.{type_view}
 use Rattle.dpl_memory.specs.Memory.{VariableKind}
-use Rattle.dpl_nodes.specs.declared.stop.Stop.TheVariants as stop
+use Rattle.dpl_nodes.specs.declared.stop.NoNode.TheVariants as stop
 use Rattle.dpl_typer.specs.Makers.{kind_of}
 use Rattle.dpl_runnable.specs.Runnable.{IsInitialOf, IsShapedInitial}
 use Rattle.dpl_typer.proofs.Names.{if_ok}

@@ -5,7 +5,7 @@ use Rattle.dpl_tree.specs.Words.{kind_view, assign_view}
 use Rattle.dpl_tree.specs.View.{name_view, item_view}
 use Rattle.dpl_tree.specs.Statements.{sign_view}
 use Rattle.dpl_memory.specs.Resolved.{element_takes}
-use Rattle.dpl_nodes.specs.declared.stop.Stop.TheVariants as stop
+use Rattle.dpl_nodes.specs.declared.stop.NoNode.TheVariants as stop
 use Rattle.dpl_planner.specs.Elements.{elements_view, elements_kind}
 use Rattle.dpl_planner.specs.Plans.{intents_in}
 use Rattle.dpl_planner.proofs.ChangedArrays.{array-planned, array-change}

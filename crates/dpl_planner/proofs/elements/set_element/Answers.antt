@@ -7,7 +7,7 @@ use Rattle.dpl_tree.specs.Words.{kind_view, assign_view, pair_view}
 use Rattle.dpl_tree.specs.View.{name_view, item_view, exprs_view}
 use Rattle.dpl_tree.specs.Statements.{sign_view}
 use Rattle.dpl_memory.specs.Memory.{PlainKind, ArrayKind}
-use Rattle.dpl_nodes.specs.declared.stop.Stop.TheVariants as stop
+use Rattle.dpl_nodes.specs.declared.stop.NoNode.TheVariants as stop
 use Rattle.dpl_typer.specs.Makers.{leaf_of}
 use Rattle.dpl_typer.specs.Leaves.{kind_in}
 use Rattle.dpl_planner.proofs.ChangedArrays.{element-planned, element-change}

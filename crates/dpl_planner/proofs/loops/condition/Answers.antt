@@ -4,7 +4,7 @@ use Rattle.dpl_tree.specs.View.{expr_view}
 use Rattle.dpl_rules.specs.Expressions.{type_of}
 use Rattle.dpl_words.specs.Words.{TruthLeaf}
 use Rattle.dpl_memory.specs.Memory.{PlainKind}
-use Rattle.dpl_nodes.specs.declared.stop.Stop.TheVariants as stop
+use Rattle.dpl_nodes.specs.declared.stop.NoNode.TheVariants as stop
 use Rattle.dpl_planner.proofs.RefusedParts.{no_kind}
 use Rattle.dpl_planner.proofs.loops.condition.Goals as goal
 

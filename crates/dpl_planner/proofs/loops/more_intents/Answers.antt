@@ -1,6 +1,6 @@
 -- The intent that is next is one of those that are left.
 use Rattle.std.proofs.Common.{rules, ◌≡◌, Err}
-use Rattle.dpl_nodes.specs.declared.stop.Stop.TheVariants as stop
+use Rattle.dpl_nodes.specs.declared.stop.NoNode.TheVariants as stop
 use Rattle.dpl_planner.proofs.RefusedParts.{intents-next}
 use Rattle.dpl_planner.proofs.loops.more_intents.Goals as goal
 

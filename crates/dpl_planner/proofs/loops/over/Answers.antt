@@ -1,7 +1,7 @@
 -- What is neither a range nor a domain isn't what a loop runs over.
 use Rattle.std.proofs.Common.{rules, ◌≡◌, Err}
 use Rattle.dpl_tree.specs.View.{item_view}
-use Rattle.dpl_nodes.specs.declared.stop.Stop.TheVariants as stop
+use Rattle.dpl_nodes.specs.declared.stop.NoNode.TheVariants as stop
 use Rattle.dpl_planner.proofs.RefusedParts.{no_iterable}
 use Rattle.dpl_planner.proofs.loops.over.Goals as goal
 

@@ -2,7 +2,7 @@
 -- It begins in one scope and without reduce variables, as a program that runs does.
 use Rattle.std.proofs.Common.{rules, ◌≡◌, map, sym, ap, subst, Err}
 use Rattle.dpl_tree.specs.Statements.{stmts_of, program_view}
-use Rattle.dpl_nodes.specs.declared.stop.Stop.TheVariants as stop
+use Rattle.dpl_nodes.specs.declared.stop.NoNode.TheVariants as stop
 use Rattle.dpl_runnable.specs.Runnable.{AreRunnableTops}
 use Rattle.dpl_planner.specs.Plans.{reducing_view, IsOneScope}
 use Rattle.dpl_planner.proofs.Programs.{program-left}

@@ -13,7 +13,7 @@ use Rattle.dpl_rules.specs.Loops.{ForWord, ForallWord}
 use Rattle.dpl_tree.proofs.StatementFields.{stmt_view_block, body_view_block}
 use Rattle.dpl_typer.specs.Sights.{bound_in}
 use Rattle.dpl_typer.proofs.Names.{if_ok}
-use Rattle.dpl_nodes.specs.declared.stop.Stop.TheVariants as stop
+use Rattle.dpl_nodes.specs.declared.stop.NoNode.TheVariants as stop
 use Rattle.dpl_nodes.specs.declared.step.Step.{Block as BlockStep}
 use Rattle.dpl_nodes.specs.declared.step.Else.{Do as DoStep}
 use Rattle.dpl_runnable.specs.Runnable.{IsRunnableStmt, IsRunnableBody, IsRunnableElse}

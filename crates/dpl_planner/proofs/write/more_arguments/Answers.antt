@@ -1,6 +1,6 @@
 -- The argument that is next is one of those that are left.
 use Rattle.std.proofs.Common.{rules, ◌≡◌, Err}
-use Rattle.dpl_nodes.specs.declared.stop.Stop.TheVariants as stop
+use Rattle.dpl_nodes.specs.declared.stop.NoNode.TheVariants as stop
 use Rattle.dpl_planner.proofs.RefusedParts.{arguments-next}
 use Rattle.dpl_planner.proofs.write.more_arguments.Goals as goal
 

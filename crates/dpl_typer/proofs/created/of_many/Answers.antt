@@ -1,7 +1,7 @@
 -- Several items are ranges, or no domain is created from them.
 use Rattle.std.proofs.Common.{rules, ◌≡◌, Err}
 use Rattle.dpl_tree.specs.View.{items_view}
-use Rattle.dpl_nodes.specs.declared.stop.Stop.TheVariants as stop
+use Rattle.dpl_nodes.specs.declared.stop.NoNode.TheVariants as stop
 use Rattle.dpl_typer.proofs.Names.{if_both}
 use Rattle.dpl_typer.proofs.CreatedFrom.{many-no_domain, parts-no_ranges, ranges-created}
 use Rattle.dpl_typer.proofs.created.of_many.Goals as goal
