@@ -6,6 +6,9 @@ use Rattle.clap.specs.Kinds.{Kinds}
 use Rattle.clap.specs.declared.error.kind.ErrorKind.TheVariants.{ArgumentConflict, DisplayHelp, DisplayVersion, InvalidValue, TooManyValues, UnknownArgument}
 use Rattle.clap.proofs.OnLiterals.{clap_on_literals}
 use Rattle.dpl_settings.specs.CommandLine.{budget_of, command_line, file_of, first_word, found, grid2_of, grid3_of, locales_of, maps_of, other_words, sets_of, wants_dump}
+use Rattle.dpl_settings.specs.Causes.{first_wrong}
+use Rattle.dpl_settings.specs.declared.fault.WrongValue.{WrongValue}
+use Rattle.dpl_settings.specs.declared.fault.WrongValue.TheVariants as wrong
 use Rattle.dpl_settings.specs.declared.maps.RootMaps.{RootMaps}
 use Rattle.dpl_settings.specs.declared.maps.RootMaps.TheVariants.{AsIs, Block, Cyclic}
 
@@ -181,6 +184,36 @@ great_word = (refl, refl)
 empty_word : HasNoMaps []
 unfolding clap_on_literals found
 empty_word = (refl, refl)
+
+-- ---- of several wrong values the first, in the order of the budget, the locales, the grids and the maps
+
+abbrev IsToldFirst : List Text → Option WrongValue → Type 0
+IsToldFirst words first = (fault_of command_line (name ∷ words) ≡ []) × (first_wrong (found (name ∷ words)) ≡ first)
+
+-- the order of the words is of no matter
+locales_and_budget : IsToldFirst (codes "--locales=0" ∷ codes "--budget=0" ∷ []) (Some wrong.Budget)
+unfolding clap_on_literals found
+locales_and_budget = (refl, refl)
+
+maps_and_locales : IsToldFirst (codes "--maps=no" ∷ codes "--grid2=3x3" ∷ codes "--locales=65" ∷ []) (Some wrong.Locales)
+unfolding clap_on_literals found
+maps_and_locales = (refl, refl)
+
+both_grids : IsToldFirst (codes "--grid3=1" ∷ codes "--grid2=1" ∷ codes "--maps=no" ∷ []) (Some wrong.Grid2)
+unfolding clap_on_literals found
+both_grids = (refl, refl)
+
+maps_and_grid : IsToldFirst (codes "--maps=no" ∷ codes "--grid3=2x1x1" ∷ codes "--grid2=1x1" ∷ []) (Some wrong.Grid3)
+unfolding clap_on_literals found
+maps_and_grid = (refl, refl)
+
+maps_alone : IsToldFirst (codes "--maps=no" ∷ codes "--locales=4" ∷ codes "--grid2=2x2" ∷ []) (Some wrong.Maps)
+unfolding clap_on_literals found
+maps_alone = (refl, refl)
+
+none_wrong : IsToldFirst (codes "--maps=cyclic" ∷ codes "--budget=1" ∷ []) None
+unfolding clap_on_literals found
+none_wrong = (refl, refl)
 
 -- ---- words that clap refuses, and how
 

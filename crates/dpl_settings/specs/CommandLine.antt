@@ -68,12 +68,12 @@ found = matches_of command_line
 
 -- ---- what is asked for
 
--- the first word that is neither an option nor its value, and those behind it
+-- the first word that is neither an option nor its value, and those behind it, where there are some
 abbrev pub first_word : List Row → Option Text
 first_word = first_of (codes "file")
 
-abbrev pub other_words : List Row → List Text
-other_words rows = unwrap_or (all_of (codes "set") rows) []
+abbrev pub other_words : List Row → Option (List Text)
+other_words = all_of (codes "set")
 
 -- the word holds a `=`
 abbrev pub has_equals : Text → Bool
@@ -85,9 +85,13 @@ file_of None = None
 file_of (Some word) = if has_equals word then None else Some word
 
 -- the sets are all other words, also those without `=`, which fit no program
-abbrev pub sets_of : Option Text → List Text → List Text
-sets_of None others = others
-sets_of (Some word) others = if has_equals word then word ∷ others else others
+abbrev pub sets_of : Option Text → Option (List Text) → List Text
+sets_of None others = unwrap_or others []
+sets_of (Some word) others = if has_equals word then word ∷ unwrap_or others [] else unwrap_or others []
+
+-- the sets that are asked for
+abbrev pub all_sets : List Row → List Text
+all_sets rows = sets_of (first_word rows) (other_words rows)
 
 -- a number from 1 to the greatest that may stand there, in decimal digits without a sign
 abbrev pub count_of : ℕ → Text → Option ℕ

@@ -4,7 +4,8 @@
 ghost use Rattle.std.specs.Prelude.{◌≡◌, ◌*◌, ◌^◌, ◌≤◌, [], ◌∷◌, Some, IfOk, IfErr, IfSome, false, map, option_and_then, option_map, slice_index, unwrap_or};
 ghost use Rattle.std.specs.Option.{option_map_or};
 ghost use Rattle.clap.specs.Words.{all_of, fault_of, first_of, found_of, rows_of};
-ghost use Rattle.dpl_settings.specs.CommandLine.{budget_of, command_line, count_of, file_of, first_word, found, grid2_in, grid2_of, grid3_in, grid3_of, has_equals, is_true, locales_of, maps_in, maps_of, other_words, sets_of, wants_dump};
+ghost use Rattle.dpl_settings.specs.CommandLine.{command_line, found, all_sets, budget_of, file_of, first_word, grid2_of, grid3_of, locales_of};
+ghost use Rattle.dpl_settings.specs.CommandLine.{maps_of, wants_dump, count_of, grid2_in, grid3_in, has_equals, is_true, maps_in, sets_of};
 ghost use Rattle.dpl_settings.specs.Causes.{IsCause};
 
 use crate::asked::Settings;
@@ -25,7 +26,7 @@ use std::alloc::{AllocError, Global};
 pub fn settings<'a>(alloc: Global, words: &'a [&'a str]) -> Result<Settings<'a>, LineFault>
     ensures taken { IfOk result (λ _. fault_of command_line (map (λ w. w.now) words.entry.now) ≡ []) }
     ensures file { IfOk result (λ s. option_map (λ w. w.now) s.file ≡ file_of (first_word (found (map (λ w. w.now) words.entry.now)))) }
-    ensures sets { IfOk result (λ s. map (λ w. w.now) s.sets.items ≡ sets_of (first_word (found (map (λ w. w.now) words.entry.now))) (other_words (found (map (λ w. w.now) words.entry.now)))) }
+    ensures sets { IfOk result (λ s. map (λ w. w.now) s.sets.items ≡ all_sets (found (map (λ w. w.now) words.entry.now))) }
     ensures budget { IfOk result (λ s. Some s.budget ≡ budget_of (found (map (λ w. w.now) words.entry.now))) }
     ensures locales { IfOk result (λ s. Some s.locales ≡ locales_of (found (map (λ w. w.now) words.entry.now))) }
     ensures grid2 { IfOk result (λ s. Some s.grid2 ≡ grid2_of s.locales (found (map (λ w. w.now) words.entry.now))) }
@@ -101,7 +102,8 @@ fn sets<'a>(
     first: Option<&'a str>,
     others: Option<&[&'a str]>,
 ) -> Result<Vec<&'a str>, AllocError>
-    ensures { IfOk result (λ sets. map (λ w. w.now) sets.items ≡ sets_of (option_map (λ w. w.now) first.entry) (unwrap_or (option_map (λ s. map (λ w. w.now) s.now) others.entry) [])) }
+    ensures { IfOk result (λ sets. map (λ w. w.now) sets.items
+        ≡ sets_of (option_map (λ w. w.now) first.entry) (option_map (λ s. map (λ w. w.now) s.now) others.entry)) }
 {
     let mut sets = Vec::new(alloc);
     if let Some(word) = first {
