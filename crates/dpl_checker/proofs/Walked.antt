@@ -25,13 +25,13 @@ use Rattle.dpl_deeds.specs.declared.deed.Deed.{Deed as DeedNode}
 use Rattle.dpl_deeds.specs.View.{deed_view, Adds}
 use Rattle.dpl_deeds.proofs.Steps.{added_behind}
 use Rattle.dpl_checker.specs.declared.walk.Around.{Around}
-use Rattle.dpl_checker.specs.declared.walk.Walk.{Walk}
+use Rattle.dpl_checker.specs.declared.walk.Check.{Check}
 use Rattle.dpl_checker.specs.Walks.{sight_in, Walks, WalksStmt, WalksStmts, WalksBody, WalksElse, of_variables, whole_told}
 use Rattle.dpl_rules.proofs.Left.{leave_behind, leave_behind_all, leave_variables}
 use Rattle.dpl_checker.proofs.Steps.{told_then, told_before, adds_then}
 
 -- one part and then another
-walks_then : (ss vs : Scopes) (ds es : List Deed) (bs cs : List Breach) (a b c : Walk) → Walks ss ds bs a b → Walks vs es cs b c → Walks vs (ds ++ es) (bs ++ cs) a c
+walks_then : (ss vs : Scopes) (ds es : List Deed) (bs cs : List Breach) (a b c : Check) → Walks ss ds bs a b → Walks vs es cs b c → Walks vs (ds ++ es) (bs ++ cs) a c
 walks_then ss vs ds es bs cs a b c first second = (
   second.0,
   adds_then a.deeds.items b.deeds.items c.deeds.items ds es first.1 second.1,
@@ -39,15 +39,15 @@ walks_then ss vs ds es bs cs a b c first second = (
 )
 
 -- a body where the scopes around it are known, and what stands behind `else`
-body_where : (ss : Scopes) (around : Around) (t : Body Text) (b c : Walk) → b.scopes ≡ ss → WalksBody around t b c
+body_where : (ss : Scopes) (around : Around) (t : Body Text) (b c : Check) → b.scopes ≡ ss → WalksBody around t b c
     → Walks ss (body_deeds (enter ss) t) (body_breaches (sight_in (enter ss) around) t) b c
 body_where ss around t b c e w = subst (λ vs. Walks vs (body_deeds (enter vs) t) (body_breaches (sight_in (enter vs) around) t) b c) e w
 
-else_where : (ss : Scopes) (around : Around) (t : Else Text) (b c : Walk) → b.scopes ≡ ss → WalksElse around t b c
+else_where : (ss : Scopes) (around : Around) (t : Else Text) (b c : Check) → b.scopes ≡ ss → WalksElse around t b c
     → Walks ss (else_deeds (enter ss) t) (else_breaches (sight_in (enter ss) around) t) b c
 else_where ss around t b c e w = subst (λ vs. Walks vs (else_deeds (enter vs) t) (else_breaches (sight_in (enter vs) around) t) b c) e w
 
-pub while_walks : (at : Place) (e : ExprTree Text) (body : Body Text) (around : Around) (a b c : Walk)
+pub while_walks : (at : Place) (e : ExprTree Text) (body : Body Text) (around : Around) (a b c : Check)
     → Walks a.scopes (expr_deeds a.scopes false e) (condition_breaches (sight_in a.scopes around) e) a b → WalksBody around body b c
     → WalksStmt around (While at e body) a c
 while_walks at e body around a b c tested w =
@@ -55,7 +55,7 @@ while_walks at e body around a b c tested w =
     (condition_breaches (sight_in a.scopes around) e) (body_breaches (sight_in (enter a.scopes) around) body) a b c
     tested (body_where a.scopes around body b c tested.0 w)
 
-pub if_walks : (at : Place) (e : ExprTree Text) (first : Body Text) (second : Else Text) (around : Around) (a b c d : Walk)
+pub if_walks : (at : Place) (e : ExprTree Text) (first : Body Text) (second : Else Text) (around : Around) (a b c d : Check)
     → Walks a.scopes (expr_deeds a.scopes false e) (condition_breaches (sight_in a.scopes around) e) a b → WalksBody around first b c → WalksElse around second c d
     → WalksStmt around (If at e first second) a d
 if_walks at e first second around a b c d tested w x =
@@ -66,7 +66,7 @@ if_walks at e first second around a b c d tested w x =
     (walks_then ss ss (expr_deeds ss false e) (body_deeds (enter ss) first) (condition_breaches (sight_in ss around) e) (body_breaches (sight_in (enter ss) around) first) a b c tested taken)
     (else_where ss around second c d taken.0 x)
 
-pub on_walks : (at : Place) (e : ExprTree Text) (body : Body Text) (around : Around) (a b c : Walk)
+pub on_walks : (at : Place) (e : ExprTree Text) (body : Body Text) (around : Around) (a b c : Check)
     → Walks a.scopes (held at AnOn ++ expr_deeds a.scopes false e) (on_breaches (sight_in a.scopes around) e) a b → WalksBody around body b c
     → WalksStmt around (On at e body) a c
 on_walks at e body around a b c sent w =
@@ -75,14 +75,14 @@ on_walks at e body around a b c sent w =
     sent (body_where a.scopes around body b c sent.0 w)
 
 -- ---- scopes that are entered and left
-pub stmt_left : (ss entered : Scopes) (around : Around) (t : StmtTree Text) (a b : Walk) (left : Scopes) → entered ≡ enter ss
+pub stmt_left : (ss entered : Scopes) (around : Around) (t : StmtTree Text) (a b : Check) (left : Scopes) → entered ≡ enter ss
     → WalksStmt around t (record a { scopes = entered }) b → left ≡ drop 1 b.scopes
     → Walks ss (stmt_deeds (enter ss) t) (stmt_breaches (sight_in (enter ss) around) t) a (record b { scopes = left })
 stmt_left ss entered around t a b left e w l =
     let inside = subst (λ vs. Walks (behind vs t) (stmt_deeds vs t) (stmt_breaches (sight_in vs around) t) a b) e w in
     (l ∙ ap (drop 1) inside.0 ∙ leave_behind [] ss t, inside.1, inside.2)
 
-pub stmts_left : (ss entered : Scopes) (around : Around) (ts : Stmts Text) (a b : Walk) (left : Scopes) → entered ≡ enter ss
+pub stmts_left : (ss entered : Scopes) (around : Around) (ts : Stmts Text) (a b : Check) (left : Scopes) → entered ≡ enter ss
     → WalksStmts around ts (record a { scopes = entered }) b → left ≡ drop 1 b.scopes
     → Walks ss (stmts_deeds (enter ss) ts) (stmts_breaches (sight_in (enter ss) around) ts) a (record b { scopes = left })
 stmts_left ss entered around ts a b left e w l =
@@ -90,18 +90,18 @@ stmts_left ss entered around ts a b left e w l =
     (l ∙ ap (drop 1) inside.0 ∙ leave_behind_all [] ss ts, inside.1, inside.2)
 
 -- the same where the walk is known to be the one behind it
-pub stmt_left_at : (ss entered : Scopes) (around : Around) (t : StmtTree Text) (a b m : Walk) (left : Scopes) → entered ≡ enter ss
+pub stmt_left_at : (ss entered : Scopes) (around : Around) (t : StmtTree Text) (a b m : Check) (left : Scopes) → entered ≡ enter ss
     → WalksStmt around t (record a { scopes = entered }) b → m ≡ b → left ≡ drop 1 m.scopes
     → Walks ss (stmt_deeds (enter ss) t) (stmt_breaches (sight_in (enter ss) around) t) a (record m { scopes = left })
 stmt_left_at ss entered around t a b m left e w same l =
-    subst (λ (x : Walk). left ≡ drop 1 x.scopes → Walks ss (stmt_deeds (enter ss) t) (stmt_breaches (sight_in (enter ss) around) t) a (record x { scopes = left })) (sym same)
+    subst (λ (x : Check). left ≡ drop 1 x.scopes → Walks ss (stmt_deeds (enter ss) t) (stmt_breaches (sight_in (enter ss) around) t) a (record x { scopes = left })) (sym same)
     (stmt_left ss entered around t a b left e w) l
 
-pub stmts_left_at : (ss entered : Scopes) (around : Around) (ts : Stmts Text) (a b m : Walk) (left : Scopes) → entered ≡ enter ss
+pub stmts_left_at : (ss entered : Scopes) (around : Around) (ts : Stmts Text) (a b m : Check) (left : Scopes) → entered ≡ enter ss
     → WalksStmts around ts (record a { scopes = entered }) b → m ≡ b → left ≡ drop 1 m.scopes
     → Walks ss (stmts_deeds (enter ss) ts) (stmts_breaches (sight_in (enter ss) around) ts) a (record m { scopes = left })
 stmts_left_at ss entered around ts a b m left e w same l =
-    subst (λ (x : Walk). left ≡ drop 1 x.scopes → Walks ss (stmts_deeds (enter ss) ts) (stmts_breaches (sight_in (enter ss) around) ts) a (record x { scopes = left })) (sym same)
+    subst (λ (x : Check). left ≡ drop 1 x.scopes → Walks ss (stmts_deeds (enter ss) ts) (stmts_breaches (sight_in (enter ss) around) ts) a (record x { scopes = left })) (sym same)
     (stmts_left ss entered around ts a b left e w) l
 
 -- ---- loops
@@ -111,7 +111,7 @@ variables_left : (ss : Scopes) (word : LoopWord) (xs : VariablesTree Text) (item
 variables_left ss word xs item vs left e l =
     l ∙ ap (drop 1) e ∙ leave_variables (typed_variable word xs (over_type ss item)) (variables_of xs) [] ss
 
-pub for_walks : (at : Place) (xs : VariablesTree Text) (word : Place) (item : ItemTree Text) (body : Body Text) (around : Around) (a b c : Walk) (left : Scopes)
+pub for_walks : (at : Place) (xs : VariablesTree Text) (word : Place) (item : ItemTree Text) (body : Body Text) (around : Around) (a b c : Check) (left : Scopes)
     → Walks (of_variables a.scopes ForWord xs item) (item_deeds a.scopes false item) (header_breaches a.scopes ForWord xs item) a b
     → WalksBody around body b c → left ≡ drop 1 c.scopes
     → WalksStmt around (For at xs word item body) a (record c { scopes = left })
@@ -144,7 +144,7 @@ abbrev pub in_task : Around → Around
 in_task around = record { forall = around.forall; in_task = true }
 
 module _ (at : Place) (xs : VariablesTree Text) (word : Place) (item : ItemTree Text) (with : Option With) (body : Body Text) (around : Around) where
-  pub forall_walks : (depth start : ℕ) (a : Walk) (marked : Vec DeedNode) (b : Walk) (intended : Vec DeedNode) (c : Walk) (left : Scopes) (told : Option Breach)
+  pub forall_walks : (depth start : ℕ) (a : Check) (marked : Vec DeedNode) (b : Check) (intended : Vec DeedNode) (c : Check) (left : Scopes) (told : Option Breach)
       → depth ≡ length a.scopes
       → Adds (held at AForall) a.deeds.items marked.items
       → Walks (of_variables a.scopes ForallWord xs item) (item_deeds a.scopes false item) (header_breaches a.scopes ForallWord xs item ++ with_breaches a.scopes (optional with_view with)) (record a { deeds = marked }) b
@@ -174,7 +174,7 @@ module _ (at : Place) (xs : VariablesTree Text) (word : Place) (item : ItemTree 
             (body_breaches (sight_in (enter vs) inner) body) (forall_breaches (turns_of ss xs intents) ds) opened.2 turns.2 does,
       )
 
-  pub coforall_walks : (depth start : ℕ) (a : Walk) (marked : Vec DeedNode) (b : Walk) (intended : Vec DeedNode) (c : Walk) (left : Scopes) (told : Option Breach)
+  pub coforall_walks : (depth start : ℕ) (a : Check) (marked : Vec DeedNode) (b : Check) (intended : Vec DeedNode) (c : Check) (left : Scopes) (told : Option Breach)
       → depth ≡ length a.scopes
       → Adds (held at ACoforall) a.deeds.items marked.items
       → Walks (of_variables a.scopes CoforallWord xs item) (item_deeds a.scopes false item) (header_breaches a.scopes CoforallWord xs item ++ with_breaches a.scopes (optional with_view with)) (record a { deeds = marked }) b
@@ -206,13 +206,13 @@ module _ (at : Place) (xs : VariablesTree Text) (word : Place) (item : ItemTree 
 
 -- ---- statements, one behind the other
 -- what is left from here on is what was left at first
-abbrev pub StillWalks : Around → Walk → Stmts Text → Walk → Stmts Text → Type 0
+abbrev pub StillWalks : Around → Check → Stmts Text → Check → Stmts Text → Type 0
 StillWalks around now left old all =
     (behind_all now.scopes left ≡ behind_all old.scopes all)
     × (map deed_view now.deeds.items ++ stmts_deeds now.scopes left ≡ map deed_view old.deeds.items ++ stmts_deeds old.scopes all)
     × (least_from now.first (stmts_breaches (sight_in now.scopes around) left) ≡ least_from old.first (stmts_breaches (sight_in old.scopes around) all))
 
-pub still_step : (around : Around) (xs : List Stmt) (k : ℕ) (x : Stmt) (a b : Walk) → k < length xs → x ≡ get_or xs k x → WalksStmt around (stmt_view x) a b
+pub still_step : (around : Around) (xs : List Stmt) (k : ℕ) (x : Stmt) (a b : Check) → k < length xs → x ≡ get_or xs k x → WalksStmt around (stmt_view x) a b
     → StillWalks around b (stmts_of (drop (k + 1) xs)) a (stmts_of (drop k xs))
 still_step around xs k x a b within is w =
     let t = stmt_view x in
@@ -228,7 +228,7 @@ still_step around xs k x a b within is w =
           ∙ sym (least_from_append a.first (stmt_breaches (sight_in a.scopes around) t) (stmts_breaches (sight_in vs around) ts)),
     )
 
-pub still_ended : (around : Around) (now old : Walk) (left all : Stmts Text) → left ≡ NoStmts → StillWalks around now left old all → WalksStmts around all old now
+pub still_ended : (around : Around) (now old : Check) (left all : Stmts Text) → left ≡ NoStmts → StillWalks around now left old all → WalksStmts around all old now
 still_ended around now old left all none walks =
     let end = subst (λ ts. StillWalks around now ts old all) none walks in
     (end.0, sym (append-nil (map deed_view now.deeds.items)) ∙ end.1, end.2)
@@ -238,7 +238,7 @@ still_ended around now old left all none walks =
 abbrev pub outside : Around
 outside = record { forall = None; in_task = false }
 
-module _ (ts : Stmts Text) (a b : Walk) (scopes : a.scopes ≡ top) (deeds : a.deeds.items ≡ []) (first : a.first ≡ None) (walks : WalksStmts outside ts a b) where
+module _ (ts : Stmts Text) (a b : Check) (scopes : a.scopes ≡ top) (deeds : a.deeds.items ≡ []) (first : a.first ≡ None) (walks : WalksStmts outside ts a b) where
   all_walks : Walks (behind_all top ts) (stmts_deeds top ts) (stmts_breaches top_sight ts) a b
   all_walks = subst (λ vs. Walks (behind_all vs ts) (stmts_deeds vs ts) (stmts_breaches (sight_in vs outside) ts) a b) scopes walks
 

@@ -14,31 +14,31 @@ use Rattle.dpl_rules.specs.Breaches.{stmt_breaches, body_breaches, stmts_breache
 use Rattle.dpl_forms.specs.Around.{reducing_view}
 use Rattle.dpl_deeds.specs.View.{Adds}
 use Rattle.dpl_checker.specs.declared.walk.Around.{Around}
-use Rattle.dpl_checker.specs.declared.walk.Walk.{Walk}
+use Rattle.dpl_checker.specs.declared.walk.Check.{Check}
 
 -- what a statement has in sight
 abbrev pub sight_in : Scopes → Around → Sight
 sight_in scopes around = record { scopes = scopes; forall = option_map reducing_view around.forall; in_task = around.in_task }
 
 -- the scopes behind a part, the deeds that it adds, and the first of a breach that was told before and its own
-abbrev pub Walks : Scopes → List Deed → List Breach → Walk → Walk → Type 0
+abbrev pub Walks : Scopes → List Deed → List Breach → Check → Check → Type 0
 Walks scopes deeds breaches old new =
     (new.scopes ≡ scopes) × Adds deeds old.deeds.items new.deeds.items × (new.first ≡ least_from old.first breaches)
 
-abbrev pub WalksStmt : Around → StmtTree Text → Walk → Walk → Type 0
+abbrev pub WalksStmt : Around → StmtTree Text → Check → Check → Type 0
 WalksStmt around t old new =
     Walks (behind old.scopes t) (stmt_deeds old.scopes t) (stmt_breaches (sight_in old.scopes around) t) old new
 
-abbrev pub WalksStmts : Around → Stmts Text → Walk → Walk → Type 0
+abbrev pub WalksStmts : Around → Stmts Text → Check → Check → Type 0
 WalksStmts around ts old new =
     Walks (behind_all old.scopes ts) (stmts_deeds old.scopes ts) (stmts_breaches (sight_in old.scopes around) ts) old new
 
 -- a body opens a scope, and closes it behind itself; and so does what stands behind `else`
-abbrev pub WalksBody : Around → Body Text → Walk → Walk → Type 0
+abbrev pub WalksBody : Around → Body Text → Check → Check → Type 0
 WalksBody around body old new =
     Walks old.scopes (body_deeds (enter old.scopes) body) (body_breaches (sight_in (enter old.scopes) around) body) old new
 
-abbrev pub WalksElse : Around → Else Text → Walk → Walk → Type 0
+abbrev pub WalksElse : Around → Else Text → Check → Check → Type 0
 WalksElse around other old new =
     Walks old.scopes (else_deeds (enter old.scopes) other) (else_breaches (sight_in (enter old.scopes) around) other) old new
 
@@ -47,14 +47,14 @@ abbrev pub of_variables : Scopes → LoopWord → VariablesTree Text → ItemTre
 of_variables scopes word xs item = add_variables (typed_variable word xs (over_type scopes item)) (variables_of xs) (enter scopes)
 
 -- the head of a loop, and that of a forall or a coforall with its intents: the scope of the variables is open behind them
-abbrev pub WalksHead : LoopWord → VariablesTree Text → ItemTree Text → List Breach → Walk → Walk → Type 0
+abbrev pub WalksHead : LoopWord → VariablesTree Text → ItemTree Text → List Breach → Check → Check → Type 0
 WalksHead word xs item told old new =
     Walks (of_variables old.scopes word xs item) (item_deeds old.scopes false item) told old new
 
-abbrev pub WalksLoop : LoopWord → VariablesTree Text → ItemTree Text → Walk → Walk → Type 0
+abbrev pub WalksLoop : LoopWord → VariablesTree Text → ItemTree Text → Check → Check → Type 0
 WalksLoop word xs item old new = WalksHead word xs item (header_breaches old.scopes word xs item) old new
 
-abbrev pub WalksShared : LoopWord → VariablesTree Text → ItemTree Text → Option (WithTree Text) → Walk → Walk → Type 0
+abbrev pub WalksShared : LoopWord → VariablesTree Text → ItemTree Text → Option (WithTree Text) → Check → Check → Type 0
 WalksShared word xs item with_them old new =
     WalksHead word xs item (header_breaches old.scopes word xs item ++ with_breaches old.scopes with_them) old new
 

@@ -12,7 +12,7 @@ ghost use Rattle.dpl_forms.specs.Heads.{word_view};
 ghost use Rattle.dpl_checker.specs.declared.walk.Around.{Around as AroundNode};
 ghost use Rattle.dpl_checker.specs.Walks.{Walks, WalksStmt, WalksLoop, WalksShared, sight_in};
 
-use crate::walk::{Around, Walk, Walked, behind};
+use crate::walk::{Around, Check, Walked, behind};
 use dpl_bodies::outside::promoted_breaches;
 use dpl_deeds::declaration::declaration_deeds;
 use dpl_deeds::expression::{expr_deeds, item_deeds};
@@ -30,7 +30,7 @@ use dpl_tree::{Assignment, CellCall, Declare, Expr, Item, Variables, With, Write
 
 /// A declaration, whose name is in sight behind it.
 #[tactic(auto, using(crate::proofs::Names::add_declared_by))]
-pub(crate) fn declare<'t>(walk: &mut Walk<'t>, around: Around<'t>, written: &Declare<'t>) -> Walked
+pub(crate) fn declare<'t>(walk: &mut Check<'t>, around: Around<'t>, written: &Declare<'t>) -> Walked
     ensures { OnOk result (WalksStmt around.entry (DeclareTree (declare_view written.now)) walk.old walk.new) }
 {
     let declared = declaration(walk.alloc, &walk.scopes, written, &mut walk.first)?;
@@ -41,7 +41,7 @@ pub(crate) fn declare<'t>(walk: &mut Walk<'t>, around: Around<'t>, written: &Dec
 
 /// An assignment.
 pub(crate) fn assigned<'t>(
-    walk: &mut Walk<'t>,
+    walk: &mut Check<'t>,
     around: Around<'t>,
     written: &Assignment<'t>,
 ) -> Walked
@@ -80,7 +80,7 @@ pub(crate) fn assigned<'t>(
 }
 
 /// A cell's call.
-pub(crate) fn called<'t>(walk: &mut Walk<'t>, around: Around<'t>, written: &CellCall<'t>) -> Walked
+pub(crate) fn called<'t>(walk: &mut Check<'t>, around: Around<'t>, written: &CellCall<'t>) -> Walked
     ensures { OnOk result (WalksStmt around.entry (CallTree (name_view written.now.name) written.now.dot (call_view written.now.call) written.now.semicolon) walk.old walk.new) }
 {
     call(walk.alloc, &walk.scopes, written, &mut walk.first)?;
@@ -95,7 +95,7 @@ pub(crate) fn called<'t>(walk: &mut Walk<'t>, around: Around<'t>, written: &Cell
 
 /// What is printed.
 #[tactic(auto, using(dpl_deeds::proofs::Steps::added_then))]
-pub(crate) fn printed<'t>(walk: &mut Walk<'t>, around: Around<'t>, written: &Write<'t>) -> Walked
+pub(crate) fn printed<'t>(walk: &mut Check<'t>, around: Around<'t>, written: &Write<'t>) -> Walked
     ensures { OnOk result (WalksStmt around.entry (WriteTree (written_view written.now)) walk.old walk.new) }
 {
     print(
@@ -117,7 +117,7 @@ pub(crate) fn printed<'t>(walk: &mut Walk<'t>, around: Around<'t>, written: &Wri
 /// The head of a loop: what it runs over, and the scope of its variables, which is open behind it.
 #[tactic(auto, using(dpl_types::proofs::Breaches::least_from_append))]
 pub(crate) fn open_loop<'t>(
-    walk: &mut Walk<'t>,
+    walk: &mut Check<'t>,
     word: LoopWord,
     variables: &Variables<'t>,
     over: &Item<'t>,
@@ -138,7 +138,7 @@ pub(crate) fn open_loop<'t>(
 
 /// The head of a forall or a coforall, with what its intents owe.
 pub(crate) fn open_shared<'t>(
-    walk: &mut Walk<'t>,
+    walk: &mut Check<'t>,
     word: LoopWord,
     variables: &Variables<'t>,
     over: &Item<'t>,
@@ -152,7 +152,7 @@ pub(crate) fn open_shared<'t>(
 }
 
 /// The condition of an `if` or a `while`.
-pub(crate) fn tested<'t>(walk: &mut Walk<'t>, e: &Expr<'t>) -> Walked
+pub(crate) fn tested<'t>(walk: &mut Check<'t>, e: &Expr<'t>) -> Walked
     ensures { (around : AroundNode) → OnOk result (Walks walk.old.scopes (expr_deeds_of walk.old.scopes false (expr_view e.now)) (condition_breaches (sight_in walk.old.scopes around) (expr_view e.now)) walk.old walk.new) }
 {
     condition(walk.alloc, &walk.scopes, e, &mut walk.first)?;
@@ -161,7 +161,7 @@ pub(crate) fn tested<'t>(walk: &mut Walk<'t>, e: &Expr<'t>) -> Walked
 }
 
 /// What `on` stands before.
-pub(crate) fn sent<'t>(walk: &mut Walk<'t>, at: Place, e: &Expr<'t>) -> Walked
+pub(crate) fn sent<'t>(walk: &mut Check<'t>, at: Place, e: &Expr<'t>) -> Walked
     ensures { (around : AroundNode) → OnOk result (Walks walk.old.scopes (held_of at AnOn ++ expr_deeds_of walk.old.scopes false (expr_view e.now)) (on_breaches (sight_in walk.old.scopes around) (expr_view e.now)) walk.old walk.new) }
 {
     on(walk.alloc, &walk.scopes, e, &mut walk.first)?;

@@ -9,7 +9,7 @@ ghost use Rattle.dpl_checker.specs.Walks.{whole_told};
 ghost use Rattle.dpl_rules.specs.Sound.{behind_all, refusal_by, refusal as refusal_of};
 
 use crate::statement::stmts;
-use crate::walk::{Around, Walk};
+use crate::walk::{Around, Check};
 use dpl_bodies::outside::inner_reductions;
 use dpl_limits::{limits, sets_fit};
 use dpl_scopes::Scopes;
@@ -18,11 +18,11 @@ use dpl_tree::{Arena, Program, Stmt};
 use std::alloc::AllocError;
 
 // A walk before any statement.
-fn begin<'t>(arena: Arena<'t>) -> Result<Walk<'t>, AllocError>
+fn begin<'t>(arena: Arena<'t>) -> Result<Check<'t>, AllocError>
     ensures { IfOk result (λ walk. (walk.scopes ≡ top) × (walk.deeds.items ≡ []) × (walk.first ≡ None)) }
 {
     let alloc = arena.alloc();
-    Ok(Walk {
+    Ok(Check {
         alloc,
         arena,
         scopes: Scopes::new(alloc)?,
@@ -32,7 +32,7 @@ fn begin<'t>(arena: Arena<'t>) -> Result<Walk<'t>, AllocError>
 }
 
 // Behind a walk over all statements of a program: what is told of all deeds and of all declarations.
-fn tell_whole<'t>(walk: &mut Walk<'t>, statements: &[Stmt<'t>])
+fn tell_whole<'t>(walk: &mut Check<'t>, statements: &[Stmt<'t>])
     ensures { walk.new ≡ record walk.old { first = whole_told (stmts_of statements.now) (map deed_view walk.old.deeds.items) walk.old.first } }
 {
     inner_reductions(&walk.deeds, &mut walk.first);

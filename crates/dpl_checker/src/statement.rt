@@ -9,7 +9,7 @@ ghost use Rattle.dpl_tree.specs.Statements.{variables_view, with_view, stmt_view
 ghost use Rattle.dpl_checker.specs.Walks.{WalksStmt, WalksStmts, WalksBody, WalksElse};
 
 use crate::form::{assigned, called, declare, open_loop, open_shared, printed, sent, tested};
-use crate::walk::{Around, Walk, Walked, behind};
+use crate::walk::{Around, Check, Walked, behind};
 use dpl_bodies::Turns;
 use dpl_bodies::forall::forall_breaches;
 use dpl_bodies::task::task_breaches;
@@ -21,7 +21,7 @@ use dpl_tree::{Body, Coforall, Else, For, Forall, If, On, Stmt, While};
 
 /// A statement.
 #[cycle(statement)]
-pub(crate) fn stmt<'t>(walk: &mut Walk<'t>, around: Around<'t>, stmt: &Stmt<'t>) -> Walked
+pub(crate) fn stmt<'t>(walk: &mut Check<'t>, around: Around<'t>, stmt: &Stmt<'t>) -> Walked
     ensures { OnOk result (WalksStmt around.entry (stmt_view stmt.now) walk.old walk.new) }
 {
     match stmt {
@@ -47,7 +47,7 @@ pub(crate) fn stmt<'t>(walk: &mut Walk<'t>, around: Around<'t>, stmt: &Stmt<'t>)
 
 /// Statements, one behind the other.
 #[cycle(statement)]
-pub(crate) fn stmts<'t>(walk: &mut Walk<'t>, around: Around<'t>, stmts: &[Stmt<'t>]) -> Walked
+pub(crate) fn stmts<'t>(walk: &mut Check<'t>, around: Around<'t>, stmts: &[Stmt<'t>]) -> Walked
     ensures { OnOk result (WalksStmts around.entry (stmts_of stmts.now) walk.old walk.new) }
 {
     for next in stmts {
@@ -58,7 +58,7 @@ pub(crate) fn stmts<'t>(walk: &mut Walk<'t>, around: Around<'t>, stmts: &[Stmt<'
 
 // A body, in a scope of its own.
 #[cycle(statement)]
-fn body<'t>(walk: &mut Walk<'t>, around: Around<'t>, body: &Body<'t>) -> Walked
+fn body<'t>(walk: &mut Check<'t>, around: Around<'t>, body: &Body<'t>) -> Walked
     ensures { OnOk result (WalksBody around.entry (body_view body.now) walk.old walk.new) }
 {
     walk.scopes.enter()?;
@@ -72,7 +72,7 @@ fn body<'t>(walk: &mut Walk<'t>, around: Around<'t>, body: &Body<'t>) -> Walked
 
 // What stands behind `else`, in a scope of its own.
 #[cycle(statement)]
-fn otherwise<'t>(walk: &mut Walk<'t>, around: Around<'t>, otherwise: &Else<'t>) -> Walked
+fn otherwise<'t>(walk: &mut Check<'t>, around: Around<'t>, otherwise: &Else<'t>) -> Walked
     ensures { OnOk result (WalksElse around.entry (else_view otherwise.now) walk.old walk.new) }
 {
     match otherwise {
@@ -88,7 +88,7 @@ fn otherwise<'t>(walk: &mut Walk<'t>, around: Around<'t>, otherwise: &Else<'t>) 
 
 // `if`, perhaps with `else`.
 #[cycle(statement)]
-fn choose<'t>(walk: &mut Walk<'t>, around: Around<'t>, choice: &If<'t>) -> Walked
+fn choose<'t>(walk: &mut Check<'t>, around: Around<'t>, choice: &If<'t>) -> Walked
     ensures { OnOk result (WalksStmt around.entry (IfTree choice.now.at (expr_view choice.now.condition.now) (body_view choice.now.body) (else_view choice.now.otherwise)) walk.old walk.new) }
 {
     tested(walk, choice.condition)?;
@@ -99,7 +99,7 @@ fn choose<'t>(walk: &mut Walk<'t>, around: Around<'t>, choice: &If<'t>) -> Walke
 
 // `while`.
 #[cycle(statement)]
-fn repeat<'t>(walk: &mut Walk<'t>, around: Around<'t>, turns: &While<'t>) -> Walked
+fn repeat<'t>(walk: &mut Check<'t>, around: Around<'t>, turns: &While<'t>) -> Walked
     ensures { OnOk result (WalksStmt around.entry (WhileTree turns.now.at (expr_view turns.now.condition.now) (body_view turns.now.body)) walk.old walk.new) }
 {
     tested(walk, turns.condition)?;
@@ -109,7 +109,7 @@ fn repeat<'t>(walk: &mut Walk<'t>, around: Around<'t>, turns: &While<'t>) -> Wal
 
 // `for`.
 #[cycle(statement)]
-fn for_turns<'t>(walk: &mut Walk<'t>, around: Around<'t>, turns: &For<'t>) -> Walked
+fn for_turns<'t>(walk: &mut Check<'t>, around: Around<'t>, turns: &For<'t>) -> Walked
     ensures { OnOk result (WalksStmt around.entry (ForTree turns.now.at (variables_view turns.now.variables) turns.now.within (item_view turns.now.over) (body_view turns.now.body)) walk.old walk.new) }
 {
     open_loop(walk, LoopWord::For, &turns.variables, &turns.over)?;
@@ -120,7 +120,7 @@ fn for_turns<'t>(walk: &mut Walk<'t>, around: Around<'t>, turns: &For<'t>) -> Wa
 
 // `forall`: the rules on its body speak of what that does.
 #[cycle(statement)]
-fn forall_turns<'t>(walk: &mut Walk<'t>, around: Around<'t>, turns: &Forall<'t>) -> Walked
+fn forall_turns<'t>(walk: &mut Check<'t>, around: Around<'t>, turns: &Forall<'t>) -> Walked
     ensures { OnOk result (WalksStmt around.entry (ForallTree turns.now.at (variables_view turns.now.variables) turns.now.within (item_view turns.now.over) (optional with_view turns.now.with) (body_view turns.now.body)) walk.old walk.new) }
 {
     let seen = Turns {
@@ -158,7 +158,7 @@ fn forall_turns<'t>(walk: &mut Walk<'t>, around: Around<'t>, turns: &Forall<'t>)
 
 // `coforall`: the rules on its body speak of what its intents and that do.
 #[cycle(statement)]
-fn coforall_tasks<'t>(walk: &mut Walk<'t>, around: Around<'t>, tasks: &Coforall<'t>) -> Walked
+fn coforall_tasks<'t>(walk: &mut Check<'t>, around: Around<'t>, tasks: &Coforall<'t>) -> Walked
     ensures { OnOk result (WalksStmt around.entry (CoforallTree tasks.now.at (variables_view tasks.now.variables) tasks.now.within (item_view tasks.now.over) (optional with_view tasks.now.with) (body_view tasks.now.body)) walk.old walk.new) }
 {
     let depth = walk.scopes.depth();
@@ -184,7 +184,7 @@ fn coforall_tasks<'t>(walk: &mut Walk<'t>, around: Around<'t>, tasks: &Coforall<
 
 // `on`.
 #[cycle(statement)]
-fn on_locale<'t>(walk: &mut Walk<'t>, around: Around<'t>, there: &On<'t>) -> Walked
+fn on_locale<'t>(walk: &mut Check<'t>, around: Around<'t>, there: &On<'t>) -> Walked
     ensures { OnOk result (WalksStmt around.entry (OnTree there.now.at (expr_view there.now.locale.now) (body_view there.now.body)) walk.old walk.new) }
 {
     sent(walk, there.at, there.locale)?;

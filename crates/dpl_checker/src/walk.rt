@@ -1,4 +1,4 @@
-// A walk over a program: the names in sight, what the program did so far, and the first breach that was told.
+// How far the check of a program is: the names in sight, what the program did so far, and the first breach that was told.
 // Its parts are changed by the functions of the forms, one after the other.
 
 ghost use Rattle.std.specs.Prelude.{◌≡◌, drop};
@@ -22,7 +22,7 @@ pub(crate) struct Around<'t> {
 
 /// The names in sight, what the program did so far, and the first breach that was told.
 #[derive(Drop)]
-pub(crate) struct Walk<'t> {
+pub(crate) struct Check<'t> {
     pub alloc: Global,
     pub arena: Arena<'t>,
     pub scopes: Scopes<'t>,

@@ -20,7 +20,7 @@ use std::alloc::Global;
 
 // The scopes so far, and the arrays over a domain in them, of which those of the innermost scope come first.
 #[derive(Drop)]
-struct Walk<'s> {
+struct Replay<'s> {
     before: Scopes<'s>,
     slots: Vec<usize>,
     inner: usize,
@@ -102,9 +102,9 @@ fn is_over(before: &Scopes<'_>, declared: Declared<'_>, slot: usize) -> bool
     }
 }
 
-impl<'s> Walk<'s> {
+impl<'s> Replay<'s> {
     // No scope is open.
-    fn begin(alloc: Global) -> Result<Walk<'s>, NoNode>
+    fn begin(alloc: Global) -> Result<Replay<'s>, NoNode>
         ensures before { IfOk result (λ walk. walk.before ≡ []) }
         ensures found { IfOk result (λ walk. walk.slots.items ≡ []) }
         ensures inner { IfOk result (λ walk. walk.inner ≡ 0) }
@@ -113,7 +113,7 @@ impl<'s> Walk<'s> {
         match Scopes::new(alloc) {
             Ok(mut before) => {
                 before.leave();
-                Ok(Walk {
+                Ok(Replay {
                     before,
                     slots: Vec::new(alloc),
                     inner: 0,
@@ -190,7 +190,7 @@ impl<'s> Walk<'s> {
     }
 }
 
-impl<'s> Walk<'s> {
+impl<'s> Replay<'s> {
     // A mark is gone by.
     fn pass(&mut self, mark: &Mark<'s>, slot: usize) -> Result<(), NoNode>
         requires found { IsFoundBy slot self.old.before self.old.slots.items self.old.inner }
@@ -207,11 +207,11 @@ impl<'s> Walk<'s> {
 }
 
 // All scopes are gone through.
-fn walked<'s>(alloc: Global, scopes: &Scopes<'s>, slot: usize) -> Result<Walk<'s>, NoNode>
+fn walked<'s>(alloc: Global, scopes: &Scopes<'s>, slot: usize) -> Result<Replay<'s>, NoNode>
     ensures found { IfOk result (λ walk. walk.slots.items ≡ arrays_over_of slot (sight_of scopes.now)) }
     ensures ill_typed { result ≢ Err stop.IllTyped }
 {
-    let mut walk = Walk::begin(alloc)?;
+    let mut walk = Replay::begin(alloc)?;
     let marks = scopes.marks();
     for mark in marks {
         walk.pass(mark, slot)?;

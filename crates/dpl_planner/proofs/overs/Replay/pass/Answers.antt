@@ -3,7 +3,7 @@ use Rattle.std.proofs.Common.{sym, ap, subst}
 use Rattle.std.specs.Prelude.{OnOk}
 use Rattle.dpl_planner.specs.Overs.{IsFoundBy, passed}
 use Rattle.dpl_planner.proofs.FoundArrays.{found-entered, on_both}
-use Rattle.dpl_planner.proofs.overs.Walk.pass.Goals as goal
+use Rattle.dpl_planner.proofs.overs.Replay.pass.Goals as goal
 
 pub returns-in-Opens-clause-found : goal.returns-in-Opens-clause-found
 returns-in-Opens-clause-found c =

@@ -5,7 +5,7 @@ use Rattle.dpl_scopes.specs.Types.{of_type}
 use Rattle.dpl_scopes.specs.View.{declared_view}
 use Rattle.dpl_typer.specs.Leaves.{kind_by, leaf_by}
 use Rattle.dpl_planner.proofs.FoundArrays.{found-array, found-other, on_both}
-use Rattle.dpl_planner.proofs.overs.Walk.note.Goals as goal
+use Rattle.dpl_planner.proofs.overs.Replay.note.Goals as goal
 
 pub returns-then-is_over-clause-found : goal.returns-then-is_over-clause-found
 returns-then-is_over-clause-found c =
