@@ -1,115 +1,74 @@
 #!/bin/sh
-# Builds the program dpl. Its crates are proved on the way, those side by side that don't stand on one another.
-# usage: scripts/build.sh. Tells on standard error how far it is and, if a crate fails, which one and where its log is.
+# Builds the program dpl from its sources into out/dpl. Its crates are proved on the way, those side by side that don't stand on one another.
+# A crate that an earlier run has built is built again only where its text or that of one below it has changed.
+# usage: scripts/build.sh. Tells on standard error what is proved now and, if a crate fails, which one and where its log is.
+# Ends with status 69 where the toolchain or make is missing, and with 70 where a crate fails.
 set -eu
 
-top=$(cd "$(dirname "$0")/.." && pwd)
-work=$(mktemp -d)
-began=$(date +%s)
+top=$(cd "$(dirname "$(readlink -f "$0")")/.." && pwd)
+. "$top/scripts/executable.sh"
 
-# The crates of this repository that a crate stands on by its line of crates.txt.
-libraries() {
-    for library in $(sed -n "s/^$1: *//p" "$top/crates.txt"); do
-        if [ -d "$top/crates/$library" ]; then echo "$library"; fi
-    done
+stop() {
+    echo "dpl: $1" >&2
+    exit 69
 }
 
-# All crates that a crate stands on, lowest first.
-below() {
-    for library in $(libraries "$1"); do
-        below "$library"
-        echo "$library"
-    done | awk '!seen[$0]++'
+command -v rt > /dev/null || stop "built/ gives no program of these sources, and the toolchain that builds one is missing: there is no command rt on PATH"
+command -v make > /dev/null || stop "to build the program takes make, and there is no such command on PATH"
+
+# What build-crate.sh needs.
+kit=$(dirname "$(rt doc)")
+toolchain=$(rt version)
+room=$(mktemp -d)
+clears=$(if [ -t 2 ]; then printf '\r\033[K'; fi)
+export kit toolchain room clears
+mkdir "$room/begun" "$room/done" "$room/failed"
+
+began=$(date +%s.%N)
+
+# As many crates at a time as there are processors, each with 3 GB of memory.
+crates_at_once() {
+    awk -v cores="$(nproc)" '/^MemAvailable:/ { room = int($2 / 3000000) } END { print room < 1 ? 1 : room < cores ? room : cores }' /proc/meminfo
 }
 
-# A copy of a crate without what is built of it but its library, so that crates over it can be built side by side.
-copy_crate() {
-    mkdir -p "$2/crates/$1/out"
-    (cd "$top/crates/$1" && tar -cf - --exclude=./out .) | tar -C "$2/crates/$1" -xf -
-    if [ -d "$top/crates/$1/out/rlib" ]; then cp -r "$top/crates/$1/out/rlib" "$2/crates/$1/out"; fi
-    grep "^$1:" "$top/crates.txt" >> "$2/crates.txt"
-}
-
-# Hands over what a room has built of a crate, and what its next check starts from.
-hand_over() {
-    mkdir -p "$top/crates/$1/out"
-    for made in "$work/$1/crates/$1/out"/*; do
-        rm -rf "$top/crates/$1/out/$(basename "$made")"
-        mv "$made" "$top/crates/$1/out"
-    done
-}
-
-# Builds one crate in a room of its own.
-build_crate() {
-    room=$work/$1
-    mkdir -p "$room"
-    cp "$top/HANDLES" "$room"
-    for crate in $(below "$1") "$1"; do copy_crate "$crate" "$room"; done
-    if [ -d "$top/crates/$1/out/incremental" ]; then mv "$top/crates/$1/out/incremental" "$room/crates/$1/out"; fi
-    if [ "$1" = dpl ]; then verb=run; else verb=lib; fi
-    status=0
-    (cd "$room/crates/$1" && rt "$verb" < /dev/null) > "$work/$1.log" 2>&1 || status=$?
-    hand_over "$1"
-    rm -rf "$room"
-    if [ "$status" = 0 ]; then touch "$work/$1.done"; else touch "$work/$1.failed"; fi
-}
-
-crates="$(below dpl) dpl"
-count=$(echo "$crates" | wc -w)
-
-is_done() { [ -e "$work/$1.done" ]; }
-
-# Whether all crates that a crate stands on are built.
-is_ready() {
-    for library in $(below "$1"); do is_done "$library" || return 1; done
-}
-
-# One line that is written over in a terminal; elsewhere a line for each crate that is built.
+# How far the build is: a line that is written over in a terminal; elsewhere a line whenever another crate is begun.
 tell() {
-    seconds=$(($(date +%s) - began))
-    built=$(find "$work" -maxdepth 1 -name '*.done' | wc -l)
+    crates=$(ls "$room/begun")
+    done=$(ls "$room/done" | wc -l)
+    line=$(printf 'building dpl: %d of %d crates, %d s, now %s' "$done" "$count" $(($(date +%s) - ${began%.*})) "$(echo $crates)")
     if [ -t 2 ]; then
-        printf '\rbuilding dpl: crate %d of %d, %d s (%s)\033[K' "$built" "$count" "$seconds" "$(echo $running)" >&2
-    elif [ "$built" != "$told" ]; then
-        told=$built
-        printf 'building dpl: crate %d of %d, %d s\n' "$built" "$count" "$seconds" >&2
+        printf '%s%.79s' "$clears" "$line" >&2
+    elif [ "$crates" != "$told" ]; then
+        echo "$line" >&2
     fi
+    told=$crates
 }
 
-# The crates that are being built are built to their end, so that nothing of them is lost.
-fail() {
-    if [ -t 2 ]; then echo >&2; fi
-    log=${TMPDIR:-/tmp}/dpl-build-$1.log
-    cp "$work/$1.log" "$log"
-    echo "building dpl: $1 failed; its log is $log" >&2
-    wait
-    exit 70
+tell_each_second() {
+    told=
+    while sleep 1 2> /dev/null; do tell; done
 }
 
-trap 'rm -rf "$work"' EXIT
+mkdir -p "$top/out"
+exec 9> "$top/out/lock"
+if ! flock -n 9; then
+    echo "building dpl: waiting for another build to end" >&2
+    flock 9
+fi
+
+"$top/scripts/build-rules.sh" > "$room/rules"
+count=$(grep -c '^all: ' "$room/rules")
+tell_each_second 9>&- &
+trap 'kill $!; rm -rf "$room"' EXIT
 trap 'exit 130' INT TERM
 
-waiting=$crates
-running=
-told=0
-while ! is_done dpl; do
-    still=
-    for crate in $waiting; do
-        if is_ready "$crate"; then
-            build_crate "$crate" &
-            running="$running $crate"
-        else
-            still="$still $crate"
-        fi
-    done
-    waiting=$still
-    sleep 1
-    now=
-    for crate in $running; do
-        if [ -e "$work/$crate.failed" ]; then fail "$crate"; fi
-        is_done "$crate" || now="$now $crate"
-    done
-    running=$now
-    tell
-done
-if [ -t 2 ]; then echo >&2; fi
+unset MAKEFLAGS MAKELEVEL
+if ! make -C "$top" -f "$room/rules" -j "$(crates_at_once)" 3>&2 > "$room/log" 2>&1; then
+    # make itself can fail too.
+    if [ -z "$(ls "$room/failed")" ]; then cat "$room/log" >&2; fi
+    exit 70
+fi
+part=$(mktemp "$top/out/dpl.XXXXXX")
+cp "$top/crates/dpl/out/rlib/dpl" "$part"
+place "$part" "$top/out/dpl" "$began"
+printf '%sbuilding dpl: %d of %d crates, %d s\n' "$clears" "$count" "$count" $(($(date +%s) - ${began%.*})) >&2

@@ -1,0 +1,29 @@
+#!/bin/sh
+# Holds built/ to the sources: its sum and its toolchain's line are theirs, and it unpacks to the executable given, stripped, byte for byte.
+# usage: scripts/compare-built.sh [EXECUTABLE]. With none it takes crates/dpl/out/dpl; where that is missing or older than the sources, it says so
+# and compares the sum and the line alone. It is silent where all is the same. Else it names what differs and how to mend it, with status 1.
+set -eu
+
+top=$(cd "$(dirname "$(readlink -f "$0")")/.." && pwd)
+. "$top/scripts/executable.sh"
+
+refuse() {
+    echo "built/ $1: run scripts/refresh-built.sh, and commit what it writes" >&2
+    exit 1
+}
+
+executable=${1:-$top/crates/dpl/out/dpl}
+is_built_of "$(sum_of_sources)" || refuse "is not of these sources"
+if ! command -v rt > /dev/null; then
+    echo "compare-built: there is no toolchain, so the sum of the sources alone was compared" >&2
+    exit 0
+fi
+[ "$(cat "$top/built/toolchain")" = "$(rt version)" ] || refuse "is by $(cat "$top/built/toolchain"), and the toolchain is $(rt version)"
+if [ $# = 0 ] && ! is_current "$executable"; then
+    echo "compare-built: there is no executable of these sources in crates/dpl/out, so the sum and the toolchain's line alone were compared" >&2
+    exit 0
+fi
+room=$(mktemp -d)
+trap 'rm -rf "$room"' EXIT
+strip_to "$room" "$executable"
+gzip -dc "$top/built/dpl.gz" | cmp -s - "$room/dpl" || refuse "unpacks to other bytes than $executable has, stripped"
