@@ -72,8 +72,9 @@ PROGRAM
 { echo 's = 0'; yes 's = s + 1' | head -n 50000; echo 'print(s)'; } > "$work/statements.py"
 head -c 1048576 /dev/zero | tr '\0' ' ' > "$work/spaces.chpl"
 
-"$top/dpl" < /dev/null
-dpl=$top/crates/dpl/out/dpl
+. "$top/scripts/executable.sh"
+find_executable
+dpl=$executable
 cp "$top"/benches/programs/* "$work"
 for program in turns collatz sieve line plane plate sums promoted assigned printed; do cc -O2 -o "$work/$program" "$work/$program.c"; done
 

@@ -52,9 +52,11 @@ if [ "$(cat "$built/sources" 2> /dev/null)" != "$sum" ]; then
     mkdir -p "$built"
     kind=library
     if [ -e src/main.rt ]; then kind=program; fi
-    if ! "build_$kind" > "$log" 2>&1; then
+    status=0
+    "build_$kind" > "$log" 2>&1 || status=$?
+    if [ "$status" != 0 ]; then
         mv "$room/begun/$crate" "$room/failed"
-        printf '%sbuilding dpl: %s failed; its log is %s\n' "$clears" "$crate" "$log" >&3
+        printf '%sbuilding dpl: %s failed with status %d; its log is %s\n' "$clears" "$crate" "$status" "$log" >&3
         exit 1
     fi
     echo "$sum" > "$built/sources"

@@ -16,16 +16,6 @@ stop() {
 command -v rt > /dev/null || stop "built/ gives no program of these sources, and the toolchain that builds one is missing: there is no command rt on PATH"
 command -v make > /dev/null || stop "to build the program takes make, and there is no such command on PATH"
 
-# What build-crate.sh needs.
-kit=$(dirname "$(rt doc)")
-toolchain=$(rt version)
-room=$(mktemp -d)
-clears=$(if [ -t 2 ]; then printf '\r\033[K'; fi)
-export kit toolchain room clears
-mkdir "$room/begun" "$room/done" "$room/failed"
-
-began=$(date +%s.%N)
-
 # As many crates at a time as there are processors, each with 3 GB of memory.
 crates_at_once() {
     awk -v cores="$(nproc)" '/^MemAvailable:/ { room = int($2 / 3000000) } END { print room < 1 ? 1 : room < cores ? room : cores }' /proc/meminfo
@@ -33,9 +23,9 @@ crates_at_once() {
 
 # How far the build is: a line that is written over in a terminal; elsewhere a line whenever another crate is begun.
 tell() {
-    crates=$(ls "$room/begun")
-    done=$(ls "$room/done" | wc -l)
-    line=$(printf 'building dpl: %d of %d crates, %d s, now %s' "$done" "$count" $(($(date +%s) - ${began%.*})) "$(echo $crates)")
+    crates=$(find "$room/begun" -type f -printf ' %f')
+    built=$(find "$room/done" -type f -printf x | wc -c)
+    line=$(printf 'building dpl: %d of %d crates, %d s, now%s' "$built" "$count" $(($(date +%s) - ${began%.*})) "$crates")
     if [ -t 2 ]; then
         printf '%s%.79s' "$clears" "$line" >&2
     elif [ "$crates" != "$told" ]; then
@@ -46,7 +36,7 @@ tell() {
 
 tell_each_second() {
     told=
-    while sleep 1 2> /dev/null; do tell; done
+    while sleep 1 > /dev/null 2>&1; do tell; done
 }
 
 mkdir -p "$top/out"
@@ -56,14 +46,27 @@ if ! flock -n 9; then
     flock 9
 fi
 
+# build-crate.sh takes these, and writes into the room which crates are begun, done and failed.
+kit=$(dirname "$(rt doc)")
+toolchain=$(rt version)
+clears=$(if [ -t 2 ]; then printf '\r\033[K'; fi)
+room=$(mktemp -d)
+export kit toolchain clears room
+trap 'rm -rf "$room"' EXIT
+mkdir "$room/begun" "$room/done" "$room/failed"
+
+began=$(date +%s.%N)
 "$top/scripts/build-rules.sh" > "$room/rules"
 count=$(grep -c '^all: ' "$room/rules")
 tell_each_second 9>&- &
-trap 'kill $!; rm -rf "$room"' EXIT
+teller=$!
+trap 'kill "$teller" 2> /dev/null || true; rm -rf "$room"' EXIT
 trap 'exit 130' INT TERM
-
 unset MAKEFLAGS MAKELEVEL
-if ! make -C "$top" -f "$room/rules" -j "$(crates_at_once)" 3>&2 > "$room/log" 2>&1; then
+status=0
+make -C "$top" -f "$room/rules" -j "$(crates_at_once)" 3>&2 > "$room/log" 2>&1 || status=$?
+kill "$teller"
+if [ "$status" != 0 ]; then
     # make itself can fail too.
     if [ -z "$(ls "$room/failed")" ]; then cat "$room/log" >&2; fi
     exit 70
