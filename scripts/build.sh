@@ -2,7 +2,7 @@
 # Builds the program dpl from its sources into out/dpl. Its crates are proved on the way, those side by side that don't stand on one another.
 # A crate that an earlier run has built is built again only where its text or that of one below it has changed.
 # usage: scripts/build.sh. Tells on standard error what is proved now and, if a crate fails, which one and where its log is.
-# Ends with status 69 where the toolchain or make is missing, and with 70 where a crate fails.
+# Ends with status 69 where the toolchain, make or the right to write is missing, and with 70 where a crate fails.
 set -eu
 
 top=$(cd "$(dirname "$(readlink -f "$0")")/.." && pwd)
@@ -13,8 +13,10 @@ stop() {
     exit 69
 }
 
-command -v rt > /dev/null || stop "built/ gives no program of these sources, and the toolchain that builds one is missing: there is no command rt on PATH"
-command -v make > /dev/null || stop "to build the program takes make, and there is no such command on PATH"
+none="built/ gives no program of these sources, and"
+command -v rt > /dev/null || stop "$none the toolchain that builds one is missing: there is no command rt on PATH"
+command -v make > /dev/null || stop "$none to build one takes make, which is not on PATH"
+if ! mkdir -p "$top/out" 2> /dev/null || ! [ -w "$top/out" ]; then stop "$none to build one takes the right to write in $top"; fi
 
 # As many crates at a time as there are processors, each with 3 GB of memory.
 crates_at_once() {
@@ -39,7 +41,6 @@ tell_each_second() {
     while sleep 1 > /dev/null 2>&1; do tell; done
 }
 
-mkdir -p "$top/out"
 exec 9> "$top/out/lock"
 if ! flock -n 9; then
     echo "building dpl: waiting for another build to end" >&2
@@ -64,7 +65,7 @@ trap 'kill "$teller" 2> /dev/null || true; rm -rf "$room"' EXIT
 trap 'exit 130' INT TERM
 unset MAKEFLAGS MAKELEVEL
 status=0
-make -C "$top" -f "$room/rules" -j "$(crates_at_once)" 3>&2 > "$room/log" 2>&1 || status=$?
+make -C "$top" -f "$room/rules" -j "$(crates_at_once)" 3>&2 < /dev/null > "$room/log" 2>&1 || status=$?
 kill "$teller"
 if [ "$status" != 0 ]; then
     # make itself can fail too.
