@@ -2,19 +2,13 @@
 -- A row says which breach is the first of a text whose second line it is, or of a text by itself.
 use Rattle.std.proofs.Common.{◌≡◌, [], refl, true, false}
 use Rattle.std.specs.Prelude.{ℕ, pos, codes, List, Option, Some, None}
-use Rattle.dpl_syntax.specs.declared.place.Place.{Place}
 use Rattle.dpl_language.specs.Tree.{ArrayType, BoolKind, By, Closed, Declare, DomainLiteral, FirstItem, HereWord, IntKind, ItemInit, Named, NextItem, NoItems, NoStmts}
 use Rattle.dpl_language.specs.Tree.{NoStride, Number, One, RangeItem, ScalarType, SyncType, Then}
-use Rattle.dpl_language.specs.Tree.{Stmts, Items, CreateWord, CreateTree, ProgramTree}
+use Rattle.dpl_language.specs.Tree.{Stmts, ProgramTree}
 use Rattle.dpl_language.proofs.Spelled.{at, name, array_type, declared, initial, typed}
 use Rattle.dpl_syntax.specs.declared.refusal.Code.{Code}
 use Rattle.dpl_syntax.specs.declared.refusal.Breach.{Breach}
 use Rattle.dpl_rules.specs.Breaches.{breaches, first_breach}
-
--- the record that no other sample spells, by its fields in order
-abbrev pub created : Place → CreateWord → Place → Place → Place → Items (List ℕ) → Place → CreateTree (List ℕ)
-created at word dot method from items upto =
-    record { at = at; word = word; dot = dot; method = method; from = from; items = items; upto = upto }
 
 abbrev pub program : Stmts (List ℕ) → ProgramTree (List ℕ)
 program ts = record { uses = []; stmts = ts; end = at 1 1 }

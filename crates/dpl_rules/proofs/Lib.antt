@@ -1,9 +1,6 @@
 -- Worked rows: the first breach of sample texts, computed from the definitions.
 pub mod House
-pub mod Names
-pub mod Expressions
-pub mod Statements
-pub mod Foralls
+pub mod Rows
 pub mod Lists
 pub mod Runs
 pub mod Limits

@@ -1,0 +1,144 @@
+-- What the bodies of foralls and tasks write, read, change and hold, C6 to C10; and cells as plain variables, C12.
+-- Each row is computed from the text's bytes on; those behind the house's line are on line 2.
+use Rattle.std.proofs.Common.{◌≡◌, refl, None}
+use Rattle.std.specs.Prelude.{codes}
+use Rattle.dpl_syntax.specs.declared.refusal.Code.TheVariants.{CellMisused, NotInCoforall, NotInForall, OuterChanged, ReadElsewhere, WrittenElsewhere}
+use Rattle.dpl_worked.proofs.Texts.{in_house, told, by_text}
+
+-- ---- C6, an array that isn't written at the own index
+written_at_the_next : in_house (codes "forall i in D do A[i + 1] = 1;") ≡ told 2 18 WrittenElsewhere
+unfolding by_text
+written_at_the_next = refl
+
+written_whole : in_house (codes "forall i in D do A = 1;") ≡ told 2 18 WrittenElsewhere
+unfolding by_text
+written_whole = refl
+
+written_at_a_hidden_variable : in_house (codes "forall i in D { const i = 1; A[i] = 2; }") ≡ told 2 30 WrittenElsewhere
+unfolding by_text
+written_at_a_hidden_variable = refl
+
+own_tuple_name : in_house (codes "forall t in E { B[t] = 1; B[(t)] += B[t]; }") ≡ None
+unfolding by_text
+own_tuple_name = refl
+
+arrays_of_two_roots : in_house (codes "forall i in 1..8 { A[i] = 1; G[i] = A[i]; F[i] = true; }") ≡ None
+unfolding by_text
+arrays_of_two_roots = refl
+
+-- ---- C7, an array that is written is read elsewhere
+neighbour_read : in_house (codes "forall i in D do A[i] = A[i - 1];") ≡ told 2 25 ReadElsewhere
+unfolding by_text
+neighbour_read = refl
+
+own_element_read : in_house (codes "forall i in D do A[i] = A[i] + A((i)) + C[i + 1];") ≡ None
+unfolding by_text
+own_element_read = refl
+
+-- ---- C7 in a promoted assignment
+target_read_by_index : in_house (codes "A = C + A[1];") ≡ told 2 9 ReadElsewhere
+unfolding by_text
+target_read_by_index = refl
+
+-- ---- C8, an outer scalar, locale or domain that is changed, or a reduce variable that is read
+outer_int_set : in_house (codes "forall i in D do n = 1;") ≡ told 2 18 OuterChanged
+unfolding by_text
+outer_int_set = refl
+
+outer_domain_set : in_house (codes "forall i in D do V = {1..2};") ≡ told 2 18 OuterChanged
+unfolding by_text
+outer_domain_set = refl
+
+reduce_variable_lowered : in_house (codes "forall i in D with (+ reduce n) do n -= 1;") ≡ told 2 36 OuterChanged
+unfolding by_text
+reduce_variable_lowered = refl
+
+sum_multiplied : in_house (codes "forall i in D with (+ reduce n) do n *= i;") ≡ told 2 36 OuterChanged
+unfolding by_text
+sum_multiplied = refl
+
+reduce_variable_read : in_house (codes "forall i in D with (+ reduce n) do n += n;") ≡ told 2 41 OuterChanged
+unfolding by_text
+reduce_variable_read = refl
+
+sum : in_house (codes "forall i in D with (+ reduce n) do n += i;") ≡ None
+unfolding by_text
+sum = refl
+
+-- ---- C9, what a forall's body doesn't hold
+print_in_a_forall : in_house (codes "forall i in D do write(i);") ≡ told 2 18 NotInForall
+unfolding by_text
+print_in_a_forall = refl
+
+forall_in_a_forall : in_house (codes "forall i in D do forall j in D do ;") ≡ told 2 18 NotInForall
+unfolding by_text
+forall_in_a_forall = refl
+
+coforall_in_a_forall : in_house (codes "forall i in D do coforall j in r do ;") ≡ told 2 18 NotInForall
+unfolding by_text
+coforall_in_a_forall = refl
+
+reduction_in_a_forall : in_house (codes "forall i in D { const x = + reduce C; }") ≡ told 2 27 NotInForall
+unfolding by_text
+reduction_in_a_forall = refl
+
+cell_written_in_a_forall : in_house (codes "forall i in D do c.writeEF(1);") ≡ told 2 18 NotInForall
+unfolding by_text
+cell_written_in_a_forall = refl
+
+on_in_a_forall : in_house (codes "forall i in D do on h do ;") ≡ told 2 18 NotInForall
+unfolding by_text
+on_in_a_forall = refl
+
+here_in_a_forall : in_house (codes "forall i in D { const x = here.id; }") ≡ told 2 27 NotInForall
+unfolding by_text
+here_in_a_forall = refl
+
+array_in_a_forall : in_house (codes "forall i in D do var P: [D] int;") ≡ told 2 18 NotInForall
+unfolding by_text
+array_in_a_forall = refl
+
+-- ---- C9 of a reduction in a promoted expression or in a map's argument
+reduction_in_a_promoted_right_side : in_house (codes "A = A + + reduce C;") ≡ told 2 9 NotInForall
+unfolding by_text
+reduction_in_a_promoted_right_side = refl
+
+reduction_in_a_box : in_house (codes "const x = D dmapped new blockDist(boundingBox={1..+ reduce A});") ≡ told 2 51 NotInForall
+unfolding by_text
+reduction_in_a_box = refl
+
+-- ---- C10, what a coforall's body doesn't write, hold or declare
+int_set_in_a_task : in_house (codes "coforall i in r do n = 1;") ≡ told 2 20 NotInCoforall
+unfolding by_text
+int_set_in_a_task = refl
+
+print_in_a_task : in_house (codes "coforall i in r do write(i);") ≡ told 2 20 NotInCoforall
+unfolding by_text
+print_in_a_task = refl
+
+array_in_a_task : in_house (codes "coforall i in r do var P: [D] int;") ≡ told 2 20 NotInCoforall
+unfolding by_text
+array_in_a_task = refl
+
+reduce_intent_of_a_coforall : in_house (codes "coforall i in r with (+ reduce n) do ;") ≡ told 2 23 NotInCoforall
+unfolding by_text
+reduce_intent_of_a_coforall = refl
+
+tasks :
+    in_house (codes "coforall i in r with (ref n, ref c) { var x = 0; x += i; c.writeEF(i); const y = c.readFE(); on Locales[0] do x = here.id; const w = 1..2; for j in w do x += A[j]; }")
+    ≡ None
+unfolding by_text
+tasks = refl
+
+-- ---- C12, a cell as a plain variable, or read out of its places
+cell_as_a_value : in_house (codes "n = c;") ≡ told 2 5 CellMisused
+unfolding by_text
+cell_as_a_value = refl
+
+cell_set : in_house (codes "c = 1;") ≡ told 2 1 CellMisused
+unfolding by_text
+cell_set = refl
+
+cell_read_as_an_operand : in_house (codes "n = c.readFE() + 1;") ≡ told 2 5 CellMisused
+unfolding by_text
+cell_read_as_an_operand = refl
