@@ -1,9 +1,9 @@
 -- What the bodies of foralls and tasks write, read, change and hold, C6 to C10; and cells as plain variables, C12.
 -- Each row is computed from the text's bytes on; those behind the house's line are on line 2.
-use Rattle.std.proofs.Common.{◌≡◌, refl, None}
+use Rattle.std.proofs.Common.{◌≡◌, refl}
 use Rattle.std.specs.Prelude.{codes}
 use Rattle.dpl_syntax.specs.declared.refusal.Code.TheVariants.{CellMisused, NotInCoforall, NotInForall, OuterChanged, ReadElsewhere, WrittenElsewhere}
-use Rattle.dpl_worked.proofs.Texts.{in_house, told, by_text}
+use Rattle.dpl_worked.proofs.Texts.{in_house, told, sound, by_text}
 
 -- ---- C6, an array that isn't written at the own index
 written_at_the_next : in_house (codes "forall i in D do A[i + 1] = 1;") ≡ told 2 18 WrittenElsewhere
@@ -18,11 +18,11 @@ written_at_a_hidden_variable : in_house (codes "forall i in D { const i = 1; A[i
 unfolding by_text
 written_at_a_hidden_variable = refl
 
-own_tuple_name : in_house (codes "forall t in E { B[t] = 1; B[(t)] += B[t]; }") ≡ None
+own_tuple_name : in_house (codes "forall t in E { B[t] = 1; B[(t)] += B[t]; }") ≡ sound
 unfolding by_text
 own_tuple_name = refl
 
-arrays_of_two_roots : in_house (codes "forall i in 1..8 { A[i] = 1; G[i] = A[i]; F[i] = true; }") ≡ None
+arrays_of_two_roots : in_house (codes "forall i in 1..8 { A[i] = 1; G[i] = A[i]; F[i] = true; }") ≡ sound
 unfolding by_text
 arrays_of_two_roots = refl
 
@@ -31,7 +31,7 @@ neighbour_read : in_house (codes "forall i in D do A[i] = A[i - 1];") ≡ told 2
 unfolding by_text
 neighbour_read = refl
 
-own_element_read : in_house (codes "forall i in D do A[i] = A[i] + A((i)) + C[i + 1];") ≡ None
+own_element_read : in_house (codes "forall i in D do A[i] = A[i] + A((i)) + C[i + 1];") ≡ sound
 unfolding by_text
 own_element_read = refl
 
@@ -61,7 +61,7 @@ reduce_variable_read : in_house (codes "forall i in D with (+ reduce n) do n += 
 unfolding by_text
 reduce_variable_read = refl
 
-sum : in_house (codes "forall i in D with (+ reduce n) do n += i;") ≡ None
+sum : in_house (codes "forall i in D with (+ reduce n) do n += i;") ≡ sound
 unfolding by_text
 sum = refl
 
@@ -126,7 +126,7 @@ reduce_intent_of_a_coforall = refl
 
 tasks :
     in_house (codes "coforall i in r with (ref n, ref c) { var x = 0; x += i; c.writeEF(i); const y = c.readFE(); on Locales[0] do x = here.id; const w = 1..2; for j in w do x += A[j]; }")
-    ≡ None
+    ≡ sound
 unfolding by_text
 tasks = refl
 

@@ -1,6 +1,9 @@
--- Rows by text: what a text is refused for, computed from its bytes on. The tokens are found by a lexer that computes.
+-- A lexer that computes, and that it finds the tokens of the definition.
 pub mod Lexer
+pub mod Lexed
+-- What is computed of a text, and what that says of it.
 pub mod Texts
+-- Rows: what texts are refused for, one or a few for each rule.
 pub mod Names
 pub mod Expressions
 pub mod Statements
