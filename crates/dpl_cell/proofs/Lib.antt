@@ -1,5 +1,4 @@
 -- The lemmas, from plain lists up to the steps of a board and what its calls tell.
--- `Counting` and `Passing` are those of the clients in the tests.
 pub mod Numbers
 pub mod Views
 pub mod Looking
@@ -11,6 +10,4 @@ pub mod Joining
 pub mod Closing
 pub mod Opening
 pub mod Telling
-pub mod Counting
-pub mod Passing
 pub mod SeatLists

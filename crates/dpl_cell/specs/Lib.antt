@@ -6,6 +6,3 @@ pub mod Calls
 pub mod Rule
 pub mod Steps
 pub mod Shown
--- What the clients in the tests promise.
-pub mod Counting
-pub mod Passing

@@ -16,6 +16,3 @@ pub use cell::apply;
 pub use dpl_history::{CellOp, CellState, Event, Miss, Reply};
 pub use seat::Seat;
 pub use tried::{NoMemory, Stuck, Tried};
-
-#[cfg(test)]
-mod tests;

@@ -1,13 +1,13 @@
 -- `receive`: a readFE is one value more.
--- By `Passing`.
+-- By `PassingLemmas`.
 use Rattle.std.proofs.Common.{rules, ◌≡◌, ℤ, List, [], ◌∷◌, ◌++◌, sym, ap, ◌∙◌, subst}
 use Rattle.dpl_history.specs.declared.cell.CellOp.TheVariants.{ReadFE}
 use Rattle.dpl_history.specs.declared.cell.Reply.TheVariants.{Value}
 use Rattle.dpl_history.specs.declared.history.Event.{Event}
-use Rattle.dpl_cell.specs.Passing.{receives, HasDone}
+use Rattle.dpl_cell_tests.specs.Passing.{receives, HasDone}
 use Rattle.dpl_cell.proofs.Telling.{KeepsNumbers-trans}
-use Rattle.dpl_cell.proofs.Passing.{HasDone-push, receives-push}
-use Rattle.dpl_cell.proofs.tests.passing.receive.Goals as goal
+use Rattle.dpl_cell_tests.proofs.PassingLemmas.{HasDone-push, receives-push}
+use Rattle.dpl_cell_tests.proofs.passing.receive.Goals as goal
 
 pub loop-made-preserved : goal.loop-made-preserved
 loop-made-preserved c = let i = c.loop-made.invariant in let read = c.in-Ok.ensures in

@@ -5,9 +5,9 @@ ghost use Rattle.dpl_history.specs.Histories.{of_task, cell_at};
 ghost use Rattle.dpl_history.specs.Values.{content};
 ghost use Rattle.dpl_cell.specs.Seats.{IsSeatOf, fresh_seat};
 ghost use Rattle.dpl_cell.specs.Calls.{KeepsNumbers};
-ghost use Rattle.dpl_cell.specs.Passing.{sends, receives, HasDone};
+ghost use Rattle.dpl_cell_tests.specs.Passing.{sends, receives, HasDone};
 
-use crate::{Board, CellOp, CellState, Reply, Seat, Stuck};
+use dpl_cell::{Board, CellOp, CellState, Reply, Seat, Stuck};
 use std::alloc::Global;
 use std::thread::{Threads, join};
 

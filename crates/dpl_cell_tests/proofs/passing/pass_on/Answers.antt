@@ -1,12 +1,12 @@
 -- `pass_on`: the gatherer's seat knows what both tasks did, and the law of channels puts the two together.
--- By `Passing`.
+-- By `PassingLemmas`.
 use Rattle.std.proofs.Common.{rules, ◌≡◌, ℕ, [], ◌∷◌, vec_len, ap, ◌∙◌, subst}
 use Rattle.dpl_history.specs.declared.cell.CellState.TheVariants.{Empty}
 use Rattle.dpl_history.specs.Histories.{cell_at, of_task, AllUpTo}
 use Rattle.dpl_cell.specs.Seats.{fresh_seat}
-use Rattle.dpl_cell.specs.Passing.{sends, receives}
-use Rattle.dpl_cell.proofs.Passing.{passed_on, both_joined}
-use Rattle.dpl_cell.proofs.tests.passing.pass_on.Goals as goal
+use Rattle.dpl_cell_tests.specs.Passing.{sends, receives}
+use Rattle.dpl_cell_tests.proofs.PassingLemmas.{passed_on, both_joined}
+use Rattle.dpl_cell_tests.proofs.passing.pass_on.Goals as goal
 
 pub returns : goal.returns
 returns g c = let b = c.in-Ok.board in let s = c.join-sent.result.0.0 in let t = c.join-sent.result.1.0 in let w = c.join-2.new.seat in

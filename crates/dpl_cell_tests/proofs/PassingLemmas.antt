@@ -14,7 +14,7 @@ use Rattle.dpl_history.specs.Values.{content, put_by, taken_by, values_in, value
 use Rattle.dpl_history.proofs.Values.{HandsOn-channel, values_in-empty, All-of_task, values_in-of_task, values_out-of_task}
 use Rattle.dpl_cell.specs.Seats.{BoardValue, SeatValue, Has, fresh_seat}
 use Rattle.dpl_cell.specs.Calls.{KeepsNumbers, DidAfter, Joined}
-use Rattle.dpl_cell.specs.Passing.{sends, receives, HasDone}
+use Rattle.dpl_cell_tests.specs.Passing.{sends, receives, HasDone}
 use Rattle.dpl_cell.proofs.Numbers.{Has-head, Has-append_left, Has-append_right}
 use Rattle.dpl_cell.proofs.Telling.{DidAfter-mine}
 

@@ -3,8 +3,8 @@
 use Rattle.std.proofs.Common.{take}
 use Rattle.dpl_cell.specs.Seats.{IsSeatOf}
 use Rattle.dpl_cell.specs.Calls.{KeepsNumbers}
-use Rattle.dpl_cell.specs.Passing.{sends, HasDone}
-use Rattle.dpl_cell.proofs.tests.passing.send.Given as goal
+use Rattle.dpl_cell_tests.specs.Passing.{sends, HasDone}
+use Rattle.dpl_cell_tests.proofs.passing.send.Given as goal
 
 abbrev pub invariant-loop-value : goal.invariant-loop-value
 invariant-loop-value l = record {

@@ -19,7 +19,7 @@ use Rattle.dpl_history.proofs.Replies.{no_effect}
 use Rattle.dpl_cell.specs.declared.tried.Stuck.{Stuck}
 use Rattle.dpl_cell.specs.Seats.{BoardValue, SeatValue, IsSeatOf, Has, AnswersForAll, fresh_seat}
 use Rattle.dpl_cell.specs.Calls.{KeepsNumbers, DidAfter, Joined}
-use Rattle.dpl_cell.specs.Counting.{next, counted, takes, puts_next, Counts, HasCounted, HasCountedAlone, HaveCounted}
+use Rattle.dpl_cell_tests.specs.Counting.{next, counted, takes, puts_next, Counts, HasCounted, HasCountedAlone, HaveCounted}
 use Rattle.dpl_cell.proofs.Numbers.{Has-head, Has-append_left, Has-append_right}
 use Rattle.dpl_cell.proofs.Telling.{DidAfter-mine}
 use Rattle.dpl_cell.proofs.Views.{changed_at, changed_at-same, changed_at-other}

@@ -1,8 +1,8 @@
 -- `count_up`: a readFE and a writeEF are one round more.
--- By `Counting`.
-use Rattle.dpl_cell.proofs.Counting.{HasCounted-suc}
+-- By `CountingLemmas`.
+use Rattle.dpl_cell_tests.proofs.CountingLemmas.{HasCounted-suc}
 use Rattle.dpl_cell.proofs.Telling.{KeepsNumbers-trans}
-use Rattle.dpl_cell.proofs.tests.counting.count_up.Goals as goal
+use Rattle.dpl_cell_tests.proofs.counting.count_up.Goals as goal
 
 pub loop-made-preserved : goal.loop-made-preserved
 loop-made-preserved c = let i = c.loop-made.invariant in let read = c.in_ok-value.ensures in let wrote = c.in_ok-op.ensures in

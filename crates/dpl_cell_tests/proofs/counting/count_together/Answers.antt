@@ -1,11 +1,11 @@
 -- `count_together`: the gatherer's seat has taken in those of all tasks, so its history leaves the cell counted up.
--- By `Counting`.
+-- By `CountingLemmas`.
 use Rattle.std.proofs.Common.{rules, ◌≡◌, ℕ, ◌*◌, [], ◌∷◌, pos, vec_len, ap, ◌∙◌, subst}
 use Rattle.dpl_history.specs.declared.cell.CellState.TheVariants.{Full}
 use Rattle.dpl_cell.specs.Seats.{SeatValue, fresh_seat}
-use Rattle.dpl_cell.specs.Counting.{counted, HaveCounted}
-use Rattle.dpl_cell.proofs.Counting.{AnswersForAll-counted, after-all_counted, popped_one}
-use Rattle.dpl_cell.proofs.tests.counting.count_together.Goals as goal
+use Rattle.dpl_cell_tests.specs.Counting.{counted, HaveCounted}
+use Rattle.dpl_cell_tests.proofs.CountingLemmas.{AnswersForAll-counted, after-all_counted, popped_one}
+use Rattle.dpl_cell_tests.proofs.counting.count_together.Goals as goal
 
 pub close-requires-clause-all : goal.close-requires-clause-all
 close-requires-clause-all g c = let b = c.in-Ok.board in let s = c.in_ok-gatherer.gatherer in let n : ℕ = c.args.rounds in

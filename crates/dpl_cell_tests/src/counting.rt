@@ -4,9 +4,9 @@ ghost use Rattle.std.specs.Prelude.{◌≡◌, ℕ, ◌*◌, ◌<◌, ◌≤◌,
 ghost use Rattle.dpl_history.specs.declared.cell.CellState.TheVariants.{Full};
 ghost use Rattle.dpl_cell.specs.Seats.{IsSeatOf, AreFresh, fresh_seat};
 ghost use Rattle.dpl_cell.specs.Calls.{KeepsNumbers};
-ghost use Rattle.dpl_cell.specs.Counting.{counted, HasCounted, HasCountedAlone, HaveCounted};
+ghost use Rattle.dpl_cell_tests.specs.Counting.{counted, HasCounted, HasCountedAlone, HaveCounted};
 
-use crate::{Board, CellOp, CellState, Reply, Seat, Stuck};
+use dpl_cell::{Board, CellOp, CellState, Reply, Seat, Stuck};
 use std::alloc::Global;
 use std::sync::Wait;
 use std::thread::{self, Promise, Scope, Threads};
@@ -52,7 +52,7 @@ struct Counting<'a> {
 }
 
 impl<'a> Promise<(Seat, Result<(), Stuck>)> for Counting<'a> {
-    ghost use Rattle.dpl_cell.specs.Counting.{HasCountedAlone};
+    ghost use Rattle.dpl_cell_tests.specs.Counting.{HasCountedAlone};
 
     ghost kept_by = { λ p r. HasCountedAlone p.board.now p.number p.rounds r.0 r.1 };
 }

@@ -2,11 +2,11 @@
 -- What its thread promised says so.
 use Rattle.std.proofs.Common.{rules, ◌≡◌, ℕ, ◌+◌, [], ◌∷◌, vec_len, Result, IfOk, sym, ap, ◌∙◌, subst}
 use Rattle.dpl_history.specs.Histories.{of_task}
-use Rattle.dpl_cell.specs.declared.tests.counting.Counting.{Counting}
+use Rattle.dpl_cell_tests.specs.declared.counting.Counting.{Counting}
 use Rattle.dpl_cell.specs.declared.tried.Stuck.{Stuck}
-use Rattle.dpl_cell.specs.Counting.{Counts, HasCountedAlone, HaveCounted}
-use Rattle.dpl_cell.proofs.Counting.{HaveCounted-suc}
-use Rattle.dpl_cell.proofs.tests.counting.+start_all.Goals as goal
+use Rattle.dpl_cell_tests.specs.Counting.{Counts, HasCountedAlone, HaveCounted}
+use Rattle.dpl_cell_tests.proofs.CountingLemmas.{HaveCounted-suc}
+use Rattle.dpl_cell_tests.proofs.counting.+start_all.Goals as goal
 
 pub returns : goal.returns
 returns g t c =
