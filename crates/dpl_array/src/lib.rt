@@ -31,6 +31,3 @@ pub use piece_walk::PieceWalk;
 pub use pieces::Pieces;
 pub use reader::Reader;
 pub use walk::Walk;
-
-#[cfg(test)]
-mod tests;

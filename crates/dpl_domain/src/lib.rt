@@ -11,6 +11,3 @@ pub use dimensions::{Dimensions, Unused};
 pub use product::{Domain, DomainFault, MOST_INDICES};
 pub use tuple::Index;
 pub use walk::Cursor;
-
-#[cfg(test)]
-mod tests;

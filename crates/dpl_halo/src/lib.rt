@@ -16,6 +16,3 @@ pub use dpl_map::NoMemory;
 pub use halo::Halo;
 pub use loan::Loan;
 pub use shift::{Shift, Step};
-
-#[cfg(test)]
-mod tests;

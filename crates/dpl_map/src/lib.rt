@@ -15,6 +15,3 @@ mod products;
 pub use grid::{Grid, GridFault};
 pub use map::{Map, MapFault};
 pub use part::NoMemory;
-
-#[cfg(test)]
-mod tests;

@@ -1,0 +1,194 @@
+// Arrays in pieces, walked over and read and written by rows: what no program of the language does yet, and how long rows are.
+// That the values are right is what the contracts say; how many stand side by side no clause says.
+
+use crate::made::{block, cyclic, domain, in_blocks, index, squares};
+use dpl_array::{DArray, Pieces};
+use dpl_domain::{Domain, Index};
+use dpl_map::Map;
+use std::alloc::Global;
+use std::process::Abort;
+
+// The pieces are taken out and put back, the first first.
+fn turned(rt: &impl Abort, array: DArray<i64>) -> DArray<i64> {
+    let map = array.map();
+    let mut pieces = array.take_pieces();
+    let locales = map.locales();
+    for locale in 0..locales {
+        let piece = pieces.take(locale).expect(rt, "each locale has its piece");
+        assert!(rt; !pieces.is_whole());
+        assert!(rt; pieces.take(locale).is_none());
+        assert!(rt; pieces.put(piece).is_ok());
+    }
+    assert!(rt; pieces.take(locales).is_none());
+    assert!(rt; pieces.is_whole());
+    pieces.put_back()
+}
+
+// Each element is walked over once, and is the square that it should be.
+fn hold(rt: &impl Abort, array: &DArray<i64>) {
+    let mut walk = array.walk();
+    for _ in 0..array.domain().size() {
+        let (index, value) = walk.next().expect(rt, "an element for each index");
+        let (_, _, i) = index.numbers();
+        assert_eq!(rt; value, i.wrapping_mul(i));
+        assert_eq!(rt; array.get(index), Some(value));
+        assert_eq!(rt; array.get_line(i), Some(value));
+    }
+    assert!(rt; walk.next().is_none());
+}
+
+// The four maps of a line, on so many locales.
+fn maps(rt: &impl Abort, boxed: &str, locales: u32) -> [Map; 4] {
+    [
+        Map::whole(),
+        block(rt, boxed, &[locales]),
+        cyclic(rt, &[1], &[locales]),
+        in_blocks(rt, &[1], &[3], &[locales]),
+    ]
+}
+
+#[test]
+fn pieces(rt: HostRuntime) {
+    for text in ["1..40", "-20..20 by 3", "0..50 by -7", "5..5"] {
+        for map in maps(&rt, text, 4) {
+            let array = squares(&rt, rt.alloc(), domain(&rt, text), map);
+            hold(&rt, &array);
+            let array = turned(&rt, array);
+            hold(&rt, &array);
+            walked(&rt, &array);
+            assert!(&rt; array.get(index(&rt, &[100])).is_none());
+        }
+    }
+}
+
+// Each element of each piece is walked over once.
+fn walked(rt: &impl Abort, array: &DArray<i64>) {
+    let mut elements: u64 = 0;
+    for locale in 0..array.map().locales() {
+        let piece = array.piece(locale).expect(rt, "each locale has its piece");
+        let mut walk = piece.walk();
+        for _ in 0..array.domain().size() {
+            if let Some((index, value)) = walk.next() {
+                assert_eq!(rt; piece.get(index), Some(value));
+                elements = elements.wrapping_add(1);
+            }
+        }
+        assert!(rt; walk.next().is_none());
+    }
+    assert_eq!(rt; elements, array.domain().size());
+}
+
+// The pieces of an array of squares on two locales.
+fn pieces_of(rt: &impl Abort, alloc: Global, text: &str, map: Map) -> Pieces<i64> {
+    squares(rt, alloc, domain(rt, text), map).take_pieces()
+}
+
+// A piece of another map has no place, one of the same indices has, and a place that is taken hands back.
+#[test]
+fn strangers(rt: HostRuntime) {
+    let around = cyclic(&rt, &[1], &[2]);
+    let other = in_blocks(&rt, &[1], &[3], &[2]);
+    let mut pieces = pieces_of(&rt, rt.alloc(), "1..9 by 2", around);
+    let mut others = pieces_of(&rt, rt.alloc(), "1..9 by 2", other);
+    let mut alike = pieces_of(&rt, rt.alloc(), "1..10 by 2", around);
+    let own = pieces.take(1).expect(&rt, "a piece");
+    let stranger = others.take(1).expect(&rt, "a piece");
+    assert!(&rt; pieces.put(stranger).is_err());
+    assert!(&rt; pieces.put(alike.take(1).expect(&rt, "a piece")).is_ok());
+    let Err(piece) = pieces.put(own) else {
+        panic!(&rt; "the place is taken")
+    };
+    assert_eq!(&rt; piece.locale(), 1);
+}
+
+// How many values stand side by side from an index on. Each is the one that the array has there.
+fn run_at(rt: &impl Abort, array: &DArray<i64>, index: Index) -> usize {
+    let run = array.run(index);
+    let (_, row, column) = index.numbers();
+    let mut at = column;
+    for value in run {
+        let there = if index.rank() == 1 {
+            array.get_line(at)
+        } else {
+            array.get_plane(row, at)
+        };
+        assert_eq!(rt; there, Some(*value));
+        at = at.wrapping_add(1);
+    }
+    run.len()
+}
+
+// Of a line they go to the end of the part, where that has the stride 1, and else there are none.
+#[test]
+fn runs_of_a_line(rt: HostRuntime) {
+    let [whole, blocks, around, in_threes] = maps(&rt, "1..40", 4);
+    for (map, length) in [(whole, 34), (blocks, 4), (around, 0), (in_threes, 0)] {
+        let array = squares(&rt, rt.alloc(), domain(&rt, "1..40"), map);
+        assert_eq!(&rt; run_at(&rt, &array, index(&rt, &[7])), length);
+        assert_eq!(&rt; run_at(&rt, &array, index(&rt, &[41])), 0);
+        assert_eq!(&rt; run_at(&rt, &array, index(&rt, &[0])), 0);
+    }
+}
+
+// Of a plane they go to the end of the row.
+#[test]
+fn runs_of_a_plane(rt: HostRuntime) {
+    let plane = domain(&rt, "1..3,1..5");
+    let mut array = DArray::new(rt.alloc(), plane, Map::whole(), 0).expect(&rt, "memory");
+    assert!(&rt; array.set_plane(2, 3, 7));
+    assert_eq!(&rt; run_at(&rt, &array, index(&rt, &[1, 1])), 5);
+    assert_eq!(&rt; run_at(&rt, &array, index(&rt, &[2, 2])), 4);
+    assert_eq!(&rt; run_at(&rt, &array, index(&rt, &[3, 5])), 1);
+    assert_eq!(&rt; run_at(&rt, &array, index(&rt, &[2, 6])), 0);
+    assert_eq!(&rt; run_at(&rt, &array, index(&rt, &[4, 1])), 0);
+    assert_eq!(&rt; run_at(&rt, &array, index(&rt, &[2, 0])), 0);
+}
+
+// How many of some values were put side by side from an index on. They stand there then, and beside them still the squares.
+fn put_at(rt: &impl Abort, array: &mut DArray<i64>, index: Index, values: &[i64]) -> usize {
+    let put = array.set_run(index, values);
+    let (_, row, first) = index.numbers();
+    let mut indices = array.domain().cursor();
+    for _ in 0..array.domain().size() {
+        let there = indices.next().expect(rt, "an index for each turn");
+        let (_, i, j) = there.numbers();
+        let behind = j.wrapping_sub(first).cast_unsigned() as usize;
+        let value = if i == row && behind < put {
+            values.get(behind).copied()
+        } else {
+            Some(j.wrapping_mul(j))
+        };
+        assert_eq!(rt; array.get(there), value);
+    }
+    put
+}
+
+// So many first ones of eight values are put from an index on, and at most as many as there are places: no index has more.
+fn puts(rt: &impl Abort, alloc: Global, text: &str, map: Map, index: Index, places: usize) {
+    let many = [-1, -2, -3, -4, -5, -6, -7, -8];
+    for values in [&many[..0], &many[..1], &many[..3], &many[..8]] {
+        let mut array = squares(rt, alloc, domain(rt, text), map);
+        let put = put_at(rt, &mut array, index, values);
+        assert_eq!(rt; put, values.len().min(places));
+    }
+}
+
+// On a line they are put up to the end of the part, where that has the stride 1, and else none is.
+#[test]
+fn rows_put_on_a_line(rt: HostRuntime) {
+    let [whole, blocks, around, in_threes] = maps(&rt, "1..40", 4);
+    for (map, there) in [(whole, 4), (blocks, 4), (around, 0), (in_threes, 0)] {
+        puts(&rt, rt.alloc(), "1..40", map, index(&rt, &[37]), there);
+        puts(&rt, rt.alloc(), "1..40", map, index(&rt, &[41]), 0);
+        puts(&rt, rt.alloc(), "1..40", map, index(&rt, &[0]), 0);
+    }
+}
+
+// On a plane they are put up to the end of the row.
+#[test]
+fn rows_put_on_a_plane(rt: HostRuntime) {
+    let (plane, at) = ("1..3,1..8", index(&rt, &[2, 6]));
+    puts(&rt, rt.alloc(), plane, Map::whole(), at, 3);
+    puts(&rt, rt.alloc(), plane, block(&rt, plane, &[1, 2]), at, 3);
+    puts(&rt, rt.alloc(), plane, cyclic(&rt, &[1, 1], &[1, 2]), at, 0);
+}
