@@ -9,6 +9,3 @@ mod turns;
 mod written;
 
 pub use turns::Turns;
-
-#[cfg(test)]
-mod tests;

@@ -15,6 +15,3 @@ mod scan;
 
 pub use lexer::lex;
 pub use quoted::text_bytes;
-
-#[cfg(test)]
-mod tests;

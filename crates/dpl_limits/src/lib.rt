@@ -10,6 +10,3 @@ mod walk;
 pub use sets::sets_fit;
 pub use value::{int_in, name_and_value};
 pub use walk::limits;
-
-#[cfg(test)]
-mod tests;

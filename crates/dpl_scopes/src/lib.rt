@@ -9,6 +9,3 @@ pub mod value_type;
 pub use declared::{Declared, Sort};
 pub use scopes::{Entry, Mark, Scopes};
 pub use value_type::{Operand, Origin, Over, ValueType};
-
-#[cfg(test)]
-mod tests;

@@ -1,117 +1,112 @@
 // Texts through the lexer, the parser and the check: which are sound, and for what the others are refused.
 // Each way in which a rule can be broken has a text; that the refusal is the rules' is proved.
 
+use crate::reading::parted;
 use crate::refusals::{ALONE, HOUSE, IN_HOUSE};
-use crate::tests::parted;
 use bumpalo::Bump;
 use dpl_checker::refusal;
 use dpl_lexer::lex;
 use dpl_parser::{Arena, parse};
-use std::alloc::{AllocError, Global};
-use std::test::Fail;
+use std::alloc::Global;
+use std::process::Abort;
 
-/// The refusal's line, or `sound`, where the command line has these sets.
-fn verdict(alloc: Global, text: &[u8], sets: &[&str]) -> Result<String, AllocError> {
+// The refusal's line, or `sound`, where the command line has these sets.
+fn verdict(rt: &impl Abort, alloc: Global, text: &[u8], sets: &[&str]) -> String {
     let tokens = match lex(alloc, text) {
         Ok(tokens) => tokens,
-        Err(stop) => return format!(in alloc; "{stop}"),
+        Err(stop) => return format!(in alloc; "{stop}").expect(rt, "memory"),
     };
     let nodes = Bump::new(alloc);
     let arena = Arena::new(&nodes, alloc);
     let program = match parse(arena, tokens.as_slice()) {
         Ok(program) => program,
-        Err(stop) => return format!(in alloc; "{stop}"),
+        Err(stop) => return format!(in alloc; "{stop}").expect(rt, "memory"),
     };
-    match refusal(arena, &program, sets)? {
+    let said = match refusal(arena, &program, sets).expect(rt, "memory") {
         None => format!(in alloc; "sound"),
         Some(refusal) => format!(in alloc; "{refusal}"),
-    }
+    };
+    said.expect(rt, "memory")
 }
 
-/// A text behind the house.
-fn behind_house(alloc: Global, text: &str) -> Result<String, AllocError> {
-    format!(in alloc; "{HOUSE}{text}")
+// How many rows a table has. Behind a first line, each text has the verdict that its row says.
+fn rows_of(rt: &impl Abort, alloc: Global, first: &str, table: &str) -> usize {
+    let mut count: usize = 0;
+    for line in table.lines() {
+        let (wanted, text) = parted(line);
+        let text = format!(in alloc; "{first}{text}").expect(rt, "memory");
+        let got = verdict(rt, alloc, text.as_bytes(), &[]);
+        assert_eq!(rt;
+            got.as_str().trim_start_matches("! "),
+            wanted.trim_end(),
+            "{line}"
+        );
+        count = count.saturating_add(1);
+    }
+    count
 }
 
 #[test]
-fn in_house(rt: HostRuntime) -> Result<(), Fail> {
-    let mut count: usize = 0;
-    for line in IN_HOUSE.lines() {
-        let (wanted, text) = parted(line);
-        let text = behind_house(rt.alloc(), text)?;
-        let got = verdict(rt.alloc(), text.as_bytes(), &[])?;
-        assert_eq!(rt; got.as_str().trim_start_matches("! "), wanted.trim_end());
-        count = count.saturating_add(1);
-    }
-    assert_eq!(rt; count, 621);
-    Ok(())
+fn rows(rt: HostRuntime) {
+    assert_eq!(rt; rows_of(&rt, rt.alloc(), HOUSE, IN_HOUSE), 621);
+    assert_eq!(rt; rows_of(&rt, rt.alloc(), "", ALONE), 44);
 }
 
-#[test]
-fn alone(rt: HostRuntime) -> Result<(), Fail> {
-    let mut count: usize = 0;
-    for line in ALONE.lines() {
-        let (wanted, text) = parted(line);
-        let got = verdict(rt.alloc(), text.as_bytes(), &[])?;
-        assert_eq!(rt; got.as_str().trim_start_matches("! "), wanted.trim_end());
-        count = count.saturating_add(1);
-    }
-    assert_eq!(rt; count, 44);
-    Ok(())
-}
-
-/// So many declarations, each on a line and in a scope of its own.
-fn declarations(alloc: Global, line: &str, count: usize) -> Result<Vec<u8>, AllocError> {
-    let mut text = Vec::new(alloc);
+// What is said of so many declarations, each on a line and in a scope of its own.
+fn many(rt: &impl Abort, alloc: Global, line: &str, count: usize) -> String {
+    let mut text = String::new(alloc);
     for _ in 0..count {
-        text.extend_from_slice(line.as_bytes())?;
+        text.push_str(line).expect(rt, "memory");
     }
-    Ok(text)
+    verdict(rt, alloc, text.as_bytes(), &[])
 }
 
+// As many names and cells as there may be, and one more of each.
 #[test]
-fn limits(rt: HostRuntime) -> Result<(), Fail> {
-    let rows = [
-        ("{ var x: int; }\n", 4096, "sound"),
-        ("{ var x: int; }\n", 4097, "! C13 at 4097:7"),
-        ("{ var c: sync int; }\n", 64, "sound"),
-        ("{ var c: sync int; }\n", 65, "! C13 at 65:7"),
-    ];
-    for (line, count, wanted) in rows {
-        let text = declarations(rt.alloc(), line, count)?;
-        let got = verdict(rt.alloc(), &text, &[])?;
-        assert_eq!(rt; got.as_str(), wanted);
-    }
-    Ok(())
+fn limits(rt: HostRuntime) {
+    let alloc = rt.alloc();
+    let (name, cell) = ("{ var x: int; }\n", "{ var c: sync int; }\n");
+    assert_eq!(rt; many(&rt, alloc, name, 4096).as_str(), "sound");
+    assert_eq!(rt; many(&rt, alloc, name, 4097).as_str(), "! C13 at 4097:7");
+    assert_eq!(rt; many(&rt, alloc, cell, 64).as_str(), "sound");
+    assert_eq!(rt; many(&rt, alloc, cell, 65).as_str(), "! C13 at 65:7");
 }
 
+const CONFIGURED: &[u8] =
+    b"config const n = 1; config const b = true; const k = 2; { const m = 1; }";
+
 #[test]
-fn sets(rt: HostRuntime) -> Result<(), Fail> {
-    let text = b"config const n = 1; config const b = true; const k = 2; { const m = 1; }";
-    let rows: [(&str, &str); 12] = [
-        ("n=7", "sound"),
-        ("n=-9223372036854775808", "sound"),
-        ("b=false", "sound"),
-        ("n", "! C14"),
-        ("n=", "! C14"),
-        ("n=9223372036854775808", "! C14"),
-        ("n=true", "! C14"),
-        ("b=1", "! C14"),
-        ("k=3", "! C14"),
-        ("m=3", "! C14"),
-        ("x=3", "! C14"),
-        ("=3", "! C14"),
-    ];
-    for (set, wanted) in rows {
-        let got = verdict(rt.alloc(), text, &[set])?;
-        assert_eq!(rt; got.as_str(), wanted);
+fn sets(rt: HostRuntime) {
+    let alloc = rt.alloc();
+    for set in ["n=7", "n=-9223372036854775808", "b=false"] {
+        assert_eq!(rt;
+            verdict(&rt, alloc, CONFIGURED, &[set]).as_str(),
+            "sound",
+            "{set}"
+        );
     }
-    let got = verdict(rt.alloc(), text, &["n=1", "b=true"])?;
-    assert_eq!(rt; got.as_str(), "sound");
-    let got = verdict(rt.alloc(), text, &["n=1", "n=1"])?;
-    assert_eq!(rt; got.as_str(), "! C14");
+    for set in [
+        "n",
+        "n=",
+        "n=9223372036854775808",
+        "n=true",
+        "b=1",
+        "k=3",
+        "m=3",
+        "x=3",
+        "=3",
+    ] {
+        assert_eq!(rt;
+            verdict(&rt, alloc, CONFIGURED, &[set]).as_str(),
+            "! C14",
+            "{set}"
+        );
+    }
+    let two = verdict(&rt, alloc, CONFIGURED, &["n=1", "b=true"]);
+    assert_eq!(rt; two.as_str(), "sound");
+    let twice = verdict(&rt, alloc, CONFIGURED, &["n=1", "n=1"]);
+    assert_eq!(rt; twice.as_str(), "! C14");
     // A breach of the text is told before a set that doesn't fit.
-    let got = verdict(rt.alloc(), b"x = 1;", &["n"])?;
-    assert_eq!(rt; got.as_str(), "! C1 at 1:1");
-    Ok(())
+    let breach = verdict(&rt, alloc, b"x = 1;", &["n"]);
+    assert_eq!(rt; breach.as_str(), "! C1 at 1:1");
 }
