@@ -28,6 +28,3 @@ pub use outcome::Outcome;
 pub use refused::Refused;
 pub use text::run_text;
 pub use writer::{Out, OutFault, Plain, write_all};
-
-#[cfg(test)]
-mod tests;

@@ -1,0 +1,177 @@
+// Programs by gates that let some entries pass, that refuse one, and that count.
+// A run whose gate refuses an entry is refused for that, and nothing is written.
+
+use crate::entries::{ENTRIES, STRIPS};
+use crate::programs::{bytes_of, four_locales, written};
+use crate::roots::{BLOCKS, CYCLES, NAMED};
+use dpl_run::{Config, Gate, Maps, Refused};
+use std::alloc::Global;
+use std::process::Abort;
+use std::sync::atomic::{AtomicU64, Ordering};
+
+// Lets those entries pass alone that a row of `entries` has.
+#[derive(Drop)]
+struct Owners<'a>(&'a str);
+
+impl<'a> Gate for Owners<'a> {
+    ghost may_refuse = { λ _ _ _. Unit {0} };
+
+    fn enter(&self, worker: u32, place: u64) -> bool {
+        let mut at: u64 = 0;
+        for byte in self.0.bytes() {
+            if byte == b'/' {
+                at = 0;
+            } else {
+                if at == place && byte.wrapping_sub(b'0') as u32 == worker {
+                    return true;
+                }
+                at = at.wrapping_add(1);
+            }
+        }
+        false
+    }
+}
+
+// Lets all entries pass but this one.
+#[derive(Drop)]
+struct Refusing(u32, u64);
+
+impl Gate for Refusing {
+    ghost may_refuse = { λ _ _ _. Unit {0} };
+
+    fn enter(&self, worker: u32, place: u64) -> bool {
+        worker != self.0 || place != self.1
+    }
+}
+
+// Lets so many entries pass, and counts those that it is asked for.
+#[derive(Drop)]
+struct Counting {
+    passing: u64,
+    asked: AtomicU64,
+}
+
+impl Gate for Counting {
+    ghost may_refuse = { λ _ _ _. Unit {0} };
+
+    fn enter(&self, _worker: u32, _place: u64) -> bool {
+        self.asked.fetch_add(1, Ordering::Relaxed) < self.passing
+    }
+}
+
+// A run is refused where an entry is.
+fn asks_for<R: Abort + Sync>(
+    rt: &R,
+    alloc: Global,
+    text: &str,
+    config: &Config,
+    worker: u32,
+    place: u64,
+) {
+    let refused = written(
+        rt,
+        alloc,
+        text.as_bytes(),
+        &[],
+        config,
+        &Refusing(worker, place),
+    );
+    assert!(rt; refused == Err(Refused::Gate), "{text}");
+}
+
+// The same of each entry of a row.
+fn asks<R: Abort + Sync>(rt: &R, alloc: Global, text: &str, config: &Config, owners: &str) {
+    let mut place: u64 = 0;
+    for byte in owners.bytes() {
+        match byte {
+            b'/' => place = 0,
+            b'-' => {}
+            _ => {
+                let worker = byte.wrapping_sub(b'0') as u32;
+                asks_for(rt, alloc, text, config, worker, place);
+                place = place.wrapping_add(1);
+            }
+        }
+    }
+}
+
+// How many rows a table has. Each asks for its entries and for no others.
+fn rows_of<R: Abort + Sync>(rt: &R, alloc: Global, table: &str, maps: Maps) -> usize {
+    let config = four_locales(rt, maps);
+    let mut rows: usize = 0;
+    for line in table.lines() {
+        if let Some((owners, rest)) = line.split_once(" <- ") {
+            let (bytes, text) = rest.split_once(" <- ").unwrap_or((rest, ""));
+            let said = written(rt, alloc, text.as_bytes(), &[], &config, &Owners(owners));
+            assert!(rt; said == Ok(bytes_of(rt, alloc, bytes)), "{text}");
+            asks(rt, alloc, text, &config, owners);
+            rows = rows.saturating_add(1);
+        }
+    }
+    rows
+}
+
+#[test]
+fn entries(rt: HostRuntime) {
+    assert_eq!(rt; rows_of(&rt, rt.alloc(), ENTRIES, Maps::AsIs), 28);
+    assert_eq!(rt; rows_of(&rt, rt.alloc(), STRIPS, Maps::AsIs), 3);
+}
+
+#[test]
+fn roots(rt: HostRuntime) {
+    assert_eq!(rt; rows_of(&rt, rt.alloc(), NAMED, Maps::AsIs), 35);
+    assert_eq!(rt; rows_of(&rt, rt.alloc(), BLOCKS, Maps::Block), 6);
+    assert_eq!(rt; rows_of(&rt, rt.alloc(), CYCLES, Maps::Cyclic), 4);
+}
+
+// How many entries a program asks for, and what it writes. Where the gate is open the turns of the first five are made at once;
+// a gate that counts sees each turn all the same. The others have no loop that a worker enters.
+const COUNTS: &str = "\
+40 <- 80~ <- var A: [1..40] int; forall i in 1..40 do A[i] = i * 2; writeln(A[40]);\n\
+40 <- 123~ <- var A: [0..41] int = 3; var B: [1..40] int; forall i in 1..40 do B[i] = A[i-1] + A[i+1] * i; writeln(B[40]);\n\
+40 <- 11~ <- var A: [1..40] int = 5; A = A * 2 + 1; writeln(A[40]);\n\
+40 <- 200~ <- var A: [1..40] int = 5; writeln(+ reduce A);\n\
+80 <- 80~ <- const D = {1..2, 1..40} dmapped new blockDist(boundingBox={1..2, 1..40}); var A: [D] int; forall (i, j) in D do A[i, j] = i * j; writeln(A[2, 40]);\n\
+0 <- 2~ <- var x = 1; x = x + 1; writeln(x);\n\
+0 <- 5~ <- var A: [1..3] int; A[2] = 5; writeln(A[2]);\n\
+0 <- 7~ <- var A: [1..40] int = 7; writeln(A[40]);\n\
+0 <- 6~ <- var s = 0; for i in 1..3 do s += i; if s > 5 then writeln(s);";
+
+// A program that asks for so many entries, by a gate that lets so many pass.
+fn counts<R: Abort + Sync>(
+    rt: &R,
+    alloc: Global,
+    text: &str,
+    entries: u64,
+    bytes: &str,
+    passing: u64,
+) {
+    let gate = Counting {
+        passing,
+        asked: AtomicU64::new(0),
+    };
+    let config = four_locales(rt, Maps::AsIs);
+    let said = written(rt, alloc, text.as_bytes(), &[], &config, &gate);
+    if entries <= passing {
+        assert!(rt; said == Ok(bytes_of(rt, alloc, bytes)), "{text}");
+    } else {
+        assert!(rt; said == Err(Refused::Gate), "{text}");
+    }
+    let asked = gate.asked.load(Ordering::Relaxed);
+    assert_eq!(rt; asked, entries.min(passing.saturating_add(1)), "{text}");
+}
+
+#[test]
+fn gates_that_count(rt: HostRuntime) {
+    let mut rows: usize = 0;
+    for line in COUNTS.lines() {
+        let (entries, rest) = line.split_once(" <- ").unwrap_or((line, ""));
+        let (bytes, text) = rest.split_once(" <- ").unwrap_or((rest, ""));
+        let entries = entries.parse::<u64>().expect(&rt, "a number");
+        for passing in [0, 19, 39, u64::MAX] {
+            counts(&rt, rt.alloc(), text, entries, bytes, passing);
+        }
+        rows = rows.saturating_add(1);
+    }
+    assert_eq!(rt; rows, 9);
+}

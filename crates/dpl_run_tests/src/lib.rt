@@ -1,0 +1,16 @@
+// Tests of what the rows of `dpl_rows` can't show of a run: gates, writers that fail, and what a program leaves.
+// They stand in a crate of their own, since a crate with tests is proved twice, and no crate waits for this one.
+#![tactic(auto)]
+
+#[cfg(test)]
+mod entries;
+#[cfg(test)]
+mod gates;
+#[cfg(test)]
+mod leaves;
+#[cfg(test)]
+mod programs;
+#[cfg(test)]
+mod roots;
+#[cfg(test)]
+mod writers;
