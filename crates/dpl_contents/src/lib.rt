@@ -12,6 +12,3 @@ pub use array::ArrayWords;
 pub use domain::DomainWord;
 pub use print::{ElementKind, list_array, print_array};
 pub use range::RangeWord;
-
-#[cfg(test)]
-mod tests;

@@ -3,7 +3,5 @@
 #![tactic(auto)]
 
 mod sets;
-#[cfg(test)]
-mod tests;
 
 pub use sets::given;
