@@ -3,7 +3,7 @@
 use Rattle.std.proofs.Common.{◌≡◌, ◌≢◌, inl, inr, ℕ, true, false, List, Some, Result, Ok, Err, refl, sym, ap, ◌∙◌, subst}
 use Rattle.std.specs.Prelude.{IfOk}
 use Rattle.dpl_syntax.specs.declared.place.Place.{Place}
-use Rattle.dpl_language.specs.Tree.{Placed, Shape as IndexShape, Op, Assign, Set, SetAdd, SetSubtract, SetMultiply, SetDivide, SetRemainder, SetReduce, AssignTree, Kind, IntKind, BoolKind, ExprTree, Exprs, ItemTree, One, Whole, Element, StmtTree, Assigned}
+use Rattle.dpl_language.specs.Tree.{Placed, BracketPair, Op, Assign, Set, SetAdd, SetSubtract, SetMultiply, SetDivide, SetRemainder, SetReduce, AssignTree, Kind, IntKind, BoolKind, ExprTree, Exprs, ItemTree, One, Whole, Element, StmtTree, Assigned}
 use Rattle.dpl_language.specs.Names.{Text}
 use Rattle.dpl_agreement.specs.Renamed.{renamed_item, renamed_exprs}
 use Rattle.dpl_agreement.proofs.RenamedSame.{renamed_exprs-same}
@@ -125,7 +125,7 @@ module _ (a : Plan) (x : Placed Text) (sign : AssignTree) (item : ItemTree Text)
   array-planned (Err f) e l is valued kind at near given same kinds takes unreduced made = tt
 
 -- ---- AN ELEMENT
-module _ (a : Plan) (x : Placed Text) (shape : IndexShape) (from upto : Place) (es : Exprs Text) (sign : AssignTree) (item : ItemTree Text) (semicolon : Place) (t : Typed) (k : Kind) (n : ArrayName) (index : IndexExpr) where
+module _ (a : Plan) (x : Placed Text) (shape : BracketPair) (from upto : Place) (es : Exprs Text) (sign : AssignTree) (item : ItemTree Text) (semicolon : Place) (t : Typed) (k : Kind) (n : ArrayName) (index : IndexExpr) where
   abbrev element_to : Variable → Exprs Variable → ItemTree Variable → StmtTree Variable
   element_to l ys i = element_changed (placed_leaf x.at l) ys sign.op sign.at i
 

@@ -4,7 +4,7 @@
 use Rattle.std.proofs.Common.{◌≡◌, ◌≢◌, ℕ, Bool, true, false, List, [], ◌++◌, Option, Some, None, refl, sym, ap, ◌∙◌, subst}
 use Rattle.std.specs.Prelude.{◌&&◌}
 use Rattle.dpl_syntax.specs.declared.place.Place.{Place}
-use Rattle.dpl_language.specs.Tree.{Kind, IntKind, BoolKind, Op, Placed, Shape, Rounds, Exprs, Assign, Set, SetAdd, SetSubtract, SetMultiply, SetDivide, SetRemainder, SetReduce, AssignTree, ItemTree, Whole, Element, CallTree}
+use Rattle.dpl_language.specs.Tree.{Kind, IntKind, BoolKind, Op, Placed, BracketPair, Rounds, Exprs, Assign, Set, SetAdd, SetSubtract, SetMultiply, SetDivide, SetRemainder, SetReduce, AssignTree, ItemTree, Whole, Element, CallTree}
 use Rattle.dpl_language.specs.Names.{Text}
 use Rattle.dpl_spelling.specs.Spelt.{ItemSpelt, ExprsSpelt}
 use Rattle.dpl_closed.specs.Closed.{closed_item, closed_exprs}
@@ -194,7 +194,7 @@ module _ (scopes : Scopes) (names : AreVariables scopes) (forall : Option Reduci
         unreduced = fitting.unreduced;
       }
 
-  pub runnable_element : (x : Placed Text) (shape : Shape) (from : Place) (es : Exprs Text) (upto : Place) (sign : AssignTree) (item : ItemTree Text) → ExprsSpelt IsNear es → ItemSpelt IsNear item
+  pub runnable_element : (x : Placed Text) (shape : BracketPair) (from : Place) (es : Exprs Text) (upto : Place) (sign : AssignTree) (item : ItemTree Text) → ExprsSpelt IsNear es → ItemSpelt IsNear item
       → closed_exprs es ≡ None → closed_item item ≡ None → assignment_breaches (untasked scopes forall) (Element x shape from es upto) sign item ≡ [] → IsRunnableElement scopes x.name es sign.op item
   runnable_element x shape from es upto sign item r s v c h =
       let target = lookup scopes x.name in

@@ -1,6 +1,6 @@
 -- The language's meaning of each kind of expression over a frame: its value, or its fault.
 -- An expression is read as the plain tree that it stands for, and its names as the slots of the frame's memory.
-use Rattle.std.specs.Prelude.{ℕ, ℤ, None, Some, Result, Ok}
+use Rattle.std.specs.Prelude.{ℕ, ℤ, List, None, Some, Result, Ok}
 use Rattle.dpl_syntax.specs.declared.place.Place.{Place}
 use Rattle.dpl_sets.specs.TextRanges.{TextRange}
 use Rattle.dpl_language.specs.Tree.{Word, Plainly, Size}
