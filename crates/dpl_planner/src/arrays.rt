@@ -32,7 +32,7 @@ ghost use Rattle.dpl_planner.specs.Parts.{PlansDeclare};
 use crate::elements::{Elements, array_kind, given_elements, valued};
 use crate::progress::{Plan, node, spot};
 use dpl_forms::declaration::declaration;
-use dpl_nodes::step::{Initial as Begun, Over as Between};
+use dpl_nodes::step::{DeclaredOver as Between, Initial as Begun};
 use dpl_nodes::{ArrayDeclaration, DomainExpr, NoNode, RangeExpr, RangesExpr, Spot, Step};
 use dpl_scopes::{Declared, Scopes, ValueType};
 use dpl_syntax::Place;
