@@ -8,3 +8,5 @@ pub mod Names
 pub mod Expressions
 pub mod Statements
 pub mod Foralls
+-- Rows: what texts write.
+pub mod Runs

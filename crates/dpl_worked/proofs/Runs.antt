@@ -1,0 +1,106 @@
+-- What texts write, computed from their bytes on: programs without tasks, on one locale, with the budget that a run has by default.
+-- `writes_said` is what a row says: the bytes that the text says.
+use Rattle.std.proofs.Common.{◌≡◌, inr, ℕ, List, [], ◌∷◌, Option, Some, None, Ok, Err, refl, subst, sym}
+use Rattle.std.specs.Prelude.{codes}
+use Rattle.std.specs.Int.{int_wrap}
+use Rattle.std.specs.Fmt.{digits}
+use Rattle.dpl_sets.specs.Members.{members}
+use Rattle.dpl_sets.specs.Indices.{indices}
+use Rattle.dpl_syntax.specs.Text.{Lexes}
+use Rattle.dpl_syntax.specs.declared.token.Token.{Token}
+use Rattle.dpl_syntax.specs.declared.refusal.Refusal.{Refusal}
+use Rattle.dpl_grammar.specs.Reader.{Read}
+use Rattle.dpl_language.specs.Names.{State}
+use Rattle.dpl_language.specs.Outcome.{Entered, Outcome}
+use Rattle.dpl_language.specs.Environment.{Limits}
+use Rattle.dpl_language.specs.Program.{written, deeds_of}
+use Rattle.dpl_language.specs.Together.{Happened, AllTogether}
+use Rattle.dpl_spelling.specs.Grammar.{Program}
+use Rattle.dpl_spelling.proofs.Programs.{read, read_spelled}
+use Rattle.dpl_rules.specs.Sound.{refusal}
+use Rattle.dpl_says.specs.Says.{run_of, Says}
+use Rattle.dpl_worked.proofs.Lexer.{tokens_of}
+use Rattle.dpl_worked.proofs.Lexed.{tokens_lexed}
+use Rattle.dpl_worked.proofs.Texts.{by_text}
+
+abbrev limits : Limits
+limits = record { budget = 16777216; locales = 1 }
+
+abbrev run : Program → Outcome State
+run t = run_of t [] limits []
+
+-- what is written, where no coforall was entered
+abbrev without_tasks : List Entered → List ℕ → Option (List ℕ)
+without_tasks [] text = Some text
+without_tasks (e ∷ es) text = None
+
+abbrev of_sound : Option Refusal → Program → Option (List ℕ)
+of_sound None t = without_tasks (deeds_of (run t)).entered (written (run t))
+of_sound (Some r) t = None
+
+abbrev of_tree : Program → List Token → Option (List ℕ)
+of_tree t [] = of_sound (refusal t []) t
+of_tree t (k ∷ ks) = None
+
+abbrev of_read : Read Program → Option (List ℕ)
+of_read (Ok x) = of_tree x.0 x.1
+of_read (Err e) = None
+
+abbrev of_tokens : Option (List Token) → Option (List ℕ)
+of_tokens None = None
+of_tokens (Some ks) = of_read (read 64 ks)
+
+abbrev writes : List ℕ → Option (List ℕ)
+writes text = of_tokens (tokens_of text)
+
+-- ---- what that is
+
+-- nothing happened that could not
+run_said : (t : Program) (said : List ℕ) → without_tasks (deeds_of (run t)).entered (written (run t)) ≡ Some said → Happened (run t) × (said ≡ written (run t))
+run_said t said e = at (deeds_of (run t)).entered refl e
+  where
+    at : (es : List Entered) → (deeds_of (run t)).entered ≡ es → without_tasks es (written (run t)) ≡ Some said → Happened (run t) × (said ≡ written (run t))
+    at [] a e = (subst AllTogether (sym a) tt, cc)
+    at (c ∷ es) a e = absurd cc
+
+-- What is computed of a text is what it says.
+writes_said : (text said : List ℕ) → writes text ≡ Some said → Says text [] limits [] said
+writes_said text said e = by_tokens (tokens_of text) refl e
+  where
+    by_refusal : (ks : List Token) → Lexes text ks → (t : Program) → read 64 ks ≡ Ok (t, []) → (r : Option Refusal) → refusal t [] ≡ r → of_sound r t ≡ Some said → Says text [] limits [] said
+    by_refusal ks lexes t reads None none e =
+        let s = run_said t said e in
+        inr (t, record { tokens = ks; lexes = lexes; spells = read_spelled 64 ks t reads; unrefused = none }, s.0, s.1)
+    by_refusal ks lexes t reads (Some r) some e = absurd cc
+
+    by_tree : (ks : List Token) → Lexes text ks → (t : Program) (rest : List Token) → read 64 ks ≡ Ok (t, rest) → of_tree t rest ≡ Some said → Says text [] limits [] said
+    by_tree ks lexes t [] reads e = by_refusal ks lexes t reads (refusal t []) refl e
+    by_tree ks lexes t (k ∷ rest) reads e = absurd cc
+
+    by_read : (ks : List Token) → Lexes text ks → (o : Read Program) → read 64 ks ≡ o → of_read o ≡ Some said → Says text [] limits [] said
+    by_read ks lexes (Ok (t, rest)) reads e = by_tree ks lexes t rest reads e
+    by_read ks lexes (Err stop) reads e = absurd cc
+
+    by_tokens : (o : Option (List Token)) → tokens_of text ≡ o → of_tokens o ≡ Some said → Says text [] limits [] said
+    by_tokens None a e = absurd cc
+    by_tokens (Some ks) a e = by_read ks (tokens_lexed text ks a) (read 64 ks) refl e
+
+-- ---- rows
+
+a_sum : writes (codes "var s: int; forall i in 1..8 by 2 with (+ reduce s) do s += i*i; writeln(s);") ≡ Some (codes "84\n")
+unfolding by_text int_wrap digits members indices
+a_sum = refl
+
+-- a turn sees what it has written
+own_write_seen : writes (codes "var A: [1..3] int; forall i in A.domain { A[i] = i; A[i] += A[i]; } writeln(A);") ≡ Some (codes "2 4 6\n")
+unfolding by_text int_wrap digits members indices
+own_write_seen = refl
+
+-- each partial result begins from nothing, and the variable's value counts once
+variable_once : writes (codes "var s: int = 10; forall i in 1..4 with (+ reduce s) do s reduce= i; writeln(s);") ≡ Some (codes "20\n")
+unfolding by_text int_wrap digits members indices
+variable_once = refl
+
+fault_in_a_turn : writes (codes "var A: [1..3] int; write(A); forall i in 1..4 do A[i] = i;") ≡ Some (codes "0 0 0\n! F1 at 1:50 in turn 4\n")
+unfolding by_text int_wrap digits members indices
+fault_in_a_turn = refl
