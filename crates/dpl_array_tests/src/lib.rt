@@ -6,6 +6,8 @@
 #[cfg(test)]
 mod arrays;
 #[cfg(test)]
+mod contents;
+#[cfg(test)]
 mod domains;
 #[cfg(test)]
 mod growths;

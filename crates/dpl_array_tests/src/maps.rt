@@ -98,6 +98,10 @@ fn blocks_that_go_round(rt: HostRuntime) {
         domain(&rt, "4..27 by 2"),
         "122011200122",
     );
+    let owners = "11000222111000222111000222111000222111000222111000";
+    owned(&rt, alloc, threes, domain(&rt, "-9..40 by -1"), owners);
+    let owners = "0221002110221002110221002110221002110221002110221002110221";
+    owned(&rt, alloc, threes, domain(&rt, "1..400 by 7"), owners);
     assert_eq!(rt; threes.find(&[], index(&rt, &[5])), None);
 }
 
