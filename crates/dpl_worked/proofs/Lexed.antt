@@ -1,6 +1,6 @@
 -- What the lexer of rows reads is what the definition of tokens says.
 use Rattle.std.proofs.Common.{◌≡◌, ◌≢◌, inl, inr, ℕ, zero, suc, pos, ◌<◌, ◌≤◌, Bool, true, false, cond, List, [], ◌∷◌, ◌++◌, length, get_or, ◌+◌, ◌-◌, take, drop, Option, Some, None, refl, sym, ap, subst, ◌∙◌, arith}
-use Rattle.std.specs.Prelude.{if◌then◌else◌, not, ◌&&◌, ◌==◌, bytes_eq, nat_le, nat_lt}
+use Rattle.std.specs.Prelude.{not, ◌&&◌, ◌==◌, bytes_eq, nat_le, nat_lt}
 use Rattle.std.proofs.lemmas.Str.{IsUtf8-from_ascii}
 use Rattle.std.proofs.lemmas.List.{take-append-drop}
 use Rattle.std.proofs.lemmas.Bool.{and_parts, cases_eq}
@@ -22,7 +22,7 @@ use Rattle.dpl_lexer.proofs.Sorts.{Wordy, Digital, Quoting, Other, word_sort, di
 use Rattle.dpl_lexer.proofs.Numerals.{decimal_number, decimal_longest}
 use Rattle.dpl_lexer.proofs.Lexemes.{word_longest, quoted_longest, sign_longest, plain_sort}
 use Rattle.dpl_lexer.proofs.Scans.{no_number}
-use Rattle.dpl_worked.proofs.Lexer.{Found, found, when, span, special_kind, kind_by, special_in, word_kind, word_at, is_decimal, number_at, quoted_at, is_sign, sign_at, or_found, sign_of, front, and_token, behind, lexed, is_plain, tokens_of}
+use Rattle.dpl_worked.proofs.Lexer.{Found, found, when, span, special_kind, kind_by, special_in, word_kind, word_at, is_decimal, number_at, quoted_at, is_sign, sign_at, or_found, sign_of, quoted_or_sign, number_or_other, front, and_token, behind, lexed, is_plain, tokens_of}
 
 -- a token stands at the front
 record Shown (text : List ℕ) (f : Found) : Type 0 where
@@ -54,7 +54,8 @@ special_spelled : (n : ℕ) (u : List ℕ) (s : Special) → special_in n u ≡ 
 special_spelled zero u s e = absurd cc
 special_spelled (suc n) u s e = at (bytes_eq (special_text (special_at n)) u) refl (special_spelled n u s) e
   where
-    at : (b : Bool) → bytes_eq (special_text (special_at n)) u ≡ b → (special_in n u ≡ Some s → u ≡ special_text s) → cond b (Some (special_at n)) (special_in n u) ≡ Some s → u ≡ special_text s
+    at : (b : Bool) → bytes_eq (special_text (special_at n)) u ≡ b → (special_in n u ≡ Some s → u ≡ special_text s)
+        → cond b (Some (special_at n)) (special_in n u) ≡ Some s → u ≡ special_text s
     at true same others e =
         let is : special_at n ≡ s = cc in
         sym (bytes_eq-true (special_text (special_at n)) u same) ∙ ap special_text is
@@ -64,7 +65,8 @@ none_spelled : (n : ℕ) (u : List ℕ) → special_in n u ≡ None → (i : ℕ
 none_spelled zero u e i lt same = absurd (omega (arith, lt))
 none_spelled (suc n) u e i lt same = at (bytes_eq (special_text (special_at n)) u) refl (λ f below. none_spelled n u f i below same) e
   where
-    at : (b : Bool) → bytes_eq (special_text (special_at n)) u ≡ b → (special_in n u ≡ None → i < n → ⊥) → cond b (Some (special_at n)) (special_in n u) ≡ None → ⊥
+    at : (b : Bool) → bytes_eq (special_text (special_at n)) u ≡ b → (special_in n u ≡ None → i < n → ⊥)
+        → cond b (Some (special_at n)) (special_in n u) ≡ None → ⊥
     at true is others e = absurd cc
     at false other others e =
         elim (cases_eq i n) [
@@ -88,7 +90,11 @@ word_lexeme u word = at (special_in 59 u) refl
 word_ends : (u rest : List ℕ) → is_word u ≡ true → next_is goes_on rest ≡ false → Ends u rest
 word_ends u rest word stop =
     let sorted = word_sort u word in
-    record { longest = word_longest u rest word stop; plain = plain_sort Wordy u rest sorted (λ same. absurd cc); free = λ number. absurd (no_number Wordy u sorted (λ same. absurd cc) number) }
+    record {
+      longest = word_longest u rest word stop;
+      plain = plain_sort Wordy u rest sorted (λ same. absurd cc);
+      free = λ number. absurd (no_number Wordy u sorted (λ same. absurd cc) number);
+    }
 
 word_shown : (text : List ℕ) (n : ℕ) (f : Found) → word_at text n ≡ Some f → Shown text f
 word_shown text n f e =
@@ -132,7 +138,11 @@ quoted_shown text n f e =
     let sorted = quoted_sort u p.0 in
     subst (Shown text) w.1 (record {
       is = (refl, p.0, bytes_eq-true (well_escaped (between u)) (between u) p.1);
-      ends = record { longest = quoted_longest u (drop n text) p.0; plain = plain_sort Quoting u (drop n text) sorted (λ same. absurd cc); free = λ number. absurd (no_number Quoting u sorted (λ same. absurd cc) number) };
+      ends = record {
+        longest = quoted_longest u (drop n text) p.0;
+        plain = plain_sort Quoting u (drop n text) sorted (λ same. absurd cc);
+        free = λ number. absurd (no_number Quoting u sorted (λ same. absurd cc) number);
+      };
     })
 
 -- ---- signs
@@ -158,31 +168,39 @@ one_shown : (ss : List Sign) (text : List ℕ) (f : Found) → sign_of ss text �
 one_shown [] text f e = absurd cc
 one_shown (s ∷ ss) text f e = at (sign_at s text (length (sign_text s))) refl (one_shown ss text f) e
   where
-    at : (o : Option Found) → sign_at s text (length (sign_text s)) ≡ o → (sign_of ss text ≡ Some f → Shown text f) → or_found o (sign_of ss text) ≡ Some f → Shown text f
+    at : (o : Option Found) → sign_at s text (length (sign_text s)) ≡ o → (sign_of ss text ≡ Some f → Shown text f)
+        → or_found o (sign_of ss text) ≡ Some f → Shown text f
     at None a others e = others e
     at (Some g) a others e = sign_shown s text (length (sign_text s)) f (a ∙ e)
 
 -- ---- what stands at the front
 
-front_shown : (c : ℕ) (cs : List ℕ) (f : Found) → front c cs ≡ Some f → Shown (c ∷ cs) f
-front_shown c cs f e = by_letter (is_letter c) refl e
+quoted_or_sign_shown : (c : ℕ) (cs : List ℕ) (f : Found) → quoted_or_sign c cs ≡ Some f → Shown (c ∷ cs) f
+quoted_or_sign_shown c cs f e = at (is_quote c) e
   where
-    by_quote : (b : Bool) → is_quote c ≡ b → cond b (quoted_at (c ∷ cs) (span (λ d. not (d == c)) cs + 2)) (sign_of all (c ∷ cs)) ≡ Some f → Shown (c ∷ cs) f
-    by_quote true a e = quoted_shown (c ∷ cs) (span (λ d. not (d == c)) cs + 2) f e
-    by_quote false a e = one_shown all (c ∷ cs) f e
+    at : (b : Bool) → cond b (quoted_at (c ∷ cs) (span (λ d. not (d == c)) cs + 2)) (sign_of all (c ∷ cs)) ≡ Some f → Shown (c ∷ cs) f
+    at true e = quoted_shown (c ∷ cs) (span (λ d. not (d == c)) cs + 2) f e
+    at false e = one_shown all (c ∷ cs) f e
 
-    by_digit : (b : Bool) → is_digit c ≡ b → cond b (number_at (c ∷ cs) (span (goes_on_in 10) (c ∷ cs))) (if is_quote c then quoted_at (c ∷ cs) (span (λ d. not (d == c)) cs + 2) else sign_of all (c ∷ cs)) ≡ Some f → Shown (c ∷ cs) f
-    by_digit true a e = number_shown (c ∷ cs) (span (goes_on_in 10) (c ∷ cs)) f e
-    by_digit false a e = by_quote (is_quote c) refl e
+number_or_other_shown : (c : ℕ) (cs : List ℕ) (f : Found) → number_or_other c cs ≡ Some f → Shown (c ∷ cs) f
+number_or_other_shown c cs f e = at (is_digit c) e
+  where
+    at : (b : Bool) → cond b (number_at (c ∷ cs) (span (goes_on_in 10) (c ∷ cs))) (quoted_or_sign c cs) ≡ Some f → Shown (c ∷ cs) f
+    at true e = number_shown (c ∷ cs) (span (goes_on_in 10) (c ∷ cs)) f e
+    at false e = quoted_or_sign_shown c cs f e
 
-    by_letter : (b : Bool) → is_letter c ≡ b → cond b (word_at (c ∷ cs) (span goes_on (c ∷ cs))) (if is_digit c then number_at (c ∷ cs) (span (goes_on_in 10) (c ∷ cs)) else (if is_quote c then quoted_at (c ∷ cs) (span (λ d. not (d == c)) cs + 2) else sign_of all (c ∷ cs))) ≡ Some f → Shown (c ∷ cs) f
-    by_letter true a e = word_shown (c ∷ cs) (span goes_on (c ∷ cs)) f e
-    by_letter false a e = by_digit (is_digit c) refl e
+front_shown : (c : ℕ) (cs : List ℕ) (f : Found) → front c cs ≡ Some f → Shown (c ∷ cs) f
+front_shown c cs f e = at (is_letter c) e
+  where
+    at : (b : Bool) → cond b (word_at (c ∷ cs) (span goes_on (c ∷ cs))) (number_or_other c cs) ≡ Some f → Shown (c ∷ cs) f
+    at true e = word_shown (c ∷ cs) (span goes_on (c ∷ cs)) f e
+    at false e = number_or_other_shown c cs f e
 
 -- ---- a whole text
 
 -- one more space in front
-space_before : (c : ℕ) (p : Place) (text : List ℕ) (ks : List Token) (q : Place) → is_space c ≡ true → Begins (after_byte p c) text ks q [] → Begins p (c ∷ text) ks q []
+space_before : (c : ℕ) (p : Place) (text : List ℕ) (ks : List Token) (q : Place)
+    → is_space c ≡ true → Begins (after_byte p c) text ks q [] → Begins p (c ∷ text) ks q []
 space_before c p text [] q space (gap, e, is_gap, at) = ((c ∷ []) ∷ gap, ap (λ (l : List ℕ). c ∷ l) e, (inl (c, refl, space), is_gap), at)
 space_before c p text (k ∷ ks) q space (gap, u, more, e, is_gap, at, is, ends, h) =
     ((c ∷ []) ∷ gap, u, more, ap (λ (l : List ℕ). c ∷ l) e, (inl (c, refl, space), is_gap), at, is, ends, h)
@@ -202,7 +220,8 @@ lexed_read (suc fuel) p (c ∷ cs) ks e = by_space (is_space c) refl (lexed_read
     Further : Type 0
     Further = (p : Place) (text : List ℕ) (ks : List Token) → lexed fuel p text ≡ Some ks → Read p text ks
 
-    by_rest : (f : Found) → Shown (c ∷ cs) f → Further → (o : Option (List Token)) → lexed fuel (after p (take f.len (c ∷ cs))) (drop f.len (c ∷ cs)) ≡ o
+    by_rest : (f : Found) → Shown (c ∷ cs) f → Further
+        → (o : Option (List Token)) → lexed fuel (after p (take f.len (c ∷ cs))) (drop f.len (c ∷ cs)) ≡ o
         → and_token (record { kind = f.kind; at = p }) o ≡ Some ks → Read p (c ∷ cs) ks
     by_rest f s further None a e = absurd cc
     by_rest f s further (Some js) a e =
@@ -220,7 +239,8 @@ lexed_read (suc fuel) p (c ∷ cs) ks e = by_space (is_space c) refl (lexed_read
     by_front None a further e = absurd cc
     by_front (Some f) a further e = by_rest f (front_shown c cs f a) further (lexed fuel (after p (take f.len (c ∷ cs))) (drop f.len (c ∷ cs))) refl e
 
-    by_space : (b : Bool) → is_space c ≡ b → Further → cond b (lexed fuel (after_byte p c) cs) (behind (lexed fuel) p (c ∷ cs) (front c cs)) ≡ Some ks → Read p (c ∷ cs) ks
+    by_space : (b : Bool) → is_space c ≡ b → Further
+        → cond b (lexed fuel (after_byte p c) cs) (behind (lexed fuel) p (c ∷ cs) (front c cs)) ≡ Some ks → Read p (c ∷ cs) ks
     by_space true a further e =
         let r = further (after_byte p c) cs ks e in
         record { front = r.front; end = r.end; begins = space_before c p cs r.front r.end a r.begins; are = r.are }

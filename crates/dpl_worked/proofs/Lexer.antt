@@ -55,7 +55,9 @@ word_at text n = when (is_word (take n text) && not (next_is goes_on (drop n tex
 
 abbrev pub is_decimal : List ℕ → List ℕ → Bool
 is_decimal u rest =
-    is_digits 10 u && (not (next_is (goes_on_in 10) rest) && (not (starts_based (u ++ rest)) && (not (next_is sticks rest) && nat_le (number_value u) greatest)))
+    is_digits 10 u
+    && (not (next_is (goes_on_in 10) rest)
+    && (not (starts_based (u ++ rest)) && (not (next_is sticks rest) && nat_le (number_value u) greatest)))
 
 abbrev pub number_at : List ℕ → ℕ → Option Found
 number_at text n = when (is_decimal (take n text) (drop n text)) (found (Number (pos (number_value (take n text)))) n)
@@ -81,11 +83,14 @@ abbrev pub sign_of : List Sign → List ℕ → Option Found
 sign_of [] text = None
 sign_of (s ∷ ss) text = or_found (sign_at s text (length (sign_text s))) (sign_of ss text)
 
+abbrev pub quoted_or_sign : ℕ → List ℕ → Option Found
+quoted_or_sign c cs = if is_quote c then quoted_at (c ∷ cs) (span (λ d. not (d == c)) cs + 2) else sign_of all (c ∷ cs)
+
+abbrev pub number_or_other : ℕ → List ℕ → Option Found
+number_or_other c cs = if is_digit c then number_at (c ∷ cs) (span (goes_on_in 10) (c ∷ cs)) else quoted_or_sign c cs
+
 abbrev pub front : ℕ → List ℕ → Option Found
-front c cs =
-    if is_letter c then word_at (c ∷ cs) (span goes_on (c ∷ cs))
-    else (if is_digit c then number_at (c ∷ cs) (span (goes_on_in 10) (c ∷ cs))
-    else (if is_quote c then quoted_at (c ∷ cs) (span (λ d. not (d == c)) cs + 2) else sign_of all (c ∷ cs)))
+front c cs = if is_letter c then word_at (c ∷ cs) (span goes_on (c ∷ cs)) else number_or_other c cs
 
 -- ---- a whole text
 

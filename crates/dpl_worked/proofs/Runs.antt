@@ -56,10 +56,12 @@ writes text = of_tokens (tokens_of text)
 -- ---- what that is
 
 -- nothing happened that could not
-run_said : (t : Program) (said : List ℕ) → without_tasks (deeds_of (run t)).entered (written (run t)) ≡ Some said → Happened (run t) × (said ≡ written (run t))
+run_said : (t : Program) (said : List ℕ) → without_tasks (deeds_of (run t)).entered (written (run t)) ≡ Some said
+    → Happened (run t) × (said ≡ written (run t))
 run_said t said e = at (deeds_of (run t)).entered refl e
   where
-    at : (es : List Entered) → (deeds_of (run t)).entered ≡ es → without_tasks es (written (run t)) ≡ Some said → Happened (run t) × (said ≡ written (run t))
+    at : (es : List Entered) → (deeds_of (run t)).entered ≡ es → without_tasks es (written (run t)) ≡ Some said
+        → Happened (run t) × (said ≡ written (run t))
     at [] a e = (subst AllTogether (sym a) tt, cc)
     at (c ∷ es) a e = absurd cc
 
@@ -67,13 +69,15 @@ run_said t said e = at (deeds_of (run t)).entered refl e
 writes_said : (text said : List ℕ) → writes text ≡ Some said → Says text [] limits [] said
 writes_said text said e = by_tokens (tokens_of text) refl e
   where
-    by_refusal : (ks : List Token) → Lexes text ks → (t : Program) → read 64 ks ≡ Ok (t, []) → (r : Option Refusal) → refusal t [] ≡ r → of_sound r t ≡ Some said → Says text [] limits [] said
+    by_refusal : (ks : List Token) → Lexes text ks → (t : Program) → read 64 ks ≡ Ok (t, [])
+        → (r : Option Refusal) → refusal t [] ≡ r → of_sound r t ≡ Some said → Says text [] limits [] said
     by_refusal ks lexes t reads None none e =
         let s = run_said t said e in
         inr (t, record { tokens = ks; lexes = lexes; spells = read_spelled 64 ks t reads; unrefused = none }, s.0, s.1)
     by_refusal ks lexes t reads (Some r) some e = absurd cc
 
-    by_tree : (ks : List Token) → Lexes text ks → (t : Program) (rest : List Token) → read 64 ks ≡ Ok (t, rest) → of_tree t rest ≡ Some said → Says text [] limits [] said
+    by_tree : (ks : List Token) → Lexes text ks → (t : Program) (rest : List Token) → read 64 ks ≡ Ok (t, rest)
+        → of_tree t rest ≡ Some said → Says text [] limits [] said
     by_tree ks lexes t [] reads e = by_refusal ks lexes t reads (refusal t []) refl e
     by_tree ks lexes t (k ∷ rest) reads e = absurd cc
 

@@ -43,7 +43,11 @@ said text = of_tokens (tokens_of text)
 
 -- declarations of each sort and type, which many texts stand behind: they are on line 2
 abbrev house : List ℕ
-house = codes "const D = {1..8}; var E = {1..4, 1..4}; const S = {1..8 by 2}; const T = {1..2, 1..2, 1..2}; var A: [D] int; var B: [E] int; var C: [D] int; var F: [D] bool; var G: [1..8] int; const r = 1..8; const q = 1..8 by 2; var n: int; var b: bool; const k = 3; var c: sync int; var f: sync bool; var h = here; var V = {1..8}; config const m = 4; var z = 1..2;\n"
+house =
+    codes "const D = {1..8}; var E = {1..4, 1..4}; const S = {1..8 by 2}; const T = {1..2, 1..2, 1..2}; "
+    ++ codes "var A: [D] int; var B: [E] int; var C: [D] int; var F: [D] bool; var G: [1..8] int; const r = 1..8; "
+    ++ codes "const q = 1..8 by 2; var n: int; var b: bool; const k = 3; var c: sync int; var f: sync bool; "
+    ++ codes "var h = here; var V = {1..8}; config const m = 4; var z = 1..2;\n"
 
 abbrev pub in_house : List ℕ → Said
 in_house text = said (house ++ text)
@@ -69,7 +73,8 @@ record Judged (text : List ℕ) (r : Option Refusal) : Type 0 where
   spells : Spells 64 tokens tree
   told : refusal tree [] ≡ r
 
-tree_judged : (text : List ℕ) (ks : List Token) (r : Option Refusal) → Lexes text ks → (t : Program) (rest : List Token) → read 64 ks ≡ Ok (t, rest) → of_tree t rest ≡ Some r → Judged text r
+tree_judged : (text : List ℕ) (ks : List Token) (r : Option Refusal) → Lexes text ks
+    → (t : Program) (rest : List Token) → read 64 ks ≡ Ok (t, rest) → of_tree t rest ≡ Some r → Judged text r
 tree_judged text ks r lexes t [] reads e = record { tokens = ks; lexes = lexes; tree = t; spells = read_spelled 64 ks t reads; told = cc }
 tree_judged text ks r lexes t (k ∷ more) reads e = absurd cc
 
