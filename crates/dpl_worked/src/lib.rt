@@ -1,3 +1,3 @@
-// Worked rows by text: what a text is refused for, computed from its bytes on by the definitions.
+// Worked rows by text: what a text is refused for and what it writes, computed from its bytes on by the definitions.
 // Rows in proofs/ alone: no code, and nothing that anything rests on.
 #![tactic(auto)]
