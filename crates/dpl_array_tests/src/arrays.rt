@@ -2,7 +2,7 @@
 // That the values are right is what the contracts say; how many stand side by side no clause says.
 
 use crate::made::{block, cyclic, domain, in_blocks, index, squares};
-use dpl_array::{DArray, Pieces};
+use dpl_array::{DArray, Piece, Pieces};
 use dpl_domain::{Domain, Index};
 use dpl_map::Map;
 use std::alloc::Global;
@@ -10,18 +10,23 @@ use std::process::Abort;
 
 // The pieces are taken out and put back, the first first.
 fn turned(rt: &impl Abort, array: DArray<i64>) -> DArray<i64> {
-    let map = array.map();
+    let locales = array.map().locales();
     let mut pieces = array.take_pieces();
-    let locales = map.locales();
     for locale in 0..locales {
         let piece = pieces.take(locale).expect(rt, "each locale has its piece");
-        assert!(rt; !pieces.is_whole());
-        assert!(rt; pieces.take(locale).is_none());
-        assert!(rt; pieces.put(piece).is_ok());
+        let is_out = !pieces.is_whole() && pieces.take(locale).is_none();
+        assert!(rt; is_out && pieces.put(piece).is_ok());
     }
-    assert!(rt; pieces.take(locales).is_none());
-    assert!(rt; pieces.is_whole());
+    assert!(rt; pieces.take(locales).is_none() && pieces.is_whole());
     pieces.put_back()
+}
+
+// Whether an element is the square that it should be.
+fn is_square(array: &DArray<i64>, index: Index, value: i64) -> bool {
+    let (_, _, i) = index.numbers();
+    value == i.wrapping_mul(i)
+        && array.get(index) == Some(value)
+        && array.get_line(i) == Some(value)
 }
 
 // Each element is walked over once, and is the square that it should be.
@@ -29,10 +34,7 @@ fn hold(rt: &impl Abort, array: &DArray<i64>) {
     let mut walk = array.walk();
     for _ in 0..array.domain().size() {
         let (index, value) = walk.next().expect(rt, "an element for each index");
-        let (_, _, i) = index.numbers();
-        assert_eq!(rt; value, i.wrapping_mul(i));
-        assert_eq!(rt; array.get(index), Some(value));
-        assert_eq!(rt; array.get_line(i), Some(value));
+        assert!(rt; is_square(array, index, value));
     }
     assert!(rt; walk.next().is_none());
 }
@@ -61,21 +63,35 @@ fn pieces(rt: HostRuntime) {
     }
 }
 
+// How many elements a walk over a piece gives, each as the piece has it; none where one is another.
+fn walked_over(piece: &Piece<i64>, most: u64) -> Option<u64> {
+    let mut walk = piece.walk();
+    let mut elements: u64 = 0;
+    for _ in 0..most {
+        if let Some((index, value)) = walk.next() {
+            if piece.get(index) != Some(value) {
+                return None;
+            }
+            elements = elements.wrapping_add(1);
+        }
+    }
+    if walk.next().is_none() {
+        Some(elements)
+    } else {
+        None
+    }
+}
+
 // Each element of each piece is walked over once.
 fn walked(rt: &impl Abort, array: &DArray<i64>) {
+    let most = array.domain().size();
     let mut elements: u64 = 0;
     for locale in 0..array.map().locales() {
         let piece = array.piece(locale).expect(rt, "each locale has its piece");
-        let mut walk = piece.walk();
-        for _ in 0..array.domain().size() {
-            if let Some((index, value)) = walk.next() {
-                assert_eq!(rt; piece.get(index), Some(value));
-                elements = elements.wrapping_add(1);
-            }
-        }
-        assert!(rt; walk.next().is_none());
+        let some = walked_over(piece, most).expect(rt, "the piece's elements");
+        elements = elements.wrapping_add(some);
     }
-    assert_eq!(rt; elements, array.domain().size());
+    assert_eq!(rt; elements, most);
 }
 
 // The pieces of an array of squares on two locales.
@@ -101,9 +117,10 @@ fn strangers(rt: HostRuntime) {
     assert_eq!(&rt; piece.locale(), 1);
 }
 
-// How many values stand side by side from an index on. Each is the one that the array has there.
-fn run_at(rt: &impl Abort, array: &DArray<i64>, index: Index) -> usize {
+// So many values stand side by side from an index on. Each is the one that the array has there.
+fn runs(rt: &impl Abort, array: &DArray<i64>, index: Index, length: usize) {
     let run = array.run(index);
+    assert_eq!(rt; run.len(), length);
     let (_, row, column) = index.numbers();
     let mut at = column;
     for value in run {
@@ -115,7 +132,6 @@ fn run_at(rt: &impl Abort, array: &DArray<i64>, index: Index) -> usize {
         assert_eq!(rt; there, Some(*value));
         at = at.wrapping_add(1);
     }
-    run.len()
 }
 
 // Of a line they go to the end of the part, where that has the stride 1, and else there are none.
@@ -124,9 +140,9 @@ fn runs_of_a_line(rt: HostRuntime) {
     let [whole, blocks, around, in_threes] = maps(&rt, "1..40", 4);
     for (map, length) in [(whole, 34), (blocks, 4), (around, 0), (in_threes, 0)] {
         let array = squares(&rt, rt.alloc(), domain(&rt, "1..40"), map);
-        assert_eq!(&rt; run_at(&rt, &array, index(&rt, &[7])), length);
-        assert_eq!(&rt; run_at(&rt, &array, index(&rt, &[41])), 0);
-        assert_eq!(&rt; run_at(&rt, &array, index(&rt, &[0])), 0);
+        runs(&rt, &array, index(&rt, &[7]), length);
+        runs(&rt, &array, index(&rt, &[41]), 0);
+        runs(&rt, &array, index(&rt, &[0]), 0);
     }
 }
 
@@ -136,40 +152,42 @@ fn runs_of_a_plane(rt: HostRuntime) {
     let plane = domain(&rt, "1..3,1..5");
     let mut array = DArray::new(rt.alloc(), plane, Map::whole(), 0).expect(&rt, "memory");
     assert!(&rt; array.set_plane(2, 3, 7));
-    assert_eq!(&rt; run_at(&rt, &array, index(&rt, &[1, 1])), 5);
-    assert_eq!(&rt; run_at(&rt, &array, index(&rt, &[2, 2])), 4);
-    assert_eq!(&rt; run_at(&rt, &array, index(&rt, &[3, 5])), 1);
-    assert_eq!(&rt; run_at(&rt, &array, index(&rt, &[2, 6])), 0);
-    assert_eq!(&rt; run_at(&rt, &array, index(&rt, &[4, 1])), 0);
-    assert_eq!(&rt; run_at(&rt, &array, index(&rt, &[2, 0])), 0);
+    runs(&rt, &array, index(&rt, &[1, 1]), 5);
+    runs(&rt, &array, index(&rt, &[2, 2]), 4);
+    runs(&rt, &array, index(&rt, &[3, 5]), 1);
+    runs(&rt, &array, index(&rt, &[2, 6]), 0);
+    runs(&rt, &array, index(&rt, &[4, 1]), 0);
+    runs(&rt, &array, index(&rt, &[2, 0]), 0);
 }
 
-// How many of some values were put side by side from an index on. They stand there then, and beside them still the squares.
-fn put_at(rt: &impl Abort, array: &mut DArray<i64>, index: Index, values: &[i64]) -> usize {
-    let put = array.set_run(index, values);
-    let (_, row, first) = index.numbers();
+// What an array of squares has at an index when some values were put from another one on.
+fn expected(at: Index, from: Index, values: &[i64], put: usize) -> Option<i64> {
+    let (_, row, first) = from.numbers();
+    let (_, i, j) = at.numbers();
+    let behind = j.wrapping_sub(first).cast_unsigned() as usize;
+    if i == row && behind < put {
+        values.get(behind).copied()
+    } else {
+        Some(j.wrapping_mul(j))
+    }
+}
+
+// Of some values so many are put side by side from an index on. They stand there then, and beside them still the squares.
+fn puts(rt: &impl Abort, array: &mut DArray<i64>, from: Index, values: &[i64], put: usize) {
+    assert_eq!(rt; array.set_run(from, values), put);
     let mut indices = array.domain().cursor();
     for _ in 0..array.domain().size() {
-        let there = indices.next().expect(rt, "an index for each turn");
-        let (_, i, j) = there.numbers();
-        let behind = j.wrapping_sub(first).cast_unsigned() as usize;
-        let value = if i == row && behind < put {
-            values.get(behind).copied()
-        } else {
-            Some(j.wrapping_mul(j))
-        };
-        assert_eq!(rt; array.get(there), value);
+        let at = indices.next().expect(rt, "an index for each turn");
+        assert!(rt; array.get(at) == expected(at, from, values, put));
     }
-    put
 }
 
-// So many first ones of eight values are put from an index on, and at most as many as there are places: no index has more.
-fn puts(rt: &impl Abort, alloc: Global, text: &str, map: Map, index: Index, places: usize) {
+// No value, one, three and eight are put from an index on, and at most as many as there are places.
+fn rows_put(rt: &impl Abort, alloc: Global, text: &str, map: Map, from: Index, places: usize) {
     let many = [-1, -2, -3, -4, -5, -6, -7, -8];
     for values in [&many[..0], &many[..1], &many[..3], &many[..8]] {
         let mut array = squares(rt, alloc, domain(rt, text), map);
-        let put = put_at(rt, &mut array, index, values);
-        assert_eq!(rt; put, values.len().min(places));
+        puts(rt, &mut array, from, values, values.len().min(places));
     }
 }
 
@@ -178,9 +196,9 @@ fn puts(rt: &impl Abort, alloc: Global, text: &str, map: Map, index: Index, plac
 fn rows_put_on_a_line(rt: HostRuntime) {
     let [whole, blocks, around, in_threes] = maps(&rt, "1..40", 4);
     for (map, there) in [(whole, 4), (blocks, 4), (around, 0), (in_threes, 0)] {
-        puts(&rt, rt.alloc(), "1..40", map, index(&rt, &[37]), there);
-        puts(&rt, rt.alloc(), "1..40", map, index(&rt, &[41]), 0);
-        puts(&rt, rt.alloc(), "1..40", map, index(&rt, &[0]), 0);
+        rows_put(&rt, rt.alloc(), "1..40", map, index(&rt, &[37]), there);
+        rows_put(&rt, rt.alloc(), "1..40", map, index(&rt, &[41]), 0);
+        rows_put(&rt, rt.alloc(), "1..40", map, index(&rt, &[0]), 0);
     }
 }
 
@@ -188,7 +206,7 @@ fn rows_put_on_a_line(rt: HostRuntime) {
 #[test]
 fn rows_put_on_a_plane(rt: HostRuntime) {
     let (plane, at) = ("1..3,1..8", index(&rt, &[2, 6]));
-    puts(&rt, rt.alloc(), plane, Map::whole(), at, 3);
-    puts(&rt, rt.alloc(), plane, block(&rt, plane, &[1, 2]), at, 3);
-    puts(&rt, rt.alloc(), plane, cyclic(&rt, &[1, 1], &[1, 2]), at, 0);
+    rows_put(&rt, rt.alloc(), plane, Map::whole(), at, 3);
+    rows_put(&rt, rt.alloc(), plane, block(&rt, plane, &[1, 2]), at, 3);
+    rows_put(&rt, rt.alloc(), plane, cyclic(&rt, &[1, 1], &[1, 2]), at, 0);
 }

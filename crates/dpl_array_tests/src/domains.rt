@@ -5,22 +5,26 @@ use dpl_domain::{Domain, DomainFault, Index};
 use std::alloc::Global;
 use std::process::Abort;
 
+// Whether an index stands at this place of a domain, and is printed so.
+fn has(rt: &impl Abort, alloc: Global, domain: Domain, k: u64, index: Index, text: &str) -> bool {
+    let printed = format!(in alloc; "{index}").expect(rt, "memory");
+    printed.as_str() == text && domain.nth(k) == Some(index) && domain.place(index) == Some(k)
+}
+
 // The domain has these indices, row by row, each as it is printed.
 fn indexed(rt: &impl Abort, alloc: Global, domain: Domain, indices: &str) {
     let mut cursor = domain.cursor();
     let mut k: u64 = 0;
     for text in indices.split_whitespace() {
         let index = cursor.next().expect(rt, "an index for each text");
-        let printed = format!(in alloc; "{index}").expect(rt, "memory");
-        assert_eq!(rt; printed.as_str(), text);
-        assert_eq!(rt; domain.nth(k), Some(index));
-        assert_eq!(rt; domain.place(index), Some(k));
+        assert!(rt; has(rt, alloc, domain, k, index, text), "{text}");
         k = k.wrapping_add(1);
     }
-    assert_eq!(rt; domain.size(), k);
-    assert_eq!(rt; domain.nth(k), None);
-    assert!(rt; cursor.next().is_none());
-    assert!(rt; cursor.next().is_none());
+    let ends = domain.size() == k && domain.nth(k).is_none();
+    assert!(rt;
+        ends && cursor.next().is_none() && cursor.next().is_none(),
+        "{indices}"
+    );
 }
 
 #[test]

@@ -1,44 +1,66 @@
 // Maps: who owns which index, where an index stands in its owner's part, in how many domains a part is, and what is no map.
 
-use crate::made::{LIMIT, block, cyclic, domain, grid, in_blocks, index};
-use dpl_domain::Domain;
+ghost use Rattle.dpl_map.specs.Orders.{ArePart};
+
+use crate::made::{LIMIT, block, cyclic, domain, grid, in_blocks, index, int};
+use dpl_domain::{Domain, Index};
 use dpl_map::{Grid, GridFault, Map, MapFault};
 use std::alloc::Global;
 use std::process::Abort;
 
+// Whether an index stands in a part where the map finds it, and is found where the part is its owner's.
+fn stands(map: Map, part: &[Domain], index: Index, is_owner: bool) -> bool
+    requires { ArePart map part.now }
+{
+    match map.find(part, index) {
+        Some((number, place)) => {
+            let there = part.get(number).and_then(|piece| piece.nth(place));
+            is_owner && there == Some(index)
+        }
+        None => !is_owner,
+    }
+}
+
+// Whether the owner of each index is its digit, and each stands in this locale's part where that is the owner.
+fn stand(map: Map, part: &[Domain], domain: &Domain, locale: u32, digits: &str) -> bool
+    requires { ArePart map part.now }
+{
+    let mut indices = domain.cursor();
+    for digit in digits.bytes() {
+        let owner = digit.wrapping_sub(b'0') as u32;
+        let right = match indices.next() {
+            Some(index) => map.owner(index) == owner && stands(map, part, index, owner == locale),
+            None => false,
+        };
+        if !right {
+            return false;
+        }
+    }
+    true
+}
+
+// How many indices some domains have.
+fn size_of(domains: &[Domain]) -> u64 {
+    let mut indices: u64 = 0;
+    for domain in domains {
+        indices = indices.wrapping_add(domain.size());
+    }
+    indices
+}
+
 // The owner of each index of a domain is this digit. Each index is found where it stands in its owner's part, and in no other
 // part, and parts have no other index.
 fn owned(rt: &impl Abort, alloc: Global, map: Map, domain: Domain, digits: &str) {
-    assert_eq!(rt; domain.size(), digits.len() as u64);
     let mut size: u64 = 0;
     for locale in 0..map.locales() {
         let part = map.part(alloc, &domain, locale).expect(rt, "memory");
-        for piece in &part {
-            size = size.wrapping_add(piece.size());
-        }
-        stands(rt, &map, &domain, &part, locale, digits);
+        assert!(rt; stand(map, &part, &domain, locale, digits), "{digits}");
+        size = size.wrapping_add(size_of(&part));
     }
-    assert_eq!(rt; size, domain.size());
-    let beyond = map.part(alloc, &domain, map.locales()).expect(rt, "memory");
-    assert!(rt; beyond.is_empty());
-}
-
-// The same of one locale's part.
-fn stands(rt: &impl Abort, map: &Map, domain: &Domain, part: &[Domain], locale: u32, digits: &str) {
-    let mut indices = domain.cursor();
-    for digit in digits.bytes() {
-        let index = indices.next().expect(rt, "an index for each digit");
-        let owner = digit.wrapping_sub(b'0') as u32;
-        assert_eq!(rt; map.owner(index), owner);
-        let found = map.find(part, index);
-        assert_eq!(rt; found.is_some(), owner == locale);
-        if let Some((number, place)) = found {
-            assert_eq!(rt;
-                part.get(number).and_then(|piece| piece.nth(place)),
-                Some(index)
-            );
-        }
-    }
+    assert!(rt;
+        size == domain.size() && size == digits.len() as u64,
+        "{digits}"
+    );
 }
 
 #[test]
@@ -105,17 +127,15 @@ fn blocks_that_go_round(rt: HostRuntime) {
     assert_eq!(rt; threes.find(&[], index(&rt, &[5])), None);
 }
 
-// In how many domains each locale has its part of a domain.
+// In how many domains each locale has its part of a domain. A locale that there isn't has none.
 fn counts(rt: &impl Abort, alloc: Global, map: Map, text: &str, domains: &str) {
     let domain = domain(rt, text);
-    let mut found = String::new(alloc);
-    for locale in 0..map.locales() {
+    let mut locale: u32 = 0;
+    for count in domains.split_whitespace() {
         let part = map.part(alloc, &domain, locale).expect(rt, "memory");
-        let count = part.len();
-        let shown = format!(in alloc; "{count} ").expect(rt, "memory");
-        found.push_str(shown.as_str()).expect(rt, "memory");
+        assert_eq!(rt; part.len() as i64, int(rt, count));
+        locale = locale.wrapping_add(1);
     }
-    assert_eq!(rt; found.as_str().trim_end(), domains);
 }
 
 // A part is its blocks or its offsets, whichever are fewer.
@@ -123,15 +143,15 @@ fn counts(rt: &impl Abort, alloc: Global, map: Map, text: &str, domains: &str) {
 fn fewest_domains(rt: HostRuntime) {
     let alloc = rt.alloc();
     let threes = in_blocks(&rt, &[0], &[3], &[3]);
-    counts(&rt, alloc, threes, "4..27 by 2", "2 3 3");
+    counts(&rt, alloc, threes, "4..27 by 2", "2 3 3 0");
     // A coordinate has more blocks than a block has offsets, by one at 1..24. Even members lie at two of four offsets.
     let threes = in_blocks(&rt, &[1], &[3], &[2]);
-    counts(&rt, alloc, threes, "1..24", "3 3");
-    counts(&rt, alloc, threes, "1..1099511627776", "3 3");
+    counts(&rt, alloc, threes, "1..24", "3 3 0");
+    counts(&rt, alloc, threes, "1..1099511627776", "3 3 0");
     let fours = in_blocks(&rt, &[0], &[4], &[2]);
-    counts(&rt, alloc, fours, "2..1099511627776 by 2", "2 2");
+    counts(&rt, alloc, fours, "2..1099511627776 by 2", "2 2 0");
     // A stride that is longer than a block passes over whole blocks: those with a member may lie far apart.
-    counts(&rt, alloc, threes, "1..1099511627776 by 1000", "2 1");
+    counts(&rt, alloc, threes, "1..1099511627776 by 1000", "2 1 0");
     counts(
         &rt,
         alloc,
@@ -141,7 +161,7 @@ fn fewest_domains(rt: HostRuntime) {
     );
     let long = in_blocks(&rt, &[0], &[1 << 30], &[2]);
     let far = "-1152921504606846976..1152921504606846976 by 36028797018963968";
-    counts(&rt, alloc, long, far, "65 0");
+    counts(&rt, alloc, long, far, "65 0 0");
 }
 
 // By the other rules a part is one domain, and none where it is empty.
@@ -150,14 +170,14 @@ fn one_domain_or_none(rt: HostRuntime) {
     let alloc = rt.alloc();
     let blocks = block(&rt, "1..4", &[3]);
     let around = cyclic(&rt, &[1], &[3]);
-    counts(&rt, alloc, blocks, "1..2", "1 0 0");
-    counts(&rt, alloc, around, "1..2", "1 1 0");
-    counts(&rt, alloc, Map::whole(), "1..2", "1");
-    counts(&rt, alloc, blocks, "2..1", "0 0 0");
-    counts(&rt, alloc, around, "2..1", "0 0 0");
-    counts(&rt, alloc, Map::whole(), "2..1", "0");
-    counts(&rt, alloc, blocks, "1..2,1..2", "1 0 0");
-    counts(&rt, alloc, blocks, "1..2,2..1", "0 0 0");
+    counts(&rt, alloc, blocks, "1..2", "1 0 0 0");
+    counts(&rt, alloc, around, "1..2", "1 1 0 0");
+    counts(&rt, alloc, Map::whole(), "1..2", "1 0");
+    counts(&rt, alloc, blocks, "2..1", "0 0 0 0");
+    counts(&rt, alloc, around, "2..1", "0 0 0 0");
+    counts(&rt, alloc, Map::whole(), "2..1", "0 0");
+    counts(&rt, alloc, blocks, "1..2,1..2", "1 0 0 0");
+    counts(&rt, alloc, blocks, "1..2,2..1", "0 0 0 0");
 }
 
 // Of 2^24 indices in blocks of a size, the first of two locales has its part in at most so many domains.
@@ -189,31 +209,28 @@ fn many_domains(rt: HostRuntime) {
     );
 }
 
+fn owns(rt: &impl Abort, map: Map, coordinates: &[i64], owner: u32) {
+    assert_eq!(rt; map.owner(index(rt, coordinates)), owner);
+}
+
 // Owners of indices outside of a box, of another rank, and at the ends of what numbers there are.
 #[test]
 fn limits(rt: HostRuntime) {
     let boxed = "-1152921504606846976..1152921504606846976 by 1152921504606846976";
     let blocks = block(&rt, boxed, &[64]);
-    assert_eq!(rt; blocks.owner(index(&rt, &[0])), 31);
-    assert_eq!(rt; blocks.owner(index(&rt, &[LIMIT])), 63);
-    assert_eq!(rt; blocks.owner(index(&rt, &[-LIMIT])), 0);
-    assert_eq!(rt; blocks.owner(index(&rt, &[i64::MAX])), 63);
-    assert_eq!(rt; cyclic(&rt, &[LIMIT], &[3]).owner(index(&rt, &[-LIMIT])), 1);
-    assert_eq!(rt;
-        cyclic(&rt, &[-LIMIT], &[64]).owner(index(&rt, &[i64::MIN])),
-        0
-    );
-    assert_eq!(rt;
-        cyclic(&rt, &[LIMIT], &[64]).owner(index(&rt, &[i64::MAX])),
-        63
-    );
-    assert_eq!(rt; cyclic(&rt, &[0], &[1]).owner(index(&rt, &[i64::MIN])), 0);
+    owns(&rt, blocks, &[0], 31);
+    owns(&rt, blocks, &[LIMIT], 63);
+    owns(&rt, blocks, &[-LIMIT], 0);
+    owns(&rt, blocks, &[i64::MAX], 63);
+    owns(&rt, cyclic(&rt, &[LIMIT], &[3]), &[-LIMIT], 1);
+    owns(&rt, cyclic(&rt, &[-LIMIT], &[64]), &[i64::MIN], 0);
+    owns(&rt, cyclic(&rt, &[LIMIT], &[64]), &[i64::MAX], 63);
+    owns(&rt, cyclic(&rt, &[0], &[1]), &[i64::MIN], 0);
     let plane = block(&rt, "1..4,1..6", &[2, 3]);
-    assert_eq!(rt; plane.owner(index(&rt, &[0, 7])), 2);
-    assert_eq!(rt; plane.owner(index(&rt, &[3])), 0);
-    assert_eq!(rt; plane.owner(index(&rt, &[1, 9, 9])), 0);
-    let around = in_blocks(&rt, &[0, 0], &[2, 3], &[2, 2]);
-    assert_eq!(rt; around.owner(index(&rt, &[-1, -1])), 3);
+    owns(&rt, plane, &[0, 7], 2);
+    owns(&rt, plane, &[3], 0);
+    owns(&rt, plane, &[1, 9, 9], 0);
+    owns(&rt, in_blocks(&rt, &[0, 0], &[2, 3], &[2, 2]), &[-1, -1], 3);
 }
 
 // The first and the last of 64 blocks of a long line.
@@ -230,82 +247,66 @@ fn long_blocks(rt: HostRuntime) {
     }
 }
 
-// Blocks from the ends of what ranges have, and of the greatest sizes: each of three indices is in one part.
-#[test]
-fn ends(rt: HostRuntime) {
-    let three = domain(
-        &rt,
-        "-1152921504606846976..1152921504606846976 by 1152921504606846976",
-    );
-    for (start, size, locales) in [
-        (LIMIT, 1, 64),
-        (-LIMIT, LIMIT, 1),
-        (LIMIT, i64::MAX, 64),
-        (-LIMIT, 3, 1),
-    ] {
-        let map = in_blocks(&rt, &[start], &[size], &[locales]);
-        assert_eq!(rt; held(&rt, rt.alloc(), map, three), 3);
-        assert!(rt; map.owner(index(&rt, &[i64::MIN])) < locales);
-        assert!(rt; map.owner(index(&rt, &[i64::MAX])) < locales);
+// Of three indices at the ends and in the middle each is in one part, and those beyond have an owner.
+fn parted(rt: &impl Abort, alloc: Global, start: i64, size: i64, locales: u32) {
+    let map = in_blocks(rt, &[start], &[size], &[locales]);
+    let ends = "-1152921504606846976..1152921504606846976 by 1152921504606846976";
+    let three = domain(rt, ends);
+    let mut indices: u64 = 0;
+    for locale in 0..locales {
+        let part = map.part(alloc, &three, locale).expect(rt, "memory");
+        indices = indices.wrapping_add(size_of(&part));
     }
+    assert_eq!(rt; indices, 3);
+    let (least, most) = (index(rt, &[i64::MIN]), index(rt, &[i64::MAX]));
+    assert!(rt; map.owner(least) < locales && map.owner(most) < locales);
 }
 
-// How many indices all parts have.
-fn held(rt: &impl Abort, alloc: Global, map: Map, domain: Domain) -> u64 {
-    let mut indices: u64 = 0;
-    for locale in 0..map.locales() {
-        let part = map.part(alloc, &domain, locale).expect(rt, "memory");
-        for piece in &part {
-            indices = indices.wrapping_add(piece.size());
-        }
-    }
-    indices
+// Blocks from the ends of what ranges have, and of the greatest sizes.
+#[test]
+fn ends(rt: HostRuntime) {
+    parted(&rt, rt.alloc(), LIMIT, 1, 64);
+    parted(&rt, rt.alloc(), -LIMIT, LIMIT, 1);
+    parted(&rt, rt.alloc(), LIMIT, i64::MAX, 64);
+    parted(&rt, rt.alloc(), -LIMIT, 3, 1);
+}
+
+fn no_grid(rt: &impl Abort, extents: &[u32], fault: GridFault) {
+    assert!(rt; Grid::new(extents) == Err(fault));
 }
 
 #[test]
 fn no_grids(rt: HostRuntime) {
-    assert_eq!(rt; Grid::new(&[]), Err(GridFault::Rank));
-    assert_eq!(rt; Grid::new(&[1, 1, 1, 1]), Err(GridFault::Rank));
-    assert_eq!(rt; Grid::new(&[8, 0, 2]), Err(GridFault::Locales));
-    assert_eq!(rt; Grid::new(&[65]), Err(GridFault::Locales));
-    let most = u32::MAX;
-    assert_eq!(rt; Grid::new(&[most, most, most]), Err(GridFault::Locales));
+    no_grid(&rt, &[], GridFault::Rank);
+    no_grid(&rt, &[1, 1, 1, 1], GridFault::Rank);
+    no_grid(&rt, &[8, 0, 2], GridFault::Locales);
+    no_grid(&rt, &[65], GridFault::Locales);
+    no_grid(&rt, &[u32::MAX, u32::MAX, u32::MAX], GridFault::Locales);
     assert_eq!(rt; grid(&rt, &[4, 4, 4]).rank(), 3);
+}
+
+fn no_map(rt: &impl Abort, made: Result<Map, MapFault>, fault: MapFault) {
+    assert!(rt; made == Err(fault));
 }
 
 // Of several causes the start is told first.
 #[test]
 fn no_maps(rt: HostRuntime) {
     let grid = grid(&rt, &[2, 2]);
-    assert_eq!(rt;
-        Map::block(&domain(&rt, "5..4"), grid),
-        Err(MapFault::Empty)
-    );
-    assert_eq!(rt; Map::block(&domain(&rt, "4..5"), grid), Err(MapFault::Rank));
+    no_map(&rt, Map::block(&domain(&rt, "5..4"), grid), MapFault::Empty);
+    no_map(&rt, Map::block(&domain(&rt, "4..5"), grid), MapFault::Rank);
     let (one, two) = (index(&rt, &[0]), index(&rt, &[0, 0]));
     let far = index(&rt, &[LIMIT + 1]);
-    assert_eq!(rt; Map::cyclic(far, grid), Err(MapFault::Start));
-    assert_eq!(rt;
-        Map::cyclic(index(&rt, &[0, -LIMIT - 1]), grid),
-        Err(MapFault::Start)
-    );
-    assert_eq!(rt;
-        Map::cyclic(index(&rt, &[LIMIT]), grid),
-        Err(MapFault::Rank)
-    );
-    assert_eq!(rt; Map::block_cyclic(far, one, grid), Err(MapFault::Start));
-    assert_eq!(rt; Map::block_cyclic(one, one, grid), Err(MapFault::Rank));
-    assert_eq!(rt; Map::block_cyclic(two, one, grid), Err(MapFault::Rank));
-    let none = index(&rt, &[1, 0]);
-    assert_eq!(rt;
-        Map::block_cyclic(two, none, grid),
-        Err(MapFault::Blocksize)
-    );
-    let less = index(&rt, &[-1, 1]);
-    assert_eq!(rt;
-        Map::block_cyclic(two, less, grid),
-        Err(MapFault::Blocksize)
-    );
+    let beyond = index(&rt, &[0, -LIMIT - 1]);
+    no_map(&rt, Map::cyclic(far, grid), MapFault::Start);
+    no_map(&rt, Map::cyclic(beyond, grid), MapFault::Start);
+    no_map(&rt, Map::cyclic(index(&rt, &[LIMIT]), grid), MapFault::Rank);
+    no_map(&rt, Map::block_cyclic(far, one, grid), MapFault::Start);
+    no_map(&rt, Map::block_cyclic(one, one, grid), MapFault::Rank);
+    no_map(&rt, Map::block_cyclic(two, one, grid), MapFault::Rank);
+    let (none, less) = (index(&rt, &[1, 0]), index(&rt, &[-1, 1]));
+    no_map(&rt, Map::block_cyclic(two, none, grid), MapFault::Blocksize);
+    no_map(&rt, Map::block_cyclic(two, less, grid), MapFault::Blocksize);
 }
 
 // What the faults of grids and maps print as.

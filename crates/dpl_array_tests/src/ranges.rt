@@ -5,22 +5,23 @@ use dpl_range::Range;
 use std::alloc::Global;
 use std::process::Abort;
 
+// Whether a member stands at this place of a range.
+fn has(range: Range, k: u64, i: i64) -> bool {
+    range.nth(k) == Some(i) && range.place(i) == Some(k) && range.contains(i)
+}
+
 // The range has these members, each at its place, and no others at its ends.
 fn lists(rt: &impl Abort, range: Range, members: &str) {
     let mut k: u64 = 0;
     let mut last = None;
     for member in members.split_whitespace() {
         let i = int(rt, member);
-        assert_eq!(rt; range.nth(k), Some(i));
-        assert_eq!(rt; range.place(i), Some(k));
-        assert!(rt; range.contains(i));
+        assert!(rt; has(range, k, i), "{members}");
         k = k.wrapping_add(1);
         last = Some(i);
     }
-    assert_eq!(rt; range.size(), k);
-    assert_eq!(rt; range.nth(k), None);
-    assert_eq!(rt; range.last(), last);
-    assert_eq!(rt; range.first().is_some(), k != 0);
+    let ends = range.size() == k && range.nth(k).is_none() && range.last() == last;
+    assert!(rt; ends && range.first() == range.nth(0), "{members}");
 }
 
 #[test]
@@ -66,12 +67,13 @@ fn limits(rt: HostRuntime) {
     lists(&rt, falling, "1152921504606846976 0 -1152921504606846976");
 }
 
-// Why these numbers are no range.
-fn refused(rt: &impl Abort, alloc: Global, low: i64, high: i64, stride: i64) -> String {
+// The numbers are no range, and this is why.
+fn refused(rt: &impl Abort, alloc: Global, low: i64, high: i64, stride: i64, why: &str) {
     let Err(fault) = Range::new(low, high, stride) else {
         panic!(rt; "the range is made")
     };
-    format!(in alloc; "{fault}").expect(rt, "memory")
+    let told = format!(in alloc; "{fault}").expect(rt, "memory");
+    assert_eq!(rt; told.as_str(), why);
 }
 
 // A bound is told before a stride.
@@ -80,10 +82,10 @@ fn faults(rt: HostRuntime) {
     let alloc = rt.alloc();
     let bound = "a bound is outside -2^60..2^60";
     let stride = "the stride is not from 1 to 2^60 in size";
-    assert_eq!(rt; refused(&rt, alloc, -LIMIT - 1, 0, 1).as_str(), bound);
-    assert_eq!(rt; refused(&rt, alloc, 0, LIMIT + 1, 1).as_str(), bound);
-    assert_eq!(rt; refused(&rt, alloc, LIMIT + 1, 0, 0).as_str(), bound);
-    assert_eq!(rt; refused(&rt, alloc, 0, 0, 0).as_str(), stride);
-    assert_eq!(rt; refused(&rt, alloc, 0, 0, LIMIT + 1).as_str(), stride);
-    assert_eq!(rt; refused(&rt, alloc, 0, 0, -LIMIT - 1).as_str(), stride);
+    refused(&rt, alloc, -LIMIT - 1, 0, 1, bound);
+    refused(&rt, alloc, 0, LIMIT + 1, 1, bound);
+    refused(&rt, alloc, LIMIT + 1, 0, 0, bound);
+    refused(&rt, alloc, 0, 0, 0, stride);
+    refused(&rt, alloc, 0, 0, LIMIT + 1, stride);
+    refused(&rt, alloc, 0, 0, -LIMIT - 1, stride);
 }
