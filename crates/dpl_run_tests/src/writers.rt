@@ -15,8 +15,7 @@ fn a_writer_that_fails(rt: HostRuntime) {
     let mut out = Plain::new(room.as_mut_slice());
     let text = SUMMED.as_bytes();
     let result = run_text(&rt, rt.alloc(), text, &[], &config, &OpenGate, &mut out);
-    assert!(rt; matches!(result, Err(Refused::Writer)));
-    assert!(rt; out.failed);
+    assert!(rt; matches!(result, Err(Refused::Writer)) && out.failed);
     assert!(rt; room == *b"204");
 }
 
