@@ -1,20 +1,10 @@
 // dpl: runs a text that a file or standard input holds, and prints what it means.
-// What it does stands in `program`, over any reader and any writers; its theorem is that of dpl_run's `run_text`.
+// What it does stands in dpl_command's `program`, over any reader and any writers; its theorem is that of dpl_run's `run_text`.
 #![tactic(auto)]
 
-mod ended;
-mod explain;
-mod input;
-mod line;
-mod program;
-#[cfg(test)]
-mod tests;
-
-use crate::ended::{Ended, status_of, unread};
-use crate::line::{USAGE, tell_line};
-use crate::program::{program, tell};
-use dpl_run::{Plain, Refused};
-use dpl_settings::{LineFault, Settings, settings};
+use dpl_command::{program, unopened};
+use dpl_run::Plain;
+use dpl_settings::{LineFault, Settings, USAGE, settings, tell_line};
 use std::alloc::{AllocError, Global};
 use std::env;
 use std::fs::File;
@@ -68,11 +58,7 @@ fn by_settings(rt: &HostRuntime, asked: &Settings<'_>) -> u8 {
     match asked.file {
         Some(path) if path != "-" => match File::open(rt, path) {
             Ok(file) => program(rt, rt.alloc(), file, asked, shown, &mut out, &mut errors),
-            Err(e) => {
-                let ended = unread(&e);
-                let told = tell(rt.alloc(), &ended, false, &mut errors);
-                status_of(&ended, &told)
-            }
+            Err(error) => unopened(rt.alloc(), &error, &mut errors),
         },
         _ => program(
             rt,

@@ -1,2 +1,0 @@
--- What a text's run says of the program that read it.
-mod Reading

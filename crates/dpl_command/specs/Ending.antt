@@ -1,0 +1,71 @@
+-- How the program ends: what it read, what it ran, and what stands on its writers.
+-- Bytes of a reader or a writer are told where they are known.
+use Rattle.std.specs.Prelude.{◌≡◌, ◌⊎◌, ℕ, Bool, true, false, List, [], ◌++◌, take, Option, Result, Ok, Err, IfSome}
+use Rattle.std.specs.Io.KnownBytes.{Appends, Keeps}
+use Rattle.std.specs.declared.io.ErrorKind.{ErrorKind}
+use Rattle.dpl_history.specs.declared.history.Event.{Event}
+use Rattle.dpl_run.specs.declared.outcome.Outcome.{Outcome}
+use Rattle.dpl_run.specs.declared.refused.Refused.{Refused}
+use Rattle.dpl_run.specs.declared.refused.Refused.TheVariants.{Memory, Gate, Writer}
+use Rattle.dpl_run.specs.Headline.{ComesTo, ComesToOnly}
+use Rattle.dpl_run.specs.Settings.{Settings, limits_of}
+use Rattle.dpl_run.specs.Writers.{Partly}
+use Rattle.dpl_command.specs.declared.ended.Ended.{Ended}
+use Rattle.dpl_command.specs.declared.ended.Ended.TheVariants.{Ran, Failed, Unread}
+use Rattle.dpl_command.specs.Statuses.{IsUnreadBy, IsUntold, status_of, told_of}
+
+-- All of an input is the text, or one byte more than the longest text has.
+abbrev pub IsTextOf : Option (List ℕ) → List ℕ → Type 0
+IsTextOf input text = IfSome input (λ bytes. text ≡ take 1048577 bytes)
+
+-- What the text comes to by these sets and these settings is what became of it, and was written. Without memory nothing was
+-- written, and of what a writer failed to take the first bytes. The program's gate refuses nothing. A text that is there was read.
+abbrev pub IsRunOf : List ℕ → List (List ℕ) → Settings → Option (List ℕ) → Option (List ℕ) → Ended → Type 0
+IsRunOf text sets settings old new (Ran o) =
+    (said : List ℕ) × Appends old new said × ((histories : List (List Event)) → ComesToOnly text sets (limits_of settings) histories o said)
+IsRunOf text sets settings old new (Failed Memory) = Keeps old new
+IsRunOf text sets settings old new (Failed Gate) = ⊥
+IsRunOf text sets settings old new (Failed Writer) =
+    (o : Outcome) × (said : List ℕ) × ((histories : List (List Event)) → ComesTo text sets (limits_of settings) histories o said) × Partly old new said
+IsRunOf text sets settings old new Unread = ⊥
+
+-- The text of an input was run so; or an error of some kind kept it from being read, which is told by that kind, and nothing was
+-- written.
+abbrev pub HasRun : Option (List ℕ) → List (List ℕ) → Settings → Option (List ℕ) → Option (List ℕ) → Ended → Type 0
+HasRun input sets settings old new ended =
+    ((text : List ℕ) × IsTextOf input text × IsRunOf text sets settings old new ended)
+    ⊎ ((kind : ErrorKind) × IsUnreadBy kind ended × Keeps old new)
+
+-- what a person is told behind what a script is told: something only where a rule was broken or a fault arose
+abbrev pub IsMore : Bool → Ended → List ℕ → Type 0
+IsMore false ended more = more ≡ []
+IsMore true ended more = IsUntold ended → more ≡ []
+
+-- why not all of these bytes could be written: memory ran out, and none were; or the writer failed, and took the first of them
+abbrev pub IsCutBy : List ℕ → Option (List ℕ) → Option (List ℕ) → Bool → Refused → Type 0
+IsCutBy bytes old new failed Memory = Keeps old new
+IsCutBy bytes old new failed Gate = ⊥
+IsCutBy bytes old new failed Writer = (failed ≡ true) × Partly old new bytes
+
+-- Told on standard error: what a script is told, and behind it what a person is, where one reads it; or what a script is told was
+-- cut off.
+abbrev pub IsTold : Bool → Bool → Ended → Option (List ℕ) → Option (List ℕ) → Bool → Result Unit Refused → Type 0
+IsTold shown dumps ended old new failed (Ok u) = (more : List ℕ) × IsMore shown ended more × Appends old new (told_of dumps ended ++ more)
+IsTold shown dumps ended old new failed (Err e) = IsCutBy (told_of dumps ended) old new failed e
+
+-- The program ends with this status: the text of its input was run, and on standard error stands what is told of that. Whether
+-- the writer of that failed is told where not all of it could be written.
+pub record EndsWith (input : Option (List ℕ)) (sets : List (List ℕ)) (settings : Settings) (dumps shown : Bool) (out new_out errors new_errors : Option (List ℕ)) (failed : Bool) (status : ℕ) : Type 0 where
+  pub ended : Ended
+  pub run : HasRun input sets settings out new_out ended
+  pub told : Result Unit Refused
+  pub lines : IsTold shown dumps ended errors new_errors failed told
+  pub by : status ≡ status_of ended told
+
+-- The program ends with this status where an error of this kind keeps it from opening its input.
+pub record EndsUnread (kind : ErrorKind) (errors new_errors : Option (List ℕ)) (failed : Bool) (status : ℕ) : Type 0 where
+  pub ended : Ended
+  pub unread : IsUnreadBy kind ended
+  pub told : Result Unit Refused
+  pub lines : IsTold false false ended errors new_errors failed told
+  pub by : status ≡ status_of ended told

@@ -1,0 +1,106 @@
+// The program, over any reader and any two writers: a text is read, run, and told of.
+// Read `program`, whose clause says what stands on both writers when it ends, and with which status.
+
+ghost use Rattle.std.specs.Prelude.{◌≡◌, false, map, IfOk, IfErr};
+ghost use Rattle.std.specs.IoError.{error_kind};
+ghost use Rattle.std.specs.Io.KnownBytes.{Keeps};
+ghost use Rattle.dpl_command.specs.Asked.{maps_of, settings_of};
+ghost use Rattle.dpl_command.specs.Statuses.{IsUnreadBy};
+ghost use Rattle.dpl_command.specs.Ending.{EndsWith, IsRunOf};
+
+use crate::ended::{Ended, status_of, unread};
+use crate::input::read_text;
+use crate::tell::tell_all;
+use dpl_run::{Config, Maps, OpenGate, Out, run_text};
+use dpl_settings::{RootMaps, Settings};
+use std::alloc::Global;
+use std::io::{self, Read};
+
+// How often a blocked cell is tried.
+const TRIES: u64 = 100000000;
+
+// The maps that are asked for.
+fn maps_of(maps: RootMaps) -> Maps
+    ensures { result ≡ maps_of maps }
+{
+    match maps {
+        RootMaps::AsIs => Maps::AsIs,
+        RootMaps::Block => Maps::Block,
+        RootMaps::Cyclic => Maps::Cyclic,
+    }
+}
+
+// The settings of a run, as they are asked for: what is asked for is never refused.
+fn config_of(asked: &Settings<'_>) -> Config
+    ensures { result ≡ settings_of asked.now }
+{
+    Config::new(
+        asked.locales,
+        asked.budget,
+        TRIES,
+        asked.grid2,
+        asked.grid3,
+        maps_of(asked.maps),
+    )
+    .unwrap()
+}
+
+// Runs a text with the sets and by the settings that are asked for.
+fn run_bytes<R: Sync, W: Out>(
+    rt: &R,
+    alloc: Global,
+    text: &[u8],
+    asked: &Settings<'_>,
+    out: &mut W,
+) -> Ended
+    requires { W.has_failed out.old ≡ false }
+    ensures { IsRunOf text.now (map (λ set. set.now) asked.now.sets.items) (settings_of asked.now) (W.contents out.old) (W.contents out.new) result }
+{
+    let config = config_of(asked);
+    let sets = asked.sets.as_slice();
+    match run_text(rt, alloc, text, sets, &config, &OpenGate, out) {
+        Ok(outcome) => Ended::Ran(outcome),
+        Err(refused) => Ended::Failed(refused),
+    }
+}
+
+// Runs the text that was read. Where an error kept it from being read to its end nothing is run.
+fn run_read<R: Sync, W: Out>(
+    rt: &R,
+    alloc: Global,
+    read: &io::Result<Vec<u8>>,
+    asked: &Settings<'_>,
+    out: &mut W,
+) -> Ended
+    requires { W.has_failed out.old ≡ false }
+    ensures run { IfOk read.now (λ text. IsRunOf text.items (map (λ set. set.now) asked.now.sets.items) (settings_of asked.now)
+        (W.contents out.old) (W.contents out.new) result) }
+    ensures unread { IfErr read.now (λ e. IsUnreadBy (error_kind e) result × Keeps (W.contents out.old) (W.contents out.new)) }
+{
+    match read {
+        Ok(text) => run_bytes(rt, alloc, text, asked, out),
+        Err(error) => unread(error),
+    }
+}
+
+/// Reads a text, runs it by the settings asked for, and tells what became of it; to a person, where `shown` says that one reads the
+/// errors, in words too.
+pub fn program<R: Sync, I: Read + Drop, W: Out, E: Out>(
+    rt: &R,
+    alloc: Global,
+    input: I,
+    asked: &Settings<'_>,
+    shown: bool,
+    out: &mut W,
+    errors: &mut E,
+) -> u8
+    requires unfailed { W.has_failed out.old ≡ false }
+    requires errors_unfailed { E.has_failed errors.old ≡ false }
+    ensures { EndsWith (I.remaining input) (map (λ set. set.now) asked.now.sets.items) (settings_of asked.now) asked.now.dump shown
+        (W.contents out.old) (W.contents out.new) (E.contents errors.old) (E.contents errors.new) (E.has_failed errors.new) result }
+{
+    let read = read_text(alloc, input);
+    let ended = run_read(rt, alloc, &read, asked, out);
+    let told = tell_all(alloc, asked, shown, &read, &ended, errors);
+    status_of(&ended, &told)
+}

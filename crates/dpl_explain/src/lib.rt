@@ -1,0 +1,10 @@
+// A refusal or a fault in words, for a person: its place and its rule, and the line of the text with a mark under the token.
+// Nothing of it is written where standard error is no terminal.
+#![tactic(auto)]
+
+mod excerpt;
+mod explain;
+mod line;
+mod sentence;
+
+pub use explain::{explain_fault, explain_refusal};
