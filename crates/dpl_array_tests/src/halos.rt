@@ -3,7 +3,7 @@
 
 ghost use Rattle.std.specs.Prelude.{◌≡◌};
 
-use crate::made::{block, cyclic, domain, in_blocks, index, int, squares};
+use crate::made::{block, count, cyclic, domain, in_blocks, index, squares};
 use dpl_array::DArray;
 use dpl_domain::{Domain, Index};
 use dpl_halo::{Halo, Loan, Shift, Step};
@@ -47,9 +47,9 @@ fn halos(
 ) {
     let map = array.map();
     let mut locale: u32 = 0;
-    for count in counts.split_whitespace() {
+    for word in counts.split_whitespace() {
         let halo = collect(rt, alloc, array, turns, locale, distance);
-        assert_eq!(rt; halo.len() as i64, int(rt, count));
+        assert_eq!(rt; halo.len(), count(rt, word));
         for i in 0..10i64 {
             let index = index(rt, &[i]);
             if let Some(value) = halo.get(index) {

@@ -13,6 +13,10 @@ pub(crate) fn int(rt: &impl Abort, text: &str) -> i64 {
     text.trim().parse::<i64>().expect(rt, "a number")
 }
 
+pub(crate) fn count(rt: &impl Abort, text: &str) -> usize {
+    text.parse::<usize>().expect(rt, "a number")
+}
+
 /// The range of `low..high` or `low..high by stride`.
 pub(crate) fn range(rt: &impl Abort, text: &str) -> Range {
     let (bounds, stride) = text.split_once(" by ").unwrap_or((text, "1"));

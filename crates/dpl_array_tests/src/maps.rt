@@ -2,7 +2,7 @@
 
 ghost use Rattle.dpl_map.specs.Orders.{ArePart};
 
-use crate::made::{LIMIT, block, cyclic, domain, grid, in_blocks, index, int};
+use crate::made::{LIMIT, block, count, cyclic, domain, grid, in_blocks, index};
 use dpl_domain::{Domain, Index};
 use dpl_map::{Grid, GridFault, Map, MapFault};
 use std::alloc::Global;
@@ -131,9 +131,9 @@ fn blocks_that_go_round(rt: HostRuntime) {
 fn counts(rt: &impl Abort, alloc: Global, map: Map, text: &str, domains: &str) {
     let domain = domain(rt, text);
     let mut locale: u32 = 0;
-    for count in domains.split_whitespace() {
+    for word in domains.split_whitespace() {
         let part = map.part(alloc, &domain, locale).expect(rt, "memory");
-        assert_eq!(rt; part.len() as i64, int(rt, count));
+        assert_eq!(rt; part.len(), count(rt, word));
         locale = locale.wrapping_add(1);
     }
 }
