@@ -53,9 +53,10 @@ abbrev pub IsTold : Bool → Bool → Ended → Option (List ℕ) → Option (Li
 IsTold shown dumps ended old new failed (Ok u) = (more : List ℕ) × IsMore shown ended more × Appends old new (told_of dumps ended ++ more)
 IsTold shown dumps ended old new failed (Err e) = IsCutBy (told_of dumps ended) old new failed e
 
--- The program ends with this status: the text of its input was run, and on standard error stands what is told of that. Whether
--- the writer of that failed is told where not all of it could be written.
-pub record EndsWith (input : Option (List ℕ)) (sets : List (List ℕ)) (settings : Settings) (dumps shown : Bool) (out new_out errors new_errors : Option (List ℕ)) (failed : Bool) (status : ℕ) : Type 0 where
+-- The program ends with this status: the text of its input was run, and on standard error stands what is told of that. Where not
+-- all of it could be written, `failed` says whether standard error had failed.
+pub record EndsWith (input : Option (List ℕ)) (sets : List (List ℕ)) (settings : Settings) (dumps shown : Bool)
+    (out new_out errors new_errors : Option (List ℕ)) (failed : Bool) (status : ℕ) : Type 0 where
   pub ended : Ended
   pub run : HasRun input sets settings out new_out ended
   pub told : Result Unit Refused

@@ -1,4 +1,4 @@
-// The program `dpl` but for its command line and its two ends: a text is read of any reader, run, and told of on any two writers.
+// The program `dpl` over any reader and any two writers: a text is read, run by the settings asked for, and told of.
 // Read `program`, whose clause says what stands on both writers when it ends, and with which status.
 #![tactic(auto)]
 

@@ -1,5 +1,5 @@
-// The program, over any reader and any two writers: a text is read, run, and told of.
-// Read `program`, whose clause says what stands on both writers when it ends, and with which status.
+// A text is read of an input and run, and what became of it is told.
+// Where an error kept it from being read nothing is run.
 
 ghost use Rattle.std.specs.Prelude.{◌≡◌, false, map, IfOk, IfErr};
 ghost use Rattle.std.specs.IoError.{error_kind};
@@ -64,7 +64,7 @@ fn run_bytes<R: Sync, W: Out>(
     }
 }
 
-// Runs the text that was read. Where an error kept it from being read to its end nothing is run.
+// Runs the text that was read. Where an error kept it from being read nothing is run.
 fn run_read<R: Sync, W: Out>(
     rt: &R,
     alloc: Global,

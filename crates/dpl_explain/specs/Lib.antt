@@ -1,2 +1,2 @@
--- The line of a text with a mark under a place, as a terminal may show it.
+-- What a person is shown of a text: the line of a place with a mark under its column, as a terminal may show it.
 pub mod Excerpt

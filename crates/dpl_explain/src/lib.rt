@@ -1,5 +1,5 @@
 // A refusal or a fault in words, for a person: its place and its rule, and the line of the text with a mark under the token.
-// Nothing of it is written where standard error is no terminal.
+// The program tells it behind what it tells a script, and only where standard error is a terminal.
 #![tactic(auto)]
 
 mod excerpt;
