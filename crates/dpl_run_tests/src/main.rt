@@ -1,5 +1,6 @@
 // Tests of what the rows of `dpl_rows` can't show of a run: gates, writers that fail, and what a program leaves.
 // They stand in a crate of their own, since a crate with tests is proved twice, and no crate waits for this one.
+// The program itself does nothing: rt sums up all that a library stands on, once for each way down, and a program it just builds.
 #![tactic(auto)]
 
 #[cfg(test)]
@@ -14,3 +15,9 @@ mod programs;
 mod roots;
 #[cfg(test)]
 mod writers;
+
+use std::process::ExitCode;
+
+fn main(_rt: HostRuntime) -> ExitCode {
+    ExitCode::SUCCESS
+}
