@@ -37,19 +37,9 @@ infix_of Or v w = Truth (truth v || truth w)
 
 -- `/` and `%` divide
 abbrev pub divides : Infix → Bool
-divides Add = false
-divides Subtract = false
-divides Multiply = false
 divides Divide = true
 divides Remainder = true
-divides Less = false
-divides LessEqual = false
-divides Greater = false
-divides GreaterEqual = false
-divides Equal = false
-divides NotEqual = false
-divides And = false
-divides Or = false
+divides _ = false
 
 -- a division whose right side is 0 is F2 at its operator; any other right side stays as it is
 abbrev pub tested_divisor : Bool → Place → Value → Result Value Fault
@@ -58,19 +48,9 @@ tested_divisor dividing at w =
 
 -- `&&` after false and `||` after true don't look at their right side
 abbrev pub decides : Infix → Value → Bool
-decides Add v = false
-decides Subtract v = false
-decides Multiply v = false
-decides Divide v = false
-decides Remainder v = false
-decides Less v = false
-decides LessEqual v = false
-decides Greater v = false
-decides GreaterEqual v = false
-decides Equal v = false
-decides NotEqual v = false
 decides And v = not (truth v)
 decides Or v = truth v
+decides _ _ = false
 
 -- two values put together by a reduction's operator
 abbrev pub combined : Op → Value → Value → Value
@@ -113,10 +93,6 @@ assigned SetReduce intent old v = by_intent intent old v
 
 -- `/=` and `%=` divide
 abbrev pub assign_divides : Assign → Bool
-assign_divides Set = false
-assign_divides SetAdd = false
-assign_divides SetSubtract = false
-assign_divides SetMultiply = false
 assign_divides SetDivide = true
 assign_divides SetRemainder = true
-assign_divides SetReduce = false
+assign_divides _ = false

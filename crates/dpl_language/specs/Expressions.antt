@@ -4,7 +4,7 @@ use Rattle.std.specs.Prelude.{ℕ, nat_lt, ℤ, pos, int_lt, int_le, Bool, true,
 use Rattle.dpl_syntax.specs.declared.place.Place.{Place}
 use Rattle.dpl_language.specs.Tree.{Placed, Op, ExprTree, Number, TruthWord, Named, LocalesWord, LocaleCount, HereWord, Grouped, DomainLiteral, Prefixed, Reduced, Chain, Postfixed, ItemTree, One, RangeItem, Stride, NoStride, By, Links, NoLinks, Link, Posts, NoPosts, Post, PostTree, Brackets, Rounds, Dotted, MethodTree, Plainly, Dim, Contains, Expand, CellRead, Items, FirstItem, MoreItems, NoItems, NextItem, Exprs, FirstExpr, MoreExprs, NoExprs, NextExpr}
 use Rattle.dpl_sets.specs.TextRanges.{TextRange}
-use Rattle.dpl_language.specs.Values.{Value, Int, Truth, Range, Domain, Array, Cell, Locale, AllLocales, Tuple, Index, number, ranges_in, all_ranges, index_of, array_domain, Fault, fault, Outside, Budget, NoLocale}
+use Rattle.dpl_language.specs.Values.{Value, Int, Truth, Range, Domain, Array, Locale, AllLocales, Index, number, ranges_in, all_ranges, index_of, array_domain, Fault, fault, Outside, Budget, NoLocale}
 use Rattle.dpl_language.specs.Arithmetic.{prefix_of, infix_of, divides, tested_divisor, decides, combined, unit_of}
 use Rattle.dpl_language.specs.Ranges.{indices_in, size_in, bounded, strided_by, sized, all_sliced, range_sliced, expanded, contains_index, dimension, method_of}
 use Rattle.dpl_language.specs.Outcome.{with_ok, naming_value}
@@ -32,9 +32,8 @@ locale_at locales at k =
     if int_le (pos 0) k && int_lt k (pos locales) then Ok (Locale k) else Err (fault NoLocale at)
 
 abbrev pub locale_of : {N : Type 0} → ℕ → Base N → ℤ → Result Value Fault
-locale_of locales (BaseName x) k = Ok (Locale k)
 locale_of locales (BaseLocales at) k = locale_at locales at k
-locale_of locales OtherBase k = Ok (Locale k)
+locale_of locales _ k = Ok (Locale k)
 
 -- the fold of a reduction's operator over the values at some indices, in their order
 abbrev pub folded : Op → (Index → Result Value Fault) → List Index → Value → Result Value Fault
@@ -87,26 +86,20 @@ module _ {N S : Type 0} (limits : Limits) (env : Environment N S) where
   -- the element of an array at an index: outside its domain it is F1 at the array's name
   abbrev pub element_of : Base N → Index → S → Result Value Fault
   element_of (BaseName x) t s = found x.at (env.element x.name t s)
-  element_of (BaseLocales at) t s = Ok (Int (pos 0))
-  element_of OtherBase t s = Ok (Int (pos 0))
+  element_of _ t s = Ok (Int (pos 0))
 
   -- a name: its value, and where the expression is promoted, of a whole array the element at the index
   abbrev pub named : Option Index → Placed N → Option (List TextRange) → Value → S → Result Value Fault
-  named None x domain v s = Ok v
-  named (Some t) x None v s = Ok v
   named (Some t) x (Some rs) v s = found x.at (env.element x.name t s)
+  named _ x _ v s = Ok v
 
   -- square brackets: an element of an array, a slice of a range or a domain, or one of the locales
   abbrev pub bracketed : Base N → List Value → Value → S → Result Value Fault
-  bracketed b vs (Int n) s = Ok (Int n)
-  bracketed b vs (Truth c) s = Ok (Truth c)
   bracketed b vs (Range r) s = Ok (Range (range_sliced r (all_ranges vs)))
   bracketed b vs (Domain rs) s = Ok (Domain (all_sliced rs (all_ranges vs)))
   bracketed b vs (Array k rs) s = element_of b (index_of vs) s
-  bracketed b vs (Cell k) s = Ok (Cell k)
-  bracketed b vs (Locale k) s = Ok (Locale k)
   bracketed b vs AllLocales s = locale_of limits.locales b (leading (index_of vs))
-  bracketed b vs (Tuple t) s = Ok (Tuple t)
+  bracketed b vs v s = Ok v
 
   abbrev mutual
     -- An expression's value. Where the expression is promoted, it is the value at the given index of its arrays.

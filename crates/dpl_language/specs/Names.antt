@@ -1,6 +1,6 @@
 -- Variables kept by their names: the language's own environment.
 -- A store is a list of frames, the innermost scope's first; a frame has its names in order of declaration.
-use Rattle.std.specs.Prelude.{ℕ, ◌+◌, ℤ, pos, Bool, false, ◌||◌, bytes_eq, if◌then◌else◌, List, [], ◌∷◌, ◌++◌, map, length, Option, Some, None, drop}
+use Rattle.std.specs.Prelude.{ℕ, ◌+◌, ℤ, pos, Bool, false, ◌||◌, bytes_eq, if◌then◌else◌, List, [], ◌∷◌, ◌++◌, map, length, Option, Some, None, drop, get_or}
 use Rattle.std.specs.List.{list_any}
 use Rattle.dpl_history.specs.declared.cell.CellState.{CellState}
 use Rattle.dpl_history.specs.declared.cell.CellState.TheVariants.{Empty}
@@ -100,31 +100,26 @@ value_in (CellOf k c) = Cell k
 -- a variable assigned; `reduce=` is by the operator of the intent that names it
 abbrev pub update_in : Assign → Option Op → Value → Content Text → Content Text
 update_in op intent w (Plain v) = Plain (assigned op intent v w)
-update_in op intent w (ArrayOf over k rs vs) = ArrayOf over k rs vs
-update_in op intent w (CellOf k c) = CellOf k c
+update_in op intent w c = c
 
 -- ARRAYS. The elements are the list of an array's values in the order of its indices; here the list is read as the
 -- finite map that it is: what it holds at an index, where the index is one of the domain's.
 abbrev pub element_at : Index → List Index → List Value → Option Value
-element_at t [] vs = None
-element_at t (i ∷ is) [] = None
 element_at t (i ∷ is) (v ∷ vs) = if same_index t i then Some v else element_at t is vs
+element_at t _ _ = None
 
 -- the map with another value at one index
 abbrev pub with_element : Index → Value → List Index → List Value → List Value
-with_element t w [] vs = vs
-with_element t w (i ∷ is) [] = []
 with_element t w (i ∷ is) (v ∷ vs) = if same_index t i then w ∷ vs else v ∷ with_element t w is vs
+with_element t w _ vs = vs
 
 abbrev pub element_in : Index → Content Text → Option Value
-element_in t (Plain v) = None
 element_in t (ArrayOf over k rs vs) = element_at t (indices_in rs) vs
-element_in t (CellOf k c) = None
+element_in t _ = None
 
 abbrev pub put_in : Index → Value → Content Text → Content Text
-put_in t w (Plain v) = Plain v
 put_in t w (ArrayOf over k rs vs) = ArrayOf over k rs (with_element t w (indices_in rs) vs)
-put_in t w (CellOf k c) = CellOf k c
+put_in t w c = c
 
 -- DOMAIN VARIABLES. When a domain is assigned, each array declared over its bare name keeps the elements whose indices
 -- are in both domains, and new ones hold the default.
@@ -141,10 +136,9 @@ is_over x None = false
 is_over x (Some y) = bytes_eq x y
 
 abbrev pub redomain_content : Text → List TextRange → Content Text → Content Text
-redomain_content x new (Plain v) = Plain v
 redomain_content x new (ArrayOf over k rs vs) =
     if is_over x over then ArrayOf over k new (redomained k rs vs new) else ArrayOf over k rs vs
-redomain_content x new (CellOf k c) = CellOf k c
+redomain_content x new c = c
 
 abbrev pub redomain_all : Text → List TextRange → Frame → Frame
 redomain_all x new es = map {A = Entry} {B = Entry} (λ e. record e { content = redomain_content x new e.content }) es
@@ -164,9 +158,8 @@ redomain_in x new (f ∷ fs) =
     or_store (redomain_behind x new f) fs (redomain_all x new f ∷ redomain_in x new fs)
 
 abbrev pub is_array_over : Text → Content Text → Bool
-is_array_over x (Plain v) = false
 is_array_over x (ArrayOf over k rs vs) = is_over x over
-is_array_over x (CellOf k c) = false
+is_array_over x _ = false
 
 abbrev pub has_over : Text → Frame → Bool
 has_over x es = list_any (λ (e : Entry). is_array_over x e.content) es
@@ -187,9 +180,8 @@ arrays_over x (f ∷ fs) = or_further (has_over_behind x f) (has_over x f || arr
 
 -- CELLS. They are numbered from the outermost frame on, in each frame in order of declaration, hidden ones too.
 abbrev pub cell_in : Content Text → List CellState
-cell_in (Plain v) = []
-cell_in (ArrayOf over k rs vs) = []
 cell_in (CellOf k c) = c ∷ []
+cell_in _ = []
 
 abbrev pub frame_cells : Frame → List CellState
 frame_cells [] = []
@@ -219,10 +211,8 @@ cell_number x (f ∷ fs) = or_number (cells_before x f) (length (store_cells fs)
 
 -- what a name holds, a cell's state being the first of these
 abbrev pub set_cell : List CellState → Content Text → Content Text
-set_cell cs (Plain v) = Plain v
-set_cell cs (ArrayOf over k rs vs) = ArrayOf over k rs vs
-set_cell [] (CellOf k c) = CellOf k c
-set_cell (new ∷ cs) (CellOf k c) = CellOf k new
+set_cell cs (CellOf k c) = CellOf k (get_or cs 0 c)
+set_cell cs c = c
 
 -- the frame, and the store, with these states of its cells in place of the old ones
 abbrev pub set_cells : List CellState → Frame → Frame
@@ -236,9 +226,8 @@ with_cells cs (f ∷ fs) = set_cells (drop (length (store_cells fs)) cs) f ∷ w
 
 -- a cell's state; what is no cell counts as an empty one
 abbrev pub state_in : Content Text → CellState
-state_in (Plain v) = Empty
-state_in (ArrayOf over k rs vs) = Empty
 state_in (CellOf k c) = c
+state_in _ = Empty
 
 -- outside tasks an operation takes effect on the cell, or waits
 abbrev pub effect_on : Text → State → Option (CellState × Reply) → Answer State

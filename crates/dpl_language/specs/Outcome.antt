@@ -102,9 +102,8 @@ repeated (suc n) at test body s done =
 
 -- a fault that arises in a turn of a forall, a whole-array assignment or a reduction names that turn
 abbrev pub naming : {S : Type 0} → Index → Outcome S → Outcome S
-naming t (Done s done) = Done s done
 naming t (Stop f done) = Stop (in_the_turn (InTurn t) f) done
-naming t (Waits at c op done) = Waits at c op done
+naming t o = o
 
 abbrev pub naming_value : {A : Type 0} → Index → Result A Fault → Result A Fault
 naming_value t (Ok v) = Ok v

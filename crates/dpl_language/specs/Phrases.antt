@@ -4,7 +4,7 @@ use Rattle.std.specs.Prelude.{ℕ, ℤ, pos, negsuc, Option, Some, None, List, [
 use Rattle.dpl_syntax.specs.declared.place.Place.{Place}
 use Rattle.dpl_history.specs.declared.cell.CellOp.{CellOp}
 use Rattle.dpl_history.specs.declared.cell.CellOp.TheVariants.{ReadFE, ReadFF, WriteEF, WriteFF, WriteXF}
-use Rattle.dpl_language.specs.Tree.{Placed, AfterComma, Listed, Op, ReadWord, ReadFEWord, ReadFFWord, WriteWord, WriteEFWord, WriteFFWord, WriteXFWord, ExprTree, Number, TruthWord, Named, LocalesWord, LocaleCount, HereWord, Grouped, DomainLiteral, Prefixed, Reduced, Chain, Postfixed, ItemTree, One, RangeItem, Posts, NoPosts, Post, PostTree, Brackets, Rounds, Dotted, MethodTree, Plainly, Dim, Contains, Expand, CellRead, Items, FirstItem, NoItems, NextItem, IntentTree, ReduceIntent, RefIntent, WithTree}
+use Rattle.dpl_language.specs.Tree.{Placed, AfterComma, Listed, Op, ReadWord, ReadFEWord, ReadFFWord, WriteWord, WriteEFWord, WriteFFWord, WriteXFWord, ExprTree, Named, LocalesWord, Grouped, Postfixed, ItemTree, One, RangeItem, Posts, NoPosts, Post, PostTree, Dotted, MethodTree, CellRead, Items, FirstItem, NoItems, IntentTree, ReduceIntent, RefIntent, WithTree}
 
 -- a number that counts, as a token has it; no token has one below 0
 abbrev pub natural : ℤ → ℕ
@@ -23,37 +23,19 @@ pub data Base (N : Type 0) : Type 0 where
 
 abbrev mutual
   pub base_of : {N : Type 0} → ExprTree N → Base N
-  base_of (Number at n) = OtherBase
-  base_of (TruthWord at b) = OtherBase
   base_of (Named x) = BaseName x
   base_of (LocalesWord at) = BaseLocales at
-  base_of (LocaleCount at) = OtherBase
-  base_of (HereWord at) = OtherBase
   base_of (Grouped from item upto) = item_base item
-  base_of (DomainLiteral from items upto) = OtherBase
-  base_of (Prefixed at op e) = OtherBase
-  base_of (Reduced at op word e) = OtherBase
-  base_of (Chain e rest) = OtherBase
-  base_of (Postfixed e posts) = OtherBase
+  base_of _ = OtherBase
 
   pub item_base : {N : Type 0} → ItemTree N → Base N
   item_base (One e) = base_of e
-  item_base (RangeItem low at dots high by) = OtherBase
+  item_base _ = OtherBase
 
 -- the bare name that an expression is
 abbrev pub bare_name : {N : Type 0} → ExprTree N → Option (Placed N)
-bare_name (Number at n) = None
-bare_name (TruthWord at b) = None
 bare_name (Named x) = Some x
-bare_name (LocalesWord at) = None
-bare_name (LocaleCount at) = None
-bare_name (HereWord at) = None
-bare_name (Grouped from item upto) = None
-bare_name (DomainLiteral from items upto) = None
-bare_name (Prefixed at op e) = None
-bare_name (Reduced at op word e) = None
-bare_name (Chain e rest) = None
-bare_name (Postfixed e posts) = None
+bare_name _ = None
 
 -- the operation on a cell that a method's word stands for
 abbrev pub read_op : ReadWord → CellOp
@@ -66,22 +48,17 @@ write_op WriteFFWord z = WriteFF z
 write_op WriteXFWord z = WriteXF z
 
 abbrev pub method_read : {N : Type 0} → MethodTree N → Option CellOp
-method_read (Plainly at w) = None
-method_read (Dim at from rank_at d upto) = None
-method_read (Contains at from es upto) = None
-method_read (Expand at from e upto) = None
 method_read (CellRead at w from upto) = Some (read_op w)
+method_read _ = None
 
 abbrev pub post_read : {N : Type 0} → PostTree N → Option CellOp
-post_read (Brackets from items upto) = None
-post_read (Rounds from es upto) = None
 post_read (Dotted dot m) = method_read m
+post_read _ = None
 
 -- a cell read stands behind a bare name alone
 abbrev pub posts_read : {N : Type 0} → Posts N → Option CellOp
-posts_read NoPosts = None
 posts_read (Post p NoPosts) = post_read p
-posts_read (Post p (Post q rest)) = None
+posts_read _ = None
 
 -- a read of a cell: `c.readFE()` or `c.readFF()`
 pub record ReadTree (N : Type 0) : Type 0 where
@@ -89,24 +66,13 @@ pub record ReadTree (N : Type 0) : Type 0 where
   pub op : CellOp
 
 abbrev pub read_by : {N : Type 0} → Option (Placed N) → Option CellOp → Option (ReadTree N)
-read_by None op = None
-read_by (Some x) None = None
 read_by (Some x) (Some op) = Some (record { name = x; op = op })
+read_by _ _ = None
 
 -- the cell read that an expression is as a whole
 abbrev pub cell_read : {N : Type 0} → ExprTree N → Option (ReadTree N)
-cell_read (Number at n) = None
-cell_read (TruthWord at b) = None
-cell_read (Named x) = None
-cell_read (LocalesWord at) = None
-cell_read (LocaleCount at) = None
-cell_read (HereWord at) = None
-cell_read (Grouped from item upto) = None
-cell_read (DomainLiteral from items upto) = None
-cell_read (Prefixed at op e) = None
-cell_read (Reduced at op word e) = None
-cell_read (Chain e rest) = None
 cell_read (Postfixed e posts) = read_by (bare_name e) (posts_read posts)
+cell_read _ = None
 
 abbrev pub item_read : {N : Type 0} → ItemTree N → Option (ReadTree N)
 item_read (One e) = cell_read e
@@ -124,7 +90,7 @@ item_over (RangeItem low at dots high by) = None
 -- the bare domain name over which an array is declared: it stands alone between the brackets
 abbrev pub declared_over : {N : Type 0} → Items N → Option N
 declared_over (FirstItem i NoItems) = item_over i
-declared_over (FirstItem i (NextItem comma j more)) = None
+declared_over _ = None
 
 -- the reduce variables of a loop and their operators; `ref` changes nothing
 abbrev pub reduce_intents : {N : Type 0} → List (IntentTree N) → List (N × Op)

@@ -3,20 +3,14 @@
 use Rattle.std.specs.Prelude.{ℕ, zero, suc, true, false, List, [], ◌∷◌, ◌++◌, codes, map, take, drop}
 use Rattle.std.specs.Fmt.{signed_decimal}
 use Rattle.dpl_sets.specs.TextRanges.{TextRange}
-use Rattle.dpl_language.specs.Values.{Value, Int, Truth, Range, Domain, Array, Cell, Locale, AllLocales, Tuple}
+use Rattle.dpl_language.specs.Values.{Value, Int, Truth}
 use Rattle.dpl_language.specs.Ranges.{count_in, size_in}
 
 abbrev pub printed : Value → List ℕ
 printed (Int n) = signed_decimal n
 printed (Truth true) = codes "true"
 printed (Truth false) = codes "false"
-printed (Range r) = []
-printed (Domain rs) = []
-printed (Array k rs) = []
-printed (Cell k) = []
-printed (Locale k) = []
-printed AllLocales = []
-printed (Tuple t) = []
+printed _ = []
 
 -- texts with another between each two
 abbrev pub joined : List ℕ → List (List ℕ) → List ℕ

@@ -8,7 +8,7 @@ use Rattle.dpl_history.specs.declared.history.Event.{Event}
 use Rattle.dpl_language.specs.Tree.{ProgramTree}
 use Rattle.dpl_language.specs.Values.{Value, Turn, InNone, InTurn, InTask, Fault, fault, FaultCode, Outside, ZeroDivisor, PastLimit, EmptyEnd, Budget, NoLocale, CellStuck, ArrayTooLarge}
 use Rattle.dpl_language.specs.Outcome.{Deeds, no_deeds, Outcome, Done, Stop, Waits}
-use Rattle.dpl_language.specs.Environment.{Content, Plain, ArrayOf, CellOf, Limits}
+use Rattle.dpl_language.specs.Environment.{Content, ArrayOf, Limits}
 use Rattle.dpl_language.specs.Statements.{exec_all}
 use Rattle.dpl_language.specs.Names.{Text, Entry, Frame, Store, State, by_name}
 
@@ -71,9 +71,8 @@ top_level (f ∷ g ∷ fs) = top_level (g ∷ fs)
 
 -- What a name holds by itself: of an array its domain and its elements, whichever name it is declared over.
 abbrev pub own_content : {N : Type 0} → Content N → Content N
-own_content (Plain v) = Plain v
 own_content (ArrayOf over k rs vs) = ArrayOf None k rs vs
-own_content (CellOf k c) = CellOf k c
+own_content c = c
 
 abbrev pub own_entry : Entry → Entry
 own_entry e = record { name = e.name; content = own_content e.content }
@@ -84,5 +83,4 @@ own_frame f = map {A = Entry} {B = Entry} own_entry f
 -- what a run that is done leaves: the top-level names and what they hold
 abbrev pub left : Outcome State → Option Frame
 left (Done s done) = Some (top_level s.store)
-left (Stop f done) = None
-left (Waits at c op done) = None
+left _ = None

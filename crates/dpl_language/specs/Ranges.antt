@@ -10,7 +10,7 @@ use Rattle.dpl_sets.specs.TextDomains.{text_expanded}
 use Rattle.dpl_sets.specs.Indices.{indices}
 use Rattle.dpl_language.specs.Tree.{Dots, Closed, HalfOpen, Counted, Word, Size, First, Last, Low, High, LowBound, DomainOf, Id}
 use Rattle.dpl_sets.specs.TextRanges.{TextRange, text_sliced}
-use Rattle.dpl_language.specs.Values.{Value, Int, Truth, Range, Domain, Array, Cell, Locale, AllLocales, Tuple, Index, number, ranges_in, Fault, fault, PastLimit, EmptyEnd}
+use Rattle.dpl_language.specs.Values.{Value, Int, Range, Domain, Array, Locale, AllLocales, Tuple, Index, number, ranges_in, Fault, fault, PastLimit, EmptyEnd}
 
 -- a range without `by`
 abbrev pub unstrided : ℤ → ℤ → TextRange
@@ -61,9 +61,8 @@ high_bound (Counted at) low z = low +ℤ z -ℤ pos 1
 
 -- a count is below 0
 abbrev pub bad_count : Dots → ℤ → Bool
-bad_count Closed z = false
-bad_count HalfOpen z = false
 bad_count (Counted at) z = int_lt z (pos 0)
+bad_count _ _ = false
 
 -- the range without its stride: a bad count, and a bound past the limit, also of an empty range, is F3 at the dots
 abbrev pub bounded : Place → Dots → ℤ → ℤ → Result TextRange Fault
@@ -107,9 +106,8 @@ expanded at k rs =
 
 abbrev pub same_index : Index → Index → Bool
 same_index [] [] = true
-same_index [] (j ∷ js) = false
-same_index (i ∷ is) [] = false
 same_index (i ∷ is) (j ∷ js) = int_eq i j && same_index is js
+same_index _ _ = false
 
 -- `contains`: the index is one of the domain's, or the number a member of the range
 abbrev pub contains_index : List TextRange → Index → Bool
@@ -161,15 +159,11 @@ locale_range locales = unstrided (pos 0) (pos locales -ℤ pos 1)
 
 -- what a loop runs over: the ranges of a range or a domain, or the locales
 abbrev pub loop_ranges : ℕ → Value → List TextRange
-loop_ranges locales (Int n) = unstrided (pos 1) (pos 0) ∷ []
-loop_ranges locales (Truth b) = unstrided (pos 1) (pos 0) ∷ []
 loop_ranges locales (Range r) = r ∷ []
 loop_ranges locales (Domain rs) = rs
 loop_ranges locales (Array k rs) = rs
-loop_ranges locales (Cell k) = unstrided (pos 1) (pos 0) ∷ []
-loop_ranges locales (Locale k) = unstrided (pos 1) (pos 0) ∷ []
 loop_ranges locales AllLocales = locale_range locales ∷ []
-loop_ranges locales (Tuple t) = unstrided (pos 1) (pos 0) ∷ []
+loop_ranges locales _ = empty_domain 1
 
 -- the turn's one variable where a loop runs over numbers or indices: an int for one coordinate, else a tuple
 abbrev pub index_value : Index → Value
@@ -184,12 +178,5 @@ locale_value (i ∷ is) = Locale i
 
 -- the turn's one variable, by what the loop runs over
 abbrev pub loop_value : Value → Index → Value
-loop_value (Int n) t = index_value t
-loop_value (Truth b) t = index_value t
-loop_value (Range r) t = index_value t
-loop_value (Domain rs) t = index_value t
-loop_value (Array k rs) t = index_value t
-loop_value (Cell k) t = index_value t
-loop_value (Locale k) t = index_value t
 loop_value AllLocales t = locale_value t
-loop_value (Tuple is) t = index_value t
+loop_value _ t = index_value t

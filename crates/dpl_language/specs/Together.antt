@@ -6,7 +6,7 @@ use Rattle.dpl_history.specs.declared.cell.CellOp.{CellOp}
 use Rattle.dpl_history.specs.declared.history.Event.{Event}
 use Rattle.dpl_history.specs.Histories.{legal, of_task, after}
 use Rattle.dpl_history.specs.Looks.{Agrees, fits, miss}
-use Rattle.dpl_language.specs.Outcome.{Operation, Solo, TaskEnd, Ended, Faulted, Waiting, Entered, Outcome}
+use Rattle.dpl_language.specs.Outcome.{Operation, Solo, TaskEnd, Waiting, Entered, Outcome}
 use Rattle.dpl_language.specs.Program.{deeds_of}
 
 -- an event, without its task
@@ -24,9 +24,8 @@ pub record HasWaited (cells : List CellState) (h : List Event) (k c : ℕ) (op :
 
 -- a task that ended, or stopped with a fault, has waited at no operation
 abbrev pub EndsSo : List CellState → List Event → ℕ → TaskEnd → Type 0
-EndsSo cells h k Ended = Unit {0}
-EndsSo cells h k (Faulted f) = Unit {0}
 EndsSo cells h k (Waiting at c op) = HasWaited cells h k c op
+EndsSo cells h k _ = Unit {0}
 
 -- a task's events in the history are exactly the operations and replies of its run by itself, in order
 pub record HasRun (cells : List CellState) (h : List Event) (k : ℕ) (t : Solo) : Type 0 where

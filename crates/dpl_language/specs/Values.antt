@@ -62,37 +62,19 @@ default BoolKind = Truth false
 -- the number of a value; of a locale its `id`
 abbrev pub number : Value → ℤ
 number (Int n) = n
-number (Truth b) = pos 0
-number (Range r) = pos 0
-number (Domain rs) = pos 0
-number (Array k rs) = pos 0
-number (Cell k) = pos 0
 number (Locale k) = k
-number AllLocales = pos 0
-number (Tuple t) = pos 0
+number _ = pos 0
 
 abbrev pub truth : Value → Bool
-truth (Int n) = false
 truth (Truth b) = b
-truth (Range r) = false
-truth (Domain rs) = false
-truth (Array k rs) = false
-truth (Cell k) = false
-truth (Locale k) = false
-truth AllLocales = false
-truth (Tuple t) = false
+truth _ = false
 
 -- the ranges that a value adds to a domain or a slice: a range itself, those of a domain, and those of an array's domain
 abbrev pub ranges_in : Value → List TextRange
-ranges_in (Int n) = []
-ranges_in (Truth b) = []
 ranges_in (Range r) = r ∷ []
 ranges_in (Domain rs) = rs
 ranges_in (Array k rs) = rs
-ranges_in (Cell k) = []
-ranges_in (Locale k) = []
-ranges_in AllLocales = []
-ranges_in (Tuple t) = []
+ranges_in _ = []
 
 abbrev pub all_ranges : List Value → List TextRange
 all_ranges [] = []
@@ -101,14 +83,8 @@ all_ranges (v ∷ vs) = ranges_in v ++ all_ranges vs
 -- the coordinates that a value adds to an index: a number itself, and those of a tuple
 abbrev pub coordinates : Value → Index
 coordinates (Int n) = n ∷ []
-coordinates (Truth b) = []
-coordinates (Range r) = []
-coordinates (Domain rs) = []
-coordinates (Array k rs) = []
-coordinates (Cell k) = []
-coordinates (Locale k) = []
-coordinates AllLocales = []
 coordinates (Tuple t) = t
+coordinates _ = []
 
 abbrev pub index_of : List Value → Index
 index_of [] = []
@@ -116,39 +92,18 @@ index_of (v ∷ vs) = coordinates v ++ index_of vs
 
 -- the domain of a whole array
 abbrev pub array_domain : Value → Option (List TextRange)
-array_domain (Int n) = None
-array_domain (Truth b) = None
-array_domain (Range r) = None
-array_domain (Domain rs) = None
 array_domain (Array k rs) = Some rs
-array_domain (Cell k) = None
-array_domain (Locale k) = None
-array_domain AllLocales = None
-array_domain (Tuple t) = None
+array_domain _ = None
 
 abbrev pub is_domain : Value → Bool
-is_domain (Int n) = false
-is_domain (Truth b) = false
-is_domain (Range r) = false
 is_domain (Domain rs) = true
-is_domain (Array k rs) = false
-is_domain (Cell k) = false
-is_domain (Locale k) = false
-is_domain AllLocales = false
-is_domain (Tuple t) = false
+is_domain _ = false
 
 -- a cell keeps a number: an int itself, and a truth value as 0 or 1
 abbrev pub kept_number : Value → ℤ
 kept_number (Int n) = n
 kept_number (Truth true) = pos 1
-kept_number (Truth false) = pos 0
-kept_number (Range r) = pos 0
-kept_number (Domain rs) = pos 0
-kept_number (Array k rs) = pos 0
-kept_number (Cell k) = pos 0
-kept_number (Locale k) = pos 0
-kept_number AllLocales = pos 0
-kept_number (Tuple t) = pos 0
+kept_number _ = pos 0
 
 -- the value that a cell's number stands for, by the cell's kind
 abbrev pub value_kept : Kind → ℤ → Value
@@ -157,12 +112,5 @@ value_kept BoolKind z = Truth (int_lt (pos 0) z)
 
 -- the kind of the values in a cell
 abbrev pub cell_kind : Value → Kind
-cell_kind (Int n) = IntKind
-cell_kind (Truth b) = IntKind
-cell_kind (Range r) = IntKind
-cell_kind (Domain rs) = IntKind
-cell_kind (Array k rs) = IntKind
 cell_kind (Cell k) = k
-cell_kind (Locale k) = IntKind
-cell_kind AllLocales = IntKind
-cell_kind (Tuple t) = IntKind
+cell_kind _ = IntKind
