@@ -1,7 +1,7 @@
 -- Assignments, operations on cells and writes end alike in environments that agree.
 -- A right side comes first: it is an expression, or a cell read, which changes the state.
 use Rattle.std.proofs.Common.{◌≡◌, ℕ, pos, Bool, true, false, List, [], ◌∷◌, ◌++◌, refl, sym, ap, ◌∙◌, subst, Ok, Err, Some, None, Option, map}
-use Rattle.std.specs.Prelude.{◌&&◌, if◌then◌else◌, option_map}
+use Rattle.std.specs.Prelude.{◌&&◌, if◌then◌else◌, option_map, unwrap_or}
 use Rattle.std.specs.Ordering.{int_eq}
 use Rattle.dpl_syntax.specs.declared.place.Place.{Place}
 use Rattle.dpl_history.specs.declared.cell.CellOp.{CellOp}
@@ -9,7 +9,7 @@ use Rattle.dpl_history.specs.declared.cell.CellOp.TheVariants.{Reset}
 use Rattle.dpl_history.specs.declared.cell.Reply.{Reply}
 use Rattle.dpl_sets.specs.TextRanges.{TextRange}
 use Rattle.dpl_language.specs.Tree.{Placed, Kind, AssignTree, ItemTree, One, Exprs, TargetTree, Whole, Element, CallTree, ReadCall, ResetCall, WriteCall, ArgumentTree, TextArgument, ExprArgument, WriteTree}
-use Rattle.dpl_language.specs.Values.{Value, Index, index_of, ranges_in, array_domain, is_domain, cell_kind, kept_number, number, fault, ZeroDivisor, ArrayTooLarge}
+use Rattle.dpl_language.specs.Values.{Value, Index, index_of, ranges_in, array_domain, is_domain, cell_kind, kept_number, number, fault, ZeroDivisor, ArrayTooLarge, Int}
 use Rattle.dpl_language.specs.Arithmetic.{assigned, assign_divides, tested_divisor}
 use Rattle.dpl_language.specs.Ranges.{indices_in, too_large}
 use Rattle.dpl_language.specs.Printing.{printed_array}
@@ -19,7 +19,7 @@ use Rattle.dpl_language.specs.Phrases.{ReadTree, item_read, read_op, write_op, b
 use Rattle.dpl_language.specs.Expressions.{found, item_of, values_of, whole_item}
 use Rattle.dpl_language.specs.Assignments.{reply_value, and_no_more, answered, called, read_or, evaluated, change, assign_array, assign_domain, assign_plain, assign_name, assign, cell_call}
 use Rattle.dpl_language.specs.Loops.{within_budget, named_turn}
-use Rattle.dpl_language.specs.Writing.{or_zero, line_end, arguments_of, name_shown, shown, arguments_then, write}
+use Rattle.dpl_language.specs.Writing.{line_end, arguments_of, name_shown, shown, arguments_then, write}
 use Rattle.dpl_agreement.specs.Renamed.{renamed, renamed_expr, renamed_item, renamed_exprs, renamed_target, renamed_call, renamed_argument, renamed_write, renamed_read}
 use Rattle.dpl_agreement.specs.Scopes.{Scoping, items_in, fits_item, fits_exprs, fits_read, fits_side, fits_whole_side, side_for, suits_target, fits_target, fits_call, fits_shown, fits_arguments}
 use Rattle.dpl_agreement.specs.Agreement.{MayRead, MayBe, WasDomain, WasArray, WasPlain, WasOnce, Simulates, EndsAlike, RunAlike, AnswersAlike}
@@ -211,11 +211,11 @@ module _ {M N G S1 S2 : Type 0} (limits : Limits) (name : N → M) (scoping : Sc
   name_shown-same x v None g s1 s2 r f = refl
   name_shown-same x v (Some rs) g s1 s2 r f = ap (printed_array rs) (each (indices_in rs))
     where
-      each : (ts : List Index) → map (λ t. or_zero (first.element (name x.name) t s1)) ts ≡ map (λ t. or_zero (second.element x.name t s2)) ts
+      each : (ts : List Index) → map (λ t. unwrap_or (first.element (name x.name) t s1) (Int (pos 0))) ts ≡ map (λ t. unwrap_or (second.element x.name t s2) (Int (pos 0))) ts
       each [] = refl
       each (t ∷ ts) =
-          ap (λ o. or_zero o ∷ map (λ t. or_zero (first.element (name x.name) t s1)) ts) (sim.elements_at x.name t g s1 s2 r (f t))
-          ∙ ap (λ vs. or_zero (second.element x.name t s2) ∷ vs) (each ts)
+          ap (λ o. unwrap_or o (Int (pos 0)) ∷ map (λ t. unwrap_or (first.element (name x.name) t s1) (Int (pos 0))) ts) (sim.elements_at x.name t g s1 s2 r (f t))
+          ∙ ap (λ vs. unwrap_or (second.element x.name t s2) (Int (pos 0)) ∷ vs) (each ts)
 
   shown-same : (o : Option (Placed N)) (v : Value) (g : G) (s1 : S1) (s2 : S2) → R g s1 s2 → fits_shown scoping o g
       → shown limits first (option_map (renamed name) o) v s1 ≡ shown limits second o v s2

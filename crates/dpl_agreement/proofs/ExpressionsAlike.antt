@@ -2,6 +2,7 @@
 -- One lemma for each kind of tree, evaluated once or at an index.
 use Rattle.std.proofs.Common.{◌≡◌, ℕ, List, [], ◌∷◌, refl, ap, ◌∙◌, Ok, Err, Some, None, Result, Option, nat_lt}
 use Rattle.std.specs.Prelude.{if◌then◌else◌}
+use Rattle.std.specs.Option.{option_or}
 use Rattle.dpl_syntax.specs.declared.place.Place.{Place}
 use Rattle.dpl_sets.specs.TextRanges.{TextRange}
 use Rattle.dpl_language.specs.Tree.{Placed, Op, ExprTree, Number, TruthWord, Named, LocalesWord, LocaleCount, HereWord, Grouped, DomainLiteral, Prefixed, Reduced, Chain, Postfixed, ItemTree, One, RangeItem, Stride, NoStride, By, Links, NoLinks, Link, Posts, NoPosts, Post, PostTree, Brackets, Rounds, Dotted, MethodTree, Plainly, Dim, Contains, Expand, CellRead, Items, FirstItem, MoreItems, NoItems, NextItem, Exprs, FirstExpr, MoreExprs, NoExprs, NextExpr}
@@ -11,7 +12,7 @@ use Rattle.dpl_language.specs.Ranges.{indices_in, size_in, bounded}
 use Rattle.dpl_language.specs.Outcome.{naming_value}
 use Rattle.dpl_language.specs.Environment.{Environment, Limits}
 use Rattle.dpl_language.specs.Phrases.{Base, BaseName, BaseLocales, OtherBase, base_of}
-use Rattle.dpl_language.specs.Expressions.{or_domain, found, leading, locale_of, folded, reduction, unless_decided, whole_in, whole_item, whole_links, element_of, named, bracketed, value_of, chained, item_of, stridden, items_of, more_items, values_of, more_values, behind, post_of, answer_of, domain_of}
+use Rattle.dpl_language.specs.Expressions.{found, leading, locale_of, folded, reduction, unless_decided, whole_in, whole_item, whole_links, element_of, named, bracketed, value_of, chained, item_of, stridden, items_of, more_items, values_of, more_values, behind, post_of, answer_of, domain_of}
 use Rattle.dpl_agreement.specs.Renamed.{renamed, renamed_expr, renamed_item, renamed_stride, renamed_links, renamed_posts, renamed_post, renamed_method, renamed_items, renamed_more_items, renamed_exprs, renamed_more_exprs, renamed_base}
 use Rattle.dpl_agreement.specs.Scopes.{Scoping, more_items_in, items_in, fits_name, fits_element, fits_expr, fits_item, fits_stride, fits_links, fits_posts, fits_post, fits_method, fits_items, fits_more_items, fits_exprs, fits_more_exprs}
 use Rattle.dpl_agreement.specs.Agreement.{Simulates}
@@ -120,8 +121,8 @@ module _ {M N G S1 S2 : Type 0} (limits : Limits) (name : N → M) (scoping : Sc
     whole_in-renamed (Prefixed at op e) m g s1 s2 r f = whole_in-renamed e m g s1 s2 r f
     whole_in-renamed (Reduced at op word e) m g s1 s2 r f = refl
     whole_in-renamed (Chain e rest) m g s1 s2 r f =
-        ap (λ o. or_domain o (whole_links limits first (renamed_links name rest) s1)) (whole_in-renamed e m g s1 s2 r f.0)
-        ∙ ap (or_domain (whole_in limits second e s2)) (whole_links-renamed rest m g s1 s2 r f.1)
+        ap (λ o. option_or o (whole_links limits first (renamed_links name rest) s1)) (whole_in-renamed e m g s1 s2 r f.0)
+        ∙ ap (option_or (whole_in limits second e s2)) (whole_links-renamed rest m g s1 s2 r f.1)
     whole_in-renamed (Postfixed e posts) m g s1 s2 r f = refl
 
     pub whole_item-renamed : (i : ItemTree N) (m : Option Index) (g : G) (s1 : S1) (s2 : S2) → R g s1 s2 → fits_item scoping m i g → whole_item limits first (renamed_item name i) s1 ≡ whole_item limits second i s2
@@ -131,8 +132,8 @@ module _ {M N G S1 S2 : Type 0} (limits : Limits) (name : N → M) (scoping : Sc
     whole_links-renamed : (l : Links N) (m : Option Index) (g : G) (s1 : S1) (s2 : S2) → R g s1 s2 → fits_links scoping m l g → whole_links limits first (renamed_links name l) s1 ≡ whole_links limits second l s2
     whole_links-renamed NoLinks m g s1 s2 r f = refl
     whole_links-renamed (Link at op e rest) m g s1 s2 r f =
-        ap (λ o. or_domain o (whole_links limits first (renamed_links name rest) s1)) (whole_in-renamed e m g s1 s2 r f.0)
-        ∙ ap (or_domain (whole_in limits second e s2)) (whole_links-renamed rest m g s1 s2 r f.1)
+        ap (λ o. option_or o (whole_links limits first (renamed_links name rest) s1)) (whole_in-renamed e m g s1 s2 r f.0)
+        ∙ ap (option_or (whole_in limits second e s2)) (whole_links-renamed rest m g s1 s2 r f.1)
 
   mutual
     pub value_of-renamed : (e : ExprTree N) (t : Option Index) (g : G) (s1 : S1) (s2 : S2) → R g s1 s2 → fits_expr scoping t e g → value_of limits first (renamed_expr name e) t s1 ≡ value_of limits second e t s2

@@ -1,5 +1,6 @@
 -- The words of an array as the finite map that they are: a read, a write, and another domain.
 use Rattle.std.proofs.Common.{◌≡◌, ◌^◌, length, Bool, true, false, cond, List, [], ◌∷◌, ℤ, pos, map, Option, Some, None, Result, Ok, Err, ◌↔◌, refl, ap, sym, subst, ◌∙◌, arith, ⊎_elim}
+use Rattle.std.specs.Prelude.{unwrap_or}
 use Rattle.dpl_sets.specs.TextRanges.{TextRange}
 use Rattle.dpl_sets.specs.Ranges.{RangeValue}
 use Rattle.dpl_sets.specs.Indices.{indices}
@@ -9,7 +10,7 @@ use Rattle.dpl_language.specs.Values.{Index}
 use Rattle.dpl_language.specs.Ranges.{indices_in, size_in, too_large}
 use Rattle.std.proofs.lemmas.Bool.{ltb-true, ltb-false}
 use Rattle.std.proofs.lemmas.List.{length-map}
-use Rattle.dpl_memory.specs.Memory.{Held, word_at, with_word, held_at, held_with, held_over, or_zero}
+use Rattle.dpl_memory.specs.Memory.{Held, word_at, with_word, held_at, held_with, held_over}
 use Rattle.dpl_map.specs.Maps.{AxisValue}
 use Rattle.dpl_array.specs.Elements.{Elements, same_index, value_at, with_value, keys_of, filled, tabulated, IsOver}
 use Rattle.dpl_array.specs.Arrays.{ArrayValue, IsSmallArray, array_with, filled_array, redomained, or_value}
@@ -109,15 +110,15 @@ tabulated-each f (t ∷ ts) = ap (λ es. (t, f t) ∷ es) (tabulated-each f ts)
 over-each : (f : Index → ℤ) (ts : List Index) → IsOver ts (map (λ t. (t, f t)) ts)
 over-each f ts = subst (IsOver ts) (sym (tabulated-each f ts)) (tabulated-over ts (λ t. Some (f t)) (λ t at. (f t, refl)))
 
-or_value-zero : (o : Option ℤ) → or_value o (pos 0) ≡ or_zero o
+or_value-zero : (o : Option ℤ) → or_value o (pos 0) ≡ unwrap_or o (pos 0)
 or_value-zero None = refl
 or_value-zero (Some w) = refl
 
-words-redomained : (es : Elements ℤ) (f : Index → Option ℤ) (ts : List Index) → ((t : Index) → value_at t es ≡ f t) → words_of (map (λ t. (t, or_value (value_at t es) (pos 0))) ts) ≡ map (λ t. or_zero (f t)) ts
+words-redomained : (es : Elements ℤ) (f : Index → Option ℤ) (ts : List Index) → ((t : Index) → value_at t es ≡ f t) → words_of (map (λ t. (t, or_value (value_at t es) (pos 0))) ts) ≡ map (λ t. unwrap_or (f t) (pos 0)) ts
 words-redomained es f [] same = refl
 words-redomained es f (t ∷ ts) same =
-    ap (λ w. w ∷ words_of (map (λ t. (t, or_value (value_at t es) (pos 0))) ts)) (or_value-zero (value_at t es) ∙ ap or_zero (same t))
-    ∙ ap (λ ws. or_zero (f t) ∷ ws) (words-redomained es f ts same)
+    ap (λ w. w ∷ words_of (map (λ t. (t, or_value (value_at t es) (pos 0))) ts)) (or_value-zero (value_at t es) ∙ ap (λ o. unwrap_or o (pos 0)) (same t))
+    ∙ ap (λ ws. unwrap_or (f t) (pos 0) ∷ ws) (words-redomained es f ts same)
 
 -- AN ARRAY THAT IS MADE
 module _ (rs : List TextRange) (domain : List RangeValue) (are : domain ≡ values_of rs) (written : AreWritten (values_of rs)) where

@@ -1,12 +1,13 @@
 -- Slots without an array: what they hold, how many of them there are, and what is put into slots.
 -- Each lemma has what such slots hold on its left side.
 use Rattle.std.proofs.Common.{◌≡◌, ℕ, ◌+◌, ◌<◌, ◌≤◌, ℤ, pos, List, [], ◌∷◌, ◌++◌, length, map, replicate, set, get_or, Option, None, refl, sym, subst, ap, ◌∙◌}
+use Rattle.std.specs.Prelude.{unwrap_or}
 use Rattle.std.proofs.Math.ListN.{get_or-eq_default}
 use Rattle.std.proofs.lemmas.List.{get_or-map, map-set, set-set, set_past, length-map, replicate-append-replicate}
 use Rattle.dpl_sets.specs.TextRanges.{TextRange}
 use Rattle.dpl_language.specs.Values.{Index}
 use Rattle.dpl_language.specs.Ranges.{indices_in}
-use Rattle.dpl_memory.specs.Memory.{Held, no_array, word_at, with_word, held_at, held_with, held_over, or_zero}
+use Rattle.dpl_memory.specs.Memory.{Held, no_array, word_at, with_word, held_at, held_with, held_over}
 use Rattle.dpl_frame.specs.Frames.{held_in}
 
 word_at-no_words : (t : Index) (is : List Index) → word_at t is [] ≡ None
@@ -52,9 +53,9 @@ module _ (xs : List (Option Held)) (slot : ℕ) (was : Option Held) (seen : List
   set-taken f gone a e = ap (map held_in) (set-set xs slot gone a) ∙ set-seen f a e
 
 -- over another domain it holds 0 everywhere
-zeros-held : (ts : List Index) → map (λ t. or_zero (held_at t no_array)) ts ≡ map (λ t. pos 0) ts
+zeros-held : (ts : List Index) → map (λ t. unwrap_or (held_at t no_array) (pos 0)) ts ≡ map (λ t. pos 0) ts
 zeros-held [] = refl
-zeros-held (t ∷ ts) = ap (λ o. or_zero o ∷ map (λ t. or_zero (held_at t no_array)) ts) (held_at_none t) ∙ ap (λ ws. pos 0 ∷ ws) (zeros-held ts)
+zeros-held (t ∷ ts) = ap (λ o. unwrap_or o (pos 0) ∷ map (λ t. unwrap_or (held_at t no_array) (pos 0)) ts) (held_at_none t) ∙ ap (λ ws. pos 0 ∷ ws) (zeros-held ts)
 
 pub held_over_none : (rs : List TextRange) → held_over rs no_array ≡ record { ranges = rs; words = map (λ t. pos 0) (indices_in rs) }
 held_over_none rs = ap (λ ws. record { ranges = rs; words = ws }) (zeros-held (indices_in rs))

@@ -1,6 +1,7 @@
 -- What expressions mean: a value or a fault, in a state that they don't change.
 -- Operands go from left to right, and a fault is told at its own place.
 use Rattle.std.specs.Prelude.{ℕ, nat_lt, ℤ, pos, int_lt, int_le, Bool, true, false, ◌&&◌, if◌then◌else◌, Option, Some, None, Result, Ok, Err, List, [], ◌∷◌}
+use Rattle.std.specs.Option.{option_or}
 use Rattle.dpl_syntax.specs.declared.place.Place.{Place}
 use Rattle.dpl_language.specs.Tree.{Placed, Op, ExprTree, Number, TruthWord, Named, LocalesWord, LocaleCount, HereWord, Grouped, DomainLiteral, Prefixed, Reduced, Chain, Postfixed, ItemTree, One, RangeItem, Stride, NoStride, By, Links, NoLinks, Link, Posts, NoPosts, Post, PostTree, Brackets, Rounds, Dotted, MethodTree, Plainly, Dim, Contains, Expand, CellRead, Items, FirstItem, MoreItems, NoItems, NextItem, Exprs, FirstExpr, MoreExprs, NoExprs, NextExpr}
 use Rattle.dpl_sets.specs.TextRanges.{TextRange}
@@ -10,11 +11,6 @@ use Rattle.dpl_language.specs.Ranges.{indices_in, size_in, bounded, strided_by, 
 use Rattle.dpl_language.specs.Outcome.{with_ok, naming_value}
 use Rattle.dpl_language.specs.Environment.{Environment, Limits}
 use Rattle.dpl_language.specs.Phrases.{Base, BaseName, BaseLocales, OtherBase, base_of}
-
--- the first of two domains, or the second where there is no first
-abbrev pub or_domain : Option (List TextRange) → Option (List TextRange) → Option (List TextRange)
-or_domain None second = second
-or_domain (Some rs) second = Some rs
 
 -- an element, or F1 at the array's name
 abbrev pub found : Place → Option Value → Result Value Fault
@@ -72,7 +68,7 @@ module _ {N S : Type 0} (limits : Limits) (env : Environment N S) where
     whole_in (DomainLiteral from items upto) s = None
     whole_in (Prefixed at op e) s = whole_in e s
     whole_in (Reduced at op word e) s = None
-    whole_in (Chain e rest) s = or_domain (whole_in e s) (whole_links rest s)
+    whole_in (Chain e rest) s = option_or (whole_in e s) (whole_links rest s)
     whole_in (Postfixed e posts) s = None
 
     pub whole_item : ItemTree N → S → Option (List TextRange)
@@ -81,7 +77,7 @@ module _ {N S : Type 0} (limits : Limits) (env : Environment N S) where
 
     pub whole_links : Links N → S → Option (List TextRange)
     whole_links NoLinks s = None
-    whole_links (Link at op e rest) s = or_domain (whole_in e s) (whole_links rest s)
+    whole_links (Link at op e rest) s = option_or (whole_in e s) (whole_links rest s)
 
   -- the element of an array at an index: outside its domain it is F1 at the array's name
   abbrev pub element_of : Base N → Index → S → Result Value Fault

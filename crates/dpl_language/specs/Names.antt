@@ -1,6 +1,6 @@
 -- Variables kept by their names: the language's own environment.
 -- A store is a list of frames, the innermost scope's first; a frame has its names in order of declaration.
-use Rattle.std.specs.Prelude.{ℕ, ◌+◌, ℤ, pos, Bool, false, ◌||◌, bytes_eq, if◌then◌else◌, List, [], ◌∷◌, ◌++◌, map, length, Option, Some, None, drop, get_or}
+use Rattle.std.specs.Prelude.{ℕ, ◌+◌, ℤ, pos, Bool, false, ◌||◌, bytes_eq, if◌then◌else◌, List, [], ◌∷◌, ◌++◌, map, length, Option, Some, None, drop, get_or, unwrap_or}
 use Rattle.std.specs.List.{list_any}
 use Rattle.dpl_history.specs.declared.cell.CellState.{CellState}
 use Rattle.dpl_history.specs.declared.cell.CellState.TheVariants.{Empty}
@@ -123,12 +123,8 @@ put_in t w c = c
 
 -- DOMAIN VARIABLES. When a domain is assigned, each array declared over its bare name keeps the elements whose indices
 -- are in both domains, and new ones hold the default.
-abbrev pub or_default : Kind → Option Value → Value
-or_default k None = default k
-or_default k (Some v) = v
-
 abbrev pub redomained : Kind → List TextRange → List Value → List TextRange → List Value
-redomained k old vs new = map (λ t. or_default k (element_at t (indices_in old) vs)) (indices_in new)
+redomained k old vs new = map (λ t. unwrap_or (element_at t (indices_in old) vs) (default k)) (indices_in new)
 
 -- it is declared over this name
 abbrev pub is_over : Text → Option Text → Bool

@@ -1,6 +1,7 @@
 -- What a coforall means, for a history that says what its tasks did to cells.
 -- Each task is run by itself, its operations answered by the history; `Together` says when that is a run of all.
 use Rattle.std.specs.Prelude.{ℕ, ◌+◌, Option, Some, None, List, [], ◌∷◌, map}
+use Rattle.std.specs.Option.{option_or}
 use Rattle.dpl_history.specs.declared.cell.CellState.{CellState}
 use Rattle.dpl_history.specs.declared.cell.Reply.{Reply}
 use Rattle.dpl_history.specs.declared.history.Event.{Event}
@@ -25,14 +26,10 @@ task_fault k Ended = None
 task_fault k (Faulted f) = Some (in_the_turn (InTask k) f)
 task_fault k (Waiting at c op) = Some (in_the_turn (InTask k) (fault CellStuck at))
 
-abbrev pub or_fault : Option Fault → Option Fault → Option Fault
-or_fault None second = second
-or_fault (Some f) second = Some f
-
 -- tasks go on when another faults: the fault of the lowest-numbered one is the run's
 abbrev pub first_fault : ℕ → List Solo → Option Fault
 first_fault k [] = None
-first_fault k (t ∷ ts) = or_fault (task_fault k t.end) (first_fault (k + 1) ts)
+first_fault k (t ∷ ts) = option_or (task_fault k t.end) (first_fault (k + 1) ts)
 
 -- a fault in the place of a run, where there is one
 abbrev pub stop_or : {S : Type 0} → Option Fault → Run S → Run S

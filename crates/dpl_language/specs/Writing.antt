@@ -1,6 +1,6 @@
 -- What `write` and `writeln` mean: all arguments are evaluated from left to right, and then they are printed.
 -- An argument may be a cell read, which changes the state even where a later argument is a fault.
-use Rattle.std.specs.Prelude.{ℕ, pos, Bool, true, false, Option, Some, None, List, [], ◌∷◌, ◌++◌, map}
+use Rattle.std.specs.Prelude.{ℕ, pos, Bool, true, false, Option, Some, None, List, [], ◌∷◌, ◌++◌, map, unwrap_or}
 use Rattle.dpl_language.specs.Tree.{Placed, One, ArgumentTree, TextArgument, ExprArgument, Listed, WriteTree}
 use Rattle.dpl_sets.specs.TextRanges.{TextRange}
 use Rattle.dpl_language.specs.Values.{Value, Int, array_domain}
@@ -10,11 +10,6 @@ use Rattle.dpl_language.specs.Outcome.{Done, Run, with_text}
 use Rattle.dpl_language.specs.Environment.{Environment, Limits}
 use Rattle.dpl_language.specs.Phrases.{bare_name, parts}
 use Rattle.dpl_language.specs.Assignments.{evaluated}
-
--- an element that is there; each index of an array's domain has one
-abbrev pub or_zero : Option Value → Value
-or_zero None = Int (pos 0)
-or_zero (Some v) = v
 
 -- `writeln` ends the line
 abbrev pub line_end : Bool → List ℕ
@@ -26,10 +21,10 @@ arguments_of None = []
 arguments_of (Some xs) = parts xs
 
 module _ {N S : Type 0} (limits : Limits) (env : Environment N S) where
-  -- what a bare name shows: of a whole array its elements in domain order
+  -- what a bare name shows: of a whole array its elements in domain order, of which each index of its domain has one
   abbrev pub name_shown : Placed N → Value → Option (List TextRange) → S → List ℕ
   name_shown x v None s = printed v
-  name_shown x v (Some rs) s = printed_array rs (map (λ t. or_zero (env.element x.name t s)) (indices_in rs))
+  name_shown x v (Some rs) s = printed_array rs (map (λ t. unwrap_or (env.element x.name t s) (Int (pos 0))) (indices_in rs))
 
   abbrev pub shown : Option (Placed N) → Value → S → List ℕ
   shown None v s = printed v

@@ -2,6 +2,7 @@
 -- One lemma for each way to put trees together and for each way to ask for a meaning.
 use Rattle.std.proofs.Common.{◌≡◌, Bool, true, false, List, refl, sym, ap, ◌∙◌, Ok, Err, Some, None, Result, Option}
 use Rattle.std.specs.Prelude.{not, ◌&&◌, ◌||◌, if◌then◌else◌}
+use Rattle.std.specs.Option.{option_or}
 use Rattle.dpl_syntax.specs.declared.place.Place.{Place}
 use Rattle.dpl_sets.specs.TextRanges.{TextRange}
 use Rattle.dpl_language.specs.Tree.{Infix, Add, Subtract, Multiply, Divide, Remainder, Less, LessEqual, Greater, GreaterEqual, Equal, NotEqual, And, Or, ExprTree, Number, TruthWord, Named, LocalesWord, LocaleCount, HereWord, Grouped, DomainLiteral, Prefixed, Reduced, Chain, Postfixed, ItemTree, One, RangeItem, Links, NoLinks, Link, Posts, NoPosts, Post, PostTree, Exprs, FirstExpr, MoreExprs, NoExprs, NextExpr}
@@ -10,7 +11,7 @@ use Rattle.dpl_language.specs.Arithmetic.{infix_of, divides, tested_divisor, dec
 use Rattle.dpl_language.specs.Outcome.{with_ok}
 use Rattle.dpl_language.specs.Environment.{Environment, Limits}
 use Rattle.dpl_language.specs.Phrases.{OtherBase, base_of, item_base}
-use Rattle.dpl_language.specs.Expressions.{or_domain, unless_decided, whole_in, whole_item, whole_links, value_of, chained, item_of, items_of, more_items, values_of, more_values, behind, post_of}
+use Rattle.dpl_language.specs.Expressions.{unless_decided, whole_in, whole_item, whole_links, value_of, chained, item_of, items_of, more_items, values_of, more_values, behind, post_of}
 use Rattle.dpl_agreement.proofs.RunsAlike.{with_ok-same}
 use Rattle.dpl_lowered.specs.Shapes.{kept, as_expr, as_item, as_items, as_more_items, hidden, hidden_item, two, grouped, passes_on, all_pass_on, nests, nested, stacked_on, stacked}
 
@@ -168,19 +169,19 @@ module _ {N S : Type 0} (limits : Limits) (env : Environment N S) where
       by_test true p = grouped-value rest op (two a at op e) t s p ∙ links-apart (value_of limits env a t s) at op e rest t s p
       by_test false p = refl
 
-  or_domain-none : (o : Option (List TextRange)) → o ≡ or_domain o None
-  or_domain-none None = refl
-  or_domain-none (Some rs) = refl
+  option_or-none : (o : Option (List TextRange)) → o ≡ option_or o None
+  option_or-none None = refl
+  option_or-none (Some rs) = refl
 
-  or_domain-or_domain : (a b c : Option (List TextRange)) → or_domain (or_domain a (or_domain b None)) c ≡ or_domain a (or_domain b c)
-  or_domain-or_domain None None c = refl
-  or_domain-or_domain None (Some rs) c = refl
-  or_domain-or_domain (Some rs) b c = refl
+  option_or-option_or : (a b c : Option (List TextRange)) → option_or (option_or a (option_or b None)) c ≡ option_or a (option_or b c)
+  option_or-option_or None None c = refl
+  option_or-option_or None (Some rs) c = refl
+  option_or-option_or (Some rs) b c = refl
 
   grouped-whole : (rest : Links N) (a : ExprTree N) (s : S) → whole_in limits env (grouped a rest) s ≡ whole_in limits env (Chain a rest) s
-  grouped-whole NoLinks a s = or_domain-none (whole_in limits env a s)
+  grouped-whole NoLinks a s = option_or-none (whole_in limits env a s)
   grouped-whole (Link at op e rest) a s =
-      grouped-whole rest (two a at op e) s ∙ or_domain-or_domain (whole_in limits env a s) (whole_in limits env e s) (whole_links limits env rest s)
+      grouped-whole rest (two a at op e) s ∙ option_or-option_or (whole_in limits env a s) (whole_in limits env e s) (whole_links limits env rest s)
 
   pub nested-whole : (a : ExprTree N) (rest : Links N) (s : S) → whole_in limits env (nested a rest) s ≡ whole_in limits env (Chain a rest) s
   nested-whole a rest s = by_test (nests rest)

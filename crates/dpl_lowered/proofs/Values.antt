@@ -2,6 +2,7 @@
 -- One lemma for each kind of tree, evaluated once or at an index.
 use Rattle.std.proofs.Common.{◌≡◌, refl, ap, ◌∙◌, Some, None, Result, Option}
 use Rattle.std.specs.Prelude.{◌&&◌}
+use Rattle.std.specs.Option.{option_or}
 use mathlib.Core.Path.{fun_ext}
 use Rattle.dpl_syntax.specs.declared.place.Place.{Place}
 use Rattle.dpl_sets.specs.TextRanges.{TextRange}
@@ -11,7 +12,7 @@ use Rattle.dpl_language.specs.Arithmetic.{infix_of, divides, decides}
 use Rattle.dpl_language.specs.Ranges.{bounded, method_of}
 use Rattle.dpl_language.specs.Environment.{Environment, Limits}
 use Rattle.dpl_language.specs.Phrases.{Base, OtherBase, base_of}
-use Rattle.dpl_language.specs.Expressions.{or_domain, reduction, unless_decided, whole_in, whole_item, whole_links, named, value_of, chained, item_of, stridden, items_of, more_items, values_of, more_values, behind, post_of, answer_of}
+use Rattle.dpl_language.specs.Expressions.{reduction, unless_decided, whole_in, whole_item, whole_links, named, value_of, chained, item_of, stridden, items_of, more_items, values_of, more_values, behind, post_of, answer_of}
 use Rattle.dpl_agreement.proofs.RunsAlike.{with_ok-same, with_ok-same_by}
 use Rattle.dpl_lowered.specs.Known.{Known, may_be_array, IsKnown}
 use Rattle.dpl_lowered.specs.Shapes.{kept, placed}
@@ -65,8 +66,8 @@ module _ {N S : Type 0} (limits : Limits) (env : Environment N S) (known : N →
     whole_in-lowered m (Reduced at op word e) s = refl
     whole_in-lowered m (Chain e rest) s =
         nested-whole limits env (lowered_expr known m e) (lowered_links known m rest) s
-        ∙ ap (λ o. or_domain o (whole_links limits env (lowered_links known m rest) s)) (whole_in-lowered m e s)
-        ∙ ap (or_domain (whole_in limits env e s)) (whole_links-lowered m rest s)
+        ∙ ap (λ o. option_or o (whole_links limits env (lowered_links known m rest) s)) (whole_in-lowered m e s)
+        ∙ ap (option_or (whole_in limits env e s)) (whole_links-lowered m rest s)
     whole_in-lowered m (Postfixed e posts) s = stacked-whole limits env (based known posts e (lowered_expr known Once e)) (lowered_posts known (base_of e) posts) s
 
     pub whole_item-lowered : (m : Times) (i : ItemTree N) (s : S) → whole_item limits env (lowered_item known m i) s ≡ whole_item limits env i s
@@ -76,8 +77,8 @@ module _ {N S : Type 0} (limits : Limits) (env : Environment N S) (known : N →
     whole_links-lowered : (m : Times) (l : Links N) (s : S) → whole_links limits env (lowered_links known m l) s ≡ whole_links limits env l s
     whole_links-lowered m NoLinks s = refl
     whole_links-lowered m (Link at op e rest) s =
-        ap (λ o. or_domain o (whole_links limits env (lowered_links known m rest) s)) (whole_in-lowered m e s)
-        ∙ ap (or_domain (whole_in limits env e s)) (whole_links-lowered m rest s)
+        ap (λ o. option_or o (whole_links limits env (lowered_links known m rest) s)) (whole_in-lowered m e s)
+        ∙ ap (option_or (whole_in limits env e s)) (whole_links-lowered m rest s)
 
   -- VALUES
   mutual

@@ -1,9 +1,10 @@
 -- A lowered write prints what the write prints that it comes from.
 -- Each argument is the same cell read or none, has the same value, and is shown the same.
 use Rattle.std.proofs.Common.{◌≡◌, ℕ, true, false, List, [], ◌∷◌, ◌++◌, refl, sym, ap, ◌∙◌, Some, None, Option, map}
+use Rattle.std.specs.Prelude.{unwrap_or, pos}
 use mathlib.Core.Path.{fun_ext}
 use Rattle.dpl_sets.specs.TextRanges.{TextRange}
-use Rattle.dpl_language.specs.Values.{Value, array_domain}
+use Rattle.dpl_language.specs.Values.{Value, array_domain, Int}
 use Rattle.dpl_language.specs.Ranges.{indices_in}
 use Rattle.dpl_language.specs.Printing.{printed, printed_array}
 use Rattle.dpl_language.specs.Tree.{Placed, ExprTree, One}
@@ -13,7 +14,7 @@ use Rattle.dpl_language.specs.Environment.{Environment, Limits}
 use Rattle.dpl_language.specs.Phrases.{bare_name, cell_read, name_of}
 use Rattle.dpl_language.specs.Expressions.{named, value_of}
 use Rattle.dpl_language.specs.Assignments.{evaluated}
-use Rattle.dpl_language.specs.Writing.{or_zero, line_end, arguments_of, name_shown, shown, arguments_then, write}
+use Rattle.dpl_language.specs.Writing.{line_end, arguments_of, name_shown, shown, arguments_then, write}
 use Rattle.dpl_lowered.specs.Known.{Known, Unknown, WholeArray, NoArray, PlainValue, may_be_array, IsAsKnown, IsKnown}
 use Rattle.dpl_lowered.specs.Shapes.{hidden}
 use Rattle.dpl_lowered.specs.LoweredExpressions.{Once, lowered_expr}
@@ -27,7 +28,7 @@ use Rattle.dpl_lowered.proofs.Assignments.{evaluated-same}
 module _ {N S : Type 0} (limits : Limits) (env : Environment N S) where
   name_shown-same : (x y : Placed N) (v : Value) (o : Option (List TextRange)) (s : S) → x.name ≡ y.name → name_shown limits env x v o s ≡ name_shown limits env y v o s
   name_shown-same x y v None s e = refl
-  name_shown-same x y v (Some rs) s e = ap (λ n. printed_array rs (map (λ t. or_zero (env.element n t s)) (indices_in rs))) e
+  name_shown-same x y v (Some rs) s e = ap (λ n. printed_array rs (map (λ t. unwrap_or (env.element n t s) (Int (pos 0))) (indices_in rs))) e
 
   -- a bare name is shown by its name
   shown-same : (a b : Option (Placed N)) (v : Value) (s : S) → name_of a ≡ name_of b → shown limits env a v s ≡ shown limits env b v s

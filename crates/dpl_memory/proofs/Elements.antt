@@ -1,16 +1,16 @@
 -- Elements in words are elements by names: a read, a write, an array that is made, and one that gets another domain.
 -- Each lemma has what the language says of a list of values on its left side, the values being what the words are.
 use Rattle.std.proofs.Common.{◌≡◌, ℤ, pos, true, false, List, [], ◌∷◌, map, refl, sym, ap, ◌∙◌, Some, None, Option}
-use Rattle.std.specs.Prelude.{All, if◌then◌else◌, option_map}
+use Rattle.std.specs.Prelude.{All, if◌then◌else◌, option_map, unwrap_or}
 use Rattle.std.proofs.lemmas.List.Elements.{All-head, All-tail}
 use Rattle.dpl_sets.specs.TextRanges.{TextRange}
 use Rattle.dpl_language.specs.Tree.{Kind, IntKind, BoolKind, Assign, Set, SetAdd, SetSubtract, SetMultiply, SetDivide, SetRemainder, SetReduce}
 use Rattle.dpl_language.specs.Values.{Value, Int, Truth, Index, kept_number, default}
 use Rattle.dpl_language.specs.Arithmetic.{assigned}
 use Rattle.dpl_language.specs.Ranges.{indices_in, same_index}
-use Rattle.dpl_language.specs.Names.{element_at, with_element, or_default, redomained}
+use Rattle.dpl_language.specs.Names.{element_at, with_element, redomained}
 use Rattle.dpl_words.specs.Words.{is_true}
-use Rattle.dpl_memory.specs.Memory.{Held, element_as, word_at, with_word, held_at, or_zero, held_over}
+use Rattle.dpl_memory.specs.Memory.{Held, element_as, word_at, with_word, held_at, held_over}
 use Rattle.dpl_memory.specs.Resolved.{IsElement, element_takes}
 
 -- A WORD is an element of its kind, and an element is what its word is
@@ -56,16 +56,16 @@ elements-kept k (v ∷ vs) all =
     ∙ ap (λ us. v ∷ us) (elements-kept k vs (All-tail (IsElement k) v vs all))
 
 -- ANOTHER DOMAIN
-or_default-words : (k : Kind) (o : Option ℤ) → or_default k (option_map (element_as k) o) ≡ element_as k (or_zero o)
-or_default-words k None = sym (element_as-default k)
-or_default-words k (Some w) = refl
+default-words : (k : Kind) (o : Option ℤ) → unwrap_or (option_map (element_as k) o) (default k) ≡ element_as k (unwrap_or o (pos 0))
+default-words k None = sym (element_as-default k)
+default-words k (Some w) = refl
 
-redomained-each : (k : Kind) (a : Held) (ts : List Index) → map (λ t. or_default k (element_at t (indices_in a.ranges) (map (element_as k) a.words))) ts ≡ map (element_as k) (map (λ t. or_zero (held_at t a)) ts)
+redomained-each : (k : Kind) (a : Held) (ts : List Index) → map (λ t. unwrap_or (element_at t (indices_in a.ranges) (map (element_as k) a.words)) (default k)) ts ≡ map (element_as k) (map (λ t. unwrap_or (held_at t a) (pos 0)) ts)
 redomained-each k a [] = refl
 redomained-each k a (t ∷ ts) =
-    ap (λ o. or_default k o ∷ map (λ t. or_default k (element_at t (indices_in a.ranges) (map (element_as k) a.words))) ts) (element_at-words k t (indices_in a.ranges) a.words)
-    ∙ ap (λ v. v ∷ map (λ t. or_default k (element_at t (indices_in a.ranges) (map (element_as k) a.words))) ts) (or_default-words k (held_at t a))
-    ∙ ap (λ vs. element_as k (or_zero (held_at t a)) ∷ vs) (redomained-each k a ts)
+    ap (λ o. unwrap_or o (default k) ∷ map (λ t. unwrap_or (element_at t (indices_in a.ranges) (map (element_as k) a.words)) (default k)) ts) (element_at-words k t (indices_in a.ranges) a.words)
+    ∙ ap (λ v. v ∷ map (λ t. unwrap_or (element_at t (indices_in a.ranges) (map (element_as k) a.words)) (default k)) ts) (default-words k (held_at t a))
+    ∙ ap (λ vs. element_as k (unwrap_or (held_at t a) (pos 0)) ∷ vs) (redomained-each k a ts)
 
 pub redomained-words : (k : Kind) (a : Held) (rs : List TextRange) → redomained k a.ranges (map (element_as k) a.words) rs ≡ map (element_as k) (held_over rs a).words
 redomained-words k a rs = redomained-each k a (indices_in rs)

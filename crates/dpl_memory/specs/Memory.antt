@@ -1,6 +1,6 @@
 -- Variables kept by slots: plain ones in words and ranges, and beside these lists of domains, of tuples and of arrays.
 -- It is what a checked data-parallel program does on one locale; it has no cells and no other locales, and answers as if there were none.
-use Rattle.std.specs.Prelude.{ℕ, ◌+◌, ◌==◌, ℤ, pos, Bool, true, false, if◌then◌else◌, Option, Some, None, List, [], ◌∷◌, get_or, set, map, option_map}
+use Rattle.std.specs.Prelude.{ℕ, ◌+◌, ◌==◌, ℤ, pos, Bool, true, false, if◌then◌else◌, Option, Some, None, List, [], ◌∷◌, get_or, set, map, option_map, unwrap_or}
 use Rattle.std.specs.List.{list_any}
 use Rattle.dpl_sets.specs.TextRanges.{TextRange}
 use Rattle.dpl_language.specs.Tree.{Op, Kind, IntKind, BoolKind}
@@ -150,12 +150,8 @@ given_in (ArrayKind k) slot s = None
 abbrev pub is_among : ℕ → List ℕ → Bool
 is_among slot slots = list_any (λ (j : ℕ). slot == j) slots
 
-abbrev pub or_zero : Option ℤ → ℤ
-or_zero None = pos 0
-or_zero (Some w) = w
-
 abbrev pub held_over : List TextRange → Held → Held
-held_over rs a = record { ranges = rs; words = map (λ t. or_zero (held_at t a)) (indices_in rs) }
+held_over rs a = record { ranges = rs; words = map (λ t. unwrap_or (held_at t a) (pos 0)) (indices_in rs) }
 
 abbrev pub held_over_if : Bool → List TextRange → Held → Held
 held_over_if true rs a = held_over rs a

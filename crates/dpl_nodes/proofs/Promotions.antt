@@ -1,13 +1,14 @@
 -- Promoted expressions, and what they have in common with those that are evaluated once: none is a cell read, and one
 -- without a whole array has at each index the value that it has without one.
 use Rattle.std.proofs.Common.{◌≡◌, List, Option, Some, None, refl, sym, ◌∙◌}
+use Rattle.std.specs.Option.{option_or}
 use Rattle.dpl_syntax.specs.declared.place.Place.{Place}
 use Rattle.dpl_sets.specs.TextRanges.{TextRange}
 use Rattle.dpl_language.specs.Tree.{Prefix, Minus, Not, Infix, Add, Subtract, Multiply, Divide, Remainder, Equal, NotEqual, And, Or, ExprTree, Prefixed}
 use Rattle.dpl_language.specs.Values.{Index}
 use Rattle.dpl_language.specs.Phrases.{cell_read}
 use Rattle.dpl_language.specs.Environment.{Limits}
-use Rattle.dpl_language.specs.Expressions.{or_domain, whole_in, value_of}
+use Rattle.dpl_language.specs.Expressions.{whole_in, value_of}
 use Rattle.dpl_lowered.specs.Shapes.{nowhere, two}
 use Rattle.dpl_lowered.specs.LoweredExpressions.{Times}
 use Rattle.dpl_memory.specs.Memory.{Variable, Memory, in_memory, array_at}
@@ -43,25 +44,25 @@ cell_read-promoted_truth m (Compare c a b) = refl
 is_whole : (rs : List TextRange) → Some rs ≡ None → ⊥
 is_whole rs h = cc
 
-or_domain-none : (a : Option (List TextRange)) → or_domain a None ≡ a
-or_domain-none None = refl
-or_domain-none (Some rs) = refl
+option_or-none : (a : Option (List TextRange)) → option_or a None ≡ a
+option_or-none None = refl
+option_or-none (Some rs) = refl
 
 -- there is none only where there is neither
-or_domain-neither : (a b : Option (List TextRange)) → or_domain a b ≡ None → (a ≡ None) × (b ≡ None)
-or_domain-neither None b h = (refl, h)
-or_domain-neither (Some rs) b h = absurd (is_whole rs h)
+option_or-neither : (a b : Option (List TextRange)) → option_or a b ≡ None → (a ≡ None) × (b ≡ None)
+option_or-neither None b h = (refl, h)
+option_or-neither (Some rs) b h = absurd (is_whole rs h)
 
 module _ (limits : Limits) (s : Memory) where
   -- ---- operators
   -- the first whole array in two operands
-  pub whole_in-two : (a b : ExprTree Variable) (at : Place) (op : Infix) → whole_in limits in_memory (two a at op b) s ≡ or_domain (whole_in limits in_memory a s) (whole_in limits in_memory b s)
-  whole_in-two a b at op = rw (or_domain-none (whole_in limits in_memory b s)) refl
+  pub whole_in-two : (a b : ExprTree Variable) (at : Place) (op : Infix) → whole_in limits in_memory (two a at op b) s ≡ option_or (whole_in limits in_memory a s) (whole_in limits in_memory b s)
+  whole_in-two a b at op = rw (option_or-none (whole_in limits in_memory b s)) refl
 
   -- neither operand has one
   neither : (a b : ExprTree Variable) (at : Place) (op : Infix) → whole_in limits in_memory (two a at op b) s ≡ None
       → (whole_in limits in_memory a s ≡ None) × (whole_in limits in_memory b s ≡ None)
-  neither a b at op h = or_domain-neither (whole_in limits in_memory a s) (whole_in limits in_memory b s) (sym (whole_in-two a b at op) ∙ h)
+  neither a b at op h = option_or-neither (whole_in limits in_memory a s) (whole_in limits in_memory b s) (sym (whole_in-two a b at op) ∙ h)
 
   -- an expression has at an index the value that it has without one
   abbrev IsSameAt : Index → ExprTree Variable → Type 0

@@ -1,14 +1,14 @@
 -- The texts of arguments, and how what was printed grows by them.
 -- A fault leaves what was printed before at the front.
-use Rattle.std.specs.Prelude.{◌≡◌, ℕ, List, [], ◌∷◌, ◌++◌, map, None, Result, Ok, Err}
-use Rattle.dpl_language.specs.Values.{Fault}
+use Rattle.std.specs.Prelude.{◌≡◌, ℕ, List, [], ◌∷◌, ◌++◌, map, None, Result, Ok, Err, unwrap_or, pos}
+use Rattle.dpl_language.specs.Values.{Fault, Int}
 use Rattle.dpl_language.specs.Outcome.{Deeds, with_ok}
 use Rattle.dpl_language.specs.Environment.{Limits}
 use Rattle.dpl_language.specs.Phrases.{bare_name}
 use Rattle.dpl_language.specs.Expressions.{value_of}
 use Rattle.dpl_language.specs.Ranges.{indices_in}
 use Rattle.dpl_language.specs.Printing.{printed_array}
-use Rattle.dpl_language.specs.Writing.{or_zero, shown}
+use Rattle.dpl_language.specs.Writing.{shown}
 use Rattle.dpl_memory.specs.Memory.{ArrayKind, variable, Memory, array_at, in_memory}
 use Rattle.dpl_tree.specs.declared.operator.ScalarKind.{ScalarKind}
 use Rattle.dpl_nodes.specs.declared.step.Argument.{Argument}
@@ -21,7 +21,7 @@ use Rattle.dpl_loop.specs.declared.stop.Stop.TheVariants as stop
 -- an array's elements, in the order of its domain
 abbrev pub array_text : ScalarKind → ℕ → Memory → List ℕ
 array_text k slot s =
-    printed_array (array_at slot s).ranges (map (λ t. or_zero (in_memory.element (variable (ArrayKind (kind_view k)) slot) t s)) (indices_in (array_at slot s).ranges))
+    printed_array (array_at slot s).ranges (map (λ t. unwrap_or (in_memory.element (variable (ArrayKind (kind_view k)) slot) t s) (Int (pos 0))) (indices_in (array_at slot s).ranges))
 
 module _ (limits : Limits) where
   abbrev pub argument_text : Argument → Memory → Result (List ℕ) Fault
