@@ -1,6 +1,6 @@
 -- The variables that a run leaves, as entries of a frame. Of an array there stand its domain and its elements.
 use Rattle.dpl_language.specs.Values.{Int as IntMeant, Truth as TruthMeant, Range as RangeMeant, Domain as DomainMeant}
-use Rattle.std.specs.Prelude.{◌≡◌, ℕ, List, map, get_or, Option, Some, None}
+use Rattle.std.specs.Prelude.{◌≡◌, ℕ, bytes_eq, if◌then◌else◌, List, [], ◌∷◌, map, get_or, Option, Some, None}
 use Rattle.dpl_language.specs.Tree.{IntKind, BoolKind}
 use Rattle.dpl_language.specs.Environment.{Content, Plain}
 use Rattle.dpl_language.specs.Names.{Text, Entry, Frame}
@@ -20,6 +20,11 @@ use Rattle.dpl_run.specs.declared.left.Variable.{Variable as LeftVariable}
 use Rattle.dpl_run.specs.declared.left.Kept.{Kept}
 use Rattle.dpl_run.specs.declared.left.Kept.TheVariants as kept
 use Rattle.dpl_run.specs.declared.left.Named.{Named}
+
+-- what a name holds among those that are left, where it is one of them
+abbrev pub in_frame : Text → Frame → Option (Content Text)
+in_frame x [] = None
+in_frame x (e ∷ es) = if bytes_eq x e.name then Some e.content else in_frame x es
 
 -- what is handed out of a variable
 abbrev pub value_view : Value → Content Text

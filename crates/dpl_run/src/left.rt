@@ -2,10 +2,9 @@
 // They are seen as the language's frame, in order of declaration; arrays stay where the run had them.
 
 ghost use Rattle.std.specs.Prelude.{◌≡◌, IfOk, map, get_or, length, slice_get, option_map};
-ghost use Rattle.dpl_language.specs.Names.{in_frame};
 ghost use Rattle.dpl_memory.specs.Memory.{no_array};
 ghost use Rattle.dpl_frame.specs.Frames.{held_in};
-ghost use Rattle.dpl_run.specs.Leaving.{variable_view, value_view, content_kept, entry_kept};
+ghost use Rattle.dpl_run.specs.Leaving.{in_frame, variable_view, value_view, content_kept, entry_kept};
 
 use dpl_array::ArrayFault;
 use dpl_contents::ArrayWords;

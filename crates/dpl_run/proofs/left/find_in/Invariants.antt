@@ -1,8 +1,7 @@
 -- What is left to look through, from here, is all.
 use Rattle.std.proofs.Common.{◌≡◌, drop, map}
-use Rattle.dpl_language.specs.Names.{in_frame}
 use Rattle.dpl_frame.specs.Frames.{held_in}
-use Rattle.dpl_run.specs.Leaving.{entry_kept}
+use Rattle.dpl_run.specs.Leaving.{in_frame, entry_kept}
 use Rattle.dpl_run.proofs.left.find_in.Given as goal
 
 abbrev pub invariant-loop-variable : goal.invariant-loop-variable
