@@ -44,7 +44,7 @@ module _ {N G S : Type 0} (limits : Limits) (scoping : Scoping N G) (env : Envir
     spanned_array = λ x over k from items v vs g s1 s2 r f e h. held x (ArrayOf over k (ranges_in v) vs);
     given_holds = λ x v g s1 s2 r f e. held x (Plain v);
     enters = λ g s1 s2 r. ap env.enter r;
-    leaves = λ g s1 s2 r. ap env.leave r;
+    leaves = λ g h s1 s2 t1 t2 before out r. ap env.leave r;
     intends = λ is g s1 s2 r f. ap (λ is. env.intend is s1) (renamed_intents-same is) ∙ ap (env.intend is) r;
     ends_forall = λ is g s1 s2 r f. ap (env.intend []) r;
     has = λ x op g s1 s2 r f w. ap (env.has_arrays x) r;

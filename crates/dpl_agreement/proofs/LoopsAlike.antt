@@ -76,7 +76,7 @@ module _ {M N G S1 S2 : Type 0} (limits : Limits) (name : N → M) (scoping : Sc
   scoped-alike g h a b e p s1 s2 done r =
       then_do-alike (R h) (R g) (a (first.enter s1) done) (b (second.enter s2) done) (λ s done. Done (first.leave s) done) (λ s done. Done (second.leave s) done)
       (p (first.enter s1) (second.enter s2) done (sim.enters g s1 s2 r))
-      (λ u1 u2 done q. (second.leave u2, subst (λ k. R k (first.leave u1) (second.leave u2)) e (sim.leaves h u1 u2 q), refl))
+      (λ u1 u2 done q. (second.leave u2, sim.leaves g h s1 s2 u1 u2 r e q, refl))
 
   declare_each-alike : (xs : List (Placed N)) (t : Index) (g : G) (s1 : S1) (s2 : S2) → R g s1 s2 → fits_each scoping xs g → holds_ints scoping xs
       → R (add_each scoping xs g) (declare_each first (map (renamed name) xs) t s1) (declare_each second xs t s2)

@@ -2,7 +2,6 @@
 -- An environment by names agrees with itself over other spellings: each of its laws is met here by names that differ.
 use Rattle.std.proofs.Common.{◌≡◌, Bool, true, false, List, [], ◌∷◌, ◌++◌, refl, sym, ap, ◌∙◌, subst, Some, None, Option, map, length, drop}
 use Rattle.std.specs.Prelude.{bytes_eq, ◌||◌, if◌then◌else◌, option_map}
-use Rattle.std.proofs.lemmas.List.{map-append}
 use Rattle.dpl_history.specs.declared.cell.CellState.{CellState}
 use Rattle.dpl_history.specs.declared.cell.CellOp.{CellOp}
 use Rattle.dpl_history.specs.declared.cell.Reply.{Reply}
@@ -13,7 +12,7 @@ use Rattle.dpl_sets.specs.TextRanges.{TextRange}
 use Rattle.dpl_language.specs.Tree.{Op, Assign, ProgramTree}
 use Rattle.dpl_language.specs.Values.{Value, Domain, Index, index_of, ranges_in, array_domain, is_domain}
 use Rattle.dpl_language.specs.Environment.{Content, Plain, ArrayOf, CellOf, Answer, Replied, Unanswered, Limits}
-use Rattle.dpl_language.specs.Names.{Text, Entry, Frame, Store, State, paired, in_frame, or_content, look_up, behind_entry, changed, or_store, change_in, declare_in, without_innermost, value_in, update_in, element_in, put_in, redomained, is_over, redomain_content, redomain_all, redomain_behind, redomain_in, is_array_over, has_over, has_over_behind, or_further, arrays_over, cell_in, frame_cells, store_cells, plus, cells_before, or_number, cell_number, set_cell, set_cells, with_cells, state_in, effect_on, call_in, by_name}
+use Rattle.dpl_language.specs.Names.{Text, Entry, Stored, Opened, Declared, Store, State, paired, look_up, change_in, without_innermost, value_in, update_in, element_in, put_in, redomained, is_over, redomain_content, redomain_in, is_array_over, arrays_over, cell_in, store_cells, cell_number, set_cell, with_cells, state_in, effect_on, call_in, by_name}
 use Rattle.dpl_language.specs.Program.{first_state, meaning, written}
 use Rattle.dpl_agreement.specs.Renamed.{renamed_content, renamed_intents, renamed_program}
 use Rattle.dpl_agreement.specs.Agreement.{AnswersAlike, Simulates}
@@ -33,11 +32,10 @@ module _ (f : Text → Text) (same : (x y : Text) → bytes_eq (f x) (f y) ≡ b
   abbrev respelled_entry : Entry → Entry
   respelled_entry e = record { name = f e.name; content = respelled e.content }
 
-  abbrev respelled_frame : Frame → Frame
-  respelled_frame es = map {A = Entry} {B = Entry} respelled_entry es
-
   abbrev respelled_store : Store → Store
-  respelled_store s = map {A = Frame} {B = Frame} respelled_frame s
+  respelled_store [] = []
+  respelled_store (Opened ∷ es) = Opened ∷ respelled_store es
+  respelled_store (Declared e ∷ es) = Declared (respelled_entry e) ∷ respelled_store es
 
   abbrev pub respelled_sets : List (Text × Value) → List (Text × Value)
   respelled_sets [] = []
@@ -115,129 +113,62 @@ module _ (f : Text → Text) (same : (x y : Text) → bytes_eq (f x) (f y) ≡ b
   is_array_over-respelled x (CellOf k c) = refl
 
   -- LOOKED UP, CHANGED AND DECLARED
-  in_frame-respelled : (x : Text) (es : Frame) → in_frame (f x) (respelled_frame es) ≡ option_map respelled (in_frame x es)
-  in_frame-respelled x [] = refl
-  in_frame-respelled x (e ∷ es) = by_test (option_map respelled) _ _ _ _ (Some e.content) (in_frame x es) (same x e.name) refl (in_frame-respelled x es)
-
-  or_content-respelled : (o : Option (Content Text)) (c : Content Text) → or_content (option_map respelled o) (respelled c) ≡ respelled (or_content o c)
-  or_content-respelled None c = refl
-  or_content-respelled (Some d) c = refl
-
   look_up-respelled : (x : Text) (s : Store) → look_up (f x) (respelled_store s) ≡ respelled (look_up x s)
   look_up-respelled x [] = refl
-  look_up-respelled x (es ∷ s) =
-      ap (λ o. or_content o (look_up (f x) (respelled_store s))) (in_frame-respelled x es)
-      ∙ ap (or_content (option_map respelled (in_frame x es))) (look_up-respelled x s)
-      ∙ or_content-respelled (in_frame x es) (look_up x s)
-
-  behind_entry-respelled : (e : Entry) (o : Option Frame) → behind_entry (respelled_entry e) (option_map respelled_frame o) ≡ option_map respelled_frame (behind_entry e o)
-  behind_entry-respelled e None = refl
-  behind_entry-respelled e (Some es) = refl
-
-  changed-respelled : (x : Text) (a b : Content Text → Content Text) → ((c : Content Text) → a (respelled c) ≡ respelled (b c)) → (es : Frame)
-      → changed (f x) a (respelled_frame es) ≡ option_map respelled_frame (changed x b es)
-  changed-respelled x a b p [] = refl
-  changed-respelled x a b p (e ∷ es) =
-      by_test (option_map respelled_frame) _ _ _ _ (Some (record e { content = b e.content } ∷ es)) (behind_entry e (changed x b es)) (same x e.name)
-      (ap (λ c. Some (record { name = f e.name; content = c } ∷ respelled_frame es)) (p e.content))
-      (ap (behind_entry (respelled_entry e)) (changed-respelled x a b p es) ∙ behind_entry-respelled e (changed x b es))
-
-  or_store-respelled : (o : Option Frame) (s other : Store) → or_store (option_map respelled_frame o) (respelled_store s) (respelled_store other) ≡ respelled_store (or_store o s other)
-  or_store-respelled None s other = refl
-  or_store-respelled (Some es) s other = refl
+  look_up-respelled x (Opened ∷ s) = look_up-respelled x s
+  look_up-respelled x (Declared e ∷ s) = by_test respelled _ _ _ _ e.content (look_up x s) (same x e.name) refl (look_up-respelled x s)
 
   change_in-respelled : (x : Text) (a b : Content Text → Content Text) → ((c : Content Text) → a (respelled c) ≡ respelled (b c)) → (s : Store)
       → change_in (f x) a (respelled_store s) ≡ respelled_store (change_in x b s)
   change_in-respelled x a b p [] = refl
-  change_in-respelled x a b p (es ∷ s) =
-      ap (λ o. or_store o (respelled_store s) (respelled_frame es ∷ change_in (f x) a (respelled_store s))) (changed-respelled x a b p es)
-      ∙ ap (λ t. or_store (option_map respelled_frame (changed x b es)) (respelled_store s) (respelled_frame es ∷ t)) (change_in-respelled x a b p s)
-      ∙ or_store-respelled (changed x b es) s (es ∷ change_in x b s)
-
-  declare_in-respelled : (x : Text) (c : Content Text) (s : Store) → declare_in (f x) (respelled c) (respelled_store s) ≡ respelled_store (declare_in x c s)
-  declare_in-respelled x c [] = refl
-  declare_in-respelled x c (es ∷ s) = ap (λ fs. fs ∷ respelled_store s) (sym (map-append respelled_entry es (record { name = x; content = c } ∷ [])))
+  change_in-respelled x a b p (Opened ∷ s) = ap (λ es. Opened ∷ es) (change_in-respelled x a b p s)
+  change_in-respelled x a b p (Declared e ∷ s) =
+      by_test respelled_store _ _ _ _ (Declared (record e { content = b e.content }) ∷ s) (Declared e ∷ change_in x b s) (same x e.name)
+      (ap (λ c. Declared (record { name = f e.name; content = c }) ∷ respelled_store s) (p e.content))
+      (ap (λ es. Declared (respelled_entry e) ∷ es) (change_in-respelled x a b p s))
 
   without_innermost-respelled : (s : Store) → without_innermost (respelled_store s) ≡ respelled_store (without_innermost s)
   without_innermost-respelled [] = refl
-  without_innermost-respelled (es ∷ s) = refl
+  without_innermost-respelled (Opened ∷ s) = refl
+  without_innermost-respelled (Declared e ∷ s) = without_innermost-respelled s
 
   -- DOMAINS
-  redomain_all-respelled : (x : Text) (new : List TextRange) (es : Frame) → redomain_all (f x) new (respelled_frame es) ≡ respelled_frame (redomain_all x new es)
-  redomain_all-respelled x new [] = refl
-  redomain_all-respelled x new (e ∷ es) =
-      ap (λ c. record { name = f e.name; content = c } ∷ redomain_all (f x) new (respelled_frame es)) (redomain_content-respelled x new e.content)
-      ∙ ap (λ fs. respelled_entry (record e { content = redomain_content x new e.content }) ∷ fs) (redomain_all-respelled x new es)
-
-  redomain_behind-respelled : (x : Text) (new : List TextRange) (es : Frame) → redomain_behind (f x) new (respelled_frame es) ≡ option_map respelled_frame (redomain_behind x new es)
-  redomain_behind-respelled x new [] = refl
-  redomain_behind-respelled x new (e ∷ es) =
-      by_test (option_map respelled_frame) _ _ _ _ (Some (record e { content = Plain (Domain new) } ∷ redomain_all x new es)) (behind_entry e (redomain_behind x new es)) (same x e.name)
-      (ap (λ fs. Some (record { name = f e.name; content = Plain (Domain new) } ∷ fs)) (redomain_all-respelled x new es))
-      (ap (behind_entry (respelled_entry e)) (redomain_behind-respelled x new es) ∙ behind_entry-respelled e (redomain_behind x new es))
-
   redomain_in-respelled : (x : Text) (new : List TextRange) (s : Store) → redomain_in (f x) new (respelled_store s) ≡ respelled_store (redomain_in x new s)
   redomain_in-respelled x new [] = refl
-  redomain_in-respelled x new (es ∷ s) =
-      ap (λ o. or_store o (respelled_store s) (redomain_all (f x) new (respelled_frame es) ∷ redomain_in (f x) new (respelled_store s))) (redomain_behind-respelled x new es)
-      ∙ ap (λ fs. or_store (option_map respelled_frame (redomain_behind x new es)) (respelled_store s) (fs ∷ redomain_in (f x) new (respelled_store s))) (redomain_all-respelled x new es)
-      ∙ ap (λ t. or_store (option_map respelled_frame (redomain_behind x new es)) (respelled_store s) (respelled_frame (redomain_all x new es) ∷ t)) (redomain_in-respelled x new s)
-      ∙ or_store-respelled (redomain_behind x new es) s (redomain_all x new es ∷ redomain_in x new s)
-
-  has_over-respelled : (x : Text) (es : Frame) → has_over (f x) (respelled_frame es) ≡ has_over x es
-  has_over-respelled x [] = refl
-  has_over-respelled x (e ∷ es) =
-      ap (λ b. b || has_over (f x) (respelled_frame es)) (is_array_over-respelled x e.content) ∙ ap (λ b. is_array_over x e.content || b) (has_over-respelled x es)
-
-  has_over_behind-respelled : (x : Text) (es : Frame) → has_over_behind (f x) (respelled_frame es) ≡ has_over_behind x es
-  has_over_behind-respelled x [] = refl
-  has_over_behind-respelled x (e ∷ es) =
-      by_test (λ o. o) _ _ _ _ (Some (has_over x es)) (has_over_behind x es) (same x e.name) (ap (λ b. Some b) (has_over-respelled x es)) (has_over_behind-respelled x es)
+  redomain_in-respelled x new (Opened ∷ s) = ap (λ es. Opened ∷ es) (redomain_in-respelled x new s)
+  redomain_in-respelled x new (Declared e ∷ s) =
+      by_test respelled_store _ _ _ _ (Declared (record e { content = Plain (Domain new) }) ∷ s) (Declared (record e { content = redomain_content x new e.content }) ∷ redomain_in x new s) (same x e.name)
+      refl
+      (ap (λ c. Declared (record { name = f e.name; content = c }) ∷ redomain_in (f x) new (respelled_store s)) (redomain_content-respelled x new e.content)
+      ∙ ap (λ es. Declared (respelled_entry (record e { content = redomain_content x new e.content })) ∷ es) (redomain_in-respelled x new s))
 
   arrays_over-respelled : (x : Text) (s : Store) → arrays_over (f x) (respelled_store s) ≡ arrays_over x s
   arrays_over-respelled x [] = refl
-  arrays_over-respelled x (es ∷ s) =
-      ap (λ o. or_further o (has_over (f x) (respelled_frame es) || arrays_over (f x) (respelled_store s))) (has_over_behind-respelled x es)
-      ∙ ap (λ b. or_further (has_over_behind x es) (b || arrays_over (f x) (respelled_store s))) (has_over-respelled x es)
-      ∙ ap (λ b. or_further (has_over_behind x es) (has_over x es || b)) (arrays_over-respelled x s)
+  arrays_over-respelled x (Opened ∷ s) = arrays_over-respelled x s
+  arrays_over-respelled x (Declared e ∷ s) =
+      by_test (λ b. b) _ _ _ _ false (is_array_over x e.content || arrays_over x s) (same x e.name) refl
+      (ap (λ b. b || arrays_over (f x) (respelled_store s)) (is_array_over-respelled x e.content) ∙ ap (λ b. is_array_over x e.content || b) (arrays_over-respelled x s))
 
   -- CELLS
-  frame_cells-respelled : (es : Frame) → frame_cells (respelled_frame es) ≡ frame_cells es
-  frame_cells-respelled [] = refl
-  frame_cells-respelled (e ∷ es) =
-      ap (λ cs. cs ++ frame_cells (respelled_frame es)) (cell_in-respelled e.content) ∙ ap (λ cs. cell_in e.content ++ cs) (frame_cells-respelled es)
-
   store_cells-respelled : (s : Store) → store_cells (respelled_store s) ≡ store_cells s
   store_cells-respelled [] = refl
-  store_cells-respelled (es ∷ s) =
-      ap (λ cs. cs ++ frame_cells (respelled_frame es)) (store_cells-respelled s) ∙ ap (λ cs. store_cells s ++ cs) (frame_cells-respelled es)
-
-  cells_before-respelled : (x : Text) (es : Frame) → cells_before (f x) (respelled_frame es) ≡ cells_before x es
-  cells_before-respelled x [] = refl
-  cells_before-respelled x (e ∷ es) =
-      by_test (λ o. o) _ _ _ _ (Some 0) (plus (length (cell_in e.content)) (cells_before x es)) (same x e.name) refl
-      (ap (λ cs. plus (length cs) (cells_before (f x) (respelled_frame es))) (cell_in-respelled e.content) ∙ ap (plus (length (cell_in e.content))) (cells_before-respelled x es))
+  store_cells-respelled (Opened ∷ s) = store_cells-respelled s
+  store_cells-respelled (Declared e ∷ s) =
+      ap (λ cs. cs ++ cell_in (respelled e.content)) (store_cells-respelled s) ∙ ap (λ cs. store_cells s ++ cs) (cell_in-respelled e.content)
 
   cell_number-respelled : (x : Text) (s : Store) → cell_number (f x) (respelled_store s) ≡ cell_number x s
   cell_number-respelled x [] = refl
-  cell_number-respelled x (es ∷ s) =
-      ap (λ o. or_number o (length (store_cells (respelled_store s))) (cell_number (f x) (respelled_store s))) (cells_before-respelled x es)
-      ∙ ap (λ cs. or_number (cells_before x es) (length cs) (cell_number (f x) (respelled_store s))) (store_cells-respelled s)
-      ∙ ap (or_number (cells_before x es) (length (store_cells s))) (cell_number-respelled x s)
-
-  set_cells-respelled : (cs : List CellState) (es : Frame) → set_cells cs (respelled_frame es) ≡ respelled_frame (set_cells cs es)
-  set_cells-respelled cs [] = refl
-  set_cells-respelled cs (e ∷ es) =
-      ap (λ c. record { name = f e.name; content = c } ∷ set_cells (drop (length (cell_in (respelled e.content))) cs) (respelled_frame es)) (set_cell-respelled cs e.content)
-      ∙ ap (λ ds. respelled_entry (record e { content = set_cell cs e.content }) ∷ set_cells (drop (length ds) cs) (respelled_frame es)) (cell_in-respelled e.content)
-      ∙ ap (λ fs. respelled_entry (record e { content = set_cell cs e.content }) ∷ fs) (set_cells-respelled (drop (length (cell_in e.content)) cs) es)
+  cell_number-respelled x (Opened ∷ s) = cell_number-respelled x s
+  cell_number-respelled x (Declared e ∷ s) =
+      by_test (λ n. n) _ _ _ _ (length (store_cells s)) (cell_number x s) (same x e.name) (ap length (store_cells-respelled s)) (cell_number-respelled x s)
 
   with_cells-respelled : (cs : List CellState) (s : Store) → with_cells cs (respelled_store s) ≡ respelled_store (with_cells cs s)
   with_cells-respelled cs [] = refl
-  with_cells-respelled cs (es ∷ s) =
-      ap (λ ds. set_cells (drop (length ds) cs) (respelled_frame es) ∷ with_cells cs (respelled_store s)) (store_cells-respelled s)
-      ∙ ap (λ fs. fs ∷ with_cells cs (respelled_store s)) (set_cells-respelled (drop (length (store_cells s)) cs) es)
-      ∙ ap (λ t. respelled_frame (set_cells (drop (length (store_cells s)) cs) es) ∷ t) (with_cells-respelled cs s)
+  with_cells-respelled cs (Opened ∷ s) = ap (λ es. Opened ∷ es) (with_cells-respelled cs s)
+  with_cells-respelled cs (Declared e ∷ s) =
+      ap (λ ds. Declared (record { name = f e.name; content = set_cell (drop (length ds) cs) (respelled e.content) }) ∷ with_cells cs (respelled_store s)) (store_cells-respelled s)
+      ∙ ap (λ c. Declared (record { name = f e.name; content = c }) ∷ with_cells cs (respelled_store s)) (set_cell-respelled (drop (length (store_cells s)) cs) e.content)
+      ∙ ap (λ es. Declared (respelled_entry (record e { content = set_cell (drop (length (store_cells s)) cs) e.content })) ∷ es) (with_cells-respelled cs s)
 
   abbrev respelled_answer : Answer State → Answer State
   respelled_answer (Replied c r s) = Replied c r (respelled_state s)
@@ -281,8 +212,7 @@ module _ (f : Text → Text) (same : (x y : Text) → bytes_eq (f x) (f y) ≡ b
     elements = λ x items vs g s1 s2 r a e. ap (by_name.element (f x) (index_of vs)) r ∙ element_of_name x (index_of vs) s2;
     puts_at = λ x t v g s1 s2 r a h. then_so (by_name.put_element (f x) t v) (by_name.put_element x t v) (put_of_name x t v) s1 s2 r;
     puts = λ x items vs v g s1 s2 r a e h. then_so (by_name.put_element (f x) (index_of vs) v) (by_name.put_element x (index_of vs) v) (put_of_name x (index_of vs) v) s1 s2 r;
-    declares = λ x c g s1 s2 r a h. then_so (by_name.declare (f x) (respelled c)) (by_name.declare x c)
-        (λ s. ap (λ t. record (respelled_state s) { store = t }) (declare_in-respelled x c s.store)) s1 s2 r;
+    declares = λ x c g s1 s2 r a h. ap (by_name.declare (f x) (respelled c)) r;
     gives = λ x g s1 s2 r a. ap (by_name.given (f x)) r ∙ paired-sets x s2.sets;
     suited = λ x item v g s1 s2 r a w e. tt;
     suited_new = λ x item v g s1 s2 r a d e. tt;
@@ -296,7 +226,7 @@ module _ (f : Text → Text) (same : (x y : Text) → bytes_eq (f x) (f y) ≡ b
     spanned_array = λ x over k from items v vs g s1 s2 r f e h. tt;
     given_holds = λ x v g s1 s2 r a e. tt;
     enters = λ g s1 s2 r. ap by_name.enter r;
-    leaves = λ g s1 s2 r. then_so by_name.leave by_name.leave (λ s. ap (λ t. record (respelled_state s) { store = t }) (without_innermost-respelled s.store)) s1 s2 r;
+    leaves = λ g h s1 s2 t1 t2 before out r. then_so by_name.leave by_name.leave (λ s. ap (λ t. record (respelled_state s) { store = t }) (without_innermost-respelled s.store)) t1 t2 r;
     intends = λ is g s1 s2 r a. ap (by_name.intend (renamed_intents f is)) r;
     ends_forall = λ is g s1 s2 r a. ap (by_name.intend []) r;
     has = λ x op g s1 s2 r a w. ap (by_name.has_arrays (f x)) r ∙ arrays_over-respelled x s2.store;

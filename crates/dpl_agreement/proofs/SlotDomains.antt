@@ -1,16 +1,14 @@
 -- The arrays over a domain name in slots: those that are declared over its slot.
--- By names they are found by frames: behind the domain's declaration, and in the scopes inside that declare no other.
-use Rattle.std.proofs.Common.{◌≡◌, ◌≢◌, ℕ, Bool, true, false, List, [], ◌∷◌, ◌++◌, refl, sym, ap, ◌∙◌, subst, Some, None, Option}
+-- By names they are those that were declared since the domain.
+use Rattle.std.proofs.Common.{◌≡◌, ◌≢◌, ℕ, Bool, true, false, List, [], ◌∷◌, refl, sym, ap, ◌∙◌, subst, Some, None, Option}
 use Rattle.std.specs.Prelude.{bytes_eq, ◌==◌, ◌||◌, if◌then◌else◌, option_map}
 use Rattle.std.proofs.lemmas.Bool.Decides.{Decides-eqb}
-use Rattle.std.proofs.lemmas.List.{append_assoc}
 use Rattle.std.proofs.lemmas.Slice.Eq.{bytes_eq-Decides}
-use Rattle.dpl_agreement.proofs.Slots.{Bound}
 use Rattle.dpl_sets.specs.TextRanges.{TextRange}
 use Rattle.dpl_language.specs.Values.{Domain}
 use Rattle.dpl_language.specs.Environment.{Content, Plain, ArrayOf, CellOf}
-use Rattle.dpl_language.specs.Names.{Text, behind_entry, or_store, redomained, is_over, redomain_content, redomain_all, redomain_behind, redomain_in, is_array_over, has_over, has_over_behind, or_further, arrays_over}
-use Rattle.dpl_agreement.proofs.Slots.{Sight, slot_in, or_slot, slot_of, IsFreshIn, IsFresh, IsApartFrame, IsApart, bind, without_frame, Slots, set_slot, text_of, spelled, entry_at, frame_at, store_at, same_slot, other_slot, set_slot_here, set_slot_other, SameIn, frame_at-same, slot_of-apart, slot_in-fresh_outside, slot_of-fresh_before, slot_in-apart, IsFreshIn-append}
+use Rattle.dpl_language.specs.Names.{Text, Opened, Declared, redomained, is_over, redomain_content, redomain_in, is_array_over, arrays_over}
+use Rattle.dpl_agreement.proofs.Slots.{Bound, Mark, Name, Sight, slot_of, IsFresh, IsApart, without_frame, Slots, set_slot, text_of, spelled, entry_at, store_at, same_slot, other_slot, set_slot_here, set_slot_other, SameIn, store_at-same, slot_of-apart}
 use Rattle.dpl_agreement.proofs.Respelled.{by_test}
 
 -- BY SLOTS
@@ -33,13 +31,10 @@ redomained_content k new (CellOf kind c) = CellOf kind c
 abbrev pub redomain_slots : ℕ → List TextRange → Slots → Slots
 redomain_slots k new m j = if j == k then Plain (Domain new) else redomained_content k new (m j)
 
-abbrev pub any_over_in : ℕ → Slots → List Bound → Bool
-any_over_in k m [] = false
-any_over_in k m (b ∷ bs) = is_array_over_slot k (m b.slot) || any_over_in k m bs
-
 abbrev pub any_over : ℕ → Slots → Sight → Bool
 any_over k m [] = false
-any_over k m (f ∷ fs) = any_over_in k m f || any_over k m fs
+any_over k m (Mark ∷ g) = any_over k m g
+any_over k m (Name b ∷ g) = is_array_over_slot k (m b.slot) || any_over k m g
 
 -- WHAT IS KNOWN OF DOMAIN NAMES: each slot has one text, and an array is over the slot of its domain's innermost
 -- declaration, as it stood where the array was declared
@@ -52,23 +47,17 @@ OverResolves names (Plain v) p = Unit {0}
 OverResolves names (ArrayOf over kind rs vs) p = OverNamed names over p
 OverResolves names (CellOf kind c) p = Unit {0}
 
-abbrev pub OversFrame : (ℕ → Text) → Slots → List Bound → List Bound → Sight → Type 0
-OversFrame names m before [] fs = Unit {0}
-OversFrame names m before (b ∷ bs) fs = OverResolves names (m b.slot) (before ∷ fs) × OversFrame names m (before ++ b ∷ []) bs fs
-
 abbrev pub Overs : (ℕ → Text) → Slots → Sight → Type 0
 Overs names m [] = Unit {0}
-Overs names m (f ∷ fs) = OversFrame names m [] f fs × Overs names m fs
+Overs names m (Mark ∷ g) = Overs names m g
+Overs names m (Name b ∷ g) = OverResolves names (m b.slot) g × Overs names m g
 
 -- it stays so where slots change, and their arrays are over what they were over
 module _ (names : ℕ → Text) (m n : Slots) (p : (j : ℕ) (s : Sight) → OverResolves names (m j) s → OverResolves names (n j) s) where
-  OversFrame-kept : (before bs : List Bound) (fs : Sight) → OversFrame names m before bs fs → OversFrame names n before bs fs
-  OversFrame-kept before [] fs o = tt
-  OversFrame-kept before (b ∷ bs) fs o = (p b.slot (before ∷ fs) o.0, OversFrame-kept (before ++ b ∷ []) bs fs o.1)
-
   pub Overs-kept : (g : Sight) → Overs names m g → Overs names n g
   Overs-kept [] o = tt
-  Overs-kept (f ∷ fs) o = (OversFrame-kept [] f fs o.0, Overs-kept fs o.1)
+  Overs-kept (Mark ∷ g) o = Overs-kept g o
+  Overs-kept (Name b ∷ g) o = (p b.slot g o.0, Overs-kept g o.1)
 
 pub Overs-set : (names : ℕ → Text) (m : Slots) (k : ℕ) (u : Content Bound → Content Bound) → ((c : Content Bound) (s : Sight) → OverResolves names c s → OverResolves names (u c) s)
     → (g : Sight) → Overs names m g → Overs names (set_slot k (u (m k)) m) g
@@ -91,47 +80,18 @@ Overs-redomain names m k new g o =
 
 pub Overs-without_frame : (names : ℕ → Text) (m : Slots) (g : Sight) → Overs names m g → Overs names m (without_frame g)
 Overs-without_frame names m [] o = tt
-Overs-without_frame names m (f ∷ fs) o = o.1
-
-append_nothing : (bs : List Bound) → bs ++ [] ≡ bs
-append_nothing [] = refl
-append_nothing (b ∷ bs) = ap (λ cs. b ∷ cs) (append_nothing bs)
-
-resolves_in_none : (names : ℕ → Text) (c : Content Bound) → OverResolves names c [] → OverResolves names c ([] ∷ [])
-resolves_in_none names (Plain v) r = tt
-resolves_in_none names (ArrayOf None kind rs vs) r = tt
-resolves_in_none names (ArrayOf (Some y) kind rs vs) r = r
-resolves_in_none names (CellOf kind c) r = tt
+Overs-without_frame names m (Mark ∷ g) o = o
+Overs-without_frame names m (Name b ∷ g) o = Overs-without_frame names m g o.1
 
 -- a declaration
 module _ (names : ℕ → Text) (x : Bound) (c : Content Bound) (m : Slots) where
-  OversFrame-fresh : (before bs : List Bound) (fs : Sight) → IsFreshIn x.slot bs → OversFrame names m before bs fs → OversFrame names (set_slot x.slot c m) before bs fs
-  OversFrame-fresh before [] fs h o = tt
-  OversFrame-fresh before (b ∷ bs) fs h o = (
-    subst (λ d. OverResolves names d (before ∷ fs)) (sym (set_slot_other b.slot x.slot c m (λ e. h.0 (sym e)))) o.0,
-    OversFrame-fresh (before ++ b ∷ []) bs fs h.1 o.1,
-  )
-
   Overs-fresh : (g : Sight) → IsFresh x.slot g → Overs names m g → Overs names (set_slot x.slot c m) g
   Overs-fresh [] h o = tt
-  Overs-fresh (f ∷ fs) h o = (OversFrame-fresh [] f fs h.0 o.0, Overs-fresh fs h.1 o.1)
+  Overs-fresh (Mark ∷ g) h o = Overs-fresh g h o
+  Overs-fresh (Name b ∷ g) h o = (subst (λ d. OverResolves names d g) (sym (set_slot_other b.slot x.slot c m (λ e. h.0 (sym e)))) o.0, Overs-fresh g h.1 o.1)
 
-  OversFrame-append : (before bs : List Bound) (fs : Sight) → IsFreshIn x.slot bs → OversFrame names m before bs fs → OverResolves names c ((before ++ bs) ∷ fs)
-      → OversFrame names (set_slot x.slot c m) before (bs ++ x ∷ []) fs
-  OversFrame-append before [] fs h o r = (
-    subst (λ d. OverResolves names d (before ∷ fs)) (sym (set_slot_here x.slot c m))
-        (subst (λ bs. OverResolves names c (bs ∷ fs)) (append_nothing before) r),
-    tt,
-  )
-  OversFrame-append before (b ∷ bs) fs h o r = (
-    subst (λ d. OverResolves names d (before ∷ fs)) (sym (set_slot_other b.slot x.slot c m (λ e. h.0 (sym e)))) o.0,
-    OversFrame-append (before ++ b ∷ []) bs fs h.1 o.1 (subst (λ cs. OverResolves names c (cs ∷ fs)) (sym (append_assoc before (b ∷ []) bs)) r),
-  )
-
-  pub Overs-declare : (g : Sight) → IsFresh x.slot g → Overs names m g → OverResolves names c g → Overs names (set_slot x.slot c m) (bind x g)
-  Overs-declare [] h o r =
-      ((subst (λ d. OverResolves names d ([] ∷ [])) (sym (set_slot_here x.slot c m)) (resolves_in_none names c r), tt), tt)
-  Overs-declare (f ∷ fs) h o r = (OversFrame-append [] f fs h.0 o.0 r, Overs-fresh fs h.1 o.1)
+  pub Overs-declare : (g : Sight) → IsFresh x.slot g → Overs names m g → OverResolves names c g → Overs names (set_slot x.slot c m) (Name x ∷ g)
+  Overs-declare g h o r = (subst (λ d. OverResolves names d g) (sym (set_slot_here x.slot c m)) r, Overs-fresh g h o)
 
 -- A TEST of an array's domain name gives the same by its text and by its slot
 both_or_none : (b c : Bool) → (b ≡ true → c ≡ true) → (c ≡ true → b ≡ true) → b ≡ c
@@ -139,32 +99,8 @@ both_or_none true c p q = sym (p refl)
 both_or_none false true p q = q refl
 both_or_none false false p q = refl
 
-or_false : (b : Bool) → (b || false) ≡ b
-or_false true = refl
-or_false false = refl
-
 pub some_same : (j k : ℕ) → Some j ≡ Some k → j ≡ k
 some_same j k e = cc
-
--- where a name is found first, it is found first with more names behind it
-slot_in-found_first : (x : Text) (bs : List Bound) (b : Bound) (k : ℕ) → slot_in x bs ≡ Some k → slot_in x (bs ++ b ∷ []) ≡ Some k
-slot_in-found_first x [] b k = λ e. cc
-slot_in-found_first x (d ∷ bs) b k =
-    elim (bytes_eq x d.text) as (λ t. (if t then Some d.slot else slot_in x bs) ≡ Some k → (if t then Some d.slot else slot_in x (bs ++ b ∷ [])) ≡ Some k)
-    [ true ↦ λ e. e | false ↦ λ e. slot_in-found_first x bs b k e ]
-
--- and where it isn't, what is found is what stands behind
-slot_in-behind : (x : Text) (bs : List Bound) (b : Bound) → slot_in x bs ≡ None → slot_in x (bs ++ b ∷ []) ≡ slot_in x (b ∷ [])
-slot_in-behind x [] b = λ e. refl
-slot_in-behind x (d ∷ bs) b =
-    elim (bytes_eq x d.text) as (λ t. (if t then Some d.slot else slot_in x bs) ≡ None → (if t then Some d.slot else slot_in x (bs ++ b ∷ [])) ≡ slot_in x (b ∷ []))
-    [ true ↦ λ e. cc | false ↦ λ e. slot_in-behind x bs b e ]
-
--- the name is not the first of these, nor further on
-slot_in-not_first : (x : Text) (b : Bound) (bs : List Bound) → slot_in x (b ∷ bs) ≡ None → (slot_in x (b ∷ []) ≡ None) × (slot_in x bs ≡ None)
-slot_in-not_first x b bs =
-    elim (bytes_eq x b.text) as (λ t. (if t then Some b.slot else slot_in x bs) ≡ None → ((if t then Some b.slot else None) ≡ None) × (slot_in x bs ≡ None))
-    [ true ↦ λ e. cc | false ↦ λ e. (refl, e) ]
 
 module _ (names : ℕ → Text) (x : Bound) (named : x.text ≡ names x.slot) (m : Slots) where
   -- one array's test
@@ -200,36 +136,6 @@ module _ (names : ℕ → Text) (x : Bound) (named : x.text ≡ names x.slot) (m
   content-fails (ArrayOf over kind rs vs) p o h = over-fails over p o h
   content-fails (CellOf kind c) p o h = tt
 
-  abbrev SameTests : List Bound → Type 0
-  SameTests [] = Unit {0}
-  SameTests (b ∷ bs) = TestSame (m b.slot) × SameTests bs
-
-  abbrev NoTests : List Bound → Type 0
-  NoTests [] = Unit {0}
-  NoTests (b ∷ bs) = TestFails (m b.slot) × NoTests bs
-
-  -- behind the declaration, in its frame
-  tests_behind : (before bs : List Bound) (fs : Sight) → slot_in x.text before ≡ Some x.slot → OversFrame names m before bs fs → SameTests bs
-  tests_behind before [] fs e o = tt
-  tests_behind before (b ∷ bs) fs e o = (
-    content-same (m b.slot) (before ∷ fs) o.0 (ap (λ k. or_slot k (slot_of x.text fs)) e),
-    tests_behind (before ++ b ∷ []) bs fs (slot_in-found_first x.text before b x.slot e) o.1,
-  )
-
-  -- in a frame inside that declares no other
-  tests_inside : (before bs : List Bound) (fs : Sight) → slot_in x.text before ≡ None → slot_in x.text bs ≡ None → slot_of x.text fs ≡ Some x.slot → OversFrame names m before bs fs → SameTests bs
-  tests_inside before [] fs n e r o = tt
-  tests_inside before (b ∷ bs) fs n e r o = (
-    content-same (m b.slot) (before ∷ fs) o.0 (ap (λ k. or_slot k (slot_of x.text fs)) n ∙ r),
-    tests_inside (before ++ b ∷ []) bs fs (slot_in-behind x.text before b n ∙ (slot_in-not_first x.text b bs e).0) (slot_in-not_first x.text b bs e).1 r o.1,
-  )
-
-  -- outside: before the declaration, or further out
-  tests_outside : (before bs : List Bound) (fs : Sight) → IsFreshIn x.slot before → IsFreshIn x.slot bs → IsFresh x.slot fs → OversFrame names m before bs fs → NoTests bs
-  tests_outside before [] fs h i j o = tt
-  tests_outside before (b ∷ bs) fs h i j o =
-      (content-fails (m b.slot) (before ∷ fs) o.0 (h, j), tests_outside (before ++ b ∷ []) bs fs (IsFreshIn-append x.slot before b h i.0) i.1 j o.1)
-
   -- ONE CONTENT
   redomained-same : (new : List TextRange) (c : Content Bound) → TestSame c → redomain_content x.text new (spelled c) ≡ spelled (redomained_content x.slot new c)
   redomained-same new (Plain v) t = refl
@@ -257,111 +163,51 @@ module _ (names : ℕ → Text) (x : Bound) (named : x.text ≡ names x.slot) (m
   redomain_slots-here : (new : List TextRange) → redomain_slots x.slot new m x.slot ≡ Plain (Domain new)
   redomain_slots-here new = ap (λ b. if b then Plain (Domain new) else redomained_content x.slot new (m x.slot)) (same_slot x.slot)
 
-  -- A FRAME
-  redomain_all-slots : (new : List TextRange) (bs : List Bound) → IsFreshIn x.slot bs → SameTests bs → redomain_all x.text new (frame_at m bs) ≡ frame_at (redomain_slots x.slot new m) bs
-  redomain_all-slots new [] h t = refl
-  redomain_all-slots new (b ∷ bs) h t =
-      ap (λ c. record { name = b.text; content = c } ∷ redomain_all x.text new (frame_at m bs))
-      (redomained-same new (m b.slot) t.0 ∙ ap spelled (sym (redomain_slots-other new b.slot h.0)))
-      ∙ ap (λ r. entry_at (redomain_slots x.slot new m) b ∷ r) (redomain_all-slots new bs h.1 t.1)
-
-  same_outside : (new : List TextRange) (bs : List Bound) → IsFreshIn x.slot bs → NoTests bs → SameIn (redomain_slots x.slot new m) m bs
-  same_outside new [] h t = tt
-  same_outside new (b ∷ bs) h t = (redomain_slots-other new b.slot h.0 ∙ redomained-stays new (m b.slot) t.0, same_outside new bs h.1 t.1)
-
-  store_outside : (new : List TextRange) (g : Sight) → IsFresh x.slot g → Overs names m g → store_at (redomain_slots x.slot new m) g ≡ store_at m g
-  store_outside new [] h o = refl
-  store_outside new (f ∷ fs) h o =
-      ap (λ r. r ∷ store_at (redomain_slots x.slot new m) fs) (frame_at-same _ m f (same_outside new f h.0 (tests_outside [] f fs tt h.0 h.1 o.0)))
-      ∙ ap (λ r. frame_at m f ∷ r) (store_outside new fs h.1 o.1)
-
-  redomain_behind-absent : (new : List TextRange) (bs : List Bound) → slot_in x.text bs ≡ None → redomain_behind x.text new (frame_at m bs) ≡ None
-  redomain_behind-absent new [] = λ e. refl
-  redomain_behind-absent new (b ∷ bs) =
-      elim (bytes_eq x.text b.text) as (λ t. (if t then Some b.slot else slot_in x.text bs) ≡ None
-      → (if t then Some (record { name = b.text; content = Plain (Domain new) } ∷ redomain_all x.text new (frame_at m bs)) else behind_entry (entry_at m b) (redomain_behind x.text new (frame_at m bs))) ≡ None)
-      [ true ↦ λ e. cc | false ↦ λ e. ap (behind_entry (entry_at m b)) (redomain_behind-absent new bs e) ]
-
-  redomain_behind-present : (new : List TextRange) (before bs : List Bound) (fs : Sight) → slot_in x.text before ≡ None → IsFreshIn x.slot before → IsFresh x.slot fs → IsApartFrame bs fs
-      → OversFrame names m before bs fs → slot_in x.text bs ≡ Some x.slot → redomain_behind x.text new (frame_at m bs) ≡ Some (frame_at (redomain_slots x.slot new m) bs)
-  redomain_behind-present new before [] fs n h j a o = λ e. cc
-  redomain_behind-present new before (b ∷ bs) fs n h j a o =
-      (elim (bytes_eq x.text b.text) as (λ t. slot_in x.text (before ++ b ∷ []) ≡ (if t then Some b.slot else None) → (if t then Some b.slot else slot_in x.text bs) ≡ Some x.slot
-      → (if t then Some (record { name = b.text; content = Plain (Domain new) } ∷ redomain_all x.text new (frame_at m bs)) else behind_entry (entry_at m b) (redomain_behind x.text new (frame_at m bs)))
-      ≡ Some (frame_at (redomain_slots x.slot new m) (b ∷ bs))) [
-        | true ↦ λ q e.
-            let at : b.slot ≡ x.slot = some_same b.slot x.slot e in
-            ap (λ c. Some (record { name = b.text; content = spelled c } ∷ redomain_all x.text new (frame_at m bs))) (sym (ap (redomain_slots x.slot new m) at ∙ redomain_slots-here new))
-            ∙ ap (λ r. Some (entry_at (redomain_slots x.slot new m) b ∷ r))
-            (redomain_all-slots new bs (subst (λ k. IsFreshIn k bs) at a.0) (tests_behind (before ++ b ∷ []) bs fs (q ∙ e) o.1))
-        | false ↦ λ q e.
-            let apart : x.slot ≢ b.slot = λ same. slot_in-apart x.text bs b.slot x.slot a.0 e (sym same) in
-            ap (behind_entry (entry_at m b)) (redomain_behind-present new (before ++ b ∷ []) bs fs q (IsFreshIn-append x.slot before b h apart) j a.2 o.1 e)
-            ∙ ap (λ c. Some (record { name = b.text; content = spelled c } ∷ frame_at (redomain_slots x.slot new m) bs))
-            (sym (redomain_slots-other new b.slot apart ∙ redomained-stays new (m b.slot) (content-fails (m b.slot) (before ∷ fs) o.0 (h, j))))
-      ]) (slot_in-behind x.text before b n)
+  -- OUTSIDE: before the domain's declaration nothing changes
+  same_outside : (new : List TextRange) (g : Sight) → IsFresh x.slot g → Overs names m g → SameIn (redomain_slots x.slot new m) m g
+  same_outside new [] h o = tt
+  same_outside new (Mark ∷ g) h o = same_outside new g h o
+  same_outside new (Name b ∷ g) h o =
+      (redomain_slots-other new b.slot h.0 ∙ redomained-stays new (m b.slot) (content-fails (m b.slot) g o.0 h.1), same_outside new g h.1 o.1)
 
   -- THE STORE
   pub redomain_in-slots : (new : List TextRange) (g : Sight) → IsApart g → Overs names m g → slot_of x.text g ≡ Some x.slot → redomain_in x.text new (store_at m g) ≡ store_at (redomain_slots x.slot new m) g
   redomain_in-slots new [] a o = λ e. cc
-  redomain_in-slots new (f ∷ fs) a o =
-      (elim (slot_in x.text f) as (λ k. slot_in x.text f ≡ k → or_slot k (slot_of x.text fs) ≡ Some x.slot → redomain_in x.text new (store_at m (f ∷ fs)) ≡ store_at (redomain_slots x.slot new m) (f ∷ fs)) [
-        | None ↦ λ n e.
-            ap (λ o. or_store o (store_at m fs) (redomain_all x.text new (frame_at m f) ∷ redomain_in x.text new (store_at m fs))) (redomain_behind-absent new f n)
-            ∙ ap (λ r. r ∷ redomain_in x.text new (store_at m fs)) (redomain_all-slots new f (slot_of-fresh_before x.slot x.text f fs a.0 e) (tests_inside [] f fs refl n e o.0))
-            ∙ ap (λ r. frame_at (redomain_slots x.slot new m) f ∷ r) (redomain_in-slots new fs a.1 o.1 e)
-        | Some j ↦ λ n e.
-            let fresh : IsFresh x.slot fs = slot_in-fresh_outside x.text f fs x.slot a.0 (n ∙ e) in
-            ap (λ o. or_store o (store_at m fs) (redomain_all x.text new (frame_at m f) ∷ redomain_in x.text new (store_at m fs))) (redomain_behind-present new [] f fs refl tt fresh a.0 o.0 (n ∙ e))
-            ∙ ap (λ r. frame_at (redomain_slots x.slot new m) f ∷ r) (sym (store_outside new fs fresh o.1))
-      ]) refl
+  redomain_in-slots new (Mark ∷ g) a o = λ e. ap (λ es. Opened ∷ es) (redomain_in-slots new g a o e)
+  redomain_in-slots new (Name b ∷ g) a o =
+      elim (bytes_eq x.text b.text) as (λ t. (if t then Some b.slot else slot_of x.text g) ≡ Some x.slot
+      → (if t then Declared (record { name = b.text; content = Plain (Domain new) }) ∷ store_at m g
+      else Declared (record { name = b.text; content = redomain_content x.text new (spelled (m b.slot)) }) ∷ redomain_in x.text new (store_at m g))
+      ≡ store_at (redomain_slots x.slot new m) (Name b ∷ g)) [
+        | true ↦ λ e.
+            let at : b.slot ≡ x.slot = some_same b.slot x.slot e in
+            ap (λ c. Declared (record { name = b.text; content = spelled c }) ∷ store_at m g) (sym (ap (redomain_slots x.slot new m) at ∙ redomain_slots-here new))
+            ∙ ap (λ es. Declared (entry_at (redomain_slots x.slot new m) b) ∷ es)
+            (sym (store_at-same (redomain_slots x.slot new m) m g (same_outside new g (subst (λ k. IsFresh k g) at a.0) o.1)))
+        | false ↦ λ e.
+            let apart : x.slot ≢ b.slot = λ same. slot_of-apart x.text g b.slot x.slot a.0 e (sym same) in
+            ap (λ c. Declared (record { name = b.text; content = c }) ∷ redomain_in x.text new (store_at m g))
+            (redomained-same new (m b.slot) (content-same (m b.slot) g o.0 e) ∙ ap spelled (sym (redomain_slots-other new b.slot apart)))
+            ∙ ap (λ es. Declared (entry_at (redomain_slots x.slot new m) b) ∷ es) (redomain_in-slots new g a.1 o.1 e)
+      ]
 
   -- WHETHER AN ARRAY IS OVER IT
-  has_over-slots : (bs : List Bound) → SameTests bs → has_over x.text (frame_at m bs) ≡ any_over_in x.slot m bs
-  has_over-slots [] t = refl
-  has_over-slots (b ∷ bs) t =
-      ap (λ c. c || has_over x.text (frame_at m bs)) (array-same (m b.slot) t.0) ∙ ap (λ c. is_array_over_slot x.slot (m b.slot) || c) (has_over-slots bs t.1)
-
-  none_over_outside : (bs : List Bound) → NoTests bs → any_over_in x.slot m bs ≡ false
-  none_over_outside [] t = refl
-  none_over_outside (b ∷ bs) t = ap (λ c. c || any_over_in x.slot m bs) (array-fails (m b.slot) t.0) ∙ none_over_outside bs t.1
-
-  none_over_further : (g : Sight) → IsFresh x.slot g → Overs names m g → any_over x.slot m g ≡ false
-  none_over_further [] h o = refl
-  none_over_further (f ∷ fs) h o =
-      ap (λ c. c || any_over x.slot m fs) (none_over_outside f (tests_outside [] f fs tt h.0 h.1 o.0)) ∙ none_over_further fs h.1 o.1
-
-  has_over_behind-absent : (bs : List Bound) → slot_in x.text bs ≡ None → has_over_behind x.text (frame_at m bs) ≡ None
-  has_over_behind-absent [] = λ e. refl
-  has_over_behind-absent (b ∷ bs) =
-      elim (bytes_eq x.text b.text) as (λ t. (if t then Some b.slot else slot_in x.text bs) ≡ None → (if t then Some (has_over x.text (frame_at m bs)) else has_over_behind x.text (frame_at m bs)) ≡ None)
-      [ true ↦ λ e. cc | false ↦ λ e. has_over_behind-absent bs e ]
-
-  has_over_behind-present : (before bs : List Bound) (fs : Sight) → slot_in x.text before ≡ None → IsFreshIn x.slot before → IsFresh x.slot fs → IsApartFrame bs fs
-      → OversFrame names m before bs fs → slot_in x.text bs ≡ Some x.slot → has_over_behind x.text (frame_at m bs) ≡ Some (any_over_in x.slot m bs)
-  has_over_behind-present before [] fs n h j a o = λ e. cc
-  has_over_behind-present before (b ∷ bs) fs n h j a o =
-      (elim (bytes_eq x.text b.text) as (λ t. slot_in x.text (before ++ b ∷ []) ≡ (if t then Some b.slot else None) → (if t then Some b.slot else slot_in x.text bs) ≡ Some x.slot
-      → (if t then Some (has_over x.text (frame_at m bs)) else has_over_behind x.text (frame_at m bs)) ≡ Some (any_over_in x.slot m (b ∷ bs))) [
-        | true ↦ λ q e.
-            ap (λ c. Some c) (has_over-slots bs (tests_behind (before ++ b ∷ []) bs fs (q ∙ e) o.1))
-            ∙ ap (λ c. Some (c || any_over_in x.slot m bs)) (sym (array-fails (m b.slot) (content-fails (m b.slot) (before ∷ fs) o.0 (h, j))))
-        | false ↦ λ q e.
-            let apart : x.slot ≢ b.slot = λ same. slot_in-apart x.text bs b.slot x.slot a.0 e (sym same) in
-            has_over_behind-present (before ++ b ∷ []) bs fs q (IsFreshIn-append x.slot before b h apart) j a.2 o.1 e
-            ∙ ap (λ c. Some (c || any_over_in x.slot m bs)) (sym (array-fails (m b.slot) (content-fails (m b.slot) (before ∷ fs) o.0 (h, j))))
-      ]) (slot_in-behind x.text before b n)
+  none_over_outside : (g : Sight) → IsFresh x.slot g → Overs names m g → any_over x.slot m g ≡ false
+  none_over_outside [] h o = refl
+  none_over_outside (Mark ∷ g) h o = none_over_outside g h o
+  none_over_outside (Name b ∷ g) h o =
+      ap (λ c. c || any_over x.slot m g) (array-fails (m b.slot) (content-fails (m b.slot) g o.0 h.1)) ∙ none_over_outside g h.1 o.1
 
   pub arrays_over-slots : (g : Sight) → IsApart g → Overs names m g → slot_of x.text g ≡ Some x.slot → arrays_over x.text (store_at m g) ≡ any_over x.slot m g
   arrays_over-slots [] a o = λ e. cc
-  arrays_over-slots (f ∷ fs) a o =
-      (elim (slot_in x.text f) as (λ k. slot_in x.text f ≡ k → or_slot k (slot_of x.text fs) ≡ Some x.slot → arrays_over x.text (store_at m (f ∷ fs)) ≡ any_over x.slot m (f ∷ fs)) [
-        | None ↦ λ n e.
-            ap (λ o. or_further o (has_over x.text (frame_at m f) || arrays_over x.text (store_at m fs))) (has_over_behind-absent f n)
-            ∙ ap (λ c. c || arrays_over x.text (store_at m fs)) (has_over-slots f (tests_inside [] f fs refl n e o.0))
-            ∙ ap (λ c. any_over_in x.slot m f || c) (arrays_over-slots fs a.1 o.1 e)
-        | Some j ↦ λ n e.
-            let fresh : IsFresh x.slot fs = slot_in-fresh_outside x.text f fs x.slot a.0 (n ∙ e) in
-            ap (λ o. or_further o (has_over x.text (frame_at m f) || arrays_over x.text (store_at m fs))) (has_over_behind-present [] f fs refl tt fresh a.0 o.0 (n ∙ e))
-            ∙ sym (or_false (any_over_in x.slot m f)) ∙ ap (λ c. any_over_in x.slot m f || c) (sym (none_over_further fs fresh o.1))
-      ]) refl
+  arrays_over-slots (Mark ∷ g) a o = arrays_over-slots g a o
+  arrays_over-slots (Name b ∷ g) a o =
+      elim (bytes_eq x.text b.text) as (λ t. (if t then Some b.slot else slot_of x.text g) ≡ Some x.slot
+      → (if t then false else (is_array_over x.text (spelled (m b.slot)) || arrays_over x.text (store_at m g))) ≡ any_over x.slot m (Name b ∷ g)) [
+        | true ↦ λ e.
+            let fresh : IsFresh x.slot g = subst (λ k. IsFresh k g) (some_same b.slot x.slot e) a.0 in
+            sym (ap (λ c. c || any_over x.slot m g) (array-fails (m b.slot) (content-fails (m b.slot) g o.0 fresh)) ∙ none_over_outside g fresh o.1)
+        | false ↦ λ e.
+            ap (λ c. c || arrays_over x.text (store_at m g)) (array-same (m b.slot) (content-same (m b.slot) g o.0 e))
+            ∙ ap (λ c. is_array_over_slot x.slot (m b.slot) || c) (arrays_over-slots g a.1 o.1 e)
+      ]

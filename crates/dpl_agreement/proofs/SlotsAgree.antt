@@ -15,12 +15,12 @@ use Rattle.dpl_language.specs.Values.{Value, Index, index_of, ranges_in, array_d
 use Rattle.dpl_language.specs.Arithmetic.{assigned}
 use Rattle.dpl_language.specs.Ranges.{indices_in}
 use Rattle.dpl_language.specs.Environment.{Content, Plain, ArrayOf, CellOf, Answer, Replied, Unanswered, Environment, Limits}
-use Rattle.dpl_language.specs.Names.{Text, State, paired, look_up, change_in, value_in, update_in, with_element, element_in, put_in, set_cell, with_cells, store_cells, declare_in, redomain_in, arrays_over, without_innermost, state_in, effect_on, call_in, next_history, cell_number, by_name}
+use Rattle.dpl_language.specs.Names.{Text, State, Opened, Declared, paired, look_up, change_in, value_in, update_in, with_element, element_in, put_in, set_cell, with_cells, store_cells, redomain_in, arrays_over, without_innermost, state_in, effect_on, call_in, next_history, cell_number, by_name}
 use Rattle.dpl_language.specs.Program.{meaning}
 use Rattle.dpl_agreement.specs.Renamed.{renamed_intents, renamed_program}
 use Rattle.dpl_agreement.specs.Scopes.{Sort, PlainSort, ArraySort, CellSort, sort_of, Scoping, IsLawful, fits_all, after_all}
 use Rattle.dpl_agreement.specs.Agreement.{AnswersAlike, Simulates, EndsAlike}
-use Rattle.dpl_agreement.proofs.Slots.{Sight, slot_of, IsFresh, IsApart, bind, without_frame, Slots, set_slot, text_of, spelled, store_at, look_up-slot, change_in-slot, declare_in-slot, IsApart-bind, IsApart-without_frame, without_innermost-store_at, without_frame-bind}
+use Rattle.dpl_agreement.proofs.Slots.{Mark, Name, Sight, slot_of, IsFresh, IsApart, without_frame, Slots, set_slot, text_of, spelled, store_at, look_up-slot, change_in-slot, declared-slot, IsApart-without_frame, without_innermost-store_at}
 use Rattle.dpl_agreement.proofs.SlotDomains.{any_over, redomain_slots, OverNamed, OverResolves, Overs, Overs-set, Overs-redomain, Overs-declare, redomain_in-slots, arrays_over-slots, Overs-without_frame}
 use Rattle.dpl_agreement.proofs.SlotCells.{state_of, with_state, cells_of, number_of, with_states, state_in-spelled, set_cell-spelled, with_state-resolves, store_cells-slots, cell_number-slots, with_cells-slots, Overs-with_states}
 use Rattle.dpl_agreement.proofs.ProgramsAlike.{run_from, meaning-alike}
@@ -67,9 +67,9 @@ by_slot = record {
   update = λ x op v s. record s { kept = set_slot x.slot (updated op (intent_of x.slot s.intents) v (s.kept x.slot)) s.kept };
   element = λ x t s. element_in t (spelled (s.kept x.slot));
   put_element = λ x t v s. record s { kept = set_slot x.slot (with_value_at t v (s.kept x.slot)) s.kept };
-  declare = λ x c s. record s { kept = set_slot x.slot c s.kept; live = bind x s.live };
+  declare = λ x c s. record s { kept = set_slot x.slot c s.kept; live = Name x ∷ s.live };
   given = λ x s. paired x.text s.sets;
-  enter = λ s. record s { live = [] ∷ s.live };
+  enter = λ s. record s { live = Mark ∷ s.live };
   leave = λ s. record s { live = without_frame s.live };
   intend = λ is s. record s { intents = is };
   has_arrays = λ x s. any_over x.slot s.kept s.live;
@@ -87,7 +87,7 @@ by_slot = record {
 abbrev pub first_slots : Slots → List (Text × Value) → List (List Event) → Slotted
 first_slots m sets histories = record {
   kept = m;
-  live = [] ∷ [];
+  live = Mark ∷ [];
   intents = [];
   here = pos 0;
   sets = sets;
@@ -102,7 +102,7 @@ pub record Seen : Type 0 where
   pub intents : List (Bound × Op)
 
 abbrev pub first_seen : Seen
-first_seen = record { frames = [] ∷ []; intents = [] }
+first_seen = record { frames = Mark ∷ []; intents = [] }
 
 -- a name has the slot of its innermost declaration; each slot has one text
 abbrev pub Resolves : (ℕ → Text) → Bound → Seen → Type 0
@@ -144,8 +144,8 @@ resolving names = record {
   intends = λ is g. g.intents ≡ [];
   coforalls = λ g. Unit {0};
   moves = λ g. Unit {0};
-  add = λ x sort g. record g { frames = bind x g.frames };
-  enter = λ g. record g { frames = [] ∷ g.frames };
+  add = λ x sort g. record g { frames = Name x ∷ g.frames };
+  enter = λ g. record g { frames = Mark ∷ g.frames };
   leave = λ g. record g { frames = without_frame g.frames };
   intend = λ is g. record g { intents = is };
   begin = λ g. g;
@@ -154,7 +154,7 @@ resolving names = record {
 resolving-lawful : (names : ℕ → Text) → IsLawful (resolving names)
 resolving-lawful names = record {
   leave-enter = λ g. refl;
-  leave-add = λ x sort g. ap (λ fs. record { frames = fs; intents = g.intents }) (without_frame-bind x g.frames);
+  leave-add = λ x sort g. refl;
 }
 
 -- THE RELATION: the slots of the names in sight stand for the store, and all else is the same
@@ -288,11 +288,11 @@ module _ (names : ℕ → Text) where
   }
 
   declare_alike : (x : Bound) (c : Content Bound) (g : Seen) (s1 : State) (s2 : Slotted) → Stands names g s1 s2 → IsFresh x.slot g.frames → SortResolves names (sort_of c) g
-      → Stands names (record g { frames = bind x g.frames }) (by_name.declare x.text (spelled c) s1) (by_slot.declare x c s2)
+      → Stands names (record g { frames = Name x ∷ g.frames }) (by_name.declare x.text (spelled c) s1) (by_slot.declare x c s2)
   declare_alike x c g s1 s2 r f a = record {
-    store = ap (declare_in x.text (spelled c)) r.store ∙ declare_in-slot x c g.frames s2.kept f;
-    live = ap (bind x) r.live;
-    apart = IsApart-bind x g.frames r.apart f;
+    store = ap (λ es. Declared (record { name = x.text; content = spelled c }) ∷ es) r.store ∙ declared-slot x c g.frames s2.kept f;
+    live = ap (λ fs. Name x ∷ fs) r.live;
+    apart = (f, r.apart);
     overs = Overs-declare names x c s2.kept g.frames f r.overs (sort-resolves names c g a);
     intents = r.intents;
     intents_by_name = r.intents_by_name;
@@ -353,10 +353,10 @@ module _ (names : ℕ → Text) where
     spanned_array = λ x over k from items v vs g s1 s2 r f e h. tt;
     given_holds = λ x v g s1 s2 r f e. tt;
     enters = λ g s1 s2 r. record {
-      store = ap (λ s. [] ∷ s) r.store;
-      live = ap (λ fs. [] ∷ fs) r.live;
-      apart = (tt, r.apart);
-      overs = (tt, r.overs);
+      store = ap (λ es. Opened ∷ es) r.store;
+      live = ap (λ fs. Mark ∷ fs) r.live;
+      apart = r.apart;
+      overs = r.overs;
       intents = r.intents;
       intents_by_name = r.intents_by_name;
       here = r.here;
@@ -364,18 +364,18 @@ module _ (names : ℕ → Text) where
       replies = r.replies;
       histories = r.histories;
     };
-    leaves = λ g s1 s2 r. record {
-      store = ap without_innermost r.store ∙ without_innermost-store_at s2.kept g.frames;
+    leaves = λ g h s1 s2 t1 t2 before out r. subst (λ g. Stands names g (by_name.leave t1) (by_slot.leave t2)) out (record {
+      store = ap without_innermost r.store ∙ without_innermost-store_at t2.kept h.frames;
       live = ap without_frame r.live;
-      apart = IsApart-without_frame g.frames r.apart;
-      overs = Overs-without_frame names s2.kept g.frames r.overs;
+      apart = IsApart-without_frame h.frames r.apart;
+      overs = Overs-without_frame names t2.kept h.frames r.overs;
       intents = r.intents;
       intents_by_name = r.intents_by_name;
       here = r.here;
       sets = r.sets;
       replies = r.replies;
       histories = r.histories;
-    };
+    });
     intends = λ is g s1 s2 r f. record {
       store = r.store;
       live = r.live;
@@ -445,8 +445,8 @@ module _ (names : ℕ → Text) where
       (record {
         store = refl;
         live = refl;
-        apart = (tt, tt);
-        overs = (tt, tt);
+        apart = tt;
+        overs = tt;
         intents = refl;
         intents_by_name = refl;
         here = refl;

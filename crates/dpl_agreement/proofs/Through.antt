@@ -68,7 +68,7 @@ module _ {M N S : Type 0} (limits : Limits) (f : N → M) (env : Environment M S
     spanned_array = λ x over k from items v vs g s1 s2 r f e h. tt;
     given_holds = λ x v g s1 s2 r a e. tt;
     enters = λ g s1 s2 r. ap env.enter r;
-    leaves = λ g s1 s2 r. ap env.leave r;
+    leaves = λ g h s1 s2 t1 t2 before out r. ap env.leave r;
     intends = λ is g s1 s2 r a. ap (env.intend (renamed_intents f is)) r;
     ends_forall = λ is g s1 s2 r a. ap (env.intend (renamed_intents f [])) r;
     has = λ x op g s1 s2 r a w. ap (env.has_arrays (f x)) r;

@@ -106,9 +106,9 @@ pub record Simulates {M N G S1 S2 : Type 0} (limits : Limits) (name : N → M) (
   pub spanned_array : (x : N) (over : Option N) (k : Kind) (from : Place) (items : Items N) (v : Value) (vs : List Value) (g : G) (s1 : S1) (s2 : S2) → R g s1 s2 → scoping.spans_array x k items g
       → domain_of limits second from items s2 ≡ Ok v → All (λ v. scoping.holds x (Plain v)) vs → scoping.holds x (ArrayOf over k (ranges_in v) vs)
   pub given_holds : (x : N) (v : Value) (g : G) (s1 : S1) (s2 : S2) → R g s1 s2 → scoping.gives x g → second.given x s2 ≡ Some v → scoping.holds x (Plain v)
-  -- scopes and foralls
+  -- scopes, each of which is left to what was in sight where it was opened; and foralls
   pub enters : (g : G) (s1 : S1) (s2 : S2) → R g s1 s2 → R (scoping.enter g) (first.enter s1) (second.enter s2)
-  pub leaves : (g : G) (s1 : S1) (s2 : S2) → R g s1 s2 → R (scoping.leave g) (first.leave s1) (second.leave s2)
+  pub leaves : (g h : G) (s1 : S1) (s2 : S2) (t1 : S1) (t2 : S2) → R g s1 s2 → scoping.leave h ≡ g → R h t1 t2 → R g (first.leave t1) (second.leave t2)
   pub intends : (is : List (N × Op)) (g : G) (s1 : S1) (s2 : S2) → R g s1 s2 → scoping.intends is g
       → R (scoping.intend is g) (first.intend (renamed_intents name is) s1) (second.intend is s2)
   pub ends_forall : (is : List (N × Op)) (g : G) (s1 : S1) (s2 : S2) → R (scoping.intend is g) s1 s2 → scoping.intends is g

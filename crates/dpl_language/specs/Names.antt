@@ -1,7 +1,6 @@
 -- Variables kept by their names: the language's own environment.
--- A store is a list of frames, the innermost scope's first; a frame has its names in order of declaration.
-use Rattle.std.specs.Prelude.{ℕ, ◌+◌, ℤ, pos, Bool, false, ◌||◌, bytes_eq, if◌then◌else◌, List, [], ◌∷◌, ◌++◌, map, length, Option, Some, None, drop, get_or, unwrap_or}
-use Rattle.std.specs.List.{list_any}
+-- A store is one list: what was declared, the latest first, with a mark where each scope was opened.
+use Rattle.std.specs.Prelude.{ℕ, ℤ, pos, Bool, false, ◌||◌, bytes_eq, if◌then◌else◌, List, [], ◌∷◌, ◌++◌, map, length, Option, Some, None, drop, get_or, unwrap_or}
 use Rattle.dpl_history.specs.declared.cell.CellState.{CellState}
 use Rattle.dpl_history.specs.declared.cell.CellState.TheVariants.{Empty}
 use Rattle.dpl_history.specs.declared.cell.CellOp.{CellOp}
@@ -20,15 +19,22 @@ use Rattle.dpl_language.specs.Environment.{Content, Plain, ArrayOf, CellOf, Answ
 abbrev pub Text : Type 0
 Text = List ℕ
 
+-- a name, and what it holds
 pub record Entry : Type 0 where
   pub name : Text
   pub content : Content Text
 
+-- names in order of declaration
 abbrev pub Frame : Type 0
 Frame = List Entry
 
+-- what a store has: that a scope was opened, and that a name was declared
+pub data Stored : Type 0 where
+  Opened : Stored
+  Declared : Entry → Stored
+
 abbrev pub Store : Type 0
-Store = List Frame
+Store = List Stored
 
 -- The store; the reduce variables of the forall around, with their operators; the number of `here`; what the command
 -- line gives to names; where a task is run, the replies that are left for it; and the histories of the coforalls that
@@ -46,50 +52,25 @@ abbrev pub paired : {A : Type 0} → Text → List (Text × A) → Option A
 paired x [] = None
 paired x (p ∷ ps) = if bytes_eq x p.0 then Some p.1 else paired x ps
 
--- what a name holds in a frame, where it is declared there
-abbrev pub in_frame : Text → Frame → Option (Content Text)
-in_frame x [] = None
-in_frame x (e ∷ es) = if bytes_eq x e.name then Some e.content else in_frame x es
-
-abbrev pub or_content : Option (Content Text) → Content Text → Content Text
-or_content None outer = outer
-or_content (Some c) outer = c
-
 -- what a name's innermost declaration holds; a name that is not declared counts as 0
 abbrev pub look_up : Text → Store → Content Text
 look_up x [] = Plain (Int (pos 0))
-look_up x (f ∷ fs) = or_content (in_frame x f) (look_up x fs)
-
--- an entry before the others, where these are there
-abbrev pub behind_entry : Entry → Option Frame → Option Frame
-behind_entry e None = None
-behind_entry e (Some es) = Some (e ∷ es)
-
--- the frame with what a name holds changed, where it is declared there
-abbrev pub changed : Text → (Content Text → Content Text) → Frame → Option Frame
-changed x change [] = None
-changed x change (e ∷ es) =
-    if bytes_eq x e.name then Some (record e { content = change e.content } ∷ es)
-    else behind_entry e (changed x change es)
-
--- a changed frame before the frames outside it, where the frame has the name; else another store
-abbrev pub or_store : Option Frame → Store → Store → Store
-or_store None outside other = other
-or_store (Some f) outside other = f ∷ outside
+look_up x (Opened ∷ es) = look_up x es
+look_up x (Declared e ∷ es) = if bytes_eq x e.name then e.content else look_up x es
 
 -- the store with what a name's innermost declaration holds changed
 abbrev pub change_in : Text → (Content Text → Content Text) → Store → Store
 change_in x change [] = []
-change_in x change (f ∷ fs) = or_store (changed x change f) fs (f ∷ change_in x change fs)
+change_in x change (Opened ∷ es) = Opened ∷ change_in x change es
+change_in x change (Declared e ∷ es) =
+    if bytes_eq x e.name then Declared (record e { content = change e.content }) ∷ es
+    else Declared e ∷ change_in x change es
 
--- one more name, at the end of the innermost frame
-abbrev pub declare_in : Text → Content Text → Store → Store
-declare_in x c [] = (record { name = x; content = c } ∷ []) ∷ []
-declare_in x c (f ∷ fs) = (f ++ record { name = x; content = c } ∷ []) ∷ fs
-
+-- the store without all that was declared since the innermost scope was opened
 abbrev pub without_innermost : Store → Store
 without_innermost [] = []
-without_innermost (f ∷ fs) = fs
+without_innermost (Opened ∷ es) = es
+without_innermost (Declared e ∷ es) = without_innermost es
 
 -- the value of what a name holds
 abbrev pub value_in : Content Text → Value
@@ -136,89 +117,52 @@ redomain_content x new (ArrayOf over k rs vs) =
     if is_over x over then ArrayOf over k new (redomained k rs vs new) else ArrayOf over k rs vs
 redomain_content x new c = c
 
-abbrev pub redomain_all : Text → List TextRange → Frame → Frame
-redomain_all x new es = map {A = Entry} {B = Entry} (λ e. record e { content = redomain_content x new e.content }) es
-
--- In the frame of the domain's declaration the arrays behind it are declared over it; those before it are over an
--- outer domain of the same name, and stay.
-abbrev pub redomain_behind : Text → List TextRange → Frame → Option Frame
-redomain_behind x new [] = None
-redomain_behind x new (e ∷ es) =
-    if bytes_eq x e.name then Some (record e { content = Plain (Domain new) } ∷ redomain_all x new es)
-    else behind_entry e (redomain_behind x new es)
-
--- in the frames inside that of the declaration all arrays over the name are over this domain
+-- What was declared since a domain, in its scope or in one inside it, and is over its name, is over this domain; what was
+-- declared before it is over an outer domain of the same name, and stays.
 abbrev pub redomain_in : Text → List TextRange → Store → Store
 redomain_in x new [] = []
-redomain_in x new (f ∷ fs) =
-    or_store (redomain_behind x new f) fs (redomain_all x new f ∷ redomain_in x new fs)
+redomain_in x new (Opened ∷ es) = Opened ∷ redomain_in x new es
+redomain_in x new (Declared e ∷ es) =
+    if bytes_eq x e.name then Declared (record e { content = Plain (Domain new) }) ∷ es
+    else Declared (record e { content = redomain_content x new e.content }) ∷ redomain_in x new es
 
 abbrev pub is_array_over : Text → Content Text → Bool
 is_array_over x (ArrayOf over k rs vs) = is_over x over
 is_array_over x _ = false
 
-abbrev pub has_over : Text → Frame → Bool
-has_over x es = list_any (λ (e : Entry). is_array_over x e.content) es
-
--- whether an array behind the domain's declaration is over it, where the frame has that declaration
-abbrev pub has_over_behind : Text → Frame → Option Bool
-has_over_behind x [] = None
-has_over_behind x (e ∷ es) = if bytes_eq x e.name then Some (has_over x es) else has_over_behind x es
-
-abbrev pub or_further : Option Bool → Bool → Bool
-or_further None further = further
-or_further (Some b) further = b
-
 -- whether an array in scope is declared over the domain, found by the same rule
 abbrev pub arrays_over : Text → Store → Bool
 arrays_over x [] = false
-arrays_over x (f ∷ fs) = or_further (has_over_behind x f) (has_over x f || arrays_over x fs)
+arrays_over x (Opened ∷ es) = arrays_over x es
+arrays_over x (Declared e ∷ es) = if bytes_eq x e.name then false else is_array_over x e.content || arrays_over x es
 
--- CELLS. They are numbered from the outermost frame on, in each frame in order of declaration, hidden ones too.
+-- CELLS. They are numbered from the first declared on, hidden ones too.
 abbrev pub cell_in : Content Text → List CellState
 cell_in (CellOf k c) = c ∷ []
 cell_in _ = []
 
-abbrev pub frame_cells : Frame → List CellState
-frame_cells [] = []
-frame_cells (e ∷ es) = cell_in e.content ++ frame_cells es
-
 abbrev pub store_cells : Store → List CellState
 store_cells [] = []
-store_cells (f ∷ fs) = store_cells fs ++ frame_cells f
+store_cells (Opened ∷ es) = store_cells es
+store_cells (Declared e ∷ es) = store_cells es ++ cell_in e.content
 
-abbrev pub plus : ℕ → Option ℕ → Option ℕ
-plus n None = None
-plus n (Some m) = Some (n + m)
-
--- how many cells are declared before a name, where the frame has it
-abbrev pub cells_before : Text → Frame → Option ℕ
-cells_before x [] = None
-cells_before x (e ∷ es) = if bytes_eq x e.name then Some 0 else plus (length (cell_in e.content)) (cells_before x es)
-
-abbrev pub or_number : Option ℕ → ℕ → ℕ → ℕ
-or_number None outer number_outside = number_outside
-or_number (Some m) outer number_outside = outer + m
-
--- the number of a cell's name
+-- the number of a cell's name: how many are declared before it
 abbrev pub cell_number : Text → Store → ℕ
 cell_number x [] = 0
-cell_number x (f ∷ fs) = or_number (cells_before x f) (length (store_cells fs)) (cell_number x fs)
+cell_number x (Opened ∷ es) = cell_number x es
+cell_number x (Declared e ∷ es) = if bytes_eq x e.name then length (store_cells es) else cell_number x es
 
 -- what a name holds, a cell's state being the first of these
 abbrev pub set_cell : List CellState → Content Text → Content Text
 set_cell cs (CellOf k c) = CellOf k (get_or cs 0 c)
 set_cell cs c = c
 
--- the frame, and the store, with these states of its cells in place of the old ones
-abbrev pub set_cells : List CellState → Frame → Frame
-set_cells cs [] = []
-set_cells cs (e ∷ es) =
-    record e { content = set_cell cs e.content } ∷ set_cells (drop (length (cell_in e.content)) cs) es
-
+-- the store with these states of its cells in place of the old ones
 abbrev pub with_cells : List CellState → Store → Store
 with_cells cs [] = []
-with_cells cs (f ∷ fs) = set_cells (drop (length (store_cells fs)) cs) f ∷ with_cells cs fs
+with_cells cs (Opened ∷ es) = Opened ∷ with_cells cs es
+with_cells cs (Declared e ∷ es) =
+    Declared (record e { content = set_cell (drop (length (store_cells es)) cs) e.content }) ∷ with_cells cs es
 
 -- a cell's state; what is no cell counts as an empty one
 abbrev pub state_in : Content Text → CellState
@@ -249,9 +193,9 @@ by_name = record {
   update = λ x op v s. record s { store = change_in x (update_in op (paired x s.intents) v) s.store };
   element = λ x t s. element_in t (look_up x s.store);
   put_element = λ x t v s. record s { store = change_in x (put_in t v) s.store };
-  declare = λ x c s. record s { store = declare_in x c s.store };
+  declare = λ x c s. record s { store = Declared (record { name = x; content = c }) ∷ s.store };
   given = λ x s. paired x s.sets;
-  enter = λ s. record s { store = [] ∷ s.store };
+  enter = λ s. record s { store = Opened ∷ s.store };
   leave = λ s. record s { store = without_innermost s.store };
   intend = λ is s. record s { intents = is };
   has_arrays = λ x s. arrays_over x s.store;

@@ -10,7 +10,7 @@ use Rattle.dpl_language.specs.Values.{Value, Turn, InNone, InTurn, InTask, Fault
 use Rattle.dpl_language.specs.Outcome.{Deeds, no_deeds, Outcome, Done, Stop, Waits}
 use Rattle.dpl_language.specs.Environment.{Content, ArrayOf, Limits}
 use Rattle.dpl_language.specs.Statements.{exec_all}
-use Rattle.dpl_language.specs.Names.{Text, Entry, Frame, Store, State, by_name}
+use Rattle.dpl_language.specs.Names.{Text, Entry, Frame, Opened, Declared, Store, State, by_name}
 
 -- an operation that waits outside tasks is F7 at once, at the cell's name
 abbrev pub settled : {S : Type 0} → Outcome S → Outcome S
@@ -18,10 +18,10 @@ settled (Done s done) = Done s done
 settled (Stop f done) = Stop f done
 settled (Waits at c op done) = Stop (fault CellStuck at) done
 
--- a program starts with one empty frame, on locale 0
+-- a program starts with its own scope opened, on locale 0
 abbrev pub first_state : List (Text × Value) → List (List Event) → State
 first_state sets histories =
-    record { store = [] ∷ []; intents = []; here = pos 0; sets = sets; replies = None; histories = histories }
+    record { store = Opened ∷ []; intents = []; here = pos 0; sets = sets; replies = None; histories = histories }
 
 abbrev pub meaning : ProgramTree Text → List (Text × Value) → Limits → List (List Event) → Outcome State
 meaning t sets limits histories = settled (exec_all limits by_name t.stmts (first_state sets histories) no_deeds)
@@ -63,11 +63,11 @@ written (Done s done) = done.text
 written (Stop f done) = done.text ++ line_ended done.text ++ fault_text f ++ 10 ∷ []
 written (Waits at c op done) = done.text
 
--- the top-level names and what they hold: the outermost frame, in which a program starts and ends
+-- The names that are declared, and what they hold, in order of declaration: at a program's end those of its top level.
 abbrev pub top_level : Store → Frame
 top_level [] = []
-top_level (f ∷ []) = f
-top_level (f ∷ g ∷ fs) = top_level (g ∷ fs)
+top_level (Opened ∷ es) = top_level es
+top_level (Declared e ∷ es) = top_level es ++ e ∷ []
 
 -- What a name holds by itself: of an array its domain and its elements, whichever name it is declared over.
 abbrev pub own_content : {N : Type 0} → Content N → Content N

@@ -9,12 +9,12 @@ use Rattle.dpl_language.specs.Tree.{Kind}
 use Rattle.dpl_language.specs.Values.{Domain}
 use Rattle.dpl_language.specs.Environment.{Content, Plain, ArrayOf, CellOf}
 use Rattle.dpl_language.specs.Names.{Text, redomained}
-use Rattle.dpl_agreement.proofs.Slots.{Sight as SlotSight, Bound as SlotBound, IsFreshIn, IsFresh, IsApartFrame, IsApart, Slots, SameIn, frame_at, frame_at-same, store_at, same_slot, other_slot, slot_of-apart, IsFreshIn-append}
-use Rattle.dpl_agreement.proofs.SlotDomains.{is_over_slot, is_array_over_slot, redomained_content, redomain_slots, any_over_in, any_over, OverNamed, OverResolves, OversFrame, Overs}
+use Rattle.dpl_agreement.proofs.Slots.{Sight as SlotSight, Bound as SlotBound, Mark, Name, IsFresh, Slots, SameIn, store_at, store_at-same, same_slot, other_slot, slot_of-apart}
+use Rattle.dpl_agreement.proofs.SlotDomains.{is_over_slot, is_array_over_slot, redomained_content, redomain_slots, any_over, OverNamed, OverResolves, Overs}
 use Rattle.dpl_memory.specs.Memory.{VariableKind, PlainKind, DomainKind, TupleKind, ArrayKind, Variable, Held, Memory, no_domain, no_array, is_among, held_over_if, redomained_from, redomained_in, is_some_array, element_as, array_at}
-use Rattle.dpl_memory.specs.Resolved.{Bound, Sighted, Sight, is_over, arrays_in, arrays_over, HasSlots, array_content, content_in}
+use Rattle.dpl_memory.specs.Resolved.{Bound, Sighted, Sight, IsUnusedIn, IsUnused, is_over, arrays_in, arrays_over, HasSlots, array_content, content_in}
 use Rattle.dpl_memory.proofs.Elements.{redomained-words}
-use Rattle.dpl_memory.proofs.InSight.{placed_frame, in_slots, Told, IsToldIn, IsTold, contents}
+use Rattle.dpl_memory.proofs.InSight.{placed_name, with_names, in_slots, IsApartFrame, AreApart, Told, IsToldIn, IsTold, contents}
 use Rattle.dpl_memory.proofs.OverShapes.{OverShapedIn, OversShaped, over-slot}
 
 -- OTHER TEXTS for a slot that no name in sight has
@@ -28,14 +28,10 @@ module _ (names more : ℕ → Text) (slot : ℕ) (same : (j : ℕ) → j ≢ sl
   OverResolves-texts (ArrayOf over k rs vs) p h o = OverNamed-texts over p h o
   OverResolves-texts (CellOf k c) p h o = tt
 
-  OversFrame-texts : (m : Slots) (before bs : List SlotBound) (fs : SlotSight) → IsFreshIn slot before → IsFreshIn slot bs → IsFresh slot fs → OversFrame names m before bs fs → OversFrame more m before bs fs
-  OversFrame-texts m before [] fs h i j o = tt
-  OversFrame-texts m before (b ∷ bs) fs h i j o =
-      (OverResolves-texts (m b.slot) (before ∷ fs) (h, j) o.0, OversFrame-texts m (before ++ b ∷ []) bs fs (IsFreshIn-append slot before b h i.0) i.1 j o.1)
-
   pub Overs-texts : (m : Slots) (g : SlotSight) → IsFresh slot g → Overs names m g → Overs more m g
   Overs-texts m [] h o = tt
-  Overs-texts m (f ∷ fs) h o = (OversFrame-texts m [] f fs tt h.0 h.1 o.0, Overs-texts m fs h.1 o.1)
+  Overs-texts m (Mark ∷ g) h o = Overs-texts m g h o
+  Overs-texts m (Name b ∷ g) h o = (OverResolves-texts (m b.slot) g h.1 o.0, Overs-texts m g h.1 o.1)
 
 -- NAMES THAT ARE NO ARRAYS are over nothing
 abbrev pub OverFits : VariableKind → Option Bound → Type 0
@@ -62,13 +58,13 @@ is_among-append j (x ∷ xs) ys = ap (λ b. (j == x) || b) (is_among-append j xs
     or_assoc false b c = refl
 
 module _ (slot : ℕ) where
-  unused-not_among : (j : ℕ) (bs : List Sighted) → IsFreshIn j (placed_frame bs) → is_among j (arrays_in slot bs) ≡ false
+  unused-not_among : (j : ℕ) (bs : List Sighted) → IsUnusedIn j bs → is_among j (arrays_in slot bs) ≡ false
   unused-not_among j [] h = refl
   unused-not_among j (b ∷ bs) h =
       elim (is_over slot b.over) as (λ t. is_among j (if t then b.slot ∷ arrays_in slot bs else arrays_in slot bs) ≡ false)
       [ true ↦ ap (λ t. t || is_among j (arrays_in slot bs)) (other_slot j b.slot h.0) ∙ unused-not_among j bs h.1 | false ↦ unused-not_among j bs h.1 ]
 
-  unused-none_over : (j : ℕ) (fs : Sight) → IsFresh j (in_slots fs) → is_among j (arrays_over slot fs) ≡ false
+  unused-none_over : (j : ℕ) (fs : Sight) → IsUnused j fs → is_among j (arrays_over slot fs) ≡ false
   unused-none_over j [] h = refl
   unused-none_over j (f ∷ fs) h =
       is_among-append j (arrays_in slot f) (arrays_over slot fs) ∙ ap (λ t. t || is_among j (arrays_over slot fs)) (unused-not_among j f h.0) ∙ unused-none_over j fs h.1
@@ -83,23 +79,23 @@ module _ (slot : ℕ) where
   Tells xs (f ∷ fs) = TellsIn xs f × Tells xs fs
 
   -- one more that no name has
-  TellsIn-more : (k : ℕ) (xs : List ℕ) (bs : List Sighted) → IsFreshIn k (placed_frame bs) → TellsIn xs bs → TellsIn (k ∷ xs) bs
+  TellsIn-more : (k : ℕ) (xs : List ℕ) (bs : List Sighted) → IsUnusedIn k bs → TellsIn xs bs → TellsIn (k ∷ xs) bs
   TellsIn-more k xs [] h t = tt
   TellsIn-more k xs (b ∷ bs) h t = (ap (λ c. c || is_among b.slot xs) (other_slot b.slot k (λ e. h.0 (sym e))) ∙ t.0, TellsIn-more k xs bs h.1 t.1)
 
-  Tells-more : (k : ℕ) (xs : List ℕ) (fs : Sight) → IsFresh k (in_slots fs) → Tells xs fs → Tells (k ∷ xs) fs
+  Tells-more : (k : ℕ) (xs : List ℕ) (fs : Sight) → IsUnused k fs → Tells xs fs → Tells (k ∷ xs) fs
   Tells-more k xs [] h t = tt
   Tells-more k xs (f ∷ fs) h t = (TellsIn-more k xs f h.0 t.0, Tells-more k xs fs h.1 t.1)
 
   -- those of a frame before those of the frames outside
-  Tells-frame : (bs : List Sighted) (xs : List ℕ) (fs : Sight) → IsApartFrame (placed_frame bs) (in_slots fs) → Tells xs fs → Tells (arrays_in slot bs ++ xs) fs
+  Tells-frame : (bs : List Sighted) (xs : List ℕ) (fs : Sight) → IsApartFrame bs fs → Tells xs fs → Tells (arrays_in slot bs ++ xs) fs
   Tells-frame [] xs fs a t = t
   Tells-frame (b ∷ bs) xs fs a t =
       elim (is_over slot b.over) as (λ c. Tells ((if c then b.slot ∷ arrays_in slot bs else arrays_in slot bs) ++ xs) fs)
       [ true ↦ Tells-more b.slot (arrays_in slot bs ++ xs) fs a.1 (Tells-frame bs xs fs a.2 t) | false ↦ Tells-frame bs xs fs a.2 t ]
 
   -- in their own frame
-  TellsIn-own : (bs : List Sighted) (g : SlotSight) → IsApartFrame (placed_frame bs) g → TellsIn (arrays_in slot bs) bs
+  TellsIn-own : (bs : List Sighted) (g : Sight) → IsApartFrame bs g → TellsIn (arrays_in slot bs) bs
   TellsIn-own [] g a = tt
   TellsIn-own (b ∷ bs) g a =
       elim (is_over slot b.over) as (λ c. (is_among b.slot (if c then b.slot ∷ arrays_in slot bs else arrays_in slot bs) ≡ c) × TellsIn (if c then b.slot ∷ arrays_in slot bs else arrays_in slot bs) bs) [
@@ -108,7 +104,7 @@ module _ (slot : ℕ) where
       ]
 
   -- behind them some that no name of the frame has
-  TellsIn-behind : (xs : List ℕ) (bs : List Sighted) (fs : Sight) → IsApartFrame (placed_frame bs) (in_slots fs) → TellsIn xs bs → TellsIn (xs ++ arrays_over slot fs) bs
+  TellsIn-behind : (xs : List ℕ) (bs : List Sighted) (fs : Sight) → IsApartFrame bs fs → TellsIn xs bs → TellsIn (xs ++ arrays_over slot fs) bs
   TellsIn-behind xs [] fs a t = tt
   TellsIn-behind xs (b ∷ bs) fs a t = (
     is_among-append b.slot xs (arrays_over slot fs) ∙ ap (λ c. is_among b.slot xs || c) (unused-none_over b.slot fs a.1) ∙ or_false (is_among b.slot xs) ∙ t.0,
@@ -119,10 +115,10 @@ module _ (slot : ℕ) where
       or_false true = refl
       or_false false = refl
 
-  pub arrays_over-tells : (fs : Sight) → IsApart (in_slots fs) → Tells (arrays_over slot fs) fs
+  pub arrays_over-tells : (fs : Sight) → AreApart fs → Tells (arrays_over slot fs) fs
   arrays_over-tells [] a = tt
   arrays_over-tells (f ∷ fs) a = (
-    TellsIn-behind (arrays_in slot f) f fs a.0 (TellsIn-own f (in_slots fs) a.0),
+    TellsIn-behind (arrays_in slot f) f fs a.0 (TellsIn-own f fs a.0),
     Tells-frame f (arrays_over slot fs) fs a.0 (arrays_over-tells fs a.1),
   )
 
@@ -139,18 +135,24 @@ content-over slot TupleKind j over known s h e = sym (ap (is_over slot) h)
 content-over slot (ArrayKind k) j over known s h e = e
 
 module _ (slot slots : ℕ) (told : ℕ → Told) (s : Memory) (domain : (told slot).kind ≡ DomainKind) where
-  any_over_in-told : (bs : List Sighted) (fs : Sight) → IsToldIn told slots bs → FitIn bs → OverShapedIn told fs bs → any_over_in slot (contents told s) (placed_frame bs) ≡ is_some_array (arrays_in slot bs)
-  any_over_in-told [] fs h f o = refl
-  any_over_in-told (b ∷ bs) fs h f o =
-      ap (λ c. c || any_over_in slot (contents told s) (placed_frame bs))
+  any_over-names : (bs : List Sighted) (fs : Sight) (g : SlotSight) → IsToldIn told slots bs → FitIn bs → OverShapedIn told fs bs
+      → any_over slot (contents told s) (with_names bs g) ≡ (is_some_array (arrays_in slot bs) || any_over slot (contents told s) g)
+  any_over-names [] fs g h f o = refl
+  any_over-names (b ∷ bs) fs g h f o =
+      any_over-names bs fs (Name (placed_name b) ∷ g) h.2 f.1 o.1
+      ∙ ap (λ c. is_some_array (arrays_in slot bs) || (c || any_over slot (contents told s) g))
       (content-over slot (told b.slot).kind b.slot (told b.slot).over b.over s (subst (λ (t : Told). OverFits t.kind b.over) (sym h.0) f.0) (over-slot told slot domain (told b.slot).over b.over b.shape fs o.0))
-      ∙ ap (λ c. is_over slot b.over || c) (any_over_in-told bs fs h.2 f.1 o.1)
-      ∙ (elim (is_over slot b.over) as (λ c. (c || is_some_array (arrays_in slot bs)) ≡ is_some_array (if c then b.slot ∷ arrays_in slot bs else arrays_in slot bs)) [ true ↦ refl | false ↦ refl ])
+      ∙ (elim (is_over slot b.over) as (λ c. (is_some_array (arrays_in slot bs) || (c || any_over slot (contents told s) g)) ≡ (is_some_array (if c then b.slot ∷ arrays_in slot bs else arrays_in slot bs) || any_over slot (contents told s) g))
+      [ true ↦ or_true (is_some_array (arrays_in slot bs)) | false ↦ refl ])
+    where
+      or_true : (c : Bool) → (c || true) ≡ true
+      or_true true = refl
+      or_true false = refl
 
   pub any_over-told : (fs : Sight) → IsTold told slots fs → Fit fs → OversShaped told fs → any_over slot (contents told s) (in_slots fs) ≡ is_some_array (arrays_over slot fs)
   any_over-told [] h f o = refl
   any_over-told (bs ∷ fs) h f o =
-      ap (λ c. c || any_over slot (contents told s) (in_slots fs)) (any_over_in-told bs (bs ∷ fs) h.0 f.0 o.0)
+      any_over-names bs (bs ∷ fs) (Mark ∷ in_slots fs) h.0 f.0 o.0
       ∙ ap (λ c. is_some_array (arrays_in slot bs) || c) (any_over-told fs h.1 f.1 o.1)
       ∙ sym (is_some-append (arrays_in slot bs) (arrays_over slot fs))
 
@@ -226,16 +228,20 @@ module _ (x : Variable) (rs : List TextRange) (slots : ℕ) (s : Memory) (h : Ha
               ∙ ap (content_in (told b.slot).kind b.slot (told b.slot).over) (sym new-domain)
         ]) (Decides-eqb b.slot x.slot).0 (Decides-eqb b.slot x.slot).1
 
-    frame-redomained : (bs : List Sighted) (fs : Sight) → IsToldIn told slots bs → OverShapedIn told fs bs → (told x.slot).kind ≡ DomainKind → x.slot < slots → TellsIn x.slot x.arrays bs
-        → SameIn (redomain_slots x.slot rs (contents told s)) (contents told new) (placed_frame bs)
-    frame-redomained [] fs t o d inside e = tt
-    frame-redomained (b ∷ bs) fs t o d inside e =
-        (name-redomained b (over-slot told x.slot d (told b.slot).over b.over b.shape fs o.0) t.1 d inside e.0, frame-redomained bs fs t.2 o.1 d inside e.1)
+    frame-redomained : (bs : List Sighted) (fs : Sight) (g : SlotSight) → IsToldIn told slots bs → OverShapedIn told fs bs → (told x.slot).kind ≡ DomainKind → x.slot < slots → TellsIn x.slot x.arrays bs
+        → SameIn (redomain_slots x.slot rs (contents told s)) (contents told new) g → SameIn (redomain_slots x.slot rs (contents told s)) (contents told new) (with_names bs g)
+    frame-redomained [] fs g t o d inside e same = same
+    frame-redomained (b ∷ bs) fs g t o d inside e same =
+        frame-redomained bs fs (Name (placed_name b) ∷ g) t.2 o.1 d inside e.1
+        (name-redomained b (over-slot told x.slot d (told b.slot).over b.over b.shape fs o.0) t.1 d inside e.0, same)
 
     -- all names in sight
+    sight-redomained : (fs : Sight) → IsTold told slots fs → OversShaped told fs → (told x.slot).kind ≡ DomainKind → x.slot < slots → Tells x.slot x.arrays fs
+        → SameIn (redomain_slots x.slot rs (contents told s)) (contents told new) (in_slots fs)
+    sight-redomained [] t o d inside e = tt
+    sight-redomained (f ∷ fs) t o d inside e =
+        frame-redomained f (f ∷ fs) (Mark ∷ in_slots fs) t.0 o.0 d inside e.0 (sight-redomained fs t.1 o.1 d inside e.1)
+
     pub store-redomained : (fs : Sight) → IsTold told slots fs → OversShaped told fs → (told x.slot).kind ≡ DomainKind → x.slot < slots → Tells x.slot x.arrays fs
         → store_at (redomain_slots x.slot rs (contents told s)) (in_slots fs) ≡ store_at (contents told new) (in_slots fs)
-    store-redomained [] t o d inside e = refl
-    store-redomained (f ∷ fs) t o d inside e =
-        ap (λ es. es ∷ store_at (redomain_slots x.slot rs (contents told s)) (in_slots fs)) (frame_at-same _ _ (placed_frame f) (frame-redomained f (f ∷ fs) t.0 o.0 d inside e.0))
-        ∙ ap (λ r. frame_at (contents told new) (placed_frame f) ∷ r) (store-redomained fs t.1 o.1 d inside e.1)
+    store-redomained fs t o d inside e = store_at-same _ _ (in_slots fs) (sight-redomained fs t o d inside e)

@@ -2,7 +2,7 @@
 -- Each step of the one is a step of the other where a name has the kind and the slot of its innermost declaration and holds its kind.
 use Rattle.std.proofs.Common.{◌≡◌, ◌≢◌, ℕ, ◌<◌, ◌++◌, pos, true, List, [], ◌∷◌, refl, sym, ap, ◌∙◌, subst, Some, None, Option, map}
 use Rattle.std.specs.Prelude.{All, Ok, option_map}
-use Rattle.std.proofs.lemmas.List.{length-replicate}
+use Rattle.std.proofs.lemmas.List.{length-replicate, map-append, append-nil, append_assoc}
 use Rattle.std.proofs.lemmas.List.Elements.{All-weaker}
 use Rattle.dpl_history.specs.declared.history.Event.{Event}
 use Rattle.dpl_sets.specs.TextRanges.{TextRange}
@@ -15,12 +15,12 @@ use Rattle.dpl_language.specs.Environment.{Content, Plain, ArrayOf, CellOf, Limi
 use Rattle.dpl_language.specs.Phrases.{item_read}
 use Rattle.dpl_language.specs.Expressions.{item_of}
 use Rattle.dpl_language.specs.Statements.{exec_all}
-use Rattle.dpl_language.specs.Names.{Text, Store, State, paired, look_up, change_in, declare_in, without_innermost, value_in as name_value, update_in, element_in, put_in, redomain_in, arrays_over as named_arrays, by_name}
-use Rattle.dpl_language.specs.Program.{first_state, meaning, top_level, own_frame, left, written}
+use Rattle.dpl_language.specs.Names.{Text, Opened, Declared, Store, State, paired, look_up, change_in, without_innermost, value_in as name_value, update_in, element_in, put_in, redomain_in, arrays_over as named_arrays, by_name}
+use Rattle.dpl_language.specs.Program.{first_state, meaning, top_level, own_entry, own_frame, left, written}
 use Rattle.dpl_agreement.specs.Renamed.{renamed_content, renamed_item, renamed_intents, renamed_stmts, renamed_program}
 use Rattle.dpl_agreement.specs.Scopes.{Sort, PlainSort, ArraySort, sort_of, IsLawful, after_all, fits_all}
 use Rattle.dpl_agreement.specs.Agreement.{MayRead, MayBe, WasDomain, Simulates, EndsAlike}
-use Rattle.dpl_agreement.proofs.Slots.{Bound as SlotBound, bind as slot_bind, IsApart, IsFresh, set_slot, spelled, store_at, slot_of, slot_of-apart, look_up-slot, change_in-slot, declare_in-slot, IsApart-bind, IsApart-without_frame, without_innermost-store_at}
+use Rattle.dpl_agreement.proofs.Slots.{Bound as SlotBound, Name, IsFresh, set_slot, spelled, store_at, slot_of, slot_of-apart, look_up-slot, change_in-slot, declared-slot, without_innermost-store_at}
 use Rattle.dpl_agreement.proofs.SlotDomains.{OverNamed, OverResolves, Overs, Overs-declare, Overs-without_frame, redomain_in-slots, arrays_over-slots}
 use Rattle.dpl_agreement.proofs.SlotsAgree.{updated, with_value_at as with_element_at, put-spelled}
 use Rattle.dpl_agreement.proofs.RunsAlike.{EndsAlike-weaker, settled-alike, written-alike}
@@ -31,10 +31,10 @@ use Rattle.dpl_sound.specs.Typed.{AreRanked}
 use Rattle.dpl_words.specs.Words.{IntLeaf, no_range, intent_at, set_at, given_as}
 use Rattle.dpl_words.proofs.OfKind.{given-kind}
 use Rattle.dpl_memory.specs.Memory.{VariableKind, PlainKind, DomainKind, TupleKind, ArrayKind, Held, Memory, is_among, redomained_from, no_domain, no_tuple, no_array, value_in, with_value_in, array_at, held_with, element_in as element_in_memory, with_element_in, declared_array, intents_by_slot, redomained_in, is_some_array, intended, given_in, in_memory}
-use Rattle.dpl_memory.specs.Resolved.{Bound, Sighted, Sight, text_of, variable_of, written_over, if_domain, domain_among, over_of, sighted, arrays_over, outermost, left_in, frame_in, own_store, store_in, content_in, IsUnused, bind, without_frame, Seen, first_seen, MaySpan, IsOf, IsWhole, HasShape, MayHold, Shape, no_shape, IsShaped, HasNoArray, GivesOnce, SuitsKind, ArraysResolve, IsNew, OverResolves as OverIsFound, Holds, kind_takes, KindCombines, IntentResolves, Resolves, Declares, IsGivenAs, Start, resolving, first_memory, HasSlots, StandsFor}
+use Rattle.dpl_memory.specs.Resolved.{Bound, Sighted, Sight, text_of, variable_of, written_over, if_domain, domain_among, over_of, sighted, arrays_over, names_in_order, left_in, entry_in, declared_in, frame_in, own_store, store_in, content_in, IsUnused, bind, without_frame, Seen, first_seen, MaySpan, IsOf, IsWhole, HasShape, MayHold, Shape, no_shape, IsShaped, HasNoArray, GivesOnce, SuitsKind, ArraysResolve, IsNew, OverResolves as OverIsFound, Holds, kind_takes, KindCombines, IntentResolves, Resolves, Declares, IsGivenAs, Start, resolving, first_memory, HasSlots, StandsFor}
 use Rattle.dpl_memory.proofs.Elements.{element_at-words, with_element-words, elements-kept, assigned-element}
 use Rattle.dpl_memory.proofs.OfKind.{content_in-set_same, content_in-set_other, content_in-array_same, content_in-array_other, slots-set, slots-array, intents-set_in, sets-set_in, value_in-array, value_in-plain, value_in-domain, assigned-of}
-use Rattle.dpl_memory.proofs.InSight.{placed, placed_over, in_slots, slot_of-innermost, IsFresh-in_slots, in_slots-bind, in_slots-without_frame, without_frame-bind, Told, told_of, texts_of, IsTold, Finds, innermost-told, with_told, with_told_here, with_told_other, IsTold-bind, IsTold-without_frame, contents, over_text-placed, store_at-contents, store_at-each, store_at-intend, set_slot-each, Overs-contents, Overs-each}
+use Rattle.dpl_memory.proofs.InSight.{placed, placed_over, in_slots, IsOpen, IsOpen-bind, AreApart, AreApart-bind, AreApart-without_frame, IsApart-in_slots, slot_of-innermost, IsFresh-in_slots, in_slots-bind, in_slots-without_frame, without_frame-bind, Told, told_of, texts_of, IsTold, Finds, innermost-told, with_told, with_told_here, with_told_other, IsTold-bind, IsTold-without_frame, contents, over_text-placed, store_at-contents, store_at-each, store_at-intend, set_slot-each, Overs-contents, Overs-each}
 use Rattle.dpl_memory.proofs.OverShapes.{KnownBy, OverKnown, OversShaped, over-after, OversShaped-bind, OversShaped-without_frame, arrays-shaped}
 use Rattle.dpl_memory.proofs.Shapes.{HasToldShape, IsShapedBy, told-shaped, shaped-told, shaped-changed, shaped-declared, shaped-set, assigned-shaped, shaped-element, shaped-array, shaped-redomained, shaped-intended, given-shaped}
 use Rattle.dpl_memory.proofs.Domains.{OverNamed-texts, Overs-texts, OverFits, FitIn, Fit, Tells, arrays_over-tells, any_over-told, redomained-slots, redomained-intents, store-redomained}
@@ -45,7 +45,8 @@ pub record Kept (start : Start) (g : Seen) (s1 : State) (s2 : Memory) : Type 0 w
   pub is_told : IsTold told start.slots g.frames
   pub fit : Fit g.frames
   pub overs_shaped : OversShaped told g.frames
-  pub apart : IsApart (in_slots g.frames)
+  pub opened : IsOpen g.frames
+  pub apart : AreApart g.frames
   pub overs : Overs (texts_of told) (contents told s2) (in_slots g.frames)
   pub store : s1.store ≡ store_at (contents told s2) (in_slots g.frames)
   pub slots : HasSlots start.slots s2
@@ -247,13 +248,17 @@ arrays-known (ArrayKind k) x g e a = cc
 
 top_level-own : (t : Store) → own_frame (top_level t) ≡ top_level (own_store t)
 top_level-own [] = refl
-top_level-own (f ∷ []) = refl
-top_level-own (f ∷ g ∷ fs) = top_level-own (g ∷ fs)
+top_level-own (Opened ∷ es) = top_level-own es
+top_level-own (Declared e ∷ es) = map-append own_entry (top_level es) (e ∷ []) ∙ ap (λ f. f ++ own_entry e ∷ []) (top_level-own es)
 
-top_level-store_in : (s : Memory) (fs : Sight) → top_level (store_in s fs) ≡ frame_in s (outermost fs)
+top_level-declared : (s : Memory) (bs : List Sighted) (es : Store) → top_level (declared_in s bs es) ≡ top_level es ++ frame_in s bs
+top_level-declared s [] es = sym (append-nil (top_level es))
+top_level-declared s (b ∷ bs) es = top_level-declared s bs (Declared (entry_in s b) ∷ es) ∙ append_assoc (top_level es) (entry_in s b ∷ []) (frame_in s bs)
+
+top_level-store_in : (s : Memory) (fs : Sight) → top_level (store_in s fs) ≡ frame_in s (names_in_order fs)
 top_level-store_in s [] = refl
-top_level-store_in s (f ∷ []) = refl
-top_level-store_in s (f ∷ g ∷ fs) = top_level-store_in s (g ∷ fs)
+top_level-store_in s (f ∷ fs) =
+    top_level-declared s f (Opened ∷ store_in s fs) ∙ ap (λ es. es ++ frame_in s f) (top_level-store_in s fs) ∙ sym (map-append (entry_in s) (names_in_order fs) f)
 
 module _ (start : Start) where
   -- A RESOLVED NAME: what is told of it, where it is placed, and what it holds
@@ -298,10 +303,11 @@ module _ (start : Start) where
         is_told = r.is_told;
         fit = r.fit;
         overs_shaped = r.overs_shaped;
+        opened = r.opened;
         apart = r.apart;
         overs = Overs-contents (texts_of r.told) r.told s2 new (in_slots g.frames) r.overs;
         store =
-            ap (change_in x.text a) r.store ∙ change_in-slot x.text a u p (in_slots g.frames) (contents r.told s2) slot r.apart (placed_at x g f)
+            ap (change_in x.text a) r.store ∙ change_in-slot x.text a u p (in_slots g.frames) (contents r.told s2) slot (IsApart-in_slots g.frames r.apart) (placed_at x g f)
             ∙ store_at-each (set_slot slot (u (contents r.told s2 slot)) (contents r.told s2)) (contents r.told new)
             (set_slot-each slot (u (contents r.told s2 slot)) (contents r.told s2) (contents r.told new)
             (ap (λ k. u (content_in k slot over s2)) kind ∙ here over ∙ sym (ap (λ k. content_in k slot over new) kind))
@@ -380,7 +386,7 @@ module _ (start : Start) where
       → OverResolves (texts_of (with_told x.variable.slot (told_as x sort) r.told)) c (in_slots g.frames)
       → HasSlots start.slots new → new.words.intents ≡ s2.words.intents → new.words.sets ≡ s2.words.sets → HasShape x.variable.kind x.shape (value_in x.variable.kind x.variable.slot new)
       → OverIsFound (written_over sort) x.shape g
-      → Kept start (record g { frames = bind (sighted x sort) g.frames }) (record s1 { store = declare_in x.text (spelled c) s1.store }) new
+      → Kept start (record g { frames = bind (sighted x sort) g.frames }) (record s1 { store = Declared (record { name = x.text; content = spelled c }) ∷ s1.store }) new
   declared_alike x sort c new g s1 s2 r n fits here other resolves h i w shape over =
       let slot = x.variable.slot in
       let told = with_told slot (told_as x sort) r.told in
@@ -393,16 +399,17 @@ module _ (start : Start) where
         is_told = IsTold-bind (sighted x sort) (placed_over (written_over sort)) r.told start.slots g.frames n.unused n.within r.is_told;
         fit = Fit-bind (sighted x sort) g.frames r.fit fits;
         overs_shaped = OversShaped-bind r.told (sighted x sort) (told_as x sort) g.frames n.unused r.overs_shaped (over_shaped x sort g s1 s2 r n.unused over);
-        apart = subst IsApart (sym (in_slots-bind (sighted x sort) g.frames)) (IsApart-bind (placed x) (in_slots g.frames) r.apart fresh);
-        overs = subst (Overs (texts_of told) (contents told new)) (sym (in_slots-bind (sighted x sort) g.frames))
-            (Overs-each (texts_of told) (set_slot slot c (contents r.told s2)) (contents told new) (slot_bind (placed x) (in_slots g.frames)) each
+        opened = IsOpen-bind (sighted x sort) g.frames;
+        apart = AreApart-bind (sighted x sort) g.frames r.apart n.unused;
+        overs = subst (Overs (texts_of told) (contents told new)) (sym (in_slots-bind (sighted x sort) g.frames r.opened))
+            (Overs-each (texts_of told) (set_slot slot c (contents r.told s2)) (contents told new) (Name (placed x) ∷ in_slots g.frames) each
             (Overs-declare (texts_of told) (placed x) c (contents r.told s2) (in_slots g.frames) fresh
             (Overs-texts (texts_of r.told) (texts_of told) slot (λ j ne. ap (λ (t : Told). t.text) (with_told_other j slot (told_as x sort) r.told ne)) (contents r.told s2) (in_slots g.frames) fresh r.overs)
             resolves));
         store =
-            ap (declare_in x.text (spelled c)) r.store ∙ declare_in-slot (placed x) c (in_slots g.frames) (contents r.told s2) fresh
-            ∙ store_at-each (set_slot slot c (contents r.told s2)) (contents told new) each (slot_bind (placed x) (in_slots g.frames))
-            ∙ ap (store_at (contents told new)) (sym (in_slots-bind (sighted x sort) g.frames));
+            ap (λ es. Declared (record { name = x.text; content = spelled c }) ∷ es) r.store ∙ declared-slot (placed x) c (in_slots g.frames) (contents r.told s2) fresh
+            ∙ store_at-each (set_slot slot c (contents r.told s2)) (contents told new) each (Name (placed x) ∷ in_slots g.frames)
+            ∙ ap (store_at (contents told new)) (sym (in_slots-bind (sighted x sort) g.frames r.opened));
         slots = h;
         intents = r.intents;
         intents_by_slots = i ∙ r.intents_by_slots;
@@ -432,7 +439,7 @@ module _ (start : Start) where
   declare_alike x (ArrayOf over k rs vs) g s1 s2 r d p =
       let kind = x.variable.kind in
       let slot = x.variable.slot in
-      subst (λ o. Kept start (record g { frames = bind (sighted x (ArraySort over)) g.frames }) (record s1 { store = declare_in x.text (ArrayOf o k rs vs) s1.store }) (declared_array kind slot (made rs vs) s2))
+      subst (λ o. Kept start (record g { frames = bind (sighted x (ArraySort over)) g.frames }) (record s1 { store = Declared (record { name = x.text; content = ArrayOf o k rs vs }) ∷ s1.store }) (declared_array kind slot (made rs vs) s2))
       (over_text-placed over)
       (declared_alike x (ArraySort over) (ArrayOf (placed_over over) k rs vs) (declared_array kind slot (made rs vs) s2) g s1 s2 r d.0 (fits-whole kind (domain_among over) d.1)
       (declared-content kind x.shape slot (placed_over over) k rs vs start.slots s2 p.0 p.1 r.slots d.0.within)
@@ -450,7 +457,7 @@ module _ (start : Start) where
       → by_name.has_arrays x.text s1 ≡ is_some_array x.variable.arrays
   has_alike x g s1 s2 r f d a =
       ap (named_arrays x.text) r.store
-      ∙ arrays_over-slots (texts_of r.told) (placed x) (sym (finds x g s1 s2 r f).text) (contents r.told s2) (in_slots g.frames) r.apart r.overs (placed_at x g f)
+      ∙ arrays_over-slots (texts_of r.told) (placed x) (sym (finds x g s1 s2 r f).text) (contents r.told s2) (in_slots g.frames) (IsApart-in_slots g.frames r.apart) r.overs (placed_at x g f)
       ∙ any_over-told x.variable.slot start.slots r.told s2 ((finds x g s1 s2 r f).kind ∙ d) g.frames r.is_told r.fit r.overs_shaped ∙ ap is_some_array (sym a)
 
   -- the arrays that stand with it have its shape
@@ -468,11 +475,12 @@ module _ (start : Start) where
     is_told = r.is_told;
     fit = r.fit;
     overs_shaped = r.overs_shaped;
+    opened = r.opened;
     apart = r.apart;
     overs = Overs-contents (texts_of r.told) r.told s2 (redomained_in x.variable rs s2) (in_slots g.frames) r.overs;
     store =
         ap (redomain_in x.text rs) r.store
-        ∙ redomain_in-slots (texts_of r.told) (placed x) (sym (finds x g s1 s2 r f).text) (contents r.told s2) rs (in_slots g.frames) r.apart r.overs (placed_at x g f)
+        ∙ redomain_in-slots (texts_of r.told) (placed x) (sym (finds x g s1 s2 r f).text) (contents r.told s2) rs (in_slots g.frames) (IsApart-in_slots g.frames r.apart) r.overs (placed_at x g f)
         ∙ store-redomained x.variable rs start.slots s2 r.slots d r.told g.frames r.is_told r.overs_shaped ((finds x g s1 s2 r f).kind ∙ d) (finds x g s1 s2 r f).within
         (subst (λ xs. Tells x.variable.slot xs g.frames) (sym a) (arrays_over-tells x.variable.slot g.frames r.apart));
     slots = redomained-slots x.variable rs start.slots s2 r.slots d;
@@ -532,9 +540,10 @@ module _ (start : Start) where
       is_told = (tt, r.is_told);
       fit = (tt, r.fit);
       overs_shaped = (tt, r.overs_shaped);
+      opened = tt;
       apart = (tt, r.apart);
-      overs = (tt, r.overs);
-      store = ap (λ s. [] ∷ s) r.store;
+      overs = r.overs;
+      store = ap (λ es. Opened ∷ es) r.store;
       slots = r.slots;
       intents = r.intents;
       intents_by_slots = r.intents_by_slots;
@@ -543,16 +552,17 @@ module _ (start : Start) where
       words = r.words;
       shaped = r.shaped;
     };
-    leaves = λ g s1 s2 r. record {
+    leaves = λ g h s1 s2 t1 t2 before out r. subst (λ g. Kept start g (by_name.leave t1) (in_memory.leave t2)) out (record {
       told = r.told;
-      is_told = IsTold-without_frame r.told start.slots g.frames r.is_told;
-      fit = Fit-without_frame g.frames r.fit;
-      overs_shaped = OversShaped-without_frame r.told g.frames r.overs_shaped;
-      apart = subst IsApart (sym (in_slots-without_frame g.frames)) (IsApart-without_frame (in_slots g.frames) r.apart);
-      overs = subst (Overs (texts_of r.told) (contents r.told s2)) (sym (in_slots-without_frame g.frames)) (Overs-without_frame (texts_of r.told) (contents r.told s2) (in_slots g.frames) r.overs);
+      is_told = IsTold-without_frame r.told start.slots h.frames r.is_told;
+      fit = Fit-without_frame h.frames r.fit;
+      overs_shaped = OversShaped-without_frame r.told h.frames r.overs_shaped;
+      opened = subst (λ (g : Seen). IsOpen g.frames) (sym out) before.opened;
+      apart = AreApart-without_frame h.frames r.apart;
+      overs = subst (Overs (texts_of r.told) (contents r.told t2)) (sym (in_slots-without_frame h.frames)) (Overs-without_frame (texts_of r.told) (contents r.told t2) (in_slots h.frames) r.overs);
       store =
-          ap without_innermost r.store ∙ without_innermost-store_at (contents r.told s2) (in_slots g.frames)
-          ∙ ap (store_at (contents r.told s2)) (sym (in_slots-without_frame g.frames));
+          ap without_innermost r.store ∙ without_innermost-store_at (contents r.told t2) (in_slots h.frames)
+          ∙ ap (store_at (contents r.told t2)) (sym (in_slots-without_frame h.frames));
       slots = r.slots;
       intents = r.intents;
       intents_by_slots = r.intents_by_slots;
@@ -560,12 +570,13 @@ module _ (start : Start) where
       texts = r.texts;
       words = r.words;
       shaped = r.shaped;
-    };
+    });
     intends = λ is g s1 s2 r f. record {
       told = r.told;
       is_told = r.is_told;
       fit = r.fit;
       overs_shaped = r.overs_shaped;
+      opened = r.opened;
       apart = r.apart;
       overs = Overs-contents (texts_of r.told) r.told s2 (intended (intents_by_slot (renamed_intents variable_of is)) s2) (in_slots g.frames) r.overs;
       store = r.store ∙ store_at-intend r.told (intents_by_slot (renamed_intents variable_of is)) s2 (in_slots g.frames);
@@ -582,6 +593,7 @@ module _ (start : Start) where
       is_told = r.is_told;
       fit = r.fit;
       overs_shaped = r.overs_shaped;
+      opened = r.opened;
       apart = r.apart;
       overs = Overs-contents (texts_of r.told) r.told s2 (intended [] s2) (in_slots g.frames) r.overs;
       store = r.store ∙ store_at-intend r.told [] s2 (in_slots g.frames);
@@ -637,8 +649,9 @@ module _ (start : Start) where
     is_told = (tt, tt);
     fit = (tt, tt);
     overs_shaped = (tt, tt);
+    opened = tt;
     apart = (tt, tt);
-    overs = (tt, tt);
+    overs = tt;
     store = refl;
     slots = record {
       numbers = length-replicate start.slots (pos 0);

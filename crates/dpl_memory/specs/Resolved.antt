@@ -1,6 +1,7 @@
 -- Data-parallel programs whose names are resolved: each stands with its text, and with the kind and the slot of its declaration.
 -- Where such a name may stand, and when a memory is the store by names.
 use Rattle.std.specs.Prelude.{◌≡◌, ◌≢◌, ℕ, ◌==◌, ◌<◌, ℤ, pos, Bool, true, false, not, All, bytes_eq, if◌then◌else◌, Option, Some, None, Ok, List, [], ◌∷◌, ◌++◌, map, option_map, length, replicate}
+use Rattle.std.specs.Option.{option_or}
 use Rattle.dpl_syntax.specs.declared.place.Place.{Place}
 use Rattle.dpl_sets.specs.TextRanges.{TextRange}
 use Rattle.dpl_language.specs.Tree.{Op, Assign, Set, SetAdd, SetSubtract, SetMultiply, SetDivide, SetRemainder, SetReduce, ItemTree, Items, Kind, IntKind, BoolKind}
@@ -10,8 +11,8 @@ use Rattle.dpl_language.specs.Outcome.{Outcome, Done, Stop, Waits}
 use Rattle.dpl_language.specs.Environment.{Content, Plain, ArrayOf, CellOf, Limits}
 use Rattle.dpl_language.specs.Phrases.{item_read}
 use Rattle.dpl_language.specs.Expressions.{item_of, domain_of, whole_item}
-use Rattle.dpl_language.specs.Names.{Text, Entry, Frame, Store, State, paired}
-use Rattle.dpl_language.specs.Program.{own_frame}
+use Rattle.dpl_language.specs.Names.{Text, Entry, Frame, Opened, Declared, Store, State, paired}
+use Rattle.dpl_language.specs.Program.{own_entry}
 use Rattle.dpl_agreement.specs.Renamed.{renamed_item, renamed_items, renamed_intents}
 use Rattle.dpl_agreement.specs.Scopes.{Sort, PlainSort, ArraySort, CellSort, Scoping}
 use Rattle.dpl_sound.specs.Typed.{MayStride, AreRanked}
@@ -55,18 +56,15 @@ Sight = List (List Sighted)
 abbrev pub Known : Type 0
 Known = VariableKind × ℕ × Shape
 
+-- by its latest declaration in a frame
 abbrev pub known_in : Text → List Sighted → Option Known
 known_in x [] = None
-known_in x (b ∷ bs) = if bytes_eq x b.text then Some (b.kind, b.slot, b.shape) else known_in x bs
-
-abbrev pub or_known : Option Known → Option Known → Option Known
-or_known None outer = outer
-or_known (Some k) outer = Some k
+known_in x (b ∷ bs) = option_or (known_in x bs) (if bytes_eq x b.text then Some (b.kind, b.slot, b.shape) else None)
 
 -- by the name's innermost declaration
 abbrev pub innermost : Text → Sight → Option Known
 innermost x [] = None
-innermost x (f ∷ fs) = or_known (known_in x f) (innermost x fs)
+innermost x (f ∷ fs) = option_or (known_in x f) (innermost x fs)
 
 -- no name in sight has the slot
 abbrev pub IsUnusedIn : ℕ → List Sighted → Type 0
@@ -354,17 +352,22 @@ entry_in s b = record { name = b.text; content = content_in b.kind b.slot None s
 abbrev pub frame_in : Memory → List Sighted → Frame
 frame_in s bs = map {A = Sighted} {B = Entry} (entry_in s) bs
 
-abbrev pub store_in : Memory → Sight → Store
-store_in s fs = map {A = List Sighted} {B = Frame} (frame_in s) fs
+-- the store with the names of a frame declared; and the store of all that is in sight
+abbrev pub declared_in : Memory → List Sighted → Store → Store
+declared_in s [] es = es
+declared_in s (b ∷ bs) es = declared_in s bs (Declared (entry_in s b) ∷ es)
 
--- what a run in a memory leaves, where it is done: the names of the outermost frame, and what stands in their slots
-abbrev pub outermost : Sight → List Sighted
-outermost [] = []
-outermost (f ∷ []) = f
-outermost (f ∷ g ∷ fs) = outermost (g ∷ fs)
+abbrev pub store_in : Memory → Sight → Store
+store_in s [] = []
+store_in s (f ∷ fs) = declared_in s f (Opened ∷ store_in s fs)
+
+-- what a run in a memory leaves, where it is done: the names in sight, in order of declaration, and what stands in their slots
+abbrev pub names_in_order : Sight → List Sighted
+names_in_order [] = []
+names_in_order (f ∷ fs) = names_in_order fs ++ f
 
 abbrev pub left_in : Sight → Outcome Memory → Option Frame
-left_in fs (Done s done) = Some (frame_in s (outermost fs))
+left_in fs (Done s done) = Some (frame_in s (names_in_order fs))
 left_in fs (Stop f done) = None
 left_in fs (Waits at c op done) = None
 
@@ -391,7 +394,9 @@ pub record HasSlots (slots : ℕ) (s : Memory) : Type 0 where
   pub arrays : length s.arrays ≡ slots
 
 abbrev pub own_store : Store → Store
-own_store fs = map {A = Frame} {B = Frame} own_frame fs
+own_store [] = []
+own_store (Opened ∷ es) = Opened ∷ own_store es
+own_store (Declared e ∷ es) = Declared (own_entry e) ∷ own_store es
 
 -- A memory with as many slots as at the start is the store by names, and all else is the same.
 pub record StandsFor (start : Start) (g : Seen) (s1 : State) (s2 : Memory) : Type 0 where

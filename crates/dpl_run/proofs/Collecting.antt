@@ -15,7 +15,7 @@ use Rattle.dpl_rules.specs.Breaches.{top}
 use Rattle.dpl_rules.specs.Sound.{behind_all}
 use Rattle.dpl_scopes.specs.Slots.{slot_in}
 use Rattle.dpl_memory.specs.Memory.{VariableKind, DomainKind, TupleKind, ArrayKind, Memory}
-use Rattle.dpl_memory.specs.Resolved.{outermost, sighted, entry_in, frame_in}
+use Rattle.dpl_memory.specs.Resolved.{names_in_order, sighted, entry_in, frame_in}
 use Rattle.dpl_runnable.specs.Kinds.{IsDeclaredKind}
 use Rattle.dpl_typer.specs.Leaves.{is_rank, is_tuple_rank, kind_by, leaf_by}
 use Rattle.dpl_typer.specs.Shapes.{shape_by}
@@ -113,18 +113,18 @@ frame-names s (d ∷ ds) h =
     ∙ ap (frame_in s) (sym (map-append (sighted_in ((d ∷ ds) ∷ [])) (names_in ds) (d.origin.name ∷ [])))
 
 -- ---- what is in sight at the end
-outermost-one : (m : Memory) (ss : Scopes) (s : Scope) (names : List Text) → ss ≡ s ∷ [] → names_in s ≡ names → AreKnownScopes ss → frame_in m (outermost (sight_of ss)) ≡ frame_in m (map (sighted_in ss) names)
-outermost-one m ss s names one named known =
+names_in_order-one : (m : Memory) (ss : Scopes) (s : Scope) (names : List Text) → ss ≡ s ∷ [] → names_in s ≡ names → AreKnownScopes ss → frame_in m (names_in_order (sight_of ss)) ≡ frame_in m (map (sighted_in ss) names)
+names_in_order-one m ss s names one named known =
     let scope : IsKnownScope 1 s = (subst AreKnownScopes one known).0 in
-    ap (λ ss. frame_in m (outermost (sight_of ss))) one
+    ap (λ ss. frame_in m (names_in_order (sight_of ss))) one
     ∙ frame-names m s scope
     ∙ ap (λ xs. frame_in m (map (sighted_in (s ∷ [])) xs)) named
     ∙ ap (λ ss. frame_in m (map (sighted_in ss) names)) (sym one)
 
-pub outermost-names : (m : Memory) (ts : Stmts Text) → AreKnownScopes (behind_all top ts) → frame_in m (outermost (sight_of (behind_all top ts))) ≡ frame_in m (map (sighted_in (behind_all top ts)) (declared_names ts))
-outermost-names m ts known =
+pub names_in_order-declared : (m : Memory) (ts : Stmts Text) → AreKnownScopes (behind_all top ts) → frame_in m (names_in_order (sight_of (behind_all top ts))) ≡ frame_in m (map (sighted_in (behind_all top ts)) (declared_names ts))
+names_in_order-declared m ts known =
     let g = behind_all-grown [] ts in
-    outermost-one m (behind_all top ts) g.scope (declared_names ts) g.one g.named known
+    names_in_order-one m (behind_all top ts) g.scope (declared_names ts) g.one g.named known
 
 -- ---- what variables hold
 abbrev HoldsAlike : Memory → Text → Option ℕ → Option ValueType → Type 0

@@ -23,7 +23,7 @@ use Rattle.dpl_rules.specs.Breaches.{top}
 use Rattle.dpl_lowered.proofs.Runs.{exec_all-lowered}
 use Rattle.dpl_words.specs.Words.{LeafKind, IntLeaf, TruthLeaf, RangeLeaf}
 use Rattle.dpl_memory.specs.Memory.{PlainKind, DomainKind, TupleKind, Memory, known_variable, in_memory}
-use Rattle.dpl_memory.specs.Resolved.{variable_of, Start, first_memory, first_seen, resolving, frame_in, outermost, left_in, StandsFor}
+use Rattle.dpl_memory.specs.Resolved.{variable_of, Start, first_memory, first_seen, resolving, frame_in, names_in_order, left_in, StandsFor}
 use Rattle.dpl_memory.proofs.Known.{memory-known}
 use Rattle.dpl_memory.proofs.MemoryAgrees.{meaning-memory, left-memory}
 use Rattle.dpl_frame.specs.declared.fault.Fault.{Fault as FaultNode}
@@ -46,7 +46,7 @@ use Rattle.dpl_run.specs.Headline.{EndsAs, Means}
 use Rattle.dpl_run.specs.Names.{declared_names}
 use Rattle.dpl_run.specs.Leaving.{sighted_in}
 use Rattle.dpl_run.specs.Runs.{RanTo}
-use Rattle.dpl_run.proofs.Collecting.{outermost-names}
+use Rattle.dpl_run.proofs.Collecting.{names_in_order-declared}
 
 -- ---- the ends of the two runs
 done-alike : (R : State → Memory → Type 0) (o : Meant State) (r : Meant Memory) (last : Memory) (done : Deeds) → EndsAlike R o r → r ≡ Done last done → (s : State) × (o ≡ Done s done)
@@ -134,8 +134,8 @@ module _ (t : ProgramTree Text) (sets : List (List ℕ)) (slots : ℕ) (scopes :
         ap (λ p. option_map own_frame (left (meaning p (given t sets) limits histories))) (sym plan.text)
         ∙ left-memory start limits plan.resolved histories fits
         ∙ ap (left_in (after_all (resolving start) plan.resolved.stmts first_seen).frames) (by_plan (Done last done) e)
-        ∙ ap (λ fs. Some (frame_in last (outermost fs))) (plan.sight start ∙ ap sight_of plan.behind)
-        ∙ ap (λ f. Some f) (outermost-names last t.stmts (subst AreKnownScopes plan.behind plan.plain))
+        ∙ ap (λ fs. Some (frame_in last (names_in_order fs))) (plan.sight start ∙ ap sight_of plan.behind)
+        ∙ ap (λ f. Some f) (names_in_order-declared last t.stmts (subst AreKnownScopes plan.behind plan.plain))
         ∙ ap (λ ss. Some (frame_in last (map (sighted_in ss) (declared_names t.stmts)))) (sym plan.behind)
 
     means-done : (histories : List (List Event)) (last : Memory) (out : List ℕ) (frame : Frame) → exec_all limits in_memory (steps_of steps) (first_memory start) no_deeds ≡ Done last (having_printed out no_deeds)

@@ -13,7 +13,7 @@ use Rattle.dpl_language.specs.Tree.{Placed, Kind, Items, ItemTree, MappedTree, A
 use Rattle.dpl_language.specs.Tree.{DomainType as DomainWritten, ArrayType as ArrayWritten, InitTree, ItemInit, CreateInit, InitialTree, DeclareTree, Declare}
 use Rattle.dpl_language.specs.Values.{Value, Int, Domain, Index, Fault, fault, Budget, ArrayTooLarge, default, kept_number, ranges_in, all_ranges}
 use Rattle.dpl_language.specs.Ranges.{empty_domain, sized, too_large, indices_in, size_in}
-use Rattle.dpl_language.specs.Names.{Text, State, declare_in, by_name}
+use Rattle.dpl_language.specs.Names.{Text, State, Declared as Kept, by_name}
 use Rattle.dpl_language.specs.Outcome.{Deeds, Run, unless, naming_value}
 use Rattle.dpl_language.specs.Environment.{Content, Plain, ArrayOf, CellOf, Limits}
 use Rattle.dpl_language.specs.Phrases.{declared_over}
@@ -41,7 +41,7 @@ use Rattle.dpl_sound.proofs.Posts.{IsLone}
 use Rattle.dpl_sound.proofs.Sound.{sized-has, ranges_verdict-has, item_of-has, items_of-have, part-has}
 use Rattle.dpl_sound.proofs.Initial.{default-kind, empty_domain-type, Takes, scalar-takes, domain-takes, array-takes, array-takes_at, typed-takes, untyped-gives}
 use Rattle.dpl_sound.proofs.Wholes.{side-no_array, side-expression}
-use Rattle.dpl_sound.proofs.Stores.{by_name-fits, declare_in-fits}
+use Rattle.dpl_sound.proofs.Stores.{by_name-fits, declared-fits}
 use Rattle.dpl_sound.proofs.Sides.{with_value-leaves, Goes, evaluated-leaves}
 
 -- ---- the domain of an array's type, and of what a domain is created from: one domain, or some ranges
@@ -116,7 +116,7 @@ module _ (limits : Limits) (scopes : Scopes) where
     Behind s = Keeps (add d scopes) s
 
     declaring-leaves : (c : Content Text) (s : State) (done : Deeds) → Keeps scopes s → ContentFits d.type c → Leaves Behind (declaring limits by_name x c s done)
-    declaring-leaves c s done kept fits = subst (λ n. StoreFits (add d scopes) (declare_in n c s.store)) named (declare_in-fits scopes s.store d c kept new fits)
+    declaring-leaves c s done kept fits = subst (λ n. StoreFits (add d scopes) (Kept (record { name = n; content = c }) ∷ s.store)) named (declared-fits scopes s.store d c kept fits)
 
     -- of its default, or what is made of its initial value
     abbrev Makes : Option (InitialTree Text) → Content Text → (Value → Content Text) → Type 0

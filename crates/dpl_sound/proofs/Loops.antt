@@ -26,7 +26,7 @@ use Rattle.dpl_sound.specs.Stores.{ContentFits}
 use Rattle.dpl_sound.specs.Runs.{Keeps}
 use Rattle.dpl_sound.proofs.Given.{owed_not-holds, some-same}
 use Rattle.dpl_sound.proofs.Sound.{bare-by, value_of-has, item_of-has}
-use Rattle.dpl_sound.proofs.Stores.{declare_in-fits, enter-fits}
+use Rattle.dpl_sound.proofs.Stores.{declared-fits, enter-fits}
 
 -- ---- what a loop runs over: the bare word `Locales` too
 module _ {S : Type 0} (limits : Limits) (env : Environment Text S) (scopes : Scopes) (s : S) (fits : Fits env scopes s) where
@@ -118,14 +118,12 @@ declare_each-keeps : (xs : List (Placed Text)) (o : Option ValueType) (i : Index
 declare_each-keeps [] o i ss ts s fits same h kept = kept
 declare_each-keeps (x ∷ xs) o [] ss ts s fits same h kept =
     let front = owed (not (declared_here ts x.name)) x.at NameTwice in
-    let new = same x.name ∙ owed_not-holds (declared_here ts x.name) x.at NameTwice (first_empty front _ h) in
     declare_each-keeps xs o [] (add (variable o ss x.name) ss) (add (variable None ts x.name) ts) (by_name.declare x.name (Plain (Int (pos 0))) s) fits
-    (same_names-add ss ts o None x.name same) (second_empty front _ h) (declare_in-fits ss s.store (variable o ss x.name) (Plain (Int (pos 0))) kept new (fits (pos 0)))
+    (same_names-add ss ts o None x.name same) (second_empty front _ h) (declared-fits ss s.store (variable o ss x.name) (Plain (Int (pos 0))) kept (fits (pos 0)))
 declare_each-keeps (x ∷ xs) o (n ∷ i) ss ts s fits same h kept =
     let front = owed (not (declared_here ts x.name)) x.at NameTwice in
-    let new = same x.name ∙ owed_not-holds (declared_here ts x.name) x.at NameTwice (first_empty front _ h) in
     declare_each-keeps xs o i (add (variable o ss x.name) ss) (add (variable None ts x.name) ts) (by_name.declare x.name (Plain (Int n)) s) fits
-    (same_names-add ss ts o None x.name same) (second_empty front _ h) (declare_in-fits ss s.store (variable o ss x.name) (Plain (Int n)) kept new (fits n))
+    (same_names-add ss ts o None x.name same) (second_empty front _ h) (declared-fits ss s.store (variable o ss x.name) (Plain (Int n)) kept (fits n))
 
 -- ---- a turn
 module _ (locales : ℕ) (scopes : Scopes) where
@@ -155,7 +153,7 @@ module _ (locales : ℕ) (scopes : Scopes) where
   bound_to-keeps word (OneVariable x) item over t s hv n h kept =
       let type = typed_variable word (OneVariable x) (over_type scopes item) in
       enter-fits (add (variable type (enter scopes) x.name) (enter scopes)) (bound_to by_name (OneVariable x) over t (by_name.enter s)).store
-      (declare_in-fits (enter scopes) (by_name.enter s).store (variable type (enter scopes) x.name) (Plain (loop_value over t)) (enter-fits scopes s.store kept) refl
+      (declared-fits (enter scopes) (by_name.enter s).store (variable type (enter scopes) x.name) (Plain (loop_value over t)) (enter-fits scopes s.store kept)
       (one_fits word x (over_type scopes item) over t hv n))
   bound_to-keeps word (ManyVariables from xs upto) item over t s hv n h kept =
       let type = typed_variable word (ManyVariables from xs upto) (over_type scopes item) in

@@ -9,7 +9,7 @@ use Rattle.dpl_language.specs.Tree.{BoolKind, Closed, ExprTree, Number, Named, D
 use Rattle.dpl_language.specs.Tree.{Link, NoLinks, Less, Posts, NoPosts, Post, Brackets, Dotted, Dim, FirstItem, NoItems, NextItem}
 use Rattle.dpl_language.specs.Values.{Value, Int, Truth, Range, Domain, Array, Index}
 use Rattle.dpl_language.specs.Ranges.{unstrided}
-use Rattle.dpl_language.specs.Names.{Text, State, by_name}
+use Rattle.dpl_language.specs.Names.{Text, Opened, State, by_name}
 use Rattle.dpl_language.specs.Environment.{Environment, ArrayOf}
 use Rattle.dpl_language.specs.Expressions.{value_of, item_of}
 use Rattle.dpl_language.proofs.Spelled.{at, name}
@@ -112,7 +112,7 @@ abbrev one_range : List TextRange
 one_range = unstrided (pos 1) (pos 1) ∷ []
 
 abbrev at_the_top : State
-at_the_top = record { store = [] ∷ []; intents = []; here = pos 0; sets = []; replies = None; histories = [] }
+at_the_top = record { store = Opened ∷ []; intents = []; here = pos 0; sets = []; replies = None; histories = [] }
 
 abbrev one_state : State
 one_state = by_name.declare (codes "A") (ArrayOf None BoolKind one_range (Truth true ∷ [])) at_the_top

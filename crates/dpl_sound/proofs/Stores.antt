@@ -8,28 +8,35 @@ use Rattle.dpl_language.specs.Tree.{Kind}
 use Rattle.dpl_language.specs.Values.{Value, Array, Index}
 use Rattle.dpl_language.specs.Ranges.{same_index, indices_in}
 use Rattle.dpl_language.specs.Environment.{Content, Plain, ArrayOf, CellOf}
-use Rattle.dpl_language.specs.Names.{Text, Entry, Frame, Store, State, in_frame, or_content, look_up, declare_in, without_innermost, element_at, element_in, by_name}
+use Rattle.dpl_language.specs.Names.{Text, Opened, Declared as Kept, Store, State, look_up, without_innermost, element_at, element_in, by_name}
 use Rattle.dpl_rules.specs.Types.{Over, ValueType, Array as ArrayType}
 use Rattle.dpl_rules.specs.Sights.{Declared, Scope, Scopes, find, or_else, lookup, declared_here, enter, add, type_declared}
 use Rattle.dpl_sound.proofs.Given.{some-same}
 use Rattle.dpl_sound.specs.Typed.{OfKind, AreRanked, HasType, Fits}
 use Rattle.dpl_sound.specs.Runs.{Keeps}
-use Rattle.dpl_sound.specs.Stores.{AllOfKind, ContentFits, FoundFits, FrameFits, StoreFits}
+use Rattle.dpl_sound.specs.Stores.{AllOfKind, ContentFits, StoreFits}
 
 -- ---- what is found
-found_fits : (d : Option Declared) (c : Option (Content Text)) (ds : Option Declared) (cs : Content Text) (t : ValueType) → FoundFits d c
-    → (type_declared ds ≡ Some t → ContentFits (Some t) cs) → type_declared (or_else d ds) ≡ Some t → ContentFits (Some t) (or_content c cs)
-found_fits None None ds cs t h others e = others e
-found_fits None (Some c) ds cs t h others e = elim h [ ]
-found_fits (Some d) None ds cs t h others e = elim h [ ]
-found_fits (Some d) (Some c) ds cs t h others e = subst (λ o. ContentFits o c) e h
+-- by whether the latest declaration has the name
+found_fits : (b : Bool) (d : Declared) (c : Content Text) (o ds : Option Declared) (cs : Content Text) (t : ValueType) → ContentFits d.type c
+    → (type_declared (or_else o ds) ≡ Some t → ContentFits (Some t) cs) → type_declared (or_else (if b then Some d else o) ds) ≡ Some t → ContentFits (Some t) (if b then c else cs)
+found_fits true d c o ds cs t h others e = subst (λ o. ContentFits o c) e h
+found_fits false d c o ds cs t h others e = others e
 
 -- a name with a type holds what is of that type
-pub look_up-fits : (ss : Scopes) (fs : Store) → StoreFits ss fs → (x : Text) (t : ValueType) → type_declared (lookup ss x) ≡ Some t → ContentFits (Some t) (look_up x fs)
+pub look_up-fits : (ss : Scopes) (es : Store) → StoreFits ss es → (x : Text) (t : ValueType) → type_declared (lookup ss x) ≡ Some t → ContentFits (Some t) (look_up x es)
 look_up-fits [] [] h x t e = absurd cc
-look_up-fits [] (f ∷ fs) h x t e = elim h [ ]
-look_up-fits (ds ∷ ss) [] h x t e = elim h [ ]
-look_up-fits (ds ∷ ss) (f ∷ fs) h x t e = found_fits (find ds x) (in_frame x f) (lookup ss x) (look_up x fs) t (h.0 x) (look_up-fits ss fs h.1 x t) e
+look_up-fits [] (i ∷ es) h x t e = elim h [ ]
+look_up-fits ([] ∷ ss) [] h x t e =
+    let none : type_declared (lookup [] x) ≡ Some t = subst (λ ss. type_declared (lookup ss x) ≡ Some t) h e in
+    absurd cc
+look_up-fits ([] ∷ ss) (Opened ∷ es) h x t e = look_up-fits ss es h x t e
+look_up-fits ([] ∷ ss) (Kept i ∷ es) h x t e = elim h [ ]
+look_up-fits ((d ∷ ds) ∷ ss) [] h x t e = elim h [ ]
+look_up-fits ((d ∷ ds) ∷ ss) (Opened ∷ es) h x t e = elim h [ ]
+look_up-fits ((d ∷ ds) ∷ ss) (Kept i ∷ es) h x t e =
+    subst (λ n. ContentFits (Some t) (if bytes_eq x n then i.content else look_up x es)) h.0
+    (found_fits (bytes_eq x d.origin.name) d i.content (find ds x) (lookup ss x) (look_up x es) t h.1 (look_up-fits (ds ∷ ss) es h.2 x t) e)
 
 element_at-if : (k : Kind) (t i : Index) (is : List Index) (v w : Value) (vs : List Value) (b : Bool) → OfKind k v → (element_at t is vs ≡ Some w → OfKind k w)
     → (if b then Some v else element_at t is vs) ≡ Some w → OfKind k w
@@ -57,73 +64,34 @@ by_name-fits scopes s h = record {
   elements = λ x k over e i w p. element_in-kind (look_up x s.store) k over i w (look_up-fits scopes s.store h x (ArrayType k over) e) p;
 }
 
--- ---- one more name
-abbrev or_found : Option (Content Text) → Option (Content Text) → Option (Content Text)
-or_found None other = other
-or_found (Some c) other = Some c
-
-in_frame-append_if : (b : Bool) (c : Content Text) (o p q : Option (Content Text)) → o ≡ or_found p q → (if b then Some c else o) ≡ or_found (if b then Some c else p) q
-in_frame-append_if true c o p q h = refl
-in_frame-append_if false c o p q h = h
-
-in_frame-append : (y : Text) (es fs : Frame) → in_frame y (es ++ fs) ≡ or_found (in_frame y es) (in_frame y fs)
-in_frame-append y [] fs = refl
-in_frame-append y (e ∷ es) fs =
-    in_frame-append_if (bytes_eq y e.name) e.content (in_frame y (es ++ fs)) (in_frame y es) (in_frame y fs) (in_frame-append y es fs)
-
-not_found : (d : Declared) → Some d ≡ None → ⊥
-not_found d h = absurd cc
-
--- the new name is found in both where it is the name that is looked for
-found-more : (b : Bool) (d : Declared) (c : Content Text) (o : Option Declared) (p : Option (Content Text)) → FoundFits o p → (b ≡ true → o ≡ None)
-    → ContentFits d.type c → FoundFits (if b then Some d else o) (or_found p (if b then Some c else None))
-found-more true d c None None h new fits = fits
-found-more true d c None (Some q) h new fits = elim h [ ]
-found-more true d c (Some x) p h new fits = elim (not_found x (new refl)) [ ]
-found-more false d c None None h new fits = tt
-found-more false d c None (Some q) h new fits = elim h [ ]
-found-more false d c (Some x) None h new fits = elim h [ ]
-found-more false d c (Some x) (Some q) h new fits = h
-
-abbrev entry : Text → Content Text → Entry
-entry x c = record { name = x; content = c }
-
-frame-more : (ds : Scope) (es : Frame) (d : Declared) (c : Content Text) → FrameFits ds es → find ds d.origin.name ≡ None → ContentFits d.type c
-    → FrameFits (d ∷ ds) (es ++ entry d.origin.name c ∷ [])
-frame-more ds es d c h new fits y =
-    subst (FoundFits (find (d ∷ ds) y)) (sym (in_frame-append y es (entry d.origin.name c ∷ [])))
-    (found-more (bytes_eq y d.origin.name) d c (find ds y) (in_frame y es) (h y) (λ e. ap (find ds) ((bytes_eq-Decides y d.origin.name).0 e) ∙ new) fits)
-
-none_there : (o : Option Declared) → is_some o ≡ false → o ≡ None
-none_there None h = refl
-none_there (Some d) h = absurd cc
-
--- A declaration of a name that the innermost scope doesn't have, with a content of its type. Of a name that it has the
--- scopes find the latest declaration and the store the first; such a program is told as C2.
-pub declare_in-fits : (ss : Scopes) (fs : Store) (d : Declared) (c : Content Text) → StoreFits ss fs → declared_here ss d.origin.name ≡ false → ContentFits d.type c
-    → StoreFits (add d ss) (declare_in d.origin.name c fs)
-declare_in-fits [] [] d c h new fits = (frame-more [] [] d c (λ x. tt) refl fits, tt)
-declare_in-fits [] (f ∷ fs) d c h new fits = elim h [ ]
-declare_in-fits (ds ∷ ss) [] d c h new fits = elim h [ ]
-declare_in-fits (ds ∷ ss) (f ∷ fs) d c h new fits = (frame-more ds f d c h.0 (none_there (find ds d.origin.name) new) fits, h.1)
+-- ---- one more name, with a content of its type
+pub declared-fits : (ss : Scopes) (es : Store) (d : Declared) (c : Content Text) → StoreFits ss es → ContentFits d.type c
+    → StoreFits (add d ss) (Kept (record { name = d.origin.name; content = c }) ∷ es)
+declared-fits [] [] d c h fits = (refl, fits, refl)
+declared-fits [] (e ∷ es) d c h fits = elim h [ ]
+declared-fits (ds ∷ ss) es d c h fits = (refl, fits, h)
 
 -- a scope opened, and closed again
-pub enter-fits : (ss : Scopes) (fs : Store) → StoreFits ss fs → StoreFits (enter ss) ([] ∷ fs)
-enter-fits ss fs h = (λ x. tt, h)
+pub enter-fits : (ss : Scopes) (es : Store) → StoreFits ss es → StoreFits (enter ss) (Opened ∷ es)
+enter-fits ss es h = h
 
-pub leave-fits : (ds : Scope) (ss : Scopes) (fs : Store) → StoreFits (ds ∷ ss) fs → StoreFits ss (without_innermost fs)
-leave-fits ds ss [] h = elim h [ ]
-leave-fits ds ss (f ∷ fs) h = h.1
+pub leave-fits : (ds : Scope) (ss : Scopes) (es : Store) → StoreFits (ds ∷ ss) es → StoreFits ss (without_innermost es)
+leave-fits [] ss [] h = subst (λ ss. StoreFits ss []) (sym h) tt
+leave-fits [] ss (Opened ∷ es) h = h
+leave-fits [] ss (Kept e ∷ es) h = elim h [ ]
+leave-fits (d ∷ ds) ss [] h = elim h [ ]
+leave-fits (d ∷ ds) ss (Opened ∷ es) h = elim h [ ]
+leave-fits (d ∷ ds) ss (Kept e ∷ es) h = leave-fits ds ss es h.2
 
 -- ---- the environment by names: a declared name, of a plain value and of an array
 pub plain-fits : (scopes : Scopes) (s : State) (d : Declared) (t : ValueType) (v : Value) → Keeps scopes s → declared_here scopes d.origin.name ≡ false → d.type ≡ Some t
     → HasType v t → Keeps (add d scopes) (by_name.declare d.origin.name (Plain v) s)
 plain-fits scopes s d t v h new e hv =
-    declare_in-fits scopes s.store d (Plain v) h new (subst (λ o. ContentFits o (Plain v)) (sym e) (hv, tt))
+    declared-fits scopes s.store d (Plain v) h (subst (λ o. ContentFits o (Plain v)) (sym e) (hv, tt))
 
 pub array-fits : (scopes : Scopes) (s : State) (d : Declared) (k : Kind) (over : Over) (name : Option Text) (rs : List TextRange) (vs : List Value) → Keeps scopes s
     → declared_here scopes d.origin.name ≡ false → d.type ≡ Some (ArrayType k over) → AreRanked over.rank over.strided rs → AllOfKind k vs
     → Keeps (add d scopes) (by_name.declare d.origin.name (ArrayOf name k rs vs) s)
 array-fits scopes s d k over name rs vs h new e hr hv =
-    declare_in-fits scopes s.store d (ArrayOf name k rs vs) h new
+    declared-fits scopes s.store d (ArrayOf name k rs vs) h
     (subst (λ o. ContentFits o (ArrayOf name k rs vs)) (sym e) ((rs, refl, hr), hv))

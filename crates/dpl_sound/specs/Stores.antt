@@ -1,12 +1,12 @@
--- When a store of names has what the scopes declare: a frame for each scope, and in it a content of its type for each
+-- When a store of names has what the scopes declare: a mark for each scope, and in it a content of its type for each
 -- declaration. Then a name's innermost declaration and its innermost content are found together.
-use Rattle.std.specs.Prelude.{List, [], ◌∷◌, Option, Some, None}
+use Rattle.std.specs.Prelude.{◌≡◌, List, [], ◌∷◌, Option, Some, None}
 use Rattle.dpl_language.specs.Tree.{Kind}
 use Rattle.dpl_language.specs.Values.{Value}
 use Rattle.dpl_language.specs.Environment.{Content, Plain, ArrayOf, CellOf}
-use Rattle.dpl_language.specs.Names.{Text, Frame, Store, in_frame, value_in}
+use Rattle.dpl_language.specs.Names.{Text, Opened, Declared as Kept, Store, value_in}
 use Rattle.dpl_rules.specs.Types.{ValueType}
-use Rattle.dpl_rules.specs.Sights.{Declared, Scope, Scopes, find}
+use Rattle.dpl_rules.specs.Sights.{Scopes}
 use Rattle.dpl_sound.specs.Typed.{OfKind, HasType}
 
 abbrev pub AllOfKind : Kind → List Value → Type 0
@@ -24,18 +24,10 @@ abbrev pub ContentFits : Option ValueType → Content Text → Type 0
 ContentFits None c = Unit {0}
 ContentFits (Some t) c = HasType (value_in c) t × ElementsOfKind c
 
--- a declaration and a content are found together, or neither is
-abbrev pub FoundFits : Option Declared → Option (Content Text) → Type 0
-FoundFits None None = Unit {0}
-FoundFits None (Some c) = ⊥
-FoundFits (Some d) None = ⊥
-FoundFits (Some d) (Some c) = ContentFits d.type c
-
-abbrev pub FrameFits : Scope → Frame → Type 0
-FrameFits ds es = (x : Text) → FoundFits (find ds x) (in_frame x es)
-
+-- the outermost scope may be one that was never opened
 abbrev pub StoreFits : Scopes → Store → Type 0
 StoreFits [] [] = Unit {0}
-StoreFits [] (f ∷ fs) = ⊥
-StoreFits (ds ∷ ss) [] = ⊥
-StoreFits (ds ∷ ss) (f ∷ fs) = FrameFits ds f × StoreFits ss fs
+StoreFits ([] ∷ ss) [] = ss ≡ []
+StoreFits ([] ∷ ss) (Opened ∷ es) = StoreFits ss es
+StoreFits ((d ∷ ds) ∷ ss) (Kept e ∷ es) = (d.origin.name ≡ e.name) × ContentFits d.type e.content × StoreFits (ds ∷ ss) es
+StoreFits _ _ = ⊥

@@ -2,13 +2,14 @@
 -- Scopes that are opened, closed and added to are sights that are.
 use Rattle.std.proofs.Common.{◌≡◌, ◌≢◌, ℕ, suc, ◌+◌, ◌≤◌, Bool, true, false, List, [], ◌∷◌, ◌++◌, length, Option, Some, None, refl, sym, ap, ◌∙◌, subst, arith}
 use Rattle.std.specs.Prelude.{bytes_eq, if◌then◌else◌}
+use Rattle.std.specs.Option.{option_or}
 use Rattle.std.proofs.lemmas.Slice.Eq.{bytes_eq-Decides}
 use Rattle.dpl_language.specs.Names.{Text}
 use Rattle.dpl_rules.specs.Sights.{Declared, Scope, Scopes, find, or_else, lookup, type_declared, enter, add}
 use Rattle.dpl_sound.proofs.Given.{some-same}
 use Rattle.dpl_scopes.specs.Slots.{count_in, next_slot_in, place_in, slot_or, slot_in}
 use Rattle.dpl_memory.specs.Memory.{Variable, VariableKind}
-use Rattle.dpl_memory.specs.Resolved.{Shape, Sighted, Known, known_in, or_known, innermost, IsUnusedIn, IsUnused, bind}
+use Rattle.dpl_memory.specs.Resolved.{Shape, Sighted, Known, known_in, innermost, IsUnusedIn, IsUnused, bind}
 use Rattle.dpl_typer.specs.Leaves.{kind_by, leaf_by, leaf_in, IsFound}
 use Rattle.dpl_typer.specs.Shapes.{shape_by, shape_in}
 use Rattle.dpl_typer.specs.Sights.{sighted_at, frame_from, sight_of, is_promoted_by, IsKnownScope, AreKnownScopes}
@@ -17,15 +18,16 @@ use Rattle.dpl_typer.specs.Sights.{sighted_at, frame_from, sight_of, is_promoted
 abbrev known_of : Variable → Shape → Known
 known_of x shape = (x.kind, x.slot, shape)
 
-known_in-append : (x : Text) (bs cs : List Sighted) → known_in x (bs ++ cs) ≡ or_known (known_in x bs) (known_in x cs)
-known_in-append x [] cs = refl
-known_in-append x (b ∷ bs) cs =
-    elim (bytes_eq x b.text) as (λ t. (if t then Some (b.kind, b.slot, b.shape) else known_in x (bs ++ cs)) ≡ or_known (if t then Some (b.kind, b.slot, b.shape) else known_in x bs) (known_in x cs))
-    [ true ↦ refl | false ↦ known_in-append x bs cs ]
-
-or_known-none : (o : Option Known) → or_known o None ≡ o
-or_known-none None = refl
-or_known-none (Some k) = refl
+-- the latest of a frame counts
+known_in-append : (x : Text) (bs : List Sighted) (b : Sighted) → known_in x (bs ++ b ∷ []) ≡ (if bytes_eq x b.text then Some (b.kind, b.slot, b.shape) else known_in x bs)
+known_in-append x [] b = refl
+known_in-append x (c ∷ bs) b =
+    ap (λ o. option_or o (if bytes_eq x c.text then Some (c.kind, c.slot, c.shape) else None)) (known_in-append x bs b) ∙ by (bytes_eq x b.text)
+  where
+    by : (t : Bool) → option_or (if t then Some (b.kind, b.slot, b.shape) else known_in x bs) (if bytes_eq x c.text then Some (c.kind, c.slot, c.shape) else None)
+        ≡ (if t then Some (b.kind, b.slot, b.shape) else known_in x (c ∷ bs))
+    by true = refl
+    by false = refl
 
 -- what a declaration that is found is, by its type and its place
 abbrev known_found : Option Declared → Option ℕ → Option Known
@@ -33,20 +35,16 @@ known_found None slot = None
 known_found (Some d) slot = Some (known_of (leaf_by (kind_by d.type) slot) (shape_by d.type))
 
 -- the latest declaration is found, or else one before it
-latest_found : (begin : ℕ) (outside : Scopes) (x : Text) (d : Declared) (ds : Scope) → find ds d.origin.name ≡ None → known_in x (frame_from begin outside ds) ≡ known_found (find ds x) (place_in ds x begin)
-    → (t : Bool) → bytes_eq x d.origin.name ≡ t
-    → or_known (known_in x (frame_from begin outside ds)) (if t then Some (known_of (leaf_by (kind_by d.type) (Some (length ds + begin))) (shape_by d.type)) else None)
-    ≡ known_found (if t then Some d else find ds x) (if t then Some (length ds + begin) else place_in ds x begin)
-latest_found begin outside x d ds alone others true e =
-    let none : find ds x ≡ None = subst (λ y. find ds y ≡ None) (sym ((bytes_eq-Decides x d.origin.name).0 e)) alone in
-    ap (λ o. or_known o (Some (known_of (leaf_by (kind_by d.type) (Some (length ds + begin))) (shape_by d.type)))) (others ∙ ap (λ o. known_found o (place_in ds x begin)) none)
-latest_found begin outside x d ds alone others false e = or_known-none (known_in x (frame_from begin outside ds)) ∙ others
+latest_found : (d : Declared) (slot : ℕ) (k : Option Known) (o : Option Declared) (p : Option ℕ) → k ≡ known_found o p → (t : Bool)
+    → (if t then Some (known_of (leaf_by (kind_by d.type) (Some slot)) (shape_by d.type)) else k) ≡ known_found (if t then Some d else o) (if t then Some slot else p)
+latest_found d slot k o p others true = refl
+latest_found d slot k o p others false = others
 
-known_in-frame_from : (begin depth : ℕ) (outside : Scopes) (x : Text) (ds : Scope) → IsKnownScope depth ds → known_in x (frame_from begin outside ds) ≡ known_found (find ds x) (place_in ds x begin)
-known_in-frame_from begin depth outside x [] h = refl
-known_in-frame_from begin depth outside x (d ∷ ds) h =
-    known_in-append x (frame_from begin outside ds) (sighted_at (ds ∷ outside) d (length ds + begin) ∷ [])
-    ∙ latest_found begin outside x d ds h.1 (known_in-frame_from begin depth outside x ds h.2) (bytes_eq x d.origin.name) refl
+known_in-frame_from : (begin : ℕ) (outside : Scopes) (x : Text) (ds : Scope) → known_in x (frame_from begin outside ds) ≡ known_found (find ds x) (place_in ds x begin)
+known_in-frame_from begin outside x [] = refl
+known_in-frame_from begin outside x (d ∷ ds) =
+    known_in-append x (frame_from begin outside ds) (sighted_at (ds ∷ outside) d (length ds + begin))
+    ∙ latest_found d (length ds + begin) (known_in x (frame_from begin outside ds)) (find ds x) (place_in ds x begin) (known_in-frame_from begin outside x ds) (bytes_eq x d.origin.name)
 
 -- a declaration is found where its place is
 abbrev FoundAlike : Option Declared → Option ℕ → Type 0
@@ -61,18 +59,18 @@ found_alike begin x (d ∷ ds) =
     elim (bytes_eq x d.origin.name) as (λ t. FoundAlike (if t then Some d else find ds x) (if t then Some (length ds + begin) else place_in ds x begin))
     [ true ↦ tt | false ↦ found_alike begin x ds ]
 
-or_known-found : (f g : Option Declared) (p q : Option ℕ) → FoundAlike f p → or_known (known_found f p) (known_found g q) ≡ known_found (or_else f g) (slot_or p q)
-or_known-found None g None q h = refl
-or_known-found None g (Some n) q h = absurd h
-or_known-found (Some d) g None q h = absurd h
-or_known-found (Some d) g (Some n) q h = refl
+known_found-or : (f g : Option Declared) (p q : Option ℕ) → FoundAlike f p → option_or (known_found f p) (known_found g q) ≡ known_found (or_else f g) (slot_or p q)
+known_found-or None g None q h = refl
+known_found-or None g (Some n) q h = absurd h
+known_found-or (Some d) g None q h = absurd h
+known_found-or (Some d) g (Some n) q h = refl
 
-innermost-sight_of : (x : Text) (ss : Scopes) → AreKnownScopes ss → innermost x (sight_of ss) ≡ known_found (lookup ss x) (slot_in ss x)
-innermost-sight_of x [] h = refl
-innermost-sight_of x (s ∷ ss) h =
-    ap (λ o. or_known o (innermost x (sight_of ss))) (known_in-frame_from (suc (count_in ss)) (suc (length ss)) ss x s h.0)
-    ∙ ap (or_known (known_found (find s x) (place_in s x (suc (count_in ss))))) (innermost-sight_of x ss h.1)
-    ∙ or_known-found (find s x) (lookup ss x) (place_in s x (suc (count_in ss))) (slot_in ss x) (found_alike (suc (count_in ss)) x s)
+innermost-sight_of : (x : Text) (ss : Scopes) → innermost x (sight_of ss) ≡ known_found (lookup ss x) (slot_in ss x)
+innermost-sight_of x [] = refl
+innermost-sight_of x (s ∷ ss) =
+    ap (λ o. option_or o (innermost x (sight_of ss))) (known_in-frame_from (suc (count_in ss)) ss x s)
+    ∙ ap (option_or (known_found (find s x) (place_in s x (suc (count_in ss))))) (innermost-sight_of x ss)
+    ∙ known_found-or (find s x) (lookup ss x) (place_in s x (suc (count_in ss))) (slot_in ss x) (found_alike (suc (count_in ss)) x s)
 
 known_found-kind : (o : Option Declared) (p : Option ℕ) (k : VariableKind) → kind_by (type_declared o) ≡ Some k → known_found o p ≡ Some (known_of (leaf_by (kind_by (type_declared o)) p) (shape_by (type_declared o)))
 known_found-kind None p k e = absurd cc
@@ -80,7 +78,7 @@ known_found-kind (Some d) p k e = refl
 
 -- a name in sight has those of its leaf, and its type's shape
 pub innermost-found : (x : Text) (ss : Scopes) → AreKnownScopes ss → IsFound ss x → innermost x (sight_of ss) ≡ Some ((leaf_in ss x).kind, (leaf_in ss x).slot, shape_in ss x)
-innermost-found x ss h (k, slot, kind, at) = innermost-sight_of x ss h ∙ known_found-kind (lookup ss x) (slot_in ss x) k kind
+innermost-found x ss h (k, slot, kind, at) = innermost-sight_of x ss ∙ known_found-kind (lookup ss x) (slot_in ss x) k kind
 
 -- WHAT IS IN SIGHT HAS A KIND
 abbrev pub HasKnownKind : Option Declared → Type 0
