@@ -17,7 +17,7 @@ use Rattle.dpl_agreement.specs.Agreement.{Simulates, EndsAlike, RunAlike}
 use Rattle.dpl_agreement.proofs.RunsAlike.{with_ok-same, then_do-alike, with_value-alike, with_value-alike_by, choose-alike, unless-alike, repeated-alike, within_budget-alike, named_turns-alike}
 use Rattle.dpl_agreement.proofs.RenamedParts.{intents_of-renamed}
 use Rattle.dpl_agreement.proofs.ExpressionsAlike.{value_of-renamed, item_of-renamed}
-use Rattle.dpl_agreement.proofs.LoopsAlike.{leave-after_stmt_in, leave-after_all_in, leave-after_body_in, HoldsTurn, scoped-alike, turns-held, turn_of-alike, tasks_of-alike}
+use Rattle.dpl_agreement.proofs.LoopsAlike.{leave-after_stmt_in, leave-after_all_in, leave-after_body_in, HoldsTurn, scoped-alike, turns-held, turn_of-alike, coforall-alike}
 use Rattle.dpl_agreement.proofs.AssignmentsAlike.{assign-alike, cell_call-alike, write-alike}
 use Rattle.dpl_agreement.proofs.DeclarationsAlike.{declare-alike}
 
@@ -92,7 +92,7 @@ module _ {M N G S1 S2 : Type 0} (limits : Limits) (name : N → M) (scoping : Sc
     exec-alike (Coforall at xs word item intents body) g f s1 s2 done r =
         with_value-alike_by (R g) _ _ _ _ s1 s2 done (item_of-renamed limits name scoping first second R sim item None g s1 s2 r f.0)
         (λ v e. unless-alike (nat_lt task_limit (size_in (loop_ranges limits.locales v))) (fault PastLimit at) (R g) (R g) _ _
-        (tasks_of-alike limits name scoping first second R sim g (scoping.begin g)
+        (coforall-alike limits name scoping first second R sim xs g (scoping.begin g)
         (turn_of first (renamed_variables name xs) v (exec_body limits first (renamed_body name body))) (turn_of second xs v (exec_body limits second body)) (indices_in (loop_ranges limits.locales v)) f.2
         (turns-alike xs v (indices_in (loop_ranges limits.locales v)) (scoping.begin g) body _ _ f.3 (turns-held limits name scoping first second R sim xs item v g s1 s2 r f.1 e)
         (exec_body-alike body (inside scoping xs (scoping.begin g)) f.4))) s1 s2 done r)

@@ -52,10 +52,10 @@ module _ {N G S : Type 0} (limits : Limits) (scoping : Scoping N G) (env : Envir
     heres = λ g s1 s2 r. ap env.here r;
     moves = λ k g s1 s2 r m. ap (env.move k) r;
     calls = λ x op g s1 s2 r f. subst (λ s. AnswersAlike (λ s1 s2. s1 ≡ s2) (env.call x op s1) (env.call x op s)) r (answers_itself (env.call x op s1));
-    cells = λ g s1 s2 r c. ap env.cells r;
-    histories = λ g s1 s2 r c. ap env.history r;
-    begins = λ rs g s1 s2 r c. ap (env.begin rs) r;
-    settles = λ h g s1 s2 r c. ap (env.settle h) r;
+    cells = λ x g s1 s2 r c. ap (env.cells x) r;
+    histories = λ x g s1 s2 r c. ap env.history r;
+    begins = λ x rs g s1 s2 r c. ap (env.begin rs) r;
+    settles = λ x h g s1 s2 r c. ap (env.settle x h) r;
   }
 
   -- so the theorem's premises are met by every tree that fits

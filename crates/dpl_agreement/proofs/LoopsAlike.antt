@@ -10,7 +10,7 @@ use Rattle.dpl_language.specs.Values.{Value, Int, Index}
 use Rattle.dpl_language.specs.Ranges.{indices_in, loop_ranges, loop_value}
 use Rattle.dpl_language.specs.Outcome.{Solo, no_deeds, with_entered, Done, Run}
 use Rattle.dpl_language.specs.Environment.{Plain, Environment, Limits}
-use Rattle.dpl_language.specs.Phrases.{parts}
+use Rattle.dpl_language.specs.Phrases.{parts, first_name}
 use Rattle.dpl_language.specs.Declarations.{type_of}
 use Rattle.dpl_language.specs.Expressions.{item_of}
 use Rattle.dpl_language.specs.Loops.{scoped, declare_each, bound_to, turn_of}
@@ -109,26 +109,32 @@ module _ {M N G S1 S2 : Type 0} (limits : Limits) (name : N → M) (scoping : Sc
       (bound_to first (renamed_variables name xs) over t s1) (bound_to second xs over t s2) done (bound_to-alike xs over t (scoping.enter g) s1 s2 r f held))
 
   -- each task by itself does the same, so the same fault or none comes of them all
-  solos-alike : (h : List Event) (g k : G) (a : Index → Run S1) (b : Index → Run S2) (n : ℕ) (ts : List Index) (s1 : S1) (s2 : S2) → R g s1 s2 → scoping.coforalls g
+  solos-alike : (x : N) (h : List Event) (g k : G) (a : Index → Run S1) (b : Index → Run S2) (n : ℕ) (ts : List Index) (s1 : S1) (s2 : S2) → R g s1 s2 → scoping.coforalls x g
       → All (λ t. RunAlike (R (scoping.begin g)) (R k) (a t) (b t)) ts → solos first h a n ts s1 ≡ solos second h b n ts s2
-  solos-alike h g k a b n [] s1 s2 r c p = refl
-  solos-alike h g k a b n (t ∷ ts) s1 s2 r c p =
+  solos-alike x h g k a b n [] s1 s2 r c p = refl
+  solos-alike x h g k a b n (t ∷ ts) s1 s2 r c p =
       ap (λ (x : Solo). x ∷ solos first h a (n + 1) ts s1)
       (solo_of-alike (R k) (a t (first.begin (replies_of n h) s1) no_deeds) (b t (second.begin (replies_of n h) s2) no_deeds)
-      (All-head (λ t. RunAlike (R (scoping.begin g)) (R k) (a t) (b t)) t ts p (first.begin (replies_of n h) s1) (second.begin (replies_of n h) s2) no_deeds (sim.begins (replies_of n h) g s1 s2 r c)))
+      (All-head (λ t. RunAlike (R (scoping.begin g)) (R k) (a t) (b t)) t ts p (first.begin (replies_of n h) s1) (second.begin (replies_of n h) s2) no_deeds (sim.begins x (replies_of n h) g s1 s2 r c)))
       ∙ ap (λ xs. solo_of (b t (second.begin (replies_of n h) s2) no_deeds) ∷ xs)
-      (solos-alike h g k a b (n + 1) ts s1 s2 r c (All-tail (λ t. RunAlike (R (scoping.begin g)) (R k) (a t) (b t)) t ts p))
+      (solos-alike x h g k a b (n + 1) ts s1 s2 r c (All-tail (λ t. RunAlike (R (scoping.begin g)) (R k) (a t) (b t)) t ts p))
 
-  tasks_end-alike : (cs : List CellState) (h : List Event) (tasks : List Solo) (g : G) → scoping.coforalls g → RunAlike (R g) (R g) (tasks_end first cs h tasks) (tasks_end second cs h tasks)
-  tasks_end-alike cs h tasks g c s1 s2 done r =
-      stop_or-alike (first_fault 0 tasks) (R g) (R g) (λ s done. Done (first.settle h s) done) (λ s done. Done (second.settle h s) done)
-      (λ s1 s2 done r. (second.settle h s2, sim.settles h g s1 s2 r c, refl)) s1 s2 (with_entered (record { cells = cs; tasks = tasks; history = h }) done) r
+  tasks_end-alike : (x : N) (cs : List CellState) (h : List Event) (tasks : List Solo) (g : G) → scoping.coforalls x g → RunAlike (R g) (R g) (tasks_end first (name x) cs h tasks) (tasks_end second x cs h tasks)
+  tasks_end-alike x cs h tasks g c s1 s2 done r =
+      stop_or-alike (first_fault 0 tasks) (R g) (R g) (λ s done. Done (first.settle (name x) h s) done) (λ s done. Done (second.settle x h s) done)
+      (λ s1 s2 done r. (second.settle x h s2, sim.settles x h g s1 s2 r c, refl)) s1 s2 (with_entered (record { cells = cs; tasks = tasks; history = h }) done) r
 
-  pub tasks_of-alike : (g k : G) (a : Index → Run S1) (b : Index → Run S2) (ts : List Index) → scoping.coforalls g → All (λ t. RunAlike (R (scoping.begin g)) (R k) (a t) (b t)) ts
-      → RunAlike (R g) (R g) (tasks_of first a ts) (tasks_of second b ts)
-  tasks_of-alike g k a b ts c p s1 s2 done r =
-      subst (λ o. EndsAlike (R g) (tasks_of first a ts s1 done) o)
-      (ap (λ cs. tasks_end second cs (first.history s1) (solos first (first.history s1) a 0 ts s1) s2 done) (sim.cells g s1 s2 r c)
-      ∙ ap (λ tasks. tasks_end second (second.cells s2) (first.history s1) tasks s2 done) (solos-alike (first.history s1) g k a b 0 ts s1 s2 r c p)
-      ∙ ap (λ h. tasks_end second (second.cells s2) h (solos second h b 0 ts s2) s2 done) (sim.histories g s1 s2 r c))
-      (tasks_end-alike (first.cells s1) (first.history s1) (solos first (first.history s1) a 0 ts s1) g c s1 s2 done r)
+  tasks_of-alike : (x : N) (g k : G) (a : Index → Run S1) (b : Index → Run S2) (ts : List Index) → scoping.coforalls x g → All (λ t. RunAlike (R (scoping.begin g)) (R k) (a t) (b t)) ts
+      → RunAlike (R g) (R g) (tasks_of first (name x) a ts) (tasks_of second x b ts)
+  tasks_of-alike x g k a b ts c p s1 s2 done r =
+      subst (λ o. EndsAlike (R g) (tasks_of first (name x) a ts s1 done) o)
+      (ap (λ cs. tasks_end second x cs (first.history s1) (solos first (first.history s1) a 0 ts s1) s2 done) (sim.cells x g s1 s2 r c)
+      ∙ ap (λ tasks. tasks_end second x (second.cells x s2) (first.history s1) tasks s2 done) (solos-alike x (first.history s1) g k a b 0 ts s1 s2 r c p)
+      ∙ ap (λ h. tasks_end second x (second.cells x s2) h (solos second h b 0 ts s2) s2 done) (sim.histories x g s1 s2 r c))
+      (tasks_end-alike x (first.cells (name x) s1) (first.history s1) (solos first (first.history s1) a 0 ts s1) g c s1 s2 done r)
+
+  -- the same by the first of a loop's variables
+  pub coforall-alike : (xs : VariablesTree N) (g k : G) (a : Index → Run S1) (b : Index → Run S2) (ts : List Index) → scoping.coforalls (first_name xs) g
+      → All (λ t. RunAlike (R (scoping.begin g)) (R k) (a t) (b t)) ts → RunAlike (R g) (R g) (tasks_of first (first_name (renamed_variables name xs)) a ts) (tasks_of second (first_name xs) b ts)
+  coforall-alike (OneVariable x) g k a b ts c p = tasks_of-alike x.name g k a b ts c p
+  coforall-alike (ManyVariables from xs upto) g k a b ts c p = tasks_of-alike xs.first.name g k a b ts c p

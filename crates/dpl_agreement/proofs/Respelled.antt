@@ -236,10 +236,10 @@ module _ (f : Text → Text) (same : (x y : Text) → bytes_eq (f x) (f y) ≡ b
     moves = λ k g s1 s2 r m. ap (by_name.move k) r;
     calls = λ x op g s1 s2 r a. subst (λ o. AnswersAlike (Respells tt) o (by_name.call x op s2))
         (sym (ap (by_name.call (f x) op) r ∙ call_in-respelled x op s2 s2.replies)) (answers_alike (by_name.call x op s2));
-    cells = λ g s1 s2 r c. ap by_name.cells r ∙ store_cells-respelled s2.store;
-    histories = λ g s1 s2 r c. ap by_name.history r;
-    begins = λ rs g s1 s2 r c. ap (by_name.begin rs) r;
-    settles = λ h g s1 s2 r c. then_so (by_name.settle h) (by_name.settle h) (settle_of h) s1 s2 r;
+    cells = λ x g s1 s2 r c. ap (by_name.cells (f x)) r ∙ store_cells-respelled s2.store;
+    histories = λ x g s1 s2 r c. ap by_name.history r;
+    begins = λ x rs g s1 s2 r c. ap (by_name.begin rs) r;
+    settles = λ x h g s1 s2 r c. then_so (by_name.settle (f x) h) (by_name.settle x h) (settle_of x h) s1 s2 r;
   }
     where
       value_of_name : (x : Text) (s : State) → by_name.get (f x) (respelled_state s) ≡ by_name.get x s
@@ -256,8 +256,8 @@ module _ (f : Text → Text) (same : (x y : Text) → bytes_eq (f x) (f y) ≡ b
       put_of_name : (x : Text) (t : Index) (v : Value) (s : State) → by_name.put_element (f x) t v (respelled_state s) ≡ respelled_state (by_name.put_element x t v s)
       put_of_name x t v s = ap (λ u. record (respelled_state s) { store = u }) (change_in-respelled x (put_in t v) (put_in t v) (put_in-respelled t v) s.store)
 
-      settle_of : (h : List Event) (s : State) → by_name.settle h (respelled_state s) ≡ respelled_state (by_name.settle h s)
-      settle_of h s =
+      settle_of : (x : Text) (h : List Event) (s : State) → by_name.settle (f x) h (respelled_state s) ≡ respelled_state (by_name.settle x h s)
+      settle_of x h s =
           ap (λ cs. record (respelled_state s) { store = with_cells (after cs h) (respelled_store s.store); histories = drop 1 s.histories }) (store_cells-respelled s.store)
           ∙ ap (λ t. record (respelled_state s) { store = t; histories = drop 1 s.histories }) (with_cells-respelled (after (store_cells s.store) h) s.store)
 

@@ -77,10 +77,10 @@ by_slot = record {
   here = λ s. s.here;
   move = λ k s. record s { here = k };
   call = λ x op s. call_at x op s s.replies;
-  cells = λ s. cells_of s.kept s.live;
+  cells = λ x s. cells_of s.kept s.live;
   history = λ s. next_history s.histories;
   begin = λ rs s. record s { replies = Some rs };
-  settle = λ h s. record s { kept = with_states (after (cells_of s.kept s.live) h) s.live s.kept; histories = drop 1 s.histories };
+  settle = λ x h s. record s { kept = with_states (after (cells_of s.kept s.live) h) s.live s.kept; histories = drop 1 s.histories };
 }
 
 -- where a program starts
@@ -142,7 +142,7 @@ resolving names = record {
   spans = λ x items g. Unit {0};
   spans_array = λ x k items g. Unit {0};
   intends = λ is g. g.intents ≡ [];
-  coforalls = λ g. Unit {0};
+  coforalls = λ x g. Unit {0};
   moves = λ g. Unit {0};
   add = λ x sort g. record g { frames = Name x ∷ g.frames };
   enter = λ g. record g { frames = Mark ∷ g.frames };
@@ -266,13 +266,13 @@ module _ (names : ℕ → Text) where
   )
 
   -- the cells, and their states behind a coforall
-  cells_alike : (g : Seen) (s1 : State) (s2 : Slotted) → Stands names g s1 s2 → by_name.cells s1 ≡ by_slot.cells s2
-  cells_alike g s1 s2 r = ap store_cells r.store ∙ store_cells-slots s2.kept g.frames ∙ ap (cells_of s2.kept) (sym r.live)
+  cells_alike : (x : Bound) (g : Seen) (s1 : State) (s2 : Slotted) → Stands names g s1 s2 → by_name.cells x.text s1 ≡ by_slot.cells x s2
+  cells_alike x g s1 s2 r = ap store_cells r.store ∙ store_cells-slots s2.kept g.frames ∙ ap (cells_of s2.kept) (sym r.live)
 
-  settle_alike : (h : List Event) (g : Seen) (s1 : State) (s2 : Slotted) → Stands names g s1 s2 → Stands names g (by_name.settle h s1) (by_slot.settle h s2)
-  settle_alike h g s1 s2 r = record {
+  settle_alike : (x : Bound) (h : List Event) (g : Seen) (s1 : State) (s2 : Slotted) → Stands names g s1 s2 → Stands names g (by_name.settle x.text h s1) (by_slot.settle x h s2)
+  settle_alike x h g s1 s2 r = record {
     store =
-        ap (λ cs. with_cells (after cs h) s1.store) (cells_alike g s1 s2 r)
+        ap (λ cs. with_cells (after cs h) s1.store) (cells_alike x g s1 s2 r)
         ∙ ap (with_cells (after (cells_of s2.kept s2.live) h)) r.store
         ∙ with_cells-slots (after (cells_of s2.kept s2.live) h) g.frames s2.kept r.apart
         ∙ ap (λ fs. store_at (with_states (after (cells_of s2.kept s2.live) h) fs s2.kept) g.frames) (sym r.live);
@@ -418,9 +418,9 @@ module _ (names : ℕ → Text) where
     };
     calls = λ x op g s1 s2 r f.
         subst (λ o. AnswersAlike (Stands names g) (call_in x.text op s1 o) (call_at x op s2 s2.replies)) (sym r.replies) (call_alike x op g s1 s2 r f s2.replies);
-    cells = λ g s1 s2 r c. cells_alike g s1 s2 r;
-    histories = λ g s1 s2 r c. ap next_history r.histories;
-    begins = λ rs g s1 s2 r c. record {
+    cells = λ x g s1 s2 r c. cells_alike x g s1 s2 r;
+    histories = λ x g s1 s2 r c. ap next_history r.histories;
+    begins = λ x rs g s1 s2 r c. record {
       store = r.store;
       live = r.live;
       apart = r.apart;
@@ -432,7 +432,7 @@ module _ (names : ℕ → Text) where
       replies = refl;
       histories = r.histories;
     };
-    settles = λ h g s1 s2 r c. settle_alike h g s1 s2 r;
+    settles = λ x h g s1 s2 r c. settle_alike x h g s1 s2 r;
   }
 
   -- what a program means is what its tree with slots does, from slots that hold anything

@@ -31,10 +31,10 @@ through f env = record {
   here = env.here;
   move = env.move;
   call = λ x op s. env.call (f x) op s;
-  cells = env.cells;
+  cells = λ x s. env.cells (f x) s;
   history = env.history;
   begin = env.begin;
-  settle = env.settle;
+  settle = λ x h s. env.settle (f x) h s;
 }
 
 same_ends : {S : Type 0} (a b : Outcome S) → EndsAlike (λ s1 s2. s1 ≡ s2) a b → b ≡ a
@@ -76,10 +76,10 @@ module _ {M N S : Type 0} (limits : Limits) (f : N → M) (env : Environment M S
     heres = λ g s1 s2 r. ap env.here r;
     moves = λ k g s1 s2 r m. ap (env.move k) r;
     calls = λ x op g s1 s2 r a. subst (λ s. AnswersAlike (λ s1 s2. s1 ≡ s2) (env.call (f x) op s1) (env.call (f x) op s)) r (answers_itself (env.call (f x) op s1));
-    cells = λ g s1 s2 r c. ap env.cells r;
-    histories = λ g s1 s2 r c. ap env.history r;
-    begins = λ rs g s1 s2 r c. ap (env.begin rs) r;
-    settles = λ h g s1 s2 r c. ap (env.settle h) r;
+    cells = λ x g s1 s2 r c. ap (env.cells (f x)) r;
+    histories = λ x g s1 s2 r c. ap env.history r;
+    begins = λ x rs g s1 s2 r c. ap (env.begin rs) r;
+    settles = λ x h g s1 s2 r c. ap (env.settle (f x) h) r;
   }
 
   pub item_of-through_at : (item : ItemTree N) (t : Option Index) (s : S) → item_of limits (through f env) item t s ≡ item_of limits env (renamed_item f item) t s

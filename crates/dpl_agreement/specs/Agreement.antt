@@ -123,10 +123,10 @@ pub record Simulates {M N G S1 S2 : Type 0} (limits : Limits) (name : N → M) (
   pub moves : (k : ℤ) (g : G) (s1 : S1) (s2 : S2) → R g s1 s2 → scoping.moves g → R g (first.move k s1) (second.move k s2)
   -- cells and tasks
   pub calls : (x : N) (op : CellOp) (g : G) (s1 : S1) (s2 : S2) → R g s1 s2 → scoping.calls x g → AnswersAlike (R g) (first.call (name x) op s1) (second.call x op s2)
-  pub cells : (g : G) (s1 : S1) (s2 : S2) → R g s1 s2 → scoping.coforalls g → first.cells s1 ≡ second.cells s2
-  pub histories : (g : G) (s1 : S1) (s2 : S2) → R g s1 s2 → scoping.coforalls g → first.history s1 ≡ second.history s2
-  pub begins : (rs : List Reply) (g : G) (s1 : S1) (s2 : S2) → R g s1 s2 → scoping.coforalls g → R (scoping.begin g) (first.begin rs s1) (second.begin rs s2)
-  pub settles : (h : List Event) (g : G) (s1 : S1) (s2 : S2) → R g s1 s2 → scoping.coforalls g → R g (first.settle h s1) (second.settle h s2)
+  pub cells : (x : N) (g : G) (s1 : S1) (s2 : S2) → R g s1 s2 → scoping.coforalls x g → first.cells (name x) s1 ≡ second.cells x s2
+  pub histories : (x : N) (g : G) (s1 : S1) (s2 : S2) → R g s1 s2 → scoping.coforalls x g → first.history s1 ≡ second.history s2
+  pub begins : (x : N) (rs : List Reply) (g : G) (s1 : S1) (s2 : S2) → R g s1 s2 → scoping.coforalls x g → R (scoping.begin g) (first.begin rs s1) (second.begin rs s2)
+  pub settles : (x : N) (h : List Event) (g : G) (s1 : S1) (s2 : S2) → R g s1 s2 → scoping.coforalls x g → R g (first.settle (name x) h s1) (second.settle x h s2)
 
 -- The second run ends as the first, with the same deeds; where they are done, in a state that is related to the first one's.
 abbrev pub EndsAlike : {S1 S2 : Type 0} → (S1 → S2 → Type 0) → Outcome S1 → Outcome S2 → Type 0

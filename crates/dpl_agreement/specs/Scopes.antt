@@ -7,7 +7,7 @@ use Rattle.dpl_language.specs.Tree.{TypeTree, ScalarType, SyncType, DomainType, 
 use Rattle.dpl_language.specs.Values.{Value, Int, Domain, Index, default}
 use Rattle.dpl_language.specs.Ranges.{empty_domain}
 use Rattle.dpl_language.specs.Environment.{Content, Plain, ArrayOf, CellOf}
-use Rattle.dpl_language.specs.Phrases.{Base, BaseName, BaseLocales, OtherBase, base_of, bare_name, ReadTree, item_read, declared_over, intents_of, parts}
+use Rattle.dpl_language.specs.Phrases.{Base, BaseName, BaseLocales, OtherBase, base_of, bare_name, ReadTree, item_read, declared_over, intents_of, first_name, parts}
 use Rattle.dpl_language.specs.Declarations.{type_of}
 use Rattle.dpl_language.specs.Writing.{arguments_of}
 
@@ -59,9 +59,9 @@ pub record Scoping (N G : Type 0) : Type 1 where
   -- a name may hold the domain of these ranges, and may be an array of this kind over it
   pub spans : N → Items N → G → Type 0
   pub spans_array : N → Kind → Items N → G → Type 0
-  -- a forall with these reduce variables is run, and a coforall; and a body on a locale
+  -- a forall with these reduce variables is run, and a coforall with this variable; and a body on a locale
   pub intends : List (N × Op) → G → Type 0
-  pub coforalls : G → Type 0
+  pub coforalls : N → G → Type 0
   pub moves : G → Type 0
   -- what is in sight behind a declaration, in a scope, and behind the scope
   pub add : N → Sort N → G → G
@@ -339,7 +339,7 @@ module _ {N G : Type 0} (scoping : Scoping N G) where
         × fits_variables xs (scoping.enter (scoping.intend (intents_of intents) g))
         × fits_body body (inside xs (scoping.intend (intents_of intents) g))
     fits (Coforall at xs word item intents body) g =
-        fits_item None item g × suits_turns xs item g × scoping.coforalls g
+        fits_item None item g × suits_turns xs item g × scoping.coforalls (first_name xs) g
         × fits_variables xs (scoping.enter (scoping.begin g))
         × fits_body body (inside xs (scoping.begin g))
     fits (On at e body) g = fits_expr None e g × scoping.moves g × fits_body body (scoping.enter g)

@@ -7,7 +7,7 @@ use Rattle.dpl_history.specs.declared.cell.Reply.{Reply}
 use Rattle.dpl_history.specs.declared.cell.Reply.TheVariants.{Value as Given, Done as NoValue}
 use Rattle.dpl_language.specs.Tree.{Placed, Kind, AssignTree, ItemTree, Exprs, TargetTree, Whole, Element, CallTree, ReadCall, ResetCall, WriteCall}
 use Rattle.dpl_sets.specs.TextRanges.{TextRange}
-use Rattle.dpl_language.specs.Values.{Value, Int, Index, ranges_in, index_of, array_domain, is_domain, cell_kind, kept_number, value_kept, fault, ArrayTooLarge}
+use Rattle.dpl_language.specs.Values.{Value, Index, ranges_in, index_of, array_domain, is_domain, cell_kind, kept_number, value_kept, fault, ArrayTooLarge, default}
 use Rattle.dpl_language.specs.Arithmetic.{assigned, assign_divides, tested_divisor}
 use Rattle.dpl_language.specs.Ranges.{too_large}
 use Rattle.dpl_language.specs.Outcome.{Deeds, with_operation, Outcome, Done, Waits, Run, with_value, unless}
@@ -16,10 +16,10 @@ use Rattle.dpl_language.specs.Phrases.{ReadTree, item_read, read_op, write_op}
 use Rattle.dpl_language.specs.Expressions.{found, value_of, item_of, values_of, whole_item}
 use Rattle.dpl_language.specs.Loops.{within_budget, named_turn}
 
--- the value that a reply hands over; an operation that replies none hands over a value that no one takes
+-- the value that a reply hands over; an operation that replies none hands over its kind's default, which no one takes
 abbrev pub reply_value : Kind → Reply → Value
 reply_value k (Given z) = value_kept k z
-reply_value k NoValue = Int (pos 0)
+reply_value k NoValue = default k
 
 -- nothing more is done with a value
 abbrev pub and_no_more : {S : Type 0} → Value → Run S

@@ -49,12 +49,13 @@ pub record Environment (N S : Type 0) : Type 0 where
   pub move : ℤ → S → S
   -- an operation on a cell
   pub call : N → CellOp → S → Answer S
-  -- for a coforall: the cells in scope, and the history that it takes
-  pub cells : S → List CellState
+  -- for a coforall with this variable: the cells in scope; and the history that it takes
+  pub cells : N → S → List CellState
   pub history : S → List Event
-  -- the state in which a task begins that is given these replies; and the state after the tasks of a history
+  -- the state in which a task begins that is given these replies; and for a coforall with this variable the state after
+  -- the tasks of a history
   pub begin : List Reply → S → S
-  pub settle : List Event → S → S
+  pub settle : N → List Event → S → S
 
 -- how many turns each entry of a loop may have, and how many locales there are
 pub record Limits : Type 0 where

@@ -203,9 +203,9 @@ by_name = record {
   here = λ s. s.here;
   move = λ k s. record s { here = k };
   call = λ x op s. call_in x op s s.replies;
-  cells = λ s. store_cells s.store;
+  cells = λ x s. store_cells s.store;
   history = λ s. next_history s.histories;
   begin = λ rs s. record s { replies = Some rs };
-  settle = λ h s.
+  settle = λ x h s.
       record s { store = with_cells (after (store_cells s.store) h) s.store; histories = drop 1 s.histories };
 }

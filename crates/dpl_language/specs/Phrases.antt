@@ -4,7 +4,7 @@ use Rattle.std.specs.Prelude.{ℕ, ℤ, pos, negsuc, Option, Some, None, List, [
 use Rattle.dpl_syntax.specs.declared.place.Place.{Place}
 use Rattle.dpl_history.specs.declared.cell.CellOp.{CellOp}
 use Rattle.dpl_history.specs.declared.cell.CellOp.TheVariants.{ReadFE, ReadFF, WriteEF, WriteFF, WriteXF}
-use Rattle.dpl_language.specs.Tree.{Placed, AfterComma, Listed, Op, ReadWord, ReadFEWord, ReadFFWord, WriteWord, WriteEFWord, WriteFFWord, WriteXFWord, ExprTree, Named, LocalesWord, Grouped, Postfixed, ItemTree, One, RangeItem, Posts, NoPosts, Post, PostTree, Dotted, MethodTree, CellRead, Items, FirstItem, NoItems, IntentTree, ReduceIntent, RefIntent, WithTree}
+use Rattle.dpl_language.specs.Tree.{Placed, AfterComma, Listed, Op, ReadWord, ReadFEWord, ReadFFWord, WriteWord, WriteEFWord, WriteFFWord, WriteXFWord, ExprTree, Named, LocalesWord, Grouped, Postfixed, ItemTree, One, RangeItem, Posts, NoPosts, Post, PostTree, Dotted, MethodTree, CellRead, Items, FirstItem, NoItems, IntentTree, ReduceIntent, RefIntent, WithTree, VariablesTree, OneVariable, ManyVariables}
 
 -- a number that counts, as a token has it; no token has one below 0
 abbrev pub natural : ℤ → ℕ
@@ -101,3 +101,8 @@ reduce_intents (RefIntent at x ∷ rest) = reduce_intents rest
 abbrev pub intents_of : {N : Type 0} → Option (WithTree N) → List (N × Op)
 intents_of None = []
 intents_of (Some w) = reduce_intents (parts w.intents)
+
+-- the first of a loop's variables
+abbrev pub first_name : {N : Type 0} → VariablesTree N → N
+first_name (OneVariable x) = x.name
+first_name (ManyVariables from xs upto) = xs.first.name

@@ -6,7 +6,7 @@ use Rattle.dpl_language.specs.Values.{number, truth, Fault, fault, PastLimit}
 use Rattle.dpl_language.specs.Ranges.{indices_in, size_in, loop_ranges}
 use Rattle.dpl_language.specs.Outcome.{Done, Run, with_ok, with_value, then_do, choose, unless, repeated}
 use Rattle.dpl_language.specs.Environment.{Environment, Limits}
-use Rattle.dpl_language.specs.Phrases.{intents_of}
+use Rattle.dpl_language.specs.Phrases.{intents_of, first_name}
 use Rattle.dpl_language.specs.Expressions.{value_of, item_of}
 use Rattle.dpl_language.specs.Loops.{within_budget, named_turn, scoped, turn_of}
 use Rattle.dpl_language.specs.Assignments.{assign, cell_call}
@@ -53,7 +53,7 @@ module _ {N S : Type 0} (limits : Limits) (env : Environment N S) where
     exec (Coforall at xs word item intents body) s done =
         with_value (item_of limits env item None s)
         (λ v. unless (nat_lt task_limit (size_in (loop_ranges limits.locales v))) (fault PastLimit at)
-        (tasks_of env (turn_of env xs v (exec_body body)) (indices_in (loop_ranges limits.locales v)))) s done
+        (tasks_of env (first_name xs) (turn_of env xs v (exec_body body)) (indices_in (loop_ranges limits.locales v)))) s done
     -- the body with `here` set to the locale; behind it `here` is what it was
     exec (On at e body) s done =
         with_value (value_of limits env e None s)

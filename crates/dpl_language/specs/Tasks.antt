@@ -42,12 +42,12 @@ module _ {N S : Type 0} (env : Environment N S) where
   solos h turn k [] s = []
   solos h turn k (t ∷ ts) s = solo_of (turn t (env.begin (replies_of k h) s) no_deeds) ∷ solos h turn (k + 1) ts s
 
-  -- the coforall goes on when all have ended, with the cells that the history leaves
-  abbrev pub tasks_end : List CellState → List Event → List Solo → Run S
-  tasks_end cs h tasks s done =
-      stop_or (first_fault 0 tasks) (λ s done. Done (env.settle h s) done) s
+  -- the coforall with this variable goes on when all have ended, with the cells that the history leaves
+  abbrev pub tasks_end : N → List CellState → List Event → List Solo → Run S
+  tasks_end x cs h tasks s done =
+      stop_or (first_fault 0 tasks) (λ s done. Done (env.settle x h s) done) s
       (with_entered (record { cells = cs; tasks = tasks; history = h }) done)
 
   -- one task for each index; the coforall takes the next history
-  abbrev pub tasks_of : (Index → Run S) → List Index → Run S
-  tasks_of turn ts s done = tasks_end (env.cells s) (env.history s) (solos (env.history s) turn 0 ts s) s done
+  abbrev pub tasks_of : N → (Index → Run S) → List Index → Run S
+  tasks_of x turn ts s done = tasks_end x (env.cells x s) (env.history s) (solos (env.history s) turn 0 ts s) s done

@@ -8,7 +8,7 @@ use Rattle.dpl_language.specs.Tree.{Placed, AfterComma, Listed, Op, TypeTree}
 use Rattle.dpl_language.specs.Tree.{ArgumentTree, IntentTree, VariablesTree, OneVariable, ManyVariables}
 use Rattle.dpl_language.specs.Outcome.{Run}
 use Rattle.dpl_language.specs.Environment.{Environment, Plain}
-use Rattle.dpl_language.specs.Phrases.{parts, intents_of, reduce_intents}
+use Rattle.dpl_language.specs.Phrases.{parts, intents_of, reduce_intents, first_name}
 use Rattle.dpl_language.specs.Declarations.{type_of}
 use Rattle.dpl_language.specs.Writing.{arguments_of}
 use Rattle.dpl_language.specs.Loops.{scoped, declare_each, bound_to, turn_of}
@@ -39,6 +39,10 @@ module _ {N : Type 0} where
   pub type_of-written : (type : Option (TypeTree N)) → type_of (option_map written_type type) ≡ type
   type_of-written None = refl
   type_of-written (Some type) = refl
+
+pub first_name-lowered : {N : Type 0} (xs : VariablesTree N) → first_name (lowered_variables xs) ≡ first_name xs
+first_name-lowered (OneVariable x) = refl
+first_name-lowered (ManyVariables from xs upto) = refl
 
 module _ {N S : Type 0} (env : Environment N S) where
   declare_each-unplaced : (xs : List (Placed N)) (t : Index) (s : S) → declare_each env (map unplaced xs) t s ≡ declare_each env xs t s

@@ -8,7 +8,7 @@ use Rattle.dpl_language.specs.Tree.{ExprTree}
 use Rattle.dpl_language.specs.Tree.{StmtTree, Nothing, Declare, Assigned, Call, Write, Block, If, While, For, Forall, Coforall, On, Body, WordBody, BlockBody, Stmts, NoStmts, Then, Else, NoElse, ElseDo}
 use Rattle.dpl_language.specs.Outcome.{Deeds, Outcome, Done, Stop, Waits, with_value, then_do, choose, unless, repeated}
 use Rattle.dpl_language.specs.Environment.{Environment, Limits}
-use Rattle.dpl_language.specs.Phrases.{intents_of}
+use Rattle.dpl_language.specs.Phrases.{intents_of, first_name}
 use Rattle.dpl_language.specs.Expressions.{value_of, item_of}
 use Rattle.dpl_language.specs.Loops.{within_budget, named_turn, scoped, turn_of}
 use Rattle.dpl_language.specs.Statements.{task_limit, holds, exec, exec_body, exec_all, exec_else}
@@ -18,7 +18,7 @@ use Rattle.dpl_lowered.specs.Known.{Known, IsKnown}
 use Rattle.dpl_lowered.specs.LoweredExpressions.{Once, lowered_expr}
 use Rattle.dpl_lowered.specs.LoweredStatements.{lowered_variables, with_intents, lowered_stmt, lowered_body, lowered_stmts, lowered_else}
 use Rattle.dpl_lowered.proofs.Values.{value_of-lowered, item_of-lowered}
-use Rattle.dpl_lowered.proofs.Parts.{intents_of-made, turn_of-lowered}
+use Rattle.dpl_lowered.proofs.Parts.{intents_of-made, turn_of-lowered, first_name-lowered}
 use Rattle.dpl_lowered.proofs.Assignments.{assign-lowered, cell_call-lowered}
 use Rattle.dpl_lowered.proofs.Declarations.{declare-lowered}
 use Rattle.dpl_lowered.proofs.Writing.{write-lowered}
@@ -70,10 +70,13 @@ module _ {N S : Type 0} (limits : Limits) (env : Environment N S) (known : N →
     exec-lowered (Coforall at xs word item intents body) s done =
         ap (λ r. with_value r
         (λ v. unless (nat_lt task_limit (size_in (loop_ranges limits.locales v))) (fault PastLimit at)
-        (tasks_of env (turn_of env (lowered_variables xs) v (exec_body limits env (lowered_body known body))) (indices_in (loop_ranges limits.locales v)))) s done)
+        (tasks_of env (first_name (lowered_variables xs)) (turn_of env (lowered_variables xs) v (exec_body limits env (lowered_body known body))) (indices_in (loop_ranges limits.locales v)))) s done)
         (item_of-lowered limits env known is Once item None s tt)
         ∙ ap (λ go. with_value (item_of limits env item None s) go s done)
-        (fun_ext (λ v. ap (λ turn. unless (nat_lt task_limit (size_in (loop_ranges limits.locales v))) (fault PastLimit at) (tasks_of env turn (indices_in (loop_ranges limits.locales v))))
+        (fun_ext (λ v. ap (λ x. unless (nat_lt task_limit (size_in (loop_ranges limits.locales v))) (fault PastLimit at)
+        (tasks_of env x (turn_of env (lowered_variables xs) v (exec_body limits env (lowered_body known body))) (indices_in (loop_ranges limits.locales v))))
+        (first_name-lowered xs)
+        ∙ ap (λ turn. unless (nat_lt task_limit (size_in (loop_ranges limits.locales v))) (fault PastLimit at) (tasks_of env (first_name xs) turn (indices_in (loop_ranges limits.locales v))))
         (turn_of-lowered env xs v _ _ (fun_ext (λ s. fun_ext (λ done. exec_body-lowered body s done))))))
     exec-lowered (On at e body) s done =
         ap (λ r. with_value r

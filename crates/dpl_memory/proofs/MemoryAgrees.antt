@@ -612,10 +612,10 @@ module _ (start : Start) where
     heres = λ g s1 s2 r. r.here;
     moves = λ k g s1 s2 r m. absurd m;
     calls = λ x op g s1 s2 r f. absurd f;
-    cells = λ g s1 s2 r c. absurd c;
-    histories = λ g s1 s2 r c. absurd c;
-    begins = λ rs g s1 s2 r c. absurd c;
-    settles = λ h g s1 s2 r c. absurd c;
+    cells = λ x g s1 s2 r c. absurd c;
+    histories = λ x g s1 s2 r c. absurd c;
+    begins = λ x rs g s1 s2 r c. absurd c;
+    settles = λ x h g s1 s2 r c. absurd c;
   }
     where
       slots-intended : (is : List (ℕ × Op)) (s : Memory) → HasSlots start.slots s → HasSlots start.slots (intended is s)

@@ -195,8 +195,8 @@ in_memory = record {
   here = λ s. pos 0;
   move = λ k s. s;
   call = λ x op s. Unanswered 0;
-  cells = λ s. [];
+  cells = λ x s. [];
   history = λ s. [];
   begin = λ rs s. s;
-  settle = λ h s. s;
+  settle = λ x h s. s;
 }

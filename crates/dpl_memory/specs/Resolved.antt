@@ -327,7 +327,7 @@ resolving start = record {
   spans = λ x items. Spans x.variable.kind x.shape items;
   spans_array = λ x k items. SpansArray x.variable.kind x.shape k items;
   intends = λ is g. g.intents ≡ [];
-  coforalls = λ g. ⊥;
+  coforalls = λ x g. ⊥;
   moves = λ g. ⊥;
   add = λ x sort g. record g { frames = bind (sighted x sort) g.frames };
   enter = λ g. record g { frames = [] ∷ g.frames };
