@@ -3,7 +3,6 @@
 #![tactic(auto)]
 
 mod board;
-mod cell;
 mod rule;
 mod seat;
 mod steps;
@@ -12,7 +11,6 @@ mod view;
 mod words;
 
 pub use board::Board;
-pub use cell::apply;
-pub use dpl_history::{CellOp, CellState, Event, Miss, Reply};
+pub use dpl_history::{CellOp, CellState, Event, Miss, Reply, apply};
 pub use seat::Seat;
 pub use tried::{NoMemory, Stuck, Tried};

@@ -14,13 +14,12 @@ ghost use Rattle.dpl_history.specs.declared.cell.Reply.{Reply};
 ghost use Rattle.dpl_cell.specs.Shown.{shown_seat};
 ghost use Rattle.dpl_cell.specs.declared.view.Hold.{Hold};
 
-use crate::cell::apply;
 use crate::rule::{CellRule, Plan};
 use crate::seat::Token;
 use crate::steps::{Gather, GiveFirst, Look, Publish, ReadValue, Seize, Take, Vouch, WriteValue};
 use crate::view::View;
 use atomic_table::Table;
-use dpl_history::{CellOp, CellState, Reply};
+use dpl_history::{CellOp, CellState, Reply, apply};
 use std::alloc::{AllocError, Global};
 
 // The words of a state: empty, full, and busy while a seat holds the cell.
