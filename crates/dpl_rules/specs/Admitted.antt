@@ -14,16 +14,8 @@ use Rattle.dpl_rules.specs.Bodies.{Turns, turns_of, is_outer, is_outer_array, is
 
 -- what a body holds: of all that is told apart here a reduce intent alone, and none is there without its forall
 abbrev pub MayHold : Holding → Type 0
-MayHold APrint = ⊥
-MayHold AForall = ⊥
-MayHold ACoforall = ⊥
-MayHold AReduction = ⊥
-MayHold AnInnerReduction = ⊥
-MayHold ACellCall = ⊥
-MayHold AnOn = ⊥
-MayHold AHere = ⊥
-MayHold ADeclaration = ⊥
 MayHold AReduceIntent = Unit {0}
+MayHold _ = ⊥
 
 module _ (loop : Turns) (written : List Origin) where
   -- an array that the body writes

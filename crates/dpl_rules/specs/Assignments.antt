@@ -27,11 +27,9 @@ set_breaches at side (Scalar k) = wanted (is_scalar k) side
 set_breaches at side (Range strided) = breach at WrongType
 set_breaches at side (Domain rank strided) = wanted (is_domain_of rank strided) side
 set_breaches at side (Array k over) = wanted (fits_array k over) side
-set_breaches at side (Promoted k over) = []
 set_breaches at side (Tuple rank) = breach at WrongType
 set_breaches at side Locale = wanted is_locale side
-set_breaches at side AllLocales = []
-set_breaches at side (Cell k) = []
+set_breaches at side _ = []
 
 -- ---- `+= -= *= /= %=`: ints, or an array of ints and what each of its elements can be given
 abbrev pub is_int_kind : Kind → Bool
@@ -39,14 +37,11 @@ is_int_kind k = same_kind IntKind k
 
 abbrev pub change_breaches : Place → Part → ValueType → List Breach
 change_breaches at side (Scalar k) = owed_type (λ t. is_int_kind k && is_scalar k t) at side.type
-change_breaches at side (Range strided) = breach at WrongType
-change_breaches at side (Domain rank strided) = breach at WrongType
 change_breaches at side (Array k over) = owed_type (λ t. is_int_kind k && fits_array k over t) at side.type
 change_breaches at side (Promoted k over) = []
-change_breaches at side (Tuple rank) = breach at WrongType
-change_breaches at side Locale = breach at WrongType
 change_breaches at side AllLocales = []
 change_breaches at side (Cell k) = []
+change_breaches at side _ = breach at WrongType
 
 -- ---- an assignment to a target of some type; `reduce=` where it may stand gives a value of the variable's kind
 abbrev pub reduce_breaches : Place → Bool → Part → ValueType → List Breach
@@ -55,12 +50,8 @@ reduce_breaches at true side t = set_breaches at side t
 
 abbrev pub fitting : AssignTree → Assign → Bool → Part → ValueType → List Breach
 fitting sign Set may_reduce side t = set_breaches sign.at side t
-fitting sign SetAdd may_reduce side t = change_breaches sign.at side t
-fitting sign SetSubtract may_reduce side t = change_breaches sign.at side t
-fitting sign SetMultiply may_reduce side t = change_breaches sign.at side t
-fitting sign SetDivide may_reduce side t = change_breaches sign.at side t
-fitting sign SetRemainder may_reduce side t = change_breaches sign.at side t
 fitting sign SetReduce may_reduce side t = reduce_breaches sign.at may_reduce side t
+fitting sign _ may_reduce side t = change_breaches sign.at side t
 
 abbrev pub fitting_target : AssignTree → Bool → Part → Option ValueType → List Breach
 fitting_target sign may_reduce side None = []

@@ -33,14 +33,12 @@ is_variable loop x d = d.origin.depth == loop.reducing.depth + 1 && bytes_eq x d
 
 abbrev pub is_variable_at : Turns → Text → IndexPart → Bool
 is_variable_at loop x (AtName d) = is_variable loop x d
-is_variable_at loop x (Shifted d n) = false
-is_variable_at loop x Elsewhere = false
+is_variable_at loop x _ = false
 
 abbrev pub are_variables : Turns → List Text → List IndexPart → Bool
 are_variables loop [] [] = true
-are_variables loop [] (i ∷ is) = false
-are_variables loop (x ∷ xs) [] = false
 are_variables loop (x ∷ xs) (i ∷ is) = is_variable_at loop x i && are_variables loop xs is
+are_variables loop _ _ = false
 
 abbrev pub is_own : Turns → List IndexPart → Bool
 is_own loop is = are_variables loop loop.variables is
@@ -56,11 +54,9 @@ written_by loop d = if is_outer_array loop d then d.origin ∷ [] else []
 -- the outer arrays that a body writes
 abbrev pub written_arrays : Turns → List Deed → List Origin
 written_arrays loop [] = []
-written_arrays loop (Reads at d ∷ ds) = written_arrays loop ds
-written_arrays loop (ReadsAt at d is ∷ ds) = written_arrays loop ds
 written_arrays loop (Writes at d op ∷ ds) = written_by loop d ++ written_arrays loop ds
 written_arrays loop (WritesAt at d is op ∷ ds) = written_by loop d ++ written_arrays loop ds
-written_arrays loop (Holds at h ∷ ds) = written_arrays loop ds
+written_arrays loop (_ ∷ ds) = written_arrays loop ds
 
 abbrev pub is_in : Origin → List Origin → Bool
 is_in o [] = false
@@ -68,52 +64,31 @@ is_in o (p ∷ ps) = same_origin o p || is_in o ps
 
 -- ---- C6: a forall writes an outer array at its own index alone
 abbrev pub write_breaches : Turns → Deed → List Breach
-write_breaches loop (Reads at d) = []
-write_breaches loop (ReadsAt at d is) = []
 write_breaches loop (Writes at d op) = owed (not (is_outer_array loop d)) at WrittenElsewhere
 write_breaches loop (WritesAt at d is op) = owed (not (is_outer_array loop d) || is_own loop is) at WrittenElsewhere
-write_breaches loop (Holds at h) = []
+write_breaches loop _ = []
 
 -- ---- C7: an array that a forall writes is read at its own index alone
 abbrev pub read_breaches : Turns → List Origin → Deed → List Breach
 read_breaches loop written (Reads at d) = owed (not (is_in d.origin written)) at ReadElsewhere
 read_breaches loop written (ReadsAt at d is) = owed (not (is_in d.origin written) || is_own loop is) at ReadElsewhere
-read_breaches loop written (Writes at d op) = []
-read_breaches loop written (WritesAt at d is op) = []
-read_breaches loop written (Holds at h) = []
+read_breaches loop written _ = []
 
 -- ---- C8: an outer scalar, locale or domain is changed through its reduce intent alone, and a reduce variable isn't read
 -- `reduce=` goes on with every operator, `+=` with `+` and `*=` with `*`
 abbrev pub is_sum : Op → Bool
 is_sum Sum = true
-is_sum Product = false
-is_sum AllOf = false
-is_sum AnyOf = false
-is_sum BitAnd = false
-is_sum BitOr = false
-is_sum BitXor = false
-is_sum Least = false
-is_sum Greatest = false
+is_sum _ = false
 
 abbrev pub is_product : Op → Bool
-is_product Sum = false
 is_product Product = true
-is_product AllOf = false
-is_product AnyOf = false
-is_product BitAnd = false
-is_product BitOr = false
-is_product BitXor = false
-is_product Least = false
-is_product Greatest = false
+is_product _ = false
 
 abbrev pub goes_on : Assign → Op → Bool
-goes_on Set op = false
 goes_on SetAdd op = is_sum op
-goes_on SetSubtract op = false
 goes_on SetMultiply op = is_product op
-goes_on SetDivide op = false
-goes_on SetRemainder op = false
 goes_on SetReduce op = true
+goes_on _ op = false
 
 -- the assignment goes on with the operator of the intent that names the variable
 abbrev pub goes_on_in : List (Text × Op) → Text → Assign → Bool
@@ -138,23 +113,12 @@ change_breaches loop (Holds at h) = []
 -- ---- C9: a forall's body holds no print, forall, coforall, reduction, cell call, `on`, `here`, and declares no array,
 -- domain or cell
 abbrev pub forall_holds : Holding → Bool
-forall_holds APrint = false
-forall_holds AForall = false
-forall_holds ACoforall = false
-forall_holds AReduction = false
-forall_holds AnInnerReduction = false
-forall_holds ACellCall = false
-forall_holds AnOn = false
-forall_holds AHere = false
-forall_holds ADeclaration = false
 forall_holds AReduceIntent = true
+forall_holds _ = false
 
 abbrev pub holding_breaches : Deed → List Breach
-holding_breaches (Reads at d) = []
-holding_breaches (ReadsAt at d is) = []
-holding_breaches (Writes at d op) = []
-holding_breaches (WritesAt at d is op) = []
 holding_breaches (Holds at h) = owed (forall_holds h) at NotInForall
+holding_breaches _ = []
 
 -- ---- a forall's body, deed by deed
 abbrev pub each : (Deed → List Breach) → List Deed → List Breach
@@ -171,57 +135,36 @@ forall_breaches loop ds = each (deed_breaches loop (written_arrays loop ds)) ds
 -- ---- C10: a coforall's body writes no outer name, holds no print, forall, coforall, reduction or reduce intent, and
 -- declares no array, domain or cell
 abbrev pub task_holds : Holding → Bool
-task_holds APrint = false
-task_holds AForall = false
-task_holds ACoforall = false
-task_holds AReduction = false
-task_holds AnInnerReduction = false
 task_holds ACellCall = true
 task_holds AnOn = true
 task_holds AHere = true
-task_holds ADeclaration = false
-task_holds AReduceIntent = false
+task_holds _ = false
 
 abbrev pub task_deed : ℕ → Deed → List Breach
-task_deed depth (Reads at d) = []
-task_deed depth (ReadsAt at d is) = []
 task_deed depth (Writes at d op) = owed (not (is_outside depth d)) at NotInCoforall
 task_deed depth (WritesAt at d is op) = owed (not (is_outside depth d)) at NotInCoforall
 task_deed depth (Holds at h) = owed (task_holds h) at NotInCoforall
+task_deed depth _ = []
 
 abbrev pub task_breaches : ℕ → List Deed → List Breach
 task_breaches depth ds = each (task_deed depth) ds
 
 -- ---- C9 everywhere: no reduction stands in a promoted expression or in a map's argument
 abbrev pub not_inner : Holding → Bool
-not_inner APrint = true
-not_inner AForall = true
-not_inner ACoforall = true
-not_inner AReduction = true
 not_inner AnInnerReduction = false
-not_inner ACellCall = true
-not_inner AnOn = true
-not_inner AHere = true
-not_inner ADeclaration = true
-not_inner AReduceIntent = true
+not_inner _ = true
 
 abbrev pub inner_reduction : Deed → List Breach
-inner_reduction (Reads at d) = []
-inner_reduction (ReadsAt at d is) = []
-inner_reduction (Writes at d op) = []
-inner_reduction (WritesAt at d is op) = []
 inner_reduction (Holds at h) = owed (not_inner h) at NotInForall
+inner_reduction _ = []
 
 abbrev pub inner_reductions : List Deed → List Breach
 inner_reductions ds = each inner_reduction ds
 
 -- ---- C7 in a promoted assignment: it doesn't read its target by an index list
 abbrev pub element_read : Origin → Deed → List Breach
-element_read o (Reads at d) = []
 element_read o (ReadsAt at d is) = owed (not (same_origin o d.origin)) at ReadElsewhere
-element_read o (Writes at d op) = []
-element_read o (WritesAt at d is op) = []
-element_read o (Holds at h) = []
+element_read o _ = []
 
 abbrev pub whole_target : Option Declared → List Deed → List Breach
 whole_target None ds = []

@@ -97,11 +97,8 @@ abbrev mutual
   else_declarations (ElseDo at t) = declarations t
 
 abbrev pub of_cell : DeclareTree Text → Option (TypeTree Text) → List (DeclareTree Text)
-of_cell d None = []
-of_cell d (Some (ScalarType at k)) = []
 of_cell d (Some (SyncType at kind_at k)) = d ∷ []
-of_cell d (Some (DomainType t)) = []
-of_cell d (Some (ArrayType t)) = []
+of_cell d _ = []
 
 abbrev pub cells_among : List (DeclareTree Text) → List (DeclareTree Text)
 cells_among [] = []

@@ -28,14 +28,10 @@ type_rank t = rank_or (domain_in t)
 -- an int or a bool, or what such a cell holds; an unstrided domain of the rank; what each element of an array can be given
 abbrev pub is_initial : ValueType → ValueType → Bool
 is_initial (Scalar k) t = is_scalar k t
-is_initial (Range strided) t = false
 is_initial (Domain rank strided) t = is_domain_of rank false t
 is_initial (Array k over) t = fits_array k over t
-is_initial (Promoted k over) t = false
-is_initial (Tuple rank) t = false
-is_initial Locale t = false
-is_initial AllLocales t = false
 is_initial (Cell k) t = is_scalar k t
+is_initial _ t = false
 
 -- a name without a type takes ints, bools, ranges, domains and locales; an array is declared with its type
 abbrev pub is_kept : ValueType → Bool

@@ -45,42 +45,21 @@ held_if false at h = []
 -- ---- indices. Brackets round an index change nothing; inside it they do.
 abbrev pub literal_of : ExprTree Text → Option ℤ
 literal_of (Number at n) = Some n
-literal_of (TruthWord at b) = None
-literal_of (Named x) = None
-literal_of (LocalesWord at) = None
-literal_of (LocaleCount at) = None
-literal_of (HereWord at) = None
-literal_of (Grouped from item upto) = None
-literal_of (DomainLiteral from items upto) = None
-literal_of (Prefixed at op e) = None
-literal_of (Reduced at op word e) = None
-literal_of (Chain e rest) = None
-literal_of (Postfixed e posts) = None
+literal_of _ = None
 
 -- what a number behind `+` or `-` adds
 abbrev pub added_by : Infix → ℤ → Option ℤ
 added_by Add n = Some n
 added_by Subtract n = Some (neg_ℤ n)
-added_by Multiply n = None
-added_by Divide n = None
-added_by Remainder n = None
-added_by Less n = None
-added_by LessEqual n = None
-added_by Greater n = None
-added_by GreaterEqual n = None
-added_by Equal n = None
-added_by NotEqual n = None
-added_by And n = None
-added_by Or n = None
+added_by _ n = None
 
 abbrev pub added : Infix → Option ℤ → Option ℤ
 added op None = None
 added op (Some n) = added_by op n
 
 abbrev pub shifted_by : Option Declared → Option ℤ → IndexPart
-shifted_by None by = Elsewhere
-shifted_by (Some d) None = Elsewhere
 shifted_by (Some d) (Some n) = Shifted d n
+shifted_by _ _ = Elsewhere
 
 abbrev pub at_name : Option Declared → IndexPart
 at_name None = Elsewhere
@@ -96,17 +75,12 @@ array_deeds at d (Post (Dotted dot m) rest) items_index exprs_index = []
 
 -- a cell before a cell's method is called; by itself it does nothing
 abbrev pub method_call : Place → MethodTree Text → List Deed
-method_call at (Plainly at1 w) = []
-method_call at (Dim at1 from rank_at d upto) = []
-method_call at (Contains at1 from es upto) = []
-method_call at (Expand at1 from e upto) = []
 method_call at (CellRead at1 w from upto) = held at ACellCall
+method_call at _ = []
 
 abbrev pub cell_deeds : Place → Posts Text → List Deed
-cell_deeds at NoPosts = []
-cell_deeds at (Post (Brackets from items upto) rest) = []
-cell_deeds at (Post (Rounds from es upto) rest) = []
 cell_deeds at (Post (Dotted dot m) rest) = method_call at m
+cell_deeds at _ = []
 
 module _ (scopes : Scopes) where
   abbrev pub name_declared : Option (Placed Text) → Option Declared
@@ -115,20 +89,10 @@ module _ (scopes : Scopes) where
 
   abbrev mutual
     pub index_of : ExprTree Text → IndexPart
-    index_of (Number at n) = Elsewhere
-    index_of (TruthWord at b) = Elsewhere
     index_of (Named x) = at_name (lookup scopes x.name)
-    index_of (LocalesWord at) = Elsewhere
-    index_of (LocaleCount at) = Elsewhere
-    index_of (HereWord at) = Elsewhere
     index_of (Grouped from item upto) = item_index item
-    index_of (DomainLiteral from items upto) = Elsewhere
-    index_of (Prefixed at op e) = Elsewhere
-    index_of (Reduced at op word e) = Elsewhere
-    index_of (Chain e NoLinks) = Elsewhere
     index_of (Chain e (Link at op f NoLinks)) = shifted_by (name_declared (bare_name e)) (added op (literal_of f))
-    index_of (Chain e (Link at op f (Link at1 op1 g rest))) = Elsewhere
-    index_of (Postfixed e posts) = Elsewhere
+    index_of _ = Elsewhere
 
     pub item_index : ItemTree Text → IndexPart
     item_index (One e) = index_of e
@@ -152,18 +116,11 @@ module _ (scopes : Scopes) where
   -- dot or before indices, and in them, is none; and neither is what a reduction folds.
   abbrev mutual
     pub is_whole : ExprTree Text → Bool
-    is_whole (Number at n) = false
-    is_whole (TruthWord at b) = false
     is_whole (Named x) = has is_array (type_declared (lookup scopes x.name))
-    is_whole (LocalesWord at) = false
-    is_whole (LocaleCount at) = false
-    is_whole (HereWord at) = false
     is_whole (Grouped from item upto) = is_whole_item item
-    is_whole (DomainLiteral from items upto) = false
     is_whole (Prefixed at op e) = is_whole e
-    is_whole (Reduced at op word e) = false
     is_whole (Chain e rest) = is_whole e || is_whole_links rest
-    is_whole (Postfixed e posts) = false
+    is_whole _ = false
 
     pub is_whole_item : ItemTree Text → Bool
     is_whole_item (One e) = is_whole e
@@ -186,8 +143,7 @@ module _ (scopes : Scopes) where
   -- what stands before brackets and dots: a name, perhaps in brackets itself, or an expression that does what it does
   abbrev pub base_deeds : Base Text → Posts Text → List Deed → List Deed
   base_deeds (BaseName x) posts otherwise = declared_deeds x.at posts (lookup scopes x.name)
-  base_deeds (BaseLocales at) posts otherwise = otherwise
-  base_deeds OtherBase posts otherwise = otherwise
+  base_deeds _ posts otherwise = otherwise
 
   -- what an expression does; the flag says that it stands in a promoted expression or in a map's argument
   abbrev mutual

@@ -24,18 +24,8 @@ name_verdict at (Some d) = with_type d.type (plain_name at)
 -- ---- the bare word `Locales`, which is no expression: it stands before brackets, and as what a loop runs over
 module _ {N : Type 0} where
   abbrev pub bare_locales : ExprTree N → Option Place
-  bare_locales (Number at n) = None
-  bare_locales (TruthWord at b) = None
-  bare_locales (Named x) = None
   bare_locales (LocalesWord at) = Some at
-  bare_locales (LocaleCount at) = None
-  bare_locales (HereWord at) = None
-  bare_locales (Grouped from item upto) = None
-  bare_locales (DomainLiteral from items upto) = None
-  bare_locales (Prefixed at op e) = None
-  bare_locales (Reduced at op word e) = None
-  bare_locales (Chain e rest) = None
-  bare_locales (Postfixed e posts) = None
+  bare_locales _ = None
 
 abbrev pub locales_or : Option Place → Option ValueType → Option ValueType
 locales_or None t = t

@@ -140,15 +140,5 @@ module _ (scopes : Scopes) where
 
   -- what is in sight behind a statement: a name from the end of its declaration on
   abbrev pub behind : StmtTree Text → Scopes
-  behind (Nothing at) = scopes
   behind (Declare d) = add (declared_by scopes d) scopes
-  behind (Assigned target sign item semicolon) = scopes
-  behind (Call x dot call semicolon) = scopes
-  behind (Write w) = scopes
-  behind (Block from ts upto) = scopes
-  behind (If at e first second) = scopes
-  behind (While at e body) = scopes
-  behind (For at xs word item body) = scopes
-  behind (Forall at xs word item intents body) = scopes
-  behind (Coforall at xs word item intents body) = scopes
-  behind (On at e body) = scopes
+  behind _ = scopes

@@ -20,14 +20,9 @@ pub record LowTree : Type 0 where
   pub bound : Bool
 
 abbrev pub word_low : Word → Option Bool
-word_low Size = None
-word_low First = None
-word_low Last = None
 word_low Low = Some false
-word_low High = None
 word_low LowBound = Some true
-word_low DomainOf = None
-word_low Id = None
+word_low _ = None
 
 abbrev pub low_by : Place → ExprTree Text → Option Bool → Option LowTree
 low_by at e None = None
@@ -35,15 +30,11 @@ low_by at e (Some bound) = Some (record { of = e; at = at; bound = bound })
 
 abbrev pub method_low : MethodTree Text → ExprTree Text → Option LowTree
 method_low (Plainly at w) e = low_by at e (word_low w)
-method_low (Dim at from rank_at d upto) e = None
-method_low (Contains at from es upto) e = None
-method_low (Expand at from f upto) e = None
-method_low (CellRead at w from upto) e = None
+method_low _ e = None
 
 abbrev pub post_low : PostTree Text → ExprTree Text → Option LowTree
-post_low (Brackets from items upto) e = None
-post_low (Rounds from es upto) e = None
 post_low (Dotted dot m) e = method_low m e
+post_low _ e = None
 
 -- all but the last, and the last
 abbrev pub front_of : Posts Text → Posts Text
@@ -57,18 +48,8 @@ posts_low (Post p NoPosts) e = post_low p e
 posts_low (Post p (Post q rest)) e = posts_low (Post q rest) e
 
 abbrev pub low_of : ExprTree Text → Option LowTree
-low_of (Number at n) = None
-low_of (TruthWord at b) = None
-low_of (Named x) = None
-low_of (LocalesWord at) = None
-low_of (LocaleCount at) = None
-low_of (HereWord at) = None
-low_of (Grouped from item upto) = None
-low_of (DomainLiteral from items upto) = None
-low_of (Prefixed at op e) = None
-low_of (Reduced at op word e) = None
-low_of (Chain e rest) = None
 low_of (Postfixed e posts) = posts_low posts (Postfixed e (front_of posts))
+low_of _ = None
 
 -- ---- the rank of what is mapped, where it is known
 abbrev pub owed_rank : Option ℕ → ℕ → Place → List Breach

@@ -55,11 +55,6 @@ pub data Takes : Type 0 where
 
 -- `+ - * / %` take ints, `< <= > >=` ints and give bool, `== !=` two ints or two bools, `&& ||` bools
 abbrev pub taken : Infix → Takes
-taken Add = Ints IntKind
-taken Subtract = Ints IntKind
-taken Multiply = Ints IntKind
-taken Divide = Ints IntKind
-taken Remainder = Ints IntKind
 taken Less = Ints BoolKind
 taken LessEqual = Ints BoolKind
 taken Greater = Ints BoolKind
@@ -68,6 +63,7 @@ taken Equal = Alike
 taken NotEqual = Alike
 taken And = Bools
 taken Or = Bools
+taken _ = Ints IntKind
 
 -- operands of these kinds, perhaps promoted
 abbrev pub between : Place → Kind → Kind → Kind → Option Operand → Option Operand → Verdict
@@ -156,15 +152,11 @@ locale_breaches last ps = if length ps == 1 then each_wanted is_int ps else brea
 
 -- square brackets index an array or the locales, or slice a range or a domain
 abbrev pub square_verdict : Place → Place → List Part → ValueType → Verdict
-square_verdict last from ps (Scalar k) = mistyped from
 square_verdict last from ps (Range strided) = slice_verdict last 1 ps (Range strided)
 square_verdict last from ps (Domain rank strided) = slice_verdict last rank ps (Domain rank strided)
 square_verdict last from ps (Array k over) = element_verdict last k over.rank ps
-square_verdict last from ps (Promoted k over) = mistyped from
-square_verdict last from ps (Tuple rank) = mistyped from
-square_verdict last from ps Locale = mistyped from
 square_verdict last from ps AllLocales = judged (all_known ps) (locale_breaches last ps) Locale
-square_verdict last from ps (Cell k) = mistyped from
+square_verdict last from ps _ = mistyped from
 
 -- round brackets index arrays only
 abbrev pub array_verdict : Place → Place → List Part → Option (Kind × Over) → Verdict
@@ -191,13 +183,10 @@ domain_over at (Some a) = Has (Domain a.1.rank a.1.strided)
 -- `low` and `lowBound` of a domain stand only as where a map starts, and are C3 here.
 abbrev pub word_verdict : Place → Word → ValueType → Verdict
 word_verdict at Size t = has_if (is_range t || is_domain t) an_int at
-word_verdict at First t = has_if (is_range t) an_int at
-word_verdict at Last t = has_if (is_range t) an_int at
-word_verdict at Low t = has_if (is_range t) an_int at
-word_verdict at High t = has_if (is_range t) an_int at
 word_verdict at LowBound t = mistyped at
 word_verdict at DomainOf t = domain_over at (array_of t)
 word_verdict at Id t = has_if (is_locale t) an_int at
+word_verdict at _ t = has_if (is_range t) an_int at
 
 -- `dim` counts a domain's dimensions from 0; C5 stands at its number
 abbrev pub dim_verdict : Place → Place → ℕ → Option (ℕ × Bool) → Verdict

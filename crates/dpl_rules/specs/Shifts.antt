@@ -68,12 +68,9 @@ with_shifts o (Some shifts) = (o, shifts) ∷ []
 
 abbrev pub shifts_in : Turns → List Origin → List Deed → List (Origin × List Shift)
 shifts_in loop written [] = []
-shifts_in loop written (Reads at d ∷ ds) = shifts_in loop written ds
 shifts_in loop written (ReadsAt at d is ∷ ds) =
     (if is_in d.origin written then [] else with_shifts d.origin (shifted_at loop is)) ++ shifts_in loop written ds
-shifts_in loop written (Writes at d op ∷ ds) = shifts_in loop written ds
-shifts_in loop written (WritesAt at d is op ∷ ds) = shifts_in loop written ds
-shifts_in loop written (Holds at h ∷ ds) = shifts_in loop written ds
+shifts_in loop written (_ ∷ ds) = shifts_in loop written ds
 
 abbrev pub shifted_reads : Turns → List Deed → List (Origin × List Shift)
 shifted_reads loop ds = shifts_in loop (written_arrays loop ds) ds

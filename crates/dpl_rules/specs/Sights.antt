@@ -61,10 +61,8 @@ is_outside depth d = nat_le d.origin.depth depth
 
 -- constants are not written; a loop's variable is one
 abbrev pub is_constant : Sort → Bool
-is_constant Configured = true
-is_constant Constant = true
 is_constant Variable = false
-is_constant LoopVariable = true
+is_constant _ = true
 
 -- the type that a name has, if it is known and has one
 abbrev pub type_declared : Option Declared → Option ValueType

@@ -42,9 +42,7 @@ is_value_of BoolKind text = bytes_eq text (codes "true") || bytes_eq text (codes
 
 abbrev pub is_configured : Sort → Bool
 is_configured Configured = true
-is_configured Constant = false
-is_configured Variable = false
-is_configured LoopVariable = false
+is_configured _ = false
 
 abbrev pub fits_kind : Option Kind → List ℕ → Bool
 fits_kind None text = false

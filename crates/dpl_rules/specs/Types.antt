@@ -40,9 +40,8 @@ a_bool = Scalar BoolKind
 -- ---- sameness
 abbrev pub same_kind : Kind → Kind → Bool
 same_kind IntKind IntKind = true
-same_kind IntKind BoolKind = false
-same_kind BoolKind IntKind = false
 same_kind BoolKind BoolKind = true
+same_kind _ _ = false
 
 abbrev pub same_origin : Origin → Origin → Bool
 same_origin a b = a.depth == b.depth && bytes_eq a.name b.name
@@ -51,94 +50,38 @@ same_origin a b = a.depth == b.depth && bytes_eq a.name b.name
 -- the kind of an int or a bool
 abbrev pub scalar_of : ValueType → Option Kind
 scalar_of (Scalar k) = Some k
-scalar_of (Range strided) = None
-scalar_of (Domain rank strided) = None
-scalar_of (Array k over) = None
-scalar_of (Promoted k over) = None
-scalar_of (Tuple rank) = None
-scalar_of Locale = None
-scalar_of AllLocales = None
-scalar_of (Cell k) = None
+scalar_of _ = None
 
 -- whether a range is strided
 abbrev pub range_of : ValueType → Option Bool
-range_of (Scalar k) = None
 range_of (Range strided) = Some strided
-range_of (Domain rank strided) = None
-range_of (Array k over) = None
-range_of (Promoted k over) = None
-range_of (Tuple rank) = None
-range_of Locale = None
-range_of AllLocales = None
-range_of (Cell k) = None
+range_of _ = None
 
 -- the rank of a domain and whether it is strided
 abbrev pub domain_of : ValueType → Option (ℕ × Bool)
-domain_of (Scalar k) = None
-domain_of (Range strided) = None
 domain_of (Domain rank strided) = Some (rank, strided)
-domain_of (Array k over) = None
-domain_of (Promoted k over) = None
-domain_of (Tuple rank) = None
-domain_of Locale = None
-domain_of AllLocales = None
-domain_of (Cell k) = None
+domain_of _ = None
 
 -- the kind of a whole array's elements, and what it is over; a promoted expression is no array
 abbrev pub array_of : ValueType → Option (Kind × Over)
-array_of (Scalar k) = None
-array_of (Range strided) = None
-array_of (Domain rank strided) = None
 array_of (Array k over) = Some (k, over)
-array_of (Promoted k over) = None
-array_of (Tuple rank) = None
-array_of Locale = None
-array_of AllLocales = None
-array_of (Cell k) = None
+array_of _ = None
 
 abbrev pub tuple_of : ValueType → Option ℕ
-tuple_of (Scalar k) = None
-tuple_of (Range strided) = None
-tuple_of (Domain rank strided) = None
-tuple_of (Array k over) = None
-tuple_of (Promoted k over) = None
 tuple_of (Tuple rank) = Some rank
-tuple_of Locale = None
-tuple_of AllLocales = None
-tuple_of (Cell k) = None
+tuple_of _ = None
 
 abbrev pub cell_of : ValueType → Option Kind
-cell_of (Scalar k) = None
-cell_of (Range strided) = None
-cell_of (Domain rank strided) = None
-cell_of (Array k over) = None
-cell_of (Promoted k over) = None
-cell_of (Tuple rank) = None
-cell_of Locale = None
-cell_of AllLocales = None
 cell_of (Cell k) = Some k
+cell_of _ = None
 
 abbrev pub is_locale : ValueType → Bool
-is_locale (Scalar k) = false
-is_locale (Range strided) = false
-is_locale (Domain rank strided) = false
-is_locale (Array k over) = false
-is_locale (Promoted k over) = false
-is_locale (Tuple rank) = false
 is_locale Locale = true
-is_locale AllLocales = false
-is_locale (Cell k) = false
+is_locale _ = false
 
 abbrev pub is_all_locales : ValueType → Bool
-is_all_locales (Scalar k) = false
-is_all_locales (Range strided) = false
-is_all_locales (Domain rank strided) = false
-is_all_locales (Array k over) = false
-is_all_locales (Promoted k over) = false
-is_all_locales (Tuple rank) = false
-is_all_locales Locale = false
 is_all_locales AllLocales = true
-is_all_locales (Cell k) = false
+is_all_locales _ = false
 
 abbrev pub is_any_scalar : ValueType → Bool
 is_any_scalar t = is_some (scalar_of t)
@@ -167,14 +110,9 @@ pub record Operand : Type 0 where
 
 abbrev pub operand_of : ValueType → Option Operand
 operand_of (Scalar k) = Some (record { kind = k; over = None })
-operand_of (Range strided) = None
-operand_of (Domain rank strided) = None
 operand_of (Array k over) = Some (record { kind = k; over = Some over })
 operand_of (Promoted k over) = Some (record { kind = k; over = Some over })
-operand_of (Tuple rank) = None
-operand_of Locale = None
-operand_of AllLocales = None
-operand_of (Cell k) = None
+operand_of _ = None
 
 -- ---- tests that a place for an expression makes
 abbrev pub is_kind : Kind → Option Kind → Bool
@@ -221,12 +159,6 @@ fits_array k over t = is_given k over (operand_of t)
 
 -- ---- operators of reductions: `&& ||` take bools, the others ints
 abbrev pub op_kind : Op → Kind
-op_kind Sum = IntKind
-op_kind Product = IntKind
 op_kind AllOf = BoolKind
 op_kind AnyOf = BoolKind
-op_kind BitAnd = IntKind
-op_kind BitOr = IntKind
-op_kind BitXor = IntKind
-op_kind Least = IntKind
-op_kind Greatest = IntKind
+op_kind _ = IntKind
