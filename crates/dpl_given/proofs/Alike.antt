@@ -7,9 +7,9 @@ use Rattle.std.proofs.lemmas.Slice.Eq.{bytes_eq-Decides}
 use Rattle.dpl_language.specs.Tree.{Kind, IntKind, BoolKind}
 use Rattle.dpl_language.specs.Values.{Value, Int, Truth}
 use Rattle.dpl_language.specs.Names.{Text, paired}
-use Rattle.dpl_rules.specs.Types.{ValueType, scalar_of}
+use Rattle.dpl_rules.specs.Types.{ValueType, scalar_of, has}
 use Rattle.dpl_rules.specs.Sights.{Declared, Scopes, lookup, type_declared}
-use Rattle.dpl_rules.specs.Sound.{is_number_text, is_value_of, is_configured, fits_kind, fits_type, fits_declared, name_and_value, is_one_of, set_fits, and_name, sets_fit}
+use Rattle.dpl_rules.specs.Sound.{is_number_text, is_value_of, is_configured, fits_type, fits_declared, name_and_value, is_one_of, set_fits, and_name, sets_fit}
 use Rattle.dpl_scopes.specs.Slots.{slot_in}
 use Rattle.dpl_says.specs.Given.{number_by, value_by, scalar_by, set_by, word_by, words_by}
 use Rattle.dpl_words.specs.Words.{LeafKind, IntLeaf, TruthLeaf, RangeLeaf, is_true, set_at, given_as}
@@ -45,7 +45,7 @@ value-word RangeLeaf j text e fits = absurd cc
 
 typed-value : (j : Kind) (text : List ℕ) (t : Option ValueType) → scalar_by t ≡ Some j → fits_type t text ≡ true → is_value_of j text ≡ true
 typed-value j text None e fits = absurd cc
-typed-value j text (Some t) e fits = sym (ap (λ o. fits_kind o text) e) ∙ fits
+typed-value j text (Some t) e fits = sym (ap (λ o. has {A = Kind} (λ k. is_value_of k text) o) e) ∙ fits
 
 declared-value : (j : Kind) (text : List ℕ) (o : Option Declared) → scalar_by (type_declared o) ≡ Some j → fits_declared o text ≡ true → is_value_of j text ≡ true
 declared-value j text None e fits = absurd cc

@@ -1,6 +1,6 @@
 -- The rules of assignments, of calls on cells, and of what is printed.
 -- A right side that doesn't fit is told by its first token after `=` and `reduce=`, and by the operator after the others.
-use Rattle.std.specs.Prelude.{Bool, true, false, ◌&&◌, ◌||◌, not, List, [], ◌∷◌, ◌++◌, Option, Some, None}
+use Rattle.std.specs.Prelude.{Bool, true, false, ◌&&◌, ◌||◌, not, if◌then◌else◌, List, [], ◌∷◌, ◌++◌, Option, Some, None}
 use Rattle.dpl_syntax.specs.declared.place.Place.{Place}
 use Rattle.dpl_language.specs.Tree.{Placed, Kind, IntKind, Assign, Set, SetAdd, SetSubtract, SetMultiply, SetDivide, SetRemainder, SetReduce, AssignTree, ExprTree, ItemTree, One, Exprs, TargetTree, Whole, Element, CallTree, ReadCall, ResetCall, WriteCall, ArgumentTree, TextArgument, ExprArgument}
 use Rattle.dpl_language.specs.Names.{Text}
@@ -8,7 +8,7 @@ use Rattle.dpl_language.specs.Phrases.{bare_name}
 use Rattle.dpl_rules.specs.Types.{ValueType, Scalar, Range, Domain, Array, Promoted, Tuple, Locale, AllLocales, Cell, same_kind, is_any_scalar, is_array, is_cell, has, is_locale, is_scalar, is_bool, is_domain_of, fits_array}
 use Rattle.dpl_syntax.specs.declared.refusal.Code.TheVariants.{UnknownName, WrongType, ConstantWritten, CellMisused}
 use Rattle.dpl_syntax.specs.declared.refusal.Breach.{Breach}
-use Rattle.dpl_rules.specs.Verdicts.{Part, part, Verdict, type_by, broken_by, breach, owed, owed_type, wanted, with_type}
+use Rattle.dpl_rules.specs.Verdicts.{Part, part, Verdict, type_by, broken_by, breach, owed, owed_type, wanted, where_given, with_type}
 use Rattle.dpl_rules.specs.Places.{first_of}
 use Rattle.dpl_rules.specs.Sights.{Declared, lookup, type_declared, is_constant, Reducing, is_reduced, Sight}
 use Rattle.dpl_rules.specs.Operators.{round_verdict}
@@ -45,8 +45,7 @@ change_breaches at side _ = breach at WrongType
 
 -- ---- an assignment to a target of some type; `reduce=` where it may stand gives a value of the variable's kind
 abbrev pub reduce_breaches : Place → Bool → Part → ValueType → List Breach
-reduce_breaches at false side t = breach at WrongType
-reduce_breaches at true side t = set_breaches at side t
+reduce_breaches at may_reduce side t = if may_reduce then set_breaches at side t else breach at WrongType
 
 abbrev pub fitting : AssignTree → Assign → Bool → Part → ValueType → List Breach
 fitting sign Set may_reduce side t = set_breaches sign.at side t
@@ -54,14 +53,12 @@ fitting sign SetReduce may_reduce side t = reduce_breaches sign.at may_reduce si
 fitting sign _ may_reduce side t = change_breaches sign.at side t
 
 abbrev pub fitting_target : AssignTree → Bool → Part → Option ValueType → List Breach
-fitting_target sign may_reduce side None = []
-fitting_target sign may_reduce side (Some t) = fitting sign sign.op may_reduce side t
+fitting_target sign may_reduce side t = where_given t (λ t. fitting sign sign.op may_reduce side t)
 
 -- `reduce=` stands only behind the bare name of a reduce variable of the forall around it
 abbrev pub may_reduce_in : Option Reducing → Option Declared → Bool
-may_reduce_in None d = false
-may_reduce_in (Some r) None = false
 may_reduce_in (Some r) (Some d) = is_reduced r d
+may_reduce_in _ _ = false
 
 -- ---- what `write` prints: texts, ints, bools, array names and, outside tasks, cell reads
 -- a bare name may be an array
@@ -80,8 +77,7 @@ call_word (ResetCall at from upto) = at
 call_word (WriteCall at w from e upto) = at
 
 abbrev pub argument_type : Place → Option ValueType → Option Kind → List Breach
-argument_type at t None = []
-argument_type at t (Some k) = owed_type (is_scalar k) at t
+argument_type at t k = where_given k (λ k. owed_type (is_scalar k) at t)
 
 module _ (sight : Sight) where
   -- an element that is written: only an array has some, and a cell is C12 already
@@ -100,10 +96,9 @@ module _ (sight : Sight) where
       ++ fitting_target sign false (side_part sight.scopes item) (type_by (element_of x from es))
 
   abbrev pub call_argument : Option Kind → CallTree Text → List Breach
-  call_argument k (ReadCall at w from upto) = []
-  call_argument k (ResetCall at from upto) = []
   call_argument k (WriteCall at w from e upto) =
       expr_breaches sight.scopes e ++ argument_type (first_of e) (type_of sight.scopes e) k
+  call_argument k _ = []
 
   abbrev pub call_breaches : Placed Text → CallTree Text → List Breach
   call_breaches x call =

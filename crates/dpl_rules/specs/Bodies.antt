@@ -6,7 +6,7 @@ use Rattle.dpl_language.specs.Names.{Text}
 use Rattle.dpl_rules.specs.Types.{Origin, same_origin, ValueType, is_any_scalar, is_domain, is_array, is_locale, has}
 use Rattle.dpl_syntax.specs.declared.refusal.Code.TheVariants.{WrittenElsewhere, ReadElsewhere, OuterChanged, NotInForall, NotInCoforall}
 use Rattle.dpl_syntax.specs.declared.refusal.Breach.{Breach}
-use Rattle.dpl_rules.specs.Verdicts.{owed}
+use Rattle.dpl_rules.specs.Verdicts.{owed, where_given}
 use Rattle.dpl_rules.specs.Sights.{Declared, Scopes, lookup, is_outside, Reducing, is_reduced}
 use Rattle.dpl_rules.specs.Loops.{variables_of, reducing_in}
 use Rattle.dpl_rules.specs.Deeds.{IndexPart, AtName, Shifted, Elsewhere, Holding, APrint, AForall, ACoforall, AReduction, AnInnerReduction, ACellCall, AnOn, AHere, ADeclaration, AReduceIntent, Deed, Reads, ReadsAt, Writes, WritesAt, Holds, is_whole_item, item_deeds}
@@ -167,8 +167,7 @@ element_read o (ReadsAt at d is) = owed (not (same_origin o d.origin)) at ReadEl
 element_read o _ = []
 
 abbrev pub whole_target : Option Declared → List Deed → List Breach
-whole_target None ds = []
-whole_target (Some d) ds = if has is_array d.type then each (element_read d.origin) ds else []
+whole_target d ds = where_given d (λ d. if has is_array d.type then each (element_read d.origin) ds else [])
 
 abbrev pub promoted_breaches : Scopes → TargetTree Text → ItemTree Text → List Breach
 promoted_breaches ss (Whole x) item =

@@ -20,15 +20,10 @@ use Rattle.dpl_rules.specs.Bodies.{turns_of, forall_breaches, task_breaches, inn
 -- ---- what a forall's and a coforall's body have in sight
 abbrev pub in_forall : Sight → VariablesTree Text → ItemTree Text → Option (WithTree Text) → Sight
 in_forall sight xs item intents =
-    record {
-      scopes = in_loop sight.scopes ForallWord xs item;
-      forall = Some (reducing_in sight.scopes intents);
-      in_task = sight.in_task;
-    }
+    record sight { scopes = in_loop sight.scopes ForallWord xs item; forall = Some (reducing_in sight.scopes intents) }
 
 abbrev pub in_coforall : Sight → VariablesTree Text → ItemTree Text → Sight
-in_coforall sight xs item =
-    record { scopes = in_loop sight.scopes CoforallWord xs item; forall = sight.forall; in_task = true }
+in_coforall sight xs item = record sight { scopes = in_loop sight.scopes CoforallWord xs item; in_task = true }
 
 -- ---- statements
 abbrev mutual

@@ -1,6 +1,6 @@
 -- The rules of declarations: the type that a declaration gives its name, and where it breaks a rule.
 -- A declared type and its initial value agree; a name whose declaration is refused has no type.
-use Rattle.std.specs.Prelude.{ℕ, nat_le, Bool, true, false, not, ◌&&◌, ◌||◌, if◌then◌else◌, List, [], ◌∷◌, ◌++◌, Option, Some, None}
+use Rattle.std.specs.Prelude.{ℕ, nat_le, Bool, true, false, not, ◌&&◌, ◌||◌, if◌then◌else◌, List, [], ◌∷◌, ◌++◌, option_and_then, Option, Some, None}
 use Rattle.dpl_syntax.specs.declared.place.Place.{Place}
 use Rattle.dpl_language.specs.Tree.{MappedTree, ArrayTypeTree, TypeTree, ScalarType, SyncType, DomainType, ArrayType, CreateTree, InitTree, ItemInit, CreateInit, InitialTree, DeclareTree}
 use Rattle.dpl_language.specs.Names.{Text}
@@ -9,7 +9,7 @@ use Rattle.dpl_language.specs.Declarations.{type_of as written_type}
 use Rattle.dpl_rules.specs.Types.{Origin, ValueType, Scalar, Range, Domain, Array, Promoted, Tuple, Locale, AllLocales, Cell, domain_of, is_any_scalar, is_range, is_domain, is_locale, has, is_scalar, is_domain_of, fits_array}
 use Rattle.dpl_syntax.specs.declared.refusal.Code.TheVariants.{NameTwice, WrongType, WrongRank}
 use Rattle.dpl_syntax.specs.declared.refusal.Breach.{Breach}
-use Rattle.dpl_rules.specs.Verdicts.{Part, type_by, broken_by, breach, owed, owed_type}
+use Rattle.dpl_rules.specs.Verdicts.{Part, type_by, broken_by, breach, owed, owed_type, wanted, where_given}
 use Rattle.dpl_rules.specs.Places.{first_of_item}
 use Rattle.dpl_rules.specs.Sights.{Sort, Configured, Constant, Variable, Declared, Scopes, lookup, declared_here, origin_in}
 use Rattle.dpl_rules.specs.Operators.{rank_or, over_verdict}
@@ -17,8 +17,7 @@ use Rattle.dpl_rules.specs.Expressions.{item_parts, items_breaches, side_part, s
 use Rattle.dpl_rules.specs.Maps.{mapped_breaches}
 
 abbrev pub domain_in : Option ValueType → Option (ℕ × Bool)
-domain_in None = None
-domain_in (Some t) = domain_of t
+domain_in t = option_and_then domain_of t
 
 -- the rank of a domain
 abbrev pub type_rank : Option ValueType → Option ℕ
@@ -39,13 +38,11 @@ is_kept t = is_any_scalar t || is_range t || is_domain t || is_locale t
 
 -- where a type is declared, an initial value that it doesn't take is told at that value's first token
 abbrev pub agreeing : Option ValueType → Part → List Breach
-agreeing None p = []
-agreeing (Some declared) p = owed_type (is_initial declared) p.at p.type
+agreeing declared p = where_given declared (λ declared. owed_type (is_initial declared) p.at p.type)
 
 -- beside a type no `dmapped` stands
 abbrev pub unmapped : Option (MappedTree Text) → List Breach
-unmapped None = []
-unmapped (Some m) = breach m.at WrongType
+unmapped mapped = where_given mapped (λ m. breach m.at WrongType)
 
 -- what is mapped is a domain, and what isn't may be kept
 abbrev pub is_untyped : Option (MappedTree Text) → ValueType → Bool
@@ -126,28 +123,23 @@ module _ (scopes : Scopes) where
   typed_breaches declared (CreateInit c) = create_breaches c ++ breach c.at WrongType
 
   abbrev pub typed_initial : Option ValueType → Option (InitialTree Text) → List Breach
-  typed_initial declared None = []
-  typed_initial declared (Some i) = typed_breaches declared i.init
+  typed_initial declared initial = where_given initial (λ i. typed_breaches declared i.init)
 
   abbrev pub untyped_initial : Option (InitialTree Text) → List Breach
-  untyped_initial None = []
-  untyped_initial (Some i) = untyped_breaches i.init
+  untyped_initial initial = where_given initial (λ i. untyped_breaches i.init)
 
   abbrev pub initial_type : Option (InitialTree Text) → Option ValueType
-  initial_type None = None
-  initial_type (Some i) = (init_part i.init).type
+  initial_type initial = option_and_then {T = InitialTree Text} {U = ValueType} (λ i. (init_part i.init).type) initial
 
   abbrev pub config_initial : Option (InitialTree Text) → List Breach
-  config_initial None = []
-  config_initial (Some i) = owed_type is_any_scalar (init_part i.init).at (init_part i.init).type
+  config_initial initial = where_given initial (λ i. wanted is_any_scalar (init_part i.init))
 
   abbrev pub config_by : Option (TypeTree Text) → Option (InitialTree Text) → List Breach
   config_by None initial = config_initial initial
   config_by (Some t) initial = config_type t
 
   abbrev pub config_breaches : Option Place → DeclareTree Text → List Breach
-  config_breaches None d = []
-  config_breaches (Some config) d = config_by (written_type d.typed) d.initial
+  config_breaches config d = where_given config (λ config. config_by (written_type d.typed) d.initial)
 
   -- ---- a declaration
   abbrev pub written_breaches : Origin → Option (TypeTree Text) → Option (InitialTree Text) → List Breach

@@ -1,11 +1,12 @@
 -- What expressions do that a loop around them may forbid: the names and elements that they read, and what they hold.
 -- Each name stands with the declaration that it stands for there; one that isn't known does nothing.
-use Rattle.std.specs.Prelude.{ℤ, neg_ℤ, Bool, true, false, ◌||◌, if◌then◌else◌, List, [], ◌∷◌, ◌++◌, Option, Some, None}
+use Rattle.std.specs.Prelude.{ℤ, neg_ℤ, Bool, true, false, ◌||◌, if◌then◌else◌, List, [], ◌∷◌, ◌++◌, unwrap_or, option_map, option_and_then, Option, Some, None}
 use Rattle.dpl_syntax.specs.declared.place.Place.{Place}
 use Rattle.dpl_language.specs.Tree.{Placed, Infix, Add, Subtract, Multiply, Divide, Remainder, Less, LessEqual, Greater, GreaterEqual, Equal, NotEqual, And, Or, Assign, ExprTree, Number, TruthWord, Named, LocalesWord, LocaleCount, HereWord, Grouped, DomainLiteral, Prefixed, Reduced, Chain, Postfixed, ItemTree, One, RangeItem, Stride, NoStride, By, Links, NoLinks, Link, Posts, NoPosts, Post, PostTree, Brackets, Rounds, Dotted, MethodTree, Plainly, Dim, Contains, Expand, CellRead, Items, FirstItem, MoreItems, NoItems, NextItem, Exprs, FirstExpr, MoreExprs, NoExprs, NextExpr}
 use Rattle.dpl_language.specs.Names.{Text}
 use Rattle.dpl_language.specs.Phrases.{Base, BaseName, BaseLocales, OtherBase, base_of, bare_name}
 use Rattle.dpl_rules.specs.Types.{is_array, is_cell, has}
+use Rattle.dpl_rules.specs.Verdicts.{where_given}
 use Rattle.dpl_rules.specs.Sights.{Declared, Scopes, lookup, type_declared}
 
 -- An index of an element, as far as the text tells it: a name, a name and what a number adds to it, or anything else.
@@ -54,16 +55,14 @@ added_by Subtract n = Some (neg_ℤ n)
 added_by _ n = None
 
 abbrev pub added : Infix → Option ℤ → Option ℤ
-added op None = None
-added op (Some n) = added_by op n
+added op n = option_and_then (added_by op) n
 
 abbrev pub shifted_by : Option Declared → Option ℤ → IndexPart
 shifted_by (Some d) (Some n) = Shifted d n
 shifted_by _ _ = Elsewhere
 
 abbrev pub at_name : Option Declared → IndexPart
-at_name None = Elsewhere
-at_name (Some d) = AtName d
+at_name d = unwrap_or (option_map AtName d) Elsewhere
 
 -- ---- a name before the first of what stands behind it
 -- an array before indices reads an element, and before a method nothing
@@ -84,8 +83,7 @@ cell_deeds at _ = []
 
 module _ (scopes : Scopes) where
   abbrev pub name_declared : Option (Placed Text) → Option Declared
-  name_declared None = None
-  name_declared (Some x) = lookup scopes x.name
+  name_declared x = option_and_then {T = Placed Text} {U = Declared} (λ x. lookup scopes x.name) x
 
   abbrev mutual
     pub index_of : ExprTree Text → IndexPart
@@ -137,8 +135,7 @@ module _ (scopes : Scopes) where
       else (if has is_cell d.type then cell_deeds at posts else Reads at d ∷ [])
 
   abbrev pub declared_deeds : Place → Posts Text → Option Declared → List Deed
-  declared_deeds at posts None = []
-  declared_deeds at posts (Some d) = name_deeds at d posts
+  declared_deeds at posts d = where_given d (λ d. name_deeds at d posts)
 
   -- what stands before brackets and dots: a name, perhaps in brackets itself, or an expression that does what it does
   abbrev pub base_deeds : Base Text → Posts Text → List Deed → List Deed

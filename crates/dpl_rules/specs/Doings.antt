@@ -9,6 +9,7 @@ use Rattle.dpl_language.specs.Phrases.{parts}
 use Rattle.dpl_language.specs.Declarations.{type_of as written_type}
 use Rattle.dpl_language.specs.Writing.{arguments_of}
 use Rattle.dpl_rules.specs.Types.{is_domain, is_cell, has}
+use Rattle.dpl_rules.specs.Verdicts.{where_given}
 use Rattle.dpl_rules.specs.Places.{first_of_declaration}
 use Rattle.dpl_rules.specs.Sights.{Declared, Scopes, lookup, type_declared, enter}
 use Rattle.dpl_rules.specs.Expressions.{item_type}
@@ -30,12 +31,10 @@ intents_deeds (ReduceIntent at op word x ∷ rest) = held at AReduceIntent ++ in
 intents_deeds (RefIntent at x ∷ rest) = intents_deeds rest
 
 abbrev pub with_deeds : Option (WithTree Text) → List Deed
-with_deeds None = []
-with_deeds (Some w) = intents_deeds (parts w.intents)
+with_deeds intents = where_given intents (λ w. intents_deeds (parts w.intents))
 
 abbrev pub written : Place → Option Declared → Assign → List Deed
-written at None op = []
-written at (Some d) op = Writes at d op ∷ []
+written at d op = where_given d (λ d. Writes at d op ∷ [])
 
 module _ (scopes : Scopes) where
   abbrev pub is_apart_init : Option (TypeTree Text) → InitTree Text → Bool
@@ -66,8 +65,7 @@ module _ (scopes : Scopes) where
   map_deeds (BlockCyclicMap m) = start_deeds m.start ++ start_deeds m.size
 
   abbrev pub mapped_deeds : Option (MappedTree Text) → List Deed
-  mapped_deeds None = []
-  mapped_deeds (Some m) = map_deeds m.map
+  mapped_deeds mapped = where_given mapped (λ m. map_deeds m.map)
 
   abbrev pub type_deeds : Option (TypeTree Text) → List Deed
   type_deeds None = []
@@ -81,8 +79,7 @@ module _ (scopes : Scopes) where
   init_deeds (CreateInit c) = items_deeds scopes false c.items
 
   abbrev pub initial_deeds : Option (InitialTree Text) → List Deed
-  initial_deeds None = []
-  initial_deeds (Some i) = init_deeds i.init
+  initial_deeds initial = where_given initial (λ i. init_deeds i.init)
 
   abbrev pub declaration_deeds : DeclareTree Text → List Deed
   declaration_deeds d =
@@ -90,8 +87,7 @@ module _ (scopes : Scopes) where
 
   -- ---- writes, calls and prints
   abbrev pub element_written : Place → Option Declared → Exprs Text → Assign → List Deed
-  element_written at None es op = []
-  element_written at (Some d) es op = WritesAt at d (exprs_index scopes es) op ∷ []
+  element_written at d es op = where_given d (λ d. WritesAt at d (exprs_index scopes es) op ∷ [])
 
   abbrev pub target_deeds : TargetTree Text → Assign → List Deed
   target_deeds (Whole x) op = written x.at (lookup scopes x.name) op
@@ -99,9 +95,8 @@ module _ (scopes : Scopes) where
       exprs_deeds scopes false es ++ element_written x.at (lookup scopes x.name) es op
 
   abbrev pub call_argument_deeds : CallTree Text → List Deed
-  call_argument_deeds (ReadCall at w from upto) = []
-  call_argument_deeds (ResetCall at from upto) = []
   call_argument_deeds (WriteCall at w from e upto) = expr_deeds scopes false e
+  call_argument_deeds _ = []
 
   abbrev pub call_deeds : Placed Text → CallTree Text → List Deed
   call_deeds x call =

@@ -1,6 +1,6 @@
 -- The types of expressions, and where they break the rules on names, types and ranks.
 -- A part's breaches are its own and those of its parts; each form's own come from the one verdict of its rule.
-use Rattle.std.specs.Prelude.{true, false, if◌then◌else◌, List, [], ◌∷◌, ◌++◌, Option, Some, None}
+use Rattle.std.specs.Prelude.{true, false, if◌then◌else◌, List, [], ◌∷◌, ◌++◌, is_some, option_map, option_and_then, Option, Some, None}
 use Rattle.dpl_syntax.specs.declared.place.Place.{Place}
 use Rattle.dpl_language.specs.Tree.{Kind, ExprTree, Number, TruthWord, Named, LocalesWord, LocaleCount, HereWord, Grouped, DomainLiteral, Prefixed, Reduced, Chain, Postfixed, ItemTree, One, RangeItem, Stride, NoStride, By, Links, NoLinks, Link, Posts, NoPosts, Post, PostTree, Brackets, Rounds, Dotted, MethodTree, Plainly, Dim, Contains, Expand, CellRead, Items, FirstItem, MoreItems, NoItems, NextItem, Exprs, FirstExpr, MoreExprs, NoExprs, NextExpr}
 use Rattle.dpl_language.specs.Names.{Text}
@@ -10,7 +10,7 @@ use Rattle.dpl_syntax.specs.declared.refusal.Code.TheVariants.{UnknownName, Wron
 use Rattle.dpl_syntax.specs.declared.refusal.Breach.{Breach}
 use Rattle.dpl_rules.specs.Verdicts.{Part, part, Verdict, Has, Breaks, type_by, broken_by, breach, mistyped, with_type}
 use Rattle.dpl_rules.specs.Places.{first_of, first_of_item, last_of, last_of_post}
-use Rattle.dpl_rules.specs.Sights.{Declared, Scopes, lookup, type_declared}
+use Rattle.dpl_rules.specs.Sights.{Declared, Scopes, or_else, lookup, type_declared}
 use Rattle.dpl_rules.specs.Operators.{prefix_verdict, reduction_verdict, infix_verdict, range_verdict, ranges_verdict, square_verdict, round_verdict, index_rank, word_verdict, dim_verdict, contains_verdict, expand_verdict}
 
 -- ---- names: known ones alone (C1), and no cell as a plain variable (C12)
@@ -28,25 +28,20 @@ module _ {N : Type 0} where
   bare_locales _ = None
 
 abbrev pub locales_or : Option Place → Option ValueType → Option ValueType
-locales_or None t = t
-locales_or (Some at) t = Some AllLocales
+locales_or at t = if is_some at then Some AllLocales else t
 
 abbrev pub none_where : Option Place → List Breach → List Breach
-none_where None bs = bs
-none_where (Some at) bs = []
+none_where at bs = if is_some at then [] else bs
 
 -- what a name's cell holds, where it is a cell; a read of it has that type, and breaks nothing
 abbrev pub cell_declared : Option ValueType → Option Kind
-cell_declared None = None
-cell_declared (Some t) = cell_of t
+cell_declared t = option_and_then cell_of t
 
 abbrev pub read_or_type : Option Kind → Option ValueType → Option ValueType
-read_or_type None t = t
-read_or_type (Some k) t = Some (Scalar k)
+read_or_type k t = or_else (option_map Scalar k) t
 
 abbrev pub read_or_breaches : Option Kind → List Breach → List Breach
-read_or_breaches None bs = bs
-read_or_breaches (Some k) bs = []
+read_or_breaches k bs = if is_some k then [] else bs
 
 -- ---- types
 module _ (scopes : Scopes) where
@@ -175,8 +170,8 @@ module _ (scopes : Scopes) where
 
   -- ---- right sides, which may be a cell read as a whole; it gives what the cell holds
   abbrev pub kind_read : Option (ReadTree Text) → Option Kind
-  kind_read None = None
-  kind_read (Some r) = cell_declared (type_declared (lookup scopes r.name.name))
+  kind_read r =
+      option_and_then {T = ReadTree Text} {U = Kind} (λ r. cell_declared (type_declared (lookup scopes r.name.name))) r
 
   abbrev pub side_part : ItemTree Text → Part
   side_part item = record { at = first_of_item item; type = read_or_type (kind_read (item_read item)) (item_type item) }

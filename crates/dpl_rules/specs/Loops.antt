@@ -9,7 +9,7 @@ use Rattle.dpl_language.specs.Phrases.{parts, intents_of}
 use Rattle.dpl_rules.specs.Types.{ValueType, Tuple, Locale, an_int, domain_of, is_range, is_domain, is_all_locales, is_cell, has, is_scalar, op_kind}
 use Rattle.dpl_syntax.specs.declared.refusal.Code.TheVariants.{UnknownName, NameTwice, WrongType, ConstantWritten, WrongRank, CellMisused}
 use Rattle.dpl_syntax.specs.declared.refusal.Breach.{Breach}
-use Rattle.dpl_rules.specs.Verdicts.{breach, owed, owed_type}
+use Rattle.dpl_rules.specs.Verdicts.{breach, owed, owed_type, where_given}
 use Rattle.dpl_rules.specs.Places.{first_of_item, first_of_variables}
 use Rattle.dpl_rules.specs.Sights.{LoopVariable, Declared, Scopes, lookup, declared_here, enter, add, origin_in, is_constant, Reducing}
 use Rattle.dpl_rules.specs.Expressions.{bare_locales, locales_or, none_where, item_type, item_breaches}
@@ -24,14 +24,12 @@ pub data LoopWord : Type 0 where
 
 -- a coforall runs over a range or `Locales`, a forall over a range or a domain, a `for` over all three
 abbrev pub over_domains : LoopWord → Bool
-over_domains ForWord = true
-over_domains ForallWord = true
 over_domains CoforallWord = false
+over_domains _ = true
 
 abbrev pub over_locales : LoopWord → Bool
-over_locales ForWord = true
 over_locales ForallWord = false
-over_locales CoforallWord = true
+over_locales _ = true
 
 abbrev pub runs_over : LoopWord → ValueType → Bool
 runs_over word t = is_range t || (over_domains word && is_domain t) || (over_locales word && is_all_locales t)
@@ -127,8 +125,7 @@ module _ (scopes : Scopes) where
       ++ intent_breaches (x.name ∷ before) rest
 
   abbrev pub with_breaches : Option (WithTree Text) → List Breach
-  with_breaches None = []
-  with_breaches (Some w) = intent_breaches [] (parts w.intents)
+  with_breaches intents = where_given intents (λ w. intent_breaches [] (parts w.intents))
 
   -- what a body has in sight: its own scope is inside that of the loop's variables
   abbrev pub in_loop : LoopWord → VariablesTree Text → ItemTree Text → Scopes

@@ -8,7 +8,7 @@ use Rattle.dpl_language.specs.Phrases.{parts}
 use Rattle.dpl_rules.specs.Types.{ValueType, domain_of, is_int}
 use Rattle.dpl_syntax.specs.declared.refusal.Code.TheVariants.{WrongType, WrongRank}
 use Rattle.dpl_syntax.specs.declared.refusal.Breach.{Breach}
-use Rattle.dpl_rules.specs.Verdicts.{breach, owed, owed_type}
+use Rattle.dpl_rules.specs.Verdicts.{breach, owed, owed_type, where_given}
 use Rattle.dpl_rules.specs.Places.{first_of, first_of_item}
 use Rattle.dpl_rules.specs.Sights.{Scopes}
 use Rattle.dpl_rules.specs.Expressions.{type_of, item_type, expr_breaches, item_breaches}
@@ -19,21 +19,9 @@ pub record LowTree : Type 0 where
   pub at : Place
   pub bound : Bool
 
-abbrev pub word_low : Word → Option Bool
-word_low Low = Some false
-word_low LowBound = Some true
-word_low _ = None
-
-abbrev pub low_by : Place → ExprTree Text → Option Bool → Option LowTree
-low_by at e None = None
-low_by at e (Some bound) = Some (record { of = e; at = at; bound = bound })
-
-abbrev pub method_low : MethodTree Text → ExprTree Text → Option LowTree
-method_low (Plainly at w) e = low_by at e (word_low w)
-method_low _ e = None
-
 abbrev pub post_low : PostTree Text → ExprTree Text → Option LowTree
-post_low (Dotted dot m) e = method_low m e
+post_low (Dotted dot (Plainly at Low)) e = Some (record { of = e; at = at; bound = false })
+post_low (Dotted dot (Plainly at LowBound)) e = Some (record { of = e; at = at; bound = true })
 post_low _ e = None
 
 -- all but the last, and the last
@@ -53,8 +41,7 @@ low_of _ = None
 
 -- ---- the rank of what is mapped, where it is known
 abbrev pub owed_rank : Option ℕ → ℕ → Place → List Breach
-owed_rank None n word = []
-owed_rank (Some rank) n word = owed (n == rank) word WrongRank
+owed_rank rank n word = where_given rank (λ rank. owed (n == rank) word WrongRank)
 
 -- a domain of that rank
 abbrev pub box_rank : Option ℕ → Place → Place → Option (ℕ × Bool) → List Breach
@@ -62,13 +49,11 @@ box_rank rank word at None = breach at WrongType
 box_rank rank word at (Some d) = owed_rank rank d.0 word
 
 abbrev pub box_of : Option ℕ → Place → Place → Option ValueType → List Breach
-box_of rank word at None = []
-box_of rank word at (Some t) = box_rank rank word at (domain_of t)
+box_of rank word at t = where_given t (λ t. box_rank rank word at (domain_of t))
 
 -- an int starts a map of rank 1
 abbrev pub int_start : Option ℕ → Place → Place → Option ValueType → List Breach
-int_start rank word at None = []
-int_start rank word at (Some t) = if is_int t then owed_rank rank 1 word else breach at WrongType
+int_start rank word at t = where_given t (λ t. if is_int t then owed_rank rank 1 word else breach at WrongType)
 
 module _ (scopes : Scopes) where
   -- a box is a domain of the rank
@@ -107,5 +92,4 @@ module _ (scopes : Scopes) where
   map_breaches rank (BlockCyclicMap m) = start_breaches rank m.word m.start ++ start_breaches rank m.word m.size
 
   abbrev pub mapped_breaches : Option ℕ → Option (MappedTree Text) → List Breach
-  mapped_breaches rank None = []
-  mapped_breaches rank (Some m) = map_breaches rank m.map
+  mapped_breaches rank mapped = where_given mapped (λ m. map_breaches rank m.map)

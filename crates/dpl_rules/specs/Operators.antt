@@ -1,12 +1,13 @@
 -- The rules of operators, indices, slices and methods: what each takes, and the type that it gives.
 -- C3 stands at the operator, the bracket or the method's name that doesn't take its operands or what is before it.
-use Rattle.std.specs.Prelude.{ℕ, nat_lt, ◌==◌, Bool, true, false, not, ◌&&◌, ◌||◌, if◌then◌else◌, List, [], ◌∷◌, ◌++◌, length, Option, Some, None}
+use Rattle.std.specs.Prelude.{ℕ, nat_lt, ◌==◌, Bool, true, false, not, ◌&&◌, ◌||◌, if◌then◌else◌, List, [], ◌∷◌, ◌++◌, length, option_map, Option, Some, None}
 use Rattle.dpl_syntax.specs.declared.place.Place.{Place}
 use Rattle.dpl_language.specs.Tree.{Kind, IntKind, BoolKind, Prefix, Minus, Not, Infix, Add, Subtract, Multiply, Divide, Remainder, Less, LessEqual, Greater, GreaterEqual, Equal, NotEqual, And, Or, Op, Word, Size, First, Last, Low, High, LowBound, DomainOf, Id}
 use Rattle.dpl_rules.specs.Types.{Over, ValueType, Scalar, Range, Domain, Array, Promoted, Tuple, Locale, AllLocales, Cell, an_int, a_bool, same_kind, domain_of, array_of, tuple_of, is_locale, is_range, is_domain, has, Operand, operand_of, agrees, is_int, is_bool, is_plain_range, op_kind}
 use Rattle.dpl_syntax.specs.declared.refusal.Code.TheVariants.{WrongType, WrongRank}
 use Rattle.dpl_syntax.specs.declared.refusal.Breach.{Breach}
-use Rattle.dpl_rules.specs.Verdicts.{Part, Verdict, Has, breach, owed, mistyped, misranked, has_if, judged, with_type, all_known, wanted, each_wanted}
+use Rattle.dpl_rules.specs.Verdicts.{Part, Verdict, Has, breach, owed, mistyped, misranked, has_if, judged, with_type, needs, where_given, all_known, wanted, each_wanted}
+use Rattle.dpl_rules.specs.Sights.{or_else}
 
 -- ---- operators
 -- what the operands of an operator give at each index of the whole arrays in them, or by themselves where there are none
@@ -20,28 +21,24 @@ prefix_kind Minus = IntKind
 prefix_kind Not = BoolKind
 
 abbrev pub prefixed : Place → Kind → Option Operand → Verdict
-prefixed at k None = mistyped at
-prefixed at k (Some o) = has_if (same_kind k o.kind) (over_arrays o.over k) at
+prefixed at k o = needs at o (λ o. has_if (same_kind k o.kind) (over_arrays o.over k) at)
 
 abbrev pub prefix_verdict : Place → Prefix → Option ValueType → Verdict
 prefix_verdict at op t = with_type t (λ t. prefixed at (prefix_kind op) (operand_of t))
 
 -- A reduction takes a whole array or a promoted expression, of bools for `&& ||` and of ints for the others.
 abbrev pub reduced_over : Place → Kind → Kind → Option Over → Verdict
-reduced_over at k l None = mistyped at
-reduced_over at k l (Some over) = has_if (same_kind k l) (Scalar k) at
+reduced_over at k l over = needs at over (λ over. has_if (same_kind k l) (Scalar k) at)
 
 abbrev pub reduced : Place → Kind → Option Operand → Verdict
-reduced at k None = mistyped at
-reduced at k (Some o) = reduced_over at k o.kind o.over
+reduced at k o = needs at o (λ o. reduced_over at k o.kind o.over)
 
 abbrev pub reduction_verdict : Place → Op → Option ValueType → Verdict
 reduction_verdict at op t = with_type t (λ t. reduced at (op_kind op) (operand_of t))
 
 -- what two operands are over together: the arrays in them are all of one index set
 abbrev pub over_both : Option Over → Option Over → Option Over
-over_both None other = other
-over_both (Some over) other = Some over
+over_both a b = or_else a b
 
 abbrev pub agree : Option Over → Option Over → Bool
 agree None other = true
@@ -67,15 +64,13 @@ taken _ = Ints IntKind
 
 -- operands of these kinds, perhaps promoted
 abbrev pub between : Place → Kind → Kind → Kind → Option Operand → Option Operand → Verdict
-between at left right result None b = mistyped at
-between at left right result (Some a) None = mistyped at
 between at left right result (Some a) (Some b) =
     has_if (same_kind left a.kind && same_kind right b.kind && agree a.over b.over) (over_arrays (over_both a.over b.over) result) at
+between at left right result _ _ = mistyped at
 
 -- operands of the same kind
 abbrev pub alike : Place → Option Operand → Option Operand → Verdict
-alike at None b = mistyped at
-alike at (Some a) b = between at a.kind a.kind BoolKind (Some a) b
+alike at a b = needs at a (λ o. between at o.kind o.kind BoolKind (Some o) b)
 
 abbrev pub both_bools : Place → ValueType → ValueType → Verdict
 both_bools at a b = has_if (is_bool a && is_bool b) a_bool at
@@ -125,8 +120,7 @@ single_breaches last rank at t (Some n) = owed (n == rank) last WrongRank
 single_breaches last rank at t None = if rank == 1 then owed (is_int t) at WrongType else breach last WrongRank
 
 abbrev pub single_index : Place → ℕ → Place → Option ValueType → List Breach
-single_index last rank at None = []
-single_index last rank at (Some t) = single_breaches last rank at t (tuple_of t)
+single_index last rank at t = where_given t (λ t. single_breaches last rank at t (tuple_of t))
 
 -- C5 stands at the last token before the opening bracket, and looks at the number of the parts alone
 abbrev pub index_breaches : Place → ℕ → List Part → List Breach
@@ -160,8 +154,7 @@ square_verdict last from ps _ = mistyped from
 
 -- round brackets index arrays only
 abbrev pub array_verdict : Place → Place → List Part → Option (Kind × Over) → Verdict
-array_verdict last from ps None = mistyped from
-array_verdict last from ps (Some a) = element_verdict last a.0 a.1.rank ps
+array_verdict last from ps a = needs from a (λ a. element_verdict last a.0 a.1.rank ps)
 
 abbrev pub round_verdict : Place → Place → List Part → ValueType → Verdict
 round_verdict last from ps t = array_verdict last from ps (array_of t)
@@ -169,15 +162,13 @@ round_verdict last from ps t = array_verdict last from ps (array_of t)
 -- ---- methods
 -- the rank of a range is 1
 abbrev pub rank_or : Option (ℕ × Bool) → Option ℕ
-rank_or None = None
-rank_or (Some d) = Some d.0
+rank_or d = option_map {T = ℕ × Bool} {U = ℕ} (λ d. d.0) d
 
 abbrev pub index_rank : ValueType → Option ℕ
 index_rank t = if is_range t then Some 1 else rank_or (domain_of t)
 
 abbrev pub domain_over : Place → Option (Kind × Over) → Verdict
-domain_over at None = mistyped at
-domain_over at (Some a) = Has (Domain a.1.rank a.1.strided)
+domain_over at a = needs at a (λ a. Has (Domain a.1.rank a.1.strided))
 
 -- `size` is a range's or a domain's, `first last low high` are a range's, `domain` is an array's and `id` a locale's.
 -- `low` and `lowBound` of a domain stand only as where a map starts, and are C3 here.
@@ -190,15 +181,13 @@ word_verdict at _ t = has_if (is_range t) an_int at
 
 -- `dim` counts a domain's dimensions from 0; C5 stands at its number
 abbrev pub dim_verdict : Place → Place → ℕ → Option (ℕ × Bool) → Verdict
-dim_verdict at rank_at d None = mistyped at
-dim_verdict at rank_at d (Some x) = if nat_lt d x.0 then Has (Range x.1) else misranked rank_at
+dim_verdict at rank_at d x = needs at x (λ x. if nat_lt d x.0 then Has (Range x.1) else misranked rank_at)
 
 -- `contains` is a range's or a domain's, and takes an index
 abbrev pub contains_verdict : Place → List Part → Option ℕ → Verdict
-contains_verdict at ps None = mistyped at
-contains_verdict at ps (Some rank) = judged (all_known ps) (index_breaches at rank ps) a_bool
+contains_verdict at ps rank = needs at rank (λ rank. judged (all_known ps) (index_breaches at rank ps) a_bool)
 
 -- `expand` is an unstrided domain's, and takes an int
 abbrev pub expand_verdict : Place → Part → Option (ℕ × Bool) → Verdict
-expand_verdict at p None = mistyped at
-expand_verdict at p (Some x) = judged (all_known (p ∷ [])) (owed (not x.1) at WrongType ++ wanted is_int p) (Domain x.0 false)
+expand_verdict at p x =
+    needs at x (λ x. judged (all_known (p ∷ [])) (owed (not x.1) at WrongType ++ wanted is_int p) (Domain x.0 false))

@@ -1,6 +1,6 @@
 -- What a place of a program has in sight: a list of scopes, the innermost first, each with its declarations.
 -- A name stands for its innermost declaration, from that declaration's end to the end of its scope.
-use Rattle.std.specs.Prelude.{ℕ, nat_le, Bool, true, false, ◌&&◌, bytes_eq, if◌then◌else◌, List, [], ◌∷◌, length, Option, Some, None, is_some}
+use Rattle.std.specs.Prelude.{ℕ, nat_le, Bool, true, false, ◌&&◌, bytes_eq, if◌then◌else◌, List, [], ◌∷◌, length, option_and_then, Option, Some, None, is_some}
 use Rattle.dpl_language.specs.Tree.{Op}
 use Rattle.dpl_language.specs.Names.{Text}
 use Rattle.dpl_rules.specs.Types.{Origin, ValueType}
@@ -29,9 +29,10 @@ abbrev pub find : Scope → Text → Option Declared
 find [] x = None
 find (d ∷ ds) x = if bytes_eq x d.origin.name then Some d else find ds x
 
-abbrev pub or_else : Option Declared → Option Declared → Option Declared
+-- the first of two that there is
+abbrev pub or_else : {A : Type 0} → Option A → Option A → Option A
 or_else None other = other
-or_else (Some d) other = Some d
+or_else (Some x) other = Some x
 
 -- the innermost declaration of a name
 abbrev pub lookup : Scopes → Text → Option Declared
@@ -66,8 +67,7 @@ is_constant _ = true
 
 -- the type that a name has, if it is known and has one
 abbrev pub type_declared : Option Declared → Option ValueType
-type_declared None = None
-type_declared (Some d) = d.type
+type_declared d = option_and_then {T = Declared} {U = ValueType} (λ d. d.type) d
 
 -- the reduce variables of a forall and their operators, and how many scopes are open around it
 pub record Reducing : Type 0 where

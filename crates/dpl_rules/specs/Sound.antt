@@ -1,11 +1,11 @@
 -- Sound programs, the values that the command line sets, and the refusal of a program that keeps the grammar.
 -- A set is told last, and at no place of the text.
-use Rattle.std.specs.Prelude.{◌≡◌, ℕ, suc, ◌==◌, nat_le, Bool, true, false, not, ◌&&◌, ◌||◌, bytes_eq, codes, if◌then◌else◌, List, [], ◌∷◌, Option, Some, None}
+use Rattle.std.specs.Prelude.{◌≡◌, ℕ, suc, ◌==◌, nat_le, Bool, true, false, not, ◌&&◌, ◌||◌, bytes_eq, codes, if◌then◌else◌, List, [], ◌∷◌, option_map, option_and_then, Option, Some, None}
 use Rattle.dpl_syntax.specs.Gaps.{all_are}
 use Rattle.dpl_syntax.specs.Text.{is_digit, value_after, greatest}
 use Rattle.dpl_language.specs.Tree.{Kind, IntKind, BoolKind, Stmts, NoStmts, Then, ProgramTree}
 use Rattle.dpl_language.specs.Names.{Text}
-use Rattle.dpl_rules.specs.Types.{ValueType, scalar_of}
+use Rattle.dpl_rules.specs.Types.{ValueType, scalar_of, has}
 use Rattle.dpl_syntax.specs.declared.refusal.Refusal.{Refusal}
 use Rattle.dpl_syntax.specs.declared.refusal.Code.TheVariants.{BadSet}
 use Rattle.dpl_syntax.specs.declared.refusal.Breach.{Breach}
@@ -18,14 +18,10 @@ abbrev pub IsSound : ProgramTree Text → Type 0
 IsSound t = breaches t ≡ []
 
 -- ---- sets: `name=value`, each of a `config const` of the program, none twice, with a value of its kind (C14)
-abbrev pub with_byte : ℕ → Option (Text × List ℕ) → Option (Text × List ℕ)
-with_byte c None = None
-with_byte c (Some p) = Some (c ∷ p.0, p.1)
-
 -- a word up to its first `=`, and behind it
 abbrev pub name_and_value : List ℕ → Option (Text × List ℕ)
 name_and_value [] = None
-name_and_value (c ∷ cs) = if c == 61 then Some ([], cs) else with_byte c (name_and_value cs)
+name_and_value (c ∷ cs) = if c == 61 then Some ([], cs) else option_map {T = Text × List ℕ} {U = Text × List ℕ} (λ p. (c ∷ p.0, p.1)) (name_and_value cs)
 
 -- an int: decimal digits that fit, with a minus or without
 abbrev pub is_decimal : ℕ → List ℕ → Bool
@@ -44,13 +40,8 @@ abbrev pub is_configured : Sort → Bool
 is_configured Configured = true
 is_configured _ = false
 
-abbrev pub fits_kind : Option Kind → List ℕ → Bool
-fits_kind None text = false
-fits_kind (Some k) text = is_value_of k text
-
 abbrev pub fits_type : Option ValueType → List ℕ → Bool
-fits_type None text = false
-fits_type (Some t) text = fits_kind (scalar_of t) text
+fits_type t text = has {A = Kind} (λ k. is_value_of k text) (option_and_then scalar_of t)
 
 abbrev pub fits_declared : Option Declared → List ℕ → Bool
 fits_declared None text = false
@@ -80,12 +71,8 @@ sets_fit ss earlier (word ∷ words) =
     set_fits ss earlier (name_and_value word) && sets_fit ss (and_name (name_and_value word) earlier) words
 
 -- ---- the refusal: the first breach, or else a set that doesn't fit
-abbrev pub set_refusal : Bool → Option Refusal
-set_refusal true = None
-set_refusal false = Some (record { code = BadSet; place = None })
-
 abbrev pub refusal_by : Option Breach → Bool → Option Refusal
-refusal_by None fit = set_refusal fit
+refusal_by None fit = if fit then None else Some (record { code = BadSet; place = None })
 refusal_by (Some b) fit = Some (record { code = b.code; place = Some b.at })
 
 abbrev pub refusal : ProgramTree Text → List (List ℕ) → Option Refusal

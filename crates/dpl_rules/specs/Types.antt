@@ -98,10 +98,10 @@ is_array t = is_some (array_of t)
 abbrev pub is_cell : ValueType → Bool
 is_cell t = is_some (cell_of t)
 
--- a name is of a type, where it has one
-abbrev pub has : (ValueType → Bool) → Option ValueType → Bool
+-- a test holds of what there is; of what a name's type is, where it has one
+abbrev pub has : {A : Type 0} → (A → Bool) → Option A → Bool
 has test None = false
-has test (Some t) = test t
+has test (Some x) = test x
 
 -- An operand of an operator: the kind of its value, or of its values at each index of whole arrays, and what these are over.
 pub record Operand : Type 0 where
@@ -115,12 +115,8 @@ operand_of (Promoted k over) = Some (record { kind = k; over = Some over })
 operand_of _ = None
 
 -- ---- tests that a place for an expression makes
-abbrev pub is_kind : Kind → Option Kind → Bool
-is_kind k None = false
-is_kind k (Some l) = same_kind k l
-
 abbrev pub is_scalar : Kind → ValueType → Bool
-is_scalar k t = is_kind k (scalar_of t)
+is_scalar k t = has (same_kind k) (scalar_of t)
 
 abbrev pub is_int : ValueType → Bool
 is_int = is_scalar IntKind
@@ -128,21 +124,13 @@ is_int = is_scalar IntKind
 abbrev pub is_bool : ValueType → Bool
 is_bool = is_scalar BoolKind
 
-abbrev pub is_unstrided : Option Bool → Bool
-is_unstrided None = false
-is_unstrided (Some strided) = not strided
-
 -- a range that the text doesn't stride
 abbrev pub is_plain_range : ValueType → Bool
-is_plain_range t = is_unstrided (range_of t)
+is_plain_range t = has not (range_of t)
 
 -- a domain of this rank; a strided one only where it may be
-abbrev pub is_ranked : ℕ → Bool → Option (ℕ × Bool) → Bool
-is_ranked rank may_stride None = false
-is_ranked rank may_stride (Some d) = d.0 == rank && (may_stride || not d.1)
-
 abbrev pub is_domain_of : ℕ → Bool → ValueType → Bool
-is_domain_of rank may_stride t = is_ranked rank may_stride (domain_of t)
+is_domain_of rank may_stride t = has {A = ℕ × Bool} (λ d. d.0 == rank && (may_stride || not d.1)) (domain_of t)
 
 -- the arrays of an operand, if it has some, have the index set of these
 abbrev pub agrees : Over → Option Over → Bool
@@ -150,12 +138,8 @@ agrees over None = true
 agrees over (Some other) = same_origin over.base other.base
 
 -- an int or a bool, or a promoted expression or a whole array, that each element of an array can be given
-abbrev pub is_given : Kind → Over → Option Operand → Bool
-is_given k over None = false
-is_given k over (Some o) = same_kind k o.kind && agrees over o.over
-
 abbrev pub fits_array : Kind → Over → ValueType → Bool
-fits_array k over t = is_given k over (operand_of t)
+fits_array k over t = has {A = Operand} (λ o. same_kind k o.kind && agrees over o.over) (operand_of t)
 
 -- ---- operators of reductions: `&& ||` take bools, the others ints
 abbrev pub op_kind : Op → Kind

@@ -65,15 +65,24 @@ abbrev pub with_type : Option ValueType → (ValueType → Verdict) → Verdict
 with_type None go = untold
 with_type (Some t) go = go t
 
+-- goes on with what a value has to be, which it is, or else is the wrong type at a token
+abbrev pub needs : {A : Type 0} → Place → Option A → (A → Verdict) → Verdict
+needs at None go = mistyped at
+needs at (Some x) go = go x
+
 -- ---- parts
 abbrev pub all_known : List Part → Bool
 all_known [] = true
 all_known (p ∷ ps) = is_some p.type && all_known ps
 
+-- what is told of what there is; nothing of what is missing
+abbrev pub where_given : {A B : Type 0} → Option A → (A → List B) → List B
+where_given None f = []
+where_given (Some x) f = f x
+
 -- a type that isn't taken is told at the part's first token
 abbrev pub owed_type : (ValueType → Bool) → Place → Option ValueType → List Breach
-owed_type test at None = []
-owed_type test at (Some t) = owed (test t) at WrongType
+owed_type test at t = where_given t (λ t. owed (test t) at WrongType)
 
 abbrev pub wanted : (ValueType → Bool) → Part → List Breach
 wanted test p = owed_type test p.at p.type

@@ -1,11 +1,12 @@
 -- What a test on a type tells where it breaks no rule: that it holds, and of a test on a kind which type it is; and which kinds
 -- types have for which tests hold.
 use Rattle.std.proofs.Common.{◌≡◌, inl, inr, ℕ, Bool, true, false, [], Option, Some, None, is_some, refl, sym, ap, ◌∙◌, subst}
+use Rattle.std.specs.Prelude.{◌==◌, ◌&&◌, ◌||◌, not}
 use Rattle.dpl_syntax.specs.declared.place.Place.{Place}
 use Rattle.dpl_syntax.specs.declared.refusal.Code.{Code}
 use Rattle.dpl_syntax.specs.declared.refusal.Code.TheVariants.{WrongType}
 use Rattle.dpl_language.specs.Tree.{Kind, IntKind, BoolKind}
-use Rattle.dpl_rules.specs.Types.{Over, ValueType, Scalar, Range, Domain, Array, Promoted, Tuple, Locale, AllLocales, Cell, same_kind, domain_of, is_any_scalar, is_domain, is_scalar, is_ranked, is_domain_of, agrees, fits_array}
+use Rattle.dpl_rules.specs.Types.{Over, ValueType, Scalar, Range, Domain, Array, Promoted, Tuple, Locale, AllLocales, Cell, same_kind, domain_of, is_any_scalar, is_domain, has, is_scalar, is_domain_of, agrees, fits_array}
 use Rattle.dpl_rules.specs.Verdicts.{owed, owed_type}
 use Rattle.dpl_words.specs.Words.{IntLeaf, TruthLeaf}
 use Rattle.dpl_sound.proofs.Given.{both_so}
@@ -67,12 +68,12 @@ is_domain-kind Locale k e h = absurd cc
 is_domain-kind AllLocales k e h = absurd cc
 is_domain-kind (Cell l) k e h = absurd cc
 
-ranked-some : (rank : ℕ) (may_stride : Bool) (o : Option (ℕ × Bool)) → is_ranked rank may_stride o ≡ true → is_some o ≡ true
-ranked-some rank may_stride None h = absurd cc
-ranked-some rank may_stride (Some d) h = refl
+has-some : {A : Type 0} (test : A → Bool) (o : Option A) → has test o ≡ true → is_some o ≡ true
+has-some test None h = absurd cc
+has-some test (Some x) h = refl
 
 pub is_domain_of-kind : (rank : ℕ) (may_stride : Bool) (t : ValueType) (k : VariableKind) → value_kind t ≡ Some k → is_domain_of rank may_stride t ≡ true → k ≡ DomainKind
-is_domain_of-kind rank may_stride t k e h = is_domain-kind t k e (ranked-some rank may_stride (domain_of t) h)
+is_domain_of-kind rank may_stride t k e h = is_domain-kind t k e (has-some {A = ℕ × Bool} (λ d. d.0 == rank && (may_stride || not d.1)) (domain_of t) h)
 
 -- ---- what is given
 -- of its own kind
