@@ -8,7 +8,7 @@ use Rattle.dpl_language.specs.Names.{Text}
 use Rattle.dpl_rules.specs.Types.{Origin, has}
 use Rattle.dpl_rules.specs.Sights.{Declared, Scopes, enter, is_reduced}
 use Rattle.dpl_rules.specs.Loops.{ForWord, ForallWord, CoforallWord, in_loop, behind}
-use Rattle.dpl_rules.specs.Deeds.{IndexPart, Holding, APrint, AForall, ACoforall, AReduction, AnInnerReduction, ACellCall, AnOn, AHere, ADeclaration, AReduceIntent, Deed, Reads, ReadsAt, Writes, WritesAt, Holds}
+use Rattle.dpl_rules.specs.Deeds.{IndexPart, Holding, AReduceIntent, Deed, Reads, ReadsAt, Writes, WritesAt, Holds}
 use Rattle.dpl_rules.specs.Doings.{body_deeds}
 use Rattle.dpl_rules.specs.Bodies.{Turns, turns_of, is_outer, is_outer_array, is_own, is_in, written_arrays, is_scalar_or_domain, goes_on_in}
 

@@ -2,7 +2,7 @@
 -- A right side that doesn't fit is told by its first token after `=` and `reduce=`, and by the operator after the others.
 use Rattle.std.specs.Prelude.{Bool, true, false, ◌&&◌, ◌||◌, not, if◌then◌else◌, List, [], ◌∷◌, ◌++◌, Option, Some, None}
 use Rattle.dpl_syntax.specs.declared.place.Place.{Place}
-use Rattle.dpl_language.specs.Tree.{Placed, Kind, IntKind, Assign, Set, SetAdd, SetSubtract, SetMultiply, SetDivide, SetRemainder, SetReduce, AssignTree, ExprTree, ItemTree, One, Exprs, TargetTree, Whole, Element, CallTree, ReadCall, ResetCall, WriteCall, ArgumentTree, TextArgument, ExprArgument}
+use Rattle.dpl_language.specs.Tree.{Placed, Kind, IntKind, Assign, Set, SetReduce, AssignTree, ExprTree, ItemTree, One, Exprs, TargetTree, Whole, Element, CallTree, ReadCall, ResetCall, WriteCall, ArgumentTree, TextArgument, ExprArgument}
 use Rattle.dpl_language.specs.Names.{Text}
 use Rattle.dpl_language.specs.Phrases.{bare_name}
 use Rattle.dpl_rules.specs.Types.{ValueType, Scalar, Range, Domain, Array, Promoted, Tuple, Locale, AllLocales, Cell, same_kind, is_any_scalar, is_array, is_cell, has, is_locale, is_scalar, is_bool, is_domain_of, fits_array}

@@ -1,7 +1,7 @@
 -- The rules on what the body of a forall or of a coforall does, C6 to C10, one function a rule; and C7 and C9 elsewhere.
 -- Outer is what is declared outside the loop, its variables not among it.
-use Rattle.std.specs.Prelude.{ℕ, ◌+◌, ◌==◌, Bool, true, false, not, ◌&&◌, ◌||◌, bytes_eq, if◌then◌else◌, List, [], ◌∷◌, ◌++◌, map, Option, Some, None}
-use Rattle.dpl_language.specs.Tree.{Placed, VariablesTree, WithTree, Op, Sum, Product, AllOf, AnyOf, BitAnd, BitOr, BitXor, Least, Greatest, Assign, Set, SetAdd, SetSubtract, SetMultiply, SetDivide, SetRemainder, SetReduce, ItemTree, TargetTree, Whole, Element}
+use Rattle.std.specs.Prelude.{ℕ, ◌+◌, ◌==◌, Bool, true, false, not, ◌&&◌, ◌||◌, bytes_eq, if◌then◌else◌, List, [], ◌∷◌, ◌++◌, map, Option}
+use Rattle.dpl_language.specs.Tree.{Placed, VariablesTree, WithTree, Op, Sum, Product, Assign, SetAdd, SetMultiply, SetReduce, ItemTree, TargetTree, Whole, Element}
 use Rattle.dpl_language.specs.Names.{Text}
 use Rattle.dpl_rules.specs.Types.{Origin, same_origin, ValueType, is_any_scalar, is_domain, is_array, is_locale, has}
 use Rattle.dpl_syntax.specs.declared.refusal.Code.TheVariants.{WrittenElsewhere, ReadElsewhere, OuterChanged, NotInForall, NotInCoforall}
@@ -9,7 +9,7 @@ use Rattle.dpl_syntax.specs.declared.refusal.Breach.{Breach}
 use Rattle.dpl_rules.specs.Verdicts.{owed, where_given}
 use Rattle.dpl_rules.specs.Sights.{Declared, Scopes, lookup, is_outside, Reducing, is_reduced}
 use Rattle.dpl_rules.specs.Loops.{variables_of, reducing_in}
-use Rattle.dpl_rules.specs.Deeds.{IndexPart, AtName, Shifted, Elsewhere, Holding, APrint, AForall, ACoforall, AReduction, AnInnerReduction, ACellCall, AnOn, AHere, ADeclaration, AReduceIntent, Deed, Reads, ReadsAt, Writes, WritesAt, Holds, is_whole_item, item_deeds}
+use Rattle.dpl_rules.specs.Deeds.{IndexPart, AtName, Holding, AnInnerReduction, ACellCall, AnOn, AHere, AReduceIntent, Deed, Reads, ReadsAt, Writes, WritesAt, Holds, is_whole_item, item_deeds}
 
 -- a forall as its body's rules see it: its variables, its reduce variables, and how many scopes are open around it
 pub record Turns : Type 0 where

@@ -6,7 +6,7 @@ use Rattle.dpl_language.specs.Tree.{MappedTree, ArrayTypeTree, TypeTree, ScalarT
 use Rattle.dpl_language.specs.Names.{Text}
 use Rattle.dpl_language.specs.Phrases.{declared_over}
 use Rattle.dpl_language.specs.Declarations.{type_of as written_type}
-use Rattle.dpl_rules.specs.Types.{Origin, ValueType, Scalar, Range, Domain, Array, Promoted, Tuple, Locale, AllLocales, Cell, domain_of, is_any_scalar, is_range, is_domain, is_locale, has, is_scalar, is_domain_of, fits_array}
+use Rattle.dpl_rules.specs.Types.{Origin, ValueType, Scalar, Domain, Array, Cell, domain_of, is_any_scalar, is_range, is_domain, is_locale, has, is_scalar, is_domain_of, fits_array}
 use Rattle.dpl_syntax.specs.declared.refusal.Code.TheVariants.{NameTwice, WrongType, WrongRank}
 use Rattle.dpl_syntax.specs.declared.refusal.Breach.{Breach}
 use Rattle.dpl_rules.specs.Verdicts.{Part, type_by, broken_by, breach, owed, owed_type, wanted, where_given}

@@ -3,7 +3,7 @@
 use Rattle.std.specs.Prelude.{ℕ, ◌==◌, Bool, true, false, not, ◌&&◌, ◌||◌, bytes_eq, if◌then◌else◌, List, [], ◌∷◌, ◌++◌, length, unwrap_or, Option, Some, None}
 use Rattle.dpl_syntax.specs.declared.place.Place.{Place}
 use Rattle.dpl_language.specs.Tree.{Placed, Op, ItemTree, One, RangeItem, VariablesTree, OneVariable, ManyVariables, IntentTree, ReduceIntent, RefIntent, WithTree}
-use Rattle.dpl_language.specs.Tree.{StmtTree, Nothing, Declare, Assigned, Call, Write, Block, If, While, For, Forall, Coforall, On}
+use Rattle.dpl_language.specs.Tree.{StmtTree, Declare}
 use Rattle.dpl_language.specs.Names.{Text}
 use Rattle.dpl_language.specs.Phrases.{parts, intents_of}
 use Rattle.dpl_rules.specs.Types.{ValueType, Tuple, Locale, an_int, domain_of, is_range, is_domain, is_all_locales, is_cell, has, is_scalar, op_kind}

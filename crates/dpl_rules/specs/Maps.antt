@@ -2,7 +2,7 @@
 -- C5 stands at the word of the map, before its opening bracket; where the domain has no type, its rank isn't asked.
 use Rattle.std.specs.Prelude.{ℕ, ◌==◌, Bool, true, false, not, ◌&&◌, if◌then◌else◌, List, [], ◌∷◌, ◌++◌, length, Option, Some, None}
 use Rattle.dpl_syntax.specs.declared.place.Place.{Place}
-use Rattle.dpl_language.specs.Tree.{ExprTree, Number, TruthWord, Named, LocalesWord, LocaleCount, HereWord, Grouped, DomainLiteral, Prefixed, Reduced, Chain, Postfixed, ItemTree, Posts, NoPosts, Post, PostTree, Brackets, Rounds, Dotted, MethodTree, Plainly, Dim, Contains, Expand, CellRead, Word, Size, First, Last, Low, High, LowBound, DomainOf, Id, StartTree, StartExpr, StartTuple, MapTree, BlockMap, CyclicMap, BlockCyclicMap, MappedTree}
+use Rattle.dpl_language.specs.Tree.{ExprTree, Postfixed, ItemTree, Posts, NoPosts, Post, PostTree, Dotted, Plainly, Low, LowBound, StartTree, StartExpr, StartTuple, MapTree, BlockMap, CyclicMap, BlockCyclicMap, MappedTree}
 use Rattle.dpl_language.specs.Names.{Text}
 use Rattle.dpl_language.specs.Phrases.{parts}
 use Rattle.dpl_rules.specs.Types.{ValueType, domain_of, is_int}

@@ -2,8 +2,8 @@
 -- C3 stands at the operator, the bracket or the method's name that doesn't take its operands or what is before it.
 use Rattle.std.specs.Prelude.{ℕ, nat_lt, ◌==◌, Bool, true, false, not, ◌&&◌, ◌||◌, if◌then◌else◌, List, [], ◌∷◌, ◌++◌, length, option_map, Option, Some, None}
 use Rattle.dpl_syntax.specs.declared.place.Place.{Place}
-use Rattle.dpl_language.specs.Tree.{Kind, IntKind, BoolKind, Prefix, Minus, Not, Infix, Add, Subtract, Multiply, Divide, Remainder, Less, LessEqual, Greater, GreaterEqual, Equal, NotEqual, And, Or, Op, Word, Size, First, Last, Low, High, LowBound, DomainOf, Id}
-use Rattle.dpl_rules.specs.Types.{Over, ValueType, Scalar, Range, Domain, Array, Promoted, Tuple, Locale, AllLocales, Cell, an_int, a_bool, same_kind, domain_of, array_of, tuple_of, is_locale, is_range, is_domain, has, Operand, operand_of, agrees, is_int, is_bool, is_plain_range, op_kind}
+use Rattle.dpl_language.specs.Tree.{Kind, IntKind, BoolKind, Prefix, Minus, Not, Infix, Less, LessEqual, Greater, GreaterEqual, Equal, NotEqual, And, Or, Op, Word, Size, LowBound, DomainOf, Id}
+use Rattle.dpl_rules.specs.Types.{Over, ValueType, Scalar, Range, Domain, Array, Promoted, Locale, AllLocales, an_int, a_bool, same_kind, domain_of, array_of, tuple_of, is_locale, is_range, is_domain, has, Operand, operand_of, agrees, is_int, is_bool, is_plain_range, op_kind}
 use Rattle.dpl_syntax.specs.declared.refusal.Code.TheVariants.{WrongType, WrongRank}
 use Rattle.dpl_syntax.specs.declared.refusal.Breach.{Breach}
 use Rattle.dpl_rules.specs.Verdicts.{Part, Verdict, Has, breach, owed, mistyped, misranked, has_if, judged, with_type, needs, where_given, all_known, wanted, each_wanted}

@@ -5,7 +5,7 @@ use Rattle.std.specs.Prelude.{ℕ, zero, suc, ℤ, pos, if◌then◌else◌, Lis
 use Rattle.dpl_language.specs.Names.{Text}
 use Rattle.dpl_rules.specs.Types.{Origin, ValueType, tuple_of}
 use Rattle.dpl_rules.specs.Sights.{Declared}
-use Rattle.dpl_rules.specs.Deeds.{IndexPart, AtName, Shifted, Elsewhere, Deed, Reads, ReadsAt, Writes, WritesAt, Holds}
+use Rattle.dpl_rules.specs.Deeds.{IndexPart, AtName, Shifted, Elsewhere, Deed, ReadsAt}
 use Rattle.dpl_rules.specs.Bodies.{Turns, is_variable, is_in, written_arrays}
 
 -- one index of a shifted read: which coordinate of the turn's index it takes, counted from 0, and what it adds

@@ -9,7 +9,7 @@ use Rattle.dpl_rules.specs.Types.{ValueType, scalar_of, has}
 use Rattle.dpl_syntax.specs.declared.refusal.Refusal.{Refusal}
 use Rattle.dpl_syntax.specs.declared.refusal.Code.TheVariants.{BadSet}
 use Rattle.dpl_syntax.specs.declared.refusal.Breach.{Breach}
-use Rattle.dpl_rules.specs.Sights.{Sort, Configured, Constant, Variable, LoopVariable, Declared, Scopes, lookup}
+use Rattle.dpl_rules.specs.Sights.{Sort, Configured, Declared, Scopes, lookup}
 use Rattle.dpl_rules.specs.Loops.{behind}
 use Rattle.dpl_rules.specs.Breaches.{top, breaches, first_breach}
 

@@ -1,7 +1,7 @@
 -- The types of names and expressions, and which types the operators take.
 -- A name that isn't known, or whose declaration was refused, has no type; nor has an expression over one.
 use Rattle.std.specs.Prelude.{ℕ, ◌==◌, Bool, true, false, ◌&&◌, ◌||◌, not, bytes_eq, Option, Some, None, is_some}
-use Rattle.dpl_language.specs.Tree.{Kind, IntKind, BoolKind, Op, Sum, Product, AllOf, AnyOf, BitAnd, BitOr, BitXor, Least, Greatest}
+use Rattle.dpl_language.specs.Tree.{Kind, IntKind, BoolKind, Op, AllOf, AnyOf}
 use Rattle.dpl_language.specs.Names.{Text}
 
 -- Which declaration a name stands for: its name, and how many scopes are open where it stands, counting its own.
