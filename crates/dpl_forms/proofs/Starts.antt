@@ -18,7 +18,7 @@ use Rattle.dpl_rules.specs.Places.{first_of, last_of, last_of_post, last_of_post
 use Rattle.dpl_rules.specs.Sights.{Scopes}
 use Rattle.dpl_rules.specs.Expressions.{bare_locales, locales_or, none_where, type_of, expr_breaches, posts_type, posts_breaches, post_verdict, post_breaches}
 use Rattle.dpl_rules.specs.Declarations.{domain_in}
-use Rattle.dpl_rules.specs.Maps.{LowTree, post_low, posts_low, front_of, low_of, owed_rank, int_start, plain_start, typed_start, int_breaches}
+use Rattle.dpl_rules.specs.Maps.{LowTree, post_low, posts_low, front_of, low_of, int_start, plain_start, domain_start, int_breaches}
 use Rattle.dpl_rules.specs.Breaches.{least_from}
 use Rattle.dpl_types.proofs.Breaches.{least_from_append}
 use Rattle.dpl_forms.specs.Starts.{low_told, int_told, exprs_in}
@@ -44,20 +44,13 @@ module _ (scopes : Scopes) where
       ∙ sym (append_assoc (post_breaches scopes (post_view y) ++ broken_by v) (posts_breaches scopes (last_of_post (post_view y)) (type_by v) (posts_of xs)) _)
 
   -- a domain before `low`
-  pub typed_start_domain : (rank : Option ℕ) (word : Place) (e : ExprTree Text) (l : LowTree) (t : Option ValueType) (d : ℕ × Bool) → domain_in t ≡ Some d → (o : Option Breach) →
-      least_from o (typed_start scopes rank word e l t) ≡ least_from (least_from o (expr_breaches scopes l.of)) (low_told rank word d.0 d.1 l.at l.bound)
-  typed_start_domain rank word e l None d h o = absurd (none-some d h)
-  typed_start_domain rank word e l (Some t) d h o =
-      rw h (
-      ap (least_from o) (append_assoc (expr_breaches scopes l.of) (owed_rank rank d.0 word) _)
-      ∙ least_from_append o (expr_breaches scopes l.of) (low_told rank word d.0 d.1 l.at l.bound)
-      )
+  pub domain_start_some : (rank : Option ℕ) (word : Place) (e : ExprTree Text) (l : LowTree) (o : Option (ℕ × Bool)) (d : ℕ × Bool) → o ≡ Some d → (b : Option Breach) →
+      least_from b (domain_start scopes rank word e l o) ≡ least_from (least_from b (expr_breaches scopes l.of)) (low_told rank word d.0 d.1 l.at l.bound)
+  domain_start_some rank word e l o d h b = rw h (least_from_append b (expr_breaches scopes l.of) (low_told rank word d.0 d.1 l.at l.bound))
 
   -- anything else before it
-  pub typed_start_plain : (rank : Option ℕ) (word : Place) (e : ExprTree Text) (l : LowTree) (t : Option ValueType) → domain_in t ≡ None →
-      typed_start scopes rank word e l t ≡ plain_start scopes rank word e
-  typed_start_plain rank word e l None h = refl
-  typed_start_plain rank word e l (Some t) h = rw h refl
+  pub domain_start_none : (rank : Option ℕ) (word : Place) (e : ExprTree Text) (l : LowTree) (o : Option (ℕ × Bool)) → o ≡ None → domain_start scopes rank word e l o ≡ plain_start scopes rank word e
+  domain_start_none rank word e l o h = rw h refl
 
   -- an expression by what stands before the last behind its base
   pub plain_start_push : (rank : Option ℕ) (word : Place) (e : ExprTree Text) (xs : List PostNode) (x : PostNode) (o : Option Breach) →

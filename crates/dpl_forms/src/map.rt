@@ -138,8 +138,7 @@ fn low_end(post: &Post<'_>) -> Option<(Place, bool)>
     }
 }
 
-// A domain, as `X` of `X.low`, or of `X.lowBound` where it is unstrided.
-#[tactic(auto, using(dpl_types::proofs::Breaches::least_from_append))]
+// A domain of the rank, as `X` of `X.low`, or of `X.lowBound` where it is unstrided. A refused part has no rank.
 fn low_of_domain(
     rank: Option<usize>,
     word: Place,
@@ -149,8 +148,11 @@ fn low_of_domain(
 )
     ensures { first.new ≡ least_from first.old (low_told rank word domain.0 domain.1 low.0 low.1) }
 {
-    owed_rank(rank, domain.0, word, first);
-    owed(!(low.1 && domain.1), low.0, Code::WrongType, first);
+    if low.1 && domain.1 {
+        note(first, low.0, Code::WrongType);
+    } else {
+        owed_rank(rank, domain.0, word, first);
+    }
 }
 
 // The type of what stands before the last behind a base.

@@ -1,6 +1,6 @@
 -- The rules of maps: what may stand behind `dmapped`, beside a domain of some rank.
 -- C5 stands at the word of the map, before its opening bracket; where the domain has no type, its rank isn't asked.
-use Rattle.std.specs.Prelude.{ℕ, ◌==◌, Bool, true, false, not, ◌&&◌, if◌then◌else◌, List, [], ◌∷◌, ◌++◌, length, Option, Some, None}
+use Rattle.std.specs.Prelude.{ℕ, ◌==◌, Bool, true, false, ◌&&◌, if◌then◌else◌, List, [], ◌∷◌, ◌++◌, length, option_and_then, Option, Some, None}
 use Rattle.dpl_syntax.specs.declared.place.Place.{Place}
 use Rattle.dpl_language.specs.Tree.{ExprTree, Postfixed, ItemTree, Posts, NoPosts, Post, PostTree, Dotted, Plainly, Low, LowBound, StartTree, StartExpr, StartTuple, MapTree, BlockMap, CyclicMap, BlockCyclicMap, MappedTree}
 use Rattle.dpl_language.specs.Names.{Text}
@@ -67,15 +67,11 @@ module _ (scopes : Scopes) where
   abbrev pub domain_start : Option ℕ → Place → ExprTree Text → LowTree → Option (ℕ × Bool) → List Breach
   domain_start rank word e l None = plain_start rank word e
   domain_start rank word e l (Some d) =
-      expr_breaches scopes l.of ++ owed_rank rank d.0 word ++ owed (not (l.bound && d.1)) l.at WrongType
-
-  abbrev pub typed_start : Option ℕ → Place → ExprTree Text → LowTree → Option ValueType → List Breach
-  typed_start rank word e l None = plain_start rank word e
-  typed_start rank word e l (Some t) = domain_start rank word e l (domain_of t)
+      expr_breaches scopes l.of ++ (if l.bound && d.1 then breach l.at WrongType else owed_rank rank d.0 word)
 
   abbrev pub low_start : Option ℕ → Place → ExprTree Text → Option LowTree → List Breach
   low_start rank word e None = plain_start rank word e
-  low_start rank word e (Some l) = typed_start rank word e l (type_of scopes l.of)
+  low_start rank word e (Some l) = domain_start rank word e l (option_and_then domain_of (type_of scopes l.of))
 
   -- a tuple of ints, as many as the rank
   abbrev pub int_breaches : List (ExprTree Text) → List Breach

@@ -129,3 +129,12 @@ four_ranges = refl
 pair_starts_rank_1 : in_house (codes "const x = D dmapped new cyclicDist(startIdx=(1, 2));") ≡ told 2 25 WrongRank
 unfolding by_text
 pair_starts_rank_1 = refl
+
+low_of_rank_1_starts_rank_2 : in_house (codes "const x = E dmapped new cyclicDist(startIdx=S.low);") ≡ told 2 25 WrongRank
+unfolding by_text
+low_of_rank_1_starts_rank_2 = refl
+
+-- ---- a refused part has no rank
+bound_of_a_strided_domain : in_house (codes "const x = E dmapped new cyclicDist(startIdx=S.lowBound);") ≡ told 2 47 WrongType
+unfolding by_text
+bound_of_a_strided_domain = refl

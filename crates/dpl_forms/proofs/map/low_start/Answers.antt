@@ -9,7 +9,7 @@ use Rattle.dpl_rules.specs.Declarations.{domain_in}
 use Rattle.dpl_rules.specs.Maps.{int_start}
 use Rattle.dpl_scopes.specs.Types.{of_type}
 use Rattle.dpl_forms.specs.Starts.{low_at, low_told}
-use Rattle.dpl_forms.proofs.Starts.{typed_start_domain, typed_start_plain, plain_start_push}
+use Rattle.dpl_forms.proofs.Starts.{domain_start_some, domain_start_none, plain_start_push}
 use Rattle.dpl_forms.proofs.map.low_start.Goals as goal
 
 pub returns-in-Some : goal.returns-in-Some
@@ -20,7 +20,7 @@ returns-in-Some c =
     let d = c.in-Some.domain in
     c.low_of_domain.ensures
     ∙ ap (λ o. least_from o (low_told c.args.rank c.args.word d.0 d.1 c.args.ends.low.0 c.args.ends.low.1)) c.in_ok-of.ensures.1
-    ∙ sym (typed_start_domain c.args.scopes.now c.args.rank c.args.word whole (low_at before c.args.ends.low) of d
+    ∙ sym (domain_start_some c.args.scopes.now c.args.rank c.args.word whole (low_at before c.args.ends.low) (domain_in of) d
     (ap domain_in (sym c.in_ok-of.ensures.0) ∙ sym c.domain_in.ensures ∙ c.in-Some.is) c.args.first.now)
 
 pub returns-in_ok-found-in-None : goal.returns-in_ok-found-in-None
@@ -43,5 +43,5 @@ returns-in_ok-found-in-None c =
     ∙ ap (λ t. least_from c.post.new.first (int_start c.args.rank c.args.word (first_of e) t)) found
     ∙ ap (λ o. least_from o (int_start c.args.rank c.args.word (first_of e) (type_by v))) told
     ∙ sym (plain_start_push scopes c.args.rank c.args.word e c.args.ends.behind.now c.args.ends.last.now c.args.first.now)
-    ∙ ap (least_from c.args.first.now) (sym (typed_start_plain scopes c.args.rank c.args.word whole (low_at before c.args.ends.low) (type_of scopes before)
+    ∙ ap (least_from c.args.first.now) (sym (domain_start_none scopes c.args.rank c.args.word whole (low_at before c.args.ends.low) (domain_in (type_of scopes before))
     (ap domain_in (sym c.in_ok-of.ensures.0) ∙ sym c.domain_in.ensures ∙ c.in-None.is)))
