@@ -1,52 +1,42 @@
 // The rules C7 and C9 outside of loops' bodies: of promoted assignments, and of reductions in promoted expressions.
 // A promoted assignment doesn't read its target by an index list.
 
-ghost use Rattle.std.specs.Prelude.{◌≡◌, map, option_map};
+ghost use Rattle.std.specs.Prelude.{◌≡◌, map, option_map, OnOk};
 ghost use Rattle.dpl_tree.specs.View.{item_view};
 ghost use Rattle.dpl_tree.specs.Statements.{target_view};
-ghost use Rattle.dpl_rules.specs.Bodies.{not_inner as not_inner_of, inner_reduction as inner_reduction_of, inner_reductions as inner_reductions_of};
+ghost use Rattle.dpl_rules.specs.Bodies.{inner_reduction as inner_reduction_of, inner_reductions as inner_reductions_of};
 ghost use Rattle.dpl_rules.specs.Bodies.{element_read as element_read_of, each, whole_target as whole_target_of};
 ghost use Rattle.dpl_rules.specs.Breaches.{least_from};
 ghost use Rattle.dpl_scopes.specs.Types.{origin_view};
 ghost use Rattle.dpl_scopes.specs.View.{declared_view};
-ghost use Rattle.dpl_deeds.specs.View.{holding_view, deed_view};
+ghost use Rattle.dpl_deeds.specs.View.{deed_view};
 ghost use Rattle.dpl_bodies.specs.Promoted.{promoted_by};
 
 use dpl_deeds::name::is_array;
-use dpl_deeds::whole::is_whole_item;
+use dpl_deeds::promoted::is_promoted_item;
 use dpl_deeds::{Deed, Holding};
 use dpl_scopes::{Declared, Origin, Scopes};
 use dpl_syntax::{Breach, Code};
 use dpl_tree::{Item, Target};
-use dpl_types::owed;
-
-// Whether it is anything but a reduction in a promoted expression or in a map's argument.
-fn not_inner(holding: Holding) -> bool
-    ensures { result ≡ not_inner_of (holding_view holding) }
-{
-    match holding {
-        Holding::InnerReduction => false,
-        Holding::Print
-        | Holding::Forall
-        | Holding::Coforall
-        | Holding::Reduction
-        | Holding::CellCall
-        | Holding::On
-        | Holding::Here
-        | Holding::Declaration
-        | Holding::ReduceIntent => true,
-    }
-}
+use dpl_types::{note, owed};
+use std::alloc::{AllocError, Global};
 
 // C9: no reduction stands in a promoted expression or in a map's argument.
 fn inner_reduction(deed: &Deed<'_>, first: &mut Option<Breach>)
     ensures { first.new ≡ least_from first.old (inner_reduction_of (deed_view deed.now)) }
 {
     match deed {
-        Deed::Holds(at, holding) => {
-            owed(not_inner(*holding), *at, Code::NotInForall, first);
-        }
-        Deed::Reads(_, _)
+        Deed::Holds(at, Holding::InnerReduction) => note(first, *at, Code::NotInForall),
+        Deed::Holds(_, Holding::Print)
+        | Deed::Holds(_, Holding::Forall)
+        | Deed::Holds(_, Holding::Coforall)
+        | Deed::Holds(_, Holding::Reduction)
+        | Deed::Holds(_, Holding::CellCall)
+        | Deed::Holds(_, Holding::On)
+        | Deed::Holds(_, Holding::Here)
+        | Deed::Holds(_, Holding::Declaration)
+        | Deed::Holds(_, Holding::ReduceIntent)
+        | Deed::Reads(_, _)
         | Deed::ReadsAt(_, _, _)
         | Deed::Writes(_, _, _)
         | Deed::WritesAt(_, _, _, _) => {}
@@ -105,21 +95,26 @@ fn whole_target(declared: Option<Declared<'_>>, deeds: &[Deed<'_>], first: &mut 
 }
 
 /// Tells what an assignment breaks as a promoted one, by the deeds of its right side.
+///
+/// # Errors
+/// Out of memory; nothing is told then.
 pub fn promoted_breaches(
+    alloc: Global,
     scopes: &Scopes<'_>,
     target: &Target<'_>,
     value: &Item<'_>,
     deeds: &[Deed<'_>],
     first: &mut Option<Breach>,
-)
-    ensures { first.new ≡ least_from first.old (promoted_by scopes.now (target_view target.now) (item_view value.now) (map deed_view deeds.now)) }
+) -> Result<(), AllocError>
+    ensures { OnOk result (first.new ≡ least_from first.old (promoted_by scopes.now (target_view target.now) (item_view value.now) (map deed_view deeds.now))) }
 {
     match target {
         Target::Whole(name) => {
-            if is_whole_item(scopes, value) {
+            if is_promoted_item(alloc, scopes, value)? {
                 whole_target(scopes.lookup(name.text), deeds, first);
             }
         }
         Target::Element(_) => {}
     }
+    Ok(())
 }

@@ -5,12 +5,13 @@ ghost use Rattle.std.specs.Prelude.{◌≡◌, map, option_map};
 ghost use Rattle.dpl_tree.specs.Words.{op_view, assign_view};
 ghost use Rattle.dpl_tree.specs.Declarations.{optional};
 ghost use Rattle.dpl_tree.specs.Statements.{intent_view, next_intent_view, with_view, next_name_view};
+ghost use Rattle.dpl_language.specs.Tree.{SetAdd, SetMultiply};
 ghost use Rattle.dpl_language.specs.Phrases.{intents_of};
 ghost use Rattle.dpl_rules.specs.Types.{has, is_array as is_array_type};
 ghost use Rattle.dpl_rules.specs.Sights.{is_reduced as is_reduced_of};
 ghost use Rattle.dpl_rules.specs.Bodies.{is_variable as is_variable_of, is_variable_at as is_variable_at_of, are_variables as are_variables_of};
-ghost use Rattle.dpl_rules.specs.Bodies.{is_own as is_own_of, is_outer as is_outer_of, is_outer_array as is_outer_array_of, is_sum as is_sum_of};
-ghost use Rattle.dpl_rules.specs.Bodies.{is_product as is_product_of, goes_on as goes_on_of, goes_on_in as goes_on_in_of};
+ghost use Rattle.dpl_rules.specs.Bodies.{is_own as is_own_of, is_outer as is_outer_of, is_outer_array as is_outer_array_of};
+ghost use Rattle.dpl_rules.specs.Bodies.{goes_on as goes_on_of, goes_on_in as goes_on_in_of};
 ghost use Rattle.dpl_rules.specs.Bodies.{is_scalar_or_domain as is_scalar_or_domain_of, may_change as may_change_of};
 ghost use Rattle.dpl_scopes.specs.View.{declared_view};
 ghost use Rattle.dpl_scopes.specs.Types.{of_type};
@@ -33,9 +34,9 @@ pub struct Turns<'t> {
     pub with: Option<With<'t>>,
 }
 
-// Whether an assignment goes on with `+`.
+// Whether `+=` goes on with an operator.
 fn is_sum(op: Op) -> bool
-    ensures { result ≡ is_sum_of (op_view op) }
+    ensures { result ≡ goes_on_of SetAdd (op_view op) }
 {
     match op {
         Op::Sum => true,
@@ -50,9 +51,9 @@ fn is_sum(op: Op) -> bool
     }
 }
 
-// Whether an assignment goes on with `*`.
+// Whether `*=` goes on with an operator.
 fn is_product(op: Op) -> bool
-    ensures { result ≡ is_product_of (op_view op) }
+    ensures { result ≡ goes_on_of SetMultiply (op_view op) }
 {
     match op {
         Op::Product => true,

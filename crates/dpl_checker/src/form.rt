@@ -63,12 +63,13 @@ pub(crate) fn assigned<'t>(
         &mut walk.deeds,
     )?;
     promoted_breaches(
+        walk.alloc,
         &walk.scopes,
         &written.target,
         &written.value,
         behind(&walk.deeds, start),
         &mut walk.first,
-    );
+    )?;
     target_deeds(
         walk.arena,
         &walk.scopes,

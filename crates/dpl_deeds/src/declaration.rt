@@ -8,7 +8,7 @@ ghost use Rattle.dpl_language.specs.Declarations.{type_of as written_type};
 ghost use Rattle.dpl_rules.specs.Types.{has, is_domain as is_domain_type};
 ghost use Rattle.dpl_rules.specs.Places.{first_of_declaration};
 ghost use Rattle.dpl_rules.specs.Expressions.{item_type};
-ghost use Rattle.dpl_rules.specs.Doings.{is_apart_type as is_apart_type_of, is_apart_init as is_apart_init_of, is_apart_initial as is_apart_initial_of, is_apart as is_apart_of};
+ghost use Rattle.dpl_rules.specs.Doings.{is_apart_type as is_apart_type_of, is_apart_init as is_apart_init_of, is_apart as is_apart_of};
 ghost use Rattle.dpl_rules.specs.Doings.{start_deeds as start_deeds_of, map_deeds as map_deeds_of, mapped_deeds as mapped_deeds_of};
 ghost use Rattle.dpl_rules.specs.Doings.{type_deeds as type_deeds_of, init_deeds as init_deeds_of, initial_deeds as initial_deeds_of};
 ghost use Rattle.dpl_rules.specs.Doings.{declaration_deeds as declaration_deeds_of};
@@ -33,15 +33,12 @@ fn first_of(declare: &Declare<'_>) -> Place
 }
 
 // Whether a declared type is that of an array, a domain or a cell.
-fn is_apart_type(typed: &Option<Typed<'_>>) -> bool
-    ensures { result ≡ is_apart_type_of (written_type (optional typed_view typed.now)) }
+fn is_apart_type(declared: &DeclaredType<'_>) -> bool
+    ensures { result ≡ is_apart_type_of (type_view declared.now) }
 {
-    match typed {
-        None => false,
-        Some(typed) => match typed.declared {
-            DeclaredType::Scalar(_, _) => false,
-            DeclaredType::Sync(_, _, _) | DeclaredType::Domain(_) | DeclaredType::Array(_) => true,
-        },
+    match declared {
+        DeclaredType::Scalar(_, _) => false,
+        DeclaredType::Sync(_, _, _) | DeclaredType::Domain(_) | DeclaredType::Array(_) => true,
     }
 }
 
@@ -54,48 +51,28 @@ fn is_domain_item(alloc: Global, scopes: &Scopes<'_>, item: &Item<'_>) -> Result
     Ok(is_domain(found))
 }
 
-// Whether an initial value says by itself that a domain is declared.
-fn is_apart_init(
-    alloc: Global,
-    scopes: &Scopes<'_>,
-    typed: &Option<Typed<'_>>,
-    init: &Init<'_>,
-) -> Result<bool, AllocError>
-    ensures { IfOk result (λ r. r ≡ is_apart_init_of scopes.now (written_type (optional typed_view typed.now)) (init_view init.now)) }
+// Whether an initial value without a declared type is a domain: mapped, created, or by its type.
+fn is_apart_init(alloc: Global, scopes: &Scopes<'_>, init: &Init<'_>) -> Result<bool, AllocError>
+    ensures { IfOk result (λ r. r ≡ is_apart_init_of scopes.now (init_view init.now)) }
 {
     match init {
-        Init::Item(item, None) => match typed {
-            None => is_domain_item(alloc, scopes, item),
-            Some(_) => Ok(false),
-        },
+        Init::Item(item, None) => is_domain_item(alloc, scopes, item),
         Init::Item(_, Some(_)) => Ok(true),
         Init::Create(_) => Ok(true),
     }
 }
 
-// The same of an initial value that may be missing.
-fn is_apart_initial(
-    alloc: Global,
-    scopes: &Scopes<'_>,
-    typed: &Option<Typed<'_>>,
-    initial: &Option<Initial<'_>>,
-) -> Result<bool, AllocError>
-    ensures { IfOk result (λ r. r ≡ is_apart_initial_of scopes.now (written_type (optional typed_view typed.now)) (optional initial_view initial.now)) }
-{
-    match initial {
-        None => Ok(false),
-        Some(initial) => is_apart_init(alloc, scopes, typed, &initial.init),
-    }
-}
-
-// Whether an array, a domain or a cell is declared.
+// Whether an array, a domain or a cell is declared: its type says so, or where none is written its initial value.
 fn is_apart(alloc: Global, scopes: &Scopes<'_>, declare: &Declare<'_>) -> Result<bool, AllocError>
-    ensures { IfOk result (λ r. r ≡ is_apart_of scopes.now (declare_view declare.now)) }
+    ensures { IfOk result (λ r. r ≡ is_apart_of scopes.now (written_type (optional typed_view declare.now.typed)) (optional initial_view declare.now.initial)) }
 {
-    if is_apart_type(&declare.typed) {
-        return Ok(true);
+    match &declare.typed {
+        Some(typed) => Ok(is_apart_type(&typed.declared)),
+        None => match &declare.initial {
+            None => Ok(false),
+            Some(initial) => is_apart_init(alloc, scopes, &initial.init),
+        },
     }
-    is_apart_initial(alloc, scopes, &declare.typed, &declare.initial)
 }
 
 // What the place does where a map starts.

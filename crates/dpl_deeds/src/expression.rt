@@ -5,7 +5,7 @@ ghost use Rattle.std.specs.Prelude.{OnOk, option_map};
 ghost use Rattle.dpl_tree.specs.View.{expr_view, item_view, items_view, exprs_view, post_view, method_view, stride_view, links_of, posts_of, more_items_of, more_exprs_of};
 ghost use Rattle.dpl_typing.specs.Told.{range_view};
 ghost use Rattle.dpl_language.specs.Phrases.{base_of};
-ghost use Rattle.dpl_rules.specs.Deeds.{array_deeds as array_deeds_of, method_call as method_call_of, cell_deeds as cell_deeds_of};
+ghost use Rattle.dpl_rules.specs.Deeds.{array_deeds as array_deeds_of, cell_deeds as cell_deeds_of};
 ghost use Rattle.dpl_rules.specs.Deeds.{items_index as items_index_of, exprs_index as exprs_index_of, name_deeds as name_deeds_of};
 ghost use Rattle.dpl_rules.specs.Deeds.{declared_deeds as declared_deeds_of, base_deeds as base_deeds_of};
 ghost use Rattle.dpl_rules.specs.Deeds.{expr_deeds as expr_deeds_of, item_deeds as item_deeds_of, stride_deeds as stride_deeds_of};
@@ -18,7 +18,7 @@ ghost use Rattle.dpl_deeds.specs.View.{Adds};
 use crate::deed::{Added, Deed, Holding, held, held_if, put};
 use crate::index::{exprs_index, items_index};
 use crate::name::{is_array, is_cell};
-use crate::whole::is_whole;
+use crate::promoted::is_promoted;
 use dpl_scopes::{Declared, Scopes};
 use dpl_syntax::Place;
 use dpl_tree::{
@@ -51,22 +51,16 @@ fn array_deeds<'t>(
     }
 }
 
-// A cell before a method: one that reads it is a call.
-fn method_call(at: Place, method: &Method<'_>, deeds: &mut Vec<Deed<'_>>) -> Added
-    ensures { OnOk result (Adds (method_call_of at (method_view method.now)) deeds.old.items deeds.new.items) }
-{
-    match method {
-        Method::CellRead { .. } => held(at, Holding::CellCall, deeds),
-        Method::Plain(_, _) | Method::Dim(_) | Method::Contains(_) | Method::Expand(_) => Ok(()),
-    }
-}
-
-// A cell before the first of what stands behind it.
+// A cell before the first of what stands behind it: a method that reads it is a call.
 fn cell_deeds(at: Place, posts: &[Post<'_>], deeds: &mut Vec<Deed<'_>>) -> Added
     ensures { OnOk result (Adds (cell_deeds_of at (posts_of posts.now)) deeds.old.items deeds.new.items) }
 {
     match posts.first() {
-        Some(Post::Dotted(_, method)) => method_call(at, method, deeds),
+        Some(Post::Dotted(_, Method::CellRead { .. })) => held(at, Holding::CellCall, deeds),
+        Some(Post::Dotted(_, Method::Plain(_, _)))
+        | Some(Post::Dotted(_, Method::Dim(_)))
+        | Some(Post::Dotted(_, Method::Contains(_)))
+        | Some(Post::Dotted(_, Method::Expand(_))) => Ok(()),
         Some(Post::Brackets { .. }) => Ok(()),
         Some(Post::Rounds { .. }) => Ok(()),
         None => Ok(()),
@@ -141,7 +135,7 @@ pub fn expr_deeds<'t>(
             expr_deeds(arena, scopes, inner, reduced.operand, deeds)
         }
         Expr::Chain(chain) => {
-            let inner = inner || is_whole(scopes, e);
+            let inner = inner || is_promoted(arena.alloc(), scopes, e)?;
             expr_deeds(arena, scopes, inner, chain.first, deeds)?;
             links_deeds(arena, scopes, inner, chain.links, deeds)
         }

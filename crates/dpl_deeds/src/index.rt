@@ -1,12 +1,12 @@
 // Indices of elements, as far as the text tells them: a name, a name and a number, or anything else.
 // Brackets round an index change nothing; inside it they do.
 
-ghost use Rattle.std.specs.Prelude.{◌≡◌, ◌++◌, IfOk, map, option_map};
+ghost use Rattle.std.specs.Prelude.{◌≡◌, ◌++◌, IfOk, map, option_map, option_and_then};
 ghost use Rattle.dpl_tree.specs.Words.{infix_view};
 ghost use Rattle.dpl_tree.specs.View.{expr_view, item_view, items_view, exprs_view, links_of, more_items_of, more_exprs_of};
 ghost use Rattle.dpl_language.specs.Tree.{Chain as ChainTree};
 ghost use Rattle.dpl_language.specs.Phrases.{bare_name};
-ghost use Rattle.dpl_rules.specs.Deeds.{literal_of, added, added_by, shifted_by, at_name as at_name_of, name_declared, index_of as index_of_expr};
+ghost use Rattle.dpl_rules.specs.Deeds.{literal_of, added_by, shifted_by, at_name as at_name_of, name_declared, index_of as index_of_expr};
 ghost use Rattle.dpl_rules.specs.Deeds.{item_index as index_of_item, items_index as items_index_of, exprs_index as exprs_index_of};
 ghost use Rattle.dpl_rules.specs.Deeds.{more_items_index as more_items_index_of, more_exprs_index as more_exprs_index_of};
 ghost use Rattle.dpl_scopes.specs.View.{declared_view};
@@ -43,7 +43,7 @@ fn literal(e: &Expr<'_>) -> Option<i64>
 
 // A name, and what stands behind it: an operator and perhaps a number.
 fn shifted<'t>(declared: Declared<'t>, op: Infix, number: Option<i64>) -> IndexPart<'t>
-    ensures { index_view result ≡ shifted_by (Some (declared_view declared.entry)) (added (infix_view op) number) }
+    ensures { index_view result ≡ shifted_by (Some (declared_view declared.entry)) (option_and_then (added_by (infix_view op)) number) }
 {
     match number {
         None => IndexPart::Elsewhere,
@@ -74,7 +74,7 @@ fn declared<'t>(scopes: &Scopes<'t>, e: &Expr<'_>) -> Option<Declared<'t>>
 
 // Two operands and what stands between them, as an index.
 fn linked<'t>(scopes: &Scopes<'t>, first: &Expr<'_>, link: &Link<'_>) -> IndexPart<'t>
-    ensures { index_view result ≡ shifted_by (name_declared scopes.now (bare_name (expr_view first.now))) (added (infix_view link.now.op) (literal_of (expr_view link.now.right.now))) }
+    ensures { index_view result ≡ shifted_by (name_declared scopes.now (bare_name (expr_view first.now))) (option_and_then (added_by (infix_view link.now.op)) (literal_of (expr_view link.now.right.now))) }
 {
     match declared(scopes, first) {
         None => IndexPart::Elsewhere,

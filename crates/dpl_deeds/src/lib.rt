@@ -7,7 +7,7 @@ mod deed;
 pub mod expression;
 pub mod index;
 pub mod name;
+pub mod promoted;
 pub mod statement;
-pub mod whole;
 
 pub use deed::{Added, Deed, Holding, IndexPart, held, held_if};

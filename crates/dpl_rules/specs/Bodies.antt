@@ -6,10 +6,11 @@ use Rattle.dpl_language.specs.Names.{Text}
 use Rattle.dpl_rules.specs.Types.{Origin, same_origin, ValueType, is_any_scalar, is_domain, is_array, is_locale, has}
 use Rattle.dpl_syntax.specs.declared.refusal.Code.TheVariants.{WrittenElsewhere, ReadElsewhere, OuterChanged, NotInForall, NotInCoforall}
 use Rattle.dpl_syntax.specs.declared.refusal.Breach.{Breach}
-use Rattle.dpl_rules.specs.Verdicts.{owed, where_given}
+use Rattle.dpl_rules.specs.Verdicts.{breach, owed, where_given}
 use Rattle.dpl_rules.specs.Sights.{Declared, Scopes, lookup, is_outside, Reducing, is_reduced}
+use Rattle.dpl_rules.specs.Expressions.{item_type}
 use Rattle.dpl_rules.specs.Loops.{variables_of, reducing_in}
-use Rattle.dpl_rules.specs.Deeds.{IndexPart, AtName, Holding, AnInnerReduction, ACellCall, AnOn, AHere, AReduceIntent, Deed, Reads, ReadsAt, Writes, WritesAt, Holds, is_whole_item, item_deeds}
+use Rattle.dpl_rules.specs.Deeds.{IndexPart, AtName, Holding, AnInnerReduction, ACellCall, AnOn, AHere, AReduceIntent, Deed, Reads, ReadsAt, Writes, WritesAt, Holds, is_promoted, item_deeds}
 
 -- a forall as its body's rules see it: its variables, its reduce variables, and how many scopes are open around it
 pub record Turns : Type 0 where
@@ -76,19 +77,11 @@ read_breaches loop written _ = []
 
 -- ---- C8: an outer scalar, locale or domain is changed through its reduce intent alone, and a reduce variable isn't read
 -- `reduce=` goes on with every operator, `+=` with `+` and `*=` with `*`
-abbrev pub is_sum : Op → Bool
-is_sum Sum = true
-is_sum _ = false
-
-abbrev pub is_product : Op → Bool
-is_product Product = true
-is_product _ = false
-
 abbrev pub goes_on : Assign → Op → Bool
-goes_on SetAdd op = is_sum op
-goes_on SetMultiply op = is_product op
 goes_on SetReduce op = true
-goes_on _ op = false
+goes_on SetAdd Sum = true
+goes_on SetMultiply Product = true
+goes_on _ _ = false
 
 -- the assignment goes on with the operator of the intent that names the variable
 abbrev pub goes_on_in : List (Text × Op) → Text → Assign → Bool
@@ -150,12 +143,8 @@ abbrev pub task_breaches : ℕ → List Deed → List Breach
 task_breaches depth ds = each (task_deed depth) ds
 
 -- ---- C9 everywhere: no reduction stands in a promoted expression or in a map's argument
-abbrev pub not_inner : Holding → Bool
-not_inner AnInnerReduction = false
-not_inner _ = true
-
 abbrev pub inner_reduction : Deed → List Breach
-inner_reduction (Holds at h) = owed (not_inner h) at NotInForall
+inner_reduction (Holds at AnInnerReduction) = breach at NotInForall
 inner_reduction _ = []
 
 abbrev pub inner_reductions : List Deed → List Breach
@@ -171,5 +160,5 @@ whole_target d ds = where_given d (λ d. if has is_array d.type then each (eleme
 
 abbrev pub promoted_breaches : Scopes → TargetTree Text → ItemTree Text → List Breach
 promoted_breaches ss (Whole x) item =
-    if is_whole_item ss item then whole_target (lookup ss x.name) (item_deeds ss false item) else []
+    if has is_promoted (item_type ss item) then whole_target (lookup ss x.name) (item_deeds ss false item) else []
 promoted_breaches ss (Element x shape from es upto) item = []

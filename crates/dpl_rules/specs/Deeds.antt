@@ -5,15 +5,21 @@ use Rattle.dpl_syntax.specs.declared.place.Place.{Place}
 use Rattle.dpl_language.specs.Tree.{Placed, Infix, Add, Subtract, Assign, ExprTree, Number, TruthWord, Named, LocalesWord, LocaleCount, HereWord, Grouped, DomainLiteral, Prefixed, Reduced, Chain, Postfixed, ItemTree, One, RangeItem, Stride, NoStride, By, Links, NoLinks, Link, Posts, NoPosts, Post, PostTree, Brackets, Rounds, Dotted, MethodTree, Plainly, Dim, Contains, Expand, CellRead, Items, FirstItem, MoreItems, NoItems, NextItem, Exprs, FirstExpr, MoreExprs, NoExprs, NextExpr}
 use Rattle.dpl_language.specs.Names.{Text}
 use Rattle.dpl_language.specs.Phrases.{Base, BaseName, base_of, bare_name}
-use Rattle.dpl_rules.specs.Types.{is_array, is_cell, has}
+use Rattle.dpl_rules.specs.Types.{ValueType, Promoted, is_array, is_cell, has}
 use Rattle.dpl_rules.specs.Verdicts.{where_given}
-use Rattle.dpl_rules.specs.Sights.{Declared, Scopes, lookup, type_declared}
+use Rattle.dpl_rules.specs.Sights.{Declared, Scopes, lookup}
+use Rattle.dpl_rules.specs.Expressions.{type_of}
 
 -- An index of an element, as far as the text tells it: a name, a name and what a number adds to it, or anything else.
 pub data IndexPart : Type 0 where
   AtName : Declared → IndexPart
   Shifted : Declared → ℤ → IndexPart
   Elsewhere : IndexPart
+
+-- an expression that gives a value at each index of whole arrays
+abbrev pub is_promoted : ValueType → Bool
+is_promoted (Promoted k over) = true
+is_promoted _ = false
 
 -- what a body may hold that a loop forbids; an inner reduction is one in a promoted expression or in a map's argument
 pub data Holding : Type 0 where
@@ -54,9 +60,6 @@ added_by Add n = Some n
 added_by Subtract n = Some (neg_ℤ n)
 added_by _ n = None
 
-abbrev pub added : Infix → Option ℤ → Option ℤ
-added op n = option_and_then (added_by op) n
-
 abbrev pub shifted_by : Option Declared → Option ℤ → IndexPart
 shifted_by (Some d) (Some n) = Shifted d n
 shifted_by _ _ = Elsewhere
@@ -73,12 +76,8 @@ array_deeds at d (Post (Rounds from es upto) rest) items_index exprs_index = Rea
 array_deeds at d (Post (Dotted dot m) rest) items_index exprs_index = []
 
 -- a cell before a cell's method is called; by itself it does nothing
-abbrev pub method_call : Place → MethodTree Text → List Deed
-method_call at (CellRead at1 w from upto) = held at ACellCall
-method_call at _ = []
-
 abbrev pub cell_deeds : Place → Posts Text → List Deed
-cell_deeds at (Post (Dotted dot m) rest) = method_call at m
+cell_deeds at (Post (Dotted dot (CellRead word w from upto)) rest) = held at ACellCall
 cell_deeds at _ = []
 
 module _ (scopes : Scopes) where
@@ -89,7 +88,7 @@ module _ (scopes : Scopes) where
     pub index_of : ExprTree Text → IndexPart
     index_of (Named x) = at_name (lookup scopes x.name)
     index_of (Grouped from item upto) = item_index item
-    index_of (Chain e (Link at op f NoLinks)) = shifted_by (name_declared (bare_name e)) (added op (literal_of f))
+    index_of (Chain e (Link at op f NoLinks)) = shifted_by (name_declared (bare_name e)) (option_and_then (added_by op) (literal_of f))
     index_of _ = Elsewhere
 
     pub item_index : ItemTree Text → IndexPart
@@ -110,24 +109,6 @@ module _ (scopes : Scopes) where
   abbrev pub exprs_index : Exprs Text → List IndexPart
   exprs_index (FirstExpr e more) = index_of e ∷ more_exprs_index more
 
-  -- An expression holds a whole array, and is promoted: an array's bare name is an operand of it. What stands before a
-  -- dot or before indices, and in them, is none; and neither is what a reduction folds.
-  abbrev mutual
-    pub is_whole : ExprTree Text → Bool
-    is_whole (Named x) = has is_array (type_declared (lookup scopes x.name))
-    is_whole (Grouped from item upto) = is_whole_item item
-    is_whole (Prefixed at op e) = is_whole e
-    is_whole (Chain e rest) = is_whole e || is_whole_links rest
-    is_whole _ = false
-
-    pub is_whole_item : ItemTree Text → Bool
-    is_whole_item (One e) = is_whole e
-    is_whole_item (RangeItem low at dots high by) = false
-
-    pub is_whole_links : Links Text → Bool
-    is_whole_links NoLinks = false
-    is_whole_links (Link at op e rest) = is_whole e || is_whole_links rest
-
   -- a name by itself or before what stands behind it
   abbrev pub name_deeds : Place → Declared → Posts Text → List Deed
   name_deeds at d posts =
@@ -141,6 +122,10 @@ module _ (scopes : Scopes) where
   abbrev pub base_deeds : Base Text → Posts Text → List Deed → List Deed
   base_deeds (BaseName x) posts otherwise = declared_deeds x.at posts (lookup scopes x.name)
   base_deeds _ posts otherwise = otherwise
+
+  -- a promoted chain; where one of its operators is refused, it has no type and is none
+  abbrev pub is_promoted_chain : ExprTree Text → Links Text → Bool
+  is_promoted_chain e rest = has is_promoted (type_of scopes (Chain e rest))
 
   -- what an expression does; the flag says that it stands in a promoted expression or in a map's argument
   abbrev mutual
@@ -156,7 +141,7 @@ module _ (scopes : Scopes) where
     expr_deeds inner (Prefixed at op e) = expr_deeds inner e
     expr_deeds inner (Reduced at op word e) = held at AReduction ++ held_if inner at AnInnerReduction ++ expr_deeds inner e
     expr_deeds inner (Chain e rest) =
-        expr_deeds (inner || is_whole (Chain e rest)) e ++ links_deeds (inner || is_whole (Chain e rest)) rest
+        expr_deeds (inner || is_promoted_chain e rest) e ++ links_deeds (inner || is_promoted_chain e rest) rest
     expr_deeds inner (Postfixed e posts) = base_deeds (base_of e) posts (expr_deeds inner e) ++ posts_deeds inner posts
 
     pub item_deeds : Bool → ItemTree Text → List Deed

@@ -1,6 +1,6 @@
 -- What statements do that a loop around them may forbid: what their expressions do, what they write and what they hold.
 -- Writes in an inner loop are writes of every loop around it.
-use Rattle.std.specs.Prelude.{Bool, true, false, ◌||◌, List, [], ◌∷◌, ◌++◌, Option, Some, None}
+use Rattle.std.specs.Prelude.{Bool, true, false, List, [], ◌∷◌, ◌++◌, Option, Some, None}
 use Rattle.dpl_syntax.specs.declared.place.Place.{Place}
 use Rattle.dpl_language.specs.Tree.{Placed, Assign, ExprTree, Exprs, StartTree, StartExpr, StartTuple, MapTree, BlockMap, CyclicMap, BlockCyclicMap, MappedTree, TypeTree, ScalarType, SyncType, DomainType, ArrayType, InitTree, ItemInit, CreateInit, InitialTree, DeclareTree, TargetTree, Whole, Element, CallTree, WriteCall, ArgumentTree, TextArgument, ExprArgument, IntentTree, ReduceIntent, RefIntent, WithTree}
 use Rattle.dpl_language.specs.Tree.{StmtTree, Nothing, Declare, Assigned, Call, Write, Block, If, While, For, Forall, Coforall, On, Body, WordBody, BlockBody, Stmts, NoStmts, Then, Else, NoElse, ElseDo}
@@ -16,14 +16,11 @@ use Rattle.dpl_rules.specs.Expressions.{item_type}
 use Rattle.dpl_rules.specs.Loops.{ForWord, ForallWord, CoforallWord, in_loop, behind}
 use Rattle.dpl_rules.specs.Deeds.{APrint, AForall, ACoforall, ACellCall, AnOn, ADeclaration, AReduceIntent, Deed, Writes, WritesAt, held, held_if, exprs_index, expr_deeds, item_deeds, items_deeds, exprs_deeds}
 
--- ---- declarations of arrays, domains and cells. A type, `dmapped` and `createDomain` say so by themselves; where no
--- type is written, the initial value's type says it, if it has one.
-abbrev pub is_apart_type : Option (TypeTree Text) → Bool
-is_apart_type None = false
-is_apart_type (Some (ScalarType at k)) = false
-is_apart_type (Some (SyncType at kind_at k)) = true
-is_apart_type (Some (DomainType d)) = true
-is_apart_type (Some (ArrayType a)) = true
+-- ---- declarations of arrays, domains and cells. A written type says it by itself; where none is written, `dmapped` and
+-- `createDomain` do, and else the initial value's type, if it has one.
+abbrev pub is_apart_type : TypeTree Text → Bool
+is_apart_type (ScalarType at k) = false
+is_apart_type _ = true
 
 abbrev pub intents_deeds : List (IntentTree Text) → List Deed
 intents_deeds [] = []
@@ -37,18 +34,13 @@ abbrev pub written : Place → Option Declared → Assign → List Deed
 written at d op = where_given d (λ d. Writes at d op ∷ [])
 
 module _ (scopes : Scopes) where
-  abbrev pub is_apart_init : Option (TypeTree Text) → InitTree Text → Bool
-  is_apart_init None (ItemInit item None) = has is_domain (item_type scopes item)
-  is_apart_init (Some t) (ItemInit item None) = false
-  is_apart_init t (ItemInit item (Some m)) = true
-  is_apart_init t (CreateInit c) = true
+  abbrev pub is_apart_init : InitTree Text → Bool
+  is_apart_init (ItemInit item None) = has is_domain (item_type scopes item)
+  is_apart_init _ = true
 
-  abbrev pub is_apart_initial : Option (TypeTree Text) → Option (InitialTree Text) → Bool
-  is_apart_initial t None = false
-  is_apart_initial t (Some i) = is_apart_init t i.init
-
-  abbrev pub is_apart : DeclareTree Text → Bool
-  is_apart d = is_apart_type (written_type d.typed) || is_apart_initial (written_type d.typed) d.initial
+  abbrev pub is_apart : Option (TypeTree Text) → Option (InitialTree Text) → Bool
+  is_apart (Some t) initial = is_apart_type t
+  is_apart None initial = has {A = InitialTree Text} (λ i. is_apart_init i.init) initial
 
   -- a map's arguments hold no reduction
   abbrev pub all_deeds : Bool → List (ExprTree Text) → List Deed
@@ -83,7 +75,8 @@ module _ (scopes : Scopes) where
 
   abbrev pub declaration_deeds : DeclareTree Text → List Deed
   declaration_deeds d =
-      held_if (is_apart d) (first_of_declaration d) ADeclaration ++ type_deeds (written_type d.typed) ++ initial_deeds d.initial
+      held_if (is_apart (written_type d.typed) d.initial) (first_of_declaration d) ADeclaration
+      ++ type_deeds (written_type d.typed) ++ initial_deeds d.initial
 
   -- ---- writes, calls and prints
   abbrev pub element_written : Place → Option Declared → Exprs Text → Assign → List Deed

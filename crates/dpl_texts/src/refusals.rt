@@ -58,6 +58,7 @@ C3 at 2:49   const x = E dmapped new cyclicDist(startIdx=(1, b));\n\
 C3 at 2:59   for t in E do const x = E dmapped new cyclicDist(startIdx=t);\n\
 C3 at 2:47   const x = D dmapped new cyclicDist(startIdx=D.high);\n\
 C3 at 2:47   const x = D dmapped new cyclicDist(startIdx=S.lowBound);\n\
+C3 at 2:47   const x = E dmapped new cyclicDist(startIdx=S.lowBound);\n\
 C3 at 2:48   const x = D dmapped new cyclicDist(startIdx=(D.low));\n\
 C3 at 2:47   const x = D dmapped new cyclicDist(startIdx=D.low + 1);\n\
 C3 at 2:51   const x = E dmapped new cyclicDist(startIdx=(1, D.low));\n\
@@ -120,6 +121,9 @@ sound        forall i in D do A[i] = A[i] + A((i)) + C[i + 1];\n\
 sound        forall i in D { A[i] = 1; for j in A.domain do ; }\n\
 sound        forall i in D { const x = A[1]; }\n\
 C7 at 2:9    A = C + A[1];\n\
+C7 at 2:5    A = A[1] + C;\n\
+C3 at 2:10   A = A[1] + F;\n\
+C1 at 2:11   A = C + A[x];\n\
 C7 at 2:10   A += C * A(2);\n\
 C7 at 2:11   A = A + C[A[1]];\n\
 C7 at 2:10   A = C + (A)[1];\n\
@@ -150,11 +154,15 @@ C9 at 2:34   forall i in D { for j in 1..2 do write(j); }\n\
 C9 at 2:34   forall i in D { if b then ; else write(1); }\n\
 C3 at 2:32   forall i in D do const x = {1..true};\n\
 C3 at 2:31   forall i in D do var x: int = {1..2};\n\
-C9 at 2:18   forall i in D do var x: int = 1 dmapped new blockDist(D);\n\
+C3 at 2:33   forall i in D do var x: int = 1 dmapped new blockDist(D);\n\
+C3 at 2:33   forall i in D do const x: int = blockDist.createDomain(1..2);\n\
+C9 at 2:18   forall i in D do var x: domain(1) = D dmapped new blockDist(D);\n\
 sound        forall i in D { const x = 1..i; const y = numLocales; const w = Locales[0]; const v = D[1..2].size; for j in x do ; while false do ; }\n\
 sound        forall i in 1..(+ reduce A) do ;\n\
 C9 at 2:9    A = A + + reduce C;\n\
 C9 at 2:6    A = (+ reduce C) * A;\n\
+C3 at 2:18   A = (+ reduce C) * F;\n\
+C3 at 2:24   const x = (+ reduce A) * F;\n\
 C9 at 2:19   n = + reduce (A * max reduce C);\n\
 C9 at 2:11   A = A + C[+ reduce C];\n\
 C9 at 2:22   var P: [D] int = A - min reduce C;\n\
@@ -190,6 +198,8 @@ C10 at 2:30  coforall i in r do c.writeEF(+ reduce A);\n\
 C10 at 2:38  coforall i in r { var x = 0; x = 1 + + reduce A; }\n\
 C10 at 2:20  coforall i in r do var P: [D] int;\n\
 C10 at 2:20  coforall i in r do const x = {1..2};\n\
+C3 at 2:35   coforall i in r do var x: int = 1 dmapped new blockDist(D);\n\
+C10 at 2:20  coforall i in r do var x: domain(1) = D dmapped new blockDist(D);\n\
 C10 at 2:20  coforall i in r do var x: domain(2);\n\
 C10 at 2:20  coforall i in r do var x: sync bool;\n\
 C10 at 2:23  coforall i in r with (+ reduce n) do ;\n\
@@ -533,6 +543,7 @@ C5 at 2:25   const x = E dmapped new cyclicDist(startIdx=1);\n\
 C5 at 2:25   const x = D dmapped new cyclicDist(startIdx=(1, 2));\n\
 C5 at 2:25   const x = T dmapped new cyclicDist((1, 2));\n\
 C5 at 2:25   const x = E dmapped new cyclicDist(startIdx=D.low);\n\
+C5 at 2:25   const x = E dmapped new cyclicDist(startIdx=S.low);\n\
 C5 at 2:25   const x = D dmapped new cyclicDist(startIdx=E.lowBound);\n\
 C5 at 2:25   const x = D dmapped new blockCycDist(startIdx=1, blocksize=(1, 2));\n\
 C5 at 2:25   const x = E dmapped new blockCycDist(startIdx=1, blocksize=(1, 2));\n\

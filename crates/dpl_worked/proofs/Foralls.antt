@@ -2,7 +2,7 @@
 -- Each row is computed from the text's bytes on; those behind the house's line are on line 2.
 use Rattle.std.proofs.Common.{◌≡◌, refl}
 use Rattle.std.specs.Prelude.{codes}
-use Rattle.dpl_syntax.specs.declared.refusal.Code.TheVariants.{CellMisused, NotInCoforall, NotInForall, OuterChanged, ReadElsewhere, WrittenElsewhere}
+use Rattle.dpl_syntax.specs.declared.refusal.Code.TheVariants.{CellMisused, NotInCoforall, NotInForall, OuterChanged, ReadElsewhere, UnknownName, WrittenElsewhere, WrongType}
 use Rattle.dpl_worked.proofs.Texts.{in_house, told, sound, by_text}
 
 -- ---- C6, an array that isn't written at the own index
@@ -39,6 +39,19 @@ own_element_read = refl
 target_read_by_index : in_house (codes "A = C + A[1];") ≡ told 2 9 ReadElsewhere
 unfolding by_text
 target_read_by_index = refl
+
+-- a right side that is refused is told by itself
+target_read_at_an_unknown_name : in_house (codes "A = C + A[x];") ≡ told 2 11 UnknownName
+unfolding by_text
+target_read_at_an_unknown_name = refl
+
+target_read_beside_bools : in_house (codes "A = A[1] + F;") ≡ told 2 10 WrongType
+unfolding by_text
+target_read_beside_bools = refl
+
+target_read_beside_ints : in_house (codes "A = A[1] + C;") ≡ told 2 5 ReadElsewhere
+unfolding by_text
+target_read_beside_ints = refl
 
 -- ---- C8, an outer scalar, locale or domain that is changed, or a reduce variable that is read
 outer_int_set : in_house (codes "forall i in D do n = 1;") ≡ told 2 18 OuterChanged
@@ -106,6 +119,35 @@ reduction_in_a_promoted_right_side = refl
 reduction_in_a_box : in_house (codes "const x = D dmapped new blockDist(boundingBox={1..+ reduce A});") ≡ told 2 51 NotInForall
 unfolding by_text
 reduction_in_a_box = refl
+
+product_of_a_sum_and_bools : in_house (codes "A = (+ reduce C) * F;") ≡ told 2 18 WrongType
+unfolding by_text
+product_of_a_sum_and_bools = refl
+
+product_of_a_sum_and_an_array : in_house (codes "A = (+ reduce C) * A;") ≡ told 2 6 NotInForall
+unfolding by_text
+product_of_a_sum_and_an_array = refl
+
+-- ---- `dmapped` beside a written int declares an int
+mapped_int_in_a_forall : in_house (codes "forall i in D do var x: int = 1 dmapped new blockDist(D);") ≡ told 2 33 WrongType
+unfolding by_text
+mapped_int_in_a_forall = refl
+
+mapped_domain_in_a_forall : in_house (codes "forall i in D do var x: domain(1) = D dmapped new blockDist(D);") ≡ told 2 18 NotInForall
+unfolding by_text
+mapped_domain_in_a_forall = refl
+
+created_beside_an_int_in_a_forall : in_house (codes "forall i in D do const x: int = blockDist.createDomain(1..2);") ≡ told 2 33 WrongType
+unfolding by_text
+created_beside_an_int_in_a_forall = refl
+
+mapped_int_in_a_task : in_house (codes "coforall i in r do var x: int = 1 dmapped new blockDist(D);") ≡ told 2 35 WrongType
+unfolding by_text
+mapped_int_in_a_task = refl
+
+mapped_domain_in_a_task : in_house (codes "coforall i in r do var x: domain(1) = D dmapped new blockDist(D);") ≡ told 2 20 NotInCoforall
+unfolding by_text
+mapped_domain_in_a_task = refl
 
 -- ---- C10, what a coforall's body doesn't write, hold or declare
 int_set_in_a_task : in_house (codes "coforall i in r do n = 1;") ≡ told 2 20 NotInCoforall
