@@ -27,7 +27,7 @@ module _ {W : Names} (g : Grammar W) (ts : List Token) where
   pub below_with_room : (n : W.Name) (d e : ℕ) → e + 1 ≡ d → read (below n) (deep_at g d) ts ≡ read_late (g.rule n) (deep_at g e) ts
   below_with_room n d e h = let is : d ≡ suc e = omega arith in rw is refl
 
-  pub below_without_room : (n : W.Name) (d : ℕ) → d ≡ 0 → read (below n) (deep_at g d) ts ≡ no_room (W.first n) ts
+  pub below_without_room : (n : W.Name) (d : ℕ) → d ≡ 0 → read (below n) (deep_at g d) ts ≡ no_room (W.hints.first n) ts
   below_without_room n zero h = refl
   below_without_room n (suc d) h = absurd (omega arith)
 

@@ -95,10 +95,12 @@ abbrev nested : Names
 nested = record {
   Name = Nested;
   Value = elim [ ExpressionBelow ↦ Expression | TermBelow ↦ Expression | StatementBelow ↦ Statement | BodyBelow ↦ Statement ];
-  first = elim [ ExpressionBelow ↦ begins_expression | TermBelow ↦ begins_expression | StatementBelow ↦ keyword Sync ++ begins_body | BodyBelow ↦ begins_body ];
-  more = elim [ ExpressionBelow ↦ sign Star ++ sign Plus | TermBelow ↦ sign Star | StatementBelow ↦ [] | BodyBelow ↦ [] ];
-  late = elim [ ExpressionBelow ↦ [] | TermBelow ↦ [] | StatementBelow ↦ keyword Else | BodyBelow ↦ keyword Else ];
   lets = elim [ ExpressionBelow ↦ λ x. false | TermBelow ↦ λ x. false | StatementBelow ↦ takes_else | BodyBelow ↦ takes_else ];
+  hints = record {
+    first = elim [ ExpressionBelow ↦ begins_expression | TermBelow ↦ begins_expression | StatementBelow ↦ keyword Sync ++ begins_body | BodyBelow ↦ begins_body ];
+    more = elim [ ExpressionBelow ↦ sign Star ++ sign Plus | TermBelow ↦ sign Star | StatementBelow ↦ [] | BodyBelow ↦ [] ];
+    late = elim [ ExpressionBelow ↦ [] | TermBelow ↦ [] | StatementBelow ↦ keyword Else | BodyBelow ↦ keyword Else ];
+  };
 }
 
 -- factor = name | "(" expression ")"

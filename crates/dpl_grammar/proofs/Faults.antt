@@ -47,27 +47,27 @@ no_many a h =
 pub record Fits {W : Names} (g : Grammar W) (X : Class) (n : W.Name) : Type 0 where
   pub right : late_faults g X false (g.rule n) ≡ []
   pub solid : (shape_late (g.rule n)).nullable ≡ false
-  pub first : within (shape_late (g.rule n)).first (W.first n) ≡ true
-  pub named_first : within (W.first n) (shape_late (g.rule n)).first ≡ true
-  pub more : within (shape_late (g.rule n)).more (W.more n) ≡ true
-  pub late : within (late (g.rule n)) (W.late n) ≡ true
+  pub first : within (shape_late (g.rule n)).first (W.hints.first n) ≡ true
+  pub named_first : within (W.hints.first n) (shape_late (g.rule n)).first ≡ true
+  pub more : within (shape_late (g.rule n)).more (W.hints.more n) ≡ true
+  pub late : within (late (g.rule n)) (W.hints.late n) ≡ true
 
 pub fits : {W : Names} (g : Grammar W) (X : Class) (n : W.Name) → below_faults g X n ≡ [] → Fits g X n
 fits {W = W} g X n h =
     let s = shape_late (g.rule n) in
     let A = late_faults g X false (g.rule n) in
     let N = empty_faults s in
-    let I = unnamed_faults s.first (W.first n) in
-    let J = unless (within (W.first n) s.first) (Misnamed (lacking (W.first n) s.first)) in
-    let K = unnamed_faults s.more (W.more n) in
-    let L = unnamed_faults (late (g.rule n)) (W.late n) in
+    let I = unnamed_faults s.first (W.hints.first n) in
+    let J = unless (within (W.hints.first n) s.first) (Misnamed (lacking (W.hints.first n) s.first)) in
+    let K = unnamed_faults s.more (W.hints.more n) in
+    let L = unnamed_faults (late (g.rule n)) (W.hints.late n) in
     let one = none_of A N (I ++ (J ++ (K ++ L))) h in
     let two = none_of I J (K ++ L) one.2 in
     record {
       right = one.0;
       solid = not_none s.nullable one.1;
-      first = unless_none (within s.first (W.first n)) (Unnamed (lacking s.first (W.first n))) two.0;
-      named_first = unless_none (within (W.first n) s.first) (Misnamed (lacking (W.first n) s.first)) two.1;
-      more = unless_none (within s.more (W.more n)) (Unnamed (lacking s.more (W.more n))) (no_one K L two.2);
-      late = unless_none (within (late (g.rule n)) (W.late n)) (Unnamed (lacking (late (g.rule n)) (W.late n))) (no_two K L two.2);
+      first = unless_none (within s.first (W.hints.first n)) (Unnamed (lacking s.first (W.hints.first n))) two.0;
+      named_first = unless_none (within (W.hints.first n) s.first) (Misnamed (lacking (W.hints.first n) s.first)) two.1;
+      more = unless_none (within s.more (W.hints.more n)) (Unnamed (lacking s.more (W.hints.more n))) (no_one K L two.2);
+      late = unless_none (within (late (g.rule n)) (W.hints.late n)) (Unnamed (lacking (late (g.rule n)) (W.hints.late n))) (no_two K L two.2);
     }

@@ -95,9 +95,9 @@ module _ {W : Names} (g : Grammar W) (X : Class) where
     no_more n h =
         let s = late_begins (deep g zero) (deep_at g zero) (g.rule n) h in
         let fit = fits g X n (good n) in
-        no_room_reads X (W.first n) (spelled_late (g.rule n) (deep g zero)) (read_late (g.rule n) (deep_at g zero))
-        (λ k is. s.begins k (within_is (W.first n) (first_late (g.rule n)) (kind_number k.kind) fit.named_first is)) s.nothing
-        (λ ts is. s.refuses ts (next_within (first_late (g.rule n)) (W.first n) ts fit.first is)) (λ x. goes_on (W.lets n x) (W.more n) (W.late n))
+        no_room_reads X (W.hints.first n) (spelled_late (g.rule n) (deep g zero)) (read_late (g.rule n) (deep_at g zero))
+        (λ k is. s.begins k (within_is (W.hints.first n) (first_late (g.rule n)) (kind_number k.kind) fit.named_first is)) s.nothing
+        (λ ts is. s.refuses ts (next_within (first_late (g.rule n)) (W.hints.first n) ts fit.first is)) (λ x. goes_on (W.lets n x) (W.hints.more n) (W.hints.late n))
 
     lower_reads : (d : ℕ) (room : Bool) (n : W.Name) → HasRoom room d → Below d → name_faults g room n ≡ [] → ReadsLate d (lower n)
     lower_reads zero true n is b h = absurd is
@@ -107,7 +107,7 @@ module _ {W : Names} (g : Grammar W) (X : Class) where
     mutual
       rule_reads : {T : Type 0} (r : Rule W T) (d : ℕ) (room : Bool) → HasRoom room d → Below d → faults g X room r ≡ [] → ReadsRule d r
       rule_reads (token class) d room is b h = token_reads X class (unless_none (apart class X) (HasToken class) h)
-      rule_reads (below n) d room is b h = ends_more (λ x. W.more n ++ W.late n) (λ x. whole_goes_on (W.lets n x) (W.more n) (W.late n)) (lower_reads d room n is b h)
+      rule_reads (below n) d room is b h = ends_more (λ x. W.hints.more n ++ W.hints.late n) (λ x. whole_goes_on (W.lets n x) (W.hints.more n) (W.hints.late n)) (lower_reads d room n is b h)
       rule_reads (either a c) d room is b h =
           let fit = none_of (faults g X room a) (faults g X room c) (either_faults (shape a) (shape c)) h in
           let no = no_either (shape a) (shape c) fit.2 in
@@ -216,8 +216,8 @@ module _ {W : Names} (g : Grammar W) (X : Class) where
     below_of (suc d) = λ n.
         let fit = fits g X n (good n) in
         let s = shape_late (g.rule n) in
-        begins_more (W.first n) fit.first (ends_more (λ x. goes_on (W.lets n x) (W.more n) (W.late n))
-        (λ x. goes_on_within (W.lets n x) s.more (late (g.rule n)) (W.more n) (W.late n) fit.more fit.late) (nullable_is fit.solid (late_reads (g.rule n) d false tt (below_of d) fit.right)))
+        begins_more (W.hints.first n) fit.first (ends_more (λ x. goes_on (W.lets n x) (W.hints.more n) (W.hints.late n))
+        (λ x. goes_on_within (W.lets n x) s.more (late (g.rule n)) (W.hints.more n) (W.hints.late n) fit.more fit.late) (nullable_is fit.solid (late_reads (g.rule n) d false tt (below_of d) fit.right)))
 
     -- a rule without faults is read, with any number of levels
     pub reads : {T : Type 0} (r : Rule W T) → faults g X false r ≡ [] → (d : ℕ) → ReadsRule d r

@@ -1,4 +1,5 @@
 pub mod Classes
+pub mod Numbers
 pub mod Lists
 pub mod Basic
 pub mod Choice

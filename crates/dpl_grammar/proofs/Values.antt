@@ -3,7 +3,7 @@
 use Rattle.std.proofs.Common.{◌≡◌, inl, inr, Bool, true, false, not, List, [], ◌∷◌, ◌++◌, sym, subst}
 use Rattle.dpl_syntax.specs.declared.token.Token.{Token}
 use Rattle.dpl_syntax.specs.declared.place.Place.{Place}
-use Rattle.dpl_grammar.specs.Classes.{Class}
+use Rattle.dpl_grammar.specs.Classes.{Class, in_class}
 use Rattle.dpl_grammar.specs.Each.{Each, IfThere}
 use Rattle.dpl_grammar.specs.Language as language
 use Rattle.dpl_grammar.specs.Language.{Language, SpellsEach, SpellsRun}
@@ -100,6 +100,15 @@ module _ {W : Names} (deep : Deep W) (P : Token → Type 0) where
 module _ {W : Names} {deep : Deep W} {P : Token → Type 0} where
   pub of_token : {class : Class} → OfRule deep P (token class) P
   of_token {class = class} = record { holds = token_holds P class }
+
+  -- a token is of its class
+  pub of_class : {class : Class} → OfRule deep P (token class) (λ k. P k × (in_class class k ≡ true))
+  unfolding language.token
+  of_class {class = class} = record { holds = λ u k s all. (token_holds P class u k s all, s.1) }
+
+  -- of each value what follows from what is true of it
+  pub of_weaker : {T : Type 0} {r : Rule W T} {Q R : T → Type 0} → OfRule deep P r Q → ((x : T) → Q x → R x) → OfRule deep P r R
+  of_weaker h k = record { holds = λ u x s all. k x (h.holds u x s all) }
 
   -- of each value something that is true of all
   pub of_any : {T : Type 0} {r : Rule W T} → OfRule deep P r (λ x. Unit {0})

@@ -1,7 +1,9 @@
 -- Classes of tokens, by their kinds.
 -- Whether a token is of a class, and how two classes lie to each other, computes.
-use Rattle.std.specs.Prelude.{◌≡◌, ℕ, List, [], ◌∷◌, Bool, true, false, cond, ◌==◌}
+use Rattle.std.specs.Prelude.{◌≡◌, ℕ, List, [], ◌∷◌, ◌++◌, Bool, true, false, cond, ◌==◌, Option, Some, None}
+use Rattle.dpl_syntax.specs.declared.place.Place.{Place}
 use Rattle.dpl_syntax.specs.declared.token.Keyword.{Keyword}
+use Rattle.dpl_syntax.specs.declared.token.Keyword.TheVariants.{Coforall, Here, Locales, NumLocales, On, Sync}
 use Rattle.dpl_syntax.specs.declared.token.Contextual.{Contextual}
 use Rattle.dpl_syntax.specs.declared.token.Sign.{Sign}
 use Rattle.dpl_syntax.specs.declared.token.Token.{Token}
@@ -39,6 +41,10 @@ keyword w = keyword_number w ∷ []
 abbrev pub contextual : Contextual → Class
 contextual w = contextual_number w ∷ []
 
+-- the words of tasks: those that a program needs to name a locale, a task or a cell
+abbrev pub task_words : Class
+task_words = keyword Coforall ++ (keyword On ++ (keyword Sync ++ (keyword Locales ++ (keyword NumLocales ++ keyword Here))))
+
 -- whether a class has the kind with the number
 abbrev pub has : Class → ℕ → Bool
 has [] n = false
@@ -47,6 +53,11 @@ has (k ∷ ks) n = cond (n == k) true (has ks n)
 -- whether a token is of a class
 abbrev pub in_class : Class → Token → Bool
 in_class class k = has class (kind_number k.kind)
+
+-- where the first token of a class stands
+abbrev pub first_of : Class → List Token → Option Place
+first_of class [] = None
+first_of class (k ∷ ks) = cond (in_class class k) (Some k.at) (first_of class ks)
 
 -- no token of a list is of the class
 abbrev pub Lacks : Class → List Token → Type 0

@@ -4,7 +4,7 @@ use Rattle.std.specs.Prelude.{◌≡◌, ℕ, suc, List, [], ◌∷◌, ◌++◌
 use Rattle.dpl_syntax.specs.declared.place.Place.{Place}
 use Rattle.dpl_syntax.specs.declared.token.Token.{Token}
 use Rattle.dpl_syntax.specs.declared.refusal.Code.{Code}
-use Rattle.dpl_syntax.specs.declared.refusal.Code.TheVariants.{NotText, BadCharacter, NumberTooLarge, Unexpected, TooDeep, UnknownName, NameTwice, WrongType, ConstantWritten, WrongRank, WrittenElsewhere, ReadElsewhere, OuterChanged, NotInForall, NotInCoforall, CellMisused, TooMany, BadSet}
+use Rattle.dpl_syntax.specs.declared.refusal.Code.TheVariants.{Unexpected, TooDeep}
 use Rattle.dpl_syntax.specs.declared.refusal.Refusal.{Refusal}
 use Rattle.dpl_grammar.specs.Language.{Language}
 
@@ -49,23 +49,7 @@ abbrev pub RefusesBy : {T : Type 0} → (ℕ → Language T) → ℕ → List To
 RefusesBy L levels tokens Unexpected (Some at) = IsUnexpected L levels tokens at
 RefusesBy L levels tokens Unexpected None = IsUnended L levels tokens
 RefusesBy L levels tokens TooDeep (Some at) = IsTooDeep L levels tokens at
-RefusesBy L levels tokens TooDeep None = ⊥
-RefusesBy L levels tokens NotText place = ⊥
-RefusesBy L levels tokens BadCharacter place = ⊥
-RefusesBy L levels tokens NumberTooLarge place = ⊥
-RefusesBy L levels tokens UnknownName place = ⊥
-RefusesBy L levels tokens NameTwice place = ⊥
-RefusesBy L levels tokens WrongType place = ⊥
-RefusesBy L levels tokens ConstantWritten place = ⊥
-RefusesBy L levels tokens WrongRank place = ⊥
-RefusesBy L levels tokens WrittenElsewhere place = ⊥
-RefusesBy L levels tokens ReadElsewhere place = ⊥
-RefusesBy L levels tokens OuterChanged place = ⊥
-RefusesBy L levels tokens NotInForall place = ⊥
-RefusesBy L levels tokens NotInCoforall place = ⊥
-RefusesBy L levels tokens CellMisused place = ⊥
-RefusesBy L levels tokens TooMany place = ⊥
-RefusesBy L levels tokens BadSet place = ⊥
+RefusesBy L levels tokens _ place = ⊥
 
 abbrev pub Refuses : {T : Type 0} → (ℕ → Language T) → ℕ → List Token → Refusal → Type 0
 Refuses L levels tokens refusal = RefusesBy L levels tokens refusal.code refusal.place

@@ -41,7 +41,7 @@ whole_shape a late = record { nullable = a.nullable; first = a.first; more = a.m
 abbrev mutual
   pub shape : {W : Names} {T : Type 0} → Rule W T → RuleForm
   shape (token class) = record { nullable = false; first = class; more = [] }
-  shape {W = W} (below n) = record { nullable = false; first = W.first n; more = W.more n ++ W.late n }
+  shape {W = W} (below n) = record { nullable = false; first = W.hints.first n; more = W.hints.more n ++ W.hints.late n }
   shape (either a b) = either_shape (shape a) (shape b)
   shape (many a) = repeated_shape (shape a)
   shape (run is_last a) = repeated_shape (whole_shape (shape_late a) (late a))
@@ -57,7 +57,7 @@ abbrev mutual
   pub shape_late : {W : Names} {T : Type 0} {lets : T → Bool} → Late W T lets → RuleForm
   shape_late (closed a) = shape a
   shape_late (opened a f h) = record { nullable = (shape a).nullable; first = (shape a).first; more = [] }
-  shape_late {W = W} (lower n) = record { nullable = false; first = W.first n; more = W.more n }
+  shape_late {W = W} (lower n) = record { nullable = false; first = W.hints.first n; more = W.hints.more n }
   shape_late (choice a b) = either_shape (shape_late a) (shape_late b)
   shape_late (ended head a f h) = then_shape (shape head) (shape_late a)
   shape_late (dangling a b alone both h i) = then_shape (shape_late a) (record { nullable = true; first = (shape_late b).first; more = (shape_late b).more })
@@ -66,7 +66,7 @@ abbrev mutual
   pub late : {W : Names} {T : Type 0} {lets : T → Bool} → Late W T lets → Class
   late (closed a) = []
   late (opened a f h) = (shape a).more
-  late {W = W} (lower n) = W.late n
+  late {W = W} (lower n) = W.hints.late n
   late (choice a b) = late a ++ late b
   late (ended head a f h) = late a
   late (dangling a b alone both h i) = (shape_late b).first ++ (late a ++ late b)
@@ -125,7 +125,7 @@ abbrev mutual
 
 -- with d levels; with none, only what a rule begins with is looked at, to tell whether it begins there
 abbrev pub deep_at : {W : Names} → Grammar W → ℕ → DeepAt W
-deep_at {W = W} g zero = record { room = false; rule = λ n. no_room (W.first n) }
+deep_at {W = W} g zero = record { room = false; rule = λ n. no_room (W.hints.first n) }
 deep_at g (suc d) = record { room = true; rule = λ n. read_late (g.rule n) (deep_at g d) }
 
 -- whether each token that the rule may begin with is of its own level
@@ -242,7 +242,7 @@ unnamed_faults C D = unless (within C D) (Unnamed (lacking C D))
 abbrev pub below_faults : {W : Names} → Grammar W → Class → W.Name → List Fault
 below_faults {W = W} g X n = let s = shape_late (g.rule n) in
     late_faults g X false (g.rule n) ++ (empty_faults s
-    ++ (unnamed_faults s.first (W.first n)
-    ++ (unless (within (W.first n) s.first) (Misnamed (lacking (W.first n) s.first))
-    ++ (unnamed_faults s.more (W.more n)
-    ++ unnamed_faults (late (g.rule n)) (W.late n)))))
+    ++ (unnamed_faults s.first (W.hints.first n)
+    ++ (unless (within (W.hints.first n) s.first) (Misnamed (lacking (W.hints.first n) s.first))
+    ++ (unnamed_faults s.more (W.hints.more n)
+    ++ unnamed_faults (late (g.rule n)) (W.hints.late n)))))

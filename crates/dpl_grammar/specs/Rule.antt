@@ -7,16 +7,20 @@ use Rattle.dpl_grammar.specs.Classes.{Class}
 use Rattle.dpl_grammar.specs.Language as language
 use Rattle.dpl_grammar.specs.Language.{Language, never}
 
--- The rules that may stand one level deeper: their names, and the type of what each one spells.
--- `lets` says with which values late tokens go on. The three classes are for the reader alone, and tested: `first` has each token that a rule
--- begins with, `more` each one that may go on with any value of it, and `late` each further one that may go on with a value that `lets` it.
-pub record Names : Type 1 where
-  pub Name : Type 0
-  pub Value : Name → Type 0
+-- What a reader is told of these rules, and tested; no language looks at it. `first` has each token that a rule begins with, `more` each
+-- one that may go on with any value of it, and `late` each further one that may go on with a value that `lets` it.
+pub record Hints (Name : Type 0) : Type 0 where
   pub first : Name → Class
   pub more : Name → Class
   pub late : Name → Class
+
+-- The rules that may stand one level deeper: their names, and the type of what each one spells.
+-- `lets` says with which values late tokens go on.
+pub record Names : Type 1 where
+  pub Name : Type 0
+  pub Value : Name → Type 0
   pub lets : (n : Name) → Value n → Bool
+  pub hints : Hints Name
 
 -- A value that is whole, or the beginning of one.
 pub data Beginning (B T : Type 0) : Type 0 where
