@@ -44,14 +44,14 @@ behind-several e (p ∷ ps) h = refl
 
 module _ (scopes : Scopes) where
   -- ---- what stands before the last may be typed where the whole may
-  front-typed : (ps : Posts Text) → AreSimplePosts (MayBePlain scopes) ps × PostsSpelt IsNear ps → AreSimplePosts (MayBePlain scopes) (front_of ps) × PostsSpelt IsNear (front_of ps)
+  front-typed : (ps : Posts Text) → AreSimplePosts (MayBePlain scopes) ps × PostsSpelt IsNear ⊥ ps → AreSimplePosts (MayBePlain scopes) (front_of ps) × PostsSpelt IsNear ⊥ (front_of ps)
   front-typed NoPosts h = (tt, tt)
   front-typed (Post p NoPosts) h = (tt, tt)
   front-typed (Post p (Post q rest)) h =
       let more = front-typed (Post q rest) (h.0.1, h.1.1) in
       ((h.0.0, more.0), (h.1.0, more.1))
 
-  behind-typed : (e : ExprTree Text) (ps : Posts Text) → MayBeTyped scopes e → AreSimplePosts (MayBePlain scopes) ps × PostsSpelt IsNear ps → MayBeTyped scopes (behind e ps)
+  behind-typed : (e : ExprTree Text) (ps : Posts Text) → MayBeTyped scopes e → AreSimplePosts (MayBePlain scopes) ps × PostsSpelt IsNear ⊥ ps → MayBeTyped scopes (behind e ps)
   behind-typed e NoPosts h g = h
   behind-typed e (Post p rest) h g = ((h.0, g.0, tt), (tt, h.1, g.1))
 

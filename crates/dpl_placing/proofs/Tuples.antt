@@ -17,9 +17,9 @@ pub tuple-nodes : (e : ExprTree Text) (ns : List NextExprNode) → FirstExpr e (
 tuple-nodes e ns = ap (FirstExpr e) (more-nodes ns)
 
 module _ (P : Place → Type 0) where
-  more-spelt : (xs : List (AfterComma (ExprTree Text))) → Each (PartSpelt P (ExprSpelt P)) xs → MoreExprsSpelt P (more_exprs xs)
+  more-spelt : (xs : List (AfterComma (ExprTree Text))) → Each (PartSpelt P ⊥ (ExprSpelt P ⊥)) xs → MoreExprsSpelt P ⊥ (more_exprs xs)
   more-spelt [] h = tt
   more-spelt (x ∷ xs) h = (h.0.0, h.0.1, more-spelt xs h.1)
 
-  pub tuple-spelt : (xs : Listed (ExprTree Text)) → ListSpelt P (ExprSpelt P) xs → ExprsSpelt P (tuple_exprs xs)
+  pub tuple-spelt : (xs : Listed (ExprTree Text)) → ListSpelt P ⊥ (ExprSpelt P ⊥) xs → ExprsSpelt P ⊥ (tuple_exprs xs)
   tuple-spelt xs h = (h.0, more-spelt xs.others h.1)

@@ -44,4 +44,4 @@ module _ (scopes : Scopes) where
 
   -- The map has a typed form: a text spells it, its arguments are simple, and they are of these types.
   abbrev pub HasMap : MapTree Text → Type 0
-  HasMap m = MapSpelt IsNear m × IsSimpleMap (MayBePlain scopes) m × (is_map m ≡ true)
+  HasMap m = MapSpelt IsNear ⊥ m × IsSimpleMap (MayBePlain scopes) m × (is_map m ≡ true)

@@ -66,7 +66,7 @@ IsSimpleStart Holds (StartTuple from xs upto) = AreSimpleExprs Holds (tuple_expr
 
 -- an expression may have a typed form: it is simple, and a text spells it
 abbrev pub MayBeTyped : Scopes → ExprTree Text → Type 0
-MayBeTyped scopes e = IsSimple (MayBePlain scopes) e × ExprSpelt IsNear e
+MayBeTyped scopes e = IsSimple (MayBePlain scopes) e × ExprSpelt IsNear ⊥ e
 
 -- parts that are ints
 abbrev pub are_ints : List Part → Bool

@@ -30,7 +30,7 @@ fn boxed<'t>(
     written: &Item<'_>,
 ) -> Result<&'t DomainExpr<'t>, NoNode>
     ensures node { IfOk result (λ d. item_leaves scopes.now Once (item_view written.now) ≡ One (domain_view d.now)) }
-    ensures ill_typed { (result ≡ Err stop.IllTyped) → IsSimpleItem (MayBePlain scopes.now) (item_view written.now) → ItemSpelt IsNear (item_view written.now) → has is_domain (item_type scopes.now (item_view written.now)) ≡ false }
+    ensures ill_typed { (result ≡ Err stop.IllTyped) → IsSimpleItem (MayBePlain scopes.now) (item_view written.now) → ItemSpelt IsNear ⊥ (item_view written.now) → has is_domain (item_type scopes.now (item_view written.now)) ≡ false }
 {
     let made = item(arena, scopes, written)?;
     match made {

@@ -167,7 +167,7 @@ pub(crate) fn start<'t>(
     written: &Start<'_>,
 ) -> Result<StartExpr<'t>, NoNode>
     ensures start { IfOk result (λ s. IsStartOf scopes.now (start_view written.now) s) }
-    ensures ill_typed { (result ≡ Err stop.IllTyped) → IsSimpleStart (MayBePlain scopes.now) (start_view written.now) → StartSpelt IsNear (start_view written.now) → is_start scopes.now (start_view written.now) ≡ false }
+    ensures ill_typed { (result ≡ Err stop.IllTyped) → IsSimpleStart (MayBePlain scopes.now) (start_view written.now) → StartSpelt IsNear ⊥ (start_view written.now) → is_start scopes.now (start_view written.now) ≡ false }
 {
     match written {
         Start::Expr(e) => single(arena, scopes, e),

@@ -1,7 +1,7 @@
 // Declarations of arrays: what each is over, ranges or a domain, and what its elements begin with.
 // A domain's bare name stands as it is between the brackets, since the array changes with it; what only looks like one doesn't.
 
-ghost use Rattle.std.specs.Prelude.{◌≡◌, ◌≢◌, true, false, is_some, ◌∷◌, [], Option, IfOk, IfSome, IfNone, Err, Some, None};
+ghost use Rattle.std.specs.Prelude.{◌≡◌, ◌≢◌, false, is_some, [], Option, IfOk, Err, Some, None};
 ghost use Rattle.dpl_language.specs.Tree.{FirstItem, NoItems, One, MappedTree, ItemInit, ArrayType as ArrayTypeTree};
 ghost use Rattle.dpl_language.specs.Names.{Text};
 ghost use Rattle.dpl_language.specs.Phrases.{item_over};
@@ -116,7 +116,7 @@ fn over_one<'t>(
     written: &Item<'_>,
 ) -> Result<Between<'t>, NoNode>
     ensures over { IfOk result (λ o. IsOver scopes.now (FirstItem (item_view written.now) NoItems) o) }
-    ensures ill_typed { (result ≡ Err stop.IllTyped) → IsSimpleItem (MayBePlain scopes.now) (item_view written.now) → ItemSpelt IsNear (item_view written.now) → HasNoDomain (item_parts scopes.now (FirstItem (item_view written.now) NoItems)) }
+    ensures ill_typed { (result ≡ Err stop.IllTyped) → IsSimpleItem (MayBePlain scopes.now) (item_view written.now) → ItemSpelt IsNear ⊥ (item_view written.now) → HasNoDomain (item_parts scopes.now (FirstItem (item_view written.now) NoItems)) }
 {
     let bare = is_bare(written);
     let made = item(arena, scopes, written)?;
@@ -139,7 +139,7 @@ fn over_many<'t>(
 ) -> Result<Between<'t>, NoNode>
     requires { AreMany (items_view written.now) }
     ensures over { IfOk result (λ o. IsOver scopes.now (items_view written.now) o) }
-    ensures ill_typed { (result ≡ Err stop.IllTyped) → AreSimpleItems (MayBePlain scopes.now) (items_view written.now) → ItemsSpelt IsNear (items_view written.now) → HasNoDomain (item_parts scopes.now (items_view written.now)) }
+    ensures ill_typed { (result ≡ Err stop.IllTyped) → AreSimpleItems (MayBePlain scopes.now) (items_view written.now) → ItemsSpelt IsNear ⊥ (items_view written.now) → HasNoDomain (item_parts scopes.now (items_view written.now)) }
 {
     let made = parts(arena, scopes, written)?;
     match made {
@@ -155,7 +155,7 @@ fn over<'t>(
     written: &Items<'_>,
 ) -> Result<Between<'t>, NoNode>
     ensures over { IfOk result (λ o. IsOver scopes.now (items_view written.now) o) }
-    ensures ill_typed { (result ≡ Err stop.IllTyped) → AreSimpleItems (MayBePlain scopes.now) (items_view written.now) → ItemsSpelt IsNear (items_view written.now) → HasNoDomain (item_parts scopes.now (items_view written.now)) }
+    ensures ill_typed { (result ≡ Err stop.IllTyped) → AreSimpleItems (MayBePlain scopes.now) (items_view written.now) → ItemsSpelt IsNear ⊥ (items_view written.now) → HasNoDomain (item_parts scopes.now (items_view written.now)) }
 {
     match written.others {
         [] => over_one(arena, scopes, &written.first),

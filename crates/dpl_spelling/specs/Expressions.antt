@@ -22,21 +22,13 @@ use Rattle.dpl_spelling.specs.Nested.{Expression, Item, ItemBelow, ExpressionBel
 abbrev pub bytes_of : Kind → List ℕ
 bytes_of (kind.Name text) = text
 bytes_of (kind.Contextual w) = contextual_text w
-bytes_of (kind.Number n) = []
 bytes_of (kind.Text raw) = text_value raw
-bytes_of (kind.Keyword w) = []
-bytes_of (kind.Sign s) = []
-bytes_of kind.End = []
+bytes_of _ = []
 
 -- the value of a number
 abbrev pub value_of : Kind → ℤ
-value_of (kind.Name text) = pos 0
-value_of (kind.Contextual w) = pos 0
 value_of (kind.Number n) = n
-value_of (kind.Text raw) = pos 0
-value_of (kind.Keyword w) = pos 0
-value_of (kind.Sign s) = pos 0
-value_of kind.End = pos 0
+value_of _ = pos 0
 
 -- a name
 abbrev pub name : Rule (Placed (List ℕ))
@@ -243,19 +235,8 @@ product_operator = either (means (sign sign_of.Star) Multiply) (either (means (s
 
 -- whether a factor is negated, as only the last one may be
 abbrev pub is_negated : Expression → Bool
-is_negated (Number at n) = false
-is_negated (TruthWord at b) = false
-is_negated (Named x) = false
-is_negated (LocalesWord at) = false
-is_negated (LocaleCount at) = false
-is_negated (HereWord at) = false
-is_negated (Grouped from item upto) = false
-is_negated (DomainLiteral from xs upto) = false
 is_negated (Prefixed at Minus e) = true
-is_negated (Prefixed at Not e) = false
-is_negated (Reduced at op word e) = false
-is_negated (Chain e rest) = false
-is_negated (Postfixed e posts) = false
+is_negated _ = false
 
 -- "-" neg
 abbrev pub minus : Rule (Place × Expression)
@@ -333,14 +314,7 @@ is_in_sum Subtract = true
 is_in_sum Multiply = true
 is_in_sum Divide = true
 is_in_sum Remainder = true
-is_in_sum Less = false
-is_in_sum LessEqual = false
-is_in_sum Greater = false
-is_in_sum GreaterEqual = false
-is_in_sum Equal = false
-is_in_sum NotEqual = false
-is_in_sum And = false
-is_in_sum Or = false
+is_in_sum _ = false
 
 abbrev pub are_in_sum : Links (List ℕ) → Bool
 are_in_sum NoLinks = true
@@ -348,18 +322,8 @@ are_in_sum (Link at op e rest) = is_in_sum op
 
 -- an item that is an expression; or, where that is a sum, what a range may begin with
 abbrev pub after_first : Expression → Beginning Expression Item
-after_first (Number at n) = Begun (Number at n)
-after_first (TruthWord at b) = Begun (TruthWord at b)
-after_first (Named x) = Begun (Named x)
-after_first (LocalesWord at) = Begun (LocalesWord at)
-after_first (LocaleCount at) = Begun (LocaleCount at)
-after_first (HereWord at) = Begun (HereWord at)
-after_first (Grouped from item upto) = Begun (Grouped from item upto)
-after_first (DomainLiteral from xs upto) = Begun (DomainLiteral from xs upto)
-after_first (Prefixed at op e) = Begun (Prefixed at op e)
-after_first (Reduced at op word e) = Begun (Reduced at op word e)
 after_first (Chain e rest) = cond (are_in_sum rest) (Begun (Chain e rest)) (Whole (One (Chain e rest)))
-after_first (Postfixed e posts) = Begun (Postfixed e posts)
+after_first e = Begun e
 
 -- `..`, or `..` and `#` at the place
 abbrev pub closed_or_counted : Option Token → Dots

@@ -3,9 +3,9 @@
 use Rattle.std.specs.Prelude.{ℕ, Bool, true, false, List, [], ◌++◌}
 use Rattle.dpl_syntax.specs.declared.token.Keyword.TheVariants.{True, False, Locales, NumLocales, Here, Min, Max, Const, Var, Write as WriteWord, Writeln, If as IfWord, Else as ElseWord, While as WhileWord, For as ForWord, Forall as ForallWord, Coforall as CoforallWord, On as OnWord, By as ByWord}
 use Rattle.dpl_syntax.specs.declared.token.Sign.TheVariants as sign_of
-use Rattle.dpl_language.specs.Tree.{ExprTree, ItemTree, Listed, StartTree, StmtTree, Nothing, Declare, Assigned, Call, Write, Block, If, While, For, Forall, Coforall, On, Body, WordBody, BlockBody, NoElse, ElseDo}
+use Rattle.dpl_language.specs.Tree.{ExprTree, ItemTree, Listed, StartTree, StmtTree, If, While, For, Forall, Coforall, On, Body, WordBody, BlockBody, NoElse, ElseDo}
 use Rattle.dpl_grammar.specs.Classes.{Class, names, numbers, sign, keyword}
-use Rattle.dpl_grammar.specs.Rule.{Names, Rule as RuleOf, Late as LateOf}
+use Rattle.dpl_grammar.specs.Rule.{Hints, Names, Rule as RuleOf, Late as LateOf}
 
 -- trees as they are spelled: a name is its text
 abbrev pub Expression : Type 0
@@ -25,12 +25,6 @@ pub data Inside : Type 0 where
 -- Whether an `else` may follow: the statement ends in an `if` without one.
 abbrev mutual
   pub takes_else : Statement → Bool
-  takes_else (Nothing at) = false
-  takes_else (Declare d) = false
-  takes_else (Assigned target s item semicolon) = false
-  takes_else (Call x dot c semicolon) = false
-  takes_else (Write w) = false
-  takes_else (Block from ss upto) = false
   takes_else (If at e body NoElse) = true
   takes_else (If at e body (ElseDo k s)) = takes_else s
   takes_else (While at e body) = body_takes_else body
@@ -38,6 +32,7 @@ abbrev mutual
   takes_else (Forall at xs within over with body) = body_takes_else body
   takes_else (Coforall at xs within over with body) = body_takes_else body
   takes_else (On at e body) = body_takes_else body
+  takes_else _ = false
 
   pub body_takes_else : Body (List ℕ) → Bool
   body_takes_else (WordBody at s) = takes_else s
@@ -67,7 +62,7 @@ Value InsideBelow = Inside
 Value StatementBelow = Statement
 Value PlainBelow = Statement
 
--- what each of them begins with
+-- HINTS for the reader: what each of them begins with
 
 abbrev pub reduce_signs : Class
 reduce_signs = sign sign_of.Plus ++ (sign sign_of.Star ++ (sign sign_of.AndAnd ++ (sign sign_of.OrOr ++ (sign sign_of.And ++ (sign sign_of.Or ++ (sign sign_of.Caret ++ (keyword Min ++ keyword Max)))))))
@@ -85,15 +80,11 @@ abbrev pub begins_plain : Class
 begins_plain = keyword Const ++ (keyword Var ++ (sign sign_of.Semicolon ++ (names ++ (keyword WriteWord ++ (keyword Writeln ++ (keyword IfWord ++ (keyword WhileWord ++ (keyword ForWord ++ (keyword ForallWord ++ (keyword CoforallWord ++ keyword OnWord))))))))))
 
 abbrev pub begins : Nested → Class
-begins ItemBelow = begins_expression
-begins ExpressionBelow = begins_expression
-begins NegBelow = begins_expression
 begins NotBelow = begins_not
 begins RedBelow = begins_red
-begins StartBelow = begins_expression
-begins InsideBelow = begins_expression
 begins StatementBelow = sign sign_of.OpenCurly ++ begins_plain
 begins PlainBelow = begins_plain
+begins _ = begins_expression
 
 -- what may go on with each of them
 
@@ -130,29 +121,20 @@ goes_on StatementBelow = []
 goes_on PlainBelow = []
 
 abbrev pub late_after : Nested → Class
-late_after ItemBelow = []
-late_after ExpressionBelow = []
-late_after NegBelow = []
-late_after NotBelow = []
-late_after RedBelow = []
-late_after StartBelow = []
-late_after InsideBelow = []
 late_after StatementBelow = keyword ElseWord
 late_after PlainBelow = keyword ElseWord
+late_after _ = []
 
 abbrev pub lets_late : (n : Nested) → Value n → Bool
-lets_late ItemBelow x = false
-lets_late ExpressionBelow x = false
-lets_late NegBelow x = false
-lets_late NotBelow x = false
-lets_late RedBelow x = false
-lets_late StartBelow x = false
-lets_late InsideBelow x = false
 lets_late StatementBelow s = takes_else s
 lets_late PlainBelow s = takes_else s
+lets_late _ x = false
+
+abbrev pub hints : Hints Nested
+hints = record { first = begins; more = goes_on; late = late_after }
 
 abbrev pub nested : Names
-nested = record { Name = Nested; Value = Value; first = begins; more = goes_on; late = late_after; lets = lets_late }
+nested = record { Name = Nested; Value = Value; lets = lets_late; hints = hints }
 
 abbrev pub Rule : Type 0 → Type 1
 Rule T = RuleOf nested T

@@ -1,6 +1,7 @@
 -- What is true of each tree that tokens spell: the operators of a chain are of one level, and something stands behind each base
--- that isn't alone; and of the place of each of its tokens P is true, where it is true of the places of the tokens.
-use Rattle.std.specs.Prelude.{◌≡◌, Option, Some, None}
+-- that isn't alone; of the place of each of its tokens P is true, where it is true of the places of the tokens; and W is true where it has
+-- one of the words of tasks, where that follows for the tokens.
+use Rattle.std.specs.Prelude.{◌≡◌}
 use Rattle.dpl_syntax.specs.declared.place.Place.{Place}
 use Rattle.dpl_language.specs.Spelled.{HasPosts, SaysType}
 use Rattle.dpl_language.specs.Names.{Text}
@@ -43,7 +44,7 @@ abbrev pub IsOneLevel : {N : Type 0} → Links N → Type 0
 IsOneLevel NoLinks = ⊥
 IsOneLevel (Link at op e rest) = AreOfLevel (level_of op) rest
 
-module _ (P : Place → Type 0) where
+module _ (P : Place → Type 0) (W : Type 0) where
   abbrev pub NameSpelt : Placed Text → Type 0
   NameSpelt x = P x.at
 
@@ -65,9 +66,9 @@ module _ (P : Place → Type 0) where
     ExprSpelt (Number at n) = P at
     ExprSpelt (TruthWord at b) = P at
     ExprSpelt (Named x) = NameSpelt x
-    ExprSpelt (LocalesWord at) = P at
-    ExprSpelt (LocaleCount at) = P at
-    ExprSpelt (HereWord at) = P at
+    ExprSpelt (LocalesWord at) = P at × W
+    ExprSpelt (LocaleCount at) = P at × W
+    ExprSpelt (HereWord at) = P at × W
     ExprSpelt (Grouped from item upto) = P from × ItemSpelt item × P upto
     ExprSpelt (DomainLiteral from items upto) = P from × ItemsSpelt items × P upto
     ExprSpelt (Prefixed at op e) = P at × ExprSpelt e
@@ -137,7 +138,7 @@ module _ (P : Place → Type 0) where
 
   abbrev pub TypeSpelt : TypeTree Text → Type 0
   TypeSpelt (ScalarType at k) = P at
-  TypeSpelt (SyncType at kind_at k) = P at × P kind_at
+  TypeSpelt (SyncType at kind_at k) = P at × P kind_at × W
   TypeSpelt (DomainType d) = P d.at × P d.from × P d.rank_at × P d.upto × IfThere MappedSpelt d.mapped
   TypeSpelt (ArrayType a) = P a.from × ItemsSpelt a.over × P a.upto × P a.kind_at
 
@@ -201,8 +202,8 @@ module _ (P : Place → Type 0) where
     StmtSpelt (Forall at xs word item intents body) =
         P at × VariablesSpelt xs × P word × ItemSpelt item × IfThere WithSpelt intents × BodySpelt body
     StmtSpelt (Coforall at xs word item intents body) =
-        P at × VariablesSpelt xs × P word × ItemSpelt item × IfThere WithSpelt intents × BodySpelt body
-    StmtSpelt (On at e body) = P at × ExprSpelt e × BodySpelt body
+        P at × VariablesSpelt xs × P word × ItemSpelt item × IfThere WithSpelt intents × BodySpelt body × W
+    StmtSpelt (On at e body) = P at × ExprSpelt e × BodySpelt body × W
 
     pub BodySpelt : Body Text → Type 0
     BodySpelt (WordBody at t) = P at × StmtSpelt t

@@ -62,7 +62,7 @@ pub record IsChainSoFar (scopes : Scopes) (first : Typed) (all : Links Text) (t 
   pub type : (u : Option ValueType) → IsOfType first u → (v : Option ValueType) × IsOfType t v × (chain_type scopes v left ≡ chain_type scopes u all)
   pub found : AreSimpleLinks (IsFound scopes) left → AreSimpleLinks (IsFound scopes) all
   pub scalar : AreSimpleLinks (MayBePlain scopes) all → AreSimpleLinks (MayBePlain scopes) left
-  pub near : LinksSpelt IsNear all → LinksSpelt IsNear left
+  pub near : LinksSpelt IsNear ⊥ all → LinksSpelt IsNear ⊥ left
 
 -- whatever type of its kind the first operand has, there is no chain of these behind it
 abbrev pub HasNoChain : Scopes → Typed → Links Text → Type 0
@@ -204,7 +204,7 @@ pub record ArePostsSoFar (scopes : Scopes) (base : Typed) (all : Posts Text) (t 
       → (now : Place) × (v : Option ValueType) × IsOfType t v × (posts_type scopes now v left ≡ posts_type scopes last u all)
   pub found : AreSimplePosts (IsFound scopes) left → AreSimplePosts (IsFound scopes) all
   pub scalar : AreSimplePosts (MayBePlain scopes) all → AreSimplePosts (MayBePlain scopes) left
-  pub near : PostsSpelt IsNear all → PostsSpelt IsNear left
+  pub near : PostsSpelt IsNear ⊥ all → PostsSpelt IsNear ⊥ left
 
 -- whatever type of its kind a base has, there is none with these posts behind it
 abbrev pub HaveNoPosts : Scopes → Typed → Posts Text → Type 0

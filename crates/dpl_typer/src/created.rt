@@ -29,7 +29,7 @@ fn of_one<'t>(
     written: &Item<'_>,
 ) -> Result<Typed<'t>, NoNode>
     ensures created { IfOk result (λ t. IsCreated scopes.now from (alone (item_view written.now)) t) }
-    ensures ill_typed { (result ≡ Err stop.IllTyped) → IsNear from → IsSimpleItem (MayBePlain scopes.now) (item_view written.now) → ItemSpelt IsNear (item_view written.now) → HasNoDomain (item_parts scopes.now (alone (item_view written.now))) }
+    ensures ill_typed { (result ≡ Err stop.IllTyped) → IsNear from → IsSimpleItem (MayBePlain scopes.now) (item_view written.now) → ItemSpelt IsNear ⊥ (item_view written.now) → HasNoDomain (item_parts scopes.now (alone (item_view written.now))) }
 {
     let made = item(arena, scopes, written)?;
     match made {
@@ -55,7 +55,7 @@ fn of_many<'t>(
 ) -> Result<Typed<'t>, NoNode>
     requires { AreMany (items_view written.now) }
     ensures created { IfOk result (λ t. IsCreated scopes.now from (items_view written.now) t) }
-    ensures ill_typed { (result ≡ Err stop.IllTyped) → IsNear from → AreSimpleItems (MayBePlain scopes.now) (items_view written.now) → ItemsSpelt IsNear (items_view written.now) → HasNoDomain (item_parts scopes.now (items_view written.now)) }
+    ensures ill_typed { (result ≡ Err stop.IllTyped) → IsNear from → AreSimpleItems (MayBePlain scopes.now) (items_view written.now) → ItemsSpelt IsNear ⊥ (items_view written.now) → HasNoDomain (item_parts scopes.now (items_view written.now)) }
 {
     let parts = parts(arena, scopes, written)?;
     literal(arena, from, parts)
@@ -72,7 +72,7 @@ pub fn created<'t>(
     written: &Items<'_>,
 ) -> Result<Typed<'t>, NoNode>
     ensures created { IfOk result (λ t. IsCreated scopes.now from (items_view written.now) t) }
-    ensures ill_typed { (result ≡ Err stop.IllTyped) → IsNear from → AreSimpleItems (MayBePlain scopes.now) (items_view written.now) → ItemsSpelt IsNear (items_view written.now) → HasNoDomain (item_parts scopes.now (items_view written.now)) }
+    ensures ill_typed { (result ≡ Err stop.IllTyped) → IsNear from → AreSimpleItems (MayBePlain scopes.now) (items_view written.now) → ItemsSpelt IsNear ⊥ (items_view written.now) → HasNoDomain (item_parts scopes.now (items_view written.now)) }
 {
     match written.others {
         [] => of_one(arena, scopes, from, &written.first),

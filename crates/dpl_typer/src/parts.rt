@@ -28,7 +28,7 @@ pub fn parts<'t>(
     items: &Items<'_>,
 ) -> Result<Parts<'t>, NoNode>
     ensures made { IfOk result (λ ps. ArePartsOf scopes.now (items_view items.now) ps) }
-    ensures ill_typed { (result ≡ Err stop.IllTyped) → AreSimpleItems (MayBePlain scopes.now) (items_view items.now) → ItemsSpelt IsNear (items_view items.now) → AreNoParts (item_parts scopes.now (items_view items.now)) }
+    ensures ill_typed { (result ≡ Err stop.IllTyped) → AreSimpleItems (MayBePlain scopes.now) (items_view items.now) → ItemsSpelt IsNear ⊥ (items_view items.now) → AreNoParts (item_parts scopes.now (items_view items.now)) }
 {
     let first = item(arena, scopes, &items.first)?;
     match items.others {
@@ -57,7 +57,7 @@ pub fn index<'t>(
     exprs: &Exprs<'_>,
 ) -> Result<&'t IndexExpr<'t>, NoNode>
     ensures made { IfOk result (λ t. IsIndexOf scopes.now (exprs_view exprs.now) t.now) }
-    ensures ill_typed { (result ≡ Err stop.IllTyped) → AreSimpleExprs (MayBePlain scopes.now) (exprs_view exprs.now) → ExprsSpelt IsNear (exprs_view exprs.now) → IsNoIndex (expr_parts scopes.now (exprs_view exprs.now)) }
+    ensures ill_typed { (result ≡ Err stop.IllTyped) → AreSimpleExprs (MayBePlain scopes.now) (exprs_view exprs.now) → ExprsSpelt IsNear ⊥ (exprs_view exprs.now) → IsNoIndex (expr_parts scopes.now (exprs_view exprs.now)) }
 {
     let first = expression(arena, scopes, exprs.first)?;
     match exprs.others {

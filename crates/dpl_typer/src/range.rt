@@ -34,7 +34,7 @@ pub fn range<'t>(
     ensures node { IfOk result (λ t. (m : Times) → typed_item m t ≡ item_leaves scopes.now m (range_tree range.now)) }
     ensures kind { IfOk result (λ t. IsOfType t (item_type scopes.now (range_tree range.now))) }
     ensures found { IfOk result (λ t. IsSimpleItem (IsFound scopes.now) (range_tree range.now)) }
-    ensures ill_typed { (result ≡ Err stop.IllTyped) → IsSimpleItem (MayBePlain scopes.now) (range_tree range.now) → ItemSpelt IsNear (range_tree range.now) → item_type scopes.now (range_tree range.now) ≡ None }
+    ensures ill_typed { (result ≡ Err stop.IllTyped) → IsSimpleItem (MayBePlain scopes.now) (range_tree range.now) → ItemSpelt IsNear ⊥ (range_tree range.now) → item_type scopes.now (range_tree range.now) ≡ None }
 {
     let low = expression(arena, scopes, range.low)?;
     let high = expression(arena, scopes, range.high)?;
@@ -51,7 +51,7 @@ fn stride<'t>(
 ) -> Result<dpl_nodes::Stride<'t>, NoNode>
     ensures node { IfOk result (λ s. stride_view s ≡ stride_leaves scopes.now (stride_tree by.now)) }
     ensures found { IfOk result (λ s. IsSimpleStride (IsFound scopes.now) (stride_tree by.now)) }
-    ensures ill_typed { (result ≡ Err stop.IllTyped) → IsSimpleStride (MayBePlain scopes.now) (stride_tree by.now) → StrideSpelt IsNear (stride_tree by.now) → HasNoRange scopes.now (stride_tree by.now) }
+    ensures ill_typed { (result ≡ Err stop.IllTyped) → IsSimpleStride (MayBePlain scopes.now) (stride_tree by.now) → StrideSpelt IsNear ⊥ (stride_tree by.now) → HasNoRange scopes.now (stride_tree by.now) }
 {
     match by {
         Stride::Absent => Ok(dpl_nodes::Stride::Absent),

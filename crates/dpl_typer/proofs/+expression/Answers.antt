@@ -173,7 +173,7 @@ pub post::post-returns-in-Brackets-clause-ill_typed : goal.post::post-returns-in
 post::post-returns-in-Brackets-clause-ill_typed t c = λ e s n.
     let scopes = c.args.scopes.now in
     let is = ap post_view c.in-Brackets.is in
-    subst (HasNoPost scopes c.args.base) (sym is) (c.in_square.ensures.ill_typed e (subst (IsSimplePost (MayBePlain scopes)) is s) (subst (PostSpelt IsNear) is n).1 c.in-Brackets.from c.in-Brackets.upto)
+    subst (HasNoPost scopes c.args.base) (sym is) (c.in_square.ensures.ill_typed e (subst (IsSimplePost (MayBePlain scopes)) is s) (subst (PostSpelt IsNear ⊥) is n).1 c.in-Brackets.from c.in-Brackets.upto)
 
 pub post::post-returns-in-Rounds-clause-made : goal.post::post-returns-in-Rounds-clause-made
 post::post-returns-in-Rounds-clause-made t c =
@@ -185,7 +185,7 @@ pub post::post-returns-in-Rounds-clause-ill_typed : goal.post::post-returns-in-R
 post::post-returns-in-Rounds-clause-ill_typed t c = λ e s n.
     let scopes = c.args.scopes.now in
     let is = ap post_view c.in-Rounds.is in
-    subst (HasNoPost scopes c.args.base) (sym is) (c.in_round.ensures.ill_typed e (subst (IsSimplePost (MayBePlain scopes)) is s) (subst (PostSpelt IsNear) is n).1 c.in-Rounds.from c.in-Rounds.upto)
+    subst (HasNoPost scopes c.args.base) (sym is) (c.in_round.ensures.ill_typed e (subst (IsSimplePost (MayBePlain scopes)) is s) (subst (PostSpelt IsNear ⊥) is n).1 c.in-Rounds.from c.in-Rounds.upto)
 
 pub post::post-returns-in-Dotted-clause-made : goal.post::post-returns-in-Dotted-clause-made
 post::post-returns-in-Dotted-clause-made t c =
@@ -197,7 +197,7 @@ pub post::post-returns-in-Dotted-clause-ill_typed : goal.post::post-returns-in-D
 post::post-returns-in-Dotted-clause-ill_typed t c = λ e s n.
     let scopes = c.args.scopes.now in
     let is = ap post_view c.in-Dotted.is in
-    subst (HasNoPost scopes c.args.base) (sym is) (c.method.ensures.ill_typed e (subst (IsSimplePost (MayBePlain scopes)) is s) (subst (PostSpelt IsNear) is n).1 c.in-Dotted.field-0)
+    subst (HasNoPost scopes c.args.base) (sym is) (c.method.ensures.ill_typed e (subst (IsSimplePost (MayBePlain scopes)) is s) (subst (PostSpelt IsNear ⊥) is n).1 c.in-Dotted.field-0)
 
 pub post::method-returns-in-Contains-clause-made : goal.post::method-returns-in-Contains-clause-made
 post::method-returns-in-Contains-clause-made t c =
@@ -273,7 +273,7 @@ post::method-returns-in-Expand-clause-ill_typed t c = λ e s n. λ dot.
     let scopes = c.args.scopes.now in
     let v = c.in-Expand.asked.now in
     let is = ap method_view c.in-Expand.is in
-    let near = subst (MethodSpelt IsNear) is n in
+    let near = subst (MethodSpelt IsNear ⊥) is n in
     subst (λ m. HasNoPost scopes c.args.base (Dotted dot m)) (sym is) (c.expand.ensures.ill_typed e near.0 (subst (IsSimpleMethod (MayBePlain scopes)) is s) near.2 dot v.from v.upto)
 
 -- ---- domains
@@ -283,7 +283,7 @@ elaborate::expression-returns-in_ok-parts-in-Domain-clause-ill_typed t c = λ e 
     let is = ap expr_view c.in-Domain.is in
     subst (λ x. type_of scopes x ≡ None) (sym is)
     (literal-refused scopes c.in-Domain.from c.in-Domain.upto (items_view c.in-Domain.items.now) c.in_ok-parts-in-Domain.parts c.in_ok-parts-in-Domain.ensures.made
-    (c.literal.ensures.ill_typed e (subst (ExprSpelt IsNear) is n).0))
+    (c.literal.ensures.ill_typed e (subst (ExprSpelt IsNear ⊥) is n).0))
 
 -- ---- parts
 pub parts::parts-returns-in_err-first-clause-ill_typed : goal.parts::parts-returns-in_err-first-clause-ill_typed
@@ -291,7 +291,7 @@ parts::parts-returns-in_err-first-clause-ill_typed t c = λ e s n.
     let scopes = c.args.scopes.now in
     let is = items_view_fields c.args.items.now in
     let simple = subst (AreSimpleItems (MayBePlain scopes)) is s in
-    let near = subst (ItemsSpelt IsNear) is n in
+    let near = subst (ItemsSpelt IsNear ⊥) is n in
     let refused : c.item.result ≡ Err stop.IllTyped = search rules in
     subst (λ x. AreNoParts (item_parts scopes x)) (sym is) (first-unknown (part (first_of_item (item_view (out-Items c.args.items.now).first)) (item_type scopes (item_view (out-Items c.args.items.now).first))) (more_item_parts scopes (more_items_of (out-Items c.args.items.now).others.now)) (c.item.ensures.ill_typed refused simple.0 near.0))
 
@@ -328,7 +328,7 @@ parts::parts-returns-in_err-second-in-len1-clause-ill_typed t c = λ e s n.
     let scopes = c.args.scopes.now in
     let is = two_nodes c.args.items.now c.other-item.result c.in-len1.len_at_least c.in-len1.len_below c.other-item.is in
     let simple = subst (AreSimpleItems (MayBePlain scopes)) is s in
-    let near = subst (ItemsSpelt IsNear) is n in
+    let near = subst (ItemsSpelt IsNear ⊥) is n in
     let refused : c.item-in-len1.result ≡ Err stop.IllTyped = search rules in
     subst (λ x. AreNoParts (item_parts scopes x)) (sym is) (second-unknown (part (first_of_item (item_view (out-Items c.args.items.now).first)) (item_type scopes (item_view (out-Items c.args.items.now).first))) (part (first_of_item (item_view c.other-item.result.item)) (item_type scopes (item_view c.other-item.result.item))) [] (c.item-in-len1.ensures.ill_typed refused simple.1.0 near.1.1))
 
@@ -351,7 +351,7 @@ parts::parts-returns-in_err-middle-in-len2-clause-ill_typed t c = λ e s n.
     let scopes = c.args.scopes.now in
     let is = three_nodes c.args.items.now c.next-item.result c.last-item.result c.in-len2.len_at_least c.in-len2.len_below c.next-item.is c.last-item.is in
     let simple = subst (AreSimpleItems (MayBePlain scopes)) is s in
-    let near = subst (ItemsSpelt IsNear) is n in
+    let near = subst (ItemsSpelt IsNear ⊥) is n in
     let refused : c.item-in-len2.result ≡ Err stop.IllTyped = search rules in
     subst (λ x. AreNoParts (item_parts scopes x)) (sym is) (second-unknown (part (first_of_item (item_view (out-Items c.args.items.now).first)) (item_type scopes (item_view (out-Items c.args.items.now).first))) (part (first_of_item (item_view c.next-item.result.item)) (item_type scopes (item_view c.next-item.result.item))) ((part (first_of_item (item_view c.last-item.result.item)) (item_type scopes (item_view c.last-item.result.item))) ∷ []) (c.item-in-len2.ensures.ill_typed refused simple.1.0 near.1.1))
 
@@ -360,7 +360,7 @@ parts::parts-returns-in_err-third-in-len2-clause-ill_typed t c = λ e s n.
     let scopes = c.args.scopes.now in
     let is = three_nodes c.args.items.now c.next-item.result c.last-item.result c.in-len2.len_at_least c.in-len2.len_below c.next-item.is c.last-item.is in
     let simple = subst (AreSimpleItems (MayBePlain scopes)) is s in
-    let near = subst (ItemsSpelt IsNear) is n in
+    let near = subst (ItemsSpelt IsNear ⊥) is n in
     let refused : c.item-in-len2-2.result ≡ Err stop.IllTyped = search rules in
     subst (λ x. AreNoParts (item_parts scopes x)) (sym is) (third-unknown (part (first_of_item (item_view (out-Items c.args.items.now).first)) (item_type scopes (item_view (out-Items c.args.items.now).first))) (part (first_of_item (item_view c.next-item.result.item)) (item_type scopes (item_view c.next-item.result.item))) (part (first_of_item (item_view c.last-item.result.item)) (item_type scopes (item_view c.last-item.result.item))) [] (c.item-in-len2-2.ensures.ill_typed refused simple.1.1.0 near.1.2.1))
 
@@ -372,7 +372,7 @@ parts::index-returns-in_err-first-clause-ill_typed t c = λ e s n.
     let scopes = c.args.scopes.now in
     let is = exprs_view_fields c.args.exprs.now in
     let simple = subst (AreSimpleExprs (MayBePlain scopes)) is s in
-    let near = subst (ExprsSpelt IsNear) is n in
+    let near = subst (ExprsSpelt IsNear ⊥) is n in
     let refused : c.expression.result ≡ Err stop.IllTyped = search rules in
     subst (λ x. IsNoIndex (expr_parts scopes x)) (sym is) (unindexed ((part (first_of (expr_view (out-Exprs c.args.exprs.now).first.now)) (type_of scopes (expr_view (out-Exprs c.args.exprs.now).first.now))) ∷ (more_expr_parts scopes (more_exprs_of (out-Exprs c.args.exprs.now).others.now))) (first-unknown (part (first_of (expr_view (out-Exprs c.args.exprs.now).first.now)) (type_of scopes (expr_view (out-Exprs c.args.exprs.now).first.now))) (more_expr_parts scopes (more_exprs_of (out-Exprs c.args.exprs.now).others.now)) (c.expression.ensures.ill_typed refused simple.0 near.0)))
 
@@ -409,7 +409,7 @@ parts::index-returns-in_err-second-in-len1-clause-ill_typed t c = λ e s n.
     let scopes = c.args.scopes.now in
     let is = two_arguments c.args.exprs.now c.other-item.result c.in-len1.len_at_least c.in-len1.len_below c.other-item.is in
     let simple = subst (AreSimpleExprs (MayBePlain scopes)) is s in
-    let near = subst (ExprsSpelt IsNear) is n in
+    let near = subst (ExprsSpelt IsNear ⊥) is n in
     let refused : c.expression-in-len1.result ≡ Err stop.IllTyped = search rules in
     subst (λ x. IsNoIndex (expr_parts scopes x)) (sym is) (unindexed ((part (first_of (expr_view (out-Exprs c.args.exprs.now).first.now)) (type_of scopes (expr_view (out-Exprs c.args.exprs.now).first.now))) ∷ (part (first_of (expr_view c.other-item.result.expr.now)) (type_of scopes (expr_view c.other-item.result.expr.now))) ∷ []) (second-unknown (part (first_of (expr_view (out-Exprs c.args.exprs.now).first.now)) (type_of scopes (expr_view (out-Exprs c.args.exprs.now).first.now))) (part (first_of (expr_view c.other-item.result.expr.now)) (type_of scopes (expr_view c.other-item.result.expr.now))) [] (c.expression-in-len1.ensures.ill_typed refused simple.1.0 near.1.1)))
 
@@ -432,7 +432,7 @@ parts::index-returns-in_err-middle-in-len2-clause-ill_typed t c = λ e s n.
     let scopes = c.args.scopes.now in
     let is = three_arguments c.args.exprs.now c.next-item.result c.last-item.result c.in-len2.len_at_least c.in-len2.len_below c.next-item.is c.last-item.is in
     let simple = subst (AreSimpleExprs (MayBePlain scopes)) is s in
-    let near = subst (ExprsSpelt IsNear) is n in
+    let near = subst (ExprsSpelt IsNear ⊥) is n in
     let refused : c.expression-in-len2.result ≡ Err stop.IllTyped = search rules in
     subst (λ x. IsNoIndex (expr_parts scopes x)) (sym is) (unindexed ((part (first_of (expr_view (out-Exprs c.args.exprs.now).first.now)) (type_of scopes (expr_view (out-Exprs c.args.exprs.now).first.now))) ∷ (part (first_of (expr_view c.next-item.result.expr.now)) (type_of scopes (expr_view c.next-item.result.expr.now))) ∷ (part (first_of (expr_view c.last-item.result.expr.now)) (type_of scopes (expr_view c.last-item.result.expr.now))) ∷ []) (second-unknown (part (first_of (expr_view (out-Exprs c.args.exprs.now).first.now)) (type_of scopes (expr_view (out-Exprs c.args.exprs.now).first.now))) (part (first_of (expr_view c.next-item.result.expr.now)) (type_of scopes (expr_view c.next-item.result.expr.now))) ((part (first_of (expr_view c.last-item.result.expr.now)) (type_of scopes (expr_view c.last-item.result.expr.now))) ∷ []) (c.expression-in-len2.ensures.ill_typed refused simple.1.0 near.1.1)))
 
@@ -441,7 +441,7 @@ parts::index-returns-in_err-third-in-len2-clause-ill_typed t c = λ e s n.
     let scopes = c.args.scopes.now in
     let is = three_arguments c.args.exprs.now c.next-item.result c.last-item.result c.in-len2.len_at_least c.in-len2.len_below c.next-item.is c.last-item.is in
     let simple = subst (AreSimpleExprs (MayBePlain scopes)) is s in
-    let near = subst (ExprsSpelt IsNear) is n in
+    let near = subst (ExprsSpelt IsNear ⊥) is n in
     let refused : c.expression-in-len2-2.result ≡ Err stop.IllTyped = search rules in
     subst (λ x. IsNoIndex (expr_parts scopes x)) (sym is) (unindexed ((part (first_of (expr_view (out-Exprs c.args.exprs.now).first.now)) (type_of scopes (expr_view (out-Exprs c.args.exprs.now).first.now))) ∷ (part (first_of (expr_view c.next-item.result.expr.now)) (type_of scopes (expr_view c.next-item.result.expr.now))) ∷ (part (first_of (expr_view c.last-item.result.expr.now)) (type_of scopes (expr_view c.last-item.result.expr.now))) ∷ []) (third-unknown (part (first_of (expr_view (out-Exprs c.args.exprs.now).first.now)) (type_of scopes (expr_view (out-Exprs c.args.exprs.now).first.now))) (part (first_of (expr_view c.next-item.result.expr.now)) (type_of scopes (expr_view c.next-item.result.expr.now))) (part (first_of (expr_view c.last-item.result.expr.now)) (type_of scopes (expr_view c.last-item.result.expr.now))) [] (c.expression-in-len2-2.ensures.ill_typed refused simple.1.1.0 near.1.2.1)))
 
@@ -510,6 +510,6 @@ elaborate::expression-returns-in_ok-operand-in-Reduced-clause-ill_typed t c = λ
     let operand = c.in_ok-operand-in-Reduced.operand in
     let u = type_of scopes (expr_view v.operand.now) in
     let gives = reduction-gives (op_view v.op) v.at (kind_of operand) u (type-kind operand u c.in_ok-operand-in-Reduced.ensures.kind) in
-    let spelt = subst (λ x. ExprSpelt IsNear (expr_view x)) c.in-Reduced.is near in
+    let spelt = subst (λ x. ExprSpelt IsNear ⊥ (expr_view x)) c.in-Reduced.is near in
     subst (λ x. type_of scopes (expr_view x) ≡ None) (sym c.in-Reduced.is)
     (gives-nothing (reduced_kind (op_view v.op) (kind_of operand)) (type_by (reduction_verdict v.at (op_view v.op) u)) gives (c.reduced.ensures.ill_typed refused spelt.1))

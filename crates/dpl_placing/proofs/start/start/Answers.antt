@@ -24,11 +24,11 @@ returns-in_err-t-in-Tuple-clause-ill_typed c = λ e.
     let refused : c.index.result ≡ Err stop.IllTyped = search rules in
     let es : Listed (ExprTree Text) = record { first = expr_view c.in-Tuple.first.now; others = map next_expr_view c.in-Tuple.others.now } in
     let is = c.new-exprs.ensures ∙ tuple-nodes (expr_view c.in-Tuple.first.now) c.in-Tuple.others.now in
-    let Refused : Start → Type 0 = λ w. IsSimpleStart (MayBePlain ss) (start_view w) → StartSpelt IsNear (start_view w) → is_start ss (start_view w) ≡ false in
+    let Refused : Start → Type 0 = λ w. IsSimpleStart (MayBePlain ss) (start_view w) → StartSpelt IsNear ⊥ (start_view w) → is_start ss (start_view w) ≡ false in
     subst Refused (sym c.in-Tuple.is) (λ simple spelt.
     no-ints c.in-Tuple.from (expr_parts ss (tuple_exprs es)) (subst (λ (xs : Exprs Text). IsNoIndex (expr_parts ss xs)) is (c.index.ensures.ill_typed refused
     (subst (AreSimpleExprs (MayBePlain ss)) (sym is) simple)
-    (subst (ExprsSpelt IsNear) (sym is) (tuple-spelt IsNear es spelt.1)))))
+    (subst (ExprsSpelt IsNear ⊥) (sym is) (tuple-spelt IsNear es spelt.1)))))
 
 pub returns-in_ok-t-in-Tuple-clause-start : goal.returns-in_ok-t-in-Tuple-clause-start
 returns-in_ok-t-in-Tuple-clause-start c =

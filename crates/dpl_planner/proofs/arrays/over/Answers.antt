@@ -25,5 +25,5 @@ returns-in-empty-clause-ill_typed c = λ e s n.
     let scopes = c.args.scopes.now in
     let is = one_node c.args.written.now c.in-empty.len_below in
     let simple = subst (AreSimpleItems (MayBePlain scopes)) is s in
-    let near = subst (ItemsSpelt IsNear) is n in
+    let near = subst (ItemsSpelt IsNear ⊥) is n in
     subst (λ x. HasNoDomain (item_parts scopes x)) (sym is) (c.over_one.ensures.ill_typed e simple.0 near.0)
