@@ -21,3 +21,9 @@ pub mod SlotCells
 pub mod SlotsAgree
 pub mod SlotsSample
 pub mod RenamedTwice
+-- And what a program without the words of tasks means doesn't hang on the number of locales (read LocalesFree last).
+pub mod UntaskedValues
+pub mod UntaskedRuns
+pub mod ContentsFree
+pub mod StoresFree
+pub mod LocalesFree

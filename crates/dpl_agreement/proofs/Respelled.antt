@@ -1,6 +1,6 @@
 -- A program of which each name is spelled otherwise, no two names alike, means the same.
 -- An environment by names agrees with itself over other spellings: each of its laws is met here by names that differ.
-use Rattle.std.proofs.Common.{◌≡◌, Bool, true, false, List, [], ◌∷◌, ◌++◌, refl, sym, ap, ◌∙◌, subst, Some, None, Option, map, length, drop}
+use Rattle.std.proofs.Common.{◌≡◌, Bool, true, false, List, [], ◌∷◌, ◌++◌, refl, sym, ap, ◌∙◌, subst, Some, None, Option, length, drop}
 use Rattle.std.specs.Prelude.{bytes_eq, ◌||◌, if◌then◌else◌, option_map}
 use Rattle.dpl_history.specs.declared.cell.CellState.{CellState}
 use Rattle.dpl_history.specs.declared.cell.CellOp.{CellOp}
@@ -12,7 +12,7 @@ use Rattle.dpl_sets.specs.TextRanges.{TextRange}
 use Rattle.dpl_language.specs.Tree.{Op, Assign, ProgramTree}
 use Rattle.dpl_language.specs.Values.{Value, Domain, Index, index_of, ranges_in, array_domain, is_domain}
 use Rattle.dpl_language.specs.Environment.{Content, Plain, ArrayOf, CellOf, Answer, Replied, Unanswered, Limits}
-use Rattle.dpl_language.specs.Names.{Text, Entry, Stored, Opened, Declared, Store, State, paired, look_up, change_in, without_innermost, value_in, update_in, element_in, put_in, redomained, is_over, redomain_content, redomain_in, is_array_over, arrays_over, cell_in, store_cells, cell_number, set_cell, with_cells, state_in, effect_on, call_in, by_name}
+use Rattle.dpl_language.specs.Names.{Text, Entry, Opened, Declared, Store, State, paired, look_up, change_in, without_innermost, value_in, update_in, element_in, put_in, redomained, is_over, redomain_content, redomain_in, is_array_over, arrays_over, cell_in, store_cells, cell_number, set_cell, with_cells, state_in, effect_on, call_in, by_name}
 use Rattle.dpl_language.specs.Program.{first_state, meaning, written}
 use Rattle.dpl_agreement.specs.Renamed.{renamed_content, renamed_intents, renamed_program}
 use Rattle.dpl_agreement.specs.Agreement.{AnswersAlike, Simulates}

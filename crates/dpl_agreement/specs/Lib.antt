@@ -2,3 +2,4 @@
 pub mod Renamed
 pub mod Scopes
 pub mod Agreement
+pub mod Untasked
