@@ -8,7 +8,7 @@ use Rattle.dpl_language.specs.Names.{Text}
 use Rattle.dpl_language.specs.Phrases.{intents_of}
 use Rattle.dpl_agreement.specs.Renamed.{renamed_intents}
 use Rattle.dpl_spelling.specs.Spelt.{ItemSpelt, StmtSpelt}
-use Rattle.dpl_closed.specs.Closed.{closed_item, closed_stmt}
+use Rattle.dpl_agreement.specs.Untasked.{UntaskedItem, UntaskedStmt}
 use Rattle.dpl_rules.specs.Types.{Origin}
 use Rattle.dpl_rules.specs.Sights.{Scopes, Reducing, Sight, lookup, enter}
 use Rattle.dpl_rules.specs.Assignments.{may_reduce_in}
@@ -99,7 +99,7 @@ pub enter-stands : (f : Option Turning) (scopes : Scopes) → Stands f scopes �
 enter-stands f scopes s = record { names = enter-variables scopes s.names; around = enter-around f scopes s.around }
 
 module _ (P : Place → Type 0) (scopes : Scopes) where
-  pub loop-stands : (f : Option Turning) (word : LoopWord) (xs : VariablesTree Text) (item : ItemTree Text) → Stands f scopes → ItemSpelt P item → closed_item item ≡ None
+  pub loop-stands : (f : Option Turning) (word : LoopWord) (xs : VariablesTree Text) (item : ItemTree Text) → Stands f scopes → ItemSpelt P ⊥ item → UntaskedItem item
       → header_breaches scopes word xs item ≡ [] → Stands f (in_loop scopes word xs item)
   loop-stands f word xs item at s c h = record { names = in_loop-variables scopes P at.names word xs item s c h; around = loop-around f word xs item scopes at.around }
 
@@ -119,7 +119,7 @@ module _ (P : Place → Type 0) (scopes : Scopes) where
   behind-around (Some f) (Coforall at xs word item intents body) around = around
   behind-around (Some f) (On at e body) around = around
 
-  behind-variables : (f : Option Turning) (t : StmtTree Text) → AreVariables scopes → StmtSpelt P t → closed_stmt t ≡ None → stmt_breaches (sight_by f scopes) t ≡ [] → AreVariables (behind scopes t)
+  behind-variables : (f : Option Turning) (t : StmtTree Text) → AreVariables scopes → StmtSpelt P ⊥ t → UntaskedStmt t → stmt_breaches (sight_by f scopes) t ≡ [] → AreVariables (behind scopes t)
   behind-variables f (Nothing at) names s c h = names
   behind-variables f (Declare d) names s c h = declaration-variables scopes P names d s c h
   behind-variables f (Assigned target sign item semicolon) names s c h = names
@@ -133,7 +133,7 @@ module _ (P : Place → Type 0) (scopes : Scopes) where
   behind-variables f (Coforall at xs word item intents body) names s c h = names
   behind-variables f (On at e body) names s c h = names
 
-  pub behind-stands : (f : Option Turning) (t : StmtTree Text) → Stands f scopes → StmtSpelt P t → closed_stmt t ≡ None → stmt_breaches (sight_by f scopes) t ≡ [] → Stands f (behind scopes t)
+  pub behind-stands : (f : Option Turning) (t : StmtTree Text) → Stands f scopes → StmtSpelt P ⊥ t → UntaskedStmt t → stmt_breaches (sight_by f scopes) t ≡ [] → Stands f (behind scopes t)
   behind-stands f t at s c h = record { names = behind-variables f t at.names s c h; around = behind-around f t at.around }
 
 -- ---- `reduce=`: outside foralls there is none

@@ -8,7 +8,7 @@ use Rattle.dpl_language.specs.Tree.{Kind, ArrayTypeTree, Items, FirstItem}
 use Rattle.dpl_language.specs.Names.{Text}
 use Rattle.dpl_language.specs.Phrases.{declared_over}
 use Rattle.dpl_spelling.specs.Spelt.{ItemsSpelt}
-use Rattle.dpl_closed.specs.Closed.{closed_items}
+use Rattle.dpl_agreement.specs.Untasked.{UntaskedItems}
 use Rattle.dpl_rules.specs.Types.{Origin, Over, ValueType, Scalar, Domain, Array, domain_of}
 use Rattle.dpl_rules.specs.Verdicts.{Part, Verdict, type_by, broken_by, with_type, all_known}
 use Rattle.dpl_rules.specs.Sights.{Scopes}
@@ -96,7 +96,7 @@ module _ (scopes : Scopes) (P : Place → Type 0) (names : AreVariables scopes) 
       by (k ∷ ks) g = over_verdict-spread from _ _ k g.0 t e
 
   -- so what breaks no rule has such a type
-  module _ (from : Place) (items : Items Text) (s : ItemsSpelt P items) (c : closed_items items ≡ None) (h : items_breaches scopes items ++ broken_by (over_verdict from (item_parts scopes items)) ≡ []) where
+  module _ (from : Place) (items : Items Text) (s : ItemsSpelt P ⊥ items) (c : UntaskedItems items) (h : items_breaches scopes items ++ broken_by (over_verdict from (item_parts scopes items)) ≡ []) where
     pub over-spread : (t : ValueType) × (type_by (over_verdict from (item_parts scopes items)) ≡ Some t) × IsSpread t
     over-spread =
         let verdict = over_verdict from (item_parts scopes items) in
@@ -115,7 +115,7 @@ module _ (scopes : Scopes) (P : Place → Type 0) (names : AreVariables scopes) 
         subst IsNamed (sym (e ∙ ap Some spread.is)) (record { kind = DomainKind; type = _; is = refl; of_kind = ap (λ b. kind_if b DomainKind) spread.ranked; single = refl })
 
   -- a type that breaks no rule is one of arrays
-  pub array_type-named : (self : Origin) (a : ArrayTypeTree Text) → ItemsSpelt P a.over → closed_items a.over ≡ None
+  pub array_type-named : (self : Origin) (a : ArrayTypeTree Text) → ItemsSpelt P ⊥ a.over → UntaskedItems a.over
       → items_breaches scopes a.over ++ broken_by (over_verdict a.from (item_parts scopes a.over)) ≡ [] → IsNamed (array_type scopes self a)
   array_type-named self a s c h =
       let (t, e, spread) = over-spread a.from a.over s c h in

@@ -7,7 +7,7 @@ use Rattle.dpl_syntax.specs.declared.place.Place.{Place}
 use Rattle.dpl_language.specs.Tree.{Kind, IntKind, BoolKind, Op, Placed, BracketPair, Rounds, Exprs, Assign, Set, SetAdd, SetSubtract, SetMultiply, SetDivide, SetRemainder, SetReduce, AssignTree, ItemTree, Whole, Element, CallTree}
 use Rattle.dpl_language.specs.Names.{Text}
 use Rattle.dpl_spelling.specs.Spelt.{ItemSpelt, ExprsSpelt}
-use Rattle.dpl_closed.specs.Closed.{closed_item, closed_exprs}
+use Rattle.dpl_agreement.specs.Untasked.{UntaskedItem, UntaskedExprs}
 use Rattle.dpl_rules.specs.Types.{Over, ValueType, Scalar, Domain, Array, is_cell, is_scalar, is_domain_of, fits_array}
 use Rattle.dpl_rules.specs.Verdicts.{Part, type_by, broken_by, owed_type, with_type}
 use Rattle.dpl_rules.specs.Sights.{Declared, Scopes, lookup, type_declared, Reducing, Sight}
@@ -166,7 +166,7 @@ untasked scopes forall = record { scopes = scopes; forall = forall; in_task = fa
 module _ (scopes : Scopes) (names : AreVariables scopes) (forall : Option Reducing) where
   -- ---- assignments to elements
   -- the target's type has elements, and one of them fits what it is given
-  element-runnable : (x : Text) (es : Exprs Text) (sign : AssignTree) (item : ItemTree Text) → ExprsSpelt IsNear es → ItemSpelt IsNear item → RunnableExprs scopes IsNear names es → RunnableItem scopes IsNear names item
+  element-runnable : (x : Text) (es : Exprs Text) (sign : AssignTree) (item : ItemTree Text) → ExprsSpelt IsNear ⊥ es → ItemSpelt IsNear ⊥ item → RunnableExprs scopes IsNear names es → RunnableItem scopes IsNear names item
       → (t : ValueType) (k : VariableKind) → type_in scopes x ≡ Some t → value_kind t ≡ Some k → (w : ValueType) → IsElementOf t (expr_parts scopes es) w
       → fitting_target sign false (side_part scopes item) (Some w) ≡ [] → IsRunnableElement scopes x es sign.op item
   element-runnable x es sign item r s index value t k is of_kind w element h =
@@ -194,8 +194,8 @@ module _ (scopes : Scopes) (names : AreVariables scopes) (forall : Option Reduci
         unreduced = fitting.unreduced;
       }
 
-  pub runnable_element : (x : Placed Text) (shape : BracketPair) (from : Place) (es : Exprs Text) (upto : Place) (sign : AssignTree) (item : ItemTree Text) → ExprsSpelt IsNear es → ItemSpelt IsNear item
-      → closed_exprs es ≡ None → closed_item item ≡ None → assignment_breaches (untasked scopes forall) (Element x shape from es upto) sign item ≡ [] → IsRunnableElement scopes x.name es sign.op item
+  pub runnable_element : (x : Placed Text) (shape : BracketPair) (from : Place) (es : Exprs Text) (upto : Place) (sign : AssignTree) (item : ItemTree Text) → ExprsSpelt IsNear ⊥ es → ItemSpelt IsNear ⊥ item
+      → UntaskedExprs es → UntaskedItem item → assignment_breaches (untasked scopes forall) (Element x shape from es upto) sign item ≡ [] → IsRunnableElement scopes x.name es sign.op item
   runnable_element x shape from es upto sign item r s v c h =
       let target = lookup scopes x.name in
       let named = type_by (name_verdict x.at target) in
@@ -234,7 +234,7 @@ module _ (scopes : Scopes) (names : AreVariables scopes) (forall : Option Reduci
     reduced-by x sign side t SetRemainder k e h = tt
     reduced-by x sign side t SetReduce k e h = reduces x k e (may-reduce sign.at (may_reduce_in forall (lookup scopes x)) side t h)
 
-    pub runnable_change : (x : Placed Text) (sign : AssignTree) (item : ItemTree Text) → ItemSpelt IsNear item → closed_item item ≡ None
+    pub runnable_change : (x : Placed Text) (sign : AssignTree) (item : ItemTree Text) → ItemSpelt IsNear ⊥ item → UntaskedItem item
         → assignment_breaches (untasked scopes forall) (Whole x) sign item ≡ [] → IsRunnableChange scopes is x.name sign.op item
     runnable_change x sign item s c h =
         let target = lookup scopes x.name in

@@ -14,7 +14,7 @@ use Rattle.dpl_language.specs.Declarations.{type_of as written_type}
 use Rattle.dpl_language.specs.Spelled.{SaysType}
 use Rattle.dpl_grammar.specs.Each.{IfThere}
 use Rattle.dpl_spelling.specs.Spelt.{TypeSpelt, InitSpelt, TypedSpelt, InitialSpelt, DeclareSpelt}
-use Rattle.dpl_closed.specs.Closed.{in_optional, closed_type, closed_typed, closed_init, closed_initial, closed_declare}
+use Rattle.dpl_agreement.specs.Untasked.{UntaskedIf, UntaskedType, UntaskedTyped, UntaskedInit, UntaskedInitial, UntaskedDeclare}
 use Rattle.dpl_rules.specs.Types.{Origin, ValueType, Scalar, Domain, Array, is_any_scalar}
 use Rattle.dpl_rules.specs.Verdicts.{type_by, broken_by, breach, owed, owed_type}
 use Rattle.dpl_rules.specs.Places.{first_of_item}
@@ -33,7 +33,7 @@ use Rattle.dpl_typer.proofs.OperatorKinds.{kind-same}
 use Rattle.dpl_nodes.specs.Spots.{IsNear}
 use Rattle.dpl_runnable.specs.Kinds.{IsVariable, AreVariables, IsScalarKind, IsDeclaredKind, IsGivenTo}
 use Rattle.dpl_runnable.specs.Runnable.{IsRunnableType, IsInitOf, IsInitialOf, IsShapedInit, IsShapedInitial, IsConfigOf, IsRunnableDeclare}
-use Rattle.dpl_runnable.proofs.Expressions.{kind-cases, first_open, second_open, RunnableItem, runnable_items}
+use Rattle.dpl_runnable.proofs.Expressions.{kind-cases, RunnableItem, runnable_items}
 use Rattle.dpl_runnable.proofs.Owed.{owed_type-holds, scalar-by, is_any_scalar-kind, is_domain-kind, same-given, is_scalar-given, is_domain_of-given, fits_array-given}
 use Rattle.dpl_runnable.proofs.Arrays.{over-spread, created-kind, over_domain-array, array_type-kind}
 use Rattle.dpl_runnable.proofs.Scopes.{is_untyped-kept, side-item, runnable_side, domain_type-rank, declared_by-variable}
@@ -55,15 +55,15 @@ is_kept-shaped =
 
 -- ---- types
 module _ (scopes : Scopes) (names : AreVariables scopes) where
-  type-runnable : (t : TypeTree Text) → TypeSpelt IsNear t → closed_type t ≡ None → type_breaches scopes t ≡ [] → IsRunnableType scopes (Some t)
+  type-runnable : (t : TypeTree Text) → TypeSpelt IsNear ⊥ t → UntaskedType t → type_breaches scopes t ≡ [] → IsRunnableType scopes (Some t)
   type-runnable (ScalarType at k) s c h = tt
-  type-runnable (SyncType at kind_at k) s c h = absurd cc
+  type-runnable (SyncType at kind_at k) s c h = absurd c
   type-runnable (DomainType d) s c h = domain_type-rank scopes IsNear names d h
   type-runnable (ArrayType a) s c h =
       let own = first_empty (items_breaches scopes a.over) (broken_by (over_verdict a.from (item_parts scopes a.over))) h in
       ((runnable_items scopes IsNear names a.over s.1 c own).simple, s.1, s.0)
 
-  written-runnable : (w : Option (TypedTree Text)) (i : Option (InitialTree Text)) (self : Origin) → IfThere (TypedSpelt IsNear) w → in_optional closed_typed w ≡ None
+  written-runnable : (w : Option (TypedTree Text)) (i : Option (InitialTree Text)) (self : Origin) → IfThere (TypedSpelt IsNear ⊥) w → UntaskedIf UntaskedTyped w
       → written_breaches scopes self (written_type w) i ≡ [] → IsRunnableType scopes (written_type w)
   written-runnable None i self s c h = tt
   written-runnable (Some t) i self s c h = type-runnable t.type s.1 c (first_empty (type_breaches scopes t.type) (typed_initial scopes (declared_type scopes self t.type) i) h)
@@ -77,13 +77,13 @@ module _ (scopes : Scopes) (names : AreVariables scopes) where
   side-kind : (item : ItemTree Text) (k : VariableKind) → kind_by (side_part scopes item).type ≡ Some k → kind_by (item_type scopes item) ≡ Some k
   side-kind item k e = ap kind_by (sym (side-item scopes IsNear names item)) ∙ e
 
-  untyped-init : (init : InitTree Text) (k : VariableKind) → InitSpelt IsNear init → closed_init init ≡ None → untyped_breaches scopes init ≡ [] → kind_by (init_part scopes init).type ≡ Some k
+  untyped-init : (init : InitTree Text) (k : VariableKind) → InitSpelt IsNear ⊥ init → UntaskedInit init → untyped_breaches scopes init ≡ [] → kind_by (init_part scopes init).type ≡ Some k
       → IsInitOf scopes init k
   untyped-init (ItemInit item mapped) k s c h e =
       let side = side_breaches scopes item in
       let kept = owed_type (is_untyped mapped) (first_of_item item) (side_part scopes item).type in
       let told = first_empty side kept (first_empty (side ++ kept) (mapped_breaches scopes (type_rank (side_part scopes item).type) mapped) h) in
-      (k, record { simple = (runnable_side scopes IsNear names item s.0 c told).simple; kind = side-kind item k e; near = s.0 }, same-given k k refl)
+      (k, record { simple = (runnable_side scopes IsNear names item s.0 c.0 told).simple; kind = side-kind item k e; near = s.0 }, same-given k k refl)
   untyped-init (CreateInit m) k s c h e =
       let own = first_empty (items_breaches scopes m.items) (broken_by (over_verdict m.from (item_parts scopes m.items))) h in
       let kind = created-kind scopes IsNear names m.from m.items s.4 c h in
@@ -94,13 +94,13 @@ module _ (scopes : Scopes) (names : AreVariables scopes) where
     value : RunnableItem scopes IsNear names item
     fit : is_initial t value.variable.type ≡ true
 
-  typed-first : (t : ValueType) (item : ItemTree Text) (mapped : Option (MappedTree Text)) → InitSpelt IsNear (ItemInit item mapped) → closed_init (ItemInit item mapped) ≡ None → typed_breaches scopes (Some t) (ItemInit item mapped) ≡ []
+  typed-first : (t : ValueType) (item : ItemTree Text) (mapped : Option (MappedTree Text)) → InitSpelt IsNear ⊥ (ItemInit item mapped) → UntaskedInit (ItemInit item mapped) → typed_breaches scopes (Some t) (ItemInit item mapped) ≡ []
       → IsFirst t item
   typed-first t item mapped s c h =
       let side = side_breaches scopes item in
       let agrees = agreeing (Some t) (side_part scopes item) in
       let front = first_empty (side ++ agrees) (unmapped mapped) (first_empty (side ++ agrees ++ unmapped mapped) (mapped_breaches scopes (type_rank (side_part scopes item).type) mapped) h) in
-      let value = runnable_side scopes IsNear names item s.0 c (first_empty side agrees front) in
+      let value = runnable_side scopes IsNear names item s.0 c.0 (first_empty side agrees front) in
       let is = side-item scopes IsNear names item ∙ value.variable.is in
       record { value = value; fit = owed_type-holds (is_initial t) (side_part scopes item).at (side_part scopes item).type value.variable.type is (second_empty side agrees front) }
 
@@ -110,18 +110,18 @@ module _ (scopes : Scopes) (names : AreVariables scopes) where
 
   -- a value fits a type that it may be given to at first
   typed-init : (t : ValueType) (k : VariableKind) → ((u : ValueType) (j : VariableKind) → value_kind u ≡ Some j → is_initial t u ≡ true → IsGivenTo k j)
-      → (init : InitTree Text) → InitSpelt IsNear init → closed_init init ≡ None → typed_breaches scopes (Some t) init ≡ [] → IsInitOf scopes init k
+      → (init : InitTree Text) → InitSpelt IsNear ⊥ init → UntaskedInit init → typed_breaches scopes (Some t) init ≡ [] → IsInitOf scopes init k
   typed-init t k fits (ItemInit item mapped) s c h =
       let first = typed-first t item mapped s c h in
       let p = first.value.variable in
       (p.kind, record { simple = first.value.simple; kind = ap kind_by p.is ∙ p.of_kind; near = s.0 }, fits p.type p.kind p.of_kind first.fit)
   typed-init t k fits (CreateInit m) s c h = absurd (untyped-created (Some t) m h)
 
-  type-initial : (t : TypeTree Text) (i : Option (InitialTree Text)) (self : Origin) (k : VariableKind) → IfThere (InitialSpelt IsNear) i → closed_type t ≡ None → in_optional closed_initial i ≡ None
+  type-initial : (t : TypeTree Text) (i : Option (InitialTree Text)) (self : Origin) (k : VariableKind) → IfThere (InitialSpelt IsNear ⊥) i → UntaskedType t → UntaskedIf UntaskedInitial i
       → typed_initial scopes (declared_type scopes self t) i ≡ [] → kind_by (declared_type scopes self t) ≡ Some k → IsInitialOf scopes (Some t) i k
   type-initial (ScalarType at l) None self k s v c h e = e
   type-initial (ScalarType at l) (Some i) self k s v c h e = (typed-init (Scalar l) k (λ u j f g. is_scalar-given k u j f l e g) i.init s.1 c h, s.0)
-  type-initial (SyncType at kind_at l) i self k s v c h e = absurd cc
+  type-initial (SyncType at kind_at l) i self k s v c h e = absurd v
   type-initial (DomainType d) None self k s v c h e = is_domain-kind (Domain d.rank false) k e refl
   type-initial (DomainType d) (Some i) self k s v c h e = (typed-init (Domain d.rank false) k (λ u j f g. is_domain_of-given k u j f d.rank false false e g) i.init s.1 c h, s.0)
   type-initial (ArrayType a) None self k s v c h e = sym (array_type-kind scopes self a (spread a) k e).2
@@ -130,8 +130,8 @@ module _ (scopes : Scopes) (names : AreVariables scopes) where
       let of_kind : value_kind (Array a.kind over) ≡ Some k = ap kind_by (sym is) ∙ e in
       (typed-init (Array a.kind over) k (λ u j f g. fits_array-given k u j f a.kind over of_kind g) i.init s.1 c (subst (λ o. typed_breaches scopes o i.init ≡ []) is h), s.0)
 
-  written-initial : (w : Option (TypedTree Text)) (i : Option (InitialTree Text)) (self : Origin) (k : VariableKind) → SaysType w i → IfThere (InitialSpelt IsNear) i
-      → in_optional closed_typed w ≡ None → in_optional closed_initial i ≡ None → written_breaches scopes self (written_type w) i ≡ [] → kind_by (type_given scopes self (written_type w) i) ≡ Some k
+  written-initial : (w : Option (TypedTree Text)) (i : Option (InitialTree Text)) (self : Origin) (k : VariableKind) → SaysType w i → IfThere (InitialSpelt IsNear ⊥) i
+      → UntaskedIf UntaskedTyped w → UntaskedIf UntaskedInitial i → written_breaches scopes self (written_type w) i ≡ [] → kind_by (type_given scopes self (written_type w) i) ≡ Some k
       → IsInitialOf scopes (written_type w) i k
   written-initial None None self k says s v c h e = elim says [ ]
   written-initial None (Some i) self k says s v c h e = (untyped-init i.init k s.1 c h e, s.0)
@@ -139,7 +139,7 @@ module _ (scopes : Scopes) (names : AreVariables scopes) where
       type-initial t.type i self k s v c (second_empty (type_breaches scopes t.type) (typed_initial scopes (declared_type scopes self t.type) i) h) e
 
   -- ---- what a declaration gives a name
-  untyped-kept : (init : InitTree Text) (p : IsVariable (init_part scopes init).type) → InitSpelt IsNear init → closed_init init ≡ None → untyped_breaches scopes init ≡ [] → is_kept p.type ≡ true
+  untyped-kept : (init : InitTree Text) (p : IsVariable (init_part scopes init).type) → InitSpelt IsNear ⊥ init → UntaskedInit init → untyped_breaches scopes init ≡ [] → is_kept p.type ≡ true
   untyped-kept (ItemInit item mapped) p s c h =
       let side = side_breaches scopes item in
       let kept = owed_type (is_untyped mapped) (first_of_item item) (side_part scopes item).type in
@@ -149,14 +149,14 @@ module _ (scopes : Scopes) (names : AreVariables scopes) where
       let (t, e, spread) = over-spread scopes IsNear names m.from m.items s.4 c h in
       subst (λ t. is_kept t ≡ true) (sym spread.is ∙ some-same t p.type (sym e ∙ p.is)) refl
 
-  type-kept : (t : TypeTree Text) (self : Origin) (k : VariableKind) → closed_type t ≡ None → kind_by (declared_type scopes self t) ≡ Some k → IsDeclaredKind k
+  type-kept : (t : TypeTree Text) (self : Origin) (k : VariableKind) → UntaskedType t → kind_by (declared_type scopes self t) ≡ Some k → IsDeclaredKind k
   type-kept (ScalarType at l) self k c e = scalar-by IsDeclaredKind tt tt l k e
-  type-kept (SyncType at kind_at l) self k c e = absurd cc
+  type-kept (SyncType at kind_at l) self k c e = absurd c
   type-kept (DomainType d) self k c e = subst IsDeclaredKind (sym (is_domain-kind (Domain d.rank false) k e refl)) tt
   type-kept (ArrayType a) self k c e = subst IsDeclaredKind (array_type-kind scopes self a (spread a) k e).2 tt
 
-  written-kept : (w : Option (TypedTree Text)) (i : Option (InitialTree Text)) (self : Origin) (p : IsVariable (type_given scopes self (written_type w) i)) → SaysType w i → IfThere (InitialSpelt IsNear) i
-      → in_optional closed_typed w ≡ None → in_optional closed_initial i ≡ None → written_breaches scopes self (written_type w) i ≡ [] → IsDeclaredKind p.kind
+  written-kept : (w : Option (TypedTree Text)) (i : Option (InitialTree Text)) (self : Origin) (p : IsVariable (type_given scopes self (written_type w) i)) → SaysType w i → IfThere (InitialSpelt IsNear ⊥) i
+      → UntaskedIf UntaskedTyped w → UntaskedIf UntaskedInitial i → written_breaches scopes self (written_type w) i ≡ [] → IsDeclaredKind p.kind
   written-kept None None self p says s v c h = elim says [ ]
   written-kept None (Some i) self p says s v c h = is_kept-kind p.type p.kind p.of_kind (untyped-kept i.init p s.1 c h)
   written-kept (Some t) i self p says s v c h = type-kept t.type self p.kind v (ap kind_by p.is ∙ p.of_kind)
@@ -167,37 +167,37 @@ module _ (scopes : Scopes) (names : AreVariables scopes) where
   untyped-shaped (CreateInit m) p kept = (p.type, p.is, is_kept-shaped p.type p.kind p.of_kind kept)
 
   typed-shaped : (t : ValueType) → ((u : ValueType) → is_initial t u ≡ true → takes_shape t u ≡ true)
-      → (init : InitTree Text) → InitSpelt IsNear init → closed_init init ≡ None → typed_breaches scopes (Some t) init ≡ [] → IsShapedInit scopes init t
+      → (init : InitTree Text) → InitSpelt IsNear ⊥ init → UntaskedInit init → typed_breaches scopes (Some t) init ≡ [] → IsShapedInit scopes init t
   typed-shaped t fits (ItemInit item mapped) s c h =
       let first = typed-first t item mapped s c h in
       let p = first.value.variable in
       (p.type, p.is, fits p.type first.fit)
   typed-shaped t fits (CreateInit m) s c h = absurd (untyped-created (Some t) m h)
 
-  type-shaped : (t : TypeTree Text) (i : InitTree Text) (self : Origin) (u : ValueType) → InitSpelt IsNear i → closed_type t ≡ None → closed_init i ≡ None
+  type-shaped : (t : TypeTree Text) (i : InitTree Text) (self : Origin) (u : ValueType) → InitSpelt IsNear ⊥ i → UntaskedType t → UntaskedInit i
       → typed_breaches scopes (declared_type scopes self t) i ≡ [] → declared_type scopes self t ≡ Some u → IsShapedInit scopes i u
   type-shaped (ScalarType at l) i self u s v c h e = subst (IsShapedInit scopes i) (some-same (Scalar l) u e) (typed-shaped (Scalar l) (λ w f. refl) i s c h)
-  type-shaped (SyncType at kind_at l) i self u s v c h e = absurd cc
+  type-shaped (SyncType at kind_at l) i self u s v c h e = absurd v
   type-shaped (DomainType d) i self u s v c h e = subst (IsShapedInit scopes i) (some-same (Domain d.rank false) u e) (typed-shaped (Domain d.rank false) (λ w f. f) i s c h)
   type-shaped (ArrayType a) i self u s v c h e =
       let (over, is) = over_domain-array scopes self a (spread a) u e in
       subst (IsShapedInit scopes i) (sym is) (typed-shaped (Array a.kind over) (λ w f. refl) i s c (subst (λ o. typed_breaches scopes o i ≡ []) (e ∙ ap Some is) h))
 
-  written-shaped : (w : Option (TypedTree Text)) (i : Option (InitialTree Text)) (self : Origin) (p : IsVariable (type_given scopes self (written_type w) i)) → IfThere (InitialSpelt IsNear) i
-      → in_optional closed_typed w ≡ None → in_optional closed_initial i ≡ None → written_breaches scopes self (written_type w) i ≡ [] → IsShapedInitial scopes i p.type
+  written-shaped : (w : Option (TypedTree Text)) (i : Option (InitialTree Text)) (self : Origin) (p : IsVariable (type_given scopes self (written_type w) i)) → IfThere (InitialSpelt IsNear ⊥) i
+      → UntaskedIf UntaskedTyped w → UntaskedIf UntaskedInitial i → written_breaches scopes self (written_type w) i ≡ [] → IsShapedInitial scopes i p.type
   written-shaped w None self p s v c h = tt
   written-shaped None (Some i) self p s v c h = untyped-shaped i.init p (untyped-kept i.init p s.1 c h)
   written-shaped (Some t) (Some i) self p s v c h =
       type-shaped t.type i.init self p.type s.1 v c (second_empty (type_breaches scopes t.type) (typed_breaches scopes (declared_type scopes self t.type) i.init) h) p.is
 
   -- ---- configs
-  type-config : (t : TypeTree Text) (self : Origin) (k : VariableKind) → closed_type t ≡ None → config_type t ≡ [] → kind_by (declared_type scopes self t) ≡ Some k → IsScalarKind k
+  type-config : (t : TypeTree Text) (self : Origin) (k : VariableKind) → UntaskedType t → config_type t ≡ [] → kind_by (declared_type scopes self t) ≡ Some k → IsScalarKind k
   type-config (ScalarType at l) self k c h e = scalar-by IsScalarKind tt tt l k e
-  type-config (SyncType at kind_at l) self k c h e = absurd cc
+  type-config (SyncType at kind_at l) self k c h e = absurd c
   type-config (DomainType d) self k c h e = absurd cc
   type-config (ArrayType a) self k c h e = absurd cc
 
-  written-config : (w : Option (TypedTree Text)) (i : Option (InitialTree Text)) (self : Origin) (p : IsVariable (type_given scopes self (written_type w) i)) → SaysType w i → in_optional closed_typed w ≡ None
+  written-config : (w : Option (TypedTree Text)) (i : Option (InitialTree Text)) (self : Origin) (p : IsVariable (type_given scopes self (written_type w) i)) → SaysType w i → UntaskedIf UntaskedTyped w
       → config_by scopes (written_type w) i ≡ [] → IsScalarKind p.kind
   written-config None None self p says c h = elim says [ ]
   written-config None (Some i) self p says c h =
@@ -205,7 +205,7 @@ module _ (scopes : Scopes) (names : AreVariables scopes) where
   written-config (Some t) i self p says c h = type-config t.type self p.kind c h (ap kind_by p.is ∙ p.of_kind)
 
   config-kind : (config : Option Place) (d : DeclareTree Text) (self : Origin) (p : IsVariable (type_given scopes self (written_type d.typed) d.initial)) → SaysType d.typed d.initial
-      → in_optional closed_typed d.typed ≡ None → config_breaches scopes config d ≡ [] → IsConfigOf config p.kind
+      → UntaskedIf UntaskedTyped d.typed → config_breaches scopes config d ≡ [] → IsConfigOf config p.kind
   config-kind None d self p says c h = tt
   config-kind (Some at) d self p says c h = written-config d.typed d.initial self p says c h
 
@@ -214,7 +214,7 @@ module _ (scopes : Scopes) (names : AreVariables scopes) where
   unless_refused-none (b ∷ bs) o h = absurd cc
 
   -- ---- declarations
-  pub runnable_declare : (d : DeclareTree Text) → DeclareSpelt IsNear d → closed_declare d ≡ None → declaration_breaches scopes d ≡ [] → IsRunnableDeclare scopes d
+  pub runnable_declare : (d : DeclareTree Text) → DeclareSpelt IsNear ⊥ d → UntaskedDeclare d → declaration_breaches scopes d ≡ [] → IsRunnableDeclare scopes d
   runnable_declare d s c h =
       let self = origin_in scopes d.name.name in
       let given = type_given scopes self (written_type d.typed) d.initial in
@@ -223,8 +223,8 @@ module _ (scopes : Scopes) (names : AreVariables scopes) where
       let config = config_breaches scopes d.config d in
       let front = first_empty (once ++ written) config h in
       let told = second_empty once written front in
-      let typed = first_open (in_optional closed_typed d.typed) (in_optional closed_initial d.initial) c in
-      let initial = second_open (in_optional closed_typed d.typed) (in_optional closed_initial d.initial) c in
+      let typed = c.0 in
+      let initial = c.1 in
       let same = unless_refused-none (declaration_breaches scopes d) given h in
       let declared = declared_by-variable scopes IsNear names d s c h in
       let variable : IsVariable given = record { kind = declared.kind; type = declared.type; is = sym same ∙ declared.is; of_kind = declared.of_kind } in

@@ -11,7 +11,7 @@ use Rattle.dpl_language.specs.Tree.{ItemTree, One, RangeItem, Stride, NoStride, 
 use Rattle.dpl_language.specs.Tree.{MethodTree, Plainly, Dim, Contains, Expand, CellRead, Items, FirstItem, MoreItems, NoItems, NextItem, Exprs, FirstExpr, MoreExprs, NoExprs, NextExpr}
 use Rattle.dpl_language.specs.Names.{Text}
 use Rattle.dpl_spelling.specs.Spelt.{Level, Conjunctions, Disjunctions, level_of, AreOfLevel, IsOneLevel, ExprSpelt, ItemSpelt, StrideSpelt, LinksSpelt, PostsSpelt, PostSpelt, MethodSpelt, ItemsSpelt, MoreItemsSpelt, ExprsSpelt, MoreExprsSpelt}
-use Rattle.dpl_closed.specs.Closed.{or_place, closed_expr, closed_item, closed_stride, closed_links, closed_posts, closed_post, closed_method, closed_items, closed_more_items, closed_exprs, closed_more_exprs}
+use Rattle.dpl_agreement.specs.Untasked.{UntaskedExpr, UntaskedItem, UntaskedStride, UntaskedLinks, UntaskedPosts, UntaskedPost, UntaskedMethod, UntaskedItems, UntaskedMoreItems, UntaskedExprs, UntaskedMoreExprs}
 use Rattle.dpl_rules.specs.Types.{Over, ValueType, Scalar, Range as RangeType, Domain, Array, Promoted, Tuple, Locale, AllLocales, Cell, an_int, a_bool, is_range}
 use Rattle.dpl_syntax.specs.declared.refusal.Code.TheVariants.{WrongRank}
 use Rattle.dpl_rules.specs.Verdicts.{Part, part, type_by, broken_by, owed, with_type, all_known, each_wanted}
@@ -89,19 +89,11 @@ pub two_or_more : (n : ℕ) → (suc (suc n) == 1) ≡ false
 two_or_more n = ne_eqb (suc (suc n)) 1 (λ e. omega (arith, e))
 
 -- ---- what doesn't run
-pub first_open : (a b : Option Place) → or_place a b ≡ None → a ≡ None
-first_open None b h = refl
-first_open (Some at) b h = absurd cc
-
-pub second_open : (a b : Option Place) → or_place a b ≡ None → b ≡ None
-second_open None b h = h
-second_open (Some at) b h = absurd cc
-
-pub not_bare : (e : ExprTree Text) → closed_expr e ≡ None → bare_locales e ≡ None
+pub not_bare : (e : ExprTree Text) → UntaskedExpr e → bare_locales e ≡ None
 not_bare (Number at n) h = refl
 not_bare (TruthWord at b) h = refl
 not_bare (Named x) h = refl
-not_bare (LocalesWord at) h = absurd cc
+not_bare (LocalesWord at) h = absurd h
 not_bare (LocaleCount at) h = refl
 not_bare (HereWord at) h = refl
 not_bare (Grouped from item upto) h = refl
@@ -251,16 +243,16 @@ module _ (scopes : Scopes) (P : Place → Type 0) (names : AreVariables scopes) 
   read-untyped at w from upto (Some t) = refl
 
   mutual
-    pub runnable : (e : ExprTree Text) → ExprSpelt P e → closed_expr e ≡ None → expr_breaches scopes e ≡ [] → RunnableExpr e
+    pub runnable : (e : ExprTree Text) → ExprSpelt P ⊥ e → UntaskedExpr e → expr_breaches scopes e ≡ [] → RunnableExpr e
     runnable (Number at n) s c h = record { simple = tt; variable = record { kind = PlainKind IntLeaf; type = an_int; is = refl; of_kind = refl } }
     runnable (TruthWord at b) s c h = record { simple = tt; variable = record { kind = PlainKind TruthLeaf; type = a_bool; is = refl; of_kind = refl } }
     runnable (Named x) s c h = record {
       simple = declared-variable (lookup scopes x.name) (names x.name);
       variable = name-variable x.at (lookup scopes x.name) (names x.name) (type_of-known scopes known (Named x) h);
     }
-    runnable (LocalesWord at) s c h = absurd cc
-    runnable (LocaleCount at) s c h = absurd cc
-    runnable (HereWord at) s c h = absurd cc
+    runnable (LocalesWord at) s c h = absurd c
+    runnable (LocaleCount at) s c h = absurd c
+    runnable (HereWord at) s c h = absurd c
     runnable (Grouped from item upto) s c h = let i = runnable_item item s.1 c h in record { simple = i.simple; variable = i.variable }
     runnable (DomainLiteral from items upto) s c h =
         let verdict = ranges_verdict from (item_parts scopes items) in
@@ -293,57 +285,56 @@ module _ (scopes : Scopes) (P : Place → Type 0) (names : AreVariables scopes) 
         }
     runnable (Chain e rest) s c h =
         let told = chain_breaches scopes (type_of scopes e) rest in
-        let first = runnable e s.1 (first_open (closed_expr e) (closed_links rest) c) (first_empty (expr_breaches scopes e) told h) in
-        let others = runnable_links rest (type_of scopes e) first.variable s.2 (second_open (closed_expr e) (closed_links rest) c) (second_empty (expr_breaches scopes e) told h) in
+        let first = runnable e s.1 c.0 (first_empty (expr_breaches scopes e) told h) in
+        let others = runnable_links rest (type_of scopes e) first.variable s.2 c.1 (second_empty (expr_breaches scopes e) told h) in
         record { simple = (first.simple, others.simple, one_level-nests rest s.0); variable = others.variable }
     runnable (Postfixed e posts) s c h =
         let own = none_where (bare_locales e) (expr_breaches scopes e) in
         let told = posts_breaches scopes (last_of e) (locales_or (bare_locales e) (type_of scopes e)) posts in
-        let none = not_bare e (first_open (closed_expr e) (closed_posts posts) c) in
-        let base = runnable e s.1 (first_open (closed_expr e) (closed_posts posts) c) (subst (λ o. none_where o (expr_breaches scopes e) ≡ []) none (first_empty own told h)) in
-        let all = runnable_posts posts (last_of e) (type_of scopes e) base.variable s.2 (second_open (closed_expr e) (closed_posts posts) c)
+        let none = not_bare e c.0 in
+        let base = runnable e s.1 c.0 (subst (λ o. none_where o (expr_breaches scopes e) ≡ []) none (first_empty own told h)) in
+        let all = runnable_posts posts (last_of e) (type_of scopes e) base.variable s.2 c.1
         (subst (λ o. posts_breaches scopes (last_of e) (locales_or o (type_of scopes e)) posts ≡ []) none (second_empty own told h)) in
         record {
           simple = (base.simple, all.simple, s.0);
           variable = subst (λ o. IsVariable (posts_type scopes (last_of e) (locales_or o (type_of scopes e)) posts)) (sym none) all.variable;
         }
 
-    pub runnable_item : (i : ItemTree Text) → ItemSpelt P i → closed_item i ≡ None → item_breaches scopes i ≡ [] → RunnableItem i
+    pub runnable_item : (i : ItemTree Text) → ItemSpelt P ⊥ i → UntaskedItem i → item_breaches scopes i ≡ [] → RunnableItem i
     runnable_item (One e) s c h = let x = runnable e s c h in record { simple = x.simple; variable = x.variable }
     runnable_item (RangeItem low at dots high by) s c h =
         let verdict = range_item_verdict scopes (part (first_of low) (type_of scopes low)) (part (first_of high) (type_of scopes high)) by in
         let ends = expr_breaches scopes low ++ expr_breaches scopes high in
         let parts = first_empty (ends ++ stride_breaches scopes by) (broken_by verdict) h in
         let both_ends = first_empty ends (stride_breaches scopes by) parts in
-        let behind = second_open (closed_expr low) (or_place (closed_expr high) (closed_stride by)) c in
-        let x = runnable low s.0 (first_open (closed_expr low) (or_place (closed_expr high) (closed_stride by)) c) (first_empty (expr_breaches scopes low) (expr_breaches scopes high) both_ends) in
-        let y = runnable high s.3 (first_open (closed_expr high) (closed_stride by) behind) (second_empty (expr_breaches scopes low) (expr_breaches scopes high) both_ends) in
-        let z = runnable_stride by s.4 (second_open (closed_expr high) (closed_stride by) behind) (second_empty ends (stride_breaches scopes by) parts) in
+        let x = runnable low s.0 c.0 (first_empty (expr_breaches scopes low) (expr_breaches scopes high) both_ends) in
+        let y = runnable high s.3 c.1 (second_empty (expr_breaches scopes low) (expr_breaches scopes high) both_ends) in
+        let z = runnable_stride by s.4 c.2 (second_empty ends (stride_breaches scopes by) parts) in
         record {
           simple = (x.simple, y.simple, z);
           variable = new-variable (PlainKind RangeLeaf) (type_by verdict)
               (range_item-new scopes (part (first_of low) (type_of scopes low)) (part (first_of high) (type_of scopes high)) by) (item_type-known scopes known (RangeItem low at dots high by) h);
         }
 
-    runnable_stride : (by : Stride Text) → StrideSpelt P by → closed_stride by ≡ None → stride_breaches scopes by ≡ [] → IsSimpleStride (MayBePlain scopes) by
+    runnable_stride : (by : Stride Text) → StrideSpelt P ⊥ by → UntaskedStride by → stride_breaches scopes by ≡ [] → IsSimpleStride (MayBePlain scopes) by
     runnable_stride NoStride s c h = tt
     runnable_stride (By at e) s c h = (runnable e s.1 c h).simple
 
-    runnable_links : (rest : Links Text) (o : Option ValueType) → IsVariable o → LinksSpelt P rest → closed_links rest ≡ None → chain_breaches scopes o rest ≡ [] → RunnableLinks o rest
+    runnable_links : (rest : Links Text) (o : Option ValueType) → IsVariable o → LinksSpelt P ⊥ rest → UntaskedLinks rest → chain_breaches scopes o rest ≡ [] → RunnableLinks o rest
     runnable_links NoLinks o p s c h = record { simple = tt; variable = p }
     runnable_links (Link at op e rest) o p s c h =
         let verdict = infix_verdict at op o (type_of scopes e) in
         let others = chain_breaches scopes (type_by verdict) rest in
         let front = first_empty (expr_breaches scopes e ++ broken_by verdict) others h in
-        let right = runnable e s.1 (first_open (closed_expr e) (closed_links rest) c) (first_empty (expr_breaches scopes e) (broken_by verdict) front) in
+        let right = runnable e s.1 c.0 (first_empty (expr_breaches scopes e) (broken_by verdict) front) in
         let q = right.variable in
         let typed = told-typed verdict (infix-by scopes known at op o (type_of scopes e) (p.type, p.is) (q.type, q.is)) (second_empty (expr_breaches scopes e) (broken_by verdict) front) in
         let next = gives-variable (infix_kind op p.kind q.kind) (type_by verdict)
         (infix-gives op at p.kind q.kind o (type_of scopes e) (variable-kind o p) (variable-kind (type_of scopes e) q)) typed in
-        let more = runnable_links rest (type_by verdict) next s.2 (second_open (closed_expr e) (closed_links rest) c) (second_empty (expr_breaches scopes e ++ broken_by verdict) others h) in
+        let more = runnable_links rest (type_by verdict) next s.2 c.1 (second_empty (expr_breaches scopes e ++ broken_by verdict) others h) in
         record { simple = (right.simple, more.simple); variable = more.variable }
 
-    runnable_posts : (rest : Posts Text) (last : Place) (o : Option ValueType) → IsVariable o → PostsSpelt P rest → closed_posts rest ≡ None → posts_breaches scopes last o rest ≡ [] → RunnablePosts last o rest
+    runnable_posts : (rest : Posts Text) (last : Place) (o : Option ValueType) → IsVariable o → PostsSpelt P ⊥ rest → UntaskedPosts rest → posts_breaches scopes last o rest ≡ [] → RunnablePosts last o rest
     runnable_posts NoPosts last o p s c h = record { simple = tt; variable = p }
     runnable_posts (Post q rest) last o p s c h =
         let verdict = post_verdict scopes last q o in
@@ -351,12 +342,12 @@ module _ (scopes : Scopes) (P : Place → Type 0) (names : AreVariables scopes) 
         let front = first_empty (post_breaches scopes q ++ broken_by verdict) others h in
         let parts = first_empty (post_breaches scopes q) (broken_by verdict) front in
         let typed = told-typed verdict (post-told scopes known q last o (p.type, p.is) parts) (second_empty (post_breaches scopes q) (broken_by verdict) front) in
-        let one = runnable_post q last o p s.0 (first_open (closed_post q) (closed_posts rest) c) parts typed in
-        let more = runnable_posts rest (last_of_post q) (type_by verdict) one.variable s.1 (second_open (closed_post q) (closed_posts rest) c)
+        let one = runnable_post q last o p s.0 c.0 parts typed in
+        let more = runnable_posts rest (last_of_post q) (type_by verdict) one.variable s.1 c.1
         (second_empty (post_breaches scopes q ++ broken_by verdict) others h) in
         record { simple = (one.simple, more.simple); variable = more.variable }
 
-    runnable_post : (q : PostTree Text) (last : Place) (o : Option ValueType) → IsVariable o → PostSpelt P q → closed_post q ≡ None → post_breaches scopes q ≡ [] → IsTyped (type_by (post_verdict scopes last q o))
+    runnable_post : (q : PostTree Text) (last : Place) (o : Option ValueType) → IsVariable o → PostSpelt P ⊥ q → UntaskedPost q → post_breaches scopes q ≡ [] → IsTyped (type_by (post_verdict scopes last q o))
         → RunnablePost last o q
     runnable_post (Brackets from items upto) last o p s c h typed =
         let between = runnable_items items s.1 c h in
@@ -374,7 +365,7 @@ module _ (scopes : Scopes) (P : Place → Type 0) (names : AreVariables scopes) 
         }
     runnable_post (Dotted dot m) last o p s c h typed = runnable_method dot m last o p s.1 c h typed
 
-    runnable_method : (dot : Place) (m : MethodTree Text) (last : Place) (o : Option ValueType) → IsVariable o → MethodSpelt P m → closed_method m ≡ None → method_breaches scopes m ≡ []
+    runnable_method : (dot : Place) (m : MethodTree Text) (last : Place) (o : Option ValueType) → IsVariable o → MethodSpelt P ⊥ m → UntaskedMethod m → method_breaches scopes m ≡ []
         → IsTyped (type_by (post_verdict scopes last (Dotted dot m) o)) → RunnablePost last o (Dotted dot m)
     runnable_method dot (Plainly at w) last o p s c h typed = record {
       simple = tt;
@@ -401,28 +392,28 @@ module _ (scopes : Scopes) (P : Place → Type 0) (names : AreVariables scopes) 
     runnable_method dot (CellRead at w from upto) last o p s c h typed = absurd (none-some typed.0 (sym (read-untyped at w from upto o) ∙ typed.1))
 
     -- ---- between brackets
-    pub runnable_items : (items : Items Text) → ItemsSpelt P items → closed_items items ≡ None → items_breaches scopes items ≡ [] → RunnableItems items
+    pub runnable_items : (items : Items Text) → ItemsSpelt P ⊥ items → UntaskedItems items → items_breaches scopes items ≡ [] → RunnableItems items
     runnable_items (FirstItem i more) s c h =
-        let first = runnable_item i s.0 (first_open (closed_item i) (closed_more_items more) c) (first_empty (item_breaches scopes i) (more_items_breaches scopes more) h) in
-        let others = runnable_more_items more s.1 (second_open (closed_item i) (closed_more_items more) c) (second_empty (item_breaches scopes i) (more_items_breaches scopes more) h) in
+        let first = runnable_item i s.0 c.0 (first_empty (item_breaches scopes i) (more_items_breaches scopes more) h) in
+        let others = runnable_more_items more s.1 c.1 (second_empty (item_breaches scopes i) (more_items_breaches scopes more) h) in
         record { simple = (first.simple, others.simple); kinds = first.variable.kind ∷ others.kinds; of_kinds = (variable-kind (item_type scopes i) first.variable, others.of_kinds) }
 
-    runnable_more_items : (more : MoreItems Text) → MoreItemsSpelt P more → closed_more_items more ≡ None → more_items_breaches scopes more ≡ [] → RunnableMoreItems more
+    runnable_more_items : (more : MoreItems Text) → MoreItemsSpelt P ⊥ more → UntaskedMoreItems more → more_items_breaches scopes more ≡ [] → RunnableMoreItems more
     runnable_more_items NoItems s c h = record { simple = tt; kinds = []; of_kinds = tt }
     runnable_more_items (NextItem comma i more) s c h =
-        let first = runnable_item i s.1 (first_open (closed_item i) (closed_more_items more) c) (first_empty (item_breaches scopes i) (more_items_breaches scopes more) h) in
-        let others = runnable_more_items more s.2 (second_open (closed_item i) (closed_more_items more) c) (second_empty (item_breaches scopes i) (more_items_breaches scopes more) h) in
+        let first = runnable_item i s.1 c.0 (first_empty (item_breaches scopes i) (more_items_breaches scopes more) h) in
+        let others = runnable_more_items more s.2 c.1 (second_empty (item_breaches scopes i) (more_items_breaches scopes more) h) in
         record { simple = (first.simple, others.simple); kinds = first.variable.kind ∷ others.kinds; of_kinds = (variable-kind (item_type scopes i) first.variable, others.of_kinds) }
 
-    pub runnable_exprs : (es : Exprs Text) → ExprsSpelt P es → closed_exprs es ≡ None → exprs_breaches scopes es ≡ [] → RunnableExprs es
+    pub runnable_exprs : (es : Exprs Text) → ExprsSpelt P ⊥ es → UntaskedExprs es → exprs_breaches scopes es ≡ [] → RunnableExprs es
     runnable_exprs (FirstExpr e more) s c h =
-        let first = runnable e s.0 (first_open (closed_expr e) (closed_more_exprs more) c) (first_empty (expr_breaches scopes e) (more_exprs_breaches scopes more) h) in
-        let others = runnable_more_exprs more s.1 (second_open (closed_expr e) (closed_more_exprs more) c) (second_empty (expr_breaches scopes e) (more_exprs_breaches scopes more) h) in
+        let first = runnable e s.0 c.0 (first_empty (expr_breaches scopes e) (more_exprs_breaches scopes more) h) in
+        let others = runnable_more_exprs more s.1 c.1 (second_empty (expr_breaches scopes e) (more_exprs_breaches scopes more) h) in
         record { simple = (first.simple, others.simple); kinds = first.variable.kind ∷ others.kinds; of_kinds = (variable-kind (type_of scopes e) first.variable, others.of_kinds) }
 
-    runnable_more_exprs : (more : MoreExprs Text) → MoreExprsSpelt P more → closed_more_exprs more ≡ None → more_exprs_breaches scopes more ≡ [] → RunnableMoreExprs more
+    runnable_more_exprs : (more : MoreExprs Text) → MoreExprsSpelt P ⊥ more → UntaskedMoreExprs more → more_exprs_breaches scopes more ≡ [] → RunnableMoreExprs more
     runnable_more_exprs NoExprs s c h = record { simple = tt; kinds = []; of_kinds = tt }
     runnable_more_exprs (NextExpr comma e more) s c h =
-        let first = runnable e s.1 (first_open (closed_expr e) (closed_more_exprs more) c) (first_empty (expr_breaches scopes e) (more_exprs_breaches scopes more) h) in
-        let others = runnable_more_exprs more s.2 (second_open (closed_expr e) (closed_more_exprs more) c) (second_empty (expr_breaches scopes e) (more_exprs_breaches scopes more) h) in
+        let first = runnable e s.1 c.0 (first_empty (expr_breaches scopes e) (more_exprs_breaches scopes more) h) in
+        let others = runnable_more_exprs more s.2 c.1 (second_empty (expr_breaches scopes e) (more_exprs_breaches scopes more) h) in
         record { simple = (first.simple, others.simple); kinds = first.variable.kind ∷ others.kinds; of_kinds = (variable-kind (type_of scopes e) first.variable, others.of_kinds) }

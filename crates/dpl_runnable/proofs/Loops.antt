@@ -1,11 +1,11 @@
 -- Loops that a text spells, that need nothing which doesn't run and that break no rule run over ranges and have one variable, or
 -- over domains and have one or as many as the rank.
-use Rattle.std.proofs.Common.{◌≡◌, ◌≢◌, Bool, true, List, [], ◌∷◌, ◌++◌, map, length, Some, None, refl, ap, ◌∙◌, subst}
+use Rattle.std.proofs.Common.{◌≡◌, ◌≢◌, Bool, true, List, [], ◌∷◌, ◌++◌, map, length, Some, refl, ap, ◌∙◌, subst}
 use Rattle.std.specs.Prelude.{◌==◌}
 use Rattle.dpl_language.specs.Tree.{Placed, AfterComma, ItemTree, VariablesTree, OneVariable, ManyVariables}
 use Rattle.dpl_language.specs.Names.{Text}
 use Rattle.dpl_spelling.specs.Spelt.{ItemSpelt}
-use Rattle.dpl_closed.specs.Closed.{closed_item}
+use Rattle.dpl_agreement.specs.Untasked.{UntaskedItem}
 use Rattle.dpl_rules.specs.Types.{ValueType, Range}
 use Rattle.dpl_rules.specs.Sights.{Scopes}
 use Rattle.dpl_rules.specs.Loops.{LoopWord, fits_variables, header_of, over_type, over_breaches, variables_once, header_breaches}
@@ -35,7 +35,7 @@ header-runs word xs several =
     kind-cases (λ t. IsTurned word xs t → RunsOver xs t) (λ l h. absurd (runs_over-nothing word h.runs)) (λ s h. one-variable xs s several h.fits) (λ rank s r h. h.fits)
     (λ l over r h. absurd (runs_over-nothing word h.runs)) (λ l over r h. absurd (runs_over-nothing word h.runs)) (λ rank r h. absurd (runs_over-nothing word h.runs))
 
-pub runnable_header : (scopes : Scopes) → AreVariables scopes → (word : LoopWord) (xs : VariablesTree Text) (item : ItemTree Text) → HasSeveral xs → ItemSpelt IsNear item → closed_item item ≡ None
+pub runnable_header : (scopes : Scopes) → AreVariables scopes → (word : LoopWord) (xs : VariablesTree Text) (item : ItemTree Text) → HasSeveral xs → ItemSpelt IsNear ⊥ item → UntaskedItem item
     → header_breaches scopes word xs item ≡ [] → IsRunnableHeader scopes xs item
 runnable_header scopes names word xs item several s c h =
     let over = over_breaches scopes item in

@@ -7,7 +7,7 @@ use Rattle.dpl_language.specs.Phrases.{bare_name}
 use Rattle.dpl_language.specs.Writing.{arguments_of}
 use Rattle.dpl_grammar.specs.Each.{Each, IfThere}
 use Rattle.dpl_spelling.specs.Spelt.{PartSpelt, ListSpelt, ExprSpelt, ArgumentSpelt}
-use Rattle.dpl_closed.specs.Closed.{in_optional, in_others, in_listed, closed_expr, closed_argument}
+use Rattle.dpl_agreement.specs.Untasked.{UntaskedIf, UntaskedOthers, UntaskedList, UntaskedExpr, UntaskedArgument}
 use Rattle.dpl_rules.specs.Types.{ValueType, is_bool}
 use Rattle.dpl_rules.specs.Verdicts.{wanted, owed_type}
 use Rattle.dpl_rules.specs.Places.{first_of}
@@ -21,7 +21,7 @@ use Rattle.dpl_typer.specs.Leaves.{value_kind, kind_by}
 use Rattle.dpl_nodes.specs.Spots.{IsNear}
 use Rattle.dpl_runnable.specs.Kinds.{AreVariables, IsScalarKind}
 use Rattle.dpl_runnable.specs.Runnable.{IsExprOf, IsShown, IsRunnableArgument, AreRunnableArguments}
-use Rattle.dpl_runnable.proofs.Expressions.{kind-cases, first_open, second_open, runnable}
+use Rattle.dpl_runnable.proofs.Expressions.{kind-cases, runnable}
 use Rattle.dpl_runnable.proofs.Owed.{owed_type-holds, is_scalar-is, scalar-by, is_any_scalar-kind, array-kind}
 use Rattle.dpl_runnable.proofs.Scopes.{side-item, runnable_side}
 use Rattle.dpl_runnable.proofs.Changes.{untasked}
@@ -60,7 +60,7 @@ module _ (t : ValueType) (k : VariableKind) (of_kind : value_kind t ≡ Some k) 
 
 module _ (scopes : Scopes) (names : AreVariables scopes) (forall : Option Reducing) where
   -- ---- arguments
-  argument-runnable : (a : ArgumentTree Text) (rest : List (ArgumentTree Text)) → ArgumentSpelt IsNear a → closed_argument a ≡ None
+  argument-runnable : (a : ArgumentTree Text) (rest : List (ArgumentTree Text)) → ArgumentSpelt IsNear ⊥ a → UntaskedArgument a
       → printed_breaches (untasked scopes forall) (a ∷ rest) ≡ [] → IsRunnableArgument scopes a
   argument-runnable (TextArgument at cs) rest s c h = tt
   argument-runnable (ExprArgument e) rest s c h =
@@ -85,27 +85,27 @@ module _ (scopes : Scopes) (names : AreVariables scopes) (forall : Option Reduci
       let sight = untasked scopes forall in
       second_empty (side_breaches scopes (One e) ++ wanted (is_printed (bare_name e)) (side_part scopes (One e))) (printed_breaches sight rest) h
 
-  others-runnable : (xs : List (AfterComma (ArgumentTree Text))) → Each (PartSpelt IsNear (ArgumentSpelt IsNear)) xs → in_others closed_argument xs ≡ None
+  others-runnable : (xs : List (AfterComma (ArgumentTree Text))) → Each (PartSpelt IsNear ⊥ (ArgumentSpelt IsNear ⊥)) xs → UntaskedOthers UntaskedArgument xs
       → printed_breaches (untasked scopes forall) (map {A = AfterComma (ArgumentTree Text)} {B = ArgumentTree Text} (λ x. x.part) xs) ≡ []
       → AreRunnableArguments scopes (map {A = AfterComma (ArgumentTree Text)} {B = ArgumentTree Text} (λ x. x.part) xs)
   others-runnable [] s c h = tt
   others-runnable (x ∷ xs) s c h =
       let rest = map {A = AfterComma (ArgumentTree Text)} {B = ArgumentTree Text} (λ x. x.part) xs in (
-        argument-runnable x.part rest s.0.1 (first_open (closed_argument x.part) (in_others closed_argument xs) c) h,
-        others-runnable xs s.1 (second_open (closed_argument x.part) (in_others closed_argument xs) c) (argument-rest x.part rest h),
+        argument-runnable x.part rest s.0.1 c.0 h,
+        others-runnable xs s.1 c.1 (argument-rest x.part rest h),
       )
 
-  pub runnable_arguments : (xs : Option (Listed (ArgumentTree Text))) → IfThere (ListSpelt IsNear (ArgumentSpelt IsNear)) xs → in_optional (in_listed closed_argument) xs ≡ None
+  pub runnable_arguments : (xs : Option (Listed (ArgumentTree Text))) → IfThere (ListSpelt IsNear ⊥ (ArgumentSpelt IsNear ⊥)) xs → UntaskedIf (UntaskedList UntaskedArgument) xs
       → printed_breaches (untasked scopes forall) (arguments_of xs) ≡ [] → AreRunnableArguments scopes (arguments_of xs)
   runnable_arguments None s c h = tt
   runnable_arguments (Some xs) s c h =
       let rest = map {A = AfterComma (ArgumentTree Text)} {B = ArgumentTree Text} (λ x. x.part) xs.others in (
-        argument-runnable xs.first rest s.0 (first_open (closed_argument xs.first) (in_others closed_argument xs.others) c) h,
-        others-runnable xs.others s.1 (second_open (closed_argument xs.first) (in_others closed_argument xs.others) c) (argument-rest xs.first rest h),
+        argument-runnable xs.first rest s.0 c.0 h,
+        others-runnable xs.others s.1 c.1 (argument-rest xs.first rest h),
       )
 
   -- ---- conditions
-  pub runnable_condition : (e : ExprTree Text) → ExprSpelt IsNear e → closed_expr e ≡ None → condition_breaches (untasked scopes forall) e ≡ [] → IsExprOf scopes e (PlainKind TruthLeaf)
+  pub runnable_condition : (e : ExprTree Text) → ExprSpelt IsNear ⊥ e → UntaskedExpr e → condition_breaches (untasked scopes forall) e ≡ [] → IsExprOf scopes e (PlainKind TruthLeaf)
   runnable_condition e s c h =
       let own = expr_breaches scopes e in
       let wrong = owed_type is_bool (first_of e) (type_of scopes e) in

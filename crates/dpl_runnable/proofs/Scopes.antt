@@ -13,7 +13,7 @@ use Rattle.dpl_language.specs.Declarations.{type_of as written_type}
 use Rattle.dpl_language.specs.Spelled.{SaysType}
 use Rattle.dpl_grammar.specs.Each.{IfThere}
 use Rattle.dpl_spelling.specs.Spelt.{ItemSpelt, TypeSpelt, InitSpelt, TypedSpelt, InitialSpelt, DeclareSpelt}
-use Rattle.dpl_closed.specs.Closed.{in_optional, closed_item, closed_type, closed_typed, closed_init, closed_initial, closed_declare}
+use Rattle.dpl_agreement.specs.Untasked.{UntaskedIf, UntaskedItem, UntaskedType, UntaskedTyped, UntaskedInit, UntaskedInitial, UntaskedDeclare}
 use Rattle.dpl_syntax.specs.declared.refusal.Code.TheVariants.{WrongType, WrongRank}
 use Rattle.dpl_rules.specs.Types.{Origin, ValueType, Scalar, Range, Domain, Array, Promoted, Tuple, Locale, AllLocales, Cell, is_domain, an_int, cell_of}
 use Rattle.dpl_rules.specs.Verdicts.{owed, owed_type, breach}
@@ -34,7 +34,7 @@ use Rattle.dpl_typer.specs.Sights.{is_promoted_type}
 use Rattle.dpl_runnable.specs.Kinds.{IsVariable, IsNamed, AreVariables}
 use Rattle.dpl_runnable.proofs.Arrays.{created-named, array_type-named}
 use Rattle.dpl_runnable.proofs.Owed.{owed-holds, owed_type-holds}
-use Rattle.dpl_runnable.proofs.Expressions.{kind-cases, first_open, second_open, not_bare, RunnableItem, runnable_item}
+use Rattle.dpl_runnable.proofs.Expressions.{kind-cases, not_bare, RunnableItem, runnable_item}
 
 -- ---- scopes
 pub top-variables : AreVariables top
@@ -166,19 +166,19 @@ module _ (scopes : Scopes) (P : Place → Type 0) (names : AreVariables scopes) 
   pub side-item : (item : ItemTree Text) → (side_part scopes item).type ≡ item_type scopes item
   side-item item = ap (λ o. read_or_type o (item_type scopes item)) (unread (item_read item))
 
-  pub runnable_side : (item : ItemTree Text) → ItemSpelt P item → closed_item item ≡ None → side_breaches scopes item ≡ [] → RunnableItem scopes P names item
+  pub runnable_side : (item : ItemTree Text) → ItemSpelt P ⊥ item → UntaskedItem item → side_breaches scopes item ≡ [] → RunnableItem scopes P names item
   runnable_side item s c h = runnable_item scopes P names item s c (subst (λ o. read_or_breaches o (item_breaches scopes item) ≡ []) (unread (item_read item)) h)
 
-  side-variable : (item : ItemTree Text) → ItemSpelt P item → closed_item item ≡ None → side_breaches scopes item ≡ [] → IsVariable (side_part scopes item).type
+  side-variable : (item : ItemTree Text) → ItemSpelt P ⊥ item → UntaskedItem item → side_breaches scopes item ≡ [] → IsVariable (side_part scopes item).type
   side-variable item s c h = subst IsVariable (sym (side-item item)) (runnable_side item s c h).variable
 
   -- ---- declarations
-  init-variable : (init : InitTree Text) → InitSpelt P init → closed_init init ≡ None → untyped_breaches scopes init ≡ [] → IsNamed (init_part scopes init).type
+  init-variable : (init : InitTree Text) → InitSpelt P ⊥ init → UntaskedInit init → untyped_breaches scopes init ≡ [] → IsNamed (init_part scopes init).type
   init-variable (ItemInit item mapped) s c h =
       let side = side_breaches scopes item in
       let kept = owed_type (is_untyped mapped) (first_of_item item) (side_part scopes item).type in
       let front = first_empty (side ++ kept) (mapped_breaches scopes (type_rank (side_part scopes item).type) mapped) h in
-      let p = side-variable item s.0 c (first_empty side kept front) in
+      let p = side-variable item s.0 c.0 (first_empty side kept front) in
       let told = owed_type-holds (is_untyped mapped) (first_of_item item) (side_part scopes item).type p.type p.is (second_empty side kept front) in
       record { kind = p.kind; type = p.type; is = p.is; of_kind = p.of_kind; single = is_kept-single p.type (is_untyped-kept mapped p.type told) }
   init-variable (CreateInit m) s c h = created-named scopes P names m.from m.items s.4 c h
@@ -189,14 +189,14 @@ module _ (scopes : Scopes) (P : Place → Type 0) (names : AreVariables scopes) 
       let ranked = nat_le 1 d.rank && nat_le d.rank 3 in
       owed-holds ranked d.rank_at WrongRank (first_empty (owed ranked d.rank_at WrongRank) (mapped_breaches scopes (Some d.rank) d.mapped) h)
 
-  type-variable : (self : Origin) (t : TypeTree Text) → TypeSpelt P t → closed_type t ≡ None → type_breaches scopes t ≡ [] → IsNamed (declared_type scopes self t)
+  type-variable : (self : Origin) (t : TypeTree Text) → TypeSpelt P ⊥ t → UntaskedType t → type_breaches scopes t ≡ [] → IsNamed (declared_type scopes self t)
   type-variable self (ScalarType at k) s c h = scalar-variable k
-  type-variable self (SyncType at kind_at k) s c h = absurd cc
+  type-variable self (SyncType at kind_at k) s c h = absurd c
   type-variable self (DomainType d) s c h = domain-variable d.rank false (one_to_three d.rank (domain_type-rank d h))
   type-variable self (ArrayType a) s c h = array_type-named scopes P names self a s.1 c h
 
-  given-variable : (self : Origin) (w : Option (TypedTree Text)) (i : Option (InitialTree Text)) → SaysType w i → IfThere (TypedSpelt P) w → IfThere (InitialSpelt P) i
-      → in_optional closed_typed w ≡ None → in_optional closed_initial i ≡ None → written_breaches scopes self (written_type w) i ≡ [] → IsNamed (type_given scopes self (written_type w) i)
+  given-variable : (self : Origin) (w : Option (TypedTree Text)) (i : Option (InitialTree Text)) → SaysType w i → IfThere (TypedSpelt P ⊥) w → IfThere (InitialSpelt P ⊥) i
+      → UntaskedIf UntaskedTyped w → UntaskedIf UntaskedInitial i → written_breaches scopes self (written_type w) i ≡ [] → IsNamed (type_given scopes self (written_type w) i)
   given-variable self None None says r s v c h = elim says [ ]
   given-variable self None (Some i) says r s v c h = init-variable i.init s.1 c h
   given-variable self (Some t) i says r s v c h = type-variable self t.type r.1 v (first_empty (type_breaches scopes t.type) (typed_initial scopes (declared_type scopes self t.type) i) h)
@@ -206,32 +206,31 @@ module _ (scopes : Scopes) (P : Place → Type 0) (names : AreVariables scopes) 
   unrefused-variable (b ∷ bs) o h p = absurd cc
 
   -- what is declared has a type of such a kind
-  pub declared_by-variable : (d : DeclareTree Text) → DeclareSpelt P d → closed_declare d ≡ None → declaration_breaches scopes d ≡ [] → IsNamed (declared_by scopes d).type
+  pub declared_by-variable : (d : DeclareTree Text) → DeclareSpelt P ⊥ d → UntaskedDeclare d → declaration_breaches scopes d ≡ [] → IsNamed (declared_by scopes d).type
   declared_by-variable d s c h =
       let self = origin_in scopes d.name.name in
       let written = written_breaches scopes self (written_type d.typed) d.initial in
       unrefused-variable (declaration_breaches scopes d) (type_given scopes self (written_type d.typed) d.initial) h
-      (given-variable self d.typed d.initial s.0 s.4 s.5 (first_open (in_optional closed_typed d.typed) (in_optional closed_initial d.initial) c)
-      (second_open (in_optional closed_typed d.typed) (in_optional closed_initial d.initial) c) (second_empty _ written (first_empty _ (config_breaches scopes d.config d) h)))
+      (given-variable self d.typed d.initial s.0 s.4 s.5 c.0 c.1 (second_empty _ written (first_empty _ (config_breaches scopes d.config d) h)))
 
-  pub declaration-variables : (d : DeclareTree Text) → DeclareSpelt P d → closed_declare d ≡ None → declaration_breaches scopes d ≡ [] → AreVariables (behind scopes (Declare d))
+  pub declaration-variables : (d : DeclareTree Text) → DeclareSpelt P ⊥ d → UntaskedDeclare d → declaration_breaches scopes d ≡ [] → AreVariables (behind scopes (Declare d))
   declaration-variables d s c h = add-variables scopes (declared_by scopes d) names (declared_by-variable d s c h)
 
   -- ---- loops
   -- what a loop runs over is no bare word
-  pub over-type : (item : ItemTree Text) → closed_item item ≡ None → over_type scopes item ≡ item_type scopes item
+  pub over-type : (item : ItemTree Text) → UntaskedItem item → over_type scopes item ≡ item_type scopes item
   over-type (One e) c = ap (λ o. locales_or o (item_type scopes (One e))) (not_bare e c)
   over-type (RangeItem low at dots high by) c = refl
 
-  over-told : (item : ItemTree Text) → closed_item item ≡ None → over_breaches scopes item ≡ item_breaches scopes item
+  over-told : (item : ItemTree Text) → UntaskedItem item → over_breaches scopes item ≡ item_breaches scopes item
   over-told (One e) c = ap (λ o. none_where o (item_breaches scopes (One e))) (not_bare e c)
   over-told (RangeItem low at dots high by) c = refl
 
-  pub runnable_over : (item : ItemTree Text) → ItemSpelt P item → closed_item item ≡ None → over_breaches scopes item ≡ [] → RunnableItem scopes P names item
+  pub runnable_over : (item : ItemTree Text) → ItemSpelt P ⊥ item → UntaskedItem item → over_breaches scopes item ≡ [] → RunnableItem scopes P names item
   runnable_over item s c h = runnable_item scopes P names item s c (sym (over-told item c) ∙ h)
 
   -- in a loop's body each variable of the loop is an int or a tuple
-  pub in_loop-variables : (word : LoopWord) (xs : VariablesTree Text) (item : ItemTree Text) → ItemSpelt P item → closed_item item ≡ None → header_breaches scopes word xs item ≡ []
+  pub in_loop-variables : (word : LoopWord) (xs : VariablesTree Text) (item : ItemTree Text) → ItemSpelt P ⊥ item → UntaskedItem item → header_breaches scopes word xs item ≡ []
       → AreVariables (in_loop scopes word xs item)
   in_loop-variables word xs item s c h =
       let over = over_breaches scopes item in

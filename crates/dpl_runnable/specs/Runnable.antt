@@ -34,12 +34,12 @@ use Rattle.dpl_runnable.specs.Kinds.{IsScalarKind, IsDeclaredKind, IsAssignedKin
 pub record IsExprOf (ss : Scopes) (e : ExprTree Text) (k : VariableKind) : Type 0 where
   pub simple : IsSimple (MayBePlain ss) e
   pub kind : kind_by (type_of ss e) ≡ Some k
-  pub near : ExprSpelt IsNear e
+  pub near : ExprSpelt IsNear ⊥ e
 
 pub record IsItemOf (ss : Scopes) (i : ItemTree Text) (k : VariableKind) : Type 0 where
   pub simple : IsSimpleItem (MayBePlain ss) i
   pub kind : kind_by (item_type ss i) ≡ Some k
-  pub near : ItemSpelt IsNear i
+  pub near : ItemSpelt IsNear ⊥ i
 
 -- DECLARATIONS: `int`, `bool`, `domain` of a rank, an array, or no type; and a value, a created domain, or the type's default. Of a map
 -- nothing is asked, since it is never evaluated.
@@ -48,7 +48,7 @@ IsRunnableType ss None = Unit {0}
 IsRunnableType ss (Some (ScalarType at k)) = Unit {0}
 IsRunnableType ss (Some (SyncType at kind_at k)) = ⊥
 IsRunnableType ss (Some (DomainType d)) = (nat_le 1 d.rank && nat_le d.rank 3) ≡ true
-IsRunnableType ss (Some (ArrayType a)) = AreSimpleItems (MayBePlain ss) a.over × ItemsSpelt IsNear a.over × IsNear a.from
+IsRunnableType ss (Some (ArrayType a)) = AreSimpleItems (MayBePlain ss) a.over × ItemsSpelt IsNear ⊥ a.over × IsNear a.from
 
 abbrev pub IsDefaultOf : Option (TypeTree Text) → VariableKind → Type 0
 IsDefaultOf None k = ⊥
@@ -64,7 +64,7 @@ created_type ss c = type_by (over_verdict c.from (item_parts ss c.items))
 pub record IsCreatedOf (ss : Scopes) (c : CreateTree Text) (k : VariableKind) : Type 0 where
   pub simple : AreSimpleItems (MayBePlain ss) c.items
   pub kind : kind_by (created_type ss c) ≡ Some k
-  pub near : ItemsSpelt IsNear c.items
+  pub near : ItemsSpelt IsNear ⊥ c.items
   pub from : IsNear c.from
 
 -- a value of the name's kind, or of what an array's elements may be; no array is given a domain
@@ -138,7 +138,7 @@ pub record IsRunnableElement (ss : Scopes) (x : Text) (es : Exprs Text) (op : As
   pub kind : Kind
   pub target : kind_in ss x ≡ Some (ArrayKind kind)
   pub simple : AreSimpleExprs (MayBePlain ss) es
-  pub near : ExprsSpelt IsNear es
+  pub near : ExprsSpelt IsNear ⊥ es
   pub index : IsNoIndex (expr_parts ss es) → ⊥
   pub item : IsItemOf ss value (PlainKind (leaf_of kind))
   pub taken : kind_takes (ArrayKind kind) op ≡ true

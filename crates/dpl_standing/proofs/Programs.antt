@@ -6,7 +6,7 @@ use Rattle.dpl_language.specs.Names.{Text}
 use Rattle.dpl_agreement.specs.Renamed.{renamed_stmts, renamed_program}
 use Rattle.dpl_lowered.specs.Known.{Known}
 use Rattle.dpl_lowered.specs.LoweredStatements.{lowered_program}
-use Rattle.dpl_closed.specs.Closed.{closed_stmts}
+use Rattle.dpl_agreement.specs.Untasked.{UntaskedStmts}
 use Rattle.dpl_rules.specs.Doings.{stmts_deeds}
 use Rattle.dpl_rules.specs.Bodies.{inner_reductions}
 use Rattle.dpl_rules.specs.Breaches.{top, top_sight, stmts_breaches, count_breaches, all_declarations, breaches, first_breach}
@@ -29,7 +29,7 @@ refused-none t h = unbroken-stmts t ((sound_exactly t).1 h)
 
 -- ---- a program
 pub resolved-stands : {B C : Type 0} (f : B → Text) (g : B → C) (known : C → Known) (t : ProgramTree Text) (r : ProgramTree B)
-    → closed_stmts t.stmts ≡ None → stmts_breaches top_sight t.stmts ≡ [] → renamed_program f r ≡ t
+    → UntaskedStmts t.stmts → stmts_breaches top_sight t.stmts ≡ [] → renamed_program f r ≡ t
     → AllMayStand Outside (lowered_program known (renamed_program g r)).stmts
 resolved-stands f g known t r c h e =
     let spelled = subst (λ p. AllMayStand Outside p.stmts) (sym e) (program_stmts-stand top_sight t.stmts c h) in

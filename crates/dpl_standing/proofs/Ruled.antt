@@ -1,11 +1,10 @@
 -- What breaks no rule stands where it may. In a forall's turn C9 forbids prints and loops that make turns or tasks;
 -- outside it is asked that nothing needs what doesn't run yet, so that there are no tasks.
-use Rattle.std.proofs.Common.{◌≡◌, false, List, [], ◌∷◌, ◌++◌, Option, Some, None, refl, sym, ap, ◌∙◌, append_assoc}
-use Rattle.dpl_syntax.specs.declared.place.Place.{Place}
+use Rattle.std.proofs.Common.{◌≡◌, false, List, [], ◌∷◌, ◌++◌, refl, sym, ap, ◌∙◌, append_assoc}
 use Rattle.dpl_syntax.specs.declared.refusal.Breach.{Breach}
 use Rattle.dpl_language.specs.Tree.{StmtTree, Nothing, Declare, Assigned, Call, Write, Block, If, While, For, Forall, Coforall, On, Body, WordBody, BlockBody, Stmts, NoStmts, Then, Else, NoElse, ElseDo}
 use Rattle.dpl_language.specs.Names.{Text}
-use Rattle.dpl_closed.specs.Closed.{or_place, closed_expr, closed_item, closed_stmt, closed_body, closed_stmts, closed_else}
+use Rattle.dpl_agreement.specs.Untasked.{UntaskedStmt, UntaskedBody, UntaskedStmts, UntaskedElse}
 use Rattle.dpl_rules.specs.Types.{Origin}
 use Rattle.dpl_rules.specs.Sights.{Scopes, Sight, enter, inside}
 use Rattle.dpl_rules.specs.Assignments.{condition_breaches}
@@ -75,16 +74,8 @@ module _ (loop : Turns) (written : List Origin) where
     turn_else-stands ss (ElseDo at t) m = turn-stands ss t m
 
 -- ---- outside of foralls: no part needs what doesn't run
-first_open : (a b : Option Place) → or_place a b ≡ None → a ≡ None
-first_open None b c = refl
-first_open (Some at) b c = absurd cc
-
-second_open : (a b : Option Place) → or_place a b ≡ None → b ≡ None
-second_open None b c = c
-second_open (Some at) b c = absurd cc
-
 mutual
-  pub program-stands : (sight : Sight) (t : StmtTree Text) → closed_stmt t ≡ None → stmt_breaches sight t ≡ [] → MayStand Outside t
+  pub program-stands : (sight : Sight) (t : StmtTree Text) → UntaskedStmt t → stmt_breaches sight t ≡ [] → MayStand Outside t
   program-stands sight (Nothing at) c h = tt
   program-stands sight (Declare d) c h = tt
   program-stands sight (Assigned target sign item semicolon) c h = tt
@@ -95,17 +86,16 @@ mutual
       let within = inside sight (enter sight.scopes) in
       let test = condition_breaches sight e in
       let one = body_breaches within first in
-      let other = else_breaches within second in
-      let behind_test = second_open (closed_expr e) (or_place (closed_body first) (closed_else second)) c in (
-        program_body-stands within first (first_open (closed_body first) (closed_else second) behind_test) (second_empty test one (first_empty (test ++ one) other h)),
-        program_else-stands within second (second_open (closed_body first) (closed_else second) behind_test) (second_empty (test ++ one) other h),
+      let other = else_breaches within second in (
+        program_body-stands within first c.1 (second_empty test one (first_empty (test ++ one) other h)),
+        program_else-stands within second c.2 (second_empty (test ++ one) other h),
       )
   program-stands sight (While at e body) c h =
       let within = inside sight (enter sight.scopes) in
-      program_body-stands within body (second_open (closed_expr e) (closed_body body) c) (second_empty (condition_breaches sight e) (body_breaches within body) h)
+      program_body-stands within body c.1 (second_empty (condition_breaches sight e) (body_breaches within body) h)
   program-stands sight (For at xs word item body) c h =
       let within = inside sight (in_loop sight.scopes ForWord xs item) in
-      program_body-stands within body (second_open (closed_item item) (closed_body body) c) (second_empty (header_breaches sight.scopes ForWord xs item) (body_breaches within body) h)
+      program_body-stands within body c.1 (second_empty (header_breaches sight.scopes ForWord xs item) (body_breaches within body) h)
   program-stands sight (Forall at xs word item intents body) c h =
       let inner = in_loop sight.scopes ForallWord xs item in
       let ds = body_deeds inner body in
@@ -114,23 +104,23 @@ mutual
       let told = forall_breaches loop ds in
       let others = body_breaches (in_forall sight xs item intents) body in
       (tt, turn_body-stands loop (written_arrays loop ds) inner body (second_empty heads told (first_empty (heads ++ told) others h)))
-  program-stands sight (Coforall at xs word item intents body) c h = absurd cc
-  program-stands sight (On at e body) c h = absurd cc
+  program-stands sight (Coforall at xs word item intents body) c h = absurd c
+  program-stands sight (On at e body) c h = absurd c
 
-  pub program_body-stands : (sight : Sight) (t : Body Text) → closed_body t ≡ None → body_breaches sight t ≡ [] → BodyMayStand Outside t
+  pub program_body-stands : (sight : Sight) (t : Body Text) → UntaskedBody t → body_breaches sight t ≡ [] → BodyMayStand Outside t
   program_body-stands sight (WordBody at t) c h = program-stands sight t c h
   program_body-stands sight (BlockBody from ts upto) c h = program_stmts-stand sight ts c h
 
-  pub program_stmts-stand : (sight : Sight) (ts : Stmts Text) → closed_stmts ts ≡ None → stmts_breaches sight ts ≡ [] → AllMayStand Outside ts
+  pub program_stmts-stand : (sight : Sight) (ts : Stmts Text) → UntaskedStmts ts → stmts_breaches sight ts ≡ [] → AllMayStand Outside ts
   program_stmts-stand sight NoStmts c h = tt
   program_stmts-stand sight (Then t rest) c h =
       let within = inside sight (behind sight.scopes t) in
       let own = stmt_breaches sight t in
       let others = stmts_breaches within rest in (
-        program-stands sight t (first_open (closed_stmt t) (closed_stmts rest) c) (first_empty own others h),
-        program_stmts-stand within rest (second_open (closed_stmt t) (closed_stmts rest) c) (second_empty own others h),
+        program-stands sight t c.0 (first_empty own others h),
+        program_stmts-stand within rest c.1 (second_empty own others h),
       )
 
-  pub program_else-stands : (sight : Sight) (t : Else Text) → closed_else t ≡ None → else_breaches sight t ≡ [] → ElseMayStand Outside t
+  pub program_else-stands : (sight : Sight) (t : Else Text) → UntaskedElse t → else_breaches sight t ≡ [] → ElseMayStand Outside t
   program_else-stands sight NoElse c h = tt
   program_else-stands sight (ElseDo at t) c h = program-stands sight t c h

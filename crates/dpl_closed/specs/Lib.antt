@@ -1,2 +1,0 @@
--- The forms that do not run yet.
-pub mod Closed
