@@ -1,2 +1,4 @@
 pub mod OneSaying
+pub mod Untasked
+pub mod Anywhere
 pub mod Worked

@@ -4,7 +4,7 @@ use Rattle.std.specs.Prelude.{ℕ, List, [], ◌∷◌, ◌++◌, codes}
 use Rattle.dpl_history.specs.declared.cell.CellState.{CellState}
 use Rattle.dpl_history.specs.declared.cell.CellState.TheVariants.{Empty, Full}
 use Rattle.dpl_language.specs.Tree.{Kind}
-use Rattle.dpl_language.specs.Values.{Value, Int, Truth, Range, Domain, Array, Cell, Locale, AllLocales, Tuple, value_kept}
+use Rattle.dpl_language.specs.Values.{Value, Int, Truth, value_kept}
 use Rattle.dpl_language.specs.Environment.{Content, Plain, ArrayOf, CellOf}
 use Rattle.dpl_language.specs.Names.{Text, Frame}
 use Rattle.dpl_language.specs.Printing.{printed}
@@ -16,13 +16,7 @@ value_line x text = x ++ codes " = " ++ text ++ 10 ∷ []
 abbrev pub plain_line : Text → Value → List ℕ
 plain_line x (Int n) = value_line x (printed (Int n))
 plain_line x (Truth b) = value_line x (printed (Truth b))
-plain_line x (Range r) = []
-plain_line x (Domain rs) = []
-plain_line x (Array k rs) = []
-plain_line x (Cell k) = []
-plain_line x (Locale k) = []
-plain_line x AllLocales = []
-plain_line x (Tuple t) = []
+plain_line x _ = []
 
 -- `name = empty`, or what a full cell holds
 abbrev pub cell_text : Kind → CellState → List ℕ

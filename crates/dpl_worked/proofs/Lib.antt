@@ -8,5 +8,6 @@ pub mod Names
 pub mod Expressions
 pub mod Statements
 pub mod Foralls
--- Rows: what texts write.
+-- Rows: what texts write, and which word of them does not run.
+pub mod Closed
 pub mod Runs

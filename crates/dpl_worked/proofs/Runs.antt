@@ -1,5 +1,5 @@
 -- What texts write, computed from their bytes on: programs without tasks, on one locale, with the budget that a run has by default.
--- `writes_said` is what a row says: the bytes that the text says.
+-- `writes_said` is what a row says: the text comes to these bytes.
 use Rattle.std.proofs.Common.{◌≡◌, inr, ℕ, List, [], ◌∷◌, Option, Some, None, Ok, Err, refl, subst, sym}
 use Rattle.std.specs.Prelude.{codes}
 use Rattle.std.specs.Int.{int_wrap}
@@ -10,18 +10,21 @@ use Rattle.dpl_syntax.specs.Text.{Lexes}
 use Rattle.dpl_syntax.specs.declared.token.Token.{Token}
 use Rattle.dpl_syntax.specs.declared.refusal.Refusal.{Refusal}
 use Rattle.dpl_grammar.specs.Reader.{Read}
-use Rattle.dpl_language.specs.Names.{State}
-use Rattle.dpl_language.specs.Outcome.{Entered, Outcome}
+use Rattle.dpl_language.specs.Names.{State, by_name}
+use Rattle.dpl_language.specs.Values.{fault, CellStuck}
+use Rattle.dpl_language.specs.Outcome.{Entered, Outcome, Done, Stop, Waits, no_deeds}
+use Rattle.dpl_language.specs.Statements.{exec_all}
 use Rattle.dpl_language.specs.Environment.{Limits}
-use Rattle.dpl_language.specs.Program.{written, deeds_of}
+use Rattle.dpl_language.specs.Program.{settled, first_state, written, deeds_of, top_level, own_frame}
 use Rattle.dpl_language.specs.Together.{Happened, AllTogether}
 use Rattle.dpl_spelling.specs.Grammar.{Program}
 use Rattle.dpl_spelling.proofs.Programs.{read, read_spelled}
 use Rattle.dpl_rules.specs.Sound.{refusal}
-use Rattle.dpl_says.specs.Says.{run_of, Says}
+use Rattle.dpl_says.specs.Given.{given}
+use Rattle.dpl_says.specs.Says.{Ending, Leaves, Faults, ending_of, run_of, IsProgram, ComesTo}
 use Rattle.dpl_worked.proofs.Lexer.{tokens_of}
 use Rattle.dpl_worked.proofs.Lexed.{tokens_lexed}
-use Rattle.dpl_worked.proofs.Texts.{by_text}
+use Rattle.dpl_worked.proofs.Texts.{by_text, by_rules}
 
 abbrev limits : Limits
 limits = record { budget = 16777216; locales = 1 }
@@ -55,6 +58,19 @@ writes text = of_tokens (tokens_of text)
 
 -- ---- what that is
 
+-- the text comes to some end, and to these bytes
+abbrev SaysSo : List ℕ → List ℕ → Type 0
+SaysSo text said = (e : Ending) × ComesTo [] text [] limits [] e said
+
+-- a run has an end: none waits for ever
+settled_ends : (o : Outcome State) → (e : Ending) × (ending_of (settled o) ≡ Some e)
+settled_ends (Done s done) = (Leaves (own_frame (top_level s.store)), refl)
+settled_ends (Stop f done) = (Faults f, refl)
+settled_ends (Waits at c op done) = (Faults (fault CellStuck at), refl)
+
+run_ends : (t : Program) → (e : Ending) × (ending_of (run t) ≡ Some e)
+run_ends t = settled_ends (exec_all limits by_name t.stmts (first_state (given t []) []) no_deeds)
+
 -- nothing happened that could not
 run_said : (t : Program) (said : List ℕ) → without_tasks (deeds_of (run t)).entered (written (run t)) ≡ Some said
     → Happened (run t) × (said ≡ written (run t))
@@ -66,26 +82,28 @@ run_said t said e = at (deeds_of (run t)).entered refl e
     at (c ∷ es) a e = absurd cc
 
 -- What is computed of a text is what it says.
-writes_said : (text said : List ℕ) → writes text ≡ Some said → Says text [] limits [] said
+writes_said : (text said : List ℕ) → writes text ≡ Some said → SaysSo text said
 writes_said text said e = by_tokens (tokens_of text) refl e
   where
     by_refusal : (ks : List Token) → Lexes text ks → (t : Program) → read 64 ks ≡ Ok (t, [])
-        → (r : Option Refusal) → refusal t [] ≡ r → of_sound r t ≡ Some said → Says text [] limits [] said
+        → (r : Option Refusal) → refusal t [] ≡ r → of_sound r t ≡ Some said → SaysSo text said
     by_refusal ks lexes t reads None none e =
         let s = run_said t said e in
-        inr (t, record { tokens = ks; lexes = lexes; spells = read_spelled 64 ks t reads; unrefused = none }, s.0, s.1)
+        let ends = run_ends t in
+        let is : IsProgram [] text [] t = record { tokens = ks; lexes = lexes; spells = read_spelled 64 ks t reads; unrefused = by_rules ks (refusal t []) None none } in
+        (ends.0, inr (t, is, record { happened = s.0; writes = s.1; ends = ends.1 }))
     by_refusal ks lexes t reads (Some r) some e = absurd cc
 
     by_tree : (ks : List Token) → Lexes text ks → (t : Program) (rest : List Token) → read 64 ks ≡ Ok (t, rest)
-        → of_tree t rest ≡ Some said → Says text [] limits [] said
+        → of_tree t rest ≡ Some said → SaysSo text said
     by_tree ks lexes t [] reads e = by_refusal ks lexes t reads (refusal t []) refl e
     by_tree ks lexes t (k ∷ rest) reads e = absurd cc
 
-    by_read : (ks : List Token) → Lexes text ks → (o : Read Program) → read 64 ks ≡ o → of_read o ≡ Some said → Says text [] limits [] said
+    by_read : (ks : List Token) → Lexes text ks → (o : Read Program) → read 64 ks ≡ o → of_read o ≡ Some said → SaysSo text said
     by_read ks lexes (Ok (t, rest)) reads e = by_tree ks lexes t rest reads e
     by_read ks lexes (Err stop) reads e = absurd cc
 
-    by_tokens : (o : Option (List Token)) → tokens_of text ≡ o → of_tokens o ≡ Some said → Says text [] limits [] said
+    by_tokens : (o : Option (List Token)) → tokens_of text ≡ o → of_tokens o ≡ Some said → SaysSo text said
     by_tokens None a e = absurd cc
     by_tokens (Some ks) a e = by_read ks (tokens_lexed text ks a) (read 64 ks) refl e
 

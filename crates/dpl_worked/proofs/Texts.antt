@@ -1,6 +1,6 @@
 -- What the definitions say of a text, computed: its tokens, the tree that they spell, and the rules that the tree breaks.
 -- `told_refused` and `sound_program` are what a row says of its text: that it is refused so, or that it is a program.
-use Rattle.std.proofs.Common.{◌≡◌, inl, inr, ℕ, List, [], ◌∷◌, ◌++◌, Option, Some, None, Ok, Err, refl, subst}
+use Rattle.std.proofs.Common.{◌≡◌, inl, inr, ℕ, List, [], ◌∷◌, ◌++◌, Option, Some, None, Ok, Err, refl, ap, ◌∙◌, subst}
 use Rattle.std.specs.Prelude.{⊤, codes}
 use Rattle.dpl_syntax.specs.Tokens.{keyword_text, contextual_text, sign_text}
 use Rattle.dpl_syntax.specs.Text.{Lexes}
@@ -16,8 +16,9 @@ use Rattle.dpl_spelling.specs.Grammar.{Program}
 use Rattle.dpl_spelling.specs.Theorem.{Spells, Refuses}
 use Rattle.dpl_spelling.proofs.OnRows.{parser_on_rows}
 use Rattle.dpl_spelling.proofs.Programs.{read, read_spelled, stopped_refused}
+use Rattle.dpl_grammar.specs.Classes.{first_of}
 use Rattle.dpl_rules.specs.Sound.{refusal}
-use Rattle.dpl_says.specs.Says.{IsProgram, IsRefused}
+use Rattle.dpl_says.specs.Says.{closed_at, IsProgram, IsRefused}
 use Rattle.dpl_worked.proofs.Lexer.{tokens_of}
 use Rattle.dpl_worked.proofs.Lexed.{tokens_lexed}
 
@@ -65,6 +66,14 @@ by_text = tt
 
 -- ---- what a row says
 
+-- of no class there is a first token, so of the rules alone a program is refused
+none_closed : (ks : List Token) → first_of [] ks ≡ None
+none_closed [] = refl
+none_closed (k ∷ ks) = none_closed ks
+
+pub by_rules : (ks : List Token) (o r : Option Refusal) → o ≡ r → closed_at (first_of [] ks) o ≡ r
+by_rules ks o r e = ap (λ at. closed_at at o) (none_closed ks) ∙ e
+
 -- the tokens and the tree of a text, and what the tree is refused for
 record Judged (text : List ℕ) (r : Option Refusal) : Type 0 where
   tokens : List Token
@@ -79,31 +88,31 @@ tree_judged text ks r lexes t [] reads e = record { tokens = ks; lexes = lexes; 
 tree_judged text ks r lexes t (k ∷ more) reads e = absurd cc
 
 -- What is told of a text is its refusal.
-pub told_refused : (text : List ℕ) (r : Refusal) → said text ≡ Some (Some r) → IsRefused text [] r
+pub told_refused : (text : List ℕ) (r : Refusal) → said text ≡ Some (Some r) → IsRefused [] text [] r
 told_refused text r e = by_tokens (tokens_of text) refl e
   where
-    by_read : (ks : List Token) → Lexes text ks → (o : Read Program) → read 64 ks ≡ o → of_read o ≡ Some (Some r) → IsRefused text [] r
+    by_read : (ks : List Token) → Lexes text ks → (o : Read Program) → read 64 ks ≡ o → of_read o ≡ Some (Some r) → IsRefused [] text [] r
     by_read ks lexes (Ok (t, rest)) reads e =
         let j = tree_judged text ks (Some r) lexes t rest reads e in
-        inr (j.tokens, j.lexes, inr (j.tree, j.spells, j.told))
+        inr (j.tokens, j.lexes, inr (j.tree, j.spells, by_rules j.tokens (refusal j.tree []) (Some r) j.told))
     by_read ks lexes (Err (c, rest)) reads e =
         let same : record { code = code_of c; place = place_of rest } ≡ r = cc in
         inr (ks, lexes, inl (subst (Refuses ks) same (stopped_refused ks rest c reads)))
 
-    by_tokens : (o : Option (List Token)) → tokens_of text ≡ o → of_tokens o ≡ Some (Some r) → IsRefused text [] r
+    by_tokens : (o : Option (List Token)) → tokens_of text ≡ o → of_tokens o ≡ Some (Some r) → IsRefused [] text [] r
     by_tokens None a e = absurd cc
     by_tokens (Some ks) a e = by_read ks (tokens_lexed text ks a) (read 64 ks) refl e
 
 -- A text that is said to be sound is a program.
-pub sound_program : (text : List ℕ) → said text ≡ sound → (t : ProgramTree Text) × IsProgram text [] t
+pub sound_program : (text : List ℕ) → said text ≡ sound → (t : ProgramTree Text) × IsProgram [] text [] t
 sound_program text e = by_tokens (tokens_of text) refl e
   where
-    by_read : (ks : List Token) → Lexes text ks → (o : Read Program) → read 64 ks ≡ o → of_read o ≡ sound → (t : ProgramTree Text) × IsProgram text [] t
+    by_read : (ks : List Token) → Lexes text ks → (o : Read Program) → read 64 ks ≡ o → of_read o ≡ sound → (t : ProgramTree Text) × IsProgram [] text [] t
     by_read ks lexes (Ok (t, rest)) reads e =
         let j = tree_judged text ks None lexes t rest reads e in
-        (j.tree, record { tokens = j.tokens; lexes = j.lexes; spells = j.spells; unrefused = j.told })
+        (j.tree, record { tokens = j.tokens; lexes = j.lexes; spells = j.spells; unrefused = by_rules j.tokens (refusal j.tree []) None j.told })
     by_read ks lexes (Err (c, rest)) reads e = absurd cc
 
-    by_tokens : (o : Option (List Token)) → tokens_of text ≡ o → of_tokens o ≡ sound → (t : ProgramTree Text) × IsProgram text [] t
+    by_tokens : (o : Option (List Token)) → tokens_of text ≡ o → of_tokens o ≡ sound → (t : ProgramTree Text) × IsProgram [] text [] t
     by_tokens None a e = absurd cc
     by_tokens (Some ks) a e = by_read ks (tokens_lexed text ks a) (read 64 ks) refl e
