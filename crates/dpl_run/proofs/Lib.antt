@@ -4,12 +4,11 @@ pub mod Collecting
 pub mod Taking
 pub mod Empty
 pub mod Dumped
--- A run of a plan is what its program means, and each text comes to one outcome.
+-- A run of a plan is what its program means.
 pub mod Planned
 pub mod Standing
 pub mod Ends
 pub mod Meaning
-pub mod OneOutcome
 pub mod Stages
 pub mod Runnable
 pub mod Declared

@@ -31,7 +31,7 @@ use Rattle.dpl_nodes.specs.declared.step.Step.{Step}
 use Rattle.dpl_nodes.specs.Steps.{steps_of}
 use Rattle.dpl_frame.specs.Faults.{fault_view}
 use Rattle.dpl_says.specs.Given.{scalar_by, given, words_by}
-use Rattle.dpl_says.specs.Says.{run_of}
+use Rattle.dpl_says.specs.Says.{Leaves, Faults, ending_of, run_of, Means}
 use Rattle.dpl_given.specs.Words.{words_in}
 use Rattle.dpl_given.proofs.Alike.{kind_as, given-alike}
 use Rattle.dpl_typer.specs.Leaves.{is_rank, is_tuple_rank, value_kind, kind_by}
@@ -42,7 +42,7 @@ use Rattle.dpl_run.specs.Plans.{IsPlan, IsGivenAlike}
 use Rattle.dpl_print.specs.Texts.{having_printed}
 use Rattle.dpl_run.specs.declared.outcome.Outcome.{Outcome}
 use Rattle.dpl_run.specs.declared.outcome.Outcome.TheVariants.{Done as DoneWith, Stopped, Rejected}
-use Rattle.dpl_run.specs.Headline.{EndsAs, Means}
+use Rattle.dpl_run.specs.Headline.{ending}
 use Rattle.dpl_run.specs.Names.{declared_names}
 use Rattle.dpl_run.specs.Leaving.{sighted_in}
 use Rattle.dpl_run.specs.Runs.{RanTo}
@@ -139,7 +139,7 @@ module _ (t : ProgramTree Text) (sets : List (List ℕ)) (slots : ℕ) (scopes :
         ∙ ap (λ ss. Some (frame_in last (map (sighted_in ss) (declared_names t.stmts)))) (sym plan.behind)
 
     means-done : (histories : List (List Event)) (last : Memory) (out : List ℕ) (frame : Frame) → exec_all limits in_memory (steps_of steps) (first_memory start) no_deeds ≡ Done last (having_printed out no_deeds)
-        → frame ≡ frame_in last (map (sighted_in scopes) (declared_names t.stmts)) → Means t sets limits histories (DoneWith frame) out
+        → frame ≡ frame_in last (map (sighted_in scopes) (declared_names t.stmts)) → Means t sets limits histories (Leaves frame) out
     means-done histories last out frame e are =
         let d = done-alike _ (run_of t sets limits histories) _ last (having_printed out no_deeds) (ends histories) (by_plan (Done last (having_printed out no_deeds)) e) in
         let held : Some (own_frame (top_level d.0.store)) ≡ Some (frame_in last (map (sighted_in scopes) (declared_names t.stmts))) = sym (ap (λ o. option_map own_frame (left o)) d.1) ∙ leaves histories last (having_printed out no_deeds) e in
@@ -147,21 +147,21 @@ module _ (t : ProgramTree Text) (sets : List (List ℕ)) (slots : ℕ) (scopes :
         record {
           happened = subst (λ (o : Meant State). Happened o) (sym d.1) tt;
           writes = ap written (sym d.1);
-          ends = subst (λ o. EndsAs o (DoneWith frame)) (sym d.1) (are ∙ sym same);
+          ends = ap ending_of d.1 ∙ ap (λ f. Some (Leaves f)) (same ∙ sym are);
         }
 
     means-stop : (histories : List (List Event)) (fault : FaultNode) (out said : List ℕ) → exec_all limits in_memory (steps_of steps) (first_memory start) no_deeds ≡ Stop (fault_view fault) (having_printed out no_deeds)
-        → said ≡ written {S = Memory} (Stop (fault_view fault) (having_printed out no_deeds)) → Means t sets limits histories (Stopped fault) said
+        → said ≡ written {S = Memory} (Stop (fault_view fault) (having_printed out no_deeds)) → Means t sets limits histories (Faults (fault_view fault)) said
     means-stop histories fault out said e says =
         let d = stop-alike _ (run_of t sets limits histories) _ (fault_view fault) (having_printed out no_deeds) (ends histories) (by_plan (Stop (fault_view fault) (having_printed out no_deeds)) e) in
         record {
           happened = subst (λ (o : Meant State). Happened o) (sym d) tt;
           writes = says ∙ ap written (sym d);
-          ends = subst (λ o. EndsAs o (Stopped fault)) (sym d) refl;
+          ends = ap ending_of d;
         }
 
     -- how the run in a memory ended is how the program's run does
-    pub means-ran : (histories : List (List Event)) (o : Outcome) (said : List ℕ) → RanTo scopes t.stmts (exec_all limits in_memory (steps_of steps) (first_memory start) no_deeds) o said → Means t sets limits histories o said
+    pub means-ran : (histories : List (List Event)) (o : Outcome) (said : List ℕ) → RanTo scopes t.stmts (exec_all limits in_memory (steps_of steps) (first_memory start) no_deeds) o said → Means t sets limits histories (ending o) said
     means-ran histories (DoneWith frame) said ran = means-done histories ran.0 said frame ran.1 ran.2
     means-ran histories (Stopped fault) said ran = means-stop histories fault ran.0 said ran.1 ran.2
     means-ran histories (Rejected r) said ran = absurd ran

@@ -2,8 +2,6 @@
 -- A `config const` in sight is a plain variable, and has a slot.
 use Rattle.std.proofs.Common.{◌≡◌, ℕ, ◌≤◌, List, [], Bool, true, false, Option, Some, None, is_some, refl, sym, ap, ◌∙◌, subst}
 use Rattle.std.proofs.Math.Nat.{le_refl}
-use Rattle.dpl_syntax.specs.declared.place.Place.{Place}
-use Rattle.dpl_syntax.specs.declared.refusal.Refusal.{Refusal}
 use Rattle.dpl_syntax.specs.declared.refusal.Breach.{Breach}
 use Rattle.dpl_language.specs.Tree.{ProgramTree}
 use Rattle.dpl_language.specs.Names.{Text}
@@ -25,8 +23,6 @@ use Rattle.dpl_typer.specs.Shapes.{shape_in}
 use Rattle.dpl_typer.specs.Sights.{bound_in, sight_of, AreKnownScopes}
 use Rattle.dpl_planner.specs.Bounds.{bound_program}
 use Rattle.dpl_planner.specs.Given.{IsGiven, IsConfig, AreGiven}
-use Rattle.dpl_closed.specs.Closed.{closed_stmts}
-use Rattle.dpl_run.specs.Headline.{or_closed, tree_refusal}
 use Rattle.dpl_run.specs.Plans.{IsPlan, IsGivenAlike}
 
 some-slot : (o : Option ℕ) → is_some o ≡ true → (slot : ℕ) × (o ≡ Some slot)
@@ -62,14 +58,10 @@ planned t slots scopes steps text nodes fits sight behind plain = record {
 }
 
 -- ---- a program without a refusal
-unclosed : (o : Option Place) (r : Option Refusal) → or_closed o r ≡ None → r ≡ None
-unclosed None r e = e
-unclosed (Some at) r e = absurd cc
-
 fitting : (b : Option Breach) (fit : Bool) → refusal_by b fit ≡ None → fit ≡ true
 fitting None true e = refl
 fitting None false e = absurd cc
 fitting (Some b) fit e = absurd cc
 
-pub sets-fit : (t : ProgramTree Text) (sets : List (List ℕ)) → tree_refusal sets t ≡ None → sets_fit (behind_all top t.stmts) [] sets ≡ true
-sets-fit t sets e = fitting (first_breach t) (sets_fit (behind_all top t.stmts) [] sets) (unclosed (closed_stmts t.stmts) (refusal t sets) e)
+pub sets-fit : (t : ProgramTree Text) (sets : List (List ℕ)) → refusal t sets ≡ None → sets_fit (behind_all top t.stmts) [] sets ≡ true
+sets-fit t sets e = fitting (first_breach t) (sets_fit (behind_all top t.stmts) [] sets) e

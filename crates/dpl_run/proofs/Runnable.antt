@@ -2,7 +2,6 @@
 -- Its places are near, since its text is short.
 use Rattle.std.proofs.Common.{◌≡◌, ℕ, suc, arith, List, [], ◌∷◌, ◌++◌, Option, Some, None, refl}
 use Rattle.dpl_syntax.specs.declared.place.Place.{Place}
-use Rattle.dpl_syntax.specs.declared.refusal.Refusal.{Refusal}
 use Rattle.dpl_syntax.specs.declared.refusal.Breach.{Breach}
 use Rattle.dpl_syntax.specs.declared.token.Token.{Token}
 use Rattle.dpl_syntax.specs.Places.{IsWithin, AllWithin}
@@ -11,37 +10,33 @@ use Rattle.dpl_lexer.proofs.Places.{Lexes-within}
 use Rattle.dpl_language.specs.Tree.{ProgramTree}
 use Rattle.dpl_language.specs.Names.{Text}
 use Rattle.dpl_grammar.specs.Each.{Each}
-use Rattle.dpl_spelling.proofs.Spelt.{TokenSpelt}
-use Rattle.dpl_spelling.proofs.SpeltStatements.{Spells-spelt}
+use Rattle.dpl_spelling.specs.Spelt.{StmtsSpelt}
 use Rattle.dpl_rules.specs.Breaches.{top, top_sight, stmts_breaches, count_breaches, all_declarations, first_breach}
 use Rattle.dpl_rules.specs.Doings.{stmts_deeds}
 use Rattle.dpl_rules.specs.Bodies.{inner_reductions}
-use Rattle.dpl_rules.specs.Sound.{IsSound, sets_fit, behind_all, refusal_by, refusal}
+use Rattle.dpl_rules.specs.Sound.{IsSound, sets_fit, behind_all, refusal_by}
 use Rattle.dpl_rules.proofs.Admission.{first_empty}
 use Rattle.dpl_rules.proofs.Soundness.{sound_exactly}
-use Rattle.dpl_closed.specs.Closed.{closed_stmts}
 use Rattle.dpl_nodes.specs.Spots.{IsNear}
 use Rattle.dpl_runnable.specs.Runnable.{AreRunnableTops}
 use Rattle.dpl_runnable.proofs.Spelled.{Spells-written}
 use Rattle.dpl_runnable.proofs.Statements.{program-runnable}
-use Rattle.dpl_run.specs.Headline.{or_closed, IsProgram}
+use Rattle.dpl_agreement.specs.Untasked.{UntaskedStmts}
+use Rattle.dpl_says.proofs.Untasked.{stmts-untasked, Spells-untasked}
+use Rattle.dpl_run.specs.Headline.{IsProgram}
+use Rattle.dpl_run.proofs.Stages.{program-open, program-unrefused}
 
 near : (p : Place) → IsWithin (suc longest_text) p → IsNear p
 near p h = let a = h.0 in let b = h.1 in (omega (arith, a), omega (arith, b))
 
-all-near : (ks : List Token) → AllWithin (suc longest_text) ks → Each (TokenSpelt IsNear) ks
+all-near : (ks : List Token) → AllWithin (suc longest_text) ks → Each (λ k. IsNear k.at) ks
 all-near [] h = tt
 all-near (k ∷ ks) h = (near k.at h.0, all-near ks h.1)
 
--- what no refusal says of a tree
-unclosed : (o : Option Place) (r : Option Refusal) → or_closed o r ≡ None → o ≡ None
-unclosed None r e = refl
-unclosed (Some at) r e = absurd cc
-
-unbroken : (o : Option Place) (b : Option Breach) (fit : _) → or_closed o (refusal_by b fit) ≡ None → b ≡ None
-unbroken None None fit e = refl
-unbroken None (Some b) fit e = absurd cc
-unbroken (Some at) b fit e = absurd cc
+-- a tree that has no refusal breaks no rule
+unbroken : (b : Option Breach) (fit : _) → refusal_by b fit ≡ None → b ≡ None
+unbroken None fit e = refl
+unbroken (Some b) fit e = absurd cc
 
 -- of a sound program the walk over its statements tells no breach
 walk-unbroken : (t : ProgramTree Text) → IsSound t → stmts_breaches top_sight t.stmts ≡ []
@@ -50,8 +45,14 @@ walk-unbroken t h =
     let reductions = inner_reductions (stmts_deeds top t.stmts) in
     first_empty within reductions (first_empty (within ++ reductions) (count_breaches (all_declarations t.stmts)) h)
 
-pub program-runs : (text : List ℕ) (sets : List (List ℕ)) (t : ProgramTree Text) → IsProgram text sets t → AreRunnableTops top t.stmts
-program-runs text sets t is =
-    let sound = (sound_exactly t).1 (unbroken (closed_stmts t.stmts) (first_breach t) (sets_fit (behind_all top t.stmts) [] sets) is.unrefused) in
-    program-runnable t.stmts (Spells-spelt IsNear 64 is.tokens t is.spells (all-near is.tokens (Lexes-within text is.tokens is.lexes)))
-    (unclosed (closed_stmts t.stmts) (refusal t sets) is.unrefused) (Spells-written 64 is.tokens t is.spells) (walk-unbroken t sound)
+module _ (text : List ℕ) (sets : List (List ℕ)) (t : ProgramTree Text) (is : IsProgram text sets t) where
+  spelt : StmtsSpelt IsNear ⊥ t.stmts
+  spelt = Spells-untasked IsNear 64 is.tokens t is.spells (program-open text sets t is) (all-near is.tokens (Lexes-within text is.tokens is.lexes))
+
+  pub program-untasked : UntaskedStmts t.stmts
+  program-untasked = stmts-untasked IsNear t.stmts spelt
+
+  pub program-runs : AreRunnableTops top t.stmts
+  program-runs =
+      let sound = (sound_exactly t).1 (unbroken (first_breach t) (sets_fit (behind_all top t.stmts) [] sets) (program-unrefused text sets t is)) in
+      program-runnable t.stmts spelt program-untasked (Spells-written 64 is.tokens t is.spells) (walk-unbroken t sound)

@@ -1,12 +1,10 @@
 -- A program that has no refusal prints and makes turns only where these may stand, and so do the statements of its plan.
 use Rattle.std.proofs.Common.{◌≡◌, List, [], ℕ, Bool, Option, Some, None, refl, subst}
-use Rattle.dpl_syntax.specs.declared.place.Place.{Place}
-use Rattle.dpl_syntax.specs.declared.refusal.Refusal.{Refusal}
 use Rattle.dpl_syntax.specs.declared.refusal.Breach.{Breach}
 use Rattle.dpl_language.specs.Tree.{ProgramTree}
 use Rattle.dpl_language.specs.Names.{Text}
 use Rattle.dpl_agreement.specs.Renamed.{renamed_program}
-use Rattle.dpl_closed.specs.Closed.{closed_stmts}
+use Rattle.dpl_agreement.specs.Untasked.{UntaskedStmts}
 use Rattle.dpl_rules.specs.Breaches.{first_breach}
 use Rattle.dpl_rules.specs.Sound.{behind_all, sets_fit, refusal_by, refusal}
 use Rattle.dpl_rules.specs.Breaches.{top}
@@ -18,23 +16,14 @@ use Rattle.dpl_memory.specs.Resolved.{text_of, variable_of}
 use Rattle.dpl_nodes.specs.declared.step.Step.{Step}
 use Rattle.dpl_nodes.specs.Steps.{steps_of}
 use Rattle.dpl_planner.specs.Bounds.{bound_program}
-use Rattle.dpl_run.specs.Headline.{or_closed, tree_refusal}
-
-closed-none : (o : Option Place) (r : Option Refusal) → or_closed o r ≡ None → (o ≡ None)
-closed-none None r e = refl
-closed-none (Some at) r e = absurd cc
-
-rest-none : (o : Option Place) (r : Option Refusal) → or_closed o r ≡ None → r ≡ None
-rest-none None r e = e
-rest-none (Some at) r e = absurd cc
 
 breach-none : (b : Option Breach) (fit : Bool) → refusal_by b fit ≡ None → b ≡ None
 breach-none None fit e = refl
 breach-none (Some b) fit e = absurd cc
 
-pub plan-stands : (t : ProgramTree Text) (sets : List (List ℕ)) (steps : List Step) → tree_refusal sets t ≡ None → renamed_program text_of (bound_program t) ≡ t
+pub plan-stands : (t : ProgramTree Text) (sets : List (List ℕ)) (steps : List Step) → UntaskedStmts t.stmts → refusal t sets ≡ None → renamed_program text_of (bound_program t) ≡ t
     → (lowered_program known_variable (renamed_program variable_of (bound_program t))).stmts ≡ steps_of steps → AllMayStand Outside (steps_of steps)
-plan-stands t sets steps unrefused text nodes =
+plan-stands t sets steps untasked unrefused text nodes =
     subst (AllMayStand Outside) nodes
-    (resolved-stands text_of variable_of known_variable t (bound_program t) (closed-none (closed_stmts t.stmts) (refusal t sets) unrefused)
-    (refused-none t (breach-none (first_breach t) (sets_fit (behind_all top t.stmts) [] sets) (rest-none (closed_stmts t.stmts) (refusal t sets) unrefused))) text)
+    (resolved-stands text_of variable_of known_variable t (bound_program t) untasked
+    (refused-none t (breach-none (first_breach t) (sets_fit (behind_all top t.stmts) [] sets) unrefused)) text)

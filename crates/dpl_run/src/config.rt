@@ -1,5 +1,5 @@
 // The settings of a run.
-// A run's meaning sees the budget alone; the other numbers say where work is done.
+// A data-parallel text sees the budget alone; the other numbers say where work is done.
 
 ghost use Rattle.std.specs.Prelude.{◌≡◌, ◌↔◌, IsOk, IfOk, IsTrue};
 ghost use Rattle.dpl_run.specs.Settings.{Settings, AreLocales, IsCount, IsGrid2, IsGrid3, layout_of};

@@ -19,7 +19,11 @@ ghost use Rattle.dpl_run.specs.Leaving.{AreLeft};
 ghost use Rattle.dpl_run.specs.Plans.{start_of};
 ghost use Rattle.dpl_run.specs.Runs.{RanTo};
 ghost use Rattle.dpl_runnable.specs.Runnable.{AreRunnableTops};
-ghost use Rattle.dpl_run.specs.Headline.{ComesTo, ComesToOnly, IsRead, Means, tree_refusal};
+ghost use Rattle.dpl_grammar.specs.Classes.{task_words};
+ghost use Rattle.dpl_agreement.specs.Untasked.{UntaskedStmts};
+ghost use Rattle.dpl_rules.specs.Sound.{refusal};
+ghost use Rattle.dpl_says.specs.Says.{refusal_of, Means};
+ghost use Rattle.dpl_run.specs.Headline.{ending, ComesTo, Says, IsRead};
 ghost use Rattle.dpl_run.specs.Refusing.{IsRejection, IsCause, IsUnwritten};
 ghost use Rattle.dpl_run.specs.Settings.{limits_of};
 ghost use Rattle.dpl_run.specs.declared.outcome.Outcome.{Outcome};
@@ -41,7 +45,7 @@ use dpl_loop::Gate;
 use dpl_nodes::NoNode;
 use dpl_parser::parse;
 use dpl_planner::{Planned, plan};
-use dpl_syntax::{Code, Refusal, Stop};
+use dpl_syntax::{Code, Refusal, Stop, Token};
 use dpl_tree::{Arena, Program, Stmt};
 use std::alloc::{AllocError, Global};
 
@@ -57,15 +61,16 @@ fn reject(alloc: Global, refusal: Refusal) -> Result<Ended, AllocError>
     })
 }
 
-// For what a tree is refused: `P1` where it needs what doesn't run, and else what the check says.
+// For what tokens and their tree are refused: `P1` at the first that needs what doesn't run, and else what the check says.
 fn tree_refusal<'t>(
     arena: Arena<'t>,
+    tokens: &[Token<'t>],
     program: &Program<'t>,
     sets: &[&str],
 ) -> Result<Option<Refusal>, AllocError>
-    ensures { IfOk result (λ r. r ≡ tree_refusal (map (λ set. set.now) sets.now) (program_view program.now)) }
+    ensures { IfOk result (λ r. r ≡ refusal_of task_words (map (λ set. set.now) sets.now) tokens.now (program_view program.now)) }
 {
-    match closed(program) {
+    match closed(tokens) {
         Some(at) => Ok(Some(Refusal {
             code: Code::Unexpected,
             place: Some(at),
@@ -107,9 +112,10 @@ fn run_program<'t, G: Gate>(
     config: &Config,
     gate: &G,
 ) -> Result<Ended, Refused>
-    requires unrefused { tree_refusal (map (λ set. set.now) sets.now) (program_view program.now) ≡ None }
+    requires untasked { UntaskedStmts (stmts_of program.now.stmts.now) }
+    requires unrefused { refusal (program_view program.now) (map (λ set. set.now) sets.now) ≡ None }
     requires runnable { AreRunnableTops top (stmts_of program.now.stmts.now) }
-    ensures means { IfOk result (λ ended. (histories : List (List Event)) → Means (program_view program.now) (map (λ set. set.now) sets.now) (limits_of config.now) histories ended.outcome ended.text.items) }
+    ensures means { IfOk result (λ ended. (histories : List (List Event)) → Means (program_view program.now) (map (λ set. set.now) sets.now) (limits_of config.now) histories (ending ended.outcome) ended.text.items) }
     ensures unwritten { IfErr result (IsUnwritten (MayRefuseSome (G.may_refuse gate.now))) }
 {
     match plan(arena, program) {
@@ -135,8 +141,9 @@ fn stages<G: Gate>(
     let tokens = lex(alloc, text)?;
     let nodes = Bump::new(alloc);
     let arena = Arena::new(&nodes, alloc);
-    let program = parse(arena, tokens.as_slice())?;
-    match tree_refusal(arena, &program, sets)? {
+    let slice = tokens.as_slice();
+    let program = parse(arena, slice)?;
+    match tree_refusal(arena, slice, &program, sets)? {
         Some(refusal) => Err(Stop::Refused(refusal)),
         None => Ok(run_program(arena, &program, sets, config, gate)),
     }
@@ -161,7 +168,7 @@ fn outcome<G: Gate>(
 }
 
 /// Runs a text: what is written, and the outcome, are those of the language's definition, in which a forall is a plain
-/// loop. Settings but the budget and the number of locales change neither.
+/// loop. Of the settings a data-parallel text sees the budget alone.
 ///
 /// `text` is any bytes. `sets` are words `name=value`, which give values to the program's `config const`s. `rt` serves loops on
 /// workers; here each loop runs on the caller's thread. The gate is asked before each turn of a forall. Output is held until the
@@ -180,9 +187,10 @@ pub fn run_text<R: Sync, G: Gate + Sync, W: Out>(
     out: &mut W,
 ) -> Result<Outcome, Refused>
     requires { W.has_failed out.old ≡ false }
-    // What is written, and the outcome, are what the text comes to, and it comes to no other, whatever histories there are.
+    // What is written, and the outcome, are what the text says: it comes to them and to no others, and where it is data-parallel
+    // it does so whatever histories there are, and on every number of locales.
     ensures written { IfOk result (λ outcome. (said : List ℕ) × Appends (W.contents out.old) (W.contents out.new) said
-        × ((histories : List (List Event)) → ComesToOnly text.now (map (λ set. set.now) sets.now) (limits_of config.now) histories outcome said)) }
+        × Says text.now (map (λ set. set.now) sets.now) (limits_of config.now) outcome said) }
     ensures unfailed { OnOk result (W.has_failed out.new ≡ false) }
     // Whether the run is refused or not, the text is a program or has a refusal.
     ensures read { IsRead text.now (map (λ set. set.now) sets.now) }
@@ -194,7 +202,7 @@ pub fn run_text<R: Sync, G: Gate + Sync, W: Out>(
         × Keeps (W.contents out.old) (W.contents out.new) × (W.has_failed out.new ≡ false) }
     // A writer that failed holds the first bytes of what the text writes.
     ensures writer { result ≡ Err Refused.Writer → (W.has_failed out.new ≡ true)
-        × ((outcome : Outcome) × (said : List ℕ) × ((histories : List (List Event)) → ComesTo text.now (map (λ set. set.now) sets.now) (limits_of config.now) histories outcome said)
+        × ((outcome : Outcome) × (said : List ℕ) × Says text.now (map (λ set. set.now) sets.now) (limits_of config.now) outcome said
         × Partly (W.contents out.old) (W.contents out.new) said) }
 {
     let _ = rt;

@@ -3,7 +3,10 @@ use Rattle.std.proofs.Common.{◌≡◌, true, map, subst}
 use Rattle.std.specs.Prelude.{OnErr}
 use Rattle.dpl_run.specs.Writers.{Partly}
 use Rattle.dpl_run.specs.Settings.{limits_of}
-use Rattle.dpl_run.proofs.OneOutcome.{is_read}
+use Rattle.dpl_grammar.specs.Classes.{task_words}
+use Rattle.dpl_says.proofs.OneSaying.{is_read}
+use Rattle.dpl_says.proofs.Anywhere.{says}
+use Rattle.dpl_run.specs.Headline.{ending}
 use Rattle.dpl_run.proofs.Stages.{delivered}
 use Rattle.dpl_run.proofs.text.run_text.Goals as goal
 
@@ -13,10 +16,10 @@ returns-clause-written g c =
     (g.W.Out.contents c.args.out.now) (g.W.Out.contents c.deliver.new.out) c.in_ok-ended.ensures.comes c.deliver.ensures.outcome c.deliver.ensures.written
 
 pub returns-clause-read : goal.returns-clause-read
-returns-clause-read g c = is_read c.args.text.now (map (λ set. set.now) c.args.sets.now)
+returns-clause-read g c = is_read task_words c.args.text.now (map (λ set. set.now) c.args.sets.now)
 
 pub returns-in_err-ended-clause-read : goal.returns-in_err-ended-clause-read
-returns-in_err-ended-clause-read g c = is_read c.args.text.now (map (λ set. set.now) c.args.sets.now)
+returns-in_err-ended-clause-read g c = is_read task_words c.args.text.now (map (λ set. set.now) c.args.sets.now)
 
 pub returns-clause-writer : goal.returns-clause-writer
 returns-clause-writer g c e = (
@@ -24,7 +27,8 @@ returns-clause-writer g c e = (
   (
     c.in_ok-ended.ended.outcome,
     c.in_ok-ended.ended.text.items,
-    c.in_ok-ended.ensures.comes,
+    says task_words c.args.text.now (map (λ set. set.now) c.args.sets.now) (limits_of c.args.config.now) (ending c.in_ok-ended.ended.outcome) c.in_ok-ended.ended.text.items
+        c.in_ok-ended.ensures.comes,
     subst (λ r. OnErr r (Partly (g.W.Out.contents c.args.out.now) (g.W.Out.contents c.deliver.new.out) c.in_ok-ended.ended.text.items)) e c.deliver.ensures.partly,
   ),
 )

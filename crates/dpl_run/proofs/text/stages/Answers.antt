@@ -7,8 +7,8 @@ use Rattle.dpl_tree.specs.Statements.{program_view}
 use Rattle.dpl_typer.proofs.Names.{if_ok}
 use Rattle.dpl_run.specs.Headline.{IsProgram}
 use Rattle.dpl_run.specs.Settings.{limits_of}
-use Rattle.dpl_run.proofs.Runnable.{program-runs}
-use Rattle.dpl_run.proofs.Stages.{lex-stops, parse-stops, program-comes}
+use Rattle.dpl_run.proofs.Runnable.{program-untasked, program-runs}
+use Rattle.dpl_run.proofs.Stages.{program-unrefused, lex-stops, parse-stops, program-comes}
 use Rattle.dpl_run.proofs.text.stages.Goals as goal
 
 pub returns-in_err-tokens-clause-stops : goal.returns-in_err-tokens-clause-stops
@@ -18,27 +18,36 @@ returns-in_err-tokens-clause-stops g c =
 
 pub returns-in_err-program-clause-stops : goal.returns-in_err-program-clause-stops
 returns-in_err-program-clause-stops g c =
-    let lexes : Lexes c.args.text.now c.as_slice.result.now = subst (Lexes c.args.text.now) (sym c.as_slice.ensures.value) c.in_ok-tokens.ensures.found in
+    let lexes : Lexes c.args.text.now c.as_slice-slice.result.now = subst (Lexes c.args.text.now) (sym c.as_slice-slice.ensures.value) c.in_ok-tokens.ensures.found in
     let p = err_from_is_err_and c.from_residual-in_err-program.result c.from_residual-in_err-program.ensures.1 in
     rw (p.1, p.2)
-    (parse-stops c.args.text.now (map (λ set. set.now) c.args.sets.now) c.as_slice.result.now c.in_err-program.field-0.0 lexes (λ r is. c.in_err-program.ensures.refused r (ap Err is)))
+    (parse-stops c.args.text.now (map (λ set. set.now) c.args.sets.now) c.as_slice-slice.result.now c.in_err-program.field-0.0 lexes (λ r is. c.in_err-program.ensures.refused r (ap Err is)))
+
+pub run_program-requires-clause-untasked : goal.run_program-requires-clause-untasked
+run_program-requires-clause-untasked g c =
+    let lexes : Lexes c.args.text.now c.as_slice-slice.result.now = subst (Lexes c.args.text.now) (sym c.as_slice-slice.ensures.value) c.in_ok-tokens.ensures.found in
+    let is : IsProgram c.args.text.now (map (λ set. set.now) c.args.sets.now) (program_view c.in_ok-program.program) = record { tokens = c.as_slice-slice.result.now; lexes = lexes; spells = c.in_ok-program.ensures.found; unrefused = sym c.in_ok-refusal.ensures ∙ c.in-None.is } in
+    program-untasked c.args.text.now (map (λ set. set.now) c.args.sets.now) (program_view c.in_ok-program.program) is
+
+pub run_program-requires-clause-unrefused : goal.run_program-requires-clause-unrefused
+run_program-requires-clause-unrefused g c =
+    let lexes : Lexes c.args.text.now c.as_slice-slice.result.now = subst (Lexes c.args.text.now) (sym c.as_slice-slice.ensures.value) c.in_ok-tokens.ensures.found in
+    let is : IsProgram c.args.text.now (map (λ set. set.now) c.args.sets.now) (program_view c.in_ok-program.program) = record { tokens = c.as_slice-slice.result.now; lexes = lexes; spells = c.in_ok-program.ensures.found; unrefused = sym c.in_ok-refusal.ensures ∙ c.in-None.is } in
+    program-unrefused c.args.text.now (map (λ set. set.now) c.args.sets.now) (program_view c.in_ok-program.program) is
 
 pub run_program-requires-clause-runnable : goal.run_program-requires-clause-runnable
 run_program-requires-clause-runnable g c =
-    let text = c.args.text.now in
-    let sets = map (λ set. set.now) c.args.sets.now in
-    let t = program_view c.in_ok-program.program in
-    let lexes : Lexes text c.as_slice.result.now = subst (Lexes text) (sym c.as_slice.ensures.value) c.in_ok-tokens.ensures.found in
-    let is : IsProgram text sets t = record { tokens = c.as_slice.result.now; lexes = lexes; spells = c.in_ok-program.ensures.found; unrefused = sym c.in_ok-refusal.ensures ∙ c.in-None.is } in
-    program-runs text sets t is
+    let lexes : Lexes c.args.text.now c.as_slice-slice.result.now = subst (Lexes c.args.text.now) (sym c.as_slice-slice.ensures.value) c.in_ok-tokens.ensures.found in
+    let is : IsProgram c.args.text.now (map (λ set. set.now) c.args.sets.now) (program_view c.in_ok-program.program) = record { tokens = c.as_slice-slice.result.now; lexes = lexes; spells = c.in_ok-program.ensures.found; unrefused = sym c.in_ok-refusal.ensures ∙ c.in-None.is } in
+    program-runs c.args.text.now (map (λ set. set.now) c.args.sets.now) (program_view c.in_ok-program.program) is
 
 pub returns-clause-comes : goal.returns-clause-comes
 returns-clause-comes g c =
     let text = c.args.text.now in
     let sets = map (λ set. set.now) c.args.sets.now in
     let t = program_view c.in_ok-program.program in
-    let lexes : Lexes text c.as_slice.result.now = subst (Lexes text) (sym c.as_slice.ensures.value) c.in_ok-tokens.ensures.found in
-    let is : IsProgram text sets t = record { tokens = c.as_slice.result.now; lexes = lexes; spells = c.in_ok-program.ensures.found; unrefused = sym c.in_ok-refusal.ensures ∙ c.in-None.is } in
+    let lexes : Lexes text c.as_slice-slice.result.now = subst (Lexes text) (sym c.as_slice-slice.ensures.value) c.in_ok-tokens.ensures.found in
+    let is : IsProgram text sets t = record { tokens = c.as_slice-slice.result.now; lexes = lexes; spells = c.in_ok-program.ensures.found; unrefused = sym c.in_ok-refusal.ensures ∙ c.in-None.is } in
     if_ok c.run_program.result
     (λ ended means histories. program-comes text sets (limits_of c.args.config.now) histories t ended.outcome ended.text.items is (means histories))
     c.run_program.ensures.means
