@@ -2,7 +2,7 @@
 // What it does stands in dpl_command's `program`, over any reader and any writers; its theorem is that of dpl_run's `run_text`.
 #![tactic(auto)]
 
-use dpl_command::{program, unopened};
+use dpl_command::{program, read_text, unopened};
 use dpl_run::Plain;
 use dpl_settings::{LineFault, Settings, USAGE, settings, tell_line};
 use std::alloc::{AllocError, Global};
@@ -57,17 +57,15 @@ fn by_settings(rt: &HostRuntime, asked: &Settings<'_>) -> u8 {
     let mut errors = Plain::new(rt.stderr());
     match asked.file {
         Some(path) if path != "-" => match File::open(rt, path) {
-            Ok(file) => program(rt, rt.alloc(), file, asked, shown, &mut out, &mut errors),
+            Ok(file) => {
+                let read = read_text(rt.alloc(), file);
+                program(rt, rt.alloc(), &read, asked, shown, &mut out, &mut errors)
+            }
             Err(error) => unopened(rt.alloc(), &error, &mut errors),
         },
-        _ => program(
-            rt,
-            rt.alloc(),
-            rt.stdin(),
-            asked,
-            shown,
-            &mut out,
-            &mut errors,
-        ),
+        _ => {
+            let read = read_text(rt.alloc(), rt.stdin());
+            program(rt, rt.alloc(), &read, asked, shown, &mut out, &mut errors)
+        }
     }
 }

@@ -1,31 +1,30 @@
--- From the run of a text to what becomes of the input that it was read of.
-use Rattle.std.proofs.Common.{◌≡◌, refl, inl, inr, ℕ, List, Option, Result, Ok, Err}
+-- From the run of a text to what becomes of what was read.
+use Rattle.std.proofs.Common.{◌≡◌, refl, ℕ, List, Option, Result, Ok, Err}
 use Rattle.std.specs.Prelude.{IfOk, IfErr}
 use Rattle.std.specs.Io.KnownBytes.{Keeps}
 use Rattle.std.specs.declared.io.ErrorKind.{ErrorKind}
-use Rattle.dpl_history.specs.declared.history.Event.{Event}
 use Rattle.dpl_run.specs.declared.outcome.Outcome.{Outcome}
 use Rattle.dpl_run.specs.declared.refused.Refused.{Refused}
 use Rattle.dpl_run.specs.declared.refused.Refused.TheVariants.{Memory, Gate, Writer}
-use Rattle.dpl_run.specs.Headline.{ComesTo}
+use Rattle.dpl_run.specs.Headline.{Says}
 use Rattle.dpl_run.specs.Settings.{Settings, limits_of}
 use Rattle.dpl_run.specs.Writers.{Partly}
 use Rattle.dpl_command.specs.declared.ended.Ended.{Ended}
 use Rattle.dpl_command.specs.declared.ended.Ended.TheVariants.{Failed}
-use Rattle.dpl_command.specs.Ending.{HasRun, IsRunOf, IsTextOf}
+use Rattle.dpl_command.specs.Ending.{read_of, HasRun, IsRunOf}
 use Rattle.dpl_command.specs.Statuses.{IsUnreadBy}
 
 -- a run that was refused, by its cause
 pub IsRunOf-refused : (text : List ℕ) (sets : List (List ℕ)) (settings : Settings) (old new : Option (List ℕ)) (e : Refused)
     → (e ≡ Memory → Keeps old new) → (e ≡ Gate → ⊥)
-    → (e ≡ Writer → (o : Outcome) × (said : List ℕ) × ((histories : List (List Event)) → ComesTo text sets (limits_of settings) histories o said) × Partly old new said)
+    → (e ≡ Writer → (o : Outcome) × (said : List ℕ) × Says text sets (limits_of settings) o said × Partly old new said)
     → IsRunOf text sets settings old new (Failed e)
 IsRunOf-refused text sets settings old new Memory memory gate writer = memory refl
 IsRunOf-refused text sets settings old new Gate memory gate writer = gate refl
 IsRunOf-refused text sets settings old new Writer memory gate writer = writer refl
 
-pub HasRun-of : {T E : Type 0} (items : T → List ℕ) (kind : E → ErrorKind) (read : Result T E) (input : Option (List ℕ)) (sets : List (List ℕ)) (settings : Settings) (old new : Option (List ℕ)) (ended : Ended)
-    → IfOk read (λ t. IsTextOf input (items t)) → IfOk read (λ t. IsRunOf (items t) sets settings old new ended)
-    → IfErr read (λ e. IsUnreadBy (kind e) ended × Keeps old new) → HasRun input sets settings old new ended
-HasRun-of items kind (Ok t) input sets settings old new ended text run unread = inl (items t, text, run)
-HasRun-of items kind (Err e) input sets settings old new ended text run unread = inr (kind e, unread.0, unread.1)
+pub HasRun-of : {T E : Type 0} (items : T → List ℕ) (kind : E → ErrorKind) (read : Result T E) (sets : List (List ℕ)) (settings : Settings) (old new : Option (List ℕ)) (ended : Ended)
+    → IfOk read (λ t. IsRunOf (items t) sets settings old new ended) → IfErr read (λ e. IsUnreadBy (kind e) ended × Keeps old new)
+    → HasRun (read_of read items kind) sets settings old new ended
+HasRun-of items kind (Ok t) sets settings old new ended run unread = run
+HasRun-of items kind (Err e) sets settings old new ended run unread = unread

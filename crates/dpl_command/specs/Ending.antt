@@ -1,13 +1,12 @@
 -- How the program ends: what it read, what it ran, and what stands on its writers.
 -- Bytes of a reader or a writer are told where they are known.
-use Rattle.std.specs.Prelude.{◌≡◌, ◌⊎◌, ℕ, Bool, true, false, List, [], ◌++◌, take, Option, Result, Ok, Err, IfSome}
+use Rattle.std.specs.Prelude.{◌≡◌, ℕ, Bool, true, false, List, [], ◌++◌, take, Option, Result, Ok, Err, IfSome}
 use Rattle.std.specs.Io.KnownBytes.{Appends, Keeps}
 use Rattle.std.specs.declared.io.ErrorKind.{ErrorKind}
-use Rattle.dpl_history.specs.declared.history.Event.{Event}
 use Rattle.dpl_run.specs.declared.outcome.Outcome.{Outcome}
 use Rattle.dpl_run.specs.declared.refused.Refused.{Refused}
 use Rattle.dpl_run.specs.declared.refused.Refused.TheVariants.{Memory, Gate, Writer}
-use Rattle.dpl_run.specs.Headline.{ComesTo, ComesToOnly}
+use Rattle.dpl_run.specs.Headline.{Says}
 use Rattle.dpl_run.specs.Settings.{Settings, limits_of}
 use Rattle.dpl_run.specs.Writers.{Partly}
 use Rattle.dpl_command.specs.declared.ended.Ended.{Ended}
@@ -18,23 +17,26 @@ use Rattle.dpl_command.specs.Statuses.{IsUnreadBy, IsUntold, status_of, told_of}
 abbrev pub IsTextOf : Option (List ℕ) → List ℕ → Type 0
 IsTextOf input text = IfSome input (λ bytes. text ≡ take 1048577 bytes)
 
--- What the text comes to by these sets and these settings is what became of it, and was written. Without memory nothing was
+-- What the text says by these sets and these settings is what became of it, and was written. Without memory nothing was
 -- written, and of what a writer failed to take the first bytes. The program's gate refuses nothing. A text that is there was read.
 abbrev pub IsRunOf : List ℕ → List (List ℕ) → Settings → Option (List ℕ) → Option (List ℕ) → Ended → Type 0
 IsRunOf text sets settings old new (Ran o) =
-    (said : List ℕ) × Appends old new said × ((histories : List (List Event)) → ComesToOnly text sets (limits_of settings) histories o said)
+    (said : List ℕ) × Appends old new said × Says text sets (limits_of settings) o said
 IsRunOf text sets settings old new (Failed Memory) = Keeps old new
 IsRunOf text sets settings old new (Failed Gate) = ⊥
 IsRunOf text sets settings old new (Failed Writer) =
-    (o : Outcome) × (said : List ℕ) × ((histories : List (List Event)) → ComesTo text sets (limits_of settings) histories o said) × Partly old new said
+    (o : Outcome) × (said : List ℕ) × Says text sets (limits_of settings) o said × Partly old new said
 IsRunOf text sets settings old new Unread = ⊥
 
--- The text of an input was run so; or an error of some kind kept it from being read, which is told by that kind, and nothing was
--- written.
-abbrev pub HasRun : Option (List ℕ) → List (List ℕ) → Settings → Option (List ℕ) → Option (List ℕ) → Ended → Type 0
-HasRun input sets settings old new ended =
-    ((text : List ℕ) × IsTextOf input text × IsRunOf text sets settings old new ended)
-    ⊎ ((kind : ErrorKind) × IsUnreadBy kind ended × Keeps old new)
+-- what came of reading an input: its bytes, or the kind of the error that kept them from being read
+abbrev pub read_of : {T E : Type 0} → Result T E → (T → List ℕ) → (E → ErrorKind) → Result (List ℕ) ErrorKind
+read_of (Ok text) bytes kind = Ok (bytes text)
+read_of (Err error) bytes kind = Err (kind error)
+
+-- A text that was read was run so; what kept one from being read is told by its kind, and nothing was written.
+abbrev pub HasRun : Result (List ℕ) ErrorKind → List (List ℕ) → Settings → Option (List ℕ) → Option (List ℕ) → Ended → Type 0
+HasRun (Ok text) sets settings old new ended = IsRunOf text sets settings old new ended
+HasRun (Err kind) sets settings old new ended = IsUnreadBy kind ended × Keeps old new
 
 -- what a person is told behind what a script is told: something only where a rule was broken or a fault arose
 abbrev pub IsMore : Bool → Ended → List ℕ → Type 0
@@ -53,12 +55,12 @@ abbrev pub IsTold : Bool → Bool → Ended → Option (List ℕ) → Option (Li
 IsTold shown dumps ended old new failed (Ok u) = (more : List ℕ) × IsMore shown ended more × Appends old new (told_of dumps ended ++ more)
 IsTold shown dumps ended old new failed (Err e) = IsCutBy (told_of dumps ended) old new failed e
 
--- The program ends with this status: the text of its input was run, and on standard error stands what is told of that. Where not
--- all of it could be written, `failed` says whether standard error had failed.
-pub record EndsWith (input : Option (List ℕ)) (sets : List (List ℕ)) (settings : Settings) (dumps shown : Bool)
+-- The program ends with this status: what was read was run, and on standard error stands what is told of that. Where not all of it
+-- could be written, `failed` says whether standard error had failed.
+pub record EndsWith (read : Result (List ℕ) ErrorKind) (sets : List (List ℕ)) (settings : Settings) (dumps shown : Bool)
     (out new_out errors new_errors : Option (List ℕ)) (failed : Bool) (status : ℕ) : Type 0 where
   pub ended : Ended
-  pub run : HasRun input sets settings out new_out ended
+  pub run : HasRun read sets settings out new_out ended
   pub told : Result Unit Refused
   pub lines : IsTold shown dumps ended errors new_errors failed told
   pub by : status ≡ status_of ended told

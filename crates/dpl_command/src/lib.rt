@@ -1,4 +1,4 @@
-// The program `dpl` over any reader and any two writers: a text is read, run by the settings asked for, and told of.
+// The program `dpl` over any reader and any two writers: a text is read, and what was read is run by the settings asked for, and told of.
 // Read `program`, whose clause says what stands on both writers when it ends, and with which status.
 #![tactic(auto)]
 

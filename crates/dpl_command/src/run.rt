@@ -1,4 +1,4 @@
-// A text is read of an input and run, and what became of it is told.
+// A text that was read is run, and what became of it is told.
 // Where an error kept it from being read nothing is run.
 
 ghost use Rattle.std.specs.Prelude.{◌≡◌, false, map, IfOk, IfErr};
@@ -6,15 +6,14 @@ ghost use Rattle.std.specs.IoError.{error_kind};
 ghost use Rattle.std.specs.Io.KnownBytes.{Keeps};
 ghost use Rattle.dpl_command.specs.Asked.{maps_of, settings_of};
 ghost use Rattle.dpl_command.specs.Statuses.{IsUnreadBy};
-ghost use Rattle.dpl_command.specs.Ending.{EndsWith, IsRunOf};
+ghost use Rattle.dpl_command.specs.Ending.{EndsWith, IsRunOf, read_of};
 
 use crate::ended::{Ended, status_of, unread};
-use crate::input::read_text;
 use crate::tell::tell_all;
 use dpl_run::{Config, Maps, OpenGate, Out, run_text};
 use dpl_settings::{RootMaps, Settings};
 use std::alloc::Global;
-use std::io::{self, Read};
+use std::io;
 
 // How often a blocked cell is tried.
 const TRIES: u64 = 100000000;
@@ -83,12 +82,12 @@ fn run_read<R: Sync, W: Out>(
     }
 }
 
-/// Reads a text, runs it by the settings asked for, and tells what became of it; to a person, where `shown` says that one reads the
-/// errors, in words too.
-pub fn program<R: Sync, I: Read + Drop, W: Out, E: Out>(
+/// Runs the text that `read_text` has read by the settings asked for, and tells what became of it; to a person, where `shown` says
+/// that one reads the errors, in words too. What kept a text from being read is told by its kind.
+pub fn program<R: Sync, W: Out, E: Out>(
     rt: &R,
     alloc: Global,
-    input: I,
+    read: &io::Result<Vec<u8>>,
     asked: &Settings<'_>,
     shown: bool,
     out: &mut W,
@@ -96,11 +95,10 @@ pub fn program<R: Sync, I: Read + Drop, W: Out, E: Out>(
 ) -> u8
     requires unfailed { W.has_failed out.old ≡ false }
     requires errors_unfailed { E.has_failed errors.old ≡ false }
-    ensures { EndsWith (I.remaining input) (map (λ set. set.now) asked.now.sets.items) (settings_of asked.now) asked.now.dump shown
+    ensures { EndsWith (read_of read.now (λ text. text.items) error_kind) (map (λ set. set.now) asked.now.sets.items) (settings_of asked.now) asked.now.dump shown
         (W.contents out.old) (W.contents out.new) (E.contents errors.old) (E.contents errors.new) (E.has_failed errors.new) result }
 {
-    let read = read_text(alloc, input);
-    let ended = run_read(rt, alloc, &read, asked, out);
-    let told = tell_all(alloc, asked, shown, &read, &ended, errors);
+    let ended = run_read(rt, alloc, read, asked, out);
+    let told = tell_all(alloc, asked, shown, read, &ended, errors);
     status_of(&ended, &told)
 }

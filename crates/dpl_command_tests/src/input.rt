@@ -61,7 +61,8 @@ pub(crate) fn ran<I: Read + Drop>(
 ) -> Done {
     let mut out = Plain::new(Vec::new(rt.alloc()));
     let mut errors = Plain::new(Vec::new(rt.alloc()));
-    let status = program(rt, rt.alloc(), input, asked, shown, &mut out, &mut errors);
+    let read = read_text(rt.alloc(), input);
+    let status = program(rt, rt.alloc(), &read, asked, shown, &mut out, &mut errors);
     Done {
         status,
         out: out.writer,
@@ -196,14 +197,14 @@ fn locales_and_maps(rt: HostRuntime) {
 // where the dump was.
 #[test]
 fn writers_that_fail(rt: HostRuntime) {
-    let text = "var n = 5; writeln(123);".as_bytes();
+    let read = read_text(rt.alloc(), "var n = 5; writeln(123);".as_bytes());
     let mut room = [0u8; 2];
     let mut out = Plain::new(room.as_mut_slice());
     let mut errors = Plain::new(Vec::new(rt.alloc()));
     let status = program(
         &rt,
         rt.alloc(),
-        text,
+        &read,
         &asked(&rt, true),
         false,
         &mut out,
@@ -217,7 +218,7 @@ fn writers_that_fail(rt: HostRuntime) {
     let status = program(
         &rt,
         rt.alloc(),
-        text,
+        &read,
         &asked(&rt, true),
         true,
         &mut out,

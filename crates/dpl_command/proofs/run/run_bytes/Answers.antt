@@ -1,7 +1,7 @@
 -- A run by the sets that were handed on, and by the settings that were made, is one by these sets and these settings.
 use Rattle.std.proofs.Common.{◌≡◌, ℕ, List, map, ap, subst, Err}
 use Rattle.dpl_language.specs.Environment.{Limits}
-use Rattle.dpl_run.specs.Headline.{ComesTo, ComesToOnly}
+use Rattle.dpl_run.specs.Headline.{Says}
 use Rattle.dpl_run.specs.Settings.{limits_of}
 use Rattle.dpl_command.specs.Asked.{settings_of}
 use Rattle.dpl_command.proofs.Reading.{IsRunOf-refused}
@@ -15,8 +15,8 @@ returns-in-Ok g c =
     let w = c.in-Ok.ensures.written in (
       w.0,
       w.1,
-      (λ histories. by_equals (λ s l. ComesToOnly c.args.text.now s l histories c.in-Ok.outcome w.0) _ _ _ _
-          (ap (map (λ set. set.now)) c.as_slice-sets.ensures.value) (ap limits_of c.config_of-config.ensures) (w.2 histories)),
+      by_equals (λ s l. Says c.args.text.now s l c.in-Ok.outcome w.0) _ _ _ _
+          (ap (map (λ set. set.now)) c.as_slice-sets.ensures.value) (ap limits_of c.config_of-config.ensures) w.2,
     )
 
 pub returns-in-Err : goal.returns-in-Err
@@ -26,7 +26,7 @@ returns-in-Err g c = IsRunOf-refused c.args.text.now (map (λ set. set.now) c.ar
     (λ p. let w = (c.in-Err.ensures.writer (ap Err p)).1 in (
       w.0,
       w.1,
-      (λ histories. by_equals (λ s l. ComesTo c.args.text.now s l histories w.0 w.1) _ _ _ _
-          (ap (map (λ set. set.now)) c.as_slice-sets.ensures.value) (ap limits_of c.config_of-config.ensures) (w.2 histories)),
+      by_equals (λ s l. Says c.args.text.now s l w.0 w.1) _ _ _ _
+          (ap (map (λ set. set.now)) c.as_slice-sets.ensures.value) (ap limits_of c.config_of-config.ensures) w.2,
       w.3,
     ))
