@@ -7,7 +7,7 @@ ghost use Rattle.dpl_tree.specs.Declarations.{optional};
 ghost use Rattle.dpl_tree.specs.Statements.{intent_view, next_intent_view, with_view, next_name_view};
 ghost use Rattle.dpl_language.specs.Tree.{SetAdd, SetMultiply};
 ghost use Rattle.dpl_language.specs.Phrases.{intents_of};
-ghost use Rattle.dpl_rules.specs.Types.{has, is_array as is_array_type};
+ghost use Rattle.dpl_rules.specs.Types.{has};
 ghost use Rattle.dpl_rules.specs.Sights.{is_reduced as is_reduced_of};
 ghost use Rattle.dpl_rules.specs.Bodies.{is_variable as is_variable_of, is_variable_at as is_variable_at_of, are_variables as are_variables_of};
 ghost use Rattle.dpl_rules.specs.Bodies.{is_own as is_own_of, is_outer as is_outer_of, is_outer_array as is_outer_array_of};

@@ -1,6 +1,6 @@
 //! The words of a board's cells, and the steps of a seat's token on them.
 //! Of n cells, word c is the state of cell c, word n + c its value, and one last word is there for a board without cells.
-ghost use Rattle.std.specs.Prelude.{◌≡◌, ◌≢◌, ℕ, ◌+◌, ◌<◌, List, [], ◌∷◌, length, vec_len, All, None, Some, MatchResult, IfOk};
+ghost use Rattle.std.specs.Prelude.{◌≡◌, ◌≢◌, ℕ, ◌+◌, ◌<◌, [], ◌∷◌, length, vec_len, All, None, Some, MatchResult, IfOk};
 ghost use Rattle.std.specs.Int.{w64, cast_signed};
 ghost use Rattle.dpl_history.specs.Cells.{effect};
 ghost use Rattle.dpl_history.specs.Histories.{legal, Legal, AllUpTo};

@@ -2,7 +2,6 @@
 -- An expression with one more behind its base is read from what stands before that.
 use Rattle.std.proofs.Common.{◌≡◌, ◌≤◌, ◌<◌, ℕ, suc, ◌+◌, Bool, false, List, [], ◌∷◌, ◌++◌, length, map, drop, get_or, Option, Some, None, is_some, refl, sym, ap, ◌∙◌, append_assoc, arith}
 use Rattle.std.proofs.lemmas.List.{append-nil}
-use Rattle.std.proofs.lemmas.Option.{none-some}
 use Rattle.dpl_syntax.specs.declared.place.Place.{Place}
 use Rattle.dpl_syntax.specs.declared.refusal.Breach.{Breach}
 use Rattle.dpl_syntax.proofs.Walks.{drop-at}
@@ -17,7 +16,6 @@ use Rattle.dpl_rules.specs.Verdicts.{type_by, broken_by}
 use Rattle.dpl_rules.specs.Places.{first_of, last_of, last_of_post, last_of_posts}
 use Rattle.dpl_rules.specs.Sights.{Scopes}
 use Rattle.dpl_rules.specs.Expressions.{bare_locales, locales_or, none_where, type_of, expr_breaches, posts_type, posts_breaches, post_verdict, post_breaches}
-use Rattle.dpl_rules.specs.Declarations.{domain_in}
 use Rattle.dpl_rules.specs.Maps.{LowTree, post_low, posts_low, front_of, low_of, int_start, plain_start, domain_start, int_breaches}
 use Rattle.dpl_rules.specs.Breaches.{least_from}
 use Rattle.dpl_types.proofs.Breaches.{least_from_append}

@@ -2,8 +2,7 @@
 // C5 stands at the word of the map; where the domain has no type, its rank isn't asked.
 
 ghost use Rattle.std.specs.Prelude.{◌≡◌, ◌∷◌, ◌++◌, [], List, ℕ, map, IfOk, IfSome, OnOk};
-ghost use Rattle.dpl_language.specs.Phrases.{parts as parts_of};
-ghost use Rattle.dpl_tree.specs.View.{expr_view, item_view, post_view, method_view, posts_of, next_expr_view};
+ghost use Rattle.dpl_tree.specs.View.{expr_view, item_view, post_view, posts_of};
 ghost use Rattle.dpl_tree.specs.Declarations.{optional, start_view, map_view, mapped_view};
 ghost use Rattle.dpl_rules.specs.Breaches.{least_from};
 ghost use Rattle.dpl_rules.specs.Maps.{owed_rank as owed_rank_of, box_of as box_of_rank, box_breaches, int_start as int_start_of};
@@ -12,7 +11,7 @@ ghost use Rattle.dpl_rules.specs.Maps.{map_breaches, mapped_breaches};
 ghost use Rattle.dpl_scopes.specs.Types.{of_type};
 ghost use Rattle.dpl_language.specs.Tree.{ExprTree, Postfixed as PostfixedTree};
 ghost use Rattle.dpl_rules.specs.Maps.{post_low};
-ghost use Rattle.dpl_forms.specs.Starts.{low_view, low_last_view, low_at, low_told, int_told, exprs_in, low_last_told};
+ghost use Rattle.dpl_forms.specs.Starts.{low_view, low_last_view, low_told, int_told, exprs_in, low_last_told};
 ghost use Rattle.dpl_rules.specs.Declarations.{domain_in as domain_in_of};
 ghost use Rattle.dpl_rules.specs.Expressions.{type_of, expr_breaches};
 ghost use Rattle.dpl_typing.specs.Told.{Tells};

@@ -1,13 +1,13 @@
 -- By its slot a name is given what it is given by its text, where the sets fit the names in sight.
 -- A name of no int and no bool is given nothing.
-use Rattle.std.proofs.Common.{◌≡◌, ◌≢◌, ℕ, ℤ, pos, Bool, true, false, not, ◌&&◌, List, [], ◌∷◌, ◌++◌, Option, Some, None, refl, sym, ap, ◌∙◌, subst, arith}
+use Rattle.std.proofs.Common.{◌≡◌, ◌≢◌, ℕ, ℤ, pos, Bool, true, false, not, ◌&&◌, List, [], ◌∷◌, ◌++◌, Option, Some, None, refl, sym, ap, ◌∙◌, arith}
 use Rattle.std.specs.Prelude.{◌==◌, bytes_eq, codes, if◌then◌else◌, option_map}
 use Rattle.std.proofs.lemmas.Bool.Decides.{nat_tests}
 use Rattle.std.proofs.lemmas.Slice.Eq.{bytes_eq-Decides}
 use Rattle.dpl_language.specs.Tree.{Kind, IntKind, BoolKind}
 use Rattle.dpl_language.specs.Values.{Value, Int, Truth}
 use Rattle.dpl_language.specs.Names.{Text, paired}
-use Rattle.dpl_rules.specs.Types.{ValueType, scalar_of, has}
+use Rattle.dpl_rules.specs.Types.{ValueType, has}
 use Rattle.dpl_rules.specs.Sights.{Declared, Scopes, lookup, type_declared}
 use Rattle.dpl_rules.specs.Sound.{is_number_text, is_value_of, is_configured, fits_type, fits_declared, name_and_value, is_one_of, set_fits, and_name, sets_fit}
 use Rattle.dpl_scopes.specs.Slots.{slot_in}

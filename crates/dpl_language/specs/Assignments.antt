@@ -1,6 +1,6 @@
 -- What assignments mean, and operations on cells.
 -- The right side goes first, then the target's indices, then the old value, then the operation, then the store.
-use Rattle.std.specs.Prelude.{pos, Bool, true, false, ◌&&◌, Option, Some, None, List}
+use Rattle.std.specs.Prelude.{Bool, true, false, ◌&&◌, Option, Some, None, List}
 use Rattle.dpl_history.specs.declared.cell.CellOp.{CellOp}
 use Rattle.dpl_history.specs.declared.cell.CellOp.TheVariants.{Reset}
 use Rattle.dpl_history.specs.declared.cell.Reply.{Reply}

@@ -1,6 +1,6 @@
 -- Resolved names in sight, as names in slots (dpl_agreement/proofs/Slots.antt): where it is told of each slot in sight which name,
 -- which kind and which domain it has, a slot holds what the memory has there.
-use Rattle.std.proofs.Common.{◌≡◌, ◌≢◌, ℕ, ◌<◌, Bool, true, false, List, [], ◌∷◌, ◌++◌, refl, sym, ap, ◌∙◌, subst, Some, None, Option, map}
+use Rattle.std.proofs.Common.{◌≡◌, ◌≢◌, ℕ, ◌<◌, Bool, true, false, List, [], ◌∷◌, ◌++◌, refl, sym, ap, ◌∙◌, subst, Some, None, Option}
 use Rattle.std.specs.Prelude.{bytes_eq, ◌==◌, if◌then◌else◌, option_map}
 use Rattle.std.specs.Option.{option_or}
 use Rattle.std.proofs.lemmas.Bool.Decides.{Decides-eqb}

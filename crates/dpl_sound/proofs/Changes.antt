@@ -1,8 +1,7 @@
 -- What changes what a name holds and keeps its type keeps a store as the scopes declare it: assignments of values of
 -- the declared type, stores of elements of the array's kind, and operations on cells.
 use Rattle.std.proofs.Common.{◌≡◌, Bool, true, false, List, [], ◌∷◌, Option, Some, None, refl, sym, ap, ◌∙◌, subst}
-use Rattle.std.specs.Prelude.{bytes_eq, if◌then◌else◌, option_map, drop, length}
-use Rattle.std.proofs.lemmas.Slice.Eq.{bytes_eq-Decides}
+use Rattle.std.specs.Prelude.{bytes_eq, if◌then◌else◌, drop, length}
 use Rattle.dpl_history.specs.declared.cell.CellState.{CellState}
 use Rattle.dpl_sets.specs.TextRanges.{TextRange}
 use Rattle.dpl_language.specs.Tree.{Kind, IntKind, BoolKind, Op, Assign, Set, SetAdd, SetSubtract, SetMultiply, SetDivide, SetRemainder, SetReduce}

@@ -19,12 +19,12 @@ use Rattle.dpl_rules.specs.Types.{Tuple as TupleType, Locale as LocaleType, AllL
 use Rattle.dpl_rules.specs.Verdicts.{owed}
 use Rattle.dpl_rules.specs.Sights.{LoopVariable, Declared, Scopes, find, declared_here, enter, add, origin_in}
 use Rattle.dpl_rules.specs.Loops.{LoopWord, over_domains, over_locales, runs_over, turn_rank, one_type, typed_variable, each_once, add_variables, over_type, variables_once, in_loop}
-use Rattle.dpl_rules.proofs.Admission.{first_empty, second_empty}
+use Rattle.dpl_rules.proofs.Admission.{second_empty}
 use Rattle.dpl_sound.specs.Formed.{ItemFormed}
 use Rattle.dpl_sound.specs.Typed.{HasType, type_at, Fits}
 use Rattle.dpl_sound.specs.Stores.{ContentFits}
 use Rattle.dpl_sound.specs.Runs.{Keeps}
-use Rattle.dpl_sound.proofs.Given.{owed_not-holds, some-same}
+use Rattle.dpl_sound.proofs.Given.{some-same}
 use Rattle.dpl_sound.proofs.Sound.{bare-by, value_of-has, item_of-has}
 use Rattle.dpl_sound.proofs.Stores.{declared-fits, enter-fits}
 
