@@ -1,0 +1,3 @@
+-- The lemmas of levels of threads, and of what their tasks come to together.
+pub mod Levels
+pub mod Gathering

@@ -1,0 +1,7 @@
+-- `start_all`: each call starts one task.
+-- The seats become fewer.
+use Rattle.std.proofs.Common.{vec_len}
+use Rattle.dpl_task.proofs.level.+start_all.Given as goal
+
+abbrev pub decreases-start_all : goal.decreases-start_all
+decreases-start_all g l = vec_len l.seats

@@ -1,0 +1,27 @@
+-- `coforall`: the gatherer's seat has taken in those of all tasks, so they ran together with its history.
+-- By `Gathering`.
+use Rattle.std.proofs.Common.{rules, ◌≡◌, ℕ, All, vec_len, ap, ◌∙◌, subst}
+use Rattle.dpl_history.specs.Histories.{legal, AllUpTo}
+use Rattle.dpl_history.specs.Looks.{Agrees}
+use Rattle.dpl_cell.specs.Seats.{SeatValue, fresh_seat}
+use Rattle.dpl_task.specs.Together.{HaveRunTogether}
+use Rattle.dpl_task.specs.Levels.{HaveRun}
+use Rattle.dpl_task.proofs.Gathering.{run_together}
+use Rattle.dpl_task.proofs.together.coforall.Goals as goal
+
+pub returns-clause-together : goal.returns-clause-together
+returns-clause-together g c =
+    let b = c.in_ok-board.board in
+    let alone = g.T.Tasks.alone c.args.tasks.now in
+    let tries : ℕ = c.args.tries in
+    let u : SeatValue = c.in_ok-seat.field-0.seat in
+    let ends = c.in_ok-seat.field-0.ends.items in
+    let n : ℕ = vec_len c.last_seat-seat.new.seats in
+    let all : n ≡ b.tasks = search rules in
+    let have : HaveRun b alone tries b.tasks (fresh_seat b b.tasks) u ends = subst (λ (z : ℕ × SeatValue). HaveRun b alone tries z.0 z.1 u ends)
+    (λ i. (all i, (c.last_seat-seat.ensures.seat ∙ ap (fresh_seat b) all) i)) c.in_ok-seat.ensures.ran in
+    let law : legal b.opening u.history c.close.result.items = search rules in
+    let ours : AllUpTo b.tasks u.history = search rules in
+    let agree : All (Agrees b.opening u.history) u.misses = search rules in
+    subst (λ cs. HaveRunTogether alone tries cs ends c.close.result.items) c.in_ok-board.ensures.opening
+    (run_together b alone tries u ends c.close.result.items c.requires.tries have law ours agree)
