@@ -1,0 +1,2 @@
+-- The lemmas of scripts.
+pub mod Playing

@@ -1,0 +1,2 @@
+-- What the scripts of the tests do by themselves.
+pub mod Scripts
