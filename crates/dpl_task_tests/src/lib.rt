@@ -6,5 +6,4 @@
 mod gates;
 #[cfg(test)]
 mod rows;
-#[cfg(test)]
-mod scripts;
+pub mod scripts;
