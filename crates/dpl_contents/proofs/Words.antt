@@ -10,7 +10,7 @@ use Rattle.dpl_language.specs.Values.{Index}
 use Rattle.dpl_language.specs.Ranges.{indices_in, size_in, too_large}
 use Rattle.std.proofs.lemmas.Bool.{ltb-true, ltb-false}
 use Rattle.std.proofs.lemmas.List.{length-map}
-use Rattle.dpl_memory.specs.Memory.{Held, word_at, with_word, held_at, held_with, held_over}
+use Rattle.dpl_memory.specs.Memory.{Held, whole_held, word_at, with_word, held_at, held_with, held_over}
 use Rattle.dpl_map.specs.Maps.{AxisValue}
 use Rattle.dpl_array.specs.Elements.{Elements, same_index, value_at, with_value, keys_of, filled, tabulated, IsOver}
 use Rattle.dpl_array.specs.Arrays.{ArrayValue, IsSmallArray, array_with, filled_array, redomained, or_value}
@@ -59,7 +59,7 @@ written-ranges (r ∷ rs) written = (written.0, written-ranges rs written.2)
 
 -- AN ARRAY AND WHAT IT IS SEEN AS
 abbrev pub seen : List TextRange → ArrayValue ℤ → Held
-seen ranges a = record { ranges = ranges; words = words_of a.elements }
+seen ranges a = whole_held ranges (words_of a.elements)
 
 module _ (ranges : List TextRange) (a : ArrayValue ℤ) (over : IsArrayOver ranges a) where
   keys-are : indices_in ranges ≡ keys_of a.elements
@@ -71,7 +71,7 @@ module _ (ranges : List TextRange) (a : ArrayValue ℤ) (over : IsArrayOver rang
   held_with-seen : (t : Index) (w : ℤ) → held_with t w (seen ranges a) ≡ seen ranges (array_with t w a)
   held_with-seen t w =
       let distinct : IsDistinct (keys_of a.elements) = subst IsDistinct keys-are (indices-distinct (values_of ranges) (written-ranges ranges over.written)) in
-      ap (λ ws. record { ranges = ranges; words = ws })
+      ap (λ ws. whole_held ranges ws)
       (ap (λ ks. with_word t w ks (words_of a.elements)) keys-are ∙ with_word-words t w a.elements distinct)
 
   -- there is a word for each index
@@ -125,10 +125,10 @@ module _ (rs : List TextRange) (domain : List RangeValue) (are : domain ≡ valu
   pub over-filled_array : (axes : List AxisValue) (w : ℤ) (b : ArrayValue ℤ) → b ≡ filled_array domain axes w → IsArrayOver rs b
   over-filled_array axes w b is = subst (IsArrayOver rs) (sym is) (record { domain = are; keys = over-filled (indices domain) w; written = written })
 
-  pub seen-filled_array : (axes : List AxisValue) (w : ℤ) (b : ArrayValue ℤ) → b ≡ filled_array domain axes w → seen rs b ≡ record { ranges = rs; words = map (λ t. w) (indices_in rs) }
+  pub seen-filled_array : (axes : List AxisValue) (w : ℤ) (b : ArrayValue ℤ) → b ≡ filled_array domain axes w → seen rs b ≡ whole_held rs (map (λ t. w) (indices_in rs))
   seen-filled_array axes w b is =
       ap (seen rs) is
-      ∙ ap (λ ws. record { ranges = rs; words = ws }) (words_of-filled w (indices domain) ∙ ap (λ vs. map (λ t. w) (indices vs)) are)
+      ∙ ap (λ ws. whole_held rs ws) (words_of-filled w (indices domain) ∙ ap (λ vs. map (λ t. w) (indices vs)) are)
 
   pub over-redomained : (a b : ArrayValue ℤ) → b ≡ redomained a domain (pos 0) → IsArrayOver rs b
   over-redomained a b is =
@@ -138,8 +138,8 @@ module _ (rs : List TextRange) (domain : List RangeValue) (are : domain ≡ valu
   pub seen-redomained : (ranges : List TextRange) (a b : ArrayValue ℤ) (h : Held) → IsArrayOver ranges a → seen ranges a ≡ h → b ≡ redomained a domain (pos 0) → seen rs b ≡ held_over rs h
   seen-redomained ranges a b h over was is =
       ap (seen rs) is
-      ∙ ap (λ vs. record { ranges = rs; words = words_of (map (λ t. (t, or_value (value_at t a.elements) (pos 0))) (indices vs)) }) are
-      ∙ ap (λ ws. record { ranges = rs; words = ws })
+      ∙ ap (λ vs. whole_held rs (words_of (map (λ t. (t, or_value (value_at t a.elements) (pos 0))) (indices vs)))) are
+      ∙ ap (λ ws. whole_held rs ws)
       (words-redomained a.elements (λ t. held_at t h) (indices_in rs) (λ t. held_at-is ranges a over t h was))
 
   -- too large is what an array refuses

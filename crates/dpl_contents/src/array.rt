@@ -4,7 +4,7 @@
 ghost use Rattle.std.specs.Prelude.{◌≡◌, ◌≤◌, ◌<◌, ◌↔◌, ℕ, ℤ, [], ◌∷◌, Some, true, false, is_some, length, map, slice_get, IfOk};
 ghost use Rattle.dpl_array.specs.Elements.{behind, put_in_row};
 ghost use Rattle.dpl_language.specs.Ranges.{indices_in, size_in, too_large};
-ghost use Rattle.dpl_memory.specs.Memory.{held_at, held_with, held_over};
+ghost use Rattle.dpl_memory.specs.Memory.{whole_held, held_at, held_with, held_over};
 ghost use Rattle.dpl_contents.specs.Arrays.{words_of};
 
 use crate::DomainWord;
@@ -28,7 +28,7 @@ impl Model for ArrayWords {
 
     ghost use Rattle.dpl_contents.specs.Arrays.{words_of, IsArrayOver};
 
-    ghost view = { λ a. record { ranges = a.domain; words = words_of a.array.elements } };
+    ghost view = { λ a. whole_held a.domain (words_of a.array.elements) };
 
     ghost invariant = { λ a. IsArrayOver a.domain a.array };
 }
@@ -44,7 +44,7 @@ impl ArrayWords {
         owners: Map,
         word: i64,
     ) -> Result<ArrayWords, ArrayFault>
-        ensures array { IfOk result (λ a. a ≡ record { ranges = domain; words = map (λ t. word) (indices_in domain) }) }
+        ensures array { IfOk result (λ a. a ≡ whole_held domain (map (λ t. word) (indices_in domain))) }
         ensures size { (result ≡ Err ArrayFault.Size) ↔ (too_large domain ≡ true) }
     {
         let array = DArray::new(alloc, domain.domain(), owners, word)?;

@@ -7,7 +7,7 @@ use Rattle.std.proofs.lemmas.List.{get_or-map, map-set, set-set, set_past, lengt
 use Rattle.dpl_sets.specs.TextRanges.{TextRange}
 use Rattle.dpl_language.specs.Values.{Index}
 use Rattle.dpl_language.specs.Ranges.{indices_in}
-use Rattle.dpl_memory.specs.Memory.{Held, no_array, word_at, with_word, held_at, held_with, held_over}
+use Rattle.dpl_memory.specs.Memory.{Held, whole_held, no_array, word_at, with_word, held_at, held_with, held_over}
 use Rattle.dpl_frame.specs.Frames.{held_in}
 
 word_at-no_words : (t : Index) (is : List Index) → word_at t is [] ≡ None
@@ -57,8 +57,8 @@ zeros-held : (ts : List Index) → map (λ t. unwrap_or (held_at t no_array) (po
 zeros-held [] = refl
 zeros-held (t ∷ ts) = ap (λ o. unwrap_or o (pos 0) ∷ map (λ t. unwrap_or (held_at t no_array) (pos 0)) ts) (held_at_none t) ∙ ap (λ ws. pos 0 ∷ ws) (zeros-held ts)
 
-pub held_over_none : (rs : List TextRange) → held_over rs no_array ≡ record { ranges = rs; words = map (λ t. pos 0) (indices_in rs) }
-held_over_none rs = ap (λ ws. record { ranges = rs; words = ws }) (zeros-held (indices_in rs))
+pub held_over_none : (rs : List TextRange) → held_over rs no_array ≡ whole_held rs (map (λ t. pos 0) (indices_in rs))
+held_over_none rs = ap (λ ws. whole_held rs ws) (zeros-held (indices_in rs))
 
 -- one more thing of a kind
 pub replicate_next : {A : Type 0} (n : ℕ) (x : A) → replicate n x ++ x ∷ [] ≡ replicate (n + 1) x

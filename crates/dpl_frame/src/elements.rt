@@ -4,7 +4,7 @@
 ghost use Rattle.std.specs.Prelude.{◌≡◌, ◌≤◌, ◌<◌, ℕ, ℤ, pos, [], ◌∷◌, Some, true, false, is_some, length, map, option_map, slice_get, IfErr, IfOk, OnOk};
 ghost use Rattle.dpl_array.specs.Elements.{behind, put_in_row};
 ghost use Rattle.dpl_language.specs.Ranges.{indices_in, too_large};
-ghost use Rattle.dpl_memory.specs.Memory.{array_at, held_at, held_with, is_some_array, redomained_from, with_array};
+ghost use Rattle.dpl_memory.specs.Memory.{whole_held, array_at, held_at, held_with, is_some_array, redomained_from, with_array};
 ghost use Rattle.dpl_frame.specs.Frames.{with_memory, held_in};
 
 use crate::arrays::Arrays;
@@ -134,7 +134,7 @@ impl<'t, A: Arrays> Frame<'t, A> {
     /// Out of memory.
     pub fn zeros(&self, slot: usize, domain: DomainWord) -> Result<ArrayWords, AllocError>
         requires { too_large domain ≡ false }
-        ensures { IfOk result (λ a. a ≡ record { ranges = domain; words = map (λ t. pos 0) (indices_in domain) }) }
+        ensures { IfOk result (λ a. a ≡ whole_held domain (map (λ t. pos 0) (indices_in domain))) }
     {
         filled(self.alloc, domain, self.owner(slot), 0)
     }
@@ -158,7 +158,7 @@ impl<'t, A: Arrays> Frame<'t, A> {
         word: i64,
     ) -> Result<(), AllocError>
         requires { too_large domain ≡ false }
-        ensures declared { OnOk result (self.new ≡ with_memory (with_array slot (record { ranges = domain; words = map (λ t. word) (indices_in domain) }) self.old.memory) self.old) }
+        ensures declared { OnOk result (self.new ≡ with_memory (with_array slot (whole_held domain (map (λ t. word) (indices_in domain))) self.old.memory) self.old) }
         ensures unchanged { IfErr result (λ e. self.new ≡ self.old) }
     {
         let array = filled(self.alloc, domain, self.owner(slot), word)?;

@@ -2,6 +2,7 @@
 
 ghost use Rattle.std.specs.Prelude.{◌≡◌, false, map, IfOk};
 ghost use Rattle.dpl_language.specs.Ranges.{indices_in, too_large};
+ghost use Rattle.dpl_memory.specs.Memory.{whole_held};
 
 use dpl_array::ArrayFault;
 use dpl_contents::{ArrayWords, DomainWord};
@@ -19,7 +20,7 @@ pub(crate) fn filled(
     word: i64,
 ) -> Result<ArrayWords, AllocError>
     requires { too_large domain ≡ false }
-    ensures { IfOk result (λ a. a ≡ record { ranges = domain; words = map (λ t. word) (indices_in domain) }) }
+    ensures { IfOk result (λ a. a ≡ whole_held domain (map (λ t. word) (indices_in domain))) }
 {
     match ArrayWords::new(alloc, domain, owner, word) {
         Ok(array) => Ok(array),

@@ -4,7 +4,7 @@
 ghost use Rattle.std.specs.Prelude.{◌≡◌, ◌≤◌, ◌<◌, ℕ, pos, [], ◌∷◌, true, false, is_some, length, map, option_map, get_or, set, replicate, IfOk, OnOk};
 ghost use Rattle.dpl_array.specs.Elements.{behind, put_in_row};
 ghost use Rattle.dpl_language.specs.Ranges.{indices_in, too_large};
-ghost use Rattle.dpl_memory.specs.Memory.{no_array, held_at, held_with, held_over, held_over_if, is_among, is_some_array};
+ghost use Rattle.dpl_memory.specs.Memory.{whole_held, no_array, held_at, held_with, held_over, held_over_if, is_among, is_some_array};
 ghost use Rattle.dpl_frame.specs.Frames.{held_in};
 
 use crate::arrays::Arrays;
@@ -19,7 +19,7 @@ use std::marker::Model;
 // An array of zeros in one piece, for a slot that had none.
 fn zeroed(alloc: Global, domain: DomainWord) -> Result<ArrayWords, AllocError>
     requires { too_large domain ≡ false }
-    ensures { IfOk result (λ a. a ≡ record { ranges = domain; words = map (λ t. pos 0) (indices_in domain) }) }
+    ensures { IfOk result (λ a. a ≡ whole_held domain (map (λ t. pos 0) (indices_in domain))) }
 {
     filled(alloc, domain, Map::whole(), 0)
 }

@@ -14,6 +14,7 @@ use Rattle.dpl_agreement.proofs.SlotDomains.{is_over_slot, is_array_over_slot, r
 use Rattle.dpl_memory.specs.Memory.{VariableKind, PlainKind, DomainKind, TupleKind, ArrayKind, Variable, Held, Memory, no_domain, no_array, is_among, held_over_if, redomained_from, redomained_in, is_some_array, element_as, array_at}
 use Rattle.dpl_memory.specs.Resolved.{Bound, Sighted, Sight, IsUnusedIn, IsUnused, is_over, arrays_in, arrays_over, HasSlots, array_content, content_in}
 use Rattle.dpl_memory.proofs.Elements.{redomained-words}
+use Rattle.dpl_memory.proofs.Wholes.{IsWholeArray, AreWhole}
 use Rattle.dpl_memory.proofs.InSight.{placed_name, with_names, in_slots, IsApartFrame, AreApart, Told, IsToldIn, IsTold, contents}
 use Rattle.dpl_memory.proofs.OverShapes.{OverShapedIn, OversShaped, over-slot}
 
@@ -168,25 +169,25 @@ get_or-redomained first slots rs (a ∷ xs) zero d lt = ap (λ n. held_over_if (
 get_or-redomained first slots rs (a ∷ xs) (suc j) d lt =
     get_or-redomained (first + 1) slots rs xs j d (omega arith) ∙ ap (λ n. held_over_if (is_among n slots) rs (get_or xs j d)) (omega arith)
 
-held-redomained : (slot : ℕ) (k : Kind) (over : Option SlotBound) (rs : List TextRange) (a : Held) (c : Bool) → c ≡ is_over_slot slot over
+held-redomained : (slot : ℕ) (k : Kind) (over : Option SlotBound) (rs : List TextRange) (a : Held) (c : Bool) → IsWholeArray a → c ≡ is_over_slot slot over
     → redomained_content slot rs (array_content over k a) ≡ array_content over k (held_over_if c rs a)
-held-redomained slot k over rs a c e =
+held-redomained slot k over rs a c whole e =
     ap (λ t. if t then ArrayOf over k rs (redomained k a.ranges (map (element_as k) a.words) rs) else array_content over k a) (sym e) ∙ by c
   where
     by : (c : Bool) → (if c then ArrayOf over k rs (redomained k a.ranges (map (element_as k) a.words) rs) else array_content over k a) ≡ array_content over k (held_over_if c rs a)
-    by true = ap (λ vs. ArrayOf over k rs vs) (redomained-words k a rs)
+    by true = ap (λ vs. ArrayOf over k rs vs) (redomained-words k a rs whole)
     by false = refl
 
-module _ (x : Variable) (rs : List TextRange) (slots : ℕ) (s : Memory) (h : HasSlots slots s) (domain : x.kind ≡ DomainKind) where
+module _ (x : Variable) (rs : List TextRange) (slots : ℕ) (s : Memory) (h : HasSlots slots s) (whole : AreWhole s) (domain : x.kind ≡ DomainKind) where
   abbrev new : Memory
   new = redomained_in x rs s
 
   -- the memory behind it, where the variable is a domain
   abbrev by_domain : Memory
-  by_domain = record s { domains = set s.domains x.slot rs; arrays = redomained_from 0 x.arrays rs s.arrays }
+  by_domain = record s { domains = set s.domains x.slot rs; arrays = redomained_from 0 x.along rs s.arrays }
 
   new-domain : new ≡ by_domain
-  new-domain = ap (λ k. redomained_in (record { kind = k; slot = x.slot; arrays = x.arrays }) rs s) domain
+  new-domain = ap (λ k. redomained_in (record { kind = k; slot = x.slot; along = x.along }) rs s) domain
 
   pub redomained-slots : HasSlots slots new
   redomained-slots = subst (HasSlots slots) (sym new-domain) (record {
@@ -194,7 +195,7 @@ module _ (x : Variable) (rs : List TextRange) (slots : ℕ) (s : Memory) (h : Ha
     ranges = h.ranges;
     domains = length-set s.domains x.slot rs ∙ h.domains;
     tuples = h.tuples;
-    arrays = length-redomained 0 x.arrays rs s.arrays ∙ h.arrays;
+    arrays = length-redomained 0 x.along rs s.arrays ∙ h.arrays;
   })
 
   pub redomained-intents : new.words ≡ s.words
@@ -204,19 +205,19 @@ module _ (x : Variable) (rs : List TextRange) (slots : ℕ) (s : Memory) (h : Ha
   content-here : (over : Option SlotBound) → x.slot < slots → content_in DomainKind x.slot over by_domain ≡ Plain (Domain rs)
   content-here over within = ap (λ rs. Plain (Domain rs)) (get_or-set_same s.domains x.slot rs no_domain (subst (λ n. x.slot < n) (sym h.domains) within))
 
-  content-other : (k : VariableKind) (j : ℕ) (over : Option SlotBound) → j ≢ x.slot → j < slots → is_among j x.arrays ≡ is_over_slot x.slot over
+  content-other : (k : VariableKind) (j : ℕ) (over : Option SlotBound) → j ≢ x.slot → j < slots → is_among j x.along ≡ is_over_slot x.slot over
       → redomained_content x.slot rs (content_in k j over s) ≡ content_in k j over by_domain
   content-other (PlainKind k) j over ne within e = refl
   content-other DomainKind j over ne within e = ap (λ rs. Plain (Domain rs)) (sym (get_or-set_other s.domains x.slot j rs no_domain ne))
   content-other TupleKind j over ne within e = refl
   content-other (ArrayKind k) j over ne within e =
       let from_zero : j ≡ 0 + j = omega arith in
-      held-redomained x.slot k over rs (array_at j s) (is_among j x.arrays) e
-      ∙ ap (λ n. array_content over k (held_over_if (is_among n x.arrays) rs (array_at j s))) from_zero
-      ∙ ap (array_content over k) (sym (get_or-redomained 0 x.arrays rs s.arrays j no_array (subst (λ n. j < n) (sym h.arrays) within)))
+      held-redomained x.slot k over rs (array_at j s) (is_among j x.along) (whole j) e
+      ∙ ap (λ n. array_content over k (held_over_if (is_among n x.along) rs (array_at j s))) from_zero
+      ∙ ap (array_content over k) (sym (get_or-redomained 0 x.along rs s.arrays j no_array (subst (λ n. j < n) (sym h.arrays) within)))
 
   module _ (told : ℕ → Told) where
-    name-redomained : (b : Sighted) → is_over_slot x.slot (told b.slot).over ≡ is_over x.slot b.over → b.slot < slots → (told x.slot).kind ≡ DomainKind → x.slot < slots → is_among b.slot x.arrays ≡ is_over x.slot b.over
+    name-redomained : (b : Sighted) → is_over_slot x.slot (told b.slot).over ≡ is_over x.slot b.over → b.slot < slots → (told x.slot).kind ≡ DomainKind → x.slot < slots → is_among b.slot x.along ≡ is_over x.slot b.over
         → redomain_slots x.slot rs (contents told s) b.slot ≡ contents told new b.slot
     name-redomained b t within d inside e =
         (elim (b.slot == x.slot) as (λ c. (c ≡ true → b.slot ≡ x.slot) → (b.slot ≡ x.slot → c ≡ true) → (if c then Plain (Domain rs) else redomained_content x.slot rs (contents told s b.slot)) ≡ contents told new b.slot) [
@@ -228,7 +229,7 @@ module _ (x : Variable) (rs : List TextRange) (slots : ℕ) (s : Memory) (h : Ha
               ∙ ap (content_in (told b.slot).kind b.slot (told b.slot).over) (sym new-domain)
         ]) (Decides-eqb b.slot x.slot).0 (Decides-eqb b.slot x.slot).1
 
-    frame-redomained : (bs : List Sighted) (fs : Sight) (g : SlotSight) → IsToldIn told slots bs → OverShapedIn told fs bs → (told x.slot).kind ≡ DomainKind → x.slot < slots → TellsIn x.slot x.arrays bs
+    frame-redomained : (bs : List Sighted) (fs : Sight) (g : SlotSight) → IsToldIn told slots bs → OverShapedIn told fs bs → (told x.slot).kind ≡ DomainKind → x.slot < slots → TellsIn x.slot x.along bs
         → SameIn (redomain_slots x.slot rs (contents told s)) (contents told new) g → SameIn (redomain_slots x.slot rs (contents told s)) (contents told new) (with_names bs g)
     frame-redomained [] fs g t o d inside e same = same
     frame-redomained (b ∷ bs) fs g t o d inside e same =
@@ -236,12 +237,12 @@ module _ (x : Variable) (rs : List TextRange) (slots : ℕ) (s : Memory) (h : Ha
         (name-redomained b (over-slot told x.slot d (told b.slot).over b.over b.shape fs o.0) t.1 d inside e.0, same)
 
     -- all names in sight
-    sight-redomained : (fs : Sight) → IsTold told slots fs → OversShaped told fs → (told x.slot).kind ≡ DomainKind → x.slot < slots → Tells x.slot x.arrays fs
+    sight-redomained : (fs : Sight) → IsTold told slots fs → OversShaped told fs → (told x.slot).kind ≡ DomainKind → x.slot < slots → Tells x.slot x.along fs
         → SameIn (redomain_slots x.slot rs (contents told s)) (contents told new) (in_slots fs)
     sight-redomained [] t o d inside e = tt
     sight-redomained (f ∷ fs) t o d inside e =
         frame-redomained f (f ∷ fs) (Mark ∷ in_slots fs) t.0 o.0 d inside e.0 (sight-redomained fs t.1 o.1 d inside e.1)
 
-    pub store-redomained : (fs : Sight) → IsTold told slots fs → OversShaped told fs → (told x.slot).kind ≡ DomainKind → x.slot < slots → Tells x.slot x.arrays fs
+    pub store-redomained : (fs : Sight) → IsTold told slots fs → OversShaped told fs → (told x.slot).kind ≡ DomainKind → x.slot < slots → Tells x.slot x.along fs
         → store_at (redomain_slots x.slot rs (contents told s)) (in_slots fs) ≡ store_at (contents told new) (in_slots fs)
     store-redomained fs t o d inside e = store_at-same _ _ (in_slots fs) (sight-redomained fs t o d inside e)

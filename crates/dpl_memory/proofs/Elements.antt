@@ -60,15 +60,19 @@ default-words : (k : Kind) (o : Option ℤ) → unwrap_or (option_map (element_a
 default-words k None = sym (element_as-default k)
 default-words k (Some w) = refl
 
-redomained-each : (k : Kind) (a : Held) (ts : List Index) → map (λ t. unwrap_or (element_at t (indices_in a.ranges) (map (element_as k) a.words)) (default k)) ts ≡ map (element_as k) (map (λ t. unwrap_or (held_at t a) (pos 0)) ts)
+redomained-each : (k : Kind) (a : Held) (ts : List Index) → map (λ t. unwrap_or (element_at t a.keys (map (element_as k) a.words)) (default k)) ts
+    ≡ map (element_as k) (map (λ t. unwrap_or (held_at t a) (pos 0)) ts)
 redomained-each k a [] = refl
 redomained-each k a (t ∷ ts) =
-    ap (λ o. unwrap_or o (default k) ∷ map (λ t. unwrap_or (element_at t (indices_in a.ranges) (map (element_as k) a.words)) (default k)) ts) (element_at-words k t (indices_in a.ranges) a.words)
-    ∙ ap (λ v. v ∷ map (λ t. unwrap_or (element_at t (indices_in a.ranges) (map (element_as k) a.words)) (default k)) ts) (default-words k (held_at t a))
+    ap (λ o. unwrap_or o (default k) ∷ map (λ t. unwrap_or (element_at t a.keys (map (element_as k) a.words)) (default k)) ts) (element_at-words k t a.keys a.words)
+    ∙ ap (λ v. v ∷ map (λ t. unwrap_or (element_at t a.keys (map (element_as k) a.words)) (default k)) ts) (default-words k (held_at t a))
     ∙ ap (λ vs. element_as k (unwrap_or (held_at t a) (pos 0)) ∷ vs) (redomained-each k a ts)
 
-pub redomained-words : (k : Kind) (a : Held) (rs : List TextRange) → redomained k a.ranges (map (element_as k) a.words) rs ≡ map (element_as k) (held_over rs a).words
-redomained-words k a rs = redomained-each k a (indices_in rs)
+pub redomained-words : (k : Kind) (a : Held) (rs : List TextRange) → a.keys ≡ indices_in a.ranges
+    → redomained k a.ranges (map (element_as k) a.words) rs ≡ map (element_as k) (held_over rs a).words
+redomained-words k a rs whole =
+    ap (λ is. map (λ t. unwrap_or (element_at t is (map (element_as k) a.words)) (default k)) (indices_in rs)) (sym whole)
+    ∙ redomained-each k a (indices_in rs)
 
 -- WHAT AN ASSIGNMENT MAKES OF AN ELEMENT
 arithmetic-element : (k : Kind) (n : ℤ) → element_takes k SetAdd ≡ true → IsElement k (Int n)

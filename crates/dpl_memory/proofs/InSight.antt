@@ -217,7 +217,7 @@ module _ (x : Sighted) (over : Option SlotBound) (told : ℕ → Told) (slots : 
   IsToldIn-after [] u h = tt
   IsToldIn-after (b ∷ bs) u h = (told-still (told b.slot) (after b.slot) b (with_told_other b.slot x.slot (told_of x over) told (λ e. u.0 (sym e))) h.0, h.1, IsToldIn-after bs u.1 h.2)
 
-  IsTold-after : (fs : Sight) → IsUnused x.slot fs → IsTold told slots fs → IsTold after slots fs
+  pub IsTold-after : (fs : Sight) → IsUnused x.slot fs → IsTold told slots fs → IsTold after slots fs
   IsTold-after [] u h = tt
   IsTold-after (f ∷ fs) u h = (IsToldIn-after f u.0 h.0, IsTold-after fs u.1 h.1)
 

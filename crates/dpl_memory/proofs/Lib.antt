@@ -7,6 +7,7 @@ pub mod InSight
 pub mod OverShapes
 pub mod Shapes
 pub mod Domains
+pub mod Wholes
 pub mod MemoryAgrees
 -- How a program is seen to fit, and samples.
 pub mod Suiting

@@ -2,12 +2,12 @@
 -- Each step of the one is a step of the other where a name has the kind and the slot of its innermost declaration and holds its kind.
 use Rattle.std.proofs.Common.{◌≡◌, ◌≢◌, ℕ, ◌<◌, ◌++◌, pos, true, List, [], ◌∷◌, refl, sym, ap, ◌∙◌, subst, Some, None, Option, map}
 use Rattle.std.specs.Prelude.{All, Ok, option_map}
-use Rattle.std.proofs.lemmas.List.{length-replicate, map-append, append-nil, append_assoc}
+use Rattle.std.proofs.lemmas.List.{get_or-set_other, length-set, length-replicate, map-append, append-nil, append_assoc}
 use Rattle.std.proofs.lemmas.List.Elements.{All-weaker}
 use Rattle.dpl_history.specs.declared.history.Event.{Event}
 use Rattle.dpl_sets.specs.TextRanges.{TextRange}
 use Rattle.dpl_language.specs.Tree.{Op, Kind, Assign, Set, SetAdd, SetSubtract, SetMultiply, SetDivide, SetRemainder, SetReduce, ItemTree, Stmts, ProgramTree}
-use Rattle.dpl_language.specs.Values.{Value, Domain, Index, index_of, ranges_in, array_domain, is_domain, kept_number}
+use Rattle.dpl_language.specs.Values.{Value, Int, Range, Domain, Tuple, Index, index_of, ranges_in, array_domain, is_domain, kept_number}
 use Rattle.dpl_language.specs.Arithmetic.{assigned}
 use Rattle.dpl_language.specs.Ranges.{indices_in}
 use Rattle.dpl_language.specs.Outcome.{Deeds, no_deeds, Outcome, Done, Stop, Waits}
@@ -15,12 +15,12 @@ use Rattle.dpl_language.specs.Environment.{Content, Plain, ArrayOf, CellOf, Limi
 use Rattle.dpl_language.specs.Phrases.{item_read}
 use Rattle.dpl_language.specs.Expressions.{item_of}
 use Rattle.dpl_language.specs.Statements.{exec_all}
-use Rattle.dpl_language.specs.Names.{Text, Opened, Declared, Store, State, paired, look_up, change_in, without_innermost, value_in as name_value, update_in, element_in, put_in, redomain_in, arrays_over as named_arrays, by_name}
+use Rattle.dpl_language.specs.Names.{Text, Opened, Declared, Store, State, paired, look_up, change_in, element_at, with_element, without_innermost, value_in as name_value, update_in, element_in, put_in, redomain_in, arrays_over as named_arrays, by_name}
 use Rattle.dpl_language.specs.Program.{first_state, meaning, top_level, own_entry, own_frame, left, written}
 use Rattle.dpl_agreement.specs.Renamed.{renamed_content, renamed_item, renamed_intents, renamed_stmts, renamed_program}
 use Rattle.dpl_agreement.specs.Scopes.{Sort, PlainSort, ArraySort, sort_of, IsLawful, after_all, fits_all}
 use Rattle.dpl_agreement.specs.Agreement.{MayRead, MayBe, WasDomain, Simulates, EndsAlike}
-use Rattle.dpl_agreement.proofs.Slots.{Bound as SlotBound, Name, IsFresh, set_slot, spelled, store_at, slot_of, slot_of-apart, look_up-slot, change_in-slot, declared-slot, without_innermost-store_at}
+use Rattle.dpl_agreement.proofs.Slots.{Bound as SlotBound, Name, IsFresh, set_slot, spelled, store_at, store_at-set, slot_of, slot_of-apart, look_up-slot, change_in-slot, declared-slot, without_innermost-store_at}
 use Rattle.dpl_agreement.proofs.SlotDomains.{OverNamed, OverResolves, Overs, Overs-declare, Overs-without_frame, redomain_in-slots, arrays_over-slots}
 use Rattle.dpl_agreement.proofs.SlotsAgree.{updated, with_value_at as with_element_at, put-spelled}
 use Rattle.dpl_agreement.proofs.RunsAlike.{EndsAlike-weaker, settled-alike, written-alike}
@@ -28,15 +28,16 @@ use Rattle.dpl_agreement.proofs.Through.{through, item_of-through_at, item_of-th
 use Rattle.dpl_agreement.proofs.ProgramsAlike.{run_from}
 use Rattle.dpl_agreement.proofs.Agreement.{exec_all-alike}
 use Rattle.dpl_sound.specs.Typed.{AreRanked}
-use Rattle.dpl_words.specs.Words.{IntLeaf, no_range, intent_at, set_at, given_as}
+use Rattle.dpl_words.specs.Words.{IntLeaf, TruthLeaf, RangeLeaf, no_range, is_true, intent_at, set_at, given_as}
 use Rattle.dpl_words.proofs.OfKind.{given-kind}
-use Rattle.dpl_memory.specs.Memory.{VariableKind, PlainKind, DomainKind, TupleKind, ArrayKind, Held, Memory, is_among, redomained_from, no_domain, no_tuple, no_array, value_in, with_value_in, array_at, held_with, element_in as element_in_memory, with_element_in, declared_array, intents_by_slot, redomained_in, is_some_array, intended, given_in, in_memory}
-use Rattle.dpl_memory.specs.Resolved.{Bound, Sighted, Sight, text_of, variable_of, written_over, if_domain, domain_among, over_of, sighted, arrays_over, names_in_order, left_in, entry_in, declared_in, frame_in, own_store, store_in, content_in, IsUnused, bind, without_frame, Seen, first_seen, MaySpan, IsOf, IsWhole, HasShape, MayHold, Shape, no_shape, IsShaped, HasNoArray, GivesOnce, SuitsKind, ArraysResolve, IsNew, OverResolves as OverIsFound, Holds, kind_takes, KindCombines, IntentResolves, Resolves, Declares, IsGivenAs, Start, resolving, first_memory, HasSlots, StandsFor}
+use Rattle.dpl_memory.specs.Memory.{VariableKind, PlainKind, DomainKind, TupleKind, ArrayKind, Held, whole_held, Memory, is_among, redomained_from, no_domain, no_tuple, no_array, value_in, with_value_in, array_at, held_with, element_in as element_in_memory, with_element_in, declared_array, renewed, anew, element_as, intents_by_slot, redomained_in, is_some_array, intended, given_in, in_memory}
+use Rattle.dpl_memory.specs.Resolved.{Bound, Sighted, Sight, text_of, variable_of, written_over, if_domain, domain_among, over_of, sighted, arrays_over, names_in_order, left_in, entry_in, declared_in, frame_in, own_store, store_in, content_in, IsUnused, AreUnused, bind, without_frame, Seen, first_seen, MaySpan, IsOf, IsWhole, HasShape, MayHold, Shape, no_shape, IsShaped, HasNoArray, GivesOnce, SuitsKind, ArraysResolve, IsNew, OverResolves as OverIsFound, Holds, kind_takes, KindCombines, IntentResolves, Resolves, Declares, IsGivenAs, Start, resolving, first_memory, HasSlots, StandsFor}
 use Rattle.dpl_memory.proofs.Elements.{element_at-words, with_element-words, elements-kept, assigned-element}
 use Rattle.dpl_memory.proofs.OfKind.{content_in-set_same, content_in-set_other, content_in-array_same, content_in-array_other, slots-set, slots-array, intents-set_in, sets-set_in, value_in-array, value_in-plain, value_in-domain, assigned-of}
-use Rattle.dpl_memory.proofs.InSight.{placed, placed_over, in_slots, IsOpen, IsOpen-bind, AreApart, AreApart-bind, AreApart-without_frame, IsApart-in_slots, slot_of-innermost, IsFresh-in_slots, in_slots-bind, in_slots-without_frame, without_frame-bind, Told, told_of, texts_of, IsTold, Finds, innermost-told, with_told, with_told_here, with_told_other, IsTold-bind, IsTold-without_frame, contents, over_text-placed, store_at-contents, store_at-each, store_at-intend, set_slot-each, Overs-contents, Overs-each}
-use Rattle.dpl_memory.proofs.OverShapes.{KnownBy, OverKnown, OversShaped, over-after, OversShaped-bind, OversShaped-without_frame, arrays-shaped}
+use Rattle.dpl_memory.proofs.InSight.{placed, placed_over, placed_name, in_slots, IsOpen, IsOpen-bind, AreApart, AreApart-bind, AreApart-without_frame, IsApart-in_slots, slot_of-innermost, IsFresh-in_slots, in_slots-bind, in_slots-without_frame, without_frame-bind, Told, told_of, texts_of, IsTold, Finds, innermost-told, with_told, with_told_here, with_told_other, IsTold-after, IsTold-bind, IsTold-without_frame, contents, over_text-placed, store_at-contents, store_at-each, store_at-intend, set_slot-each, Overs-contents, Overs-each}
+use Rattle.dpl_memory.proofs.OverShapes.{KnownBy, OverKnown, OversShaped, over-after, OversShaped-after, OversShaped-bind, OversShaped-without_frame, arrays-shaped}
 use Rattle.dpl_memory.proofs.Shapes.{HasToldShape, IsShapedBy, told-shaped, shaped-told, shaped-changed, shaped-declared, shaped-set, assigned-shaped, shaped-element, shaped-array, shaped-redomained, shaped-intended, given-shaped}
+use Rattle.dpl_memory.proofs.Wholes.{AreWhole, whole-set, whole-element, whole-declared, whole-redomained, whole-first}
 use Rattle.dpl_memory.proofs.Domains.{OverNamed-texts, Overs-texts, OverFits, FitIn, Fit, Tells, arrays_over-tells, any_over-told, redomained-slots, redomained-intents, store-redomained}
 
 -- THE RELATION: it is told of each slot in sight what it is, and the slots stand for the store
@@ -56,6 +57,7 @@ pub record Kept (start : Start) (g : Seen) (s1 : State) (s2 : Memory) : Type 0 w
   pub texts : s1.sets ≡ start.texts
   pub words : s2.words.sets ≡ start.words
   pub shaped : IsShapedBy told s2
+  pub whole : AreWhole s2
 
 resolving-lawful : (start : Start) → IsLawful (resolving start)
 resolving-lawful start = record {
@@ -127,13 +129,14 @@ updated-content TupleKind slot over op b v slots s p h within =
 updated-content (ArrayKind k) slot over op b v slots s p h within = refl
 
 -- an element put: where the variable is no whole array nothing changes
-put-content : (k : VariableKind) (slot : ℕ) (over : Option SlotBound) (t : Index) (v : Value) (slots : ℕ) (s : Memory) → IsOf k v → HasSlots slots s → slot < slots
+put-content : (k : VariableKind) (slot : ℕ) (over : Option SlotBound) (t : Index) (v : Value) (slots : ℕ) (s : Memory) → IsOf k v → AreWhole s → HasSlots slots s → slot < slots
     → with_element_at t v (content_in k slot over s) ≡ content_in k slot over (with_element_in k slot t v s)
-put-content (PlainKind k) slot over t v slots s p h within = refl
-put-content DomainKind slot over t v slots s p h within = refl
-put-content TupleKind slot over t v slots s p h within = refl
-put-content (ArrayKind k) slot over t v slots s p h within =
-    ap (λ vs. ArrayOf over k (array_at slot s).ranges vs) (with_element-words k t v (indices_in (array_at slot s).ranges) (array_at slot s).words p)
+put-content (PlainKind k) slot over t v slots s p whole h within = refl
+put-content DomainKind slot over t v slots s p whole h within = refl
+put-content TupleKind slot over t v slots s p whole h within = refl
+put-content (ArrayKind k) slot over t v slots s p whole h within =
+    ap (λ is. ArrayOf over k (array_at slot s).ranges (with_element t v is (map (element_as k) (array_at slot s).words))) (sym (whole slot))
+    ∙ ap (λ vs. ArrayOf over k (array_at slot s).ranges vs) (with_element-words k t v (array_at slot s).keys (array_at slot s).words p)
     ∙ sym (content_in-array_same k slot over (held_with t (kept_number v) (array_at slot s)) slots s h within)
 
 put-other : (j k : VariableKind) (i slot : ℕ) (over : Option SlotBound) (t : Index) (v : Value) (s : Memory) → i ≢ slot → content_in j i over (with_element_in k slot t v s) ≡ content_in j i over s
@@ -160,15 +163,16 @@ name_value-spelled DomainKind slot over s = refl
 name_value-spelled TupleKind slot over s = refl
 name_value-spelled (ArrayKind k) slot over s = refl
 
-element-spelled : (k : VariableKind) (slot : ℕ) (over : Option SlotBound) (t : Index) (s : Memory) → element_in t (spelled (content_in k slot over s)) ≡ element_in_memory k slot t s
-element-spelled (PlainKind k) slot over t s = refl
-element-spelled DomainKind slot over t s = refl
-element-spelled TupleKind slot over t s = refl
-element-spelled (ArrayKind k) slot over t s = element_at-words k t (indices_in (array_at slot s).ranges) (array_at slot s).words
+element-spelled : (k : VariableKind) (slot : ℕ) (over : Option SlotBound) (t : Index) (s : Memory) → AreWhole s → element_in t (spelled (content_in k slot over s)) ≡ element_in_memory k slot t s
+element-spelled (PlainKind k) slot over t s whole = refl
+element-spelled DomainKind slot over t s whole = refl
+element-spelled TupleKind slot over t s whole = refl
+element-spelled (ArrayKind k) slot over t s whole =
+    ap (λ is. element_at t is (map (element_as k) (array_at slot s).words)) (sym (whole slot)) ∙ element_at-words k t (array_at slot s).keys (array_at slot s).words
 
 -- AN ARRAY DECLARED
 abbrev made : List TextRange → List Value → Held
-made rs vs = record { ranges = rs; words = map kept_number vs }
+made rs vs = whole_held rs (map kept_number vs)
 
 declared-content : (kind : VariableKind) (shape : Shape) (slot : ℕ) (over : Option SlotBound) (k : Kind) (rs : List TextRange) (vs : List Value) (slots : ℕ) (s : Memory) → MaySpan kind shape k rs → All (IsOf kind) vs → HasSlots slots s → slot < slots
     → content_in kind slot over (declared_array kind slot (made rs vs) s) ≡ ArrayOf over k rs vs
@@ -195,6 +199,28 @@ words-declared (PlainKind l) slot a s = refl
 words-declared DomainKind slot a s = refl
 words-declared TupleKind slot a s = refl
 words-declared (ArrayKind l) slot a s = refl
+
+-- SLOTS THAT BEGIN ANEW
+content_in-renewed_other : {N : Type 0} (k : VariableKind) (j slot : ℕ) (over : Option N) (s : Memory) → j ≢ slot → content_in k j over (renewed slot s) ≡ content_in k j over s
+content_in-renewed_other (PlainKind IntLeaf) j slot over s ne = ap (λ n. Plain (Int n)) (get_or-set_other s.words.numbers slot j (pos 0) (pos 0) ne)
+content_in-renewed_other (PlainKind TruthLeaf) j slot over s ne = ap (λ n. Plain (is_true n)) (get_or-set_other s.words.numbers slot j (pos 0) (pos 0) ne)
+content_in-renewed_other (PlainKind RangeLeaf) j slot over s ne = ap (λ r. Plain (Range r)) (get_or-set_other s.words.ranges slot j no_range no_range ne)
+content_in-renewed_other DomainKind j slot over s ne = refl
+content_in-renewed_other TupleKind j slot over s ne = ap (λ t. Plain (Tuple t)) (get_or-set_other s.tuples slot j no_tuple no_tuple ne)
+content_in-renewed_other (ArrayKind k) j slot over s ne = refl
+
+slots-renewed : (slot slots : ℕ) (s : Memory) → HasSlots slots s → HasSlots slots (renewed slot s)
+slots-renewed slot slots s h = record {
+  numbers = length-set s.words.numbers slot (pos 0) ∙ h.numbers;
+  ranges = length-set s.words.ranges slot no_range ∙ h.ranges;
+  domains = h.domains;
+  tuples = length-set s.tuples slot no_tuple ∙ h.tuples;
+  arrays = h.arrays;
+}
+
+-- what is told of a slot that no name has
+abbrev nameless : ℕ → Sighted
+nameless slot = record { text = []; kind = PlainKind IntLeaf; slot = slot; shape = no_shape; over = None }
 
 -- WHAT A NAME MAY HOLD
 -- what an assignment makes of an element that is read
@@ -240,7 +266,7 @@ given-held TupleKind shape slot s v e = cc
 given-held (ArrayKind k) shape slot s v e = cc
 
 -- the arrays that stand with a domain are those over it
-arrays-known : (k : VariableKind) (x : Bound) (g : Seen) → k ≡ DomainKind → ArraysResolve k x g → x.variable.arrays ≡ arrays_over x.variable.slot g.frames
+arrays-known : (k : VariableKind) (x : Bound) (g : Seen) → k ≡ DomainKind → ArraysResolve k x g → x.variable.along ≡ arrays_over x.variable.slot g.frames
 arrays-known (PlainKind k) x g e a = cc
 arrays-known DomainKind x g e a = a
 arrays-known TupleKind x g e a = cc
@@ -284,7 +310,7 @@ module _ (start : Start) where
   value_alike x g s1 s2 r f = ap name_value (held x g s1 s2 r f) ∙ name_value-spelled x.variable.kind x.variable.slot (r.told x.variable.slot).over s2
 
   element_alike : (x : Bound) (t : Index) (g : Seen) (s1 : State) (s2 : Memory) → Kept start g s1 s2 → Resolves x g → by_name.element x.text t s1 ≡ element_in_memory x.variable.kind x.variable.slot t s2
-  element_alike x t g s1 s2 r f = ap (element_in t) (held x g s1 s2 r f) ∙ element-spelled x.variable.kind x.variable.slot (r.told x.variable.slot).over t s2
+  element_alike x t g s1 s2 r f = ap (element_in t) (held x g s1 s2 r f) ∙ element-spelled x.variable.kind x.variable.slot (r.told x.variable.slot).over t s2 r.whole
 
   -- ONE SLOT CHANGED, and all else as it was
   changed_alike : (x : Bound) (a : Content Text → Content Text) (u : Content SlotBound → Content SlotBound) (new : Memory) (g : Seen) (s1 : State) (s2 : Memory) → Kept start g s1 s2 → Resolves x g
@@ -292,8 +318,8 @@ module _ (start : Start) where
       → ((over : Option SlotBound) → u (content_in x.variable.kind x.variable.slot over s2) ≡ content_in x.variable.kind x.variable.slot over new)
       → ((k : VariableKind) (j : ℕ) (over : Option SlotBound) → j ≢ x.variable.slot → content_in k j over new ≡ content_in k j over s2)
       → HasSlots start.slots new → new.words.intents ≡ s2.words.intents → new.words.sets ≡ s2.words.sets → HasShape x.variable.kind x.shape (value_in x.variable.kind x.variable.slot new)
-      → Kept start g (record s1 { store = change_in x.text a s1.store }) new
-  changed_alike x a u new g s1 s2 r f p here other h i w shape =
+      → AreWhole new → Kept start g (record s1 { store = change_in x.text a s1.store }) new
+  changed_alike x a u new g s1 s2 r f p here other h i w shape whole =
       let slot = x.variable.slot in
       let over = (r.told slot).over in
       let found = finds x g s1 s2 r f in
@@ -320,6 +346,7 @@ module _ (start : Start) where
         texts = r.texts;
         words = w ∙ r.words;
         shaped = shaped-changed r.told slot s2 new r.shaped other (shaped-told x.variable.kind x.shape (r.told slot) slot new found.kind found.shape shape);
+        whole = whole;
       }
 
   update_alike : (x : Bound) (op : Assign) (v : Value) (g : Seen) (s1 : State) (s2 : Memory) → Kept start g s1 s2 → Resolves x g → kind_takes x.variable.kind op ≡ true → IntentResolves op x.text x.variable g → MayHold x.variable.kind x.shape v
@@ -341,6 +368,7 @@ module _ (start : Start) where
       (λ n. assigned-of kind op intent (value_in kind slot s2) v n t (λ e. subst (λ is. KindCombines kind (intent_at slot is)) (sym r.intents_by_slots) (intent-combines op x g i e)) p.0)
       (assigned-shaped kind x.shape op intent (value_in kind slot s2) v t (λ e. subst (λ is. KindCombines kind (intent_at slot is)) (sym r.intents_by_slots) (intent-combines op x g i e)) p.1)
       (λ w. shaped_sight g s1 s2 r x f) r.slots (finds x g s1 s2 r f).within)
+      (whole-set kind slot (assigned op intent (value_in kind slot s2) v) s2 r.whole)
 
   put_alike : (x : Bound) (t : Index) (v : Value) (g : Seen) (s1 : State) (s2 : Memory) → Kept start g s1 s2 → Resolves x g → MayHold x.variable.kind x.shape v
       → Kept start g (by_name.put_element x.text t v s1) (in_memory.put_element x.variable t v s2)
@@ -348,12 +376,13 @@ module _ (start : Start) where
       let kind = x.variable.kind in
       let slot = x.variable.slot in
       changed_alike x (put_in t v) (with_element_at t v) (in_memory.put_element x.variable t v s2) g s1 s2 r f (put-spelled t v)
-      (λ over. put-content kind slot over t v start.slots s2 p.0 r.slots (finds x g s1 s2 r f).within)
+      (λ over. put-content kind slot over t v start.slots s2 p.0 r.whole r.slots (finds x g s1 s2 r f).within)
       (λ k j over ne. put-other k kind j slot over t v s2 ne)
       (slots-element kind slot t v start.slots s2 r.slots)
       (ap (λ w. w.intents) (words-element kind slot t v s2))
       (ap (λ w. w.sets) (words-element kind slot t v s2))
       (shaped-element kind x.shape slot t v start.slots s2 r.slots (finds x g s1 s2 r f).within (shaped_sight g s1 s2 r x f))
+      (whole-element kind slot t v s2 r.whole)
 
   -- A DECLARATION
   -- what is told of a name that is declared
@@ -385,9 +414,9 @@ module _ (start : Start) where
       → ((k : VariableKind) (j : ℕ) (over : Option SlotBound) → j ≢ x.variable.slot → content_in k j over new ≡ content_in k j over s2)
       → OverResolves (texts_of (with_told x.variable.slot (told_as x sort) r.told)) c (in_slots g.frames)
       → HasSlots start.slots new → new.words.intents ≡ s2.words.intents → new.words.sets ≡ s2.words.sets → HasShape x.variable.kind x.shape (value_in x.variable.kind x.variable.slot new)
-      → OverIsFound (written_over sort) x.shape g
+      → OverIsFound (written_over sort) x.shape g → AreWhole new
       → Kept start (record g { frames = bind (sighted x sort) g.frames }) (record s1 { store = Declared (record { name = x.text; content = spelled c }) ∷ s1.store }) new
-  declared_alike x sort c new g s1 s2 r n fits here other resolves h i w shape over =
+  declared_alike x sort c new g s1 s2 r n fits here other resolves h i w shape over whole =
       let slot = x.variable.slot in
       let told = with_told slot (told_as x sort) r.told in
       let fresh : IsFresh slot (in_slots g.frames) = IsFresh-in_slots slot g.frames n.unused in
@@ -417,7 +446,47 @@ module _ (start : Start) where
         texts = r.texts;
         words = w ∙ r.words;
         shaped = shaped-declared r.told slot (told_as x sort) s2 new r.shaped other shape;
+        whole = whole;
       }
+
+  -- SLOTS THAT BEGIN ANEW, which no name in sight has: of such a slot it is told afterwards that it is an int's
+  renewed_alike : (slot : ℕ) (g : Seen) (s1 : State) (s2 : Memory) → Kept start g s1 s2 → IsUnused slot g.frames → Kept start g s1 (renewed slot s2)
+  renewed_alike slot g s1 s2 r u =
+      let new = renewed slot s2 in
+      let told = with_told slot (told_of (nameless slot) None) r.told in
+      let content = content_in (PlainKind IntLeaf) slot None new in
+      let fresh : IsFresh slot (in_slots g.frames) = IsFresh-in_slots slot g.frames u in
+      let each : (j : ℕ) → set_slot slot content (contents r.told s2) j ≡ contents told new j = set_slot-each slot content (contents r.told s2) (contents told new)
+      (sym (ap (λ (t : Told). content_in t.kind slot t.over new) (with_told_here slot (told_of (nameless slot) None) r.told)))
+      (λ j ne. sym (ap (λ (t : Told). content_in t.kind j t.over new) (with_told_other j slot (told_of (nameless slot) None) r.told ne)
+      ∙ content_in-renewed_other (r.told j).kind j slot (r.told j).over s2 ne)) in
+      record {
+        told = told;
+        is_told = IsTold-after (nameless slot) None r.told start.slots g.frames u r.is_told;
+        fit = r.fit;
+        overs_shaped = OversShaped-after r.told (nameless slot) (told_of (nameless slot) None) g.frames u r.overs_shaped;
+        opened = r.opened;
+        apart = r.apart;
+        overs = Overs-each (texts_of told) (set_slot slot content (contents r.told s2)) (contents told new) (in_slots g.frames) each
+            (Overs-declare (texts_of told) (placed_name (nameless slot)) content (contents r.told s2) (in_slots g.frames) fresh
+            (Overs-texts (texts_of r.told) (texts_of told) slot (λ j ne. ap (λ (t : Told). t.text) (with_told_other j slot (told_of (nameless slot) None) r.told ne))
+            (contents r.told s2) (in_slots g.frames) fresh r.overs) tt).1;
+        store =
+            r.store ∙ sym (store_at-set slot content (contents r.told s2) (in_slots g.frames) fresh)
+            ∙ store_at-each (set_slot slot content (contents r.told s2)) (contents told new) each (in_slots g.frames);
+        slots = slots-renewed slot start.slots s2 r.slots;
+        intents = r.intents;
+        intents_by_slots = r.intents_by_slots;
+        here = r.here;
+        texts = r.texts;
+        words = r.words;
+        shaped = shaped-declared r.told slot (told_of (nameless slot) None) s2 new r.shaped (λ k j over ne. content_in-renewed_other k j slot over s2 ne) tt;
+        whole = r.whole;
+      }
+
+  anew_alike : (slots : List ℕ) (g : Seen) (s1 : State) (s2 : Memory) → Kept start g s1 s2 → AreUnused slots g.frames → Kept start g s1 (anew slots s2)
+  anew_alike [] g s1 s2 r u = r
+  anew_alike (slot ∷ slots) g s1 s2 r u = renewed_alike slot g s1 (anew slots s2) (anew_alike slots g s1 s2 r u.1) u.0
 
   -- the domain name that an array is declared over
   over_alike : (over : Option Bound) (shape : Shape) (slot : ℕ) (t : Told) (g : Seen) (s1 : State) (s2 : Memory) (r : Kept start g s1 s2) → IsUnused slot g.frames → OverIsFound over shape g
@@ -429,13 +498,15 @@ module _ (start : Start) where
 
   declare_alike : (x : Bound) (c : Content Bound) (g : Seen) (s1 : State) (s2 : Memory) → Kept start g s1 s2 → Declares start.slots x (sort_of c) g → Holds x.variable.kind x.shape c
       → Kept start (record g { frames = bind (sighted x (sort_of c)) g.frames }) (by_name.declare x.text (renamed_content text_of c) s1) (in_memory.declare x.variable (renamed_content variable_of c) s2)
-  declare_alike x (Plain v) g s1 s2 r d p =
+  declare_alike x (Plain v) g s1 s2 before d p =
       let kind = x.variable.kind in
       let slot = x.variable.slot in
-      declared_alike x PlainSort (Plain v) (with_value_in kind slot v s2) g s1 s2 r d.0 (fits-none kind)
-      (content_in-set_same kind slot None v start.slots s2 p.0 d.1 r.slots d.0.within)
-      (λ k j over ne. content_in-set_other k kind j slot over v s2 ne) tt (slots-set kind slot v start.slots s2 r.slots) (intents-set_in kind slot v s2) (sets-set_in kind slot v s2)
-      (shaped-set kind x.shape slot v start.slots s2 (λ n. p.0) p.1 (λ w. absurd (d.1 w)) r.slots d.0.within) tt
+      let s3 = anew x.variable.along s2 in
+      let r = anew_alike x.variable.along g s1 s2 before d.0.along in
+      declared_alike x PlainSort (Plain v) (with_value_in kind slot v s3) g s1 s3 r d.0 (fits-none kind)
+      (content_in-set_same kind slot None v start.slots s3 p.0 d.1 r.slots d.0.within)
+      (λ k j over ne. content_in-set_other k kind j slot over v s3 ne) tt (slots-set kind slot v start.slots s3 r.slots) (intents-set_in kind slot v s3) (sets-set_in kind slot v s3)
+      (shaped-set kind x.shape slot v start.slots s3 (λ n. p.0) p.1 (λ w. absurd (d.1 w)) r.slots d.0.within) tt (whole-set kind slot v s3 r.whole)
   declare_alike x (ArrayOf over k rs vs) g s1 s2 r d p =
       let kind = x.variable.kind in
       let slot = x.variable.slot in
@@ -446,29 +517,29 @@ module _ (start : Start) where
       (λ l j o ne. declared-other l kind j slot o (made rs vs) s2 ne)
       (over_alike over x.shape slot (told_as x (ArraySort over)) g s1 s2 r d.0.unused d.2)
       (slots-declared kind slot (made rs vs) start.slots s2 r.slots) (ap (λ w. w.intents) (words-declared kind slot (made rs vs) s2)) (ap (λ w. w.sets) (words-declared kind slot (made rs vs) s2))
-      (shaped-array kind x.shape slot k (made rs vs) start.slots s2 p.0 r.slots d.0.within) d.2)
+      (shaped-array kind x.shape slot k (made rs vs) start.slots s2 p.0 r.slots d.0.within) d.2 (whole-declared kind slot (made rs vs) s2 refl r.whole))
   declare_alike x (CellOf k c) g s1 s2 r d p = absurd d
 
   -- A DOMAIN ASSIGNED
   was_domain : (x : Bound) (g : Seen) → WasDomain (through variable_of in_memory) (Kept start) x g → x.variable.kind ≡ DomainKind
   was_domain x g w = value_in-domain x.variable.kind x.variable.slot w.1 w.3
 
-  has_alike : (x : Bound) (g : Seen) (s1 : State) (s2 : Memory) → Kept start g s1 s2 → Resolves x g → x.variable.kind ≡ DomainKind → x.variable.arrays ≡ arrays_over x.variable.slot g.frames
-      → by_name.has_arrays x.text s1 ≡ is_some_array x.variable.arrays
+  has_alike : (x : Bound) (g : Seen) (s1 : State) (s2 : Memory) → Kept start g s1 s2 → Resolves x g → x.variable.kind ≡ DomainKind → x.variable.along ≡ arrays_over x.variable.slot g.frames
+      → by_name.has_arrays x.text s1 ≡ is_some_array x.variable.along
   has_alike x g s1 s2 r f d a =
       ap (named_arrays x.text) r.store
       ∙ arrays_over-slots (texts_of r.told) (placed x) (sym (finds x g s1 s2 r f).text) (contents r.told s2) (in_slots g.frames) (IsApart-in_slots g.frames r.apart) r.overs (placed_at x g f)
       ∙ any_over-told x.variable.slot start.slots r.told s2 ((finds x g s1 s2 r f).kind ∙ d) g.frames r.is_told r.fit r.overs_shaped ∙ ap is_some_array (sym a)
 
   -- the arrays that stand with it have its shape
-  redomained_shape : (x : Bound) (rs : List TextRange) (g : Seen) (s1 : State) (s2 : Memory) (r : Kept start g s1 s2) → Resolves x g → x.variable.kind ≡ DomainKind → x.variable.arrays ≡ arrays_over x.variable.slot g.frames
-      → AreRanked x.shape.rank x.shape.strided rs → (j : ℕ) → is_among j x.variable.arrays ≡ true → AreRanked (r.told j).shape.rank (r.told j).shape.strided rs
+  redomained_shape : (x : Bound) (rs : List TextRange) (g : Seen) (s1 : State) (s2 : Memory) (r : Kept start g s1 s2) → Resolves x g → x.variable.kind ≡ DomainKind → x.variable.along ≡ arrays_over x.variable.slot g.frames
+      → AreRanked x.shape.rank x.shape.strided rs → (j : ℕ) → is_among j x.variable.along ≡ true → AreRanked (r.told j).shape.rank (r.told j).shape.strided rs
   redomained_shape x rs g s1 s2 r f d a shape j e =
       let found = finds x g s1 s2 r f in
       let alike = arrays-shaped r.told x.variable.slot (found.kind ∙ d) j start.slots g.frames r.is_told r.overs_shaped (subst (λ xs. is_among j xs ≡ true) a e) in
       subst (λ (s : Shape). AreRanked s.rank s.strided rs) (sym (alike ∙ found.shape)) shape
 
-  redomain_alike : (x : Bound) (rs : List TextRange) (g : Seen) (s1 : State) (s2 : Memory) → Kept start g s1 s2 → Resolves x g → x.variable.kind ≡ DomainKind → x.variable.arrays ≡ arrays_over x.variable.slot g.frames → AreRanked x.shape.rank x.shape.strided rs
+  redomain_alike : (x : Bound) (rs : List TextRange) (g : Seen) (s1 : State) (s2 : Memory) → Kept start g s1 s2 → Resolves x g → x.variable.kind ≡ DomainKind → x.variable.along ≡ arrays_over x.variable.slot g.frames → AreRanked x.shape.rank x.shape.strided rs
       → Kept start g (by_name.redomain x.text rs s1) (in_memory.redomain x.variable rs s2)
   redomain_alike x rs g s1 s2 r f d a shape = record {
     told = r.told;
@@ -481,23 +552,24 @@ module _ (start : Start) where
     store =
         ap (redomain_in x.text rs) r.store
         ∙ redomain_in-slots (texts_of r.told) (placed x) (sym (finds x g s1 s2 r f).text) (contents r.told s2) rs (in_slots g.frames) (IsApart-in_slots g.frames r.apart) r.overs (placed_at x g f)
-        ∙ store-redomained x.variable rs start.slots s2 r.slots d r.told g.frames r.is_told r.overs_shaped ((finds x g s1 s2 r f).kind ∙ d) (finds x g s1 s2 r f).within
+        ∙ store-redomained x.variable rs start.slots s2 r.slots r.whole d r.told g.frames r.is_told r.overs_shaped ((finds x g s1 s2 r f).kind ∙ d) (finds x g s1 s2 r f).within
         (subst (λ xs. Tells x.variable.slot xs g.frames) (sym a) (arrays_over-tells x.variable.slot g.frames r.apart));
-    slots = redomained-slots x.variable rs start.slots s2 r.slots d;
+    slots = redomained-slots x.variable rs start.slots s2 r.slots r.whole d;
     intents = r.intents;
-    intents_by_slots = ap (λ w. w.intents) (redomained-intents x.variable rs start.slots s2 r.slots d) ∙ r.intents_by_slots;
+    intents_by_slots = ap (λ w. w.intents) (redomained-intents x.variable rs start.slots s2 r.slots r.whole d) ∙ r.intents_by_slots;
     here = r.here;
     texts = r.texts;
-    words = ap (λ w. w.sets) (redomained-intents x.variable rs start.slots s2 r.slots d) ∙ r.words;
+    words = ap (λ w. w.sets) (redomained-intents x.variable rs start.slots s2 r.slots r.whole d) ∙ r.words;
     shaped = λ j.
-        subst (λ arrays. HasToldShape (r.told j) j (record (with_value_in x.variable.kind x.variable.slot (Domain rs) s2) { arrays = redomained_from 0 x.variable.arrays rs arrays }))
+        subst (λ arrays. HasToldShape (r.told j) j (record (with_value_in x.variable.kind x.variable.slot (Domain rs) s2) { arrays = redomained_from 0 x.variable.along rs arrays }))
         (subst (λ k. (with_value_in k x.variable.slot (Domain rs) s2).arrays ≡ s2.arrays) (sym d) refl)
-        (shaped-redomained (r.told j) j x.variable.arrays rs (with_value_in x.variable.kind x.variable.slot (Domain rs) s2) (redomained_shape x rs g s1 s2 r f d a shape j)
+        (shaped-redomained (r.told j) j x.variable.along rs (with_value_in x.variable.kind x.variable.slot (Domain rs) s2) (redomained_shape x rs g s1 s2 r f d a shape j)
         (shaped-changed r.told x.variable.slot s2 (with_value_in x.variable.kind x.variable.slot (Domain rs) s2) r.shaped
         (λ k j over ne. content_in-set_other k x.variable.kind j x.variable.slot over (Domain rs) s2 ne)
         (shaped-told x.variable.kind x.shape (r.told x.variable.slot) x.variable.slot (with_value_in x.variable.kind x.variable.slot (Domain rs) s2) (finds x g s1 s2 r f).kind (finds x g s1 s2 r f).shape
         (shaped-set x.variable.kind x.shape x.variable.slot (Domain rs) start.slots s2 (λ n. subst (λ k. IsOf k (Domain rs)) (sym d) (rs, refl)) (λ n. subst (λ k. HasShape k x.shape (Domain rs)) (sym d) shape)
         (λ w. absurd (subst IsWhole d w)) r.slots (finds x g s1 s2 r f).within)) j));
+    whole = whole-redomained x.variable rs s2 r.whole;
   }
 
   -- ALL TOGETHER
@@ -551,6 +623,7 @@ module _ (start : Start) where
       texts = r.texts;
       words = r.words;
       shaped = r.shaped;
+      whole = r.whole;
     };
     leaves = λ g h s1 s2 t1 t2 before out r. subst (λ g. Kept start g (by_name.leave t1) (in_memory.leave t2)) out (record {
       told = r.told;
@@ -570,6 +643,7 @@ module _ (start : Start) where
       texts = r.texts;
       words = r.words;
       shaped = r.shaped;
+      whole = r.whole;
     });
     intends = λ is g s1 s2 r f. record {
       told = r.told;
@@ -587,6 +661,7 @@ module _ (start : Start) where
       texts = r.texts;
       words = r.words;
       shaped = shaped-intended r.told (intents_by_slot (renamed_intents variable_of is)) s2 r.shaped;
+      whole = r.whole;
     };
     ends_forall = λ is g s1 s2 r f. record {
       told = r.told;
@@ -604,6 +679,7 @@ module _ (start : Start) where
       texts = r.texts;
       words = r.words;
       shaped = shaped-intended r.told [] s2 r.shaped;
+      whole = r.whole;
     };
     has = λ x op g s1 s2 r f w. has_alike x g s1 s2 r f.0 (was_domain x g w) (arrays-known x.variable.kind x g (was_domain x g w) f.3);
     redomains = λ x op v g s1 s2 r f w h.
@@ -666,6 +742,7 @@ module _ (start : Start) where
     texts = refl;
     words = refl;
     shaped = λ j. tt;
+    whole = whole-first start.slots;
   }
 
   -- THE THEOREM: from the first states, statements that fit end alike by names and in a memory; where they are done, the

@@ -75,9 +75,9 @@ module _ (told : ℕ → Told) (x : Sighted) (t : Told) where
   frame-outside [] fs u i h = tt
   frame-outside (b ∷ bs) fs u i h = (name-after b fs u i.0 h.0, frame-outside bs fs u i.1 h.1)
 
-  frames-outside : (fs : Sight) → IsUnused x.slot fs → OversShaped told fs → OversShaped after fs
-  frames-outside [] u h = tt
-  frames-outside (f ∷ fs) u h = (frame-outside f (f ∷ fs) u u.0 h.0, frames-outside fs u.1 h.1)
+  pub OversShaped-after : (fs : Sight) → IsUnused x.slot fs → OversShaped told fs → OversShaped after fs
+  OversShaped-after [] u h = tt
+  OversShaped-after (f ∷ fs) u h = (frame-outside f (f ∷ fs) u u.0 h.0, OversShaped-after fs u.1 h.1)
 
   abbrev Own : Sight → Type 0
   Own fs = OverKnown after (after x.slot).over x.over x.shape fs
@@ -88,7 +88,7 @@ module _ (told : ℕ → Told) (x : Sighted) (t : Told) where
 
   pub OversShaped-bind : (fs : Sight) → IsUnused x.slot fs → OversShaped told fs → Own (bind x fs) → OversShaped after (bind x fs)
   OversShaped-bind [] u h own = ((own, tt), tt)
-  OversShaped-bind (f ∷ fs) u h own = (frame-after f (f ∷ fs) u u.0 h.0 own, frames-outside fs u.1 h.1)
+  OversShaped-bind (f ∷ fs) u h own = (frame-after f (f ∷ fs) u u.0 h.0 own, OversShaped-after fs u.1 h.1)
 
 pub OversShaped-without_frame : (told : ℕ → Told) (fs : Sight) → OversShaped told fs → OversShaped told (without_frame fs)
 OversShaped-without_frame told [] h = tt

@@ -35,7 +35,7 @@ named_in [] x = variable (PlainKind IntLeaf) 0
 named_in (p ∷ ps) x = if bytes_eq x p.0 then p.1 else named_in ps x
 
 abbrev domain_in : ℕ → List ℕ → Variable
-domain_in slot arrays = record { kind = DomainKind; slot = slot; arrays = arrays }
+domain_in slot arrays = record { kind = DomainKind; slot = slot; along = arrays }
 
 abbrev ints_in : ℕ → Variable
 ints_in slot = variable (ArrayKind IntKind) slot
@@ -182,10 +182,10 @@ seeing fs = record { frames = fs; intents = [] }
 
 inner_array_fits : fits_all (resolving (start 6)) inner_array_resolved.stmts first_seen
 inner_array_fits = ( -- var D = {1..2};
-  (tt, (((tt, tt, tt), tt), tt), (record { unused = (tt, tt); within = search rules }, λ e. e), tt, Suits-domain first_seen (at 1 9) 10 1 2 (at 1 14)),
+  (tt, (((tt, tt, tt), tt), tt), (record { unused = (tt, tt); within = search rules; along = ((tt, tt), tt) }, λ e. e), tt, Suits-domain first_seen (at 1 9) 10 1 2 (at 1 14)),
   (
     ( -- var A: [D] int = 1;
-      ((refl, tt), (λ t. tt, tt), (record { unused = (tt, (((λ e. cc), tt), tt)); within = search rules }, tt, (refl, λ e. refl)), tt, (SpansArray-name (seeing ([] ∷ d_frame ∷ [])) (placed_d 33) refl refl, Suits-element (seeing ([] ∷ d_frame ∷ [])) (at 1 36) (pos 1))),
+      ((refl, tt), (λ t. tt, tt), (record { unused = (tt, (((λ e. cc), tt), tt)); within = search rules; along = tt }, tt, (refl, λ e. refl)), tt, (SpansArray-name (seeing ([] ∷ d_frame ∷ [])) (placed_d 33) refl refl, Suits-element (seeing ([] ∷ d_frame ∷ [])) (at 1 36) (pos 1))),
       ( -- D = {2..3};
         (((refl, refl, tt, refl), λ t. (refl, refl)), (λ t. ((tt, tt, tt), tt), tt), Suits-domain (seeing (a_frame ∷ d_frame ∷ [])) (at 1 43) 44 2 3 (at 1 48)),
         ( -- writeln(A);

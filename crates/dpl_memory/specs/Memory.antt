@@ -9,7 +9,7 @@ use Rattle.dpl_language.specs.Arithmetic.{assigned}
 use Rattle.dpl_language.specs.Ranges.{indices_in, same_index, empty_domain}
 use Rattle.dpl_language.specs.Environment.{Content, Plain, ArrayOf, CellOf, Unanswered, Environment}
 use Rattle.dpl_lowered.specs.Known.{Known, WholeArray, NoArray, PlainValue}
-use Rattle.dpl_words.specs.Words.{LeafKind, IntLeaf, TruthLeaf, RangeLeaf, Words, is_true, intent_at, set_at, given_as, value_at, with_value_at}
+use Rattle.dpl_words.specs.Words.{LeafKind, IntLeaf, TruthLeaf, RangeLeaf, Words, is_true, no_range, intent_at, set_at, given_as, value_at, with_value_at}
 
 -- THE KINDS OF VARIABLES: those of plain variables, and domains, tuple names of loops, and arrays of ints and truth values
 pub data VariableKind : Type 0 where
@@ -18,16 +18,17 @@ pub data VariableKind : Type 0 where
   TupleKind : VariableKind
   ArrayKind : Kind → VariableKind
 
--- What stands for a name in a checked tree: its kind, and the slot of its declaration. Where a domain is assigned, the slots
--- of the arrays in sight that are declared over its bare name stand with it; elsewhere none do.
+-- What stands for a name in a checked tree: its kind, and the slot of its declaration; and along with it other slots. Where a
+-- domain is assigned these are those of the arrays in sight that are declared over its bare name; where a plain variable is
+-- declared, those that begin anew with it, as a turn's do with the variable of its forall. Elsewhere there are none.
 pub record Variable : Type 0 where
   pub kind : VariableKind
   pub slot : ℕ
-  pub arrays : List ℕ
+  pub along : List ℕ
 
--- a name that is read, or assigned and no domain
+-- a name with no other slots along
 abbrev pub variable : VariableKind → ℕ → Variable
-variable kind slot = record { kind = kind; slot = slot; arrays = [] }
+variable kind slot = record { kind = kind; slot = slot; along = [] }
 
 -- a plain variable, as a leaf of a tree
 abbrev pub int_leaf : ℕ → Variable
@@ -49,10 +50,16 @@ known_kind (ArrayKind k) = WholeArray
 abbrev pub known_variable : Variable → Known
 known_variable x = known_kind x.kind
 
--- an array: its domain, and a word for each of its elements, in domain order
+-- an array: its domain; and the indices whose elements it has, with a word for each of them. A piece of an array has some of
+-- its domain's.
 pub record Held : Type 0 where
   pub ranges : List TextRange
+  pub keys : List Index
   pub words : List ℤ
+
+-- a whole array has all of them, in domain order
+abbrev pub whole_held : List TextRange → List ℤ → Held
+whole_held rs ws = record { ranges = rs; keys = indices_in rs; words = ws }
 
 -- the value that an element's word is
 abbrev pub element_as : Kind → ℤ → Value
@@ -75,7 +82,7 @@ abbrev pub no_tuple : Index
 no_tuple = pos 0 ∷ []
 
 abbrev pub no_array : Held
-no_array = record { ranges = no_domain; words = [] }
+no_array = record { ranges = no_domain; keys = []; words = [] }
 
 abbrev pub array_at : ℕ → Memory → Held
 array_at slot s = get_or s.arrays slot no_array
@@ -109,10 +116,10 @@ with_word t w (i ∷ is) [] = []
 with_word t w (i ∷ is) (u ∷ ws) = if same_index t i then w ∷ ws else u ∷ with_word t w is ws
 
 abbrev pub held_at : Index → Held → Option ℤ
-held_at t a = word_at t (indices_in a.ranges) a.words
+held_at t a = word_at t a.keys a.words
 
 abbrev pub held_with : Index → ℤ → Held → Held
-held_with t w a = record a { words = with_word t w (indices_in a.ranges) a.words }
+held_with t w a = record a { words = with_word t w a.keys a.words }
 
 abbrev pub element_in : VariableKind → ℕ → Index → Memory → Option Value
 element_in (PlainKind k) slot t s = None
@@ -133,10 +140,21 @@ declared_array DomainKind slot a s = s
 declared_array TupleKind slot a s = s
 declared_array (ArrayKind k) slot a s = with_array slot a s
 
+-- a slot that begins anew: its word is 0, its range `1..0` and its tuple the index 0
+abbrev pub renewed : ℕ → Memory → Memory
+renewed slot s =
+    record s {
+      words = record s.words { numbers = set s.words.numbers slot (pos 0); ranges = set s.words.ranges slot no_range };
+      tuples = set s.tuples slot no_tuple;
+    }
+
+abbrev pub anew : List ℕ → Memory → Memory
+anew [] s = s
+anew (slot ∷ slots) s = renewed slot (anew slots s)
+
 abbrev pub declared : Variable → Content Variable → Memory → Memory
-declared x (Plain v) s = with_value_in x.kind x.slot v s
-declared x (ArrayOf over k rs vs) s =
-    declared_array x.kind x.slot (record { ranges = rs; words = map kept_number vs }) s
+declared x (Plain v) s = with_value_in x.kind x.slot v (anew x.along s)
+declared x (ArrayOf over k rs vs) s = declared_array x.kind x.slot (whole_held rs (map kept_number vs)) s
 declared x (CellOf k c) s = s
 
 -- the value that the command line gives: to plain variables alone
@@ -151,7 +169,7 @@ abbrev pub is_among : ℕ → List ℕ → Bool
 is_among slot slots = list_any (λ (j : ℕ). slot == j) slots
 
 abbrev pub held_over : List TextRange → Held → Held
-held_over rs a = record { ranges = rs; words = map (λ t. unwrap_or (held_at t a) (pos 0)) (indices_in rs) }
+held_over rs a = whole_held rs (map (λ t. unwrap_or (held_at t a) (pos 0)) (indices_in rs))
 
 abbrev pub held_over_if : Bool → List TextRange → Held → Held
 held_over_if true rs a = held_over rs a
@@ -165,7 +183,7 @@ redomained_from first slots rs (a ∷ more) =
 
 abbrev pub redomained_in : Variable → List TextRange → Memory → Memory
 redomained_in x rs s =
-    record (with_value_in x.kind x.slot (Domain rs) s) { arrays = redomained_from 0 x.arrays rs s.arrays }
+    record (with_value_in x.kind x.slot (Domain rs) s) { arrays = redomained_from 0 x.along rs s.arrays }
 
 abbrev pub is_some_array : List ℕ → Bool
 is_some_array [] = false
@@ -190,7 +208,7 @@ in_memory = record {
   enter = λ s. s;
   leave = λ s. s;
   intend = λ is s. intended (intents_by_slot is) s;
-  has_arrays = λ x s. is_some_array x.arrays;
+  has_arrays = λ x s. is_some_array x.along;
   redomain = redomained_in;
   here = λ s. pos 0;
   move = λ k s. s;

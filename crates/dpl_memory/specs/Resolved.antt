@@ -75,6 +75,10 @@ abbrev pub IsUnused : ℕ → Sight → Type 0
 IsUnused slot [] = Unit {0}
 IsUnused slot (f ∷ fs) = IsUnusedIn slot f × IsUnused slot fs
 
+abbrev pub AreUnused : List ℕ → Sight → Type 0
+AreUnused [] fs = Unit {0}
+AreUnused (slot ∷ slots) fs = IsUnused slot fs × AreUnused slots fs
+
 -- one more name at the end of the innermost frame; and the frames behind a scope
 abbrev pub bind : Sighted → Sight → Sight
 bind x [] = (x ∷ []) ∷ []
@@ -217,7 +221,7 @@ IntentResolves SetReduce x l g =
 -- where a domain is assigned, the arrays over its name stand with it
 abbrev pub ArraysResolve : VariableKind → Bound → Seen → Type 0
 ArraysResolve (PlainKind k) x g = Unit {0}
-ArraysResolve DomainKind x g = x.variable.arrays ≡ arrays_over x.variable.slot g.frames
+ArraysResolve DomainKind x g = x.variable.along ≡ arrays_over x.variable.slot g.frames
 ArraysResolve TupleKind x g = Unit {0}
 ArraysResolve (ArrayKind k) x g = Unit {0}
 
@@ -278,10 +282,11 @@ SpansArray kind shape k items g =
     (limits : Limits) (s : Memory) → IsShaped g s → (from : Place) (v : Value)
     → domain_of limits in_memory from (renamed_items variable_of items) s ≡ Ok v → MaySpan kind shape k (ranges_in v)
 
--- a declaration has a slot of the memory that no name in sight has
+-- a declaration has a slot of the memory that no name in sight has, and none has one of those that begin anew with it
 pub record IsNew (slots : ℕ) (x : Bound) (g : Seen) : Type 0 where
   pub unused : IsUnused x.variable.slot g.frames
   pub within : x.variable.slot < slots
+  pub along : AreUnused x.variable.along g.frames
 
 -- a bare name that an array of some shape is declared over: it is in sight, and a domain's has this shape
 abbrev pub OverResolves : Option Bound → Shape → Seen → Type 0

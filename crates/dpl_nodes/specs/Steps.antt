@@ -182,7 +182,7 @@ array_declared d = declared_with (placed_leaf d.at.now (variable (ArrayKind (ini
 
 -- a domain, with the arrays that change with it
 abbrev pub domain_leaf : DomainName → Placed Variable
-domain_leaf x = placed_leaf x.at.now (record { kind = DomainKind; slot = x.slot; arrays = x.arrays.now })
+domain_leaf x = placed_leaf x.at.now (record { kind = DomainKind; slot = x.slot; along = x.arrays.now })
 
 -- a loop's variable, which is an int
 abbrev pub variable_in : ℕ → VariablesTree Variable

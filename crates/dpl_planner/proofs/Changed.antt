@@ -49,7 +49,7 @@ single-whole (ArrayKind k) e = let f : true ≡ false = e in cc
 pub arrays-stand : (ss : Scopes) (is : List (Bound × Op)) (x : Text) → ArraysResolve (leaf_in ss x).kind (assigned_in ss x) (seen_of ss is)
 arrays-stand ss is x = by (leaf_in ss x).kind
   where
-    by : (k : VariableKind) → ArraysResolve k (record { text = x; variable = record { kind = k; slot = (leaf_in ss x).slot; arrays = arrays_at k (leaf_in ss x).slot ss }; shape = shape_in ss x }) (seen_of ss is)
+    by : (k : VariableKind) → ArraysResolve k (record { text = x; variable = record { kind = k; slot = (leaf_in ss x).slot; along = arrays_at k (leaf_in ss x).slot ss }; shape = shape_in ss x }) (seen_of ss is)
     by (PlainKind k) = tt
     by DomainKind = refl
     by TupleKind = tt

@@ -39,7 +39,7 @@ arrays_at TupleKind slot ss = []
 arrays_at (ArrayKind k) slot ss = []
 
 abbrev pub with_arrays : Scopes → Variable → Variable
-with_arrays ss x = record { kind = x.kind; slot = x.slot; arrays = arrays_at x.kind x.slot ss }
+with_arrays ss x = record { kind = x.kind; slot = x.slot; along = arrays_at x.kind x.slot ss }
 
 abbrev pub assigned_in : Scopes → Text → Bound
 assigned_in ss x = record { text = x; variable = with_arrays ss (leaf_in ss x); shape = shape_in ss x }

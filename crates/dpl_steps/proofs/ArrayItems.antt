@@ -13,7 +13,7 @@ use Rattle.dpl_language.specs.Environment.{Limits}
 use Rattle.dpl_language.specs.Expressions.{value_of, domain_of}
 use Rattle.dpl_language.specs.Declarations.{Shell, array_with, filled, declaring, array_of_item, array_of}
 use Rattle.dpl_language.specs.Statements.{exec}
-use Rattle.dpl_memory.specs.Memory.{ArrayKind, Variable, Memory, variable, with_array, in_memory}
+use Rattle.dpl_memory.specs.Memory.{whole_held, ArrayKind, Variable, Memory, variable, with_array, in_memory}
 use Rattle.dpl_nodes.specs.declared.step.Initial.{Initial}
 use Rattle.dpl_nodes.specs.declared.step.ArrayDeclaration.{ArrayDeclaration}
 use Rattle.dpl_nodes.specs.Steps.{placed_leaf, over_items, initial_kind, initial_view, array_declared}
@@ -46,11 +46,11 @@ module _ (limits : Limits) (at : Place) (k : Kind) (slot : ℕ) (a : Shell Varia
   name = placed_leaf at (variable (ArrayKind k) slot)
 
   pub declaring-filled : (v : Value) (w : ℤ) → kept_number v ≡ w
-      → declaring limits in_memory name (array_with a (filled v a.ranges)) s done ≡ Done (with_array slot (record { ranges = a.ranges; words = map (λ t. w) (indices_in a.ranges) }) s) done
-  declaring-filled v w e = ap (λ ws. Done (with_array slot (record { ranges = a.ranges; words = ws }) s) done) (filled-words v w (indices_in a.ranges) e)
+      → declaring limits in_memory name (array_with a (filled v a.ranges)) s done ≡ Done (with_array slot (whole_held a.ranges (map (λ t. w) (indices_in a.ranges))) s) done
+  declaring-filled v w e = ap (λ ws. Done (with_array slot (whole_held a.ranges ws) s) done) (filled-words v w (indices_in a.ranges) e)
 
   -- a declaration without an initial value
-  pub array_of-zeros : (k0 : Kind) → a.kind ≡ k0 → array_of limits in_memory name a None s done ≡ Done (with_array slot (record { ranges = a.ranges; words = map (λ t. pos 0) (indices_in a.ranges) }) s) done
+  pub array_of-zeros : (k0 : Kind) → a.kind ≡ k0 → array_of limits in_memory name a None s done ≡ Done (with_array slot (whole_held a.ranges (map (λ t. pos 0) (indices_in a.ranges))) s) done
   array_of-zeros IntKind e = declaring-filled (default a.kind) (pos 0) (ap (λ k. kept_number (default k)) e)
   array_of-zeros BoolKind e = declaring-filled (default a.kind) (pos 0) (ap (λ k. kept_number (default k)) e)
 
@@ -74,7 +74,7 @@ module _ (limits : Limits) (at : Place) (k : Kind) (slot : ℕ) (a : Shell Varia
           ∙ unless-broken (fault Budget equals) (declaring limits in_memory name (array_with a (filled v a.ranges))) s done (nat_lt limits.budget (size_in a.ranges)) f (sym past)
 
       pub array_of_item-value : (v : Value) (w : ℤ) → value_of limits in_memory e (Some t) s ≡ Ok v → Ok tt ≡ within_at limits equals a.ranges → kept_number v ≡ w
-          → array_of_item limits in_memory name a equals (One e) whole s done ≡ Done (with_array slot (record { ranges = a.ranges; words = map (λ t. w) (indices_in a.ranges) }) s) done
+          → array_of_item limits in_memory name a equals (One e) whole s done ≡ Done (with_array slot (whole_held a.ranges (map (λ t. w) (indices_in a.ranges))) s) done
       array_of_item-value v w is within kept =
           array_of_item-once (Ok v) is
           ∙ unless-held (fault Budget equals) (declaring limits in_memory name (array_with a (filled v a.ranges))) s done (nat_lt limits.budget (size_in a.ranges)) (sym within)

@@ -9,7 +9,7 @@ use Rattle.dpl_language.specs.Values.{Value, kept_number, Index, Fault}
 use Rattle.dpl_language.specs.Ranges.{indices_in}
 use Rattle.dpl_language.specs.Outcome.{with_ok, naming_value}
 use Rattle.dpl_language.specs.Declarations.{gathered}
-use Rattle.dpl_memory.specs.Memory.{Held, with_word, held_with}
+use Rattle.dpl_memory.specs.Memory.{Held, whole_held, with_word, held_with}
 use Rattle.dpl_contents.specs.Domains.{AreWritten}
 use Rattle.dpl_frame.specs.Faults.{fault_view}
 use Rattle.dpl_loop.specs.declared.stop.Stop.{Stop}
@@ -19,7 +19,7 @@ use Rattle.dpl_elements.proofs.Listed.{indices_in-distinct, with_word-behind}
 
 -- the array whose words are some, and behind them those of values; or the fault
 abbrev pub behind_words : List TextRange → List ℤ → Result (List Value) Fault → Result Held Fault
-behind_words rs ws g = with_ok g (λ vs. Ok (record { ranges = rs; words = ws ++ map kept_number vs }))
+behind_words rs ws g = with_ok g (λ vs. Ok (whole_held rs (ws ++ map kept_number vs)))
 
 -- what holds while some indices are left: the others have their words, and what is gathered in all is what is gathered
 -- at those that are left, behind them
@@ -37,7 +37,7 @@ pub record AreGathered (value : Index → Result Value Fault) (rs : List TextRan
 behind_words-next : (rs : List TextRange) (ws : List ℤ) (v : Value) (w : ℤ) (g : Result (List Value) Fault) → kept_number v ≡ w
     → behind_words rs ws (with_ok g (λ vs. Ok (v ∷ vs))) ≡ behind_words rs (ws ++ w ∷ []) g
 behind_words-next rs ws v w (Ok vs) e =
-    ap (λ n. Ok (record { ranges = rs; words = ws ++ n ∷ map kept_number vs })) e ∙ ap (λ us. Ok (record { ranges = rs; words = us })) (sym (append_assoc ws (w ∷ []) (map kept_number vs)))
+    ap (λ n. Ok (whole_held rs (ws ++ n ∷ map kept_number vs))) e ∙ ap (λ us. Ok (whole_held rs us)) (sym (append_assoc ws (w ∷ []) (map kept_number vs)))
 behind_words-next rs ws v w (Err f) e = refl
 
 -- a value that has a word
@@ -47,12 +47,12 @@ behind_words-value rs ws w (Ok v) g e = let same : kept_number v ≡ w = let is 
 behind_words-value rs ws w (Err f) g e = absurd (let no : Err f ≡ Ok w = e in cc)
 
 behind_words-fault : (rs : List TextRange) (ws : List ℤ) (g : Result (List Value) Fault) (f : Fault) → behind_words rs ws g ≡ Err f → g ≡ Err f
-behind_words-fault rs ws (Ok vs) f e = absurd (let no : Ok (record { ranges = rs; words = ws ++ map kept_number vs }) ≡ Err f = e in cc)
+behind_words-fault rs ws (Ok vs) f e = absurd (let no : Ok (whole_held rs (ws ++ map kept_number vs)) ≡ Err f = e in cc)
 behind_words-fault rs ws (Err h) f e = let same : h ≡ f = let is : Err h ≡ Err f = e in cc in ap Err same
 
-held-is : (a : Held) (rs : List TextRange) (ws : List ℤ) → a.ranges ≡ rs → a.words ≡ ws → a ≡ record { ranges = rs; words = ws }
+held-is : (a : Held) (rs : List TextRange) (ws : List ℤ) → a.ranges ≡ rs → a.words ≡ ws → a ≡ whole_held rs ws
 held-is a rs ws ranges words =
-    ap {A = List TextRange} {B = Held} (λ x. record { ranges = x; words = a.words }) ranges ∙ ap {A = List ℤ} {B = Held} (λ x. record { ranges = rs; words = x }) words
+    ap {A = List TextRange} {B = Held} (λ x. whole_held x a.words) ranges ∙ ap {A = List ℤ} {B = Held} (λ x. whole_held rs x) words
 
 no_words : (ws : List ℤ) → length ws ≡ 0 → ws ≡ []
 no_words [] none = refl
@@ -60,7 +60,7 @@ no_words (w ∷ ws) none = absurd (omega (arith, none))
 
 module _ (value : Index → Result Value Fault) (rs : List TextRange) where
   -- at first nothing is gathered
-  pub gathered-first : (left : List Index) (a : Held) → left ≡ indices_in rs → a ≡ record { ranges = rs; words = map (λ t. pos 0) (indices_in rs) } → AreGathered value rs left a
+  pub gathered-first : (left : List Index) (a : Held) → left ≡ indices_in rs → a ≡ whole_held rs (map (λ t. pos 0) (indices_in rs)) → AreGathered value rs left a
   gathered-first left a is zeros = record {
     before = [];
     words = [];

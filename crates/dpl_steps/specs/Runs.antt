@@ -4,7 +4,7 @@ use Rattle.std.specs.Prelude.{◌≡◌, ℤ, List, map, Result, Ok, Err}
 use Rattle.dpl_sets.specs.TextRanges.{TextRange}
 use Rattle.dpl_language.specs.Values.{Value, kept_number, Fault as FaultValue}
 use Rattle.dpl_language.specs.Outcome.{with_ok}
-use Rattle.dpl_memory.specs.Memory.{Held}
+use Rattle.dpl_memory.specs.Memory.{Held, whole_held}
 use Rattle.dpl_frame.specs.Faults.{fault_view}
 use Rattle.dpl_loop.specs.declared.stop.Stop.{Stop}
 use Rattle.dpl_loop.specs.declared.stop.Stop.TheVariants as stop
@@ -18,7 +18,7 @@ Names may (Err stop.Gate) r = may
 
 -- an array of the words of values, over a domain; or their first fault; or an entry was refused
 abbrev pub Gathers : Type 0 → Result Held Stop → List TextRange → Result (List Value) FaultValue → Type 0
-Gathers may (Ok a) rs g = with_ok g (λ vs. Ok (record { ranges = rs; words = map kept_number vs })) ≡ Ok a
+Gathers may (Ok a) rs g = with_ok g (λ vs. Ok (whole_held rs (map kept_number vs))) ≡ Ok a
 Gathers may (Err (stop.Fault f)) rs g = g ≡ Err (fault_view f)
 Gathers may (Err stop.Memory) rs g = Unit {0}
 Gathers may (Err stop.Gate) rs g = may
