@@ -14,6 +14,7 @@ pub mod Deeds
 pub mod Doings
 pub mod Bodies
 pub mod Admitted
+pub mod AnyOrder
 pub mod Shifts
 -- The walk over a program, its first breach, and its refusal.
 pub mod Breaches

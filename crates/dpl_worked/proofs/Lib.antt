@@ -11,3 +11,4 @@ pub mod Foralls
 -- Rows: what texts write, and which word of them does not run.
 pub mod Closed
 pub mod Runs
+pub mod Orders
