@@ -22,7 +22,7 @@ pub struct ArrayWords {
 }
 
 impl Model for ArrayWords {
-    ghost use Rattle.dpl_memory.specs.Memory.{Held};
+    ghost use Rattle.dpl_memory.specs.Memory.{Held, whole_held};
 
     ghost Value = { Held };
 

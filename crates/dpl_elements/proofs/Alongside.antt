@@ -60,10 +60,10 @@ still t u w (i ∷ is) (v ∷ ws) =
     later false o q same = same
 
 held-elsewhere : (t u : Index) (w : ℤ) (a : Held) → same_index u t ≡ false → held_at u (held_with t w a) ≡ held_at u a
-held-elsewhere t u w a other = elsewhere t u w (indices_in a.ranges) a.words other
+held-elsewhere t u w a other = elsewhere t u w a.keys a.words other
 
 held-still : (t u : Index) (w : ℤ) (a : Held) → is_some (held_at u (held_with t w a)) ≡ is_some (held_at u a)
-held-still t u w a = still t u w (indices_in a.ranges) a.words
+held-still t u w a = still t u w a.keys a.words
 
 -- SIDE BY SIDE
 -- an array that has an index is in a slot

@@ -7,24 +7,16 @@ use Rattle.std.proofs.lemmas.List.{get_or-map, map-set, set-set, set_past, lengt
 use Rattle.dpl_sets.specs.TextRanges.{TextRange}
 use Rattle.dpl_language.specs.Values.{Index}
 use Rattle.dpl_language.specs.Ranges.{indices_in}
-use Rattle.dpl_memory.specs.Memory.{Held, whole_held, no_array, word_at, with_word, held_at, held_with, held_over}
+use Rattle.dpl_memory.specs.Memory.{Held, whole_held, no_array, held_at, held_with, held_over}
 use Rattle.dpl_frame.specs.Frames.{held_in}
-
-word_at-no_words : (t : Index) (is : List Index) → word_at t is [] ≡ None
-word_at-no_words t [] = refl
-word_at-no_words t (i ∷ is) = refl
 
 -- such an array has no element
 pub held_at_none : (t : Index) → held_at t no_array ≡ None
-held_at_none t = word_at-no_words t (indices_in no_array.ranges)
+held_at_none t = refl
 
 -- and none is put there
-with_word-no_words : (t : Index) (w : ℤ) (is : List Index) → with_word t w is [] ≡ []
-with_word-no_words t w [] = refl
-with_word-no_words t w (i ∷ is) = refl
-
 pub held_with_none : (t : Index) (w : ℤ) → held_with t w no_array ≡ no_array
-held_with_none t w = ap (λ ws. record no_array { words = ws }) (with_word-no_words t w (indices_in no_array.ranges))
+held_with_none t w = refl
 
 -- an array is put into a slot
 pub held_set : (xs : List (Option Held)) (k : ℕ) (a : Option Held) → map held_in (set xs k a) ≡ set (map held_in xs) k (held_in a)

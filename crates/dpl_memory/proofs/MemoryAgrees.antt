@@ -9,7 +9,6 @@ use Rattle.dpl_sets.specs.TextRanges.{TextRange}
 use Rattle.dpl_language.specs.Tree.{Op, Kind, Assign, Set, SetAdd, SetSubtract, SetMultiply, SetDivide, SetRemainder, SetReduce, ItemTree, Stmts, ProgramTree}
 use Rattle.dpl_language.specs.Values.{Value, Int, Range, Domain, Tuple, Index, index_of, ranges_in, array_domain, is_domain, kept_number}
 use Rattle.dpl_language.specs.Arithmetic.{assigned}
-use Rattle.dpl_language.specs.Ranges.{indices_in}
 use Rattle.dpl_language.specs.Outcome.{Deeds, no_deeds, Outcome, Done, Stop, Waits}
 use Rattle.dpl_language.specs.Environment.{Content, Plain, ArrayOf, CellOf, Limits}
 use Rattle.dpl_language.specs.Phrases.{item_read}

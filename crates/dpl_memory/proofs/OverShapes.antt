@@ -8,7 +8,7 @@ use Rattle.dpl_agreement.proofs.Slots.{Bound as SlotBound, other_slot}
 use Rattle.dpl_agreement.proofs.SlotDomains.{is_over_slot}
 use Rattle.dpl_memory.specs.Memory.{VariableKind, PlainKind, DomainKind, TupleKind, ArrayKind, Held, is_among, held_over_if, redomained_from}
 use Rattle.dpl_memory.specs.Resolved.{Shape, Bound, Sighted, Sight, IsUnusedIn, IsUnused, bind, without_frame, is_over, arrays_in, arrays_over}
-use Rattle.dpl_memory.proofs.InSight.{placed_over, Told, told_of, IsToldIn, IsTold, with_told, with_told_here, with_told_other}
+use Rattle.dpl_memory.proofs.InSight.{placed_over, Told, told_of, IsToldIn, IsTold, with_told, with_told_other}
 
 -- A SLOT IN SIGHT is none that is unused
 abbrev pub IsUsed : ℕ → Sight → Type 0

@@ -310,7 +310,7 @@ module _ (a : Plan) (d : DeclareTree Text) (made : DeclaredNode) (t : TypeNode) 
             let known = open-known ss h in
             let in_frame : slot < start.slots = omega (arith, below, le) in
             let unused = subst (λ n. IsUnused n (sight_of ss)) (sym next) (unused_next ss known) in
-            let fresh_slot = subst (λ (l : Variable). IsNew start.slots (record { text = x.text; variable = l; shape = x.shape }) g) (sym leaf) (record { unused = unused; within = in_frame }) in
+            let fresh_slot = subst (λ (l : Variable). IsNew start.slots (record { text = x.text; variable = l; shape = x.shape }) g) (sym leaf) (record { unused = unused; within = in_frame; along = tt }) in
             let declares : Declares start.slots x PlainSort g = (fresh_slot, new-no_array ss new (begun_kind begun) of_kind single) in (
               is.type.fits_here start g,
               is.initial start (intents_in a) known,

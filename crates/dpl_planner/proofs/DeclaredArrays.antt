@@ -234,7 +234,7 @@ module _ (a : Plan) (d : DeclareTree Text) (arr : ArrayTypeTree Text) (typed : t
         × suits_declared (resolving start) x y (bound_initial ss d.initial) g
 
     is-new : IsNew start.slots x g
-    is-new = subst (λ (l : Variable). IsNew start.slots (record { text = x.text; variable = l; shape = x.shape }) g) (sym leaf) (record { unused = unused_next ss h; within = within })
+    is-new = subst (λ (l : Variable). IsNew start.slots (record { text = x.text; variable = l; shape = x.shape }) g) (sym leaf) (record { unused = unused_next ss h; within = within; along = tt })
 
     is-whole : IsWhole x.variable.kind
     is-whole = subst (λ (l : Variable). IsWhole l.kind) (sym leaf) tt

@@ -24,7 +24,7 @@ use Rattle.dpl_lowered.specs.Shapes.{nowhere, unplaced}
 use Rattle.dpl_lowered.specs.LoweredStatements.{lowered_variables}
 use Rattle.dpl_words.specs.Words.{IntLeaf, TruthLeaf, RangeLeaf}
 use Rattle.dpl_memory.specs.Memory.{VariableKind, PlainKind, DomainKind, TupleKind, ArrayKind, Variable, int_leaf}
-use Rattle.dpl_memory.specs.Resolved.{Bound, Start, text_of, variable_of, IsUnused, MayHold, Turns, resolving}
+use Rattle.dpl_memory.specs.Resolved.{Bound, Start, text_of, variable_of, IsUnused, AreUnused, MayHold, Turns, resolving}
 use Rattle.dpl_nodes.specs.declared.step.Names.TheVariants as names
 use Rattle.dpl_nodes.specs.Steps.{unplaced_leaf, next_name}
 use Rattle.dpl_typer.specs.Makers.{is_promoted}
@@ -107,8 +107,9 @@ module _ (t : ValueType) (k : VariableKind) (kind : value_kind t ≡ Some k) (si
       let here = next-later d ss in
       let more = slots-later (Some t) xs (add d ss) in
       let leaf : (bound_new ss d).variable.slot ≡ next_slot_in ss = ap (λ o. (leaf_by o (Some (next_slot_in ss))).slot) kind in
+      let along : AreUnused (bound_new ss d).variable.along (sight_of ss) = subst (λ o. AreUnused (leaf_by o (Some (next_slot_in ss))).along (sight_of ss)) (sym kind) tt in
       let within : (bound_new ss d).variable.slot < start.slots = omega (arith, here, more, le, leaf) in (
-        (record { unused = subst (λ n. IsUnused n (sight_of ss)) (sym leaf) (unused_next ss (open-known ss h)); within = within }, new-no_array ss d k kind single),
+        (record { unused = subst (λ n. IsUnused n (sight_of ss)) (sym leaf) (unused_next ss (open-known ss h)); within = within; along = along }, new-no_array ss d k kind single),
         subst (λ fs. fits_each (resolving start) (bound_list (Some t) xs (add d ss)) (record { frames = fs; intents = is })) (sight_of-plain d ss (single-over t k kind single ss d.origin)) (each-fits start is xs (add d ss) (plain-add d ss k kind (single-type t k kind single) refl fresh.0 h) fresh.1 le),
       )
 

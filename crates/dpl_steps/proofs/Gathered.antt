@@ -31,6 +31,7 @@ pub record AreGathered (value : Index → Result Value Fault) (rs : List TextRan
   pub long : length words ≡ length before
   pub waits : length rest ≡ length left
   pub ranges : a.ranges ≡ rs
+  pub keys : a.keys ≡ indices_in rs
   pub held : a.words ≡ words ++ rest
   pub ends : behind_words rs words (gathered value left) ≡ behind_words rs [] (gathered value (indices_in rs))
 
@@ -50,9 +51,10 @@ behind_words-fault : (rs : List TextRange) (ws : List ℤ) (g : Result (List Val
 behind_words-fault rs ws (Ok vs) f e = absurd (let no : Ok (whole_held rs (ws ++ map kept_number vs)) ≡ Err f = e in cc)
 behind_words-fault rs ws (Err h) f e = let same : h ≡ f = let is : Err h ≡ Err f = e in cc in ap Err same
 
-held-is : (a : Held) (rs : List TextRange) (ws : List ℤ) → a.ranges ≡ rs → a.words ≡ ws → a ≡ whole_held rs ws
-held-is a rs ws ranges words =
-    ap {A = List TextRange} {B = Held} (λ x. whole_held x a.words) ranges ∙ ap {A = List ℤ} {B = Held} (λ x. whole_held rs x) words
+held-is : (a : Held) (rs : List TextRange) (ws : List ℤ) → a.ranges ≡ rs → a.keys ≡ indices_in rs → a.words ≡ ws → a ≡ whole_held rs ws
+held-is a rs ws ranges keys words =
+    ap {A = List TextRange} {B = Held} (λ x. record { ranges = x; keys = a.keys; words = a.words }) ranges
+    ∙ ap {A = List Index} {B = Held} (λ x. record { ranges = rs; keys = x; words = a.words }) keys ∙ ap {A = List ℤ} {B = Held} (λ x. whole_held rs x) words
 
 no_words : (ws : List ℤ) → length ws ≡ 0 → ws ≡ []
 no_words [] none = refl
@@ -69,6 +71,7 @@ module _ (value : Index → Result Value Fault) (rs : List TextRange) where
     long = refl;
     waits = length-map (indices_in rs) (λ t. pos 0) ∙ ap length (sym is);
     ranges = ap (λ (h : Held). h.ranges) zeros;
+    keys = ap (λ (h : Held). h.keys) zeros;
     held = ap (λ (h : Held). h.words) zeros;
     ends = ap (λ ts. behind_words rs [] (gathered value ts)) is;
   }
@@ -78,8 +81,7 @@ module _ (value : Index → Result Value Fault) (rs : List TextRange) where
     next-word : (u : ℤ) (rest : List ℤ) → so_far.rest ≡ u ∷ rest → (held_with t w a).words ≡ so_far.words ++ w ∷ rest
     next-word u rest is =
         let distinct : IsDistinct (so_far.before ++ t ∷ left) = subst IsDistinct so_far.listed (indices_in-distinct rs written) in
-        ap (λ q. with_word t w (indices_in q) a.words) so_far.ranges
-        ∙ ap (λ ts. with_word t w ts a.words) so_far.listed
+        ap (λ ts. with_word t w ts a.words) (so_far.keys ∙ so_far.listed)
         ∙ ap (λ ws. with_word t w (so_far.before ++ t ∷ left) ws) (so_far.held ∙ ap (λ ws. so_far.words ++ ws) is)
         ∙ with_word-behind t w u so_far.before left so_far.words rest distinct so_far.long
 
@@ -93,6 +95,7 @@ module _ (value : Index → Result Value Fault) (rs : List TextRange) where
       long = let one = length-append so_far.words (w ∷ []) in let other = length-append so_far.before (t ∷ []) in let same = so_far.long in omega (arith, one, other, same);
       waits = let whole = ap length is in let some = so_far.waits in omega (arith, whole, some);
       ranges = so_far.ranges;
+      keys = so_far.keys;
       held = next-word u rest is ∙ sym (append_assoc so_far.words (w ∷ []) rest);
       ends = sym (behind_words-value rs so_far.words w (naming_value t (value t)) (gathered value left) e) ∙ so_far.ends;
     }
@@ -114,4 +117,4 @@ module _ (value : Index → Result Value Fault) (rs : List TextRange) where
   gathered-last may a so_far =
       let none : so_far.rest ≡ [] = no_words so_far.rest so_far.waits in
       sym so_far.ends
-      ∙ ap Ok (sym (held-is a rs (so_far.words ++ []) so_far.ranges (so_far.held ∙ ap (λ ws. so_far.words ++ ws) none)))
+      ∙ ap Ok (sym (held-is a rs (so_far.words ++ []) so_far.ranges so_far.keys (so_far.held ∙ ap (λ ws. so_far.words ++ ws) none)))
