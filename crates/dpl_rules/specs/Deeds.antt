@@ -8,7 +8,7 @@ use Rattle.dpl_language.specs.Phrases.{Base, BaseName, base_of, bare_name}
 use Rattle.dpl_rules.specs.Types.{ValueType, Promoted, is_array, is_cell, has}
 use Rattle.dpl_rules.specs.Verdicts.{where_given}
 use Rattle.dpl_rules.specs.Sights.{Declared, Scopes, lookup}
-use Rattle.dpl_rules.specs.Expressions.{type_of}
+use Rattle.dpl_rules.specs.Expressions.{type_of, chain_type}
 
 -- An index of an element, as far as the text tells it: a name, a name and what a number adds to it, or anything else.
 pub data IndexPart : Type 0 where
@@ -123,9 +123,14 @@ module _ (scopes : Scopes) where
   base_deeds (BaseName x) posts otherwise = declared_deeds x.at posts (lookup scopes x.name)
   base_deeds _ posts otherwise = otherwise
 
-  -- a promoted chain; where one of its operators is refused, it has no type and is none
-  abbrev pub is_promoted_chain : ExprTree Text → Links Text → Bool
-  is_promoted_chain e rest = has is_promoted (type_of scopes (Chain e rest))
+  -- A chain is read in pairs: what stands before the next operand is one operand with it. Behind a refused pair none has a type.
+  abbrev pub pair_type : Option ValueType → Place → Infix → ExprTree Text → Option ValueType
+  pair_type t at op e = chain_type scopes t (Link at op e NoLinks)
+
+  -- whether a pair from here on is promoted, where what stands before has this type
+  abbrev pub has_promoted_pair : Option ValueType → Links Text → Bool
+  has_promoted_pair t NoLinks = false
+  has_promoted_pair t (Link at op e rest) = has is_promoted (pair_type t at op e) || has_promoted_pair (pair_type t at op e) rest
 
   -- what an expression does; the flag says that it stands in a promoted expression or in a map's argument
   abbrev mutual
@@ -140,8 +145,7 @@ module _ (scopes : Scopes) where
     expr_deeds inner (DomainLiteral from items upto) = items_deeds inner items
     expr_deeds inner (Prefixed at op e) = expr_deeds inner e
     expr_deeds inner (Reduced at op word e) = held at AReduction ++ held_if inner at AnInnerReduction ++ expr_deeds inner e
-    expr_deeds inner (Chain e rest) =
-        expr_deeds (inner || is_promoted_chain e rest) e ++ links_deeds (inner || is_promoted_chain e rest) rest
+    expr_deeds inner (Chain e rest) = expr_deeds (inner || has_promoted_pair (type_of scopes e) rest) e ++ links_deeds inner (type_of scopes e) rest
     expr_deeds inner (Postfixed e posts) = base_deeds (base_of e) posts (expr_deeds inner e) ++ posts_deeds inner posts
 
     pub item_deeds : Bool → ItemTree Text → List Deed
@@ -152,9 +156,11 @@ module _ (scopes : Scopes) where
     stride_deeds inner NoStride = []
     stride_deeds inner (By at e) = expr_deeds inner e
 
-    pub links_deeds : Bool → Links Text → List Deed
-    links_deeds inner NoLinks = []
-    links_deeds inner (Link at op e rest) = expr_deeds inner e ++ links_deeds inner rest
+    -- an operand stands in its own pair and in those behind it; the type is that of what stands before
+    pub links_deeds : Bool → Option ValueType → Links Text → List Deed
+    links_deeds inner t NoLinks = []
+    links_deeds inner t (Link at op e rest) =
+        expr_deeds (inner || has_promoted_pair t (Link at op e rest)) e ++ links_deeds inner (pair_type t at op e) rest
 
     pub posts_deeds : Bool → Posts Text → List Deed
     posts_deeds inner NoPosts = []

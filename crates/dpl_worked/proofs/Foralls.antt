@@ -128,6 +128,47 @@ product_of_a_sum_and_an_array : in_house (codes "A = (+ reduce C) * A;") ≡ tol
 unfolding by_text
 product_of_a_sum_and_an_array = refl
 
+-- of a chain that is refused, what stands before the refused operator is promoted still
+sum_before_a_wrong_operator : in_house (codes "A = (+ reduce C) + A + F;") ≡ told 2 6 NotInForall
+unfolding by_text
+sum_before_a_wrong_operator = refl
+
+sum_that_is_added_before_a_wrong_operator : in_house (codes "A = A + (+ reduce C) + F;") ≡ told 2 10 NotInForall
+unfolding by_text
+sum_that_is_added_before_a_wrong_operator = refl
+
+declaration_of_a_sum_before_a_wrong_operator : in_house (codes "var x = (+ reduce C) + A + F;") ≡ told 2 10 NotInForall
+unfolding by_text
+declaration_of_a_sum_before_a_wrong_operator = refl
+
+sum_in_a_longer_pair : in_house (codes "n = (+ reduce C) + 1 + A + F;") ≡ told 2 6 NotInForall
+unfolding by_text
+sum_in_a_longer_pair = refl
+
+sum_beside_a_promoted_operand : in_house (codes "A = (A + C) * (+ reduce C);") ≡ told 2 16 NotInForall
+unfolding by_text
+sum_beside_a_promoted_operand = refl
+
+sum_in_a_refused_pair : in_house (codes "A = (+ reduce C) + F + A;") ≡ told 2 18 WrongType
+unfolding by_text
+sum_in_a_refused_pair = refl
+
+sum_behind_a_wrong_operator : in_house (codes "A = A + F + (+ reduce C);") ≡ told 2 7 WrongType
+unfolding by_text
+sum_behind_a_wrong_operator = refl
+
+sum_in_an_operand_without_a_type : in_house (codes "A = A + C + ((+ reduce C) + true);") ≡ told 2 27 WrongType
+unfolding by_text
+sum_in_an_operand_without_a_type = refl
+
+sum_in_a_pair_of_ints : in_house (codes "n = (+ reduce C) + 1 + true;") ≡ told 2 22 WrongType
+unfolding by_text
+sum_in_a_pair_of_ints = refl
+
+sum_of_a_sum : in_house (codes "n = (+ reduce C) + 1;") ≡ sound
+unfolding by_text
+sum_of_a_sum = refl
+
 -- ---- `dmapped` beside a written int declares an int
 mapped_int_in_a_forall : in_house (codes "forall i in D do var x: int = 1 dmapped new blockDist(D);") ≡ told 2 33 WrongType
 unfolding by_text
