@@ -9,7 +9,7 @@ use Rattle.dpl_language.specs.Ranges.{empty_domain}
 use Rattle.dpl_language.specs.Phrases.{Base, BaseName, BaseLocales, OtherBase, base_of, bare_name, ReadTree, item_read, parts}
 use Rattle.dpl_language.specs.Declarations.{type_of}
 use Rattle.dpl_language.specs.Writing.{arguments_of}
-use Rattle.dpl_agreement.specs.Scopes.{Sort, sort_by, Scoping, IsLawful, items_in, fits_name, fits_element, fits_expr, fits_item, fits_stride, fits_links, fits_posts, fits_post, fits_method, fits_items, fits_more_items, fits_exprs, fits_more_exprs, fits_read, fits_side, fits_whole_side, fits_type, side_by, fits_init, fits_initial, fits_given, suits_init, suits_initial, suits_elements, suits_array, suits_declared, fits_declare, fits_target, side_for, suits_target, fits_call, fits_shown, fits_arguments, fits_each, fits_variables, holds_ints, suits_turns, fits, fits_body, fits_all, fits_else}
+use Rattle.dpl_agreement.specs.Scopes.{Form, form_by, Scoping, IsLawful, items_in, fits_name, fits_element, fits_expr, fits_item, fits_stride, fits_links, fits_posts, fits_post, fits_method, fits_items, fits_more_items, fits_exprs, fits_more_exprs, fits_read, fits_side, fits_whole_side, fits_type, side_by, fits_init, fits_initial, fits_given, suits_init, suits_initial, suits_elements, suits_array, suits_declared, fits_declare, fits_target, side_for, suits_target, fits_call, fits_shown, fits_arguments, fits_each, fits_variables, holds_ints, suits_turns, fits, fits_body, fits_all, fits_else}
 
 -- any name may be used in any way, and nothing is kept of what is in sight
 abbrev pub anything : {N : Type 0} → Scoping N (Unit {0})
@@ -21,7 +21,7 @@ anything = record {
   assigns_at = λ x t g. Unit {0};
   assigns_element = λ x items g. Unit {0};
   calls = λ x g. Unit {0};
-  declares = λ x sort g. Unit {0};
+  declares = λ x form g. Unit {0};
   gives = λ x g. Unit {0};
   holds = λ x c. Unit {0};
   suits = λ x item g. Unit {0};
@@ -32,7 +32,7 @@ anything = record {
   intends = λ is g. Unit {0};
   coforalls = λ x g. Unit {0};
   moves = λ g. Unit {0};
-  add = λ x sort g. g;
+  add = λ x form g. g;
   enter = λ g. g;
   leave = λ g. g;
   intend = λ is g. g;
@@ -40,7 +40,7 @@ anything = record {
 }
 
 pub anything-lawful : {N : Type 0} → IsLawful (anything {N = N})
-anything-lawful = record { leave-enter = λ g. refl; leave-add = λ x sort g. refl }
+anything-lawful = record { leave-enter = λ g. refl; leave-add = λ x form g. refl }
 
 module _ {N : Type 0} where
   name_fits : (t : Option Index) (x : N) → fits_name anything t x tt
@@ -141,9 +141,9 @@ module _ {N : Type 0} where
   initial_fits t None = tt
   initial_fits t (Some i) = init_fits t i.init
 
-  given_fits : (c : Option Place) (x : N) (sort : Sort N) → fits_given anything c x sort tt
-  given_fits None x sort = tt
-  given_fits (Some config) x sort = (tt, tt, refl)
+  given_fits : (c : Option Place) (x : N) (form : Form N) → fits_given anything c x form tt
+  given_fits None x form = tt
+  given_fits (Some config) x form = (tt, tt, refl)
 
   init_suits : (x : N) (i : InitTree N) → suits_init anything x i tt
   init_suits x (ItemInit item mapped) = tt
@@ -170,7 +170,7 @@ module _ {N : Type 0} where
 
   declare_fits : (d : DeclareTree N) → fits_declare anything d tt
   declare_fits d =
-      (type_fits (type_of d.typed), initial_fits (type_of d.typed) d.initial, tt, given_fits d.config d.name.name (sort_by (type_of d.typed)), declared_suits d.name.name (type_of d.typed) d.initial)
+      (type_fits (type_of d.typed), initial_fits (type_of d.typed) d.initial, tt, given_fits d.config d.name.name (form_by (type_of d.typed)), declared_suits d.name.name (type_of d.typed) d.initial)
 
   target_fits : (t : TargetTree N) (op : _) → fits_target anything t op tt
   target_fits (Whole x) op = (tt, λ t. (tt, tt))

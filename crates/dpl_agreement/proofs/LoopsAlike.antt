@@ -16,7 +16,7 @@ use Rattle.dpl_language.specs.Expressions.{item_of}
 use Rattle.dpl_language.specs.Loops.{scoped, declare_each, bound_to, turn_of}
 use Rattle.dpl_language.specs.Tasks.{replies_of, solo_of, first_fault, solos, tasks_end, tasks_of}
 use Rattle.dpl_agreement.specs.Renamed.{renamed, renamed_variables}
-use Rattle.dpl_agreement.specs.Scopes.{Scoping, IsLawful, PlainSort, sort_by, add_each, add_variables, inside, fits_each, fits_variables, holds_ints, suits_turns, after, after_all, after_body}
+use Rattle.dpl_agreement.specs.Scopes.{Scoping, IsLawful, PlainForm, form_by, add_each, add_variables, inside, fits_each, fits_variables, holds_ints, suits_turns, after, after_all, after_body}
 use Rattle.dpl_agreement.specs.Agreement.{Simulates, EndsAlike, RunAlike}
 use Rattle.dpl_agreement.proofs.RunsAlike.{All-every, then_do-alike, solo_of-alike, stop_or-alike}
 use Rattle.dpl_agreement.proofs.RenamedParts.{parts-mapped}
@@ -25,15 +25,15 @@ use Rattle.dpl_agreement.proofs.RenamedParts.{parts-mapped}
 module _ {N G : Type 0} (scoping : Scoping N G) (lawful : IsLawful scoping) where
   leave-add_each : (xs : List (Placed N)) (g : G) → scoping.leave (add_each scoping xs g) ≡ scoping.leave g
   leave-add_each [] g = refl
-  leave-add_each (x ∷ xs) g = leave-add_each xs (scoping.add x.name PlainSort g) ∙ lawful.leave-add x.name PlainSort g
+  leave-add_each (x ∷ xs) g = leave-add_each xs (scoping.add x.name PlainForm g) ∙ lawful.leave-add x.name PlainForm g
 
   leave-add_variables : (xs : VariablesTree N) (g : G) → scoping.leave (add_variables scoping xs g) ≡ scoping.leave g
-  leave-add_variables (OneVariable x) g = lawful.leave-add x.name PlainSort g
+  leave-add_variables (OneVariable x) g = lawful.leave-add x.name PlainForm g
   leave-add_variables (ManyVariables from xs upto) g = leave-add_each (parts xs) g
 
   pub leave-after : (t : StmtTree N) (g : G) → scoping.leave (after scoping t g) ≡ scoping.leave g
   leave-after (Nothing at) g = refl
-  leave-after (Declare d) g = lawful.leave-add d.name.name (sort_by (type_of d.typed)) g
+  leave-after (Declare d) g = lawful.leave-add d.name.name (form_by (type_of d.typed)) g
   leave-after (Assigned target sign item semicolon) g = refl
   leave-after (Call x dot call semicolon) g = refl
   leave-after (Write w) g = refl
@@ -82,9 +82,9 @@ module _ {M N G S1 S2 : Type 0} (limits : Limits) (name : N → M) (scoping : Sc
       → R (add_each scoping xs g) (declare_each first (map (renamed name) xs) t s1) (declare_each second xs t s2)
   declare_each-alike [] t g s1 s2 r f h = r
   declare_each-alike (x ∷ xs) [] g s1 s2 r f h =
-      declare_each-alike xs [] (scoping.add x.name PlainSort g) _ _ (sim.declares x.name (Plain (Int (pos 0))) g s1 s2 r f.0 (h.0 (pos 0))) f.1 h.1
+      declare_each-alike xs [] (scoping.add x.name PlainForm g) _ _ (sim.declares x.name (Plain (Int (pos 0))) g s1 s2 r f.0 (h.0 (pos 0))) f.1 h.1
   declare_each-alike (x ∷ xs) (i ∷ t) g s1 s2 r f h =
-      declare_each-alike xs t (scoping.add x.name PlainSort g) _ _ (sim.declares x.name (Plain (Int i)) g s1 s2 r f.0 (h.0 i)) f.1 h.1
+      declare_each-alike xs t (scoping.add x.name PlainForm g) _ _ (sim.declares x.name (Plain (Int i)) g s1 s2 r f.0 (h.0 i)) f.1 h.1
 
   bound_to-alike : (xs : VariablesTree N) (over : Value) (t : Index) (g : G) (s1 : S1) (s2 : S2) → R g s1 s2 → fits_variables scoping xs g → HoldsTurn scoping xs over t
       → R (add_variables scoping xs g) (bound_to first (renamed_variables name xs) over t s1) (bound_to second xs over t s2)

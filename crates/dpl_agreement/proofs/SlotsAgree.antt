@@ -18,7 +18,7 @@ use Rattle.dpl_language.specs.Environment.{Content, Plain, ArrayOf, CellOf, Answ
 use Rattle.dpl_language.specs.Names.{Text, State, Opened, Declared, paired, look_up, change_in, value_in, update_in, with_element, element_in, put_in, set_cell, with_cells, store_cells, redomain_in, arrays_over, without_innermost, state_in, effect_on, call_in, next_history, cell_number, by_name}
 use Rattle.dpl_language.specs.Program.{meaning}
 use Rattle.dpl_agreement.specs.Renamed.{renamed_intents, renamed_program}
-use Rattle.dpl_agreement.specs.Scopes.{Sort, PlainSort, ArraySort, CellSort, sort_of, Scoping, IsLawful, fits_all, after_all}
+use Rattle.dpl_agreement.specs.Scopes.{Form, PlainForm, ArrayForm, CellForm, form_of, Scoping, IsLawful, fits_all, after_all}
 use Rattle.dpl_agreement.specs.Agreement.{AnswersAlike, Simulates, EndsAlike}
 use Rattle.dpl_agreement.proofs.Slots.{Mark, Name, Sight, slot_of, IsFresh, IsApart, without_frame, Slots, set_slot, text_of, spelled, store_at, look_up-slot, change_in-slot, declared-slot, IsApart-without_frame, without_innermost-store_at}
 use Rattle.dpl_agreement.proofs.SlotDomains.{any_over, redomain_slots, OverNamed, OverResolves, Overs, Overs-set, Overs-redomain, Overs-declare, redomain_in-slots, arrays_over-slots, Overs-without_frame}
@@ -118,10 +118,10 @@ IntentResolves SetDivide x g = Unit {0}
 IntentResolves SetRemainder x g = Unit {0}
 IntentResolves SetReduce x g = paired x.text (renamed_intents text_of g.intents) ≡ intent_of x.slot g.intents
 
-abbrev pub SortResolves : (ℕ → Text) → Sort Bound → Seen → Type 0
-SortResolves names PlainSort g = Unit {0}
-SortResolves names (ArraySort over) g = OverNamed names over g.frames
-SortResolves names CellSort g = Unit {0}
+abbrev pub FormResolves : (ℕ → Text) → Form Bound → Seen → Type 0
+FormResolves names PlainForm g = Unit {0}
+FormResolves names (ArrayForm over) g = OverNamed names over g.frames
+FormResolves names CellForm g = Unit {0}
 
 -- Each declaration has a slot that no name in sight has; and no forall stands in another.
 abbrev pub resolving : (ℕ → Text) → Scoping Bound Seen
@@ -133,7 +133,7 @@ resolving names = record {
   assigns_at = λ x t. Resolves names x;
   assigns_element = λ x items. Resolves names x;
   calls = Resolves names;
-  declares = λ x sort g. IsFresh x.slot g.frames × SortResolves names sort g;
+  declares = λ x form g. IsFresh x.slot g.frames × FormResolves names form g;
   gives = λ x g. Unit {0};
   holds = λ x c. Unit {0};
   suits = λ x item g. Unit {0};
@@ -144,7 +144,7 @@ resolving names = record {
   intends = λ is g. g.intents ≡ [];
   coforalls = λ x g. Unit {0};
   moves = λ g. Unit {0};
-  add = λ x sort g. record g { frames = Name x ∷ g.frames };
+  add = λ x form g. record g { frames = Name x ∷ g.frames };
   enter = λ g. record g { frames = Mark ∷ g.frames };
   leave = λ g. record g { frames = without_frame g.frames };
   intend = λ is g. record g { intents = is };
@@ -154,7 +154,7 @@ resolving names = record {
 resolving-lawful : (names : ℕ → Text) → IsLawful (resolving names)
 resolving-lawful names = record {
   leave-enter = λ g. refl;
-  leave-add = λ x sort g. refl;
+  leave-add = λ x form g. refl;
 }
 
 -- THE RELATION: the slots of the names in sight stand for the store, and all else is the same
@@ -201,10 +201,10 @@ put-resolves names t v (Plain w) s r = tt
 put-resolves names t v (ArrayOf over k rs vs) s r = r
 put-resolves names t v (CellOf k c) s r = tt
 
-sort-resolves : (names : ℕ → Text) (c : Content Bound) (g : Seen) → SortResolves names (sort_of c) g → OverResolves names c g.frames
-sort-resolves names (Plain v) g r = tt
-sort-resolves names (ArrayOf over k rs vs) g r = r
-sort-resolves names (CellOf k c) g r = tt
+form-resolves : (names : ℕ → Text) (c : Content Bound) (g : Seen) → FormResolves names (form_of c) g → OverResolves names c g.frames
+form-resolves names (Plain v) g r = tt
+form-resolves names (ArrayOf over k rs vs) g r = r
+form-resolves names (CellOf k c) g r = tt
 
 module _ (names : ℕ → Text) where
   held : (x : Bound) (g : Seen) (s1 : State) (s2 : Slotted) → Stands names g s1 s2 → Resolves names x g → look_up x.text s1.store ≡ spelled (s2.kept x.slot)
@@ -287,13 +287,13 @@ module _ (names : ℕ → Text) where
     histories = ap (drop 1) r.histories;
   }
 
-  declare_alike : (x : Bound) (c : Content Bound) (g : Seen) (s1 : State) (s2 : Slotted) → Stands names g s1 s2 → IsFresh x.slot g.frames → SortResolves names (sort_of c) g
+  declare_alike : (x : Bound) (c : Content Bound) (g : Seen) (s1 : State) (s2 : Slotted) → Stands names g s1 s2 → IsFresh x.slot g.frames → FormResolves names (form_of c) g
       → Stands names (record g { frames = Name x ∷ g.frames }) (by_name.declare x.text (spelled c) s1) (by_slot.declare x c s2)
   declare_alike x c g s1 s2 r f a = record {
     store = ap (λ es. Declared (record { name = x.text; content = spelled c }) ∷ es) r.store ∙ declared-slot x c g.frames s2.kept f;
     live = ap (λ fs. Name x ∷ fs) r.live;
     apart = (f, r.apart);
-    overs = Overs-declare names x c s2.kept g.frames f r.overs (sort-resolves names c g a);
+    overs = Overs-declare names x c s2.kept g.frames f r.overs (form-resolves names c g a);
     intents = r.intents;
     intents_by_name = r.intents_by_name;
     here = r.here;

@@ -16,7 +16,7 @@ use Rattle.dpl_language.specs.Phrases.{ReadTree, item_read}
 use Rattle.dpl_language.specs.Expressions.{item_of, items_of, domain_of, whole_item}
 use Rattle.dpl_language.specs.Assignments.{reply_value}
 use Rattle.dpl_agreement.specs.Renamed.{renamed_content, renamed_intents}
-use Rattle.dpl_agreement.specs.Scopes.{Scoping, IsLawful, PlainSort, ArraySort, sort_of}
+use Rattle.dpl_agreement.specs.Scopes.{Scoping, IsLawful, PlainForm, ArrayForm, form_of}
 
 -- the same answer to an operation, with related states behind it
 abbrev pub AnswersAlike : {S1 S2 : Type 0} → (S1 → S2 → Type 0) → Answer S1 → Answer S2 → Type 0
@@ -77,14 +77,14 @@ pub record Simulates {M N G S1 S2 : Type 0} (limits : Limits) (name : N → M) (
   pub puts : (x : N) (items : Items N) (vs : List Value) (v : Value) (g : G) (s1 : S1) (s2 : S2) → R g s1 s2 → scoping.assigns_element x items g
       → items_of limits second items s2 ≡ Ok vs → scoping.holds x (Plain v) → R g (first.put_element (name x) (index_of vs) v s1) (second.put_element x (index_of vs) v s2)
   -- declarations
-  pub declares : (x : N) (c : Content N) (g : G) (s1 : S1) (s2 : S2) → R g s1 s2 → scoping.declares x (sort_of c) g → scoping.holds x c
-      → R (scoping.add x (sort_of c) g) (first.declare (name x) (renamed_content name c) s1) (second.declare x c s2)
+  pub declares : (x : N) (c : Content N) (g : G) (s1 : S1) (s2 : S2) → R g s1 s2 → scoping.declares x (form_of c) g → scoping.holds x c
+      → R (scoping.add x (form_of c) g) (first.declare (name x) (renamed_content name c) s1) (second.declare x c s2)
   pub gives : (x : N) (g : G) (s1 : S1) (s2 : S2) → R g s1 s2 → scoping.gives x g → first.given (name x) s1 ≡ second.given x s2
   -- a name holds what it may: a right side's value, assigned and as an initial value, those of a loop's turns, and what the
   -- command line gives
   pub suited : (x : N) (item : ItemTree N) (v : Value) (g : G) (s1 : S1) (s2 : S2) → R g s1 s2 → scoping.suits x item g → WasPlain second R x g
       → MayBe limits second item s2 v → scoping.holds x (Plain v)
-  pub suited_new : (x : N) (item : ItemTree N) (v : Value) (g : G) (s1 : S1) (s2 : S2) → R g s1 s2 → scoping.suits x item g → scoping.declares x PlainSort g
+  pub suited_new : (x : N) (item : ItemTree N) (v : Value) (g : G) (s1 : S1) (s2 : S2) → R g s1 s2 → scoping.suits x item g → scoping.declares x PlainForm g
       → MayBe limits second item s2 v → scoping.holds x (Plain v)
   pub suited_element : (x : N) (item : ItemTree N) (v : Value) (g : G) (s1 : S1) (s2 : S2) → R g s1 s2 → scoping.suits_element x item g
       → MayBe limits second item s2 v → scoping.holds x (Plain v)
@@ -94,14 +94,14 @@ pub record Simulates {M N G S1 S2 : Type 0} (limits : Limits) (name : N → M) (
       → MayBe limits second item s2 v → scoping.holds x (Plain v)
   pub suited_turn : (x : N) (item : ItemTree N) (t : Index) (v : Value) (g : G) (s1 : S1) (s2 : S2) → R g s1 s2 → scoping.suits x item g → WasArray second R x g
       → item_of limits second item (Some t) s2 ≡ Ok v → scoping.holds x (Plain v)
-  pub suited_initial : (x : N) (over : Option N) (item : ItemTree N) (t : Index) (v : Value) (g : G) (s1 : S1) (s2 : S2) → R g s1 s2 → scoping.suits x item g → scoping.declares x (ArraySort over) g
+  pub suited_initial : (x : N) (over : Option N) (item : ItemTree N) (t : Index) (v : Value) (g : G) (s1 : S1) (s2 : S2) → R g s1 s2 → scoping.suits x item g → scoping.declares x (ArrayForm over) g
       → item_of limits second item (Some t) s2 ≡ Ok v → scoping.holds x (Plain v)
   pub changed : (x : N) (op : Assign) (t : Index) (old w : Value) (g : G) (s1 : S1) (s2 : S2) → R g s1 s2 → scoping.assigns x op g
       → second.element x t s2 ≡ Some old → scoping.holds x (Plain w) → scoping.holds x (Plain (assigned op None old w))
   pub turned : (x : N) (item : ItemTree N) (over : Value) (g : G) (s1 : S1) (s2 : S2) → R g s1 s2 → scoping.turns x item g
       → item_of limits second item None s2 ≡ Ok over → All (λ t. scoping.holds x (Plain (loop_value over t))) (indices_in (loop_ranges limits.locales over))
   -- and the domain of a declaration's ranges, as a value and as that of an array of elements that it may hold
-  pub spanned : (x : N) (from : Place) (items : Items N) (v : Value) (g : G) (s1 : S1) (s2 : S2) → R g s1 s2 → scoping.spans x items g → scoping.declares x PlainSort g
+  pub spanned : (x : N) (from : Place) (items : Items N) (v : Value) (g : G) (s1 : S1) (s2 : S2) → R g s1 s2 → scoping.spans x items g → scoping.declares x PlainForm g
       → domain_of limits second from items s2 ≡ Ok v → scoping.holds x (Plain v)
   pub spanned_array : (x : N) (over : Option N) (k : Kind) (from : Place) (items : Items N) (v : Value) (vs : List Value) (g : G) (s1 : S1) (s2 : S2) → R g s1 s2 → scoping.spans_array x k items g
       → domain_of limits second from items s2 ≡ Ok v → All (λ v. scoping.holds x (Plain v)) vs → scoping.holds x (ArrayOf over k (ranges_in v) vs)

@@ -12,23 +12,23 @@ use Rattle.dpl_language.specs.Declarations.{type_of}
 use Rattle.dpl_language.specs.Writing.{arguments_of}
 
 -- what a name is declared as: a plain variable, an array and over which bare domain name, or a cell
-pub data Sort (N : Type 0) : Type 0 where
-  PlainSort : Sort N
-  ArraySort : Option N → Sort N
-  CellSort : Sort N
+pub data Form (N : Type 0) : Type 0 where
+  PlainForm : Form N
+  ArrayForm : Option N → Form N
+  CellForm : Form N
 
-abbrev pub sort_of : {N : Type 0} → Content N → Sort N
-sort_of (Plain v) = PlainSort
-sort_of (ArrayOf over k rs vs) = ArraySort over
-sort_of (CellOf k c) = CellSort
+abbrev pub form_of : {N : Type 0} → Content N → Form N
+form_of (Plain v) = PlainForm
+form_of (ArrayOf over k rs vs) = ArrayForm over
+form_of (CellOf k c) = CellForm
 
 -- the same, as a declaration's type tells it
-abbrev pub sort_by : {N : Type 0} → Option (TypeTree N) → Sort N
-sort_by None = PlainSort
-sort_by (Some (ScalarType at k)) = PlainSort
-sort_by (Some (SyncType at kind_at k)) = CellSort
-sort_by (Some (DomainType d)) = PlainSort
-sort_by (Some (ArrayType a)) = ArraySort (declared_over a.over)
+abbrev pub form_by : {N : Type 0} → Option (TypeTree N) → Form N
+form_by None = PlainForm
+form_by (Some (ScalarType at k)) = PlainForm
+form_by (Some (SyncType at kind_at k)) = CellForm
+form_by (Some (DomainType d)) = PlainForm
+form_by (Some (ArrayType a)) = ArrayForm (declared_over a.over)
 
 -- A way to keep what is in sight in a G, and what may be done with a name there.
 pub record Scoping (N G : Type 0) : Type 1 where
@@ -44,7 +44,7 @@ pub record Scoping (N G : Type 0) : Type 1 where
   -- a name's cell is operated on
   pub calls : N → G → Type 0
   -- a name is declared
-  pub declares : N → Sort N → G → Type 0
+  pub declares : N → Form N → G → Type 0
   -- the command line is asked for a name's value
   pub gives : N → G → Type 0
   -- a name may be declared with this content, and be assigned its value; of a whole array a value is one that each of its
@@ -64,7 +64,7 @@ pub record Scoping (N G : Type 0) : Type 1 where
   pub coforalls : N → G → Type 0
   pub moves : G → Type 0
   -- what is in sight behind a declaration, in a scope, and behind the scope
-  pub add : N → Sort N → G → G
+  pub add : N → Form N → G → G
   pub enter : G → G
   pub leave : G → G
   -- what is in sight in a forall with these reduce variables, and in a task
@@ -74,7 +74,7 @@ pub record Scoping (N G : Type 0) : Type 1 where
 -- a scope is left as it was entered, whatever was declared in it
 pub record IsLawful {N G : Type 0} (scoping : Scoping N G) : Type 0 where
   pub leave-enter : (g : G) → scoping.leave (scoping.enter g) ≡ g
-  pub leave-add : (x : N) (sort : Sort N) (g : G) → scoping.leave (scoping.add x sort g) ≡ scoping.leave g
+  pub leave-add : (x : N) (form : Form N) (g : G) → scoping.leave (scoping.add x form g) ≡ scoping.leave g
 
 -- expressions between round brackets, as the items that they are
 abbrev pub more_items_in : {N : Type 0} → MoreExprs N → MoreItems N
@@ -192,16 +192,16 @@ module _ {N G : Type 0} (scoping : Scoping N G) where
 
   -- The command line gives a plain variable. What is in sight behind a `config const` is the same either way, as it is
   -- where the declared type is that of a plain variable.
-  abbrev pub fits_given : Option Place → N → Sort N → G → Type 0
-  fits_given None x sort g = Unit {0}
-  fits_given (Some config) x sort g =
-      scoping.gives x g × scoping.declares x PlainSort g × (scoping.add x PlainSort g ≡ scoping.add x sort g)
+  abbrev pub fits_given : Option Place → N → Form N → G → Type 0
+  fits_given None x form g = Unit {0}
+  fits_given (Some config) x form g =
+      scoping.gives x g × scoping.declares x PlainForm g × (scoping.add x PlainForm g ≡ scoping.add x form g)
 
   -- What a declaration makes is what its name may hold: of a plain variable its initial value, or where it has none what
   -- its type gives; of a cell each content of a cell; of an array one over the domain that its type gives, with elements
   -- that it may hold: those of its initial value, or where it has none what its kind gives.
   abbrev pub holds_cells : N → Type 0
-  holds_cells x = (c : Content N) → sort_of c ≡ CellSort → scoping.holds x c
+  holds_cells x = (c : Content N) → form_of c ≡ CellForm → scoping.holds x c
 
   abbrev pub suits_init : N → InitTree N → G → Type 0
   suits_init x (ItemInit item mapped) g = scoping.suits x item g
@@ -229,8 +229,8 @@ module _ {N G : Type 0} (scoping : Scoping N G) where
   abbrev pub fits_declare : DeclareTree N → G → Type 0
   fits_declare d g =
       fits_type (type_of d.typed) g × fits_initial (side_by (type_of d.typed)) d.initial g
-      × scoping.declares d.name.name (sort_by (type_of d.typed)) g
-      × fits_given d.config d.name.name (sort_by (type_of d.typed)) g
+      × scoping.declares d.name.name (form_by (type_of d.typed)) g
+      × fits_given d.config d.name.name (form_by (type_of d.typed)) g
       × suits_declared d.name.name (type_of d.typed) d.initial g
 
   -- ASSIGNMENTS, CALLS AND WRITES
@@ -270,10 +270,10 @@ module _ {N G : Type 0} (scoping : Scoping N G) where
   -- LOOPS. Their variables stand in a scope of their own, and the body in another inside it.
   abbrev pub add_each : List (Placed N) → G → G
   add_each [] g = g
-  add_each (x ∷ xs) g = add_each xs (scoping.add x.name PlainSort g)
+  add_each (x ∷ xs) g = add_each xs (scoping.add x.name PlainForm g)
 
   abbrev pub add_variables : VariablesTree N → G → G
-  add_variables (OneVariable x) g = scoping.add x.name PlainSort g
+  add_variables (OneVariable x) g = scoping.add x.name PlainForm g
   add_variables (ManyVariables from xs upto) g = add_each (parts xs) g
 
   abbrev pub inside : VariablesTree N → G → G
@@ -282,10 +282,10 @@ module _ {N G : Type 0} (scoping : Scoping N G) where
   abbrev pub fits_each : List (Placed N) → G → Type 0
   fits_each [] g = Unit {0}
   fits_each (x ∷ xs) g =
-      scoping.declares x.name PlainSort g × fits_each xs (scoping.add x.name PlainSort g)
+      scoping.declares x.name PlainForm g × fits_each xs (scoping.add x.name PlainForm g)
 
   abbrev pub fits_variables : VariablesTree N → G → Type 0
-  fits_variables (OneVariable x) g = scoping.declares x.name PlainSort g
+  fits_variables (OneVariable x) g = scoping.declares x.name PlainForm g
   fits_variables (ManyVariables from xs upto) g = fits_each (parts xs) g
 
   -- one variable may hold the values of its turns, and of several each may hold every int
@@ -301,7 +301,7 @@ module _ {N G : Type 0} (scoping : Scoping N G) where
   -- what is in sight behind a statement
   abbrev pub after : StmtTree N → G → G
   after (Nothing at) g = g
-  after (Declare d) g = scoping.add d.name.name (sort_by (type_of d.typed)) g
+  after (Declare d) g = scoping.add d.name.name (form_by (type_of d.typed)) g
   after (Assigned target sign item semicolon) g = g
   after (Call x dot call semicolon) g = g
   after (Write w) g = g

@@ -20,7 +20,7 @@ use Rattle.dpl_syntax.specs.declared.refusal.Refusal.{Refusal}
 use Rattle.dpl_lexer.proofs.ByteTests.{quote_no_space}
 use Rattle.dpl_lexer.proofs.Gaps.{slash_first, block_opens_comment, both_open, same_gap}
 use Rattle.dpl_lexer.proofs.Quotes.{quoted_left, same_quoted}
-use Rattle.dpl_lexer.proofs.Sorts.{Sort, Digital, Quoting, IsSort, quote_sort, number_sort, quoted_sort, one_sort, has_sort, of_sort}
+use Rattle.dpl_lexer.proofs.Sorts.{Beginning, Digital, Quoting, IsSort, quote_sort, number_sort, quoted_sort, one_sort, has_sort, of_sort}
 use Rattle.dpl_lexer.proofs.Lexemes.{plain_sort, lexeme_token, number_lexeme, text_lexeme, same_kind, same_token}
 
 or_false : (a b : Bool) → (a || b) ≡ false → (a ≡ false) × (b ≡ false)
@@ -40,7 +40,7 @@ plain_dark text space plain =
     let p = or_false (opens_line text) (opens_block text) plain in
     record { no_space = space; no_line = p.0; no_block = λ opens. absurd (cc (opens, p.1)) }
 
-sort_dark : (s : Sort) (u more : List ℕ) → IsSort s u → next_is is_space (u ++ more) ≡ false
+sort_dark : (s : Beginning) (u more : List ℕ) → IsSort s u → next_is is_space (u ++ more) ≡ false
 sort_dark s [] more a = absurd (omega (arith, a.some))
 sort_dark s (c ∷ u) more a = a.dark
 
@@ -200,7 +200,7 @@ lexes_ends text ks h = record { front = h.front; end = h.end; is = h.tokens_are;
 -- ---- refusals
 
 -- nothing of a sort stands at the end
-no_sort : (s : Sort) (u more : List ℕ) → IsSort s u → [] ≡ u ++ more → ⊥
+no_sort : (s : Beginning) (u more : List ℕ) → IsSort s u → [] ≡ u ++ more → ⊥
 no_sort s [] more a e = absurd (omega (arith, a.some))
 no_sort s (c ∷ u) more a e = absurd cc
 

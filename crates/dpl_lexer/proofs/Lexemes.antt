@@ -20,7 +20,7 @@ use Rattle.dpl_lexer.proofs.Gaps.{slash_first}
 use Rattle.dpl_lexer.proofs.Quotes.{same_quoted}
 use Rattle.dpl_lexer.proofs.Specials.{special_text-word, first_of_text, read}
 use Rattle.dpl_lexer.proofs.Signs.{all as all_signs, first_of_text as sign_of, read as read_sign}
-use Rattle.dpl_lexer.proofs.Sorts.{Sort, Wordy, Digital, Quoting, Other, sort, IsSort, word_sort, number_sort, quoted_sort, sign_sort, one_sort, of_sort}
+use Rattle.dpl_lexer.proofs.Sorts.{Beginning, Wordy, Digital, Quoting, Other, sort, IsSort, word_sort, number_sort, quoted_sort, sign_sort, one_sort, of_sort}
 
 -- ---- what can't go on is the longest
 
@@ -48,7 +48,7 @@ sign_longest s rest most v w e token =
     omega (arith, ap (length {A = ℕ}) t.1, le)
 
 -- no comment opens where a word, a number or a text does
-pub plain_sort : (s : Sort) (u rest : List ℕ) → IsSort s u → (s ≡ Other → ⊥) → opens_comment (u ++ rest) ≡ false
+pub plain_sort : (s : Beginning) (u rest : List ℕ) → IsSort s u → (s ≡ Other → ⊥) → opens_comment (u ++ rest) ≡ false
 plain_sort s [] rest a other = absurd (omega (arith, a.some))
 plain_sort s (c ∷ u) rest a other = at (opens_comment (c ∷ u ++ rest)) refl
   where
@@ -73,7 +73,7 @@ lexeme_token (Reserved k) u e = inl (keyword_word k u e)
 lexeme_token (Signed s) u e = inr (inr (inr (s, e)))
 lexeme_token End u h = absurd h
 
-abbrev sort_of : Kind → Sort
+abbrev sort_of : Kind → Beginning
 sort_of (Name text) = Wordy
 sort_of (ContextualKind w) = Wordy
 sort_of (Number n) = Digital
@@ -100,7 +100,7 @@ abbrev word_kind : List ℕ → Kind
 word_kind u = cond (bytes_eq (special_text (first_of_text SPECIALS u)) u) (special_kind (first_of_text SPECIALS u)) (Name u)
 
 -- the kind of token that bytes of a sort are
-abbrev kind_at : Sort → List ℕ → Kind
+abbrev kind_at : Beginning → List ℕ → Kind
 kind_at Wordy u = word_kind u
 kind_at Digital u = Number (pos (number_value u))
 kind_at Quoting u = Text (between u)
@@ -133,7 +133,7 @@ kind_is End u h = absurd h
 -- the same bytes are one kind of token
 pub same_kind : (j k : Kind) (u : List ℕ) → IsLexeme j u → IsLexeme k u → j ≡ k
 same_kind j k u h l =
-    kind_is j u h ∙ ap (λ (s : Sort). kind_at s u) (one_sort (sort_of j) (sort_of k) u [] u [] refl (lexeme_sort j u h) (lexeme_sort k u l)) ∙ sym (kind_is k u l)
+    kind_is j u h ∙ ap (λ (s : Beginning). kind_at s u) (one_sort (sort_of j) (sort_of k) u [] u [] refl (lexeme_sort j u h) (lexeme_sort k u l)) ∙ sym (kind_is k u l)
 
 -- a number's bytes are no other token's
 pub number_lexeme : (k : Kind) (u : List ℕ) → is_number u ≡ true → IsLexeme k u → number_value u ≤ greatest

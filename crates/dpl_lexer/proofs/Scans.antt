@@ -18,7 +18,7 @@ use Rattle.dpl_lexer.specs.declared.scan.LexemeKind.TheVariants.{Word, Number, T
 use Rattle.dpl_syntax.specs.declared.refusal.Code.TheVariants.{BadCharacter}
 use Rattle.dpl_lexer.proofs.ByteTests.{all_are-tail, letter_goes_on}
 use Rattle.dpl_lexer.proofs.Signs.{is_sign_text}
-use Rattle.dpl_lexer.proofs.Sorts.{Sort, Wordy, Digital, Quoting, Other, other_sort, IsSort, word_sort, number_sort, quoted_sort, sign_sort, one_sort, of_sort}
+use Rattle.dpl_lexer.proofs.Sorts.{Beginning, Wordy, Digital, Quoting, Other, other_sort, IsSort, word_sort, number_sort, quoted_sort, sign_sort, one_sort, of_sort}
 use Rattle.dpl_lexer.proofs.Quotes.{quoted_piece, front_between}
 use Rattle.dpl_lexer.proofs.Numerals.{IsTaken}
 use Rattle.dpl_lexer.proofs.Lexemes.{word_longest, quoted_longest, sign_longest, plain_sort}
@@ -31,7 +31,7 @@ word_front (c ∷ cs) zero some letter all ended = absurd (cc (letter_goes_on c 
 word_front (c ∷ cs) (suc n) some letter all ended = (omega arith, and_from (is_letter c) (all_are goes_on (take n cs)) letter (all_are-tail goes_on c (take n cs) all))
 
 -- what is of one sort is no number
-pub no_number : (s : Sort) (u : List ℕ) → IsSort s u → (s ≡ Digital → ⊥) → is_number u ≡ true → ⊥
+pub no_number : (s : Beginning) (u : List ℕ) → IsSort s u → (s ≡ Digital → ⊥) → is_number u ≡ true → ⊥
 no_number s u a other number = other (one_sort s Digital u [] u [] refl a (number_sort u number))
 
 -- a word, as long as it can be

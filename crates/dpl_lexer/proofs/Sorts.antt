@@ -10,18 +10,18 @@ use Rattle.dpl_syntax.specs.declared.token.Sign.{Sign}
 use Rattle.dpl_lexer.proofs.ByteTests.{quote_no_letter, quote_no_digit, letter_no_space, digit_no_space, quote_no_space, digit_of_ten}
 use Rattle.dpl_lexer.proofs.Signs.{is_sign_text}
 
-pub data Sort : Type 0 where
-  Wordy : Sort
-  Digital : Sort
-  Quoting : Sort
-  Other : Sort
+pub data Beginning : Type 0 where
+  Wordy : Beginning
+  Digital : Beginning
+  Quoting : Beginning
+  Other : Beginning
 
 -- the sort of what begins with a byte
-abbrev pub sort : ℕ → Sort
+abbrev pub sort : ℕ → Beginning
 sort c = cond (is_letter c) Wordy (cond (is_digit c) Digital (cond (is_quote c) Quoting Other))
 
 -- bytes of a sort: there is a first one, of that sort, and it is no white space
-pub record IsSort (s : Sort) (u : List ℕ) : Type 0 where
+pub record IsSort (s : Beginning) (u : List ℕ) : Type 0 where
   pub some : 0 < length u
   pub is : sort (get_or u 0 0) ≡ s
   pub dark : is_space (get_or u 0 0) ≡ false
@@ -82,20 +82,20 @@ pub first-append : (u rest : List ℕ) → 0 < length u → get_or (u ++ rest) 0
 first-append [] rest some = absurd (omega arith)
 first-append (c ∷ u) rest some = refl
 
-pub one_sort : (s t : Sort) (u rest v w : List ℕ) → u ++ rest ≡ v ++ w → IsSort s u → IsSort t v → s ≡ t
+pub one_sort : (s t : Beginning) (u rest v w : List ℕ) → u ++ rest ≡ v ++ w → IsSort s u → IsSort t v → s ≡ t
 one_sort s t u rest v w e a b =
     sym a.is ∙ ap sort (sym (first-append u rest a.some) ∙ ap (λ (l : List ℕ). get_or l 0 0) e ∙ first-append v w b.some) ∙ b.is
 
 -- ---- tokens of each sort
 
-abbrev pub OfSort : Sort → List ℕ → Type 0
+abbrev pub OfSort : Beginning → List ℕ → Type 0
 OfSort Wordy u = is_word u ≡ true
 OfSort Digital u = is_number u ≡ true
 OfSort Quoting u = is_quoted u ≡ true
 OfSort Other u = (s : Sign) × (u ≡ sign_text s)
 
 pub record HasSort (u : List ℕ) : Type 0 where
-  pub sort_of : Sort
+  pub sort_of : Beginning
   pub is : IsSort sort_of u
   pub token : OfSort sort_of u
 
@@ -106,7 +106,7 @@ has_sort u (inr (inr (inl h))) = record { sort_of = Quoting; is = quoted_sort u 
 has_sort u (inr (inr (inr (s, e)))) = record { sort_of = Other; is = sign_sort s u e; token = (s, e) }
 
 -- a token where something of a sort stands is of that sort
-pub of_sort : (s : Sort) (u rest v w : List ℕ) → u ++ rest ≡ v ++ w → IsSort s u → IsToken v → OfSort s v
+pub of_sort : (s : Beginning) (u rest v w : List ℕ) → u ++ rest ≡ v ++ w → IsSort s u → IsToken v → OfSort s v
 of_sort s u rest v w e a token =
     let b = has_sort v token in
-    subst (λ (t : Sort). OfSort t v) (sym (one_sort s b.sort_of u rest v w e a b.is)) b.token
+    subst (λ (t : Beginning). OfSort t v) (sym (one_sort s b.sort_of u rest v w e a b.is)) b.token

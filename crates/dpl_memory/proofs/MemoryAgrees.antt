@@ -17,7 +17,7 @@ use Rattle.dpl_language.specs.Statements.{exec_all}
 use Rattle.dpl_language.specs.Names.{Text, Opened, Declared, Store, State, paired, look_up, change_in, element_at, with_element, without_innermost, value_in as name_value, update_in, element_in, put_in, redomain_in, arrays_over as named_arrays, by_name}
 use Rattle.dpl_language.specs.Program.{first_state, meaning, top_level, own_entry, own_frame, left, written}
 use Rattle.dpl_agreement.specs.Renamed.{renamed_content, renamed_item, renamed_intents, renamed_stmts, renamed_program}
-use Rattle.dpl_agreement.specs.Scopes.{Sort, PlainSort, ArraySort, sort_of, IsLawful, after_all, fits_all}
+use Rattle.dpl_agreement.specs.Scopes.{Form, PlainForm, ArrayForm, form_of, IsLawful, after_all, fits_all}
 use Rattle.dpl_agreement.specs.Agreement.{MayRead, MayBe, WasDomain, Simulates, EndsAlike}
 use Rattle.dpl_agreement.proofs.Slots.{Bound as SlotBound, Name, IsFresh, set_slot, spelled, store_at, store_at-set, slot_of, slot_of-apart, look_up-slot, change_in-slot, declared-slot, without_innermost-store_at}
 use Rattle.dpl_agreement.proofs.SlotDomains.{OverNamed, OverResolves, Overs, Overs-declare, Overs-without_frame, redomain_in-slots, arrays_over-slots}
@@ -61,7 +61,7 @@ pub record Kept (start : Start) (g : Seen) (s1 : State) (s2 : Memory) : Type 0 w
 resolving-lawful : (start : Start) → IsLawful (resolving start)
 resolving-lawful start = record {
   leave-enter = λ g. refl;
-  leave-add = λ x sort g. ap (λ fs. record { frames = fs; intents = g.intents }) (without_frame-bind (sighted x sort) g.frames);
+  leave-add = λ x form g. ap (λ fs. record { frames = fs; intents = g.intents }) (without_frame-bind (sighted x form) g.frames);
 }
 
 -- names that are in sight behind a declaration, or behind a scope, are over what they were over
@@ -385,8 +385,8 @@ module _ (start : Start) where
 
   -- A DECLARATION
   -- what is told of a name that is declared
-  abbrev told_as : Bound → Sort Bound → Told
-  told_as x sort = told_of (sighted x sort) (placed_over (written_over sort))
+  abbrev told_as : Bound → Form Bound → Told
+  told_as x form = told_of (sighted x form) (placed_over (written_over form))
 
   -- the name that an array is declared over is in sight, and where it is a domain's, of the array's shape
   over_known : (over : Option Bound) (shape : Shape) (g : Seen) (s1 : State) (s2 : Memory) (r : Kept start g s1 s2) → OverIsFound over shape g → OverKnown r.told (placed_over over) (domain_among over) shape g.frames
@@ -402,49 +402,49 @@ module _ (start : Start) where
       by TupleKind h = refl
       by (ArrayKind l) h = refl
 
-  over_shaped : (x : Bound) (sort : Sort Bound) (g : Seen) (s1 : State) (s2 : Memory) (r : Kept start g s1 s2) → IsUnused x.variable.slot g.frames → OverIsFound (written_over sort) x.shape g
-      → OverKnown (with_told x.variable.slot (told_as x sort) r.told) (with_told x.variable.slot (told_as x sort) r.told x.variable.slot).over (over_of sort) x.shape (bind (sighted x sort) g.frames)
-  over_shaped x sort g s1 s2 r u o =
-      subst (λ (t : Told). OverKnown (with_told x.variable.slot (told_as x sort) r.told) t.over (over_of sort) x.shape (bind (sighted x sort) g.frames)) (sym (with_told_here x.variable.slot (told_as x sort) r.told))
-      (over-after r.told (sighted x sort) (told_as x sort) (placed_over (written_over sort)) (over_of sort) x.shape g.frames u (over_known (written_over sort) x.shape g s1 s2 r o))
+  over_shaped : (x : Bound) (form : Form Bound) (g : Seen) (s1 : State) (s2 : Memory) (r : Kept start g s1 s2) → IsUnused x.variable.slot g.frames → OverIsFound (written_over form) x.shape g
+      → OverKnown (with_told x.variable.slot (told_as x form) r.told) (with_told x.variable.slot (told_as x form) r.told x.variable.slot).over (over_of form) x.shape (bind (sighted x form) g.frames)
+  over_shaped x form g s1 s2 r u o =
+      subst (λ (t : Told). OverKnown (with_told x.variable.slot (told_as x form) r.told) t.over (over_of form) x.shape (bind (sighted x form) g.frames)) (sym (with_told_here x.variable.slot (told_as x form) r.told))
+      (over-after r.told (sighted x form) (told_as x form) (placed_over (written_over form)) (over_of form) x.shape g.frames u (over_known (written_over form) x.shape g s1 s2 r o))
 
-  declared_alike : (x : Bound) (sort : Sort Bound) (c : Content SlotBound) (new : Memory) (g : Seen) (s1 : State) (s2 : Memory) (r : Kept start g s1 s2) → IsNew start.slots x g → OverFits x.variable.kind (over_of sort)
-      → content_in x.variable.kind x.variable.slot (placed_over (written_over sort)) new ≡ c
+  declared_alike : (x : Bound) (form : Form Bound) (c : Content SlotBound) (new : Memory) (g : Seen) (s1 : State) (s2 : Memory) (r : Kept start g s1 s2) → IsNew start.slots x g → OverFits x.variable.kind (over_of form)
+      → content_in x.variable.kind x.variable.slot (placed_over (written_over form)) new ≡ c
       → ((k : VariableKind) (j : ℕ) (over : Option SlotBound) → j ≢ x.variable.slot → content_in k j over new ≡ content_in k j over s2)
-      → OverResolves (texts_of (with_told x.variable.slot (told_as x sort) r.told)) c (in_slots g.frames)
+      → OverResolves (texts_of (with_told x.variable.slot (told_as x form) r.told)) c (in_slots g.frames)
       → HasSlots start.slots new → new.words.intents ≡ s2.words.intents → new.words.sets ≡ s2.words.sets → HasShape x.variable.kind x.shape (value_in x.variable.kind x.variable.slot new)
-      → OverIsFound (written_over sort) x.shape g → AreWhole new
-      → Kept start (record g { frames = bind (sighted x sort) g.frames }) (record s1 { store = Declared (record { name = x.text; content = spelled c }) ∷ s1.store }) new
-  declared_alike x sort c new g s1 s2 r n fits here other resolves h i w shape over whole =
+      → OverIsFound (written_over form) x.shape g → AreWhole new
+      → Kept start (record g { frames = bind (sighted x form) g.frames }) (record s1 { store = Declared (record { name = x.text; content = spelled c }) ∷ s1.store }) new
+  declared_alike x form c new g s1 s2 r n fits here other resolves h i w shape over whole =
       let slot = x.variable.slot in
-      let told = with_told slot (told_as x sort) r.told in
+      let told = with_told slot (told_as x form) r.told in
       let fresh : IsFresh slot (in_slots g.frames) = IsFresh-in_slots slot g.frames n.unused in
       let each : (j : ℕ) → set_slot slot c (contents r.told s2) j ≡ contents told new j = set_slot-each slot c (contents r.told s2) (contents told new)
-      (sym (ap (λ (t : Told). content_in t.kind slot t.over new) (with_told_here slot (told_as x sort) r.told) ∙ here))
-      (λ j ne. sym (ap (λ (t : Told). content_in t.kind j t.over new) (with_told_other j slot (told_as x sort) r.told ne) ∙ other (r.told j).kind j (r.told j).over ne)) in
+      (sym (ap (λ (t : Told). content_in t.kind slot t.over new) (with_told_here slot (told_as x form) r.told) ∙ here))
+      (λ j ne. sym (ap (λ (t : Told). content_in t.kind j t.over new) (with_told_other j slot (told_as x form) r.told ne) ∙ other (r.told j).kind j (r.told j).over ne)) in
       record {
         told = told;
-        is_told = IsTold-bind (sighted x sort) (placed_over (written_over sort)) r.told start.slots g.frames n.unused n.within r.is_told;
-        fit = Fit-bind (sighted x sort) g.frames r.fit fits;
-        overs_shaped = OversShaped-bind r.told (sighted x sort) (told_as x sort) g.frames n.unused r.overs_shaped (over_shaped x sort g s1 s2 r n.unused over);
-        opened = IsOpen-bind (sighted x sort) g.frames;
-        apart = AreApart-bind (sighted x sort) g.frames r.apart n.unused;
-        overs = subst (Overs (texts_of told) (contents told new)) (sym (in_slots-bind (sighted x sort) g.frames r.opened))
+        is_told = IsTold-bind (sighted x form) (placed_over (written_over form)) r.told start.slots g.frames n.unused n.within r.is_told;
+        fit = Fit-bind (sighted x form) g.frames r.fit fits;
+        overs_shaped = OversShaped-bind r.told (sighted x form) (told_as x form) g.frames n.unused r.overs_shaped (over_shaped x form g s1 s2 r n.unused over);
+        opened = IsOpen-bind (sighted x form) g.frames;
+        apart = AreApart-bind (sighted x form) g.frames r.apart n.unused;
+        overs = subst (Overs (texts_of told) (contents told new)) (sym (in_slots-bind (sighted x form) g.frames r.opened))
             (Overs-each (texts_of told) (set_slot slot c (contents r.told s2)) (contents told new) (Name (placed x) ∷ in_slots g.frames) each
             (Overs-declare (texts_of told) (placed x) c (contents r.told s2) (in_slots g.frames) fresh
-            (Overs-texts (texts_of r.told) (texts_of told) slot (λ j ne. ap (λ (t : Told). t.text) (with_told_other j slot (told_as x sort) r.told ne)) (contents r.told s2) (in_slots g.frames) fresh r.overs)
+            (Overs-texts (texts_of r.told) (texts_of told) slot (λ j ne. ap (λ (t : Told). t.text) (with_told_other j slot (told_as x form) r.told ne)) (contents r.told s2) (in_slots g.frames) fresh r.overs)
             resolves));
         store =
             ap (λ es. Declared (record { name = x.text; content = spelled c }) ∷ es) r.store ∙ declared-slot (placed x) c (in_slots g.frames) (contents r.told s2) fresh
             ∙ store_at-each (set_slot slot c (contents r.told s2)) (contents told new) each (Name (placed x) ∷ in_slots g.frames)
-            ∙ ap (store_at (contents told new)) (sym (in_slots-bind (sighted x sort) g.frames r.opened));
+            ∙ ap (store_at (contents told new)) (sym (in_slots-bind (sighted x form) g.frames r.opened));
         slots = h;
         intents = r.intents;
         intents_by_slots = i ∙ r.intents_by_slots;
         here = r.here;
         texts = r.texts;
         words = w ∙ r.words;
-        shaped = shaped-declared r.told slot (told_as x sort) s2 new r.shaped other shape;
+        shaped = shaped-declared r.told slot (told_as x form) s2 new r.shaped other shape;
         whole = whole;
       }
 
@@ -495,26 +495,26 @@ module _ (start : Start) where
       OverNamed-texts (texts_of r.told) (texts_of (with_told slot t r.told)) slot (λ j ne. ap (λ (t : Told). t.text) (with_told_other j slot t r.told ne)) (Some (placed y)) (in_slots g.frames)
       (IsFresh-in_slots slot g.frames u) (placed_at y g o.0, sym (finds y g s1 s2 r o.0).text)
 
-  declare_alike : (x : Bound) (c : Content Bound) (g : Seen) (s1 : State) (s2 : Memory) → Kept start g s1 s2 → Declares start.slots x (sort_of c) g → Holds x.variable.kind x.shape c
-      → Kept start (record g { frames = bind (sighted x (sort_of c)) g.frames }) (by_name.declare x.text (renamed_content text_of c) s1) (in_memory.declare x.variable (renamed_content variable_of c) s2)
+  declare_alike : (x : Bound) (c : Content Bound) (g : Seen) (s1 : State) (s2 : Memory) → Kept start g s1 s2 → Declares start.slots x (form_of c) g → Holds x.variable.kind x.shape c
+      → Kept start (record g { frames = bind (sighted x (form_of c)) g.frames }) (by_name.declare x.text (renamed_content text_of c) s1) (in_memory.declare x.variable (renamed_content variable_of c) s2)
   declare_alike x (Plain v) g s1 s2 before d p =
       let kind = x.variable.kind in
       let slot = x.variable.slot in
       let s3 = anew x.variable.along s2 in
       let r = anew_alike x.variable.along g s1 s2 before d.0.along in
-      declared_alike x PlainSort (Plain v) (with_value_in kind slot v s3) g s1 s3 r d.0 (fits-none kind)
+      declared_alike x PlainForm (Plain v) (with_value_in kind slot v s3) g s1 s3 r d.0 (fits-none kind)
       (content_in-set_same kind slot None v start.slots s3 p.0 d.1 r.slots d.0.within)
       (λ k j over ne. content_in-set_other k kind j slot over v s3 ne) tt (slots-set kind slot v start.slots s3 r.slots) (intents-set_in kind slot v s3) (sets-set_in kind slot v s3)
       (shaped-set kind x.shape slot v start.slots s3 (λ n. p.0) p.1 (λ w. absurd (d.1 w)) r.slots d.0.within) tt (whole-set kind slot v s3 r.whole)
   declare_alike x (ArrayOf over k rs vs) g s1 s2 r d p =
       let kind = x.variable.kind in
       let slot = x.variable.slot in
-      subst (λ o. Kept start (record g { frames = bind (sighted x (ArraySort over)) g.frames }) (record s1 { store = Declared (record { name = x.text; content = ArrayOf o k rs vs }) ∷ s1.store }) (declared_array kind slot (made rs vs) s2))
+      subst (λ o. Kept start (record g { frames = bind (sighted x (ArrayForm over)) g.frames }) (record s1 { store = Declared (record { name = x.text; content = ArrayOf o k rs vs }) ∷ s1.store }) (declared_array kind slot (made rs vs) s2))
       (over_text-placed over)
-      (declared_alike x (ArraySort over) (ArrayOf (placed_over over) k rs vs) (declared_array kind slot (made rs vs) s2) g s1 s2 r d.0 (fits-whole kind (domain_among over) d.1)
+      (declared_alike x (ArrayForm over) (ArrayOf (placed_over over) k rs vs) (declared_array kind slot (made rs vs) s2) g s1 s2 r d.0 (fits-whole kind (domain_among over) d.1)
       (declared-content kind x.shape slot (placed_over over) k rs vs start.slots s2 p.0 p.1 r.slots d.0.within)
       (λ l j o ne. declared-other l kind j slot o (made rs vs) s2 ne)
-      (over_alike over x.shape slot (told_as x (ArraySort over)) g s1 s2 r d.0.unused d.2)
+      (over_alike over x.shape slot (told_as x (ArrayForm over)) g s1 s2 r d.0.unused d.2)
       (slots-declared kind slot (made rs vs) start.slots s2 r.slots) (ap (λ w. w.intents) (words-declared kind slot (made rs vs) s2)) (ap (λ w. w.sets) (words-declared kind slot (made rs vs) s2))
       (shaped-array kind x.shape slot k (made rs vs) start.slots s2 p.0 r.slots d.0.within) d.2 (whole-declared kind slot (made rs vs) s2 refl r.whole))
   declare_alike x (CellOf k c) g s1 s2 r d p = absurd d

@@ -11,7 +11,7 @@ use Rattle.dpl_language.specs.Program.{written}
 use Rattle.dpl_agreement.specs.Renamed.{renamed_program}
 use Rattle.dpl_syntax.specs.declared.place.Place.{Place}
 use Rattle.dpl_language.proofs.ScalarsSamples.{configured}
-use Rattle.dpl_agreement.specs.Scopes.{PlainSort, after_all, fits_all}
+use Rattle.dpl_agreement.specs.Scopes.{PlainForm, after_all, fits_all}
 use Rattle.dpl_language.specs.Values.{Int, Truth, Range}
 use Rattle.dpl_language.specs.Ranges.{unstrided}
 use Rattle.dpl_language.specs.Environment.{Plain}
@@ -22,7 +22,7 @@ use Rattle.dpl_words.specs.Words.{IntLeaf, TruthLeaf, RangeLeaf}
 use Rattle.dpl_memory.specs.Memory.{PlainKind, Variable, int_leaf, truth_leaf, range_leaf, in_memory}
 use Rattle.dpl_memory.specs.Resolved.{no_shape, Bound, Sighted, Sight, text_of, variable_of, left_in, Seen, first_seen, Suits, Start, resolving, first_memory, Declares, innermost, sighted}
 use Rattle.dpl_memory.proofs.MemoryAgrees.{written-memory}
-use Rattle.dpl_memory.proofs.Suiting.{Suits-truth, Suits-name, Suits-range_item, Turns-ranges, Suits-number}
+use Rattle.dpl_memory.proofs.Suiting.{Suits-truth, Suits-name, Suits-range_item, SuitsTurns-ranges, Suits-number}
 
 -- var s: int; var b = true; const r = 1..4; for i in r do s += i; forall j in r with (+ reduce s, && reduce b) { s reduce= j; b reduce= j < 4; } writeln(s, " ", b);
 abbrev sums : ProgramTree (List ℕ)
@@ -75,7 +75,7 @@ below_four g = (refl, λ limits s shaped v e. ((int_lt (get_or s.words.numbers 3
 
 -- what is in sight: s, then b, then r; in the loop i, and in the forall j and its reduce variables
 abbrev plainly : List ℕ → Sighted
-plainly x = sighted (resolved x) PlainSort
+plainly x = sighted (resolved x) PlainForm
 
 abbrev seeing : Sight → Seen
 seeing fs = record { frames = fs; intents = [] }
@@ -96,14 +96,14 @@ sums_fit = ( -- var s: int;
       ( -- for i in r do s += i;
         (
           refl,
-          Turns-ranges (One (Named (placed (codes "r") 52))) no_shape no_shape (seeing (top ∷ [])) (Suits-name (seeing (top ∷ [])) (placed (codes "r") 52) RangeLeaf refl refl),
+          SuitsTurns-ranges (One (Named (placed (codes "r") 52))) no_shape no_shape (seeing (top ∷ [])) (Suits-name (seeing (top ∷ [])) (placed (codes "r") 52) RangeLeaf refl refl),
           (record { unused = search rules; within = search rules; along = tt }, λ e. e),
           (((refl, refl, tt, tt), λ t. (refl, refl)), (λ t. (refl, refl), tt), Suits-name (seeing ([] ∷ (plainly (codes "i") ∷ []) ∷ top ∷ [])) (placed (codes "i") 62) IntLeaf refl refl),
         ),
         ( -- forall j in r with (+ reduce s, && reduce b) { s reduce= j; b reduce= j < 4; }
           (
             refl,
-            Turns-ranges (One (Named (placed (codes "r") 77))) no_shape no_shape (seeing (top ∷ [])) (Suits-name (seeing (top ∷ [])) (placed (codes "r") 77) RangeLeaf refl refl),
+            SuitsTurns-ranges (One (Named (placed (codes "r") 77))) no_shape no_shape (seeing (top ∷ [])) (Suits-name (seeing (top ∷ [])) (placed (codes "r") 77) RangeLeaf refl refl),
             refl,
             (record { unused = search rules; within = search rules; along = tt }, λ e. e),
             (
@@ -165,9 +165,9 @@ number_is_no_truth at n f =
     is_no_truth b e = cc
 
 -- a slot that a name in sight has
-slot_in_use : Declares 4 (record { text = codes "c"; variable = truth_leaf 0; shape = no_shape }) PlainSort (record { frames = (sighted (resolved (codes "s")) PlainSort ∷ []) ∷ []; intents = [] }) → ⊥
+slot_in_use : Declares 4 (record { text = codes "c"; variable = truth_leaf 0; shape = no_shape }) PlainForm (record { frames = (sighted (resolved (codes "s")) PlainForm ∷ []) ∷ []; intents = [] }) → ⊥
 slot_in_use f = f.0.unused.0.0 refl
 
 -- of two names with one text the inner one is meant
-hidden_name : innermost (codes "s") ((sighted (record { text = codes "s"; variable = int_leaf 3; shape = no_shape }) PlainSort ∷ []) ∷ (sighted (resolved (codes "s")) PlainSort ∷ []) ∷ []) ≡ Some (PlainKind IntLeaf, 3, no_shape)
+hidden_name : innermost (codes "s") ((sighted (record { text = codes "s"; variable = int_leaf 3; shape = no_shape }) PlainForm ∷ []) ∷ (sighted (resolved (codes "s")) PlainForm ∷ []) ∷ []) ≡ Some (PlainKind IntLeaf, 3, no_shape)
 hidden_name = refl

@@ -18,7 +18,7 @@ use Rattle.dpl_sound.specs.Typed.{IsPlain, MayStride}
 use Rattle.dpl_words.specs.Words.{LeafKind, IntLeaf, TruthLeaf, RangeLeaf, value_at}
 use Rattle.dpl_words.proofs.OfKind.{value_at-kind}
 use Rattle.dpl_memory.specs.Memory.{PlainKind, value_in, in_memory}
-use Rattle.dpl_memory.specs.Resolved.{Shape, Bound, Seen, variable_of, HasShape, MayHold, Resolves, Suits, Turns}
+use Rattle.dpl_memory.specs.Resolved.{Shape, Bound, Seen, variable_of, HasShape, MayHold, Resolves, Suits, SuitsTurns}
 
 -- RIGHT SIDES
 pub Suits-number : (shape : Shape) (g : Seen) (at : Place) (n : ℤ) → Suits (PlainKind IntLeaf) shape (One (Number at n)) g
@@ -80,7 +80,7 @@ pub line_turns : (shape : Shape) (r : TextRange) → All (λ t. MayHold (PlainKi
 unfolding indices
 line_turns shape r = each_turn shape (members_of r.value)
 
-pub Turns-ranges : (item : ItemTree Bound) (shape other : Shape) (g : Seen) → Suits (PlainKind RangeLeaf) other item g → Turns (PlainKind IntLeaf) shape item g
-Turns-ranges item shape other g f limits s shaped over e =
+pub SuitsTurns-ranges : (item : ItemTree Bound) (shape other : Shape) (g : Seen) → Suits (PlainKind RangeLeaf) other item g → SuitsTurns (PlainKind IntLeaf) shape item g
+SuitsTurns-ranges item shape other g f limits s shaped over e =
     let range = (f.1 limits s shaped over e).0 in
     subst (λ v. All (λ t. MayHold (PlainKind IntLeaf) shape (loop_value v t)) (indices_in (loop_ranges limits.locales v))) (sym range.1) (line_turns shape range.0)

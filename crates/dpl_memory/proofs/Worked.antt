@@ -17,7 +17,7 @@ use Rattle.dpl_language.specs.Expressions.{found}
 use Rattle.dpl_language.specs.Names.{Text}
 use Rattle.dpl_language.specs.Program.{written}
 use Rattle.dpl_agreement.specs.Renamed.{renamed_program}
-use Rattle.dpl_agreement.specs.Scopes.{PlainSort, ArraySort, fits_all}
+use Rattle.dpl_agreement.specs.Scopes.{PlainForm, ArrayForm, fits_all}
 use Rattle.dpl_language.proofs.Spelled.{at}
 use Rattle.dpl_language.proofs.Says.{limits, writes}
 use Rattle.dpl_agreement.proofs.ProgramsAlike.{run_from}
@@ -172,10 +172,10 @@ array_is_no_element f =
 
 -- what is in sight: D, and in the block A over it
 abbrev d_frame : List Sighted
-d_frame = sighted (resolved (codes "D")) PlainSort ∷ []
+d_frame = sighted (resolved (codes "D")) PlainForm ∷ []
 
 abbrev a_frame : List Sighted
-a_frame = sighted (resolved (codes "A")) (ArraySort (Some (resolved (codes "D")))) ∷ []
+a_frame = sighted (resolved (codes "A")) (ArrayForm (Some (resolved (codes "D")))) ∷ []
 
 abbrev seeing : Sight → Seen
 seeing fs = record { frames = fs; intents = [] }

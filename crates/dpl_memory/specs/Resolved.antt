@@ -14,7 +14,7 @@ use Rattle.dpl_language.specs.Expressions.{item_of, domain_of, whole_item}
 use Rattle.dpl_language.specs.Names.{Text, Entry, Frame, Opened, Declared, Store, State, paired}
 use Rattle.dpl_language.specs.Program.{own_entry}
 use Rattle.dpl_agreement.specs.Renamed.{renamed_item, renamed_items, renamed_intents}
-use Rattle.dpl_agreement.specs.Scopes.{Sort, PlainSort, ArraySort, CellSort, Scoping}
+use Rattle.dpl_agreement.specs.Scopes.{Form, PlainForm, ArrayForm, CellForm, Scoping}
 use Rattle.dpl_sound.specs.Typed.{MayStride, AreRanked}
 use Rattle.dpl_words.specs.Words.{IntLeaf, TruthLeaf, RangeLeaf, no_range, intent_at, set_at, given_as, IsOfKind, is_arithmetic, takes, Combines}
 use Rattle.dpl_memory.specs.Memory.{VariableKind, PlainKind, DomainKind, TupleKind, ArrayKind, Variable, Held, Memory, no_domain, no_tuple, no_array, element_as, value_in, array_at, intents_by_slot, in_memory}
@@ -89,10 +89,10 @@ without_frame [] = []
 without_frame (f ∷ fs) = fs
 
 -- a bare name between an array's brackets, which may be that of a range or of a domain, and which is one that is a domain's
-abbrev pub written_over : Sort Bound → Option Bound
-written_over PlainSort = None
-written_over (ArraySort over) = over
-written_over CellSort = None
+abbrev pub written_over : Form Bound → Option Bound
+written_over PlainForm = None
+written_over (ArrayForm over) = over
+written_over CellForm = None
 
 abbrev pub if_domain : VariableKind → Bound → Option Bound
 if_domain (PlainKind k) y = None
@@ -105,11 +105,11 @@ domain_among None = None
 domain_among (Some y) = if_domain y.variable.kind y
 
 -- what is in sight of a declared name
-abbrev pub over_of : Sort Bound → Option Bound
-over_of sort = domain_among (written_over sort)
+abbrev pub over_of : Form Bound → Option Bound
+over_of form = domain_among (written_over form)
 
-abbrev pub sighted : Bound → Sort Bound → Sighted
-sighted x sort = record { text = x.text; kind = x.variable.kind; slot = x.variable.slot; shape = x.shape; over = over_of sort }
+abbrev pub sighted : Bound → Form Bound → Sighted
+sighted x form = record { text = x.text; kind = x.variable.kind; slot = x.variable.slot; shape = x.shape; over = over_of form }
 
 -- the slots of the arrays in sight that are declared over the domain name with this slot
 abbrev pub is_over : ℕ → Option Bound → Bool
@@ -265,8 +265,8 @@ abbrev pub SuitsElement : VariableKind → Shape → ItemTree Bound → Seen →
 SuitsElement kind shape item g = (item_read item ≡ None) × GivesOnce kind shape item g
 
 -- a loop's variable may be given the value of each turn
-abbrev pub Turns : VariableKind → Shape → ItemTree Bound → Seen → Type 0
-Turns kind shape item g =
+abbrev pub SuitsTurns : VariableKind → Shape → ItemTree Bound → Seen → Type 0
+SuitsTurns kind shape item g =
     (limits : Limits) (s : Memory) → IsShaped g s → (over : Value)
     → item_of limits in_memory (renamed_item variable_of item) None s ≡ Ok over
     → All (λ t. MayHold kind shape (loop_value over t)) (indices_in (loop_ranges limits.locales over))
@@ -294,10 +294,10 @@ OverResolves None shape g = Unit {0}
 OverResolves (Some y) shape g = Resolves y g × (y.variable.kind ≡ DomainKind → y.shape ≡ shape)
 
 -- arrays are declared as arrays, over a name in sight, and all else as plain variables; there are no cells
-abbrev pub Declares : ℕ → Bound → Sort Bound → Seen → Type 0
-Declares slots x PlainSort g = IsNew slots x g × (IsWhole x.variable.kind → ⊥)
-Declares slots x (ArraySort over) g = IsNew slots x g × IsWhole x.variable.kind × OverResolves over x.shape g
-Declares slots x CellSort g = ⊥
+abbrev pub Declares : ℕ → Bound → Form Bound → Seen → Type 0
+Declares slots x PlainForm g = IsNew slots x g × (IsWhole x.variable.kind → ⊥)
+Declares slots x (ArrayForm over) g = IsNew slots x g × IsWhole x.variable.kind × OverResolves over x.shape g
+Declares slots x CellForm g = ⊥
 
 -- How many slots a memory has; and what the command line sets, by texts and by slots.
 pub record Start : Type 0 where
@@ -328,13 +328,13 @@ resolving start = record {
   holds = λ x. Holds x.variable.kind x.shape;
   suits = λ x item. Suits x.variable.kind x.shape item;
   suits_element = λ x item. SuitsElement x.variable.kind x.shape item;
-  turns = λ x item. Turns x.variable.kind x.shape item;
+  turns = λ x item. SuitsTurns x.variable.kind x.shape item;
   spans = λ x items. Spans x.variable.kind x.shape items;
   spans_array = λ x k items. SpansArray x.variable.kind x.shape k items;
   intends = λ is g. g.intents ≡ [];
   coforalls = λ x g. ⊥;
   moves = λ g. ⊥;
-  add = λ x sort g. record g { frames = bind (sighted x sort) g.frames };
+  add = λ x form g. record g { frames = bind (sighted x form) g.frames };
   enter = λ g. record g { frames = [] ∷ g.frames };
   leave = λ g. record g { frames = without_frame g.frames };
   intend = λ is g. record g { intents = is };

@@ -11,7 +11,7 @@ use Rattle.dpl_language.specs.Values.{Domain as DomainValue, default}
 use Rattle.dpl_language.specs.Ranges.{empty_domain}
 use Rattle.dpl_language.specs.Declarations.{type_of}
 use Rattle.dpl_agreement.specs.Renamed.{renamed_item, renamed_items, renamed_init, renamed_typed, renamed_initial}
-use Rattle.dpl_agreement.specs.Scopes.{PlainSort, fits_side, fits_init, fits_given, suits_init}
+use Rattle.dpl_agreement.specs.Scopes.{PlainForm, fits_side, fits_init, fits_given, suits_init}
 use Rattle.dpl_agreement.proofs.RenamedTwice.{renamed_items-twice}
 use Rattle.dpl_tree.specs.Words.{kind_view}
 use Rattle.dpl_rules.specs.Types.{ValueType, Scalar, Domain}
@@ -237,7 +237,7 @@ declared-same ss made t d same typed =
     ap (λ o. add (record { origin = origin_in ss made.origin.name.now; sort = sort_view made.sort; type = of_type o }) ss) (sym typed)
     ∙ ap (λ (x : Declared). add (record { origin = origin_in ss x.origin.name; sort = x.sort; type = x.type }) ss) same
 
-given-fits : (start : Start) (config : Option Place) (x : Bound) (g : Seen) → IsOwedBy config start x → Declares start.slots x PlainSort g → fits_given (resolving start) config x PlainSort g
+given-fits : (start : Start) (config : Option Place) (x : Bound) (g : Seen) → IsOwedBy config start x → Declares start.slots x PlainForm g → fits_given (resolving start) config x PlainForm g
 given-fits start None x g owed declares = tt
 given-fits start (Some at) x g owed declares = (owed, declares, refl)
 
@@ -311,7 +311,7 @@ module _ (a : Plan) (d : DeclareTree Text) (made : DeclaredNode) (t : TypeNode) 
             let in_frame : slot < start.slots = omega (arith, below, le) in
             let unused = subst (λ n. IsUnused n (sight_of ss)) (sym next) (unused_next ss known) in
             let fresh_slot = subst (λ (l : Variable). IsNew start.slots (record { text = x.text; variable = l; shape = x.shape }) g) (sym leaf) (record { unused = unused; within = in_frame; along = tt }) in
-            let declares : Declares start.slots x PlainSort g = (fresh_slot, new-no_array ss new (begun_kind begun) of_kind single) in (
+            let declares : Declares start.slots x PlainForm g = (fresh_slot, new-no_array ss new (begun_kind begun) of_kind single) in (
               is.type.fits_here start g,
               is.initial start (intents_in a) known,
               subst (λ sort. Declares start.slots x sort g) (sym is.type.sort) declares,

@@ -24,7 +24,7 @@ use Rattle.dpl_lowered.specs.Shapes.{nowhere, unplaced}
 use Rattle.dpl_lowered.specs.LoweredStatements.{lowered_variables}
 use Rattle.dpl_words.specs.Words.{IntLeaf, TruthLeaf, RangeLeaf}
 use Rattle.dpl_memory.specs.Memory.{VariableKind, PlainKind, DomainKind, TupleKind, ArrayKind, Variable, int_leaf}
-use Rattle.dpl_memory.specs.Resolved.{Bound, Start, text_of, variable_of, IsUnused, AreUnused, MayHold, Turns, resolving}
+use Rattle.dpl_memory.specs.Resolved.{Bound, Start, text_of, variable_of, IsUnused, AreUnused, MayHold, SuitsTurns, resolving}
 use Rattle.dpl_nodes.specs.declared.step.Names.TheVariants as names
 use Rattle.dpl_nodes.specs.Steps.{unplaced_leaf, next_name}
 use Rattle.dpl_typer.specs.Makers.{is_promoted}
@@ -156,7 +156,7 @@ pub turns-suit : (start : Start) (ss : Scopes) (is : List (Bound × Op)) (item :
 turns-suit start ss is item word (OneVariable x) t h simple typed kinds =
     let (k, kind, single) = turn-kind (OneVariable x) (value_kind t) kinds in
     let (u, over, runs) = type-runs word x (item_type ss item) t (ap (typed_variable word (OneVariable x)) (sym (over-simple (IsFound ss) ss item simple)) ∙ typed) in
-    subst (λ o. Turns (leaf_by o (Some (next_slot_in (enter ss)))).kind (shape_of t) (renamed_item (bound_in ss) item) (seen_of ss is)) (sym kind)
+    subst (λ o. SuitsTurns (leaf_by o (Some (next_slot_in (enter ss)))).kind (shape_of t) (renamed_item (bound_in ss) item) (seen_of ss is)) (sym kind)
     (loop-turns ss h is item simple u over word t k kind single runs)
 turns-suit start ss is item word (ManyVariables from xs upto) t h simple typed kinds =
     subst (λ ys. holds_ints (resolving start) (bound_variable (Some t) (enter ss) xs.first ∷ ys)) (sym (others-parts (Some t) (add (loop_variable (Some t) (enter ss) xs.first.name) (enter ss)) xs.others))

@@ -11,7 +11,7 @@ use Rattle.dpl_language.specs.Names.{Text}
 use Rattle.dpl_language.specs.Phrases.{declared_over}
 use Rattle.dpl_language.specs.Declarations.{type_of}
 use Rattle.dpl_agreement.specs.Renamed.{renamed_type, renamed_typed}
-use Rattle.dpl_agreement.specs.Scopes.{PlainSort, sort_by, after, after_all}
+use Rattle.dpl_agreement.specs.Scopes.{PlainForm, form_by, after, after_all}
 use Rattle.dpl_agreement.proofs.RenamedParts.{declared_over-renamed}
 use Rattle.dpl_rules.specs.Types.{Origin, ValueType, Scalar, Range, Domain, Array, Promoted, Tuple, Locale, AllLocales, Cell, is_domain, domain_of}
 use Rattle.dpl_rules.specs.Verdicts.{Part, type_by, all_known, owed, owed_type}
@@ -59,12 +59,12 @@ over_by-empty self (Some AllLocales) = refl
 over_by-empty self (Some (Cell k)) = refl
 
 pub sight_of-next : (d : Declared) (ss : Scopes) → sight_of (add d ss) ≡ bind (sighted_at ss d (next_slot_in ss)) (sight_of ss)
-sight_of-next d [] = ap (λ o. (record (sighted (bound_at d 1) PlainSort) { over = o } ∷ []) ∷ []) (over_by-empty d.origin d.type)
+sight_of-next d [] = ap (λ o. (record (sighted (bound_at d 1) PlainForm) { over = o } ∷ []) ∷ []) (over_by-empty d.origin d.type)
 sight_of-next d (s ∷ ss) = ap (λ n. bind (sighted_at (s ∷ ss) d n) (sight_of (s ∷ ss))) (next_open s ss)
 
 -- a name that is over no domain
-pub sight_of-plain : (d : Declared) (ss : Scopes) → over_by ss d.origin d.type ≡ None → sight_of (add d ss) ≡ bind (sighted (bound_new ss d) PlainSort) (sight_of ss)
-sight_of-plain d ss e = sight_of-next d ss ∙ ap (λ o. bind (record (sighted (bound_new ss d) PlainSort) { over = o }) (sight_of ss)) e
+pub sight_of-plain : (d : Declared) (ss : Scopes) → over_by ss d.origin d.type ≡ None → sight_of (add d ss) ≡ bind (sighted (bound_new ss d) PlainForm) (sight_of ss)
+sight_of-plain d ss e = sight_of-next d ss ∙ ap (λ o. bind (record (sighted (bound_new ss d) PlainForm) { over = o }) (sight_of ss)) e
 
 pub unfound : (d : Option Declared) → is_some d ≡ false → d ≡ None
 unfound None e = refl
@@ -214,7 +214,7 @@ module _ (ss : Scopes) where
     abbrev new_type : Option (TypeTree Text) → Option ValueType
     new_type y = unless_refused (declaration_breaches ss d) (type_given ss self y d.initial)
 
-    by_type : (y : TypeTree Text) (t : ValueType) → new_type (Some y) ≡ Some t → over_of (sort_by (Some (renamed_type (bound_in ss) y))) ≡ over_by ss self (Some t)
+    by_type : (y : TypeTree Text) (t : ValueType) → new_type (Some y) ≡ Some t → over_of (form_by (Some (renamed_type (bound_in ss) y))) ≡ over_by ss self (Some t)
     by_type (ScalarType at k) t e = ap (over_by ss self) (unless-both (declaration_breaches ss d) (Some (Scalar k)) t e).1
     by_type (SyncType at kind_at k) t e = ap (over_by ss self) (unless-both (declaration_breaches ss d) (Some (Cell k)) t e).1
     by_type (DomainType y) t e = ap (over_by ss self) (unless-both (declaration_breaches ss d) (Some (Domain y.rank false)) t e).1
@@ -226,11 +226,11 @@ module _ (ss : Scopes) where
         ∙ over-declared ss known d.name.name alone (declared_over a.over) a.kind (record { rank = rank; strided = strided; base = base_over ss self (declared_over a.over) }) refl
         ∙ ap (λ t. over_by ss self (Some t)) is
 
-    by_typed : (w : Option (TypedTree Text)) (t : ValueType) → new_type (type_of w) ≡ Some t → (type_of w ≡ None → is_kept t ≡ true) → over_of (sort_by (type_of (option_map (renamed_typed (bound_in ss)) w))) ≡ over_by ss self (Some t)
+    by_typed : (w : Option (TypedTree Text)) (t : ValueType) → new_type (type_of w) ≡ Some t → (type_of w ≡ None → is_kept t ≡ true) → over_of (form_by (type_of (option_map (renamed_typed (bound_in ss)) w))) ≡ over_by ss self (Some t)
     by_typed None t e kept = sym (kept-over ss self t (kept refl))
     by_typed (Some w) t e kept = by_type w.type t e
 
-    pub declared-over : HasKnownKind (Some (declared_by ss d)) → over_of (sort_by (type_of (bound_declare ss d).typed)) ≡ over_by ss self (declared_by ss d).type
+    pub declared-over : HasKnownKind (Some (declared_by ss d)) → over_of (form_by (type_of (bound_declare ss d).typed)) ≡ over_by ss self (declared_by ss d).type
     declared-over kind =
         let typed = kind-typed (declared_by ss d).type kind.0 kind.1 in
         by_typed d.typed typed.0 typed.1 (λ none. untyped-declared d typed.0 none typed.1) ∙ sym (ap (over_by ss self) typed.1)
@@ -261,7 +261,7 @@ module _ (start : Start) where
   after-stmt (Declare d) ss is plain =
       let new = declared_by ss d in
       let over = declared-over ss d (before-plain new ss plain) (added-new new ss plain) (added-plain new ss plain) in
-      ap (λ o. record { frames = bind (record (sighted (bound_new ss new) PlainSort) { over = o }) (sight_of ss); intents = is }) over
+      ap (λ o. record { frames = bind (record (sighted (bound_new ss new) PlainForm) { over = o }) (sight_of ss); intents = is }) over
       ∙ ap (λ fs. record { frames = fs; intents = is }) (sym (sight_of-next new ss))
   after-stmt (Assigned target sign item semicolon) ss is plain = refl
   after-stmt (Call x dot call semicolon) ss is plain = refl

@@ -8,7 +8,7 @@ use Rattle.dpl_language.specs.Arithmetic.{assign_divides}
 use Rattle.dpl_language.specs.Names.{Text}
 use Rattle.dpl_language.specs.Declarations.{type_of}
 use Rattle.dpl_agreement.specs.Renamed.{renamed_stmt, renamed_expr, renamed_item, renamed_typed, renamed_initial, renamed_argument, renamed_variables}
-use Rattle.dpl_agreement.specs.Scopes.{PlainSort, sort_by, fits as fits_stmt, fits_type, side_by, fits_initial, suits_declared, fits_arguments}
+use Rattle.dpl_agreement.specs.Scopes.{PlainForm, form_by, fits as fits_stmt, fits_type, side_by, fits_initial, suits_declared, fits_arguments}
 use Rattle.dpl_tree.specs.Words.{kind_view}
 use Rattle.dpl_tree.specs.declared.statement.NextArgument.{NextArgument}
 use Rattle.dpl_tree.specs.declared.statement.NextIntent.{NextIntent}
@@ -167,7 +167,7 @@ bound_initial ss i = option_map (renamed_initial (bound_in ss)) i
 pub record IsPlainTyped (ss : Scopes) (t : Option (TypedTree Text)) : Type 0 where
   pub spelled : option_map (renamed_typed text_of) (bound_typed ss t) ≡ t
   pub untold : tells_name (type_of (option_map (renamed_typed variable_of) (bound_typed ss t))) ≡ false
-  pub sort : sort_by (type_of (bound_typed ss t)) ≡ PlainSort
+  pub sort : form_by (type_of (bound_typed ss t)) ≡ PlainForm
   pub fits_here : (start : Start) (g : Seen) → fits_type (resolving start) (type_of (bound_typed ss t)) g
 
 -- What a variable of a declared type begins with: the initial value, which is written or the default of its type. The type goes

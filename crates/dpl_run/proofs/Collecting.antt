@@ -7,7 +7,7 @@ use Rattle.std.proofs.lemmas.Option.{none-some}
 use Rattle.std.proofs.lemmas.Slice.Eq.{bytes_eq-Decides}
 use Rattle.dpl_language.specs.Tree.{Kind, IntKind, BoolKind, StmtTree, Nothing, Declare, Assigned, Call, Write, Block, If, While, For, Forall, Coforall, On, Stmts, NoStmts, Then}
 use Rattle.dpl_language.specs.Names.{Text, Entry}
-use Rattle.dpl_agreement.specs.Scopes.{PlainSort}
+use Rattle.dpl_agreement.specs.Scopes.{PlainForm}
 use Rattle.dpl_rules.specs.Sights.{Declared, Scope, Scopes, find, lookup, type_declared}
 use Rattle.dpl_rules.specs.Types.{Over, ValueType, Scalar, Range, Domain, Array, Promoted, Tuple, Locale, AllLocales, Cell}
 use Rattle.dpl_rules.specs.Loops.{behind}
@@ -99,7 +99,7 @@ names-later : (d : Declared) (ds : Scope) (xs : List Text) → AreOther d.origin
 names-later d ds [] h = refl
 names-later d ds (x ∷ xs) h = ap (λ b. b ∷ map (sighted_in ((d ∷ ds) ∷ [])) xs) (name-later d ds x h.0) ∙ ap (λ bs. sighted_in (ds ∷ []) x ∷ bs) (names-later d ds xs h.1)
 
-name-latest : (d : Declared) (ds : Scope) → sighted_in ((d ∷ ds) ∷ []) d.origin.name ≡ sighted (bound_at d (length ds + 1)) PlainSort
+name-latest : (d : Declared) (ds : Scope) → sighted_in ((d ∷ ds) ∷ []) d.origin.name ≡ sighted (bound_at d (length ds + 1)) PlainForm
 name-latest d ds = rw (same_bytes d.origin.name) refl
 
 -- what they hold in a memory; over which domain an array is makes no difference
@@ -107,7 +107,7 @@ frame-names : (s : Memory) (ds : Scope) → IsKnownScope 1 ds → frame_in s (fr
 frame-names s [] h = refl
 frame-names s (d ∷ ds) h =
     map-append (entry_in s) (frame_from 1 [] ds) (sighted_at (ds ∷ []) d (length ds + 1) ∷ [])
-    ∙ ap (λ es. es ++ entry_in s (sighted (bound_at d (length ds + 1)) PlainSort) ∷ []) (frame-names s ds h.2 ∙ ap (frame_in s) (sym (names-later d ds (names_in ds) (names-other d.origin.name ds h.1))))
+    ∙ ap (λ es. es ++ entry_in s (sighted (bound_at d (length ds + 1)) PlainForm) ∷ []) (frame-names s ds h.2 ∙ ap (frame_in s) (sym (names-later d ds (names_in ds) (names-other d.origin.name ds h.1))))
     ∙ ap (λ b. frame_in s (map (sighted_in ((d ∷ ds) ∷ [])) (names_in ds)) ++ entry_in s b ∷ []) (sym (name-latest d ds))
     ∙ sym (map-append (entry_in s) (map (sighted_in ((d ∷ ds) ∷ [])) (names_in ds)) (sighted_in ((d ∷ ds) ∷ []) d.origin.name ∷ []))
     ∙ ap (frame_in s) (sym (map-append (sighted_in ((d ∷ ds) ∷ [])) (names_in ds) (d.origin.name ∷ [])))
@@ -128,7 +128,7 @@ names_in_order-declared m ts known =
 
 -- ---- what variables hold
 abbrev HoldsAlike : Memory → Text → Option ℕ → Option ValueType → Type 0
-HoldsAlike s x slot t = record { name = x; content = held_by t slot s } ≡ entry_in s (sighted (record { text = x; variable = leaf_by (kind_by t) slot; shape = shape_by t }) PlainSort)
+HoldsAlike s x slot t = record { name = x; content = held_by t slot s } ≡ entry_in s (sighted (record { text = x; variable = leaf_by (kind_by t) slot; shape = shape_by t }) PlainForm)
 
 scalar-held : (s : Memory) (x : Text) (slot : Option ℕ) (l : Kind) → HoldsAlike s x slot (Some (Scalar l))
 scalar-held s x None IntKind = refl

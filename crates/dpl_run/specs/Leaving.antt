@@ -4,7 +4,7 @@ use Rattle.std.specs.Prelude.{◌≡◌, ℕ, bytes_eq, if◌then◌else◌, Lis
 use Rattle.dpl_language.specs.Tree.{IntKind, BoolKind}
 use Rattle.dpl_language.specs.Environment.{Content, Plain}
 use Rattle.dpl_language.specs.Names.{Text, Entry, Frame}
-use Rattle.dpl_agreement.specs.Scopes.{PlainSort}
+use Rattle.dpl_agreement.specs.Scopes.{PlainForm}
 use Rattle.dpl_rules.specs.Types.{ValueType, Scalar, Range as RangeType, Domain as DomainType, Array, Promoted, Tuple, Locale, AllLocales, Cell}
 use Rattle.dpl_rules.specs.Sights.{Declared, Scopes, lookup}
 use Rattle.dpl_scopes.specs.Slots.{slot_in}
@@ -56,7 +56,7 @@ value_held x s = content_in x.kind x.slot None s
 
 -- a name of the top level, as it is in sight; over which domain an array is makes no difference to what it holds
 abbrev pub sighted_in : Scopes → Text → Sighted
-sighted_in scopes x = sighted (bound_in scopes x) PlainSort
+sighted_in scopes x = sighted (bound_in scopes x) PlainForm
 
 -- what a slot has for a type; what is no variable's that a declaration gives, and what isn't in sight, counts as the int in the first one
 abbrev pub held_as : ValueType → ℕ → Memory → Content Text

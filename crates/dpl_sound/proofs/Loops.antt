@@ -69,16 +69,16 @@ runs_over_none false true h = absurd cc
 runs_over_none false false h = absurd cc
 
 -- a loop's value in a turn, by the type of what it runs over; the index has a coordinate for each of its ranges
-abbrev pub Turns : ℕ → Value → ValueType → Type 0
-Turns locales over w = (t : Index) → length t ≡ length (loop_ranges locales over) → HasType (loop_value over t) w
+abbrev pub TurnsHave : ℕ → Value → ValueType → Type 0
+TurnsHave locales over w = (t : Index) → length t ≡ length (loop_ranges locales over) → HasType (loop_value over t) w
 
 pub loop_value-has : (locales : ℕ) (word : LoopWord) (u w : ValueType) (over : Value) → HasType over (type_at u None) → (if runs_over word u then Some (one_type u) else None) ≡ Some w
-    → Turns locales over w
+    → TurnsHave locales over w
 loop_value-has locales word (Scalar k) w over hv h = elim (runs_over_none (over_domains word) (over_locales word) (if_given (runs_over word (Scalar k)) (Some (one_type (Scalar k))) w h).0) [ ]
 loop_value-has locales word (RangeType strided) w over hv h =
-    subst (λ v. Turns locales v w) (sym hv.1) (λ t n. subst (HasType (index_value t)) (some-same an_int w (if_given (runs_over word (RangeType strided)) (Some an_int) w h).1) (int_of_one t n))
+    subst (λ v. TurnsHave locales v w) (sym hv.1) (λ t n. subst (HasType (index_value t)) (some-same an_int w (if_given (runs_over word (RangeType strided)) (Some an_int) w h).1) (int_of_one t n))
 loop_value-has locales word (DomainType rank strided) w over hv h =
-    subst (λ v. Turns locales v w) (sym hv.1)
+    subst (λ v. TurnsHave locales v w) (sym hv.1)
     (λ t n. subst (HasType (index_value t)) (some-same (one_type (DomainType rank strided)) w (if_given (runs_over word (DomainType rank strided)) (Some (one_type (DomainType rank strided))) w h).1)
     (index_by rank t (rank == 1) refl (n ∙ hv.2.0)))
 loop_value-has locales word (ArrayType k over) w v hv h = elim (runs_over_none (over_domains word) (over_locales word) (if_given (runs_over word (ArrayType k over)) (Some (one_type (ArrayType k over))) w h).0) [ ]
@@ -86,7 +86,7 @@ loop_value-has locales word (Promoted k over) w v hv h = elim (runs_over_none (o
 loop_value-has locales word (TupleType rank) w v hv h = elim (runs_over_none (over_domains word) (over_locales word) (if_given (runs_over word (TupleType rank)) (Some (one_type (TupleType rank))) w h).0) [ ]
 loop_value-has locales word LocaleType w v hv h = elim (runs_over_none (over_domains word) (over_locales word) (if_given (runs_over word LocaleType) (Some (one_type LocaleType)) w h).0) [ ]
 loop_value-has locales word AllLocalesType w v hv h =
-    subst (λ v. Turns locales v w) (sym hv) (λ t n. subst (HasType (loop_value AllLocales t)) (some-same LocaleType w (if_given (runs_over word AllLocalesType) (Some LocaleType) w h).1) (locale_of_turn t))
+    subst (λ v. TurnsHave locales v w) (sym hv) (λ t n. subst (HasType (loop_value AllLocales t)) (some-same LocaleType w (if_given (runs_over word AllLocalesType) (Some LocaleType) w h).1) (locale_of_turn t))
 loop_value-has locales word (CellType k) w v hv h = elim (runs_over_none (over_domains word) (over_locales word) (if_given (runs_over word (CellType k)) (Some (one_type (CellType k))) w h).0) [ ]
 
 -- ---- several variables: ints

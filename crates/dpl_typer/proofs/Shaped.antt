@@ -24,7 +24,7 @@ use Rattle.dpl_rules.specs.Loops.{LoopWord, runs_over, one_type}
 use Rattle.dpl_sound.specs.Typed.{OfKind, MayStride, HasType, type_at, Fits}
 use Rattle.dpl_sound.proofs.Given.{some-same}
 use Rattle.dpl_sound.proofs.Outcomes.{item_sound}
-use Rattle.dpl_sound.proofs.Loops.{Turns as TurnsHave, loop_value-has}
+use Rattle.dpl_sound.proofs.Loops.{TurnsHave, loop_value-has}
 use Rattle.dpl_scopes.specs.Slots.{slot_in}
 use Rattle.dpl_scopes.proofs.Slots.{slot_in-lookup}
 use Rattle.dpl_words.specs.Words.{IntLeaf, TruthLeaf, RangeLeaf}

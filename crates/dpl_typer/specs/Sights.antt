@@ -2,7 +2,7 @@
 -- and of an array the domain that it is over. The scopes of the check have the latest declaration first, and a frame has them in order.
 use Rattle.std.specs.Prelude.{◌≡◌, ℕ, suc, ◌+◌, Bool, true, false, if◌then◌else◌, List, [], ◌∷◌, ◌++◌, length, Option, Some, None}
 use Rattle.dpl_language.specs.Names.{Text}
-use Rattle.dpl_agreement.specs.Scopes.{PlainSort}
+use Rattle.dpl_agreement.specs.Scopes.{PlainForm}
 use Rattle.dpl_rules.specs.Types.{Origin, ValueType, Scalar, Range, Domain, Array, Promoted, Tuple, Locale, AllLocales, Cell, same_origin}
 use Rattle.dpl_rules.specs.Sights.{Declared, Scope, Scopes, find}
 use Rattle.dpl_scopes.specs.Slots.{count_in}
@@ -33,7 +33,7 @@ over_by before self (Some AllLocales) = None
 over_by before self (Some (Cell k)) = None
 
 abbrev pub sighted_at : Scopes → Declared → ℕ → Sighted
-sighted_at before d slot = record (sighted (bound_at d slot) PlainSort) { over = over_by before d.origin d.type }
+sighted_at before d slot = record (sighted (bound_at d slot) PlainForm) { over = over_by before d.origin d.type }
 
 -- the declarations of a scope, of which the first has this slot; outside it stand these scopes
 abbrev pub frame_from : ℕ → Scopes → Scope → List Sighted
