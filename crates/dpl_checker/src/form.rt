@@ -12,12 +12,12 @@ ghost use Rattle.dpl_forms.specs.Heads.{word_view};
 ghost use Rattle.dpl_checker.specs.declared.walk.Around.{Around as AroundNode};
 ghost use Rattle.dpl_checker.specs.Walks.{Walks, WalksStmt, WalksLoop, WalksShared, sight_in};
 
-use crate::walk::{Around, Check, Walked, behind};
+use crate::walk::{Around, Check, Walked};
 use dpl_bodies::outside::promoted_breaches;
 use dpl_deeds::declaration::declaration_deeds;
 use dpl_deeds::expression::{expr_deeds, item_deeds};
 use dpl_deeds::statement::{arguments_deeds, call_deeds, target_deeds};
-use dpl_deeds::{Holding, held};
+use dpl_deeds::{Holding, behind, held};
 use dpl_forms::assignment::assignment;
 use dpl_forms::call::{call, condition, on};
 use dpl_forms::declaration::declaration;
@@ -45,7 +45,8 @@ pub(crate) fn assigned<'t>(
     around: Around<'t>,
     written: &Assignment<'t>,
 ) -> Walked
-    ensures { OnOk result (WalksStmt around.entry (AssignedTree (target_view written.now.target) (sign_view written.now.sign) (item_view written.now.value) written.now.semicolon) walk.old walk.new) }
+    ensures { OnOk result (WalksStmt around.entry (AssignedTree (target_view written.now.target) (sign_view written.now.sign)
+        (item_view written.now.value) written.now.semicolon) walk.old walk.new) }
 {
     assignment(
         walk.alloc,
@@ -82,7 +83,8 @@ pub(crate) fn assigned<'t>(
 
 /// A cell's call.
 pub(crate) fn called<'t>(walk: &mut Check<'t>, around: Around<'t>, written: &CellCall<'t>) -> Walked
-    ensures { OnOk result (WalksStmt around.entry (CallTree (name_view written.now.name) written.now.dot (call_view written.now.call) written.now.semicolon) walk.old walk.new) }
+    ensures { OnOk result (WalksStmt around.entry (CallTree (name_view written.now.name) written.now.dot
+        (call_view written.now.call) written.now.semicolon) walk.old walk.new) }
 {
     call(walk.alloc, &walk.scopes, written, &mut walk.first)?;
     call_deeds(
@@ -154,7 +156,8 @@ pub(crate) fn open_shared<'t>(
 
 /// The condition of an `if` or a `while`.
 pub(crate) fn tested<'t>(walk: &mut Check<'t>, e: &Expr<'t>) -> Walked
-    ensures { (around : AroundNode) → OnOk result (Walks walk.old.scopes (expr_deeds_of walk.old.scopes false (expr_view e.now)) (condition_breaches (sight_in walk.old.scopes around) (expr_view e.now)) walk.old walk.new) }
+    ensures { (around : AroundNode) → OnOk result (Walks walk.old.scopes (expr_deeds_of walk.old.scopes false (expr_view e.now))
+        (condition_breaches (sight_in walk.old.scopes around) (expr_view e.now)) walk.old walk.new) }
 {
     condition(walk.alloc, &walk.scopes, e, &mut walk.first)?;
     expr_deeds(walk.arena, &walk.scopes, false, e, &mut walk.deeds)?;
@@ -163,7 +166,8 @@ pub(crate) fn tested<'t>(walk: &mut Check<'t>, e: &Expr<'t>) -> Walked
 
 /// What `on` stands before.
 pub(crate) fn sent<'t>(walk: &mut Check<'t>, at: Place, e: &Expr<'t>) -> Walked
-    ensures { (around : AroundNode) → OnOk result (Walks walk.old.scopes (held_of at AnOn ++ expr_deeds_of walk.old.scopes false (expr_view e.now)) (on_breaches (sight_in walk.old.scopes around) (expr_view e.now)) walk.old walk.new) }
+    ensures { (around : AroundNode) → OnOk result (Walks walk.old.scopes (held_of at AnOn ++ expr_deeds_of walk.old.scopes false (expr_view e.now))
+        (on_breaches (sight_in walk.old.scopes around) (expr_view e.now)) walk.old walk.new) }
 {
     on(walk.alloc, &walk.scopes, e, &mut walk.first)?;
     held(at, Holding::On, &mut walk.deeds)?;

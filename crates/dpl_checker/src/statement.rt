@@ -9,12 +9,12 @@ ghost use Rattle.dpl_tree.specs.Statements.{variables_view, with_view, stmt_view
 ghost use Rattle.dpl_checker.specs.Walks.{WalksStmt, WalksStmts, WalksBody, WalksElse};
 
 use crate::form::{assigned, called, declare, open_loop, open_shared, printed, sent, tested};
-use crate::walk::{Around, Check, Walked, behind};
+use crate::walk::{Around, Check, Walked};
 use dpl_bodies::Turns;
 use dpl_bodies::forall::forall_breaches;
 use dpl_bodies::task::task_breaches;
 use dpl_deeds::statement::with_deeds;
-use dpl_deeds::{Holding, held};
+use dpl_deeds::{Holding, behind, held};
 use dpl_forms::around::Reducing;
 use dpl_forms::head::LoopWord;
 use dpl_tree::{Body, Coforall, Else, For, Forall, If, On, Stmt, While};
@@ -89,7 +89,8 @@ fn otherwise<'t>(walk: &mut Check<'t>, around: Around<'t>, otherwise: &Else<'t>)
 // `if`, perhaps with `else`.
 #[cycle(statement)]
 fn choose<'t>(walk: &mut Check<'t>, around: Around<'t>, choice: &If<'t>) -> Walked
-    ensures { OnOk result (WalksStmt around.entry (IfTree choice.now.at (expr_view choice.now.condition.now) (body_view choice.now.body) (else_view choice.now.otherwise)) walk.old walk.new) }
+    ensures { OnOk result (WalksStmt around.entry (IfTree choice.now.at (expr_view choice.now.condition.now) (body_view choice.now.body)
+        (else_view choice.now.otherwise)) walk.old walk.new) }
 {
     tested(walk, choice.condition)?;
     body(walk, around, &choice.body)?;
@@ -110,7 +111,8 @@ fn repeat<'t>(walk: &mut Check<'t>, around: Around<'t>, turns: &While<'t>) -> Wa
 // `for`.
 #[cycle(statement)]
 fn for_turns<'t>(walk: &mut Check<'t>, around: Around<'t>, turns: &For<'t>) -> Walked
-    ensures { OnOk result (WalksStmt around.entry (ForTree turns.now.at (variables_view turns.now.variables) turns.now.within (item_view turns.now.over) (body_view turns.now.body)) walk.old walk.new) }
+    ensures { OnOk result (WalksStmt around.entry (ForTree turns.now.at (variables_view turns.now.variables) turns.now.within (item_view turns.now.over)
+        (body_view turns.now.body)) walk.old walk.new) }
 {
     open_loop(walk, LoopWord::For, &turns.variables, &turns.over)?;
     body(walk, around, &turns.body)?;
@@ -121,7 +123,8 @@ fn for_turns<'t>(walk: &mut Check<'t>, around: Around<'t>, turns: &For<'t>) -> W
 // `forall`: the rules on its body speak of what that does.
 #[cycle(statement)]
 fn forall_turns<'t>(walk: &mut Check<'t>, around: Around<'t>, turns: &Forall<'t>) -> Walked
-    ensures { OnOk result (WalksStmt around.entry (ForallTree turns.now.at (variables_view turns.now.variables) turns.now.within (item_view turns.now.over) (optional with_view turns.now.with) (body_view turns.now.body)) walk.old walk.new) }
+    ensures { OnOk result (WalksStmt around.entry (ForallTree turns.now.at (variables_view turns.now.variables) turns.now.within (item_view turns.now.over)
+        (optional with_view turns.now.with) (body_view turns.now.body)) walk.old walk.new) }
 {
     let seen = Turns {
         depth: walk.scopes.depth(),
@@ -159,7 +162,8 @@ fn forall_turns<'t>(walk: &mut Check<'t>, around: Around<'t>, turns: &Forall<'t>
 // `coforall`: the rules on its body speak of what its intents and that do.
 #[cycle(statement)]
 fn coforall_tasks<'t>(walk: &mut Check<'t>, around: Around<'t>, tasks: &Coforall<'t>) -> Walked
-    ensures { OnOk result (WalksStmt around.entry (CoforallTree tasks.now.at (variables_view tasks.now.variables) tasks.now.within (item_view tasks.now.over) (optional with_view tasks.now.with) (body_view tasks.now.body)) walk.old walk.new) }
+    ensures { OnOk result (WalksStmt around.entry (CoforallTree tasks.now.at (variables_view tasks.now.variables) tasks.now.within (item_view tasks.now.over)
+        (optional with_view tasks.now.with) (body_view tasks.now.body)) walk.old walk.new) }
 {
     let depth = walk.scopes.depth();
     held(tasks.at, Holding::Coforall, &mut walk.deeds)?;

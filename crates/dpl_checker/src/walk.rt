@@ -1,8 +1,6 @@
 // How far the check of a program is: the names in sight, what the program did so far, and the first breach that was told.
 // Its parts are changed by the functions of the forms, one after the other.
 
-ghost use Rattle.std.specs.Prelude.{◌≡◌, drop};
-
 use dpl_deeds::Deed;
 use dpl_forms::around::Reducing;
 use dpl_scopes::Scopes;
@@ -28,11 +26,4 @@ pub(crate) struct Check<'t> {
     pub scopes: Scopes<'t>,
     pub deeds: Vec<Deed<'t>>,
     pub first: Option<Breach>,
-}
-
-/// The deeds behind the first so many.
-pub(crate) fn behind<'a, 't>(deeds: &'a [Deed<'t>], start: usize) -> &'a [Deed<'t>]
-    ensures { result.now ≡ drop start deeds.now }
-{
-    &deeds[start.min(deeds.len())..]
 }

@@ -1,3 +1,4 @@
 -- What serves contracts and proofs alone.
 pub mod View
 pub mod Parts
+pub mod Pairs

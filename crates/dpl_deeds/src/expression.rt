@@ -1,28 +1,30 @@
 // The deeds of expressions and items, in the order in which they are spelled.
 // An element that is read stands before what its indices do.
 
-ghost use Rattle.std.specs.Prelude.{OnOk, option_map};
-ghost use Rattle.dpl_tree.specs.View.{expr_view, item_view, items_view, exprs_view, post_view, method_view, stride_view, links_of, posts_of, more_items_of, more_exprs_of};
+ghost use Rattle.std.specs.Prelude.{false, OnOk, option_map};
+ghost use Rattle.dpl_tree.specs.View.{expr_view, chain_view, item_view, items_view, exprs_view, post_view, method_view};
+ghost use Rattle.dpl_tree.specs.View.{stride_view, links_of, posts_of, more_items_of, more_exprs_of};
 ghost use Rattle.dpl_typing.specs.Told.{range_view};
 ghost use Rattle.dpl_language.specs.Phrases.{base_of};
 ghost use Rattle.dpl_rules.specs.Deeds.{array_deeds as array_deeds_of, cell_deeds as cell_deeds_of};
 ghost use Rattle.dpl_rules.specs.Deeds.{items_index as items_index_of, exprs_index as exprs_index_of, name_deeds as name_deeds_of};
 ghost use Rattle.dpl_rules.specs.Deeds.{declared_deeds as declared_deeds_of, base_deeds as base_deeds_of};
 ghost use Rattle.dpl_rules.specs.Deeds.{expr_deeds as expr_deeds_of, item_deeds as item_deeds_of, stride_deeds as stride_deeds_of};
-ghost use Rattle.dpl_rules.specs.Deeds.{links_deeds as links_deeds_of, posts_deeds as posts_deeds_of, post_deeds as post_deeds_of};
+ghost use Rattle.dpl_rules.specs.Deeds.{posts_deeds as posts_deeds_of, post_deeds as post_deeds_of};
 ghost use Rattle.dpl_rules.specs.Deeds.{method_deeds as method_deeds_of, items_deeds as items_deeds_of, more_items_deeds as more_items_deeds_of};
 ghost use Rattle.dpl_rules.specs.Deeds.{exprs_deeds as exprs_deeds_of, more_exprs_deeds as more_exprs_deeds_of};
 ghost use Rattle.dpl_scopes.specs.View.{declared_view};
 ghost use Rattle.dpl_deeds.specs.View.{Adds};
+ghost use Rattle.dpl_deeds.specs.Pairs.{operands_deeds};
 
-use crate::deed::{Added, Deed, Holding, held, held_if, put};
+use crate::deed::{Added, Deed, Holding, behind, held, held_if, holds_reduction, put};
 use crate::index::{exprs_index, items_index};
 use crate::name::{is_array, is_cell};
-use crate::promoted::is_promoted;
+use crate::promoted::promoted_links;
 use dpl_scopes::{Declared, Scopes};
 use dpl_syntax::Place;
 use dpl_tree::{
-    Arena, Expr, Exprs, Item, Items, Link, Method, NextExpr, NextItem, Post, Range, Stride,
+    Arena, Chain, Expr, Exprs, Item, Items, Link, Method, NextExpr, NextItem, Post, Range, Stride,
 };
 
 // An array before the first of what stands behind it: by itself it is read whole, before indices an element is read, and
@@ -35,7 +37,8 @@ fn array_deeds<'t>(
     posts: &[Post<'_>],
     deeds: &mut Vec<Deed<'t>>,
 ) -> Added
-    ensures { OnOk result (Adds (array_deeds_of at (declared_view declared.entry) (posts_of posts.now) (items_index_of scopes.now) (exprs_index_of scopes.now)) deeds.old.items deeds.new.items) }
+    ensures { OnOk result (Adds (array_deeds_of at (declared_view declared.entry) (posts_of posts.now) (items_index_of scopes.now)
+        (exprs_index_of scopes.now)) deeds.old.items deeds.new.items) }
 {
     match posts.first() {
         None => put(Deed::Reads(at, declared), deeds),
@@ -96,7 +99,8 @@ fn declared_deeds<'t>(
     declared: Option<Declared<'t>>,
     deeds: &mut Vec<Deed<'t>>,
 ) -> Added
-    ensures { OnOk result (Adds (declared_deeds_of scopes.now at (posts_of posts.now) (option_map declared_view declared.entry)) deeds.old.items deeds.new.items) }
+    ensures { OnOk result (Adds (declared_deeds_of scopes.now at (posts_of posts.now)
+        (option_map declared_view declared.entry)) deeds.old.items deeds.new.items) }
 {
     match declared {
         None => Ok(()),
@@ -134,11 +138,7 @@ pub fn expr_deeds<'t>(
             held_if(inner, reduced.at, Holding::InnerReduction, deeds)?;
             expr_deeds(arena, scopes, inner, reduced.operand, deeds)
         }
-        Expr::Chain(chain) => {
-            let inner = inner || is_promoted(arena.alloc(), scopes, e)?;
-            expr_deeds(arena, scopes, inner, chain.first, deeds)?;
-            links_deeds(arena, scopes, inner, chain.links, deeds)
-        }
+        Expr::Chain(chain) => chain_deeds(arena, scopes, inner, chain, deeds),
         Expr::Postfixed(postfixed) => {
             base_deeds(arena, scopes, inner, postfixed.base, postfixed.posts, deeds)?;
             posts_deeds(arena, scopes, inner, postfixed.posts, deeds)
@@ -157,7 +157,8 @@ fn base_deeds<'t>(
     posts: &[Post<'_>],
     deeds: &mut Vec<Deed<'t>>,
 ) -> Added
-    ensures { OnOk result (Adds (base_deeds_of scopes.now (base_of (expr_view e.now)) (posts_of posts.now) (expr_deeds_of scopes.now inner (expr_view e.now))) deeds.old.items deeds.new.items) }
+    ensures { OnOk result (Adds (base_deeds_of scopes.now (base_of (expr_view e.now)) (posts_of posts.now)
+        (expr_deeds_of scopes.now inner (expr_view e.now))) deeds.old.items deeds.new.items) }
 {
     match e {
         Expr::Named(name) => {
@@ -235,19 +236,56 @@ fn stride_deeds<'t>(
     }
 }
 
-// What the further operands of a chain do.
+// What a chain does. What stands in its promoted pairs matters to reductions alone, so that a chain without one needs no types.
+#[cycle(expression)]
+fn chain_deeds<'t>(
+    arena: Arena<'t>,
+    scopes: &Scopes<'t>,
+    inner: bool,
+    chain: &Chain<'_>,
+    deeds: &mut Vec<Deed<'t>>,
+) -> Added
+    ensures { OnOk result (Adds (expr_deeds_of scopes.now inner (chain_view chain.now)) deeds.old.items deeds.new.items) }
+{
+    let before = deeds.len();
+    expr_deeds(arena, scopes, true, chain.first, deeds)?;
+    links_deeds(arena, scopes, true, 0, chain.links, deeds)?;
+    if inner || !holds_reduction(behind(deeds, before)) {
+        return Ok(());
+    }
+    deeds.truncate(before);
+    paired_deeds(arena, scopes, chain, deeds)
+}
+
+// What a chain does that stands in no promoted expression itself, by its promoted pairs.
+#[cycle(expression)]
+fn paired_deeds<'t>(
+    arena: Arena<'t>,
+    scopes: &Scopes<'t>,
+    chain: &Chain<'_>,
+    deeds: &mut Vec<Deed<'t>>,
+) -> Added
+    ensures { OnOk result (Adds (expr_deeds_of scopes.now false (chain_view chain.now)) deeds.old.items deeds.new.items) }
+{
+    let inside = promoted_links(arena.alloc(), scopes, chain.first, chain.links)?;
+    expr_deeds(arena, scopes, 0 < inside, chain.first, deeds)?;
+    links_deeds(arena, scopes, false, inside, chain.links, deeds)
+}
+
+// What the further operands of a chain do, so many of which stand in promoted pairs.
 #[cycle(expression)]
 fn links_deeds<'t>(
     arena: Arena<'t>,
     scopes: &Scopes<'t>,
     inner: bool,
+    inside: usize,
     links: &[Link<'_>],
     deeds: &mut Vec<Deed<'t>>,
 ) -> Added
-    ensures { OnOk result (Adds (links_deeds_of scopes.now inner (links_of links.now)) deeds.old.items deeds.new.items) }
+    ensures { OnOk result (Adds (operands_deeds scopes.now inner inside 0 (links_of links.now)) deeds.old.items deeds.new.items) }
 {
-    for link in links {
-        expr_deeds(arena, scopes, inner, link.right, deeds)?;
+    for (i, link) in links.iter().enumerate() {
+        expr_deeds(arena, scopes, inner || i < inside, link.right, deeds)?;
     }
     Ok(())
 }

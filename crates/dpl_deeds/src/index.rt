@@ -74,7 +74,8 @@ fn declared<'t>(scopes: &Scopes<'t>, e: &Expr<'_>) -> Option<Declared<'t>>
 
 // Two operands and what stands between them, as an index.
 fn linked<'t>(scopes: &Scopes<'t>, first: &Expr<'_>, link: &Link<'_>) -> IndexPart<'t>
-    ensures { index_view result ≡ shifted_by (name_declared scopes.now (bare_name (expr_view first.now))) (option_and_then (added_by (infix_view link.now.op)) (literal_of (expr_view link.now.right.now))) }
+    ensures { index_view result ≡ shifted_by (name_declared scopes.now (bare_name (expr_view first.now)))
+        (option_and_then (added_by (infix_view link.now.op)) (literal_of (expr_view link.now.right.now))) }
 {
     match declared(scopes, first) {
         None => IndexPart::Elsewhere,

@@ -10,4 +10,4 @@ pub mod name;
 pub mod promoted;
 pub mod statement;
 
-pub use deed::{Added, Deed, Holding, IndexPart, held, held_if};
+pub use deed::{Added, Deed, Holding, IndexPart, behind, held, held_if};

@@ -1,15 +1,18 @@
-// Whether an expression is promoted: it has a type, which gives a value at each index of whole arrays.
-// What it breaks is told elsewhere; where one of its operators is refused it has no type, and isn't promoted.
+// What is promoted: it has a type, which gives a value at each index of whole arrays.
+// What it breaks is told elsewhere; where an operator is refused there is no type, and nothing promoted from there on.
 
 ghost use Rattle.std.specs.Prelude.{◌≡◌, IfOk};
-ghost use Rattle.dpl_tree.specs.View.{expr_view, item_view};
+ghost use Rattle.dpl_tree.specs.View.{expr_view, item_view, links_of};
 ghost use Rattle.dpl_rules.specs.Types.{has};
 ghost use Rattle.dpl_rules.specs.Deeds.{is_promoted as is_promoted_by};
 ghost use Rattle.dpl_rules.specs.Expressions.{type_of, item_type};
 ghost use Rattle.dpl_scopes.specs.Types.{of_type};
+ghost use Rattle.dpl_deeds.specs.Pairs.{promoted_from};
 
 use dpl_scopes::{Scopes, ValueType};
-use dpl_tree::{Expr, Item};
+use dpl_tree::{Expr, Item, Link};
+use dpl_types::operator::infix;
+use dpl_typing::expression::{expr, item as typed_item};
 use std::alloc::{AllocError, Global};
 
 // Whether there is a type, and it is that of a promoted expression.
@@ -23,16 +26,29 @@ fn is_promoted_type(found: Option<ValueType<'_>>) -> bool
     }
 }
 
-/// Whether an expression is promoted.
+/// How many of a chain's further operands stand in promoted pairs: all up to the last pair that is promoted.
 ///
 /// # Errors
 /// Out of memory.
-pub fn is_promoted(alloc: Global, scopes: &Scopes<'_>, e: &Expr<'_>) -> Result<bool, AllocError>
-    ensures { IfOk result (λ r. r ≡ has is_promoted_by (type_of scopes.now (expr_view e.now))) }
+pub fn promoted_links(
+    alloc: Global,
+    scopes: &Scopes<'_>,
+    first: &Expr<'_>,
+    links: &[Link<'_>],
+) -> Result<usize, AllocError>
+    ensures { IfOk result (λ n. n ≡ promoted_from scopes.now 0 0 (type_of scopes.now (expr_view first.now)) (links_of links.now)) }
 {
     let mut untold = None;
-    let t = dpl_typing::expression::expr(alloc, scopes, e, &mut untold)?;
-    Ok(is_promoted_type(t))
+    let mut t = expr(alloc, scopes, first, &mut untold)?;
+    let mut inside = 0;
+    for (i, link) in links.iter().enumerate() {
+        let right = expr(alloc, scopes, link.right, &mut untold)?;
+        t = infix(link.at, link.op, t, right, &mut untold);
+        if is_promoted_type(t) {
+            inside = i + 1;
+        }
+    }
+    Ok(inside)
 }
 
 /// Whether an item is promoted.
@@ -47,6 +63,6 @@ pub fn is_promoted_item(
     ensures { IfOk result (λ r. r ≡ has is_promoted_by (item_type scopes.now (item_view item.now))) }
 {
     let mut untold = None;
-    let t = dpl_typing::expression::item(alloc, scopes, item, &mut untold)?;
+    let t = typed_item(alloc, scopes, item, &mut untold)?;
     Ok(is_promoted_type(t))
 }

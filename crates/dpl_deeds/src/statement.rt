@@ -5,7 +5,8 @@ ghost use Rattle.std.specs.Prelude.{◌≡◌, OnOk, map, option_map};
 ghost use Rattle.dpl_tree.specs.Words.{assign_view};
 ghost use Rattle.dpl_tree.specs.View.{name_view, exprs_view};
 ghost use Rattle.dpl_tree.specs.Declarations.{optional};
-ghost use Rattle.dpl_tree.specs.Statements.{argument_view, next_argument_view, arguments_view, intent_view, next_intent_view, with_view, target_view, call_view};
+ghost use Rattle.dpl_tree.specs.Statements.{argument_view, next_argument_view, arguments_view, intent_view};
+ghost use Rattle.dpl_tree.specs.Statements.{next_intent_view, with_view, target_view, call_view};
 ghost use Rattle.dpl_language.specs.Writing.{arguments_of};
 ghost use Rattle.dpl_rules.specs.Types.{has, is_cell as is_cell_type};
 ghost use Rattle.dpl_rules.specs.Sights.{lookup, type_declared};
@@ -90,7 +91,8 @@ fn element_written<'t>(
     op: Assign,
     deeds: &mut Vec<Deed<'t>>,
 ) -> Added
-    ensures { OnOk result (Adds (element_written_of scopes.now name.now.at (lookup scopes.now name.now.text.now) (exprs_view exprs.now) (assign_view op)) deeds.old.items deeds.new.items) }
+    ensures { OnOk result (Adds (element_written_of scopes.now name.now.at (lookup scopes.now name.now.text.now) (exprs_view exprs.now)
+        (assign_view op)) deeds.old.items deeds.new.items) }
 {
     match scopes.lookup(name.text) {
         None => Ok(()),

@@ -163,6 +163,26 @@ C9 at 2:9    A = A + + reduce C;\n\
 C9 at 2:6    A = (+ reduce C) * A;\n\
 C3 at 2:18   A = (+ reduce C) * F;\n\
 C3 at 2:24   const x = (+ reduce A) * F;\n\
+C9 at 2:6    A = (+ reduce C) + A + F;\n\
+C9 at 2:10   A = A + (+ reduce C) + F;\n\
+C9 at 2:10   var x = (+ reduce C) + A + F;\n\
+C9 at 2:19   var P: [D] int = (+ reduce C) + A + F;\n\
+C9 at 2:6    n = (+ reduce C) + 1 + A + F;\n\
+C9 at 2:10   n = 2 * (+ reduce C) + A + F;\n\
+C9 at 2:7    A = ((+ reduce C) + 1) * A + F;\n\
+C9 at 2:16   A = (A + C) * (+ reduce C);\n\
+C9 at 2:11   A = A * ((+ reduce C) + 1);\n\
+C9 at 2:5    if (+ reduce C) + A + F == 0 then ;\n\
+C9 at 2:8    write((+ reduce C) + A + F);\n\
+C9 at 2:16   n = + reduce ((max reduce C) + A + F);\n\
+C9 at 2:28   forall i in D { const x = (+ reduce C) + A + F; }\n\
+C3 at 2:18   A = (+ reduce C) + F + A;\n\
+C3 at 2:7    A = A + F + (+ reduce C);\n\
+C3 at 2:27   A = A + C + ((+ reduce C) + true);\n\
+C3 at 2:8    A = (A + F) * (+ reduce C);\n\
+C3 at 2:22   n = (+ reduce C) + 1 + true;\n\
+C3 at 2:29   forall i in D { const x = A + F + (+ reduce C); }\n\
+sound        n = (+ reduce C) + 1; A = (+ reduce C) * 2 - 1;\n\
 C9 at 2:19   n = + reduce (A * max reduce C);\n\
 C9 at 2:11   A = A + C[+ reduce C];\n\
 C9 at 2:22   var P: [D] int = A - min reduce C;\n\

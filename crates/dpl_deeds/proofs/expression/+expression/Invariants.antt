@@ -1,15 +1,16 @@
 use Rattle.std.proofs.Common.{◌≡◌, ◌++◌, map, drop}
 use Rattle.dpl_tree.specs.View.{links_of, posts_of, more_items_of, more_exprs_of}
-use Rattle.dpl_rules.specs.Deeds.{links_deeds as links_deeds_of, posts_deeds as posts_deeds_of, more_items_deeds as more_items_deeds_of, more_exprs_deeds as more_exprs_deeds_of}
+use Rattle.dpl_rules.specs.Deeds.{posts_deeds as posts_deeds_of, more_items_deeds as more_items_deeds_of, more_exprs_deeds as more_exprs_deeds_of}
 use Rattle.dpl_deeds.specs.View.{deed_view}
+use Rattle.dpl_deeds.specs.Pairs.{operands_deeds}
 use Rattle.dpl_deeds.proofs.expression.+expression.Given as goal
 
 -- what is left adds what all added at first
 
-abbrev pub invariant-links_deeds-loop-link : goal.invariant-links_deeds-loop-link
-invariant-links_deeds-loop-link l =
-    (map deed_view l.deeds.items ++ links_deeds_of l.scopes l.inner (links_of (drop l.link-index l.links)))
-    ≡ (map deed_view l.initial.deeds.items ++ links_deeds_of l.scopes l.inner (links_of l.links))
+abbrev pub invariant-links_deeds-loop-i : goal.invariant-links_deeds-loop-i
+invariant-links_deeds-loop-i l =
+    (map deed_view l.deeds.items ++ operands_deeds l.scopes l.inner l.inside l.i (links_of (drop l.i l.links)))
+    ≡ (map deed_view l.initial.deeds.items ++ operands_deeds l.scopes l.inner l.inside 0 (links_of l.links))
 
 abbrev pub invariant-posts_deeds-loop-post : goal.invariant-posts_deeds-loop-post
 invariant-posts_deeds-loop-post l =
