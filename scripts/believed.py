@@ -27,7 +27,7 @@ class File:
     """The definitions of a file: of each its lines, and which words stand in them."""
 
     def __init__(self, name):
-        self.name, self.lines, self.home, self.imports, self.wholes = name, {}, {}, {}, {}
+        self.name, self.lines, self.home, self.imports, self.wholes, self.declared = name, {}, {}, {}, {}, set()
         with open(path_of(name), encoding="utf-8") as it:
             text = [line.rstrip("\n") for line in it]
         current, within, kept = None, 0, []
@@ -37,6 +37,9 @@ class File:
                 continue
             if bare.startswith("use "):
                 self.take_import(bare)
+                continue
+            if bare.startswith("pub use "):
+                self.pass_on(bare)
                 continue
             depth = len(line) - len(line.lstrip())
             if re.match(r"(module _|abbrev mutual|mutual|infix|pub mod|mod)", bare):
@@ -74,6 +77,13 @@ class File:
             name, _, short = item.partition(" as ")
             self.imports[short or name] = file, name
 
+    def pass_on(self, line):
+        """Takes note of what a file passes on: types and variants that Rust declares, of which no definition says more."""
+        found = re.match(r"pub use Rattle\.dpl_\w+\.specs\.declared\.[\w.]+\.\{(.*)\}$", line)
+        if not found:
+            sys.exit(f"believed.py: {self.name} passes on what Rust doesn't declare: {line}")
+        self.declared |= {item.split(" as ")[-1] for item in found.group(1).split(", ")}
+
     def named_in(self, definition):
         """Returns the definitions, each with its file, that the lines of one name."""
         words = set()
@@ -108,6 +118,8 @@ def believed():
         file, name = left.pop()
         if file not in files:
             files[file] = File(file)
+        if name in files[file].declared:
+            continue
         home = files[file].members.get(name)
         if home is None:
             operator = [it for it in files[file].members if it.replace("◌", "") == name]

@@ -1,8 +1,7 @@
 // A forall as the rules on its body see it: its variables, its reduce variables, and how many scopes are open around it.
 // specs/View.antt gives what it stands for.
 
-ghost use Rattle.std.specs.Prelude.{◌≡◌, map, option_map};
-ghost use Rattle.dpl_tree.specs.Words.{op_view, assign_view};
+ghost use Rattle.std.specs.Prelude.{◌≡◌, map};
 ghost use Rattle.dpl_tree.specs.Declarations.{optional};
 ghost use Rattle.dpl_tree.specs.Statements.{intent_view, next_intent_view, with_view, next_name_view};
 ghost use Rattle.dpl_language.specs.Tree.{SetAdd, SetMultiply};
@@ -36,7 +35,7 @@ pub struct Turns<'t> {
 
 // Whether `+=` goes on with an operator.
 fn is_sum(op: Op) -> bool
-    ensures { result ≡ goes_on_of SetAdd (op_view op) }
+    ensures { result ≡ goes_on_of SetAdd op }
 {
     match op {
         Op::Sum => true,
@@ -53,7 +52,7 @@ fn is_sum(op: Op) -> bool
 
 // Whether `*=` goes on with an operator.
 fn is_product(op: Op) -> bool
-    ensures { result ≡ goes_on_of SetMultiply (op_view op) }
+    ensures { result ≡ goes_on_of SetMultiply op }
 {
     match op {
         Op::Product => true,
@@ -70,7 +69,7 @@ fn is_product(op: Op) -> bool
 
 // Whether an assignment goes on with an operator: `reduce=` with every one.
 fn goes_on(sign: Assign, op: Op) -> bool
-    ensures { result ≡ goes_on_of (assign_view sign) (op_view op) }
+    ensures { result ≡ goes_on_of sign op }
 {
     match sign {
         Assign::SetReduce => true,
@@ -92,7 +91,7 @@ fn is_scalar_or_domain(found: Option<ValueType<'_>>) -> bool
 
 // The operator by which an intent reduces a name.
 fn intent_operator(intent: &Intent<'_>, name: &[u8]) -> Option<Op>
-    ensures { option_map op_view result ≡ intent_operator_of (intent_view intent.now) name.now }
+    ensures { result ≡ intent_operator_of (intent_view intent.now) name.now }
 {
     match intent {
         Intent::Reduce(_, op, _, variable) => if name == variable.text {
@@ -107,7 +106,7 @@ fn intent_operator(intent: &Intent<'_>, name: &[u8]) -> Option<Op>
 // The operator by which the first of further intents reduces a name.
 #[tactic(auto, using(crate::proofs::Intents::next_operator_first))]
 fn next_operator(others: &[NextIntent<'_>], name: &[u8]) -> Option<Op>
-    ensures { option_map op_view result ≡ next_operator_of (map next_intent_view others.now) name.now }
+    ensures { result ≡ next_operator_of (map next_intent_view others.now) name.now }
 {
     for next in others {
         if let Some(op) = intent_operator(&next.intent, name) {
@@ -120,7 +119,7 @@ fn next_operator(others: &[NextIntent<'_>], name: &[u8]) -> Option<Op>
 // The operator by which the first intent that names a name reduces it.
 #[tactic(auto, using(crate::proofs::Intents::operator_of_first))]
 fn operator(with: &Option<With<'_>>, name: &[u8]) -> Option<Op>
-    ensures { option_map op_view result ≡ operator_of (intents_of (optional with_view with.now)) name.now }
+    ensures { result ≡ operator_of (intents_of (optional with_view with.now)) name.now }
 {
     match with {
         None => None,
@@ -204,7 +203,7 @@ impl<'t> Turns<'t> {
     // Whether an assignment goes on with the operator of the intent that names the name.
     #[tactic(auto, using(crate::proofs::Intents::goes_on_in_operator))]
     fn goes_on_in(&self, declared: Declared<'_>, sign: Assign) -> bool
-        ensures { result ≡ goes_on_in_of (turns_view self.now).reducing.variables (declared_view declared.entry).origin.name (assign_view sign) }
+        ensures { result ≡ goes_on_in_of (turns_view self.now).reducing.variables (declared_view declared.entry).origin.name sign }
     {
         match operator(&self.with, declared.origin.name) {
             None => false,
@@ -215,7 +214,7 @@ impl<'t> Turns<'t> {
     /// Whether a name may be so assigned: it isn't outer, or is no scalar, locale or domain, or the assignment goes on with
     /// its intent.
     pub fn may_change(&self, declared: Declared<'_>, sign: Assign) -> bool
-        ensures { result ≡ may_change_of (turns_view self.now) (declared_view declared.entry) (assign_view sign) }
+        ensures { result ≡ may_change_of (turns_view self.now) (declared_view declared.entry) sign }
     {
         !self.is_outer(declared)
             || !is_scalar_or_domain(declared.value_type)

@@ -1,7 +1,6 @@
 -- The deeds that those in memory stand for.
 -- What is subtracted from a name is added to it with the other sign.
 use Rattle.std.specs.Prelude.{◌≡◌, neg_ℤ, List, ◌++◌, map}
-use Rattle.dpl_tree.specs.Words.{assign_view}
 use Rattle.dpl_scopes.specs.View.{declared_view}
 use Rattle.dpl_rules.specs.Deeds.{IndexPart, AtName, Shifted, Elsewhere, Holding, APrint, AForall, ACoforall, AReduction, AnInnerReduction, ACellCall, AnOn, AHere, ADeclaration, AReduceIntent, Deed, Reads, ReadsAt, Writes, WritesAt, Holds}
 use Rattle.dpl_deeds.specs.declared.deed.IndexPart.{IndexPart as IndexNode}
@@ -32,8 +31,8 @@ holding_view holding.ReduceIntent = AReduceIntent
 abbrev pub deed_view : DeedNode → Deed
 deed_view (deed.Reads at d) = Reads at (declared_view d)
 deed_view (deed.ReadsAt at d is) = ReadsAt at (declared_view d) (map index_view is.now)
-deed_view (deed.Writes at d op) = Writes at (declared_view d) (assign_view op)
-deed_view (deed.WritesAt at d is op) = WritesAt at (declared_view d) (map index_view is.now) (assign_view op)
+deed_view (deed.Writes at d op) = Writes at (declared_view d) op
+deed_view (deed.WritesAt at d is op) = WritesAt at (declared_view d) (map index_view is.now) op
 deed_view (deed.Holds at h) = Holds at (holding_view h)
 
 -- a list of deeds, behind those that stood there before

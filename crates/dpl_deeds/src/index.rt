@@ -2,7 +2,6 @@
 // Brackets round an index change nothing; inside it they do.
 
 ghost use Rattle.std.specs.Prelude.{◌≡◌, ◌++◌, IfOk, map, option_map, option_and_then};
-ghost use Rattle.dpl_tree.specs.Words.{infix_view};
 ghost use Rattle.dpl_tree.specs.View.{expr_view, item_view, items_view, exprs_view, links_of, more_items_of, more_exprs_of};
 ghost use Rattle.dpl_language.specs.Tree.{Chain as ChainTree};
 ghost use Rattle.dpl_language.specs.Phrases.{bare_name};
@@ -43,7 +42,7 @@ fn literal(e: &Expr<'_>) -> Option<i64>
 
 // A name, and what stands behind it: an operator and perhaps a number.
 fn shifted<'t>(declared: Declared<'t>, op: Infix, number: Option<i64>) -> IndexPart<'t>
-    ensures { index_view result ≡ shifted_by (Some (declared_view declared.entry)) (option_and_then (added_by (infix_view op)) number) }
+    ensures { index_view result ≡ shifted_by (Some (declared_view declared.entry)) (option_and_then (added_by op) number) }
 {
     match number {
         None => IndexPart::Elsewhere,
@@ -75,7 +74,7 @@ fn declared<'t>(scopes: &Scopes<'t>, e: &Expr<'_>) -> Option<Declared<'t>>
 // Two operands and what stands between them, as an index.
 fn linked<'t>(scopes: &Scopes<'t>, first: &Expr<'_>, link: &Link<'_>) -> IndexPart<'t>
     ensures { index_view result ≡ shifted_by (name_declared scopes.now (bare_name (expr_view first.now)))
-        (option_and_then (added_by (infix_view link.now.op)) (literal_of (expr_view link.now.right.now))) }
+        (option_and_then (added_by link.now.op) (literal_of (expr_view link.now.right.now))) }
 {
     match declared(scopes, first) {
         None => IndexPart::Elsewhere,

@@ -2,7 +2,6 @@
 // The statements in it aren't among these.
 
 ghost use Rattle.std.specs.Prelude.{◌≡◌, OnOk, map, option_map};
-ghost use Rattle.dpl_tree.specs.Words.{assign_view};
 ghost use Rattle.dpl_tree.specs.View.{name_view, exprs_view};
 ghost use Rattle.dpl_tree.specs.Declarations.{optional};
 ghost use Rattle.dpl_tree.specs.Statements.{argument_view, next_argument_view, arguments_view, intent_view};
@@ -74,7 +73,7 @@ fn written<'t>(
     op: Assign,
     deeds: &mut Vec<Deed<'t>>,
 ) -> Added
-    ensures { OnOk result (Adds (written_of at (option_map declared_view declared.entry) (assign_view op)) deeds.old.items deeds.new.items) }
+    ensures { OnOk result (Adds (written_of at (option_map declared_view declared.entry) op) deeds.old.items deeds.new.items) }
 {
     match declared {
         None => Ok(()),
@@ -91,8 +90,8 @@ fn element_written<'t>(
     op: Assign,
     deeds: &mut Vec<Deed<'t>>,
 ) -> Added
-    ensures { OnOk result (Adds (element_written_of scopes.now name.now.at (lookup scopes.now name.now.text.now) (exprs_view exprs.now)
-        (assign_view op)) deeds.old.items deeds.new.items) }
+    ensures { OnOk result (Adds (element_written_of scopes.now name.now.at (lookup scopes.now name.now.text.now) (exprs_view exprs.now) op)
+        deeds.old.items deeds.new.items) }
 {
     match scopes.lookup(name.text) {
         None => Ok(()),
@@ -115,7 +114,7 @@ pub fn target_deeds<'t>(
     op: Assign,
     deeds: &mut Vec<Deed<'t>>,
 ) -> Added
-    ensures { OnOk result (Adds (target_deeds_of scopes.now (target_view target.now) (assign_view op)) deeds.old.items deeds.new.items) }
+    ensures { OnOk result (Adds (target_deeds_of scopes.now (target_view target.now) op) deeds.old.items deeds.new.items) }
 {
     match target {
         Target::Whole(name) => written(name.at, scopes.lookup(name.text), op, deeds),

@@ -12,7 +12,6 @@ ghost use Rattle.dpl_language.specs.Assignments.{change};
 ghost use Rattle.dpl_language.specs.Statements.{exec};
 ghost use Rattle.dpl_lowered.specs.Shapes.{nowhere};
 ghost use Rattle.dpl_memory.specs.Memory.{in_memory};
-ghost use Rattle.dpl_tree.specs.Words.{assign_view};
 ghost use Rattle.dpl_nodes.specs.Typed.{int_view, truth_view, index_exprs};
 ghost use Rattle.dpl_frame.specs.Faults.{Tells};
 ghost use Rattle.dpl_nodes.specs.Steps.{array_leaf, element_set};
@@ -33,7 +32,7 @@ use dpl_values::{coordinate_value, index_value, int_value, truth_value};
 /// Whether an operator divides.
 #[inline(always)]
 pub(crate) fn divides(op: Assign) -> bool
-    ensures { result ≡ assign_divides (assign_view op) }
+    ensures { result ≡ assign_divides op }
 {
     match op {
         Assign::SetDivide | Assign::SetRemainder => true,
@@ -48,8 +47,8 @@ pub(crate) fn divides(op: Assign) -> bool
 /// What an operator makes of an element. Outside foralls, and of an element always, `reduce=` is `=`.
 #[inline(always)]
 pub(crate) fn assigned(op: Assign, old: i64, value: i64) -> i64
-    requires { assign_divides (assign_view op) ≡ true → value ≢ pos 0 }
-    ensures { Int result ≡ assigned (assign_view op) None (Int old) (Int value) }
+    requires { assign_divides op ≡ true → value ≢ pos 0 }
+    ensures { Int result ≡ assigned op None (Int old) (Int value) }
 {
     match op {
         Assign::Set | Assign::SetReduce => value,
@@ -64,8 +63,8 @@ pub(crate) fn assigned(op: Assign, old: i64, value: i64) -> i64
 /// Whether an operator has no use for the old value.
 #[inline(always)]
 pub(crate) fn replaces(op: Assign) -> bool
-    ensures value { (result ≡ true) → (old new : Value) → assigned (assign_view op) None old new ≡ new }
-    ensures divides { (result ≡ true) → assign_divides (assign_view op) ≡ false }
+    ensures value { (result ≡ true) → (old new : Value) → assigned op None old new ≡ new }
+    ensures divides { (result ≡ true) → assign_divides op ≡ false }
 {
     match op {
         Assign::Set | Assign::SetReduce => true,
@@ -106,7 +105,7 @@ fn combine(
     value: i64,
     frame: &mut Frame<'_>,
 ) -> Result<(), Trap>
-    ensures ends { (done : Deeds) → change frame.old.limits in_memory (array_leaf IntKind name.now) (signed (assign_view op) sign.now) index (Int value) frame.old.memory done ≡ ends_as (memory_after result frame.new.memory) done }
+    ensures ends { (done : Deeds) → change frame.old.limits in_memory (array_leaf IntKind name.now) (signed op sign.now) index (Int value) frame.old.memory done ≡ ends_as (memory_after result frame.new.memory) done }
     ensures limits { frame.new.limits ≡ frame.old.limits }
 {
     let Some(old) = frame.element(name.slot, index) else {
@@ -131,7 +130,7 @@ pub(crate) fn change(
     value: i64,
     frame: &mut Frame<'_>,
 ) -> Result<(), Trap>
-    ensures ends { (done : Deeds) → change frame.old.limits in_memory (array_leaf IntKind name.now) (signed (assign_view op) sign.now) index (Int value) frame.old.memory done ≡ ends_as (memory_after result frame.new.memory) done }
+    ensures ends { (done : Deeds) → change frame.old.limits in_memory (array_leaf IntKind name.now) (signed op sign.now) index (Int value) frame.old.memory done ≡ ends_as (memory_after result frame.new.memory) done }
     ensures limits { frame.new.limits ≡ frame.old.limits }
 {
     if replaces(op) {
@@ -237,7 +236,7 @@ pub fn set_element<G: Gate>(
     frame: &mut Frame<'_>,
     gate: &G,
 ) -> Result<(), Stop>
-    ensures ends { (done : Deeds) → RunsTo (MayRefuseSome (G.may_refuse gate.now)) result frame.new.memory done (exec frame.old.limits in_memory (element_set (array_leaf IntKind name.now) t.now (assign_view op) sign.now (int_view e.now)) frame.old.memory done) }
+    ensures ends { (done : Deeds) → RunsTo (MayRefuseSome (G.may_refuse gate.now)) result frame.new.memory done (exec frame.old.limits in_memory (element_set (array_leaf IntKind name.now) t.now op sign.now (int_view e.now)) frame.old.memory done) }
     ensures limits { frame.new.limits ≡ frame.old.limits }
 {
     let value = int_value(e, frame, gate)?;

@@ -6,7 +6,6 @@ ghost use Rattle.dpl_array.specs.Elements.{behind};
 ghost use Rattle.dpl_language.specs.Values.{Int};
 ghost use Rattle.dpl_language.specs.Arithmetic.{assigned, assign_divides};
 ghost use Rattle.dpl_memory.specs.Memory.{Held, array_at, held_at};
-ghost use Rattle.dpl_tree.specs.Words.{assign_view};
 ghost use Rattle.dpl_frame.specs.Frames.{with_memory};
 ghost use Rattle.dpl_elements.specs.Changes.{signed};
 ghost use Rattle.dpl_elements.specs.Rows.{ArePut};
@@ -21,8 +20,8 @@ use dpl_tree::Assign;
 // What an operator makes of elements that stand side by side and of ints for them; nothing of an operator that divides.
 fn changed(name: &ArrayName<'_>, op: Assign, at: Index, strip: Strip, frame: &Frame<'_>) -> Strip
     ensures size { result.size ≤ strip.size }
-    ensures divides { 0 < result.size → assign_divides (assign_view op) ≡ false }
-    ensures words { (k : ℕ) (old : ℤ) → k < result.size → k < 64 → held_at (behind k at) (array_at name.now.slot frame.now.memory) ≡ Some old → assigned (assign_view op) None (Int old) (Int (get_or strip.words k (pos 0))) ≡ Int (get_or result.words k (pos 0)) }
+    ensures divides { 0 < result.size → assign_divides op ≡ false }
+    ensures words { (k : ℕ) (old : ℤ) → k < result.size → k < 64 → held_at (behind k at) (array_at name.now.slot frame.now.memory) ≡ Some old → assigned op None (Int old) (Int (get_or strip.words k (pos 0))) ≡ Int (get_or result.words k (pos 0)) }
 {
     if replaces(op) {
         return strip;
@@ -56,7 +55,7 @@ pub fn put_row(
     ensures most { result ≤ most }
     ensures strip { result ≤ strip.size }
     ensures cap { result ≤ 64 }
-    ensures put { (arrays : List Held) × (frame.new ≡ with_memory (record frame.old.memory { arrays = arrays }) frame.old) × ArePut frame.old.limits name.now (signed (assign_view op) sign.now) at strip result frame.old.memory.arrays arrays }
+    ensures put { (arrays : List Held) × (frame.new ≡ with_memory (record frame.old.memory { arrays = arrays }) frame.old) × ArePut frame.old.limits name.now (signed op sign.now) at strip result frame.old.memory.arrays arrays }
 {
     // Nothing is read here: that an index has coordinates is a clause of this call.
     let _ = at.rank();

@@ -13,7 +13,6 @@ ghost use Rattle.dpl_language.specs.Assignments.{change};
 ghost use Rattle.dpl_language.specs.Statements.{exec};
 ghost use Rattle.dpl_lowered.specs.LoweredExpressions.{EachTurn};
 ghost use Rattle.dpl_memory.specs.Memory.{in_memory};
-ghost use Rattle.dpl_tree.specs.Words.{assign_view};
 ghost use Rattle.dpl_nodes.specs.Typed.{promoted_int, promoted_truth};
 ghost use Rattle.dpl_nodes.specs.Steps.{array_leaf, whole_set};
 ghost use Rattle.dpl_elements.specs.Changes.{signed};
@@ -47,7 +46,7 @@ struct Fill<'e> {
 }
 
 impl<'e, 't> Turns<Frame<'t>> for Fill<'e> {
-    ghost turn = { λ c limits t. change limits in_memory (array_leaf IntKind c.name.now) (signed (assign_view c.op) c.sign.now) t (Int c.value) };
+    ghost turn = { λ c limits t. change limits in_memory (array_leaf IntKind c.name.now) (signed c.op c.sign.now) t (Int c.value) };
 
     #[inline(always)]
     fn make(&self, index: Index, frame: &mut Frame<'t>) -> Result<(), Stop> {
@@ -70,7 +69,7 @@ struct Promote<'e, 'x> {
 }
 
 impl<'e, 'x, 't> Turns<Frame<'t>> for Promote<'e, 'x> {
-    ghost turn = { λ c limits t s done. with_value (value_of limits in_memory (promoted_int EachTurn c.e.now) (Some t) s) (change limits in_memory (array_leaf IntKind c.name.now) (signed (assign_view c.op) c.sign.now) t) s done };
+    ghost turn = { λ c limits t s done. with_value (value_of limits in_memory (promoted_int EachTurn c.e.now) (Some t) s) (change limits in_memory (array_leaf IntKind c.name.now) (signed c.op c.sign.now) t) s done };
 
     #[inline(always)]
     fn make(&self, index: Index, frame: &mut Frame<'t>) -> Result<(), Stop> {
@@ -149,7 +148,7 @@ fn set_once<'t, G: Gate>(
 ) -> Result<(), Stop>
     requires { whole_in frame.old.limits in_memory (promoted_int EachTurn e.now) frame.old.memory ≡ None }
     ensures ends { (done : Deeds) → RunsTo (MayRefuse (G.may_refuse gate.now) (owned_by frame.old name.now.slot) domain ⊎ MayRefuseReduction (G.may_refuse gate.now) frame.old (EachInInts e.now)) result frame.new.memory done
-        (array_set frame.old.limits IntKind name.now (assign_view op) sign.now (promoted_int EachTurn e.now) domain None frame.old.memory done) }
+        (array_set frame.old.limits IntKind name.now op sign.now (promoted_int EachTurn e.now) domain None frame.old.memory done) }
     ensures limits { frame.new.limits ≡ frame.old.limits }
 {
     let value = promoted_int_value(e, &coordinate(0), frame, gate)?;
@@ -192,7 +191,7 @@ fn set_each<'t, G: Gate>(
     gate: &G,
 ) -> Result<(), Stop>
     ensures ends { (arrays : List TextRange) (done : Deeds) → RunsTo (MayRefuse (G.may_refuse gate.now) (owned_by frame.old name.now.slot) domain) result frame.new.memory done
-        (array_set frame.old.limits IntKind name.now (assign_view op) sign.now (promoted_int EachTurn e.now) domain (Some arrays) frame.old.memory done) }
+        (array_set frame.old.limits IntKind name.now op sign.now (promoted_int EachTurn e.now) domain (Some arrays) frame.old.memory done) }
     ensures limits { frame.new.limits ≡ frame.old.limits }
 {
     let turns = Promote { name, op, sign, e };
@@ -232,7 +231,7 @@ pub fn set_array<'t, G: Gate>(
     gate: &G,
 ) -> Result<(), Stop>
     ensures ends { (done : Deeds) → RunsTo (MayRefuseWhole (G.may_refuse gate.now) frame.old name.now.slot (EachInInts e.now)) result frame.new.memory done
-        (exec frame.old.limits in_memory (whole_set (array_leaf IntKind name.now) (assign_view op) sign.now (promoted_int EachTurn e.now)) frame.old.memory done) }
+        (exec frame.old.limits in_memory (whole_set (array_leaf IntKind name.now) op sign.now (promoted_int EachTurn e.now)) frame.old.memory done) }
     ensures limits { frame.new.limits ≡ frame.old.limits }
 {
     let domain = frame.array_domain(name.slot);

@@ -11,7 +11,6 @@ use Rattle.dpl_tree.specs.declared.expression.Post.{Post as PostNode}
 use Rattle.dpl_tree.specs.declared.expression.NextItem.{NextItem as NextItemNode}
 use Rattle.dpl_tree.specs.declared.expression.NextExpr.{NextExpr as NextExprNode}
 use Rattle.dpl_language.specs.Tree.{Link, Post, NextItem, NextExpr, Chain, Postfixed, One}
-use Rattle.dpl_tree.specs.Words.{infix_view}
 use Rattle.dpl_tree.specs.View.{expr_view, item_view, post_view, next_expr_view, links_of, posts_of, more_items_of, more_exprs_of}
 use Rattle.dpl_spelling.specs.Nested.{Expression}
 use Rattle.dpl_spelling.specs.Expressions as rule
@@ -20,7 +19,7 @@ use Rattle.dpl_expressions.specs.Levels.{further_view, next_item_view}
 
 pub links_of_nodes : (ls : List LinkNode) → links_of ls ≡ rule.links_of (map further_view ls)
 links_of_nodes [] = refl
-links_of_nodes (l ∷ ls) = ap (Link l.at (infix_view l.op) (expr_view l.right.now)) (links_of_nodes ls)
+links_of_nodes (l ∷ ls) = ap (Link l.at l.op (expr_view l.right.now)) (links_of_nodes ls)
 
 pub posts_of_nodes : (ps : List PostNode) → posts_of ps ≡ rule.posts_of (map post_view ps)
 posts_of_nodes [] = refl
@@ -52,9 +51,9 @@ pub no_links : (ls : List LinkNode) → length ls < 1 → are_in_sum (links_of l
 no_links [] h = refl
 no_links (l ∷ ls) h = absurd (omega arith)
 
-pub first_link : (ls : List LinkNode) (k : LinkNode) (t : Bool) → 1 ≤ length ls → k ≡ get_or ls 0 k → t ≡ is_in_sum (infix_view k.op) → are_in_sum (links_of ls) ≡ t
+pub first_link : (ls : List LinkNode) (k : LinkNode) (t : Bool) → 1 ≤ length ls → k ≡ get_or ls 0 k → t ≡ is_in_sum k.op → are_in_sum (links_of ls) ≡ t
 first_link [] k t h e is = absurd (omega arith)
-first_link (l ∷ ls) k t h e is = ap (λ (x : LinkNode). is_in_sum (infix_view x.op)) (sym e) ∙ sym is
+first_link (l ∷ ls) k t h e is = ap (λ (x : LinkNode). is_in_sum x.op) (sym e) ∙ sym is
 
 pub after_first_chain : (e : ExprNode) (b : Bor ChainNode) (v : ChainNode) (ls : List LinkNode) → e ≡ ChainExpr b → v ≡ b.now → ls ≡ (out-Chain v).links.now → (t : Bool) → are_in_sum (links_of ls) ≡ t
     → after_first (expr_view e) ≡ cond t (Begun (expr_view e)) (Whole (One (expr_view e)))

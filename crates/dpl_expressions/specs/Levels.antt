@@ -1,9 +1,8 @@
 -- The levels of operators between operands, as the parser's one function for chains takes them.
 -- Nothing of the grammar is defined here: each level names its rules.
 use Rattle.dpl_syntax.specs.declared.place.Place.{Place}
-use Rattle.dpl_language.specs.Tree.{AfterComma, Infix}
+use Rattle.dpl_language.specs.Tree.{AfterComma, Infix, Op, Sum as SumOf, Product, AllOf, AnyOf, BitAnd, BitOr, BitXor, Least, Greatest, ReadWord, ReadFEWord, ReadFFWord}
 use Rattle.dpl_tree.specs.declared.expression.Link.{Link}
-use Rattle.dpl_tree.specs.Words.{infix_view}
 use Rattle.dpl_tree.specs.declared.expression.NextItem.{NextItem}
 use Rattle.dpl_tree.specs.View.{expr_view, item_view}
 use Rattle.dpl_expressions.specs.declared.level.Level.{Level}
@@ -11,11 +10,7 @@ use Rattle.dpl_expressions.specs.declared.level.Level.TheVariants.{Sum, Relation
 use Rattle.dpl_syntax.specs.declared.token.Keyword.TheVariants.{Min, Max}
 use Rattle.dpl_syntax.specs.declared.token.Sign.TheVariants as sign_of
 use Rattle.dpl_syntax.specs.declared.token.Contextual.TheVariants as contextual_of
-use Rattle.dpl_tree.specs.declared.operator.ReadWord.{ReadWord}
-use Rattle.dpl_tree.specs.declared.operator.ReadWord.TheVariants.{ReadFE, ReadFF}
 use Rattle.dpl_grammar.specs.Classes.{Class, sign, keyword, contextual}
-use Rattle.dpl_tree.specs.declared.operator.Op.{Op}
-use Rattle.dpl_tree.specs.declared.operator.Op.TheVariants as op_of
 use Rattle.dpl_spelling.specs.Nested.{Expression, Item, Rule}
 use Rattle.dpl_spelling.specs.Expressions.{Further, further, base, neg, sum, relation, equality, conjunction, expression_from, sum_operator, relation_operator, equality_operator, and_operator, or_operator}
 
@@ -49,19 +44,19 @@ further_rule level = further (operator_rule level) (operand_rule level base)
 
 -- a link of the tree, as it is spelled
 abbrev pub further_view : Link → Further
-further_view l = record { at = l.at; op = infix_view l.op; right = expr_view l.right.now }
+further_view l = record { at = l.at; op = l.op; right = expr_view l.right.now }
 
 -- the token of a reduction's operator
 abbrev pub op_class : Op → Class
-op_class op_of.Sum = sign sign_of.Plus
-op_class op_of.Product = sign sign_of.Star
-op_class op_of.AllOf = sign sign_of.AndAnd
-op_class op_of.AnyOf = sign sign_of.OrOr
-op_class op_of.BitAnd = sign sign_of.And
-op_class op_of.BitOr = sign sign_of.Or
-op_class op_of.BitXor = sign sign_of.Caret
-op_class op_of.Least = keyword Min
-op_class op_of.Greatest = keyword Max
+op_class SumOf = sign sign_of.Plus
+op_class Product = sign sign_of.Star
+op_class AllOf = sign sign_of.AndAnd
+op_class AnyOf = sign sign_of.OrOr
+op_class BitAnd = sign sign_of.And
+op_class BitOr = sign sign_of.Or
+op_class BitXor = sign sign_of.Caret
+op_class Least = keyword Min
+op_class Greatest = keyword Max
 
 -- a comma and the item behind it, as they are spelled
 abbrev pub next_item_view : NextItem → AfterComma Item
@@ -69,5 +64,5 @@ next_item_view n = record { comma = n.comma; part = item_view n.item }
 
 -- the word of a method that reads a cell
 abbrev pub read_class : ReadWord → Class
-read_class ReadFE = contextual contextual_of.ReadFE
-read_class ReadFF = contextual contextual_of.ReadFF
+read_class ReadFEWord = contextual contextual_of.ReadFE
+read_class ReadFFWord = contextual contextual_of.ReadFF

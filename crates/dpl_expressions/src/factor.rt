@@ -7,7 +7,6 @@ ghost use Rattle.dpl_grammar.specs.Reader.{next_in};
 ghost use Rattle.dpl_grammar.specs.Rule.{run};
 ghost use Rattle.dpl_grammar.specs.Reading.{first_late};
 ghost use Rattle.dpl_tree.specs.View.{expr_view};
-ghost use Rattle.dpl_tree.specs.Words.{infix_view};
 ghost use Rattle.dpl_spelling.specs.Expressions.{factor as factor_rule, base as base_rule, not as not_rule, is_negated, further_factor};
 ghost use Rattle.dpl_spelling.specs.Expressions.{product_operator as product_operator_rule, product as product_rule, negated as negated_rule};
 ghost use Rattle.dpl_spelling.specs.Expressions.{neg as neg_rule};
@@ -74,7 +73,7 @@ fn is_product_operator(tokens: Tokens<'_>) -> bool
 
 /// mulop = "*" | "/" | "%"
 fn product_operator(room: u32, tokens: Tokens<'_>) -> Parsed<'_, (Place, Infix)>
-    ensures gives { Gives (λ x. ((x.0.0, infix_view x.0.1), x.1.now)) result (at product_operator_rule room tokens.now) }
+    ensures gives { Gives (λ x. (x.0, x.1.now)) result (at product_operator_rule room tokens.now) }
     ensures shorter { IfOk result (λ x. length x.1.now < length tokens.now) }
 {
     if is_sign(tokens, Sign::Star) {

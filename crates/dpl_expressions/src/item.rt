@@ -8,7 +8,6 @@ ghost use Rattle.dpl_grammar.specs.Rule.{Whole, Begun};
 ghost use Rattle.dpl_grammar.specs.Reading.{first};
 ghost use Rattle.dpl_tree.specs.View.{expr_view, item_view, stride_view};
 ghost use Rattle.dpl_language.specs.Tree.{One};
-ghost use Rattle.dpl_tree.specs.Words.{infix_view, dots_view};
 ghost use Rattle.dpl_spelling.specs.Expressions.{after_first, is_in_sum, item as item_rule, range_end as range_end_rule, range_dots as range_dots_rule};
 ghost use Rattle.dpl_spelling.specs.Expressions.{stride as stride_rule};
 ghost use Rattle.dpl_spelling.specs.Reading.{at};
@@ -57,7 +56,7 @@ fn begins_range_end(tokens: Tokens<'_>) -> bool
 /// ".." | ".." "#" | "..<"
 #[tactic(auto, unfolding(dpl_spelling::specs::Expressions::range_dots))]
 fn range_dots(room: u32, tokens: Tokens<'_>) -> Parsed<'_, (Place, Dots)>
-    ensures gives { Gives (λ x. ((x.0.0, dots_view x.0.1), x.1.now)) result (at range_dots_rule room tokens.now) }
+    ensures gives { Gives (λ x. (x.0, x.1.now)) result (at range_dots_rule room tokens.now) }
     ensures shorter { IfOk result (λ x. length x.1.now < length tokens.now) }
 {
     if !is_sign(tokens, Sign::DotDot) {
@@ -101,7 +100,7 @@ fn is_sum(expr: &Expr<'_>) -> bool
 
 /// Whether the operator stands between sums' own operands.
 fn is_in_sum(op: Infix) -> bool
-    ensures { result ≡ is_in_sum (infix_view op) }
+    ensures { result ≡ is_in_sum op }
 {
     matches!(
         op,

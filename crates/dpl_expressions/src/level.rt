@@ -5,7 +5,6 @@ ghost use Rattle.std.specs.Prelude.{◌≡◌, ◌<◌, length, IfOk};
 ghost use Rattle.dpl_grammar.specs.Gives.{Gives};
 ghost use Rattle.dpl_grammar.specs.Reader.{next_in};
 ghost use Rattle.dpl_grammar.specs.Reading.{first};
-ghost use Rattle.dpl_tree.specs.Words.{infix_view};
 ghost use Rattle.dpl_spelling.specs.Reading.{at};
 ghost use Rattle.dpl_expressions.specs.Levels.{operator_rule, further_rule};
 
@@ -50,7 +49,7 @@ impl Level {
 
     /// An operator of the level, with its place.
     pub fn operator(self, room: u32, tokens: Tokens<'_>) -> Parsed<'_, (Place, Infix)>
-        ensures gives { Gives (λ x. ((x.0.0, infix_view x.0.1), x.1.now)) result (at (operator_rule self) room tokens.now) }
+        ensures gives { Gives (λ x. (x.0, x.1.now)) result (at (operator_rule self) room tokens.now) }
         ensures shorter { IfOk result (λ x. length x.1.now < length tokens.now) }
     {
         match self {

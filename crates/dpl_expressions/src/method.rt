@@ -4,7 +4,6 @@
 ghost use Rattle.std.specs.Prelude.{◌<◌, length, IfOk};
 ghost use Rattle.dpl_grammar.specs.Gives.{Gives};
 ghost use Rattle.dpl_tree.specs.View.{method_view};
-ghost use Rattle.dpl_tree.specs.Words.{read_view};
 ghost use Rattle.dpl_spelling.specs.Expressions.{method as method_rule, dim as dim_rule, contains as contains_rule, expand as expand_rule};
 ghost use Rattle.dpl_spelling.specs.Expressions.{plain_methods, cell_read as cell_read_rule};
 ghost use Rattle.dpl_spelling.specs.Reading.{at};
@@ -124,7 +123,7 @@ fn expand<'t>(arena: Arena<'t>, room: u32, tokens: Tokens<'t>) -> Parsed<'t, Met
 
 /// "readFE" "(" ")" or "readFF" "(" ")"
 fn cell_read<'t>(room: u32, word: ReadWord, tokens: Tokens<'t>) -> Parsed<'t, Method<'t>>
-    ensures gives { Gives (λ x. (method_view x.0, x.1.now)) result (at (cell_read_rule (read_class word) (read_view word)) room tokens.now) }
+    ensures gives { Gives (λ x. (method_view x.0, x.1.now)) result (at (cell_read_rule (read_class word) word) room tokens.now) }
     ensures shorter { IfOk result (λ x. length x.1.now < length tokens.now) }
 {
     let wanted = match word {

@@ -7,7 +7,6 @@ ghost use Rattle.dpl_grammar.specs.Reader.{next_in};
 ghost use Rattle.dpl_grammar.specs.Rule.{below};
 ghost use Rattle.dpl_grammar.specs.Reading.{first};
 ghost use Rattle.dpl_tree.specs.View.{expr_view};
-ghost use Rattle.dpl_tree.specs.Words.{op_view};
 ghost use Rattle.dpl_spelling.specs.Expressions.{base as base_rule, reduction_by, reduction as reduction_rule, red as red_rule};
 ghost use Rattle.dpl_spelling.specs.Reading.{at, deeper_at};
 ghost use Rattle.dpl_expressions.specs.Levels.{op_class};
@@ -80,7 +79,7 @@ fn reduction<'t>(arena: Arena<'t>, room: u32, tokens: Tokens<'t>) -> Parsed<'t, 
 #[cycle(expression)]
 #[tactic(auto, using(dpl_spelling::proofs::Below::below_red))]
 fn reduced<'t>(arena: Arena<'t>, room: u32, op: Op, tokens: Tokens<'t>) -> Parsed<'t, &'t Expr<'t>>
-    ensures gives { Gives (λ x. (expr_view x.0.now, x.1.now)) result (at (reduction_by (op_class op) (op_view op)) room tokens.now) }
+    ensures gives { Gives (λ x. (expr_view x.0.now, x.1.now)) result (at (reduction_by (op_class op) op) room tokens.now) }
     ensures shorter { IfOk result (λ x. length x.1.now < length tokens.now) }
 {
     let (next, room, rest) = deeper_by(room, op, tokens)?;

@@ -5,7 +5,6 @@ ghost use Rattle.std.specs.Prelude.{◌≡◌, ◌<◌, length, IfOk};
 ghost use Rattle.dpl_grammar.specs.Classes.{keyword};
 ghost use Rattle.dpl_grammar.specs.Reader.{means_at};
 ghost use Rattle.dpl_grammar.specs.Gives.{Gives};
-ghost use Rattle.dpl_tree.specs.Words.{kind_view, create_view, op_view};
 ghost use Rattle.dpl_spelling.specs.Declarations.{scalar_kind as scalar_kind_rule, create_word as create_word_rule};
 ghost use Rattle.dpl_spelling.specs.Statements.{write_word as write_word_rule, reduce_operator as reduce_operator_rule};
 ghost use Rattle.dpl_spelling.specs.Reading.{at};
@@ -25,7 +24,7 @@ pub fn word_means<T: Copy>(wanted: Keyword, value: T, tokens: Tokens<'_>) -> Par
 
 /// "int" | "bool"
 pub fn scalar_kind(tokens: Tokens<'_>) -> Parsed<'_, (Place, ScalarKind)>
-    ensures gives { Gives (λ x. ((x.0.0, kind_view x.0.1), x.1.now)) result (at scalar_kind_rule 0 tokens.now) }
+    ensures gives { Gives (λ x. (x.0, x.1.now)) result (at scalar_kind_rule 0 tokens.now) }
     ensures shorter { IfOk result (λ x. length x.1.now < length tokens.now) }
 {
     if is_keyword(tokens, Keyword::Int) {
@@ -37,7 +36,7 @@ pub fn scalar_kind(tokens: Tokens<'_>) -> Parsed<'_, (Place, ScalarKind)>
 
 /// "blockDist" | "cyclicDist"
 pub fn create_word(tokens: Tokens<'_>) -> Parsed<'_, (Place, CreateWord)>
-    ensures gives { Gives (λ x. ((x.0.0, create_view x.0.1), x.1.now)) result (at create_word_rule 0 tokens.now) }
+    ensures gives { Gives (λ x. (x.0, x.1.now)) result (at create_word_rule 0 tokens.now) }
     ensures shorter { IfOk result (λ x. length x.1.now < length tokens.now) }
 {
     if is_keyword(tokens, Keyword::BlockDist) {
@@ -61,7 +60,7 @@ pub fn write_word(tokens: Tokens<'_>) -> Parsed<'_, (Place, bool)>
 
 /// redop = "+" | "*" | "&&" | "||" | "&" | "|" | "^" | "min" | "max"
 pub fn reduce_operator(tokens: Tokens<'_>) -> Parsed<'_, (Place, Op)>
-    ensures gives { Gives (λ x. ((x.0.0, op_view x.0.1), x.1.now)) result (at reduce_operator_rule 0 tokens.now) }
+    ensures gives { Gives (λ x. (x.0, x.1.now)) result (at reduce_operator_rule 0 tokens.now) }
     ensures shorter { IfOk result (λ x. length x.1.now < length tokens.now) }
 {
     if is_sign(tokens, Sign::Plus) {

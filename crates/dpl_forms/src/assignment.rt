@@ -2,7 +2,6 @@
 // C3 stands at the first token of a right side behind `=`, and at the operator behind the others.
 
 ghost use Rattle.std.specs.Prelude.{◌≡◌, ◌++◌, ◌&&◌, Bool, option_map, IfOk, OnOk};
-ghost use Rattle.dpl_tree.specs.Words.{kind_view, assign_view};
 ghost use Rattle.dpl_tree.specs.View.{item_view, exprs_view, name_view};
 ghost use Rattle.dpl_tree.specs.Statements.{target_view, sign_view};
 ghost use Rattle.dpl_rules.specs.Breaches.{least_from};
@@ -82,7 +81,7 @@ pub(crate) fn tell_wanted(want: Want<'_>, part: Part<'_>, first: &mut Option<Bre
 
 // What `+= -= *= /= %=` take, told at the operator: ints, where the target is of ints.
 fn changed(at: Place, side: Part<'_>, kind: ScalarKind, want: Want<'_>, first: &mut Option<Breach>)
-    ensures { first.new ≡ least_from first.old (owed_type (λ t. is_int_kind (kind_view kind) && takes want.entry t) at (of_type side.entry.found)) }
+    ensures { first.new ≡ least_from first.old (owed_type (λ t. is_int_kind kind && takes want.entry t) at (of_type side.entry.found)) }
 {
     let part = Part {
         at,

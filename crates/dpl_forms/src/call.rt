@@ -2,7 +2,6 @@
 // Each is an expression of a wanted type, or a cell.
 
 ghost use Rattle.std.specs.Prelude.{◌≡◌, Bool, Option, option_map, OnOk};
-ghost use Rattle.dpl_tree.specs.Words.{kind_view};
 ghost use Rattle.dpl_tree.specs.View.{expr_view, name_view};
 ghost use Rattle.dpl_tree.specs.Statements.{call_view};
 ghost use Rattle.dpl_rules.specs.Breaches.{least_from};
@@ -71,7 +70,7 @@ fn call_argument<'t>(
     call: &Call<'_>,
     first: &mut Option<Breach>,
 ) -> Result<(), AllocError>
-    ensures { (forall : Option ReducingTree) (in_task : Bool) → OnOk result (first.new ≡ least_from first.old (call_argument_of (sight_of scopes.now forall in_task) (option_map kind_view kind) (call_view call.now))) }
+    ensures { (forall : Option ReducingTree) (in_task : Bool) → OnOk result (first.new ≡ least_from first.old (call_argument_of (sight_of scopes.now forall in_task) kind (call_view call.now))) }
 {
     match call {
         Call::Read(_, _, _, _) | Call::Reset(_, _, _) => Ok(()),

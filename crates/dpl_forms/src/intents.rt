@@ -2,7 +2,6 @@
 // C2 to C4 and C12 stand at the name.
 
 ghost use Rattle.std.specs.Prelude.{◌≡◌, OnOk, option_map};
-ghost use Rattle.dpl_tree.specs.Words.{op_view};
 ghost use Rattle.dpl_tree.specs.Declarations.{optional};
 ghost use Rattle.dpl_tree.specs.Statements.{intent_view, with_view};
 ghost use Rattle.dpl_rules.specs.Breaches.{least_from};
@@ -23,7 +22,7 @@ use std::alloc::{AllocError, Global};
 // A reduce variable: known, no constant, no cell, and of the kind that the operator takes.
 #[tactic(auto, using(dpl_types::proofs::Breaches::least_from_append))]
 fn reduce_intent(op: Op, at: Place, declared: Option<Declared<'_>>, first: &mut Option<Breach>)
-    ensures { first.new ≡ least_from first.old (reduce_intent_of (op_view op) at (option_map declared_view declared.entry)) }
+    ensures { first.new ≡ least_from first.old (reduce_intent_of op at (option_map declared_view declared.entry)) }
 {
     match declared {
         None => note(first, at, Code::UnknownName),

@@ -3,7 +3,6 @@
 
 ghost use Rattle.std.specs.Prelude.{◌≡◌, is_some, option_map, IfOk};
 ghost use Rattle.dpl_language.specs.Phrases.{posts_read, post_read, method_read, bare_name as bare_name_of, cell_read as cell_read_of, item_read};
-ghost use Rattle.dpl_tree.specs.Words.{kind_view};
 ghost use Rattle.dpl_tree.specs.View.{name_view, expr_view, item_view, post_view, posts_of};
 ghost use Rattle.dpl_rules.specs.Sights.{lookup, type_declared};
 ghost use Rattle.dpl_rules.specs.Expressions.{cell_declared, kind_read as kind_read_of, side_part, side_breaches};
@@ -52,7 +51,7 @@ fn is_read(posts: &[Post<'_>]) -> bool
 
 /// The kind of what a name's cell holds, where it is a cell.
 pub fn cell_kind(scopes: &Scopes<'_>, name: &Name<'_>) -> Option<ScalarKind>
-    ensures { option_map kind_view result ≡ cell_declared (type_declared (lookup scopes.now name.now.text.now)) }
+    ensures { result ≡ cell_declared (type_declared (lookup scopes.now name.now.text.now)) }
 {
     scopes.lookup(name.text)?.value_type?.cell()
 }
@@ -60,7 +59,7 @@ pub fn cell_kind(scopes: &Scopes<'_>, name: &Name<'_>) -> Option<ScalarKind>
 // The kind of what the cell holds that an expression reads as a whole.
 #[tactic(auto, using(dpl_tree::proofs::Fields::expr_view_postfixed))]
 fn expr_kind_read(scopes: &Scopes<'_>, e: &Expr<'_>) -> Option<ScalarKind>
-    ensures { option_map kind_view result ≡ kind_read_of scopes.now (cell_read_of (expr_view e.now)) }
+    ensures { result ≡ kind_read_of scopes.now (cell_read_of (expr_view e.now)) }
 {
     match e {
         Expr::Postfixed(postfixed) => {
@@ -87,7 +86,7 @@ fn expr_kind_read(scopes: &Scopes<'_>, e: &Expr<'_>) -> Option<ScalarKind>
 
 // The same of an item.
 fn kind_read(scopes: &Scopes<'_>, item: &Item<'_>) -> Option<ScalarKind>
-    ensures { option_map kind_view result ≡ kind_read_of scopes.now (item_read (item_view item.now)) }
+    ensures { result ≡ kind_read_of scopes.now (item_read (item_view item.now)) }
 {
     match item {
         Item::One(e) => expr_kind_read(scopes, e),

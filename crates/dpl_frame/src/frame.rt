@@ -2,7 +2,6 @@
 // A word is a value of every kind, so that no walk can leave a frame ill typed.
 
 ghost use Rattle.std.specs.Prelude.{◌≡◌, ◌↔◌, ◌<◌, pos, [], ◌∷◌, ◌++◌, get_or, set, map, length, option_map, slice_get, IfOk, IsTrue};
-ghost use Rattle.dpl_tree.specs.Words.{op_view};
 ghost use Rattle.dpl_words.specs.Words.{no_range, intent_at, set_at};
 ghost use Rattle.dpl_memory.specs.Memory.{no_domain, no_tuple, intents_by_slot};
 ghost use Rattle.dpl_contents.specs.Range.{range_word};
@@ -270,7 +269,7 @@ impl<'t, A: Arrays> Frame<'t, A> {
 
     /// The operator of the first reduce variable in a slot.
     pub fn operator(&self, slot: usize) -> Option<Op>
-        ensures { option_map op_view result ≡ intent_at slot self.now.memory.words.intents }
+        ensures { result ≡ intent_at slot self.now.memory.words.intents }
     {
         for intent in self.intents {
             if slot == intent.slot {

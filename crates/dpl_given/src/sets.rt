@@ -1,10 +1,9 @@
 // The words of sets, each with the slot that it is for.
 // A set of a name that isn't in sight, or is no int and no bool, gives nothing; none such fits a program.
 
-ghost use Rattle.std.specs.Prelude.{◌≡◌, ◌++◌, map, option_map, IfOk, OnOk};
+ghost use Rattle.std.specs.Prelude.{◌≡◌, ◌++◌, map, IfOk, OnOk};
 ghost use Rattle.dpl_rules.specs.Sights.{lookup, type_declared};
 ghost use Rattle.dpl_rules.specs.Sound.{name_and_value as name_and_value_of};
-ghost use Rattle.dpl_tree.specs.Words.{kind_view};
 ghost use Rattle.dpl_says.specs.Given.{scalar_by};
 ghost use Rattle.dpl_given.specs.Words.{word_of, word_in, words_in};
 
@@ -15,7 +14,7 @@ use std::alloc::{AllocError, Global};
 
 // The word of a value's text: an int is itself, and `true` is 1.
 fn word_of(kind: ScalarKind, text: &[u8]) -> i64
-    ensures { result ≡ word_of (kind_view kind) text.now }
+    ensures { result ≡ word_of kind text.now }
 {
     match kind {
         ScalarKind::Int => int_in(text).unwrap_or(0),
@@ -25,7 +24,7 @@ fn word_of(kind: ScalarKind, text: &[u8]) -> i64
 
 // The kind of a name's declaration, where it is an int or a bool.
 fn kind_of(scopes: &Scopes<'_>, name: &[u8]) -> Option<ScalarKind>
-    ensures { option_map kind_view result ≡ scalar_by (type_declared (lookup scopes.now name.now)) }
+    ensures { result ≡ scalar_by (type_declared (lookup scopes.now name.now)) }
 {
     scopes.lookup(name)?.value_type?.scalar()
 }

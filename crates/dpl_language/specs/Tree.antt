@@ -2,6 +2,31 @@
 -- N is what stands for a name: its text as it is spelled, or whatever a check puts in its stead.
 use Rattle.std.specs.Prelude.{ℕ, ℤ, Bool, Option, List}
 use Rattle.dpl_syntax.specs.declared.place.Place.{Place}
+-- the operators and words, which `dpl_syntax/src/operator.rt` declares
+pub use Rattle.dpl_syntax.specs.declared.operator.Prefix.{Prefix}
+pub use Rattle.dpl_syntax.specs.declared.operator.Prefix.TheVariants.{Minus, Not}
+pub use Rattle.dpl_syntax.specs.declared.operator.Infix.{Infix}
+pub use Rattle.dpl_syntax.specs.declared.operator.Infix.TheVariants.{Add, Subtract, Multiply, Divide, Remainder, Less, LessEqual, Greater, GreaterEqual, Equal, NotEqual, And, Or}
+pub use Rattle.dpl_syntax.specs.declared.operator.Op.{Op}
+pub use Rattle.dpl_syntax.specs.declared.operator.Op.TheVariants.{Sum, Product, AllOf, AnyOf, BitAnd, BitOr, BitXor, Least, Greatest}
+pub use Rattle.dpl_syntax.specs.declared.operator.Assign.{Assign}
+pub use Rattle.dpl_syntax.specs.declared.operator.Assign.TheVariants.{Set, SetAdd, SetSubtract, SetMultiply, SetDivide, SetRemainder, SetReduce}
+pub use Rattle.dpl_syntax.specs.declared.operator.ScalarKind.{ScalarKind as Kind}
+pub use Rattle.dpl_syntax.specs.declared.operator.ScalarKind.TheVariants.{Int as IntKind, Bool as BoolKind}
+pub use Rattle.dpl_syntax.specs.declared.operator.Dots.{Dots}
+pub use Rattle.dpl_syntax.specs.declared.operator.Dots.TheVariants.{Closed, HalfOpen, Counted}
+pub use Rattle.dpl_syntax.specs.declared.operator.Word.{Word}
+pub use Rattle.dpl_syntax.specs.declared.operator.Word.TheVariants.{Size, First, Last, Low, High, LowBound, DomainOf, Id}
+pub use Rattle.dpl_syntax.specs.declared.operator.ReadWord.{ReadWord}
+pub use Rattle.dpl_syntax.specs.declared.operator.ReadWord.TheVariants.{ReadFE as ReadFEWord, ReadFF as ReadFFWord}
+pub use Rattle.dpl_syntax.specs.declared.operator.WriteWord.{WriteWord}
+pub use Rattle.dpl_syntax.specs.declared.operator.WriteWord.TheVariants.{WriteEF as WriteEFWord, WriteFF as WriteFFWord, WriteXF as WriteXFWord}
+pub use Rattle.dpl_syntax.specs.declared.operator.CreateWord.{CreateWord}
+pub use Rattle.dpl_syntax.specs.declared.operator.CreateWord.TheVariants.{Block as CreateBlock, Cyclic as CreateCyclic}
+pub use Rattle.dpl_syntax.specs.declared.operator.BracketPair.{BracketPair}
+pub use Rattle.dpl_syntax.specs.declared.operator.BracketPair.TheVariants.{Square, Round}
+pub use Rattle.dpl_syntax.specs.declared.operator.Module.{Module}
+pub use Rattle.dpl_syntax.specs.declared.operator.Module.TheVariants.{Block as BlockModule, Cyclic as CyclicModule, BlockCyclic as BlockCyclicModule}
 
 -- a name and its place
 pub record Placed (N : Type 0) : Type 0 where
@@ -18,86 +43,11 @@ pub record Listed (A : Type 0) : Type 0 where
   pub first : A
   pub others : List (AfterComma A)
 
--- the operators that stand before their operand: `-` and `!`
-pub data Prefix : Type 0 where
-  Minus : Prefix
-  Not : Prefix
-
--- the operators that stand between two operands
-pub data Infix : Type 0 where
-  Add : Infix
-  Subtract : Infix
-  Multiply : Infix
-  Divide : Infix
-  Remainder : Infix
-  Less : Infix
-  LessEqual : Infix
-  Greater : Infix
-  GreaterEqual : Infix
-  Equal : Infix
-  NotEqual : Infix
-  And : Infix
-  Or : Infix
-
--- the operators of reductions: `+ * && || & | ^ min max`
-pub data Op : Type 0 where
-  Sum : Op
-  Product : Op
-  AllOf : Op
-  AnyOf : Op
-  BitAnd : Op
-  BitOr : Op
-  BitXor : Op
-  Least : Op
-  Greatest : Op
-
--- the operators of assignments: `= += -= *= /= %=` and `reduce=`
-pub data Assign : Type 0 where
-  Set : Assign
-  SetAdd : Assign
-  SetSubtract : Assign
-  SetMultiply : Assign
-  SetDivide : Assign
-  SetRemainder : Assign
-  SetReduce : Assign
-
 -- an assignment's operator, and the places of its first and last token, which differ for `reduce=` alone
 pub record AssignTree : Type 0 where
   pub at : Place
   pub op : Assign
   pub last : Place
-
--- the words `int` and `bool`
-pub data Kind : Type 0 where
-  IntKind : Kind
-  BoolKind : Kind
-
--- what stands between the two ends of a range: `..`, `..<`, or `..` and `#` with the place of the latter
-pub data Dots : Type 0 where
-  Closed : Dots
-  HalfOpen : Dots
-  Counted : Place → Dots
-
--- the methods without arguments: `size first last low high lowBound domain id`
-pub data Word : Type 0 where
-  Size : Word
-  First : Word
-  Last : Word
-  Low : Word
-  High : Word
-  LowBound : Word
-  DomainOf : Word
-  Id : Word
-
--- the methods that read a cell, and those that write one
-pub data ReadWord : Type 0 where
-  ReadFEWord : ReadWord
-  ReadFFWord : ReadWord
-
-pub data WriteWord : Type 0 where
-  WriteEFWord : WriteWord
-  WriteFFWord : WriteWord
-  WriteXFWord : WriteWord
 
 mutual
   -- Expressions. A chain is its first operand and the list of the others, grouped to the left;
@@ -238,11 +188,6 @@ pub data TypeTree (N : Type 0) : Type 0 where
   DomainType : DomainTypeTree N → TypeTree N
   ArrayType : ArrayTypeTree N → TypeTree N
 
--- the two words before `.createDomain`
-pub data CreateWord : Type 0 where
-  CreateBlock : CreateWord
-  CreateCyclic : CreateWord
-
 -- `blockDist.createDomain(..)` and `cyclicDist.createDomain(..)`
 pub record CreateTree (N : Type 0) : Type 0 where
   pub at : Place
@@ -308,11 +253,6 @@ pub data VariablesTree (N : Type 0) : Type 0 where
   OneVariable : Placed N → VariablesTree N
   ManyVariables : Place → Listed (Placed N) → Place → VariablesTree N
 
--- the two shapes of the brackets round an element's indices
-pub data BracketPair : Type 0 where
-  Square : BracketPair
-  Round : BracketPair
-
 -- what is assigned: a name, or an element of an array
 pub data TargetTree (N : Type 0) : Type 0 where
   Whole : Placed N → TargetTree N
@@ -353,12 +293,6 @@ mutual
   pub data Else (N : Type 0) : Type 0 where
     NoElse : Else N
     ElseDo : Place → StmtTree N → Else N
-
--- the modules that `use` names
-pub data Module : Type 0 where
-  BlockModule : Module
-  CyclicModule : Module
-  BlockCyclicModule : Module
 
 pub record ModuleTree : Type 0 where
   pub at : Place

@@ -3,7 +3,6 @@
 
 ghost use Rattle.std.specs.Prelude.{◌≡◌, ◌+◌, ◌*◌, ◌≤◌, ◌&&◌, true, false, nat_le, option_map, IfSome, IfNone};
 ghost use Rattle.dpl_syntax.specs.Text.{is_digit, digit_value};
-ghost use Rattle.dpl_tree.specs.Words.{kind_view};
 ghost use Rattle.dpl_rules.specs.Sound.{is_decimal, is_number_text, is_value_of, name_and_value};
 ghost use Rattle.dpl_limits.specs.Numbers.{IsDecimal, IsInt};
 
@@ -78,7 +77,7 @@ pub fn int_in(text: &[u8]) -> Option<i64>
 
 /// Whether a text is a value of a kind.
 pub fn is_value_of(kind: ScalarKind, text: &[u8]) -> bool
-    ensures { result ≡ is_value_of (kind_view kind) text.now }
+    ensures { result ≡ is_value_of kind text.now }
 {
     match kind {
         ScalarKind::Int => int_in(text).is_some(),

@@ -7,9 +7,6 @@ use Rattle.dpl_language.specs.Arithmetic.{assign_divides}
 use Rattle.dpl_lowered.specs.Shapes.{nowhere, kept}
 use Rattle.dpl_lowered.specs.LoweredExpressions.{EachTurn}
 use Rattle.dpl_lowered.specs.LoweredStatements.{written_initial, written_type, with_intents}
-use Rattle.dpl_tree.specs.declared.operator.ScalarKind.{ScalarKind}
-use Rattle.dpl_tree.specs.declared.operator.ScalarKind.TheVariants.{Int as IntScalar, Bool as TruthScalar}
-use Rattle.dpl_tree.specs.Words.{op_view, assign_view}
 use Rattle.dpl_memory.specs.Memory.{DomainKind, TupleKind, ArrayKind, Variable, variable, int_leaf, truth_leaf, range_leaf}
 use Rattle.dpl_nodes.specs.declared.tree.IndexExpr.{IndexExpr}
 use Rattle.dpl_nodes.specs.declared.step.Argument.{Argument}
@@ -32,7 +29,7 @@ use Rattle.dpl_nodes.specs.declared.step.IntDeed.TheVariants as deeds
 use Rattle.dpl_nodes.specs.declared.step.TruthDeed.{TruthDeed}
 use Rattle.dpl_nodes.specs.declared.step.TruthDeed.TheVariants as deed
 use Rattle.dpl_nodes.specs.declared.step.Else.{Else as ElseNode, Absent, Do'}
-use Rattle.dpl_nodes.specs.Typed.{kind_view, leaf_named, items_one, int_view, truth_view, range_item, ranges_items, index_exprs, domain_view, promoted_int, promoted_truth}
+use Rattle.dpl_nodes.specs.Typed.{leaf_named, items_one, int_view, truth_view, range_item, ranges_items, index_exprs, domain_view, promoted_int, promoted_truth}
 
 -- a name that no fault tells
 abbrev pub unplaced_leaf : Variable → Placed Variable
@@ -91,7 +88,7 @@ abbrev pub argument_view : Argument → ArgumentTree Variable
 argument_view (TextNode bytes) = TextArgument nowhere bytes.now
 argument_view (IntNode e) = ExprArgument (int_view e.now)
 argument_view (TruthNode e) = ExprArgument (truth_view e.now)
-argument_view (ArrayNode k slot) = ExprArgument (leaf_named (variable (ArrayKind (kind_view k)) slot))
+argument_view (ArrayNode k slot) = ExprArgument (leaf_named (variable (ArrayKind k) slot))
 
 abbrev pub next_argument_view : Argument → AfterComma (ArgumentTree Variable)
 next_argument_view a = record { comma = nowhere; part = argument_view a }
@@ -111,12 +108,12 @@ written_as ends_line arguments = Write (record {
 })
 
 -- INTENTS
-abbrev pub scalar_leaf : ScalarKind → ℕ → Variable
-scalar_leaf IntScalar slot = int_leaf slot
-scalar_leaf TruthScalar slot = truth_leaf slot
+abbrev pub scalar_leaf : Kind → ℕ → Variable
+scalar_leaf IntKind slot = int_leaf slot
+scalar_leaf BoolKind slot = truth_leaf slot
 
 abbrev pub intent_view : Intent → Variable × Op
-intent_view i = (scalar_leaf i.kind i.slot, op_view i.op)
+intent_view i = (scalar_leaf i.kind i.slot, i.op)
 
 -- DOMAINS AND ARRAYS
 -- a declaration by its type alone, or with an initial value
@@ -212,9 +209,9 @@ abbrev mutual
   step_view (DeclareEmpty slot rank placing) = declared_with (unplaced_leaf (variable DomainKind slot)) (of_rank rank) None
   step_view (SetDomain x e) = whole_set (domain_leaf x.now) Set nowhere (domain_view e.now)
   step_view (DeclareArray d) = array_declared d.now
-  step_view (SetElement x t op at e) = element_set (array_leaf IntKind x.now) t.now (assign_view op) at.now (int_view e.now)
+  step_view (SetElement x t op at e) = element_set (array_leaf IntKind x.now) t.now op at.now (int_view e.now)
   step_view (SetTruthElement x t e) = element_set (array_leaf BoolKind x.now) t.now Set nowhere (truth_view e.now)
-  step_view (SetArray x op at e) = whole_set (array_leaf IntKind x.now) (assign_view op) at.now (promoted_int EachTurn e.now)
+  step_view (SetArray x op at e) = whole_set (array_leaf IntKind x.now) op at.now (promoted_int EachTurn e.now)
   step_view (SetTruthArray x at e) = whole_set (array_leaf BoolKind x.now) Set at.now (promoted_truth EachTurn e.now)
   step_view (WriteStep ends_line arguments) = written_as ends_line arguments.now
   step_view (Block' p shape row) = Block nowhere (steps_view row) nowhere

@@ -5,8 +5,6 @@ use Rattle.dpl_syntax.specs.declared.place.Place.{Place}
 use Rattle.dpl_language.specs.Tree.{Kind, IntKind, BoolKind, Minus, Not, Infix, Add, Subtract, Multiply, Divide, Remainder, Less, LessEqual, Greater, GreaterEqual, Equal, NotEqual, And, Or, Dots, Closed, HalfOpen, Counted, Size, First, Last, Low, High, DomainOf, Op, Sum, Product, AllOf, AnyOf, BitAnd, BitOr, BitXor, Least, Greatest, ExprTree, Number, TruthWord, Named, Grouped, DomainLiteral, Prefixed, Reduced, Postfixed, ItemTree, One, RangeItem, Stride, NoStride, By, NoPosts, Post, Brackets, Dotted, MethodTree, Plainly, Dim, Contains, Expand, Items, FirstItem, NoItems, NextItem, Exprs, FirstExpr, NoExprs, NextExpr}
 use Rattle.dpl_lowered.specs.Shapes.{nowhere, kept, two}
 use Rattle.dpl_lowered.specs.LoweredExpressions.{Times, EachTurn, each_turn}
-use Rattle.dpl_tree.specs.declared.operator.ScalarKind.{ScalarKind}
-use Rattle.dpl_tree.specs.declared.operator.ScalarKind.TheVariants.{Int as IntScalar, Bool as TruthScalar}
 use Rattle.dpl_memory.specs.Memory.{DomainKind, TupleKind, ArrayKind, Variable, variable, int_leaf, truth_leaf, range_leaf}
 use Rattle.dpl_nodes.specs.declared.tree.Dots.{Dots as DotsNode}
 use Rattle.dpl_nodes.specs.declared.tree.Dots.TheVariants as dots
@@ -46,10 +44,6 @@ array_named k slot at = Named (record { at = at; name = variable (ArrayKind k) s
 
 abbrev pub tuple_named : ℕ → ExprTree Variable
 tuple_named slot = leaf_named (variable TupleKind slot)
-
-abbrev pub kind_view : ScalarKind → Kind
-kind_view IntScalar = IntKind
-kind_view TruthScalar = BoolKind
 
 -- one, two or three of something
 abbrev pub items_one : ItemTree Variable → Items Variable
@@ -152,7 +146,7 @@ abbrev mutual
 
   pub domain_view : DomainExpr → ExprTree Variable
   domain_view (DomainLocal slot) = leaf_named (variable DomainKind slot)
-  domain_view (OfArray k slot) = dotted (leaf_named (variable (ArrayKind (kind_view k)) slot)) (Plainly nowhere DomainOf)
+  domain_view (OfArray k slot) = dotted (leaf_named (variable (ArrayKind k) slot)) (Plainly nowhere DomainOf)
   domain_view (Literal' at p rs) = DomainLiteral at.now (ranges_items rs) nowhere
   domain_view (DomainSlice' p d q rs) = in_square (domain_view d) (ranges_items rs)
   domain_view (Expanded' p d at q e) = dotted (domain_view d) (Expand at.now nowhere (int_view e) nowhere)

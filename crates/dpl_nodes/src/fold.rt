@@ -2,7 +2,6 @@
 // specs/Typed.antt gives the operator of the language that each stands for.
 
 ghost use Rattle.std.specs.Prelude.{◌≡◌};
-ghost use Rattle.dpl_tree.specs.Words.{op_view};
 ghost use Rattle.dpl_nodes.specs.Typed.{fold_view};
 
 use dpl_tree::Op;
@@ -36,7 +35,7 @@ pub enum Fold {
 impl Fold {
     /// An operator, by what it takes.
     pub fn of(op: Op) -> Fold
-        ensures { fold_view result ≡ op_view op }
+        ensures { fold_view result ≡ op }
     {
         match op {
             Op::Sum => Fold::Ints(IntFold::Sum),

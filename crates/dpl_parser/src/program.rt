@@ -7,7 +7,6 @@ ghost use Rattle.dpl_grammar.specs.Classes.{contextual as contextual_class, keyw
 ghost use Rattle.dpl_grammar.specs.Reader.{next_in};
 ghost use Rattle.dpl_grammar.specs.Gives.{Gives};
 ghost use Rattle.dpl_grammar.specs.Rule.{many};
-ghost use Rattle.dpl_tree.specs.Words.{module_view};
 ghost use Rattle.dpl_tree.specs.Statements.{module_name_view, next_module_view, use_view, stmt_view, program_view};
 ghost use Rattle.dpl_spelling.specs.Nested.{begins, StatementBelow};
 ghost use Rattle.dpl_spelling.specs.Expressions.{after_comma};
@@ -63,7 +62,7 @@ pub fn parse<'t>(arena: Arena<'t>, tokens: Tokens<'t>) -> Result<Program<'t>, Pa
 
 /// A module's name, by its word.
 fn used(wanted: Contextual, word: Module, tokens: Tokens<'_>) -> Parsed<'_, ModuleName>
-    ensures gives { Gives (λ x. (module_name_view x.0, x.1.now)) result (at (used_rule (contextual_class wanted) (module_view word)) 0 tokens.now) }
+    ensures gives { Gives (λ x. (module_name_view x.0, x.1.now)) result (at (used_rule (contextual_class wanted) word) 0 tokens.now) }
     ensures shorter { IfOk result (λ x. length x.1.now < length tokens.now) }
 {
     let (next, rest) = contextual(wanted, tokens)?;

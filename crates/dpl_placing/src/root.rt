@@ -3,7 +3,6 @@
 
 ghost use Rattle.std.specs.Prelude.{◌≡◌, ◌≢◌, IfOk, Err};
 ghost use Rattle.dpl_language.specs.Declarations.{type_of};
-ghost use Rattle.dpl_tree.specs.Words.{create_view};
 ghost use Rattle.dpl_tree.specs.Declarations.{optional, typed_view, map_view, mapped_view, init_view, initial_view};
 ghost use Rattle.dpl_nodes.specs.declared.stop.NoNode.TheVariants as stop;
 ghost use Rattle.dpl_placing.specs.Roots.{created_root, typed_root, derived_root, IsNamedRoot, IsInitRoot, IsGivenRoot, IsTypedRoot, IsRootOf};
@@ -25,7 +24,7 @@ pub enum Root<'t> {
 
 // The map of a created domain.
 fn created(word: CreateWord) -> Placing
-    ensures { result ≡ created_root (create_view word) }
+    ensures { result ≡ created_root word }
 {
     match word {
         CreateWord::Block => Placing::BlockCreated,

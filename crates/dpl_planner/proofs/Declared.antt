@@ -13,7 +13,6 @@ use Rattle.dpl_language.specs.Declarations.{type_of}
 use Rattle.dpl_agreement.specs.Renamed.{renamed_item, renamed_items, renamed_init, renamed_typed, renamed_initial}
 use Rattle.dpl_agreement.specs.Scopes.{PlainForm, fits_side, fits_init, fits_given, suits_init}
 use Rattle.dpl_agreement.proofs.RenamedTwice.{renamed_items-twice}
-use Rattle.dpl_tree.specs.Words.{kind_view}
 use Rattle.dpl_rules.specs.Types.{ValueType, Scalar, Domain}
 use Rattle.dpl_rules.specs.Sights.{Declared, Scopes, declared_here, add, origin_in}
 use Rattle.dpl_rules.specs.Declarations.{type_given, unless_refused, declaration_breaches, declared_by}
@@ -183,7 +182,7 @@ default-initial ss (Some t) k declared b h is = by_type t.colon t.type k b h is
       node = ap (λ i. Some (written_initial nowhere i)) (ap (λ j. One (default_tree j)) h ∙ sym is.0);
       initial = λ start intents plain. tt;
       suits = λ start intents x plain once kind shape typed given.
-          subst (λ j. MayHold x.variable.kind x.shape (default j)) (sym h) (subst (λ j. MayHold j x.shape (default (kind_view k))) (sym kind) (default-kind (kind_view k) (kind_of value) x.shape is.1));
+          subst (λ j. MayHold x.variable.kind x.shape (default j)) (sym h) (subst (λ j. MayHold j x.shape (default k)) (sym kind) (default-kind k (kind_of value) x.shape is.1));
     }
     by_type colon (ScalarType at l) (kinds.Scalar k) (beginning.Empty rank) h is = absurd is
     by_type colon (ScalarType at l) (kinds.Domain rank) b h is = absurd h

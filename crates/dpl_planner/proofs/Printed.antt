@@ -4,7 +4,7 @@ use Rattle.std.proofs.Common.{◌≡◌, ℕ, List, [], ◌∷◌, ◌++◌, Bor
 use Rattle.std.specs.Prelude.{option_map}
 use Rattle.std.proofs.lemmas.Option.{none-some}
 use Rattle.dpl_syntax.specs.declared.place.Place.{Place}
-use Rattle.dpl_language.specs.Tree.{Placed, AfterComma, Listed, Op, ExprTree, Number, TruthWord, Named, LocalesWord, LocaleCount, HereWord, Grouped, DomainLiteral, Prefixed, Reduced, Chain, Postfixed, One, ArgumentTree, TextArgument, ExprArgument, WriteTree, Write}
+use Rattle.dpl_language.specs.Tree.{Placed, AfterComma, Listed, Op, Kind, ExprTree, Number, TruthWord, Named, LocalesWord, LocaleCount, HereWord, Grouped, DomainLiteral, Prefixed, Reduced, Chain, Postfixed, One, ArgumentTree, TextArgument, ExprArgument, WriteTree, Write}
 use Rattle.dpl_language.specs.Names.{Text}
 use Rattle.dpl_language.specs.Phrases.{bare_name, cell_read}
 use Rattle.dpl_language.specs.Writing.{arguments_of}
@@ -19,13 +19,12 @@ use Rattle.dpl_sound.proofs.Given.{some-same}
 use Rattle.dpl_lowered.specs.Shapes.{nowhere, hidden, relisted}
 use Rattle.dpl_lowered.specs.LoweredExpressions.{Once, lowered_expr}
 use Rattle.dpl_lowered.specs.LoweredStatements.{array_name, lowered_shown, lowered_argument}
-use Rattle.dpl_tree.specs.declared.operator.ScalarKind.{ScalarKind}
 use Rattle.dpl_scopes.specs.Slots.{slot_in}
 use Rattle.dpl_memory.specs.Memory.{ArrayKind, Variable, variable, known_variable}
 use Rattle.dpl_memory.proofs.Fitting.{NamesAre, expr_fits}
 use Rattle.dpl_nodes.specs.declared.tree.IntExpr.{IntExpr, Local as IntLocal}
 use Rattle.dpl_nodes.specs.declared.tree.BoolExpr.{BoolExpr, Local as TruthLocal}
-use Rattle.dpl_nodes.specs.Typed.{kind_view, int_view, truth_view}
+use Rattle.dpl_nodes.specs.Typed.{int_view, truth_view}
 use Rattle.dpl_memory.specs.Resolved.{Bound, Start, text_of, variable_of, resolving, Resolves}
 use Rattle.dpl_nodes.specs.declared.step.Argument.{Argument}
 use Rattle.dpl_nodes.specs.declared.step.Argument.TheVariants as node
@@ -120,17 +119,17 @@ bare-same None n x e is = absurd (none-some n e)
 bare-same (Some m) n x e is = ap (λ (y : Bor NameNode). y.now.text.now) (sym (some-same m n e)) ∙ ap (λ (y : Placed Text). y.name) (some-same (name_view m.now) x is)
 
 -- a whole array, by its name
-pub array-argument : (ss : Scopes) (e : ExprTree Text) (k : ScalarKind) (slot : ℕ) → IsWholeArray ss e (kind_view k) slot → IsArgument ss (ExprArgument e) (node.Array k slot)
+pub array-argument : (ss : Scopes) (e : ExprTree Text) (k : Kind) (slot : ℕ) → IsWholeArray ss e k slot → IsArgument ss (ExprArgument e) (node.Array k slot)
 array-argument ss e k slot (x, named, kind, at) = subst (λ e. IsArgument ss (ExprArgument e) (node.Array k slot)) (sym named) (record {
   text = refl;
   node = ap (λ (l : Variable). lowered_argument known_variable (ExprArgument (Named (record { at = x.at; name = l })))) leaf;
   fits_before = λ start is rest h f.
-      let found = innermost-found x.name ss h (ArrayKind (kind_view k), slot, kind, at) in
+      let found = innermost-found x.name ss h (ArrayKind k, slot, kind, at) in
       ((found, tt), λ t. found, f);
 })
   where
-    leaf : leaf_in ss x.name ≡ variable (ArrayKind (kind_view k)) slot
-    leaf = ap (λ o. leaf_by o (slot_in ss x.name)) kind ∙ ap (leaf_by (Some (ArrayKind (kind_view k)))) at
+    leaf : leaf_in ss x.name ≡ variable (ArrayKind k) slot
+    leaf = ap (λ o. leaf_by o (slot_in ss x.name)) kind ∙ ap (leaf_by (Some (ArrayKind k))) at
 
 -- ---- ARGUMENTS, one by one
 pub arguments-step : (ss : Scopes) (all : List (ArgumentTree Text)) (a : ArgumentTree Text) (rest : List (ArgumentTree Text)) (so_far : List Argument) (b : Argument)

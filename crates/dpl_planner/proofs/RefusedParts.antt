@@ -13,8 +13,6 @@ use Rattle.dpl_rules.specs.Sights.{Declared, Scopes, declared_here, origin_in}
 use Rattle.dpl_sound.proofs.Given.{some-same}
 use Rattle.dpl_rules.specs.Expressions.{item_type, type_of as expr_type}
 use Rattle.dpl_rules.specs.Declarations.{is_kept, type_given, declaration_breaches, declared_by}
-use Rattle.dpl_tree.specs.declared.operator.ScalarKind.{ScalarKind}
-use Rattle.dpl_tree.specs.declared.operator.ScalarKind.TheVariants.{Int as IntScalar, Bool as TruthScalar}
 use Rattle.dpl_tree.specs.declared.statement.NextArgument.{NextArgument}
 use Rattle.dpl_tree.specs.declared.statement.NextIntent.{NextIntent}
 use Rattle.dpl_tree.specs.Statements.{argument_view, intent_view}
@@ -173,9 +171,9 @@ intents-next ss xs i past within are =
     let here : AreRunnableIntents ss (intents_among (get_or xs i past ∷ drop (i + 1) xs)) = subst (λ ys. AreRunnableIntents ss (intents_among ys)) (drop_more xs i past within) are in
     here.0
 
-slot_of-scalar_leaf : (k : ScalarKind) (slot : ℕ) → (scalar_leaf k slot).slot ≡ slot
-slot_of-scalar_leaf IntScalar slot = refl
-slot_of-scalar_leaf TruthScalar slot = refl
+slot_of-scalar_leaf : (k : Kind) (slot : ℕ) → (scalar_leaf k slot).slot ≡ slot
+slot_of-scalar_leaf IntKind slot = refl
+slot_of-scalar_leaf BoolKind slot = refl
 
 -- the next one is told by its name and its slot alike, and by neither or both
 pub told-alike : (x : Text) (slot : ℕ) (rs : List Reducing) (i : ℕ) (past : Reducing) (by_name : Bool) → i < length rs → AreToldAlike x slot (map reducing_view (drop i rs))

@@ -8,7 +8,6 @@ use Rattle.dpl_language.specs.Names.{Text}
 use Rattle.dpl_tree.specs.declared.expression.Item.{Item as ItemNode}
 use Rattle.dpl_tree.specs.declared.statement.Element.{Element as ElementNode}
 use Rattle.dpl_tree.specs.declared.statement.AssignSign.{AssignSign}
-use Rattle.dpl_tree.specs.Words.{pair_view}
 use Rattle.dpl_tree.specs.View.{name_view, exprs_view, item_view}
 use Rattle.dpl_tree.specs.Statements.{sign_view}
 use Rattle.dpl_rules.specs.Types.{ValueType}
@@ -42,7 +41,7 @@ element_changed x es op at item =
 -- the statement that assigns an item to an element, as it is parsed
 abbrev pub element_tree : ElementNode → AssignSign → ItemNode → Place → StmtTree Text
 element_tree target sign value semicolon =
-    Assigned (Element (name_view target.name) (pair_view target.shape) target.from (exprs_view target.exprs) target.upto) (sign_view sign) (item_view value) semicolon
+    Assigned (Element (name_view target.name) target.shape target.from (exprs_view target.exprs) target.upto) (sign_view sign) (item_view value) semicolon
 
 -- an item has a type, and what is made of it is of that type
 abbrev pub HasItemType : Scopes → ItemTree Text → Type 0

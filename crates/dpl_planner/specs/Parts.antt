@@ -9,7 +9,6 @@ use Rattle.dpl_language.specs.Names.{Text}
 use Rattle.dpl_language.specs.Declarations.{type_of}
 use Rattle.dpl_agreement.specs.Renamed.{renamed_stmt, renamed_expr, renamed_item, renamed_typed, renamed_initial, renamed_argument, renamed_variables}
 use Rattle.dpl_agreement.specs.Scopes.{PlainForm, form_by, fits as fits_stmt, fits_type, side_by, fits_initial, suits_declared, fits_arguments}
-use Rattle.dpl_tree.specs.Words.{kind_view}
 use Rattle.dpl_tree.specs.declared.statement.NextArgument.{NextArgument}
 use Rattle.dpl_tree.specs.declared.statement.NextIntent.{NextIntent}
 use Rattle.dpl_tree.specs.Statements.{next_argument_view, next_intent_view}
@@ -97,7 +96,7 @@ IsWrittenType None kinds.Untyped = Unit {0}
 IsWrittenType None (kinds.Scalar k) = ⊥
 IsWrittenType None (kinds.Domain rank) = ⊥
 IsWrittenType (Some (ScalarType at l)) kinds.Untyped = ⊥
-IsWrittenType (Some (ScalarType at l)) (kinds.Scalar k) = l ≡ kind_view k
+IsWrittenType (Some (ScalarType at l)) (kinds.Scalar k) = l ≡ k
 IsWrittenType (Some (ScalarType at l)) (kinds.Domain rank) = ⊥
 IsWrittenType (Some (SyncType at kind_at l)) k = ⊥
 IsWrittenType (Some (DomainType d)) kinds.Untyped = ⊥
@@ -147,7 +146,7 @@ IsDefault k t = (typed_item Once t ≡ One (default_tree k)) × (value_kind (Sca
 
 abbrev pub BeginsByDefault : WrittenKind → Beginning → Type 0
 BeginsByDefault kinds.Untyped b = ⊥
-BeginsByDefault (kinds.Scalar k) (beginning.Value t) = IsDefault (kind_view k) t
+BeginsByDefault (kinds.Scalar k) (beginning.Value t) = IsDefault k t
 BeginsByDefault (kinds.Scalar k) (beginning.Empty rank) = ⊥
 BeginsByDefault (kinds.Domain rank) (beginning.Value t) = ⊥
 BeginsByDefault (kinds.Domain rank) (beginning.Empty other) = other ≡ rank

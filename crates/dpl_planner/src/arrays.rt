@@ -6,7 +6,6 @@ ghost use Rattle.dpl_language.specs.Tree.{FirstItem, NoItems, One, MappedTree, I
 ghost use Rattle.dpl_language.specs.Names.{Text};
 ghost use Rattle.dpl_language.specs.Phrases.{item_over};
 ghost use Rattle.dpl_language.specs.Declarations.{type_of};
-ghost use Rattle.dpl_tree.specs.Words.{kind_view};
 ghost use Rattle.dpl_tree.specs.View.{item_view, items_view};
 ghost use Rattle.dpl_tree.specs.Declarations.{optional, typed_view as written_type_view, initial_view as written_initial_view, array_type_view, declare_view};
 ghost use Rattle.dpl_rules.specs.Declarations.{declared_by};
@@ -166,7 +165,7 @@ fn over<'t>(
 // What the elements of a kind are where no value is written.
 fn zeros<'t>(kind: ScalarKind) -> Begun<'t>
     ensures node { initial_view result ≡ None }
-    ensures kind { initial_kind result ≡ kind_view kind }
+    ensures kind { initial_kind result ≡ kind }
 {
     match kind {
         ScalarKind::Int => Begun::Zeros,
@@ -193,8 +192,8 @@ fn given_item<'t>(
     equals: Place,
     written: &Item<'_>,
 ) -> Result<Begun<'t>, NoNode>
-    ensures initial { IfOk result (λ b. (mapped : Option (MappedTree Text)) → IsArrayInitial scopes.now (kind_view kind) (Some (record { equals = equals; init = ItemInit (item_view written.now) mapped })) b) }
-    ensures ill_typed { (result ≡ Err stop.IllTyped) → IsNear equals → (k : VariableKind) → IsItemOf scopes.now (item_view written.now) k → IsGivenTo (ArrayKind (kind_view kind)) k → ⊥ }
+    ensures initial { IfOk result (λ b. (mapped : Option (MappedTree Text)) → IsArrayInitial scopes.now kind (Some (record { equals = equals; init = ItemInit (item_view written.now) mapped })) b) }
+    ensures ill_typed { (result ≡ Err stop.IllTyped) → IsNear equals → (k : VariableKind) → IsItemOf scopes.now (item_view written.now) k → IsGivenTo (ArrayKind kind) k → ⊥ }
 {
     let value = valued(arena, scopes, written)?;
     let elements = given_elements(arena, kind, value)?;
@@ -209,8 +208,8 @@ fn given<'t>(
     kind: ScalarKind,
     written: &Initial<'_>,
 ) -> Result<Begun<'t>, NoNode>
-    ensures initial { IfOk result (λ b. IsArrayInitial scopes.now (kind_view kind) (Some (written_initial_view written.now)) b) }
-    ensures ill_typed { (result ≡ Err stop.IllTyped) → HasElements scopes.now (kind_view kind) (Some (written_initial_view written.now)) → ⊥ }
+    ensures initial { IfOk result (λ b. IsArrayInitial scopes.now kind (Some (written_initial_view written.now)) b) }
+    ensures ill_typed { (result ≡ Err stop.IllTyped) → HasElements scopes.now kind (Some (written_initial_view written.now)) → ⊥ }
 {
     match &written.init {
         Init::Item(item, _) => given_item(arena, scopes, kind, written.equals, item),
@@ -225,8 +224,8 @@ fn initial<'t>(
     kind: ScalarKind,
     written: &Option<Initial<'_>>,
 ) -> Result<Begun<'t>, NoNode>
-    ensures initial { IfOk result (λ b. IsArrayInitial scopes.now (kind_view kind) (optional written_initial_view written.now) b) }
-    ensures ill_typed { (result ≡ Err stop.IllTyped) → HasElements scopes.now (kind_view kind) (optional written_initial_view written.now) → ⊥ }
+    ensures initial { IfOk result (λ b. IsArrayInitial scopes.now kind (optional written_initial_view written.now) b) }
+    ensures ill_typed { (result ≡ Err stop.IllTyped) → HasElements scopes.now kind (optional written_initial_view written.now) → ⊥ }
 {
     match written {
         Some(written) => given(arena, scopes, kind, written),
@@ -253,9 +252,9 @@ fn array_parts<'t>(
     ensures at { IfOk result (λ p. p.at.now ≡ written.now.name.at) }
     ensures from { IfOk result (λ p. p.from.now ≡ array.now.from) }
     ensures over { IfOk result (λ p. IsOver scopes.now (items_view array.now.over) p.over) }
-    ensures initial { IfOk result (λ p. IsArrayInitial scopes.now (kind_view array.now.kind) (optional written_initial_view written.now.initial) p.initial) }
+    ensures initial { IfOk result (λ p. IsArrayInitial scopes.now array.now.kind (optional written_initial_view written.now.initial) p.initial) }
     ensures ill_typed { (result ≡ Err stop.IllTyped) → IsNear written.now.name.at → IsRunnableType scopes.now (Some (ArrayTypeTree (array_type_view array.now)))
-        → (HasNoDomain (item_parts scopes.now (items_view array.now.over)) → ⊥) → HasElements scopes.now (kind_view array.now.kind) (optional written_initial_view written.now.initial) → ⊥ }
+        → (HasNoDomain (item_parts scopes.now (items_view array.now.over)) → ⊥) → HasElements scopes.now array.now.kind (optional written_initial_view written.now.initial) → ⊥ }
 {
     Ok(ArrayParts {
         at: spot(arena, written.name.at)?,

@@ -1,12 +1,11 @@
 // Assignments: each to a variable in sight, with an operator that takes its kind.
 // `reduce=` is by the operator of the forall around, which the name and its slot tell alike.
 
-ghost use Rattle.std.specs.Prelude.{◌≡◌, ◌≢◌, true, false, OnOk, IfOk, Err, Some, map, option_map};
+ghost use Rattle.std.specs.Prelude.{◌≡◌, ◌≢◌, true, false, OnOk, IfOk, Err, Some, map};
 ghost use Rattle.dpl_language.specs.Tree.{Kind, Whole, Assigned as AssignedTree};
 ghost use Rattle.dpl_language.specs.Arithmetic.{assign_divides};
 ghost use Rattle.dpl_language.specs.Names.{paired};
 ghost use Rattle.dpl_agreement.specs.Renamed.{renamed_intents};
-ghost use Rattle.dpl_tree.specs.Words.{assign_view, op_view};
 ghost use Rattle.dpl_tree.specs.View.{name_view, item_view};
 ghost use Rattle.dpl_tree.specs.Statements.{target_view, sign_view};
 ghost use Rattle.dpl_rules.specs.Types.{ValueType as ValueTypeTree, range_of};
@@ -207,7 +206,7 @@ fn of_int<'t>(
     slot: usize,
     e: &'t IntExpr<'t>,
 ) -> Result<Step<'t>, NoNode>
-    ensures node { IfOk result (λ s. step_view s ≡ assigns (int_leaf slot) (assign_view sign.op) (kept (assign_divides (assign_view sign.op)) sign.at) (typed_item Once (typed.Int e.entry))) }
+    ensures node { IfOk result (λ s. step_view s ≡ assigns (int_leaf slot) sign.op (kept (assign_divides sign.op) sign.at) (typed_item Once (typed.Int e.entry))) }
     ensures ill_typed { (result ≡ Err stop.IllTyped) → IsNear sign.at → ⊥ }
 {
     match sign.op {
@@ -229,9 +228,9 @@ fn of_int<'t>(
 
 // What a truth value is assigned: arithmetic doesn't take it.
 fn of_truth<'t>(sign: AssignSign, slot: usize, e: &'t BoolExpr<'t>) -> Result<Step<'t>, NoNode>
-    ensures node { IfOk result (λ s. step_view s ≡ assigns (truth_leaf slot) (assign_view sign.op) (kept (assign_divides (assign_view sign.op)) sign.at) (typed_item Once (typed.Truth e.entry))) }
-    ensures takes { IfOk result (λ s. takes TruthLeaf (assign_view sign.op) ≡ true) }
-    ensures ill_typed { (result ≡ Err stop.IllTyped) → takes TruthLeaf (assign_view sign.op) ≡ false }
+    ensures node { IfOk result (λ s. step_view s ≡ assigns (truth_leaf slot) sign.op (kept (assign_divides sign.op) sign.at) (typed_item Once (typed.Truth e.entry))) }
+    ensures takes { IfOk result (λ s. takes TruthLeaf sign.op ≡ true) }
+    ensures ill_typed { (result ≡ Err stop.IllTyped) → takes TruthLeaf sign.op ≡ false }
 {
     match sign.op {
         Assign::Set => Ok(Step::Truth(TruthDeed::Set, slot, e)),
@@ -253,9 +252,9 @@ fn of_domain<'t>(
     slot: usize,
     e: &'t DomainExpr<'t>,
 ) -> Result<Step<'t>, NoNode>
-    ensures node { IfOk result (λ s. step_view s ≡ changed_to scopes.now at DomainKind slot (assign_view sign.op) sign.at (typed_item Once (typed.Domain e.entry))) }
-    ensures takes { IfOk result (λ s. kind_takes DomainKind (assign_view sign.op) ≡ true) }
-    ensures ill_typed { (result ≡ Err stop.IllTyped) → kind_takes DomainKind (assign_view sign.op) ≡ true → IsNear at → ⊥ }
+    ensures node { IfOk result (λ s. step_view s ≡ changed_to scopes.now at DomainKind slot sign.op sign.at (typed_item Once (typed.Domain e.entry))) }
+    ensures takes { IfOk result (λ s. kind_takes DomainKind sign.op ≡ true) }
+    ensures ill_typed { (result ≡ Err stop.IllTyped) → kind_takes DomainKind sign.op ≡ true → IsNear at → ⊥ }
 {
     match sign.op {
         Assign::Set => {
@@ -282,10 +281,10 @@ fn change<'t>(
     slot: usize,
     value: Typed<'t>,
 ) -> Result<Step<'t>, NoNode>
-    ensures node { IfOk result (λ s. step_view s ≡ changed_to scopes.now at (kind_of value.entry) slot (assign_view sign.op) sign.at (typed_item Once value.entry)) }
-    ensures takes { IfOk result (λ s. kind_takes (kind_of value.entry) (assign_view sign.op) ≡ true) }
+    ensures node { IfOk result (λ s. step_view s ≡ changed_to scopes.now at (kind_of value.entry) slot sign.op sign.at (typed_item Once value.entry)) }
+    ensures takes { IfOk result (λ s. kind_takes (kind_of value.entry) sign.op ≡ true) }
     ensures kind { IfOk result (λ s. IsChangedKind (kind_of value.entry)) }
-    ensures ill_typed { (result ≡ Err stop.IllTyped) → IsChangedKind (kind_of value.entry) → kind_takes (kind_of value.entry) (assign_view sign.op) ≡ true → IsNear sign.at → IsNear at → ⊥ }
+    ensures ill_typed { (result ≡ Err stop.IllTyped) → IsChangedKind (kind_of value.entry) → kind_takes (kind_of value.entry) sign.op ≡ true → IsNear sign.at → IsNear at → ⊥ }
 {
     match value {
         Typed::Int(e) => of_int(arena, sign, slot, e),
@@ -299,8 +298,8 @@ fn change<'t>(
 
 // The operator by which a variable is reduced, told alike by its name and by its slot.
 fn reducing(intents: &[Reducing<'_>], name: &[u8], slot: usize) -> Result<Option<Op>, NoNode>
-    ensures named { IfOk result (λ op. paired name.now (renamed_intents text_of (map reducing_view intents.now)) ≡ option_map op_view op) }
-    ensures slotted { IfOk result (λ op. intent_at slot (intents_by_slot (renamed_intents variable_of (map reducing_view intents.now))) ≡ option_map op_view op) }
+    ensures named { IfOk result (λ op. paired name.now (renamed_intents text_of (map reducing_view intents.now)) ≡ op) }
+    ensures slotted { IfOk result (λ op. intent_at slot (intents_by_slot (renamed_intents variable_of (map reducing_view intents.now))) ≡ op) }
     ensures ill_typed { (result ≡ Err stop.IllTyped) → AreToldAlike name.now slot (map reducing_view intents.now) → ⊥ }
 {
     for next in intents {
@@ -318,7 +317,7 @@ fn reducing(intents: &[Reducing<'_>], name: &[u8], slot: usize) -> Result<Option
 
 // `&&` and `||` put truth values together.
 fn is_logical(op: Op) -> bool
-    ensures { result ≡ is_logical_of (op_view op) }
+    ensures { result ≡ is_logical_of op }
 {
     match op {
         Op::AllOf | Op::AnyOf => true,
@@ -329,8 +328,8 @@ fn is_logical(op: Op) -> bool
 
 // Whether an operator puts the values of an expression together; without one there is nothing to put together.
 fn combines(value: Typed<'_>, op: Option<Op>) -> bool
-    ensures yes { (result ≡ true) → KindCombines (kind_of value.entry) (option_map op_view op) }
-    ensures no { (result ≡ false) → KindCombines (kind_of value.entry) (option_map op_view op) → ⊥ }
+    ensures yes { (result ≡ true) → KindCombines (kind_of value.entry) op }
+    ensures no { (result ≡ false) → KindCombines (kind_of value.entry) op → ⊥ }
 {
     match op {
         None => true,
@@ -351,8 +350,8 @@ fn intent_resolves(
     slot: usize,
     value: Typed<'_>,
 ) -> Result<(), NoNode>
-    ensures resolves { OnOk result (IntentResolves (assign_view op) name.now (variable (kind_of value.entry) slot) (seen_in plan.now)) }
-    ensures ill_typed { (result ≡ Err stop.IllTyped) → slot_in plan.now.scopes name.now ≡ Some slot → IsReducedBy plan.now.scopes (intents_in plan.now) name.now (assign_view op) (kind_of value.entry) → ⊥ }
+    ensures resolves { OnOk result (IntentResolves op name.now (variable (kind_of value.entry) slot) (seen_in plan.now)) }
+    ensures ill_typed { (result ≡ Err stop.IllTyped) → slot_in plan.now.scopes name.now ≡ Some slot → IsReducedBy plan.now.scopes (intents_in plan.now) name.now op (kind_of value.entry) → ⊥ }
 {
     match op {
         Assign::Set

@@ -4,7 +4,6 @@
 ghost use Rattle.std.specs.Prelude.{◌≡◌, ◌≢◌, nat_le, ◌&&◌, true, false, IfOk, IfSome, IfNone, Err, Some, None};
 ghost use Rattle.dpl_language.specs.Tree.{ArrayType as ArrayTypeTree, Declare as DeclareTree};
 ghost use Rattle.dpl_language.specs.Declarations.{type_of};
-ghost use Rattle.dpl_tree.specs.Words.{kind_view};
 ghost use Rattle.dpl_tree.specs.View.{items_view};
 ghost use Rattle.dpl_tree.specs.Declarations.{optional, typed_view as written_type_view, created_view, init_view, initial_view, domain_type_view, array_type_view, declare_view};
 ghost use Rattle.dpl_rules.specs.Declarations.{declared_by};
@@ -102,7 +101,7 @@ fn written_kind(written: &Option<WrittenType<'_>>) -> Result<WrittenKind, NoNode
 
 // What an int and a truth value are where no value is written.
 fn default<'t>(arena: Arena<'t>, kind: ScalarKind) -> Result<Typed<'t>, NoNode>
-    ensures default { IfOk result (λ t. IsDefault (kind_view kind) t) }
+    ensures default { IfOk result (λ t. IsDefault kind t) }
     ensures ill_typed { result ≢ Err stop.IllTyped }
 {
     match kind {

@@ -3,7 +3,6 @@
 
 ghost use Rattle.std.specs.Prelude.{◌≡◌, ◌≢◌, true, OnOk, IfOk, IfSome, IfNone, Err, Some, None};
 ghost use Rattle.dpl_language.specs.Tree.{Kind, IntKind, BoolKind, One, SetReduce, Whole, Assigned as AssignedTree};
-ghost use Rattle.dpl_tree.specs.Words.{kind_view, assign_view};
 ghost use Rattle.dpl_tree.specs.View.{name_view, item_view};
 ghost use Rattle.dpl_tree.specs.Statements.{sign_view};
 ghost use Rattle.dpl_rules.specs.Expressions.{item_type as item_type_of};
@@ -47,7 +46,7 @@ pub(crate) enum Elements<'t> {
 
 /// The kind of the elements of an array, where a type is an array's.
 pub(crate) fn array_kind(t: ValueType<'_>) -> Option<ScalarKind>
-    ensures some { IfSome result (λ k. value_kind (type_view t.entry) ≡ Some (ArrayKind (kind_view k))) }
+    ensures some { IfSome result (λ k. value_kind (type_view t.entry) ≡ Some (ArrayKind k)) }
     ensures none { IfNone result ((k : Kind) → value_kind (type_view t.entry) ≢ Some (ArrayKind k)) }
 {
     match t {
@@ -70,7 +69,7 @@ pub(crate) fn array_kind(t: ValueType<'_>) -> Option<ScalarKind>
 
 /// The kind of the elements of the array that a name stands for, if it stands for one.
 pub(crate) fn array_named(scopes: &Scopes<'_>, name: &[u8]) -> Option<ScalarKind>
-    ensures some { IfSome result (λ k. kind_in scopes.now name.now ≡ Some (ArrayKind (kind_view k))) }
+    ensures some { IfSome result (λ k. kind_in scopes.now name.now ≡ Some (ArrayKind k)) }
     ensures none { IfNone result ((k : Kind) → kind_in scopes.now name.now ≢ Some (ArrayKind k)) }
 {
     match declared_type(scopes, name) {
@@ -150,9 +149,9 @@ pub(crate) fn given_elements<'t>(
     value: Typed<'t>,
 ) -> Result<Elements<'t>, NoNode>
     ensures node { IfOk result (λ e. One (elements_view e) ≡ typed_item EachTurn value.entry) }
-    ensures kind { IfOk result (λ e. elements_kind e ≡ kind_view kind) }
-    ensures given { IfOk result (λ e. operand_kind (kind_of value.entry) ≡ Some (kind_view kind)) }
-    ensures ill_typed { (result ≡ Err stop.IllTyped) → operand_kind (kind_of value.entry) ≢ Some (kind_view kind) }
+    ensures kind { IfOk result (λ e. elements_kind e ≡ kind) }
+    ensures given { IfOk result (λ e. operand_kind (kind_of value.entry) ≡ Some kind) }
+    ensures ill_typed { (result ≡ Err stop.IllTyped) → operand_kind (kind_of value.entry) ≢ Some kind }
 {
     match kind {
         ScalarKind::Int => given_ints(arena, value),
@@ -186,10 +185,10 @@ fn set_ints<'t>(
     sign: AssignSign,
     e: &'t PromotedInt<'t>,
 ) -> Result<Step<'t>, NoNode>
-    ensures node { IfOk result (λ s. step_view s ≡ whole_changed (array_leaf IntKind x.now) (assign_view sign.op) sign.at (One (elements_view (each.Ints e.entry)))) }
-    ensures takes { IfOk result (λ s. element_takes IntKind (assign_view sign.op) ≡ true) }
-    ensures unreduced { IfOk result (λ s. assign_view sign.op ≢ SetReduce) }
-    ensures ill_typed { (result ≡ Err stop.IllTyped) → assign_view sign.op ≢ SetReduce → IsNear sign.at → ⊥ }
+    ensures node { IfOk result (λ s. step_view s ≡ whole_changed (array_leaf IntKind x.now) sign.op sign.at (One (elements_view (each.Ints e.entry)))) }
+    ensures takes { IfOk result (λ s. element_takes IntKind sign.op ≡ true) }
+    ensures unreduced { IfOk result (λ s. sign.op ≢ SetReduce) }
+    ensures ill_typed { (result ≡ Err stop.IllTyped) → sign.op ≢ SetReduce → IsNear sign.at → ⊥ }
 {
     match sign.op {
         Assign::Set
@@ -212,10 +211,10 @@ fn set_truths<'t>(
     sign: AssignSign,
     e: &'t PromotedTruth<'t>,
 ) -> Result<Step<'t>, NoNode>
-    ensures node { IfOk result (λ s. step_view s ≡ whole_changed (array_leaf BoolKind x.now) (assign_view sign.op) sign.at (One (elements_view (each.Truths e.entry)))) }
-    ensures takes { IfOk result (λ s. element_takes BoolKind (assign_view sign.op) ≡ true) }
-    ensures unreduced { IfOk result (λ s. assign_view sign.op ≢ SetReduce) }
-    ensures ill_typed { (result ≡ Err stop.IllTyped) → element_takes BoolKind (assign_view sign.op) ≡ true → assign_view sign.op ≢ SetReduce → IsNear sign.at → ⊥ }
+    ensures node { IfOk result (λ s. step_view s ≡ whole_changed (array_leaf BoolKind x.now) sign.op sign.at (One (elements_view (each.Truths e.entry)))) }
+    ensures takes { IfOk result (λ s. element_takes BoolKind sign.op ≡ true) }
+    ensures unreduced { IfOk result (λ s. sign.op ≢ SetReduce) }
+    ensures ill_typed { (result ≡ Err stop.IllTyped) → element_takes BoolKind sign.op ≡ true → sign.op ≢ SetReduce → IsNear sign.at → ⊥ }
 {
     match sign.op {
         Assign::Set => {
@@ -238,10 +237,10 @@ fn set_elements<'t>(
     sign: AssignSign,
     elements: Elements<'t>,
 ) -> Result<Step<'t>, NoNode>
-    ensures node { IfOk result (λ s. step_view s ≡ whole_changed (array_leaf (elements_kind elements.entry) x.now) (assign_view sign.op) sign.at (One (elements_view elements.entry))) }
-    ensures takes { IfOk result (λ s. element_takes (elements_kind elements.entry) (assign_view sign.op) ≡ true) }
-    ensures unreduced { IfOk result (λ s. assign_view sign.op ≢ SetReduce) }
-    ensures ill_typed { (result ≡ Err stop.IllTyped) → element_takes (elements_kind elements.entry) (assign_view sign.op) ≡ true → assign_view sign.op ≢ SetReduce → IsNear sign.at → ⊥ }
+    ensures node { IfOk result (λ s. step_view s ≡ whole_changed (array_leaf (elements_kind elements.entry) x.now) sign.op sign.at (One (elements_view elements.entry))) }
+    ensures takes { IfOk result (λ s. element_takes (elements_kind elements.entry) sign.op ≡ true) }
+    ensures unreduced { IfOk result (λ s. sign.op ≢ SetReduce) }
+    ensures ill_typed { (result ≡ Err stop.IllTyped) → element_takes (elements_kind elements.entry) sign.op ≡ true → sign.op ≢ SetReduce → IsNear sign.at → ⊥ }
 {
     match elements {
         Elements::Ints(e) => set_ints(arena, x, sign, e),
@@ -261,7 +260,7 @@ pub(crate) fn set_array<'t>(
     value: &Item<'_>,
     semicolon: Place,
 ) -> Result<Step<'t>, NoNode>
-    requires { kind_in plan.now.scopes name.now.text.now ≡ Some (ArrayKind (kind_view kind)) }
+    requires { kind_in plan.now.scopes name.now.text.now ≡ Some (ArrayKind kind) }
     ensures plans { IfOk result (λ step. PlansStmt plan.now plan.now (AssignedTree (Whole (name_view name.now)) (sign_view sign) (item_view value.now) semicolon) step) }
     ensures ill_typed { (result ≡ Err stop.IllTyped) → IsRunnableStmt plan.now.scopes (intents_in plan.now) (AssignedTree (Whole (name_view name.now)) (sign_view sign) (item_view value.now) semicolon) → ⊥ }
 {
@@ -279,10 +278,10 @@ fn set_int<'t>(
     sign: AssignSign,
     e: &'t IntExpr<'t>,
 ) -> Result<Step<'t>, NoNode>
-    ensures node { IfOk result (λ s. step_view s ≡ element_changed (array_leaf IntKind x.now) (index_exprs index.now) (assign_view sign.op) sign.at (typed_item Once (typed.Int e.entry))) }
-    ensures takes { IfOk result (λ s. element_takes IntKind (assign_view sign.op) ≡ true) }
-    ensures unreduced { IfOk result (λ s. assign_view sign.op ≢ SetReduce) }
-    ensures ill_typed { (result ≡ Err stop.IllTyped) → assign_view sign.op ≢ SetReduce → IsNear sign.at → ⊥ }
+    ensures node { IfOk result (λ s. step_view s ≡ element_changed (array_leaf IntKind x.now) (index_exprs index.now) sign.op sign.at (typed_item Once (typed.Int e.entry))) }
+    ensures takes { IfOk result (λ s. element_takes IntKind sign.op ≡ true) }
+    ensures unreduced { IfOk result (λ s. sign.op ≢ SetReduce) }
+    ensures ill_typed { (result ≡ Err stop.IllTyped) → sign.op ≢ SetReduce → IsNear sign.at → ⊥ }
 {
     match sign.op {
         Assign::Set
@@ -305,10 +304,10 @@ fn set_truth<'t>(
     sign: AssignSign,
     e: &'t BoolExpr<'t>,
 ) -> Result<Step<'t>, NoNode>
-    ensures node { IfOk result (λ s. step_view s ≡ element_changed (array_leaf BoolKind x.now) (index_exprs index.now) (assign_view sign.op) sign.at (typed_item Once (typed.Truth e.entry))) }
-    ensures takes { IfOk result (λ s. element_takes BoolKind (assign_view sign.op) ≡ true) }
-    ensures unreduced { IfOk result (λ s. assign_view sign.op ≢ SetReduce) }
-    ensures ill_typed { (result ≡ Err stop.IllTyped) → element_takes BoolKind (assign_view sign.op) ≡ true → assign_view sign.op ≢ SetReduce → ⊥ }
+    ensures node { IfOk result (λ s. step_view s ≡ element_changed (array_leaf BoolKind x.now) (index_exprs index.now) sign.op sign.at (typed_item Once (typed.Truth e.entry))) }
+    ensures takes { IfOk result (λ s. element_takes BoolKind sign.op ≡ true) }
+    ensures unreduced { IfOk result (λ s. sign.op ≢ SetReduce) }
+    ensures ill_typed { (result ≡ Err stop.IllTyped) → element_takes BoolKind sign.op ≡ true → sign.op ≢ SetReduce → ⊥ }
 {
     match sign.op {
         Assign::Set => Ok(Step::SetTruthElement(x, index, e)),
@@ -330,11 +329,11 @@ fn element_step<'t>(
     sign: AssignSign,
     value: Typed<'t>,
 ) -> Result<Step<'t>, NoNode>
-    ensures node { IfOk result (λ s. step_view s ≡ element_changed (array_leaf (kind_view kind) x.now) (index_exprs index.now) (assign_view sign.op) sign.at (typed_item Once value.entry)) }
-    ensures takes { IfOk result (λ s. element_takes (kind_view kind) (assign_view sign.op) ≡ true) }
-    ensures unreduced { IfOk result (λ s. assign_view sign.op ≢ SetReduce) }
-    ensures given { IfOk result (λ s. kind_of value.entry ≡ PlainKind (leaf_of (kind_view kind))) }
-    ensures ill_typed { (result ≡ Err stop.IllTyped) → kind_of value.entry ≡ PlainKind (leaf_of (kind_view kind)) → element_takes (kind_view kind) (assign_view sign.op) ≡ true → assign_view sign.op ≢ SetReduce → IsNear sign.at → ⊥ }
+    ensures node { IfOk result (λ s. step_view s ≡ element_changed (array_leaf kind x.now) (index_exprs index.now) sign.op sign.at (typed_item Once value.entry)) }
+    ensures takes { IfOk result (λ s. element_takes kind sign.op ≡ true) }
+    ensures unreduced { IfOk result (λ s. sign.op ≢ SetReduce) }
+    ensures given { IfOk result (λ s. kind_of value.entry ≡ PlainKind (leaf_of kind)) }
+    ensures ill_typed { (result ≡ Err stop.IllTyped) → kind_of value.entry ≡ PlainKind (leaf_of kind) → element_takes kind sign.op ≡ true → sign.op ≢ SetReduce → IsNear sign.at → ⊥ }
 {
     match kind {
         ScalarKind::Int => match value {

@@ -4,7 +4,6 @@ ghost use Rattle.std.specs.Prelude.{◌≡◌, ◌≢◌, ◌⊎◌, true, false
 ghost use Rattle.dpl_language.specs.Tree.{OneVariable};
 ghost use Rattle.dpl_language.specs.Phrases.{reduce_intents, intents_of};
 ghost use Rattle.dpl_agreement.specs.Renamed.{renamed_intents};
-ghost use Rattle.dpl_tree.specs.Words.{op_view};
 ghost use Rattle.dpl_tree.specs.View.{expr_view, item_view};
 ghost use Rattle.dpl_tree.specs.Declarations.{optional};
 ghost use Rattle.dpl_tree.specs.Statements.{variables_view, intent_view, with_view};
@@ -204,7 +203,7 @@ pub(crate) fn open<'s, 't>(
 
 // A reduce variable, with its slot.
 fn reduced<'s>(scopes: &Scopes<'_>, op: Op, name: &Name<'s>) -> Result<Reducing<'s>, NoNode>
-    ensures reduced { IfOk result (λ r. reducing_view r ≡ (bound_in scopes.now name.now.text.now, op_view op)) }
+    ensures reduced { IfOk result (λ r. reducing_view r ≡ (bound_in scopes.now name.now.text.now, op)) }
     ensures ill_typed { (result ≡ Err stop.IllTyped) → (k : VariableKind) → kind_in scopes.now name.now.text.now ≡ Some k → IsScalarKind k → ⊥ }
 {
     let Some(ValueType::Scalar(kind)) = declared_type(scopes, name.text) else {

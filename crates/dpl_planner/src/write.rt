@@ -12,7 +12,6 @@ ghost use Rattle.dpl_tree.specs.Statements.{argument_view, arguments_view, writt
 ghost use Rattle.dpl_memory.specs.Memory.{ArrayKind};
 ghost use Rattle.dpl_typer.specs.Leaves.{kind_in};
 ghost use Rattle.dpl_planner.specs.Parts.{IsWholeArray, IsArgument, AreArguments, others_in, StillArguments};
-ghost use Rattle.dpl_nodes.specs.Typed.{kind_view};
 ghost use Rattle.dpl_nodes.specs.declared.stop.NoNode.TheVariants as stop;
 ghost use Rattle.dpl_runnable.specs.Runnable.{IsPrinted, IsRunnableArgument, AreRunnableArguments, IsRunnableStmt};
 ghost use Rattle.dpl_planner.specs.Plans.{intents_in, PlansStmt};
@@ -40,7 +39,7 @@ fn text<'t>(arena: Arena<'t>, bytes: &[u8]) -> Result<&'t [u8], NoNode>
 
 // The array that a bare name stands for, by the kind of its elements and its slot.
 fn whole_array(scopes: &Scopes<'_>, e: &Expr<'_>) -> Option<(ScalarKind, usize)>
-    ensures some { IfSome result (λ a. IsWholeArray scopes.now (expr_view e.now) (kind_view a.0) a.1) }
+    ensures some { IfSome result (λ a. IsWholeArray scopes.now (expr_view e.now) a.0 a.1) }
     ensures none { IfNone result ((x : Placed Text) (k : Kind) → expr_view e.now ≡ Named x → kind_in scopes.now x.name ≢ Some (ArrayKind k)) }
 {
     match e.bare_name() {

@@ -10,18 +10,18 @@ use Rattle.dpl_language.specs.Ranges.{indices_in}
 use Rattle.dpl_language.specs.Printing.{printed_array}
 use Rattle.dpl_language.specs.Writing.{shown}
 use Rattle.dpl_memory.specs.Memory.{ArrayKind, variable, Memory, array_at, in_memory}
-use Rattle.dpl_tree.specs.declared.operator.ScalarKind.{ScalarKind}
+use Rattle.dpl_language.specs.Tree.{Kind}
 use Rattle.dpl_nodes.specs.declared.step.Argument.{Argument}
 use Rattle.dpl_nodes.specs.declared.step.Argument.TheVariants.{Text, Int, Truth, Array}
-use Rattle.dpl_nodes.specs.Typed.{kind_view, int_view, truth_view}
+use Rattle.dpl_nodes.specs.Typed.{int_view, truth_view}
 use Rattle.dpl_frame.specs.Faults.{fault_view}
 use Rattle.dpl_loop.specs.declared.stop.Stop.{Stop}
 use Rattle.dpl_loop.specs.declared.stop.Stop.TheVariants as stop
 
 -- an array's elements, in the order of its domain
-abbrev pub array_text : ScalarKind → ℕ → Memory → List ℕ
+abbrev pub array_text : Kind → ℕ → Memory → List ℕ
 array_text k slot s =
-    printed_array (array_at slot s).ranges (map (λ t. unwrap_or (in_memory.element (variable (ArrayKind (kind_view k)) slot) t s) (Int (pos 0))) (indices_in (array_at slot s).ranges))
+    printed_array (array_at slot s).ranges (map (λ t. unwrap_or (in_memory.element (variable (ArrayKind k) slot) t s) (Int (pos 0))) (indices_in (array_at slot s).ranges))
 
 module _ (limits : Limits) where
   abbrev pub argument_text : Argument → Memory → Result (List ℕ) Fault

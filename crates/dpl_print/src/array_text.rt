@@ -3,7 +3,6 @@
 
 ghost use Rattle.std.specs.Prelude.{◌≡◌, ◌++◌, OnOk};
 ghost use Rattle.dpl_contents.specs.Kinds.{kind_of};
-ghost use Rattle.dpl_nodes.specs.Typed.{kind_view};
 ghost use Rattle.dpl_print.specs.Texts.{array_text};
 
 use dpl_contents::{ElementKind, print_array};
@@ -13,7 +12,7 @@ use std::alloc::AllocError;
 
 // What the words of an array stand for.
 fn element_kind(kind: ScalarKind) -> ElementKind
-    ensures { kind_of result ≡ kind_view kind }
+    ensures { kind_of result ≡ kind }
 {
     match kind {
         ScalarKind::Int => ElementKind::Int,

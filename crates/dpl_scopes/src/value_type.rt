@@ -2,7 +2,6 @@
 // specs/View.antt gives the type of the language's check that each stands for.
 
 ghost use Rattle.std.specs.Prelude.{◌≡◌, option_map};
-ghost use Rattle.dpl_tree.specs.Words.{kind_view, op_view};
 ghost use Rattle.dpl_rules.specs.Types.{same_kind, same_origin, scalar_of, range_of, domain_of, array_of, tuple_of, cell_of, operand_of};
 ghost use Rattle.dpl_rules.specs.Types.{is_scalar, is_int, is_bool, is_any_scalar, is_range, is_domain, is_array, is_cell, is_locale, is_all_locales};
 ghost use Rattle.dpl_rules.specs.Types.{is_plain_range, is_domain_of, fits_array, agrees, op_kind};
@@ -62,7 +61,7 @@ pub struct Operand<'t> {
 
 /// Whether two kinds are one.
 pub fn is_same_kind(a: ScalarKind, b: ScalarKind) -> bool
-    ensures { result ≡ same_kind (kind_view a) (kind_view b) }
+    ensures { result ≡ same_kind a b }
 {
     match a {
         ScalarKind::Int => match b {
@@ -78,7 +77,7 @@ pub fn is_same_kind(a: ScalarKind, b: ScalarKind) -> bool
 
 /// The kind of an operator's operands: `&& ||` take bools, the others ints.
 pub fn kind_of(op: Op) -> ScalarKind
-    ensures { kind_view result ≡ op_kind (op_view op) }
+    ensures { result ≡ op_kind op }
 {
     match op {
         Op::AllOf | Op::AnyOf => ScalarKind::Bool,
@@ -102,7 +101,7 @@ impl<'t> Over<'t> {
 impl<'t> ValueType<'t> {
     /// The kind of an int or a bool.
     pub fn scalar(self) -> Option<ScalarKind>
-        ensures { option_map kind_view result ≡ scalar_of (type_view self.entry) }
+        ensures { result ≡ scalar_of (type_view self.entry) }
     {
         match self {
             ValueType::Scalar(kind) => Some(kind),
@@ -142,7 +141,7 @@ impl<'t> ValueType<'t> {
 
     /// The kind of what a cell holds.
     pub fn cell(self) -> Option<ScalarKind>
-        ensures { option_map kind_view result ≡ cell_of (type_view self.entry) }
+        ensures { result ≡ cell_of (type_view self.entry) }
     {
         match self {
             ValueType::Cell(kind) => Some(kind),

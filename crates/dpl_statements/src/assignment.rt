@@ -4,7 +4,6 @@
 ghost use Rattle.std.specs.Prelude.{◌≡◌, ◌<◌, ◌≤◌, length, IfOk};
 ghost use Rattle.dpl_grammar.specs.Classes.{sign as sign_class, contextual as contextual_class};
 ghost use Rattle.dpl_grammar.specs.Gives.{Gives};
-ghost use Rattle.dpl_tree.specs.Words.{assign_view, read_view, pair_view, write_view};
 ghost use Rattle.dpl_tree.specs.View.{name_view};
 ghost use Rattle.dpl_tree.specs.Statements.{target_view, sign_view, call_view, stmt_view};
 ghost use Rattle.dpl_spelling.specs.Statements.{element as element_rule, target_end as target_end_rule, assign_by as assign_by_rule};
@@ -35,7 +34,7 @@ fn element<'t>(
     shape: (BracketPair, Sign, Sign),
     tokens: Tokens<'t>,
 ) -> Parsed<'t, Target<'t>>
-    ensures gives { Gives (λ x. (target_view x.0, x.1.now)) result (at (told (name_view name.entry) (element_rule (pair_view shape.0) (sign_class shape.1) (sign_class shape.2))) room tokens.now) }
+    ensures gives { Gives (λ x. (target_view x.0, x.1.now)) result (at (told (name_view name.entry) (element_rule shape.0 (sign_class shape.1) (sign_class shape.2))) room tokens.now) }
     ensures shorter { IfOk result (λ x. length x.1.now < length tokens.now) }
 {
     let (open, room, rest) = deeper(room, shape.1, tokens)?;
@@ -75,7 +74,7 @@ fn target_end<'t>(
 
 /// An operator of an assignment that is one sign.
 fn assign_by(wanted: Sign, op: Assign, tokens: Tokens<'_>) -> Parsed<'_, AssignSign>
-    ensures gives { Gives (λ x. (sign_view x.0, x.1.now)) result (at (assign_by_rule (sign_class wanted) (assign_view op)) 0 tokens.now) }
+    ensures gives { Gives (λ x. (sign_view x.0, x.1.now)) result (at (assign_by_rule (sign_class wanted) op) 0 tokens.now) }
     ensures shorter { IfOk result (λ x. length x.1.now < length tokens.now) }
 {
     let (next, rest) = sign(wanted, tokens)?;
@@ -158,7 +157,7 @@ fn write_call<'t>(
     word: WriteWord,
     tokens: Tokens<'t>,
 ) -> Parsed<'t, Call<'t>>
-    ensures gives { Gives (λ x. (call_view x.0, x.1.now)) result (at (write_call_rule (contextual_class wanted) (write_view word)) room tokens.now) }
+    ensures gives { Gives (λ x. (call_view x.0, x.1.now)) result (at (write_call_rule (contextual_class wanted) word) room tokens.now) }
     ensures shorter { IfOk result (λ x. length x.1.now < length tokens.now) }
 {
     let (next, rest) = contextual(wanted, tokens)?;
@@ -175,7 +174,7 @@ fn read_call<'t>(
     word: ReadWord,
     tokens: Tokens<'t>,
 ) -> Parsed<'t, Call<'t>>
-    ensures gives { Gives (λ x. (call_view x.0, x.1.now)) result (at (read_call_rule (contextual_class wanted) (read_view word)) room tokens.now) }
+    ensures gives { Gives (λ x. (call_view x.0, x.1.now)) result (at (read_call_rule (contextual_class wanted) word) room tokens.now) }
     ensures shorter { IfOk result (λ x. length x.1.now < length tokens.now) }
 {
     let (next, rest) = contextual(wanted, tokens)?;

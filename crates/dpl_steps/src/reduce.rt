@@ -1,10 +1,9 @@
 // `reduce=`: two values put together by the operator of the forall's intent.
 // An operator on values that it doesn't take, which no sound program has, gives 0 or false as the language's meaning does.
 
-ghost use Rattle.std.specs.Prelude.{◌≡◌, option_map};
+ghost use Rattle.std.specs.Prelude.{◌≡◌};
 ghost use Rattle.dpl_language.specs.Values.{number, kept_number, Int, Truth};
 ghost use Rattle.dpl_language.specs.Arithmetic.{combined as combined_of, by_intent};
-ghost use Rattle.dpl_tree.specs.Words.{op_view};
 
 use dpl_nodes::Fold;
 use dpl_tree::Op;
@@ -12,7 +11,7 @@ use dpl_values::fold::{combined_ints, combined_truths};
 
 // Two ints.
 fn two_ints(op: Op, a: i64, b: i64) -> i64
-    ensures { result ≡ number (combined_of (op_view op) (Int a) (Int b)) }
+    ensures { result ≡ number (combined_of op (Int a) (Int b)) }
 {
     match Fold::of(op) {
         Fold::Ints(fold) => combined_ints(fold, a, b),
@@ -22,7 +21,7 @@ fn two_ints(op: Op, a: i64, b: i64) -> i64
 
 // Two truth values, as a number.
 fn two_truths(op: Op, a: bool, b: bool) -> i64
-    ensures { result ≡ kept_number (combined_of (op_view op) (Truth a) (Truth b)) }
+    ensures { result ≡ kept_number (combined_of op (Truth a) (Truth b)) }
 {
     match Fold::of(op) {
         Fold::Truths(fold) => i64::from(combined_truths(fold, a, b)),
@@ -32,7 +31,7 @@ fn two_truths(op: Op, a: bool, b: bool) -> i64
 
 /// What an int is after `reduce=`; without an intent it is the right side.
 pub(crate) fn reduced_int(op: Option<Op>, old: i64, value: i64) -> i64
-    ensures { result ≡ number (by_intent (option_map op_view op) (Int old) (Int value)) }
+    ensures { result ≡ number (by_intent op (Int old) (Int value)) }
 {
     match op {
         None => value,
@@ -42,7 +41,7 @@ pub(crate) fn reduced_int(op: Option<Op>, old: i64, value: i64) -> i64
 
 /// The same of a truth value, as a number.
 pub(crate) fn reduced_truth(op: Option<Op>, old: bool, value: bool) -> i64
-    ensures { result ≡ kept_number (by_intent (option_map op_view op) (Truth old) (Truth value)) }
+    ensures { result ≡ kept_number (by_intent op (Truth old) (Truth value)) }
 {
     match op {
         None => i64::from(value),

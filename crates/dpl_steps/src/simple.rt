@@ -7,7 +7,6 @@ ghost use Rattle.dpl_language.specs.Outcome.{Deeds};
 ghost use Rattle.dpl_language.specs.Statements.{exec};
 ghost use Rattle.dpl_lowered.specs.Shapes.{nowhere};
 ghost use Rattle.dpl_memory.specs.Memory.{DomainKind, variable, range_leaf, in_memory};
-ghost use Rattle.dpl_tree.specs.Words.{assign_view};
 ghost use Rattle.dpl_nodes.specs.Typed.{int_view, truth_view, range_item, domain_view};
 ghost use Rattle.dpl_nodes.specs.Steps.{array_leaf, declared_as, element_set};
 ghost use Rattle.dpl_elements.specs.Changes.{declared_memory, truth_memory, ends_as};
@@ -79,7 +78,7 @@ pub(crate) fn element<G: Gate>(
     frame: &mut Frame<'_>,
     gate: &G,
 ) -> Result<(), Stop>
-    ensures ends { (done : Deeds) → RunsTo (MayRefuseSome (G.may_refuse gate.now)) result frame.new.memory done (exec frame.old.limits in_memory (element_set (array_leaf IntKind name.now) t.now (assign_view op) sign.now (int_view e.now)) frame.old.memory done) }
+    ensures ends { (done : Deeds) → RunsTo (MayRefuseSome (G.may_refuse gate.now)) result frame.new.memory done (exec frame.old.limits in_memory (element_set (array_leaf IntKind name.now) t.now op sign.now (int_view e.now)) frame.old.memory done) }
     ensures limits { frame.new.limits ≡ frame.old.limits }
 {
     set_element(name, t, op, sign, e, frame, gate)

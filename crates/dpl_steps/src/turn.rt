@@ -5,7 +5,6 @@ ghost use Rattle.std.specs.Prelude.{◌≡◌, ◌≤◌, true};
 ghost use Rattle.dpl_array.specs.Elements.{behind};
 ghost use Rattle.dpl_language.specs.Tree.{IntKind, NoStmts, Then};
 ghost use Rattle.dpl_standing.specs.Standing.{InTurn};
-ghost use Rattle.dpl_tree.specs.Words.{assign_view};
 ghost use Rattle.dpl_nodes.specs.Typed.{int_view};
 ghost use Rattle.dpl_nodes.specs.Steps.{array_leaf, element_set};
 ghost use Rattle.dpl_loop.specs.Runs.{AreDone};
@@ -60,7 +59,7 @@ fn assign_row<'t>(
     frame: &mut Frame<'t>,
 ) -> usize
     ensures most { result ≤ most }
-    ensures done { AreDone (index_turn frame.old.limits names.now (Then (element_set (array_leaf IntKind name.now) index.now (assign_view op) sign.now (int_view e.now)) NoStmts)) first result frame.old.memory frame.new.memory }
+    ensures done { AreDone (index_turn frame.old.limits names.now (Then (element_set (array_leaf IntKind name.now) index.now op sign.now (int_view e.now)) NoStmts)) first result frame.old.memory frame.new.memory }
     ensures limits { frame.new.limits ≡ frame.old.limits }
 {
     if !has_room(first) {

@@ -3,12 +3,17 @@
 #![tactic(auto)]
 
 pub mod bytes;
+pub mod operator;
 pub mod place;
 pub mod refusal;
 pub mod stop;
 pub mod token;
 
 pub use bytes::Bytes;
+pub use operator::{
+    Assign, BracketPair, CreateWord, Dots, Infix, Module, Op, Prefix, ReadWord, ScalarKind, Word,
+    WriteWord,
+};
 pub use place::Place;
 pub use refusal::{Breach, Code, Refusal};
 pub use stop::{LexStop, Stop};

@@ -13,13 +13,12 @@ use Rattle.dpl_tree.specs.declared.expression.NextExpr.{NextExpr as NextExprNode
 use Rattle.dpl_tree.specs.declared.statement.Body.TheBlock.{hidden-the_row-Stmt-0}
 use Rattle.dpl_tree.specs.declared.statement.Stmt.{Stmt, Row_of-Stmt, end_of-Stmt, more_of-Stmt, items-the_row-Stmt, items_hidden-the_row-Stmt-0}
 use Rattle.dpl_language.specs.Tree.{Chain, Link, Post, NextItem, NextExpr, Then}
-use Rattle.dpl_tree.specs.Words.{infix_view}
 use Rattle.dpl_tree.specs.View.{expr_view, chain_view, item_view, post_view, links_view, posts_view, more_items_view, more_exprs_view, links_of, posts_of, more_items_of, more_exprs_of}
 use Rattle.dpl_tree.specs.Statements.{stmt_view, stmts_view, stmts_of}
 
 links_row : {m : _} (row : Row_of-Link m) → links_view row ≡ links_of (items-the_row-Link m row)
 links_row end_of-Link = refl
-links_row (more_of-Link at op p e row) = ap (Link at (infix_view op) (expr_view e)) (links_row row)
+links_row (more_of-Link at op p e row) = ap (Link at op (expr_view e)) (links_row row)
 
 pub links_view-row : (xs : List LinkNode) → links_view (hidden-the_row-Link-1 xs) ≡ links_of xs
 links_view-row xs = links_row (hidden-the_row-Link-1 xs) ∙ ap links_of (items_hidden-the_row-Link-1 xs)

@@ -1,7 +1,6 @@
 -- The plain declaration that one in memory stands for.
 -- Maps, types and initial values, each by its fields.
 use Rattle.std.specs.Prelude.{map, Option, Some, None}
-use Rattle.dpl_tree.specs.Words.{kind_view, create_view}
 use Rattle.dpl_language.specs.Phrases.{natural}
 use Rattle.dpl_tree.specs.View.{Spelled, name_view, expr_view, item_view, items_view, next_expr_view}
 use Rattle.dpl_tree.specs.declared.declaration.ArgumentName.{ArgumentName as ArgumentNode}
@@ -68,16 +67,16 @@ abbrev pub domain_type_view : DomainNode → Spelled DomainTypeTree
 domain_type_view t = record { at = t.at; from = t.from; rank_at = t.rank_at; rank = natural t.rank; upto = t.upto; mapped = optional mapped_view t.mapped }
 
 abbrev pub array_type_view : ArrayNode → Spelled ArrayTypeTree
-array_type_view t = record { from = t.from; over = items_view t.over; upto = t.upto; kind_at = t.kind_at; kind = kind_view t.kind }
+array_type_view t = record { from = t.from; over = items_view t.over; upto = t.upto; kind_at = t.kind_at; kind = t.kind }
 
 abbrev pub type_view : DeclaredType → Spelled TypeTree
-type_view (Scalar at kind) = ScalarType at (kind_view kind)
-type_view (Sync at kind_at kind) = SyncType at kind_at (kind_view kind)
+type_view (Scalar at kind) = ScalarType at kind
+type_view (Sync at kind_at kind) = SyncType at kind_at kind
 type_view (Domain t) = DomainType (domain_type_view t)
 type_view (Array t) = ArrayType (array_type_view t)
 
 abbrev pub created_view : CreateNode → Spelled CreateTree
-created_view c = record { at = c.at; word = create_view c.word; dot = c.dot; method = c.method; from = c.from; items = items_view c.items; upto = c.upto }
+created_view c = record { at = c.at; word = c.word; dot = c.dot; method = c.method; from = c.from; items = items_view c.items; upto = c.upto }
 
 abbrev pub init_view : Init → Spelled InitTree
 init_view (Item item mapped) = ItemInit (item_view item) (optional mapped_view mapped)

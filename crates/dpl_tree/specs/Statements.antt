@@ -2,7 +2,6 @@
 -- What is written as a text stands for the bytes that its escapes mean.
 use Rattle.std.specs.Prelude.{ℕ, List, [], ◌∷◌, map}
 use Rattle.dpl_syntax.specs.Text.{text_value}
-use Rattle.dpl_tree.specs.Words.{op_view, assign_view, read_view, write_view, pair_view, module_view}
 use Rattle.dpl_tree.specs.View.{Spelled, name_view, expr_view, exprs_view, item_view}
 use Rattle.dpl_tree.specs.Declarations.{optional, declare_view}
 use Rattle.dpl_tree.specs.declared.statement.Argument.{Argument}
@@ -45,7 +44,7 @@ abbrev pub written_view : WriteNode → Spelled WriteTree
 written_view w = record { at = w.at; ends_line = w.ends_line; from = w.from; arguments = optional arguments_view w.arguments; upto = w.upto; semicolon = w.semicolon }
 
 abbrev pub intent_view : Intent → Spelled IntentTree
-intent_view (Reduce at op word x) = ReduceIntent at (op_view op) word (name_view x)
+intent_view (Reduce at op word x) = ReduceIntent at op word (name_view x)
 intent_view (Ref at x) = RefIntent at (name_view x)
 
 abbrev pub next_intent_view : NextIntent → AfterComma (Spelled IntentTree)
@@ -63,15 +62,15 @@ variables_view (variables.Many from first others upto) = ManyVariables from (rec
 
 abbrev pub target_view : Target → Spelled TargetTree
 target_view (target.Whole x) = Whole (name_view x)
-target_view (target.Element e) = Element (name_view e.now.name) (pair_view e.now.shape) e.now.from (exprs_view e.now.exprs) e.now.upto
+target_view (target.Element e) = Element (name_view e.now.name) e.now.shape e.now.from (exprs_view e.now.exprs) e.now.upto
 
 abbrev pub sign_view : AssignSign → AssignTree
-sign_view s = record { at = s.at; op = assign_view s.op; last = s.last }
+sign_view s = record { at = s.at; op = s.op; last = s.last }
 
 abbrev pub call_view : CallNode → Spelled CallTree
-call_view (call.Read at word from upto) = ReadCall at (read_view word) from upto
+call_view (call.Read at word from upto) = ReadCall at word from upto
 call_view (call.Reset at from upto) = ResetCall at from upto
-call_view (call.Write at word from e upto) = WriteCall at (write_view word) from (expr_view e.now) upto
+call_view (call.Write at word from e upto) = WriteCall at word from (expr_view e.now) upto
 
 abbrev mutual
   pub stmt_view : Stmt → Spelled StmtTree
@@ -106,7 +105,7 @@ stmts_of [] = NoStmts
 stmts_of (s ∷ ss) = Then (stmt_view s) (stmts_of ss)
 
 abbrev pub module_name_view : ModuleName → ModuleTree
-module_name_view m = record { at = m.at; word = module_view m.word }
+module_name_view m = record { at = m.at; word = m.word }
 
 abbrev pub next_module_view : NextModule → AfterComma ModuleTree
 next_module_view n = record { comma = n.comma; part = module_name_view n.module }

@@ -1,7 +1,6 @@
 -- The plain expression that one in memory stands for.
 -- A name stands for its text; where a node lies is left out.
 use Rattle.std.specs.Prelude.{ℕ, List, [], ◌∷◌}
-use Rattle.dpl_tree.specs.Words.{prefix_view, infix_view, op_view, dots_view, word_view, read_view}
 use Rattle.dpl_tree.specs.declared.expression.Name.{Name as NameNode}
 use Rattle.dpl_tree.specs.declared.expression.Expr.{Expr as ExprNode, Number as NumberNode, Truth as TruthNode, Named as NamedNode, Locales as LocalesNode, LocaleCount as LocaleCountNode, Here as HereNode, Grouped', Domain', Prefixed', Reduced', Chain', Postfixed', Row_of-Post, end_of-Post, more_of-Post}
 use Rattle.dpl_tree.specs.declared.expression.Chain.{Chain as ChainNode, Chain' as chain_node, Row_of-Link, end_of-Link, more_of-Link}
@@ -36,8 +35,8 @@ abbrev mutual
   expr_view (HereNode at) = HereWord at
   expr_view (Grouped' from p item upto) = Grouped from (item_view item) upto
   expr_view (Domain' from p items upto) = DomainLiteral from (items_view items) upto
-  expr_view (Prefixed' at op p e) = Prefixed at (prefix_view op) (expr_view e)
-  expr_view (Reduced' p at op word q e) = Reduced at (op_view op) word (expr_view e)
+  expr_view (Prefixed' at op p e) = Prefixed at op (expr_view e)
+  expr_view (Reduced' p at op word q e) = Reduced at op word (expr_view e)
   expr_view (Chain' p chain) = chain_view chain
   expr_view (Postfixed' p q base r shape row) = Postfixed (expr_view base) (posts_view row)
 
@@ -46,7 +45,7 @@ abbrev mutual
 
   pub links_view : {m : _} → Row_of-Link m → Spelled Links
   links_view end_of-Link = NoLinks
-  links_view (more_of-Link at op p e row) = Link at (infix_view op) (expr_view e) (links_view row)
+  links_view (more_of-Link at op p e row) = Link at op (expr_view e) (links_view row)
 
   pub posts_view : {m : _} → Row_of-Post m → Spelled Posts
   posts_view end_of-Post = NoPosts
@@ -58,15 +57,15 @@ abbrev mutual
   post_view (DottedNode dot method) = Dotted dot (method_view method)
 
   pub method_view : MethodNode → Spelled MethodTree
-  method_view (Plain at word) = Plainly at (word_view word)
+  method_view (Plain at word) = Plainly at word
   method_view (DimNode d) = Dim d.now.at d.now.from d.now.number_at (natural d.now.number) d.now.upto
   method_view (Contains' p (contains_node at from exprs upto)) = Contains at from (exprs_view exprs) upto
   method_view (Expand' p at from q by upto) = Expand at from (expr_view by) upto
-  method_view (CellReadNode at word from upto) = CellRead at (read_view word) from upto
+  method_view (CellReadNode at word from upto) = CellRead at word from upto
 
   pub item_view : ItemNode → Spelled ItemTree
   item_view (One' p e) = One (expr_view e)
-  item_view (Range' p q low at dots r high by) = RangeItem (expr_view low) at (dots_view dots) (expr_view high) (stride_view by)
+  item_view (Range' p q low at dots r high by) = RangeItem (expr_view low) at dots (expr_view high) (stride_view by)
 
   pub stride_view : StrideNode → Spelled Stride
   stride_view Absent = NoStride
@@ -89,7 +88,7 @@ abbrev mutual
 -- the same for lists of what stands behind commas
 abbrev pub links_of : List LinkNode → Spelled Links
 links_of [] = NoLinks
-links_of (l ∷ ls) = Link l.at (infix_view l.op) (expr_view l.right.now) (links_of ls)
+links_of (l ∷ ls) = Link l.at l.op (expr_view l.right.now) (links_of ls)
 
 abbrev pub posts_of : List PostNode → Spelled Posts
 posts_of [] = NoPosts

@@ -2,8 +2,7 @@
 // None of them holds a statement.
 
 use crate::expression::{Expr, Item, Items, Name, NextExpr};
-use crate::operator::{CreateWord, ScalarKind};
-use dpl_syntax::Place;
+use dpl_syntax::{CreateWord, Place, ScalarKind};
 
 /// The name of a map's argument (`boundingBox`, `startIdx`, `blocksize`) and its `=`.
 #[derive(Clone, Copy)]

@@ -1,8 +1,7 @@
 // Expressions, items and what stands in them.
 // A list with separators is its first part and the others, each behind its separator. Expressions are held by reference.
 
-use crate::operator::{Dots, Infix, Op, Prefix, ReadWord, Word};
-use dpl_syntax::Place;
+use dpl_syntax::{Dots, Infix, Op, Place, Prefix, ReadWord, Word};
 
 /// A name in the text.
 #[derive(Clone, Copy)]

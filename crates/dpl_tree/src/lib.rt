@@ -8,7 +8,6 @@ mod bare;
 pub mod declaration;
 pub mod expression;
 mod make;
-pub mod operator;
 pub mod statement;
 
 pub use arena::Arena;
@@ -16,13 +15,13 @@ pub use declaration::{
     ArgumentName, ArrayType, BlockCyclicMap, BlockMap, Create, CyclicMap, Declare, DeclaredType,
     DomainType, Init, Initial, Map, Mapped, Start, Typed,
 };
+pub use dpl_syntax::{
+    Assign, BracketPair, CreateWord, Dots, Infix, Module, Op, Prefix, ReadWord, ScalarKind, Word,
+    WriteWord,
+};
 pub use expression::{
     Chain, Contains, Dim, Expand, Expr, Exprs, Item, Items, Link, Method, Name, NextExpr, NextItem,
     Post, Postfixed, Range, Reduction, Stride,
-};
-pub use operator::{
-    Assign, BracketPair, CreateWord, Dots, Infix, Module, Op, Prefix, ReadWord, ScalarKind, Word,
-    WriteWord,
 };
 pub use statement::{
     Argument, Arguments, AssignSign, Assignment, Block, Body, Call, CellCall, Coforall, Element,

@@ -3,8 +3,7 @@
 
 use crate::declaration::Declare;
 use crate::expression::{Expr, Exprs, Item, Name};
-use crate::operator::{Assign, BracketPair, Module, Op, ReadWord, WriteWord};
-use dpl_syntax::Place;
+use dpl_syntax::{Assign, BracketPair, Module, Op, Place, ReadWord, WriteWord};
 
 /// What is handed to `write`.
 #[derive(Clone, Copy)]

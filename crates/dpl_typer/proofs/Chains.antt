@@ -9,7 +9,6 @@ use Rattle.dpl_language.specs.Arithmetic.{divides}
 use Rattle.dpl_language.specs.Names.{Text}
 use Rattle.dpl_agreement.specs.Renamed.{renamed_links}
 use Rattle.dpl_tree.specs.declared.expression.Link.{Link as LinkNode}
-use Rattle.dpl_tree.specs.Words.{infix_view}
 use Rattle.dpl_tree.specs.View.{links_of}
 use Rattle.dpl_rules.specs.Types.{ValueType}
 use Rattle.dpl_rules.specs.Verdicts.{type_by}
@@ -53,11 +52,11 @@ module _ {M N : Type 0} (known : N → Known) (m : Times) (f : M → N) where
   nests-lowered (Link at op e rest) = all_pass_on-lowered op rest
 
 -- the first operator passes on to itself, so a walk may begin with it
-pub nests-first : (xs : List LinkNode) (x : LinkNode) → slice_get xs 0 ≡ Some x → all_pass_on (infix_view x.op) (links_of xs) ≡ nests (links_of xs)
+pub nests-first : (xs : List LinkNode) (x : LinkNode) → slice_get xs 0 ≡ Some x → all_pass_on x.op (links_of xs) ≡ nests (links_of xs)
 nests-first [] x e = absurd (none-some x e)
 nests-first (y ∷ xs) x e =
-    subst (λ o. all_pass_on (infix_view (or_first o).op) (links_of (y ∷ xs)) ≡ nests (links_of (y ∷ xs))) e
-    (ap (λ b. b && all_pass_on (infix_view y.op) (links_of xs)) (passes_on-itself (infix_view y.op)))
+    subst (λ o. all_pass_on (or_first o).op (links_of (y ∷ xs)) ≡ nests (links_of (y ∷ xs))) e
+    (ap (λ b. b && all_pass_on y.op (links_of xs)) (passes_on-itself y.op))
   where
     or_first : Option LinkNode → LinkNode
     or_first None = y

@@ -19,7 +19,6 @@ use Rattle.dpl_memory.specs.Memory.{VariableKind, PlainKind, DomainKind, TupleKi
 use Rattle.dpl_tree.specs.declared.expression.Chain.{Chain as ChainNode, out-Chain}
 use Rattle.dpl_tree.specs.declared.expression.Range.{Range as RangeNode}
 use Rattle.dpl_tree.specs.declared.expression.Postfixed.{Postfixed as PostfixedNode}
-use Rattle.dpl_tree.specs.Words.{dots_view}
 use Rattle.dpl_tree.specs.View.{expr_view, stride_view, links_of, posts_of}
 use Rattle.dpl_typer.specs.declared.make.Typed.{Typed}
 use Rattle.dpl_typer.specs.declared.pieces.Parts.{Parts}
@@ -71,7 +70,7 @@ HasNoChain scopes first ls = (u : Option ValueType) → IsOfType first u → cha
 -- RANGES
 -- a range, by its bounds and its stride
 abbrev pub range_tree : RangeNode → ItemTree Text
-range_tree r = RangeItem (expr_view r.low.now) r.at (dots_view r.dots) (expr_view r.high.now) (stride_view r.by)
+range_tree r = RangeItem (expr_view r.low.now) r.at r.dots (expr_view r.high.now) (stride_view r.by)
 
 abbrev pub stride_leaves : Scopes → Stride Text → Stride Variable
 stride_leaves scopes by = lowered_stride known_variable (renamed_stride (leaf_in scopes) by)

@@ -6,7 +6,6 @@ ghost use Rattle.dpl_language.specs.Tree.{IntKind, BoolKind, Contains, Plainly};
 ghost use Rattle.dpl_lowered.specs.Shapes.{nowhere, kept};
 ghost use Rattle.dpl_lowered.specs.LoweredExpressions.{Times, Once, EachTurn, is_end};
 ghost use Rattle.dpl_syntax.specs.declared.place.Place.{Place as PlaceOf};
-ghost use Rattle.dpl_tree.specs.Words.{word_view};
 ghost use Rattle.dpl_memory.specs.Memory.{PlainKind};
 ghost use Rattle.dpl_words.specs.Words.{TruthLeaf, RangeLeaf};
 ghost use Rattle.dpl_nodes.specs.Typed.{dotted, in_square, range_view, ranges_items, index_items, index_exprs, promoted_int, promoted_truth};
@@ -143,9 +142,9 @@ pub fn square<'t>(arena: Arena<'t>, base: Typed<'t>, parts: Parts<'t>) -> Result
 
 // A method without arguments of ints at each index: the domain of a whole array.
 fn of_ints<'t>(arena: Arena<'t>, word: Word, base: &'t PromotedInt<'t>) -> Result<Typed<'t>, NoNode>
-    ensures node { IfOk result (λ t. (at : PlaceOf) (m : Times) → typed_view m t ≡ dotted (promoted_int Once base.now) (Plainly (kept (is_end (word_view word)) at) (word_view word))) }
-    ensures kind { IfOk result (λ t. array_word_kind (whole_ints base.now) (word_view word) ≡ Some (kind_of t)) }
-    ensures ill_typed { (result ≡ Err stop.IllTyped) → array_word_kind (whole_ints base.now) (word_view word) ≡ None }
+    ensures node { IfOk result (λ t. (at : PlaceOf) (m : Times) → typed_view m t ≡ dotted (promoted_int Once base.now) (Plainly (kept (is_end word) at) word)) }
+    ensures kind { IfOk result (λ t. array_word_kind (whole_ints base.now) word ≡ Some (kind_of t)) }
+    ensures ill_typed { (result ≡ Err stop.IllTyped) → array_word_kind (whole_ints base.now) word ≡ None }
 {
     match word {
         Word::DomainOf => match base {
@@ -177,9 +176,9 @@ fn of_truths<'t>(
     word: Word,
     base: &'t PromotedTruth<'t>,
 ) -> Result<Typed<'t>, NoNode>
-    ensures node { IfOk result (λ t. (at : PlaceOf) (m : Times) → typed_view m t ≡ dotted (promoted_truth Once base.now) (Plainly (kept (is_end (word_view word)) at) (word_view word))) }
-    ensures kind { IfOk result (λ t. array_word_kind (whole_truths base.now) (word_view word) ≡ Some (kind_of t)) }
-    ensures ill_typed { (result ≡ Err stop.IllTyped) → array_word_kind (whole_truths base.now) (word_view word) ≡ None }
+    ensures node { IfOk result (λ t. (at : PlaceOf) (m : Times) → typed_view m t ≡ dotted (promoted_truth Once base.now) (Plainly (kept (is_end word) at) word)) }
+    ensures kind { IfOk result (λ t. array_word_kind (whole_truths base.now) word ≡ Some (kind_of t)) }
+    ensures ill_typed { (result ≡ Err stop.IllTyped) → array_word_kind (whole_truths base.now) word ≡ None }
 {
     match word {
         Word::DomainOf => match base {
@@ -215,9 +214,9 @@ pub fn called<'t>(
     at: Place,
     base: Typed<'t>,
 ) -> Result<Typed<'t>, NoNode>
-    ensures node { IfOk result (λ t. (m : Times) → typed_view m t ≡ dotted (typed_view Once base.entry) (Plainly (kept (is_end (word_view word)) at) (word_view word))) }
-    ensures kind { IfOk result (λ t. word_kind (word_view word) (is_whole base.entry) (kind_of base.entry) ≡ Some (kind_of t)) }
-    ensures ill_typed { (result ≡ Err stop.IllTyped) → IsNear at → word_kind (word_view word) (is_whole base.entry) (kind_of base.entry) ≡ None }
+    ensures node { IfOk result (λ t. (m : Times) → typed_view m t ≡ dotted (typed_view Once base.entry) (Plainly (kept (is_end word) at) word)) }
+    ensures kind { IfOk result (λ t. word_kind word (is_whole base.entry) (kind_of base.entry) ≡ Some (kind_of t)) }
+    ensures ill_typed { (result ≡ Err stop.IllTyped) → IsNear at → word_kind word (is_whole base.entry) (kind_of base.entry) ≡ None }
 {
     match base {
         Typed::Range(base) => of_range(arena, word, at, base),

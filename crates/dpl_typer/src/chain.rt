@@ -3,14 +3,13 @@
 
 ghost use Rattle.std.specs.Prelude.{◌≡◌};
 ghost use Rattle.dpl_lowered.specs.Shapes.{passes_on as passes_on_of, nests as nests_of};
-ghost use Rattle.dpl_tree.specs.Words.{infix_view};
 ghost use Rattle.dpl_tree.specs.View.{links_of};
 
 use dpl_tree::{Infix, Link};
 
 // What decides an operator decides the next one.
 fn passes_on(op: Infix, next: Infix) -> bool
-    ensures { result ≡ passes_on_of (infix_view op) (infix_view next) }
+    ensures { result ≡ passes_on_of op next }
 {
     match op {
         Infix::And => matches!(next, Infix::And),

@@ -6,7 +6,6 @@ ghost use Rattle.dpl_language.specs.Phrases.{natural};
 ghost use Rattle.dpl_language.specs.Tree.{DomainLiteral, One, Plainly, Dim, Expand};
 ghost use Rattle.dpl_lowered.specs.Shapes.{nowhere, kept};
 ghost use Rattle.dpl_lowered.specs.LoweredExpressions.{Times, Once, is_end};
-ghost use Rattle.dpl_tree.specs.Words.{word_view};
 ghost use Rattle.dpl_memory.specs.Memory.{DomainKind};
 ghost use Rattle.dpl_nodes.specs.Typed.{dotted, items_one, domain_view};
 ghost use Rattle.dpl_nodes.specs.Spots.{IsNear};
@@ -62,9 +61,9 @@ pub(crate) fn of_domain<'t>(
     at: Place,
     base: &'t DomainExpr<'t>,
 ) -> Result<Typed<'t>, NoNode>
-    ensures node { IfOk result (λ t. (m : Times) → typed_view m t ≡ dotted (domain_view base.now) (Plainly (kept (is_end (word_view word)) at) (word_view word))) }
-    ensures kind { IfOk result (λ t. domain_word_kind (word_view word) ≡ Some (kind_of t)) }
-    ensures ill_typed { (result ≡ Err stop.IllTyped) → domain_word_kind (word_view word) ≡ None }
+    ensures node { IfOk result (λ t. (m : Times) → typed_view m t ≡ dotted (domain_view base.now) (Plainly (kept (is_end word) at) word)) }
+    ensures kind { IfOk result (λ t. domain_word_kind word ≡ Some (kind_of t)) }
+    ensures ill_typed { (result ≡ Err stop.IllTyped) → domain_word_kind word ≡ None }
 {
     match word {
         Word::Size => int(arena.node(IntExpr::Count(base))),

@@ -7,7 +7,7 @@ ghost use Rattle.dpl_lowered.specs.LoweredExpressions.{Times, each_turn};
 ghost use Rattle.dpl_lowered.specs.Shapes.{nowhere, kept};
 ghost use Rattle.dpl_words.specs.Words.{IntLeaf, TruthLeaf, RangeLeaf};
 ghost use Rattle.dpl_memory.specs.Memory.{PlainKind, DomainKind, TupleKind, ArrayKind, variable, int_leaf, truth_leaf, range_leaf};
-ghost use Rattle.dpl_nodes.specs.Typed.{leaf_named, array_named, kind_view};
+ghost use Rattle.dpl_nodes.specs.Typed.{leaf_named, array_named};
 ghost use Rattle.dpl_nodes.specs.Spots.{IsNear};
 ghost use Rattle.dpl_typer.specs.Makers.{typed_view, kind_of, is_whole};
 ghost use Rattle.dpl_nodes.specs.declared.stop.NoNode.TheVariants as stop;
@@ -108,8 +108,8 @@ pub fn array_variable<'t>(
     slot: usize,
     at: Place,
 ) -> Result<Typed<'t>, NoNode>
-    ensures node { IfOk result (λ t. (m : Times) → typed_view m t ≡ array_named (kind_view kind) slot (kept (each_turn m) at)) }
-    ensures kind { IfOk result (λ t. kind_of t ≡ ArrayKind (kind_view kind)) }
+    ensures node { IfOk result (λ t. (m : Times) → typed_view m t ≡ array_named kind slot (kept (each_turn m) at)) }
+    ensures kind { IfOk result (λ t. kind_of t ≡ ArrayKind kind) }
     ensures whole { IfOk result (λ t. is_whole t ≡ true) }
     ensures ill_typed { (result ≡ Err stop.IllTyped) → IsNear at → ⊥ }
 {

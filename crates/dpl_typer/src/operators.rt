@@ -6,7 +6,6 @@ ghost use Rattle.dpl_language.specs.Arithmetic.{divides};
 ghost use Rattle.dpl_language.specs.Tree.{IntKind, BoolKind, Minus, Not, Prefixed};
 ghost use Rattle.dpl_lowered.specs.LoweredExpressions.{Times};
 ghost use Rattle.dpl_lowered.specs.Shapes.{nowhere, kept, two};
-ghost use Rattle.dpl_tree.specs.Words.{infix_view, prefix_view};
 ghost use Rattle.dpl_words.specs.Words.{IntLeaf, TruthLeaf};
 ghost use Rattle.dpl_memory.specs.Memory.{PlainKind, ArrayKind};
 ghost use Rattle.dpl_nodes.specs.Typed.{comparison_view, int_view, truth_view, promoted_int, promoted_truth};
@@ -27,9 +26,9 @@ fn of_ints<'t>(
     left: &'t IntExpr<'t>,
     right: &'t IntExpr<'t>,
 ) -> Result<Typed<'t>, NoNode>
-    ensures node { IfOk result (λ t. (m : Times) → typed_view m t ≡ two (int_view left.now) (kept (divides (infix_view op)) at) (infix_view op) (int_view right.now)) }
-    ensures kind { IfOk result (λ t. option_map (kind_over false) (ints_kind (infix_view op)) ≡ Some (kind_of t)) }
-    ensures ill_typed { (result ≡ Err stop.IllTyped) → IsNear at → ints_kind (infix_view op) ≡ None }
+    ensures node { IfOk result (λ t. (m : Times) → typed_view m t ≡ two (int_view left.now) (kept (divides op) at) op (int_view right.now)) }
+    ensures kind { IfOk result (λ t. option_map (kind_over false) (ints_kind op) ≡ Some (kind_of t)) }
+    ensures ill_typed { (result ≡ Err stop.IllTyped) → IsNear at → ints_kind op ≡ None }
 {
     match op {
         Infix::Add => int(arena.node(IntExpr::Sum(left, right))),
@@ -74,9 +73,9 @@ fn of_truths<'t>(
     left: &'t BoolExpr<'t>,
     right: &'t BoolExpr<'t>,
 ) -> Result<Typed<'t>, NoNode>
-    ensures node { IfOk result (λ t. (m : Times) → typed_view m t ≡ two (truth_view left.now) nowhere (infix_view op) (truth_view right.now)) }
-    ensures kind { IfOk result (λ t. option_map (kind_over false) (truths_kind (infix_view op)) ≡ Some (kind_of t)) }
-    ensures ill_typed { (result ≡ Err stop.IllTyped) → truths_kind (infix_view op) ≡ None }
+    ensures node { IfOk result (λ t. (m : Times) → typed_view m t ≡ two (truth_view left.now) nowhere op (truth_view right.now)) }
+    ensures kind { IfOk result (λ t. option_map (kind_over false) (truths_kind op) ≡ Some (kind_of t)) }
+    ensures ill_typed { (result ≡ Err stop.IllTyped) → truths_kind op ≡ None }
 {
     match op {
         Infix::Equal => truth(arena.node(BoolExpr::Same(left, right))),
@@ -103,9 +102,9 @@ fn of_promoted_ints<'t>(
     left: &'t PromotedInt<'t>,
     right: &'t PromotedInt<'t>,
 ) -> Result<Typed<'t>, NoNode>
-    ensures node { IfOk result (λ t. (m : Times) → typed_view m t ≡ two (promoted_int m left.now) (kept (divides (infix_view op)) at) (infix_view op) (promoted_int m right.now)) }
-    ensures kind { IfOk result (λ t. option_map (kind_over true) (ints_kind (infix_view op)) ≡ Some (kind_of t)) }
-    ensures ill_typed { (result ≡ Err stop.IllTyped) → IsNear at → ints_kind (infix_view op) ≡ None }
+    ensures node { IfOk result (λ t. (m : Times) → typed_view m t ≡ two (promoted_int m left.now) (kept (divides op) at) op (promoted_int m right.now)) }
+    ensures kind { IfOk result (λ t. option_map (kind_over true) (ints_kind op) ≡ Some (kind_of t)) }
+    ensures ill_typed { (result ≡ Err stop.IllTyped) → IsNear at → ints_kind op ≡ None }
 {
     match op {
         Infix::Add => ints(arena.node(PromotedInt::Sum(left, right))),
@@ -150,9 +149,9 @@ fn of_promoted_truths<'t>(
     left: &'t PromotedTruth<'t>,
     right: &'t PromotedTruth<'t>,
 ) -> Result<Typed<'t>, NoNode>
-    ensures node { IfOk result (λ t. (m : Times) → typed_view m t ≡ two (promoted_truth m left.now) nowhere (infix_view op) (promoted_truth m right.now)) }
-    ensures kind { IfOk result (λ t. option_map (kind_over true) (truths_kind (infix_view op)) ≡ Some (kind_of t)) }
-    ensures ill_typed { (result ≡ Err stop.IllTyped) → truths_kind (infix_view op) ≡ None }
+    ensures node { IfOk result (λ t. (m : Times) → typed_view m t ≡ two (promoted_truth m left.now) nowhere op (promoted_truth m right.now)) }
+    ensures kind { IfOk result (λ t. option_map (kind_over true) (truths_kind op) ≡ Some (kind_of t)) }
+    ensures ill_typed { (result ≡ Err stop.IllTyped) → truths_kind op ≡ None }
 {
     match op {
         Infix::Equal => truths(arena.node(PromotedTruth::Same(left, right))),
@@ -204,9 +203,9 @@ fn behind_int<'t>(
     left: &'t IntExpr<'t>,
     right: Typed<'t>,
 ) -> Result<Typed<'t>, NoNode>
-    ensures node { IfOk result (λ t. (m : Times) → typed_view m t ≡ two (int_view left.now) (kept (divides (infix_view op)) at) (infix_view op) (typed_view m right.entry)) }
-    ensures kind { IfOk result (λ t. infix_kind (infix_view op) (PlainKind IntLeaf) (kind_of right.entry) ≡ Some (kind_of t)) }
-    ensures ill_typed { (result ≡ Err stop.IllTyped) → IsNear at → infix_kind (infix_view op) (PlainKind IntLeaf) (kind_of right.entry) ≡ None }
+    ensures node { IfOk result (λ t. (m : Times) → typed_view m t ≡ two (int_view left.now) (kept (divides op) at) op (typed_view m right.entry)) }
+    ensures kind { IfOk result (λ t. infix_kind op (PlainKind IntLeaf) (kind_of right.entry) ≡ Some (kind_of t)) }
+    ensures ill_typed { (result ≡ Err stop.IllTyped) → IsNear at → infix_kind op (PlainKind IntLeaf) (kind_of right.entry) ≡ None }
 {
     match right {
         Typed::Int(right) => of_ints(arena, op, at, left, right),
@@ -227,9 +226,9 @@ fn behind_ints<'t>(
     left: &'t PromotedInt<'t>,
     right: Typed<'t>,
 ) -> Result<Typed<'t>, NoNode>
-    ensures node { IfOk result (λ t. (m : Times) → typed_view m t ≡ two (promoted_int m left.now) (kept (divides (infix_view op)) at) (infix_view op) (typed_view m right.entry)) }
-    ensures kind { IfOk result (λ t. infix_kind (infix_view op) (ArrayKind IntKind) (kind_of right.entry) ≡ Some (kind_of t)) }
-    ensures ill_typed { (result ≡ Err stop.IllTyped) → IsNear at → infix_kind (infix_view op) (ArrayKind IntKind) (kind_of right.entry) ≡ None }
+    ensures node { IfOk result (λ t. (m : Times) → typed_view m t ≡ two (promoted_int m left.now) (kept (divides op) at) op (typed_view m right.entry)) }
+    ensures kind { IfOk result (λ t. infix_kind op (ArrayKind IntKind) (kind_of right.entry) ≡ Some (kind_of t)) }
+    ensures ill_typed { (result ≡ Err stop.IllTyped) → IsNear at → infix_kind op (ArrayKind IntKind) (kind_of right.entry) ≡ None }
 {
     match right {
         Typed::Int(right) => {
@@ -249,9 +248,9 @@ fn behind_truth<'t>(
     left: &'t BoolExpr<'t>,
     right: Typed<'t>,
 ) -> Result<Typed<'t>, NoNode>
-    ensures node { IfOk result (λ t. (m : Times) → typed_view m t ≡ two (truth_view left.now) nowhere (infix_view op) (typed_view m right.entry)) }
-    ensures kind { IfOk result (λ t. infix_kind (infix_view op) (PlainKind TruthLeaf) (kind_of right.entry) ≡ Some (kind_of t)) }
-    ensures ill_typed { (result ≡ Err stop.IllTyped) → infix_kind (infix_view op) (PlainKind TruthLeaf) (kind_of right.entry) ≡ None }
+    ensures node { IfOk result (λ t. (m : Times) → typed_view m t ≡ two (truth_view left.now) nowhere op (typed_view m right.entry)) }
+    ensures kind { IfOk result (λ t. infix_kind op (PlainKind TruthLeaf) (kind_of right.entry) ≡ Some (kind_of t)) }
+    ensures ill_typed { (result ≡ Err stop.IllTyped) → infix_kind op (PlainKind TruthLeaf) (kind_of right.entry) ≡ None }
 {
     match right {
         Typed::Truth(right) => of_truths(arena, op, left, right),
@@ -271,9 +270,9 @@ fn behind_truths<'t>(
     left: &'t PromotedTruth<'t>,
     right: Typed<'t>,
 ) -> Result<Typed<'t>, NoNode>
-    ensures node { IfOk result (λ t. (m : Times) → typed_view m t ≡ two (promoted_truth m left.now) nowhere (infix_view op) (typed_view m right.entry)) }
-    ensures kind { IfOk result (λ t. infix_kind (infix_view op) (ArrayKind BoolKind) (kind_of right.entry) ≡ Some (kind_of t)) }
-    ensures ill_typed { (result ≡ Err stop.IllTyped) → infix_kind (infix_view op) (ArrayKind BoolKind) (kind_of right.entry) ≡ None }
+    ensures node { IfOk result (λ t. (m : Times) → typed_view m t ≡ two (promoted_truth m left.now) nowhere op (typed_view m right.entry)) }
+    ensures kind { IfOk result (λ t. infix_kind op (ArrayKind BoolKind) (kind_of right.entry) ≡ Some (kind_of t)) }
+    ensures ill_typed { (result ≡ Err stop.IllTyped) → infix_kind op (ArrayKind BoolKind) (kind_of right.entry) ≡ None }
 {
     match right {
         Typed::Truth(right) => {
@@ -297,9 +296,9 @@ pub fn combined<'t>(
     left: Typed<'t>,
     right: Typed<'t>,
 ) -> Result<Typed<'t>, NoNode>
-    ensures node { IfOk result (λ t. (m : Times) → typed_view m t ≡ two (typed_view m left.entry) (kept (divides (infix_view op)) at) (infix_view op) (typed_view m right.entry)) }
-    ensures kind { IfOk result (λ t. infix_kind (infix_view op) (kind_of left.entry) (kind_of right.entry) ≡ Some (kind_of t)) }
-    ensures ill_typed { (result ≡ Err stop.IllTyped) → IsNear at → infix_kind (infix_view op) (kind_of left.entry) (kind_of right.entry) ≡ None }
+    ensures node { IfOk result (λ t. (m : Times) → typed_view m t ≡ two (typed_view m left.entry) (kept (divides op) at) op (typed_view m right.entry)) }
+    ensures kind { IfOk result (λ t. infix_kind op (kind_of left.entry) (kind_of right.entry) ≡ Some (kind_of t)) }
+    ensures ill_typed { (result ≡ Err stop.IllTyped) → IsNear at → infix_kind op (kind_of left.entry) (kind_of right.entry) ≡ None }
 {
     match left {
         Typed::Int(left) => behind_int(arena, op, at, left, right),
@@ -343,9 +342,9 @@ fn negated<'t>(arena: Arena<'t>, operand: Typed<'t>) -> Result<Typed<'t>, NoNode
 /// # Errors
 /// Out of memory; an operand that the operator doesn't take.
 pub fn prefixed<'t>(arena: Arena<'t>, op: Prefix, operand: Typed<'t>) -> Result<Typed<'t>, NoNode>
-    ensures node { IfOk result (λ t. (m : Times) → typed_view m t ≡ Prefixed nowhere (prefix_view op) (typed_view m operand.entry)) }
-    ensures kind { IfOk result (λ t. prefix_kind (prefix_view op) (kind_of operand.entry) ≡ Some (kind_of t)) }
-    ensures ill_typed { (result ≡ Err stop.IllTyped) → prefix_kind (prefix_view op) (kind_of operand.entry) ≡ None }
+    ensures node { IfOk result (λ t. (m : Times) → typed_view m t ≡ Prefixed nowhere op (typed_view m operand.entry)) }
+    ensures kind { IfOk result (λ t. prefix_kind op (kind_of operand.entry) ≡ Some (kind_of t)) }
+    ensures ill_typed { (result ≡ Err stop.IllTyped) → prefix_kind op (kind_of operand.entry) ≡ None }
 {
     match op {
         Prefix::Minus => negative(arena, operand),

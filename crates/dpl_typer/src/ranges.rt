@@ -5,7 +5,6 @@ ghost use Rattle.std.specs.Prelude.{◌≡◌, ◌≢◌, false, IfOk, IfErr, No
 ghost use Rattle.dpl_language.specs.Tree.{RangeItem, By, Plainly};
 ghost use Rattle.dpl_lowered.specs.Shapes.{nowhere, kept};
 ghost use Rattle.dpl_lowered.specs.LoweredExpressions.{Times, Once, unplaced_dots, is_end};
-ghost use Rattle.dpl_tree.specs.Words.{word_view, dots_view as dots_of};
 ghost use Rattle.dpl_nodes.specs.Typed.{dots_view, dotted, range_view, stride_view};
 ghost use Rattle.dpl_nodes.specs.Spots.{IsNear};
 ghost use Rattle.dpl_typer.specs.Makers.{typed_view, typed_item, kind_of, range_word_kind, bounds_kind, is_int};
@@ -24,9 +23,9 @@ pub(crate) fn of_range<'t>(
     at: Place,
     base: &'t RangeExpr<'t>,
 ) -> Result<Typed<'t>, NoNode>
-    ensures node { IfOk result (λ t. (m : Times) → typed_view m t ≡ dotted (range_view base.now) (Plainly (kept (is_end (word_view word)) at) (word_view word))) }
-    ensures kind { IfOk result (λ t. range_word_kind (word_view word) ≡ Some (kind_of t)) }
-    ensures ill_typed { (result ≡ Err stop.IllTyped) → IsNear at → range_word_kind (word_view word) ≡ None }
+    ensures node { IfOk result (λ t. (m : Times) → typed_view m t ≡ dotted (range_view base.now) (Plainly (kept (is_end word) at) word)) }
+    ensures kind { IfOk result (λ t. range_word_kind word ≡ Some (kind_of t)) }
+    ensures ill_typed { (result ≡ Err stop.IllTyped) → IsNear at → range_word_kind word ≡ None }
 {
     match word {
         Word::Size => int(arena.node(IntExpr::Size(base))),
@@ -52,7 +51,7 @@ pub(crate) fn of_range<'t>(
 
 // What stands between the ends of a range.
 fn dots(written: dpl_tree::Dots) -> Dots
-    ensures { dots_view result ≡ unplaced_dots (dots_of written) }
+    ensures { dots_view result ≡ unplaced_dots written }
 {
     match written {
         dpl_tree::Dots::Closed => Dots::Closed,
@@ -86,7 +85,7 @@ pub fn bounded<'t>(
     high: Typed<'t>,
     stride: Stride<'t>,
 ) -> Result<Typed<'t>, NoNode>
-    ensures node { IfOk result (λ t. (m : Times) → typed_item m t ≡ RangeItem (typed_view Once low.entry) at (unplaced_dots (dots_of written)) (typed_view Once high.entry) (stride_view stride.entry)) }
+    ensures node { IfOk result (λ t. (m : Times) → typed_item m t ≡ RangeItem (typed_view Once low.entry) at (unplaced_dots written) (typed_view Once high.entry) (stride_view stride.entry)) }
     ensures kind { IfOk result (λ t. bounds_kind (kind_of low.entry) (kind_of high.entry) ≡ Some (kind_of t)) }
     ensures ill_typed { (result ≡ Err stop.IllTyped) → IsNear at → bounds_kind (kind_of low.entry) (kind_of high.entry) ≡ None }
 {

@@ -5,7 +5,6 @@ ghost use Rattle.std.specs.Prelude.{◌≡◌, IfOk, None, Some, Err};
 ghost use Rattle.dpl_language.specs.Tree.{Reduced};
 ghost use Rattle.dpl_lowered.specs.LoweredExpressions.{Times, EachTurn};
 ghost use Rattle.dpl_lowered.specs.Shapes.{nowhere};
-ghost use Rattle.dpl_tree.specs.Words.{op_view};
 ghost use Rattle.dpl_nodes.specs.Typed.{int_fold_view, truth_fold_view};
 ghost use Rattle.dpl_nodes.specs.Spots.{IsNear};
 ghost use Rattle.dpl_typer.specs.Makers.{typed_view, kind_of, reduced_kind};
@@ -77,9 +76,9 @@ pub fn reduced<'t>(
     word: Place,
     operand: Typed<'t>,
 ) -> Result<Typed<'t>, NoNode>
-    ensures node { IfOk result (λ t. (m : Times) → typed_view m t ≡ Reduced nowhere (op_view op) word (typed_view EachTurn operand.entry)) }
-    ensures kind { IfOk result (λ t. reduced_kind (op_view op) (kind_of operand.entry) ≡ Some (kind_of t)) }
-    ensures ill_typed { (result ≡ Err stop.IllTyped) → IsNear word → reduced_kind (op_view op) (kind_of operand.entry) ≡ None }
+    ensures node { IfOk result (λ t. (m : Times) → typed_view m t ≡ Reduced nowhere op word (typed_view EachTurn operand.entry)) }
+    ensures kind { IfOk result (λ t. reduced_kind op (kind_of operand.entry) ≡ Some (kind_of t)) }
+    ensures ill_typed { (result ≡ Err stop.IllTyped) → IsNear word → reduced_kind op (kind_of operand.entry) ≡ None }
 {
     match Fold::of(op) {
         Fold::Ints(fold) => of_ints(arena, fold, word, operand),

@@ -2,7 +2,6 @@
 // C5 stands at the last token before the opening bracket, and looks at the number of the parts alone.
 
 ghost use Rattle.std.specs.Prelude.{◌≡◌, map};
-ghost use Rattle.dpl_tree.specs.Words.{kind_view};
 ghost use Rattle.dpl_rules.specs.Operators.{single_index as single_index_of, index_breaches as index_breaches_of, element_verdict};
 ghost use Rattle.dpl_rules.specs.Operators.{slice_breaches as slice_breaches_of, slice_verdict, locale_breaches as locale_breaches_of, square_verdict};
 ghost use Rattle.dpl_rules.specs.Operators.{round_verdict};
@@ -65,7 +64,7 @@ fn element<'t>(
     parts: &[Part<'t>],
     first: &mut Option<Breach>,
 ) -> Option<ValueType<'t>>
-    ensures { Judges (element_verdict last (kind_view kind) rank (map part_view parts.now)) result first.old first.new }
+    ensures { Judges (element_verdict last kind rank (map part_view parts.now)) result first.old first.new }
 {
     let holds = index(last, rank, parts, first);
     judged(all_known(parts), holds, ValueType::Scalar(kind))

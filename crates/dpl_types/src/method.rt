@@ -3,7 +3,6 @@
 
 ghost use Rattle.std.specs.Prelude.{◌≡◌, ◌++◌, nat_lt, not, map};
 ghost use Rattle.dpl_syntax.specs.declared.refusal.Code.TheVariants.{WrongType as WrongTypeCode};
-ghost use Rattle.dpl_tree.specs.Words.{word_view};
 ghost use Rattle.dpl_language.specs.Phrases.{natural};
 ghost use Rattle.dpl_rules.specs.Types.{an_int, is_int, domain_of};
 ghost use Rattle.dpl_rules.specs.Operators.{index_rank as index_rank_of, word_verdict, dim_verdict, contains_verdict, expand_verdict};
@@ -36,7 +35,7 @@ pub fn word<'t>(
     of: Option<ValueType<'t>>,
     first: &mut Option<Breach>,
 ) -> Option<ValueType<'t>>
-    ensures { Judges (with_type (of_type of.entry) (word_verdict at (word_view word))) result first.old first.new }
+    ensures { Judges (with_type (of_type of.entry) (word_verdict at word)) result first.old first.new }
 {
     let of = of?;
     match word {

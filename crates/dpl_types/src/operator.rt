@@ -2,7 +2,6 @@
 // C3 stands at the operator that doesn't take its operands.
 
 ghost use Rattle.std.specs.Prelude.{◌≡◌, option_map};
-ghost use Rattle.dpl_tree.specs.Words.{kind_view, prefix_view, infix_view, op_view};
 ghost use Rattle.dpl_rules.specs.Operators.{over_arrays as over_arrays_of, prefix_kind as prefix_kind_of, prefix_verdict, reduction_verdict};
 ghost use Rattle.dpl_rules.specs.Operators.{over_both as over_both_of, agree as agree_of, between as between_of, alike as alike_of, infix_verdict};
 ghost use Rattle.dpl_scopes.specs.Types.{over_view, type_view, operand_view, of_type};
@@ -15,7 +14,7 @@ use dpl_tree::{Infix, Op, Prefix, ScalarKind};
 
 // What the operands of an operator give at each index of the whole arrays in them, or by themselves where there are none.
 fn over_arrays<'t>(over: Option<Over<'t>>, kind: ScalarKind) -> ValueType<'t>
-    ensures { type_view result ≡ over_arrays_of (option_map over_view over.entry) (kind_view kind) }
+    ensures { type_view result ≡ over_arrays_of (option_map over_view over.entry) kind }
 {
     match over {
         None => ValueType::Scalar(kind),
@@ -25,7 +24,7 @@ fn over_arrays<'t>(over: Option<Over<'t>>, kind: ScalarKind) -> ValueType<'t>
 
 // The kind of a prefix's operand.
 fn prefix_kind(op: Prefix) -> ScalarKind
-    ensures { kind_view result ≡ prefix_kind_of (prefix_view op) }
+    ensures { result ≡ prefix_kind_of op }
 {
     match op {
         Prefix::Minus => ScalarKind::Int,
@@ -40,7 +39,7 @@ pub fn prefix<'t>(
     operand: Option<ValueType<'t>>,
     first: &mut Option<Breach>,
 ) -> Option<ValueType<'t>>
-    ensures { Judges (prefix_verdict at (prefix_view op) (of_type operand.entry)) result first.old first.new }
+    ensures { Judges (prefix_verdict at op (of_type operand.entry)) result first.old first.new }
 {
     let kind = prefix_kind(op);
     match operand?.operand() {
@@ -61,7 +60,7 @@ pub fn reduction<'t>(
     operand: Option<ValueType<'t>>,
     first: &mut Option<Breach>,
 ) -> Option<ValueType<'t>>
-    ensures { Judges (reduction_verdict at (op_view op) (of_type operand.entry)) result first.old first.new }
+    ensures { Judges (reduction_verdict at op (of_type operand.entry)) result first.old first.new }
 {
     let kind = kind_of(op);
     match operand?.operand() {
@@ -109,7 +108,7 @@ fn between<'t>(
     b: Option<Operand<'t>>,
     first: &mut Option<Breach>,
 ) -> Option<ValueType<'t>>
-    ensures { Judges (between_of at (kind_view kind) (kind_view kind) (kind_view gives) (option_map operand_view a.entry) (option_map operand_view b.entry)) result first.old first.new }
+    ensures { Judges (between_of at kind kind gives (option_map operand_view a.entry) (option_map operand_view b.entry)) result first.old first.new }
 {
     match a {
         None => mistyped(at, first),
@@ -149,7 +148,7 @@ pub fn infix<'t>(
     b: Option<ValueType<'t>>,
     first: &mut Option<Breach>,
 ) -> Option<ValueType<'t>>
-    ensures { Judges (infix_verdict at (infix_view op) (of_type a.entry) (of_type b.entry)) result first.old first.new }
+    ensures { Judges (infix_verdict at op (of_type a.entry) (of_type b.entry)) result first.old first.new }
 {
     let a = a?;
     let b = b?;

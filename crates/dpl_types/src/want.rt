@@ -2,7 +2,6 @@
 // specs/Wants.antt gives the test of the language's check that each stands for.
 
 ghost use Rattle.std.specs.Prelude.{◌≡◌, option_map};
-ghost use Rattle.dpl_tree.specs.Words.{kind_view};
 ghost use Rattle.dpl_rules.specs.Types.{is_scalar, is_domain_of, fits_array};
 ghost use Rattle.dpl_scopes.specs.Types.{over_view, type_view};
 ghost use Rattle.dpl_types.specs.Wants.{takes};
@@ -38,7 +37,7 @@ pub enum Want<'t> {
 
 // An int or a bool, of this kind.
 fn is_scalar_of(kind: ScalarKind, t: ValueType<'_>) -> bool
-    ensures { result ≡ is_scalar (kind_view kind) (type_view t.entry) }
+    ensures { result ≡ is_scalar kind (type_view t.entry) }
 {
     match t.scalar() {
         None => false,
@@ -58,7 +57,7 @@ fn is_ranked(rank: usize, may_stride: bool, t: ValueType<'_>) -> bool
 
 // What each element of an array of this kind can be given.
 fn is_given<'t>(kind: ScalarKind, over: Over<'t>, t: ValueType<'t>) -> bool
-    ensures { result ≡ fits_array (kind_view kind) (over_view over.entry) (type_view t.entry) }
+    ensures { result ≡ fits_array kind (over_view over.entry) (type_view t.entry) }
 {
     match t.operand() {
         None => false,

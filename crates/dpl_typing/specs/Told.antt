@@ -7,7 +7,6 @@ use Rattle.dpl_language.specs.Tree.{ItemTree, RangeItem, PostTree, MethodTree}
 use Rattle.dpl_language.specs.Names.{Text}
 use Rattle.dpl_tree.specs.declared.expression.Range.{Range as RangeNode}
 use Rattle.dpl_tree.specs.declared.expression.Link.{Link as LinkNode}
-use Rattle.dpl_tree.specs.Words.{dots_view, infix_view}
 use Rattle.dpl_tree.specs.View.{expr_view, stride_view}
 use Rattle.dpl_rules.specs.Types.{ValueType}
 use Rattle.dpl_rules.specs.Verdicts.{Part, Verdict, broken_by, with_type}
@@ -32,11 +31,11 @@ TellsParts parts breaches result old new = (map part_view result ≡ parts) × (
 
 -- a range that is written as an item
 abbrev pub range_view : RangeNode → ItemTree (List ℕ)
-range_view r = RangeItem (expr_view r.low.now) r.at (dots_view r.dots) (expr_view r.high.now) (stride_view r.by)
+range_view r = RangeItem (expr_view r.low.now) r.at r.dots (expr_view r.high.now) (stride_view r.by)
 
 -- what the operator of a further operand says
 abbrev pub link_verdict : Scopes → Option ValueType → LinkNode → Verdict
-link_verdict scopes t link = infix_verdict link.at (infix_view link.op) t (type_of scopes (expr_view link.right.now))
+link_verdict scopes t link = infix_verdict link.at link.op t (type_of scopes (expr_view link.right.now))
 
 -- what a bracket or a method behind a value owes, its parts and its own
 abbrev pub post_told : Scopes → Place → PostTree Text → Option ValueType → List Breach

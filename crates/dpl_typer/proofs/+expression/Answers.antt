@@ -8,7 +8,6 @@ use Rattle.dpl_tree.specs.declared.expression.Chain.{out-Chain}
 use Rattle.dpl_tree.specs.declared.expression.Contains.{out-Contains}
 use Rattle.dpl_tree.specs.declared.expression.Items.{out-Items}
 use Rattle.dpl_tree.specs.declared.expression.Exprs.{out-Exprs}
-use Rattle.dpl_tree.specs.Words.{infix_view, word_view, op_view}
 use Rattle.dpl_tree.specs.View.{expr_view, item_view, items_view, exprs_view, more_items_of, more_exprs_of, stride_view, post_view, method_view, links_of, posts_of}
 use Rattle.dpl_tree.proofs.Fields.{items_view_fields, exprs_view_fields, method_view_contains}
 use Rattle.dpl_rules.specs.Verdicts.{part, type_by}
@@ -73,7 +72,7 @@ elaborate::links-returns-in_err-right-clause-ill_typed t c = λ e s n u h.
     let left = links_of (drop (at.next-index + 1) xs) in
     let so_far = subst (λ l. IsChainSoFar scopes c.args.first (links_of xs) at.t (links_of l)) (drop-at xs at.next-index x c.loop-next-test.true c.next-item.is) at.invariant in
     let refused : c.expression.result ≡ Err stop.IllTyped = search rules in
-    chain-untyped scopes c.args.first (links_of xs) at.t x.at (infix_view x.op) (expr_view x.right.now) left so_far
+    chain-untyped scopes c.args.first (links_of xs) at.t x.at x.op (expr_view x.right.now) left so_far
     (c.expression.ensures.ill_typed refused (so_far.scalar s).0 (so_far.near n).1) u h
 
 pub elaborate::links-returns-in_err-t-clause-ill_typed : goal.elaborate::links-returns-in_err-t-clause-ill_typed
@@ -85,7 +84,7 @@ elaborate::links-returns-in_err-t-clause-ill_typed t c = λ e s n u h.
     let left = links_of (drop (at.next-index + 1) xs) in
     let so_far = subst (λ l. IsChainSoFar scopes c.args.first (links_of xs) at.t (links_of l)) (drop-at xs at.next-index x c.loop-next-test.true c.next-item.is) at.invariant in
     let refused : c.combined.result ≡ Err stop.IllTyped = search rules in
-    chain-refused scopes c.args.first (links_of xs) at.t x.at (infix_view x.op) (expr_view x.right.now) left so_far c.in_ok-right.right c.in_ok-right.ensures.kind
+    chain-refused scopes c.args.first (links_of xs) at.t x.at x.op (expr_view x.right.now) left so_far c.in_ok-right.right c.in_ok-right.ensures.kind
     (c.combined.ensures.ill_typed refused (so_far.near n).0) u h
 
 pub elaborate::links-loop-next-preserved : goal.elaborate::links-loop-next-preserved
@@ -96,7 +95,7 @@ elaborate::links-loop-next-preserved t c =
     let x = c.next-item.result in
     let left = links_of (drop (at.next-index + 1) xs) in
     let so_far = subst (λ l. IsChainSoFar scopes c.args.first (links_of xs) at.t (links_of l)) (drop-at xs at.next-index x c.loop-next-test.true c.next-item.is) at.invariant in
-    chain-step scopes c.args.first (links_of xs) at.t x.at (infix_view x.op) (expr_view x.right.now) left so_far c.in_ok-right.right c.in_ok-t.t
+    chain-step scopes c.args.first (links_of xs) at.t x.at x.op (expr_view x.right.now) left so_far c.in_ok-right.right c.in_ok-t.t
     c.in_ok-right.ensures.node c.in_ok-right.ensures.kind c.in_ok-right.ensures.found c.in_ok-t.ensures.node c.in_ok-t.ensures.kind
 
 -- ---- what stands behind a base
@@ -212,7 +211,7 @@ post::method-returns-in-Plain-clause-made t c =
     let is = ap method_view c.in-Plain.is in
     if_both c.called.result
     (λ r made gives. subst (λ m. (dot : Place) → IsPostOf c.args.scopes.now c.args.base (Dotted dot m) r) (sym is)
-    (λ dot. word-made c.args.scopes.now c.args.base dot c.in-Plain.at (word_view c.in-Plain.word) r made gives))
+    (λ dot. word-made c.args.scopes.now c.args.base dot c.in-Plain.at c.in-Plain.word r made gives))
     c.called.ensures.node c.called.ensures.kind
 
 pub post::method-returns-in-Dim-clause-made : goal.post::method-returns-in-Dim-clause-made
@@ -497,10 +496,10 @@ elaborate::expression-returns-in_ok-operand-in-Reduced-clause-kind t c =
     let v = c.in-Reduced.reduction.now in
     let operand = c.in_ok-operand-in-Reduced.operand in
     let u = type_of scopes (expr_view v.operand.now) in
-    let gives = reduction-gives (op_view v.op) v.at (kind_of operand) u (type-kind operand u c.in_ok-operand-in-Reduced.ensures.kind) in
+    let gives = reduction-gives v.op v.at (kind_of operand) u (type-kind operand u c.in_ok-operand-in-Reduced.ensures.kind) in
     if_ok c.reduced.result
     (λ made e. subst (λ x. IsOfType made (type_of scopes (expr_view x))) (sym c.in-Reduced.is)
-    (gives-type (reduced_kind (op_view v.op) (kind_of operand)) made (type_by (reduction_verdict v.at (op_view v.op) u)) gives e))
+    (gives-type (reduced_kind v.op (kind_of operand)) made (type_by (reduction_verdict v.at v.op u)) gives e))
     c.reduced.ensures.kind
 
 pub elaborate::expression-returns-in_ok-operand-in-Reduced-clause-ill_typed : goal.elaborate::expression-returns-in_ok-operand-in-Reduced-clause-ill_typed
@@ -509,7 +508,7 @@ elaborate::expression-returns-in_ok-operand-in-Reduced-clause-ill_typed t c = λ
     let v = c.in-Reduced.reduction.now in
     let operand = c.in_ok-operand-in-Reduced.operand in
     let u = type_of scopes (expr_view v.operand.now) in
-    let gives = reduction-gives (op_view v.op) v.at (kind_of operand) u (type-kind operand u c.in_ok-operand-in-Reduced.ensures.kind) in
+    let gives = reduction-gives v.op v.at (kind_of operand) u (type-kind operand u c.in_ok-operand-in-Reduced.ensures.kind) in
     let spelt = subst (λ x. ExprSpelt IsNear ⊥ (expr_view x)) c.in-Reduced.is near in
     subst (λ x. type_of scopes (expr_view x) ≡ None) (sym c.in-Reduced.is)
-    (gives-nothing (reduced_kind (op_view v.op) (kind_of operand)) (type_by (reduction_verdict v.at (op_view v.op) u)) gives (c.reduced.ensures.ill_typed refused spelt.1))
+    (gives-nothing (reduced_kind v.op (kind_of operand)) (type_by (reduction_verdict v.at v.op u)) gives (c.reduced.ensures.ill_typed refused spelt.1))

@@ -6,14 +6,13 @@ use Rattle.std.proofs.lemmas.List.{get_or-set_other}
 use Rattle.std.proofs.lemmas.Option.{same_Some, slice_get-get_or}
 use Rattle.dpl_language.specs.Values.{Int}
 use Rattle.dpl_language.specs.Arithmetic.{assigned}
-use Rattle.dpl_tree.specs.Words.{assign_view}
 use Rattle.dpl_strips.proofs.Strips.{written}
 use Rattle.dpl_elements.proofs.row.changed.Goals as goal
 
 pub loop-k-preserved : goal.loop-k-preserved
 loop-k-preserved c =
     let k = c.loop-k.k in
-    let op = assign_view c.args.op in
+    let op = c.args.op in
     let old = c.run-old.result.now in
     let strip = c.args.strip.words in
     let words = c.loop-k.words in
@@ -35,4 +34,4 @@ returns-clause-words c k old below cap at =
     let before : k < c.loop-k.k = search rules in
     let there = c.run-old.ensures k (get_or run k (pos 0)) (slice_get-get_or run k (pos 0) within) in
     let same : old ≡ get_or run k (pos 0) = same_Some old (get_or run k (pos 0)) (sym at ∙ there) in
-    ap (λ n. assigned (assign_view c.args.op) None (Int n) (Int (get_or c.args.strip.words k (pos 0)))) same ∙ c.loop-k.invariant.made k before
+    ap (λ n. assigned c.args.op None (Int n) (Int (get_or c.args.strip.words k (pos 0)))) same ∙ c.loop-k.invariant.made k before

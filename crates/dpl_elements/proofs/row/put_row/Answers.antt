@@ -3,7 +3,6 @@
 use Rattle.std.proofs.Common.{◌≡◌, ◌≤◌, pos, take, length, get_or, ap, ◌∙◌, Some, arith, rules}
 use Rattle.std.proofs.lemmas.List.{get_or-take, length-take-le}
 use Rattle.std.proofs.lemmas.Option.{slice_get-get_or}
-use Rattle.dpl_tree.specs.Words.{assign_view}
 use Rattle.dpl_elements.proofs.Alongside.{arrays_put}
 use Rattle.dpl_elements.proofs.PutRows.{are-put}
 use Rattle.dpl_elements.proofs.row.put_row.Goals as goal
@@ -21,7 +20,7 @@ returns-clause-put c =
     let long : length words ≡ size = length-take-le size strip.words (omega (arith, all, few)) in (
       arrays_put c.args.name.now.slot c.args.at words f.memory.arrays made,
       c.put_run.ensures.changes,
-      are-put f.limits c.args.name.now (assign_view c.args.op) c.args.sign.now c.args.at c.args.strip made words f.memory.arrays
+      are-put f.limits c.args.name.now c.args.op c.args.sign.now c.args.at c.args.strip made words f.memory.arrays
           (omega (arith, c.rank.ensures.rank, c.rank.ensures.limits))
           (λ some. c.changed-strip.ensures.divides (omega (arith, some, long, small, c.put_run.ensures.most)))
           c.put_run.ensures.there

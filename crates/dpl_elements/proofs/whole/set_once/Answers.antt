@@ -6,7 +6,6 @@ use mir.Val.{of_z, to_z}
 use Rattle.dpl_language.specs.Tree.{IntKind}
 use Rattle.dpl_language.specs.Values.{Int}
 use Rattle.dpl_lowered.specs.LoweredExpressions.{EachTurn}
-use Rattle.dpl_tree.specs.Words.{assign_view}
 use Rattle.dpl_nodes.specs.Typed.{promoted_int}
 use Rattle.dpl_nodes.specs.Steps.{array_leaf}
 use Rattle.dpl_nodes.proofs.Promotions.{cell_read-promoted_int, promoted_int-once}
@@ -24,7 +23,7 @@ returns-in_err-value-clause-ends g c done =
     let p = err_from_is_err_and c.from_residual.result c.from_residual.ensures.1 in
     rw (p.1, p.2)
     (gives-halts _ _ Int c.in_err-value.field-0.0 _ s done _ inr
-    (λ f is. assign_array-fault limits (array_leaf IntKind c.args.name.now) (signed (assign_view c.args.op) c.args.sign.now) (promoted_int EachTurn c.args.e.now) c.args.domain t s done
+    (λ f is. assign_array-fault limits (array_leaf IntKind c.args.name.now) (signed c.args.op c.args.sign.now) (promoted_int EachTurn c.args.e.now) c.args.domain t s done
     (cell_read-promoted_int EachTurn c.args.e.now) (promoted_int-once limits s EachTurn c.args.e.now t c.requires) f is)
     c.in_err-value.ensures)
 
@@ -37,6 +36,6 @@ returns-clause-ends g c done =
     let fits : FitsSigned w64 n = search rules in
     let same : to_z w64 (of_z w64 n) ≡ n = to_z-of_z w64 n fits in
     ends-wider _ _ c.each_within.result c.each_within.new.frame.memory done _ _ inl
-    (assign_array-value limits (array_leaf IntKind c.args.name.now) (signed (assign_view c.args.op) c.args.sign.now) (promoted_int EachTurn c.args.e.now) c.args.domain t s done
+    (assign_array-value limits (array_leaf IntKind c.args.name.now) (signed c.args.op c.args.sign.now) (promoted_int EachTurn c.args.e.now) c.args.domain t s done
     (cell_read-promoted_int EachTurn c.args.e.now) (promoted_int-once limits s EachTurn c.args.e.now t c.requires) (Int (to_z w64 (of_z w64 n))) (c.in_ok-value.ensures ∙ ap (λ n. Ok (Int n)) (sym same)))
     (c.each_within.ensures.ends done)

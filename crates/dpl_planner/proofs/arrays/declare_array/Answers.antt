@@ -1,7 +1,6 @@
 -- A declaration of an array is planned where its parts are, and its name is in sight behind it.
 -- One that isn't planned doesn't run: it is over no domain, or its elements take no such value.
 use Rattle.std.proofs.Common.{rules, ◌≡◌, ◌<◌, true, Err, None, is_some, refl, sym, ap, ◌∙◌, subst}
-use Rattle.dpl_tree.specs.Words.{kind_view}
 use Rattle.dpl_tree.specs.View.{items_view}
 use Rattle.dpl_tree.specs.Declarations.{optional, initial_view, array_type_view, declare_view}
 use Rattle.dpl_nodes.specs.declared.step.ArrayDeclaration.{ArrayDeclaration}
@@ -23,7 +22,7 @@ returns-clause-plans c =
     let step = DeclareArray c.in_ok-node.field-0 in
     planned c.in_ok-node.field-0.now step
     (subst (λ (n : ArrayDeclaration). IsOver c.args.plan.now.scopes (items_view c.args.array.now.over) n.over) (sym kept) p.over)
-    (subst (λ (n : ArrayDeclaration). IsArrayInitial c.args.plan.now.scopes (kind_view c.args.array.now.kind) (optional initial_view c.args.written.now.initial) n.initial) (sym kept) p.initial)
+    (subst (λ (n : ArrayDeclaration). IsArrayInitial c.args.plan.now.scopes c.args.array.now.kind (optional initial_view c.args.written.now.initial) n.initial) (sym kept) p.initial)
     (ap (λ (n : ArrayDeclaration). n.at.now) kept ∙ p.at) (ap (λ (n : ArrayDeclaration). n.from.now) kept ∙ p.from)
     made.fresh (ap (λ (n : ArrayDeclaration). n.slot) kept ∙ made.next) (subst (λ n. n < c.declare.new.self.slots) (sym (ap (λ (n : ArrayDeclaration). n.slot) kept)) made.below) made.slots made.scopes made.intents refl
 

@@ -1,7 +1,6 @@
 -- A value that is written is given to each element, at its index.
 use Rattle.std.proofs.Common.{rules, ◌≡◌, Some, Err, ap, ◌∙◌}
 use Rattle.dpl_language.specs.Tree.{One}
-use Rattle.dpl_tree.specs.Words.{kind_view}
 use Rattle.dpl_tree.specs.View.{item_view}
 use Rattle.dpl_lowered.specs.LoweredStatements.{written_initial}
 use Rattle.dpl_nodes.specs.declared.stop.NoNode.TheVariants as stop
@@ -16,11 +15,11 @@ returns-clause-initial c =
     let value = c.in_ok-value in
     let each = c.in_ok-elements in
     λ mapped.
-    given-array c.args.scopes.now (kind_view c.args.kind) c.args.equals (item_view c.args.written.now) mapped value.value (elements_view each.elements) c.begun.result value.ensures.item value.ensures.valued each.ensures.given each.ensures.node
+    given-array c.args.scopes.now c.args.kind c.args.equals (item_view c.args.written.now) mapped value.value (elements_view each.elements) c.begun.result value.ensures.item value.ensures.valued each.ensures.given each.ensures.node
     (c.begun.ensures.node ∙ ap (λ place. Some (written_initial place (One (elements_view each.elements)))) c.in_ok-at.ensures.near) (c.begun.ensures.kind ∙ each.ensures.kind)
 
 pub returns-in_err-elements-clause-ill_typed : goal.returns-in_err-elements-clause-ill_typed
 returns-in_err-elements-clause-ill_typed c = λ e near k is takes.
     let refused : c.given_elements.result ≡ Err stop.IllTyped = search rules in
     c.given_elements.ensures.ill_typed refused
-    (ap operand_kind (valued-kind c.args.scopes.now (item_view c.args.written.now) c.in_ok-value.value k c.in_ok-value.ensures.valued is) ∙ given-operand (kind_view c.args.kind) k takes)
+    (ap operand_kind (valued-kind c.args.scopes.now (item_view c.args.written.now) c.in_ok-value.value k c.in_ok-value.ensures.valued is) ∙ given-operand c.args.kind k takes)

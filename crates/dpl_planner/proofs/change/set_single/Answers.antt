@@ -2,7 +2,6 @@
 -- One that isn't doesn't run: the kind of its value is that of what is made of it.
 use Rattle.std.proofs.Common.{rules, ◌≡◌, true, Some, Err, sym, ap, ◌∙◌, subst}
 use Rattle.dpl_rules.specs.Expressions.{item_type}
-use Rattle.dpl_tree.specs.Words.{assign_view}
 use Rattle.dpl_tree.specs.View.{name_view, item_view}
 use Rattle.dpl_tree.specs.Statements.{sign_view}
 use Rattle.dpl_memory.specs.Resolved.{kind_takes}
@@ -23,7 +22,7 @@ returns-in_err-made-clause-ill_typed c = λ e s.
 pub returns-in_err-slot-clause-ill_typed : goal.returns-in_err-slot-clause-ill_typed
 returns-in_err-slot-clause-ill_typed c = λ e s.
     let refused : c.variable.result ≡ Err stop.IllTyped = search rules in
-    let (changed, same) = single-change c.args.plan.now.scopes (intents_in c.args.plan.now) c.args.name.now.text.now (assign_view c.args.sign.op) (item_view c.args.value.now) c.in_ok-made.made c.requires c.in_ok-made.ensures.kind s.0 in
+    let (changed, same) = single-change c.args.plan.now.scopes (intents_in c.args.plan.now) c.args.name.now.text.now c.args.sign.op (item_view c.args.value.now) c.in_ok-made.made c.requires c.in_ok-made.ensures.kind s.0 in
     c.variable.ensures.ill_typed refused (subst IsSingleKind (sym same) (changed-held s.0.kind changed)) (s.0.target ∙ ap (λ k. Some k) (sym same))
 
 pub returns-in_err-taken-clause-ill_typed : goal.returns-in_err-taken-clause-ill_typed
@@ -36,8 +35,8 @@ pub returns-in_err-intent_resolves-clause-ill_typed : goal.returns-in_err-intent
 returns-in_err-intent_resolves-clause-ill_typed c = λ e s.
     let plan = c.args.plan.now in
     let refused : c.intent_resolves.result ≡ Err stop.IllTyped = search rules in
-    let (changed, same) = single-change plan.scopes (intents_in plan) c.args.name.now.text.now (assign_view c.args.sign.op) (item_view c.args.value.now) c.in_ok-made.made c.requires c.in_ok-made.ensures.kind s.0 in
-    c.intent_resolves.ensures.ill_typed refused c.in_ok-slot.ensures.slot (subst (IsReducedBy plan.scopes (intents_in plan) c.args.name.now.text.now (assign_view c.args.sign.op)) (sym same) s.0.reduced)
+    let (changed, same) = single-change plan.scopes (intents_in plan) c.args.name.now.text.now c.args.sign.op (item_view c.args.value.now) c.in_ok-made.made c.requires c.in_ok-made.ensures.kind s.0 in
+    c.intent_resolves.ensures.ill_typed refused c.in_ok-slot.ensures.slot (subst (IsReducedBy plan.scopes (intents_in plan) c.args.name.now.text.now c.args.sign.op) (sym same) s.0.reduced)
 
 pub returns-clause-plans : goal.returns-clause-plans
 returns-clause-plans c =
@@ -47,5 +46,5 @@ returns-clause-plans c =
 
 pub returns-clause-ill_typed : goal.returns-clause-ill_typed
 returns-clause-ill_typed c = λ e s.
-    let (changed, same) = single-change c.args.plan.now.scopes (intents_in c.args.plan.now) c.args.name.now.text.now (assign_view c.args.sign.op) (item_view c.args.value.now) c.in_ok-made.made c.requires c.in_ok-made.ensures.kind s.0 in
-    c.change.ensures.ill_typed e (subst IsChangedKind (sym same) changed) (subst (λ k. kind_takes k (assign_view c.args.sign.op) ≡ true) (sym same) s.0.taken) s.1 s.2
+    let (changed, same) = single-change c.args.plan.now.scopes (intents_in c.args.plan.now) c.args.name.now.text.now c.args.sign.op (item_view c.args.value.now) c.in_ok-made.made c.requires c.in_ok-made.ensures.kind s.0 in
+    c.change.ensures.ill_typed e (subst IsChangedKind (sym same) changed) (subst (λ k. kind_takes k c.args.sign.op ≡ true) (sym same) s.0.taken) s.1 s.2

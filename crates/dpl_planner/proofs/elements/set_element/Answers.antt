@@ -3,7 +3,6 @@
 use Rattle.std.proofs.Common.{rules, ◌≡◌, ◌≢◌, Some, None, Err, subst}
 use Rattle.std.specs.Prelude.{IfNone}
 use Rattle.dpl_language.specs.Tree.{Kind}
-use Rattle.dpl_tree.specs.Words.{kind_view, assign_view, pair_view}
 use Rattle.dpl_tree.specs.View.{name_view, item_view, exprs_view}
 use Rattle.dpl_tree.specs.Statements.{sign_view}
 use Rattle.dpl_memory.specs.Memory.{PlainKind, ArrayKind}
@@ -16,8 +15,8 @@ use Rattle.dpl_planner.proofs.elements.set_element.Goals as goal
 pub returns-clause-plans : goal.returns-clause-plans
 returns-clause-plans c =
     let target = c.args.target.now in
-    element-planned c.args.plan.now (name_view target.name) (pair_view target.shape) target.from target.upto (exprs_view target.exprs) (sign_view c.args.sign) (item_view c.args.value.now) c.args.semicolon c.in_ok-made.made
-    (kind_view c.in-Some.kind) c.in_ok-x.x.now c.in_ok-index.index.now c.element_step.result c.in_ok-index.ensures.made c.in_ok-made.ensures.item c.in_ok-made.ensures.valued c.in-Some.ensures.some c.in_ok-x.ensures.slot c.in_ok-x.ensures.at
+    element-planned c.args.plan.now (name_view target.name) target.shape target.from target.upto (exprs_view target.exprs) (sign_view c.args.sign) (item_view c.args.value.now) c.args.semicolon c.in_ok-made.made
+    c.in-Some.kind c.in_ok-x.x.now c.in_ok-index.index.now c.element_step.result c.in_ok-index.ensures.made c.in_ok-made.ensures.item c.in_ok-made.ensures.valued c.in-Some.ensures.some c.in_ok-x.ensures.slot c.in_ok-x.ensures.at
     c.element_step.ensures.given c.element_step.ensures.takes c.element_step.ensures.unreduced c.element_step.ensures.node
 
 pub returns-in_default-clause-ill_typed : goal.returns-in_default-clause-ill_typed
@@ -44,5 +43,5 @@ returns-in_err-made-clause-ill_typed c = λ e s.
 
 pub returns-clause-ill_typed : goal.returns-clause-ill_typed
 returns-clause-ill_typed c = λ e s.
-    let runs = element-change c.args.plan.now.scopes c.args.target.now.name.text.now (exprs_view c.args.target.now.exprs) (assign_view c.args.sign.op) (item_view c.args.value.now) c.in_ok-made.made (kind_view c.in-Some.kind) c.in-Some.ensures.some c.in_ok-made.ensures.valued s.0 in
+    let runs = element-change c.args.plan.now.scopes c.args.target.now.name.text.now (exprs_view c.args.target.now.exprs) c.args.sign.op (item_view c.args.value.now) c.in_ok-made.made c.in-Some.kind c.in-Some.ensures.some c.in_ok-made.ensures.valued s.0 in
     c.element_step.ensures.ill_typed e runs.0 runs.1 runs.2 s.1

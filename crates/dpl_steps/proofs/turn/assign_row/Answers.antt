@@ -4,7 +4,6 @@ use Rattle.std.proofs.Common.{◌≡◌, ◌-◌, suc, ℕ, arith, ap, sym, subs
 use Rattle.dpl_array.specs.Elements.{behind}
 use Rattle.dpl_language.specs.Tree.{IntKind, NoStmts, Then}
 use Rattle.dpl_memory.specs.Memory.{Memory}
-use Rattle.dpl_tree.specs.Words.{assign_view}
 use Rattle.dpl_nodes.specs.Typed.{int_view}
 use Rattle.dpl_nodes.specs.Steps.{array_leaf, element_set}
 use Rattle.dpl_frame.specs.Frames.{Framed}
@@ -29,14 +28,14 @@ returns-then-made-gt0-clause-done c =
     let last : ℕ = made - 1 in
     let put = c.put_row-made.ensures.put in
     let some : made ≡ suc last = omega (arith, c.if-made-gt0.true) in
-    let turn = index_turn f.limits names (Then (element_set (array_leaf IntKind c.args.name.now) c.args.index.now (assign_view c.args.op) c.args.sign.now (int_view c.args.e.now)) NoStmts) in
+    let turn = index_turn f.limits names (Then (element_set (array_leaf IntKind c.args.name.now) c.args.index.now c.args.op c.args.sign.now (int_view c.args.e.now)) NoStmts) in
     let memory =
     ap (λ (f : Framed). f.memory) c.bind.ensures
     ∙ ap (λ t. bound_at names t c.put_row-made.new.frame.memory) c.behind.ensures
     ∙ ap (λ (f : Framed). bound_at names (behind last first) f.memory) put.1
     ∙ bound_at-over names (behind last first) f.memory put.0 in
     subst (λ (m : Memory). AreDone turn first made f.memory m) (sym memory)
-    (row-made f.limits names c.args.name.now c.args.index.now (assign_view c.args.op) c.args.sign.now c.args.e.now first c.in-Some.at c.turn_strip-strip.result made f.memory put.0 put.2
+    (row-made f.limits names c.args.name.now c.args.index.now c.args.op c.args.sign.now c.args.e.now first c.in-Some.at c.turn_strip-strip.result made f.memory put.0 put.2
     c.turn_strip-strip.ensures.first c.put_row-made.ensures.strip c.put_row-made.ensures.cap c.turn_strip-strip.ensures.values c.in-Some.ensures last some)
 
 pub returns-else-made-gt0-clause-done : goal.returns-else-made-gt0-clause-done
@@ -47,7 +46,7 @@ returns-else-made-gt0-clause-done c =
     let made = c.put_row-made.result in
     let put = c.put_row-made.ensures.put in
     let none : made ≡ 0 = omega (arith, c.if-made-gt0.false) in
-    let turn = index_turn f.limits names (Then (element_set (array_leaf IntKind c.args.name.now) c.args.index.now (assign_view c.args.op) c.args.sign.now (int_view c.args.e.now)) NoStmts) in
+    let turn = index_turn f.limits names (Then (element_set (array_leaf IntKind c.args.name.now) c.args.index.now c.args.op c.args.sign.now (int_view c.args.e.now)) NoStmts) in
     subst (λ (m : Memory). AreDone turn first made f.memory m) (sym (ap (λ (f : Framed). f.memory) put.1))
-    (row-done f.limits names c.args.name.now c.args.index.now (assign_view c.args.op) c.args.sign.now c.args.e.now first c.in-Some.at c.turn_strip-strip.result made f.memory put.0 put.2
+    (row-done f.limits names c.args.name.now c.args.index.now c.args.op c.args.sign.now c.args.e.now first c.in-Some.at c.turn_strip-strip.result made f.memory put.0 put.2
     c.turn_strip-strip.ensures.first c.put_row-made.ensures.strip c.put_row-made.ensures.cap c.turn_strip-strip.ensures.values c.in-Some.ensures none)

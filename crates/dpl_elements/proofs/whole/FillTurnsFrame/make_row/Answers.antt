@@ -7,7 +7,6 @@ use Rattle.dpl_language.specs.Tree.{IntKind}
 use Rattle.dpl_language.specs.Values.{Int, Index}
 use Rattle.dpl_language.specs.Assignments.{change}
 use Rattle.dpl_memory.specs.Memory.{Memory, in_memory}
-use Rattle.dpl_tree.specs.Words.{assign_view}
 use Rattle.dpl_nodes.specs.Steps.{array_leaf}
 use Rattle.dpl_frame.specs.Frames.{Framed}
 use Rattle.dpl_loop.specs.Runs.{AreDone}
@@ -22,7 +21,7 @@ returns-clause-done c =
     let first = c.args.first in
     let put = c.put_row.ensures.put in
     let fits : FitsSigned w64 turns.value = search rules in
-    let sign = signed (assign_view turns.op) turns.sign.now in
+    let sign = signed turns.op turns.sign.now in
     let turn = λ (t : Index). change f.limits in_memory (array_leaf IntKind turns.name.now) sign t (Int turns.value) in
     subst (λ (m : Memory). AreDone turn first c.put_row.result f.memory m) (sym (ap (λ (f : Framed). f.memory) put.1))
     (whole-row f.limits turns.name.now sign turn first _ c.put_row.result f.memory put.0 put.2

@@ -5,7 +5,6 @@ use Rattle.dpl_language.specs.Tree.{IntKind}
 use Rattle.dpl_language.specs.Outcome.{with_value}
 use Rattle.dpl_language.specs.Assignments.{change}
 use Rattle.dpl_memory.specs.Memory.{in_memory}
-use Rattle.dpl_tree.specs.Words.{assign_view}
 use Rattle.dpl_nodes.specs.Steps.{array_leaf}
 use Rattle.dpl_elements.specs.Changes.{signed}
 use Rattle.dpl_elements.proofs.Changing.{told-ends}
@@ -18,4 +17,4 @@ returns-clause-ends c done =
     let fits : FitsSigned w64 c.in_ok-value.value = search rules in
     let changed = simp to_z-of_z at (c.change.ensures.ends done) in
     told-ends _ c.change.result c.told.result c.change.new.frame.memory done _ c.told.ensures
-    (ap (λ r. with_value r (change f.limits in_memory (array_leaf IntKind turns.name.now) (signed (assign_view turns.op) turns.sign.now) c.args.index) f.memory done) c.in_ok-value.ensures ∙ changed)
+    (ap (λ r. with_value r (change f.limits in_memory (array_leaf IntKind turns.name.now) (signed turns.op turns.sign.now) c.args.index) f.memory done) c.in_ok-value.ensures ∙ changed)

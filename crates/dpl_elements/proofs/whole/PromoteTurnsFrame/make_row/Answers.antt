@@ -9,7 +9,6 @@ use Rattle.dpl_language.specs.Expressions.{value_of}
 use Rattle.dpl_language.specs.Assignments.{change}
 use Rattle.dpl_lowered.specs.LoweredExpressions.{EachTurn}
 use Rattle.dpl_memory.specs.Memory.{Memory, in_memory}
-use Rattle.dpl_tree.specs.Words.{assign_view}
 use Rattle.dpl_nodes.specs.Typed.{promoted_int}
 use Rattle.dpl_nodes.specs.Steps.{array_leaf}
 use Rattle.dpl_frame.specs.Frames.{Framed}
@@ -26,7 +25,7 @@ returns-clause-done c =
     let first = c.args.first in
     let strip = c.promoted_strip-strip.result in
     let put = c.put_row.ensures.put in
-    let sign = signed (assign_view turns.op) turns.sign.now in
+    let sign = signed turns.op turns.sign.now in
     let changes = change f.limits in_memory (array_leaf IntKind turns.name.now) sign in
     let turn = λ (t : Index) (s : Memory) (done : Deeds). with_value (value_of f.limits in_memory (promoted_int EachTurn turns.e.now) (Some t) s) (changes t) s done in
     subst (λ (m : Memory). AreDone turn first c.put_row.result f.memory m) (sym (ap (λ (f : Framed). f.memory) put.1))

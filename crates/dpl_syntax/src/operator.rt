@@ -1,7 +1,7 @@
-// The operators, words and signs that trees hold.
-// Each is one of the language's, under the same name.
+// The operators and words that trees hold, the language's own: the definition has no others.
+// Its trees pass them on (Tree.antt of dpl_language), and so do the trees in memory (dpl_tree).
 
-use dpl_syntax::Place;
+use crate::place::Place;
 
 /// An operator before its operand.
 #[derive(Clone, Copy, PartialEq, Eq, Debug)]
@@ -96,7 +96,7 @@ pub enum Dots {
     Counted(Place),
 }
 
-/// A method without arguments.
+/// A method without arguments: `size`, `first`, `last`, `low`, `high`, `lowBound`, `domain` or `id`.
 #[derive(Clone, Copy, PartialEq, Eq, Debug)]
 pub enum Word {
     Size,
@@ -124,7 +124,7 @@ pub enum WriteWord {
     WriteXF,
 }
 
-/// The kind of a scalar, of an array's elements or of a cell.
+/// The kind of a scalar, of an array's elements or of a cell: `int` or `bool`.
 #[derive(Clone, Copy, PartialEq, Eq, Debug)]
 pub enum ScalarKind {
     Int,
