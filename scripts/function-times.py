@@ -7,7 +7,9 @@ import os
 import re
 import sys
 
-FUNCTION = re.compile(r"Rattle-\w+?-proofs\.(?P<function>[a-z_+]\w*(?:\.[\w+]+)*?)\.(?P<kind>[A-Z][a-z]\w*)(?P<rest>[-.].*)?\.oantt$")
+# A capital letter begins a kind, or a type where a method's name follows, as in `pieces.Pieces.put.Lts.decls`.
+KIND = r"(?P<kind>[A-Z][a-z]\w*\b)(?!\.(?!decls\b|oantt\b)[a-z])"
+FUNCTION = re.compile(rf"Rattle-\w+?-proofs\.(?P<function>[a-z_+]\w*(?:\.[\w+]+)*?)\.{KIND}(?P<rest>[-.].*)?\.oantt$")
 
 
 def written(folder):
