@@ -14,3 +14,4 @@ pub mod Suiting
 pub mod Fitting
 pub mod ScalarsWorked
 pub mod Worked
+pub mod Pieces
