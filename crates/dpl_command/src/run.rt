@@ -95,7 +95,8 @@ pub fn program<R: Sync, W: Out, E: Out>(
 ) -> u8
     requires unfailed { W.has_failed out.old ≡ false }
     requires errors_unfailed { E.has_failed errors.old ≡ false }
-    ensures { EndsWith (read_of read.now (λ text. text.items) error_kind) (map (λ set. set.now) asked.now.sets.items) (settings_of asked.now) asked.now.dump shown
+    ensures { EndsWith (read_of read.now (λ text. text.items) error_kind) (map (λ set. set.now) asked.now.sets.items)
+        (settings_of asked.now) asked.now.dump shown
         (W.contents out.old) (W.contents out.new) (E.contents errors.old) (E.contents errors.new) (E.has_failed errors.new) result }
 {
     let ended = run_read(rt, alloc, read, asked, out);

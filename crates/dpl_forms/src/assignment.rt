@@ -145,7 +145,8 @@ fn element<'t>(
     written: &Element<'_>,
     first: &mut Option<Breach>,
 ) -> Judged<'t>
-    ensures { IfOk result (λ t. Tells (type_by (element_verdict scopes.now written.now)) (exprs_breaches scopes.now (exprs_view written.now.exprs) ++ broken_by (element_verdict scopes.now written.now)) t first.old first.new) }
+    ensures { IfOk result (λ t. Tells (type_by (element_verdict scopes.now written.now))
+        (exprs_breaches scopes.now (exprs_view written.now.exprs) ++ broken_by (element_verdict scopes.now written.now)) t first.old first.new) }
 {
     let parts = exprs(alloc, scopes, &written.exprs, first)?;
     let mut untold = None;
@@ -163,7 +164,8 @@ fn to_name<'t>(
     written: &Assignment<'_>,
     first: &mut Option<Breach>,
 ) -> Result<(), AllocError>
-    ensures { OnOk result (first.new ≡ least_from first.old (whole_told scopes.now (option_map reducing_view around.now) (name_view name.now) (sign_view written.now.sign) (item_view written.now.value))) }
+    ensures { OnOk result (first.new ≡ least_from first.old
+        (whole_told scopes.now (option_map reducing_view around.now) (name_view name.now) (sign_view written.now.sign) (item_view written.now.value))) }
 {
     let declared = scopes.lookup(name.text);
     written_name(name.at, declared, first);

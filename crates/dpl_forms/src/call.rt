@@ -6,7 +6,8 @@ ghost use Rattle.dpl_tree.specs.View.{expr_view, name_view};
 ghost use Rattle.dpl_tree.specs.Statements.{call_view};
 ghost use Rattle.dpl_rules.specs.Breaches.{least_from};
 ghost use Rattle.dpl_rules.specs.Sights.{Reducing as ReducingTree};
-ghost use Rattle.dpl_rules.specs.Assignments.{called_name as called_name_of, call_word, call_argument as call_argument_of, call_breaches, condition_breaches, on_breaches};
+ghost use Rattle.dpl_rules.specs.Assignments.{called_name as called_name_of, call_word, call_argument as call_argument_of};
+ghost use Rattle.dpl_rules.specs.Assignments.{call_breaches, condition_breaches, on_breaches};
 ghost use Rattle.dpl_scopes.specs.View.{declared_view};
 ghost use Rattle.dpl_forms.specs.Called.{sight_of, wanted_told};
 
@@ -70,7 +71,8 @@ fn call_argument<'t>(
     call: &Call<'_>,
     first: &mut Option<Breach>,
 ) -> Result<(), AllocError>
-    ensures { (forall : Option ReducingTree) (in_task : Bool) → OnOk result (first.new ≡ least_from first.old (call_argument_of (sight_of scopes.now forall in_task) kind (call_view call.now))) }
+    ensures { (forall : Option ReducingTree) (in_task : Bool) → OnOk result
+        (first.new ≡ least_from first.old (call_argument_of (sight_of scopes.now forall in_task) kind (call_view call.now))) }
 {
     match call {
         Call::Read(_, _, _, _) | Call::Reset(_, _, _) => Ok(()),
@@ -95,7 +97,8 @@ pub fn call<'t>(
     written: &CellCall<'_>,
     first: &mut Option<Breach>,
 ) -> Result<(), AllocError>
-    ensures { (forall : Option ReducingTree) (in_task : Bool) → OnOk result (first.new ≡ least_from first.old (call_breaches (sight_of scopes.now forall in_task) (name_view written.now.name) (call_view written.now.call))) }
+    ensures { (forall : Option ReducingTree) (in_task : Bool) → OnOk result
+        (first.new ≡ least_from first.old (call_breaches (sight_of scopes.now forall in_task) (name_view written.now.name) (call_view written.now.call))) }
 {
     let word = word_of(&written.call);
     called_name(
@@ -123,7 +126,8 @@ pub fn condition<'t>(
     e: &Expr<'_>,
     first: &mut Option<Breach>,
 ) -> Result<(), AllocError>
-    ensures { (forall : Option ReducingTree) (in_task : Bool) → OnOk result (first.new ≡ least_from first.old (condition_breaches (sight_of scopes.now forall in_task) (expr_view e.now))) }
+    ensures { (forall : Option ReducingTree) (in_task : Bool)
+        → OnOk result (first.new ≡ least_from first.old (condition_breaches (sight_of scopes.now forall in_task) (expr_view e.now))) }
 {
     wanted_expr(alloc, scopes, Want::Bool, e, first)
 }
@@ -138,7 +142,8 @@ pub fn on<'t>(
     e: &Expr<'_>,
     first: &mut Option<Breach>,
 ) -> Result<(), AllocError>
-    ensures { (forall : Option ReducingTree) (in_task : Bool) → OnOk result (first.new ≡ least_from first.old (on_breaches (sight_of scopes.now forall in_task) (expr_view e.now))) }
+    ensures { (forall : Option ReducingTree) (in_task : Bool)
+        → OnOk result (first.new ≡ least_from first.old (on_breaches (sight_of scopes.now forall in_task) (expr_view e.now))) }
 {
     wanted_expr(alloc, scopes, Want::Locale, e, first)
 }

@@ -4,7 +4,8 @@
 ghost use Rattle.std.specs.Prelude.{◌≡◌, Option, is_some, option_map, IfOk, OnOk};
 ghost use Rattle.dpl_language.specs.Tree.{DomainType as DomainTypeTree};
 ghost use Rattle.dpl_tree.specs.View.{item_view, items_view};
-ghost use Rattle.dpl_tree.specs.Declarations.{optional, type_view as written_type_view, mapped_view, domain_type_view, array_type_view, init_view, initial_view, declare_view};
+ghost use Rattle.dpl_tree.specs.Declarations.{optional, type_view as written_type_view, mapped_view, domain_type_view};
+ghost use Rattle.dpl_tree.specs.Declarations.{array_type_view, init_view, initial_view, declare_view};
 ghost use Rattle.dpl_rules.specs.Breaches.{least_from};
 ghost use Rattle.dpl_rules.specs.Verdicts.{type_by};
 ghost use Rattle.dpl_rules.specs.Expressions.{items_breaches, item_parts};
@@ -92,7 +93,8 @@ fn over_items<'t>(
     written: &Items<'_>,
     first: &mut Option<Breach>,
 ) -> Judged<'t>
-    ensures { IfOk result (λ t. Tells (type_by (over_verdict from (item_parts scopes.now (items_view written.now)))) (over_told scopes.now from (items_view written.now)) t first.old first.new) }
+    ensures { IfOk result (λ t. Tells (type_by (over_verdict from (item_parts scopes.now (items_view written.now))))
+        (over_told scopes.now from (items_view written.now)) t first.old first.new) }
 {
     let parts = items(alloc, scopes, written, first)?;
     Ok(over(from, &parts, first))
@@ -173,7 +175,8 @@ fn domain_type<'t>(
     written: &DomainType<'_>,
     first: &mut Option<Breach>,
 ) -> Judged<'t>
-    ensures { IfOk result (λ t. Tells (domain_given (domain_type_view written.now)) (type_breaches scopes.now (DomainTypeTree (domain_type_view written.now))) t first.old first.new) }
+    ensures { IfOk result (λ t. Tells (domain_given (domain_type_view written.now))
+        (type_breaches scopes.now (DomainTypeTree (domain_type_view written.now))) t first.old first.new) }
 {
     let rank = natural(written.rank);
     owed(
@@ -197,7 +200,8 @@ fn declared_as<'t>(
     written: &DeclaredType<'t>,
     first: &mut Option<Breach>,
 ) -> Judged<'t>
-    ensures { IfOk result (λ t. Tells (declared_type scopes.now (origin_view own.entry) (written_type_view written.now)) (type_breaches scopes.now (written_type_view written.now)) t first.old first.new) }
+    ensures { IfOk result (λ t. Tells (declared_type scopes.now (origin_view own.entry) (written_type_view written.now))
+        (type_breaches scopes.now (written_type_view written.now)) t first.old first.new) }
 {
     match written {
         DeclaredType::Scalar(_, kind) => Ok(Some(ValueType::Scalar(*kind))),
@@ -230,7 +234,8 @@ fn untyped<'t>(
     written: &Init<'_>,
     first: &mut Option<Breach>,
 ) -> Result<Part<'t>, AllocError>
-    ensures { IfOk result (λ p. TellsPart (init_part scopes.now (init_view written.now)) (untyped_breaches scopes.now (init_view written.now)) p first.old first.new) }
+    ensures { IfOk result (λ p. TellsPart (init_part scopes.now (init_view written.now))
+        (untyped_breaches scopes.now (init_view written.now)) p first.old first.new) }
 {
     match written {
         Init::Item(item, map) => {
@@ -289,7 +294,8 @@ fn untyped_name<'t>(
     written: &Option<Initial<'_>>,
     first: &mut Option<Breach>,
 ) -> Judged<'t>
-    ensures { IfOk result (λ t. Tells (initial_type scopes.now (optional initial_view written.now)) (untyped_told scopes.now is_config (optional initial_view written.now)) t first.old first.new) }
+    ensures { IfOk result (λ t. Tells (initial_type scopes.now (optional initial_view written.now))
+        (untyped_told scopes.now is_config (optional initial_view written.now)) t first.old first.new) }
 {
     match written {
         None => Ok(None),
@@ -330,7 +336,8 @@ fn typed_name<'t>(
     initial: &Option<Initial<'_>>,
     first: &mut Option<Breach>,
 ) -> Judged<'t>
-    ensures { IfOk result (λ t. TypedTold scopes.now (origin_view own.entry) is_config (written_type_view written.now) (optional initial_view initial.now) t first.old first.new) }
+    ensures { IfOk result (λ t. TypedTold scopes.now (origin_view own.entry) is_config (written_type_view written.now)
+        (optional initial_view initial.now) t first.old first.new) }
 {
     let declared = declared_as(alloc, scopes, own, written, first)?;
     typed_initial(alloc, scopes, declared, initial, first)?;
@@ -348,7 +355,8 @@ fn name_type<'t>(
     written: &Declare<'t>,
     first: &mut Option<Breach>,
 ) -> Judged<'t>
-    ensures { IfOk result (λ t. Tells (given scopes.now (origin_view own.entry) (declare_view written.now)) (given_told scopes.now (origin_view own.entry) (declare_view written.now)) t first.old first.new) }
+    ensures { IfOk result (λ t. Tells (given scopes.now (origin_view own.entry) (declare_view written.now))
+        (given_told scopes.now (origin_view own.entry) (declare_view written.now)) t first.old first.new) }
 {
     let is_config = written.config.is_some();
     match &written.typed {

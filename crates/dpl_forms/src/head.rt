@@ -184,7 +184,8 @@ pub fn head<'t>(
     written: &Item<'_>,
     first: &mut Option<Breach>,
 ) -> Judged<'t>
-    ensures { IfOk result (λ t. Tells (head_type scopes.now (word_view word) (variables_view variables.now) (item_view written.now)) (head_told scopes.now (word_view word) (variables_view variables.now) (item_view written.now)) t first.old first.new) }
+    ensures { IfOk result (λ t. Tells (head_type scopes.now (word_view word) (variables_view variables.now) (item_view written.now))
+        (head_told scopes.now (word_view word) (variables_view variables.now) (item_view written.now)) t first.old first.new) }
 {
     let found = over(alloc, scopes, written, first)?;
     header(word, variables, written, found, first);

@@ -163,7 +163,8 @@ fn front<'t>(
     front: &[Post<'_>],
     first: &mut Option<Breach>,
 ) -> Judged<'t>
-    ensures { IfOk result (λ t. Tells (type_of scopes.now (PostfixedTree (expr_view before.now) (posts_of front.now))) (expr_breaches scopes.now (PostfixedTree (expr_view before.now) (posts_of front.now))) t first.old first.new) }
+    ensures { IfOk result (λ t. Tells (type_of scopes.now (PostfixedTree (expr_view before.now) (posts_of front.now)))
+        (expr_breaches scopes.now (PostfixedTree (expr_view before.now) (posts_of front.now))) t first.old first.new) }
 {
     let t = base(alloc, scopes, before, first)?;
     posts(alloc, scopes, last_of(before), t, front, first)

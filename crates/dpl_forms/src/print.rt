@@ -33,7 +33,8 @@ fn printed_part<'t>(
     e: &Expr<'_>,
     first: &mut Option<Breach>,
 ) -> Result<Part<'t>, AllocError>
-    ensures { IfOk result (λ p. TellsPart (argument_part_in scopes.now in_task (expr_view e.now)) (argument_in scopes.now in_task (expr_view e.now)) p first.old first.new) }
+    ensures { IfOk result (λ p. TellsPart (argument_part_in scopes.now in_task (expr_view e.now))
+        (argument_in scopes.now in_task (expr_view e.now)) p first.old first.new) }
 {
     if in_task {
         part(alloc, scopes, e, first)
@@ -102,7 +103,8 @@ pub fn print<'t>(
     written: &Write<'_>,
     first: &mut Option<Breach>,
 ) -> Result<(), AllocError>
-    ensures { (forall : Option ReducingTree) → OnOk result (first.new ≡ least_from first.old (printed_breaches (sight_of scopes.now forall in_task) (arguments_of (optional arguments_view written.now.arguments)))) }
+    ensures { (forall : Option ReducingTree) → OnOk result (first.new
+        ≡ least_from first.old (printed_breaches (sight_of scopes.now forall in_task) (arguments_of (optional arguments_view written.now.arguments)))) }
 {
     match &written.arguments {
         None => Ok(()),

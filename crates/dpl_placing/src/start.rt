@@ -69,7 +69,8 @@ fn standing<'t>(
 ) -> Result<Typed<'t>, NoNode>
     ensures node { IfOk result (λ t. typed_view Once t ≡ leaves_of scopes.now Once (standing_tree base.now posts.now)) }
     ensures kind { IfOk result (λ t. IsOfType t (type_of scopes.now (standing_tree base.now posts.now))) }
-    ensures ill_typed { (result ≡ Err stop.IllTyped) → MayBeTyped scopes.now (standing_tree base.now posts.now) → type_of scopes.now (standing_tree base.now posts.now) ≡ None }
+    ensures ill_typed { (result ≡ Err stop.IllTyped) → MayBeTyped scopes.now (standing_tree base.now posts.now)
+        → type_of scopes.now (standing_tree base.now posts.now) ≡ None }
 {
     if posts.is_empty() {
         expression(arena, scopes, base)
@@ -86,7 +87,8 @@ fn domain<'t>(
     posts: &[Post<'_>],
 ) -> Result<Option<&'t DomainExpr<'t>>, NoNode>
     ensures node { IfOk result (λ o. IfSome o (λ d. domain_view d.now ≡ leaves_of scopes.now Once (standing_tree base.now posts.now))) }
-    ensures other { IfOk result (λ o. IfNone o (MayBeTyped scopes.now (standing_tree base.now posts.now) → has is_domain (type_of scopes.now (standing_tree base.now posts.now)) ≡ false)) }
+    ensures other { IfOk result (λ o. IfNone o (MayBeTyped scopes.now (standing_tree base.now posts.now)
+        → has is_domain (type_of scopes.now (standing_tree base.now posts.now)) ≡ false)) }
     ensures ill_typed { result ≢ Err stop.IllTyped }
 {
     match standing(arena, scopes, base, posts) {
@@ -167,7 +169,8 @@ pub(crate) fn start<'t>(
     written: &Start<'_>,
 ) -> Result<StartExpr<'t>, NoNode>
     ensures start { IfOk result (λ s. IsStartOf scopes.now (start_view written.now) s) }
-    ensures ill_typed { (result ≡ Err stop.IllTyped) → IsSimpleStart (MayBePlain scopes.now) (start_view written.now) → StartSpelt IsNear ⊥ (start_view written.now) → is_start scopes.now (start_view written.now) ≡ false }
+    ensures ill_typed { (result ≡ Err stop.IllTyped) → IsSimpleStart (MayBePlain scopes.now) (start_view written.now)
+        → StartSpelt IsNear ⊥ (start_view written.now) → is_start scopes.now (start_view written.now) ≡ false }
 {
     match written {
         Start::Expr(e) => single(arena, scopes, e),

@@ -70,12 +70,14 @@ impl Config {
         maps: Maps,
     ) -> Result<Config, ConfigFault>
         ensures ok { IsOk result ↔ (AreLocales locales × IsCount budget × IsCount tries × IsGrid2 locales grid2 × IsGrid3 locales grid3) }
-        ensures held { IfOk result (λ config. config ≡ record { locales = locales; budget = budget; tries = tries; grid2 = grid2; grid3 = grid3; maps = maps }) }
+        ensures held { IfOk result (λ config. config
+            ≡ record { locales = locales; budget = budget; tries = tries; grid2 = grid2; grid3 = grid3; maps = maps }) }
         ensures locales { (result ≡ Err ConfigFault.Locales) ↔ (¬ AreLocales locales) }
         ensures budget { (result ≡ Err ConfigFault.Budget) ↔ (AreLocales locales × ¬ IsCount budget) }
         ensures tries { (result ≡ Err ConfigFault.Tries) ↔ (AreLocales locales × IsCount budget × ¬ IsCount tries) }
         ensures grid2 { (result ≡ Err ConfigFault.Grid2) ↔ (AreLocales locales × IsCount budget × IsCount tries × ¬ IsGrid2 locales grid2) }
-        ensures grid3 { (result ≡ Err ConfigFault.Grid3) ↔ (AreLocales locales × IsCount budget × IsCount tries × IsGrid2 locales grid2 × ¬ IsGrid3 locales grid3) }
+        ensures grid3 { (result ≡ Err ConfigFault.Grid3) ↔ (AreLocales locales × IsCount budget × IsCount tries × IsGrid2 locales grid2
+            × ¬ IsGrid3 locales grid3) }
     {
         if locales < 1 || 64 < locales {
             return Err(ConfigFault::Locales);

@@ -89,7 +89,8 @@ fn run_planned<'t, G: Gate>(
     gate: &G,
 ) -> Result<Ended, Refused>
     ensures ends { IfOk result (λ ended. AreKnownScopes planned.entry.scopes → AreLeft planned.entry.scopes → RanTo planned.entry.scopes (stmts_of stmts.now)
-        (exec_all (limits_of config.now) in_memory (steps_in Outside planned.entry.steps.now) (first_memory (start_of planned.entry.slots planned.entry.scopes (map (λ set. set.now) sets.now))) no_deeds) ended.outcome ended.text.items) }
+        (exec_all (limits_of config.now) in_memory (steps_in Outside planned.entry.steps.now)
+        (first_memory (start_of planned.entry.slots planned.entry.scopes (map (λ set. set.now) sets.now))) no_deeds) ended.outcome ended.text.items) }
     ensures unwritten { IfErr result (IsUnwritten (MayRefuseSome (G.may_refuse gate.now))) }
 {
     let alloc = arena.alloc();
@@ -115,7 +116,8 @@ fn run_program<'t, G: Gate>(
     requires untasked { UntaskedStmts (stmts_of program.now.stmts.now) }
     requires unrefused { refusal (program_view program.now) (map (λ set. set.now) sets.now) ≡ None }
     requires runnable { AreRunnableTops top (stmts_of program.now.stmts.now) }
-    ensures means { IfOk result (λ ended. (histories : List (List Event)) → Means (program_view program.now) (map (λ set. set.now) sets.now) (limits_of config.now) histories (ending ended.outcome) ended.text.items) }
+    ensures means { IfOk result (λ ended. (histories : List (List Event))
+        → Means (program_view program.now) (map (λ set. set.now) sets.now) (limits_of config.now) histories (ending ended.outcome) ended.text.items) }
     ensures unwritten { IfErr result (IsUnwritten (MayRefuseSome (G.may_refuse gate.now))) }
 {
     match plan(arena, program) {
@@ -134,7 +136,8 @@ fn stages<G: Gate>(
     config: &Config,
     gate: &G,
 ) -> Result<Result<Ended, Refused>, Stop>
-    ensures comes { IfOk result (λ ran. IfOk ran (λ ended. (histories : List (List Event)) → ComesTo text.now (map (λ set. set.now) sets.now) (limits_of config.now) histories ended.outcome ended.text.items)) }
+    ensures comes { IfOk result (λ ran. IfOk ran (λ ended. (histories : List (List Event))
+        → ComesTo text.now (map (λ set. set.now) sets.now) (limits_of config.now) histories ended.outcome ended.text.items)) }
     ensures unwritten { IfOk result (λ ran. IfErr ran (IsUnwritten (MayRefuseSome (G.may_refuse gate.now)))) }
     ensures stops { IfErr result (IsCause text.now (map (λ set. set.now) sets.now)) }
 {
@@ -157,7 +160,8 @@ fn outcome<G: Gate>(
     config: &Config,
     gate: &G,
 ) -> Result<Ended, Refused>
-    ensures comes { IfOk result (λ ended. (histories : List (List Event)) → ComesTo text.now (map (λ set. set.now) sets.now) (limits_of config.now) histories ended.outcome ended.text.items) }
+    ensures comes { IfOk result (λ ended. (histories : List (List Event))
+        → ComesTo text.now (map (λ set. set.now) sets.now) (limits_of config.now) histories ended.outcome ended.text.items) }
     ensures unwritten { IfErr result (IsUnwritten (MayRefuseSome (G.may_refuse gate.now))) }
 {
     match stages(alloc, text, sets, config, gate) {

@@ -104,7 +104,8 @@ fn start_all<'s, E, T: Tasks + Sync, G: Gate + Sync, R: Threads + Sync>(
         requires few { number < 64 }
         requires fresh { seat ≡ fresh_seat site.now.board.now number }
         requires starts { T.starts site.now.tasks.now site.now.board.now.opening frame }
-        ensures { Ran site.entry.now.board.now (T.alone site.entry.now.tasks.now) (G.may_refuse site.entry.now.gate.now) site.entry.now.tries number result.0 result.1 }
+        ensures { Ran site.entry.now.board.now (T.alone site.entry.now.tasks.now)
+            (G.may_refuse site.entry.now.gate.now) site.entry.now.tries number result.0 result.1 }
     { run_one(site, number, seat, frame) };
     let Ok(handle) = scope.spawn_with(promise, task) else {
         return Err(Refusal::Thread);
@@ -134,7 +135,8 @@ pub(crate) fn run_all<T: Tasks + Sync, G: Gate + Sync, R: Threads + Wait + Sync>
         rt,
         move |scope| -> Result<Gathering, Refusal>
             requires { MayStart site.now.board.now (T.starts site.now.tasks.now) site.now.tries seats.items frames.items gathering }
-            ensures ran { IfOk result (λ g. HaveRun site.entry.now.board.now (T.alone site.entry.now.tasks.now) site.entry.now.tries (vec_len seats) gathering.seat g.seat g.ends.items) }
+            ensures ran { IfOk result (λ g. HaveRun site.entry.now.board.now (T.alone site.entry.now.tasks.now) site.entry.now.tries
+                (vec_len seats) gathering.seat g.seat g.ends.items) }
             ensures refused { IfErr result (IsRefusedSo (MayRefuseOneOf (G.may_refuse site.entry.now.gate.now) (vec_len seats))) }
         { start_all(rt, scope, site, seats, frames, gathering) },
     )
