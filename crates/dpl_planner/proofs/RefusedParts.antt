@@ -5,7 +5,7 @@ use Rattle.std.specs.Prelude.{bytes_eq}
 use Rattle.std.proofs.lemmas.List.{drop_more}
 use Rattle.std.proofs.lemmas.Option.{none-some}
 use Rattle.std.proofs.lemmas.Slice.Eq.{bytes_eq-Decides}
-use Rattle.dpl_language.specs.Tree.{Op, Assign, Kind, ExprTree, ItemTree, TypeTree, ScalarType, SyncType, DomainType, ArrayType, DeclareTree}
+use Rattle.dpl_language.specs.Tree.{Op, Assign, Kind, IntKind, BoolKind, ExprTree, ItemTree, TypeTree, ScalarType, SyncType, DomainType, ArrayType, DeclareTree}
 use Rattle.dpl_language.specs.Names.{Text}
 use Rattle.dpl_language.specs.Declarations.{type_of}
 use Rattle.dpl_rules.specs.Types.{ValueType, Scalar, Domain, Cell}
