@@ -2,11 +2,11 @@
 -- Each row stands behind its text, on line 2 behind the house's line. Rows of every rule, by text, are those of dpl_worked.
 use Rattle.std.proofs.Common.{◌≡◌, [], refl, Some, None, true, false}
 use Rattle.std.specs.Prelude.{codes, pos}
-use Rattle.dpl_language.specs.Tree.{Add, Assigned, BlockBody, Brackets, Chain, Coforall, CyclicMap, Declare, Element, ExprArgument, FirstExpr, FirstItem, Forall, ItemInit}
-use Rattle.dpl_language.specs.Tree.{Link, Named, NoExprs, NoItems, NoLinks, NoPosts, NoStmts, Number, One, OneVariable, Post, Postfixed, ReduceIntent, Set}
+use Rattle.dpl_language.specs.Tree.{Add, Assigned, BlockBody, Brackets, Chain, Coforall, CyclicMap, Declare, Element, ExprArgument, FirstExpr, FirstItem, Forall, Grouped, ItemInit}
+use Rattle.dpl_language.specs.Tree.{Link, Named, NoExprs, NoItems, NoLinks, NoPosts, NoStmts, Number, One, OneVariable, Post, Postfixed, ReduceIntent, Reduced, Set}
 use Rattle.dpl_language.specs.Tree.{SetSubtract, Square, StartExpr, Subtract, Sum, Then, TruthWord, Whole, WordBody, Write}
 use Rattle.dpl_language.proofs.Spelled.{argument, at, cyclic_map, declared, initial, listed, mapped, name, sign, with_intents, written_line}
-use Rattle.dpl_syntax.specs.declared.refusal.Code.TheVariants.{NotInCoforall, OuterChanged, ReadElsewhere, WrittenElsewhere, WrongType}
+use Rattle.dpl_syntax.specs.declared.refusal.Code.TheVariants.{NotInCoforall, NotInForall, OuterChanged, ReadElsewhere, WrittenElsewhere, WrongType}
 use Rattle.dpl_rules.proofs.House.{in_house, told}
 
 -- ---- C6, an array that isn't written at the own index
@@ -45,6 +45,14 @@ reduce_variable_lowered : in_house
     (WordBody (at 2 33) (Assigned (Whole (name (codes "n") (at 2 36))) (sign (at 2 38) SetSubtract (at 2 38)) (One (Number (at 2 41)
     (pos 1))) (at 2 42)))) NoStmts) ≡ told 2 36 OuterChanged
 reduce_variable_lowered = refl
+
+-- ---- C9, a reduction in a promoted pair of a chain
+-- A = (+ reduce C) + A + F;
+sum_before_a_refused_pair : in_house
+    (Then (Assigned (Whole (name (codes "A") (at 2 1))) (sign (at 2 3) Set (at 2 3)) (One (Chain (Grouped (at 2 5) (One (Reduced
+    (at 2 6) Sum (at 2 8) (Named (name (codes "C") (at 2 15))))) (at 2 16)) (Link (at 2 18) Add (Named (name (codes "A") (at 2 20)))
+    (Link (at 2 22) Add (Named (name (codes "F") (at 2 24))) NoLinks)))) (at 2 25)) NoStmts) ≡ told 2 6 NotInForall
+sum_before_a_refused_pair = refl
 
 -- ---- C10, what a coforall's body doesn't write, hold or declare
 -- coforall i in r do write(i);
