@@ -99,21 +99,32 @@ impl<T: Copy> Pieces<T> {
         ensures back { IfErr result (λ p. p ≡ piece) }
         ensures unchanged { OnErr result (self.new ≡ self.old) }
     {
-        if !same_domain(&piece.domain(), &self.domain) {
-            return Err(piece);
-        }
-        if !self.map.is(&piece.map()) {
+        if !self.takes(&piece) {
             return Err(piece);
         }
         let locale = piece.locale() as usize;
-        if locale >= self.held.len() {
-            return Err(piece);
-        }
-        if self.held[locale].is_some() {
-            return Err(piece);
-        }
         self.held[locale] = Some(piece.over(self.domain));
         Ok(())
+    }
+
+    // Whether a piece is no stranger and no double.
+    fn takes(&self, piece: &Piece<T>) -> bool
+        ensures { IsTrue result ↔ (SameDomain (texts_of piece.now.domain) (texts_of self.now.domain) × (piece.now.map ≡ self.now.map) × (slice_get self.now.slots piece.now.locale ≡ Some None)) }
+    {
+        if !same_domain(&piece.domain(), &self.domain) {
+            return false;
+        }
+        if !self.map.is(&piece.map()) {
+            return false;
+        }
+        let locale = piece.locale() as usize;
+        if locale >= self.held.len() {
+            return false;
+        }
+        if self.held[locale].is_some() {
+            return false;
+        }
+        true
     }
 
     // The piece of a locale, if it is there.
