@@ -9,12 +9,9 @@ ghost use Rattle.dpl_rules.specs.Types.{has, is_domain};
 ghost use Rattle.dpl_rules.specs.Expressions.{item_type};
 ghost use Rattle.dpl_lowered.specs.LoweredExpressions.{Once};
 ghost use Rattle.dpl_nodes.specs.Typed.{domain_view};
-ghost use Rattle.dpl_nodes.specs.Spots.{IsNear};
 ghost use Rattle.dpl_nodes.specs.declared.stop.NoNode.TheVariants as stop;
-ghost use Rattle.dpl_spelling.specs.Spelt.{ItemSpelt};
-ghost use Rattle.dpl_typer.specs.Leaves.{MayBePlain};
-ghost use Rattle.dpl_typer.specs.Simple.{IsSimpleItem};
 ghost use Rattle.dpl_typer.specs.Elaborated.{item_leaves};
+ghost use Rattle.dpl_typer.specs.Where.{WhereSimpleItem};
 ghost use Rattle.dpl_placing.specs.Named.{IsMapOf, HasMap};
 
 use crate::start::start;
@@ -30,7 +27,8 @@ fn boxed<'t>(
     written: &Item<'_>,
 ) -> Result<&'t DomainExpr<'t>, NoNode>
     ensures node { IfOk result (λ d. item_leaves scopes.now Once (item_view written.now) ≡ One (domain_view d.now)) }
-    ensures ill_typed { (result ≡ Err stop.IllTyped) → IsSimpleItem (MayBePlain scopes.now) (item_view written.now) → ItemSpelt IsNear ⊥ (item_view written.now) → has is_domain (item_type scopes.now (item_view written.now)) ≡ false }
+    ensures ill_typed { (result ≡ Err stop.IllTyped) → WhereSimpleItem scopes.now (item_view written.now)
+        (has is_domain (item_type scopes.now (item_view written.now)) ≡ false) }
 {
     let made = item(arena, scopes, written)?;
     match made {

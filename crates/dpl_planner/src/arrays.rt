@@ -18,13 +18,12 @@ ghost use Rattle.dpl_nodes.specs.Typed.{domain_view, range_item};
 ghost use Rattle.dpl_nodes.specs.Steps.{over_items, initial_kind, initial_view};
 ghost use Rattle.dpl_nodes.specs.declared.stop.NoNode.TheVariants as stop;
 ghost use Rattle.dpl_scopes.specs.View.{declared_view};
-ghost use Rattle.dpl_spelling.specs.Spelt.{ItemSpelt, ItemsSpelt};
-ghost use Rattle.dpl_typer.specs.Leaves.{kind_by, MayBePlain};
-ghost use Rattle.dpl_typer.specs.Simple.{IsSimpleItem, AreSimpleItems};
+ghost use Rattle.dpl_typer.specs.Leaves.{kind_by};
 ghost use Rattle.dpl_runnable.specs.Kinds.{IsGivenTo};
 ghost use Rattle.dpl_runnable.specs.Runnable.{IsItemOf, IsRunnableType, IsRunnableDeclare};
 ghost use Rattle.dpl_planner.specs.Elements.{elements_view, elements_kind};
 ghost use Rattle.dpl_typer.specs.Elaborated.{AreMany, HasNoDomain};
+ghost use Rattle.dpl_typer.specs.Where.{WhereSimpleItem, WhereSimpleItems};
 ghost use Rattle.dpl_planner.specs.Arrays.{between, IsOver, IsArrayInitial, HasElements, IsArrayKind};
 ghost use Rattle.dpl_planner.specs.Parts.{PlansDeclare};
 
@@ -115,7 +114,8 @@ fn over_one<'t>(
     written: &Item<'_>,
 ) -> Result<Between<'t>, NoNode>
     ensures over { IfOk result (λ o. IsOver scopes.now (FirstItem (item_view written.now) NoItems) o) }
-    ensures ill_typed { (result ≡ Err stop.IllTyped) → IsSimpleItem (MayBePlain scopes.now) (item_view written.now) → ItemSpelt IsNear ⊥ (item_view written.now) → HasNoDomain (item_parts scopes.now (FirstItem (item_view written.now) NoItems)) }
+    ensures ill_typed { (result ≡ Err stop.IllTyped) → WhereSimpleItem scopes.now (item_view written.now)
+        (HasNoDomain (item_parts scopes.now (FirstItem (item_view written.now) NoItems))) }
 {
     let bare = is_bare(written);
     let made = item(arena, scopes, written)?;
@@ -138,7 +138,8 @@ fn over_many<'t>(
 ) -> Result<Between<'t>, NoNode>
     requires { AreMany (items_view written.now) }
     ensures over { IfOk result (λ o. IsOver scopes.now (items_view written.now) o) }
-    ensures ill_typed { (result ≡ Err stop.IllTyped) → AreSimpleItems (MayBePlain scopes.now) (items_view written.now) → ItemsSpelt IsNear ⊥ (items_view written.now) → HasNoDomain (item_parts scopes.now (items_view written.now)) }
+    ensures ill_typed { (result ≡ Err stop.IllTyped) → WhereSimpleItems scopes.now (items_view written.now)
+        (HasNoDomain (item_parts scopes.now (items_view written.now))) }
 {
     let made = parts(arena, scopes, written)?;
     match made {
@@ -154,7 +155,8 @@ fn over<'t>(
     written: &Items<'_>,
 ) -> Result<Between<'t>, NoNode>
     ensures over { IfOk result (λ o. IsOver scopes.now (items_view written.now) o) }
-    ensures ill_typed { (result ≡ Err stop.IllTyped) → AreSimpleItems (MayBePlain scopes.now) (items_view written.now) → ItemsSpelt IsNear ⊥ (items_view written.now) → HasNoDomain (item_parts scopes.now (items_view written.now)) }
+    ensures ill_typed { (result ≡ Err stop.IllTyped) → WhereSimpleItems scopes.now (items_view written.now)
+        (HasNoDomain (item_parts scopes.now (items_view written.now))) }
 {
     match written.others {
         [] => over_one(arena, scopes, &written.first),
@@ -192,8 +194,10 @@ fn given_item<'t>(
     equals: Place,
     written: &Item<'_>,
 ) -> Result<Begun<'t>, NoNode>
-    ensures initial { IfOk result (λ b. (mapped : Option (MappedTree Text)) → IsArrayInitial scopes.now kind (Some (record { equals = equals; init = ItemInit (item_view written.now) mapped })) b) }
-    ensures ill_typed { (result ≡ Err stop.IllTyped) → IsNear equals → (k : VariableKind) → IsItemOf scopes.now (item_view written.now) k → IsGivenTo (ArrayKind kind) k → ⊥ }
+    ensures initial { IfOk result (λ b. (mapped : Option (MappedTree Text))
+        → IsArrayInitial scopes.now kind (Some (record { equals = equals; init = ItemInit (item_view written.now) mapped })) b) }
+    ensures ill_typed { (result ≡ Err stop.IllTyped) → IsNear equals → (k : VariableKind) → IsItemOf scopes.now (item_view written.now) k
+        → IsGivenTo (ArrayKind kind) k → ⊥ }
 {
     let value = valued(arena, scopes, written)?;
     let elements = given_elements(arena, kind, value)?;
@@ -254,7 +258,8 @@ fn array_parts<'t>(
     ensures over { IfOk result (λ p. IsOver scopes.now (items_view array.now.over) p.over) }
     ensures initial { IfOk result (λ p. IsArrayInitial scopes.now array.now.kind (optional written_initial_view written.now.initial) p.initial) }
     ensures ill_typed { (result ≡ Err stop.IllTyped) → IsNear written.now.name.at → IsRunnableType scopes.now (Some (ArrayTypeTree (array_type_view array.now)))
-        → (HasNoDomain (item_parts scopes.now (items_view array.now.over)) → ⊥) → HasElements scopes.now array.now.kind (optional written_initial_view written.now.initial) → ⊥ }
+        → (HasNoDomain (item_parts scopes.now (items_view array.now.over)) → ⊥)
+        → HasElements scopes.now array.now.kind (optional written_initial_view written.now.initial) → ⊥ }
 {
     Ok(ArrayParts {
         at: spot(arena, written.name.at)?,

@@ -5,4 +5,5 @@ pub mod Simple
 pub mod Sights
 pub mod Makers
 -- What serves contracts and proofs alone.
+pub mod Where
 pub mod Elaborated

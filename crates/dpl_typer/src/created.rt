@@ -6,10 +6,8 @@ ghost use Rattle.dpl_tree.specs.View.{item_view, items_view};
 ghost use Rattle.dpl_rules.specs.Expressions.{item_parts};
 ghost use Rattle.dpl_nodes.specs.Spots.{IsNear};
 ghost use Rattle.dpl_nodes.specs.declared.stop.NoNode.TheVariants as stop;
-ghost use Rattle.dpl_spelling.specs.Spelt.{ItemSpelt, ItemsSpelt};
-ghost use Rattle.dpl_typer.specs.Leaves.{MayBePlain};
-ghost use Rattle.dpl_typer.specs.Simple.{IsSimpleItem, AreSimpleItems};
 ghost use Rattle.dpl_typer.specs.Elaborated.{alone, AreMany, HasNoDomain, IsCreated};
+ghost use Rattle.dpl_typer.specs.Where.{WhereSimpleItem, WhereSimpleItems};
 
 use crate::domains::{created_from, literal};
 use crate::elaborate::item;
@@ -29,7 +27,8 @@ fn of_one<'t>(
     written: &Item<'_>,
 ) -> Result<Typed<'t>, NoNode>
     ensures created { IfOk result (λ t. IsCreated scopes.now from (alone (item_view written.now)) t) }
-    ensures ill_typed { (result ≡ Err stop.IllTyped) → IsNear from → IsSimpleItem (MayBePlain scopes.now) (item_view written.now) → ItemSpelt IsNear ⊥ (item_view written.now) → HasNoDomain (item_parts scopes.now (alone (item_view written.now))) }
+    ensures ill_typed { (result ≡ Err stop.IllTyped) → IsNear from
+        → WhereSimpleItem scopes.now (item_view written.now) (HasNoDomain (item_parts scopes.now (alone (item_view written.now)))) }
 {
     let made = item(arena, scopes, written)?;
     match made {
@@ -55,7 +54,8 @@ fn of_many<'t>(
 ) -> Result<Typed<'t>, NoNode>
     requires { AreMany (items_view written.now) }
     ensures created { IfOk result (λ t. IsCreated scopes.now from (items_view written.now) t) }
-    ensures ill_typed { (result ≡ Err stop.IllTyped) → IsNear from → AreSimpleItems (MayBePlain scopes.now) (items_view written.now) → ItemsSpelt IsNear ⊥ (items_view written.now) → HasNoDomain (item_parts scopes.now (items_view written.now)) }
+    ensures ill_typed { (result ≡ Err stop.IllTyped) → IsNear from
+        → WhereSimpleItems scopes.now (items_view written.now) (HasNoDomain (item_parts scopes.now (items_view written.now))) }
 {
     let parts = parts(arena, scopes, written)?;
     literal(arena, from, parts)
@@ -72,7 +72,8 @@ pub fn created<'t>(
     written: &Items<'_>,
 ) -> Result<Typed<'t>, NoNode>
     ensures created { IfOk result (λ t. IsCreated scopes.now from (items_view written.now) t) }
-    ensures ill_typed { (result ≡ Err stop.IllTyped) → IsNear from → AreSimpleItems (MayBePlain scopes.now) (items_view written.now) → ItemsSpelt IsNear ⊥ (items_view written.now) → HasNoDomain (item_parts scopes.now (items_view written.now)) }
+    ensures ill_typed { (result ≡ Err stop.IllTyped) → IsNear from
+        → WhereSimpleItems scopes.now (items_view written.now) (HasNoDomain (item_parts scopes.now (items_view written.now))) }
 {
     match written.others {
         [] => of_one(arena, scopes, from, &written.first),

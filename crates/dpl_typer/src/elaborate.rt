@@ -10,11 +10,10 @@ ghost use Rattle.dpl_lowered.specs.LoweredExpressions.{Times, lowered_expr, lowe
 ghost use Rattle.dpl_memory.specs.Memory.{known_variable};
 ghost use Rattle.dpl_typer.specs.Makers.{typed_view, typed_item};
 ghost use Rattle.dpl_nodes.specs.declared.stop.NoNode.TheVariants as stop;
-ghost use Rattle.dpl_typer.specs.Leaves.{leaf_in, IsFound, IsOfType, MayBePlain};
-ghost use Rattle.dpl_typer.specs.Simple.{IsSimple, IsSimpleItem, AreSimpleLinks};
-ghost use Rattle.dpl_spelling.specs.Spelt.{ExprSpelt, ItemSpelt, LinksSpelt};
-ghost use Rattle.dpl_nodes.specs.Spots.{IsNear};
+ghost use Rattle.dpl_typer.specs.Leaves.{leaf_in, IsFound, IsOfType};
+ghost use Rattle.dpl_typer.specs.Simple.{IsSimple, IsSimpleItem};
 ghost use Rattle.dpl_typer.specs.Elaborated.{leaves_of, chain_tree, IsChainSoFar, HasNoChain};
+ghost use Rattle.dpl_typer.specs.Where.{WhereSimple, WhereSimpleItem, WhereSimpleLinks};
 
 use crate::chain::nests;
 use crate::domains::literal;
@@ -45,7 +44,7 @@ pub fn expression<'t>(
     ensures node { IfOk result (λ t. (m : Times) → typed_view m t ≡ lowered_expr known_variable m (renamed_expr (leaf_in scopes.now) (expr_view e.now))) }
     ensures kind { IfOk result (λ t. IsOfType t (type_of scopes.now (expr_view e.now))) }
     ensures found { IfOk result (λ t. IsSimple (IsFound scopes.now) (expr_view e.now)) }
-    ensures ill_typed { (result ≡ Err stop.IllTyped) → IsSimple (MayBePlain scopes.now) (expr_view e.now) → ExprSpelt IsNear ⊥ (expr_view e.now) → type_of scopes.now (expr_view e.now) ≡ None }
+    ensures ill_typed { (result ≡ Err stop.IllTyped) → WhereSimple scopes.now (expr_view e.now) (type_of scopes.now (expr_view e.now) ≡ None) }
 {
     match e {
         Expr::Number(_, n) => number(arena, *n),
@@ -81,7 +80,7 @@ pub fn item<'t>(arena: Arena<'t>, scopes: &Scopes<'_>, item: &Item<'_>) -> Resul
     ensures node { IfOk result (λ t. (m : Times) → typed_item m t ≡ lowered_item known_variable m (renamed_item (leaf_in scopes.now) (item_view item.now))) }
     ensures kind { IfOk result (λ t. IsOfType t (item_type scopes.now (item_view item.now))) }
     ensures found { IfOk result (λ t. IsSimpleItem (IsFound scopes.now) (item_view item.now)) }
-    ensures ill_typed { (result ≡ Err stop.IllTyped) → IsSimpleItem (MayBePlain scopes.now) (item_view item.now) → ItemSpelt IsNear ⊥ (item_view item.now) → item_type scopes.now (item_view item.now) ≡ None }
+    ensures ill_typed { (result ≡ Err stop.IllTyped) → WhereSimpleItem scopes.now (item_view item.now) (item_type scopes.now (item_view item.now) ≡ None) }
 {
     match item {
         Item::One(e) => expression(arena, scopes, e),
@@ -99,7 +98,7 @@ fn chained<'t>(
     ensures node { IfOk result (λ t. (m : Times) → typed_view m t ≡ leaves_of scopes.now m (chain_tree chain.now)) }
     ensures kind { IfOk result (λ t. IsOfType t (type_of scopes.now (chain_tree chain.now))) }
     ensures found { IfOk result (λ t. IsSimple (IsFound scopes.now) (chain_tree chain.now)) }
-    ensures ill_typed { (result ≡ Err stop.IllTyped) → IsSimple (MayBePlain scopes.now) (chain_tree chain.now) → ExprSpelt IsNear ⊥ (chain_tree chain.now) → type_of scopes.now (chain_tree chain.now) ≡ None }
+    ensures ill_typed { (result ≡ Err stop.IllTyped) → WhereSimple scopes.now (chain_tree chain.now) (type_of scopes.now (chain_tree chain.now) ≡ None) }
 {
     if nests(chain.links) {
         let first = expression(arena, scopes, chain.first)?;
@@ -118,7 +117,8 @@ fn links<'t>(
     links: &[Link<'_>],
 ) -> Result<Typed<'t>, NoNode>
     ensures so_far { IfOk result (λ t. IsChainSoFar scopes.now first.entry (links_of links.now) t NoLinks) }
-    ensures ill_typed { (result ≡ Err stop.IllTyped) → AreSimpleLinks (MayBePlain scopes.now) (links_of links.now) → LinksSpelt IsNear ⊥ (links_of links.now) → HasNoChain scopes.now first.entry (links_of links.now) }
+    ensures ill_typed { (result ≡ Err stop.IllTyped) → WhereSimpleLinks scopes.now (links_of links.now)
+        (HasNoChain scopes.now first.entry (links_of links.now)) }
 {
     let mut t = first;
     for next in links {

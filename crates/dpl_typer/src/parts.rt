@@ -4,12 +4,9 @@
 ghost use Rattle.std.specs.Prelude.{◌≡◌, IfOk, Err};
 ghost use Rattle.dpl_tree.specs.View.{items_view, exprs_view};
 ghost use Rattle.dpl_rules.specs.Expressions.{item_parts, expr_parts};
-ghost use Rattle.dpl_nodes.specs.Spots.{IsNear};
 ghost use Rattle.dpl_nodes.specs.declared.stop.NoNode.TheVariants as stop;
-ghost use Rattle.dpl_spelling.specs.Spelt.{ItemsSpelt, ExprsSpelt};
-ghost use Rattle.dpl_typer.specs.Leaves.{MayBePlain};
-ghost use Rattle.dpl_typer.specs.Simple.{AreSimpleItems, AreSimpleExprs};
 ghost use Rattle.dpl_typer.specs.Elaborated.{ArePartsOf, IsIndexOf, IsNoIndex, AreNoParts};
+ghost use Rattle.dpl_typer.specs.Where.{WhereSimpleExprs, WhereSimpleItems};
 
 use crate::elaborate::{expression, item};
 use crate::pieces::{Parts, index_of_one, index_of_three, index_of_two, one, three, two};
@@ -28,7 +25,8 @@ pub fn parts<'t>(
     items: &Items<'_>,
 ) -> Result<Parts<'t>, NoNode>
     ensures made { IfOk result (λ ps. ArePartsOf scopes.now (items_view items.now) ps) }
-    ensures ill_typed { (result ≡ Err stop.IllTyped) → AreSimpleItems (MayBePlain scopes.now) (items_view items.now) → ItemsSpelt IsNear ⊥ (items_view items.now) → AreNoParts (item_parts scopes.now (items_view items.now)) }
+    ensures ill_typed { (result ≡ Err stop.IllTyped) → WhereSimpleItems scopes.now (items_view items.now)
+        (AreNoParts (item_parts scopes.now (items_view items.now))) }
 {
     let first = item(arena, scopes, &items.first)?;
     match items.others {
@@ -57,7 +55,8 @@ pub fn index<'t>(
     exprs: &Exprs<'_>,
 ) -> Result<&'t IndexExpr<'t>, NoNode>
     ensures made { IfOk result (λ t. IsIndexOf scopes.now (exprs_view exprs.now) t.now) }
-    ensures ill_typed { (result ≡ Err stop.IllTyped) → AreSimpleExprs (MayBePlain scopes.now) (exprs_view exprs.now) → ExprsSpelt IsNear ⊥ (exprs_view exprs.now) → IsNoIndex (expr_parts scopes.now (exprs_view exprs.now)) }
+    ensures ill_typed { (result ≡ Err stop.IllTyped) → WhereSimpleExprs scopes.now (exprs_view exprs.now)
+        (IsNoIndex (expr_parts scopes.now (exprs_view exprs.now))) }
 {
     let first = expression(arena, scopes, exprs.first)?;
     match exprs.others {

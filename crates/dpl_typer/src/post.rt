@@ -12,11 +12,12 @@ ghost use Rattle.dpl_language.specs.Phrases.{natural};
 ghost use Rattle.dpl_nodes.specs.Typed.{dotted};
 ghost use Rattle.dpl_typer.specs.Makers.{typed_view, kind_of, dim_kind};
 ghost use Rattle.dpl_nodes.specs.declared.stop.NoNode.TheVariants as stop;
-ghost use Rattle.dpl_typer.specs.Leaves.{IsFound, IsOfType, MayBePlain};
-ghost use Rattle.dpl_typer.specs.Simple.{IsSimple, AreSimplePosts, IsSimplePost, IsSimpleMethod, AreSimpleItems, AreSimpleExprs};
-ghost use Rattle.dpl_spelling.specs.Spelt.{ExprSpelt, PostsSpelt, PostSpelt, MethodSpelt, ItemsSpelt, ExprsSpelt};
+ghost use Rattle.dpl_typer.specs.Leaves.{IsFound, IsOfType};
+ghost use Rattle.dpl_typer.specs.Simple.{IsSimple};
 ghost use Rattle.dpl_nodes.specs.Spots.{IsNear};
-ghost use Rattle.dpl_typer.specs.Elaborated.{leaves_of, postfixed_tree, IsPostOf, ArePostsSoFar, HasNoPost, HasNoSquare, HasNoRound, HasNoMethod, HasNoContains, HasNoExpand, HaveNoPosts};
+ghost use Rattle.dpl_typer.specs.Elaborated.{leaves_of, postfixed_tree, IsPostOf, ArePostsSoFar, HasNoPost, HasNoSquare};
+ghost use Rattle.dpl_typer.specs.Elaborated.{HasNoRound, HasNoMethod, HasNoContains, HasNoExpand, HaveNoPosts};
+ghost use Rattle.dpl_typer.specs.Where.{WhereSimple, WhereSimpleExprs, WhereSimpleItems, WhereSimpleMethod, WhereSimplePost, WhereSimplePosts};
 
 use crate::behind::{called, containing, element, square};
 use crate::domains::{dimension_of, expanded};
@@ -41,7 +42,7 @@ pub fn postfixed<'t>(
     ensures node { IfOk result (λ t. (m : Times) → typed_view m t ≡ leaves_of scopes.now m (postfixed_tree e.now)) }
     ensures kind { IfOk result (λ t. IsOfType t (type_of scopes.now (postfixed_tree e.now))) }
     ensures found { IfOk result (λ t. IsSimple (IsFound scopes.now) (postfixed_tree e.now)) }
-    ensures ill_typed { (result ≡ Err stop.IllTyped) → IsSimple (MayBePlain scopes.now) (postfixed_tree e.now) → ExprSpelt IsNear ⊥ (postfixed_tree e.now) → type_of scopes.now (postfixed_tree e.now) ≡ None }
+    ensures ill_typed { (result ≡ Err stop.IllTyped) → WhereSimple scopes.now (postfixed_tree e.now) (type_of scopes.now (postfixed_tree e.now) ≡ None) }
 {
     if e.posts.is_empty() {
         Err(NoNode::IllTyped)
@@ -60,7 +61,8 @@ fn posts<'t>(
     posts: &[Post<'_>],
 ) -> Result<Typed<'t>, NoNode>
     ensures so_far { IfOk result (λ t. ArePostsSoFar scopes.now base.entry (posts_of posts.now) t NoPosts) }
-    ensures ill_typed { (result ≡ Err stop.IllTyped) → AreSimplePosts (MayBePlain scopes.now) (posts_of posts.now) → PostsSpelt IsNear ⊥ (posts_of posts.now) → HaveNoPosts scopes.now base.entry (posts_of posts.now) }
+    ensures ill_typed { (result ≡ Err stop.IllTyped) → WhereSimplePosts scopes.now (posts_of posts.now)
+        (HaveNoPosts scopes.now base.entry (posts_of posts.now)) }
 {
     let mut t = base;
     for next in posts {
@@ -78,7 +80,7 @@ fn post<'t>(
     post: &Post<'_>,
 ) -> Result<Typed<'t>, NoNode>
     ensures made { IfOk result (λ t. IsPostOf scopes.now base.entry (post_view post.now) t) }
-    ensures ill_typed { (result ≡ Err stop.IllTyped) → IsSimplePost (MayBePlain scopes.now) (post_view post.now) → PostSpelt IsNear ⊥ (post_view post.now) → HasNoPost scopes.now base.entry (post_view post.now) }
+    ensures ill_typed { (result ≡ Err stop.IllTyped) → WhereSimplePost scopes.now (post_view post.now) (HasNoPost scopes.now base.entry (post_view post.now)) }
 {
     match post {
         Post::Brackets { items, .. } => in_square(arena, scopes, base, items),
@@ -96,7 +98,8 @@ fn in_square<'t>(
     items: &Items<'_>,
 ) -> Result<Typed<'t>, NoNode>
     ensures made { IfOk result (λ t. (from upto : PlaceOf) → IsPostOf scopes.now base.entry (Brackets from (items_view items.now) upto) t) }
-    ensures ill_typed { (result ≡ Err stop.IllTyped) → AreSimpleItems (MayBePlain scopes.now) (items_view items.now) → ItemsSpelt IsNear ⊥ (items_view items.now) → HasNoSquare scopes.now base.entry (items_view items.now) }
+    ensures ill_typed { (result ≡ Err stop.IllTyped) → WhereSimpleItems scopes.now (items_view items.now)
+        (HasNoSquare scopes.now base.entry (items_view items.now)) }
 {
     let parts = parts(arena, scopes, items)?;
     square(arena, base, parts)
@@ -111,7 +114,8 @@ fn in_round<'t>(
     exprs: &Exprs<'_>,
 ) -> Result<Typed<'t>, NoNode>
     ensures made { IfOk result (λ t. (from upto : PlaceOf) → IsPostOf scopes.now base.entry (Rounds from (exprs_view exprs.now) upto) t) }
-    ensures ill_typed { (result ≡ Err stop.IllTyped) → AreSimpleExprs (MayBePlain scopes.now) (exprs_view exprs.now) → ExprsSpelt IsNear ⊥ (exprs_view exprs.now) → HasNoRound scopes.now base.entry (exprs_view exprs.now) }
+    ensures ill_typed { (result ≡ Err stop.IllTyped) → WhereSimpleExprs scopes.now (exprs_view exprs.now)
+        (HasNoRound scopes.now base.entry (exprs_view exprs.now)) }
 {
     let index = index(arena, scopes, exprs)?;
     element(arena, base, index)
@@ -126,7 +130,8 @@ fn method<'t>(
     method: &Method<'_>,
 ) -> Result<Typed<'t>, NoNode>
     ensures made { IfOk result (λ t. (dot : PlaceOf) → IsPostOf scopes.now base.entry (Dotted dot (method_view method.now)) t) }
-    ensures ill_typed { (result ≡ Err stop.IllTyped) → IsSimpleMethod (MayBePlain scopes.now) (method_view method.now) → MethodSpelt IsNear ⊥ (method_view method.now) → HasNoMethod scopes.now base.entry (method_view method.now) }
+    ensures ill_typed { (result ≡ Err stop.IllTyped) → WhereSimpleMethod scopes.now (method_view method.now)
+        (HasNoMethod scopes.now base.entry (method_view method.now)) }
 {
     match method {
         Method::Plain(at, word) => called(arena, *word, *at, base),
@@ -139,7 +144,8 @@ fn method<'t>(
 
 // `dim`.
 fn dimension<'t>(arena: Arena<'t>, base: Typed<'t>, asked: &Dim) -> Result<Typed<'t>, NoNode>
-    ensures node { IfOk result (λ t. (m : Times) → typed_view m t ≡ dotted (typed_view Once base.entry) (DimOf nowhere nowhere nowhere (natural asked.now.number) nowhere)) }
+    ensures node { IfOk result (λ t. (m : Times) → typed_view m t
+        ≡ dotted (typed_view Once base.entry) (DimOf nowhere nowhere nowhere (natural asked.now.number) nowhere)) }
     ensures kind { IfOk result (λ t. dim_kind (natural asked.now.number) (kind_of base.entry) ≡ Some (kind_of t)) }
     ensures ill_typed { (result ≡ Err stop.IllTyped) → dim_kind (natural asked.now.number) (kind_of base.entry) ≡ None }
 {
@@ -154,8 +160,10 @@ fn contains<'t>(
     base: Typed<'t>,
     exprs: &Exprs<'_>,
 ) -> Result<Typed<'t>, NoNode>
-    ensures made { IfOk result (λ t. (dot at from upto : PlaceOf) → IsPostOf scopes.now base.entry (Dotted dot (Contains at from (exprs_view exprs.now) upto)) t) }
-    ensures ill_typed { (result ≡ Err stop.IllTyped) → AreSimpleExprs (MayBePlain scopes.now) (exprs_view exprs.now) → ExprsSpelt IsNear ⊥ (exprs_view exprs.now) → HasNoContains scopes.now base.entry (exprs_view exprs.now) }
+    ensures made { IfOk result (λ t. (dot at from upto : PlaceOf)
+        → IsPostOf scopes.now base.entry (Dotted dot (Contains at from (exprs_view exprs.now) upto)) t) }
+    ensures ill_typed { (result ≡ Err stop.IllTyped) → WhereSimpleExprs scopes.now (exprs_view exprs.now)
+        (HasNoContains scopes.now base.entry (exprs_view exprs.now)) }
 {
     let index = index(arena, scopes, exprs)?;
     containing(arena, base, index)
@@ -171,7 +179,8 @@ fn expand<'t>(
     by: &Expr<'_>,
 ) -> Result<Typed<'t>, NoNode>
     ensures made { IfOk result (λ t. (dot from upto : PlaceOf) → IsPostOf scopes.now base.entry (Dotted dot (Expand at from (expr_view by.now) upto)) t) }
-    ensures ill_typed { (result ≡ Err stop.IllTyped) → IsNear at → IsSimple (MayBePlain scopes.now) (expr_view by.now) → ExprSpelt IsNear ⊥ (expr_view by.now) → HasNoExpand scopes.now base.entry at (expr_view by.now) }
+    ensures ill_typed { (result ≡ Err stop.IllTyped) → IsNear at
+        → WhereSimple scopes.now (expr_view by.now) (HasNoExpand scopes.now base.entry at (expr_view by.now)) }
 {
     let by = expression(arena, scopes, by)?;
     expanded(arena, base, at, by)

@@ -8,11 +8,10 @@ ghost use Rattle.dpl_lowered.specs.LoweredExpressions.{Times};
 ghost use Rattle.dpl_nodes.specs.Typed.{stride_view};
 ghost use Rattle.dpl_typer.specs.Makers.{typed_item};
 ghost use Rattle.dpl_nodes.specs.declared.stop.NoNode.TheVariants as stop;
-ghost use Rattle.dpl_typer.specs.Leaves.{IsFound, IsOfType, MayBePlain};
+ghost use Rattle.dpl_typer.specs.Leaves.{IsFound, IsOfType};
 ghost use Rattle.dpl_typer.specs.Simple.{IsSimpleItem, IsSimpleStride};
-ghost use Rattle.dpl_spelling.specs.Spelt.{ItemSpelt, StrideSpelt};
-ghost use Rattle.dpl_nodes.specs.Spots.{IsNear};
 ghost use Rattle.dpl_typer.specs.Elaborated.{item_leaves, stride_leaves, range_tree, HasNoRange};
+ghost use Rattle.dpl_typer.specs.Where.{WhereSimpleItem, WhereSimpleStride};
 
 use crate::elaborate::expression;
 use crate::make::Typed;
@@ -34,7 +33,7 @@ pub fn range<'t>(
     ensures node { IfOk result (λ t. (m : Times) → typed_item m t ≡ item_leaves scopes.now m (range_tree range.now)) }
     ensures kind { IfOk result (λ t. IsOfType t (item_type scopes.now (range_tree range.now))) }
     ensures found { IfOk result (λ t. IsSimpleItem (IsFound scopes.now) (range_tree range.now)) }
-    ensures ill_typed { (result ≡ Err stop.IllTyped) → IsSimpleItem (MayBePlain scopes.now) (range_tree range.now) → ItemSpelt IsNear ⊥ (range_tree range.now) → item_type scopes.now (range_tree range.now) ≡ None }
+    ensures ill_typed { (result ≡ Err stop.IllTyped) → WhereSimpleItem scopes.now (range_tree range.now) (item_type scopes.now (range_tree range.now) ≡ None) }
 {
     let low = expression(arena, scopes, range.low)?;
     let high = expression(arena, scopes, range.high)?;
@@ -51,7 +50,7 @@ fn stride<'t>(
 ) -> Result<dpl_nodes::Stride<'t>, NoNode>
     ensures node { IfOk result (λ s. stride_view s ≡ stride_leaves scopes.now (stride_tree by.now)) }
     ensures found { IfOk result (λ s. IsSimpleStride (IsFound scopes.now) (stride_tree by.now)) }
-    ensures ill_typed { (result ≡ Err stop.IllTyped) → IsSimpleStride (MayBePlain scopes.now) (stride_tree by.now) → StrideSpelt IsNear ⊥ (stride_tree by.now) → HasNoRange scopes.now (stride_tree by.now) }
+    ensures ill_typed { (result ≡ Err stop.IllTyped) → WhereSimpleStride scopes.now (stride_tree by.now) (HasNoRange scopes.now (stride_tree by.now)) }
 {
     match by {
         Stride::Absent => Ok(dpl_nodes::Stride::Absent),
