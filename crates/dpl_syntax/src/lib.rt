@@ -1,4 +1,4 @@
-// The language's words: places, tokens and refusals, and in specs/ the tokens that a text has. The lexer that reads them is dpl_lexer.
+// The language's words: places, tokens, the operators and words of trees, refusals, and in specs/ the tokens that a text has. dpl_lexer reads them.
 // Everything above speaks of these, and of the definitions over them in specs/.
 #![tactic(auto)]
 
