@@ -29,7 +29,7 @@ use Rattle.dpl_scopes.specs.Slots.{slot_in}
 use Rattle.dpl_scopes.proofs.Slots.{slot_in-lookup}
 use Rattle.dpl_words.specs.Words.{IntLeaf, TruthLeaf, RangeLeaf}
 use Rattle.dpl_memory.specs.Memory.{VariableKind, PlainKind, DomainKind, TupleKind, ArrayKind, Memory, array_at, held_at, element_as, element_in, value_in, in_memory}
-use Rattle.dpl_memory.specs.Resolved.{Bound, Seen, variable_of, HasShape, MayHold, IsShaped, Turns}
+use Rattle.dpl_memory.specs.Resolved.{Bound, Seen, variable_of, HasShape, MayHold, IsShaped, SuitsTurns}
 use Rattle.dpl_typer.specs.Makers.{is_promoted}
 use Rattle.dpl_typer.specs.Simple.{IsSimpleItem}
 use Rattle.dpl_typer.specs.Leaves.{is_rank, is_tuple_rank, value_kind, kind_by, kind_in, leaf_by, leaf_in, IsFound}
@@ -217,7 +217,7 @@ module _ (scopes : Scopes) (known : AreKnownScopes scopes) (intents : List (Boun
 
     -- a loop over the item gives its variable values of the rules' type
     pub loop-turns : (word : LoopWord) (w : ValueType) (k : VariableKind) → value_kind w ≡ Some k → is_promoted k ≡ false → (if runs_over word u then Some (one_type u) else None) ≡ Some w
-        → Turns k (shape_of w) (renamed_item (bound_in scopes) item) g
+        → SuitsTurns k (shape_of w) (renamed_item (bound_in scopes) item) g
     loop-turns word w k of_kind single runs limits s shaped over e =
         let has : TurnsHave limits.locales over w = loop_value-has limits.locales word u w over (item-typed limits s shaped over e) runs in
         All-weaker (λ t. length t ≡ length (loop_ranges limits.locales over)) (λ t. MayHold k (shape_of w) (loop_value over t)) (λ t n. typed-held w k (loop_value over t) of_kind single (has t n))
