@@ -74,6 +74,10 @@ module _ (ranges : List TextRange) (a : ArrayValue ℤ) (over : IsArrayOver rang
       ap (λ ws. whole_held ranges ws)
       (ap (λ ks. with_word t w ks (words_of a.elements)) keys-are ∙ with_word-words t w a.elements distinct)
 
+  -- its keys are the domain's indices
+  pub keys-seen : (h : Held) → seen ranges a ≡ h → h.keys ≡ indices_in h.ranges
+  keys-seen h is = ap (λ (g : Held). g.keys) (sym is) ∙ ap (λ (g : Held). indices_in g.ranges) is
+
   -- there is a word for each index
   pub length-seen : (h : Held) → seen ranges a ≡ h → length h.words ≡ size_in h.ranges
   length-seen h is =

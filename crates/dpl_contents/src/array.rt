@@ -51,9 +51,10 @@ impl ArrayWords {
         Ok(ArrayWords { domain, array })
     }
 
-    /// The domain.
+    /// The domain. The array is whole: it has an element at each index of it.
     pub fn domain(&self) -> DomainWord
         ensures domain { result ≡ self.now.ranges }
+        ensures whole { self.now.keys ≡ indices_in self.now.ranges }
         ensures words { length self.now.words ≡ size_in self.now.ranges }
     {
         self.domain
