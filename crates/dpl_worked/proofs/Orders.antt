@@ -143,6 +143,6 @@ its_order = refl
 not_free : IsFree (forall_of one_element) → ⊥
 not_free free =
     let other : elements_left (made ((pos 2 ∷ []) ∷ (pos 1 ∷ []) ∷ []) (forall_of one_element)) ≡ Int (pos 2) ∷ [] =
-        orders-agree (forall_of one_element) free ((pos 2 ∷ []) ∷ (pos 1 ∷ []) ∷ []) both_ways (Int (pos 2)) [] its_order in
+    orders-agree (forall_of one_element) free ((pos 2 ∷ []) ∷ (pos 1 ∷ []) ∷ []) both_ways (Int (pos 2)) [] its_order in
     let e : Int (pos 1) ∷ [] ≡ Int (pos 2) ∷ [] = sym first_wins ∙ other in
     absurd cc
