@@ -8,6 +8,7 @@ use Rattle.dpl_history.specs.declared.history.Event.{Event}
 use Rattle.dpl_language.specs.Tree.{Op, Assign, Kind}
 use Rattle.dpl_sets.specs.TextRanges.{TextRange}
 use Rattle.dpl_language.specs.Values.{Value, Index}
+use Rattle.dpl_language.specs.Distributions.{Root}
 
 -- What a declaration makes: a value; an array; or a cell. Of an array it says over which bare domain name it is
 -- declared, if over one, its kind, its domain, and its elements in domain order: beside the domain the list is the
@@ -34,6 +35,9 @@ pub record Environment (N S : Type 0) : Type 0 where
   pub put_element : N → Index → Value → S → S
   -- the state with one more name in the innermost scope
   pub declare : N → Content N → S → S
+  -- the root of a domain or an array; and the state in which a name that was just declared has this one
+  pub root : N → S → Root
+  pub deal : N → Root → S → S
   -- the value that the command line gives to a `config const`
   pub given : N → S → Option Value
   -- the state with a scope opened, and with it closed again

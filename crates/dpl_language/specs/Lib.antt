@@ -6,12 +6,14 @@ pub mod Arithmetic
 pub mod Ranges
 pub mod Printing
 pub mod Outcome
+pub mod Distributions
 pub mod Environment
 pub mod Phrases
 pub mod Expressions
 pub mod Loops
 pub mod Assignments
 pub mod Declarations
+pub mod Roots
 pub mod Writing
 pub mod Tasks
 pub mod Statements

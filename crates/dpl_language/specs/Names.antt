@@ -11,6 +11,7 @@ use Rattle.dpl_history.specs.Histories.{after}
 use Rattle.dpl_language.specs.Tree.{Op, Kind, Assign}
 use Rattle.dpl_sets.specs.TextRanges.{TextRange}
 use Rattle.dpl_language.specs.Values.{Value, Int, Array, Cell, Domain, Index, default}
+use Rattle.dpl_language.specs.Distributions.{Root, no_root}
 use Rattle.dpl_language.specs.Arithmetic.{assigned}
 use Rattle.dpl_language.specs.Ranges.{indices_in, same_index}
 use Rattle.dpl_language.specs.Environment.{Content, Plain, ArrayOf, CellOf, Answer, Replied, Unanswered, Environment}
@@ -19,28 +20,36 @@ use Rattle.dpl_language.specs.Environment.{Content, Plain, ArrayOf, CellOf, Answ
 abbrev pub Text : Type 0
 Text = List ℕ
 
--- a name, and what it holds
-pub record Entry : Type 0 where
+-- a name, and what is kept of it
+pub record Entered (A : Type 0) : Type 0 where
   pub name : Text
-  pub content : Content Text
+  pub content : A
+
+-- what a name holds
+abbrev pub Entry : Type 0
+Entry = Entered (Content Text)
 
 -- names in order of declaration
 abbrev pub Frame : Type 0
 Frame = List Entry
 
--- what a store has: that a scope was opened, and that a name was declared
-pub data Stored : Type 0 where
-  Opened : Stored
-  Declared : Entry → Stored
+-- what a list of scopes has: that a scope was opened, and that a name was declared
+pub data Stored (A : Type 0) : Type 0 where
+  Opened : Stored A
+  Declared : Entered A → Stored A
+
+abbrev pub Scoped : Type 0 → Type 0
+Scoped A = List (Stored A)
 
 abbrev pub Store : Type 0
-Store = List Stored
+Store = Scoped (Content Text)
 
--- The store; the reduce variables of the forall around, with their operators; the number of `here`; what the command
--- line gives to names; where a task is run, the replies that are left for it; and the histories of the coforalls that
--- are still to be entered.
+-- The store; the roots of names; the reduce variables of the forall around, with their operators; the number of `here`;
+-- what the command line gives to names; where a task is run, the replies that are left for it; and the histories of the
+-- coforalls that are still to be entered.
 pub record State : Type 0 where
   pub store : Store
+  pub roots : Scoped Root
   pub intents : List (Text × Op)
   pub here : ℤ
   pub sets : List (Text × Value)
@@ -52,22 +61,25 @@ abbrev pub paired : {A : Type 0} → Text → List (Text × A) → Option A
 paired x [] = None
 paired x (p ∷ ps) = if bytes_eq x p.0 then Some p.1 else paired x ps
 
--- what a name's innermost declaration holds; a name that is not declared counts as 0
-abbrev pub look_up : Text → Store → Content Text
-look_up x [] = Plain (Int (pos 0))
-look_up x (Opened ∷ es) = look_up x es
-look_up x (Declared e ∷ es) = if bytes_eq x e.name then e.content else look_up x es
+-- what is kept of a name's innermost declaration; and what it holds, of which a name that is not declared has 0
+abbrev pub innermost : {A : Type 0} → A → Text → Scoped A → A
+innermost none x [] = none
+innermost none x (Opened ∷ es) = innermost none x es
+innermost none x (Declared e ∷ es) = if bytes_eq x e.name then e.content else innermost none x es
 
--- the store with what a name's innermost declaration holds changed
-abbrev pub change_in : Text → (Content Text → Content Text) → Store → Store
+abbrev pub look_up : Text → Store → Content Text
+look_up x es = innermost (Plain (Int (pos 0))) x es
+
+-- the list with what is kept of a name's innermost declaration changed
+abbrev pub change_in : {A : Type 0} → Text → (A → A) → Scoped A → Scoped A
 change_in x change [] = []
 change_in x change (Opened ∷ es) = Opened ∷ change_in x change es
 change_in x change (Declared e ∷ es) =
     if bytes_eq x e.name then Declared (record e { content = change e.content }) ∷ es
     else Declared e ∷ change_in x change es
 
--- the store without all that was declared since the innermost scope was opened
-abbrev pub without_innermost : Store → Store
+-- the list without all that was declared since the innermost scope was opened
+abbrev pub without_innermost : {A : Type 0} → Scoped A → Scoped A
 without_innermost [] = []
 without_innermost (Opened ∷ es) = es
 without_innermost (Declared e ∷ es) = without_innermost es
@@ -193,10 +205,15 @@ by_name = record {
   update = λ x op v s. record s { store = change_in x (update_in op (paired x s.intents) v) s.store };
   element = λ x t s. element_in t (look_up x s.store);
   put_element = λ x t v s. record s { store = change_in x (put_in t v) s.store };
-  declare = λ x c s. record s { store = Declared (record { name = x; content = c }) ∷ s.store };
+  declare = λ x c s. record s {
+    store = Declared (record { name = x; content = c }) ∷ s.store;
+    roots = Declared (record { name = x; content = no_root }) ∷ s.roots;
+  };
+  root = λ x s. innermost no_root x s.roots;
+  deal = λ x r s. record s { roots = change_in x (λ old. r) s.roots };
   given = λ x s. paired x s.sets;
-  enter = λ s. record s { store = Opened ∷ s.store };
-  leave = λ s. record s { store = without_innermost s.store };
+  enter = λ s. record s { store = Opened ∷ s.store; roots = Opened ∷ s.roots };
+  leave = λ s. record s { store = without_innermost s.store; roots = without_innermost s.roots };
   intend = λ is s. record s { intents = is };
   has_arrays = λ x s. arrays_over x s.store;
   redomain = λ x rs s. record s { store = redomain_in x rs s.store };

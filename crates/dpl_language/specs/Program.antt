@@ -21,7 +21,7 @@ settled (Waits at c op done) = Stop (fault CellStuck at) done
 -- a program starts with its own scope opened, on locale 0
 abbrev pub first_state : List (Text × Value) → List (List Event) → State
 first_state sets histories =
-    record { store = Opened ∷ []; intents = []; here = pos 0; sets = sets; replies = None; histories = histories }
+    record { store = Opened ∷ []; roots = Opened ∷ []; intents = []; here = pos 0; sets = sets; replies = None; histories = histories }
 
 abbrev pub meaning : ProgramTree Text → List (Text × Value) → Limits → List (List Event) → Outcome State
 meaning t sets limits histories = settled (exec_all limits by_name t.stmts (first_state sets histories) no_deeds)

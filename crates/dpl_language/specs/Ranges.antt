@@ -1,6 +1,6 @@
 -- Ranges and domains as values: how they are made, their limits, slices and ends, and what a loop runs over.
 -- Bounds are whole numbers without a limit until they are tested.
-use Rattle.std.specs.Prelude.{ℕ, ◌+◌, ◌-◌, ◌*◌, ◌/◌, ◌^◌, ℤ, pos, ◌+ℤ◌, ◌-ℤ◌, Bool, true, false, not, ◌&&◌, ◌||◌, if◌then◌else◌, nat_lt, int_lt, unsigned_abs, Result, Ok, Err, List, [], ◌∷◌, map, replicate, slice_index_or}
+use Rattle.std.specs.Prelude.{ℕ, ◌+◌, ◌-◌, ◌*◌, ◌/◌, ◌^◌, ℤ, pos, ◌+ℤ◌, ◌-ℤ◌, Bool, true, false, not, ◌&&◌, ◌||◌, if◌then◌else◌, nat_lt, int_lt, unsigned_abs, Option, Some, None, Result, Ok, Err, List, [], ◌∷◌, map, replicate, slice_index_or}
 use Rattle.std.specs.Ordering.{int_eq}
 use Rattle.std.specs.Int.{int_min, int_max}
 use Rattle.std.specs.List.{list_any}
@@ -141,15 +141,33 @@ abbrev pub end_of : Place → (ℤ → List ℤ → ℤ) → List ℤ → Result
 end_of at pick [] = Err (fault EmptyEnd at)
 end_of at pick (i ∷ is) = Ok (Int (pick i is))
 
+-- the least members of a domain, one for each dimension; a domain without an index has none
+abbrev pub least_before : List ℤ → Option Index → Option Index
+least_before (i ∷ is) (Some t) = Some (least_of i is ∷ t)
+least_before _ _ = None
+
+abbrev pub least_in : List TextRange → Option Index
+least_in [] = Some []
+least_in (r ∷ rs) = least_before (members_in r) (least_in rs)
+
+-- `low` of a domain, with which a map may start, is the tuple of these, and of a range its least member
+abbrev pub tuple_or_end : Place → Option Index → Result Value Fault
+tuple_or_end at None = Err (fault EmptyEnd at)
+tuple_or_end at (Some t) = Ok (Tuple t)
+
+abbrev pub low_of : Place → Value → Result Value Fault
+low_of at (Domain rs) = tuple_or_end at (least_in rs)
+low_of at v = end_of at least_of (members_of_first (ranges_in v))
+
 -- The methods without arguments: how many members or indices; the ends of a range's sequence, its least and its
 -- greatest member; the domain of an array; the number of a locale.
 abbrev pub method_of : Word → Place → Value → Result Value Fault
 method_of Size at v = Ok (Int (pos (size_in (ranges_in v))))
 method_of First at v = end_of at first_of (members_of_first (ranges_in v))
 method_of Last at v = end_of at last_of (members_of_first (ranges_in v))
-method_of Low at v = end_of at least_of (members_of_first (ranges_in v))
+method_of Low at v = low_of at v
 method_of High at v = end_of at greatest_of (members_of_first (ranges_in v))
-method_of LowBound at v = end_of at least_of (members_of_first (ranges_in v))
+method_of LowBound at v = low_of at v
 method_of DomainOf at v = Ok (Domain (ranges_in v))
 method_of Id at v = Ok (Int (number v))
 

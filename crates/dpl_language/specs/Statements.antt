@@ -11,6 +11,7 @@ use Rattle.dpl_language.specs.Expressions.{value_of, item_of}
 use Rattle.dpl_language.specs.Loops.{within_budget, named_turn, scoped, turn_of}
 use Rattle.dpl_language.specs.Assignments.{assign, cell_call}
 use Rattle.dpl_language.specs.Declarations.{declare}
+use Rattle.dpl_language.specs.Roots.{dealt}
 use Rattle.dpl_language.specs.Writing.{write}
 use Rattle.dpl_language.specs.Tasks.{tasks_of}
 
@@ -27,7 +28,9 @@ module _ {N S : Type 0} (limits : Limits) (env : Environment N S) where
     pub exec : StmtTree N → Run S
     -- `;`
     exec (Nothing at) s done = Done s done
-    exec (Declare d) s done = declare limits env d s done
+    -- behind a declaration a domain and an array have their roots
+    exec (Declare d) s done =
+        then_do (declare limits env d s done) (λ after done. Done (dealt limits env d s after) done)
     exec (Assigned target sign item semicolon) s done = assign limits env target sign item s done
     exec (Call x dot call semicolon) s done = cell_call limits env x call s done
     exec (Write w) s done = write limits env w s done

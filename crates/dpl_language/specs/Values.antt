@@ -99,6 +99,12 @@ abbrev pub is_domain : Value → Bool
 is_domain (Domain rs) = true
 is_domain _ = false
 
+-- what is dealt out over locales: a domain, or an array
+abbrev pub is_distributed : Value → Bool
+is_distributed (Domain rs) = true
+is_distributed (Array k rs) = true
+is_distributed _ = false
+
 -- a cell keeps a number: an int itself, and a truth value as 0 or 1
 abbrev pub kept_number : Value → ℤ
 kept_number (Int n) = n
