@@ -12,7 +12,9 @@ use Rattle.dpl_language.specs.Phrases.{intents_of}
 use Rattle.dpl_language.specs.Loops.{within_budget, named_turn, turn_of}
 use Rattle.dpl_language.specs.Statements.{task_limit, holds, exec, exec_body, exec_all, exec_else}
 use Rattle.dpl_agreement.specs.Renamed.{renamed_expr, renamed_variables, renamed_stmt, renamed_body, renamed_stmts, renamed_else, renamed_intents}
-use Rattle.dpl_agreement.specs.Scopes.{Scoping, add_variables, inside, fits_expr, fits_variables, after, after_all, after_body, fits, fits_body, fits_all, fits_else}
+use Rattle.dpl_language.specs.Declarations.{type_of}
+use Rattle.dpl_language.specs.Roots.{dealt}
+use Rattle.dpl_agreement.specs.Scopes.{form_by, Scoping, add_variables, inside, fits_expr, fits_variables, after, after_all, after_body, fits, fits_body, fits_all, fits_else}
 use Rattle.dpl_agreement.specs.Agreement.{Simulates, EndsAlike, RunAlike}
 use Rattle.dpl_agreement.proofs.RunsAlike.{with_ok-same, then_do-alike, with_value-alike, with_value-alike_by, choose-alike, unless-alike, repeated-alike, within_budget-alike, named_turns-alike}
 use Rattle.dpl_agreement.proofs.RenamedParts.{intents_of-renamed}
@@ -20,6 +22,7 @@ use Rattle.dpl_agreement.proofs.ExpressionsAlike.{value_of-renamed, item_of-rena
 use Rattle.dpl_agreement.proofs.LoopsAlike.{leave-after_stmt_in, leave-after_all_in, leave-after_body_in, HoldsTurn, scoped-alike, turns-held, turn_of-alike, coforall-alike}
 use Rattle.dpl_agreement.proofs.AssignmentsAlike.{assign-alike, cell_call-alike, write-alike}
 use Rattle.dpl_agreement.proofs.DeclarationsAlike.{declare-alike}
+use Rattle.dpl_agreement.proofs.RootsAlike.{dealt-alike}
 
 module _ {M N G S1 S2 : Type 0} (limits : Limits) (name : N → M) (scoping : Scoping N G) (first : Environment M S1) (second : Environment N S2) (R : G → S1 → S2 → Type 0) (sim : Simulates limits name scoping first second R) where
   holds-renamed : (e : ExprTree N) (g : G) (s1 : S1) (s2 : S2) → R g s1 s2 → fits_expr scoping None e g → holds limits first (renamed_expr name e) s1 ≡ holds limits second e s2
@@ -55,7 +58,10 @@ module _ {M N G S1 S2 : Type 0} (limits : Limits) (name : N → M) (scoping : Sc
   mutual
     pub exec-alike : (t : StmtTree N) (g : G) → fits scoping t g → RunAlike (R g) (R (after scoping t g)) (exec limits first (renamed_stmt name t)) (exec limits second t)
     exec-alike (Nothing at) g f s1 s2 done r = (s2, r, refl)
-    exec-alike (Declare d) g f s1 s2 done r = declare-alike limits name scoping first second R sim d g f s1 s2 done r
+    exec-alike (Declare d) g f s1 s2 done r =
+        then_do-alike (R (after scoping (Declare d) g)) (R (after scoping (Declare d) g)) _ _ _ _ (declare-alike limits name scoping first second R sim d g f s1 s2 done r)
+        (λ t1 t2 done q. (dealt limits second d s2 t2, dealt-alike limits name scoping first second R sim d g (after scoping (Declare d) g) s1 s2 t1 t2 r q
+        (sim.lawful.reads-add d.name.name (form_by (type_of d.typed)) g f.2) f.0 f.1 f.5, refl))
     exec-alike (Assigned target sign item semicolon) g f s1 s2 done r = assign-alike limits name scoping first second R sim target sign item g f.0 f.1 f.2 s1 s2 done r
     exec-alike (Call x dot call semicolon) g f s1 s2 done r = cell_call-alike limits name scoping first second R sim x call g f.0 f.1 f.2 s1 s2 done r
     exec-alike (Write w) g f s1 s2 done r = write-alike limits name scoping first second R sim w g f s1 s2 done r

@@ -31,6 +31,8 @@ module _ {N G S : Type 0} (limits : Limits) (scoping : Scoping N G) (env : Envir
     puts_at = λ x t v g s1 s2 r f h. ap (env.put_element x t v) r;
     puts = λ x items vs v g s1 s2 r f e h. ap (env.put_element x (index_of vs) v) r;
     declares = λ x c g s1 s2 r f h. ap (λ c. env.declare x c s1) (renamed_content-same c) ∙ ap (env.declare x c) r;
+    roots = λ x g s1 s2 r f d. ap (env.root x) r;
+    deals = λ x root g s1 s2 r f d. ap (env.deal x root) r;
     gives = λ x g s1 s2 r f. ap (env.given x) r;
     suited = λ x item v g s1 s2 r f w e. held x (Plain v);
     suited_new = λ x item v g s1 s2 r f d e. held x (Plain v);

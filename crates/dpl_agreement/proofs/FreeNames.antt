@@ -3,13 +3,13 @@
 use Rattle.std.proofs.Common.{pos, List, [], ◌∷◌, refl, Some, None, Option}
 use Rattle.dpl_syntax.specs.declared.place.Place.{Place}
 use Rattle.dpl_language.specs.Tree.{Placed, Kind, ExprTree, Number, TruthWord, Named, LocalesWord, LocaleCount, HereWord, Grouped, DomainLiteral, Prefixed, Reduced, Chain, Postfixed, ItemTree, One, RangeItem, Stride, NoStride, By, Links, NoLinks, Link, Posts, NoPosts, Post, PostTree, Brackets, Rounds, Dotted, MethodTree, Plainly, Dim, Contains, Expand, CellRead, Items, FirstItem, MoreItems, NoItems, NextItem, Exprs, FirstExpr, MoreExprs, NoExprs, NextExpr}
-use Rattle.dpl_language.specs.Tree.{TypeTree, ScalarType, SyncType, DomainType, ArrayType, InitTree, ItemInit, CreateInit, InitialTree, DeclareTree, ArgumentTree, TextArgument, ExprArgument, VariablesTree, OneVariable, ManyVariables, TargetTree, Whole, Element, CallTree, ReadCall, ResetCall, WriteCall, StmtTree, Nothing, Declare, Assigned, Call, Write, Block, If, While, For, Forall, Coforall, On, Body, WordBody, BlockBody, Stmts, NoStmts, Then, Else, NoElse, ElseDo}
+use Rattle.dpl_language.specs.Tree.{StartTree, StartExpr, StartTuple, MapTree, BlockMap, CyclicMap, BlockCyclicMap, MappedTree, TypeTree, ScalarType, SyncType, DomainType, ArrayType, InitTree, ItemInit, CreateInit, InitialTree, DeclareTree, ArgumentTree, TextArgument, ExprArgument, VariablesTree, OneVariable, ManyVariables, TargetTree, Whole, Element, CallTree, ReadCall, ResetCall, WriteCall, StmtTree, Nothing, Declare, Assigned, Call, Write, Block, If, While, For, Forall, Coforall, On, Body, WordBody, BlockBody, Stmts, NoStmts, Then, Else, NoElse, ElseDo}
 use Rattle.dpl_language.specs.Values.{Value, Int, Domain, Index, default}
 use Rattle.dpl_language.specs.Ranges.{empty_domain}
 use Rattle.dpl_language.specs.Phrases.{Base, BaseName, BaseLocales, OtherBase, base_of, bare_name, ReadTree, item_read, parts}
 use Rattle.dpl_language.specs.Declarations.{type_of}
 use Rattle.dpl_language.specs.Writing.{arguments_of}
-use Rattle.dpl_agreement.specs.Scopes.{Form, form_by, Scoping, IsLawful, items_in, fits_name, fits_element, fits_expr, fits_item, fits_stride, fits_links, fits_posts, fits_post, fits_method, fits_items, fits_more_items, fits_exprs, fits_more_exprs, fits_read, fits_side, fits_whole_side, fits_type, side_by, fits_init, fits_initial, fits_given, suits_init, suits_initial, suits_elements, suits_array, suits_declared, fits_declare, fits_target, side_for, suits_target, fits_call, fits_shown, fits_arguments, fits_each, fits_variables, holds_ints, suits_turns, fits, fits_body, fits_all, fits_else}
+use Rattle.dpl_agreement.specs.Scopes.{Form, form_by, Scoping, IsLawful, items_in, fits_name, fits_element, fits_expr, fits_item, fits_stride, fits_links, fits_posts, fits_post, fits_method, fits_items, fits_more_items, fits_exprs, fits_more_exprs, fits_read, fits_side, fits_whole_side, fits_type, side_by, fits_init, fits_initial, fits_given, initial_map, fits_each_value, fits_start, fits_map, fits_mapped, fits_maps, suits_init, suits_initial, suits_elements, suits_array, suits_declared, fits_declare, fits_target, side_for, suits_target, fits_call, fits_shown, fits_arguments, fits_each, fits_variables, holds_ints, suits_turns, fits, fits_body, fits_all, fits_else}
 
 -- any name may be used in any way, and nothing is kept of what is in sight
 abbrev pub anything : {N : Type 0} → Scoping N (Unit {0})
@@ -40,7 +40,7 @@ anything = record {
 }
 
 pub anything-lawful : {N : Type 0} → IsLawful (anything {N = N})
-anything-lawful = record { leave-enter = λ g. refl; leave-add = λ x form g. refl }
+anything-lawful = record { leave-enter = λ g. refl; leave-add = λ x form g. refl; reads-add = λ x form g d. tt }
 
 module _ {N : Type 0} where
   name_fits : (t : Option Index) (x : N) → fits_name anything t x tt
@@ -168,9 +168,33 @@ module _ {N : Type 0} where
   declared_suits x (Some (DomainType d)) i = initial_suits x (Domain (empty_domain d.rank)) i
   declared_suits x (Some (ArrayType a)) i = (tt, array_suits x a.kind i)
 
+  each_value_fits : (es : List (ExprTree N)) → fits_each_value anything es tt
+  each_value_fits [] = tt
+  each_value_fits (e ∷ es) = (expr_fits e None, each_value_fits es)
+
+  start_fits : (s : StartTree N) → fits_start anything s tt
+  start_fits (StartExpr e) = expr_fits e None
+  start_fits (StartTuple from es upto) = each_value_fits (parts es)
+
+  map_fits : (m : MapTree N) → fits_map anything m tt
+  map_fits (BlockMap m) = item_fits m.box None
+  map_fits (CyclicMap m) = start_fits m.start
+  map_fits (BlockCyclicMap m) = (start_fits m.start, start_fits m.size)
+
+  mapped_fits : (o : Option (MappedTree N)) → fits_mapped anything o tt
+  mapped_fits None = tt
+  mapped_fits (Some m) = map_fits m.map
+
+  maps_fit : (type : Option (TypeTree N)) (i : Option (InitialTree N)) → fits_maps anything type i tt
+  maps_fit None i = (tt, mapped_fits (initial_map i))
+  maps_fit (Some (ScalarType at k)) i = (tt, mapped_fits (initial_map i))
+  maps_fit (Some (SyncType at kind_at k)) i = (tt, mapped_fits (initial_map i))
+  maps_fit (Some (DomainType d)) i = (mapped_fits d.mapped, mapped_fits (initial_map i))
+  maps_fit (Some (ArrayType a)) i = tt
+
   declare_fits : (d : DeclareTree N) → fits_declare anything d tt
   declare_fits d =
-      (type_fits (type_of d.typed), initial_fits (type_of d.typed) d.initial, tt, given_fits d.config d.name.name (form_by (type_of d.typed)), declared_suits d.name.name (type_of d.typed) d.initial)
+      (type_fits (type_of d.typed), initial_fits (type_of d.typed) d.initial, tt, given_fits d.config d.name.name (form_by (type_of d.typed)), declared_suits d.name.name (type_of d.typed) d.initial, maps_fit (type_of d.typed) d.initial)
 
   target_fits : (t : TargetTree N) (op : _) → fits_target anything t op tt
   target_fits (Whole x) op = (tt, λ t. (tt, tt))

@@ -60,6 +60,7 @@ by_name-free = record {
   updates = λ x op v s h e. (change_in-free x (update_in op (paired x s.intents) v) (update_in-free op (paired x s.intents) v e) s.store h.0, h.1);
   puts = λ x t v s h e. (change_in-free x (put_in t v) (put_in-free t v e) s.store h.0, h.1);
   declares = λ x c s h e. (declared-free x c s.store h.0 e, h.1);
+  deals = λ x root s h. h;
   redomains = λ x rs s h. (redomain_in-free x rs s.store h.0, h.1);
   enters = λ s h. (entered-free s.store h.0, h.1);
   leaves = λ s h. (without_innermost-free s.store h.0, h.1);

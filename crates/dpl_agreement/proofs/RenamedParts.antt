@@ -3,9 +3,10 @@
 use Rattle.std.proofs.Common.{◌≡◌, List, [], ◌∷◌, refl, ap, ◌∙◌, Some, None, Option, map}
 use Rattle.std.specs.Prelude.{option_map}
 use Rattle.dpl_history.specs.declared.cell.CellOp.{CellOp}
-use Rattle.dpl_language.specs.Tree.{Placed, AfterComma, Listed, ExprTree, Number, TruthWord, Named, LocalesWord, LocaleCount, HereWord, Grouped, DomainLiteral, Prefixed, Reduced, Chain, Postfixed, ItemTree, One, RangeItem, Posts, NoPosts, Post, PostTree, Brackets, Rounds, Dotted, MethodTree, Plainly, Dim, Contains, Expand, CellRead, Items, FirstItem, NoItems, NextItem, TypedTree, ArgumentTree, IntentTree, ReduceIntent, RefIntent, WithTree}
+use Rattle.dpl_language.specs.Tree.{Word, Size, First, Last, Low, High, LowBound, DomainOf, Id, Placed, AfterComma, Listed, ExprTree, Number, TruthWord, Named, LocalesWord, LocaleCount, HereWord, Grouped, DomainLiteral, Prefixed, Reduced, Chain, Postfixed, ItemTree, One, RangeItem, Posts, NoPosts, Post, PostTree, Brackets, Rounds, Dotted, MethodTree, Plainly, Dim, Contains, Expand, CellRead, Items, FirstItem, NoItems, NextItem, TypedTree, ArgumentTree, IntentTree, ReduceIntent, RefIntent, WithTree}
 use Rattle.dpl_language.specs.Phrases.{parts, base_of, item_base, bare_name, method_read, post_read, posts_read, read_by, cell_read, item_read, name_of, item_over, declared_over, reduce_intents, intents_of}
 use Rattle.dpl_language.specs.Declarations.{type_of}
+use Rattle.dpl_language.specs.Roots.{by_word, by_post, by_posts, derived_from, derived_item, derived_over}
 use Rattle.dpl_language.specs.Writing.{arguments_of}
 use Rattle.dpl_agreement.specs.Renamed.{map_comma, map_listed, renamed, renamed_expr, renamed_item, renamed_posts, renamed_post, renamed_method, renamed_items, renamed_type, renamed_typed, renamed_argument, renamed_intent, renamed_with, renamed_base, renamed_read, renamed_intents}
 
@@ -121,3 +122,51 @@ module _ {M N : Type 0} (f : M → N) where
   pub arguments_of-renamed : (xs : Option (Listed (ArgumentTree M))) → arguments_of (option_map (map_listed (renamed_argument f)) xs) ≡ map (renamed_argument f) (arguments_of xs)
   arguments_of-renamed None = refl
   arguments_of-renamed (Some xs) = parts-mapped (renamed_argument f) xs
+
+-- from which name a value is derived
+module _ {M N : Type 0} (f : M → N) where
+  by_word-renamed : (w : Word) (o : Option M) → by_word w (option_map f o) ≡ option_map f (by_word w o)
+  by_word-renamed Size o = refl
+  by_word-renamed First o = refl
+  by_word-renamed Last o = refl
+  by_word-renamed Low o = refl
+  by_word-renamed High o = refl
+  by_word-renamed LowBound o = refl
+  by_word-renamed DomainOf o = refl
+  by_word-renamed Id o = refl
+
+  by_post-renamed : (p : PostTree M) (o : Option M) → by_post (renamed_post f p) (option_map f o) ≡ option_map f (by_post p o)
+  by_post-renamed (Brackets from items upto) o = refl
+  by_post-renamed (Rounds from es upto) o = refl
+  by_post-renamed (Dotted dot (Plainly at w)) o = by_word-renamed w o
+  by_post-renamed (Dotted dot (Dim at from rank_at d upto)) o = refl
+  by_post-renamed (Dotted dot (Contains at from es upto)) o = refl
+  by_post-renamed (Dotted dot (Expand at from e upto)) o = refl
+  by_post-renamed (Dotted dot (CellRead at w from upto)) o = refl
+
+  by_posts-renamed : (ps : Posts M) (o : Option M) → by_posts (renamed_posts f ps) (option_map f o) ≡ option_map f (by_posts ps o)
+  by_posts-renamed NoPosts o = refl
+  by_posts-renamed (Post p ps) o = ap (by_posts (renamed_posts f ps)) (by_post-renamed p o) ∙ by_posts-renamed ps (by_post p o)
+
+  mutual
+    derived_from-renamed : (e : ExprTree M) → derived_from (renamed_expr f e) ≡ option_map f (derived_from e)
+    derived_from-renamed (Number at n) = refl
+    derived_from-renamed (TruthWord at b) = refl
+    derived_from-renamed (Named x) = refl
+    derived_from-renamed (LocalesWord at) = refl
+    derived_from-renamed (LocaleCount at) = refl
+    derived_from-renamed (HereWord at) = refl
+    derived_from-renamed (Grouped from item upto) = derived_item-renamed item
+    derived_from-renamed (DomainLiteral from items upto) = refl
+    derived_from-renamed (Prefixed at op e) = refl
+    derived_from-renamed (Reduced at op word e) = refl
+    derived_from-renamed (Chain e rest) = refl
+    derived_from-renamed (Postfixed e ps) = ap (by_posts (renamed_posts f ps)) (derived_from-renamed e) ∙ by_posts-renamed ps (derived_from e)
+
+    pub derived_item-renamed : (i : ItemTree M) → derived_item (renamed_item f i) ≡ option_map f (derived_item i)
+    derived_item-renamed (One e) = derived_from-renamed e
+    derived_item-renamed (RangeItem low at dots high by) = refl
+
+  pub derived_over-renamed : (items : Items M) → derived_over (renamed_items f items) ≡ option_map f (derived_over items)
+  derived_over-renamed (FirstItem i NoItems) = derived_item-renamed i
+  derived_over-renamed (FirstItem i (NextItem comma j more)) = refl

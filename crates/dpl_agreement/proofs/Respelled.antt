@@ -12,7 +12,8 @@ use Rattle.dpl_sets.specs.TextRanges.{TextRange}
 use Rattle.dpl_language.specs.Tree.{Op, Assign, ProgramTree}
 use Rattle.dpl_language.specs.Values.{Value, Domain, Index, index_of, ranges_in, array_domain, is_domain}
 use Rattle.dpl_language.specs.Environment.{Content, Plain, ArrayOf, CellOf, Answer, Replied, Unanswered, Limits}
-use Rattle.dpl_language.specs.Names.{Text, Entry, Opened, Declared, Store, State, paired, look_up, change_in, without_innermost, value_in, update_in, element_in, put_in, redomained, is_over, redomain_content, redomain_in, is_array_over, arrays_over, cell_in, store_cells, cell_number, set_cell, with_cells, state_in, effect_on, call_in, by_name}
+use Rattle.dpl_language.specs.Distributions.{Root, no_root}
+use Rattle.dpl_language.specs.Names.{Text, Entry, Opened, Declared, Scoped, Store, State, paired, innermost, look_up, change_in, without_innermost, value_in, update_in, element_in, put_in, redomained, is_over, redomain_content, redomain_in, is_array_over, arrays_over, cell_in, store_cells, cell_number, set_cell, with_cells, state_in, effect_on, call_in, by_name}
 use Rattle.dpl_language.specs.Program.{first_state, meaning, written}
 use Rattle.dpl_agreement.specs.Renamed.{renamed_content, renamed_intents, renamed_program}
 use Rattle.dpl_agreement.specs.Agreement.{AnswersAlike, Simulates}
@@ -37,6 +38,12 @@ module _ (f : Text → Text) (same : (x y : Text) → bytes_eq (f x) (f y) ≡ b
   respelled_store (Opened ∷ es) = Opened ∷ respelled_store es
   respelled_store (Declared e ∷ es) = Declared (respelled_entry e) ∷ respelled_store es
 
+  -- roots have no names in them
+  abbrev respelled_roots : Scoped Root → Scoped Root
+  respelled_roots [] = []
+  respelled_roots (Opened ∷ es) = Opened ∷ respelled_roots es
+  respelled_roots (Declared e ∷ es) = Declared (record { name = f e.name; content = e.content }) ∷ respelled_roots es
+
   abbrev pub respelled_sets : List (Text × Value) → List (Text × Value)
   respelled_sets [] = []
   respelled_sets (p ∷ ps) = (f p.0, p.1) ∷ respelled_sets ps
@@ -44,6 +51,7 @@ module _ (f : Text → Text) (same : (x y : Text) → bytes_eq (f x) (f y) ≡ b
   abbrev respelled_state : State → State
   respelled_state s = record {
     store = respelled_store s.store;
+    roots = respelled_roots s.roots;
     intents = renamed_intents f s.intents;
     here = s.here;
     sets = respelled_sets s.sets;
@@ -132,6 +140,24 @@ module _ (f : Text → Text) (same : (x y : Text) → bytes_eq (f x) (f y) ≡ b
   without_innermost-respelled (Opened ∷ s) = refl
   without_innermost-respelled (Declared e ∷ s) = without_innermost-respelled s
 
+  -- and the same of roots
+  root-respelled : (x : Text) (s : Scoped Root) → innermost no_root (f x) (respelled_roots s) ≡ innermost no_root x s
+  root-respelled x [] = refl
+  root-respelled x (Opened ∷ s) = root-respelled x s
+  root-respelled x (Declared e ∷ s) = by_test (λ r. r) _ _ _ _ e.content (innermost no_root x s) (same x e.name) refl (root-respelled x s)
+
+  deal-respelled : (x : Text) (r : Root) (s : Scoped Root) → change_in (f x) (λ old. r) (respelled_roots s) ≡ respelled_roots (change_in x (λ old. r) s)
+  deal-respelled x r [] = refl
+  deal-respelled x r (Opened ∷ s) = ap (λ es. Opened ∷ es) (deal-respelled x r s)
+  deal-respelled x r (Declared e ∷ s) =
+      by_test respelled_roots _ _ _ _ (Declared (record e { content = r }) ∷ s) (Declared e ∷ change_in x (λ old. r) s) (same x e.name) refl
+      (ap (λ es. Declared (record { name = f e.name; content = e.content }) ∷ es) (deal-respelled x r s))
+
+  left_roots-respelled : (s : Scoped Root) → without_innermost (respelled_roots s) ≡ respelled_roots (without_innermost s)
+  left_roots-respelled [] = refl
+  left_roots-respelled (Opened ∷ s) = refl
+  left_roots-respelled (Declared e ∷ s) = left_roots-respelled s
+
   -- DOMAINS
   redomain_in-respelled : (x : Text) (new : List TextRange) (s : Store) → redomain_in (f x) new (respelled_store s) ≡ respelled_store (redomain_in x new s)
   redomain_in-respelled x new [] = refl
@@ -213,6 +239,9 @@ module _ (f : Text → Text) (same : (x y : Text) → bytes_eq (f x) (f y) ≡ b
     puts_at = λ x t v g s1 s2 r a h. then_so (by_name.put_element (f x) t v) (by_name.put_element x t v) (put_of_name x t v) s1 s2 r;
     puts = λ x items vs v g s1 s2 r a e h. then_so (by_name.put_element (f x) (index_of vs) v) (by_name.put_element x (index_of vs) v) (put_of_name x (index_of vs) v) s1 s2 r;
     declares = λ x c g s1 s2 r a h. ap (by_name.declare (f x) (respelled c)) r;
+    roots = λ x g s1 s2 r a d. ap (by_name.root (f x)) r ∙ root-respelled x s2.roots;
+    deals = λ x root g s1 s2 r a d. then_so (by_name.deal (f x) root) (by_name.deal x root)
+        (λ s. ap (λ t. record (respelled_state s) { roots = t }) (deal-respelled x root s.roots)) s1 s2 r;
     gives = λ x g s1 s2 r a. ap (by_name.given (f x)) r ∙ paired-sets x s2.sets;
     suited = λ x item v g s1 s2 r a w e. tt;
     suited_new = λ x item v g s1 s2 r a d e. tt;
@@ -226,7 +255,9 @@ module _ (f : Text → Text) (same : (x y : Text) → bytes_eq (f x) (f y) ≡ b
     spanned_array = λ x over k from items v vs g s1 s2 r f e h. tt;
     given_holds = λ x v g s1 s2 r a e. tt;
     enters = λ g s1 s2 r. ap by_name.enter r;
-    leaves = λ g h s1 s2 t1 t2 before out r. then_so by_name.leave by_name.leave (λ s. ap (λ t. record (respelled_state s) { store = t }) (without_innermost-respelled s.store)) t1 t2 r;
+    leaves = λ g h s1 s2 t1 t2 before out r. then_so by_name.leave by_name.leave
+        (λ s. ap (λ t. record (respelled_state s) { store = t; roots = without_innermost (respelled_roots s.roots) }) (without_innermost-respelled s.store)
+        ∙ ap (λ t. record (respelled_state s) { store = respelled_store (without_innermost s.store); roots = t }) (left_roots-respelled s.roots)) t1 t2 r;
     intends = λ is g s1 s2 r a. ap (by_name.intend (renamed_intents f is)) r;
     ends_forall = λ is g s1 s2 r a. ap (by_name.intend []) r;
     has = λ x op g s1 s2 r a w. ap (by_name.has_arrays (f x)) r ∙ arrays_over-respelled x s2.store;

@@ -2,6 +2,7 @@
 -- So what a program means is what its tree with slots does: values, arrays, domains, reduce variables, cells and tasks.
 use Rattle.std.proofs.Common.{◌≡◌, ℕ, ℤ, pos, List, [], ◌∷◌, refl, sym, ap, ◌∙◌, subst, Some, None, Option, drop}
 use Rattle.std.specs.Prelude.{◌==◌, if◌then◌else◌}
+use Rattle.std.proofs.lemmas.Slice.Eq.{bytes_eq-Decides}
 use Rattle.dpl_history.specs.declared.cell.CellState.{CellState}
 use Rattle.dpl_history.specs.declared.cell.CellOp.{CellOp}
 use Rattle.dpl_history.specs.declared.cell.Reply.{Reply}
@@ -15,12 +16,14 @@ use Rattle.dpl_language.specs.Values.{Value, Index, index_of, ranges_in, array_d
 use Rattle.dpl_language.specs.Arithmetic.{assigned}
 use Rattle.dpl_language.specs.Ranges.{indices_in}
 use Rattle.dpl_language.specs.Environment.{Content, Plain, ArrayOf, CellOf, Answer, Replied, Unanswered, Environment, Limits}
-use Rattle.dpl_language.specs.Names.{Text, State, Opened, Declared, paired, look_up, change_in, value_in, update_in, with_element, element_in, put_in, set_cell, with_cells, store_cells, redomain_in, arrays_over, without_innermost, state_in, effect_on, call_in, next_history, cell_number, by_name}
+use Rattle.dpl_language.specs.Distributions.{no_root}
+use Rattle.dpl_language.specs.Names.{Text, State, Opened, Declared, paired, innermost, look_up, change_in, value_in, update_in, with_element, element_in, put_in, set_cell, with_cells, store_cells, redomain_in, arrays_over, without_innermost, state_in, effect_on, call_in, next_history, cell_number, by_name}
 use Rattle.dpl_language.specs.Program.{meaning}
 use Rattle.dpl_agreement.specs.Renamed.{renamed_intents, renamed_program}
 use Rattle.dpl_agreement.specs.Scopes.{Form, PlainForm, ArrayForm, CellForm, form_of, Scoping, IsLawful, fits_all, after_all}
 use Rattle.dpl_agreement.specs.Agreement.{AnswersAlike, Simulates, EndsAlike}
 use Rattle.dpl_agreement.proofs.Slots.{Mark, Name, Sight, slot_of, IsFresh, IsApart, without_frame, Slots, set_slot, text_of, spelled, store_at, look_up-slot, change_in-slot, declared-slot, IsApart-without_frame, without_innermost-store_at}
+use Rattle.dpl_agreement.proofs.SlotRoots.{Roots, set_root, roots_at, root-slot, declared-root, deal-slot, left-roots}
 use Rattle.dpl_agreement.proofs.SlotDomains.{any_over, redomain_slots, OverNamed, OverResolves, Overs, Overs-set, Overs-redomain, Overs-declare, redomain_in-slots, arrays_over-slots, Overs-without_frame}
 use Rattle.dpl_agreement.proofs.SlotCells.{state_of, with_state, cells_of, number_of, with_states, state_in-spelled, set_cell-spelled, with_state-resolves, store_cells-slots, cell_number-slots, with_cells-slots, Overs-with_states}
 use Rattle.dpl_agreement.proofs.ProgramsAlike.{run_from, meaning-alike}
@@ -29,6 +32,7 @@ use Rattle.dpl_agreement.proofs.ProgramsAlike.{run_from, meaning-alike}
 -- What the slots hold, the names in sight, and what else a state by names has.
 pub record Slotted : Type 0 where
   pub kept : Slots
+  pub roots : Roots
   pub live : Sight
   pub intents : List (Bound × Op)
   pub here : ℤ
@@ -67,7 +71,9 @@ by_slot = record {
   update = λ x op v s. record s { kept = set_slot x.slot (updated op (intent_of x.slot s.intents) v (s.kept x.slot)) s.kept };
   element = λ x t s. element_in t (spelled (s.kept x.slot));
   put_element = λ x t v s. record s { kept = set_slot x.slot (with_value_at t v (s.kept x.slot)) s.kept };
-  declare = λ x c s. record s { kept = set_slot x.slot c s.kept; live = Name x ∷ s.live };
+  declare = λ x c s. record s { kept = set_slot x.slot c s.kept; roots = set_root x.slot no_root s.roots; live = Name x ∷ s.live };
+  root = λ x s. s.roots x.slot;
+  deal = λ x r s. record s { roots = set_root x.slot r s.roots };
   given = λ x s. paired x.text s.sets;
   enter = λ s. record s { live = Mark ∷ s.live };
   leave = λ s. record s { live = without_frame s.live };
@@ -87,6 +93,7 @@ by_slot = record {
 abbrev pub first_slots : Slots → List (Text × Value) → List (List Event) → Slotted
 first_slots m sets histories = record {
   kept = m;
+  roots = λ k. no_root;
   live = Mark ∷ [];
   intents = [];
   here = pos 0;
@@ -133,7 +140,7 @@ resolving names = record {
   assigns_at = λ x t. Resolves names x;
   assigns_element = λ x items. Resolves names x;
   calls = Resolves names;
-  declares = λ x form g. IsFresh x.slot g.frames × FormResolves names form g;
+  declares = λ x form g. IsFresh x.slot g.frames × FormResolves names form g × (x.text ≡ names x.slot);
   gives = λ x g. Unit {0};
   holds = λ x c. Unit {0};
   suits = λ x item g. Unit {0};
@@ -155,11 +162,13 @@ resolving-lawful : (names : ℕ → Text) → IsLawful (resolving names)
 resolving-lawful names = record {
   leave-enter = λ g. refl;
   leave-add = λ x form g. refl;
+  reads-add = λ x form g d. (ap (λ b. if b then Some x.slot else slot_of x.text g.frames) ((bytes_eq-Decides x.text x.text).1 refl), d.2);
 }
 
 -- THE RELATION: the slots of the names in sight stand for the store, and all else is the same
 pub record Stands (names : ℕ → Text) (g : Seen) (s1 : State) (s2 : Slotted) : Type 0 where
   pub store : s1.store ≡ store_at s2.kept g.frames
+  pub roots : s1.roots ≡ roots_at s2.roots g.frames
   pub live : s2.live ≡ g.frames
   pub apart : IsApart g.frames
   pub overs : Overs names s2.kept g.frames
@@ -216,6 +225,7 @@ module _ (names : ℕ → Text) where
       → Stands names g (record s1 { store = change_in x.text a s1.store }) (record s2 { kept = set_slot x.slot (u (s2.kept x.slot)) s2.kept })
   changed_alike x a u g s1 s2 r f p q = record {
     store = ap (change_in x.text a) r.store ∙ change_in-slot x.text a u p g.frames s2.kept x.slot r.apart f.0;
+    roots = r.roots;
     live = r.live;
     apart = r.apart;
     overs = Overs-set names s2.kept x.slot u q g.frames r.overs;
@@ -252,6 +262,7 @@ module _ (names : ℕ → Text) where
     record s2 { replies = Some rs },
     record {
       store = r.store;
+      roots = r.roots;
       live = r.live;
       apart = r.apart;
       overs = r.overs;
@@ -276,6 +287,7 @@ module _ (names : ℕ → Text) where
         ∙ ap (with_cells (after (cells_of s2.kept s2.live) h)) r.store
         ∙ with_cells-slots (after (cells_of s2.kept s2.live) h) g.frames s2.kept r.apart
         ∙ ap (λ fs. store_at (with_states (after (cells_of s2.kept s2.live) h) fs s2.kept) g.frames) (sym r.live);
+    roots = r.roots;
     live = r.live;
     apart = r.apart;
     overs = Overs-with_states names (after (cells_of s2.kept s2.live) h) s2.live s2.kept g.frames r.overs;
@@ -291,6 +303,7 @@ module _ (names : ℕ → Text) where
       → Stands names (record g { frames = Name x ∷ g.frames }) (by_name.declare x.text (spelled c) s1) (by_slot.declare x c s2)
   declare_alike x c g s1 s2 r f a = record {
     store = ap (λ es. Declared (record { name = x.text; content = spelled c }) ∷ es) r.store ∙ declared-slot x c g.frames s2.kept f;
+    roots = ap (λ es. Declared (record { name = x.text; content = no_root }) ∷ es) r.roots ∙ declared-root x no_root g.frames s2.roots f;
     live = ap (λ fs. Name x ∷ fs) r.live;
     apart = (f, r.apart);
     overs = Overs-declare names x c s2.kept g.frames f r.overs (form-resolves names c g a);
@@ -305,6 +318,7 @@ module _ (names : ℕ → Text) where
   redomain_alike : (x : Bound) (rs : List TextRange) (g : Seen) (s1 : State) (s2 : Slotted) → Stands names g s1 s2 → Resolves names x g → Stands names g (by_name.redomain x.text rs s1) (by_slot.redomain x rs s2)
   redomain_alike x rs g s1 s2 r f = record {
     store = ap (redomain_in x.text rs) r.store ∙ redomain_in-slots names x f.1 s2.kept rs g.frames r.apart r.overs f.0;
+    roots = r.roots;
     live = r.live;
     apart = r.apart;
     overs = Overs-redomain names s2.kept x.slot rs g.frames r.overs;
@@ -340,6 +354,20 @@ module _ (names : ℕ → Text) where
     puts_at = λ x t v g s1 s2 r f h. put_alike x t v g s1 s2 r f;
     puts = λ x items vs v g s1 s2 r f e h. put_alike x (index_of vs) v g s1 s2 r f;
     declares = λ x c g s1 s2 r f h. declare_alike x c g s1 s2 r f.0 f.1;
+    roots = λ x g s1 s2 r f d. ap (innermost no_root x.text) r.roots ∙ root-slot x.text x.slot g.frames s2.roots f.0;
+    deals = λ x root g s1 s2 r f d. record {
+      store = r.store;
+      roots = ap (change_in x.text (λ old. root)) r.roots ∙ deal-slot x.text root g.frames s2.roots x.slot r.apart f.0;
+      live = r.live;
+      apart = r.apart;
+      overs = r.overs;
+      intents = r.intents;
+      intents_by_name = r.intents_by_name;
+      here = r.here;
+      sets = r.sets;
+      replies = r.replies;
+      histories = r.histories;
+    };
     gives = λ x g s1 s2 r f. ap (paired x.text) r.sets;
     suited = λ x item v g s1 s2 r f w e. tt;
     suited_new = λ x item v g s1 s2 r f d e. tt;
@@ -354,6 +382,7 @@ module _ (names : ℕ → Text) where
     given_holds = λ x v g s1 s2 r f e. tt;
     enters = λ g s1 s2 r. record {
       store = ap (λ es. Opened ∷ es) r.store;
+      roots = ap (λ es. Opened ∷ es) r.roots;
       live = ap (λ fs. Mark ∷ fs) r.live;
       apart = r.apart;
       overs = r.overs;
@@ -366,6 +395,7 @@ module _ (names : ℕ → Text) where
     };
     leaves = λ g h s1 s2 t1 t2 before out r. subst (λ g. Stands names g (by_name.leave t1) (by_slot.leave t2)) out (record {
       store = ap without_innermost r.store ∙ without_innermost-store_at t2.kept h.frames;
+      roots = ap without_innermost r.roots ∙ left-roots t2.roots h.frames;
       live = ap without_frame r.live;
       apart = IsApart-without_frame h.frames r.apart;
       overs = Overs-without_frame names t2.kept h.frames r.overs;
@@ -378,6 +408,7 @@ module _ (names : ℕ → Text) where
     });
     intends = λ is g s1 s2 r f. record {
       store = r.store;
+      roots = r.roots;
       live = r.live;
       apart = r.apart;
       overs = r.overs;
@@ -390,6 +421,7 @@ module _ (names : ℕ → Text) where
     };
     ends_forall = λ is g s1 s2 r f. record {
       store = r.store;
+      roots = r.roots;
       live = r.live;
       apart = r.apart;
       overs = r.overs;
@@ -406,6 +438,7 @@ module _ (names : ℕ → Text) where
     heres = λ g s1 s2 r. r.here;
     moves = λ k g s1 s2 r m. record {
       store = r.store;
+      roots = r.roots;
       live = r.live;
       apart = r.apart;
       overs = r.overs;
@@ -422,6 +455,7 @@ module _ (names : ℕ → Text) where
     histories = λ x g s1 s2 r c. ap next_history r.histories;
     begins = λ x rs g s1 s2 r c. record {
       store = r.store;
+      roots = r.roots;
       live = r.live;
       apart = r.apart;
       overs = r.overs;
@@ -444,6 +478,7 @@ module _ (names : ℕ → Text) where
       meaning-alike limits text_of (resolving names) by_slot (Stands names) (slots_simulate limits) t program sets histories first_seen (first_slots m sets histories) same f
       (record {
         store = refl;
+        roots = refl;
         live = refl;
         apart = tt;
         overs = tt;

@@ -22,6 +22,8 @@ through f env = record {
   element = λ x t s. env.element (f x) t s;
   put_element = λ x t v s. env.put_element (f x) t v s;
   declare = λ x c s. env.declare (f x) (renamed_content f c) s;
+  root = λ x s. env.root (f x) s;
+  deal = λ x root s. env.deal (f x) root s;
   given = λ x s. env.given (f x) s;
   enter = env.enter;
   leave = env.leave;
@@ -55,6 +57,8 @@ module _ {M N S : Type 0} (limits : Limits) (f : N → M) (env : Environment M S
     puts_at = λ x t v g s1 s2 r a h. ap (env.put_element (f x) t v) r;
     puts = λ x items vs v g s1 s2 r a e h. ap (env.put_element (f x) (index_of vs) v) r;
     declares = λ x c g s1 s2 r a h. ap (env.declare (f x) (renamed_content f c)) r;
+    roots = λ x g s1 s2 r a d. ap (env.root (f x)) r;
+    deals = λ x root g s1 s2 r a d. ap (env.deal (f x) root) r;
     gives = λ x g s1 s2 r a. ap (env.given (f x)) r;
     suited = λ x item v g s1 s2 r a w e. tt;
     suited_new = λ x item v g s1 s2 r a d e. tt;

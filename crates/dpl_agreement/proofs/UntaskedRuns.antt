@@ -22,12 +22,14 @@ use Rattle.dpl_language.specs.Expressions.{found, value_of, item_of, values_of, 
 use Rattle.dpl_language.specs.Loops.{within_budget, named_turn, scoped, declare_each, bound_to, turn_of}
 use Rattle.dpl_language.specs.Assignments.{reply_value, and_no_more, answered, called, read_or, evaluated, change, assign_array, assign_domain, assign_plain, assign_name, assign_element, assign, cell_call}
 use Rattle.dpl_language.specs.Declarations.{gathered, filled, Shell, array_with, type_of, declaring, initial_then, declare_with, array_of_item, array_of_init, array_of, declare_array, declare_typed, given_or, declare_by}
+use Rattle.dpl_language.specs.Roots.{dealt}
 use Rattle.dpl_language.specs.Writing.{line_end, arguments_of, shown, arguments_then, write}
 use Rattle.dpl_language.specs.Statements.{holds, exec, exec_body, exec_all, exec_else}
 use Rattle.dpl_agreement.specs.Untasked.{UntaskedIf, UntaskedOthers, UntaskedList, UntaskedExpr, UntaskedItem, UntaskedItems, UntaskedExprs, UntaskedType, UntaskedInit, UntaskedTyped, UntaskedInitial, UntaskedDeclare, UntaskedArgument, UntaskedWrite, UntaskedTarget, UntaskedCall, UntaskedStmt, UntaskedBody, UntaskedStmts, UntaskedElse}
 use Rattle.dpl_agreement.specs.Agreement.{EndsAlike, RunAlike}
 use Rattle.dpl_agreement.proofs.RunsAlike.{All-every, with_ok-same, then_do-alike, with_value-alike_by, choose-alike, unless-alike, repeated-alike, named_turn-alike, within_budget-alike}
 use Rattle.dpl_agreement.proofs.UntaskedValues.{NotLocales, NoLocalesIn, HoldsBehind, HoldsNoLocales, combined-free, tested-free, found-free, SameOk, SameFree, with_ok-of, value_of-free, item_of-free, values_of-same, domain_of-free}
+use Rattle.dpl_agreement.proofs.UntaskedRoots.{dealt-same, dealt-free}
 
 -- WHAT IS STORED
 pub assigned-free : (op : Assign) (intent : Option Op) (old v : Value) → NotLocales v → NotLocales (assigned op intent old v)
@@ -322,6 +324,10 @@ module _ {N S : Type 0} (budget l m : ℕ) (env : Environment N S) (P : S → Ty
       from_one _ _ (λ s done k. given_or-same d.name (env.given d.name.name s) _ _ (laws.gives d.name.name s k)
       (declare_typed-same d.name (type_of d.typed) d.initial (type-untasked d.typed u.0) u.1) s s done (k, refl))
 
+  dealt-alike : (d : DeclareTree N) (s : S) → UntaskedDeclare d → P s → Alike (λ after done. Done (dealt one env d s after) done) (λ after done. Done (dealt other env d s after) done)
+  dealt-alike d s u k s1 s2 done r =
+      (dealt other env d s s2, (dealt-free budget l m env P laws d s s1 r.0, dealt-same budget l m env P laws d s s1 u k ∙ ap (dealt other env d s) r.1), refl)
+
   -- STATEMENTS
   holds-same : (e : ExprTree N) (s : S) → UntaskedExpr e → P s → holds one env e s ≡ holds other env e s
   holds-same e s u k = with_ok-same _ _ _ _ (value_of-free budget l m env P laws e None s u k).0 (λ v. refl)
@@ -329,7 +335,7 @@ module _ {N S : Type 0} (budget l m : ℕ) (env : Environment N S) (P : S → Ty
   mutual
     exec-same : (t : StmtTree N) → UntaskedStmt t → Alike (exec one env t) (exec other env t)
     exec-same (Nothing at) u = step (λ s. s) (λ s k. k)
-    exec-same (Declare d) u = declare_by-same d.config d u
+    exec-same (Declare d) u = from_one _ _ (λ s done k. then_do-alike Kept Kept _ _ _ _ (declare_by-same d.config d u s s done (k, refl)) (dealt-alike d s u k))
     exec-same (Assigned target sign item semicolon) u = assign-same target sign item u
     exec-same (Call x dot call semicolon) u = cell_call-same x call u
     exec-same (Write w) u = write-same w u

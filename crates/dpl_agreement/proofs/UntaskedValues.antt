@@ -10,7 +10,8 @@ use Rattle.dpl_language.specs.Tree.{Placed, Op, Sum, Product, AllOf, AnyOf, BitA
 use Rattle.dpl_language.specs.Tree.{ExprTree, Number, TruthWord, Named, LocalesWord, LocaleCount, HereWord, Grouped, DomainLiteral, Prefixed, Reduced, Chain, Postfixed, ItemTree, One, RangeItem, Stride, NoStride, By, Links, NoLinks, Link, Posts, NoPosts, Post, PostTree, Brackets, Rounds, Dotted, MethodTree, Plainly, Dim, Contains, Expand, CellRead, Items, FirstItem, MoreItems, NoItems, NextItem, Exprs, FirstExpr, MoreExprs, NoExprs, NextExpr}
 use Rattle.dpl_language.specs.Values.{Value, Int, Truth, Range, Domain, Array, Cell, Locale, AllLocales, Tuple, Index, number, ranges_in, all_ranges, index_of, array_domain, Fault, fault, Budget, PastLimit}
 use Rattle.dpl_language.specs.Arithmetic.{prefix_of, infix_of, divides, tested_divisor, decides, combined, unit_of}
-use Rattle.dpl_language.specs.Ranges.{indices_in, size_in, too_many, bounded, strided_by, sized, bounds_past_limit, members_of_first, first_of, last_of, least_of, greatest_of, end_of, method_of}
+use Rattle.dpl_language.specs.Ranges.{indices_in, size_in, too_many, bounded, strided_by, sized, bounds_past_limit, members_of_first, first_of, last_of, least_of, greatest_of, end_of, least_in, tuple_or_end, low_of, method_of}
+use Rattle.dpl_language.specs.Distributions.{Root}
 use Rattle.dpl_language.specs.Outcome.{with_ok, naming_value}
 use Rattle.dpl_language.specs.Environment.{Content, Plain, ArrayOf, CellOf, Answer, Replied, Unanswered, Environment, Limits}
 use Rattle.dpl_language.specs.Phrases.{Base, BaseName, BaseLocales, OtherBase, base_of}
@@ -42,6 +43,7 @@ pub record HoldsNoLocales {N S : Type 0} (env : Environment N S) (P : S → Type
   pub updates : (x : N) (op : Assign) (v : Value) (s : S) → P s → NotLocales v → P (env.update x op v s)
   pub puts : (x : N) (t : Index) (v : Value) (s : S) → P s → NotLocales v → P (env.put_element x t v s)
   pub declares : (x : N) (c : Content N) (s : S) → P s → NoLocalesIn c → P (env.declare x c s)
+  pub deals : (x : N) (root : Root) (s : S) → P s → P (env.deal x root s)
   pub redomains : (x : N) (rs : List TextRange) (s : S) → P s → P (env.redomain x rs s)
   pub enters : (s : S) → P s → P (env.enter s)
   pub leaves : (s : S) → P s → P (env.leave s)
@@ -99,13 +101,28 @@ end_of-free : (at : Place) (pick : _) (is : _) → IfOk (end_of at pick is) NotL
 end_of-free at pick [] = tt
 end_of-free at pick (i ∷ is) = tt
 
+tuple_or_end-free : (at : Place) (o : Option Index) → IfOk (tuple_or_end at o) NotLocales
+tuple_or_end-free at None = tt
+tuple_or_end-free at (Some t) = tt
+
+low_of-free : (at : Place) (v : Value) → IfOk (low_of at v) NotLocales
+low_of-free at (Int n) = tt
+low_of-free at (Truth b) = tt
+low_of-free at (Range r) = end_of-free at least_of (members_of_first (r ∷ []))
+low_of-free at (Domain rs) = tuple_or_end-free at (least_in rs)
+low_of-free at (Array k rs) = end_of-free at least_of (members_of_first rs)
+low_of-free at (Cell k) = tt
+low_of-free at (Locale n) = tt
+low_of-free at AllLocales = tt
+low_of-free at (Tuple t) = tt
+
 method_of-free : (w : Word) (at : Place) (v : Value) → IfOk (method_of w at v) NotLocales
 method_of-free Size at v = tt
 method_of-free First at v = end_of-free at first_of (members_of_first (ranges_in v))
 method_of-free Last at v = end_of-free at last_of (members_of_first (ranges_in v))
-method_of-free Low at v = end_of-free at least_of (members_of_first (ranges_in v))
+method_of-free Low at v = low_of-free at v
 method_of-free High at v = end_of-free at greatest_of (members_of_first (ranges_in v))
-method_of-free LowBound at v = end_of-free at least_of (members_of_first (ranges_in v))
+method_of-free LowBound at v = low_of-free at v
 method_of-free DomainOf at v = tt
 method_of-free Id at v = tt
 

@@ -7,7 +7,8 @@ use Rattle.dpl_history.specs.declared.cell.Reply.{Reply}
 use Rattle.dpl_history.specs.declared.history.Event.{Event}
 use Rattle.dpl_sets.specs.TextRanges.{TextRange}
 use Rattle.dpl_language.specs.Tree.{Op, Assign, Kind, ItemTree, Items}
-use Rattle.dpl_language.specs.Values.{Value, Index, index_of, ranges_in, array_domain, is_domain, cell_kind}
+use Rattle.dpl_language.specs.Values.{Value, Index, index_of, ranges_in, array_domain, is_domain, is_distributed, cell_kind}
+use Rattle.dpl_language.specs.Distributions.{Root}
 use Rattle.dpl_language.specs.Arithmetic.{assigned}
 use Rattle.dpl_language.specs.Ranges.{indices_in, loop_ranges, loop_value}
 use Rattle.dpl_language.specs.Outcome.{Deeds, Outcome, Done, Stop, Waits, Run}
@@ -79,6 +80,9 @@ pub record Simulates {M N G S1 S2 : Type 0} (limits : Limits) (name : N → M) (
   -- declarations
   pub declares : (x : N) (c : Content N) (g : G) (s1 : S1) (s2 : S2) → R g s1 s2 → scoping.declares x (form_of c) g → scoping.holds x c
       → R (scoping.add x (form_of c) g) (first.declare (name x) (renamed_content name c) s1) (second.declare x c s2)
+  -- roots: of a name that is a domain or an array; and of one that was just declared
+  pub roots : (x : N) (g : G) (s1 : S1) (s2 : S2) → R g s1 s2 → scoping.reads x g → is_distributed (second.get x s2) ≡ true → first.root (name x) s1 ≡ second.root x s2
+  pub deals : (x : N) (root : Root) (g : G) (s1 : S1) (s2 : S2) → R g s1 s2 → scoping.reads x g → is_distributed (second.get x s2) ≡ true → R g (first.deal (name x) root s1) (second.deal x root s2)
   pub gives : (x : N) (g : G) (s1 : S1) (s2 : S2) → R g s1 s2 → scoping.gives x g → first.given (name x) s1 ≡ second.given x s2
   -- a name holds what it may: a right side's value, assigned and as an initial value, those of a loop's turns, and what the
   -- command line gives

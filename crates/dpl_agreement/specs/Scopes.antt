@@ -3,12 +3,13 @@
 use Rattle.std.specs.Prelude.{◌≡◌, ℤ, pos, Option, Some, None, List, [], ◌∷◌}
 use Rattle.dpl_syntax.specs.declared.place.Place.{Place}
 use Rattle.dpl_language.specs.Tree.{Placed, Op, Assign, Kind, ExprTree, Number, TruthWord, Named, LocalesWord, LocaleCount, HereWord, Grouped, DomainLiteral, Prefixed, Reduced, Chain, Postfixed, ItemTree, One, RangeItem, Stride, NoStride, By, Links, NoLinks, Link, Posts, NoPosts, Post, PostTree, Brackets, Rounds, Dotted, MethodTree, Plainly, Dim, Contains, Expand, CellRead, Items, FirstItem, MoreItems, NoItems, NextItem, Exprs, FirstExpr, MoreExprs, NoExprs, NextExpr}
-use Rattle.dpl_language.specs.Tree.{TypeTree, ScalarType, SyncType, DomainType, ArrayType, InitTree, ItemInit, CreateInit, InitialTree, DeclareTree, ArgumentTree, TextArgument, ExprArgument, VariablesTree, OneVariable, ManyVariables, TargetTree, Whole, Element, CallTree, ReadCall, ResetCall, WriteCall, StmtTree, Nothing, Declare, Assigned, Call, Write, Block, If, While, For, Forall, Coforall, On, Body, WordBody, BlockBody, Stmts, NoStmts, Then, Else, NoElse, ElseDo}
+use Rattle.dpl_language.specs.Tree.{StartTree, StartExpr, StartTuple, MapTree, BlockMap, CyclicMap, BlockCyclicMap, MappedTree, TypeTree, ScalarType, SyncType, DomainType, ArrayType, InitTree, ItemInit, CreateInit, InitialTree, DeclareTree, ArgumentTree, TextArgument, ExprArgument, VariablesTree, OneVariable, ManyVariables, TargetTree, Whole, Element, CallTree, ReadCall, ResetCall, WriteCall, StmtTree, Nothing, Declare, Assigned, Call, Write, Block, If, While, For, Forall, Coforall, On, Body, WordBody, BlockBody, Stmts, NoStmts, Then, Else, NoElse, ElseDo}
 use Rattle.dpl_language.specs.Values.{Value, Int, Domain, Index, default}
 use Rattle.dpl_language.specs.Ranges.{empty_domain}
 use Rattle.dpl_language.specs.Environment.{Content, Plain, ArrayOf, CellOf}
 use Rattle.dpl_language.specs.Phrases.{Base, BaseName, BaseLocales, OtherBase, base_of, bare_name, ReadTree, item_read, declared_over, intents_of, first_name, parts}
 use Rattle.dpl_language.specs.Declarations.{type_of}
+use Rattle.dpl_language.specs.Roots.{type_map}
 use Rattle.dpl_language.specs.Writing.{arguments_of}
 
 -- what a name is declared as: a plain variable, an array and over which bare domain name, or a cell
@@ -71,10 +72,11 @@ pub record Scoping (N G : Type 0) : Type 1 where
   pub intend : List (N × Op) → G → G
   pub begin : G → G
 
--- a scope is left as it was entered, whatever was declared in it
+-- a scope is left as it was entered, whatever was declared in it; and a name may be read behind its declaration
 pub record IsLawful {N G : Type 0} (scoping : Scoping N G) : Type 0 where
   pub leave-enter : (g : G) → scoping.leave (scoping.enter g) ≡ g
   pub leave-add : (x : N) (form : Form N) (g : G) → scoping.leave (scoping.add x form g) ≡ scoping.leave g
+  pub reads-add : (x : N) (form : Form N) (g : G) → scoping.declares x form g → scoping.reads x (scoping.add x form g)
 
 -- expressions between round brackets, as the items that they are
 abbrev pub more_items_in : {N : Type 0} → MoreExprs N → MoreItems N
@@ -83,6 +85,15 @@ more_items_in (NextExpr comma e more) = NextItem comma (One e) (more_items_in mo
 
 abbrev pub items_in : {N : Type 0} → Exprs N → Items N
 items_in (FirstExpr e more) = FirstItem (One e) (more_items_in more)
+
+-- the map of an initial value
+abbrev pub init_map : {N : Type 0} → InitTree N → Option (MappedTree N)
+init_map (ItemInit item mapped) = mapped
+init_map (CreateInit c) = None
+
+abbrev pub initial_map : {N : Type 0} → Option (InitialTree N) → Option (MappedTree N)
+initial_map None = None
+initial_map (Some i) = init_map i.init
 
 module _ {N G : Type 0} (scoping : Scoping N G) where
   -- a bare name: its value, and at an index of a promoted expression its element
@@ -166,7 +177,29 @@ module _ {N G : Type 0} (scoping : Scoping N G) where
   abbrev pub fits_whole_side : ItemTree N → G → Type 0
   fits_whole_side item g = ((t : Index) → fits_item (Some t) item g) × fits_read (item_read item) g
 
-  -- DECLARATIONS. Of a type the domain of an array is evaluated; a map is not looked at.
+  -- MAPS. Their arguments are evaluated once; of an array's declaration no map is.
+  abbrev pub fits_each_value : List (ExprTree N) → G → Type 0
+  fits_each_value [] g = Unit {0}
+  fits_each_value (e ∷ es) g = fits_expr None e g × fits_each_value es g
+
+  abbrev pub fits_start : StartTree N → G → Type 0
+  fits_start (StartExpr e) g = fits_expr None e g
+  fits_start (StartTuple from es upto) g = fits_each_value (parts es) g
+
+  abbrev pub fits_map : MapTree N → G → Type 0
+  fits_map (BlockMap m) g = fits_item None m.box g
+  fits_map (CyclicMap m) g = fits_start m.start g
+  fits_map (BlockCyclicMap m) g = fits_start m.start g × fits_start m.size g
+
+  abbrev pub fits_mapped : Option (MappedTree N) → G → Type 0
+  fits_mapped None g = Unit {0}
+  fits_mapped (Some m) g = fits_map m.map g
+
+  abbrev pub fits_maps : Option (TypeTree N) → Option (InitialTree N) → G → Type 0
+  fits_maps (Some (ArrayType a)) i g = Unit {0}
+  fits_maps type i g = fits_mapped (type_map type) g × fits_mapped (initial_map i) g
+
+  -- DECLARATIONS. Of a type the domain of an array is evaluated.
   abbrev pub fits_type : Option (TypeTree N) → G → Type 0
   fits_type None g = Unit {0}
   fits_type (Some (ScalarType at k)) g = Unit {0}
@@ -232,6 +265,7 @@ module _ {N G : Type 0} (scoping : Scoping N G) where
       × scoping.declares d.name.name (form_by (type_of d.typed)) g
       × fits_given d.config d.name.name (form_by (type_of d.typed)) g
       × suits_declared d.name.name (type_of d.typed) d.initial g
+      × fits_maps (type_of d.typed) d.initial g
 
   -- ASSIGNMENTS, CALLS AND WRITES
   abbrev pub fits_target : TargetTree N → Assign → G → Type 0

@@ -7,7 +7,7 @@ use Rattle.dpl_syntax.specs.declared.place.Place.{Place}
 use Rattle.dpl_sets.specs.TextRanges.{TextRange}
 use Rattle.dpl_language.specs.Values.{Value, Int, ranges_in, default, fault, Budget, ArrayTooLarge}
 use Rattle.dpl_language.specs.Ranges.{indices_in, size_in, too_large}
-use Rattle.dpl_language.specs.Tree.{Placed, Kind, IntKind, BoolKind, ItemTree, Items, FirstItem, NoItems, NextItem, ArrayTypeTree, TypeTree, ScalarType, SyncType, DomainType, ArrayType, InitTree, ItemInit, CreateInit, InitialTree, DeclareTree}
+use Rattle.dpl_language.specs.Tree.{Placed, Kind, IntKind, BoolKind, ItemTree, Items, FirstItem, NoItems, NextItem, MappedTree, ArrayTypeTree, TypeTree, ScalarType, SyncType, DomainType, ArrayType, InitTree, ItemInit, CreateInit, InitialTree, DeclareTree}
 use Rattle.dpl_language.specs.Outcome.{Deeds, Run, with_value, unless}
 use Rattle.dpl_language.specs.Environment.{Environment, Limits, Plain, Content}
 use Rattle.dpl_language.specs.Phrases.{declared_over}
@@ -17,7 +17,7 @@ use Rattle.dpl_agreement.proofs.RunsAlike.{with_ok-same}
 use Rattle.dpl_lowered.specs.Known.{Known, IsKnown}
 use Rattle.dpl_lowered.specs.Shapes.{placed}
 use Rattle.dpl_lowered.specs.LoweredExpressions.{Once, EachTurn, lowered_item}
-use Rattle.dpl_lowered.specs.LoweredStatements.{default_tree, domain_type, tells_name, unplaced_word, lowered_side, lowered_over, lowered_array, lowered_init, plain_initial, lowered_initial, array_init, array_initial, declared_type, declared_initial, lowered_declare}
+use Rattle.dpl_lowered.specs.LoweredStatements.{default_tree, root_type, map_by, lowered_with, domain_type, domain_initial, tells_name, unplaced_word, lowered_side, lowered_over, lowered_array, lowered_init, lowered_init_map, plain_initial, lowered_initial, array_init, array_initial, declared_type, declared_initial, lowered_declare}
 use Rattle.dpl_lowered.proofs.Nests.{hidden_item-value}
 use Rattle.dpl_lowered.proofs.Seen.{over-declared}
 use Rattle.dpl_lowered.proofs.Values.{item_of-lowered, items_of-lowered}
@@ -26,26 +26,32 @@ use Rattle.dpl_lowered.proofs.Assignments.{side-value, side-whole, evaluated-low
 
 module _ {N S : Type 0} (limits : Limits) (env : Environment N S) (known : N → Known) (is : IsKnown known env) where
   -- an initial value that is evaluated once
-  init-lowered : (i : InitTree N) (go : Value → Run S) (s : S) (done : Deeds) → initial_then limits env (ItemInit (lowered_init known i) None) go s done ≡ initial_then limits env i go s done
-  init-lowered (ItemInit item mapped) go s done = evaluated-lowered limits env known is Once item go s done
-  init-lowered (CreateInit c) go s done =
+  init-lowered : (i : InitTree N) (m : Option (MappedTree N)) (go : Value → Run S) (s : S) (done : Deeds) → initial_then limits env (ItemInit (lowered_init known i) m) go s done ≡ initial_then limits env i go s done
+  init-lowered (ItemInit item mapped) m go s done = evaluated-lowered limits env known is Once item go s done
+  init-lowered (CreateInit c) m go s done =
       ap (λ r. with_value r go s done) (with_ok-same _ _ _ _ (items_of-lowered limits env known is c.items s) (λ vs. refl))
 
   plain-lowered : (k : Kind) (x : Placed N) (i : Option (InitialTree N)) (s : S) (done : Deeds)
       → declare_with limits env (placed false x) (Plain (Int (pos 0))) (λ v. Plain v) (plain_initial known (default_tree k) i) s done ≡ declare_with limits env x (Plain (default k)) (λ v. Plain v) i s done
   plain-lowered IntKind x None s done = refl
   plain-lowered BoolKind x None s done = refl
-  plain-lowered k x (Some i) s done = init-lowered i.init _ s done
+  plain-lowered k x (Some i) s done = init-lowered i.init (lowered_init_map known i.init) _ s done
+
+  -- beside an initial value the type tells nothing of it
+  rooted-lowered : (x : Placed N) (o m : Option (MappedTree N)) (i : InitTree N) (s : S) (done : Deeds)
+      → declare_typed limits env (placed false x) (root_type o) (Some (lowered_with known i m)) s done ≡ initial_then limits env i (λ v. declaring limits env x (Plain v)) s done
+  rooted-lowered x None m i s done = init-lowered i m _ s done
+  rooted-lowered x (Some n) m i s done = init-lowered i m _ s done
 
   domain-lowered : (x : Placed N) (d : _) (i : Option (InitialTree N)) (s : S) (done : Deeds)
-      → declare_typed limits env (placed false x) (domain_type d i) (lowered_initial known i) s done ≡ declare_typed limits env x (Some (DomainType d)) i s done
+      → declare_typed limits env (placed false x) (domain_type known d i) (domain_initial known d i) s done ≡ declare_typed limits env x (Some (DomainType d)) i s done
   domain-lowered x d None s done = refl
-  domain-lowered x d (Some i) s done = init-lowered i.init _ s done
+  domain-lowered x d (Some i) s done = rooted-lowered x (map_by known d.mapped i.init) (map_by known d.mapped i.init) i.init s done
 
   cell-lowered : (x : Placed N) (c : Content N) (make : Value → Content N) (i : Option (InitialTree N)) (s : S) (done : Deeds)
       → declare_with limits env (placed false x) c make (lowered_initial known i) s done ≡ declare_with limits env x c make i s done
   cell-lowered x c make None s done = refl
-  cell-lowered x c make (Some i) s done = init-lowered i.init _ s done
+  cell-lowered x c make (Some i) s done = init-lowered i.init (lowered_init_map known i.init) _ s done
 
   -- ARRAYS
   array_of_item-lowered : (x : Placed N) (a : Shell N) (at : Place) (i : ItemTree N) (o : Option (List TextRange)) (s : S) (done : Deeds)

@@ -7,6 +7,7 @@ pub mod Values
 pub mod Parts
 pub mod Assignments
 pub mod Declarations
+pub mod Roots
 pub mod Writing
 pub mod Runs
 pub mod Programs

@@ -10,17 +10,20 @@ use Rattle.dpl_language.specs.Outcome.{Deeds, Outcome, Done, Stop, Waits, with_v
 use Rattle.dpl_language.specs.Environment.{Environment, Limits}
 use Rattle.dpl_language.specs.Phrases.{intents_of, first_name}
 use Rattle.dpl_language.specs.Expressions.{value_of, item_of}
+use Rattle.dpl_language.specs.Declarations.{declare}
+use Rattle.dpl_language.specs.Roots.{dealt}
 use Rattle.dpl_language.specs.Loops.{within_budget, named_turn, scoped, turn_of}
 use Rattle.dpl_language.specs.Statements.{task_limit, holds, exec, exec_body, exec_all, exec_else}
 use Rattle.dpl_language.specs.Tasks.{tasks_of}
 use Rattle.dpl_agreement.proofs.RunsAlike.{with_ok-same}
 use Rattle.dpl_lowered.specs.Known.{Known, IsKnown}
 use Rattle.dpl_lowered.specs.LoweredExpressions.{Once, lowered_expr}
-use Rattle.dpl_lowered.specs.LoweredStatements.{lowered_variables, with_intents, lowered_stmt, lowered_body, lowered_stmts, lowered_else}
+use Rattle.dpl_lowered.specs.LoweredStatements.{lowered_variables, with_intents, lowered_declare, lowered_stmt, lowered_body, lowered_stmts, lowered_else}
 use Rattle.dpl_lowered.proofs.Values.{value_of-lowered, item_of-lowered}
 use Rattle.dpl_lowered.proofs.Parts.{intents_of-made, turn_of-lowered, first_name-lowered}
 use Rattle.dpl_lowered.proofs.Assignments.{assign-lowered, cell_call-lowered}
 use Rattle.dpl_lowered.proofs.Declarations.{declare-lowered}
+use Rattle.dpl_lowered.proofs.Roots.{dealt-lowered}
 use Rattle.dpl_lowered.proofs.Writing.{write-lowered}
 
 module _ {N S : Type 0} (limits : Limits) (env : Environment N S) where
@@ -36,7 +39,9 @@ module _ {N S : Type 0} (limits : Limits) (env : Environment N S) (known : N →
   mutual
     pub exec-lowered : (t : StmtTree N) (s : S) (done : Deeds) → exec limits env (lowered_stmt known t) s done ≡ exec limits env t s done
     exec-lowered (Nothing at) s done = refl
-    exec-lowered (Declare d) s done = declare-lowered limits env known is d s done
+    exec-lowered (Declare d) s done =
+        ap (λ o. then_do o (λ after done. Done (dealt limits env (lowered_declare known d) s after) done)) (declare-lowered limits env known is d s done)
+        ∙ ap (then_do (declare limits env d s done)) (fun_ext (λ after. fun_ext (λ done. ap (λ t. Done t done) (dealt-lowered limits env known is d s after))))
     exec-lowered (Assigned target sign item semicolon) s done = assign-lowered limits env known is target sign item s done
     exec-lowered (Call x dot call semicolon) s done = cell_call-lowered limits env known is x call s done
     exec-lowered (Write w) s done = write-lowered limits env known is w s done

@@ -3,15 +3,15 @@
 use Rattle.std.proofs.Common.{◌≡◌, Bool, false, List, [], ◌∷◌, refl, sym, ap, ◌∙◌, Some, None, Option, map}
 use Rattle.std.specs.Prelude.{◌||◌, option_map}
 use Rattle.dpl_syntax.specs.declared.place.Place.{Place}
-use Rattle.dpl_language.specs.Tree.{Placed, AfterComma, Listed, Kind, IntKind, BoolKind, AssignTree, ExprTree, Grouped, DomainLiteral, ItemTree, One, Items, FirstItem, NoItems, NextItem, TypeTree, ScalarType, SyncType, DomainType, ArrayType, InitTree, ItemInit, CreateInit, InitialTree, DeclareTree}
+use Rattle.dpl_language.specs.Tree.{Placed, AfterComma, Listed, Kind, IntKind, BoolKind, AssignTree, ExprTree, Grouped, DomainLiteral, ItemTree, One, Items, FirstItem, NoItems, NextItem, StartTree, StartExpr, StartTuple, MapTree, BlockMap, CyclicMap, BlockCyclicMap, MappedTree, CreateWord, CreateBlock, CreateCyclic, TypeTree, ScalarType, SyncType, DomainType, ArrayType, InitTree, ItemInit, CreateInit, InitialTree, DeclareTree}
 use Rattle.dpl_language.specs.Tree.{ArgumentTree, TextArgument, ExprArgument, WriteTree, VariablesTree, OneVariable, ManyVariables, TargetTree, Whole, Element, Square, CallTree, ReadCall, ResetCall, WriteCall, StmtTree, Nothing, Declare, Assigned, Call, Write, Block, If, While, For, Forall, Coforall, On, Body, WordBody, BlockBody, Stmts, NoStmts, Then, Else, NoElse, ElseDo, ProgramTree}
 use Rattle.dpl_language.specs.Arithmetic.{assign_divides}
 use Rattle.dpl_language.specs.Phrases.{bare_name, cell_read, ReadTree, item_read, item_over, intents_of}
 use Rattle.dpl_language.specs.Declarations.{type_of}
 use Rattle.dpl_lowered.specs.Known.{Known, may_be_array, may_be_whole}
 use Rattle.dpl_lowered.specs.Shapes.{nowhere, placed, unplaced, relisted, as_expr, as_item, hidden, hidden_item, item_in_brackets}
-use Rattle.dpl_lowered.specs.LoweredExpressions.{Times, Once, EachTurn, lowered_expr, lowered_item}
-use Rattle.dpl_lowered.specs.LoweredStatements.{written_initial, default_tree, written_type, tells_name, unplaced_word, lowered_variables, with_intents, lowered_sign, times_by, lowered_side, lowered_over, lowered_init, plain_initial, lowered_initial, array_init, array_initial, declared_type, declared_initial, lowered_declare, lowered_target, target_sign, target_times, lowered_call, array_name, lowered_shown, lowered_argument, lowered_write, lowered_stmt, lowered_body, lowered_stmts, lowered_else, lowered_program}
+use Rattle.dpl_lowered.specs.LoweredExpressions.{Times, Once, EachTurn, lowered_expr, lowered_item, lowered_items}
+use Rattle.dpl_lowered.specs.LoweredStatements.{mapped_initial, written_initial, ranked_type, root_type, block_map, cyclic_map, block_cyclic_map, mapped_by, low_tree, created_map, lowered_start, lowered_map, lowered_mapped, lowered_init_map, lowered_with, map_by, default_tree, written_type, tells_name, unplaced_word, lowered_variables, with_intents, lowered_sign, times_by, lowered_side, lowered_over, lowered_init, plain_initial, lowered_initial, array_init, array_initial, declared_type, declared_initial, lowered_declare, lowered_target, target_sign, target_times, lowered_call, array_name, lowered_shown, lowered_argument, lowered_write, lowered_stmt, lowered_body, lowered_stmts, lowered_else, lowered_program}
 use Rattle.dpl_lowered.proofs.Seen.{Either, NoRead, NoName, either, array_name-none}
 use Rattle.dpl_lowered.proofs.Parts.{intents_of-made, type_of-written}
 use Rattle.dpl_lowered.proofs.Formed.{IsFormed, as_expr-as_item, as_item-as_expr, lowered-formed, item-formed}
@@ -91,14 +91,56 @@ module _ {N : Type 0} (known : N → Known) where
   init-twice (ItemInit item mapped) = side-twice Once item
   init-twice (CreateInit c) = ap (λ is. One (DomainLiteral c.from is nowhere)) (items-twice known c.items)
 
+  -- MAPS
+  start-twice : (t : StartTree N) → lowered_start known (lowered_start known t) ≡ lowered_start known t
+  start-twice (StartExpr e) = ap StartExpr (expr-twice known Once e)
+  start-twice (StartTuple from es upto) = ap (λ es. StartTuple nowhere es nowhere) (relisted-twice (lowered_expr known Once) (expr-twice known Once) es)
+
+  map-twice : (m : MapTree N) → lowered_map known (lowered_map known m) ≡ lowered_map known m
+  map-twice (BlockMap m) = ap block_map (item-twice known Once m.box)
+  map-twice (CyclicMap m) = ap cyclic_map (start-twice m.start)
+  map-twice (BlockCyclicMap m) = ap (λ t. block_cyclic_map t (lowered_start known (lowered_start known m.size))) (start-twice m.start) ∙ ap (block_cyclic_map (lowered_start known m.start)) (start-twice m.size)
+
+  mapped-twice : (m : MappedTree N) → lowered_mapped known (lowered_mapped known m) ≡ lowered_mapped known m
+  mapped-twice m = ap mapped_by (map-twice m.map)
+
+  created-twice : (w : CreateWord) (from : Place) (is : Items N) → lowered_items known is ≡ is → lowered_mapped known (created_map w (DomainLiteral from is nowhere)) ≡ created_map w (DomainLiteral from is nowhere)
+  created-twice CreateBlock from is e = ap (λ is. mapped_by (block_map (One (DomainLiteral from is nowhere)))) e
+  created-twice CreateCyclic from is e = ap (λ is. mapped_by (cyclic_map (StartExpr (low_tree (DomainLiteral from is nowhere))))) e
+
+  init_map-twice : (i : InitTree N) → option_map (lowered_mapped known) (lowered_init_map known i) ≡ lowered_init_map known i
+  init_map-twice (ItemInit item mapped) = option-twice (lowered_mapped known) mapped-twice mapped
+  init_map-twice (CreateInit c) = ap (λ m. Some m) (created-twice c.word c.from (lowered_items known c.items) (items-twice known c.items))
+
+  map_by-twice : (m : Option (MappedTree N)) (i : InitTree N) → option_map (lowered_mapped known) (map_by known m i) ≡ map_by known m i
+  map_by-twice None i = init_map-twice i
+  map_by-twice (Some m) i = ap (λ m. Some m) (mapped-twice m)
+
+  -- an initial value with a map that is lowered to itself
+  with-twice : (i : InitTree N) (o : Option (MappedTree N)) → option_map (lowered_mapped known) o ≡ o
+      → mapped_initial nowhere (lowered_side known Once (lowered_init known i)) (option_map (lowered_mapped known) o) ≡ lowered_with known i o
+  with-twice i o e = ap (λ j. mapped_initial nowhere j (option_map (lowered_mapped known) o)) (init-twice i) ∙ ap (mapped_initial nowhere (lowered_init known i)) e
+
+  rooted-twice : (i : InitTree N) (o : Option (MappedTree N)) → option_map (lowered_mapped known) o ≡ o → declared_initial known (root_type o) (Some (lowered_with known i o)) ≡ Some (lowered_with known i o)
+  rooted-twice i None e = ap (λ j. Some j) (with-twice i None e)
+  rooted-twice i (Some m) e = ap (λ j. Some j) (with-twice i (Some m) e)
+
+  root_type-twice : (i : InitTree N) (o : Option (MappedTree N)) → declared_type known (root_type o) (Some (lowered_with known i o)) ≡ root_type o
+  root_type-twice i None = refl
+  root_type-twice i (Some m) = refl
+
+  root_type-untold : (o : Option (MappedTree N)) → tells_name (root_type o) ≡ false
+  root_type-untold None = refl
+  root_type-untold (Some m) = refl
+
   plain-twice : (k l : Kind) (i : Option (InitialTree N)) → plain_initial known (default_tree k) (plain_initial known (default_tree l) i) ≡ plain_initial known (default_tree l) i
   plain-twice k IntKind None = refl
   plain-twice k BoolKind None = refl
-  plain-twice k l (Some i) = ap (λ j. Some (written_initial nowhere j)) (init-twice i.init)
+  plain-twice k l (Some i) = ap (λ j. Some j) (with-twice i.init (lowered_init_map known i.init) (init_map-twice i.init))
 
   initial-twice : (i : Option (InitialTree N)) → lowered_initial known (lowered_initial known i) ≡ lowered_initial known i
   initial-twice None = refl
-  initial-twice (Some i) = ap (λ j. Some (written_initial nowhere j)) (init-twice i.init)
+  initial-twice (Some i) = ap (λ j. Some j) (with-twice i.init (lowered_init_map known i.init) (init_map-twice i.init))
 
   array_init-twice : (equals : Place) (i : InitTree N) → array_initial known (array_init known equals i) ≡ array_init known equals i
   array_init-twice equals (ItemInit item mapped) = ap (λ j. Some (written_initial equals j)) (side-twice EachTurn item)
@@ -112,8 +154,8 @@ module _ {N : Type 0} (known : N → Known) where
   type-twice None i = refl
   type-twice (Some (ScalarType at k)) i = refl
   type-twice (Some (SyncType at kind_at k)) i = refl
-  type-twice (Some (DomainType d)) None = refl
-  type-twice (Some (DomainType d)) (Some i) = refl
+  type-twice (Some (DomainType d)) None = ap (λ m. Some (ranked_type d.rank m)) (option-twice (lowered_mapped known) mapped-twice d.mapped)
+  type-twice (Some (DomainType d)) (Some i) = root_type-twice i.init (map_by known d.mapped i.init)
   type-twice (Some (ArrayType a)) i =
       ap (λ is. Some (ArrayType (record { from = a.from; over = is; upto = nowhere; kind_at = nowhere; kind = a.kind }))) (over-twice a.over)
 
@@ -122,7 +164,7 @@ module _ {N : Type 0} (known : N → Known) where
   declared_initial-twice (Some (ScalarType at k)) i = plain-twice IntKind k i
   declared_initial-twice (Some (SyncType at kind_at k)) i = initial-twice i
   declared_initial-twice (Some (DomainType d)) None = refl
-  declared_initial-twice (Some (DomainType d)) (Some i) = ap (λ j. Some (written_initial nowhere j)) (init-twice i.init)
+  declared_initial-twice (Some (DomainType d)) (Some i) = rooted-twice i.init (map_by known d.mapped i.init) (map_by-twice d.mapped i.init)
   declared_initial-twice (Some (ArrayType a)) i = array_initial-twice i
 
   tells_name-twice : (type : Option (TypeTree N)) (i : Option (InitialTree N)) → tells_name (declared_type known type i) ≡ tells_name type
@@ -130,7 +172,7 @@ module _ {N : Type 0} (known : N → Known) where
   tells_name-twice (Some (ScalarType at k)) i = refl
   tells_name-twice (Some (SyncType at kind_at k)) i = refl
   tells_name-twice (Some (DomainType d)) None = refl
-  tells_name-twice (Some (DomainType d)) (Some i) = refl
+  tells_name-twice (Some (DomainType d)) (Some i) = root_type-untold (map_by known d.mapped i.init)
   tells_name-twice (Some (ArrayType a)) i = refl
 
   -- a lowered declaration, of its parts

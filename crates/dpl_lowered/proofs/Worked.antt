@@ -8,7 +8,7 @@ use Rattle.dpl_language.specs.Tree.{BlockMap, MappedTree, TypeTree, ScalarType, 
 use Rattle.dpl_lowered.specs.Known.{Known, WholeArray, PlainValue, nothing_known}
 use Rattle.dpl_lowered.specs.Shapes.{nowhere, two}
 use Rattle.dpl_lowered.specs.LoweredExpressions.{Once, EachTurn, lowered_expr, lowered_item}
-use Rattle.dpl_lowered.specs.LoweredStatements.{lowered_side, lowered_over, lowered_declare, lowered_stmt, lowered_body, lowered_program}
+use Rattle.dpl_lowered.specs.LoweredStatements.{block_map, mapped_by, lowered_side, lowered_over, lowered_declare, lowered_stmt, lowered_body, lowered_program}
 
 -- HOW ROWS ARE WRITTEN
 -- a place that stays, and those of tokens of which no place is left
@@ -278,17 +278,36 @@ mapping = record {
   });
 }
 
+-- the same, lowered: no place is left but those that a fault of its box tells
+abbrev lowered_mapping : MappedTree ℕ
+lowered_mapping = mapped_by (block_map (One (DomainLiteral gone (only (RangeItem (placeless 1) gone Closed (placeless 8) NoStride)) nowhere)))
+
 -- domain(rank), whose tokens stand there
 abbrev domain_of : Place → ℕ → Option (MappedTree ℕ) → TypeTree ℕ
 domain_of at rank mapped = DomainType (record { at = at; from = at; rank_at = at; rank = rank; upto = at; mapped = mapped })
 
--- var D: domain(2) dmapped ..; has no map
-domain_variable : lowered_declare nothing_known (declaring None (Some (domain_of gone 2 (Some mapping))) None) ≡ declared (bare 0) (Some (domain_of nowhere 2 None)) None
+-- an initial value with a map
+abbrev initially_mapped : ItemTree ℕ → MappedTree ℕ → Option (InitialTree ℕ)
+initially_mapped item m = Some (record { equals = nowhere; init = ItemInit item (Some m) })
+
+-- var D: domain(2) dmapped ..;
+domain_variable : lowered_declare nothing_known (declaring None (Some (domain_of gone 2 (Some mapping))) None)
+    ≡ declared (bare 0) (Some (domain_of nowhere 2 (Some lowered_mapping))) None
 domain_variable = refl
 
--- var D: domain(1) = E dmapped ..; has no type either
+-- var D: domain(1) = E; keeps a type, by which D is a root
+domain_root : lowered_declare nothing_known (declaring None (Some (domain_of gone 1 None)) (Some (record { equals = gone; init = ItemInit (One (Named (name 22 1))) None })))
+    ≡ declared (bare 0) (Some (domain_of nowhere 0 None)) (initially nowhere (One (Named (bare 1))))
+domain_root = refl
+
+-- var D: domain(1) dmapped .. = E; has the map beside the value
+domain_typed : lowered_declare nothing_known (declaring None (Some (domain_of gone 1 (Some mapping))) (Some (record { equals = gone; init = ItemInit (One (Named (name 22 1))) None })))
+    ≡ declared (bare 0) None (initially_mapped (One (Named (bare 1))) lowered_mapping)
+domain_typed = refl
+
+-- var D: domain(1) = E dmapped ..; needs no type
 domain_value : lowered_declare nothing_known (declaring None (Some (domain_of gone 1 None)) (Some (record { equals = gone; init = ItemInit (One (Named (name 22 1))) (Some mapping) })))
-    ≡ declared (bare 0) None (initially nowhere (One (Named (bare 1))))
+    ≡ declared (bare 0) None (initially_mapped (One (Named (bare 1))) lowered_mapping)
 domain_value = refl
 
 -- blockDist.createDomain(1..8)
@@ -303,9 +322,12 @@ created = CreateInit (record {
   upto = gone;
 })
 
--- var D = blockDist.createDomain(1..8); is var D = {1..8};
+abbrev created_literal : ExprTree ℕ
+created_literal = DomainLiteral (at 32) (only (RangeItem (placeless 1) (at 34) Closed (placeless 8) NoStride)) nowhere
+
+-- var D = blockDist.createDomain(1..8); is var D = {1..8} dmapped new blockDist({1..8});
 created_domain : lowered_declare nothing_known (declaring None None (Some (record { equals = gone; init = created })))
-    ≡ declared (bare 0) None (initially nowhere (One (DomainLiteral (at 32) (only (RangeItem (placeless 1) (at 34) Closed (placeless 8) NoStride)) nowhere)))
+    ≡ declared (bare 0) None (initially_mapped (One created_literal) (mapped_by (block_map (One created_literal))))
 created_domain = refl
 
 -- var c: sync int; is empty, and stays so

@@ -1,8 +1,9 @@
--- Statements without what they don't need: maps, types of plain variables, intents but reduce intents, one form of body.
--- What is left out is written where that changes nothing; so each declaration of a plain variable has an initial value.
-use Rattle.std.specs.Prelude.{pos, Bool, true, false, ◌||◌, if◌then◌else◌, Option, Some, None, List, [], ◌∷◌, map, option_map}
+-- Statements without what they don't need: types of plain variables, intents but reduce intents, one form of body.
+-- What is left out is written where that changes nothing: each declaration of a plain variable has an initial value, and
+-- `createDomain(X)` is X with a map.
+use Rattle.std.specs.Prelude.{ℕ, pos, Bool, true, false, ◌||◌, if◌then◌else◌, Option, Some, None, List, [], ◌∷◌, map, option_map}
 use Rattle.dpl_syntax.specs.declared.place.Place.{Place}
-use Rattle.dpl_language.specs.Tree.{Placed, AfterComma, Op, Kind, IntKind, BoolKind, AssignTree, ExprTree, Number, TruthWord, DomainLiteral, ItemTree, One, Items, FirstItem, NoItems, NextItem, ArrayTypeTree, TypeTree, ScalarType, SyncType, DomainType, ArrayType, DomainTypeTree, InitTree, ItemInit, CreateInit, TypedTree, InitialTree, DeclareTree}
+use Rattle.dpl_language.specs.Tree.{Placed, AfterComma, Op, Kind, IntKind, BoolKind, AssignTree, ExprTree, Number, TruthWord, DomainLiteral, Postfixed, ItemTree, One, NoPosts, Post, Dotted, Plainly, Low, Items, FirstItem, NoItems, NextItem, StartTree, StartExpr, StartTuple, MapTree, BlockMap, CyclicMap, BlockCyclicMap, MappedTree, ArrayTypeTree, TypeTree, ScalarType, SyncType, DomainType, ArrayType, DomainTypeTree, CreateWord, CreateBlock, CreateCyclic, CreateTree, InitTree, ItemInit, CreateInit, TypedTree, InitialTree, DeclareTree}
 use Rattle.dpl_language.specs.Tree.{ArgumentTree, TextArgument, ExprArgument, WriteTree, IntentTree, ReduceIntent, WithTree, VariablesTree, OneVariable, ManyVariables, TargetTree, Whole, Element, Square, CallTree, ReadCall, ResetCall, WriteCall, StmtTree, Nothing, Declare, Assigned, Call, Write, Block, If, While, For, Forall, Coforall, On, Body, WordBody, BlockBody, Stmts, NoStmts, Then, Else, NoElse, ElseDo, ProgramTree}
 use Rattle.dpl_language.specs.Arithmetic.{assign_divides}
 use Rattle.dpl_language.specs.Phrases.{bare_name, cell_read, item_read, item_over, intents_of}
@@ -12,25 +13,66 @@ use Rattle.dpl_lowered.specs.Shapes.{nowhere, kept, placed, unplaced, relisted, 
 use Rattle.dpl_lowered.specs.LoweredExpressions.{Times, Once, EachTurn, lowered_expr, lowered_item, lowered_items, lowered_exprs}
 
 -- PARTS WITHOUT EXPRESSIONS
+abbrev pub mapped_initial : {N : Type 0} → Place → ItemTree N → Option (MappedTree N) → InitialTree N
+mapped_initial equals item mapped = record { equals = equals; init = ItemInit item mapped }
+
 abbrev pub written_initial : {N : Type 0} → Place → ItemTree N → InitialTree N
-written_initial equals item = record { equals = equals; init = ItemInit item None }
+written_initial equals item = mapped_initial equals item None
 
 -- what a plain variable is declared with where no value is written
 abbrev pub default_tree : {N : Type 0} → Kind → ExprTree N
 default_tree IntKind = Number nowhere (pos 0)
 default_tree BoolKind = TruthWord nowhere false
 
--- the type of a domain variable: with an initial value none is needed, and without one its rank is
-abbrev pub domain_type : {N : Type 0} → DomainTypeTree N → Option (InitialTree N) → Option (TypeTree N)
-domain_type d None = Some (DomainType (record {
+-- the type of a domain variable, of a rank and with a map or without one
+abbrev pub ranked_type : {N : Type 0} → ℕ → Option (MappedTree N) → TypeTree N
+ranked_type rank mapped = DomainType (record {
   at = nowhere;
   from = nowhere;
   rank_at = nowhere;
-  rank = d.rank;
+  rank = rank;
   upto = nowhere;
-  mapped = None;
-}))
-domain_type d (Some i) = None
+  mapped = mapped;
+})
+
+-- Beside an initial value it says that the name is a root, and nothing of its rank; a map stands with the value and says the
+-- same.
+abbrev pub root_type : {N : Type 0} → Option (MappedTree N) → Option (TypeTree N)
+root_type None = Some (ranked_type 0 None)
+root_type (Some m) = None
+
+-- MAPS
+abbrev pub block_map : {N : Type 0} → ItemTree N → MapTree N
+block_map box = BlockMap (record { new = nowhere; word = nowhere; from = nowhere; argument = None; box = box; upto = nowhere })
+
+abbrev pub cyclic_map : {N : Type 0} → StartTree N → MapTree N
+cyclic_map start =
+    CyclicMap (record { new = nowhere; word = nowhere; from = nowhere; argument = None; start = start; upto = nowhere })
+
+abbrev pub block_cyclic_map : {N : Type 0} → StartTree N → StartTree N → MapTree N
+block_cyclic_map start size = BlockCyclicMap (record {
+  new = nowhere;
+  word = nowhere;
+  from = nowhere;
+  start_argument = None;
+  start = start;
+  comma = nowhere;
+  size_argument = None;
+  size = size;
+  upto = nowhere;
+})
+
+abbrev pub mapped_by : {N : Type 0} → MapTree N → MappedTree N
+mapped_by m = record { at = nowhere; map = m }
+
+-- `X.low`
+abbrev pub low_tree : {N : Type 0} → ExprTree N → ExprTree N
+low_tree e = Postfixed e (Post (Dotted nowhere (Plainly nowhere Low)) NoPosts)
+
+-- the map of a created domain: `blockDist` over it, or `cyclicDist` from its least members
+abbrev pub created_map : {N : Type 0} → CreateWord → ExprTree N → MappedTree N
+created_map CreateBlock e = mapped_by (block_map (One e))
+created_map CreateCyclic e = mapped_by (cyclic_map (StartExpr (low_tree e)))
 
 abbrev pub written_type : {N : Type 0} → TypeTree N → TypedTree N
 written_type type = record { colon = nowhere; type = type }
@@ -95,19 +137,55 @@ module _ {N : Type 0} (known : N → Known) where
   lowered_array a =
       record { from = a.from; over = lowered_over a.over; upto = nowhere; kind_at = nowhere; kind = a.kind }
 
-  -- an initial value that is evaluated once: `createDomain(X)` is the domain of X, and no meaning asks for a map
+  -- a map's arguments are evaluated once
+  abbrev pub lowered_start : StartTree N → StartTree N
+  lowered_start (StartExpr e) = StartExpr (lowered_expr known Once e)
+  lowered_start (StartTuple from es upto) = StartTuple nowhere (relisted (lowered_expr known Once) es) nowhere
+
+  abbrev pub lowered_map : MapTree N → MapTree N
+  lowered_map (BlockMap m) = block_map (lowered_item known Once m.box)
+  lowered_map (CyclicMap m) = cyclic_map (lowered_start m.start)
+  lowered_map (BlockCyclicMap m) = block_cyclic_map (lowered_start m.start) (lowered_start m.size)
+
+  abbrev pub lowered_mapped : MappedTree N → MappedTree N
+  lowered_mapped m = mapped_by (lowered_map m.map)
+
+  -- an initial value that is evaluated once: `createDomain(X)` is the domain of X; and its map
+  abbrev pub created_tree : CreateTree N → ExprTree N
+  created_tree c = DomainLiteral c.from (lowered_items known c.items) nowhere
+
   abbrev pub lowered_init : InitTree N → ItemTree N
   lowered_init (ItemInit item mapped) = lowered_side Once item
-  lowered_init (CreateInit c) = One (DomainLiteral c.from (lowered_items known c.items) nowhere)
+  lowered_init (CreateInit c) = One (created_tree c)
 
-  -- the initial value of a plain variable, which is written; that of a cell or a domain, which may be left out
+  abbrev pub lowered_init_map : InitTree N → Option (MappedTree N)
+  lowered_init_map (ItemInit item mapped) = option_map lowered_mapped mapped
+  lowered_init_map (CreateInit c) = Some (created_map c.word (created_tree c))
+
+  abbrev pub lowered_with : InitTree N → Option (MappedTree N) → InitialTree N
+  lowered_with i mapped = mapped_initial nowhere (lowered_init i) mapped
+
+  -- the initial value of a plain variable, which is written; that of a cell, which may be left out
   abbrev pub plain_initial : ExprTree N → Option (InitialTree N) → Option (InitialTree N)
   plain_initial default None = Some (written_initial nowhere (One default))
-  plain_initial default (Some i) = Some (written_initial nowhere (lowered_init i.init))
+  plain_initial default (Some i) = Some (lowered_with i.init (lowered_init_map i.init))
 
   abbrev pub lowered_initial : Option (InitialTree N) → Option (InitialTree N)
   lowered_initial None = None
-  lowered_initial (Some i) = Some (written_initial nowhere (lowered_init i.init))
+  lowered_initial (Some i) = Some (lowered_with i.init (lowered_init_map i.init))
+
+  -- A domain's map, that of its type before that of its initial value; beside a value it stands there.
+  abbrev pub map_by : Option (MappedTree N) → InitTree N → Option (MappedTree N)
+  map_by None i = lowered_init_map i
+  map_by (Some m) i = Some (lowered_mapped m)
+
+  abbrev pub domain_type : DomainTypeTree N → Option (InitialTree N) → Option (TypeTree N)
+  domain_type d None = Some (ranked_type d.rank (option_map lowered_mapped d.mapped))
+  domain_type d (Some i) = root_type (map_by d.mapped i.init)
+
+  abbrev pub domain_initial : DomainTypeTree N → Option (InitialTree N) → Option (InitialTree N)
+  domain_initial d None = None
+  domain_initial d (Some i) = Some (lowered_with i.init (map_by d.mapped i.init))
 
   -- an array's: a budget that is used up is told at `=`; a created domain is none
   abbrev pub array_init : Place → InitTree N → Option (InitialTree N)
@@ -130,7 +208,7 @@ module _ {N : Type 0} (known : N → Known) where
   declared_initial None i = plain_initial (default_tree IntKind) i
   declared_initial (Some (ScalarType at k)) i = plain_initial (default_tree k) i
   declared_initial (Some (SyncType at kind_at k)) i = lowered_initial i
-  declared_initial (Some (DomainType d)) i = lowered_initial i
+  declared_initial (Some (DomainType d)) i = domain_initial d i
   declared_initial (Some (ArrayType a)) i = array_initial i
 
   abbrev pub lowered_declare : DeclareTree N → DeclareTree N
@@ -225,6 +303,6 @@ module _ {N : Type 0} (known : N → Known) where
     lowered_else NoElse = NoElse
     lowered_else (ElseDo at t) = ElseDo nowhere (lowered_stmt t)
 
-  -- a program's `use` lines name modules for maps, and mean nothing by themselves
+  -- a program's `use` lines name modules of maps, and mean nothing by themselves
   abbrev pub lowered_program : ProgramTree N → ProgramTree N
   lowered_program t = record { uses = []; stmts = lowered_stmts t.stmts; end = nowhere }

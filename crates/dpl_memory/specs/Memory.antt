@@ -5,6 +5,7 @@ use Rattle.std.specs.List.{list_any}
 use Rattle.dpl_sets.specs.TextRanges.{TextRange}
 use Rattle.dpl_language.specs.Tree.{Op, Kind, IntKind, BoolKind}
 use Rattle.dpl_language.specs.Values.{Value, Int, Domain, Array, Tuple, Index, ranges_in, coordinates, kept_number}
+use Rattle.dpl_language.specs.Distributions.{Root, no_root}
 use Rattle.dpl_language.specs.Arithmetic.{assigned}
 use Rattle.dpl_language.specs.Ranges.{indices_in, same_index, empty_domain}
 use Rattle.dpl_language.specs.Environment.{Content, Plain, ArrayOf, CellOf, Unanswered, Environment}
@@ -67,12 +68,13 @@ element_as IntKind w = Int w
 element_as BoolKind w = is_true w
 
 -- A MEMORY: the words and ranges of plain variables, with the reduce variables of the forall around and what the command
--- line sets; and by the same slots domains, tuples and arrays
+-- line sets; and by the same slots domains, tuples and arrays, and the roots of domains and arrays
 pub record Memory : Type 0 where
   pub words : Words
   pub domains : List (List TextRange)
   pub tuples : List Index
   pub arrays : List Held
+  pub roots : List Root
 
 -- what stands in a slot past the last one, and at the start: the domain `{1..0}`, the index 0, and an array over that domain
 abbrev pub no_domain : List TextRange
@@ -152,9 +154,25 @@ abbrev pub anew : List ℕ → Memory → Memory
 anew [] s = s
 anew (slot ∷ slots) s = renewed slot (anew slots s)
 
+-- ROOTS of domains and arrays: that of a slot; and the memory in which one has no root, and in which it has this one
+abbrev pub root_in : VariableKind → ℕ → List Root → Root
+root_in (PlainKind k) slot roots = no_root
+root_in DomainKind slot roots = get_or roots slot no_root
+root_in TupleKind slot roots = no_root
+root_in (ArrayKind k) slot roots = get_or roots slot no_root
+
+abbrev pub with_root : ℕ → Root → Memory → Memory
+with_root slot r s = record s { roots = set s.roots slot r }
+
+abbrev pub undealt : VariableKind → ℕ → Memory → Memory
+undealt (PlainKind k) slot s = s
+undealt DomainKind slot s = with_root slot no_root s
+undealt TupleKind slot s = s
+undealt (ArrayKind k) slot s = with_root slot no_root s
+
 abbrev pub declared : Variable → Content Variable → Memory → Memory
-declared x (Plain v) s = with_value_in x.kind x.slot v (anew x.along s)
-declared x (ArrayOf over k rs vs) s = declared_array x.kind x.slot (whole_held rs (map kept_number vs)) s
+declared x (Plain v) s = undealt x.kind x.slot (with_value_in x.kind x.slot v (anew x.along s))
+declared x (ArrayOf over k rs vs) s = undealt x.kind x.slot (declared_array x.kind x.slot (whole_held rs (map kept_number vs)) s)
 declared x (CellOf k c) s = s
 
 -- the value that the command line gives: to plain variables alone
@@ -204,6 +222,8 @@ in_memory = record {
   element = λ x t s. element_in x.kind x.slot t s;
   put_element = λ x t v s. with_element_in x.kind x.slot t v s;
   declare = declared;
+  root = λ x s. root_in x.kind x.slot s.roots;
+  deal = λ x r s. with_root x.slot r s;
   given = λ x s. given_in x.kind x.slot s;
   enter = λ s. s;
   leave = λ s. s;

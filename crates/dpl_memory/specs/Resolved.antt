@@ -6,6 +6,7 @@ use Rattle.dpl_syntax.specs.declared.place.Place.{Place}
 use Rattle.dpl_sets.specs.TextRanges.{TextRange}
 use Rattle.dpl_language.specs.Tree.{Op, Assign, Set, SetAdd, SetSubtract, SetMultiply, SetDivide, SetRemainder, SetReduce, ItemTree, Items, Kind, IntKind, BoolKind}
 use Rattle.dpl_language.specs.Values.{Value, Int, Truth, Domain, Tuple, Index, ranges_in, coordinates}
+use Rattle.dpl_language.specs.Distributions.{no_root}
 use Rattle.dpl_language.specs.Ranges.{indices_in, loop_ranges, loop_value}
 use Rattle.dpl_language.specs.Outcome.{Outcome, Done, Stop, Waits}
 use Rattle.dpl_language.specs.Environment.{Content, Plain, ArrayOf, CellOf, Limits}
@@ -376,7 +377,7 @@ left_in fs (Done s done) = Some (frame_in s (names_in_order fs))
 left_in fs (Stop f done) = None
 left_in fs (Waits at c op done) = None
 
--- A memory at the start: in each slot a word, a range, a domain, a tuple and an array.
+-- A memory at the start: in each slot a word, a range, a domain, a tuple, an array and a root.
 abbrev pub first_memory : Start → Memory
 first_memory start = record {
   words = record {
@@ -388,6 +389,7 @@ first_memory start = record {
   domains = replicate start.slots no_domain;
   tuples = replicate start.slots no_tuple;
   arrays = replicate start.slots no_array;
+  roots = replicate start.slots no_root;
 }
 
 -- as many of each kind as there are slots
@@ -397,6 +399,7 @@ pub record HasSlots (slots : ℕ) (s : Memory) : Type 0 where
   pub domains : length s.domains ≡ slots
   pub tuples : length s.tuples ≡ slots
   pub arrays : length s.arrays ≡ slots
+  pub roots : length s.roots ≡ slots
 
 abbrev pub own_store : Store → Store
 own_store [] = []

@@ -11,15 +11,16 @@ use Rattle.dpl_sets.specs.TextRanges.{TextRange}
 use Rattle.dpl_history.specs.declared.cell.CellState.TheVariants.{Empty, Full}
 use Rattle.dpl_language.specs.Tree.{Placed, Kind, Items, ItemTree, MappedTree, ArrayTypeTree, TypeTree, ScalarType, SyncType}
 use Rattle.dpl_language.specs.Tree.{DomainType as DomainWritten, ArrayType as ArrayWritten, InitTree, ItemInit, CreateInit, InitialTree, DeclareTree, Declare}
-use Rattle.dpl_language.specs.Values.{Value, Int, Domain, Index, Fault, fault, Budget, ArrayTooLarge, default, kept_number, ranges_in, all_ranges}
+use Rattle.dpl_language.specs.Values.{Value, Int, Truth, Range, Domain, Array, Cell, Locale, AllLocales, Tuple, Index, Fault, fault, Budget, ArrayTooLarge, default, kept_number, ranges_in, all_ranges}
 use Rattle.dpl_language.specs.Ranges.{empty_domain, sized, too_large, indices_in, size_in}
 use Rattle.dpl_language.specs.Names.{Text, State, Declared as Kept, by_name}
-use Rattle.dpl_language.specs.Outcome.{Deeds, Run, unless, naming_value}
+use Rattle.dpl_language.specs.Outcome.{Deeds, Outcome, Done, Stop, Waits, Run, then_do, unless, naming_value}
 use Rattle.dpl_language.specs.Environment.{Content, Plain, ArrayOf, CellOf, Limits}
 use Rattle.dpl_language.specs.Phrases.{declared_over}
 use Rattle.dpl_language.specs.Expressions.{item_of, items_of, whole_item, domain_of as domain_value}
 use Rattle.dpl_language.specs.Declarations.{Shell, array_with, gathered, filled, type_of as written_type, declaring, initial_then, declare_with}
-use Rattle.dpl_language.specs.Declarations.{array_of_item, array_of_init, array_of, declare_array, declare_typed, given_or, declare_by}
+use Rattle.dpl_language.specs.Declarations.{array_of_item, array_of_init, array_of, declare_array, declare_typed, given_or, declare_by, declare}
+use Rattle.dpl_language.specs.Roots.{deal_domain, deal_array, deal_by, dealt}
 use Rattle.dpl_language.specs.Statements.{exec}
 use Rattle.dpl_rules.specs.Types.{Origin, Over, ValueType, Scalar, Range as RangeType, Domain as DomainType, Array as ArrayType}
 use Rattle.dpl_rules.specs.Types.{Promoted, Tuple as TupleType, Locale as LocaleType, AllLocales as AllLocalesType, Cell as CellType, domain_of}
@@ -302,6 +303,41 @@ module _ (limits : Limits) (scopes : Scopes) where
   config-leaves None d s done P given p = p
   config-leaves (Some config) d s done P given p = given
 
+  -- roots are kept beside the store
+  dealt-leaves : (after : Scopes) (d : DeclareTree Text) (s : State) (o : Outcome State) → Leaves (Keeps after) o → Leaves (Keeps after) (then_do o (λ t done. Done (dealt limits by_name d s t) done))
+  dealt-leaves after d s (Done t done) k = subst (λ store. StoreFits after store) (sym (dealt-store (written_type d.typed) (by_name.get d.name.name t))) k
+    where
+      domain-store : (type : Option (TypeTree Text)) (v : Value) → (deal_domain limits by_name type d.initial d.name.name v s t).store ≡ t.store
+      domain-store type (Int n) = refl
+      domain-store type (Truth b) = refl
+      domain-store type (Range r) = refl
+      domain-store type (Domain rs) = refl
+      domain-store type (Array k rs) = refl
+      domain-store type (Cell k) = refl
+      domain-store type (Locale n) = refl
+      domain-store type AllLocales = refl
+      domain-store type (Tuple is) = refl
+
+      array-store : (a : ArrayTypeTree Text) (v : Value) → (deal_array limits by_name a d.name.name v s t).store ≡ t.store
+      array-store a (Int n) = refl
+      array-store a (Truth b) = refl
+      array-store a (Range r) = refl
+      array-store a (Domain rs) = refl
+      array-store a (Array k rs) = refl
+      array-store a (Cell k) = refl
+      array-store a (Locale n) = refl
+      array-store a AllLocales = refl
+      array-store a (Tuple is) = refl
+
+      dealt-store : (type : Option (TypeTree Text)) (v : Value) → (deal_by limits by_name type d.initial d.name.name v s t).store ≡ t.store
+      dealt-store None v = domain-store None v
+      dealt-store (Some (ScalarType at k)) v = domain-store (Some (ScalarType at k)) v
+      dealt-store (Some (SyncType at kind_at k)) v = domain-store (Some (SyncType at kind_at k)) v
+      dealt-store (Some (DomainWritten t)) v = domain-store (Some (DomainWritten t)) v
+      dealt-store (Some (ArrayWritten a)) v = array-store a v
+  dealt-leaves after d s (Stop f done) k = k
+  dealt-leaves after d s (Waits at c op done) k = k
+
   -- A declaration of a name that its scope doesn't have, whose initial value has a type: what it leaves, where it
   -- leaves a state, has what the scopes behind it declare. Of other programs C2 and the initial value's breach are told.
   pub declare-leaves : (d : DeclareTree Text) (s : State) (done : Deeds) → declared_here scopes d.name.name ≡ false
@@ -309,9 +345,10 @@ module _ (limits : Limits) (scopes : Scopes) where
       → Leaves (Keeps (behind scopes (Declare d))) (exec limits by_name (Declare d) s done)
   declare-leaves d s done new w f side replied given kept =
       let made = declared_by scopes d in
+      dealt-leaves (add made scopes) d s (declare limits by_name d s done) (
       let typed = declare_typed-leaves d.name made refl new (written_type d.typed) (origin_in scopes d.name.name) (declaration_breaches scopes d) d.initial s done refl
       (declaration-written d) w f side replied kept in
       config-leaves d.config d s done (Keeps (add made scopes))
       (given_or-leaves d.name made refl new (by_name.given d.name.name s) (declare_typed limits by_name d.name (written_type d.typed) d.initial) s done kept
       (λ v e. plain_given made.type v (λ t h. given t v h e)) typed)
-      typed
+      typed)

@@ -9,7 +9,7 @@ use Rattle.dpl_sets.specs.TextDomains.{text_expanded}
 use Rattle.dpl_language.specs.Tree.{Kind, IntKind, Word, Size, First, Last, Low, High, LowBound, DomainOf, Id, Posts}
 use Rattle.dpl_language.specs.Tree.{NoPosts, Post, PostTree, Brackets, Rounds, Dotted, MethodTree, Plainly, Dim, Contains, Expand, CellRead}
 use Rattle.dpl_language.specs.Values.{Value, Range, Domain, Locale, Index, Fault, fault, PastLimit, NoLocale, number, ranges_in, all_ranges, index_of}
-use Rattle.dpl_language.specs.Ranges.{all_sliced, range_sliced, too_many, bounds_past_limit, expanded, dimension, members_of_first, first_of, last_of, least_of, greatest_of, end_of, method_of}
+use Rattle.dpl_language.specs.Ranges.{all_sliced, range_sliced, too_many, bounds_past_limit, expanded, dimension, members_of_first, first_of, last_of, least_of, greatest_of, end_of, low_of, method_of}
 use Rattle.dpl_language.specs.Names.{Text}
 use Rattle.dpl_language.specs.Outcome.{with_ok}
 use Rattle.dpl_language.specs.Environment.{Environment, Limits}
@@ -75,11 +75,25 @@ domain_over-has at LocaleType u h = absurd cc
 domain_over-has at AllLocalesType u h = absurd cc
 domain_over-has at (CellType k) u h = absurd cc
 
+-- the least member of a range is that of its one range
+low-gives : (at : Place) (t u : ValueType) → is_range t ≡ true → an_int ≡ u → Gives t u (low_of at)
+low-gives at (Scalar k) u b e = absurd cc
+low-gives at (RangeType strided) u b e =
+    subst (λ u. Gives (RangeType strided) u (low_of at)) e
+    (λ i. refl, λ v hv. subst (λ v. IfOk (low_of at v) (λ w. HasType w an_int)) (sym hv.1) (end_of-kind at least_of (members_of_first (hv.0 ∷ []))))
+low-gives at (DomainType rank strided) u b e = absurd cc
+low-gives at (ArrayType k over) u b e = absurd cc
+low-gives at (Promoted k over) u b e = absurd cc
+low-gives at (TupleType rank) u b e = absurd cc
+low-gives at LocaleType u b e = absurd cc
+low-gives at AllLocalesType u b e = absurd cc
+low-gives at (CellType k) u b e = absurd cc
+
 method_of-has : (at : Place) (w : Word) (t u : ValueType) → type_by (word_verdict at w t) ≡ Some u → Gives t u (method_of w at)
 method_of-has at Size t u h = ints-give t u (method_of Size at) (λ v. (_, refl)) (has_if-gives (is_range t || is_domain t) an_int at u h).1
 method_of-has at First t u h = ends-give at first_of t u (has_if-gives (is_range t) an_int at u h).1
 method_of-has at Last t u h = ends-give at last_of t u (has_if-gives (is_range t) an_int at u h).1
-method_of-has at Low t u h = ends-give at least_of t u (has_if-gives (is_range t) an_int at u h).1
+method_of-has at Low t u h = low-gives at t u (has_if-gives (is_range t) an_int at u h).0 (has_if-gives (is_range t) an_int at u h).1
 method_of-has at High t u h = ends-give at greatest_of t u (has_if-gives (is_range t) an_int at u h).1
 method_of-has at LowBound t u h = absurd cc
 method_of-has at DomainOf t u h = domain_over-has at t u h

@@ -112,7 +112,7 @@ abbrev one_range : List TextRange
 one_range = unstrided (pos 1) (pos 1) ∷ []
 
 abbrev at_the_top : State
-at_the_top = record { store = Opened ∷ []; intents = []; here = pos 0; sets = []; replies = None; histories = [] }
+at_the_top = record { store = Opened ∷ []; roots = Opened ∷ []; intents = []; here = pos 0; sets = []; replies = None; histories = [] }
 
 abbrev one_state : State
 one_state = by_name.declare (codes "A") (ArrayOf None BoolKind one_range (Truth true ∷ [])) at_the_top
