@@ -1,14 +1,22 @@
 -- The plain statement that a typed statement stands for.
 -- It is a lowered one over slots: each body is a list, and the places are those of faults alone.
-use Rattle.std.specs.Prelude.{ℕ, Bool, false, Option, Some, None, List, [], ◌∷◌, map}
+use Rattle.std.specs.Borrow.{Bor}
+use Rattle.std.specs.Prelude.{ℕ, Bool, false, Option, Some, None, List, [], ◌∷◌, map, option_map}
 use Rattle.dpl_syntax.specs.declared.place.Place.{Place}
-use Rattle.dpl_language.specs.Tree.{Placed, AfterComma, Listed, Op, Assign, Set, SetAdd, SetSubtract, SetMultiply, SetDivide, SetRemainder, SetReduce, Kind, IntKind, BoolKind, ExprTree, Grouped, Items, ItemTree, One, TypeTree, DomainType, ArrayType, InitialTree, ArgumentTree, TextArgument, ExprArgument, VariablesTree, OneVariable, ManyVariables, Whole, Element, Square, StmtTree, Nothing, Declare, Assigned, Write, Block, If, While, For, Forall, Body, BlockBody, Stmts, NoStmts, Then, Else, NoElse, ElseDo}
+use Rattle.dpl_language.specs.Tree.{Placed, AfterComma, Listed, Op, Assign, Set, SetAdd, SetSubtract, SetMultiply, SetDivide, SetRemainder, SetReduce, Kind, IntKind, BoolKind, ExprTree, Grouped, Items, ItemTree, One, Plainly, StartTree, StartExpr, StartTuple, MapTree, MappedTree, CreateBlock, CreateCyclic, TypeTree, ArrayType, InitialTree, ArgumentTree, TextArgument, ExprArgument, VariablesTree, OneVariable, ManyVariables, Whole, Element, Square, StmtTree, Nothing, Declare, Assigned, Write, Block, If, While, For, Forall, Body, BlockBody, Stmts, NoStmts, Then, Else, NoElse, ElseDo}
 use Rattle.dpl_language.specs.Arithmetic.{assign_divides}
 use Rattle.dpl_lowered.specs.Shapes.{nowhere, kept}
 use Rattle.dpl_lowered.specs.LoweredExpressions.{EachTurn}
-use Rattle.dpl_lowered.specs.LoweredStatements.{written_initial, written_type, with_intents}
+use Rattle.dpl_lowered.specs.LoweredStatements.{mapped_initial, written_initial, ranked_type, block_map, cyclic_map, block_cyclic_map, mapped_by, created_map, written_type, with_intents}
 use Rattle.dpl_memory.specs.Memory.{DomainKind, TupleKind, ArrayKind, Variable, variable, int_leaf, truth_leaf, range_leaf}
-use Rattle.dpl_nodes.specs.declared.tree.IndexExpr.{IndexExpr}
+use Rattle.dpl_nodes.specs.declared.tree.IndexExpr.{IndexExpr, Line', Plane', Space', Tuple as TupleIndex}
+use Rattle.dpl_nodes.specs.declared.placing.StartExpr.{StartExpr as StartNode}
+use Rattle.dpl_nodes.specs.declared.placing.StartExpr.TheVariants.{Index, Least}
+use Rattle.dpl_nodes.specs.declared.placing.MapExpr.{MapExpr}
+use Rattle.dpl_nodes.specs.declared.placing.MapExpr.TheVariants as maps
+use Rattle.dpl_nodes.specs.declared.placing.Placing.{Placing}
+use Rattle.dpl_nodes.specs.declared.placing.Placing.TheVariants.{Derived, Mapped, BlockCreated, CyclicCreated}
+use Rattle.dpl_nodes.specs.declared.placing.Placing.TheVariants as placing
 use Rattle.dpl_nodes.specs.declared.step.Argument.{Argument}
 use Rattle.dpl_nodes.specs.declared.step.Argument.TheVariants.{Text as TextNode, Int as IntNode, Truth as TruthNode, Array as ArrayNode}
 use Rattle.dpl_nodes.specs.declared.step.Intent.{Intent}
@@ -29,7 +37,7 @@ use Rattle.dpl_nodes.specs.declared.step.IntDeed.TheVariants as deeds
 use Rattle.dpl_nodes.specs.declared.step.TruthDeed.{TruthDeed}
 use Rattle.dpl_nodes.specs.declared.step.TruthDeed.TheVariants as deed
 use Rattle.dpl_nodes.specs.declared.step.Else.{Else as ElseNode, Absent, Do'}
-use Rattle.dpl_nodes.specs.Typed.{leaf_named, items_one, int_view, truth_view, range_item, ranges_items, index_exprs, domain_view, promoted_int, promoted_truth}
+use Rattle.dpl_nodes.specs.Typed.{leaf_named, dotted, tuple_named, items_one, int_view, truth_view, range_item, ranges_items, index_exprs, domain_view, promoted_int, promoted_truth}
 
 -- a name that no fault tells
 abbrev pub unplaced_leaf : Variable → Placed Variable
@@ -133,15 +141,61 @@ dimensions rank.Line = 1
 dimensions rank.Plane = 2
 dimensions rank.Space = 3
 
-abbrev pub of_rank : Rank → TypeTree Variable
-of_rank rank = DomainType (record {
+-- MAPS
+abbrev behind : ExprTree Variable → AfterComma (ExprTree Variable)
+behind e = record { comma = nowhere; part = e }
+
+-- an index is one expression, or a tuple of two or three
+abbrev pub index_start : IndexExpr → StartTree Variable
+index_start (Line' p a) = StartExpr (int_view a)
+index_start (Plane' p a q b) = StartTuple nowhere (record { first = int_view a; others = behind (int_view b) ∷ [] }) nowhere
+index_start (Space' p a q b r c) =
+    StartTuple nowhere (record { first = int_view a; others = behind (int_view b) ∷ behind (int_view c) ∷ [] }) nowhere
+index_start (TupleIndex slot) = StartExpr (tuple_named slot)
+
+abbrev pub start_view : StartNode → StartTree Variable
+start_view (Index t) = index_start t.now
+start_view (Least d at w) = StartExpr (dotted (domain_view d.now) (Plainly at.now w))
+
+abbrev pub map_view : MapExpr → MapTree Variable
+map_view (maps.Block d) = block_map (One (domain_view d.now))
+map_view (maps.Cyclic e) = cyclic_map (start_view e)
+map_view (maps.BlockCyclic e sizes) = block_cyclic_map (start_view e) (start_view sizes)
+
+-- what is said of a map stands beside an initial value, or as a type
+abbrev pub placed_map : Placing → ExprTree Variable → Option (MappedTree Variable)
+placed_map Derived e = None
+placed_map placing.Root e = None
+placed_map (Mapped m) e = Some (mapped_by (map_view m.now))
+placed_map BlockCreated e = Some (created_map CreateBlock e)
+placed_map CyclicCreated e = Some (created_map CreateCyclic e)
+
+abbrev pub placed_type : Placing → Option (TypeTree Variable)
+placed_type Derived = None
+placed_type placing.Root = Some (ranked_type 0 None)
+placed_type (Mapped m) = None
+placed_type BlockCreated = None
+placed_type CyclicCreated = None
+
+abbrev pub mapped_view : Option (Bor MapExpr) → Option (MappedTree Variable)
+mapped_view None = None
+mapped_view (Some m) = Some (mapped_by (map_view m.now))
+
+-- a domain's declaration with an initial value; and without one, of a rank
+abbrev pub domain_declared : ℕ → ExprTree Variable → Placing → StmtTree Variable
+domain_declared slot e placing = Declare (record {
+  config = None;
   at = nowhere;
-  from = nowhere;
-  rank_at = nowhere;
-  rank = dimensions rank;
-  upto = nowhere;
-  mapped = None;
+  constant = false;
+  name = unplaced_leaf (variable DomainKind slot);
+  typed = option_map written_type (placed_type placing);
+  initial = Some (mapped_initial nowhere (One e) (placed_map placing e));
+  semicolon = nowhere;
 })
+
+abbrev pub empty_declared : ℕ → Rank → Option (Bor MapExpr) → StmtTree Variable
+empty_declared slot rank mapped =
+    declared_with (unplaced_leaf (variable DomainKind slot)) (ranked_type (dimensions rank) (mapped_view mapped)) None
 
 -- what stands between an array's brackets
 abbrev pub over_items : DeclaredOver → Items Variable
@@ -205,8 +259,8 @@ abbrev mutual
   step_view (DeclareRange slot e) = declared_as None (range_leaf slot) (range_item e.now)
   step_view (SetRange slot e) = assigned_to (range_leaf slot) Set nowhere (range_item e.now)
   step_view (TruthStep deed slot e) = truth_changed deed slot (One (truth_view e.now))
-  step_view (DeclareDomain slot e placing) = declared_as None (variable DomainKind slot) (One (domain_view e.now))
-  step_view (DeclareEmpty slot rank placing) = declared_with (unplaced_leaf (variable DomainKind slot)) (of_rank rank) None
+  step_view (DeclareDomain slot e placing) = domain_declared slot (domain_view e.now) placing
+  step_view (DeclareEmpty slot rank mapped) = empty_declared slot rank mapped
   step_view (SetDomain x e) = whole_set (domain_leaf x.now) Set nowhere (domain_view e.now)
   step_view (DeclareArray d) = array_declared d.now
   step_view (SetElement x t op at e) = element_set (array_leaf IntKind x.now) t.now op at.now (int_view e.now)

@@ -1,7 +1,7 @@
 // Typed statements. A variable is its slot, a body is a list, and each declaration of a plain variable has an initial value.
 // They lie in the arena of the tree; specs/Steps.antt gives the plain statement that each stands for.
 
-use crate::placing::Placing;
+use crate::placing::{MapExpr, Placing};
 use crate::spot::Spot;
 use crate::tree::{
     BoolExpr, DomainExpr, IndexExpr, IntExpr, PromotedInt, PromotedTruth, RangeExpr, RangesExpr,
@@ -140,9 +140,10 @@ pub enum Step<'t> {
     SetRange(usize, &'t RangeExpr<'t>),
     /// A truth value's declaration, or an assignment to it.
     Truth(TruthDeed, usize, &'t BoolExpr<'t>),
-    /// A domain's declaration, with its initial value; or without one, with its rank. And with its map.
-    DeclareDomain(usize, &'t DomainExpr<'t>, Placing),
-    DeclareEmpty(usize, Rank, Placing),
+    /// A domain's declaration, with its initial value and what is said of its map; or without one, with its rank and its map, if one
+    /// is named.
+    DeclareDomain(usize, &'t DomainExpr<'t>, Placing<'t>),
+    DeclareEmpty(usize, Rank, Option<&'t MapExpr<'t>>),
     /// `=` to a domain, with which the arrays that are declared over it change.
     SetDomain(&'t DomainName<'t>, &'t DomainExpr<'t>),
     DeclareArray(&'t ArrayDeclaration<'t>),
