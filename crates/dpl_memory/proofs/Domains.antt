@@ -196,6 +196,7 @@ module _ (x : Variable) (rs : List TextRange) (slots : ℕ) (s : Memory) (h : Ha
     domains = length-set s.domains x.slot rs ∙ h.domains;
     tuples = h.tuples;
     arrays = length-redomained 0 x.along rs s.arrays ∙ h.arrays;
+    roots = h.roots;
   })
 
   pub redomained-intents : new.words ≡ s.words

@@ -8,6 +8,7 @@ pub mod OverShapes
 pub mod Shapes
 pub mod Domains
 pub mod Wholes
+pub mod Roots
 pub mod MemoryAgrees
 -- How a program is seen to fit, and samples.
 pub mod Suiting

@@ -1,25 +1,29 @@
 -- A resolved data-parallel program runs in a memory as it runs by names.
 -- Each step of the one is a step of the other where a name has the kind and the slot of its innermost declaration and holds its kind.
 use Rattle.std.proofs.Common.{◌≡◌, ◌≢◌, ℕ, ◌<◌, ◌++◌, pos, true, List, [], ◌∷◌, refl, sym, ap, ◌∙◌, subst, Some, None, Option, map}
-use Rattle.std.specs.Prelude.{All, Ok, option_map}
+use Rattle.std.specs.Prelude.{All, Ok, option_map, bytes_eq, if◌then◌else◌}
+use Rattle.std.specs.Option.{option_or}
+use Rattle.std.proofs.lemmas.Slice.Eq.{bytes_eq-Decides}
 use Rattle.std.proofs.lemmas.List.{get_or-set_other, length-set, length-replicate, map-append, append-nil, append_assoc}
 use Rattle.std.proofs.lemmas.List.Elements.{All-weaker}
 use Rattle.dpl_history.specs.declared.history.Event.{Event}
 use Rattle.dpl_sets.specs.TextRanges.{TextRange}
 use Rattle.dpl_language.specs.Tree.{Op, Kind, Assign, Set, SetAdd, SetSubtract, SetMultiply, SetDivide, SetRemainder, SetReduce, ItemTree, Stmts, ProgramTree}
-use Rattle.dpl_language.specs.Values.{Value, Int, Range, Domain, Tuple, Index, index_of, ranges_in, array_domain, is_domain, kept_number}
+use Rattle.dpl_language.specs.Values.{Value, Int, Range, Domain, Tuple, Index, index_of, ranges_in, array_domain, is_domain, is_distributed, kept_number}
+use Rattle.dpl_language.specs.Distributions.{Root, no_root}
 use Rattle.dpl_language.specs.Arithmetic.{assigned}
 use Rattle.dpl_language.specs.Outcome.{Deeds, no_deeds, Outcome, Done, Stop, Waits}
 use Rattle.dpl_language.specs.Environment.{Content, Plain, ArrayOf, CellOf, Limits}
 use Rattle.dpl_language.specs.Phrases.{item_read}
 use Rattle.dpl_language.specs.Expressions.{item_of}
 use Rattle.dpl_language.specs.Statements.{exec_all}
-use Rattle.dpl_language.specs.Names.{Text, Opened, Declared, Store, State, paired, look_up, change_in, element_at, with_element, without_innermost, value_in as name_value, update_in, element_in, put_in, redomain_in, arrays_over as named_arrays, by_name}
+use Rattle.dpl_language.specs.Names.{Text, Opened, Declared, Store, State, paired, innermost as root_of_name, look_up, change_in, element_at, with_element, without_innermost, value_in as name_value, update_in, element_in, put_in, redomain_in, arrays_over as named_arrays, by_name}
 use Rattle.dpl_language.specs.Program.{first_state, meaning, top_level, own_entry, own_frame, left, written}
 use Rattle.dpl_agreement.specs.Renamed.{renamed_content, renamed_item, renamed_intents, renamed_stmts, renamed_program}
 use Rattle.dpl_agreement.specs.Scopes.{Form, PlainForm, ArrayForm, form_of, IsLawful, after_all, fits_all}
 use Rattle.dpl_agreement.specs.Agreement.{MayRead, MayBe, WasDomain, Simulates, EndsAlike}
 use Rattle.dpl_agreement.proofs.Slots.{Bound as SlotBound, Name, IsFresh, set_slot, spelled, store_at, store_at-set, slot_of, slot_of-apart, look_up-slot, change_in-slot, declared-slot, without_innermost-store_at}
+use Rattle.dpl_agreement.proofs.SlotRoots.{Roots, set_root, roots_at, root-slot, declared-root, deal-slot, left-roots}
 use Rattle.dpl_agreement.proofs.SlotDomains.{OverNamed, OverResolves, Overs, Overs-declare, Overs-without_frame, redomain_in-slots, arrays_over-slots}
 use Rattle.dpl_agreement.proofs.SlotsAgree.{updated, with_value_at as with_element_at, put-spelled}
 use Rattle.dpl_agreement.proofs.RunsAlike.{EndsAlike-weaker, settled-alike, written-alike}
@@ -29,15 +33,30 @@ use Rattle.dpl_agreement.proofs.Agreement.{exec_all-alike}
 use Rattle.dpl_sound.specs.Typed.{AreRanked}
 use Rattle.dpl_words.specs.Words.{IntLeaf, TruthLeaf, RangeLeaf, no_range, is_true, intent_at, set_at, given_as}
 use Rattle.dpl_words.proofs.OfKind.{given-kind}
-use Rattle.dpl_memory.specs.Memory.{VariableKind, PlainKind, DomainKind, TupleKind, ArrayKind, Held, whole_held, Memory, is_among, redomained_from, no_domain, no_tuple, no_array, value_in, with_value_in, array_at, held_with, element_in as element_in_memory, with_element_in, declared_array, renewed, anew, element_as, intents_by_slot, redomained_in, is_some_array, intended, given_in, in_memory}
-use Rattle.dpl_memory.specs.Resolved.{Bound, Sighted, Sight, text_of, variable_of, written_over, if_domain, domain_among, over_of, sighted, arrays_over, names_in_order, left_in, entry_in, declared_in, frame_in, own_store, store_in, content_in, IsUnused, AreUnused, bind, without_frame, Seen, first_seen, MaySpan, IsOf, IsWhole, HasShape, MayHold, Shape, no_shape, IsShaped, HasNoArray, GivesOnce, SuitsKind, ArraysResolve, IsNew, OverResolves as OverIsFound, Holds, kind_takes, KindCombines, IntentResolves, Resolves, Declares, IsGivenAs, Start, resolving, first_memory, HasSlots, StandsFor}
+use Rattle.dpl_memory.specs.Memory.{VariableKind, PlainKind, DomainKind, TupleKind, ArrayKind, Held, whole_held, Memory, is_among, redomained_from, no_domain, no_tuple, no_array, value_in, with_value_in, array_at, held_with, element_in as element_in_memory, with_element_in, declared_array, root_in, with_root, undealt, renewed, anew, element_as, intents_by_slot, redomained_in, is_some_array, intended, given_in, in_memory}
+use Rattle.dpl_memory.specs.Resolved.{Bound, Sighted, Sight, known_in, innermost, text_of, variable_of, written_over, if_domain, domain_among, over_of, sighted, arrays_over, names_in_order, left_in, entry_in, declared_in, frame_in, own_store, store_in, content_in, IsUnused, AreUnused, bind, without_frame, Seen, first_seen, MaySpan, IsOf, IsWhole, HasShape, MayHold, Shape, no_shape, IsShaped, HasNoArray, GivesOnce, SuitsKind, ArraysResolve, IsNew, OverResolves as OverIsFound, Holds, kind_takes, KindCombines, IntentResolves, Resolves, Declares, IsGivenAs, Start, resolving, first_memory, HasSlots, StandsFor}
+use Rattle.dpl_memory.proofs.Roots.{roots-set_in, roots-element, roots-array, roots-redomained, content_in-root, slots-root, root_in-other, root_in-same, content_in-undealt, slots-undealt, words-undealt, value_in-undealt, whole-undealt, root_in-undealt_here, root_in-undealt_other, roots_at-each, set_root-each, roots_at-unused}
 use Rattle.dpl_memory.proofs.Elements.{element_at-words, with_element-words, elements-kept, assigned-element}
 use Rattle.dpl_memory.proofs.OfKind.{content_in-set_same, content_in-set_other, content_in-array_same, content_in-array_other, slots-set, slots-array, intents-set_in, sets-set_in, value_in-array, value_in-plain, value_in-domain, assigned-of}
 use Rattle.dpl_memory.proofs.InSight.{placed, placed_over, placed_name, in_slots, IsOpen, IsOpen-bind, AreApart, AreApart-bind, AreApart-without_frame, IsApart-in_slots, slot_of-innermost, IsFresh-in_slots, in_slots-bind, in_slots-without_frame, without_frame-bind, Told, told_of, texts_of, IsTold, Finds, innermost-told, with_told, with_told_here, with_told_other, IsTold-after, IsTold-bind, IsTold-without_frame, contents, over_text-placed, store_at-contents, store_at-each, store_at-intend, set_slot-each, Overs-contents, Overs-each}
 use Rattle.dpl_memory.proofs.OverShapes.{KnownBy, OverKnown, OversShaped, over-after, OversShaped-after, OversShaped-bind, OversShaped-without_frame, arrays-shaped}
-use Rattle.dpl_memory.proofs.Shapes.{HasToldShape, IsShapedBy, told-shaped, shaped-told, shaped-changed, shaped-declared, shaped-set, assigned-shaped, shaped-element, shaped-array, shaped-redomained, shaped-intended, given-shaped}
+use Rattle.dpl_memory.proofs.Shapes.{HasToldShape, IsShapedBy, told-shaped, shaped-told, shaped-changed, shaped-declared, shaped-set, assigned-shaped, shaped-element, shaped-array, shaped-redomained, shaped-intended, shaped-root, given-shaped}
 use Rattle.dpl_memory.proofs.Wholes.{AreWhole, whole-set, whole-element, whole-declared, whole-redomained, whole-first}
 use Rattle.dpl_memory.proofs.Domains.{OverNamed-texts, Overs-texts, OverFits, FitIn, Fit, Tells, arrays_over-tells, any_over-told, redomained-slots, redomained-intents, store-redomained}
+
+-- the root of each slot, by what is told of it
+abbrev roots_by : (ℕ → Told) → List Root → Roots
+roots_by told rs j = root_in (told j).kind j rs
+
+-- a name is found behind its declaration
+known_in-append : (x : Bound) (form : Form Bound) (bs : List Sighted) → known_in x.text (bs ++ sighted x form ∷ []) ≡ Some (x.variable.kind, x.variable.slot, x.shape)
+known_in-append x form [] =
+    ap (λ t. if t then Some (x.variable.kind, x.variable.slot, x.shape) else None) ((bytes_eq-Decides x.text x.text).1 refl)
+known_in-append x form (b ∷ bs) = ap (λ o. option_or o (if bytes_eq x.text b.text then Some (b.kind, b.slot, b.shape) else None)) (known_in-append x form bs)
+
+innermost-bind : (x : Bound) (form : Form Bound) (fs : Sight) → innermost x.text (bind (sighted x form) fs) ≡ Some (x.variable.kind, x.variable.slot, x.shape)
+innermost-bind x form [] = ap (λ o. option_or o None) (known_in-append x form [])
+innermost-bind x form (f ∷ fs) = ap (λ o. option_or o (innermost x.text fs)) (known_in-append x form f)
 
 -- THE RELATION: it is told of each slot in sight what it is, and the slots stand for the store
 pub record Kept (start : Start) (g : Seen) (s1 : State) (s2 : Memory) : Type 0 where
@@ -49,6 +68,7 @@ pub record Kept (start : Start) (g : Seen) (s1 : State) (s2 : Memory) : Type 0 w
   pub apart : AreApart g.frames
   pub overs : Overs (texts_of told) (contents told s2) (in_slots g.frames)
   pub store : s1.store ≡ store_at (contents told s2) (in_slots g.frames)
+  pub roots : s1.roots ≡ roots_at (roots_by told s2.roots) (in_slots g.frames)
   pub slots : HasSlots start.slots s2
   pub intents : s1.intents ≡ renamed_intents text_of g.intents
   pub intents_by_slots : s2.words.intents ≡ intents_by_slot (renamed_intents variable_of g.intents)
@@ -62,6 +82,7 @@ resolving-lawful : (start : Start) → IsLawful (resolving start)
 resolving-lawful start = record {
   leave-enter = λ g. refl;
   leave-add = λ x form g. ap (λ fs. record { frames = fs; intents = g.intents }) (without_frame-bind (sighted x form) g.frames);
+  reads-add = λ x form g d. innermost-bind x form g.frames;
 }
 
 -- names that are in sight behind a declaration, or behind a scope, are over what they were over
@@ -215,6 +236,7 @@ slots-renewed slot slots s h = record {
   domains = h.domains;
   tuples = length-set s.tuples slot no_tuple ∙ h.tuples;
   arrays = h.arrays;
+  roots = h.roots;
 }
 
 -- what is told of a slot that no name has
@@ -317,8 +339,8 @@ module _ (start : Start) where
       → ((over : Option SlotBound) → u (content_in x.variable.kind x.variable.slot over s2) ≡ content_in x.variable.kind x.variable.slot over new)
       → ((k : VariableKind) (j : ℕ) (over : Option SlotBound) → j ≢ x.variable.slot → content_in k j over new ≡ content_in k j over s2)
       → HasSlots start.slots new → new.words.intents ≡ s2.words.intents → new.words.sets ≡ s2.words.sets → HasShape x.variable.kind x.shape (value_in x.variable.kind x.variable.slot new)
-      → AreWhole new → Kept start g (record s1 { store = change_in x.text a s1.store }) new
-  changed_alike x a u new g s1 s2 r f p here other h i w shape whole =
+      → AreWhole new → new.roots ≡ s2.roots → Kept start g (record s1 { store = change_in x.text a s1.store }) new
+  changed_alike x a u new g s1 s2 r f p here other h i w shape whole same =
       let slot = x.variable.slot in
       let over = (r.told slot).over in
       let found = finds x g s1 s2 r f in
@@ -338,6 +360,7 @@ module _ (start : Start) where
             (ap (λ k. u (content_in k slot over s2)) kind ∙ here over ∙ sym (ap (λ k. content_in k slot over new) kind))
             (λ j ne. sym (other (r.told j).kind j (r.told j).over ne)))
             (in_slots g.frames);
+        roots = r.roots ∙ ap (λ rs. roots_at (roots_by r.told rs) (in_slots g.frames)) (sym same);
         slots = h;
         intents = r.intents;
         intents_by_slots = i ∙ r.intents_by_slots;
@@ -367,7 +390,7 @@ module _ (start : Start) where
       (λ n. assigned-of kind op intent (value_in kind slot s2) v n t (λ e. subst (λ is. KindCombines kind (intent_at slot is)) (sym r.intents_by_slots) (intent-combines op x g i e)) p.0)
       (assigned-shaped kind x.shape op intent (value_in kind slot s2) v t (λ e. subst (λ is. KindCombines kind (intent_at slot is)) (sym r.intents_by_slots) (intent-combines op x g i e)) p.1)
       (λ w. shaped_sight g s1 s2 r x f) r.slots (finds x g s1 s2 r f).within)
-      (whole-set kind slot (assigned op intent (value_in kind slot s2) v) s2 r.whole)
+      (whole-set kind slot (assigned op intent (value_in kind slot s2) v) s2 r.whole) (roots-set_in kind slot (assigned op intent (value_in kind slot s2) v) s2)
 
   put_alike : (x : Bound) (t : Index) (v : Value) (g : Seen) (s1 : State) (s2 : Memory) → Kept start g s1 s2 → Resolves x g → MayHold x.variable.kind x.shape v
       → Kept start g (by_name.put_element x.text t v s1) (in_memory.put_element x.variable t v s2)
@@ -381,7 +404,7 @@ module _ (start : Start) where
       (ap (λ w. w.intents) (words-element kind slot t v s2))
       (ap (λ w. w.sets) (words-element kind slot t v s2))
       (shaped-element kind x.shape slot t v start.slots s2 r.slots (finds x g s1 s2 r f).within (shaped_sight g s1 s2 r x f))
-      (whole-element kind slot t v s2 r.whole)
+      (whole-element kind slot t v s2 r.whole) (roots-element kind slot t v s2)
 
   -- A DECLARATION
   -- what is told of a name that is declared
@@ -414,8 +437,10 @@ module _ (start : Start) where
       → OverResolves (texts_of (with_told x.variable.slot (told_as x form) r.told)) c (in_slots g.frames)
       → HasSlots start.slots new → new.words.intents ≡ s2.words.intents → new.words.sets ≡ s2.words.sets → HasShape x.variable.kind x.shape (value_in x.variable.kind x.variable.slot new)
       → OverIsFound (written_over form) x.shape g → AreWhole new
-      → Kept start (record g { frames = bind (sighted x form) g.frames }) (record s1 { store = Declared (record { name = x.text; content = spelled c }) ∷ s1.store }) new
-  declared_alike x form c new g s1 s2 r n fits here other resolves h i w shape over whole =
+      → root_in x.variable.kind x.variable.slot new.roots ≡ no_root → ((k : VariableKind) (j : ℕ) → j ≢ x.variable.slot → root_in k j new.roots ≡ root_in k j s2.roots)
+      → Kept start (record g { frames = bind (sighted x form) g.frames })
+      (record s1 { store = Declared (record { name = x.text; content = spelled c }) ∷ s1.store; roots = Declared (record { name = x.text; content = no_root }) ∷ s1.roots }) new
+  declared_alike x form c new g s1 s2 r n fits here other resolves h i w shape over whole none others =
       let slot = x.variable.slot in
       let told = with_told slot (told_as x form) r.told in
       let fresh : IsFresh slot (in_slots g.frames) = IsFresh-in_slots slot g.frames n.unused in
@@ -438,6 +463,14 @@ module _ (start : Start) where
             ap (λ es. Declared (record { name = x.text; content = spelled c }) ∷ es) r.store ∙ declared-slot (placed x) c (in_slots g.frames) (contents r.told s2) fresh
             ∙ store_at-each (set_slot slot c (contents r.told s2)) (contents told new) each (Name (placed x) ∷ in_slots g.frames)
             ∙ ap (store_at (contents told new)) (sym (in_slots-bind (sighted x form) g.frames r.opened));
+        roots =
+            ap (λ es. Declared (record { name = x.text; content = no_root }) ∷ es) r.roots ∙ declared-root (placed x) no_root (in_slots g.frames) (roots_by r.told s2.roots) fresh
+            ∙ roots_at-each (set_root slot no_root (roots_by r.told s2.roots)) (roots_by told new.roots)
+            (set_root-each slot no_root (roots_by r.told s2.roots) (roots_by told new.roots)
+            (sym (ap (λ (t : Told). root_in t.kind slot new.roots) (with_told_here slot (told_as x form) r.told) ∙ none))
+            (λ j ne. sym (ap (λ (t : Told). root_in t.kind j new.roots) (with_told_other j slot (told_as x form) r.told ne) ∙ others (r.told j).kind j ne)))
+            (Name (placed x) ∷ in_slots g.frames)
+            ∙ ap (roots_at (roots_by told new.roots)) (sym (in_slots-bind (sighted x form) g.frames r.opened));
         slots = h;
         intents = r.intents;
         intents_by_slots = i ∙ r.intents_by_slots;
@@ -473,6 +506,8 @@ module _ (start : Start) where
         store =
             r.store ∙ sym (store_at-set slot content (contents r.told s2) (in_slots g.frames) fresh)
             ∙ store_at-each (set_slot slot content (contents r.told s2)) (contents told new) each (in_slots g.frames);
+        roots = r.roots ∙ roots_at-unused slot (roots_by r.told s2.roots) (roots_by told s2.roots) (in_slots g.frames) fresh
+            (λ j ne. sym (ap (λ (t : Told). root_in t.kind j s2.roots) (with_told_other j slot (told_of (nameless slot) None) r.told ne)));
         slots = slots-renewed slot start.slots s2 r.slots;
         intents = r.intents;
         intents_by_slots = r.intents_by_slots;
@@ -501,22 +536,33 @@ module _ (start : Start) where
       let kind = x.variable.kind in
       let slot = x.variable.slot in
       let s3 = anew x.variable.along s2 in
+      let s4 = with_value_in kind slot v s3 in
       let r = anew_alike x.variable.along g s1 s2 before d.0.along in
-      declared_alike x PlainForm (Plain v) (with_value_in kind slot v s3) g s1 s3 r d.0 (fits-none kind)
-      (content_in-set_same kind slot None v start.slots s3 p.0 d.1 r.slots d.0.within)
-      (λ k j over ne. content_in-set_other k kind j slot over v s3 ne) tt (slots-set kind slot v start.slots s3 r.slots) (intents-set_in kind slot v s3) (sets-set_in kind slot v s3)
-      (shaped-set kind x.shape slot v start.slots s3 (λ n. p.0) p.1 (λ w. absurd (d.1 w)) r.slots d.0.within) tt (whole-set kind slot v s3 r.whole)
+      let slots = slots-set kind slot v start.slots s3 r.slots in
+      declared_alike x PlainForm (Plain v) (undealt kind slot s4) g s1 s3 r d.0 (fits-none kind)
+      (content_in-undealt kind slot s4 kind slot None ∙ content_in-set_same kind slot None v start.slots s3 p.0 d.1 r.slots d.0.within)
+      (λ k j over ne. content_in-undealt kind slot s4 k j over ∙ content_in-set_other k kind j slot over v s3 ne) tt (slots-undealt kind slot s4 start.slots slots)
+      (ap (λ w. w.intents) (words-undealt kind slot s4) ∙ intents-set_in kind slot v s3) (ap (λ w. w.sets) (words-undealt kind slot s4) ∙ sets-set_in kind slot v s3)
+      (subst (HasShape kind x.shape) (sym (value_in-undealt kind slot s4)) (shaped-set kind x.shape slot v start.slots s3 (λ n. p.0) p.1 (λ w. absurd (d.1 w)) r.slots d.0.within))
+      tt (whole-undealt kind slot s4 (whole-set kind slot v s3 r.whole)) (root_in-undealt_here kind slot s4 start.slots slots d.0.within)
+      (λ k j ne. root_in-undealt_other kind slot s4 k j ne ∙ ap (root_in k j) (roots-set_in kind slot v s3))
   declare_alike x (ArrayOf over k rs vs) g s1 s2 r d p =
       let kind = x.variable.kind in
       let slot = x.variable.slot in
-      subst (λ o. Kept start (record g { frames = bind (sighted x (ArrayForm over)) g.frames }) (record s1 { store = Declared (record { name = x.text; content = ArrayOf o k rs vs }) ∷ s1.store }) (declared_array kind slot (made rs vs) s2))
+      let s3 = declared_array kind slot (made rs vs) s2 in
+      let slots = slots-declared kind slot (made rs vs) start.slots s2 r.slots in
+      subst (λ o. Kept start (record g { frames = bind (sighted x (ArrayForm over)) g.frames })
+      (record s1 { store = Declared (record { name = x.text; content = ArrayOf o k rs vs }) ∷ s1.store; roots = Declared (record { name = x.text; content = no_root }) ∷ s1.roots }) (undealt kind slot s3))
       (over_text-placed over)
-      (declared_alike x (ArrayForm over) (ArrayOf (placed_over over) k rs vs) (declared_array kind slot (made rs vs) s2) g s1 s2 r d.0 (fits-whole kind (domain_among over) d.1)
-      (declared-content kind x.shape slot (placed_over over) k rs vs start.slots s2 p.0 p.1 r.slots d.0.within)
-      (λ l j o ne. declared-other l kind j slot o (made rs vs) s2 ne)
+      (declared_alike x (ArrayForm over) (ArrayOf (placed_over over) k rs vs) (undealt kind slot s3) g s1 s2 r d.0 (fits-whole kind (domain_among over) d.1)
+      (content_in-undealt kind slot s3 kind slot (placed_over over) ∙ declared-content kind x.shape slot (placed_over over) k rs vs start.slots s2 p.0 p.1 r.slots d.0.within)
+      (λ l j o ne. content_in-undealt kind slot s3 l j o ∙ declared-other l kind j slot o (made rs vs) s2 ne)
       (over_alike over x.shape slot (told_as x (ArrayForm over)) g s1 s2 r d.0.unused d.2)
-      (slots-declared kind slot (made rs vs) start.slots s2 r.slots) (ap (λ w. w.intents) (words-declared kind slot (made rs vs) s2)) (ap (λ w. w.sets) (words-declared kind slot (made rs vs) s2))
-      (shaped-array kind x.shape slot k (made rs vs) start.slots s2 p.0 r.slots d.0.within) d.2 (whole-declared kind slot (made rs vs) s2 refl r.whole))
+      (slots-undealt kind slot s3 start.slots slots)
+      (ap (λ w. w.intents) (words-undealt kind slot s3 ∙ words-declared kind slot (made rs vs) s2)) (ap (λ w. w.sets) (words-undealt kind slot s3 ∙ words-declared kind slot (made rs vs) s2))
+      (subst (HasShape kind x.shape) (sym (value_in-undealt kind slot s3)) (shaped-array kind x.shape slot k (made rs vs) start.slots s2 p.0 r.slots d.0.within)) d.2
+      (whole-undealt kind slot s3 (whole-declared kind slot (made rs vs) s2 refl r.whole)) (root_in-undealt_here kind slot s3 start.slots slots d.0.within)
+      (λ l j ne. root_in-undealt_other kind slot s3 l j ne ∙ ap (root_in l j) (roots-array kind slot (made rs vs) s2)))
   declare_alike x (CellOf k c) g s1 s2 r d p = absurd d
 
   -- A DOMAIN ASSIGNED
@@ -553,6 +599,7 @@ module _ (start : Start) where
         ∙ redomain_in-slots (texts_of r.told) (placed x) (sym (finds x g s1 s2 r f).text) (contents r.told s2) rs (in_slots g.frames) (IsApart-in_slots g.frames r.apart) r.overs (placed_at x g f)
         ∙ store-redomained x.variable rs start.slots s2 r.slots r.whole d r.told g.frames r.is_told r.overs_shaped ((finds x g s1 s2 r f).kind ∙ d) (finds x g s1 s2 r f).within
         (subst (λ xs. Tells x.variable.slot xs g.frames) (sym a) (arrays_over-tells x.variable.slot g.frames r.apart));
+    roots = r.roots ∙ ap (λ rs. roots_at (roots_by r.told rs) (in_slots g.frames)) (sym (roots-redomained x.variable rs s2));
     slots = redomained-slots x.variable rs start.slots s2 r.slots r.whole d;
     intents = r.intents;
     intents_by_slots = ap (λ w. w.intents) (redomained-intents x.variable rs start.slots s2 r.slots r.whole d) ∙ r.intents_by_slots;
@@ -570,6 +617,44 @@ module _ (start : Start) where
         (λ w. absurd (subst IsWhole d w)) r.slots (finds x g s1 s2 r f).within)) j));
     whole = whole-redomained x.variable rs s2 r.whole;
   }
+
+  -- A ROOT, of a name that is a domain or an array
+  root_alike : (x : Bound) (g : Seen) (s1 : State) (s2 : Memory) → Kept start g s1 s2 → Resolves x g → by_name.root x.text s1 ≡ root_in x.variable.kind x.variable.slot s2.roots
+  root_alike x g s1 s2 r f =
+      ap (root_of_name no_root x.text) r.roots ∙ root-slot x.text x.variable.slot (in_slots g.frames) (roots_by r.told s2.roots) (placed_at x g f)
+      ∙ ap (λ k. root_in k x.variable.slot s2.roots) (finds x g s1 s2 r f).kind
+
+  deal_alike : (x : Bound) (root : Root) (g : Seen) (s1 : State) (s2 : Memory) → Kept start g s1 s2 → Resolves x g → is_distributed (value_in x.variable.kind x.variable.slot s2) ≡ true
+      → Kept start g (by_name.deal x.text root s1) (with_root x.variable.slot root s2)
+  deal_alike x root g s1 s2 r f d =
+      let slot = x.variable.slot in
+      let new = with_root slot root s2 in
+      let found = finds x g s1 s2 r f in
+      record {
+        told = r.told;
+        is_told = r.is_told;
+        fit = r.fit;
+        overs_shaped = r.overs_shaped;
+        opened = r.opened;
+        apart = r.apart;
+        overs = Overs-contents (texts_of r.told) r.told s2 new (in_slots g.frames) r.overs;
+        store = r.store ∙ store_at-each (contents r.told s2) (contents r.told new) (λ j. sym (content_in-root (r.told j).kind j (r.told j).over slot root s2)) (in_slots g.frames);
+        roots =
+            ap (change_in x.text (λ old. root)) r.roots ∙ deal-slot x.text root (in_slots g.frames) (roots_by r.told s2.roots) slot (IsApart-in_slots g.frames r.apart) (placed_at x g f)
+            ∙ roots_at-each (set_root slot root (roots_by r.told s2.roots)) (roots_by r.told new.roots)
+            (set_root-each slot root (roots_by r.told s2.roots) (roots_by r.told new.roots)
+            (sym (ap (λ k. root_in k slot new.roots) found.kind ∙ root_in-same x.variable.kind slot root start.slots s2 d r.slots found.within))
+            (λ j ne. sym (root_in-other (r.told j).kind j slot root s2.roots ne)))
+            (in_slots g.frames);
+        slots = slots-root slot root start.slots s2 r.slots;
+        intents = r.intents;
+        intents_by_slots = r.intents_by_slots;
+        here = r.here;
+        texts = r.texts;
+        words = r.words;
+        shaped = shaped-root r.told slot root s2 r.shaped;
+        whole = r.whole;
+      }
 
   -- ALL TOGETHER
   -- a right side that is no cell read is evaluated
@@ -590,6 +675,8 @@ module _ (start : Start) where
     puts_at = λ x t v g s1 s2 r f h. put_alike x t v g s1 s2 r f h;
     puts = λ x items vs v g s1 s2 r f e h. put_alike x (index_of vs) v g s1 s2 r f h;
     declares = λ x c g s1 s2 r f h. declare_alike x c g s1 s2 r f h;
+    roots = λ x g s1 s2 r f d. root_alike x g s1 s2 r f;
+    deals = λ x root g s1 s2 r f d. deal_alike x root g s1 s2 r f d;
     gives = λ x g s1 s2 r f. ap (paired x.text) r.texts ∙ given-alike x.variable.kind x start s2 r.words f;
     suited = λ x item v g s1 s2 r f w e.
         once-held x.variable.kind x.shape item g (value_in-plain x.variable.kind x.variable.slot w.1 w.3) f.1 limits s2 (shaped_sight g s1 s2 r) v (evaluated_once limits item v s2 f.0 e);
@@ -615,6 +702,7 @@ module _ (start : Start) where
       apart = (tt, r.apart);
       overs = r.overs;
       store = ap (λ es. Opened ∷ es) r.store;
+      roots = ap (λ es. Opened ∷ es) r.roots;
       slots = r.slots;
       intents = r.intents;
       intents_by_slots = r.intents_by_slots;
@@ -635,6 +723,9 @@ module _ (start : Start) where
       store =
           ap without_innermost r.store ∙ without_innermost-store_at (contents r.told t2) (in_slots h.frames)
           ∙ ap (store_at (contents r.told t2)) (sym (in_slots-without_frame h.frames));
+      roots =
+          ap without_innermost r.roots ∙ left-roots (roots_by r.told t2.roots) (in_slots h.frames)
+          ∙ ap (roots_at (roots_by r.told t2.roots)) (sym (in_slots-without_frame h.frames));
       slots = r.slots;
       intents = r.intents;
       intents_by_slots = r.intents_by_slots;
@@ -653,6 +744,7 @@ module _ (start : Start) where
       apart = r.apart;
       overs = Overs-contents (texts_of r.told) r.told s2 (intended (intents_by_slot (renamed_intents variable_of is)) s2) (in_slots g.frames) r.overs;
       store = r.store ∙ store_at-intend r.told (intents_by_slot (renamed_intents variable_of is)) s2 (in_slots g.frames);
+      roots = r.roots;
       slots = slots-intended (intents_by_slot (renamed_intents variable_of is)) s2 r.slots;
       intents = refl;
       intents_by_slots = refl;
@@ -671,6 +763,7 @@ module _ (start : Start) where
       apart = r.apart;
       overs = Overs-contents (texts_of r.told) r.told s2 (intended [] s2) (in_slots g.frames) r.overs;
       store = r.store ∙ store_at-intend r.told [] s2 (in_slots g.frames);
+      roots = r.roots;
       slots = slots-intended [] s2 r.slots;
       intents = ap (renamed_intents text_of) (sym f);
       intents_by_slots = ap (λ is. intents_by_slot (renamed_intents variable_of is)) (sym f);
@@ -700,6 +793,7 @@ module _ (start : Start) where
         domains = h.domains;
         tuples = h.tuples;
         arrays = h.arrays;
+        roots = h.roots;
       }
 
   stands_for : (g : Seen) (s1 : State) (s2 : Memory) → Kept start g s1 s2 → StandsFor start g s1 s2
@@ -728,12 +822,14 @@ module _ (start : Start) where
     apart = (tt, tt);
     overs = tt;
     store = refl;
+    roots = refl;
     slots = record {
       numbers = length-replicate start.slots (pos 0);
       ranges = length-replicate start.slots no_range;
       domains = length-replicate start.slots no_domain;
       tuples = length-replicate start.slots no_tuple;
       arrays = length-replicate start.slots no_array;
+      roots = length-replicate start.slots no_root;
     };
     intents = refl;
     intents_by_slots = refl;

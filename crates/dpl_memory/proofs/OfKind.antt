@@ -69,6 +69,7 @@ slots-set (PlainKind k) slot v slots s h = record {
   domains = h.domains;
   tuples = h.tuples;
   arrays = h.arrays;
+  roots = h.roots;
 }
 slots-set DomainKind slot v slots s h = record {
   numbers = h.numbers;
@@ -76,6 +77,7 @@ slots-set DomainKind slot v slots s h = record {
   domains = length-set s.domains slot (ranges_in v) ∙ h.domains;
   tuples = h.tuples;
   arrays = h.arrays;
+  roots = h.roots;
 }
 slots-set TupleKind slot v slots s h = record {
   numbers = h.numbers;
@@ -83,6 +85,7 @@ slots-set TupleKind slot v slots s h = record {
   domains = h.domains;
   tuples = length-set s.tuples slot (coordinates v) ∙ h.tuples;
   arrays = h.arrays;
+  roots = h.roots;
 }
 slots-set (ArrayKind k) slot v slots s h = h
 
@@ -93,6 +96,7 @@ slots-array slot a slots s h = record {
   domains = h.domains;
   tuples = h.tuples;
   arrays = length-set s.arrays slot a ∙ h.arrays;
+  roots = h.roots;
 }
 
 pub intents-set_in : (k : VariableKind) (slot : ℕ) (v : Value) (s : Memory) → (with_value_in k slot v s).words.intents ≡ s.words.intents

@@ -6,6 +6,7 @@ use Rattle.dpl_language.specs.Ranges.{unstrided}
 use Rattle.dpl_language.specs.Values.{Int}
 use Rattle.dpl_language.specs.Environment.{Plain}
 use Rattle.dpl_words.specs.Words.{IntLeaf, no_range}
+use Rattle.dpl_language.specs.Distributions.{no_root}
 use Rattle.dpl_memory.specs.Memory.{PlainKind, Held, Memory, no_tuple, no_domain, no_array, held_at, held_with, declared}
 
 abbrev piece : Held
@@ -31,6 +32,7 @@ before = record {
   domains = no_domain ∷ no_domain ∷ no_domain ∷ [];
   tuples = no_tuple ∷ (pos 3 ∷ pos 4 ∷ []) ∷ no_tuple ∷ [];
   arrays = no_array ∷ no_array ∷ no_array ∷ [];
+  roots = no_root ∷ no_root ∷ no_root ∷ [];
 }
 
 abbrev turn : Memory

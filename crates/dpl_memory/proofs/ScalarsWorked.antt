@@ -88,11 +88,11 @@ in_turn = record { frames = [] ∷ (plainly (codes "j") ∷ []) ∷ top ∷ []; 
 
 sums_fit : fits_all (resolving start) sums_resolved.stmts first_seen
 sums_fit = ( -- var s: int;
-  (tt, tt, (record { unused = search rules; within = search rules; along = tt }, λ e. e), tt, ((pos 0, refl), λ p. tt)),
+  (tt, tt, (record { unused = search rules; within = search rules; along = tt }, λ e. e), tt, ((pos 0, refl), λ p. tt), (tt, tt)),
   ( -- var b = true;
-    (tt, (tt, tt), (record { unused = search rules; within = search rules; along = tt }, λ e. e), tt, Suits-truth no_shape (seeing ((plainly (codes "s") ∷ []) ∷ [])) (at 1 21) true),
+    (tt, (tt, tt), (record { unused = search rules; within = search rules; along = tt }, λ e. e), tt, Suits-truth no_shape (seeing ((plainly (codes "s") ∷ []) ∷ [])) (at 1 21) true, (tt, tt)),
     ( -- const r = 1..4;
-      (tt, ((tt, tt, tt), tt), (record { unused = search rules; within = search rules; along = tt }, λ e. e), tt, Suits-range_item no_shape (seeing ((plainly (codes "s") ∷ plainly (codes "b") ∷ []) ∷ [])) (Number (at 1 37) (pos 1)) (at 1 38) Closed (Number (at 1 40) (pos 4))),
+      (tt, ((tt, tt, tt), tt), (record { unused = search rules; within = search rules; along = tt }, λ e. e), tt, Suits-range_item no_shape (seeing ((plainly (codes "s") ∷ plainly (codes "b") ∷ []) ∷ [])) (Number (at 1 37) (pos 1)) (at 1 38) Closed (Number (at 1 40) (pos 4)), (tt, tt)),
       ( -- for i in r do s += i;
         (
           refl,
@@ -149,7 +149,7 @@ configured_resolved = renamed_program (λ x. record { text = x; variable = int_l
 
 -- n is set to 7 by its text and by its slot
 configured_fits : fits_all (resolving one_slot) configured_resolved.stmts first_seen
-configured_fits = ((tt, (tt, tt), (record { unused = search rules; within = search rules; along = tt }, λ e. e), (refl, search rules, refl), Suits-number no_shape first_seen (at 1 18) (pos 4)), (((refl, tt), λ t. refl, tt), tt))
+configured_fits = ((tt, (tt, tt), (record { unused = search rules; within = search rules; along = tt }, λ e. e), (refl, search rules, refl), Suits-number no_shape first_seen (at 1 18) (pos 4), (tt, tt)), (((refl, tt), λ t. refl, tt), tt))
 
 configured_writes : written (run_from (limits 16777216 1) in_memory (renamed_program variable_of configured_resolved) (first_memory one_slot)) ≡ codes "7\n"
 unfolding int_wrap digits members indices

@@ -12,8 +12,10 @@ use Rattle.dpl_language.specs.Environment.{Content, Plain, ArrayOf, CellOf}
 use Rattle.dpl_agreement.proofs.Slots.{Bound as SlotBound}
 use Rattle.dpl_sound.specs.Typed.{MayStride, AreRanked}
 use Rattle.dpl_words.specs.Words.{LeafKind, IntLeaf, TruthLeaf, RangeLeaf, no_range, given_as}
-use Rattle.dpl_memory.specs.Memory.{VariableKind, PlainKind, DomainKind, TupleKind, ArrayKind, Held, Memory, no_array, array_at, with_array, held_with, is_among, redomained_from, declared_array, value_in, with_value_in, with_element_in, intended}
+use Rattle.dpl_language.specs.Distributions.{Root}
+use Rattle.dpl_memory.specs.Memory.{with_root, VariableKind, PlainKind, DomainKind, TupleKind, ArrayKind, Held, Memory, no_array, array_at, with_array, held_with, is_among, redomained_from, declared_array, value_in, with_value_in, with_element_in, intended}
 use Rattle.dpl_memory.specs.Resolved.{Shape, IsOf, IsWhole, MaySpan, HasShape, kind_takes, KindCombines, HasSlots, content_in}
+use Rattle.dpl_memory.proofs.Roots.{content_in-root}
 use Rattle.dpl_memory.proofs.OfKind.{content_in-set_same, content_in-intend}
 use Rattle.dpl_memory.proofs.InSight.{Told, with_told, with_told_here, with_told_other}
 use Rattle.dpl_memory.proofs.OverShapes.{ranges-redomained}
@@ -151,6 +153,9 @@ shaped-redomained t j xs rs s new = by t.kind
 
 pub shaped-intended : (told : ℕ → Told) (is : List (ℕ × Op)) (s : Memory) → IsShapedBy told s → IsShapedBy told (intended is s)
 shaped-intended told is s h j = kept-shape (told j) j s (intended is s) (sym (content_in-intend {N = SlotBound} (told j).kind j None is s)) (h j)
+
+pub shaped-root : (told : ℕ → Told) (slot : ℕ) (r : Root) (s : Memory) → IsShapedBy told s → IsShapedBy told (with_root slot r s)
+shaped-root told slot r s h j = kept-shape (told j) j s (with_root slot r s) (content_in-root {N = SlotBound} (told j).kind j None slot r s) (h j)
 
 -- WHAT THE COMMAND LINE GIVES: no range that is strided
 pub given-shaped : (k : LeafKind) (shape : Shape) (o : Option _) (v : Value) → option_map (given_as k) o ≡ Some v → HasShape (PlainKind k) shape v

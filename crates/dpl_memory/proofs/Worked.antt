@@ -182,10 +182,10 @@ seeing fs = record { frames = fs; intents = [] }
 
 inner_array_fits : fits_all (resolving (start 6)) inner_array_resolved.stmts first_seen
 inner_array_fits = ( -- var D = {1..2};
-  (tt, (((tt, tt, tt), tt), tt), (record { unused = (tt, tt); within = search rules; along = ((tt, tt), tt) }, λ e. e), tt, Suits-domain first_seen (at 1 9) 10 1 2 (at 1 14)),
+  (tt, (((tt, tt, tt), tt), tt), (record { unused = (tt, tt); within = search rules; along = ((tt, tt), tt) }, λ e. e), tt, Suits-domain first_seen (at 1 9) 10 1 2 (at 1 14), (tt, tt)),
   (
     ( -- var A: [D] int = 1;
-      ((refl, tt), (λ t. tt, tt), (record { unused = (tt, (((λ e. cc), tt), tt)); within = search rules; along = tt }, tt, (refl, λ e. refl)), tt, (SpansArray-name (seeing ([] ∷ d_frame ∷ [])) (placed_d 33) refl refl, Suits-element (seeing ([] ∷ d_frame ∷ [])) (at 1 36) (pos 1))),
+      ((refl, tt), (λ t. tt, tt), (record { unused = (tt, (((λ e. cc), tt), tt)); within = search rules; along = tt }, tt, (refl, λ e. refl)), tt, (SpansArray-name (seeing ([] ∷ d_frame ∷ [])) (placed_d 33) refl refl, Suits-element (seeing ([] ∷ d_frame ∷ [])) (at 1 36) (pos 1)), tt),
       ( -- D = {2..3};
         (((refl, refl, tt, refl), λ t. (refl, refl)), (λ t. ((tt, tt, tt), tt), tt), Suits-domain (seeing (a_frame ∷ d_frame ∷ [])) (at 1 43) 44 2 3 (at 1 48)),
         ( -- writeln(A);
