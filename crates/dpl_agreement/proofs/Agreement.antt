@@ -60,8 +60,12 @@ module _ {M N G S1 S2 : Type 0} (limits : Limits) (name : N → M) (scoping : Sc
     exec-alike (Nothing at) g f s1 s2 done r = (s2, r, refl)
     exec-alike (Declare d) g f s1 s2 done r =
         then_do-alike (R (after scoping (Declare d) g)) (R (after scoping (Declare d) g)) _ _ _ _ (declare-alike limits name scoping first second R sim d g f s1 s2 done r)
-        (λ t1 t2 done q. (dealt limits second d s2 t2, dealt-alike limits name scoping first second R sim d g (after scoping (Declare d) g) s1 s2 t1 t2 r q
-        (sim.lawful.reads-add d.name.name (form_by (type_of d.typed)) g f.2) f.0 f.1 f.5, refl))
+        (λ t1 t2 done q. (
+          dealt limits second d s2 t2,
+          dealt-alike limits name scoping first second R sim d g (after scoping (Declare d) g) s1 s2 t1 t2 r q
+              (sim.lawful.reads-add d.name.name (form_by (type_of d.typed)) g f.2) f.0 f.1 f.5,
+          refl,
+        ))
     exec-alike (Assigned target sign item semicolon) g f s1 s2 done r = assign-alike limits name scoping first second R sim target sign item g f.0 f.1 f.2 s1 s2 done r
     exec-alike (Call x dot call semicolon) g f s1 s2 done r = cell_call-alike limits name scoping first second R sim x call g f.0 f.1 f.2 s1 s2 done r
     exec-alike (Write w) g f s1 s2 done r = write-alike limits name scoping first second R sim w g f s1 s2 done r

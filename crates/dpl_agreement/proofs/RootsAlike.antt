@@ -5,14 +5,14 @@ use Rattle.std.specs.Prelude.{if◌then◌else◌, option_map}
 use Rattle.dpl_sets.specs.TextRanges.{TextRange}
 use Rattle.dpl_language.specs.Tree.{Word, Size, First, Last, Low, High, LowBound, DomainOf, Id, ExprTree, Number, TruthWord, Named, LocalesWord, LocaleCount, HereWord, Grouped, DomainLiteral, Prefixed, Reduced, Chain, Postfixed, ItemTree, One, RangeItem, Posts, NoPosts, Post, PostTree, Brackets, Rounds, Dotted, Plainly, Dim, Contains, Expand, CellRead, Items, FirstItem, NoItems, NextItem}
 use Rattle.dpl_language.specs.Tree.{StartTree, StartExpr, StartTuple, MapTree, BlockMap, CyclicMap, BlockCyclicMap, MappedTree, TypeTree, ScalarType, SyncType, DomainType, ArrayType, ArrayTypeTree, CreateTree, InitTree, ItemInit, CreateInit, InitialTree, DeclareTree}
-use Rattle.dpl_language.specs.Values.{Value, Int, Truth, Range, Domain, Array, Cell, Locale, AllLocales, Tuple, index_of, is_distributed}
+use Rattle.dpl_language.specs.Values.{Value, Int, Truth, Range, Domain, Array, Cell, Locale, AllLocales, Tuple, is_distributed}
 use Rattle.dpl_language.specs.Distributions.{Root, NoMap}
 use Rattle.dpl_language.specs.Environment.{Environment, Limits}
 use Rattle.dpl_language.specs.Phrases.{parts}
 use Rattle.dpl_language.specs.Declarations.{type_of}
-use Rattle.dpl_language.specs.Roots.{by_word, by_post, by_posts, derived_from, derived_item, derived_over, type_map, is_typed_domain, or_no_map, root_by, each_value, start_of, map_of, named_by, created, derived_root, init_root, initial_root, domain_root, deal_domain, deal_array, deal_by, dealt}
-use Rattle.dpl_agreement.specs.Renamed.{renamed_expr, renamed_item, renamed_items, renamed_start, renamed_map, renamed_mapped, renamed_type, renamed_array_type, renamed_init, renamed_initial, renamed_declare}
-use Rattle.dpl_agreement.specs.Scopes.{Scoping, fits_expr, fits_item, fits_items, fits_more_items, fits_each_value, fits_start, fits_map, fits_mapped, fits_maps, init_map, initial_map, fits_type, side_by, fits_init, fits_initial, fits_side}
+use Rattle.dpl_language.specs.Roots.{by_word, by_post, by_posts, derived_from, derived_item, derived_over, type_map, is_typed_domain, or_no_map, root_by, each_value, start_of, map_of, created, derived_root, init_root, initial_root, domain_root, deal_domain, deal_array, deal_by, dealt}
+use Rattle.dpl_agreement.specs.Renamed.{renamed_expr, renamed_items, renamed_start, renamed_map, renamed_mapped, renamed_type, renamed_array_type, renamed_init, renamed_initial, renamed_declare}
+use Rattle.dpl_agreement.specs.Scopes.{Scoping, fits_expr, fits_item, fits_items, fits_each_value, fits_start, fits_map, fits_mapped, fits_maps, init_map, initial_map, fits_type, side_by, fits_init, fits_initial, fits_side}
 use Rattle.dpl_agreement.specs.Agreement.{Simulates}
 use Rattle.dpl_agreement.proofs.RunsAlike.{with_ok-same}
 use Rattle.dpl_agreement.proofs.RenamedParts.{parts-mapped, type_of-renamed, derived_item-renamed, derived_over-renamed}

@@ -1,6 +1,6 @@
 -- Roots by slots stand for the roots of names: each name in sight has that of its slot.
 -- A list of roots is what these are, in the order of the names, with a mark where each scope was opened.
-use Rattle.std.proofs.Common.{◌≡◌, ◌≢◌, ℕ, true, false, List, [], ◌∷◌, refl, sym, ap, ◌∙◌, Some, Option}
+use Rattle.std.proofs.Common.{◌≡◌, ◌≢◌, ℕ, true, false, [], ◌∷◌, refl, sym, ap, ◌∙◌, Some}
 use Rattle.std.specs.Prelude.{bytes_eq, ◌==◌, if◌then◌else◌}
 use Rattle.dpl_language.specs.Distributions.{Root, no_root}
 use Rattle.dpl_language.specs.Names.{Text, Entered, Opened, Declared, Scoped, innermost, change_in, without_innermost}

@@ -6,8 +6,8 @@ use Rattle.dpl_language.specs.Tree.{AfterComma, ExprTree, StartTree, StartExpr, 
 use Rattle.dpl_language.specs.Values.{Value, Int, Truth, Range, Domain, Array, Cell, Locale, AllLocales, Tuple}
 use Rattle.dpl_language.specs.Environment.{Environment, Limits}
 use Rattle.dpl_language.specs.Declarations.{type_of}
-use Rattle.dpl_language.specs.Roots.{type_map, is_typed_domain, or_no_map, root_by, each_value, start_of, map_of, created, derived_root, derived_over, init_root, initial_root, domain_root, deal_domain, deal_array, deal_by, dealt}
-use Rattle.dpl_agreement.specs.Untasked.{UntaskedIf, UntaskedOthers, UntaskedList, UntaskedExpr, UntaskedStart, UntaskedMap, UntaskedMapped, UntaskedType, UntaskedTyped, UntaskedInit, UntaskedInitial, UntaskedDeclare}
+use Rattle.dpl_language.specs.Roots.{type_map, is_typed_domain, or_no_map, root_by, each_value, start_of, map_of, init_root, domain_root, deal_domain, deal_array, deal_by, dealt}
+use Rattle.dpl_agreement.specs.Untasked.{UntaskedIf, UntaskedOthers, UntaskedExpr, UntaskedStart, UntaskedMap, UntaskedMapped, UntaskedType, UntaskedTyped, UntaskedInit, UntaskedInitial, UntaskedDeclare}
 use Rattle.dpl_agreement.proofs.RunsAlike.{with_ok-same}
 use Rattle.dpl_agreement.proofs.UntaskedValues.{HoldsNoLocales, value_of-free, item_of-free, domain_of-free}
 

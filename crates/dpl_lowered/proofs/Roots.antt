@@ -1,25 +1,25 @@
 -- A lowered declaration gives the root that the declaration gives from which it comes.
 -- Its map is kept, and its value is derived from the same name.
-use Rattle.std.proofs.Common.{◌≡◌, Bool, true, false, ◌&&◌, List, [], ◌∷◌, map, refl, sym, ap, ◌∙◌, Some, None, Option, Ok, Err, Result}
+use Rattle.std.proofs.Common.{◌≡◌, Bool, true, false, List, [], ◌∷◌, map, refl, ap, ◌∙◌, Some, None, Option, Ok, Err, Result}
 use Rattle.std.specs.Prelude.{option_map, if◌then◌else◌}
 use Rattle.dpl_syntax.specs.declared.place.Place.{Place}
 use Rattle.dpl_sets.specs.TextRanges.{TextRange}
-use Rattle.dpl_language.specs.Tree.{Placed, Infix, IntKind, BoolKind, Kind, ExprTree, Number, TruthWord, Named, LocalesWord, LocaleCount, HereWord, Grouped, DomainLiteral, Prefixed, Reduced, Chain, Postfixed, ItemTree, One, RangeItem, Links, NoLinks, Link, Posts, NoPosts, Post, PostTree, Brackets, Rounds, Dotted, Plainly, Dim, Contains, Expand, CellRead, Low, Items, FirstItem, NoItems, NextItem, Exprs}
+use Rattle.dpl_language.specs.Tree.{Placed, IntKind, BoolKind, Kind, ExprTree, Number, TruthWord, Named, LocalesWord, LocaleCount, HereWord, Grouped, DomainLiteral, Prefixed, Reduced, Chain, Postfixed, ItemTree, One, RangeItem, Links, NoLinks, Link, Posts, NoPosts, Post, PostTree, Brackets, Rounds, Dotted, Plainly, Dim, Contains, Expand, CellRead, Low, Items, FirstItem, NoItems, NextItem, Exprs}
 use Rattle.dpl_language.specs.Tree.{StartTree, StartExpr, StartTuple, MapTree, BlockMap, CyclicMap, BlockCyclicMap, MappedTree, TypeTree, ScalarType, SyncType, DomainType, ArrayType, DomainTypeTree, CreateWord, CreateBlock, CreateCyclic, CreateTree, InitTree, ItemInit, CreateInit, InitialTree, DeclareTree}
-use Rattle.dpl_language.specs.Values.{Value, Int, Truth, Range, Domain, Array, Cell, Locale, AllLocales, Tuple, Index, ranges_in, coordinates, all_ranges, Fault, fault, PastLimit, EmptyEnd}
+use Rattle.dpl_language.specs.Values.{Value, Int, Truth, Range, Domain, Array, Cell, Locale, AllLocales, Tuple, Index, ranges_in, coordinates, all_ranges, Fault, fault, PastLimit}
 use Rattle.dpl_language.specs.Ranges.{too_many, sized, least_in, tuple_or_end, method_of}
-use Rattle.dpl_language.specs.Distributions.{Distribution, NoMap, BlockOver, CyclicFrom, Root}
+use Rattle.dpl_language.specs.Distributions.{Distribution, CyclicFrom, Root}
 use Rattle.dpl_language.specs.Outcome.{with_ok}
 use Rattle.dpl_language.specs.Environment.{Environment, Limits}
-use Rattle.dpl_language.specs.Phrases.{Base, BaseName, BaseLocales, OtherBase, base_of, bare_name, item_over, parts, posts_read}
-use Rattle.dpl_language.specs.Expressions.{value_of, item_of, items_of, domain_of}
+use Rattle.dpl_language.specs.Phrases.{Base, BaseName, BaseLocales, OtherBase, base_of, bare_name, parts, posts_read}
+use Rattle.dpl_language.specs.Expressions.{items_of}
 use Rattle.dpl_language.specs.Declarations.{type_of}
 use Rattle.dpl_language.specs.Roots.{by_post, by_posts, derived_from, derived_item, derived_over, type_map, is_typed_domain, or_no_map, root_by, cyclic_or_none, created_by, each_value, start_of, map_of, named_by, created, derived_root, init_root, initial_root, domain_root, deal_domain, deal_array, deal_by, dealt}
 use Rattle.dpl_agreement.proofs.RunsAlike.{with_ok-same}
 use Rattle.dpl_lowered.specs.Known.{Known, Unknown, WholeArray, NoArray, PlainValue, may_be_array, IsKnown}
-use Rattle.dpl_lowered.specs.Shapes.{nowhere, relisted, as_expr, as_item, in_brackets, item_in_brackets, hidden_item, two, grouped, nests, nested, stacked_on, stacked}
+use Rattle.dpl_lowered.specs.Shapes.{nowhere, as_expr, as_item, in_brackets, item_in_brackets, hidden_item, grouped, nests, nested, stacked_on, stacked}
 use Rattle.dpl_lowered.specs.LoweredExpressions.{Times, Once, rebased, name_base, read_base, rounds_by, told_base, based, rounds_of, lowered_expr, lowered_item, lowered_items, lowered_links, lowered_posts, lowered_post, lowered_exprs}
-use Rattle.dpl_lowered.specs.LoweredStatements.{root_type, low_tree, created_map, default_tree, lowered_side, lowered_over, lowered_array, lowered_start, lowered_map, lowered_mapped, created_tree, lowered_init, lowered_init_map, lowered_with, plain_initial, lowered_initial, map_by, domain_type, domain_initial, declared_type, declared_initial, lowered_declare}
+use Rattle.dpl_lowered.specs.LoweredStatements.{root_type, created_map, default_tree, lowered_side, lowered_over, lowered_array, lowered_start, lowered_map, lowered_mapped, created_tree, lowered_init, lowered_init_map, lowered_with, plain_initial, lowered_initial, map_by, domain_type, domain_initial, declared_type, declared_initial, lowered_declare}
 use Rattle.dpl_lowered.proofs.Parts.{parts-relisted, type_of-written}
 use Rattle.dpl_lowered.proofs.Values.{value_of-lowered, item_of-lowered, items_of-lowered}
 
