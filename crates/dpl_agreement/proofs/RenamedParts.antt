@@ -3,10 +3,10 @@
 use Rattle.std.proofs.Common.{◌≡◌, List, [], ◌∷◌, refl, ap, ◌∙◌, Some, None, Option, map}
 use Rattle.std.specs.Prelude.{option_map}
 use Rattle.dpl_history.specs.declared.cell.CellOp.{CellOp}
-use Rattle.dpl_language.specs.Tree.{Word, Size, First, Last, Low, High, LowBound, DomainOf, Id, Placed, AfterComma, Listed, ExprTree, Number, TruthWord, Named, LocalesWord, LocaleCount, HereWord, Grouped, DomainLiteral, Prefixed, Reduced, Chain, Postfixed, ItemTree, One, RangeItem, Posts, NoPosts, Post, PostTree, Brackets, Rounds, Dotted, MethodTree, Plainly, Dim, Contains, Expand, CellRead, Items, FirstItem, NoItems, NextItem, TypedTree, ArgumentTree, IntentTree, ReduceIntent, RefIntent, WithTree}
+use Rattle.dpl_language.specs.Tree.{Size, First, Last, Low, High, LowBound, DomainOf, Id, Placed, AfterComma, Listed, ExprTree, Number, TruthWord, Named, LocalesWord, LocaleCount, HereWord, Grouped, DomainLiteral, Prefixed, Reduced, Chain, Postfixed, ItemTree, One, RangeItem, Posts, NoPosts, Post, PostTree, Brackets, Rounds, Dotted, MethodTree, Plainly, Dim, Contains, Expand, CellRead, Items, FirstItem, NoItems, NextItem, TypedTree, ArgumentTree, IntentTree, ReduceIntent, RefIntent, WithTree}
 use Rattle.dpl_language.specs.Phrases.{parts, base_of, item_base, bare_name, method_read, post_read, posts_read, read_by, cell_read, item_read, name_of, item_over, declared_over, reduce_intents, intents_of}
 use Rattle.dpl_language.specs.Declarations.{type_of}
-use Rattle.dpl_language.specs.Roots.{by_word, by_post, by_posts, derived_from, derived_item, derived_over}
+use Rattle.dpl_language.specs.Roots.{by_post, by_posts, derived_from, derived_item, derived_over}
 use Rattle.dpl_language.specs.Writing.{arguments_of}
 use Rattle.dpl_agreement.specs.Renamed.{map_comma, map_listed, renamed, renamed_expr, renamed_item, renamed_posts, renamed_post, renamed_method, renamed_items, renamed_type, renamed_typed, renamed_argument, renamed_intent, renamed_with, renamed_base, renamed_read, renamed_intents}
 
@@ -125,20 +125,17 @@ module _ {M N : Type 0} (f : M → N) where
 
 -- from which name a value is derived
 module _ {M N : Type 0} (f : M → N) where
-  by_word-renamed : (w : Word) (o : Option M) → by_word w (option_map f o) ≡ option_map f (by_word w o)
-  by_word-renamed Size o = refl
-  by_word-renamed First o = refl
-  by_word-renamed Last o = refl
-  by_word-renamed Low o = refl
-  by_word-renamed High o = refl
-  by_word-renamed LowBound o = refl
-  by_word-renamed DomainOf o = refl
-  by_word-renamed Id o = refl
-
   by_post-renamed : (p : PostTree M) (o : Option M) → by_post (renamed_post f p) (option_map f o) ≡ option_map f (by_post p o)
   by_post-renamed (Brackets from items upto) o = refl
   by_post-renamed (Rounds from es upto) o = refl
-  by_post-renamed (Dotted dot (Plainly at w)) o = by_word-renamed w o
+  by_post-renamed (Dotted dot (Plainly at Size)) o = refl
+  by_post-renamed (Dotted dot (Plainly at First)) o = refl
+  by_post-renamed (Dotted dot (Plainly at Last)) o = refl
+  by_post-renamed (Dotted dot (Plainly at Low)) o = refl
+  by_post-renamed (Dotted dot (Plainly at High)) o = refl
+  by_post-renamed (Dotted dot (Plainly at LowBound)) o = refl
+  by_post-renamed (Dotted dot (Plainly at DomainOf)) o = refl
+  by_post-renamed (Dotted dot (Plainly at Id)) o = refl
   by_post-renamed (Dotted dot (Dim at from rank_at d upto)) o = refl
   by_post-renamed (Dotted dot (Contains at from es upto)) o = refl
   by_post-renamed (Dotted dot (Expand at from e upto)) o = refl

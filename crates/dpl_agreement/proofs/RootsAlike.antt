@@ -3,14 +3,14 @@
 use Rattle.std.proofs.Common.{◌≡◌, Bool, true, false, List, [], ◌∷◌, map, refl, sym, ap, ◌∙◌, subst, Some, None, Option}
 use Rattle.std.specs.Prelude.{if◌then◌else◌, option_map}
 use Rattle.dpl_sets.specs.TextRanges.{TextRange}
-use Rattle.dpl_language.specs.Tree.{Word, Size, First, Last, Low, High, LowBound, DomainOf, Id, ExprTree, Number, TruthWord, Named, LocalesWord, LocaleCount, HereWord, Grouped, DomainLiteral, Prefixed, Reduced, Chain, Postfixed, ItemTree, One, RangeItem, Posts, NoPosts, Post, PostTree, Brackets, Rounds, Dotted, Plainly, Dim, Contains, Expand, CellRead, Items, FirstItem, NoItems, NextItem}
+use Rattle.dpl_language.specs.Tree.{Size, First, Last, Low, High, LowBound, DomainOf, Id, ExprTree, Number, TruthWord, Named, LocalesWord, LocaleCount, HereWord, Grouped, DomainLiteral, Prefixed, Reduced, Chain, Postfixed, ItemTree, One, RangeItem, Posts, NoPosts, Post, PostTree, Brackets, Rounds, Dotted, Plainly, Dim, Contains, Expand, CellRead, Items, FirstItem, NoItems, NextItem}
 use Rattle.dpl_language.specs.Tree.{StartTree, StartExpr, StartTuple, MapTree, BlockMap, CyclicMap, BlockCyclicMap, MappedTree, TypeTree, ScalarType, SyncType, DomainType, ArrayType, ArrayTypeTree, CreateTree, InitTree, ItemInit, CreateInit, InitialTree, DeclareTree}
 use Rattle.dpl_language.specs.Values.{Value, Int, Truth, Range, Domain, Array, Cell, Locale, AllLocales, Tuple, is_distributed}
 use Rattle.dpl_language.specs.Distributions.{Root, NoMap}
 use Rattle.dpl_language.specs.Environment.{Environment, Limits}
 use Rattle.dpl_language.specs.Phrases.{parts}
 use Rattle.dpl_language.specs.Declarations.{type_of}
-use Rattle.dpl_language.specs.Roots.{by_word, by_post, by_posts, derived_from, derived_item, derived_over, type_map, is_typed_domain, or_no_map, root_by, each_value, start_of, map_of, created, derived_root, init_root, initial_root, domain_root, deal_domain, deal_array, deal_by, dealt}
+use Rattle.dpl_language.specs.Roots.{by_post, by_posts, derived_from, derived_item, derived_over, type_map, is_typed_domain, or_no_map, root_by, each_value, start_of, map_of, created, derived_root, init_root, initial_root, domain_root, deal_domain, deal_array, deal_by, dealt}
 use Rattle.dpl_agreement.specs.Renamed.{renamed_expr, renamed_items, renamed_start, renamed_map, renamed_mapped, renamed_type, renamed_array_type, renamed_init, renamed_initial, renamed_declare}
 use Rattle.dpl_agreement.specs.Scopes.{Scoping, fits_expr, fits_item, fits_items, fits_each_value, fits_start, fits_map, fits_mapped, fits_maps, init_map, initial_map, fits_type, side_by, fits_init, fits_initial, fits_side}
 use Rattle.dpl_agreement.specs.Agreement.{Simulates}
@@ -20,20 +20,17 @@ use Rattle.dpl_agreement.proofs.ExpressionsAlike.{value_of-renamed, item_of-rena
 
 -- THE NAME from which a value is derived is one that is read in it
 module _ {N G : Type 0} (scoping : Scoping N G) where
-  by_word-reads : (w : Word) (o : Option N) (x : N) → by_word w o ≡ Some x → o ≡ Some x
-  by_word-reads Size o x e = cc
-  by_word-reads First o x e = cc
-  by_word-reads Last o x e = cc
-  by_word-reads Low o x e = cc
-  by_word-reads High o x e = cc
-  by_word-reads LowBound o x e = cc
-  by_word-reads DomainOf o x e = e
-  by_word-reads Id o x e = cc
-
   by_post-reads : (p : PostTree N) (o : Option N) (x : N) → by_post p o ≡ Some x → o ≡ Some x
   by_post-reads (Brackets from items upto) o x e = e
   by_post-reads (Rounds from es upto) o x e = e
-  by_post-reads (Dotted dot (Plainly at w)) o x e = by_word-reads w o x e
+  by_post-reads (Dotted dot (Plainly at Size)) o x e = cc
+  by_post-reads (Dotted dot (Plainly at First)) o x e = cc
+  by_post-reads (Dotted dot (Plainly at Last)) o x e = cc
+  by_post-reads (Dotted dot (Plainly at Low)) o x e = cc
+  by_post-reads (Dotted dot (Plainly at High)) o x e = cc
+  by_post-reads (Dotted dot (Plainly at LowBound)) o x e = cc
+  by_post-reads (Dotted dot (Plainly at DomainOf)) o x e = e
+  by_post-reads (Dotted dot (Plainly at Id)) o x e = cc
   by_post-reads (Dotted dot (Dim at from rank_at d upto)) o x e = cc
   by_post-reads (Dotted dot (Contains at from es upto)) o x e = cc
   by_post-reads (Dotted dot (Expand at from i upto)) o x e = e

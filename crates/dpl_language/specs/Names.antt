@@ -78,6 +78,10 @@ change_in x change (Declared e ∷ es) =
     if bytes_eq x e.name then Declared (record e { content = change e.content }) ∷ es
     else Declared e ∷ change_in x change es
 
+-- the list with one more name
+abbrev pub with_name : {A : Type 0} → Text → A → Scoped A → Scoped A
+with_name x c es = Declared (record { name = x; content = c }) ∷ es
+
 -- the list without all that was declared since the innermost scope was opened
 abbrev pub without_innermost : {A : Type 0} → Scoped A → Scoped A
 without_innermost [] = []
@@ -205,10 +209,7 @@ by_name = record {
   update = λ x op v s. record s { store = change_in x (update_in op (paired x s.intents) v) s.store };
   element = λ x t s. element_in t (look_up x s.store);
   put_element = λ x t v s. record s { store = change_in x (put_in t v) s.store };
-  declare = λ x c s. record s {
-    store = Declared (record { name = x; content = c }) ∷ s.store;
-    roots = Declared (record { name = x; content = no_root }) ∷ s.roots;
-  };
+  declare = λ x c s. record s { store = with_name x c s.store; roots = with_name x no_root s.roots };
   root = λ x s. innermost no_root x s.roots;
   deal = λ x r s. record s { roots = change_in x (λ old. r) s.roots };
   given = λ x s. paired x s.sets;

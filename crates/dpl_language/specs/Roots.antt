@@ -2,7 +2,7 @@
 -- A map is never the cause of a fault: where an argument of `dmapped` has no value, no map is named.
 use Rattle.std.specs.Prelude.{if◌then◌else◌, Bool, true, false, Option, Some, None, Result, Ok, Err, List, [], ◌∷◌}
 use Rattle.dpl_sets.specs.TextRanges.{TextRange}
-use Rattle.dpl_language.specs.Tree.{Word, DomainOf, ExprTree, Named, Grouped, Postfixed, ItemTree, One, Posts, NoPosts, Post, PostTree, Dotted, MethodTree, Plainly, Expand, Items, FirstItem, NoItems, StartTree, StartExpr, StartTuple, MapTree, BlockMap, CyclicMap, BlockCyclicMap, MappedTree, ArrayTypeTree, TypeTree, DomainType, ArrayType, CreateWord, CreateBlock, CreateCyclic, CreateTree, InitTree, ItemInit, CreateInit, InitialTree, DeclareTree}
+use Rattle.dpl_language.specs.Tree.{DomainOf, ExprTree, Named, Grouped, Postfixed, ItemTree, One, Posts, NoPosts, Post, PostTree, Dotted, Plainly, Expand, Items, FirstItem, NoItems, StartTree, StartExpr, StartTuple, MapTree, BlockMap, CyclicMap, BlockCyclicMap, MappedTree, ArrayTypeTree, TypeTree, DomainType, ArrayType, CreateWord, CreateBlock, CreateCyclic, CreateTree, InitTree, ItemInit, CreateInit, InitialTree, DeclareTree}
 use Rattle.dpl_language.specs.Values.{Value, Domain, Array, Index, ranges_in, coordinates, index_of, is_distributed, Fault}
 use Rattle.dpl_language.specs.Distributions.{Distribution, NoMap, BlockOver, CyclicFrom, BlockCyclicFrom, Root}
 use Rattle.dpl_language.specs.Ranges.{least_in}
@@ -13,19 +13,11 @@ use Rattle.dpl_language.specs.Expressions.{value_of, item_of, domain_of}
 use Rattle.dpl_language.specs.Declarations.{type_of}
 
 -- DERIVED VALUES: the name from which a value is derived, as `D` or `A.domain`, sliced or expanded. A literal is derived
--- from none.
-abbrev pub by_word : {N : Type 0} → Word → Option N → Option N
-by_word DomainOf name = name
-by_word _ name = None
-
-abbrev pub by_method : {N : Type 0} → MethodTree N → Option N → Option N
-by_method (Plainly at w) name = by_word w name
-by_method (Expand at from e upto) name = name
-by_method _ name = None
-
--- in brackets stand the ranges of a slice, or the indices of an element, which is no domain
+-- from none. In brackets stand the ranges of a slice, or the indices of an element, which is no domain.
 abbrev pub by_post : {N : Type 0} → PostTree N → Option N → Option N
-by_post (Dotted dot m) name = by_method m name
+by_post (Dotted dot (Plainly at DomainOf)) name = name
+by_post (Dotted dot (Expand at from e upto)) name = name
+by_post (Dotted dot m) name = None
 by_post _ name = name
 
 abbrev pub by_posts : {N : Type 0} → Posts N → Option N → Option N

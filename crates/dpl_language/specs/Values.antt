@@ -1,9 +1,12 @@
 -- The language's values, its faults, and what a value is where another kind of value is asked for.
 -- No sound program asks for another kind; each such case has an answer so that every program has a meaning.
-use Rattle.std.specs.Prelude.{ℕ, ℤ, pos, Bool, true, false, Option, Some, None, List, [], ◌∷◌, ◌++◌, int_lt}
+use Rattle.std.specs.Prelude.{ℕ, ℤ, pos, Bool, true, false, ◌||◌, Option, is_some, Some, None, List, [], ◌∷◌, ◌++◌, int_lt}
 use Rattle.dpl_syntax.specs.declared.place.Place.{Place}
 use Rattle.dpl_sets.specs.TextRanges.{TextRange}
 use Rattle.dpl_language.specs.Tree.{Kind, IntKind, BoolKind}
+-- the faults F1 to F8, in this order, which `dpl_syntax/src/fault.rt` declares
+pub use Rattle.dpl_syntax.specs.declared.fault.FaultCode.{FaultCode}
+pub use Rattle.dpl_syntax.specs.declared.fault.FaultCode.TheVariants.{Outside, ZeroDivisor, PastLimit, EmptyEnd, Budget, NoLocale, CellStuck, ArrayTooLarge}
 
 -- an index: the list of its one to three coordinates
 abbrev pub Index : Type 0
@@ -22,17 +25,6 @@ pub data Value : Type 0 where
   Locale : ℤ → Value
   AllLocales : Value
   Tuple : Index → Value
-
--- the faults F1 to F8, in this order
-pub data FaultCode : Type 0 where
-  Outside : FaultCode
-  ZeroDivisor : FaultCode
-  PastLimit : FaultCode
-  EmptyEnd : FaultCode
-  Budget : FaultCode
-  NoLocale : FaultCode
-  CellStuck : FaultCode
-  ArrayTooLarge : FaultCode
 
 -- In which turn a fault arose: in none; in that of an index, of a forall, a whole-array assignment or a reduction;
 -- or in a task, of which its number alone is told.
@@ -101,9 +93,7 @@ is_domain _ = false
 
 -- what is dealt out over locales: a domain, or an array
 abbrev pub is_distributed : Value → Bool
-is_distributed (Domain rs) = true
-is_distributed (Array k rs) = true
-is_distributed _ = false
+is_distributed v = is_domain v || is_some (array_domain v)
 
 -- a cell keeps a number: an int itself, and a truth value as 0 or 1
 abbrev pub kept_number : Value → ℤ

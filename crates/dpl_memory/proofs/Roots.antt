@@ -1,6 +1,6 @@
 -- Roots by slots: what a memory has of them stays where nothing is declared, and a declared domain or array has none until it
 -- is dealt out.
-use Rattle.std.proofs.Common.{◌≡◌, ◌≢◌, ℕ, ◌<◌, true, false, List, [], ◌∷◌, refl, sym, ap, ◌∙◌, subst, None, Option}
+use Rattle.std.proofs.Common.{◌≡◌, ◌≢◌, ℕ, ◌<◌, true, false, List, [], ◌∷◌, refl, sym, ap, ◌∙◌, subst, Option}
 use Rattle.std.specs.Prelude.{◌==◌, if◌then◌else◌, get_or, set}
 use Rattle.std.proofs.lemmas.List.{get_or-set_same, get_or-set_other, length-set}
 use Rattle.std.proofs.lemmas.Bool.Decides.{Decides-eqb}
@@ -10,7 +10,7 @@ use Rattle.dpl_language.specs.Distributions.{Root, no_root}
 use Rattle.dpl_agreement.proofs.Slots.{Sight as SlotSight, Mark, Name, IsFresh}
 use Rattle.dpl_agreement.proofs.SlotRoots.{Roots, set_root, roots_at, SameRoots, roots_at-same, roots_at-set}
 use Rattle.dpl_words.specs.Words.{IntLeaf, TruthLeaf, RangeLeaf}
-use Rattle.dpl_memory.specs.Memory.{VariableKind, PlainKind, DomainKind, TupleKind, ArrayKind, Variable, Held, Memory, value_in, with_value_in, with_element_in, declared_array, anew, redomained_in, root_in, with_root, undealt}
+use Rattle.dpl_memory.specs.Memory.{VariableKind, PlainKind, DomainKind, TupleKind, ArrayKind, Variable, Held, Memory, value_in, with_value_in, with_element_in, declared_array, redomained_in, root_in, with_root, undealt}
 use Rattle.dpl_memory.specs.Resolved.{content_in, HasSlots}
 use Rattle.dpl_memory.proofs.Wholes.{AreWhole}
 
