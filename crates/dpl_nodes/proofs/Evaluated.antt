@@ -11,7 +11,7 @@ use Rattle.dpl_sets.specs.TextRanges.{TextRange}
 use Rattle.dpl_language.specs.Tree.{Op, IntKind, BoolKind, ExprTree, FirstItem, NoItems, FirstExpr, NoExprs}
 use Rattle.dpl_language.specs.Values.{Value, Int, Truth, Range, number, truth, kept_number, ranges_in, all_ranges, Index, index_of, Fault, fault, Budget}
 use Rattle.dpl_language.specs.Arithmetic.{tested_divisor}
-use Rattle.dpl_language.specs.Ranges.{indices_in, size_in, bounded, strided_by, range_sliced, contains_index, dimension, members_of_first, end_of, first_of, last_of, least_of, greatest_of}
+use Rattle.dpl_language.specs.Ranges.{indices_in, size_in, bounded, strided_by, range_sliced, contains_index, dimension, members_of_first, end_of, low_of, members_in, first_of, last_of, least_of, greatest_of}
 use Rattle.dpl_language.specs.Outcome.{with_ok, naming_value}
 use Rattle.dpl_language.specs.Environment.{Limits}
 use Rattle.dpl_language.specs.Expressions.{folded, fold_over, reduction, found, unless_decided, bracketed, whole_in, value_of, item_of, stridden, items_of, values_of}
@@ -82,6 +82,11 @@ end-gives at end (m ∷ ms) = (end m ms, refl)
 ended : (at : Place) (end : ℤ → List ℤ → ℤ) (r : Result Value Fault) → Gives IntLeaf (with_ok r (λ v. with_ok (end_of at end (members_of_first (ranges_in v))) (λ w. Ok w)))
 ended at end (Ok v) = end-gives at end (members_of_first (ranges_in v))
 ended at end (Err e) = tt
+
+-- the least member of a range
+least : (at : Place) (r : Result Value Fault) → Gives RangeLeaf r → Gives IntLeaf (with_ok r (λ v. with_ok (low_of at v) (λ w. Ok w)))
+least at (Ok v) (x, e) = subst (λ v. Gives IntLeaf (with_ok (low_of at v) (λ w. Ok w))) (sym e) (end-gives at least_of (members_in x))
+least at (Err e) h = tt
 
 contained : (f : Value → List Value → Bool) (r : Result Value Fault) (q : Result (List Value) Fault) → Gives TruthLeaf (with_ok r (λ v. with_ok (with_ok q (λ vs. Ok (Truth (f v vs)))) (λ w. Ok w)))
 contained f (Ok v) (Ok vs) = (f v vs, refl)
@@ -177,6 +182,18 @@ module _ (limits : Limits) (s : Memory) where
       by (Err f) = tt
   sliced b (Err e) q h = tt
 
+  stridden-gives : (by : StrideNode) (range : Result TextRange Fault) → Gives RangeLeaf (stridden limits in_memory (stride_view by) range s)
+  stridden-gives Absent range = bounded-gives range
+  stridden-gives (By' at p e) range = strided-gives (value (int_view e)) range (λ v r. strided_by at.now (number v) r)
+
+  pub range_gives : (e : RangeExpr) → Gives RangeLeaf (value (range_view e))
+  range_gives (RangeLocal slot) = (get_or s.words.ranges slot no_range, refl)
+  range_gives (Between' p low at dots q high by) =
+      of_bounds (λ l h. stridden limits in_memory (stride_view by) (bounded at.now (dots_view dots) (number l) (number h)) s) (value (int_view low)) (value (int_view high))
+      (λ l h. stridden-gives by (bounded at.now (dots_view dots) (number l) (number h)))
+  range_gives (Slice' p r q cut) = sliced (base_of (range_view r)) (value (range_view r)) (items_of limits in_memory (FirstItem (range_item cut) NoItems) s) (range_gives r)
+  range_gives (Dimension' p d n) = dimensioned n (value (domain_view d))
+
   pub int_gives : (e : IntExpr) → Gives IntLeaf (value (int_view e))
   int_gives (NumberNode n) = (n, refl)
   int_gives (IntLocal slot) = (get_or s.words.numbers slot (pos 0), refl)
@@ -189,7 +206,7 @@ module _ (limits : Limits) (s : Memory) where
   int_gives (Size' p r) = int_one (λ v. pos (size_in (ranges_in v))) (value (range_view r))
   int_gives (First' p r at) = ended at.now first_of (value (range_view r))
   int_gives (Last' p r at) = ended at.now last_of (value (range_view r))
-  int_gives (Low' p r at) = ended at.now least_of (value (range_view r))
+  int_gives (Low' p r at) = least at.now (value (range_view r)) (range_gives r)
   int_gives (High' p r at) = ended at.now greatest_of (value (range_view r))
   int_gives (Count' p d) = int_one (λ v. pos (size_in (ranges_in v))) (value (domain_view d))
   int_gives (Element' slot p t at) =
@@ -198,18 +215,6 @@ module _ (limits : Limits) (s : Memory) where
   int_gives (IntReduced' f p e at) =
       reduction-gives IntLeaf (int_fold_view f) (int_unit f) (ints_combined f) limits.budget at.now (λ t. value_of limits in_memory (promoted_int EachTurn e) (Some t) s)
       (whole_in limits in_memory (promoted_int EachTurn e) s)
-
-  stridden-gives : (by : StrideNode) (range : Result TextRange Fault) → Gives RangeLeaf (stridden limits in_memory (stride_view by) range s)
-  stridden-gives Absent range = bounded-gives range
-  stridden-gives (By' at p e) range = strided-gives (value (int_view e)) range (λ v r. strided_by at.now (number v) r)
-
-  pub range_gives : (e : RangeExpr) → Gives RangeLeaf (value (range_view e))
-  range_gives (RangeLocal slot) = (get_or s.words.ranges slot no_range, refl)
-  range_gives (Between' p low at dots q high by) =
-      of_bounds (λ l h. stridden limits in_memory (stride_view by) (bounded at.now (dots_view dots) (number l) (number h)) s) (value (int_view low)) (value (int_view high))
-      (λ l h. stridden-gives by (bounded at.now (dots_view dots) (number l) (number h)))
-  range_gives (Slice' p r q cut) = sliced (base_of (range_view r)) (value (range_view r)) (items_of limits in_memory (FirstItem (range_item cut) NoItems) s) (range_gives r)
-  range_gives (Dimension' p d n) = dimensioned n (value (domain_view d))
 
   pub item_gives : (e : RangeExpr) → Gives RangeLeaf (item_of limits in_memory (range_item e) None s)
   item_gives (RangeLocal slot) = range_gives (RangeLocal slot)

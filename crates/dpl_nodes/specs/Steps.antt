@@ -1,6 +1,5 @@
 -- The plain statement that a typed statement stands for.
 -- It is a lowered one over slots: each body is a list, and the places are those of faults alone.
-use Rattle.std.specs.Borrow.{Bor}
 use Rattle.std.specs.Prelude.{ℕ, Bool, false, Option, Some, None, List, [], ◌∷◌, map, option_map}
 use Rattle.dpl_syntax.specs.declared.place.Place.{Place}
 use Rattle.dpl_language.specs.Tree.{Placed, AfterComma, Listed, Op, Assign, Set, SetAdd, SetSubtract, SetMultiply, SetDivide, SetRemainder, SetReduce, Kind, IntKind, BoolKind, ExprTree, Grouped, Items, ItemTree, One, Plainly, StartTree, StartExpr, StartTuple, MapTree, MappedTree, CreateBlock, CreateCyclic, TypeTree, ArrayType, InitialTree, ArgumentTree, TextArgument, ExprArgument, VariablesTree, OneVariable, ManyVariables, Whole, Element, Square, StmtTree, Nothing, Declare, Assigned, Write, Block, If, While, For, Forall, Body, BlockBody, Stmts, NoStmts, Then, Else, NoElse, ElseDo}
@@ -31,9 +30,13 @@ use Rattle.dpl_nodes.specs.declared.step.Rank.{Rank}
 use Rattle.dpl_nodes.specs.declared.step.Rank.TheVariants as rank
 use Rattle.dpl_nodes.specs.declared.step.Names.{Names}
 use Rattle.dpl_nodes.specs.declared.step.Names.TheVariants.{Int as IntName, Tuple as TupleName, Each}
-use Rattle.dpl_nodes.specs.declared.step.Step.{Step, Nothing as NothingStep, Int as IntStep, DeclareRange, SetRange, Truth as TruthStep, DeclareDomain, DeclareEmpty, SetDomain, DeclareArray, SetElement, SetTruthElement, SetArray, SetTruthArray, Write as WriteStep, Block', If', While', For', Forall', ForEach', ForallEach', Row_of-Step, end_of-Step, more_of-Step}
+use Rattle.dpl_nodes.specs.declared.step.Step.{Step, Nothing as NothingStep, Int as IntStep, DeclareRange, SetRange, Truth as TruthStep, DeclareDomain, SetDomain, DeclareArray, SetElement, SetArray, SetTruthArray, Write as WriteStep, Block', If', While', For', Forall', ForEach', ForallEach', Row_of-Step, end_of-Step, more_of-Step}
 use Rattle.dpl_nodes.specs.declared.step.IntDeed.{IntDeed}
 use Rattle.dpl_nodes.specs.declared.step.IntDeed.TheVariants as deeds
+use Rattle.dpl_nodes.specs.declared.step.Beginning.{Beginning}
+use Rattle.dpl_nodes.specs.declared.step.Beginning.TheVariants.{Value, Empty}
+use Rattle.dpl_nodes.specs.declared.step.TruthTarget.{TruthTarget}
+use Rattle.dpl_nodes.specs.declared.step.TruthTarget.TheVariants as target
 use Rattle.dpl_nodes.specs.declared.step.TruthDeed.{TruthDeed}
 use Rattle.dpl_nodes.specs.declared.step.TruthDeed.TheVariants as deed
 use Rattle.dpl_nodes.specs.declared.step.Else.{Else as ElseNode, Absent, Do'}
@@ -177,25 +180,26 @@ placed_type (Mapped m) = None
 placed_type BlockCreated = None
 placed_type CyclicCreated = None
 
-abbrev pub mapped_view : Option (Bor MapExpr) → Option (MappedTree Variable)
-mapped_view None = None
-mapped_view (Some m) = Some (mapped_by (map_view m.now))
+-- of a domain without an initial value its type has the map
+abbrev pub typed_map : Placing → Option (MappedTree Variable)
+typed_map Derived = None
+typed_map placing.Root = None
+typed_map (Mapped m) = Some (mapped_by (map_view m.now))
+typed_map BlockCreated = None
+typed_map CyclicCreated = None
 
--- a domain's declaration with an initial value; and without one, of a rank
-abbrev pub domain_declared : ℕ → ExprTree Variable → Placing → StmtTree Variable
-domain_declared slot e placing = Declare (record {
+abbrev pub domain_declared : ℕ → Beginning → Placing → StmtTree Variable
+domain_declared slot (Value e) placing = Declare (record {
   config = None;
   at = nowhere;
   constant = false;
   name = unplaced_leaf (variable DomainKind slot);
   typed = option_map written_type (placed_type placing);
-  initial = Some (mapped_initial nowhere (One e) (placed_map placing e));
+  initial = Some (mapped_initial nowhere (One (domain_view e.now)) (placed_map placing (domain_view e.now)));
   semicolon = nowhere;
 })
-
-abbrev pub empty_declared : ℕ → Rank → Option (Bor MapExpr) → StmtTree Variable
-empty_declared slot rank mapped =
-    declared_with (unplaced_leaf (variable DomainKind slot)) (ranked_type (dimensions rank) (mapped_view mapped)) None
+domain_declared slot (Empty rank) placing =
+    declared_with (unplaced_leaf (variable DomainKind slot)) (ranked_type (dimensions rank) (typed_map placing)) None
 
 -- what stands between an array's brackets
 abbrev pub over_items : DeclaredOver → Items Variable
@@ -235,6 +239,11 @@ array_declared d = declared_with (placed_leaf d.at.now (variable (ArrayKind (ini
 abbrev pub domain_leaf : DomainName → Placed Variable
 domain_leaf x = placed_leaf x.at.now (record { kind = DomainKind; slot = x.slot; along = x.arrays.now })
 
+-- what is done to a variable or an element that is a truth value
+abbrev pub truth_stated : TruthTarget → ExprTree Variable → StmtTree Variable
+truth_stated (target.Slot deed slot) e = truth_changed deed slot (One e)
+truth_stated (target.Element x t) e = element_set (array_leaf BoolKind x.now) t.now Set nowhere e
+
 -- a loop's variable, which is an int
 abbrev pub variable_in : ℕ → VariablesTree Variable
 variable_in slot = OneVariable (unplaced_leaf (int_leaf slot))
@@ -258,13 +267,11 @@ abbrev mutual
   step_view (IntStep deed slot e) = int_changed deed slot (One (int_view e.now))
   step_view (DeclareRange slot e) = declared_as None (range_leaf slot) (range_item e.now)
   step_view (SetRange slot e) = assigned_to (range_leaf slot) Set nowhere (range_item e.now)
-  step_view (TruthStep deed slot e) = truth_changed deed slot (One (truth_view e.now))
-  step_view (DeclareDomain slot e placing) = domain_declared slot (domain_view e.now) placing
-  step_view (DeclareEmpty slot rank mapped) = empty_declared slot rank mapped
+  step_view (TruthStep target e) = truth_stated target (truth_view e.now)
+  step_view (DeclareDomain slot begun placing) = domain_declared slot begun placing
   step_view (SetDomain x e) = whole_set (domain_leaf x.now) Set nowhere (domain_view e.now)
   step_view (DeclareArray d) = array_declared d.now
   step_view (SetElement x t op at e) = element_set (array_leaf IntKind x.now) t.now op at.now (int_view e.now)
-  step_view (SetTruthElement x t e) = element_set (array_leaf BoolKind x.now) t.now Set nowhere (truth_view e.now)
   step_view (SetArray x op at e) = whole_set (array_leaf IntKind x.now) op at.now (promoted_int EachTurn e.now)
   step_view (SetTruthArray x at e) = whole_set (array_leaf BoolKind x.now) Set at.now (promoted_truth EachTurn e.now)
   step_view (WriteStep ends_line arguments) = written_as ends_line arguments.now

@@ -29,7 +29,7 @@ pub enum MapExpr<'t> {
     BlockCyclic(StartExpr<'t>, StartExpr<'t>),
 }
 
-/// What is said of the map of a domain that is declared with an initial value.
+/// What a domain's declaration says of its map.
 #[derive(Clone, Copy)]
 pub enum Placing<'t> {
     /// Nothing: it has the root of the domain or array from which its value is derived, and is a root where it is derived from none.

@@ -1,7 +1,7 @@
 // Typed statements. A variable is its slot, a body is a list, and each declaration of a plain variable has an initial value.
 // They lie in the arena of the tree; specs/Steps.antt gives the plain statement that each stands for.
 
-use crate::placing::{MapExpr, Placing};
+use crate::placing::Placing;
 use crate::spot::Spot;
 use crate::tree::{
     BoolExpr, DomainExpr, IndexExpr, IntExpr, PromotedInt, PromotedTruth, RangeExpr, RangesExpr,
@@ -126,6 +126,21 @@ pub enum TruthDeed {
     Reduce,
 }
 
+/// To what a truth value's statement does something: the variable in a slot, or by `=` an element of an array. They share one
+/// variant of `Step`, as ints' do.
+#[derive(Clone, Copy)]
+pub enum TruthTarget<'t> {
+    Slot(TruthDeed, usize),
+    Element(&'t ArrayName<'t>, &'t IndexExpr<'t>),
+}
+
+/// What a domain begins with: its initial value; or without one no index, in as many dimensions as its rank.
+#[derive(Clone, Copy)]
+pub enum Beginning<'t> {
+    Value(&'t DomainExpr<'t>),
+    Empty(Rank),
+}
+
 /// A statement.
 #[cycle(step)]
 #[derive(Clone, Copy)]
@@ -138,19 +153,15 @@ pub enum Step<'t> {
     DeclareRange(usize, &'t RangeExpr<'t>),
     /// `=` to a range.
     SetRange(usize, &'t RangeExpr<'t>),
-    /// A truth value's declaration, or an assignment to it.
-    Truth(TruthDeed, usize, &'t BoolExpr<'t>),
-    /// A domain's declaration, with its initial value and what is said of its map; or without one, with its rank and its map, if one
-    /// is named.
-    DeclareDomain(usize, &'t DomainExpr<'t>, Placing<'t>),
-    DeclareEmpty(usize, Rank, Option<&'t MapExpr<'t>>),
+    /// A truth value's declaration, or an assignment to it or to an element that is one.
+    Truth(TruthTarget<'t>, &'t BoolExpr<'t>),
+    /// A domain's declaration, with what it begins with and what is said of its map.
+    DeclareDomain(usize, Beginning<'t>, Placing<'t>),
     /// `=` to a domain, with which the arrays that are declared over it change.
     SetDomain(&'t DomainName<'t>, &'t DomainExpr<'t>),
     DeclareArray(&'t ArrayDeclaration<'t>),
     /// An assignment to an element, by whichever operator, with the place where a division by zero is told.
     SetElement(&'t ArrayName<'t>, &'t IndexExpr<'t>, Assign, &'t Spot, &'t IntExpr<'t>),
-    /// `=` to an element that is a truth value.
-    SetTruthElement(&'t ArrayName<'t>, &'t IndexExpr<'t>, &'t BoolExpr<'t>),
     /// An assignment to a whole array, with the place where a division by zero, and more elements than the budget, are told.
     SetArray(&'t ArrayName<'t>, Assign, &'t Spot, &'t PromotedInt<'t>),
     SetTruthArray(&'t ArrayName<'t>, &'t Spot, &'t PromotedTruth<'t>),
