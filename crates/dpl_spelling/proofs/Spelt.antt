@@ -1,6 +1,6 @@
 -- Each tree that tokens spell is as specs/Spelt.antt says, rule by rule of the grammar: expressions, and what they are made of.
 -- What holds of the rules one level deeper is handed in.
-use Rattle.std.proofs.Common.{◌≡◌, Bool, true, false, cond, List, [], ◌∷◌, Option, Some, None, refl}
+use Rattle.std.proofs.Common.{◌≡◌, ◌≢◌, Bool, true, false, cond, List, [], ◌∷◌, Option, Some, None, refl}
 use Rattle.dpl_syntax.specs.declared.place.Place.{Place}
 use Rattle.dpl_syntax.specs.declared.token.Token.{Token}
 use Rattle.dpl_language.specs.Names.{Text}
@@ -25,7 +25,7 @@ PlaceSpelt P k = P k.at
 
 abbrev pub InsideSpelt : (Place → Type 0) → Type 0 → Inside → Type 0
 InsideSpelt P W (OneItem x) = ItemSpelt P W x
-InsideSpelt P W (Tuple xs) = ListSpelt P W (ExprSpelt P W) xs
+InsideSpelt P W (Tuple xs) = ListSpelt P W (ExprSpelt P W) xs × (xs.others ≢ [])
 
 -- of the value of each rule that may stand one level deeper
 abbrev pub NestedSpelt : (Place → Type 0) → Type 0 → (n : Nested) → Value n → Type 0

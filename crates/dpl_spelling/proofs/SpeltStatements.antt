@@ -49,7 +49,7 @@ module _ (P : Place → Type 0) (W : Type 0) (g : Deep nested) (inner : (n : Nes
   unfolding tuple_end
   tuple_end_spelt =
       of_parts (of_part (after_comma_spelt P W g (expression_spelt P W g inner)) (λ y p.
-      of_last (of_maybe (after_comma_spelt P W g (expression_spelt P W g inner))) (λ z q x r. (r, (p, if_there_each _ z q)))))
+      of_last (of_maybe (after_comma_spelt P W g (expression_spelt P W g inner))) (λ z q x r. ((r, (p, if_there_each _ z q)), λ none. absurd cc))))
 
   pub inside_spelt : Is P W g inside (InsideSpelt P W)
   unfolding inside
@@ -67,7 +67,7 @@ module _ (P : Place → Type 0) (W : Type 0) (g : Deep nested) (inner : (n : Nes
     where
       by : (x : Inside) → InsideSpelt P W x → Begins (ExprSpelt P W) (StartSpelt P W) (holding b.from x b.upto)
       by (OneItem x) k = (h.0, k, h.2)
-      by (Tuple xs) k = (h.0, k, h.2)
+      by (Tuple xs) k = (h.0, k.0, h.2, k.1)
 
   expression_end_spelt : Is P W g expression_end (λ make. (e : Expression) → ExprSpelt P W e → StartSpelt P W (make e))
   unfolding expression_end

@@ -1,7 +1,7 @@
--- What is true of each tree that tokens spell: the operators of a chain are of one level, and something stands behind each base
--- that isn't alone; of the place of each of its tokens P is true, where it is true of the places of the tokens; and W is true where it has
+-- What is true of each tree that tokens spell: the operators of a chain are of one level, something stands behind each base that
+-- isn't alone, and a tuple that a map starts with has two or more; of the place of each of its tokens P is true, where it is true of the places of the tokens; and W is true where it has
 -- one of the words of tasks, where that follows for the tokens.
-use Rattle.std.specs.Prelude.{◌≡◌}
+use Rattle.std.specs.Prelude.{◌≡◌, ◌≢◌, []}
 use Rattle.dpl_syntax.specs.declared.place.Place.{Place}
 use Rattle.dpl_language.specs.Spelled.{HasPosts, SaysType}
 use Rattle.dpl_language.specs.Names.{Text}
@@ -124,7 +124,7 @@ module _ (P : Place → Type 0) (W : Type 0) where
 
   abbrev pub StartSpelt : StartTree Text → Type 0
   StartSpelt (StartExpr e) = ExprSpelt e
-  StartSpelt (StartTuple from xs upto) = P from × ListSpelt ExprSpelt xs × P upto
+  StartSpelt (StartTuple from xs upto) = P from × ListSpelt ExprSpelt xs × P upto × (xs.others ≢ [])
 
   abbrev pub MapSpelt : MapTree Text → Type 0
   MapSpelt (BlockMap m) = P m.new × P m.word × P m.from × IfThere ArgumentNameSpelt m.argument × ItemSpelt m.box × P m.upto
