@@ -27,8 +27,11 @@ pub enum Typed<'t> {
     Truths(&'t PromotedTruth<'t>),
 }
 
-// The place of a fault, in the arena.
-pub(crate) fn spot<'t>(arena: Arena<'t>, at: Place) -> Result<&'t Spot, NoNode>
+/// The place of a fault, in the arena.
+///
+/// # Errors
+/// Out of memory; a place past 2^21, which no text has.
+pub fn spot<'t>(arena: Arena<'t>, at: Place) -> Result<&'t Spot, NoNode>
     ensures near { IfOk result (λ s. s.now ≡ at) }
     ensures far { (result ≡ Err stop.IllTyped) → IsNear at → ⊥ }
 {
