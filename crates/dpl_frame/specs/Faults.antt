@@ -2,23 +2,11 @@
 use Rattle.std.specs.Prelude.{◌≡◌, ℕ, ◌^◌, ◌/◌, ◌%◌, zero, suc, nat_lt, ℤ, Bool, if◌then◌else◌, Option, Some, None, Result, Ok, Err, List, [], ◌∷◌}
 use Rattle.dpl_sets.specs.TextRanges.{TextRange}
 use Rattle.dpl_language.specs.Values.{Value, Int, Truth, Range, Domain, FaultCode, Outside, ZeroDivisor, PastLimit, EmptyEnd, Budget, NoLocale, CellStuck, ArrayTooLarge, Turn, InNone, InTurn, Fault, in_the_turn}
-use Rattle.dpl_frame.specs.declared.fault.FaultCode.{FaultCode as CodeNode}
-use Rattle.dpl_frame.specs.declared.fault.FaultCode.TheVariants as code
 use Rattle.dpl_frame.specs.declared.fault.Turn.{Turn as TurnNode}
 use Rattle.dpl_frame.specs.declared.fault.Turn.TheVariants as turn
 use Rattle.dpl_frame.specs.declared.fault.Fault.{Fault as FaultNode}
 use Rattle.dpl_contents.specs.declared.range.RangeWord.{RangeWord}
 use Rattle.dpl_contents.specs.Range.{range_word}
-
-abbrev pub code_view : CodeNode → FaultCode
-code_view code.Outside = Outside
-code_view code.ZeroDivisor = ZeroDivisor
-code_view code.PastLimit = PastLimit
-code_view code.EmptyEnd = EmptyEnd
-code_view code.Budget = Budget
-code_view code.NoLocale = NoLocale
-code_view code.CellStuck = CellStuck
-code_view code.ArrayTooLarge = ArrayTooLarge
 
 -- the code that a number stands for
 abbrev pub code_of : ℕ → FaultCode
@@ -39,7 +27,7 @@ turn_view (turn.Plane i j) = InTurn (i ∷ j ∷ [])
 turn_view (turn.Space i j k) = InTurn (i ∷ j ∷ k ∷ [])
 
 abbrev pub fault_view : FaultNode → Fault
-fault_view f = record { code = code_view f.code; at = f.at; turn = turn_view f.turn }
+fault_view f = record { code = f.code; at = f.at; turn = turn_view f.turn }
 
 -- the fault of a word, by its code, its line and its column; it is in no turn
 abbrev pub fault_of : ℕ → Fault

@@ -3,56 +3,33 @@
 
 ghost use Rattle.std.specs.Prelude.{◌≡◌, ◌<◌, ◌/◌, option_map};
 ghost use Rattle.dpl_language.specs.Values.{fault, Fault as FaultValue, InNone, InTurn, in_the_turn};
-ghost use Rattle.dpl_frame.specs.Faults.{code_view, code_of, turn_view, fault_view, fault_of, fault_in, Faulted, Refused};
+ghost use Rattle.dpl_frame.specs.Faults.{code_of, turn_view, fault_view, fault_of, fault_in, Faulted, Refused};
 
 use dpl_domain::Index;
 use dpl_nodes::Spot;
-use dpl_syntax::Place;
+use dpl_syntax::{FaultCode, Place};
 use std::marker::Model;
 
-/// Which fault it is.
-#[derive(Clone, Copy, PartialEq, Eq, Debug)]
-pub enum FaultCode {
-    /// `F1`: an index outside an array.
-    Outside,
-    /// `F2`: a division by zero.
-    ZeroDivisor,
-    /// `F3`: a bound, a stride, a count, a domain or a number of tasks past its limit.
-    PastLimit,
-    /// `F4`: an end of an empty range.
-    EmptyEnd,
-    /// `F5`: a loop with more turns than the budget.
-    Budget,
-    /// `F6`: a locale that isn't there.
-    NoLocale,
-    /// `F7`: an operation on a cell that stays blocked.
-    CellStuck,
-    /// `F8`: an array past its limit.
-    ArrayTooLarge,
-}
-
-impl FaultCode {
-    // Its number in a word.
-    fn number(self) -> u64
-        ensures below { result < 8 }
-        ensures back { code_of result ≡ code_view self }
-    {
-        match self {
-            FaultCode::Outside => 0,
-            FaultCode::ZeroDivisor => 1,
-            FaultCode::PastLimit => 2,
-            FaultCode::EmptyEnd => 3,
-            FaultCode::Budget => 4,
-            FaultCode::NoLocale => 5,
-            FaultCode::CellStuck => 6,
-            FaultCode::ArrayTooLarge => 7,
-        }
+// The number of a code in a word.
+fn number_of(code: FaultCode) -> u64
+    ensures below { result < 8 }
+    ensures back { code_of result ≡ code }
+{
+    match code {
+        FaultCode::Outside => 0,
+        FaultCode::ZeroDivisor => 1,
+        FaultCode::PastLimit => 2,
+        FaultCode::EmptyEnd => 3,
+        FaultCode::Budget => 4,
+        FaultCode::NoLocale => 5,
+        FaultCode::CellStuck => 6,
+        FaultCode::ArrayTooLarge => 7,
     }
 }
 
 // The code that a number stands for.
 fn numbered(number: u64) -> FaultCode
-    ensures { code_view result ≡ code_of number }
+    ensures { result ≡ code_of number }
 {
     match number {
         0 => FaultCode::Outside,
@@ -102,11 +79,11 @@ const CODE: u64 = 4_398_046_511_104;
 
 // A fault in a word: its code, its line and its column.
 fn packed(code: FaultCode, at: Spot) -> u64
-    ensures fault { fault_of result ≡ fault (code_view code) at }
+    ensures fault { fault_of result ≡ fault code at }
     ensures code { result / 4398046511104 < 8 }
 {
     let place = at.place();
-    (code.number() * 2_097_152 + u64::from(place.line)) * 2_097_152 + u64::from(place.column)
+    (number_of(code) * 2_097_152 + u64::from(place.line)) * 2_097_152 + u64::from(place.column)
 }
 
 // The fault of a word, in a turn.
@@ -143,7 +120,7 @@ impl Alarm {
     #[cold]
     #[inline(never)]
     pub fn new(code: FaultCode, at: Spot, turn: &mut Turn) -> Alarm
-        ensures alarm { result ≡ Faulted (fault (code_view code) at) }
+        ensures alarm { result ≡ Faulted (fault code at) }
         ensures no_turn { turn_view turn.new ≡ InNone }
     {
         *turn = Turn::Absent;
@@ -208,7 +185,7 @@ impl Trap {
     #[cold]
     #[inline(never)]
     pub fn new(code: FaultCode, at: Spot) -> Trap
-        ensures { result ≡ fault (code_view code) at }
+        ensures { result ≡ fault code at }
     {
         Trap {
             word: packed(code, at),

@@ -13,6 +13,7 @@ pub mod slots;
 
 pub use arrays::Arrays;
 pub use dpl_contents::{DomainWord, RangeWord};
-pub use fault::{Alarm, Fault, FaultCode, Trap, Truth, Turn};
+pub use dpl_syntax::FaultCode;
+pub use fault::{Alarm, Fault, Trap, Truth, Turn};
 pub use frame::Frame;
 pub use slots::Slots;

@@ -66,15 +66,13 @@ combined Greatest v w = Int (int_max (number v) (number w))
 
 -- what the operator gives over nothing: for `min` the greatest int, for `max` the least
 abbrev pub unit_of : Op → Value
-unit_of Sum = Int (pos 0)
 unit_of Product = Int (pos 1)
 unit_of AllOf = Truth true
 unit_of AnyOf = Truth false
 unit_of BitAnd = Int (neg_ℤ (pos 1))
-unit_of BitOr = Int (pos 0)
-unit_of BitXor = Int (pos 0)
 unit_of Least = Int (pos 9223372036854775807)
 unit_of Greatest = Int (neg_ℤ (pos 9223372036854775808))
+unit_of _ = Int (pos 0)
 
 -- `reduce=` is by the operator of the loop's intent
 abbrev pub by_intent : Option Op → Value → Value → Value

@@ -58,18 +58,11 @@ module _ {N S : Type 0} (limits : Limits) (env : Environment N S) where
     -- and has a value at each index of it. A bare array name is a whole array; what stands before a dot or before
     -- indices, and in them, is none; and neither is what a reduction folds.
     pub whole_in : ExprTree N → S → Option (List TextRange)
-    whole_in (Number at n) s = None
-    whole_in (TruthWord at b) s = None
     whole_in (Named x) s = array_domain (env.get x.name s)
-    whole_in (LocalesWord at) s = None
-    whole_in (LocaleCount at) s = None
-    whole_in (HereWord at) s = None
     whole_in (Grouped from item upto) s = whole_item item s
-    whole_in (DomainLiteral from items upto) s = None
     whole_in (Prefixed at op e) s = whole_in e s
-    whole_in (Reduced at op word e) s = None
     whole_in (Chain e rest) s = option_or (whole_in e s) (whole_links rest s)
-    whole_in (Postfixed e posts) s = None
+    whole_in _ s = None
 
     pub whole_item : ItemTree N → S → Option (List TextRange)
     whole_item (One e) s = whole_in e s

@@ -4,6 +4,9 @@ use Rattle.std.specs.Prelude.{ℕ, ℤ, pos, Bool, true, false, Option, Some, No
 use Rattle.dpl_syntax.specs.declared.place.Place.{Place}
 use Rattle.dpl_sets.specs.TextRanges.{TextRange}
 use Rattle.dpl_language.specs.Tree.{Kind, IntKind, BoolKind}
+-- the faults F1 to F8, in this order, which `dpl_syntax/src/fault.rt` declares
+pub use Rattle.dpl_syntax.specs.declared.fault.FaultCode.{FaultCode}
+pub use Rattle.dpl_syntax.specs.declared.fault.FaultCode.TheVariants.{Outside, ZeroDivisor, PastLimit, EmptyEnd, Budget, NoLocale, CellStuck, ArrayTooLarge}
 
 -- an index: the list of its one to three coordinates
 abbrev pub Index : Type 0
@@ -22,17 +25,6 @@ pub data Value : Type 0 where
   Locale : ℤ → Value
   AllLocales : Value
   Tuple : Index → Value
-
--- the faults F1 to F8, in this order
-pub data FaultCode : Type 0 where
-  Outside : FaultCode
-  ZeroDivisor : FaultCode
-  PastLimit : FaultCode
-  EmptyEnd : FaultCode
-  Budget : FaultCode
-  NoLocale : FaultCode
-  CellStuck : FaultCode
-  ArrayTooLarge : FaultCode
 
 -- In which turn a fault arose: in none; in that of an index, of a forall, a whole-array assignment or a reduction;
 -- or in a task, of which its number alone is told.

@@ -94,11 +94,10 @@ module _ (scopes : Scopes) where
 
   -- a domain's rank is 1 to 3, which is C5 at the number; an array is over one domain or 1 to 3 ranges
   abbrev pub type_breaches : TypeTree Text → List Breach
-  type_breaches (ScalarType at k) = []
-  type_breaches (SyncType at kind_at k) = []
   type_breaches (DomainType d) =
       owed (nat_le 1 d.rank && nat_le d.rank 3) d.rank_at WrongRank ++ mapped_breaches scopes (Some d.rank) d.mapped
   type_breaches (ArrayType a) = items_breaches scopes a.over ++ broken_by (over_verdict a.from (item_parts scopes a.over))
+  type_breaches _ = []
 
   -- ---- initial values
   abbrev pub init_part : InitTree Text → Part

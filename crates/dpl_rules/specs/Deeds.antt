@@ -172,11 +172,9 @@ module _ (scopes : Scopes) where
     post_deeds inner (Dotted dot m) = method_deeds inner m
 
     pub method_deeds : Bool → MethodTree Text → List Deed
-    method_deeds inner (Plainly at w) = []
-    method_deeds inner (Dim at from rank_at d upto) = []
     method_deeds inner (Contains at from es upto) = exprs_deeds inner es
     method_deeds inner (Expand at from e upto) = expr_deeds inner e
-    method_deeds inner (CellRead at w from upto) = []
+    method_deeds inner _ = []
 
     pub items_deeds : Bool → Items Text → List Deed
     items_deeds inner (FirstItem i more) = item_deeds inner i ++ more_items_deeds inner more

@@ -60,11 +60,9 @@ module _ (scopes : Scopes) where
   mapped_deeds mapped = where_given mapped (λ m. map_deeds m.map)
 
   abbrev pub type_deeds : Option (TypeTree Text) → List Deed
-  type_deeds None = []
-  type_deeds (Some (ScalarType at k)) = []
-  type_deeds (Some (SyncType at kind_at k)) = []
   type_deeds (Some (DomainType d)) = mapped_deeds d.mapped
   type_deeds (Some (ArrayType a)) = items_deeds scopes false a.over
+  type_deeds _ = []
 
   abbrev pub init_deeds : InitTree Text → List Deed
   init_deeds (ItemInit item mapped) = item_deeds scopes false item ++ mapped_deeds mapped

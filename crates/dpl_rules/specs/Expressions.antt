@@ -148,11 +148,9 @@ module _ (scopes : Scopes) where
     post_breaches (Dotted dot m) = method_breaches m
 
     pub method_breaches : MethodTree Text → List Breach
-    method_breaches (Plainly at w) = []
-    method_breaches (Dim at from rank_at d upto) = []
     method_breaches (Contains at from es upto) = exprs_breaches es
     method_breaches (Expand at from e upto) = expr_breaches e
-    method_breaches (CellRead at w from upto) = []
+    method_breaches _ = []
 
     pub items_breaches : Items Text → List Breach
     items_breaches (FirstItem i more) = item_breaches i ++ more_items_breaches more

@@ -5,7 +5,7 @@ ghost use Rattle.std.specs.Prelude.{◌≡◌, ◌++◌, ◌∷◌, [], None, If
 ghost use Rattle.dpl_syntax.specs.Lines.{refusal_text};
 ghost use Rattle.dpl_language.specs.Program.{fault_code_text, fault_text, line_ended, turn_text};
 ghost use Rattle.dpl_language.specs.Values.{InNone, InTurn};
-ghost use Rattle.dpl_frame.specs.Faults.{code_view, fault_view, turn_view};
+ghost use Rattle.dpl_frame.specs.Faults.{fault_view, turn_view};
 
 use dpl_domain::Index;
 use dpl_frame::{Fault, FaultCode, Turn};
@@ -25,7 +25,7 @@ fn is_mid_line(text: &[u8]) -> bool
 
 // The name of a fault.
 fn code_text(code: FaultCode) -> &'static str
-    ensures { result.now ≡ fault_code_text (code_view code) }
+    ensures { result.now ≡ fault_code_text code }
 {
     match code {
         FaultCode::Outside => "F1",

@@ -1,8 +1,9 @@
-// The language's words: places, tokens, the operators and words of trees, refusals, and in specs/ the tokens that a text has. dpl_lexer reads them.
+// The language's words: places, tokens, the operators and words of trees, refusals, faults, and in specs/ the tokens that a text has. dpl_lexer reads them.
 // Everything above speaks of these, and of the definitions over them in specs/.
 #![tactic(auto)]
 
 pub mod bytes;
+pub mod fault;
 pub mod operator;
 pub mod place;
 pub mod refusal;
@@ -10,6 +11,7 @@ pub mod stop;
 pub mod token;
 
 pub use bytes::Bytes;
+pub use fault::FaultCode;
 pub use operator::{
     Assign, BracketPair, CreateWord, Dots, Infix, Module, Op, Prefix, ReadWord, ScalarKind, Word,
     WriteWord,
