@@ -8,7 +8,10 @@ pub mod Names
 pub mod Expressions
 pub mod Statements
 pub mod Foralls
+pub mod Depth
 -- Rows: what texts write, and which word of them does not run.
 pub mod Closed
 pub mod Runs
+pub mod Grammar
+pub mod Corners
 pub mod Orders

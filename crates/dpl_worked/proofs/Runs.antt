@@ -53,7 +53,7 @@ abbrev of_tokens : Option (List Token) → Option (List ℕ)
 of_tokens None = None
 of_tokens (Some ks) = of_read (read 64 ks)
 
-abbrev writes : List ℕ → Option (List ℕ)
+abbrev pub writes : List ℕ → Option (List ℕ)
 writes text = of_tokens (tokens_of text)
 
 -- ---- what that is
