@@ -36,6 +36,35 @@ nothing_is_printed_before_a_fault : writes (codes "write(1); write(2, 1 / 0);") 
 unfolding by_text int_wrap digits members indices
 nothing_is_printed_before_a_fault = refl
 
+-- ---- from left to right: of two faults the one that is met first
+operands : writes (codes "writeln(1 / 0 + 1 % 0);") ≡ Some (codes "! F2 at 1:11\n")
+unfolding by_text int_wrap digits members indices
+operands = refl
+
+ends_of_a_range : writes (codes "for i in 1 / 0..2 % 0 do ;") ≡ Some (codes "! F2 at 1:12\n")
+unfolding by_text int_wrap digits members indices
+ends_of_a_range = refl
+
+end_before_stride : writes (codes "for i in 1..2 % 0 by 1 / 0 do ;") ≡ Some (codes "! F2 at 1:15\n")
+unfolding by_text int_wrap digits members indices
+end_before_stride = refl
+
+indices_of_an_access : writes (codes "var A: [1..2, 1..2] int; writeln(A[1 / 0, 1 % 0]);") ≡ Some (codes "! F2 at 1:38\n")
+unfolding by_text int_wrap digits members indices
+indices_of_an_access = refl
+
+arguments : writes (codes "writeln(1 / 0, 1 % 0);") ≡ Some (codes "! F2 at 1:11\n")
+unfolding by_text int_wrap digits members indices
+arguments = refl
+
+a_range_is_tested_before_the_next : writes (codes "const D = {1..1152921504606846977, 1 / 0..2};") ≡ Some (codes "! F3 at 1:13\n")
+unfolding by_text int_wrap digits members indices
+a_range_is_tested_before_the_next = refl
+
+ranges_before_the_size : writes (codes "const D = {1..1099511627777, 1 / 0..2};") ≡ Some (codes "! F2 at 1:32\n")
+unfolding by_text int_wrap digits members indices
+ranges_before_the_size = refl
+
 -- ---- scopes
 each_turn_declares_anew : writes (codes "for i in 1..2 { var x: int; x += i; write(x); }") ≡ Some (codes "12")
 unfolding by_text int_wrap digits members indices

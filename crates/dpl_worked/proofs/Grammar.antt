@@ -1,12 +1,12 @@
 -- How the grammar reads expressions, items, statements and words, seen in what texts write: each row fails for a tree of another form.
 -- Each row is computed from the text's bytes on.
-use Rattle.std.proofs.Common.{◌≡◌, ◌++◌, Some, refl}
+use Rattle.std.proofs.Common.{◌≡◌, ◌∷◌, ◌++◌, Some, refl}
 use Rattle.std.specs.Prelude.{codes}
 use Rattle.std.specs.Int.{int_wrap}
 use Rattle.std.specs.Fmt.{digits}
 use Rattle.dpl_sets.specs.Members.{members}
 use Rattle.dpl_sets.specs.Indices.{indices}
-use Rattle.dpl_syntax.specs.declared.refusal.Code.TheVariants.{Unexpected}
+use Rattle.dpl_syntax.specs.declared.refusal.Code.TheVariants.{Unexpected, UnknownName}
 use Rattle.dpl_worked.proofs.Runs.{writes}
 use Rattle.dpl_worked.proofs.Texts.{said, told, sound, by_text}
 
@@ -121,6 +121,14 @@ emptied_by_a_read : writes (codes "var c: sync int = 1; c.readFE(); c.readFF();"
 unfolding by_text int_wrap digits members indices
 emptied_by_a_read = refl
 
+written_while_empty : writes (codes "var c: sync int; c.writeFF(1);") ≡ Some (codes "! F7 at 1:18\n")
+unfolding by_text int_wrap digits members indices
+written_while_empty = refl
+
+written_while_full : writes (codes "var c: sync bool = false; c.writeXF(true); write(c.readFF()); c.writeEF(true);") ≡ Some (codes "true\n! F7 at 1:63\n")
+unfolding by_text int_wrap digits members indices
+written_while_full = refl
+
 -- ---- brackets, variables and bodies
 round_and_square : writes (codes "var A: [1..2, 1..3] int; A(2, 1) = 4; A[1, 3] = 5; writeln(A(1, 3), A[2, 1]);") ≡ Some (codes "54\n")
 unfolding by_text int_wrap digits members indices
@@ -182,6 +190,11 @@ words_that_are_names :
     ≡ sound
 unfolding by_text
 words_that_are_names = refl
+
+-- a tab and a carriage return are one column each, and begin no line
+white_space : said (9 ∷ 13 ∷ codes " x = 1;") ≡ told 1 4 UnknownName
+unfolding by_text
+white_space = refl
 
 letters_of_names : writes (codes "var a$1 = 1; var _b = 2; var Z9_ = 3; writeln(a$1 + _b + Z9_);") ≡ Some (codes "6\n")
 unfolding by_text int_wrap digits members indices
