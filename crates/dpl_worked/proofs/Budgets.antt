@@ -47,6 +47,21 @@ as_many_turns_as_may_be : writes_within 3 (codes "var i = 0; while i < 3 do i +=
 unfolding by_text int_wrap digits members indices
 as_many_turns_as_may_be = refl
 
+-- ---- locales, over which a `for` has its budget too
+locales :
+    writes_by [] (record { budget = 3; locales = 3 }) (codes "for l in Locales do write(l.id, \" \"); on Locales[numLocales - 1] { var x = here.id; write(x, \" \"); } const x = here; writeln(x.id);")
+    ≡ Some (codes "0 1 2 2 0\n")
+unfolding by_text int_wrap digits members indices
+locales = refl
+
+more_locales_than_turns : writes_by [] (record { budget = 2; locales = 3 }) (codes "for l in Locales do write(l.id);") ≡ Some (codes "! F5 at 1:1\n")
+unfolding by_text int_wrap digits members indices
+more_locales_than_turns = refl
+
+as_many_as_there_are : writes_by [] (record { budget = 3; locales = 3 }) (codes "on Locales[3] do ;") ≡ Some (codes "! F6 at 1:4\n")
+unfolding by_text int_wrap digits members indices
+as_many_as_there_are = refl
+
 -- ---- values from the command line
 abbrev given : List (List ℕ) → List ℕ → Option (List ℕ)
 given sets text = writes_by sets (record { budget = 16777216; locales = 1 }) text

@@ -23,6 +23,10 @@ fault_of_a_pair : writes (codes "var A: [2..3, 1..2] int; A[2, 1] = 1; A = A / A
 unfolding by_text int_wrap digits members indices
 fault_of_a_pair = refl
 
+turn_below_zero : writes (codes "var A: [-1..0, -2..-2] int; A /= 0;") ≡ Some (codes "! F2 at 1:31 in turn -1,-2\n")
+unfolding by_text int_wrap digits members indices
+turn_below_zero = refl
+
 -- of a promoted right side all is evaluated in each turn
 fault_in_a_promoted_scalar : writes (codes "var A: [2..3] int; A = A + 1 / 0;") ≡ Some (codes "! F2 at 1:30 in turn 2\n")
 unfolding by_text int_wrap digits members indices
@@ -89,6 +93,18 @@ known_from_its_end = refl
 parts_of_an_if_are_scopes : writes (codes "var x = 5; if true then var x = 1; else var x = 2; if false then ; else var x = 3; writeln(x);") ≡ Some (codes "5\n")
 unfolding by_text int_wrap digits members indices
 parts_of_an_if_are_scopes = refl
+
+a_while_has_a_scope : writes (codes "var x = 5; var i = 0; while i < 1 { var x = 7; i += x; } writeln(x, i);") ≡ Some (codes "57\n")
+unfolding by_text int_wrap digits members indices
+a_while_has_a_scope = refl
+
+the_innermost_is_assigned : writes (codes "var x = 1; var A: [1..1] int; { var x = 2; var A: [1..1] int; x = 3; A[1] = 4; write(x, A); } writeln(x, A);") ≡ Some (codes "3410\n")
+unfolding by_text int_wrap digits members indices
+the_innermost_is_assigned = refl
+
+the_innermost_cell : writes (codes "var c: sync int = 1; { var c: sync int; c.writeEF(2); write(c.readFE()); } writeln(c.readFE());") ≡ Some (codes "21\n")
+unfolding by_text int_wrap digits members indices
+the_innermost_cell = refl
 
 -- ---- arithmetic wraps
 wrapped :

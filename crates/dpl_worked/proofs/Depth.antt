@@ -50,6 +50,39 @@ one_if_too_many : said (times 64 (codes "if true then ; else ") ++ codes "if tru
 unfolding by_text
 one_if_too_many = refl
 
+-- ---- each round bracket is a level, also where no expression stands in it
+bracket_of_a_dimension : said (codes "const x = " ++ times 64 (codes "(") ++ codes "D.dim(0)") ≡ told 1 80 TooDeep
+unfolding by_text
+bracket_of_a_dimension = refl
+
+bracket_of_a_cell_read : said (codes "x = " ++ times 64 (codes "(") ++ codes "c.readFE()") ≡ told 1 77 TooDeep
+unfolding by_text
+bracket_of_a_cell_read = refl
+
+bracket_of_a_cell_call : said (times 64 (codes "{") ++ codes "c.reset();") ≡ told 1 72 TooDeep
+unfolding by_text
+bracket_of_a_cell_call = refl
+
+bracket_of_a_read_as_a_statement : said (times 64 (codes "{") ++ codes "c.readFF();") ≡ told 1 73 TooDeep
+unfolding by_text
+bracket_of_a_read_as_a_statement = refl
+
+bracket_of_a_rank : said (times 64 (codes "{") ++ codes "var x: domain(1);") ≡ told 1 78 TooDeep
+unfolding by_text
+bracket_of_a_rank = refl
+
+bracket_of_intents : said (times 64 (codes "{") ++ codes "forall i in r with (ref x) do ;") ≡ told 1 84 TooDeep
+unfolding by_text
+bracket_of_intents = refl
+
+bracket_of_variables : said (times 64 (codes "{") ++ codes "for (i, j) in D do ;") ≡ told 1 69 TooDeep
+unfolding by_text
+bracket_of_variables = refl
+
+as_many_blocks_as_may_be : said (times 64 (codes "{") ++ times 64 (codes "}")) ≡ sound
+unfolding by_text
+as_many_blocks_as_may_be = refl
+
 -- ---- a token that may not stand there at all is told before its level
 wrong_at_the_last_level : said (codes "writeln(" ++ times 63 (codes "(") ++ codes "[") ≡ told 1 72 Unexpected
 unfolding by_text
