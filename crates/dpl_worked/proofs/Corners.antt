@@ -98,6 +98,10 @@ a_while_has_a_scope : writes (codes "var x = 5; var i = 0; while i < 1 { var x =
 unfolding by_text int_wrap digits members indices
 a_while_has_a_scope = refl
 
+so_has_the_body_of_an_on : writes (codes "var x = 1; on here { var x = 2; write(x); } writeln(x);") ≡ Some (codes "21\n")
+unfolding by_text int_wrap digits members indices
+so_has_the_body_of_an_on = refl
+
 the_innermost_is_assigned : writes (codes "var x = 1; var A: [1..1] int; { var x = 2; var A: [1..1] int; x = 3; A[1] = 4; write(x, A); } writeln(x, A);") ≡ Some (codes "3410\n")
 unfolding by_text int_wrap digits members indices
 the_innermost_is_assigned = refl
@@ -152,6 +156,14 @@ as_many_as_may_be :
     ≡ Some (codes "1099510579200 1099511627776\n")
 unfolding by_text int_wrap digits members indices
 as_many_as_may_be = refl
+
+greatest_array : writes (codes "var A: [1..16777216] int; writeln(1);") ≡ Some (codes "1\n")
+unfolding by_text int_wrap digits members indices
+greatest_array = refl
+
+greatest_new_domain : writes (codes "var D = {1..1, 1..1}; var A: [D] int; D = {1..4096, 1..4096}; writeln(D.size);") ≡ Some (codes "16777216\n")
+unfolding by_text int_wrap digits members indices
+greatest_new_domain = refl
 
 type_before_the_array : writes (codes "var A: [1..1099511627777] int;") ≡ Some (codes "! F3 at 1:8\n")
 unfolding by_text int_wrap digits members indices
