@@ -57,6 +57,14 @@ indices_of_an_access : writes (codes "var A: [1..2, 1..2] int; writeln(A[1 / 0, 
 unfolding by_text int_wrap digits members indices
 indices_of_an_access = refl
 
+indices_of_a_target : writes (codes "var A: [1..2, 1..2] int; A[1 / 0, 1 % 0] = 1;") ≡ Some (codes "! F2 at 1:30\n")
+unfolding by_text int_wrap digits members indices
+indices_of_a_target = refl
+
+coordinates_asked : writes (codes "writeln({1..2, 1..2}.contains(1 / 0, 1 % 0));") ≡ Some (codes "! F2 at 1:33\n")
+unfolding by_text int_wrap digits members indices
+coordinates_asked = refl
+
 arguments : writes (codes "writeln(1 / 0, 1 % 0);") ≡ Some (codes "! F2 at 1:11\n")
 unfolding by_text int_wrap digits members indices
 arguments = refl
