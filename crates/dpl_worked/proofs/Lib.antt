@@ -8,6 +8,9 @@ pub mod Names
 pub mod Expressions
 pub mod Statements
 pub mod Foralls
+pub mod RulesNames
+pub mod RulesTypes
+pub mod RulesLoops
 -- Rows: what texts write, and which word of them does not run.
 pub mod Closed
 pub mod Runs

@@ -1,0 +1,73 @@
+-- Which declaration a name stands for, and what stands outside the scope of a loop.
+-- Each row is computed from the text's bytes on; those behind the house's line are on line 2.
+use Rattle.std.proofs.Common.{◌≡◌, refl}
+use Rattle.std.specs.Prelude.{codes}
+use Rattle.dpl_syntax.specs.declared.refusal.Code.TheVariants.{CellMisused, ConstantWritten, NameTwice, OuterChanged, UnknownName, WrongType}
+use Rattle.dpl_worked.proofs.Texts.{in_house, told, sound, by_text}
+
+-- ---- a part of an `if`, a `while` and an `on` open a scope
+parts_of_an_if : in_house (codes "if b then var n = 1; else var n = 2;") ≡ sound
+unfolding by_text
+parts_of_an_if = refl
+
+body_of_a_while : in_house (codes "while b do var n = 1;") ≡ sound
+unfolding by_text
+body_of_a_while = refl
+
+body_of_an_on : in_house (codes "on h do var n = 1;") ≡ sound
+unfolding by_text
+body_of_an_on = refl
+
+-- ---- a name is known from the end of its declaration on
+unknown_in_its_own_value : in_house (codes "var x = x;") ≡ told 2 9 UnknownName
+unfolding by_text
+unknown_in_its_own_value = refl
+
+-- ---- what a loop runs over and its intents stand outside its scope
+outer_bool_as_a_bound : in_house (codes "for b in b..2 do ;") ≡ told 2 10 WrongType
+unfolding by_text
+outer_bool_as_a_bound = refl
+
+outer_variable_reduced : in_house (codes "forall n in D with (+ reduce n) do A[n] = n;") ≡ sound
+unfolding by_text
+outer_variable_reduced = refl
+
+reduce_variable_as_a_bound : in_house (codes "forall i in 1..n with (+ reduce n) do n += i;") ≡ sound
+unfolding by_text
+reduce_variable_as_a_bound = refl
+
+-- ---- a name of the body that hides a reduce variable is none
+hidden_variable_free : in_house (codes "forall i in D with (+ reduce n) { var n: int; n = 2; const x = n; }") ≡ sound
+unfolding by_text
+hidden_variable_free = refl
+
+hidden_variable_reduced : in_house (codes "forall i in D with (+ reduce n) { var n: int; n reduce= 1; }") ≡ told 2 49 WrongType
+unfolding by_text
+hidden_variable_reduced = refl
+
+-- ---- intents: a name once, and no constant; `ref` changes nothing
+borrowed_and_reduced : in_house (codes "forall i in D with (ref n, + reduce n) do ;") ≡ told 2 37 NameTwice
+unfolding by_text
+borrowed_and_reduced = refl
+
+constant_borrowed : in_house (codes "forall i in D with (ref k) do ;") ≡ told 2 25 ConstantWritten
+unfolding by_text
+constant_borrowed = refl
+
+borrowed_and_set : in_house (codes "forall i in D with (ref n) do n = 1;") ≡ told 2 31 OuterChanged
+unfolding by_text
+borrowed_and_set = refl
+
+cell_reduced : in_house (codes "forall i in D with (+ reduce c) do ;") ≡ told 2 30 CellMisused
+unfolding by_text
+cell_reduced = refl
+
+-- ---- a `config const` is a constant
+configured_set : in_house (codes "m = 5;") ≡ told 2 1 ConstantWritten
+unfolding by_text
+configured_set = refl
+
+-- ---- a line goes before a column
+later_column_of_an_earlier_line : in_house (codes "    n = true;\nx = 1;") ≡ told 2 9 WrongType
+unfolding by_text
+later_column_of_an_earlier_line = refl
