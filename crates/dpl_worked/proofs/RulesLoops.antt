@@ -44,6 +44,10 @@ unfolding by_text
 target_read_where_it_is_raised = refl
 
 -- ---- C8: what is changed, where, and by which operator
+changed_from_a_block : in_house (codes "{ forall i in D do n = 1; }") ≡ told 2 20 OuterChanged
+unfolding by_text
+changed_from_a_block = refl
+
 locale_changed : in_house (codes "forall i in D do h = Locales[0];") ≡ told 2 18 OuterChanged
 unfolding by_text
 locale_changed = refl
@@ -80,9 +84,42 @@ greatest_raised : in_house (codes "forall i in D with (max reduce n) do n += i;"
 unfolding by_text
 greatest_raised = refl
 
+reduced_in_inner_statements : in_house (codes "forall i in D with (+ reduce n) do for j in r do if b then n reduce= j;") ≡ sound
+unfolding by_text
+reduced_in_inner_statements = refl
+
+element_reduced : in_house (codes "forall i in D do A[i] reduce= 1;") ≡ told 2 23 WrongType
+unfolding by_text
+element_reduced = refl
+
 reduced_by_a_bool : in_house (codes "forall i in D with (+ reduce n) do n reduce= b;") ≡ told 2 46 WrongType
 unfolding by_text
 reduced_by_a_bool = refl
+
+-- ---- C8: a reduce variable isn't read, wherever it stands
+read_in_a_condition : in_house (codes "forall i in D with (+ reduce n) do if n > 1 then ;") ≡ told 2 39 OuterChanged
+unfolding by_text
+read_in_a_condition = refl
+
+read_in_the_condition_of_a_while : in_house (codes "forall i in D with (+ reduce n) do while n > 1 do ;") ≡ told 2 42 OuterChanged
+unfolding by_text
+read_in_the_condition_of_a_while = refl
+
+read_as_a_stride : in_house (codes "forall i in D with (+ reduce n) do for j in 1..9 by n do ;") ≡ told 2 53 OuterChanged
+unfolding by_text
+read_as_a_stride = refl
+
+read_as_a_bound_of_a_domain : in_house (codes "forall i in D with (+ reduce n) do for j in {1..n} do ;") ≡ told 2 49 OuterChanged
+unfolding by_text
+read_as_a_bound_of_a_domain = refl
+
+read_as_an_argument : in_house (codes "forall i in D with (+ reduce n) do if D.contains(n) then ;") ≡ told 2 50 OuterChanged
+unfolding by_text
+read_as_an_argument = refl
+
+read_behind_a_minus : in_house (codes "forall i in D with (+ reduce n) { const x = 2 * -n; }") ≡ told 2 50 OuterChanged
+unfolding by_text
+read_behind_a_minus = refl
 
 -- ---- C9: what is declared, called and reduced
 domain_without_a_type_in_a_forall : in_house (codes "forall i in D { const x = D; }") ≡ told 2 17 NotInForall
@@ -134,6 +171,10 @@ reduction_that_is_folded : in_house (codes "n = + reduce (A - min reduce A);") �
 unfolding by_text
 reduction_that_is_folded = refl
 
+reduction_that_is_printed : in_house (codes "write(+ reduce (A - min reduce A));") ≡ told 2 21 NotInForall
+unfolding by_text
+reduction_that_is_printed = refl
+
 reduction_as_a_right_side : in_house (codes "A = + reduce A;") ≡ sound
 unfolding by_text
 reduction_as_a_right_side = refl
@@ -166,6 +207,10 @@ coforall_in_a_task = refl
 reduction_in_a_task : in_house (codes "coforall i in r { const x = + reduce A; }") ≡ told 2 29 NotInCoforall
 unfolding by_text
 reduction_in_a_task = refl
+
+reduction_written_to_a_cell : in_house (codes "coforall i in r do c.writeEF(+ reduce A);") ≡ told 2 30 NotInCoforall
+unfolding by_text
+reduction_written_to_a_cell = refl
 
 domain_without_a_type_in_a_task : in_house (codes "coforall i in r { const x = D; }") ≡ told 2 19 NotInCoforall
 unfolding by_text

@@ -2,7 +2,7 @@
 -- Each row is computed from the text's bytes on; those behind the house's line are on line 2.
 use Rattle.std.proofs.Common.{◌≡◌, refl}
 use Rattle.std.specs.Prelude.{codes}
-use Rattle.dpl_syntax.specs.declared.refusal.Code.TheVariants.{CellMisused, ConstantWritten, NameTwice, OuterChanged, UnknownName, WrongType}
+use Rattle.dpl_syntax.specs.declared.refusal.Code.TheVariants.{CellMisused, ConstantWritten, NameTwice, NotInForall, OuterChanged, UnknownName, WrongRank, WrongType}
 use Rattle.dpl_worked.proofs.Texts.{in_house, told, sound, by_text}
 
 -- ---- a part of an `if`, a `while` and an `on` open a scope
@@ -62,10 +62,48 @@ cell_reduced : in_house (codes "forall i in D with (+ reduce c) do ;") ≡ told 
 unfolding by_text
 cell_reduced = refl
 
--- ---- a `config const` is a constant
+-- ---- two of one name need not stand side by side
+variables_twice_of_three : in_house (codes "for (i, j, i) in T do ;") ≡ told 2 12 NameTwice
+unfolding by_text
+variables_twice_of_three = refl
+
+intents_twice_of_three : in_house (codes "forall i in D with (+ reduce n, ref b, ref n) do ;") ≡ told 2 44 NameTwice
+unfolding by_text
+intents_twice_of_three = refl
+
+-- ---- a `config const` is a constant, an int or a bool
 configured_set : in_house (codes "m = 5;") ≡ told 2 1 ConstantWritten
 unfolding by_text
 configured_set = refl
+
+configured_range : in_house (codes "config const x = 1..2;") ≡ told 2 18 WrongType
+unfolding by_text
+configured_range = refl
+
+-- ---- of several codes at one place the lowest is told
+twice_before_its_type : in_house (codes "forall i in D with (ref b, + reduce b) do ;") ≡ told 2 37 NameTwice
+unfolding by_text
+twice_before_its_type = refl
+
+type_before_constant : in_house (codes "{ const p = true; forall i in D with (+ reduce p) do ; }") ≡ told 2 48 WrongType
+unfolding by_text
+type_before_constant = refl
+
+type_before_forall : in_house (codes "forall i in D { const x = + reduce n; }") ≡ told 2 27 WrongType
+unfolding by_text
+type_before_forall = refl
+
+constant_before_change : in_house (codes "forall i in D do k = 1;") ≡ told 2 18 ConstantWritten
+unfolding by_text
+constant_before_change = refl
+
+rank_before_write : in_house (codes "forall i in D do A[i, i] = 1;") ≡ told 2 18 WrongRank
+unfolding by_text
+rank_before_write = refl
+
+forall_before_cell : in_house (codes "forall i in D { const x = c.readFE() + 1; }") ≡ told 2 27 NotInForall
+unfolding by_text
+forall_before_cell = refl
 
 -- ---- a line goes before a column
 later_column_of_an_earlier_line : in_house (codes "    n = true;\nx = 1;") ≡ told 2 9 WrongType

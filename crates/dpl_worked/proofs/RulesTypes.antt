@@ -72,6 +72,22 @@ over_the_name_of_a_range : in_house (codes "{ var P: [z] int; var Q: [z] int = P
 unfolding by_text
 over_the_name_of_a_range = refl
 
+raised_by_another_index_set : in_house (codes "A += G;") ≡ told 2 3 WrongType
+unfolding by_text
+raised_by_another_index_set = refl
+
+index_set_behind_an_int : in_house (codes "A = A + 1 + G;") ≡ told 2 11 WrongType
+unfolding by_text
+index_set_behind_an_int = refl
+
+promoted_bools : in_house (codes "F = !F;") ≡ sound
+unfolding by_text
+promoted_bools = refl
+
+promoted_equality : in_house (codes "F = (A == C) == F;") ≡ sound
+unfolding by_text
+promoted_equality = refl
+
 -- ---- brackets and indices
 round_brackets_of_a_range : in_house (codes "n = r(1);") ≡ told 2 6 WrongType
 unfolding by_text
@@ -104,6 +120,10 @@ pair_on_rank_1 = refl
 pair_among_indices : in_house (codes "for t in E do n = B[t, 1];") ≡ told 2 21 WrongType
 unfolding by_text
 pair_among_indices = refl
+
+pair_contained : in_house (codes "for t in E do b = E.contains(t);") ≡ sound
+unfolding by_text
+pair_contained = refl
 
 two_variables_on_rank_3 : in_house (codes "for (i, j) in T do ;") ≡ told 2 5 WrongRank
 unfolding by_text
