@@ -58,6 +58,10 @@ borrowed_and_set : in_house (codes "forall i in D with (ref n) do n = 1;") ≡ t
 unfolding by_text
 borrowed_and_set = refl
 
+array_reduced : in_house (codes "forall i in D with (+ reduce A) do ;") ≡ told 2 30 WrongType
+unfolding by_text
+array_reduced = refl
+
 cell_reduced : in_house (codes "forall i in D with (+ reduce c) do ;") ≡ told 2 30 CellMisused
 unfolding by_text
 cell_reduced = refl
@@ -79,6 +83,10 @@ configured_set = refl
 configured_range : in_house (codes "config const x = 1..2;") ≡ told 2 18 WrongType
 unfolding by_text
 configured_range = refl
+
+configured_array_type : in_house (codes "config const x: [D] int;") ≡ told 2 17 WrongType
+unfolding by_text
+configured_array_type = refl
 
 -- ---- of several codes at one place the lowest is told
 twice_before_its_type : in_house (codes "forall i in D with (ref b, + reduce b) do ;") ≡ told 2 37 NameTwice

@@ -1,9 +1,26 @@
--- Types, ranks and places of expressions, declarations and assignments: C3, C4, C5 and C12.
+-- Types, ranks and places of expressions, declarations and assignments: C1, C3, C4, C5 and C12.
 -- Each row is computed from the text's bytes on; those behind the house's line are on line 2.
 use Rattle.std.proofs.Common.{◌≡◌, refl}
 use Rattle.std.specs.Prelude.{codes}
-use Rattle.dpl_syntax.specs.declared.refusal.Code.TheVariants.{CellMisused, ConstantWritten, WrongRank, WrongType}
+use Rattle.dpl_syntax.specs.declared.refusal.Code.TheVariants.{CellMisused, ConstantWritten, UnknownName, WrongRank, WrongType}
 use Rattle.dpl_worked.proofs.Texts.{in_house, told, sound, by_text}
+
+-- ---- a rule is looked at only where the parts that it speaks of have types
+sum_in_a_sum : in_house (codes "n = true + (1 + false);") ≡ told 2 15 WrongType
+unfolding by_text
+sum_in_a_sum = refl
+
+unknown_index_on_rank_2 : in_house (codes "n = B[x];") ≡ told 2 7 UnknownName
+unfolding by_text
+unknown_index_on_rank_2 = refl
+
+unknown_slice_on_rank_2 : in_house (codes "const x = E[y];") ≡ told 2 11 WrongRank
+unfolding by_text
+unknown_slice_on_rank_2 = refl
+
+four_ints_in_a_literal : in_house (codes "const x = {1, 2, 3, 4};") ≡ told 2 11 WrongRank
+unfolding by_text
+four_ints_in_a_literal = refl
 
 -- ---- ranges and domains, and which of them are strided
 stride_of_bool : in_house (codes "const x = 1..4 by true;") ≡ told 2 19 WrongType
@@ -113,6 +130,14 @@ one_index_on_rank_2 : in_house (codes "n = B[1];") ≡ told 2 5 WrongRank
 unfolding by_text
 one_index_on_rank_2 = refl
 
+bool_on_rank_2 : in_house (codes "n = B[b];") ≡ told 2 5 WrongRank
+unfolding by_text
+bool_on_rank_2 = refl
+
+slice_by_a_pair : in_house (codes "for t in E { const x = E[t]; }") ≡ told 2 24 WrongRank
+unfolding by_text
+slice_by_a_pair = refl
+
 pair_on_rank_1 : in_house (codes "for t in E do n = A[t];") ≡ told 2 19 WrongRank
 unfolding by_text
 pair_on_rank_1 = refl
@@ -159,6 +184,10 @@ bool_among_starts : in_house (codes "const x = E dmapped new cyclicDist((1, b));
 unfolding by_text
 bool_among_starts = refl
 
+pair_as_a_start : in_house (codes "for t in E { const x = E dmapped new cyclicDist(t); }") ≡ told 2 49 WrongType
+unfolding by_text
+pair_as_a_start = refl
+
 box_of_rank_1 : in_house (codes "const x = E dmapped new blockDist(D);") ≡ told 2 25 WrongRank
 unfolding by_text
 box_of_rank_1 = refl
@@ -184,6 +213,14 @@ unfolding by_text
 created_from_two_domains = refl
 
 -- ---- declarations and assignments
+pair_without_a_type : in_house (codes "for t in E { const x = t; }") ≡ told 2 24 WrongType
+unfolding by_text
+pair_without_a_type = refl
+
+element_of_a_constant_array : in_house (codes "{ const P: [D] int; P[1] = 2; }") ≡ told 2 21 ConstantWritten
+unfolding by_text
+element_of_a_constant_array = refl
+
 promoted_without_a_type : in_house (codes "const x = A + 1;") ≡ told 2 11 WrongType
 unfolding by_text
 promoted_without_a_type = refl
@@ -253,6 +290,10 @@ promoted_printed = refl
 array_in_brackets_printed : in_house (codes "write((A));") ≡ told 2 7 WrongType
 unfolding by_text
 array_in_brackets_printed = refl
+
+promoted_condition : in_house (codes "if A == C then ;") ≡ told 2 4 WrongType
+unfolding by_text
+promoted_condition = refl
 
 condition_of_a_while : in_house (codes "while n do ;") ≡ told 2 7 WrongType
 unfolding by_text
