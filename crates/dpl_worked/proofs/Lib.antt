@@ -10,6 +10,9 @@ pub mod Statements
 pub mod Foralls
 pub mod Depth
 pub mod Bytes
+pub mod RulesNames
+pub mod RulesTypes
+pub mod RulesLoops
 -- Rows: what texts write, and which word of them does not run.
 pub mod Closed
 pub mod Runs
