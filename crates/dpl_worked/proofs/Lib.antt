@@ -8,7 +8,15 @@ pub mod Names
 pub mod Expressions
 pub mod Statements
 pub mod Foralls
+pub mod Depth
+pub mod Bytes
+pub mod RulesNames
+pub mod RulesTypes
+pub mod RulesLoops
 -- Rows: what texts write, and which word of them does not run.
 pub mod Closed
 pub mod Runs
+pub mod Grammar
+pub mod Corners
+pub mod Budgets
 pub mod Orders

@@ -1,4 +1,4 @@
--- What texts write, computed from their bytes on: programs without tasks, on one locale, with the budget that a run has by default.
+-- What texts write, computed from their bytes on: programs that enter no coforall.
 -- `writes_said` is what a row says: the text comes to these bytes.
 use Rattle.std.proofs.Common.{◌≡◌, inr, ℕ, List, [], ◌∷◌, Option, Some, None, Ok, Err, refl, subst, sym}
 use Rattle.std.specs.Prelude.{codes}
@@ -26,86 +26,93 @@ use Rattle.dpl_worked.proofs.Lexer.{tokens_of}
 use Rattle.dpl_worked.proofs.Lexed.{tokens_lexed}
 use Rattle.dpl_worked.proofs.Texts.{by_text, by_rules}
 
-abbrev limits : Limits
-limits = record { budget = 16777216; locales = 1 }
+-- ---- what is written, by sets and limits
+module _ (sets : List (List ℕ)) (limits : Limits) where
+  abbrev run : Program → Outcome State
+  run t = run_of t sets limits []
 
-abbrev run : Program → Outcome State
-run t = run_of t [] limits []
+  -- what is written, where no coforall was entered
+  abbrev without_tasks : List Entered → List ℕ → Option (List ℕ)
+  without_tasks [] text = Some text
+  without_tasks (e ∷ es) text = None
 
--- what is written, where no coforall was entered
-abbrev without_tasks : List Entered → List ℕ → Option (List ℕ)
-without_tasks [] text = Some text
-without_tasks (e ∷ es) text = None
+  abbrev of_sound : Option Refusal → Program → Option (List ℕ)
+  of_sound None t = without_tasks (deeds_of (run t)).entered (written (run t))
+  of_sound (Some r) t = None
 
-abbrev of_sound : Option Refusal → Program → Option (List ℕ)
-of_sound None t = without_tasks (deeds_of (run t)).entered (written (run t))
-of_sound (Some r) t = None
+  abbrev of_tree : Program → List Token → Option (List ℕ)
+  of_tree t [] = of_sound (refusal t sets) t
+  of_tree t (k ∷ ks) = None
 
-abbrev of_tree : Program → List Token → Option (List ℕ)
-of_tree t [] = of_sound (refusal t []) t
-of_tree t (k ∷ ks) = None
+  abbrev of_read : Read Program → Option (List ℕ)
+  of_read (Ok x) = of_tree x.0 x.1
+  of_read (Err e) = None
 
-abbrev of_read : Read Program → Option (List ℕ)
-of_read (Ok x) = of_tree x.0 x.1
-of_read (Err e) = None
+  abbrev of_tokens : Option (List Token) → Option (List ℕ)
+  of_tokens None = None
+  of_tokens (Some ks) = of_read (read 64 ks)
 
-abbrev of_tokens : Option (List Token) → Option (List ℕ)
-of_tokens None = None
-of_tokens (Some ks) = of_read (read 64 ks)
+  abbrev pub writes_by : List ℕ → Option (List ℕ)
+  writes_by text = of_tokens (tokens_of text)
 
-abbrev writes : List ℕ → Option (List ℕ)
-writes text = of_tokens (tokens_of text)
+  -- ---- what that is
 
--- ---- what that is
+  -- the text comes to some end, and to these bytes
+  abbrev SaysSo : List ℕ → List ℕ → Type 0
+  SaysSo text said = (e : Ending) × ComesTo [] text sets limits [] e said
 
--- the text comes to some end, and to these bytes
-abbrev SaysSo : List ℕ → List ℕ → Type 0
-SaysSo text said = (e : Ending) × ComesTo [] text [] limits [] e said
+  -- a run has an end: none waits for ever
+  settled_ends : (o : Outcome State) → (e : Ending) × (ending_of (settled o) ≡ Some e)
+  settled_ends (Done s done) = (Leaves (own_frame (top_level s.store)), refl)
+  settled_ends (Stop f done) = (Faults f, refl)
+  settled_ends (Waits at c op done) = (Faults (fault CellStuck at), refl)
 
--- a run has an end: none waits for ever
-settled_ends : (o : Outcome State) → (e : Ending) × (ending_of (settled o) ≡ Some e)
-settled_ends (Done s done) = (Leaves (own_frame (top_level s.store)), refl)
-settled_ends (Stop f done) = (Faults f, refl)
-settled_ends (Waits at c op done) = (Faults (fault CellStuck at), refl)
+  run_ends : (t : Program) → (e : Ending) × (ending_of (run t) ≡ Some e)
+  run_ends t = settled_ends (exec_all limits by_name t.stmts (first_state (given t sets) []) no_deeds)
 
-run_ends : (t : Program) → (e : Ending) × (ending_of (run t) ≡ Some e)
-run_ends t = settled_ends (exec_all limits by_name t.stmts (first_state (given t []) []) no_deeds)
+  -- nothing happened that could not
+  run_said : (t : Program) (said : List ℕ) → without_tasks (deeds_of (run t)).entered (written (run t)) ≡ Some said
+      → Happened (run t) × (said ≡ written (run t))
+  run_said t said e = at (deeds_of (run t)).entered refl e
+    where
+      at : (es : List Entered) → (deeds_of (run t)).entered ≡ es → without_tasks es (written (run t)) ≡ Some said
+          → Happened (run t) × (said ≡ written (run t))
+      at [] a e = (subst AllTogether (sym a) tt, cc)
+      at (c ∷ es) a e = absurd cc
 
--- nothing happened that could not
-run_said : (t : Program) (said : List ℕ) → without_tasks (deeds_of (run t)).entered (written (run t)) ≡ Some said
-    → Happened (run t) × (said ≡ written (run t))
-run_said t said e = at (deeds_of (run t)).entered refl e
-  where
-    at : (es : List Entered) → (deeds_of (run t)).entered ≡ es → without_tasks es (written (run t)) ≡ Some said
-        → Happened (run t) × (said ≡ written (run t))
-    at [] a e = (subst AllTogether (sym a) tt, cc)
-    at (c ∷ es) a e = absurd cc
+  -- What is computed of a text is what it says.
+  writes_said : (text said : List ℕ) → writes_by text ≡ Some said → SaysSo text said
+  writes_said text said e = by_tokens (tokens_of text) refl e
+    where
+      by_refusal : (ks : List Token) → Lexes text ks → (t : Program) → read 64 ks ≡ Ok (t, [])
+          → (r : Option Refusal) → refusal t sets ≡ r → of_sound r t ≡ Some said → SaysSo text said
+      by_refusal ks lexes t reads None none e =
+          let s = run_said t said e in
+          let ends = run_ends t in
+          let is : IsProgram [] text sets t = record { tokens = ks; lexes = lexes; spells = read_spelled 64 ks t reads; unrefused = by_rules ks (refusal t sets) None none } in
+          (ends.0, inr (t, is, record { happened = s.0; writes = s.1; ends = ends.1 }))
+      by_refusal ks lexes t reads (Some r) some e = absurd cc
 
--- What is computed of a text is what it says.
-writes_said : (text said : List ℕ) → writes text ≡ Some said → SaysSo text said
-writes_said text said e = by_tokens (tokens_of text) refl e
-  where
-    by_refusal : (ks : List Token) → Lexes text ks → (t : Program) → read 64 ks ≡ Ok (t, [])
-        → (r : Option Refusal) → refusal t [] ≡ r → of_sound r t ≡ Some said → SaysSo text said
-    by_refusal ks lexes t reads None none e =
-        let s = run_said t said e in
-        let ends = run_ends t in
-        let is : IsProgram [] text [] t = record { tokens = ks; lexes = lexes; spells = read_spelled 64 ks t reads; unrefused = by_rules ks (refusal t []) None none } in
-        (ends.0, inr (t, is, record { happened = s.0; writes = s.1; ends = ends.1 }))
-    by_refusal ks lexes t reads (Some r) some e = absurd cc
+      by_tree : (ks : List Token) → Lexes text ks → (t : Program) (rest : List Token) → read 64 ks ≡ Ok (t, rest)
+          → of_tree t rest ≡ Some said → SaysSo text said
+      by_tree ks lexes t [] reads e = by_refusal ks lexes t reads (refusal t sets) refl e
+      by_tree ks lexes t (k ∷ rest) reads e = absurd cc
 
-    by_tree : (ks : List Token) → Lexes text ks → (t : Program) (rest : List Token) → read 64 ks ≡ Ok (t, rest)
-        → of_tree t rest ≡ Some said → SaysSo text said
-    by_tree ks lexes t [] reads e = by_refusal ks lexes t reads (refusal t []) refl e
-    by_tree ks lexes t (k ∷ rest) reads e = absurd cc
+      by_read : (ks : List Token) → Lexes text ks → (o : Read Program) → read 64 ks ≡ o → of_read o ≡ Some said → SaysSo text said
+      by_read ks lexes (Ok (t, rest)) reads e = by_tree ks lexes t rest reads e
+      by_read ks lexes (Err stop) reads e = absurd cc
 
-    by_read : (ks : List Token) → Lexes text ks → (o : Read Program) → read 64 ks ≡ o → of_read o ≡ Some said → SaysSo text said
-    by_read ks lexes (Ok (t, rest)) reads e = by_tree ks lexes t rest reads e
-    by_read ks lexes (Err stop) reads e = absurd cc
+      by_tokens : (o : Option (List Token)) → tokens_of text ≡ o → of_tokens o ≡ Some said → SaysSo text said
+      by_tokens None a e = absurd cc
+      by_tokens (Some ks) a e = by_read ks (tokens_lexed text ks a) (read 64 ks) refl e
 
-    by_tokens : (o : Option (List Token)) → tokens_of text ≡ o → of_tokens o ≡ Some said → SaysSo text said
-    by_tokens None a e = absurd cc
-    by_tokens (Some ks) a e = by_read ks (tokens_lexed text ks a) (read 64 ks) refl e
+-- with no sets, and the budget that a run has by default
+abbrev pub writes : List ℕ → Option (List ℕ)
+writes text = writes_by [] (record { budget = 16777216; locales = 1 }) text
+
+-- with another budget
+abbrev pub writes_within : ℕ → List ℕ → Option (List ℕ)
+writes_within budget text = writes_by [] (record { budget = budget; locales = 1 }) text
 
 -- ---- rows
 
