@@ -20,3 +20,5 @@ pub mod Grammar
 pub mod Corners
 pub mod Budgets
 pub mod Orders
+-- Rows: by which roots texts deal out their domains and arrays.
+pub mod Roots
