@@ -52,6 +52,13 @@ stencil_going_round : map (λ l. length (remote (filled_array {T = ℕ} (line (p
 unfolding int_wrap indices members owner part cyclic_place neighbours step line range
 stencil_going_round = refl
 
+-- an array in two blocks whose turns go round: 3 is read where 1 and 3 have their turns, and 2 where 2 and 4 have theirs
+turns_by_another_map :
+    map (λ l. remote (filled_array {T = ℕ} (line (pos 1) (pos 4) (pos 1)) (record { rule = Block (pos 1) (pos 4); extent = 2 } ∷ []) 7) (line (pos 1) (pos 4) (pos 1)) (cyclic_map (pos 1 ∷ []) (2 ∷ [])) l ((step 0 (pos 0) ∷ []) ∷ [])) (0 ∷ 1 ∷ [])
+    ≡ ((at (pos 3), 7) ∷ []) ∷ ((at (pos 2), 7) ∷ []) ∷ []
+unfolding int_wrap indices members owner part block_place cyclic_place step line range at
+turns_by_another_map = refl
+
 -- on a plane going round on 2x2 places: 4, 7, 7 and 12
 stencil_on_a_plane :
     map

@@ -78,6 +78,33 @@ empty_box : IsRootMap (layout roots.AsIs) (Block nothing) eight []
 unfolding layout nothing range indices members
 empty_box = record { empty = λ none. refl; some = λ some. absurd (some refl) }
 
+-- a box without an index in one of its dimensions
+box_empty_in_one : IsRootMap (layout roots.AsIs) (Block (range (pos 1) (pos 4) (pos 1) ∷ nothing)) eight []
+unfolding layout nothing range indices members
+box_empty_in_one = record { empty = λ none. refl; some = λ some. absurd (some refl) }
+
+-- the members of the box `1..12 by 5` are 1, 6 and 11, so it ends at 11
+strided_box : IsRootMap (layout roots.AsIs) (Block (range (pos 1) (pos 12) (pos 5) ∷ [])) eight (record { rule = BlockRule (pos 1) (pos 11); extent = 4 } ∷ [])
+unfolding layout range indices members
+strided_box =
+    record {
+      empty = λ none. absurd cc;
+      some = λ some. (
+        (
+          pos 1,
+          pos 11,
+          record {
+            low_is_member = (0, omega arith, refl);
+            low_is_least = All-from_recursion (λ i. pos 1 ≤ℤ i) (pos 1 ∷ pos 6 ∷ pos 11 ∷ []) (omega (arith, ints), (omega (arith, ints), (omega (arith, ints), tt)));
+            high_is_member = (2, omega arith, refl);
+            high_is_greatest = All-from_recursion (λ i. i ≤ℤ pos 11) (pos 1 ∷ pos 6 ∷ pos 11 ∷ []) (omega (arith, ints), (omega (arith, ints), (omega (arith, ints), tt)));
+          },
+          refl,
+        ),
+        tt,
+      );
+    }
+
 -- the box {1..4, 1..6} on the grid 2x3
 plane : List RangeValue
 plane = range (pos 1) (pos 4) (pos 1) ∷ range (pos 1) (pos 6) (pos 1) ∷ []
@@ -118,6 +145,25 @@ at_limit =
       past = λ past. absurd (past (All-from_recursion IsBound (pos 1152921504606846976 ∷ []) ((omega (arith, ints), omega (arith, ints)), tt)));
     }
 
+-- from -2^60 - 1
+past_least : IsRootMap (layout roots.AsIs) (Cyclic (negsuc 1152921504606846976 ∷ [])) eight []
+unfolding layout
+past_least =
+    record {
+      within = λ bounds. let bound = All-head IsBound (negsuc 1152921504606846976) [] bounds in absurd (omega (arith, ints, bound.0));
+      past = λ past. refl;
+    }
+
+-- from (1, 1, 1) on the grid 1x2x2
+three_ones : All IsBound (pos 1 ∷ pos 1 ∷ pos 1 ∷ [])
+three_ones = All-from_recursion IsBound (pos 1 ∷ pos 1 ∷ pos 1 ∷ []) ((omega (arith, ints), omega (arith, ints)), ((omega (arith, ints), omega (arith, ints)), ((omega (arith, ints), omega (arith, ints)), tt)))
+
+cyclic_in_space :
+    IsRootMap (layout roots.AsIs) (Cyclic (pos 1 ∷ pos 1 ∷ pos 1 ∷ [])) eight
+    (record { rule = CyclicRule (pos 1); extent = 1 } ∷ record { rule = CyclicRule (pos 1); extent = 2 } ∷ record { rule = CyclicRule (pos 1); extent = 2 } ∷ [])
+unfolding layout
+cyclic_in_space = record { within = λ _. refl; past = λ past. absurd (past three_ones) }
+
 -- `blockCycDist` from 1 in blocks of 2, of 0, and with sizes for two dimensions
 block_cyclic : IsRootMap (layout roots.AsIs) (BlockCyclic (pos 1 ∷ []) (pos 2 ∷ [])) eight (record { rule = BlockCyclicRule (pos 1) (pos 2); extent = 4 } ∷ [])
 unfolding layout
@@ -135,6 +181,14 @@ no_blocks =
       none = λ none. refl;
     }
 
+blocks_past_limit : IsRootMap (layout roots.AsIs) (BlockCyclic (pos 1152921504606846977 ∷ []) (pos 2 ∷ [])) eight []
+unfolding layout
+blocks_past_limit =
+    record {
+      blocks = λ are. let bound = All-head IsBound (pos 1152921504606846977) [] are.0 in absurd (omega (arith, ints, bound.1));
+      none = λ none. refl;
+    }
+
 more_sizes : IsRootMap (layout roots.AsIs) (BlockCyclic (pos 1 ∷ []) (pos 2 ∷ pos 2 ∷ [])) eight []
 unfolding layout
 more_sizes = record { blocks = λ are. let e = are.1 in absurd (omega (arith, e)); none = λ none. refl }
@@ -149,6 +203,10 @@ block_for_each : IsRootMap (layout roots.Block) (Cyclic (pos 1 ∷ [])) eight bl
 unfolding layout
 block_for_each = eight_blocks roots.Block
 
+block_for_another_box : IsRootMap (layout roots.Block) (Block nothing) eight blocks
+unfolding layout
+block_for_another_box = eight_blocks roots.Block
+
 block_for_nothing : IsRootMap (layout roots.Block) (Cyclic (pos 1 ∷ [])) nothing []
 unfolding layout nothing range indices members
 block_for_nothing = record { empty = λ none. refl; some = λ some. absurd (some refl) }
@@ -162,6 +220,18 @@ cyclic_for_each =
       some = λ some. (
         pos 2 ∷ [],
         (record { is_member = (2, omega arith, refl); is_least = All-from_recursion (λ j. pos 2 ≤ℤ j) (pos 8 ∷ pos 5 ∷ pos 2 ∷ []) (omega (arith, ints), (omega (arith, ints), (omega (arith, ints), tt))) }, tt),
+        record { within = λ _. refl; past = λ past. absurd (past (All-from_recursion IsBound (pos 2 ∷ []) ((omega (arith, ints), omega (arith, ints)), tt))) },
+      );
+    }
+
+cyclic_for_another_start : IsRootMap (layout roots.Cyclic) (Cyclic (pos 5 ∷ [])) (range (pos 2) (pos 3) (pos 1) ∷ []) (record { rule = CyclicRule (pos 2); extent = 4 } ∷ [])
+unfolding layout range indices members
+cyclic_for_another_start =
+    record {
+      empty = λ none. absurd cc;
+      some = λ some. (
+        pos 2 ∷ [],
+        (record { is_member = (0, omega arith, refl); is_least = All-from_recursion (λ j. pos 2 ≤ℤ j) (pos 2 ∷ pos 3 ∷ []) (omega (arith, ints), (omega (arith, ints), tt)) }, tt),
         record { within = λ _. refl; past = λ past. absurd (past (All-from_recursion IsBound (pos 2 ∷ []) ((omega (arith, ints), omega (arith, ints)), tt))) },
       );
     }

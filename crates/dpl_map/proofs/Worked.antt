@@ -21,6 +21,11 @@ block_of_four : map (block_place (pos 1) (pos 4) 3) (pos 1 ∷ pos 2 ∷ pos 3 �
 unfolding block_place
 block_of_four = refl
 
+-- box 1..3 over eight places, which are more than it has indices
+block_of_more_places : map (block_place (pos 1) (pos 3) 8) (pos 1 ∷ pos 2 ∷ pos 3 ∷ []) ≡ 0 ∷ 2 ∷ 5 ∷ []
+unfolding block_place
+block_of_more_places = refl
+
 -- below the box 3..4 and above it
 outside_the_box : map (block_place (pos 3) (pos 4) 2) (pos 1 ∷ pos 3 ∷ pos 4 ∷ pos 6 ∷ []) ≡ 0 ∷ 0 ∷ 1 ∷ 1 ∷ []
 unfolding block_place
@@ -53,6 +58,28 @@ owner_on_a_grid = refl
 owner_of_another_rank : owner boxes (pos 4 ∷ []) ≡ 0
 unfolding owner block_place boxes
 owner_of_another_rank = refl
+
+owner_of_a_greater_rank : owner boxes (pos 4 ∷ pos 6 ∷ pos 1 ∷ []) ≡ 0
+unfolding owner block_place boxes
+owner_of_a_greater_rank = refl
+
+-- the box {1..2, 1..3, 1..2} on a grid 2x3x2
+solid : List AxisValue
+solid = record { rule = Block (pos 1) (pos 2); extent = 2 } ∷ record { rule = Block (pos 1) (pos 3); extent = 3 } ∷ record { rule = Block (pos 1) (pos 2); extent = 2 } ∷ []
+
+owner_in_space : map (owner solid) ((pos 2 ∷ pos 3 ∷ pos 1 ∷ []) ∷ (pos 1 ∷ pos 2 ∷ pos 2 ∷ []) ∷ []) ≡ 10 ∷ 3 ∷ []
+unfolding owner block_place solid
+owner_in_space = refl
+
+-- from (1, 2) on a grid 2x3
+cyclic_on_a_grid : map (owner (cyclic_map (pos 1 ∷ pos 2 ∷ []) (2 ∷ 3 ∷ []))) ((pos 1 ∷ pos 2 ∷ []) ∷ (pos 2 ∷ pos 3 ∷ []) ∷ (pos 1 ∷ pos 1 ∷ []) ∷ []) ≡ 0 ∷ 4 ∷ 2 ∷ []
+unfolding owner cyclic_place
+cyclic_on_a_grid = refl
+
+-- from (1, 2) in blocks of 2 and of 3 on a grid 2x2
+blocks_on_a_grid : map (owner (block_cyclic_map (pos 1 ∷ pos 2 ∷ []) (pos 2 ∷ pos 3 ∷ []) (2 ∷ 2 ∷ []))) ((pos 3 ∷ pos 4 ∷ []) ∷ (pos 2 ∷ pos 5 ∷ []) ∷ []) ≡ 2 ∷ 1 ∷ []
+unfolding owner block_cyclic_place
+blocks_on_a_grid = refl
 
 range : ℤ → ℤ → ℤ → RangeValue
 range low high stride = record { low = low; high = high; stride = stride }
