@@ -5,7 +5,7 @@ ghost use Rattle.dpl_history.specs.Histories.{of_task};
 ghost use Rattle.dpl_cell.specs.Seats.{IsSeatOf, fresh_seat};
 ghost use Rattle.dpl_cell.specs.Calls.{KeepsNumbers};
 ghost use Rattle.dpl_language.specs.Values.{fault as fault_at};
-ghost use Rattle.dpl_frame.specs.Faults.{code_view, fault_view};
+ghost use Rattle.dpl_frame.specs.Faults.{fault_view};
 ghost use Rattle.dpl_task.specs.Ran.{WaitsSo};
 ghost use Rattle.dpl_task_tests.specs.Scripts.{called, read_by, HasPlayed};
 
@@ -54,7 +54,7 @@ pub(crate) struct Scripts {
 
 // A fault in no turn.
 fn fault(code: FaultCode, at: Place) -> Fault
-    ensures { fault_view result ≡ fault_at (code_view code) at }
+    ensures { fault_view result ≡ fault_at code at }
 {
     Fault {
         code,

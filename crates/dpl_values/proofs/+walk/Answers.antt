@@ -12,6 +12,7 @@ use Rattle.dpl_language.specs.Expressions.{value_of, item_of, reduction, fold_ov
 use Rattle.dpl_lowered.specs.Shapes.{nowhere}
 use Rattle.dpl_lowered.specs.LoweredExpressions.{EachTurn}
 use Rattle.dpl_memory.specs.Memory.{array_at, in_memory}
+use Rattle.dpl_nodes.specs.declared.tree.IntExpr.{IntExpr}
 use Rattle.dpl_nodes.specs.Typed.{int_view, range_item, ranges_items, domain_view, promoted_int, int_fold_view}
 use Rattle.dpl_nodes.proofs.Promotions.{int_view-at}
 use Rattle.dpl_frame.specs.Frames.{owned_by}
@@ -21,6 +22,7 @@ use Rattle.dpl_map.specs.Maps.{owner}
 use Rattle.dpl_loop.specs.Entries.{MayRefuse}
 use Rattle.dpl_loop.proofs.Folding.{with_ok-ends, tells-as}
 use Rattle.dpl_values.specs.Elements.{within_at}
+use Rattle.dpl_values.specs.Meanings.{int_in}
 use Rattle.dpl_values.specs.Reducing.{first_of_ints}
 use Rattle.dpl_values.specs.Reductions.{MayRefuseReduction, OfSlot, EachInInt, EachInRange, EachInRanges, EachInDomain, EachInInts}
 use Rattle.dpl_values.proofs.First.{ints_whole}
@@ -28,6 +30,12 @@ use Rattle.dpl_values.proofs.Folds.{reduction-within}
 use Rattle.dpl_values.proofs.Telling.{told, refused-within}
 use Rattle.dpl_values.proofs.Views.{method_ends, method_answer, slice_ends, cut_ends, slice_answer, expanded-within, expanded-past, domain_answer, domain_slice}
 use Rattle.dpl_values.proofs.+walk.Goals as goal
+
+-- `unit_of` answers for several operators at once, which the search doesn't get past
+pub expression::int_value-returns-in-Reduced : goal.expression::int_value-returns-in-Reduced
+expression::int_value-returns-in-Reduced g t c =
+    let may = λ (each : (ℕ → Type 0) → Type 0). MayRefuseReduction (g.G.Gate.may_refuse c.args.gate.now) c.args.frame.now each in
+    subst (λ (e : IntExpr). Tells (may (EachInInt e)) Int c.reduced_int.new.turn c.reduced_int.result (int_in c.args.frame.now e)) (sym c.in-Reduced.is) c.reduced_int.ensures
 
 pub expression::size_of-returns-in_err-range_value : goal.expression::size_of-returns-in_err-range_value
 expression::size_of-returns-in_err-range_value g t c =
