@@ -2,18 +2,20 @@
 -- Each lemma has the meaning of the plain statement on its left side.
 use Rattle.std.proofs.Common.{◌≡◌, ℕ, Option, Some, None, Result, Ok, Err, refl, sym, ap, ◌∙◌}
 use Rattle.dpl_syntax.specs.declared.place.Place.{Place}
-use Rattle.dpl_language.specs.Tree.{Assign, Set, SetAdd, SetSubtract, SetMultiply, SetDivide, SetRemainder, SetReduce, ItemTree}
+use Rattle.dpl_language.specs.Tree.{Assign, Set, SetAdd, SetSubtract, SetMultiply, SetDivide, SetRemainder, SetReduce, ItemTree, InitialTree}
 use Rattle.dpl_language.specs.Values.{Value, Fault, is_domain}
 use Rattle.dpl_language.specs.Arithmetic.{assign_divides, tested_divisor}
-use Rattle.dpl_language.specs.Outcome.{Deeds, Outcome, Done, Stop as StopAt, Run, with_ok, with_value}
+use Rattle.dpl_language.specs.Outcome.{Deeds, Outcome, Done, Stop as StopAt, Waits, Run, with_ok, with_value, then_do}
 use Rattle.dpl_language.specs.Environment.{Limits, Plain}
 use Rattle.dpl_language.specs.Phrases.{item_read}
 use Rattle.dpl_language.specs.Expressions.{item_of}
 use Rattle.dpl_language.specs.Assignments.{read_or, evaluated, assign_name}
-use Rattle.dpl_language.specs.Declarations.{given_or}
+use Rattle.dpl_language.specs.Declarations.{given_or, declare_typed}
+use Rattle.dpl_language.specs.Roots.{deal_domain}
 use Rattle.dpl_language.specs.Statements.{exec}
 use Rattle.dpl_lowered.specs.Shapes.{nowhere}
-use Rattle.dpl_words.specs.Words.{LeafKind, IntLeaf, TruthLeaf}
+use Rattle.dpl_lowered.specs.LoweredStatements.{written_initial}
+use Rattle.dpl_words.specs.Words.{LeafKind, IntLeaf, TruthLeaf, RangeLeaf, value_at}
 use Rattle.dpl_memory.specs.Memory.{PlainKind, Variable, Memory, variable, int_leaf, truth_leaf, in_memory}
 use Rattle.dpl_memory.proofs.Known.{memory-known}
 use Rattle.dpl_nodes.specs.declared.step.IntDeed.{IntDeed}
@@ -68,19 +70,45 @@ module _ (limits : Limits) where
   declared-value x s done (Ok v) = refl
   declared-value x s done (Err f) = refl
 
-  pub exec-declared : (x : Variable) (item : ItemTree Variable) (s : Memory) (done : Deeds) → item_read item ≡ None
-      → exec limits in_memory (declared_as None x item) s done ≡ ends_as (declared_memory limits x item s) done
-  exec-declared x item s done e =
+  declared-item : (x : Variable) (item : ItemTree Variable) (s : Memory) (done : Deeds) → item_read item ≡ None
+      → declare_typed limits in_memory (unplaced_leaf x) None (Some (written_initial nowhere item)) s done ≡ ends_as (declared_memory limits x item s) done
+  declared-item x item s done e =
       evaluated-item item (λ v s done. Done (in_memory.declare x (Plain v) s) done) s done e ∙ declared-value x s done (item_of limits in_memory item None s)
 
+  -- a plain variable gets no root
+  plain-undealt : (k : LeafKind) (slot : ℕ) (i : Option (InitialTree Variable)) (s after : Memory)
+      → deal_domain limits in_memory None i (variable (PlainKind k) slot) (value_at k slot after.words) s after ≡ after
+  plain-undealt IntLeaf slot i s after = refl
+  plain-undealt TruthLeaf slot i s after = refl
+  plain-undealt RangeLeaf slot i s after = refl
+
+  then-undealt : (k : LeafKind) (slot : ℕ) (i : Option (InitialTree Variable)) (s : Memory) (o : Outcome Memory)
+      → then_do o (λ after done. Done (deal_domain limits in_memory None i (variable (PlainKind k) slot) (value_at k slot after.words) s after) done) ≡ o
+  then-undealt k slot i s (Done after done) = ap (λ (m : Memory). Done m done) (plain-undealt k slot i s after)
+  then-undealt k slot i s (StopAt f done) = refl
+  then-undealt k slot i s (Waits at c op done) = refl
+
+  pub exec-declared : (k : LeafKind) (slot : ℕ) (item : ItemTree Variable) (s : Memory) (done : Deeds) → item_read item ≡ None
+      → exec limits in_memory (declared_as None (variable (PlainKind k) slot) item) s done ≡ ends_as (declared_memory limits (variable (PlainKind k) slot) item s) done
+  exec-declared k slot item s done e =
+      let x = variable (PlainKind k) slot in
+      let i : Option (InitialTree Variable) = Some (written_initial nowhere item) in
+      then-undealt k slot i s (declare_typed limits in_memory (unplaced_leaf x) None i s done) ∙ declared-item x item s done e
+
   given-memory : (x : Variable) (item : ItemTree Variable) (s : Memory) (done : Deeds) (given : Option Value) → item_read item ≡ None
-      → given_or limits in_memory (unplaced_leaf x) given (exec limits in_memory (declared_as None x item)) s done ≡ ends_as (given_memory limits x item given s) done
-  given-memory x item s done None e = exec-declared x item s done e
+      → given_or limits in_memory (unplaced_leaf x) given (declare_typed limits in_memory (unplaced_leaf x) None (Some (written_initial nowhere item))) s done
+      ≡ ends_as (given_memory limits x item given s) done
+  given-memory x item s done None e = declared-item x item s done e
   given-memory x item s done (Some v) e = refl
 
-  pub exec-config : (x : Variable) (item : ItemTree Variable) (s : Memory) (done : Deeds) → item_read item ≡ None
-      → exec limits in_memory (declared_as (Some nowhere) x item) s done ≡ ends_as (given_memory limits x item (in_memory.given x s) s) done
-  exec-config x item s done e = given-memory x item s done (in_memory.given x s) e
+  exec-config : (k : LeafKind) (slot : ℕ) (item : ItemTree Variable) (s : Memory) (done : Deeds) → item_read item ≡ None
+      → exec limits in_memory (declared_as (Some nowhere) (variable (PlainKind k) slot) item) s done
+      ≡ ends_as (given_memory limits (variable (PlainKind k) slot) item (in_memory.given (variable (PlainKind k) slot) s) s) done
+  exec-config k slot item s done e =
+      let x = variable (PlainKind k) slot in
+      let i : Option (InitialTree Variable) = Some (written_initial nowhere item) in
+      then-undealt k slot i s (given_or limits in_memory (unplaced_leaf x) (in_memory.given x s) (declare_typed limits in_memory (unplaced_leaf x) None i) s done)
+      ∙ given-memory x item s done (in_memory.given x s) e
 
   tested-value : (x : Variable) (op : Assign) (s : Memory) (done : Deeds) (r : Result Value Fault)
       → with_value r (λ w s done. Done (in_memory.update x op w s) done) s done ≡ ends_as (with_ok r (λ w. Ok (in_memory.update x op w s))) done
@@ -110,8 +138,8 @@ module _ (limits : Limits) where
   -- what is done to an int
   pub exec-int : (d : IntDeed) (slot : ℕ) (item : ItemTree Variable) (s : Memory) (done : Deeds) → item_read item ≡ None
       → exec limits in_memory (int_changed d slot item) s done ≡ ends_as (int_memory limits d slot item s) done
-  exec-int deeds.Declare slot item s done e = exec-declared (int_leaf slot) item s done e
-  exec-int deeds.Config slot item s done e = exec-config (int_leaf slot) item s done e ∙ ap (λ r. ends_as r done) (given-int slot item s (in_memory.given (int_leaf slot) s))
+  exec-int deeds.Declare slot item s done e = exec-declared IntLeaf slot item s done e
+  exec-int deeds.Config slot item s done e = exec-config IntLeaf slot item s done e ∙ ap (λ r. ends_as r done) (given-int slot item s (in_memory.given (int_leaf slot) s))
   exec-int deeds.Set slot item s done e = exec-assigned IntLeaf slot Set nowhere item s done e
   exec-int deeds.Add slot item s done e = exec-assigned IntLeaf slot SetAdd nowhere item s done e
   exec-int deeds.Subtract slot item s done e = exec-assigned IntLeaf slot SetSubtract nowhere item s done e
@@ -123,7 +151,7 @@ module _ (limits : Limits) where
   -- what is done to a truth value
   pub exec-truth : (d : TruthDeed) (slot : ℕ) (item : ItemTree Variable) (s : Memory) (done : Deeds) → item_read item ≡ None
       → exec limits in_memory (truth_changed d slot item) s done ≡ ends_as (truth_memory limits d slot item s) done
-  exec-truth deed.Declare slot item s done e = exec-declared (truth_leaf slot) item s done e
-  exec-truth deed.Config slot item s done e = exec-config (truth_leaf slot) item s done e
+  exec-truth deed.Declare slot item s done e = exec-declared TruthLeaf slot item s done e
+  exec-truth deed.Config slot item s done e = exec-config TruthLeaf slot item s done e
   exec-truth deed.Set slot item s done e = exec-assigned TruthLeaf slot Set nowhere item s done e
   exec-truth deed.Reduce slot item s done e = exec-assigned TruthLeaf slot SetReduce nowhere item s done e

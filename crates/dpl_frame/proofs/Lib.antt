@@ -1,3 +1,4 @@
 pub mod Kept
 pub mod EmptySlots
 pub mod Redomained
+pub mod Dealing

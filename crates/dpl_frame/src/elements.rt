@@ -4,15 +4,18 @@
 ghost use Rattle.std.specs.Prelude.{◌≡◌, ◌≤◌, ◌<◌, ℕ, ℤ, pos, [], ◌∷◌, Some, true, false, is_some, length, map, option_map, slice_get, IfErr, IfOk, OnOk};
 ghost use Rattle.dpl_array.specs.Elements.{behind, put_in_row};
 ghost use Rattle.dpl_language.specs.Ranges.{indices_in, too_large};
-ghost use Rattle.dpl_memory.specs.Memory.{whole_held, array_at, held_at, held_with, is_some_array, redomained_from, with_array};
+ghost use Rattle.dpl_language.specs.Distributions.{no_root};
+ghost use Rattle.dpl_memory.specs.Memory.{whole_held, array_at, held_at, held_with, is_some_array, redomained_from, with_array, with_root};
 ghost use Rattle.dpl_frame.specs.Frames.{with_memory, held_in};
 
 use crate::arrays::Arrays;
 use crate::filled::filled;
 use crate::frame::Frame;
+use crate::root::Root;
 use crate::slots::Slots;
 use dpl_contents::{ArrayWords, DomainWord};
 use dpl_domain::Index;
+use dpl_map::Map;
 use std::alloc::AllocError;
 
 impl<'t> Frame<'t, Slots> {
@@ -128,41 +131,43 @@ impl<'t, A: Arrays> Frame<'t, A> {
         self.arrays.put_run(slot, index, words)
     }
 
-    /// The array over a domain that holds 0 everywhere, by the map of a slot. It is in no slot.
+    /// The array over a domain that holds 0 everywhere, dealt out by a map. It is in no slot.
     ///
     /// # Errors
     /// Out of memory.
-    pub fn zeros(&self, slot: usize, domain: DomainWord) -> Result<ArrayWords, AllocError>
+    pub fn zeros(&self, owner: Map, domain: DomainWord) -> Result<ArrayWords, AllocError>
         requires { too_large domain ≡ false }
         ensures { IfOk result (λ a. a ≡ whole_held domain (map (λ t. pos 0) (indices_in domain))) }
     {
-        filled(self.alloc, domain, self.owner(slot), 0)
+        filled(self.alloc, domain, owner, 0)
     }
 
-    /// Puts an array into a slot; past the last one it does nothing.
-    #[inline(always)]
-    pub fn keep(&mut self, slot: usize, array: ArrayWords)
-        ensures { self.new ≡ with_memory (with_array slot array self.old.memory) self.old }
+    /// Declares an array in a slot, which has no root until it is dealt; past the last one it does nothing.
+    pub fn declare(&mut self, slot: usize, array: ArrayWords)
+        ensures { self.new ≡ with_memory (with_root slot no_root (with_array slot array self.old.memory)) self.old }
     {
         self.arrays.keep(slot, array);
+        self.deal(slot, Root::Absent);
     }
 
-    /// Declares an array in a slot: over a domain, by the slot's map, with one word everywhere. Past the last slot it does nothing.
+    /// The same of an array over a domain that has one word everywhere, dealt out by a map.
     ///
     /// # Errors
     /// Out of memory; then the frame is as it was.
     pub fn declare_array(
         &mut self,
         slot: usize,
+        owner: Map,
         domain: DomainWord,
         word: i64,
     ) -> Result<(), AllocError>
         requires { too_large domain ≡ false }
-        ensures declared { OnOk result (self.new ≡ with_memory (with_array slot (whole_held domain (map (λ t. word) (indices_in domain))) self.old.memory) self.old) }
+        ensures declared { OnOk result (self.new
+            ≡ with_memory (with_root slot no_root (with_array slot (whole_held domain (map (λ t. word) (indices_in domain))) self.old.memory)) self.old) }
         ensures unchanged { IfErr result (λ e. self.new ≡ self.old) }
     {
-        let array = filled(self.alloc, domain, self.owner(slot), word)?;
-        self.keep(slot, array);
+        let array = filled(self.alloc, domain, owner, word)?;
+        self.declare(slot, array);
         Ok(())
     }
 

@@ -1,21 +1,23 @@
-// The frame of a run: what its slots hold and by which maps, the reduce variables of the forall around, and what is set.
+// The frame of a run: what its slots hold, with the roots of domains and arrays; the reduce variables of the forall around, and what is set.
 // A word is a value of every kind, so that no walk can leave a frame ill typed.
 
-ghost use Rattle.std.specs.Prelude.{◌≡◌, ◌↔◌, ◌<◌, pos, [], ◌∷◌, ◌++◌, get_or, set, map, length, option_map, slice_get, IfOk, IsTrue};
+ghost use Rattle.std.specs.Prelude.{◌≡◌, ◌↔◌, ◌<◌, pos, [], ◌∷◌, ◌++◌, get_or, set, map, length, IfOk, IsTrue};
 ghost use Rattle.dpl_words.specs.Words.{no_range, intent_at, set_at};
-ghost use Rattle.dpl_memory.specs.Memory.{no_domain, no_tuple, intents_by_slot};
+ghost use Rattle.dpl_language.specs.Distributions.{no_root};
+ghost use Rattle.dpl_memory.specs.Memory.{no_domain, no_tuple, intents_by_slot, with_root};
 ghost use Rattle.dpl_contents.specs.Range.{range_word};
 ghost use Rattle.dpl_nodes.specs.Steps.{intent_view};
-ghost use Rattle.dpl_map.specs.Maps.{whole_map};
-ghost use Rattle.dpl_frame.specs.Frames.{with_memory, with_words, first_frame, with_owner};
+ghost use Rattle.dpl_frame.specs.Roots.{root_view, map_of_root};
+ghost use Rattle.dpl_frame.specs.Frames.{with_memory, with_words, first_frame, owned_by};
 
 use crate::arrays::Arrays;
+use crate::root::{Dealt, Root};
 use crate::slots::Slots;
 use dpl_contents::{DomainWord, RangeWord};
 use dpl_domain::Index;
 use dpl_layout::Layout;
 use dpl_map::Map;
-use dpl_nodes::{Intent, MapExpr};
+use dpl_nodes::Intent;
 use dpl_tree::Op;
 use std::alloc::{AllocError, Global};
 use std::marker::Model;
@@ -28,8 +30,9 @@ fn no_tuple() -> Index
 }
 
 /// The slots of a run, with the reduce variables of the forall around and their operators, what the command line sets,
-/// the budget of a loop and the number of locales; the maps that the program names, and by which map the domain or array in a slot is dealt out over locales. A
-/// frame has as many of everything as slots. How its arrays are kept is a parameter, and shows in nothing that it stands for.
+/// the budget of a loop and the number of locales; and how locales are laid out. Each slot has the map of its root by this layout, which is
+/// kept beside the root, so that it is found at once. A frame has as many of everything as slots. How its arrays are kept is a parameter,
+/// and shows in nothing that it stands for.
 #[derive(Drop)]
 pub struct Frame<'t, A: Arrays = Slots> {
     numbers: Vec<i64>,
@@ -43,8 +46,7 @@ pub struct Frame<'t, A: Arrays = Slots> {
     budget: u64,
     locales: u32,
     layout: Layout,
-    maps: &'t [MapExpr<'t>],
-    owners: Vec<Map>,
+    dealt: Vec<Dealt>,
 }
 
 impl<'t, A: Arrays> Model for Frame<'t, A> {
@@ -52,16 +54,10 @@ impl<'t, A: Arrays> Model for Frame<'t, A> {
     ghost use Rattle.dpl_memory.specs.Memory.{intents_by_slot};
     ghost use Rattle.dpl_contents.specs.Range.{range_word};
     ghost use Rattle.dpl_nodes.specs.Steps.{intent_view};
+    ghost use Rattle.dpl_frame.specs.Roots.{dealt_root, AreDealt};
     ghost use Rattle.dpl_frame.specs.Frames.{Framed};
-    ghost use Rattle.dpl_nodes.specs.contracts.tree.DomainExpr as domain;
-    ghost use Rattle.dpl_nodes.specs.contracts.tree.IndexExpr as index;
-    ghost use mir.Syntax.{named};
-    ghost use Rattle.std.specs.Prelude.{[]};
-    ghost use Rattle.std.specs.Coded.{codes};
 
     ghost Value = { Framed };
-
-    ghost coded = { Prim.hlevel (codes, (domain.the_row (record { mir = named 0; lft = [] })).coded, (index.the_row (record { mir = named 0; lft = [] })).coded) };
 
     ghost view = { λ f. record {
       memory = record {
@@ -69,30 +65,30 @@ impl<'t, A: Arrays> Model for Frame<'t, A> {
         domains = f.domains.items;
         tuples = f.tuples.items;
         arrays = A.held f.arrays;
+        roots = map dealt_root f.dealt.items;
       };
       limits = record { budget = f.budget; locales = f.locales };
       layout = f.layout;
-      maps = f.maps.now;
-      owners = f.owners.items;
     } };
+
+    ghost invariant = { λ f. AreDealt f.layout f.dealt.items };
 }
 
 impl<'t> Frame<'t, Slots> {
     /// A frame with so many slots: its words are 0, its ranges `1..0`, its domains `{1..0}`, its tuples the index 0, and its
-    /// arrays have no elements; each slot has the whole map. Nothing is set, and there are no reduce variables.
+    /// arrays have no elements; no slot has a root, so that each has the whole map. Nothing is set, and there are no reduce variables.
     ///
     /// # Errors
     /// Out of memory.
-    #[tactic(auto, using(crate::proofs::Kept::map_replicate))]
+    #[tactic(auto, using(crate::proofs::Kept::map_replicate, crate::proofs::Dealing::roots_absent, crate::proofs::Dealing::dealt_absent))]
     pub fn new(
         alloc: Global,
         slots: usize,
         budget: u64,
         locales: u32,
         layout: Layout,
-        maps: &'t [MapExpr<'t>],
     ) -> Result<Frame<'t>, AllocError>
-        ensures { IfOk result (λ f. f ≡ first_frame slots (record { budget = budget; locales = locales }) layout maps.now) }
+        ensures { IfOk result (λ f. f ≡ first_frame slots (record { budget = budget; locales = locales }) layout) }
     {
         Ok(Frame {
             numbers: vec![in alloc; 0; slots]?,
@@ -106,8 +102,7 @@ impl<'t> Frame<'t, Slots> {
             budget,
             locales,
             layout,
-            maps,
-            owners: vec![in alloc; Map::whole(); slots]?,
+            dealt: vec![in alloc; Dealt::Absent; slots]?,
         })
     }
 }
@@ -195,6 +190,14 @@ impl<'t, A: Arrays> Frame<'t, A> {
         }
     }
 
+    /// Declares a domain in a slot, which has no root until it is dealt; past the last one it does nothing.
+    pub fn declare_domain(&mut self, slot: usize, domain: DomainWord)
+        ensures { self.new ≡ with_memory (with_root slot no_root (record self.old.memory { domains = set self.old.memory.domains slot domain })) self.old }
+    {
+        self.set_domain(slot, domain);
+        self.deal(slot, Root::Absent);
+    }
+
     /// Puts an index into a slot; past the last one it does nothing.
     pub fn set_tuple(&mut self, slot: usize, index: Index)
         ensures { self.new ≡ with_memory (record self.old.memory { tuples = set self.old.memory.tuples slot index }) self.old }
@@ -204,36 +207,39 @@ impl<'t, A: Arrays> Frame<'t, A> {
         }
     }
 
-    /// How locales are laid out, and which maps roots get.
-    pub fn layout(&self) -> Layout
-        ensures { result ≡ self.now.layout }
+    /// The root of the domain or array in a slot; none past the last one.
+    pub fn root(&self, slot: usize) -> Root
+        ensures { root_view result ≡ get_or self.now.memory.roots slot no_root }
     {
-        self.layout
+        match self.dealt.get(slot) {
+            Some(dealt) => dealt.root(),
+            None => Root::Absent,
+        }
     }
 
-    /// A map that the program names, by its number, if there are so many.
-    pub fn named_map(&self, number: usize) -> Option<&MapExpr<'t>>
-        ensures { option_map (λ e. e.now) result ≡ slice_get self.now.maps number }
-    {
-        self.maps.get(number)
-    }
-
-    /// The map of the domain or array in a slot; the whole map past the last one.
+    /// The map of the domain or array in a slot, which is that of its root; the whole map past the last one.
     pub fn owner(&self, slot: usize) -> Map
-        ensures { result ≡ get_or self.now.owners slot whole_map }
+        ensures { result ≡ owned_by self.now slot }
     {
-        match self.owners.get(slot) {
-            Some(map) => *map,
+        match self.dealt.get(slot) {
+            Some(dealt) => dealt.map(),
             None => Map::whole(),
         }
     }
 
-    /// Gives a slot a map; past the last one it does nothing.
-    pub fn set_owner(&mut self, slot: usize, map: Map)
-        ensures { self.new ≡ with_owner slot map self.old }
+    /// The map that a root gets here.
+    pub fn map_of(&self, root: &Root) -> Map
+        ensures { result ≡ map_of_root self.now.layout (root_view root.now) }
     {
-        if slot < self.owners.len() {
-            self.owners[slot] = map;
+        root.map(&self.layout)
+    }
+
+    /// Gives a slot a root, and with it the root's map; past the last one it does nothing.
+    pub fn deal(&mut self, slot: usize, root: Root)
+        ensures { self.new ≡ with_memory (with_root slot (root_view root) self.old.memory) self.old }
+    {
+        if slot < self.dealt.len() {
+            self.dealt[slot] = root.dealt(&self.layout);
         }
     }
 

@@ -1,7 +1,7 @@
 // The frame of a run, and what a walk over it hands back.
 // Read `Frame` first: what its slots hold is a memory of the language's meaning, however its arrays are kept (`Arrays`). `Alarm` is a fault in one word.
-// An array has a word for each element, an int or a truth value by the array's kind, which the name's variable knows and no word does. No
-// meaning looks at a map, so the maps of slots stand beside the memory.
+// An array has a word for each element, an int or a truth value by the array's kind, which the name's variable knows and no word does. Roots
+// are of the memory; the map that each gets is kept beside it, and is no part of what a frame stands for (`AreDealt`).
 #![tactic(auto)]
 
 pub mod arrays;
@@ -9,6 +9,7 @@ mod elements;
 pub mod fault;
 mod filled;
 pub mod frame;
+pub mod root;
 pub mod slots;
 
 pub use arrays::Arrays;
@@ -16,4 +17,5 @@ pub use dpl_contents::{DomainWord, RangeWord};
 pub use dpl_syntax::FaultCode;
 pub use fault::{Alarm, Fault, Trap, Truth, Turn};
 pub use frame::Frame;
+pub use root::{Distribution, Root};
 pub use slots::Slots;

@@ -3,3 +3,4 @@ pub mod Layouts
 pub mod Roots
 -- From here on: what serves contracts and proofs alone.
 pub mod LayoutFields
+pub mod RootMaps

@@ -2,7 +2,7 @@
 -- It is a lowered one over slots: each body is a list, and the places are those of faults alone.
 use Rattle.std.specs.Prelude.{ℕ, Bool, false, Option, Some, None, List, [], ◌∷◌, map, option_map}
 use Rattle.dpl_syntax.specs.declared.place.Place.{Place}
-use Rattle.dpl_language.specs.Tree.{Placed, AfterComma, Listed, Op, Assign, Set, SetAdd, SetSubtract, SetMultiply, SetDivide, SetRemainder, SetReduce, Kind, IntKind, BoolKind, ExprTree, Grouped, Items, ItemTree, One, Plainly, StartTree, StartExpr, StartTuple, MapTree, MappedTree, CreateBlock, CreateCyclic, TypeTree, ArrayType, InitialTree, ArgumentTree, TextArgument, ExprArgument, VariablesTree, OneVariable, ManyVariables, Whole, Element, Square, StmtTree, Nothing, Declare, Assigned, Write, Block, If, While, For, Forall, Body, BlockBody, Stmts, NoStmts, Then, Else, NoElse, ElseDo}
+use Rattle.dpl_language.specs.Tree.{Placed, AfterComma, Listed, Op, Assign, Set, SetAdd, SetSubtract, SetMultiply, SetDivide, SetRemainder, SetReduce, Kind, IntKind, BoolKind, ExprTree, Grouped, Items, ItemTree, One, Word, Low, LowBound, Plainly, StartTree, StartExpr, StartTuple, MapTree, MappedTree, CreateBlock, CreateCyclic, TypeTree, ArrayType, InitialTree, ArgumentTree, TextArgument, ExprArgument, VariablesTree, OneVariable, ManyVariables, Whole, Element, Square, StmtTree, Nothing, Declare, Assigned, Write, Block, If, While, For, Forall, Body, BlockBody, Stmts, NoStmts, Then, Else, NoElse, ElseDo}
 use Rattle.dpl_language.specs.Arithmetic.{assign_divides}
 use Rattle.dpl_lowered.specs.Shapes.{nowhere, kept}
 use Rattle.dpl_lowered.specs.LoweredExpressions.{EachTurn}
@@ -156,9 +156,14 @@ index_start (Space' p a q b r c) =
     StartTuple nowhere (record { first = int_view a; others = behind (int_view b) ∷ behind (int_view c) ∷ [] }) nowhere
 index_start (TupleIndex slot) = StartExpr (tuple_named slot)
 
+-- least members are asked for by `low` or `lowBound`; no other word stands there
+abbrev pub low_word : Word → Word
+low_word LowBound = LowBound
+low_word _ = Low
+
 abbrev pub start_view : StartNode → StartTree Variable
 start_view (Index t) = index_start t.now
-start_view (Least d at w) = StartExpr (dotted (domain_view d.now) (Plainly at.now w))
+start_view (Least d at w) = StartExpr (dotted (domain_view d.now) (Plainly at.now (low_word w)))
 
 abbrev pub map_view : MapExpr → MapTree Variable
 map_view (maps.Block d) = block_map (One (domain_view d.now))

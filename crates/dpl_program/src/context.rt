@@ -2,7 +2,7 @@
 // A forall is evaluated and tested here; its turns are made by the loop of foralls. None of these calls is inlined, so that the walk
 // of statements keeps no room for them: the compiler clears it at each statement.
 
-ghost use Rattle.std.specs.Prelude.{◌≡◌, [], ◌∷◌, map};
+ghost use Rattle.std.specs.Prelude.{◌≡◌, None, [], ◌∷◌, map};
 ghost use Rattle.dpl_language.specs.Outcome.{Deeds};
 ghost use Rattle.dpl_language.specs.Ranges.{indices_in};
 ghost use Rattle.dpl_language.specs.Statements.{exec_all};
@@ -10,8 +10,8 @@ ghost use Rattle.dpl_memory.specs.Memory.{in_memory};
 ghost use Rattle.dpl_standing.specs.Standing.{Outside, InTurn};
 ghost use Rattle.dpl_nodes.specs.Typed.{domain_view};
 ghost use Rattle.dpl_nodes.specs.Steps.{intent_view};
-ghost use Rattle.dpl_nodes.specs.Roots.{derived_from, placing_by};
-ghost use Rattle.dpl_nodes.specs.declared.placing.Placing.TheVariants.{Unmapped};
+ghost use Rattle.dpl_language.specs.Roots.{derived_from};
+ghost use Rattle.dpl_nodes.specs.Roots.{slot_by};
 ghost use Rattle.dpl_nodes.specs.declared.step.Names.TheVariants.{Int as IntName};
 ghost use Rattle.dpl_contents.specs.Range.{range_word};
 ghost use Rattle.dpl_loop.specs.Runs.{RunsTo};
@@ -26,7 +26,7 @@ use crate::body::Body;
 use crate::dealt::dealt;
 use dpl_frame::{DomainWord, Frame, RangeWord};
 use dpl_loop::{Gate, Stop, forall, forall_line};
-use dpl_nodes::{Argument, DomainExpr, Intent, Names, Placing, RangeExpr, Spot, Step};
+use dpl_nodes::{Argument, DomainExpr, Intent, Names, RangeExpr, Spot, Step};
 use dpl_print::write;
 use dpl_steps::{Context, domain_indices, range_indices, run as run_steps};
 
@@ -60,11 +60,13 @@ fn turns_of<'t, G: Gate>(
     frame: &mut Frame<'t>,
     gate: &G,
 ) -> Result<(), Stop>
-    ensures ends { (done : Deeds) → RunsTo (MayRefuse (G.may_refuse gate.now) (dealt_by frame.old (placing_by (derived_from (domain_view over.now))) (written_among (steps_in InTurn body.now))) indices) result frame.new.memory done
+    ensures ends { (done : Deeds) → RunsTo
+        (MayRefuse (G.may_refuse gate.now) (dealt_by frame.old (slot_by (derived_from (domain_view over.now))) (written_among (steps_in InTurn body.now))) indices)
+        result frame.new.memory done
         (intended_turns (map intent_view intents.now) (index_turn frame.old.limits names.now (steps_in InTurn body.now)) (indices_in indices) frame.old.memory done) }
     ensures limits { frame.new.limits ≡ frame.old.limits }
 {
-    let map = dealt(body, over.placing(), frame);
+    let map = dealt(body, over.origin(), frame);
     let turns = Body {
         names: *names,
         steps: body,
@@ -84,11 +86,13 @@ fn turns_of_line<'t, G: Gate>(
     frame: &mut Frame<'t>,
     gate: &G,
 ) -> Result<(), Stop>
-    ensures ends { (done : Deeds) → RunsTo (MayRefuse (G.may_refuse gate.now) (dealt_by frame.old Unmapped (written_among (steps_in InTurn body.now))) (range_word indices.now ∷ [])) result frame.new.memory done
+    ensures ends { (done : Deeds) → RunsTo
+        (MayRefuse (G.may_refuse gate.now) (dealt_by frame.old None (written_among (steps_in InTurn body.now))) (range_word indices.now ∷ []))
+        result frame.new.memory done
         (intended_turns (map intent_view intents.now) (index_turn frame.old.limits (IntName slot) (steps_in InTurn body.now)) (indices_in (range_word indices.now ∷ [])) frame.old.memory done) }
     ensures limits { frame.new.limits ≡ frame.old.limits }
 {
-    let map = dealt(body, Placing::Unmapped, frame);
+    let map = dealt(body, None, frame);
     let turns = Body {
         names: Names::Int(slot),
         steps: body,

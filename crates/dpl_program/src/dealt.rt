@@ -3,28 +3,27 @@
 ghost use Rattle.std.specs.Prelude.{◌≡◌};
 ghost use Rattle.dpl_standing.specs.Standing.{InTurn};
 ghost use Rattle.dpl_steps.specs.Readings.{steps_in};
-ghost use Rattle.dpl_steps.specs.Dealt.{placed_by, dealt_by};
+ghost use Rattle.dpl_steps.specs.Dealt.{slot_map, dealt_by};
 ghost use Rattle.dpl_steps.specs.Written.{written_among};
 
 use crate::written::written;
 use dpl_frame::Frame;
 use dpl_map::Map;
-use dpl_nodes::{Placing, Step};
+use dpl_nodes::Step;
 
-// The map of the name from which what a forall runs over is derived; the whole map, which gives all to locale 0, where it is
+// The map of the domain or array from which what a forall runs over is derived; the whole map, which gives all to locale 0, where it is
 // derived from none.
-fn over_map(placing: Placing, frame: &Frame<'_>) -> Map
-    ensures { result ≡ placed_by frame.now placing }
+fn over_map(origin: Option<usize>, frame: &Frame<'_>) -> Map
+    ensures { result ≡ slot_map frame.now origin }
 {
-    match placing {
-        Placing::Of(slot) => frame.owner(slot),
-        Placing::Unmapped | Placing::Mapped(_) | Placing::BlockCreated | Placing::CyclicCreated =>
-            Map::whole(),
+    match origin {
+        Some(slot) => frame.owner(slot),
+        None => Map::whole(),
     }
 }
 
 /// The map of the first array that the turns write; where they write none, that of what the forall runs over.
-pub(crate) fn dealt(body: &[Step<'_>], over: Placing, frame: &Frame<'_>) -> Map
+pub(crate) fn dealt(body: &[Step<'_>], over: Option<usize>, frame: &Frame<'_>) -> Map
     ensures { result ≡ dealt_by frame.now over (written_among (steps_in InTurn body.now)) }
 {
     match written(body) {

@@ -5,7 +5,7 @@ ghost use Rattle.dpl_standing.specs.Standing.{InTurn};
 ghost use Rattle.dpl_steps.specs.Readings.{step_in, else_in, steps_in};
 ghost use Rattle.dpl_steps.specs.Written.{written_by, written_else, written_among};
 
-use dpl_nodes::Step;
+use dpl_nodes::{Step, TruthTarget};
 use dpl_nodes::step::Else;
 
 /// The slot of the first array of which statements write an element, in the order of their text.
@@ -28,7 +28,7 @@ fn written_by(step: &Step<'_>) -> Option<usize>
 {
     match step {
         Step::SetElement(name, _, _, _, _) => Some(name.slot),
-        Step::SetTruthElement(name, _, _) => Some(name.slot),
+        Step::Truth(TruthTarget::Element(name, _), _) => Some(name.slot),
         Step::Block(body) => written(body),
         Step::If {
             body,
@@ -45,9 +45,8 @@ fn written_by(step: &Step<'_>) -> Option<usize>
         | Step::Int(_, _, _)
         | Step::DeclareRange(_, _)
         | Step::SetRange(_, _)
-        | Step::Truth(_, _, _)
+        | Step::Truth(TruthTarget::Slot(_, _), _)
         | Step::DeclareDomain(_, _, _)
-        | Step::DeclareEmpty(_, _, _)
         | Step::SetDomain(_, _)
         | Step::DeclareArray(_)
         | Step::SetArray(_, _, _, _)

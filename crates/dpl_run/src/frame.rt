@@ -7,9 +7,7 @@ ghost use Rattle.dpl_run.specs.Settings.{limits_of, layout_of};
 
 use crate::config::Config;
 use dpl_frame::Frame;
-use dpl_nodes::MapExpr;
-use dpl_tree::Arena;
-use std::alloc::AllocError;
+use std::alloc::{AllocError, Global};
 
 // Gives these words to their slots, behind what was given before.
 fn give_all(frame: &mut Frame<'_>, words: &[(usize, i64)]) -> Result<(), AllocError>
@@ -21,30 +19,20 @@ fn give_all(frame: &mut Frame<'_>, words: &[(usize, i64)]) -> Result<(), AllocEr
     Ok(())
 }
 
-/// A frame with so many slots, in which these words are given, for a program that names these maps; they are kept in the arena.
+/// A frame with so many slots, in which these words are given.
 ///
 /// # Errors
 /// Out of memory.
 pub(crate) fn first_frame<'t>(
-    arena: Arena<'t>,
+    alloc: Global,
     slots: usize,
     words: &[(usize, i64)],
     config: &Config,
-    maps: Vec<MapExpr<'t>>,
 ) -> Result<Frame<'t>, AllocError>
-    ensures { IfOk result (λ f. f ≡ with_memory (first_memory (record { slots = slots; texts = []; words = words.now })) (first_frame slots (limits_of config.now) (layout_of config.now) maps.entry.items)) }
+    ensures { IfOk result (λ f. f ≡ with_memory (first_memory (record { slots = slots; texts = []; words = words.now }))
+        (first_frame slots (limits_of config.now) (layout_of config.now))) }
 {
-    let Ok(maps) = arena.list(maps) else {
-        return Err(AllocError);
-    };
-    let mut frame = Frame::new(
-        arena.alloc(),
-        slots,
-        config.budget(),
-        config.locales(),
-        config.layout(),
-        maps,
-    )?;
+    let mut frame = Frame::new(alloc, slots, config.budget(), config.locales(), config.layout())?;
     give_all(&mut frame, words)?;
     Ok(frame)
 }

@@ -97,11 +97,10 @@ fn run_planned<'t, G: Gate>(
     let Planned {
         steps,
         slots,
-        maps,
         scopes,
     } = planned;
     let words = given(alloc, &scopes, sets)?;
-    let frame = first_frame(arena, slots, &words, config, maps)?;
+    let frame = first_frame(alloc, slots, &words, config)?;
     run(alloc, steps, frame, &scopes, stmts, gate)
 }
 

@@ -6,21 +6,22 @@ use Rattle.dpl_syntax.specs.declared.place.Place.{Place}
 use Rattle.dpl_sets.specs.TextRanges.{TextRange}
 use Rattle.dpl_language.specs.Tree.{Placed, Kind, IntKind, BoolKind, ExprTree, One}
 use Rattle.dpl_language.specs.Values.{Value, Domain, Index, ranges_in, default, kept_number, Fault, fault, Budget, ArrayTooLarge}
+use Rattle.dpl_language.specs.Distributions.{no_root}
 use Rattle.dpl_language.specs.Ranges.{indices_in, size_in, too_large}
 use Rattle.dpl_language.specs.Phrases.{cell_read}
-use Rattle.dpl_language.specs.Outcome.{Deeds, Done, Stop, Run, with_value, unless}
+use Rattle.dpl_language.specs.Outcome.{Deeds, Done, Stop, Run, with_value, unless, then_do}
 use Rattle.dpl_language.specs.Environment.{Limits}
 use Rattle.dpl_language.specs.Expressions.{value_of, domain_of}
 use Rattle.dpl_language.specs.Declarations.{Shell, array_with, filled, declaring, array_of_item, array_of}
 use Rattle.dpl_language.specs.Statements.{exec}
-use Rattle.dpl_memory.specs.Memory.{whole_held, ArrayKind, Variable, Memory, variable, with_array, in_memory}
-use Rattle.dpl_nodes.specs.declared.step.Initial.{Initial}
+use Rattle.dpl_memory.specs.Memory.{whole_held, ArrayKind, Variable, Memory, variable, with_array, with_root, in_memory}
 use Rattle.dpl_nodes.specs.declared.step.ArrayDeclaration.{ArrayDeclaration}
-use Rattle.dpl_nodes.specs.Steps.{placed_leaf, over_items, initial_kind, initial_view, array_declared}
+use Rattle.dpl_nodes.specs.Steps.{placed_leaf, over_items, array_declared}
 use Rattle.dpl_values.specs.Elements.{within_at}
 use Rattle.dpl_elements.specs.Changes.{for_array_at}
-use Rattle.dpl_elements.specs.Arrays.{shell_over}
 use Rattle.dpl_elements.proofs.Changing.{evaluated-item}
+use Rattle.dpl_steps.specs.Lineages.{declared_over}
+use Rattle.dpl_steps.proofs.Rooting.{dealing_array}
 
 -- THE BUDGET
 -- a fault where a test says so
@@ -46,11 +47,11 @@ module _ (limits : Limits) (at : Place) (k : Kind) (slot : ℕ) (a : Shell Varia
   name = placed_leaf at (variable (ArrayKind k) slot)
 
   pub declaring-filled : (v : Value) (w : ℤ) → kept_number v ≡ w
-      → declaring limits in_memory name (array_with a (filled v a.ranges)) s done ≡ Done (with_array slot (whole_held a.ranges (map (λ t. w) (indices_in a.ranges))) s) done
-  declaring-filled v w e = ap (λ ws. Done (with_array slot (whole_held a.ranges ws) s) done) (filled-words v w (indices_in a.ranges) e)
+      → declaring limits in_memory name (array_with a (filled v a.ranges)) s done ≡ Done (with_root slot no_root (with_array slot (whole_held a.ranges (map (λ t. w) (indices_in a.ranges))) s)) done
+  declaring-filled v w e = ap (λ ws. Done (with_root slot no_root (with_array slot (whole_held a.ranges ws) s)) done) (filled-words v w (indices_in a.ranges) e)
 
   -- a declaration without an initial value
-  pub array_of-zeros : (k0 : Kind) → a.kind ≡ k0 → array_of limits in_memory name a None s done ≡ Done (with_array slot (whole_held a.ranges (map (λ t. pos 0) (indices_in a.ranges))) s) done
+  pub array_of-zeros : (k0 : Kind) → a.kind ≡ k0 → array_of limits in_memory name a None s done ≡ Done (with_root slot no_root (with_array slot (whole_held a.ranges (map (λ t. pos 0) (indices_in a.ranges))) s)) done
   array_of-zeros IntKind e = declaring-filled (default a.kind) (pos 0) (ap (λ k. kept_number (default k)) e)
   array_of-zeros BoolKind e = declaring-filled (default a.kind) (pos 0) (ap (λ k. kept_number (default k)) e)
 
@@ -74,7 +75,7 @@ module _ (limits : Limits) (at : Place) (k : Kind) (slot : ℕ) (a : Shell Varia
           ∙ unless-broken (fault Budget equals) (declaring limits in_memory name (array_with a (filled v a.ranges))) s done (nat_lt limits.budget (size_in a.ranges)) f (sym past)
 
       pub array_of_item-value : (v : Value) (w : ℤ) → value_of limits in_memory e (Some t) s ≡ Ok v → Ok tt ≡ within_at limits equals a.ranges → kept_number v ≡ w
-          → array_of_item limits in_memory name a equals (One e) whole s done ≡ Done (with_array slot (whole_held a.ranges (map (λ t. w) (indices_in a.ranges))) s) done
+          → array_of_item limits in_memory name a equals (One e) whole s done ≡ Done (with_root slot no_root (with_array slot (whole_held a.ranges (map (λ t. w) (indices_in a.ranges))) s)) done
       array_of_item-value v w is within kept =
           array_of_item-once (Ok v) is
           ∙ unless-held (fault Budget equals) (declaring limits in_memory name (array_with a (filled v a.ranges))) s done (nat_lt limits.budget (size_in a.ranges)) (sym within)
@@ -99,16 +100,33 @@ unless-small : (rs : List TextRange) (at : Place) (go : Run Memory) (s : Memory)
 unless-small rs at go s done d true e = absurd (let no : Ok d ≡ Err (fault ArrayTooLarge at) = e in cc)
 unless-small rs at go s done d false e = (refl, let is : Ok d ≡ Ok rs = e in cc)
 
+unless-large : (rs : List TextRange) (at : Place) (go : Run Memory) (s : Memory) (done : Deeds) (f : Fault) (b : Bool) → Err f ≡ (if b then Err (fault ArrayTooLarge at) else Ok rs)
+    → unless b (fault ArrayTooLarge at) go s done ≡ Stop f done
+unless-large rs at go s done f true e = let same : fault ArrayTooLarge at ≡ f = let is : Err f ≡ Err (fault ArrayTooLarge at) = e in cc in ap (λ f. Stop f done) same
+unless-large rs at go s done f false e = absurd (let no : Err f ≡ Ok rs = e in cc)
+
 module _ (limits : Limits) (d : ArrayDeclaration) (s : Memory) (done : Deeds) where
-  abbrev array_over : Initial → List TextRange → Run Memory
-  array_over i rs = array_of limits in_memory (placed_leaf d.at.now (variable (ArrayKind (initial_kind i)) d.slot)) (shell_over d.over (initial_kind i) rs) (initial_view i)
+  abbrev tested_over : List TextRange → Run Memory
+  tested_over rs = unless (too_large rs) (fault ArrayTooLarge d.at.now) (declared_over limits d rs)
+
+  -- by the value of the domain
+  exec-over : (r : Result Value Fault) → domain_of limits in_memory d.from.now (over_items d.over) s ≡ r
+      → exec limits in_memory (array_declared d) s done ≡ then_do (with_value r (λ v. tested_over (ranges_in v)) s done) (dealing_array limits s d)
+  exec-over r is = ap (λ r. then_do (with_value r (λ v. tested_over (ranges_in v)) s done) (dealing_array limits s d)) is
+
+  pub exec-unsized : (f : Fault) → domain_of limits in_memory d.from.now (over_items d.over) s ≡ Err f → exec limits in_memory (array_declared d) s done ≡ Stop f done
+  exec-unsized f is = exec-over (Err f) is
+
+  pub exec-too_large : (rs : List TextRange) (f : Fault) → domain_of limits in_memory d.from.now (over_items d.over) s ≡ Ok (Domain rs) → Err f ≡ for_array_at d.at.now rs
+      → exec limits in_memory (array_declared d) s done ≡ Stop f done
+  exec-too_large rs f is large =
+      exec-over (Ok (Domain rs)) is
+      ∙ ap (λ o. then_do o (dealing_array limits s d)) (unless-large rs d.at.now (declared_over limits d rs) s done f (too_large rs) large)
 
   -- the array over a domain that it may have
-  pub exec-array_declared : (i : Initial) (rs domain : List TextRange) → d.initial ≡ i → domain_of limits in_memory d.from.now (over_items d.over) s ≡ Ok (Domain rs) → Ok domain ≡ for_array_at d.at.now rs
-      → exec limits in_memory (array_declared d) s done ≡ array_over i domain s done
-  exec-array_declared i rs domain initial is small =
-      let tested = unless-small rs d.at.now (array_over d.initial rs) s done domain (too_large rs) small in
-      ap (λ r. with_value r (λ v. unless (too_large (ranges_in v)) (fault ArrayTooLarge d.at.now) (array_over d.initial (ranges_in v))) s done) is
-      ∙ tested.0
-      ∙ ap (λ rs. array_over d.initial rs s done) tested.1
-      ∙ ap (λ i. array_over i domain s done) initial
+  pub exec-array_declared : (rs domain : List TextRange) → domain_of limits in_memory d.from.now (over_items d.over) s ≡ Ok (Domain rs) → Ok domain ≡ for_array_at d.at.now rs
+      → exec limits in_memory (array_declared d) s done ≡ then_do (declared_over limits d domain s done) (dealing_array limits s d)
+  exec-array_declared rs domain is small =
+      let tested = unless-small rs d.at.now (declared_over limits d rs) s done domain (too_large rs) small in
+      exec-over (Ok (Domain rs)) is
+      ∙ ap (λ o. then_do o (dealing_array limits s d)) (tested.0 ∙ ap (λ rs. declared_over limits d rs s done) tested.1)

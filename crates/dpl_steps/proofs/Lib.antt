@@ -1,5 +1,5 @@
 pub mod Looping
-pub mod Owning
+pub mod Rooting
 pub mod Views
 pub mod Standing
 pub mod Tested

@@ -5,7 +5,7 @@ use Rattle.dpl_language.specs.Tree.{One, StmtTree, Block, If, While, For, Then, 
 use Rattle.dpl_lowered.specs.Shapes.{nowhere}
 use Rattle.dpl_memory.specs.Memory.{Variable}
 use Rattle.dpl_standing.specs.Standing.{Standing, Outside, InTurn, IsOutside, MayStand, AllMayStand, ElseMayStand}
-use Rattle.dpl_nodes.specs.declared.step.Step.{Step, Nothing as NothingStep, Int as IntStep, DeclareRange, SetRange, Truth as TruthStep, DeclareDomain, DeclareEmpty, SetDomain, DeclareArray, SetElement, SetTruthElement, SetArray, SetTruthArray, Write as WriteStep, Block', If', While', For', Forall', ForEach', ForallEach', Row_of-Step, end_of-Step, more_of-Step}
+use Rattle.dpl_nodes.specs.declared.step.Step.{Step, Nothing as NothingStep, Int as IntStep, DeclareRange, SetRange, Truth as TruthStep, DeclareDomain, SetDomain, DeclareArray, SetElement, SetArray, SetTruthArray, Write as WriteStep, Block', If', While', For', Forall', ForEach', ForallEach', Row_of-Step, end_of-Step, more_of-Step}
 use Rattle.dpl_nodes.specs.declared.step.Else.{Else as ElseNode, Absent, Do'}
 use Rattle.dpl_nodes.specs.Typed.{truth_view, range_item, domain_view}
 use Rattle.dpl_nodes.specs.Steps.{variable_in, names_view, written_as, listed, step_view, else_view, steps_view, steps_of}
@@ -21,13 +21,11 @@ mutual
   step_in-view w (IntStep deed slot e) may = refl
   step_in-view w (DeclareRange slot e) may = refl
   step_in-view w (SetRange slot e) may = refl
-  step_in-view w (TruthStep deed slot e) may = refl
-  step_in-view w (DeclareDomain slot e placing) may = refl
-  step_in-view w (DeclareEmpty slot rank placing) may = refl
+  step_in-view w (TruthStep target e) may = refl
+  step_in-view w (DeclareDomain slot beginning placing) may = refl
   step_in-view w (SetDomain x e) may = refl
   step_in-view w (DeclareArray d) may = refl
   step_in-view w (SetElement x t op at e) may = refl
-  step_in-view w (SetTruthElement x t e) may = refl
   step_in-view w (SetArray x op at e) may = refl
   step_in-view w (SetTruthArray x at e) may = refl
   step_in-view w (WriteStep ends_line arguments) may = outside-itself w (written_as ends_line arguments.now) may

@@ -2,17 +2,12 @@
 -- none, by that of the name from which the loop's domain is derived; else locale 0 makes them all.
 use Rattle.std.specs.Prelude.{ℕ, List, Option, Some, None}
 use Rattle.dpl_map.specs.Maps.{AxisValue, whole_map}
-use Rattle.dpl_nodes.specs.declared.placing.Placing.{Placing}
-use Rattle.dpl_nodes.specs.declared.placing.Placing.TheVariants.{Of, Unmapped, Mapped, BlockCreated, CyclicCreated}
 use Rattle.dpl_frame.specs.Frames.{Framed, owned_by}
 
-abbrev pub placed_by : Framed → Placing → List AxisValue
-placed_by f (Of slot) = owned_by f slot
-placed_by f Unmapped = whole_map
-placed_by f (Mapped number) = whole_map
-placed_by f BlockCreated = whole_map
-placed_by f CyclicCreated = whole_map
+abbrev pub slot_map : Framed → Option ℕ → List AxisValue
+slot_map f (Some slot) = owned_by f slot
+slot_map f None = whole_map
 
-abbrev pub dealt_by : Framed → Placing → Option ℕ → List AxisValue
+abbrev pub dealt_by : Framed → Option ℕ → Option ℕ → List AxisValue
 dealt_by f over (Some slot) = owned_by f slot
-dealt_by f over None = placed_by f over
+dealt_by f over None = slot_map f over

@@ -2,8 +2,8 @@
 pub mod Readings
 -- How their parts answer, by how the language's meaning ends.
 pub mod Runs
--- By which map a declared domain or array is dealt out.
-pub mod Owners
+-- Which root a declared domain or array gets.
+pub mod Lineages
 -- By which map the turns of a forall are dealt out, by which array they write first.
 pub mod Dealt
 pub mod Written

@@ -8,7 +8,7 @@ use Rattle.dpl_lowered.specs.LoweredStatements.{with_intents}
 use Rattle.dpl_memory.specs.Memory.{Variable}
 use Rattle.dpl_standing.specs.Standing.{Standing, Outside, InTurn}
 use Rattle.dpl_nodes.specs.declared.step.Intent.{Intent}
-use Rattle.dpl_nodes.specs.declared.step.Step.{Step, Nothing as NothingStep, Int as IntStep, DeclareRange, SetRange, Truth as TruthStep, DeclareDomain, DeclareEmpty, SetDomain, DeclareArray, SetElement, SetTruthElement, SetArray, SetTruthArray, Write as WriteStep, Block', If', While', For', Forall', ForEach', ForallEach', Row_of-Step, end_of-Step, more_of-Step}
+use Rattle.dpl_nodes.specs.declared.step.Step.{Step, Nothing as NothingStep, Int as IntStep, DeclareRange, SetRange, Truth as TruthStep, DeclareDomain, SetDomain, DeclareArray, SetElement, SetArray, SetTruthArray, Write as WriteStep, Block', If', While', For', Forall', ForEach', ForallEach', Row_of-Step, end_of-Step, more_of-Step}
 use Rattle.dpl_nodes.specs.declared.step.Else.{Else as ElseNode, Absent, Do'}
 use Rattle.dpl_nodes.specs.Typed.{truth_view, range_item, domain_view}
 use Rattle.dpl_nodes.specs.Steps.{variable_in, names_view, intent_view, written_as, listed, step_view}
@@ -28,13 +28,11 @@ abbrev mutual
   step_in w (IntStep deed slot e) = step_view (IntStep deed slot e)
   step_in w (DeclareRange slot e) = step_view (DeclareRange slot e)
   step_in w (SetRange slot e) = step_view (SetRange slot e)
-  step_in w (TruthStep deed slot e) = step_view (TruthStep deed slot e)
-  step_in w (DeclareDomain slot e placing) = step_view (DeclareDomain slot e placing)
-  step_in w (DeclareEmpty slot rank placing) = step_view (DeclareEmpty slot rank placing)
+  step_in w (TruthStep target e) = step_view (TruthStep target e)
+  step_in w (DeclareDomain slot beginning placing) = step_view (DeclareDomain slot beginning placing)
   step_in w (SetDomain x e) = step_view (SetDomain x e)
   step_in w (DeclareArray d) = step_view (DeclareArray d)
   step_in w (SetElement x t op at e) = step_view (SetElement x t op at e)
-  step_in w (SetTruthElement x t e) = step_view (SetTruthElement x t e)
   step_in w (SetArray x op at e) = step_view (SetArray x op at e)
   step_in w (SetTruthArray x at e) = step_view (SetTruthArray x at e)
   step_in w (WriteStep ends_line arguments) = outside w (written_as ends_line arguments.now)

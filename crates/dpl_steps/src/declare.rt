@@ -1,7 +1,7 @@
 // Declarations of arrays: the domain is evaluated and tested, and then the elements are.
 // An array's own name isn't known in its initial value, so that the elements are gathered before the slot is written.
 
-ghost use Rattle.std.specs.Prelude.{◌≡◌, IfOk, OnOk, Ok, Some, false};
+ghost use Rattle.std.specs.Prelude.{◌≡◌, IfOk, Ok, Some, false};
 ghost use Rattle.dpl_language.specs.Tree.{Kind, IntKind, BoolKind};
 ghost use Rattle.dpl_language.specs.Ranges.{indices_in, too_large};
 ghost use Rattle.dpl_language.specs.Outcome.{Deeds, naming_value};
@@ -15,17 +15,15 @@ ghost use Rattle.dpl_nodes.specs.Typed.{promoted_int, promoted_truth};
 ghost use Rattle.dpl_nodes.specs.Steps.{over_items, array_declared};
 ghost use Rattle.dpl_elements.specs.Changes.{kept_word, for_array_at};
 ghost use Rattle.dpl_elements.specs.Arrays.{declared_without, declared_with};
-ghost use Rattle.dpl_nodes.specs.Roots.{derived_over, placing_by};
 ghost use Rattle.dpl_loop.specs.Entries.{MayRefuse, MayRefuseSome};
 ghost use Rattle.dpl_loop.specs.Runs.{RunsTo, RunEnds};
 ghost use Rattle.dpl_loop.specs.Values.{Gives};
 ghost use Rattle.dpl_steps.specs.Runs.{Names, Gathers};
-ghost use Rattle.dpl_steps.specs.Owners.{IsOwned};
-ghost use Rattle.dpl_frame.specs.Frames.{owned_by};
+ghost use Rattle.dpl_steps.specs.Lineages.{declared_over};
 ghost use Rattle.dpl_map.specs.Maps.{owner};
 
 use crate::domain::for_array;
-use crate::owner::own;
+use crate::lineage::derived;
 use dpl_contents::ArrayWords;
 use dpl_domain::Index;
 use dpl_frame::{DomainWord, Frame, Trap};
@@ -112,26 +110,26 @@ fn entered<E: Elements, G: Gate>(
     }
 }
 
-// The array over a domain that has at each index what is evaluated there, by the map of the declared array.
+// The array over a domain that has at each index what is evaluated there, dealt out by a map.
 fn gathered<E: Elements, G: Gate>(
     e: &E,
-    d: &ArrayDeclaration<'_>,
+    map: &Map,
     domain: DomainWord,
     frame: &Frame<'_>,
     gate: &G,
 ) -> Result<ArrayWords, Stop>
     requires { too_large domain ≡ false }
-    ensures { Gathers (MayRefuse (G.may_refuse gate.now) (owned_by frame.now d.now.slot) domain) result domain (gathered (E.element e.now frame.now.limits frame.now.memory) (indices_in domain)) }
+    ensures { Gathers (MayRefuse (G.may_refuse gate.now) map.now domain) result domain
+        (gathered (E.element e.now frame.now.limits frame.now.memory) (indices_in domain)) }
 {
-    let map = frame.owner(d.slot);
     let all = domain.domain();
-    let mut array = frame.zeros(d.slot, domain)?;
+    let mut array = frame.zeros(*map, domain)?;
     let mut indices = domain.cursor();
     for place in 0..all.size() {
         let Some(index) = indices.next() else {
             unreachable!()
         };
-        let word = entered(e, index, place, &map, frame, gate)?;
+        let word = entered(e, index, place, map, frame, gate)?;
         array.set(index, word);
     }
     Ok(array)
@@ -142,26 +140,28 @@ fn declare_ints<G: Gate>(
     d: &ArrayDeclaration<'_>,
     at: &Spot,
     e: &PromotedInt<'_>,
+    map: &Map,
     domain: DomainWord,
     frame: &mut Frame<'_>,
     gate: &G,
 ) -> Result<(), Stop>
     requires { too_large domain ≡ false }
-    ensures ends { (done : Deeds) → RunsTo (MayRefuseSome (G.may_refuse gate.now)) result frame.new.memory done (declared_with frame.old.limits d.now IntKind domain at.now (promoted_int EachTurn e.now) frame.old.memory done) }
+    ensures ends { (done : Deeds) → RunsTo (MayRefuseSome (G.may_refuse gate.now)) result frame.new.memory done
+        (declared_with frame.old.limits d.now IntKind domain at.now (promoted_int EachTurn e.now) frame.old.memory done) }
     ensures limits { frame.new.limits ≡ frame.old.limits }
-    ensures owners { frame.new.owners ≡ frame.old.owners }
+    ensures layout { frame.new.layout ≡ frame.old.layout }
 {
     match int_domain(e, frame) {
         None => {
             let word = promoted_int_value(e, &coordinate(0), frame, gate)?;
             within_budget(&domain, at, frame)?;
-            frame.declare_array(d.slot, domain, word)?;
+            frame.declare_array(d.slot, *map, domain, word)?;
             Ok(())
         }
         Some(_) => {
             within_budget(&domain, at, frame)?;
-            let array = gathered(e, d, domain, frame, gate)?;
-            frame.keep(d.slot, array);
+            let array = gathered(e, map, domain, frame, gate)?;
+            frame.declare(d.slot, array);
             Ok(())
         }
     }
@@ -172,26 +172,28 @@ fn declare_truths<G: Gate>(
     d: &ArrayDeclaration<'_>,
     at: &Spot,
     e: &PromotedTruth<'_>,
+    map: &Map,
     domain: DomainWord,
     frame: &mut Frame<'_>,
     gate: &G,
 ) -> Result<(), Stop>
     requires { too_large domain ≡ false }
-    ensures ends { (done : Deeds) → RunsTo (MayRefuseSome (G.may_refuse gate.now)) result frame.new.memory done (declared_with frame.old.limits d.now BoolKind domain at.now (promoted_truth EachTurn e.now) frame.old.memory done) }
+    ensures ends { (done : Deeds) → RunsTo (MayRefuseSome (G.may_refuse gate.now)) result frame.new.memory done
+        (declared_with frame.old.limits d.now BoolKind domain at.now (promoted_truth EachTurn e.now) frame.old.memory done) }
     ensures limits { frame.new.limits ≡ frame.old.limits }
-    ensures owners { frame.new.owners ≡ frame.old.owners }
+    ensures layout { frame.new.layout ≡ frame.old.layout }
 {
     match truth_domain(e, frame) {
         None => {
             let value = promoted_truth_value(e, &coordinate(0), frame, gate)?.get();
             within_budget(&domain, at, frame)?;
-            frame.declare_array(d.slot, domain, i64::from(value))?;
+            frame.declare_array(d.slot, *map, domain, i64::from(value))?;
             Ok(())
         }
         Some(_) => {
             within_budget(&domain, at, frame)?;
-            let array = gathered(e, d, domain, frame, gate)?;
-            frame.keep(d.slot, array);
+            let array = gathered(e, map, domain, frame, gate)?;
+            frame.declare(d.slot, array);
             Ok(())
         }
     }
@@ -200,15 +202,16 @@ fn declare_truths<G: Gate>(
 // An array of zeros, or of `false` everywhere.
 fn declare_zeros(
     d: &ArrayDeclaration<'_>,
+    map: &Map,
     domain: DomainWord,
     frame: &mut Frame<'_>,
 ) -> Result<(), Stop>
     requires { too_large domain ≡ false }
     ensures ends { (k : Kind) (done : Deeds) → RunEnds result frame.new.memory done (declared_without frame.old.limits d.now k domain frame.old.memory done) }
     ensures limits { frame.new.limits ≡ frame.old.limits }
-    ensures owners { frame.new.owners ≡ frame.old.owners }
+    ensures layout { frame.new.layout ≡ frame.old.layout }
 {
-    frame.declare_array(d.slot, domain, 0)?;
+    frame.declare_array(d.slot, *map, domain, 0)?;
     Ok(())
 }
 
@@ -220,7 +223,28 @@ fn sized_for_array(at: &Spot, domain: DomainWord) -> Result<DomainWord, Trap>
     for_array(at, domain)
 }
 
-/// The declaration of an array, which has the map of its domain's root, or is a root.
+// The array over a domain, by its elements; its slot has no root yet.
+fn declare_over<G: Gate>(
+    d: &ArrayDeclaration<'_>,
+    map: &Map,
+    domain: DomainWord,
+    frame: &mut Frame<'_>,
+    gate: &G,
+) -> Result<(), Stop>
+    requires { too_large domain ≡ false }
+    ensures ends { (done : Deeds) → RunsTo (MayRefuseSome (G.may_refuse gate.now)) result frame.new.memory done (declared_over frame.old.limits d.now domain frame.old.memory done) }
+    ensures limits { frame.new.limits ≡ frame.old.limits }
+    ensures layout { frame.new.layout ≡ frame.old.layout }
+{
+    match d.initial {
+        Initial::Zeros => declare_zeros(d, map, domain, frame),
+        Initial::Falses => declare_zeros(d, map, domain, frame),
+        Initial::Ints(at, e) => declare_ints(d, at, e, map, domain, frame, gate),
+        Initial::Truths(at, e) => declare_truths(d, at, e, map, domain, frame, gate),
+    }
+}
+
+/// The declaration of an array, which has the root of its domain, or is a root.
 ///
 /// # Errors
 /// The fault of its domain; `F8` at the name for more than 2^24 elements; the fault of an initial value that is evaluated
@@ -234,15 +258,14 @@ pub(crate) fn declare_array<G: Gate>(
 ) -> Result<(), Stop>
     ensures ends { (done : Deeds) → RunsTo (MayRefuseSome (G.may_refuse gate.now)) result frame.new.memory done (exec frame.old.limits in_memory (array_declared d.now) frame.old.memory done) }
     ensures limits { frame.new.limits ≡ frame.old.limits }
-    ensures owned { OnOk result (IsOwned frame.old frame.new d.now.slot (placing_by (derived_over (over_items d.now.over))) (domain_of frame.old.limits in_memory d.now.from.now (over_items d.now.over) frame.old.memory)) }
+    ensures layout { frame.new.layout ≡ frame.old.layout }
 {
     let domain = domain_over(&d.over, d.from, frame, gate)?;
-    own(d.over.placing(), d.slot, domain, frame);
     let domain = sized_for_array(d.at, domain)?;
-    match d.initial {
-        Initial::Zeros => declare_zeros(d, domain, frame),
-        Initial::Falses => declare_zeros(d, domain, frame),
-        Initial::Ints(at, e) => declare_ints(d, at, e, domain, frame, gate),
-        Initial::Truths(at, e) => declare_truths(d, at, e, domain, frame, gate),
-    }
+    let lineage = derived(d.over.origin(), frame);
+    let map = frame.map_of(&lineage.root(domain));
+    declare_over(d, &map, domain, frame, gate)?;
+    let root = lineage.root(frame.array_domain(d.slot));
+    frame.deal(d.slot, root);
+    Ok(())
 }

@@ -1,59 +1,83 @@
 // Domain variables: they are declared, and assigned together with the arrays that are declared over them.
 // What runs over a domain stands elsewhere.
 
-ghost use Rattle.std.specs.Prelude.{◌≡◌, None, Ok, OnOk};
-ghost use Rattle.dpl_language.specs.Tree.{One, Set};
+ghost use Rattle.std.specs.Prelude.{◌≡◌};
+ghost use Rattle.dpl_language.specs.Tree.{Set};
 ghost use Rattle.dpl_language.specs.Ranges.{empty_domain};
-ghost use Rattle.dpl_language.specs.Outcome.{Deeds};
-ghost use Rattle.dpl_language.specs.Expressions.{value_of};
+ghost use Rattle.dpl_language.specs.Outcome.{Deeds, Done};
 ghost use Rattle.dpl_language.specs.Statements.{exec};
 ghost use Rattle.dpl_lowered.specs.Shapes.{nowhere};
-ghost use Rattle.dpl_memory.specs.Memory.{DomainKind, variable, in_memory};
+ghost use Rattle.dpl_memory.specs.Memory.{in_memory};
+ghost use Rattle.dpl_nodes.specs.declared.step.Beginning.TheVariants.{Value, Empty};
 ghost use Rattle.dpl_nodes.specs.Typed.{domain_view};
-ghost use Rattle.dpl_nodes.specs.Steps.{unplaced_leaf, declared_as, declared_with, dimensions, of_rank, domain_leaf, whole_set};
-ghost use Rattle.dpl_elements.specs.Changes.{ends_as, for_array_at};
+ghost use Rattle.dpl_nodes.specs.Steps.{dimensions, domain_declared, domain_leaf, whole_set};
+ghost use Rattle.dpl_elements.specs.Changes.{for_array_at};
 ghost use Rattle.dpl_loop.specs.Entries.{MayRefuseSome};
 ghost use Rattle.dpl_loop.specs.Runs.{RunsTo};
-ghost use Rattle.dpl_steps.specs.Owners.{IsOwned, IsOwnedBy};
 
-use crate::owner::own;
+use crate::lineage::{with_value, without_value};
 use dpl_frame::{DomainWord, FaultCode, Frame, Trap};
 use dpl_loop::{Gate, Stop};
-use dpl_nodes::{DomainExpr, DomainName, Placing, Rank, Spot};
+use dpl_nodes::{Beginning, DomainExpr, DomainName, Placing, Rank, Spot};
 use dpl_values::domain_value;
 
 /// How many elements an array may have.
 const MOST_ELEMENTS: u64 = 16_777_216;
 
-/// A domain's declaration, with its initial value and its map.
-#[inline(always)]
-pub(crate) fn declare_domain<G: Gate>(
+// A domain's declaration with its initial value.
+fn declare_value<G: Gate>(
     slot: usize,
     e: &DomainExpr<'_>,
-    placing: Placing,
+    placing: &Placing<'_>,
     frame: &mut Frame<'_>,
     gate: &G,
 ) -> Result<(), Stop>
-    ensures ends { (done : Deeds) → RunsTo (MayRefuseSome (G.may_refuse gate.now)) result frame.new.memory done (exec frame.old.limits in_memory (declared_as None (variable DomainKind slot) (One (domain_view e.now))) frame.old.memory done) }
+    ensures ends { (done : Deeds) → RunsTo (MayRefuseSome (G.may_refuse gate.now)) result frame.new.memory done
+        (exec frame.old.limits in_memory (domain_declared slot (Value e) placing.now) frame.old.memory done) }
     ensures limits { frame.new.limits ≡ frame.old.limits }
-    ensures owned { OnOk result (IsOwned frame.old frame.new slot placing (value_of frame.old.limits in_memory (domain_view e.now) None frame.old.memory)) }
+    ensures layout { frame.new.layout ≡ frame.old.layout }
 {
     let value = domain_value(e, frame, gate)?;
-    own(placing, slot, value, frame);
-    frame.set_domain(slot, value);
+    let lineage = with_value(e, value, placing, frame);
+    frame.declare_domain(slot, value);
+    let root = lineage.root(frame.domain(slot));
+    frame.deal(slot, root);
     Ok(())
 }
 
-/// A domain's declaration without one: it has no index.
-#[inline(never)]
-pub(crate) fn declare_empty(slot: usize, rank: Rank, placing: Placing, frame: &mut Frame<'_>)
-    ensures ends { (done : Deeds) → exec frame.old.limits in_memory (declared_with (unplaced_leaf (variable DomainKind slot)) (of_rank rank) None) frame.old.memory done ≡ ends_as (Ok frame.new.memory) done }
+// And without one: it has no index.
+fn declare_empty(slot: usize, rank: Rank, placing: &Placing<'_>, frame: &mut Frame<'_>)
+    ensures ends { (done : Deeds) → exec frame.old.limits in_memory (domain_declared slot (Empty rank) placing.now) frame.old.memory done ≡ Done frame.new.memory done }
     ensures limits { frame.new.limits ≡ frame.old.limits }
-    ensures owned { IsOwnedBy frame.old frame.new slot placing (empty_domain (dimensions rank)) }
+    ensures layout { frame.new.layout ≡ frame.old.layout }
 {
-    let value = empty(rank);
-    own(placing, slot, value, frame);
-    frame.set_domain(slot, value);
+    let lineage = without_value(placing, frame);
+    frame.declare_domain(slot, empty(rank));
+    let root = lineage.root(frame.domain(slot));
+    frame.deal(slot, root);
+}
+
+/// A domain's declaration, by what it begins with, and with its root.
+#[inline(never)]
+pub(crate) fn declare_domain<G: Gate>(
+    slot: usize,
+    beginning: &Beginning<'_>,
+    placing: &Placing<'_>,
+    frame: &mut Frame<'_>,
+    gate: &G,
+) -> Result<(), Stop>
+    ensures ends { (done : Deeds) → RunsTo (MayRefuseSome (G.may_refuse gate.now)) result frame.new.memory done
+        (exec frame.old.limits in_memory (domain_declared slot beginning.now placing.now) frame.old.memory done) }
+    ensures limits { frame.new.limits ≡ frame.old.limits }
+    ensures layout { frame.new.layout ≡ frame.old.layout }
+{
+    match beginning {
+        Beginning::Value(e) => declare_value(slot, e, placing, frame, gate),
+        Beginning::Empty(rank) => {
+            declare_empty(slot, *rank, placing, frame);
+            Ok(())
+        }
+    }
 }
 
 // The domain of a rank that has no index.

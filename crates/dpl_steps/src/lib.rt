@@ -11,7 +11,7 @@ mod context;
 mod declare;
 mod domain;
 mod each;
-mod owner;
+mod lineage;
 mod reduce;
 pub mod simple;
 mod statement;

@@ -21,7 +21,7 @@ ghost use Rattle.dpl_elements.specs.Turns.{in_turn, turn_in_memory, looped_over}
 use crate::change::change_int;
 use crate::context::Context;
 use crate::declare::declare_array;
-use crate::domain::{declare_empty, set_domain};
+use crate::domain::{declare_domain, set_domain};
 use crate::each::for_each;
 use crate::simple;
 use dpl_elements::{set_array, set_truth_array};
@@ -91,18 +91,15 @@ fn statement<'t, C: Context>(
         Step::Int(deed, slot, e) => change_int(deed, *slot, e, frame, context),
         Step::DeclareRange(slot, e) => simple::range(*slot, e, frame, context),
         Step::SetRange(slot, e) => simple::range(*slot, e, frame, context),
-        Step::Truth(deed, slot, e) => simple::truth(*deed, *slot, e, frame, context),
-        Step::DeclareDomain(slot, e, placing) => simple::domain(*slot, e, *placing, frame, context),
-        Step::DeclareEmpty(slot, rank, placing) => {
-            declare_empty(*slot, *rank, *placing, frame);
-            Ok(())
-        }
+        Step::Truth(target, e) => simple::truth(target, e, frame, context),
+        Step::DeclareDomain(slot, beginning, placing) => declare_domain(
+            *slot, beginning, placing, frame, context,
+        ),
         Step::SetDomain(name, e) => set_domain(name, e, frame, context),
         Step::DeclareArray(declared) => declare_array(declared, frame, context),
         Step::SetElement(name, t, op, sign, e) => simple::element(
             name, t, *op, sign, e, frame, context,
         ),
-        Step::SetTruthElement(name, t, e) => simple::truth_element(name, t, e, frame, context),
         Step::SetArray(name, op, sign, e) => set_array(name, *op, sign, e, frame, context),
         Step::SetTruthArray(name, sign, e) => set_truth_array(name, sign, e, frame, context),
         Step::Write {

@@ -4,3 +4,4 @@ pub mod Folds
 pub mod First
 pub mod Telling
 pub mod Worked
+pub mod Starting

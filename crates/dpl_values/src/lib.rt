@@ -17,7 +17,7 @@ mod values;
 
 pub use expression::coordinate_value;
 pub use promoted::{int_domain, truth_domain};
-pub use root::placed;
+pub use root::{from_least, named};
 pub use values::{
     domain_value, index_value, int_value, literal, promoted_int_value, promoted_truth_value,
     range_value, sized, truth_value,

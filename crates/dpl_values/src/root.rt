@@ -1,19 +1,23 @@
-// The map of a declared domain or array: that of another's root, or of a root by the map that is named.
+// What a text names for a domain or an array, its arguments evaluated.
 // A map is never the cause of a fault: where an argument has no value, no map is named.
 
-ghost use Rattle.std.specs.Prelude.{◌≡◌, None, slice_get};
+ghost use Rattle.std.specs.Prelude.{◌≡◌};
+ghost use Rattle.dpl_language.specs.Ranges.{least_in};
+ghost use Rattle.dpl_language.specs.Roots.{or_no_map, cyclic_or_none, start_of, map_of};
+ghost use Rattle.dpl_memory.specs.Memory.{in_memory};
+ghost use Rattle.dpl_nodes.specs.Steps.{start_view, map_view};
+ghost use Rattle.dpl_frame.specs.Roots.{distribution_view};
 ghost use Rattle.dpl_frame.specs.Faults.{of_domain};
-ghost use Rattle.dpl_values.specs.Placed.{IsStart, IsNamedBy, IsNamedAt, IsPlaced};
+ghost use Rattle.dpl_values.specs.Starts.{value_or_none, blocks_or_none};
 ghost use Rattle.dpl_values.specs.Meanings.{domain_in};
 
 use crate::expression::domain_value;
 use crate::values::index_value;
 use dpl_domain::Index;
-use dpl_frame::{Arrays, DomainWord, Frame, Trap, Turn};
-use dpl_layout::{Named, from_least, least};
+use dpl_frame::{Arrays, Distribution, DomainWord, Frame, Trap, Turn};
+use dpl_layout::least;
 use dpl_loop::OpenGate;
-use dpl_map::Map;
-use dpl_nodes::{DomainExpr, MapExpr, Placing, StartExpr};
+use dpl_nodes::{DomainExpr, MapExpr, StartExpr};
 
 // A domain that a map names, or its fault. No gate is asked for a map's argument.
 fn domain_argument<A: Arrays>(d: &DomainExpr<'_>, frame: &Frame<'_, A>) -> Result<DomainWord, Trap>
@@ -26,64 +30,67 @@ fn domain_argument<A: Arrays>(d: &DomainExpr<'_>, frame: &Frame<'_, A>) -> Resul
     }
 }
 
+// The least members of a domain, if it has an index.
+fn corner(domain: DomainWord) -> Option<Index>
+    ensures { result ≡ least_in domain }
+{
+    least(&domain.domain())
+}
+
 // Where a map starts; none where that has no value.
 fn start<A: Arrays>(e: &StartExpr<'_>, frame: &Frame<'_, A>) -> Option<Index>
-    ensures { IsStart frame.now.limits frame.now.memory e.now result }
+    ensures { result ≡ value_or_none (start_of frame.now.limits in_memory (start_view e.now) frame.now.memory) }
 {
     match e {
         StartExpr::Index(t) => match index_value(t, frame, &OpenGate) {
             Ok(index) => Some(index),
             Err(_) => None,
         },
-        StartExpr::Least(d) => match domain_argument(d, frame) {
-            Ok(domain) => least(&domain.domain()),
+        StartExpr::Least(d, _, _) => match domain_argument(d, frame) {
+            Ok(domain) => corner(domain),
             Err(_) => None,
         },
     }
 }
 
-// A map that is named, its arguments evaluated.
-fn named<A: Arrays>(e: &MapExpr<'_>, frame: &Frame<'_, A>) -> Named
-    ensures { IsNamedBy frame.now.limits frame.now.memory e.now result }
+// `cyclicDist` from a start that has a value.
+fn cyclic(start: Option<Index>) -> Distribution
+    ensures { distribution_view result ≡ cyclic_or_none start }
+{
+    match start {
+        Some(start) => Distribution::CyclicFrom(start),
+        None => Distribution::NoMap,
+    }
+}
+
+// `blockCycDist` from a start and in blocks of sizes that have values.
+fn block_cyclic(start: Option<Index>, sizes: Option<Index>) -> Distribution
+    ensures { distribution_view result ≡ blocks_or_none start sizes }
+{
+    match (start, sizes) {
+        (Some(start), Some(sizes)) => Distribution::BlockCyclicFrom(start, sizes),
+        (Some(_), None) => Distribution::NoMap,
+        (None, _) => Distribution::NoMap,
+    }
+}
+
+/// What a map's expression names.
+pub fn named<A: Arrays>(e: &MapExpr<'_>, frame: &Frame<'_, A>) -> Distribution
+    ensures { distribution_view result ≡ or_no_map (map_of frame.now.limits in_memory (map_view e.now) frame.now.memory) }
 {
     match e {
         MapExpr::Block(d) => match domain_argument(d, frame) {
-            Ok(domain) => Named::Block(domain.domain()),
-            Err(_) => Named::Whole,
+            Ok(domain) => Distribution::BlockOver(domain),
+            Err(_) => Distribution::NoMap,
         },
-        MapExpr::Cyclic(from) => match start(from, frame) {
-            Some(from) => Named::Cyclic(from),
-            None => Named::Whole,
-        },
-        MapExpr::BlockCyclic(from, sizes) => match (start(from, frame), start(sizes, frame)) {
-            (Some(from), Some(sizes)) => Named::BlockCyclic(from, sizes),
-            (Some(_), None) => Named::Whole,
-            (None, _) => Named::Whole,
-        },
+        MapExpr::Cyclic(from) => cyclic(start(from, frame)),
+        MapExpr::BlockCyclic(from, sizes) => block_cyclic(start(from, frame), start(sizes, frame)),
     }
 }
 
-// A map that the program names, by its number.
-fn named_at<A: Arrays>(number: usize, frame: &Frame<'_, A>) -> Named
-    ensures { IsNamedAt frame.now.limits frame.now.memory (slice_get frame.now.maps number) result }
+/// What is named for a domain that is created with a cyclic map: `cyclicDist` from its least members.
+pub fn from_least(domain: DomainWord) -> Distribution
+    ensures { distribution_view result ≡ cyclic_or_none (least_in domain) }
 {
-    match frame.named_map(number) {
-        Some(e) => named(e, frame),
-        None => Named::Whole,
-    }
-}
-
-/// The map of a domain or array that is declared with this domain.
-pub fn placed<A: Arrays>(placing: Placing, domain: DomainWord, frame: &Frame<'_, A>) -> Map
-    ensures { IsPlaced frame.now placing domain result }
-{
-    let layout = frame.layout();
-    let value = domain.domain();
-    match placing {
-        Placing::Of(slot) => frame.owner(slot),
-        Placing::Unmapped => layout.root(&value, &Named::Whole),
-        Placing::Mapped(number) => layout.root(&value, &named_at(number, frame)),
-        Placing::BlockCreated => layout.root(&value, &Named::Block(value)),
-        Placing::CyclicCreated => layout.root(&value, &from_least(&value)),
-    }
+    cyclic(corner(domain))
 }

@@ -10,7 +10,7 @@ use Rattle.dpl_language.specs.Expressions.{value_of}
 use Rattle.dpl_language.specs.Statements.{holds, exec, exec_all}
 use Rattle.dpl_lowered.specs.Shapes.{nowhere}
 use Rattle.dpl_words.specs.Words.{RangeLeaf}
-use Rattle.dpl_memory.specs.Memory.{range_leaf, in_memory}
+use Rattle.dpl_memory.specs.Memory.{in_memory}
 use Rattle.dpl_nodes.specs.Typed.{int_view, truth_view, range_item, domain_view}
 use Rattle.dpl_contents.specs.Range.{range_word}
 use Rattle.dpl_frame.specs.Frames.{Framed}
@@ -22,7 +22,7 @@ use Rattle.dpl_loop.proofs.Ends.{then_do-halts, halts-alike, ends-alike}
 use Rattle.dpl_values.specs.Reductions.{EachInInts, EachInTruths, EachInRange, EachInDomain}
 use Rattle.dpl_elements.proofs.Dealing.{ends-wider, some-of-whole}
 use Rattle.dpl_steps.proofs.Refusing.{some-of-forall}
-use Rattle.dpl_elements.proofs.Changing.{gives-halts, gives-ends, exec-declared, exec-assigned, exec-int, exec-truth}
+use Rattle.dpl_elements.proofs.Changing.{gives-halts, gives-ends, exec-declared, exec-assigned, exec-int}
 use Rattle.dpl_steps.proofs.Looping.{in_order-done, in_order-halts, for-domain, scoped-same, in_turn-done, in_turn-halts, for-turns, repeated-fault, repeated-ends, repeated-step, holds-value, holds-fault, if-then, exec-while}
 use Rattle.dpl_steps.proofs.Views.{for_each_in, forall_in, block_in, if_in, while_in, for_in, forall_line_in}
 use Rattle.dpl_steps.proofs.+run.Goals as goal
@@ -47,7 +47,7 @@ statement::statement-returns-in-DeclareRange-clause-ends g t c done =
     let w = c.args.frame.now.memory in
     let d = having c.args.out.now done in
     ends-alike _ c.range.result c.range.new.frame.memory d _ _
-    (ap (λ s. exec limits in_memory (step_in standing s) w d) c.in-DeclareRange.is ∙ exec-declared limits (range_leaf c.in-DeclareRange.slot) (range_item c.in-DeclareRange.e.now) w d (item_read-range c.in-DeclareRange.e.now))
+    (ap (λ s. exec limits in_memory (step_in standing s) w d) c.in-DeclareRange.is ∙ exec-declared limits RangeLeaf c.in-DeclareRange.slot (range_item c.in-DeclareRange.e.now) w d (item_read-range c.in-DeclareRange.e.now))
     (c.range.ensures.ends d)
 
 pub statement::statement-returns-in-SetRange-clause-ends : goal.statement::statement-returns-in-SetRange-clause-ends
@@ -65,12 +65,9 @@ pub statement::statement-returns-in-Truth-clause-ends : goal.statement::statemen
 statement::statement-returns-in-Truth-clause-ends g t c done =
     let having = g.C.Context.having in
     let standing = g.C.Context.standing in
-    let limits = c.args.frame.now.limits in
-    let w = c.args.frame.now.memory in
     let d = having c.args.out.now done in
     ends-alike _ c.truth.result c.truth.new.frame.memory d _ _
-    (ap (λ s. exec limits in_memory (step_in standing s) w d) c.in-Truth.is ∙ exec-truth limits c.in-Truth.deed c.in-Truth.slot (One (truth_view c.in-Truth.e.now)) w d (cell_read-truth c.in-Truth.e.now))
-    (c.truth.ensures.ends d)
+    (ap (λ s. exec c.args.frame.now.limits in_memory (step_in standing s) c.args.frame.now.memory d) c.in-Truth.is) (c.truth.ensures.ends d)
 
 pub statement::turns-returns-in_err-turn-clause-ends : goal.statement::turns-returns-in_err-turn-clause-ends
 statement::turns-returns-in_err-turn-clause-ends g t c done =
@@ -117,15 +114,8 @@ statement::statement-returns-in-DeclareDomain-clause-ends g t c done =
     let having = g.C.Context.having in
     let standing = g.C.Context.standing in
     let d = having c.args.out.now done in
-    ends-alike _ c.domain.result c.domain.new.frame.memory d _ _
-    (ap (λ s. exec c.args.frame.now.limits in_memory (step_in standing s) c.args.frame.now.memory d) c.in-DeclareDomain.is) (c.domain.ensures.ends d)
-
-pub statement::statement-returns-in-DeclareEmpty-clause-ends : goal.statement::statement-returns-in-DeclareEmpty-clause-ends
-statement::statement-returns-in-DeclareEmpty-clause-ends g t c done =
-    let having = g.C.Context.having in
-    let standing = g.C.Context.standing in
-    let d = having c.args.out.now done in
-    ap (λ s. exec c.args.frame.now.limits in_memory (step_in standing s) c.args.frame.now.memory d) c.in-DeclareEmpty.is ∙ c.declare_empty.ensures.ends d
+    ends-alike _ c.declare_domain.result c.declare_domain.new.frame.memory d _ _
+    (ap (λ s. exec c.args.frame.now.limits in_memory (step_in standing s) c.args.frame.now.memory d) c.in-DeclareDomain.is) (c.declare_domain.ensures.ends d)
 
 pub statement::statement-returns-in-SetDomain-clause-ends : goal.statement::statement-returns-in-SetDomain-clause-ends
 statement::statement-returns-in-SetDomain-clause-ends g t c done =
@@ -150,14 +140,6 @@ statement::statement-returns-in-SetElement-clause-ends g t c done =
     let d = having c.args.out.now done in
     ends-alike _ c.element.result c.element.new.frame.memory d _ _
     (ap (λ s. exec c.args.frame.now.limits in_memory (step_in standing s) c.args.frame.now.memory d) c.in-SetElement.is) (c.element.ensures.ends d)
-
-pub statement::statement-returns-in-SetTruthElement-clause-ends : goal.statement::statement-returns-in-SetTruthElement-clause-ends
-statement::statement-returns-in-SetTruthElement-clause-ends g t c done =
-    let having = g.C.Context.having in
-    let standing = g.C.Context.standing in
-    let d = having c.args.out.now done in
-    ends-alike _ c.truth_element.result c.truth_element.new.frame.memory d _ _
-    (ap (λ s. exec c.args.frame.now.limits in_memory (step_in standing s) c.args.frame.now.memory d) c.in-SetTruthElement.is) (c.truth_element.ensures.ends d)
 
 pub statement::statement-returns-in-SetArray-clause-ends : goal.statement::statement-returns-in-SetArray-clause-ends
 statement::statement-returns-in-SetArray-clause-ends g t c done =

@@ -34,7 +34,7 @@ returns-in_err-forall-clause-ends g c done =
     let may = g.G.Gate.may_refuse c.args.gate.now in
     let p = err_from_is_err_and c.from_residual.result c.from_residual.ensures.1 in
     rw (p.1, p.2)
-    (halts-where (MayRefuse may c.dealt-map.result rs) _ h next done _ (subst (λ map. MayRefuse may map rs) (c.dealt-map.ensures ∙ ap (λ p. dealt_by c.args.frame.now p (written_among body)) c.placing.ensures))
+    (halts-where (MayRefuse may c.dealt-map.result rs) _ h next done _ (subst (λ map. MayRefuse may map rs) (c.dealt-map.ensures ∙ ap (λ p. dealt_by c.args.frame.now p (written_among body)) c.origin.ensures))
     (halts-alike _ h next next done _ _
     (ap (λ (f : Framed). then_do (in_order (named_turn (index_turn f.limits names body)) (indices_in rs) f.memory done) (λ s done. Done (in_memory.intend [] s) done)) (sym c.intend.ensures))
     (then_do-halts _ h next next done _ (λ s done. Done (in_memory.intend [] s) done) (c.in_err-forall.ensures.ends done))))

@@ -1,68 +1,58 @@
--- The domain is evaluated and tested, the array has its map, and then the elements are.
-use Rattle.std.proofs.Common.{subst, ◌∙◌}
-use Rattle.dpl_language.specs.Tree.{IntKind, BoolKind}
-use Rattle.dpl_lowered.specs.LoweredExpressions.{EachTurn}
-use Rattle.dpl_nodes.specs.Typed.{promoted_int, promoted_truth}
-use Rattle.dpl_nodes.specs.declared.step.Initial.TheVariants.{Zeros, Falses, Ints, Truths}
-use Rattle.dpl_values.specs.Placed.{IsPlaced}
-use Rattle.dpl_elements.specs.Arrays.{declared_without, declared_with}
-use Rattle.dpl_loop.proofs.Ends.{ends-alike, ends-within}
-use Rattle.dpl_steps.proofs.Owning.{owned-same, on-ok}
-use Rattle.dpl_steps.proofs.ArrayItems.{exec-array_declared}
+-- The domain is evaluated and tested, then the elements are, and then the array has its root.
+use Rattle.std.proofs.Common.{ap, sym, ◌∙◌}
+use Rattle.std.proofs.lemmas.Result.{err_from_is_err_and}
+use Rattle.dpl_language.specs.Values.{Domain}
+use Rattle.dpl_language.specs.Outcome.{Done, then_do}
+use Rattle.dpl_language.specs.Roots.{derived_over, derived_root}
+use Rattle.dpl_memory.specs.Memory.{in_memory}
+use Rattle.dpl_nodes.specs.Steps.{over_items}
+use Rattle.dpl_loop.proofs.Ends.{fault-ends, halts-alike, then_do-halts}
+use Rattle.dpl_elements.proofs.Changing.{gives-halts}
+use Rattle.dpl_steps.specs.Lineages.{slot_root}
+use Rattle.dpl_steps.proofs.Rooting.{derived-slot, dealt-array, dealing_array}
+use Rattle.dpl_steps.proofs.ArrayItems.{exec-unsized, exec-too_large, exec-array_declared}
 use Rattle.dpl_steps.proofs.declare.declare_array.Goals as goal
 
-pub returns-in-Zeros-clause-ends : goal.returns-in-Zeros-clause-ends
-returns-in-Zeros-clause-ends g c done =
+pub returns-in_err-domain-clause-ends : goal.returns-in_err-domain-clause-ends
+returns-in_err-domain-clause-ends g c done =
+    let p = err_from_is_err_and c.from_residual.result c.from_residual.ensures.1 in
+    rw (p.1, p.2)
+    (gives-halts _ _ Domain c.in_err-domain.field-0.0 _ c.args.frame.now.memory done _ (λ m. m)
+    (λ f e. exec-unsized c.args.frame.now.limits c.args.d.now c.args.frame.now.memory done f e)
+    c.in_err-domain.ensures)
+
+pub returns-in_err-domain-2-clause-ends : goal.returns-in_err-domain-2-clause-ends
+returns-in_err-domain-2-clause-ends g c done =
+    let f = c.in_err-domain-2.field-0.0 in
+    let p = err_from_is_err_and c.from_residual-in_err-domain-2.result c.from_residual-in_err-domain-2.ensures.1 in
+    rw p.1
+    (fault-ends _ f p.0 c.args.frame.now.memory done _ p.2
+    (exec-too_large c.args.frame.now.limits c.args.d.now c.args.frame.now.memory done c.in_ok-domain.domain f c.in_ok-domain.ensures c.in_err-domain-2.ensures.is))
+
+pub returns-in_err-declare_over-clause-ends : goal.returns-in_err-declare_over-clause-ends
+returns-in_err-declare_over-clause-ends g c done =
+    let limits = c.args.frame.now.limits in
+    let s = c.args.frame.now.memory in
     let d = c.args.d.now in
-    let rs = c.in_ok-domain-2.domain in
-    ends-within _ c.declare_zeros.result c.declare_zeros.new.frame.memory done _ _
-    (exec-array_declared c.args.frame.now.limits d c.args.frame.now.memory done Zeros c.in_ok-domain.domain rs c.in-Zeros.is c.in_ok-domain.ensures c.in_ok-domain-2.ensures.is
-    ∙ owned-same (λ l s. declared_without l d IntKind rs s done) c.own.new.frame c.args.frame.now c.own.ensures.memory c.own.ensures.limits)
-    (c.declare_zeros.ensures.ends IntKind done)
+    let h = c.in_err-declare_over.field-0.0 in
+    let next = c.declare_over.new.frame.memory in
+    let p = err_from_is_err_and c.from_residual-in_err-declare_over.result c.from_residual-in_err-declare_over.ensures.1 in
+    rw (p.1, p.2)
+    (halts-alike _ h next next done _ _
+    (exec-array_declared limits d s done c.in_ok-domain.domain c.in_ok-domain-2.domain c.in_ok-domain.ensures c.in_ok-domain-2.ensures.is)
+    (then_do-halts _ h next next done _ (dealing_array limits s d) (c.in_err-declare_over.ensures.ends done)))
 
-pub returns-in-Zeros-clause-owned : goal.returns-in-Zeros-clause-owned
-returns-in-Zeros-clause-owned g c =
-    let (m, placed, owners) = c.own.ensures.owned in
-    on-ok c.declare_zeros.result (c.in_ok-domain.domain, c.in_ok-domain.ensures, (m, subst (λ p. IsPlaced c.args.frame.now p c.in_ok-domain.domain m) c.placing.ensures placed, c.declare_zeros.ensures.owners ∙ owners))
-
-pub returns-in-Falses-clause-ends : goal.returns-in-Falses-clause-ends
-returns-in-Falses-clause-ends g c done =
+pub returns-clause-ends : goal.returns-clause-ends
+returns-clause-ends g c done =
+    let limits = c.args.frame.now.limits in
+    let s = c.args.frame.now.memory in
     let d = c.args.d.now in
-    let rs = c.in_ok-domain-2.domain in
-    ends-within _ c.declare_zeros-in-Falses.result c.declare_zeros-in-Falses.new.frame.memory done _ _
-    (exec-array_declared c.args.frame.now.limits d c.args.frame.now.memory done Falses c.in_ok-domain.domain rs c.in-Falses.is c.in_ok-domain.ensures c.in_ok-domain-2.ensures.is
-    ∙ owned-same (λ l s. declared_without l d BoolKind rs s done) c.own.new.frame c.args.frame.now c.own.ensures.memory c.own.ensures.limits)
-    (c.declare_zeros-in-Falses.ensures.ends BoolKind done)
-
-pub returns-in-Falses-clause-owned : goal.returns-in-Falses-clause-owned
-returns-in-Falses-clause-owned g c =
-    let (m, placed, owners) = c.own.ensures.owned in
-    on-ok c.declare_zeros-in-Falses.result (c.in_ok-domain.domain, c.in_ok-domain.ensures, (m, subst (λ p. IsPlaced c.args.frame.now p c.in_ok-domain.domain m) c.placing.ensures placed, c.declare_zeros-in-Falses.ensures.owners ∙ owners))
-
-pub returns-in-Ints-clause-ends : goal.returns-in-Ints-clause-ends
-returns-in-Ints-clause-ends g c done =
-    let d = c.args.d.now in
-    let rs = c.in_ok-domain-2.domain in
-    ends-alike _ c.declare_ints.result c.declare_ints.new.frame.memory done _ _
-    (exec-array_declared c.args.frame.now.limits d c.args.frame.now.memory done (Ints c.in-Ints.at c.in-Ints.e) c.in_ok-domain.domain rs c.in-Ints.is c.in_ok-domain.ensures c.in_ok-domain-2.ensures.is
-    ∙ owned-same (λ l s. declared_with l d IntKind rs c.in-Ints.at.now (promoted_int EachTurn c.in-Ints.e.now) s done) c.own.new.frame c.args.frame.now c.own.ensures.memory c.own.ensures.limits)
-    (c.declare_ints.ensures.ends done)
-
-pub returns-in-Ints-clause-owned : goal.returns-in-Ints-clause-owned
-returns-in-Ints-clause-owned g c =
-    let (m, placed, owners) = c.own.ensures.owned in
-    on-ok c.declare_ints.result (c.in_ok-domain.domain, c.in_ok-domain.ensures, (m, subst (λ p. IsPlaced c.args.frame.now p c.in_ok-domain.domain m) c.placing.ensures placed, c.declare_ints.ensures.owners ∙ owners))
-
-pub returns-in-Truths-clause-ends : goal.returns-in-Truths-clause-ends
-returns-in-Truths-clause-ends g c done =
-    let d = c.args.d.now in
-    let rs = c.in_ok-domain-2.domain in
-    ends-alike _ c.declare_truths.result c.declare_truths.new.frame.memory done _ _
-    (exec-array_declared c.args.frame.now.limits d c.args.frame.now.memory done (Truths c.in-Truths.at c.in-Truths.e) c.in_ok-domain.domain rs c.in-Truths.is c.in_ok-domain.ensures c.in_ok-domain-2.ensures.is
-    ∙ owned-same (λ l s. declared_with l d BoolKind rs c.in-Truths.at.now (promoted_truth EachTurn c.in-Truths.e.now) s done) c.own.new.frame c.args.frame.now c.own.ensures.memory c.own.ensures.limits)
-    (c.declare_truths.ensures.ends done)
-
-pub returns-in-Truths-clause-owned : goal.returns-in-Truths-clause-owned
-returns-in-Truths-clause-owned g c =
-    let (m, placed, owners) = c.own.ensures.owned in
-    on-ok c.declare_truths.result (c.in_ok-domain.domain, c.in_ok-domain.ensures, (m, subst (λ p. IsPlaced c.args.frame.now p c.in_ok-domain.domain m) c.placing.ensures placed, c.declare_truths.ensures.owners ∙ owners))
+    let over = derived_over (over_items d.over) in
+    let held = c.array_domain.result in
+    exec-array_declared limits d s done c.in_ok-domain.domain c.in_ok-domain-2.domain c.in_ok-domain.ensures c.in_ok-domain-2.ensures.is
+    ∙ ap (λ o. then_do o (dealing_array limits s d)) (c.in_ok-declare_over.ensures.ends done)
+    ∙ ap (λ m. Done m done)
+    (dealt-array d.slot (λ rs. derived_root limits in_memory over rs s) _ held c.declare_over.new.frame c.deal.new.self
+    c.array_domain.ensures
+    (c.root-root.ensures ∙ c.derived.ensures held ∙ ap (λ o. slot_root o held s) c.origin.ensures ∙ sym (derived-slot limits s over held))
+    c.deal.ensures)

@@ -10,7 +10,6 @@ use Rattle.dpl_array.proofs.WalkLemmas.{walk-next}
 use Rattle.dpl_loop.proofs.Places.{slice_get-drop_first, drop-drop_one, within-there}
 use Rattle.dpl_loop.specs.Entries.{MayRefuse}
 use Rattle.dpl_memory.specs.Memory.{held_with}
-use Rattle.dpl_frame.specs.Frames.{owned_by}
 use Rattle.dpl_steps.proofs.Gathered.{AreGathered, gathered-first, gathered-next, gathered-halts, gathered-last}
 use Rattle.dpl_steps.proofs.declare.gathered.Goals as goal
 
@@ -40,8 +39,8 @@ returns-in_err-word g c =
     let left = walk-next c.loop-place.indices t (sym c.in-Some.ensures.next) in
     let p = err_from_is_err_and c.from_residual-in_err-word.result c.from_residual-in_err-word.ensures.1 in
     rw (p.1, p.2)
-    (gathered-halts value rs (may (owner c.owner-map.result t) k) (MayRefuse may (owned_by c.args.frame.now c.args.d.now.slot) rs) t left.0 a c.in_err-word.field-0.0
-    (λ refuses. subst (λ map. MayRefuse may map rs) c.owner-map.ensures (k, t, at, refuses))
+    (gathered-halts value rs (may (owner c.args.map.now t) k) (MayRefuse may c.args.map.now rs) t left.0 a c.in_err-word.field-0.0
+    (λ refuses. (k, t, at, refuses))
     (subst (λ ts. AreGathered value rs ts a) left.1 c.loop-place.invariant.gathered) c.in_err-word.ensures)
 
 pub loop-place-preserved : goal.loop-place-preserved
@@ -58,7 +57,7 @@ loop-place-preserved g c =
       gathered =
           subst (AreGathered value rs c.next.new.self) (sym (c.set.ensures.changes ∙ ap (λ n. held_with t n a) (to_z-of_z w64 w fits)))
           (subst (λ ts. AreGathered value rs ts (held_with t w a)) (sym rest)
-          (gathered-next value rs t left.0 w a c.domain-all.ensures.limits (subst (λ ts. AreGathered value rs ts a) left.1 c.loop-place.invariant.gathered) (g.G.Gate.may_refuse c.args.gate.now (owner c.owner-map.result t) c.loop-place.place) c.in_ok-word.ensures));
+          (gathered-next value rs t left.0 w a c.domain-all.ensures.limits (subst (λ ts. AreGathered value rs ts a) left.1 c.loop-place.invariant.gathered) (g.G.Gate.may_refuse c.args.gate.now (owner c.args.map.now t) c.loop-place.place) c.in_ok-word.ensures));
       left = c.next.ensures.rest ∙ ap (drop 1) c.loop-place.invariant.left ∙ drop-drop_one (indices_in rs) c.loop-place.place;
     }
 
@@ -69,4 +68,4 @@ returns g c =
     let ts = indices_in rs in
     let a = c.loop-place.array in
     let past : length ts ≤ c.loop-place.place = let size = c.size-place-end.ensures.size ∙ ap (λ d. length (indices d)) c.domain-all.ensures.domain in let test = c.loop-place-test.false in omega (arith, size, test) in
-    gathered-last value rs (MayRefuse (g.G.Gate.may_refuse c.args.gate.now) (owned_by c.args.frame.now c.args.d.now.slot) rs) a (subst (λ ts. AreGathered value rs ts a) (c.loop-place.invariant.left ∙ drop_all c.loop-place.place ts past) c.loop-place.invariant.gathered)
+    gathered-last value rs (MayRefuse (g.G.Gate.may_refuse c.args.gate.now) c.args.map.now rs) a (subst (λ ts. AreGathered value rs ts a) (c.loop-place.invariant.left ∙ drop_all c.loop-place.place ts past) c.loop-place.invariant.gathered)

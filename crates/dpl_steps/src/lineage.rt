@@ -1,0 +1,74 @@
+// Which root a declared domain or array gets.
+// What tells it is evaluated before the slot is written; the root's domain is the one that the slot then holds.
+
+ghost use Rattle.std.specs.Prelude.{◌≡◌, Ok, List};
+ghost use Rattle.dpl_sets.specs.TextRanges.{TextRange};
+ghost use Rattle.dpl_language.specs.Values.{Domain as DomainValue};
+ghost use Rattle.dpl_frame.specs.Roots.{root_view};
+ghost use Rattle.dpl_values.specs.Meanings.{domain_in};
+ghost use Rattle.dpl_steps.specs.Lineages.{rooted, slot_root, valued_root, empty_root};
+
+use dpl_frame::{Distribution, DomainWord, Frame, Root};
+use dpl_nodes::{DomainExpr, Placing};
+use dpl_values::{from_least, named};
+
+/// What tells a root: another root, or what is named for a root of its own.
+#[derive(Clone, Copy)]
+pub(crate) enum Lineage {
+    Of(Root),
+    Named(Distribution),
+}
+
+impl Lineage {
+    /// The root, by the domain that is declared.
+    pub(crate) fn root(&self, domain: DomainWord) -> Root
+        ensures { root_view result ≡ rooted self.now domain }
+    {
+        match self {
+            Lineage::Of(root) => *root,
+            Lineage::Named(named) => Root::Of(*named, domain),
+        }
+    }
+}
+
+/// Of what is derived from the domain or array in a slot; for what is derived from none no map is named.
+pub(crate) fn derived(origin: Option<usize>, frame: &Frame<'_>) -> Lineage
+    ensures { (rs : List TextRange) → rooted result rs ≡ slot_root origin rs frame.now.memory }
+{
+    match origin {
+        Some(slot) => Lineage::Of(frame.root(slot)),
+        None => Lineage::Named(Distribution::NoMap),
+    }
+}
+
+/// Of a domain that is declared with an initial value.
+pub(crate) fn with_value(
+    e: &DomainExpr<'_>,
+    value: DomainWord,
+    placing: &Placing<'_>,
+    frame: &Frame<'_>,
+) -> Lineage
+    requires { domain_in frame.now e.now ≡ Ok (DomainValue value) }
+    ensures { (rs : List TextRange) → rooted result rs ≡ valued_root frame.now.limits e.now placing.now rs frame.now.memory }
+{
+    match placing {
+        Placing::Derived => derived(e.origin(), frame),
+        Placing::Root => Lineage::Named(Distribution::NoMap),
+        Placing::Mapped(map) => Lineage::Named(named(map, frame)),
+        Placing::BlockCreated => Lineage::Named(Distribution::BlockOver(value)),
+        Placing::CyclicCreated => Lineage::Named(from_least(value)),
+    }
+}
+
+/// Of a domain that is declared without one.
+pub(crate) fn without_value(placing: &Placing<'_>, frame: &Frame<'_>) -> Lineage
+    ensures { (rs : List TextRange) → rooted result rs ≡ empty_root frame.now.limits placing.now rs frame.now.memory }
+{
+    match placing {
+        Placing::Mapped(map) => Lineage::Named(named(map, frame)),
+        Placing::Derived => Lineage::Named(Distribution::NoMap),
+        Placing::Root => Lineage::Named(Distribution::NoMap),
+        Placing::BlockCreated => Lineage::Named(Distribution::NoMap),
+        Placing::CyclicCreated => Lineage::Named(Distribution::NoMap),
+    }
+}
