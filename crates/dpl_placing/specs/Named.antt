@@ -1,20 +1,20 @@
--- The map that a text names, typed; and which has a typed form.
+-- The map that a text names, typed: what it stands for, and which has a typed form.
 use Rattle.std.specs.Prelude.{◌≡◌, Bool, true, ◌&&◌}
-use Rattle.dpl_language.specs.Tree.{One, MapTree, BlockMap, CyclicMap, BlockCyclicMap}
+use Rattle.dpl_language.specs.Tree.{MapTree, BlockMap, CyclicMap, BlockCyclicMap}
 use Rattle.dpl_language.specs.Names.{Text}
+use Rattle.dpl_agreement.specs.Renamed.{renamed_map}
 use Rattle.dpl_rules.specs.Types.{has, is_domain}
 use Rattle.dpl_rules.specs.Sights.{Scopes}
 use Rattle.dpl_rules.specs.Expressions.{item_type}
-use Rattle.dpl_lowered.specs.LoweredExpressions.{Once}
+use Rattle.dpl_lowered.specs.LoweredStatements.{lowered_map}
+use Rattle.dpl_memory.specs.Memory.{Variable, known_variable}
 use Rattle.dpl_nodes.specs.declared.placing.MapExpr.{MapExpr}
-use Rattle.dpl_nodes.specs.declared.placing.MapExpr.TheVariants.{Block, Cyclic, BlockCyclic}
-use Rattle.dpl_nodes.specs.Typed.{domain_view}
 use Rattle.dpl_nodes.specs.Spots.{IsNear}
+use Rattle.dpl_nodes.specs.Steps.{map_view}
 use Rattle.dpl_spelling.specs.Spelt.{MapSpelt}
-use Rattle.dpl_typer.specs.Leaves.{MayBePlain}
+use Rattle.dpl_typer.specs.Leaves.{leaf_in, IsFound, MayBePlain}
 use Rattle.dpl_typer.specs.Simple.{IsSimpleItem}
-use Rattle.dpl_typer.specs.Elaborated.{item_leaves}
-use Rattle.dpl_placing.specs.Starts.{IsSimpleStart, IsStartOf, is_start}
+use Rattle.dpl_placing.specs.Starts.{IsSimpleStart, is_start}
 
 -- the arguments of a map are simple, over names of which something holds
 abbrev pub IsSimpleMap : (Text → Type 0) → MapTree Text → Type 0
@@ -23,18 +23,14 @@ IsSimpleMap Holds (CyclicMap m) = IsSimpleStart Holds m.start
 IsSimpleMap Holds (BlockCyclicMap m) = IsSimpleStart Holds m.start × IsSimpleStart Holds m.size
 
 module _ (scopes : Scopes) where
-  -- The typed map has the same name and the same arguments: a box is a domain, evaluated once; and the sizes of blocks are written
-  -- as a start is.
-  abbrev pub IsMapOf : MapTree Text → MapExpr → Type 0
-  IsMapOf (BlockMap m) (Block d) = item_leaves scopes Once m.box ≡ One (domain_view d.now)
-  IsMapOf (BlockMap m) (Cyclic e) = ⊥
-  IsMapOf (BlockMap m) (BlockCyclic e f) = ⊥
-  IsMapOf (CyclicMap m) (Block d) = ⊥
-  IsMapOf (CyclicMap m) (Cyclic e) = IsStartOf scopes m.start e
-  IsMapOf (CyclicMap m) (BlockCyclic e f) = ⊥
-  IsMapOf (BlockCyclicMap m) (Block d) = ⊥
-  IsMapOf (BlockCyclicMap m) (Cyclic e) = ⊥
-  IsMapOf (BlockCyclicMap m) (BlockCyclic e f) = IsStartOf scopes m.start e × IsStartOf scopes m.size f
+  -- the lowered tree over leaves
+  abbrev pub map_leaves : MapTree Text → MapTree Variable
+  map_leaves m = lowered_map known_variable (renamed_map (leaf_in scopes) m)
+
+  -- the typed map is that tree, and each name in it is in sight
+  pub record IsMapOf (m : MapTree Text) (e : MapExpr) : Type 0 where
+    pub node : map_view e ≡ map_leaves m
+    pub found : IsSimpleMap (IsFound scopes) m
 
   -- the types that the rules ask for
   abbrev pub is_map : MapTree Text → Bool

@@ -1,7 +1,6 @@
-// The map that a text names behind `dmapped`, from the parsed one to the typed one, and the root of a declared domain.
-// A map says where work is done and nothing else: one whose arguments have no typed form is left out, and nothing is refused for it.
-// The maps that a program names are a list, and a step has the number of one. A run evaluates the map where the name is declared (`placed`
-// of dpl_values), and keeps it by its slot beside the memory.
+// The map that a text names behind `dmapped`, from the parsed one to the typed one, and what a declaration says of a domain's map.
+// A map says where work is done and nothing else; it stands in the plain statement that a declaration's step stands for. A run evaluates it
+// where the name is declared.
 #![tactic(auto)]
 
 mod map;
@@ -9,4 +8,4 @@ mod root;
 mod start;
 
 pub use map::mapped;
-pub use root::{Root, root_of};
+pub use root::root_of;

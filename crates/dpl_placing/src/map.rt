@@ -1,7 +1,7 @@
 // A map that the text names: its box, or where it starts and the sizes of its blocks.
-// Where one has no typed form, none is named.
+// One whose arguments have no typed form is refused.
 
-ghost use Rattle.std.specs.Prelude.{◌≡◌, ◌≢◌, false, IfOk, IfNone, IfSome, Err};
+ghost use Rattle.std.specs.Prelude.{◌≡◌, false, IfOk, Err};
 ghost use Rattle.dpl_language.specs.Tree.{One};
 ghost use Rattle.dpl_tree.specs.View.{item_view};
 ghost use Rattle.dpl_tree.specs.Declarations.{map_view};
@@ -10,6 +10,8 @@ ghost use Rattle.dpl_rules.specs.Expressions.{item_type};
 ghost use Rattle.dpl_lowered.specs.LoweredExpressions.{Once};
 ghost use Rattle.dpl_nodes.specs.Typed.{domain_view};
 ghost use Rattle.dpl_nodes.specs.declared.stop.NoNode.TheVariants as stop;
+ghost use Rattle.dpl_typer.specs.Leaves.{IsFound};
+ghost use Rattle.dpl_typer.specs.Simple.{IsSimpleItem};
 ghost use Rattle.dpl_typer.specs.Elaborated.{item_leaves};
 ghost use Rattle.dpl_typer.specs.Where.{WhereSimpleItem};
 ghost use Rattle.dpl_placing.specs.Named.{IsMapOf, HasMap};
@@ -27,6 +29,7 @@ fn boxed<'t>(
     written: &Item<'_>,
 ) -> Result<&'t DomainExpr<'t>, NoNode>
     ensures node { IfOk result (λ d. item_leaves scopes.now Once (item_view written.now) ≡ One (domain_view d.now)) }
+    ensures found { IfOk result (λ d. IsSimpleItem (IsFound scopes.now) (item_view written.now)) }
     ensures ill_typed { (result ≡ Err stop.IllTyped) → WhereSimpleItem scopes.now (item_view written.now)
         (has is_domain (item_type scopes.now (item_view written.now)) ≡ false) }
 {
@@ -64,23 +67,22 @@ fn map<'t>(arena: Arena<'t>, scopes: &Scopes<'_>, written: &Map<'_>) -> Result<M
     }
 }
 
-/// The map that a text names behind `dmapped`, typed; none where an argument needs what has no typed form, as a locale, or is of a
-/// type that the rules refuse.
+/// The map that a text names behind `dmapped`, typed.
 ///
 /// # Errors
-/// Out of memory.
+/// Out of memory; an argument that needs what has no typed form, as a locale, or is of a type that the rules refuse; a place past
+/// 2^21, which no text has.
 pub fn mapped<'t>(
     arena: Arena<'t>,
     scopes: &Scopes<'_>,
     written: &Mapped<'_>,
-) -> Result<Option<MapExpr<'t>>, NoNode>
-    ensures mapped { IfOk result (λ o. IfSome o (λ e. IsMapOf scopes.now (map_view written.now.map) e)) }
-    ensures exact { IfOk result (λ o. IfNone o (HasMap scopes.now (map_view written.now.map) → ⊥)) }
-    ensures ill_typed { result ≢ Err stop.IllTyped }
+) -> Result<&'t MapExpr<'t>, NoNode>
+    ensures mapped { IfOk result (λ e. IsMapOf scopes.now (map_view written.now.map) e.now) }
+    ensures ill_typed { (result ≡ Err stop.IllTyped) → HasMap scopes.now (map_view written.now.map) → ⊥ }
 {
-    match map(arena, scopes, &written.map) {
-        Ok(e) => Ok(Some(e)),
-        Err(NoNode::IllTyped) => Ok(None),
-        Err(NoNode::Memory) => Err(NoNode::Memory),
+    let named = map(arena, scopes, &written.map)?;
+    match arena.node(named) {
+        Ok(here) => Ok(here),
+        Err(_) => Err(NoNode::Memory),
     }
 }

@@ -10,7 +10,7 @@ use Rattle.dpl_language.specs.Names.{Text}
 use Rattle.dpl_language.specs.Values.{Domain as DomainValue, default}
 use Rattle.dpl_language.specs.Ranges.{empty_domain}
 use Rattle.dpl_language.specs.Declarations.{type_of}
-use Rattle.dpl_agreement.specs.Renamed.{renamed_item, renamed_items, renamed_init, renamed_typed, renamed_initial}
+use Rattle.dpl_agreement.specs.Renamed.{renamed_item, renamed_items, renamed_mapped, renamed_init, renamed_typed, renamed_initial}
 use Rattle.dpl_agreement.specs.Scopes.{PlainForm, fits_side, fits_init, fits_given, suits_init}
 use Rattle.dpl_agreement.proofs.RenamedTwice.{renamed_items-twice}
 use Rattle.dpl_rules.specs.Types.{ValueType, Scalar, Domain}
@@ -24,13 +24,15 @@ use Rattle.dpl_scopes.specs.declared.declared.Declared.{Declared as DeclaredNode
 use Rattle.dpl_scopes.specs.View.{sort_view, declared_view}
 use Rattle.dpl_scopes.specs.Slots.{next_slot_in}
 use Rattle.dpl_lowered.specs.Shapes.{nowhere, placed, as_item}
-use Rattle.dpl_lowered.specs.LoweredStatements.{default_tree, written_initial, written_type, unplaced_word, lowered_init, declared_type, declared_initial}
+use Rattle.dpl_lowered.specs.LoweredStatements.{default_tree, mapped_initial, written_initial, ranked_type, written_type, unplaced_word, lowered_init, lowered_init_map, lowered_mapped, map_by, declared_type, declared_initial}
 use Rattle.dpl_lowered.specs.LoweredExpressions.{Times, Once, lowered_items}
 use Rattle.dpl_words.specs.Words.{LeafKind, IntLeaf, TruthLeaf}
 use Rattle.dpl_memory.specs.Memory.{VariableKind, PlainKind, DomainKind, TupleKind, ArrayKind, Variable, variable, known_variable}
 use Rattle.dpl_memory.specs.Resolved.{Bound, Seen, Start, text_of, variable_of, resolving, MayHold, IsUnused, IsNew, Declares, Suits, Spans}
 use Rattle.dpl_nodes.specs.declared.step.Step.{Step}
-use Rattle.dpl_nodes.specs.Steps.{step_view, dimensions}
+use Rattle.dpl_nodes.specs.declared.placing.Placing.{Placing}
+use Rattle.dpl_nodes.specs.declared.placing.Placing.TheVariants.{Derived}
+use Rattle.dpl_nodes.specs.Steps.{step_view, dimensions, placed_type, placed_map}
 use Rattle.dpl_typer.specs.declared.make.Typed.{Typed}
 use Rattle.dpl_typer.specs.Makers.{typed_view, typed_item, kind_of, is_promoted}
 use Rattle.dpl_typer.specs.Leaves.{value_kind, kind_by, leaf_by}
@@ -41,6 +43,7 @@ use Rattle.dpl_typer.proofs.OperatorKinds.{kind-same}
 use Rattle.dpl_typer.proofs.Items.{typed_item-view}
 use Rattle.dpl_typer.proofs.Shaped.{typed-held}
 use Rattle.dpl_typer.proofs.Arrays.{spans-created}
+use Rattle.dpl_placing.specs.Roots.{IsInitPlacing, IsPlacingOf, AreFoundMaps}
 use Rattle.dpl_runnable.specs.Kinds.{IsScalarKind}
 use Rattle.dpl_runnable.specs.Runnable.{IsDefaultOf, IsConfigOf}
 use Rattle.dpl_planner.specs.declared.progress.Plan.{Plan}
@@ -50,12 +53,13 @@ use Rattle.dpl_planner.specs.declared.declaration.Beginning.{Beginning}
 use Rattle.dpl_planner.specs.declared.declaration.Beginning.TheVariants as beginning
 use Rattle.dpl_planner.specs.Bounds.{bound_new}
 use Rattle.dpl_planner.specs.Given.{IsOfLeaf, AreGiven}
-use Rattle.dpl_planner.specs.Parts.{IsSingleKind, IsWrittenType, begun_kind, begun_type, begun_as, IsPlainTyped, IsDefault, BeginsByDefault, IsGivenInit, IsInitial, IsOwedBy, bound_typed, bound_initial, PlansDeclare}
+use Rattle.dpl_planner.specs.Parts.{IsSingleKind, IsWrittenType, begun_kind, value_type, value_map, IsPlacedBeside, IsPlacedWith, begun_type, begun_as, IsPlainTyped, IsDefault, BeginsByDefault, IsGivenInit, IsInitial, IsOwedBy, bound_typed, bound_initial, PlansDeclare}
 use Rattle.dpl_planner.specs.Plans.{seen_of, intents_in, AreOpen, IsOneScope, PlansStmt}
 use Rattle.dpl_planner.proofs.Scoped.{open-known, plain-add, new-no_array, single-type}
 use Rattle.dpl_planner.proofs.Owed.{one-add, given-before}
 use Rattle.dpl_planner.proofs.Items.{side-node, item-suited, side-fits, items-fit}
-use Rattle.dpl_planner.proofs.Mapped.{mapped-back, mapped_item-back, created-back}
+use Rattle.dpl_planner.proofs.Mapped.{mapped-back, mapped_item-back, created-back, maps-fit}
+use Rattle.dpl_planner.proofs.Placed.{placed-type, placed-map, untyped-type, init-placed, typed-type, typed-placed, empty-typed}
 
 -- ---- TYPES
 module _ (ss : Scopes) where
@@ -108,12 +112,25 @@ module _ (ss : Scopes) where
     abbrev written : Option (InitialTree Text)
     written = Some (record { equals = equals; init = init })
 
+    abbrev leaf : InitTree Variable
+    leaf = renamed_init variable_of (renamed_init (bound_in ss) init)
+
+    -- beside no type, or that of a plain variable
+    plain-typed : (p : Placing) → IsInitPlacing ss Derived init p → IsPlacedBeside value p → option_map written_type None ≡ option_map written_type (value_type value p)
+    plain-typed p placing beside = ap (option_map written_type) (sym (placed-type value p beside ∙ untyped-type ss init p placing))
+
+    plain-node : (p : Placing) → IsInitPlacing ss Derived init p → IsPlacedBeside value p
+        → Some (mapped_initial nowhere (lowered_init known_variable leaf) (lowered_init_map known_variable leaf)) ≡ Some (mapped_initial nowhere (typed_item Once value) (value_map value p))
+    plain-node p placing beside =
+        ap (λ i. Some (mapped_initial nowhere i (lowered_init_map known_variable leaf))) is.node
+        ∙ ap (λ m. Some (mapped_initial nowhere (typed_item Once value) m)) (init-placed ss value init Derived p refl placing is.node ∙ sym (placed-map value p beside))
+
     written-initial : (t : Option (TypedTree Text)) (k : WrittenKind) → IsWrittenType (type_of t) k → IsInitial ss t written declared (beginning.Value value)
     written-initial None k h = record {
       type = typed-plain None k h;
       text = ap (λ i. Some (record { equals = equals; init = i })) is.text;
-      typed = refl;
-      node = ap (λ i. Some (written_initial nowhere i)) is.node;
+      typed = plain-typed;
+      node = plain-node;
       initial = is.fits;
       suits = λ start intents x known once kind shape typed given. is.suits start intents x known once kind shape typed;
     }
@@ -123,8 +140,8 @@ module _ (ss : Scopes) where
         by_type colon (ScalarType at l) k h = record {
           type = typed-plain (Some (record { colon = colon; type = ScalarType at l })) k h;
           text = ap (λ i. Some (record { equals = equals; init = i })) is.text;
-          typed = refl;
-          node = ap (λ i. Some (written_initial nowhere i)) is.node;
+          typed = plain-typed;
+          node = plain-node;
           initial = is.fits;
           suits = λ start intents x known once kind shape typed given. is.suits start intents x known once kind shape typed;
         }
@@ -132,8 +149,10 @@ module _ (ss : Scopes) where
         by_type colon (DomainType d) k h = record {
           type = typed-plain (Some (record { colon = colon; type = DomainType d })) k h;
           text = ap (λ i. Some (record { equals = equals; init = i })) is.text;
-          typed = refl;
-          node = ap (λ i. Some (written_initial nowhere i)) is.node;
+          typed = λ p placing beside. ap (option_map written_type) (typed-type ss d.mapped (record { equals = equals; init = init }) p placing ∙ sym (placed-type value p beside));
+          node = λ p placing beside.
+              ap (λ i. Some (mapped_initial nowhere i (map_by known_variable (option_map (renamed_mapped variable_of) (option_map (renamed_mapped (bound_in ss)) d.mapped)) leaf))) is.node
+              ∙ ap (λ m. Some (mapped_initial nowhere (typed_item Once value) m)) (typed-placed ss value d.mapped (record { equals = equals; init = init }) p placing is.node ∙ sym (placed-map value p beside));
           initial = is.fits;
           suits = λ start intents x known once kind shape typed given. is.suits start intents x known once kind shape typed;
         }
@@ -178,8 +197,10 @@ default-initial ss (Some t) k declared b h is = by_type t.colon t.type k b h is
     by_type colon (ScalarType at l) (kinds.Scalar k) (beginning.Value value) h is = record {
       type = typed-plain ss (Some (record { colon = colon; type = ScalarType at l })) (kinds.Scalar k) h;
       text = refl;
-      typed = refl;
-      node = ap (λ i. Some (written_initial nowhere i)) (ap (λ j. One (default_tree j)) h ∙ sym is.0);
+      typed = λ p placing beside. ap (option_map written_type) (sym (placed-type value p beside ∙ ap placed_type placing));
+      node = λ p placing beside.
+          ap (λ i. Some (written_initial nowhere i)) (ap (λ j. One (default_tree j)) h ∙ sym is.0)
+          ∙ ap (λ m. Some (mapped_initial nowhere (typed_item Once value) m)) (sym (placed-map value p beside ∙ ap (λ p. placed_map p (typed_view Once value)) placing));
       initial = λ start intents plain. tt;
       suits = λ start intents x plain once kind shape typed given.
           subst (λ j. MayHold x.variable.kind x.shape (default j)) (sym h) (subst (λ j. MayHold j x.shape (default k)) (sym kind) (default-kind k (kind_of value) x.shape is.1));
@@ -193,8 +214,10 @@ default-initial ss (Some t) k declared b h is = by_type t.colon t.type k b h is
     by_type colon (DomainType d) (kinds.Domain rank) (beginning.Empty other) h is = record {
       type = typed-plain ss (Some (record { colon = colon; type = DomainType d })) (kinds.Domain rank) h;
       text = refl;
-      typed = ap (λ n. Some (written_type (DomainType (record { at = nowhere; from = nowhere; rank_at = nowhere; rank = n; upto = nowhere; mapped = None })))) (h ∙ ap dimensions (sym is));
-      node = refl;
+      typed = λ p placing beside.
+          ap (λ n. Some (written_type (ranked_type n (option_map (lowered_mapped known_variable) (option_map (renamed_mapped variable_of) (option_map (renamed_mapped (bound_in ss)) d.mapped)))))) (h ∙ ap dimensions (sym is))
+          ∙ ap (λ m. Some (written_type (ranked_type (dimensions other) m))) (empty-typed ss d.mapped p placing);
+      node = λ p placing beside. refl;
       initial = λ start intents plain. tt;
       suits = λ start intents x plain once kind shape typed given. empty-held x d.rank declared kind shape typed given;
     }
@@ -272,12 +295,13 @@ module _ (a : Plan) (d : DeclareTree Text) (made : DeclaredNode) (t : TypeNode) 
   declared-given : type_given a.scopes (origin_in a.scopes d.name.name) (type_of d.typed) d.initial ≡ Some (type_view t)
   declared-given = unrefused (declaration_breaches a.scopes d) (type_given a.scopes (origin_in a.scopes d.name.name) (type_of d.typed) d.initial) (type_view t) is-typed
 
-  pub declare-plans : (b : Plan) (begun : Beginning) (slot : ℕ) (s : Step) → IsInitial a.scopes d.typed d.initial (type_view t) begun → value_kind (type_view t) ≡ Some (begun_kind begun) → IsSingleKind (begun_kind begun)
+  pub declare-plans : (b : Plan) (begun : Beginning) (p : Placing) (slot : ℕ) (s : Step) → IsInitial a.scopes d.typed d.initial (type_view t) begun
+      → IsPlacingOf a.scopes (type_of d.typed) d.initial p → IsPlacedWith begun p → AreFoundMaps a.scopes (type_of d.typed) d.initial → value_kind (type_view t) ≡ Some (begun_kind begun) → IsSingleKind (begun_kind begun)
       → declared_here a.scopes made.origin.name.now ≡ false → slot ≡ next_slot_in a.scopes → slot < b.slots → a.slots ≤ b.slots
       → b.scopes ≡ add (record { origin = origin_in a.scopes made.origin.name.now; sort = sort_view made.sort; type = Some (type_view t) }) a.scopes → b.intents ≡ a.intents
-      → step_view s ≡ begun_as (unplaced_word d.config) (variable (begun_kind begun) slot) begun
+      → step_view s ≡ begun_as (unplaced_word d.config) (variable (begun_kind begun) slot) begun p
       → PlansDeclare a b d s
-  declare-plans b begun slot s is kind kept fresh next below more scopes intents step =
+  declare-plans b begun p slot s is placing beside maps kind kept fresh next below more scopes intents step =
       let ss = a.scopes in
       let x = bound_new ss new in
       let single = declared-single (begun_kind begun) kept in
@@ -300,9 +324,9 @@ module _ (a : Plan) (d : DeclareTree Text) (made : DeclaredNode) (t : TypeNode) 
         text = ap (λ y. Declare (record { config = d.config; at = d.at; constant = d.constant; name = d.name; typed = y; initial = option_map (renamed_initial text_of) (bound_initial ss d.initial); semicolon = d.semicolon })) is.type.spelled
             ∙ ap (λ i. Declare (record { config = d.config; at = d.at; constant = d.constant; name = d.name; typed = d.typed; initial = i; semicolon = d.semicolon })) is.text;
         node = ap (λ told. lowered_as d told x.variable (option_map written_type (declared_type known_variable (type_of typed_leaf) initial_leaf)) (declared_initial known_variable (type_of typed_leaf) initial_leaf)) is.type.untold
-            ∙ ap (λ y. lowered_as d false x.variable y (declared_initial known_variable (type_of typed_leaf) initial_leaf)) is.typed
-            ∙ ap (lowered_as d false x.variable (begun_type begun)) is.node
-            ∙ ap (λ l. begun_as (unplaced_word d.config) l begun) leaf
+            ∙ ap (λ y. lowered_as d false x.variable y (declared_initial known_variable (type_of typed_leaf) initial_leaf)) (is.typed p placing beside)
+            ∙ ap (lowered_as d false x.variable (begun_type begun p)) (is.node p placing beside)
+            ∙ ap (λ l. begun_as (unplaced_word d.config) l begun p) leaf
             ∙ sym step;
         resolves = λ start h le owed.
             let g = seen_of ss (intents_in a) in
@@ -316,6 +340,7 @@ module _ (a : Plan) (d : DeclareTree Text) (made : DeclaredNode) (t : TypeNode) 
               subst (λ sort. Declares start.slots x sort g) (sym is.type.sort) declares,
               subst (λ sort. fits_given (resolving start) d.config x sort g) (sym is.type.sort) (given-fits start d.config x g owed declares),
               is.suits start (intents_in a) x known single (ap (λ (l : Variable). l.kind) leaf) (ap shape_by is-typed) kind declared-given,
+              maps-fit ss known start (intents_in a) d.typed d.initial maps,
             );
       }
 

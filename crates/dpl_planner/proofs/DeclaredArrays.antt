@@ -10,7 +10,7 @@ use Rattle.dpl_language.specs.Values.{default}
 use Rattle.dpl_language.specs.Phrases.{item_over, declared_over}
 use Rattle.dpl_language.specs.Declarations.{type_of}
 use Rattle.dpl_agreement.specs.Renamed.{renamed_item, renamed_items, renamed_array_type, renamed_type, renamed_typed, renamed_initial}
-use Rattle.dpl_agreement.specs.Scopes.{form_by, fits_type, side_by, fits_initial, fits_given, suits_declared}
+use Rattle.dpl_agreement.specs.Scopes.{form_by, fits_type, side_by, fits_initial, fits_given, suits_declared, fits_maps}
 use Rattle.dpl_agreement.proofs.RenamedParts.{declared_over-renamed, type_of-renamed}
 use Rattle.dpl_agreement.proofs.RenamedSame.{renamed_items-same}
 use Rattle.dpl_agreement.proofs.RenamedTwice.{renamed_items-twice}
@@ -231,7 +231,7 @@ module _ (a : Plan) (d : DeclareTree Text) (arr : ArrayTypeTree Text) (typed : t
     Fits y =
         fits_type (resolving start) y g × fits_initial (resolving start) (side_by (resolving start) y) (bound_initial ss d.initial) g
         × (resolving start).declares x (form_by y) g × fits_given (resolving start) d.config x (form_by y) g
-        × suits_declared (resolving start) x y (bound_initial ss d.initial) g
+        × suits_declared (resolving start) x y (bound_initial ss d.initial) g × fits_maps (resolving start) y (bound_initial ss d.initial) g
 
     is-new : IsNew start.slots x g
     is-new = subst (λ (l : Variable). IsNew start.slots (record { text = x.text; variable = l; shape = x.shape }) g) (sym leaf) (record { unused = unused_next ss h; within = within; along = tt })
@@ -258,6 +258,7 @@ module _ (a : Plan) (d : DeclareTree Text) (arr : ArrayTypeTree Text) (typed : t
       (is-new, is-whole, over-fits),
       subst (λ c. fits_given (resolving start) c x (form_by bound_type) g) (sym none) tt,
       (spans, begun.suits start (intents_in a) x h (ap (λ (l : Variable). l.kind) leaf)),
+      tt,
     )
 
     pub array-fits : Fits (type_of (bound_typed ss d.typed))

@@ -1,6 +1,7 @@
 pub mod Scoped
 pub mod Items
 pub mod Mapped
+pub mod Placed
 pub mod Results
 pub mod Bodies
 pub mod Headers

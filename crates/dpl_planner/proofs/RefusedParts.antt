@@ -5,7 +5,7 @@ use Rattle.std.specs.Prelude.{bytes_eq}
 use Rattle.std.proofs.lemmas.List.{drop_more}
 use Rattle.std.proofs.lemmas.Option.{none-some}
 use Rattle.std.proofs.lemmas.Slice.Eq.{bytes_eq-Decides}
-use Rattle.dpl_language.specs.Tree.{Op, Assign, Kind, IntKind, BoolKind, ExprTree, ItemTree, TypeTree, ScalarType, SyncType, DomainType, ArrayType, DeclareTree}
+use Rattle.dpl_language.specs.Tree.{Op, Assign, Kind, IntKind, BoolKind, ExprTree, ItemTree, TypeTree, ScalarType, SyncType, DomainType, ArrayType, InitTree, ItemInit, CreateInit, InitialTree, DeclareTree}
 use Rattle.dpl_language.specs.Names.{Text}
 use Rattle.dpl_language.specs.Declarations.{type_of}
 use Rattle.dpl_rules.specs.Types.{ValueType, Scalar, Domain, Cell}
@@ -24,12 +24,15 @@ use Rattle.dpl_words.specs.Words.{IntLeaf, TruthLeaf, RangeLeaf}
 use Rattle.dpl_memory.specs.Memory.{VariableKind, PlainKind, DomainKind, TupleKind, ArrayKind}
 use Rattle.dpl_typer.specs.declared.make.Typed.{Typed}
 use Rattle.dpl_typer.specs.Makers.{kind_of, is_promoted}
+use Rattle.dpl_nodes.specs.declared.placing.Placing.{Placing}
+use Rattle.dpl_nodes.specs.declared.placing.Placing.TheVariants.{Derived}
 use Rattle.dpl_nodes.specs.Steps.{scalar_leaf}
 use Rattle.dpl_memory.specs.Resolved.{Bound}
 use Rattle.dpl_typer.specs.Leaves.{value_kind, kind_by, kind_in, IsOfType}
 use Rattle.dpl_typer.proofs.OperatorKinds.{kind-same}
+use Rattle.dpl_placing.specs.Roots.{IsInitPlacing, IsGivenPlacing, IsPlacingOf}
 use Rattle.dpl_runnable.specs.Kinds.{IsDeclaredKind, IsAssignedKind, IsGivenTo}
-use Rattle.dpl_runnable.specs.Runnable.{IsExprOf, IsItemOf, IsRunnableChange, IsRunnableType, IsShapedInitial, IsRunnableDeclare, AreToldAlike, IsRunnableArgument, AreRunnableArguments, IsRunnableIntent, AreRunnableIntents}
+use Rattle.dpl_runnable.specs.Runnable.{IsExprOf, IsItemOf, IsRunnableChange, IsRunnableType, IsShapedInitial, SaysNoMapInit, SaysNoMap, IsMappedBeside, IsRunnableDeclare, AreToldAlike, IsRunnableArgument, AreRunnableArguments, IsRunnableIntent, AreRunnableIntents}
 use Rattle.dpl_planner.specs.declared.progress.Reducing.{Reducing}
 use Rattle.dpl_planner.specs.Arrays.{IsNoArrayType}
 use Rattle.dpl_planner.specs.Parts.{IsSingleKind, IsChangedKind, IsSingleType, others_in, intents_among}
@@ -110,6 +113,31 @@ pub single-change : (ss : Scopes) (is : List (Bound × Op)) (x : Text) (op : Ass
 single-change ss is x op value t none of_type s =
     let changed = changed-kind s.kind s.assigned (unarrayed (kind_in ss x) s.kind none s.target) in
     (changed, given-kind ss value t s.kind s.given of_type (changed-held s.kind changed) s.item s.takes)
+
+-- of a declaration that says nothing of a map nothing is said
+unsaid-init : (ss : Scopes) (i : InitTree Text) (p : Placing) → SaysNoMapInit i → IsInitPlacing ss Derived i p → p ≡ Derived
+unsaid-init ss (ItemInit item None) p none h = h
+unsaid-init ss (ItemInit item (Some m)) p none h = absurd none
+unsaid-init ss (CreateInit c) p none h = absurd none
+
+unsaid-initial : (ss : Scopes) (i : Option (InitialTree Text)) (p : Placing) → SaysNoMap None i → IsGivenPlacing ss Derived i p → p ≡ Derived
+unsaid-initial ss None p none h = h
+unsaid-initial ss (Some i) p none h = unsaid-init ss i.init p none h
+
+unsaid : (ss : Scopes) (t : Option (TypeTree Text)) (i : Option (InitialTree Text)) (p : Placing) → SaysNoMap t i → IsPlacingOf ss t i p → p ≡ Derived
+unsaid ss None i p none h = unsaid-initial ss i p none h
+unsaid ss (Some (ScalarType at k)) None p none h = h
+unsaid ss (Some (ScalarType at k)) (Some i) p none h = unsaid-init ss i.init p none h
+unsaid ss (Some (SyncType at kind_at k)) None p none h = h
+unsaid ss (Some (SyncType at kind_at k)) (Some i) p none h = unsaid-init ss i.init p none h
+unsaid ss (Some (DomainType d)) i p none h = absurd none
+unsaid ss (Some (ArrayType a)) None p none h = h
+unsaid ss (Some (ArrayType a)) (Some i) p none h = unsaid-init ss i.init p none h
+
+-- what is said of a map of one that runs may stand where it does
+pub mapped-beside : (ss : Scopes) (t : Option (TypeTree Text)) (i : Option (InitialTree Text)) (k : VariableKind) (p : Placing) → IsPlacingOf ss t i p → IsMappedBeside t i k → k ≢ DomainKind → p ≢ Derived → ⊥
+mapped-beside ss t i k p h (inl domain) other said = other domain
+mapped-beside ss t i k p h (inr none) other said = said (unsaid ss t i p none h)
 
 -- a type that runs, of what is no array
 pub single-type : (ss : Scopes) (t : Option (TypeTree Text)) → IsRunnableType ss t → IsNoArrayType t → IsSingleType t

@@ -3,7 +3,7 @@
 use Rattle.std.specs.Borrow.{Bor}
 use Rattle.std.specs.Prelude.{◌≡◌, ◌≤◌, ℕ, nat_le, ◌&&◌, true, false, List, [], ◌∷◌, ◌++◌, map, option_map, Option, Some, None}
 use Rattle.dpl_syntax.specs.declared.place.Place.{Place}
-use Rattle.dpl_language.specs.Tree.{Placed, Op, Assign, Kind, ExprTree, Named, ItemTree, One, TypedTree, TypeTree, ScalarType, SyncType, DomainType, ArrayType, InitTree, ItemInit, CreateInit, InitialTree, DeclareTree, Whole, StmtTree, Declare, Assigned, ArgumentTree, IntentTree, VariablesTree, OneVariable, ManyVariables}
+use Rattle.dpl_language.specs.Tree.{Placed, Op, Assign, Kind, ExprTree, Named, ItemTree, One, TypedTree, TypeTree, ScalarType, SyncType, DomainType, ArrayType, InitTree, ItemInit, CreateInit, MappedTree, InitialTree, DeclareTree, Whole, StmtTree, Declare, Assigned, ArgumentTree, IntentTree, VariablesTree, OneVariable, ManyVariables}
 use Rattle.dpl_language.specs.Arithmetic.{assign_divides}
 use Rattle.dpl_language.specs.Names.{Text}
 use Rattle.dpl_language.specs.Declarations.{type_of}
@@ -20,7 +20,7 @@ use Rattle.dpl_scopes.specs.Slots.{next_slot_in, slot_in}
 use Rattle.dpl_lowered.specs.Known.{may_be_whole}
 use Rattle.dpl_lowered.specs.Shapes.{nowhere, kept, placed}
 use Rattle.dpl_lowered.specs.LoweredExpressions.{Times, Once, lowered_expr, lowered_item}
-use Rattle.dpl_lowered.specs.LoweredStatements.{default_tree, written_initial, written_type, tells_name, declared_type, declared_initial, lowered_argument, lowered_variables}
+use Rattle.dpl_lowered.specs.LoweredStatements.{default_tree, mapped_initial, ranked_type, written_type, tells_name, declared_type, declared_initial, lowered_argument, lowered_variables}
 use Rattle.dpl_words.specs.Words.{IntLeaf, TruthLeaf, RangeLeaf}
 use Rattle.dpl_memory.specs.Memory.{VariableKind, PlainKind, DomainKind, TupleKind, ArrayKind, Variable, variable, known_kind, known_variable}
 use Rattle.dpl_memory.specs.Resolved.{Bound, Seen, Start, text_of, variable_of, resolving}
@@ -29,8 +29,10 @@ use Rattle.dpl_nodes.specs.declared.step.Argument.{Argument}
 use Rattle.dpl_nodes.specs.declared.step.Names.{Names}
 use Rattle.dpl_nodes.specs.declared.step.Names.TheVariants as names
 use Rattle.dpl_nodes.specs.declared.step.Step.{Step}
-use Rattle.dpl_nodes.specs.Typed.{truth_view}
-use Rattle.dpl_nodes.specs.Steps.{unplaced_leaf, dimensions, of_rank, argument_view, names_view, step_view}
+use Rattle.dpl_nodes.specs.Typed.{truth_view, domain_view}
+use Rattle.dpl_nodes.specs.declared.placing.Placing.{Placing}
+use Rattle.dpl_nodes.specs.declared.placing.Placing.TheVariants.{Derived}
+use Rattle.dpl_nodes.specs.Steps.{unplaced_leaf, dimensions, placed_map, placed_type, typed_map, argument_view, names_view, step_view}
 use Rattle.dpl_typer.specs.declared.make.Typed.{Typed}
 use Rattle.dpl_typer.specs.declared.make.Typed.TheVariants as typed
 use Rattle.dpl_typer.specs.Makers.{typed_item, kind_of, is_promoted}
@@ -39,6 +41,7 @@ use Rattle.dpl_typer.specs.Shapes.{shape_of, IsTakenOf, IsTaken}
 use Rattle.dpl_typer.specs.Simple.{IsSimple, IsSimpleItem}
 use Rattle.dpl_typer.specs.Elaborated.{IsCreated}
 use Rattle.dpl_typer.specs.Sights.{bound_in, AreKnownScopes}
+use Rattle.dpl_placing.specs.Roots.{IsPlacingOf}
 use Rattle.dpl_runnable.specs.Runnable.{created_type}
 use Rattle.dpl_planner.specs.declared.progress.Plan.{Plan}
 use Rattle.dpl_planner.specs.declared.declaration.WrittenKind.{WrittenKind}
@@ -104,7 +107,7 @@ IsWrittenType (Some (DomainType d)) (kinds.Scalar k) = ⊥
 IsWrittenType (Some (DomainType d)) (kinds.Domain rank) = d.rank ≡ dimensions rank
 IsWrittenType (Some (ArrayType a)) k = ⊥
 
--- what is no array's runs: of a domain's type the rank is asked, and nothing of its map
+-- what is no array's runs: of a domain's type the rank is asked
 abbrev pub IsSingleType : Option (TypeTree Text) → Type 0
 IsSingleType None = Unit {0}
 IsSingleType (Some (ScalarType at k)) = Unit {0}
@@ -117,26 +120,54 @@ abbrev pub begun_kind : Beginning → VariableKind
 begun_kind (beginning.Value t) = kind_of t
 begun_kind (beginning.Empty rank) = DomainKind
 
-abbrev pub begun_type : Beginning → Option (TypedTree Variable)
-begun_type (beginning.Value t) = None
-begun_type (beginning.Empty rank) = Some (written_type (of_rank rank))
+-- what is said of a map stands beside a domain alone
+abbrev pub value_type : Typed → Placing → Option (TypeTree Variable)
+value_type (typed.Domain e) p = placed_type p
+value_type (typed.Int e) p = None
+value_type (typed.Truth e) p = None
+value_type (typed.Range e) p = None
+value_type (typed.Tuple slot) p = None
+value_type (typed.Ints e) p = None
+value_type (typed.Truths e) p = None
 
-abbrev pub begun_value : Beginning → Option (InitialTree Variable)
-begun_value (beginning.Value t) = Some (written_initial nowhere (typed_item Once t))
-begun_value (beginning.Empty rank) = None
+abbrev pub value_map : Typed → Placing → Option (MappedTree Variable)
+value_map (typed.Domain e) p = placed_map p (domain_view e.now)
+value_map (typed.Int e) p = None
+value_map (typed.Truth e) p = None
+value_map (typed.Range e) p = None
+value_map (typed.Tuple slot) p = None
+value_map (typed.Ints e) p = None
+value_map (typed.Truths e) p = None
 
-abbrev pub begun_typed : Beginning → Option Typed
-begun_typed (beginning.Value t) = Some t
-begun_typed (beginning.Empty rank) = None
+abbrev pub IsPlacedBeside : Typed → Placing → Type 0
+IsPlacedBeside (typed.Domain e) p = Unit {0}
+IsPlacedBeside (typed.Int e) p = p ≡ Derived
+IsPlacedBeside (typed.Truth e) p = p ≡ Derived
+IsPlacedBeside (typed.Range e) p = p ≡ Derived
+IsPlacedBeside (typed.Tuple slot) p = p ≡ Derived
+IsPlacedBeside (typed.Ints e) p = p ≡ Derived
+IsPlacedBeside (typed.Truths e) p = p ≡ Derived
 
-abbrev pub begun_as : Option Place → Variable → Beginning → StmtTree Variable
-begun_as config x b = Declare (record {
+abbrev pub IsPlacedWith : Beginning → Placing → Type 0
+IsPlacedWith (beginning.Value t) p = IsPlacedBeside t p
+IsPlacedWith (beginning.Empty rank) p = Unit {0}
+
+abbrev pub begun_type : Beginning → Placing → Option (TypedTree Variable)
+begun_type (beginning.Value t) p = option_map written_type (value_type t p)
+begun_type (beginning.Empty rank) p = Some (written_type (ranked_type (dimensions rank) (typed_map p)))
+
+abbrev pub begun_value : Beginning → Placing → Option (InitialTree Variable)
+begun_value (beginning.Value t) p = Some (mapped_initial nowhere (typed_item Once t) (value_map t p))
+begun_value (beginning.Empty rank) p = None
+
+abbrev pub begun_as : Option Place → Variable → Beginning → Placing → StmtTree Variable
+begun_as config x b p = Declare (record {
   config = config;
   at = nowhere;
   constant = false;
   name = unplaced_leaf x;
-  typed = begun_type b;
-  initial = begun_value b;
+  typed = begun_type b p;
+  initial = begun_value b p;
   semicolon = nowhere;
 })
 
@@ -169,14 +200,15 @@ pub record IsPlainTyped (ss : Scopes) (t : Option (TypedTree Text)) : Type 0 whe
   pub sort : form_by (type_of (bound_typed ss t)) ≡ PlainForm
   pub fits_here : (start : Start) (g : Seen) → fits_type (resolving start) (type_of (bound_typed ss t)) g
 
--- What a variable of a declared type begins with: the initial value, which is written or the default of its type. The type goes
--- where a value is written.
+-- What a variable of a declared type begins with: the initial value, which is written or the default of its type. A plain variable's
+-- type goes where a value is written, and a domain's says no more than its map.
 pub record IsInitial (ss : Scopes) (t : Option (TypedTree Text)) (i : Option (InitialTree Text)) (declared : ValueType) (b : Beginning) : Type 0 where
   pub type : IsPlainTyped ss t
   pub text : option_map (renamed_initial text_of) (bound_initial ss i) ≡ i
-  pub typed : option_map written_type (declared_type known_variable (type_of (option_map (renamed_typed variable_of) (bound_typed ss t))) (option_map (renamed_initial variable_of) (bound_initial ss i)))
-      ≡ begun_type b
-  pub node : declared_initial known_variable (type_of (option_map (renamed_typed variable_of) (bound_typed ss t))) (option_map (renamed_initial variable_of) (bound_initial ss i)) ≡ begun_value b
+  pub typed : (p : Placing) → IsPlacingOf ss (type_of t) i p → IsPlacedWith b p
+      → option_map written_type (declared_type known_variable (type_of (option_map (renamed_typed variable_of) (bound_typed ss t))) (option_map (renamed_initial variable_of) (bound_initial ss i))) ≡ begun_type b p
+  pub node : (p : Placing) → IsPlacingOf ss (type_of t) i p → IsPlacedWith b p
+      → declared_initial known_variable (type_of (option_map (renamed_typed variable_of) (bound_typed ss t))) (option_map (renamed_initial variable_of) (bound_initial ss i)) ≡ begun_value b p
   pub initial : (start : Start) (is : List (Bound × Op)) → AreKnownScopes ss
       → fits_initial (resolving start) (side_by (resolving start) (type_of (bound_typed ss t))) (bound_initial ss i) (seen_of ss is)
   pub suits : (start : Start) (is : List (Bound × Op)) (x : Bound) → AreKnownScopes ss → is_promoted (begun_kind b) ≡ false → x.variable.kind ≡ begun_kind b → x.shape ≡ shape_of declared

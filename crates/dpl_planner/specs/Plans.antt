@@ -1,6 +1,6 @@
 -- What a plan of a part of a program promises: the scopes behind it, its slots, and that what is planned is the part.
 -- A part is planned as its tree with resolved names, which fits where its names are in sight.
-use Rattle.std.specs.Prelude.{◌≡◌, ℕ, ◌≤◌, List, [], ◌∷◌, map, Some, slice_get}
+use Rattle.std.specs.Prelude.{◌≡◌, ◌≤◌, List, [], ◌∷◌, map}
 use Rattle.dpl_language.specs.Tree.{Op, StmtTree, Body, WordBody, BlockBody, Stmts, NoStmts, Then, Else}
 use Rattle.dpl_language.specs.Names.{Text}
 use Rattle.dpl_agreement.specs.Renamed.{renamed_stmt, renamed_stmts, renamed_body, renamed_else}
@@ -13,13 +13,8 @@ use Rattle.dpl_memory.specs.Memory.{Variable, known_variable}
 use Rattle.dpl_memory.specs.Resolved.{no_shape, Bound, Seen, Start, text_of, variable_of, resolving}
 use Rattle.dpl_nodes.specs.declared.step.Step.{Step}
 use Rattle.dpl_nodes.specs.declared.step.Else.{Else as ElseNode}
-use Rattle.dpl_nodes.specs.declared.placing.Placing.{Placing}
-use Rattle.dpl_nodes.specs.declared.placing.Placing.TheVariants.{Mapped}
-use Rattle.dpl_nodes.specs.declared.placing.MapExpr.{MapExpr}
 use Rattle.dpl_nodes.specs.Steps.{listed, intent_view, step_view, else_view, steps_of}
 use Rattle.dpl_typer.specs.Sights.{sight_of, AreKnownScopes}
-use Rattle.dpl_placing.specs.declared.root.Root.{Root}
-use Rattle.dpl_placing.specs.declared.root.Root.TheVariants.{Placed, Named}
 use Rattle.dpl_planner.specs.declared.progress.Reducing.{Reducing}
 use Rattle.dpl_planner.specs.declared.progress.Plan.{Plan}
 use Rattle.dpl_planner.specs.Given.{AreGiven}
@@ -37,11 +32,6 @@ intents_in p = map reducing_view p.intents.items
 
 abbrev pub seen_in : Plan → Seen
 seen_in p = seen_of p.scopes (intents_in p)
-
--- what a step says of a root: a map that is named by its number among those of the program
-abbrev pub IsPlacedAs : List MapExpr → Root → Placing → Type 0
-IsPlacedAs maps (Placed q) p = p ≡ q
-IsPlacedAs maps (Named e) p = (k : ℕ) × (p ≡ Mapped k) × (slice_get maps k ≡ Some e)
 
 -- a scope is open, and all that is in sight is known
 abbrev pub AreOpen : Scopes → Type 0

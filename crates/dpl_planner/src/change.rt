@@ -31,7 +31,7 @@ use crate::elements::{array_named, set_array, set_element};
 use crate::overs::arrays_over;
 use crate::progress::{Plan, Reducing, node, spot};
 use dpl_nodes::step::DomainName;
-use dpl_nodes::{BoolExpr, DomainExpr, IntDeed, IntExpr, NoNode, Step, TruthDeed};
+use dpl_nodes::{BoolExpr, DomainExpr, IntDeed, IntExpr, NoNode, Step, TruthDeed, TruthTarget};
 use dpl_scopes::{Scopes, ValueType};
 use dpl_syntax::Place;
 use dpl_tree::{Arena, Assign, AssignSign, Assignment, Item, Name, Op, ScalarKind, Target};
@@ -233,8 +233,11 @@ fn of_truth<'t>(sign: AssignSign, slot: usize, e: &'t BoolExpr<'t>) -> Result<St
     ensures ill_typed { (result ≡ Err stop.IllTyped) → takes TruthLeaf sign.op ≡ false }
 {
     match sign.op {
-        Assign::Set => Ok(Step::Truth(TruthDeed::Set, slot, e)),
-        Assign::SetReduce => Ok(Step::Truth(TruthDeed::Reduce, slot, e)),
+        Assign::Set => Ok(Step::Truth(TruthTarget::Slot(TruthDeed::Set, slot), e)),
+        Assign::SetReduce => Ok(Step::Truth(
+            TruthTarget::Slot(TruthDeed::Reduce, slot),
+            e,
+        )),
         Assign::SetAdd
         | Assign::SetSubtract
         | Assign::SetMultiply

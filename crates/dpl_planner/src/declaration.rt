@@ -12,6 +12,8 @@ ghost use Rattle.dpl_lowered.specs.Shapes.{nowhere};
 ghost use Rattle.dpl_lowered.specs.LoweredStatements.{unplaced_word};
 ghost use Rattle.dpl_memory.specs.Memory.{VariableKind, DomainKind, variable};
 ghost use Rattle.dpl_nodes.specs.declared.stop.NoNode.TheVariants as stop;
+ghost use Rattle.dpl_nodes.specs.declared.placing.Placing.{Placing as PlacingNode};
+ghost use Rattle.dpl_nodes.specs.declared.placing.Placing.TheVariants as placings;
 ghost use Rattle.dpl_nodes.specs.Steps.{step_view, dimensions};
 ghost use Rattle.dpl_typer.specs.Makers.{kind_of};
 ghost use Rattle.dpl_typer.specs.Leaves.{value_kind};
@@ -20,7 +22,7 @@ ghost use Rattle.dpl_typer.specs.Elaborated.{IsCreated};
 ghost use Rattle.dpl_planner.specs.declared.declaration.Beginning.TheVariants as beginning;
 ghost use Rattle.dpl_planner.specs.Given.{IsOfLeaf};
 ghost use Rattle.dpl_planner.specs.Arrays.{IsNoArrayType};
-ghost use Rattle.dpl_planner.specs.Parts.{IsSingleKind, IsSingleType, IsWrittenType, IsDefault, BeginsByDefault, IsGivenInit, begun_kind, begun_typed, begun_as, IsInitial, PlansDeclare};
+ghost use Rattle.dpl_planner.specs.Parts.{IsSingleKind, IsSingleType, IsWrittenType, IsDefault, BeginsByDefault, IsGivenInit, begun_kind, begun_as, IsPlacedWith, IsInitial, PlansDeclare};
 ghost use Rattle.dpl_runnable.specs.Kinds.{IsScalarKind};
 ghost use Rattle.dpl_runnable.specs.Runnable.{created_type, IsCreatedOf, IsInitOf, IsShapedInit, IsInitialOf, IsShapedInitial, IsConfigOf, IsRunnableDeclare, IsRunnableStmt};
 ghost use Rattle.dpl_planner.specs.Plans.{intents_in, PlansStmt};
@@ -29,7 +31,7 @@ use crate::arrays::{declare_array, declared};
 use crate::change::{holds, is_domain, shaped, taken_type};
 use crate::progress::Plan;
 use dpl_nodes::step::Rank;
-use dpl_nodes::{IntDeed, NoNode, Placing, Step, TruthDeed};
+use dpl_nodes::{Beginning as Begun, IntDeed, NoNode, Placing, Step, TruthDeed, TruthTarget};
 use dpl_placing::root_of;
 use dpl_scopes::{Scopes, ValueType};
 use dpl_syntax::Place;
@@ -56,18 +58,6 @@ pub(crate) enum WrittenKind {
 pub(crate) enum Beginning<'t> {
     Value(Typed<'t>),
     Empty(Rank),
-}
-
-impl<'t> Beginning<'t> {
-    // The value, if it is one.
-    fn value(self) -> Option<Typed<'t>>
-        ensures { result ≡ begun_typed self.entry }
-    {
-        match self {
-            Beginning::Value(value) => Some(value),
-            Beginning::Empty(_) => None,
-        }
-    }
 }
 
 // The rank of a domain type.
@@ -155,7 +145,7 @@ fn created_domain<'t>(
     Ok(value)
 }
 
-// The initial value that is written. Its map isn't looked at.
+// The initial value that is written, without its map.
 fn given<'t>(
     arena: Arena<'t>,
     scopes: &Scopes<'_>,
@@ -211,30 +201,68 @@ fn begins(t: ValueType<'_>, begun: Beginning<'_>) -> bool
     }
 }
 
+// Whether nothing is said of a map.
+fn is_derived(placing: Placing<'_>) -> bool
+    ensures yes { (result ≡ true) → placing.entry ≡ placings.Derived }
+    ensures no { (result ≡ false) → placing.entry ≢ placings.Derived }
+{
+    match placing {
+        Placing::Derived => true,
+        Placing::Root => false,
+        Placing::Mapped(_) => false,
+        Placing::BlockCreated => false,
+        Placing::CyclicCreated => false,
+    }
+}
+
+// Whether what is said of a map may stand beside what a variable begins with: of a domain it may.
+fn may_be_placed(begun: Beginning<'_>, placing: Placing<'_>) -> bool
+    ensures yes { (result ≡ true) → IsPlacedWith begun.entry placing.entry }
+    ensures no { (result ≡ false) → (begun_kind begun.entry ≢ DomainKind) × (placing.entry ≢ placings.Derived) }
+{
+    match begun {
+        Beginning::Value(Typed::Int(_)) => is_derived(placing),
+        Beginning::Value(Typed::Truth(_)) => is_derived(placing),
+        Beginning::Value(Typed::Range(_)) => is_derived(placing),
+        Beginning::Value(Typed::Domain(_)) => true,
+        Beginning::Value(Typed::Tuple(_)) => is_derived(placing),
+        Beginning::Value(Typed::Ints(_)) => is_derived(placing),
+        Beginning::Value(Typed::Truths(_)) => is_derived(placing),
+        Beginning::Empty(_) => true,
+    }
+}
+
 // A variable that begins with a value. A domain has its map beside it.
-fn declares_value<'t>(slot: usize, value: Typed<'t>, placing: Placing) -> Result<Step<'t>, NoNode>
-    ensures node { IfOk result (λ s. step_view s ≡ begun_as None (variable (kind_of value.entry) slot) (beginning.Value value.entry)) }
+fn declares_value<'t>(
+    slot: usize,
+    value: Typed<'t>,
+    placing: Placing<'t>,
+) -> Result<Step<'t>, NoNode>
+    ensures node { IfOk result (λ s. step_view s ≡ begun_as None (variable (kind_of value.entry) slot) (beginning.Value value.entry) placing.entry) }
     ensures kind { IfOk result (λ s. IsSingleKind (kind_of value.entry)) }
     ensures ill_typed { (result ≡ Err stop.IllTyped) → IsSingleKind (kind_of value.entry) → ⊥ }
 {
     match value {
         Typed::Int(e) => Ok(Step::Int(IntDeed::Declare, slot, e)),
-        Typed::Truth(e) => Ok(Step::Truth(TruthDeed::Declare, slot, e)),
+        Typed::Truth(e) => Ok(Step::Truth(TruthTarget::Slot(TruthDeed::Declare, slot), e)),
         Typed::Range(e) => Ok(Step::DeclareRange(slot, e)),
-        Typed::Domain(e) => Ok(Step::DeclareDomain(slot, e, placing)),
+        Typed::Domain(e) => Ok(Step::DeclareDomain(slot, Begun::Value(e), placing)),
         Typed::Tuple(_) | Typed::Ints(_) | Typed::Truths(_) => Err(NoNode::IllTyped),
     }
 }
 
 // A `config const`, which is an int or a truth value.
 fn configures<'t>(slot: usize, begun: Beginning<'t>) -> Result<Step<'t>, NoNode>
-    ensures node { IfOk result (λ s. step_view s ≡ begun_as (Some nowhere) (variable (begun_kind begun.entry) slot) begun.entry) }
+    ensures node { IfOk result (λ s. (p : PlacingNode) → step_view s ≡ begun_as (Some nowhere) (variable (begun_kind begun.entry) slot) begun.entry p) }
     ensures kind { IfOk result (λ s. IsScalarKind (begun_kind begun.entry)) }
     ensures ill_typed { (result ≡ Err stop.IllTyped) → IsScalarKind (begun_kind begun.entry) → ⊥ }
 {
     match begun {
         Beginning::Value(Typed::Int(e)) => Ok(Step::Int(IntDeed::Config, slot, e)),
-        Beginning::Value(Typed::Truth(e)) => Ok(Step::Truth(TruthDeed::Config, slot, e)),
+        Beginning::Value(Typed::Truth(e)) => Ok(Step::Truth(
+            TruthTarget::Slot(TruthDeed::Config, slot),
+            e,
+        )),
         Beginning::Value(
             Typed::Range(_)
             | Typed::Domain(_)
@@ -251,9 +279,9 @@ fn declares<'t>(
     config: Option<Place>,
     slot: usize,
     begun: Beginning<'t>,
-    placing: Placing,
+    placing: Placing<'t>,
 ) -> Result<Step<'t>, NoNode>
-    ensures node { IfOk result (λ s. step_view s ≡ begun_as (unplaced_word config) (variable (begun_kind begun.entry) slot) begun.entry) }
+    ensures node { IfOk result (λ s. step_view s ≡ begun_as (unplaced_word config) (variable (begun_kind begun.entry) slot) begun.entry placing.entry) }
     ensures kind { IfOk result (λ s. IsSingleKind (begun_kind begun.entry) × IsConfigOf config (begun_kind begun.entry)) }
     ensures ill_typed { (result ≡ Err stop.IllTyped) → IsSingleKind (begun_kind begun.entry) → IsConfigOf config (begun_kind begun.entry) → ⊥ }
 {
@@ -261,7 +289,7 @@ fn declares<'t>(
         Some(_) => configures(slot, begun),
         None => match begun {
             Beginning::Value(value) => declares_value(slot, value, placing),
-            Beginning::Empty(rank) => Ok(Step::DeclareEmpty(slot, rank, placing)),
+            Beginning::Empty(rank) => Ok(Step::DeclareDomain(slot, Begun::Empty(rank), placing)),
         },
     }
 }
@@ -290,15 +318,11 @@ fn declare_single<'s, 't>(
     if !begins(value_type, begun) {
         return Err(NoNode::IllTyped);
     }
-    let root = root_of(
-        plan.arena,
-        &plan.scopes,
-        &written.typed,
-        &written.initial,
-        begun.value(),
-    )?;
+    let placing = root_of(plan.arena, &plan.scopes, &written.typed, &written.initial)?;
+    if !may_be_placed(begun, placing) {
+        return Err(NoNode::IllTyped);
+    }
     let slot = plan.declare(declared.origin.name, declared.sort, value_type)?;
-    let placing = plan.place(root)?;
     declares(written.config, slot, begun, placing)
 }
 
@@ -321,7 +345,8 @@ fn array_written<'w, 's>(typed: &'w Option<WrittenType<'s>>) -> Option<&'w Array
 /// A declaration, whose name is in sight behind it.
 ///
 /// # Errors
-/// Out of memory; a name that its scope has, what is no variable of one slot, or a value of another kind or shape.
+/// Out of memory; a name that its scope has, what is no variable of one slot, a value of another kind or shape, or a map that has no
+/// typed form or stands beside what is no domain.
 pub(crate) fn declare<'s, 't>(
     plan: &mut Plan<'s, 't>,
     written: &Declare<'s>,

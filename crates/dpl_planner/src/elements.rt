@@ -29,6 +29,7 @@ use crate::change::declared_type;
 use crate::progress::{Plan, node, spot};
 use dpl_nodes::{
     ArrayName, BoolExpr, IndexExpr, IntExpr, NoNode, PromotedInt, PromotedTruth, Step,
+    TruthTarget,
 };
 use dpl_scopes::{Scopes, ValueType};
 use dpl_syntax::Place;
@@ -310,7 +311,7 @@ fn set_truth<'t>(
     ensures ill_typed { (result ≡ Err stop.IllTyped) → element_takes BoolKind sign.op ≡ true → sign.op ≢ SetReduce → ⊥ }
 {
     match sign.op {
-        Assign::Set => Ok(Step::SetTruthElement(x, index, e)),
+        Assign::Set => Ok(Step::Truth(TruthTarget::Element(x, index), e)),
         Assign::SetAdd
         | Assign::SetSubtract
         | Assign::SetMultiply

@@ -3,8 +3,7 @@
 // The planner keeps the scopes as the check does. A program with its names resolved (`Bound`: a text, and the slot, kind and shape of the
 // innermost declaration) stands between the two trees: by its texts it is the spelled program, by its variables the desugared one that the
 // steps stand for, and it fits (`resolving` of dpl_memory), which is what the simulation of names by a memory asks for.
-// The desugared tree has no maps. A declaration with a map is planned as the same without it (proofs/Mapped.antt), and where the map comes
-// from stands beside the step (`Placing` of dpl_nodes).
+// The map of a domain stands in the step of its declaration (`Placing` of dpl_nodes).
 #![tactic(auto)]
 
 mod arrays;

@@ -21,7 +21,7 @@ ghost use Rattle.dpl_planner.specs.Plans.{intents_in, IsOneScope, PlansTop, Plan
 use crate::declaration::declare;
 use crate::progress::{Plan, list, push};
 use crate::statement::stmt;
-use dpl_nodes::{MapExpr, NoNode, Step};
+use dpl_nodes::{NoNode, Step};
 use dpl_scopes::Scopes;
 use dpl_tree::{Arena, Program, Stmt};
 
@@ -31,8 +31,6 @@ pub struct Planned<'s, 't> {
     pub steps: &'t [Step<'t>],
     /// How many slots a frame needs.
     pub slots: usize,
-    /// The maps that it names, to which steps refer by their numbers.
-    pub maps: Vec<MapExpr<'t>>,
     /// The names at the program's end: its top level.
     pub scopes: Scopes<'s>,
 }
@@ -75,9 +73,9 @@ fn top_stmts<'s, 't>(plan: &mut Plan<'s, 't>, stmts: &[Stmt<'s>]) -> Result<&'t 
 /// declared name has a slot that no name in sight has, and any other that of its innermost declaration.
 ///
 /// # Errors
-/// Out of memory; what doesn't run, as maps, cells, tasks and locales don't; a `config` inside a body, and a
-/// forall inside one with reduce variables; a name that isn't in sight, or is declared twice in one scope; a value of
-/// another kind or another shape than its place takes.
+/// Out of memory; what doesn't run, as cells, tasks and locales don't; a `config` inside a body, and a forall inside one with reduce
+/// variables; a name that isn't in sight, or is declared twice in one scope; a value of another kind or another shape than its place
+/// takes; a map beside what is no domain, or of which an argument is of a type that the rules refuse.
 pub fn plan<'s, 't>(arena: Arena<'t>, program: &Program<'s>) -> Result<Planned<'s, 't>, NoNode>
     ensures text { IfOk result (λ p. renamed_program text_of (bound_program (program_view program.now)) ≡ program_view program.now) }
     ensures steps { IfOk result (λ p. (lowered_program known_variable (renamed_program variable_of (bound_program (program_view program.now)))).stmts ≡ steps_of p.steps.now) }
@@ -92,7 +90,6 @@ pub fn plan<'s, 't>(arena: Arena<'t>, program: &Program<'s>) -> Result<Planned<'
     Ok(Planned {
         steps,
         slots: plan.slots,
-        maps: plan.maps,
         scopes: plan.scopes,
     })
 }

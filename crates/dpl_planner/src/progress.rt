@@ -1,5 +1,5 @@
-// What a plan has so far: the names in sight, how many slots there are, the reduce variables of the forall around, and the maps.
-// A scope is opened and left here, a name is declared here, with the next slot, and a map that is named gets its number.
+// What a plan has so far: the names in sight, how many slots there are, and the reduce variables of the forall around.
+// A scope is opened and left here, and a name is declared here, with the next slot.
 
 ghost use Rattle.std.specs.Prelude.{◌≡◌, ◌≢◌, ◌≤◌, ◌<◌, ◌++◌, ◌∷◌, [], drop, true, false, Err, Some, OnOk, IfOk};
 ghost use Rattle.dpl_rules.specs.Sights.{enter as enter_scopes, add, declared_here, origin_in};
@@ -9,10 +9,8 @@ ghost use Rattle.dpl_scopes.specs.Slots.{next_slot_in};
 ghost use Rattle.dpl_scopes.specs.View.{sort_view};
 ghost use Rattle.dpl_nodes.specs.Spots.{IsNear};
 ghost use Rattle.dpl_nodes.specs.declared.stop.NoNode.TheVariants as stop;
-ghost use Rattle.dpl_planner.specs.Plans.{IsPlacedAs};
 
-use dpl_nodes::{Intent, MapExpr, NoNode, Placing, Spot};
-use dpl_placing::Root;
+use dpl_nodes::{Intent, NoNode, Spot};
 use dpl_scopes::{Scopes, Sort, ValueType};
 use dpl_syntax::Place;
 use dpl_tree::Arena;
@@ -34,8 +32,6 @@ pub(crate) struct Plan<'s, 't> {
     pub slots: usize,
     /// The reduce variables of the forall around, if there is one.
     pub intents: Vec<Reducing<'s>>,
-    /// The maps that are named so far.
-    pub maps: Vec<MapExpr<'t>>,
 }
 
 impl<'s, 't> Plan<'s, 't> {
@@ -51,7 +47,6 @@ impl<'s, 't> Plan<'s, 't> {
                 scopes,
                 slots: 0,
                 intents: Vec::new(arena.alloc()),
-                maps: Vec::new(arena.alloc()),
             }),
             Err(_) => Err(NoNode::Memory),
         }
@@ -106,28 +101,6 @@ impl<'s, 't> Plan<'s, 't> {
                 Ok(slot)
             }
             Err(_) => Err(NoNode::Memory),
-        }
-    }
-
-    /// A root's map, to which a step refers: one that is named is put behind those that were named before, and has its number
-    /// there.
-    ///
-    /// # Errors
-    /// Out of memory.
-    pub(crate) fn place(&mut self, root: Root<'t>) -> Result<Placing, NoNode>
-        ensures placed { IfOk result (λ p. IsPlacedAs self.new.maps.items root.entry p) }
-        ensures scopes { self.new.scopes ≡ self.old.scopes }
-        ensures slots { self.new.slots ≡ self.old.slots }
-        ensures intents { self.new.intents ≡ self.old.intents }
-        ensures ill_typed { result ≢ Err stop.IllTyped }
-    {
-        match root {
-            Root::Placed(placing) => Ok(placing),
-            Root::Named(map) => {
-                let number = self.maps.len();
-                push(&mut self.maps, map)?;
-                Ok(Placing::Mapped(number))
-            }
         }
     }
 }

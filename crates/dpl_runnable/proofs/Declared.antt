@@ -1,13 +1,13 @@
 -- Declarations that a text spells, that need nothing which doesn't run and that break no rule are those of runnable programs: the
 -- type is `int`, `bool`, `domain` or an array's or isn't written, and the value is of the variable's kind and its shape, or one that an
--- array's elements may be given. A map may stand where the rules let it.
+-- array's elements may be given. A map has a typed form, and stands beside a domain.
 use Rattle.std.proofs.Common.{◌≡◌, ℕ, Bool, true, false, List, [], ◌∷◌, ◌++◌, Option, Some, None, refl, sym, ap, ◌∙◌, subst}
 use Rattle.std.specs.Prelude.{not, ◌&&◌, ◌||◌}
 use Rattle.std.proofs.Math.Bool.{or-not_self}
 use Rattle.std.proofs.lemmas.Bool.{eq-eqb}
 use Rattle.dpl_syntax.specs.declared.place.Place.{Place}
 use Rattle.dpl_syntax.specs.declared.refusal.Breach.{Breach}
-use Rattle.dpl_syntax.specs.declared.refusal.Code.TheVariants.{NameTwice, WrongType}
+use Rattle.dpl_syntax.specs.declared.refusal.Code.TheVariants.{NameTwice}
 use Rattle.dpl_language.specs.Tree.{ItemTree, MappedTree, ArrayTypeTree, TypeTree, ScalarType, SyncType, DomainType, ArrayType, CreateTree, InitTree, ItemInit, CreateInit, TypedTree, InitialTree, DeclareTree}
 use Rattle.dpl_language.specs.Names.{Text}
 use Rattle.dpl_language.specs.Declarations.{type_of as written_type}
@@ -16,13 +16,13 @@ use Rattle.dpl_grammar.specs.Each.{IfThere}
 use Rattle.dpl_spelling.specs.Spelt.{TypeSpelt, InitSpelt, TypedSpelt, InitialSpelt, DeclareSpelt}
 use Rattle.dpl_agreement.specs.Untasked.{UntaskedIf, UntaskedType, UntaskedTyped, UntaskedInit, UntaskedInitial, UntaskedDeclare}
 use Rattle.dpl_rules.specs.Types.{Origin, ValueType, Scalar, Domain, Array, is_any_scalar}
-use Rattle.dpl_rules.specs.Verdicts.{type_by, broken_by, breach, owed, owed_type}
+use Rattle.dpl_rules.specs.Verdicts.{type_by, broken_by, owed, owed_type}
 use Rattle.dpl_rules.specs.Places.{first_of_item}
 use Rattle.dpl_rules.specs.Sights.{Scopes, declared_here, origin_in}
 use Rattle.dpl_rules.specs.Operators.{over_verdict}
 use Rattle.dpl_rules.specs.Expressions.{item_type, item_parts, items_breaches, side_part, side_breaches}
 use Rattle.dpl_rules.specs.Maps.{mapped_breaches}
-use Rattle.dpl_rules.specs.Declarations.{domain_in, type_rank, is_initial, is_kept, is_untyped, unless_refused, declared_type, agreeing, unmapped, init_part, create_breaches, type_breaches, untyped_breaches, typed_breaches, typed_initial, config_type, config_by, config_breaches, written_breaches, type_given, declaration_breaches}
+use Rattle.dpl_rules.specs.Declarations.{domain_in, type_rank, is_initial, is_kept, is_untyped, unless_refused, declared_type, agreeing, unmapped, init_part, type_breaches, untyped_breaches, typed_breaches, typed_initial, config_type, config_by, config_breaches, written_breaches, type_given, declaration_breaches}
 use Rattle.dpl_rules.proofs.Admission.{first_empty, second_empty}
 use Rattle.dpl_sound.proofs.Given.{some-same, owed_not-holds}
 use Rattle.dpl_words.specs.Words.{RangeLeaf}
@@ -36,6 +36,7 @@ use Rattle.dpl_runnable.specs.Runnable.{IsRunnableType, IsInitOf, IsInitialOf, I
 use Rattle.dpl_runnable.proofs.Expressions.{kind-cases, RunnableItem, runnable_items}
 use Rattle.dpl_runnable.proofs.Owed.{owed_type-holds, scalar-by, is_any_scalar-kind, is_domain-kind, same-given, is_scalar-given, is_domain_of-given, fits_array-given}
 use Rattle.dpl_runnable.proofs.Arrays.{over-spread, created-kind, over_domain-array, array_type-kind}
+use Rattle.dpl_runnable.proofs.Maps.{untyped-created, written-maps, written-beside}
 use Rattle.dpl_runnable.proofs.Scopes.{is_untyped-kept, side-item, runnable_side, domain_type-rank, declared_by-variable}
 
 -- ---- kinds
@@ -104,10 +105,6 @@ module _ (scopes : Scopes) (names : AreVariables scopes) where
       let is = side-item scopes IsNear names item ∙ value.variable.is in
       record { value = value; fit = owed_type-holds (is_initial t) (side_part scopes item).at (side_part scopes item).type value.variable.type is (second_empty side agrees front) }
 
-  -- and a created domain stands beside none
-  untyped-created : (o : Option ValueType) (m : CreateTree Text) → typed_breaches scopes o (CreateInit m) ≡ [] → ⊥
-  untyped-created o m h = let none : breach m.at WrongType ≡ [] = second_empty (create_breaches scopes m) (breach m.at WrongType) h in cc
-
   -- a value fits a type that it may be given to at first
   typed-init : (t : ValueType) (k : VariableKind) → ((u : ValueType) (j : VariableKind) → value_kind u ≡ Some j → is_initial t u ≡ true → IsGivenTo k j)
       → (init : InitTree Text) → InitSpelt IsNear ⊥ init → UntaskedInit init → typed_breaches scopes (Some t) init ≡ [] → IsInitOf scopes init k
@@ -115,7 +112,7 @@ module _ (scopes : Scopes) (names : AreVariables scopes) where
       let first = typed-first t item mapped s c h in
       let p = first.value.variable in
       (p.kind, record { simple = first.value.simple; kind = ap kind_by p.is ∙ p.of_kind; near = s.0 }, fits p.type p.kind p.of_kind first.fit)
-  typed-init t k fits (CreateInit m) s c h = absurd (untyped-created (Some t) m h)
+  typed-init t k fits (CreateInit m) s c h = absurd (untyped-created scopes (Some t) m h)
 
   type-initial : (t : TypeTree Text) (i : Option (InitialTree Text)) (self : Origin) (k : VariableKind) → IfThere (InitialSpelt IsNear ⊥) i → UntaskedType t → UntaskedIf UntaskedInitial i
       → typed_initial scopes (declared_type scopes self t) i ≡ [] → kind_by (declared_type scopes self t) ≡ Some k → IsInitialOf scopes (Some t) i k
@@ -172,7 +169,7 @@ module _ (scopes : Scopes) (names : AreVariables scopes) where
       let first = typed-first t item mapped s c h in
       let p = first.value.variable in
       (p.type, p.is, fits p.type first.fit)
-  typed-shaped t fits (CreateInit m) s c h = absurd (untyped-created (Some t) m h)
+  typed-shaped t fits (CreateInit m) s c h = absurd (untyped-created scopes (Some t) m h)
 
   type-shaped : (t : TypeTree Text) (i : InitTree Text) (self : Origin) (u : ValueType) → InitSpelt IsNear ⊥ i → UntaskedType t → UntaskedInit i
       → typed_breaches scopes (declared_type scopes self t) i ≡ [] → declared_type scopes self t ≡ Some u → IsShapedInit scopes i u
@@ -237,5 +234,7 @@ module _ (scopes : Scopes) (names : AreVariables scopes) where
         kept = written-kept d.typed d.initial self variable s.0 s.5 typed initial told;
         shaped = λ t e. subst (IsShapedInitial scopes d.initial) (some-same declared.type t (sym declared.is ∙ e)) (written-shaped d.typed d.initial self variable s.5 typed initial told);
         fresh = owed_not-holds (declared_here scopes d.name.name) d.name.at NameTwice (first_empty once written front);
+        maps = written-maps scopes names d.typed d.initial self s.4 s.5 typed initial told;
+        beside = written-beside scopes names d.typed d.initial self variable s.0 s.5 typed initial told;
         config = config-kind d.config d self variable s.0 typed (second_empty (once ++ written) config h);
       }

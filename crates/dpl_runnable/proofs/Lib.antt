@@ -4,6 +4,7 @@ pub mod Scopes
 -- The parts of statements.
 pub mod Owed
 pub mod Arrays
+pub mod Maps
 pub mod Declared
 pub mod Changes
 pub mod Printed

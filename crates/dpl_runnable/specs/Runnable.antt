@@ -1,6 +1,6 @@
 -- Programs that run: what each statement is where these scopes are open, with the kinds of its parts told.
 -- Inside a forall its reduce variables are known, with their slots; `is` has them.
-use Rattle.std.specs.Prelude.{◌≡◌, ◌≢◌, ℕ, nat_le, true, false, ◌&&◌, List, [], ◌∷◌, Option, Some, None}
+use Rattle.std.specs.Prelude.{◌≡◌, ◌≢◌, ◌⊎◌, ℕ, nat_le, true, false, ◌&&◌, List, [], ◌∷◌, Option, Some, None}
 use Rattle.dpl_syntax.specs.declared.place.Place.{Place}
 use Rattle.dpl_language.specs.Tree.{Op, Assign, Set, SetAdd, SetSubtract, SetMultiply, SetDivide, SetRemainder, SetReduce, Placed, Kind, ExprTree, Named, Exprs, ItemTree, TypeTree, ScalarType, SyncType, DomainType, ArrayType, CreateTree, InitTree, ItemInit, CreateInit, InitialTree, DeclareTree}
 use Rattle.dpl_language.specs.Tree.{ArgumentTree, TextArgument, ExprArgument, IntentTree, ReduceIntent, RefIntent, WithTree, VariablesTree, OneVariable, ManyVariables, Whole, Element, StmtTree, Nothing, Declare, Assigned, Call, Write, Block, If, While, For, Forall, Coforall, On, Body, WordBody, BlockBody, Stmts, NoStmts, Then, Else, NoElse, ElseDo}
@@ -28,6 +28,7 @@ use Rattle.dpl_typer.specs.Simple.{IsSimple, IsSimpleItem, AreSimpleItems, AreSi
 use Rattle.dpl_typer.specs.Sights.{bound_in}
 use Rattle.dpl_typer.specs.Makers.{leaf_of}
 use Rattle.dpl_typer.specs.Elaborated.{IsNoIndex}
+use Rattle.dpl_placing.specs.Roots.{HaveMaps}
 use Rattle.dpl_runnable.specs.Kinds.{IsScalarKind, IsDeclaredKind, IsAssignedKind, IsGivenTo}
 
 -- EXPRESSIONS of a kind, whose places a fault's word has room for
@@ -41,8 +42,7 @@ pub record IsItemOf (ss : Scopes) (i : ItemTree Text) (k : VariableKind) : Type 
   pub kind : kind_by (item_type ss i) ≡ Some k
   pub near : ItemSpelt IsNear ⊥ i
 
--- DECLARATIONS: `int`, `bool`, `domain` of a rank, an array, or no type; and a value, a created domain, or the type's default. Of a map
--- nothing is asked, since it is never evaluated.
+-- DECLARATIONS: `int`, `bool`, `domain` of a rank, an array, or no type; and a value, a created domain, or the type's default.
 abbrev pub IsRunnableType : Scopes → Option (TypeTree Text) → Type 0
 IsRunnableType ss None = Unit {0}
 IsRunnableType ss (Some (ScalarType at k)) = Unit {0}
@@ -90,7 +90,21 @@ abbrev pub IsConfigOf : Option Place → VariableKind → Type 0
 IsConfigOf None k = Unit {0}
 IsConfigOf (Some config) k = IsScalarKind k
 
--- the name is new in its scope, and has a value of its type's kind
+-- A map is said of a domain alone: of anything else no domain's type is written, no map and no created domain.
+abbrev pub SaysNoMapInit : InitTree Text → Type 0
+SaysNoMapInit (ItemInit i None) = Unit {0}
+SaysNoMapInit (ItemInit i (Some m)) = ⊥
+SaysNoMapInit (CreateInit c) = ⊥
+
+abbrev pub SaysNoMap : Option (TypeTree Text) → Option (InitialTree Text) → Type 0
+SaysNoMap (Some (DomainType d)) i = ⊥
+SaysNoMap _ None = Unit {0}
+SaysNoMap _ (Some i) = SaysNoMapInit i.init
+
+abbrev pub IsMappedBeside : Option (TypeTree Text) → Option (InitialTree Text) → VariableKind → Type 0
+IsMappedBeside type i k = (k ≡ DomainKind) ⊎ SaysNoMap type i
+
+-- The name is new in its scope, and has a value of its type's kind; and each map has a typed form.
 pub record IsRunnableDeclare (ss : Scopes) (d : DeclareTree Text) : Type 0 where
   pub type : IsRunnableType ss (written_type d.typed)
   pub near : IsNear d.name.at
@@ -100,6 +114,8 @@ pub record IsRunnableDeclare (ss : Scopes) (d : DeclareTree Text) : Type 0 where
   pub kept : IsDeclaredKind kind
   pub shaped : (t : ValueType) → (declared_by ss d).type ≡ Some t → IsShapedInitial ss d.initial t
   pub fresh : declared_here ss d.name.name ≡ false
+  pub maps : HaveMaps ss (written_type d.typed) d.initial
+  pub beside : IsMappedBeside (written_type d.typed) d.initial kind
   pub config : IsConfigOf d.config kind
 
 -- ASSIGNMENTS. A reduce variable has the slot that it had at its forall, and no other name has that slot.
