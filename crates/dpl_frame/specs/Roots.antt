@@ -1,5 +1,5 @@
 -- Roots as a frame keeps them, as the language's; and the map that a root gets by a layout.
-use Rattle.std.specs.Prelude.{◌≡◌, List, map}
+use Rattle.std.specs.Prelude.{List, map}
 use Rattle.dpl_sets.specs.TextDomains.{values_of}
 use Rattle.dpl_map.specs.Maps.{AxisValue, whole_map}
 use Rattle.dpl_layout.specs.declared.named.Named.{Named}
@@ -10,9 +10,7 @@ use Rattle.dpl_language.specs.Distributions.{Distribution, NoMap, BlockOver, Cyc
 use Rattle.dpl_frame.specs.declared.root.Distribution.{Distribution as DistributionNode}
 use Rattle.dpl_frame.specs.declared.root.Distribution.TheVariants as node
 use Rattle.dpl_frame.specs.declared.root.Root.{Root as RootNode}
-use Rattle.dpl_frame.specs.declared.root.Root.TheVariants.{Absent, Of}
-use Rattle.dpl_frame.specs.declared.root.Dealt.{Dealt}
-use Rattle.dpl_frame.specs.declared.root.Dealt.TheVariants as dealt
+use Rattle.dpl_frame.specs.declared.root.Root.TheVariants as root
 
 abbrev pub distribution_view : DistributionNode → Distribution
 distribution_view node.NoMap = NoMap
@@ -21,8 +19,11 @@ distribution_view (node.CyclicFrom start) = CyclicFrom start
 distribution_view (node.BlockCyclicFrom start sizes) = BlockCyclicFrom start sizes
 
 abbrev pub root_view : RootNode → Root
-root_view Absent = no_root
-root_view (Of named rs) = record { named = distribution_view named; domain = rs }
+root_view root.Absent = no_root
+root_view (root.NoMap rs) = record { named = NoMap; domain = rs }
+root_view (root.BlockOver box rs) = record { named = BlockOver box; domain = rs }
+root_view (root.CyclicFrom start rs) = record { named = CyclicFrom start; domain = rs }
+root_view (root.BlockCyclicFrom start sizes rs) = record { named = BlockCyclicFrom start sizes; domain = rs }
 
 -- what a layout is asked for
 abbrev pub named_of : Distribution → Named
@@ -34,14 +35,9 @@ named_of (BlockCyclicFrom start sizes) = BlockCyclic start sizes
 abbrev pub map_of_root : LayoutValue → Root → List AxisValue
 map_of_root l r = root_map l (named_of r.named) (values_of r.domain)
 
--- what a slot keeps: its root, and with it a map; in each slot that is the map of the root
-abbrev pub dealt_root : Dealt → Root
-dealt_root dealt.Absent = no_root
-dealt_root (dealt.Of named rs m) = record { named = distribution_view named; domain = rs }
+-- the map of each of some roots
+abbrev pub map_of : LayoutValue → RootNode → List AxisValue
+map_of l r = map_of_root l (root_view r)
 
-abbrev pub dealt_map : Dealt → List AxisValue
-dealt_map dealt.Absent = whole_map
-dealt_map (dealt.Of named rs m) = m
-
-abbrev pub AreDealt : LayoutValue → List Dealt → Type 0
-AreDealt l ds = map dealt_map ds ≡ map (λ d. map_of_root l (dealt_root d)) ds
+abbrev pub maps_of : LayoutValue → List RootNode → List (List AxisValue)
+maps_of l rs = map (map_of l) rs

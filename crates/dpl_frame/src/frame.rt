@@ -11,7 +11,7 @@ ghost use Rattle.dpl_frame.specs.Roots.{root_view, map_of_root};
 ghost use Rattle.dpl_frame.specs.Frames.{with_memory, with_words, first_frame, owned_by};
 
 use crate::arrays::Arrays;
-use crate::root::{Dealt, Root};
+use crate::root::Root;
 use crate::slots::Slots;
 use dpl_contents::{DomainWord, RangeWord};
 use dpl_domain::Index;
@@ -46,15 +46,16 @@ pub struct Frame<'t, A: Arrays = Slots> {
     budget: u64,
     locales: u32,
     layout: Layout,
-    dealt: Vec<Dealt>,
+    roots: Vec<Root>,
+    owners: Vec<Map>,
 }
 
 impl<'t, A: Arrays> Model for Frame<'t, A> {
-    ghost use Rattle.std.specs.Prelude.{map};
+    ghost use Rattle.std.specs.Prelude.{◌≡◌, map};
     ghost use Rattle.dpl_memory.specs.Memory.{intents_by_slot};
     ghost use Rattle.dpl_contents.specs.Range.{range_word};
     ghost use Rattle.dpl_nodes.specs.Steps.{intent_view};
-    ghost use Rattle.dpl_frame.specs.Roots.{dealt_root, AreDealt};
+    ghost use Rattle.dpl_frame.specs.Roots.{root_view, maps_of};
     ghost use Rattle.dpl_frame.specs.Frames.{Framed};
 
     ghost Value = { Framed };
@@ -65,13 +66,13 @@ impl<'t, A: Arrays> Model for Frame<'t, A> {
         domains = f.domains.items;
         tuples = f.tuples.items;
         arrays = A.held f.arrays;
-        roots = map dealt_root f.dealt.items;
+        roots = map root_view f.roots.items;
       };
       limits = record { budget = f.budget; locales = f.locales };
       layout = f.layout;
     } };
 
-    ghost invariant = { λ f. AreDealt f.layout f.dealt.items };
+    ghost invariant = { λ f. f.owners.items ≡ maps_of f.layout f.roots.items };
 }
 
 impl<'t> Frame<'t, Slots> {
@@ -80,7 +81,7 @@ impl<'t> Frame<'t, Slots> {
     ///
     /// # Errors
     /// Out of memory.
-    #[tactic(auto, using(crate::proofs::Kept::map_replicate, crate::proofs::Dealing::roots_absent, crate::proofs::Dealing::dealt_absent))]
+    #[tactic(auto, using(crate::proofs::Kept::map_replicate, crate::proofs::Dealing::roots_absent, crate::proofs::Dealing::maps_absent))]
     pub fn new(
         alloc: Global,
         slots: usize,
@@ -102,7 +103,8 @@ impl<'t> Frame<'t, Slots> {
             budget,
             locales,
             layout,
-            dealt: vec![in alloc; Dealt::Absent; slots]?,
+            roots: vec![in alloc; Root::Absent; slots]?,
+            owners: vec![in alloc; Map::whole(); slots]?,
         })
     }
 }
@@ -211,8 +213,8 @@ impl<'t, A: Arrays> Frame<'t, A> {
     pub fn root(&self, slot: usize) -> Root
         ensures { root_view result ≡ get_or self.now.memory.roots slot no_root }
     {
-        match self.dealt.get(slot) {
-            Some(dealt) => dealt.root(),
+        match self.roots.get(slot) {
+            Some(root) => *root,
             None => Root::Absent,
         }
     }
@@ -221,8 +223,8 @@ impl<'t, A: Arrays> Frame<'t, A> {
     pub fn owner(&self, slot: usize) -> Map
         ensures { result ≡ owned_by self.now slot }
     {
-        match self.dealt.get(slot) {
-            Some(dealt) => dealt.map(),
+        match self.owners.get(slot) {
+            Some(map) => *map,
             None => Map::whole(),
         }
     }
@@ -238,8 +240,10 @@ impl<'t, A: Arrays> Frame<'t, A> {
     pub fn deal(&mut self, slot: usize, root: Root)
         ensures { self.new ≡ with_memory (with_root slot (root_view root) self.old.memory) self.old }
     {
-        if slot < self.dealt.len() {
-            self.dealt[slot] = root.dealt(&self.layout);
+        let map = self.map_of(&root);
+        if slot < self.roots.len() {
+            self.roots[slot] = root;
+            self.owners[slot] = map;
         }
     }
 

@@ -1,7 +1,7 @@
 // The frame of a run, and what a walk over it hands back.
 // Read `Frame` first: what its slots hold is a memory of the language's meaning, however its arrays are kept (`Arrays`). `Alarm` is a fault in one word.
 // An array has a word for each element, an int or a truth value by the array's kind, which the name's variable knows and no word does. Roots
-// are of the memory; the map that each gets is kept beside it, and is no part of what a frame stands for (`AreDealt`).
+// are of the memory; the map that each gets is kept beside it, and is no part of what a frame stands for (`maps_of`).
 #![tactic(auto)]
 
 pub mod arrays;

@@ -1,7 +1,7 @@
 // Roots, as a frame keeps them: what is named for a domain or an array that has a map of its own, and the domain that it was declared with.
 
 ghost use Rattle.std.specs.Prelude.{◌≡◌};
-ghost use Rattle.dpl_frame.specs.Roots.{distribution_view, root_view, named_of, map_of_root, dealt_root, dealt_map};
+ghost use Rattle.dpl_frame.specs.Roots.{distribution_view, root_view, map_of_root};
 
 use dpl_contents::DomainWord;
 use dpl_domain::Index;
@@ -21,29 +21,32 @@ pub enum Distribution {
     BlockCyclicFrom(Index, Index),
 }
 
-impl Distribution {
-    // The same as a map that a layout is asked for.
-    fn named(&self) -> Named
-        ensures { result ≡ named_of (distribution_view self.now) }
-    {
-        match self {
-            Distribution::NoMap => Named::Whole,
-            Distribution::BlockOver(domain) => Named::Block(domain.domain()),
-            Distribution::CyclicFrom(start) => Named::Cyclic(*start),
-            Distribution::BlockCyclicFrom(start, sizes) => Named::BlockCyclic(*start, *sizes),
-        }
-    }
-}
-
-/// The root of a domain or an array, by what is named for it and the domain that it was declared with. A slot that holds neither has
-/// none.
+/// The root of a domain or an array: what is named for it, as in `Distribution`, and last the domain that it was declared with. A slot that
+/// holds neither has none. (It has no `Distribution` in it: of what a list holds the check is not told the types that are two deep.)
 #[derive(Clone, Copy)]
 pub enum Root {
     Absent,
-    Of(Distribution, DomainWord),
+    NoMap(DomainWord),
+    BlockOver(DomainWord, DomainWord),
+    CyclicFrom(Index, DomainWord),
+    BlockCyclicFrom(Index, Index, DomainWord),
 }
 
 impl Root {
+    /// The root with this domain, for which this is named.
+    pub fn of(named: Distribution, domain: DomainWord) -> Root
+        ensures { root_view result ≡ record { named = distribution_view named; domain = domain } }
+    {
+        match named {
+            Distribution::NoMap => Root::NoMap(domain),
+            Distribution::BlockOver(named) => Root::BlockOver(named, domain),
+            Distribution::CyclicFrom(start) => Root::CyclicFrom(start, domain),
+            Distribution::BlockCyclicFrom(start, sizes) => {
+                Root::BlockCyclicFrom(start, sizes, domain)
+            }
+        }
+    }
+
     // The map that the root gets.
     #[tactic(auto, using(crate::proofs::Dealing::root_gets, crate::proofs::Dealing::none_gets))]
     pub(crate) fn map(&self, layout: &Layout) -> Map
@@ -51,48 +54,16 @@ impl Root {
     {
         match self {
             Root::Absent => Map::whole(),
-            Root::Of(named, domain) => layout.root(&domain.domain(), &named.named()),
-        }
-    }
-
-    // The root with its map.
-    #[tactic(auto, using(crate::proofs::Dealing::none_gets))]
-    pub(crate) fn dealt(&self, layout: &Layout) -> Dealt
-        ensures root { dealt_root result ≡ root_view self.now }
-        ensures map { dealt_map result ≡ map_of_root layout.now (root_view self.now) }
-    {
-        match self {
-            Root::Absent => Dealt::Absent,
-            Root::Of(named, domain) => Dealt::Of(*named, *domain, self.map(layout)),
-        }
-    }
-}
-
-/// The same with the map that it gets by the layout of a frame, which is found at once so.
-#[derive(Clone, Copy)]
-pub(crate) enum Dealt {
-    Absent,
-    Of(Distribution, DomainWord, Map),
-}
-
-impl Dealt {
-    // The root alone.
-    pub(crate) fn root(&self) -> Root
-        ensures { root_view result ≡ dealt_root self.now }
-    {
-        match self {
-            Dealt::Absent => Root::Absent,
-            Dealt::Of(named, domain, _) => Root::Of(*named, *domain),
-        }
-    }
-
-    // The map alone.
-    pub(crate) fn map(&self) -> Map
-        ensures { result ≡ dealt_map self.now }
-    {
-        match self {
-            Dealt::Absent => Map::whole(),
-            Dealt::Of(_, _, map) => *map,
+            Root::NoMap(domain) => layout.root(&domain.domain(), &Named::Whole),
+            Root::BlockOver(named, domain) => {
+                layout.root(&domain.domain(), &Named::Block(named.domain()))
+            }
+            Root::CyclicFrom(start, domain) => {
+                layout.root(&domain.domain(), &Named::Cyclic(*start))
+            }
+            Root::BlockCyclicFrom(start, sizes, domain) => {
+                layout.root(&domain.domain(), &Named::BlockCyclic(*start, *sizes))
+            }
         }
     }
 }
