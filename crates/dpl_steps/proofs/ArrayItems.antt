@@ -9,18 +9,23 @@ use Rattle.dpl_language.specs.Values.{Value, Domain, Index, ranges_in, default, 
 use Rattle.dpl_language.specs.Distributions.{no_root}
 use Rattle.dpl_language.specs.Ranges.{indices_in, size_in, too_large}
 use Rattle.dpl_language.specs.Phrases.{cell_read}
-use Rattle.dpl_language.specs.Outcome.{Deeds, Done, Stop, Run, with_value, unless, then_do}
+use Rattle.dpl_language.specs.Outcome.{Deeds, Done, Stop, Run, Outcome, with_value, unless, then_do}
 use Rattle.dpl_language.specs.Environment.{Limits}
 use Rattle.dpl_language.specs.Expressions.{value_of, domain_of}
-use Rattle.dpl_language.specs.Declarations.{Shell, array_with, filled, declaring, array_of_item, array_of}
+use Rattle.dpl_language.specs.Declarations.{Shell, array_with, filled, gathered, declaring, array_of_item, array_of}
 use Rattle.dpl_language.specs.Statements.{exec}
 use Rattle.dpl_memory.specs.Memory.{whole_held, ArrayKind, Variable, Memory, variable, with_array, with_root, in_memory}
 use Rattle.dpl_nodes.specs.declared.step.ArrayDeclaration.{ArrayDeclaration}
 use Rattle.dpl_nodes.specs.Steps.{placed_leaf, over_items, array_declared}
+use Rattle.dpl_frame.specs.Faults.{fault_view}
+use Rattle.dpl_loop.specs.declared.stop.Stop.{Stop as Halt}
+use Rattle.dpl_loop.specs.declared.stop.Stop.TheVariants as halt
+use Rattle.dpl_loop.specs.Runs.{RunsTo}
 use Rattle.dpl_values.specs.Elements.{within_at}
 use Rattle.dpl_elements.specs.Changes.{for_array_at}
 use Rattle.dpl_elements.proofs.Changing.{evaluated-item}
 use Rattle.dpl_steps.specs.Lineages.{declared_over}
+use Rattle.dpl_steps.specs.Runs.{Gathers}
 use Rattle.dpl_steps.proofs.Rooting.{dealing_array}
 
 -- THE BUDGET
@@ -86,6 +91,21 @@ module _ (limits : Limits) (at : Place) (k : Kind) (slot : ℕ) (a : Shell Varia
     array_of_item-refused arrays f some past =
         sym (ap (λ o. array_of_item limits in_memory name a equals (One e) o s done) some)
         ∙ unless-broken (fault Budget equals) _ s done (nat_lt limits.budget (size_in a.ranges)) f (sym past)
+
+    -- and one that has a fault at one
+    pub array_of_item-gathered : (arrays : List TextRange) (f : Fault) → Some arrays ≡ whole → Ok tt ≡ within_at limits equals a.ranges
+        → gathered (λ t. value_of limits in_memory e (Some t) s) (indices_in a.ranges) ≡ Err f → array_of_item limits in_memory name a equals (One e) whole s done ≡ Stop f done
+    array_of_item-gathered arrays f some within faults =
+        sym (ap (λ o. array_of_item limits in_memory name a equals (One e) o s done) some)
+        ∙ unless-held (fault Budget equals) _ s done (nat_lt limits.budget (size_in a.ranges)) (sym within)
+        ∙ ap (λ r. with_value r (λ vs. declaring limits in_memory name (array_with a vs)) s done) faults
+
+-- AN INITIAL VALUE that halts while it is gathered
+pub gathers-halts : (may more : Type 0) (h : Halt) (rs : List TextRange) (v : Result (List Value) Fault) (s : Memory) (done : Deeds) (o : Outcome Memory)
+    → (may → more) → ((f : Fault) → v ≡ Err f → o ≡ Stop f done) → Gathers may (Err h) rs v → RunsTo more (Err h) s done o
+gathers-halts may more (halt.Fault f) rs v s done o go faults gathers = faults (fault_view f) gathers
+gathers-halts may more halt.Memory rs v s done o go faults gathers = tt
+gathers-halts may more halt.Gate rs v s done o go faults gathers = go gathers
 
 -- THE DOMAIN
 too_large-tested : (at : Place) (rs : List TextRange) (b : Bool) → too_large rs ≡ b → IfOk (if b then Err (fault ArrayTooLarge at) else Ok rs) (λ d. too_large d ≡ false)
