@@ -87,11 +87,11 @@ module _ (ss : Scopes) (Holds : Text → Type 0) where
       ∙ ap (λ b. dotted (stacked_on (Postfixed b first) (posts_leaves ss OtherBase (front_of (Post q rest)))) (Plainly at w)) (front-based p q rest leaf lowered simple.0)
 
 -- ---- AN INDEX AS A START: one expression, or several in a tuple
-commas : MoreExprs Variable → List (AfterComma (ExprTree Variable))
+abbrev commas : MoreExprs Variable → List (AfterComma (ExprTree Variable))
 commas NoExprs = []
 commas (NextExpr comma e more) = record { comma = nowhere; part = e } ∷ commas more
 
-pub start_by : Exprs Variable → StartTree Variable
+abbrev pub start_by : Exprs Variable → StartTree Variable
 start_by (FirstExpr e NoExprs) = StartExpr e
 start_by (FirstExpr e (NextExpr comma f more)) = StartTuple nowhere (record { first = e; others = commas (NextExpr comma f more) }) nowhere
 

@@ -40,19 +40,19 @@ low-post (Brackets from items upto) e at w h = absurd h
 low-post (Rounds from es upto) e at w h = absurd h
 low-post (Dotted dot m) e at w h = by m h
   where
-    by : (m : MethodTree Text) → IsLow e at w (post_low (Dotted dot m) e) → (dot : Place) × (b : Bool) × (Dotted dot m ≡ Dotted dot (Plainly at (bound_word b))) × (w ≡ bound_word b)
-    by (Plainly there Size) h = absurd h
-    by (Plainly there First) h = absurd h
-    by (Plainly there Last) h = absurd h
-    by (Plainly there Low) h = (dot, false, ap (λ at. Dotted dot (Plainly at Low)) h.1, h.2)
-    by (Plainly there High) h = absurd h
-    by (Plainly there LowBound) h = (dot, true, ap (λ at. Dotted dot (Plainly at LowBound)) h.1, h.2)
-    by (Plainly there DomainOf) h = absurd h
-    by (Plainly there Id) h = absurd h
-    by (Dim there from rank_at d upto) h = absurd h
-    by (Contains there from es upto) h = absurd h
-    by (Expand there from x upto) h = absurd h
-    by (CellRead there word from upto) h = absurd h
+    by : (m : MethodTree Text) → IsLow e at w (post_low (Dotted dot m) e) → (there : Place) × (b : Bool) × (Dotted dot m ≡ Dotted there (Plainly at (bound_word b))) × (w ≡ bound_word b)
+    by (Plainly from Size) h = absurd h
+    by (Plainly from First) h = absurd h
+    by (Plainly from Last) h = absurd h
+    by (Plainly from Low) h = (dot, false, ap (λ at. Dotted dot (Plainly at Low)) h.1, h.2)
+    by (Plainly from High) h = absurd h
+    by (Plainly from LowBound) h = (dot, true, ap (λ at. Dotted dot (Plainly at LowBound)) h.1, h.2)
+    by (Plainly from DomainOf) h = absurd h
+    by (Plainly from Id) h = absurd h
+    by (Dim from a rank_at d upto) h = absurd h
+    by (Contains from a es upto) h = absurd h
+    by (Expand from a x upto) h = absurd h
+    by (CellRead from word a upto) h = absurd h
 
 pub low-word : (e : ExprTree Text) (at : Place) (w : Word) (o : Option LowTree) → IsLow e at w o → (b : Bool) × (w ≡ bound_word b)
 low-word e at w None h = absurd h

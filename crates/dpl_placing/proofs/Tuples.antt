@@ -1,5 +1,5 @@
 -- Tuples: their expressions, as arguments.
-use Rattle.std.proofs.Common.{◌≡◌, List, [], ◌∷◌, map, refl, ap}
+use Rattle.std.proofs.Common.{◌≡◌, ◌≢◌, true, false, List, [], ◌∷◌, ◌==◌, length, map, refl, ap}
 use Rattle.dpl_syntax.specs.declared.place.Place.{Place}
 use Rattle.dpl_language.specs.Tree.{AfterComma, Listed, ExprTree, FirstExpr, NextExpr}
 use Rattle.dpl_language.specs.Names.{Text}
@@ -15,6 +15,11 @@ more-nodes (n ∷ ns) = ap (NextExpr n.comma (expr_view n.expr.now)) (more-nodes
 
 pub tuple-nodes : (e : ExprTree Text) (ns : List NextExprNode) → FirstExpr e (more_exprs_of ns) ≡ tuple_exprs (record { first = e; others = map next_expr_view ns })
 tuple-nodes e ns = ap (FirstExpr e) (more-nodes ns)
+
+-- what there is of others is there in their view
+pub several-nodes : (ns : List NextExprNode) → (length ns == 0) ≡ false → map next_expr_view ns ≢ []
+several-nodes [] h = absurd (let f : true ≡ false = h in cc)
+several-nodes (n ∷ ns) h = λ none. absurd cc
 
 module _ (P : Place → Type 0) where
   more-spelt : (xs : List (AfterComma (ExprTree Text))) → Each (PartSpelt P ⊥ (ExprSpelt P ⊥)) xs → MoreExprsSpelt P ⊥ (more_exprs xs)

@@ -28,7 +28,7 @@ block-row = ((near, near, near, tt, (near, ((near, near, tt, near, tt), tt), nea
 
 -- `cyclicDist(startIdx=(2, 2))`
 cyclic-row : HasMap [] (CyclicMap (record { new = at; word = at; from = at; argument = None; start = StartTuple at (record { first = number; others = record { comma = at; part = number } ∷ [] }) at; upto = at }))
-cyclic-row = ((near, near, near, tt, (near, (near, ((near, near), tt)), near), near), (tt, (tt, tt)), refl)
+cyclic-row = ((near, near, near, tt, (near, (near, ((near, near), tt)), near, λ none. absurd cc), near), (tt, (tt, tt)), refl)
 
 -- `blockCycDist(startIdx={2..2}.low, blocksize=2)`
 block_cyclic-row : HasMap [] (BlockCyclicMap (record { new = at; word = at; from = at; start_argument = None; start = StartExpr low; comma = at; size_argument = None; size = StartExpr number; upto = at }))

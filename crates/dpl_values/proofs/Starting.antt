@@ -36,8 +36,8 @@ least-before r i t [] none range least = absurd (Contains-nothing i (subst (λ i
 least-before r i t (j ∷ js) some range least =
     let at : Place = record { line = 0; column = 0 } in
     let told : told_end at (Some (least_of j js)) ≡ told_end at (Some i) =
-        sym (ap (end_of at least_of) some)
-        ∙ end_of-least at r (Some i) range ((λ e. cc, λ e. absurd (Contains-nothing i (subst (λ is. Contains is i) e least.is_member))), least.is_member, least.is_least) in
+    sym (ap (end_of at least_of) some)
+    ∙ end_of-least at r (Some i) range ((λ e. cc, λ e. absurd (Contains-nothing i (subst (λ is. Contains is i) e least.is_member))), least.is_member, least.is_least) in
     ap (λ (k : ℤ). Some (k ∷ t)) (told-same at (least_of j js) i told)
 
 pub least_in-some : (rs : List TextRange) (t : Index) → AreWritten (values_of rs) → IsLeastOf (values_of rs) t → least_in rs ≡ Some t
