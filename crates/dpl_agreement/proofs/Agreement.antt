@@ -3,6 +3,8 @@
 use Rattle.std.proofs.Common.{◌≡◌, List, [], refl, sym, subst, None, nat_lt}
 use Rattle.std.specs.Prelude.{All}
 use Rattle.std.proofs.lemmas.List.Elements.{All-weaker}
+use Rattle.dpl_syntax.specs.declared.place.Place.{Place}
+use Rattle.dpl_sets.specs.TextRanges.{TextRange}
 use Rattle.dpl_language.specs.Tree.{Op, ExprTree, VariablesTree, StmtTree, Nothing, Declare, Assigned, Call, Write, Block, If, While, For, Forall, Coforall, On, Body, WordBody, BlockBody, Stmts, NoStmts, Then, Else, NoElse, ElseDo}
 use Rattle.dpl_language.specs.Values.{Value, Index, number, fault, PastLimit}
 use Rattle.dpl_language.specs.Ranges.{indices_in, size_in, loop_ranges}
@@ -37,13 +39,15 @@ module _ {M N G S1 S2 : Type 0} (limits : Limits) (name : N → M) (scoping : Sc
       (turn_of-alike limits name scoping first second R sim xs over g (after_body scoping b (inside scoping xs g)) a1 a2 f
       (leave-after_body_in scoping sim.lawful b (add_variables scoping xs (scoping.enter g))) p) ts h
 
-  -- a forall's turns, with its intents
-  forall-alike : (g : G) (is : List (N × Op)) (a1 : Run S1) (a2 : Run S2) → scoping.intends is g → RunAlike (R (scoping.intend is g)) (R (scoping.intend is g)) a1 a2
-      → RunAlike (R g) (R g) (λ s done. then_do (a1 (first.intend (renamed_intents name is) s) done) (λ s done. Done (first.intend [] s) done))
-      (λ s done. then_do (a2 (second.intend is s) done) (λ s done. Done (second.intend [] s) done))
-  forall-alike g is a1 a2 f p s1 s2 done r =
-      then_do-alike (R (scoping.intend is g)) (R g) (a1 (first.intend (renamed_intents name is) s1) done) (a2 (second.intend is s2) done) _ _
-      (p (first.intend (renamed_intents name is) s1) (second.intend is s2) done (sim.intends is g s1 s2 r f))
+  -- a forall's turns, with its intents, behind what is noted of it
+  forall-alike : (at : Place) (rs : List TextRange) (g : G) (is : List (N × Op)) (a1 : Run S1) (a2 : Run S2) → scoping.intends is g → RunAlike (R (scoping.intend is g)) (R (scoping.intend is g)) a1 a2
+      → RunAlike (R g) (R g) (λ s done. then_do (a1 (first.intend (renamed_intents name is) s) (first.note at rs s done)) (λ s done. Done (first.intend [] s) done))
+      (λ s done. then_do (a2 (second.intend is s) (second.note at rs s done)) (λ s done. Done (second.intend [] s) done))
+  forall-alike at rs g is a1 a2 f p s1 s2 done r =
+      then_do-alike (R (scoping.intend is g)) (R g) (a1 (first.intend (renamed_intents name is) s1) (first.note at rs s1 done)) (a2 (second.intend is s2) (second.note at rs s2 done)) _ _
+      (subst (λ noted. EndsAlike (R (scoping.intend is g)) (a1 (first.intend (renamed_intents name is) s1) (first.note at rs s1 done)) (a2 (second.intend is s2) noted))
+      (sim.notes at rs done g s1 s2 r)
+      (p (first.intend (renamed_intents name is) s1) (second.intend is s2) (first.note at rs s1 done) (sim.intends is g s1 s2 r f)))
       (λ u1 u2 done q. (second.intend [] u2, sim.ends_forall is g u1 u2 q f, refl))
 
   -- on a locale, and back
@@ -87,12 +91,12 @@ module _ {M N G S1 S2 : Type 0} (limits : Limits) (name : N → M) (scoping : Sc
     exec-alike (Forall at xs word item intents body) g f s1 s2 done r =
         with_value-alike_by (R g) _ _ _ _ s1 s2 done (item_of-renamed limits name scoping first second R sim item None g s1 s2 r f.0)
         (λ v e. subst (λ is. EndsAlike (R g)
-        (then_do (within_budget limits at (loop_ranges limits.locales v) (named_turn (turn_of first (renamed_variables name xs) v (exec_body limits first (renamed_body name body)))) (first.intend is s1) done)
+        (then_do (within_budget limits at (loop_ranges limits.locales v) (named_turn (turn_of first (renamed_variables name xs) v (exec_body limits first (renamed_body name body)))) (first.intend is s1) (first.note at (loop_ranges limits.locales v) s1 done))
         (λ s done. Done (first.intend [] s) done))
-        (then_do (within_budget limits at (loop_ranges limits.locales v) (named_turn (turn_of second xs v (exec_body limits second body))) (second.intend (intents_of intents) s2) done)
+        (then_do (within_budget limits at (loop_ranges limits.locales v) (named_turn (turn_of second xs v (exec_body limits second body))) (second.intend (intents_of intents) s2) (second.note at (loop_ranges limits.locales v) s2 done))
         (λ s done. Done (second.intend [] s) done)))
         (sym (intents_of-renamed name intents))
-        (forall-alike g (intents_of intents) _ _ f.2
+        (forall-alike at (loop_ranges limits.locales v) g (intents_of intents) _ _ f.2
         (within_budget-alike limits at (loop_ranges limits.locales v) (R (scoping.intend (intents_of intents) g)) _ _
         (named_turns-alike (indices_in (loop_ranges limits.locales v)) (R (scoping.intend (intents_of intents) g))
         (turn_of first (renamed_variables name xs) v (exec_body limits first (renamed_body name body))) (turn_of second xs v (exec_body limits second body))

@@ -49,6 +49,7 @@ module _ {N G S : Type 0} (limits : Limits) (scoping : Scoping N G) (env : Envir
     leaves = λ g h s1 s2 t1 t2 before out r. ap env.leave r;
     intends = λ is g s1 s2 r f. ap (λ is. env.intend is s1) (renamed_intents-same is) ∙ ap (env.intend is) r;
     ends_forall = λ is g s1 s2 r f. ap (env.intend []) r;
+    notes = λ at rs done g s1 s2 r. ap (λ s. env.note at rs s done) r;
     has = λ x op g s1 s2 r f w. ap (env.has_arrays x) r;
     redomains = λ x op v g s1 s2 r f w h. ap (env.redomain x (ranges_in v)) r;
     heres = λ g s1 s2 r. ap env.here r;

@@ -260,6 +260,7 @@ module _ (f : Text → Text) (same : (x y : Text) → bytes_eq (f x) (f y) ≡ b
         ∙ ap (λ t. record (respelled_state s) { store = respelled_store (without_innermost s.store); roots = t }) (left_roots-respelled s.roots)) t1 t2 r;
     intends = λ is g s1 s2 r a. ap (by_name.intend (renamed_intents f is)) r;
     ends_forall = λ is g s1 s2 r a. ap (by_name.intend []) r;
+    notes = λ at rs done g s1 s2 r. refl;
     has = λ x op g s1 s2 r a w. ap (by_name.has_arrays (f x)) r ∙ arrays_over-respelled x s2.store;
     redomains = λ x op v g s1 s2 r a w h. then_so (by_name.redomain (f x) (ranges_in v)) (by_name.redomain x (ranges_in v))
         (λ s. ap (λ t. record (respelled_state s) { store = t }) (redomain_in-respelled x (ranges_in v) s.store)) s1 s2 r;

@@ -1,7 +1,7 @@
 -- Variables kept in slots agree with variables kept by names, where each name has the slot of its innermost declaration.
 -- So what a program means is what its tree with slots does: values, arrays, domains, reduce variables, cells and tasks.
 use Rattle.std.proofs.Common.{◌≡◌, ℕ, ℤ, pos, List, [], ◌∷◌, refl, sym, ap, ◌∙◌, subst, Some, None, Option, drop}
-use Rattle.std.specs.Prelude.{◌==◌, if◌then◌else◌}
+use Rattle.std.specs.Prelude.{◌==◌, if◌then◌else◌, get_or}
 use Rattle.std.proofs.lemmas.Slice.Eq.{bytes_eq-Decides}
 use Rattle.dpl_history.specs.declared.cell.CellState.{CellState}
 use Rattle.dpl_history.specs.declared.cell.CellOp.{CellOp}
@@ -17,7 +17,7 @@ use Rattle.dpl_language.specs.Arithmetic.{assigned}
 use Rattle.dpl_language.specs.Ranges.{indices_in}
 use Rattle.dpl_language.specs.Environment.{Content, Plain, ArrayOf, CellOf, Answer, Replied, Unanswered, Environment, Limits}
 use Rattle.dpl_language.specs.Distributions.{no_root}
-use Rattle.dpl_language.specs.Names.{Text, State, Opened, Declared, paired, innermost, look_up, change_in, value_in, update_in, with_element, element_in, put_in, set_cell, with_cells, store_cells, redomain_in, arrays_over, without_innermost, state_in, effect_on, call_in, next_history, cell_number, by_name}
+use Rattle.dpl_language.specs.Names.{Text, State, Opened, Declared, paired, innermost, look_up, change_in, value_in, update_in, with_element, element_in, put_in, set_cell, with_cells, store_cells, redomain_in, arrays_over, without_innermost, state_in, effect_on, call_in, cell_number, by_name}
 use Rattle.dpl_language.specs.Program.{meaning}
 use Rattle.dpl_agreement.specs.Renamed.{renamed_intents, renamed_program}
 use Rattle.dpl_agreement.specs.Scopes.{Form, PlainForm, ArrayForm, CellForm, form_of, Scoping, IsLawful, fits_all, after_all}
@@ -78,13 +78,14 @@ by_slot = record {
   enter = λ s. record s { live = Mark ∷ s.live };
   leave = λ s. record s { live = without_frame s.live };
   intend = λ is s. record s { intents = is };
+  note = λ at rs s done. done;
   has_arrays = λ x s. any_over x.slot s.kept s.live;
   redomain = λ x rs s. record s { kept = redomain_slots x.slot rs s.kept };
   here = λ s. s.here;
   move = λ k s. record s { here = k };
   call = λ x op s. call_at x op s s.replies;
   cells = λ x s. cells_of s.kept s.live;
-  history = λ s. next_history s.histories;
+  history = λ s. get_or s.histories 0 [];
   begin = λ rs s. record s { replies = Some rs };
   settle = λ x h s. record s { kept = with_states (after (cells_of s.kept s.live) h) s.live s.kept; histories = drop 1 s.histories };
 }
@@ -432,6 +433,7 @@ module _ (names : ℕ → Text) where
       replies = r.replies;
       histories = r.histories;
     };
+    notes = λ at rs done g s1 s2 r. refl;
     has = λ x op g s1 s2 r f w.
         ap (arrays_over x.text) r.store ∙ arrays_over-slots names x f.0.1 s2.kept g.frames r.apart r.overs f.0.0 ∙ ap (any_over x.slot s2.kept) (sym r.live);
     redomains = λ x op v g s1 s2 r f w h. redomain_alike x (ranges_in v) g s1 s2 r f.0;
@@ -452,7 +454,7 @@ module _ (names : ℕ → Text) where
     calls = λ x op g s1 s2 r f.
         subst (λ o. AnswersAlike (Stands names g) (call_in x.text op s1 o) (call_at x op s2 s2.replies)) (sym r.replies) (call_alike x op g s1 s2 r f s2.replies);
     cells = λ x g s1 s2 r c. cells_alike x g s1 s2 r;
-    histories = λ x g s1 s2 r c. ap next_history r.histories;
+    histories = λ x g s1 s2 r c. ap (λ (hs : List (List Event)). get_or hs 0 []) r.histories;
     begins = λ x rs g s1 s2 r c. record {
       store = r.store;
       roots = r.roots;

@@ -28,6 +28,7 @@ through f env = record {
   enter = env.enter;
   leave = env.leave;
   intend = λ is s. env.intend (renamed_intents f is) s;
+  note = env.note;
   has_arrays = λ x s. env.has_arrays (f x) s;
   redomain = λ x rs s. env.redomain (f x) rs s;
   here = env.here;
@@ -75,6 +76,7 @@ module _ {M N S : Type 0} (limits : Limits) (f : N → M) (env : Environment M S
     leaves = λ g h s1 s2 t1 t2 before out r. ap env.leave r;
     intends = λ is g s1 s2 r a. ap (env.intend (renamed_intents f is)) r;
     ends_forall = λ is g s1 s2 r a. ap (env.intend (renamed_intents f [])) r;
+    notes = λ at rs done g s1 s2 r. ap (λ s. env.note at rs s done) r;
     has = λ x op g s1 s2 r a w. ap (env.has_arrays (f x)) r;
     redomains = λ x op v g s1 s2 r a w h. ap (env.redomain (f x) (ranges_in v)) r;
     heres = λ g s1 s2 r. ap env.here r;

@@ -351,8 +351,12 @@ module _ {N S : Type 0} (budget l m : ℕ) (env : Environment N S) (P : S → Ty
     exec-same (Forall at xs word item intents body) u =
         with_value-of NotLocales (λ s. item_of one env item None s) (λ s. item_of other env item None s) _ _ (λ s k. item_of-free budget l m env P laws item None s u.0 k)
         (λ v h s1 s2 done r. then_do-alike Kept Kept _ _ _ _
+        (subst (λ noted. EndsAlike Kept
+        (within_budget one at (loop_ranges l v) (named_turn (turn_of env xs v (exec_body one env body))) (env.intend (intents_of intents) s1) (env.note at (loop_ranges l v) s1 done))
+        (within_budget other at (loop_ranges m v) (named_turn (turn_of env xs v (exec_body other env body))) (env.intend (intents_of intents) s2) noted))
+        (ap (λ rs. env.note at rs s1 done) (loop_ranges-same l m v h) ∙ ap (λ s. env.note at (loop_ranges m v) s done) r.1)
         (turns-same at v _ _ h (named_turn-alike Kept _ _ (turn_of-same xs v _ _ (exec_body-same body u.1)))
-        (env.intend (intents_of intents) s1) (env.intend (intents_of intents) s2) done (laws.intends (intents_of intents) s1 r.0, ap (env.intend (intents_of intents)) r.1))
+        (env.intend (intents_of intents) s1) (env.intend (intents_of intents) s2) (env.note at (loop_ranges l v) s1 done) (laws.intends (intents_of intents) s1 r.0, ap (env.intend (intents_of intents)) r.1)))
         (step (env.intend []) (laws.intends [])))
     exec-same (Coforall at xs word item intents body) u = absurd u
     exec-same (On at e body) u = absurd u

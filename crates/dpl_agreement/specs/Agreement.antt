@@ -117,6 +117,8 @@ pub record Simulates {M N G S1 S2 : Type 0} (limits : Limits) (name : N → M) (
       → R (scoping.intend is g) (first.intend (renamed_intents name is) s1) (second.intend is s2)
   pub ends_forall : (is : List (N × Op)) (g : G) (s1 : S1) (s2 : S2) → R (scoping.intend is g) s1 s2 → scoping.intends is g
       → R g (first.intend [] s1) (second.intend [] s2)
+  -- what is noted of a forall that is entered
+  pub notes : (at : Place) (rs : List TextRange) (done : Deeds) (g : G) (s1 : S1) (s2 : S2) → R g s1 s2 → first.note at rs s1 done ≡ second.note at rs s2 done
   -- domains
   pub has : (x : N) (op : Assign) (g : G) (s1 : S1) (s2 : S2) → R g s1 s2 → scoping.assigns x op g → WasDomain second R x g
       → first.has_arrays (name x) s1 ≡ second.has_arrays x s2

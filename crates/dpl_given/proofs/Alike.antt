@@ -9,7 +9,8 @@ use Rattle.dpl_language.specs.Values.{Value, Int, Truth}
 use Rattle.dpl_language.specs.Names.{Text, paired}
 use Rattle.dpl_rules.specs.Types.{ValueType, has}
 use Rattle.dpl_rules.specs.Sights.{Declared, Scopes, lookup, type_declared}
-use Rattle.dpl_rules.specs.Sound.{is_number_text, is_value_of, is_configured, fits_type, fits_declared, name_and_value, is_one_of, set_fits, and_name, sets_fit}
+use Rattle.dpl_rules.specs.Loops.{is_among}
+use Rattle.dpl_rules.specs.Sound.{is_number_text, is_value_of, is_configured, fits_type, fits_declared, name_and_value, set_fits, and_name, sets_fit}
 use Rattle.dpl_scopes.specs.Slots.{slot_in}
 use Rattle.dpl_says.specs.Given.{number_by, value_by, scalar_by, set_by, word_by, words_by}
 use Rattle.dpl_words.specs.Words.{LeafKind, IntLeaf, TruthLeaf, RangeLeaf, is_true, set_at, given_as}
@@ -106,7 +107,7 @@ module _ (ss : Scopes) (x : Text) (k : LeafKind) (slot : ℕ) (is : scalar_by (t
 -- ---- all sets
 fits-word : (ss : Scopes) (earlier : List Text) (p : Option (Text × List ℕ)) → set_fits ss earlier p ≡ true → FitsWord ss p
 fits-word ss earlier None e = absurd cc
-fits-word ss earlier (Some p) e = (both (not (is_one_of p.0 earlier)) (fits_declared (lookup ss p.0) p.1) e).1
+fits-word ss earlier (Some p) e = (both (not (is_among p.0 earlier)) (fits_declared (lookup ss p.0) p.1) e).1
 
 module _ (ss : Scopes) (x : Text) (k : LeafKind) (slot : ℕ) (is : scalar_by (type_declared (lookup ss x)) ≡ kind_as k) (at : slot_in ss x ≡ Some slot) where
   pub given-alike : (earlier : List Text) (sets : List (List ℕ)) → sets_fit ss earlier sets ≡ true → paired x (words_by ss sets) ≡ option_map (given_as k) (set_at slot (words_in ss sets))

@@ -1,6 +1,7 @@
 -- What the meaning asks of whatever keeps a program's variables.
 -- Kept by their names it is the language's meaning (see `Names`); kept otherwise it is what some machine does.
 use Rattle.std.specs.Prelude.{ℕ, ℤ, Bool, Option, List}
+use Rattle.dpl_syntax.specs.declared.place.Place.{Place}
 use Rattle.dpl_history.specs.declared.cell.CellState.{CellState}
 use Rattle.dpl_history.specs.declared.cell.CellOp.{CellOp}
 use Rattle.dpl_history.specs.declared.cell.Reply.{Reply}
@@ -9,6 +10,7 @@ use Rattle.dpl_language.specs.Tree.{Op, Assign, Kind}
 use Rattle.dpl_sets.specs.TextRanges.{TextRange}
 use Rattle.dpl_language.specs.Values.{Value, Index}
 use Rattle.dpl_language.specs.Distributions.{Root}
+use Rattle.dpl_language.specs.Outcome.{Deeds}
 
 -- What a declaration makes: a value; an array; or a cell. Of an array it says over which bare domain name it is
 -- declared, if over one, its kind, its domain, and its elements in domain order: beside the domain the list is the
@@ -45,6 +47,8 @@ pub record Environment (N S : Type 0) : Type 0 where
   pub leave : S → S
   -- the state in which these are the reduce variables, and their operators, of the forall around
   pub intend : List (N × Op) → S → S
+  -- what was done by then, once a forall at this place is entered over this domain: the same, but where a record is kept of it
+  pub note : Place → List TextRange → S → Deeds → Deeds
   -- an array that is declared over this bare domain name is in scope; and the state after the name is assigned
   pub has_arrays : N → S → Bool
   pub redomain : N → List TextRange → S → S

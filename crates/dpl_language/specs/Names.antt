@@ -13,6 +13,7 @@ use Rattle.dpl_sets.specs.TextRanges.{TextRange}
 use Rattle.dpl_language.specs.Values.{Value, Int, Array, Cell, Domain, Index, default}
 use Rattle.dpl_language.specs.Distributions.{Root, no_root}
 use Rattle.dpl_language.specs.Arithmetic.{assigned}
+use Rattle.dpl_language.specs.Outcome.{with_loop}
 use Rattle.dpl_language.specs.Ranges.{indices_in, same_index}
 use Rattle.dpl_language.specs.Environment.{Content, Plain, ArrayOf, CellOf, Answer, Replied, Unanswered, Environment}
 
@@ -197,12 +198,7 @@ call_in x op s None = effect_on x s (effect op (state_in (look_up x s.store)))
 call_in x op s (Some []) = Unanswered (cell_number x s.store)
 call_in x op s (Some (r ∷ rs)) = Replied (cell_number x s.store) r (record s { replies = Some rs })
 
--- the history that the next coforall takes; where none is left, the empty one
-abbrev pub next_history : List (List Event) → List Event
-next_history [] = []
-next_history (h ∷ hs) = h
-
--- the language's own environment
+-- The language's own environment. A coforall takes the next history; where none is left, the empty one.
 abbrev pub by_name : Environment Text State
 by_name = record {
   get = λ x s. value_in (look_up x s.store);
@@ -216,14 +212,22 @@ by_name = record {
   enter = λ s. record s { store = Opened ∷ s.store; roots = Opened ∷ s.roots };
   leave = λ s. record s { store = without_innermost s.store; roots = without_innermost s.roots };
   intend = λ is s. record s { intents = is };
+  note = λ at rs s done. done;
   has_arrays = λ x s. arrays_over x s.store;
   redomain = λ x rs s. record s { store = redomain_in x rs s.store };
   here = λ s. s.here;
   move = λ k s. record s { here = k };
   call = λ x op s. call_in x op s s.replies;
   cells = λ x s. store_cells s.store;
-  history = λ s. next_history s.histories;
+  history = λ s. get_or s.histories 0 [];
   begin = λ rs s. record s { replies = Some rs };
   settle = λ x h s.
       record s { store = with_cells (after (store_cells s.store) h) s.store; histories = drop 1 s.histories };
+}
+
+-- the same, where a record is kept of the foralls that are entered
+abbrev pub recording : Environment Text State
+recording = record by_name {
+  note = λ at rs s done.
+      with_loop (record { at = at; over = rs; value = λ x. by_name.get x s; root = λ x. by_name.root x s }) done;
 }

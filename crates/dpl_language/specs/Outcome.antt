@@ -6,7 +6,9 @@ use Rattle.dpl_history.specs.declared.cell.CellState.{CellState}
 use Rattle.dpl_history.specs.declared.cell.CellOp.{CellOp}
 use Rattle.dpl_history.specs.declared.cell.Reply.{Reply}
 use Rattle.dpl_history.specs.declared.history.Event.{Event}
-use Rattle.dpl_language.specs.Values.{Index, Fault, fault, Budget, InTurn, in_the_turn}
+use Rattle.dpl_sets.specs.TextRanges.{TextRange}
+use Rattle.dpl_language.specs.Values.{Value, Index, Fault, fault, Budget, InTurn, in_the_turn}
+use Rattle.dpl_language.specs.Distributions.{Root}
 
 -- an operation on a cell that was done: the cell's number, the operation and its reply
 pub record Operation : Type 0 where
@@ -31,14 +33,24 @@ pub record Entered : Type 0 where
   pub tasks : List Solo
   pub history : List Event
 
--- all that a run has done so far: what it printed, its operations on cells, and the coforalls that it entered
+-- A forall that was entered: the place of its word, the domain that it runs over, and what each name, as it is spelled,
+-- was then, with its root. One past its budget made no turn.
+pub record LoopRun : Type 0 where
+  pub at : Place
+  pub over : List TextRange
+  pub value : List ℕ → Value
+  pub root : List ℕ → Root
+
+-- All that a run has done so far: what it printed, its operations on cells, the coforalls that it entered, and the foralls
+-- where a record is kept of them.
 pub record Deeds : Type 0 where
   pub text : List ℕ
   pub operations : List Operation
   pub entered : List Entered
+  pub loops : List LoopRun
 
 abbrev pub no_deeds : Deeds
-no_deeds = record { text = []; operations = []; entered = [] }
+no_deeds = record { text = []; operations = []; entered = []; loops = [] }
 
 abbrev pub with_text : List ℕ → Deeds → Deeds
 with_text text done = record done { text = done.text ++ text }
@@ -49,6 +61,9 @@ with_operation c op r done =
 
 abbrev pub with_entered : Entered → Deeds → Deeds
 with_entered e done = record done { entered = done.entered ++ e ∷ [] }
+
+abbrev pub with_loop : LoopRun → Deeds → Deeds
+with_loop l done = record done { loops = done.loops ++ l ∷ [] }
 
 -- A run is done, and leaves a state; or it stops with a fault; or it waits at an operation on a cell, of which the
 -- place of the cell's name, the cell's number and the operation are told. Each tells all that was done by then.

@@ -1,6 +1,6 @@
 -- What is seen of a part of a tree by itself, without a state: bare names, cell reads, reduce intents.
 -- A bare name stands by itself; a name in round brackets is none, but `(A)[1]` is an element of A like `A[1]`.
-use Rattle.std.specs.Prelude.{ℕ, ℤ, pos, negsuc, Option, Some, None, List, [], ◌∷◌, map}
+use Rattle.std.specs.Prelude.{ℕ, ℤ, pos, negsuc, Option, Some, None, option_map, List, [], ◌∷◌, map}
 use Rattle.dpl_syntax.specs.declared.place.Place.{Place}
 use Rattle.dpl_history.specs.declared.cell.CellOp.{CellOp}
 use Rattle.dpl_history.specs.declared.cell.CellOp.TheVariants.{ReadFE, ReadFF, WriteEF, WriteFF, WriteXF}
@@ -80,8 +80,7 @@ item_read (RangeItem low at dots high by) = None
 
 -- the name, without its place
 abbrev pub name_of : {N : Type 0} → Option (Placed N) → Option N
-name_of None = None
-name_of (Some x) = Some x.name
+name_of {N} x = option_map {T = Placed N} {U = N} (λ x. x.name) x
 
 abbrev pub item_over : {N : Type 0} → ItemTree N → Option N
 item_over (One e) = name_of (bare_name e)

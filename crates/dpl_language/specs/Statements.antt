@@ -50,7 +50,7 @@ module _ {N S : Type 0} (limits : Limits) (env : Environment N S) where
         with_value (item_of limits env item None s)
         (λ v s done. then_do
         (within_budget limits at (loop_ranges limits.locales v) (named_turn (turn_of env xs v (exec_body body)))
-        (env.intend (intents_of intents) s) done)
+        (env.intend (intents_of intents) s) (env.note at (loop_ranges limits.locales v) s done))
         (λ s done. Done (env.intend [] s) done)) s done
     -- one task for each turn; more than 64 are F3 at `coforall`, and the coforall isn't entered
     exec (Coforall at xs word item intents body) s done =

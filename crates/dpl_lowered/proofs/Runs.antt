@@ -62,15 +62,15 @@ module _ {N S : Type 0} (limits : Limits) (env : Environment N S) (known : N →
         ap (λ r. with_value r
         (λ v s done. then_do
         (within_budget limits at (loop_ranges limits.locales v) (named_turn (turn_of env (lowered_variables xs) v (exec_body limits env (lowered_body known body))))
-        (env.intend (intents_of (with_intents (intents_of intents))) s) done) (λ s done. Done (env.intend [] s) done)) s done)
+        (env.intend (intents_of (with_intents (intents_of intents))) s) (env.note at (loop_ranges limits.locales v) s done)) (λ s done. Done (env.intend [] s) done)) s done)
         (item_of-lowered limits env known is Once item None s tt)
         ∙ ap (λ ps. with_value (item_of limits env item None s)
         (λ v s done. then_do
-        (within_budget limits at (loop_ranges limits.locales v) (named_turn (turn_of env (lowered_variables xs) v (exec_body limits env (lowered_body known body)))) (env.intend ps s) done)
+        (within_budget limits at (loop_ranges limits.locales v) (named_turn (turn_of env (lowered_variables xs) v (exec_body limits env (lowered_body known body)))) (env.intend ps s) (env.note at (loop_ranges limits.locales v) s done))
         (λ s done. Done (env.intend [] s) done)) s done)
         (intents_of-made (intents_of intents))
         ∙ ap (λ go. with_value (item_of limits env item None s) go s done)
-        (fun_ext (λ v. ap (λ turn. λ s done. then_do (within_budget limits at (loop_ranges limits.locales v) (named_turn turn) (env.intend (intents_of intents) s) done) (λ s done. Done (env.intend [] s) done))
+        (fun_ext (λ v. ap (λ turn. λ s done. then_do (within_budget limits at (loop_ranges limits.locales v) (named_turn turn) (env.intend (intents_of intents) s) (env.note at (loop_ranges limits.locales v) s done)) (λ s done. Done (env.intend [] s) done))
         (turn_of-lowered env xs v _ _ (fun_ext (λ s. fun_ext (λ done. exec_body-lowered body s done))))))
     exec-lowered (Coforall at xs word item intents body) s done =
         ap (λ r. with_value r

@@ -773,6 +773,7 @@ module _ (start : Start) where
       shaped = shaped-intended r.told [] s2 r.shaped;
       whole = r.whole;
     };
+    notes = λ at rs done g s1 s2 r. refl;
     has = λ x op g s1 s2 r f w. has_alike x g s1 s2 r f.0 (was_domain x g w) (arrays-known x.variable.kind x g (was_domain x g w) f.3);
     redomains = λ x op v g s1 s2 r f w h.
         let domain = was_domain x g w in

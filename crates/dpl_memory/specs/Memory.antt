@@ -228,6 +228,7 @@ in_memory = record {
   enter = λ s. s;
   leave = λ s. s;
   intend = λ is s. intended (intents_by_slot is) s;
+  note = λ at rs s done. done;
   has_arrays = λ x s. is_some_array x.along;
   redomain = redomained_in;
   here = λ s. pos 0;

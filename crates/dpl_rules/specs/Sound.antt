@@ -10,7 +10,7 @@ use Rattle.dpl_syntax.specs.declared.refusal.Refusal.{Refusal}
 use Rattle.dpl_syntax.specs.declared.refusal.Code.TheVariants.{BadSet}
 use Rattle.dpl_syntax.specs.declared.refusal.Breach.{Breach}
 use Rattle.dpl_rules.specs.Sights.{Sort, Configured, Declared, Scopes, lookup}
-use Rattle.dpl_rules.specs.Loops.{behind}
+use Rattle.dpl_rules.specs.Loops.{is_among, behind}
 use Rattle.dpl_rules.specs.Breaches.{top, breaches, first_breach}
 
 -- no rule is broken
@@ -52,13 +52,9 @@ abbrev pub behind_all : Scopes → Stmts Text → Scopes
 behind_all ss NoStmts = ss
 behind_all ss (Then t rest) = behind_all (behind ss t) rest
 
-abbrev pub is_one_of : Text → List Text → Bool
-is_one_of x [] = false
-is_one_of x (y ∷ ys) = bytes_eq x y || is_one_of x ys
-
 abbrev pub set_fits : Scopes → List Text → Option (Text × List ℕ) → Bool
 set_fits ss earlier None = false
-set_fits ss earlier (Some p) = not (is_one_of p.0 earlier) && fits_declared (lookup ss p.0) p.1
+set_fits ss earlier (Some p) = not (is_among p.0 earlier) && fits_declared (lookup ss p.0) p.1
 
 -- the name of a set, which none behind it has again
 abbrev pub and_name : Option (Text × List ℕ) → List Text → List Text
