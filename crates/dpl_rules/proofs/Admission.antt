@@ -7,13 +7,9 @@ use Rattle.dpl_syntax.specs.declared.refusal.Code.{Code}
 use Rattle.dpl_syntax.specs.declared.refusal.Code.TheVariants.{WrittenElsewhere, ReadElsewhere, OuterChanged, NotInForall}
 use Rattle.dpl_rules.specs.Verdicts.{owed}
 use Rattle.dpl_rules.specs.Sights.{is_reduced}
-use Rattle.dpl_language.specs.Tree.{VariablesTree, ItemTree, WithTree, Body}
-use Rattle.dpl_language.specs.Names.{Text}
-use Rattle.dpl_rules.specs.Sights.{Scopes}
-use Rattle.dpl_rules.specs.Loops.{ForallWord, in_loop}
-use Rattle.dpl_rules.specs.Doings.{body_deeds}
 use Rattle.dpl_rules.specs.Deeds.{Holding, APrint, AForall, ACoforall, AReduction, AnInnerReduction, ACellCall, AnOn, AHere, ADeclaration, AReduceIntent, Deed, Reads, ReadsAt, Writes, WritesAt, Holds}
-use Rattle.dpl_rules.specs.Bodies.{Turns, turns_of, is_outer, is_outer_array, is_own, is_in, written_arrays, is_scalar_or_domain, goes_on_in, may_change, forall_holds, write_breaches, read_breaches, change_breaches, holding_breaches, each, deed_breaches, forall_breaches}
+use Rattle.dpl_rules.specs.Bodies.{Turns, is_outer, is_outer_array, is_own, is_in, written_arrays, is_scalar_or_domain, goes_on_in, may_change, forall_holds, write_breaches, read_breaches, change_breaches, holding_breaches, each, deed_breaches, forall_breaches}
+use Rattle.dpl_rules.specs.Foralls.{ForallIn, turns_in, deeds_in}
 use Rattle.dpl_rules.specs.Admitted.{MayHold, MayDo, MayDoAll, IsAdmittedBody, IsAdmitted}
 
 -- ---- lists and tests
@@ -191,12 +187,5 @@ unbroken_admitted loop ds e = may_do_all loop (written_arrays loop ds) ds e
 pub admitted_unbroken : (loop : Turns) (ds : List Deed) → IsAdmittedBody loop ds → forall_breaches loop ds ≡ []
 admitted_unbroken loop ds m = none_broken loop (written_arrays loop ds) ds m
 
--- a forall, where these scopes are open
-pub admitted_exactly :
-    (ss : Scopes) (xs : VariablesTree Text) (item : ItemTree Text) (intents : Option (WithTree Text)) (body : Body Text)
-    → IsAdmitted ss xs item intents body
-    ↔ (forall_breaches (turns_of ss xs intents) (body_deeds (in_loop ss ForallWord xs item) body) ≡ [])
-admitted_exactly ss xs item intents body =
-    let loop = turns_of ss xs intents in
-    let ds = body_deeds (in_loop ss ForallWord xs item) body in
-    (admitted_unbroken loop ds, unbroken_admitted loop ds)
+pub admitted_exactly : (f : ForallIn) → IsAdmitted f ↔ (forall_breaches (turns_in f) (deeds_in f) ≡ [])
+admitted_exactly f = (admitted_unbroken (turns_in f) (deeds_in f), unbroken_admitted (turns_in f) (deeds_in f))

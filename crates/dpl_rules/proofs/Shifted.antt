@@ -1,17 +1,15 @@
 -- Shifted reads of sample foralls, behind the house's line.
 -- Of each the array is told, and for each of its coordinates which of the turn's it takes and what it adds.
 use Rattle.std.proofs.Common.{◌≡◌, ℕ, List, [], ◌∷◌, refl, Some, None, true, false}
-use Rattle.std.specs.Prelude.{pos, negsuc, codes}
+use Rattle.std.specs.Prelude.{pos, negsuc, codes, flat_map}
 use Rattle.dpl_language.specs.Tree.{Add, Assigned, BlockBody, Brackets, Chain, Declare, Divide, Element, FirstExpr, FirstItem, For, Grouped, If, ItemInit}
 use Rattle.dpl_language.specs.Tree.{Link, ManyVariables, Minus, Multiply, Named, NextItem, NoElse, NoExprs, NoItems, NoLinks, NoPosts, NoStmts, Number, One}
 use Rattle.dpl_language.specs.Tree.{OneVariable, Post, Postfixed, Prefixed, Remainder, Rounds, Set, SetAdd, Square, Subtract, Then, TruthWord, WordBody}
-use Rattle.dpl_language.specs.Tree.{StmtTree, Nothing, Call, Write, Block, While, Forall, Coforall, On}
+use Rattle.dpl_language.specs.Tree.{StmtTree, Forall}
 use Rattle.dpl_language.proofs.Spelled.{at, name, after, declared, initial, listed, sign}
 use Rattle.dpl_rules.specs.Types.{Origin}
 use Rattle.dpl_rules.specs.Sights.{Scopes}
-use Rattle.dpl_rules.specs.Loops.{ForallWord, in_loop}
-use Rattle.dpl_rules.specs.Doings.{body_deeds}
-use Rattle.dpl_rules.specs.Bodies.{turns_of}
+use Rattle.dpl_rules.specs.Foralls.{turns_in, deeds_in, foralls}
 use Rattle.dpl_rules.specs.Breaches.{top}
 use Rattle.dpl_rules.specs.Sound.{behind_all}
 use Rattle.dpl_rules.specs.Shifts.{Shift, shift, shifted_reads}
@@ -26,19 +24,7 @@ house = behind_all top (behind_house NoStmts)
 
 -- the shifted reads of a forall
 abbrev shifts_of : StmtTree (List ℕ) → List (Origin × List Shift)
-shifts_of (Nothing at) = []
-shifts_of (Declare d) = []
-shifts_of (Assigned target sign item semicolon) = []
-shifts_of (Call x dot call semicolon) = []
-shifts_of (Write w) = []
-shifts_of (Block from ts upto) = []
-shifts_of (If at e first second) = []
-shifts_of (While at e body) = []
-shifts_of (For at xs word item body) = []
-shifts_of (Forall at xs word item intents body) =
-    shifted_reads (turns_of house xs intents) (body_deeds (in_loop house ForallWord xs item) body)
-shifts_of (Coforall at xs word item intents body) = []
-shifts_of (On at e body) = []
+shifts_of t = flat_map (λ f. shifted_reads (turns_in f) (deeds_in f)) (foralls house t)
 
 -- forall i in D do C[i] = A[i-1] + A[i+1] + A[i];
 neighbours : shifts_of

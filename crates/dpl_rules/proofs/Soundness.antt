@@ -9,13 +9,19 @@ use Rattle.dpl_rules.specs.Assignments.{condition_breaches, on_breaches}
 use Rattle.dpl_rules.specs.Loops.{ForWord, ForallWord, CoforallWord, header_breaches, with_breaches, in_loop, behind}
 use Rattle.dpl_rules.specs.Doings.{with_deeds, body_deeds, stmts_deeds}
 use Rattle.dpl_rules.specs.Bodies.{turns_of, forall_breaches, task_breaches, inner_reductions}
-use Rattle.dpl_rules.specs.Admitted.{AreAdmitted, BodyAdmitted, AllAdmitted, ElseAdmitted}
+use Rattle.dpl_rules.specs.Foralls.{ForallIn, foralls, body_foralls, all_foralls, else_foralls}
+use Rattle.dpl_rules.specs.Admitted.{AreAdmitted}
 use Rattle.dpl_rules.specs.Breaches.{in_forall, in_coforall, stmt_breaches, body_breaches, stmts_breaches, else_breaches, top, top_sight, all_declarations, count_breaches, breaches, before, least_from, first_breach}
 use Rattle.dpl_rules.specs.Sound.{IsSound}
 use Rattle.dpl_rules.proofs.Admission.{first_empty, second_empty, unbroken_admitted}
 
+-- foralls, and others behind them
+both_admitted : (fs gs : List ForallIn) → AreAdmitted fs → AreAdmitted gs → AreAdmitted (fs ++ gs)
+both_admitted [] gs p q = q
+both_admitted (f ∷ fs) gs p q = (p.0, both_admitted fs gs p.1 q)
+
 mutual
-  stmt_admitted : (sight : Sight) (t : StmtTree Text) → stmt_breaches sight t ≡ [] → AreAdmitted sight.scopes t
+  stmt_admitted : (sight : Sight) (t : StmtTree Text) → stmt_breaches sight t ≡ [] → AreAdmitted (foralls sight.scopes t)
   stmt_admitted sight (Nothing at) e = tt
   stmt_admitted sight (Declare d) e = tt
   stmt_admitted sight (Assigned target sign item semicolon) e = tt
@@ -25,10 +31,10 @@ mutual
   stmt_admitted sight (If at c first second) e =
       let within = inside sight (enter sight.scopes) in
       let condition = condition_breaches sight c in
-      let both = condition ++ body_breaches within first in (
-        body_admitted within first (second_empty condition (body_breaches within first) (first_empty both (else_breaches within second) e)),
-        else_admitted within second (second_empty both (else_breaches within second) e),
-      )
+      let both = condition ++ body_breaches within first in
+      both_admitted (body_foralls within.scopes first) (else_foralls within.scopes second)
+      (body_admitted within first (second_empty condition (body_breaches within first) (first_empty both (else_breaches within second) e)))
+      (else_admitted within second (second_empty both (else_breaches within second) e))
   stmt_admitted sight (While at c body) e =
       let within = inside sight (enter sight.scopes) in
       body_admitted within body (second_empty (condition_breaches sight c) (body_breaches within body) e)
@@ -54,24 +60,24 @@ mutual
       let within = inside sight (enter sight.scopes) in
       body_admitted within body (second_empty (on_breaches sight c) (body_breaches within body) e)
 
-  body_admitted : (sight : Sight) (body : Body Text) → body_breaches sight body ≡ [] → BodyAdmitted sight.scopes body
+  body_admitted : (sight : Sight) (body : Body Text) → body_breaches sight body ≡ [] → AreAdmitted (body_foralls sight.scopes body)
   body_admitted sight (WordBody at t) e = stmt_admitted sight t e
   body_admitted sight (BlockBody from ts upto) e = stmts_admitted sight ts e
 
-  stmts_admitted : (sight : Sight) (ts : Stmts Text) → stmts_breaches sight ts ≡ [] → AllAdmitted sight.scopes ts
+  stmts_admitted : (sight : Sight) (ts : Stmts Text) → stmts_breaches sight ts ≡ [] → AreAdmitted (all_foralls sight.scopes ts)
   stmts_admitted sight NoStmts e = tt
   stmts_admitted sight (Then t rest) e =
-      let within = inside sight (behind sight.scopes t) in (
-        stmt_admitted sight t (first_empty (stmt_breaches sight t) (stmts_breaches within rest) e),
-        stmts_admitted within rest (second_empty (stmt_breaches sight t) (stmts_breaches within rest) e),
-      )
+      let within = inside sight (behind sight.scopes t) in
+      both_admitted (foralls sight.scopes t) (all_foralls within.scopes rest)
+      (stmt_admitted sight t (first_empty (stmt_breaches sight t) (stmts_breaches within rest) e))
+      (stmts_admitted within rest (second_empty (stmt_breaches sight t) (stmts_breaches within rest) e))
 
-  else_admitted : (sight : Sight) (second : Else Text) → else_breaches sight second ≡ [] → ElseAdmitted sight.scopes second
+  else_admitted : (sight : Sight) (second : Else Text) → else_breaches sight second ≡ [] → AreAdmitted (else_foralls sight.scopes second)
   else_admitted sight NoElse e = tt
   else_admitted sight (ElseDo at t) e = stmt_admitted sight t e
 
 -- a sound program's foralls are admitted
-pub sound_admitted : (t : ProgramTree Text) → IsSound t → AllAdmitted top t.stmts
+pub sound_admitted : (t : ProgramTree Text) → IsSound t → AreAdmitted (all_foralls top t.stmts)
 sound_admitted t e =
     let within = stmts_breaches top_sight t.stmts in
     let reductions = inner_reductions (stmts_deeds top t.stmts) in

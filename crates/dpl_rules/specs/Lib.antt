@@ -9,10 +9,11 @@ pub mod Maps
 pub mod Declarations
 pub mod Assignments
 pub mod Loops
--- What loops may do: what a body does, the rules on it, what is admitted, and which reads are shifted.
+-- What loops may do: what a body does, the rules on it, where foralls stand, what is admitted, and which reads are shifted.
 pub mod Deeds
 pub mod Doings
 pub mod Bodies
+pub mod Foralls
 pub mod Admitted
 pub mod AnyOrder
 pub mod Shifts

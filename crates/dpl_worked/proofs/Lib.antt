@@ -22,3 +22,5 @@ pub mod Budgets
 pub mod Orders
 -- Rows: by which roots texts deal out their domains and arrays.
 pub mod Roots
+-- Rows: how many elements texts read that other locales own.
+pub mod Exchange

@@ -1,0 +1,198 @@
+-- How many elements texts read that other locales own. Each row is computed from the text's bytes on.
+-- The budget of the rows is 100 turns.
+use Rattle.std.proofs.Common.{◌≡◌, ℕ, List, [], ◌∷◌, Option, Some, None, Ok, Err, refl}
+use Rattle.std.specs.Prelude.{codes}
+use Rattle.std.specs.Int.{int_wrap}
+use Rattle.dpl_sets.specs.Members.{members}
+use Rattle.dpl_sets.specs.Indices.{indices}
+use Rattle.dpl_syntax.specs.declared.token.Token.{Token}
+use Rattle.dpl_syntax.specs.declared.refusal.Refusal.{Refusal}
+use Rattle.dpl_grammar.specs.Reader.{Read}
+use Rattle.dpl_map.specs.Maps.{owner}
+use Rattle.dpl_map.specs.Parts.{part}
+use Rattle.dpl_layout.specs.Layouts.{LayoutValue, single_layout}
+use Rattle.dpl_layout.specs.declared.maps.Maps.TheVariants.{AsIs, Cyclic}
+use Rattle.dpl_language.specs.Environment.{Limits}
+use Rattle.dpl_spelling.specs.Grammar.{Program}
+use Rattle.dpl_spelling.proofs.Programs.{read}
+use Rattle.dpl_rules.specs.Sound.{refusal}
+use Rattle.dpl_exchange.specs.Counts.{remote_count, recorded}
+use Rattle.dpl_worked.proofs.Lexer.{tokens_of}
+use Rattle.dpl_worked.proofs.Texts.{by_text}
+
+-- ---- the count of a text's run, by a layout; none of a text that is refused
+abbrev hundred : Limits
+hundred = record { budget = 100; locales = 4 }
+
+module _ (layout : LayoutValue) where
+  abbrev of_sound : Option Refusal → Program → Option ℕ
+  of_sound None t = Some (remote_count layout hundred t (recorded t [] hundred []))
+  of_sound (Some r) t = None
+
+  abbrev of_tree : Program → List Token → Option ℕ
+  of_tree t [] = of_sound (refusal t []) t
+  of_tree t (k ∷ ks) = None
+
+  abbrev of_read : Read Program → Option ℕ
+  of_read (Ok p) = of_tree p.0 p.1
+  of_read (Err e) = None
+
+  abbrev of_tokens : Option (List Token) → Option ℕ
+  of_tokens None = None
+  of_tokens (Some ks) = of_read (read 64 ks)
+
+abbrev remote_by : LayoutValue → List ℕ → Option ℕ
+remote_by layout text = of_tokens layout (tokens_of text)
+
+-- ---- layouts: 4 locales in a line, and 2x2; with `--maps cyclic`; 3 locales
+abbrev four : LayoutValue
+four = record { line = 4 ∷ []; plane = 4 ∷ 1 ∷ []; space = 4 ∷ 1 ∷ 1 ∷ []; maps = AsIs }
+
+abbrev square : LayoutValue
+square = record { line = 4 ∷ []; plane = 2 ∷ 2 ∷ []; space = 4 ∷ 1 ∷ 1 ∷ []; maps = AsIs }
+
+abbrev going_round : LayoutValue
+going_round = record { line = 4 ∷ []; plane = 4 ∷ 1 ∷ []; space = 4 ∷ 1 ∷ 1 ∷ []; maps = Cyclic }
+
+abbrev three : LayoutValue
+three = record { line = 3 ∷ []; plane = 3 ∷ 1 ∷ []; space = 3 ∷ 1 ∷ 1 ∷ []; maps = AsIs }
+
+-- ---- stencils
+-- 4, 7, 7 and 12 on the locales 0 to 3 of a grid 2x2
+stencil_on_a_torus : remote_by square (codes "const S = {0..4, 0..4}; const D: domain(2) dmapped new cyclicDist(startIdx=S.low) = S; var A: [D] int; var B: [D] int; forall (i,j) in D do A[i,j] = 10*i + j; forall (i,j) in D[1..3, 1..3] do B[i,j] = A[i-1,j] + A[i+1,j] + A[i,j-1] + A[i,j+1];") ≡ Some 30
+unfolding by_text int_wrap members indices owner part
+stencil_on_a_torus = refl
+
+stencil_on_one_locale : remote_by single_layout (codes "const S = {0..4, 0..4}; const D: domain(2) dmapped new cyclicDist(startIdx=S.low) = S; var A: [D] int; var B: [D] int; forall (i,j) in D do A[i,j] = 10*i + j; forall (i,j) in D[1..3, 1..3] do B[i,j] = A[i-1,j] + A[i+1,j] + A[i,j-1] + A[i,j+1];") ≡ Some 0
+unfolding by_text int_wrap members indices owner part
+stencil_on_one_locale = refl
+
+-- an element that is read twice counts once
+neighbours_by_blocks : remote_by four (codes "const D = {1..8} dmapped new blockDist(boundingBox={1..8}); var A: [D] int; var B: [D] int; forall i in D[2..7] do B[i] = A[i-1] + A[i+1] + A[i-1];") ≡ Some 6
+unfolding by_text int_wrap members indices owner part
+neighbours_by_blocks = refl
+
+neighbours_going_round : remote_by going_round (codes "const D = {1..8} dmapped new blockDist(boundingBox={1..8}); var A: [D] int; var B: [D] int; forall i in D[2..7] do B[i] = A[i-1] + A[i+1] + A[i-1];") ≡ Some 12
+unfolding by_text int_wrap members indices owner part
+neighbours_going_round = refl
+
+neighbours_on_three : remote_by three (codes "const D = {1..8} dmapped new blockDist(boundingBox={1..8}); var A: [D] int; var B: [D] int; forall i in D[2..7] do B[i] = A[i-1] + A[i+1] + A[i-1];") ≡ Some 4
+unfolding by_text int_wrap members indices owner part
+neighbours_on_three = refl
+
+-- `A[9-i]` isn't the own index moved by a number
+mirror : remote_by four (codes "const D = {1..8} dmapped new blockDist(boundingBox={1..8}); var A: [D] int; var B: [D] int; forall i in D[2..7] do B[i] = A[9-i];") ≡ Some 0
+unfolding by_text int_wrap members indices owner part
+mirror = refl
+
+-- ---- what is read, and by whom
+one_side : remote_by four (codes "const D = {1..8} dmapped new blockDist(boundingBox={1..8}); var A: [D] int; var B: [D] int; forall i in D[2..7] do B[i] = A[i-1];") ≡ Some 3
+unfolding by_text int_wrap members indices owner part
+one_side = refl
+
+two_arrays : remote_by four (codes "const D = {1..8} dmapped new blockDist({1..8}); var A: [D] int; var B: [D] int; var C: [D] int; forall i in D[2..7] do B[i] = A[i-1] + C[i+1];") ≡ Some 6
+unfolding by_text int_wrap members indices owner part
+two_arrays = refl
+
+-- at the own index, of an array that is dealt out otherwise
+own_index_by_another_map : remote_by four (codes "const D = {1..4} dmapped new blockDist({1..4}); const E = {1..4} dmapped new cyclicDist(2); var A: [E] int; var B: [D] int; forall i in D do B[i] = A[i];") ≡ Some 4
+unfolding by_text int_wrap members indices owner part
+own_index_by_another_map = refl
+
+tuple_name : remote_by square (codes "const D = {1..2, 1..2} dmapped new blockDist({1..2, 1..2}); const E = {1..2, 1..2} dmapped new cyclicDist((2, 2)); var A: [E] int; var B: [D] int; forall t in D do B[t] = A[t];") ≡ Some 4
+unfolding by_text int_wrap members indices owner part
+tuple_name = refl
+
+-- each locale reads two elements of A, in four turns, and owns one of them
+read_by_two_turns_of_a_locale : remote_by square (codes "const P = {1..4, 1..2} dmapped new blockDist({1..4, 1..2}); const D = {1..4} dmapped new blockDist({1..4}); var A: [D] int; var B: [P] int; forall (i,j) in P do B[i,j] = A[i];") ≡ Some 4
+unfolding by_text int_wrap members indices owner part
+read_by_two_turns_of_a_locale = refl
+
+-- the element 0 isn't there; the fault in turn 1 changes nothing of the count
+outside_the_array : remote_by four (codes "const D = {1..8} dmapped new blockDist(boundingBox={1..8}); var A: [D] int; var B: [D] int; forall i in D do B[i] = A[i-1];") ≡ Some 3
+unfolding by_text int_wrap members indices owner part
+outside_the_array = refl
+
+-- a read that no turn reaches counts
+never_reached : remote_by four (codes "const D = {1..8} dmapped new blockDist(boundingBox={1..8}); var A: [D] int; var B: [D] int; forall i in D[2..7] do if false then B[i] = A[i-1];") ≡ Some 3
+unfolding by_text int_wrap members indices owner part
+never_reached = refl
+
+in_a_condition : remote_by four (codes "const D = {1..8} dmapped new blockDist(boundingBox={1..8}); var A: [D] int; var B: [D] int; forall i in D[2..7] do if A[i-1] > 0 then B[i] = 1;") ≡ Some 3
+unfolding by_text int_wrap members indices owner part
+in_a_condition = refl
+
+-- an array that is written is read at the own index alone
+written_array : remote_by four (codes "const D = {1..8} dmapped new blockDist(boundingBox={1..8}); var A: [D] int; var B: [D] int; forall i in D do A[i] += A[i];") ≡ Some 0
+unfolding by_text int_wrap members indices owner part
+written_array = refl
+
+-- ---- who makes a turn
+-- where nothing is written, the owner by the map of the loop's domain
+by_the_loops_domain : remote_by four (codes "const D = {1..8} dmapped new blockDist({1..8}); var A: [D] int; var s: int; forall i in D[2..7] with (+ reduce s) do s += A[i-1];") ≡ Some 3
+unfolding by_text int_wrap members indices owner part
+by_the_loops_domain = refl
+
+by_a_derived_domain : remote_by four (codes "const D = {1..8} dmapped new blockDist({1..8}); const E = D[2..7]; var A: [D] int; var s: int; forall i in E with (+ reduce s) do s += A[i-1];") ≡ Some 3
+unfolding by_text int_wrap members indices owner part
+by_a_derived_domain = refl
+
+-- over a range locale 0 makes all turns, and reads 3, 4, 5 and 6 of others
+by_locale_0 : remote_by four (codes "const D = {1..8} dmapped new blockDist({1..8}); var A: [D] int; var s: int; forall i in 2..7 with (+ reduce s) do s += A[i-1];") ≡ Some 4
+unfolding by_text int_wrap members indices owner part
+by_locale_0 = refl
+
+by_a_literal : remote_by four (codes "const D = {1..8} dmapped new blockDist({1..8}); var A: [D] int; var s: int; forall i in {2..7} with (+ reduce s) do s += A[i-1];") ≡ Some 4
+unfolding by_text int_wrap members indices owner part
+by_a_literal = refl
+
+-- by the map of the array that the text writes first
+by_the_first_written : remote_by four (codes "const D = {1..8} dmapped new blockDist({1..8}); const E = {1..8} dmapped new cyclicDist(1); var A: [D] int; var B: [D] int; var C: [E] int; forall i in D[2..7] { C[i] = A[i-1]; B[i] = 1; }") ≡ Some 5
+unfolding by_text int_wrap members indices owner part
+by_the_first_written = refl
+
+by_the_first_written_of_two : remote_by four (codes "const D = {1..8} dmapped new blockDist({1..8}); const E = {1..8} dmapped new cyclicDist(1); var A: [D] int; var B: [D] int; var C: [E] int; forall i in D[2..7] { B[i] = A[i-1]; C[i] = 1; }") ≡ Some 3
+unfolding by_text int_wrap members indices owner part
+by_the_first_written_of_two = refl
+
+by_the_first_written_though_not_reached : remote_by four (codes "const D = {1..8} dmapped new blockDist({1..8}); const E = {1..8} dmapped new cyclicDist(1); var A: [D] int; var B: [D] int; var C: [E] int; forall i in D[2..7] { if false then C[i] = 1; B[i] = A[i-1]; }") ≡ Some 5
+unfolding by_text int_wrap members indices owner part
+by_the_first_written_though_not_reached = refl
+
+-- ---- as things stood where the forall was entered
+-- A has the elements 3 to 6 then, by the map of the domain that D was declared with
+assigned_domain : remote_by four (codes "var D: domain(1) dmapped new blockDist({1..8}) = {1..8}; var A: [D] int; var B: [D] int; D = {3..6}; forall i in D[4..6] do B[i] = A[i-1];") ≡ Some 1
+unfolding by_text int_wrap members indices owner part
+assigned_domain = refl
+
+-- an outer A is another array
+hidden_array : remote_by four (codes "const D = {1..8} dmapped new blockDist({1..8}); var A: [D] int; { const E = {1..4} dmapped new cyclicDist(1); var A: [E] int; var B: [E] int; forall i in E[2..4] do B[i] = A[i-1]; }") ≡ Some 3
+unfolding by_text int_wrap members indices owner part
+hidden_array = refl
+
+-- ---- which foralls count, and how often
+twice_in_a_for : remote_by four (codes "const D = {1..8} dmapped new blockDist(boundingBox={1..8}); var A: [D] int; var B: [D] int; for k in 1..2 do forall i in D[2..7] do B[i] = A[i-1];") ≡ Some 6
+unfolding by_text int_wrap members indices owner part
+twice_in_a_for = refl
+
+not_entered : remote_by four (codes "const D = {1..8} dmapped new blockDist(boundingBox={1..8}); var A: [D] int; var B: [D] int; if false then forall i in D[2..7] do B[i] = A[i-1];") ≡ Some 0
+unfolding by_text int_wrap members indices owner part
+not_entered = refl
+
+-- the second one has more turns than the budget, so the run ends with F5 and it counts nothing
+past_the_budget : remote_by four (codes "const D = {1..8} dmapped new blockDist(boundingBox={1..8}); var A: [D] int; var B: [D] int; forall i in D[2..7] do B[i] = A[i-1]; forall i in 1..200 do B[i] = A[i+1];") ≡ Some 3
+unfolding by_text int_wrap members indices owner part
+past_the_budget = refl
+
+-- the forall of turn 4's fault counts whole, and none behind it
+behind_a_fault : remote_by four (codes "const D = {1..8} dmapped new blockDist(boundingBox={1..8}); var A: [D] int; var B: [D] int; forall i in D[2..7] do B[i] = A[i-1] / (i - 4); forall i in D[2..7] do B[i] = A[i+1];") ≡ Some 3
+unfolding by_text int_wrap members indices owner part
+behind_a_fault = refl
+
+whole_arrays_and_reductions : remote_by four (codes "const D = {1..8} dmapped new blockDist(boundingBox={1..8}); var A: [D] int; var B: [D] int; B = A + 1; const s = + reduce (A + B); B = B;") ≡ Some 0
+unfolding by_text int_wrap members indices owner part
+whole_arrays_and_reductions = refl
+
+several_foralls : remote_by four (codes "const D = {1..8} dmapped new blockDist(boundingBox={1..8}); var A: [D] int; var B: [D] int; forall i in D[2..7] do B[i] = A[i-1]; forall i in D[1..7] do A[i] = B[i+1];") ≡ Some 6
+unfolding by_text int_wrap members indices owner part
+several_foralls = refl
