@@ -1,17 +1,18 @@
 -- How many elements texts read that other locales own. Each row is computed from the text's bytes on.
 -- The budget of the rows is 100 turns.
 use Rattle.std.proofs.Common.{◌≡◌, ℕ, List, [], ◌∷◌, Option, Some, None, Ok, Err, refl}
-use Rattle.std.specs.Prelude.{codes}
+use Rattle.std.specs.Prelude.{codes, ⊤}
 use Rattle.std.specs.Int.{int_wrap}
 use Rattle.dpl_sets.specs.Members.{members}
 use Rattle.dpl_sets.specs.Indices.{indices}
 use Rattle.dpl_syntax.specs.declared.token.Token.{Token}
 use Rattle.dpl_syntax.specs.declared.refusal.Refusal.{Refusal}
 use Rattle.dpl_grammar.specs.Reader.{Read}
+use Rattle.dpl_map.specs.Places.{block_place, cyclic_place, block_cyclic_place}
 use Rattle.dpl_map.specs.Maps.{owner}
 use Rattle.dpl_map.specs.Parts.{part}
 use Rattle.dpl_layout.specs.Layouts.{LayoutValue, single_layout}
-use Rattle.dpl_layout.specs.declared.maps.Maps.TheVariants.{AsIs, Cyclic}
+use Rattle.dpl_layout.specs.declared.maps.Maps.TheVariants.{AsIs, Block, Cyclic}
 use Rattle.dpl_language.specs.Environment.{Limits}
 use Rattle.dpl_spelling.specs.Grammar.{Program}
 use Rattle.dpl_spelling.proofs.Programs.{read}
@@ -44,7 +45,12 @@ module _ (layout : LayoutValue) where
 abbrev remote_by : LayoutValue → List ℕ → Option ℕ
 remote_by layout text = of_tokens layout (tokens_of text)
 
--- ---- layouts: 4 locales in a line, and 2x2; with `--maps cyclic`; 3 locales
+-- what the rows compute with
+unfoldable on_locales : ⊤
+unfolding by_text int_wrap members indices owner part block_place cyclic_place block_cyclic_place
+on_locales = tt
+
+-- ---- layouts: 4 locales in a line, and 2x2; with `--maps cyclic` and `--maps block`; 3 locales
 abbrev four : LayoutValue
 four = record { line = 4 ∷ []; plane = 4 ∷ 1 ∷ []; space = 4 ∷ 1 ∷ 1 ∷ []; maps = AsIs }
 
@@ -54,145 +60,201 @@ square = record { line = 4 ∷ []; plane = 2 ∷ 2 ∷ []; space = 4 ∷ 1 ∷ 1
 abbrev going_round : LayoutValue
 going_round = record { line = 4 ∷ []; plane = 4 ∷ 1 ∷ []; space = 4 ∷ 1 ∷ 1 ∷ []; maps = Cyclic }
 
+abbrev by_blocks : LayoutValue
+by_blocks = record { line = 4 ∷ []; plane = 4 ∷ 1 ∷ []; space = 4 ∷ 1 ∷ 1 ∷ []; maps = Block }
+
 abbrev three : LayoutValue
 three = record { line = 3 ∷ []; plane = 3 ∷ 1 ∷ []; space = 3 ∷ 1 ∷ 1 ∷ []; maps = AsIs }
 
 -- ---- stencils
 -- 4, 7, 7 and 12 on the locales 0 to 3 of a grid 2x2
 stencil_on_a_torus : remote_by square (codes "const S = {0..4, 0..4}; const D: domain(2) dmapped new cyclicDist(startIdx=S.low) = S; var A: [D] int; var B: [D] int; forall (i,j) in D do A[i,j] = 10*i + j; forall (i,j) in D[1..3, 1..3] do B[i,j] = A[i-1,j] + A[i+1,j] + A[i,j-1] + A[i,j+1];") ≡ Some 30
-unfolding by_text int_wrap members indices owner part
+unfolding on_locales
 stencil_on_a_torus = refl
 
 stencil_on_one_locale : remote_by single_layout (codes "const S = {0..4, 0..4}; const D: domain(2) dmapped new cyclicDist(startIdx=S.low) = S; var A: [D] int; var B: [D] int; forall (i,j) in D do A[i,j] = 10*i + j; forall (i,j) in D[1..3, 1..3] do B[i,j] = A[i-1,j] + A[i+1,j] + A[i,j-1] + A[i,j+1];") ≡ Some 0
-unfolding by_text int_wrap members indices owner part
+unfolding on_locales
 stencil_on_one_locale = refl
 
 -- an element that is read twice counts once
 neighbours_by_blocks : remote_by four (codes "const D = {1..8} dmapped new blockDist(boundingBox={1..8}); var A: [D] int; var B: [D] int; forall i in D[2..7] do B[i] = A[i-1] + A[i+1] + A[i-1];") ≡ Some 6
-unfolding by_text int_wrap members indices owner part
+unfolding on_locales
 neighbours_by_blocks = refl
 
 neighbours_going_round : remote_by going_round (codes "const D = {1..8} dmapped new blockDist(boundingBox={1..8}); var A: [D] int; var B: [D] int; forall i in D[2..7] do B[i] = A[i-1] + A[i+1] + A[i-1];") ≡ Some 12
-unfolding by_text int_wrap members indices owner part
+unfolding on_locales
 neighbours_going_round = refl
 
 neighbours_on_three : remote_by three (codes "const D = {1..8} dmapped new blockDist(boundingBox={1..8}); var A: [D] int; var B: [D] int; forall i in D[2..7] do B[i] = A[i-1] + A[i+1] + A[i-1];") ≡ Some 4
-unfolding by_text int_wrap members indices owner part
+unfolding on_locales
 neighbours_on_three = refl
+
+-- blocks of 3 give {1, 2, 3}, {4, 5, 6} and {7, 8}
+neighbours_by_larger_blocks : remote_by four (codes "const D = {1..8} dmapped new blockCycDist(1, 3); var A: [D] int; var B: [D] int; forall i in D[2..7] do B[i] = A[i-1];") ≡ Some 2
+unfolding on_locales
+neighbours_by_larger_blocks = refl
+
+neighbours_of_a_created_domain : remote_by four (codes "const D = blockDist.createDomain(1..8); var A: [D] int; var B: [D] int; forall i in D[2..7] do B[i] = A[i-1];") ≡ Some 3
+unfolding on_locales
+neighbours_of_a_created_domain = refl
+
+-- where no map is named, all is on locale 0, unless each root gets one
+no_map_named : remote_by four (codes "const D = {1..8}; var A: [D] int; var B: [D] int; forall i in D[2..7] do B[i] = A[i-1];") ≡ Some 0
+unfolding on_locales
+no_map_named = refl
+
+no_map_named_by_blocks : remote_by by_blocks (codes "const D = {1..8}; var A: [D] int; var B: [D] int; forall i in D[2..7] do B[i] = A[i-1];") ≡ Some 3
+unfolding on_locales
+no_map_named_by_blocks = refl
 
 -- `A[9-i]` isn't the own index moved by a number
 mirror : remote_by four (codes "const D = {1..8} dmapped new blockDist(boundingBox={1..8}); var A: [D] int; var B: [D] int; forall i in D[2..7] do B[i] = A[9-i];") ≡ Some 0
-unfolding by_text int_wrap members indices owner part
+unfolding on_locales
 mirror = refl
 
 -- ---- what is read, and by whom
 one_side : remote_by four (codes "const D = {1..8} dmapped new blockDist(boundingBox={1..8}); var A: [D] int; var B: [D] int; forall i in D[2..7] do B[i] = A[i-1];") ≡ Some 3
-unfolding by_text int_wrap members indices owner part
+unfolding on_locales
 one_side = refl
 
 two_arrays : remote_by four (codes "const D = {1..8} dmapped new blockDist({1..8}); var A: [D] int; var B: [D] int; var C: [D] int; forall i in D[2..7] do B[i] = A[i-1] + C[i+1];") ≡ Some 6
-unfolding by_text int_wrap members indices owner part
+unfolding on_locales
 two_arrays = refl
 
 -- at the own index, of an array that is dealt out otherwise
 own_index_by_another_map : remote_by four (codes "const D = {1..4} dmapped new blockDist({1..4}); const E = {1..4} dmapped new cyclicDist(2); var A: [E] int; var B: [D] int; forall i in D do B[i] = A[i];") ≡ Some 4
-unfolding by_text int_wrap members indices owner part
+unfolding on_locales
 own_index_by_another_map = refl
 
 tuple_name : remote_by square (codes "const D = {1..2, 1..2} dmapped new blockDist({1..2, 1..2}); const E = {1..2, 1..2} dmapped new cyclicDist((2, 2)); var A: [E] int; var B: [D] int; forall t in D do B[t] = A[t];") ≡ Some 4
-unfolding by_text int_wrap members indices owner part
+unfolding on_locales
 tuple_name = refl
 
 -- each locale reads two elements of A, in four turns, and owns one of them
 read_by_two_turns_of_a_locale : remote_by square (codes "const P = {1..4, 1..2} dmapped new blockDist({1..4, 1..2}); const D = {1..4} dmapped new blockDist({1..4}); var A: [D] int; var B: [P] int; forall (i,j) in P do B[i,j] = A[i];") ≡ Some 4
-unfolding by_text int_wrap members indices owner part
+unfolding on_locales
 read_by_two_turns_of_a_locale = refl
 
 -- the element 0 isn't there; the fault in turn 1 changes nothing of the count
 outside_the_array : remote_by four (codes "const D = {1..8} dmapped new blockDist(boundingBox={1..8}); var A: [D] int; var B: [D] int; forall i in D do B[i] = A[i-1];") ≡ Some 3
-unfolding by_text int_wrap members indices owner part
+unfolding on_locales
 outside_the_array = refl
 
 -- a read that no turn reaches counts
 never_reached : remote_by four (codes "const D = {1..8} dmapped new blockDist(boundingBox={1..8}); var A: [D] int; var B: [D] int; forall i in D[2..7] do if false then B[i] = A[i-1];") ≡ Some 3
-unfolding by_text int_wrap members indices owner part
+unfolding on_locales
 never_reached = refl
 
 in_a_condition : remote_by four (codes "const D = {1..8} dmapped new blockDist(boundingBox={1..8}); var A: [D] int; var B: [D] int; forall i in D[2..7] do if A[i-1] > 0 then B[i] = 1;") ≡ Some 3
-unfolding by_text int_wrap members indices owner part
+unfolding on_locales
 in_a_condition = refl
 
 -- an array that is written is read at the own index alone
 written_array : remote_by four (codes "const D = {1..8} dmapped new blockDist(boundingBox={1..8}); var A: [D] int; var B: [D] int; forall i in D do A[i] += A[i];") ≡ Some 0
-unfolding by_text int_wrap members indices owner part
+unfolding on_locales
 written_array = refl
+
+-- also where other locales make the turns
+written_array_of_another_map : remote_by four (codes "const D = {1..8} dmapped new blockDist({1..8}); const E = {1..8} dmapped new cyclicDist(1); var A: [D] int; var B: [D] int; var C: [E] int; forall i in D { C[i] = 1; B[i] += B[i]; }") ≡ Some 0
+unfolding on_locales
+written_array_of_another_map = refl
+
+-- an inner loop's variable isn't the forall's
+hidden_variable : remote_by four (codes "const D = {1..8} dmapped new blockDist({1..8}); var A: [D] int; var s: int; forall i in D[2..7] with (+ reduce s) do for i in 2..3 do s += A[i-1];") ≡ Some 0
+unfolding on_locales
+hidden_variable = refl
 
 -- ---- who makes a turn
 -- where nothing is written, the owner by the map of the loop's domain
 by_the_loops_domain : remote_by four (codes "const D = {1..8} dmapped new blockDist({1..8}); var A: [D] int; var s: int; forall i in D[2..7] with (+ reduce s) do s += A[i-1];") ≡ Some 3
-unfolding by_text int_wrap members indices owner part
+unfolding on_locales
 by_the_loops_domain = refl
 
 by_a_derived_domain : remote_by four (codes "const D = {1..8} dmapped new blockDist({1..8}); const E = D[2..7]; var A: [D] int; var s: int; forall i in E with (+ reduce s) do s += A[i-1];") ≡ Some 3
-unfolding by_text int_wrap members indices owner part
+unfolding on_locales
 by_a_derived_domain = refl
 
 -- over a range locale 0 makes all turns, and reads 3, 4, 5 and 6 of others
 by_locale_0 : remote_by four (codes "const D = {1..8} dmapped new blockDist({1..8}); var A: [D] int; var s: int; forall i in 2..7 with (+ reduce s) do s += A[i-1];") ≡ Some 4
-unfolding by_text int_wrap members indices owner part
+unfolding on_locales
 by_locale_0 = refl
 
 by_a_literal : remote_by four (codes "const D = {1..8} dmapped new blockDist({1..8}); var A: [D] int; var s: int; forall i in {2..7} with (+ reduce s) do s += A[i-1];") ≡ Some 4
-unfolding by_text int_wrap members indices owner part
+unfolding on_locales
 by_a_literal = refl
 
 -- by the map of the array that the text writes first
 by_the_first_written : remote_by four (codes "const D = {1..8} dmapped new blockDist({1..8}); const E = {1..8} dmapped new cyclicDist(1); var A: [D] int; var B: [D] int; var C: [E] int; forall i in D[2..7] { C[i] = A[i-1]; B[i] = 1; }") ≡ Some 5
-unfolding by_text int_wrap members indices owner part
+unfolding on_locales
 by_the_first_written = refl
 
 by_the_first_written_of_two : remote_by four (codes "const D = {1..8} dmapped new blockDist({1..8}); const E = {1..8} dmapped new cyclicDist(1); var A: [D] int; var B: [D] int; var C: [E] int; forall i in D[2..7] { B[i] = A[i-1]; C[i] = 1; }") ≡ Some 3
-unfolding by_text int_wrap members indices owner part
+unfolding on_locales
 by_the_first_written_of_two = refl
 
 by_the_first_written_though_not_reached : remote_by four (codes "const D = {1..8} dmapped new blockDist({1..8}); const E = {1..8} dmapped new cyclicDist(1); var A: [D] int; var B: [D] int; var C: [E] int; forall i in D[2..7] { if false then C[i] = 1; B[i] = A[i-1]; }") ≡ Some 5
-unfolding by_text int_wrap members indices owner part
+unfolding on_locales
 by_the_first_written_though_not_reached = refl
 
 -- ---- as things stood where the forall was entered
 -- A has the elements 3 to 6 then, by the map of the domain that D was declared with
 assigned_domain : remote_by four (codes "var D: domain(1) dmapped new blockDist({1..8}) = {1..8}; var A: [D] int; var B: [D] int; D = {3..6}; forall i in D[4..6] do B[i] = A[i-1];") ≡ Some 1
-unfolding by_text int_wrap members indices owner part
+unfolding on_locales
 assigned_domain = refl
+
+-- the element 2 isn't there any more, so that turn 3 faults
+outside_the_assigned_array : remote_by four (codes "var D: domain(1) dmapped new blockDist({1..8}) = {1..8}; var A: [D] int; var B: [D] int; D = {3..6}; forall i in D do B[i] = A[i-1];") ≡ Some 1
+unfolding on_locales
+outside_the_assigned_array = refl
 
 -- an outer A is another array
 hidden_array : remote_by four (codes "const D = {1..8} dmapped new blockDist({1..8}); var A: [D] int; { const E = {1..4} dmapped new cyclicDist(1); var A: [E] int; var B: [E] int; forall i in E[2..4] do B[i] = A[i-1]; }") ≡ Some 3
-unfolding by_text int_wrap members indices owner part
+unfolding on_locales
 hidden_array = refl
 
 -- ---- which foralls count, and how often
 twice_in_a_for : remote_by four (codes "const D = {1..8} dmapped new blockDist(boundingBox={1..8}); var A: [D] int; var B: [D] int; for k in 1..2 do forall i in D[2..7] do B[i] = A[i-1];") ≡ Some 6
-unfolding by_text int_wrap members indices owner part
+unfolding on_locales
 twice_in_a_for = refl
 
+in_a_while : remote_by four (codes "const D = {1..8} dmapped new blockDist(boundingBox={1..8}); var A: [D] int; var B: [D] int; var n = 2; while n > 0 { forall i in D[2..7] do B[i] = A[i-1]; n -= 1; }") ≡ Some 6
+unfolding on_locales
+in_a_while = refl
+
+in_a_block : remote_by four (codes "const D = {1..8} dmapped new blockDist(boundingBox={1..8}); var A: [D] int; var B: [D] int; { forall i in D[2..7] do B[i] = A[i-1]; }") ≡ Some 3
+unfolding on_locales
+in_a_block = refl
+
+behind_then_and_else : remote_by four (codes "const D = {1..8} dmapped new blockDist(boundingBox={1..8}); var A: [D] int; var B: [D] int; if true then forall i in D[2..7] do B[i] = A[i-1]; else forall i in D[2..7] do B[i] = A[i+1] + A[i-1];") ≡ Some 3
+unfolding on_locales
+behind_then_and_else = refl
+
+behind_else : remote_by four (codes "const D = {1..8} dmapped new blockDist(boundingBox={1..8}); var A: [D] int; var B: [D] int; if false then forall i in D[2..7] do B[i] = A[i-1]; else forall i in D[2..7] do B[i] = A[i+1] + A[i-1];") ≡ Some 6
+unfolding on_locales
+behind_else = refl
+
+on_a_locale : remote_by four (codes "const D = {1..8} dmapped new blockDist(boundingBox={1..8}); var A: [D] int; var B: [D] int; on Locales[1] do forall i in D[2..7] do B[i] = A[i-1];") ≡ Some 3
+unfolding on_locales
+on_a_locale = refl
+
 not_entered : remote_by four (codes "const D = {1..8} dmapped new blockDist(boundingBox={1..8}); var A: [D] int; var B: [D] int; if false then forall i in D[2..7] do B[i] = A[i-1];") ≡ Some 0
-unfolding by_text int_wrap members indices owner part
+unfolding on_locales
 not_entered = refl
 
 -- the second one has more turns than the budget, so the run ends with F5 and it counts nothing
 past_the_budget : remote_by four (codes "const D = {1..8} dmapped new blockDist(boundingBox={1..8}); var A: [D] int; var B: [D] int; forall i in D[2..7] do B[i] = A[i-1]; forall i in 1..200 do B[i] = A[i+1];") ≡ Some 3
-unfolding by_text int_wrap members indices owner part
+unfolding on_locales
 past_the_budget = refl
 
 -- the forall of turn 4's fault counts whole, and none behind it
 behind_a_fault : remote_by four (codes "const D = {1..8} dmapped new blockDist(boundingBox={1..8}); var A: [D] int; var B: [D] int; forall i in D[2..7] do B[i] = A[i-1] / (i - 4); forall i in D[2..7] do B[i] = A[i+1];") ≡ Some 3
-unfolding by_text int_wrap members indices owner part
+unfolding on_locales
 behind_a_fault = refl
 
 whole_arrays_and_reductions : remote_by four (codes "const D = {1..8} dmapped new blockDist(boundingBox={1..8}); var A: [D] int; var B: [D] int; B = A + 1; const s = + reduce (A + B); B = B;") ≡ Some 0
-unfolding by_text int_wrap members indices owner part
+unfolding on_locales
 whole_arrays_and_reductions = refl
 
 several_foralls : remote_by four (codes "const D = {1..8} dmapped new blockDist(boundingBox={1..8}); var A: [D] int; var B: [D] int; forall i in D[2..7] do B[i] = A[i-1]; forall i in D[1..7] do A[i] = B[i+1];") ≡ Some 6
-unfolding by_text int_wrap members indices owner part
+unfolding on_locales
 several_foralls = refl
