@@ -1,5 +1,5 @@
 -- What is said of a map, typed, is the map of the lowered declaration; and it stands beside a domain alone.
-use Rattle.std.proofs.Common.{◌≡◌, Bor, Option, Some, None, option_map, refl, sym, ap, ◌∙◌}
+use Rattle.std.proofs.Common.{◌≡◌, Option, Some, None, option_map, refl, sym, ap, ◌∙◌}
 use Rattle.dpl_language.specs.Tree.{CreateWord, CreateBlock, CreateCyclic, ExprTree, MapTree, MappedTree, InitTree, ItemInit, CreateInit, InitialTree}
 use Rattle.dpl_language.specs.Names.{Text}
 use Rattle.dpl_agreement.specs.Renamed.{renamed_mapped, renamed_init}
