@@ -1,8 +1,8 @@
 -- What ends in `low` or `lowBound`, over leaves: that method behind what stands before it. And an index as a start.
-use Rattle.std.proofs.Common.{◌≡◌, ◌≢◌, Bool, true, false, List, [], ◌∷◌, Option, None, map, refl, sym, ap, ◌∙◌}
+use Rattle.std.proofs.Common.{◌≡◌, ◌≢◌, Bool, true, false, List, [], ◌∷◌, None, map, refl, sym, ap, ◌∙◌}
 use Rattle.dpl_syntax.specs.declared.place.Place.{Place}
 use Rattle.dpl_language.specs.Phrases.{Base, BaseName, BaseLocales, OtherBase, base_of, bare_name, post_read, posts_read}
-use Rattle.dpl_language.specs.Tree.{AfterComma, Listed, Word, ExprTree, Postfixed, Posts, NoPosts, Post, PostTree, Brackets, Rounds, Dotted, MethodTree, Plainly, Dim, Contains, Expand, CellRead, Exprs, FirstExpr, MoreExprs, NoExprs, NextExpr, StartTree, StartExpr, StartTuple}
+use Rattle.dpl_language.specs.Tree.{AfterComma, Listed, Word, ExprTree, Postfixed, Posts, NoPosts, Post, PostTree, Brackets, Rounds, Dotted, Plainly, Dim, Contains, Expand, CellRead, Exprs, FirstExpr, MoreExprs, NoExprs, NextExpr, StartTree, StartExpr, StartTuple}
 use Rattle.dpl_language.specs.Names.{Text}
 use Rattle.dpl_agreement.specs.Renamed.{map_comma, renamed_expr, renamed_posts, renamed_post, renamed_more_exprs}
 use Rattle.dpl_rules.specs.Sights.{Scopes}
@@ -11,15 +11,14 @@ use Rattle.dpl_lowered.specs.Known.{Known}
 use Rattle.dpl_lowered.specs.Shapes.{nowhere, stacked_on}
 use Rattle.dpl_lowered.specs.LoweredExpressions.{Once, rebased, read_base, told_base, based, lowered_expr, lowered_more_exprs}
 use Rattle.dpl_memory.specs.Memory.{Variable, known_variable}
-use Rattle.dpl_nodes.specs.declared.tree.DomainExpr.{DomainExpr}
 use Rattle.dpl_nodes.specs.declared.tree.IndexExpr.{IndexExpr, Line', Plane', Space', Tuple}
 use Rattle.dpl_nodes.specs.Typed.{dotted, index_exprs}
-use Rattle.dpl_nodes.specs.Steps.{index_start}
+use Rattle.dpl_nodes.specs.Steps.{index_start, low_word}
 use Rattle.dpl_typer.specs.Leaves.{leaf_in}
 use Rattle.dpl_typer.specs.Simple.{AreSimplePosts, IsSimplePost}
 use Rattle.dpl_typer.specs.Elaborated.{leaves_of, exprs_leaves, post_leaves, posts_leaves}
 use Rattle.dpl_placing.specs.Starts.{behind, bound_word, IsLow, more_exprs, tuple_exprs, tuple_leaves}
-use Rattle.dpl_placing.proofs.Lows.{low-post}
+use Rattle.dpl_placing.proofs.Lows.{low-post, low-word}
 
 -- ---- what a fault tells of a base is told by the first that stands behind it
 module _ {N : Type 0} (known : N → Known) where
@@ -85,6 +84,20 @@ module _ (ss : Scopes) (Holds : Text → Type 0) where
       let first : Posts Variable = Post (post_leaves ss (base_of leaf) p) NoPosts in
       low-stacked (Postfixed (based known_variable (renamed_posts (leaf_in ss) (Post p (Post q rest))) leaf lowered) first) (Post q rest) x at w h
       ∙ ap (λ b. dotted (stacked_on (Postfixed b first) (posts_leaves ss OtherBase (front_of (Post q rest)))) (Plainly at w)) (front-based p q rest leaf lowered simple.0)
+
+  -- so it is what a typed one stands for
+  least-word : (b : Bool) → low_word (bound_word b) ≡ bound_word b
+  least-word true = refl
+  least-word false = refl
+
+  pub least-start : (e : ExprTree Text) (ps : Posts Text) (v : ExprTree Variable) (near at : Place) (w : Word) → ((x : ExprTree Text) → IsLow x at w (posts_low ps x)) → AreSimplePosts Holds (front_of ps)
+      → v ≡ leaves_of ss Once (behind e (front_of ps)) → near ≡ at → StartExpr (dotted v (Plainly near (low_word w))) ≡ StartExpr (leaves_of ss Once (Postfixed e ps))
+  least-start e ps v near at w low simple node place =
+      let (b, word) = low-word e at w (posts_low ps e) (low e) in
+      ap (λ v. StartExpr (dotted v (Plainly near (low_word w)))) node
+      ∙ ap (λ at. StartExpr (dotted (leaves_of ss Once (behind e (front_of ps))) (Plainly at (low_word w)))) place
+      ∙ ap (λ w. StartExpr (dotted (leaves_of ss Once (behind e (front_of ps))) (Plainly at w))) (ap low_word word ∙ least-word b ∙ sym word)
+      ∙ ap StartExpr (sym (low-leaves e ps e at w (low e) simple))
 
 -- ---- AN INDEX AS A START: one expression, or several in a tuple
 abbrev commas : MoreExprs Variable → List (AfterComma (ExprTree Variable))

@@ -19,9 +19,9 @@ use Rattle.dpl_typer.specs.Leaves.{MayBePlain}
 use Rattle.dpl_typer.specs.Simple.{IsSimple, AreSimplePosts, IsSimplePost}
 use Rattle.dpl_placing.specs.Starts.{behind, unposted, bound_word, IsLow, MayBeTyped, is_least}
 
-pub if_none : {A P Q : Type 0} (o : Option A) → (P → Q) → IfNone o P → IfNone o Q
-if_none None f p = f p
-if_none (Some a) f p = tt
+pub if_none : {A P : Type 0} (o : Option A) → P → IfNone o P
+if_none None p = p
+if_none (Some a) p = tt
 
 -- ---- the last of several
 pub posts_low-push : (xs : List PostNode) (x : PostNode) (e : ExprTree Text) → posts_low (posts_of (xs ++ x ∷ [])) e ≡ post_low (post_view x) e

@@ -53,9 +53,15 @@ module _ (scopes : Scopes) where
   HasMapIn None = Unit {0}
   HasMapIn (Some m) = HasMap scopes m.map
 
-  -- of the type's and of the initial value's
+  -- of that map and of the initial value's; and of the type's and the initial value's
+  abbrev pub AreFoundBeside : Option (MappedTree Text) → Option (InitialTree Text) → Type 0
+  AreFoundBeside mapped i = IsFoundIn mapped × IsFoundIn (initial_map i)
+
+  abbrev pub HaveMapsBeside : Option (MappedTree Text) → Option (InitialTree Text) → Type 0
+  HaveMapsBeside mapped i = HasMapIn mapped × HasMapIn (initial_map i)
+
   abbrev pub AreFoundMaps : Option (TypeTree Text) → Option (InitialTree Text) → Type 0
-  AreFoundMaps type i = IsFoundIn (type_map type) × IsFoundIn (initial_map i)
+  AreFoundMaps type i = AreFoundBeside (type_map type) i
 
   abbrev pub HaveMaps : Option (TypeTree Text) → Option (InitialTree Text) → Type 0
-  HaveMaps type i = HasMapIn (type_map type) × HasMapIn (initial_map i)
+  HaveMaps type i = HaveMapsBeside (type_map type) i

@@ -8,7 +8,7 @@ ghost use Rattle.dpl_agreement.specs.Scopes.{init_map, initial_map};
 ghost use Rattle.dpl_nodes.specs.declared.stop.NoNode.TheVariants as stop;
 ghost use Rattle.dpl_typer.specs.Leaves.{IsFound};
 ghost use Rattle.dpl_placing.specs.Named.{IsSimpleMap, HasMap};
-ghost use Rattle.dpl_placing.specs.Roots.{created_placing, IsNamed, IsInitPlacing, IsGivenPlacing, IsTypedPlacing, IsPlacingOf, IsFoundIn, HasMapIn, AreFoundMaps, HaveMaps};
+ghost use Rattle.dpl_placing.specs.Roots.{created_placing, IsNamed, IsInitPlacing, IsGivenPlacing, IsTypedPlacing, IsPlacingOf, IsFoundIn, HasMapIn, AreFoundBeside, HaveMapsBeside, AreFoundMaps, HaveMaps};
 
 use crate::map::mapped;
 use dpl_nodes::{NoNode, Placing};
@@ -84,8 +84,9 @@ fn of_type<'t>(
     initial: &Option<Initial<'_>>,
 ) -> Result<Placing<'t>, NoNode>
     ensures placing { IfOk result (λ p. IsTypedPlacing scopes.now (optional mapped_view domain.now.mapped) (optional initial_view initial.now) p) }
-    ensures found { IfOk result (λ p. IsFoundIn scopes.now (optional mapped_view domain.now.mapped) × IsFoundIn scopes.now (initial_map (optional initial_view initial.now))) }
-    ensures ill_typed { (result ≡ Err stop.IllTyped) → HasMapIn scopes.now (optional mapped_view domain.now.mapped) → HasMapIn scopes.now (initial_map (optional initial_view initial.now)) → ⊥ }
+    ensures found { IfOk result (λ p. AreFoundBeside scopes.now (optional mapped_view domain.now.mapped) (optional initial_view initial.now)) }
+    ensures ill_typed { (result ≡ Err stop.IllTyped)
+        → HaveMapsBeside scopes.now (optional mapped_view domain.now.mapped) (optional initial_view initial.now) → ⊥ }
 {
     let beside = given(arena, scopes, initial, Placing::Root)?;
     match &domain.mapped {
@@ -107,7 +108,8 @@ pub fn root_of<'t>(
 ) -> Result<Placing<'t>, NoNode>
     ensures placing { IfOk result (λ p. IsPlacingOf scopes.now (type_of (optional typed_view typed.now)) (optional initial_view initial.now) p) }
     ensures found { IfOk result (λ p. AreFoundMaps scopes.now (type_of (optional typed_view typed.now)) (optional initial_view initial.now)) }
-    ensures ill_typed { (result ≡ Err stop.IllTyped) → HaveMaps scopes.now (type_of (optional typed_view typed.now)) (optional initial_view initial.now) → ⊥ }
+    ensures ill_typed { (result ≡ Err stop.IllTyped)
+        → HaveMaps scopes.now (type_of (optional typed_view typed.now)) (optional initial_view initial.now) → ⊥ }
 {
     let Some(typed) = typed else {
         return given(arena, scopes, initial, Placing::Derived);

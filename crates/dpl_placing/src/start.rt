@@ -119,7 +119,8 @@ fn least<'t>(
 ) -> Result<Option<StartExpr<'t>>, NoNode>
     ensures node { IfOk result (λ o. IfSome o (λ s. start_view s ≡ StartExprTree (leaves_of scopes.now Once (postfixed_tree e.now)))) }
     ensures found { IfOk result (λ o. IfSome o (λ s. IsSimple (IsFound scopes.now) (postfixed_tree e.now))) }
-    ensures other { IfOk result (λ o. IfNone o (MayBeTyped scopes.now (postfixed_tree e.now) → is_least scopes.now (low_of (postfixed_tree e.now)) ≡ false)) }
+    ensures other { IfOk result (λ o. IfNone o (MayBeTyped scopes.now (postfixed_tree e.now)
+        → is_least scopes.now (low_of (postfixed_tree e.now)) ≡ false)) }
     ensures ill_typed { (result ≡ Err stop.IllTyped) → MayBeTyped scopes.now (postfixed_tree e.now) → ⊥ }
 {
     let Some((front, at, word)) = before_low(e.posts) else {
@@ -139,7 +140,8 @@ fn plain<'t>(
 ) -> Result<&'t IndexExpr<'t>, NoNode>
     ensures node { IfOk result (λ t. index_start t.now ≡ StartExprTree (leaves_of scopes.now Once (expr_view e.now))) }
     ensures found { IfOk result (λ t. IsSimple (IsFound scopes.now) (expr_view e.now)) }
-    ensures ill_typed { (result ≡ Err stop.IllTyped) → MayBeTyped scopes.now (expr_view e.now) → has is_int (type_of scopes.now (expr_view e.now)) ≡ false }
+    ensures ill_typed { (result ≡ Err stop.IllTyped) → MayBeTyped scopes.now (expr_view e.now)
+        → has is_int (type_of scopes.now (expr_view e.now)) ≡ false }
 {
     let t = expression(arena, scopes, e)?;
     index_of_one(arena, t)
@@ -150,7 +152,8 @@ fn plain<'t>(
 fn single<'t>(arena: Arena<'t>, scopes: &Scopes<'_>, e: &Expr<'_>) -> Result<StartExpr<'t>, NoNode>
     ensures node { IfOk result (λ s. start_view s ≡ StartExprTree (leaves_of scopes.now Once (expr_view e.now))) }
     ensures found { IfOk result (λ s. IsSimple (IsFound scopes.now) (expr_view e.now)) }
-    ensures ill_typed { (result ≡ Err stop.IllTyped) → MayBeTyped scopes.now (expr_view e.now) → is_start scopes.now (StartExprTree (expr_view e.now)) ≡ false }
+    ensures ill_typed { (result ≡ Err stop.IllTyped) → MayBeTyped scopes.now (expr_view e.now)
+        → is_start scopes.now (StartExprTree (expr_view e.now)) ≡ false }
 {
     match e {
         Expr::Postfixed(postfixed) => match least(arena, scopes, postfixed)? {

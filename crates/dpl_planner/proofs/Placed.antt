@@ -1,12 +1,12 @@
 -- What is said of a map, typed, is the map of the lowered declaration; and it stands beside a domain alone.
-use Rattle.std.proofs.Common.{◌≡◌, Bor, Option, Some, None, option_map, refl, sym, ap, ◌∙◌}
-use Rattle.dpl_language.specs.Tree.{CreateWord, CreateBlock, CreateCyclic, ExprTree, MapTree, MappedTree, DomainTypeTree, InitTree, ItemInit, CreateInit, InitialTree}
+use Rattle.std.proofs.Common.{◌≡◌, Option, Some, None, option_map, refl, sym, ap, ◌∙◌}
+use Rattle.dpl_language.specs.Tree.{CreateWord, CreateBlock, CreateCyclic, ExprTree, MapTree, MappedTree, InitTree, ItemInit, CreateInit, InitialTree}
 use Rattle.dpl_language.specs.Names.{Text}
 use Rattle.dpl_agreement.specs.Renamed.{renamed_mapped, renamed_init}
 use Rattle.dpl_rules.specs.Sights.{Scopes}
 use Rattle.dpl_lowered.specs.Shapes.{as_expr}
 use Rattle.dpl_lowered.specs.LoweredExpressions.{Once}
-use Rattle.dpl_lowered.specs.LoweredStatements.{root_type, mapped_by, created_map, lowered_map, lowered_mapped, lowered_init, lowered_init_map, map_by}
+use Rattle.dpl_lowered.specs.LoweredStatements.{root_type, mapped_by, created_map, lowered_mapped, lowered_init, lowered_init_map, map_by}
 use Rattle.dpl_memory.specs.Memory.{Variable, known_variable}
 use Rattle.dpl_memory.specs.Resolved.{variable_of}
 use Rattle.dpl_nodes.specs.declared.placing.Placing.{Placing}

@@ -7,22 +7,21 @@ use Rattle.std.proofs.lemmas.Bool.Decides.{Decides-eqb}
 use Rattle.dpl_syntax.specs.declared.place.Place.{Place}
 use Rattle.dpl_syntax.specs.declared.refusal.Breach.{Breach}
 use Rattle.dpl_syntax.specs.declared.refusal.Code.TheVariants.{WrongType, WrongRank}
-use Rattle.dpl_language.specs.Tree.{AfterComma, Listed, ExprTree, Number, TruthWord, Named, LocalesWord, LocaleCount, HereWord, Grouped, DomainLiteral, Prefixed, Reduced, Chain, Postfixed, Posts, NoPosts, Post, StartTree, StartExpr, StartTuple, MapTree, BlockMap, CyclicMap, BlockCyclicMap, MappedTree, TypeTree, ScalarType, SyncType, DomainType, ArrayType, CreateTree, InitTree, ItemInit, CreateInit, TypedTree, InitialTree}
+use Rattle.dpl_language.specs.Tree.{AfterComma, ExprTree, Number, TruthWord, Named, LocalesWord, LocaleCount, HereWord, Grouped, DomainLiteral, Prefixed, Reduced, Chain, Postfixed, Posts, NoPosts, Post, StartTree, StartExpr, StartTuple, MapTree, BlockMap, CyclicMap, BlockCyclicMap, MappedTree, TypeTree, ScalarType, SyncType, DomainType, ArrayType, CreateTree, InitTree, ItemInit, CreateInit, TypedTree, InitialTree}
 use Rattle.dpl_language.specs.Names.{Text}
 use Rattle.dpl_language.specs.Declarations.{type_of as written_type}
 use Rattle.dpl_language.specs.Roots.{type_map}
 use Rattle.dpl_language.specs.Spelled.{SaysType}
 use Rattle.dpl_agreement.specs.Scopes.{init_map, initial_map}
 use Rattle.dpl_grammar.specs.Each.{Each, IfThere}
-use Rattle.dpl_spelling.specs.Spelt.{PartSpelt, ListSpelt, ExprSpelt, ItemSpelt, PostsSpelt, StartSpelt, MapSpelt, MappedSpelt, TypeSpelt, InitSpelt, TypedSpelt, InitialSpelt}
-use Rattle.dpl_agreement.specs.Untasked.{UntaskedIf, UntaskedOthers, UntaskedList, UntaskedExpr, UntaskedItem, UntaskedPosts, UntaskedStart, UntaskedMap, UntaskedMapped, UntaskedType, UntaskedInit, UntaskedTyped, UntaskedInitial}
+use Rattle.dpl_spelling.specs.Spelt.{PartSpelt, ExprSpelt, PostsSpelt, StartSpelt, MapSpelt, MappedSpelt, TypeSpelt, InitSpelt, TypedSpelt, InitialSpelt}
+use Rattle.dpl_agreement.specs.Untasked.{UntaskedIf, UntaskedOthers, UntaskedExpr, UntaskedPosts, UntaskedStart, UntaskedMap, UntaskedMapped, UntaskedType, UntaskedInit, UntaskedTyped, UntaskedInitial}
 use Rattle.dpl_rules.specs.Types.{Origin, ValueType, Scalar, Range, Domain, Array, Promoted, Tuple, Locale, AllLocales, Cell, domain_of, has, is_int, is_domain}
-use Rattle.dpl_rules.specs.Verdicts.{breach, broken_by, owed, owed_type}
-use Rattle.dpl_rules.specs.Places.{first_of, first_of_item, last_of}
+use Rattle.dpl_rules.specs.Verdicts.{breach, owed_type}
+use Rattle.dpl_rules.specs.Places.{first_of, first_of_item}
 use Rattle.dpl_rules.specs.Sights.{Scopes}
-use Rattle.dpl_rules.specs.Operators.{over_verdict}
-use Rattle.dpl_rules.specs.Expressions.{type_of, item_type, item_parts, more_expr_parts, bare_locales, locales_or, none_where, expr_breaches, item_breaches, posts_breaches, items_breaches, side_part, side_breaches}
-use Rattle.dpl_rules.specs.Maps.{LowTree, posts_low, front_of, owed_rank, box_rank, box_of, int_start, box_breaches, plain_start, domain_start, low_start, int_breaches, start_breaches, map_breaches, mapped_breaches}
+use Rattle.dpl_rules.specs.Expressions.{type_of, item_type, more_expr_parts, bare_locales, locales_or, none_where, expr_breaches, item_breaches, side_part, side_breaches}
+use Rattle.dpl_rules.specs.Maps.{LowTree, posts_low, front_of, owed_rank, box_rank, box_of, int_start, plain_start, domain_start, low_start, int_breaches, start_breaches, map_breaches, mapped_breaches}
 use Rattle.dpl_rules.specs.Declarations.{type_rank, is_untyped, declared_type, agreeing, unmapped, init_part, create_breaches, type_breaches, untyped_breaches, typed_breaches, typed_initial, written_breaches, type_given}
 use Rattle.dpl_rules.proofs.Admission.{first_empty, second_empty}
 use Rattle.dpl_memory.specs.Memory.{VariableKind, DomainKind}
@@ -30,7 +29,7 @@ use Rattle.dpl_typer.specs.Leaves.{is_rank, value_kind, kind_by, MayBePlain}
 use Rattle.dpl_typer.specs.Simple.{IsSimple, AreSimpleMoreExprs}
 use Rattle.dpl_typer.proofs.OperatorKinds.{kind-same, kind_if-some}
 use Rattle.dpl_nodes.specs.Spots.{IsNear}
-use Rattle.dpl_placing.specs.Starts.{behind, unposted, bound_word, IsLow, more_exprs, tuple_exprs, IsSimpleStart, are_ints, is_least, is_start}
+use Rattle.dpl_placing.specs.Starts.{behind, unposted, bound_word, IsLow, more_exprs, IsSimpleStart, are_ints, is_least, is_start}
 use Rattle.dpl_placing.specs.Named.{HasMap}
 use Rattle.dpl_placing.specs.Roots.{HasMapIn, HaveMaps}
 use Rattle.dpl_placing.proofs.Lows.{low-of, whole-simple}
@@ -234,6 +233,11 @@ module _ (scopes : Scopes) (names : AreVariables scopes) where
 
   -- ---- DECLARATIONS
   -- the map of an initial value without a type is a domain's
+  domain-mapped : (m : MappedTree Text) (o : Option ValueType) (t : ValueType) → o ≡ Some t → (rank : ℕ) × (s : Bool) × (t ≡ Domain rank s) × (is_rank rank ≡ true) → MappedSpelt IsNear ⊥ m → UntaskedMapped m
+      → mapped_breaches scopes (type_rank o) (Some m) ≡ [] → HasMapIn scopes (Some m)
+  domain-mapped m o t is (rank, strided, of_rank, ranked) s c h =
+      mapped-typed rank (Some m) ranked s c (subst (λ o. mapped_breaches scopes (type_rank o) (Some m) ≡ []) (is ∙ ap (λ t. Some t) of_rank) h)
+
   untyped-maps : (init : InitTree Text) → InitSpelt IsNear ⊥ init → UntaskedInit init → untyped_breaches scopes init ≡ [] → HasMapIn scopes (init_map init)
   untyped-maps (ItemInit item None) s c h = tt
   untyped-maps (ItemInit item (Some m)) s c h =
@@ -244,8 +248,7 @@ module _ (scopes : Scopes) (names : AreVariables scopes) where
       let p = (runnable_side scopes IsNear names item s.0 c.0 (first_empty side kept front)).variable in
       let is = side-item scopes IsNear names item ∙ p.is in
       let domain = owed_type-holds (is_untyped (Some m)) (first_of_item item) (side_part scopes item).type p.type is (second_empty side kept front) in
-      let (rank, strided, of_rank, ranked) = domain-rank p.type p.kind p.of_kind domain in
-      mapped-typed rank (Some m) ranked s.1 c.1 (subst (λ o. mapped_breaches scopes (type_rank o) (Some m) ≡ []) (is ∙ ap (λ t. Some t) of_rank) (second_empty (side ++ kept) told h))
+      domain-mapped m (side_part scopes item).type p.type is (domain-rank p.type p.kind p.of_kind domain) s.1 c.1 (second_empty (side ++ kept) told h)
   untyped-maps (CreateInit m) s c h = tt
 
   typed-maps : (t : TypeTree Text) → TypeSpelt IsNear ⊥ t → UntaskedType t → type_breaches scopes t ≡ [] → HasMapIn scopes (type_map (Some t))

@@ -3,7 +3,7 @@ use Rattle.std.proofs.Common.{subst, sym, ap, ◌∙◌}
 use Rattle.dpl_tree.specs.View.{posts_of}
 use Rattle.dpl_rules.specs.Maps.{posts_low, front_of}
 use Rattle.dpl_placing.specs.Starts.{IsLow}
-use Rattle.dpl_placing.proofs.Lows.{posts_low-push, front_of-push}
+use Rattle.dpl_placing.proofs.Lows.{if_none, posts_low-push, front_of-push}
 use Rattle.dpl_placing.proofs.start.before_low.Goals as goal
 
 pub returns-clause-low : goal.returns-clause-low
@@ -19,6 +19,7 @@ returns-clause-front c =
     sym (ap (λ ps. front_of (posts_of ps)) last.ensures.cases.0 ∙ front_of-push last.front.now last.last.now)
 
 pub returns-in_err-at-clause-other : goal.returns-in_err-at-clause-other
-returns-in_err-at-clause-other c = λ e.
+returns-in_err-at-clause-other c =
     let last = c.in_ok-last in
-    ap (λ ps. posts_low (posts_of ps) e) last.ensures.cases.0 ∙ posts_low-push last.front.now last.last.now e ∙ c.in_err-at.ensures.other e
+    if_none c.from_residual-in_err-at.result
+    (λ e. ap (λ ps. posts_low (posts_of ps) e) last.ensures.cases.0 ∙ posts_low-push last.front.now last.last.now e ∙ c.in_err-at.ensures.other e)
