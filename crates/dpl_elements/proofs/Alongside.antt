@@ -7,7 +7,7 @@ use Rattle.std.proofs.lemmas.List.{set-get_or, set-set, get_or-set_same, get_or-
 use Rattle.dpl_array.specs.Elements.{behind, put_some, put_in_row}
 use Rattle.dpl_array.proofs.ElementLemmas.{same_index-true, not-same}
 use Rattle.dpl_language.specs.Values.{Index}
-use Rattle.dpl_language.specs.Ranges.{indices_in, same_index}
+use Rattle.dpl_language.specs.Ranges.{same_index}
 use Rattle.dpl_contents.proofs.Members.{is_index-same}
 use Rattle.dpl_memory.specs.Memory.{Held, no_array, word_at, with_word, held_at, held_with}
 use Rattle.dpl_frame.proofs.EmptySlots.{held_at_none}

@@ -16,7 +16,7 @@ use Rattle.dpl_language.specs.Statements.{exec}
 use Rattle.dpl_lowered.specs.Shapes.{nowhere}
 use Rattle.dpl_lowered.specs.LoweredStatements.{written_initial}
 use Rattle.dpl_words.specs.Words.{LeafKind, IntLeaf, TruthLeaf, RangeLeaf, value_at}
-use Rattle.dpl_memory.specs.Memory.{PlainKind, Variable, Memory, variable, int_leaf, truth_leaf, in_memory}
+use Rattle.dpl_memory.specs.Memory.{PlainKind, Variable, Memory, variable, int_leaf, in_memory}
 use Rattle.dpl_memory.proofs.Known.{memory-known}
 use Rattle.dpl_nodes.specs.declared.step.IntDeed.{IntDeed}
 use Rattle.dpl_nodes.specs.declared.step.IntDeed.TheVariants as deeds

@@ -1,7 +1,5 @@
 -- Where maps start, and what is named from there.
--- Each lemma has the language's meaning on its left side.
-use Rattle.std.proofs.Common.{◌≡◌, ℤ, List, [], ◌∷◌, Contains, map, flat_map, Option, Some, None, Result, Ok, Err, refl, sym, subst, ap, ◌∙◌}
-use Rattle.std.proofs.lemmas.List.{append-nil}
+use Rattle.std.proofs.Common.{◌≡◌, ℤ, List, [], ◌∷◌, Contains, map, flat_map, Option, Some, None, IsNone, IfSome, ◌↔◌, Result, Ok, Err, refl, sym, subst, ap, ◌∙◌}
 use Rattle.dpl_syntax.specs.declared.place.Place.{Place}
 use Rattle.dpl_sets.specs.TextRanges.{TextRange}
 use Rattle.dpl_sets.specs.TextDomains.{values_of}
@@ -12,18 +10,17 @@ use Rattle.dpl_map.proofs.ListLemmas.{Contains-nothing}
 use Rattle.dpl_layout.specs.Roots.{IsLeast, IsLeastOf}
 use Rattle.dpl_contents.specs.Domains.{AreWritten}
 use Rattle.dpl_language.specs.Tree.{Word, Size, First, Last, Low, High, LowBound, DomainOf, Id, Plainly, ExprTree, StartExpr}
-use Rattle.dpl_language.specs.Values.{Value, Domain, Index, coordinates, index_of, Fault}
+use Rattle.dpl_language.specs.Values.{Value, Domain, Index, coordinates, Fault}
 use Rattle.dpl_language.specs.Ranges.{least_of, least_before, least_in, low_of, tuple_or_end, end_of, method_of}
-use Rattle.dpl_language.specs.Distributions.{CyclicFrom, BlockCyclicFrom}
+use Rattle.dpl_language.specs.Distributions.{CyclicFrom}
 use Rattle.dpl_language.specs.Outcome.{with_ok}
 use Rattle.dpl_language.specs.Environment.{Limits}
-use Rattle.dpl_language.specs.Expressions.{value_of, values_of as exprs_values}
+use Rattle.dpl_language.specs.Expressions.{value_of}
 use Rattle.dpl_language.specs.Roots.{or_no_map, cyclic_or_none, start_of}
 use Rattle.dpl_memory.specs.Memory.{Variable, Memory, in_memory}
-use Rattle.dpl_nodes.specs.declared.tree.IndexExpr.{IndexExpr, Line', Plane', Space', Tuple as TupleIndex}
-use Rattle.dpl_nodes.specs.Typed.{dotted, tuple_named, int_view, index_exprs}
-use Rattle.dpl_nodes.specs.Steps.{low_word, index_start}
-use Rattle.dpl_values.specs.Starts.{value_or_none, blocks_or_none}
+use Rattle.dpl_nodes.specs.Typed.{dotted}
+use Rattle.dpl_nodes.specs.Steps.{low_word}
+use Rattle.dpl_values.specs.Starts.{value_or_none}
 use Rattle.dpl_values.proofs.Ranges.{told_end, end_of-least}
 
 -- LEAST MEMBERS
@@ -62,22 +59,14 @@ unfolding indices
 least_in-none [] e = cc
 least_in-none (r ∷ rs) e = none-before (members_of r.value) (least_in rs) (indices (values_of rs)) (least_in-none rs) e
 
+-- what a domain's corner is told to be
+pub least_in-is : (rs : List TextRange) (d : List RangeValue) (o : Option Index) → d ≡ values_of rs → AreWritten (values_of rs) → (IsNone o ↔ (indices d ≡ [])) → IfSome o (IsLeastOf d)
+    → o ≡ least_in rs
+least_in-is rs d None e written none least = sym (least_in-none rs (subst (λ d. indices d ≡ []) e (none.0 refl)))
+least_in-is rs d (Some t) e written none least = sym (least_in-some rs t written (subst (λ d. IsLeastOf d t) e least))
+
 -- STARTS
 module _ (limits : Limits) (s : Memory) where
-  start-from : (e : ExprTree Variable) → start_of limits in_memory (StartExpr e) s ≡ with_ok (value_of limits in_memory e None s) (λ v. Ok (coordinates v))
-  start-from e = refl
-
-  alone : (r : Result Value Fault) → with_ok r (λ v. Ok (coordinates v)) ≡ with_ok (with_ok r (λ v. Ok (v ∷ []))) (λ vs. Ok (index_of vs))
-  alone (Ok v) = ap Ok (sym (append-nil (coordinates v)))
-  alone (Err f) = refl
-
-  -- an index, by its coordinates
-  pub start-index : (t : IndexExpr) → start_of limits in_memory (index_start t) s ≡ with_ok (exprs_values limits in_memory (index_exprs t) s) (λ vs. Ok (index_of vs))
-  start-index (Line' p a) = alone (value_of limits in_memory (int_view a) None s)
-  start-index (Plane' p a q b) = refl
-  start-index (Space' p a q b r c) = refl
-  start-index (TupleIndex slot) = alone (value_of limits in_memory (tuple_named slot) None s)
-
   low-method : (w : Word) (at : Place) (v : Value) → method_of (low_word w) at v ≡ low_of at v
   low-method Size at v = refl
   low-method First at v = refl
@@ -100,17 +89,7 @@ module _ (limits : Limits) (s : Memory) where
       ∙ ap (λ r. value_or_none (with_ok (with_ok r (λ x. Ok x)) (λ v. Ok (coordinates v)))) (low-method w at (Domain rs))
       ∙ ended at (least_in rs)
 
-  pub start-fault : (e : ExprTree Variable) (at : Place) (w : Word) (f : Fault) → value_of limits in_memory e None s ≡ Err f
-      → value_or_none (start_of limits in_memory (StartExpr (dotted e (Plainly at (low_word w)))) s) ≡ None
-  start-fault e at w f is =
-      ap (λ r. value_or_none (with_ok (with_ok r (λ v. with_ok (method_of (low_word w) at v) (λ x. Ok x))) (λ v. Ok (coordinates v)))) is
-
 -- WHAT IS NAMED
 pub cyclic-named : (r : Result Index Fault) → or_no_map (with_ok r (λ t. Ok (CyclicFrom t))) ≡ cyclic_or_none (value_or_none r)
 cyclic-named (Ok t) = refl
 cyclic-named (Err f) = refl
-
-pub blocks-named : (r q : Result Index Fault) → or_no_map (with_ok r (λ t. with_ok q (λ sizes. Ok (BlockCyclicFrom t sizes)))) ≡ blocks_or_none (value_or_none r) (value_or_none q)
-blocks-named (Ok t) (Ok sizes) = refl
-blocks-named (Ok t) (Err f) = refl
-blocks-named (Err f) q = refl
