@@ -72,7 +72,7 @@ module _ (ss : Scopes) (Holds : Text → Type 0) where
       ap (λ p. Postfixed x (Post (post_leaves ss OtherBase p) NoPosts)) is ∙ low-last x dot at b ∙ ap (λ w. dotted x (Plainly at w)) (sym word)
   low-stacked x (Post p (Post q rest)) e at w h = low-stacked (Postfixed x (Post (post_leaves ss OtherBase p) NoPosts)) (Post q rest) e at w h
 
-  pub low-leaves : (e : ExprTree Text) (ps : Posts Text) (x : ExprTree Text) (at : Place) (w : Word) → IsLow x at w (posts_low ps x) → AreSimplePosts Holds (front_of ps)
+  low-leaves : (e : ExprTree Text) (ps : Posts Text) (x : ExprTree Text) (at : Place) (w : Word) → IsLow x at w (posts_low ps x) → AreSimplePosts Holds (front_of ps)
       → leaves_of ss Once (Postfixed e ps) ≡ dotted (leaves_of ss Once (behind e (front_of ps))) (Plainly at w)
   low-leaves e NoPosts x at w h simple = absurd h
   low-leaves e (Post p NoPosts) x at w h simple =
@@ -85,7 +85,7 @@ module _ (ss : Scopes) (Holds : Text → Type 0) where
       low-stacked (Postfixed (based known_variable (renamed_posts (leaf_in ss) (Post p (Post q rest))) leaf lowered) first) (Post q rest) x at w h
       ∙ ap (λ b. dotted (stacked_on (Postfixed b first) (posts_leaves ss OtherBase (front_of (Post q rest)))) (Plainly at w)) (front-based p q rest leaf lowered simple.0)
 
-  -- so it is what a typed one stands for
+  -- so that is what the least members of a domain, typed, stand for
   least-word : (b : Bool) → low_word (bound_word b) ≡ bound_word b
   least-word true = refl
   least-word false = refl

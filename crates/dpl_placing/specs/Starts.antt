@@ -1,4 +1,4 @@
--- Where a map starts, typed: which starts have a typed form, and what stands before and behind the `low` of one.
+-- Where a map starts, typed: which starts have a typed form, and what stands before the `low` of one.
 -- What a typed start stands for is the lowered tree over the leaves of its names, evaluated once.
 use Rattle.std.specs.Prelude.{◌≡◌, Bool, true, false, ◌&&◌, ◌||◌, List, [], ◌∷◌, length, map, Option, Some, None}
 use Rattle.dpl_syntax.specs.declared.place.Place.{Place}

@@ -234,10 +234,7 @@ fn of_truth<'t>(sign: AssignSign, slot: usize, e: &'t BoolExpr<'t>) -> Result<St
 {
     match sign.op {
         Assign::Set => Ok(Step::Truth(TruthTarget::Slot(TruthDeed::Set, slot), e)),
-        Assign::SetReduce => Ok(Step::Truth(
-            TruthTarget::Slot(TruthDeed::Reduce, slot),
-            e,
-        )),
+        Assign::SetReduce => Ok(Step::Truth(TruthTarget::Slot(TruthDeed::Reduce, slot), e)),
         Assign::SetAdd
         | Assign::SetSubtract
         | Assign::SetMultiply

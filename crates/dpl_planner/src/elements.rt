@@ -28,8 +28,7 @@ ghost use Rattle.dpl_planner.specs.Plans.{intents_in, PlansStmt};
 use crate::change::declared_type;
 use crate::progress::{Plan, node, spot};
 use dpl_nodes::{
-    ArrayName, BoolExpr, IndexExpr, IntExpr, NoNode, PromotedInt, PromotedTruth, Step,
-    TruthTarget,
+    ArrayName, BoolExpr, IndexExpr, IntExpr, NoNode, PromotedInt, PromotedTruth, Step, TruthTarget,
 };
 use dpl_scopes::{Scopes, ValueType};
 use dpl_syntax::Place;

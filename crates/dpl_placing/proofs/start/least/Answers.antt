@@ -1,4 +1,4 @@
--- What stands before `low` may be typed where the whole may, and is typed as it is found; the word and its place are those of the text.
+-- What stands before `low` may be typed where the whole may; the typed start has the word of the text, and its place.
 use Rattle.std.proofs.Common.{rules, ◌≡◌, false, Err, subst, sym, ap, ◌∙◌}
 use Rattle.dpl_tree.specs.View.{expr_view, posts_of}
 use Rattle.dpl_rules.specs.Types.{has, is_domain}
