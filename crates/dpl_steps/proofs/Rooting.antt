@@ -1,8 +1,8 @@
 -- What a declaration says of a root, as the language's meaning has it; and declared domains, with their roots.
 -- Each lemma has the meaning on its left side.
-use Rattle.std.proofs.Common.{◌≡◌, ℕ, Bor, Option, Some, None, true, false, if◌then◌else◌, List, get_or, set, Result, Ok, Err, refl, sym, ap, ◌∙◌}
+use Rattle.std.proofs.Common.{◌≡◌, ℕ, Bor, Option, Some, None, if◌then◌else◌, List, get_or, set, Result, Ok, Err, refl, sym, ap, ◌∙◌}
 use Rattle.dpl_sets.specs.TextRanges.{TextRange}
-use Rattle.dpl_language.specs.Tree.{Low, One}
+use Rattle.dpl_language.specs.Tree.{Low, One, Plainly, StartExpr}
 use Rattle.dpl_language.specs.Values.{Value, Domain, ranges_in, is_distributed, Fault}
 use Rattle.dpl_language.specs.Ranges.{least_in, empty_domain}
 use Rattle.dpl_language.specs.Distributions.{NoMap, BlockOver, Root, no_root}
@@ -24,7 +24,7 @@ use Rattle.dpl_nodes.specs.declared.step.Beginning.TheVariants.{Value as ValueNo
 use Rattle.dpl_nodes.specs.declared.step.Rank.{Rank}
 use Rattle.dpl_nodes.specs.declared.step.ArrayDeclaration.{ArrayDeclaration}
 use Rattle.dpl_nodes.specs.Roots.{slot_of, slot_by}
-use Rattle.dpl_nodes.specs.Typed.{domain_view}
+use Rattle.dpl_nodes.specs.Typed.{dotted, domain_view}
 use Rattle.dpl_nodes.specs.Steps.{dimensions, over_items, domain_declared}
 use Rattle.dpl_frame.specs.Frames.{Framed, with_memory}
 use Rattle.dpl_values.proofs.Starting.{start-least, cyclic-named}
@@ -77,7 +77,7 @@ module _ (limits : Limits) (s : Memory) where
     pub cyclic-root : valued_root limits e CyclicCreated rs s ≡ root_by (cyclic_or_none (least_in value)) rs
     cyclic-root =
         ap (λ d. root_by d rs)
-        (cyclic-named (start_of limits in_memory _ s)
+        (cyclic-named (start_of limits in_memory (StartExpr (dotted (domain_view e) (Plainly nowhere Low))) s)
         ∙ ap cyclic_or_none (start-least limits s (domain_view e) nowhere Low value is))
 
   -- DECLARED DOMAINS

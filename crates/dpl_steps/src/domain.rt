@@ -33,7 +33,7 @@ fn declare_value<G: Gate>(
     gate: &G,
 ) -> Result<(), Stop>
     ensures ends { (done : Deeds) → RunsTo (MayRefuseSome (G.may_refuse gate.now)) result frame.new.memory done
-        (exec frame.old.limits in_memory (domain_declared slot (Value e) placing.now) frame.old.memory done) }
+        (exec frame.old.limits in_memory (domain_declared slot (Value e.entry) placing.now) frame.old.memory done) }
     ensures limits { frame.new.limits ≡ frame.old.limits }
     ensures layout { frame.new.layout ≡ frame.old.layout }
 {

@@ -26,7 +26,7 @@ impl Lineage {
     {
         match self {
             Lineage::Of(root) => *root,
-            Lineage::Named(named) => Root::Of(*named, domain),
+            Lineage::Named(named) => Root::of(*named, domain),
         }
     }
 }

@@ -16,7 +16,7 @@ use Rattle.dpl_contents.specs.Range.{range_word}
 use Rattle.dpl_frame.specs.Frames.{Framed}
 use Rattle.dpl_steps.specs.Readings.{step_in, else_in, steps_in}
 use Rattle.dpl_elements.specs.Turns.{turn_in_memory, index_turn}
-use Rattle.dpl_nodes.proofs.Unread.{cell_read-int, cell_read-truth, item_read-range}
+use Rattle.dpl_nodes.proofs.Unread.{cell_read-int, item_read-range}
 use Rattle.dpl_array.proofs.WalkLemmas.{walk-next, walk-end}
 use Rattle.dpl_loop.proofs.Ends.{then_do-halts, halts-alike, ends-alike}
 use Rattle.dpl_values.specs.Reductions.{EachInInts, EachInTruths, EachInRange, EachInDomain}

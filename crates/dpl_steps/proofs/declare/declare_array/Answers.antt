@@ -54,5 +54,5 @@ returns-clause-ends g c done =
     ∙ ap (λ m. Done m done)
     (dealt-array d.slot (λ rs. derived_root limits in_memory over rs s) _ held c.declare_over.new.frame c.deal.new.self
     c.array_domain.ensures
-    (c.root-root.ensures ∙ c.derived.ensures held ∙ ap (λ o. slot_root o held s) c.origin.ensures ∙ sym (derived-slot limits s over held))
+    (c.root-root.ensures ∙ c.derived-lineage.ensures held ∙ ap (λ o. slot_root o held s) c.origin.ensures ∙ sym (derived-slot limits s over held))
     c.deal.ensures)
