@@ -1,9 +1,12 @@
--- Words that are written one after another; and the values of sums, differences and products by those of both sides.
-use Rattle.std.proofs.Common.{◌≡◌, ◌<◌, ◌+◌, ℕ, zero, suc, ℤ, pos, ◌+ℤ◌, ◌-ℤ◌, ◌*ℤ◌, List, length, get_or, set, replicate, Option, Result, Ok, arith, refl, sym, subst, ap, ◌∙◌, ◌⊎◌, ⊎_elim, inl, inr}
+-- Words that are written one after another; and the values of sums, differences, products, quotients and remainders by those of both sides.
+use Rattle.std.proofs.Common.{◌≡◌, ◌≢◌, Bool, true, false, int_div, int_rem, ◌<◌, ◌+◌, ℕ, zero, suc, ℤ, pos, ◌+ℤ◌, ◌-ℤ◌, ◌*ℤ◌, List, length, get_or, set, replicate, Option, Result, Ok, arith, refl, sym, subst, ap, ◌∙◌, ◌⊎◌, ⊎_elim, inl, inr}
+use Rattle.std.specs.Ordering.{int_eq}
 use Rattle.std.proofs.lemmas.List.{get_or-set_same, get_or-set_other}
+use Rattle.std.proofs.lemmas.Bool.Decides.{Decides-int_eq}
+use Rattle.dpl_syntax.specs.declared.place.Place.{Place}
 use Rattle.dpl_language.specs.Arithmetic.{wrap}
 use Rattle.dpl_array.specs.Elements.{behind}
-use Rattle.dpl_language.specs.Tree.{ExprTree, Add, Subtract, Multiply}
+use Rattle.dpl_language.specs.Tree.{ExprTree, Add, Subtract, Multiply, Divide, Remainder}
 use Rattle.dpl_language.specs.Values.{Value, Fault, Index, Int}
 use Rattle.dpl_language.specs.Expressions.{value_of}
 use Rattle.dpl_language.specs.Environment.{Limits}
@@ -50,6 +53,13 @@ both-hold Suits left_at right_at whole_at apply whole left right made beside beh
     (ap (λ t. right_at (behind k t) u) (sym beside) ∙ right_holds k (in_right k below) within u (subst (λ t. Suits (behind k t) u) (behind_left ∙ sym beside) suits))
     ∙ ap (λ n. Ok (Int n)) (sym (words k within))
 
+not_zero : (y : ℤ) → y ≢ pos 0 → int_eq y (pos 0) ≡ false
+not_zero y some = by (int_eq y (pos 0)) (Decides-int_eq y (pos 0)).0
+  where
+    by : (b : Bool) → (b ≡ true → y ≡ pos 0) → b ≡ false
+    by true is = absurd (some (is refl))
+    by false is = refl
+
 module _ (limits : Limits) (a b : ExprTree Variable) (t : Option Index) (s : Memory) (x y : ℤ) (left : value_of limits in_memory a t s ≡ Ok (Int x)) (right : value_of limits in_memory b t s ≡ Ok (Int y)) where
   pub sum-at : value_of limits in_memory (two a nowhere Add b) t s ≡ Ok (Int (wrap (x +ℤ y)))
   sum-at = rw left (rw right refl)
@@ -59,3 +69,10 @@ module _ (limits : Limits) (a b : ExprTree Variable) (t : Option Index) (s : Mem
 
   pub product-at : value_of limits in_memory (two a nowhere Multiply b) t s ≡ Ok (Int (wrap (x *ℤ y)))
   product-at = rw left (rw right refl)
+
+  -- where the divisor isn't 0
+  pub quotient-at : (at : Place) → y ≢ pos 0 → value_of limits in_memory (two a at Divide b) t s ≡ Ok (Int (wrap (int_div x y)))
+  quotient-at at some = rw left (rw right (rw (not_zero y some) refl))
+
+  pub remainder-at : (at : Place) → y ≢ pos 0 → value_of limits in_memory (two a at Remainder b) t s ≡ Ok (Int (wrap (int_rem x y)))
+  remainder-at at some = rw left (rw right (rw (not_zero y some) refl))

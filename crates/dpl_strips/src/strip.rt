@@ -1,16 +1,21 @@
-// The values of a promoted int at several indices at once, where that needs no look at each: whole arrays, ints at hand, and sums,
-// differences and products of these. And what strips are made of.
+// The values of a promoted int at several indices at once, where that needs no look at each: whole arrays, ints at hand, sums,
+// differences and products of these, and quotients and remainders by an int at hand. And what strips are made of.
+// A function of its own makes what stands for each operator: what a node is made of is cleared at the entry of its function, and so a
+// function for all of them would clear the strips of each.
 
-ghost use Rattle.std.specs.Prelude.{◌≡◌, ◌<◌, ℕ, pos, neg_ℤ, Ok, Some, get_or, slice_get, IfSome};
+ghost use Rattle.std.specs.Prelude.{◌≡◌, ◌≢◌, ◌<◌, ℕ, pos, neg_ℤ, int_div, int_rem, Ok, Some, get_or, slice_get, IfSome};
+ghost use Rattle.dpl_syntax.specs.declared.place.Place.{Place};
+ghost use Rattle.dpl_language.specs.Tree.{Minus, Add, Subtract, Multiply, Divide, Remainder, Prefixed};
 ghost use Rattle.dpl_language.specs.Arithmetic.{wrap};
 ghost use Rattle.dpl_language.specs.Values.{Int, Index as IndexValue};
 ghost use Rattle.dpl_language.specs.Expressions.{value_of};
 ghost use Rattle.dpl_lowered.specs.LoweredExpressions.{EachTurn};
+ghost use Rattle.dpl_lowered.specs.Shapes.{nowhere, two};
 ghost use Rattle.dpl_memory.specs.Memory.{Memory, in_memory};
 ghost use Rattle.dpl_nodes.specs.Typed.{promoted_int};
 ghost use Rattle.dpl_strips.specs.Strips.{HoldsAtIndices};
 
-use crate::number::{difference, negative, product, sum};
+use crate::number::{difference, negative, product, quotient, remainder, sum};
 use dpl_domain::Index;
 use dpl_frame::{Arrays, Frame};
 use dpl_loop::{STRIP, Strip};
@@ -101,6 +106,42 @@ pub(crate) fn negated(strip: &Strip) -> Strip
     }
 }
 
+/// The ints of a strip, each divided by one int.
+pub(crate) fn quotients(strip: &Strip, by: i64) -> Strip
+    requires { by ≢ pos 0 }
+    ensures first { result.first ≡ strip.now.first }
+    ensures size { result.size ≡ strip.now.size }
+    ensures words { (k : ℕ) → k < 64 → get_or result.words k (pos 0) ≡ wrap (int_div (get_or strip.now.words k (pos 0)) by) }
+{
+    let mut made = [0; STRIP];
+    for k in 0..STRIP {
+        made[k] = quotient(strip.words[k], by);
+    }
+    Strip {
+        first: strip.first,
+        words: made,
+        size: strip.size,
+    }
+}
+
+/// What each int of a strip leaves when it is divided by one int.
+pub(crate) fn remainders(strip: &Strip, by: i64) -> Strip
+    requires { by ≢ pos 0 }
+    ensures first { result.first ≡ strip.now.first }
+    ensures size { result.size ≡ strip.now.size }
+    ensures words { (k : ℕ) → k < 64 → get_or result.words k (pos 0) ≡ wrap (int_rem (get_or strip.now.words k (pos 0)) by) }
+{
+    let mut made = [0; STRIP];
+    for k in 0..STRIP {
+        made[k] = remainder(strip.words[k], by);
+    }
+    Strip {
+        first: strip.first,
+        words: made,
+        size: strip.size,
+    }
+}
+
 // An int that is the same at all indices, as a slot holds it or as it stands in the text.
 fn steady<A: Arrays>(e: &PromotedInt<'_>, frame: &Frame<'_, A>) -> Option<i64>
     ensures { IfSome result (λ n. (t : IndexValue) (u : Memory) → u.words ≡ frame.now.memory.words → value_of frame.now.limits in_memory (promoted_int EachTurn e.now) (Some t) u ≡ Ok (Int n)) }
@@ -112,40 +153,141 @@ fn steady<A: Arrays>(e: &PromotedInt<'_>, frame: &Frame<'_, A>) -> Option<i64>
     }
 }
 
+// One int, if it is at hand, everywhere.
+#[inline(never)]
+fn scalars<A: Arrays>(e: &PromotedInt<'_>, first: Index, frame: &Frame<'_, A>) -> Strip
+    ensures first { result.first ≡ first }
+    ensures values { HoldsAtIndices (λ i u. value_of frame.now.limits in_memory (promoted_int EachTurn e.now) (Some i) u) frame.now.memory result }
+{
+    match steady(e, frame) {
+        Some(n) => repeated(first, n),
+        None => Strip::none(first),
+    }
+}
+
+// Promoted ints with the other sign.
+#[cycle(promoted)]
+#[inline(never)]
+fn negatives<A: Arrays>(e: &PromotedInt<'_>, first: Index, frame: &Frame<'_, A>) -> Strip
+    ensures first { result.first ≡ first }
+    ensures values { HoldsAtIndices (λ i u. value_of frame.now.limits in_memory (Prefixed nowhere Minus (promoted_int EachTurn e.now)) (Some i) u) frame.now.memory result }
+{
+    negated(&promoted_strip(e, first, frame))
+}
+
+// Sums of promoted ints.
+#[cycle(promoted)]
+#[inline(never)]
+fn sums<A: Arrays>(
+    a: &PromotedInt<'_>,
+    b: &PromotedInt<'_>,
+    first: Index,
+    frame: &Frame<'_, A>,
+) -> Strip
+    ensures first { result.first ≡ first }
+    ensures values { HoldsAtIndices (λ i u. value_of frame.now.limits in_memory
+        (two (promoted_int EachTurn a.now) nowhere Add (promoted_int EachTurn b.now)) (Some i) u) frame.now.memory result }
+{
+    let left = promoted_strip(a, first, frame);
+    match steady(b, frame) {
+        Some(n) => with_each(&left, n, sum),
+        None => both(&left, &promoted_strip(b, first, frame), sum),
+    }
+}
+
+// Their differences.
+#[cycle(promoted)]
+#[inline(never)]
+fn differences<A: Arrays>(
+    a: &PromotedInt<'_>,
+    b: &PromotedInt<'_>,
+    first: Index,
+    frame: &Frame<'_, A>,
+) -> Strip
+    ensures first { result.first ≡ first }
+    ensures values { HoldsAtIndices (λ i u. value_of frame.now.limits in_memory
+        (two (promoted_int EachTurn a.now) nowhere Subtract (promoted_int EachTurn b.now)) (Some i) u) frame.now.memory result }
+{
+    let left = promoted_strip(a, first, frame);
+    match steady(b, frame) {
+        Some(n) => with_each(&left, n, difference),
+        None => both(&left, &promoted_strip(b, first, frame), difference),
+    }
+}
+
+// Their products.
+#[cycle(promoted)]
+#[inline(never)]
+fn products<A: Arrays>(
+    a: &PromotedInt<'_>,
+    b: &PromotedInt<'_>,
+    first: Index,
+    frame: &Frame<'_, A>,
+) -> Strip
+    ensures first { result.first ≡ first }
+    ensures values { HoldsAtIndices (λ i u. value_of frame.now.limits in_memory
+        (two (promoted_int EachTurn a.now) nowhere Multiply (promoted_int EachTurn b.now)) (Some i) u) frame.now.memory result }
+{
+    let left = promoted_strip(a, first, frame);
+    match steady(b, frame) {
+        Some(n) => with_each(&left, n, product),
+        None => both(&left, &promoted_strip(b, first, frame), product),
+    }
+}
+
+// Their quotients, by an int at hand that isn't 0.
+#[cycle(promoted)]
+#[inline(never)]
+fn divided<A: Arrays>(
+    a: &PromotedInt<'_>,
+    b: &PromotedInt<'_>,
+    first: Index,
+    frame: &Frame<'_, A>,
+) -> Strip
+    ensures first { result.first ≡ first }
+    ensures values { (at : Place) → HoldsAtIndices (λ i u. value_of frame.now.limits in_memory
+        (two (promoted_int EachTurn a.now) at Divide (promoted_int EachTurn b.now)) (Some i) u) frame.now.memory result }
+{
+    match steady(b, frame) {
+        Some(n) if n != 0 => quotients(&promoted_strip(a, first, frame), n),
+        _ => Strip::none(first),
+    }
+}
+
+// Their remainders, by such an int.
+#[cycle(promoted)]
+#[inline(never)]
+fn left_over<A: Arrays>(
+    a: &PromotedInt<'_>,
+    b: &PromotedInt<'_>,
+    first: Index,
+    frame: &Frame<'_, A>,
+) -> Strip
+    ensures first { result.first ≡ first }
+    ensures values { (at : Place) → HoldsAtIndices (λ i u. value_of frame.now.limits in_memory
+        (two (promoted_int EachTurn a.now) at Remainder (promoted_int EachTurn b.now)) (Some i) u) frame.now.memory result }
+{
+    match steady(b, frame) {
+        Some(n) if n != 0 => remainders(&promoted_strip(a, first, frame), n),
+        _ => Strip::none(first),
+    }
+}
+
 /// The values of a promoted int at an index and at those behind it in the last dimension, as far as they are found at once. There may be
 /// none. They stay the values there while elements at other indices change.
+#[cycle(promoted)]
 pub fn promoted_strip<A: Arrays>(e: &PromotedInt<'_>, first: Index, frame: &Frame<'_, A>) -> Strip
     ensures first { result.first ≡ first }
     ensures values { HoldsAtIndices (λ i u. value_of frame.now.limits in_memory (promoted_int EachTurn e.now) (Some i) u) frame.now.memory result }
 {
     match e {
-        PromotedInt::Scalar(_) => match steady(e, frame) {
-            Some(n) => repeated(first, n),
-            None => Strip::none(first),
-        },
+        PromotedInt::Scalar(_) => scalars(e, first, frame),
         PromotedInt::Element(slot, _) => copied(first, frame.run(*slot, first)),
-        PromotedInt::Negative(e) => negated(&promoted_strip(e, first, frame)),
-        PromotedInt::Sum(a, b) => {
-            let left = promoted_strip(a, first, frame);
-            match steady(b, frame) {
-                Some(n) => with_each(&left, n, sum),
-                None => both(&left, &promoted_strip(b, first, frame), sum),
-            }
-        }
-        PromotedInt::Difference(a, b) => {
-            let left = promoted_strip(a, first, frame);
-            match steady(b, frame) {
-                Some(n) => with_each(&left, n, difference),
-                None => both(&left, &promoted_strip(b, first, frame), difference),
-            }
-        }
-        PromotedInt::Product(a, b) => {
-            let left = promoted_strip(a, first, frame);
-            match steady(b, frame) {
-                Some(n) => with_each(&left, n, product),
-                None => both(&left, &promoted_strip(b, first, frame), product),
-            }
-        }
-        PromotedInt::Quotient(_, _, _) | PromotedInt::Remainder(_, _, _) => Strip::none(first),
+        PromotedInt::Negative(e) => negatives(e, first, frame),
+        PromotedInt::Sum(a, b) => sums(a, b, first, frame),
+        PromotedInt::Difference(a, b) => differences(a, b, first, frame),
+        PromotedInt::Product(a, b) => products(a, b, first, frame),
+        PromotedInt::Quotient(a, b, _) => divided(a, b, first, frame),
+        PromotedInt::Remainder(a, b, _) => left_over(a, b, first, frame),
     }
 }

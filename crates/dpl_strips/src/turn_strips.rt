@@ -1,11 +1,12 @@
 // The ints of an expression in several turns of a loop at once, and where the elements lie that these turns find.
-// What is read is read before the turns, and so from no array that they write.
+// What is read is read before the turns, and so from no array that they write. Each operator has a function of its own (see strip.rt).
 
 ghost use Rattle.std.specs.Prelude.{◌≡◌, ◌<◌, ℕ, pos, ◌+ℤ◌, None, get_or, IfSome};
 ghost use Rattle.dpl_syntax.specs.declared.place.Place.{Place};
 ghost use Rattle.dpl_language.specs.Arithmetic.{wrap};
-ghost use Rattle.dpl_language.specs.Tree.{IntKind};
+ghost use Rattle.dpl_language.specs.Tree.{IntKind, Minus, Add, Subtract, Multiply, Divide, Remainder, Prefixed};
 ghost use Rattle.dpl_language.specs.Expressions.{value_of};
+ghost use Rattle.dpl_lowered.specs.Shapes.{nowhere, two};
 ghost use Rattle.dpl_memory.specs.Memory.{in_memory};
 ghost use Rattle.dpl_nodes.specs.declared.tree.IndexExpr.{Tuple as TupleIndex};
 ghost use Rattle.dpl_nodes.specs.Typed.{array_named, in_square, index_items, int_view};
@@ -14,7 +15,7 @@ ghost use Rattle.dpl_strips.specs.Strips.{paced, FitsTurns, HoldsInTurns, GoesFr
 use crate::index::{coordinate, plane, space};
 use crate::number::{difference, product, sum};
 use crate::pace::{Pace, first_step, pace_of, steady};
-use crate::strip::{both, copied, negated, repeated, with_each};
+use crate::strip::{both, copied, negated, quotients, remainders, repeated, with_each};
 use dpl_domain::Index;
 use dpl_frame::{Arrays, Frame};
 use dpl_loop::{STRIP, Strip};
@@ -109,8 +110,155 @@ fn of_element<A: Arrays>(
     }
 }
 
+// The ints of one whose pace is told.
+#[inline(never)]
+fn of_leaf<A: Arrays>(
+    e: &IntExpr<'_>,
+    names: &Names<'_>,
+    target: usize,
+    first: Index,
+    frame: &Frame<'_, A>,
+) -> Strip
+    ensures first { result.first ≡ first }
+    ensures values { HoldsInTurns names.now target (λ u. value_of frame.now.limits in_memory (int_view e.now) None u) frame.now.memory result }
+{
+    match pace_of(e, names, first, frame) {
+        Some(pace) => of_pace(first, pace),
+        None => Strip::none(first),
+    }
+}
+
+// Ints with the other sign.
+#[cycle(turns)]
+#[inline(never)]
+fn negatives<A: Arrays>(
+    e: &IntExpr<'_>,
+    names: &Names<'_>,
+    target: usize,
+    first: Index,
+    frame: &Frame<'_, A>,
+) -> Strip
+    ensures first { result.first ≡ first }
+    ensures values { HoldsInTurns names.now target (λ u. value_of frame.now.limits in_memory (Prefixed nowhere Minus (int_view e.now)) None u) frame.now.memory result }
+{
+    negated(&turn_strip(e, names, target, first, frame))
+}
+
+// Sums.
+#[cycle(turns)]
+#[inline(never)]
+fn sums<A: Arrays>(
+    a: &IntExpr<'_>,
+    b: &IntExpr<'_>,
+    names: &Names<'_>,
+    target: usize,
+    first: Index,
+    frame: &Frame<'_, A>,
+) -> Strip
+    ensures first { result.first ≡ first }
+    ensures values { HoldsInTurns names.now target (λ u. value_of frame.now.limits in_memory
+        (two (int_view a.now) nowhere Add (int_view b.now)) None u) frame.now.memory result }
+{
+    let left = turn_strip(a, names, target, first, frame);
+    match steady(b, names, first, frame) {
+        Some(n) => with_each(&left, n, sum),
+        None => both(&left, &turn_strip(b, names, target, first, frame), sum),
+    }
+}
+
+// Differences.
+#[cycle(turns)]
+#[inline(never)]
+fn differences<A: Arrays>(
+    a: &IntExpr<'_>,
+    b: &IntExpr<'_>,
+    names: &Names<'_>,
+    target: usize,
+    first: Index,
+    frame: &Frame<'_, A>,
+) -> Strip
+    ensures first { result.first ≡ first }
+    ensures values { HoldsInTurns names.now target (λ u. value_of frame.now.limits in_memory
+        (two (int_view a.now) nowhere Subtract (int_view b.now)) None u) frame.now.memory result }
+{
+    let left = turn_strip(a, names, target, first, frame);
+    match steady(b, names, first, frame) {
+        Some(n) => with_each(&left, n, difference),
+        None => both(
+            &left,
+            &turn_strip(b, names, target, first, frame),
+            difference,
+        ),
+    }
+}
+
+// Products.
+#[cycle(turns)]
+#[inline(never)]
+fn products<A: Arrays>(
+    a: &IntExpr<'_>,
+    b: &IntExpr<'_>,
+    names: &Names<'_>,
+    target: usize,
+    first: Index,
+    frame: &Frame<'_, A>,
+) -> Strip
+    ensures first { result.first ≡ first }
+    ensures values { HoldsInTurns names.now target (λ u. value_of frame.now.limits in_memory
+        (two (int_view a.now) nowhere Multiply (int_view b.now)) None u) frame.now.memory result }
+{
+    let left = turn_strip(a, names, target, first, frame);
+    match steady(b, names, first, frame) {
+        Some(n) => with_each(&left, n, product),
+        None => both(&left, &turn_strip(b, names, target, first, frame), product),
+    }
+}
+
+// Quotients, by an int that is the same in all turns and isn't 0.
+#[cycle(turns)]
+#[inline(never)]
+fn divided<A: Arrays>(
+    a: &IntExpr<'_>,
+    b: &IntExpr<'_>,
+    names: &Names<'_>,
+    target: usize,
+    first: Index,
+    frame: &Frame<'_, A>,
+) -> Strip
+    ensures first { result.first ≡ first }
+    ensures values { (at : Place) → HoldsInTurns names.now target (λ u. value_of frame.now.limits in_memory
+        (two (int_view a.now) at Divide (int_view b.now)) None u) frame.now.memory result }
+{
+    match steady(b, names, first, frame) {
+        Some(n) if n != 0 => quotients(&turn_strip(a, names, target, first, frame), n),
+        _ => Strip::none(first),
+    }
+}
+
+// Remainders, by such an int.
+#[cycle(turns)]
+#[inline(never)]
+fn left_over<A: Arrays>(
+    a: &IntExpr<'_>,
+    b: &IntExpr<'_>,
+    names: &Names<'_>,
+    target: usize,
+    first: Index,
+    frame: &Frame<'_, A>,
+) -> Strip
+    ensures first { result.first ≡ first }
+    ensures values { (at : Place) → HoldsInTurns names.now target (λ u. value_of frame.now.limits in_memory
+        (two (int_view a.now) at Remainder (int_view b.now)) None u) frame.now.memory result }
+{
+    match steady(b, names, first, frame) {
+        Some(n) if n != 0 => remainders(&turn_strip(a, names, target, first, frame), n),
+        _ => Strip::none(first),
+    }
+}
+
 /// The ints of an expression in the turns of an index and of those behind it in the last dimension, as far as they are found at once.
 /// There may be none. The turns may write the array in one slot, which is not read here.
+#[cycle(turns)]
 pub fn turn_strip<A: Arrays>(
     e: &IntExpr<'_>,
     names: &Names<'_>,
@@ -122,37 +270,14 @@ pub fn turn_strip<A: Arrays>(
     ensures values { HoldsInTurns names.now target (λ u. value_of frame.now.limits in_memory (int_view e.now) None u) frame.now.memory result }
 {
     match e {
-        IntExpr::Number(_) | IntExpr::Local(_) => match pace_of(e, names, first, frame) {
-            Some(pace) => of_pace(first, pace),
-            None => Strip::none(first),
-        },
+        IntExpr::Number(_) | IntExpr::Local(_) => of_leaf(e, names, target, first, frame),
         IntExpr::Element(slot, index, _) => of_element(*slot, index, names, target, first, frame),
-        IntExpr::Negative(e) => negated(&turn_strip(e, names, target, first, frame)),
-        IntExpr::Sum(a, b) => {
-            let left = turn_strip(a, names, target, first, frame);
-            match steady(b, names, first, frame) {
-                Some(n) => with_each(&left, n, sum),
-                None => both(&left, &turn_strip(b, names, target, first, frame), sum),
-            }
-        }
-        IntExpr::Difference(a, b) => {
-            let left = turn_strip(a, names, target, first, frame);
-            match steady(b, names, first, frame) {
-                Some(n) => with_each(&left, n, difference),
-                None => both(
-                    &left,
-                    &turn_strip(b, names, target, first, frame),
-                    difference,
-                ),
-            }
-        }
-        IntExpr::Product(a, b) => {
-            let left = turn_strip(a, names, target, first, frame);
-            match steady(b, names, first, frame) {
-                Some(n) => with_each(&left, n, product),
-                None => both(&left, &turn_strip(b, names, target, first, frame), product),
-            }
-        }
+        IntExpr::Negative(e) => negatives(e, names, target, first, frame),
+        IntExpr::Sum(a, b) => sums(a, b, names, target, first, frame),
+        IntExpr::Difference(a, b) => differences(a, b, names, target, first, frame),
+        IntExpr::Product(a, b) => products(a, b, names, target, first, frame),
+        IntExpr::Quotient(a, b, _) => divided(a, b, names, target, first, frame),
+        IntExpr::Remainder(a, b, _) => left_over(a, b, names, target, first, frame),
         _ => Strip::none(first),
     }
 }
