@@ -94,7 +94,8 @@ impl<T: Copy> Pieces<T> {
     /// The language compares the bounds of two ranges where both are written without `by`, and else their members. A value
     /// doesn't tell how it was written: here a range of stride 1 counts as written without `by`.
     pub fn put(&mut self, piece: Piece<T>) -> Result<(), Piece<T>>
-        ensures fits { IsOk result ↔ (SameDomain (texts_of piece.domain) (texts_of self.old.domain) × (piece.map ≡ self.old.map) × (slice_get self.old.slots piece.locale ≡ Some None)) }
+        ensures fits { IsOk result ↔ (SameDomain (texts_of piece.domain) (texts_of self.old.domain) × (piece.map ≡ self.old.map)
+            × (slice_get self.old.slots piece.locale ≡ Some None)) }
         ensures put { OnOk result (self.new ≡ with_slot self.old piece.locale (Some piece.elements)) }
         ensures back { IfErr result (λ p. p ≡ piece) }
         ensures unchanged { OnErr result (self.new ≡ self.old) }
@@ -109,7 +110,8 @@ impl<T: Copy> Pieces<T> {
 
     // Whether a piece is no stranger and no double.
     fn takes(&self, piece: &Piece<T>) -> bool
-        ensures { IsTrue result ↔ (SameDomain (texts_of piece.now.domain) (texts_of self.now.domain) × (piece.now.map ≡ self.now.map) × (slice_get self.now.slots piece.now.locale ≡ Some None)) }
+        ensures { IsTrue result ↔ (SameDomain (texts_of piece.now.domain) (texts_of self.now.domain) × (piece.now.map ≡ self.now.map)
+            × (slice_get self.now.slots piece.now.locale ≡ Some None)) }
     {
         if !same_domain(&piece.domain(), &self.domain) {
             return false;

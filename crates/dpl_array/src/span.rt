@@ -92,7 +92,8 @@ impl Grid {
     /// The place of two integers, and how many places there are from it on in their row; none of two that are none of them.
     #[inline(always)]
     pub(crate) fn run(&self, i: i64, j: i64) -> (usize, usize)
-        ensures { (k : ℕ) → k < result.1 → IsPlaceOn self.now.rows.low self.now.rows.size self.now.columns.low self.now.columns.size i (j +ℤ pos k) (result.0 + k) }
+        ensures { (k : ℕ) → k < result.1
+            → IsPlaceOn self.now.rows.low self.now.rows.size self.now.columns.low self.now.columns.size i (j +ℤ pos k) (result.0 + k) }
     {
         let (Some(row), Some(column)) = (self.rows.offset(i), self.columns.offset(j)) else {
             return (0, 0);

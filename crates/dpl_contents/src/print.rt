@@ -94,7 +94,9 @@ fn print_space(
     walk: &mut Walk<'_, i64>,
     out: &mut Vec<u8>,
 ) -> Result<(), AllocError>
-    ensures text { OnOk result (out.new.items ≡ out.old.items ++ laid_out (range_word outer.now ∷ range_word middle.now ∷ range_word inner.now ∷ []) (texts_of (kind_of kind) (words_of walk.old))) }
+    ensures text { OnOk result (out.new.items
+        ≡ out.old.items ++ laid_out (range_word outer.now ∷ range_word middle.now ∷ range_word inner.now ∷ [])
+        (texts_of (kind_of kind) (words_of walk.old))) }
 {
     for k in 0..outer.count() {
         separate(k, b"\n\n", out)?;
@@ -111,7 +113,8 @@ fn print_plane(
     walk: &mut Walk<'_, i64>,
     out: &mut Vec<u8>,
 ) -> Result<(), AllocError>
-    ensures text { OnOk result (out.new.items ≡ out.old.items ++ laid_out (range_word middle.now ∷ range_word inner.now ∷ []) (texts_of (kind_of kind) (words_of walk.old))) }
+    ensures text { OnOk result (out.new.items
+        ≡ out.old.items ++ laid_out (range_word middle.now ∷ range_word inner.now ∷ []) (texts_of (kind_of kind) (words_of walk.old))) }
     ensures rest { OnOk result (walk.new ≡ drop (size_in (range_word middle.now ∷ range_word inner.now ∷ [])) walk.old) }
 {
     for k in 0..middle.count() {

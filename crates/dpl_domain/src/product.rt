@@ -229,7 +229,8 @@ impl Domain {
         ensures held { IfOk result (λ d. d ≡ expanded k self.now) }
         ensures size { (result ≡ Err DomainFault.Size) ↔ (¬ IsSmall (expanded k self.now)) }
         ensures stride { (result ≡ Err DomainFault.Stride) ↔ (IsSmall (expanded k self.now) × ¬ AreUnit (expanded k self.now)) }
-        ensures bound { (result ≡ Err DomainFault.Bound) ↔ (IsSmall (expanded k self.now) × AreUnit (expanded k self.now) × ¬ AreBounded (expanded k self.now)) }
+        ensures bound { (result ≡ Err DomainFault.Bound) ↔ (IsSmall (expanded k self.now) × AreUnit (expanded k self.now)
+            × ¬ AreBounded (expanded k self.now)) }
     {
         let (outer, middle, inner) = self.ranges();
         let moved = Expansion::over(self.rank(), &outer, &middle, &inner, k);
@@ -285,7 +286,8 @@ fn slice_of(range: &Range, bounds: (i64, i64)) -> Range
 
 // How many tuples three ranges have, or 2^64 - 1 where there are more.
 fn tuples(outer: &Range, middle: &Range, inner: &Range) -> u64
-    ensures exact { length (members_of outer.now) * length (members_of middle.now) * length (members_of inner.now) ≤ 2 ^ 40 → result ≡ length (members_of outer.now) * length (members_of middle.now) * length (members_of inner.now) }
+    ensures exact { length (members_of outer.now) * length (members_of middle.now) * length (members_of inner.now) ≤ 2 ^ 40 → result
+        ≡ length (members_of outer.now) * length (members_of middle.now) * length (members_of inner.now) }
     ensures more { 2 ^ 40 < length (members_of outer.now) * length (members_of middle.now) * length (members_of inner.now) → 2 ^ 40 < result }
 {
     product(outer.size(), middle.size(), inner.size())

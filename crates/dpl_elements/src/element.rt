@@ -105,7 +105,9 @@ fn combine(
     value: i64,
     frame: &mut Frame<'_>,
 ) -> Result<(), Trap>
-    ensures ends { (done : Deeds) → change frame.old.limits in_memory (array_leaf IntKind name.now) (signed op sign.now) index (Int value) frame.old.memory done ≡ ends_as (memory_after result frame.new.memory) done }
+    ensures ends { (done : Deeds)
+        → change frame.old.limits in_memory (array_leaf IntKind name.now) (signed op sign.now) index (Int value) frame.old.memory done
+        ≡ ends_as (memory_after result frame.new.memory) done }
     ensures limits { frame.new.limits ≡ frame.old.limits }
 {
     let Some(old) = frame.element(name.slot, index) else {
@@ -130,7 +132,9 @@ pub(crate) fn change(
     value: i64,
     frame: &mut Frame<'_>,
 ) -> Result<(), Trap>
-    ensures ends { (done : Deeds) → change frame.old.limits in_memory (array_leaf IntKind name.now) (signed op sign.now) index (Int value) frame.old.memory done ≡ ends_as (memory_after result frame.new.memory) done }
+    ensures ends { (done : Deeds)
+        → change frame.old.limits in_memory (array_leaf IntKind name.now) (signed op sign.now) index (Int value) frame.old.memory done
+        ≡ ends_as (memory_after result frame.new.memory) done }
     ensures limits { frame.new.limits ≡ frame.old.limits }
 {
     if replaces(op) {
@@ -149,7 +153,9 @@ pub(crate) fn change_truth(
     value: bool,
     frame: &mut Frame<'_>,
 ) -> Result<(), Trap>
-    ensures ends { (at : Place) (done : Deeds) → change frame.old.limits in_memory (array_leaf BoolKind name.now) (signed Set at) index (Truth value) frame.old.memory done ≡ ends_as (memory_after result frame.new.memory) done }
+    ensures ends { (at : Place) (done : Deeds)
+        → change frame.old.limits in_memory (array_leaf BoolKind name.now) (signed Set at) index (Truth value) frame.old.memory done
+        ≡ ends_as (memory_after result frame.new.memory) done }
     ensures limits { frame.new.limits ≡ frame.old.limits }
 {
     told(name, frame.put(name.slot, index, i64::from(value)))
@@ -177,7 +183,9 @@ fn put_word<G: Gate>(
     gate: &G,
     turn: &mut Turn,
 ) -> Result<(), Alarm>
-    ensures ends { Tells (MayRefuseSome (G.may_refuse gate.now)) (λ v. frame.new.memory) turn.new result (with_ok (values_of frame.old.limits in_memory (index_exprs t.now) frame.old.memory) (λ vs. put_memory name.now.at.now name.now.slot (index_of vs) word frame.old.memory)) }
+    ensures ends { Tells (MayRefuseSome (G.may_refuse gate.now)) (λ v. frame.new.memory) turn.new result
+        (with_ok (values_of frame.old.limits in_memory (index_exprs t.now) frame.old.memory)
+        (λ vs. put_memory name.now.at.now name.now.slot (index_of vs) word frame.old.memory)) }
     ensures limits { frame.new.limits ≡ frame.old.limits }
 {
     match t {
@@ -212,7 +220,9 @@ fn put_at<G: Gate>(
     frame: &mut Frame<'_>,
     gate: &G,
 ) -> Result<(), Stop>
-    ensures ends { Gives (MayRefuseSome (G.may_refuse gate.now)) (λ v. frame.new.memory) result (with_ok (values_of frame.old.limits in_memory (index_exprs t.now) frame.old.memory) (λ vs. put_memory name.now.at.now name.now.slot (index_of vs) word frame.old.memory)) }
+    ensures ends { Gives (MayRefuseSome (G.may_refuse gate.now)) (λ v. frame.new.memory) result
+        (with_ok (values_of frame.old.limits in_memory (index_exprs t.now) frame.old.memory)
+        (λ vs. put_memory name.now.at.now name.now.slot (index_of vs) word frame.old.memory)) }
     ensures limits { frame.new.limits ≡ frame.old.limits }
 {
     let mut turn = Turn::Absent;
@@ -236,7 +246,9 @@ pub fn set_element<G: Gate>(
     frame: &mut Frame<'_>,
     gate: &G,
 ) -> Result<(), Stop>
-    ensures ends { (done : Deeds) → RunsTo (MayRefuseSome (G.may_refuse gate.now)) result frame.new.memory done (exec frame.old.limits in_memory (element_set (array_leaf IntKind name.now) t.now op sign.now (int_view e.now)) frame.old.memory done) }
+    ensures ends { (done : Deeds)
+        → RunsTo (MayRefuseSome (G.may_refuse gate.now)) result frame.new.memory done
+        (exec frame.old.limits in_memory (element_set (array_leaf IntKind name.now) t.now op sign.now (int_view e.now)) frame.old.memory done) }
     ensures limits { frame.new.limits ≡ frame.old.limits }
 {
     let value = int_value(e, frame, gate)?;
@@ -259,7 +271,9 @@ pub fn set_truth_element<G: Gate>(
     frame: &mut Frame<'_>,
     gate: &G,
 ) -> Result<(), Stop>
-    ensures ends { (done : Deeds) → RunsTo (MayRefuseSome (G.may_refuse gate.now)) result frame.new.memory done (exec frame.old.limits in_memory (element_set (array_leaf BoolKind name.now) t.now Set nowhere (truth_view e.now)) frame.old.memory done) }
+    ensures ends { (done : Deeds)
+        → RunsTo (MayRefuseSome (G.may_refuse gate.now)) result frame.new.memory done
+        (exec frame.old.limits in_memory (element_set (array_leaf BoolKind name.now) t.now Set nowhere (truth_view e.now)) frame.old.memory done) }
     ensures limits { frame.new.limits ≡ frame.old.limits }
 {
     let value = truth_value(e, frame, gate)?.get();

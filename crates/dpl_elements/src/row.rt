@@ -21,7 +21,8 @@ use dpl_tree::Assign;
 fn changed(name: &ArrayName<'_>, op: Assign, at: Index, strip: Strip, frame: &Frame<'_>) -> Strip
     ensures size { result.size ≤ strip.size }
     ensures divides { 0 < result.size → assign_divides op ≡ false }
-    ensures words { (k : ℕ) (old : ℤ) → k < result.size → k < 64 → held_at (behind k at) (array_at name.now.slot frame.now.memory) ≡ Some old → assigned op None (Int old) (Int (get_or strip.words k (pos 0))) ≡ Int (get_or result.words k (pos 0)) }
+    ensures words { (k : ℕ) (old : ℤ) → k < result.size → k < 64 → held_at (behind k at) (array_at name.now.slot frame.now.memory) ≡ Some old
+        → assigned op None (Int old) (Int (get_or strip.words k (pos 0))) ≡ Int (get_or result.words k (pos 0)) }
 {
     if replaces(op) {
         return strip;
@@ -55,7 +56,8 @@ pub fn put_row(
     ensures most { result ≤ most }
     ensures strip { result ≤ strip.size }
     ensures cap { result ≤ 64 }
-    ensures put { (arrays : List Held) × (frame.new ≡ with_memory (record frame.old.memory { arrays = arrays }) frame.old) × ArePut frame.old.limits name.now (signed op sign.now) at strip result frame.old.memory.arrays arrays }
+    ensures put { (arrays : List Held) × (frame.new ≡ with_memory (record frame.old.memory { arrays = arrays }) frame.old)
+        × ArePut frame.old.limits name.now (signed op sign.now) at strip result frame.old.memory.arrays arrays }
 {
     // Nothing is read here: that an index has coordinates is a clause of this call.
     let _ = at.rank();

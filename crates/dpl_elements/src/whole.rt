@@ -69,7 +69,8 @@ struct Promote<'e, 'x> {
 }
 
 impl<'e, 'x, 't> Turns<Frame<'t>> for Promote<'e, 'x> {
-    ghost turn = { λ c limits t s done. with_value (value_of limits in_memory (promoted_int EachTurn c.e.now) (Some t) s) (change limits in_memory (array_leaf IntKind c.name.now) (signed c.op c.sign.now) t) s done };
+    ghost turn = { λ c limits t s done. with_value (value_of limits in_memory (promoted_int EachTurn c.e.now) (Some t) s)
+        (change limits in_memory (array_leaf IntKind c.name.now) (signed c.op c.sign.now) t) s done };
 
     #[inline(always)]
     fn make(&self, index: Index, frame: &mut Frame<'t>) -> Result<(), Stop> {
@@ -109,7 +110,8 @@ struct PromoteTruth<'e, 'x> {
 }
 
 impl<'e, 'x, 't> Turns<Frame<'t>> for PromoteTruth<'e, 'x> {
-    ghost turn = { λ c limits t s done. with_value (value_of limits in_memory (promoted_truth EachTurn c.e.now) (Some t) s) (change limits in_memory (array_leaf BoolKind c.name.now) (signed Set c.sign.now) t) s done };
+    ghost turn = { λ c limits t s done. with_value (value_of limits in_memory (promoted_truth EachTurn c.e.now) (Some t) s)
+        (change limits in_memory (array_leaf BoolKind c.name.now) (signed Set c.sign.now) t) s done };
 
     #[inline(always)]
     fn make(&self, index: Index, frame: &mut Frame<'t>) -> Result<(), Stop> {
@@ -147,7 +149,9 @@ fn set_once<'t, G: Gate>(
     gate: &G,
 ) -> Result<(), Stop>
     requires { whole_in frame.old.limits in_memory (promoted_int EachTurn e.now) frame.old.memory ≡ None }
-    ensures ends { (done : Deeds) → RunsTo (MayRefuse (G.may_refuse gate.now) (owned_by frame.old name.now.slot) domain ⊎ MayRefuseReduction (G.may_refuse gate.now) frame.old (EachInInts e.now)) result frame.new.memory done
+    ensures ends { (done : Deeds)
+        → RunsTo (MayRefuse (G.may_refuse gate.now) (owned_by frame.old name.now.slot) domain ⊎ MayRefuseReduction (G.may_refuse gate.now) frame.old
+        (EachInInts e.now)) result frame.new.memory done
         (array_set frame.old.limits IntKind name.now op sign.now (promoted_int EachTurn e.now) domain None frame.old.memory done) }
     ensures limits { frame.new.limits ≡ frame.old.limits }
 {
@@ -171,7 +175,9 @@ fn set_truth_once<'t, G: Gate>(
     gate: &G,
 ) -> Result<(), Stop>
     requires { whole_in frame.old.limits in_memory (promoted_truth EachTurn e.now) frame.old.memory ≡ None }
-    ensures ends { (done : Deeds) → RunsTo (MayRefuse (G.may_refuse gate.now) (owned_by frame.old name.now.slot) domain ⊎ MayRefuseReduction (G.may_refuse gate.now) frame.old (EachInTruths e.now)) result frame.new.memory done
+    ensures ends { (done : Deeds)
+        → RunsTo (MayRefuse (G.may_refuse gate.now) (owned_by frame.old name.now.slot) domain ⊎ MayRefuseReduction (G.may_refuse gate.now) frame.old
+        (EachInTruths e.now)) result frame.new.memory done
         (array_set frame.old.limits BoolKind name.now Set sign.now (promoted_truth EachTurn e.now) domain None frame.old.memory done) }
     ensures limits { frame.new.limits ≡ frame.old.limits }
 {
@@ -190,7 +196,8 @@ fn set_each<'t, G: Gate>(
     frame: &mut Frame<'t>,
     gate: &G,
 ) -> Result<(), Stop>
-    ensures ends { (arrays : List TextRange) (done : Deeds) → RunsTo (MayRefuse (G.may_refuse gate.now) (owned_by frame.old name.now.slot) domain) result frame.new.memory done
+    ensures ends { (arrays : List TextRange) (done : Deeds)
+        → RunsTo (MayRefuse (G.may_refuse gate.now) (owned_by frame.old name.now.slot) domain) result frame.new.memory done
         (array_set frame.old.limits IntKind name.now op sign.now (promoted_int EachTurn e.now) domain (Some arrays) frame.old.memory done) }
     ensures limits { frame.new.limits ≡ frame.old.limits }
 {
@@ -207,7 +214,8 @@ fn set_truth_each<'t, G: Gate>(
     frame: &mut Frame<'t>,
     gate: &G,
 ) -> Result<(), Stop>
-    ensures ends { (arrays : List TextRange) (done : Deeds) → RunsTo (MayRefuse (G.may_refuse gate.now) (owned_by frame.old name.now.slot) domain) result frame.new.memory done
+    ensures ends { (arrays : List TextRange) (done : Deeds)
+        → RunsTo (MayRefuse (G.may_refuse gate.now) (owned_by frame.old name.now.slot) domain) result frame.new.memory done
         (array_set frame.old.limits BoolKind name.now Set sign.now (promoted_truth EachTurn e.now) domain (Some arrays) frame.old.memory done) }
     ensures limits { frame.new.limits ≡ frame.old.limits }
 {

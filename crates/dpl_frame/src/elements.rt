@@ -126,7 +126,8 @@ impl<'t, A: Arrays> Frame<'t, A> {
     pub fn put_run(&mut self, slot: usize, index: Index, words: &[i64]) -> usize
         ensures most { result ≤ length words.now }
         ensures there { (k : ℕ) → k < result → is_some (held_at (behind k index) (array_at slot self.old.memory)) ≡ true }
-        ensures changes { self.new ≡ with_memory (with_array slot (put_in_row held_with index words.now result (array_at slot self.old.memory)) self.old.memory) self.old }
+        ensures changes { self.new
+            ≡ with_memory (with_array slot (put_in_row held_with index words.now result (array_at slot self.old.memory)) self.old.memory) self.old }
     {
         self.arrays.put_run(slot, index, words)
     }
@@ -178,7 +179,8 @@ impl<'t, A: Arrays> Frame<'t, A> {
     pub fn redomain(&mut self, slots: &[usize], domain: DomainWord) -> Result<(), AllocError>
         requires { is_some_array slots.now ≡ true → too_large domain ≡ false }
         ensures limits { self.new.limits ≡ self.old.limits }
-        ensures moved { OnOk result (self.new ≡ with_memory (record self.old.memory { arrays = redomained_from 0 slots.now domain self.old.memory.arrays }) self.old) }
+        ensures moved { OnOk result (self.new
+            ≡ with_memory (record self.old.memory { arrays = redomained_from 0 slots.now domain self.old.memory.arrays }) self.old) }
     {
         self.arrays.redomain(self.alloc, slots, domain)
     }

@@ -62,7 +62,12 @@ impl<'t, A: Arrays> Model for Frame<'t, A> {
 
     ghost view = { λ f. record {
       memory = record {
-        words = record { numbers = f.numbers.items; ranges = map range_word f.ranges.items; intents = intents_by_slot (map intent_view f.intents.now); sets = f.sets.items };
+        words = record {
+          numbers = f.numbers.items;
+          ranges = map range_word f.ranges.items;
+          intents = intents_by_slot (map intent_view f.intents.now);
+          sets = f.sets.items;
+        };
         domains = f.domains.items;
         tuples = f.tuples.items;
         arrays = A.held f.arrays;
@@ -271,7 +276,8 @@ impl<'t, A: Arrays> Frame<'t, A> {
     /// # Errors
     /// Out of memory.
     pub fn give(&mut self, slot: usize, number: i64) -> Result<(), AllocError>
-        ensures { IfOk result (λ v. self.new ≡ with_words (record self.old.memory.words { sets = self.old.memory.words.sets ++ (slot, number) ∷ [] }) self.old) }
+        ensures { IfOk result (λ v. self.new
+            ≡ with_words (record self.old.memory.words { sets = self.old.memory.words.sets ++ (slot, number) ∷ [] }) self.old) }
     {
         self.sets.push((slot, number))?;
         Ok(())

@@ -121,7 +121,8 @@ impl<T: Copy> Gathered<T> {
     pub(crate) fn gather(&mut self, array: &DArray<T>, index: Index) -> Result<(), AllocError>
         requires { self.old.domain ≡ array.now.domain }
         ensures domain { self.new.domain ≡ self.old.domain }
-        ensures gathered { OnOk result ((wants : List ℤ → Bool) (seen : List (List ℤ)) → wants index ≡ true → IsGathered array.now wants seen self.old → IsGathered array.now wants (seen ++ index ∷ []) self.new) }
+        ensures gathered { OnOk result ((wants : List ℤ → Bool) (seen : List (List ℤ)) → wants index ≡ true → IsGathered array.now wants seen self.old
+            → IsGathered array.now wants (seen ++ index ∷ []) self.new) }
     {
         // That an array holds something at its own indices alone is a clause of its domain.
         let _ = array.domain();

@@ -103,7 +103,8 @@ fn lend<T: Copy>(
 ) -> Result<(), AllocError>
     requires { gathered.old.domain ≡ array.now.domain }
     ensures domain { gathered.new.domain ≡ gathered.old.domain }
-    ensures gathered { OnOk result ((seen : List (List ℤ)) → IsGathered array.now every seen gathered.old → IsGathered array.now every (seen ++ indices domain.now) gathered.new) }
+    ensures gathered { OnOk result ((seen : List (List ℤ)) → IsGathered array.now every seen gathered.old
+        → IsGathered array.now every (seen ++ indices domain.now) gathered.new) }
 {
     let mut left = domain.cursor();
     while let Some(index) = left.next() {

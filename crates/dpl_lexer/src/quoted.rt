@@ -14,7 +14,8 @@ use std::alloc::{AllocError, Global};
 /// How many bytes the text in quotes at the front has, if it is ended.
 fn quoted_len(bytes: &[u8]) -> Option<usize>
     requires { 0 < length bytes.now }
-    ensures some { IfSome result (λ n. (2 ≤ n) × (n ≤ length bytes.now) × (after_quote (slice_index bytes.now 0) (drop 1 bytes.now) ≡ Some (drop n bytes.now))) }
+    ensures some { IfSome result (λ n. (2 ≤ n) × (n ≤ length bytes.now)
+        × (after_quote (slice_index bytes.now 0) (drop 1 bytes.now) ≡ Some (drop n bytes.now))) }
     ensures none { IfNone result (after_quote (slice_index bytes.now 0) (drop 1 bytes.now) ≡ None) }
 {
     let quote = bytes[0];

@@ -69,7 +69,8 @@ pub(crate) fn entered<V, F: Fn(Index, &mut Turn) -> Result<V, Alarm>, G: Gate>(
 ) -> Result<V, Alarm>
     requires { F.IsAlwaysCallable item_at.now }
     ensures { (value : V → Value) (meaning : IndexValue → Result Value Fault) → AnswersTell value (F.post item_at.now) meaning
-        → Tells (G.may_refuse gate.now (owner map.now index) place ⊎ MayAnswerRefused (F.post item_at.now)) value turn.new result (naming_value index (meaning index)) }
+        → Tells (G.may_refuse gate.now (owner map.now index) place ⊎ MayAnswerRefused (F.post item_at.now)) value turn.new result
+        (naming_value index (meaning index)) }
 {
     if !enters(gate, map, index, place) {
         return Err(Alarm::refused());
@@ -93,7 +94,8 @@ pub fn reduce<O: Operator, F: Fn(Index, &mut Turn) -> Result<O::Item, Alarm>, G:
 ) -> Result<O::Item, Alarm>
     requires { F.IsAlwaysCallable item_at }
     ensures { (meaning : IndexValue → Result Value Fault) → AnswersTell O.value (F.post item_at) meaning
-        → Tells (MayRefuse (G.may_refuse gate.now) map.now over ⊎ MayAnswerRefused (F.post item_at)) O.value turn.new result (fold_over (O.op operator.now) meaning over) }
+        → Tells (MayRefuse (G.may_refuse gate.now) map.now over ⊎ MayAnswerRefused (F.post item_at)) O.value turn.new result
+        (fold_over (O.op operator.now) meaning over) }
 {
     let domain = over.domain();
     let mut indices = domain.cursor();

@@ -26,7 +26,8 @@ pub(crate) trait Places {
     /// How many indices there are from a place to the end of its row, where the last dimension has the stride 1; each lies behind
     /// the one at the place. Of another stride none.
     fn row_left(&self, place: u64) -> u64
-        ensures { (t : IndexValue) → slice_get (indices self.now) place ≡ Some t → (k : ℕ) → k < result → slice_get (indices self.now) (place + k) ≡ Some (behind k t) };
+        ensures { (t : IndexValue) → slice_get (indices self.now) place ≡ Some t → (k : ℕ) → k < result → slice_get (indices self.now) (place + k)
+            ≡ Some (behind k t) };
 }
 
 impl Places for Domain {

@@ -53,7 +53,8 @@ fn put_together<O: Operator<Item = i64>>(
     requires { size ≤ 64 }
     ensures { (meaning : IndexValue → Result Value Fault) (ts : List IndexValue) (place : ℕ) → size ≤ strip.now.size → HoldsStrip O.value meaning strip.now
         → ((k : ℕ) → k < size → slice_get ts (place + k) ≡ Some (behind k strip.now.first))
-        → folded (O.op operator.now) (λ t. naming_value t (meaning t)) (drop (place + size) ts) (O.value result) ≡ folded (O.op operator.now) (λ t. naming_value t (meaning t)) (drop place ts) (O.value before) }
+        → folded (O.op operator.now) (λ t. naming_value t (meaning t)) (drop (place + size) ts) (O.value result)
+        ≡ folded (O.op operator.now) (λ t. naming_value t (meaning t)) (drop place ts) (O.value before) }
 {
     let mut so_far = before;
     for k in 0..size {
@@ -66,7 +67,8 @@ fn put_together<O: Operator<Item = i64>>(
 fn in_row(strip: &Strip, domain: &Domain, place: u64) -> usize
     ensures strip { result ≤ strip.now.size }
     ensures all { result ≤ 64 }
-    ensures row { (t : IndexValue) → slice_get (indices domain.now) place ≡ Some t → (k : ℕ) → k < result → slice_get (indices domain.now) (place + k) ≡ Some (behind k t) }
+    ensures row { (t : IndexValue) → slice_get (indices domain.now) place ≡ Some t → (k : ℕ) → k < result → slice_get (indices domain.now) (place + k)
+        ≡ Some (behind k t) }
 {
     let size = strip.size.min(STRIP);
     size.min(domain.row_left(place) as usize)
@@ -95,8 +97,10 @@ fn gone_on<
     requires items { F.IsAlwaysCallable item_at.now }
     requires strips { S.IsAlwaysCallable strip_at.now }
     ensures next { IfOk result (λ r. (place < r.1) × (r.1 ≤ length (indices domain.now))) }
-    ensures folds { (meaning : IndexValue → Result Value Fault) → AnswersTell O.value (F.post item_at.now) meaning → StripsTell O.value (S.post strip_at.now) meaning
-        → GoesOn (MayRefuseAmong (G.may_refuse gate.now) map.now (indices domain.now) ⊎ MayAnswerRefused (F.post item_at.now)) O.value (O.op operator.now) (λ t. naming_value t (meaning t)) (indices domain.now) place before turn.new result }
+    ensures folds { (meaning : IndexValue → Result Value Fault) → AnswersTell O.value (F.post item_at.now) meaning
+        → StripsTell O.value (S.post strip_at.now) meaning
+        → GoesOn (MayRefuseAmong (G.may_refuse gate.now) map.now (indices domain.now) ⊎ MayAnswerRefused (F.post item_at.now)) O.value (O.op operator.now)
+        (λ t. naming_value t (meaning t)) (indices domain.now) place before turn.new result }
 {
     let Some(index) = domain.nth(place) else {
         unreachable!()
@@ -138,7 +142,8 @@ pub fn reduce_ints<
     requires items { F.IsAlwaysCallable item_at }
     requires strips { S.IsAlwaysCallable strip_at }
     ensures { (meaning : IndexValue → Result Value Fault) → AnswersTell O.value (F.post item_at) meaning → StripsTell O.value (S.post strip_at) meaning
-        → Tells (MayRefuse (G.may_refuse gate.now) map.now over ⊎ MayAnswerRefused (F.post item_at)) O.value turn.new result (fold_over (O.op operator.now) meaning over) }
+        → Tells (MayRefuse (G.may_refuse gate.now) map.now over ⊎ MayAnswerRefused (F.post item_at)) O.value turn.new result
+        (fold_over (O.op operator.now) meaning over) }
 {
     let domain = over.domain();
     let serves = match domain.nth(0) {

@@ -30,7 +30,9 @@ fn row<'t, A: Arrays, P: Places, T: Turns<Frame<'t, A>>>(
 ) -> usize
     requires { slice_get (P.indices over.now) place ≡ Some index }
     ensures within { place + result ≤ length (P.indices over.now) }
-    ensures goes { (done : Deeds) → in_order (named_turn (T.turn turns.now frame.old.limits)) (drop (place + result) (P.indices over.now)) frame.new.memory done ≡ in_order (named_turn (T.turn turns.now frame.old.limits)) (drop place (P.indices over.now)) frame.old.memory done }
+    ensures goes { (done : Deeds)
+        → in_order (named_turn (T.turn turns.now frame.old.limits)) (drop (place + result) (P.indices over.now)) frame.new.memory done
+        ≡ in_order (named_turn (T.turn turns.now frame.old.limits)) (drop place (P.indices over.now)) frame.old.memory done }
     ensures limits { frame.new.limits ≡ frame.old.limits }
 {
     let left = over.row_left(place);
@@ -48,7 +50,8 @@ pub(crate) fn begun<'t, A: Arrays, P: Places, T: Turns<Frame<'t, A>>, G: Gate>(
     gate: &G,
 ) -> u64
     ensures within { result ≤ length (P.indices over.now) }
-    ensures goes { (done : Deeds) → in_order (named_turn (T.turn turns.now frame.old.limits)) (drop result (P.indices over.now)) frame.new.memory done ≡ in_order (named_turn (T.turn turns.now frame.old.limits)) (P.indices over.now) frame.old.memory done }
+    ensures goes { (done : Deeds) → in_order (named_turn (T.turn turns.now frame.old.limits)) (drop result (P.indices over.now)) frame.new.memory done
+        ≡ in_order (named_turn (T.turn turns.now frame.old.limits)) (P.indices over.now) frame.old.memory done }
     ensures limits { frame.new.limits ≡ frame.old.limits }
 {
     if !gate.is_open() {
@@ -72,7 +75,9 @@ fn turns_from<'t, A: Arrays, P: Places, T: Turns<Frame<'t, A>>, G: Gate>(
     requires place { place < length (P.indices over.now) }
     requires small { length (P.indices over.now) < 2 ^ 64 }
     ensures next { IfOk result (λ next. (place < next) × (next ≤ length (P.indices over.now))) }
-    ensures goes { (done : Deeds) → TurnsGoOn (MayRefuseAmong (G.may_refuse gate.now) map.now (P.indices over.now)) (named_turn (T.turn turns.now frame.old.limits)) (P.indices over.now) place frame.old.memory result frame.new.memory done }
+    ensures goes { (done : Deeds)
+        → TurnsGoOn (MayRefuseAmong (G.may_refuse gate.now) map.now (P.indices over.now)) (named_turn (T.turn turns.now frame.old.limits))
+        (P.indices over.now) place frame.old.memory result frame.new.memory done }
     ensures limits { frame.new.limits ≡ frame.old.limits }
 {
     let Some(index) = over.at(place) else {

@@ -32,7 +32,8 @@ pub trait Turns<F: AnyFrame> {
     /// # Errors
     /// The turn's fault, or out of memory. No gate is asked within a turn.
     fn make(&self, index: Index, frame: &mut F) -> Result<(), Stop>
-        ensures ends { (done : Deeds) → RunEnds result (F.framed frame.new).memory done (turn self.now (F.framed frame.old).limits index (F.framed frame.old).memory done) }
+        ensures ends { (done : Deeds)
+            → RunEnds result (F.framed frame.new).memory done (turn self.now (F.framed frame.old).limits index (F.framed frame.old).memory done) }
         ensures limits { (F.framed frame.new).limits ≡ (F.framed frame.old).limits };
 
     /// Makes the turns of an index and of those behind it in the last dimension, at most so many, where several are done at once; how

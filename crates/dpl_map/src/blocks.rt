@@ -37,7 +37,8 @@ pub fn dealt(
     ensures cut { IfOk result (λ v. AreListed (BlockCyclic start size) (owned_of (block_cyclic_axis start size extent) coordinate range.now) v.items) }
     ensures some { IfOk result (λ v. All (λ r. members_of r ≢ []) v.items) }
     ensures few { IfOk result (λ v. pos (length v.items) ≤ℤ size) }
-    ensures blocks { IfOk result (λ v. IsWithinValues (rule_block (BlockCyclic start size)) (owned_of (block_cyclic_axis start size extent) coordinate range.now) (length v.items)) }
+    ensures blocks { IfOk result (λ v. IsWithinValues (rule_block (BlockCyclic start size))
+        (owned_of (block_cyclic_axis start size extent) coordinate range.now) (length v.items)) }
 {
     if range.size() == 0 {
         return Ok(Vec::new(alloc));

@@ -128,7 +128,8 @@ impl Map {
         inner: Order,
     ) -> bool
         requires { length index ≡ length self.now }
-        ensures { (t : List ℤ) → slice_get (indices domain.now) 0 ≡ Some t → length t ≡ length self.now → (IsTrue result ↔ IsBefore (keys (last_of (length self.now) outer middle inner) self.now) t index) }
+        ensures { (t : List ℤ) → slice_get (indices domain.now) 0 ≡ Some t → length t ≡ length self.now
+            → (IsTrue result ↔ IsBefore (keys (last_of (length self.now) outer middle inner) self.now) t index) }
     {
         let Some(first) = domain.nth(0) else {
             return false;

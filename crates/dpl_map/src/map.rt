@@ -120,7 +120,8 @@ impl Map {
         ensures held { IfOk result (λ axes. axes ≡ block_cyclic_map start sizes grid) }
         ensures start { (result ≡ Err MapFault.Start) ↔ (¬ All IsBound start) }
         ensures rank { (result ≡ Err MapFault.Rank) ↔ (All IsBound start × ¬ ((length start ≡ length grid) × (length sizes ≡ length grid))) }
-        ensures blocksize { (result ≡ Err MapFault.Blocksize) ↔ (All IsBound start × (length start ≡ length grid) × (length sizes ≡ length grid) × ¬ All IsBlocksize sizes) }
+        ensures blocksize { (result ≡ Err MapFault.Blocksize)
+            ↔ (All IsBound start × (length start ≡ length grid) × (length sizes ≡ length grid) × ¬ All IsBlocksize sizes) }
     {
         if !is_start(start) {
             return Err(MapFault::Start);
@@ -217,7 +218,8 @@ impl Map {
         ensures locales { result ≡ locales self.now }
         ensures owners { (t : List ℤ) → owner self.now t < result }
         ensures apart { (ranges : List RangeValue) (t : List ℤ) (j k : ℕ) → Contains (part ranges self.now j) t → Contains (part ranges self.now k) t → j ≡ k }
-        ensures together { (ranges : List RangeValue) (t : List ℤ) → Contains (indices ranges) t → (k : ℕ) × (k < result) × Contains (part ranges self.now k) t }
+        ensures together { (ranges : List RangeValue) (t : List ℤ) → Contains (indices ranges) t → (k : ℕ) × (k < result)
+            × Contains (part ranges self.now k) t }
         ensures most { result ≤ 64 }
         ensures limits { All IsAxis self.now }
     {

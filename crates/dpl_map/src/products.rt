@@ -26,9 +26,11 @@ pub fn products(
     requires to_three { rank ≤ 3 }
     requires one_outer { rank < 3 → length outers.now ≡ 1 }
     requires one_middle { rank < 2 → length middles.now ≡ 1 }
-    requires small { (a b c : ℕ) (o m i : RangeValue) → slice_get outers.now a ≡ Some o → slice_get middles.now b ≡ Some m → slice_get inners.now c ≡ Some i → IsSmall (last_of rank o m i) }
+    requires small { (a b c : ℕ) (o m i : RangeValue) → slice_get outers.now a ≡ Some o → slice_get middles.now b ≡ Some m → slice_get inners.now c ≡ Some i
+        → IsSmall (last_of rank o m i) }
     ensures cut { IfOk result (λ v. AreProducts rank outers.now middles.now inners.now v.items) }
-    ensures some { All (λ r. members_of r ≢ []) outers.now → All (λ r. members_of r ≢ []) middles.now → All (λ r. members_of r ≢ []) inners.now → IfOk result (λ v. All (λ domain. indices domain ≢ []) v.items) }
+    ensures some { All (λ r. members_of r ≢ []) outers.now → All (λ r. members_of r ≢ []) middles.now → All (λ r. members_of r ≢ []) inners.now
+        → IfOk result (λ v. All (λ domain. indices domain ≢ []) v.items) }
     ensures count { IfOk result (λ v. length v.items ≡ length outers.now * length middles.now * length inners.now) }
 {
     let (rows, row) = (middles.len(), inners.len());

@@ -191,7 +191,8 @@ fn taken(
     value: Typed<'_>,
 ) -> Result<(), NoNode>
     ensures taken { OnOk result (IsTakenIn (kind_of value.entry) plan.now.scopes (item_view written.now) (type_in plan.now.scopes name.now)) }
-    ensures ill_typed { (result ≡ Err stop.IllTyped) → (t : ValueTypeTree) → (type_in plan.now.scopes name.now ≡ Some t) → IsTaken plan.now.scopes (item_view written.now) t → ⊥ }
+    ensures ill_typed { (result ≡ Err stop.IllTyped) → (t : ValueTypeTree) → (type_in plan.now.scopes name.now ≡ Some t)
+        → IsTaken plan.now.scopes (item_view written.now) t → ⊥ }
 {
     match declared_type(&plan.scopes, name) {
         Some(t) => shaped(plan.arena, &plan.scopes, t, written, value),
@@ -206,7 +207,8 @@ fn of_int<'t>(
     slot: usize,
     e: &'t IntExpr<'t>,
 ) -> Result<Step<'t>, NoNode>
-    ensures node { IfOk result (λ s. step_view s ≡ assigns (int_leaf slot) sign.op (kept (assign_divides sign.op) sign.at) (typed_item Once (typed.Int e.entry))) }
+    ensures node { IfOk result (λ s. step_view s
+        ≡ assigns (int_leaf slot) sign.op (kept (assign_divides sign.op) sign.at) (typed_item Once (typed.Int e.entry))) }
     ensures ill_typed { (result ≡ Err stop.IllTyped) → IsNear sign.at → ⊥ }
 {
     match sign.op {
@@ -228,7 +230,8 @@ fn of_int<'t>(
 
 // What a truth value is assigned: arithmetic doesn't take it.
 fn of_truth<'t>(sign: AssignSign, slot: usize, e: &'t BoolExpr<'t>) -> Result<Step<'t>, NoNode>
-    ensures node { IfOk result (λ s. step_view s ≡ assigns (truth_leaf slot) sign.op (kept (assign_divides sign.op) sign.at) (typed_item Once (typed.Truth e.entry))) }
+    ensures node { IfOk result (λ s. step_view s
+        ≡ assigns (truth_leaf slot) sign.op (kept (assign_divides sign.op) sign.at) (typed_item Once (typed.Truth e.entry))) }
     ensures takes { IfOk result (λ s. takes TruthLeaf sign.op ≡ true) }
     ensures ill_typed { (result ≡ Err stop.IllTyped) → takes TruthLeaf sign.op ≡ false }
 {
@@ -284,7 +287,8 @@ fn change<'t>(
     ensures node { IfOk result (λ s. step_view s ≡ changed_to scopes.now at (kind_of value.entry) slot sign.op sign.at (typed_item Once value.entry)) }
     ensures takes { IfOk result (λ s. kind_takes (kind_of value.entry) sign.op ≡ true) }
     ensures kind { IfOk result (λ s. IsChangedKind (kind_of value.entry)) }
-    ensures ill_typed { (result ≡ Err stop.IllTyped) → IsChangedKind (kind_of value.entry) → kind_takes (kind_of value.entry) sign.op ≡ true → IsNear sign.at → IsNear at → ⊥ }
+    ensures ill_typed { (result ≡ Err stop.IllTyped) → IsChangedKind (kind_of value.entry) → kind_takes (kind_of value.entry) sign.op ≡ true → IsNear sign.at
+        → IsNear at → ⊥ }
 {
     match value {
         Typed::Int(e) => of_int(arena, sign, slot, e),
@@ -351,7 +355,8 @@ fn intent_resolves(
     value: Typed<'_>,
 ) -> Result<(), NoNode>
     ensures resolves { OnOk result (IntentResolves op name.now (variable (kind_of value.entry) slot) (seen_in plan.now)) }
-    ensures ill_typed { (result ≡ Err stop.IllTyped) → slot_in plan.now.scopes name.now ≡ Some slot → IsReducedBy plan.now.scopes (intents_in plan.now) name.now op (kind_of value.entry) → ⊥ }
+    ensures ill_typed { (result ≡ Err stop.IllTyped) → slot_in plan.now.scopes name.now ≡ Some slot
+        → IsReducedBy plan.now.scopes (intents_in plan.now) name.now op (kind_of value.entry) → ⊥ }
 {
     match op {
         Assign::Set
@@ -380,8 +385,11 @@ fn set_single<'t>(
     semicolon: Place,
 ) -> Result<Step<'t>, NoNode>
     requires { (k : Kind) → kind_in plan.now.scopes name.now.text.now ≢ Some (ArrayKind k) }
-    ensures plans { IfOk result (λ step. PlansStmt plan.now plan.now (AssignedTree (Whole (name_view name.now)) (sign_view sign) (item_view value.now) semicolon) step) }
-    ensures ill_typed { (result ≡ Err stop.IllTyped) → IsRunnableStmt plan.now.scopes (intents_in plan.now) (AssignedTree (Whole (name_view name.now)) (sign_view sign) (item_view value.now) semicolon) → ⊥ }
+    ensures plans { IfOk result (λ step. PlansStmt plan.now plan.now
+        (AssignedTree (Whole (name_view name.now)) (sign_view sign) (item_view value.now) semicolon) step) }
+    ensures ill_typed { (result ≡ Err stop.IllTyped)
+        → IsRunnableStmt plan.now.scopes (intents_in plan.now) (AssignedTree (Whole (name_view name.now)) (sign_view sign) (item_view value.now) semicolon)
+        → ⊥ }
 {
     let made = item(plan.arena, &plan.scopes, value)?;
     let slot = variable(&plan.scopes, name.text, made)?;
@@ -398,8 +406,11 @@ fn assigned_to<'t>(
     value: &Item<'_>,
     semicolon: Place,
 ) -> Result<Step<'t>, NoNode>
-    ensures plans { IfOk result (λ step. PlansStmt plan.now plan.now (AssignedTree (Whole (name_view name.now)) (sign_view sign) (item_view value.now) semicolon) step) }
-    ensures ill_typed { (result ≡ Err stop.IllTyped) → IsRunnableStmt plan.now.scopes (intents_in plan.now) (AssignedTree (Whole (name_view name.now)) (sign_view sign) (item_view value.now) semicolon) → ⊥ }
+    ensures plans { IfOk result (λ step. PlansStmt plan.now plan.now
+        (AssignedTree (Whole (name_view name.now)) (sign_view sign) (item_view value.now) semicolon) step) }
+    ensures ill_typed { (result ≡ Err stop.IllTyped)
+        → IsRunnableStmt plan.now.scopes (intents_in plan.now) (AssignedTree (Whole (name_view name.now)) (sign_view sign) (item_view value.now) semicolon)
+        → ⊥ }
 {
     match array_named(&plan.scopes, name.text) {
         Some(kind) => set_array(plan, kind, name, sign, value, semicolon),
@@ -415,8 +426,11 @@ pub(crate) fn assigned<'t>(
     plan: &Plan<'_, 't>,
     written: &Assignment<'_>,
 ) -> Result<Step<'t>, NoNode>
-    ensures plans { IfOk result (λ step. PlansStmt plan.now plan.now (AssignedTree (target_view written.now.target) (sign_view written.now.sign) (item_view written.now.value) written.now.semicolon) step) }
-    ensures ill_typed { (result ≡ Err stop.IllTyped) → IsRunnableStmt plan.now.scopes (intents_in plan.now) (AssignedTree (target_view written.now.target) (sign_view written.now.sign) (item_view written.now.value) written.now.semicolon) → ⊥ }
+    ensures plans { IfOk result (λ step. PlansStmt plan.now plan.now
+        (AssignedTree (target_view written.now.target) (sign_view written.now.sign) (item_view written.now.value) written.now.semicolon) step) }
+    ensures ill_typed { (result ≡ Err stop.IllTyped)
+        → IsRunnableStmt plan.now.scopes (intents_in plan.now)
+        (AssignedTree (target_view written.now.target) (sign_view written.now.sign) (item_view written.now.value) written.now.semicolon) → ⊥ }
 {
     match &written.target {
         Target::Whole(name) => assigned_to(

@@ -63,7 +63,8 @@ pub(crate) enum Beginning<'t> {
 // The rank of a domain type.
 fn rank_of(written: &DomainType<'_>) -> Result<Rank, NoNode>
     ensures rank { IfOk result (λ r. (domain_type_view written.now).rank ≡ dimensions r) }
-    ensures ill_typed { (result ≡ Err stop.IllTyped) → (nat_le 1 (domain_type_view written.now).rank && nat_le (domain_type_view written.now).rank 3) ≡ true → ⊥ }
+    ensures ill_typed { (result ≡ Err stop.IllTyped) → (nat_le 1 (domain_type_view written.now).rank && nat_le (domain_type_view written.now).rank 3) ≡ true
+        → ⊥ }
 {
     match written.rank {
         1 => Ok(Rank::Line),
@@ -137,7 +138,8 @@ fn created_domain<'t>(
 ) -> Result<Typed<'t>, NoNode>
     ensures created { IfOk result (λ t. IsCreated scopes.now written.now.from (items_view written.now.items) t) }
     ensures taken { IfOk result (λ t. IsTakenOf (created_type scopes.now (created_view written.now)) (type_view declared.entry)) }
-    ensures ill_typed { (result ≡ Err stop.IllTyped) → IsCreatedOf scopes.now (created_view written.now) DomainKind → IsTakenOf (created_type scopes.now (created_view written.now)) (type_view declared.entry) → ⊥ }
+    ensures ill_typed { (result ≡ Err stop.IllTyped) → IsCreatedOf scopes.now (created_view written.now) DomainKind
+        → IsTakenOf (created_type scopes.now (created_view written.now)) (type_view declared.entry) → ⊥ }
 {
     let value = created(arena, scopes, written.from, &written.items)?;
     let given = domain_type(arena, scopes, written)?;
@@ -154,7 +156,8 @@ fn given<'t>(
 ) -> Result<Typed<'t>, NoNode>
     ensures given { IfOk result (λ t. IsGivenInit scopes.now (init_view written.now) (type_view declared.entry) t) }
     ensures kind { IfOk result (λ t. (k : VariableKind) → IsSingleKind k → IsInitOf scopes.now (init_view written.now) k → kind_of t ≡ k) }
-    ensures ill_typed { (result ≡ Err stop.IllTyped) → (k : VariableKind) → IsInitOf scopes.now (init_view written.now) k → IsShapedInit scopes.now (init_view written.now) (type_view declared.entry) → ⊥ }
+    ensures ill_typed { (result ≡ Err stop.IllTyped) → (k : VariableKind) → IsInitOf scopes.now (init_view written.now) k
+        → IsShapedInit scopes.now (init_view written.now) (type_view declared.entry) → ⊥ }
 {
     match written {
         Init::Item(written, _) => {
@@ -174,8 +177,10 @@ fn initial<'t>(
     typed: &Option<WrittenType<'_>>,
     written: &Option<Initial<'_>>,
 ) -> Result<Beginning<'t>, NoNode>
-    ensures initial { IfOk result (λ b. IsInitial scopes.now (optional written_type_view typed.now) (optional initial_view written.now) (type_view declared.entry) b) }
-    ensures kind { IfOk result (λ b. (k : VariableKind) → IsSingleKind k → IsInitialOf scopes.now (type_of (optional written_type_view typed.now)) (optional initial_view written.now) k → begun_kind b ≡ k) }
+    ensures initial { IfOk result (λ b. IsInitial scopes.now (optional written_type_view typed.now) (optional initial_view written.now)
+        (type_view declared.entry) b) }
+    ensures kind { IfOk result (λ b. (k : VariableKind) → IsSingleKind k
+        → IsInitialOf scopes.now (type_of (optional written_type_view typed.now)) (optional initial_view written.now) k → begun_kind b ≡ k) }
     ensures ill_typed { (result ≡ Err stop.IllTyped) → (k : VariableKind) → IsSingleType (type_of (optional written_type_view typed.now))
         → IsInitialOf scopes.now (type_of (optional written_type_view typed.now)) (optional initial_view written.now) k
         → IsShapedInitial scopes.now (optional initial_view written.now) (type_view declared.entry) → ⊥ }
@@ -301,7 +306,8 @@ fn declare_single<'s, 't>(
 ) -> Result<Step<'t>, NoNode>
     requires { IsNoArrayType (type_of (optional written_type_view written.now.typed)) }
     ensures plans { IfOk result (λ step. PlansDeclare plan.old plan.new (declare_view written.now) step) }
-    ensures config { IfOk result (λ step. (at : Place) → ((declare_view written.now).config ≡ Some at) → IsOfLeaf (declared_by plan.old.scopes (declare_view written.now))) }
+    ensures config { IfOk result (λ step. (at : Place) → ((declare_view written.now).config ≡ Some at)
+        → IsOfLeaf (declared_by plan.old.scopes (declare_view written.now))) }
     ensures ill_typed { (result ≡ Err stop.IllTyped) → IsRunnableDeclare plan.old.scopes (declare_view written.now) → ⊥ }
 {
     let declared = declared(plan, written)?;
@@ -352,7 +358,8 @@ pub(crate) fn declare<'s, 't>(
     written: &Declare<'s>,
 ) -> Result<Step<'t>, NoNode>
     ensures plans { IfOk result (λ step. PlansDeclare plan.old plan.new (declare_view written.now) step) }
-    ensures config { IfOk result (λ step. (at : Place) → ((declare_view written.now).config ≡ Some at) → IsOfLeaf (declared_by plan.old.scopes (declare_view written.now))) }
+    ensures config { IfOk result (λ step. (at : Place) → ((declare_view written.now).config ≡ Some at)
+        → IsOfLeaf (declared_by plan.old.scopes (declare_view written.now))) }
     ensures ill_typed { (result ≡ Err stop.IllTyped) → IsRunnableDeclare plan.old.scopes (declare_view written.now) → ⊥ }
 {
     match array_written(&written.typed) {

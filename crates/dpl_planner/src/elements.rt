@@ -237,7 +237,8 @@ fn set_elements<'t>(
     sign: AssignSign,
     elements: Elements<'t>,
 ) -> Result<Step<'t>, NoNode>
-    ensures node { IfOk result (λ s. step_view s ≡ whole_changed (array_leaf (elements_kind elements.entry) x.now) sign.op sign.at (One (elements_view elements.entry))) }
+    ensures node { IfOk result (λ s. step_view s
+        ≡ whole_changed (array_leaf (elements_kind elements.entry) x.now) sign.op sign.at (One (elements_view elements.entry))) }
     ensures takes { IfOk result (λ s. element_takes (elements_kind elements.entry) sign.op ≡ true) }
     ensures unreduced { IfOk result (λ s. sign.op ≢ SetReduce) }
     ensures ill_typed { (result ≡ Err stop.IllTyped) → element_takes (elements_kind elements.entry) sign.op ≡ true → sign.op ≢ SetReduce → IsNear sign.at → ⊥ }
@@ -261,8 +262,11 @@ pub(crate) fn set_array<'t>(
     semicolon: Place,
 ) -> Result<Step<'t>, NoNode>
     requires { kind_in plan.now.scopes name.now.text.now ≡ Some (ArrayKind kind) }
-    ensures plans { IfOk result (λ step. PlansStmt plan.now plan.now (AssignedTree (Whole (name_view name.now)) (sign_view sign) (item_view value.now) semicolon) step) }
-    ensures ill_typed { (result ≡ Err stop.IllTyped) → IsRunnableStmt plan.now.scopes (intents_in plan.now) (AssignedTree (Whole (name_view name.now)) (sign_view sign) (item_view value.now) semicolon) → ⊥ }
+    ensures plans { IfOk result (λ step. PlansStmt plan.now plan.now
+        (AssignedTree (Whole (name_view name.now)) (sign_view sign) (item_view value.now) semicolon) step) }
+    ensures ill_typed { (result ≡ Err stop.IllTyped)
+        → IsRunnableStmt plan.now.scopes (intents_in plan.now) (AssignedTree (Whole (name_view name.now)) (sign_view sign) (item_view value.now) semicolon)
+        → ⊥ }
 {
     let made = valued(plan.arena, &plan.scopes, value)?;
     let elements = given_elements(plan.arena, kind, made)?;
@@ -278,7 +282,8 @@ fn set_int<'t>(
     sign: AssignSign,
     e: &'t IntExpr<'t>,
 ) -> Result<Step<'t>, NoNode>
-    ensures node { IfOk result (λ s. step_view s ≡ element_changed (array_leaf IntKind x.now) (index_exprs index.now) sign.op sign.at (typed_item Once (typed.Int e.entry))) }
+    ensures node { IfOk result (λ s. step_view s
+        ≡ element_changed (array_leaf IntKind x.now) (index_exprs index.now) sign.op sign.at (typed_item Once (typed.Int e.entry))) }
     ensures takes { IfOk result (λ s. element_takes IntKind sign.op ≡ true) }
     ensures unreduced { IfOk result (λ s. sign.op ≢ SetReduce) }
     ensures ill_typed { (result ≡ Err stop.IllTyped) → sign.op ≢ SetReduce → IsNear sign.at → ⊥ }
@@ -304,7 +309,8 @@ fn set_truth<'t>(
     sign: AssignSign,
     e: &'t BoolExpr<'t>,
 ) -> Result<Step<'t>, NoNode>
-    ensures node { IfOk result (λ s. step_view s ≡ element_changed (array_leaf BoolKind x.now) (index_exprs index.now) sign.op sign.at (typed_item Once (typed.Truth e.entry))) }
+    ensures node { IfOk result (λ s. step_view s
+        ≡ element_changed (array_leaf BoolKind x.now) (index_exprs index.now) sign.op sign.at (typed_item Once (typed.Truth e.entry))) }
     ensures takes { IfOk result (λ s. element_takes BoolKind sign.op ≡ true) }
     ensures unreduced { IfOk result (λ s. sign.op ≢ SetReduce) }
     ensures ill_typed { (result ≡ Err stop.IllTyped) → element_takes BoolKind sign.op ≡ true → sign.op ≢ SetReduce → ⊥ }
@@ -329,11 +335,13 @@ fn element_step<'t>(
     sign: AssignSign,
     value: Typed<'t>,
 ) -> Result<Step<'t>, NoNode>
-    ensures node { IfOk result (λ s. step_view s ≡ element_changed (array_leaf kind x.now) (index_exprs index.now) sign.op sign.at (typed_item Once value.entry)) }
+    ensures node { IfOk result (λ s. step_view s
+        ≡ element_changed (array_leaf kind x.now) (index_exprs index.now) sign.op sign.at (typed_item Once value.entry)) }
     ensures takes { IfOk result (λ s. element_takes kind sign.op ≡ true) }
     ensures unreduced { IfOk result (λ s. sign.op ≢ SetReduce) }
     ensures given { IfOk result (λ s. kind_of value.entry ≡ PlainKind (leaf_of kind)) }
-    ensures ill_typed { (result ≡ Err stop.IllTyped) → kind_of value.entry ≡ PlainKind (leaf_of kind) → element_takes kind sign.op ≡ true → sign.op ≢ SetReduce → IsNear sign.at → ⊥ }
+    ensures ill_typed { (result ≡ Err stop.IllTyped) → kind_of value.entry ≡ PlainKind (leaf_of kind) → element_takes kind sign.op ≡ true
+        → sign.op ≢ SetReduce → IsNear sign.at → ⊥ }
 {
     match kind {
         ScalarKind::Int => match value {
@@ -369,7 +377,8 @@ pub(crate) fn set_element<'t>(
     semicolon: Place,
 ) -> Result<Step<'t>, NoNode>
     ensures plans { IfOk result (λ step. PlansStmt plan.now plan.now (element_tree target.now sign value.now semicolon) step) }
-    ensures ill_typed { (result ≡ Err stop.IllTyped) → IsRunnableStmt plan.now.scopes (intents_in plan.now) (element_tree target.now sign value.now semicolon) → ⊥ }
+    ensures ill_typed { (result ≡ Err stop.IllTyped)
+        → IsRunnableStmt plan.now.scopes (intents_in plan.now) (element_tree target.now sign value.now semicolon) → ⊥ }
 {
     let Some(kind) = array_named(&plan.scopes, target.name.text) else {
         return Err(NoNode::IllTyped);

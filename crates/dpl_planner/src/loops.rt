@@ -50,7 +50,8 @@ pub(crate) enum Iterable<'t> {
 pub(crate) fn over<'t>(plan: &Plan<'_, 't>, written: &Item<'_>) -> Result<Iterable<'t>, NoNode>
     ensures node { IfOk result (λ o. IsItem plan.now.scopes (item_view written.now) (over_typed o)) }
     ensures kind { IfOk result (λ o. IsOfType (over_typed o) (item_type plan.now.scopes (item_view written.now))) }
-    ensures ill_typed { (result ≡ Err stop.IllTyped) → IsItemOf plan.now.scopes (item_view written.now) (PlainKind RangeLeaf) ⊎ IsItemOf plan.now.scopes (item_view written.now) DomainKind → ⊥ }
+    ensures ill_typed { (result ≡ Err stop.IllTyped)
+        → IsItemOf plan.now.scopes (item_view written.now) (PlainKind RangeLeaf) ⊎ IsItemOf plan.now.scopes (item_view written.now) DomainKind → ⊥ }
 {
     let made = item(plan.arena, &plan.scopes, written)?;
     match made {
@@ -224,7 +225,8 @@ fn intent<'s>(
     written: &Intent<'s>,
     found: &mut Vec<Reducing<'s>>,
 ) -> Result<(), NoNode>
-    ensures found { OnOk result (map reducing_view found.new.items ≡ map reducing_view found.old.items ++ renamed_intents (bound_in scopes.now) (reduce_intents (intent_view written.now ∷ []))) }
+    ensures found { OnOk result (map reducing_view found.new.items
+        ≡ map reducing_view found.old.items ++ renamed_intents (bound_in scopes.now) (reduce_intents (intent_view written.now ∷ []))) }
     ensures ill_typed { (result ≡ Err stop.IllTyped) → IsRunnableIntent scopes.now (intent_view written.now) → ⊥ }
 {
     match written {
@@ -239,7 +241,8 @@ fn more_intents<'s>(
     others: &[NextIntent<'s>],
     found: &mut Vec<Reducing<'s>>,
 ) -> Result<(), NoNode>
-    ensures found { OnOk result (map reducing_view found.new.items ≡ map reducing_view found.old.items ++ renamed_intents (bound_in scopes.now) (reduce_intents (intents_among others.now))) }
+    ensures found { OnOk result (map reducing_view found.new.items
+        ≡ map reducing_view found.old.items ++ renamed_intents (bound_in scopes.now) (reduce_intents (intents_among others.now))) }
     ensures ill_typed { (result ≡ Err stop.IllTyped) → AreRunnableIntents scopes.now (intents_among others.now) → ⊥ }
 {
     for next in others {
@@ -256,7 +259,8 @@ pub(crate) fn intents<'s>(
     plan: &Plan<'s, '_>,
     with: &Option<With<'s>>,
 ) -> Result<Vec<Reducing<'s>>, NoNode>
-    ensures found { IfOk result (λ found. map reducing_view found.items ≡ renamed_intents (bound_in plan.now.scopes) (intents_of (optional with_view with.now))) }
+    ensures found { IfOk result (λ found. map reducing_view found.items
+        ≡ renamed_intents (bound_in plan.now.scopes) (intents_of (optional with_view with.now))) }
     ensures ill_typed { (result ≡ Err stop.IllTyped) → HasRunnableIntents plan.now.scopes (optional with_view with.now) → ⊥ }
 {
     let mut found = Vec::new(plan.arena.alloc());

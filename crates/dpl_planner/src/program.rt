@@ -59,7 +59,8 @@ fn top_stmt<'s, 't>(plan: &mut Plan<'s, 't>, written: &Stmt<'s>) -> Result<Step<
 // The statements of the top level.
 fn top_stmts<'s, 't>(plan: &mut Plan<'s, 't>, stmts: &[Stmt<'s>]) -> Result<&'t [Step<'t>], NoNode>
     ensures plans { IfOk result (λ steps. PlansTops plan.old plan.new (stmts_of stmts.now) steps.now) }
-    ensures ill_typed { (result ≡ Err stop.IllTyped) → IsOneScope plan.old.scopes → (intents_in plan.old ≡ []) → AreRunnableTops plan.old.scopes (stmts_of stmts.now) → ⊥ }
+    ensures ill_typed { (result ≡ Err stop.IllTyped) → IsOneScope plan.old.scopes → (intents_in plan.old ≡ [])
+        → AreRunnableTops plan.old.scopes (stmts_of stmts.now) → ⊥ }
 {
     let mut steps = Vec::new(plan.arena.alloc());
     for next in stmts {
@@ -78,10 +79,13 @@ fn top_stmts<'s, 't>(plan: &mut Plan<'s, 't>, stmts: &[Stmt<'s>]) -> Result<&'t 
 /// takes; a map beside what is no domain, or of which an argument is of a type that the rules refuse.
 pub fn plan<'s, 't>(arena: Arena<'t>, program: &Program<'s>) -> Result<Planned<'s, 't>, NoNode>
     ensures text { IfOk result (λ p. renamed_program text_of (bound_program (program_view program.now)) ≡ program_view program.now) }
-    ensures steps { IfOk result (λ p. (lowered_program known_variable (renamed_program variable_of (bound_program (program_view program.now)))).stmts ≡ steps_of p.steps.now) }
-    ensures fits { IfOk result (λ p. (start : Start) → p.slots ≤ start.slots → AreGiven start p.scopes → fits_all (resolving start) (bound_program (program_view program.now)).stmts first_seen) }
+    ensures steps { IfOk result (λ p. (lowered_program known_variable (renamed_program variable_of (bound_program (program_view program.now)))).stmts
+        ≡ steps_of p.steps.now) }
+    ensures fits { IfOk result (λ p. (start : Start) → p.slots ≤ start.slots → AreGiven start p.scopes
+        → fits_all (resolving start) (bound_program (program_view program.now)).stmts first_seen) }
     ensures scopes { IfOk result (λ p. p.scopes ≡ behind_all top (stmts_of program.now.stmts.now)) }
-    ensures left { IfOk result (λ p. (start : Start) → (after_all (resolving start) (bound_program (program_view program.now)).stmts first_seen).frames ≡ sight_of p.scopes) }
+    ensures left { IfOk result (λ p. (start : Start) → (after_all (resolving start) (bound_program (program_view program.now)).stmts first_seen).frames
+        ≡ sight_of p.scopes) }
     ensures plain { IfOk result (λ p. AreKnownScopes p.scopes) }
     ensures ill_typed { (result ≡ Err stop.IllTyped) → AreRunnableTops top (stmts_of program.now.stmts.now) → ⊥ }
 {

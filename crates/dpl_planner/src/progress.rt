@@ -84,7 +84,8 @@ impl<'s, 't> Plan<'s, 't> {
         ensures next { IfOk result (λ slot. slot ≡ next_slot_in self.old.scopes) }
         ensures below { IfOk result (λ slot. slot < self.new.slots) }
         ensures slots { IfOk result (λ slot. self.old.slots ≤ self.new.slots) }
-        ensures scopes { IfOk result (λ slot. self.new.scopes ≡ add (record { origin = origin_in self.old.scopes name.now; sort = sort_view sort; type = Some (type_view value_type.entry) }) self.old.scopes) }
+        ensures scopes { IfOk result (λ slot. self.new.scopes
+            ≡ add (record { origin = origin_in self.old.scopes name.now; sort = sort_view sort; type = Some (type_view value_type.entry) }) self.old.scopes) }
         ensures intents { IfOk result (λ slot. self.new.intents ≡ self.old.intents) }
         ensures ill_typed { (result ≡ Err stop.IllTyped) → declared_here self.old.scopes name.now ≡ true }
     {

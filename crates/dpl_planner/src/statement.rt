@@ -123,8 +123,11 @@ fn otherwise<'s, 't>(plan: &mut Plan<'s, 't>, other: &Else<'s>) -> Result<Otherw
 // `if`, perhaps with `else`.
 #[cycle(statement)]
 fn choose<'s, 't>(plan: &mut Plan<'s, 't>, choice: &If<'s>) -> Result<Step<'t>, NoNode>
-    ensures plans { IfOk result (λ step. PlansStmt plan.old plan.new (IfTree choice.now.at (expr_view choice.now.condition.now) (body_view choice.now.body) (else_view choice.now.otherwise)) step) }
-    ensures ill_typed { (result ≡ Err stop.IllTyped) → IsRunnableStmt plan.old.scopes (intents_in plan.old) (IfTree choice.now.at (expr_view choice.now.condition.now) (body_view choice.now.body) (else_view choice.now.otherwise)) → ⊥ }
+    ensures plans { IfOk result (λ step. PlansStmt plan.old plan.new
+        (IfTree choice.now.at (expr_view choice.now.condition.now) (body_view choice.now.body) (else_view choice.now.otherwise)) step) }
+    ensures ill_typed { (result ≡ Err stop.IllTyped)
+        → IsRunnableStmt plan.old.scopes (intents_in plan.old)
+        (IfTree choice.now.at (expr_view choice.now.condition.now) (body_view choice.now.body) (else_view choice.now.otherwise)) → ⊥ }
 {
     let condition = condition(plan, choice.condition)?;
     let body = body(plan, &choice.body)?;
@@ -139,8 +142,10 @@ fn choose<'s, 't>(plan: &mut Plan<'s, 't>, choice: &If<'s>) -> Result<Step<'t>, 
 // `while`.
 #[cycle(statement)]
 fn repeat<'s, 't>(plan: &mut Plan<'s, 't>, turns: &While<'s>) -> Result<Step<'t>, NoNode>
-    ensures plans { IfOk result (λ step. PlansStmt plan.old plan.new (WhileTree turns.now.at (expr_view turns.now.condition.now) (body_view turns.now.body)) step) }
-    ensures ill_typed { (result ≡ Err stop.IllTyped) → IsRunnableStmt plan.old.scopes (intents_in plan.old) (WhileTree turns.now.at (expr_view turns.now.condition.now) (body_view turns.now.body)) → ⊥ }
+    ensures plans { IfOk result (λ step. PlansStmt plan.old plan.new
+        (WhileTree turns.now.at (expr_view turns.now.condition.now) (body_view turns.now.body)) step) }
+    ensures ill_typed { (result ≡ Err stop.IllTyped)
+        → IsRunnableStmt plan.old.scopes (intents_in plan.old) (WhileTree turns.now.at (expr_view turns.now.condition.now) (body_view turns.now.body)) → ⊥ }
 {
     let at = spot(plan.arena, turns.at)?;
     let condition = condition(plan, turns.condition)?;
@@ -155,8 +160,11 @@ fn repeat<'s, 't>(plan: &mut Plan<'s, 't>, turns: &While<'s>) -> Result<Step<'t>
 // `for`.
 #[cycle(statement)]
 fn for_turns<'s, 't>(plan: &mut Plan<'s, 't>, turns: &For<'s>) -> Result<Step<'t>, NoNode>
-    ensures plans { IfOk result (λ step. PlansStmt plan.old plan.new (ForTree turns.now.at (variables_view turns.now.variables) turns.now.within (item_view turns.now.over) (body_view turns.now.body)) step) }
-    ensures ill_typed { (result ≡ Err stop.IllTyped) → IsRunnableStmt plan.old.scopes (intents_in plan.old) (ForTree turns.now.at (variables_view turns.now.variables) turns.now.within (item_view turns.now.over) (body_view turns.now.body)) → ⊥ }
+    ensures plans { IfOk result (λ step. PlansStmt plan.old plan.new
+        (ForTree turns.now.at (variables_view turns.now.variables) turns.now.within (item_view turns.now.over) (body_view turns.now.body)) step) }
+    ensures ill_typed { (result ≡ Err stop.IllTyped)
+        → IsRunnableStmt plan.old.scopes (intents_in plan.old)
+        (ForTree turns.now.at (variables_view turns.now.variables) turns.now.within (item_view turns.now.over) (body_view turns.now.body)) → ⊥ }
 {
     let at = spot(plan.arena, turns.at)?;
     let over = over(plan, &turns.over)?;
@@ -170,9 +178,13 @@ fn for_turns<'s, 't>(plan: &mut Plan<'s, 't>, turns: &For<'s>) -> Result<Step<'t
 // `forall`: within one with reduce variables there is no other.
 #[cycle(statement)]
 fn forall_turns<'s, 't>(plan: &mut Plan<'s, 't>, turns: &Forall<'s>) -> Result<Step<'t>, NoNode>
-    ensures plans { IfOk result (λ step. PlansStmt plan.old plan.new (ForallTree turns.now.at (variables_view turns.now.variables) turns.now.within (item_view turns.now.over) (optional with_view turns.now.with) (body_view turns.now.body)) step) }
+    ensures plans { IfOk result (λ step. PlansStmt plan.old plan.new
+        (ForallTree turns.now.at (variables_view turns.now.variables) turns.now.within (item_view turns.now.over) (optional with_view turns.now.with)
+        (body_view turns.now.body)) step) }
     ensures ill_typed { (result ≡ Err stop.IllTyped)
-        → IsRunnableStmt plan.old.scopes (intents_in plan.old) (ForallTree turns.now.at (variables_view turns.now.variables) turns.now.within (item_view turns.now.over) (optional with_view turns.now.with) (body_view turns.now.body)) → ⊥ }
+        → IsRunnableStmt plan.old.scopes (intents_in plan.old)
+        (ForallTree turns.now.at (variables_view turns.now.variables) turns.now.within (item_view turns.now.over) (optional with_view turns.now.with)
+        (body_view turns.now.body)) → ⊥ }
 {
     if !outside(&plan.intents) {
         return Err(NoNode::IllTyped);

@@ -24,7 +24,8 @@ pub(crate) fn for_step<'t>(
     over: Iterable<'t>,
     body: &'t [Step<'t>],
 ) -> Result<Step<'t>, NoNode>
-    ensures node { IfOk result (λ s. step_view s ≡ ForTree at.now (names_view names.entry) nowhere (typed_item Once (over_typed over.entry)) (listed (steps_of body.now))) }
+    ensures node { IfOk result (λ s. step_view s
+        ≡ ForTree at.now (names_view names.entry) nowhere (typed_item Once (over_typed over.entry)) (listed (steps_of body.now))) }
     ensures ill_typed { (result ≡ Err stop.IllTyped) → IsIntOver over.entry names.entry → ⊥ }
 {
     match over {
@@ -57,7 +58,9 @@ pub(crate) fn forall_step<'t>(
     intents: &'t [Intent],
     body: &'t [Step<'t>],
 ) -> Result<Step<'t>, NoNode>
-    ensures node { IfOk result (λ s. step_view s ≡ ForallTree at.now (names_view names.entry) nowhere (typed_item Once (over_typed over.entry)) (with_intents (map intent_view intents.now)) (listed (steps_of body.now))) }
+    ensures node { IfOk result (λ s. step_view s
+        ≡ ForallTree at.now (names_view names.entry) nowhere (typed_item Once (over_typed over.entry)) (with_intents (map intent_view intents.now))
+        (listed (steps_of body.now))) }
     ensures ill_typed { (result ≡ Err stop.IllTyped) → IsIntOver over.entry names.entry → ⊥ }
 {
     match over {

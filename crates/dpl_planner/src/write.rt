@@ -57,7 +57,8 @@ fn whole_array(scopes: &Scopes<'_>, e: &Expr<'_>) -> Option<(ScalarKind, usize)>
 // An expression that is no array's name: an int or a truth value.
 fn scalar<'t>(plan: &Plan<'_, 't>, e: &Expr<'_>) -> Result<Shown<'t>, NoNode>
     ensures shown { IfOk result (λ shown. IsArgument plan.now.scopes (ExprArgument (expr_view e.now)) shown) }
-    ensures ill_typed { (result ≡ Err stop.IllTyped) → IsPrinted plan.now.scopes (expr_view e.now) → ((x : Placed Text) (k : Kind) → expr_view e.now ≡ Named x → kind_in plan.now.scopes x.name ≢ Some (ArrayKind k)) → ⊥ }
+    ensures ill_typed { (result ≡ Err stop.IllTyped) → IsPrinted plan.now.scopes (expr_view e.now)
+        → ((x : Placed Text) (k : Kind) → expr_view e.now ≡ Named x → kind_in plan.now.scopes x.name ≢ Some (ArrayKind k)) → ⊥ }
 {
     let made = expression(plan.arena, &plan.scopes, e)?;
     match made {
@@ -98,7 +99,8 @@ fn more_arguments<'t>(
     others: &[NextArgument<'_>],
     shown: &mut Vec<Shown<'t>>,
 ) -> Result<(), NoNode>
-    ensures shown { OnOk result ((all : List (ArgumentTree Text)) → StillArguments plan.now.scopes all (others_in others.now) shown.old.items → StillArguments plan.now.scopes all [] shown.new.items) }
+    ensures shown { OnOk result ((all : List (ArgumentTree Text)) → StillArguments plan.now.scopes all (others_in others.now) shown.old.items
+        → StillArguments plan.now.scopes all [] shown.new.items) }
     ensures ill_typed { (result ≡ Err stop.IllTyped) → AreRunnableArguments plan.now.scopes (others_in others.now) → ⊥ }
 {
     for next in others {

@@ -39,7 +39,8 @@ fn show<G: Gate>(
     gate: &G,
     out: &mut Vec<u8>,
 ) -> Result<(), Stop>
-    ensures { GrewBy (MayRefuseReduction (G.may_refuse gate.now) frame.now (EachInArgument argument.now)) result out.old.items out.new.items (argument_text frame.now.limits argument.now frame.now.memory) }
+    ensures { GrewBy (MayRefuseReduction (G.may_refuse gate.now) frame.now (EachInArgument argument.now)) result out.old.items out.new.items
+        (argument_text frame.now.limits argument.now frame.now.memory) }
 {
     match argument {
         Argument::Text(bytes) => out.extend_from_slice(bytes)?,
@@ -66,7 +67,8 @@ fn show_all<G: Gate>(
     gate: &G,
     out: &mut Vec<u8>,
 ) -> Result<(), Stop>
-    ensures { GrewBy (MayRefuseReduction (G.may_refuse gate.now) frame.now (EachInArguments arguments.now)) result out.old.items out.new.items (arguments_text frame.now.limits arguments.now frame.now.memory) }
+    ensures { GrewBy (MayRefuseReduction (G.may_refuse gate.now) frame.now (EachInArguments arguments.now)) result out.old.items out.new.items
+        (arguments_text frame.now.limits arguments.now frame.now.memory) }
 {
     for argument in arguments {
         show(argument, frame, gate, out)?;
@@ -96,7 +98,9 @@ pub fn write<G: Gate>(
     gate: &G,
     out: &mut Vec<u8>,
 ) -> Result<(), Stop>
-    ensures { (done : Deeds) → RunsTo (MayRefuseReduction (G.may_refuse gate.now) frame.now (EachInArguments arguments.now)) result frame.now.memory (having_printed out.new.items done)
+    ensures { (done : Deeds)
+        → RunsTo (MayRefuseReduction (G.may_refuse gate.now) frame.now (EachInArguments arguments.now)) result frame.now.memory
+        (having_printed out.new.items done)
         (exec frame.now.limits in_memory (written_as ends_line arguments.now) frame.now.memory (having_printed out.old.items done)) }
 {
     let start = out.len();

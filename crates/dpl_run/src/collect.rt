@@ -37,8 +37,10 @@ fn held(value_type: ValueType<'_>, slot: usize, frame: &Frame<'_>) -> Kept
 
 // What a name in sight holds.
 fn found(scopes: &Scopes<'_>, name: &[u8], frame: &Frame<'_>) -> Option<Kept>
-    ensures some { IfSome result (λ k. content_kept frame.now.memory.arrays k ≡ held_by (type_in scopes.now name.now) (slot_in scopes.now name.now) frame.now.memory) }
-    ensures none { IfNone result (held_by (type_in scopes.now name.now) (slot_in scopes.now name.now) frame.now.memory ≡ value_held (int_leaf 0) frame.now.memory) }
+    ensures some { IfSome result (λ k. content_kept frame.now.memory.arrays k
+        ≡ held_by (type_in scopes.now name.now) (slot_in scopes.now name.now) frame.now.memory) }
+    ensures none { IfNone result (held_by (type_in scopes.now name.now) (slot_in scopes.now name.now) frame.now.memory
+        ≡ value_held (int_leaf 0) frame.now.memory) }
 {
     let value_type = scopes.lookup(name)?.value_type?;
     let slot = scopes.slot(name)?;
@@ -72,7 +74,8 @@ fn add(
     frame: &Frame<'_>,
     variables: &mut Vec<Named>,
 ) -> Result<(), AllocError>
-    ensures { OnOk result (map (entry_kept frame.now.memory.arrays) variables.new.items ≡ map (entry_kept frame.now.memory.arrays) variables.old.items ++ held_frame scopes.now frame.now.memory (declared_by (stmt_view stmt.now))) }
+    ensures { OnOk result (map (entry_kept frame.now.memory.arrays) variables.new.items
+        ≡ map (entry_kept frame.now.memory.arrays) variables.old.items ++ held_frame scopes.now frame.now.memory (declared_by (stmt_view stmt.now))) }
 {
     match stmt {
         Stmt::Declare(declared) => {
@@ -101,7 +104,8 @@ fn names(
     stmts: &[Stmt<'_>],
     frame: &Frame<'_>,
 ) -> Result<Vec<Named>, AllocError>
-    ensures { IfOk result (λ named. map (entry_kept frame.now.memory.arrays) named.items ≡ held_frame scopes.now frame.now.memory (declared_names (stmts_of stmts.now))) }
+    ensures { IfOk result (λ named. map (entry_kept frame.now.memory.arrays) named.items
+        ≡ held_frame scopes.now frame.now.memory (declared_names (stmts_of stmts.now))) }
 {
     let mut variables = Vec::new(alloc);
     for stmt in stmts {

@@ -49,7 +49,9 @@ pub(crate) fn run<'t, G: Gate>(
     stmts: &[Stmt<'_>],
     gate: &G,
 ) -> Result<Ended, Refused>
-    ensures ends { IfOk result (λ ended. AreKnownScopes scopes.now → AreLeft scopes.now → RanTo scopes.now (stmts_of stmts.now) (exec_all frame.entry.limits in_memory (steps_in Outside steps.now) frame.entry.memory no_deeds) ended.outcome ended.text.items) }
+    ensures ends { IfOk result (λ ended. AreKnownScopes scopes.now → AreLeft scopes.now
+        → RanTo scopes.now (stmts_of stmts.now) (exec_all frame.entry.limits in_memory
+        (steps_in Outside steps.now) frame.entry.memory no_deeds) ended.outcome ended.text.items) }
     ensures unwritten { IfErr result (IsUnwritten (MayRefuseSome (G.may_refuse gate.now))) }
 {
     let mut text = Vec::new(alloc);

@@ -117,7 +117,8 @@ impl<'t> Scopes<'t> {
         sort: Sort,
         value_type: Option<ValueType<'t>>,
     ) -> Result<(), AllocError>
-        ensures ok { OnOk result (self.new ≡ add (record { origin = origin_in self.old name.now; sort = sort_view sort; type = of_type value_type.entry }) self.old) }
+        ensures ok { OnOk result (self.new
+            ≡ add (record { origin = origin_in self.old name.now; sort = sort_view sort; type = of_type value_type.entry }) self.old) }
         ensures err { OnErr result (self.new ≡ self.old) }
     {
         self.marks.reserve(1)?;

@@ -34,7 +34,8 @@ fn element<'t>(
     shape: (BracketPair, Sign, Sign),
     tokens: Tokens<'t>,
 ) -> Parsed<'t, Target<'t>>
-    ensures gives { Gives (λ x. (target_view x.0, x.1.now)) result (at (told (name_view name.entry) (element_rule shape.0 (sign_class shape.1) (sign_class shape.2))) room tokens.now) }
+    ensures gives { Gives (λ x. (target_view x.0, x.1.now)) result
+        (at (told (name_view name.entry) (element_rule shape.0 (sign_class shape.1) (sign_class shape.2))) room tokens.now) }
     ensures shorter { IfOk result (λ x. length x.1.now < length tokens.now) }
 {
     let (open, room, rest) = deeper(room, shape.1, tokens)?;

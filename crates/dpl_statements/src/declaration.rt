@@ -240,7 +240,8 @@ fn declare_end<'t>(
 
 /// "const" | "var": whether what it declares is constant
 fn declaration_word(tokens: Tokens<'_>) -> Parsed<'_, (Place, bool)>
-    ensures gives { Gives (λ x. (x.0, x.1.now)) result (at (either (means_rule (keyword_class Keyword.Const) true) (means_rule (keyword_class Keyword.Var) false)) 0 tokens.now) }
+    ensures gives { Gives (λ x. (x.0, x.1.now)) result
+        (at (either (means_rule (keyword_class Keyword.Const) true) (means_rule (keyword_class Keyword.Var) false)) 0 tokens.now) }
     ensures shorter { IfOk result (λ x. length x.1.now < length tokens.now) }
 {
     if is_keyword(tokens, Keyword::Const) {

@@ -26,7 +26,8 @@ fn declare_truth<G: Gate>(
     frame: &mut Frame<'_>,
     gate: &G,
 ) -> Result<(), Stop>
-    ensures memory { Gives (MayRefuseSome (G.may_refuse gate.now)) (λ v. frame.new.memory) result (declared_memory frame.old.limits (truth_leaf slot) (One (truth_view e.now)) frame.old.memory) }
+    ensures memory { Gives (MayRefuseSome (G.may_refuse gate.now)) (λ v. frame.new.memory) result
+        (declared_memory frame.old.limits (truth_leaf slot) (One (truth_view e.now)) frame.old.memory) }
     ensures limits { frame.new.limits ≡ frame.old.limits }
 {
     let value = truth_value(e, frame, gate)?.get();
@@ -42,7 +43,8 @@ pub(crate) fn declare_range<G: Gate>(
     frame: &mut Frame<'_>,
     gate: &G,
 ) -> Result<(), Stop>
-    ensures memory { Gives (MayRefuseSome (G.may_refuse gate.now)) (λ v. frame.new.memory) result (declared_memory frame.old.limits (range_leaf slot) (range_item e.now) frame.old.memory) }
+    ensures memory { Gives (MayRefuseSome (G.may_refuse gate.now)) (λ v. frame.new.memory) result
+        (declared_memory frame.old.limits (range_leaf slot) (range_item e.now) frame.old.memory) }
     ensures limits { frame.new.limits ≡ frame.old.limits }
 {
     let value = range_value(e, frame, gate)?;
@@ -57,7 +59,8 @@ fn config_truth<G: Gate>(
     frame: &mut Frame<'_>,
     gate: &G,
 ) -> Result<(), Stop>
-    ensures memory { Gives (MayRefuseSome (G.may_refuse gate.now)) (λ v. frame.new.memory) result (given_memory frame.old.limits (truth_leaf slot) (One (truth_view e.now)) (in_memory.given (truth_leaf slot) frame.old.memory) frame.old.memory) }
+    ensures memory { Gives (MayRefuseSome (G.may_refuse gate.now)) (λ v. frame.new.memory) result
+        (given_memory frame.old.limits (truth_leaf slot) (One (truth_view e.now)) (in_memory.given (truth_leaf slot) frame.old.memory) frame.old.memory) }
     ensures limits { frame.new.limits ≡ frame.old.limits }
 {
     match frame.given(slot) {
@@ -148,7 +151,8 @@ fn reduce_truth<G: Gate>(
     frame: &mut Frame<'_>,
     gate: &G,
 ) -> Result<(), Stop>
-    ensures memory { Gives (MayRefuseSome (G.may_refuse gate.now)) (λ v. frame.new.memory) result (assigned_memory frame.old.limits (truth_leaf slot) SetReduce nowhere (One (truth_view e.now)) frame.old.memory) }
+    ensures memory { Gives (MayRefuseSome (G.may_refuse gate.now)) (λ v. frame.new.memory) result
+        (assigned_memory frame.old.limits (truth_leaf slot) SetReduce nowhere (One (truth_view e.now)) frame.old.memory) }
     ensures limits { frame.new.limits ≡ frame.old.limits }
 {
     let value = truth_value(e, frame, gate)?.get();
@@ -166,7 +170,8 @@ pub(crate) fn change_int<G: Gate>(
     frame: &mut Frame<'_>,
     gate: &G,
 ) -> Result<(), Stop>
-    ensures memory { Gives (MayRefuseSome (G.may_refuse gate.now)) (λ v. frame.new.memory) result (int_memory frame.old.limits deed.now slot (One (int_view e.now)) frame.old.memory) }
+    ensures memory { Gives (MayRefuseSome (G.may_refuse gate.now)) (λ v. frame.new.memory) result
+        (int_memory frame.old.limits deed.now slot (One (int_view e.now)) frame.old.memory) }
     ensures limits { frame.new.limits ≡ frame.old.limits }
 {
     if let Some(number) = given(deed, slot, frame) {
@@ -186,7 +191,8 @@ pub(crate) fn change_truth<G: Gate>(
     frame: &mut Frame<'_>,
     gate: &G,
 ) -> Result<(), Stop>
-    ensures memory { Gives (MayRefuseSome (G.may_refuse gate.now)) (λ v. frame.new.memory) result (truth_memory frame.old.limits deed slot (One (truth_view e.now)) frame.old.memory) }
+    ensures memory { Gives (MayRefuseSome (G.may_refuse gate.now)) (λ v. frame.new.memory) result
+        (truth_memory frame.old.limits deed slot (One (truth_view e.now)) frame.old.memory) }
     ensures limits { frame.new.limits ≡ frame.old.limits }
 {
     match deed {

@@ -41,7 +41,8 @@ pub trait Context: Gate {
         frame: &Frame<'_>,
         out: &mut Self::Out,
     ) -> Result<(), Stop>
-        ensures { (done : Deeds) → RunsTo (MayRefuseReduction (Self.may_refuse self.now) frame.now (EachInArguments arguments.now)) result frame.now.memory (having out.new done)
+        ensures { (done : Deeds)
+            → RunsTo (MayRefuseReduction (Self.may_refuse self.now) frame.now (EachInArguments arguments.now)) result frame.now.memory (having out.new done)
             (exec frame.now.limits in_memory (outside standing (written_as ends_line arguments.now)) frame.now.memory (having out.old done)) };
 
     /// A forall over a range, with its reduce variables.
@@ -58,7 +59,8 @@ pub trait Context: Gate {
         body: &[Step<'t>],
         frame: &mut Frame<'t>,
     ) -> Result<(), Stop>
-        ensures ends { (done : Deeds) → RunsTo (MayRefuseForallLine (Self.may_refuse self.now) frame.old at.now over.now (steps_in InTurn body.now)) result frame.new.memory done
+        ensures ends { (done : Deeds)
+            → RunsTo (MayRefuseForallLine (Self.may_refuse self.now) frame.old at.now over.now (steps_in InTurn body.now)) result frame.new.memory done
             (exec frame.old.limits in_memory (outside standing (forall_of at.now (variable_in slot) (range_item over.now) intents.now (steps_in InTurn body.now))) frame.old.memory done) }
         ensures limits { frame.new.limits ≡ frame.old.limits };
 
@@ -75,7 +77,8 @@ pub trait Context: Gate {
         body: &[Step<'t>],
         frame: &mut Frame<'t>,
     ) -> Result<(), Stop>
-        ensures ends { (done : Deeds) → RunsTo (MayRefuseForall (Self.may_refuse self.now) frame.old at.now over.now (steps_in InTurn body.now)) result frame.new.memory done
+        ensures ends { (done : Deeds)
+            → RunsTo (MayRefuseForall (Self.may_refuse self.now) frame.old at.now over.now (steps_in InTurn body.now)) result frame.new.memory done
             (exec frame.old.limits in_memory (outside standing (forall_of at.now (names_view names.now) (One (domain_view over.now)) intents.now (steps_in InTurn body.now))) frame.old.memory done) }
         ensures limits { frame.new.limits ≡ frame.old.limits };
 }

@@ -45,7 +45,8 @@ fn domain_over<G: Gate>(
     frame: &Frame<'_>,
     gate: &G,
 ) -> Result<DomainWord, Stop>
-    ensures { Gives (MayRefuseSome (G.may_refuse gate.now)) DomainValue result (domain_of frame.now.limits in_memory from.now (over_items over.now) frame.now.memory) }
+    ensures { Gives (MayRefuseSome (G.may_refuse gate.now)) DomainValue result
+        (domain_of frame.now.limits in_memory from.now (over_items over.now) frame.now.memory) }
 {
     match over {
         DeclaredOver::Ranges(ranges) => literal(from, ranges, frame, gate),
@@ -232,7 +233,8 @@ fn declare_over<G: Gate>(
     gate: &G,
 ) -> Result<(), Stop>
     requires { too_large domain ≡ false }
-    ensures ends { (done : Deeds) → RunsTo (MayRefuseSome (G.may_refuse gate.now)) result frame.new.memory done (declared_over frame.old.limits d.now domain frame.old.memory done) }
+    ensures ends { (done : Deeds)
+        → RunsTo (MayRefuseSome (G.may_refuse gate.now)) result frame.new.memory done (declared_over frame.old.limits d.now domain frame.old.memory done) }
     ensures limits { frame.new.limits ≡ frame.old.limits }
     ensures layout { frame.new.layout ≡ frame.old.layout }
 {
@@ -256,7 +258,9 @@ pub(crate) fn declare_array<G: Gate>(
     frame: &mut Frame<'_>,
     gate: &G,
 ) -> Result<(), Stop>
-    ensures ends { (done : Deeds) → RunsTo (MayRefuseSome (G.may_refuse gate.now)) result frame.new.memory done (exec frame.old.limits in_memory (array_declared d.now) frame.old.memory done) }
+    ensures ends { (done : Deeds)
+        → RunsTo (MayRefuseSome (G.may_refuse gate.now)) result frame.new.memory done
+        (exec frame.old.limits in_memory (array_declared d.now) frame.old.memory done) }
     ensures limits { frame.new.limits ≡ frame.old.limits }
     ensures layout { frame.new.layout ≡ frame.old.layout }
 {

@@ -47,7 +47,8 @@ fn declare_value<G: Gate>(
 
 // And without one: it has no index.
 fn declare_empty(slot: usize, rank: Rank, placing: &Placing<'_>, frame: &mut Frame<'_>)
-    ensures ends { (done : Deeds) → exec frame.old.limits in_memory (domain_declared slot (Empty rank) placing.now) frame.old.memory done ≡ Done frame.new.memory done }
+    ensures ends { (done : Deeds) → exec frame.old.limits in_memory (domain_declared slot (Empty rank) placing.now) frame.old.memory done
+        ≡ Done frame.new.memory done }
     ensures limits { frame.new.limits ≡ frame.old.limits }
     ensures layout { frame.new.layout ≡ frame.old.layout }
 {
@@ -115,7 +116,9 @@ pub(crate) fn set_domain<G: Gate>(
     frame: &mut Frame<'_>,
     gate: &G,
 ) -> Result<(), Stop>
-    ensures ends { (done : Deeds) → RunsTo (MayRefuseSome (G.may_refuse gate.now)) result frame.new.memory done (exec frame.old.limits in_memory (whole_set (domain_leaf name.now) Set nowhere (domain_view e.now)) frame.old.memory done) }
+    ensures ends { (done : Deeds)
+        → RunsTo (MayRefuseSome (G.may_refuse gate.now)) result frame.new.memory done
+        (exec frame.old.limits in_memory (whole_set (domain_leaf name.now) Set nowhere (domain_view e.now)) frame.old.memory done) }
     ensures limits { frame.new.limits ≡ frame.old.limits }
 {
     let value = domain_value(e, frame, gate)?;

@@ -40,7 +40,8 @@ pub fn domain_indices<G: Gate>(
     frame: &Frame<'_>,
     gate: &G,
 ) -> Result<DomainWord, Stop>
-    ensures { Gives (MayRefuseReduction (G.may_refuse gate.now) frame.now (EachInDomain over.now)) DomainValue result (looped_over frame.now.limits at.now (One (domain_view over.now)) frame.now.memory) }
+    ensures { Gives (MayRefuseReduction (G.may_refuse gate.now) frame.now (EachInDomain over.now)) DomainValue result
+        (looped_over frame.now.limits at.now (One (domain_view over.now)) frame.now.memory) }
 {
     let domain = domain_value(over, frame, gate)?;
     within_budget(&domain, at, frame)?;

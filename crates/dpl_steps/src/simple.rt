@@ -27,7 +27,9 @@ pub(crate) fn range<G: Gate>(
     frame: &mut Frame<'_>,
     gate: &G,
 ) -> Result<(), Stop>
-    ensures ends { (done : Deeds) → RunsTo (MayRefuseSome (G.may_refuse gate.now)) result frame.new.memory done (ends_as (declared_memory frame.old.limits (range_leaf slot) (range_item e.now) frame.old.memory) done) }
+    ensures ends { (done : Deeds)
+        → RunsTo (MayRefuseSome (G.may_refuse gate.now)) result frame.new.memory done
+        (ends_as (declared_memory frame.old.limits (range_leaf slot) (range_item e.now) frame.old.memory) done) }
     ensures limits { frame.new.limits ≡ frame.old.limits }
 {
     declare_range(slot, e, frame, gate)
@@ -62,7 +64,9 @@ pub(crate) fn element<G: Gate>(
     frame: &mut Frame<'_>,
     gate: &G,
 ) -> Result<(), Stop>
-    ensures ends { (done : Deeds) → RunsTo (MayRefuseSome (G.may_refuse gate.now)) result frame.new.memory done (exec frame.old.limits in_memory (element_set (array_leaf IntKind name.now) t.now op sign.now (int_view e.now)) frame.old.memory done) }
+    ensures ends { (done : Deeds)
+        → RunsTo (MayRefuseSome (G.may_refuse gate.now)) result frame.new.memory done
+        (exec frame.old.limits in_memory (element_set (array_leaf IntKind name.now) t.now op sign.now (int_view e.now)) frame.old.memory done) }
     ensures limits { frame.new.limits ≡ frame.old.limits }
 {
     set_element(name, t, op, sign, e, frame, gate)

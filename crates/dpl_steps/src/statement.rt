@@ -43,7 +43,8 @@ pub fn range_indices<G: Gate>(
     frame: &Frame<'_>,
     gate: &G,
 ) -> Result<RangeWord, Stop>
-    ensures { Gives (MayRefuseReduction (G.may_refuse gate.now) frame.now (EachInRange over.now)) as_range result (looped_over frame.now.limits at.now (range_item over.now) frame.now.memory) }
+    ensures { Gives (MayRefuseReduction (G.may_refuse gate.now) frame.now (EachInRange over.now)) as_range result
+        (looped_over frame.now.limits at.now (range_item over.now) frame.now.memory) }
 {
     let range = range_value(over, frame, gate)?;
     if frame.budget() < range.range.size() {
@@ -229,7 +230,8 @@ fn turn<'t, C: Context>(
     out: &mut C::Out,
 ) -> Result<(), Stop>
     requires { k < length (members_of range) }
-    ensures ends { (i : ℤ) (done : Deeds) → slice_get (members_of range) k ≡ Some i → RunsTo (MayRefuseSome (C.may_refuse context.now)) result frame.new.memory (C.having out.new done)
+    ensures ends { (i : ℤ) (done : Deeds) → slice_get (members_of range) k ≡ Some i
+        → RunsTo (MayRefuseSome (C.may_refuse context.now)) result frame.new.memory (C.having out.new done)
         (turn_in_memory frame.old.limits slot (steps_in C.standing body.now) i frame.old.memory (C.having out.old done)) }
     ensures limits { frame.new.limits ≡ frame.old.limits }
 {

@@ -59,7 +59,8 @@ fn assign_row<'t>(
     frame: &mut Frame<'t>,
 ) -> usize
     ensures most { result ≤ most }
-    ensures done { AreDone (index_turn frame.old.limits names.now (Then (element_set (array_leaf IntKind name.now) index.now op sign.now (int_view e.now)) NoStmts)) first result frame.old.memory frame.new.memory }
+    ensures done { AreDone (index_turn frame.old.limits names.now
+        (Then (element_set (array_leaf IntKind name.now) index.now op sign.now (int_view e.now)) NoStmts)) first result frame.old.memory frame.new.memory }
     ensures limits { frame.new.limits ≡ frame.old.limits }
 {
     if !has_room(first) {

@@ -65,7 +65,8 @@ fn after<A: Arrays>(
     before: Option<Pace>,
     frame: &Frame<'_, A>,
 ) -> Option<Pace>
-    ensures { (numbers : ℕ → List ℤ) → ((k : ℕ) → length (numbers k) ≡ length frame.now.memory.words.numbers) → IfSome before (GoesIn numbers slot) → IfSome result (GoesIn (λ k. set (numbers k) variable (paced held k)) slot) }
+    ensures { (numbers : ℕ → List ℤ) → ((k : ℕ) → length (numbers k) ≡ length frame.now.memory.words.numbers) → IfSome before (GoesIn numbers slot)
+        → IfSome result (GoesIn (λ k. set (numbers k) variable (paced held k)) slot) }
 {
     if slot != variable {
         return before;

@@ -144,7 +144,8 @@ pub(crate) fn remainders(strip: &Strip, by: i64) -> Strip
 
 // An int that is the same at all indices, as a slot holds it or as it stands in the text.
 fn steady<A: Arrays>(e: &PromotedInt<'_>, frame: &Frame<'_, A>) -> Option<i64>
-    ensures { IfSome result (λ n. (t : IndexValue) (u : Memory) → u.words ≡ frame.now.memory.words → value_of frame.now.limits in_memory (promoted_int EachTurn e.now) (Some t) u ≡ Ok (Int n)) }
+    ensures { IfSome result (λ n. (t : IndexValue) (u : Memory) → u.words ≡ frame.now.memory.words
+        → value_of frame.now.limits in_memory (promoted_int EachTurn e.now) (Some t) u ≡ Ok (Int n)) }
 {
     match e {
         PromotedInt::Scalar(IntExpr::Number(n)) => Some(*n),
@@ -170,7 +171,8 @@ fn scalars<A: Arrays>(e: &PromotedInt<'_>, first: Index, frame: &Frame<'_, A>) -
 #[inline(never)]
 fn negatives<A: Arrays>(e: &PromotedInt<'_>, first: Index, frame: &Frame<'_, A>) -> Strip
     ensures first { result.first ≡ first }
-    ensures values { HoldsAtIndices (λ i u. value_of frame.now.limits in_memory (Prefixed nowhere Minus (promoted_int EachTurn e.now)) (Some i) u) frame.now.memory result }
+    ensures values { HoldsAtIndices (λ i u. value_of frame.now.limits in_memory (Prefixed nowhere Minus (promoted_int EachTurn e.now))
+        (Some i) u) frame.now.memory result }
 {
     negated(&promoted_strip(e, first, frame))
 }

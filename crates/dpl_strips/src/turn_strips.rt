@@ -99,7 +99,9 @@ fn of_element<A: Arrays>(
     frame: &Frame<'_, A>,
 ) -> Strip
     ensures first { result.first ≡ first }
-    ensures values { (at : Place) → HoldsInTurns names.now target (λ u. value_of frame.now.limits in_memory (in_square (array_named IntKind slot at) (index_items index.now)) None u) frame.now.memory result }
+    ensures values { (at : Place)
+        → HoldsInTurns names.now target (λ u. value_of frame.now.limits in_memory
+        (in_square (array_named IntKind slot at) (index_items index.now)) None u) frame.now.memory result }
 {
     if slot == target {
         return Strip::none(first);
@@ -139,7 +141,8 @@ fn negatives<A: Arrays>(
     frame: &Frame<'_, A>,
 ) -> Strip
     ensures first { result.first ≡ first }
-    ensures values { HoldsInTurns names.now target (λ u. value_of frame.now.limits in_memory (Prefixed nowhere Minus (int_view e.now)) None u) frame.now.memory result }
+    ensures values { HoldsInTurns names.now target (λ u. value_of frame.now.limits in_memory
+        (Prefixed nowhere Minus (int_view e.now)) None u) frame.now.memory result }
 {
     negated(&turn_strip(e, names, target, first, frame))
 }

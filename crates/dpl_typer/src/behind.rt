@@ -176,7 +176,8 @@ fn of_truths<'t>(
     word: Word,
     base: &'t PromotedTruth<'t>,
 ) -> Result<Typed<'t>, NoNode>
-    ensures node { IfOk result (λ t. (at : PlaceOf) (m : Times) → typed_view m t ≡ dotted (promoted_truth Once base.now) (Plainly (kept (is_end word) at) word)) }
+    ensures node { IfOk result (λ t. (at : PlaceOf) (m : Times) → typed_view m t
+        ≡ dotted (promoted_truth Once base.now) (Plainly (kept (is_end word) at) word)) }
     ensures kind { IfOk result (λ t. array_word_kind (whole_truths base.now) word ≡ Some (kind_of t)) }
     ensures ill_typed { (result ≡ Err stop.IllTyped) → array_word_kind (whole_truths base.now) word ≡ None }
 {
@@ -254,7 +255,8 @@ pub fn containing<'t>(
     base: Typed<'t>,
     index: &'t IndexExpr<'t>,
 ) -> Result<Typed<'t>, NoNode>
-    ensures node { IfOk result (λ t. (m : Times) → typed_view m t ≡ dotted (typed_view Once base.entry) (Contains nowhere nowhere (index_exprs index.now) nowhere)) }
+    ensures node { IfOk result (λ t. (m : Times) → typed_view m t
+        ≡ dotted (typed_view Once base.entry) (Contains nowhere nowhere (index_exprs index.now) nowhere)) }
     ensures kind { IfOk result (λ t. contains_kind (kind_of base.entry) (index_kinds index.now) ≡ Some (kind_of t)) }
     ensures ill_typed { (result ≡ Err stop.IllTyped) → contains_kind (kind_of base.entry) (index_kinds index.now) ≡ None }
 {

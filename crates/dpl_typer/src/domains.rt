@@ -115,7 +115,8 @@ fn dimension(number: i64) -> Option<u32>
 /// # Errors
 /// Out of memory; something else than a domain; a dimension that no domain has.
 pub fn dimension_of<'t>(arena: Arena<'t>, base: Typed<'t>, number: i64) -> Result<Typed<'t>, NoNode>
-    ensures node { IfOk result (λ t. (m : Times) → typed_view m t ≡ dotted (typed_view Once base.entry) (Dim nowhere nowhere nowhere (natural number) nowhere)) }
+    ensures node { IfOk result (λ t. (m : Times) → typed_view m t
+        ≡ dotted (typed_view Once base.entry) (Dim nowhere nowhere nowhere (natural number) nowhere)) }
     ensures kind { IfOk result (λ t. dim_kind (natural number) (kind_of base.entry) ≡ Some (kind_of t)) }
     ensures ill_typed { (result ≡ Err stop.IllTyped) → dim_kind (natural number) (kind_of base.entry) ≡ None }
 {
@@ -136,7 +137,8 @@ pub fn expanded<'t>(
     at: Place,
     by: Typed<'t>,
 ) -> Result<Typed<'t>, NoNode>
-    ensures node { IfOk result (λ t. (m : Times) → typed_view m t ≡ dotted (typed_view Once base.entry) (Expand at nowhere (typed_view Once by.entry) nowhere)) }
+    ensures node { IfOk result (λ t. (m : Times) → typed_view m t
+        ≡ dotted (typed_view Once base.entry) (Expand at nowhere (typed_view Once by.entry) nowhere)) }
     ensures kind { IfOk result (λ t. expand_kind (kind_of base.entry) (kind_of by.entry) ≡ Some (kind_of t)) }
     ensures ill_typed { (result ≡ Err stop.IllTyped) → IsNear at → expand_kind (kind_of base.entry) (kind_of by.entry) ≡ None }
 {

@@ -135,7 +135,8 @@ fn promoted_compared<'t>(
     left: &'t PromotedInt<'t>,
     right: &'t PromotedInt<'t>,
 ) -> Result<Typed<'t>, NoNode>
-    ensures node { IfOk result (λ t. (m : Times) → typed_view m t ≡ two (promoted_int m left.now) nowhere (comparison_view comparison) (promoted_int m right.now)) }
+    ensures node { IfOk result (λ t. (m : Times) → typed_view m t
+        ≡ two (promoted_int m left.now) nowhere (comparison_view comparison) (promoted_int m right.now)) }
     ensures kind { IfOk result (λ t. kind_of t ≡ ArrayKind BoolKind) }
     ensures ill_typed { result ≢ Err stop.IllTyped }
 {

@@ -85,7 +85,8 @@ pub fn bounded<'t>(
     high: Typed<'t>,
     stride: Stride<'t>,
 ) -> Result<Typed<'t>, NoNode>
-    ensures node { IfOk result (λ t. (m : Times) → typed_item m t ≡ RangeItem (typed_view Once low.entry) at (unplaced_dots written) (typed_view Once high.entry) (stride_view stride.entry)) }
+    ensures node { IfOk result (λ t. (m : Times) → typed_item m t
+        ≡ RangeItem (typed_view Once low.entry) at (unplaced_dots written) (typed_view Once high.entry) (stride_view stride.entry)) }
     ensures kind { IfOk result (λ t. bounds_kind (kind_of low.entry) (kind_of high.entry) ≡ Some (kind_of t)) }
     ensures ill_typed { (result ≡ Err stop.IllTyped) → IsNear at → bounds_kind (kind_of low.entry) (kind_of high.entry) ≡ None }
 {

@@ -117,7 +117,8 @@ pub fn part<'t>(
     e: &Expr<'_>,
     first: &mut Option<Breach>,
 ) -> Result<Part<'t>, AllocError>
-    ensures { IfOk result (λ p. TellsPart (part_of (first_of_expr (expr_view e.now)) (type_of scopes.now (expr_view e.now))) (expr_breaches scopes.now (expr_view e.now)) p first.old first.new) }
+    ensures { IfOk result (λ p. TellsPart (part_of (first_of_expr (expr_view e.now)) (type_of scopes.now (expr_view e.now)))
+        (expr_breaches scopes.now (expr_view e.now)) p first.old first.new) }
 {
     let found = expr(alloc, scopes, e, first)?;
     Ok(Part {
@@ -135,7 +136,8 @@ fn range_item<'t>(
     written: &Range<'_>,
     first: &mut Option<Breach>,
 ) -> Judged<'t>
-    ensures { IfOk result (λ t. Tells (item_type scopes.now (range_view written.now)) (item_breaches scopes.now (range_view written.now)) t first.old first.new) }
+    ensures { IfOk result (λ t. Tells (item_type scopes.now (range_view written.now))
+        (item_breaches scopes.now (range_view written.now)) t first.old first.new) }
 {
     let low = part(alloc, scopes, written.low, first)?;
     let high = part(alloc, scopes, written.high, first)?;
@@ -158,7 +160,8 @@ fn links<'t>(
     links: &[Link<'_>],
     first: &mut Option<Breach>,
 ) -> Judged<'t>
-    ensures { IfOk result (λ r. Tells (chain_type scopes.now (of_type t.entry) (links_of links.now)) (chain_breaches scopes.now (of_type t.entry) (links_of links.now)) r first.old first.new) }
+    ensures { IfOk result (λ r. Tells (chain_type scopes.now (of_type t.entry) (links_of links.now))
+        (chain_breaches scopes.now (of_type t.entry) (links_of links.now)) r first.old first.new) }
 {
     let mut t = t;
     for next in links {
@@ -177,7 +180,8 @@ fn link<'t>(
     link: &Link<'_>,
     first: &mut Option<Breach>,
 ) -> Judged<'t>
-    ensures { IfOk result (λ r. Tells (type_by (link_verdict scopes.now (of_type t.entry) link.now)) (expr_breaches scopes.now (expr_view link.now.right.now) ++ broken_by (link_verdict scopes.now (of_type t.entry) link.now)) r first.old first.new) }
+    ensures { IfOk result (λ r. Tells (type_by (link_verdict scopes.now (of_type t.entry) link.now))
+        (expr_breaches scopes.now (expr_view link.now.right.now) ++ broken_by (link_verdict scopes.now (of_type t.entry) link.now)) r first.old first.new) }
 {
     let right = expr(alloc, scopes, link.right, first)?;
     Ok(infix(link.at, link.op, t, right, first))
@@ -194,7 +198,8 @@ pub fn base<'t>(
     e: &Expr<'_>,
     first: &mut Option<Breach>,
 ) -> Judged<'t>
-    ensures { IfOk result (λ t. Tells (locales_or (bare_locales (expr_view e.now)) (type_of scopes.now (expr_view e.now))) (none_where (bare_locales (expr_view e.now)) (expr_breaches scopes.now (expr_view e.now))) t first.old first.new) }
+    ensures { IfOk result (λ t. Tells (locales_or (bare_locales (expr_view e.now)) (type_of scopes.now (expr_view e.now)))
+        (none_where (bare_locales (expr_view e.now)) (expr_breaches scopes.now (expr_view e.now))) t first.old first.new) }
 {
     match e {
         Expr::Locales(_) => Ok(Some(ValueType::AllLocales)),
@@ -226,7 +231,8 @@ pub fn posts<'t>(
     posts: &[Post<'_>],
     first: &mut Option<Breach>,
 ) -> Judged<'t>
-    ensures { IfOk result (λ r. Tells (posts_type scopes.now last (of_type t.entry) (posts_of posts.now)) (posts_breaches scopes.now last (of_type t.entry) (posts_of posts.now)) r first.old first.new) }
+    ensures { IfOk result (λ r. Tells (posts_type scopes.now last (of_type t.entry) (posts_of posts.now))
+        (posts_breaches scopes.now last (of_type t.entry) (posts_of posts.now)) r first.old first.new) }
 {
     let mut last = last;
     let mut t = t;
@@ -251,7 +257,8 @@ pub fn post<'t>(
     post: &Post<'_>,
     first: &mut Option<Breach>,
 ) -> Judged<'t>
-    ensures { IfOk result (λ r. Tells (type_by (post_verdict scopes.now last (post_view post.now) (of_type t.entry))) (post_told scopes.now last (post_view post.now) (of_type t.entry)) r first.old first.new) }
+    ensures { IfOk result (λ r. Tells (type_by (post_verdict scopes.now last (post_view post.now) (of_type t.entry)))
+        (post_told scopes.now last (post_view post.now) (of_type t.entry)) r first.old first.new) }
 {
     match post {
         Post::Brackets {
@@ -298,7 +305,8 @@ fn method<'t>(
     method: &Method<'_>,
     first: &mut Option<Breach>,
 ) -> Judged<'t>
-    ensures { IfOk result (λ r. Tells (type_by (called scopes.now (method_view method.now) (of_type t.entry))) (called_told scopes.now (method_view method.now) (of_type t.entry)) r first.old first.new) }
+    ensures { IfOk result (λ r. Tells (type_by (called scopes.now (method_view method.now) (of_type t.entry)))
+        (called_told scopes.now (method_view method.now) (of_type t.entry)) r first.old first.new) }
 {
     match method {
         Method::Plain(at, called) => Ok(word(*at, *called, t, first)),
@@ -327,7 +335,8 @@ pub fn items<'t>(
     items: &Items<'_>,
     first: &mut Option<Breach>,
 ) -> Result<Vec<Part<'t>>, AllocError>
-    ensures { IfOk result (λ ps. TellsParts (item_parts scopes.now (items_view items.now)) (items_breaches scopes.now (items_view items.now)) ps.items first.old first.new) }
+    ensures { IfOk result (λ ps. TellsParts (item_parts scopes.now (items_view items.now))
+        (items_breaches scopes.now (items_view items.now)) ps.items first.old first.new) }
 {
     let mut parts = Vec::new(alloc);
     parts.push(item_part(alloc, scopes, &items.first, first)?)?;
@@ -345,7 +354,8 @@ pub fn item_part<'t>(
     written: &Item<'_>,
     first: &mut Option<Breach>,
 ) -> Result<Part<'t>, AllocError>
-    ensures { IfOk result (λ p. TellsPart (part_of (first_of_item_tree (item_view written.now)) (item_type scopes.now (item_view written.now))) (item_breaches scopes.now (item_view written.now)) p first.old first.new) }
+    ensures { IfOk result (λ p. TellsPart (part_of (first_of_item_tree (item_view written.now)) (item_type scopes.now (item_view written.now)))
+        (item_breaches scopes.now (item_view written.now)) p first.old first.new) }
 {
     let found = item(alloc, scopes, written, first)?;
     Ok(Part {
@@ -364,7 +374,8 @@ fn more_items<'t>(
     others: &[NextItem<'_>],
     first: &mut Option<Breach>,
 ) -> Result<Vec<Part<'t>>, AllocError>
-    ensures { IfOk result (λ ps. TellsParts (map part_view parts.entry.items ++ more_item_parts scopes.now (more_items_of others.now)) (more_items_breaches scopes.now (more_items_of others.now)) ps.items first.old first.new) }
+    ensures { IfOk result (λ ps. TellsParts (map part_view parts.entry.items ++ more_item_parts scopes.now (more_items_of others.now))
+        (more_items_breaches scopes.now (more_items_of others.now)) ps.items first.old first.new) }
 {
     let mut parts = parts;
     for next in others {
@@ -385,7 +396,8 @@ pub fn exprs<'t>(
     exprs: &Exprs<'_>,
     first: &mut Option<Breach>,
 ) -> Result<Vec<Part<'t>>, AllocError>
-    ensures { IfOk result (λ ps. TellsParts (expr_parts scopes.now (exprs_view exprs.now)) (exprs_breaches scopes.now (exprs_view exprs.now)) ps.items first.old first.new) }
+    ensures { IfOk result (λ ps. TellsParts (expr_parts scopes.now (exprs_view exprs.now))
+        (exprs_breaches scopes.now (exprs_view exprs.now)) ps.items first.old first.new) }
 {
     let mut parts = Vec::new(alloc);
     parts.push(part(alloc, scopes, exprs.first, first)?)?;
@@ -402,7 +414,8 @@ fn more_exprs<'t>(
     others: &[NextExpr<'_>],
     first: &mut Option<Breach>,
 ) -> Result<Vec<Part<'t>>, AllocError>
-    ensures { IfOk result (λ ps. TellsParts (map part_view parts.entry.items ++ more_expr_parts scopes.now (more_exprs_of others.now)) (more_exprs_breaches scopes.now (more_exprs_of others.now)) ps.items first.old first.new) }
+    ensures { IfOk result (λ ps. TellsParts (map part_view parts.entry.items ++ more_expr_parts scopes.now (more_exprs_of others.now))
+        (more_exprs_breaches scopes.now (more_exprs_of others.now)) ps.items first.old first.new) }
 {
     let mut parts = parts;
     for next in others {

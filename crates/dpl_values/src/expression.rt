@@ -232,7 +232,8 @@ pub(crate) fn element<A: Arrays, G: Gate>(
     gate: &G,
     turn: &mut Turn,
 ) -> Result<i64, Alarm>
-    ensures { Tells (MayRefuseReduction (G.may_refuse gate.now) frame.now (EachInIndex t.now)) (λ v. v) turn.new result (element_in frame.now slot t.now at.now) }
+    ensures { Tells (MayRefuseReduction (G.may_refuse gate.now) frame.now (EachInIndex t.now)) (λ v. v) turn.new result
+        (element_in frame.now slot t.now at.now) }
 {
     match t {
         IndexExpr::Line(i) => {
@@ -295,7 +296,8 @@ pub(crate) fn literal<A: Arrays, G: Gate>(
     gate: &G,
     turn: &mut Turn,
 ) -> Result<DomainWord, Alarm>
-    ensures { Tells (MayRefuseReduction (G.may_refuse gate.now) frame.now (EachInRanges ranges.now)) DomainValue turn.new result (literal_in frame.now at.now ranges.now) }
+    ensures { Tells (MayRefuseReduction (G.may_refuse gate.now) frame.now (EachInRanges ranges.now)) DomainValue turn.new result
+        (literal_in frame.now at.now ranges.now) }
 {
     match ranges {
         RangesExpr::Line(a) => {
@@ -325,7 +327,8 @@ fn cut<A: Arrays, G: Gate>(
     gate: &G,
     turn: &mut Turn,
 ) -> Result<DomainWord, Alarm>
-    ensures { Tells (MayRefuseReduction (G.may_refuse gate.now) frame.now (EachInRanges ranges.now)) DomainValue turn.new result (sliced_in frame.now domain ranges.now) }
+    ensures { Tells (MayRefuseReduction (G.may_refuse gate.now) frame.now (EachInRanges ranges.now)) DomainValue turn.new result
+        (sliced_in frame.now domain ranges.now) }
 {
     match ranges {
         RangesExpr::Line(a) => {
@@ -391,7 +394,8 @@ fn stridden<A: Arrays, G: Gate>(
     gate: &G,
     turn: &mut Turn,
 ) -> Result<RangeWord, Alarm>
-    ensures { Tells (MayRefuseReduction (G.may_refuse gate.now) frame.now (EachInStride stride.now)) as_range turn.new result (strided_in frame.now stride.now (bounds_of written)) }
+    ensures { Tells (MayRefuseReduction (G.may_refuse gate.now) frame.now (EachInStride stride.now)) as_range turn.new result
+        (strided_in frame.now stride.now (bounds_of written)) }
 {
     match stride {
         Stride::Absent => bounded(written, turn),

@@ -109,7 +109,8 @@ pub(crate) fn promoted_truth_value<A: Arrays, G: Gate>(
     gate: &G,
     turn: &mut Turn,
 ) -> Result<Truth, Alarm>
-    ensures { Tells (MayRefuseReduction (G.may_refuse gate.now) frame.now (EachInTruths e.now)) TruthValue turn.new result (truth_at frame.now e.now index.now) }
+    ensures { Tells (MayRefuseReduction (G.may_refuse gate.now) frame.now (EachInTruths e.now)) TruthValue turn.new result
+        (truth_at frame.now e.now index.now) }
 {
     match e {
         PromotedTruth::Scalar(e) => truth_value(e, frame, gate, turn),

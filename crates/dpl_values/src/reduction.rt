@@ -84,7 +84,8 @@ fn folded<A: Arrays, O: Operator, F: Fn(Index, &mut Turn) -> Result<O::Item, Ala
 ) -> Result<O::Item, Alarm>
     requires { F.IsAlwaysCallable item_at }
     ensures { (meaning : IndexValue → Result Value Fault) → AnswersTell O.value (F.post item_at) meaning
-        → Tells (MayRefuse (G.may_refuse gate.now) (owned_by frame.now slot) (array_at slot frame.now.memory).ranges ⊎ MayAnswerRefused (F.post item_at)) O.value turn.new result (fold_over (O.op operator.now) meaning (array_at slot frame.now.memory).ranges) }
+        → Tells (MayRefuse (G.may_refuse gate.now) (owned_by frame.now slot) (array_at slot frame.now.memory).ranges ⊎ MayAnswerRefused
+        (F.post item_at)) O.value turn.new result (fold_over (O.op operator.now) meaning (array_at slot frame.now.memory).ranges) }
 {
     let map = frame.owner(slot);
     reduce(
@@ -116,7 +117,8 @@ fn folded_ints<
     requires items { F.IsAlwaysCallable item_at }
     requires strips { S.IsAlwaysCallable strip_at }
     ensures { (meaning : IndexValue → Result Value Fault) → AnswersTell Int (F.post item_at) meaning → StripsTell Int (S.post strip_at) meaning
-        → Tells (MayRefuse (G.may_refuse gate.now) (owned_by frame.now slot) (array_at slot frame.now.memory).ranges ⊎ MayAnswerRefused (F.post item_at)) Int turn.new result (fold_over (int_fold_view operator.now.fold) meaning (array_at slot frame.now.memory).ranges) }
+        → Tells (MayRefuse (G.may_refuse gate.now) (owned_by frame.now slot) (array_at slot frame.now.memory).ranges ⊎ MayAnswerRefused
+        (F.post item_at)) Int turn.new result (fold_over (int_fold_view operator.now.fold) meaning (array_at slot frame.now.memory).ranges) }
 {
     let domain = frame.array_domain(slot);
     reduce_ints(
@@ -145,8 +147,10 @@ pub(crate) fn reduced_int<A: Arrays, G: Gate>(
     gate: &G,
     turn: &mut Turn,
 ) -> Result<i64, Alarm>
-    ensures { Tells (MayRefuseReduction (G.may_refuse gate.now) frame.now (λ Holds. OfSlot (first_of_ints e.now) Holds × EachInInts e.now Holds)) Int turn.new result
-        (reduction frame.now.limits.budget at.now (int_fold_view fold) (λ i. int_at frame.now e.now i) (whole_in frame.now.limits in_memory (promoted_int EachTurn e.now) frame.now.memory)) }
+    ensures { Tells (MayRefuseReduction (G.may_refuse gate.now) frame.now (λ Holds. OfSlot (first_of_ints e.now) Holds
+        × EachInInts e.now Holds)) Int turn.new result
+        (reduction frame.now.limits.budget at.now (int_fold_view fold) (λ i. int_at frame.now e.now i)
+        (whole_in frame.now.limits in_memory (promoted_int EachTurn e.now) frame.now.memory)) }
 {
     let Some(slot) = int_array(e) else {
         return Ok(int_over_none(fold));
@@ -154,7 +158,8 @@ pub(crate) fn reduced_int<A: Arrays, G: Gate>(
     let domain = frame.array_domain(slot);
     within_turns(&domain, at, frame, turn)?;
     let item_at = |index: Index, turn: &mut Turn| -> Result<i64, Alarm>
-        ensures { Tells (MayRefuseReduction (G.may_refuse gate.entry.now) frame.entry.now (EachInInts e.entry.now)) Int turn.new result (int_at frame.entry.now e.entry.now index) }
+        ensures { Tells (MayRefuseReduction (G.may_refuse gate.entry.now) frame.entry.now (EachInInts e.entry.now)) Int turn.new result
+            (int_at frame.entry.now e.entry.now index) }
     { operand(e, &index, frame, gate, turn) };
     let strip_at = |index: Index| -> Strip
         ensures { (result.first ≡ index) × HoldsStrip Int (λ i. int_at frame.entry.now e.entry.now i) result }
@@ -176,8 +181,10 @@ pub(crate) fn reduced_truth<A: Arrays, G: Gate>(
     gate: &G,
     turn: &mut Turn,
 ) -> Result<Truth, Alarm>
-    ensures { Tells (MayRefuseReduction (G.may_refuse gate.now) frame.now (λ Holds. OfSlot (first_of_truths e.now) Holds × EachInTruths e.now Holds)) TruthValue turn.new result
-        (reduction frame.now.limits.budget at.now (truth_fold_view fold) (λ i. truth_at frame.now e.now i) (whole_in frame.now.limits in_memory (promoted_truth EachTurn e.now) frame.now.memory)) }
+    ensures { Tells (MayRefuseReduction (G.may_refuse gate.now) frame.now (λ Holds. OfSlot (first_of_truths e.now) Holds
+        × EachInTruths e.now Holds)) TruthValue turn.new result
+        (reduction frame.now.limits.budget at.now (truth_fold_view fold) (λ i. truth_at frame.now e.now i)
+        (whole_in frame.now.limits in_memory (promoted_truth EachTurn e.now) frame.now.memory)) }
 {
     let Some(slot) = truth_array(e) else {
         return Ok(Truth::new(truth_over_none(fold)));
@@ -185,7 +192,8 @@ pub(crate) fn reduced_truth<A: Arrays, G: Gate>(
     let domain = frame.array_domain(slot);
     within_turns(&domain, at, frame, turn)?;
     let item_at = |index: Index, turn: &mut Turn| -> Result<Truth, Alarm>
-        ensures { Tells (MayRefuseReduction (G.may_refuse gate.entry.now) frame.entry.now (EachInTruths e.entry.now)) TruthValue turn.new result (truth_at frame.entry.now e.entry.now index) }
+        ensures { Tells (MayRefuseReduction (G.may_refuse gate.entry.now) frame.entry.now (EachInTruths e.entry.now)) TruthValue turn.new result
+            (truth_at frame.entry.now e.entry.now index) }
     { promoted_truth_value(e, &index, frame, gate, turn) };
     folded(&Truths { fold }, slot, frame, item_at, gate, turn)
 }

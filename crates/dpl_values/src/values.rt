@@ -121,7 +121,8 @@ pub fn literal<A: Arrays, G: Gate>(
     frame: &Frame<'_, A>,
     gate: &G,
 ) -> Result<DomainWord, Stop>
-    ensures { Gives (MayRefuseReduction (G.may_refuse gate.now) frame.now (EachInRanges ranges.now)) DomainValue result (literal_in frame.now at.now ranges.now) }
+    ensures { Gives (MayRefuseReduction (G.may_refuse gate.now) frame.now (EachInRanges ranges.now)) DomainValue result
+        (literal_in frame.now at.now ranges.now) }
 {
     let mut turn = Turn::Absent;
     match expression::literal(at, ranges, frame, gate, &mut turn) {
