@@ -58,7 +58,8 @@ impl<'a, T: Copy> Plane<'a, T> {
     /// The value at two integers, if there is one.
     #[inline(always)]
     pub(crate) fn get(&self, i: i64, j: i64) -> Option<T>
-        ensures { IfSome result (λ v. IsOnPlane self.now.values.now self.now.grid.rows.low self.now.grid.rows.size self.now.grid.columns.low self.now.grid.columns.size i j v) }
+        ensures { IfSome result (λ v. IsOnPlane self.now.values.now self.now.grid.rows.low self.now.grid.rows.size
+            self.now.grid.columns.low self.now.grid.columns.size i j v) }
     {
         let place = self.grid.place(i, j)?;
         Some(self.values[place])

@@ -61,11 +61,11 @@ fn turns_of<'t, G: Gate>(
     gate: &G,
 ) -> Result<(), Stop>
     ensures ends { (done : Deeds) → RunsTo
-        (MayRefuse (G.may_refuse gate.now) (dealt_by frame.old (slot_by
-        (derived_from (domain_view over.now))) (written_among (steps_in InTurn body.now))) indices)
+        (MayRefuse (G.may_refuse gate.now)
+        (dealt_by frame.old (slot_by (derived_from (domain_view over.now))) (written_among (steps_in InTurn body.now))) indices)
         result frame.new.memory done
-        (intended_turns (map intent_view intents.now) (index_turn frame.old.limits names.now
-        (steps_in InTurn body.now)) (indices_in indices) frame.old.memory done) }
+        (intended_turns (map intent_view intents.now)
+        (index_turn frame.old.limits names.now (steps_in InTurn body.now)) (indices_in indices) frame.old.memory done) }
     ensures limits { frame.new.limits ≡ frame.old.limits }
 {
     let map = dealt(body, over.origin(), frame);
@@ -91,8 +91,8 @@ fn turns_of_line<'t, G: Gate>(
     ensures ends { (done : Deeds) → RunsTo
         (MayRefuse (G.may_refuse gate.now) (dealt_by frame.old None (written_among (steps_in InTurn body.now))) (range_word indices.now ∷ []))
         result frame.new.memory done
-        (intended_turns (map intent_view intents.now) (index_turn frame.old.limits (IntName slot)
-        (steps_in InTurn body.now)) (indices_in (range_word indices.now ∷ [])) frame.old.memory done) }
+        (intended_turns (map intent_view intents.now)
+        (index_turn frame.old.limits (IntName slot) (steps_in InTurn body.now)) (indices_in (range_word indices.now ∷ [])) frame.old.memory done) }
     ensures limits { frame.new.limits ≡ frame.old.limits }
 {
     let map = dealt(body, None, frame);

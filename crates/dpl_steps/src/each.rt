@@ -154,7 +154,8 @@ pub(crate) fn for_each<'t, C: Context>(
     out: &mut C::Out,
 ) -> Result<(), Stop>
     ensures ends { (done : Deeds) → RunsTo (MayRefuseSome (C.may_refuse context.now)) result frame.new.memory (C.having out.new done)
-        (exec frame.old.limits in_memory (ForTree at.now (names_view names.now) nowhere (One (domain_view over.now)) (listed (steps_in C.standing body.now))) frame.old.memory (C.having out.old done)) }
+        (exec frame.old.limits in_memory (ForTree at.now (names_view names.now) nowhere (One (domain_view over.now))
+        (listed (steps_in C.standing body.now))) frame.old.memory (C.having out.old done)) }
     ensures limits { frame.new.limits ≡ frame.old.limits }
 {
     let domain = domain_indices(at, over, frame, context)?;

@@ -166,7 +166,8 @@ fn for_loop<'t, C: Context>(
     out: &mut C::Out,
 ) -> Result<(), Stop>
     ensures ends { (done : Deeds) → RunsTo (MayRefuseSome (C.may_refuse context.now)) result frame.new.memory (C.having out.new done)
-        (exec frame.old.limits in_memory (ForTree at.now (variable_in slot) nowhere (range_item over.now) (listed (steps_in C.standing body.now))) frame.old.memory (C.having out.old done)) }
+        (exec frame.old.limits in_memory (ForTree at.now (variable_in slot) nowhere (range_item over.now)
+        (listed (steps_in C.standing body.now))) frame.old.memory (C.having out.old done)) }
     ensures limits { frame.new.limits ≡ frame.old.limits }
 {
     let range = range_indices(at, over, frame, context)?.range;
@@ -203,7 +204,8 @@ fn while_loop<'t, C: Context>(
     out: &mut C::Out,
 ) -> Result<(), Stop>
     ensures ends { (done : Deeds) → RunsTo (MayRefuseSome (C.may_refuse context.now)) result frame.new.memory (C.having out.new done)
-        (repeated frame.old.limits.budget at.now (holds frame.old.limits in_memory (truth_view condition.now)) (exec_all frame.old.limits in_memory (steps_in C.standing body.now)) frame.old.memory (C.having out.old done)) }
+        (repeated frame.old.limits.budget at.now (holds frame.old.limits in_memory (truth_view condition.now))
+        (exec_all frame.old.limits in_memory (steps_in C.standing body.now)) frame.old.memory (C.having out.old done)) }
     ensures limits { frame.new.limits ≡ frame.old.limits }
 {
     let mut left = frame.budget();
