@@ -9,7 +9,6 @@ ghost use Rattle.dpl_rules.specs.Expressions.{item_type as item_type_of};
 ghost use Rattle.dpl_scopes.specs.Types.{type_view};
 ghost use Rattle.dpl_scopes.specs.Slots.{slot_in};
 ghost use Rattle.dpl_lowered.specs.LoweredExpressions.{Once, EachTurn};
-ghost use Rattle.dpl_words.specs.Words.{IntLeaf, TruthLeaf};
 ghost use Rattle.dpl_memory.specs.Memory.{VariableKind, PlainKind, ArrayKind};
 ghost use Rattle.dpl_memory.specs.Resolved.{element_takes};
 ghost use Rattle.dpl_nodes.specs.Spots.{IsNear};

@@ -1,6 +1,6 @@
 -- What is true of each tree that tokens spell: the operators of a chain are of one level, something stands behind each base that
--- isn't alone, and a tuple that a map starts with has two or more; of the place of each of its tokens P is true, where it is true of the places of the tokens; and W is true where it has
--- one of the words of tasks, where that follows for the tokens.
+-- isn't alone, and a tuple that a map starts with has two or more; of the place of each of its tokens P is true, where it is
+-- true of the places of the tokens; and W is true where it has one of the words of tasks, where that follows for the tokens.
 use Rattle.std.specs.Prelude.{◌≡◌, ◌≢◌, []}
 use Rattle.dpl_syntax.specs.declared.place.Place.{Place}
 use Rattle.dpl_language.specs.Spelled.{HasPosts, SaysType}

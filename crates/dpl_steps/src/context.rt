@@ -61,7 +61,8 @@ pub trait Context: Gate {
     ) -> Result<(), Stop>
         ensures ends { (done : Deeds)
             → RunsTo (MayRefuseForallLine (Self.may_refuse self.now) frame.old at.now over.now (steps_in InTurn body.now)) result frame.new.memory done
-            (exec frame.old.limits in_memory (outside standing (forall_of at.now (variable_in slot) (range_item over.now) intents.now (steps_in InTurn body.now)))
+            (exec frame.old.limits in_memory
+            (outside standing (forall_of at.now (variable_in slot) (range_item over.now) intents.now (steps_in InTurn body.now)))
             frame.old.memory done) }
         ensures limits { frame.new.limits ≡ frame.old.limits };
 
@@ -80,7 +81,8 @@ pub trait Context: Gate {
     ) -> Result<(), Stop>
         ensures ends { (done : Deeds)
             → RunsTo (MayRefuseForall (Self.may_refuse self.now) frame.old at.now over.now (steps_in InTurn body.now)) result frame.new.memory done
-            (exec frame.old.limits in_memory (outside standing (forall_of at.now (names_view names.now) (One (domain_view over.now)) intents.now (steps_in InTurn body.now)))
+            (exec frame.old.limits in_memory
+            (outside standing (forall_of at.now (names_view names.now) (One (domain_view over.now)) intents.now (steps_in InTurn body.now)))
             frame.old.memory done) }
         ensures limits { frame.new.limits ≡ frame.old.limits };
 }
