@@ -61,7 +61,8 @@ fn turns_of<'t, G: Gate>(
     gate: &G,
 ) -> Result<(), Stop>
     ensures ends { (done : Deeds) → RunsTo
-        (MayRefuse (G.may_refuse gate.now) (dealt_by frame.old (slot_by (derived_from (domain_view over.now))) (written_among (steps_in InTurn body.now))) indices)
+        (MayRefuse (G.may_refuse gate.now)
+        (dealt_by frame.old (slot_by (derived_from (domain_view over.now))) (written_among (steps_in InTurn body.now))) indices)
         result frame.new.memory done
         (intended_turns (map intent_view intents.now) (index_turn frame.old.limits names.now (steps_in InTurn body.now)) (indices_in indices) frame.old.memory done) }
     ensures limits { frame.new.limits ≡ frame.old.limits }

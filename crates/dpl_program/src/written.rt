@@ -5,8 +5,8 @@ ghost use Rattle.dpl_standing.specs.Standing.{InTurn};
 ghost use Rattle.dpl_steps.specs.Readings.{step_in, else_in, steps_in};
 ghost use Rattle.dpl_steps.specs.Written.{written_by, written_else, written_among};
 
-use dpl_nodes::{Step, TruthTarget};
 use dpl_nodes::step::Else;
+use dpl_nodes::{Step, TruthTarget};
 
 /// The slot of the first array of which statements write an element, in the order of their text.
 #[cycle(written)]

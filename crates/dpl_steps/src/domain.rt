@@ -47,7 +47,8 @@ fn declare_value<G: Gate>(
 
 // And without one: it has no index.
 fn declare_empty(slot: usize, rank: Rank, placing: &Placing<'_>, frame: &mut Frame<'_>)
-    ensures ends { (done : Deeds) → exec frame.old.limits in_memory (domain_declared slot (Empty rank) placing.now) frame.old.memory done ≡ Done frame.new.memory done }
+    ensures ends { (done : Deeds) → exec frame.old.limits in_memory (domain_declared slot (Empty rank) placing.now) frame.old.memory done
+        ≡ Done frame.new.memory done }
     ensures limits { frame.new.limits ≡ frame.old.limits }
     ensures layout { frame.new.layout ≡ frame.old.layout }
 {
