@@ -115,10 +115,17 @@ too_large-tested at rs false e = e
 pub for_array_at_small : (at : Place) (rs : List TextRange) → IfOk (for_array_at at rs) (λ d. too_large d ≡ false)
 for_array_at_small at rs = too_large-tested at rs (too_large rs) refl
 
+same-small : (rs d : List TextRange) (f : Fault) (b : Bool) → Ok d ≡ (if b then Err f else Ok rs) → d ≡ rs
+same-small rs d f true e = absurd (let no : Ok d ≡ Err f = e in cc)
+same-small rs d f false e = let is : Ok d ≡ Ok rs = e in cc
+
+pub for_array-same : (at : Place) (rs d : List TextRange) → Ok d ≡ for_array_at at rs → d ≡ rs
+for_array-same at rs d = same-small rs d (fault ArrayTooLarge at) (too_large rs)
+
 unless-small : (rs : List TextRange) (at : Place) (go : Run Memory) (s : Memory) (done : Deeds) (d : List TextRange) (b : Bool) → Ok d ≡ (if b then Err (fault ArrayTooLarge at) else Ok rs)
-    → (unless b (fault ArrayTooLarge at) go s done ≡ go s done) × (rs ≡ d)
+    → unless b (fault ArrayTooLarge at) go s done ≡ go s done
 unless-small rs at go s done d true e = absurd (let no : Ok d ≡ Err (fault ArrayTooLarge at) = e in cc)
-unless-small rs at go s done d false e = (refl, let is : Ok d ≡ Ok rs = e in cc)
+unless-small rs at go s done d false e = refl
 
 unless-large : (rs : List TextRange) (at : Place) (go : Run Memory) (s : Memory) (done : Deeds) (f : Fault) (b : Bool) → Err f ≡ (if b then Err (fault ArrayTooLarge at) else Ok rs)
     → unless b (fault ArrayTooLarge at) go s done ≡ Stop f done
@@ -147,6 +154,6 @@ module _ (limits : Limits) (d : ArrayDeclaration) (s : Memory) (done : Deeds) wh
   pub exec-array_declared : (rs domain : List TextRange) → domain_of limits in_memory d.from.now (over_items d.over) s ≡ Ok (Domain rs) → Ok domain ≡ for_array_at d.at.now rs
       → exec limits in_memory (array_declared d) s done ≡ then_do (declared_over limits d domain s done) (dealing_array limits s d)
   exec-array_declared rs domain is small =
-      let tested = unless-small rs d.at.now (declared_over limits d rs) s done domain (too_large rs) small in
       exec-over (Ok (Domain rs)) is
-      ∙ ap (λ o. then_do o (dealing_array limits s d)) (tested.0 ∙ ap (λ rs. declared_over limits d rs s done) tested.1)
+      ∙ ap (λ o. then_do o (dealing_array limits s d)) (unless-small rs d.at.now (declared_over limits d rs) s done domain (too_large rs) small
+      ∙ ap (λ rs. declared_over limits d rs s done) (sym (for_array-same d.at.now rs domain small)))

@@ -15,11 +15,13 @@ ghost use Rattle.dpl_nodes.specs.Typed.{promoted_int, promoted_truth};
 ghost use Rattle.dpl_nodes.specs.Steps.{over_items, array_declared};
 ghost use Rattle.dpl_elements.specs.Changes.{kept_word, for_array_at};
 ghost use Rattle.dpl_elements.specs.Arrays.{declared_without, declared_with};
-ghost use Rattle.dpl_loop.specs.Entries.{MayRefuse, MayRefuseSome};
+ghost use Rattle.dpl_loop.specs.Entries.{MayRefuse};
+ghost use Rattle.dpl_values.specs.Reductions.{MayRefuseReduction, EachInInts, EachInTruths};
 ghost use Rattle.dpl_loop.specs.Runs.{RunsTo, RunEnds};
 ghost use Rattle.dpl_loop.specs.Values.{Gives};
 ghost use Rattle.dpl_steps.specs.Runs.{Names, Gathers};
 ghost use Rattle.dpl_steps.specs.Lineages.{declared_over};
+ghost use Rattle.dpl_steps.specs.Refusals.{EachInOver, EachInInitial, MayRefuseElements, MayRefuseArray};
 ghost use Rattle.dpl_map.specs.Maps.{owner};
 
 use crate::domain::for_array;
@@ -45,7 +47,7 @@ fn domain_over<G: Gate>(
     frame: &Frame<'_>,
     gate: &G,
 ) -> Result<DomainWord, Stop>
-    ensures { Gives (MayRefuseSome (G.may_refuse gate.now)) DomainValue result
+    ensures { Gives (MayRefuseReduction (G.may_refuse gate.now) frame.now (EachInOver over.now)) DomainValue result
         (domain_of frame.now.limits in_memory from.now (over_items over.now) frame.now.memory) }
 {
     match over {
@@ -147,7 +149,7 @@ fn declare_ints<G: Gate>(
     gate: &G,
 ) -> Result<(), Stop>
     requires { too_large domain ≡ false }
-    ensures ends { (done : Deeds) → RunsTo (MayRefuseSome (G.may_refuse gate.now)) result frame.new.memory done
+    ensures ends { (done : Deeds) → RunsTo (MayRefuseElements (G.may_refuse gate.now) frame.old map.now domain (EachInInts e.now)) result frame.new.memory done
         (declared_with frame.old.limits d.now IntKind domain at.now (promoted_int EachTurn e.now) frame.old.memory done) }
     ensures limits { frame.new.limits ≡ frame.old.limits }
     ensures layout { frame.new.layout ≡ frame.old.layout }
@@ -179,7 +181,8 @@ fn declare_truths<G: Gate>(
     gate: &G,
 ) -> Result<(), Stop>
     requires { too_large domain ≡ false }
-    ensures ends { (done : Deeds) → RunsTo (MayRefuseSome (G.may_refuse gate.now)) result frame.new.memory done
+    ensures ends { (done : Deeds)
+        → RunsTo (MayRefuseElements (G.may_refuse gate.now) frame.old map.now domain (EachInTruths e.now)) result frame.new.memory done
         (declared_with frame.old.limits d.now BoolKind domain at.now (promoted_truth EachTurn e.now) frame.old.memory done) }
     ensures limits { frame.new.limits ≡ frame.old.limits }
     ensures layout { frame.new.layout ≡ frame.old.layout }
@@ -233,8 +236,9 @@ fn declare_over<G: Gate>(
     gate: &G,
 ) -> Result<(), Stop>
     requires { too_large domain ≡ false }
-    ensures ends { (done : Deeds)
-        → RunsTo (MayRefuseSome (G.may_refuse gate.now)) result frame.new.memory done (declared_over frame.old.limits d.now domain frame.old.memory done) }
+    ensures ends { (done : Deeds) → RunsTo
+        (MayRefuseElements (G.may_refuse gate.now) frame.old map.now domain (EachInInitial d.now.initial)) result frame.new.memory done
+        (declared_over frame.old.limits d.now domain frame.old.memory done) }
     ensures limits { frame.new.limits ≡ frame.old.limits }
     ensures layout { frame.new.layout ≡ frame.old.layout }
 {
@@ -251,15 +255,14 @@ fn declare_over<G: Gate>(
 /// # Errors
 /// The fault of its domain; `F8` at the name for more than 2^24 elements; the fault of an initial value that is evaluated
 /// once; `F5` at `=` for more elements than the budget; the fault of an index, in its turn; out of memory; or the gate refused
-/// the entry of an index's owner.
+/// the entry of an index's owner, by the map of the root that the array gets, or of a reduction in its domain or its initial value.
 #[inline(never)]
 pub(crate) fn declare_array<G: Gate>(
     d: &ArrayDeclaration<'_>,
     frame: &mut Frame<'_>,
     gate: &G,
 ) -> Result<(), Stop>
-    ensures ends { (done : Deeds)
-        → RunsTo (MayRefuseSome (G.may_refuse gate.now)) result frame.new.memory done
+    ensures ends { (done : Deeds) → RunsTo (MayRefuseArray (G.may_refuse gate.now) frame.old d.now) result frame.new.memory done
         (exec frame.old.limits in_memory (array_declared d.now) frame.old.memory done) }
     ensures limits { frame.new.limits ≡ frame.old.limits }
     ensures layout { frame.new.layout ≡ frame.old.layout }

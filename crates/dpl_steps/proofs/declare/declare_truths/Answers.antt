@@ -1,5 +1,5 @@
 -- An initial value is evaluated once, before the budget is tested, or at each index, behind it.
-use Rattle.std.proofs.Common.{rules, ◌≡◌, FitsSigned, w64, sym, ap, ◌∙◌}
+use Rattle.std.proofs.Common.{inl, inr, rules, ◌≡◌, FitsSigned, w64, sym, ap, ◌∙◌}
 use Rattle.std.proofs.lemmas.Int.{to_z-of_z}
 use Rattle.std.proofs.lemmas.Result.{err_from_is_err_and}
 use mir.Val.{of_z, to_z}
@@ -26,7 +26,7 @@ returns-in_err-promoted_truth_value-in-None-clause-ends g c done =
     let t = c.coordinate.result in
     let p = err_from_is_err_and c.from_residual.result c.from_residual.ensures.1 in
     rw (p.1, p.2)
-    (gives-halts _ _ Truth c.in_err-promoted_truth_value-in-None.field-0.0 _ s done _ (λ m. m.0)
+    (gives-halts _ _ Truth c.in_err-promoted_truth_value-in-None.field-0.0 _ s done _ inr
     (λ f is. array_of_item-fault limits c.args.d.now.at.now BoolKind c.args.d.now.slot (shell_over c.args.d.now.over BoolKind c.args.domain) s done c.args.at.now e (whole_in limits in_memory e s)
     t c.in-None.ensures (cell_read-promoted_truth EachTurn c.args.e.now) (promoted_truth-once limits s EachTurn c.args.e.now t (sym c.in-None.ensures)) f is)
     c.in_err-promoted_truth_value-in-None.ensures)
@@ -64,7 +64,7 @@ returns-in_err-array-in-Some-clause-ends g c done =
     let e = promoted_truth EachTurn c.args.e.now in
     let p = err_from_is_err_and c.from_residual-in_err-array-in-Some.result c.from_residual-in_err-array-in-Some.ensures.1 in
     rw (p.1, p.2)
-    (gathers-halts _ _ c.in_err-array-in-Some.field-0.0 c.args.domain _ s done _ (λ m. (_, m.0, m.3))
+    (gathers-halts _ _ c.in_err-array-in-Some.field-0.0 c.args.domain _ s done _ inl
     (λ f is. array_of_item-gathered limits c.args.d.now.at.now BoolKind c.args.d.now.slot (shell_over c.args.d.now.over BoolKind c.args.domain) s done c.args.at.now e (whole_in limits in_memory e s)
     c.in-Some.field-0 f c.in-Some.ensures c.in_ok-within_budget-in-Some.ensures is)
     c.in_err-array-in-Some.ensures)
