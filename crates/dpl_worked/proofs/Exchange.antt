@@ -258,3 +258,205 @@ whole_arrays_and_reductions = refl
 several_foralls : remote_by four (codes "const D = {1..8} dmapped new blockDist(boundingBox={1..8}); var A: [D] int; var B: [D] int; forall i in D[2..7] do B[i] = A[i-1]; forall i in D[1..7] do A[i] = B[i+1];") ≡ Some 6
 unfolding on_locales
 several_foralls = refl
+
+-- ---- a second reader's rows: arrays and loops of other maps than one another's
+-- locale 1 reads 2 and 3, locale 2 reads 4 and 5, and locale 3 reads 6
+an_array_on_locale_0 : remote_by four (codes "const D = {1..8} dmapped new blockDist({1..8}); var A: [1..8] int; var B: [D] int; forall i in D[2..7] do B[i] = A[i-1];") ≡ Some 5
+unfolding on_locales
+an_array_on_locale_0 = refl
+
+by_the_written_over_a_range : remote_by four (codes "const D = {1..8} dmapped new blockDist({1..8}); var A: [D] int; var B: [D] int; forall i in 2..7 do B[i] = A[i-1];") ≡ Some 3
+unfolding on_locales
+by_the_written_over_a_range = refl
+
+-- locale 0 reads 3, 4, 5 and 6; going round it has 1 and 5, and reads 2, 3, 4 and 6
+by_a_ranges_name : remote_by four (codes "const r = 2..7; const D = {1..8} dmapped new blockDist({1..8}); var A: [D] int; var s: int; forall i in r with (+ reduce s) do s += A[i-1];") ≡ Some 4
+unfolding on_locales
+by_a_ranges_name = refl
+
+by_a_ranges_name_going_round : remote_by going_round (codes "const r = 2..7; const D = {1..8} dmapped new blockDist({1..8}); var A: [D] int; var s: int; forall i in r with (+ reduce s) do s += A[i-1];") ≡ Some 4
+unfolding on_locales
+by_a_ranges_name_going_round = refl
+
+by_a_slice_of_a_literal : remote_by four (codes "const D = {1..8} dmapped new blockDist({1..8}); var A: [D] int; var s: int; forall i in {1..8}[2..7] with (+ reduce s) do s += A[i-1];") ≡ Some 4
+unfolding on_locales
+by_a_slice_of_a_literal = refl
+
+-- locale 0 reads 3 to 7
+by_a_dimension : remote_by four (codes "const D = {1..8} dmapped new blockDist({1..8}); var A: [D] int; var s: int; forall i in D.dim(0) with (+ reduce s) do s += A[i-1];") ≡ Some 5
+unfolding on_locales
+by_a_dimension = refl
+
+by_an_arrays_domain : remote_by four (codes "const D = {1..8} dmapped new blockDist({1..8}); var A: [D] int; var s: int; forall i in A.domain[2..7] with (+ reduce s) do s += A[i-1];") ≡ Some 3
+unfolding on_locales
+by_an_arrays_domain = refl
+
+by_an_expanded_domain : remote_by four (codes "const D = {1..8} dmapped new blockDist({1..8}); var A: [D] int; var s: int; forall i in D[3..6].expand(1) with (+ reduce s) do s += A[i-1];") ≡ Some 3
+unfolding on_locales
+by_an_expanded_domain = refl
+
+by_an_assigned_domain : remote_by four (codes "const D = {1..8} dmapped new blockDist({1..8}); var A: [D] int; var s: int; var E = D; E = {2..7}; forall i in E with (+ reduce s) do s += A[i-1];") ≡ Some 3
+unfolding on_locales
+by_an_assigned_domain = refl
+
+-- E is a root for which no map is named
+by_a_typed_domain : remote_by four (codes "const D = {1..8} dmapped new blockDist({1..8}); var A: [D] int; var s: int; const E: domain(1) = D; forall i in E[2..7] with (+ reduce s) do s += A[i-1];") ≡ Some 4
+unfolding on_locales
+by_a_typed_domain = refl
+
+-- ---- what a map is made of stands before the declaration
+a_domain_of_a_hidden_one : remote_by four (codes "const D = {1..8} dmapped new blockDist({1..8}); { const D = D[2..7]; var A: [D] int; var B: [D] int; forall i in D[3..7] do B[i] = A[i-1]; }") ≡ Some 3
+unfolding on_locales
+a_domain_of_a_hidden_one = refl
+
+an_array_over_a_hidden_one : remote_by four (codes "const D = {1..8} dmapped new blockDist({1..8}); var A: [D] int; { var A: [A.domain] int; var B: [A.domain] int; forall i in A.domain[2..7] do B[i] = A[i-1]; }") ≡ Some 3
+unfolding on_locales
+an_array_over_a_hidden_one = refl
+
+a_start_of_a_hidden_one : remote_by four (codes "const X = {3..6}; const E = {1..8} dmapped new cyclicDist(1); var B: [E] int; { const X = {1..8} dmapped new cyclicDist(X.low); var A: [X] int; forall i in E do B[i] = A[i]; }") ≡ Some 8
+unfolding on_locales
+a_start_of_a_hidden_one = refl
+
+a_start_of_here : remote_by four (codes "const E = {1..4} dmapped new cyclicDist(0); var B: [E] int; on Locales[2] { const D = {1..4} dmapped new cyclicDist(here.id); var A: [D] int; forall i in E do B[i] = A[i]; }") ≡ Some 4
+unfolding on_locales
+a_start_of_here = refl
+
+-- ---- `--maps` goes by the domain that a root was declared with
+over_a_slice_by_blocks : remote_by by_blocks (codes "const D = {1..8}; var A: [D] int; var B: [D[2..5]] int; forall i in D[2..5] do B[i] = A[i-1];") ≡ Some 2
+unfolding on_locales
+over_a_slice_by_blocks = refl
+
+assigned_by_blocks : remote_by by_blocks (codes "var D = {1..8}; var A: [D] int; var B: [D] int; D = {1..4}; forall i in D[2..4] do B[i] = A[i-1];") ≡ Some 1
+unfolding on_locales
+assigned_by_blocks = refl
+
+empty_when_declared_by_blocks : remote_by by_blocks (codes "var D: domain(1); var A: [D] int; var B: [D] int; D = {1..8}; forall i in D[2..7] do B[i] = A[i-1];") ≡ Some 0
+unfolding on_locales
+empty_when_declared_by_blocks = refl
+
+empty_when_declared_going_round : remote_by going_round (codes "var D: domain(1); var A: [D] int; var B: [D] int; D = {1..8}; forall i in D[2..7] do B[i] = A[i-1];") ≡ Some 0
+unfolding on_locales
+empty_when_declared_going_round = refl
+
+over_ranges_by_blocks : remote_by by_blocks (codes "var A: [1..8] int; var B: [1..8] int; forall i in 2..7 do B[i] = A[i-1];") ≡ Some 3
+unfolding on_locales
+over_ranges_by_blocks = refl
+
+over_a_ranges_name_by_blocks : remote_by by_blocks (codes "const r = 1..8; var A: [r] int; var B: [r] int; forall i in 2..7 do B[i] = A[i-1];") ≡ Some 3
+unfolding on_locales
+over_a_ranges_name_by_blocks = refl
+
+-- ---- arguments that no map takes
+start_at_the_limit : remote_by four (codes "const D = {1..8} dmapped new cyclicDist(1152921504606846976); var A: [D] int; var B: [D] int; forall i in D[2..7] do B[i] = A[i-1];") ≡ Some 6
+unfolding on_locales
+start_at_the_limit = refl
+
+start_past_the_limit : remote_by four (codes "const D = {1..8} dmapped new cyclicDist(1152921504606846977); var A: [D] int; var B: [D] int; forall i in D[2..7] do B[i] = A[i-1];") ≡ Some 0
+unfolding on_locales
+start_past_the_limit = refl
+
+blocks_of_one : remote_by four (codes "const D = {1..8} dmapped new blockCycDist(1, 1); var A: [D] int; var B: [D] int; forall i in D[2..7] do B[i] = A[i-1];") ≡ Some 6
+unfolding on_locales
+blocks_of_one = refl
+
+blocks_of_none : remote_by four (codes "const D = {1..8} dmapped new blockCycDist(1, 0); var A: [D] int; var B: [D] int; forall i in D[2..7] do B[i] = A[i-1];") ≡ Some 0
+unfolding on_locales
+blocks_of_none = refl
+
+empty_box : remote_by four (codes "const D = {1..8} dmapped new blockDist({1..0}); var A: [D] int; var B: [D] int; forall i in D[2..7] do B[i] = A[i-1];") ≡ Some 0
+unfolding on_locales
+empty_box = refl
+
+argument_without_a_value : remote_by four (codes "const D = {1..8} dmapped new cyclicDist(1/0); var A: [D] int; var B: [D] int; forall i in D[2..7] do B[i] = A[i-1];") ≡ Some 0
+unfolding on_locales
+argument_without_a_value = refl
+
+-- ---- reads
+-- an inner loop's tuple name isn't the forall's
+inner_tuple_name : remote_by square (codes "const D = {1..2, 1..2} dmapped new blockDist({1..2, 1..2}); const E = {1..2, 1..2} dmapped new cyclicDist((2, 2)); var A: [E] int; var s: int; forall t in D with (+ reduce s) do for u in D do s += A[u];") ≡ Some 0
+unfolding on_locales
+inner_tuple_name = refl
+
+coordinates_turned_round : remote_by square (codes "const D = {1..2, 1..2} dmapped new blockDist({1..2, 1..2}); var A: [D] int; var B: [D] int; forall (i,j) in D do B[i,j] = A[j,i];") ≡ Some 2
+unfolding on_locales
+coordinates_turned_round = refl
+
+one_coordinate_twice : remote_by square (codes "const D = {1..2, 1..2} dmapped new blockDist({1..2, 1..2}); var A: [D] int; var B: [D] int; forall (i,j) in D do B[i,j] = A[i,i];") ≡ Some 2
+unfolding on_locales
+one_coordinate_twice = refl
+
+a_coordinate_and_a_number : remote_by square (codes "const D = {1..2, 1..2} dmapped new blockDist({1..2, 1..2}); var A: [D] int; var B: [D] int; forall (i,j) in D do B[i,j] = A[1,j];") ≡ Some 0
+unfolding on_locales
+a_coordinate_and_a_number = refl
+
+three_coordinates : remote_by four (codes "const D = {1..4, 1..2, 1..2} dmapped new blockDist({1..4, 1..2, 1..2}); var A: [D] int; var B: [D] int; forall (i,j,k) in D[2..4, 1..2, 1..2] do B[i,j,k] = A[i-1,j,k];") ≡ Some 12
+unfolding on_locales
+three_coordinates = refl
+
+tuple_name_of_three : remote_by four (codes "const D = {1..4, 1..2, 1..2} dmapped new blockDist({1..4, 1..2, 1..2}); const E = D[1..4, 1..2, 1..2] dmapped new cyclicDist((2, 1, 1)); var A: [E] int; var B: [D] int; forall t in D do B[t] = A[t];") ≡ Some 16
+unfolding on_locales
+tuple_name_of_three = refl
+
+strided_loop : remote_by four (codes "const D = {1..8} dmapped new blockDist({1..8}); var A: [D] int; var B: [D] int; forall i in {3..8 by 2} do B[i] = A[i-1];") ≡ Some 3
+unfolding on_locales
+strided_loop = refl
+
+downward_loop : remote_by four (codes "const D = {1..8} dmapped new blockDist({1..8}); var A: [D] int; var B: [D] int; forall i in {1..8 by -3} do B[i] = A[i-1];") ≡ Some 1
+unfolding on_locales
+downward_loop = refl
+
+strided_array : remote_by four (codes "const D = cyclicDist.createDomain({1..8 by -3}); var A: [D] int; var B: [D] int; forall i in D[2..5] do B[i] = A[i+3];") ≡ Some 2
+unfolding on_locales
+strided_array = refl
+
+two_arrays_in_turn : remote_by four (codes "const D = {1..8} dmapped new blockDist({1..8}); var A: [D] int; var B: [D] int; var C: [D] int; forall i in D[2..7] do B[i] = A[i-1] + C[i+1] + A[i-1];") ≡ Some 6
+unfolding on_locales
+two_arrays_in_turn = refl
+
+-- turn 2 faults
+in_an_index : remote_by four (codes "const D = {1..8} dmapped new blockDist({1..8}); var A: [D] int; var B: [D] int; var C: [D] int; forall i in D[2..7] do B[i] = A[C[i-1]];") ≡ Some 3
+unfolding on_locales
+in_an_index = refl
+
+in_an_inner_head : remote_by four (codes "const D = {1..8} dmapped new blockDist({1..8}); var A: [D] int; var B: [D] int; forall i in D[2..7] do for k in 1..A[i-1] do B[i] = 1;") ≡ Some 3
+unfolding on_locales
+in_an_inner_head = refl
+
+in_the_head : remote_by four (codes "const D = {1..8} dmapped new blockDist({1..8}); var A: [D] int; var B: [D] int; forall i in D[A[2]+2..7] do B[i] = 1;") ≡ Some 0
+unfolding on_locales
+in_the_head = refl
+
+past_the_greatest_int : remote_by four (codes "const D = {1..8} dmapped new blockDist({1..8}); var A: [D] int; var B: [D] int; forall i in D[2..7] do B[i] = A[i+9223372036854775807];") ≡ Some 0
+unfolding on_locales
+past_the_greatest_int = refl
+
+-- ---- foralls
+-- locale 0 reads 3 to 8; turn 1 faults
+just_the_budget : remote_by four (codes "const D = {1..8} dmapped new blockDist({1..8}); var A: [D] int; var B: [D] int; forall i in 1..100 do if A[i-1] > 0 then ;") ≡ Some 6
+unfolding on_locales
+just_the_budget = refl
+
+just_past_the_budget : remote_by four (codes "const D = {1..8} dmapped new blockDist({1..8}); var A: [D] int; var B: [D] int; forall i in 1..101 do if A[i-1] > 0 then ;") ≡ Some 0
+unfolding on_locales
+just_past_the_budget = refl
+
+in_one_column : remote_by four (codes "const D = {1..8} dmapped new blockDist({1..8}); var A: [D] int; var B: [D] int; \nforall i in D[2..7] do B[i] = A[i-1];\nforall i in D[2..6] do B[i] = A[i+1] + A[i-1];") ≡ Some 8
+unfolding on_locales
+in_one_column = refl
+
+-- 3 over 2..7, and 2 over 4..7
+a_domain_for_each_entry : remote_by four (codes "const D = {1..8} dmapped new blockDist({1..8}); var A: [D] int; var B: [D] int; for k in 1..2 do forall i in D[k*2..7] do B[i] = A[i-1];") ≡ Some 5
+unfolding on_locales
+a_domain_for_each_entry = refl
+
+on_each_locale : remote_by four (codes "const D = {1..8} dmapped new blockDist({1..8}); var A: [D] int; var B: [D] int; for loc in Locales do on loc do forall i in D[2..7] do B[i] = A[i-1];") ≡ Some 12
+unfolding on_locales
+on_each_locale = refl
+
+without_a_turn : remote_by four (codes "const D = {1..8} dmapped new blockDist({1..8}); var A: [D] int; var B: [D] int; forall i in D[5..4] do B[i] = A[i-1];") ≡ Some 0
+unfolding on_locales
+without_a_turn = refl
+
+head_without_a_value : remote_by four (codes "const D = {1..8} dmapped new blockDist({1..8}); var A: [D] int; var B: [D] int; forall i in D[2..1/0] do B[i] = A[i-1];") ≡ Some 0
+unfolding on_locales
+head_without_a_value = refl

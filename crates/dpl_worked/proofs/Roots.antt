@@ -214,3 +214,128 @@ assigned_domain = refl
 hidden_behind : root_in (codes "D") (codes "const D = {1..8} dmapped new cyclicDist(1); { const D = {1..2} dmapped new cyclicDist(2); write(D.size); }") ≡ cyclic (pos 1 ∷ []) eight
 unfolding by_text int_wrap members indices
 hidden_behind = refl
+
+-- ---- a second reader's rows: names, dimensions and slices
+-- a domain's dimension is a range, so the array is a root
+array_over_a_dimension : root_in (codes "A") (codes "const D = {1..8} dmapped new cyclicDist(1); var A: [D.dim(0)] int;") ≡ unmapped eight
+unfolding by_text int_wrap members indices
+array_over_a_dimension = refl
+
+array_over_a_dimension_and_a_range : root_in (codes "A") (codes "const D = {1..8} dmapped new cyclicDist(1); var A: [D.dim(0), 1..3] int;") ≡ unmapped (unstrided (pos 1) (pos 8) ∷ unstrided (pos 1) (pos 3) ∷ [])
+unfolding by_text int_wrap members indices
+array_over_a_dimension_and_a_range = refl
+
+-- a range has no root that the array could have
+array_over_a_ranges_name : root_in (codes "A") (codes "const r = 1..8; var A: [r] int;") ≡ unmapped eight
+unfolding by_text int_wrap members indices
+array_over_a_ranges_name = refl
+
+array_over_a_ranges_slice : root_in (codes "A") (codes "const r = 0..9; var A: [r[1..8]] int;") ≡ unmapped eight
+unfolding by_text int_wrap members indices
+array_over_a_ranges_slice = refl
+
+array_over_an_arrays_domain : root_in (codes "B") (codes "const D = {1..8} dmapped new cyclicDist(1); var A: [D] int; var B: [A.domain[2..3]] int;") ≡ cyclic (pos 1 ∷ []) eight
+unfolding by_text int_wrap members indices
+array_over_an_arrays_domain = refl
+
+derived_twice : root_in (codes "F") (codes "const D = {1..8} dmapped new cyclicDist(1); const E = D[2..7]; const F = E.expand(1);") ≡ cyclic (pos 1 ∷ []) eight
+unfolding by_text int_wrap members indices
+derived_twice = refl
+
+-- the root of the array, which has the domain that it was declared with
+derived_from_an_array_over_ranges : root_in (codes "E") (codes "var A: [1..8] int; const E = A.domain[2..3];") ≡ unmapped eight
+unfolding by_text int_wrap members indices
+derived_from_an_array_over_ranges = refl
+
+-- the domain that D was declared with
+derived_from_an_assigned_domain : root_in (codes "E") (codes "var D = {1..8} dmapped new cyclicDist(1); D = {3..4}; const E = D;") ≡ cyclic (pos 1 ∷ []) eight
+unfolding by_text int_wrap members indices
+derived_from_an_assigned_domain = refl
+
+array_over_an_assigned_domain : root_in (codes "A") (codes "var D = {1..8} dmapped new cyclicDist(1); D = {3..4}; var A: [D] int;") ≡ cyclic (pos 1 ∷ []) eight
+unfolding by_text int_wrap members indices
+array_over_an_assigned_domain = refl
+
+derived_from_a_typed_domain : root_in (codes "F") (codes "const D = {1..8} dmapped new cyclicDist(1); const E: domain(1) = D[2..3]; const F = E;") ≡ unmapped (line (pos 2) (pos 3))
+unfolding by_text int_wrap members indices
+derived_from_a_typed_domain = refl
+
+-- an assignment changes no root
+assigned_a_mapped_domain : root_in (codes "E") (codes "const D = {1..8} dmapped new cyclicDist(1); var E = {1..4}; E = D;") ≡ unmapped (line (pos 1) (pos 4))
+unfolding by_text int_wrap members indices
+assigned_a_mapped_domain = refl
+
+-- ---- domains without a value, and of several dimensions
+domain_without_a_value : root_in (codes "D") (codes "var D: domain(1);") ≡ unmapped (line (pos 1) (pos 0))
+unfolding by_text int_wrap members indices
+domain_without_a_value = refl
+
+domain_without_a_value_of_two : root_in (codes "D") (codes "var D: domain(2);") ≡ unmapped (unstrided (pos 1) (pos 0) ∷ unstrided (pos 1) (pos 0) ∷ [])
+unfolding by_text int_wrap members indices
+domain_without_a_value_of_two = refl
+
+block_of_two : root_in (codes "D") (codes "const D = {1..2, 1..3} dmapped new blockDist({1..4, 0..3});") ≡ boxed (unstrided (pos 1) (pos 4) ∷ unstrided (pos 0) (pos 3) ∷ []) (unstrided (pos 1) (pos 2) ∷ unstrided (pos 1) (pos 3) ∷ [])
+unfolding by_text int_wrap members indices
+block_of_two = refl
+
+block_of_a_name : root_in (codes "D") (codes "const X = {0..9}; const D = {1..8} dmapped new blockDist(X);") ≡ boxed (line (pos 0) (pos 9)) eight
+unfolding by_text int_wrap members indices
+block_of_a_name = refl
+
+block_cyclic_of_two : root_in (codes "D") (codes "const D = {1..2, 1..3} dmapped new blockCycDist((1, 2), (3, 4));") ≡ blocks (pos 1 ∷ pos 2 ∷ []) (pos 3 ∷ pos 4 ∷ []) (unstrided (pos 1) (pos 2) ∷ unstrided (pos 1) (pos 3) ∷ [])
+unfolding by_text int_wrap members indices
+block_cyclic_of_two = refl
+
+created_of_two_ranges : root_in (codes "D") (codes "const D = cyclicDist.createDomain(3..4, 5..6);") ≡ cyclic (pos 3 ∷ pos 5 ∷ []) (unstrided (pos 3) (pos 4) ∷ unstrided (pos 5) (pos 6) ∷ [])
+unfolding by_text int_wrap members indices
+created_of_two_ranges = refl
+
+created_of_nothing_in_one : root_in (codes "D") (codes "const D = cyclicDist.createDomain(3..4, 5..4);") ≡ unmapped (unstrided (pos 3) (pos 4) ∷ unstrided (pos 5) (pos 4) ∷ [])
+unfolding by_text int_wrap members indices
+created_of_nothing_in_one = refl
+
+created_block_of_nothing : root_in (codes "D") (codes "const D = blockDist.createDomain(5..4);") ≡ boxed (line (pos 5) (pos 4)) (line (pos 5) (pos 4))
+unfolding by_text int_wrap members indices
+created_block_of_nothing = refl
+
+-- ---- arguments
+cyclic_from_an_arrays_domain : root_in (codes "D") (codes "var A: [3..4] int; const D = {1..8} dmapped new cyclicDist(A.domain.low);") ≡ cyclic (pos 3 ∷ []) eight
+unfolding by_text int_wrap members indices
+cyclic_from_an_arrays_domain = refl
+
+cyclic_from_the_low_of_a_range : root_in (codes "D") (codes "const r = 1..8 by -3; const D = {1..8} dmapped new cyclicDist(r.low);") ≡ cyclic (pos 2 ∷ []) eight
+unfolding by_text int_wrap members indices
+cyclic_from_the_low_of_a_range = refl
+
+low_of_an_empty_range : root_in (codes "D") (codes "const r = 1..0; const D = {1..8} dmapped new cyclicDist(r.low);") ≡ unmapped eight
+unfolding by_text int_wrap members indices
+low_of_an_empty_range = refl
+
+low_bound_of_nothing : root_in (codes "D") (codes "const D = {1..2, 1..2} dmapped new cyclicDist({1..2, 5..4}.lowBound);") ≡ unmapped (unstrided (pos 1) (pos 2) ∷ unstrided (pos 1) (pos 2) ∷ [])
+unfolding by_text int_wrap members indices
+low_bound_of_nothing = refl
+
+cyclic_from_the_locale_count : root_in (codes "D") (codes "const D = {1..8} dmapped new cyclicDist(numLocales + here.id);") ≡ cyclic (pos 4 ∷ []) eight
+unfolding by_text int_wrap members indices
+cyclic_from_the_locale_count = refl
+
+cyclic_from_an_element : root_in (codes "D") (codes "var A: [1..2] int; A[2] = 5; const D = {1..8} dmapped new cyclicDist(A[2]);") ≡ cyclic (pos 5 ∷ []) eight
+unfolding by_text int_wrap members indices
+cyclic_from_an_element = refl
+
+element_without_a_value : root_in (codes "D") (codes "var A: [1..2] int; const D: domain(1) dmapped new cyclicDist(A[3]) = {1..8};") ≡ unmapped eight
+unfolding by_text int_wrap members indices
+element_without_a_value = refl
+
+start_of_blocks_without_a_value : root_in (codes "D") (codes "const D = {1..8} dmapped new blockCycDist(1/0, 2);") ≡ unmapped eight
+unfolding by_text int_wrap members indices
+start_of_blocks_without_a_value = refl
+
+-- a map behind the type and another one behind the value are refused
+mapped_twice : root_in (codes "D") (codes "var D: domain(1) dmapped new cyclicDist(1) = {1..8} dmapped new cyclicDist(2);") ≡ None
+unfolding by_text int_wrap members indices
+mapped_twice = refl
+
+mapped_behind_a_typed_value : root_in (codes "D") (codes "var D: domain(1) = {1..8} dmapped new cyclicDist(2);") ≡ None
+unfolding by_text int_wrap members indices
+mapped_behind_a_typed_value = refl
