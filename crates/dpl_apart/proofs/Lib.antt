@@ -1,0 +1,6 @@
+-- The nine operators of reductions put values together in whatever order.
+pub mod Bits
+pub mod Operators
+pub mod ReduceWords
+-- A loop is what its parts come to, merged.
+pub mod Split

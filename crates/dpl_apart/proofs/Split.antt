@@ -1,0 +1,172 @@
+-- A loop is what its two parts come to, merged; and its reduce variables may be put to it afterwards.
+use Rattle.std.proofs.Common.{◌≡◌, ℕ, ◌<◌, Bool, true, false, cond, not, ltb, List, [], ◌∷◌, ℤ, refl, sym, ap, ◌∙◌, subst, arith}
+use Rattle.std.specs.Prelude.{◌&&◌}
+use Rattle.std.specs.Ordering.{int_eq}
+use Rattle.std.specs.List.{AllByRecursion, filter}
+use Rattle.std.proofs.lemmas.Bool.{and_parts}
+use Rattle.std.proofs.lemmas.Bool.Decides.{nat_tests, Decides-int_eq}
+use Rattle.dpl_language.specs.Values.{Index, Fault}
+use Rattle.dpl_language.specs.Ranges.{same_index}
+use Rattle.dpl_apart.specs.Rows.{Turned, Leaves, Fails, Ran, Finished, Failed, Loop, with_row, goes_on, run, either, merge, onto, IsRising, Adds, IsReducing}
+
+-- ---- indices
+pub same_index-refl : (t : Index) → same_index t t ≡ true
+same_index-refl [] = refl
+same_index-refl (i ∷ is) = let e : int_eq i i ≡ true = (Decides-int_eq i i).1 refl in rw e (same_index-refl is)
+
+pub same_index-sound : (s t : Index) → same_index s t ≡ true → s ≡ t
+same_index-sound [] [] e = refl
+same_index-sound [] (j ∷ js) e = absurd cc
+same_index-sound (i ∷ is) [] e = absurd cc
+same_index-sound (i ∷ is) (j ∷ js) e =
+    let both = and_parts (int_eq i j) (same_index is js) e in
+    let heads : i ≡ j = (Decides-int_eq i j).0 both.0 in
+    let tails : is ≡ js = same_index-sound is js both.1 in
+    λ k. heads k ∷ tails k
+
+-- ---- rows
+module _ {T : Type 0} (is_first : Index → Bool) (xs ys : Index → T) (t : Index) (row : T) where
+  with_row-first : is_first t ≡ true → with_row t row (either is_first xs ys) ≡ either is_first (with_row t row xs) ys
+  with_row-first e = λ i x. at x i where
+    at : (x : Index) → with_row t row (either is_first xs ys) x ≡ either is_first (with_row t row xs) ys x
+    at x = by (same_index x t) refl where
+      by : (b : Bool) → same_index x t ≡ b → with_row t row (either is_first xs ys) x ≡ either is_first (with_row t row xs) ys x
+      by true h = let q : is_first x ≡ true = ap is_first (same_index-sound x t h) ∙ e in rw (h, q) refl
+      by false h = rw h refl
+
+  with_row-second : is_first t ≡ false → with_row t row (either is_first xs ys) ≡ either is_first xs (with_row t row ys)
+  with_row-second e = λ i x. at x i where
+    at : (x : Index) → with_row t row (either is_first xs ys) x ≡ either is_first xs (with_row t row ys) x
+    at x = by (same_index x t) refl where
+      by : (b : Bool) → same_index x t ≡ b → with_row t row (either is_first xs ys) x ≡ either is_first xs (with_row t row ys) x
+      by true h = let q : is_first x ≡ false = ap is_first (same_index-sound x t h) ∙ e in rw (h, q) refl
+      by false h = rw h refl
+
+less : (a b : ℕ) → a < b → ltb a b ≡ true
+less a b h = grind (arith, nat_tests)
+
+not_less : (a b : ℕ) → b < a → ltb a b ≡ false
+not_less a b h = grind (arith, nat_tests)
+
+-- ---- lists
+pub each-filter : {X : Type 0} (P : X → Type 0) (p : X → Bool) (xs : List X) → AllByRecursion P xs → AllByRecursion P (filter p xs)
+each-filter P p [] h = h
+each-filter P p (x ∷ xs) h =
+    elim (p x) as (λ b. AllByRecursion P (cond b (x ∷ filter p xs) (filter p xs))) [
+      | true ↦ (h.0, each-filter P p xs h.1)
+      | false ↦ each-filter P p xs h.1
+    ]
+
+pub rising-filter : (place : Index → ℕ) (p : Index → Bool) (ts : List Index) → IsRising place ts → IsRising place (filter p ts)
+rising-filter place p [] h = h
+rising-filter place p (t ∷ ts) h =
+    elim (p t) as (λ b. IsRising place (cond b (t ∷ filter p ts) (filter p ts))) [
+      | true ↦ (each-filter _ p ts h.0, rising-filter place p ts h.1)
+      | false ↦ rising-filter place p ts h.1
+    ]
+
+filter-yes : {X : Type 0} (p : X → Bool) (x : X) (xs : List X) → p x ≡ true → filter p (x ∷ xs) ≡ x ∷ filter p xs
+filter-yes p x xs e = rw e refl
+
+filter-no : {X : Type 0} (p : X → Bool) (x : X) (xs : List X) → p x ≡ false → filter p (x ∷ xs) ≡ filter p xs
+filter-no p x xs e = rw e refl
+
+-- ---- a turn, and those behind it
+module _ {T V : Type 0} (loop : Loop T V) where
+  pub run-leaves : (t : Index) (ts : List Index) (rows : Index → T) (a : V) (row : T) (v : V) → loop.turn t (rows t) ≡ Leaves row v
+      → run loop (t ∷ ts) rows a ≡ run loop ts (with_row t row rows) (loop.join a v)
+  run-leaves t ts rows a row v e = rw e refl
+
+  pub run-fails : (t : Index) (ts : List Index) (rows : Index → T) (a : V) (f : Fault) → loop.turn t (rows t) ≡ Fails f
+      → run loop (t ∷ ts) rows a ≡ Failed (loop.place t) f
+  run-fails t ts rows a f e = rw e refl
+
+  -- a fault goes before whatever turns of greater places come to
+  module _ (is_first : Index → Bool) (t : Index) (f : Fault) where
+    before-second : (ts : List Index) (rows : Index → T) (a : V) → AllByRecursion (λ x. loop.place t < loop.place x) ts
+        → merge loop.join is_first (Failed (loop.place t) f) (run loop ts rows a) ≡ Failed (loop.place t) f
+    before-second [] rows a h = refl
+    before-second (x ∷ xs) rows a h =
+        elim (loop.turn x (rows x)) as (λ w. loop.turn x (rows x) ≡ w → merge loop.join is_first (Failed (loop.place t) f) (run loop (x ∷ xs) rows a) ≡ Failed (loop.place t) f) [
+          | Leaves row v ↦ λ e. rw (run-leaves x xs rows a row v e) (before-second xs (with_row x row rows) (loop.join a v) h.1)
+          | Fails g ↦ λ e. rw (run-fails x xs rows a g e, less (loop.place t) (loop.place x) h.0) refl
+        ] refl
+
+    before-first : (ts : List Index) (rows : Index → T) (a : V) → AllByRecursion (λ x. loop.place t < loop.place x) ts
+        → merge loop.join is_first (run loop ts rows a) (Failed (loop.place t) f) ≡ Failed (loop.place t) f
+    before-first [] rows a h = refl
+    before-first (x ∷ xs) rows a h =
+        elim (loop.turn x (rows x)) as (λ w. loop.turn x (rows x) ≡ w → merge loop.join is_first (run loop (x ∷ xs) rows a) (Failed (loop.place t) f) ≡ Failed (loop.place t) f) [
+          | Leaves row v ↦ λ e. rw (run-leaves x xs rows a row v e) (before-first xs (with_row x row rows) (loop.join a v) h.1)
+          | Fails g ↦ λ e. rw (run-fails x xs rows a g e, not_less (loop.place x) (loop.place t) h.0) refl
+        ] refl
+
+module _ {T V : Type 0} {IsOne : V → Type 0} {unit : V} (loop : Loop T V) (lawful : IsReducing IsOne unit loop) where
+  -- what a turn adds may be put together
+  pub added : (t : Index) (r row : T) (v : V) → loop.turn t r ≡ Leaves row v → IsOne v
+  added t r row v e = subst (Adds IsOne) e (lawful.adds t r)
+
+  pub joined : (a v : V) → IsOne a → IsOne v → IsOne (loop.join a v)
+  joined a v ha hv = lawful.monoid.closed a v ha hv
+
+  -- to put a value to two that are put together is to put it to either of them
+  to-first : (a b v : V) → IsOne a → IsOne b → IsOne v → loop.join (loop.join a b) v ≡ loop.join (loop.join a v) b
+  to-first a b v ha hb hv =
+      lawful.monoid.assoc a b v ha hb hv ∙ ap (loop.join a) (lawful.monoid.comm b v hb hv) ∙ sym (lawful.monoid.assoc a v b ha hv hb)
+
+  -- a loop over a list is the loops over what passes a test and over what doesn't, merged
+  pub run-split : (is_first : Index → Bool) (ts : List Index) (xs ys : Index → T) (a b : V) → IsRising loop.place ts → IsOne a → IsOne b
+      → run loop ts (either is_first xs ys) (loop.join a b) ≡ merge loop.join is_first (run loop (filter is_first ts) xs a) (run loop (filter (λ t. not (is_first t)) ts) ys b)
+  run-split is_first [] xs ys a b h ha hb = refl
+  run-split is_first (t ∷ ts) xs ys a b h ha hb =
+      let is_second : Index → Bool = λ t. not (is_first t) in
+      let Goal : List Index → List Index → Type 0 = λ firsts seconds. run loop (t ∷ ts) (either is_first xs ys) (loop.join a b) ≡ merge loop.join is_first (run loop firsts xs a) (run loop seconds ys b) in
+      elim (is_first t) as (λ q. is_first t ≡ q → Goal (filter is_first (t ∷ ts)) (filter is_second (t ∷ ts))) [
+        | true ↦ λ q.
+            let here : either is_first xs ys t ≡ xs t = rw q refl in
+            let other : is_second t ≡ false = rw q refl in
+            rw (filter-yes is_first t ts q, filter-no is_second t ts other)
+            (elim (loop.turn t (xs t)) as (λ w. loop.turn t (xs t) ≡ w → Goal (t ∷ filter is_first ts) (filter is_second ts)) [
+              | Leaves row v ↦ λ e.
+                  let hv = added t (xs t) row v e in
+                  run-leaves loop t ts (either is_first xs ys) (loop.join a b) row v (ap (loop.turn t) here ∙ e)
+                  ∙ rw (with_row-first is_first xs ys t row q, to-first a b v ha hb hv)
+                  (run-split is_first ts (with_row t row xs) ys (loop.join a v) b h.1 (joined a v ha hv) hb
+                  ∙ ap (λ r. merge loop.join is_first r (run loop (filter is_second ts) ys b)) (sym (run-leaves loop t (filter is_first ts) xs a row v e)))
+              | Fails f ↦ λ e.
+                  run-fails loop t ts (either is_first xs ys) (loop.join a b) f (ap (loop.turn t) here ∙ e)
+                  ∙ rw (run-fails loop t (filter is_first ts) xs a f e) (sym (before-second loop is_first t f (filter is_second ts) ys b (each-filter _ is_second ts h.0)))
+            ] refl)
+        | false ↦ λ q.
+            let here : either is_first xs ys t ≡ ys t = rw q refl in
+            let other : is_second t ≡ true = rw q refl in
+            rw (filter-no is_first t ts q, filter-yes is_second t ts other)
+            (elim (loop.turn t (ys t)) as (λ w. loop.turn t (ys t) ≡ w → Goal (filter is_first ts) (t ∷ filter is_second ts)) [
+              | Leaves row v ↦ λ e.
+                  let hv = added t (ys t) row v e in
+                  run-leaves loop t ts (either is_first xs ys) (loop.join a b) row v (ap (loop.turn t) here ∙ e)
+                  ∙ rw (with_row-second is_first xs ys t row q, lawful.monoid.assoc a b v ha hb hv)
+                  (run-split is_first ts xs (with_row t row ys) a (loop.join b v) h.1 ha (joined b v hb hv)
+                  ∙ ap (merge loop.join is_first (run loop (filter is_first ts) xs a)) (sym (run-leaves loop t (filter is_second ts) ys b row v e)))
+              | Fails f ↦ λ e.
+                  run-fails loop t ts (either is_first xs ys) (loop.join a b) f (ap (loop.turn t) here ∙ e)
+                  ∙ rw (run-fails loop t (filter is_second ts) ys b f e) (sym (before-first loop is_first t f (filter is_first ts) xs a (each-filter _ is_first ts h.0)))
+            ] refl)
+      ] refl
+
+  -- a loop from some values of its reduce variables is the loop from others, put onto the first
+  pub run-onto : (ts : List Index) (rows : Index → T) (a b : V) → IsOne a → IsOne b → run loop ts rows (loop.join a b) ≡ onto loop.join a (run loop ts rows b)
+  run-onto [] rows a b ha hb = refl
+  run-onto (t ∷ ts) rows a b ha hb =
+      elim (loop.turn t (rows t)) as (λ w. loop.turn t (rows t) ≡ w → run loop (t ∷ ts) rows (loop.join a b) ≡ onto loop.join a (run loop (t ∷ ts) rows b)) [
+        | Leaves row v ↦ λ e.
+            let hv = added t (rows t) row v e in
+            run-leaves loop t ts rows (loop.join a b) row v e ∙ ap (run loop ts (with_row t row rows)) (lawful.monoid.assoc a b v ha hb hv)
+            ∙ run-onto ts (with_row t row rows) a (loop.join b v) ha (joined b v hb hv)
+            ∙ ap (onto loop.join a) (sym (run-leaves loop t ts rows b row v e))
+        | Fails f ↦ λ e. run-fails loop t ts rows (loop.join a b) f e ∙ ap (onto loop.join a) (sym (run-fails loop t ts rows b f e))
+      ] refl
+
+  -- so it is the loop that begins with nothing added, put onto the values as they were: these are counted once
+  pub run-from : (ts : List Index) (rows : Index → T) (a : V) → IsOne a → run loop ts rows a ≡ onto loop.join a (run loop ts rows unit)
+  run-from ts rows a ha = ap (run loop ts rows) (sym (lawful.monoid.neutral a ha)) ∙ run-onto ts rows a unit ha lawful.monoid.one
