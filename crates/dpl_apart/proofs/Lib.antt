@@ -4,3 +4,7 @@ pub mod Operators
 pub mod ReduceWords
 -- A loop is what its parts come to, merged.
 pub mod Split
+pub mod Parts
+-- Turns that keep apart, over a state.
+pub mod InOrder
+pub mod AnyOrder

@@ -110,7 +110,7 @@ module _ {T V : Type 0} {IsOne : V → Type 0} {unit : V} (loop : Loop T V) (law
   joined a v ha hv = lawful.monoid.closed a v ha hv
 
   -- to put a value to two that are put together is to put it to either of them
-  to-first : (a b v : V) → IsOne a → IsOne b → IsOne v → loop.join (loop.join a b) v ≡ loop.join (loop.join a v) b
+  pub to-first : (a b v : V) → IsOne a → IsOne b → IsOne v → loop.join (loop.join a b) v ≡ loop.join (loop.join a v) b
   to-first a b v ha hb hv =
       lawful.monoid.assoc a b v ha hb hv ∙ ap (loop.join a) (lawful.monoid.comm b v hb hv) ∙ sym (lawful.monoid.assoc a v b ha hv hb)
 

@@ -67,6 +67,10 @@ is_owned owner ls t = list_any (λ l. owner t == l) ls
 abbrev pub dealt : {T : Type 0} → (Index → ℕ) → (ℕ → Index → T) → Index → T
 dealt owner rows t = rows (owner t) t
 
+-- the parts of some locales together, in the order of the list
+abbrev pub parts_of : (Index → ℕ) → List ℕ → List Index → List Index
+parts_of owner ls ts = filter (is_owned owner ls) ts
+
 -- What the parts of some locales come to together, the last put first to nothing, which has rows of its own.
 abbrev pub merged : {T V : Type 0} → (V → V → V) → (Index → ℕ) → (ℕ → Ran T V) → Ran T V → List ℕ → Ran T V
 merged join owner ran nothing [] = nothing
@@ -92,6 +96,11 @@ place_in (t ∷ ts) x = if same_index x t then 0 else suc (place_in ts x)
 abbrev pub Adds : {T V : Type 0} → (V → Type 0) → Turned T V → Type 0
 Adds IsOne (Leaves row v) = IsOne v
 Adds IsOne (Fails f) = Unit {0}
+
+-- what turns come to has such reduce variables, where none of them has a fault
+abbrev pub Comes : {T V : Type 0} → (V → Type 0) → Ran T V → Type 0
+Comes IsOne (Finished rows a) = IsOne a
+Comes IsOne (Failed k f) = Unit {0}
 
 -- A loop whose turns add what may be put together in any order.
 pub record IsReducing {T V : Type 0} (IsOne : V → Type 0) (unit : V) (loop : Loop T V) : Type 0 where
