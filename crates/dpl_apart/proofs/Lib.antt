@@ -5,6 +5,7 @@ pub mod ReduceWords
 -- A loop is what its parts come to, merged.
 pub mod Split
 pub mod Parts
+pub mod Folds
 -- Turns that keep apart, over a state.
 pub mod InOrder
 pub mod AnyOrder

@@ -1,70 +1,69 @@
--- So do the words of reduce variables, of one and of several, where each word is what its value is kept as.
-use Rattle.std.proofs.Common.{◌≡◌, ℤ, pos, Bool, true, false, List, [], ◌∷◌, map, FitsSigned, w64, refl, sym, ap, ◌∙◌, subst, arith}
-use Rattle.dpl_language.specs.Tree.{Op}
+-- So do the words of reduce variables, of one and of several.
+use Rattle.std.proofs.Common.{◌≡◌, ◌⊎◌, inl, inr, ℤ, pos, Bool, true, false, List, [], ◌∷◌, map, FitsSigned, w64, refl, sym, ap, ◌∙◌, subst}
+use Rattle.dpl_language.specs.Tree.{Op, Sum, Product, AllOf, AnyOf, BitAnd, BitOr, BitXor, Least, Greatest}
 use Rattle.dpl_language.specs.Values.{Value, Int, Truth, kept_number}
 use Rattle.dpl_language.specs.Arithmetic.{combined, unit_of}
 use Rattle.dpl_words.specs.Words.{is_true, is_logical}
-use Rattle.dpl_apart.specs.Operands.{IsCommutativeMonoid, IsOperandIf, IsOperand, value_of_word_if, value_of_word, combined_words, unit_word, IsExact, all_combined, unit_words, AreExact}
-use Rattle.dpl_apart.proofs.Operators.{operators}
+use Rattle.dpl_apart.specs.Operands.{IsCommutativeMonoid, IsOperand, value_of_word, combined_words, unit_word, IsExact, all_combined, unit_words, AreExact}
+use Rattle.dpl_apart.proofs.Operators.{operators, combined-operand, int-operand, truth-operand}
 
 truth-kept : (b : Bool) → is_true (kept_number (Truth b)) ≡ Truth b
 truth-kept true = refl
 truth-kept false = refl
 
-truth-fits : (b : Bool) → FitsSigned w64 (kept_number (Truth b))
-truth-fits true = record { sfits = omega arith }
-truth-fits false = record { sfits = omega arith }
+-- what an operator gives is the value of the word that it is kept as
+pub combined-kept : (op : Op) (u v : Value) → value_of_word op (kept_number (combined op u v)) ≡ combined op u v
+combined-kept Sum u v = refl
+combined-kept Product u v = refl
+combined-kept AllOf u v = truth-kept _
+combined-kept AnyOf u v = truth-kept _
+combined-kept BitAnd u v = refl
+combined-kept BitOr u v = refl
+combined-kept BitXor u v = refl
+combined-kept Least u v = refl
+combined-kept Greatest u v = refl
 
--- an operand is the value of the word that it is kept as
-kept-value_if : (b : Bool) (v : Value) → IsOperandIf b v → value_of_word_if b (kept_number v) ≡ v
-kept-value_if true v h = ap (λ u. is_true (kept_number u)) h.1 ∙ truth-kept h.0 ∙ sym h.1
-kept-value_if false v h = ap (λ u. Int (kept_number u)) h.1 ∙ sym h.1
-
-kept-fits_if : (b : Bool) (v : Value) → IsOperandIf b v → FitsSigned w64 (kept_number v)
-kept-fits_if true v h = subst (λ u. FitsSigned w64 (kept_number u)) (sym h.1) (truth-fits h.0)
-kept-fits_if false v h = subst (λ u. FitsSigned w64 (kept_number u)) (sym h.1) h.2
-
-value-operand_if : (b : Bool) (w : ℤ) → FitsSigned w64 w → IsOperandIf b (value_of_word_if b w)
-value-operand_if true w f = (_, refl)
-value-operand_if false w f = (w, refl, f)
+unit-kept : (op : Op) → value_of_word op (unit_word op) ≡ unit_of op
+unit-kept op = ap (λ v. value_of_word op (kept_number v)) (sym (operators op).one) ∙ combined-kept op (unit_of op) (unit_of op) ∙ (operators op).one
 
 module _ (op : Op) where
-  pub kept-value : (v : Value) → IsOperand op v → value_of_word op (kept_number v) ≡ v
-  kept-value v h = kept-value_if (is_logical op) v h
+  pub exact-operand : (w : ℤ) → IsExact op w → IsOperand op (value_of_word op w)
+  exact-operand w h =
+      sym (ap (value_of_word op) (sym h) ∙ combined-kept op (value_of_word op w) (value_of_word op (unit_word op)) ∙ ap (combined op (value_of_word op w)) (unit-kept op))
 
-  pub kept-exact : (v : Value) → IsOperand op v → IsExact op (kept_number v)
-  kept-exact v h = record { fits = kept-fits_if (is_logical op) v h; kept = ap kept_number (kept-value v h) }
+  pub operand-exact : (v : Value) → IsOperand op v → IsExact op (kept_number v)
+  operand-exact v h =
+      let same : value_of_word op (kept_number v) ≡ v = ap (λ v. value_of_word op (kept_number v)) (sym h) ∙ combined-kept op v (unit_of op) ∙ h in
+      ap (λ u. kept_number (combined op u (value_of_word op (unit_word op)))) same ∙ ap (λ u. kept_number (combined op v u)) (unit-kept op) ∙ ap kept_number h
 
-  pub value-operand : (w : ℤ) → IsExact op w → IsOperand op (value_of_word op w)
-  value-operand w h = value-operand_if (is_logical op) w h.fits
-
-  -- what two words' values come to
-  abbrev both : ℤ → ℤ → Value
-  both a b = combined op (value_of_word op a) (value_of_word op b)
-
-  both-operand : (a b : ℤ) → IsExact op a → IsExact op b → IsOperand op (both a b)
-  both-operand a b ha hb = (operators op).closed (value_of_word op a) (value_of_word op b) (value-operand a ha) (value-operand b hb)
+  -- whatever is put to an exact word, it is exact again
+  pub combined-exact : (v w : ℤ) → IsExact op v → IsExact op (combined_words op v w)
+  combined-exact v w h = operand-exact (combined op (value_of_word op v) (value_of_word op w)) (combined-operand op (value_of_word op v) (value_of_word op w) (exact-operand v h))
 
   words-assoc : (a b c : ℤ) → IsExact op a → IsExact op b → IsExact op c → combined_words op (combined_words op a b) c ≡ combined_words op a (combined_words op b c)
   words-assoc a b c ha hb hc =
-      ap (λ v. kept_number (combined op v (value_of_word op c))) (kept-value (both a b) (both-operand a b ha hb))
-      ∙ ap kept_number ((operators op).assoc (value_of_word op a) (value_of_word op b) (value_of_word op c) (value-operand a ha) (value-operand b hb) (value-operand c hc))
-      ∙ sym (ap (λ v. kept_number (combined op (value_of_word op a) v)) (kept-value (both b c) (both-operand b c hb hc)))
-
-  words-neutral : (a : ℤ) → IsExact op a → combined_words op a (unit_word op) ≡ a
-  words-neutral a ha =
-      ap (λ v. kept_number (combined op (value_of_word op a) v)) (kept-value (unit_of op) (operators op).one)
-      ∙ ap kept_number ((operators op).neutral (value_of_word op a) (value-operand a ha))
-      ∙ ha.kept
+      ap (λ v. kept_number (combined op v (value_of_word op c))) (combined-kept op (value_of_word op a) (value_of_word op b))
+      ∙ ap kept_number ((operators op).assoc (value_of_word op a) (value_of_word op b) (value_of_word op c) (exact-operand a ha) (exact-operand b hb) (exact-operand c hc))
+      ∙ sym (ap (λ v. kept_number (combined op (value_of_word op a) v)) (combined-kept op (value_of_word op b) (value_of_word op c)))
 
   pub reduce_word : IsCommutativeMonoid (IsExact op) (combined_words op) (unit_word op)
   reduce_word = record {
-    one = kept-exact (unit_of op) (operators op).one;
-    closed = λ a b ha hb. kept-exact (both a b) (both-operand a b ha hb);
+    one = operand-exact (unit_of op) (operators op).one;
+    closed = λ a b ha hb. combined-exact a b ha;
     assoc = words-assoc;
-    comm = λ a b ha hb. ap kept_number ((operators op).comm (value_of_word op a) (value_of_word op b) (value-operand a ha) (value-operand b hb));
-    neutral = words-neutral;
+    comm = λ a b ha hb. ap kept_number ((operators op).comm (value_of_word op a) (value_of_word op b) (exact-operand a ha) (exact-operand b hb));
+    neutral = λ a h. h;
   }
+
+-- ---- which words are exact
+-- those of 64 bits, for an operator on ints
+pub int-exact : (op : Op) (w : ℤ) → is_logical op ≡ false → FitsSigned w64 w → IsExact op w
+int-exact op w ints f = operand-exact op (Int w) (int-operand op w ints f)
+
+-- 0 and 1, for the two others
+pub truth-exact : (op : Op) (w : ℤ) → is_logical op ≡ true → (w ≡ pos 0) ⊎ (w ≡ pos 1) → IsExact op w
+truth-exact op w truths (inl e) = subst (IsExact op) (sym e) (operand-exact op (Truth false) (truth-operand op false truths))
+truth-exact op w truths (inr e) = subst (IsExact op) (sym e) (operand-exact op (Truth true) (truth-operand op true truths))
 
 -- ---- of several reduce variables
 units-exact : (ops : List Op) → AreExact ops (unit_words ops)
