@@ -8,9 +8,9 @@ use Rattle.dpl_language.specs.Values.{Index, Fault}
 use Rattle.dpl_language.specs.Ranges.{same_index}
 use Rattle.dpl_language.specs.Outcome.{Deeds, Outcome, Done, Stop, Run, in_order}
 use Rattle.dpl_rules.specs.AnyOrder.{EndsAs, InAnyOrder}
-use Rattle.dpl_apart.specs.Rows.{Turned, Leaves, Fails, Ran, Finished, Failed, Loop, with_row, run, IsRising, Comes, IsReducing}
+use Rattle.dpl_apart.specs.Rows.{Turned, Leaves, Fails, Ran, Finished, Failed, Loop, with_row, run, IsRising, Adds, Comes, IsReducing}
 use Rattle.dpl_apart.specs.Apart.{Holding, turn_left, loop_left, last_index, IsApart}
-use Rattle.dpl_apart.proofs.Split.{same_index-refl, same_index-sound, run-leaves, run-fails, added, joined, to-first}
+use Rattle.dpl_apart.proofs.Split.{same_index-refl, same_index-sound, run-leaves, run-fails, all-add, to-first, run-comes}
 use Rattle.dpl_apart.proofs.InOrder.{in_order-run}
 
 -- how often an index is listed
@@ -119,13 +119,12 @@ module _ {T V : Type 0} {IsOne : V → Type 0} {unit : V} (loop : Loop T V) (law
       let not_there : times x ts ≡ 0 = omega (arith, none) in
       row-stays ts (with_row t r.row rows) (loop.join a r.adds) end sum x r.rest not_there ∙ with_row-other t r.row rows x (once-other x t not_here)
 
-  pub run-comes : (ts : List Index) (rows : Index → T) (a : V) → IsOne a → Comes IsOne (run loop ts rows a)
-  run-comes [] rows a ha = ha
-  run-comes (t ∷ ts) rows a ha =
-      elim (loop.turn t (rows t)) as (λ w. loop.turn t (rows t) ≡ w → Comes IsOne (run loop (t ∷ ts) rows a)) [
-        | Leaves row v ↦ λ e. subst (Comes IsOne) (sym (run-leaves loop t ts rows a row v e)) (run-comes ts (with_row t row rows) (loop.join a v) (joined loop lawful a v ha (added loop lawful t (rows t) row v e)))
-        | Fails f ↦ λ e. subst (Comes IsOne) (sym (run-fails loop t ts rows a f e)) tt
-      ] refl
+  -- what a turn adds may be put together, and is put to what may be
+  added : (t : Index) (r row : T) (v : V) → loop.turn t r ≡ Leaves row v → IsOne v
+  added t r row v e = subst (Adds IsOne) e (lawful.adds t r)
+
+  joined : (a v : V) → IsOne a → IsOne v → IsOne (loop.join a v)
+  joined a v ha hv = lawful.monoid.closed a v ha hv
 
   -- a turn may be made before others
   turn-first : (u : Index) (xs ys : List Index) (rows : Index → T) (a : V) (end : Index → T) (sum : V) → IsOne a → times u xs ≡ 0
@@ -137,17 +136,17 @@ module _ {T V : Type 0} {IsOne : V → Type 0} {unit : V} (loop : Loop T V) (law
       let not_there : times u xs ≡ 0 = omega (arith, none) in
       let other : same_index u x ≡ false = once-other u x not_here in
       let apart : u ≡ x → ⊥ = λ e. let yes : same_index u x ≡ true = ap (same_index u) (sym e) ∙ same_index-refl u in let no : true ≡ false = sym yes ∙ other in cc in
-      let hv = added loop lawful x (rows x) first.row first.adds first.turn in
-      let second = has-left u (xs ++ ys) (with_row x first.row rows) (loop.join a first.adds) end sum (turn-first u xs ys (with_row x first.row rows) (loop.join a first.adds) end sum (joined loop lawful a first.adds ha hv) not_there first.rest) in
+      let hv = added x (rows x) first.row first.adds first.turn in
+      let second = has-left u (xs ++ ys) (with_row x first.row rows) (loop.join a first.adds) end sum (turn-first u xs ys (with_row x first.row rows) (loop.join a first.adds) end sum (joined a first.adds ha hv) not_there first.rest) in
       let its_row : with_row x first.row rows u ≡ rows u = with_row-other x first.row rows u other in
       let of_u : loop.turn u (rows u) ≡ Leaves second.row second.adds = ap (loop.turn u) (sym its_row) ∙ second.turn in
-      let hw = added loop lawful u (rows u) second.row second.adds of_u in
+      let hw = added u (rows u) second.row second.adds of_u in
       let back : same_index x u ≡ false = not-same x u (λ e. apart (sym e)) in
       let of_x : loop.turn x (with_row u second.row rows x) ≡ Leaves first.row first.adds = ap (loop.turn x) (with_row-other u second.row rows x back) ∙ first.turn in
       run-leaves loop u (x ∷ (xs ++ ys)) rows a second.row second.adds of_u
       ∙ run-leaves loop x (xs ++ ys) (with_row u second.row rows) (loop.join a second.adds) first.row first.adds of_x
       ∙ ap (λ rs. run loop (xs ++ ys) rs (loop.join (loop.join a second.adds) first.adds)) (with_row-twice x u first.row second.row rows (λ e. apart (sym e)))
-      ∙ ap (run loop (xs ++ ys) (with_row u second.row (with_row x first.row rows))) (to-first loop lawful a second.adds first.adds ha hw hv)
+      ∙ ap (run loop (xs ++ ys) (with_row u second.row (with_row x first.row rows))) (to-first loop lawful.monoid a second.adds first.adds ha hw hv)
       ∙ second.rest
 
   -- the same turns in another order
@@ -167,7 +166,7 @@ module _ {T V : Type 0} {IsOne : V → Type 0} {unit : V} (loop : Loop T V) (law
       let both = times-append x at.before at.behind in
       omega (arith, all, parts, both) in
       run-leaves loop u us rows a left.row left.adds left.turn
-      ∙ run-permuted us (at.before ++ at.behind) (with_row u left.row rows) (loop.join a left.adds) end sum (joined loop lawful a left.adds ha (added loop lawful u (rows u) left.row left.adds left.turn)) others left.rest
+      ∙ run-permuted us (at.before ++ at.behind) (with_row u left.row rows) (loop.join a left.adds) end sum (joined a left.adds ha (added u (rows u) left.row left.adds left.turn)) others left.rest
 
 -- ---- over a state
 -- what one end without a fault is, another is too
@@ -192,7 +191,7 @@ module _ {T V S : Type 0} {IsOne : V → Type 0} {unit : V} (holding : Holding T
         let ends : Done (holding (last_index last ts) end sum) done ≡ Done u made =
         sym (in_order-run holding loop turn lawful apart ts last rows a done ha ∙ ap (loop_left holding (last_index last ts) done) e) ∙ h in
         let parts = done-parts (holding (last_index last ts) end sum) u done made ends in
-        record { end = end; sum = sum; ran = e; is_one = subst (Comes IsOne) e (run-comes loop lawful ts rows a ha); state = parts.0; deeds = parts.1 }
+        record { end = end; sum = sum; ran = e; is_one = subst (Comes IsOne) e (run-comes loop lawful.monoid ts rows a ha (all-add IsOne loop lawful.adds ts rows)); state = parts.0; deeds = parts.1 }
     by (Failed k f) e =
         absurd (let no : Stop f done ≡ Done u made = sym (in_order-run holding loop turn lawful apart ts last rows a done ha ∙ ap (loop_left holding (last_index last ts) done) e) ∙ h in cc)
 

@@ -1,11 +1,11 @@
 -- Turns that keep apart, made in order over a state, are the loop over its rows.
-use Rattle.std.proofs.Common.{◌≡◌, List, [], ◌∷◌, Option, Some, refl, sym, ap, ◌∙◌}
+use Rattle.std.proofs.Common.{◌≡◌, List, [], ◌∷◌, Option, Some, refl, sym, ap, ◌∙◌, subst}
 use Rattle.dpl_language.specs.Values.{Index, Fault, InTurn, in_the_turn}
 use Rattle.dpl_language.specs.Outcome.{Deeds, Outcome, Done, Stop, Run, then_do, in_order, naming}
 use Rattle.dpl_language.specs.Loops.{named_turn}
 use Rattle.dpl_apart.specs.Rows.{Turned, Leaves, Fails, Loop, with_row, run, Adds, IsReducing}
 use Rattle.dpl_apart.specs.Apart.{Holding, turn_left, loop_left, last_index, IsApart, named, named_loop}
-use Rattle.dpl_apart.proofs.Split.{run-leaves, run-fails, added, joined}
+use Rattle.dpl_apart.proofs.Split.{run-leaves, run-fails}
 
 module _ {T V S : Type 0} {IsOne : V → Type 0} {unit : V} (holding : Holding T V S) (loop : Loop T V) (turn : Index → Run S) (lawful : IsReducing IsOne unit loop) (apart : IsApart IsOne holding loop turn) where
   pub in_order-run : (ts : List Index) (last : Option Index) (rows : Index → T) (a : V) (done : Deeds) → IsOne a
@@ -15,7 +15,7 @@ module _ {T V S : Type 0} {IsOne : V → Type 0} {unit : V} (holding : Holding T
       elim (loop.turn t (rows t)) as (λ w. loop.turn t (rows t) ≡ w → in_order turn (t ∷ ts) (holding last rows a) done ≡ loop_left holding (last_index last (t ∷ ts)) done (run loop (t ∷ ts) rows a)) [
         | Leaves row v ↦ λ e.
             ap (λ o. then_do o (in_order turn ts)) (apart.each t last rows a done ha ∙ ap (turn_left holding loop.join t rows a done) e)
-            ∙ in_order-run ts (Some t) (with_row t row rows) (loop.join a v) done (joined loop lawful a v ha (added loop lawful t (rows t) row v e))
+            ∙ in_order-run ts (Some t) (with_row t row rows) (loop.join a v) done (lawful.monoid.closed a v ha (subst (Adds IsOne) e (lawful.adds t (rows t))))
             ∙ ap (loop_left holding (last_index (Some t) ts) done) (sym (run-leaves loop t ts rows a row v e))
         | Fails f ↦ λ e.
             ap (λ o. then_do o (in_order turn ts)) (apart.each t last rows a done ha ∙ ap (turn_left holding loop.join t rows a done) e)

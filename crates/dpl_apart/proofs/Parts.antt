@@ -1,12 +1,13 @@
 -- A loop is what the parts of its locales come to, merged, however many there are.
-use Rattle.std.proofs.Common.{◌≡◌, ℕ, ◌<◌, ◌==◌, Bool, true, false, cond, not, ◌&&◌, ◌||◌, List, [], ◌∷◌, refl, sym, ap, ◌∙◌, arith, eqb-true}
+use Rattle.std.proofs.Common.{◌≡◌, ℕ, ◌<◌, ◌==◌, Bool, true, false, cond, not, ◌&&◌, ◌||◌, List, [], ◌∷◌, refl, sym, ap, ◌∙◌, subst, arith, eqb-true}
 use Rattle.std.specs.Prelude.{nat_lt}
 use Rattle.std.specs.List.{All, AllByRecursion, filter, list_any}
 use Rattle.std.proofs.lemmas.Bool.Decides.{nat_tests}
 use Rattle.std.proofs.lemmas.List.Elements.{recursion_from_All}
 use Rattle.dpl_language.specs.Values.{Index, Fault}
-use Rattle.dpl_apart.specs.Rows.{Ran, Finished, Failed, Loop, run, either, merge, onto, part_of, is_owned, parts_of, dealt, merged, AreApart, IsRising, IsReducing, Comes}
-use Rattle.dpl_apart.proofs.Split.{rising-filter, run-split, run-from}
+use Rattle.dpl_apart.specs.Rows.{Ran, Finished, Failed, Loop, run, either, merge, onto, part_of, is_owned, parts_of, dealt, merged, AreApart, IsRising, AllAdd, Comes}
+use Rattle.dpl_apart.specs.Operands.{IsCommutativeMonoid}
+use Rattle.dpl_apart.proofs.Split.{rising-filter, adds-split, run-split, run-from}
 
 -- ---- parts of lists
 filter-twice : {X : Type 0} (p q : X → Bool) (xs : List X) → filter p (filter q xs) ≡ filter (λ x. q x && p x) xs
@@ -55,37 +56,64 @@ dealt-first owner l rows = λ i t. at t (owner t == l) refl i where
   at t true e = rw e (ap (λ m. rows m t) (sym (eqb-true (owner t) l e)))
   at t false e = rw e refl
 
-module _ {T V : Type 0} {IsOne : V → Type 0} {unit : V} (loop : Loop T V) (lawful : IsReducing IsOne unit loop) (owner : Index → ℕ) (rows : ℕ → Index → T) (ts : List Index) (rising : IsRising loop.place ts) where
+module _ {T V : Type 0} {IsOne : V → Type 0} {unit : V} (loop : Loop T V) (monoid : IsCommutativeMonoid IsOne loop.join unit) (owner : Index → ℕ) (rows : ℕ → Index → T) (ts : List Index) where
   -- what a locale's part comes to, over its own rows and with nothing added
   abbrev pub ran : ℕ → Ran T V
   ran l = run loop (part_of owner l ts) (rows l) unit
 
-  -- what all that own nothing come to
+  -- what no locale comes to
   abbrev pub nothing : Ran T V
   nothing = Finished (dealt owner rows) unit
 
-  -- the parts of some locales are the part of the first and those of the others, merged
-  pub run-next : (l : ℕ) (ls : List ℕ) → AreApart (l ∷ ls)
-      → run loop (parts_of owner (l ∷ ls) ts) (dealt owner rows) unit ≡ merge loop.join (λ t. owner t == l) (ran l) (run loop (parts_of owner ls ts) (dealt owner rows) unit)
-  run-next l ls apart =
+  -- the turns of a locale's part add what may be put together
+  abbrev pub PartAdds : ℕ → Type 0
+  PartAdds l = AllAdd IsOne loop (part_of owner l ts) (rows l)
+
+  -- so do those of several parts, over each owner's rows
+  pub parts-add : (ls : List ℕ) → AreApart ls → AllByRecursion PartAdds ls → AllAdd IsOne loop (parts_of owner ls ts) (dealt owner rows)
+  parts-add [] apart h = subst (λ none. AllAdd IsOne loop none (dealt owner rows)) (sym (filter-none ts)) tt
+  parts-add (l ∷ ls) apart h =
       let both : List Index = parts_of owner (l ∷ ls) ts in
       let here : Index → Bool = λ t. owner t == l in
-      ap (run loop both (dealt owner rows)) (sym (lawful.monoid.neutral unit lawful.monoid.one))
-      ∙ ap (λ rs. run loop both rs (loop.join unit unit)) (sym (dealt-first owner l rows))
-      ∙ run-split loop lawful here both (rows l) (dealt owner rows) unit unit (rising-filter loop.place (is_owned owner (l ∷ ls)) ts rising) lawful.monoid.one lawful.monoid.one
-      ∙ ap (λ firsts. merge loop.join here (run loop firsts (rows l) unit) (run loop (filter (λ t. not (here t)) both) (dealt owner rows) unit)) (first-part owner l ls apart ts)
-      ∙ ap (λ others. merge loop.join here (ran l) (run loop others (dealt owner rows) unit)) (other-parts owner l ls apart ts)
+      subst (AllAdd IsOne loop both) (dealt-first owner l rows)
+      (adds-split IsOne loop here both (rows l) (dealt owner rows)
+      (subst (λ firsts. AllAdd IsOne loop firsts (rows l)) (sym (first-part owner l ls apart ts)) h.0)
+      (subst (λ others. AllAdd IsOne loop others (dealt owner rows)) (sym (other-parts owner l ls apart ts)) (parts-add ls apart.1 h.1)))
 
-  pub run-parts : (ls : List ℕ) → AreApart ls → run loop (parts_of owner ls ts) (dealt owner rows) unit ≡ merged loop.join owner ran nothing ls
-  run-parts [] apart = ap (λ none. run loop none (dealt owner rows) unit) (filter-none ts)
-  run-parts (l ∷ ls) apart = run-next l ls apart ∙ ap (merge loop.join (λ t. owner t == l) (ran l)) (run-parts ls apart.1)
+  module _ (rising : IsRising loop.place ts) where
+    -- the parts of some locales are the part of the first and those of the others, merged
+    pub run-next : (l : ℕ) (ls : List ℕ) → AreApart (l ∷ ls) → AllByRecursion PartAdds (l ∷ ls)
+        → run loop (parts_of owner (l ∷ ls) ts) (dealt owner rows) unit ≡ merge loop.join (λ t. owner t == l) (ran l) (run loop (parts_of owner ls ts) (dealt owner rows) unit)
+    run-next l ls apart h =
+        let both : List Index = parts_of owner (l ∷ ls) ts in
+        let here : Index → Bool = λ t. owner t == l in
+        let firsts : AllAdd IsOne loop (filter here both) (rows l) = subst (λ firsts. AllAdd IsOne loop firsts (rows l)) (sym (first-part owner l ls apart ts)) h.0 in
+        let others : AllAdd IsOne loop (filter (λ t. not (here t)) both) (dealt owner rows) =
+        subst (λ others. AllAdd IsOne loop others (dealt owner rows)) (sym (other-parts owner l ls apart ts)) (parts-add ls apart.1 h.1) in
+        ap (run loop both (dealt owner rows)) (sym (monoid.neutral unit monoid.one))
+        ∙ ap (λ rs. run loop both rs (loop.join unit unit)) (sym (dealt-first owner l rows))
+        ∙ run-split loop monoid here both (rows l) (dealt owner rows) unit unit (rising-filter loop.place (is_owned owner (l ∷ ls)) ts rising) monoid.one monoid.one firsts others
+        ∙ ap (λ firsts. merge loop.join here (run loop firsts (rows l) unit) (run loop (filter (λ t. not (here t)) both) (dealt owner rows) unit)) (first-part owner l ls apart ts)
+        ∙ ap (λ others. merge loop.join here (ran l) (run loop others (dealt owner rows) unit)) (other-parts owner l ls apart ts)
 
-  -- where each index of the loop is owned by one of some locales, it is what their parts come to, put onto the reduce variables as they were
-  pub run-merged : (ls : List ℕ) (a : V) → AreApart ls → IsOne a → All (λ t. is_owned owner ls t ≡ true) ts
-      → run loop ts (dealt owner rows) a ≡ onto loop.join a (merged loop.join owner ran nothing ls)
-  run-merged ls a apart ha owned =
-      run-from loop lawful ts (dealt owner rows) a ha
-      ∙ ap (onto loop.join a) (sym (ap (λ all. run loop all (dealt owner rows) unit) (filter-all (is_owned owner ls) ts (recursion_from_All (λ t. is_owned owner ls t ≡ true) ts owned))) ∙ run-parts ls apart)
+    -- The parts of some locales are what each of them comes to, merged.
+    pub run-parts : (ls : List ℕ) → AreApart ls → AllByRecursion PartAdds ls → run loop (parts_of owner ls ts) (dealt owner rows) unit ≡ merged loop.join owner ran nothing ls
+    run-parts [] apart h = ap (λ none. run loop none (dealt owner rows) unit) (filter-none ts)
+    run-parts (l ∷ ls) apart h = run-next l ls apart h ∙ ap (merge loop.join (λ t. owner t == l) (ran l)) (run-parts ls apart.1 h.1)
+
+    -- where each index of a loop is owned by one of some locales, their parts are the loop
+    module _ (ls : List ℕ) (apart : AreApart ls) (add : AllByRecursion PartAdds ls) (owned : All (λ t. is_owned owner ls t ≡ true) ts) where
+      all-parts : parts_of owner ls ts ≡ ts
+      all-parts = filter-all (is_owned owner ls) ts (recursion_from_All (λ t. is_owned owner ls t ≡ true) ts owned)
+
+      pub run-whole : run loop ts (dealt owner rows) unit ≡ merged loop.join owner ran nothing ls
+      run-whole = ap (λ all. run loop all (dealt owner rows) unit) (sym all-parts) ∙ run-parts ls apart add
+
+      -- And so the loop is what its parts come to, put onto the reduce variables as they were.
+      pub run-merged : (a : V) → IsOne a → run loop ts (dealt owner rows) a ≡ onto loop.join a (merged loop.join owner ran nothing ls)
+      run-merged a ha =
+          run-from loop monoid ts (dealt owner rows) a ha (subst (λ all. AllAdd IsOne loop all (dealt owner rows)) all-parts (parts-add ls apart add))
+          ∙ ap (onto loop.join a) run-whole
 
 still_less : (j k l : ℕ) → nat_lt j k ≡ true → nat_lt k l ≡ true → nat_lt j l ≡ true
 still_less j k l jk kl = grind (arith, nat_tests)
@@ -94,7 +122,7 @@ not_less_still : (j k l : ℕ) → nat_lt j k ≡ false → nat_lt k l ≡ false
 not_less_still j k l jk kl = grind (arith, nat_tests)
 
 -- ---- in which brackets parts are merged doesn't matter
-module _ {T V : Type 0} {IsOne : V → Type 0} {unit : V} (loop : Loop T V) (lawful : IsReducing IsOne unit loop) (p q : Index → Bool) where
+module _ {T V : Type 0} {IsOne : V → Type 0} {unit : V} (loop : Loop T V) (monoid : IsCommutativeMonoid IsOne loop.join unit) (p q : Index → Bool) where
   abbrev either_of : Index → Bool
   either_of t = p t || q t
 
@@ -117,7 +145,7 @@ module _ {T V : Type 0} {IsOne : V → Type 0} {unit : V} (loop : Loop T V) (law
 
   pub merge-assoc : (x y z : Ran T V) → Comes IsOne x → Comes IsOne y → Comes IsOne z
       → merge loop.join p x (merge loop.join q y z) ≡ merge loop.join either_of (merge loop.join p x y) z
-  merge-assoc (Finished xs a) (Finished ys b) (Finished zs c) hx hy hz = let rs = either-assoc xs ys zs in let as' = sym (lawful.monoid.assoc a b c hx hy hz) in λ i. Finished (rs i) (as' i)
+  merge-assoc (Finished xs a) (Finished ys b) (Finished zs c) hx hy hz = let rs = either-assoc xs ys zs in let as' = sym (monoid.assoc a b c hx hy hz) in λ i. Finished (rs i) (as' i)
   merge-assoc (Finished xs a) (Finished ys b) (Failed l h) hx hy hz = refl
   merge-assoc (Finished xs a) (Failed k g) (Finished zs c) hx hy hz = refl
   merge-assoc (Finished xs a) (Failed k g) (Failed l h) hx hy hz =

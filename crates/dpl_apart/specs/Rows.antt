@@ -97,12 +97,21 @@ abbrev pub Adds : {T V : Type 0} → (V → Type 0) → Turned T V → Type 0
 Adds IsOne (Leaves row v) = IsOne v
 Adds IsOne (Fails f) = Unit {0}
 
+abbrev pub AddsThen : {T V : Type 0} → (V → Type 0) → Turned T V → (T → Type 0) → Type 0
+AddsThen IsOne (Leaves row v) rest = IsOne v × rest row
+AddsThen IsOne (Fails f) rest = Unit {0}
+
+-- the turns of a list, up to the first that has a fault, add such values
+abbrev pub AllAdd : {T V : Type 0} → (V → Type 0) → Loop T V → List Index → (Index → T) → Type 0
+AllAdd IsOne loop [] rows = Unit {0}
+AllAdd IsOne loop (t ∷ ts) rows = AddsThen IsOne (loop.turn t (rows t)) (λ row. AllAdd IsOne loop ts (with_row t row rows))
+
 -- what turns come to has such reduce variables, where none of them has a fault
 abbrev pub Comes : {T V : Type 0} → (V → Type 0) → Ran T V → Type 0
 Comes IsOne (Finished rows a) = IsOne a
 Comes IsOne (Failed k f) = Unit {0}
 
--- A loop whose turns add what may be put together in any order.
+-- A loop all of whose turns add what may be put together in any order, over whatever rows.
 pub record IsReducing {T V : Type 0} (IsOne : V → Type 0) (unit : V) (loop : Loop T V) : Type 0 where
   pub monoid : IsCommutativeMonoid IsOne loop.join unit
   pub adds : (t : Index) (row : T) → Adds IsOne (loop.turn t row)
