@@ -10,7 +10,8 @@ use Rattle.dpl_language.specs.Outcome.{Deeds, Outcome, Done, Stop, Run, in_order
 use Rattle.dpl_rules.specs.AnyOrder.{EndsAs, InAnyOrder}
 use Rattle.dpl_apart.specs.Rows.{Turned, Leaves, Fails, Ran, Finished, Failed, Loop, with_row, run, IsRising, Adds, Comes, IsReducing}
 use Rattle.dpl_apart.specs.Apart.{Holding, turn_left, loop_left, last_index, IsApart}
-use Rattle.dpl_apart.proofs.Split.{same_index-refl, same_index-sound, run-leaves, run-fails, all-add, to-first, run-comes}
+use Rattle.dpl_apart.proofs.Indices.{same_index-refl, same_index-sound, not-same}
+use Rattle.dpl_apart.proofs.Split.{run-leaves, run-fails, all-add, to-first, run-comes}
 use Rattle.dpl_apart.proofs.InOrder.{in_order-run}
 
 -- how often an index is listed
@@ -27,12 +28,6 @@ times-sum x ts = is_sum_by (times x) (once x) refl (λ _ _. refl) ts
 times-append : (x : Index) (xs ys : List Index) → times x (xs ++ ys) ≡ times x xs + times x ys
 times-append x [] ys = omega arith
 times-append x (t ∷ xs) ys = let rest = times-append x xs ys in omega (arith, rest)
-
-not-same : (x t : Index) → (x ≡ t → ⊥) → same_index x t ≡ false
-not-same x t other = by (same_index x t) refl where
-  by : (b : Bool) → same_index x t ≡ b → same_index x t ≡ false
-  by true e = absurd (other (same_index-sound x t e))
-  by false e = e
 
 once-self : (t : Index) → once t t ≡ 1
 once-self t = rw (same_index-refl t) refl

@@ -3,9 +3,13 @@ pub mod Bits
 pub mod Operators
 pub mod ReduceWords
 -- A loop is what its parts come to, merged.
+pub mod Indices
 pub mod Split
 pub mod Parts
 pub mod Folds
+pub mod Places
+pub mod Located
 -- Turns that keep apart, over a state.
 pub mod InOrder
 pub mod AnyOrder
+pub mod Worked

@@ -1,29 +1,12 @@
 -- A loop is what its two parts come to, merged; and its reduce variables may be put to it afterwards.
-use Rattle.std.proofs.Common.{◌≡◌, ℕ, ◌<◌, Bool, true, false, cond, not, ltb, List, [], ◌∷◌, ℤ, refl, sym, ap, ◌∙◌, subst, arith}
-use Rattle.std.specs.Prelude.{◌&&◌}
-use Rattle.std.specs.Ordering.{int_eq}
+use Rattle.std.proofs.Common.{◌≡◌, ℕ, ◌<◌, Bool, true, false, cond, not, ltb, List, [], ◌∷◌, refl, sym, ap, ◌∙◌, subst, arith}
 use Rattle.std.specs.List.{AllByRecursion, filter}
-use Rattle.std.proofs.lemmas.Bool.{and_parts}
-use Rattle.std.proofs.lemmas.Bool.Decides.{nat_tests, Decides-int_eq}
+use Rattle.std.proofs.lemmas.Bool.Decides.{nat_tests}
 use Rattle.dpl_language.specs.Values.{Index, Fault}
 use Rattle.dpl_language.specs.Ranges.{same_index}
 use Rattle.dpl_apart.specs.Operands.{IsCommutativeMonoid}
+use Rattle.dpl_apart.proofs.Indices.{same_index-sound}
 use Rattle.dpl_apart.specs.Rows.{Turned, Leaves, Fails, Ran, Finished, Failed, Loop, with_row, run, either, merge, onto, IsRising, Adds, AddsThen, AllAdd, Comes}
-
--- ---- indices
-pub same_index-refl : (t : Index) → same_index t t ≡ true
-same_index-refl [] = refl
-same_index-refl (i ∷ is) = let e : int_eq i i ≡ true = (Decides-int_eq i i).1 refl in rw e (same_index-refl is)
-
-pub same_index-sound : (s t : Index) → same_index s t ≡ true → s ≡ t
-same_index-sound [] [] e = refl
-same_index-sound [] (j ∷ js) e = absurd cc
-same_index-sound (i ∷ is) [] e = absurd cc
-same_index-sound (i ∷ is) (j ∷ js) e =
-    let both = and_parts (int_eq i j) (same_index is js) e in
-    let heads : i ≡ j = (Decides-int_eq i j).0 both.0 in
-    let tails : is ≡ js = same_index-sound is js both.1 in
-    λ k. heads k ∷ tails k
 
 -- ---- rows
 module _ {T : Type 0} (is_first : Index → Bool) (xs ys : Index → T) (t : Index) (row : T) where

@@ -1,6 +1,6 @@
 -- Loops by their rows: each turn has the row of its own index, and adds to the reduce variables.
 -- What a loop comes to is put together from what its parts come to, each of which begins with nothing added.
-use Rattle.std.specs.Prelude.{◌≡◌, ℕ, suc, ◌<◌, ◌==◌, nat_lt, Bool, false, if◌then◌else◌, List, [], ◌∷◌, filter}
+use Rattle.std.specs.Prelude.{◌≡◌, ℕ, zero, suc, ◌<◌, ◌==◌, nat_lt, Bool, false, if◌then◌else◌, List, [], ◌∷◌, filter}
 use Rattle.std.specs.List.{AllByRecursion, list_any}
 use Rattle.dpl_language.specs.Values.{Index, Fault}
 use Rattle.dpl_language.specs.Ranges.{same_index}
@@ -80,6 +80,11 @@ merged join owner ran nothing (l ∷ ls) = merge join (λ t. owner t == l) (ran 
 abbrev pub AreApart : List ℕ → Type 0
 AreApart [] = Unit {0}
 AreApart (l ∷ ls) = (list_any (λ m. l == m) ls ≡ false) × AreApart ls
+
+-- so many locales, numbered on from one
+abbrev pub numbered : ℕ → ℕ → List ℕ
+numbered l zero = []
+numbered l (suc n) = l ∷ numbered (suc l) n
 
 -- PLACES
 -- along a list each index has a greater place than those before it

@@ -1,0 +1,51 @@
+-- The parts of a map's locales, each of which is the part that the map gives it.
+use Rattle.std.proofs.Common.{◌≡◌, ℕ, zero, suc, ◌+◌, ◌<◌, ◌≤◌, ◌==◌, ◌||◌, Bool, true, false, List, [], ◌∷◌, get_or, refl, arith}
+use Rattle.std.specs.List.{All, AllByRecursion, list_any}
+use Rattle.std.proofs.lemmas.Bool.Decides.{nat_tests}
+use Rattle.dpl_sets.specs.Ranges.{RangeValue}
+use Rattle.dpl_sets.specs.Indices.{indices}
+use Rattle.dpl_map.specs.Maps.{AxisValue, owner}
+use Rattle.dpl_map.specs.Parts.{part}
+use Rattle.dpl_language.specs.Values.{Index}
+use Rattle.dpl_apart.specs.Operands.{IsCommutativeMonoid}
+use Rattle.dpl_apart.specs.Rows.{Ran, Finished, Loop, run, onto, part_of, is_owned, dealt, merged, AreApart, numbered, IsRising, AllAdd}
+use Rattle.dpl_apart.proofs.Parts.{run-merged}
+
+-- ---- locales that are numbered on
+not-among : (m l n : ℕ) → m < l → list_any (λ k. m == k) (numbered l n) ≡ false
+not-among m l zero below = refl
+not-among m l (suc n) below =
+    let other : (m == l) ≡ false = grind (arith, nat_tests) in
+    rw other (not-among m (suc l) n (omega (arith, below)))
+
+pub numbered-apart : (l n : ℕ) → AreApart (numbered l n)
+numbered-apart l zero = tt
+numbered-apart l (suc n) = (not-among l (suc l) n (omega arith), numbered-apart (suc l) n)
+
+pub among : (m l n : ℕ) → l ≤ m → m < l + n → list_any (λ k. m == k) (numbered l n) ≡ true
+among m l zero from below = absurd (omega (arith, from, below))
+among m l (suc n) from below = by (m == l) refl (λ later. among m (suc l) n later (omega (arith, below))) where
+  by : (b : Bool) → (m == l) ≡ b → (suc l ≤ m → list_any (λ k. m == k) (numbered (suc l) n) ≡ true) → ((m == l) || list_any (λ k. m == k) (numbered (suc l) n)) ≡ true
+  by true e rest = rw e refl
+  by false e rest = let later : suc l ≤ m = grind (arith, nat_tests) in rw e (rest later)
+
+of-each : (P : ℕ → Type 0) (ls : List ℕ) → ((l : ℕ) → P l) → AllByRecursion P ls
+of-each P [] h = tt
+of-each P (l ∷ ls) h = (h l, of-each P ls h)
+
+module _ {T V : Type 0} {IsOne : V → Type 0} {unit : V} (loop : Loop T V) (monoid : IsCommutativeMonoid IsOne loop.join unit) (axes : List AxisValue) (ranges : List RangeValue) (rows : ℕ → Index → T) where
+  -- what a locale's part of a domain comes to
+  abbrev pub located : ℕ → Ran T V
+  located l = run loop (part ranges axes l) (rows l) unit
+
+  -- A loop over a domain is what the parts of a map's locales come to, put onto the reduce variables as they were.
+  pub run-located : (n : ℕ) → ((t : Index) → owner axes t < n) → IsRising loop.place (indices ranges) → ((l : ℕ) → AllAdd IsOne loop (part ranges axes l) (rows l)) → (a : V) → IsOne a
+      → run loop (indices ranges) (dealt (owner axes) rows) a ≡ onto loop.join a (merged loop.join (owner axes) located (Finished (dealt (owner axes) rows) unit) (numbered 0 n))
+  unfolding part
+  run-located n below rising add a ha =
+      run-merged loop monoid (owner axes) rows (indices ranges) rising (numbered 0 n) (numbered-apart 0 n)
+      (of-each (λ l. AllAdd IsOne loop (part_of (owner axes) l (indices ranges)) (rows l)) (numbered 0 n) add)
+      (λ k d within. owned (get_or (indices ranges) k d)) a ha
+    where
+      owned : (t : Index) → is_owned (owner axes) (numbered 0 n) t ≡ true
+      owned t = let less = below t in among (owner axes t) 0 n (omega arith) (omega (arith, less))

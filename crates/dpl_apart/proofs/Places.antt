@@ -1,0 +1,64 @@
+-- The places of indices in a list without repetition, as that of a domain's indices is: they rise along it.
+use Rattle.std.proofs.Common.{◌≡◌, ℕ, zero, suc, ◌<◌, Bool, true, false, List, [], ◌∷◌, Option, Some, None, slice_get, refl, sym, ap, ◌∙◌, subst, arith}
+use Rattle.std.specs.List.{AllByRecursion}
+use Rattle.std.proofs.lemmas.Option.{none-some, same_Some}
+use Rattle.dpl_sets.specs.Ranges.{RangeValue}
+use Rattle.dpl_sets.specs.Indices.{indices}
+use Rattle.dpl_domain.proofs.DistinctLemmas.{IsDistinct, AreRanges, indices-distinct}
+use Rattle.dpl_language.specs.Values.{Index}
+use Rattle.dpl_language.specs.Ranges.{same_index}
+use Rattle.dpl_apart.specs.Rows.{IsRising, place_in}
+use Rattle.dpl_apart.proofs.Indices.{same_index-refl, not-same}
+
+distinct-rest : (t : Index) (ts : List Index) → IsDistinct (t ∷ ts) → IsDistinct ts
+distinct-rest t ts distinct j k x here there = let e : suc j ≡ suc k = distinct (suc j) (suc k) x here there in omega (arith, e)
+
+distinct-first : (t : Index) (ts : List Index) → IsDistinct (t ∷ ts) → (k : ℕ) → slice_get ts k ≡ Some t → ⊥
+distinct-first t ts distinct k at = let e : 0 ≡ suc k = distinct 0 (suc k) t refl at in absurd cc
+
+-- behind its first index a list has others
+others : (t : Index) (ts : List Index) → ((k : ℕ) → slice_get ts k ≡ Some t → ⊥) → AllByRecursion (λ x. same_index x t ≡ false) ts
+others t [] none = tt
+others t (x ∷ ts) none = (not-same x t (λ e. none 0 (ap Some e)), others t ts (λ k. none (suc k)))
+
+place-behind : (t : Index) (ts all : List Index) → AllByRecursion (λ x. same_index x t ≡ false) all → AllByRecursion (λ x. 0 < place_in (t ∷ ts) x) all
+place-behind t ts [] h = tt
+place-behind t ts (x ∷ xs) h =
+    let later : place_in (t ∷ ts) x ≡ suc (place_in ts x) = rw h.0 refl in
+    (omega (arith, later), place-behind t ts xs h.1)
+
+-- one index more before a list moves all places on by one
+greater : (t x : Index) (ts all : List Index) → same_index x t ≡ false → AllByRecursion (λ y. same_index y t ≡ false) all → AllByRecursion (λ y. place_in ts x < place_in ts y) all
+    → AllByRecursion (λ y. place_in (t ∷ ts) x < place_in (t ∷ ts) y) all
+greater t x ts [] e other h = tt
+greater t x ts (y ∷ ys) e other h =
+    let here : place_in (t ∷ ts) x ≡ suc (place_in ts x) = rw e refl in
+    let there : place_in (t ∷ ts) y ≡ suc (place_in ts y) = rw other.0 refl in
+    let less = h.0 in
+    (omega (arith, here, there, less), greater t x ts ys e other.1 h.1)
+
+rising-behind : (t : Index) (ts all : List Index) → AllByRecursion (λ x. same_index x t ≡ false) all → IsRising (place_in ts) all → IsRising (place_in (t ∷ ts)) all
+rising-behind t ts [] other h = tt
+rising-behind t ts (x ∷ xs) other h = (greater t x ts xs other.0 other.1 h.0, rising-behind t ts xs other.1 h.1)
+
+pub place_in-rising : (ts : List Index) → IsDistinct ts → IsRising (place_in ts) ts
+place_in-rising [] distinct = tt
+place_in-rising (t ∷ ts) distinct =
+    let other = others t ts (distinct-first t ts distinct) in
+    let first : place_in (t ∷ ts) t ≡ 0 = rw (same_index-refl t) refl in
+    (
+      subst (λ n. AllByRecursion (λ x. n < place_in (t ∷ ts) x) ts) (sym first) (place-behind t ts ts other),
+      rising-behind t ts ts other (place_in-rising ts (distinct-rest t ts distinct)),
+    )
+
+-- an index's place is where the list has it
+pub place_in-at : (ts : List Index) → IsDistinct ts → (place : ℕ) (t : Index) → slice_get ts place ≡ Some t → place_in ts t ≡ place
+place_in-at [] distinct place t at = absurd (none-some t at)
+place_in-at (x ∷ ts) distinct zero t at = let same : same_index t x ≡ true = ap (same_index t) (same_Some x t at) ∙ same_index-refl t in rw same refl
+place_in-at (x ∷ ts) distinct (suc place) t at =
+    let other : same_index t x ≡ false = not-same t x (λ e. distinct-first x ts distinct place (at ∙ ap Some e)) in
+    rw other (ap suc (place_in-at ts (distinct-rest x ts distinct) place t at))
+
+-- along the indices of a domain places rise
+pub indices-rising : (ranges : List RangeValue) → AreRanges ranges → IsRising (place_in (indices ranges)) (indices ranges)
+indices-rising ranges limits = place_in-rising (indices ranges) (indices-distinct ranges limits)
