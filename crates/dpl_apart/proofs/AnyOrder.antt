@@ -1,12 +1,12 @@
 -- In whatever order turns that keep apart are made, the same of them have faults, and where none has the same is left.
-use Rattle.std.proofs.Common.{◌≡◌, ℕ, zero, suc, ◌+◌, ◌<◌, ◌≤◌, Bool, true, false, cond, List, [], ◌∷◌, ◌++◌, Option, Some, refl, sym, ap, ◌∙◌, subst, arith}
+use Rattle.std.proofs.Common.{◌≡◌, ℕ, ◌+◌, ◌<◌, ◌≤◌, Bool, true, false, cond, List, [], ◌∷◌, ◌++◌, Option, refl, sym, ap, ◌∙◌, subst, arith}
 use Rattle.std.specs.Prelude.{IsPermutation}
 use Rattle.std.specs.List.{AllByRecursion, sum_by}
 use Rattle.std.proofs.lemmas.List.Sorted.{sum_by-IsPermutation}
 use Rattle.std.proofs.lemmas.List.Recursion.{is_sum_by}
-use Rattle.dpl_language.specs.Values.{Index, Fault}
+use Rattle.dpl_language.specs.Values.{Index}
 use Rattle.dpl_language.specs.Ranges.{same_index}
-use Rattle.dpl_language.specs.Outcome.{Deeds, Outcome, Done, Stop, Run, in_order}
+use Rattle.dpl_language.specs.Outcome.{Deeds, Done, Stop, Run, in_order}
 use Rattle.dpl_rules.specs.AnyOrder.{EndsAs, InAnyOrder}
 use Rattle.dpl_apart.specs.Rows.{Turned, Leaves, Fails, Ran, Finished, Failed, Loop, with_row, run, IsRising, Adds, Comes, IsReducing}
 use Rattle.dpl_apart.specs.Apart.{Holding, turn_left, loop_left, last_index, IsApart}

@@ -1,11 +1,10 @@
 -- Associativity on numbers: of products, of the lesser and the greater of two, and of bits.
-use Rattle.std.proofs.Common.{to_z, of_z, ◌≡◌, ℕ, ◌+◌, ◌*◌, ◌/◌, ◌%◌, ◌<◌, ◌^◌, max, ℤ, pos, ◌+ℤ◌, ◌*ℤ◌, FitsSigned, w64, sym, ap, ◌∙◌, arith}
+use Rattle.std.proofs.Common.{to_z, of_z, ◌≡◌, ℕ, ◌/◌, ◌<◌, ◌^◌, ℤ, ◌*ℤ◌, FitsSigned, w64, sym, ap, ◌∙◌, arith}
 use Rattle.std.specs.Int.{int_min, int_max}
-use lib.Bits.{bit_and, bit_or, bit_xor, and_lt, or_lt, xor_lt, or_step, or_shr, or_zero_r, xor_assoc}
+use lib.Bits.{bit_or, or_step, or_shr, or_zero_r}
 use lib.Arith.{bin_ind}
-use Rattle.std.proofs.lemmas.Nat.{and_assoc}
 use Rattle.std.proofs.lemmas.Int.{ints, clamps, of_z-to_z}
-use Rattle.std.proofs.Math.Facts.{Fits-lt-pow, Fits-of_z, sfits_to_z}
+use Rattle.std.proofs.Math.Facts.{Fits-lt-pow, Fits-of_z}
 use borrow.Author.Differences.{product_is}
 
 pub product-assoc : (a b c : ℤ) → (a *ℤ b) *ℤ c ≡ a *ℤ (b *ℤ c)

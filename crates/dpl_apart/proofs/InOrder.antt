@@ -1,7 +1,7 @@
 -- Turns that keep apart, made in order over a state, are the loop over its rows.
 use Rattle.std.proofs.Common.{◌≡◌, List, [], ◌∷◌, Option, Some, refl, sym, ap, ◌∙◌, subst}
-use Rattle.dpl_language.specs.Values.{Index, Fault, InTurn, in_the_turn}
-use Rattle.dpl_language.specs.Outcome.{Deeds, Outcome, Done, Stop, Run, then_do, in_order, naming}
+use Rattle.dpl_language.specs.Values.{Index}
+use Rattle.dpl_language.specs.Outcome.{Deeds, Run, then_do, in_order, naming}
 use Rattle.dpl_language.specs.Loops.{named_turn}
 use Rattle.dpl_apart.specs.Rows.{Turned, Leaves, Fails, Loop, with_row, run, Adds, IsReducing}
 use Rattle.dpl_apart.specs.Apart.{Holding, turn_left, loop_left, last_index, IsApart, named, named_loop}

@@ -1,6 +1,6 @@
 -- The parts of a map's locales, each of which is the part that the map gives it.
 use Rattle.std.proofs.Common.{◌≡◌, ℕ, zero, suc, ◌+◌, ◌<◌, ◌≤◌, ◌==◌, ◌||◌, Bool, true, false, List, [], ◌∷◌, get_or, refl, arith}
-use Rattle.std.specs.List.{All, AllByRecursion, list_any}
+use Rattle.std.specs.List.{AllByRecursion, list_any}
 use Rattle.std.proofs.lemmas.Bool.Decides.{nat_tests}
 use Rattle.dpl_sets.specs.Ranges.{RangeValue}
 use Rattle.dpl_sets.specs.Indices.{indices}

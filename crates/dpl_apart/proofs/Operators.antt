@@ -7,7 +7,6 @@ use mir.Val.{sel}
 use Rattle.std.proofs.lemmas.Bool.Decides.{nat_tests}
 use Rattle.std.proofs.lemmas.Nat.{and_assoc}
 use Rattle.std.proofs.lemmas.Int.{ints, clamps, to_z-of_z, int_wrap_fits, SFits-int_wrap, int_wrap-add_left, int_wrap-add_right, int_wrap-mul_left, int_wrap-mul_right}
-use Rattle.std.proofs.Math.Facts.{Fits-lt-pow, Fits-of_z, sfits_to_z}
 use Rattle.std.proofs.Math.IntN.{+ℤ_assoc, +ℤ_comm, *ℤ_comm}
 use Rattle.dpl_language.specs.Tree.{Op, Sum, Product, AllOf, AnyOf, BitAnd, BitOr, BitXor, Least, Greatest}
 use Rattle.dpl_language.specs.Values.{Value, Int, Truth, number, truth}

@@ -1,5 +1,5 @@
 -- The places of indices in a list without repetition, as that of a domain's indices is: they rise along it.
-use Rattle.std.proofs.Common.{◌≡◌, ℕ, zero, suc, ◌<◌, Bool, true, false, List, [], ◌∷◌, Option, Some, None, slice_get, refl, sym, ap, ◌∙◌, subst, arith}
+use Rattle.std.proofs.Common.{◌≡◌, ℕ, zero, suc, ◌<◌, true, false, List, [], ◌∷◌, Some, slice_get, refl, sym, ap, ◌∙◌, subst, arith}
 use Rattle.std.specs.List.{AllByRecursion}
 use Rattle.std.proofs.lemmas.Option.{none-some, same_Some}
 use Rattle.dpl_sets.specs.Ranges.{RangeValue}
@@ -45,8 +45,7 @@ pub place_in-rising : (ts : List Index) → IsDistinct ts → IsRising (place_in
 place_in-rising [] distinct = tt
 place_in-rising (t ∷ ts) distinct =
     let other = others t ts (distinct-first t ts distinct) in
-    let first : place_in (t ∷ ts) t ≡ 0 = rw (same_index-refl t) refl in
-    (
+    let first : place_in (t ∷ ts) t ≡ 0 = rw (same_index-refl t) refl in (
       subst (λ n. AllByRecursion (λ x. n < place_in (t ∷ ts) x) ts) (sym first) (place-behind t ts ts other),
       rising-behind t ts ts other (place_in-rising ts (distinct-rest t ts distinct)),
     )

@@ -1,5 +1,5 @@
 -- So do the words of reduce variables, of one and of several.
-use Rattle.std.proofs.Common.{◌≡◌, ◌⊎◌, inl, inr, ℤ, pos, Bool, true, false, List, [], ◌∷◌, map, FitsSigned, w64, refl, sym, ap, ◌∙◌, subst}
+use Rattle.std.proofs.Common.{◌≡◌, ◌⊎◌, inl, inr, ℤ, pos, Bool, true, false, List, [], ◌∷◌, FitsSigned, w64, refl, sym, ap, ◌∙◌, subst}
 use Rattle.dpl_language.specs.Tree.{Op, Sum, Product, AllOf, AnyOf, BitAnd, BitOr, BitXor, Least, Greatest}
 use Rattle.dpl_language.specs.Values.{Value, Int, Truth, kept_number}
 use Rattle.dpl_language.specs.Arithmetic.{combined, unit_of}

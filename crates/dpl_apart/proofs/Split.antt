@@ -6,7 +6,7 @@ use Rattle.dpl_language.specs.Values.{Index, Fault}
 use Rattle.dpl_language.specs.Ranges.{same_index}
 use Rattle.dpl_apart.specs.Operands.{IsCommutativeMonoid}
 use Rattle.dpl_apart.proofs.Indices.{same_index-sound}
-use Rattle.dpl_apart.specs.Rows.{Turned, Leaves, Fails, Ran, Finished, Failed, Loop, with_row, run, either, merge, onto, IsRising, Adds, AddsThen, AllAdd, Comes}
+use Rattle.dpl_apart.specs.Rows.{Leaves, Fails, Failed, Loop, with_row, run, either, merge, onto, IsRising, Adds, AddsThen, AllAdd, Comes}
 
 -- ---- rows
 module _ {T : Type 0} (is_first : Index → Bool) (xs ys : Index → T) (t : Index) (row : T) where

@@ -1,13 +1,13 @@
 -- Rows: small loops, whole and by their parts.
-use Rattle.std.proofs.Common.{◌≡◌, ℕ, zero, suc, ◌%◌, ◌==◌, Bool, true, false, List, [], ◌∷◌, ℤ, pos, map, Result, Ok, Err, Option, Some, None, refl}
+use Rattle.std.proofs.Common.{◌≡◌, ℕ, ◌%◌, ◌==◌, List, [], ◌∷◌, ℤ, pos, map, Result, Ok, Err, refl}
 use Rattle.std.specs.Prelude.{◌*ℤ◌, neg_ℤ, if◌then◌else◌, unsigned_abs}
 use Rattle.std.specs.Int.{int_wrap}
-use Rattle.dpl_language.specs.Tree.{Op, Sum, Product, AllOf, AnyOf, BitAnd, Least, Greatest}
-use Rattle.dpl_language.specs.Values.{Value, Int, Truth, Index, Fault, fault, ZeroDivisor, Outside}
+use Rattle.dpl_language.specs.Tree.{Sum, AllOf, Greatest}
+use Rattle.dpl_language.specs.Values.{Value, Int, Index, Fault, fault, ZeroDivisor, Outside}
 use Rattle.dpl_language.specs.Arithmetic.{combined, unit_of}
 use Rattle.dpl_language.specs.Ranges.{same_index}
 use Rattle.dpl_language.specs.Expressions.{folded}
-use Rattle.dpl_apart.specs.Operands.{combined_words, unit_word, all_combined, unit_words}
+use Rattle.dpl_apart.specs.Operands.{combined_words, unit_word, all_combined}
 use Rattle.dpl_apart.specs.Rows.{Turned, Leaves, Fails, Ran, Finished, Failed, Loop, run, merge, onto, part_of, merged, numbered, place_in}
 use Rattle.dpl_apart.specs.Folds.{fold_loop, no_rows, fold_of}
 

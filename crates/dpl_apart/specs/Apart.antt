@@ -1,5 +1,5 @@
 -- Turns over a state that keep apart, as the turns of foralls do: what each does is told by its own row.
-use Rattle.std.specs.Prelude.{◌≡◌, Option, Some, None, List, [], ◌∷◌}
+use Rattle.std.specs.Prelude.{◌≡◌, Option, Some, List, [], ◌∷◌}
 use Rattle.dpl_language.specs.Values.{Index, InTurn, in_the_turn}
 use Rattle.dpl_language.specs.Outcome.{Deeds, Outcome, Done, Stop, Run}
 use Rattle.dpl_apart.specs.Rows.{Turned, Leaves, Fails, Ran, Finished, Failed, Loop, with_row}
