@@ -105,6 +105,10 @@ module _ {T V : Type 0} {IsOne : V → Type 0} {unit : V} (loop : Loop T V) (law
         | Fails f ↦ λ e. absurd (let no : Failed (loop.place t) f ≡ Finished end sum = sym (run-fails loop t ts rows a f e) ∙ h in cc)
       ] refl
 
+  leaves-first : (t : Index) (ts : List Index) (rows : Index → T) (a : V) (row : T) (v : V) (end : Index → T) (sum : V) → loop.turn t (rows t) ≡ Leaves row v
+      → run loop ts (with_row t row rows) (loop.join a v) ≡ Finished end sum → run loop (t ∷ ts) rows a ≡ Finished end sum
+  leaves-first t ts rows a row v end sum e h = run-leaves loop t ts rows a row v e ∙ h
+
   -- the row of an index that has no turn stays
   pub row-stays : (ts : List Index) (rows : Index → T) (a : V) (end : Index → T) (sum : V) (x : Index) → run loop ts rows a ≡ Finished end sum → times x ts ≡ 0 → end x ≡ rows x
   row-stays [] rows a end sum x h none = let e : rows ≡ end = cc in λ i. sym e i x
@@ -121,28 +125,35 @@ module _ {T V : Type 0} {IsOne : V → Type 0} {unit : V} (loop : Loop T V) (law
   joined : (a v : V) → IsOne a → IsOne v → IsOne (loop.join a v)
   joined a v ha hv = lawful.monoid.closed a v ha hv
 
-  -- a turn may be made before others
+  -- two turns in either order
+  two-turns : (u x : Index) (zs : List Index) (rows : Index → T) (a : V) (first second : T) (v w : V) → IsOne a → (u ≡ x → ⊥) → loop.turn x (rows x) ≡ Leaves first v → loop.turn u (rows u) ≡ Leaves second w
+      → run loop (u ∷ x ∷ zs) rows a ≡ run loop (x ∷ u ∷ zs) rows a
+  two-turns u x zs rows a first second v w ha apart of_x of_u =
+      let still_x : loop.turn x (with_row u second rows x) ≡ Leaves first v = ap (loop.turn x) (with_row-other u second rows x (not-same x u (λ e. apart (sym e)))) ∙ of_x in
+      let still_u : loop.turn u (with_row x first rows u) ≡ Leaves second w = ap (loop.turn u) (with_row-other x first rows u (not-same u x apart)) ∙ of_u in
+      run-leaves loop u (x ∷ zs) rows a second w of_u
+      ∙ run-leaves loop x zs (with_row u second rows) (loop.join a w) first v still_x
+      ∙ ap (λ rs. run loop zs rs (loop.join (loop.join a w) v)) (with_row-twice x u first second rows (λ e. apart (sym e)))
+      ∙ ap (run loop zs (with_row u second (with_row x first rows))) (to-first loop lawful.monoid a w v ha (added u (rows u) second w of_u) (added x (rows x) first v of_x))
+      ∙ sym (run-leaves loop x (u ∷ zs) rows a first v of_x ∙ run-leaves loop u zs (with_row x first rows) (loop.join a v) second w still_u)
+
+  -- a turn behind another one may be made before it
+  one-before : (u x : Index) (zs : List Index) (rows : Index → T) (a : V) (first : T) (v : V) (end : Index → T) (sum : V) → IsOne a → same_index u x ≡ false → loop.turn x (rows x) ≡ Leaves first v
+      → run loop (u ∷ zs) (with_row x first rows) (loop.join a v) ≡ Finished end sum → run loop (u ∷ x ∷ zs) rows a ≡ Finished end sum
+  one-before u x zs rows a first v end sum ha other of_x behind =
+      let apart : u ≡ x → ⊥ = λ e. let yes : same_index u x ≡ true = ap (same_index u) (sym e) ∙ same_index-refl u in let no : true ≡ false = sym yes ∙ other in cc in
+      let second = has-left u zs (with_row x first rows) (loop.join a v) end sum behind in
+      let of_u : loop.turn u (rows u) ≡ Leaves second.row second.adds = ap (loop.turn u) (sym (with_row-other x first rows u other)) ∙ second.turn in
+      two-turns u x zs rows a first second.row v second.adds ha apart of_x of_u ∙ run-leaves loop x (u ∷ zs) rows a first v of_x ∙ behind
+
+  -- and a turn behind several ones before these
   turn-first : (u : Index) (xs ys : List Index) (rows : Index → T) (a : V) (end : Index → T) (sum : V) → IsOne a → times u xs ≡ 0
       → run loop (xs ++ u ∷ ys) rows a ≡ Finished end sum → run loop (u ∷ (xs ++ ys)) rows a ≡ Finished end sum
   turn-first u [] ys rows a end sum ha none h = h
   turn-first u (x ∷ xs) ys rows a end sum ha none h =
       let first = has-left x (xs ++ u ∷ ys) rows a end sum h in
-      let not_here : once u x ≡ 0 = omega (arith, none) in
-      let not_there : times u xs ≡ 0 = omega (arith, none) in
-      let other : same_index u x ≡ false = once-other u x not_here in
-      let apart : u ≡ x → ⊥ = λ e. let yes : same_index u x ≡ true = ap (same_index u) (sym e) ∙ same_index-refl u in let no : true ≡ false = sym yes ∙ other in cc in
-      let hv = added x (rows x) first.row first.adds first.turn in
-      let second = has-left u (xs ++ ys) (with_row x first.row rows) (loop.join a first.adds) end sum (turn-first u xs ys (with_row x first.row rows) (loop.join a first.adds) end sum (joined a first.adds ha hv) not_there first.rest) in
-      let its_row : with_row x first.row rows u ≡ rows u = with_row-other x first.row rows u other in
-      let of_u : loop.turn u (rows u) ≡ Leaves second.row second.adds = ap (loop.turn u) (sym its_row) ∙ second.turn in
-      let hw = added u (rows u) second.row second.adds of_u in
-      let back : same_index x u ≡ false = not-same x u (λ e. apart (sym e)) in
-      let of_x : loop.turn x (with_row u second.row rows x) ≡ Leaves first.row first.adds = ap (loop.turn x) (with_row-other u second.row rows x back) ∙ first.turn in
-      run-leaves loop u (x ∷ (xs ++ ys)) rows a second.row second.adds of_u
-      ∙ run-leaves loop x (xs ++ ys) (with_row u second.row rows) (loop.join a second.adds) first.row first.adds of_x
-      ∙ ap (λ rs. run loop (xs ++ ys) rs (loop.join (loop.join a second.adds) first.adds)) (with_row-twice x u first.row second.row rows (λ e. apart (sym e)))
-      ∙ ap (run loop (xs ++ ys) (with_row u second.row (with_row x first.row rows))) (to-first loop lawful.monoid a second.adds first.adds ha hw hv)
-      ∙ second.rest
+      one-before u x (xs ++ ys) rows a first.row first.adds end sum ha (once-other u x (omega (arith, none))) first.turn
+      (turn-first u xs ys (with_row x first.row rows) (loop.join a first.adds) end sum (joined a first.adds ha (added x (rows x) first.row first.adds first.turn)) (omega (arith, none)) first.rest)
 
   -- the same turns in another order
   pub run-permuted : (us ts : List Index) (rows : Index → T) (a : V) (end : Index → T) (sum : V) → IsOne a → ((x : Index) → times x us ≡ times x ts)
@@ -160,8 +171,8 @@ module _ {T V : Type 0} {IsOne : V → Type 0} {unit : V} (loop : Loop T V) (law
       let parts = times-append x at.before (u ∷ at.behind) in
       let both = times-append x at.before at.behind in
       omega (arith, all, parts, both) in
-      run-leaves loop u us rows a left.row left.adds left.turn
-      ∙ run-permuted us (at.before ++ at.behind) (with_row u left.row rows) (loop.join a left.adds) end sum (joined a left.adds ha (added u (rows u) left.row left.adds left.turn)) others left.rest
+      leaves-first u us rows a left.row left.adds end sum left.turn
+      (run-permuted us (at.before ++ at.behind) (with_row u left.row rows) (loop.join a left.adds) end sum (joined a left.adds ha (added u (rows u) left.row left.adds left.turn)) others left.rest)
 
 -- ---- over a state
 -- what one end without a fault is, another is too
