@@ -6,13 +6,13 @@ use Rattle.std.proofs.lemmas.List.Sorted.{sum_by-IsPermutation}
 use Rattle.std.proofs.lemmas.List.Recursion.{is_sum_by}
 use Rattle.dpl_language.specs.Values.{Index}
 use Rattle.dpl_language.specs.Ranges.{same_index}
-use Rattle.dpl_language.specs.Outcome.{Deeds, Done, Stop, Run, in_order}
+use Rattle.dpl_language.specs.Outcome.{Deeds, Done, Run, in_order}
 use Rattle.dpl_rules.specs.AnyOrder.{EndsAs, InAnyOrder}
-use Rattle.dpl_apart.specs.Rows.{Turned, Leaves, Fails, Ran, Finished, Failed, Loop, with_row, run, IsRising, Adds, Comes, IsReducing}
+use Rattle.dpl_apart.specs.Rows.{Turned, Leaves, Fails, Finished, Failed, Loop, with_row, run, IsRising, Adds, IsReducing}
 use Rattle.dpl_apart.specs.Apart.{Holding, turn_left, loop_left, last_index, IsApart}
 use Rattle.dpl_apart.proofs.Indices.{same_index-refl, same_index-sound, not-same}
-use Rattle.dpl_apart.proofs.Split.{run-leaves, run-fails, all-add, to-first, run-comes}
-use Rattle.dpl_apart.proofs.InOrder.{in_order-run}
+use Rattle.dpl_apart.proofs.Split.{run-leaves, run-fails, to-first}
+use Rattle.dpl_apart.proofs.InOrder.{in_order-run, has-held}
 
 -- how often an index is listed
 abbrev once : Index → Index → ℕ
@@ -175,32 +175,7 @@ module _ {T V : Type 0} {IsOne : V → Type 0} {unit : V} (loop : Loop T V) (law
       (run-permuted us (at.before ++ at.behind) (with_row u left.row rows) (loop.join a left.adds) end sum (joined a left.adds ha (added u (rows u) left.row left.adds left.turn)) others left.rest)
 
 -- ---- over a state
--- what one end without a fault is, another is too
-done-parts : {S : Type 0} (s u : S) (done made : Deeds) → Done s done ≡ Done u made → (s ≡ u) × (done ≡ made)
-done-parts s u done made e = let states : s ≡ u = cc in let deeds : done ≡ made = cc in (states, deeds)
-
 module _ {T V S : Type 0} {IsOne : V → Type 0} {unit : V} (holding : Holding T V S) (loop : Loop T V) (turn : Index → Run S) (lawful : IsReducing IsOne unit loop) (apart : IsApart IsOne holding loop turn) where
-  -- turns without a fault leave a state that holds rows and reduce variables
-  record HasHeld (ts : List Index) (last : Option Index) (rows : Index → T) (a : V) (done : Deeds) (u : S) (made : Deeds) : Type 0 where
-    end : Index → T
-    sum : V
-    ran : run loop ts rows a ≡ Finished end sum
-    is_one : IsOne sum
-    state : holding (last_index last ts) end sum ≡ u
-    deeds : done ≡ made
-
-  has-held : (ts : List Index) (last : Option Index) (rows : Index → T) (a : V) (done : Deeds) (u : S) (made : Deeds) → IsOne a
-      → in_order turn ts (holding last rows a) done ≡ Done u made → HasHeld ts last rows a done u made
-  has-held ts last rows a done u made ha h = by (run loop ts rows a) refl where
-    by : (r : Ran T V) → run loop ts rows a ≡ r → HasHeld ts last rows a done u made
-    by (Finished end sum) e =
-        let ends : Done (holding (last_index last ts) end sum) done ≡ Done u made =
-        sym (in_order-run holding loop turn lawful apart ts last rows a done ha ∙ ap (loop_left holding (last_index last ts) done) e) ∙ h in
-        let parts = done-parts (holding (last_index last ts) end sum) u done made ends in
-        record { end = end; sum = sum; ran = e; is_one = subst (Comes IsOne) e (run-comes loop lawful.monoid ts rows a ha (all-add IsOne loop lawful.adds ts rows)); state = parts.0; deeds = parts.1 }
-    by (Failed k f) e =
-        absurd (let no : Stop f done ≡ Done u made = sym (in_order-run holding loop turn lawful apart ts last rows a done ha ∙ ap (loop_left holding (last_index last ts) done) e) ∙ h in cc)
-
   ends-alike : (t : Index) (rows ends : Index → T) (a b : V) (done made : Deeds) (w : Turned T V)
       → EndsAs (turn_left holding loop.join t rows a done w) (turn_left holding loop.join t ends b made w)
   ends-alike t rows ends a b done made (Leaves row v) = (_, _, refl)
@@ -210,7 +185,7 @@ module _ {T V S : Type 0} {IsOne : V → Type 0} {unit : V} (holding : Holding T
   pub turn-behind : (before : List Index) (t : Index) (last : Option Index) (rows : Index → T) (a : V) (done : Deeds) (u : S) (made : Deeds) → IsOne a → times t before ≡ 0
       → in_order turn before (holding last rows a) done ≡ Done u made → EndsAs (turn t (holding last rows a) done) (turn t u made)
   turn-behind before t last rows a done u made ha none h =
-      let held = has-held before last rows a done u made ha h in
+      let held = has-held holding loop turn lawful apart before last rows a done u made ha h in
       let its_row : held.end t ≡ rows t = row-stays loop lawful before rows a held.end held.sum t held.ran none in
       let alone : turn_left holding loop.join t rows a done (loop.turn t (rows t)) ≡ turn t (holding last rows a) done = sym (apart.each t last rows a done ha) in
       let behind : turn_left holding loop.join t held.end held.sum made (loop.turn t (rows t)) ≡ turn t u made =
@@ -224,7 +199,7 @@ module _ {T V S : Type 0} {IsOne : V → Type 0} {unit : V} (holding : Holding T
       → ((l m : Option Index) (ends : Index → T) (sum : V) → holding l ends sum ≡ holding m ends sum)
       → in_order turn ts (holding last rows a) done ≡ Done u made → in_order turn us (holding last rows a) done ≡ Done u made
   leaves-same us ts last rows a done u made ha same unseen h =
-      let held = has-held ts last rows a done u made ha h in
+      let held = has-held holding loop turn lawful apart ts last rows a done u made ha h in
       in_order-run holding loop turn lawful apart us last rows a done ha
       ∙ ap (loop_left holding (last_index last us) done) (run-permuted loop lawful us ts rows a held.end held.sum ha same held.ran)
       ∙ ap (λ s. Done s done) (unseen (last_index last us) (last_index last ts) held.end held.sum ∙ held.state)

@@ -8,8 +8,9 @@ pub mod Split
 pub mod Parts
 pub mod Folds
 pub mod Places
-pub mod Located
 -- Turns that keep apart, over a state.
 pub mod InOrder
+pub mod Located
 pub mod AnyOrder
+-- Rows.
 pub mod Worked

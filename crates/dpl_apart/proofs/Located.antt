@@ -1,14 +1,19 @@
 -- The parts of a map's locales, each of which is the part that the map gives it.
-use Rattle.std.proofs.Common.{◌≡◌, ℕ, zero, suc, ◌+◌, ◌<◌, ◌≤◌, ◌==◌, ◌||◌, Bool, true, false, List, [], ◌∷◌, get_or, refl, arith}
-use Rattle.std.specs.List.{AllByRecursion, list_any}
+use Rattle.std.proofs.Common.{◌≡◌, ℕ, zero, suc, ◌+◌, ◌<◌, ◌≤◌, ◌==◌, ◌||◌, Bool, true, false, List, [], ◌∷◌, length, get_or, Option, refl, ap, ◌∙◌, arith}
+use Rattle.std.specs.List.{AllByRecursion, list_any, All}
 use Rattle.std.proofs.lemmas.Bool.Decides.{nat_tests}
 use Rattle.dpl_sets.specs.Ranges.{RangeValue}
 use Rattle.dpl_sets.specs.Indices.{indices}
 use Rattle.dpl_map.specs.Maps.{AxisValue, owner}
 use Rattle.dpl_map.specs.Parts.{part}
+use Rattle.dpl_map.specs.Cuts.{AreCut}
 use Rattle.dpl_language.specs.Values.{Index}
+use Rattle.dpl_language.specs.Outcome.{Deeds, Run, in_order}
 use Rattle.dpl_apart.specs.Operands.{IsCommutativeMonoid}
-use Rattle.dpl_apart.specs.Rows.{Ran, Finished, Loop, run, onto, part_of, is_owned, dealt, merged, AreApart, numbered, IsRising, AllAdd}
+use Rattle.dpl_apart.specs.Rows.{Ran, Finished, Loop, run, onto, part_of, is_owned, dealt, merged, AreApart, numbered, IsRising, AllAdd, IsReducing}
+use Rattle.dpl_apart.specs.Apart.{Holding, loop_left, last_index, IsApart}
+use Rattle.dpl_apart.proofs.Split.{all-add}
+use Rattle.dpl_apart.proofs.InOrder.{in_order-run}
 use Rattle.dpl_apart.proofs.Parts.{run-merged}
 
 -- ---- locales that are numbered on
@@ -49,3 +54,22 @@ module _ {T V : Type 0} {IsOne : V → Type 0} {unit : V} (loop : Loop T V) (mon
     where
       owned : (t : Index) → is_owned (owner axes) (numbered 0 n) t ≡ true
       owned t = let less = below t in among (owner axes t) 0 n (omega arith) (omega (arith, less))
+
+-- ---- over a state: all turns in order, by what the locales' parts come to
+module _ {T V S : Type 0} {IsOne : V → Type 0} {unit : V} (holding : Holding T V S) (loop : Loop T V) (turn : Index → Run S) (lawful : IsReducing IsOne unit loop) (apart : IsApart IsOne holding loop turn) where
+  pub in_order-located : (axes : List AxisValue) (ranges : List RangeValue) (rows : ℕ → Index → T) (n : ℕ) → ((t : Index) → owner axes t < n) → IsRising loop.place (indices ranges)
+      → (last : Option Index) (a : V) (done : Deeds) → IsOne a
+      → in_order turn (indices ranges) (holding last (dealt (owner axes) rows) a) done
+      ≡ loop_left holding (last_index last (indices ranges)) done (onto loop.join a (merged loop.join (owner axes) (located loop lawful.monoid axes ranges rows) (Finished (dealt (owner axes) rows) unit) (numbered 0 n)))
+  in_order-located axes ranges rows n below rising last a done ha =
+      in_order-run holding loop turn lawful apart (indices ranges) last (dealt (owner axes) rows) a done ha
+      ∙ ap (loop_left holding (last_index last (indices ranges)) done)
+      (run-located loop lawful.monoid axes ranges rows n below rising (λ l. all-add IsOne loop lawful.adds (part ranges axes l) (rows l)) a ha)
+
+-- ---- a part that is cut into domains, each of which has a number
+pub cut-owned : {P : Type 0} (elements : P → List Index) (ts : List Index) (pieces : List P) (cut : AreCut elements ts pieces)
+    → AreApart (numbered 0 (length pieces)) × All (λ t. is_owned cut.number (numbered 0 (length pieces)) t ≡ true) ts
+cut-owned elements ts pieces cut = (
+  numbered-apart 0 (length pieces),
+  λ k d within. let less = cut.numbered k d within in among (cut.number (get_or ts k d)) 0 (length pieces) (omega arith) (omega (arith, less)),
+)

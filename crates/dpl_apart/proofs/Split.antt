@@ -6,7 +6,7 @@ use Rattle.dpl_language.specs.Values.{Index, Fault}
 use Rattle.dpl_language.specs.Ranges.{same_index}
 use Rattle.dpl_apart.specs.Operands.{IsCommutativeMonoid}
 use Rattle.dpl_apart.proofs.Indices.{same_index-sound}
-use Rattle.dpl_apart.specs.Rows.{Leaves, Fails, Failed, Loop, with_row, run, either, merge, onto, IsRising, Adds, AddsThen, AllAdd, Comes}
+use Rattle.dpl_apart.specs.Rows.{Leaves, Fails, Failed, Loop, with_row, run, either, merge, onto, IsRising, Adds, AddsThen, AllAdd, Comes, Turned}
 
 -- ---- rows
 module _ {T : Type 0} (is_first : Index → Bool) (xs ys : Index → T) (t : Index) (row : T) where
@@ -84,6 +84,19 @@ module _ {T V : Type 0} (loop : Loop T V) where
           | Leaves row v ↦ λ e. rw (run-leaves x xs rows a row v e) (before-first xs (with_row x row rows) (loop.join a v) h.1)
           | Fails g ↦ λ e. rw (run-fails x xs rows a g e, not_less (loop.place x) (loop.place t) h.0) refl
         ] refl
+
+-- loops whose turns do the same at each index of a list run it alike
+pub run-alike : {T V : Type 0} (loop : Loop T V) (other : Index → T → Turned T V) (ts : List Index) (rows : Index → T) (a : V) → AllByRecursion (λ t. (row : T) → loop.turn t row ≡ other t row) ts
+    → run loop ts rows a ≡ run (record loop { turn = other }) ts rows a
+run-alike loop other [] rows a same = refl
+run-alike loop other (t ∷ ts) rows a same =
+    let others : Loop _ _ = record loop { turn = other } in
+    elim (loop.turn t (rows t)) as (λ w. loop.turn t (rows t) ≡ w → run loop (t ∷ ts) rows a ≡ run others (t ∷ ts) rows a) [
+      | Leaves row v ↦ λ e.
+          run-leaves loop t ts rows a row v e ∙ run-alike loop other ts (with_row t row rows) (loop.join a v) same.1
+          ∙ sym (run-leaves others t ts rows a row v (sym (same.0 (rows t)) ∙ e))
+      | Fails f ↦ λ e. run-fails loop t ts rows a f e ∙ sym (run-fails others t ts rows a f (sym (same.0 (rows t)) ∙ e))
+    ] refl
 
 -- ---- what turns add
 module _ {T V : Type 0} (IsOne : V → Type 0) (loop : Loop T V) where
