@@ -12,5 +12,7 @@ pub mod Places
 pub mod InOrder
 pub mod Located
 pub mod AnyOrder
+-- Turns over memories.
+pub mod Memories
 -- Rows.
 pub mod Worked

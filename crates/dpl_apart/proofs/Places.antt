@@ -10,14 +10,14 @@ use Rattle.dpl_language.specs.Ranges.{same_index}
 use Rattle.dpl_apart.specs.Rows.{IsRising, place_in}
 use Rattle.dpl_apart.proofs.Indices.{same_index-refl, not-same}
 
-distinct-rest : (t : Index) (ts : List Index) → IsDistinct (t ∷ ts) → IsDistinct ts
+pub distinct-rest : (t : Index) (ts : List Index) → IsDistinct (t ∷ ts) → IsDistinct ts
 distinct-rest t ts distinct j k x here there = let e : suc j ≡ suc k = distinct (suc j) (suc k) x here there in omega (arith, e)
 
-distinct-first : (t : Index) (ts : List Index) → IsDistinct (t ∷ ts) → (k : ℕ) → slice_get ts k ≡ Some t → ⊥
+pub distinct-first : (t : Index) (ts : List Index) → IsDistinct (t ∷ ts) → (k : ℕ) → slice_get ts k ≡ Some t → ⊥
 distinct-first t ts distinct k at = let e : 0 ≡ suc k = distinct 0 (suc k) t refl at in absurd cc
 
 -- behind its first index a list has others
-others : (t : Index) (ts : List Index) → ((k : ℕ) → slice_get ts k ≡ Some t → ⊥) → AllByRecursion (λ x. same_index x t ≡ false) ts
+pub others : (t : Index) (ts : List Index) → ((k : ℕ) → slice_get ts k ≡ Some t → ⊥) → AllByRecursion (λ x. same_index x t ≡ false) ts
 others t [] none = tt
 others t (x ∷ ts) none = (not-same x t (λ e. none 0 (ap Some e)), others t ts (λ k. none (suc k)))
 

@@ -3,3 +3,4 @@ pub mod Operands
 pub mod Rows
 pub mod Folds
 pub mod Apart
+pub mod Memories

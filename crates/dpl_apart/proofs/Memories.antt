@@ -1,0 +1,116 @@
+-- Memories that hold rows: each holds its own, and a worker's are those of the whole memory at its own indices.
+use Rattle.std.proofs.Common.{◌≡◌, ℕ, zero, suc, ◌+◌, ◌<◌, Bool, true, false, cond, ℤ, pos, List, [], ◌∷◌, Option, Some, None, map, length, get_or, set, refl, sym, ap, ◌∙◌, subst, arith}
+use Rattle.std.specs.Prelude.{if◌then◌else◌, unwrap_or}
+use Rattle.std.specs.List.{AllByRecursion, list_any}
+use Rattle.std.proofs.lemmas.List.{ext_get_or, set-get_or}
+use Rattle.dpl_domain.proofs.DistinctLemmas.{IsDistinct}
+use Rattle.dpl_language.specs.Tree.{Op}
+use Rattle.dpl_language.specs.Values.{Index}
+use Rattle.dpl_language.specs.Ranges.{same_index}
+use Rattle.dpl_memory.specs.Memory.{Held, Memory, no_array, array_at, word_at, with_word, held_at, held_with, is_among}
+use Rattle.dpl_apart.specs.Rows.{with_row}
+use Rattle.dpl_apart.specs.Memories.{Changes, Row, held_by, held_by_if, with_elements, with_words, words_in, held_in, row_in}
+use Rattle.dpl_apart.proofs.Indices.{same_index-refl, same_index-sound, not-same}
+use Rattle.dpl_apart.proofs.Places.{distinct-rest, distinct-first, others}
+
+-- an array that has a word for each index that it has, and no index twice
+pub record IsPiece (a : Held) : Type 0 where
+  pub distinct : IsDistinct a.keys
+  pub long : length a.words ≡ length a.keys
+
+-- ---- words by their indices
+map-same : {A B : Type 0} (f g : A → B) (xs : List A) → AllByRecursion (λ x. f x ≡ g x) xs → map f xs ≡ map g xs
+map-same f g [] h = refl
+map-same f g (x ∷ xs) h = let here = h.0 in let rest = map-same f g xs h.1 in λ i. here i ∷ rest i
+
+each-weaker : {A : Type 0} (P Q : A → Type 0) (xs : List A) → ((x : A) → P x → Q x) → AllByRecursion P xs → AllByRecursion Q xs
+each-weaker P Q [] go h = tt
+each-weaker P Q (x ∷ xs) go h = (go x h.0, each-weaker P Q xs go h.1)
+
+-- words that are read by their indices are these words
+pub words-read : (keys : List Index) (ws : List ℤ) → IsDistinct keys → length ws ≡ length keys → map (λ t. unwrap_or (word_at t keys ws) (pos 0)) keys ≡ ws
+words-read [] [] distinct long = refl
+words-read [] (w ∷ ws) distinct long = absurd (omega (arith, long))
+words-read (k ∷ ks) [] distinct long = absurd (omega (arith, long))
+words-read (k ∷ ks) (w ∷ ws) distinct long =
+    let read : List Index → List ℤ → Index → ℤ = λ keys ws t. unwrap_or (word_at t keys ws) (pos 0) in
+    let here : read (k ∷ ks) (w ∷ ws) k ≡ w = rw (same_index-refl k) refl in
+    let further : (x : Index) → same_index x k ≡ false → read (k ∷ ks) (w ∷ ws) x ≡ read ks ws x = λ x e. rw e refl in
+    let rest : map (read (k ∷ ks) (w ∷ ws)) ks ≡ ws =
+    map-same (read (k ∷ ks) (w ∷ ws)) (read ks ws) ks (each-weaker _ _ ks further (others k ks (distinct-first k ks distinct)))
+    ∙ words-read ks ws (distinct-rest k ks distinct) (omega (arith, long)) in
+    λ i. here i ∷ rest i
+
+-- a word that stands by its index is found there, and nowhere else
+pub word-found : (t : Index) (f : Index → ℤ) (keys : List Index) → word_at t keys (map f keys) ≡ (if list_any (same_index t) keys then Some (f t) else None)
+word-found t f [] = refl
+word-found t f (k ∷ ks) = by (same_index t k) refl (word-found t f ks) where
+  by : (b : Bool) → same_index t k ≡ b → word_at t ks (map f ks) ≡ (if list_any (same_index t) ks then Some (f t) else None)
+      → word_at t (k ∷ ks) (map f (k ∷ ks)) ≡ (if list_any (same_index t) (k ∷ ks) then Some (f t) else None)
+  by true e rest = rw e (ap (λ x. Some (f x)) (sym (same_index-sound t k e)))
+  by false e rest = rw e rest
+
+-- a word that is put by its index stands there
+pub word-put : (t : Index) (w : ℤ) (f : Index → ℤ) (keys : List Index) → IsDistinct keys → with_word t w keys (map f keys) ≡ map (λ x. if same_index x t then w else f x) keys
+word-put t w f [] distinct = refl
+word-put t w f (k ∷ ks) distinct = by (same_index t k) refl (word-put t w f ks (distinct-rest k ks distinct)) where
+  by : (b : Bool) → same_index t k ≡ b → with_word t w ks (map f ks) ≡ map (λ x. if same_index x t then w else f x) ks
+      → with_word t w (k ∷ ks) (map f (k ∷ ks)) ≡ map (λ x. if same_index x t then w else f x) (k ∷ ks)
+  by true e rest =
+      let same : t ≡ k = same_index-sound t k e in
+      let back : same_index k t ≡ true = ap (same_index k) same ∙ same_index-refl k in
+      let none : AllByRecursion (λ x. same_index x t ≡ false) ks = subst (λ k. AllByRecursion (λ x. same_index x k ≡ false) ks) (sym same) (others k ks (distinct-first k ks distinct)) in
+      let further : (x : Index) → same_index x t ≡ false → f x ≡ (if same_index x t then w else f x) = λ x e. rw e refl in
+      let behind : map f ks ≡ map (λ x. if same_index x t then w else f x) ks = map-same f (λ x. if same_index x t then w else f x) ks (each-weaker _ _ ks further none) in
+      rw (e, back) (ap (λ ws. w ∷ ws) behind)
+  by false e rest =
+      let back : same_index k t ≡ false = not-same k t (λ same. let yes : same_index t k ≡ true = ap (same_index t) same ∙ same_index-refl t in let no : true ≡ false = sym yes ∙ e in cc) in
+      rw (e, back) (ap (λ ws. f k ∷ ws) rest)
+
+-- ---- arrays by slots
+held-none : (b : Bool) (f : Index → ℤ) → no_array ≡ held_by_if b f no_array
+held-none true f = refl
+held-none false f = refl
+
+pub element-slot : (first slot : ℕ) (written : List ℕ) (rows : Index → Row) (hs : List Held)
+    → get_or (with_elements first written rows hs) slot no_array ≡ held_by_if (is_among (first + slot) written) (λ t. (rows t).elements (first + slot)) (get_or hs slot no_array)
+element-slot first slot written rows [] = held-none (is_among (first + slot) written) (λ t. (rows t).elements (first + slot))
+element-slot first zero written rows (a ∷ more) =
+    let same : first ≡ first + 0 = omega arith in
+    ap (λ n. held_by_if (is_among n written) (λ t. (rows t).elements n) a) same
+element-slot first (suc slot) written rows (a ∷ more) =
+    let same : (first + 1) + slot ≡ first + suc slot = omega arith in
+    element-slot (first + 1) slot written rows more ∙ ap (λ n. held_by_if (is_among n written) (λ t. (rows t).elements n) (get_or more slot no_array)) same
+
+element-length : (first : ℕ) (written : List ℕ) (rows : Index → Row) (hs : List Held) → length (with_elements first written rows hs) ≡ length hs
+element-length first written rows [] = refl
+element-length first written rows (a ∷ more) = ap suc (element-length (first + 1) written rows more)
+
+-- ---- a memory holds its own rows
+own-words : (ps : List (ℕ × Op)) (m : Memory) → with_words ps (words_in ps m) m.words.numbers ≡ m.words.numbers
+own-words [] m = refl
+own-words (p ∷ ps) m = ap (λ ns. set ns p.0 (get_or m.words.numbers p.0 (pos 0))) (own-words ps m) ∙ set-get_or m.words.numbers p.0 (pos 0)
+
+module _ (h : Changes) (m : Memory) (pieces : (slot : ℕ) → is_among slot h.written ≡ true → IsPiece (array_at slot m)) where
+  own-array : (slot : ℕ) (b : Bool) → is_among slot h.written ≡ b → held_by_if b (λ t. (row_in h m t).elements slot) (array_at slot m) ≡ array_at slot m
+  own-array slot false e = refl
+  own-array slot true e =
+      let a : Held = array_at slot m in
+      let piece = pieces slot e in
+      let by_index : (λ (t : Index). (row_in h m t).elements slot) ≡ (λ t. unwrap_or (held_at t a) (pos 0)) = λ i t. cond (e i) (unwrap_or (held_at t a) (pos 0)) (pos 0) in
+      ap (λ f. held_by f a) by_index ∙ ap (λ ws. record a { words = ws }) (words-read a.keys a.words piece.distinct piece.long)
+
+  own-arrays : with_elements 0 h.written (row_in h m) m.arrays ≡ m.arrays
+  own-arrays =
+      ext_get_or no_array (with_elements 0 h.written (row_in h m) m.arrays) m.arrays (element-length 0 h.written (row_in h m) m.arrays)
+      (λ slot within.
+      let same : 0 + slot ≡ slot = omega arith in
+      element-slot 0 slot h.written (row_in h m) m.arrays
+      ∙ ap (λ n. held_by_if (is_among n h.written) (λ t. (row_in h m t).elements n) (array_at slot m)) same
+      ∙ own-array slot (is_among slot h.written) refl)
+
+  pub holds-own : held_in h m None (row_in h m) (words_in h.reduced m) ≡ m
+  holds-own =
+      let numbers : with_words h.reduced (words_in h.reduced m) m.words.numbers ≡ m.words.numbers = own-words h.reduced m in
+      let arrays = own-arrays in
+      λ i. record m { words = record m.words { numbers = numbers i }; arrays = arrays i }

@@ -1,0 +1,113 @@
+-- How a memory holds rows: the elements of the arrays that turns write, by their indices, and what each turn leaves in the slots that begin
+-- anew in it. A worker's memory holds those of its own indices alone, since it has no other elements.
+use Rattle.std.specs.Prelude.{ℕ, ◌+◌, ℤ, pos, Bool, true, false, if◌then◌else◌, Option, Some, None, List, [], ◌∷◌, get_or, set, map, unwrap_or}
+use Rattle.dpl_sets.specs.TextRanges.{TextRange}
+use Rattle.dpl_language.specs.Tree.{Op}
+use Rattle.dpl_language.specs.Values.{Index}
+use Rattle.dpl_language.specs.Outcome.{Outcome, Done, Stop, Waits, Run, no_deeds}
+use Rattle.dpl_words.specs.Words.{no_range}
+use Rattle.dpl_memory.specs.Memory.{Held, Memory, no_tuple, array_at, held_at, is_among}
+use Rattle.dpl_apart.specs.Operands.{all_combined, unit_words, AreExact}
+use Rattle.dpl_apart.specs.Rows.{Turned, Leaves, Fails, Loop, Adds}
+use Rattle.dpl_apart.specs.Apart.{IsApart}
+
+-- What turns that keep apart may change, by slots: the elements of some arrays, each turn those at its own index; reduce variables, by
+-- their operators; and what begins anew in each turn.
+pub record Changes : Type 0 where
+  pub written : List ℕ
+  pub reduced : List (ℕ × Op)
+  pub anew : List ℕ
+
+-- what an index has, by slots: its elements of written arrays; and what its turn has left in the slots that begin anew
+pub record Row : Type 0 where
+  pub elements : ℕ → ℤ
+  pub numbers : ℕ → ℤ
+  pub ranges : ℕ → TextRange
+  pub tuples : ℕ → Index
+
+-- ELEMENTS
+-- an array that has such words at the indices which it has
+abbrev pub held_by : (Index → ℤ) → Held → Held
+held_by f a = record a { words = map f a.keys }
+
+abbrev pub held_by_if : Bool → (Index → ℤ) → Held → Held
+held_by_if true f a = held_by f a
+held_by_if false f a = a
+
+-- the written ones of the arrays from a slot on, with the elements of rows
+abbrev pub with_elements : ℕ → List ℕ → (Index → Row) → List Held → List Held
+with_elements first written rows [] = []
+with_elements first written rows (a ∷ more) =
+    held_by_if (is_among first written) (λ t. (rows t).elements first) a ∷ with_elements (first + 1) written rows more
+
+-- REDUCE VARIABLES
+abbrev pub with_words : List (ℕ × Op) → List ℤ → List ℤ → List ℤ
+with_words (p ∷ ps) (w ∷ ws) numbers = set (with_words ps ws numbers) p.0 w
+with_words _ _ numbers = numbers
+
+abbrev pub words_in : List (ℕ × Op) → Memory → List ℤ
+words_in ps s = map (λ (p : ℕ × Op). get_or s.words.numbers p.0 (pos 0)) ps
+
+abbrev pub operators_of : List (ℕ × Op) → List Op
+operators_of ps = map (λ (p : ℕ × Op). p.1) ps
+
+-- WHAT BEGINS ANEW
+abbrev pub with_left : List ℕ → Row → Memory → Memory
+with_left [] row s = s
+with_left (slot ∷ slots) row s =
+    let rest : Memory = with_left slots row s in
+    record rest {
+      words = record rest.words {
+        numbers = set rest.words.numbers slot (row.numbers slot);
+        ranges = set rest.words.ranges slot (row.ranges slot);
+      };
+      tuples = set rest.tuples slot (row.tuples slot);
+    }
+
+-- what the last turn has left, if there was one
+abbrev pub with_last : List ℕ → Option Index → (Index → Row) → Memory → Memory
+with_last anew None rows s = s
+with_last anew (Some t) rows s = with_left anew (rows t) s
+
+-- A MEMORY THAT HOLDS ROWS and reduce variables, and is another one in all that turns don't change
+abbrev pub held_in : Changes → Memory → Option Index → (Index → Row) → List ℤ → Memory
+held_in h b last rows a =
+    with_last h.anew last rows
+    (record b {
+      words = record b.words { numbers = with_words h.reduced a b.words.numbers };
+      arrays = with_elements 0 h.written rows b.arrays;
+    })
+
+-- the row of an index in a memory: nothing of what turns don't change
+abbrev pub row_in : Changes → Memory → Index → Row
+row_in h s t = record {
+  elements = λ slot. if is_among slot h.written then unwrap_or (held_at t (array_at slot s)) (pos 0) else pos 0;
+  numbers = λ slot. if is_among slot h.anew then get_or s.words.numbers slot (pos 0) else pos 0;
+  ranges = λ slot. if is_among slot h.anew then get_or s.words.ranges slot no_range else no_range;
+  tuples = λ slot. if is_among slot h.anew then get_or s.tuples slot no_tuple else no_tuple;
+}
+
+-- THE LOOP OF TURNS OVER MEMORIES
+-- what a turn's end says of its row and of what it has added; a turn of a forall doesn't wait
+abbrev pub turned_in : Changes → Index → Row → Outcome Memory → Turned Row (List ℤ)
+turned_in h t row (Done s done) = Leaves (row_in h s t) (words_in h.reduced s)
+turned_in h t row (Stop f done) = Fails f
+turned_in h t row (Waits at c op done) = Leaves row (unit_words (operators_of h.reduced))
+
+-- what the turn of an index does with its row, where nothing is added before it
+abbrev pub turn_alone : Changes → Memory → (Index → Run Memory) → Index → Row → Turned Row (List ℤ)
+turn_alone h b turn t row =
+    turned_in h t row (turn t (held_in h b None (λ x. row) (unit_words (operators_of h.reduced))) no_deeds)
+
+abbrev pub loop_in : Changes → Memory → (Index → ℕ) → (Index → Run Memory) → Loop Row (List ℤ)
+loop_in h b place turn = record {
+  turn = turn_alone h b turn;
+  join = all_combined (operators_of h.reduced);
+  place = place;
+}
+
+-- Turns that keep apart over a memory: whatever rows it holds and whatever was added before, each does with its own row what it does
+-- alone, and what it adds may be put together in any order.
+pub record KeepApart (h : Changes) (b : Memory) (place : Index → ℕ) (turn : Index → Run Memory) : Type 0 where
+  pub apart : IsApart (AreExact (operators_of h.reduced)) (held_in h b) (loop_in h b place turn) turn
+  pub adds : (t : Index) (row : Row) → Adds (AreExact (operators_of h.reduced)) (turn_alone h b turn t row)
