@@ -14,5 +14,6 @@ pub mod Located
 pub mod AnyOrder
 -- Turns over memories.
 pub mod Memories
+pub mod Foralls
 -- Rows.
 pub mod Worked

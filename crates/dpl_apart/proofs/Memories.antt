@@ -1,5 +1,5 @@
 -- Memories that hold rows: each holds its own, and a worker's are those of the whole memory at its own indices.
-use Rattle.std.proofs.Common.{◌≡◌, ℕ, zero, suc, ◌+◌, ◌<◌, Bool, true, false, cond, ℤ, pos, List, [], ◌∷◌, Option, Some, None, map, length, get_or, set, refl, sym, ap, ◌∙◌, subst, arith}
+use Rattle.std.proofs.Common.{◌≡◌, ℕ, zero, suc, ◌+◌, Bool, true, false, cond, ℤ, pos, List, [], ◌∷◌, Option, Some, None, map, length, get_or, set, refl, sym, ap, ◌∙◌, subst, arith}
 use Rattle.std.specs.Prelude.{if◌then◌else◌, unwrap_or}
 use Rattle.std.specs.List.{AllByRecursion, list_any}
 use Rattle.std.proofs.lemmas.List.{ext_get_or, set-get_or}
@@ -7,9 +7,8 @@ use Rattle.dpl_domain.proofs.DistinctLemmas.{IsDistinct}
 use Rattle.dpl_language.specs.Tree.{Op}
 use Rattle.dpl_language.specs.Values.{Index}
 use Rattle.dpl_language.specs.Ranges.{same_index}
-use Rattle.dpl_memory.specs.Memory.{Held, Memory, no_array, array_at, word_at, with_word, held_at, held_with, is_among}
-use Rattle.dpl_apart.specs.Rows.{with_row}
-use Rattle.dpl_apart.specs.Memories.{Changes, Row, held_by, held_by_if, with_elements, with_words, words_in, held_in, row_in}
+use Rattle.dpl_memory.specs.Memory.{Held, Memory, no_array, array_at, word_at, with_word, held_at, is_among}
+use Rattle.dpl_apart.specs.Memories.{Changes, Row, held_by, held_by_if, with_elements, with_words, words_in, with_left, with_last, held_in, row_in}
 use Rattle.dpl_apart.proofs.Indices.{same_index-refl, same_index-sound, not-same}
 use Rattle.dpl_apart.proofs.Places.{distinct-rest, distinct-first, others}
 
@@ -114,3 +113,32 @@ module _ (h : Changes) (m : Memory) (pieces : (slot : ℕ) → is_among slot h.w
       let numbers : with_words h.reduced (words_in h.reduced m) m.words.numbers ≡ m.words.numbers = own-words h.reduced m in
       let arrays = own-arrays in
       λ i. record m { words = record m.words { numbers = numbers i }; arrays = arrays i }
+
+-- ---- what a memory that holds rows has
+left-arrays : (anew : List ℕ) (row : Row) (s : Memory) → (with_left anew row s).arrays ≡ s.arrays
+left-arrays [] row s = refl
+left-arrays (slot ∷ slots) row s = left-arrays slots row s
+
+last-arrays : (anew : List ℕ) (last : Option Index) (rows : Index → Row) (s : Memory) → (with_last anew last rows s).arrays ≡ s.arrays
+last-arrays anew None rows s = refl
+last-arrays anew (Some t) rows s = left-arrays anew (rows t) s
+
+module _ (h : Changes) (b : Memory) (last : Option Index) (rows : Index → Row) (a : List ℤ) where
+  pub held-arrays : (held_in h b last rows a).arrays ≡ with_elements 0 h.written rows b.arrays
+  held-arrays = last-arrays h.anew last rows _
+
+  pub held-array : (slot : ℕ) → array_at slot (held_in h b last rows a) ≡ held_by_if (is_among slot h.written) (λ t. (rows t).elements slot) (array_at slot b)
+  held-array slot =
+      let same : 0 + slot ≡ slot = omega arith in
+      ap (λ hs. get_or hs slot no_array) held-arrays ∙ element-slot 0 slot h.written rows b.arrays
+      ∙ ap (λ n. held_by_if (is_among n h.written) (λ t. (rows t).elements n) (array_at slot b)) same
+
+  -- of a written array, the elements of the rows at the indices that it has
+  pub held-element : (slot : ℕ) (t : Index) → is_among slot h.written ≡ true
+      → held_at t (array_at slot (held_in h b last rows a)) ≡ (if list_any (same_index t) (array_at slot b).keys then Some ((rows t).elements slot) else None)
+  held-element slot t e =
+      ap (held_at t) (held-array slot ∙ ap (λ c. held_by_if c (λ t. (rows t).elements slot) (array_at slot b)) e) ∙ word-found t (λ t. (rows t).elements slot) (array_at slot b).keys
+
+  -- and any other array as it is
+  pub other-array : (slot : ℕ) → is_among slot h.written ≡ false → array_at slot (held_in h b last rows a) ≡ array_at slot b
+  other-array slot e = held-array slot ∙ ap (λ c. held_by_if c (λ t. (rows t).elements slot) (array_at slot b)) e

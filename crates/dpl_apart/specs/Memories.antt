@@ -8,7 +8,7 @@ use Rattle.dpl_language.specs.Outcome.{Outcome, Done, Stop, Waits, Run, no_deeds
 use Rattle.dpl_words.specs.Words.{no_range}
 use Rattle.dpl_memory.specs.Memory.{Held, Memory, no_tuple, array_at, held_at, is_among}
 use Rattle.dpl_apart.specs.Operands.{all_combined, unit_words, AreExact}
-use Rattle.dpl_apart.specs.Rows.{Turned, Leaves, Fails, Loop, Adds}
+use Rattle.dpl_apart.specs.Rows.{Turned, Leaves, Fails, Ran, Loop, run, Adds}
 use Rattle.dpl_apart.specs.Apart.{IsApart}
 
 -- What turns that keep apart may change, by slots: the elements of some arrays, each turn those at its own index; reduce variables, by
@@ -111,3 +111,7 @@ loop_in h b place turn = record {
 pub record KeepApart (h : Changes) (b : Memory) (place : Index → ℕ) (turn : Index → Run Memory) : Type 0 where
   pub apart : IsApart (AreExact (operators_of h.reduced)) (held_in h b) (loop_in h b place turn) turn
   pub adds : (t : Index) (row : Row) → Adds (AreExact (operators_of h.reduced)) (turn_alone h b turn t row)
+
+-- what turns come to over a memory that has their rows, begun with nothing added
+abbrev pub ran_in : Changes → (Index → ℕ) → (Index → Run Memory) → List Index → Memory → Ran Row (List ℤ)
+ran_in h place turn ts b = run (loop_in h b place turn) ts (row_in h b) (unit_words (operators_of h.reduced))

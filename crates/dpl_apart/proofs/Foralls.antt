@@ -1,0 +1,109 @@
+-- A forall over a memory by its parts: each is the turns of a locale's indices over a memory that has their rows, begun with nothing added.
+use Rattle.std.proofs.Common.{◌≡◌, ℕ, ◌<◌, true, ℤ, List, None, refl, sym, ap, ◌∙◌, subst}
+use Rattle.std.specs.List.{AllByRecursion}
+use Rattle.dpl_sets.specs.Ranges.{RangeValue}
+use Rattle.dpl_sets.specs.Indices.{indices}
+use Rattle.dpl_map.specs.Maps.{AxisValue, owner}
+use Rattle.dpl_map.specs.Parts.{part}
+use Rattle.dpl_language.specs.Values.{Index, Fault, InTurn}
+use Rattle.dpl_language.specs.Outcome.{Deeds, no_deeds, Outcome, Done, Stop, Waits, Run, in_order, naming}
+use Rattle.dpl_language.specs.Loops.{named_turn}
+use Rattle.dpl_memory.specs.Memory.{Memory, array_at, is_among}
+use Rattle.dpl_apart.specs.Operands.{all_combined, unit_words, AreExact}
+use Rattle.dpl_apart.specs.Rows.{Finished, Failed, Loop, run, onto, dealt, merged, numbered, IsRising, Adds, IsReducing}
+use Rattle.dpl_apart.specs.Apart.{loop_left, last_index, IsApart, named, named_loop}
+use Rattle.dpl_apart.specs.Memories.{Changes, Row, words_in, operators_of, held_in, row_in, turned_in, turn_alone, loop_in, ran_in, KeepApart}
+use Rattle.dpl_apart.proofs.ReduceWords.{reduce_words}
+use Rattle.dpl_apart.proofs.Split.{run-alike}
+use Rattle.dpl_apart.proofs.InOrder.{in_order-run, named-apart, named-reducing, has-held, has-stopped, failed-at}
+use Rattle.dpl_apart.proofs.Located.{in_order-located}
+use Rattle.dpl_apart.proofs.Memories.{IsPiece, holds-own}
+
+module _ (h : Changes) (b : Memory) (place : Index → ℕ) (turn : Index → Run Memory) where
+  pub keep-reducing : KeepApart h b place turn → IsReducing (AreExact (operators_of h.reduced)) (unit_words (operators_of h.reduced)) (loop_in h b place turn)
+  keep-reducing keep = record { monoid = reduce_words (operators_of h.reduced); adds = keep.adds }
+
+  -- ---- turns whose faults name them
+  turned-named : (t : Index) (row : Row) (o : Outcome Memory) → turned_in h t row (naming t o) ≡ named t (turned_in h t row o)
+  turned-named t row (Done s done) = refl
+  turned-named t row (Stop f done) = refl
+  turned-named t row (Waits at c op done) = refl
+
+  loop-named : loop_in h b place (named_turn turn) ≡ named_loop (loop_in h b place turn)
+  loop-named =
+      let alone : Index → Row → Outcome Memory = λ t row. turn t (held_in h b None (λ x. row) (unit_words (operators_of h.reduced))) no_deeds in
+      λ i. record (loop_in h b place turn) { turn = λ t row. turned-named t row (alone t row) i }
+
+  pub named-keep : KeepApart h b place turn → KeepApart h b place (named_turn turn)
+  named-keep keep = record {
+    apart = subst (λ loop. IsApart (AreExact (operators_of h.reduced)) (held_in h b) loop (named_turn turn)) (sym loop-named) (named-apart (held_in h b) (loop_in h b place turn) turn keep.apart);
+    adds = λ t row.
+        let reducing : IsReducing (AreExact (operators_of h.reduced)) (unit_words (operators_of h.reduced)) (named_loop (loop_in h b place turn)) = named-reducing (loop_in h b place turn) (keep-reducing keep) in
+        subst (λ (loop : Loop Row (List ℤ)). Adds (AreExact (operators_of h.reduced)) (loop.turn t row)) (sym loop-named) (reducing.adds t row);
+  }
+
+  -- what turns leave of the rows of a memory, where they end without a fault
+  pub record HasEnded (ts : List Index) (u : Memory) : Type 0 where
+    pub rows : Index → Row
+    pub words : List ℤ
+    pub ran : ran_in h place turn ts b ≡ Finished rows words
+    pub exact : AreExact (operators_of h.reduced) words
+    pub state : held_in h b (last_index None ts) rows words ≡ u
+
+  module _ (keep : KeepApart h b place turn) (pieces : (slot : ℕ) → is_among slot h.written ≡ true → IsPiece (array_at slot b)) where
+    -- Turns in order over a memory are the run over its rows.
+    pub in_order-held : (ts : List Index) (done : Deeds) → AreExact (operators_of h.reduced) (words_in h.reduced b)
+        → in_order turn ts b done ≡ loop_left (held_in h b) (last_index None ts) done (run (loop_in h b place turn) ts (row_in h b) (words_in h.reduced b))
+    in_order-held ts done exact =
+        ap (λ s. in_order turn ts s done) (sym (holds-own h b pieces))
+        ∙ in_order-run (held_in h b) (loop_in h b place turn) turn (keep-reducing keep) keep.apart ts None (row_in h b) (words_in h.reduced b) done exact
+
+    -- ---- a worker's memory, whose reduce variables hold nothing
+    module _ (begun : words_in h.reduced b ≡ unit_words (operators_of h.reduced)) (ts : List Index) (done : Deeds) where
+      begins : held_in h b None (row_in h b) (unit_words (operators_of h.reduced)) ≡ b
+      begins = ap (held_in h b None (row_in h b)) (sym begun) ∙ holds-own h b pieces
+
+      pub worker-done : (u : Memory) (made : Deeds) → in_order turn ts b done ≡ Done u made → HasEnded ts u
+      worker-done u made e =
+          let held = has-held (held_in h b) (loop_in h b place turn) turn (keep-reducing keep) keep.apart ts None (row_in h b) (unit_words (operators_of h.reduced)) done u made
+          (reduce_words (operators_of h.reduced)).one
+          (ap (λ s. in_order turn ts s done) begins ∙ e) in
+          record { rows = held.end; words = held.sum; ran = held.ran; exact = held.is_one; state = held.state }
+
+      pub worker-stopped : (f : Fault) (made : Deeds) → in_order turn ts b done ≡ Stop f made → (k : ℕ) × (ran_in h place turn ts b ≡ Failed k f)
+      worker-stopped f made e =
+          has-stopped (held_in h b) (loop_in h b place turn) turn (keep-reducing keep) keep.apart ts None (row_in h b) (unit_words (operators_of h.reduced)) done f made
+          (reduce_words (operators_of h.reduced)).one
+          (ap (λ s. in_order turn ts s done) begins ∙ e)
+
+-- the place at which a worker's turns stop is that of the turn which their fault names
+pub stopped-at : (h : Changes) (b : Memory) (place : Index → ℕ) (turn : Index → Run Memory) (ts : List Index) (k : ℕ) (f : Fault) → ran_in h place (named_turn turn) ts b ≡ Failed k f
+    → (t : Index) × (f.turn ≡ InTurn t) × (k ≡ place t)
+stopped-at h b place turn ts k f e =
+    failed-at (loop_in h b place turn) ts (row_in h b) (unit_words (operators_of h.reduced)) k f
+    (ap (λ loop. run loop ts (row_in h b) (unit_words (operators_of h.reduced))) (sym (loop-named h b place turn)) ∙ e)
+
+module _ (h : Changes) (m : Memory) (place : Index → ℕ) (turn : Index → Run Memory) (keep : KeepApart h m place turn) (pieces : (slot : ℕ) → is_among slot h.written ≡ true → IsPiece (array_at slot m)) (exact : AreExact (operators_of h.reduced) (words_in h.reduced m)) (axes : List AxisValue) (ranges : List RangeValue) (n : ℕ) (below : (t : Index) → owner axes t < n) (rising : IsRising place (indices ranges)) (ms : ℕ → Memory) where
+  abbrev joins : List ℤ → List ℤ → List ℤ
+  joins = all_combined (operators_of h.reduced)
+
+  abbrev units : List ℤ
+  units = unit_words (operators_of h.reduced)
+
+  -- A forall is what the workers of a map's locales come to, each over a memory of its own, put together and then put to the reduce
+  -- variables as they were: where each index's row is its owner's, and there a turn does by itself what it does over the whole memory.
+  pub forall-located : ((t : Index) → row_in h m t ≡ row_in h (ms (owner axes t)) t)
+      → ((l : ℕ) → AllByRecursion (λ t. (row : Row) → turn_alone h m turn t row ≡ turn_alone h (ms l) turn t row) (part ranges axes l))
+      → (done : Deeds)
+      → in_order turn (indices ranges) m done
+      ≡ loop_left (held_in h m) (last_index None (indices ranges)) done
+      (onto joins (words_in h.reduced m) (merged joins (owner axes) (λ l. ran_in h place turn (part ranges axes l) (ms l)) (Finished (row_in h m) units) (numbered 0 n)))
+  forall-located rows alike done =
+      let same : row_in h m ≡ dealt (owner axes) (λ l. row_in h (ms l)) = λ i t. rows t i in
+      let same_ran : (λ l. run (loop_in h m place turn) (part ranges axes l) (row_in h (ms l)) units) ≡ (λ l. ran_in h place turn (part ranges axes l) (ms l)) =
+      λ i l. run-alike (loop_in h m place turn) (turn_alone h (ms l) turn) (part ranges axes l) (row_in h (ms l)) units (alike l) i in
+      ap (λ s. in_order turn (indices ranges) s done) (sym (holds-own h m pieces))
+      ∙ ap (λ rs. in_order turn (indices ranges) (held_in h m None rs (words_in h.reduced m)) done) same
+      ∙ in_order-located (held_in h m) (loop_in h m place turn) turn (keep-reducing h m place turn keep) keep.apart axes ranges (λ l. row_in h (ms l)) n below rising None (words_in h.reduced m) done exact
+      ∙ ap (λ r. loop_left (held_in h m) (last_index None (indices ranges)) done (onto joins (words_in h.reduced m) (merged joins (owner axes) r (Finished (dealt (owner axes) (λ l. row_in h (ms l))) units) (numbered 0 n)))) same_ran
+      ∙ ap (λ rs. loop_left (held_in h m) (last_index None (indices ranges)) done (onto joins (words_in h.reduced m) (merged joins (owner axes) (λ l. ran_in h place turn (part ranges axes l) (ms l)) (Finished rs units) (numbered 0 n)))) (sym same)
