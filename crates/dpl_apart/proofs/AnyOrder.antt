@@ -38,6 +38,9 @@ once-other x t h = by (same_index x t) h where
   by true h = absurd (omega (arith, h))
   by false h = refl
 
+permuted : (us vs : List Index) → IsPermutation us vs → (x : Index) → times x us ≡ times x vs
+permuted us vs p x = times-sum x us ∙ sym (times-sum x vs ∙ sum_by-IsPermutation (once x) us vs p)
+
 -- an index that is listed, with what stands before it and behind it
 module _ (u : Index) where
   record IsFound (ts : List Index) : Type 0 where
@@ -194,31 +197,35 @@ module _ {T V S : Type 0} {IsOne : V → Type 0} {unit : V} (holding : Holding T
       ∙ ap (λ s. turn t s made) held.state in
       subst (λ o. EndsAs o (turn t u made)) alone (subst (EndsAs (turn_left holding loop.join t rows a done (loop.turn t (rows t)))) behind (ends-alike t rows held.end a held.sum done made (loop.turn t (rows t))))
 
-  -- the same turns in another order leave the same rows and the same reduce variables; the last one of them is another
-  pub leaves-same : (us ts : List Index) (last : Option Index) (rows : Index → T) (a : V) (done : Deeds) (u : S) (made : Deeds) → IsOne a → ((x : Index) → times x us ≡ times x ts)
-      → ((l m : Option Index) (ends : Index → T) (sum : V) → holding l ends sum ≡ holding m ends sum)
-      → in_order turn ts (holding last rows a) done ≡ Done u made → in_order turn us (holding last rows a) done ≡ Done u made
-  leaves-same us ts last rows a done u made ha same unseen h =
+  -- The same turns in another order leave the same rows and the same reduce variables. What is left besides is what their own last one leaves.
+  pub leaves-but-last : (us ts : List Index) (last : Option Index) (rows : Index → T) (a : V) (done : Deeds) (u : S) (made : Deeds) → IsOne a → IsPermutation us ts
+      → in_order turn ts (holding last rows a) done ≡ Done u made
+      → (ends : Index → T) × (sum : V) × (u ≡ holding (last_index last ts) ends sum) × (in_order turn us (holding last rows a) done ≡ Done (holding (last_index last us) ends sum) made)
+  leaves-but-last us ts last rows a done u made ha p h =
       let held = has-held holding loop turn lawful apart ts last rows a done u made ha h in
-      in_order-run holding loop turn lawful apart us last rows a done ha
-      ∙ ap (loop_left holding (last_index last us) done) (run-permuted loop lawful us ts rows a held.end held.sum ha same held.ran)
-      ∙ ap (λ s. Done s done) (unseen (last_index last us) (last_index last ts) held.end held.sum ∙ held.state)
-      ∙ ap (λ d. Done u d) held.deeds
+      (
+        held.end,
+        held.sum,
+        sym held.state,
+        in_order-run holding loop turn lawful apart us last rows a done ha
+        ∙ ap (loop_left holding (last_index last us) done) (run-permuted loop lawful us ts rows a held.end held.sum ha (permuted us ts p) held.ran)
+        ∙ ap (λ d. Done (holding (last_index last us) held.end held.sum) d) held.deeds,
+      )
 
   -- So turns that keep apart may be made in any order, where what the last one leaves besides isn't seen in the state.
   pub in_any_order : (ts : List Index) (last : Option Index) (rows : Index → T) (a : V) (done : Deeds) → IsOne a → IsRising loop.place ts
       → ((l m : Option Index) (ends : Index → T) (sum : V) → holding l ends sum ≡ holding m ends sum) → InAnyOrder turn ts (holding last rows a) done
   in_any_order ts last rows a done ha rising unseen = record {
     faults = λ before t rest u made p h. turn-behind before t last rows a done u made ha (alone before t rest p) h;
-    leaves = λ us u made p h. leaves-same us ts last rows a done u made ha (λ x. moved us ts p x) unseen h;
+    leaves = λ us u made p h.
+    let same = leaves-but-last us ts last rows a done u made ha p h in
+    same.3 ∙ ap (λ s. Done s made) (unseen (last_index last us) (last_index last ts) same.0 same.1 ∙ sym same.2);
   } where
-    moved : (us vs : List Index) → IsPermutation us vs → (x : Index) → times x us ≡ times x vs
-    moved us vs p x = times-sum x us ∙ sym (times-sum x vs ∙ sum_by-IsPermutation (once x) us vs p)
 
     alone : (before : List Index) (t : Index) (rest : List Index) → IsPermutation (before ++ t ∷ rest) ts → times t before ≡ 0
     alone before t rest p =
         let one = at-most-once loop.place ts rising t in
-        let all = moved (before ++ t ∷ rest) ts p t in
+        let all = permuted (before ++ t ∷ rest) ts p t in
         let parts = times-append t before (t ∷ rest) in
         let here = once-self t in
         omega (arith, one, all, parts, here)

@@ -1,13 +1,14 @@
 -- Memories that hold rows: each holds its own, and a worker's are those of the whole memory at its own indices.
-use Rattle.std.proofs.Common.{◌≡◌, ℕ, zero, suc, ◌+◌, Bool, true, false, cond, ℤ, pos, List, [], ◌∷◌, Option, Some, None, map, length, get_or, set, refl, sym, ap, ◌∙◌, subst, arith}
-use Rattle.std.specs.Prelude.{if◌then◌else◌, unwrap_or}
+use Rattle.std.proofs.Common.{eqb-true, ◌≢◌, ◌≡◌, ℕ, zero, suc, ◌+◌, ◌<◌, Bool, true, false, cond, ℤ, pos, List, [], ◌∷◌, Option, Some, None, map, length, get_or, set, refl, sym, ap, ◌∙◌, subst, arith}
+use Rattle.std.specs.Prelude.{if◌then◌else◌, unwrap_or, ◌&&◌, ◌==◌}
 use Rattle.std.specs.List.{AllByRecursion, list_any}
-use Rattle.std.proofs.lemmas.List.{ext_get_or, set-get_or}
+use Rattle.std.proofs.lemmas.Bool.Decides.{nat_tests}
+use Rattle.std.proofs.lemmas.List.{ext_get_or, set-get_or, get_or-set_same, get_or-set_other, length-set}
 use Rattle.dpl_domain.proofs.DistinctLemmas.{IsDistinct}
 use Rattle.dpl_language.specs.Tree.{Op}
 use Rattle.dpl_language.specs.Values.{Index}
 use Rattle.dpl_language.specs.Ranges.{same_index}
-use Rattle.dpl_memory.specs.Memory.{Held, Memory, no_array, array_at, word_at, with_word, held_at, is_among}
+use Rattle.dpl_memory.specs.Memory.{Held, Memory, held_with, no_array, array_at, word_at, with_word, held_at, is_among}
 use Rattle.dpl_apart.specs.Memories.{Changes, Row, held_by, held_by_if, with_elements, with_words, words_in, with_left, with_last, held_in, row_in}
 use Rattle.dpl_apart.proofs.Indices.{same_index-refl, same_index-sound, not-same}
 use Rattle.dpl_apart.proofs.Places.{distinct-rest, distinct-first, others}
@@ -81,6 +82,12 @@ element-slot first (suc slot) written rows (a ∷ more) =
     let same : (first + 1) + slot ≡ first + suc slot = omega arith in
     element-slot (first + 1) slot written rows more ∙ ap (λ n. held_by_if (is_among n written) (λ t. (rows t).elements n) (get_or more slot no_array)) same
 
+pub element-here : (slot : ℕ) (written : List ℕ) (rows : Index → Row) (hs : List Held)
+    → get_or (with_elements 0 written rows hs) slot no_array ≡ held_by_if (is_among slot written) (λ t. (rows t).elements slot) (get_or hs slot no_array)
+element-here slot written rows hs =
+    let same : 0 + slot ≡ slot = omega arith in
+    element-slot 0 slot written rows hs ∙ ap (λ n. held_by_if (is_among n written) (λ t. (rows t).elements n) (get_or hs slot no_array)) same
+
 element-length : (first : ℕ) (written : List ℕ) (rows : Index → Row) (hs : List Held) → length (with_elements first written rows hs) ≡ length hs
 element-length first written rows [] = refl
 element-length first written rows (a ∷ more) = ap suc (element-length (first + 1) written rows more)
@@ -102,11 +109,7 @@ module _ (h : Changes) (m : Memory) (pieces : (slot : ℕ) → is_among slot h.w
   own-arrays : with_elements 0 h.written (row_in h m) m.arrays ≡ m.arrays
   own-arrays =
       ext_get_or no_array (with_elements 0 h.written (row_in h m) m.arrays) m.arrays (element-length 0 h.written (row_in h m) m.arrays)
-      (λ slot within.
-      let same : 0 + slot ≡ slot = omega arith in
-      element-slot 0 slot h.written (row_in h m) m.arrays
-      ∙ ap (λ n. held_by_if (is_among n h.written) (λ t. (row_in h m t).elements n) (array_at slot m)) same
-      ∙ own-array slot (is_among slot h.written) refl)
+      (λ slot within. element-here slot h.written (row_in h m) m.arrays ∙ own-array slot (is_among slot h.written) refl)
 
   pub holds-own : held_in h m None (row_in h m) (words_in h.reduced m) ≡ m
   holds-own =
@@ -128,10 +131,7 @@ module _ (h : Changes) (b : Memory) (last : Option Index) (rows : Index → Row)
   held-arrays = last-arrays h.anew last rows _
 
   pub held-array : (slot : ℕ) → array_at slot (held_in h b last rows a) ≡ held_by_if (is_among slot h.written) (λ t. (rows t).elements slot) (array_at slot b)
-  held-array slot =
-      let same : 0 + slot ≡ slot = omega arith in
-      ap (λ hs. get_or hs slot no_array) held-arrays ∙ element-slot 0 slot h.written rows b.arrays
-      ∙ ap (λ n. held_by_if (is_among n h.written) (λ t. (rows t).elements n) (array_at slot b)) same
+  held-array slot = ap (λ hs. get_or hs slot no_array) held-arrays ∙ element-here slot h.written rows b.arrays
 
   -- of a written array, the elements of the rows at the indices that it has
   pub held-element : (slot : ℕ) (t : Index) → is_among slot h.written ≡ true
@@ -142,3 +142,83 @@ module _ (h : Changes) (b : Memory) (last : Option Index) (rows : Index → Row)
   -- and any other array as it is
   pub other-array : (slot : ℕ) → is_among slot h.written ≡ false → array_at slot (held_in h b last rows a) ≡ array_at slot b
   other-array slot e = held-array slot ∙ ap (λ c. held_by_if c (λ t. (rows t).elements slot) (array_at slot b)) e
+
+-- ---- an element that is put
+-- the rows with another element of an array at an index
+abbrev pub with_element : Index → ℕ → ℤ → (Index → Row) → Index → Row
+with_element t slot w rows x = record (rows x) { elements = λ s. if same_index x t && (s == slot) then w else (rows x).elements s }
+
+left-put : (anew : List ℕ) (row : Row) (elements : ℕ → ℤ) (s : Memory) (hs : List Held)
+    → record (with_left anew row s) { arrays = hs } ≡ with_left anew (record row { elements = elements }) (record s { arrays = hs })
+left-put [] row elements s hs = refl
+left-put (slot ∷ slots) row elements s hs =
+    ap
+    (λ (rest : Memory). record rest {
+      words = record rest.words {
+        numbers = set rest.words.numbers slot (row.numbers slot);
+        ranges = set rest.words.ranges slot (row.ranges slot);
+      };
+      tuples = set rest.tuples slot (row.tuples slot);
+    })
+    (left-put slots row elements s hs)
+
+module _ (h : Changes) (b : Memory) (rows : Index → Row) (slot : ℕ) (t : Index) (w : ℤ) (written : is_among slot h.written ≡ true) (within : slot < length b.arrays) (distinct : IsDistinct (array_at slot b).keys) where
+  abbrev changed : Index → Row
+  changed = with_element t slot w rows
+
+  -- of another array no element is put
+  put-other : (i : ℕ) → (i ≡ slot → ⊥) → (c : Bool) → held_by_if c (λ x. (rows x).elements i) (array_at i b) ≡ held_by_if c (λ x. (changed x).elements i) (array_at i b)
+  put-other i other c =
+      let no : (i == slot) ≡ false = grind (arith, nat_tests) in
+      let same : (x : Index) → (rows x).elements i ≡ (changed x).elements i = λ x. by ((rows x).elements i) (same_index x t) no in
+      ap (λ f. held_by_if c f (array_at i b)) (λ k x. same x k)
+    where
+      by : (v : ℤ) (p : Bool) → (i == slot) ≡ false → v ≡ (if p && (i == slot) then w else v)
+      by v true e = rw e refl
+      by v false e = refl
+
+  put-own : held_with t w (held_by (λ x. (rows x).elements slot) (array_at slot b)) ≡ held_by (λ x. (changed x).elements slot) (array_at slot b)
+  put-own =
+      let yes : (slot == slot) ≡ true = grind (arith, nat_tests) in
+      let same : (x : Index) → (if same_index x t then w else (rows x).elements slot) ≡ (changed x).elements slot = λ x. by ((rows x).elements slot) (same_index x t) yes in
+      ap (λ ws. record (array_at slot b) { words = ws }) (word-put t w (λ x. (rows x).elements slot) (array_at slot b).keys distinct ∙ ap (λ f. map f (array_at slot b).keys) (λ k x. same x k))
+    where
+      by : (v : ℤ) (p : Bool) → (slot == slot) ≡ true → (if p then w else v) ≡ (if p && (slot == slot) then w else v)
+      by v true e = rw e refl
+      by v false e = refl
+
+  put-arrays : set (with_elements 0 h.written rows b.arrays) slot (held_with t w (get_or (with_elements 0 h.written rows b.arrays) slot no_array)) ≡ with_elements 0 h.written changed b.arrays
+  put-arrays =
+      let all : List Held = with_elements 0 h.written rows b.arrays in
+      let word : Held → Held = held_with t w in
+      let long = element-length 0 h.written rows b.arrays in
+      ext_get_or no_array (set all slot (word (get_or all slot no_array))) (with_elements 0 h.written changed b.arrays)
+      (length-set all slot (word (get_or all slot no_array)) ∙ long ∙ sym (element-length 0 h.written changed b.arrays))
+      (λ i below. by i (i == slot) refl (omega (arith, long, within)))
+    where
+      by : (i : ℕ) (c : Bool) → (i == slot) ≡ c → slot < length (with_elements 0 h.written rows b.arrays)
+          → get_or (set (with_elements 0 h.written rows b.arrays) slot (held_with t w (get_or (with_elements 0 h.written rows b.arrays) slot no_array))) i no_array ≡ get_or (with_elements 0 h.written changed b.arrays) i no_array
+      by i true e less =
+          let same : i ≡ slot = eqb-true i slot e in
+          let all : List Held = with_elements 0 h.written rows b.arrays in
+          ap (λ i. get_or (set all slot (held_with t w (get_or all slot no_array))) i no_array) same
+          ∙ get_or-set_same all slot (held_with t w (get_or all slot no_array)) no_array less
+          ∙ ap (held_with t w) (element-here slot h.written rows b.arrays ∙ ap (λ c. held_by_if c (λ x. (rows x).elements slot) (array_at slot b)) written)
+          ∙ put-own
+          ∙ sym (ap (λ i. get_or (with_elements 0 h.written changed b.arrays) i no_array) same ∙ element-here slot h.written changed b.arrays ∙ ap (λ c. held_by_if c (λ x. (changed x).elements slot) (array_at slot b)) written)
+      by i false e less =
+          let all : List Held = with_elements 0 h.written rows b.arrays in
+          let other : i ≢ slot = λ same. let yes : (i == slot) ≡ true = grind (arith, nat_tests) in let no : true ≡ false = sym yes ∙ e in cc in
+          get_or-set_other all slot i (held_with t w (get_or all slot no_array)) no_array other
+          ∙ element-here i h.written rows b.arrays ∙ put-other i other (is_among i h.written) ∙ sym (element-here i h.written changed b.arrays)
+
+  -- So a word that is put into an array of a memory that holds rows is put into the row of its index.
+  pub put-held : (last : Option Index) (a : List ℤ)
+      → record (held_in h b last rows a) { arrays = set (held_in h b last rows a).arrays slot (held_with t w (array_at slot (held_in h b last rows a))) } ≡ held_in h b last changed a
+  put-held last a = ap (λ hs. record (held_in h b last rows a) { arrays = hs }) put ∙ by last where
+    put : set (held_in h b last rows a).arrays slot (held_with t w (array_at slot (held_in h b last rows a))) ≡ with_elements 0 h.written changed b.arrays
+    put = ap (λ hs. set hs slot (held_with t w (get_or hs slot no_array))) (held-arrays h b last rows a) ∙ put-arrays
+
+    by : (last : Option Index) → record (held_in h b last rows a) { arrays = with_elements 0 h.written changed b.arrays } ≡ held_in h b last changed a
+    by None = refl
+    by (Some l) = left-put h.anew (rows l) (changed l).elements _ (with_elements 0 h.written changed b.arrays)
