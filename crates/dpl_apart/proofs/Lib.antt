@@ -17,3 +17,4 @@ pub mod Memories
 pub mod Foralls
 -- Rows.
 pub mod Worked
+pub mod WorkedForalls

@@ -1,6 +1,6 @@
 -- Memories that hold rows: each holds its own, and a worker's are those of the whole memory at its own indices.
 use Rattle.std.proofs.Common.{eqb-true, ◌≢◌, ◌≡◌, ℕ, zero, suc, ◌+◌, ◌<◌, Bool, true, false, cond, ℤ, pos, List, [], ◌∷◌, Option, Some, None, map, length, get_or, set, refl, sym, ap, ◌∙◌, subst, arith}
-use Rattle.std.specs.Prelude.{if◌then◌else◌, unwrap_or, ◌&&◌, ◌==◌}
+use Rattle.std.specs.Prelude.{if◌then◌else◌, unwrap_or, ◌&&◌, ◌||◌, ◌==◌}
 use Rattle.std.specs.List.{AllByRecursion, list_any}
 use Rattle.std.proofs.lemmas.Bool.Decides.{nat_tests}
 use Rattle.std.proofs.lemmas.List.{ext_get_or, set-get_or, get_or-set_same, get_or-set_other, length-set}
@@ -9,6 +9,7 @@ use Rattle.dpl_language.specs.Tree.{Op}
 use Rattle.dpl_language.specs.Values.{Index}
 use Rattle.dpl_language.specs.Ranges.{same_index}
 use Rattle.dpl_memory.specs.Memory.{Held, Memory, held_with, no_array, array_at, word_at, with_word, held_at, is_among}
+use Rattle.dpl_apart.specs.Rows.{AreApart}
 use Rattle.dpl_apart.specs.Memories.{Changes, Row, held_by, held_by_if, with_elements, with_words, words_in, with_left, with_last, held_in, row_in}
 use Rattle.dpl_apart.proofs.Indices.{same_index-refl, same_index-sound, not-same}
 use Rattle.dpl_apart.proofs.Places.{distinct-rest, distinct-first, others}
@@ -91,6 +92,20 @@ element-here slot written rows hs =
 element-length : (first : ℕ) (written : List ℕ) (rows : Index → Row) (hs : List Held) → length (with_elements first written rows hs) ≡ length hs
 element-length first written rows [] = refl
 element-length first written rows (a ∷ more) = ap suc (element-length (first + 1) written rows more)
+
+-- rows that have the same elements of written arrays
+pub elements-alike : (first : ℕ) (written : List ℕ) (rows others : Index → Row) (hs : List Held)
+    → ((x : Index) (slot : ℕ) → is_among slot written ≡ true → (rows x).elements slot ≡ (others x).elements slot)
+    → with_elements first written rows hs ≡ with_elements first written others hs
+elements-alike first written rows others [] same = refl
+elements-alike first written rows others (a ∷ more) same =
+    let here : held_by_if (is_among first written) (λ t. (rows t).elements first) a ≡ held_by_if (is_among first written) (λ t. (others t).elements first) a = by (is_among first written) refl in
+    let rest = elements-alike (first + 1) written rows others more same in
+    λ i. here i ∷ rest i
+  where
+    by : (c : Bool) → is_among first written ≡ c → held_by_if c (λ t. (rows t).elements first) a ≡ held_by_if c (λ t. (others t).elements first) a
+    by true e = ap (λ f. held_by f a) (λ i t. same t first e i)
+    by false e = refl
 
 -- ---- a memory holds its own rows
 own-words : (ps : List (ℕ × Op)) (m : Memory) → with_words ps (words_in ps m) m.words.numbers ≡ m.words.numbers
@@ -222,3 +237,65 @@ module _ (h : Changes) (b : Memory) (rows : Index → Row) (slot : ℕ) (t : Ind
     by : (last : Option Index) → record (held_in h b last rows a) { arrays = with_elements 0 h.written changed b.arrays } ≡ held_in h b last changed a
     by None = refl
     by (Some l) = left-put h.anew (rows l) (changed l).elements _ (with_elements 0 h.written changed b.arrays)
+
+-- ---- the words of reduce variables
+-- each has a slot of its own, which is there and doesn't begin anew in a turn
+pub record AreSlots (h : Changes) (b : Memory) : Type 0 where
+  pub apart : AreApart (map (λ (p : ℕ × Op). p.0) h.reduced)
+  pub there : AllByRecursion (λ (p : ℕ × Op). p.0 < length b.words.numbers) h.reduced
+  pub stay : AllByRecursion (λ (p : ℕ × Op). is_among p.0 h.anew ≡ false) h.reduced
+
+words-length : (ps : List (ℕ × Op)) (ws numbers : List ℤ) → length (with_words ps ws numbers) ≡ length numbers
+words-length [] ws numbers = refl
+words-length (p ∷ ps) [] numbers = refl
+words-length (p ∷ ps) (w ∷ ws) numbers = length-set (with_words ps ws numbers) p.0 w ∙ words-length ps ws numbers
+
+-- a word isn't put into other slots
+other-words : (p : ℕ × Op) (w : ℤ) (ps : List (ℕ × Op)) (numbers : List ℤ) → list_any (λ m. p.0 == m) (map (λ (q : ℕ × Op). q.0) ps) ≡ false
+    → map (λ (q : ℕ × Op). get_or (set numbers p.0 w) q.0 (pos 0)) ps ≡ map (λ (q : ℕ × Op). get_or numbers q.0 (pos 0)) ps
+other-words p w [] numbers h = refl
+other-words p w (q ∷ qs) numbers h = by (p.0 == q.0) refl h (other-words p w qs numbers) where
+  by : (c : Bool) → (p.0 == q.0) ≡ c → (c || list_any (λ m. p.0 == m) (map (λ (q : ℕ × Op). q.0) qs)) ≡ false
+      → (list_any (λ m. p.0 == m) (map (λ (q : ℕ × Op). q.0) qs) ≡ false → map (λ (q : ℕ × Op). get_or (set numbers p.0 w) q.0 (pos 0)) qs ≡ map (λ (q : ℕ × Op). get_or numbers q.0 (pos 0)) qs)
+      → map (λ (q : ℕ × Op). get_or (set numbers p.0 w) q.0 (pos 0)) (q ∷ qs) ≡ map (λ (q : ℕ × Op). get_or numbers q.0 (pos 0)) (q ∷ qs)
+  by true e h rest = absurd cc
+  by false e h rest =
+      let other : q.0 ≢ p.0 = grind (arith, nat_tests) in
+      let here = get_or-set_other numbers p.0 q.0 w (pos 0) other in
+      let behind = rest h in
+      λ i. here i ∷ behind i
+
+words-of : (ps : List (ℕ × Op)) (ws numbers : List ℤ) → length ws ≡ length ps → AreApart (map (λ (p : ℕ × Op). p.0) ps) → AllByRecursion (λ (p : ℕ × Op). p.0 < length numbers) ps
+    → map (λ (p : ℕ × Op). get_or (with_words ps ws numbers) p.0 (pos 0)) ps ≡ ws
+words-of [] [] numbers long apart there = refl
+words-of [] (w ∷ ws) numbers long apart there = absurd (omega (arith, long))
+words-of (p ∷ ps) [] numbers long apart there = absurd (omega (arith, long))
+words-of (p ∷ ps) (w ∷ ws) numbers long apart there =
+    let below = there.0 in
+    let same = words-length ps ws numbers in
+    let here = get_or-set_same (with_words ps ws numbers) p.0 w (pos 0) (omega (arith, below, same)) in
+    let rest = other-words p w ps (with_words ps ws numbers) apart.0 ∙ words-of ps ws numbers (omega (arith, long)) apart.1 there.1 in
+    λ i. here i ∷ rest i
+
+-- what is left in slots that begin anew isn't put into others
+left-other : (anew : List ℕ) (row : Row) (s : Memory) (slot : ℕ) → is_among slot anew ≡ false → get_or (with_left anew row s).words.numbers slot (pos 0) ≡ get_or s.words.numbers slot (pos 0)
+left-other [] row s slot h = refl
+left-other (i ∷ is) row s slot h = by (slot == i) refl h (left-other is row s slot) where
+  by : (c : Bool) → (slot == i) ≡ c → (c || is_among slot is) ≡ false → (is_among slot is ≡ false → get_or (with_left is row s).words.numbers slot (pos 0) ≡ get_or s.words.numbers slot (pos 0))
+      → get_or (with_left (i ∷ is) row s).words.numbers slot (pos 0) ≡ get_or s.words.numbers slot (pos 0)
+  by true e h rest = absurd cc
+  by false e h rest =
+      let other : slot ≢ i = grind (arith, nat_tests) in
+      get_or-set_other (with_left is row s).words.numbers i slot (row.numbers i) (pos 0) other ∙ rest h
+
+last-other : (anew : List ℕ) (last : Option Index) (rows : Index → Row) (s : Memory) (ps : List (ℕ × Op)) → AllByRecursion (λ (p : ℕ × Op). is_among p.0 anew ≡ false) ps
+    → words_in ps (with_last anew last rows s) ≡ words_in ps s
+last-other anew last rows s ps h = map-same _ _ ps (each-weaker _ _ ps (by last) h) where
+  by : (last : Option Index) (p : ℕ × Op) → is_among p.0 anew ≡ false → get_or (with_last anew last rows s).words.numbers p.0 (pos 0) ≡ get_or s.words.numbers p.0 (pos 0)
+  by None p e = refl
+  by (Some t) p e = left-other anew (rows t) s p.0 e
+
+-- the reduce variables of a memory that holds them
+pub held-words : (h : Changes) (b : Memory) (last : Option Index) (rows : Index → Row) (a : List ℤ) → AreSlots h b → length a ≡ length h.reduced → words_in h.reduced (held_in h b last rows a) ≡ a
+held-words h b last rows a slots long =
+    last-other h.anew last rows _ h.reduced slots.stay ∙ words-of h.reduced a b.words.numbers long slots.apart slots.there
