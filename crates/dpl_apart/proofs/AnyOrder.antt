@@ -202,14 +202,13 @@ module _ {T V S : Type 0} {IsOne : V → Type 0} {unit : V} (holding : Holding T
       → in_order turn ts (holding last rows a) done ≡ Done u made
       → (ends : Index → T) × (sum : V) × (u ≡ holding (last_index last ts) ends sum) × (in_order turn us (holding last rows a) done ≡ Done (holding (last_index last us) ends sum) made)
   leaves-but-last us ts last rows a done u made ha p h =
-      let held = has-held holding loop turn lawful apart ts last rows a done u made ha h in
-      (
+      let held = has-held holding loop turn lawful apart ts last rows a done u made ha h in (
         held.end,
         held.sum,
         sym held.state,
         in_order-run holding loop turn lawful apart us last rows a done ha
-        ∙ ap (loop_left holding (last_index last us) done) (run-permuted loop lawful us ts rows a held.end held.sum ha (permuted us ts p) held.ran)
-        ∙ ap (λ d. Done (holding (last_index last us) held.end held.sum) d) held.deeds,
+            ∙ ap (loop_left holding (last_index last us) done) (run-permuted loop lawful us ts rows a held.end held.sum ha (permuted us ts p) held.ran)
+            ∙ ap (λ d. Done (holding (last_index last us) held.end held.sum) d) held.deeds,
       )
 
   -- So turns that keep apart may be made in any order, where what the last one leaves besides isn't seen in the state.
@@ -218,10 +217,9 @@ module _ {T V S : Type 0} {IsOne : V → Type 0} {unit : V} (holding : Holding T
   in_any_order ts last rows a done ha rising unseen = record {
     faults = λ before t rest u made p h. turn-behind before t last rows a done u made ha (alone before t rest p) h;
     leaves = λ us u made p h.
-    let same = leaves-but-last us ts last rows a done u made ha p h in
-    same.3 ∙ ap (λ s. Done s made) (unseen (last_index last us) (last_index last ts) same.0 same.1 ∙ sym same.2);
+        let same = leaves-but-last us ts last rows a done u made ha p h in
+        same.3 ∙ ap (λ s. Done s made) (unseen (last_index last us) (last_index last ts) same.0 same.1 ∙ sym same.2);
   } where
-
     alone : (before : List Index) (t : Index) (rest : List Index) → IsPermutation (before ++ t ∷ rest) ts → times t before ≡ 0
     alone before t rest p =
         let one = at-most-once loop.place ts rising t in

@@ -1,5 +1,5 @@
 -- The parts of a map's locales, each of which is the part that the map gives it.
-use Rattle.std.proofs.Common.{◌≡◌, ℕ, zero, suc, ◌+◌, ◌<◌, ◌≤◌, ◌==◌, ◌||◌, Bool, true, false, List, [], ◌∷◌, length, get_or, Option, refl, ap, ◌∙◌, arith}
+use Rattle.std.proofs.Common.{◌≡◌, ℕ, zero, suc, ◌+◌, ◌<◌, ◌≤◌, ◌==◌, ◌||◌, Bool, true, false, List, [], ◌∷◌, map, Result, length, get_or, Option, refl, ap, ◌∙◌, arith}
 use Rattle.std.specs.List.{AllByRecursion, list_any, All}
 use Rattle.std.proofs.lemmas.Bool.Decides.{nat_tests}
 use Rattle.dpl_sets.specs.Ranges.{RangeValue}
@@ -7,13 +7,20 @@ use Rattle.dpl_sets.specs.Indices.{indices}
 use Rattle.dpl_map.specs.Maps.{AxisValue, owner}
 use Rattle.dpl_map.specs.Parts.{part}
 use Rattle.dpl_map.specs.Cuts.{AreCut}
-use Rattle.dpl_language.specs.Values.{Index}
-use Rattle.dpl_language.specs.Outcome.{Deeds, Run, in_order}
-use Rattle.dpl_apart.specs.Operands.{IsCommutativeMonoid}
+use Rattle.dpl_sets.specs.TextRanges.{TextRange}
+use Rattle.dpl_language.specs.Tree.{Op}
+use Rattle.dpl_language.specs.Values.{Value, Index, Fault}
+use Rattle.dpl_language.specs.Arithmetic.{combined, unit_of}
+use Rattle.dpl_language.specs.Ranges.{indices_in}
+use Rattle.dpl_language.specs.Expressions.{fold_over}
+use Rattle.dpl_language.specs.Outcome.{Deeds, Run, in_order, naming_value}
+use Rattle.dpl_apart.specs.Operands.{IsCommutativeMonoid, IsOperand}
 use Rattle.dpl_apart.specs.Rows.{Ran, Finished, Loop, run, onto, part_of, is_owned, dealt, merged, AreApart, numbered, IsRising, AllAdd, IsReducing}
 use Rattle.dpl_apart.specs.Apart.{Holding, loop_left, last_index, IsApart}
 use Rattle.dpl_apart.proofs.Split.{all-add}
 use Rattle.dpl_apart.proofs.InOrder.{in_order-run}
+use Rattle.dpl_apart.specs.Folds.{fold_loop, no_rows, fold_of}
+use Rattle.dpl_apart.proofs.Folds.{reduced-merged}
 use Rattle.dpl_apart.proofs.Parts.{run-merged}
 
 -- ---- locales that are numbered on
@@ -37,6 +44,10 @@ among m l (suc n) from below = by (m == l) refl (λ later. among m (suc l) n lat
 of-each : (P : ℕ → Type 0) (ls : List ℕ) → ((l : ℕ) → P l) → AllByRecursion P ls
 of-each P [] h = tt
 of-each P (l ∷ ls) h = (h l, of-each P ls h)
+
+-- the ranges of a domain of the language, as maps have them
+abbrev pub values_of : List TextRange → List RangeValue
+values_of rs = map (λ (r : TextRange). r.value) rs
 
 module _ {T V : Type 0} {IsOne : V → Type 0} {unit : V} (loop : Loop T V) (monoid : IsCommutativeMonoid IsOne loop.join unit) (axes : List AxisValue) (ranges : List RangeValue) (rows : ℕ → Index → T) where
   -- what a locale's part of a domain comes to
@@ -65,6 +76,19 @@ module _ {T V S : Type 0} {IsOne : V → Type 0} {unit : V} (holding : Holding T
       in_order-run holding loop turn lawful apart (indices ranges) last (dealt (owner axes) rows) a done ha
       ∙ ap (loop_left holding (last_index last (indices ranges)) done)
       (run-located loop lawful.monoid axes ranges rows n below rising (λ l. all-add IsOne loop lawful.adds (part ranges axes l) (rows l)) a ha)
+
+-- ---- a reduction over a domain, by what the locales' parts come to
+pub fold_over-located : (op : Op) (value : Index → Result Value Fault) (place : Index → ℕ) (axes : List AxisValue) (rs : List TextRange) (n : ℕ) → ((t : Index) → owner axes t < n) → IsRising place (indices_in rs)
+    → ((l : ℕ) → AllAdd (IsOperand op) (fold_loop op (λ t. naming_value t (value t)) place) (part (values_of rs) axes l) no_rows)
+    → fold_over op value rs
+    ≡ fold_of (merged (combined op) (owner axes) (λ l. run (fold_loop op (λ t. naming_value t (value t)) place) (part (values_of rs) axes l) no_rows (unit_of op)) (Finished no_rows (unit_of op)) (numbered 0 n))
+unfolding part
+fold_over-located op value place axes rs n below rising add =
+    reduced-merged op (λ t. naming_value t (value t)) place (owner axes) (indices_in rs) rising (numbered 0 n) (numbered-apart 0 n) (λ k d within. owned (get_or (indices_in rs) k d))
+    (of-each (λ l. AllAdd (IsOperand op) (fold_loop op (λ t. naming_value t (value t)) place) (part_of (owner axes) l (indices_in rs)) no_rows) (numbered 0 n) add)
+  where
+    owned : (t : Index) → is_owned (owner axes) (numbered 0 n) t ≡ true
+    owned t = let less = below t in among (owner axes t) 0 n (omega arith) (omega (arith, less))
 
 -- ---- a part that is cut into domains, each of which has a number
 pub cut-owned : {P : Type 0} (elements : P → List Index) (ts : List Index) (pieces : List P) (cut : AreCut elements ts pieces)

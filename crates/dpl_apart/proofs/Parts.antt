@@ -101,6 +101,13 @@ module _ {T V : Type 0} {IsOne : V → Type 0} {unit : V} (loop : Loop T V) (mon
     run-parts [] apart h = ap (λ none. run loop none (dealt owner rows) unit) (filter-none ts)
     run-parts (l ∷ ls) apart h = run-next l ls apart h ∙ ap (merge loop.join (λ t. owner t == l) (ran l)) (run-parts ls apart.1 h.1)
 
+    -- In whatever order locales are listed their parts come to the same together.
+    pub merged-any-order : (ls ks : List ℕ) → AreApart ls → AreApart ks → AllByRecursion PartAdds ls → AllByRecursion PartAdds ks → ((t : Index) → is_owned owner ls t ≡ is_owned owner ks t)
+        → merged loop.join owner ran nothing ls ≡ merged loop.join owner ran nothing ks
+    merged-any-order ls ks apart others h more same =
+        let parts : is_owned owner ls ≡ is_owned owner ks = λ i t. same t i in
+        sym (run-parts ls apart h) ∙ ap (λ p. run loop (filter p ts) (dealt owner rows) unit) parts ∙ run-parts ks others more
+
     -- where each index of a loop is owned by one of some locales, their parts are the loop
     module _ (ls : List ℕ) (apart : AreApart ls) (add : AllByRecursion PartAdds ls) (owned : All (λ t. is_owned owner ls t ≡ true) ts) where
       all-parts : parts_of owner ls ts ≡ ts

@@ -1,5 +1,5 @@
 -- Turns that keep apart over a memory: A[i] = f(i, A[i]), which has F1 where A has no such index. So what is asked of turns can be met.
-use Rattle.std.proofs.Common.{eqb-true, ◌≡◌, ℕ, ◌<◌, Bool, true, false, ℤ, pos, List, [], ◌∷◌, Option, Some, None, get_or, set, length, refl, sym, ap, ◌∙◌, arith}
+use Rattle.std.proofs.Common.{eqb-true, ◌≡◌, ℕ, ◌<◌, Bool, true, false, ℤ, pos, List, [], ◌∷◌, Option, Some, None, length, refl, sym, ap, ◌∙◌, arith}
 use Rattle.std.specs.Prelude.{if◌then◌else◌, unwrap_or, ◌==◌, ◌&&◌, ◌||◌}
 use Rattle.std.specs.List.{list_any}
 use Rattle.std.proofs.lemmas.Bool.Decides.{nat_tests}
@@ -7,12 +7,12 @@ use Rattle.dpl_syntax.specs.declared.place.Place.{Place}
 use Rattle.dpl_domain.proofs.DistinctLemmas.{IsDistinct}
 use Rattle.dpl_language.specs.Values.{Index, fault, Outside}
 use Rattle.dpl_language.specs.Ranges.{same_index}
-use Rattle.dpl_language.specs.Outcome.{Deeds, no_deeds, Outcome, Done, Stop, Run}
-use Rattle.dpl_memory.specs.Memory.{Held, Memory, no_array, array_at, held_at, held_with, with_array, is_among}
+use Rattle.dpl_language.specs.Outcome.{Deeds, no_deeds, Done, Stop, Run}
+use Rattle.dpl_memory.specs.Memory.{Memory, array_at, held_at, held_with, with_array, is_among}
 use Rattle.dpl_apart.specs.Operands.{all_combined, AreExact}
-use Rattle.dpl_apart.specs.Rows.{Turned, Leaves, Fails, with_row, Adds}
+use Rattle.dpl_apart.specs.Rows.{with_row, Adds}
 use Rattle.dpl_apart.specs.Apart.{turn_left}
-use Rattle.dpl_apart.specs.Memories.{Changes, Row, held_by_if, with_elements, held_in, row_in, turned_in, turn_alone, KeepApart}
+use Rattle.dpl_apart.specs.Memories.{Changes, Row, with_elements, held_in, row_in, turned_in, turn_alone, KeepApart}
 use Rattle.dpl_apart.proofs.Indices.{same_index-refl}
 use Rattle.dpl_apart.proofs.Memories.{with_element, put-held, held-element, elements-alike}
 
@@ -104,6 +104,6 @@ module _ (slot : ℕ) (at : Place) (f : Index → ℤ → ℤ) where
     keeps = record {
       apart = record { each = λ t last rows a done ha. each t last rows a done (list_any (same_index t) (array_at slot b).keys) refl };
       adds = λ t row.
-      let s : Memory = held_in writes b None (λ x. row) [] in
-      elim (held_at t (array_at slot s)) as (λ o. Adds (AreExact []) (turned_in writes t row (put_by o t s no_deeds))) [ None ↦ tt | Some v ↦ tt ];
+          let s : Memory = held_in writes b None (λ x. row) [] in
+          elim (held_at t (array_at slot s)) as (λ o. Adds (AreExact []) (turned_in writes t row (put_by o t s no_deeds))) [ None ↦ tt | Some v ↦ tt ];
     }
