@@ -12,12 +12,12 @@ use Rattle.dpl_memory.specs.Memory.{Memory, array_at, is_among}
 use Rattle.dpl_apart.specs.Operands.{all_combined, unit_words, AreExact}
 use Rattle.dpl_apart.specs.Rows.{Finished, Failed, Loop, run, onto, dealt, merged, numbered, IsRising, Adds, IsReducing}
 use Rattle.dpl_apart.specs.Apart.{loop_left, last_index, IsApart, named, named_loop}
-use Rattle.dpl_apart.specs.Memories.{Changes, Row, words_in, operators_of, held_in, row_in, turned_in, turn_alone, loop_in, ran_in, KeepApart}
+use Rattle.dpl_apart.specs.Memories.{Changes, Row, IsPiece, IsFormed, IsLike, MayBeApart, words_in, operators_of, held_in, row_in, turned_in, turn_alone, loop_in, ran_in, KeepApart}
 use Rattle.dpl_apart.proofs.ReduceWords.{reduce_words}
 use Rattle.dpl_apart.proofs.Split.{run-alike}
 use Rattle.dpl_apart.proofs.InOrder.{in_order-run, named-apart, named-reducing, has-held, has-stopped, failed-at}
 use Rattle.dpl_apart.proofs.Located.{in_order-located}
-use Rattle.dpl_apart.proofs.Memories.{IsPiece, holds-own}
+use Rattle.dpl_apart.proofs.Memories.{holds-own}
 
 module _ (h : Changes) (b : Memory) (place : Index → ℕ) (turn : Index → Run Memory) where
   pub keep-reducing : KeepApart h b place turn → IsReducing (AreExact (operators_of h.reduced)) (unit_words (operators_of h.reduced)) (loop_in h b place turn)

@@ -4,20 +4,14 @@ use Rattle.std.specs.Prelude.{if◌then◌else◌, unwrap_or, ◌&&◌, ◌||◌
 use Rattle.std.specs.List.{AllByRecursion, list_any}
 use Rattle.std.proofs.lemmas.Bool.Decides.{nat_tests}
 use Rattle.std.proofs.lemmas.List.{ext_get_or, set-get_or, get_or-set_same, get_or-set_other, length-set}
-use Rattle.dpl_domain.proofs.DistinctLemmas.{IsDistinct}
 use Rattle.dpl_language.specs.Tree.{Op}
 use Rattle.dpl_language.specs.Values.{Index}
 use Rattle.dpl_language.specs.Ranges.{same_index}
 use Rattle.dpl_memory.specs.Memory.{Held, Memory, held_with, no_array, array_at, word_at, with_word, held_at, is_among}
-use Rattle.dpl_apart.specs.Rows.{AreApart}
-use Rattle.dpl_apart.specs.Memories.{Changes, Row, held_by, held_by_if, with_elements, with_words, words_in, with_left, with_last, held_in, row_in}
+use Rattle.dpl_apart.specs.Rows.{AreApart, IsDistinct}
+use Rattle.dpl_apart.specs.Memories.{Changes, Row, IsPiece, IsFormed, held_by, held_by_if, with_elements, with_words, words_in, with_left, with_last, held_in, row_in}
 use Rattle.dpl_apart.proofs.Indices.{same_index-refl, same_index-sound, not-same}
 use Rattle.dpl_apart.proofs.Places.{distinct-rest, distinct-first, others}
-
--- an array that has a word for each index that it has, and no index twice
-pub record IsPiece (a : Held) : Type 0 where
-  pub distinct : IsDistinct a.keys
-  pub long : length a.words ≡ length a.keys
 
 -- ---- words by their indices
 map-same : {A B : Type 0} (f g : A → B) (xs : List A) → AllByRecursion (λ x. f x ≡ g x) xs → map f xs ≡ map g xs
@@ -239,12 +233,6 @@ module _ (h : Changes) (b : Memory) (rows : Index → Row) (slot : ℕ) (t : Ind
     by (Some l) = left-put h.anew (rows l) (changed l).elements _ (with_elements 0 h.written changed b.arrays)
 
 -- ---- the words of reduce variables
--- each has a slot of its own, which is there and doesn't begin anew in a turn
-pub record AreSlots (h : Changes) (b : Memory) : Type 0 where
-  pub apart : AreApart (map (λ (p : ℕ × Op). p.0) h.reduced)
-  pub there : AllByRecursion (λ (p : ℕ × Op). p.0 < length b.words.numbers) h.reduced
-  pub stay : AllByRecursion (λ (p : ℕ × Op). is_among p.0 h.anew ≡ false) h.reduced
-
 words-length : (ps : List (ℕ × Op)) (ws numbers : List ℤ) → length (with_words ps ws numbers) ≡ length numbers
 words-length [] ws numbers = refl
 words-length (p ∷ ps) [] numbers = refl
@@ -296,6 +284,6 @@ last-other anew last rows s ps h = map-same _ _ ps (each-weaker _ _ ps (by last)
   by (Some t) p e = left-other anew (rows t) s p.0 e
 
 -- the reduce variables of a memory that holds them
-pub held-words : (h : Changes) (b : Memory) (last : Option Index) (rows : Index → Row) (a : List ℤ) → AreSlots h b → length a ≡ length h.reduced → words_in h.reduced (held_in h b last rows a) ≡ a
-held-words h b last rows a slots long =
-    last-other h.anew last rows _ h.reduced slots.stay ∙ words-of h.reduced a b.words.numbers long slots.apart slots.there
+pub held-words : (h : Changes) (b : Memory) (last : Option Index) (rows : Index → Row) (a : List ℤ) → IsFormed h b → length a ≡ length h.reduced → words_in h.reduced (held_in h b last rows a) ≡ a
+held-words h b last rows a formed long =
+    last-other h.anew last rows _ h.reduced formed.stay ∙ words-of h.reduced a b.words.numbers long formed.apart formed.there

@@ -4,10 +4,10 @@ use Rattle.std.specs.List.{AllByRecursion}
 use Rattle.std.proofs.lemmas.Option.{none-some, same_Some}
 use Rattle.dpl_sets.specs.Ranges.{RangeValue}
 use Rattle.dpl_sets.specs.Indices.{indices}
-use Rattle.dpl_domain.proofs.DistinctLemmas.{IsDistinct, AreRanges, indices-distinct}
+use Rattle.dpl_domain.proofs.DistinctLemmas.{AreRanges, indices-distinct}
 use Rattle.dpl_language.specs.Values.{Index}
 use Rattle.dpl_language.specs.Ranges.{same_index}
-use Rattle.dpl_apart.specs.Rows.{IsRising, place_in}
+use Rattle.dpl_apart.specs.Rows.{IsDistinct, IsRising, place_in}
 use Rattle.dpl_apart.proofs.Indices.{same_index-refl, not-same}
 
 pub distinct-rest : (t : Index) (ts : List Index) → IsDistinct (t ∷ ts) → IsDistinct ts

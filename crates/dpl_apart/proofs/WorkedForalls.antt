@@ -4,13 +4,12 @@ use Rattle.std.specs.Prelude.{if◌then◌else◌, unwrap_or, ◌==◌, ◌&&◌
 use Rattle.std.specs.List.{list_any}
 use Rattle.std.proofs.lemmas.Bool.Decides.{nat_tests}
 use Rattle.dpl_syntax.specs.declared.place.Place.{Place}
-use Rattle.dpl_domain.proofs.DistinctLemmas.{IsDistinct}
 use Rattle.dpl_language.specs.Values.{Index, fault, Outside}
 use Rattle.dpl_language.specs.Ranges.{same_index}
 use Rattle.dpl_language.specs.Outcome.{Deeds, no_deeds, Done, Stop, Run}
 use Rattle.dpl_memory.specs.Memory.{Memory, array_at, held_at, held_with, with_array, is_among}
 use Rattle.dpl_apart.specs.Operands.{all_combined, AreExact}
-use Rattle.dpl_apart.specs.Rows.{with_row, Adds}
+use Rattle.dpl_apart.specs.Rows.{IsDistinct, with_row, Adds}
 use Rattle.dpl_apart.specs.Apart.{turn_left}
 use Rattle.dpl_apart.specs.Memories.{Changes, Row, with_elements, held_in, row_in, turned_in, turn_alone, KeepApart}
 use Rattle.dpl_apart.proofs.Indices.{same_index-refl}

@@ -1,6 +1,7 @@
 -- How a memory holds rows: the elements of the arrays that turns write, by their indices, and what each turn leaves in the slots that begin
 -- anew in it. A worker's memory holds those of its own indices alone, since it has no other elements.
-use Rattle.std.specs.Prelude.{ℕ, ◌+◌, ℤ, pos, Bool, true, false, if◌then◌else◌, Option, Some, None, List, [], ◌∷◌, get_or, set, map, unwrap_or}
+use Rattle.std.specs.Prelude.{◌≡◌, ℕ, ◌+◌, ◌<◌, ℤ, pos, Bool, true, false, if◌then◌else◌, not, ◌&&◌, Option, Some, None, List, [], ◌∷◌, length, get_or, set, map, unwrap_or}
+use Rattle.std.specs.List.{AllByRecursion}
 use Rattle.dpl_sets.specs.TextRanges.{TextRange}
 use Rattle.dpl_language.specs.Tree.{Op}
 use Rattle.dpl_language.specs.Values.{Index}
@@ -8,7 +9,7 @@ use Rattle.dpl_language.specs.Outcome.{Outcome, Done, Stop, Waits, Run, no_deeds
 use Rattle.dpl_words.specs.Words.{no_range}
 use Rattle.dpl_memory.specs.Memory.{Held, Memory, no_tuple, array_at, held_at, is_among}
 use Rattle.dpl_apart.specs.Operands.{all_combined, unit_words, AreExact}
-use Rattle.dpl_apart.specs.Rows.{Turned, Leaves, Fails, Ran, Loop, run, Adds}
+use Rattle.dpl_apart.specs.Rows.{Turned, Leaves, Fails, Ran, Loop, run, AreApart, IsDistinct, Adds}
 use Rattle.dpl_apart.specs.Apart.{IsApart}
 
 -- What turns that keep apart may change, by slots: the elements of some arrays, each turn those at its own index; reduce variables, by
@@ -106,12 +107,53 @@ loop_in h b place turn = record {
   place = place;
 }
 
+-- what turns come to over a memory that has their rows, begun with nothing added
+abbrev pub ran_in : Changes → (Index → ℕ) → (Index → Run Memory) → List Index → Memory → Ran Row (List ℤ)
+ran_in h place turn ts b = run (loop_in h b place turn) ts (row_in h b) (unit_words (operators_of h.reduced))
+
+-- MEMORIES OF WORKERS
+-- an array that has a word for each index that it has, and no index twice: a whole one, or a piece
+pub record IsPiece (a : Held) : Type 0 where
+  pub distinct : IsDistinct a.keys
+  pub long : length a.words ≡ length a.keys
+
+-- A memory in which turns may be made apart: the arrays that they write are there, and are pieces; and the reduce variables are those of
+-- its forall, each with a slot of its own, which is there and doesn't begin anew.
+pub record IsFormed (h : Changes) (b : Memory) : Type 0 where
+  pub pieces : (slot : ℕ) → is_among slot h.written ≡ true → IsPiece (array_at slot b)
+  pub within : (slot : ℕ) → is_among slot h.written ≡ true → slot < length b.arrays
+  pub intents : b.words.intents ≡ h.reduced
+  pub apart : AreApart (map (λ (p : ℕ × Op). p.0) h.reduced)
+  pub there : AllByRecursion (λ (p : ℕ × Op). p.0 < length b.words.numbers) h.reduced
+  pub stay : AllByRecursion (λ (p : ℕ × Op). is_among p.0 h.anew ≡ false) h.reduced
+
+-- a slot of numbers that turns don't change
+abbrev pub is_kept : Changes → ℕ → Bool
+is_kept h slot = not (is_among slot h.anew) && not (is_among slot (map (λ (p : ℕ × Op). p.0) h.reduced))
+
+-- Another memory, in which the turn of an index finds the same. It may differ in what begins anew, in reduce variables, in the elements of
+-- written arrays at other indices, and in how its arrays are kept.
+pub record IsLike (h : Changes) (t : Index) (s b : Memory) : Type 0 where
+  pub own : (slot : ℕ) → is_among slot h.written ≡ true → held_at t (array_at slot s) ≡ held_at t (array_at slot b)
+  pub lent : (slot : ℕ) → is_among slot h.written ≡ false → (i : Index) → held_at i (array_at slot s) ≡ held_at i (array_at slot b)
+  pub array_domains : (slot : ℕ) → (array_at slot s).ranges ≡ (array_at slot b).ranges
+  pub numbers : (slot : ℕ) → is_kept h slot ≡ true → get_or s.words.numbers slot (pos 0) ≡ get_or b.words.numbers slot (pos 0)
+  pub ranges : (slot : ℕ) → is_among slot h.anew ≡ false → get_or s.words.ranges slot no_range ≡ get_or b.words.ranges slot no_range
+  pub tuples : (slot : ℕ) → is_among slot h.anew ≡ false → get_or s.tuples slot no_tuple ≡ get_or b.tuples slot no_tuple
+  pub room : (length s.words.numbers ≡ length b.words.numbers) × (length s.words.ranges ≡ length b.words.ranges) × (length s.tuples ≡ length b.tuples) × (length s.arrays ≡ length b.arrays)
+  pub domains : s.domains ≡ b.domains
+  pub intents : s.words.intents ≡ b.words.intents
+  pub sets : s.words.sets ≡ b.words.sets
+  pub roots : s.roots ≡ b.roots
+
+-- TURNS THAT KEEP APART
 -- Turns that keep apart over a memory: whatever rows it holds and whatever was added before, each does with its own row what it does
 -- alone, and what it adds may be put together in any order.
 pub record KeepApart (h : Changes) (b : Memory) (place : Index → ℕ) (turn : Index → Run Memory) : Type 0 where
   pub apart : IsApart (AreExact (operators_of h.reduced)) (held_in h b) (loop_in h b place turn) turn
   pub adds : (t : Index) (row : Row) → Adds (AreExact (operators_of h.reduced)) (turn_alone h b turn t row)
 
--- what turns come to over a memory that has their rows, begun with nothing added
-abbrev pub ran_in : Changes → (Index → ℕ) → (Index → Run Memory) → List Index → Memory → Ran Row (List ℤ)
-ran_in h place turn ts b = run (loop_in h b place turn) ts (row_in h b) (unit_words (operators_of h.reduced))
+-- Turns may be made apart: over each such memory they keep apart, and in memories that are like for an index its turn does the same.
+pub record MayBeApart (h : Changes) (turn : Index → Run Memory) : Type 0 where
+  pub keep : (b : Memory) (place : Index → ℕ) → IsFormed h b → KeepApart h b place turn
+  pub alike : (t : Index) (s b : Memory) → IsFormed h s → IsFormed h b → IsLike h t s b → (row : Row) → turn_alone h s turn t row ≡ turn_alone h b turn t row

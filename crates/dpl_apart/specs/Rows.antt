@@ -1,6 +1,6 @@
 -- Loops by their rows: each turn has the row of its own index, and adds to the reduce variables.
 -- What a loop comes to is put together from what its parts come to, each of which begins with nothing added.
-use Rattle.std.specs.Prelude.{◌≡◌, ℕ, zero, suc, ◌<◌, ◌==◌, nat_lt, Bool, false, if◌then◌else◌, List, [], ◌∷◌, filter}
+use Rattle.std.specs.Prelude.{◌≡◌, ℕ, zero, suc, ◌<◌, ◌==◌, nat_lt, Bool, false, if◌then◌else◌, Some, slice_get, List, [], ◌∷◌, filter}
 use Rattle.std.specs.List.{AllByRecursion, list_any}
 use Rattle.dpl_language.specs.Values.{Index, Fault}
 use Rattle.dpl_language.specs.Ranges.{same_index}
@@ -87,6 +87,10 @@ numbered l zero = []
 numbered l (suc n) = l ∷ numbered (suc l) n
 
 -- PLACES
+-- no index is listed twice
+abbrev pub IsDistinct : List Index → Type 0
+IsDistinct ts = (j k : ℕ) (t : Index) → slice_get ts j ≡ Some t → slice_get ts k ≡ Some t → j ≡ k
+
 -- along a list each index has a greater place than those before it
 abbrev pub IsRising : (Index → ℕ) → List Index → Type 0
 IsRising place [] = Unit {0}
