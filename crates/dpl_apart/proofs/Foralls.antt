@@ -1,6 +1,7 @@
 -- A forall over a memory by its parts: each is the turns of a locale's indices over a memory that has their rows, begun with nothing added.
-use Rattle.std.proofs.Common.{◌≡◌, ℕ, ◌<◌, true, ℤ, List, None, refl, sym, ap, ◌∙◌, subst}
-use Rattle.std.specs.List.{AllByRecursion}
+use Rattle.std.proofs.Common.{eqb-true, Bool, false, cond, [], ◌∷◌, ◌==◌, ◌≡◌, ℕ, ◌<◌, true, ℤ, List, None, refl, sym, ap, ◌∙◌, subst}
+use Rattle.std.specs.List.{AllByRecursion, filter}
+use Rattle.dpl_domain.proofs.DistinctLemmas.{AreRanges}
 use Rattle.dpl_sets.specs.Ranges.{RangeValue}
 use Rattle.dpl_sets.specs.Indices.{indices}
 use Rattle.dpl_map.specs.Maps.{AxisValue, owner}
@@ -10,12 +11,13 @@ use Rattle.dpl_language.specs.Outcome.{Deeds, no_deeds, Outcome, Done, Stop, Wai
 use Rattle.dpl_language.specs.Loops.{named_turn}
 use Rattle.dpl_memory.specs.Memory.{Memory, array_at, is_among}
 use Rattle.dpl_apart.specs.Operands.{all_combined, unit_words, AreExact}
-use Rattle.dpl_apart.specs.Rows.{Finished, Failed, Loop, run, onto, dealt, merged, numbered, IsRising, Adds, IsReducing}
+use Rattle.dpl_apart.specs.Rows.{Finished, Failed, Loop, run, onto, dealt, merged, numbered, place_in, IsRising, Adds, IsReducing}
 use Rattle.dpl_apart.specs.Apart.{loop_left, last_index, IsApart, named, named_loop}
 use Rattle.dpl_apart.specs.Memories.{Changes, Row, IsPiece, IsFormed, IsLike, MayBeApart, words_in, operators_of, held_in, row_in, turned_in, turn_alone, loop_in, ran_in, KeepApart}
 use Rattle.dpl_apart.proofs.ReduceWords.{reduce_words}
 use Rattle.dpl_apart.proofs.Split.{run-alike}
 use Rattle.dpl_apart.proofs.InOrder.{in_order-run, named-apart, named-reducing, has-held, has-stopped, failed-at}
+use Rattle.dpl_apart.proofs.Places.{indices-rising}
 use Rattle.dpl_apart.proofs.Located.{in_order-located}
 use Rattle.dpl_apart.proofs.Memories.{holds-own}
 
@@ -107,3 +109,42 @@ module _ (h : Changes) (m : Memory) (place : Index → ℕ) (turn : Index → Ru
       ∙ in_order-located (held_in h m) (loop_in h m place turn) turn (keep-reducing h m place turn keep) keep.apart axes ranges (λ l. row_in h (ms l)) n below rising None (words_in h.reduced m) done exact
       ∙ ap (λ r. loop_left (held_in h m) (last_index None (indices ranges)) done (onto joins (words_in h.reduced m) (merged joins (owner axes) r (Finished (dealt (owner axes) (λ l. row_in h (ms l))) units) (numbered 0 n)))) same_ran
       ∙ ap (λ rs. loop_left (held_in h m) (last_index None (indices ranges)) done (onto joins (words_in h.reduced m) (merged joins (owner axes) (λ l. ran_in h place turn (part ranges axes l) (ms l)) (Finished rs units) (numbered 0 n)))) (sym same)
+
+-- ---- turns that may be made apart
+pub named-may : (h : Changes) (turn : Index → Run Memory) → MayBeApart h turn → MayBeApart h (named_turn turn)
+named-may h turn may = record {
+  keep = λ b place formed. named-keep h b place turn (may.keep b place formed);
+  alike = λ t s b first second like row.
+  let begun : Memory → Memory = λ b. held_in h b None (λ x. row) (unit_words (operators_of h.reduced)) in
+  turned-named h s (λ t. 0) turn t row (turn t (begun s) no_deeds) ∙ ap (named t) (may.alike t s b first second like row) ∙ sym (turned-named h b (λ t. 0) turn t row (turn t (begun b) no_deeds));
+}
+
+-- the indices of a part are its locale's
+part-owners : (owns : Index → ℕ) (l : ℕ) (ts : List Index) → AllByRecursion (λ t. owns t ≡ l) (filter (λ t. owns t == l) ts)
+part-owners owns l [] = tt
+part-owners owns l (t ∷ ts) = by (owns t == l) refl (part-owners owns l ts) where
+  by : (c : Bool) → (owns t == l) ≡ c → AllByRecursion (λ t. owns t ≡ l) (filter (λ t. owns t == l) ts) → AllByRecursion (λ t. owns t ≡ l) (cond c (t ∷ filter (λ t. owns t == l) ts) (filter (λ t. owns t == l) ts))
+  by true e rest = (eqb-true (owns t) l e, rest)
+  by false e rest = rest
+
+each-weaker : {A : Type 0} (P Q : A → Type 0) (xs : List A) → ((x : A) → P x → Q x) → AllByRecursion P xs → AllByRecursion Q xs
+each-weaker P Q [] go h = tt
+each-weaker P Q (x ∷ xs) go h = (go x h.0, each-weaker P Q xs go h.1)
+
+module _ (h : Changes) (turn : Index → Run Memory) (may : MayBeApart h turn) (m : Memory) (formed : IsFormed h m) (exact : AreExact (operators_of h.reduced) (words_in h.reduced m)) (axes : List AxisValue) (ranges : List RangeValue) (limits : AreRanges ranges) (n : ℕ) (below : (t : Index) → owner axes t < n) (ms : ℕ → Memory) (workers : (l : ℕ) → IsFormed h (ms l)) where
+  like-alike : ((t : Index) → IsLike h t m (ms (owner axes t))) → (l : ℕ) → AllByRecursion (λ t. (row : Row) → turn_alone h m turn t row ≡ turn_alone h (ms l) turn t row) (part ranges axes l)
+  unfolding part
+  like-alike like l =
+      each-weaker _ _ (part ranges axes l)
+      (λ (t : Index) (own : owner axes t ≡ l) row. may.alike t m (ms l) formed (workers l) (subst (λ k. IsLike h t m (ms k)) own (like t)) row)
+      (part-owners (owner axes) l (indices ranges))
+
+  -- A forall whose turns may be made apart is what its workers come to, each over a memory that is like the whole one for its own indices
+  -- and has their rows.
+  pub forall-apart : ((t : Index) → row_in h m t ≡ row_in h (ms (owner axes t)) t) → ((t : Index) → IsLike h t m (ms (owner axes t))) → (done : Deeds)
+      → in_order turn (indices ranges) m done
+      ≡ loop_left (held_in h m) (last_index None (indices ranges)) done
+      (onto (all_combined (operators_of h.reduced)) (words_in h.reduced m)
+      (merged (all_combined (operators_of h.reduced)) (owner axes) (λ l. ran_in h (place_in (indices ranges)) turn (part ranges axes l) (ms l)) (Finished (row_in h m) (unit_words (operators_of h.reduced))) (numbered 0 n)))
+  forall-apart rows like done =
+      forall-located h m (place_in (indices ranges)) turn (may.keep m (place_in (indices ranges)) formed) formed.pieces exact axes ranges n below (indices-rising ranges limits) ms rows (like-alike like) done

@@ -5,7 +5,7 @@ use Rattle.std.specs.List.{All, AllByRecursion, filter, list_any}
 use Rattle.std.proofs.lemmas.Bool.Decides.{nat_tests}
 use Rattle.std.proofs.lemmas.List.Elements.{recursion_from_All}
 use Rattle.dpl_language.specs.Values.{Index, Fault}
-use Rattle.dpl_apart.specs.Rows.{Ran, Finished, Failed, Loop, run, either, merge, onto, part_of, is_owned, parts_of, dealt, merged, AreApart, IsRising, AllAdd, Comes}
+use Rattle.dpl_apart.specs.Rows.{Ran, Finished, Failed, Loop, run, either, merge, onto, part_of, is_owned, parts_of, dealt, merged, gathered, all_joined, AreApart, IsRising, AllAdd, Comes}
 use Rattle.dpl_apart.specs.Operands.{IsCommutativeMonoid}
 use Rattle.dpl_apart.proofs.Split.{rising-filter, adds-split, run-split, run-from}
 
@@ -121,6 +121,23 @@ module _ {T V : Type 0} {IsOne : V → Type 0} {unit : V} (loop : Loop T V) (mon
       run-merged a ha =
           run-from loop monoid ts (dealt owner rows) a ha (subst (λ all. AllAdd IsOne loop all (dealt owner rows)) all-parts (parts-add ls apart add))
           ∙ ap (onto loop.join a) run-whole
+
+-- ---- parts none of which has a fault
+gathered-next : {T : Type 0} (owner : Index → ℕ) (ends : ℕ → Index → T) (rows : Index → T) (l : ℕ) (ls : List ℕ)
+    → either (λ t. owner t == l) (ends l) (gathered owner ends rows ls) ≡ gathered owner ends rows (l ∷ ls)
+gathered-next owner ends rows l ls = λ i t. at t (owner t == l) refl i where
+  at : (t : Index) (c : Bool) → (owner t == l) ≡ c → either (λ t. owner t == l) (ends l) (gathered owner ends rows ls) t ≡ gathered owner ends rows (l ∷ ls) t
+  at t true e = rw e (ap (λ m. ends m t) (sym (eqb-true (owner t) l e)))
+  at t false e = rw e refl
+
+-- all that ended leave each index's row as its owner left it, and what they added put together
+pub merged-finished : {T V : Type 0} (join : V → V → V) (unit : V) (owner : Index → ℕ) (each : ℕ → Ran T V) (rows : Index → T) (ends : ℕ → Index → T) (sums : ℕ → V) (ls : List ℕ)
+    → AllByRecursion (λ l. each l ≡ Finished (ends l) (sums l)) ls → merged join owner each (Finished rows unit) ls ≡ Finished (gathered owner ends rows ls) (all_joined join unit sums ls)
+merged-finished join unit owner each rows ends sums [] h = refl
+merged-finished join unit owner each rows ends sums (l ∷ ls) h =
+    ap (λ r. merge join (λ t. owner t == l) r (merged join owner each (Finished rows unit) ls)) h.0
+    ∙ ap (merge join (λ t. owner t == l) (Finished (ends l) (sums l))) (merged-finished join unit owner each rows ends sums ls h.1)
+    ∙ ap (λ rs. Finished rs (join (sums l) (all_joined join unit sums ls))) (gathered-next owner ends rows l ls)
 
 still_less : (j k l : ℕ) → nat_lt j k ≡ true → nat_lt k l ≡ true → nat_lt j l ≡ true
 still_less j k l jk kl = grind (arith, nat_tests)

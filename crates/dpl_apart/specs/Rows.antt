@@ -76,6 +76,15 @@ abbrev pub merged : {T V : Type 0} → (V → V → V) → (Index → ℕ) → (
 merged join owner ran nothing [] = nothing
 merged join owner ran nothing (l ∷ ls) = merge join (λ t. owner t == l) (ran l) (merged join owner ran nothing ls)
 
+-- the rows behind some locales' parts: of an index of theirs its owner's, and of the others as they were
+abbrev pub gathered : {T : Type 0} → (Index → ℕ) → (ℕ → Index → T) → (Index → T) → List ℕ → Index → T
+gathered owner ends rows ls t = if is_owned owner ls t then ends (owner t) t else rows t
+
+-- and what they have added together
+abbrev pub all_joined : {V : Type 0} → (V → V → V) → V → (ℕ → V) → List ℕ → V
+all_joined join unit sums [] = unit
+all_joined join unit sums (l ∷ ls) = join (sums l) (all_joined join unit sums ls)
+
 -- locales of which none is listed twice
 abbrev pub AreApart : List ℕ → Type 0
 AreApart [] = Unit {0}
