@@ -211,19 +211,23 @@ module _ {T V S : Type 0} {IsOne : V → Type 0} {unit : V} (holding : Holding T
             ∙ ap (λ d. Done (holding (last_index last us) held.end held.sum) d) held.deeds,
       )
 
+  -- A turn behind some of the turns of a loop, of which it is none, ends as it does before them all.
+  pub faults-anywhere : (ts : List Index) (last : Option Index) (rows : Index → T) (a : V) (done : Deeds) → IsOne a → IsRising loop.place ts
+      → (before : List Index) (t : Index) (rest : List Index) (u : S) (made : Deeds) → IsPermutation (before ++ t ∷ rest) ts
+      → in_order turn before (holding last rows a) done ≡ Done u made → EndsAs (turn t (holding last rows a) done) (turn t u made)
+  faults-anywhere ts last rows a done ha rising before t rest u made p h =
+      let one = at-most-once loop.place ts rising t in
+      let all = permuted (before ++ t ∷ rest) ts p t in
+      let parts = times-append t before (t ∷ rest) in
+      let here = once-self t in
+      turn-behind before t last rows a done u made ha (omega (arith, one, all, parts, here)) h
+
   -- So turns that keep apart may be made in any order, where what the last one leaves besides isn't seen in the state.
   pub in_any_order : (ts : List Index) (last : Option Index) (rows : Index → T) (a : V) (done : Deeds) → IsOne a → IsRising loop.place ts
       → ((l m : Option Index) (ends : Index → T) (sum : V) → holding l ends sum ≡ holding m ends sum) → InAnyOrder turn ts (holding last rows a) done
   in_any_order ts last rows a done ha rising unseen = record {
-    faults = λ before t rest u made p h. turn-behind before t last rows a done u made ha (alone before t rest p) h;
+    faults = faults-anywhere ts last rows a done ha rising;
     leaves = λ us u made p h.
         let same = leaves-but-last us ts last rows a done u made ha p h in
         same.3 ∙ ap (λ s. Done s made) (unseen (last_index last us) (last_index last ts) same.0 same.1 ∙ sym same.2);
-  } where
-    alone : (before : List Index) (t : Index) (rest : List Index) → IsPermutation (before ++ t ∷ rest) ts → times t before ≡ 0
-    alone before t rest p =
-        let one = at-most-once loop.place ts rising t in
-        let all = permuted (before ++ t ∷ rest) ts p t in
-        let parts = times-append t before (t ∷ rest) in
-        let here = once-self t in
-        omega (arith, one, all, parts, here)
+  }

@@ -115,8 +115,8 @@ pub named-may : (h : Changes) (turn : Index → Run Memory) → MayBeApart h tur
 named-may h turn may = record {
   keep = λ b place formed. named-keep h b place turn (may.keep b place formed);
   alike = λ t s b first second like row.
-  let begun : Memory → Memory = λ b. held_in h b None (λ x. row) (unit_words (operators_of h.reduced)) in
-  turned-named h s (λ t. 0) turn t row (turn t (begun s) no_deeds) ∙ ap (named t) (may.alike t s b first second like row) ∙ sym (turned-named h b (λ t. 0) turn t row (turn t (begun b) no_deeds));
+      let begun : Memory → Memory = λ b. held_in h b None (λ x. row) (unit_words (operators_of h.reduced)) in
+      turned-named h s (λ t. 0) turn t row (turn t (begun s) no_deeds) ∙ ap (named t) (may.alike t s b first second like row) ∙ sym (turned-named h b (λ t. 0) turn t row (turn t (begun b) no_deeds));
 }
 
 -- the indices of a part are its locale's

@@ -1,5 +1,5 @@
 -- Turns that keep apart over a memory: A[i] = f(i, A[i]), which has F1 where A has no such index. So what is asked of turns can be met.
-use Rattle.std.proofs.Common.{eqb-true, ◌≡◌, ℕ, ◌<◌, Bool, true, false, ℤ, pos, List, [], ◌∷◌, Option, Some, None, length, refl, sym, ap, ◌∙◌, arith}
+use Rattle.std.proofs.Common.{eqb-true, ◌≡◌, ℕ, ◌<◌, Bool, true, false, ℤ, pos, List, [], ◌∷◌, Option, Some, None, is_some, length, refl, sym, ap, ◌∙◌, arith}
 use Rattle.std.specs.Prelude.{if◌then◌else◌, unwrap_or, ◌==◌, ◌&&◌, ◌||◌}
 use Rattle.std.specs.List.{list_any}
 use Rattle.std.proofs.lemmas.Bool.Decides.{nat_tests}
@@ -7,11 +7,11 @@ use Rattle.dpl_syntax.specs.declared.place.Place.{Place}
 use Rattle.dpl_language.specs.Values.{Index, fault, Outside}
 use Rattle.dpl_language.specs.Ranges.{same_index}
 use Rattle.dpl_language.specs.Outcome.{Deeds, no_deeds, Done, Stop, Run}
-use Rattle.dpl_memory.specs.Memory.{Memory, array_at, held_at, held_with, with_array, is_among}
+use Rattle.dpl_memory.specs.Memory.{Memory, array_at, held_at, held_with, with_array, is_among, word_at}
 use Rattle.dpl_apart.specs.Operands.{all_combined, AreExact}
-use Rattle.dpl_apart.specs.Rows.{IsDistinct, with_row, Adds}
+use Rattle.dpl_apart.specs.Rows.{IsDistinct, with_row, Adds, Leaves, Fails}
 use Rattle.dpl_apart.specs.Apart.{turn_left}
-use Rattle.dpl_apart.specs.Memories.{Changes, Row, with_elements, held_in, row_in, turned_in, turn_alone, KeepApart}
+use Rattle.dpl_apart.specs.Memories.{Changes, Row, with_elements, held_in, row_in, turned_in, turn_alone, KeepApart, IsFormed, IsLike, MayBeApart}
 use Rattle.dpl_apart.proofs.Indices.{same_index-refl}
 use Rattle.dpl_apart.proofs.Memories.{with_element, put-held, held-element, elements-alike}
 
@@ -99,10 +99,56 @@ module _ (slot : ℕ) (at : Place) (f : Index → ℤ → ℤ) where
         put-absent t last rows a done e
         ∙ sym (ap (λ o. turn_left (held_in writes b) (all_combined []) t rows a done (turned_in writes t (rows t) o)) (put-absent t None (λ x. rows t) [] no_deeds e))
 
-    keeps : KeepApart writes b (λ t. 0) put_turn
-    keeps = record {
+    keeps : (place : Index → ℕ) → KeepApart writes b place put_turn
+    keeps place = record {
       apart = record { each = λ t last rows a done ha. each t last rows a done (list_any (same_index t) (array_at slot b).keys) refl };
       adds = λ t row.
           let s : Memory = held_in writes b None (λ x. row) [] in
           elim (held_at t (array_at slot s)) as (λ o. Adds (AreExact []) (turned_in writes t row (put_by o t s no_deeds))) [ None ↦ tt | Some v ↦ tt ];
     }
+
+  -- an index that an array has, by its words
+  has_word : (t : Index) (keys : List Index) (ws : List ℤ) → length ws ≡ length keys → list_any (same_index t) keys ≡ is_some (word_at t keys ws)
+  has_word t [] ws long = refl
+  has_word t (k ∷ ks) [] long = absurd (omega (arith, long))
+  has_word t (k ∷ ks) (w ∷ ws) long =
+      elim (same_index t k) as (λ c. (c || list_any (same_index t) ks) ≡ is_some (if c then Some w else word_at t ks ws)) [ true ↦ refl | false ↦ has_word t ks ws (omega (arith, long)) ]
+
+  row-same : (t : Index) (row : Row) (s b : Memory) → (row_in writes s t).elements slot ≡ (row_in writes b t).elements slot → row_in writes s t ≡ row_in writes b t
+  row-same t row s b e = λ i. record (row_in writes s t) { elements = λ x. by x (x == slot) refl i } where
+    by : (x : ℕ) (c : Bool) → (x == slot) ≡ c → (row_in writes s t).elements x ≡ (row_in writes b t).elements x
+    by x true is = ap (row_in writes s t).elements (eqb-true x slot is) ∙ e ∙ sym (ap (row_in writes b t).elements (eqb-true x slot is))
+    by x false is = rw is refl
+
+  module _ (s b : Memory) (first : IsFormed writes s) (second : IsFormed writes b) (t : Index) (like : IsLike writes t s b) (row : Row) where
+    here : (m : Memory) → IsFormed writes m → list_any (same_index t) (array_at slot m).keys ≡ is_some (held_at t (array_at slot m))
+    here m formed = has_word t (array_at slot m).keys (array_at slot m).words (formed.pieces slot listed).long
+
+    both : list_any (same_index t) (array_at slot b).keys ≡ list_any (same_index t) (array_at slot s).keys
+    both = here b second ∙ sym (here s first ∙ ap is_some (like.own slot listed))
+
+    -- what the turn leaves, begun with this row
+    abbrev left_in : (m : Memory) → IsFormed writes m → Memory
+    left_in m formed = state_left m (formed.within slot listed) (formed.pieces slot listed).distinct t (λ x. row)
+
+    alone : (m : Memory) (formed : IsFormed writes m) → list_any (same_index t) (array_at slot m).keys ≡ true
+        → turn_alone writes m put_turn t row ≡ Leaves (row_in writes (left_in m formed) t) []
+    alone m formed e = ap (turned_in writes t row) (put-there m (formed.within slot listed) (formed.pieces slot listed).distinct t None (λ x. row) [] no_deeds e)
+
+    absent : (m : Memory) (formed : IsFormed writes m) → list_any (same_index t) (array_at slot m).keys ≡ false → turn_alone writes m put_turn t row ≡ Fails (fault Outside at)
+    absent m formed e = ap (turned_in writes t row) (put-absent m (formed.within slot listed) (formed.pieces slot listed).distinct t None (λ x. row) [] no_deeds e)
+
+    word : (m : Memory) (formed : IsFormed writes m) → list_any (same_index t) (array_at slot m).keys ≡ true
+        → (row_in writes (left_in m formed) t).elements slot ≡ f t (row.elements slot)
+    word m formed e = word-there m (formed.within slot listed) (formed.pieces slot listed).distinct t (λ x. row) e
+
+    turns-alike : (c : Bool) → list_any (same_index t) (array_at slot s).keys ≡ c → turn_alone writes s put_turn t row ≡ turn_alone writes b put_turn t row
+    turns-alike true e =
+        alone s first e ∙ ap (λ r. Leaves r []) (row-same t row (left_in s first) (left_in b second) (word s first e ∙ sym (word b second (both ∙ e)))) ∙ sym (alone b second (both ∙ e))
+    turns-alike false e = absent s first e ∙ sym (absent b second (both ∙ e))
+
+  may_be_apart : MayBeApart writes put_turn
+  may_be_apart = record {
+    keep = λ b place formed. keeps b (formed.within slot listed) (formed.pieces slot listed).distinct place;
+    alike = λ t s b first second like row. turns-alike s b first second t like row (list_any (same_index t) (array_at slot s).keys) refl;
+  }
