@@ -8,7 +8,7 @@ use Rattle.dpl_language.specs.Arithmetic.{combined, unit_of}
 use Rattle.dpl_language.specs.Outcome.{with_ok, naming_value}
 use Rattle.dpl_language.specs.Expressions.{folded}
 use Rattle.dpl_apart.specs.Operands.{IsOperand}
-use Rattle.dpl_apart.specs.Rows.{Ran, Finished, goes_on, with_row, onto, run, part_of, is_owned, merged, AreApart, IsRising, Adds, AllAdd}
+use Rattle.dpl_apart.specs.Rows.{Ran, Finished, goes_on, with_row, onto, run, part_of, is_owned, merged, AreOnce, IsRising, Adds, AllAdd}
 use Rattle.dpl_apart.specs.Folds.{adding, fold_loop, no_rows, fold_of}
 use Rattle.dpl_apart.specs.Apart.{named, named_loop}
 use Rattle.dpl_apart.proofs.Operators.{operators}
@@ -45,7 +45,7 @@ module _ (op : Op) (value : Index → Result Value Fault) (place : Index → ℕ
         | Err f ↦ λ e none. adds-fails (IsOperand op) (fold_loop op value place) t ts no_rows f (ap adding e)
       ] refl here
 
-  module _ (owner : Index → ℕ) (ts : List Index) (rising : IsRising place ts) (ls : List ℕ) (apart : AreApart ls) (owned : All (λ t. is_owned owner ls t ≡ true) ts) where
+  module _ (owner : Index → ℕ) (ts : List Index) (rising : IsRising place ts) (ls : List ℕ) (apart : AreOnce ls) (owned : All (λ t. is_owned owner ls t ≡ true) ts) where
     -- what the part of a locale comes to by itself
     abbrev pub fold_ran : ℕ → Ran (Unit {0}) Value
     fold_ran l = run (fold_loop op value place) (part_of owner l ts) no_rows (unit_of op)

@@ -15,7 +15,7 @@ use Rattle.dpl_language.specs.Ranges.{indices_in}
 use Rattle.dpl_language.specs.Expressions.{fold_over}
 use Rattle.dpl_language.specs.Outcome.{Deeds, Run, in_order, naming_value}
 use Rattle.dpl_apart.specs.Operands.{IsCommutativeMonoid, IsOperand}
-use Rattle.dpl_apart.specs.Rows.{Ran, Finished, Loop, run, onto, part_of, is_owned, dealt, merged, AreApart, numbered, IsRising, AllAdd, IsReducing}
+use Rattle.dpl_apart.specs.Rows.{Ran, Finished, Loop, run, onto, part_of, is_owned, dealt, merged, AreOnce, numbered, IsRising, AllAdd, IsReducing}
 use Rattle.dpl_apart.specs.Apart.{Holding, loop_left, last_index, IsApart}
 use Rattle.dpl_apart.proofs.Split.{all-add}
 use Rattle.dpl_apart.proofs.InOrder.{in_order-run}
@@ -30,7 +30,7 @@ not-among m l (suc n) below =
     let other : (m == l) ≡ false = grind (arith, nat_tests) in
     rw other (not-among m (suc l) n (omega (arith, below)))
 
-pub numbered-apart : (l n : ℕ) → AreApart (numbered l n)
+pub numbered-apart : (l n : ℕ) → AreOnce (numbered l n)
 numbered-apart l zero = tt
 numbered-apart l (suc n) = (not-among l (suc l) n (omega arith), numbered-apart (suc l) n)
 
@@ -92,7 +92,7 @@ fold_over-located op value place axes rs n below rising add =
 
 -- ---- a part that is cut into domains, each of which has a number
 pub cut-owned : {P : Type 0} (elements : P → List Index) (ts : List Index) (pieces : List P) (cut : AreCut elements ts pieces)
-    → AreApart (numbered 0 (length pieces)) × All (λ t. is_owned cut.number (numbered 0 (length pieces)) t ≡ true) ts
+    → AreOnce (numbered 0 (length pieces)) × All (λ t. is_owned cut.number (numbered 0 (length pieces)) t ≡ true) ts
 cut-owned elements ts pieces cut = (
   numbered-apart 0 (length pieces),
   λ k d within. let less = cut.numbered k d within in among (cut.number (get_or ts k d)) 0 (length pieces) (omega arith) (omega (arith, less)),

@@ -8,8 +8,8 @@ use Rattle.dpl_language.specs.Tree.{Op}
 use Rattle.dpl_language.specs.Values.{Index}
 use Rattle.dpl_language.specs.Ranges.{same_index}
 use Rattle.dpl_memory.specs.Memory.{Held, Memory, held_with, no_array, array_at, word_at, with_word, held_at, is_among}
-use Rattle.dpl_apart.specs.Rows.{AreApart, IsDistinct}
-use Rattle.dpl_apart.specs.Memories.{Changes, Row, IsPiece, IsFormed, held_by, held_by_if, with_elements, with_words, words_in, with_left, with_last, held_in, row_in}
+use Rattle.dpl_apart.specs.Rows.{AreOnce, IsDistinct}
+use Rattle.dpl_apart.specs.Memories.{Changes, Row, IsPiece, IsFormed, held_by, held_by_if, with_elements, with_words, words_in, with_values, with_last, held_in, row_in}
 use Rattle.dpl_apart.proofs.Indices.{same_index-refl, same_index-sound, not-same}
 use Rattle.dpl_apart.proofs.Places.{distinct-rest, distinct-first, others}
 
@@ -127,17 +127,13 @@ module _ (h : Changes) (m : Memory) (pieces : (slot : ℕ) → is_among slot h.w
       λ i. record m { words = record m.words { numbers = numbers i }; arrays = arrays i }
 
 -- ---- what a memory that holds rows has
-left-arrays : (anew : List ℕ) (row : Row) (s : Memory) → (with_left anew row s).arrays ≡ s.arrays
-left-arrays [] row s = refl
-left-arrays (slot ∷ slots) row s = left-arrays slots row s
-
-last-arrays : (anew : List ℕ) (last : Option Index) (rows : Index → Row) (s : Memory) → (with_last anew last rows s).arrays ≡ s.arrays
-last-arrays anew None rows s = refl
-last-arrays anew (Some t) rows s = left-arrays anew (rows t) s
+last-arrays : (h : Changes) (last : Option Index) (rows : Index → Row) (s : Memory) → (with_last h last rows s).arrays ≡ s.arrays
+last-arrays h None rows s = refl
+last-arrays h (Some t) rows s = refl
 
 module _ (h : Changes) (b : Memory) (last : Option Index) (rows : Index → Row) (a : List ℤ) where
   pub held-arrays : (held_in h b last rows a).arrays ≡ with_elements 0 h.written rows b.arrays
-  held-arrays = last-arrays h.anew last rows _
+  held-arrays = last-arrays h last rows _
 
   pub held-array : (slot : ℕ) → array_at slot (held_in h b last rows a) ≡ held_by_if (is_among slot h.written) (λ t. (rows t).elements slot) (array_at slot b)
   held-array slot = ap (λ hs. get_or hs slot no_array) held-arrays ∙ element-here slot h.written rows b.arrays
@@ -156,20 +152,6 @@ module _ (h : Changes) (b : Memory) (last : Option Index) (rows : Index → Row)
 -- the rows with another element of an array at an index
 abbrev pub with_element : Index → ℕ → ℤ → (Index → Row) → Index → Row
 with_element t slot w rows x = record (rows x) { elements = λ s. if same_index x t && (s == slot) then w else (rows x).elements s }
-
-left-put : (anew : List ℕ) (row : Row) (elements : ℕ → ℤ) (s : Memory) (hs : List Held)
-    → record (with_left anew row s) { arrays = hs } ≡ with_left anew (record row { elements = elements }) (record s { arrays = hs })
-left-put [] row elements s hs = refl
-left-put (slot ∷ slots) row elements s hs =
-    ap
-    (λ (rest : Memory). record rest {
-      words = record rest.words {
-        numbers = set rest.words.numbers slot (row.numbers slot);
-        ranges = set rest.words.ranges slot (row.ranges slot);
-      };
-      tuples = set rest.tuples slot (row.tuples slot);
-    })
-    (left-put slots row elements s hs)
 
 module _ (h : Changes) (b : Memory) (rows : Index → Row) (slot : ℕ) (t : Index) (w : ℤ) (written : is_among slot h.written ≡ true) (within : slot < length b.arrays) (distinct : IsDistinct (array_at slot b).keys) where
   abbrev changed : Index → Row
@@ -230,7 +212,7 @@ module _ (h : Changes) (b : Memory) (rows : Index → Row) (slot : ℕ) (t : Ind
 
     by : (last : Option Index) → record (held_in h b last rows a) { arrays = with_elements 0 h.written changed b.arrays } ≡ held_in h b last changed a
     by None = refl
-    by (Some l) = left-put h.anew (rows l) (changed l).elements _ (with_elements 0 h.written changed b.arrays)
+    by (Some l) = refl
 
 -- ---- the words of reduce variables
 words-length : (ps : List (ℕ × Op)) (ws numbers : List ℤ) → length (with_words ps ws numbers) ≡ length numbers
@@ -253,7 +235,7 @@ other-words p w (q ∷ qs) numbers h = by (p.0 == q.0) refl h (other-words p w q
       let behind = rest h in
       λ i. here i ∷ behind i
 
-words-of : (ps : List (ℕ × Op)) (ws numbers : List ℤ) → length ws ≡ length ps → AreApart (map (λ (p : ℕ × Op). p.0) ps) → AllByRecursion (λ (p : ℕ × Op). p.0 < length numbers) ps
+words-of : (ps : List (ℕ × Op)) (ws numbers : List ℤ) → length ws ≡ length ps → AreOnce (map (λ (p : ℕ × Op). p.0) ps) → AllByRecursion (λ (p : ℕ × Op). p.0 < length numbers) ps
     → map (λ (p : ℕ × Op). get_or (with_words ps ws numbers) p.0 (pos 0)) ps ≡ ws
 words-of [] [] numbers long apart there = refl
 words-of [] (w ∷ ws) numbers long apart there = absurd (omega (arith, long))
@@ -265,25 +247,25 @@ words-of (p ∷ ps) (w ∷ ws) numbers long apart there =
     let rest = other-words p w ps (with_words ps ws numbers) apart.0 ∙ words-of ps ws numbers (omega (arith, long)) apart.1 there.1 in
     λ i. here i ∷ rest i
 
--- what is left in slots that begin anew isn't put into others
-left-other : (anew : List ℕ) (row : Row) (s : Memory) (slot : ℕ) → is_among slot anew ≡ false → get_or (with_left anew row s).words.numbers slot (pos 0) ≡ get_or s.words.numbers slot (pos 0)
-left-other [] row s slot h = refl
-left-other (i ∷ is) row s slot h = by (slot == i) refl h (left-other is row s slot) where
-  by : (c : Bool) → (slot == i) ≡ c → (c || is_among slot is) ≡ false → (is_among slot is ≡ false → get_or (with_left is row s).words.numbers slot (pos 0) ≡ get_or s.words.numbers slot (pos 0))
-      → get_or (with_left (i ∷ is) row s).words.numbers slot (pos 0) ≡ get_or s.words.numbers slot (pos 0)
+-- a value isn't put into other slots
+other-value : (slots : List ℕ) (value : ℕ → ℤ) (numbers : List ℤ) (slot : ℕ) → is_among slot slots ≡ false → get_or (with_values slots value numbers) slot (pos 0) ≡ get_or numbers slot (pos 0)
+other-value [] value numbers slot h = refl
+other-value (i ∷ is) value numbers slot h = by (slot == i) refl h (other-value is value numbers slot) where
+  by : (c : Bool) → (slot == i) ≡ c → (c || is_among slot is) ≡ false → (is_among slot is ≡ false → get_or (with_values is value numbers) slot (pos 0) ≡ get_or numbers slot (pos 0))
+      → get_or (with_values (i ∷ is) value numbers) slot (pos 0) ≡ get_or numbers slot (pos 0)
   by true e h rest = absurd cc
   by false e h rest =
       let other : slot ≢ i = grind (arith, nat_tests) in
-      get_or-set_other (with_left is row s).words.numbers i slot (row.numbers i) (pos 0) other ∙ rest h
+      get_or-set_other (with_values is value numbers) i slot (value i) (pos 0) other ∙ rest h
 
-last-other : (anew : List ℕ) (last : Option Index) (rows : Index → Row) (s : Memory) (ps : List (ℕ × Op)) → AllByRecursion (λ (p : ℕ × Op). is_among p.0 anew ≡ false) ps
-    → words_in ps (with_last anew last rows s) ≡ words_in ps s
-last-other anew last rows s ps h = map-same _ _ ps (each-weaker _ _ ps (by last) h) where
-  by : (last : Option Index) (p : ℕ × Op) → is_among p.0 anew ≡ false → get_or (with_last anew last rows s).words.numbers p.0 (pos 0) ≡ get_or s.words.numbers p.0 (pos 0)
+last-other : (h : Changes) (last : Option Index) (rows : Index → Row) (s : Memory) (ps : List (ℕ × Op)) → AllByRecursion (λ (p : ℕ × Op). is_among p.0 h.numbers ≡ false) ps
+    → words_in ps (with_last h last rows s) ≡ words_in ps s
+last-other h last rows s ps apart = map-same _ _ ps (each-weaker _ _ ps (by last) apart) where
+  by : (last : Option Index) (p : ℕ × Op) → is_among p.0 h.numbers ≡ false → get_or (with_last h last rows s).words.numbers p.0 (pos 0) ≡ get_or s.words.numbers p.0 (pos 0)
   by None p e = refl
-  by (Some t) p e = left-other anew (rows t) s p.0 e
+  by (Some t) p e = other-value h.numbers (rows t).numbers s.words.numbers p.0 e
 
 -- the reduce variables of a memory that holds them
 pub held-words : (h : Changes) (b : Memory) (last : Option Index) (rows : Index → Row) (a : List ℤ) → IsFormed h b → length a ≡ length h.reduced → words_in h.reduced (held_in h b last rows a) ≡ a
 held-words h b last rows a formed long =
-    last-other h.anew last rows _ h.reduced formed.stay ∙ words-of h.reduced a b.words.numbers long formed.apart formed.there
+    last-other h last rows _ h.reduced formed.stay ∙ words-of h.reduced a b.words.numbers long formed.apart formed.there

@@ -5,7 +5,7 @@ use Rattle.std.specs.List.{All, AllByRecursion, filter, list_any}
 use Rattle.std.proofs.lemmas.Bool.Decides.{nat_tests}
 use Rattle.std.proofs.lemmas.List.Elements.{recursion_from_All}
 use Rattle.dpl_language.specs.Values.{Index, Fault}
-use Rattle.dpl_apart.specs.Rows.{Ran, Finished, Failed, Loop, run, either, merge, onto, part_of, is_owned, parts_of, dealt, merged, gathered, all_joined, AreApart, IsRising, AllAdd, Comes}
+use Rattle.dpl_apart.specs.Rows.{Ran, Finished, Failed, Loop, run, either, merge, onto, part_of, is_owned, parts_of, dealt, merged, gathered, all_joined, AreOnce, IsRising, AllAdd, Comes}
 use Rattle.dpl_apart.specs.Operands.{IsCommutativeMonoid}
 use Rattle.dpl_apart.proofs.Split.{rising-filter, adds-split, run-split, run-from}
 
@@ -36,7 +36,7 @@ both-others true r h = sym (h refl)
 both-others false true h = refl
 both-others false false h = refl
 
-module _ (owner : Index → ℕ) (l : ℕ) (ls : List ℕ) (apart : AreApart (l ∷ ls)) (ts : List Index) where
+module _ (owner : Index → ℕ) (l : ℕ) (ls : List ℕ) (apart : AreOnce (l ∷ ls)) (ts : List Index) where
   -- of the parts of some locales, the first locale's; and the others'
   first-part : filter (λ t. owner t == l) (parts_of owner (l ∷ ls) ts) ≡ part_of owner l ts
   first-part =
@@ -70,7 +70,7 @@ module _ {T V : Type 0} {IsOne : V → Type 0} {unit : V} (loop : Loop T V) (mon
   PartAdds l = AllAdd IsOne loop (part_of owner l ts) (rows l)
 
   -- so do those of several parts, over each owner's rows
-  pub parts-add : (ls : List ℕ) → AreApart ls → AllByRecursion PartAdds ls → AllAdd IsOne loop (parts_of owner ls ts) (dealt owner rows)
+  pub parts-add : (ls : List ℕ) → AreOnce ls → AllByRecursion PartAdds ls → AllAdd IsOne loop (parts_of owner ls ts) (dealt owner rows)
   parts-add [] apart h = subst (λ none. AllAdd IsOne loop none (dealt owner rows)) (sym (filter-none ts)) tt
   parts-add (l ∷ ls) apart h =
       let both : List Index = parts_of owner (l ∷ ls) ts in
@@ -82,7 +82,7 @@ module _ {T V : Type 0} {IsOne : V → Type 0} {unit : V} (loop : Loop T V) (mon
 
   module _ (rising : IsRising loop.place ts) where
     -- the parts of some locales are the part of the first and those of the others, merged
-    pub run-next : (l : ℕ) (ls : List ℕ) → AreApart (l ∷ ls) → AllByRecursion PartAdds (l ∷ ls)
+    pub run-next : (l : ℕ) (ls : List ℕ) → AreOnce (l ∷ ls) → AllByRecursion PartAdds (l ∷ ls)
         → run loop (parts_of owner (l ∷ ls) ts) (dealt owner rows) unit ≡ merge loop.join (λ t. owner t == l) (ran l) (run loop (parts_of owner ls ts) (dealt owner rows) unit)
     run-next l ls apart h =
         let both : List Index = parts_of owner (l ∷ ls) ts in
@@ -97,19 +97,19 @@ module _ {T V : Type 0} {IsOne : V → Type 0} {unit : V} (loop : Loop T V) (mon
         ∙ ap (λ others. merge loop.join here (ran l) (run loop others (dealt owner rows) unit)) (other-parts owner l ls apart ts)
 
     -- The parts of some locales are what each of them comes to, merged.
-    pub run-parts : (ls : List ℕ) → AreApart ls → AllByRecursion PartAdds ls → run loop (parts_of owner ls ts) (dealt owner rows) unit ≡ merged loop.join owner ran nothing ls
+    pub run-parts : (ls : List ℕ) → AreOnce ls → AllByRecursion PartAdds ls → run loop (parts_of owner ls ts) (dealt owner rows) unit ≡ merged loop.join owner ran nothing ls
     run-parts [] apart h = ap (λ none. run loop none (dealt owner rows) unit) (filter-none ts)
     run-parts (l ∷ ls) apart h = run-next l ls apart h ∙ ap (merge loop.join (λ t. owner t == l) (ran l)) (run-parts ls apart.1 h.1)
 
     -- In whatever order locales are listed their parts come to the same together.
-    pub merged-any-order : (ls ks : List ℕ) → AreApart ls → AreApart ks → AllByRecursion PartAdds ls → AllByRecursion PartAdds ks → ((t : Index) → is_owned owner ls t ≡ is_owned owner ks t)
+    pub merged-any-order : (ls ks : List ℕ) → AreOnce ls → AreOnce ks → AllByRecursion PartAdds ls → AllByRecursion PartAdds ks → ((t : Index) → is_owned owner ls t ≡ is_owned owner ks t)
         → merged loop.join owner ran nothing ls ≡ merged loop.join owner ran nothing ks
     merged-any-order ls ks apart others h more same =
         let parts : is_owned owner ls ≡ is_owned owner ks = λ i t. same t i in
         sym (run-parts ls apart h) ∙ ap (λ p. run loop (filter p ts) (dealt owner rows) unit) parts ∙ run-parts ks others more
 
     -- where each index of a loop is owned by one of some locales, their parts are the loop
-    module _ (ls : List ℕ) (apart : AreApart ls) (add : AllByRecursion PartAdds ls) (owned : All (λ t. is_owned owner ls t ≡ true) ts) where
+    module _ (ls : List ℕ) (apart : AreOnce ls) (add : AllByRecursion PartAdds ls) (owned : All (λ t. is_owned owner ls t ≡ true) ts) where
       all-parts : parts_of owner ls ts ≡ ts
       all-parts = filter-all (is_owned owner ls) ts (recursion_from_All (λ t. is_owned owner ls t ≡ true) ts owned)
 

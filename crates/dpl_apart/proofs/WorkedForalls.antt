@@ -24,7 +24,7 @@ module _ (slot : ℕ) (at : Place) (f : Index → ℤ → ℤ) where
   put_turn t s done = put_by (held_at t (array_at slot s)) t s done
 
   abbrev writes : Changes
-  writes = record { written = slot ∷ []; reduced = []; anew = [] }
+  writes = record { written = slot ∷ []; reduced = []; numbers = []; ranges = []; tuples = [] }
 
   listed : is_among slot (slot ∷ []) ≡ true
   listed = let yes : (slot == slot) ≡ true = grind (arith, nat_tests) in rw yes refl

@@ -9,15 +9,17 @@ use Rattle.dpl_language.specs.Outcome.{Outcome, Done, Stop, Waits, Run, no_deeds
 use Rattle.dpl_words.specs.Words.{no_range}
 use Rattle.dpl_memory.specs.Memory.{Held, Memory, no_tuple, array_at, held_at, is_among}
 use Rattle.dpl_apart.specs.Operands.{all_combined, unit_words, AreExact}
-use Rattle.dpl_apart.specs.Rows.{Turned, Leaves, Fails, Ran, Loop, run, AreApart, IsDistinct, Adds}
+use Rattle.dpl_apart.specs.Rows.{Turned, Leaves, Fails, Ran, Loop, run, AreOnce, IsDistinct, Adds}
 use Rattle.dpl_apart.specs.Apart.{IsApart}
 
 -- What turns that keep apart may change, by slots: the elements of some arrays, each turn those at its own index; reduce variables, by
--- their operators; and what begins anew in each turn.
+-- their operators; and numbers, ranges and tuples that begin anew in each turn, as its variables and those of its body do.
 pub record Changes : Type 0 where
   pub written : List ℕ
   pub reduced : List (ℕ × Op)
-  pub anew : List ℕ
+  pub numbers : List ℕ
+  pub ranges : List ℕ
+  pub tuples : List ℕ
 
 -- what an index has, by slots: its elements of written arrays; and what its turn has left in the slots that begin anew
 pub record Row : Type 0 where
@@ -42,6 +44,7 @@ with_elements first written rows (a ∷ more) =
     held_by_if (is_among first written) (λ t. (rows t).elements first) a ∷ with_elements (first + 1) written rows more
 
 -- REDUCE VARIABLES
+-- numbers with words of reduce variables, and these words in a memory
 abbrev pub with_words : List (ℕ × Op) → List ℤ → List ℤ → List ℤ
 with_words (p ∷ ps) (w ∷ ws) numbers = set (with_words ps ws numbers) p.0 w
 with_words _ _ numbers = numbers
@@ -53,27 +56,29 @@ abbrev pub operators_of : List (ℕ × Op) → List Op
 operators_of ps = map (λ (p : ℕ × Op). p.1) ps
 
 -- WHAT BEGINS ANEW
-abbrev pub with_left : List ℕ → Row → Memory → Memory
-with_left [] row s = s
-with_left (slot ∷ slots) row s =
-    let rest : Memory = with_left slots row s in
-    record rest {
-      words = record rest.words {
-        numbers = set rest.words.numbers slot (row.numbers slot);
-        ranges = set rest.words.ranges slot (row.ranges slot);
-      };
-      tuples = set rest.tuples slot (row.tuples slot);
-    }
+-- other values in some slots
+abbrev pub with_values : {A : Type 0} → List ℕ → (ℕ → A) → List A → List A
+with_values [] value xs = xs
+with_values (slot ∷ slots) value xs = set (with_values slots value xs) slot (value slot)
+
+abbrev pub with_left : Changes → Row → Memory → Memory
+with_left h row s = record s {
+  words = record s.words {
+    numbers = with_values h.numbers row.numbers s.words.numbers;
+    ranges = with_values h.ranges row.ranges s.words.ranges;
+  };
+  tuples = with_values h.tuples row.tuples s.tuples;
+}
 
 -- what the last turn has left, if there was one
-abbrev pub with_last : List ℕ → Option Index → (Index → Row) → Memory → Memory
-with_last anew None rows s = s
-with_last anew (Some t) rows s = with_left anew (rows t) s
+abbrev pub with_last : Changes → Option Index → (Index → Row) → Memory → Memory
+with_last h None rows s = s
+with_last h (Some t) rows s = with_left h (rows t) s
 
 -- A MEMORY THAT HOLDS ROWS and reduce variables, and is another one in all that turns don't change
 abbrev pub held_in : Changes → Memory → Option Index → (Index → Row) → List ℤ → Memory
 held_in h b last rows a =
-    with_last h.anew last rows
+    with_last h last rows
     (record b {
       words = record b.words { numbers = with_words h.reduced a b.words.numbers };
       arrays = with_elements 0 h.written rows b.arrays;
@@ -83,9 +88,9 @@ held_in h b last rows a =
 abbrev pub row_in : Changes → Memory → Index → Row
 row_in h s t = record {
   elements = λ slot. if is_among slot h.written then unwrap_or (held_at t (array_at slot s)) (pos 0) else pos 0;
-  numbers = λ slot. if is_among slot h.anew then get_or s.words.numbers slot (pos 0) else pos 0;
-  ranges = λ slot. if is_among slot h.anew then get_or s.words.ranges slot no_range else no_range;
-  tuples = λ slot. if is_among slot h.anew then get_or s.tuples slot no_tuple else no_tuple;
+  numbers = λ slot. if is_among slot h.numbers then get_or s.words.numbers slot (pos 0) else pos 0;
+  ranges = λ slot. if is_among slot h.ranges then get_or s.words.ranges slot no_range else no_range;
+  tuples = λ slot. if is_among slot h.tuples then get_or s.tuples slot no_tuple else no_tuple;
 }
 
 -- THE LOOP OF TURNS OVER MEMORIES
@@ -123,13 +128,13 @@ pub record IsFormed (h : Changes) (b : Memory) : Type 0 where
   pub pieces : (slot : ℕ) → is_among slot h.written ≡ true → IsPiece (array_at slot b)
   pub within : (slot : ℕ) → is_among slot h.written ≡ true → slot < length b.arrays
   pub intents : b.words.intents ≡ h.reduced
-  pub apart : AreApart (map (λ (p : ℕ × Op). p.0) h.reduced)
+  pub apart : AreOnce (map (λ (p : ℕ × Op). p.0) h.reduced)
   pub there : AllByRecursion (λ (p : ℕ × Op). p.0 < length b.words.numbers) h.reduced
-  pub stay : AllByRecursion (λ (p : ℕ × Op). is_among p.0 h.anew ≡ false) h.reduced
+  pub stay : AllByRecursion (λ (p : ℕ × Op). is_among p.0 h.numbers ≡ false) h.reduced
 
 -- a slot of numbers that turns don't change
 abbrev pub is_kept : Changes → ℕ → Bool
-is_kept h slot = not (is_among slot h.anew) && not (is_among slot (map (λ (p : ℕ × Op). p.0) h.reduced))
+is_kept h slot = not (is_among slot h.numbers) && not (is_among slot (map (λ (p : ℕ × Op). p.0) h.reduced))
 
 -- Another memory, in which the turn of an index finds the same. It may differ in what begins anew, in reduce variables, in the elements of
 -- written arrays at other indices, and in how its arrays are kept.
@@ -138,9 +143,12 @@ pub record IsLike (h : Changes) (t : Index) (s b : Memory) : Type 0 where
   pub lent : (slot : ℕ) → is_among slot h.written ≡ false → (i : Index) → held_at i (array_at slot s) ≡ held_at i (array_at slot b)
   pub array_domains : (slot : ℕ) → (array_at slot s).ranges ≡ (array_at slot b).ranges
   pub numbers : (slot : ℕ) → is_kept h slot ≡ true → get_or s.words.numbers slot (pos 0) ≡ get_or b.words.numbers slot (pos 0)
-  pub ranges : (slot : ℕ) → is_among slot h.anew ≡ false → get_or s.words.ranges slot no_range ≡ get_or b.words.ranges slot no_range
-  pub tuples : (slot : ℕ) → is_among slot h.anew ≡ false → get_or s.tuples slot no_tuple ≡ get_or b.tuples slot no_tuple
-  pub room : (length s.words.numbers ≡ length b.words.numbers) × (length s.words.ranges ≡ length b.words.ranges) × (length s.tuples ≡ length b.tuples) × (length s.arrays ≡ length b.arrays)
+  pub ranges : (slot : ℕ) → is_among slot h.ranges ≡ false → get_or s.words.ranges slot no_range ≡ get_or b.words.ranges slot no_range
+  pub tuples : (slot : ℕ) → is_among slot h.tuples ≡ false → get_or s.tuples slot no_tuple ≡ get_or b.tuples slot no_tuple
+  pub number_slots : length s.words.numbers ≡ length b.words.numbers
+  pub range_slots : length s.words.ranges ≡ length b.words.ranges
+  pub tuple_slots : length s.tuples ≡ length b.tuples
+  pub array_slots : length s.arrays ≡ length b.arrays
   pub domains : s.domains ≡ b.domains
   pub intents : s.words.intents ≡ b.words.intents
   pub sets : s.words.sets ≡ b.words.sets

@@ -5,7 +5,8 @@ use Rattle.dpl_language.specs.Values.{Value, Int, kept_number}
 use Rattle.dpl_language.specs.Arithmetic.{combined, unit_of}
 use Rattle.dpl_words.specs.Words.{is_true, is_logical}
 
--- An operation that puts some values together in whatever order and from whatever parts, and the one of them that adds nothing.
+-- An operation that puts values together in whatever order and from whatever parts, where each is one of some values; and the one of
+-- these that adds nothing.
 pub record IsCommutativeMonoid {V : Type 0} (IsOne : V → Type 0) (op : V → V → V) (unit : V) : Type 0 where
   pub one : IsOne unit
   pub closed : (a b : V) → IsOne a → IsOne b → IsOne (op a b)

@@ -86,9 +86,9 @@ all_joined join unit sums [] = unit
 all_joined join unit sums (l ∷ ls) = join (sums l) (all_joined join unit sums ls)
 
 -- locales of which none is listed twice
-abbrev pub AreApart : List ℕ → Type 0
-AreApart [] = Unit {0}
-AreApart (l ∷ ls) = (list_any (λ m. l == m) ls ≡ false) × AreApart ls
+abbrev pub AreOnce : List ℕ → Type 0
+AreOnce [] = Unit {0}
+AreOnce (l ∷ ls) = (list_any (λ m. l == m) ls ≡ false) × AreOnce ls
 
 -- so many locales, numbered on from one
 abbrev pub numbered : ℕ → ℕ → List ℕ
