@@ -3,7 +3,7 @@ use Rattle.std.proofs.Common.{eqb-true, ◌≢◌, ◌≡◌, ℕ, zero, suc, �
 use Rattle.std.specs.Prelude.{if◌then◌else◌, unwrap_or, ◌&&◌, ◌||◌, ◌==◌}
 use Rattle.std.specs.List.{AllByRecursion, list_any}
 use Rattle.std.proofs.lemmas.Bool.Decides.{nat_tests}
-use Rattle.std.proofs.lemmas.List.{ext_get_or, set-get_or, get_or-set_same, get_or-set_other, length-set}
+use Rattle.std.proofs.lemmas.List.{ext_get_or, set-get_or, get_or-set_same, get_or-set_other, length-set, set-set, set_comm}
 use Rattle.dpl_language.specs.Tree.{Op}
 use Rattle.dpl_language.specs.Values.{Index}
 use Rattle.dpl_language.specs.Ranges.{same_index}
@@ -269,3 +269,50 @@ last-other h last rows s ps apart = map-same _ _ ps (each-weaker _ _ ps (by last
 pub held-words : (h : Changes) (b : Memory) (last : Option Index) (rows : Index → Row) (a : List ℤ) → IsFormed h b → length a ≡ length h.reduced → words_in h.reduced (held_in h b last rows a) ≡ a
 held-words h b last rows a formed long =
     last-other h last rows _ h.reduced formed.stay ∙ words-of h.reduced a b.words.numbers long formed.apart formed.there
+
+-- ---- a reduce variable that is changed
+-- words of reduce variables with another one for a slot
+abbrev pub word_for : List (ℕ × Op) → ℕ → ℤ → List ℤ → List ℤ
+word_for (p ∷ ps) r x (w ∷ ws) = if r == p.0 then x ∷ ws else w ∷ word_for ps r x ws
+word_for _ r x a = a
+
+words-set : (ps : List (ℕ × Op)) (r : ℕ) (x : ℤ) (a numbers : List ℤ) → is_among r (map (λ (p : ℕ × Op). p.0) ps) ≡ true → length a ≡ length ps → set (with_words ps a numbers) r x ≡ with_words ps (word_for ps r x a) numbers
+words-set [] r x a numbers among long = absurd cc
+words-set (p ∷ ps) r x [] numbers among long = absurd (omega (arith, long))
+words-set (p ∷ ps) r x (w ∷ ws) numbers among long = by (r == p.0) refl among (λ more. words-set ps r x ws numbers more (omega (arith, long))) where
+  by : (c : Bool) → (r == p.0) ≡ c → (c || is_among r (map (λ (p : ℕ × Op). p.0) ps)) ≡ true
+      → (is_among r (map (λ (p : ℕ × Op). p.0) ps) ≡ true → set (with_words ps ws numbers) r x ≡ with_words ps (word_for ps r x ws) numbers)
+      → set (with_words (p ∷ ps) (w ∷ ws) numbers) r x ≡ with_words (p ∷ ps) (word_for (p ∷ ps) r x (w ∷ ws)) numbers
+  by true e among rest =
+      let here : r ≡ p.0 = eqb-true r p.0 e in
+      rw e (ap (λ i. set (set (with_words ps ws numbers) p.0 w) i x) here ∙ set-set (with_words ps ws numbers) p.0 w x)
+  by false e among rest =
+      let other : p.0 ≢ r = grind (arith, nat_tests) in
+      rw e (set_comm (with_words ps ws numbers) p.0 r w x other ∙ ap (λ ns. set ns p.0 w) (rest among))
+
+values-set : (slots : List ℕ) (value : ℕ → ℤ) (numbers : List ℤ) (r : ℕ) (x : ℤ) → is_among r slots ≡ false → set (with_values slots value numbers) r x ≡ with_values slots value (set numbers r x)
+values-set [] value numbers r x h = refl
+values-set (i ∷ is) value numbers r x h = by (r == i) refl h (values-set is value numbers r x) where
+  by : (c : Bool) → (r == i) ≡ c → (c || is_among r is) ≡ false → (is_among r is ≡ false → set (with_values is value numbers) r x ≡ with_values is value (set numbers r x))
+      → set (with_values (i ∷ is) value numbers) r x ≡ with_values (i ∷ is) value (set numbers r x)
+  by true e h rest = absurd cc
+  by false e h rest =
+      let other : i ≢ r = grind (arith, nat_tests) in
+      set_comm (with_values is value numbers) i r (value i) x other ∙ ap (λ ns. set ns i (value i)) (rest h)
+
+-- So a word that is put into a reduce variable of a memory that holds rows is put among its words.
+pub reduce-held : (h : Changes) (b : Memory) (last : Option Index) (rows : Index → Row) (a : List ℤ) (r : ℕ) (x : ℤ) → is_among r (map (λ (p : ℕ × Op). p.0) h.reduced) ≡ true → is_among r h.numbers ≡ false
+    → length a ≡ length h.reduced
+    → record (held_in h b last rows a) { words = record (held_in h b last rows a).words { numbers = set (held_in h b last rows a).words.numbers r x } } ≡ held_in h b last rows (word_for h.reduced r x a)
+reduce-held h b last rows a r x among stay long = by last where
+  words : set (with_words h.reduced a b.words.numbers) r x ≡ with_words h.reduced (word_for h.reduced r x a) b.words.numbers
+  words = words-set h.reduced r x a b.words.numbers among long
+
+  by : (last : Option Index)
+      → record (held_in h b last rows a) { words = record (held_in h b last rows a).words { numbers = set (held_in h b last rows a).words.numbers r x } } ≡ held_in h b last rows (word_for h.reduced r x a)
+  by None = λ i. record (held_in h b None rows a) { words = record b.words { numbers = words i } }
+  by (Some t) =
+      let s : Memory = held_in h b (Some t) rows a in
+      let numbers : set (with_values h.numbers (rows t).numbers (with_words h.reduced a b.words.numbers)) r x ≡ with_values h.numbers (rows t).numbers (with_words h.reduced (word_for h.reduced r x a) b.words.numbers) =
+      values-set h.numbers (rows t).numbers (with_words h.reduced a b.words.numbers) r x stay ∙ ap (with_values h.numbers (rows t).numbers) words in
+      λ i. record s { words = record s.words { numbers = numbers i } }

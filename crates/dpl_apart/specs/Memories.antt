@@ -164,4 +164,5 @@ pub record KeepApart (h : Changes) (b : Memory) (place : Index → ℕ) (turn : 
 -- Turns may be made apart: over each such memory they keep apart, and in memories that are like for an index its turn does the same.
 pub record MayBeApart (h : Changes) (turn : Index → Run Memory) : Type 0 where
   pub keep : (b : Memory) (place : Index → ℕ) → IsFormed h b → KeepApart h b place turn
-  pub alike : (t : Index) (s b : Memory) → IsFormed h s → IsFormed h b → IsLike h t s b → (row : Row) → turn_alone h s turn t row ≡ turn_alone h b turn t row
+  pub alike : (t : Index) (s b : Memory) → IsFormed h s → IsFormed h b → IsLike h t s b
+      → (row : Row) → turn_alone h s turn t row ≡ turn_alone h b turn t row
