@@ -1,8 +1,9 @@
 -- In whatever order turns that keep apart are made, the same of them have faults, and where none has the same is left.
 use Rattle.std.proofs.Common.{◌≡◌, ℕ, ◌+◌, ◌<◌, ◌≤◌, Bool, true, false, cond, List, [], ◌∷◌, ◌++◌, Option, refl, sym, ap, ◌∙◌, subst, arith}
 use Rattle.std.specs.Prelude.{IsPermutation}
-use Rattle.std.specs.List.{AllByRecursion, sum_by}
-use Rattle.std.proofs.lemmas.List.Sorted.{sum_by-IsPermutation}
+use Rattle.std.specs.List.{All, AllByRecursion, sum_by}
+use Rattle.std.proofs.lemmas.List.Elements.{recursion_from_All}
+use Rattle.std.proofs.lemmas.List.Sorted.{sum_by-IsPermutation, All-permutation, IsPermutation-sym}
 use Rattle.std.proofs.lemmas.List.Recursion.{is_sum_by}
 use Rattle.dpl_language.specs.Values.{Index}
 use Rattle.dpl_language.specs.Ranges.{same_index}
@@ -79,6 +80,10 @@ at-most-once place (t ∷ ts) h x = by (same_index x t) refl (at-most-once place
       let here : once x t ≡ 1 = rw e refl in
       omega (arith, none, here)
   by false e rest = let here : once x t ≡ 0 = rw e refl in omega (arith, rest, here)
+
+all-parts : {X : Type 0} (P : X → Type 0) (xs ys : List X) → AllByRecursion P (xs ++ ys) → AllByRecursion P xs × AllByRecursion P ys
+all-parts P [] ys h = (tt, h)
+all-parts P (x ∷ xs) ys h = let rest = all-parts P xs ys h.1 in ((h.0, rest.0), rest.1)
 
 -- ---- rows
 with_row-other : {T : Type 0} (t : Index) (row : T) (rows : Index → T) (x : Index) → same_index x t ≡ false → with_row t row rows x ≡ rows x
@@ -178,56 +183,58 @@ module _ {T V : Type 0} {IsOne : V → Type 0} {unit : V} (loop : Loop T V) (law
       (run-permuted us (at.before ++ at.behind) (with_row u left.row rows) (loop.join a left.adds) end sum (joined a left.adds ha (added u (rows u) left.row left.adds left.turn)) others left.rest)
 
 -- ---- over a state
-module _ {T V S : Type 0} {IsOne : V → Type 0} {unit : V} (holding : Holding T V S) (loop : Loop T V) (turn : Index → Run S) (lawful : IsReducing IsOne unit loop) (apart : IsApart IsOne holding loop turn) where
+module _ {T V S : Type 0} {IsIndex : Index → Type 0} {IsOne : V → Type 0} {unit : V} (holding : Holding T V S) (loop : Loop T V) (turn : Index → Run S) (lawful : IsReducing IsOne unit loop) (apart : IsApart IsIndex IsOne holding loop turn) where
   ends-alike : (t : Index) (rows ends : Index → T) (a b : V) (done made : Deeds) (w : Turned T V)
       → EndsAs (turn_left holding loop.join t rows a done w) (turn_left holding loop.join t ends b made w)
   ends-alike t rows ends a b done made (Leaves row v) = (_, _, refl)
   ends-alike t rows ends a b done made (Fails f) = (_, refl)
 
   -- a turn behind others ends as it does before them, where it isn't one of them
-  pub turn-behind : (before : List Index) (t : Index) (last : Option Index) (rows : Index → T) (a : V) (done : Deeds) (u : S) (made : Deeds) → IsOne a → times t before ≡ 0
+  pub turn-behind : (before : List Index) (t : Index) (last : Option Index) (rows : Index → T) (a : V) (done : Deeds) (u : S) (made : Deeds) → IsOne a → AllByRecursion IsIndex before → IsIndex t → times t before ≡ 0
       → in_order turn before (holding last rows a) done ≡ Done u made → EndsAs (turn t (holding last rows a) done) (turn t u made)
-  turn-behind before t last rows a done u made ha none h =
-      let held = has-held holding loop turn lawful apart before last rows a done u made ha h in
+  turn-behind before t last rows a done u made ha all among none h =
+      let held = has-held holding loop turn lawful apart before last rows a done u made ha all h in
       let its_row : held.end t ≡ rows t = row-stays loop lawful before rows a held.end held.sum t held.ran none in
-      let alone : turn_left holding loop.join t rows a done (loop.turn t (rows t)) ≡ turn t (holding last rows a) done = sym (apart.each t last rows a done ha) in
+      let alone : turn_left holding loop.join t rows a done (loop.turn t (rows t)) ≡ turn t (holding last rows a) done = sym (apart.each t last rows a done among ha) in
       let behind : turn_left holding loop.join t held.end held.sum made (loop.turn t (rows t)) ≡ turn t u made =
       ap (λ row. turn_left holding loop.join t held.end held.sum made (loop.turn t row)) (sym its_row)
-      ∙ sym (apart.each t (last_index last before) held.end held.sum made held.is_one)
+      ∙ sym (apart.each t (last_index last before) held.end held.sum made among held.is_one)
       ∙ ap (λ s. turn t s made) held.state in
       subst (λ o. EndsAs o (turn t u made)) alone (subst (EndsAs (turn_left holding loop.join t rows a done (loop.turn t (rows t)))) behind (ends-alike t rows held.end a held.sum done made (loop.turn t (rows t))))
 
   -- The same turns in another order leave the same rows and the same reduce variables. What is left besides is what their own last one leaves.
-  pub leaves-but-last : (us ts : List Index) (last : Option Index) (rows : Index → T) (a : V) (done : Deeds) (u : S) (made : Deeds) → IsOne a → IsPermutation us ts
+  pub leaves-but-last : (us ts : List Index) (last : Option Index) (rows : Index → T) (a : V) (done : Deeds) (u : S) (made : Deeds) → IsOne a → All IsIndex ts → IsPermutation us ts
       → in_order turn ts (holding last rows a) done ≡ Done u made
       → (ends : Index → T) × (sum : V) × (u ≡ holding (last_index last ts) ends sum) × (in_order turn us (holding last rows a) done ≡ Done (holding (last_index last us) ends sum) made)
-  leaves-but-last us ts last rows a done u made ha p h =
-      let held = has-held holding loop turn lawful apart ts last rows a done u made ha h in (
+  leaves-but-last us ts last rows a done u made ha all p h =
+      let held = has-held holding loop turn lawful apart ts last rows a done u made ha (recursion_from_All IsIndex ts all) h in (
         held.end,
         held.sum,
         sym held.state,
-        in_order-run holding loop turn lawful apart us last rows a done ha
+        in_order-run holding loop turn lawful apart us last rows a done ha (recursion_from_All IsIndex us (All-permutation IsIndex ts us (IsPermutation-sym us ts p) all))
             ∙ ap (loop_left holding (last_index last us) done) (run-permuted loop lawful us ts rows a held.end held.sum ha (permuted us ts p) held.ran)
             ∙ ap (λ d. Done (holding (last_index last us) held.end held.sum) d) held.deeds,
       )
 
   -- A turn behind some of the turns of a loop, of which it is none, ends as it does before them all.
-  pub faults-anywhere : (ts : List Index) (last : Option Index) (rows : Index → T) (a : V) (done : Deeds) → IsOne a → IsRising loop.place ts
+  pub faults-anywhere : (ts : List Index) (last : Option Index) (rows : Index → T) (a : V) (done : Deeds) → IsOne a → All IsIndex ts → IsRising loop.place ts
       → (before : List Index) (t : Index) (rest : List Index) (u : S) (made : Deeds) → IsPermutation (before ++ t ∷ rest) ts
       → in_order turn before (holding last rows a) done ≡ Done u made → EndsAs (turn t (holding last rows a) done) (turn t u made)
-  faults-anywhere ts last rows a done ha rising before t rest u made p h =
+  faults-anywhere ts last rows a done ha all rising before t rest u made p h =
       let one = at-most-once loop.place ts rising t in
-      let all = permuted (before ++ t ∷ rest) ts p t in
+      let same = permuted (before ++ t ∷ rest) ts p t in
       let parts = times-append t before (t ∷ rest) in
       let here = once-self t in
-      turn-behind before t last rows a done u made ha (omega (arith, one, all, parts, here)) h
+      let among : AllByRecursion IsIndex (before ++ t ∷ rest) = recursion_from_All IsIndex (before ++ t ∷ rest) (All-permutation IsIndex ts (before ++ t ∷ rest) (IsPermutation-sym (before ++ t ∷ rest) ts p) all) in
+      let both = all-parts IsIndex before (t ∷ rest) among in
+      turn-behind before t last rows a done u made ha both.0 both.1.0 (omega (arith, one, same, parts, here)) h
 
   -- So turns that keep apart may be made in any order, where what the last one leaves besides isn't seen in the state.
-  pub in_any_order : (ts : List Index) (last : Option Index) (rows : Index → T) (a : V) (done : Deeds) → IsOne a → IsRising loop.place ts
+  pub in_any_order : (ts : List Index) (last : Option Index) (rows : Index → T) (a : V) (done : Deeds) → IsOne a → All IsIndex ts → IsRising loop.place ts
       → ((l m : Option Index) (ends : Index → T) (sum : V) → holding l ends sum ≡ holding m ends sum) → InAnyOrder turn ts (holding last rows a) done
-  in_any_order ts last rows a done ha rising unseen = record {
-    faults = faults-anywhere ts last rows a done ha rising;
+  in_any_order ts last rows a done ha all rising unseen = record {
+    faults = faults-anywhere ts last rows a done ha all rising;
     leaves = λ us u made p h.
-        let same = leaves-but-last us ts last rows a done u made ha p h in
+        let same = leaves-but-last us ts last rows a done u made ha all p h in
         same.3 ∙ ap (λ s. Done s made) (unseen (last_index last us) (last_index last ts) same.0 same.1 ∙ sym same.2);
   }

@@ -1,5 +1,5 @@
 -- A forall over a memory by its parts: each is the turns of a locale's indices over a memory that has their rows, begun with nothing added.
-use Rattle.std.proofs.Common.{eqb-true, Bool, false, cond, [], ◌∷◌, ◌==◌, ◌≡◌, ℕ, ◌<◌, true, ℤ, List, None, refl, sym, ap, ◌∙◌, subst}
+use Rattle.std.proofs.Common.{length, eqb-true, Bool, false, cond, [], ◌∷◌, ◌==◌, ◌≡◌, ℕ, ◌<◌, true, ℤ, List, None, refl, sym, ap, ◌∙◌, subst}
 use Rattle.std.specs.List.{AllByRecursion, filter}
 use Rattle.dpl_domain.proofs.DistinctLemmas.{AreRanges}
 use Rattle.dpl_sets.specs.Ranges.{RangeValue}
@@ -13,11 +13,11 @@ use Rattle.dpl_memory.specs.Memory.{Memory, array_at, is_among}
 use Rattle.dpl_apart.specs.Operands.{all_combined, unit_words, AreExact}
 use Rattle.dpl_apart.specs.Rows.{Finished, Failed, Loop, run, onto, dealt, merged, numbered, place_in, IsRising, Adds, IsReducing}
 use Rattle.dpl_apart.specs.Apart.{loop_left, last_index, IsApart, named, named_loop}
-use Rattle.dpl_apart.specs.Memories.{Changes, Row, IsPiece, IsFormed, IsLike, MayBeApart, words_in, operators_of, held_in, row_in, turned_in, turn_alone, loop_in, ran_in, KeepApart}
+use Rattle.dpl_apart.specs.Memories.{Changes, Row, IsPiece, IsFormed, IsLike, MayBeApart, IsOfRank, words_in, operators_of, held_in, row_in, turned_in, turn_alone, loop_in, ran_in, KeepApart}
 use Rattle.dpl_apart.proofs.ReduceWords.{reduce_words}
-use Rattle.dpl_apart.proofs.Split.{run-alike}
+use Rattle.dpl_apart.proofs.Split.{run-alike, each-filter}
 use Rattle.dpl_apart.proofs.InOrder.{in_order-run, named-apart, named-reducing, has-held, has-stopped, failed-at}
-use Rattle.dpl_apart.proofs.Places.{indices-rising}
+use Rattle.dpl_apart.proofs.Places.{indices-rising, indices-of-rank}
 use Rattle.dpl_apart.proofs.Located.{in_order-located}
 use Rattle.dpl_apart.proofs.Memories.{holds-own}
 
@@ -38,7 +38,7 @@ module _ (h : Changes) (b : Memory) (place : Index → ℕ) (turn : Index → Ru
 
   pub named-keep : KeepApart h b place turn → KeepApart h b place (named_turn turn)
   named-keep keep = record {
-    apart = subst (λ loop. IsApart (AreExact (operators_of h.reduced)) (held_in h b) loop (named_turn turn)) (sym loop-named) (named-apart (held_in h b) (loop_in h b place turn) turn keep.apart);
+    apart = subst (λ loop. IsApart (IsOfRank h) (AreExact (operators_of h.reduced)) (held_in h b) loop (named_turn turn)) (sym loop-named) (named-apart (held_in h b) (loop_in h b place turn) turn keep.apart);
     adds = λ t row.
         let reducing : IsReducing (AreExact (operators_of h.reduced)) (unit_words (operators_of h.reduced)) (named_loop (loop_in h b place turn)) = named-reducing (loop_in h b place turn) (keep-reducing keep) in
         subst (λ (loop : Loop Row (List ℤ)). Adds (AreExact (operators_of h.reduced)) (loop.turn t row)) (sym loop-named) (reducing.adds t row);
@@ -54,28 +54,28 @@ module _ (h : Changes) (b : Memory) (place : Index → ℕ) (turn : Index → Ru
 
   module _ (keep : KeepApart h b place turn) (pieces : (slot : ℕ) → is_among slot h.written ≡ true → IsPiece (array_at slot b)) where
     -- Turns in order over a memory are the run over its rows.
-    pub in_order-held : (ts : List Index) (done : Deeds) → AreExact (operators_of h.reduced) (words_in h.reduced b)
+    pub in_order-held : (ts : List Index) (done : Deeds) → AllByRecursion (IsOfRank h) ts → AreExact (operators_of h.reduced) (words_in h.reduced b)
         → in_order turn ts b done ≡ loop_left (held_in h b) (last_index None ts) done (run (loop_in h b place turn) ts (row_in h b) (words_in h.reduced b))
-    in_order-held ts done exact =
+    in_order-held ts done all exact =
         ap (λ s. in_order turn ts s done) (sym (holds-own h b pieces))
-        ∙ in_order-run (held_in h b) (loop_in h b place turn) turn (keep-reducing keep) keep.apart ts None (row_in h b) (words_in h.reduced b) done exact
+        ∙ in_order-run (held_in h b) (loop_in h b place turn) turn (keep-reducing keep) keep.apart ts None (row_in h b) (words_in h.reduced b) done exact all
 
     -- ---- a worker's memory, whose reduce variables hold nothing
-    module _ (begun : words_in h.reduced b ≡ unit_words (operators_of h.reduced)) (ts : List Index) (done : Deeds) where
+    module _ (begun : words_in h.reduced b ≡ unit_words (operators_of h.reduced)) (ts : List Index) (all : AllByRecursion (IsOfRank h) ts) (done : Deeds) where
       begins : held_in h b None (row_in h b) (unit_words (operators_of h.reduced)) ≡ b
       begins = ap (held_in h b None (row_in h b)) (sym begun) ∙ holds-own h b pieces
 
       pub worker-done : (u : Memory) (made : Deeds) → in_order turn ts b done ≡ Done u made → HasEnded ts u
       worker-done u made e =
           let held = has-held (held_in h b) (loop_in h b place turn) turn (keep-reducing keep) keep.apart ts None (row_in h b) (unit_words (operators_of h.reduced)) done u made
-          (reduce_words (operators_of h.reduced)).one
+          (reduce_words (operators_of h.reduced)).one all
           (ap (λ s. in_order turn ts s done) begins ∙ e) in
           record { rows = held.end; words = held.sum; ran = held.ran; exact = held.is_one; state = held.state }
 
       pub worker-stopped : (f : Fault) (made : Deeds) → in_order turn ts b done ≡ Stop f made → (k : ℕ) × (ran_in h place turn ts b ≡ Failed k f)
       worker-stopped f made e =
           has-stopped (held_in h b) (loop_in h b place turn) turn (keep-reducing keep) keep.apart ts None (row_in h b) (unit_words (operators_of h.reduced)) done f made
-          (reduce_words (operators_of h.reduced)).one
+          (reduce_words (operators_of h.reduced)).one all
           (ap (λ s. in_order turn ts s done) begins ∙ e)
 
 -- the place at which a worker's turns stop is that of the turn which their fault names
@@ -85,7 +85,7 @@ stopped-at h b place turn ts k f e =
     failed-at (loop_in h b place turn) ts (row_in h b) (unit_words (operators_of h.reduced)) k f
     (ap (λ loop. run loop ts (row_in h b) (unit_words (operators_of h.reduced))) (sym (loop-named h b place turn)) ∙ e)
 
-module _ (h : Changes) (m : Memory) (place : Index → ℕ) (turn : Index → Run Memory) (keep : KeepApart h m place turn) (pieces : (slot : ℕ) → is_among slot h.written ≡ true → IsPiece (array_at slot m)) (exact : AreExact (operators_of h.reduced) (words_in h.reduced m)) (axes : List AxisValue) (ranges : List RangeValue) (n : ℕ) (below : (t : Index) → owner axes t < n) (rising : IsRising place (indices ranges)) (ms : ℕ → Memory) where
+module _ (h : Changes) (m : Memory) (place : Index → ℕ) (turn : Index → Run Memory) (keep : KeepApart h m place turn) (pieces : (slot : ℕ) → is_among slot h.written ≡ true → IsPiece (array_at slot m)) (exact : AreExact (operators_of h.reduced) (words_in h.reduced m)) (axes : List AxisValue) (ranges : List RangeValue) (n : ℕ) (below : (t : Index) → owner axes t < n) (rising : IsRising place (indices ranges)) (of_rank : length ranges ≡ h.rank) (ms : ℕ → Memory) where
   abbrev joins : List ℤ → List ℤ → List ℤ
   joins = all_combined (operators_of h.reduced)
 
@@ -106,7 +106,7 @@ module _ (h : Changes) (m : Memory) (place : Index → ℕ) (turn : Index → Ru
       λ i l. run-alike (loop_in h m place turn) (turn_alone h (ms l) turn) (part ranges axes l) (row_in h (ms l)) units (alike l) i in
       ap (λ s. in_order turn (indices ranges) s done) (sym (holds-own h m pieces))
       ∙ ap (λ rs. in_order turn (indices ranges) (held_in h m None rs (words_in h.reduced m)) done) same
-      ∙ in_order-located (held_in h m) (loop_in h m place turn) turn (keep-reducing h m place turn keep) keep.apart axes ranges (λ l. row_in h (ms l)) n below rising None (words_in h.reduced m) done exact
+      ∙ in_order-located (held_in h m) (loop_in h m place turn) turn (keep-reducing h m place turn keep) keep.apart axes ranges (λ l. row_in h (ms l)) n below rising (indices-of-rank ranges h.rank of_rank) None (words_in h.reduced m) done exact
       ∙ ap (λ r. loop_left (held_in h m) (last_index None (indices ranges)) done (onto joins (words_in h.reduced m) (merged joins (owner axes) r (Finished (dealt (owner axes) (λ l. row_in h (ms l))) units) (numbered 0 n)))) same_ran
       ∙ ap (λ rs. loop_left (held_in h m) (last_index None (indices ranges)) done (onto joins (words_in h.reduced m) (merged joins (owner axes) (λ l. ran_in h place turn (part ranges axes l) (ms l)) (Finished rs units) (numbered 0 n)))) (sym same)
 
@@ -114,9 +114,9 @@ module _ (h : Changes) (m : Memory) (place : Index → ℕ) (turn : Index → Ru
 pub named-may : (h : Changes) (turn : Index → Run Memory) → MayBeApart h turn → MayBeApart h (named_turn turn)
 named-may h turn may = record {
   keep = λ b place formed. named-keep h b place turn (may.keep b place formed);
-  alike = λ t s b first second like row.
+  alike = λ t s b of_rank first second like row.
       let begun : Memory → Memory = λ b. held_in h b None (λ x. row) (unit_words (operators_of h.reduced)) in
-      turned-named h s (λ t. 0) turn t row (turn t (begun s) no_deeds) ∙ ap (named t) (may.alike t s b first second like row) ∙ sym (turned-named h b (λ t. 0) turn t row (turn t (begun b) no_deeds));
+      turned-named h s (λ t. 0) turn t row (turn t (begun s) no_deeds) ∙ ap (named t) (may.alike t s b of_rank first second like row) ∙ sym (turned-named h b (λ t. 0) turn t row (turn t (begun b) no_deeds));
 }
 
 -- the indices of a part are its locale's
@@ -131,20 +131,24 @@ each-weaker : {A : Type 0} (P Q : A → Type 0) (xs : List A) → ((x : A) → P
 each-weaker P Q [] go h = tt
 each-weaker P Q (x ∷ xs) go h = (go x h.0, each-weaker P Q xs go h.1)
 
-module _ (h : Changes) (turn : Index → Run Memory) (may : MayBeApart h turn) (m : Memory) (formed : IsFormed h m) (exact : AreExact (operators_of h.reduced) (words_in h.reduced m)) (axes : List AxisValue) (ranges : List RangeValue) (limits : AreRanges ranges) (n : ℕ) (below : (t : Index) → owner axes t < n) (ms : ℕ → Memory) (workers : (l : ℕ) → IsFormed h (ms l)) where
-  like-alike : ((t : Index) → IsLike h t m (ms (owner axes t))) → (l : ℕ) → AllByRecursion (λ t. (row : Row) → turn_alone h m turn t row ≡ turn_alone h (ms l) turn t row) (part ranges axes l)
+each-both : {A : Type 0} (P Q : A → Type 0) (xs : List A) → AllByRecursion P xs → AllByRecursion Q xs → AllByRecursion (λ x. P x × Q x) xs
+each-both P Q [] h k = tt
+each-both P Q (x ∷ xs) h k = ((h.0, k.0), each-both P Q xs h.1 k.1)
+
+module _ (h : Changes) (turn : Index → Run Memory) (may : MayBeApart h turn) (m : Memory) (formed : IsFormed h m) (exact : AreExact (operators_of h.reduced) (words_in h.reduced m)) (axes : List AxisValue) (ranges : List RangeValue) (limits : AreRanges ranges) (of_rank : length ranges ≡ h.rank) (n : ℕ) (below : (t : Index) → owner axes t < n) (ms : ℕ → Memory) (workers : (l : ℕ) → IsFormed h (ms l)) where
+  like-alike : ((t : Index) → IsOfRank h t → IsLike h t m (ms (owner axes t))) → (l : ℕ) → AllByRecursion (λ t. (row : Row) → turn_alone h m turn t row ≡ turn_alone h (ms l) turn t row) (part ranges axes l)
   unfolding part
   like-alike like l =
       each-weaker _ _ (part ranges axes l)
-      (λ (t : Index) (own : owner axes t ≡ l) row. may.alike t m (ms l) formed (workers l) (subst (λ k. IsLike h t m (ms k)) own (like t)) row)
-      (part-owners (owner axes) l (indices ranges))
+      (λ (t : Index) (own : (owner axes t ≡ l) × IsOfRank h t) row. may.alike t m (ms l) own.1 formed (workers l) (subst (λ k. IsLike h t m (ms k)) own.0 (like t own.1)) row)
+      (each-both _ _ (part ranges axes l) (part-owners (owner axes) l (indices ranges)) (each-filter (IsOfRank h) (λ t. owner axes t == l) (indices ranges) (indices-of-rank ranges h.rank of_rank)))
 
   -- A forall whose turns may be made apart is what its workers come to, each over a memory that is like the whole one for its own indices
   -- and has their rows.
-  pub forall-apart : ((t : Index) → row_in h m t ≡ row_in h (ms (owner axes t)) t) → ((t : Index) → IsLike h t m (ms (owner axes t))) → (done : Deeds)
+  pub forall-apart : ((t : Index) → row_in h m t ≡ row_in h (ms (owner axes t)) t) → ((t : Index) → IsOfRank h t → IsLike h t m (ms (owner axes t))) → (done : Deeds)
       → in_order turn (indices ranges) m done
       ≡ loop_left (held_in h m) (last_index None (indices ranges)) done
       (onto (all_combined (operators_of h.reduced)) (words_in h.reduced m)
       (merged (all_combined (operators_of h.reduced)) (owner axes) (λ l. ran_in h (place_in (indices ranges)) turn (part ranges axes l) (ms l)) (Finished (row_in h m) (unit_words (operators_of h.reduced))) (numbered 0 n)))
   forall-apart rows like done =
-      forall-located h m (place_in (indices ranges)) turn (may.keep m (place_in (indices ranges)) formed) formed.pieces exact axes ranges n below (indices-rising ranges limits) ms rows (like-alike like) done
+      forall-located h m (place_in (indices ranges)) turn (may.keep m (place_in (indices ranges)) formed) formed.pieces exact axes ranges n below (indices-rising ranges limits) of_rank ms rows (like-alike like) done

@@ -1,5 +1,6 @@
 -- Turns that keep apart, made in order over a state, are the loop over its rows.
 use Rattle.std.proofs.Common.{◌≡◌, List, [], ◌∷◌, Option, Some, refl, sym, ap, ◌∙◌, subst, ℕ}
+use Rattle.std.specs.List.{AllByRecursion}
 use Rattle.dpl_language.specs.Values.{Index, Fault, InTurn, in_the_turn}
 use Rattle.dpl_language.specs.Outcome.{Deeds, Run, then_do, in_order, naming, Done, Stop}
 use Rattle.dpl_language.specs.Loops.{named_turn}
@@ -11,18 +12,18 @@ use Rattle.dpl_apart.proofs.Split.{run-leaves, run-fails, all-add, run-comes}
 done-parts : {S : Type 0} (s u : S) (done made : Deeds) → Done s done ≡ Done u made → (s ≡ u) × (done ≡ made)
 done-parts s u done made e = let states : s ≡ u = cc in let deeds : done ≡ made = cc in (states, deeds)
 
-module _ {T V S : Type 0} {IsOne : V → Type 0} {unit : V} (holding : Holding T V S) (loop : Loop T V) (turn : Index → Run S) (lawful : IsReducing IsOne unit loop) (apart : IsApart IsOne holding loop turn) where
-  pub in_order-run : (ts : List Index) (last : Option Index) (rows : Index → T) (a : V) (done : Deeds) → IsOne a
+module _ {T V S : Type 0} {IsIndex : Index → Type 0} {IsOne : V → Type 0} {unit : V} (holding : Holding T V S) (loop : Loop T V) (turn : Index → Run S) (lawful : IsReducing IsOne unit loop) (apart : IsApart IsIndex IsOne holding loop turn) where
+  pub in_order-run : (ts : List Index) (last : Option Index) (rows : Index → T) (a : V) (done : Deeds) → IsOne a → AllByRecursion IsIndex ts
       → in_order turn ts (holding last rows a) done ≡ loop_left holding (last_index last ts) done (run loop ts rows a)
-  in_order-run [] last rows a done ha = refl
-  in_order-run (t ∷ ts) last rows a done ha =
+  in_order-run [] last rows a done ha all = refl
+  in_order-run (t ∷ ts) last rows a done ha all =
       elim (loop.turn t (rows t)) as (λ w. loop.turn t (rows t) ≡ w → in_order turn (t ∷ ts) (holding last rows a) done ≡ loop_left holding (last_index last (t ∷ ts)) done (run loop (t ∷ ts) rows a)) [
         | Leaves row v ↦ λ e.
-            ap (λ o. then_do o (in_order turn ts)) (apart.each t last rows a done ha ∙ ap (turn_left holding loop.join t rows a done) e)
-            ∙ in_order-run ts (Some t) (with_row t row rows) (loop.join a v) done (lawful.monoid.closed a v ha (subst (Adds IsOne) e (lawful.adds t (rows t))))
+            ap (λ o. then_do o (in_order turn ts)) (apart.each t last rows a done all.0 ha ∙ ap (turn_left holding loop.join t rows a done) e)
+            ∙ in_order-run ts (Some t) (with_row t row rows) (loop.join a v) done (lawful.monoid.closed a v ha (subst (Adds IsOne) e (lawful.adds t (rows t)))) all.1
             ∙ ap (loop_left holding (last_index (Some t) ts) done) (sym (run-leaves loop t ts rows a row v e))
         | Fails f ↦ λ e.
-            ap (λ o. then_do o (in_order turn ts)) (apart.each t last rows a done ha ∙ ap (turn_left holding loop.join t rows a done) e)
+            ap (λ o. then_do o (in_order turn ts)) (apart.each t last rows a done all.0 ha ∙ ap (turn_left holding loop.join t rows a done) e)
             ∙ ap (loop_left holding (last_index (Some t) ts) done) (sym (run-fails loop t ts rows a f e))
       ] refl
 
@@ -35,24 +36,24 @@ module _ {T V S : Type 0} {IsOne : V → Type 0} {unit : V} (holding : Holding T
     pub state : holding (last_index last ts) end sum ≡ u
     pub deeds : done ≡ made
 
-  pub has-held : (ts : List Index) (last : Option Index) (rows : Index → T) (a : V) (done : Deeds) (u : S) (made : Deeds) → IsOne a
+  pub has-held : (ts : List Index) (last : Option Index) (rows : Index → T) (a : V) (done : Deeds) (u : S) (made : Deeds) → IsOne a → AllByRecursion IsIndex ts
       → in_order turn ts (holding last rows a) done ≡ Done u made → HasHeld ts last rows a done u made
-  has-held ts last rows a done u made ha h = by (run loop ts rows a) refl where
+  has-held ts last rows a done u made ha all h = by (run loop ts rows a) refl where
     by : (r : Ran T V) → run loop ts rows a ≡ r → HasHeld ts last rows a done u made
     by (Finished end sum) e =
         let ends : Done (holding (last_index last ts) end sum) done ≡ Done u made =
-        sym (in_order-run ts last rows a done ha ∙ ap (loop_left holding (last_index last ts) done) e) ∙ h in
+        sym (in_order-run ts last rows a done ha all ∙ ap (loop_left holding (last_index last ts) done) e) ∙ h in
         let parts = done-parts (holding (last_index last ts) end sum) u done made ends in
         record { end = end; sum = sum; ran = e; is_one = subst (Comes IsOne) e (run-comes loop lawful.monoid ts rows a ha (all-add IsOne loop lawful.adds ts rows)); state = parts.0; deeds = parts.1 }
     by (Failed k f) e =
-        absurd (let no : Stop f done ≡ Done u made = sym (in_order-run ts last rows a done ha ∙ ap (loop_left holding (last_index last ts) done) e) ∙ h in cc)
+        absurd (let no : Stop f done ≡ Done u made = sym (in_order-run ts last rows a done ha all ∙ ap (loop_left holding (last_index last ts) done) e) ∙ h in cc)
 
   -- and turns that stop with a fault are a loop that has it
-  pub has-stopped : (ts : List Index) (last : Option Index) (rows : Index → T) (a : V) (done : Deeds) (f : Fault) (made : Deeds) → IsOne a
+  pub has-stopped : (ts : List Index) (last : Option Index) (rows : Index → T) (a : V) (done : Deeds) (f : Fault) (made : Deeds) → IsOne a → AllByRecursion IsIndex ts
       → in_order turn ts (holding last rows a) done ≡ Stop f made → (k : ℕ) × (run loop ts rows a ≡ Failed k f)
-  has-stopped ts last rows a done f made ha h = by (run loop ts rows a) refl where
+  has-stopped ts last rows a done f made ha all h = by (run loop ts rows a) refl where
     ends : (r : Ran T V) → run loop ts rows a ≡ r → loop_left holding (last_index last ts) done r ≡ Stop f made
-    ends r e = sym (in_order-run ts last rows a done ha ∙ ap (loop_left holding (last_index last ts) done) e) ∙ h
+    ends r e = sym (in_order-run ts last rows a done ha all ∙ ap (loop_left holding (last_index last ts) done) e) ∙ h
 
     by : (r : Ran T V) → run loop ts rows a ≡ r → (k : ℕ) × (run loop ts rows a ≡ Failed k f)
     by (Finished end sum) e = absurd (let no : Done (holding (last_index last ts) end sum) done ≡ Stop f made = ends (Finished end sum) e in cc)
@@ -64,10 +65,10 @@ left-named : {T V S : Type 0} (holding : Holding T V S) (join : V → V → V) (
 left-named holding join t rows a done (Leaves row v) = refl
 left-named holding join t rows a done (Fails f) = refl
 
-pub named-apart : {T V S : Type 0} {IsOne : V → Type 0} (holding : Holding T V S) (loop : Loop T V) (turn : Index → Run S)
-    → IsApart IsOne holding loop turn → IsApart IsOne holding (named_loop loop) (named_turn turn)
+pub named-apart : {T V S : Type 0} {IsIndex : Index → Type 0} {IsOne : V → Type 0} (holding : Holding T V S) (loop : Loop T V) (turn : Index → Run S)
+    → IsApart IsIndex IsOne holding loop turn → IsApart IsIndex IsOne holding (named_loop loop) (named_turn turn)
 named-apart holding loop turn apart = record {
-  each = λ t last rows a done ha. ap (naming t) (apart.each t last rows a done ha) ∙ left-named holding loop.join t rows a done (loop.turn t (rows t));
+  each = λ t last rows a done among ha. ap (naming t) (apart.each t last rows a done among ha) ∙ left-named holding loop.join t rows a done (loop.turn t (rows t));
 }
 
 named-adds : {T V : Type 0} (IsOne : V → Type 0) (t : Index) (w : Turned T V) → Adds IsOne w → Adds IsOne (named t w)

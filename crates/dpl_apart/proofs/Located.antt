@@ -67,13 +67,13 @@ module _ {T V : Type 0} {IsOne : V → Type 0} {unit : V} (loop : Loop T V) (mon
       owned t = let less = below t in among (owner axes t) 0 n (omega arith) (omega (arith, less))
 
 -- ---- over a state: all turns in order, by what the locales' parts come to
-module _ {T V S : Type 0} {IsOne : V → Type 0} {unit : V} (holding : Holding T V S) (loop : Loop T V) (turn : Index → Run S) (lawful : IsReducing IsOne unit loop) (apart : IsApart IsOne holding loop turn) where
-  pub in_order-located : (axes : List AxisValue) (ranges : List RangeValue) (rows : ℕ → Index → T) (n : ℕ) → ((t : Index) → owner axes t < n) → IsRising loop.place (indices ranges)
+module _ {T V S : Type 0} {IsIndex : Index → Type 0} {IsOne : V → Type 0} {unit : V} (holding : Holding T V S) (loop : Loop T V) (turn : Index → Run S) (lawful : IsReducing IsOne unit loop) (apart : IsApart IsIndex IsOne holding loop turn) where
+  pub in_order-located : (axes : List AxisValue) (ranges : List RangeValue) (rows : ℕ → Index → T) (n : ℕ) → ((t : Index) → owner axes t < n) → IsRising loop.place (indices ranges) → AllByRecursion IsIndex (indices ranges)
       → (last : Option Index) (a : V) (done : Deeds) → IsOne a
       → in_order turn (indices ranges) (holding last (dealt (owner axes) rows) a) done
       ≡ loop_left holding (last_index last (indices ranges)) done (onto loop.join a (merged loop.join (owner axes) (located loop lawful.monoid axes ranges rows) (Finished (dealt (owner axes) rows) unit) (numbered 0 n)))
-  in_order-located axes ranges rows n below rising last a done ha =
-      in_order-run holding loop turn lawful apart (indices ranges) last (dealt (owner axes) rows) a done ha
+  in_order-located axes ranges rows n below rising all last a done ha =
+      in_order-run holding loop turn lawful apart (indices ranges) last (dealt (owner axes) rows) a done ha all
       ∙ ap (loop_left holding (last_index last (indices ranges)) done)
       (run-located loop lawful.monoid axes ranges rows n below rising (λ l. all-add IsOne loop lawful.adds (part ranges axes l) (rows l)) a ha)
 

@@ -1,9 +1,10 @@
 -- The places of indices in a list without repetition, as that of a domain's indices is: they rise along it.
-use Rattle.std.proofs.Common.{◌≡◌, ℕ, zero, suc, ◌<◌, true, false, List, [], ◌∷◌, Some, slice_get, refl, sym, ap, ◌∙◌, subst, arith}
-use Rattle.std.specs.List.{AllByRecursion}
+use Rattle.std.proofs.Common.{◌≡◌, ℕ, zero, suc, ◌<◌, true, false, ℤ, List, [], ◌∷◌, ◌++◌, map, length, Some, slice_get, refl, sym, ap, ◌∙◌, subst, arith}
+use Rattle.std.specs.List.{AllByRecursion, flat_map}
+use Rattle.std.proofs.lemmas.List.{length-map}
 use Rattle.std.proofs.lemmas.Option.{none-some, same_Some}
-use Rattle.dpl_sets.specs.Ranges.{RangeValue}
-use Rattle.dpl_sets.specs.Indices.{indices}
+use Rattle.dpl_sets.specs.Ranges.{RangeValue, members_of}
+use Rattle.dpl_sets.specs.Indices.{tuples, indices}
 use Rattle.dpl_domain.proofs.DistinctLemmas.{AreRanges, indices-distinct}
 use Rattle.dpl_language.specs.Values.{Index}
 use Rattle.dpl_language.specs.Ranges.{same_index}
@@ -61,3 +62,21 @@ place_in-at (x ∷ ts) distinct (suc place) t at =
 -- along the indices of a domain places rise
 pub indices-rising : (ranges : List RangeValue) → AreRanges ranges → IsRising (place_in (indices ranges)) (indices ranges)
 indices-rising ranges limits = place_in-rising (indices ranges) (indices-distinct ranges limits)
+
+-- ---- each index of a domain has a coordinate for each range
+longer : (i : ℤ) (n : ℕ) (ts rest : List Index) → AllByRecursion (λ t. length t ≡ n) ts → AllByRecursion (λ t. length t ≡ suc n) rest → AllByRecursion (λ t. length t ≡ suc n) (map (λ t. i ∷ t) ts ++ rest)
+longer i n [] rest h k = k
+longer i n (t ∷ ts) rest h k = (ap suc h.0, longer i n ts rest h.1 k)
+
+rows-length : (n : ℕ) (ts : List Index) (is : List ℤ) → AllByRecursion (λ t. length t ≡ n) ts → AllByRecursion (λ t. length t ≡ suc n) (flat_map (λ i. map (λ t. i ∷ t) ts) is)
+rows-length n ts [] h = tt
+rows-length n ts (i ∷ is) h = longer i n ts (flat_map (λ i. map (λ t. i ∷ t) ts) is) h (rows-length n ts is h)
+
+tuples-length : (iss : List (List ℤ)) → AllByRecursion (λ t. length t ≡ length iss) (tuples iss)
+tuples-length [] = (refl, tt)
+tuples-length (is ∷ iss) = rows-length (length iss) (tuples iss) is (tuples-length iss)
+
+pub indices-of-rank : (ranges : List RangeValue) (rank : ℕ) → length ranges ≡ rank → AllByRecursion (λ t. length t ≡ rank) (indices ranges)
+unfolding indices
+indices-of-rank ranges rank e =
+    subst (λ n. AllByRecursion (λ t. length t ≡ n) (tuples (map members_of ranges))) (length-map ranges members_of ∙ e) (tuples-length (map members_of ranges))

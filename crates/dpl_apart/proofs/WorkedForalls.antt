@@ -15,7 +15,7 @@ use Rattle.dpl_apart.specs.Memories.{Changes, Row, with_elements, held_in, row_i
 use Rattle.dpl_apart.proofs.Indices.{same_index-refl}
 use Rattle.dpl_apart.proofs.Memories.{with_element, put-held, held-element, elements-alike}
 
-module _ (slot : ℕ) (at : Place) (f : Index → ℤ → ℤ) where
+module _ (rank slot : ℕ) (at : Place) (f : Index → ℤ → ℤ) where
   abbrev put_by : Option ℤ → Index → Run Memory
   put_by None t s done = Stop (fault Outside at) done
   put_by (Some v) t s done = Done (with_array slot (held_with t (f t v) (array_at slot s)) s) done
@@ -24,7 +24,7 @@ module _ (slot : ℕ) (at : Place) (f : Index → ℤ → ℤ) where
   put_turn t s done = put_by (held_at t (array_at slot s)) t s done
 
   abbrev writes : Changes
-  writes = record { written = slot ∷ []; reduced = []; numbers = []; ranges = []; tuples = [] }
+  writes = record { rank = rank; written = slot ∷ []; reduced = []; numbers = []; ranges = []; tuples = [] }
 
   listed : is_among slot (slot ∷ []) ≡ true
   listed = let yes : (slot == slot) ≡ true = grind (arith, nat_tests) in rw yes refl
@@ -101,7 +101,7 @@ module _ (slot : ℕ) (at : Place) (f : Index → ℤ → ℤ) where
 
     keeps : (place : Index → ℕ) → KeepApart writes b place put_turn
     keeps place = record {
-      apart = record { each = λ t last rows a done ha. each t last rows a done (list_any (same_index t) (array_at slot b).keys) refl };
+      apart = record { each = λ t last rows a done of_rank ha. each t last rows a done (list_any (same_index t) (array_at slot b).keys) refl };
       adds = λ t row.
           let s : Memory = held_in writes b None (λ x. row) [] in
           elim (held_at t (array_at slot s)) as (λ o. Adds (AreExact []) (turned_in writes t row (put_by o t s no_deeds))) [ None ↦ tt | Some v ↦ tt ];
@@ -150,5 +150,5 @@ module _ (slot : ℕ) (at : Place) (f : Index → ℤ → ℤ) where
   may_be_apart : MayBeApart writes put_turn
   may_be_apart = record {
     keep = λ b place formed. keeps b (formed.within slot listed) (formed.pieces slot listed).distinct place;
-    alike = λ t s b first second like row. turns-alike s b first second t like row (list_any (same_index t) (array_at slot s).keys) refl;
+    alike = λ t s b of_rank first second like row. turns-alike s b first second t like row (list_any (same_index t) (array_at slot s).keys) refl;
   }

@@ -23,10 +23,10 @@ abbrev pub last_index : Option Index → List Index → Option Index
 last_index last [] = last
 last_index last (t ∷ ts) = last_index (Some t) ts
 
--- Turns keep apart: each reads and writes the row of its index alone and adds to the reduce variables. It prints nothing, and what
--- other turns have left, the last one too, it doesn't see.
-pub record IsApart {T V S : Type 0} (IsOne : V → Type 0) (holding : Holding T V S) (loop : Loop T V) (turn : Index → Run S) : Type 0 where
-  pub each : (t : Index) (last : Option Index) (rows : Index → T) (a : V) (done : Deeds) → IsOne a
+-- Turns keep apart: each, of such an index as the loop has, reads and writes the row of its index alone and adds to the reduce variables.
+-- It prints nothing, and what other turns have left, the last one too, it doesn't see.
+pub record IsApart {T V S : Type 0} (IsIndex : Index → Type 0) (IsOne : V → Type 0) (holding : Holding T V S) (loop : Loop T V) (turn : Index → Run S) : Type 0 where
+  pub each : (t : Index) (last : Option Index) (rows : Index → T) (a : V) (done : Deeds) → IsIndex t → IsOne a
       → turn t (holding last rows a) done ≡ turn_left holding loop.join t rows a done (loop.turn t (rows t))
 
 -- a fault names its turn

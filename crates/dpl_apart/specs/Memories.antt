@@ -13,8 +13,10 @@ use Rattle.dpl_apart.specs.Rows.{Turned, Leaves, Fails, Ran, Loop, run, AreOnce,
 use Rattle.dpl_apart.specs.Apart.{IsApart}
 
 -- What turns that keep apart may change, by slots: the elements of some arrays, each turn those at its own index; reduce variables, by
--- their operators; and numbers, ranges and tuples that begin anew in each turn, as its variables and those of its body do.
+-- their operators; and numbers, ranges and tuples that begin anew in each turn, as its variables and those of its body do. The turns are
+-- those of a forall over indices of this rank.
 pub record Changes : Type 0 where
+  pub rank : ℕ
   pub written : List ℕ
   pub reduced : List (ℕ × Op)
   pub numbers : List ℕ
@@ -155,14 +157,18 @@ pub record IsLike (h : Changes) (t : Index) (s b : Memory) : Type 0 where
   pub roots : s.roots ≡ b.roots
 
 -- TURNS THAT KEEP APART
+-- an index of the loop's rank
+abbrev pub IsOfRank : Changes → Index → Type 0
+IsOfRank h t = length t ≡ h.rank
+
 -- Turns that keep apart over a memory: whatever rows it holds and whatever was added before, each does with its own row what it does
 -- alone, and what it adds may be put together in any order.
 pub record KeepApart (h : Changes) (b : Memory) (place : Index → ℕ) (turn : Index → Run Memory) : Type 0 where
-  pub apart : IsApart (AreExact (operators_of h.reduced)) (held_in h b) (loop_in h b place turn) turn
+  pub apart : IsApart (IsOfRank h) (AreExact (operators_of h.reduced)) (held_in h b) (loop_in h b place turn) turn
   pub adds : (t : Index) (row : Row) → Adds (AreExact (operators_of h.reduced)) (turn_alone h b turn t row)
 
 -- Turns may be made apart: over each such memory they keep apart, and in memories that are like for an index its turn does the same.
 pub record MayBeApart (h : Changes) (turn : Index → Run Memory) : Type 0 where
   pub keep : (b : Memory) (place : Index → ℕ) → IsFormed h b → KeepApart h b place turn
-  pub alike : (t : Index) (s b : Memory) → IsFormed h s → IsFormed h b → IsLike h t s b
+  pub alike : (t : Index) (s b : Memory) → IsOfRank h t → IsFormed h s → IsFormed h b → IsLike h t s b
       → (row : Row) → turn_alone h s turn t row ≡ turn_alone h b turn t row
