@@ -1,6 +1,9 @@
 -- A forall over a memory by its parts: each is the turns of a locale's indices over a memory that has their rows, begun with nothing added.
 use Rattle.std.proofs.Common.{length, eqb-true, Bool, false, cond, [], ◌∷◌, ◌==◌, ◌≡◌, ℕ, ◌<◌, true, ℤ, List, None, refl, sym, ap, ◌∙◌, subst}
-use Rattle.std.specs.List.{AllByRecursion, filter}
+use Rattle.std.specs.Prelude.{IsPermutation, ◌++◌}
+use Rattle.std.specs.List.{All, AllByRecursion, filter}
+use Rattle.std.proofs.lemmas.List.Elements.{All-from_recursion}
+use Rattle.dpl_rules.specs.AnyOrder.{EndsAs}
 use Rattle.dpl_domain.proofs.DistinctLemmas.{AreRanges}
 use Rattle.dpl_sets.specs.Ranges.{RangeValue}
 use Rattle.dpl_sets.specs.Indices.{indices}
@@ -15,9 +18,10 @@ use Rattle.dpl_apart.specs.Rows.{Finished, Failed, Loop, run, onto, dealt, merge
 use Rattle.dpl_apart.specs.Apart.{loop_left, last_index, IsApart, named, named_loop}
 use Rattle.dpl_apart.specs.Memories.{Changes, Row, IsPiece, IsFormed, IsLike, MayBeApart, IsOfRank, words_in, operators_of, held_in, row_in, turned_in, turn_alone, loop_in, ran_in, KeepApart}
 use Rattle.dpl_apart.proofs.ReduceWords.{reduce_words}
-use Rattle.dpl_apart.proofs.Split.{run-alike, each-filter}
+use Rattle.dpl_apart.proofs.Split.{run-alike, each-filter, each-weaker}
 use Rattle.dpl_apart.proofs.InOrder.{in_order-run, named-apart, named-reducing, has-held, has-stopped, failed-at}
 use Rattle.dpl_apart.proofs.Places.{indices-rising, indices-of-rank}
+use Rattle.dpl_apart.proofs.AnyOrder.{faults-anywhere, leaves-but-last}
 use Rattle.dpl_apart.proofs.Located.{in_order-located}
 use Rattle.dpl_apart.proofs.Memories.{holds-own}
 
@@ -127,10 +131,6 @@ part-owners owns l (t ∷ ts) = by (owns t == l) refl (part-owners owns l ts) wh
   by true e rest = (eqb-true (owns t) l e, rest)
   by false e rest = rest
 
-each-weaker : {A : Type 0} (P Q : A → Type 0) (xs : List A) → ((x : A) → P x → Q x) → AllByRecursion P xs → AllByRecursion Q xs
-each-weaker P Q [] go h = tt
-each-weaker P Q (x ∷ xs) go h = (go x h.0, each-weaker P Q xs go h.1)
-
 each-both : {A : Type 0} (P Q : A → Type 0) (xs : List A) → AllByRecursion P xs → AllByRecursion Q xs → AllByRecursion (λ x. P x × Q x) xs
 each-both P Q [] h k = tt
 each-both P Q (x ∷ xs) h k = ((h.0, k.0), each-both P Q xs h.1 k.1)
@@ -152,3 +152,36 @@ module _ (h : Changes) (turn : Index → Run Memory) (may : MayBeApart h turn) (
       (merged (all_combined (operators_of h.reduced)) (owner axes) (λ l. ran_in h (place_in (indices ranges)) turn (part ranges axes l) (ms l)) (Finished (row_in h m) (unit_words (operators_of h.reduced))) (numbered 0 n)))
   forall-apart rows like done =
       forall-located h m (place_in (indices ranges)) turn (may.keep m (place_in (indices ranges)) formed) formed.pieces exact axes ranges n below (indices-rising ranges limits) of_rank ms rows (like-alike like) done
+
+-- In whatever order the turns of such a forall are made, the same of them have faults, and where none has the same rows and reduce variables
+-- are left. What is left besides is what the last one leaves.
+module _ (h : Changes) (turn : Index → Run Memory) (may : MayBeApart h turn) (m : Memory) (formed : IsFormed h m) (exact : AreExact (operators_of h.reduced) (words_in h.reduced m)) (ranges : List RangeValue) (limits : AreRanges ranges) (of_rank : length ranges ≡ h.rank) (done : Deeds) where
+  places : Index → ℕ
+  places = place_in (indices ranges)
+
+  keeps : KeepApart h m places turn
+  keeps = may.keep m places formed
+
+  own : held_in h m None (row_in h m) (words_in h.reduced m) ≡ m
+  own = holds-own h m formed.pieces
+
+  all : All (IsOfRank h) (indices ranges)
+  all = All-from_recursion (IsOfRank h) (indices ranges) (indices-of-rank ranges h.rank of_rank)
+
+  rises : IsRising places (indices ranges)
+  unfolding places
+  rises = indices-rising ranges limits
+
+  pub forall-faults : (before : List Index) (t : Index) (rest : List Index) (u : Memory) (made : Deeds) → IsPermutation (before ++ t ∷ rest) (indices ranges)
+      → in_order turn before m done ≡ Done u made → EndsAs (turn t m done) (turn t u made)
+  forall-faults before t rest u made p e =
+      subst (λ s. EndsAs (turn t s done) (turn t u made)) own
+      (faults-anywhere (held_in h m) (loop_in h m places turn) turn (keep-reducing h m places turn keeps) keeps.apart (indices ranges) None (row_in h m) (words_in h.reduced m) done exact all rises before t rest u made p
+      (ap (λ s. in_order turn before s done) own ∙ e))
+
+  pub forall-leaves : (us : List Index) (u : Memory) (made : Deeds) → IsPermutation us (indices ranges) → in_order turn (indices ranges) m done ≡ Done u made
+      → (rows : Index → Row) × (words : List ℤ) × (u ≡ held_in h m (last_index None (indices ranges)) rows words) × (in_order turn us m done ≡ Done (held_in h m (last_index None us) rows words) made)
+  forall-leaves us u made p e =
+      let same = leaves-but-last (held_in h m) (loop_in h m places turn) turn (keep-reducing h m places turn keeps) keeps.apart us (indices ranges) None (row_in h m) (words_in h.reduced m) done u made exact all p
+      (ap (λ s. in_order turn (indices ranges) s done) own ∙ e) in
+      (same.0, same.1, same.2, ap (λ s. in_order turn us s done) (sym own) ∙ same.3)

@@ -11,16 +11,13 @@ use Rattle.dpl_memory.specs.Memory.{Held, Memory, held_with, no_array, array_at,
 use Rattle.dpl_apart.specs.Rows.{AreOnce, IsDistinct}
 use Rattle.dpl_apart.specs.Memories.{Changes, Row, IsPiece, IsFormed, held_by, held_by_if, with_elements, with_words, words_in, with_values, with_last, held_in, row_in}
 use Rattle.dpl_apart.proofs.Indices.{same_index-refl, same_index-sound, not-same}
+use Rattle.dpl_apart.proofs.Split.{each-weaker}
 use Rattle.dpl_apart.proofs.Places.{distinct-rest, distinct-first, others}
 
 -- ---- words by their indices
 map-same : {A B : Type 0} (f g : A → B) (xs : List A) → AllByRecursion (λ x. f x ≡ g x) xs → map f xs ≡ map g xs
 map-same f g [] h = refl
 map-same f g (x ∷ xs) h = let here = h.0 in let rest = map-same f g xs h.1 in λ i. here i ∷ rest i
-
-each-weaker : {A : Type 0} (P Q : A → Type 0) (xs : List A) → ((x : A) → P x → Q x) → AllByRecursion P xs → AllByRecursion Q xs
-each-weaker P Q [] go h = tt
-each-weaker P Q (x ∷ xs) go h = (go x h.0, each-weaker P Q xs go h.1)
 
 -- words that are read by their indices are these words
 pub words-read : (keys : List Index) (ws : List ℤ) → IsDistinct keys → length ws ≡ length keys → map (λ t. unwrap_or (word_at t keys ws) (pos 0)) keys ≡ ws

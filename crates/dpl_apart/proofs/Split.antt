@@ -41,6 +41,10 @@ each-filter P p (x ∷ xs) h =
       | false ↦ each-filter P p xs h.1
     ]
 
+pub each-weaker : {X : Type 0} (P Q : X → Type 0) (xs : List X) → ((x : X) → P x → Q x) → AllByRecursion P xs → AllByRecursion Q xs
+each-weaker P Q [] go h = tt
+each-weaker P Q (x ∷ xs) go h = (go x h.0, each-weaker P Q xs go h.1)
+
 pub rising-filter : (place : Index → ℕ) (p : Index → Bool) (ts : List Index) → IsRising place ts → IsRising place (filter p ts)
 rising-filter place p [] h = h
 rising-filter place p (t ∷ ts) h =
