@@ -1,13 +1,18 @@
--- Turns that keep apart over a memory: A[i] = f(i, A[i]), which has F1 where A has no such index. So what is asked of turns can be met.
+-- Rows of memories that hold rows; and turns over a memory that keep apart: A[i] = f(i, A[i]), which has F1 where A has no such index. So what
+-- is asked of turns can be met.
 use Rattle.std.proofs.Common.{eqb-true, ◌≡◌, ℕ, ◌<◌, Bool, true, false, ℤ, pos, List, [], ◌∷◌, Option, Some, None, is_some, length, refl, sym, ap, ◌∙◌, arith}
 use Rattle.std.specs.Prelude.{if◌then◌else◌, unwrap_or, ◌==◌, ◌&&◌, ◌||◌}
+use Rattle.std.specs.Prelude.{◌*ℤ◌}
 use Rattle.std.specs.List.{list_any}
 use Rattle.std.proofs.lemmas.Bool.Decides.{nat_tests}
 use Rattle.dpl_syntax.specs.declared.place.Place.{Place}
+use Rattle.dpl_language.specs.Tree.{Sum}
+use Rattle.dpl_language.specs.Distributions.{no_root}
+use Rattle.dpl_words.specs.Words.{no_range}
 use Rattle.dpl_language.specs.Values.{Index, fault, Outside}
-use Rattle.dpl_language.specs.Ranges.{same_index}
+use Rattle.dpl_language.specs.Ranges.{same_index, unstrided}
 use Rattle.dpl_language.specs.Outcome.{Deeds, no_deeds, Done, Stop, Run}
-use Rattle.dpl_memory.specs.Memory.{Memory, array_at, held_at, held_with, with_array, is_among, word_at}
+use Rattle.dpl_memory.specs.Memory.{Held, no_domain, no_tuple, no_array, Memory, array_at, held_at, held_with, with_array, is_among, word_at}
 use Rattle.dpl_apart.specs.Operands.{all_combined, AreExact}
 use Rattle.dpl_apart.specs.Rows.{IsDistinct, with_row, Adds, Leaves, Fails}
 use Rattle.dpl_apart.specs.Apart.{turn_left}
@@ -15,6 +20,53 @@ use Rattle.dpl_apart.specs.Memories.{Changes, Row, with_elements, held_in, row_i
 use Rattle.dpl_apart.proofs.Indices.{same_index-refl}
 use Rattle.dpl_apart.proofs.Memories.{with_element, put-held, held-element, elements-alike}
 
+-- ---- rows: in slot 0 a turn's variable, in slot 1 a reduce variable, and in slot 2 an array over 1..3, or a piece of it
+abbrev on_a_line : ℤ → Index
+on_a_line i = i ∷ []
+
+abbrev held_with_keys : List Index → List ℤ → Held
+held_with_keys keys words = record { ranges = unstrided (pos 1) (pos 3) ∷ []; keys = keys; words = words }
+
+abbrev memory_with : ℤ → ℤ → Held → Memory
+memory_with i s a = record {
+  words = record { numbers = i ∷ s ∷ pos 9 ∷ []; ranges = no_range ∷ no_range ∷ no_range ∷ []; intents = (1, Sum) ∷ []; sets = [] };
+  domains = no_domain ∷ no_domain ∷ no_domain ∷ [];
+  tuples = no_tuple ∷ no_tuple ∷ no_tuple ∷ [];
+  arrays = no_array ∷ no_array ∷ a ∷ [];
+  roots = no_root ∷ no_root ∷ no_root ∷ [];
+}
+
+abbrev changes : Changes
+changes = record { rank = 1; written = 2 ∷ []; reduced = (1, Sum) ∷ []; numbers = 0 ∷ []; ranges = []; tuples = [] }
+
+abbrev whole : Held
+whole = held_with_keys (on_a_line (pos 1) ∷ on_a_line (pos 2) ∷ on_a_line (pos 3) ∷ []) (pos 10 ∷ pos 20 ∷ pos 30 ∷ [])
+
+abbrev piece : Held
+piece = held_with_keys (on_a_line (pos 3) ∷ []) (pos 30 ∷ [])
+
+-- the row of an index that a memory has, and of one that it hasn't
+own_row : (row_in changes (memory_with (pos 7) (pos 5) piece) (on_a_line (pos 3))).elements 2 ≡ pos 30
+own_row = refl
+
+no_row : (row_in changes (memory_with (pos 7) (pos 5) piece) (on_a_line (pos 1))).elements 2 ≡ pos 0
+no_row = refl
+
+-- each index squared, its turn having left its number in slot 0
+abbrev squares : Index → Row
+squares [] = record { elements = λ slot. pos 0; numbers = λ slot. pos 0; ranges = λ slot. no_range; tuples = λ slot. no_tuple }
+squares (i ∷ is) = record { elements = λ slot. i *ℤ i; numbers = λ slot. i; ranges = λ slot. no_range; tuples = λ slot. no_tuple }
+
+-- a memory with these rows, in which the turn of 3 was the last, and 6 was added
+squares_held : held_in changes (memory_with (pos 7) (pos 5) whole) (Some (on_a_line (pos 3))) squares (pos 11 ∷ [])
+    ≡ memory_with (pos 3) (pos 11) (held_with_keys (on_a_line (pos 1) ∷ on_a_line (pos 2) ∷ on_a_line (pos 3) ∷ []) (pos 1 ∷ pos 4 ∷ pos 9 ∷ []))
+squares_held = refl
+
+-- a worker's, which has 3 alone, and where no turn was made yet
+piece_held : held_in changes (memory_with (pos 7) (pos 5) piece) None squares (pos 0 ∷ []) ≡ memory_with (pos 7) (pos 0) (held_with_keys (on_a_line (pos 3) ∷ []) (pos 9 ∷ []))
+piece_held = refl
+
+-- ---- A[i] = f(i, A[i])
 module _ (rank slot : ℕ) (at : Place) (f : Index → ℤ → ℤ) where
   abbrev put_by : Option ℤ → Index → Run Memory
   put_by None t s done = Stop (fault Outside at) done
