@@ -32,7 +32,13 @@ pub(crate) fn first_frame<'t>(
     ensures { IfOk result (λ f. f ≡ with_memory (first_memory (record { slots = slots; texts = []; words = words.now }))
         (first_frame slots (limits_of config.now) (layout_of config.now))) }
 {
-    let mut frame = Frame::new(alloc, slots, config.budget(), config.locales(), config.layout())?;
+    let mut frame = Frame::new(
+        alloc,
+        slots,
+        config.budget(),
+        config.locales(),
+        config.layout(),
+    )?;
     give_all(&mut frame, words)?;
     Ok(frame)
 }
