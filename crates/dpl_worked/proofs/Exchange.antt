@@ -269,6 +269,11 @@ by_the_written_over_a_range : remote_by four (codes "const D = {1..8} dmapped ne
 unfolding on_locales
 by_the_written_over_a_range = refl
 
+-- W has no map, so locale 0 makes all turns and reads 3, 4, 5 and 6
+by_the_first_written_without_a_map : remote_by four (codes "const D = {1..8} dmapped new blockDist({1..8}); var A: [D] int; var B: [D] int; var W: [1..8] int; forall i in D[2..7] { W[i] = 1; B[i] = A[i-1]; }") ≡ Some 4
+unfolding on_locales
+by_the_first_written_without_a_map = refl
+
 -- locale 0 reads 3, 4, 5 and 6; going round it has 1 and 5, and reads 2, 3, 4 and 6
 by_a_ranges_name : remote_by four (codes "const r = 2..7; const D = {1..8} dmapped new blockDist({1..8}); var A: [D] int; var s: int; forall i in r with (+ reduce s) do s += A[i-1];") ≡ Some 4
 unfolding on_locales
