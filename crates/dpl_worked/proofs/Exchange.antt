@@ -269,6 +269,11 @@ by_the_written_over_a_range : remote_by four (codes "const D = {1..8} dmapped ne
 unfolding on_locales
 by_the_written_over_a_range = refl
 
+-- W has no map, so locale 0 makes all turns and reads 3, 4, 5 and 6
+by_the_first_written_without_a_map : remote_by four (codes "const D = {1..8} dmapped new blockDist({1..8}); var A: [D] int; var B: [D] int; var W: [1..8] int; forall i in D[2..7] { W[i] = 1; B[i] = A[i-1]; }") ≡ Some 4
+unfolding on_locales
+by_the_first_written_without_a_map = refl
+
 -- locale 0 reads 3, 4, 5 and 6; going round it has 1 and 5, and reads 2, 3, 4 and 6
 by_a_ranges_name : remote_by four (codes "const r = 2..7; const D = {1..8} dmapped new blockDist({1..8}); var A: [D] int; var s: int; forall i in r with (+ reduce s) do s += A[i-1];") ≡ Some 4
 unfolding on_locales
@@ -304,6 +309,10 @@ by_a_typed_domain : remote_by four (codes "const D = {1..8} dmapped new blockDis
 unfolding on_locales
 by_a_typed_domain = refl
 
+by_the_domain_of_an_array_over_ranges : remote_by by_blocks (codes "var A: [1..8] int; var s: int; forall i in A.domain[2..7] with (+ reduce s) do s += A[i-1];") ≡ Some 3
+unfolding on_locales
+by_the_domain_of_an_array_over_ranges = refl
+
 -- ---- what a map is made of stands before the declaration
 a_domain_of_a_hidden_one : remote_by four (codes "const D = {1..8} dmapped new blockDist({1..8}); { const D = D[2..7]; var A: [D] int; var B: [D] int; forall i in D[3..7] do B[i] = A[i-1]; }") ≡ Some 3
 unfolding on_locales
@@ -321,6 +330,10 @@ a_start_of_here : remote_by four (codes "const E = {1..4} dmapped new cyclicDist
 unfolding on_locales
 a_start_of_here = refl
 
+behind_a_block : remote_by four (codes "const D = {1..8} dmapped new blockDist({1..8}); var A: [D] int; var s: int; { const D = {1..2} dmapped new cyclicDist(1); const A = D.size; } forall i in D[2..7] with (+ reduce s) do s += A[i-1];") ≡ Some 3
+unfolding on_locales
+behind_a_block = refl
+
 -- ---- `--maps` goes by the domain that a root was declared with
 over_a_slice_by_blocks : remote_by by_blocks (codes "const D = {1..8}; var A: [D] int; var B: [D[2..5]] int; forall i in D[2..5] do B[i] = A[i-1];") ≡ Some 2
 unfolding on_locales
@@ -329,6 +342,10 @@ over_a_slice_by_blocks = refl
 assigned_by_blocks : remote_by by_blocks (codes "var D = {1..8}; var A: [D] int; var B: [D] int; D = {1..4}; forall i in D[2..4] do B[i] = A[i-1];") ≡ Some 1
 unfolding on_locales
 assigned_by_blocks = refl
+
+by_an_assigned_domain_by_blocks : remote_by by_blocks (codes "var D = {1..8}; var A: [D] int; var s: int; D = {1..4}; forall i in D[2..4] with (+ reduce s) do s += A[i-1];") ≡ Some 1
+unfolding on_locales
+by_an_assigned_domain_by_blocks = refl
 
 empty_when_declared_by_blocks : remote_by by_blocks (codes "var D: domain(1); var A: [D] int; var B: [D] int; D = {1..8}; forall i in D[2..7] do B[i] = A[i-1];") ≡ Some 0
 unfolding on_locales
@@ -370,6 +387,60 @@ empty_box = refl
 argument_without_a_value : remote_by four (codes "const D = {1..8} dmapped new cyclicDist(1/0); var A: [D] int; var B: [D] int; forall i in D[2..7] do B[i] = A[i-1];") ≡ Some 0
 unfolding on_locales
 argument_without_a_value = refl
+
+-- the blocks are {2, 3}, {4, 5} and {6, 7}
+blocks_from_the_limit : remote_by four (codes "const D = {1..8} dmapped new blockCycDist(1152921504606846976, 2); var A: [D] int; var B: [D] int; forall i in D[2..7] do B[i] = A[i-1];") ≡ Some 3
+unfolding on_locales
+blocks_from_the_limit = refl
+
+blocks_past_the_limit : remote_by four (codes "const D = {1..8} dmapped new blockCycDist(1152921504606846977, 2); var A: [D] int; var B: [D] int; forall i in D[2..7] do B[i] = A[i-1];") ≡ Some 0
+unfolding on_locales
+blocks_past_the_limit = refl
+
+starts_of_two : remote_by square (codes "const D = {1..2, 1..2} dmapped new cyclicDist((1, 1)); var A: [D] int; var B: [D] int; forall (i,j) in D[2..2, 1..2] do B[i,j] = A[i-1,j];") ≡ Some 2
+unfolding on_locales
+starts_of_two = refl
+
+one_start_of_two_past_the_limit : remote_by square (codes "const D = {1..2, 1..2} dmapped new cyclicDist((1, 1152921504606846977)); var A: [D] int; var B: [D] int; forall (i,j) in D[2..2, 1..2] do B[i,j] = A[i-1,j];") ≡ Some 0
+unfolding on_locales
+one_start_of_two_past_the_limit = refl
+
+one_size_of_two_below_1 : remote_by square (codes "const D = {1..2, 1..2} dmapped new blockCycDist((1, 1), (1, 0)); var A: [D] int; var B: [D] int; forall (i,j) in D[2..2, 1..2] do B[i,j] = A[i-1,j];") ≡ Some 0
+unfolding on_locales
+one_size_of_two_below_1 = refl
+
+box_empty_in_one_of_two : remote_by square (codes "const D = {1..2, 1..2} dmapped new blockDist({1..2, 1..0}); var A: [D] int; var B: [D] int; forall (i,j) in D[2..2, 1..2] do B[i,j] = A[i-1,j];") ≡ Some 0
+unfolding on_locales
+box_empty_in_one_of_two = refl
+
+-- ---- boxes and starts of strided domains
+-- the box is 1..5, so 1 and 2 are on locale 0, 3 on 1 and 4 on 2
+box_of_a_strided_domain : remote_by four (codes "const D = {1..8} dmapped new blockDist({1..8 by 4}); var A: [D] int; var B: [D] int; forall i in D[2..4] do B[i] = A[i-1];") ≡ Some 2
+unfolding on_locales
+box_of_a_strided_domain = refl
+
+-- the box is 3..8, so 1 to 4 are on locale 0, 5 on 1, 6 and 7 on 2
+box_of_a_downward_domain : remote_by four (codes "const D = {1..8} dmapped new blockDist({1..8 by -5}); var A: [D] int; var B: [D] int; forall i in D[2..7] do B[i] = A[i-1];") ≡ Some 2
+unfolding on_locales
+box_of_a_downward_domain = refl
+
+-- A goes round from 2 and B from 4
+least_of_a_downward_domain : remote_by going_round (codes "const D = {1..8 by -3}; var A: [D] int; var B: [4..9] int; forall i in 4..9 do B[i] = A[i];") ≡ Some 2
+unfolding on_locales
+least_of_a_downward_domain = refl
+
+least_as_that_of_another : remote_by going_round (codes "const D = {1..8 by -3}; var A: [D] int; var B: [2..8] int; forall i in 2..8 do B[i] = A[i];") ≡ Some 0
+unfolding on_locales
+least_as_that_of_another = refl
+
+-- ---- by the whole map all is on locale 0
+empty_box_on_locale_0 : remote_by four (codes "const D = {1..8} dmapped new blockDist({1..0}); var A: [D] int; var s: int; forall i in 2..7 with (+ reduce s) do s += A[i-1];") ≡ Some 0
+unfolding on_locales
+empty_box_on_locale_0 = refl
+
+start_past_the_limit_on_locale_0 : remote_by four (codes "const D = {1..8} dmapped new cyclicDist(1152921504606846977); var A: [D] int; var s: int; forall i in 2..7 with (+ reduce s) do s += A[i-1];") ≡ Some 0
+unfolding on_locales
+start_past_the_limit_on_locale_0 = refl
 
 -- ---- reads
 -- an inner loop's tuple name isn't the forall's

@@ -331,6 +331,14 @@ start_of_blocks_without_a_value : root_in (codes "D") (codes "const D = {1..8} d
 unfolding by_text int_wrap members indices
 start_of_blocks_without_a_value = refl
 
+sizes_of_least : root_in (codes "D") (codes "const S = {2..3}; const D = {1..8} dmapped new blockCycDist(1, S.low);") ≡ blocks (pos 1 ∷ []) (pos 2 ∷ []) eight
+unfolding by_text int_wrap members indices
+sizes_of_least = refl
+
+sizes_of_nothing : root_in (codes "D") (codes "const S = {2..1}; const D = {1..8} dmapped new blockCycDist(1, S.low);") ≡ unmapped eight
+unfolding by_text int_wrap members indices
+sizes_of_nothing = refl
+
 -- a map behind the type and another one behind the value are refused
 mapped_twice : root_in (codes "D") (codes "var D: domain(1) dmapped new cyclicDist(1) = {1..8} dmapped new cyclicDist(2);") ≡ None
 unfolding by_text int_wrap members indices
