@@ -12,7 +12,7 @@ ghost use Rattle.dpl_steps.specs.Readings.{steps_in};
 ghost use Rattle.dpl_elements.specs.Turns.{HasRoom, IsApart, index_turn};
 
 use crate::each::bind;
-use crate::fold::{folded, folding_of};
+use crate::fold::{fold_of, folded};
 use dpl_domain::Index;
 use dpl_elements::put_row;
 use dpl_frame::Frame;
@@ -105,13 +105,13 @@ fn fold_row<'t>(
     if !has_room(first) || is_variable(names, slot) || !frame.has_number(slot) {
         return 0;
     }
-    let Some(folding) = folding_of(deed, frame.operator(slot)) else {
+    let Some(fold) = fold_of(deed, frame.operator(slot)) else {
         return 0;
     };
     let strip = turn_strip(e, names, slot, first, frame);
     let made = strip.size.min(most).min(STRIP);
     if made > 0 {
-        let word = folded(folding, frame.number(slot), &strip.words, made);
+        let word = folded(fold, frame.number(slot), &strip.words, made);
         bind(names, behind(first, made - 1), frame);
         frame.set_number(slot, word);
     }
