@@ -99,7 +99,9 @@ fn fold_row<'t>(
     frame: &mut Frame<'t>,
 ) -> usize
     ensures most { result ≤ most }
-    ensures done { AreDone (index_turn frame.old.limits names.now (Then (int_changed deed.now slot (One (int_view e.now))) NoStmts)) first result frame.old.memory frame.new.memory }
+    ensures done { AreDone
+        (index_turn frame.old.limits names.now (Then (int_changed deed.now slot (One (int_view e.now))) NoStmts))
+        first result frame.old.memory frame.new.memory }
     ensures limits { frame.new.limits ≡ frame.old.limits }
 {
     if !has_room(first) || is_variable(names, slot) || !frame.has_number(slot) {
