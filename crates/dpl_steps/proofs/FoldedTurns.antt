@@ -1,6 +1,6 @@
 -- Turns whose ints are folded onto a word: the body of each does that to one int, which is no variable of the loop.
 -- In each turn the variables hold its index, and the word is as the turns before have left it.
-use Rattle.std.proofs.Common.{◌≡◌, ◌<◌, ◌≤◌, ◌+◌, ℕ, zero, suc, ℤ, pos, List, length, get_or, set, None, Ok, refl, sym, subst, ap, ◌∙◌, arith}
+use Rattle.std.proofs.Common.{◌≡◌, ◌<◌, ◌≤◌, ◌+◌, ℕ, zero, suc, ℤ, pos, List, length, get_or, None, refl, sym, subst, ap, ◌∙◌, arith}
 use Rattle.std.proofs.lemmas.List.{set-get_or, set-set, get_or-set_same, get_or-set_other}
 use Rattle.dpl_array.specs.Elements.{behind}
 use Rattle.dpl_language.specs.Tree.{One, NoStmts, Then}

@@ -1,11 +1,11 @@
 -- Ints folded onto a word are the turns one after another; the variables hold the index of the last one.
 -- These are the answers to the goals of `fold_row`.
-use Rattle.std.proofs.Common.{◌≡◌, ◌<◌, ◌≤◌, ◌-◌, suc, ℕ, pos, length, get_or, arith, rules, ap, sym, subst, ◌∙◌, FitsSigned, w64}
+use Rattle.std.proofs.Common.{◌≡◌, ◌<◌, ◌≤◌, ◌-◌, suc, ℕ, length, arith, rules, ap, sym, subst, ◌∙◌, FitsSigned, w64}
 use Rattle.std.proofs.lemmas.Int.{to_z-of_z}
 use Rattle.dpl_array.specs.Elements.{behind}
 use Rattle.dpl_language.specs.Tree.{One, NoStmts, Then}
 use Rattle.dpl_language.specs.Values.{Int}
-use Rattle.dpl_words.specs.Words.{IntLeaf, intent_at}
+use Rattle.dpl_words.specs.Words.{IntLeaf}
 use Rattle.dpl_memory.specs.Memory.{PlainKind, Memory, with_value_in}
 use Rattle.dpl_nodes.specs.Typed.{int_view}
 use Rattle.dpl_nodes.specs.Steps.{int_changed}
