@@ -47,7 +47,7 @@ whole-row limits x sign turn first strip size s arrays put changes = record {
 module _
     (limits : Limits) (names : Names) (x : ArrayName) (index : IndexExpr) (op : Assign) (sign : Place) (e : IntExpr) (first at : Index) (strip : Strip) (size : ℕ) (s : Memory) (arrays : List Held)
     (put : ArePut limits x (signed op sign) at strip size s.arrays arrays) (begins : strip.first ≡ first) (few : size ≤ strip.size) (cap : size ≤ 64)
-    (values : HoldsInTurns names x.slot (λ u. value_of limits in_memory (int_view e) None u) s strip) (goes : GoesFrom limits names first s index at) where
+    (values : HoldsInTurns names x.slot (λ u. value_of limits in_memory (int_view e) None u) s strip) (goes : GoesFrom limits names x.slot first s index at) where
   -- in the turn of an index, with these arrays
   abbrev turn_with : ℕ → List Held → Memory
   turn_with k held = record (bound_at names (behind k first) s) { arrays = held }
@@ -65,7 +65,7 @@ module _
   body = Then (element_set (array_leaf IntKind x) index op sign (int_view e)) NoStmts
 
   is-turn : (k : ℕ) → IsInTurn names x.slot (behind k first) s (turn_with k (put.between k))
-  is-turn k = record { numbers = λ slot. refl; tuples = λ slot. refl; arrays = λ slot other. put.others k slot other }
+  is-turn k = record { numbers = λ slot other. refl; tuples = λ slot. refl; arrays = λ slot other. put.others k slot other }
 
   assigned : (k : ℕ) → k < size → (done : Deeds) → exec limits in_memory (element_set (array_leaf IntKind x) index op sign (int_view e)) (turn_with k (put.between k)) done ≡ Done (turn_with k (put.between (k + 1))) done
   assigned k below done =
@@ -73,7 +73,7 @@ module _
       let w = Int (get_or strip.words k (pos 0)) in
       exec-element limits (array_leaf IntKind x) index op sign (int_view e) m done w (Ok (behind k at)) (cell_read-int e)
       (values k (omega (arith, below, few)) (omega (arith, below, cap)) m (subst (λ t. IsInTurn names x.slot (behind k t) s m) (sym begins) (is-turn k)))
-      (goes x.slot k (omega (arith, below, cap)) m (is-turn k))
+      (goes k (omega (arith, below, cap)) m (is-turn k))
       ∙ put.each k below m refl done
 
   pub row-done : size ≡ 0 → AreDone (index_turn limits names (Then (element_set (array_leaf IntKind x) index op sign (int_view e)) NoStmts)) first size s (record s { arrays = arrays })

@@ -1,8 +1,9 @@
 -- The turns of a loop over a range, by its members.
 -- What a loop runs over is evaluated and tested before its first turn.
-use Rattle.std.specs.Prelude.{◌≡◌, ℕ, ◌+◌, ◌^◌, nat_lt, ℤ, pos, ◌+ℤ◌, ◌<ℤ◌, length, get_or, if◌then◌else◌, None, List, [], ◌∷◌, Result, Ok, Err}
+use Rattle.std.specs.Prelude.{◌≡◌, ◌≢◌, ℕ, ◌+◌, ◌^◌, nat_lt, ℤ, pos, ◌+ℤ◌, ◌<ℤ◌, length, get_or, if◌then◌else◌, None, List, [], ◌∷◌, Result, Ok, Err}
 use Rattle.dpl_syntax.specs.declared.place.Place.{Place}
 use Rattle.dpl_domain.specs.Ranks.{last_of}
+use Rattle.dpl_array.specs.Rows.{StandsIn}
 use Rattle.dpl_language.specs.Tree.{ItemTree, Stmts, Op}
 use Rattle.dpl_language.specs.Values.{Value, Int, Domain, Index, Fault, fault, Budget}
 use Rattle.dpl_language.specs.Ranges.{size_in, loop_ranges}
@@ -14,6 +15,7 @@ use Rattle.dpl_language.specs.Statements.{exec_all}
 use Rattle.dpl_words.specs.Words.{IntLeaf}
 use Rattle.dpl_memory.specs.Memory.{PlainKind, Variable, Memory, with_value_in, in_memory}
 use Rattle.dpl_nodes.specs.declared.step.Names.{Names}
+use Rattle.dpl_nodes.specs.declared.step.Names.TheVariants.{Int as IntName, Tuple as TupleName, Each}
 use Rattle.dpl_nodes.specs.Steps.{names_view}
 
 -- the turns of some indices, in order
@@ -42,6 +44,12 @@ each_bound d (slot ∷ slots) t s = each_bound (d + 1) slots t (with_value_in (P
 -- the variables of a loop over a domain hold an index, and then a body runs
 abbrev pub bound_at : Names → Index → Memory → Memory
 bound_at names t s = bound_to in_memory (names_view names) (Domain []) t s
+
+-- no variable of the loop is the int in a slot
+abbrev pub IsApart : Names → ℕ → Type 0
+IsApart (IntName variable) slot = variable ≢ slot
+IsApart (TupleName variable) slot = Unit {0}
+IsApart (Each first others) slot = StandsIn (first ∷ others.now) slot → ⊥
 
 abbrev pub index_turn : Limits → Names → Stmts Variable → Index → Run Memory
 index_turn limits names body t s done = exec_all limits in_memory body (bound_at names t s) done

@@ -6,3 +6,4 @@ pub mod Tested
 pub mod Gathered
 pub mod ArrayItems
 pub mod Refusing
+pub mod FoldedTurns

@@ -9,3 +9,5 @@ pub mod Dealt
 pub mod Written
 -- Which entries a gate may refuse of one statement.
 pub mod Refusals
+-- Ints that are folded onto a word, in turns that are made at once.
+pub mod Folded

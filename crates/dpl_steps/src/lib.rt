@@ -11,6 +11,7 @@ mod context;
 mod declare;
 mod domain;
 mod each;
+mod fold;
 mod lineage;
 mod reduce;
 pub mod simple;

@@ -1,22 +1,23 @@
-// Turns of a forall that are made at once: those whose body is one assignment to an element, along a row of indices.
-// The ints are evaluated for several turns, and then put side by side.
+// Turns of a forall that are made at once, along a row of indices: those whose body is one assignment to an element, or folds an int onto
+// one that is no variable of the loop. The ints are evaluated for several turns, and then put side by side, or folded one after another.
 
-ghost use Rattle.std.specs.Prelude.{◌≡◌, ◌≤◌, true};
+ghost use Rattle.std.specs.Prelude.{◌≡◌, ◌≤◌, true, false};
 ghost use Rattle.dpl_array.specs.Elements.{behind};
-ghost use Rattle.dpl_language.specs.Tree.{IntKind, NoStmts, Then};
+ghost use Rattle.dpl_language.specs.Tree.{IntKind, One, NoStmts, Then};
 ghost use Rattle.dpl_standing.specs.Standing.{InTurn};
 ghost use Rattle.dpl_nodes.specs.Typed.{int_view};
-ghost use Rattle.dpl_nodes.specs.Steps.{array_leaf, element_set};
+ghost use Rattle.dpl_nodes.specs.Steps.{array_leaf, element_set, int_changed};
 ghost use Rattle.dpl_loop.specs.Runs.{AreDone};
 ghost use Rattle.dpl_steps.specs.Readings.{steps_in};
-ghost use Rattle.dpl_elements.specs.Turns.{HasRoom, index_turn};
+ghost use Rattle.dpl_elements.specs.Turns.{HasRoom, IsApart, index_turn};
 
 use crate::each::bind;
+use crate::fold::{fold_of, folded};
 use dpl_domain::Index;
 use dpl_elements::put_row;
 use dpl_frame::Frame;
 use dpl_loop::STRIP;
-use dpl_nodes::{ArrayName, IndexExpr, IntExpr, Names, Spot, Step};
+use dpl_nodes::{ArrayName, IndexExpr, IntDeed, IntExpr, Names, Spot, Step};
 use dpl_strips::index::{coordinate, plane, space};
 use dpl_strips::{turn_index, turn_strip};
 use dpl_tree::Assign;
@@ -66,7 +67,7 @@ fn assign_row<'t>(
     if !has_room(first) {
         return 0;
     }
-    let Some(at) = turn_index(index, names, first, frame) else {
+    let Some(at) = turn_index(index, names, name.slot, first, frame) else {
         return 0;
     };
     let strip = turn_strip(e, names, name.slot, first, frame);
@@ -77,8 +78,51 @@ fn assign_row<'t>(
     made
 }
 
-/// Makes the turns of an index and of those behind it, at most so many, where the body is one assignment to an element and its ints are
-/// found several at once; how many.
+// Whether a variable of the loop is the int in a slot.
+fn is_variable(names: &Names<'_>, slot: usize) -> bool
+    ensures { result ≡ false → IsApart names.now slot }
+{
+    match names {
+        Names::Int(variable) => *variable == slot,
+        Names::Tuple(_) => false,
+        Names::Each(variable, others) => *variable == slot || others.contains(&slot),
+    }
+}
+
+// What is done to an int, in the turns of an index and of those behind it, where each folds its right side onto it.
+fn fold_row<'t>(
+    names: &Names<'t>,
+    deed: &IntDeed<'t>,
+    slot: usize,
+    e: &IntExpr<'t>,
+    first: Index,
+    most: usize,
+    frame: &mut Frame<'t>,
+) -> usize
+    ensures most { result ≤ most }
+    ensures done { AreDone
+        (index_turn frame.old.limits names.now (Then (int_changed deed.now slot (One (int_view e.now))) NoStmts))
+        first result frame.old.memory frame.new.memory }
+    ensures limits { frame.new.limits ≡ frame.old.limits }
+{
+    if !has_room(first) || is_variable(names, slot) || !frame.has_number(slot) {
+        return 0;
+    }
+    let Some(fold) = fold_of(deed, frame.operator(slot)) else {
+        return 0;
+    };
+    let strip = turn_strip(e, names, slot, first, frame);
+    let made = strip.size.min(most).min(STRIP);
+    if made > 0 {
+        let word = folded(fold, frame.number(slot), &strip.words, made);
+        bind(names, behind(first, made - 1), frame);
+        frame.set_number(slot, word);
+    }
+    made
+}
+
+/// Makes the turns of an index and of those behind it, at most so many, where the body is one assignment to an element, or folds an int
+/// onto another one, and its ints are found several at once; how many.
 pub fn make_row<'t>(
     names: &Names<'t>,
     body: &[Step<'t>],
@@ -93,8 +137,11 @@ pub fn make_row<'t>(
     let [step] = body else {
         return 0;
     };
-    let Step::SetElement(name, index, op, sign, e) = step else {
-        return 0;
-    };
-    assign_row(names, name, index, *op, sign, e, first, most, frame)
+    match step {
+        Step::SetElement(name, index, op, sign, e) => {
+            assign_row(names, name, index, *op, sign, e, first, most, frame)
+        }
+        Step::Int(deed, slot, e) => fold_row(names, deed, *slot, e, first, most, frame),
+        _ => 0,
+    }
 }

@@ -28,9 +28,10 @@ abbrev pub HoldsAtIndices : (Index → Memory → Result Value Fault) → Memory
 HoldsAtIndices meaning s strip =
     (k : ℕ) → k < strip.size → k < 64 → (u : Memory) → IsSameAt (behind k strip.first) s u → meaning (behind k strip.first) u ≡ Ok (Int (get_or strip.words k (pos 0)))
 
--- a memory in the turn of an index: the variables of the loop hold the index, and else the array of one slot alone may have changed
+-- a memory in the turn of an index: the variables of the loop hold the index, and else the word and the array of one slot alone may have
+-- changed
 pub record IsInTurn (names : Names) (target : ℕ) (t : Index) (s u : Memory) : Type 0 where
-  pub numbers : (slot : ℕ) → get_or u.words.numbers slot (pos 0) ≡ get_or (bound_to in_memory (names_view names) (Domain []) t s).words.numbers slot (pos 0)
+  pub numbers : (slot : ℕ) → slot ≢ target → get_or u.words.numbers slot (pos 0) ≡ get_or (bound_to in_memory (names_view names) (Domain []) t s).words.numbers slot (pos 0)
   pub tuples : (slot : ℕ) → get_or u.tuples slot no_tuple ≡ get_or (bound_to in_memory (names_view names) (Domain []) t s).tuples slot no_tuple
   pub arrays : (slot : ℕ) → slot ≢ target → array_at slot u ≡ array_at slot s
 
@@ -63,12 +64,12 @@ abbrev pub turn_numbers : Names → Index → Memory → ℕ → List ℤ
 turn_numbers names first s k = (bound_to in_memory (names_view names) (Domain []) (behind k first) s).words.numbers
 
 -- an int goes so through the turns of an index and of those behind it
-abbrev pub GoesAt : Limits → Names → Index → Memory → IntExpr → Pace → Type 0
-GoesAt limits names first s e pace =
-    (target k : ℕ) → k < 64 → (u : Memory) → IsInTurn names target (behind k first) s u → value_of limits in_memory (int_view e) None u ≡ Ok (Int (paced pace k))
+abbrev pub GoesAt : Limits → Names → ℕ → Index → Memory → IntExpr → Pace → Type 0
+GoesAt limits names target first s e pace =
+    (k : ℕ) → k < 64 → (u : Memory) → IsInTurn names target (behind k first) s u → value_of limits in_memory (int_view e) None u ≡ Ok (Int (paced pace k))
 
 -- the index that is found in a turn lies as far behind another as the turn behind the first
-abbrev pub GoesFrom : Limits → Names → Index → Memory → IndexExpr → Index → Type 0
-GoesFrom limits names first s index t =
-    (target k : ℕ) → k < 64 → (u : Memory) → IsInTurn names target (behind k first) s u
+abbrev pub GoesFrom : Limits → Names → ℕ → Index → Memory → IndexExpr → Index → Type 0
+GoesFrom limits names target first s index t =
+    (k : ℕ) → k < 64 → (u : Memory) → IsInTurn names target (behind k first) s u
     → with_ok (values_of limits in_memory (index_exprs index) u) (λ vs. Ok (index_of vs)) ≡ Ok (behind k t)

@@ -2,7 +2,7 @@
 // A strip says of each int that it has that it is the value at its index, and never how many it has: whoever asks for one goes on index by
 // index where it has none, so that a fault and its turn are the walk's alone. It is read before the turns that write, so it must not see what
 // they write. A promoted expression reads at the index that is written alone; an expression in a turn reads elsewhere, so it has no strip
-// where it reads the array that the turn writes (specs/Strips.antt: `IsSameAt`, `IsInTurn`).
+// where it reads the word or the array that the turn writes (specs/Strips.antt: `IsSameAt`, `IsInTurn`).
 #![tactic(auto)]
 
 pub mod index;

@@ -126,25 +126,27 @@ fn local<A: Arrays>(
 }
 
 /// How an int goes through the turns of an index and of those behind it, as far as that is told by its text and by what the frame
-/// holds. An int in which an element, a quotient or more than sums and differences stand has no pace.
+/// holds. An int in which an element, a quotient or more than sums and differences stand has no pace, nor has one in which the slot
+/// stands that the turns may write.
 pub(crate) fn pace_of<A: Arrays>(
     e: &IntExpr<'_>,
     names: &Names<'_>,
+    target: usize,
     first: Index,
     frame: &Frame<'_, A>,
 ) -> Option<Pace>
-    ensures { IfSome result (λ p. FitsTurns p × GoesAt frame.now.limits names.now first frame.now.memory e.now p) }
+    ensures { IfSome result (λ p. FitsTurns p × GoesAt frame.now.limits names.now target first frame.now.memory e.now p) }
 {
     match e {
         IntExpr::Number(n) => Some(Pace::Steady(*n)),
-        IntExpr::Local(slot) => local(*slot, names, first, frame),
+        IntExpr::Local(slot) if *slot != target => local(*slot, names, first, frame),
         IntExpr::Sum(a, b) => {
-            let left = pace_of(a, names, first, frame)?;
-            left.plus(pace_of(b, names, first, frame)?)
+            let left = pace_of(a, names, target, first, frame)?;
+            left.plus(pace_of(b, names, target, first, frame)?)
         }
         IntExpr::Difference(a, b) => {
-            let left = pace_of(a, names, first, frame)?;
-            left.minus(pace_of(b, names, first, frame)?)
+            let left = pace_of(a, names, target, first, frame)?;
+            left.minus(pace_of(b, names, target, first, frame)?)
         }
         _ => None,
     }
@@ -154,12 +156,13 @@ pub(crate) fn pace_of<A: Arrays>(
 pub(crate) fn steady<A: Arrays>(
     e: &IntExpr<'_>,
     names: &Names<'_>,
+    target: usize,
     first: Index,
     frame: &Frame<'_, A>,
 ) -> Option<i64>
-    ensures { IfSome result (λ n. GoesAt frame.now.limits names.now first frame.now.memory e.now (SteadyPace n)) }
+    ensures { IfSome result (λ n. GoesAt frame.now.limits names.now target first frame.now.memory e.now (SteadyPace n)) }
 {
-    match pace_of(e, names, first, frame)? {
+    match pace_of(e, names, target, first, frame)? {
         Pace::Steady(n) => Some(n),
         Pace::Stepping(_) => None,
     }
@@ -169,12 +172,13 @@ pub(crate) fn steady<A: Arrays>(
 pub(crate) fn first_step<A: Arrays>(
     e: &IntExpr<'_>,
     names: &Names<'_>,
+    target: usize,
     first: Index,
     frame: &Frame<'_, A>,
 ) -> Option<i64>
-    ensures { IfSome result (λ n. GoesAt frame.now.limits names.now first frame.now.memory e.now (SteppingPace n)) }
+    ensures { IfSome result (λ n. GoesAt frame.now.limits names.now target first frame.now.memory e.now (SteppingPace n)) }
 {
-    match pace_of(e, names, first, frame)? {
+    match pace_of(e, names, target, first, frame)? {
         Pace::Steady(_) => None,
         Pace::Stepping(from) => Some(from),
     }

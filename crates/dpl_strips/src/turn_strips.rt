@@ -1,5 +1,5 @@
 // The ints of an expression in several turns of a loop at once, and where the elements lie that these turns find.
-// What is read is read before the turns, and so from no array that they write. Each operator has a function of its own (see strip.rt).
+// What is read is read before the turns, and so from no slot that they write. Each operator has a function of its own (see strip.rt).
 
 ghost use Rattle.std.specs.Prelude.{◌≡◌, ◌<◌, ℕ, pos, ◌+ℤ◌, None, get_or, IfSome};
 ghost use Rattle.dpl_syntax.specs.declared.place.Place.{Place};
@@ -52,10 +52,11 @@ fn of_pace(first: Index, pace: Pace) -> Strip
 fn tuple_index<A: Arrays>(
     slot: usize,
     names: &Names<'_>,
+    target: usize,
     first: Index,
     frame: &Frame<'_, A>,
 ) -> Option<Index>
-    ensures { IfSome result (λ t. GoesFrom frame.now.limits names.now first frame.now.memory (TupleIndex slot) t) }
+    ensures { IfSome result (λ t. GoesFrom frame.now.limits names.now target first frame.now.memory (TupleIndex slot) t) }
 {
     match names {
         Names::Tuple(variable) if *variable == slot && frame.has_tuple(slot) => Some(first),
@@ -67,25 +68,26 @@ fn tuple_index<A: Arrays>(
 pub fn turn_index<A: Arrays>(
     index: &IndexExpr<'_>,
     names: &Names<'_>,
+    target: usize,
     first: Index,
     frame: &Frame<'_, A>,
 ) -> Option<Index>
-    ensures { IfSome result (λ t. GoesFrom frame.now.limits names.now first frame.now.memory index.now t) }
+    ensures { IfSome result (λ t. GoesFrom frame.now.limits names.now target first frame.now.memory index.now t) }
 {
     match index {
-        IndexExpr::Line(i) => Some(coordinate(first_step(i, names, first, frame)?)),
+        IndexExpr::Line(i) => Some(coordinate(first_step(i, names, target, first, frame)?)),
         IndexExpr::Plane(i, j) => {
-            let i = steady(i, names, first, frame)?;
-            let j = first_step(j, names, first, frame)?;
+            let i = steady(i, names, target, first, frame)?;
+            let j = first_step(j, names, target, first, frame)?;
             Some(plane(i, j))
         }
         IndexExpr::Space(i, j, k) => {
-            let i = steady(i, names, first, frame)?;
-            let j = steady(j, names, first, frame)?;
-            let k = first_step(k, names, first, frame)?;
+            let i = steady(i, names, target, first, frame)?;
+            let j = steady(j, names, target, first, frame)?;
+            let k = first_step(k, names, target, first, frame)?;
             Some(space(i, j, k))
         }
-        IndexExpr::Tuple(slot) => tuple_index(*slot, names, first, frame),
+        IndexExpr::Tuple(slot) => tuple_index(*slot, names, target, first, frame),
     }
 }
 
@@ -106,7 +108,7 @@ fn of_element<A: Arrays>(
     if slot == target {
         return Strip::none(first);
     }
-    match turn_index(index, names, first, frame) {
+    match turn_index(index, names, target, first, frame) {
         Some(index) => copied(first, frame.run(slot, index)),
         None => Strip::none(first),
     }
@@ -124,7 +126,7 @@ fn of_leaf<A: Arrays>(
     ensures first { result.first ≡ first }
     ensures values { HoldsInTurns names.now target (λ u. value_of frame.now.limits in_memory (int_view e.now) None u) frame.now.memory result }
 {
-    match pace_of(e, names, first, frame) {
+    match pace_of(e, names, target, first, frame) {
         Some(pace) => of_pace(first, pace),
         None => Strip::none(first),
     }
@@ -163,7 +165,7 @@ fn sums<A: Arrays>(
         (two (int_view a.now) nowhere Add (int_view b.now)) None u) frame.now.memory result }
 {
     let left = turn_strip(a, names, target, first, frame);
-    match steady(b, names, first, frame) {
+    match steady(b, names, target, first, frame) {
         Some(n) => with_each(&left, n, sum),
         None => both(&left, &turn_strip(b, names, target, first, frame), sum),
     }
@@ -185,7 +187,7 @@ fn differences<A: Arrays>(
         (two (int_view a.now) nowhere Subtract (int_view b.now)) None u) frame.now.memory result }
 {
     let left = turn_strip(a, names, target, first, frame);
-    match steady(b, names, first, frame) {
+    match steady(b, names, target, first, frame) {
         Some(n) => with_each(&left, n, difference),
         None => both(
             &left,
@@ -211,7 +213,7 @@ fn products<A: Arrays>(
         (two (int_view a.now) nowhere Multiply (int_view b.now)) None u) frame.now.memory result }
 {
     let left = turn_strip(a, names, target, first, frame);
-    match steady(b, names, first, frame) {
+    match steady(b, names, target, first, frame) {
         Some(n) => with_each(&left, n, product),
         None => both(&left, &turn_strip(b, names, target, first, frame), product),
     }
@@ -232,7 +234,7 @@ fn divided<A: Arrays>(
     ensures values { (at : Place) → HoldsInTurns names.now target (λ u. value_of frame.now.limits in_memory
         (two (int_view a.now) at Divide (int_view b.now)) None u) frame.now.memory result }
 {
-    match steady(b, names, first, frame) {
+    match steady(b, names, target, first, frame) {
         Some(n) if n != 0 => quotients(&turn_strip(a, names, target, first, frame), n),
         _ => Strip::none(first),
     }
@@ -253,14 +255,14 @@ fn left_over<A: Arrays>(
     ensures values { (at : Place) → HoldsInTurns names.now target (λ u. value_of frame.now.limits in_memory
         (two (int_view a.now) at Remainder (int_view b.now)) None u) frame.now.memory result }
 {
-    match steady(b, names, first, frame) {
+    match steady(b, names, target, first, frame) {
         Some(n) if n != 0 => remainders(&turn_strip(a, names, target, first, frame), n),
         _ => Strip::none(first),
     }
 }
 
 /// The ints of an expression in the turns of an index and of those behind it in the last dimension, as far as they are found at once.
-/// There may be none. The turns may write the array in one slot, which is not read here.
+/// There may be none. The turns may write the word or the array in one slot, which is not read here.
 #[cycle(turns)]
 pub fn turn_strip<A: Arrays>(
     e: &IntExpr<'_>,
