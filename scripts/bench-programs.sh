@@ -2,7 +2,7 @@
 # Times dpl on a forall of ten million turns, on Collatz sequences up to a number, on the programs of benches/programs (a sieve, stencils over a
 # line and a plane, sums over arrays, an assignment to a whole array, and the print of one), on 50,000 statements and on a mebibyte of spaces, each beside lua5.4,
 # python3, numpy and C doing the same where they have it, all in one run. At the end stands how much memory the stencil over a plane takes.
-# usage: scripts/bench-programs.sh [ROUNDS [LAST]]. Needs rt, lua5.4, python3 and cc, and numpy for /usr/bin/python3 (its column is 0 without it);
+# usage: scripts/bench-programs.sh [ROUNDS [LAST]]. Needs rt, python3 and cc, and beside them lua5.4, and numpy for /usr/bin/python3 (a column is 0 without it);
 # LAST, 1000000 without it, is where Collatz ends.
 set -eu
 
@@ -76,7 +76,7 @@ head -c 1048576 /dev/zero | tr '\0' ' ' > "$work/spaces.chpl"
 find_executable
 dpl=$executable
 cp "$top"/benches/programs/* "$work"
-for program in turns collatz sieve line plane plate sums promoted assigned printed; do cc -O2 -o "$work/$program" "$work/$program.c"; done
+for program in turns collatz sieve line plane plate jacobi sums promoted assigned printed; do cc -O2 -o "$work/$program" "$work/$program.c"; done
 
 # The seconds that a command takes on a file of the benchmark.
 seconds() {
@@ -89,7 +89,9 @@ seconds() {
 
 # A line of times on the same program: its name, and those of dpl, lua5.4, python3, numpy and C, 0 where there is none.
 beside() {
-    printf '%s %s %s %s ' "$1" "$(seconds "$1.chpl" "$dpl" --budget 4294967296)" "$(seconds "$1.lua" lua5.4 -)" "$(seconds "$1.py" python3 -)"
+    printf '%s %s ' "$1" "$(seconds "$1.chpl" "$dpl" --budget 4294967296)"
+    if command -v lua5.4 > /dev/null; then seconds "$1.lua" lua5.4 -; else printf 0; fi
+    printf ' %s ' "$(seconds "$1.py" python3 -)"
     if [ -f "$work/$1.np.py" ] && /usr/bin/python3 -c 'import numpy' 2> /dev/null; then seconds "$1.np.py" /usr/bin/python3 -; else printf 0; fi
     printf ' '
     if [ -x "$work/$1" ]; then seconds "$1.chpl" "$work/$1"; else printf 0; fi
@@ -97,7 +99,7 @@ beside() {
 }
 
 for _ in $(seq "$rounds"); do
-    for program in turns collatz sieve line plane plate sums promoted assigned printed statements; do beside "$program"; done
+    for program in turns collatz sieve line plane plate jacobi sums promoted assigned printed statements; do beside "$program"; done
     echo "spaces $(seconds spaces.chpl "$dpl") 0 0 0 0"
 done | awk '
     !($1 in order) { order[$1] = ++rows; name[rows] = $1; for (k = 2; k <= 6; k++) best[$1, k] = $k }
