@@ -5,3 +5,4 @@ pub mod Rows
 pub mod Folds
 pub mod Apart
 pub mod Memories
+pub mod Workers

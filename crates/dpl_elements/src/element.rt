@@ -103,7 +103,7 @@ fn combine(
     sign: &Spot,
     index: Index,
     value: i64,
-    frame: &mut Frame<'_>,
+    frame: &mut Frame,
 ) -> Result<(), Trap>
     ensures ends { (done : Deeds)
         → change frame.old.limits in_memory (array_leaf IntKind name.now) (signed op sign.now) index (Int value) frame.old.memory done
@@ -130,7 +130,7 @@ pub(crate) fn change(
     sign: &Spot,
     index: Index,
     value: i64,
-    frame: &mut Frame<'_>,
+    frame: &mut Frame,
 ) -> Result<(), Trap>
     ensures ends { (done : Deeds)
         → change frame.old.limits in_memory (array_leaf IntKind name.now) (signed op sign.now) index (Int value) frame.old.memory done
@@ -151,7 +151,7 @@ pub(crate) fn change_truth(
     name: &ArrayName<'_>,
     index: Index,
     value: bool,
-    frame: &mut Frame<'_>,
+    frame: &mut Frame,
 ) -> Result<(), Trap>
     ensures ends { (at : Place) (done : Deeds)
         → change frame.old.limits in_memory (array_leaf BoolKind name.now) (signed Set at) index (Truth value) frame.old.memory done
@@ -179,7 +179,7 @@ fn put_word<G: Gate>(
     name: &ArrayName<'_>,
     t: &IndexExpr<'_>,
     word: i64,
-    frame: &mut Frame<'_>,
+    frame: &mut Frame,
     gate: &G,
     turn: &mut Turn,
 ) -> Result<(), Alarm>
@@ -217,7 +217,7 @@ fn put_at<G: Gate>(
     name: &ArrayName<'_>,
     t: &IndexExpr<'_>,
     word: i64,
-    frame: &mut Frame<'_>,
+    frame: &mut Frame,
     gate: &G,
 ) -> Result<(), Stop>
     ensures ends { Gives (MayRefuseSome (G.may_refuse gate.now)) (λ v. frame.new.memory) result
@@ -243,7 +243,7 @@ pub fn set_element<G: Gate>(
     op: Assign,
     sign: &Spot,
     e: &IntExpr<'_>,
-    frame: &mut Frame<'_>,
+    frame: &mut Frame,
     gate: &G,
 ) -> Result<(), Stop>
     ensures ends { (done : Deeds)
@@ -268,7 +268,7 @@ pub fn set_truth_element<G: Gate>(
     name: &ArrayName<'_>,
     t: &IndexExpr<'_>,
     e: &BoolExpr<'_>,
-    frame: &mut Frame<'_>,
+    frame: &mut Frame,
     gate: &G,
 ) -> Result<(), Stop>
     ensures ends { (done : Deeds)

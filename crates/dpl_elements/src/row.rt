@@ -18,7 +18,7 @@ use dpl_nodes::{ArrayName, Spot};
 use dpl_tree::Assign;
 
 // What an operator makes of elements that stand side by side and of ints for them; nothing of an operator that divides.
-fn changed(name: &ArrayName<'_>, op: Assign, at: Index, strip: Strip, frame: &Frame<'_>) -> Strip
+fn changed(name: &ArrayName<'_>, op: Assign, at: Index, strip: Strip, frame: &Frame) -> Strip
     ensures size { result.size ≤ strip.size }
     ensures divides { 0 < result.size → assign_divides op ≡ false }
     ensures words { (k : ℕ) (old : ℤ) → k < result.size → k < 64 → held_at (behind k at) (array_at name.now.slot frame.now.memory) ≡ Some old
@@ -51,7 +51,7 @@ pub fn put_row(
     at: Index,
     strip: Strip,
     most: usize,
-    frame: &mut Frame<'_>,
+    frame: &mut Frame,
 ) -> usize
     ensures most { result ≤ most }
     ensures strip { result ≤ strip.size }

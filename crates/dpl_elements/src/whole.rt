@@ -45,15 +45,15 @@ struct Fill<'e> {
     value: i64,
 }
 
-impl<'e, 't> Turns<Frame<'t>> for Fill<'e> {
+impl<'e> Turns<Frame> for Fill<'e> {
     ghost turn = { λ c limits t. change limits in_memory (array_leaf IntKind c.name.now) (signed c.op c.sign.now) t (Int c.value) };
 
     #[inline(always)]
-    fn make(&self, index: Index, frame: &mut Frame<'t>) -> Result<(), Stop> {
+    fn make(&self, index: Index, frame: &mut Frame) -> Result<(), Stop> {
         told(change(self.name, self.op, self.sign, index, self.value, frame))
     }
 
-    fn make_row(&self, first: Index, most: usize, frame: &mut Frame<'t>) -> usize {
+    fn make_row(&self, first: Index, most: usize, frame: &mut Frame) -> usize {
         let strip = repeated(first, self.value);
         put_row(self.name, self.op, self.sign, first, strip, most, frame)
     }
@@ -68,17 +68,17 @@ struct Promote<'e, 'x> {
     e: &'e PromotedInt<'x>,
 }
 
-impl<'e, 'x, 't> Turns<Frame<'t>> for Promote<'e, 'x> {
+impl<'e, 'x> Turns<Frame> for Promote<'e, 'x> {
     ghost turn = { λ c limits t s done. with_value (value_of limits in_memory (promoted_int EachTurn c.e.now) (Some t) s)
         (change limits in_memory (array_leaf IntKind c.name.now) (signed c.op c.sign.now) t) s done };
 
     #[inline(always)]
-    fn make(&self, index: Index, frame: &mut Frame<'t>) -> Result<(), Stop> {
+    fn make(&self, index: Index, frame: &mut Frame) -> Result<(), Stop> {
         let value = promoted_int_value(self.e, &index, frame, &OpenGate)?;
         told(change(self.name, self.op, self.sign, index, value, frame))
     }
 
-    fn make_row(&self, first: Index, most: usize, frame: &mut Frame<'t>) -> usize {
+    fn make_row(&self, first: Index, most: usize, frame: &mut Frame) -> usize {
         let strip = promoted_strip(self.e, first, frame);
         put_row(self.name, self.op, self.sign, first, strip, most, frame)
     }
@@ -92,11 +92,11 @@ struct FillTruth<'e> {
     value: bool,
 }
 
-impl<'e, 't> Turns<Frame<'t>> for FillTruth<'e> {
+impl<'e> Turns<Frame> for FillTruth<'e> {
     ghost turn = { λ c limits t. change limits in_memory (array_leaf BoolKind c.name.now) (signed Set c.sign.now) t (Truth c.value) };
 
     #[inline(always)]
-    fn make(&self, index: Index, frame: &mut Frame<'t>) -> Result<(), Stop> {
+    fn make(&self, index: Index, frame: &mut Frame) -> Result<(), Stop> {
         told(change_truth(self.name, index, self.value, frame))
     }
 }
@@ -109,24 +109,24 @@ struct PromoteTruth<'e, 'x> {
     e: &'e PromotedTruth<'x>,
 }
 
-impl<'e, 'x, 't> Turns<Frame<'t>> for PromoteTruth<'e, 'x> {
+impl<'e, 'x> Turns<Frame> for PromoteTruth<'e, 'x> {
     ghost turn = { λ c limits t s done. with_value (value_of limits in_memory (promoted_truth EachTurn c.e.now) (Some t) s)
         (change limits in_memory (array_leaf BoolKind c.name.now) (signed Set c.sign.now) t) s done };
 
     #[inline(always)]
-    fn make(&self, index: Index, frame: &mut Frame<'t>) -> Result<(), Stop> {
+    fn make(&self, index: Index, frame: &mut Frame) -> Result<(), Stop> {
         let value = promoted_truth_value(self.e, &index, frame, &OpenGate)?.get();
         told(change_truth(self.name, index, value, frame))
     }
 }
 
 // The turns of a domain that has no more indices than the budget, by the map of the array of a name.
-fn each_within<'t, T: Turns<Frame<'t>>, G: Gate>(
+fn each_within<T: Turns<Frame>, G: Gate>(
     turns: &T,
     at: &Spot,
     name: &ArrayName<'_>,
     domain: DomainWord,
-    frame: &mut Frame<'t>,
+    frame: &mut Frame,
     gate: &G,
 ) -> Result<(), Stop>
     ensures ends { (done : Deeds) → RunsTo (MayRefuse (G.may_refuse gate.now) (owned_by frame.old name.now.slot) domain) result frame.new.memory done
@@ -139,13 +139,13 @@ fn each_within<'t, T: Turns<Frame<'t>>, G: Gate>(
 }
 
 // An int without a whole array goes into each element.
-fn set_once<'t, G: Gate>(
+fn set_once<G: Gate>(
     name: &ArrayName<'_>,
     op: Assign,
     sign: &Spot,
     e: &PromotedInt<'_>,
     domain: DomainWord,
-    frame: &mut Frame<'t>,
+    frame: &mut Frame,
     gate: &G,
 ) -> Result<(), Stop>
     requires { whole_in frame.old.limits in_memory (promoted_int EachTurn e.now) frame.old.memory ≡ None }
@@ -166,12 +166,12 @@ fn set_once<'t, G: Gate>(
 }
 
 // The same of truth values.
-fn set_truth_once<'t, G: Gate>(
+fn set_truth_once<G: Gate>(
     name: &ArrayName<'_>,
     sign: &Spot,
     e: &PromotedTruth<'_>,
     domain: DomainWord,
-    frame: &mut Frame<'t>,
+    frame: &mut Frame,
     gate: &G,
 ) -> Result<(), Stop>
     requires { whole_in frame.old.limits in_memory (promoted_truth EachTurn e.now) frame.old.memory ≡ None }
@@ -187,13 +187,13 @@ fn set_truth_once<'t, G: Gate>(
 }
 
 // An int with a whole array is evaluated at the index of each element.
-fn set_each<'t, G: Gate>(
+fn set_each<G: Gate>(
     name: &ArrayName<'_>,
     op: Assign,
     sign: &Spot,
     e: &PromotedInt<'_>,
     domain: DomainWord,
-    frame: &mut Frame<'t>,
+    frame: &mut Frame,
     gate: &G,
 ) -> Result<(), Stop>
     ensures ends { (arrays : List TextRange) (done : Deeds)
@@ -206,12 +206,12 @@ fn set_each<'t, G: Gate>(
 }
 
 // The same of truth values.
-fn set_truth_each<'t, G: Gate>(
+fn set_truth_each<G: Gate>(
     name: &ArrayName<'_>,
     sign: &Spot,
     e: &PromotedTruth<'_>,
     domain: DomainWord,
-    frame: &mut Frame<'t>,
+    frame: &mut Frame,
     gate: &G,
 ) -> Result<(), Stop>
     ensures ends { (arrays : List TextRange) (done : Deeds)
@@ -230,12 +230,12 @@ fn set_truth_each<'t, G: Gate>(
 /// an index, in its turn; or the gate refused the entry of an element's owner, or of a reduction in a right side that is evaluated
 /// once.
 #[inline(never)]
-pub fn set_array<'t, G: Gate>(
+pub fn set_array<G: Gate>(
     name: &ArrayName<'_>,
     op: Assign,
     sign: &Spot,
     e: &PromotedInt<'_>,
-    frame: &mut Frame<'t>,
+    frame: &mut Frame,
     gate: &G,
 ) -> Result<(), Stop>
     ensures ends { (done : Deeds) → RunsTo (MayRefuseWhole (G.may_refuse gate.now) frame.old name.now.slot (EachInInts e.now)) result frame.new.memory done
@@ -254,11 +254,11 @@ pub fn set_array<'t, G: Gate>(
 /// # Errors
 /// As for ints.
 #[inline(never)]
-pub fn set_truth_array<'t, G: Gate>(
+pub fn set_truth_array<G: Gate>(
     name: &ArrayName<'_>,
     sign: &Spot,
     e: &PromotedTruth<'_>,
-    frame: &mut Frame<'t>,
+    frame: &mut Frame,
     gate: &G,
 ) -> Result<(), Stop>
     ensures ends { (done : Deeds) → RunsTo (MayRefuseWhole (G.may_refuse gate.now) frame.old name.now.slot (EachInTruths e.now)) result frame.new.memory done

@@ -18,7 +18,7 @@ use dpl_domain::Index;
 use dpl_map::Map;
 use std::alloc::AllocError;
 
-impl<'t> Frame<'t, Slots> {
+impl Frame<Slots> {
     /// The array in a slot, if it has one.
     pub fn array(&self, slot: usize) -> Option<&ArrayWords>
         ensures { held_in (option_map (λ a. a.now) result) ≡ array_at slot self.now.memory }
@@ -34,7 +34,7 @@ impl<'t> Frame<'t, Slots> {
     }
 }
 
-impl<'t, A: Arrays> Frame<'t, A> {
+impl<A: Arrays> Frame<A> {
     /// The domain of the array in a slot; `{1..0}` where there is none.
     #[inline(always)]
     pub fn array_domain(&self, slot: usize) -> DomainWord

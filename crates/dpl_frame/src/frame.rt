@@ -1,7 +1,7 @@
 // The frame of a run: what its slots hold, with the roots of domains and arrays; the reduce variables of the forall around, and what is set.
 // A word is a value of every kind, so that no walk can leave a frame ill typed.
 
-ghost use Rattle.std.specs.Prelude.{◌≡◌, ◌↔◌, ◌<◌, pos, [], ◌∷◌, ◌++◌, get_or, set, map, length, IfOk, IsTrue};
+ghost use Rattle.std.specs.Prelude.{◌≡◌, ◌↔◌, ◌<◌, pos, [], ◌∷◌, ◌++◌, get_or, set, map, length, IfOk, OnOk, OnErr, IsTrue};
 ghost use Rattle.dpl_words.specs.Words.{no_range, intent_at, set_at};
 ghost use Rattle.dpl_language.specs.Distributions.{no_root};
 ghost use Rattle.dpl_memory.specs.Memory.{no_domain, no_tuple, intents_by_slot, with_root};
@@ -34,14 +34,14 @@ fn no_tuple() -> Index
 /// kept beside the root, so that it is found at once. A frame has as many of everything as slots. How its arrays are kept is a parameter,
 /// and shows in nothing that it stands for.
 #[derive(Drop)]
-pub struct Frame<'t, A: Arrays = Slots> {
+pub struct Frame<A: Arrays = Slots> {
     numbers: Vec<i64>,
     ranges: Vec<RangeWord>,
     domains: Vec<DomainWord>,
     tuples: Vec<Index>,
     pub(crate) alloc: Global,
     pub(crate) arrays: A,
-    intents: &'t [Intent],
+    intents: Vec<Intent>,
     sets: Vec<(usize, i64)>,
     budget: u64,
     locales: u32,
@@ -50,7 +50,7 @@ pub struct Frame<'t, A: Arrays = Slots> {
     owners: Vec<Map>,
 }
 
-impl<'t, A: Arrays> Model for Frame<'t, A> {
+impl<A: Arrays> Model for Frame<A> {
     ghost use Rattle.std.specs.Prelude.{◌≡◌, map};
     ghost use Rattle.dpl_memory.specs.Memory.{intents_by_slot};
     ghost use Rattle.dpl_contents.specs.Range.{range_word};
@@ -65,7 +65,7 @@ impl<'t, A: Arrays> Model for Frame<'t, A> {
         words = record {
           numbers = f.numbers.items;
           ranges = map range_word f.ranges.items;
-          intents = intents_by_slot (map intent_view f.intents.now);
+          intents = intents_by_slot (map intent_view f.intents.items);
           sets = f.sets.items;
         };
         domains = f.domains.items;
@@ -80,7 +80,7 @@ impl<'t, A: Arrays> Model for Frame<'t, A> {
     ghost invariant = { λ f. f.owners.items ≡ maps_of f.layout f.roots.items };
 }
 
-impl<'t> Frame<'t, Slots> {
+impl Frame<Slots> {
     /// A frame with so many slots: its words are 0, its ranges `1..0`, its domains `{1..0}`, its tuples the index 0, and its
     /// arrays have no elements; no slot has a root, so that each has the whole map. Nothing is set, and there are no reduce variables.
     ///
@@ -93,7 +93,7 @@ impl<'t> Frame<'t, Slots> {
         budget: u64,
         locales: u32,
         layout: Layout,
-    ) -> Result<Frame<'t>, AllocError>
+    ) -> Result<Frame, AllocError>
         ensures { IfOk result (λ f. f ≡ first_frame slots (record { budget = budget; locales = locales }) layout) }
     {
         Ok(Frame {
@@ -103,7 +103,7 @@ impl<'t> Frame<'t, Slots> {
             tuples: vec![in alloc; no_tuple(); slots]?,
             alloc,
             arrays: Slots::new(alloc, slots)?,
-            intents: &[],
+            intents: Vec::new(alloc),
             sets: Vec::new(alloc),
             budget,
             locales,
@@ -114,7 +114,7 @@ impl<'t> Frame<'t, Slots> {
     }
 }
 
-impl<'t, A: Arrays> Frame<'t, A> {
+impl<A: Arrays> Frame<A> {
     /// The word in a slot; 0 past the last one.
     pub fn number(&self, slot: usize) -> i64
         ensures { result ≡ get_or self.now.memory.words.numbers slot (pos 0) }
@@ -287,7 +287,7 @@ impl<'t, A: Arrays> Frame<'t, A> {
     pub fn operator(&self, slot: usize) -> Option<Op>
         ensures { result ≡ intent_at slot self.now.memory.words.intents }
     {
-        for intent in self.intents {
+        for intent in &self.intents {
             if slot == intent.slot {
                 return Some(intent.op);
             }
@@ -296,9 +296,22 @@ impl<'t, A: Arrays> Frame<'t, A> {
     }
 
     /// Makes these the reduce variables.
-    pub fn intend(&mut self, intents: &'t [Intent])
-        ensures { self.new ≡ with_words (record self.old.memory.words { intents = intents_by_slot (map intent_view intents.now) }) self.old }
+    ///
+    /// # Errors
+    /// Out of memory; then the frame is as it was.
+    pub fn intend(&mut self, intents: &[Intent]) -> Result<(), AllocError>
+        ensures intended { OnOk result (self.new
+            ≡ with_words (record self.old.memory.words { intents = intents_by_slot (map intent_view intents.now) }) self.old) }
+        ensures unchanged { OnErr result (self.new ≡ self.old) }
     {
-        self.intents = intents;
+        self.intents = intents.to_vec(self.alloc)?;
+        Ok(())
+    }
+
+    /// There are no reduce variables any more.
+    pub fn intend_none(&mut self)
+        ensures { self.new ≡ with_words (record self.old.memory.words { intents = [] }) self.old }
+    {
+        self.intents.clear();
     }
 }

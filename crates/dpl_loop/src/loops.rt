@@ -22,12 +22,12 @@ use dpl_map::Map;
 
 /// The turn of an index at a place, once its owner has entered. Its fault names it.
 #[inline(always)]
-pub(crate) fn entered<'t, A: Arrays, T: Turns<Frame<'t, A>>, G: Gate>(
+pub(crate) fn entered<A: Arrays, T: Turns<Frame<A>>, G: Gate>(
     turns: &T,
     index: Index,
     place: u64,
     map: &Map,
-    frame: &mut Frame<'t, A>,
+    frame: &mut Frame<A>,
     gate: &G,
 ) -> Result<(), Stop>
     ensures ends { (done : Deeds) → RunsTo (G.may_refuse gate.now (owner map.now index) place) result frame.new.memory done
@@ -48,11 +48,11 @@ pub(crate) fn entered<'t, A: Arrays, T: Turns<Frame<'t, A>>, G: Gate>(
 /// # Errors
 /// The fault of the first turn that has one, with its turn; out of memory; or the gate refused an entry, which it may. Where the
 /// gate refused and where memory ran out, nothing is said of the frame's memory.
-pub fn forall<'t, A: Arrays, T: Turns<Frame<'t, A>>, G: Gate>(
+pub fn forall<A: Arrays, T: Turns<Frame<A>>, G: Gate>(
     turns: &T,
     over: DomainWord,
     map: &Map,
-    frame: &mut Frame<'t, A>,
+    frame: &mut Frame<A>,
     gate: &G,
 ) -> Result<(), Stop>
     ensures ends { (done : Deeds) → RunsTo (MayRefuse (G.may_refuse gate.now) map.now over) result frame.new.memory done
@@ -78,11 +78,11 @@ pub fn forall<'t, A: Arrays, T: Turns<Frame<'t, A>>, G: Gate>(
 ///
 /// # Errors
 /// As for [`forall`].
-pub fn forall_line<'t, A: Arrays, T: Turns<Frame<'t, A>>, G: Gate>(
+pub fn forall_line<A: Arrays, T: Turns<Frame<A>>, G: Gate>(
     turns: &T,
     over: &RangeWord,
     map: &Map,
-    frame: &mut Frame<'t, A>,
+    frame: &mut Frame<A>,
     gate: &G,
 ) -> Result<(), Stop>
     ensures ends { (done : Deeds) → RunsTo (MayRefuse (G.may_refuse gate.now) map.now (range_word over.now ∷ [])) result frame.new.memory done

@@ -21,12 +21,12 @@ const FEW: u64 = 16;
 
 // How many turns are made at once from the index at a place on.
 #[inline(always)]
-fn row<'t, A: Arrays, P: Places, T: Turns<Frame<'t, A>>>(
+fn row<A: Arrays, P: Places, T: Turns<Frame<A>>>(
     turns: &T,
     over: &P,
     index: Index,
     place: u64,
-    frame: &mut Frame<'t, A>,
+    frame: &mut Frame<A>,
 ) -> usize
     requires { slice_get (P.indices over.now) place ≡ Some index }
     ensures within { place + result ≤ length (P.indices over.now) }
@@ -43,10 +43,10 @@ fn row<'t, A: Arrays, P: Places, T: Turns<Frame<'t, A>>>(
 }
 
 /// How many turns are made at once from the first index on. None where a gate is to be asked for them.
-pub(crate) fn begun<'t, A: Arrays, P: Places, T: Turns<Frame<'t, A>>, G: Gate>(
+pub(crate) fn begun<A: Arrays, P: Places, T: Turns<Frame<A>>, G: Gate>(
     turns: &T,
     over: &P,
-    frame: &mut Frame<'t, A>,
+    frame: &mut Frame<A>,
     gate: &G,
 ) -> u64
     ensures within { result ≤ length (P.indices over.now) }
@@ -64,12 +64,12 @@ pub(crate) fn begun<'t, A: Arrays, P: Places, T: Turns<Frame<'t, A>>, G: Gate>(
 }
 
 // The turns from a place on, as many as are made at once, or that of the place alone; and the next place.
-fn turns_from<'t, A: Arrays, P: Places, T: Turns<Frame<'t, A>>, G: Gate>(
+fn turns_from<A: Arrays, P: Places, T: Turns<Frame<A>>, G: Gate>(
     turns: &T,
     over: &P,
     place: u64,
     map: &Map,
-    frame: &mut Frame<'t, A>,
+    frame: &mut Frame<A>,
     gate: &G,
 ) -> Result<u64, Stop>
     requires place { place < length (P.indices over.now) }
@@ -95,12 +95,12 @@ fn turns_from<'t, A: Arrays, P: Places, T: Turns<Frame<'t, A>>, G: Gate>(
 ///
 /// # Errors
 /// As for [`forall`](crate::forall).
-pub(crate) fn together<'t, A: Arrays, P: Places, T: Turns<Frame<'t, A>>, G: Gate>(
+pub(crate) fn together<A: Arrays, P: Places, T: Turns<Frame<A>>, G: Gate>(
     turns: &T,
     over: &P,
     first: u64,
     map: &Map,
-    frame: &mut Frame<'t, A>,
+    frame: &mut Frame<A>,
     gate: &G,
 ) -> Result<(), Stop>
     requires { first ≤ length (P.indices over.now) }

@@ -18,7 +18,7 @@ pub trait AnyFrame {
     ghost framed: { Self → Framed };
 }
 
-impl<'t, A: Arrays> AnyFrame for Frame<'t, A> {
+impl<A: Arrays> AnyFrame for Frame<A> {
     ghost framed = { λ frame. frame };
 }
 

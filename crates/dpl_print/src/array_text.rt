@@ -27,7 +27,7 @@ fn element_kind(kind: ScalarKind) -> ElementKind
 pub(crate) fn show_array(
     kind: ScalarKind,
     slot: usize,
-    frame: &Frame<'_>,
+    frame: &Frame,
     out: &mut Vec<u8>,
 ) -> Result<(), AllocError>
     ensures { OnOk result (out.new.items ≡ out.old.items ++ array_text kind slot frame.now.memory) }

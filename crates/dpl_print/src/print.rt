@@ -35,7 +35,7 @@ fn print(n: i64, out: &mut Vec<u8>) -> Result<(), AllocError>
 #[tactic(auto, using(crate::proofs::Shown::shown_int, crate::proofs::Shown::shown_truth))]
 fn show<G: Gate>(
     argument: &Argument<'_>,
-    frame: &Frame<'_>,
+    frame: &Frame,
     gate: &G,
     out: &mut Vec<u8>,
 ) -> Result<(), Stop>
@@ -63,7 +63,7 @@ fn show<G: Gate>(
 // Appends the texts of arguments.
 fn show_all<G: Gate>(
     arguments: &[Argument<'_>],
-    frame: &Frame<'_>,
+    frame: &Frame,
     gate: &G,
     out: &mut Vec<u8>,
 ) -> Result<(), Stop>
@@ -94,7 +94,7 @@ fn end_line(ends_line: bool, out: &mut Vec<u8>) -> Result<(), AllocError>
 pub fn write<G: Gate>(
     ends_line: bool,
     arguments: &[Argument<'_>],
-    frame: &Frame<'_>,
+    frame: &Frame,
     gate: &G,
     out: &mut Vec<u8>,
 ) -> Result<(), Stop>

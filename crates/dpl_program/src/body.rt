@@ -39,7 +39,7 @@ impl Context for TurnContext {
         &self,
         _ends_line: bool,
         _arguments: &[Argument<'_>],
-        _frame: &Frame<'_>,
+        _frame: &Frame,
         _out: &mut (),
     ) -> Result<(), Stop> {
         Ok(())
@@ -50,9 +50,9 @@ impl Context for TurnContext {
         _at: &Spot,
         _slot: usize,
         _over: &RangeExpr<'t>,
-        _intents: &'t [Intent],
+        _intents: &[Intent],
         _body: &[Step<'t>],
-        _frame: &mut Frame<'t>,
+        _frame: &mut Frame,
     ) -> Result<(), Stop> {
         Ok(())
     }
@@ -62,9 +62,9 @@ impl Context for TurnContext {
         _at: &Spot,
         _names: &Names<'t>,
         _over: &DomainExpr<'t>,
-        _intents: &'t [Intent],
+        _intents: &[Intent],
         _body: &[Step<'t>],
-        _frame: &mut Frame<'t>,
+        _frame: &mut Frame,
     ) -> Result<(), Stop> {
         Ok(())
     }
@@ -77,16 +77,16 @@ pub(crate) struct Body<'b, 't> {
     pub(crate) steps: &'b [Step<'t>],
 }
 
-impl<'b, 't> Turns<Frame<'t>> for Body<'b, 't> {
+impl<'b, 't> Turns<Frame> for Body<'b, 't> {
     ghost turn = { λ body limits. index_turn limits body.names (steps_in InTurn body.steps.now) };
 
     #[inline(always)]
-    fn make(&self, index: Index, frame: &mut Frame<'t>) -> Result<(), Stop> {
+    fn make(&self, index: Index, frame: &mut Frame) -> Result<(), Stop> {
         bind(&self.names, index, frame);
         run(self.steps, &TurnContext, frame, &mut ())
     }
 
-    fn make_row(&self, first: Index, most: usize, frame: &mut Frame<'t>) -> usize {
+    fn make_row(&self, first: Index, most: usize, frame: &mut Frame) -> usize {
         make_row(&self.names, self.steps, first, most, frame)
     }
 }

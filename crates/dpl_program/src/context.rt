@@ -55,9 +55,9 @@ fn turns_of<'t, G: Gate>(
     names: &Names<'t>,
     over: &DomainExpr<'_>,
     indices: DomainWord,
-    intents: &'t [Intent],
+    intents: &[Intent],
     body: &[Step<'t>],
-    frame: &mut Frame<'t>,
+    frame: &mut Frame,
     gate: &G,
 ) -> Result<(), Stop>
     ensures ends { (done : Deeds) → RunsTo
@@ -73,9 +73,9 @@ fn turns_of<'t, G: Gate>(
         names: *names,
         steps: body,
     };
-    frame.intend(intents);
+    frame.intend(intents)?;
     forall(&turns, indices, &map, frame, gate)?;
-    frame.intend(&[]);
+    frame.intend_none();
     Ok(())
 }
 
@@ -83,9 +83,9 @@ fn turns_of<'t, G: Gate>(
 fn turns_of_line<'t, G: Gate>(
     slot: usize,
     indices: &RangeWord,
-    intents: &'t [Intent],
+    intents: &[Intent],
     body: &[Step<'t>],
-    frame: &mut Frame<'t>,
+    frame: &mut Frame,
     gate: &G,
 ) -> Result<(), Stop>
     ensures ends { (done : Deeds) → RunsTo
@@ -100,9 +100,9 @@ fn turns_of_line<'t, G: Gate>(
         names: Names::Int(slot),
         steps: body,
     };
-    frame.intend(intents);
+    frame.intend(intents)?;
     forall_line(&turns, indices, &map, frame, gate)?;
-    frame.intend(&[]);
+    frame.intend_none();
     Ok(())
 }
 
@@ -118,7 +118,7 @@ impl<'g, G: Gate> Context for ProgramContext<'g, G> {
         &self,
         ends_line: bool,
         arguments: &[Argument<'_>],
-        frame: &Frame<'_>,
+        frame: &Frame,
         out: &mut Vec<u8>,
     ) -> Result<(), Stop> {
         write(ends_line, arguments, frame, self, out)
@@ -130,9 +130,9 @@ impl<'g, G: Gate> Context for ProgramContext<'g, G> {
         at: &Spot,
         slot: usize,
         over: &RangeExpr<'t>,
-        intents: &'t [Intent],
+        intents: &[Intent],
         body: &[Step<'t>],
-        frame: &mut Frame<'t>,
+        frame: &mut Frame,
     ) -> Result<(), Stop> {
         let indices = range_indices(at, over, frame, self)?;
         turns_of_line(slot, &indices, intents, body, frame, self)
@@ -144,9 +144,9 @@ impl<'g, G: Gate> Context for ProgramContext<'g, G> {
         at: &Spot,
         names: &Names<'t>,
         over: &DomainExpr<'t>,
-        intents: &'t [Intent],
+        intents: &[Intent],
         body: &[Step<'t>],
-        frame: &mut Frame<'t>,
+        frame: &mut Frame,
     ) -> Result<(), Stop> {
         let indices = domain_indices(at, over, frame, self)?;
         turns_of(names, over, indices, intents, body, frame, self)
@@ -160,7 +160,7 @@ impl<'g, G: Gate> Context for ProgramContext<'g, G> {
 /// nothing is said of the frame and of what is printed.
 pub fn run<'t, G: Gate>(
     steps: &[Step<'t>],
-    frame: &mut Frame<'t>,
+    frame: &mut Frame,
     gate: &G,
     out: &mut Vec<u8>,
 ) -> Result<(), Stop>

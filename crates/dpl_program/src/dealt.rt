@@ -13,7 +13,7 @@ use dpl_nodes::Step;
 
 // The map of the domain or array from which what a forall runs over is derived; the whole map, which gives all to locale 0, where it is
 // derived from none.
-fn over_map(origin: Option<usize>, frame: &Frame<'_>) -> Map
+fn over_map(origin: Option<usize>, frame: &Frame) -> Map
     ensures { result ≡ slot_map frame.now origin }
 {
     match origin {
@@ -23,7 +23,7 @@ fn over_map(origin: Option<usize>, frame: &Frame<'_>) -> Map
 }
 
 /// The map of the first array that the turns write; where they write none, that of what the forall runs over.
-pub(crate) fn dealt(body: &[Step<'_>], over: Option<usize>, frame: &Frame<'_>) -> Map
+pub(crate) fn dealt(body: &[Step<'_>], over: Option<usize>, frame: &Frame) -> Map
     ensures { result ≡ dealt_by frame.now over (written_among (steps_in InTurn body.now)) }
 {
     match written(body) {

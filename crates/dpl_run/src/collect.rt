@@ -17,7 +17,7 @@ use dpl_tree::{ScalarKind, Stmt};
 use std::alloc::{AllocError, Global};
 
 // What a slot holds for a type. What has no slot of its own counts as the int in the first one.
-fn held(value_type: ValueType<'_>, slot: usize, frame: &Frame<'_>) -> Kept
+fn held(value_type: ValueType<'_>, slot: usize, frame: &Frame) -> Kept
     ensures { content_kept frame.now.memory.arrays result ≡ held_as (type_view value_type.entry) slot frame.now.memory }
 {
     match value_type {
@@ -36,7 +36,7 @@ fn held(value_type: ValueType<'_>, slot: usize, frame: &Frame<'_>) -> Kept
 }
 
 // What a name in sight holds.
-fn found(scopes: &Scopes<'_>, name: &[u8], frame: &Frame<'_>) -> Option<Kept>
+fn found(scopes: &Scopes<'_>, name: &[u8], frame: &Frame) -> Option<Kept>
     ensures some { IfSome result (λ k. content_kept frame.now.memory.arrays k
         ≡ held_by (type_in scopes.now name.now) (slot_in scopes.now name.now) frame.now.memory) }
     ensures none { IfNone result (held_by (type_in scopes.now name.now) (slot_in scopes.now name.now) frame.now.memory
@@ -52,7 +52,7 @@ fn named(
     alloc: Global,
     scopes: &Scopes<'_>,
     name: &[u8],
-    frame: &Frame<'_>,
+    frame: &Frame,
 ) -> Result<Named, AllocError>
     ensures { IfOk result (λ v. entry_kept frame.now.memory.arrays v ≡ held_entry scopes.now frame.now.memory name.now) }
 {
@@ -71,7 +71,7 @@ fn add(
     alloc: Global,
     scopes: &Scopes<'_>,
     stmt: &Stmt<'_>,
-    frame: &Frame<'_>,
+    frame: &Frame,
     variables: &mut Vec<Named>,
 ) -> Result<(), AllocError>
     ensures { OnOk result (map (entry_kept frame.now.memory.arrays) variables.new.items
@@ -102,7 +102,7 @@ fn names(
     alloc: Global,
     scopes: &Scopes<'_>,
     stmts: &[Stmt<'_>],
-    frame: &Frame<'_>,
+    frame: &Frame,
 ) -> Result<Vec<Named>, AllocError>
     ensures { IfOk result (λ named. map (entry_kept frame.now.memory.arrays) named.items
         ≡ held_frame scopes.now frame.now.memory (declared_names (stmts_of stmts.now))) }
@@ -122,7 +122,7 @@ pub(crate) fn collect(
     alloc: Global,
     scopes: &Scopes<'_>,
     stmts: &[Stmt<'_>],
-    frame: Frame<'_>,
+    frame: Frame,
 ) -> Result<Left, AllocError>
     ensures { IfOk result (λ left. left ≡ held_frame scopes.now frame.entry.memory (declared_names (stmts_of stmts.now))) }
 {

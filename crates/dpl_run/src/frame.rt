@@ -10,7 +10,7 @@ use dpl_frame::Frame;
 use std::alloc::{AllocError, Global};
 
 // Gives these words to their slots, behind what was given before.
-fn give_all(frame: &mut Frame<'_>, words: &[(usize, i64)]) -> Result<(), AllocError>
+fn give_all(frame: &mut Frame, words: &[(usize, i64)]) -> Result<(), AllocError>
     ensures { OnOk result (frame.new ≡ with_words (record frame.old.memory.words { sets = frame.old.memory.words.sets ++ words.now }) frame.old) }
 {
     for word in words {
@@ -23,12 +23,12 @@ fn give_all(frame: &mut Frame<'_>, words: &[(usize, i64)]) -> Result<(), AllocEr
 ///
 /// # Errors
 /// Out of memory.
-pub(crate) fn first_frame<'t>(
+pub(crate) fn first_frame(
     alloc: Global,
     slots: usize,
     words: &[(usize, i64)],
     config: &Config,
-) -> Result<Frame<'t>, AllocError>
+) -> Result<Frame, AllocError>
     ensures { IfOk result (λ f. f ≡ with_memory (first_memory (record { slots = slots; texts = []; words = words.now }))
         (first_frame slots (limits_of config.now) (layout_of config.now))) }
 {

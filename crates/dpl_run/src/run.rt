@@ -44,7 +44,7 @@ pub(crate) struct Ended {
 pub(crate) fn run<'t, G: Gate>(
     alloc: Global,
     steps: &[Step<'t>],
-    mut frame: Frame<'t>,
+    mut frame: Frame,
     scopes: &Scopes<'_>,
     stmts: &[Stmt<'_>],
     gate: &G,

@@ -23,7 +23,7 @@ use dpl_values::{int_value, range_value, truth_value};
 fn declare_truth<G: Gate>(
     slot: usize,
     e: &BoolExpr<'_>,
-    frame: &mut Frame<'_>,
+    frame: &mut Frame,
     gate: &G,
 ) -> Result<(), Stop>
     ensures memory { Gives (MayRefuseSome (G.may_refuse gate.now)) (λ v. frame.new.memory) result
@@ -40,7 +40,7 @@ fn declare_truth<G: Gate>(
 pub(crate) fn declare_range<G: Gate>(
     slot: usize,
     e: &RangeExpr<'_>,
-    frame: &mut Frame<'_>,
+    frame: &mut Frame,
     gate: &G,
 ) -> Result<(), Stop>
     ensures memory { Gives (MayRefuseSome (G.may_refuse gate.now)) (λ v. frame.new.memory) result
@@ -56,7 +56,7 @@ pub(crate) fn declare_range<G: Gate>(
 fn config_truth<G: Gate>(
     slot: usize,
     e: &BoolExpr<'_>,
-    frame: &mut Frame<'_>,
+    frame: &mut Frame,
     gate: &G,
 ) -> Result<(), Stop>
     ensures memory { Gives (MayRefuseSome (G.may_refuse gate.now)) (λ v. frame.new.memory) result
@@ -74,7 +74,7 @@ fn config_truth<G: Gate>(
 
 // What the command line gives to an int, if it is declared so.
 #[inline(always)]
-fn given(deed: &IntDeed<'_>, slot: usize, frame: &Frame<'_>) -> Option<i64>
+fn given(deed: &IntDeed<'_>, slot: usize, frame: &Frame) -> Option<i64>
     ensures { option_map Int result ≡ int_given deed.now slot frame.now.memory }
 {
     match deed {
@@ -91,7 +91,7 @@ fn given(deed: &IntDeed<'_>, slot: usize, frame: &Frame<'_>) -> Option<i64>
 }
 
 // `/=`
-fn divide(slot: usize, at: &Spot, value: i64, frame: &mut Frame<'_>) -> Result<(), Trap>
+fn divide(slot: usize, at: &Spot, value: i64, frame: &mut Frame) -> Result<(), Trap>
     ensures memory { updated_by (int_leaf slot) SetDivide at.now (Int value) frame.old.memory ≡ memory_after result frame.new.memory }
     ensures limits { frame.new.limits ≡ frame.old.limits }
 {
@@ -103,7 +103,7 @@ fn divide(slot: usize, at: &Spot, value: i64, frame: &mut Frame<'_>) -> Result<(
 }
 
 // `%=`
-fn rest(slot: usize, at: &Spot, value: i64, frame: &mut Frame<'_>) -> Result<(), Trap>
+fn rest(slot: usize, at: &Spot, value: i64, frame: &mut Frame) -> Result<(), Trap>
     ensures memory { updated_by (int_leaf slot) SetRemainder at.now (Int value) frame.old.memory ≡ memory_after result frame.new.memory }
     ensures limits { frame.new.limits ≡ frame.old.limits }
 {
@@ -116,7 +116,7 @@ fn rest(slot: usize, at: &Spot, value: i64, frame: &mut Frame<'_>) -> Result<(),
 
 // `reduce=`
 #[inline(never)]
-fn reduce_int(slot: usize, value: i64, frame: &mut Frame<'_>)
+fn reduce_int(slot: usize, value: i64, frame: &mut Frame)
     ensures memory { updated_by (int_leaf slot) SetReduce nowhere (Int value) frame.old.memory ≡ Ok frame.new.memory }
     ensures limits { frame.new.limits ≡ frame.old.limits }
 {
@@ -126,7 +126,7 @@ fn reduce_int(slot: usize, value: i64, frame: &mut Frame<'_>)
 
 // A value goes into an int, or into what an operator makes of it.
 #[inline(always)]
-fn put(deed: &IntDeed<'_>, slot: usize, value: i64, frame: &mut Frame<'_>) -> Result<(), Trap>
+fn put(deed: &IntDeed<'_>, slot: usize, value: i64, frame: &mut Frame) -> Result<(), Trap>
     ensures memory { int_put deed.now slot (Int value) frame.old.memory ≡ memory_after result frame.new.memory }
     ensures limits { frame.new.limits ≡ frame.old.limits }
 {
@@ -148,7 +148,7 @@ fn put(deed: &IntDeed<'_>, slot: usize, value: i64, frame: &mut Frame<'_>) -> Re
 fn reduce_truth<G: Gate>(
     slot: usize,
     e: &BoolExpr<'_>,
-    frame: &mut Frame<'_>,
+    frame: &mut Frame,
     gate: &G,
 ) -> Result<(), Stop>
     ensures memory { Gives (MayRefuseSome (G.may_refuse gate.now)) (λ v. frame.new.memory) result
@@ -167,7 +167,7 @@ pub(crate) fn change_int<G: Gate>(
     deed: &IntDeed<'_>,
     slot: usize,
     e: &IntExpr<'_>,
-    frame: &mut Frame<'_>,
+    frame: &mut Frame,
     gate: &G,
 ) -> Result<(), Stop>
     ensures memory { Gives (MayRefuseSome (G.may_refuse gate.now)) (λ v. frame.new.memory) result
@@ -188,7 +188,7 @@ pub(crate) fn change_truth<G: Gate>(
     deed: TruthDeed,
     slot: usize,
     e: &BoolExpr<'_>,
-    frame: &mut Frame<'_>,
+    frame: &mut Frame,
     gate: &G,
 ) -> Result<(), Stop>
     ensures memory { Gives (MayRefuseSome (G.may_refuse gate.now)) (λ v. frame.new.memory) result

@@ -38,7 +38,7 @@ pub trait Context: Gate {
         &self,
         ends_line: bool,
         arguments: &[Argument<'_>],
-        frame: &Frame<'_>,
+        frame: &Frame,
         out: &mut Self::Out,
     ) -> Result<(), Stop>
         ensures { (done : Deeds)
@@ -55,9 +55,9 @@ pub trait Context: Gate {
         at: &Spot,
         slot: usize,
         over: &RangeExpr<'t>,
-        intents: &'t [Intent],
+        intents: &[Intent],
         body: &[Step<'t>],
-        frame: &mut Frame<'t>,
+        frame: &mut Frame,
     ) -> Result<(), Stop>
         ensures ends { (done : Deeds)
             → RunsTo (MayRefuseForallLine (Self.may_refuse self.now) frame.old at.now over.now (steps_in InTurn body.now)) result frame.new.memory done
@@ -75,9 +75,9 @@ pub trait Context: Gate {
         at: &Spot,
         names: &Names<'t>,
         over: &DomainExpr<'t>,
-        intents: &'t [Intent],
+        intents: &[Intent],
         body: &[Step<'t>],
-        frame: &mut Frame<'t>,
+        frame: &mut Frame,
     ) -> Result<(), Stop>
         ensures ends { (done : Deeds)
             → RunsTo (MayRefuseForall (Self.may_refuse self.now) frame.old at.now over.now (steps_in InTurn body.now)) result frame.new.memory done

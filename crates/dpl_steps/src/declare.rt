@@ -44,7 +44,7 @@ use dpl_values::{
 fn domain_over<G: Gate>(
     over: &DeclaredOver<'_>,
     from: &Spot,
-    frame: &Frame<'_>,
+    frame: &Frame,
     gate: &G,
 ) -> Result<DomainWord, Stop>
     ensures { Gives (MayRefuseReduction (G.may_refuse gate.now) frame.now (EachInOver over.now)) DomainValue result
@@ -73,14 +73,14 @@ trait Elements {
     ghost element: { Self → Limits → Memory → Index → Result Value Fault };
 
     // No gate is asked for it.
-    fn word(&self, index: &Index, frame: &Frame<'_>) -> Result<i64, Stop>
+    fn word(&self, index: &Index, frame: &Frame) -> Result<i64, Stop>
         ensures { Gives ⊥ (λ w. w) result (kept_word (element self.now frame.now.limits frame.now.memory index.now)) };
 }
 
 impl<'t> Elements for PromotedInt<'t> {
     ghost element = { λ e limits s t. value_of limits in_memory (promoted_int EachTurn e) (Some t) s };
 
-    fn word(&self, index: &Index, frame: &Frame<'_>) -> Result<i64, Stop> {
+    fn word(&self, index: &Index, frame: &Frame) -> Result<i64, Stop> {
         promoted_int_value(self, index, frame, &OpenGate)
     }
 }
@@ -88,7 +88,7 @@ impl<'t> Elements for PromotedInt<'t> {
 impl<'t> Elements for PromotedTruth<'t> {
     ghost element = { λ e limits s t. value_of limits in_memory (promoted_truth EachTurn e) (Some t) s };
 
-    fn word(&self, index: &Index, frame: &Frame<'_>) -> Result<i64, Stop> {
+    fn word(&self, index: &Index, frame: &Frame) -> Result<i64, Stop> {
         Ok(i64::from(promoted_truth_value(self, index, frame, &OpenGate)?.get()))
     }
 }
@@ -99,7 +99,7 @@ fn entered<E: Elements, G: Gate>(
     index: Index,
     place: u64,
     map: &Map,
-    frame: &Frame<'_>,
+    frame: &Frame,
     gate: &G,
 ) -> Result<i64, Stop>
     ensures { Names (G.may_refuse gate.now (owner map.now index) place) result (naming_value index (E.element e.now frame.now.limits frame.now.memory index)) }
@@ -118,7 +118,7 @@ fn gathered<E: Elements, G: Gate>(
     e: &E,
     map: &Map,
     domain: DomainWord,
-    frame: &Frame<'_>,
+    frame: &Frame,
     gate: &G,
 ) -> Result<ArrayWords, Stop>
     requires { too_large domain ≡ false }
@@ -145,7 +145,7 @@ fn declare_ints<G: Gate>(
     e: &PromotedInt<'_>,
     map: &Map,
     domain: DomainWord,
-    frame: &mut Frame<'_>,
+    frame: &mut Frame,
     gate: &G,
 ) -> Result<(), Stop>
     requires { too_large domain ≡ false }
@@ -177,7 +177,7 @@ fn declare_truths<G: Gate>(
     e: &PromotedTruth<'_>,
     map: &Map,
     domain: DomainWord,
-    frame: &mut Frame<'_>,
+    frame: &mut Frame,
     gate: &G,
 ) -> Result<(), Stop>
     requires { too_large domain ≡ false }
@@ -208,7 +208,7 @@ fn declare_zeros(
     d: &ArrayDeclaration<'_>,
     map: &Map,
     domain: DomainWord,
-    frame: &mut Frame<'_>,
+    frame: &mut Frame,
 ) -> Result<(), Stop>
     requires { too_large domain ≡ false }
     ensures ends { (k : Kind) (done : Deeds) → RunEnds result frame.new.memory done (declared_without frame.old.limits d.now k domain frame.old.memory done) }
@@ -232,7 +232,7 @@ fn declare_over<G: Gate>(
     d: &ArrayDeclaration<'_>,
     map: &Map,
     domain: DomainWord,
-    frame: &mut Frame<'_>,
+    frame: &mut Frame,
     gate: &G,
 ) -> Result<(), Stop>
     requires { too_large domain ≡ false }
@@ -259,7 +259,7 @@ fn declare_over<G: Gate>(
 #[inline(never)]
 pub(crate) fn declare_array<G: Gate>(
     d: &ArrayDeclaration<'_>,
-    frame: &mut Frame<'_>,
+    frame: &mut Frame,
     gate: &G,
 ) -> Result<(), Stop>
     ensures ends { (done : Deeds) → RunsTo (MayRefuseArray (G.may_refuse gate.now) frame.old d.now) result frame.new.memory done

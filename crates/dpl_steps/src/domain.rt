@@ -29,7 +29,7 @@ fn declare_value<G: Gate>(
     slot: usize,
     e: &DomainExpr<'_>,
     placing: &Placing<'_>,
-    frame: &mut Frame<'_>,
+    frame: &mut Frame,
     gate: &G,
 ) -> Result<(), Stop>
     ensures ends { (done : Deeds) → RunsTo (MayRefuseSome (G.may_refuse gate.now)) result frame.new.memory done
@@ -46,7 +46,7 @@ fn declare_value<G: Gate>(
 }
 
 // And without one: it has no index.
-fn declare_empty(slot: usize, rank: Rank, placing: &Placing<'_>, frame: &mut Frame<'_>)
+fn declare_empty(slot: usize, rank: Rank, placing: &Placing<'_>, frame: &mut Frame)
     ensures ends { (done : Deeds) → exec frame.old.limits in_memory (domain_declared slot (Empty rank) placing.now) frame.old.memory done
         ≡ Done frame.new.memory done }
     ensures limits { frame.new.limits ≡ frame.old.limits }
@@ -64,7 +64,7 @@ pub(crate) fn declare_domain<G: Gate>(
     slot: usize,
     beginning: &Beginning<'_>,
     placing: &Placing<'_>,
-    frame: &mut Frame<'_>,
+    frame: &mut Frame,
     gate: &G,
 ) -> Result<(), Stop>
     ensures ends { (done : Deeds) → RunsTo (MayRefuseSome (G.may_refuse gate.now)) result frame.new.memory done
@@ -113,7 +113,7 @@ pub(crate) fn for_array(at: &Spot, domain: DomainWord) -> Result<DomainWord, Tra
 pub(crate) fn set_domain<G: Gate>(
     name: &DomainName<'_>,
     e: &DomainExpr<'_>,
-    frame: &mut Frame<'_>,
+    frame: &mut Frame,
     gate: &G,
 ) -> Result<(), Stop>
     ensures ends { (done : Deeds)

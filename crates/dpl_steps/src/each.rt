@@ -37,7 +37,7 @@ use dpl_values::domain_value;
 pub fn domain_indices<G: Gate>(
     at: &Spot,
     over: &DomainExpr<'_>,
-    frame: &Frame<'_>,
+    frame: &Frame,
     gate: &G,
 ) -> Result<DomainWord, Stop>
     ensures { Gives (MayRefuseReduction (G.may_refuse gate.now) frame.now (EachInDomain over.now)) DomainValue result
@@ -76,7 +76,7 @@ fn sole(index: Index) -> i64
 
 // Puts the coordinates into slots, from the one in dimension 1 on.
 #[tactic(auto, using(dpl_elements::proofs::Binding::each_bound_at))]
-fn bind_others(others: &[usize], index: Index, frame: &mut Frame<'_>)
+fn bind_others(others: &[usize], index: Index, frame: &mut Frame)
     ensures { frame.new ≡ with_memory (each_bound 1 others.now index frame.old.memory) frame.old }
 {
     for k in 0..others.len() {
@@ -87,7 +87,7 @@ fn bind_others(others: &[usize], index: Index, frame: &mut Frame<'_>)
 /// The variables of a turn hold its index.
 #[tactic(auto, using(dpl_elements::proofs::Binding::coordinates_index_value))]
 #[inline(always)]
-pub fn bind(names: &Names<'_>, index: Index, frame: &mut Frame<'_>)
+pub fn bind(names: &Names<'_>, index: Index, frame: &mut Frame)
     ensures { frame.new ≡ with_memory (bound_at names.now index frame.old.memory) frame.old }
 {
     match names {
@@ -108,7 +108,7 @@ fn domain_turn<'t, C: Context>(
     names: &Names<'t>,
     body: &[Step<'t>],
     context: &C,
-    frame: &mut Frame<'t>,
+    frame: &mut Frame,
     out: &mut C::Out,
 ) -> Result<(), Stop>
     ensures ends { (done : Deeds) → RunsTo (MayRefuseSome (C.may_refuse context.now)) result frame.new.memory (C.having out.new done)
@@ -127,7 +127,7 @@ fn domain_turns<'t, C: Context>(
     names: &Names<'t>,
     body: &[Step<'t>],
     context: &C,
-    frame: &mut Frame<'t>,
+    frame: &mut Frame,
     out: &mut C::Out,
 ) -> Result<(), Stop>
     ensures ends { (done : Deeds) → RunsTo (MayRefuseSome (C.may_refuse context.now)) result frame.new.memory (C.having out.new done)
@@ -150,7 +150,7 @@ pub(crate) fn for_each<'t, C: Context>(
     over: &DomainExpr<'t>,
     body: &[Step<'t>],
     context: &C,
-    frame: &mut Frame<'t>,
+    frame: &mut Frame,
     out: &mut C::Out,
 ) -> Result<(), Stop>
     ensures ends { (done : Deeds) → RunsTo (MayRefuseSome (C.may_refuse context.now)) result frame.new.memory (C.having out.new done)

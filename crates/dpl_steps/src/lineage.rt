@@ -32,7 +32,7 @@ impl Lineage {
 }
 
 /// Of what is derived from the domain or array in a slot; for what is derived from none no map is named.
-pub(crate) fn derived(origin: Option<usize>, frame: &Frame<'_>) -> Lineage
+pub(crate) fn derived(origin: Option<usize>, frame: &Frame) -> Lineage
     ensures { (rs : List TextRange) → rooted result rs ≡ slot_root origin rs frame.now.memory }
 {
     match origin {
@@ -46,7 +46,7 @@ pub(crate) fn with_value(
     e: &DomainExpr<'_>,
     value: DomainWord,
     placing: &Placing<'_>,
-    frame: &Frame<'_>,
+    frame: &Frame,
 ) -> Lineage
     requires { domain_in frame.now e.now ≡ Ok (DomainValue value) }
     ensures { (rs : List TextRange) → rooted result rs ≡ valued_root frame.now.limits e.now placing.now rs frame.now.memory }
@@ -61,7 +61,7 @@ pub(crate) fn with_value(
 }
 
 /// Of a domain that is declared without one.
-pub(crate) fn without_value(placing: &Placing<'_>, frame: &Frame<'_>) -> Lineage
+pub(crate) fn without_value(placing: &Placing<'_>, frame: &Frame) -> Lineage
     ensures { (rs : List TextRange) → rooted result rs ≡ empty_root frame.now.limits placing.now rs frame.now.memory }
 {
     match placing {

@@ -24,7 +24,7 @@ use dpl_tree::Assign;
 pub(crate) fn range<G: Gate>(
     slot: usize,
     e: &RangeExpr<'_>,
-    frame: &mut Frame<'_>,
+    frame: &mut Frame,
     gate: &G,
 ) -> Result<(), Stop>
     ensures ends { (done : Deeds)
@@ -40,7 +40,7 @@ pub(crate) fn range<G: Gate>(
 pub(crate) fn truth<G: Gate>(
     target: &TruthTarget<'_>,
     e: &BoolExpr<'_>,
-    frame: &mut Frame<'_>,
+    frame: &mut Frame,
     gate: &G,
 ) -> Result<(), Stop>
     ensures ends { (done : Deeds) → RunsTo (MayRefuseSome (G.may_refuse gate.now)) result frame.new.memory done
@@ -61,7 +61,7 @@ pub(crate) fn element<G: Gate>(
     op: Assign,
     sign: &Spot,
     e: &IntExpr<'_>,
-    frame: &mut Frame<'_>,
+    frame: &mut Frame,
     gate: &G,
 ) -> Result<(), Stop>
     ensures ends { (done : Deeds)

@@ -40,7 +40,7 @@ use dpl_values::{range_value, truth_value};
 pub fn range_indices<G: Gate>(
     at: &Spot,
     over: &RangeExpr<'_>,
-    frame: &Frame<'_>,
+    frame: &Frame,
     gate: &G,
 ) -> Result<RangeWord, Stop>
     ensures { Gives (MayRefuseReduction (G.may_refuse gate.now) frame.now (EachInRange over.now)) as_range result
@@ -62,7 +62,7 @@ pub fn range_indices<G: Gate>(
 pub fn run<'t, C: Context>(
     steps: &[Step<'t>],
     context: &C,
-    frame: &mut Frame<'t>,
+    frame: &mut Frame,
     out: &mut C::Out,
 ) -> Result<(), Stop>
     ensures ends { (done : Deeds) → RunsTo (MayRefuseSome (C.may_refuse context.now)) result frame.new.memory (C.having out.new done)
@@ -80,7 +80,7 @@ pub fn run<'t, C: Context>(
 fn statement<'t, C: Context>(
     step: &Step<'t>,
     context: &C,
-    frame: &mut Frame<'t>,
+    frame: &mut Frame,
     out: &mut C::Out,
 ) -> Result<(), Stop>
     ensures ends { (done : Deeds) → RunsTo (MayRefuseSome (C.may_refuse context.now)) result frame.new.memory (C.having out.new done)
@@ -162,7 +162,7 @@ fn for_loop<'t, C: Context>(
     over: &RangeExpr<'t>,
     body: &[Step<'t>],
     context: &C,
-    frame: &mut Frame<'t>,
+    frame: &mut Frame,
     out: &mut C::Out,
 ) -> Result<(), Stop>
     ensures ends { (done : Deeds) → RunsTo (MayRefuseSome (C.may_refuse context.now)) result frame.new.memory (C.having out.new done)
@@ -179,7 +179,7 @@ fn for_loop<'t, C: Context>(
 fn alternative<'t, C: Context>(
     otherwise: &Else<'t>,
     context: &C,
-    frame: &mut Frame<'t>,
+    frame: &mut Frame,
     out: &mut C::Out,
 ) -> Result<(), Stop>
     ensures ends { (done : Deeds) → RunsTo (MayRefuseSome (C.may_refuse context.now)) result frame.new.memory (C.having out.new done)
@@ -200,7 +200,7 @@ fn while_loop<'t, C: Context>(
     condition: &BoolExpr<'t>,
     body: &[Step<'t>],
     context: &C,
-    frame: &mut Frame<'t>,
+    frame: &mut Frame,
     out: &mut C::Out,
 ) -> Result<(), Stop>
     ensures ends { (done : Deeds) → RunsTo (MayRefuseSome (C.may_refuse context.now)) result frame.new.memory (C.having out.new done)
@@ -228,7 +228,7 @@ fn turn<'t, C: Context>(
     slot: usize,
     body: &[Step<'t>],
     context: &C,
-    frame: &mut Frame<'t>,
+    frame: &mut Frame,
     out: &mut C::Out,
 ) -> Result<(), Stop>
     requires { k < length (members_of range) }
@@ -252,7 +252,7 @@ fn turns<'t, C: Context>(
     slot: usize,
     body: &[Step<'t>],
     context: &C,
-    frame: &mut Frame<'t>,
+    frame: &mut Frame,
     out: &mut C::Out,
 ) -> Result<(), Stop>
     ensures ends { (done : Deeds) → RunsTo (MayRefuseSome (C.may_refuse context.now)) result frame.new.memory (C.having out.new done)

@@ -57,7 +57,7 @@ fn assign_row<'t>(
     e: &IntExpr<'t>,
     first: Index,
     most: usize,
-    frame: &mut Frame<'t>,
+    frame: &mut Frame,
 ) -> usize
     ensures most { result ≤ most }
     ensures done { AreDone (index_turn frame.old.limits names.now
@@ -97,7 +97,7 @@ fn fold_row<'t>(
     e: &IntExpr<'t>,
     first: Index,
     most: usize,
-    frame: &mut Frame<'t>,
+    frame: &mut Frame,
 ) -> usize
     ensures most { result ≤ most }
     ensures done { AreDone
@@ -128,7 +128,7 @@ pub fn make_row<'t>(
     body: &[Step<'t>],
     first: Index,
     most: usize,
-    frame: &mut Frame<'t>,
+    frame: &mut Frame,
 ) -> usize
     ensures most { result ≤ most }
     ensures done { AreDone (index_turn frame.old.limits names.now (steps_in InTurn body.now)) first result frame.old.memory frame.new.memory }

@@ -63,7 +63,7 @@ fn after<A: Arrays>(
     variable: usize,
     held: Pace,
     before: Option<Pace>,
-    frame: &Frame<'_, A>,
+    frame: &Frame<A>,
 ) -> Option<Pace>
     ensures { (numbers : ℕ → List ℤ) → ((k : ℕ) → length (numbers k) ≡ length frame.now.memory.words.numbers) → IfSome before (GoesIn numbers slot)
         → IfSome result (GoesIn (λ k. set (numbers k) variable (paced held k)) slot) }
@@ -87,7 +87,7 @@ fn each_held<A: Arrays>(
     variable: usize,
     others: &[usize],
     first: Index,
-    frame: &Frame<'_, A>,
+    frame: &Frame<A>,
 ) -> Option<Pace>
     ensures { IfSome result (GoesIn (λ k. each_put (variable ∷ others.now) (behind k first) frame.now.memory.words.numbers) slot) }
 {
@@ -113,7 +113,7 @@ fn local<A: Arrays>(
     slot: usize,
     names: &Names<'_>,
     first: Index,
-    frame: &Frame<'_, A>,
+    frame: &Frame<A>,
 ) -> Option<Pace>
     ensures { IfSome result (GoesIn (turn_numbers names.now first frame.now.memory) slot) }
 {
@@ -133,7 +133,7 @@ pub(crate) fn pace_of<A: Arrays>(
     names: &Names<'_>,
     target: usize,
     first: Index,
-    frame: &Frame<'_, A>,
+    frame: &Frame<A>,
 ) -> Option<Pace>
     ensures { IfSome result (λ p. FitsTurns p × GoesAt frame.now.limits names.now target first frame.now.memory e.now p) }
 {
@@ -158,7 +158,7 @@ pub(crate) fn steady<A: Arrays>(
     names: &Names<'_>,
     target: usize,
     first: Index,
-    frame: &Frame<'_, A>,
+    frame: &Frame<A>,
 ) -> Option<i64>
     ensures { IfSome result (λ n. GoesAt frame.now.limits names.now target first frame.now.memory e.now (SteadyPace n)) }
 {
@@ -174,7 +174,7 @@ pub(crate) fn first_step<A: Arrays>(
     names: &Names<'_>,
     target: usize,
     first: Index,
-    frame: &Frame<'_, A>,
+    frame: &Frame<A>,
 ) -> Option<i64>
     ensures { IfSome result (λ n. GoesAt frame.now.limits names.now target first frame.now.memory e.now (SteppingPace n)) }
 {

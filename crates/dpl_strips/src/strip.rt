@@ -143,7 +143,7 @@ pub(crate) fn remainders(strip: &Strip, by: i64) -> Strip
 }
 
 // An int that is the same at all indices, as a slot holds it or as it stands in the text.
-fn steady<A: Arrays>(e: &PromotedInt<'_>, frame: &Frame<'_, A>) -> Option<i64>
+fn steady<A: Arrays>(e: &PromotedInt<'_>, frame: &Frame<A>) -> Option<i64>
     ensures { IfSome result (λ n. (t : IndexValue) (u : Memory) → u.words ≡ frame.now.memory.words
         → value_of frame.now.limits in_memory (promoted_int EachTurn e.now) (Some t) u ≡ Ok (Int n)) }
 {
@@ -156,7 +156,7 @@ fn steady<A: Arrays>(e: &PromotedInt<'_>, frame: &Frame<'_, A>) -> Option<i64>
 
 // One int, if it is at hand, everywhere.
 #[inline(never)]
-fn scalars<A: Arrays>(e: &PromotedInt<'_>, first: Index, frame: &Frame<'_, A>) -> Strip
+fn scalars<A: Arrays>(e: &PromotedInt<'_>, first: Index, frame: &Frame<A>) -> Strip
     ensures first { result.first ≡ first }
     ensures values { HoldsAtIndices (λ i u. value_of frame.now.limits in_memory (promoted_int EachTurn e.now) (Some i) u) frame.now.memory result }
 {
@@ -169,7 +169,7 @@ fn scalars<A: Arrays>(e: &PromotedInt<'_>, first: Index, frame: &Frame<'_, A>) -
 // Promoted ints with the other sign.
 #[cycle(promoted)]
 #[inline(never)]
-fn negatives<A: Arrays>(e: &PromotedInt<'_>, first: Index, frame: &Frame<'_, A>) -> Strip
+fn negatives<A: Arrays>(e: &PromotedInt<'_>, first: Index, frame: &Frame<A>) -> Strip
     ensures first { result.first ≡ first }
     ensures values { HoldsAtIndices (λ i u. value_of frame.now.limits in_memory (Prefixed nowhere Minus (promoted_int EachTurn e.now))
         (Some i) u) frame.now.memory result }
@@ -184,7 +184,7 @@ fn sums<A: Arrays>(
     a: &PromotedInt<'_>,
     b: &PromotedInt<'_>,
     first: Index,
-    frame: &Frame<'_, A>,
+    frame: &Frame<A>,
 ) -> Strip
     ensures first { result.first ≡ first }
     ensures values { HoldsAtIndices (λ i u. value_of frame.now.limits in_memory
@@ -204,7 +204,7 @@ fn differences<A: Arrays>(
     a: &PromotedInt<'_>,
     b: &PromotedInt<'_>,
     first: Index,
-    frame: &Frame<'_, A>,
+    frame: &Frame<A>,
 ) -> Strip
     ensures first { result.first ≡ first }
     ensures values { HoldsAtIndices (λ i u. value_of frame.now.limits in_memory
@@ -224,7 +224,7 @@ fn products<A: Arrays>(
     a: &PromotedInt<'_>,
     b: &PromotedInt<'_>,
     first: Index,
-    frame: &Frame<'_, A>,
+    frame: &Frame<A>,
 ) -> Strip
     ensures first { result.first ≡ first }
     ensures values { HoldsAtIndices (λ i u. value_of frame.now.limits in_memory
@@ -244,7 +244,7 @@ fn divided<A: Arrays>(
     a: &PromotedInt<'_>,
     b: &PromotedInt<'_>,
     first: Index,
-    frame: &Frame<'_, A>,
+    frame: &Frame<A>,
 ) -> Strip
     ensures first { result.first ≡ first }
     ensures values { (at : Place) → HoldsAtIndices (λ i u. value_of frame.now.limits in_memory
@@ -263,7 +263,7 @@ fn left_over<A: Arrays>(
     a: &PromotedInt<'_>,
     b: &PromotedInt<'_>,
     first: Index,
-    frame: &Frame<'_, A>,
+    frame: &Frame<A>,
 ) -> Strip
     ensures first { result.first ≡ first }
     ensures values { (at : Place) → HoldsAtIndices (λ i u. value_of frame.now.limits in_memory
@@ -278,7 +278,7 @@ fn left_over<A: Arrays>(
 /// The values of a promoted int at an index and at those behind it in the last dimension, as far as they are found at once. There may be
 /// none. They stay the values there while elements at other indices change.
 #[cycle(promoted)]
-pub fn promoted_strip<A: Arrays>(e: &PromotedInt<'_>, first: Index, frame: &Frame<'_, A>) -> Strip
+pub fn promoted_strip<A: Arrays>(e: &PromotedInt<'_>, first: Index, frame: &Frame<A>) -> Strip
     ensures first { result.first ≡ first }
     ensures values { HoldsAtIndices (λ i u. value_of frame.now.limits in_memory (promoted_int EachTurn e.now) (Some i) u) frame.now.memory result }
 {

@@ -54,7 +54,7 @@ fn tuple_index<A: Arrays>(
     names: &Names<'_>,
     target: usize,
     first: Index,
-    frame: &Frame<'_, A>,
+    frame: &Frame<A>,
 ) -> Option<Index>
     ensures { IfSome result (λ t. GoesFrom frame.now.limits names.now target first frame.now.memory (TupleIndex slot) t) }
 {
@@ -70,7 +70,7 @@ pub fn turn_index<A: Arrays>(
     names: &Names<'_>,
     target: usize,
     first: Index,
-    frame: &Frame<'_, A>,
+    frame: &Frame<A>,
 ) -> Option<Index>
     ensures { IfSome result (λ t. GoesFrom frame.now.limits names.now target first frame.now.memory index.now t) }
 {
@@ -98,7 +98,7 @@ fn of_element<A: Arrays>(
     names: &Names<'_>,
     target: usize,
     first: Index,
-    frame: &Frame<'_, A>,
+    frame: &Frame<A>,
 ) -> Strip
     ensures first { result.first ≡ first }
     ensures values { (at : Place)
@@ -121,7 +121,7 @@ fn of_leaf<A: Arrays>(
     names: &Names<'_>,
     target: usize,
     first: Index,
-    frame: &Frame<'_, A>,
+    frame: &Frame<A>,
 ) -> Strip
     ensures first { result.first ≡ first }
     ensures values { HoldsInTurns names.now target (λ u. value_of frame.now.limits in_memory (int_view e.now) None u) frame.now.memory result }
@@ -140,7 +140,7 @@ fn negatives<A: Arrays>(
     names: &Names<'_>,
     target: usize,
     first: Index,
-    frame: &Frame<'_, A>,
+    frame: &Frame<A>,
 ) -> Strip
     ensures first { result.first ≡ first }
     ensures values { HoldsInTurns names.now target (λ u. value_of frame.now.limits in_memory
@@ -158,7 +158,7 @@ fn sums<A: Arrays>(
     names: &Names<'_>,
     target: usize,
     first: Index,
-    frame: &Frame<'_, A>,
+    frame: &Frame<A>,
 ) -> Strip
     ensures first { result.first ≡ first }
     ensures values { HoldsInTurns names.now target (λ u. value_of frame.now.limits in_memory
@@ -180,7 +180,7 @@ fn differences<A: Arrays>(
     names: &Names<'_>,
     target: usize,
     first: Index,
-    frame: &Frame<'_, A>,
+    frame: &Frame<A>,
 ) -> Strip
     ensures first { result.first ≡ first }
     ensures values { HoldsInTurns names.now target (λ u. value_of frame.now.limits in_memory
@@ -206,7 +206,7 @@ fn products<A: Arrays>(
     names: &Names<'_>,
     target: usize,
     first: Index,
-    frame: &Frame<'_, A>,
+    frame: &Frame<A>,
 ) -> Strip
     ensures first { result.first ≡ first }
     ensures values { HoldsInTurns names.now target (λ u. value_of frame.now.limits in_memory
@@ -228,7 +228,7 @@ fn divided<A: Arrays>(
     names: &Names<'_>,
     target: usize,
     first: Index,
-    frame: &Frame<'_, A>,
+    frame: &Frame<A>,
 ) -> Strip
     ensures first { result.first ≡ first }
     ensures values { (at : Place) → HoldsInTurns names.now target (λ u. value_of frame.now.limits in_memory
@@ -249,7 +249,7 @@ fn left_over<A: Arrays>(
     names: &Names<'_>,
     target: usize,
     first: Index,
-    frame: &Frame<'_, A>,
+    frame: &Frame<A>,
 ) -> Strip
     ensures first { result.first ≡ first }
     ensures values { (at : Place) → HoldsInTurns names.now target (λ u. value_of frame.now.limits in_memory
@@ -269,7 +269,7 @@ pub fn turn_strip<A: Arrays>(
     names: &Names<'_>,
     target: usize,
     first: Index,
-    frame: &Frame<'_, A>,
+    frame: &Frame<A>,
 ) -> Strip
     ensures first { result.first ≡ first }
     ensures values { HoldsInTurns names.now target (λ u. value_of frame.now.limits in_memory (int_view e.now) None u) frame.now.memory result }

@@ -15,7 +15,7 @@ use dpl_nodes::Spot;
 pub fn within_budget<A: Arrays>(
     domain: &DomainWord,
     at: &Spot,
-    frame: &Frame<'_, A>,
+    frame: &Frame<A>,
 ) -> Result<(), Trap>
     ensures { result ≡ within_at frame.now.limits at.now domain.now }
 {
@@ -32,7 +32,7 @@ pub fn within_budget<A: Arrays>(
 pub(crate) fn within_turns<A: Arrays>(
     domain: &DomainWord,
     at: &Spot,
-    frame: &Frame<'_, A>,
+    frame: &Frame<A>,
     turn: &mut Turn,
 ) -> Result<(), Alarm>
     ensures { Tells ⊥ (λ v. v) turn.new result (within_at frame.now.limits at.now domain.now) }

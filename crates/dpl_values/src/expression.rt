@@ -26,7 +26,7 @@ use dpl_strips::number::{difference, negative, product, quotient, remainder, sum
 #[inline(always)]
 pub(crate) fn operand<A: Arrays, G: Gate>(
     e: &IntExpr<'_>,
-    frame: &Frame<'_, A>,
+    frame: &Frame<A>,
     gate: &G,
     turn: &mut Turn,
 ) -> Result<i64, Alarm>
@@ -48,7 +48,7 @@ pub(crate) fn operand<A: Arrays, G: Gate>(
 #[inline(always)]
 pub fn coordinate_value<A: Arrays, G: Gate>(
     e: &IntExpr<'_>,
-    frame: &Frame<'_, A>,
+    frame: &Frame<A>,
     gate: &G,
     turn: &mut Turn,
 ) -> Result<i64, Alarm>
@@ -73,7 +73,7 @@ pub fn coordinate_value<A: Arrays, G: Gate>(
 #[cycle(walk)]
 pub(crate) fn int_value<A: Arrays, G: Gate>(
     e: &IntExpr<'_>,
-    frame: &Frame<'_, A>,
+    frame: &Frame<A>,
     gate: &G,
     turn: &mut Turn,
 ) -> Result<i64, Alarm>
@@ -132,7 +132,7 @@ pub(crate) fn int_value<A: Arrays, G: Gate>(
 #[inline(never)]
 fn size_of<A: Arrays, G: Gate>(
     r: &RangeExpr<'_>,
-    frame: &Frame<'_, A>,
+    frame: &Frame<A>,
     gate: &G,
     turn: &mut Turn,
 ) -> Result<i64, Alarm>
@@ -147,7 +147,7 @@ fn size_of<A: Arrays, G: Gate>(
 fn first_of<A: Arrays, G: Gate>(
     r: &RangeExpr<'_>,
     at: &Spot,
-    frame: &Frame<'_, A>,
+    frame: &Frame<A>,
     gate: &G,
     turn: &mut Turn,
 ) -> Result<i64, Alarm>
@@ -163,7 +163,7 @@ fn first_of<A: Arrays, G: Gate>(
 fn last_of<A: Arrays, G: Gate>(
     r: &RangeExpr<'_>,
     at: &Spot,
-    frame: &Frame<'_, A>,
+    frame: &Frame<A>,
     gate: &G,
     turn: &mut Turn,
 ) -> Result<i64, Alarm>
@@ -179,7 +179,7 @@ fn last_of<A: Arrays, G: Gate>(
 fn low_of<A: Arrays, G: Gate>(
     r: &RangeExpr<'_>,
     at: &Spot,
-    frame: &Frame<'_, A>,
+    frame: &Frame<A>,
     gate: &G,
     turn: &mut Turn,
 ) -> Result<i64, Alarm>
@@ -195,7 +195,7 @@ fn low_of<A: Arrays, G: Gate>(
 fn high_of<A: Arrays, G: Gate>(
     r: &RangeExpr<'_>,
     at: &Spot,
-    frame: &Frame<'_, A>,
+    frame: &Frame<A>,
     gate: &G,
     turn: &mut Turn,
 ) -> Result<i64, Alarm>
@@ -210,7 +210,7 @@ fn high_of<A: Arrays, G: Gate>(
 #[inline(never)]
 fn count_of<A: Arrays, G: Gate>(
     d: &DomainExpr<'_>,
-    frame: &Frame<'_, A>,
+    frame: &Frame<A>,
     gate: &G,
     turn: &mut Turn,
 ) -> Result<i64, Alarm>
@@ -228,7 +228,7 @@ pub(crate) fn element<A: Arrays, G: Gate>(
     slot: usize,
     t: &IndexExpr<'_>,
     at: &Spot,
-    frame: &Frame<'_, A>,
+    frame: &Frame<A>,
     gate: &G,
     turn: &mut Turn,
 ) -> Result<i64, Alarm>
@@ -261,7 +261,7 @@ pub(crate) fn element<A: Arrays, G: Gate>(
 /// The fault of a coordinate.
 pub(crate) fn index_value<A: Arrays, G: Gate>(
     t: &IndexExpr<'_>,
-    frame: &Frame<'_, A>,
+    frame: &Frame<A>,
     gate: &G,
     turn: &mut Turn,
 ) -> Result<Index, Alarm>
@@ -292,7 +292,7 @@ pub(crate) fn index_value<A: Arrays, G: Gate>(
 pub(crate) fn literal<A: Arrays, G: Gate>(
     at: &Spot,
     ranges: &RangesExpr<'_>,
-    frame: &Frame<'_, A>,
+    frame: &Frame<A>,
     gate: &G,
     turn: &mut Turn,
 ) -> Result<DomainWord, Alarm>
@@ -323,7 +323,7 @@ pub(crate) fn literal<A: Arrays, G: Gate>(
 fn cut<A: Arrays, G: Gate>(
     domain: DomainWord,
     ranges: &RangesExpr<'_>,
-    frame: &Frame<'_, A>,
+    frame: &Frame<A>,
     gate: &G,
     turn: &mut Turn,
 ) -> Result<DomainWord, Alarm>
@@ -356,7 +356,7 @@ fn cut<A: Arrays, G: Gate>(
 #[cycle(walk)]
 pub(crate) fn domain_value<A: Arrays, G: Gate>(
     e: &DomainExpr<'_>,
-    frame: &Frame<'_, A>,
+    frame: &Frame<A>,
     gate: &G,
     turn: &mut Turn,
 ) -> Result<DomainWord, Alarm>
@@ -390,7 +390,7 @@ pub(crate) fn domain_value<A: Arrays, G: Gate>(
 fn stridden<A: Arrays, G: Gate>(
     stride: &Stride<'_>,
     written: Written,
-    frame: &Frame<'_, A>,
+    frame: &Frame<A>,
     gate: &G,
     turn: &mut Turn,
 ) -> Result<RangeWord, Alarm>
@@ -414,7 +414,7 @@ fn stridden<A: Arrays, G: Gate>(
 #[cycle(walk)]
 pub(crate) fn range_value<A: Arrays, G: Gate>(
     e: &RangeExpr<'_>,
-    frame: &Frame<'_, A>,
+    frame: &Frame<A>,
     gate: &G,
     turn: &mut Turn,
 ) -> Result<RangeWord, Alarm>
@@ -449,7 +449,7 @@ pub(crate) fn range_value<A: Arrays, G: Gate>(
 #[cycle(truth)]
 pub(crate) fn truth_value<A: Arrays, G: Gate>(
     e: &BoolExpr<'_>,
-    frame: &Frame<'_, A>,
+    frame: &Frame<A>,
     gate: &G,
     turn: &mut Turn,
 ) -> Result<Truth, Alarm>

@@ -27,7 +27,7 @@ use dpl_strips::number::{difference, negative, product, quotient, remainder, sum
 pub(crate) fn operand<A: Arrays, G: Gate>(
     e: &PromotedInt<'_>,
     index: &Index,
-    frame: &Frame<'_, A>,
+    frame: &Frame<A>,
     gate: &G,
     turn: &mut Turn,
 ) -> Result<i64, Alarm>
@@ -53,7 +53,7 @@ pub(crate) fn operand<A: Arrays, G: Gate>(
 pub(crate) fn promoted_int_value<A: Arrays, G: Gate>(
     e: &PromotedInt<'_>,
     index: &Index,
-    frame: &Frame<'_, A>,
+    frame: &Frame<A>,
     gate: &G,
     turn: &mut Turn,
 ) -> Result<i64, Alarm>
@@ -105,7 +105,7 @@ pub(crate) fn promoted_int_value<A: Arrays, G: Gate>(
 pub(crate) fn promoted_truth_value<A: Arrays, G: Gate>(
     e: &PromotedTruth<'_>,
     index: &Index,
-    frame: &Frame<'_, A>,
+    frame: &Frame<A>,
     gate: &G,
     turn: &mut Turn,
 ) -> Result<Truth, Alarm>
@@ -194,7 +194,7 @@ pub(crate) fn truth_array(e: &PromotedTruth<'_>) -> Option<usize>
 }
 
 /// The domain of the first whole array in a promoted int, if there is one.
-pub fn int_domain<A: Arrays>(e: &PromotedInt<'_>, frame: &Frame<'_, A>) -> Option<DomainWord>
+pub fn int_domain<A: Arrays>(e: &PromotedInt<'_>, frame: &Frame<A>) -> Option<DomainWord>
     ensures { result ≡ whole_in frame.now.limits in_memory (promoted_int EachTurn e.now) frame.now.memory }
 {
     match int_array(e) {
@@ -204,7 +204,7 @@ pub fn int_domain<A: Arrays>(e: &PromotedInt<'_>, frame: &Frame<'_, A>) -> Optio
 }
 
 /// The domain of the first whole array in a promoted truth value, if there is one.
-pub fn truth_domain<A: Arrays>(e: &PromotedTruth<'_>, frame: &Frame<'_, A>) -> Option<DomainWord>
+pub fn truth_domain<A: Arrays>(e: &PromotedTruth<'_>, frame: &Frame<A>) -> Option<DomainWord>
     ensures { result ≡ whole_in frame.now.limits in_memory (promoted_truth EachTurn e.now) frame.now.memory }
 {
     match truth_array(e) {

@@ -77,7 +77,7 @@ impl Operator for Truths {
 fn folded<A: Arrays, O: Operator, F: Fn(Index, &mut Turn) -> Result<O::Item, Alarm>, G: Gate>(
     operator: &O,
     slot: usize,
-    frame: &Frame<'_, A>,
+    frame: &Frame<A>,
     item_at: F,
     gate: &G,
     turn: &mut Turn,
@@ -108,7 +108,7 @@ fn folded_ints<
 >(
     operator: &Ints,
     slot: usize,
-    frame: &Frame<'_, A>,
+    frame: &Frame<A>,
     item_at: F,
     strip_at: S,
     gate: &G,
@@ -143,7 +143,7 @@ pub(crate) fn reduced_int<A: Arrays, G: Gate>(
     fold: IntFold,
     e: &PromotedInt<'_>,
     at: &Spot,
-    frame: &Frame<'_, A>,
+    frame: &Frame<A>,
     gate: &G,
     turn: &mut Turn,
 ) -> Result<i64, Alarm>
@@ -177,7 +177,7 @@ pub(crate) fn reduced_truth<A: Arrays, G: Gate>(
     fold: TruthFold,
     e: &PromotedTruth<'_>,
     at: &Spot,
-    frame: &Frame<'_, A>,
+    frame: &Frame<A>,
     gate: &G,
     turn: &mut Turn,
 ) -> Result<Truth, Alarm>

@@ -20,7 +20,7 @@ use dpl_loop::OpenGate;
 use dpl_nodes::{DomainExpr, MapExpr, StartExpr};
 
 // A domain that a map names, or its fault. No gate is asked for a map's argument.
-fn domain_argument<A: Arrays>(d: &DomainExpr<'_>, frame: &Frame<'_, A>) -> Result<DomainWord, Trap>
+fn domain_argument<A: Arrays>(d: &DomainExpr<'_>, frame: &Frame<A>) -> Result<DomainWord, Trap>
     ensures { domain_in frame.now d.now ≡ of_domain result }
 {
     let mut turn = Turn::Absent;
@@ -38,7 +38,7 @@ fn corner(domain: DomainWord) -> Option<Index>
 }
 
 // Where a map starts; none where that has no value.
-fn start<A: Arrays>(e: &StartExpr<'_>, frame: &Frame<'_, A>) -> Option<Index>
+fn start<A: Arrays>(e: &StartExpr<'_>, frame: &Frame<A>) -> Option<Index>
     ensures { result ≡ value_or_none (start_of frame.now.limits in_memory (start_view e.now) frame.now.memory) }
 {
     match e {
@@ -75,7 +75,7 @@ fn block_cyclic(start: Option<Index>, sizes: Option<Index>) -> Distribution
 }
 
 /// What a map's expression names.
-pub fn named<A: Arrays>(e: &MapExpr<'_>, frame: &Frame<'_, A>) -> Distribution
+pub fn named<A: Arrays>(e: &MapExpr<'_>, frame: &Frame<A>) -> Distribution
     ensures { distribution_view result ≡ or_no_map (map_of frame.now.limits in_memory (map_view e.now) frame.now.memory) }
 {
     match e {

@@ -27,7 +27,7 @@ use dpl_nodes::{
 #[inline(always)]
 pub fn int_value<A: Arrays, G: Gate>(
     e: &IntExpr<'_>,
-    frame: &Frame<'_, A>,
+    frame: &Frame<A>,
     gate: &G,
 ) -> Result<i64, Stop>
     ensures { Gives (MayRefuseReduction (G.may_refuse gate.now) frame.now (EachInInt e.now)) Int result (int_in frame.now e.now) }
@@ -45,7 +45,7 @@ pub fn int_value<A: Arrays, G: Gate>(
 /// The fault of an operand.
 pub fn truth_value<A: Arrays, G: Gate>(
     e: &BoolExpr<'_>,
-    frame: &Frame<'_, A>,
+    frame: &Frame<A>,
     gate: &G,
 ) -> Result<Truth, Stop>
     ensures { Gives (MayRefuseReduction (G.may_refuse gate.now) frame.now (EachInTruth e.now)) TruthValue result (truth_in frame.now e.now) }
@@ -63,7 +63,7 @@ pub fn truth_value<A: Arrays, G: Gate>(
 /// `F3` at the dots for a bound or a count past its limit, and at `by` for a stride; the fault of a part.
 pub fn range_value<A: Arrays, G: Gate>(
     e: &RangeExpr<'_>,
-    frame: &Frame<'_, A>,
+    frame: &Frame<A>,
     gate: &G,
 ) -> Result<RangeWord, Stop>
     ensures { Gives (MayRefuseReduction (G.may_refuse gate.now) frame.now (EachInRange e.now)) as_range result (range_in frame.now e.now) }
@@ -81,7 +81,7 @@ pub fn range_value<A: Arrays, G: Gate>(
 /// `F3` at the opening bracket for too many indices, and at `expand` for these or for a bound past its limit; the fault of a part.
 pub fn domain_value<A: Arrays, G: Gate>(
     e: &DomainExpr<'_>,
-    frame: &Frame<'_, A>,
+    frame: &Frame<A>,
     gate: &G,
 ) -> Result<DomainWord, Stop>
     ensures { Gives (MayRefuseReduction (G.may_refuse gate.now) frame.now (EachInDomain e.now)) DomainValue result (domain_in frame.now e.now) }
@@ -99,7 +99,7 @@ pub fn domain_value<A: Arrays, G: Gate>(
 /// The fault of a coordinate.
 pub fn index_value<A: Arrays, G: Gate>(
     t: &IndexExpr<'_>,
-    frame: &Frame<'_, A>,
+    frame: &Frame<A>,
     gate: &G,
 ) -> Result<Index, Stop>
     ensures { Gives (MayRefuseReduction (G.may_refuse gate.now) frame.now (EachInIndex t.now)) (λ t. t) result (index_in frame.now t.now) }
@@ -118,7 +118,7 @@ pub fn index_value<A: Arrays, G: Gate>(
 pub fn literal<A: Arrays, G: Gate>(
     at: &Spot,
     ranges: &RangesExpr<'_>,
-    frame: &Frame<'_, A>,
+    frame: &Frame<A>,
     gate: &G,
 ) -> Result<DomainWord, Stop>
     ensures { Gives (MayRefuseReduction (G.may_refuse gate.now) frame.now (EachInRanges ranges.now)) DomainValue result
@@ -152,7 +152,7 @@ pub fn sized(at: &Spot, domain: Option<DomainWord>) -> Result<DomainWord, Trap>
 pub fn promoted_int_value<A: Arrays, G: Gate>(
     e: &PromotedInt<'_>,
     index: &Index,
-    frame: &Frame<'_, A>,
+    frame: &Frame<A>,
     gate: &G,
 ) -> Result<i64, Stop>
     ensures { Gives (MayRefuseReduction (G.may_refuse gate.now) frame.now (EachInInts e.now)) Int result (int_at frame.now e.now index.now) }
@@ -171,7 +171,7 @@ pub fn promoted_int_value<A: Arrays, G: Gate>(
 pub fn promoted_truth_value<A: Arrays, G: Gate>(
     e: &PromotedTruth<'_>,
     index: &Index,
-    frame: &Frame<'_, A>,
+    frame: &Frame<A>,
     gate: &G,
 ) -> Result<Truth, Stop>
     ensures { Gives (MayRefuseReduction (G.may_refuse gate.now) frame.now (EachInTruths e.now)) TruthValue result (truth_at frame.now e.now index.now) }

@@ -1,0 +1,75 @@
+-- The memories of workers, each of which makes the turns of the indices that a locale owns: what they begin with, and what they leave together.
+use Rattle.std.specs.Prelude.{◌≡◌, ℕ, ◌+◌, ◌==◌, ℤ, pos, Bool, true, false, if◌then◌else◌, Option, Some, None, List, [], ◌∷◌, get_or, map, filter, unwrap_or}
+use Rattle.dpl_language.specs.Tree.{Op}
+use Rattle.dpl_language.specs.Values.{Index}
+use Rattle.dpl_memory.specs.Memory.{Held, Memory, held_at, array_at, is_among}
+use Rattle.dpl_apart.specs.Operands.{combined_words, unit_words}
+use Rattle.dpl_apart.specs.Memories.{Changes, with_words, words_in, operators_of}
+
+-- WHAT A WORKER BEGINS WITH
+-- the piece of an array that a locale owns: the array with the elements at that locale's indices alone
+abbrev pub owned_piece : (Index → ℕ) → ℕ → Held → Held
+owned_piece owns l a = record {
+  ranges = a.ranges;
+  keys = filter (λ t. owns t == l) a.keys;
+  words = map (λ t. unwrap_or (held_at t a) (pos 0)) (filter (λ t. owns t == l) a.keys);
+}
+
+abbrev pub owned_if : Bool → (Index → ℕ) → ℕ → Held → Held
+owned_if true owns l a = owned_piece owns l a
+owned_if false owns l a = a
+
+-- of the arrays from a slot on the pieces of those that are written, and the others as they are
+abbrev pub shares_from : ℕ → List ℕ → (Index → ℕ) → ℕ → List Held → List Held
+shares_from first written owns l [] = []
+shares_from first written owns l (a ∷ more) = owned_if (is_among first written) owns l a ∷ shares_from (first + 1) written owns l more
+
+-- a locale's shares of the arrays, and reduce variables to which nothing was added
+abbrev pub worker_memory : Changes → (Index → ℕ) → ℕ → Memory → Memory
+worker_memory h owns l m = record m {
+  words = record m.words { numbers = with_words h.reduced (unit_words (operators_of h.reduced)) m.words.numbers };
+  arrays = shares_from 0 h.written owns l m.arrays;
+}
+
+-- WHAT WORKERS LEAVE TOGETHER, each by its locale
+-- the memory of a locale's worker; where it has none, a memory as it was
+abbrev pub left_by : ℕ → List (ℕ × Memory) → Memory → Memory
+left_by l [] m = m
+left_by l (w ∷ ws) m = if w.0 == l then w.1 else left_by l ws m
+
+-- an array with the elements that their owners' workers have left
+abbrev pub rejoined : (Index → ℕ) → List (ℕ × Memory) → Memory → ℕ → Held → Held
+rejoined owns ws m slot a = record a { words = map (λ t. unwrap_or (held_at t (array_at slot (left_by (owns t) ws m))) (pos 0)) a.keys }
+
+abbrev pub rejoined_if : Bool → (Index → ℕ) → List (ℕ × Memory) → Memory → ℕ → Held → Held
+rejoined_if true owns ws m slot a = rejoined owns ws m slot a
+rejoined_if false owns ws m slot a = a
+
+abbrev pub rejoined_from : ℕ → List ℕ → (Index → ℕ) → List (ℕ × Memory) → Memory → List Held → List Held
+rejoined_from first written owns ws m [] = []
+rejoined_from first written owns ws m (a ∷ more) =
+    rejoined_if (is_among first written) owns ws m first a ∷ rejoined_from (first + 1) written owns ws m more
+
+-- the word of a reduce variable, to which what each worker has added is put, one after another
+abbrev pub word_joined : ℕ × Op → List (ℕ × Memory) → ℤ → ℤ
+word_joined p [] w = w
+word_joined p (v ∷ ws) w = word_joined p ws (combined_words p.1 w (get_or v.1.words.numbers p.0 (pos 0)))
+
+abbrev pub words_joined : List (ℕ × Op) → List (ℕ × Memory) → Memory → List ℤ
+words_joined ps ws m = map (λ (p : ℕ × Op). word_joined p ws (get_or m.words.numbers p.0 (pos 0))) ps
+
+-- the memory that the worker of the last index has left, which has made the last turn; where there was no turn, a memory as it was
+abbrev pub last_left : (Index → ℕ) → Option Index → List (ℕ × Memory) → Memory → Memory
+last_left owns None ws m = m
+last_left owns (Some t) ws m = left_by (owns t) ws m
+
+-- the memory after all of them: its numbers, ranges and tuples are those after the last turn, but for the reduce variables
+abbrev pub together : Changes → (Index → ℕ) → List (ℕ × Memory) → Option Index → Memory → Memory
+together h owns ws last m = record m {
+  words = record m.words {
+    numbers = with_words h.reduced (words_joined h.reduced ws m) (last_left owns last ws m).words.numbers;
+    ranges = (last_left owns last ws m).words.ranges;
+  };
+  tuples = (last_left owns last ws m).tuples;
+  arrays = rejoined_from 0 h.written owns ws m m.arrays;
+}
