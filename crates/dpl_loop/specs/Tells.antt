@@ -9,6 +9,7 @@ use Rattle.dpl_loop.specs.declared.stop.Stop.TheVariants as stop
 abbrev pub IsFault : Fault → Stop → Type 0
 IsFault f (stop.Fault g) = fault_view g ≡ f
 IsFault f stop.Memory = ⊥
+IsFault f stop.Thread = ⊥
 IsFault f stop.Gate = ⊥
 
 -- a walk ended so, in a turn
@@ -27,4 +28,5 @@ TellsSame (Err f) (Err h) = IsFault f h
 abbrev pub NamesTurn : Index → Stop → Stop → Type 0
 NamesTurn t (stop.Fault f) h = IsFault (in_the_turn (InTurn t) (fault_view f)) h
 NamesTurn t stop.Memory h = h ≡ stop.Memory
+NamesTurn t stop.Thread h = h ≡ stop.Thread
 NamesTurn t stop.Gate h = h ≡ stop.Gate

@@ -17,6 +17,7 @@ abbrev pub Gives : {A B : Type 0} → Type 0 → (A → B) → Result A Stop →
 Gives may value (Ok a) v = v ≡ Ok (value a)
 Gives may value (Err (stop.Fault f)) v = v ≡ Err (fault_view f)
 Gives may value (Err stop.Memory) v = ⊥
+Gives may value (Err stop.Thread) v = ⊥
 Gives may value (Err stop.Gate) v = may
 
 module _ {V : Type 0} where

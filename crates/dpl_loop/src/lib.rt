@@ -1,11 +1,13 @@
 // The loops of foralls and of reductions: they go through the indices of a domain, and ask a gate at each unless it is open.
-// Read `forall`, whose contract says that a forall is a plain loop, with `Gate` and `Turns`, which it takes; and then `reduce`.
+// Read `forall` of `Crew`, whose contract says that a forall is a plain loop, with `Gate` and `Turns`, which it takes; and then `reduce`.
+// A crew makes the turns of foralls; `forall_here` is what a caller does alone.
 // A loop over turns asks them for a whole row at its first index and, where that made some, at each next one (together.rt); how many of the
 // next indices lie behind one another, their place tells (rows.rt). A reduction takes the walk of an item as a closure: a cycle of calls
 // may go through one, where it may not go through a trait. A walk is handed the gate that its reductions ask, and so ends by its value, by
 // a fault, or refused (`Tells` of dpl_frame, and `Gives` for callers that have no place for the turn). Within a turn no gate is asked.
 #![tactic(auto)]
 
+mod crew;
 pub mod gate;
 mod loops;
 mod reduction;
@@ -16,10 +18,11 @@ mod strips;
 mod together;
 mod turns;
 
+pub use crew::Crew;
 pub use gate::{Gate, OpenGate};
-pub use loops::{forall, forall_line};
+pub use loops::{forall_here, forall_line};
 pub use reduction::{Operator, reduce};
 pub use stop::Stop;
 pub use strip::{STRIP, Strip};
 pub use strips::reduce_ints;
-pub use turns::{AnyFrame, Turns};
+pub use turns::Turns;

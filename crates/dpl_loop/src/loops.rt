@@ -22,7 +22,7 @@ use dpl_map::Map;
 
 /// The turn of an index at a place, once its owner has entered. Its fault names it.
 #[inline(always)]
-pub(crate) fn entered<A: Arrays, T: Turns<Frame<A>>, G: Gate>(
+pub(crate) fn entered<A: Arrays, T: Turns, G: Gate>(
     turns: &T,
     index: Index,
     place: u64,
@@ -43,12 +43,12 @@ pub(crate) fn entered<A: Arrays, T: Turns<Frame<A>>, G: Gate>(
     }
 }
 
-/// A forall over a domain. For each turn the owner of its index enters the gate, unless the gate is open.
+/// A forall over a domain, whose turns the caller makes. For each turn the owner of its index enters the gate, unless the gate is open.
 ///
 /// # Errors
 /// The fault of the first turn that has one, with its turn; out of memory; or the gate refused an entry, which it may. Where the
 /// gate refused and where memory ran out, nothing is said of the frame's memory.
-pub fn forall<A: Arrays, T: Turns<Frame<A>>, G: Gate>(
+pub fn forall_here<A: Arrays, T: Turns, G: Gate>(
     turns: &T,
     over: DomainWord,
     map: &Map,
@@ -77,8 +77,8 @@ pub fn forall<A: Arrays, T: Turns<Frame<A>>, G: Gate>(
 /// A forall over a range, as over the domain of this range alone. Ranges may have more members than a domain.
 ///
 /// # Errors
-/// As for [`forall`].
-pub fn forall_line<A: Arrays, T: Turns<Frame<A>>, G: Gate>(
+/// As for [`forall_here`].
+pub fn forall_line<A: Arrays, T: Turns, G: Gate>(
     turns: &T,
     over: &RangeWord,
     map: &Map,

@@ -1,5 +1,5 @@
 // What ends a loop, and a run, early.
-// A fault is an outcome of the program; that memory ran out and that a gate refused are none.
+// A fault is an outcome of the program; that memory ran out, that a worker was not started and that a gate refused are none.
 
 ghost use Rattle.std.specs.Prelude.{◌≡◌, Err};
 ghost use Rattle.dpl_frame.specs.Faults.{turn_view};
@@ -10,11 +10,12 @@ use dpl_domain::Index;
 use dpl_frame::{Alarm, Fault, Trap, Turn};
 use std::alloc::{AllocError, AllocFailed};
 
-/// Why a loop, or a run, ended early: by a fault, out of memory, or because a gate refused an entry.
+/// Why a loop, or a run, ended early: by a fault, out of memory, because a worker was not started, or because a gate refused an entry.
 #[derive(Clone, Copy, PartialEq, Eq, Debug)]
 pub enum Stop {
     Fault(Fault),
     Memory,
+    Thread,
     Gate,
 }
 
@@ -87,6 +88,7 @@ impl Stop {
                 turn: Turn::of(index),
             }),
             Stop::Memory => Stop::Memory,
+            Stop::Thread => Stop::Thread,
             Stop::Gate => Stop::Gate,
         }
     }

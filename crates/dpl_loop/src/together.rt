@@ -21,7 +21,7 @@ const FEW: u64 = 16;
 
 // How many turns are made at once from the index at a place on.
 #[inline(always)]
-fn row<A: Arrays, P: Places, T: Turns<Frame<A>>>(
+fn row<A: Arrays, P: Places, T: Turns>(
     turns: &T,
     over: &P,
     index: Index,
@@ -43,7 +43,7 @@ fn row<A: Arrays, P: Places, T: Turns<Frame<A>>>(
 }
 
 /// How many turns are made at once from the first index on. None where a gate is to be asked for them.
-pub(crate) fn begun<A: Arrays, P: Places, T: Turns<Frame<A>>, G: Gate>(
+pub(crate) fn begun<A: Arrays, P: Places, T: Turns, G: Gate>(
     turns: &T,
     over: &P,
     frame: &mut Frame<A>,
@@ -64,7 +64,7 @@ pub(crate) fn begun<A: Arrays, P: Places, T: Turns<Frame<A>>, G: Gate>(
 }
 
 // The turns from a place on, as many as are made at once, or that of the place alone; and the next place.
-fn turns_from<A: Arrays, P: Places, T: Turns<Frame<A>>, G: Gate>(
+fn turns_from<A: Arrays, P: Places, T: Turns, G: Gate>(
     turns: &T,
     over: &P,
     place: u64,
@@ -94,8 +94,8 @@ fn turns_from<A: Arrays, P: Places, T: Turns<Frame<A>>, G: Gate>(
 /// The turns from a place on, as many at a time as are made at once.
 ///
 /// # Errors
-/// As for [`forall`](crate::forall).
-pub(crate) fn together<A: Arrays, P: Places, T: Turns<Frame<A>>, G: Gate>(
+/// As for [`forall_here`](crate::forall_here).
+pub(crate) fn together<A: Arrays, P: Places, T: Turns, G: Gate>(
     turns: &T,
     over: &P,
     first: u64,

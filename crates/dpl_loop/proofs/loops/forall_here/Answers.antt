@@ -10,7 +10,7 @@ use Rattle.dpl_language.specs.Loops.{named_turn}
 use Rattle.dpl_loop.proofs.Ends.{halts-where, halts-alike}
 use Rattle.dpl_loop.proofs.Order.{order-done, order-halts}
 use Rattle.dpl_loop.proofs.Places.{slice_get-drop_first, drop-drop_one, within-there}
-use Rattle.dpl_loop.proofs.loops.forall.Goals as goal
+use Rattle.dpl_loop.proofs.loops.forall_here.Goals as goal
 
 pub unreachable-requires : goal.unreachable-requires
 unreachable-requires g c =

@@ -2,7 +2,7 @@ use Rattle.std.proofs.Common.{◌≡◌, drop}
 use Rattle.dpl_language.specs.Ranges.{indices_in}
 use Rattle.dpl_language.specs.Outcome.{Deeds, in_order}
 use Rattle.dpl_language.specs.Loops.{named_turn}
-use Rattle.dpl_loop.proofs.loops.forall.Given as goal
+use Rattle.dpl_loop.proofs.loops.forall_here.Given as goal
 
 -- the indices that are left, from here, are all indices from the start
 abbrev pub invariant-loop-place : goal.invariant-loop-place

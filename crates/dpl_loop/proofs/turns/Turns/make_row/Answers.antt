@@ -5,7 +5,7 @@ use Rattle.dpl_loop.proofs.turns.Turns.make_row.Goals as goal
 
 pub returns-clause-done : goal.returns-clause-done
 returns-clause-done g c = record {
-  between = λ k. (g.F.AnyFrame.framed c.args.frame.now).memory;
+  between = λ k. c.args.frame.now.memory;
   begins = refl;
   ends = refl;
   each = λ k below done. absurd (omega (arith, below));
