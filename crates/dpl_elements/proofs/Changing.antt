@@ -35,20 +35,23 @@ use Rattle.dpl_elements.specs.Changes.{declared_memory, given_memory, assigned_m
 pub gives-halts : {A B : Type 0} (may more : Type 0) (value : A → B) (h : Stop) (v : Result B Fault) (s : Memory) (done : Deeds) (o : Outcome Memory)
     → (may → more) → ((f : Fault) → v ≡ Err f → o ≡ StopAt f done) → Gives may value (Err h) v → RunsTo more (Err h) s done o
 gives-halts may more value (stop.Fault f) v s done o go faults gives = faults (fault_view f) gives
-gives-halts may more value stop.Memory v s done o go faults gives = absurd gives
+gives-halts may more value stop.Memory v s done o go faults gives = tt
+gives-halts may more value stop.Thread v s done o go faults gives = tt
 gives-halts may more value stop.Gate v s done o go faults gives = go gives
 
 -- a fault that is told
 pub fault-gives : {A B : Type 0} (may : Type 0) (value : A → B) (f : Fault) (h : Stop) (v : Result B Fault) → IsFault f h → v ≡ Err f → Gives may value (Err h) v
 fault-gives may value f (stop.Fault g) v is e = e ∙ ap Err (sym is)
 fault-gives may value f stop.Memory v is e = absurd is
+fault-gives may value f stop.Thread v is e = absurd is
 fault-gives may value f stop.Gate v is e = absurd is
 
 -- a change ends the run as the memory after it does
 pub gives-ends : (may : Type 0) (r : Result (Unit {0}) Stop) (s : Memory) (done : Deeds) (m : Result Memory Fault) (o : Outcome Memory) → o ≡ ends_as m done → Gives may (λ v. s) r m → RunsTo may r s done o
 gives-ends may (Ok v) s done m o e gives = e ∙ ap (λ m. ends_as m done) gives
 gives-ends may (Err (stop.Fault f)) s done m o e gives = e ∙ ap (λ m. ends_as m done) gives
-gives-ends may (Err stop.Memory) s done m o e gives = absurd gives
+gives-ends may (Err stop.Memory) s done m o e gives = tt
+gives-ends may (Err stop.Thread) s done m o e gives = tt
 gives-ends may (Err stop.Gate) s done m o e gives = gives
 
 -- a change that is told ends the run as the memory after it does
@@ -58,6 +61,7 @@ told-ends may (Ok v) (Err h) s done o t e = absurd t
 told-ends may (Err f) (Ok w) s done o t e = absurd t
 told-ends may (Err f) (Err (stop.Fault g)) s done o t e = e ∙ ap (λ f. StopAt f done) (sym t)
 told-ends may (Err f) (Err stop.Memory) s done o t e = absurd t
+told-ends may (Err f) (Err stop.Thread) s done o t e = absurd t
 told-ends may (Err f) (Err stop.Gate) s done o t e = absurd t
 
 module _ (limits : Limits) where

@@ -21,7 +21,7 @@ ghost use Rattle.dpl_loop.specs.Values.{Gives};
 ghost use Rattle.dpl_elements.specs.Changes.{memory_after, ends_as, signed, if_there, put_memory};
 
 use dpl_domain::Index;
-use dpl_frame::{Alarm, FaultCode, Frame, Trap, Turn};
+use dpl_frame::{Alarm, Arrays, FaultCode, Frame, Trap, Turn};
 use dpl_loop::stop::told as ended;
 use dpl_loop::{Gate, Stop};
 use dpl_nodes::{ArrayName, BoolExpr, IndexExpr, IntExpr, Spot};
@@ -97,13 +97,13 @@ fn told(name: &ArrayName<'_>, there: bool) -> Result<(), Trap>
 }
 
 // An element goes into what an operator makes of it.
-fn combine(
+fn combine<A: Arrays>(
     name: &ArrayName<'_>,
     op: Assign,
     sign: &Spot,
     index: Index,
     value: i64,
-    frame: &mut Frame,
+    frame: &mut Frame<A>,
 ) -> Result<(), Trap>
     ensures ends { (done : Deeds)
         → change frame.old.limits in_memory (array_leaf IntKind name.now) (signed op sign.now) index (Int value) frame.old.memory done
@@ -124,13 +124,13 @@ fn combine(
 ///
 /// # Errors
 /// `F1` at the array's name for an index outside it; `F2` at the operator for a division by zero.
-pub(crate) fn change(
+pub(crate) fn change<A: Arrays>(
     name: &ArrayName<'_>,
     op: Assign,
     sign: &Spot,
     index: Index,
     value: i64,
-    frame: &mut Frame,
+    frame: &mut Frame<A>,
 ) -> Result<(), Trap>
     ensures ends { (done : Deeds)
         → change frame.old.limits in_memory (array_leaf IntKind name.now) (signed op sign.now) index (Int value) frame.old.memory done
@@ -147,11 +147,11 @@ pub(crate) fn change(
 ///
 /// # Errors
 /// `F1` at the array's name for an index outside it.
-pub(crate) fn change_truth(
+pub(crate) fn change_truth<A: Arrays>(
     name: &ArrayName<'_>,
     index: Index,
     value: bool,
-    frame: &mut Frame,
+    frame: &mut Frame<A>,
 ) -> Result<(), Trap>
     ensures ends { (at : Place) (done : Deeds)
         → change frame.old.limits in_memory (array_leaf BoolKind name.now) (signed Set at) index (Truth value) frame.old.memory done
@@ -175,11 +175,11 @@ fn told_in(name: &ArrayName<'_>, there: bool, turn: &mut Turn) -> Result<(), Ala
 
 // Puts a word at an index, whose coordinates are evaluated from left to right. No index is made of coordinates.
 #[inline(always)]
-fn put_word<G: Gate>(
+fn put_word<A: Arrays, G: Gate>(
     name: &ArrayName<'_>,
     t: &IndexExpr<'_>,
     word: i64,
-    frame: &mut Frame,
+    frame: &mut Frame<A>,
     gate: &G,
     turn: &mut Turn,
 ) -> Result<(), Alarm>
@@ -213,11 +213,11 @@ fn put_word<G: Gate>(
 
 // The same, whose fault has its turn.
 #[inline(always)]
-fn put_at<G: Gate>(
+fn put_at<A: Arrays, G: Gate>(
     name: &ArrayName<'_>,
     t: &IndexExpr<'_>,
     word: i64,
-    frame: &mut Frame,
+    frame: &mut Frame<A>,
     gate: &G,
 ) -> Result<(), Stop>
     ensures ends { Gives (MayRefuseSome (G.may_refuse gate.now)) (λ v. frame.new.memory) result
@@ -237,13 +237,13 @@ fn put_at<G: Gate>(
 /// # Errors
 /// The fault of a part; `F1` at the array's name; `F2` at the operator.
 #[inline(always)]
-pub fn set_element<G: Gate>(
+pub fn set_element<A: Arrays, G: Gate>(
     name: &ArrayName<'_>,
     t: &IndexExpr<'_>,
     op: Assign,
     sign: &Spot,
     e: &IntExpr<'_>,
-    frame: &mut Frame,
+    frame: &mut Frame<A>,
     gate: &G,
 ) -> Result<(), Stop>
     ensures ends { (done : Deeds)
@@ -264,11 +264,11 @@ pub fn set_element<G: Gate>(
 /// # Errors
 /// The fault of a part; `F1` at the array's name.
 #[inline(always)]
-pub fn set_truth_element<G: Gate>(
+pub fn set_truth_element<A: Arrays, G: Gate>(
     name: &ArrayName<'_>,
     t: &IndexExpr<'_>,
     e: &BoolExpr<'_>,
-    frame: &mut Frame,
+    frame: &mut Frame<A>,
     gate: &G,
 ) -> Result<(), Stop>
     ensures ends { (done : Deeds)

@@ -12,13 +12,19 @@ ghost use Rattle.dpl_elements.specs.Rows.{ArePut};
 
 use crate::element::{assigned, divides, replaces};
 use dpl_domain::Index;
-use dpl_frame::Frame;
+use dpl_frame::{Arrays, Frame};
 use dpl_loop::{STRIP, Strip};
 use dpl_nodes::{ArrayName, Spot};
 use dpl_tree::Assign;
 
 // What an operator makes of elements that stand side by side and of ints for them; nothing of an operator that divides.
-fn changed(name: &ArrayName<'_>, op: Assign, at: Index, strip: Strip, frame: &Frame) -> Strip
+fn changed<A: Arrays>(
+    name: &ArrayName<'_>,
+    op: Assign,
+    at: Index,
+    strip: Strip,
+    frame: &Frame<A>,
+) -> Strip
     ensures size { result.size ≤ strip.size }
     ensures divides { 0 < result.size → assign_divides op ≡ false }
     ensures words { (k : ℕ) (old : ℤ) → k < result.size → k < 64 → held_at (behind k at) (array_at name.now.slot frame.now.memory) ≡ Some old
@@ -44,14 +50,14 @@ fn changed(name: &ArrayName<'_>, op: Assign, at: Index, strip: Strip, frame: &Fr
 }
 
 /// Puts the ints of a strip into the elements at an index and behind it, at most so many of them, as an operator makes them; how many.
-pub fn put_row(
+pub fn put_row<A: Arrays>(
     name: &ArrayName<'_>,
     op: Assign,
     sign: &Spot,
     at: Index,
     strip: Strip,
     most: usize,
-    frame: &mut Frame,
+    frame: &mut Frame<A>,
 ) -> usize
     ensures most { result ≤ most }
     ensures strip { result ≤ strip.size }

@@ -1,6 +1,6 @@
 // Assignments to whole arrays: each element is changed, in the order of the domain, and a fault names its index.
 // A right side without a whole array is evaluated once; one with a whole array is evaluated at each index anew. Each is a forall
-// over the array's domain.
+// over the array's domain, which a crew makes.
 
 ghost use Rattle.std.specs.Prelude.{◌≡◌, ◌⊎◌, List, Some, None};
 ghost use Rattle.dpl_sets.specs.TextRanges.{TextRange};
@@ -26,9 +26,9 @@ ghost use Rattle.dpl_elements.specs.Refusals.{MayRefuseWhole};
 use crate::element::{change, change_truth};
 use crate::row::put_row;
 use dpl_domain::Index;
-use dpl_frame::{DomainWord, Frame};
+use dpl_frame::{Arrays, DomainWord, Frame};
 use dpl_loop::stop::told;
-use dpl_loop::{Gate, OpenGate, Stop, Turns, forall};
+use dpl_loop::{Crew, OpenGate, Stop, Turns};
 use dpl_nodes::{ArrayName, PromotedInt, PromotedTruth, Spot};
 use dpl_strips::index::coordinate;
 use dpl_strips::{promoted_strip, repeated};
@@ -45,15 +45,15 @@ struct Fill<'e> {
     value: i64,
 }
 
-impl<'e> Turns<Frame> for Fill<'e> {
+impl<'e> Turns for Fill<'e> {
     ghost turn = { λ c limits t. change limits in_memory (array_leaf IntKind c.name.now) (signed c.op c.sign.now) t (Int c.value) };
 
     #[inline(always)]
-    fn make(&self, index: Index, frame: &mut Frame) -> Result<(), Stop> {
+    fn make<A: Arrays>(&self, index: Index, frame: &mut Frame<A>) -> Result<(), Stop> {
         told(change(self.name, self.op, self.sign, index, self.value, frame))
     }
 
-    fn make_row(&self, first: Index, most: usize, frame: &mut Frame) -> usize {
+    fn make_row<A: Arrays>(&self, first: Index, most: usize, frame: &mut Frame<A>) -> usize {
         let strip = repeated(first, self.value);
         put_row(self.name, self.op, self.sign, first, strip, most, frame)
     }
@@ -68,17 +68,17 @@ struct Promote<'e, 'x> {
     e: &'e PromotedInt<'x>,
 }
 
-impl<'e, 'x> Turns<Frame> for Promote<'e, 'x> {
+impl<'e, 'x> Turns for Promote<'e, 'x> {
     ghost turn = { λ c limits t s done. with_value (value_of limits in_memory (promoted_int EachTurn c.e.now) (Some t) s)
         (change limits in_memory (array_leaf IntKind c.name.now) (signed c.op c.sign.now) t) s done };
 
     #[inline(always)]
-    fn make(&self, index: Index, frame: &mut Frame) -> Result<(), Stop> {
+    fn make<A: Arrays>(&self, index: Index, frame: &mut Frame<A>) -> Result<(), Stop> {
         let value = promoted_int_value(self.e, &index, frame, &OpenGate)?;
         told(change(self.name, self.op, self.sign, index, value, frame))
     }
 
-    fn make_row(&self, first: Index, most: usize, frame: &mut Frame) -> usize {
+    fn make_row<A: Arrays>(&self, first: Index, most: usize, frame: &mut Frame<A>) -> usize {
         let strip = promoted_strip(self.e, first, frame);
         put_row(self.name, self.op, self.sign, first, strip, most, frame)
     }
@@ -92,11 +92,11 @@ struct FillTruth<'e> {
     value: bool,
 }
 
-impl<'e> Turns<Frame> for FillTruth<'e> {
+impl<'e> Turns for FillTruth<'e> {
     ghost turn = { λ c limits t. change limits in_memory (array_leaf BoolKind c.name.now) (signed Set c.sign.now) t (Truth c.value) };
 
     #[inline(always)]
-    fn make(&self, index: Index, frame: &mut Frame) -> Result<(), Stop> {
+    fn make<A: Arrays>(&self, index: Index, frame: &mut Frame<A>) -> Result<(), Stop> {
         told(change_truth(self.name, index, self.value, frame))
     }
 }
@@ -109,143 +109,143 @@ struct PromoteTruth<'e, 'x> {
     e: &'e PromotedTruth<'x>,
 }
 
-impl<'e, 'x> Turns<Frame> for PromoteTruth<'e, 'x> {
+impl<'e, 'x> Turns for PromoteTruth<'e, 'x> {
     ghost turn = { λ c limits t s done. with_value (value_of limits in_memory (promoted_truth EachTurn c.e.now) (Some t) s)
         (change limits in_memory (array_leaf BoolKind c.name.now) (signed Set c.sign.now) t) s done };
 
     #[inline(always)]
-    fn make(&self, index: Index, frame: &mut Frame) -> Result<(), Stop> {
+    fn make<A: Arrays>(&self, index: Index, frame: &mut Frame<A>) -> Result<(), Stop> {
         let value = promoted_truth_value(self.e, &index, frame, &OpenGate)?.get();
         told(change_truth(self.name, index, value, frame))
     }
 }
 
 // The turns of a domain that has no more indices than the budget, by the map of the array of a name.
-fn each_within<T: Turns<Frame>, G: Gate>(
+fn each_within<T: Turns + Sync, C: Crew>(
     turns: &T,
     at: &Spot,
     name: &ArrayName<'_>,
     domain: DomainWord,
-    frame: &mut Frame,
-    gate: &G,
+    frame: &mut Frame<C::Kept>,
+    crew: &C,
 ) -> Result<(), Stop>
-    ensures ends { (done : Deeds) → RunsTo (MayRefuse (G.may_refuse gate.now) (owned_by frame.old name.now.slot) domain) result frame.new.memory done
+    ensures ends { (done : Deeds) → RunsTo (MayRefuse (C.may_refuse crew.now) (owned_by frame.old name.now.slot) domain) result frame.new.memory done
         (within_budget frame.old.limits at.now domain (named_turn (T.turn turns.now frame.old.limits)) frame.old.memory done) }
     ensures limits { frame.new.limits ≡ frame.old.limits }
 {
     within_budget(&domain, at, frame)?;
     let map = frame.owner(name.slot);
-    forall(turns, domain, &map, frame, gate)
+    crew.forall(turns, domain, &map, frame)
 }
 
 // An int without a whole array goes into each element.
-fn set_once<G: Gate>(
+fn set_once<C: Crew>(
     name: &ArrayName<'_>,
     op: Assign,
     sign: &Spot,
     e: &PromotedInt<'_>,
     domain: DomainWord,
-    frame: &mut Frame,
-    gate: &G,
+    frame: &mut Frame<C::Kept>,
+    crew: &C,
 ) -> Result<(), Stop>
     requires { whole_in frame.old.limits in_memory (promoted_int EachTurn e.now) frame.old.memory ≡ None }
     ensures ends { (done : Deeds)
-        → RunsTo (MayRefuse (G.may_refuse gate.now) (owned_by frame.old name.now.slot) domain ⊎ MayRefuseReduction (G.may_refuse gate.now) frame.old
+        → RunsTo (MayRefuse (C.may_refuse crew.now) (owned_by frame.old name.now.slot) domain ⊎ MayRefuseReduction (C.may_refuse crew.now) frame.old
         (EachInInts e.now)) result frame.new.memory done
         (array_set frame.old.limits IntKind name.now op sign.now (promoted_int EachTurn e.now) domain None frame.old.memory done) }
     ensures limits { frame.new.limits ≡ frame.old.limits }
 {
-    let value = promoted_int_value(e, &coordinate(0), frame, gate)?;
+    let value = promoted_int_value(e, &coordinate(0), frame, crew)?;
     let turns = Fill {
         name,
         op,
         sign,
         value,
     };
-    each_within(&turns, sign, name, domain, frame, gate)
+    each_within(&turns, sign, name, domain, frame, crew)
 }
 
 // The same of truth values.
-fn set_truth_once<G: Gate>(
+fn set_truth_once<C: Crew>(
     name: &ArrayName<'_>,
     sign: &Spot,
     e: &PromotedTruth<'_>,
     domain: DomainWord,
-    frame: &mut Frame,
-    gate: &G,
+    frame: &mut Frame<C::Kept>,
+    crew: &C,
 ) -> Result<(), Stop>
     requires { whole_in frame.old.limits in_memory (promoted_truth EachTurn e.now) frame.old.memory ≡ None }
     ensures ends { (done : Deeds)
-        → RunsTo (MayRefuse (G.may_refuse gate.now) (owned_by frame.old name.now.slot) domain ⊎ MayRefuseReduction (G.may_refuse gate.now) frame.old
+        → RunsTo (MayRefuse (C.may_refuse crew.now) (owned_by frame.old name.now.slot) domain ⊎ MayRefuseReduction (C.may_refuse crew.now) frame.old
         (EachInTruths e.now)) result frame.new.memory done
         (array_set frame.old.limits BoolKind name.now Set sign.now (promoted_truth EachTurn e.now) domain None frame.old.memory done) }
     ensures limits { frame.new.limits ≡ frame.old.limits }
 {
-    let value = promoted_truth_value(e, &coordinate(0), frame, gate)?.get();
+    let value = promoted_truth_value(e, &coordinate(0), frame, crew)?.get();
     let turns = FillTruth { name, sign, value };
-    each_within(&turns, sign, name, domain, frame, gate)
+    each_within(&turns, sign, name, domain, frame, crew)
 }
 
 // An int with a whole array is evaluated at the index of each element.
-fn set_each<G: Gate>(
+fn set_each<C: Crew>(
     name: &ArrayName<'_>,
     op: Assign,
     sign: &Spot,
     e: &PromotedInt<'_>,
     domain: DomainWord,
-    frame: &mut Frame,
-    gate: &G,
+    frame: &mut Frame<C::Kept>,
+    crew: &C,
 ) -> Result<(), Stop>
     ensures ends { (arrays : List TextRange) (done : Deeds)
-        → RunsTo (MayRefuse (G.may_refuse gate.now) (owned_by frame.old name.now.slot) domain) result frame.new.memory done
+        → RunsTo (MayRefuse (C.may_refuse crew.now) (owned_by frame.old name.now.slot) domain) result frame.new.memory done
         (array_set frame.old.limits IntKind name.now op sign.now (promoted_int EachTurn e.now) domain (Some arrays) frame.old.memory done) }
     ensures limits { frame.new.limits ≡ frame.old.limits }
 {
     let turns = Promote { name, op, sign, e };
-    each_within(&turns, sign, name, domain, frame, gate)
+    each_within(&turns, sign, name, domain, frame, crew)
 }
 
 // The same of truth values.
-fn set_truth_each<G: Gate>(
+fn set_truth_each<C: Crew>(
     name: &ArrayName<'_>,
     sign: &Spot,
     e: &PromotedTruth<'_>,
     domain: DomainWord,
-    frame: &mut Frame,
-    gate: &G,
+    frame: &mut Frame<C::Kept>,
+    crew: &C,
 ) -> Result<(), Stop>
     ensures ends { (arrays : List TextRange) (done : Deeds)
-        → RunsTo (MayRefuse (G.may_refuse gate.now) (owned_by frame.old name.now.slot) domain) result frame.new.memory done
+        → RunsTo (MayRefuse (C.may_refuse crew.now) (owned_by frame.old name.now.slot) domain) result frame.new.memory done
         (array_set frame.old.limits BoolKind name.now Set sign.now (promoted_truth EachTurn e.now) domain (Some arrays) frame.old.memory done) }
     ensures limits { frame.new.limits ≡ frame.old.limits }
 {
     let turns = PromoteTruth { name, sign, e };
-    each_within(&turns, sign, name, domain, frame, gate)
+    each_within(&turns, sign, name, domain, frame, crew)
 }
 
 /// An assignment to a whole array of ints.
 ///
 /// # Errors
 /// The fault of a right side that is evaluated once; `F5` at the operator for more elements than the budget; the fault of
-/// an index, in its turn; or the gate refused the entry of an element's owner, or of a reduction in a right side that is evaluated
-/// once.
+/// an index, in its turn; or what ends a forall of the crew early: the gate may refuse the entry of an element's owner, or of a reduction
+/// in a right side that is evaluated once.
 #[inline(never)]
-pub fn set_array<G: Gate>(
+pub fn set_array<C: Crew>(
     name: &ArrayName<'_>,
     op: Assign,
     sign: &Spot,
     e: &PromotedInt<'_>,
-    frame: &mut Frame,
-    gate: &G,
+    frame: &mut Frame<C::Kept>,
+    crew: &C,
 ) -> Result<(), Stop>
-    ensures ends { (done : Deeds) → RunsTo (MayRefuseWhole (G.may_refuse gate.now) frame.old name.now.slot (EachInInts e.now)) result frame.new.memory done
+    ensures ends { (done : Deeds) → RunsTo (MayRefuseWhole (C.may_refuse crew.now) frame.old name.now.slot (EachInInts e.now)) result frame.new.memory done
         (exec frame.old.limits in_memory (whole_set (array_leaf IntKind name.now) op sign.now (promoted_int EachTurn e.now)) frame.old.memory done) }
     ensures limits { frame.new.limits ≡ frame.old.limits }
 {
     let domain = frame.array_domain(name.slot);
     match int_domain(e, frame) {
-        None => set_once(name, op, sign, e, domain, frame, gate),
-        Some(_) => set_each(name, op, sign, e, domain, frame, gate),
+        None => set_once(name, op, sign, e, domain, frame, crew),
+        Some(_) => set_each(name, op, sign, e, domain, frame, crew),
     }
 }
 
@@ -254,20 +254,20 @@ pub fn set_array<G: Gate>(
 /// # Errors
 /// As for ints.
 #[inline(never)]
-pub fn set_truth_array<G: Gate>(
+pub fn set_truth_array<C: Crew>(
     name: &ArrayName<'_>,
     sign: &Spot,
     e: &PromotedTruth<'_>,
-    frame: &mut Frame,
-    gate: &G,
+    frame: &mut Frame<C::Kept>,
+    crew: &C,
 ) -> Result<(), Stop>
-    ensures ends { (done : Deeds) → RunsTo (MayRefuseWhole (G.may_refuse gate.now) frame.old name.now.slot (EachInTruths e.now)) result frame.new.memory done
+    ensures ends { (done : Deeds) → RunsTo (MayRefuseWhole (C.may_refuse crew.now) frame.old name.now.slot (EachInTruths e.now)) result frame.new.memory done
         (exec frame.old.limits in_memory (whole_set (array_leaf BoolKind name.now) Set sign.now (promoted_truth EachTurn e.now)) frame.old.memory done) }
     ensures limits { frame.new.limits ≡ frame.old.limits }
 {
     let domain = frame.array_domain(name.slot);
     match truth_domain(e, frame) {
-        None => set_truth_once(name, sign, e, domain, frame, gate),
-        Some(_) => set_truth_each(name, sign, e, domain, frame, gate),
+        None => set_truth_once(name, sign, e, domain, frame, crew),
+        Some(_) => set_truth_each(name, sign, e, domain, frame, crew),
     }
 }

@@ -10,7 +10,7 @@ use Rattle.dpl_strips.proofs.Strips.{written}
 use Rattle.dpl_elements.proofs.row.changed.Goals as goal
 
 pub loop-k-preserved : goal.loop-k-preserved
-loop-k-preserved c =
+loop-k-preserved g c =
     let k = c.loop-k.k in
     let op = c.args.op in
     let old = c.run-old.result.now in
@@ -28,7 +28,7 @@ loop-k-preserved c =
     }
 
 pub returns-clause-words : goal.returns-clause-words
-returns-clause-words c k old below cap at =
+returns-clause-words g c k old below cap at =
     let run = c.run-old.result.now in
     let within : k < length run = search rules in
     let before : k < c.loop-k.k = search rules in

@@ -8,7 +8,7 @@ use Rattle.dpl_elements.proofs.PutRows.{are-put}
 use Rattle.dpl_elements.proofs.row.put_row.Goals as goal
 
 pub returns-clause-put : goal.returns-clause-put
-returns-clause-put c =
+returns-clause-put g c =
     let f = c.args.frame.now in
     let strip = c.changed-strip.result in
     let size = c.min-size.result in

@@ -12,7 +12,7 @@ use Rattle.dpl_elements.proofs.whole.set_truth_array.Goals as goal
 
 pub returns-in-None-clause-ends : goal.returns-in-None-clause-ends
 returns-in-None-clause-ends g c done =
-    let may = g.G.Gate.may_refuse c.args.gate.now in
+    let may = g.C.Gate.may_refuse c.args.crew.now in
     let f = c.args.frame.now in
     let map = owned_by f c.args.name.now.slot in
     ends-wider _ _ c.set_truth_once.result c.set_truth_once.new.frame.memory done _ _ (subst (λ rs. MayRefuse may map rs ⊎ MayRefuseReduction may f (EachInTruths c.args.e.now)) c.array_domain-domain.ensures)
@@ -22,7 +22,7 @@ returns-in-None-clause-ends g c done =
 
 pub returns-in-Some-clause-ends : goal.returns-in-Some-clause-ends
 returns-in-Some-clause-ends g c done =
-    let may = g.G.Gate.may_refuse c.args.gate.now in
+    let may = g.C.Gate.may_refuse c.args.crew.now in
     let f = c.args.frame.now in
     let map = owned_by f c.args.name.now.slot in
     ends-wider _ _ c.set_truth_each.result c.set_truth_each.new.frame.memory done _ _ (λ entry. inl (subst (MayRefuse may map) c.array_domain-domain.ensures entry))

@@ -8,10 +8,10 @@ use Rattle.dpl_memory.specs.Memory.{in_memory}
 use Rattle.dpl_nodes.specs.Steps.{array_leaf}
 use Rattle.dpl_elements.specs.Changes.{signed}
 use Rattle.dpl_elements.proofs.Changing.{told-ends}
-use Rattle.dpl_elements.proofs.whole.PromoteTurnsFrame.make.Goals as goal
+use Rattle.dpl_elements.proofs.whole.PromoteTurns.make.Goals as goal
 
 pub returns-clause-ends : goal.returns-clause-ends
-returns-clause-ends c done =
+returns-clause-ends g c done =
     let turns = c.args.self.now in
     let f = c.args.frame.now in
     let fits : FitsSigned w64 c.in_ok-value.value = search rules in

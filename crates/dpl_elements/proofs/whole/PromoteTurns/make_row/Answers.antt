@@ -16,10 +16,10 @@ use Rattle.dpl_loop.specs.Runs.{AreDone}
 use Rattle.dpl_strips.specs.Strips.{IsSameAt}
 use Rattle.dpl_elements.specs.Changes.{signed}
 use Rattle.dpl_elements.proofs.RowTurns.{whole-row}
-use Rattle.dpl_elements.proofs.whole.PromoteTurnsFrame.make_row.Goals as goal
+use Rattle.dpl_elements.proofs.whole.PromoteTurns.make_row.Goals as goal
 
 pub returns-clause-done : goal.returns-clause-done
-returns-clause-done c =
+returns-clause-done g c =
     let turns = c.args.self.now in
     let f = c.args.frame.now in
     let first = c.args.first in
