@@ -69,6 +69,7 @@ module _ (limits : Limits) where
     grew_more first old new so_far.1 shown.1,
   )
   texts-halt may more xs k a s first old new stop.Memory wider within is shown so_far = tt
+  texts-halt may more xs k a s first old new stop.Thread wider within is shown so_far = tt
   texts-halt may more xs k a s first old new stop.Gate wider within is shown so_far = wider shown
 
   -- WRITES
@@ -91,4 +92,5 @@ module _ (limits : Limits) where
       ∙ ap (λ r. with_value r (λ text s done. Done s (with_text (text ++ line_end ends_line) done)) s (having_printed old done)) e.0
       ∙ ap (λ text. StopAt (fault_view f) (having_printed text done)) (sym (ap (take (length old)) e.1.1 ∙ take-append_seam old e.1.0))
   written-halts may ends_line xs s done old new stop.Memory e = tt
+  written-halts may ends_line xs s done old new stop.Thread e = tt
   written-halts may ends_line xs s done old new stop.Gate e = e

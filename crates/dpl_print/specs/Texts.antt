@@ -49,6 +49,7 @@ abbrev pub GrewBy : Type 0 → Result (Unit {0}) Stop → List ℕ → List ℕ 
 GrewBy may (Ok v) old new more = behind old more ≡ Ok new
 GrewBy may (Err (stop.Fault f)) old new more = (more ≡ Err (fault_view f)) × Grew old new
 GrewBy may (Err stop.Memory) old new more = Unit {0}
+GrewBy may (Err stop.Thread) old new more = Unit {0}
 GrewBy may (Err stop.Gate) old new more = may
 
 -- all that was done, this text being what was printed
