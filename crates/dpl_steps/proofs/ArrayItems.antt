@@ -105,6 +105,7 @@ pub gathers-halts : (may more : Type 0) (h : Halt) (rs : List TextRange) (v : Re
     → (may → more) → ((f : Fault) → v ≡ Err f → o ≡ Stop f done) → Gathers may (Err h) rs v → RunsTo more (Err h) s done o
 gathers-halts may more (halt.Fault f) rs v s done o go faults gathers = faults (fault_view f) gathers
 gathers-halts may more halt.Memory rs v s done o go faults gathers = tt
+gathers-halts may more halt.Thread rs v s done o go faults gathers = tt
 gathers-halts may more halt.Gate rs v s done o go faults gathers = go gathers
 
 -- THE DOMAIN

@@ -110,6 +110,7 @@ module _ (value : Index → Result Value Fault) (rs : List TextRange) where
       behind_words-fault rs [] (gathered value (indices_in rs)) (fault_view f)
       (sym so_far.ends ∙ ap (λ r. behind_words rs so_far.words (with_ok r (λ v. with_ok (gathered value left) (λ vs. Ok (v ∷ vs))))) e)
   gathered-halts may more t left a stop.Memory go so_far e = tt
+  gathered-halts may more t left a stop.Thread go so_far e = tt
   gathered-halts may more t left a stop.Gate go so_far e = go e
 
   -- with no index left it is the array of all words

@@ -14,6 +14,7 @@ abbrev pub Names : Type 0 → Result ℤ Stop → Result Value FaultValue → Ty
 Names may (Ok w) r = with_ok r (λ v. Ok (kept_number v)) ≡ Ok w
 Names may (Err (stop.Fault f)) r = r ≡ Err (fault_view f)
 Names may (Err stop.Memory) r = Unit {0}
+Names may (Err stop.Thread) r = Unit {0}
 Names may (Err stop.Gate) r = may
 
 -- an array of the words of values, over a domain; or their first fault; or an entry was refused
@@ -21,4 +22,5 @@ abbrev pub Gathers : Type 0 → Result Held Stop → List TextRange → Result (
 Gathers may (Ok a) rs g = with_ok g (λ vs. Ok (whole_held rs (map kept_number vs))) ≡ Ok a
 Gathers may (Err (stop.Fault f)) rs g = g ≡ Err (fault_view f)
 Gathers may (Err stop.Memory) rs g = Unit {0}
+Gathers may (Err stop.Thread) rs g = Unit {0}
 Gathers may (Err stop.Gate) rs g = may

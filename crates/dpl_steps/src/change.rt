@@ -12,7 +12,7 @@ ghost use Rattle.dpl_loop.specs.Values.{Gives};
 ghost use Rattle.dpl_elements.specs.Changes.{declared_memory, given_memory, assigned_memory, int_given, int_put, int_memory, truth_memory, updated_by, memory_after};
 
 use crate::reduce::{reduced_int, reduced_truth};
-use dpl_frame::{FaultCode, Frame, Trap};
+use dpl_frame::{Arrays, FaultCode, Frame, Trap};
 use dpl_loop::stop::told;
 use dpl_loop::{Gate, Stop};
 use dpl_nodes::{BoolExpr, IntDeed, IntExpr, RangeExpr, Spot, TruthDeed};
@@ -20,10 +20,10 @@ use dpl_strips::number::{difference, product, quotient, remainder, sum};
 use dpl_values::{int_value, range_value, truth_value};
 
 // A truth value's.
-fn declare_truth<G: Gate>(
+fn declare_truth<A: Arrays, G: Gate>(
     slot: usize,
     e: &BoolExpr<'_>,
-    frame: &mut Frame,
+    frame: &mut Frame<A>,
     gate: &G,
 ) -> Result<(), Stop>
     ensures memory { Gives (MayRefuseSome (G.may_refuse gate.now)) (λ v. frame.new.memory) result
@@ -37,10 +37,10 @@ fn declare_truth<G: Gate>(
 
 /// A range's.
 #[inline(always)]
-pub(crate) fn declare_range<G: Gate>(
+pub(crate) fn declare_range<A: Arrays, G: Gate>(
     slot: usize,
     e: &RangeExpr<'_>,
-    frame: &mut Frame,
+    frame: &mut Frame<A>,
     gate: &G,
 ) -> Result<(), Stop>
     ensures memory { Gives (MayRefuseSome (G.may_refuse gate.now)) (λ v. frame.new.memory) result
@@ -53,10 +53,10 @@ pub(crate) fn declare_range<G: Gate>(
 }
 
 // A `config const` that is a truth value.
-fn config_truth<G: Gate>(
+fn config_truth<A: Arrays, G: Gate>(
     slot: usize,
     e: &BoolExpr<'_>,
-    frame: &mut Frame,
+    frame: &mut Frame<A>,
     gate: &G,
 ) -> Result<(), Stop>
     ensures memory { Gives (MayRefuseSome (G.may_refuse gate.now)) (λ v. frame.new.memory) result
@@ -74,7 +74,7 @@ fn config_truth<G: Gate>(
 
 // What the command line gives to an int, if it is declared so.
 #[inline(always)]
-fn given(deed: &IntDeed<'_>, slot: usize, frame: &Frame) -> Option<i64>
+fn given<A: Arrays>(deed: &IntDeed<'_>, slot: usize, frame: &Frame<A>) -> Option<i64>
     ensures { option_map Int result ≡ int_given deed.now slot frame.now.memory }
 {
     match deed {
@@ -91,7 +91,7 @@ fn given(deed: &IntDeed<'_>, slot: usize, frame: &Frame) -> Option<i64>
 }
 
 // `/=`
-fn divide(slot: usize, at: &Spot, value: i64, frame: &mut Frame) -> Result<(), Trap>
+fn divide<A: Arrays>(slot: usize, at: &Spot, value: i64, frame: &mut Frame<A>) -> Result<(), Trap>
     ensures memory { updated_by (int_leaf slot) SetDivide at.now (Int value) frame.old.memory ≡ memory_after result frame.new.memory }
     ensures limits { frame.new.limits ≡ frame.old.limits }
 {
@@ -103,7 +103,7 @@ fn divide(slot: usize, at: &Spot, value: i64, frame: &mut Frame) -> Result<(), T
 }
 
 // `%=`
-fn rest(slot: usize, at: &Spot, value: i64, frame: &mut Frame) -> Result<(), Trap>
+fn rest<A: Arrays>(slot: usize, at: &Spot, value: i64, frame: &mut Frame<A>) -> Result<(), Trap>
     ensures memory { updated_by (int_leaf slot) SetRemainder at.now (Int value) frame.old.memory ≡ memory_after result frame.new.memory }
     ensures limits { frame.new.limits ≡ frame.old.limits }
 {
@@ -116,7 +116,7 @@ fn rest(slot: usize, at: &Spot, value: i64, frame: &mut Frame) -> Result<(), Tra
 
 // `reduce=`
 #[inline(never)]
-fn reduce_int(slot: usize, value: i64, frame: &mut Frame)
+fn reduce_int<A: Arrays>(slot: usize, value: i64, frame: &mut Frame<A>)
     ensures memory { updated_by (int_leaf slot) SetReduce nowhere (Int value) frame.old.memory ≡ Ok frame.new.memory }
     ensures limits { frame.new.limits ≡ frame.old.limits }
 {
@@ -126,7 +126,12 @@ fn reduce_int(slot: usize, value: i64, frame: &mut Frame)
 
 // A value goes into an int, or into what an operator makes of it.
 #[inline(always)]
-fn put(deed: &IntDeed<'_>, slot: usize, value: i64, frame: &mut Frame) -> Result<(), Trap>
+fn put<A: Arrays>(
+    deed: &IntDeed<'_>,
+    slot: usize,
+    value: i64,
+    frame: &mut Frame<A>,
+) -> Result<(), Trap>
     ensures memory { int_put deed.now slot (Int value) frame.old.memory ≡ memory_after result frame.new.memory }
     ensures limits { frame.new.limits ≡ frame.old.limits }
 {
@@ -145,10 +150,10 @@ fn put(deed: &IntDeed<'_>, slot: usize, value: i64, frame: &mut Frame) -> Result
 }
 
 // `reduce=` to a truth value
-fn reduce_truth<G: Gate>(
+fn reduce_truth<A: Arrays, G: Gate>(
     slot: usize,
     e: &BoolExpr<'_>,
-    frame: &mut Frame,
+    frame: &mut Frame<A>,
     gate: &G,
 ) -> Result<(), Stop>
     ensures memory { Gives (MayRefuseSome (G.may_refuse gate.now)) (λ v. frame.new.memory) result
@@ -163,11 +168,11 @@ fn reduce_truth<G: Gate>(
 
 /// What is done to an int: its right side is evaluated in one place, whatever is done with the value.
 #[inline(always)]
-pub(crate) fn change_int<G: Gate>(
+pub(crate) fn change_int<A: Arrays, G: Gate>(
     deed: &IntDeed<'_>,
     slot: usize,
     e: &IntExpr<'_>,
-    frame: &mut Frame,
+    frame: &mut Frame<A>,
     gate: &G,
 ) -> Result<(), Stop>
     ensures memory { Gives (MayRefuseSome (G.may_refuse gate.now)) (λ v. frame.new.memory) result
@@ -184,11 +189,11 @@ pub(crate) fn change_int<G: Gate>(
 
 /// What is done to a truth value.
 #[inline(always)]
-pub(crate) fn change_truth<G: Gate>(
+pub(crate) fn change_truth<A: Arrays, G: Gate>(
     deed: TruthDeed,
     slot: usize,
     e: &BoolExpr<'_>,
-    frame: &mut Frame,
+    frame: &mut Frame<A>,
     gate: &G,
 ) -> Result<(), Stop>
     ensures memory { Gives (MayRefuseSome (G.may_refuse gate.now)) (λ v. frame.new.memory) result

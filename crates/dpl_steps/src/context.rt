@@ -1,5 +1,5 @@
 // Where statements stand, and what is done there by whom it concerns: prints, and what makes turns.
-// The statements are run alike in each; a context says what a print and a forall do, and is the gate that is asked there.
+// The statements are run alike in each; a context says what a print and a forall do, and is the crew that is asked there.
 
 ghost use Rattle.std.specs.Prelude.{◌≡◌};
 ghost use Rattle.dpl_language.specs.Tree.{One};
@@ -16,11 +16,11 @@ ghost use Rattle.dpl_values.specs.Arguments.{EachInArguments};
 ghost use Rattle.dpl_steps.specs.Refusals.{MayRefuseForall, MayRefuseForallLine};
 
 use dpl_frame::Frame;
-use dpl_loop::{Gate, Stop};
+use dpl_loop::{Crew, Stop};
 use dpl_nodes::{Argument, DomainExpr, Intent, Names, RangeExpr, Spot, Step};
 
 /// Where statements stand: outside of all foralls, or in a turn of one; and the gate that reductions there ask.
-pub trait Context: Gate {
+pub trait Context: Crew {
     /// Where what is printed goes.
     type Out;
 
@@ -38,7 +38,7 @@ pub trait Context: Gate {
         &self,
         ends_line: bool,
         arguments: &[Argument<'_>],
-        frame: &Frame,
+        frame: &Frame<Self::Kept>,
         out: &mut Self::Out,
     ) -> Result<(), Stop>
         ensures { (done : Deeds)
@@ -48,8 +48,8 @@ pub trait Context: Gate {
     /// A forall over a range, with its reduce variables.
     ///
     /// # Errors
-    /// The fault of what it runs over, or of the first turn that has one; out of memory; or a gate refused the entry of a turn, or
-    /// of a reduction in what it runs over.
+    /// The fault of what it runs over, or of the first turn that has one; out of memory; a worker was not started; or a gate refused the
+    /// entry of a turn, or of a reduction in what it runs over.
     fn forall_line<'t>(
         &self,
         at: &Spot,
@@ -57,7 +57,7 @@ pub trait Context: Gate {
         over: &RangeExpr<'t>,
         intents: &[Intent],
         body: &[Step<'t>],
-        frame: &mut Frame,
+        frame: &mut Frame<Self::Kept>,
     ) -> Result<(), Stop>
         ensures ends { (done : Deeds)
             → RunsTo (MayRefuseForallLine (Self.may_refuse self.now) frame.old at.now over.now (steps_in InTurn body.now)) result frame.new.memory done
@@ -77,7 +77,7 @@ pub trait Context: Gate {
         over: &DomainExpr<'t>,
         intents: &[Intent],
         body: &[Step<'t>],
-        frame: &mut Frame,
+        frame: &mut Frame<Self::Kept>,
     ) -> Result<(), Stop>
         ensures ends { (done : Deeds)
             → RunsTo (MayRefuseForall (Self.may_refuse self.now) frame.old at.now over.now (steps_in InTurn body.now)) result frame.new.memory done

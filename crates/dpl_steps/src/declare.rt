@@ -28,7 +28,7 @@ use crate::domain::for_array;
 use crate::lineage::derived;
 use dpl_contents::ArrayWords;
 use dpl_domain::Index;
-use dpl_frame::{DomainWord, Frame, Trap};
+use dpl_frame::{Arrays, DomainWord, Frame, Trap};
 use dpl_loop::{Gate, OpenGate, Stop};
 use dpl_map::Map;
 use dpl_nodes::{ArrayDeclaration, DeclaredOver, Initial, PromotedInt, PromotedTruth, Spot};
@@ -41,10 +41,10 @@ use dpl_values::{
 };
 
 // The domain that stands between an array's brackets.
-fn domain_over<G: Gate>(
+fn domain_over<A: Arrays, G: Gate>(
     over: &DeclaredOver<'_>,
     from: &Spot,
-    frame: &Frame,
+    frame: &Frame<A>,
     gate: &G,
 ) -> Result<DomainWord, Stop>
     ensures { Gives (MayRefuseReduction (G.may_refuse gate.now) frame.now (EachInOver over.now)) DomainValue result
@@ -73,14 +73,14 @@ trait Elements {
     ghost element: { Self → Limits → Memory → Index → Result Value Fault };
 
     // No gate is asked for it.
-    fn word(&self, index: &Index, frame: &Frame) -> Result<i64, Stop>
+    fn word<A: Arrays>(&self, index: &Index, frame: &Frame<A>) -> Result<i64, Stop>
         ensures { Gives ⊥ (λ w. w) result (kept_word (element self.now frame.now.limits frame.now.memory index.now)) };
 }
 
 impl<'t> Elements for PromotedInt<'t> {
     ghost element = { λ e limits s t. value_of limits in_memory (promoted_int EachTurn e) (Some t) s };
 
-    fn word(&self, index: &Index, frame: &Frame) -> Result<i64, Stop> {
+    fn word<A: Arrays>(&self, index: &Index, frame: &Frame<A>) -> Result<i64, Stop> {
         promoted_int_value(self, index, frame, &OpenGate)
     }
 }
@@ -88,18 +88,18 @@ impl<'t> Elements for PromotedInt<'t> {
 impl<'t> Elements for PromotedTruth<'t> {
     ghost element = { λ e limits s t. value_of limits in_memory (promoted_truth EachTurn e) (Some t) s };
 
-    fn word(&self, index: &Index, frame: &Frame) -> Result<i64, Stop> {
+    fn word<A: Arrays>(&self, index: &Index, frame: &Frame<A>) -> Result<i64, Stop> {
         Ok(i64::from(promoted_truth_value(self, index, frame, &OpenGate)?.get()))
     }
 }
 
 // The word of an index at a place, once its owner has entered. Its fault names the index.
-fn entered<E: Elements, G: Gate>(
+fn entered<A: Arrays, E: Elements, G: Gate>(
     e: &E,
     index: Index,
     place: u64,
     map: &Map,
-    frame: &Frame,
+    frame: &Frame<A>,
     gate: &G,
 ) -> Result<i64, Stop>
     ensures { Names (G.may_refuse gate.now (owner map.now index) place) result (naming_value index (E.element e.now frame.now.limits frame.now.memory index)) }
@@ -114,11 +114,11 @@ fn entered<E: Elements, G: Gate>(
 }
 
 // The array over a domain that has at each index what is evaluated there, dealt out by a map.
-fn gathered<E: Elements, G: Gate>(
+fn gathered<A: Arrays, E: Elements, G: Gate>(
     e: &E,
     map: &Map,
     domain: DomainWord,
-    frame: &Frame,
+    frame: &Frame<A>,
     gate: &G,
 ) -> Result<ArrayWords, Stop>
     requires { too_large domain ≡ false }
@@ -139,13 +139,13 @@ fn gathered<E: Elements, G: Gate>(
 }
 
 // An array of ints with an initial value.
-fn declare_ints<G: Gate>(
+fn declare_ints<A: Arrays, G: Gate>(
     d: &ArrayDeclaration<'_>,
     at: &Spot,
     e: &PromotedInt<'_>,
     map: &Map,
     domain: DomainWord,
-    frame: &mut Frame,
+    frame: &mut Frame<A>,
     gate: &G,
 ) -> Result<(), Stop>
     requires { too_large domain ≡ false }
@@ -171,13 +171,13 @@ fn declare_ints<G: Gate>(
 }
 
 // The same of truth values.
-fn declare_truths<G: Gate>(
+fn declare_truths<A: Arrays, G: Gate>(
     d: &ArrayDeclaration<'_>,
     at: &Spot,
     e: &PromotedTruth<'_>,
     map: &Map,
     domain: DomainWord,
-    frame: &mut Frame,
+    frame: &mut Frame<A>,
     gate: &G,
 ) -> Result<(), Stop>
     requires { too_large domain ≡ false }
@@ -204,11 +204,11 @@ fn declare_truths<G: Gate>(
 }
 
 // An array of zeros, or of `false` everywhere.
-fn declare_zeros(
+fn declare_zeros<A: Arrays>(
     d: &ArrayDeclaration<'_>,
     map: &Map,
     domain: DomainWord,
-    frame: &mut Frame,
+    frame: &mut Frame<A>,
 ) -> Result<(), Stop>
     requires { too_large domain ≡ false }
     ensures ends { (k : Kind) (done : Deeds) → RunEnds result frame.new.memory done (declared_without frame.old.limits d.now k domain frame.old.memory done) }
@@ -228,11 +228,11 @@ fn sized_for_array(at: &Spot, domain: DomainWord) -> Result<DomainWord, Trap>
 }
 
 // The array over a domain, by its elements; its slot has no root yet.
-fn declare_over<G: Gate>(
+fn declare_over<A: Arrays, G: Gate>(
     d: &ArrayDeclaration<'_>,
     map: &Map,
     domain: DomainWord,
-    frame: &mut Frame,
+    frame: &mut Frame<A>,
     gate: &G,
 ) -> Result<(), Stop>
     requires { too_large domain ≡ false }
@@ -257,9 +257,9 @@ fn declare_over<G: Gate>(
 /// once; `F5` at `=` for more elements than the budget; the fault of an index, in its turn; out of memory; or the gate refused
 /// the entry of an index's owner, by the map of the root that the array gets, or of a reduction in its domain or its initial value.
 #[inline(never)]
-pub(crate) fn declare_array<G: Gate>(
+pub(crate) fn declare_array<A: Arrays, G: Gate>(
     d: &ArrayDeclaration<'_>,
-    frame: &mut Frame,
+    frame: &mut Frame<A>,
     gate: &G,
 ) -> Result<(), Stop>
     ensures ends { (done : Deeds) → RunsTo (MayRefuseArray (G.may_refuse gate.now) frame.old d.now) result frame.new.memory done

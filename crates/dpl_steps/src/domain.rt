@@ -16,7 +16,7 @@ ghost use Rattle.dpl_loop.specs.Entries.{MayRefuseSome};
 ghost use Rattle.dpl_loop.specs.Runs.{RunsTo};
 
 use crate::lineage::{with_value, without_value};
-use dpl_frame::{DomainWord, FaultCode, Frame, Trap};
+use dpl_frame::{Arrays, DomainWord, FaultCode, Frame, Trap};
 use dpl_loop::{Gate, Stop};
 use dpl_nodes::{Beginning, DomainExpr, DomainName, Placing, Rank, Spot};
 use dpl_values::domain_value;
@@ -25,11 +25,11 @@ use dpl_values::domain_value;
 const MOST_ELEMENTS: u64 = 16_777_216;
 
 // A domain's declaration with its initial value.
-fn declare_value<G: Gate>(
+fn declare_value<A: Arrays, G: Gate>(
     slot: usize,
     e: &DomainExpr<'_>,
     placing: &Placing<'_>,
-    frame: &mut Frame,
+    frame: &mut Frame<A>,
     gate: &G,
 ) -> Result<(), Stop>
     ensures ends { (done : Deeds) → RunsTo (MayRefuseSome (G.may_refuse gate.now)) result frame.new.memory done
@@ -46,7 +46,7 @@ fn declare_value<G: Gate>(
 }
 
 // And without one: it has no index.
-fn declare_empty(slot: usize, rank: Rank, placing: &Placing<'_>, frame: &mut Frame)
+fn declare_empty<A: Arrays>(slot: usize, rank: Rank, placing: &Placing<'_>, frame: &mut Frame<A>)
     ensures ends { (done : Deeds) → exec frame.old.limits in_memory (domain_declared slot (Empty rank) placing.now) frame.old.memory done
         ≡ Done frame.new.memory done }
     ensures limits { frame.new.limits ≡ frame.old.limits }
@@ -60,11 +60,11 @@ fn declare_empty(slot: usize, rank: Rank, placing: &Placing<'_>, frame: &mut Fra
 
 /// A domain's declaration, by what it begins with, and with its root.
 #[inline(never)]
-pub(crate) fn declare_domain<G: Gate>(
+pub(crate) fn declare_domain<A: Arrays, G: Gate>(
     slot: usize,
     beginning: &Beginning<'_>,
     placing: &Placing<'_>,
-    frame: &mut Frame,
+    frame: &mut Frame<A>,
     gate: &G,
 ) -> Result<(), Stop>
     ensures ends { (done : Deeds) → RunsTo (MayRefuseSome (G.may_refuse gate.now)) result frame.new.memory done
@@ -110,10 +110,10 @@ pub(crate) fn for_array(at: &Spot, domain: DomainWord) -> Result<DomainWord, Tra
 /// # Errors
 /// `F8` at the domain's name, where there are such arrays; out of memory for them.
 #[inline(never)]
-pub(crate) fn set_domain<G: Gate>(
+pub(crate) fn set_domain<A: Arrays, G: Gate>(
     name: &DomainName<'_>,
     e: &DomainExpr<'_>,
-    frame: &mut Frame,
+    frame: &mut Frame<A>,
     gate: &G,
 ) -> Result<(), Stop>
     ensures ends { (done : Deeds)

@@ -22,7 +22,7 @@ ghost use Rattle.dpl_elements.specs.Turns.{each_bound, bound_at, index_turn, loo
 use crate::context::Context;
 use crate::statement::run;
 use dpl_domain::Index;
-use dpl_frame::{DomainWord, Frame, Trap};
+use dpl_frame::{Arrays, DomainWord, Frame, Trap};
 use dpl_loop::{Gate, Stop};
 use dpl_nodes::{DomainExpr, Names, Spot, Step};
 use dpl_values::budget::within_budget;
@@ -34,10 +34,10 @@ use dpl_values::domain_value;
 /// The fault of the domain; `F5` at the loop where it has more indices than the budget; or the gate refused an entry of a reduction
 /// in the domain.
 #[tactic(auto, using(crate::proofs::Tested::within_domain))]
-pub fn domain_indices<G: Gate>(
+pub fn domain_indices<A: Arrays, G: Gate>(
     at: &Spot,
     over: &DomainExpr<'_>,
-    frame: &Frame,
+    frame: &Frame<A>,
     gate: &G,
 ) -> Result<DomainWord, Stop>
     ensures { Gives (MayRefuseReduction (G.may_refuse gate.now) frame.now (EachInDomain over.now)) DomainValue result
@@ -76,7 +76,7 @@ fn sole(index: Index) -> i64
 
 // Puts the coordinates into slots, from the one in dimension 1 on.
 #[tactic(auto, using(dpl_elements::proofs::Binding::each_bound_at))]
-fn bind_others(others: &[usize], index: Index, frame: &mut Frame)
+fn bind_others<A: Arrays>(others: &[usize], index: Index, frame: &mut Frame<A>)
     ensures { frame.new ≡ with_memory (each_bound 1 others.now index frame.old.memory) frame.old }
 {
     for k in 0..others.len() {
@@ -87,7 +87,7 @@ fn bind_others(others: &[usize], index: Index, frame: &mut Frame)
 /// The variables of a turn hold its index.
 #[tactic(auto, using(dpl_elements::proofs::Binding::coordinates_index_value))]
 #[inline(always)]
-pub fn bind(names: &Names<'_>, index: Index, frame: &mut Frame)
+pub fn bind<A: Arrays>(names: &Names<'_>, index: Index, frame: &mut Frame<A>)
     ensures { frame.new ≡ with_memory (bound_at names.now index frame.old.memory) frame.old }
 {
     match names {
@@ -108,7 +108,7 @@ fn domain_turn<'t, C: Context>(
     names: &Names<'t>,
     body: &[Step<'t>],
     context: &C,
-    frame: &mut Frame,
+    frame: &mut Frame<C::Kept>,
     out: &mut C::Out,
 ) -> Result<(), Stop>
     ensures ends { (done : Deeds) → RunsTo (MayRefuseSome (C.may_refuse context.now)) result frame.new.memory (C.having out.new done)
@@ -127,7 +127,7 @@ fn domain_turns<'t, C: Context>(
     names: &Names<'t>,
     body: &[Step<'t>],
     context: &C,
-    frame: &mut Frame,
+    frame: &mut Frame<C::Kept>,
     out: &mut C::Out,
 ) -> Result<(), Stop>
     ensures ends { (done : Deeds) → RunsTo (MayRefuseSome (C.may_refuse context.now)) result frame.new.memory (C.having out.new done)
@@ -150,7 +150,7 @@ pub(crate) fn for_each<'t, C: Context>(
     over: &DomainExpr<'t>,
     body: &[Step<'t>],
     context: &C,
-    frame: &mut Frame,
+    frame: &mut Frame<C::Kept>,
     out: &mut C::Out,
 ) -> Result<(), Stop>
     ensures ends { (done : Deeds) → RunsTo (MayRefuseSome (C.may_refuse context.now)) result frame.new.memory (C.having out.new done)

@@ -8,7 +8,7 @@ ghost use Rattle.dpl_frame.specs.Roots.{root_view};
 ghost use Rattle.dpl_values.specs.Meanings.{domain_in};
 ghost use Rattle.dpl_steps.specs.Lineages.{rooted, slot_root, valued_root, empty_root};
 
-use dpl_frame::{Distribution, DomainWord, Frame, Root};
+use dpl_frame::{Arrays, Distribution, DomainWord, Frame, Root};
 use dpl_nodes::{DomainExpr, Placing};
 use dpl_values::{from_least, named};
 
@@ -32,7 +32,7 @@ impl Lineage {
 }
 
 /// Of what is derived from the domain or array in a slot; for what is derived from none no map is named.
-pub(crate) fn derived(origin: Option<usize>, frame: &Frame) -> Lineage
+pub(crate) fn derived<A: Arrays>(origin: Option<usize>, frame: &Frame<A>) -> Lineage
     ensures { (rs : List TextRange) → rooted result rs ≡ slot_root origin rs frame.now.memory }
 {
     match origin {
@@ -42,11 +42,11 @@ pub(crate) fn derived(origin: Option<usize>, frame: &Frame) -> Lineage
 }
 
 /// Of a domain that is declared with an initial value.
-pub(crate) fn with_value(
+pub(crate) fn with_value<A: Arrays>(
     e: &DomainExpr<'_>,
     value: DomainWord,
     placing: &Placing<'_>,
-    frame: &Frame,
+    frame: &Frame<A>,
 ) -> Lineage
     requires { domain_in frame.now e.now ≡ Ok (DomainValue value) }
     ensures { (rs : List TextRange) → rooted result rs ≡ valued_root frame.now.limits e.now placing.now rs frame.now.memory }
@@ -61,7 +61,7 @@ pub(crate) fn with_value(
 }
 
 /// Of a domain that is declared without one.
-pub(crate) fn without_value(placing: &Placing<'_>, frame: &Frame) -> Lineage
+pub(crate) fn without_value<A: Arrays>(placing: &Placing<'_>, frame: &Frame<A>) -> Lineage
     ensures { (rs : List TextRange) → rooted result rs ≡ empty_root frame.now.limits placing.now rs frame.now.memory }
 {
     match placing {

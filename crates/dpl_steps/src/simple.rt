@@ -14,17 +14,17 @@ ghost use Rattle.dpl_loop.specs.Runs.{RunsTo};
 
 use crate::change::{change_truth, declare_range};
 use dpl_elements::{set_element, set_truth_element};
-use dpl_frame::Frame;
+use dpl_frame::{Arrays, Frame};
 use dpl_loop::{Gate, Stop};
 use dpl_nodes::{ArrayName, BoolExpr, IndexExpr, IntExpr, RangeExpr, Spot, TruthTarget};
 use dpl_tree::Assign;
 
 /// A range's declaration, or an assignment to it.
 #[inline(never)]
-pub(crate) fn range<G: Gate>(
+pub(crate) fn range<A: Arrays, G: Gate>(
     slot: usize,
     e: &RangeExpr<'_>,
-    frame: &mut Frame,
+    frame: &mut Frame<A>,
     gate: &G,
 ) -> Result<(), Stop>
     ensures ends { (done : Deeds)
@@ -37,10 +37,10 @@ pub(crate) fn range<G: Gate>(
 
 /// What is done to a truth value, or to an element that is one.
 #[inline(never)]
-pub(crate) fn truth<G: Gate>(
+pub(crate) fn truth<A: Arrays, G: Gate>(
     target: &TruthTarget<'_>,
     e: &BoolExpr<'_>,
-    frame: &mut Frame,
+    frame: &mut Frame<A>,
     gate: &G,
 ) -> Result<(), Stop>
     ensures ends { (done : Deeds) → RunsTo (MayRefuseSome (G.may_refuse gate.now)) result frame.new.memory done
@@ -55,13 +55,13 @@ pub(crate) fn truth<G: Gate>(
 
 /// An assignment to an element.
 #[inline(never)]
-pub(crate) fn element<G: Gate>(
+pub(crate) fn element<A: Arrays, G: Gate>(
     name: &ArrayName<'_>,
     t: &IndexExpr<'_>,
     op: Assign,
     sign: &Spot,
     e: &IntExpr<'_>,
-    frame: &mut Frame,
+    frame: &mut Frame<A>,
     gate: &G,
 ) -> Result<(), Stop>
     ensures ends { (done : Deeds)

@@ -25,7 +25,7 @@ use crate::domain::{declare_domain, set_domain};
 use crate::each::for_each;
 use crate::simple;
 use dpl_elements::{set_array, set_truth_array};
-use dpl_frame::{FaultCode, Frame, RangeWord, Trap};
+use dpl_frame::{Arrays, FaultCode, Frame, RangeWord, Trap};
 use dpl_loop::stop::told;
 use dpl_loop::{Gate, Stop};
 use dpl_nodes::{BoolExpr, Else, RangeExpr, Spot, Step};
@@ -37,10 +37,10 @@ use dpl_values::{range_value, truth_value};
 /// # Errors
 /// The fault of the range; `F5` at the loop where it has more members than the budget; or the gate refused an entry of a reduction
 /// in the range.
-pub fn range_indices<G: Gate>(
+pub fn range_indices<A: Arrays, G: Gate>(
     at: &Spot,
     over: &RangeExpr<'_>,
-    frame: &Frame,
+    frame: &Frame<A>,
     gate: &G,
 ) -> Result<RangeWord, Stop>
     ensures { Gives (MayRefuseReduction (G.may_refuse gate.now) frame.now (EachInRange over.now)) as_range result
@@ -56,13 +56,13 @@ pub fn range_indices<G: Gate>(
 /// Runs statements one after another, where they stand.
 ///
 /// # Errors
-/// The first fault, behind what was printed before it; out of memory, or a gate refused an entry, and then nothing is said
-/// of the frame and of what is printed.
+/// The first fault, behind what was printed before it; out of memory, a worker was not started, or a gate refused an entry, and then
+/// nothing is said of the frame and of what is printed.
 #[cycle(run)]
 pub fn run<'t, C: Context>(
     steps: &[Step<'t>],
     context: &C,
-    frame: &mut Frame,
+    frame: &mut Frame<C::Kept>,
     out: &mut C::Out,
 ) -> Result<(), Stop>
     ensures ends { (done : Deeds) → RunsTo (MayRefuseSome (C.may_refuse context.now)) result frame.new.memory (C.having out.new done)
@@ -80,7 +80,7 @@ pub fn run<'t, C: Context>(
 fn statement<'t, C: Context>(
     step: &Step<'t>,
     context: &C,
-    frame: &mut Frame,
+    frame: &mut Frame<C::Kept>,
     out: &mut C::Out,
 ) -> Result<(), Stop>
     ensures ends { (done : Deeds) → RunsTo (MayRefuseSome (C.may_refuse context.now)) result frame.new.memory (C.having out.new done)
@@ -149,7 +149,7 @@ fn statement<'t, C: Context>(
             over,
             intents,
             body,
-        } => context.forall(at, names, over, intents, body, frame),
+        } => Context::forall(context, at, names, over, intents, body, frame),
     }
 }
 
@@ -162,7 +162,7 @@ fn for_loop<'t, C: Context>(
     over: &RangeExpr<'t>,
     body: &[Step<'t>],
     context: &C,
-    frame: &mut Frame,
+    frame: &mut Frame<C::Kept>,
     out: &mut C::Out,
 ) -> Result<(), Stop>
     ensures ends { (done : Deeds) → RunsTo (MayRefuseSome (C.may_refuse context.now)) result frame.new.memory (C.having out.new done)
@@ -179,7 +179,7 @@ fn for_loop<'t, C: Context>(
 fn alternative<'t, C: Context>(
     otherwise: &Else<'t>,
     context: &C,
-    frame: &mut Frame,
+    frame: &mut Frame<C::Kept>,
     out: &mut C::Out,
 ) -> Result<(), Stop>
     ensures ends { (done : Deeds) → RunsTo (MayRefuseSome (C.may_refuse context.now)) result frame.new.memory (C.having out.new done)
@@ -200,7 +200,7 @@ fn while_loop<'t, C: Context>(
     condition: &BoolExpr<'t>,
     body: &[Step<'t>],
     context: &C,
-    frame: &mut Frame,
+    frame: &mut Frame<C::Kept>,
     out: &mut C::Out,
 ) -> Result<(), Stop>
     ensures ends { (done : Deeds) → RunsTo (MayRefuseSome (C.may_refuse context.now)) result frame.new.memory (C.having out.new done)
@@ -228,7 +228,7 @@ fn turn<'t, C: Context>(
     slot: usize,
     body: &[Step<'t>],
     context: &C,
-    frame: &mut Frame,
+    frame: &mut Frame<C::Kept>,
     out: &mut C::Out,
 ) -> Result<(), Stop>
     requires { k < length (members_of range) }
@@ -252,7 +252,7 @@ fn turns<'t, C: Context>(
     slot: usize,
     body: &[Step<'t>],
     context: &C,
-    frame: &mut Frame,
+    frame: &mut Frame<C::Kept>,
     out: &mut C::Out,
 ) -> Result<(), Stop>
     ensures ends { (done : Deeds) → RunsTo (MayRefuseSome (C.may_refuse context.now)) result frame.new.memory (C.having out.new done)

@@ -15,7 +15,7 @@ use crate::each::bind;
 use crate::fold::{fold_of, folded};
 use dpl_domain::Index;
 use dpl_elements::put_row;
-use dpl_frame::Frame;
+use dpl_frame::{Arrays, Frame};
 use dpl_loop::STRIP;
 use dpl_nodes::{ArrayName, IndexExpr, IntDeed, IntExpr, Names, Spot, Step};
 use dpl_strips::index::{coordinate, plane, space};
@@ -48,7 +48,7 @@ fn behind(first: Index, k: usize) -> Index
 }
 
 // An assignment to an element, in the turns of an index and of those behind it.
-fn assign_row<'t>(
+fn assign_row<'t, A: Arrays>(
     names: &Names<'t>,
     name: &ArrayName<'t>,
     index: &IndexExpr<'t>,
@@ -57,7 +57,7 @@ fn assign_row<'t>(
     e: &IntExpr<'t>,
     first: Index,
     most: usize,
-    frame: &mut Frame,
+    frame: &mut Frame<A>,
 ) -> usize
     ensures most { result ≤ most }
     ensures done { AreDone (index_turn frame.old.limits names.now
@@ -90,14 +90,14 @@ fn is_variable(names: &Names<'_>, slot: usize) -> bool
 }
 
 // What is done to an int, in the turns of an index and of those behind it, where each folds its right side onto it.
-fn fold_row<'t>(
+fn fold_row<'t, A: Arrays>(
     names: &Names<'t>,
     deed: &IntDeed<'t>,
     slot: usize,
     e: &IntExpr<'t>,
     first: Index,
     most: usize,
-    frame: &mut Frame,
+    frame: &mut Frame<A>,
 ) -> usize
     ensures most { result ≤ most }
     ensures done { AreDone
@@ -123,12 +123,12 @@ fn fold_row<'t>(
 
 /// Makes the turns of an index and of those behind it, at most so many, where the body is one assignment to an element, or folds an int
 /// onto another one, and its ints are found several at once; how many.
-pub fn make_row<'t>(
+pub fn make_row<'t, A: Arrays>(
     names: &Names<'t>,
     body: &[Step<'t>],
     first: Index,
     most: usize,
-    frame: &mut Frame,
+    frame: &mut Frame<A>,
 ) -> usize
     ensures most { result ≤ most }
     ensures done { AreDone (index_turn frame.old.limits names.now (steps_in InTurn body.now)) first result frame.old.memory frame.new.memory }

@@ -7,6 +7,6 @@ use Rattle.dpl_steps.proofs.ArrayItems.{array_of-zeros}
 use Rattle.dpl_steps.proofs.declare.declare_zeros.Goals as goal
 
 pub returns-clause-ends : goal.returns-clause-ends
-returns-clause-ends c k done =
+returns-clause-ends g c k done =
     array_of-zeros c.args.frame.now.limits c.args.d.now.at.now k c.args.d.now.slot (shell_over c.args.d.now.over k c.args.domain) c.args.frame.now.memory done k refl
     ∙ ap (λ (f : Framed). Done f.memory done) (sym c.in_ok-declare_array.ensures.declared)

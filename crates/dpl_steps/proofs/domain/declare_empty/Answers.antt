@@ -7,7 +7,7 @@ use Rattle.dpl_steps.proofs.Rooting.{rooted_memory, dealt-domain, exec-empty}
 use Rattle.dpl_steps.proofs.domain.declare_empty.Goals as goal
 
 pub returns-clause-ends : goal.returns-clause-ends
-returns-clause-ends c done =
+returns-clause-ends g c done =
     let limits = c.args.frame.now.limits in
     let s = c.args.frame.now.memory in
     let root = λ (rs : List TextRange). empty_root limits c.args.placing.now rs s in

@@ -10,7 +10,7 @@ use Rattle.dpl_elements.proofs.Binding.{declare-names}
 use Rattle.dpl_steps.proofs.each.bind.Goals as goal
 
 pub returns-in-Each : goal.returns-in-Each
-returns-in-Each c =
+returns-in-Each g c =
     let now = c.args.frame.now in
     let t = c.args.index in
     let first = c.in-Each.first in

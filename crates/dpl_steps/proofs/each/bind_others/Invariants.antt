@@ -5,7 +5,7 @@ use Rattle.dpl_steps.proofs.each.bind_others.Given as goal
 
 -- the slots that are left give what all give at the start
 abbrev pub invariant-loop-k : goal.invariant-loop-k
-invariant-loop-k l = record {
+invariant-loop-k g l = record {
   same : l.frame ≡ with_memory l.frame.memory l.initial.frame;
   left : each_bound (l.k + 1) (drop l.k l.others) l.index l.frame.memory ≡ each_bound 1 l.others l.index l.initial.frame.memory;
 }

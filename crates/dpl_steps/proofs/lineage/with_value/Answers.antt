@@ -7,7 +7,7 @@ use Rattle.dpl_steps.proofs.Rooting.{derived-slot, block-root, cyclic-root}
 use Rattle.dpl_steps.proofs.lineage.with_value.Goals as goal
 
 pub returns-in-Derived : goal.returns-in-Derived
-returns-in-Derived c rs =
+returns-in-Derived g c rs =
     let limits = c.args.frame.now.limits in
     let s = c.args.frame.now.memory in
     let e = c.args.e.now in
@@ -16,19 +16,19 @@ returns-in-Derived c rs =
     ∙ sym (ap (λ p. valued_root limits e p rs s) c.in-Derived.is ∙ derived-slot limits s (derived_from (domain_view e)) rs)
 
 pub returns-in-Mapped : goal.returns-in-Mapped
-returns-in-Mapped c rs =
+returns-in-Mapped g c rs =
     ap (λ d. root_by d rs) c.named.ensures
     ∙ sym (ap (λ p. valued_root c.args.frame.now.limits c.args.e.now p rs c.args.frame.now.memory) c.in-Mapped.is)
 
 pub returns-in-BlockCreated : goal.returns-in-BlockCreated
-returns-in-BlockCreated c rs =
+returns-in-BlockCreated g c rs =
     let limits = c.args.frame.now.limits in
     let s = c.args.frame.now.memory in
     let e = c.args.e.now in
     sym (ap (λ p. valued_root limits e p rs s) c.in-BlockCreated.is ∙ block-root limits s e c.args.value rs c.requires)
 
 pub returns-in-CyclicCreated : goal.returns-in-CyclicCreated
-returns-in-CyclicCreated c rs =
+returns-in-CyclicCreated g c rs =
     let limits = c.args.frame.now.limits in
     let s = c.args.frame.now.memory in
     let e = c.args.e.now in

@@ -14,13 +14,13 @@ use Rattle.dpl_elements.proofs.RowTurns.{none-done, row-done, row-made}
 use Rattle.dpl_steps.proofs.turn.assign_row.Goals as goal
 
 pub returns-then-not-has_room-clause-done : goal.returns-then-not-has_room-clause-done
-returns-then-not-has_room-clause-done c = none-done _ c.args.first c.args.frame.now.memory
+returns-then-not-has_room-clause-done g c = none-done _ c.args.first c.args.frame.now.memory
 
 pub returns-in_default-clause-done : goal.returns-in_default-clause-done
-returns-in_default-clause-done c = none-done _ c.args.first c.args.frame.now.memory
+returns-in_default-clause-done g c = none-done _ c.args.first c.args.frame.now.memory
 
 pub returns-then-made-gt0-clause-done : goal.returns-then-made-gt0-clause-done
-returns-then-made-gt0-clause-done c =
+returns-then-made-gt0-clause-done g c =
     let f = c.args.frame.now in
     let names = c.args.names.now in
     let first = c.args.first in
@@ -39,7 +39,7 @@ returns-then-made-gt0-clause-done c =
     c.turn_strip-strip.ensures.first c.put_row-made.ensures.strip c.put_row-made.ensures.cap c.turn_strip-strip.ensures.values c.in-Some.ensures last some)
 
 pub returns-else-made-gt0-clause-done : goal.returns-else-made-gt0-clause-done
-returns-else-made-gt0-clause-done c =
+returns-else-made-gt0-clause-done g c =
     let f = c.args.frame.now in
     let names = c.args.names.now in
     let first = c.args.first in

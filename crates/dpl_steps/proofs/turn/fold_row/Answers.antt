@@ -18,13 +18,13 @@ use Rattle.dpl_steps.proofs.FoldedTurns.{row-folded}
 use Rattle.dpl_steps.proofs.turn.fold_row.Goals as goal
 
 pub returns-then-not-has_room-clause-done : goal.returns-then-not-has_room-clause-done
-returns-then-not-has_room-clause-done c = none-done _ c.args.first c.args.frame.now.memory
+returns-then-not-has_room-clause-done g c = none-done _ c.args.first c.args.frame.now.memory
 
 pub returns-in_default-clause-done : goal.returns-in_default-clause-done
-returns-in_default-clause-done c = none-done _ c.args.first c.args.frame.now.memory
+returns-in_default-clause-done g c = none-done _ c.args.first c.args.frame.now.memory
 
 pub returns-then-made-gt0-clause-done : goal.returns-then-made-gt0-clause-done
-returns-then-made-gt0-clause-done c =
+returns-then-made-gt0-clause-done g c =
     let f = c.args.frame.now in
     let names = c.args.names.now in
     let first = c.args.first in
@@ -53,7 +53,7 @@ returns-then-made-gt0-clause-done c =
     c.turn_strip-strip.ensures.first few cap c.turn_strip-strip.ensures.values last some)
 
 pub returns-else-made-gt0-clause-done : goal.returns-else-made-gt0-clause-done
-returns-else-made-gt0-clause-done c =
+returns-else-made-gt0-clause-done g c =
     let f = c.args.frame.now in
     let none : c.min-made.result ≡ 0 = omega (arith, c.if-made-gt0.false) in
     let turn = index_turn f.limits c.args.names.now (Then (int_changed c.args.deed.now c.args.slot (One (int_view c.args.e.now))) NoStmts) in
