@@ -1,20 +1,26 @@
 // The body of a forall, as its turns.
-// It runs in a context in which nothing is printed and no turns are made; a program that breaks no rule asks for neither there.
+// It runs in a context in which nothing is printed and no foralls are run; a program that breaks no rule asks for neither there. Assignments
+// to whole arrays, which a turn may not have either, are made in order.
 
 ghost use Rattle.dpl_standing.specs.Standing.{InTurn};
 ghost use Rattle.dpl_steps.specs.Readings.{steps_in};
 ghost use Rattle.dpl_elements.specs.Turns.{index_turn};
 
 use dpl_domain::Index;
-use dpl_frame::Frame;
-use dpl_loop::{Gate, Stop, Turns};
+use dpl_frame::{Arrays, DomainWord, Frame};
+use dpl_loop::{Crew, Gate, Stop, Turns, forall_here};
+use dpl_map::Map;
 use dpl_nodes::{Argument, DomainExpr, Intent, Names, RangeExpr, Spot, Step};
 use dpl_steps::{Context, bind, make_row, run};
+use std::marker::PhantomData;
 
-// In a turn of a forall.
-struct TurnContext;
+// In a turn of a forall, over frames with any arrays.
+#[derive(Drop)]
+struct TurnContext<A> {
+    kept: PhantomData<A>,
+}
 
-impl Gate for TurnContext {
+impl<A: Arrays> Gate for TurnContext<A> {
     ghost may_refuse = { λ _ _ _. ⊥ };
 
     #[inline(always)]
@@ -28,7 +34,21 @@ impl Gate for TurnContext {
     }
 }
 
-impl Context for TurnContext {
+impl<A: Arrays> Crew for TurnContext<A> {
+    type Kept = A;
+
+    fn forall<T: Turns + Sync>(
+        &self,
+        turns: &T,
+        over: DomainWord,
+        map: &Map,
+        frame: &mut Frame<A>,
+    ) -> Result<(), Stop> {
+        forall_here(turns, over, map, frame, self)
+    }
+}
+
+impl<A: Arrays> Context for TurnContext<A> {
     type Out = ();
 
     ghost standing = { InTurn };
@@ -39,7 +59,7 @@ impl Context for TurnContext {
         &self,
         _ends_line: bool,
         _arguments: &[Argument<'_>],
-        _frame: &Frame,
+        _frame: &Frame<A>,
         _out: &mut (),
     ) -> Result<(), Stop> {
         Ok(())
@@ -52,7 +72,7 @@ impl Context for TurnContext {
         _over: &RangeExpr<'t>,
         _intents: &[Intent],
         _body: &[Step<'t>],
-        _frame: &mut Frame,
+        _frame: &mut Frame<A>,
     ) -> Result<(), Stop> {
         Ok(())
     }
@@ -64,7 +84,7 @@ impl Context for TurnContext {
         _over: &DomainExpr<'t>,
         _intents: &[Intent],
         _body: &[Step<'t>],
-        _frame: &mut Frame,
+        _frame: &mut Frame<A>,
     ) -> Result<(), Stop> {
         Ok(())
     }
@@ -77,16 +97,17 @@ pub(crate) struct Body<'b, 't> {
     pub(crate) steps: &'b [Step<'t>],
 }
 
-impl<'b, 't> Turns<Frame> for Body<'b, 't> {
+impl<'b, 't> Turns for Body<'b, 't> {
     ghost turn = { λ body limits. index_turn limits body.names (steps_in InTurn body.steps.now) };
 
     #[inline(always)]
-    fn make(&self, index: Index, frame: &mut Frame) -> Result<(), Stop> {
+    fn make<A: Arrays>(&self, index: Index, frame: &mut Frame<A>) -> Result<(), Stop> {
         bind(&self.names, index, frame);
-        run(self.steps, &TurnContext, frame, &mut ())
+        let context = TurnContext::<A> { kept: PhantomData };
+        run(self.steps, &context, frame, &mut ())
     }
 
-    fn make_row(&self, first: Index, most: usize, frame: &mut Frame) -> usize {
+    fn make_row<A: Arrays>(&self, first: Index, most: usize, frame: &mut Frame<A>) -> usize {
         make_row(&self.names, self.steps, first, most, frame)
     }
 }

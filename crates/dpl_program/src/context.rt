@@ -24,19 +24,23 @@ ghost use Rattle.dpl_print.specs.Texts.{having_printed};
 
 use crate::body::Body;
 use crate::dealt::dealt;
-use dpl_frame::{DomainWord, Frame, RangeWord};
-use dpl_loop::{Gate, Stop, forall, forall_line};
+use dpl_frame::{Arrays, DomainWord, Frame, RangeWord, Slots};
+use dpl_loop::{Crew, Gate, Stop, Turns, forall_here, forall_line};
+use dpl_map::Map;
 use dpl_nodes::{Argument, DomainExpr, Intent, Names, RangeExpr, Spot, Step};
 use dpl_print::write;
 use dpl_steps::{Context, domain_indices, range_indices, run as run_steps};
+use std::sync::Wait;
+use std::thread::Threads;
 
-// Outside of all foralls.
+// Outside of all foralls, with what starts workers.
 #[derive(Drop)]
-struct ProgramContext<'g, G> {
+struct ProgramContext<'g, R, G> {
+    rt: &'g R,
     gate: &'g G,
 }
 
-impl<'g, G: Gate> Gate for ProgramContext<'g, G> {
+impl<'g, R: Threads + Wait + Sync, G: Gate + Sync> Gate for ProgramContext<'g, R, G> {
     ghost may_refuse = { λ context. G.may_refuse context.gate.now };
 
     #[inline(always)]
@@ -50,18 +54,33 @@ impl<'g, G: Gate> Gate for ProgramContext<'g, G> {
     }
 }
 
+impl<'g, R: Threads + Wait + Sync, G: Gate + Sync> Crew for ProgramContext<'g, R, G> {
+    type Kept = Slots;
+
+    fn forall<T: Turns + Sync>(
+        &self,
+        turns: &T,
+        over: DomainWord,
+        map: &Map,
+        frame: &mut Frame,
+    ) -> Result<(), Stop> {
+        let _ = self.rt;
+        forall_here(turns, over, map, frame, self.gate)
+    }
+}
+
 // The turns of a forall over a domain with its reduce variables, dealt out by the map that its text tells.
-fn turns_of<'t, G: Gate>(
+fn turns_of<'t, C: Crew>(
     names: &Names<'t>,
     over: &DomainExpr<'_>,
     indices: DomainWord,
     intents: &[Intent],
     body: &[Step<'t>],
-    frame: &mut Frame,
-    gate: &G,
+    frame: &mut Frame<C::Kept>,
+    crew: &C,
 ) -> Result<(), Stop>
     ensures ends { (done : Deeds) → RunsTo
-        (MayRefuse (G.may_refuse gate.now)
+        (MayRefuse (C.may_refuse crew.now)
         (dealt_by frame.old (slot_by (derived_from (domain_view over.now))) (written_among (steps_in InTurn body.now))) indices)
         result frame.new.memory done
         (intended_turns (map intent_view intents.now)
@@ -74,18 +93,18 @@ fn turns_of<'t, G: Gate>(
         steps: body,
     };
     frame.intend(intents)?;
-    forall(&turns, indices, &map, frame, gate)?;
+    crew.forall(&turns, indices, &map, frame)?;
     frame.intend_none();
     Ok(())
 }
 
 // The same of a forall over a range.
-fn turns_of_line<'t, G: Gate>(
+fn turns_of_line<'t, A: Arrays, G: Gate>(
     slot: usize,
     indices: &RangeWord,
     intents: &[Intent],
     body: &[Step<'t>],
-    frame: &mut Frame,
+    frame: &mut Frame<A>,
     gate: &G,
 ) -> Result<(), Stop>
     ensures ends { (done : Deeds) → RunsTo
@@ -106,7 +125,7 @@ fn turns_of_line<'t, G: Gate>(
     Ok(())
 }
 
-impl<'g, G: Gate> Context for ProgramContext<'g, G> {
+impl<'g, R: Threads + Wait + Sync, G: Gate + Sync> Context for ProgramContext<'g, R, G> {
     type Out = Vec<u8>;
 
     ghost standing = { Outside };
@@ -153,12 +172,13 @@ impl<'g, G: Gate> Context for ProgramContext<'g, G> {
     }
 }
 
-/// Runs statements of a program one after another, and appends what they print.
+/// Runs statements of a program one after another, and appends what they print. `rt` is what workers are started with.
 ///
 /// # Errors
-/// The first fault, behind what was printed before it; out of memory; or the gate refused an entry, which it may, and then
-/// nothing is said of the frame and of what is printed.
-pub fn run<'t, G: Gate>(
+/// The first fault, behind what was printed before it; out of memory; a worker was not started; or the gate refused an entry, which it
+/// may, and then nothing is said of the frame and of what is printed.
+pub fn run<'t, R: Threads + Wait + Sync, G: Gate + Sync>(
+    rt: &R,
     steps: &[Step<'t>],
     frame: &mut Frame,
     gate: &G,
@@ -168,5 +188,5 @@ pub fn run<'t, G: Gate>(
         (exec_all frame.old.limits in_memory (steps_in Outside steps.now) frame.old.memory (having_printed out.old.items done)) }
     ensures limits { frame.new.limits ≡ frame.old.limits }
 {
-    run_steps(steps, &ProgramContext { gate }, frame, out)
+    run_steps(steps, &ProgramContext { rt, gate }, frame, out)
 }

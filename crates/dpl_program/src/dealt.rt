@@ -7,13 +7,13 @@ ghost use Rattle.dpl_steps.specs.Dealt.{slot_map, dealt_by};
 ghost use Rattle.dpl_steps.specs.Written.{written_among};
 
 use crate::written::written;
-use dpl_frame::Frame;
+use dpl_frame::{Arrays, Frame};
 use dpl_map::Map;
 use dpl_nodes::Step;
 
 // The map of the domain or array from which what a forall runs over is derived; the whole map, which gives all to locale 0, where it is
 // derived from none.
-fn over_map(origin: Option<usize>, frame: &Frame) -> Map
+fn over_map<A: Arrays>(origin: Option<usize>, frame: &Frame<A>) -> Map
     ensures { result ≡ slot_map frame.now origin }
 {
     match origin {
@@ -23,7 +23,7 @@ fn over_map(origin: Option<usize>, frame: &Frame) -> Map
 }
 
 /// The map of the first array that the turns write; where they write none, that of what the forall runs over.
-pub(crate) fn dealt(body: &[Step<'_>], over: Option<usize>, frame: &Frame) -> Map
+pub(crate) fn dealt<A: Arrays>(body: &[Step<'_>], over: Option<usize>, frame: &Frame<A>) -> Map
     ensures { result ≡ dealt_by frame.now over (written_among (steps_in InTurn body.now)) }
 {
     match written(body) {

@@ -20,9 +20,9 @@ returns-clause-ends g c done =
     let names = c.args.names.now in
     let body = steps_in InTurn c.args.body.now in
     let rs = c.args.indices in
-    ap (λ (f : Framed). then_do (in_order (named_turn (index_turn f.limits names body)) (indices_in rs) f.memory done) (λ s done. Done (in_memory.intend [] s) done)) (sym c.intend.ensures)
+    ap (λ (f : Framed). then_do (in_order (named_turn (index_turn f.limits names body)) (indices_in rs) f.memory done) (λ s done. Done (in_memory.intend [] s) done)) (sym c.in_ok-intend.ensures.intended)
     ∙ ap (λ o. then_do o (λ s done. Done (in_memory.intend [] s) done)) (c.in_ok-forall.ensures.ends done)
-    ∙ ap (λ (f : Framed). Done f.memory done) (sym c.intend-2.ensures)
+    ∙ ap (λ (f : Framed). Done f.memory done) (sym c.intend_none.ensures)
 
 pub returns-in_err-forall-clause-ends : goal.returns-in_err-forall-clause-ends
 returns-in_err-forall-clause-ends g c done =
@@ -31,10 +31,10 @@ returns-in_err-forall-clause-ends g c done =
     let rs = c.args.indices in
     let next = c.forall.new.frame.memory in
     let h = c.in_err-forall.field-0.0 in
-    let may = g.G.Gate.may_refuse c.args.gate.now in
-    let p = err_from_is_err_and c.from_residual.result c.from_residual.ensures.1 in
+    let may = g.C.Gate.may_refuse c.args.crew.now in
+    let p = err_from_is_err_and c.from_residual-in_err-forall.result c.from_residual-in_err-forall.ensures.1 in
     rw (p.1, p.2)
     (halts-where (MayRefuse may c.dealt-map.result rs) _ h next done _ (subst (λ map. MayRefuse may map rs) (c.dealt-map.ensures ∙ ap (λ p. dealt_by c.args.frame.now p (written_among body)) c.origin.ensures))
     (halts-alike _ h next next done _ _
-    (ap (λ (f : Framed). then_do (in_order (named_turn (index_turn f.limits names body)) (indices_in rs) f.memory done) (λ s done. Done (in_memory.intend [] s) done)) (sym c.intend.ensures))
+    (ap (λ (f : Framed). then_do (in_order (named_turn (index_turn f.limits names body)) (indices_in rs) f.memory done) (λ s done. Done (in_memory.intend [] s) done)) (sym c.in_ok-intend.ensures.intended))
     (then_do-halts _ h next next done _ (λ s done. Done (in_memory.intend [] s) done) (c.in_err-forall.ensures.ends done))))
