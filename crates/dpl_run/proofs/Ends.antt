@@ -26,6 +26,7 @@ use Rattle.dpl_run.specs.Runs.{RanTo}
 pub refused-may : (may : Type 0) (h : Stop) (s : Memory) (done : Deeds) (o : Outcome Memory) → h ≡ stop.Gate → RunsTo may (Err h) s done o → may
 refused-may may (stop.Fault f) s done o is ends = absurd (let no : stop.Fault f ≡ stop.Gate = is in cc)
 refused-may may stop.Memory s done o is ends = absurd (let no : stop.Memory ≡ stop.Gate = is in cc)
+refused-may may stop.Thread s done o is ends = absurd (let no : stop.Thread ≡ stop.Gate = is in cc)
 refused-may may stop.Gate s done o is ends = ends
 
 module _ (may : Type 0) (limits : Limits) (scopes : Scopes) (ts : Stmts Text) (steps : Stmts Variable) (words last : Memory) (none out : List ℕ) (empty : none ≡ []) where

@@ -20,8 +20,10 @@ IsCause text sets stage.Memory = Unit {0}
 abbrev pub IsRejection : Refusal → Outcome → List ℕ → Type 0
 IsRejection r o said = (o ≡ Rejected r) × (said ≡ refusal_text r ++ 10 ∷ [])
 
--- why a run came to no outcome before anything was written: memory ran out, or a gate refused an entry, as it may
+-- why a run came to no outcome before anything was written: memory ran out, a worker was not started, or a gate refused an entry, as it
+-- may
 abbrev pub IsUnwritten : Type 0 → Refused → Type 0
 IsUnwritten may refused.Memory = Unit {0}
+IsUnwritten may refused.Thread = Unit {0}
 IsUnwritten may refused.Gate = may
 IsUnwritten may refused.Writer = ⊥

@@ -124,7 +124,7 @@ pub(crate) fn collect(
     stmts: &[Stmt<'_>],
     frame: Frame,
 ) -> Result<Left, AllocError>
-    ensures { IfOk result (λ left. left ≡ held_frame scopes.now frame.entry.memory (declared_names (stmts_of stmts.now))) }
+    ensures { IfOk result (λ left. left ≡ held_frame scopes.now frame.memory (declared_names (stmts_of stmts.now))) }
 {
     let named = names(alloc, scopes, stmts, &frame)?;
     Left::new(alloc, frame.into_arrays(), named)

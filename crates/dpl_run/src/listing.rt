@@ -98,6 +98,7 @@ pub fn dump<W: Out>(alloc: Global, left: &Left, out: &mut W) -> Result<(), Refus
     ensures written { OnOk result (Appends (W.contents out.old) (W.contents out.new) (dumped left.now)) }
     ensures unfailed { OnOk result (W.has_failed out.new ≡ false) }
     ensures memory { result ≡ Err Refused.Memory → Keeps (W.contents out.old) (W.contents out.new) × (W.has_failed out.new ≡ false) }
+    ensures thread { result ≢ Err Refused.Thread }
     ensures gate { result ≢ Err Refused.Gate }
     ensures writer { result ≡ Err Refused.Writer → (W.has_failed out.new ≡ true) × Partly (W.contents out.old) (W.contents out.new) (dumped left.now) }
 {

@@ -14,6 +14,8 @@ use std::fmt;
 pub enum Refused {
     /// `M1`: out of memory. Nothing was written.
     Memory,
+    /// `M2`: a worker was not started. Nothing was written.
+    Thread,
     /// `G1`: the gate refused an entry. Nothing was written.
     Gate,
     /// `W1`: the writer failed. It had taken the first bytes of what the run writes, perhaps none.
@@ -26,6 +28,7 @@ impl fmt::Display for Refused {
     fn fmt<W: fmt::Write>(&self, f: &mut fmt::Formatter<W>) -> fmt::Result {
         match self {
             Refused::Memory => f.write_str("M1"),
+            Refused::Thread => f.write_str("M2"),
             Refused::Gate => f.write_str("G1"),
             Refused::Writer => f.write_str("W1"),
         }

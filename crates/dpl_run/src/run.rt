@@ -28,6 +28,8 @@ use dpl_program::run as run_steps;
 use dpl_scopes::Scopes;
 use dpl_tree::Stmt;
 use std::alloc::Global;
+use std::sync::Wait;
+use std::thread::Threads;
 
 /// What a run came to, and all that it writes.
 #[derive(Drop)]
@@ -40,8 +42,9 @@ pub(crate) struct Ended {
 /// have the names that they leave.
 ///
 /// # Errors
-/// Out of memory; or the gate refused an entry.
-pub(crate) fn run<'t, G: Gate>(
+/// Out of memory; a worker was not started; or the gate refused an entry.
+pub(crate) fn run<'t, R: Threads + Wait + Sync, G: Gate + Sync>(
+    rt: &R,
     alloc: Global,
     steps: &[Step<'t>],
     mut frame: Frame,
@@ -50,12 +53,12 @@ pub(crate) fn run<'t, G: Gate>(
     gate: &G,
 ) -> Result<Ended, Refused>
     ensures ends { IfOk result (λ ended. AreKnownScopes scopes.now → AreLeft scopes.now
-        → RanTo scopes.now (stmts_of stmts.now) (exec_all frame.entry.limits in_memory
-        (steps_in Outside steps.now) frame.entry.memory no_deeds) ended.outcome ended.text.items) }
+        → RanTo scopes.now (stmts_of stmts.now) (exec_all frame.limits in_memory
+        (steps_in Outside steps.now) frame.memory no_deeds) ended.outcome ended.text.items) }
     ensures unwritten { IfErr result (IsUnwritten (MayRefuseSome (G.may_refuse gate.now))) }
 {
     let mut text = Vec::new(alloc);
-    match run_steps(steps, &mut frame, gate, &mut text) {
+    match run_steps(rt, steps, &mut frame, gate, &mut text) {
         Ok(()) => {
             let left = collect(alloc, scopes, stmts, frame)?;
             let outcome = Outcome::Done(left);
@@ -67,6 +70,7 @@ pub(crate) fn run<'t, G: Gate>(
             Ok(Ended { outcome, text })
         }
         Err(Stop::Memory) => Err(Refused::Memory),
+        Err(Stop::Thread) => Err(Refused::Thread),
         Err(Stop::Gate) => Err(Refused::Gate),
     }
 }

@@ -48,6 +48,8 @@ use dpl_planner::{Planned, plan};
 use dpl_syntax::{Code, Refusal, Stop, Token};
 use dpl_tree::{Arena, Program, Stmt};
 use std::alloc::{AllocError, Global};
+use std::sync::Wait;
+use std::thread::Threads;
 
 // A refused text writes its refusal's line alone.
 fn reject(alloc: Global, refusal: Refusal) -> Result<Ended, AllocError>
@@ -80,7 +82,8 @@ fn tree_refusal<'t>(
 }
 
 // The run of a plan, in a frame that has what the sets give.
-fn run_planned<'t, G: Gate>(
+fn run_planned<'t, R: Threads + Wait + Sync, G: Gate + Sync>(
+    rt: &R,
     arena: Arena<'t>,
     planned: Planned<'_, 't>,
     stmts: &[Stmt<'_>],
@@ -101,11 +104,12 @@ fn run_planned<'t, G: Gate>(
     } = planned;
     let words = given(alloc, &scopes, sets)?;
     let frame = first_frame(alloc, slots, &words, config)?;
-    run(alloc, steps, frame, &scopes, stmts, gate)
+    run(rt, alloc, steps, frame, &scopes, stmts, gate)
 }
 
 // The run of a program that has no refusal: such a program runs, so that the planner doesn't refuse it.
-fn run_program<'t, G: Gate>(
+fn run_program<'t, R: Threads + Wait + Sync, G: Gate + Sync>(
+    rt: &R,
     arena: Arena<'t>,
     program: &Program<'t>,
     sets: &[&str],
@@ -120,7 +124,7 @@ fn run_program<'t, G: Gate>(
     ensures unwritten { IfErr result (IsUnwritten (MayRefuseSome (G.may_refuse gate.now))) }
 {
     match plan(arena, program) {
-        Ok(planned) => run_planned(arena, planned, program.stmts, sets, config, gate),
+        Ok(planned) => run_planned(rt, arena, planned, program.stmts, sets, config, gate),
         Err(NoNode::Memory) => Err(Refused::Memory),
         Err(NoNode::IllTyped) => unreachable!(),
     }
@@ -128,7 +132,8 @@ fn run_program<'t, G: Gate>(
 
 // The run of a text's program, or the text's refusal. The tokens are dropped at the end, since the tree points into the text
 // alone.
-fn stages<G: Gate>(
+fn stages<R: Threads + Wait + Sync, G: Gate + Sync>(
+    rt: &R,
     alloc: Global,
     text: &[u8],
     sets: &[&str],
@@ -147,12 +152,13 @@ fn stages<G: Gate>(
     let program = parse(arena, slice)?;
     match tree_refusal(arena, slice, &program, sets)? {
         Some(refusal) => Err(Stop::Refused(refusal)),
-        None => Ok(run_program(arena, &program, sets, config, gate)),
+        None => Ok(run_program(rt, arena, &program, sets, config, gate)),
     }
 }
 
 // What a text comes to: the run of its program, or its refusal.
-fn outcome<G: Gate>(
+fn outcome<R: Threads + Wait + Sync, G: Gate + Sync>(
+    rt: &R,
     alloc: Global,
     text: &[u8],
     sets: &[&str],
@@ -163,7 +169,7 @@ fn outcome<G: Gate>(
         → ComesTo text.now (map (λ set. set.now) sets.now) (limits_of config.now) histories ended.outcome ended.text.items) }
     ensures unwritten { IfErr result (IsUnwritten (MayRefuseSome (G.may_refuse gate.now))) }
 {
-    match stages(alloc, text, sets, config, gate) {
+    match stages(rt, alloc, text, sets, config, gate) {
         Ok(ran) => ran,
         Err(Stop::Refused(refusal)) => Ok(reject(alloc, refusal)?),
         Err(Stop::Memory) => Err(Refused::Memory),
@@ -178,9 +184,9 @@ fn outcome<G: Gate>(
 /// run has ended, and goes to `out`, which must not have failed before.
 ///
 /// # Errors
-/// Out of memory, or the gate refused an entry, and nothing was written; or the writer failed, and it holds the first bytes of
+/// Out of memory, a worker was not started, or the gate refused an entry, and nothing was written; or the writer failed, and it holds the first bytes of
 /// what the text writes.
-pub fn run_text<R: Sync, G: Gate + Sync, W: Out>(
+pub fn run_text<R: Threads + Wait + Sync, G: Gate + Sync, W: Out>(
     rt: &R,
     alloc: Global,
     text: &[u8],
@@ -200,6 +206,9 @@ pub fn run_text<R: Sync, G: Gate + Sync, W: Out>(
     // Without memory nothing was written.
     ensures memory { result ≡ Err Refused.Memory
         → Keeps (W.contents out.old) (W.contents out.new) × (W.has_failed out.new ≡ false) }
+    // Nothing was written where a worker was not started.
+    ensures thread { result ≡ Err Refused.Thread
+        → Keeps (W.contents out.old) (W.contents out.new) × (W.has_failed out.new ≡ false) }
     // The gate refused an entry only where it may. Nothing was written.
     ensures gate { result ≡ Err Refused.Gate → MayRefuseSome (G.may_refuse gate.now)
         × Keeps (W.contents out.old) (W.contents out.new) × (W.has_failed out.new ≡ false) }
@@ -208,7 +217,6 @@ pub fn run_text<R: Sync, G: Gate + Sync, W: Out>(
         × ((outcome : Outcome) × (said : List ℕ) × Says text.now (map (λ set. set.now) sets.now) (limits_of config.now) outcome said
         × Partly (W.contents out.old) (W.contents out.new) said) }
 {
-    let _ = rt;
-    let ended = outcome(alloc, text, sets, config, gate)?;
+    let ended = outcome(rt, alloc, text, sets, config, gate)?;
     deliver(ended, out)
 }

@@ -24,19 +24,19 @@ returns-in_err-program-clause-stops g c =
     (parse-stops c.args.text.now (map (λ set. set.now) c.args.sets.now) c.as_slice-slice.result.now c.in_err-program.field-0.0 lexes (λ r is. c.in_err-program.ensures.refused r (ap Err is)))
 
 pub run_program-requires-clause-untasked : goal.run_program-requires-clause-untasked
-run_program-requires-clause-untasked g c =
+run_program-requires-clause-untasked g c κs within =
     let lexes : Lexes c.args.text.now c.as_slice-slice.result.now = subst (Lexes c.args.text.now) (sym c.as_slice-slice.ensures.value) c.in_ok-tokens.ensures.found in
     let is : IsProgram c.args.text.now (map (λ set. set.now) c.args.sets.now) (program_view c.in_ok-program.program) = record { tokens = c.as_slice-slice.result.now; lexes = lexes; spells = c.in_ok-program.ensures.found; unrefused = sym c.in_ok-refusal.ensures ∙ c.in-None.is } in
     program-untasked c.args.text.now (map (λ set. set.now) c.args.sets.now) (program_view c.in_ok-program.program) is
 
 pub run_program-requires-clause-unrefused : goal.run_program-requires-clause-unrefused
-run_program-requires-clause-unrefused g c =
+run_program-requires-clause-unrefused g c κs within =
     let lexes : Lexes c.args.text.now c.as_slice-slice.result.now = subst (Lexes c.args.text.now) (sym c.as_slice-slice.ensures.value) c.in_ok-tokens.ensures.found in
     let is : IsProgram c.args.text.now (map (λ set. set.now) c.args.sets.now) (program_view c.in_ok-program.program) = record { tokens = c.as_slice-slice.result.now; lexes = lexes; spells = c.in_ok-program.ensures.found; unrefused = sym c.in_ok-refusal.ensures ∙ c.in-None.is } in
     program-unrefused c.args.text.now (map (λ set. set.now) c.args.sets.now) (program_view c.in_ok-program.program) is
 
 pub run_program-requires-clause-runnable : goal.run_program-requires-clause-runnable
-run_program-requires-clause-runnable g c =
+run_program-requires-clause-runnable g c κs within =
     let lexes : Lexes c.args.text.now c.as_slice-slice.result.now = subst (Lexes c.args.text.now) (sym c.as_slice-slice.ensures.value) c.in_ok-tokens.ensures.found in
     let is : IsProgram c.args.text.now (map (λ set. set.now) c.args.sets.now) (program_view c.in_ok-program.program) = record { tokens = c.as_slice-slice.result.now; lexes = lexes; spells = c.in_ok-program.ensures.found; unrefused = sym c.in_ok-refusal.ensures ∙ c.in-None.is } in
     program-runs c.args.text.now (map (λ set. set.now) c.args.sets.now) (program_view c.in_ok-program.program) is
