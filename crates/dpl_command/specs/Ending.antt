@@ -5,7 +5,7 @@ use Rattle.std.specs.Io.KnownBytes.{Appends, Keeps}
 use Rattle.std.specs.declared.io.ErrorKind.{ErrorKind}
 use Rattle.dpl_run.specs.declared.outcome.Outcome.{Outcome}
 use Rattle.dpl_run.specs.declared.refused.Refused.{Refused}
-use Rattle.dpl_run.specs.declared.refused.Refused.TheVariants.{Memory, Gate, Writer}
+use Rattle.dpl_run.specs.declared.refused.Refused.TheVariants.{Memory, Thread, Gate, Writer}
 use Rattle.dpl_run.specs.Headline.{Says}
 use Rattle.dpl_run.specs.Settings.{Settings, limits_of}
 use Rattle.dpl_run.specs.Writers.{Partly}
@@ -18,11 +18,13 @@ abbrev pub IsTextOf : Option (List ℕ) → List ℕ → Type 0
 IsTextOf input text = IfSome input (λ bytes. text ≡ take 1048577 bytes)
 
 -- What the text says by these sets and these settings is what became of it, and was written. Without memory nothing was
--- written, and of what a writer failed to take the first bytes. The program's gate refuses nothing. A text that is there was read.
+-- written, nor where a worker was not started, and of what a writer failed to take the first bytes. The program's gate refuses nothing.
+-- A text that is there was read.
 abbrev pub IsRunOf : List ℕ → List (List ℕ) → Settings → Option (List ℕ) → Option (List ℕ) → Ended → Type 0
 IsRunOf text sets settings old new (Ran o) =
     (said : List ℕ) × Appends old new said × Says text sets (limits_of settings) o said
 IsRunOf text sets settings old new (Failed Memory) = Keeps old new
+IsRunOf text sets settings old new (Failed Thread) = Keeps old new
 IsRunOf text sets settings old new (Failed Gate) = ⊥
 IsRunOf text sets settings old new (Failed Writer) =
     (o : Outcome) × (said : List ℕ) × Says text sets (limits_of settings) o said × Partly old new said
@@ -46,6 +48,7 @@ IsMore true ended more = IsUntold ended → more ≡ []
 -- why not all of these bytes could be written: memory ran out, and none were; or the writer failed, and took the first of them
 abbrev pub IsCutBy : List ℕ → Option (List ℕ) → Option (List ℕ) → Bool → Refused → Type 0
 IsCutBy bytes old new failed Memory = Keeps old new
+IsCutBy bytes old new failed Thread = ⊥
 IsCutBy bytes old new failed Gate = ⊥
 IsCutBy bytes old new failed Writer = (failed ≡ true) × Partly old new bytes
 

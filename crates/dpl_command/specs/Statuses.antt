@@ -4,15 +4,16 @@ use Rattle.std.specs.declared.io.ErrorKind.{ErrorKind}
 use Rattle.std.specs.declared.io.ErrorKind.TheVariants.{OutOfMemory}
 use Rattle.dpl_run.specs.declared.outcome.Outcome.TheVariants.{Done, Stopped, Rejected}
 use Rattle.dpl_run.specs.declared.refused.Refused.{Refused}
-use Rattle.dpl_run.specs.declared.refused.Refused.TheVariants.{Memory, Gate, Writer}
+use Rattle.dpl_run.specs.declared.refused.Refused.TheVariants.{Memory, Thread, Gate, Writer}
 use Rattle.dpl_run.specs.Refusals.{refused_text}
 use Rattle.dpl_says.specs.Dump.{dumped}
 use Rattle.dpl_command.specs.declared.ended.Ended.{Ended}
 use Rattle.dpl_command.specs.declared.ended.Ended.TheVariants.{Ran, Failed, Unread}
 
--- out of memory, or a gate that refused; a writer that failed
+-- out of memory, a worker that was not started, or a gate that refused; a writer that failed
 abbrev pub refused_status : Refused → ℕ
 refused_status Memory = 3
+refused_status Thread = 3
 refused_status Gate = 3
 refused_status Writer = 4
 

@@ -36,7 +36,7 @@ fn refused_status(refused: Refused) -> u8
     ensures { result ≡ refused_status refused }
 {
     match refused {
-        Refused::Memory | Refused::Gate => 3,
+        Refused::Memory | Refused::Thread | Refused::Gate => 3,
         Refused::Writer => 4,
     }
 }
@@ -63,6 +63,7 @@ pub(crate) fn refused_line(refused: Refused) -> &'static str
 {
     match refused {
         Refused::Memory => "dpl: M1\n",
+        Refused::Thread => "dpl: M2\n",
         Refused::Gate => "dpl: G1\n",
         Refused::Writer => "dpl: W1\n",
     }

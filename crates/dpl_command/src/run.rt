@@ -14,6 +14,8 @@ use dpl_run::{Config, Maps, OpenGate, Out, run_text};
 use dpl_settings::{RootMaps, Settings};
 use std::alloc::Global;
 use std::io;
+use std::sync::Wait;
+use std::thread::Threads;
 
 // How often a blocked cell is tried.
 const TRIES: u64 = 100000000;
@@ -45,7 +47,7 @@ fn config_of(asked: &Settings<'_>) -> Config
 }
 
 // Runs a text with the sets and by the settings that are asked for.
-fn run_bytes<R: Sync, W: Out>(
+fn run_bytes<R: Threads + Wait + Sync, W: Out>(
     rt: &R,
     alloc: Global,
     text: &[u8],
@@ -64,7 +66,7 @@ fn run_bytes<R: Sync, W: Out>(
 }
 
 // Runs the text that was read. Where an error kept it from being read nothing is run.
-fn run_read<R: Sync, W: Out>(
+fn run_read<R: Threads + Wait + Sync, W: Out>(
     rt: &R,
     alloc: Global,
     read: &io::Result<Vec<u8>>,
@@ -84,7 +86,7 @@ fn run_read<R: Sync, W: Out>(
 
 /// Runs the text that `read_text` has read by the settings asked for, and tells what became of it; to a person, where `shown` says
 /// that one reads the errors, in words too. What kept a text from being read is told by its kind.
-pub fn program<R: Sync, W: Out, E: Out>(
+pub fn program<R: Threads + Wait + Sync, W: Out, E: Out>(
     rt: &R,
     alloc: Global,
     read: &io::Result<Vec<u8>>,

@@ -22,6 +22,7 @@ returns-in-Ok g c =
 pub returns-in-Err : goal.returns-in-Err
 returns-in-Err g c = IsRunOf-refused c.args.text.now (map (λ set. set.now) c.args.asked.now.sets.items) (settings_of c.args.asked.now) _ _ c.in-Err.refused
     (λ p. (c.in-Err.ensures.memory (ap Err p)).0)
+    (λ p. (c.in-Err.ensures.thread (ap Err p)).0)
     (λ p. let may = (c.in-Err.ensures.gate (ap Err p)).0 in may.2)
     (λ p. let w = (c.in-Err.ensures.writer (ap Err p)).1 in (
       w.0,
