@@ -22,8 +22,8 @@ pub trait Crew: Gate {
     /// A forall over a domain, dealt out by a map. For each turn the owner of its index enters the gate, unless the gate is open.
     ///
     /// # Errors
-    /// The fault of the first turn that has one, with its turn; out of memory; or the gate refused an entry, which it may. Where the
-    /// gate refused and where memory ran out, nothing is said of the frame's memory.
+    /// The fault of the first turn that has one, with its turn; out of memory; a worker was not started; or the gate refused an entry,
+    /// which it may. Where it ended for another cause than a fault, nothing is said of the frame's memory.
     fn forall<T: Turns + Sync>(
         &self,
         turns: &T,
