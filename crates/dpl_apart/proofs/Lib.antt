@@ -15,6 +15,9 @@ pub mod AnyOrder
 -- Turns over memories.
 pub mod Memories
 pub mod Foralls
+-- Workers.
+pub mod Shares
+pub mod Rejoined
 -- Rows.
 pub mod Worked
 pub mod WorkedForalls
