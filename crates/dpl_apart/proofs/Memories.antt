@@ -287,7 +287,7 @@ words-set (p ∷ ps) r x (w ∷ ws) numbers among long = by (r == p.0) refl amon
       let other : p.0 ≢ r = grind (arith, nat_tests) in
       rw e (set_comm (with_words ps ws numbers) p.0 r w x other ∙ ap (λ ns. set ns p.0 w) (rest among))
 
-values-set : (slots : List ℕ) (value : ℕ → ℤ) (numbers : List ℤ) (r : ℕ) (x : ℤ) → is_among r slots ≡ false → set (with_values slots value numbers) r x ≡ with_values slots value (set numbers r x)
+pub values-set : (slots : List ℕ) (value : ℕ → ℤ) (numbers : List ℤ) (r : ℕ) (x : ℤ) → is_among r slots ≡ false → set (with_values slots value numbers) r x ≡ with_values slots value (set numbers r x)
 values-set [] value numbers r x h = refl
 values-set (i ∷ is) value numbers r x h = by (r == i) refl h (values-set is value numbers r x) where
   by : (c : Bool) → (r == i) ≡ c → (c || is_among r is) ≡ false → (is_among r is ≡ false → set (with_values is value numbers) r x ≡ with_values is value (set numbers r x))

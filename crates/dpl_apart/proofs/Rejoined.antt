@@ -115,21 +115,21 @@ words-beside (p ∷ ps) (w ∷ ws) numbers r x h = by (r == p.0) refl h (words-b
   by false e h rest = let other : r ≢ p.0 = grind (arith, nat_tests) in ap (λ ns. set ns p.0 w) (rest h) ∙ set_comm (with_words ps ws numbers) r p.0 x w other
 
 -- words that are put where there were others
-words-twice : (ps : List (ℕ × Op)) (as ws numbers : List ℤ) → length as ≡ length ps → AreOnce (map (λ (p : ℕ × Op). p.0) ps) → with_words ps as (with_words ps ws numbers) ≡ with_words ps as numbers
-words-twice [] as ws numbers long apart = refl
+words-twice : (ps : List (ℕ × Op)) (vs ws numbers : List ℤ) → length vs ≡ length ps → AreOnce (map (λ (p : ℕ × Op). p.0) ps) → with_words ps vs (with_words ps ws numbers) ≡ with_words ps vs numbers
+words-twice [] vs ws numbers long apart = refl
 words-twice (p ∷ ps) [] ws numbers long apart = absurd (omega (arith, long))
-words-twice (p ∷ ps) (a ∷ as) [] numbers long apart = refl
-words-twice (p ∷ ps) (a ∷ as) (w ∷ ws) numbers long apart =
-    ap (λ ns. set ns p.0 a) (words-beside ps as (with_words ps ws numbers) p.0 w apart.0) ∙ set-set (with_words ps as (with_words ps ws numbers)) p.0 w a
-    ∙ ap (λ ns. set ns p.0 a) (words-twice ps as ws numbers (omega (arith, long)) apart.1)
+words-twice (p ∷ ps) (a ∷ vs) [] numbers long apart = refl
+words-twice (p ∷ ps) (a ∷ vs) (w ∷ ws) numbers long apart =
+    ap (λ ns. set ns p.0 a) (words-beside ps vs (with_words ps ws numbers) p.0 w apart.0) ∙ set-set (with_words ps vs (with_words ps ws numbers)) p.0 w a
+    ∙ ap (λ ns. set ns p.0 a) (words-twice ps vs ws numbers (omega (arith, long)) apart.1)
 
 -- and words beside values in other slots
-words-values : (slots : List ℕ) (value : ℕ → ℤ) (ps : List (ℕ × Op)) (as numbers : List ℤ) → AllByRecursion (λ (p : ℕ × Op). is_among p.0 slots ≡ false) ps
-    → with_words ps as (with_values slots value numbers) ≡ with_values slots value (with_words ps as numbers)
-words-values slots value [] as numbers stay = refl
+words-values : (slots : List ℕ) (value : ℕ → ℤ) (ps : List (ℕ × Op)) (vs numbers : List ℤ) → AllByRecursion (λ (p : ℕ × Op). is_among p.0 slots ≡ false) ps
+    → with_words ps vs (with_values slots value numbers) ≡ with_values slots value (with_words ps vs numbers)
+words-values slots value [] vs numbers stay = refl
 words-values slots value (p ∷ ps) [] numbers stay = refl
-words-values slots value (p ∷ ps) (a ∷ as) numbers stay =
-    ap (λ ns. set ns p.0 a) (words-values slots value ps as numbers stay.1) ∙ values-set slots value (with_words ps as numbers) p.0 a stay.0
+words-values slots value (p ∷ ps) (a ∷ vs) numbers stay =
+    ap (λ ns. set ns p.0 a) (words-values slots value ps vs numbers stay.1) ∙ values-set slots value (with_words ps vs numbers) p.0 a stay.0
 
 -- ---- what workers add
 -- the words of workers put to others, one worker after another
