@@ -18,6 +18,8 @@ pub mod Foralls
 -- Workers.
 pub mod Shares
 pub mod Rejoined
+pub mod Least
+pub mod Workers
 -- Rows.
 pub mod Worked
 pub mod WorkedForalls

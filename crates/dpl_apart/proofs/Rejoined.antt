@@ -13,7 +13,7 @@ use Rattle.dpl_apart.specs.Operands.{combined_words, all_combined, unit_words, A
 use Rattle.dpl_apart.specs.Rows.{part_of, is_owned, gathered, all_joined, AreOnce}
 use Rattle.dpl_apart.specs.Apart.{last_index}
 use Rattle.dpl_apart.specs.Memories.{Changes, Row, IsFormed, held_by, held_by_if, with_elements, with_words, words_in, operators_of, with_values, held_in, row_in}
-use Rattle.dpl_apart.specs.Workers.{owned_piece, worker_memory, left_by, rejoined, rejoined_if, rejoined_from, word_joined, words_joined, together}
+use Rattle.dpl_apart.specs.Workers.{worker_memory, locales, left_by, rejoined_if, rejoined_from, word_joined, words_joined, together}
 use Rattle.dpl_apart.proofs.Indices.{same_index-refl}
 use Rattle.dpl_apart.proofs.ReduceWords.{reduce_words}
 use Rattle.dpl_apart.proofs.Split.{each-weaker}
@@ -21,9 +21,6 @@ use Rattle.dpl_apart.proofs.Memories.{map-same, element-here, element-length, he
 use Rattle.dpl_apart.proofs.Shares.{filter-listed, share-written, worker-formed}
 
 -- ---- the worker of a locale
-abbrev pub locales : List (ℕ × Memory) → List ℕ
-locales ws = map (λ (w : ℕ × Memory). w.0) ws
-
 -- what is so of each worker is so of a locale's, where it has one
 pub of-left : (P : ℕ × Memory → Type 0) (ws : List (ℕ × Memory)) (m : Memory) (l : ℕ) → AllByRecursion P ws → list_any (λ k. l == k) (locales ws) ≡ true → P (l, left_by l ws m)
 of-left P [] m l all among = absurd cc
@@ -64,7 +61,7 @@ or-true true = refl
 or-true false = refl
 
 -- the indices of a list are listed
-all-listed : (ts : List Index) → AllByRecursion (λ t. list_any (same_index t) ts ≡ true) ts
+pub all-listed : (ts : List Index) → AllByRecursion (λ t. list_any (same_index t) ts ≡ true) ts
 all-listed [] = tt
 all-listed (x ∷ xs) = (
   rw (same_index-refl x) refl,

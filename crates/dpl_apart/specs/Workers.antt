@@ -1,7 +1,8 @@
 -- The memories of workers, each of which makes the turns of the indices that a locale owns: what they begin with, and what they leave together.
-use Rattle.std.specs.Prelude.{◌≡◌, ℕ, ◌+◌, ◌==◌, ℤ, pos, Bool, true, false, if◌then◌else◌, Option, Some, None, List, [], ◌∷◌, get_or, map, filter, unwrap_or}
+use Rattle.std.specs.Prelude.{◌≡◌, ℕ, ◌+◌, ◌==◌, ℤ, pos, Bool, true, false, if◌then◌else◌, Option, Some, None, Result, Ok, Err, List, [], ◌∷◌, get_or, map, filter, unwrap_or}
 use Rattle.dpl_language.specs.Tree.{Op}
-use Rattle.dpl_language.specs.Values.{Index}
+use Rattle.dpl_language.specs.Values.{Index, Fault}
+use Rattle.dpl_language.specs.Outcome.{Deeds, Outcome, Done, Stop}
 use Rattle.dpl_memory.specs.Memory.{Held, Memory, held_at, array_at, is_among}
 use Rattle.dpl_apart.specs.Operands.{combined_words, unit_words}
 use Rattle.dpl_apart.specs.Memories.{Changes, with_words, words_in, operators_of}
@@ -31,7 +32,16 @@ worker_memory h owns l m = record m {
   arrays = shares_from 0 h.written owns l m.arrays;
 }
 
--- WHAT WORKERS LEAVE TOGETHER, each by its locale
+-- HOW WORKERS END, each by its locale
+abbrev pub locales : {A : Type 0} → List (ℕ × A) → List ℕ
+locales {A} ws = map (λ (w : ℕ × A). w.0) ws
+
+-- a worker's turns leave a memory, or one of them stops with a fault
+abbrev pub worker_end : Result Memory Fault → Deeds → Outcome Memory
+worker_end (Ok u) done = Done u done
+worker_end (Err f) done = Stop f done
+
+-- WHAT WORKERS LEAVE TOGETHER
 -- the memory of a locale's worker; where it has none, a memory as it was
 abbrev pub left_by : ℕ → List (ℕ × Memory) → Memory → Memory
 left_by l [] m = m
