@@ -18,6 +18,7 @@ pub mod Foralls
 -- Workers.
 pub mod Shares
 pub mod Rejoined
+pub mod Shared
 pub mod Least
 pub mod Workers
 -- Rows.

@@ -56,7 +56,7 @@ last-each P t [] last all before e = before e
 last-each P t (x ∷ xs) last all before e = last-each P t xs (Some x) all.1 (λ same. let is : x ≡ t = cc in subst P is all.0) e
 
 -- ---- arrays by slots
-or-true : (c : Bool) → (c || true) ≡ true
+pub or-true : (c : Bool) → (c || true) ≡ true
 or-true true = refl
 or-true false = refl
 
