@@ -24,3 +24,4 @@ pub mod Workers
 -- Rows.
 pub mod Worked
 pub mod WorkedForalls
+pub mod WorkedWorkers

@@ -1,6 +1,6 @@
 -- What workers leave together is what the turns leave: of each index what its owner has left, of the reduce variables what all have added, and
 -- besides what the worker of the last index has left.
-use Rattle.std.proofs.Common.{eqb-true, ◌≡◌, ◌≢◌, ℕ, zero, suc, ◌+◌, ◌<◌, ◌==◌, Bool, true, false, cond, ℤ, pos, List, [], ◌∷◌, Option, Some, None, map, length, get_or, set, refl, sym, ap, ◌∙◌, subst, arith}
+use Rattle.std.proofs.Common.{eqb-true, ◌≡◌, ◌≢◌, ℕ, zero, suc, ◌+◌, ◌==◌, Bool, true, false, cond, ℤ, pos, List, [], ◌∷◌, Option, Some, None, map, length, get_or, set, refl, sym, ap, ◌∙◌, subst, arith}
 use Rattle.std.specs.Prelude.{if◌then◌else◌, unwrap_or, ◌||◌}
 use Rattle.std.specs.List.{AllByRecursion, list_any, filter}
 use Rattle.std.proofs.lemmas.Bool.Decides.{nat_tests}
@@ -12,12 +12,12 @@ use Rattle.dpl_memory.specs.Memory.{Held, Memory, no_array, array_at, held_at, i
 use Rattle.dpl_apart.specs.Operands.{combined_words, all_combined, unit_words, AreExact}
 use Rattle.dpl_apart.specs.Rows.{part_of, is_owned, gathered, all_joined, AreOnce}
 use Rattle.dpl_apart.specs.Apart.{last_index}
-use Rattle.dpl_apart.specs.Memories.{Changes, Row, IsFormed, held_by, held_by_if, with_elements, with_words, words_in, operators_of, with_values, held_in, row_in}
+use Rattle.dpl_apart.specs.Memories.{Changes, Row, IsFormed, held_by_if, with_elements, with_words, words_in, operators_of, with_values, held_in, row_in}
 use Rattle.dpl_apart.specs.Workers.{worker_memory, locales, left_by, rejoined_if, rejoined_from, word_joined, words_joined, together}
 use Rattle.dpl_apart.proofs.Indices.{same_index-refl}
 use Rattle.dpl_apart.proofs.ReduceWords.{reduce_words}
 use Rattle.dpl_apart.proofs.Split.{each-weaker}
-use Rattle.dpl_apart.proofs.Memories.{map-same, element-here, element-length, held-element, held-words, words-length, values-set}
+use Rattle.dpl_apart.proofs.Memories.{map-same, element-here, element-length, held-element, held-words, values-set}
 use Rattle.dpl_apart.proofs.Shares.{filter-listed, share-written, worker-formed}
 
 -- ---- the worker of a locale

@@ -1,35 +1,26 @@
 -- A loop whose turns may be made apart is what the workers of some locales come to, each over its share of the memory: where these locales own
 -- all of its indices.
-use Rattle.std.proofs.Common.{◌≡◌, ℕ, zero, suc, ◌<◌, ◌≤◌, ◌==◌, ◌||◌, Bool, true, false, cond, ℤ, List, [], ◌∷◌, Option, Some, None, Result, Ok, Err, map, length, slice_get, refl, sym, ap, ◌∙◌, subst, arith}
-use Rattle.std.specs.List.{All, AllByRecursion, list_any, filter}
+use Rattle.std.proofs.Common.{◌≡◌, ℕ, ◌<◌, ◌==◌, true, false, ℤ, List, [], ◌∷◌, None, map, refl, sym, ap, ◌∙◌, subst, arith}
+use Rattle.std.specs.List.{AllByRecursion, list_any}
 use Rattle.std.proofs.lemmas.Bool.Decides.{nat_tests}
-use Rattle.std.proofs.lemmas.List.Elements.{All-from_recursion, recursion_from_All}
-use Rattle.std.proofs.lemmas.Option.{none-some, same_Some}
-use Rattle.dpl_sets.specs.Ranges.{RangeValue}
-use Rattle.dpl_sets.specs.Indices.{indices}
-use Rattle.dpl_domain.proofs.DistinctLemmas.{AreRanges, indices-distinct}
-use Rattle.dpl_map.specs.Maps.{AxisValue, owner}
-use Rattle.dpl_map.specs.Parts.{part}
-use Rattle.dpl_language.specs.Tree.{Op}
-use Rattle.dpl_language.specs.Values.{Index, Fault, InTurn}
+use Rattle.std.proofs.lemmas.List.Elements.{All-from_recursion}
+use Rattle.dpl_language.specs.Values.{Index}
 use Rattle.dpl_language.specs.Ranges.{same_index}
-use Rattle.dpl_language.specs.Outcome.{Deeds, no_deeds, Done, Stop, Run, in_order}
-use Rattle.dpl_language.specs.Loops.{named_turn}
+use Rattle.dpl_language.specs.Outcome.{Deeds, no_deeds, Done, Run, in_order}
 use Rattle.dpl_memory.specs.Memory.{Memory, is_among}
 use Rattle.dpl_apart.specs.Operands.{all_combined, unit_words, AreExact}
-use Rattle.dpl_apart.specs.Rows.{Ran, Finished, Failed, Loop, run, onto, part_of, is_owned, dealt, merged, AreOnce, IsDistinct, place_in, AllAdd, IsReducing}
+use Rattle.dpl_apart.specs.Rows.{Ran, Finished, Failed, Loop, run, onto, part_of, is_owned, dealt, merged, AreOnce, IsDistinct, place_in, AllAdd}
 use Rattle.dpl_apart.specs.Apart.{loop_left, last_index}
 use Rattle.dpl_apart.specs.Memories.{Changes, Row, IsFormed, MayBeApart, KeepApart, IsOfRank, words_in, operators_of, held_in, row_in, turn_alone, loop_in, ran_in}
-use Rattle.dpl_apart.specs.Workers.{worker_memory, locales, worker_end, together}
+use Rattle.dpl_apart.specs.Workers.{worker_memory, locales, together}
 use Rattle.dpl_apart.proofs.ReduceWords.{reduce_words}
 use Rattle.dpl_apart.proofs.Split.{each-filter, each-weaker, all-add, run-alike}
 use Rattle.dpl_apart.proofs.Parts.{run-merged, merged-finished}
-use Rattle.dpl_apart.proofs.Places.{place_in-rising, place_in-at, indices-of-rank}
+use Rattle.dpl_apart.proofs.Places.{place_in-rising}
 use Rattle.dpl_apart.proofs.Located.{of-each}
-use Rattle.dpl_apart.proofs.Foralls.{keep-reducing, in_order-held, HasEnded, worker-done, worker-stopped, stopped-among, named-may, part-owners, each-both}
+use Rattle.dpl_apart.proofs.Foralls.{in_order-held, HasEnded, worker-done, part-owners, each-both}
 use Rattle.dpl_apart.proofs.Shares.{filter-listed, worker-formed, worker-units, worker-like, worker-row}
 use Rattle.dpl_apart.proofs.Rejoined.{HasLeft, together-held, all-listed}
-use Rattle.dpl_apart.proofs.Least.{IsLater, merged-least}
 
 -- ---- lists
 pub each-mapped : {A B : Type 0} (f : A → B) (P : B → Type 0) (xs : List A) → AllByRecursion (λ x. P (f x)) xs → AllByRecursion P (map f xs)

@@ -1,20 +1,20 @@
 -- What workers begin with: a locale's share of a memory is a memory in which its turns may be made, and finds there what the whole one has.
-use Rattle.std.proofs.Common.{eqb-true, ◌≡◌, ◌≢◌, ℕ, zero, suc, ◌+◌, ◌<◌, ◌==◌, Bool, true, false, cond, ℤ, pos, List, [], ◌∷◌, Option, Some, None, map, length, get_or, set, slice_get, refl, sym, ap, ◌∙◌, subst, arith}
-use Rattle.std.specs.Prelude.{if◌then◌else◌, unwrap_or, ◌||◌, ◌&&◌, not}
+use Rattle.std.proofs.Common.{eqb-true, ◌≡◌, ◌≢◌, ℕ, zero, suc, ◌+◌, ◌<◌, ◌==◌, Bool, true, false, cond, ℤ, pos, List, [], ◌∷◌, Some, None, map, length, get_or, set, slice_get, refl, sym, ap, ◌∙◌, subst, arith}
+use Rattle.std.specs.Prelude.{if◌then◌else◌, unwrap_or, ◌||◌, not}
 use Rattle.std.specs.List.{AllByRecursion, list_any, filter}
 use Rattle.std.proofs.lemmas.Bool.{and_parts}
 use Rattle.std.proofs.lemmas.Bool.Decides.{nat_tests}
 use Rattle.std.proofs.lemmas.List.{length-map, get_or-set_other}
-use Rattle.std.proofs.lemmas.Option.{none-some, same_Some}
+use Rattle.std.proofs.lemmas.Option.{none-some}
 use Rattle.dpl_language.specs.Tree.{Op}
 use Rattle.dpl_language.specs.Values.{Index}
 use Rattle.dpl_language.specs.Ranges.{same_index}
 use Rattle.dpl_memory.specs.Memory.{Held, Memory, no_array, array_at, word_at, held_at, is_among}
 use Rattle.dpl_apart.specs.Operands.{unit_words}
-use Rattle.dpl_apart.specs.Rows.{AreOnce, IsDistinct}
-use Rattle.dpl_apart.specs.Memories.{Changes, Row, IsPiece, IsFormed, IsLike, is_kept, with_words, words_in, operators_of, row_in}
+use Rattle.dpl_apart.specs.Rows.{IsDistinct}
+use Rattle.dpl_apart.specs.Memories.{Changes, IsPiece, IsFormed, IsLike, is_kept, with_words, words_in, operators_of, row_in}
 use Rattle.dpl_apart.specs.Workers.{owned_piece, owned_if, shares_from, worker_memory}
-use Rattle.dpl_apart.proofs.Indices.{same_index-refl, same_index-sound}
+use Rattle.dpl_apart.proofs.Indices.{same_index-sound}
 use Rattle.dpl_apart.proofs.Places.{distinct-rest, distinct-first}
 use Rattle.dpl_apart.proofs.Memories.{word-found, words-length, words-of}
 

@@ -1,37 +1,33 @@
 -- A forall is what its workers leave together, each of which makes the turns of a locale's indices over its share of the memory. Where some of
 -- them stop, the forall stops with the fault of the earliest turn.
-use Rattle.std.proofs.Common.{◌≡◌, ℕ, zero, suc, ◌<◌, ◌≤◌, ◌==◌, ◌||◌, Bool, true, false, cond, ℤ, List, [], ◌∷◌, Option, Some, None, Result, Ok, Err, map, length, slice_get, refl, sym, ap, ◌∙◌, subst, arith}
-use Rattle.std.specs.List.{All, AllByRecursion, list_any, filter}
+use Rattle.std.proofs.Common.{◌≡◌, ℕ, zero, suc, ◌<◌, ◌≤◌, ◌==◌, ◌||◌, Bool, true, false, cond, ℤ, List, [], ◌∷◌, Some, None, Result, Ok, Err, length, slice_get, refl, sym, ap, ◌∙◌, subst, arith}
+use Rattle.std.specs.List.{All, AllByRecursion, list_any}
 use Rattle.std.proofs.lemmas.Bool.Decides.{nat_tests}
-use Rattle.std.proofs.lemmas.List.Elements.{All-from_recursion, recursion_from_All}
+use Rattle.std.proofs.lemmas.List.Elements.{recursion_from_All}
 use Rattle.std.proofs.lemmas.Option.{none-some, same_Some}
 use Rattle.dpl_sets.specs.Ranges.{RangeValue}
 use Rattle.dpl_sets.specs.Indices.{indices}
 use Rattle.dpl_domain.proofs.DistinctLemmas.{AreRanges, indices-distinct}
 use Rattle.dpl_map.specs.Maps.{AxisValue, owner}
 use Rattle.dpl_map.specs.Parts.{part}
-use Rattle.dpl_language.specs.Tree.{Op}
 use Rattle.dpl_language.specs.Values.{Index, Fault, InTurn}
 use Rattle.dpl_language.specs.Ranges.{same_index}
 use Rattle.dpl_language.specs.Outcome.{Deeds, no_deeds, Done, Stop, Run, in_order}
 use Rattle.dpl_language.specs.Loops.{named_turn}
 use Rattle.dpl_memory.specs.Memory.{Memory, is_among}
 use Rattle.dpl_apart.specs.Operands.{all_combined, unit_words, AreExact}
-use Rattle.dpl_apart.specs.Rows.{Ran, Finished, Failed, Loop, run, onto, part_of, is_owned, dealt, merged, AreOnce, IsDistinct, place_in, AllAdd, IsReducing}
+use Rattle.dpl_apart.specs.Rows.{Ran, Failed, onto, part_of, is_owned, AreOnce, IsDistinct, place_in}
 use Rattle.dpl_apart.specs.Apart.{loop_left, last_index}
-use Rattle.dpl_apart.specs.Memories.{Changes, Row, IsFormed, MayBeApart, KeepApart, IsOfRank, words_in, operators_of, held_in, row_in, turn_alone, loop_in, ran_in}
+use Rattle.dpl_apart.specs.Memories.{Changes, Row, IsFormed, MayBeApart, IsOfRank, words_in, operators_of, held_in, row_in, ran_in}
 use Rattle.dpl_apart.specs.Workers.{worker_memory, locales, worker_end, together}
-use Rattle.dpl_apart.proofs.ReduceWords.{reduce_words}
-use Rattle.dpl_apart.proofs.Split.{each-filter, each-weaker, all-add, run-alike}
-use Rattle.dpl_apart.proofs.Parts.{run-merged, merged-finished}
-use Rattle.dpl_apart.proofs.Places.{place_in-rising, place_in-at, indices-of-rank}
-use Rattle.dpl_apart.proofs.Located.{of-each}
-use Rattle.dpl_apart.proofs.Foralls.{keep-reducing, in_order-held, HasEnded, worker-done, worker-stopped, stopped-among, named-may, part-owners, each-both}
-use Rattle.dpl_apart.proofs.Shares.{filter-listed, worker-formed, worker-units, worker-like, worker-row}
+use Rattle.dpl_apart.proofs.Split.{each-filter, each-weaker}
+use Rattle.dpl_apart.proofs.Places.{place_in-at, indices-of-rank}
+use Rattle.dpl_apart.proofs.Foralls.{worker-stopped, stopped-among, named-may, part-owners, each-both}
+use Rattle.dpl_apart.proofs.Shares.{worker-formed, worker-units}
 use Rattle.dpl_apart.proofs.Rejoined.{or-true}
 use Rattle.dpl_apart.proofs.Indices.{same_index-refl, same_index-sound}
 use Rattle.dpl_apart.proofs.Least.{IsLater, merged-least}
-use Rattle.dpl_apart.proofs.Shared.{each-mapped, all-owned, forall-shared, share-formed, keeps, part-of-rank, share-ended, all-done}
+use Rattle.dpl_apart.proofs.Shared.{each-mapped, all-owned, forall-shared, keeps, part-of-rank, share-ended, all-done}
 
 -- ---- lists
 each-at : {A : Type 0} (P : A → Type 0) (xs : List A) (k : ℕ) (x : A) → AllByRecursion P xs → slice_get xs k ≡ Some x → P x

@@ -1,11 +1,11 @@
 -- The memories of workers, each of which makes the turns of the indices that a locale owns: what they begin with, and what they leave together.
-use Rattle.std.specs.Prelude.{◌≡◌, ℕ, ◌+◌, ◌==◌, ℤ, pos, Bool, true, false, if◌then◌else◌, Option, Some, None, Result, Ok, Err, List, [], ◌∷◌, get_or, map, filter, unwrap_or}
+use Rattle.std.specs.Prelude.{ℕ, ◌+◌, ◌==◌, ℤ, pos, Bool, true, false, if◌then◌else◌, Option, Some, None, Result, Ok, Err, List, [], ◌∷◌, get_or, map, filter, unwrap_or}
 use Rattle.dpl_language.specs.Tree.{Op}
 use Rattle.dpl_language.specs.Values.{Index, Fault}
 use Rattle.dpl_language.specs.Outcome.{Deeds, Outcome, Done, Stop}
 use Rattle.dpl_memory.specs.Memory.{Held, Memory, held_at, array_at, is_among}
 use Rattle.dpl_apart.specs.Operands.{combined_words, unit_words}
-use Rattle.dpl_apart.specs.Memories.{Changes, with_words, words_in, operators_of}
+use Rattle.dpl_apart.specs.Memories.{Changes, with_words, operators_of}
 
 -- WHAT A WORKER BEGINS WITH
 -- the piece of an array that a locale owns: the array with the elements at that locale's indices alone
