@@ -21,6 +21,7 @@ pub mod Rejoined
 pub mod Shared
 pub mod Least
 pub mod Workers
+pub mod Collected
 -- Rows.
 pub mod Worked
 pub mod WorkedForalls

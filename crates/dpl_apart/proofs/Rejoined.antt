@@ -101,7 +101,7 @@ pub exact-long : (ps : List (ℕ × Op)) (ws : List ℤ) → AreExact (operators
 exact-long ps ws h = exact-length (operators_of ps) ws h ∙ length-map ps _
 
 -- words that are put into other slots than this one
-words-beside : (ps : List (ℕ × Op)) (ws numbers : List ℤ) (r : ℕ) (x : ℤ) → list_any (λ k. r == k) (map (λ (p : ℕ × Op). p.0) ps) ≡ false → with_words ps ws (set numbers r x) ≡ set (with_words ps ws numbers) r x
+pub words-beside : (ps : List (ℕ × Op)) (ws numbers : List ℤ) (r : ℕ) (x : ℤ) → list_any (λ k. r == k) (map (λ (p : ℕ × Op). p.0) ps) ≡ false → with_words ps ws (set numbers r x) ≡ set (with_words ps ws numbers) r x
 words-beside [] ws numbers r x h = refl
 words-beside (p ∷ ps) [] numbers r x h = refl
 words-beside (p ∷ ps) (w ∷ ws) numbers r x h = by (r == p.0) refl h (words-beside ps ws numbers r x) where
