@@ -18,7 +18,7 @@ pub mod Foralls
 -- Workers.
 pub mod Shares
 pub mod Rejoined
-pub mod Shared
+pub mod SharedForalls
 pub mod Least
 pub mod Workers
 pub mod Collected

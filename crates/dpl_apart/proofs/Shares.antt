@@ -32,7 +32,7 @@ filter-from p (x ∷ xs) k t at =
     kept rest zero at = (0, at)
     kept rest (suc k) at = let there = rest k at in (suc there.0, there.1)
 
-distinct-more : (t : Index) (ts : List Index) → ((k : ℕ) → slice_get ts k ≡ Some t → ⊥) → IsDistinct ts → IsDistinct (t ∷ ts)
+pub distinct-more : (t : Index) (ts : List Index) → ((k : ℕ) → slice_get ts k ≡ Some t → ⊥) → IsDistinct ts → IsDistinct (t ∷ ts)
 distinct-more t ts none distinct zero zero x here there = refl
 distinct-more t ts none distinct zero (suc k) x here there = absurd (none k (there ∙ sym here))
 distinct-more t ts none distinct (suc j) zero x here there = absurd (none j (here ∙ sym there))

@@ -68,14 +68,14 @@ piece_held = refl
 
 -- ---- A[i] = f(i, A[i])
 module _ (rank slot : ℕ) (at : Place) (f : Index → ℤ → ℤ) where
-  abbrev put_by : Option ℤ → Index → Run Memory
+  abbrev pub put_by : Option ℤ → Index → Run Memory
   put_by None t s done = Stop (fault Outside at) done
   put_by (Some v) t s done = Done (with_array slot (held_with t (f t v) (array_at slot s)) s) done
 
-  abbrev put_turn : Index → Run Memory
+  abbrev pub put_turn : Index → Run Memory
   put_turn t s done = put_by (held_at t (array_at slot s)) t s done
 
-  abbrev writes : Changes
+  abbrev pub writes : Changes
   writes = record { rank = rank; written = slot ∷ []; reduced = []; numbers = []; ranges = []; tuples = [] }
 
   listed : is_among slot (slot ∷ []) ≡ true
@@ -199,7 +199,7 @@ module _ (rank slot : ℕ) (at : Place) (f : Index → ℤ → ℤ) where
         alone s first e ∙ ap (λ r. Leaves r []) (row-same t row (left_in s first) (left_in b second) (word s first e ∙ sym (word b second (both ∙ e)))) ∙ sym (alone b second (both ∙ e))
     turns-alike false e = absent s first e ∙ sym (absent b second (both ∙ e))
 
-  may_be_apart : MayBeApart writes put_turn
+  pub may_be_apart : MayBeApart writes put_turn
   may_be_apart = record {
     keep = λ b place formed. keeps b (formed.within slot listed) (formed.pieces slot listed).distinct place;
     alike = λ t s b of_rank first second like row. turns-alike s b first second t like row (list_any (same_index t) (array_at slot s).keys) refl;

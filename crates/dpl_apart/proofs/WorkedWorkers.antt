@@ -1,15 +1,24 @@
 -- Rows of what two workers begin with and leave together: an array over 1..3, of which the one has 1 and 2 and the other 3, and a sum that was 5.
 -- Each turn squares its index into the array, and adds it to the sum.
-use Rattle.std.proofs.Common.{◌≡◌, ℕ, pos, List, [], ◌∷◌, Some, None, refl}
+use Rattle.std.proofs.Common.{eqb-true, ◌≡◌, ℕ, ◌<◌, ◌==◌, ◌||◌, Bool, true, false, ℤ, pos, List, [], ◌∷◌, Some, None, slice_get, refl, sym, ◌∙◌, subst, arith}
 use Rattle.std.specs.Prelude.{if◌then◌else◌}
+use Rattle.std.specs.List.{AllByRecursion}
 use Rattle.std.specs.Int.{int_wrap}
+use Rattle.std.proofs.lemmas.Option.{none-some}
+use Rattle.dpl_syntax.specs.declared.place.Place.{Place}
 use Rattle.dpl_language.specs.Values.{Index}
+use Rattle.dpl_language.specs.Outcome.{Deeds, Done, Run, in_order}
 use Rattle.dpl_language.specs.Ranges.{same_index}
-use Rattle.dpl_memory.specs.Memory.{Memory}
+use Rattle.dpl_memory.specs.Memory.{Held, Memory, array_at, intended}
 use Rattle.dpl_apart.specs.Apart.{last_index}
-use Rattle.dpl_apart.specs.Memories.{held_in}
+use Rattle.dpl_apart.specs.Rows.{IsDistinct}
+use Rattle.dpl_apart.specs.Memories.{Changes, IsPiece, IsFormed, held_in}
 use Rattle.dpl_apart.specs.Workers.{worker_memory, together}
-use Rattle.dpl_apart.proofs.WorkedForalls.{on_a_line, held_with_keys, memory_with, changes, whole, squares}
+use Rattle.dpl_apart.proofs.Indices.{same_index-refl}
+use Rattle.dpl_apart.proofs.Shares.{distinct-more}
+use Rattle.dpl_apart.proofs.SharedForalls.{all-done}
+use Rattle.dpl_apart.proofs.Workers.{each-at}
+use Rattle.dpl_apart.proofs.WorkedForalls.{on_a_line, held_with_keys, memory_with, changes, whole, squares, put_turn, writes, may_be_apart}
 
 abbrev one_two_three : List Index
 one_two_three = on_a_line (pos 1) ∷ on_a_line (pos 2) ∷ on_a_line (pos 3) ∷ []
@@ -65,3 +74,48 @@ first_alone = refl
 -- without turns all is as it was
 none_left : together changes last_apart [] (last_index None []) before ≡ before
 none_left = refl
+
+-- ---- the turns of such workers: A[i] = i * i, where there is no sum. So what is asked of workers can be met.
+unlisted : (t : Index) (ts : List Index) → AllByRecursion (λ x. same_index x t ≡ false) ts → (k : ℕ) → slice_get ts k ≡ Some t → ⊥
+unlisted t ts other k at = let self : same_index t t ≡ false = each-at (λ x. same_index x t ≡ false) ts k t other at in let no : true ≡ false = sym (same_index-refl t) ∙ self in cc
+
+apart-distinct : (t : Index) (ts : List Index) → AllByRecursion (λ x. same_index x t ≡ false) ts → IsDistinct ts → IsDistinct (t ∷ ts)
+apart-distinct t ts other rest = distinct-more t ts (unlisted t ts other) rest
+
+distinct : IsDistinct one_two_three
+distinct =
+    apart-distinct (on_a_line (pos 1)) (on_a_line (pos 2) ∷ on_a_line (pos 3) ∷ []) (refl, (refl, tt))
+    (apart-distinct (on_a_line (pos 2)) (on_a_line (pos 3) ∷ []) (refl, tt) (apart-distinct (on_a_line (pos 3)) [] tt (λ j k t here there. absurd (none-some t here))))
+
+module _ (at : Place) where
+  abbrev square : Index → ℤ → ℤ
+  square t v = (squares t).elements 2
+
+  abbrev turn : Index → Run Memory
+  turn = put_turn 1 2 at square
+
+  abbrev change : Changes
+  change = writes 1 2 at square
+
+  abbrev plain : Held → Memory
+  plain a = intended [] (memory_with (pos 7) (pos 5) a)
+
+  formed : IsFormed change (plain whole)
+  formed = record {
+    pieces = λ slot e. subst (λ slot. IsPiece (array_at slot (plain whole))) (sym (only slot (slot == 2) refl e)) (record { distinct = distinct; long = refl });
+    within = λ slot e. subst (λ slot. slot < 3) (sym (only slot (slot == 2) refl e)) (omega arith);
+    intents = refl;
+    apart = tt;
+    there = tt;
+    stay = tt;
+  } where
+    only : (slot : ℕ) (c : Bool) → (slot == 2) ≡ c → (c || false) ≡ true → slot ≡ 2
+    only slot true e h = eqb-true slot 2 e
+    only slot false e h = absurd cc
+
+  both_end : (done : Deeds)
+      → in_order turn one_two_three (plain whole) done ≡ Done (plain (held_with_keys one_two_three (pos 1 ∷ pos 4 ∷ pos 9 ∷ []))) done
+  both_end =
+      all-done change turn (may_be_apart 1 2 at square) (plain whole) formed tt last_apart one_two_three distinct (refl, (refl, (refl, tt)))
+      ((0, plain (held_with_keys (on_a_line (pos 1) ∷ on_a_line (pos 2) ∷ []) (pos 1 ∷ pos 4 ∷ []))) ∷ (1, plain (held_with_keys (on_a_line (pos 3) ∷ []) (pos 9 ∷ []))) ∷ [])
+      (refl, (refl, tt)) (refl, (refl, (refl, tt))) ((λ done. refl), ((λ done. refl), tt))

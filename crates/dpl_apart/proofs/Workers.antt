@@ -27,10 +27,10 @@ use Rattle.dpl_apart.proofs.Shares.{worker-formed, worker-units}
 use Rattle.dpl_apart.proofs.Rejoined.{or-true}
 use Rattle.dpl_apart.proofs.Indices.{same_index-refl, same_index-sound}
 use Rattle.dpl_apart.proofs.Least.{IsLater, merged-least}
-use Rattle.dpl_apart.proofs.Shared.{each-mapped, all-owned, forall-shared, keeps, part-of-rank, share-ended, all-done}
+use Rattle.dpl_apart.proofs.SharedForalls.{each-mapped, all-owned, forall-shared, keeps, part-of-rank, share-ended, all-done}
 
 -- ---- lists
-each-at : {A : Type 0} (P : A → Type 0) (xs : List A) (k : ℕ) (x : A) → AllByRecursion P xs → slice_get xs k ≡ Some x → P x
+pub each-at : {A : Type 0} (P : A → Type 0) (xs : List A) (k : ℕ) (x : A) → AllByRecursion P xs → slice_get xs k ≡ Some x → P x
 each-at P [] k x h at = absurd (none-some x at)
 each-at P (y ∷ ys) zero x h at = subst P (same_Some y x at) h.0
 each-at P (y ∷ ys) (suc k) x h at = each-at P ys k x h.1 at
@@ -80,15 +80,15 @@ module _ (h : Changes) (turn : Index → Run Memory) (may : MayBeApart h turn) (
   part-in : (l : ℕ) → AllByRecursion (IsIn l) (part_of owns l ts)
   part-in l = each-both (λ t. owns t ≡ l) (λ t. slice_get ts (place_in ts t) ≡ Some t) (part_of owns l ts) (part-owners owns l ts) (each-filter _ (λ t. owns t == l) ts (all-found ts))
 
-  -- the turn that stops a worker
-  record HasStopped (l : ℕ) (f : Fault) : Type 0 where
-    index : Index
-    own : owns index ≡ l
-    found : slice_get ts (place_in ts index) ≡ Some index
-    turn_of : f.turn ≡ InTurn index
-    fails : ran l ≡ Failed (place_in ts index) f
+  -- the turn that stops a worker: one of its locale's, which the fault names
+  pub record HasStopped (l : ℕ) (f : Fault) : Type 0 where
+    pub index : Index
+    pub own : owns index ≡ l
+    pub found : slice_get ts (place_in ts index) ≡ Some index
+    pub turn_of : f.turn ≡ InTurn index
+    pub fails : ran l ≡ Failed (place_in ts index) f
 
-  share-stopped : (l : ℕ) (f : Fault) → Ends (l, Err f) → HasStopped l f
+  pub share-stopped : (l : ℕ) (f : Fault) → Ends (l, Err f) → HasStopped l f
   share-stopped l f e =
       let its = worker-stopped h (share l) (place_in ts) (named_turn turn) (keeps h (named_turn turn) (named-may h turn may) m formed exact owns ts distinct all l) (worker-formed h owns l m formed).pieces
       (worker-units h owns l m formed) (part_of owns l ts) (part-of-rank h (named_turn turn) (named-may h turn may) m formed exact owns ts distinct all l) no_deeds f no_deeds (e no_deeds) in
