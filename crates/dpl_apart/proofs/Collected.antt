@@ -12,7 +12,7 @@ use Rattle.dpl_memory.specs.Memory.{Held, Memory, array_at, held_at, is_among}
 use Rattle.dpl_apart.specs.Operands.{combined_words}
 use Rattle.dpl_apart.specs.Rows.{AreOnce}
 use Rattle.dpl_apart.specs.Memories.{IsPiece, with_words}
-use Rattle.dpl_apart.specs.Workers.{owned_piece, locales, HaveWorkers, left_by, rejoined, word_joined}
+use Rattle.dpl_apart.specs.Workers.{owned_piece, locales_of, HaveWorkers, left_by, rejoined, word_joined}
 use Rattle.dpl_apart.proofs.Split.{each-weaker}
 use Rattle.dpl_apart.proofs.Shares.{owned-element}
 use Rattle.dpl_apart.proofs.Rejoined.{none-left, or-true, words-beside}
@@ -69,7 +69,7 @@ module _ (parts : ℕ → List Index) where
     by l less some (inr other) = ap (λ c. c || (l == n || false)) (have.there l (omega (arith, less, other)) some)
 
 -- ---- the worker that stands at a place
-pub left-at : (ws : List (ℕ × Memory)) (m : Memory) (k l : ℕ) (u : Memory) → AreOnce (locales ws) → slice_get ws k ≡ Some (l, u) → left_by l ws m ≡ u
+pub left-at : (ws : List (ℕ × Memory)) (m : Memory) (k l : ℕ) (u : Memory) → AreOnce (locales_of ws) → slice_get ws k ≡ Some (l, u) → left_by l ws m ≡ u
 left-at [] m k l u once at = absurd (none-some (l, u) at)
 left-at (w ∷ ws) m zero l u once at =
     let same = same_Some w (l, u) at in
@@ -79,18 +79,18 @@ left-at (w ∷ ws) m zero l u once at =
 left-at (w ∷ ws) m (suc k) l u once at =
     ap (λ c. if c then w.1 else left_by l ws m) (behind ws k at once.0) ∙ left-at ws m k l u once.1 at
   where
-    behind : (ws : List (ℕ × Memory)) (k : ℕ) → slice_get ws k ≡ Some (l, u) → list_any (λ m. w.0 == m) (locales ws) ≡ false → (w.0 == l) ≡ false
+    behind : (ws : List (ℕ × Memory)) (k : ℕ) → slice_get ws k ≡ Some (l, u) → list_any (λ m. w.0 == m) (locales_of ws) ≡ false → (w.0 == l) ≡ false
     behind [] k at none = absurd (none-some (l, u) at)
     behind (v ∷ vs) zero at none =
         let here : v.0 ≡ l = ap (λ (v : ℕ × Memory). v.0) (same_Some v (l, u) at) in
         let first : (w.0 == v.0) ≡ false = no-first (w.0 == v.0) none in
         ap (λ n. w.0 == n) (sym here) ∙ first
       where
-        no-first : (c : Bool) → (c || list_any (λ m. w.0 == m) (locales vs)) ≡ false → c ≡ false
+        no-first : (c : Bool) → (c || list_any (λ m. w.0 == m) (locales_of vs)) ≡ false → c ≡ false
         no-first true e = absurd cc
         no-first false e = refl
     behind (v ∷ vs) (suc k) at none = by (w.0 == v.0) none (behind vs k at) where
-      by : (c : Bool) → (c || list_any (λ m. w.0 == m) (locales vs)) ≡ false → (list_any (λ m. w.0 == m) (locales vs) ≡ false → (w.0 == l) ≡ false) → (w.0 == l) ≡ false
+      by : (c : Bool) → (c || list_any (λ m. w.0 == m) (locales_of vs)) ≡ false → (list_any (λ m. w.0 == m) (locales_of vs) ≡ false → (w.0 == l) ≡ false) → (w.0 == l) ≡ false
       by true e rest = absurd cc
       by false e rest = rest e
 
@@ -111,10 +111,10 @@ words-forward (p ∷ ps) (w ∷ ws) numbers apart = words-forward ps ws (set num
 
 -- ---- pieces: where each locale has the piece that its worker has left, or its own as it was, the array has what its owners' workers have left
 pub rejoined-pieces : (owns : Index → ℕ) (ws : List (ℕ × Memory)) (m : Memory) (slot : ℕ) (piece : ℕ → Held) → IsPiece (array_at slot m)
-    → ((l : ℕ) → is_among l (locales ws) ≡ true → piece l ≡ array_at slot (left_by l ws m)) → ((l : ℕ) → is_among l (locales ws) ≡ false → piece l ≡ owned_piece owns l (array_at slot m))
+    → ((l : ℕ) → is_among l (locales_of ws) ≡ true → piece l ≡ array_at slot (left_by l ws m)) → ((l : ℕ) → is_among l (locales_of ws) ≡ false → piece l ≡ owned_piece owns l (array_at slot m))
     → map (λ t. unwrap_or (held_at t (piece (owns t))) (pos 0)) (array_at slot m).keys ≡ (rejoined owns ws m slot (array_at slot m)).words
-rejoined-pieces owns ws m slot piece is_piece worked idle = ap (λ f. map f (array_at slot m).keys) (λ i t. ap (λ o. unwrap_or o (pos 0)) (at t (is_among (owns t) (locales ws)) refl) i) where
-  at : (t : Index) (c : Bool) → is_among (owns t) (locales ws) ≡ c → held_at t (piece (owns t)) ≡ held_at t (array_at slot (left_by (owns t) ws m))
+rejoined-pieces owns ws m slot piece is_piece worked idle = ap (λ f. map f (array_at slot m).keys) (λ i t. ap (λ o. unwrap_or o (pos 0)) (at t (is_among (owns t) (locales_of ws)) refl) i) where
+  at : (t : Index) (c : Bool) → is_among (owns t) (locales_of ws) ≡ c → held_at t (piece (owns t)) ≡ held_at t (array_at slot (left_by (owns t) ws m))
   at t true e = ap (held_at t) (worked (owns t) e)
   at t false e =
       ap (held_at t) (idle (owns t) e) ∙ owned-element owns (owns t) t (array_at slot m) is_piece refl ∙ sym (ap (λ u. held_at t (array_at slot u)) (none-left ws m (owns t) e))

@@ -13,7 +13,7 @@ use Rattle.dpl_apart.specs.Operands.{combined_words, all_combined, unit_words, A
 use Rattle.dpl_apart.specs.Rows.{part_of, is_owned, gathered, all_joined, AreOnce}
 use Rattle.dpl_apart.specs.Apart.{last_index}
 use Rattle.dpl_apart.specs.Memories.{Changes, Row, IsFormed, held_by_if, with_elements, with_words, words_in, operators_of, with_values, held_in, row_in}
-use Rattle.dpl_apart.specs.Workers.{worker_memory, locales, left_by, rejoined_if, rejoined_from, word_joined, words_joined, together}
+use Rattle.dpl_apart.specs.Workers.{worker_memory, locales_of, left_by, rejoined_if, rejoined_from, word_joined, words_joined, together}
 use Rattle.dpl_apart.proofs.Indices.{same_index-refl}
 use Rattle.dpl_apart.proofs.ReduceWords.{reduce_words}
 use Rattle.dpl_apart.proofs.Split.{each-weaker}
@@ -22,10 +22,10 @@ use Rattle.dpl_apart.proofs.Shares.{filter-listed, share-written, worker-formed}
 
 -- ---- the worker of a locale
 -- what is so of each worker is so of a locale's, where it has one
-pub of-left : (P : ℕ × Memory → Type 0) (ws : List (ℕ × Memory)) (m : Memory) (l : ℕ) → AllByRecursion P ws → list_any (λ k. l == k) (locales ws) ≡ true → P (l, left_by l ws m)
+pub of-left : (P : ℕ × Memory → Type 0) (ws : List (ℕ × Memory)) (m : Memory) (l : ℕ) → AllByRecursion P ws → list_any (λ k. l == k) (locales_of ws) ≡ true → P (l, left_by l ws m)
 of-left P [] m l all among = absurd cc
 of-left P (w ∷ ws) m l all among = by (l == w.0) refl among (of-left P ws m l all.1) where
-  by : (c : Bool) → (l == w.0) ≡ c → (c || list_any (λ k. l == k) (locales ws)) ≡ true → (list_any (λ k. l == k) (locales ws) ≡ true → P (l, left_by l ws m)) → P (l, left_by l (w ∷ ws) m)
+  by : (c : Bool) → (l == w.0) ≡ c → (c || list_any (λ k. l == k) (locales_of ws)) ≡ true → (list_any (λ k. l == k) (locales_of ws) ≡ true → P (l, left_by l ws m)) → P (l, left_by l (w ∷ ws) m)
   by true e among rest =
       let same : w.0 ≡ l = sym (eqb-true l w.0 e) in
       let yes : (w.0 == l) ≡ true = grind (arith, nat_tests) in
@@ -33,10 +33,10 @@ of-left P (w ∷ ws) m l all among = by (l == w.0) refl among (of-left P ws m l 
   by false e among rest = let no : (w.0 == l) ≡ false = grind (arith, nat_tests) in rw no (rest among)
 
 -- and where it has none, the memory is as it was
-pub none-left : (ws : List (ℕ × Memory)) (m : Memory) (l : ℕ) → list_any (λ k. l == k) (locales ws) ≡ false → left_by l ws m ≡ m
+pub none-left : (ws : List (ℕ × Memory)) (m : Memory) (l : ℕ) → list_any (λ k. l == k) (locales_of ws) ≡ false → left_by l ws m ≡ m
 none-left [] m l among = refl
 none-left (w ∷ ws) m l among = by (l == w.0) refl among (none-left ws m l) where
-  by : (c : Bool) → (l == w.0) ≡ c → (c || list_any (λ k. l == k) (locales ws)) ≡ false → (list_any (λ k. l == k) (locales ws) ≡ false → left_by l ws m ≡ m) → left_by l (w ∷ ws) m ≡ m
+  by : (c : Bool) → (l == w.0) ≡ c → (c || list_any (λ k. l == k) (locales_of ws)) ≡ false → (list_any (λ k. l == k) (locales_of ws) ≡ false → left_by l ws m ≡ m) → left_by l (w ∷ ws) m ≡ m
   by true e among rest = absurd cc
   by false e among rest = let no : (w.0 == l) ≡ false = grind (arith, nat_tests) in rw no (rest among)
 
@@ -153,12 +153,12 @@ module _ (ps : List (ℕ × Op)) (sums : ℕ → List ℤ) where
     exact : AreExact ops (sums w.0)
     words : words_in ps w.1 ≡ sums w.0
 
-  joined-exact : (ws : List (ℕ × Memory)) → AllByRecursion HasAdded ws → AreExact ops (all_joined (all_combined ops) (unit_words ops) sums (locales ws))
+  joined-exact : (ws : List (ℕ × Memory)) → AllByRecursion HasAdded ws → AreExact ops (all_joined (all_combined ops) (unit_words ops) sums (locales_of ws))
   joined-exact [] all = (reduce_words ops).one
   joined-exact (w ∷ ws) all = (reduce_words ops).closed (sums w.0) _ all.0.exact (joined-exact ws all.1)
 
   put-joined : (ws : List (ℕ × Memory)) (a : List ℤ) → AreExact ops a → AllByRecursion HasAdded ws
-      → put_on ps ws a ≡ all_combined ops a (all_joined (all_combined ops) (unit_words ops) sums (locales ws))
+      → put_on ps ws a ≡ all_combined ops a (all_joined (all_combined ops) (unit_words ops) sums (locales_of ws))
   put-joined [] a exact all = sym ((reduce_words ops).neutral a exact)
   put-joined (w ∷ ws) a exact all =
       ap (λ v. put_on ps ws (all_combined ops a v)) all.0.words
@@ -175,9 +175,9 @@ module _ (h : Changes) (owns : Index → ℕ) (m : Memory) (ts : List Index) (en
   module _ (formed : IsFormed h m) (ws : List (ℕ × Memory)) (left : AllByRecursion HasLeft ws) where
     -- the rows that they have left together
     abbrev rows_left : Index → Row
-    rows_left = gathered owns ends (row_in h m) (locales ws)
+    rows_left = gathered owns ends (row_in h m) (locales_of ws)
 
-    its-element : (slot : ℕ) (t : Index) → is_among slot h.written ≡ true → list_any (same_index t) (array_at slot m).keys ≡ true → (c : Bool) → is_owned owns (locales ws) t ≡ c
+    its-element : (slot : ℕ) (t : Index) → is_among slot h.written ≡ true → list_any (same_index t) (array_at slot m).keys ≡ true → (c : Bool) → is_owned owns (locales_of ws) t ≡ c
         → unwrap_or (held_at t (array_at slot (left_by (owns t) ws m))) (pos 0) ≡ (if c then ends (owns t) t else row_in h m t).elements slot
     its-element slot t written listed true e =
         let its = of-left HasLeft ws m (owns t) left e in
@@ -197,7 +197,7 @@ module _ (h : Changes) (owns : Index → ℕ) (m : Memory) (ts : List Index) (en
         let a : Held = array_at slot m in
         ap (λ words. record a { words = words })
         (map-same (λ t. unwrap_or (held_at t (array_at slot (left_by (owns t) ws m))) (pos 0)) (λ t. (rows_left t).elements slot) a.keys
-        (each-weaker _ _ a.keys (λ t listed. its-element slot t e listed (is_owned owns (locales ws) t) refl) (all-listed a.keys)))
+        (each-weaker _ _ a.keys (λ t listed. its-element slot t e listed (is_owned owns (locales_of ws) t) refl) (all-listed a.keys)))
 
     arrays-rejoined : rejoined_from 0 h.written owns ws m m.arrays ≡ with_elements 0 h.written rows_left m.arrays
     arrays-rejoined =
@@ -214,7 +214,7 @@ module _ (h : Changes) (owns : Index → ℕ) (m : Memory) (ts : List Index) (en
 
     -- what they have added together, put to the words as they were
     abbrev words_left : List ℤ
-    words_left = all_combined (operators_of h.reduced) (words_in h.reduced m) (all_joined (all_combined (operators_of h.reduced)) (unit_words (operators_of h.reduced)) sums (locales ws))
+    words_left = all_combined (operators_of h.reduced) (words_in h.reduced m) (all_joined (all_combined (operators_of h.reduced)) (unit_words (operators_of h.reduced)) sums (locales_of ws))
 
     module _ (exact : AreExact (operators_of h.reduced) (words_in h.reduced m)) where
       all-added : AllByRecursion (HasAdded h.reduced sums) ws
@@ -227,7 +227,7 @@ module _ (h : Changes) (owns : Index → ℕ) (m : Memory) (ts : List Index) (en
       words-long = exact-long h.reduced words_left ((reduce_words (operators_of h.reduced)).closed (words_in h.reduced m) _ exact (joined-exact h.reduced sums ws all-added))
 
       -- What workers leave together is the memory that holds their rows and what they have added.
-      pub together-held : AllByRecursion (λ t. is_owned owns (locales ws) t ≡ true) ts → together h owns ws (last_index None ts) m ≡ held_in h m (last_index None ts) rows_left words_left
+      pub together-held : AllByRecursion (λ t. is_owned owns (locales_of ws) t ≡ true) ts → together h owns ws (last_index None ts) m ≡ held_in h m (last_index None ts) rows_left words_left
       together-held owned = by (last_index None ts) refl where
         by : (last : Option Index) → last_index None ts ≡ last → together h owns ws last m ≡ held_in h m last rows_left words_left
         by None e =
@@ -235,7 +235,7 @@ module _ (h : Changes) (owns : Index → ℕ) (m : Memory) (ts : List Index) (en
             let words = words-joined in
             λ i. record m { words = record m.words { numbers = with_words h.reduced (words i) m.words.numbers }; arrays = arrays i }
         by (Some t) e =
-            let own : is_owned owns (locales ws) t ≡ true = last-each (λ t. is_owned owns (locales ws) t ≡ true) t ts None owned (λ no. absurd cc) e in
+            let own : is_owned owns (locales_of ws) t ≡ true = last-each (λ t. is_owned owns (locales_of ws) t ≡ true) t ts None owned (λ no. absurd cc) e in
             let its = of-left HasLeft ws m (owns t) left own in
             let passes : (owns t == owns t) ≡ true = grind (arith, nat_tests) in
             let b : Memory = worker_memory h owns (owns t) m in

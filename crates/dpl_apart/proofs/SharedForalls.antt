@@ -12,7 +12,7 @@ use Rattle.dpl_apart.specs.Operands.{all_combined, unit_words, AreExact}
 use Rattle.dpl_apart.specs.Rows.{Ran, Finished, Failed, Loop, run, onto, part_of, is_owned, dealt, merged, AreOnce, IsDistinct, place_in, AllAdd}
 use Rattle.dpl_apart.specs.Apart.{loop_left, last_index}
 use Rattle.dpl_apart.specs.Memories.{Changes, Row, IsFormed, MayBeApart, KeepApart, IsOfRank, words_in, operators_of, held_in, row_in, turn_alone, loop_in, ran_in}
-use Rattle.dpl_apart.specs.Workers.{worker_memory, locales, together}
+use Rattle.dpl_apart.specs.Workers.{worker_memory, locales_of, together}
 use Rattle.dpl_apart.proofs.ReduceWords.{reduce_words}
 use Rattle.dpl_apart.proofs.Split.{each-filter, each-weaker, all-add, run-alike}
 use Rattle.dpl_apart.proofs.Parts.{run-merged, merged-finished}
@@ -124,12 +124,12 @@ module _ (h : Changes) (turn : Index → Run Memory) (may : MayBeApart h turn) (
       let words : sums w.0 ≡ its.words = ap (sum_of units) its.ran in
       its.ran ∙ (λ i. Finished (sym rows i) (sym words i))
 
-  pub all-done : (ws : List (ℕ × Memory)) → AreOnce (locales ws) → AllByRecursion (λ t. is_owned owns (locales ws) t ≡ true) ts
+  pub all-done : (ws : List (ℕ × Memory)) → AreOnce (locales_of ws) → AllByRecursion (λ t. is_owned owns (locales_of ws) t ≡ true) ts
       → AllByRecursion (λ (w : ℕ × Memory). (done : Deeds) → in_order turn (part_of owns w.0 ts) (share w.0) done ≡ Done w.1 done) ws → (done : Deeds)
       → in_order turn ts m done ≡ Done (together h owns ws (last_index None ts) m) done
   all-done ws once owned ended done =
       let left : AllByRecursion (HasLeft h owns m ts ends sums) ws = each-weaker _ _ ws has-left ended in
-      let finished : AllByRecursion (λ l. ran l ≡ Finished (ends l) (sums l)) (locales ws) = each-mapped _ _ ws (each-weaker _ _ ws has-finished ended) in
-      forall-shared (locales ws) once owned done
-      ∙ ap (λ r. loop_left (held_in h m) (last_index None ts) done (onto joins (words_in h.reduced m) r)) (merged-finished joins units owns ran (row_in h m) ends sums (locales ws) finished)
+      let finished : AllByRecursion (λ l. ran l ≡ Finished (ends l) (sums l)) (locales_of ws) = each-mapped _ _ ws (each-weaker _ _ ws has-finished ended) in
+      forall-shared (locales_of ws) once owned done
+      ∙ ap (λ r. loop_left (held_in h m) (last_index None ts) done (onto joins (words_in h.reduced m) r)) (merged-finished joins units owns ran (row_in h m) ends sums (locales_of ws) finished)
       ∙ ap (λ s. Done s done) (sym (together-held h owns m ts ends sums formed ws left exact owned))

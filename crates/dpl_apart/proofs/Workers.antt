@@ -19,7 +19,7 @@ use Rattle.dpl_apart.specs.Operands.{all_combined, unit_words, AreExact}
 use Rattle.dpl_apart.specs.Rows.{Ran, Failed, onto, part_of, is_owned, AreOnce, IsDistinct, place_in}
 use Rattle.dpl_apart.specs.Apart.{loop_left, last_index}
 use Rattle.dpl_apart.specs.Memories.{Changes, Row, IsFormed, MayBeApart, IsOfRank, words_in, operators_of, held_in, row_in, ran_in}
-use Rattle.dpl_apart.specs.Workers.{worker_memory, locales, worker_end, together}
+use Rattle.dpl_apart.specs.Workers.{worker_memory, locales_of, worker_end, together}
 use Rattle.dpl_apart.proofs.Split.{each-filter, each-weaker}
 use Rattle.dpl_apart.proofs.Places.{place_in-at, indices-of-rank}
 use Rattle.dpl_apart.proofs.Foralls.{worker-stopped, stopped-among, named-may, part-owners, each-both}
@@ -35,7 +35,7 @@ each-at P [] k x h at = absurd (none-some x at)
 each-at P (y ∷ ys) zero x h at = subst P (same_Some y x at) h.0
 each-at P (y ∷ ys) (suc k) x h at = each-at P ys k x h.1 at
 
-among-at : {A : Type 0} (ws : List (ℕ × A)) (k : ℕ) (l : ℕ) (r : A) → slice_get ws k ≡ Some (l, r) → list_any (λ m. l == m) (locales ws) ≡ true
+among-at : {A : Type 0} (ws : List (ℕ × A)) (k : ℕ) (l : ℕ) (r : A) → slice_get ws k ≡ Some (l, r) → list_any (λ m. l == m) (locales_of ws) ≡ true
 among-at [] k l r at = absurd (none-some (l, r) at)
 among-at {A} (w ∷ ws) zero l r at =
     let same : w.0 ≡ l = ap (λ (v : ℕ × A). v.0) (same_Some w (l, r) at) in
@@ -110,7 +110,7 @@ module _ (h : Changes) (turn : Index → Run Memory) (may : MayBeApart h turn) (
         let less : place_in ts t < place_in ts its.index = grind arith in
         subst (IsLater (place_in ts t)) (sym its.fails) less
 
-  pub first-stops : (ws : List (ℕ × Result Memory Fault)) → AreOnce (locales ws) → AllByRecursion (λ t. is_owned owns (locales ws) t ≡ true) ts → AllByRecursion Ends ws
+  pub first-stops : (ws : List (ℕ × Result Memory Fault)) → AreOnce (locales_of ws) → AllByRecursion (λ t. is_owned owns (locales_of ws) t ≡ true) ts → AllByRecursion Ends ws
       → (k l : ℕ) (f : Fault) (t : Index) → slice_get ws k ≡ Some (l, Err f) → f.turn ≡ InTurn t → AllByRecursion (StopsFrom t) ws → (done : Deeds)
       → in_order (named_turn turn) ts m done ≡ Stop f done
   first-stops ws once owned ended k l f t at its_turn from done =
@@ -120,25 +120,25 @@ module _ (h : Changes) (turn : Index → Run Memory) (may : MayBeApart h turn) (
       let found : slice_get ts (place_in ts t) ≡ Some t = subst (λ t. slice_get ts (place_in ts t) ≡ Some t) same its.found in
       let own : owns t ≡ l = ap owns (sym same) ∙ its.own in
       let fails : ran l ≡ Failed (place_in ts t) f = its.fails ∙ ap (λ t. Failed (place_in ts t) f) same in
-      let later : AllByRecursion (λ x. (x ≡ l → ⊥) → IsLater (place_in ts t) (ran x)) (locales ws) =
+      let later : AllByRecursion (λ x. (x ≡ l → ⊥) → IsLater (place_in ts t) (ran x)) (locales_of ws) =
       each-mapped _ _ ws
       (each-weaker _ _ ws (λ (w : ℕ × Result Memory Fault) (both : Ends w × StopsFrom t w) other. is-later t found w both.0 both.1 (λ e. other (e ∙ own))) (each-both Ends (StopsFrom t) ws ended from)) in
-      forall-shared h (named_turn turn) (named-may h turn may) m formed exact owns ts distinct all (locales ws) once owned done
+      forall-shared h (named_turn turn) (named-may h turn may) m formed exact owns ts distinct all (locales_of ws) once owned done
       ∙ ap (λ r. loop_left (held_in h m) (last_index None ts) done (onto (all_combined (operators_of h.reduced)) (words_in h.reduced m) r))
-      (merged-least (all_combined (operators_of h.reduced)) (unit_words (operators_of h.reduced)) owns ran (row_in h m) (place_in ts t) f l (locales ws) once (among-at ws k l (Err f) at) fails later)
+      (merged-least (all_combined (operators_of h.reduced)) (unit_words (operators_of h.reduced)) owns ran (row_in h m) (place_in ts t) f l (locales_of ws) once (among-at ws k l (Err f) at) fails later)
 
 module _ (h : Changes) (turn : Index → Run Memory) (may : MayBeApart h turn) (m : Memory) (formed : IsFormed h m) (exact : AreExact (operators_of h.reduced) (words_in h.reduced m)) (axes : List AxisValue) (ranges : List RangeValue) (limits : AreRanges ranges) (of_rank : length ranges ≡ h.rank) (n : ℕ) (below : (t : Index) → owner axes t < n) where
   -- Workers that all end, one for each locale whose part isn't empty, leave together what the forall leaves.
-  pub workers-done : (ws : List (ℕ × Memory)) → AreOnce (locales ws) → ((l : ℕ) → l < n → (part ranges axes l ≡ [] → ⊥) → is_among l (locales ws) ≡ true)
+  pub workers-done : (ws : List (ℕ × Memory)) → AreOnce (locales_of ws) → ((l : ℕ) → l < n → (part ranges axes l ≡ [] → ⊥) → is_among l (locales_of ws) ≡ true)
       → All (λ (w : ℕ × Memory). (done : Deeds) → in_order (named_turn turn) (part ranges axes w.0) (worker_memory h (owner axes) w.0 m) done ≡ Done w.1 done) ws → (done : Deeds)
       → in_order (named_turn turn) (indices ranges) m done ≡ Done (together h (owner axes) ws (last_index None (indices ranges)) m) done
   unfolding part
   workers-done ws once there ended done =
       all-done h (named_turn turn) (named-may h turn may) m formed exact (owner axes) (indices ranges) (indices-distinct ranges limits) (indices-of-rank ranges h.rank of_rank) ws once
-      (all-owned (owner axes) (indices ranges) n below (locales ws) there) (recursion_from_All _ ws ended) done
+      (all-owned (owner axes) (indices ranges) n below (locales_of ws) there) (recursion_from_All _ ws ended) done
 
   -- Workers of which some stop: the forall stops with the fault of the turn that has the least place.
-  pub workers-stopped : (ws : List (ℕ × Result Memory Fault)) → AreOnce (locales ws) → ((l : ℕ) → l < n → (part ranges axes l ≡ [] → ⊥) → is_among l (locales ws) ≡ true)
+  pub workers-stopped : (ws : List (ℕ × Result Memory Fault)) → AreOnce (locales_of ws) → ((l : ℕ) → l < n → (part ranges axes l ≡ [] → ⊥) → is_among l (locales_of ws) ≡ true)
       → All (λ (w : ℕ × Result Memory Fault). (done : Deeds) → in_order (named_turn turn) (part ranges axes w.0) (worker_memory h (owner axes) w.0 m) done ≡ worker_end w.1 done) ws
       → (k l : ℕ) (f : Fault) (t : Index) → slice_get ws k ≡ Some (l, Err f) → f.turn ≡ InTurn t
       → All (λ (w : ℕ × Result Memory Fault). (g : Fault) (s : Index) → w.1 ≡ Err g → g.turn ≡ InTurn s → place_in (indices ranges) t ≤ place_in (indices ranges) s) ws → (done : Deeds)
@@ -146,10 +146,10 @@ module _ (h : Changes) (turn : Index → Run Memory) (may : MayBeApart h turn) (
   unfolding part
   workers-stopped ws once there ended k l f t at its_turn from done =
       first-stops h turn may m formed exact (owner axes) (indices ranges) (indices-distinct ranges limits) (indices-of-rank ranges h.rank of_rank) ws once
-      (all-owned (owner axes) (indices ranges) n below (locales ws) there) (recursion_from_All _ ws ended) k l f t at its_turn (recursion_from_All _ ws from) done
+      (all-owned (owner axes) (indices ranges) n below (locales_of ws) there) (recursion_from_All _ ws ended) k l f t at its_turn (recursion_from_All _ ws from) done
 
   -- The same, where each fault comes with the place of its turn.
-  pub workers-stopped-at : (ws : List (ℕ × Result Memory Fault)) → AreOnce (locales ws) → ((l : ℕ) → l < n → (part ranges axes l ≡ [] → ⊥) → is_among l (locales ws) ≡ true)
+  pub workers-stopped-at : (ws : List (ℕ × Result Memory Fault)) → AreOnce (locales_of ws) → ((l : ℕ) → l < n → (part ranges axes l ≡ [] → ⊥) → is_among l (locales_of ws) ≡ true)
       → All (λ (w : ℕ × Result Memory Fault). (done : Deeds) → in_order (named_turn turn) (part ranges axes w.0) (worker_memory h (owner axes) w.0 m) done ≡ worker_end w.1 done) ws
       → (k l place : ℕ) (f : Fault) (t : Index) → slice_get ws k ≡ Some (l, Err f) → slice_get (indices ranges) place ≡ Some t → f.turn ≡ InTurn t
       → All (λ (w : ℕ × Result Memory Fault). (g : Fault) → w.1 ≡ Err g → (s : Index) × (other : ℕ) × (g.turn ≡ InTurn s) × (slice_get (indices ranges) other ≡ Some s) × (place ≤ other)) ws → (done : Deeds)

@@ -35,8 +35,8 @@ worker_memory h owns l m = record m {
 }
 
 -- WORKERS, each by its locale
-abbrev pub locales : {A : Type 0} → List (ℕ × A) → List ℕ
-locales {A} ws = map (λ (w : ℕ × A). w.0) ws
+abbrev pub locales_of : {A : Type 0} → List (ℕ × A) → List ℕ
+locales_of {A} ws = map (λ (w : ℕ × A). w.0) ws
 
 -- of so many locales each whose part isn't empty has a worker, and none has two
 pub record HaveWorkers (parts : ℕ → List Index) (n : ℕ) (ls : List ℕ) : Type 0 where
