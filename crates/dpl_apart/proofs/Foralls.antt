@@ -192,3 +192,14 @@ module _ (h : Changes) (turn : Index → Run Memory) (may : MayBeApart h turn) (
       let same = leaves-but-last (held_in h m) (loop_in h m places turn) turn (keep-reducing h m places turn keeps) keeps.apart us (indices ranges) None (row_in h m) (words_in h.reduced m) done u made exact all p
       (ap (λ s. in_order turn (indices ranges) s done) own ∙ e) in
       (same.0, same.1, same.2, ap (λ s. in_order turn us s done) (sym own) ∙ same.3)
+
+-- Turns in another order of the same indices, of which the last is the same, leave the same memory: as a part's, domain by domain.
+pub leaves-reordered : (h : Changes) (turn : Index → Run Memory) (may : MayBeApart h turn) (b : Memory) (formed : IsFormed h b) (exact : AreExact (operators_of h.reduced) (words_in h.reduced b)) (us ts : List Index)
+    → All (IsOfRank h) us → IsPermutation ts us → last_index None us ≡ last_index None ts → (u : Memory) (done made : Deeds) → in_order turn us b done ≡ Done u made → in_order turn ts b done ≡ Done u made
+leaves-reordered h turn may b formed exact us ts all p last u done made e =
+    let keep : KeepApart h b (λ t. 0) turn = may.keep b (λ t. 0) formed in
+    let own : held_in h b None (row_in h b) (words_in h.reduced b) ≡ b = holds-own h b formed.pieces in
+    let same =
+    leaves-but-last (held_in h b) (loop_in h b (λ t. 0) turn) turn (keep-reducing h b (λ t. 0) turn keep) keep.apart ts us None (row_in h b) (words_in h.reduced b) done u made exact all p
+    (ap (λ s. in_order turn us s done) own ∙ e) in
+    ap (λ s. in_order turn ts s done) (sym own) ∙ same.3 ∙ ap (λ last. Done (held_in h b last same.0 same.1) made) (sym last) ∙ ap (λ s. Done s made) (sym same.2)

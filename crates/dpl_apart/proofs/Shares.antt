@@ -10,11 +10,12 @@ use Rattle.dpl_language.specs.Tree.{Op}
 use Rattle.dpl_language.specs.Values.{Index}
 use Rattle.dpl_language.specs.Ranges.{same_index}
 use Rattle.dpl_memory.specs.Memory.{Held, Memory, no_array, array_at, word_at, held_at, is_among}
-use Rattle.dpl_apart.specs.Operands.{unit_words}
+use Rattle.dpl_apart.specs.Operands.{unit_words, AreExact}
 use Rattle.dpl_apart.specs.Rows.{IsDistinct}
 use Rattle.dpl_apart.specs.Memories.{Changes, IsPiece, IsFormed, IsLike, is_kept, with_words, words_in, operators_of, row_in}
 use Rattle.dpl_apart.specs.Workers.{owned_piece, owned_if, shares_from, worker_memory}
 use Rattle.dpl_apart.proofs.Indices.{same_index-sound}
+use Rattle.dpl_apart.proofs.ReduceWords.{reduce_words}
 use Rattle.dpl_apart.proofs.Places.{distinct-rest, distinct-first}
 use Rattle.dpl_apart.proofs.Memories.{word-found, words-length, words-of}
 
@@ -153,6 +154,9 @@ module _ (h : Changes) (owns : Index → ℕ) (l : ℕ) (m : Memory) where
     -- and to whose reduce variables nothing was added.
     pub worker-units : words_in h.reduced (worker_memory h owns l m) ≡ unit_words (operators_of h.reduced)
     worker-units = words-of h.reduced (unit_words (operators_of h.reduced)) m.words.numbers unit-long formed.apart formed.there
+
+    pub worker-exact : AreExact (operators_of h.reduced) (words_in h.reduced (worker_memory h owns l m))
+    worker-exact = subst (AreExact (operators_of h.reduced)) (sym worker-units) (reduce_words (operators_of h.reduced)).one
 
     module _ (t : Index) (own : owns t ≡ l) where
       own-element : (slot : ℕ) → is_among slot h.written ≡ true → held_at t (array_at slot m) ≡ held_at t (array_at slot (worker_memory h owns l m))
