@@ -32,7 +32,15 @@ apart-slots (p ∷ ps) slots j h among = by (j == p.0) refl (apart-slots ps slot
   by true e rest = absurd (let same : is_among j slots ≡ is_among p.0 slots = ap (λ i. is_among i slots) (eqb-true j p.0 e) in let no : true ≡ false = sym among ∙ same ∙ h.0 in cc)
   by false e rest = rest
 
-exact-length : (ops : List Op) (ws : List ℤ) → AreExact ops ws → length ws ≡ length ops
+-- and one that turns don't change is neither
+pub kept-slots : (h : Changes) (slot : ℕ) → is_kept h slot ≡ true → (is_among slot h.numbers ≡ false) × (is_among slot (slots_of h.reduced) ≡ false)
+kept-slots h slot kept = by (is_among slot h.numbers) (is_among slot (slots_of h.reduced)) kept where
+  by : (c d : Bool) → (not c && not d) ≡ true → (c ≡ false) × (d ≡ false)
+  by true d e = absurd cc
+  by false true e = absurd cc
+  by false false e = (refl, refl)
+
+pub exact-length : (ops : List Op) (ws : List ℤ) → AreExact ops ws → length ws ≡ length ops
 exact-length [] [] h = refl
 exact-length [] (w ∷ ws) h = absurd h
 exact-length (op ∷ ops) [] h = absurd h
@@ -194,16 +202,48 @@ module _ (h : Changes) (b : Memory) (formed : IsFormed h b) (t : Index) (rows : 
           roots = roots i;
         }
 
-module _ (h : Changes) (t : Index) (first second : Memory) (formed_first : IsFormed h first) (formed : IsFormed h second) (like : IsLike h t first second) (rows : Index → Row) (s u : Memory) (along : IsAlongside h t first second rows (unit_words (operators_of h.reduced)) s u) where
-  abbrev ops : List Op
-  ops = operators_of h.reduced
-
-  element-left : (slot : ℕ) → is_among slot h.written ≡ true → held_at t (array_at slot s) ≡ held_at t (array_at slot u)
-  element-left slot e =
+-- ---- what both memories have
+module _ (h : Changes) (t : Index) (first second : Memory) (formed_first : IsFormed h first) (formed : IsFormed h second) (like : IsLike h t first second) (rows : Index → Row) (words : List ℤ) (s u : Memory) (along : IsAlongside h t first second rows words s u) where
+  pub element-along : (slot : ℕ) → is_among slot h.written ≡ true → held_at t (array_at slot s) ≡ held_at t (array_at slot u)
+  element-along slot e =
       element-of h first along.arrays.first_rows s.arrays along.arrays.first_arrays slot t e
       ∙ ap (λ c. if c then Some ((along.arrays.first_rows t).elements slot) else None) (same-keys h t first second formed_first formed like slot e)
       ∙ ap (λ w. if list_any (same_index t) (array_at slot second).keys then Some w else None) (along.arrays.own slot)
       ∙ sym (element-of h second along.arrays.second_rows u.arrays along.arrays.second_arrays slot t e)
+
+  pub lent-along : (slot : ℕ) → is_among slot h.written ≡ false → (i : Index) → held_at i (array_at slot s) ≡ held_at i (array_at slot u)
+  lent-along slot e i =
+      ap (held_at i) (lent-array h first along.arrays.first_rows s.arrays along.arrays.first_arrays slot e) ∙ like.lent slot e i
+      ∙ sym (ap (held_at i) (lent-array h second along.arrays.second_rows u.arrays along.arrays.second_arrays slot e))
+
+  pub domains-along : (slot : ℕ) → (array_at slot s).ranges ≡ (array_at slot u).ranges
+  domains-along slot =
+      ranges-of h first along.arrays.first_rows s.arrays along.arrays.first_arrays slot ∙ like.array_domains slot
+      ∙ sym (ranges-of h second along.arrays.second_rows u.arrays along.arrays.second_arrays slot)
+
+  -- so they are like for the index
+  pub like-along : IsLike h t s u
+  like-along = record {
+    own = element-along;
+    lent = lent-along;
+    array_domains = domains-along;
+    numbers = λ slot kept. along.numbers.same slot (kept-slots h slot kept).1;
+    ranges = λ slot e. ap (λ rs. get_or rs slot no_range) along.ranges.same;
+    tuples = λ slot e. ap (λ ts. get_or ts slot no_tuple) along.tuples.same;
+    number_slots = along.numbers.first_slots ∙ sym along.numbers.second_slots;
+    range_slots = ap length along.ranges.same;
+    tuple_slots = ap length along.tuples.same;
+    array_slots = ap length along.arrays.first_arrays ∙ element-length 0 h.written along.arrays.first_rows first.arrays ∙ like.array_slots
+        ∙ sym (ap length along.arrays.second_arrays ∙ element-length 0 h.written along.arrays.second_rows second.arrays);
+    domains = along.domains.0;
+    intents = along.intents.0;
+    sets = along.sets.0;
+    roots = along.roots.0;
+  }
+
+module _ (h : Changes) (t : Index) (first second : Memory) (formed_first : IsFormed h first) (formed : IsFormed h second) (like : IsLike h t first second) (rows : Index → Row) (s u : Memory) (along : IsAlongside h t first second rows (unit_words (operators_of h.reduced)) s u) where
+  abbrev ops : List Op
+  ops = operators_of h.reduced
 
   -- both have the same row
   pub same-row : row_in h s t ≡ row_in h u t
@@ -214,7 +254,7 @@ module _ (h : Changes) (t : Index) (first second : Memory) (formed_first : IsFor
     tuples = λ slot. if is_among slot h.tuples then get_or (along.tuples.same i) slot no_tuple else no_tuple;
   } where
     elements : (slot : ℕ) (c : Bool) → is_among slot h.written ≡ c → (row_in h s t).elements slot ≡ (row_in h u t).elements slot
-    elements slot true e = ap (λ o. if is_among slot h.written then unwrap_or o (pos 0) else pos 0) (element-left slot e)
+    elements slot true e = ap (λ o. if is_among slot h.written then unwrap_or o (pos 0) else pos 0) (element-along h t first second formed_first formed like rows (unit_words ops) s u along slot e)
     elements slot false e = rw e refl
 
     numbers : (slot : ℕ) (c : Bool) → is_among slot h.numbers ≡ c → (row_in h s t).numbers slot ≡ (row_in h u t).numbers slot

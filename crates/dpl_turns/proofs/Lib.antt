@@ -1,4 +1,7 @@
 -- Two memories that go along in a turn, and what that makes of turns.
 pub mod Lists
 pub mod Ends
+pub mod Begins
+pub mod Quiet
 -- Whole arrays.
+pub mod Wholes

@@ -7,7 +7,7 @@ use Rattle.dpl_language.specs.Tree.{Op}
 use Rattle.dpl_memory.specs.Memory.{is_among}
 use Rattle.dpl_apart.specs.Memories.{with_words, with_values}
 use Rattle.dpl_apart.proofs.Memories.{words-length}
-use Rattle.dpl_turns.specs.Alongside.{slots_of, words_at}
+use Rattle.dpl_turns.specs.Alongside.{slots_of, words_at, put_in, slots_in}
 
 pub not-equal : (i j : ℕ) → (i == j) ≡ false → i ≢ j
 not-equal i j e same = let yes : (i == j) ≡ true = grind (arith, nat_tests) in let no : true ≡ false = sym yes ∙ e in cc
@@ -78,3 +78,23 @@ word-other (p ∷ ps) (w ∷ ws) xs j h = by (j == p.0) refl h (word-other ps ws
       → get_or (with_words (p ∷ ps) (w ∷ ws) xs) j (pos 0) ≡ get_or xs j (pos 0)
   by true at h rest = absurd cc
   by false at h rest = get_or-set_other (with_words ps ws xs) p.0 j w (pos 0) (not-equal j p.0 at) ∙ rest h
+
+-- ---- values that are put one after another
+pub put-length : {A : Type 0} (ps : List (ℕ × A)) (xs : List A) → length (put_in ps xs) ≡ length xs
+put-length [] xs = refl
+put-length (p ∷ ps) xs = put-length ps (set xs p.0 p.1) ∙ length-set xs p.0 p.1
+
+pub put-alike : {A : Type 0} (ps : List (ℕ × A)) (xs ys : List A) (j : ℕ) (d : A) → length xs ≡ length ys → (is_among j (slots_in ps) ≡ false → get_or xs j d ≡ get_or ys j d)
+    → get_or (put_in ps xs) j d ≡ get_or (put_in ps ys) j d
+put-alike [] xs ys j d long same = same refl
+put-alike (p ∷ ps) xs ys j d long same =
+    put-alike ps (set xs p.0 p.1) (set ys p.0 p.1) j d (length-set xs p.0 p.1 ∙ long ∙ sym (length-set ys p.0 p.1))
+    (λ none. set-alike xs ys p.0 j p.1 d long (λ other. same (rw other none)))
+
+pub put-other : {A : Type 0} (ps : List (ℕ × A)) (xs : List A) (j : ℕ) (d : A) → is_among j (slots_in ps) ≡ false → get_or (put_in ps xs) j d ≡ get_or xs j d
+put-other [] xs j d h = refl
+put-other {A} (p ∷ ps) xs j d h = by (j == p.0) refl h (put-other ps (set xs p.0 p.1) j d) where
+  by : (c : Bool) → (j == p.0) ≡ c → (c || is_among j (slots_in ps)) ≡ false
+      → (is_among j (slots_in ps) ≡ false → get_or (put_in ps (set xs p.0 p.1)) j d ≡ get_or (set xs p.0 p.1) j d) → get_or (put_in ps (set xs p.0 p.1)) j d ≡ get_or xs j d
+  by true at h rest = absurd cc
+  by false at h rest = rest h ∙ get_or-set_other xs p.0 j p.1 d (not-equal j p.0 at)

@@ -1,6 +1,6 @@
 -- Two memories that go along in a turn: the one has the rows that others have left, and what was added before; the other has neither.
 -- Whatever the turn does, it does in both.
-use Rattle.std.specs.Prelude.{◌≡◌, ℕ, ℤ, pos, Bool, false, true, Result, List, length, get_or, map}
+use Rattle.std.specs.Prelude.{◌≡◌, ℕ, ℤ, pos, Result, List, [], ◌∷◌, length, get_or, set, map, false, true}
 use Rattle.dpl_sets.specs.TextRanges.{TextRange}
 use Rattle.dpl_language.specs.Tree.{Op}
 use Rattle.dpl_language.specs.Values.{Index, Fault}
@@ -52,6 +52,21 @@ pub record IsAlongside (h : Changes) (t : Index) (first second : Memory) (rows :
   pub roots : (s.roots ≡ u.roots) × (u.roots ≡ second.roots)
   pub intents : (s.words.intents ≡ u.words.intents) × (u.words.intents ≡ second.words.intents)
   pub sets : (s.words.sets ≡ u.words.sets) × (u.words.sets ≡ second.words.sets)
+
+-- values put into slots, one after another
+abbrev pub put_in : {A : Type 0} → List (ℕ × A) → List A → List A
+put_in [] xs = xs
+put_in (p ∷ ps) xs = put_in ps (set xs p.0 p.1)
+
+abbrev pub slots_in : {A : Type 0} → List (ℕ × A) → List ℕ
+slots_in {A} ps = map (λ (p : ℕ × A). p.0) ps
+
+-- a memory in which some slots begin anew
+abbrev pub begun : List (ℕ × ℤ) → List (ℕ × TextRange) → List (ℕ × Index) → Memory → Memory
+begun numbers ranges tuples s = record s {
+  words = record s.words { numbers = put_in numbers s.words.numbers; ranges = put_in ranges s.words.ranges };
+  tuples = put_in tuples s.tuples;
+}
 
 -- a run that neither looks at what was done before it nor adds to that, and doesn't wait
 abbrev pub IsQuiet : Run Memory → Type 0
