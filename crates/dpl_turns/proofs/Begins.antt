@@ -17,7 +17,7 @@ use Rattle.dpl_apart.proofs.Memories.{map-same, words-length, held-arrays, held-
 use Rattle.dpl_apart.proofs.ReduceWords.{reduce_words}
 use Rattle.dpl_turns.specs.Alongside.{slots_of, words_at, put_in, slots_in, begun, ArraysAlong, NumbersAlong, ValuesAlong, IsAlongside}
 use Rattle.dpl_turns.proofs.Lists.{values-length, value-other, word-other, put-length, put-alike, put-other}
-use Rattle.dpl_turns.proofs.Ends.{exact-length, kept-slots}
+use Rattle.dpl_turns.proofs.Ends.{exact-length, kept-slots, last-roots}
 
 -- ---- a memory that holds rows, but for what the last turn has left
 module _ (h : Changes) (b : Memory) (rows : Index → Row) (a : List ℤ) where
@@ -48,10 +48,6 @@ module _ (h : Changes) (b : Memory) (rows : Index → Row) (a : List ℤ) where
   last-domains : (last : Option Index) → (held_in h b last rows a).domains ≡ b.domains
   last-domains None = refl
   last-domains (Some t) = refl
-
-  last-roots : (last : Option Index) → (held_in h b last rows a).roots ≡ b.roots
-  last-roots None = refl
-  last-roots (Some t) = refl
 
   last-intents : (last : Option Index) → (held_in h b last rows a).words.intents ≡ b.words.intents
   last-intents None = refl
@@ -148,7 +144,7 @@ module _ (h : Changes) (t : Index) (first second : Memory) (formed_first : IsFor
         (λ j none. like.tuples j none ∙ sym (last-tuple h second rows words last j none)) (last-tuple h second rows words last)
         (like.tuple_slots ∙ sym (tuple-slots h second rows words last)) (tuple-slots h second rows words last);
     domains = (like.domains ∙ sym (last-domains h second rows words last), last-domains h second rows words last);
-    roots = (like.roots ∙ sym (last-roots h second rows words last), last-roots h second rows words last);
+    roots = like.roots ∙ sym (last-roots h second rows words last);
     intents = (like.intents ∙ sym (last-intents h second rows words last), last-intents h second rows words last);
     sets = (like.sets ∙ sym (last-sets h second rows words last), last-sets h second rows words last);
   }

@@ -20,7 +20,7 @@ use Rattle.dpl_apart.proofs.Indices.{same_index-refl, same_index-sound}
 use Rattle.dpl_apart.proofs.Memories.{map-same, element-here, element-length, word-found, words-length}
 use Rattle.dpl_apart.proofs.Rejoined.{or-true}
 use Rattle.dpl_apart.proofs.ReduceWords.{reduce_words}
-use Rattle.dpl_turns.specs.Alongside.{slots_of, words_at, ArraysAlong, NumbersAlong, ValuesAlong, IsAlongside, IsQuiet}
+use Rattle.dpl_turns.specs.Alongside.{slots_of, words_at, ArraysAlong, NumbersAlong, ValuesAlong, IsAlongside, KeepsRoots, IsQuiet}
 use Rattle.dpl_turns.proofs.Lists.{values-length, value-among, value-other, own-words, words-alike}
 
 -- ---- slots
@@ -129,7 +129,7 @@ values-end {A} d slots kept xs ys value along left =
         ap (λ xs. get_or xs j d) (sym along.same) ∙ sym (left j e) ∙ sym (value-among slots value kept j d e (omega (arith, within, long)))
     by j false e within = along.stay j e ∙ sym (value-other slots value kept j d e)
 
-module _ (h : Changes) (b : Memory) (formed : IsFormed h b) (t : Index) (rows : Index → Row) (words : List ℤ) (s u : Memory) (along : IsAlongside h t b b rows words s u) where
+module _ (h : Changes) (b : Memory) (formed : IsFormed h b) (t : Index) (rows : Index → Row) (words : List ℤ) (s u : Memory) (along : IsAlongside h t b b rows words s u) (kept_roots : u.roots ≡ b.roots) where
   abbrev left : Row
   left = row_in h s t
 
@@ -191,7 +191,7 @@ module _ (h : Changes) (b : Memory) (formed : IsFormed h b) (t : Index) (rows : 
         let tuples = values-end no_tuple h.tuples b.tuples s.tuples u.tuples left.tuples along.tuples (λ j e. ap (λ c. if c then get_or s.tuples j no_tuple else no_tuple) e) in
         let arrays = arrays-end in
         let domains = along.domains.1 in
-        let roots = along.roots.1 in
+        let roots = kept_roots in
         let intents = along.intents.1 in
         let sets = along.sets.1 in
         λ i. record {
@@ -238,7 +238,7 @@ module _ (h : Changes) (t : Index) (first second : Memory) (formed_first : IsFor
     domains = along.domains.0;
     intents = along.intents.0;
     sets = along.sets.0;
-    roots = along.roots.0;
+    roots = along.roots;
   }
 
 module _ (h : Changes) (t : Index) (first second : Memory) (formed_first : IsFormed h first) (formed : IsFormed h second) (like : IsLike h t first second) (rows : Index → Row) (s u : Memory) (along : IsAlongside h t first second rows (unit_words (operators_of h.reduced)) s u) where
@@ -277,6 +277,14 @@ stopped-same : (r : Result Memory Fault) (f : Fault) (done : Deeds) → worker_e
 stopped-same (Ok v) f done e = absurd cc
 stopped-same (Err g) f done e = let same : g ≡ f = cc in ap (λ f. Stop f done) same
 
+kept-roots : (r : Result Memory Fault) (s u : Memory) → worker_end r no_deeds ≡ Done u no_deeds → KeepsRoots s r → u.roots ≡ s.roots
+kept-roots (Ok v) s u e kept = let same : v ≡ u = cc in ap (λ (m : Memory). m.roots) (sym same) ∙ kept
+kept-roots (Err f) s u e kept = absurd cc
+
+pub last-roots : (h : Changes) (b : Memory) (rows : Index → Row) (a : List ℤ) (last : Option Index) → (held_in h b last rows a).roots ≡ b.roots
+last-roots h b rows a None = refl
+last-roots h b rows a (Some t) = refl
+
 -- Turns that see an index each, which is their own where it is one of the loop's rank, and do the same in two memories that go along.
 module _ (h : Changes) (turn : Index → Run Memory) (own : Index → Index) (owned : (t : Index) → IsOfRank h t → own t ≡ t) (quiet : (t : Index) → IsQuiet (turn t))
     (along : (t : Index) (first second : Memory) → IsFormed h first → IsFormed h second → IsLike h (own t) first second → (last : Option Index) (rows : Index → Row) (row : Row) (words : List ℤ) → rows (own t) ≡ row
@@ -288,17 +296,17 @@ module _ (h : Changes) (turn : Index → Run Memory) (own : Index → Index) (ow
   module _ (b : Memory) (formed : IsFormed h b) where
     each : (t : Index) (last : Option Index) (rows : Index → Row) (words : List ℤ) (done : Deeds) → IsOfRank h t → AreExact (operators_of h.reduced) words
         → turn t (held_in h b last rows words) done ≡ turn_left (held_in h b) (all_combined (operators_of h.reduced)) t rows words done (turn_alone h b turn t (rows t))
-    each t last rows words done of_rank exact = by r1.0 r2.0 r1.1 r2.1 ends where
+    each t last rows words done of_rank exact = by r1.0 r2.0 r1.1 r2.1 r2.2 ends where
       s1 : Memory
       s1 = held_in h b None (λ x. rows t) units
 
       s2 : Memory
       s2 = held_in h b last rows words
 
-      r1 : (r : Result Memory Fault) × ((done : Deeds) → turn t s1 done ≡ worker_end r done)
+      r1 : (r : Result Memory Fault) × ((done : Deeds) → turn t s1 done ≡ worker_end r done) × KeepsRoots s1 r
       r1 = quiet t s1
 
-      r2 : (r : Result Memory Fault) × ((done : Deeds) → turn t s2 done ≡ worker_end r done)
+      r2 : (r : Result Memory Fault) × ((done : Deeds) → turn t s2 done ≡ worker_end r done) × KeepsRoots s2 r
       r2 = quiet t s2
 
       ends : EndsAlike (IsAlongside h t b b rows words) (turn t s1 no_deeds) (turn t s2 no_deeds)
@@ -306,15 +314,15 @@ module _ (h : Changes) (turn : Index → Run Memory) (own : Index → Index) (ow
           subst (λ x. EndsAlike (IsAlongside h x b b rows words) (turn t s1 no_deeds) (turn t s2 no_deeds)) (owned t of_rank)
           (along t b b formed formed (like-itself h (own t) b) last rows (rows t) words (ap rows (owned t of_rank)) exact)
 
-      by : (p q : Result Memory Fault) → ((done : Deeds) → turn t s1 done ≡ worker_end p done) → ((done : Deeds) → turn t s2 done ≡ worker_end q done)
+      by : (p q : Result Memory Fault) → ((done : Deeds) → turn t s1 done ≡ worker_end p done) → ((done : Deeds) → turn t s2 done ≡ worker_end q done) → KeepsRoots s2 q
           → EndsAlike (IsAlongside h t b b rows words) (turn t s1 no_deeds) (turn t s2 no_deeds)
           → turn t s2 done ≡ turn_left (held_in h b) (all_combined (operators_of h.reduced)) t rows words done (turned_in h t (rows t) (turn t s1 no_deeds))
-      by (Ok u1) q e1 e2 alike =
+      by (Ok u1) q e1 e2 kept alike =
           let its : EndsAlike (IsAlongside h t b b rows words) (Done u1 no_deeds) (turn t s2 no_deeds) = subst (λ o. EndsAlike (IsAlongside h t b b rows words) o (turn t s2 no_deeds)) (e1 no_deeds) alike in
           e2 done ∙ ended-same q its.0 done (sym (e2 no_deeds) ∙ its.2)
-          ∙ ap (λ u. Done u done) (holds-left h b formed t rows words u1 its.0 its.1)
+          ∙ ap (λ u. Done u done) (holds-left h b formed t rows words u1 its.0 its.1 (kept-roots q s2 its.0 (sym (e2 no_deeds) ∙ its.2) kept ∙ last-roots h b rows words last))
           ∙ sym (ap (λ o. turn_left (held_in h b) (all_combined (operators_of h.reduced)) t rows words done (turned_in h t (rows t) o)) (e1 no_deeds))
-      by (Err f) q e1 e2 alike =
+      by (Err f) q e1 e2 kept alike =
           let its : EndsAlike (IsAlongside h t b b rows words) (Stop f no_deeds) (turn t s2 no_deeds) = subst (λ o. EndsAlike (IsAlongside h t b b rows words) o (turn t s2 no_deeds)) (e1 no_deeds) alike in
           e2 done ∙ stopped-same q f done (sym (e2 no_deeds) ∙ its)
           ∙ sym (ap (λ o. turn_left (held_in h b) (all_combined (operators_of h.reduced)) t rows words done (turned_in h t (rows t) o)) (e1 no_deeds))

@@ -1,6 +1,6 @@
 -- Two memories that go along in a turn: the one has the rows that others have left, and what was added before; the other has neither.
 -- Whatever the turn does, it does in both.
-use Rattle.std.specs.Prelude.{◌≡◌, ℕ, ℤ, pos, Result, List, [], ◌∷◌, length, get_or, set, map, false, true}
+use Rattle.std.specs.Prelude.{◌≡◌, ℕ, ℤ, pos, Result, Ok, Err, List, [], ◌∷◌, length, get_or, set, map, false, true}
 use Rattle.dpl_sets.specs.TextRanges.{TextRange}
 use Rattle.dpl_language.specs.Tree.{Op}
 use Rattle.dpl_language.specs.Values.{Index, Fault}
@@ -49,7 +49,7 @@ pub record IsAlongside (h : Changes) (t : Index) (first second : Memory) (rows :
   pub ranges : ValuesAlong no_range h.ranges second.words.ranges s.words.ranges u.words.ranges
   pub tuples : ValuesAlong no_tuple h.tuples second.tuples s.tuples u.tuples
   pub domains : (s.domains ≡ u.domains) × (u.domains ≡ second.domains)
-  pub roots : (s.roots ≡ u.roots) × (u.roots ≡ second.roots)
+  pub roots : s.roots ≡ u.roots
   pub intents : (s.words.intents ≡ u.words.intents) × (u.words.intents ≡ second.words.intents)
   pub sets : (s.words.sets ≡ u.words.sets) × (u.words.sets ≡ second.words.sets)
 
@@ -68,6 +68,11 @@ begun numbers ranges tuples s = record s {
   tuples = put_in tuples s.tuples;
 }
 
--- a run that neither looks at what was done before it nor adds to that, and doesn't wait
+-- where a run leaves a memory, that has the roots which it had
+abbrev pub KeepsRoots : Memory → Result Memory Fault → Type 0
+KeepsRoots s (Ok u) = u.roots ≡ s.roots
+KeepsRoots s (Err f) = Unit {0}
+
+-- A run that neither looks at what was done before it nor adds to that, doesn't wait, and leaves all roots.
 abbrev pub IsQuiet : Run Memory → Type 0
-IsQuiet run = (s : Memory) → (r : Result Memory Fault) × ((done : Deeds) → run s done ≡ worker_end r done)
+IsQuiet run = (s : Memory) → (r : Result Memory Fault) × ((done : Deeds) → run s done ≡ worker_end r done) × KeepsRoots s r
