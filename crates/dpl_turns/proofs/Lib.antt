@@ -3,5 +3,6 @@ pub mod Lists
 pub mod Ends
 pub mod Begins
 pub mod Quiet
+pub mod Added
 -- Whole arrays.
 pub mod Wholes
