@@ -6,3 +6,5 @@ pub mod Quiet
 pub mod Added
 -- Whole arrays.
 pub mod Wholes
+-- Bodies.
+pub mod Scoped
