@@ -5,11 +5,11 @@ use Rattle.std.specs.Prelude.{if◌then◌else◌, not, ◌==◌, ◌||◌, ◌&
 use Rattle.std.specs.List.{AllByRecursion}
 use Rattle.std.proofs.lemmas.List.{ext_get_or}
 use Rattle.dpl_sets.specs.TextRanges.{TextRange}
-use Rattle.dpl_language.specs.Tree.{Op}
-use Rattle.dpl_language.specs.Values.{Index}
+use Rattle.dpl_language.specs.Tree.{Op, Kind}
+use Rattle.dpl_language.specs.Values.{Value, Index, kept_number}
 use Rattle.dpl_language.specs.Ranges.{same_index}
 use Rattle.dpl_words.specs.Words.{no_range}
-use Rattle.dpl_memory.specs.Memory.{Held, Memory, no_tuple, no_array, array_at, with_array, held_with, is_among}
+use Rattle.dpl_memory.specs.Memory.{ArrayKind, variable, in_memory, Held, Memory, no_tuple, no_array, array_at, with_array, held_with, is_among}
 use Rattle.dpl_apart.specs.Operands.{all_combined, unit_words, AreExact}
 use Rattle.dpl_apart.specs.Memories.{Changes, Row, with_elements, with_words, with_values, words_in, operators_of, held_in, IsFormed, is_kept, IsLike}
 use Rattle.dpl_apart.proofs.Split.{each-weaker}
@@ -33,17 +33,17 @@ module _ (h : Changes) (b : Memory) (rows : Index → Row) (a : List ℤ) where
   last-tuple None j e = refl
   last-tuple (Some t) j e = value-other h.tuples (rows t).tuples b.tuples j no_tuple e
 
-  number-slots : (last : Option Index) → length (held_in h b last rows a).words.numbers ≡ length b.words.numbers
-  number-slots None = words-length h.reduced a b.words.numbers
-  number-slots (Some t) = values-length h.numbers (rows t).numbers (with_words h.reduced a b.words.numbers) ∙ words-length h.reduced a b.words.numbers
+  pub number_slots-held : (last : Option Index) → length (held_in h b last rows a).words.numbers ≡ length b.words.numbers
+  number_slots-held None = words-length h.reduced a b.words.numbers
+  number_slots-held (Some t) = values-length h.numbers (rows t).numbers (with_words h.reduced a b.words.numbers) ∙ words-length h.reduced a b.words.numbers
 
   range-slots : (last : Option Index) → length (held_in h b last rows a).words.ranges ≡ length b.words.ranges
   range-slots None = refl
   range-slots (Some t) = values-length h.ranges (rows t).ranges b.words.ranges
 
-  tuple-slots : (last : Option Index) → length (held_in h b last rows a).tuples ≡ length b.tuples
-  tuple-slots None = refl
-  tuple-slots (Some t) = values-length h.tuples (rows t).tuples b.tuples
+  pub tuple_slots-held : (last : Option Index) → length (held_in h b last rows a).tuples ≡ length b.tuples
+  tuple_slots-held None = refl
+  tuple_slots-held (Some t) = values-length h.tuples (rows t).tuples b.tuples
 
   last-domains : (last : Option Index) → (held_in h b last rows a).domains ≡ b.domains
   last-domains None = refl
@@ -109,7 +109,7 @@ module _ (h : Changes) (t : Index) (first second : Memory) (formed_first : IsFor
 
   same-number : (j : ℕ) → is_among j (slots_of h.reduced) ≡ false → get_or (put_in ns s.words.numbers) j (pos 0) ≡ get_or (put_in ns u.words.numbers) j (pos 0)
   same-number j other =
-      put-alike ns s.words.numbers u.words.numbers j (pos 0) (words-length h.reduced units first.words.numbers ∙ like.number_slots ∙ sym (number-slots h second rows words last))
+      put-alike ns s.words.numbers u.words.numbers j (pos 0) (words-length h.reduced units first.words.numbers ∙ like.number_slots ∙ sym (number_slots-held h second rows words last))
       (λ none. let out : is_among j h.numbers ≡ false = of_numbers j ∙ none in
       word-other h.reduced units first.words.numbers j other ∙ like.numbers j (ap (λ c. not c && not (is_among j (slots_of h.reduced))) out ∙ ap not other) ∙ sym (second-number j out other))
 
@@ -121,7 +121,7 @@ module _ (h : Changes) (t : Index) (first second : Memory) (formed_first : IsFor
     exact = subst (AreExact (operators_of h.reduced)) (sym first-words) (reduce_words (operators_of h.reduced)).one;
     stay = λ j kept. let slots = kept-slots h j kept in put-other ns u.words.numbers j (pos 0) (sym (of_numbers j) ∙ slots.0) ∙ second-number j slots.0 slots.1;
     first_slots = put-length ns s.words.numbers ∙ words-length h.reduced units first.words.numbers ∙ like.number_slots;
-    second_slots = put-length ns u.words.numbers ∙ number-slots h second rows words last;
+    second_slots = put-length ns u.words.numbers ∙ number_slots-held h second rows words last;
   }
 
   pub begins : IsAlongside h t first second rows words (begun ns rs ts s) (begun ns rs ts u)
@@ -142,7 +142,7 @@ module _ (h : Changes) (t : Index) (first second : Memory) (formed_first : IsFor
     tuples =
         values-begin no_tuple h.tuples ts second.tuples first.tuples u.tuples of_tuples
         (λ j none. like.tuples j none ∙ sym (last-tuple h second rows words last j none)) (last-tuple h second rows words last)
-        (like.tuple_slots ∙ sym (tuple-slots h second rows words last)) (tuple-slots h second rows words last);
+        (like.tuple_slots ∙ sym (tuple_slots-held h second rows words last)) (tuple_slots-held h second rows words last);
     domains = (like.domains ∙ sym (last-domains h second rows words last), last-domains h second rows words last);
     roots = like.roots ∙ sym (last-roots h second rows words last);
     intents = (like.intents ∙ sym (last-intents h second rows words last), last-intents h second rows words last);
@@ -166,4 +166,18 @@ module _ (h : Changes) (t : Index) (slot : ℕ) (w : ℤ) (written : is_among sl
     second_arrays = element-put second formed along.second_rows ks along.second_arrays;
     own = λ i. ap (λ v. if same_index t t && (i == slot) then w else v) (along.own i);
     others = λ x i e. rw e (along.others x i e);
+  }
+
+module _ (h : Changes) (t : Index) (first second : Memory) (formed_first : IsFormed h first) (formed : IsFormed h second) (rows : Index → Row) (words : List ℤ) where
+  pub put-along : (slot : ℕ) (k : Kind) (v : Value) (s u : Memory) → is_among slot h.written ≡ true → IsAlongside h t first second rows words s u
+      → IsAlongside h t first second rows words (in_memory.put_element (variable (ArrayKind k) slot) t v s) (in_memory.put_element (variable (ArrayKind k) slot) t v u)
+  put-along slot k v s u written along = record {
+    arrays = arrays-put h t slot (kept_number v) written first second formed_first formed rows s.arrays u.arrays along.arrays;
+    numbers = along.numbers;
+    ranges = along.ranges;
+    tuples = along.tuples;
+    domains = along.domains;
+    roots = along.roots;
+    intents = along.intents;
+    sets = along.sets;
   }

@@ -3,8 +3,12 @@ pub mod Lists
 pub mod Ends
 pub mod Begins
 pub mod Quiet
+-- What a turn may do with names.
 pub mod Added
+pub mod Scoped
 -- Whole arrays.
 pub mod Wholes
 -- Bodies.
-pub mod Scoped
+pub mod Bound
+pub mod Silent
+pub mod Bodies

@@ -82,19 +82,18 @@ word-other (p ∷ ps) (w ∷ ws) xs j h = by (j == p.0) refl h (word-other ps ws
 -- ---- values that are put one after another
 pub put-length : {A : Type 0} (ps : List (ℕ × A)) (xs : List A) → length (put_in ps xs) ≡ length xs
 put-length [] xs = refl
-put-length (p ∷ ps) xs = put-length ps (set xs p.0 p.1) ∙ length-set xs p.0 p.1
+put-length (p ∷ ps) xs = length-set (put_in ps xs) p.0 p.1 ∙ put-length ps xs
 
 pub put-alike : {A : Type 0} (ps : List (ℕ × A)) (xs ys : List A) (j : ℕ) (d : A) → length xs ≡ length ys → (is_among j (slots_in ps) ≡ false → get_or xs j d ≡ get_or ys j d)
     → get_or (put_in ps xs) j d ≡ get_or (put_in ps ys) j d
 put-alike [] xs ys j d long same = same refl
 put-alike (p ∷ ps) xs ys j d long same =
-    put-alike ps (set xs p.0 p.1) (set ys p.0 p.1) j d (length-set xs p.0 p.1 ∙ long ∙ sym (length-set ys p.0 p.1))
-    (λ none. set-alike xs ys p.0 j p.1 d long (λ other. same (rw other none)))
+    set-alike (put_in ps xs) (put_in ps ys) p.0 j p.1 d (put-length ps xs ∙ long ∙ sym (put-length ps ys)) (λ other. put-alike ps xs ys j d long (λ none. same (rw other none)))
 
 pub put-other : {A : Type 0} (ps : List (ℕ × A)) (xs : List A) (j : ℕ) (d : A) → is_among j (slots_in ps) ≡ false → get_or (put_in ps xs) j d ≡ get_or xs j d
 put-other [] xs j d h = refl
-put-other {A} (p ∷ ps) xs j d h = by (j == p.0) refl h (put-other ps (set xs p.0 p.1) j d) where
-  by : (c : Bool) → (j == p.0) ≡ c → (c || is_among j (slots_in ps)) ≡ false
-      → (is_among j (slots_in ps) ≡ false → get_or (put_in ps (set xs p.0 p.1)) j d ≡ get_or (set xs p.0 p.1) j d) → get_or (put_in ps (set xs p.0 p.1)) j d ≡ get_or xs j d
+put-other {A} (p ∷ ps) xs j d h = by (j == p.0) refl h (put-other ps xs j d) where
+  by : (c : Bool) → (j == p.0) ≡ c → (c || is_among j (slots_in ps)) ≡ false → (is_among j (slots_in ps) ≡ false → get_or (put_in ps xs) j d ≡ get_or xs j d)
+      → get_or (put_in (p ∷ ps) xs) j d ≡ get_or xs j d
   by true at h rest = absurd cc
-  by false at h rest = rest h ∙ get_or-set_other xs p.0 j p.1 d (not-equal j p.0 at)
+  by false at h rest = get_or-set_other (put_in ps xs) p.0 j p.1 d (not-equal j p.0 at) ∙ rest h

@@ -21,11 +21,11 @@ use Rattle.dpl_agreement.proofs.RunsAlike.{All-every}
 use Rattle.dpl_apart.specs.Operands.{all_combined, AreExact}
 use Rattle.dpl_apart.specs.Memories.{Changes, Row, IsFormed, IsLike, is_kept, operators_of}
 use Rattle.dpl_turns.specs.Alongside.{slots_of, words_at, NumbersAlong, ValuesAlong, IsAlongside}
-use Rattle.dpl_turns.specs.Bodies.{OwnNames, NoNames, Ints, OneTuple, own_slots, more_ints, IsOwn, Hold, is_free, adds_by, is_none, is_reduced, begins_anew, may_assign, may_declare, ReadsAt, ReadsElement, AssignsAt, AssignsElement, turn_scoping}
+use Rattle.dpl_turns.specs.Bodies.{OwnNames, NoNames, OneInt, Ints, OneTuple, own_slots, more_ints, IsOwn, Hold, is_free, adds_by, is_none, is_reduced, begins_anew, may_assign, may_declare, ReadsAt, ReadsElement, AssignsAt, AssignsElement, turn_scoping}
 use Rattle.dpl_turns.proofs.Lists.{not-equal, set-alike}
 use Rattle.dpl_turns.proofs.Ends.{apart-slots, kept-slots, element-along, lent-along, domains-along}
 use Rattle.dpl_turns.proofs.Added.{word_after, int-added, truth-added, words-unset, added-both, intent-there}
-use Rattle.dpl_turns.proofs.Wholes.{put-along}
+use Rattle.dpl_turns.proofs.Begins.{put-along}
 
 and-both : (a b : Bool) → (a && b) ≡ true → (a ≡ true) × (b ≡ true)
 and-both true b e = (refl, e)
@@ -51,18 +51,22 @@ others-unset (i ∷ is) ns slot y h = by (slot == i) refl h (others-unset is ns 
       let behind = rest h in
       λ k. here k ∷ behind k
 
+-- and not by what is put into another slot
+apart-of : (slot i : ℕ) (c : Bool) → (slot == i) ≡ c → (c || false) ≡ false → i ≢ slot
+apart-of slot i true e none = absurd cc
+apart-of slot i false e none = grind (arith, nat_tests)
+
 hold-number : (own : OwnNames) (t : Index) (ns : List ℤ) (ts : List Index) (slot : ℕ) (y : ℤ) → is_among slot (own_slots own) ≡ false → Hold own t ns ts → Hold own t (set ns slot y) ts
 hold-number NoNames t ns ts slot y none held = tt
-hold-number (Ints slots) t ns ts slot y none held = others-unset slots ns slot y none ∙ held
+hold-number (OneInt i) t ns ts slot y none held = ap (λ w. w ∷ []) (get_or-set_other ns slot i y (pos 0) (apart-of slot i (slot == i) refl none)) ∙ held
+hold-number (Ints first others) t ns ts slot y none held = others-unset (first ∷ others) ns slot y none ∙ held
 hold-number (OneTuple i) t ns ts slot y none held = held
 
 hold-tuple : (own : OwnNames) (t : Index) (ns : List ℤ) (ts : List Index) (slot : ℕ) (v : Index) → is_among slot (own_slots own) ≡ false → Hold own t ns ts → Hold own t ns (set ts slot v)
 hold-tuple NoNames t ns ts slot v none held = tt
-hold-tuple (Ints slots) t ns ts slot v none held = held
-hold-tuple (OneTuple i) t ns ts slot v none held = get_or-set_other ts slot i v no_tuple (other (slot == i) refl none) ∙ held where
-  other : (c : Bool) → (slot == i) ≡ c → (c || false) ≡ false → i ≢ slot
-  other true e none = absurd cc
-  other false e none = grind (arith, nat_tests)
+hold-tuple (OneInt i) t ns ts slot v none held = held
+hold-tuple (Ints first others) t ns ts slot v none held = held
+hold-tuple (OneTuple i) t ns ts slot v none held = get_or-set_other ts slot i v no_tuple (apart-of slot i (slot == i) refl none) ∙ held
 
 module _ (limits : Limits) where
   ints-given : (slots : List ℕ) (s : Memory) → more_items limits in_memory (more_ints slots) s ≡ Ok (map (λ slot. Int (get_or s.words.numbers slot (pos 0))) slots)
@@ -80,8 +84,9 @@ module _ (limits : Limits) where
   own-index : (own : OwnNames) (t : Index) (items : Items Variable) (vs : List Value) (s : Memory) → IsOwn own items → Hold own t s.words.numbers s.tuples → items_of limits in_memory items s ≡ Ok vs
       → index_of vs ≡ t
   own-index NoNames t items vs s is held given = absurd is
-  own-index (Ints []) t items vs s is held given = absurd is
-  own-index (Ints (slot ∷ slots)) t items vs s is held given =
+  own-index (OneInt slot) t items vs s is held given =
+      ap index_of (same-given (items_of limits in_memory items s) vs (Int (get_or s.words.numbers slot (pos 0)) ∷ []) given (ap (λ items. items_of limits in_memory items s) is)) ∙ held
+  own-index (Ints slot slots) t items vs s is held given =
       ap index_of
       (same-given (items_of limits in_memory items s) vs (map (λ slot. Int (get_or s.words.numbers slot (pos 0))) (slot ∷ slots)) given
       (ap (λ items. items_of limits in_memory items s) is ∙ ap (λ r. with_ok r (λ vs. Ok (Int (get_or s.words.numbers slot (pos 0)) ∷ vs))) (ints-given slots s)))
@@ -309,7 +314,7 @@ module _ (limits : Limits) (h : Changes) (own : OwnNames) (t : Index) (first sec
       → GoAlong tt (with_element_in (ArrayKind k) slot i v s) (with_element_in (ArrayKind k) slot i v u)
   puts-array k slot i v s u r written here =
       subst (λ i. GoAlong tt (with_element_in (ArrayKind k) slot i v s) (with_element_in (ArrayKind k) slot i v u)) (sym here)
-      (put-along h t first second formed_first formed like rows words slot k v s u written r.0, r.1)
+      (put-along h t first second formed_first formed rows words slot k v s u written r.0, r.1)
 
   puts-at : (k : VariableKind) (slot : ℕ) (i : Index) (v : Value) (s u : Memory) → GoAlong tt s u → AssignsAt h own k slot i t → GoAlong tt (with_element_in k slot i v s) (with_element_in k slot i v u)
   puts-at (PlainKind k) slot i v s u r may = r

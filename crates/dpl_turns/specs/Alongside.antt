@@ -53,10 +53,10 @@ pub record IsAlongside (h : Changes) (t : Index) (first second : Memory) (rows :
   pub intents : (s.words.intents ≡ u.words.intents) × (u.words.intents ≡ second.words.intents)
   pub sets : (s.words.sets ≡ u.words.sets) × (u.words.sets ≡ second.words.sets)
 
--- values put into slots, one after another
+-- values put into slots, the last of a list first
 abbrev pub put_in : {A : Type 0} → List (ℕ × A) → List A → List A
 put_in [] xs = xs
-put_in (p ∷ ps) xs = put_in ps (set xs p.0 p.1)
+put_in (p ∷ ps) xs = set (put_in ps xs) p.0 p.1
 
 abbrev pub slots_in : {A : Type 0} → List (ℕ × A) → List ℕ
 slots_in {A} ps = map (λ (p : ℕ × A). p.0) ps

@@ -1,24 +1,33 @@
 -- What the body of a forall may do, so that its turns may be made apart: which names it may read and assign, and at which indices.
-use Rattle.std.specs.Prelude.{◌≡◌, ℕ, ℤ, pos, Bool, true, false, not, ◌&&◌, ◌||◌, Option, None, Some, List, [], ◌∷◌, get_or, map}
-use Rattle.dpl_language.specs.Tree.{Op, Sum, Product, AllOf, AnyOf, BitAnd, BitOr, BitXor, Least, Greatest, Assign, Set, SetAdd, SetSubtract, SetMultiply, SetDivide, SetRemainder, SetReduce, ExprTree, Named, ItemTree, One, Items, FirstItem, MoreItems, NoItems, NextItem}
-use Rattle.dpl_language.specs.Values.{Index}
+use Rattle.std.specs.Prelude.{◌≡◌, ℕ, ℤ, pos, Bool, true, false, not, ◌&&◌, ◌||◌, Option, None, Some, List, [], ◌∷◌, length, get_or, map}
+use Rattle.dpl_language.specs.Tree.{Op, Sum, Product, AllOf, AnyOf, BitAnd, BitOr, BitXor, Least, Greatest, Assign, Set, SetAdd, SetSubtract, SetMultiply, SetDivide, SetRemainder, SetReduce, Placed, ExprTree, Named, ItemTree, One, Items, FirstItem, MoreItems, NoItems, NextItem, VariablesTree, OneVariable, ManyVariables, TypeTree, ScalarType, SyncType, DomainType, ArrayType, InitTree, ItemInit, CreateInit, InitialTree, DeclareTree, StmtTree, Nothing, Declare, Assigned, Call, Write, Block, If, While, For, Forall, Coforall, On, Body, WordBody, BlockBody, Stmts, NoStmts, Then, Else, NoElse, ElseDo}
+use Rattle.dpl_language.specs.Values.{Index, Domain}
+use Rattle.dpl_language.specs.Outcome.{Run}
+use Rattle.dpl_language.specs.Environment.{Limits}
+use Rattle.dpl_language.specs.Phrases.{item_read, parts}
+use Rattle.dpl_language.specs.Loops.{bound_to}
+use Rattle.dpl_language.specs.Declarations.{type_of}
+use Rattle.dpl_language.specs.Statements.{exec_all}
 use Rattle.dpl_lowered.specs.Shapes.{nowhere}
 use Rattle.dpl_words.specs.Words.{LeafKind, IntLeaf, TruthLeaf, RangeLeaf, combines, intent_at}
-use Rattle.dpl_memory.specs.Memory.{VariableKind, PlainKind, DomainKind, TupleKind, ArrayKind, Variable, variable, no_tuple, is_among}
-use Rattle.dpl_agreement.specs.Scopes.{Scoping, Form, PlainForm, ArrayForm, CellForm}
+use Rattle.dpl_memory.specs.Memory.{VariableKind, PlainKind, DomainKind, TupleKind, ArrayKind, Variable, variable, Memory, no_tuple, is_among, in_memory}
+use Rattle.dpl_agreement.specs.Scopes.{Scoping, Form, PlainForm, ArrayForm, CellForm, fits_all}
+use Rattle.dpl_apart.specs.Rows.{AreOnce}
 use Rattle.dpl_apart.specs.Memories.{Changes}
 use Rattle.dpl_turns.specs.Alongside.{slots_of}
 
--- THE OWN INDEX
--- the variables of a loop, by their slots: an int for each dimension, or one tuple; an assignment to a whole array has none
+-- THE VARIABLES OF A LOOP
+-- By their slots: an int; an int for each dimension, at least one; or a tuple. An assignment to a whole array has none.
 pub data OwnNames : Type 0 where
   NoNames : OwnNames
-  Ints : List ℕ → OwnNames
+  OneInt : ℕ → OwnNames
+  Ints : ℕ → List ℕ → OwnNames
   OneTuple : ℕ → OwnNames
 
 abbrev pub own_slots : OwnNames → List ℕ
 own_slots NoNames = []
-own_slots (Ints slots) = slots
+own_slots (OneInt slot) = slot ∷ []
+own_slots (Ints first others) = first ∷ others
 own_slots (OneTuple slot) = slot ∷ []
 
 abbrev pub name_at : VariableKind → ℕ → ItemTree Variable
@@ -31,15 +40,69 @@ more_ints (slot ∷ slots) = NextItem nowhere (name_at (PlainKind IntLeaf) slot)
 -- items that are a loop's variables, in their order, and so give a turn's own index
 abbrev pub IsOwn : OwnNames → Items Variable → Type 0
 IsOwn NoNames items = ⊥
-IsOwn (Ints []) items = ⊥
-IsOwn (Ints (slot ∷ slots)) items = items ≡ FirstItem (name_at (PlainKind IntLeaf) slot) (more_ints slots)
+IsOwn (OneInt slot) items = items ≡ FirstItem (name_at (PlainKind IntLeaf) slot) NoItems
+IsOwn (Ints first others) items = items ≡ FirstItem (name_at (PlainKind IntLeaf) first) (more_ints others)
 IsOwn (OneTuple slot) items = items ≡ FirstItem (name_at TupleKind slot) NoItems
 
 -- a loop's variables hold an index, by numbers and tuples
 abbrev pub Hold : OwnNames → Index → List ℤ → List Index → Type 0
 Hold NoNames t numbers tuples = Unit {0}
-Hold (Ints slots) t numbers tuples = map (λ slot. get_or numbers slot (pos 0)) slots ≡ t
+Hold (OneInt slot) t numbers tuples = get_or numbers slot (pos 0) ∷ [] ≡ t
+Hold (Ints first others) t numbers tuples = map (λ slot. get_or numbers slot (pos 0)) (first ∷ others) ≡ t
 Hold (OneTuple slot) t numbers tuples = get_or tuples slot no_tuple ≡ t
+
+-- they are of this rank
+abbrev pub AreOfRank : OwnNames → ℕ → Type 0
+AreOfRank NoNames rank = ⊥
+AreOfRank (OneInt slot) rank = rank ≡ 1
+AreOfRank (Ints first others) rank = rank ≡ length (first ∷ others)
+AreOfRank (OneTuple slot) rank = Unit {0}
+
+-- their declarations in a turn, with which other slots begin anew
+abbrev pub leaf_along : VariableKind → ℕ → List ℕ → Placed Variable
+leaf_along k slot along = record { at = nowhere; name = record { kind = k; slot = slot; along = along } }
+
+abbrev pub loop_variables : OwnNames → List ℕ → VariablesTree Variable
+loop_variables NoNames along = ManyVariables nowhere (record { first = leaf_along DomainKind 0 along; others = [] }) nowhere
+loop_variables (OneInt slot) along = OneVariable (leaf_along (PlainKind IntLeaf) slot along)
+loop_variables (Ints first others) along =
+    ManyVariables nowhere (record {
+      first = leaf_along (PlainKind IntLeaf) first along;
+      others = map (λ slot. record { comma = nowhere; part = leaf_along (PlainKind IntLeaf) slot [] }) others;
+    }) nowhere
+loop_variables (OneTuple slot) along = OneVariable (leaf_along TupleKind slot along)
+
+-- A TURN binds its index, then runs a body.
+abbrev pub body_turn : Limits → OwnNames → List ℕ → Stmts Variable → Index → Run Memory
+body_turn limits own along body t s done = exec_all limits in_memory body (bound_to in_memory (loop_variables own along) (Domain []) t s) done
+
+-- slots, put before others one after another
+abbrev pub slots_onto : List ℕ → List ℕ → List ℕ
+slots_onto [] behind = behind
+slots_onto (slot ∷ slots) behind = slots_onto slots (slot ∷ behind)
+
+abbrev pub own_numbers : OwnNames → List ℕ → List ℕ
+own_numbers NoNames along = along
+own_numbers (OneInt slot) along = slot ∷ along
+own_numbers (Ints first others) along = slots_onto others (first ∷ along)
+own_numbers (OneTuple slot) along = along
+
+abbrev pub own_tuples : OwnNames → List ℕ → List ℕ
+own_tuples NoNames along = along
+own_tuples (OneInt slot) along = along
+own_tuples (Ints first others) along = along
+own_tuples (OneTuple slot) along = slot ∷ along
+
+-- what such turns change: the elements of some arrays, some reduce variables, and what begins anew in each
+abbrev pub body_changes : ℕ → OwnNames → List ℕ → List ℕ → List (ℕ × Op) → Changes
+body_changes rank own along written reduced = record {
+  rank = rank;
+  written = written;
+  reduced = reduced;
+  numbers = own_numbers own along;
+  ranges = along;
+  tuples = own_tuples own along;
+}
 
 -- REDUCE VARIABLES
 -- The operators that put any value to an operand. Those on bits put ints of 64 bits alone, and are left out.
@@ -170,3 +233,70 @@ module _ (h : Changes) (own : OwnNames) where
     intend = λ is g. g;
     begin = λ g. g;
   }
+
+-- WHAT IS SILENT: statements that print nothing, make no forall, have no tasks and no cells, and declare neither domains nor arrays
+abbrev pub is_plain : VariableKind → Bool
+is_plain (PlainKind k) = true
+is_plain DomainKind = false
+is_plain TupleKind = true
+is_plain (ArrayKind k) = false
+
+abbrev pub ArePlain : List (Placed Variable) → Type 0
+ArePlain [] = Unit {0}
+ArePlain (x ∷ xs) = (is_plain x.name.kind ≡ true) × ArePlain xs
+
+abbrev pub HasPlain : VariablesTree Variable → Type 0
+HasPlain (OneVariable x) = is_plain x.name.kind ≡ true
+HasPlain (ManyVariables from xs upto) = ArePlain (parts xs)
+
+abbrev pub IsScalar : Option (TypeTree Variable) → Type 0
+IsScalar None = Unit {0}
+IsScalar (Some (ScalarType at k)) = Unit {0}
+IsScalar (Some (SyncType at kind_at k)) = ⊥
+IsScalar (Some (DomainType d)) = ⊥
+IsScalar (Some (ArrayType a)) = ⊥
+
+abbrev pub IsSilentInit : InitTree Variable → Type 0
+IsSilentInit (ItemInit item mapped) = item_read item ≡ None
+IsSilentInit (CreateInit c) = ⊥
+
+abbrev pub IsSilentInitial : Option (InitialTree Variable) → Type 0
+IsSilentInitial None = Unit {0}
+IsSilentInitial (Some i) = IsSilentInit i.init
+
+abbrev pub IsSilentDeclare : DeclareTree Variable → Type 0
+IsSilentDeclare d = (d.config ≡ None) × (is_plain d.name.name.kind ≡ true) × IsScalar (type_of d.typed) × IsSilentInitial d.initial
+
+abbrev mutual
+  pub IsSilent : StmtTree Variable → Type 0
+  IsSilent (Nothing at) = Unit {0}
+  IsSilent (Declare d) = IsSilentDeclare d
+  IsSilent (Assigned target sign item semicolon) = item_read item ≡ None
+  IsSilent (Call x dot call semicolon) = ⊥
+  IsSilent (Write w) = ⊥
+  IsSilent (Block from body upto) = AreSilent body
+  IsSilent (If at e first second) = IsSilentBody first × IsSilentElse second
+  IsSilent (While at e body) = IsSilentBody body
+  IsSilent (For at xs word item body) = HasPlain xs × IsSilentBody body
+  IsSilent (Forall at xs word item intents body) = ⊥
+  IsSilent (Coforall at xs word item intents body) = ⊥
+  IsSilent (On at e body) = ⊥
+
+  pub IsSilentBody : Body Variable → Type 0
+  IsSilentBody (WordBody at t) = IsSilent t
+  IsSilentBody (BlockBody from ts upto) = AreSilent ts
+
+  pub AreSilent : Stmts Variable → Type 0
+  AreSilent NoStmts = Unit {0}
+  AreSilent (Then t rest) = IsSilent t × AreSilent rest
+
+  pub IsSilentElse : Else Variable → Type 0
+  IsSilentElse NoElse = Unit {0}
+  IsSilentElse (ElseDo at t) = IsSilent t
+
+-- A BODY WHOSE TURNS MAY BE MADE APART, by what it may change
+pub record KeepsApart (rank : ℕ) (own : OwnNames) (along written : List ℕ) (reduced : List (ℕ × Op)) (body : Stmts Variable) : Type 0 where
+  pub of_rank : AreOfRank own rank
+  pub once : AreOnce (own_slots own)
+  pub fits : (t : Index) → fits_all (turn_scoping (body_changes rank own along written reduced) own t) body tt
+  pub silent : AreSilent body
