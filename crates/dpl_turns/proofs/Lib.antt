@@ -12,3 +12,6 @@ pub mod Wholes
 pub mod Bound
 pub mod Silent
 pub mod Bodies
+pub mod Names
+-- Rows.
+pub mod Worked
