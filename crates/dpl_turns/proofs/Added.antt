@@ -1,27 +1,25 @@
 -- Reduce variables in two memories that go along: what is put to one is put to both.
-use Rattle.std.proofs.Common.{eqb-true, ◌≢◌, ◌≡◌, ℕ, ◌<◌, ℤ, pos, Bool, true, false, List, [], ◌∷◌, Option, Some, None, length, get_or, set, w64, refl, sym, ap, ◌∙◌, subst, arith}
-use Rattle.std.specs.Prelude.{if◌then◌else◌, not, ◌==◌, ◌&&◌, ◌||◌, ◌+ℤ◌, ◌*ℤ◌}
+use Rattle.std.proofs.Common.{eqb-true, ◌≢◌, ◌≡◌, ℕ, ◌<◌, ℤ, pos, Bool, true, false, List, [], ◌∷◌, Some, length, get_or, set, w64, refl, sym, ap, ◌∙◌, subst, arith}
+use Rattle.std.specs.Prelude.{if◌then◌else◌, ◌==◌, ◌&&◌, ◌||◌, ◌+ℤ◌, ◌*ℤ◌}
 use Rattle.std.specs.Int.{int_wrap}
-use Rattle.std.specs.List.{AllByRecursion, list_any}
+use Rattle.std.specs.List.{AllByRecursion}
 use Rattle.std.proofs.lemmas.Bool.Decides.{nat_tests}
 use Rattle.std.proofs.lemmas.Int.{int_wrap-add_left, int_wrap-add_right, int_wrap-mul_left, int_wrap-mul_right}
-use Rattle.std.proofs.lemmas.List.{get_or-set_same, get_or-set_other, length-set}
+use Rattle.std.proofs.lemmas.List.{get_or-set_same, get_or-set_other}
 use Rattle.std.proofs.Math.IntN.{+ℤ_assoc}
 use Rattle.dpl_language.specs.Tree.{Op, Sum, Product, AllOf, AnyOf, BitAnd, BitOr, BitXor, Least, Greatest, Assign, Set, SetAdd, SetSubtract, SetMultiply, SetDivide, SetRemainder, SetReduce}
 use Rattle.dpl_language.specs.Values.{Value, Int, Truth, number, truth, kept_number}
 use Rattle.dpl_language.specs.Arithmetic.{combined, assigned}
-use Rattle.dpl_words.specs.Words.{LeafKind, IntLeaf, TruthLeaf, RangeLeaf, is_true, combines, intent_at}
+use Rattle.dpl_words.specs.Words.{IntLeaf, TruthLeaf, is_true, combines, intent_at}
 use Rattle.dpl_memory.specs.Memory.{is_among}
-use Rattle.dpl_apart.specs.Operands.{IsOperand, value_of_word, combined_words, IsExact, all_combined, AreExact}
+use Rattle.dpl_apart.specs.Operands.{value_of_word, combined_words, IsExact, all_combined, AreExact}
 use Rattle.dpl_apart.specs.Rows.{AreOnce}
-use Rattle.dpl_apart.specs.Memories.{Changes, operators_of, is_kept}
+use Rattle.dpl_apart.specs.Memories.{operators_of}
 use Rattle.dpl_apart.proofs.Bits.{product-assoc, least-assoc, greatest-assoc}
 use Rattle.dpl_apart.proofs.Operators.{combined-operand}
 use Rattle.dpl_apart.proofs.ReduceWords.{combined-kept, exact-operand, operand-exact}
-use Rattle.dpl_turns.specs.Alongside.{slots_of, words_at, NumbersAlong}
-use Rattle.dpl_turns.specs.Bodies.{is_free, is_sum, is_product, is_addition, adds_by}
-use Rattle.dpl_turns.proofs.Lists.{not-equal}
-use Rattle.dpl_turns.proofs.Ends.{kept-slots}
+use Rattle.dpl_turns.specs.Alongside.{slots_of, words_at}
+use Rattle.dpl_turns.specs.Bodies.{is_free, is_sum, is_product, adds_by}
 
 -- ---- any value, put to two operands
 and-assoc : (a b c : Bool) → ((a && b) && c) ≡ (a && (b && c))

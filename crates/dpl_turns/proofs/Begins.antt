@@ -1,7 +1,7 @@
 -- Two memories that hold the same row go along from where what begins anew in a turn has begun; and an element that is put into both leaves
 -- them so.
-use Rattle.std.proofs.Common.{◌≡◌, ℕ, suc, ◌<◌, Bool, true, false, ℤ, pos, List, [], ◌∷◌, Option, Some, None, map, length, get_or, set, refl, sym, ap, ◌∙◌, subst}
-use Rattle.std.specs.Prelude.{if◌then◌else◌, not, ◌==◌, ◌||◌, ◌&&◌}
+use Rattle.std.proofs.Common.{◌≡◌, ℕ, suc, true, false, ℤ, pos, List, [], ◌∷◌, Option, Some, None, length, get_or, set, refl, sym, ap, ◌∙◌, subst}
+use Rattle.std.specs.Prelude.{if◌then◌else◌, not, ◌==◌, ◌&&◌}
 use Rattle.std.specs.List.{AllByRecursion}
 use Rattle.std.proofs.lemmas.List.{ext_get_or}
 use Rattle.dpl_sets.specs.TextRanges.{TextRange}
@@ -9,9 +9,9 @@ use Rattle.dpl_language.specs.Tree.{Op, Kind}
 use Rattle.dpl_language.specs.Values.{Value, Index, kept_number}
 use Rattle.dpl_language.specs.Ranges.{same_index}
 use Rattle.dpl_words.specs.Words.{no_range}
-use Rattle.dpl_memory.specs.Memory.{ArrayKind, variable, in_memory, Held, Memory, no_tuple, no_array, array_at, with_array, held_with, is_among}
+use Rattle.dpl_memory.specs.Memory.{ArrayKind, variable, in_memory, Held, Memory, no_tuple, no_array, held_with, is_among}
 use Rattle.dpl_apart.specs.Operands.{all_combined, unit_words, AreExact}
-use Rattle.dpl_apart.specs.Memories.{Changes, Row, with_elements, with_words, with_values, words_in, operators_of, held_in, IsFormed, is_kept, IsLike}
+use Rattle.dpl_apart.specs.Memories.{Changes, Row, with_elements, with_words, operators_of, held_in, IsFormed, IsLike}
 use Rattle.dpl_apart.proofs.Split.{each-weaker}
 use Rattle.dpl_apart.proofs.Memories.{map-same, words-length, held-arrays, held-words, with_element, put-held}
 use Rattle.dpl_apart.proofs.ReduceWords.{reduce_words}

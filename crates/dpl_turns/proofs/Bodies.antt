@@ -1,5 +1,5 @@
 -- The turns of a forall may be made apart, where its body does what it may.
-use Rattle.std.proofs.Common.{◌≡◌, ℕ, ◌<◌, ℤ, Bool, true, false, List, [], ◌∷◌, Option, Some, None, length, refl, sym, ap, ◌∙◌, subst}
+use Rattle.std.proofs.Common.{◌≡◌, ℕ, ◌<◌, ℤ, List, [], ◌∷◌, Option, None, refl, sym, ap, subst}
 use Rattle.std.specs.List.{AllByRecursion}
 use Rattle.dpl_language.specs.Tree.{Op, Stmts}
 use Rattle.dpl_language.specs.Values.{Domain, Index}
@@ -8,14 +8,13 @@ use Rattle.dpl_language.specs.Environment.{Limits}
 use Rattle.dpl_language.specs.Loops.{bound_to}
 use Rattle.dpl_language.specs.Statements.{exec_all}
 use Rattle.dpl_memory.specs.Memory.{Variable, Memory, is_among, in_memory}
-use Rattle.dpl_agreement.specs.Scopes.{after_all}
 use Rattle.dpl_agreement.specs.Agreement.{EndsAlike}
 use Rattle.dpl_agreement.proofs.RenamedSame.{renamed_stmts-same}
 use Rattle.dpl_agreement.proofs.RunsAlike.{EndsAlike-weaker}
 use Rattle.dpl_agreement.proofs.Agreement.{exec_all-alike}
 use Rattle.dpl_apart.specs.Operands.{unit_words, AreExact}
-use Rattle.dpl_apart.specs.Memories.{Changes, Row, operators_of, held_in, IsFormed, IsLike, IsOfRank, MayBeApart}
-use Rattle.dpl_turns.specs.Alongside.{put_in, begun, IsAlongside, IsQuiet}
+use Rattle.dpl_apart.specs.Memories.{Changes, Row, operators_of, held_in, IsFormed, IsLike, MayBeApart}
+use Rattle.dpl_turns.specs.Alongside.{begun, IsAlongside}
 use Rattle.dpl_turns.specs.Bodies.{OwnNames, NoNames, OneInt, Ints, OneTuple, AreOfRank, ArePlain, HasPlain, loop_variables, own_numbers, own_tuples, body_changes, body_turn, turn_scoping, KeepsApart}
 use Rattle.dpl_turns.proofs.Ends.{may_be_apart}
 use Rattle.dpl_turns.proofs.Begins.{begins, number_slots-held, tuple_slots-held}

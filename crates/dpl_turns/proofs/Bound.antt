@@ -1,12 +1,11 @@
 -- A turn binds its index: some slots begin anew, and the loop's variables hold the index.
-use Rattle.std.proofs.Common.{◌≡◌, ℕ, suc, ◌<◌, ◌≢◌, ℤ, pos, Bool, true, false, List, [], ◌∷◌, map, length, get_or, set, refl, sym, ap, ◌∙◌, subst, arith}
+use Rattle.std.proofs.Common.{◌≡◌, ℕ, ◌<◌, ℤ, pos, Bool, true, false, List, [], ◌∷◌, map, length, get_or, set, refl, ap, ◌∙◌, arith}
 use Rattle.std.specs.Prelude.{◌==◌, ◌||◌}
-use Rattle.std.specs.List.{AllByRecursion, list_any}
+use Rattle.std.specs.List.{AllByRecursion}
 use Rattle.std.proofs.lemmas.List.{get_or-set_same, get_or-set_other}
 use Rattle.dpl_sets.specs.TextRanges.{TextRange}
 use Rattle.dpl_language.specs.Values.{Int, Domain, Index, number, coordinates}
 use Rattle.dpl_language.specs.Ranges.{index_value}
-use Rattle.dpl_language.specs.Environment.{Plain}
 use Rattle.dpl_language.specs.Loops.{declare_each, bound_to}
 use Rattle.dpl_lowered.specs.Shapes.{nowhere}
 use Rattle.dpl_words.specs.Words.{IntLeaf, no_range}

@@ -1,6 +1,6 @@
 -- What two memories that went along in a turn say of it: the one holds the row that the turn leaves in the other, and what it adds there; and
 -- turns over such memories may be made apart.
-use Rattle.std.proofs.Common.{eqb-true, ◌≡◌, ℕ, ◌<◌, Bool, true, false, cond, ℤ, pos, List, [], ◌∷◌, Option, Some, None, Result, Ok, Err, is_some, map, length, get_or, refl, sym, ap, ◌∙◌, subst, arith}
+use Rattle.std.proofs.Common.{eqb-true, ◌≡◌, ℕ, ◌<◌, Bool, true, false, ℤ, pos, List, [], ◌∷◌, Option, Some, None, Result, Ok, Err, is_some, length, get_or, refl, sym, ap, ◌∙◌, subst, arith}
 use Rattle.std.specs.Prelude.{if◌then◌else◌, unwrap_or, not, ◌==◌, ◌||◌, ◌&&◌}
 use Rattle.std.specs.List.{AllByRecursion, list_any}
 use Rattle.std.proofs.lemmas.List.{ext_get_or}
@@ -12,15 +12,15 @@ use Rattle.dpl_words.specs.Words.{no_range}
 use Rattle.dpl_memory.specs.Memory.{Held, Memory, no_tuple, no_array, array_at, held_at, word_at, is_among}
 use Rattle.dpl_agreement.specs.Agreement.{EndsAlike}
 use Rattle.dpl_apart.specs.Operands.{all_combined, unit_words, AreExact}
-use Rattle.dpl_apart.specs.Rows.{Turned, Leaves, Fails, with_row, Adds}
+use Rattle.dpl_apart.specs.Rows.{Leaves, with_row, Adds}
 use Rattle.dpl_apart.specs.Apart.{turn_left}
-use Rattle.dpl_apart.specs.Memories.{Changes, Row, held_by, held_by_if, with_elements, with_words, with_values, with_left, words_in, operators_of, held_in, row_in, turned_in, turn_alone, loop_in, IsPiece, IsFormed, is_kept, IsLike, IsOfRank, KeepApart, MayBeApart}
+use Rattle.dpl_apart.specs.Memories.{Changes, Row, held_by_if, with_elements, with_words, with_values, with_left, words_in, operators_of, held_in, row_in, turned_in, turn_alone, IsFormed, is_kept, IsLike, IsOfRank, KeepApart, MayBeApart}
 use Rattle.dpl_apart.specs.Workers.{worker_end}
 use Rattle.dpl_apart.proofs.Indices.{same_index-refl, same_index-sound}
 use Rattle.dpl_apart.proofs.Memories.{map-same, element-here, element-length, word-found, words-length}
 use Rattle.dpl_apart.proofs.Rejoined.{or-true}
 use Rattle.dpl_apart.proofs.ReduceWords.{reduce_words}
-use Rattle.dpl_turns.specs.Alongside.{slots_of, words_at, ArraysAlong, NumbersAlong, ValuesAlong, IsAlongside, KeepsRoots, IsQuiet}
+use Rattle.dpl_turns.specs.Alongside.{slots_of, words_at, ValuesAlong, IsAlongside, KeepsRoots, IsQuiet}
 use Rattle.dpl_turns.proofs.Lists.{values-length, value-among, value-other, own-words, words-alike}
 
 -- ---- slots

@@ -1,6 +1,6 @@
 -- The turns of a typed forall.
-use Rattle.std.proofs.Common.{◌≡◌, ℕ, List, [], refl, sym, subst}
-use Rattle.dpl_language.specs.Tree.{Op, VariablesTree, Stmts}
+use Rattle.std.proofs.Common.{◌≡◌, ℕ, List, [], refl, subst}
+use Rattle.dpl_language.specs.Tree.{Op, Stmts}
 use Rattle.dpl_language.specs.Values.{Domain}
 use Rattle.dpl_language.specs.Environment.{Limits}
 use Rattle.dpl_language.specs.Loops.{bound_to}

@@ -4,7 +4,7 @@ use Rattle.dpl_syntax.specs.declared.place.Place.{Place}
 use Rattle.dpl_language.specs.Tree.{Placed, AssignTree}
 use Rattle.dpl_language.specs.Values.{Value, Index, Fault, fault, Budget}
 use Rattle.dpl_language.specs.Arithmetic.{assigned, assign_divides, tested_divisor}
-use Rattle.dpl_language.specs.Outcome.{Deeds, Outcome, Done, Stop, Run, with_value, then_do, choose, unless, in_order, repeated}
+use Rattle.dpl_language.specs.Outcome.{Deeds, Done, Stop, Run, with_value, then_do, choose, unless, in_order, repeated}
 use Rattle.dpl_language.specs.Environment.{Limits}
 use Rattle.dpl_language.specs.Expressions.{found}
 use Rattle.dpl_language.specs.Assignments.{change}

@@ -1,10 +1,10 @@
 -- What a turn may do with names, it does alike in two memories that go along.
-use Rattle.std.proofs.Common.{eqb-true, ◌≢◌, ◌≡◌, ℕ, ◌<◌, ℤ, pos, Bool, true, false, List, [], ◌∷◌, ◌++◌, Option, Some, None, Result, Ok, map, length, get_or, set, refl, sym, ap, ◌∙◌, subst, arith}
+use Rattle.std.proofs.Common.{◌≢◌, ◌≡◌, ℕ, ℤ, pos, Bool, true, false, List, [], ◌∷◌, Option, Some, None, Result, Ok, map, get_or, set, refl, sym, ap, ◌∙◌, subst, arith}
 use Rattle.std.specs.Prelude.{not, ◌==◌, ◌&&◌, ◌||◌, option_map}
 use Rattle.std.proofs.lemmas.Bool.Decides.{nat_tests}
 use Rattle.std.proofs.lemmas.List.{append-nil, get_or-set_other, length-set}
 use Rattle.dpl_sets.specs.TextRanges.{TextRange}
-use Rattle.dpl_language.specs.Tree.{Op, Assign, Kind, Items, MoreItems}
+use Rattle.dpl_language.specs.Tree.{Op, Assign, Kind, Items}
 use Rattle.dpl_language.specs.Values.{Value, Int, Range, Domain, Array, Tuple, Index, Fault, index_of, coordinates, number, kept_number, ranges_in, array_domain, is_domain}
 use Rattle.dpl_language.specs.Arithmetic.{assigned}
 use Rattle.dpl_language.specs.Ranges.{indices_in, loop_ranges}
@@ -12,17 +12,17 @@ use Rattle.dpl_language.specs.Distributions.{Root}
 use Rattle.dpl_language.specs.Outcome.{with_ok}
 use Rattle.dpl_language.specs.Environment.{Content, Plain, ArrayOf, CellOf, Limits}
 use Rattle.dpl_language.specs.Expressions.{items_of, more_items}
-use Rattle.dpl_words.specs.Words.{LeafKind, IntLeaf, TruthLeaf, RangeLeaf, is_true, no_range, first_range, intent_at}
+use Rattle.dpl_words.specs.Words.{IntLeaf, TruthLeaf, RangeLeaf, is_true, no_range, first_range, intent_at}
 use Rattle.dpl_memory.specs.Memory.{VariableKind, PlainKind, DomainKind, TupleKind, ArrayKind, Variable, int_leaf, truth_leaf, Memory, no_domain, no_tuple, array_at, held_at, element_as, value_in, with_value_in, element_in, with_element_in, undealt, root_in, with_root, anew, is_among, in_memory}
 use Rattle.dpl_agreement.specs.Scopes.{form_of}
 use Rattle.dpl_agreement.specs.Renamed.{renamed_content}
 use Rattle.dpl_agreement.specs.Agreement.{Simulates}
 use Rattle.dpl_agreement.proofs.RunsAlike.{All-every}
 use Rattle.dpl_apart.specs.Operands.{all_combined, AreExact}
-use Rattle.dpl_apart.specs.Memories.{Changes, Row, IsFormed, IsLike, is_kept, operators_of}
-use Rattle.dpl_turns.specs.Alongside.{slots_of, words_at, NumbersAlong, ValuesAlong, IsAlongside}
+use Rattle.dpl_apart.specs.Memories.{Changes, Row, IsFormed, IsLike, operators_of}
+use Rattle.dpl_turns.specs.Alongside.{slots_of, NumbersAlong, ValuesAlong, IsAlongside}
 use Rattle.dpl_turns.specs.Bodies.{OwnNames, NoNames, OneInt, Ints, OneTuple, own_slots, more_ints, IsOwn, Hold, is_free, adds_by, is_none, is_reduced, begins_anew, may_assign, may_declare, ReadsAt, ReadsElement, AssignsAt, AssignsElement, turn_scoping}
-use Rattle.dpl_turns.proofs.Lists.{not-equal, set-alike}
+use Rattle.dpl_turns.proofs.Lists.{set-alike}
 use Rattle.dpl_turns.proofs.Ends.{apart-slots, kept-slots, element-along, lent-along, domains-along}
 use Rattle.dpl_turns.proofs.Added.{word_after, int-added, truth-added, words-unset, added-both, intent-there}
 use Rattle.dpl_turns.proofs.Begins.{put-along}

@@ -3,13 +3,13 @@ use Rattle.std.proofs.Common.{◌≡◌, ℕ, pos, Bool, true, false, List, [], 
 use Rattle.std.specs.Prelude.{◌&&◌}
 use Rattle.dpl_syntax.specs.declared.place.Place.{Place}
 use Rattle.dpl_sets.specs.TextRanges.{TextRange}
-use Rattle.dpl_language.specs.Tree.{Placed, AssignTree, ExprTree, ItemTree, TypeTree, ScalarType, SyncType, DomainType, ArrayType, InitTree, ItemInit, CreateInit, InitialTree, DeclareTree, VariablesTree, OneVariable, ManyVariables, TargetTree, Whole, Element, StmtTree, Nothing, Declare, Assigned, Call, Write, Block, If, While, For, Forall, Coforall, On, Body, WordBody, BlockBody, Stmts, NoStmts, Then, Else, NoElse, ElseDo}
+use Rattle.dpl_language.specs.Tree.{Placed, AssignTree, ItemTree, TypeTree, ScalarType, SyncType, DomainType, ArrayType, InitTree, ItemInit, CreateInit, InitialTree, DeclareTree, VariablesTree, OneVariable, ManyVariables, TargetTree, Whole, Element, StmtTree, Nothing, Declare, Assigned, Call, Write, Block, If, While, For, Forall, Coforall, On, Body, WordBody, BlockBody, Stmts, NoStmts, Then, Else, NoElse, ElseDo}
 use Rattle.dpl_language.specs.Values.{Value, Int, Index, index_of, ranges_in, array_domain, is_domain, Fault, fault, Budget, ArrayTooLarge, InTurn, in_the_turn, default}
 use Rattle.dpl_language.specs.Arithmetic.{assign_divides, tested_divisor}
 use Rattle.dpl_language.specs.Ranges.{indices_in, size_in, loop_ranges, loop_value, too_large}
-use Rattle.dpl_language.specs.Outcome.{Deeds, Outcome, Done, Stop, Run, with_value, then_do, choose, unless, in_order, naming}
-use Rattle.dpl_language.specs.Environment.{Content, Plain, Limits}
-use Rattle.dpl_language.specs.Phrases.{ReadTree, item_read, parts}
+use Rattle.dpl_language.specs.Outcome.{Deeds, Done, Run, with_value, choose, unless, in_order, naming}
+use Rattle.dpl_language.specs.Environment.{Plain, Limits}
+use Rattle.dpl_language.specs.Phrases.{item_read, parts}
 use Rattle.dpl_language.specs.Expressions.{item_of, values_of, whole_item}
 use Rattle.dpl_language.specs.Loops.{within_budget, named_turn, scoped, declare_each, bound_to, turn_of}
 use Rattle.dpl_language.specs.Assignments.{read_or, evaluated, change, assign_array, assign_name, assign}

@@ -1,16 +1,16 @@
 -- The turns of an assignment to a whole array may be made apart, where the value of each is the same in memories that are like for its index.
-use Rattle.std.proofs.Common.{◌≡◌, ℕ, Bool, true, false, ℤ, List, [], ◌∷◌, Option, Some, None, Result, Ok, get_or, refl, sym, ap, ◌∙◌, arith}
+use Rattle.std.proofs.Common.{◌≡◌, ℕ, true, ℤ, List, [], ◌∷◌, Some, None, Result, Ok, refl, sym, ap, ◌∙◌, arith}
 use Rattle.std.specs.Prelude.{◌==◌, option_map}
 use Rattle.std.proofs.lemmas.Bool.Decides.{nat_tests}
 use Rattle.dpl_syntax.specs.declared.place.Place.{Place}
 use Rattle.dpl_language.specs.Tree.{Placed, ExprTree, AssignTree, Kind}
-use Rattle.dpl_language.specs.Values.{Value, Index, Fault, kept_number}
+use Rattle.dpl_language.specs.Values.{Value, Index, Fault}
 use Rattle.dpl_language.specs.Arithmetic.{assigned, assign_divides, tested_divisor}
 use Rattle.dpl_language.specs.Outcome.{Deeds, no_deeds, Done, Run, with_value}
 use Rattle.dpl_language.specs.Environment.{Limits}
 use Rattle.dpl_language.specs.Expressions.{found, value_of}
 use Rattle.dpl_language.specs.Assignments.{change}
-use Rattle.dpl_memory.specs.Memory.{ArrayKind, Memory, Variable, variable, element_as, array_at, is_among, in_memory}
+use Rattle.dpl_memory.specs.Memory.{ArrayKind, Memory, Variable, variable, element_as, is_among, in_memory}
 use Rattle.dpl_agreement.specs.Agreement.{EndsAlike}
 use Rattle.dpl_agreement.proofs.RunsAlike.{with_value-alike}
 use Rattle.dpl_agreement.proofs.RenamedSame.{renamed_expr-same}

@@ -1,16 +1,15 @@
 -- Rows: bodies whose turns may be made apart, and others; and right sides of whole arrays.
 -- In slot 0 the loop's variable i, in slot 1 the reduce variable s, in slots 2 and 3 the arrays A and B, in slot 4 an outer int c, and in slot 5 a
 -- local int x.
-use Rattle.std.proofs.Common.{◌≡◌, ℕ, pos, true, false, List, [], ◌∷◌, Some, None, refl}
-use Rattle.dpl_language.specs.Tree.{Placed, IntKind, Op, Sum, Assign, Set, SetAdd, SetReduce, Infix, Add, Subtract, ExprTree, Number, Named, Reduced, ItemTree, One, Exprs, FirstExpr, NoExprs, TargetTree, Whole, Element, Square, StmtTree, Assigned, Stmts, NoStmts, Then}
+use Rattle.std.proofs.Common.{ℕ, pos, List, [], ◌∷◌, None, refl}
+use Rattle.dpl_language.specs.Tree.{Placed, IntKind, Sum, Set, SetAdd, Add, Subtract, ExprTree, Number, Named, Reduced, One, Element, Square, StmtTree, Assigned, Stmts, NoStmts, Then}
 use Rattle.dpl_language.specs.Environment.{Limits}
 use Rattle.dpl_lowered.specs.Shapes.{nowhere, two}
-use Rattle.dpl_words.specs.Words.{IntLeaf}
-use Rattle.dpl_memory.specs.Memory.{PlainKind, ArrayKind, Variable, variable, int_leaf}
+use Rattle.dpl_memory.specs.Memory.{ArrayKind, Variable, variable, int_leaf}
 use Rattle.dpl_nodes.specs.Typed.{leaf_named, in_square, items_one, exprs_one}
 use Rattle.dpl_nodes.specs.Steps.{assigned_to, declared_as}
 use Rattle.dpl_apart.specs.Memories.{MayBeApart}
-use Rattle.dpl_turns.specs.Turns.{ReadsOwn, whole_changes}
+use Rattle.dpl_turns.specs.Turns.{ReadsOwn}
 use Rattle.dpl_turns.specs.Bodies.{OneInt, body_changes, body_turn, KeepsApart}
 use Rattle.dpl_turns.proofs.Bodies.{body-apart}
 
