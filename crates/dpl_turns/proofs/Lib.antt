@@ -12,6 +12,6 @@ pub mod Wholes
 pub mod Bound
 pub mod Silent
 pub mod Bodies
-pub mod Names
+pub mod Typed
 -- Rows.
 pub mod Worked
