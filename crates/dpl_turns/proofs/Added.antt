@@ -195,8 +195,7 @@ added-both (q ∷ qs) (w ∷ ws) ns ms slot p v once first second free at exact 
         let one : get_or (set ms slot y2) q.0 (pos 0) ≡ combined_words q.1 w (get_or (set ns slot y1) q.0 (pos 0)) = put_second ∙ both ∙ ap (combined_words q.1 w) (sym put_first) in
         let more : words_at qs (set ms slot y2) ≡ all_combined (operators_of qs) ws (words_at qs (set ns slot y1)) =
         words-unset qs ms slot y2 none ∙ tail-of _ _ _ _ are.0 ∙ ap (all_combined (operators_of qs) ws) (sym (words-unset qs ns slot y1 none)) in
-        let old : IsExact p (get_or ns slot (pos 0)) = subst (λ i. IsExact p (get_or ns i (pos 0))) (sym here) (subst (λ op. IsExact op (get_or ns q.0 (pos 0))) op are.1.0) in
-        (
+        let old : IsExact p (get_or ns slot (pos 0)) = subst (λ i. IsExact p (get_or ns i (pos 0))) (sym here) (subst (λ op. IsExact op (get_or ns q.0 (pos 0))) op are.1.0) in (
           λ i. one i ∷ more i,
           (
             subst (IsExact q.1) (sym put_first) (subst (λ op. IsExact op y1) (sym op) (after-exact p (get_or ns slot (pos 0)) v old)),

@@ -51,11 +51,11 @@ module _ (limits : Limits) (rank : ℕ) (own : OwnNames) (along written : List �
     bound-along : GoAlong limits h own (seen own t) first second formed_first formed like rows words exact tt (began s) (began u)
     bound-along = (
       begins h (seen own t) first second formed_first formed like (number_puts own along t) (emptied along) (tuple_puts own along t)
-      (λ j. ap (is_among j) (sym (number-slots own along t))) (λ j. ap (is_among j) (sym (emptied-slots along))) (λ j. ap (is_among j) (sym (tuple-slots own along t)))
-      last rows row words its exact,
+          (λ j. ap (is_among j) (sym (number-slots own along t))) (λ j. ap (is_among j) (sym (emptied-slots along))) (λ j. ap (is_among j) (sym (tuple-slots own along t)))
+          last rows row words its exact,
       holds-seen own along t u.words.numbers u.tuples keeps.once
-      (subst (λ n. AllByRecursion (λ slot. slot < n) (own_numbers own along)) (sym (number_slots-held h second rows words last)) formed.room)
-      (subst (λ n. AllByRecursion (λ slot. slot < n) (own_tuples own along)) (sym (tuple_slots-held h second rows words last)) formed.tuple_room),
+          (subst (λ n. AllByRecursion (λ slot. slot < n) (own_numbers own along)) (sym (number_slots-held h second rows words last)) formed.room)
+          (subst (λ n. AllByRecursion (λ slot. slot < n) (own_tuples own along)) (sym (tuple_slots-held h second rows words last)) formed.tuple_room),
     )
 
     body-ends : EndsAlike (IsAlongside h (seen own t) first second rows words) (exec_all limits in_memory body (began s) no_deeds) (exec_all limits in_memory body (began u) no_deeds)

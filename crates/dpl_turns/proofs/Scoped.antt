@@ -227,8 +227,7 @@ module _ (limits : Limits) (h : Changes) (own : OwnNames) (t : Index) (first sec
   begun-tuple : (s u : Memory) (slot : ℕ) (v : Index) → GoAlong tt s u → (is_among slot h.tuples && not (is_among slot (own_slots own))) ≡ true
       → GoAlong tt (record s { tuples = set s.tuples slot v }) (record u { tuples = set u.tuples slot v })
   begun-tuple s u slot v r begins =
-      let both = and-both (is_among slot h.tuples) (not (is_among slot (own_slots own))) begins in
-      (
+      let both = and-both (is_among slot h.tuples) (not (is_among slot (own_slots own))) begins in (
         record {
           arrays = r.0.arrays;
           numbers = r.0.numbers;

@@ -17,7 +17,7 @@ use Rattle.dpl_nodes.specs.Steps.{names_view}
 use Rattle.dpl_lowered.specs.LoweredExpressions.{Times}
 use Rattle.dpl_agreement.specs.Scopes.{fits_expr}
 use Rattle.dpl_apart.specs.Memories.{MayBeApart, Changes}
-use Rattle.dpl_turns.specs.Turns.{whole_changes, ReadsOwn}
+use Rattle.dpl_turns.specs.Wholes.{whole_changes, ReadsOwn}
 use Rattle.dpl_turns.specs.Bodies.{OwnNames, NoNames, loop_variables, body_changes, turn_scoping, KeepsApart}
 use Rattle.dpl_turns.specs.Typed.{own_of, SparesInts, SparesTruths}
 use Rattle.dpl_turns.proofs.Bodies.{body-apart}

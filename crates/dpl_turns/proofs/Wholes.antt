@@ -18,7 +18,7 @@ use Rattle.dpl_agreement.proofs.ExpressionsAlike.{value_of-renamed}
 use Rattle.dpl_apart.specs.Operands.{AreExact}
 use Rattle.dpl_apart.specs.Memories.{Row, Changes, IsFormed, IsLike, MayBeApart, held_in}
 use Rattle.dpl_turns.specs.Alongside.{IsAlongside}
-use Rattle.dpl_turns.specs.Turns.{whole_changes, IsSeenAt, ReadsOwn}
+use Rattle.dpl_turns.specs.Wholes.{whole_changes, IsSeenAt, ReadsOwn}
 use Rattle.dpl_turns.specs.Bodies.{NoNames, turn_scoping}
 use Rattle.dpl_turns.proofs.Ends.{element-along, like-along, may_be_apart}
 use Rattle.dpl_turns.proofs.Begins.{begins, put-along}

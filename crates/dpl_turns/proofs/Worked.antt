@@ -9,7 +9,7 @@ use Rattle.dpl_memory.specs.Memory.{ArrayKind, Variable, variable, int_leaf}
 use Rattle.dpl_nodes.specs.Typed.{leaf_named, in_square, items_one, exprs_one}
 use Rattle.dpl_nodes.specs.Steps.{assigned_to, declared_as}
 use Rattle.dpl_apart.specs.Memories.{MayBeApart}
-use Rattle.dpl_turns.specs.Turns.{ReadsOwn}
+use Rattle.dpl_turns.specs.Wholes.{ReadsOwn}
 use Rattle.dpl_turns.specs.Bodies.{OneInt, body_changes, body_turn, KeepsApart}
 use Rattle.dpl_turns.proofs.Bodies.{body-apart}
 

@@ -43,6 +43,8 @@ pub record ValuesAlong {A : Type 0} (d : A) (slots : List ℕ) (kept xs ys : Lis
   pub stay : (slot : ℕ) → is_among slot slots ≡ false → get_or ys slot d ≡ get_or kept slot d
   pub long : length ys ≡ length kept
 
+-- Two memories in the turn of an index, begun in two memories: the second one has at other indices the elements of rows, and the words put to
+-- its reduce variables. What turns don't change is as it was there.
 pub record IsAlongside (h : Changes) (t : Index) (first second : Memory) (rows : Index → Row) (words : List ℤ) (s u : Memory) : Type 0 where
   pub arrays : ArraysAlong h t first.arrays second.arrays rows s.arrays u.arrays
   pub numbers : NumbersAlong h second.words.numbers words s.words.numbers u.words.numbers
@@ -68,7 +70,7 @@ begun numbers ranges tuples s = record s {
   tuples = put_in tuples s.tuples;
 }
 
--- where a run leaves a memory, that has the roots which it had
+-- a memory that a run leaves has the roots which there were
 abbrev pub KeepsRoots : Memory → Result Memory Fault → Type 0
 KeepsRoots s (Ok u) = u.roots ≡ s.roots
 KeepsRoots s (Err f) = Unit {0}

@@ -58,7 +58,7 @@ AreOfRank (OneInt slot) rank = rank ≡ 1
 AreOfRank (Ints first others) rank = rank ≡ length (first ∷ others)
 AreOfRank (OneTuple slot) rank = Unit {0}
 
--- their declarations in a turn, with which other slots begin anew
+-- their declarations in a turn, along with which other slots begin anew
 abbrev pub leaf_along : VariableKind → ℕ → List ℕ → Placed Variable
 leaf_along k slot along = record { at = nowhere; name = record { kind = k; slot = slot; along = along } }
 
@@ -81,6 +81,7 @@ abbrev pub slots_onto : List ℕ → List ℕ → List ℕ
 slots_onto [] behind = behind
 slots_onto (slot ∷ slots) behind = slots_onto slots (slot ∷ behind)
 
+-- the slots of numbers and of tuples that a turn's binding gives values
 abbrev pub own_numbers : OwnNames → List ℕ → List ℕ
 own_numbers NoNames along = along
 own_numbers (OneInt slot) along = slot ∷ along
@@ -144,9 +145,9 @@ is_none [] = true
 is_none (slot ∷ slots) = false
 
 module _ (h : Changes) (own : OwnNames) where
-  -- a slot that a turn may change but for the loop's variables
-  abbrev pub is_free_of : ℕ → Bool
-  is_free_of slot = not (is_among slot (own_slots own))
+  -- a slot of none of the loop's variables
+  abbrev pub is_other : ℕ → Bool
+  is_other slot = not (is_among slot (own_slots own))
 
   -- a word of a reduce variable, which no turn reads
   abbrev pub is_reduced : VariableKind → ℕ → Bool
@@ -159,17 +160,17 @@ module _ (h : Changes) (own : OwnNames) where
 
   -- a variable that begins anew in each turn, and so may be assigned and declared there
   abbrev pub begins_anew : VariableKind → ℕ → Bool
-  begins_anew (PlainKind IntLeaf) slot = is_among slot h.numbers && is_free_of slot
-  begins_anew (PlainKind TruthLeaf) slot = is_among slot h.numbers && is_free_of slot
-  begins_anew (PlainKind RangeLeaf) slot = is_among slot h.ranges && is_free_of slot
+  begins_anew (PlainKind IntLeaf) slot = is_among slot h.numbers && is_other slot
+  begins_anew (PlainKind TruthLeaf) slot = is_among slot h.numbers && is_other slot
+  begins_anew (PlainKind RangeLeaf) slot = is_among slot h.ranges && is_other slot
   begins_anew DomainKind slot = false
-  begins_anew TupleKind slot = is_among slot h.tuples && is_free_of slot
+  begins_anew TupleKind slot = is_among slot h.tuples && is_other slot
   begins_anew (ArrayKind k) slot = false
 
   -- such a variable, or a reduce variable by its operator; of an array the elements are asked for besides
   abbrev pub may_assign : VariableKind → ℕ → Assign → Bool
-  may_assign (PlainKind IntLeaf) slot op = begins_anew (PlainKind IntLeaf) slot || (is_free_of slot && adds_by IntLeaf op (intent_at slot h.reduced))
-  may_assign (PlainKind TruthLeaf) slot op = begins_anew (PlainKind TruthLeaf) slot || (is_free_of slot && adds_by TruthLeaf op (intent_at slot h.reduced))
+  may_assign (PlainKind IntLeaf) slot op = begins_anew (PlainKind IntLeaf) slot || (is_other slot && adds_by IntLeaf op (intent_at slot h.reduced))
+  may_assign (PlainKind TruthLeaf) slot op = begins_anew (PlainKind TruthLeaf) slot || (is_other slot && adds_by TruthLeaf op (intent_at slot h.reduced))
   may_assign (PlainKind RangeLeaf) slot op = begins_anew (PlainKind RangeLeaf) slot
   may_assign DomainKind slot op = false
   may_assign TupleKind slot op = false

@@ -9,9 +9,10 @@ use Rattle.dpl_nodes.specs.declared.step.Names.TheVariants.{Int as IntName, Tupl
 use Rattle.dpl_nodes.specs.declared.tree.PromotedInt.{PromotedInt, Scalar' as IntScalar', Element as IntsElement, Negative' as Negatives', Sum' as Sums', Difference' as Differences', Product' as Products', Quotient' as Quotients', Remainder' as Remainders'}
 use Rattle.dpl_nodes.specs.declared.tree.PromotedTruth.{PromotedTruth, Scalar' as TruthScalar', Element as TruthsElement, Not' as Nots', And' as Ands', Or' as Ors', Same' as Sames', Differ' as Differs', Compare as Compares}
 use Rattle.dpl_nodes.specs.Typed.{int_view, truth_view}
-use Rattle.dpl_turns.specs.Turns.{whole_changes}
+use Rattle.dpl_turns.specs.Wholes.{whole_changes}
 use Rattle.dpl_turns.specs.Bodies.{OwnNames, NoNames, OneInt, Ints, OneTuple, turn_scoping}
 
+-- what a typed loop names
 abbrev pub own_of : Names → OwnNames
 own_of (IntName slot) = OneInt slot
 own_of (TupleName slot) = OneTuple slot

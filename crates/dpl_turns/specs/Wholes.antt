@@ -1,4 +1,4 @@
--- Which turns may be made apart: those of an assignment to a whole array.
+-- Assignments to whole arrays: what their turns change, and which right sides they may have, so that they may be made apart.
 use Rattle.std.specs.Prelude.{◌≡◌, ℕ, Result, Some, [], ◌∷◌}
 use Rattle.dpl_language.specs.Tree.{ExprTree}
 use Rattle.dpl_language.specs.Values.{Value, Index, Fault}
@@ -7,8 +7,7 @@ use Rattle.dpl_agreement.specs.Scopes.{fits_expr}
 use Rattle.dpl_apart.specs.Memories.{Changes, IsLike}
 use Rattle.dpl_turns.specs.Bodies.{NoNames, turn_scoping}
 
--- WHOLE ARRAYS
--- an assignment to a whole array changes that array's elements alone
+-- over a domain of this rank the elements of the array in a slot change, and nothing else
 abbrev pub whole_changes : ℕ → ℕ → Changes
 whole_changes rank slot = record { rank = rank; written = slot ∷ []; reduced = []; numbers = []; ranges = []; tuples = [] }
 
@@ -16,7 +15,7 @@ whole_changes rank slot = record { rank = rank; written = slot ∷ []; reduced =
 abbrev pub IsSeenAt : Changes → Index → (Memory → Result Value Fault) → Type 0
 IsSeenAt h t value = (s b : Memory) → IsLike h t s b → value s ≡ value b
 
--- An expression that is promoted: at each index it reads the array in a slot at that index alone, neither as a whole in a reduction
--- nor by indices that it gives. Other arrays it may read as it likes.
+-- A promoted expression that at each index reads the array in a slot at that index alone: neither as a whole in a reduction, nor by
+-- indices of its own. Other arrays it may read as it likes.
 abbrev pub ReadsOwn : ℕ → ℕ → ExprTree Variable → Type 0
 ReadsOwn rank slot e = (t : Index) → fits_expr (turn_scoping (whole_changes rank slot) NoNames t) (Some t) e tt
