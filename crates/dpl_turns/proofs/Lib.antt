@@ -15,3 +15,4 @@ pub mod Bodies
 pub mod Typed
 -- Rows.
 pub mod Worked
+pub mod WorkedTurns

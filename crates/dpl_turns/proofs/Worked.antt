@@ -13,7 +13,7 @@ use Rattle.dpl_turns.specs.Wholes.{ReadsOwn}
 use Rattle.dpl_turns.specs.Bodies.{OneInt, body_changes, body_turn, KeepsApart}
 use Rattle.dpl_turns.proofs.Bodies.{body-apart}
 
-abbrev int_named : ℕ → ExprTree Variable
+abbrev pub int_named : ℕ → ExprTree Variable
 int_named slot = leaf_named (int_leaf slot)
 
 abbrev array_named : ℕ → Placed Variable
@@ -28,7 +28,7 @@ before e = two e nowhere Subtract (Number nowhere (pos 1))
 abbrev element : ℕ → ExprTree Variable → ExprTree Variable
 element slot e = in_square (Named (array_named slot)) (items_one (One e))
 
-abbrev set_element : ℕ → ExprTree Variable → ExprTree Variable → StmtTree Variable
+abbrev pub set_element : ℕ → ExprTree Variable → ExprTree Variable → StmtTree Variable
 set_element slot i e = Assigned (Element (array_named slot) Square nowhere (exprs_one i) nowhere) (record { at = nowhere; op = Set; last = nowhere }) (One e) nowhere
 
 abbrev alone : StmtTree Variable → Stmts Variable
