@@ -13,6 +13,7 @@ pub mod Bound
 pub mod Silent
 pub mod Bodies
 pub mod Typed
+pub mod Steps
 -- Rows.
 pub mod Worked
 pub mod WorkedTurns
