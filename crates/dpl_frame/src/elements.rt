@@ -28,7 +28,7 @@ impl Frame<Slots> {
 
     /// The arrays of all slots, of a frame that is done with.
     pub fn into_arrays(self) -> Vec<Option<ArrayWords>>
-        ensures { map held_in result.items ≡ self.entry.memory.arrays }
+        ensures { map held_in result.items ≡ self.memory.arrays }
     {
         self.arrays.into_arrays()
     }

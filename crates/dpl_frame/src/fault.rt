@@ -1,9 +1,9 @@
 // What a walk hands back beside a value: a fault in one word, and a truth value in one word.
 // Results of one word and one tag stay in registers; the turn that a fault names stands beside them.
 
-ghost use Rattle.std.specs.Prelude.{◌≡◌, ◌<◌, ◌/◌, option_map};
+ghost use Rattle.std.specs.Prelude.{◌≡◌, ◌↔◌, ◌<◌, ◌/◌, option_map, IsTrue};
 ghost use Rattle.dpl_language.specs.Values.{fault, Fault as FaultValue, InNone, InTurn, in_the_turn};
-ghost use Rattle.dpl_frame.specs.Faults.{code_of, turn_view, fault_view, fault_of, fault_in, Faulted, Refused};
+ghost use Rattle.dpl_frame.specs.Faults.{code_of, turn_view, fault_view, fault_of, fault_in, Faulted, Refused, OutOfMemory, Unstarted};
 
 use dpl_domain::Index;
 use dpl_nodes::Spot;
@@ -100,8 +100,8 @@ fn unpacked(word: u64, turn: Turn) -> Fault
     }
 }
 
-/// Why a walk ended early, in one word: a fault, by its code, its line and its column, or that a gate refused an entry. The turn that
-/// a fault names stands beside it.
+/// Why a walk ended early, in one word: a fault, by its code, its line and its column; that a gate refused an entry, that memory ran out,
+/// or that a worker was not started. The turn that a fault names stands beside it.
 #[derive(Drop)]
 pub struct Alarm {
     word: u64,
@@ -138,7 +138,39 @@ impl Alarm {
         Alarm { word: 8 * CODE }
     }
 
-    /// The fault, in the turn that stands beside it; none where a gate refused.
+    /// Memory ran out.
+    #[cold]
+    #[inline(never)]
+    pub fn out_of_memory() -> Alarm
+        ensures { result ≡ OutOfMemory }
+    {
+        Alarm { word: 9 * CODE }
+    }
+
+    /// A worker was not started.
+    #[cold]
+    #[inline(never)]
+    pub fn unstarted() -> Alarm
+        ensures { result ≡ Unstarted }
+    {
+        Alarm { word: 10 * CODE }
+    }
+
+    /// Whether memory ran out.
+    pub fn is_out_of_memory(&self) -> bool
+        ensures { IsTrue result ↔ (self.now ≡ OutOfMemory) }
+    {
+        self.word / CODE == 9
+    }
+
+    /// Whether a worker was not started.
+    pub fn is_unstarted(&self) -> bool
+        ensures { IsTrue result ↔ (self.now ≡ Unstarted) }
+    {
+        10 <= self.word / CODE
+    }
+
+    /// The fault, in the turn that stands beside it; none where something was refused.
     #[cold]
     #[inline(never)]
     pub fn fault(self, turn: &Turn) -> Option<Fault>
@@ -151,7 +183,7 @@ impl Alarm {
         }
     }
 
-    /// The fault, in the turn that stands beside it. Nothing is said of what is handed back where a gate refused.
+    /// The fault, in the turn that stands beside it. Nothing is said of what is handed back where something was refused.
     #[cold]
     #[inline(never)]
     pub fn in_turn(self, turn: &Turn) -> Trap
