@@ -13,12 +13,14 @@ use Rattle.dpl_loop.specs.Tells.{IsFault, NamesTurn}
 pub then_do-halts : (may : Type 0) (h : Stop) (s next : Memory) (done : Deeds) (o : Outcome Memory) (go : Run Memory) → RunsTo may (Err h) s done o → RunsTo may (Err h) next done (then_do o go)
 then_do-halts may (stop.Fault f) s next done o go e = ap (λ o. then_do o go) e
 then_do-halts may stop.Memory s next done o go e = tt
+then_do-halts may stop.Thread s next done o go e = tt
 then_do-halts may stop.Gate s next done o go e = e
 
 -- how a run ended early is said of no memory
 pub halts-alike : (may : Type 0) (h : Stop) (s next : Memory) (done : Deeds) (o p : Outcome Memory) → p ≡ o → RunsTo may (Err h) s done o → RunsTo may (Err h) next done p
 halts-alike may (stop.Fault f) s next done o p e ends = e ∙ ends
 halts-alike may stop.Memory s next done o p e ends = tt
+halts-alike may stop.Thread s next done o p e ends = tt
 halts-alike may stop.Gate s next done o p e ends = ends
 
 pub ends-alike : (may : Type 0) (r : Result (Unit {0}) Stop) (s : Memory) (done : Deeds) (o p : Outcome Memory) → p ≡ o → RunsTo may r s done o → RunsTo may r s done p
@@ -29,6 +31,7 @@ ends-alike may (Err h) s done o p e ends = halts-alike may h s s done o p e ends
 pub halts-where : (may more : Type 0) (h : Stop) (s : Memory) (done : Deeds) (o : Outcome Memory) → (may → more) → RunsTo may (Err h) s done o → RunsTo more (Err h) s done o
 halts-where may more (stop.Fault f) s done o go ends = ends
 halts-where may more stop.Memory s done o go ends = tt
+halts-where may more stop.Thread s done o go ends = tt
 halts-where may more stop.Gate s done o go ends = go ends
 
 pub ends-where : (may more : Type 0) (r : Result (Unit {0}) Stop) (s : Memory) (done : Deeds) (o : Outcome Memory) → (may → more) → RunsTo may r s done o → RunsTo more r s done o
@@ -43,14 +46,21 @@ ends-within may r s done o p e ends = ends-where ⊥ may r s done p absurd (ends
 pub fault-ends : (may : Type 0) (f : Fault) (h : Stop) (s : Memory) (done : Deeds) (o : Outcome Memory) → IsFault f h → o ≡ StopAt f done → RunsTo may (Err h) s done o
 fault-ends may f (stop.Fault g) s done o is e = e ∙ ap (λ f. StopAt f done) (sym is)
 fault-ends may f stop.Memory s done o is e = absurd is
+fault-ends may f stop.Thread s done o is e = absurd is
 fault-ends may f stop.Gate s done o is e = absurd is
 
 -- a fault in a named turn names it
 pub naming-halts : (may : Type 0) (t : Index) (h g : Stop) (s : Memory) (done : Deeds) (o : Outcome Memory) → NamesTurn t h g → RunsTo ⊥ (Err h) s done o → RunsTo may (Err g) s done (naming t o)
 naming-halts may t (stop.Fault f) (stop.Fault g) s done o names ends = ap (naming t) ends ∙ ap (λ f. StopAt f done) (sym names)
 naming-halts may t (stop.Fault f) stop.Memory s done o names ends = absurd names
+naming-halts may t (stop.Fault f) stop.Thread s done o names ends = absurd names
 naming-halts may t (stop.Fault f) stop.Gate s done o names ends = absurd names
 naming-halts may t stop.Memory (stop.Fault g) s done o names ends = absurd (let no : stop.Fault g ≡ stop.Memory = names in cc)
 naming-halts may t stop.Memory stop.Memory s done o names ends = tt
+naming-halts may t stop.Memory stop.Thread s done o names ends = tt
 naming-halts may t stop.Memory stop.Gate s done o names ends = absurd (let no : stop.Gate ≡ stop.Memory = names in cc)
+naming-halts may t stop.Thread (stop.Fault g) s done o names ends = absurd (let no : stop.Fault g ≡ stop.Thread = names in cc)
+naming-halts may t stop.Thread stop.Memory s done o names ends = tt
+naming-halts may t stop.Thread stop.Thread s done o names ends = tt
+naming-halts may t stop.Thread stop.Gate s done o names ends = absurd (let no : stop.Gate ≡ stop.Thread = names in cc)
 naming-halts may t stop.Gate g s done o names ends = absurd ends

@@ -14,6 +14,7 @@ abbrev pub RunsTo : Type 0 → Result (Unit {0}) Stop → Memory → Deeds → O
 RunsTo may (Ok v) s done o = o ≡ Done s done
 RunsTo may (Err (stop.Fault f)) s done o = o ≡ StopAt (fault_view f) done
 RunsTo may (Err stop.Memory) s done o = Unit {0}
+RunsTo may (Err stop.Thread) s done o = Unit {0}
 RunsTo may (Err stop.Gate) s done o = may
 
 -- the same of what asks no gate

@@ -8,18 +8,21 @@
 
 pub mod gate;
 mod loops;
+mod part;
 mod reduction;
 mod rows;
 pub mod stop;
 mod strip;
 mod strips;
+mod team;
 mod together;
 mod turns;
 
 pub use gate::{Gate, OpenGate};
 pub use loops::{forall, forall_line};
-pub use reduction::{Operator, reduce};
+pub use reduction::{Meant, Operator, Reduction};
 pub use stop::Stop;
 pub use strip::{STRIP, Strip};
-pub use strips::reduce_ints;
+pub use strips::reduce;
+pub use team::{Team, reduce_here};
 pub use turns::{AnyFrame, Turns};

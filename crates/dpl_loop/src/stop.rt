@@ -1,5 +1,5 @@
 // What ends a loop, and a run, early.
-// A fault is an outcome of the program; that memory ran out and that a gate refused are none.
+// A fault is an outcome of the program; that memory ran out, that a worker was not started and that a gate refused are none.
 
 ghost use Rattle.std.specs.Prelude.{◌≡◌, Err};
 ghost use Rattle.dpl_frame.specs.Faults.{turn_view};
@@ -10,11 +10,12 @@ use dpl_domain::Index;
 use dpl_frame::{Alarm, Fault, Trap, Turn};
 use std::alloc::{AllocError, AllocFailed};
 
-/// Why a loop, or a run, ended early: by a fault, out of memory, or because a gate refused an entry.
+/// Why a loop, or a run, ended early: by a fault, out of memory, because a worker was not started, or because a gate refused an entry.
 #[derive(Clone, Copy, PartialEq, Eq, Debug)]
 pub enum Stop {
     Fault(Fault),
     Memory,
+    Thread,
     Gate,
 }
 
@@ -69,6 +70,12 @@ impl Stop {
     pub fn of(alarm: Alarm, turn: &Turn) -> Stop
         ensures { IsHalt (turn_view turn.now) alarm result }
     {
+        if alarm.is_out_of_memory() {
+            return Stop::Memory;
+        }
+        if alarm.is_unstarted() {
+            return Stop::Thread;
+        }
         match alarm.fault(turn) {
             Some(fault) => Stop::Fault(fault),
             None => Stop::Gate,
@@ -87,6 +94,7 @@ impl Stop {
                 turn: Turn::of(index),
             }),
             Stop::Memory => Stop::Memory,
+            Stop::Thread => Stop::Thread,
             Stop::Gate => Stop::Gate,
         }
     }
