@@ -50,6 +50,14 @@ refusal_of (suc (suc n)) = Unstarted
 abbrev pub halt_of : ℕ → Halt
 halt_of w = if nat_lt (w / 2 ^ 42) 8 then Faulted (fault_of w) else refusal_of (w / 2 ^ 42 - 8)
 
+-- which of several ends is told: that memory ran out before that a worker was not started, this before a refused entry, and each before a
+-- fault
+abbrev pub halt_rank : Halt → ℕ
+halt_rank OutOfMemory = 0
+halt_rank Unstarted = 1
+halt_rank Refused = 2
+halt_rank (Faulted f) = 3
+
 -- the fault that is told, in a turn; a refusal tells none
 abbrev pub fault_in : Turn → Halt → Option Fault
 fault_in t (Faulted f) = Some (in_the_turn t f)

@@ -1,9 +1,9 @@
 // What a walk hands back beside a value: a fault in one word, and a truth value in one word.
 // Results of one word and one tag stay in registers; the turn that a fault names stands beside them.
 
-ghost use Rattle.std.specs.Prelude.{◌≡◌, ◌↔◌, ◌<◌, ◌/◌, option_map, IsTrue};
-ghost use Rattle.dpl_language.specs.Values.{fault, Fault as FaultValue, InNone, InTurn, in_the_turn};
-ghost use Rattle.dpl_frame.specs.Faults.{code_of, turn_view, fault_view, fault_of, fault_in, Faulted, Refused, OutOfMemory, Unstarted};
+ghost use Rattle.std.specs.Prelude.{◌≡◌, ◌↔◌, ◌<◌, ◌/◌, Some, option_map, IsTrue};
+ghost use Rattle.dpl_language.specs.Values.{fault, Fault as FaultValue, Index as IndexValue, InNone, InTurn, in_the_turn};
+ghost use Rattle.dpl_frame.specs.Faults.{code_of, turn_view, fault_view, fault_of, fault_in, halt_rank, Faulted, Refused, OutOfMemory, Unstarted};
 
 use dpl_domain::Index;
 use dpl_nodes::Spot;
@@ -62,6 +62,20 @@ impl Turn {
             1 => Turn::Line(inner),
             2 => Turn::Plane(middle, inner),
             _ => Turn::Space(outer, middle, inner),
+        }
+    }
+}
+
+impl Turn {
+    /// The index of the turn, if there is one.
+    pub fn index(&self) -> Option<Index>
+        ensures { (t : IndexValue) → turn_view self.now ≡ InTurn t → result ≡ Some t }
+    {
+        match self {
+            Turn::Absent => None,
+            Turn::Line(i) => Some(Index::new(&[*i]).unwrap()),
+            Turn::Plane(i, j) => Some(Index::new(&[*i, *j]).unwrap()),
+            Turn::Space(i, j, k) => Some(Index::new(&[*i, *j, *k]).unwrap()),
         }
     }
 }
@@ -168,6 +182,19 @@ impl Alarm {
         ensures { IsTrue result ↔ (self.now ≡ Unstarted) }
     {
         10 <= self.word / CODE
+    }
+
+    /// Which of several is told, the least first: 0 where memory ran out, 1 where a worker was not started, 2 where an entry was refused, and 3
+    /// for a fault.
+    pub fn rank(&self) -> u32
+        ensures { result ≡ halt_rank self.now }
+    {
+        match self.word / CODE {
+            0..=7 => 3,
+            8 => 2,
+            9 => 0,
+            _ => 1,
+        }
     }
 
     /// The fault, in the turn that stands beside it; none where something was refused.

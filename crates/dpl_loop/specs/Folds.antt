@@ -1,5 +1,5 @@
 -- Folds of the values at the indices of a domain, or of a part of it, begun with the operator's value over nothing.
-use Rattle.std.specs.Prelude.{◌≡◌, ◌<◌, ℕ, List, [], ◌∷◌, Option, Some, None, slice_get, length, Result, Ok, Err}
+use Rattle.std.specs.Prelude.{◌≡◌, ◌<◌, ℕ, ℤ, nat_lt, Bool, true, false, if◌then◌else◌, List, [], ◌∷◌, Option, Some, None, slice_get, get_or, length, Result, Ok, Err}
 use Rattle.std.specs.List.{AllByRecursion}
 use Rattle.dpl_sets.specs.Ranges.{RangeValue}
 use Rattle.dpl_sets.specs.Indices.{indices}
@@ -11,7 +11,7 @@ use Rattle.dpl_language.specs.Arithmetic.{combined, unit_of}
 use Rattle.dpl_language.specs.Outcome.{naming_value}
 use Rattle.dpl_language.specs.Expressions.{folded}
 use Rattle.dpl_frame.specs.declared.fault.Turn.{Turn}
-use Rattle.dpl_frame.specs.Faults.{Halt, Faulted, Refused, turn_view}
+use Rattle.dpl_frame.specs.Faults.{Halt, Faulted, Refused, Unstarted, turn_view}
 use Rattle.dpl_apart.specs.Operands.{IsOperand}
 use Rattle.dpl_apart.specs.Rows.{Ran, Finished, Failed, run, merged, numbered, place_in}
 use Rattle.dpl_apart.specs.Folds.{fold_loop, no_rows}
@@ -51,7 +51,7 @@ IsSolePart ts (Some d) = indices d ≡ ts
 -- one for each locale of a map
 pub record AreSoleParts (whole : List RangeValue) (axes : List AxisValue) (parts : List (Option (List RangeValue))) : Type 0 where
   pub owners : (t : Index) → owner axes t < length parts
-  pub each : (l : ℕ) (p : Option (List RangeValue)) → slice_get parts l ≡ Some p → IsSolePart (part whole axes l) p
+  pub each : (l : ℕ) → l < length parts → IsSolePart (part whole axes l) (get_or parts l None)
 
 -- what a locale's part comes to by itself
 abbrev pub part_ran : Op → (Index → Result Value Fault) → List RangeValue → List AxisValue → ℕ → Ran (Unit {0}) Value
@@ -79,3 +79,28 @@ PartsHalt may ts r operands turn _ = Unit {0}
 abbrev pub PartsEnd : {A : Type 0} → Type 0 → (A → Value) → List Index → Ran (Unit {0}) Value → Type 0 → Turn → Result A Halt → Type 0
 PartsEnd may value ts r operands turn (Ok a) = (r ≡ Finished no_rows (value a)) × operands
 PartsEnd may value ts r operands turn (Err h) = PartsHalt may ts r operands turn h
+
+-- nothing put together; and that a worker was not started
+abbrev pub IsNothing : {A : Type 0} → (A → Value) → Value → Result A Halt → Type 0
+IsNothing value unit (Ok a) = value a ≡ unit
+IsNothing value unit (Err h) = ⊥
+
+abbrev pub IsUnstarted : {A : Type 0} → Result A Halt → Type 0
+IsUnstarted (Ok a) = ⊥
+IsUnstarted (Err h) = h ≡ Unstarted
+
+-- Whether the first of two early ends is told: a fault goes before another by its place, and before nothing else.
+pub record GoesFirst (ts : List Index) (turn other : Turn) (h i : Halt) (first : Bool) : Type 0 where
+  pub faults : (f g : Fault) (s t : Index) (j k : ℕ) → h ≡ Faulted f → i ≡ Faulted g → turn_view turn ≡ InTurn s → turn_view other ≡ InTurn t
+      → slice_get ts j ≡ Some s → slice_get ts k ≡ Some t → first ≡ nat_lt j k
+  pub no_refusal_behind : (f : Fault) → h ≡ Faulted f → first ≡ true → (g : Fault) × (i ≡ Faulted g)
+  pub no_refusal_before : (g : Fault) → i ≡ Faulted g → first ≡ false → (f : Fault) × (h ≡ Faulted f)
+
+-- two ends as one: their values put together; else one that ended early, and of two such the one that goes first
+abbrev pub IsBoth : Op → (ℤ → Value) → List Index → Result ℤ Halt → Turn → Result ℤ Halt → Turn → Result ℤ Halt → Turn → Type 0
+IsBoth op value ts (Ok a) turn (Ok b) other (Ok c) told = value c ≡ combined op (value a) (value b)
+IsBoth op value ts (Ok a) turn (Ok b) other (Err h) told = ⊥
+IsBoth op value ts (Err h) turn (Ok b) other all told = (all ≡ Err h) × (told ≡ turn)
+IsBoth op value ts (Ok a) turn (Err i) other all told = (all ≡ Err i) × (told ≡ other)
+IsBoth op value ts (Err h) turn (Err i) other all told =
+    (first : Bool) × GoesFirst ts turn other h i first × (all ≡ Err (if first then h else i)) × (told ≡ (if first then turn else other))

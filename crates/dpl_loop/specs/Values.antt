@@ -5,6 +5,7 @@ use Rattle.dpl_language.specs.Tree.{Op}
 use Rattle.dpl_language.specs.Expressions.{folded}
 use Rattle.dpl_array.specs.Elements.{behind}
 use Rattle.dpl_loop.specs.declared.strip.Strip.{Strip}
+use Rattle.dpl_loop.specs.declared.ended.Ended.{Ended}
 use Rattle.std.specs.Borrow.{MutBor}
 use Rattle.dpl_language.specs.Values.{Value, Index, Fault}
 use Rattle.dpl_frame.specs.declared.fault.Turn.{Turn}
@@ -29,10 +30,9 @@ AnswersTell may value answers meaning =
     (t : Index) (before after : MutBor Turn) (r : Result ℤ Halt) → answers t before r after → Tells may value after.now r (meaning t)
 
 -- what a function answers of a domain is how the fold over its indices ends
-abbrev pub FoldsTell : Type 0 → (ℤ → Value) → Op → (Index → Result Value Fault) → (List RangeValue → MutBor Turn → Result ℤ Halt → MutBor Turn → Type 0) → Type 0
+abbrev pub FoldsTell : Type 0 → (ℤ → Value) → Op → (Index → Result Value Fault) → (List RangeValue → Ended → Type 0) → Type 0
 FoldsTell may value op meaning answers =
-    (part : List RangeValue) (before after : MutBor Turn) (r : Result ℤ Halt) → answers part before r after
-    → FoldEnds may value op (in_turns meaning) (indices part) after.now r
+    (part : List RangeValue) (e : Ended) → answers part e → FoldEnds may value op (in_turns meaning) (indices part) e.turn e.item
 
 -- each int of a strip is the value at its index
 abbrev pub HoldsStrip : (ℤ → Value) → (Index → Result Value Fault) → Strip → Type 0

@@ -6,6 +6,7 @@
 // a fault, or refused (`Tells` of dpl_frame, and `Gives` for callers that have no place for the turn). Within a turn no gate is asked.
 #![tactic(auto)]
 
+mod ended;
 pub mod gate;
 mod loops;
 mod part;
@@ -17,7 +18,9 @@ mod strips;
 mod team;
 mod together;
 mod turns;
+mod workers;
 
+pub use ended::Ended;
 pub use gate::{Gate, OpenGate};
 pub use loops::{forall, forall_line};
 pub use reduction::{Meant, Operator, Reduction};
@@ -26,3 +29,4 @@ pub use strip::{STRIP, Strip};
 pub use strips::reduce;
 pub use team::{Team, reduce_here};
 pub use turns::{AnyFrame, Turns};
+pub use workers::reduce_by_workers;

@@ -12,6 +12,7 @@ ghost use Rattle.dpl_loop.specs.Entries.{MayRefuse};
 ghost use Rattle.dpl_loop.specs.Values.{AnswersTell, HoldsStrip, StripsTell, GoesOn, MayRefuseAmong};
 ghost use Rattle.dpl_loop.specs.Folds.{in_turns, AreOperands, FoldEnds};
 
+use crate::ended::Ended;
 use crate::gate::{Gate, enters};
 use crate::part::PartGate;
 use crate::reduction::{Meant, Operator, Reduction, entered, fold};
@@ -201,7 +202,7 @@ pub fn reduce<
         (fold_over (O.op reduction.now.operator.now) (M.meaning reduction.now.meant.now) reduction.now.over) }
 {
     let whole = reduction.over.domain();
-    let fold_part = |part: Domain, turn: &mut Turn| -> Result<i64, Alarm>
+    let fold_part = |part: Domain| -> Ended
         requires items { F.IsAlwaysCallable item_at }
         requires tell { AnswersTell (M.refusals reduction.now.meant.now) O.value (F.post item_at) (M.meaning reduction.now.meant.now) }
         requires strips { S.IsAlwaysCallable strip_at }
@@ -209,14 +210,16 @@ pub fn reduce<
         requires entries { MayRefuse (T.may_refuse team.now) reduction.now.map reduction.now.over → M.refusals reduction.now.meant.now }
         requires whole { indices whole ≡ indices_in reduction.now.over }
         ensures { FoldEnds (M.refusals reduction.entry.now.meant.now) O.value (O.op reduction.entry.now.operator.now)
-            (in_turns (M.meaning reduction.entry.now.meant.now)) (indices part) turn.new result }
+            (in_turns (M.meaning reduction.entry.now.meant.now)) (indices part) result.turn result.item }
     {
         let gate = PartGate {
             gate: team,
             part: &part,
             whole: &whole,
         };
-        fold_strips(reduction, &part, &item_at, &strip_at, &gate, turn)
+        let mut turn = Turn::Absent;
+        let item = fold_strips(reduction, &part, &item_at, &strip_at, &gate, &mut turn);
+        Ended { item, turn }
     };
     team.reduce(reduction, &fold_part, turn)
 }

@@ -5,6 +5,7 @@ ghost use Rattle.dpl_language.specs.Expressions.{fold_over};
 ghost use Rattle.dpl_frame.specs.Faults.{Tells};
 ghost use Rattle.dpl_loop.specs.Values.{FoldsTell};
 
+use crate::ended::Ended;
 use crate::gate::{Gate, OpenGate};
 use crate::reduction::{Meant, Operator, Reduction};
 use dpl_domain::Domain;
@@ -12,13 +13,12 @@ use dpl_frame::{Alarm, Turn};
 
 /// A gate, and who it is that asks it.
 pub trait Team: Gate + Sync {
-    /// What the parts of a reduction's domain come to together, each of which is folded by `fold`: it answers for a domain, and is handed a
-    /// place for the turn that a fault names.
+    /// What the parts of a reduction's domain come to together, each of which is folded by `fold`.
     ///
     /// # Errors
     /// Out of memory; a worker was not started; an item or an entry was refused; or the fault of the first index whose item has one, in the
     /// turn of that index. The first of these that holds is told.
-    fn reduce<O: Operator + Sync, M: Meant + Sync, P: Fn(Domain, &mut Turn) -> Result<i64, Alarm> + Sync>(
+    fn reduce<O: Operator + Sync, M: Meant + Sync, P: Fn(Domain) -> Ended + Sync>(
         &self,
         reduction: &Reduction<'_, O, M>,
         fold: &P,
@@ -36,7 +36,7 @@ pub trait Team: Gate + Sync {
 /// # Errors
 /// As for [`Team::reduce`].
 #[tactic(auto, using(crate::proofs::Folding::fold_tells))]
-pub fn reduce_here<O: Operator, M: Meant, P: Fn(Domain, &mut Turn) -> Result<i64, Alarm>>(
+pub fn reduce_here<O: Operator, M: Meant, P: Fn(Domain) -> Ended>(
     reduction: &Reduction<'_, O, M>,
     fold: &P,
     turn: &mut Turn,
@@ -47,17 +47,21 @@ pub fn reduce_here<O: Operator, M: Meant, P: Fn(Domain, &mut Turn) -> Result<i64
     ensures { Tells (M.refusals reduction.now.meant.now) O.value turn.new result
         (fold_over (O.op reduction.now.operator.now) (M.meaning reduction.now.meant.now) reduction.now.over) }
 {
-    fold(reduction.over.domain(), turn)
+    let ended = fold(reduction.over.domain());
+    *turn = ended.turn;
+    ended.item
 }
 
 impl Team for OpenGate {
     #[tactic(auto, using(crate::proofs::Folding::fold_tells))]
-    fn reduce<O: Operator + Sync, M: Meant + Sync, P: Fn(Domain, &mut Turn) -> Result<i64, Alarm> + Sync>(
+    fn reduce<O: Operator + Sync, M: Meant + Sync, P: Fn(Domain) -> Ended + Sync>(
         &self,
         reduction: &Reduction<'_, O, M>,
         fold: &P,
         turn: &mut Turn,
     ) -> Result<i64, Alarm> {
-        fold(reduction.over.domain(), turn)
+        let ended = fold(reduction.over.domain());
+        *turn = ended.turn;
+        ended.item
     }
 }
