@@ -33,30 +33,26 @@ fault_view f = record { code = f.code; at = f.at; turn = turn_view f.turn }
 abbrev pub fault_of : ℕ → Fault
 fault_of w = record { code = code_of (w / 2 ^ 42); at = record { line = w / 2097152 % 2097152; column = w % 2097152 }; turn = InNone }
 
--- why a walk ended early: by a fault, because a gate refused an entry, out of memory, or because a worker was not started
+-- why a walk ended early: by a fault, because a gate refused an entry, or out of memory
 pub data Halt : Type 0 where
   Faulted : Fault → Halt
   Refused : Halt
   OutOfMemory : Halt
-  Unstarted : Halt
 
 -- what the numbers behind those of the eight codes stand for
 abbrev pub refusal_of : ℕ → Halt
 refusal_of zero = Refused
-refusal_of (suc zero) = OutOfMemory
-refusal_of (suc (suc n)) = Unstarted
+refusal_of (suc n) = OutOfMemory
 
 -- what a word stands for
 abbrev pub halt_of : ℕ → Halt
 halt_of w = if nat_lt (w / 2 ^ 42) 8 then Faulted (fault_of w) else refusal_of (w / 2 ^ 42 - 8)
 
--- which of several ends is told: that memory ran out before that a worker was not started, this before a refused entry, and each before a
--- fault
+-- which of several ends is told, the least first: that memory ran out before a refused entry, and each before a fault
 abbrev pub halt_rank : Halt → ℕ
 halt_rank OutOfMemory = 0
-halt_rank Unstarted = 1
-halt_rank Refused = 2
-halt_rank (Faulted f) = 3
+halt_rank Refused = 1
+halt_rank (Faulted f) = 2
 
 -- the fault that is told, in a turn; a refusal tells none
 abbrev pub fault_in : Turn → Halt → Option Fault
@@ -64,13 +60,12 @@ fault_in t (Faulted f) = Some (in_the_turn t f)
 fault_in t _ = None
 
 -- What a walk hands back, with the turn that stands beside it, tells a value, or its fault in that turn; or an entry was refused,
--- which may be. Of memory and of threads nothing is said.
+-- which may be. Where memory ran out nothing is said.
 abbrev pub Tells : {A B : Type 0} → Type 0 → (A → B) → TurnNode → Result A Halt → Result B Fault → Type 0
 Tells may value t (Ok a) v = v ≡ Ok (value a)
 Tells may value t (Err (Faulted f)) v = v ≡ Err (in_the_turn (turn_view t) f)
 Tells may value t (Err Refused) v = may
 Tells may value t (Err OutOfMemory) v = Unit {0}
-Tells may value t (Err Unstarted) v = Unit {0}
 
 -- the value of a range
 abbrev pub as_range : RangeWord → Value

@@ -3,7 +3,7 @@
 
 ghost use Rattle.std.specs.Prelude.{◌≡◌, ◌↔◌, ◌<◌, ◌/◌, Some, option_map, IsTrue};
 ghost use Rattle.dpl_language.specs.Values.{fault, Fault as FaultValue, Index as IndexValue, InNone, InTurn, in_the_turn};
-ghost use Rattle.dpl_frame.specs.Faults.{code_of, turn_view, fault_view, fault_of, fault_in, halt_rank, Faulted, Refused, OutOfMemory, Unstarted};
+ghost use Rattle.dpl_frame.specs.Faults.{code_of, turn_view, fault_view, fault_of, fault_in, halt_rank, Faulted, Refused, OutOfMemory};
 
 use dpl_domain::Index;
 use dpl_nodes::Spot;
@@ -114,8 +114,8 @@ fn unpacked(word: u64, turn: Turn) -> Fault
     }
 }
 
-/// Why a walk ended early, in one word: a fault, by its code, its line and its column; that a gate refused an entry, that memory ran out,
-/// or that a worker was not started. The turn that a fault names stands beside it.
+/// Why a walk ended early, in one word: a fault, by its code, its line and its column; that a gate refused an entry, or that memory ran
+/// out. The turn that a fault names stands beside it.
 #[derive(Drop)]
 pub struct Alarm {
     word: u64,
@@ -161,39 +161,21 @@ impl Alarm {
         Alarm { word: 9 * CODE }
     }
 
-    /// A worker was not started.
-    #[cold]
-    #[inline(never)]
-    pub fn unstarted() -> Alarm
-        ensures { result ≡ Unstarted }
-    {
-        Alarm { word: 10 * CODE }
-    }
-
     /// Whether memory ran out.
     pub fn is_out_of_memory(&self) -> bool
         ensures { IsTrue result ↔ (self.now ≡ OutOfMemory) }
     {
-        self.word / CODE == 9
+        9 <= self.word / CODE
     }
 
-    /// Whether a worker was not started.
-    pub fn is_unstarted(&self) -> bool
-        ensures { IsTrue result ↔ (self.now ≡ Unstarted) }
-    {
-        10 <= self.word / CODE
-    }
-
-    /// Which of several is told, the least first: 0 where memory ran out, 1 where a worker was not started, 2 where an entry was refused, and 3
-    /// for a fault.
+    /// Which of several is told, the least first: 0 where memory ran out, 1 where an entry was refused, and 2 for a fault.
     pub fn rank(&self) -> u32
         ensures { result ≡ halt_rank self.now }
     {
         match self.word / CODE {
-            0..=7 => 3,
-            8 => 2,
-            9 => 0,
-            _ => 1,
+            0..=7 => 2,
+            8 => 1,
+            _ => 0,
         }
     }
 

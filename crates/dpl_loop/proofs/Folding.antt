@@ -9,7 +9,7 @@ use Rattle.dpl_sets.specs.TextRanges.{TextRange}
 use Rattle.dpl_language.specs.Ranges.{indices_in}
 use Rattle.dpl_language.specs.Expressions.{folded, fold_over}
 use Rattle.dpl_frame.specs.declared.fault.Turn.{Turn}
-use Rattle.dpl_frame.specs.Faults.{Halt, Faulted, Refused, OutOfMemory, Unstarted, Tells}
+use Rattle.dpl_frame.specs.Faults.{Halt, Faulted, Refused, OutOfMemory, Tells}
 use Rattle.dpl_apart.specs.Operands.{IsOperand}
 use Rattle.dpl_loop.specs.Folds.{in_turns, OperandThen, AreOperands, FoldHalts, FoldEnds}
 
@@ -19,7 +19,6 @@ pub with_ok-ends : {A B C D : Type 0} (may more : Type 0) (value : A → B) (t :
 with_ok-ends may more value t (Faulted f) v go all given where_more e tells = e ∙ ap (λ r. with_ok r go) tells
 with_ok-ends may more value t Refused v go all given where_more e tells = where_more tells
 with_ok-ends may more value t OutOfMemory v go all given where_more e tells = tt
-with_ok-ends may more value t Unstarted v go all given where_more e tells = tt
 
 -- a value that equals another, where more may be refused
 pub tells-as : {A B : Type 0} (may : Type 0) (value : A → B) (t : Turn) (more : Type 0) (r : Result A Halt) (v all : Result B Fault) → (may → more) → all ≡ v → Tells may value t r v → Tells more value t r all
@@ -27,7 +26,6 @@ tells-as may value t more (Ok a) v all go e tells = e ∙ tells
 tells-as may value t more (Err (Faulted f)) v all go e tells = e ∙ tells
 tells-as may value t more (Err Refused) v all go e tells = go tells
 tells-as may value t more (Err OutOfMemory) v all go e tells = tt
-tells-as may value t more (Err Unstarted) v all go e tells = tt
 
 module _ (op : Op) (value : Index → Result Value Fault) (ts : List Index) (k : ℕ) (t : Index) (so_far : Value) (at : slice_get ts k ≡ Some t) where
   pub folded-at : folded op value (drop k ts) so_far ≡ with_ok (value t) (λ v. folded op value (drop (k + 1) ts) (combined op so_far v))
@@ -50,7 +48,6 @@ module _ (op : Op) (value : Index → Result Value Fault) (ts : List Index) (k :
   )
   halts-at may more as_value turn Refused go tells = go tells
   halts-at may more as_value turn OutOfMemory go tells = tt
-  halts-at may more as_value turn Unstarted go tells = tt
 
 -- a fold that ended early on its way, which is that of all
 pub halts-all : (may more : Type 0) (op : Op) (value : Index → Result Value Fault) (ts rest : List Index) (before unit : Value) (turn : Turn) (h : Halt)
@@ -59,7 +56,6 @@ pub halts-all : (may more : Type 0) (op : Op) (value : Index → Result Value Fa
 halts-all may more op value ts rest before unit turn (Faulted f) go same operands halts = (sym same ∙ halts.0, operands halts.1)
 halts-all may more op value ts rest before unit turn Refused go same operands halts = go halts
 halts-all may more op value ts rest before unit turn OutOfMemory go same operands halts = tt
-halts-all may more op value ts rest before unit turn Unstarted go same operands halts = tt
 
 -- the fold over all indices of a domain is a reduction
 pub fold_tells : {A : Type 0} (may : Type 0) (as_value : A → Value) (op : Op) (meaning : Index → Result Value Fault) (over : List TextRange) (turn : Turn) (r : Result A Halt)
@@ -68,4 +64,3 @@ fold_tells may as_value op meaning over turn (Ok a) ends = ends.0
 fold_tells may as_value op meaning over turn (Err (Faulted f)) ends = ends.0
 fold_tells may as_value op meaning over turn (Err Refused) ends = ends
 fold_tells may as_value op meaning over turn (Err OutOfMemory) ends = tt
-fold_tells may as_value op meaning over turn (Err Unstarted) ends = tt

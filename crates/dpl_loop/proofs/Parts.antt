@@ -15,7 +15,7 @@ use Rattle.dpl_language.specs.Values.{Value, Index, Fault, InTurn, in_the_turn}
 use Rattle.dpl_language.specs.Arithmetic.{combined, unit_of}
 use Rattle.dpl_language.specs.Expressions.{folded}
 use Rattle.dpl_frame.specs.declared.fault.Turn.{Turn}
-use Rattle.dpl_frame.specs.Faults.{Halt, Faulted, Refused, OutOfMemory, Unstarted, Tells, turn_view}
+use Rattle.dpl_frame.specs.Faults.{Halt, Faulted, Refused, OutOfMemory, Tells, turn_view}
 use Rattle.dpl_apart.specs.Operands.{IsOperand}
 use Rattle.dpl_apart.specs.Rows.{Ran, Finished, Failed, Loop, run, merge, merged, numbered, place_in, is_owned, either, AllAdd}
 use Rattle.dpl_apart.specs.Folds.{adding, fold_loop, no_rows, fold_of}
@@ -98,7 +98,6 @@ module _ (op : Op) (meaning : Index → Result Value Fault) (whole : List RangeV
     by (Err (Faulted f)) ends = (part-fails limits l turn f (ran (Err (in_the_turn (turn_view turn) f)) ends.0), ends.1)
     by (Err Refused) ends = ends
     by (Err OutOfMemory) ends = tt
-    by (Err Unstarted) ends = tt
 
   -- a part without indices
   pub no-part : {A : Type 0} (may : Type 0) (as_value : A → Value) (l : ℕ) (turn : Turn) (a : A) → part whole axes l ≡ [] → as_value a ≡ unit_of op
@@ -128,7 +127,6 @@ module _ {A : Type 0} (op : Op) (may : Type 0) (as_value : A → Value) (ts : Li
       ((fails.0, fails.1, ap (λ r. merge (combined op) is_first r s) fails.2 ∙ ap (merge (combined op) is_first (Failed fails.0 (in_the_turn (turn_view turn) f))) behind.0, fails.3, fails.4), (first.1, behind.1))
   first-halts turn other Refused b first behind = first
   first-halts turn other OutOfMemory b first behind = tt
-  first-halts turn other Unstarted b first behind = tt
 
   pub behind-halts : (turn other : Turn) (a : A) (i : Halt) → PartsEnd may as_value ts r p turn (Ok a) → PartsEnd may as_value ts s q other (Err i) → PartsEnd may as_value ts merged_ran (p × q) other (Err i)
   behind-halts turn other a (Faulted g) first behind =
@@ -136,7 +134,6 @@ module _ {A : Type 0} (op : Op) (may : Type 0) (as_value : A → Value) (ts : Li
       ((fails.0, fails.1, ap (λ r. merge (combined op) is_first r s) first.0 ∙ ap (merge (combined op) is_first (Finished no_rows (as_value a))) fails.2, fails.3, fails.4), (first.1, behind.1))
   behind-halts turn other a Refused first behind = behind
   behind-halts turn other a OutOfMemory first behind = tt
-  behind-halts turn other a Unstarted first behind = tt
 
   -- two faults, of which the one of the lesser place is told
   faults-merge : (turn other : Turn) (f g : Fault) → (first : FailsAt ts r turn f) → (behind : FailsAt ts s other g)
@@ -152,10 +149,8 @@ module _ {A : Type 0} (op : Op) (may : Type 0) (as_value : A → Value) (ts : Li
       ((j.0, j.1, faults-merge turn other f g j k ∙ ap (λ c. if c then Failed j.0 (in_the_turn (turn_view turn) f) else Failed k.0 (in_the_turn (turn_view other) g)) (sym less), j.3, j.4), (first.1, behind.1))
   first-told turn other (Faulted f) Refused goes first behind = absurd (let no = goes.no_refusal_behind f refl refl in let is : Refused ≡ Faulted no.0 = no.1 in cc)
   first-told turn other (Faulted f) OutOfMemory goes first behind = absurd (let no = goes.no_refusal_behind f refl refl in let is : OutOfMemory ≡ Faulted no.0 = no.1 in cc)
-  first-told turn other (Faulted f) Unstarted goes first behind = absurd (let no = goes.no_refusal_behind f refl refl in let is : Unstarted ≡ Faulted no.0 = no.1 in cc)
   first-told turn other Refused i goes first behind = first
   first-told turn other OutOfMemory i goes first behind = tt
-  first-told turn other Unstarted i goes first behind = tt
 
   pub behind-told : (turn other : Turn) (h i : Halt) → GoesFirst ts turn other h i false → PartsEnd may as_value ts r p turn (Err h) → PartsEnd may as_value ts s q other (Err i) → PartsEnd may as_value ts merged_ran (p × q) other (Err i)
   behind-told turn other (Faulted f) (Faulted g) goes first behind =
@@ -165,10 +160,8 @@ module _ {A : Type 0} (op : Op) (may : Type 0) (as_value : A → Value) (ts : Li
       ((k.0, k.1, faults-merge turn other f g j k ∙ ap (λ c. if c then Failed j.0 (in_the_turn (turn_view turn) f) else Failed k.0 (in_the_turn (turn_view other) g)) (sym less), k.3, k.4), (first.1, behind.1))
   behind-told turn other Refused (Faulted g) goes first behind = absurd (let no = goes.no_refusal_before g refl refl in let is : Refused ≡ Faulted no.0 = no.1 in cc)
   behind-told turn other OutOfMemory (Faulted g) goes first behind = absurd (let no = goes.no_refusal_before g refl refl in let is : OutOfMemory ≡ Faulted no.0 = no.1 in cc)
-  behind-told turn other Unstarted (Faulted g) goes first behind = absurd (let no = goes.no_refusal_before g refl refl in let is : Unstarted ≡ Faulted no.0 = no.1 in cc)
   behind-told turn other h Refused goes first behind = behind
   behind-told turn other h OutOfMemory goes first behind = tt
-  behind-told turn other h Unstarted goes first behind = tt
 
 -- what two ends come to as one is what the first locale and those behind it come to, merged
 pub both-end : (op : Op) (may : Type 0) (as_value : ℤ → Value) (ts : List Index) (is_first : Index → Bool) (r s : Ran (Unit {0}) Value) (p q : Type 0) (one behind all : Result ℤ Halt) (turn other told : Turn)
@@ -243,7 +236,6 @@ module _ (op : Op) (meaning : Index → Result Value Fault) (whole : List RangeV
   all-end limits may as_value turn (Err (Faulted f)) ends = let fails = ends.0 in all-parts limits ends.1 ∙ ap fold_of fails.2
   all-end limits may as_value turn (Err Refused) ends = ends
   all-end limits may as_value turn (Err OutOfMemory) ends = tt
-  all-end limits may as_value turn (Err Unstarted) ends = tt
 
 -- ---- domains of parts
 pub written-ranges : (ranges : List RangeValue) → AreWritten ranges → AreRanges ranges

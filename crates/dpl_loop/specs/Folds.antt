@@ -11,7 +11,7 @@ use Rattle.dpl_language.specs.Arithmetic.{combined, unit_of}
 use Rattle.dpl_language.specs.Outcome.{naming_value}
 use Rattle.dpl_language.specs.Expressions.{folded}
 use Rattle.dpl_frame.specs.declared.fault.Turn.{Turn}
-use Rattle.dpl_frame.specs.Faults.{Halt, Faulted, Refused, Unstarted, turn_view}
+use Rattle.dpl_frame.specs.Faults.{Halt, Faulted, Refused, turn_view}
 use Rattle.dpl_apart.specs.Operands.{IsOperand}
 use Rattle.dpl_apart.specs.Rows.{Ran, Finished, Failed, run, merged, numbered, place_in}
 use Rattle.dpl_apart.specs.Folds.{fold_loop, no_rows}
@@ -80,14 +80,10 @@ abbrev pub PartsEnd : {A : Type 0} → Type 0 → (A → Value) → List Index �
 PartsEnd may value ts r operands turn (Ok a) = (r ≡ Finished no_rows (value a)) × operands
 PartsEnd may value ts r operands turn (Err h) = PartsHalt may ts r operands turn h
 
--- nothing put together; and that a worker was not started
+-- nothing put together
 abbrev pub IsNothing : {A : Type 0} → (A → Value) → Value → Result A Halt → Type 0
 IsNothing value unit (Ok a) = value a ≡ unit
 IsNothing value unit (Err h) = ⊥
-
-abbrev pub IsUnstarted : {A : Type 0} → Result A Halt → Type 0
-IsUnstarted (Ok a) = ⊥
-IsUnstarted (Err h) = h ≡ Unstarted
 
 -- Whether the first of two early ends is told: a fault goes before another by its place, and before nothing else.
 pub record GoesFirst (ts : List Index) (turn other : Turn) (h i : Halt) (first : Bool) : Type 0 where

@@ -5,7 +5,7 @@ ghost use Rattle.dpl_sets.specs.Indices.{indices};
 ghost use Rattle.dpl_language.specs.Values.{Index as IndexValue, InTurn};
 ghost use Rattle.dpl_language.specs.Arithmetic.{unit_of};
 ghost use Rattle.dpl_frame.specs.Faults.{turn_view};
-ghost use Rattle.dpl_loop.specs.Folds.{GoesFirst, IsBoth, IsNothing, IsUnstarted};
+ghost use Rattle.dpl_loop.specs.Folds.{GoesFirst, IsBoth, IsNothing};
 
 use crate::reduction::Operator;
 use dpl_domain::Domain;
@@ -25,16 +25,6 @@ impl Ended {
     {
         Ended {
             item: Ok(operator.over_none()),
-            turn: Turn::Absent,
-        }
-    }
-
-    // A worker was not started.
-    pub(crate) fn unstarted() -> Ended
-        ensures { IsUnstarted result.item }
-    {
-        Ended {
-            item: Err(Alarm::unstarted()),
             turn: Turn::Absent,
         }
     }

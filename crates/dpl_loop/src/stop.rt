@@ -73,9 +73,6 @@ impl Stop {
         if alarm.is_out_of_memory() {
             return Stop::Memory;
         }
-        if alarm.is_unstarted() {
-            return Stop::Thread;
-        }
         match alarm.fault(turn) {
             Some(fault) => Stop::Fault(fault),
             None => Stop::Gate,

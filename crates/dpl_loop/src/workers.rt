@@ -1,5 +1,5 @@
 // The parts of a reduction's domain by workers: one for each locale that owns an index of it. A level starts the worker of a locale, goes down
-// for the locales behind it, then joins the worker and puts the two ends together.
+// for the locales behind it, then joins the worker and puts the two ends together. Where no thread can be made, the caller does the part.
 
 ghost use Rattle.std.specs.Prelude.{◌≡◌, ◌-◌, length, IfOk, IfSome};
 ghost use Rattle.dpl_sets.specs.Indices.{indices};
@@ -16,8 +16,7 @@ use dpl_domain::Domain;
 use dpl_frame::{Alarm, Turn};
 use dpl_map::Map;
 use std::alloc::{AllocError, Global};
-use std::sync::Wait;
-use std::thread::{self, Promise, Scope, Threads};
+use std::thread::{self, Threads};
 
 // What the workers of a reduction share.
 #[derive(Drop)]
@@ -28,34 +27,15 @@ struct Shared<'a, O, M, P> {
     fold: &'a P,
 }
 
-// What a worker promises of its part.
-#[derive(Drop)]
-struct Folding<'a, O, M> {
-    operator: &'a O,
-    meant: &'a M,
-    part: &'a Domain,
-}
-
-impl<'a, O: Operator, M: Meant> Promise<Ended> for Folding<'a, O, M> {
-    ghost use Rattle.dpl_sets.specs.Indices.{indices};
-    ghost use Rattle.dpl_loop.specs.Folds.{in_turns, FoldEnds};
-
-    ghost kept_by = { λ p e. FoldEnds (M.refusals p.meant.now) O.value (O.op p.operator.now) (in_turns (M.meaning p.meant.now)) (indices p.part.now)
-        e.turn e.item };
-}
-
 // What the parts of the locales from one on come to together.
 fn spread<
-    's,
-    E,
-    R: Threads + Wait + Sync,
+    R: Threads + Sync,
     O: Operator + Sync,
     M: Meant + Sync,
     P: Fn(Domain) -> Ended + Sync,
 >(
     rt: &R,
-    scope: &Scope<'s, E>,
-    shared: &'s Shared<'s, O, M, P>,
+    shared: &Shared<'_, O, M, P>,
     locale: usize,
 ) -> Ended
     requires folds { P.IsAlwaysCallable shared.now.fold.now }
@@ -74,26 +54,30 @@ fn spread<
         return Ended::none(operator);
     };
     let Some(part) = part else {
-        let behind = spread(rt, scope, shared, locale + 1);
+        let behind = spread(rt, shared, locale + 1);
         return both(operator, &shared.whole, Ended::none(operator), behind);
     };
-    let promise = Folding {
-        operator,
-        meant: shared.reduction.meant,
-        part,
-    };
-    let work = move || -> Ended
+    let own = move || -> Ended
         requires folds { P.IsAlwaysCallable shared.now.fold.now }
         requires tell { FoldsTell (M.refusals shared.now.reduction.now.meant.now) O.value (O.op shared.now.reduction.now.operator.now)
             (M.meaning shared.now.reduction.now.meant.now) (P.post shared.now.fold.now) }
         ensures { FoldEnds (M.refusals shared.entry.now.reduction.now.meant.now) O.value (O.op shared.entry.now.reduction.now.operator.now)
             (in_turns (M.meaning shared.entry.now.reduction.now.meant.now)) (indices part.entry.now) result.turn result.item }
     { (shared.fold)(*part) };
-    let Ok(child) = scope.spawn_with(promise, work) else {
-        return Ended::unstarted();
-    };
-    let behind = spread(rt, scope, shared, locale + 1);
-    let first = child.join(rt);
+    let next = locale + 1;
+    let others = move || -> Ended
+        requires folds { P.IsAlwaysCallable shared.now.fold.now }
+        requires tell { FoldsTell (M.refusals shared.now.reduction.now.meant.now) O.value (O.op shared.now.reduction.now.operator.now)
+            (M.meaning shared.now.reduction.now.meant.now) (P.post shared.now.fold.now) }
+        requires ranges { AreRanges shared.now.whole }
+        requires parts { AreSoleParts shared.now.whole shared.now.reduction.now.map shared.now.parts.now }
+        ensures { PartsEnd (M.refusals shared.entry.now.reduction.now.meant.now) O.value (indices shared.entry.now.whole)
+            (parts_ran (O.op shared.entry.now.reduction.now.operator.now) (in_turns (M.meaning shared.entry.now.reduction.now.meant.now))
+            shared.entry.now.whole shared.entry.now.reduction.now.map next (length shared.entry.now.parts.now - next))
+            (ArePartOperands (O.op shared.entry.now.reduction.now.operator.now) (in_turns (M.meaning shared.entry.now.reduction.now.meant.now))
+            shared.entry.now.whole shared.entry.now.reduction.now.map next (length shared.entry.now.parts.now - next)) result.turn result.item }
+    { spread(rt, shared, next) };
+    let (first, behind) = thread::join(rt, own, others);
     both(operator, &shared.whole, first, behind)
 }
 
@@ -118,52 +102,13 @@ fn sole_parts(
     Ok(Some(parts))
 }
 
-// What all parts come to together.
-fn in_scope<
-    R: Threads + Wait + Sync,
-    O: Operator + Sync,
-    M: Meant + Sync,
-    P: Fn(Domain) -> Ended + Sync,
->(
-    rt: &R,
-    shared: &Shared<'_, O, M, P>,
-) -> Ended
-    requires folds { P.IsAlwaysCallable shared.now.fold.now }
-    requires tell { FoldsTell (M.refusals shared.now.reduction.now.meant.now) O.value (O.op shared.now.reduction.now.operator.now)
-        (M.meaning shared.now.reduction.now.meant.now) (P.post shared.now.fold.now) }
-    requires ranges { AreRanges shared.now.whole }
-    requires parts { AreSoleParts shared.now.whole shared.now.reduction.now.map shared.now.parts.now }
-    ensures { PartsEnd (M.refusals shared.now.reduction.now.meant.now) O.value (indices shared.now.whole)
-        (parts_ran (O.op shared.now.reduction.now.operator.now) (in_turns (M.meaning shared.now.reduction.now.meant.now)) shared.now.whole
-        shared.now.reduction.now.map 0 (length shared.now.parts.now))
-        (ArePartOperands (O.op shared.now.reduction.now.operator.now) (in_turns (M.meaning shared.now.reduction.now.meant.now)) shared.now.whole
-        shared.now.reduction.now.map 0 (length shared.now.parts.now)) result.turn result.item }
-{
-    thread::scope(
-        thread::scope_env(),
-        rt,
-        move |scope| -> Ended
-            requires folds { P.IsAlwaysCallable shared.now.fold.now }
-            requires tell { FoldsTell (M.refusals shared.now.reduction.now.meant.now) O.value (O.op shared.now.reduction.now.operator.now)
-                (M.meaning shared.now.reduction.now.meant.now) (P.post shared.now.fold.now) }
-            requires ranges { AreRanges shared.now.whole }
-            requires parts { AreSoleParts shared.now.whole shared.now.reduction.now.map shared.now.parts.now }
-            ensures { PartsEnd (M.refusals shared.entry.now.reduction.now.meant.now) O.value (indices shared.entry.now.whole)
-                (parts_ran (O.op shared.entry.now.reduction.now.operator.now) (in_turns (M.meaning shared.entry.now.reduction.now.meant.now))
-                shared.entry.now.whole shared.entry.now.reduction.now.map 0 (length shared.entry.now.parts.now))
-                (ArePartOperands (O.op shared.entry.now.reduction.now.operator.now) (in_turns (M.meaning shared.entry.now.reduction.now.meant.now))
-                shared.entry.now.whole shared.entry.now.reduction.now.map 0 (length shared.entry.now.parts.now)) result.turn result.item }
-        { spread(rt, scope, shared, 0) },
-    )
-}
-
 /// What the parts of a reduction's domain come to together, each by a worker of its own: one for each locale that owns an index of the
-/// domain. All that were started are joined. Where the part of some locale is several domains, the caller does all by itself.
+/// domain. All of them are joined. Where no thread can be made for a part, the caller does it; and where the part of some locale is several domains, the caller does all by itself.
 ///
 /// # Errors
 /// As for [`Team::reduce`](crate::Team::reduce).
 pub fn reduce_by_workers<
-    R: Threads + Wait + Sync,
+    R: Threads + Sync,
     O: Operator + Sync,
     M: Meant + Sync,
     P: Fn(Domain) -> Ended + Sync,
@@ -193,7 +138,7 @@ pub fn reduce_by_workers<
         parts: &parts,
         fold,
     };
-    let ended = in_scope(rt, &shared);
+    let ended = spread(rt, &shared, 0);
     *turn = ended.turn;
     ended.item
 }

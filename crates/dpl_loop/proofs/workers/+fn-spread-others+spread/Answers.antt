@@ -1,10 +1,9 @@
 -- The part of a locale, and those of the locales behind it, as one.
 use Rattle.std.proofs.Common.{◌≡◌, ◌<◌, None, Some, get_or, length, sym, subst, ap, ◌∙◌}
-use Rattle.dpl_sets.specs.Indices.{indices}
 use Rattle.dpl_map.specs.Parts.{part}
-use Rattle.dpl_loop.specs.Folds.{in_turns, IsSolePart, FoldEnds}
+use Rattle.dpl_loop.specs.Folds.{IsSolePart}
 use Rattle.dpl_loop.proofs.Parts.{level-ends, nothing-ends, part-ends}
-use Rattle.dpl_loop.proofs.workers.+spread.Goals as goal
+use Rattle.dpl_loop.proofs.workers.+fn-spread-others+spread.Goals as goal
 
 pub returns-in_default-part : goal.returns-in_default-part
 returns-in_default-part g t c =
@@ -34,11 +33,10 @@ returns g t c =
     let l = c.args.locale in
     let n = length c.args.shared.now.parts.now in
     let here = c.in-Some.ensures.lookup.3 in
+    let first = c.join-first.result.0 in
+    let behind = c.join-first.result.1 in
     let sole = subst (IsSolePart (part whole axes l)) (sym (here.1 None) ∙ c.in-Some-part.is) (c.requires.parts.each l here.0) in
-    let folds : FoldEnds may value op (in_turns meaning) (indices c.in-Some-part.part) c.join-first.result.turn c.join-first.result.item =
-    subst (λ (p : _). FoldEnds (g.M.Meant.refusals p.meant.now) value (g.O.Operator.op p.operator.now) (in_turns (g.M.Meant.meaning p.meant.now)) (indices p.part.now) c.join-first.result.turn c.join-first.result.item)
-    c.in-Ok.ensures.ok c.join-first.ensures in
-    level-ends op meaning whole axes l n here.0 may value c.join-first.result.item c.spread-behind-2.result.item c.both-2.result.item c.join-first.result.turn c.spread-behind-2.result.turn c.both-2.result.turn
+    level-ends op meaning whole axes l n here.0 may value first.item behind.item c.both-2.result.item first.turn behind.turn c.both-2.result.turn
     c.both-2.ensures
-    (part-ends op meaning whole axes c.requires.ranges may value l c.in-Some-part.part c.join-first.result.turn c.join-first.result.item sole folds)
-    c.spread-behind-2.ensures
+    (part-ends op meaning whole axes c.requires.ranges may value l c.in-Some-part.part first.turn first.item sole c.join-first.ensures.first)
+    c.join-first.ensures.second
