@@ -23,7 +23,7 @@ ghost use Rattle.dpl_elements.specs.Changes.{memory_after, ends_as, signed, if_t
 use dpl_domain::Index;
 use dpl_frame::{Alarm, Arrays, FaultCode, Frame, Trap, Turn};
 use dpl_loop::stop::told as ended;
-use dpl_loop::{Gate, Stop};
+use dpl_loop::{Stop, Team};
 use dpl_nodes::{ArrayName, BoolExpr, IndexExpr, IntExpr, Spot};
 use dpl_strips::number::{difference, product, quotient, remainder, sum};
 use dpl_tree::Assign;
@@ -175,7 +175,7 @@ fn told_in(name: &ArrayName<'_>, there: bool, turn: &mut Turn) -> Result<(), Ala
 
 // Puts a word at an index, whose coordinates are evaluated from left to right. No index is made of coordinates.
 #[inline(always)]
-fn put_word<A: Arrays, G: Gate>(
+fn put_word<A: Arrays, G: Team>(
     name: &ArrayName<'_>,
     t: &IndexExpr<'_>,
     word: i64,
@@ -213,7 +213,7 @@ fn put_word<A: Arrays, G: Gate>(
 
 // The same, whose fault has its turn.
 #[inline(always)]
-fn put_at<A: Arrays, G: Gate>(
+fn put_at<A: Arrays, G: Team>(
     name: &ArrayName<'_>,
     t: &IndexExpr<'_>,
     word: i64,
@@ -237,7 +237,7 @@ fn put_at<A: Arrays, G: Gate>(
 /// # Errors
 /// The fault of a part; `F1` at the array's name; `F2` at the operator.
 #[inline(always)]
-pub fn set_element<A: Arrays, G: Gate>(
+pub fn set_element<A: Arrays, G: Team>(
     name: &ArrayName<'_>,
     t: &IndexExpr<'_>,
     op: Assign,
@@ -264,7 +264,7 @@ pub fn set_element<A: Arrays, G: Gate>(
 /// # Errors
 /// The fault of a part; `F1` at the array's name.
 #[inline(always)]
-pub fn set_truth_element<A: Arrays, G: Gate>(
+pub fn set_truth_element<A: Arrays, G: Team>(
     name: &ArrayName<'_>,
     t: &IndexExpr<'_>,
     e: &BoolExpr<'_>,

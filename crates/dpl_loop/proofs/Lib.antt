@@ -5,6 +5,7 @@ pub mod Order
 pub mod Places
 pub mod Lines
 pub mod Folding
+pub mod Parts
 -- Strips.
 pub mod Behind
 pub mod InRows

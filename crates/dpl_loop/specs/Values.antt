@@ -5,30 +5,34 @@ use Rattle.dpl_language.specs.Tree.{Op}
 use Rattle.dpl_language.specs.Expressions.{folded}
 use Rattle.dpl_array.specs.Elements.{behind}
 use Rattle.dpl_loop.specs.declared.strip.Strip.{Strip}
+use Rattle.dpl_loop.specs.declared.ended.Ended.{Ended}
 use Rattle.std.specs.Borrow.{MutBor}
 use Rattle.dpl_language.specs.Values.{Value, Index, Fault}
 use Rattle.dpl_frame.specs.declared.fault.Turn.{Turn}
-use Rattle.dpl_frame.specs.Faults.{Halt, Refused, Tells, fault_view}
+use Rattle.dpl_frame.specs.Faults.{Halt, Tells, fault_view}
+use Rattle.dpl_loop.specs.Folds.{in_turns, AreOperands, FoldHalts, FoldEnds}
+use Rattle.dpl_sets.specs.Ranges.{RangeValue}
+use Rattle.dpl_sets.specs.Indices.{indices}
 use Rattle.dpl_loop.specs.declared.stop.Stop.{Stop}
 use Rattle.dpl_loop.specs.declared.stop.Stop.TheVariants as stop
 
--- the value itself, or its fault; or an entry was refused, which may be. No memory is taken.
+-- the value itself, or its fault; or an entry was refused, which may be. Where memory ran out nothing is said.
 abbrev pub Gives : {A B : Type 0} → Type 0 → (A → B) → Result A Stop → Result B Fault → Type 0
 Gives may value (Ok a) v = v ≡ Ok (value a)
 Gives may value (Err (stop.Fault f)) v = v ≡ Err (fault_view f)
-Gives may value (Err stop.Memory) v = ⊥
+Gives may value (Err stop.Memory) v = Unit {0}
 Gives may value (Err stop.Thread) v = ⊥
 Gives may value (Err stop.Gate) v = may
 
-module _ {V : Type 0} where
-  -- each of its answers tells the value at its index; of a refusal nothing is asked
-  abbrev pub AnswersTell : (V → Value) → (Index → MutBor Turn → Result V Halt → MutBor Turn → Type 0) → (Index → Result Value Fault) → Type 0
-  AnswersTell value answers meaning =
-      (t : Index) (before after : MutBor Turn) (r : Result V Halt) → answers t before r after → Tells (Unit {0}) value after.now r (meaning t)
+-- each answer tells the value at its index, or it is a refusal, which may be
+abbrev pub AnswersTell : Type 0 → (ℤ → Value) → (Index → MutBor Turn → Result ℤ Halt → MutBor Turn → Type 0) → (Index → Result Value Fault) → Type 0
+AnswersTell may value answers meaning =
+    (t : Index) (before after : MutBor Turn) (r : Result ℤ Halt) → answers t before r after → Tells may value after.now r (meaning t)
 
-  -- some answer is a refusal
-  abbrev pub MayAnswerRefused : (Index → MutBor Turn → Result V Halt → MutBor Turn → Type 0) → Type 0
-  MayAnswerRefused answers = (t : Index) × (before : MutBor Turn) × (after : MutBor Turn) × answers t before (Err Refused) after
+-- what a function answers of a domain is how the fold over its indices ends
+abbrev pub FoldsTell : Type 0 → (ℤ → Value) → Op → (Index → Result Value Fault) → (List RangeValue → Ended → Type 0) → Type 0
+FoldsTell may value op meaning answers =
+    (part : List RangeValue) (e : Ended) → answers part e → FoldEnds may value op (in_turns meaning) (indices part) e.turn e.item
 
 -- each int of a strip is the value at its index
 abbrev pub HoldsStrip : (ℤ → Value) → (Index → Result Value Fault) → Strip → Type 0
@@ -40,8 +44,10 @@ StripsTell value strips meaning = (t : Index) (s : Strip) → strips t s → (s.
 
 -- what was put together up to a place, with what follows it, is the fold of all: so it goes on from a later place, or ends
 abbrev pub GoesOn : Type 0 → (ℤ → Value) → Op → (Index → Result Value Fault) → List Index → ℕ → ℤ → Turn → Result (ℤ × ℕ) Halt → Type 0
-GoesOn may value op named ts place before turn (Ok r) = folded op named (drop r.1 ts) (value r.0) ≡ folded op named (drop place ts) (value before)
-GoesOn may value op named ts place before turn (Err h) = Tells {A = ℤ} may value turn (Err h) (folded op named (drop place ts) (value before))
+GoesOn may value op named ts place before turn (Ok r) =
+    (folded op named (drop r.1 ts) (value r.0) ≡ folded op named (drop place ts) (value before))
+    × (AreOperands op named (drop r.1 ts) → AreOperands op named (drop place ts))
+GoesOn may value op named ts place before turn (Err h) = FoldHalts may op named (drop place ts) (value before) turn h
 
 -- a gate may refuse the entry of an index's owner, with its place in a list
 abbrev pub MayRefuseAmong : (ℕ → ℕ → Type 0) → List AxisValue → List Index → Type 0

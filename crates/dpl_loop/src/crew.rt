@@ -7,15 +7,15 @@ ghost use Rattle.dpl_language.specs.Loops.{named_turn};
 ghost use Rattle.dpl_loop.specs.Runs.{RunsTo};
 ghost use Rattle.dpl_loop.specs.Entries.{MayRefuse};
 
-use crate::gate::Gate;
 use crate::stop::Stop;
+use crate::team::Team;
 use crate::turns::Turns;
 use dpl_contents::DomainWord;
 use dpl_frame::{Arrays, Frame};
 use dpl_map::Map;
 
-/// Who makes the turns of foralls, and asks the gate for them.
-pub trait Crew: Gate {
+/// A team that makes the turns of foralls, too.
+pub trait Crew: Team {
     /// How the arrays of its frames are kept.
     type Kept: Arrays;
 

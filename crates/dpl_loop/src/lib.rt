@@ -8,21 +8,28 @@
 #![tactic(auto)]
 
 mod crew;
+mod ended;
 pub mod gate;
 mod loops;
+mod part;
 mod reduction;
 mod rows;
 pub mod stop;
 mod strip;
 mod strips;
+mod team;
 mod together;
 mod turns;
+mod workers;
 
 pub use crew::Crew;
+pub use ended::Ended;
 pub use gate::{Gate, OpenGate};
 pub use loops::{forall_here, forall_line};
-pub use reduction::{Operator, reduce};
+pub use reduction::{Meant, Operator, Reduction};
 pub use stop::Stop;
 pub use strip::{STRIP, Strip};
-pub use strips::reduce_ints;
+pub use strips::reduce;
+pub use team::{Team, reduce_here};
 pub use turns::Turns;
+pub use workers::reduce_by_workers;

@@ -16,7 +16,7 @@ ghost use Rattle.dpl_print.specs.Texts.{argument_text, arguments_text, GrewBy};
 
 use crate::array_text::show_array;
 use dpl_frame::Frame;
-use dpl_loop::{Gate, Stop};
+use dpl_loop::{Stop, Team};
 use dpl_nodes::Argument;
 use dpl_values::{int_value, truth_value};
 use itoa::Buffer;
@@ -33,7 +33,7 @@ fn print(n: i64, out: &mut Vec<u8>) -> Result<(), AllocError>
 
 // Appends the text of an argument.
 #[tactic(auto, using(crate::proofs::Shown::shown_int, crate::proofs::Shown::shown_truth))]
-fn show<G: Gate>(
+fn show<G: Team>(
     argument: &Argument<'_>,
     frame: &Frame,
     gate: &G,
@@ -61,7 +61,7 @@ fn show<G: Gate>(
 }
 
 // Appends the texts of arguments.
-fn show_all<G: Gate>(
+fn show_all<G: Team>(
     arguments: &[Argument<'_>],
     frame: &Frame,
     gate: &G,
@@ -91,7 +91,7 @@ fn end_line(ends_line: bool, out: &mut Vec<u8>) -> Result<(), AllocError>
 /// # Errors
 /// The fault of an argument, which prints nothing; out of memory for what is printed; or the gate refused an entry of a reduction in
 /// an argument, and then nothing is printed.
-pub fn write<G: Gate>(
+pub fn write<G: Team>(
     ends_line: bool,
     arguments: &[Argument<'_>],
     frame: &Frame,

@@ -14,13 +14,13 @@ ghost use Rattle.dpl_elements.specs.Changes.{declared_memory, given_memory, assi
 use crate::reduce::{reduced_int, reduced_truth};
 use dpl_frame::{Arrays, FaultCode, Frame, Trap};
 use dpl_loop::stop::told;
-use dpl_loop::{Gate, Stop};
+use dpl_loop::{Stop, Team};
 use dpl_nodes::{BoolExpr, IntDeed, IntExpr, RangeExpr, Spot, TruthDeed};
 use dpl_strips::number::{difference, product, quotient, remainder, sum};
 use dpl_values::{int_value, range_value, truth_value};
 
 // A truth value's.
-fn declare_truth<A: Arrays, G: Gate>(
+fn declare_truth<A: Arrays, G: Team>(
     slot: usize,
     e: &BoolExpr<'_>,
     frame: &mut Frame<A>,
@@ -37,7 +37,7 @@ fn declare_truth<A: Arrays, G: Gate>(
 
 /// A range's.
 #[inline(always)]
-pub(crate) fn declare_range<A: Arrays, G: Gate>(
+pub(crate) fn declare_range<A: Arrays, G: Team>(
     slot: usize,
     e: &RangeExpr<'_>,
     frame: &mut Frame<A>,
@@ -53,7 +53,7 @@ pub(crate) fn declare_range<A: Arrays, G: Gate>(
 }
 
 // A `config const` that is a truth value.
-fn config_truth<A: Arrays, G: Gate>(
+fn config_truth<A: Arrays, G: Team>(
     slot: usize,
     e: &BoolExpr<'_>,
     frame: &mut Frame<A>,
@@ -150,7 +150,7 @@ fn put<A: Arrays>(
 }
 
 // `reduce=` to a truth value
-fn reduce_truth<A: Arrays, G: Gate>(
+fn reduce_truth<A: Arrays, G: Team>(
     slot: usize,
     e: &BoolExpr<'_>,
     frame: &mut Frame<A>,
@@ -168,7 +168,7 @@ fn reduce_truth<A: Arrays, G: Gate>(
 
 /// What is done to an int: its right side is evaluated in one place, whatever is done with the value.
 #[inline(always)]
-pub(crate) fn change_int<A: Arrays, G: Gate>(
+pub(crate) fn change_int<A: Arrays, G: Team>(
     deed: &IntDeed<'_>,
     slot: usize,
     e: &IntExpr<'_>,
@@ -189,7 +189,7 @@ pub(crate) fn change_int<A: Arrays, G: Gate>(
 
 /// What is done to a truth value.
 #[inline(always)]
-pub(crate) fn change_truth<A: Arrays, G: Gate>(
+pub(crate) fn change_truth<A: Arrays, G: Team>(
     deed: TruthDeed,
     slot: usize,
     e: &BoolExpr<'_>,

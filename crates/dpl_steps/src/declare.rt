@@ -29,7 +29,7 @@ use crate::lineage::derived;
 use dpl_contents::ArrayWords;
 use dpl_domain::Index;
 use dpl_frame::{Arrays, DomainWord, Frame, Trap};
-use dpl_loop::{Gate, OpenGate, Stop};
+use dpl_loop::{OpenGate, Stop, Team};
 use dpl_map::Map;
 use dpl_nodes::{ArrayDeclaration, DeclaredOver, Initial, PromotedInt, PromotedTruth, Spot};
 use dpl_strips::index::coordinate;
@@ -41,7 +41,7 @@ use dpl_values::{
 };
 
 // The domain that stands between an array's brackets.
-fn domain_over<A: Arrays, G: Gate>(
+fn domain_over<A: Arrays, G: Team>(
     over: &DeclaredOver<'_>,
     from: &Spot,
     frame: &Frame<A>,
@@ -94,7 +94,7 @@ impl<'t> Elements for PromotedTruth<'t> {
 }
 
 // The word of an index at a place, once its owner has entered. Its fault names the index.
-fn entered<A: Arrays, E: Elements, G: Gate>(
+fn entered<A: Arrays, E: Elements, G: Team>(
     e: &E,
     index: Index,
     place: u64,
@@ -114,7 +114,7 @@ fn entered<A: Arrays, E: Elements, G: Gate>(
 }
 
 // The array over a domain that has at each index what is evaluated there, dealt out by a map.
-fn gathered<A: Arrays, E: Elements, G: Gate>(
+fn gathered<A: Arrays, E: Elements, G: Team>(
     e: &E,
     map: &Map,
     domain: DomainWord,
@@ -139,7 +139,7 @@ fn gathered<A: Arrays, E: Elements, G: Gate>(
 }
 
 // An array of ints with an initial value.
-fn declare_ints<A: Arrays, G: Gate>(
+fn declare_ints<A: Arrays, G: Team>(
     d: &ArrayDeclaration<'_>,
     at: &Spot,
     e: &PromotedInt<'_>,
@@ -171,7 +171,7 @@ fn declare_ints<A: Arrays, G: Gate>(
 }
 
 // The same of truth values.
-fn declare_truths<A: Arrays, G: Gate>(
+fn declare_truths<A: Arrays, G: Team>(
     d: &ArrayDeclaration<'_>,
     at: &Spot,
     e: &PromotedTruth<'_>,
@@ -228,7 +228,7 @@ fn sized_for_array(at: &Spot, domain: DomainWord) -> Result<DomainWord, Trap>
 }
 
 // The array over a domain, by its elements; its slot has no root yet.
-fn declare_over<A: Arrays, G: Gate>(
+fn declare_over<A: Arrays, G: Team>(
     d: &ArrayDeclaration<'_>,
     map: &Map,
     domain: DomainWord,
@@ -257,7 +257,7 @@ fn declare_over<A: Arrays, G: Gate>(
 /// once; `F5` at `=` for more elements than the budget; the fault of an index, in its turn; out of memory; or the gate refused
 /// the entry of an index's owner, by the map of the root that the array gets, or of a reduction in its domain or its initial value.
 #[inline(never)]
-pub(crate) fn declare_array<A: Arrays, G: Gate>(
+pub(crate) fn declare_array<A: Arrays, G: Team>(
     d: &ArrayDeclaration<'_>,
     frame: &mut Frame<A>,
     gate: &G,

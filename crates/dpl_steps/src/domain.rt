@@ -17,7 +17,7 @@ ghost use Rattle.dpl_loop.specs.Runs.{RunsTo};
 
 use crate::lineage::{with_value, without_value};
 use dpl_frame::{Arrays, DomainWord, FaultCode, Frame, Trap};
-use dpl_loop::{Gate, Stop};
+use dpl_loop::{Stop, Team};
 use dpl_nodes::{Beginning, DomainExpr, DomainName, Placing, Rank, Spot};
 use dpl_values::domain_value;
 
@@ -25,7 +25,7 @@ use dpl_values::domain_value;
 const MOST_ELEMENTS: u64 = 16_777_216;
 
 // A domain's declaration with its initial value.
-fn declare_value<A: Arrays, G: Gate>(
+fn declare_value<A: Arrays, G: Team>(
     slot: usize,
     e: &DomainExpr<'_>,
     placing: &Placing<'_>,
@@ -60,7 +60,7 @@ fn declare_empty<A: Arrays>(slot: usize, rank: Rank, placing: &Placing<'_>, fram
 
 /// A domain's declaration, by what it begins with, and with its root.
 #[inline(never)]
-pub(crate) fn declare_domain<A: Arrays, G: Gate>(
+pub(crate) fn declare_domain<A: Arrays, G: Team>(
     slot: usize,
     beginning: &Beginning<'_>,
     placing: &Placing<'_>,
@@ -110,7 +110,7 @@ pub(crate) fn for_array(at: &Spot, domain: DomainWord) -> Result<DomainWord, Tra
 /// # Errors
 /// `F8` at the domain's name, where there are such arrays; out of memory for them.
 #[inline(never)]
-pub(crate) fn set_domain<A: Arrays, G: Gate>(
+pub(crate) fn set_domain<A: Arrays, G: Team>(
     name: &DomainName<'_>,
     e: &DomainExpr<'_>,
     frame: &mut Frame<A>,

@@ -23,7 +23,7 @@ use crate::context::Context;
 use crate::statement::run;
 use dpl_domain::Index;
 use dpl_frame::{Arrays, DomainWord, Frame, Trap};
-use dpl_loop::{Gate, Stop};
+use dpl_loop::{Stop, Team};
 use dpl_nodes::{DomainExpr, Names, Spot, Step};
 use dpl_values::budget::within_budget;
 use dpl_values::domain_value;
@@ -34,7 +34,7 @@ use dpl_values::domain_value;
 /// The fault of the domain; `F5` at the loop where it has more indices than the budget; or the gate refused an entry of a reduction
 /// in the domain.
 #[tactic(auto, using(crate::proofs::Tested::within_domain))]
-pub fn domain_indices<A: Arrays, G: Gate>(
+pub fn domain_indices<A: Arrays, G: Team>(
     at: &Spot,
     over: &DomainExpr<'_>,
     frame: &Frame<A>,

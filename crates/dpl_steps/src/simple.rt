@@ -15,13 +15,13 @@ ghost use Rattle.dpl_loop.specs.Runs.{RunsTo};
 use crate::change::{change_truth, declare_range};
 use dpl_elements::{set_element, set_truth_element};
 use dpl_frame::{Arrays, Frame};
-use dpl_loop::{Gate, Stop};
+use dpl_loop::{Stop, Team};
 use dpl_nodes::{ArrayName, BoolExpr, IndexExpr, IntExpr, RangeExpr, Spot, TruthTarget};
 use dpl_tree::Assign;
 
 /// A range's declaration, or an assignment to it.
 #[inline(never)]
-pub(crate) fn range<A: Arrays, G: Gate>(
+pub(crate) fn range<A: Arrays, G: Team>(
     slot: usize,
     e: &RangeExpr<'_>,
     frame: &mut Frame<A>,
@@ -37,7 +37,7 @@ pub(crate) fn range<A: Arrays, G: Gate>(
 
 /// What is done to a truth value, or to an element that is one.
 #[inline(never)]
-pub(crate) fn truth<A: Arrays, G: Gate>(
+pub(crate) fn truth<A: Arrays, G: Team>(
     target: &TruthTarget<'_>,
     e: &BoolExpr<'_>,
     frame: &mut Frame<A>,
@@ -55,7 +55,7 @@ pub(crate) fn truth<A: Arrays, G: Gate>(
 
 /// An assignment to an element.
 #[inline(never)]
-pub(crate) fn element<A: Arrays, G: Gate>(
+pub(crate) fn element<A: Arrays, G: Team>(
     name: &ArrayName<'_>,
     t: &IndexExpr<'_>,
     op: Assign,

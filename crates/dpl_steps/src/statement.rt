@@ -27,7 +27,7 @@ use crate::simple;
 use dpl_elements::{set_array, set_truth_array};
 use dpl_frame::{Arrays, FaultCode, Frame, RangeWord, Trap};
 use dpl_loop::stop::told;
-use dpl_loop::{Gate, Stop};
+use dpl_loop::{Stop, Team};
 use dpl_nodes::{BoolExpr, Else, RangeExpr, Spot, Step};
 use dpl_range::Range;
 use dpl_values::{range_value, truth_value};
@@ -37,7 +37,7 @@ use dpl_values::{range_value, truth_value};
 /// # Errors
 /// The fault of the range; `F5` at the loop where it has more members than the budget; or the gate refused an entry of a reduction
 /// in the range.
-pub fn range_indices<A: Arrays, G: Gate>(
+pub fn range_indices<A: Arrays, G: Team>(
     at: &Spot,
     over: &RangeExpr<'_>,
     frame: &Frame<A>,

@@ -16,7 +16,7 @@ use crate::range::{Written, bounded, contains, first, high, last, low, size, str
 use crate::reduction::{reduced_int, reduced_truth};
 use dpl_domain::Index;
 use dpl_frame::{Alarm, Arrays, DomainWord, FaultCode, Frame, RangeWord, Truth, Turn};
-use dpl_loop::Gate;
+use dpl_loop::Team;
 use dpl_nodes::{BoolExpr, DomainExpr, IndexExpr, IntExpr, RangeExpr, RangesExpr, Spot, Stride};
 use dpl_strips::index::{coordinate, plane, space};
 use dpl_strips::number::{difference, negative, product, quotient, remainder, sum};
@@ -24,7 +24,7 @@ use dpl_strips::number::{difference, negative, product, quotient, remainder, sum
 // An operand: a leaf at once, and else by a walk.
 #[cycle(walk)]
 #[inline(always)]
-pub(crate) fn operand<A: Arrays, G: Gate>(
+pub(crate) fn operand<A: Arrays, G: Team>(
     e: &IntExpr<'_>,
     frame: &Frame<A>,
     gate: &G,
@@ -46,7 +46,7 @@ pub(crate) fn operand<A: Arrays, G: Gate>(
 /// The fault of a part.
 #[cycle(walk)]
 #[inline(always)]
-pub fn coordinate_value<A: Arrays, G: Gate>(
+pub fn coordinate_value<A: Arrays, G: Team>(
     e: &IntExpr<'_>,
     frame: &Frame<A>,
     gate: &G,
@@ -71,7 +71,7 @@ pub fn coordinate_value<A: Arrays, G: Gate>(
 /// # Errors
 /// `F2` at a division by zero; the fault of a part.
 #[cycle(walk)]
-pub(crate) fn int_value<A: Arrays, G: Gate>(
+pub(crate) fn int_value<A: Arrays, G: Team>(
     e: &IntExpr<'_>,
     frame: &Frame<A>,
     gate: &G,
@@ -130,7 +130,7 @@ pub(crate) fn int_value<A: Arrays, G: Gate>(
 // `size`
 #[cycle(walk)]
 #[inline(never)]
-fn size_of<A: Arrays, G: Gate>(
+fn size_of<A: Arrays, G: Team>(
     r: &RangeExpr<'_>,
     frame: &Frame<A>,
     gate: &G,
@@ -144,7 +144,7 @@ fn size_of<A: Arrays, G: Gate>(
 // `first`
 #[cycle(walk)]
 #[inline(never)]
-fn first_of<A: Arrays, G: Gate>(
+fn first_of<A: Arrays, G: Team>(
     r: &RangeExpr<'_>,
     at: &Spot,
     frame: &Frame<A>,
@@ -160,7 +160,7 @@ fn first_of<A: Arrays, G: Gate>(
 // `last`
 #[cycle(walk)]
 #[inline(never)]
-fn last_of<A: Arrays, G: Gate>(
+fn last_of<A: Arrays, G: Team>(
     r: &RangeExpr<'_>,
     at: &Spot,
     frame: &Frame<A>,
@@ -176,7 +176,7 @@ fn last_of<A: Arrays, G: Gate>(
 // `low`
 #[cycle(walk)]
 #[inline(never)]
-fn low_of<A: Arrays, G: Gate>(
+fn low_of<A: Arrays, G: Team>(
     r: &RangeExpr<'_>,
     at: &Spot,
     frame: &Frame<A>,
@@ -192,7 +192,7 @@ fn low_of<A: Arrays, G: Gate>(
 // `high`
 #[cycle(walk)]
 #[inline(never)]
-fn high_of<A: Arrays, G: Gate>(
+fn high_of<A: Arrays, G: Team>(
     r: &RangeExpr<'_>,
     at: &Spot,
     frame: &Frame<A>,
@@ -208,7 +208,7 @@ fn high_of<A: Arrays, G: Gate>(
 // `size` of a domain
 #[cycle(walk)]
 #[inline(never)]
-fn count_of<A: Arrays, G: Gate>(
+fn count_of<A: Arrays, G: Team>(
     d: &DomainExpr<'_>,
     frame: &Frame<A>,
     gate: &G,
@@ -224,7 +224,7 @@ fn count_of<A: Arrays, G: Gate>(
 /// # Errors
 /// `F1` at the array's name for an index outside it.
 #[cycle(walk)]
-pub(crate) fn element<A: Arrays, G: Gate>(
+pub(crate) fn element<A: Arrays, G: Team>(
     slot: usize,
     t: &IndexExpr<'_>,
     at: &Spot,
@@ -259,7 +259,7 @@ pub(crate) fn element<A: Arrays, G: Gate>(
 ///
 /// # Errors
 /// The fault of a coordinate.
-pub(crate) fn index_value<A: Arrays, G: Gate>(
+pub(crate) fn index_value<A: Arrays, G: Team>(
     t: &IndexExpr<'_>,
     frame: &Frame<A>,
     gate: &G,
@@ -289,7 +289,7 @@ pub(crate) fn index_value<A: Arrays, G: Gate>(
 /// # Errors
 /// The fault of a range; `F3` at the opening bracket for too many indices.
 #[cycle(walk)]
-pub(crate) fn literal<A: Arrays, G: Gate>(
+pub(crate) fn literal<A: Arrays, G: Team>(
     at: &Spot,
     ranges: &RangesExpr<'_>,
     frame: &Frame<A>,
@@ -320,7 +320,7 @@ pub(crate) fn literal<A: Arrays, G: Gate>(
 
 // A domain with each dimension between the bounds of its range.
 #[cycle(walk)]
-fn cut<A: Arrays, G: Gate>(
+fn cut<A: Arrays, G: Team>(
     domain: DomainWord,
     ranges: &RangesExpr<'_>,
     frame: &Frame<A>,
@@ -354,7 +354,7 @@ fn cut<A: Arrays, G: Gate>(
 /// # Errors
 /// `F3` at the opening bracket for too many indices, and at `expand` for these or for a bound past its limit.
 #[cycle(walk)]
-pub(crate) fn domain_value<A: Arrays, G: Gate>(
+pub(crate) fn domain_value<A: Arrays, G: Team>(
     e: &DomainExpr<'_>,
     frame: &Frame<A>,
     gate: &G,
@@ -387,7 +387,7 @@ pub(crate) fn domain_value<A: Arrays, G: Gate>(
 
 // A range by its bounds, with the stride that is written, which is evaluated before the fault of its bounds is told.
 #[cycle(walk)]
-fn stridden<A: Arrays, G: Gate>(
+fn stridden<A: Arrays, G: Team>(
     stride: &Stride<'_>,
     written: Written,
     frame: &Frame<A>,
@@ -412,7 +412,7 @@ fn stridden<A: Arrays, G: Gate>(
 /// # Errors
 /// `F3` at the dots for a bound or a count past its limit, and at `by` for a stride.
 #[cycle(walk)]
-pub(crate) fn range_value<A: Arrays, G: Gate>(
+pub(crate) fn range_value<A: Arrays, G: Team>(
     e: &RangeExpr<'_>,
     frame: &Frame<A>,
     gate: &G,
@@ -447,7 +447,7 @@ pub(crate) fn range_value<A: Arrays, G: Gate>(
 /// # Errors
 /// The fault of an operand.
 #[cycle(truth)]
-pub(crate) fn truth_value<A: Arrays, G: Gate>(
+pub(crate) fn truth_value<A: Arrays, G: Team>(
     e: &BoolExpr<'_>,
     frame: &Frame<A>,
     gate: &G,

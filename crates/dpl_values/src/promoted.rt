@@ -17,14 +17,14 @@ use crate::domain::found;
 use crate::expression::{operand as scalar_operand, truth_value};
 use dpl_domain::Index;
 use dpl_frame::{Alarm, Arrays, DomainWord, FaultCode, Frame, Truth, Turn};
-use dpl_loop::Gate;
+use dpl_loop::Team;
 use dpl_nodes::{PromotedInt, PromotedTruth};
 use dpl_strips::number::{difference, negative, product, quotient, remainder, sum};
 
 // An operand: an element or a scalar at once, and else by a walk.
 #[cycle(walk)]
 #[inline(always)]
-pub(crate) fn operand<A: Arrays, G: Gate>(
+pub(crate) fn operand<A: Arrays, G: Team>(
     e: &PromotedInt<'_>,
     index: &Index,
     frame: &Frame<A>,
@@ -50,7 +50,7 @@ pub(crate) fn operand<A: Arrays, G: Gate>(
 /// # Errors
 /// `F1` at the name of an array that hasn't the index, and `F2` at a division by zero.
 #[cycle(walk)]
-pub(crate) fn promoted_int_value<A: Arrays, G: Gate>(
+pub(crate) fn promoted_int_value<A: Arrays, G: Team>(
     e: &PromotedInt<'_>,
     index: &Index,
     frame: &Frame<A>,
@@ -102,7 +102,7 @@ pub(crate) fn promoted_int_value<A: Arrays, G: Gate>(
 /// # Errors
 /// The fault of an operand, and `F1` at the name of an array that hasn't the index.
 #[cycle(truth)]
-pub(crate) fn promoted_truth_value<A: Arrays, G: Gate>(
+pub(crate) fn promoted_truth_value<A: Arrays, G: Team>(
     e: &PromotedTruth<'_>,
     index: &Index,
     frame: &Frame<A>,

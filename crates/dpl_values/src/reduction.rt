@@ -4,13 +4,14 @@
 ghost use Rattle.std.specs.Prelude.{◌≡◌, ◌⊎◌, Some, Result};
 ghost use Rattle.dpl_language.specs.Values.{Value, Fault, Index as IndexValue, Int, Truth as TruthValue};
 ghost use Rattle.dpl_language.specs.Expressions.{whole_in, fold_over, reduction};
+ghost use Rattle.dpl_words.specs.Words.{is_true};
 ghost use Rattle.dpl_lowered.specs.LoweredExpressions.{EachTurn};
 ghost use Rattle.dpl_memory.specs.Memory.{array_at, in_memory};
 ghost use Rattle.dpl_nodes.specs.Typed.{promoted_int, promoted_truth, int_fold_view, truth_fold_view};
 ghost use Rattle.dpl_frame.specs.Frames.{owned_by};
 ghost use Rattle.dpl_frame.specs.Faults.{Tells};
 ghost use Rattle.dpl_loop.specs.Entries.{MayRefuse};
-ghost use Rattle.dpl_loop.specs.Values.{AnswersTell, MayAnswerRefused, HoldsStrip, StripsTell};
+ghost use Rattle.dpl_loop.specs.Values.{HoldsStrip};
 ghost use Rattle.dpl_values.specs.Reducing.{first_of_ints, first_of_truths};
 ghost use Rattle.dpl_values.specs.Reductions.{MayRefuseReduction, OfSlot, EachInInts, EachInTruths};
 ghost use Rattle.dpl_values.specs.Meanings.{int_at, truth_at};
@@ -20,7 +21,7 @@ use crate::fold::{combined_ints, combined_truths, int_over_none, truth_over_none
 use crate::promoted::{int_array, operand, promoted_truth_value, truth_array};
 use dpl_domain::Index;
 use dpl_frame::{Alarm, Arrays, Frame, Truth, Turn};
-use dpl_loop::{Gate, Operator, Strip, reduce, reduce_ints};
+use dpl_loop::{Gate, Meant, Operator, Reduction, Strip, Team, reduce};
 use dpl_nodes::{IntFold, PromotedInt, PromotedTruth, Spot, TruthFold};
 use dpl_strips::promoted_strip;
 
@@ -31,8 +32,6 @@ struct Ints {
 }
 
 impl Operator for Ints {
-    type Item = i64;
-
     ghost value = { Int };
 
     ghost op = { λ o. int_fold_view o.fold };
@@ -55,81 +54,47 @@ struct Truths {
 }
 
 impl Operator for Truths {
-    type Item = Truth;
-
-    ghost value = { TruthValue };
+    ghost value = { is_true };
 
     ghost op = { λ o. truth_fold_view o.fold };
 
     #[inline(always)]
-    fn over_none(&self) -> Truth {
-        Truth::new(truth_over_none(self.fold))
+    fn over_none(&self) -> i64 {
+        i64::from(truth_over_none(self.fold))
     }
 
     #[inline(always)]
-    fn combined(&self, a: Truth, b: Truth) -> Truth {
-        Truth::new(combined_truths(self.fold, a.get(), b.get()))
+    fn combined(&self, a: i64, b: i64) -> i64 {
+        i64::from(combined_truths(self.fold, a != 0, b != 0))
     }
 }
 
-// The items at the indices of the array in a slot put together; its map tells who enters.
-#[inline(always)]
-fn folded<A: Arrays, O: Operator, F: Fn(Index, &mut Turn) -> Result<O::Item, Alarm>, G: Gate>(
-    operator: &O,
-    slot: usize,
-    frame: &Frame<A>,
-    item_at: F,
-    gate: &G,
-    turn: &mut Turn,
-) -> Result<O::Item, Alarm>
-    requires { F.IsAlwaysCallable item_at }
-    ensures { (meaning : IndexValue → Result Value Fault) → AnswersTell O.value (F.post item_at) meaning
-        → Tells (MayRefuse (G.may_refuse gate.now) (owned_by frame.now slot) (array_at slot frame.now.memory).ranges ⊎ MayAnswerRefused
-        (F.post item_at)) O.value turn.new result (fold_over (O.op operator.now) meaning (array_at slot frame.now.memory).ranges) }
-{
-    let map = frame.owner(slot);
-    reduce(
-        operator,
-        frame.array_domain(slot),
-        &map,
-        item_at,
-        gate,
-        turn,
-    )
+// What the ints of a promoted int mean, over a frame, with the gate that its own reductions ask.
+#[derive(Drop)]
+struct IntsOf<'e, 'x, 'f, A: Arrays, G> {
+    e: &'e PromotedInt<'x>,
+    frame: &'f Frame<A>,
+    gate: &'f G,
 }
 
-// The same of ints, several of which may be evaluated at once.
-#[inline(always)]
-fn folded_ints<
-    A: Arrays,
-    F: Fn(Index, &mut Turn) -> Result<i64, Alarm>,
-    S: Fn(Index) -> Strip,
-    G: Gate,
->(
-    operator: &Ints,
-    slot: usize,
-    frame: &Frame<A>,
-    item_at: F,
-    strip_at: S,
-    gate: &G,
-    turn: &mut Turn,
-) -> Result<i64, Alarm>
-    requires items { F.IsAlwaysCallable item_at }
-    requires strips { S.IsAlwaysCallable strip_at }
-    ensures { (meaning : IndexValue → Result Value Fault) → AnswersTell Int (F.post item_at) meaning → StripsTell Int (S.post strip_at) meaning
-        → Tells (MayRefuse (G.may_refuse gate.now) (owned_by frame.now slot) (array_at slot frame.now.memory).ranges ⊎ MayAnswerRefused
-        (F.post item_at)) Int turn.new result (fold_over (int_fold_view operator.now.fold) meaning (array_at slot frame.now.memory).ranges) }
-{
-    let domain = frame.array_domain(slot);
-    reduce_ints(
-        operator,
-        domain,
-        &frame.owner(slot),
-        item_at,
-        strip_at,
-        gate,
-        turn,
-    )
+impl<'e, 'x, 'f, A: Arrays, G: Gate> Meant for IntsOf<'e, 'x, 'f, A, G> {
+    ghost meaning = { λ m i. int_at m.frame.now m.e.now i };
+
+    ghost refusals = { λ m. MayRefuseReduction (G.may_refuse m.gate.now) m.frame.now (λ Holds. OfSlot (first_of_ints m.e.now) Holds × EachInInts m.e.now Holds) };
+}
+
+// The same of truth values.
+#[derive(Drop)]
+struct TruthsOf<'e, 'x, 'f, A: Arrays, G> {
+    e: &'e PromotedTruth<'x>,
+    frame: &'f Frame<A>,
+    gate: &'f G,
+}
+
+impl<'e, 'x, 'f, A: Arrays, G: Gate> Meant for TruthsOf<'e, 'x, 'f, A, G> {
+    ghost meaning = { λ m i. truth_at m.frame.now m.e.now i };
+
+    ghost refusals = { λ m. MayRefuseReduction (G.may_refuse m.gate.now) m.frame.now (λ Holds. OfSlot (first_of_truths m.e.now) Holds × EachInTruths m.e.now Holds) };
 }
 
 /// The ints of a promoted int put together. Without a whole array in it, which no checked program reduces, there are none.
@@ -139,7 +104,7 @@ fn folded_ints<
 /// gate refused the entry of an index's owner. No gate is asked for the value at an index.
 #[cycle(walk)]
 #[inline(never)]
-pub(crate) fn reduced_int<A: Arrays, G: Gate>(
+pub(crate) fn reduced_int<A: Arrays, G: Team>(
     fold: IntFold,
     e: &PromotedInt<'_>,
     at: &Spot,
@@ -164,7 +129,14 @@ pub(crate) fn reduced_int<A: Arrays, G: Gate>(
     let strip_at = |index: Index| -> Strip
         ensures { (result.first ≡ index) × HoldsStrip Int (λ i. int_at frame.entry.now e.entry.now i) result }
     { promoted_strip(e, index, frame) };
-    folded_ints(&Ints { fold }, slot, frame, item_at, strip_at, gate, turn)
+    let meant = IntsOf { e, frame, gate };
+    let reduction = Reduction {
+        operator: &Ints { fold },
+        meant: &meant,
+        over: domain,
+        map: frame.owner(slot),
+    };
+    reduce(gate, &reduction, item_at, strip_at, turn)
 }
 
 /// The truth values of a promoted truth value put together.
@@ -173,7 +145,7 @@ pub(crate) fn reduced_int<A: Arrays, G: Gate>(
 /// As for ints.
 #[cycle(truth)]
 #[inline(never)]
-pub(crate) fn reduced_truth<A: Arrays, G: Gate>(
+pub(crate) fn reduced_truth<A: Arrays, G: Team>(
     fold: TruthFold,
     e: &PromotedTruth<'_>,
     at: &Spot,
@@ -191,9 +163,27 @@ pub(crate) fn reduced_truth<A: Arrays, G: Gate>(
     };
     let domain = frame.array_domain(slot);
     within_turns(&domain, at, frame, turn)?;
-    let item_at = |index: Index, turn: &mut Turn| -> Result<Truth, Alarm>
-        ensures { Tells (MayRefuseReduction (G.may_refuse gate.entry.now) frame.entry.now (EachInTruths e.entry.now)) TruthValue turn.new result
+    let item_at = |index: Index, turn: &mut Turn| -> Result<i64, Alarm>
+        ensures { Tells (MayRefuseReduction (G.may_refuse gate.entry.now) frame.entry.now (EachInTruths e.entry.now)) is_true turn.new result
             (truth_at frame.entry.now e.entry.now index) }
-    { promoted_truth_value(e, &index, frame, gate, turn) };
-    folded(&Truths { fold }, slot, frame, item_at, gate, turn)
+    {
+        match promoted_truth_value(e, &index, frame, gate, turn) {
+            Ok(truth) => Ok(i64::from(truth.get())),
+            Err(alarm) => Err(alarm),
+        }
+    };
+    let strip_at = |index: Index| -> Strip
+        ensures { (result.first ≡ index) × HoldsStrip is_true (λ i. truth_at frame.entry.now e.entry.now i) result }
+    { Strip::none(index) };
+    let meant = TruthsOf { e, frame, gate };
+    let reduction = Reduction {
+        operator: &Truths { fold },
+        meant: &meant,
+        over: domain,
+        map: frame.owner(slot),
+    };
+    match reduce(gate, &reduction, item_at, strip_at, turn) {
+        Ok(word) => Ok(Truth::new(word != 0)),
+        Err(alarm) => Err(alarm),
+    }
 }

@@ -13,7 +13,7 @@ use crate::expression::operand;
 use crate::{domain, expression, promoted};
 use dpl_domain::Index;
 use dpl_frame::{Arrays, DomainWord, Frame, RangeWord, Trap, Truth, Turn};
-use dpl_loop::{Gate, Stop};
+use dpl_loop::{Stop, Team};
 use dpl_nodes::{
     BoolExpr, DomainExpr, IndexExpr, IntExpr, PromotedInt, PromotedTruth, RangeExpr, RangesExpr,
     Spot,
@@ -25,7 +25,7 @@ use dpl_nodes::{
 /// The fault of a part: `F2` at a division by zero, `F4` at an end of an empty range, `F1` at an array's name, `F5` at `reduce`;
 /// or the gate refused an entry of a reduction, as for each value here.
 #[inline(always)]
-pub fn int_value<A: Arrays, G: Gate>(
+pub fn int_value<A: Arrays, G: Team>(
     e: &IntExpr<'_>,
     frame: &Frame<A>,
     gate: &G,
@@ -43,7 +43,7 @@ pub fn int_value<A: Arrays, G: Gate>(
 ///
 /// # Errors
 /// The fault of an operand.
-pub fn truth_value<A: Arrays, G: Gate>(
+pub fn truth_value<A: Arrays, G: Team>(
     e: &BoolExpr<'_>,
     frame: &Frame<A>,
     gate: &G,
@@ -61,7 +61,7 @@ pub fn truth_value<A: Arrays, G: Gate>(
 ///
 /// # Errors
 /// `F3` at the dots for a bound or a count past its limit, and at `by` for a stride; the fault of a part.
-pub fn range_value<A: Arrays, G: Gate>(
+pub fn range_value<A: Arrays, G: Team>(
     e: &RangeExpr<'_>,
     frame: &Frame<A>,
     gate: &G,
@@ -79,7 +79,7 @@ pub fn range_value<A: Arrays, G: Gate>(
 ///
 /// # Errors
 /// `F3` at the opening bracket for too many indices, and at `expand` for these or for a bound past its limit; the fault of a part.
-pub fn domain_value<A: Arrays, G: Gate>(
+pub fn domain_value<A: Arrays, G: Team>(
     e: &DomainExpr<'_>,
     frame: &Frame<A>,
     gate: &G,
@@ -97,7 +97,7 @@ pub fn domain_value<A: Arrays, G: Gate>(
 ///
 /// # Errors
 /// The fault of a coordinate.
-pub fn index_value<A: Arrays, G: Gate>(
+pub fn index_value<A: Arrays, G: Team>(
     t: &IndexExpr<'_>,
     frame: &Frame<A>,
     gate: &G,
@@ -115,7 +115,7 @@ pub fn index_value<A: Arrays, G: Gate>(
 ///
 /// # Errors
 /// The fault of a range; `F3` at the opening bracket for too many indices.
-pub fn literal<A: Arrays, G: Gate>(
+pub fn literal<A: Arrays, G: Team>(
     at: &Spot,
     ranges: &RangesExpr<'_>,
     frame: &Frame<A>,
@@ -149,7 +149,7 @@ pub fn sized(at: &Spot, domain: Option<DomainWord>) -> Result<DomainWord, Trap>
 ///
 /// # Errors
 /// `F1` at the name of an array that hasn't the index; the fault of a part.
-pub fn promoted_int_value<A: Arrays, G: Gate>(
+pub fn promoted_int_value<A: Arrays, G: Team>(
     e: &PromotedInt<'_>,
     index: &Index,
     frame: &Frame<A>,
@@ -168,7 +168,7 @@ pub fn promoted_int_value<A: Arrays, G: Gate>(
 ///
 /// # Errors
 /// `F1` at the name of an array that hasn't the index; the fault of a part.
-pub fn promoted_truth_value<A: Arrays, G: Gate>(
+pub fn promoted_truth_value<A: Arrays, G: Team>(
     e: &PromotedTruth<'_>,
     index: &Index,
     frame: &Frame<A>,
