@@ -173,7 +173,7 @@ pub(crate) fn reduced_truth<A: Arrays, G: Team>(
         }
     };
     let strip_at = |index: Index| -> Strip
-        ensures { (result.first ≡ index) × HoldsStrip is_true (λ i. truth_at frame.entry.now e.entry.now i) result }
+        ensures { (result.first ≡ index) × (result.size ≡ 0) }
     { Strip::none(index) };
     let meant = TruthsOf { e, frame, gate };
     let reduction = Reduction {

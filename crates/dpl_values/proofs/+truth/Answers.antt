@@ -1,6 +1,6 @@
 -- Whether a range has a member, and a domain an index, is by the values of both, and a scalar has at an index the value that it
 -- has without one; a reduction is the fold of the items at all indices. All else the prover finds by itself.
-use Rattle.std.proofs.Common.{ℕ, rules, ⊎_elim, None, Some, Ok, Err, refl, sym, subst, ap, ◌∙◌}
+use Rattle.std.proofs.Common.{ℕ, rules, arith, None, Some, Ok, Err, refl, sym, subst, ap, ◌∙◌}
 use Rattle.std.proofs.lemmas.Result.{err_from_is_err_and}
 use Rattle.std.specs.Option.{option_map}
 use Rattle.dpl_map.specs.Maps.{owner}
@@ -8,6 +8,7 @@ use Rattle.dpl_language.specs.Values.{Index, Int, Truth}
 use Rattle.dpl_language.specs.Ranges.{contains_index}
 use Rattle.dpl_language.specs.Outcome.{with_ok}
 use Rattle.dpl_language.specs.Expressions.{value_of, reduction, fold_over}
+use Rattle.dpl_words.specs.Words.{is_true}
 use Rattle.dpl_lowered.specs.LoweredExpressions.{EachTurn}
 use Rattle.dpl_memory.specs.Memory.{array_at, in_memory}
 use Rattle.dpl_nodes.specs.Typed.{int_view, truth_view, index_exprs, promoted_truth, truth_fold_view}
@@ -21,7 +22,7 @@ use Rattle.dpl_values.specs.Elements.{within_at}
 use Rattle.dpl_values.specs.Reducing.{first_of_truths}
 use Rattle.dpl_values.specs.Reductions.{MayRefuseReduction, OfSlot, EachInInt, EachInTruth, EachInRange, EachInIndex, EachInTruths}
 use Rattle.dpl_values.proofs.First.{truths_whole}
-use Rattle.dpl_values.proofs.Folds.{reduction-within}
+use Rattle.dpl_values.proofs.Folds.{reduction-within, with_ok-same}
 use Rattle.dpl_values.proofs.Telling.{refused-within}
 use Rattle.dpl_values.proofs.Views.{method_ends, containing, contains_ends, contains_answer, domain_contains}
 use Rattle.dpl_values.proofs.+truth.Goals as goal
@@ -120,19 +121,44 @@ reduction::reduced_truth-returns-in_err-within_turns g t c =
     ∙ reduction-within limits c.args.at.now op value c.array_domain-domain.result)
     c.in_err-within_turns.ensures)
 
-pub reduction::reduced_truth-returns : goal.reduction::reduced_truth-returns
-reduction::reduced_truth-returns g t c =
+pub reduction::reduced_truth-reduce-requires-clause-tell : goal.reduction::reduced_truth-reduce-requires-clause-tell
+reduction::reduced_truth-reduce-requires-clause-tell g t c κs within i before after r post =
     let wider = refused-within (g.G.Gate.may_refuse c.args.gate.now) c.args.frame.now in
+    tells-as _ is_true after.now _ r _ _ (wider (EachInTruths c.args.e.now) (λ Holds. OfSlot (first_of_truths c.args.e.now) Holds × EachInTruths c.args.e.now Holds) (λ Holds all. all.1)) refl post.1
+
+pub reduction::reduced_truth-reduce-requires-clause-hold : goal.reduction::reduced_truth-reduce-requires-clause-hold
+reduction::reduced_truth-reduce-requires-clause-hold g t c κs within i strip post =
+    let none = post.1 in
+    (none.0, λ k below few. absurd (omega (arith, below, none.1)))
+
+pub reduction::reduced_truth-reduce-requires-clause-entries : goal.reduction::reduced_truth-reduce-requires-clause-entries
+reduction::reduced_truth-reduce-requires-clause-entries g t c κs within own =
+    let may = g.G.Gate.may_refuse c.args.gate.now in
+    let w = c.args.frame.now.memory in
+    let slot = c.in-Some.slot in
+    let mine : MayRefuse may (owned_by c.args.frame.now slot) (array_at slot w).ranges =
+    subst (λ m. MayRefuse may m (array_at slot w).ranges) c.owner.ensures (subst (λ d. MayRefuse may c.owner.result d) c.array_domain-domain.ensures own) in
+    ((owner (owned_by c.args.frame.now slot) mine.1, mine.0, mine.3), λ all. subst (λ slot. OfSlot slot (λ slot. MayRefuse may (owned_by c.args.frame.now slot) (array_at slot w).ranges → ⊥)) (sym c.truth_array.ensures ∙ c.in-Some.is) all.0 mine)
+
+pub reduction::reduced_truth-returns-in-Ok : goal.reduction::reduced_truth-returns-in-Ok
+reduction::reduced_truth-returns-in-Ok g t c =
     let limits = c.args.frame.now.limits in
     let w = c.args.frame.now.memory in
     let op = truth_fold_view c.args.fold in
     let value = λ (i : Index). value_of limits in_memory (promoted_truth EachTurn c.args.e.now) (Some i) w in
-    tells-as _ Truth c.folded.new.turn _ c.folded.result _ _
-    (⊎_elim
-    (λ own. ((owner (owned_by c.args.frame.now c.in-Some.slot) own.1, own.0, own.3), λ all. subst (λ slot. OfSlot slot (λ slot. MayRefuse (g.G.Gate.may_refuse c.args.gate.now) (owned_by c.args.frame.now slot) (array_at slot w).ranges → ⊥)) (sym c.truth_array.ensures ∙ c.in-Some.is) all.0 own))
-    (λ said. wider (EachInTruths c.args.e.now) (λ Holds. OfSlot (first_of_truths c.args.e.now) Holds × EachInTruths c.args.e.now Holds) (λ Holds all. all.1) said.3.1))
-    (ap (reduction limits.budget c.args.at.now op value) (truths_whole limits w c.args.e.now ∙ ap (option_map (λ slot. (array_at slot w).ranges)) (sym c.truth_array.ensures ∙ c.in-Some.is) ∙ ap (λ rs. Some rs) (sym c.array_domain-domain.ensures))
+    ap (reduction limits.budget c.args.at.now op value) (truths_whole limits w c.args.e.now ∙ ap (option_map (λ slot. (array_at slot w).ranges)) (sym c.truth_array.ensures ∙ c.in-Some.is) ∙ ap (λ rs. Some rs) (sym c.array_domain-domain.ensures))
     ∙ reduction-within limits c.args.at.now op value c.array_domain-domain.result
     ∙ ap (λ r. with_ok r (λ v. fold_over op value c.array_domain-domain.result)) c.in_ok-within_turns.ensures
-    ∙ ap (fold_over op value) c.array_domain-domain.ensures)
-    (c.folded.ensures value (λ i before after r post. tells-as _ Truth after.now (Unit {0}) r _ _ (λ m. tt) refl post.1))
+    ∙ c.in-Ok.ensures ∙ ap (λ b. Ok (Truth b)) (search rules)
+
+pub reduction::reduced_truth-returns-in-Err : goal.reduction::reduced_truth-returns-in-Err
+reduction::reduced_truth-returns-in-Err g t c =
+    let limits = c.args.frame.now.limits in
+    let w = c.args.frame.now.memory in
+    let op = truth_fold_view c.args.fold in
+    let value = λ (i : Index). value_of limits in_memory (promoted_truth EachTurn c.args.e.now) (Some i) w in
+    with_ok-ends _ _ is_true c.reduce.new.turn c.in-Err.alarm (fold_over op value c.array_domain-domain.result) (λ v. Ok v) _ Truth (λ m. m)
+    (ap (reduction limits.budget c.args.at.now op value) (truths_whole limits w c.args.e.now ∙ ap (option_map (λ slot. (array_at slot w).ranges)) (sym c.truth_array.ensures ∙ c.in-Some.is) ∙ ap (λ rs. Some rs) (sym c.array_domain-domain.ensures))
+    ∙ reduction-within limits c.args.at.now op value c.array_domain-domain.result
+    ∙ ap (λ r. with_ok r (λ v. fold_over op value c.array_domain-domain.result)) c.in_ok-within_turns.ensures ∙ sym (with_ok-same (fold_over op value c.array_domain-domain.result)))
+    c.in-Err.ensures

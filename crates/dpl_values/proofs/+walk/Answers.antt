@@ -1,6 +1,6 @@
 -- What stands behind a range or a domain is by its value, and a scalar has at an index the value that it has without one;
 -- a reduction is the fold of the items at all indices. All else the prover finds by itself.
-use Rattle.std.proofs.Common.{◌≡◌, ℕ, ⊎_elim, rules, pos, true, false, [], ◌∷◌, None, Some, Ok, Err, refl, sym, subst, ap, ◌∙◌, w64, to_z, of_z, FitsSigned}
+use Rattle.std.proofs.Common.{◌≡◌, ℕ, rules, pos, true, false, [], ◌∷◌, None, Some, Ok, Err, refl, sym, subst, ap, ◌∙◌, w64, to_z, of_z, FitsSigned}
 use Rattle.std.proofs.lemmas.Int.{to_z-of_z}
 use Rattle.std.proofs.lemmas.Result.{err_from_is_err_and}
 use Rattle.std.specs.Option.{option_map}
@@ -214,19 +214,31 @@ reduction::reduced_int-returns-in_err-within_turns g t c =
     ∙ reduction-within limits c.args.at.now op value c.array_domain-domain.result)
     c.in_err-within_turns.ensures)
 
+pub reduction::reduced_int-reduce-requires-clause-tell : goal.reduction::reduced_int-reduce-requires-clause-tell
+reduction::reduced_int-reduce-requires-clause-tell g t c κs within i before after r post =
+    let wider = refused-within (g.G.Gate.may_refuse c.args.gate.now) c.args.frame.now in
+    tells-as _ Int after.now _ r _ _ (wider (EachInInts c.args.e.now) (λ Holds. OfSlot (first_of_ints c.args.e.now) Holds × EachInInts c.args.e.now Holds) (λ Holds all. all.1)) refl post.1
+
+pub reduction::reduced_int-reduce-requires-clause-hold : goal.reduction::reduced_int-reduce-requires-clause-hold
+reduction::reduced_int-reduce-requires-clause-hold g t c κs within i strip post = post.1
+
+pub reduction::reduced_int-reduce-requires-clause-entries : goal.reduction::reduced_int-reduce-requires-clause-entries
+reduction::reduced_int-reduce-requires-clause-entries g t c κs within own =
+    let may = g.G.Gate.may_refuse c.args.gate.now in
+    let w = c.args.frame.now.memory in
+    let slot = c.in-Some.slot in
+    let mine : MayRefuse may (owned_by c.args.frame.now slot) (array_at slot w).ranges =
+    subst (λ m. MayRefuse may m (array_at slot w).ranges) c.owner.ensures (subst (λ d. MayRefuse may c.owner.result d) c.array_domain-domain.ensures own) in
+    ((owner (owned_by c.args.frame.now slot) mine.1, mine.0, mine.3), λ all. subst (λ slot. OfSlot slot (λ slot. MayRefuse may (owned_by c.args.frame.now slot) (array_at slot w).ranges → ⊥)) (sym c.int_array.ensures ∙ c.in-Some.is) all.0 mine)
+
 pub reduction::reduced_int-returns : goal.reduction::reduced_int-returns
 reduction::reduced_int-returns g t c =
-    let wider = refused-within (g.G.Gate.may_refuse c.args.gate.now) c.args.frame.now in
     let limits = c.args.frame.now.limits in
     let w = c.args.frame.now.memory in
     let op = int_fold_view c.args.fold in
     let value = λ (i : Index). value_of limits in_memory (promoted_int EachTurn c.args.e.now) (Some i) w in
-    tells-as _ Int c.folded_ints.new.turn _ c.folded_ints.result _ _
-    (⊎_elim
-    (λ own. ((owner (owned_by c.args.frame.now c.in-Some.slot) own.1, own.0, own.3), λ all. subst (λ slot. OfSlot slot (λ slot. MayRefuse (g.G.Gate.may_refuse c.args.gate.now) (owned_by c.args.frame.now slot) (array_at slot w).ranges → ⊥)) (sym c.int_array.ensures ∙ c.in-Some.is) all.0 own))
-    (λ said. wider (EachInInts c.args.e.now) (λ Holds. OfSlot (first_of_ints c.args.e.now) Holds × EachInInts c.args.e.now Holds) (λ Holds all. all.1) said.3.1))
+    tells-as _ Int c.reduce.new.turn _ c.reduce.result _ _ (λ m. m)
     (ap (reduction limits.budget c.args.at.now op value) (ints_whole limits w c.args.e.now ∙ ap (option_map (λ slot. (array_at slot w).ranges)) (sym c.int_array.ensures ∙ c.in-Some.is) ∙ ap (λ rs. Some rs) (sym c.array_domain-domain.ensures))
     ∙ reduction-within limits c.args.at.now op value c.array_domain-domain.result
-    ∙ ap (λ r. with_ok r (λ v. fold_over op value c.array_domain-domain.result)) c.in_ok-within_turns.ensures
-    ∙ ap (fold_over op value) c.array_domain-domain.ensures)
-    (c.folded_ints.ensures value (λ i before after r post. tells-as _ Int after.now (Unit {0}) r _ _ (λ m. tt) refl post.1) (λ i strip post. post.1))
+    ∙ ap (λ r. with_ok r (λ v. fold_over op value c.array_domain-domain.result)) c.in_ok-within_turns.ensures)
+    c.reduce.ensures
