@@ -19,7 +19,7 @@ use Rattle.dpl_apart.specs.Apart.{loop_left, last_index, IsApart, named, named_l
 use Rattle.dpl_apart.specs.Memories.{Changes, Row, IsPiece, IsFormed, IsLike, MayBeApart, IsOfRank, words_in, operators_of, held_in, row_in, turned_in, turn_alone, loop_in, ran_in, KeepApart}
 use Rattle.dpl_apart.proofs.ReduceWords.{reduce_words}
 use Rattle.dpl_apart.proofs.Split.{run-alike, each-filter, each-weaker}
-use Rattle.dpl_apart.proofs.InOrder.{in_order-run, named-apart, named-reducing, has-held, has-stopped, failed-at}
+use Rattle.dpl_apart.proofs.InOrder.{in_order-run, named-apart, named-reducing, has-held, has-stopped, failed-at, failed-among}
 use Rattle.dpl_apart.proofs.Places.{indices-rising, indices-of-rank}
 use Rattle.dpl_apart.proofs.AnyOrder.{faults-anywhere, leaves-but-last}
 use Rattle.dpl_apart.proofs.Located.{in_order-located}
@@ -89,6 +89,13 @@ stopped-at h b place turn ts k f e =
     failed-at (loop_in h b place turn) ts (row_in h b) (unit_words (operators_of h.reduced)) k f
     (ap (λ loop. run loop ts (row_in h b) (unit_words (operators_of h.reduced))) (sym (loop-named h b place turn)) ∙ e)
 
+-- and it is a turn of that worker
+pub stopped-among : (P : Index → Type 0) (h : Changes) (b : Memory) (place : Index → ℕ) (turn : Index → Run Memory) (ts : List Index) (k : ℕ) (f : Fault) → AllByRecursion P ts
+    → ran_in h place (named_turn turn) ts b ≡ Failed k f → (t : Index) × P t × (f.turn ≡ InTurn t) × (k ≡ place t)
+stopped-among P h b place turn ts k f all e =
+    failed-among (loop_in h b place turn) P ts (row_in h b) (unit_words (operators_of h.reduced)) k f all
+    (ap (λ loop. run loop ts (row_in h b) (unit_words (operators_of h.reduced))) (sym (loop-named h b place turn)) ∙ e)
+
 module _ (h : Changes) (m : Memory) (place : Index → ℕ) (turn : Index → Run Memory) (keep : KeepApart h m place turn) (pieces : (slot : ℕ) → is_among slot h.written ≡ true → IsPiece (array_at slot m)) (exact : AreExact (operators_of h.reduced) (words_in h.reduced m)) (axes : List AxisValue) (ranges : List RangeValue) (n : ℕ) (below : (t : Index) → owner axes t < n) (rising : IsRising place (indices ranges)) (of_rank : length ranges ≡ h.rank) (ms : ℕ → Memory) where
   abbrev joins : List ℤ → List ℤ → List ℤ
   joins = all_combined (operators_of h.reduced)
@@ -124,14 +131,14 @@ named-may h turn may = record {
 }
 
 -- the indices of a part are its locale's
-part-owners : (owns : Index → ℕ) (l : ℕ) (ts : List Index) → AllByRecursion (λ t. owns t ≡ l) (filter (λ t. owns t == l) ts)
+pub part-owners : (owns : Index → ℕ) (l : ℕ) (ts : List Index) → AllByRecursion (λ t. owns t ≡ l) (filter (λ t. owns t == l) ts)
 part-owners owns l [] = tt
 part-owners owns l (t ∷ ts) = by (owns t == l) refl (part-owners owns l ts) where
   by : (c : Bool) → (owns t == l) ≡ c → AllByRecursion (λ t. owns t ≡ l) (filter (λ t. owns t == l) ts) → AllByRecursion (λ t. owns t ≡ l) (cond c (t ∷ filter (λ t. owns t == l) ts) (filter (λ t. owns t == l) ts))
   by true e rest = (eqb-true (owns t) l e, rest)
   by false e rest = rest
 
-each-both : {A : Type 0} (P Q : A → Type 0) (xs : List A) → AllByRecursion P xs → AllByRecursion Q xs → AllByRecursion (λ x. P x × Q x) xs
+pub each-both : {A : Type 0} (P Q : A → Type 0) (xs : List A) → AllByRecursion P xs → AllByRecursion Q xs → AllByRecursion (λ x. P x × Q x) xs
 each-both P Q [] h k = tt
 each-both P Q (x ∷ xs) h k = ((h.0, k.0), each-both P Q xs h.1 k.1)
 
@@ -185,3 +192,14 @@ module _ (h : Changes) (turn : Index → Run Memory) (may : MayBeApart h turn) (
       let same = leaves-but-last (held_in h m) (loop_in h m places turn) turn (keep-reducing h m places turn keeps) keeps.apart us (indices ranges) None (row_in h m) (words_in h.reduced m) done u made exact all p
       (ap (λ s. in_order turn (indices ranges) s done) own ∙ e) in
       (same.0, same.1, same.2, ap (λ s. in_order turn us s done) (sym own) ∙ same.3)
+
+-- Turns in another order of the same indices, of which the last is the same, leave the same memory: as a part's, domain by domain.
+pub leaves-reordered : (h : Changes) (turn : Index → Run Memory) (may : MayBeApart h turn) (b : Memory) (formed : IsFormed h b) (exact : AreExact (operators_of h.reduced) (words_in h.reduced b)) (us ts : List Index)
+    → All (IsOfRank h) us → IsPermutation ts us → last_index None us ≡ last_index None ts → (u : Memory) (done made : Deeds) → in_order turn us b done ≡ Done u made → in_order turn ts b done ≡ Done u made
+leaves-reordered h turn may b formed exact us ts all p last u done made e =
+    let keep : KeepApart h b (λ t. 0) turn = may.keep b (λ t. 0) formed in
+    let own : held_in h b None (row_in h b) (words_in h.reduced b) ≡ b = holds-own h b formed.pieces in
+    let same =
+    leaves-but-last (held_in h b) (loop_in h b (λ t. 0) turn) turn (keep-reducing h b (λ t. 0) turn keep) keep.apart ts us None (row_in h b) (words_in h.reduced b) done u made exact all p
+    (ap (λ s. in_order turn us s done) own ∙ e) in
+    ap (λ s. in_order turn ts s done) (sym own) ∙ same.3 ∙ ap (λ last. Done (held_in h b last same.0 same.1) made) (sym last) ∙ ap (λ s. Done s made) (sym same.2)

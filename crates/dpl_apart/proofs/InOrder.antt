@@ -84,14 +84,22 @@ module _ {T V : Type 0} (loop : Loop T V) where
   fails-named t (Leaves row v) f e = absurd cc
   fails-named t (Fails g) f e = let same : in_the_turn (InTurn t) g ≡ f = cc in sym (ap (λ (f : Fault). f.turn) same)
 
-  pub failed-at : (ts : List Index) (rows : Index → T) (a : V) (k : ℕ) (f : Fault) → run (named_loop loop) ts rows a ≡ Failed k f → (t : Index) × (f.turn ≡ InTurn t) × (k ≡ loop.place t)
-  failed-at [] rows a k f h = absurd cc
-  failed-at (t ∷ ts) rows a k f h =
-      elim (named t (loop.turn t (rows t))) as (λ w. named t (loop.turn t (rows t)) ≡ w → (x : Index) × (f.turn ≡ InTurn x) × (k ≡ loop.place x)) [
-        | Leaves row v ↦ λ e. failed-at ts (with_row t row rows) (loop.join a v) k f (sym (run-leaves (named_loop loop) t ts rows a row v e) ∙ h)
+  -- and is one of those that are made
+  pub failed-among : (P : Index → Type 0) (ts : List Index) (rows : Index → T) (a : V) (k : ℕ) (f : Fault) → AllByRecursion P ts → run (named_loop loop) ts rows a ≡ Failed k f
+      → (t : Index) × P t × (f.turn ≡ InTurn t) × (k ≡ loop.place t)
+  failed-among P [] rows a k f all h = absurd cc
+  failed-among P (t ∷ ts) rows a k f all h =
+      elim (named t (loop.turn t (rows t))) as (λ w. named t (loop.turn t (rows t)) ≡ w → (x : Index) × P x × (f.turn ≡ InTurn x) × (k ≡ loop.place x)) [
+        | Leaves row v ↦ λ e. failed-among P ts (with_row t row rows) (loop.join a v) k f all.1 (sym (run-leaves (named_loop loop) t ts rows a row v e) ∙ h)
         | Fails g ↦ λ e.
             let ends : Failed (loop.place t) g ≡ Failed k f = sym (run-fails (named_loop loop) t ts rows a g e) ∙ h in
             let places : loop.place t ≡ k = cc in
             let faults : g ≡ f = cc in
-            (t, ap (λ (f : Fault). f.turn) (sym faults) ∙ fails-named t (loop.turn t (rows t)) g e, sym places)
+            (t, all.0, ap (λ (f : Fault). f.turn) (sym faults) ∙ fails-named t (loop.turn t (rows t)) g e, sym places)
       ] refl
+
+  pub failed-at : (ts : List Index) (rows : Index → T) (a : V) (k : ℕ) (f : Fault) → run (named_loop loop) ts rows a ≡ Failed k f → (t : Index) × (f.turn ≡ InTurn t) × (k ≡ loop.place t)
+  failed-at ts rows a k f h = let at = failed-among (λ t. Unit {0}) ts rows a k f (no-matter ts) h in (at.0, at.2, at.3) where
+    no-matter : (ts : List Index) → AllByRecursion (λ t. Unit {0}) ts
+    no-matter [] = tt
+    no-matter (t ∷ ts) = (tt, no-matter ts)

@@ -15,6 +15,14 @@ pub mod AnyOrder
 -- Turns over memories.
 pub mod Memories
 pub mod Foralls
+-- Workers.
+pub mod Shares
+pub mod Rejoined
+pub mod SharedForalls
+pub mod Least
+pub mod Workers
+pub mod Collected
 -- Rows.
 pub mod Worked
 pub mod WorkedForalls
+pub mod WorkedWorkers

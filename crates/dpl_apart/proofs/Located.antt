@@ -41,7 +41,7 @@ among m l (suc n) from below = by (m == l) refl (λ later. among m (suc l) n lat
   by true e rest = rw e refl
   by false e rest = let later : suc l ≤ m = grind (arith, nat_tests) in rw e (rest later)
 
-of-each : (P : ℕ → Type 0) (ls : List ℕ) → ((l : ℕ) → P l) → AllByRecursion P ls
+pub of-each : (P : ℕ → Type 0) (ls : List ℕ) → ((l : ℕ) → P l) → AllByRecursion P ls
 of-each P [] h = tt
 of-each P (l ∷ ls) h = (h l, of-each P ls h)
 

@@ -15,7 +15,7 @@ use Rattle.dpl_apart.proofs.Split.{each-weaker}
 use Rattle.dpl_apart.proofs.Places.{distinct-rest, distinct-first, others}
 
 -- ---- words by their indices
-map-same : {A B : Type 0} (f g : A → B) (xs : List A) → AllByRecursion (λ x. f x ≡ g x) xs → map f xs ≡ map g xs
+pub map-same : {A B : Type 0} (f g : A → B) (xs : List A) → AllByRecursion (λ x. f x ≡ g x) xs → map f xs ≡ map g xs
 map-same f g [] h = refl
 map-same f g (x ∷ xs) h = let here = h.0 in let rest = map-same f g xs h.1 in λ i. here i ∷ rest i
 
@@ -80,7 +80,7 @@ element-here slot written rows hs =
     let same : 0 + slot ≡ slot = omega arith in
     element-slot 0 slot written rows hs ∙ ap (λ n. held_by_if (is_among n written) (λ t. (rows t).elements n) (get_or hs slot no_array)) same
 
-element-length : (first : ℕ) (written : List ℕ) (rows : Index → Row) (hs : List Held) → length (with_elements first written rows hs) ≡ length hs
+pub element-length : (first : ℕ) (written : List ℕ) (rows : Index → Row) (hs : List Held) → length (with_elements first written rows hs) ≡ length hs
 element-length first written rows [] = refl
 element-length first written rows (a ∷ more) = ap suc (element-length (first + 1) written rows more)
 
@@ -212,7 +212,7 @@ module _ (h : Changes) (b : Memory) (rows : Index → Row) (slot : ℕ) (t : Ind
     by (Some l) = refl
 
 -- ---- the words of reduce variables
-words-length : (ps : List (ℕ × Op)) (ws numbers : List ℤ) → length (with_words ps ws numbers) ≡ length numbers
+pub words-length : (ps : List (ℕ × Op)) (ws numbers : List ℤ) → length (with_words ps ws numbers) ≡ length numbers
 words-length [] ws numbers = refl
 words-length (p ∷ ps) [] numbers = refl
 words-length (p ∷ ps) (w ∷ ws) numbers = length-set (with_words ps ws numbers) p.0 w ∙ words-length ps ws numbers
@@ -232,7 +232,7 @@ other-words p w (q ∷ qs) numbers h = by (p.0 == q.0) refl h (other-words p w q
       let behind = rest h in
       λ i. here i ∷ behind i
 
-words-of : (ps : List (ℕ × Op)) (ws numbers : List ℤ) → length ws ≡ length ps → AreOnce (map (λ (p : ℕ × Op). p.0) ps) → AllByRecursion (λ (p : ℕ × Op). p.0 < length numbers) ps
+pub words-of : (ps : List (ℕ × Op)) (ws numbers : List ℤ) → length ws ≡ length ps → AreOnce (map (λ (p : ℕ × Op). p.0) ps) → AllByRecursion (λ (p : ℕ × Op). p.0 < length numbers) ps
     → map (λ (p : ℕ × Op). get_or (with_words ps ws numbers) p.0 (pos 0)) ps ≡ ws
 words-of [] [] numbers long apart there = refl
 words-of [] (w ∷ ws) numbers long apart there = absurd (omega (arith, long))
@@ -287,7 +287,7 @@ words-set (p ∷ ps) r x (w ∷ ws) numbers among long = by (r == p.0) refl amon
       let other : p.0 ≢ r = grind (arith, nat_tests) in
       rw e (set_comm (with_words ps ws numbers) p.0 r w x other ∙ ap (λ ns. set ns p.0 w) (rest among))
 
-values-set : (slots : List ℕ) (value : ℕ → ℤ) (numbers : List ℤ) (r : ℕ) (x : ℤ) → is_among r slots ≡ false → set (with_values slots value numbers) r x ≡ with_values slots value (set numbers r x)
+pub values-set : (slots : List ℕ) (value : ℕ → ℤ) (numbers : List ℤ) (r : ℕ) (x : ℤ) → is_among r slots ≡ false → set (with_values slots value numbers) r x ≡ with_values slots value (set numbers r x)
 values-set [] value numbers r x h = refl
 values-set (i ∷ is) value numbers r x h = by (r == i) refl h (values-set is value numbers r x) where
   by : (c : Bool) → (r == i) ≡ c → (c || is_among r is) ≡ false → (is_among r is ≡ false → set (with_values is value numbers) r x ≡ with_values is value (set numbers r x))

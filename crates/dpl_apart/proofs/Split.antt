@@ -26,10 +26,10 @@ module _ {T : Type 0} (is_first : Index → Bool) (xs ys : Index → T) (t : Ind
       by true h = let q : is_first x ≡ false = ap is_first (same_index-sound x t h) ∙ e in rw (h, q) refl
       by false h = rw h refl
 
-less : (a b : ℕ) → a < b → ltb a b ≡ true
+pub less : (a b : ℕ) → a < b → ltb a b ≡ true
 less a b h = grind (arith, nat_tests)
 
-not_less : (a b : ℕ) → b < a → ltb a b ≡ false
+pub not_less : (a b : ℕ) → b < a → ltb a b ≡ false
 not_less a b h = grind (arith, nat_tests)
 
 -- ---- lists

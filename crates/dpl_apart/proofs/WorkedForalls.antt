@@ -21,13 +21,13 @@ use Rattle.dpl_apart.proofs.Indices.{same_index-refl}
 use Rattle.dpl_apart.proofs.Memories.{with_element, put-held, held-element, elements-alike}
 
 -- ---- rows: in slot 0 a turn's variable, in slot 1 a reduce variable, and in slot 2 an array over 1..3, or a piece of it
-abbrev on_a_line : ℤ → Index
+abbrev pub on_a_line : ℤ → Index
 on_a_line i = i ∷ []
 
-abbrev held_with_keys : List Index → List ℤ → Held
+abbrev pub held_with_keys : List Index → List ℤ → Held
 held_with_keys keys words = record { ranges = unstrided (pos 1) (pos 3) ∷ []; keys = keys; words = words }
 
-abbrev memory_with : ℤ → ℤ → Held → Memory
+abbrev pub memory_with : ℤ → ℤ → Held → Memory
 memory_with i s a = record {
   words = record { numbers = i ∷ s ∷ pos 9 ∷ []; ranges = no_range ∷ no_range ∷ no_range ∷ []; intents = (1, Sum) ∷ []; sets = [] };
   domains = no_domain ∷ no_domain ∷ no_domain ∷ [];
@@ -36,10 +36,10 @@ memory_with i s a = record {
   roots = no_root ∷ no_root ∷ no_root ∷ [];
 }
 
-abbrev changes : Changes
+abbrev pub changes : Changes
 changes = record { rank = 1; written = 2 ∷ []; reduced = (1, Sum) ∷ []; numbers = 0 ∷ []; ranges = []; tuples = [] }
 
-abbrev whole : Held
+abbrev pub whole : Held
 whole = held_with_keys (on_a_line (pos 1) ∷ on_a_line (pos 2) ∷ on_a_line (pos 3) ∷ []) (pos 10 ∷ pos 20 ∷ pos 30 ∷ [])
 
 abbrev piece : Held
@@ -53,7 +53,7 @@ no_row : (row_in changes (memory_with (pos 7) (pos 5) piece) (on_a_line (pos 1))
 no_row = refl
 
 -- each index squared, its turn having left its number in slot 0
-abbrev squares : Index → Row
+abbrev pub squares : Index → Row
 squares [] = record { elements = λ slot. pos 0; numbers = λ slot. pos 0; ranges = λ slot. no_range; tuples = λ slot. no_tuple }
 squares (i ∷ is) = record { elements = λ slot. i *ℤ i; numbers = λ slot. i; ranges = λ slot. no_range; tuples = λ slot. no_tuple }
 
@@ -68,14 +68,14 @@ piece_held = refl
 
 -- ---- A[i] = f(i, A[i])
 module _ (rank slot : ℕ) (at : Place) (f : Index → ℤ → ℤ) where
-  abbrev put_by : Option ℤ → Index → Run Memory
+  abbrev pub put_by : Option ℤ → Index → Run Memory
   put_by None t s done = Stop (fault Outside at) done
   put_by (Some v) t s done = Done (with_array slot (held_with t (f t v) (array_at slot s)) s) done
 
-  abbrev put_turn : Index → Run Memory
+  abbrev pub put_turn : Index → Run Memory
   put_turn t s done = put_by (held_at t (array_at slot s)) t s done
 
-  abbrev writes : Changes
+  abbrev pub writes : Changes
   writes = record { rank = rank; written = slot ∷ []; reduced = []; numbers = []; ranges = []; tuples = [] }
 
   listed : is_among slot (slot ∷ []) ≡ true
@@ -199,7 +199,7 @@ module _ (rank slot : ℕ) (at : Place) (f : Index → ℤ → ℤ) where
         alone s first e ∙ ap (λ r. Leaves r []) (row-same t row (left_in s first) (left_in b second) (word s first e ∙ sym (word b second (both ∙ e)))) ∙ sym (alone b second (both ∙ e))
     turns-alike false e = absent s first e ∙ sym (absent b second (both ∙ e))
 
-  may_be_apart : MayBeApart writes put_turn
+  pub may_be_apart : MayBeApart writes put_turn
   may_be_apart = record {
     keep = λ b place formed. keeps b (formed.within slot listed) (formed.pieces slot listed).distinct place;
     alike = λ t s b of_rank first second like row. turns-alike s b first second t like row (list_any (same_index t) (array_at slot s).keys) refl;

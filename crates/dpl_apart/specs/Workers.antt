@@ -1,10 +1,13 @@
 -- The memories of workers, each of which makes the turns of the indices that a locale owns: what they begin with, and what they leave together.
-use Rattle.std.specs.Prelude.{◌≡◌, ℕ, ◌+◌, ◌==◌, ℤ, pos, Bool, true, false, if◌then◌else◌, Option, Some, None, List, [], ◌∷◌, get_or, map, filter, unwrap_or}
+use Rattle.std.specs.Prelude.{◌≡◌, ℕ, ◌+◌, ◌<◌, ◌==◌, ℤ, pos, Bool, true, false, if◌then◌else◌, Option, Some, None, Result, Ok, Err, List, [], ◌∷◌, get_or, map, filter, unwrap_or}
+use Rattle.std.specs.List.{AllByRecursion}
 use Rattle.dpl_language.specs.Tree.{Op}
-use Rattle.dpl_language.specs.Values.{Index}
+use Rattle.dpl_language.specs.Values.{Index, Fault}
+use Rattle.dpl_language.specs.Outcome.{Deeds, Outcome, Done, Stop}
 use Rattle.dpl_memory.specs.Memory.{Held, Memory, held_at, array_at, is_among}
 use Rattle.dpl_apart.specs.Operands.{combined_words, unit_words}
-use Rattle.dpl_apart.specs.Memories.{Changes, with_words, words_in, operators_of}
+use Rattle.dpl_apart.specs.Rows.{AreOnce}
+use Rattle.dpl_apart.specs.Memories.{Changes, with_words, operators_of}
 
 -- WHAT A WORKER BEGINS WITH
 -- the piece of an array that a locale owns: the array with the elements at that locale's indices alone
@@ -31,7 +34,22 @@ worker_memory h owns l m = record m {
   arrays = shares_from 0 h.written owns l m.arrays;
 }
 
--- WHAT WORKERS LEAVE TOGETHER, each by its locale
+-- WORKERS, each by its locale
+abbrev pub locales_of : {A : Type 0} → List (ℕ × A) → List ℕ
+locales_of {A} ws = map (λ (w : ℕ × A). w.0) ws
+
+-- of so many locales each whose part isn't empty has a worker, and none has two
+pub record HaveWorkers (parts : ℕ → List Index) (n : ℕ) (ls : List ℕ) : Type 0 where
+  pub once : AreOnce ls
+  pub below : AllByRecursion (λ l. l < n) ls
+  pub there : (l : ℕ) → l < n → (parts l ≡ [] → ⊥) → is_among l ls ≡ true
+
+-- a worker's turns leave a memory, or one of them stops with a fault
+abbrev pub worker_end : Result Memory Fault → Deeds → Outcome Memory
+worker_end (Ok u) done = Done u done
+worker_end (Err f) done = Stop f done
+
+-- WHAT WORKERS LEAVE TOGETHER
 -- the memory of a locale's worker; where it has none, a memory as it was
 abbrev pub left_by : ℕ → List (ℕ × Memory) → Memory → Memory
 left_by l [] m = m
