@@ -1,8 +1,10 @@
 -- An array that is taken apart, and what its pieces make together.
-use Rattle.std.proofs.Common.{◌≡◌, ◌↔◌, ◌==◌, ◌<◌, ℕ, zero, suc, List, [], ◌∷◌, ℤ, pos, map, filter, length, All, Option, Some, None, IsSome, refl, ap, sym, subst, ◌∙◌, slice_index_or, slice_set}
+use Rattle.std.proofs.Common.{◌≡◌, ◌↔◌, ◌==◌, ◌<◌, Bool, ℕ, zero, suc, List, [], ◌∷◌, ℤ, pos, map, filter, length, All, Option, Some, None, IsSome, refl, ap, sym, subst, ◌∙◌, slice_index_or, slice_set, arith, true, Result, Ok, Err, OnOk}
 use Rattle.std.specs.Prelude.{unwrap_or, is_some}
 use Rattle.std.specs.Option.{option_map}
+use Rattle.std.specs.Result.{is_ok}
 use Rattle.std.proofs.lemmas.List.{length-map, map-set}
+use Rattle.std.proofs.lemmas.Option.{same_Some}
 use Rattle.std.proofs.lemmas.Simd.{map-map}
 use Rattle.dpl_sets.specs.TextRanges.{TextRange}
 use Rattle.dpl_sets.specs.Indices.{indices}
@@ -10,7 +12,7 @@ use Rattle.dpl_sets.specs.TextDomains.{values_of}
 use Rattle.dpl_map.specs.Maps.{AxisValue, owner, locales}
 use Rattle.dpl_language.specs.Values.{Index}
 use Rattle.dpl_language.specs.Ranges.{indices_in}
-use Rattle.dpl_memory.specs.Memory.{Held, whole_held, held_at}
+use Rattle.dpl_memory.specs.Memory.{Held, whole_held, held_at, held_over}
 use Rattle.dpl_apart.specs.Workers.{owned_piece}
 use Rattle.dpl_array.specs.Elements.{Elements, value_at, keys_of, owned, element_before, tabulated}
 use Rattle.dpl_array.specs.Arrays.{ArrayValue, PieceValue, PiecesValue, ArePieces, IsWhole, counted, in_slot, piece_in, pieces_of, union, with_slot, held_at as has_at}
@@ -35,6 +37,17 @@ words-tabulated (t ∷ ts) f some =
     ap (λ o. words_of (element_before t o (tabulated ts f))) here.1
     ∙ ap (λ o. unwrap_or o (pos 0) ∷ words_of (tabulated ts f)) (sym here.1)
     ∙ ap (λ ws. unwrap_or (f t) (pos 0) ∷ ws) (words-tabulated ts f (λ s at. some s (stands-later t ts s at)))
+
+-- over its own domain an array keeps all its words
+pub held_over-own : (ranges : List TextRange) (a : ArrayValue ℤ) (h : Held) → IsArrayOver ranges a → seen ranges a ≡ h → held_over ranges h ≡ h
+held_over-own ranges a h over is =
+    ap (held_over ranges) (sym is)
+    ∙ ap (whole_held ranges)
+    (maps-alike (λ t. unwrap_or (held_at t (seen ranges a)) (pos 0)) (λ t. unwrap_or (value_at t a.elements) (pos 0)) (λ t. ap (λ o. unwrap_or o (pos 0)) (held_at-seen ranges a over t)) (indices_in ranges)
+    ∙ ap (λ vs. map (λ t. unwrap_or (value_at t a.elements) (pos 0)) (indices vs)) (sym over.domain)
+    ∙ sym (words-tabulated (indices a.domain) (λ t. value_at t a.elements) (λ t at. over-some (indices a.domain) a.elements t over.keys at))
+    ∙ ap words_of over.keys.values)
+    ∙ is
 
 -- THE PIECE THAT A LOCALE OWNS
 module _ (ranges : List TextRange) (a : ArrayValue ℤ) (over : IsArrayOver ranges a) (axes : List AxisValue) (l : ℕ) where
@@ -62,7 +75,7 @@ module _ (ranges : List TextRange) (a : ArrayValue ℤ) (over : IsArrayOver rang
       ∙ ap (λ (ks : List Index). piece_of_words ks (words_of (tabulated mine at))) (tabulated-over mine at are-there).keys
       ∙ ap (piece_of_words mine) (words-tabulated mine at are-there)
     where
-      abbrev piece_of_words : List Index → List ℤ → Held
+      piece_of_words : List Index → List ℤ → Held
       piece_of_words ks ws = record { ranges = ranges; keys = ks; words = ws }
 
   pub owned-held : held_piece ranges (owned axes l a.elements) ≡ owned_piece (owner axes) l (seen ranges a)
@@ -72,7 +85,7 @@ module _ (ranges : List TextRange) (a : ArrayValue ℤ) (over : IsArrayOver rang
       ∙ ap (words_made (filter own (indices_in ranges)))
       (maps-alike (λ t. unwrap_or (at t) (pos 0)) (λ t. unwrap_or (held_at t (seen ranges a)) (pos 0)) (λ t. ap (λ o. unwrap_or o (pos 0)) (sym (held_at-seen ranges a over t))) (filter own (indices_in ranges)))
     where
-      abbrev words_made : List Index → List ℤ → Held
+      words_made : List Index → List ℤ → Held
       words_made ks ws = record { ranges = ranges; keys = ks; words = ws }
 
 -- WHAT STANDS IN THE PLACE OF A LOCALE
@@ -89,8 +102,16 @@ word-held ranges (Some es) t = word_at-words t es
 pub set-held : (ranges : List TextRange) (ps : PiecesValue ℤ) (l : ℕ) (o : Option (Elements ℤ)) → held_pieces ranges (with_slot ps l o) ≡ with_piece l (held_slot ranges o) (held_pieces ranges ps)
 set-held ranges ps l o = ap (λ (hs : List (Option Held)). pieces_made hs) (map-set (held_slot ranges) ps.slots l o)
   where
-    abbrev pieces_made : List (Option Held) → Parted
+    pieces_made : List (Option Held) → Parted
     pieces_made hs = record { ranges = ranges; axes = ps.map; pieces = hs }
+
+-- what is put there is over the array's domain
+pub piece-over : (ranges mine rs : List TextRange) (es : Elements ℤ) (h : Held) → ranges ≡ rs → held_piece mine es ≡ h → held_piece ranges es ≡ record h { ranges = rs }
+piece-over ranges mine rs es h same is = ap (λ (qs : List TextRange). held_piece qs es) same ∙ ap (λ (h : Held). record h { ranges = rs }) is
+
+pub on_ok : {A B : Type 0} {P : Type 0} (r : Result A B) → is_ok r ≡ true → OnOk r P → P
+on_ok (Ok a) yes p = p
+on_ok (Err b) yes p = absurd cc
 
 -- and what is taken out is what is there
 pub piece-held : (ranges : List TextRange) (ps : PiecesValue ℤ) (l : ℕ) (r : Option (PieceValue ℤ)) → r ≡ piece_in ps l → option_map (λ (p : PieceValue ℤ). held_piece ranges p.elements) r ≡ piece_of l (held_pieces ranges ps)
@@ -99,6 +120,14 @@ piece-held ranges ps l r is = ap (option_map (λ (p : PieceValue ℤ). held_piec
     by : (o : Option (Elements ℤ)) → option_map (λ (p : PieceValue ℤ). held_piece ranges p.elements) (option_map (λ es. record { domain = ps.domain; map = ps.map; locale = l; elements = es }) o) ≡ held_slot ranges o
     by None = refl
     by (Some es) = refl
+
+-- it is of the same domain
+pub piece-domain : (ps : PiecesValue ℤ) (l : ℕ) (p : PieceValue ℤ) → Some p ≡ piece_in ps l → p.domain ≡ ps.domain
+piece-domain ps l p is = by (slice_index_or ps.slots l None) is
+  where
+    by : (o : Option (Elements ℤ)) → Some p ≡ option_map (λ es. record { domain = ps.domain; map = ps.map; locale = l; elements = es }) o → p.domain ≡ ps.domain
+    by None is = absurd cc
+    by (Some es) is = ap (λ (q : PieceValue ℤ). q.domain) (same_Some p (record { domain = ps.domain; map = ps.map; locale = l; elements = es }) is)
 
 -- THE PIECES OF AN ARRAY
 pub pieces-parted : (ranges : List TextRange) (a : ArrayValue ℤ) → IsArrayOver ranges a → (ps : PiecesValue ℤ) (h : Held) → ps ≡ pieces_of a → seen ranges a ≡ h → held_pieces ranges ps ≡ parted a.map h
@@ -109,7 +138,7 @@ pieces-parted ranges a over ps h are is =
     ∙ maps-alike (λ l. Some (held_piece ranges (owned a.map l a.elements))) (λ l. Some (owned_piece (owner a.map) l (seen ranges a))) (λ l. ap Some (owned-held ranges a over a.map l)) (counted 0 (locales a.map)))
     ∙ ap (parted a.map) is
   where
-    abbrev pieces_made : List (Option Held) → Parted
+    pieces_made : List (Option Held) → Parted
     pieces_made hs = record { ranges = ranges; axes = a.map; pieces = hs }
 
 -- THE ARRAY OF PIECES
@@ -130,9 +159,9 @@ module _ (ranges : List TextRange) (ps : PiecesValue ℤ) (over : ArePiecesOver 
       none (Some es) is = refl
 
       any : {X : Type 0} (xs : List X) (l : ℕ) (d e : X) → l < length xs → slice_index_or xs l d ≡ slice_index_or xs l e
-      any [] l d e below = absurd (omega below)
+      any [] l d e below = absurd (omega (arith, below))
       any (x ∷ xs) zero d e below = refl
-      any (x ∷ xs) (suc l) d e below = any xs l d e (omega below)
+      any (x ∷ xs) (suc l) d e below = any xs l d e (omega (arith, below))
 
       same : (l : ℕ) (d : Option Held) → l < length (map (held_slot ranges) ps.slots) → held_slot ranges (slice_index_or ps.slots l None) ≡ slice_index_or (map (held_slot ranges) ps.slots) l d
       same l d below = sym (slot-held ranges ps.slots l) ∙ any (map (held_slot ranges) ps.slots) l None d below

@@ -16,6 +16,9 @@ use Rattle.dpl_contents.specs.Arrays.{words_of}
 use Rattle.dpl_contents.specs.Pieces.{held_piece, IsPieceOver}
 use Rattle.dpl_contents.proofs.Words.{word_at-words, with_word-words, written-ranges}
 
+abbrev pub seen_piece : List TextRange → PieceValue ℤ → Held
+seen_piece ranges p = held_piece ranges p.elements
+
 module _ (ranges : List TextRange) (p : PieceValue ℤ) (over : IsPieceOver ranges p) where
   -- no index of the part stands twice
   distinct-keys : IsDistinct (keys_of p.elements)
