@@ -106,12 +106,12 @@ set-held ranges ps l o = ap (λ (hs : List (Option Held)). pieces_made hs) (map-
     pieces_made hs = record { ranges = ranges; axes = ps.map; pieces = hs }
 
 -- what is put there is over the array's domain
-pub piece-over : (ranges mine rs : List TextRange) (es : Elements ℤ) (h : Held) → ranges ≡ rs → held_piece mine es ≡ h → held_piece ranges es ≡ record h { ranges = rs }
-piece-over ranges mine rs es h same is = ap (λ (qs : List TextRange). held_piece qs es) same ∙ ap (λ (h : Held). record h { ranges = rs }) is
+pub piece-over : (ranges own_ranges rs : List TextRange) (es : Elements ℤ) (h : Held) → ranges ≡ rs → held_piece own_ranges es ≡ h → held_piece ranges es ≡ record h { ranges = rs }
+piece-over ranges own_ranges rs es h same is = ap (λ (qs : List TextRange). held_piece qs es) same ∙ ap (λ (h : Held). record h { ranges = rs }) is
 
 pub on_ok : {A B : Type 0} {P : Type 0} (r : Result A B) → is_ok r ≡ true → OnOk r P → P
-on_ok (Ok a) yes p = p
-on_ok (Err b) yes p = absurd cc
+on_ok (Ok a) put p = p
+on_ok (Err b) put p = absurd cc
 
 -- and what is taken out is what is there
 pub piece-held : (ranges : List TextRange) (ps : PiecesValue ℤ) (l : ℕ) (r : Option (PieceValue ℤ)) → r ≡ piece_in ps l → option_map (λ (p : PieceValue ℤ). held_piece ranges p.elements) r ≡ piece_of l (held_pieces ranges ps)

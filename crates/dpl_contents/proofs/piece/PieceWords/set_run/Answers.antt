@@ -3,7 +3,7 @@ use Rattle.std.proofs.Common.{is_some, subst, sym, ap, ◌∙◌}
 use Rattle.dpl_array.specs.Elements.{behind, put_in_row}
 use Rattle.dpl_memory.specs.Memory.{held_with}
 use Rattle.dpl_contents.specs.Pieces.{IsPieceOver}
-use Rattle.dpl_contents.proofs.PieceWordLemmas.{put-piece-over, put-piece-seen_piece}
+use Rattle.dpl_contents.proofs.PieceWordLemmas.{put-piece-over, put-piece-seen}
 use Rattle.dpl_contents.proofs.PieceWordLemmas.{piece_at-is, seen_piece}
 use Rattle.dpl_contents.proofs.piece.PieceWords.set_run.Goals as goal
 
@@ -22,5 +22,5 @@ pub returns-clause-changes : goal.returns-clause-changes
 returns-clause-changes c =
     let inside = c.self.inside in
     ap (seen_piece inside.domain) c.set_run.ensures.changes
-    ∙ put-piece-seen_piece inside.domain c.args.index c.args.words.now c.set_run.result inside.piece c.self.invariant
+    ∙ put-piece-seen inside.domain c.args.index c.args.words.now c.set_run.result inside.piece c.self.invariant
     ∙ ap (put_in_row held_with c.args.index c.args.words.now c.set_run.result) c.self.view_is
