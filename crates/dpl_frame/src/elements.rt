@@ -110,13 +110,7 @@ impl<A: Arrays> Frame<A> {
     /// # Errors
     /// Out of memory for a copy, where the array isn't the frame's own; then nothing is said of the arrays.
     #[inline(always)]
-    pub fn put_plane(
-        &mut self,
-        slot: usize,
-        i: i64,
-        j: i64,
-        word: i64,
-    ) -> Result<bool, AllocError>
+    pub fn put_plane(&mut self, slot: usize, i: i64, j: i64, word: i64) -> Result<bool, AllocError>
         ensures there { IfOk result (λ there. there ≡ is_some (held_at (i ∷ j ∷ []) (array_at slot self.old.memory))) }
         ensures changes { OnOk result (self.new
             ≡ with_memory (with_array slot (held_with (i ∷ j ∷ []) word (array_at slot self.old.memory)) self.old.memory) self.old) }

@@ -290,7 +290,14 @@ impl Arrays for Slots {
 
     #[tactic(auto, using(crate::proofs::EmptySlots::put_past, crate::proofs::EmptySlots::none_past, crate::proofs::EmptySlots::held_within, crate::proofs::EmptySlots::held_set, crate::proofs::EmptySlots::held_at_none))]
     #[inline(always)]
-    fn put_space(&mut self, slot: usize, i: i64, j: i64, k: i64, word: i64) -> Result<bool, AllocError> {
+    fn put_space(
+        &mut self,
+        slot: usize,
+        i: i64,
+        j: i64,
+        k: i64,
+        word: i64,
+    ) -> Result<bool, AllocError> {
         if slot < self.arrays.len() {
             Ok(put_space_in(&mut self.arrays[slot], i, j, k, word))
         } else {
