@@ -7,5 +7,6 @@ pub mod Words
 pub mod PutLemmas
 pub mod PieceWordLemmas
 pub mod PartedLemmas
+pub mod Rejoined
 pub mod Spaced
 pub mod Layouts

@@ -1,6 +1,6 @@
 -- An array that is taken apart, and what its pieces make together.
-use Rattle.std.proofs.Common.{◌≡◌, ◌↔◌, ◌==◌, ◌<◌, Bool, ℕ, zero, suc, List, [], ◌∷◌, ℤ, pos, map, filter, length, All, Option, Some, None, IsSome, refl, ap, sym, subst, ◌∙◌, slice_index_or, slice_set, arith, true, Result, Ok, Err, OnOk}
-use Rattle.std.specs.Prelude.{unwrap_or, is_some}
+use Rattle.std.proofs.Common.{◌≡◌, ◌↔◌, ◌==◌, ◌<◌, Bool, ℕ, zero, suc, List, [], ◌∷◌, ℤ, pos, map, filter, length, All, Option, Some, None, IsSome, refl, ap, sym, subst, ◌∙◌, slice_index_or, arith, true, Result, Ok, Err, OnOk}
+use Rattle.std.specs.Prelude.{unwrap_or}
 use Rattle.std.specs.Option.{option_map}
 use Rattle.std.specs.Result.{is_ok}
 use Rattle.std.proofs.lemmas.List.{length-map, map-set}
@@ -8,14 +8,13 @@ use Rattle.std.proofs.lemmas.Option.{same_Some}
 use Rattle.std.proofs.lemmas.Simd.{map-map}
 use Rattle.dpl_sets.specs.TextRanges.{TextRange}
 use Rattle.dpl_sets.specs.Indices.{indices}
-use Rattle.dpl_sets.specs.TextDomains.{values_of}
 use Rattle.dpl_map.specs.Maps.{AxisValue, owner, locales}
 use Rattle.dpl_language.specs.Values.{Index}
 use Rattle.dpl_language.specs.Ranges.{indices_in}
 use Rattle.dpl_memory.specs.Memory.{Held, whole_held, held_at, held_over}
 use Rattle.dpl_apart.specs.Workers.{owned_piece}
-use Rattle.dpl_array.specs.Elements.{Elements, value_at, keys_of, owned, element_before, tabulated}
-use Rattle.dpl_array.specs.Arrays.{ArrayValue, PieceValue, PiecesValue, ArePieces, IsWhole, counted, in_slot, piece_in, pieces_of, union, with_slot, held_at as has_at}
+use Rattle.dpl_array.specs.Elements.{Elements, value_at, owned, element_before, tabulated}
+use Rattle.dpl_array.specs.Arrays.{ArrayValue, PieceValue, PiecesValue, IsWhole, counted, in_slot, piece_in, pieces_of, union, with_slot, held_at as has_at}
 use Rattle.dpl_array.specs.Rows.{StandsIn}
 use Rattle.dpl_array.proofs.ElementLemmas.{stands-later, over-some, owned-tabulated, tabulated-over}
 use Rattle.dpl_array.proofs.RowLemmas.{filter-stands}

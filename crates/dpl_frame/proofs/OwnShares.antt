@@ -1,8 +1,10 @@
 -- A worker's own arrays before those that it is lent, slot by slot.
-use Rattle.std.proofs.Common.{◌≡◌, ℕ, zero, suc, ◌<◌, ◌≤◌, Bool, List, [], ◌∷◌, ◌++◌, length, take, set, get_or, Result, Ok, Err, IfOk, OnOk, refl, sym, subst, ap, ◌∙◌, arith}
+use Rattle.std.proofs.Common.{◌≡◌, ℕ, zero, suc, ◌+◌, ◌<◌, ◌≤◌, Bool, List, [], ◌∷◌, ◌++◌, length, take, set, get_or, Result, Ok, Err, IfOk, OnOk, refl, sym, ap, ◌∙◌, arith}
 use Rattle.std.proofs.Math.ListN.{get_or-eq_default}
 use Rattle.std.proofs.lemmas.List.{set_past}
-use Rattle.dpl_memory.specs.Memory.{Held, no_array}
+use Rattle.dpl_language.specs.Values.{Index}
+use Rattle.dpl_memory.specs.Memory.{Held, no_array, is_among}
+use Rattle.dpl_apart.specs.Workers.{owned_if, shares_from}
 use Rattle.dpl_frame.specs.declared.share.Share.{Share}
 use Rattle.dpl_frame.specs.declared.share.Share.TheVariants.{Lent}
 use Rattle.dpl_frame.specs.Shares.{share_before, share_in, own_before}
@@ -82,3 +84,40 @@ own_first [] [] = refl
 own_first [] (a ∷ lent) = refl
 own_first (s ∷ own) [] = refl
 own_first (s ∷ own) (a ∷ lent) = ap (λ hs. share_before s a ∷ hs) (own_first own lent)
+
+-- A LOCALE'S SHARES: where those of its own are its pieces of the arrays that are written, they are what its worker begins with
+module _ (written : List ℕ) (owns : Index → ℕ) (l : ℕ) where
+  abbrev AreShares : ℕ → List Share → List Held → List Held → Type 0
+  AreShares first own lent arrays =
+      (k : ℕ) → k < length arrays → share_in (get_or own k Lent) lent k ≡ owned_if (is_among (first + k) written) owns l (get_or arrays k no_array)
+
+  abbrev share_of : ℕ → Held → Held
+  share_of slot a = owned_if (is_among slot written) owns l a
+
+  -- the first of them, and the others
+  first-share : (first : ℕ) (own : List Share) (lent : List Held) (b : Held) (arrays : List Held) → AreShares first own lent (b ∷ arrays) → share_in (get_or own 0 Lent) lent 0 ≡ share_of first b
+  first-share first own lent b arrays are = let e : first + 0 ≡ first = omega arith in are 0 (omega arith) ∙ ap (λ slot. share_of slot b) e
+
+  later-shares : (first : ℕ) (s : Share) (own : List Share) (a : Held) (lent : List Held) (b : Held) (arrays : List Held) → AreShares first (s ∷ own) (a ∷ lent) (b ∷ arrays) → AreShares (first + 1) own lent arrays
+  later-shares first s own a lent b arrays are k below =
+      let e : first + suc k ≡ (first + 1) + k = omega arith in
+      are (suc k) (omega (arith, below)) ∙ ap (λ slot. share_of slot (get_or arrays k no_array)) e
+
+  none-own : (first : ℕ) (a : Held) (lent : List Held) (b : Held) (arrays : List Held) → AreShares first [] (a ∷ lent) (b ∷ arrays) → AreShares (first + 1) [] lent arrays
+  none-own first a lent b arrays are k below =
+      let e : first + suc k ≡ (first + 1) + k = omega arith in
+      are (suc k) (omega (arith, below)) ∙ ap (λ slot. share_of slot (get_or arrays k no_array)) e
+
+  pub own_shares : (first : ℕ) (own : List Share) (lent arrays : List Held) → length lent ≡ length arrays → AreShares first own lent arrays → own_before own lent ≡ shares_from first written owns l arrays
+  own_shares first [] [] [] long are = refl
+  own_shares first [] [] (b ∷ arrays) long are = absurd (omega (arith, long))
+  own_shares first [] (a ∷ lent) [] long are = absurd (omega (arith, long))
+  own_shares first [] (a ∷ lent) (b ∷ arrays) long are =
+      ap (λ (h : Held). h ∷ lent) (first-share first [] (a ∷ lent) b arrays are)
+      ∙ ap (λ (hs : List Held). share_of first b ∷ hs) (own_shares (first + 1) [] lent arrays (omega (arith, long)) (none-own first a lent b arrays are))
+  own_shares first (s ∷ own) [] [] long are = refl
+  own_shares first (s ∷ own) [] (b ∷ arrays) long are = absurd (omega (arith, long))
+  own_shares first (s ∷ own) (a ∷ lent) [] long are = absurd (omega (arith, long))
+  own_shares first (s ∷ own) (a ∷ lent) (b ∷ arrays) long are =
+      ap (λ (h : Held). h ∷ own_before own lent) (first-share first (s ∷ own) (a ∷ lent) b arrays are)
+      ∙ ap (λ (hs : List Held). share_of first b ∷ hs) (own_shares (first + 1) own lent arrays (omega (arith, long)) (later-shares first s own a lent b arrays are))

@@ -1,5 +1,5 @@
 -- A word is put into a worker's own array.
-use Rattle.std.proofs.Common.{rules, ◌<◌, ◌≤◌, [], ◌∷◌, is_some, length, sym, ap, ◌∙◌, w64, FitsSigned}
+use Rattle.std.proofs.Common.{rules, ◌<◌, ◌≤◌, [], ◌∷◌, is_some, length, sym, ap, w64, FitsSigned}
 use Rattle.std.proofs.lemmas.Int.{to_z-of_z}
 use Rattle.dpl_memory.specs.Memory.{held_at, held_with}
 use Rattle.dpl_frame.proofs.OwnShares.{ok-is, ok-then, none-past, set-past, own-seen, own-put}
