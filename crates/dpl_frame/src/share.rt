@@ -41,6 +41,20 @@ fn lent_in(lent: &Slots, slot: usize) -> Seen<'_>
     }
 }
 
+// A copy of the array that is lent in a slot, if there is one. No turn that is made apart comes here: each array that it writes is its
+// worker's own.
+#[cold]
+#[inline(never)]
+fn copy_of(lent: &Slots, slot: usize, alloc: Global) -> Result<Share, AllocError>
+    ensures held { IfOk result (λ s. share_in s lent.now slot ≡ get_or lent.now slot no_array) }
+    ensures own { IfOk result (λ s. IsOwn s (get_or lent.now slot no_array)) }
+{
+    match lent.array(slot) {
+        Some(array) => Ok(Share::Whole(array.copied(alloc)?)),
+        None => Ok(Share::Lent),
+    }
+}
+
 impl Share {
     // The array in a slot.
     #[inline(always)]
@@ -61,15 +75,14 @@ impl Share {
         *self = Share::Whole(array);
     }
 
-    // Copies the array that is lent in a slot, if there is one, so that words can be put into it.
+    // Has a copy of the array that is lent in a slot, if there is one, so that words can be put into it.
+    #[inline(always)]
     fn hold(&mut self, lent: &Slots, slot: usize, alloc: Global) -> Result<(), AllocError>
         ensures held { OnOk result (share_in self.new lent.now slot ≡ share_in self.old lent.now slot) }
         ensures own { OnOk result (IsOwn self.new (get_or lent.now slot no_array)) }
     {
         if let Share::Lent = self {
-            if let Some(array) = lent.array(slot) {
-                *self = Share::Whole(array.copied(alloc)?);
-            }
+            *self = copy_of(lent, slot, alloc)?;
         }
         Ok(())
     }
