@@ -10,16 +10,19 @@ use std::env;
 use std::fs::File;
 use std::io::{ErrorKind, IsTerminal};
 use std::process::ExitCode;
+use std::sync::Wait;
+use std::thread::Threads;
 
 fn main(rt: HostRuntime) -> ExitCode {
-    ExitCode::from(command_line(&rt))
+    ExitCode::from(command_line(&rt, &rt))
 }
 
-// The words of the command line. One that isn't UTF-8 is a mistake.
-fn command_line(rt: &HostRuntime) -> u8 {
+// The words of the command line. One that isn't UTF-8 is a mistake. Only what `main` was given starts workers, so that it goes down to the
+// run beside itself.
+fn command_line<R: Threads + Wait + Sync>(rt: &HostRuntime, workers: &R) -> u8 {
     match env::args(rt) {
         Ok(arguments) => match arguments.collect::<Vec<String>>(rt.alloc()) {
-            Ok(texts) => by_words(rt, &texts),
+            Ok(texts) => by_words(rt, workers, &texts),
             Err(_) => tell_line(rt, &LineFault::Memory),
         },
         Err(e) if e.kind() == ErrorKind::OutOfMemory => tell_line(rt, &LineFault::Memory),
@@ -40,18 +43,22 @@ fn borrowed(alloc: Global, texts: &[String]) -> Result<Vec<&str>, AllocError> {
 }
 
 // What the words ask for.
-fn by_words(rt: &HostRuntime, texts: &[String]) -> u8 {
+fn by_words<R: Threads + Wait + Sync>(rt: &HostRuntime, workers: &R, texts: &[String]) -> u8 {
     let Ok(words) = borrowed(rt.alloc(), texts) else {
         return tell_line(rt, &LineFault::Memory);
     };
     match settings(rt.alloc(), &words) {
-        Ok(asked) => by_settings(rt, &asked),
+        Ok(asked) => by_settings(rt, workers, &asked),
         Err(fault) => tell_line(rt, &fault),
     }
 }
 
 // The program, over the file or standard input, and over both outputs.
-fn by_settings(rt: &HostRuntime, asked: &Settings<'_>) -> u8 {
+fn by_settings<R: Threads + Wait + Sync>(
+    rt: &HostRuntime,
+    workers: &R,
+    asked: &Settings<'_>,
+) -> u8 {
     let shown = rt.stderr().is_terminal();
     let mut out = Plain::new(rt.stdout());
     let mut errors = Plain::new(rt.stderr());
@@ -59,13 +66,29 @@ fn by_settings(rt: &HostRuntime, asked: &Settings<'_>) -> u8 {
         Some(path) if path != "-" => match File::open(rt, path) {
             Ok(file) => {
                 let read = read_text(rt.alloc(), file);
-                program(rt, rt.alloc(), &read, asked, shown, &mut out, &mut errors)
+                program(
+                    workers,
+                    rt.alloc(),
+                    &read,
+                    asked,
+                    shown,
+                    &mut out,
+                    &mut errors,
+                )
             }
             Err(error) => unopened(rt.alloc(), &error, &mut errors),
         },
         _ => {
             let read = read_text(rt.alloc(), rt.stdin());
-            program(rt, rt.alloc(), &read, asked, shown, &mut out, &mut errors)
+            program(
+                workers,
+                rt.alloc(),
+                &read,
+                asked,
+                shown,
+                &mut out,
+                &mut errors,
+            )
         }
     }
 }

@@ -3,7 +3,9 @@
 // scripts/growths.sh refuses those of the whole program, one after another.
 
 use dpl_run::{Config, Maps, OpenGate, Outcome, Plain, Refused, run_text};
+use std::sync::Wait;
 use std::test::Fail;
+use std::thread::Threads;
 
 const SQUARES: &str =
     "var s: int; forall i in 1..8 by 2 with (+ reduce s) do s += i*i; writeln(s);";
@@ -20,7 +22,7 @@ enum Ran {
 }
 
 // Runs the squares into room for eight bytes, which takes no memory.
-fn squares(rt: &HostRuntime, config: &Config) -> Ran {
+fn squares<R: AllocGlobal + Threads + Wait + Sync>(rt: &R, config: &Config) -> Ran {
     let mut room = [0u8; 8];
     let mut out = Plain::new(room.as_mut_slice());
     let result = run_text(
@@ -41,7 +43,7 @@ fn squares(rt: &HostRuntime, config: &Config) -> Ran {
 }
 
 // Runs the sum of an array into room for as many bytes as it writes.
-fn summed(rt: &HostRuntime, config: &Config) -> Ran {
+fn summed<R: AllocGlobal + Threads + Wait + Sync>(rt: &R, config: &Config) -> Ran {
     let mut room = [0u8; 25];
     let mut out = Plain::new(room.as_mut_slice());
     let result = run_text(

@@ -6,7 +6,9 @@ use dpl_run::Plain;
 use dpl_settings::{RootMaps, Settings};
 use std::io::{self, ErrorKind, Read};
 use std::process::Abort;
+use std::sync::Wait;
 use std::test::Fail;
+use std::thread::Threads;
 
 // A reader that gives a whole program and then an error.
 #[derive(Drop)]
@@ -53,8 +55,8 @@ pub(crate) struct Done {
     pub(crate) errors: Vec<u8>,
 }
 
-pub(crate) fn ran<I: Read + Drop>(
-    rt: &HostRuntime,
+pub(crate) fn ran<R: AllocGlobal + Threads + Wait + Sync, I: Read + Drop>(
+    rt: &R,
     input: I,
     asked: &Settings<'_>,
     shown: bool,
@@ -131,7 +133,11 @@ C =
 ";
 
 // The first text that doesn't end so. To a person more is told where a rule is broken or a fault arises, and else the same.
-fn other_end(rt: &HostRuntime, asked: &Settings<'_>, shown: bool) -> Option<&'static str> {
+fn other_end<R: AllocGlobal + Threads + Wait + Sync>(
+    rt: &R,
+    asked: &Settings<'_>,
+    shown: bool,
+) -> Option<&'static str> {
     for row in ENDS.split('~') {
         let Some((status, rest)) = row.split_once('@') else {
             return Some(row);

@@ -31,12 +31,13 @@ fn settings(rt: HostRuntime) -> Result<(), Fail> {
 #[test]
 fn runs(rt: HostRuntime) -> Result<(), Fail> {
     let told = format!(in rt.alloc();
-        "{}, {}, {}, {OutFault}",
+        "{}, {}, {}, {}, {OutFault}",
         Refused::Memory,
+        Refused::Thread,
         Refused::Gate,
         Refused::Writer
     )?;
-    assert_eq!(rt; told.as_str(), "M1, G1, W1, the writer failed");
+    assert_eq!(rt; told.as_str(), "M1, M2, G1, W1, the writer failed");
     Ok(())
 }
 

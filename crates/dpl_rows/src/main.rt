@@ -10,6 +10,8 @@ use dpl_run::{Plain, write_all};
 use std::alloc::Global;
 use std::io;
 use std::process::ExitCode;
+use std::sync::Wait;
+use std::thread::Threads;
 
 fn main(rt: HostRuntime) -> ExitCode {
     let Ok(rows) = io::read_to_string(rt.alloc(), rt.stdin()) else {
@@ -22,7 +24,7 @@ fn main(rt: HostRuntime) -> ExitCode {
 }
 
 // What all rows write, and how many there are; nothing without memory.
-fn answers<R: Sync>(rt: &R, alloc: Global, rows: &str) -> Option<Vec<u8>> {
+fn answers<R: Threads + Wait + Sync>(rt: &R, alloc: Global, rows: &str) -> Option<Vec<u8>> {
     let mut told = Vec::new(alloc);
     let count = run_rows(rt, alloc, rows, &mut told).ok()?;
     let last = format!(in alloc; "{count} rows\n").ok()?;

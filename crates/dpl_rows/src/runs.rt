@@ -3,6 +3,8 @@
 use crate::row::{Row, row_of};
 use dpl_run::{Config, Maps, OpenGate, Plain, run_text};
 use std::alloc::{AllocError, Global};
+use std::sync::Wait;
+use std::thread::Threads;
 
 // Numbers of locales, and how many lie along each dimension of the two grids.
 const LAYOUTS: [(u32, [u32; 2], [u32; 3]); 6] = [
@@ -21,7 +23,7 @@ fn settings(row: &Row<'_>, layout: usize, maps: Maps) -> Option<Config> {
 }
 
 // What a row writes by a layout and by maps, or why it has no run.
-fn answer<R: Sync>(
+fn answer<R: Threads + Wait + Sync>(
     rt: &R,
     alloc: Global,
     row: &Row<'_>,
@@ -40,7 +42,7 @@ fn answer<R: Sync>(
 }
 
 // Tells what a row writes by a layout, with each of the three maps, where that is something else than what it wrote first.
-fn tell_layout<R: Sync>(
+fn tell_layout<R: Threads + Wait + Sync>(
     rt: &R,
     alloc: Global,
     row: &Row<'_>,
@@ -64,7 +66,7 @@ fn tell_layout<R: Sync>(
 }
 
 // Tells what a row writes by every setting.
-fn tell_row<R: Sync>(
+fn tell_row<R: Threads + Wait + Sync>(
     rt: &R,
     alloc: Global,
     row: &Row<'_>,
@@ -82,7 +84,7 @@ fn tell_row<R: Sync>(
 ///
 /// # Errors
 /// Out of memory.
-pub(crate) fn run_rows<R: Sync>(
+pub(crate) fn run_rows<R: Threads + Wait + Sync>(
     rt: &R,
     alloc: Global,
     rows: &str,

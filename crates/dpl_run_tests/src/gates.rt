@@ -7,7 +7,9 @@ use crate::roots::{BLOCKS, CYCLES, NAMED};
 use dpl_run::{Config, Gate, Maps, Refused};
 use std::alloc::Global;
 use std::process::Abort;
+use std::sync::Wait;
 use std::sync::atomic::{AtomicU64, Ordering};
+use std::thread::Threads;
 
 // Lets those entries pass alone that a row of `entries` has.
 #[derive(Drop)]
@@ -60,7 +62,7 @@ impl Gate for Counting {
 }
 
 // Whether a run is refused for an entry that is.
-fn asks_for<R: Sync>(
+fn asks_for<R: Threads + Wait + Sync>(
     rt: &R,
     alloc: Global,
     text: &str,
@@ -73,7 +75,13 @@ fn asks_for<R: Sync>(
 }
 
 // The same of each entry of a row.
-fn asks<R: Sync>(rt: &R, alloc: Global, text: &str, config: &Config, owners: &str) -> bool {
+fn asks<R: Threads + Wait + Sync>(
+    rt: &R,
+    alloc: Global,
+    text: &str,
+    config: &Config,
+    owners: &str,
+) -> bool {
     let mut place: u64 = 0;
     for byte in owners.bytes() {
         if byte == b'/' {
@@ -90,7 +98,12 @@ fn asks<R: Sync>(rt: &R, alloc: Global, text: &str, config: &Config, owners: &st
 }
 
 // How many rows a table has. Each asks for its entries and for no others.
-fn rows_of<R: Abort + Sync>(rt: &R, alloc: Global, table: &str, maps: Maps) -> usize {
+fn rows_of<R: Abort + Threads + Wait + Sync>(
+    rt: &R,
+    alloc: Global,
+    table: &str,
+    maps: Maps,
+) -> usize {
     let config = four_locales(rt, maps);
     let mut rows: usize = 0;
     for line in table.lines() {
@@ -135,7 +148,7 @@ const COUNTS: &str = "\
 0 <- 6~ <- var s = 0; for i in 1..3 do s += i; if s > 5 then writeln(s);";
 
 // A program that asks for so many entries, by a gate that lets so many pass.
-fn counts<R: Abort + Sync>(
+fn counts<R: Abort + Threads + Wait + Sync>(
     rt: &R,
     alloc: Global,
     text: &str,

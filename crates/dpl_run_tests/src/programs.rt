@@ -3,6 +3,8 @@
 use dpl_run::{Config, Gate, Maps, Plain, Refused, run_text};
 use std::alloc::Global;
 use std::process::Abort;
+use std::sync::Wait;
+use std::thread::Threads;
 
 /// The settings of one locale, with a budget of nine turns.
 pub(crate) fn one_locale(rt: &impl Abort) -> Config {
@@ -25,7 +27,7 @@ pub(crate) fn bytes_of(rt: &impl Abort, alloc: Global, text: &str) -> Vec<u8> {
 }
 
 /// What is written of a text, or why its run is refused.
-pub(crate) fn written<R: Sync, G: Gate + Sync>(
+pub(crate) fn written<R: Threads + Wait + Sync, G: Gate + Sync>(
     rt: &R,
     alloc: Global,
     text: &[u8],
