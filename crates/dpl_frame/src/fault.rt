@@ -8,6 +8,7 @@ ghost use Rattle.dpl_frame.specs.Faults.{code_of, turn_view, fault_view, fault_o
 use dpl_domain::Index;
 use dpl_nodes::Spot;
 use dpl_syntax::{FaultCode, Place};
+use std::alloc::AllocError;
 use std::marker::Model;
 
 // The number of a code in a word.
@@ -202,6 +203,17 @@ impl Alarm {
             word: self.word,
             turn: *turn,
         }
+    }
+}
+
+impl From<AllocError> for Alarm {
+    ghost use Rattle.std.specs.Prelude.{◌≡◌};
+    ghost use Rattle.dpl_frame.specs.Faults.{OutOfMemory};
+
+    ghost from_gives = { λ _ e. e ≡ OutOfMemory };
+
+    fn from(_: AllocError) -> Alarm {
+        Alarm::out_of_memory()
     }
 }
 
