@@ -8,4 +8,4 @@ use Rattle.dpl_steps.proofs.domain.declare_domain.Goals as goal
 pub returns-in-Empty-clause-ends : goal.returns-in-Empty-clause-ends
 returns-in-Empty-clause-ends g c done =
     ap (λ b. exec c.args.frame.now.limits in_memory (domain_declared c.args.slot b c.args.placing.now) c.args.frame.now.memory done) c.in-Empty.is
-    ∙ c.declare_empty.ensures.ends done
+    ∙ c.in_ok-declare_empty.ensures.ends done
