@@ -101,6 +101,7 @@ impl<A: Arrays> Frame<A> {
         ensures there { IfOk result (λ there. there ≡ is_some (held_at (i ∷ []) (array_at slot self.old.memory))) }
         ensures changes { OnOk result (self.new
             ≡ with_memory (with_array slot (held_with (i ∷ []) word (array_at slot self.old.memory)) self.old.memory) self.old) }
+        ensures limits { self.new.limits ≡ self.old.limits }
     {
         self.arrays.put_line(slot, i, word)
     }
@@ -114,6 +115,7 @@ impl<A: Arrays> Frame<A> {
         ensures there { IfOk result (λ there. there ≡ is_some (held_at (i ∷ j ∷ []) (array_at slot self.old.memory))) }
         ensures changes { OnOk result (self.new
             ≡ with_memory (with_array slot (held_with (i ∷ j ∷ []) word (array_at slot self.old.memory)) self.old.memory) self.old) }
+        ensures limits { self.new.limits ≡ self.old.limits }
     {
         self.arrays.put_plane(slot, i, j, word)
     }
@@ -134,6 +136,7 @@ impl<A: Arrays> Frame<A> {
         ensures there { IfOk result (λ there. there ≡ is_some (held_at (i ∷ j ∷ k ∷ []) (array_at slot self.old.memory))) }
         ensures changes { OnOk result (self.new
             ≡ with_memory (with_array slot (held_with (i ∷ j ∷ k ∷ []) word (array_at slot self.old.memory)) self.old.memory) self.old) }
+        ensures limits { self.new.limits ≡ self.old.limits }
     {
         self.arrays.put_space(slot, i, j, k, word)
     }
@@ -147,6 +150,7 @@ impl<A: Arrays> Frame<A> {
         ensures there { IfOk result (λ there. there ≡ is_some (held_at index (array_at slot self.old.memory))) }
         ensures changes { OnOk result (self.new
             ≡ with_memory (with_array slot (held_with index word (array_at slot self.old.memory)) self.old.memory) self.old) }
+        ensures limits { self.new.limits ≡ self.old.limits }
     {
         self.arrays.put(slot, index, word)
     }
