@@ -149,6 +149,8 @@ module _ (h : Changes) (owns : Index → ℕ) (l : ℕ) (m : Memory) where
           apart = formed.apart;
           there = subst (λ n. AllByRecursion (λ (p : ℕ × Op). p.0 < n) h.reduced) (sym numbers) formed.there;
           stay = formed.stay;
+          room = subst (λ n. AllByRecursion (λ slot. slot < n) h.numbers) (sym numbers) formed.room;
+          tuple_room = formed.tuple_room;
         }
 
     -- and to whose reduce variables nothing was added.

@@ -108,6 +108,8 @@ module _ (at : Place) where
     apart = tt;
     there = tt;
     stay = tt;
+    room = tt;
+    tuple_room = tt;
   } where
     only : (slot : ℕ) (c : Bool) → (slot == 2) ≡ c → (c || false) ≡ true → slot ≡ 2
     only slot true e h = eqb-true slot 2 e

@@ -125,7 +125,7 @@ pub record IsPiece (a : Held) : Type 0 where
   pub long : length a.words ≡ length a.keys
 
 -- A memory in which turns may be made apart: the arrays that they write are there, and are pieces; and the reduce variables are those of
--- its forall, each with a slot of its own, which is there and doesn't begin anew.
+-- its forall, each with a slot of its own, which is there and doesn't begin anew. Numbers and tuples that begin anew are there too.
 pub record IsFormed (h : Changes) (b : Memory) : Type 0 where
   pub pieces : (slot : ℕ) → is_among slot h.written ≡ true → IsPiece (array_at slot b)
   pub within : (slot : ℕ) → is_among slot h.written ≡ true → slot < length b.arrays
@@ -133,6 +133,8 @@ pub record IsFormed (h : Changes) (b : Memory) : Type 0 where
   pub apart : AreOnce (map (λ (p : ℕ × Op). p.0) h.reduced)
   pub there : AllByRecursion (λ (p : ℕ × Op). p.0 < length b.words.numbers) h.reduced
   pub stay : AllByRecursion (λ (p : ℕ × Op). is_among p.0 h.numbers ≡ false) h.reduced
+  pub room : AllByRecursion (λ slot. slot < length b.words.numbers) h.numbers
+  pub tuple_room : AllByRecursion (λ slot. slot < length b.tuples) h.tuples
 
 -- a slot of numbers that turns don't change
 abbrev pub is_kept : Changes → ℕ → Bool

@@ -1,0 +1,92 @@
+-- The turns of a typed forall, and of typed assignments to whole arrays.
+use Rattle.std.proofs.Common.{Some, None, ◌≡◌, ℕ, List, [], refl, subst}
+use Rattle.dpl_language.specs.Tree.{Op, Stmts}
+use Rattle.dpl_language.specs.Values.{Domain, Index}
+use Rattle.dpl_language.specs.Environment.{Limits}
+use Rattle.dpl_language.specs.Loops.{bound_to}
+use Rattle.dpl_language.specs.Statements.{exec_all}
+use Rattle.dpl_memory.specs.Memory.{Variable, in_memory}
+use Rattle.dpl_nodes.specs.declared.step.Names.{Names}
+use Rattle.dpl_nodes.specs.declared.step.Names.TheVariants.{Int as IntName, Tuple as TupleName, Each}
+use Rattle.dpl_nodes.specs.declared.tree.IntExpr.{IntExpr, Number, Local as IntLocal, Negative' as IntNegative', Sum' as IntSum', Difference' as IntDifference', Product' as IntProduct', Quotient' as IntQuotient', Remainder' as IntRemainder', Size', First', Last', Low', High', Count', Element', Reduced' as IntReduced'}
+use Rattle.dpl_nodes.specs.declared.tree.BoolExpr.{BoolExpr, Truth as TruthNode, Local as TruthLocal, Not' as TruthNot', And' as TruthAnd', Or' as TruthOr', Same' as TruthSame', Differ' as TruthDiffer', Compare as TruthCompare, Contains, HasIndex, Element as TruthAt, Reduced' as TruthReduced'}
+use Rattle.dpl_nodes.specs.declared.tree.PromotedInt.{PromotedInt, Scalar' as IntScalar', Element as IntsElement, Negative' as Negatives', Sum' as Sums', Difference' as Differences', Product' as Products', Quotient' as Quotients', Remainder' as Remainders'}
+use Rattle.dpl_nodes.specs.declared.tree.PromotedTruth.{PromotedTruth, Scalar' as TruthScalar', Element as TruthsElement, Not' as Nots', And' as Ands', Or' as Ors', Same' as Sames', Differ' as Differs', Compare as Compares}
+use Rattle.dpl_nodes.specs.Typed.{int_view, truth_view, promoted_int, promoted_truth}
+use Rattle.dpl_nodes.specs.Steps.{names_view}
+use Rattle.dpl_lowered.specs.LoweredExpressions.{Times}
+use Rattle.dpl_agreement.specs.Scopes.{fits_expr}
+use Rattle.dpl_apart.specs.Memories.{MayBeApart, Changes}
+use Rattle.dpl_turns.specs.Wholes.{whole_changes, ReadsOwn}
+use Rattle.dpl_turns.specs.Bodies.{OwnNames, NoNames, loop_variables, body_changes, turn_scoping, KeepsApart}
+use Rattle.dpl_turns.specs.Typed.{own_of, SparesInts, SparesTruths}
+use Rattle.dpl_turns.proofs.Bodies.{body-apart}
+
+own-variables : (names : Names) → loop_variables (own_of names) [] ≡ names_view names
+own-variables (IntName slot) = refl
+own-variables (TupleName slot) = refl
+own-variables (Each first others) = refl
+
+-- each binds its index to the names, then runs a body, as `index_turn` does
+pub names-apart : (limits : Limits) (rank : ℕ) (names : Names) (written : List ℕ) (reduced : List (ℕ × Op)) (body : Stmts Variable) → KeepsApart rank (own_of names) [] written reduced body
+    → MayBeApart (body_changes rank (own_of names) [] written reduced) (λ t s done. exec_all limits in_memory body (bound_to in_memory (names_view names) (Domain []) t s) done)
+names-apart limits rank names written reduced body keeps =
+    subst (λ xs. MayBeApart (body_changes rank (own_of names) [] written reduced) (λ t s done. exec_all limits in_memory body (bound_to in_memory xs (Domain []) t s) done)) (own-variables names)
+    (body-apart limits rank (own_of names) [] written reduced body keeps)
+
+-- ---- right sides
+module _ (h : Changes) (own : OwnNames) (t i : Index) where
+  -- what is evaluated once fits at an index too, since its names are plain
+  pub int_view-fits : (e : IntExpr) → fits_expr (turn_scoping h own t) None (int_view e) tt → fits_expr (turn_scoping h own t) (Some i) (int_view e) tt
+  int_view-fits (Number n) fits = tt
+  int_view-fits (IntLocal slot) fits = (fits, tt)
+  int_view-fits (IntNegative' p e) fits = int_view-fits e fits
+  int_view-fits (IntSum' p a q b) fits = (int_view-fits a fits.0, (int_view-fits b fits.1.0, tt))
+  int_view-fits (IntDifference' p a q b) fits = (int_view-fits a fits.0, (int_view-fits b fits.1.0, tt))
+  int_view-fits (IntProduct' p a q b) fits = (int_view-fits a fits.0, (int_view-fits b fits.1.0, tt))
+  int_view-fits (IntQuotient' p a q b at) fits = (int_view-fits a fits.0, (int_view-fits b fits.1.0, tt))
+  int_view-fits (IntRemainder' p a q b at) fits = (int_view-fits a fits.0, (int_view-fits b fits.1.0, tt))
+  int_view-fits (Size' p r) fits = fits
+  int_view-fits (First' p r at) fits = fits
+  int_view-fits (Last' p r at) fits = fits
+  int_view-fits (Low' p r at) fits = fits
+  int_view-fits (High' p r at) fits = fits
+  int_view-fits (Count' p d) fits = fits
+  int_view-fits (Element' slot p x at) fits = fits
+  int_view-fits (IntReduced' f p e at) fits = fits
+
+  pub truth_view-fits : (e : BoolExpr) → fits_expr (turn_scoping h own t) None (truth_view e) tt → fits_expr (turn_scoping h own t) (Some i) (truth_view e) tt
+  truth_view-fits (TruthNode b) fits = tt
+  truth_view-fits (TruthLocal slot) fits = (fits, tt)
+  truth_view-fits (TruthNot' p e) fits = truth_view-fits e fits
+  truth_view-fits (TruthAnd' p a q b) fits = (truth_view-fits a fits.0, (truth_view-fits b fits.1.0, tt))
+  truth_view-fits (TruthOr' p a q b) fits = (truth_view-fits a fits.0, (truth_view-fits b fits.1.0, tt))
+  truth_view-fits (TruthSame' p a q b) fits = (truth_view-fits a fits.0, (truth_view-fits b fits.1.0, tt))
+  truth_view-fits (TruthDiffer' p a q b) fits = (truth_view-fits a fits.0, (truth_view-fits b fits.1.0, tt))
+  truth_view-fits (TruthCompare c a b) fits = (int_view-fits a.now fits.0, (int_view-fits b.now fits.1.0, tt))
+  truth_view-fits (Contains r x) fits = fits
+  truth_view-fits (HasIndex d x) fits = fits
+  truth_view-fits (TruthAt slot x at) fits = fits
+  truth_view-fits (TruthReduced' f p e at) fits = fits
+
+-- A promoted expression reads the array at its index alone, where each part without a whole array reads no element of it.
+module _ (rank slot : ℕ) (m : Times) where
+  pub ints-own : (e : PromotedInt) → SparesInts rank slot e → ReadsOwn rank slot (promoted_int m e)
+  ints-own (IntScalar' p e) spares t = int_view-fits (whole_changes rank slot) NoNames t t e (spares t)
+  ints-own (IntsElement i at) spares t = (refl, λ written. refl)
+  ints-own (Negatives' p e) spares t = ints-own e spares t
+  ints-own (Sums' p a q b) spares t = (ints-own a spares.0 t, (ints-own b spares.1 t, tt))
+  ints-own (Differences' p a q b) spares t = (ints-own a spares.0 t, (ints-own b spares.1 t, tt))
+  ints-own (Products' p a q b) spares t = (ints-own a spares.0 t, (ints-own b spares.1 t, tt))
+  ints-own (Quotients' p a q b at) spares t = (ints-own a spares.0 t, (ints-own b spares.1 t, tt))
+  ints-own (Remainders' p a q b at) spares t = (ints-own a spares.0 t, (ints-own b spares.1 t, tt))
+
+  pub truths-own : (e : PromotedTruth) → SparesTruths rank slot e → ReadsOwn rank slot (promoted_truth m e)
+  truths-own (TruthScalar' p e) spares t = truth_view-fits (whole_changes rank slot) NoNames t t e (spares t)
+  truths-own (TruthsElement i at) spares t = (refl, λ written. refl)
+  truths-own (Nots' p e) spares t = truths-own e spares t
+  truths-own (Ands' p a q b) spares t = (truths-own a spares.0 t, (truths-own b spares.1 t, tt))
+  truths-own (Ors' p a q b) spares t = (truths-own a spares.0 t, (truths-own b spares.1 t, tt))
+  truths-own (Sames' p a q b) spares t = (truths-own a spares.0 t, (truths-own b spares.1 t, tt))
+  truths-own (Differs' p a q b) spares t = (truths-own a spares.0 t, (truths-own b spares.1 t, tt))
+  truths-own (Compares c a b) spares t = (ints-own a.now spares.0 t, (ints-own b.now spares.1 t, tt))
