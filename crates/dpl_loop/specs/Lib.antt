@@ -2,5 +2,6 @@
 pub mod Runs
 pub mod Entries
 pub mod Values
+pub mod Workers
 -- What serves contracts and proofs alone.
 pub mod Tells

@@ -7,9 +7,13 @@
 // a fault, or refused (`Tells` of dpl_frame, and `Gives` for callers that have no place for the turn). Within a turn no gate is asked.
 #![tactic(auto)]
 
+mod apart;
 mod crew;
 pub mod gate;
+mod job;
+mod level;
 mod loops;
+mod part;
 mod reduction;
 mod rows;
 pub mod stop;
@@ -18,6 +22,7 @@ mod strips;
 mod together;
 mod turns;
 
+pub use apart::Apart;
 pub use crew::Crew;
 pub use gate::{Gate, OpenGate};
 pub use loops::{forall_here, forall_line};
