@@ -38,7 +38,7 @@ fn work<T: Turns, G: Gate>(
 ) -> Worked
     ensures locale { result.locale ≡ locale }
     ensures worked { HasWorked (MayRefuseAmong (G.may_refuse site.now.gate.now) site.now.map.now (indices site.now.whole.now))
-        (named_turn (T.turn site.now.turns.now frame.limits)) (indices part.now) frame.memory result }
+        (named_turn (T.turn site.now.turns.now frame.entry.limits)) (indices part.now) frame.entry.memory result }
 {
     let mut frame = frame;
     let gate = PartGate {
@@ -86,7 +86,7 @@ fn start_all<'s, E, T: Turns + Sync, G: Gate + Sync, R: Threads + Sync>(
 ) -> Result<Vec<Worked>, Stop>
     requires { done.items ≡ [] }
     ensures done { IfOk result (λ ws. HaveDone (MayRefuseAmong (G.may_refuse site.now.gate.now) site.now.map.now (indices site.now.whole.now))
-        (λ limits. named_turn (T.turn site.now.turns.now limits)) jobs.items ws.items) }
+        (λ limits. named_turn (T.turn site.now.turns.now limits)) jobs.entry.items ws.items) }
     ensures refused { IfErr result IsUnmade }
 {
     let Some(job) = jobs.pop() else {
@@ -127,7 +127,7 @@ pub(crate) fn work_all<'a, T: Turns + Sync, G: Gate + Sync, R: Threads + Wait + 
 ) -> Result<Vec<Worked>, Stop>
     requires { done.items ≡ [] }
     ensures done { IfOk result (λ ws. HaveDone (MayRefuseAmong (G.may_refuse site.now.gate.now) site.now.map.now (indices site.now.whole.now))
-        (λ limits. named_turn (T.turn site.now.turns.now limits)) jobs.items ws.items) }
+        (λ limits. named_turn (T.turn site.now.turns.now limits)) jobs.entry.items ws.items) }
     ensures refused { IfErr result IsUnmade }
 {
     thread::scope(
@@ -136,7 +136,7 @@ pub(crate) fn work_all<'a, T: Turns + Sync, G: Gate + Sync, R: Threads + Wait + 
         move |scope| -> Result<Vec<Worked>, Stop>
             requires { done.items ≡ [] }
             ensures done { IfOk result (λ ws. HaveDone (MayRefuseAmong (G.may_refuse site.entry.now.gate.now) site.entry.now.map.now
-                (indices site.entry.now.whole.now)) (λ limits. named_turn (T.turn site.entry.now.turns.now limits)) jobs.items ws.items) }
+                (indices site.entry.now.whole.now)) (λ limits. named_turn (T.turn site.entry.now.turns.now limits)) jobs.entry.items ws.items) }
             ensures refused { IfErr result IsUnmade }
         { start_all(rt, scope, site, jobs, done) },
     )

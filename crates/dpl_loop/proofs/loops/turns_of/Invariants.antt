@@ -8,7 +8,7 @@ use Rattle.dpl_loop.proofs.loops.turns_of.Given as goal
 abbrev pub invariant-loop-place : goal.invariant-loop-place
 invariant-loop-place g l = record {
   ends : (done : Deeds) → let turn = named_turn (g.T.Turns.turn l.turns l.fn.frame.limits) in
-      in_order turn (drop l.place (indices l.fn.domain.now)) l.frame.memory done ≡ in_order turn (indices l.fn.domain.now) l.fn.frame.memory done;
-  left : l.indices ≡ drop l.place (indices l.fn.domain.now);
+      in_order turn (drop l.place (indices l.fn.domain)) l.frame.memory done ≡ in_order turn (indices l.fn.domain) l.fn.frame.memory done;
+  left : l.indices ≡ drop l.place (indices l.fn.domain);
   limits : l.frame.limits ≡ l.fn.frame.limits;
 }
