@@ -26,3 +26,8 @@ done-next may turn [] [] j w all one = (one, tt)
 done-next may turn [] (v ∷ ws) j w all one = absurd all
 done-next may turn (i ∷ js) [] j w all one = absurd all
 done-next may turn (i ∷ js) (v ∷ ws) j w all one = (all.0, done-next may turn js ws j w all.1 one)
+
+pub done-more : (may : Type 0) (turn : Limits → Index → Run Memory) (js : List Job) (ws : List Worked) (j : Job) (w : Worked) (jobs : List Job) (done : List Worked) → jobs ≡ js ++ j ∷ [] → done ≡ ws ++ w ∷ []
+    → HaveDone may turn js ws → HasDone may turn j w → HaveDone may turn jobs done
+done-more may turn js ws j w jobs done popped pushed all one =
+    subst (λ jobs. HaveDone may turn jobs done) (sym popped) (subst (λ done. HaveDone may turn (js ++ j ∷ []) done) (sym pushed) (done-next may turn js ws j w all one))
