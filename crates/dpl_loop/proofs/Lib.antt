@@ -2,6 +2,7 @@
 pub mod Ends
 pub mod Order
 pub mod Workers
+pub mod FormedMemories
 -- Lists by places, and the indices of a range.
 pub mod Places
 pub mod Lines

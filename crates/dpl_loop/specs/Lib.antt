@@ -3,5 +3,6 @@ pub mod Runs
 pub mod Entries
 pub mod Values
 pub mod Workers
+pub mod Formed
 -- What serves contracts and proofs alone.
 pub mod Tells

@@ -10,6 +10,7 @@
 mod apart;
 mod crew;
 pub mod gate;
+mod formed;
 mod job;
 mod level;
 mod loops;
