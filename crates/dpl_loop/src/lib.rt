@@ -22,6 +22,7 @@ mod strip;
 mod strips;
 mod together;
 mod turns;
+mod units;
 
 pub use apart::Apart;
 pub use crew::Crew;
