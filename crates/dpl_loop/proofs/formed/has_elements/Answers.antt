@@ -1,5 +1,5 @@
 -- An array that has elements is a whole one, and there.
-use Rattle.std.proofs.Common.{◌≡◌, ◌<◌, arith, subst, ap, ◌∙◌}
+use Rattle.std.proofs.Common.{◌<◌, arith, subst, ap, ◌∙◌}
 use Rattle.std.proofs.lemmas.Bool.Decides.{nat_tests}
 use Rattle.dpl_sets.specs.TextDomains.{values_of}
 use Rattle.dpl_contents.specs.Domains.{AreWritten}

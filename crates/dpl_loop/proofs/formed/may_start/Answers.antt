@@ -1,5 +1,5 @@
 -- What was tested is all that the law asks.
-use Rattle.std.proofs.Common.{◌≡◌, map, subst, sym, ◌∙◌}
+use Rattle.std.proofs.Common.{map, subst, sym, ◌∙◌}
 use Rattle.dpl_memory.specs.Memory.{intents_by_slot}
 use Rattle.dpl_nodes.specs.Steps.{intent_view}
 use Rattle.dpl_apart.specs.Memories.{IsFormed, words_in, operators_of}
