@@ -4,5 +4,6 @@ pub mod Entries
 pub mod Values
 pub mod Workers
 pub mod Formed
+pub mod Joined
 -- What serves contracts and proofs alone.
 pub mod Tells

@@ -12,6 +12,7 @@ mod crew;
 pub mod gate;
 mod formed;
 mod job;
+mod joined;
 mod level;
 mod loops;
 mod part;
