@@ -33,7 +33,7 @@ piece-there m slot a is keys words written some = (
     long = words ∙ size_in-is a.ranges written ∙ ap length (sym keys);
   }),
   by (λ past. let none : a ≡ no_array = is ∙ get_or-eq_default m.arrays no_array past in
-  let size : size_in a.ranges ≡ 0 = ap (λ (a : Held). size_in a.ranges) none in omega (arith, size, some)),
+      let size : size_in a.ranges ≡ 0 = ap (λ (a : Held). size_in a.ranges) none in omega (arith, size, some)),
 ) where
   by : (length m.arrays ≤ slot → ⊥) → slot < length m.arrays
   by h = grind arith

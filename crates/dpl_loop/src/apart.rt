@@ -25,11 +25,11 @@ impl<'b> Model for Apart<'b> {
     ghost Value = { Changes };
 
     ghost view = { λ a. record {
-        rank = a.rank;
-        written = a.written.now;
-        reduced = intents_by_slot (map intent_view a.reduced.now);
-        numbers = a.numbers.now;
-        ranges = a.ranges.now;
-        tuples = a.tuples.now;
+      rank = a.rank;
+      written = a.written.now;
+      reduced = intents_by_slot (map intent_view a.reduced.now);
+      numbers = a.numbers.now;
+      ranges = a.ranges.now;
+      tuples = a.tuples.now;
     } };
 }

@@ -80,12 +80,7 @@ fn is_reduced(slot: usize, intents: &[Intent]) -> bool
 }
 
 // Whether a reduce variable has a slot of its own, which is there and doesn't begin anew, and in it a word of its kind.
-fn may_reduce(
-    intent: &Intent,
-    others: &[Intent],
-    numbers: &[usize],
-    frame: &Frame<Slots>,
-) -> bool
+fn may_reduce(intent: &Intent, others: &[Intent], numbers: &[usize], frame: &Frame<Slots>) -> bool
     ensures { result ≡ true → IsReduced numbers.now frame.now.memory (intent.now.slot, intent.now.op) (intents_by_slot (map intent_view others.now)) }
 {
     if is_reduced(intent.slot, others) {

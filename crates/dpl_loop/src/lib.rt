@@ -9,8 +9,8 @@
 
 mod apart;
 mod crew;
-pub mod gate;
 mod formed;
+pub mod gate;
 mod job;
 mod joined;
 mod level;
