@@ -11,7 +11,7 @@ use dpl_domain::Index;
 use std::alloc::{AllocError, Global};
 
 /// The arrays of some slots. A frame is generic in them.
-pub trait Arrays: Sync + Drop {
+pub trait Arrays: Drop {
     // The arrays of all slots.
     ghost held: { Self → List Held };
 
