@@ -109,12 +109,7 @@ fn each_held<A: Arrays>(
 }
 
 // How the word in a slot goes, by what the variables of the loop hold.
-fn local<A: Arrays>(
-    slot: usize,
-    names: &Names<'_>,
-    first: Index,
-    frame: &Frame<A>,
-) -> Option<Pace>
+fn local<A: Arrays>(slot: usize, names: &Names<'_>, first: Index, frame: &Frame<A>) -> Option<Pace>
     ensures { IfSome result (GoesIn (turn_numbers names.now first frame.now.memory) slot) }
 {
     match names {
