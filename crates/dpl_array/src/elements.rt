@@ -5,7 +5,7 @@ ghost use Rattle.std.specs.Prelude.{◌≡◌, [], ◌∷◌, false, is_some};
 ghost use Rattle.dpl_array.specs.Elements.{value_at};
 ghost use Rattle.dpl_array.specs.Arrays.{array_with, piece_with};
 
-use crate::coordinates::{OnLine, OnPlane, line, plane, space};
+use crate::coordinates::{OnLine, OnPlane, space};
 use crate::{DArray, Piece};
 
 impl<T: Copy> DArray<T> {
@@ -63,24 +63,27 @@ impl<T: Copy> DArray<T> {
 
 impl<T: Copy> Piece<T> {
     /// The value at one coordinate, if the piece is of rank 1 and has it.
+    #[inline]
     pub fn get_line(&self, i: i64) -> Option<T>
         ensures { result ≡ value_at (i ∷ []) self.now.elements }
     {
-        self.get(line(i))
+        self.get_at(&OnLine(i))
     }
 
     /// The value at two coordinates, if the piece is of rank 2 and has them.
+    #[inline]
     pub fn get_plane(&self, i: i64, j: i64) -> Option<T>
         ensures { result ≡ value_at (i ∷ j ∷ []) self.now.elements }
     {
-        self.get(plane(i, j))
+        self.get_at(&OnPlane(i, j))
     }
 
     /// The value at three coordinates, if the piece is of rank 3 and has them.
+    #[inline]
     pub fn get_space(&self, i: i64, j: i64, k: i64) -> Option<T>
         ensures { result ≡ value_at (i ∷ j ∷ k ∷ []) self.now.elements }
     {
-        self.get(space(i, j, k))
+        self.get_at(&space(i, j, k))
     }
 
     /// Puts a value at one coordinate. False if the piece hasn't got it, and then nothing is changed.
@@ -89,7 +92,7 @@ impl<T: Copy> Piece<T> {
         ensures changes { self.new ≡ piece_with (i ∷ []) value self.old }
         ensures unchanged { result ≡ false → self.new ≡ self.old }
     {
-        self.set(line(i), value)
+        self.set_at(&OnLine(i), value)
     }
 
     /// Puts a value at two coordinates. False if the piece hasn't got them, and then nothing is changed.
@@ -98,7 +101,7 @@ impl<T: Copy> Piece<T> {
         ensures changes { self.new ≡ piece_with (i ∷ j ∷ []) value self.old }
         ensures unchanged { result ≡ false → self.new ≡ self.old }
     {
-        self.set(plane(i, j), value)
+        self.set_at(&OnPlane(i, j), value)
     }
 
     /// Puts a value at three coordinates. False if the piece hasn't got them, and then nothing is changed.
@@ -107,6 +110,6 @@ impl<T: Copy> Piece<T> {
         ensures changes { self.new ≡ piece_with (i ∷ j ∷ k ∷ []) value self.old }
         ensures unchanged { result ≡ false → self.new ≡ self.old }
     {
-        self.set(space(i, j, k), value)
+        self.set_at(&space(i, j, k), value)
     }
 }

@@ -123,10 +123,30 @@ impl<T: Copy> Piece<T> {
         Some(self.values[place])
     }
 
-    // The values at an index and at those behind it in its last dimension, as far as they stand side by side and plain numbers tell
-    // it. No values are always right.
+    // The value, if the piece has the index: without a search where its place is found so.
     #[inline(always)]
-    pub(crate) fn run(&self, index: Index) -> &[T]
+    pub(crate) fn get_at<C: Coordinates>(&self, at: &C) -> Option<T>
+        ensures { result ≡ value_at (C.tuple at.now) self.now.elements }
+    {
+        if let Some(value) = self.quick(at) {
+            return Some(value);
+        }
+        self.searched(at.index())
+    }
+
+    // The same by a search. It stands apart, so that no room is set aside for it in a loop.
+    #[inline(never)]
+    fn searched(&self, index: Index) -> Option<T>
+        ensures { result ≡ value_at index self.now.elements }
+    {
+        self.get(index)
+    }
+
+    /// Values at an index and at those behind it in its last dimension, as they stand side by side: of rank 1 and 2 those up to the end of
+    /// the piece's part or of its row, where the part is one domain of stride 1. Of another part or index there may be none, though the
+    /// piece has the index.
+    #[inline(always)]
+    pub fn run(&self, index: Index) -> &[T]
         ensures { IsRunOf self.now.elements index result.now }
     {
         let (place, size) = self.spans.run(index);
@@ -153,10 +173,35 @@ impl<T: Copy> Piece<T> {
         }
     }
 
-    // Puts the first of some values at an index and at those behind it in its last dimension, as far as they stand side by side and
-    // plain numbers tell it. How many were put; none is always right.
+    // Puts a value, if the piece has the index: without a search where its place is found so. False if it hasn't, and then nothing is
+    // changed.
     #[inline(always)]
-    pub(crate) fn set_run(&mut self, index: Index, values: &[T]) -> usize
+    pub(crate) fn set_at<C: Coordinates>(&mut self, at: &C, value: T) -> bool
+        ensures there { result ≡ is_some (value_at (C.tuple at.now) self.old.elements) }
+        ensures changes { self.new ≡ piece_with (C.tuple at.now) value self.old }
+        ensures unchanged { result ≡ false → self.new ≡ self.old }
+    {
+        if self.quick_set(at, value) {
+            return true;
+        }
+        self.set_searched(at.index(), value)
+    }
+
+    // The same by a search.
+    #[inline(never)]
+    fn set_searched(&mut self, index: Index, value: T) -> bool
+        ensures there { result ≡ is_some (value_at index self.old.elements) }
+        ensures changes { self.new ≡ piece_with index value self.old }
+        ensures unchanged { result ≡ false → self.new ≡ self.old }
+    {
+        self.set(index, value)
+    }
+
+    /// Puts the first of some values at an index and at those behind it in its last dimension, as many as stand side by side, and answers
+    /// how many were put: of rank 1 and 2 at most those up to the end of the piece's part or of its row, where the part is one domain of
+    /// stride 1. Of another part or index there may be none, though the piece has the index.
+    #[inline(always)]
+    pub fn set_run(&mut self, index: Index, values: &[T]) -> usize
         ensures most { result ≤ length values.now }
         ensures there { (k : ℕ) → k < result → is_some (value_at (behind k index) self.old.elements) ≡ true }
         ensures changes { self.new ≡ put_in_row piece_with index values.now result self.old }

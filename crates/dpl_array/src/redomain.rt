@@ -16,10 +16,18 @@ impl<T: Copy> DArray<T> {
         ensures array { IfOk result (λ a. a ≡ redomained self domain value) }
         ensures size { (result ≡ Err ArrayFault.Size) ↔ (¬ IsSmallArray domain) }
     {
+        self.copied(alloc, domain, value)
+    }
+
+    /// The same, and this array stays as it is.
+    pub fn copied(&self, alloc: Global, domain: Domain, value: T) -> Result<DArray<T>, ArrayFault>
+        ensures array { IfOk result (λ a. a ≡ redomained self.now domain value) }
+        ensures size { (result ≡ Err ArrayFault.Size) ↔ (¬ IsSmallArray domain) }
+    {
         let mut array = DArray::new(alloc, domain, self.map(), value)?;
         let mut indices = domain.cursor();
         while let Some(index) = indices.next() {
-            array.take_over(&self, index);
+            array.take_over(self, index);
         }
         Ok(array)
     }

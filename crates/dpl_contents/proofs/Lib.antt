@@ -5,5 +5,8 @@ pub mod Expansions
 pub mod Members
 pub mod Words
 pub mod PutLemmas
+pub mod PieceWordLemmas
+pub mod PartedLemmas
+pub mod Rejoined
 pub mod Spaced
 pub mod Layouts

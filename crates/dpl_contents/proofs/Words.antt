@@ -53,7 +53,7 @@ with_word-words t w (e ∷ es) distinct =
     (index-cases t e.0)
 
 -- no index of a domain stands twice
-written-ranges : (rs : List TextRange) → AreWritten (values_of rs) → AreRanges (values_of rs)
+pub written-ranges : (rs : List TextRange) → AreWritten (values_of rs) → AreRanges (values_of rs)
 written-ranges [] written = tt
 written-ranges (r ∷ rs) written = (written.0, written-ranges rs written.2)
 
@@ -65,7 +65,7 @@ module _ (ranges : List TextRange) (a : ArrayValue ℤ) (over : IsArrayOver rang
   keys-are : indices_in ranges ≡ keys_of a.elements
   keys-are = ap indices (sym over.domain) ∙ sym over.keys.keys
 
-  held_at-seen : (t : Index) → held_at t (seen ranges a) ≡ value_at t a.elements
+  pub held_at-seen : (t : Index) → held_at t (seen ranges a) ≡ value_at t a.elements
   held_at-seen t = ap (λ ks. word_at t ks (words_of a.elements)) keys-are ∙ word_at-words t a.elements
 
   held_with-seen : (t : Index) (w : ℤ) → held_with t w (seen ranges a) ≡ seen ranges (array_with t w a)

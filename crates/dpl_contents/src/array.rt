@@ -11,14 +11,14 @@ use crate::DomainWord;
 use dpl_array::{ArrayFault, DArray, Walk};
 use dpl_domain::Index;
 use dpl_map::Map;
-use std::alloc::Global;
+use std::alloc::{AllocError, Global};
 use std::marker::Model;
 
 /// An array, seen as its domain and the word of each element.
 #[derive(Drop)]
 pub struct ArrayWords {
-    domain: DomainWord,
-    array: DArray<i64>,
+    pub(crate) domain: DomainWord,
+    pub(crate) array: DArray<i64>,
 }
 
 impl Model for ArrayWords {
@@ -154,6 +154,20 @@ impl ArrayWords {
         ensures size { (result ≡ Err ArrayFault.Size) ↔ (too_large domain ≡ true) }
     {
         let array = self.array.redomain(alloc, domain.domain(), 0)?;
+        Ok(ArrayWords { domain, array })
+    }
+
+    /// The same array once more.
+    ///
+    /// # Errors
+    /// Out of memory.
+    pub fn copied(&self, alloc: Global) -> Result<ArrayWords, AllocError>
+        ensures { IfOk result (λ a. a ≡ self.now) }
+    {
+        let domain = self.domain;
+        let Ok(array) = self.array.copied(alloc, domain.domain(), 0) else {
+            return Err(AllocError);
+        };
         Ok(ArrayWords { domain, array })
     }
 

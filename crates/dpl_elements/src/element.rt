@@ -16,9 +16,9 @@ ghost use Rattle.dpl_nodes.specs.Typed.{int_view, truth_view, index_exprs};
 ghost use Rattle.dpl_frame.specs.Faults.{Tells};
 ghost use Rattle.dpl_nodes.specs.Steps.{array_leaf, element_set};
 ghost use Rattle.dpl_loop.specs.Entries.{MayRefuseSome};
-ghost use Rattle.dpl_loop.specs.Runs.{RunsTo};
+ghost use Rattle.dpl_loop.specs.Runs.{RunsTo, RunEnds};
 ghost use Rattle.dpl_loop.specs.Values.{Gives};
-ghost use Rattle.dpl_elements.specs.Changes.{memory_after, ends_as, signed, if_there, put_memory};
+ghost use Rattle.dpl_elements.specs.Changes.{signed, if_there, put_memory};
 
 use dpl_domain::Index;
 use dpl_frame::{Alarm, Arrays, FaultCode, Frame, Trap, Turn};
@@ -104,26 +104,25 @@ fn combine<A: Arrays>(
     index: Index,
     value: i64,
     frame: &mut Frame<A>,
-) -> Result<(), Trap>
-    ensures ends { (done : Deeds)
-        → change frame.old.limits in_memory (array_leaf IntKind name.now) (signed op sign.now) index (Int value) frame.old.memory done
-        ≡ ends_as (memory_after result frame.new.memory) done }
+) -> Result<(), Stop>
+    ensures ends { (done : Deeds) → RunEnds result frame.new.memory done
+        (change frame.old.limits in_memory (array_leaf IntKind name.now) (signed op sign.now) index (Int value) frame.old.memory done) }
     ensures limits { frame.new.limits ≡ frame.old.limits }
 {
     let Some(old) = frame.element(name.slot, index) else {
-        return Err(Trap::new(FaultCode::Outside, *name.at));
+        return ended(Err(Trap::new(FaultCode::Outside, *name.at)));
     };
     if divides(op) && value == 0 {
-        return Err(Trap::new(FaultCode::ZeroDivisor, *sign));
+        return ended(Err(Trap::new(FaultCode::ZeroDivisor, *sign)));
     }
-    frame.put(name.slot, index, assigned(op, old, value));
+    frame.put(name.slot, index, assigned(op, old, value))?;
     Ok(())
 }
 
 /// An element is changed.
 ///
 /// # Errors
-/// `F1` at the array's name for an index outside it; `F2` at the operator for a division by zero.
+/// `F1` at the array's name for an index outside it; `F2` at the operator for a division by zero; or out of memory.
 pub(crate) fn change<A: Arrays>(
     name: &ArrayName<'_>,
     op: Assign,
@@ -131,14 +130,14 @@ pub(crate) fn change<A: Arrays>(
     index: Index,
     value: i64,
     frame: &mut Frame<A>,
-) -> Result<(), Trap>
-    ensures ends { (done : Deeds)
-        → change frame.old.limits in_memory (array_leaf IntKind name.now) (signed op sign.now) index (Int value) frame.old.memory done
-        ≡ ends_as (memory_after result frame.new.memory) done }
+) -> Result<(), Stop>
+    ensures ends { (done : Deeds) → RunEnds result frame.new.memory done
+        (change frame.old.limits in_memory (array_leaf IntKind name.now) (signed op sign.now) index (Int value) frame.old.memory done) }
     ensures limits { frame.new.limits ≡ frame.old.limits }
 {
     if replaces(op) {
-        return told(name, frame.put(name.slot, index, value));
+        let there = frame.put(name.slot, index, value)?;
+        return ended(told(name, there));
     }
     combine(name, op, sign, index, value, frame)
 }
@@ -146,19 +145,19 @@ pub(crate) fn change<A: Arrays>(
 /// An element that is a truth value is set.
 ///
 /// # Errors
-/// `F1` at the array's name for an index outside it.
+/// `F1` at the array's name for an index outside it; or out of memory.
 pub(crate) fn change_truth<A: Arrays>(
     name: &ArrayName<'_>,
     index: Index,
     value: bool,
     frame: &mut Frame<A>,
-) -> Result<(), Trap>
-    ensures ends { (at : Place) (done : Deeds)
-        → change frame.old.limits in_memory (array_leaf BoolKind name.now) (signed Set at) index (Truth value) frame.old.memory done
-        ≡ ends_as (memory_after result frame.new.memory) done }
+) -> Result<(), Stop>
+    ensures ends { (at : Place) (done : Deeds) → RunEnds result frame.new.memory done
+        (change frame.old.limits in_memory (array_leaf BoolKind name.now) (signed Set at) index (Truth value) frame.old.memory done) }
     ensures limits { frame.new.limits ≡ frame.old.limits }
 {
-    told(name, frame.put(name.slot, index, i64::from(value)))
+    let there = frame.put(name.slot, index, i64::from(value))?;
+    ended(told(name, there))
 }
 
 // The same, for a caller that has a place for the turn of a fault.
@@ -191,22 +190,26 @@ fn put_word<A: Arrays, G: Gate>(
     match t {
         IndexExpr::Line(i) => {
             let i = coordinate_value(i, frame, gate, turn)?;
-            told_in(name, frame.put_line(name.slot, i, word), turn)
+            let there = frame.put_line(name.slot, i, word)?;
+            told_in(name, there, turn)
         }
         IndexExpr::Plane(i, j) => {
             let i = coordinate_value(i, frame, gate, turn)?;
             let j = coordinate_value(j, frame, gate, turn)?;
-            told_in(name, frame.put_plane(name.slot, i, j, word), turn)
+            let there = frame.put_plane(name.slot, i, j, word)?;
+            told_in(name, there, turn)
         }
         IndexExpr::Space(i, j, k) => {
             let i = coordinate_value(i, frame, gate, turn)?;
             let j = coordinate_value(j, frame, gate, turn)?;
             let k = coordinate_value(k, frame, gate, turn)?;
-            told_in(name, frame.put_space(name.slot, i, j, k, word), turn)
+            let there = frame.put_space(name.slot, i, j, k, word)?;
+            told_in(name, there, turn)
         }
         IndexExpr::Tuple(tuple) => {
             let index = frame.tuple(*tuple);
-            told_in(name, frame.put(name.slot, index, word), turn)
+            let there = frame.put(name.slot, index, word)?;
+            told_in(name, there, turn)
         }
     }
 }
@@ -235,7 +238,7 @@ fn put_at<A: Arrays, G: Gate>(
 /// An assignment to an element: the right side, then the indices, then the change.
 ///
 /// # Errors
-/// The fault of a part; `F1` at the array's name; `F2` at the operator.
+/// The fault of a part; `F1` at the array's name; `F2` at the operator; or out of memory.
 #[inline(always)]
 pub fn set_element<A: Arrays, G: Gate>(
     name: &ArrayName<'_>,
@@ -256,13 +259,13 @@ pub fn set_element<A: Arrays, G: Gate>(
         return put_at(name, t, value, frame, gate);
     }
     let index = index_value(t, frame, gate)?;
-    ended(combine(name, op, sign, index, value, frame))
+    combine(name, op, sign, index, value, frame)
 }
 
 /// The same of an element that is a truth value.
 ///
 /// # Errors
-/// The fault of a part; `F1` at the array's name.
+/// The fault of a part; `F1` at the array's name; or out of memory.
 #[inline(always)]
 pub fn set_truth_element<A: Arrays, G: Gate>(
     name: &ArrayName<'_>,

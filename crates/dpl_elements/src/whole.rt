@@ -27,7 +27,6 @@ use crate::element::{change, change_truth};
 use crate::row::put_row;
 use dpl_domain::Index;
 use dpl_frame::{Arrays, DomainWord, Frame};
-use dpl_loop::stop::told;
 use dpl_loop::{Crew, OpenGate, Stop, Turns};
 use dpl_nodes::{ArrayName, PromotedInt, PromotedTruth, Spot};
 use dpl_strips::index::coordinate;
@@ -50,7 +49,7 @@ impl<'e> Turns for Fill<'e> {
 
     #[inline(always)]
     fn make<A: Arrays>(&self, index: Index, frame: &mut Frame<A>) -> Result<(), Stop> {
-        told(change(self.name, self.op, self.sign, index, self.value, frame))
+        change(self.name, self.op, self.sign, index, self.value, frame)
     }
 
     fn make_row<A: Arrays>(&self, first: Index, most: usize, frame: &mut Frame<A>) -> usize {
@@ -75,7 +74,7 @@ impl<'e, 'x> Turns for Promote<'e, 'x> {
     #[inline(always)]
     fn make<A: Arrays>(&self, index: Index, frame: &mut Frame<A>) -> Result<(), Stop> {
         let value = promoted_int_value(self.e, &index, frame, &OpenGate)?;
-        told(change(self.name, self.op, self.sign, index, value, frame))
+        change(self.name, self.op, self.sign, index, value, frame)
     }
 
     fn make_row<A: Arrays>(&self, first: Index, most: usize, frame: &mut Frame<A>) -> usize {
@@ -97,7 +96,7 @@ impl<'e> Turns for FillTruth<'e> {
 
     #[inline(always)]
     fn make<A: Arrays>(&self, index: Index, frame: &mut Frame<A>) -> Result<(), Stop> {
-        told(change_truth(self.name, index, self.value, frame))
+        change_truth(self.name, index, self.value, frame)
     }
 }
 
@@ -116,7 +115,7 @@ impl<'e, 'x> Turns for PromoteTruth<'e, 'x> {
     #[inline(always)]
     fn make<A: Arrays>(&self, index: Index, frame: &mut Frame<A>) -> Result<(), Stop> {
         let value = promoted_truth_value(self.e, &index, frame, &OpenGate)?.get();
-        told(change_truth(self.name, index, value, frame))
+        change_truth(self.name, index, value, frame)
     }
 }
 

@@ -2,3 +2,4 @@ pub mod Kept
 pub mod EmptySlots
 pub mod Redomained
 pub mod Dealing
+pub mod OwnShares

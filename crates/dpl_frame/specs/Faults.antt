@@ -1,5 +1,5 @@
 -- The faults that words stand for, and what a walk hands back.
-use Rattle.std.specs.Prelude.{◌≡◌, ℕ, ◌^◌, ◌/◌, ◌%◌, zero, suc, nat_lt, ℤ, Bool, if◌then◌else◌, Option, Some, None, Result, Ok, Err, List, [], ◌∷◌}
+use Rattle.std.specs.Prelude.{◌≡◌, ℕ, ◌^◌, ◌/◌, ◌%◌, ◌-◌, zero, suc, nat_lt, ℤ, Bool, if◌then◌else◌, Option, Some, None, Result, Ok, Err, List, [], ◌∷◌}
 use Rattle.dpl_sets.specs.TextRanges.{TextRange}
 use Rattle.dpl_language.specs.Values.{Value, Int, Truth, Range, Domain, FaultCode, Outside, ZeroDivisor, PastLimit, EmptyEnd, Budget, NoLocale, CellStuck, ArrayTooLarge, Turn, InNone, InTurn, Fault, in_the_turn}
 use Rattle.dpl_frame.specs.declared.fault.Turn.{Turn as TurnNode}
@@ -33,26 +33,39 @@ fault_view f = record { code = f.code; at = f.at; turn = turn_view f.turn }
 abbrev pub fault_of : ℕ → Fault
 fault_of w = record { code = code_of (w / 2 ^ 42); at = record { line = w / 2097152 % 2097152; column = w % 2097152 }; turn = InNone }
 
--- why a walk ended early: by a fault, or because a gate refused an entry
+-- why a walk ended early: by a fault, because a gate refused an entry, or out of memory
 pub data Halt : Type 0 where
   Faulted : Fault → Halt
   Refused : Halt
+  OutOfMemory : Halt
 
--- what a word stands for: behind the numbers of the eight codes stands that of a refusal
+-- what the numbers behind those of the eight codes stand for
+abbrev pub refusal_of : ℕ → Halt
+refusal_of zero = Refused
+refusal_of (suc n) = OutOfMemory
+
+-- what a word stands for
 abbrev pub halt_of : ℕ → Halt
-halt_of w = if nat_lt (w / 2 ^ 42) 8 then Faulted (fault_of w) else Refused
+halt_of w = if nat_lt (w / 2 ^ 42) 8 then Faulted (fault_of w) else refusal_of (w / 2 ^ 42 - 8)
+
+-- which of several ends is told, the least first: that memory ran out before a refused entry, and each before a fault
+abbrev pub halt_rank : Halt → ℕ
+halt_rank OutOfMemory = 0
+halt_rank Refused = 1
+halt_rank (Faulted f) = 2
 
 -- the fault that is told, in a turn; a refusal tells none
 abbrev pub fault_in : Turn → Halt → Option Fault
 fault_in t (Faulted f) = Some (in_the_turn t f)
-fault_in t Refused = None
+fault_in t _ = None
 
 -- What a walk hands back, with the turn that stands beside it, tells a value, or its fault in that turn; or an entry was refused,
--- which may be.
+-- which may be. Where memory ran out nothing is said.
 abbrev pub Tells : {A B : Type 0} → Type 0 → (A → B) → TurnNode → Result A Halt → Result B Fault → Type 0
 Tells may value t (Ok a) v = v ≡ Ok (value a)
 Tells may value t (Err (Faulted f)) v = v ≡ Err (in_the_turn (turn_view t) f)
 Tells may value t (Err Refused) v = may
+Tells may value t (Err OutOfMemory) v = Unit {0}
 
 -- the value of a range
 abbrev pub as_range : RangeWord → Value

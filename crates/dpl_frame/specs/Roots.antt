@@ -1,7 +1,7 @@
 -- Roots as a frame keeps them, as the language's; and the map that a root gets by a layout.
 use Rattle.std.specs.Prelude.{List, map}
 use Rattle.dpl_sets.specs.TextDomains.{values_of}
-use Rattle.dpl_map.specs.Maps.{AxisValue, whole_map}
+use Rattle.dpl_map.specs.Maps.{AxisValue}
 use Rattle.dpl_layout.specs.declared.named.Named.{Named}
 use Rattle.dpl_layout.specs.declared.named.Named.TheVariants.{Whole, Block, Cyclic, BlockCyclic}
 use Rattle.dpl_layout.specs.Layouts.{LayoutValue}

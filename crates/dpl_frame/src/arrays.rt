@@ -1,7 +1,7 @@
 // The arrays of a frame, however they are kept: read, written and declared by their slots.
 // A slot without an array holds the array over `{1..0}`, which has no elements.
 
-ghost use Rattle.std.specs.Prelude.{◌≡◌, ◌≤◌, ◌<◌, ℕ, ℤ, List, [], ◌∷◌, Some, true, false, is_some, length, get_or, set, slice_get, OnOk};
+ghost use Rattle.std.specs.Prelude.{◌≡◌, ◌≤◌, ◌<◌, ℕ, ℤ, List, [], ◌∷◌, Some, true, false, is_some, length, get_or, set, slice_get, IfOk, OnOk};
 ghost use Rattle.dpl_array.specs.Elements.{behind, put_in_row};
 ghost use Rattle.dpl_language.specs.Ranges.{too_large};
 ghost use Rattle.dpl_memory.specs.Memory.{Held, no_array, held_at, held_with, is_some_array, redomained_from};
@@ -11,7 +11,7 @@ use dpl_domain::Index;
 use std::alloc::{AllocError, Global};
 
 /// The arrays of some slots. A frame is generic in them.
-pub trait Arrays {
+pub trait Arrays: Drop {
     // The arrays of all slots.
     ghost held: { Self → List Held };
 
@@ -41,24 +41,35 @@ pub trait Arrays {
         ensures { (k : ℕ) (word : ℤ) → slice_get result.now k ≡ Some word → held_at (behind k index) (get_or (held self.now) slot no_array) ≡ Some word };
 
     /// Puts a word at an index of the array in a slot. False if the array hasn't got it, and then nothing is changed.
-    fn put(&mut self, slot: usize, index: Index, word: i64) -> bool
-        ensures there { result ≡ is_some (held_at index (get_or (held self.old) slot no_array)) }
-        ensures changes { held self.new ≡ set (held self.old) slot (held_with index word (get_or (held self.old) slot no_array)) };
+    ///
+    /// # Errors
+    /// Out of memory for a copy, where the array isn't the frame's own; then nothing is said of the arrays.
+    fn put(&mut self, slot: usize, index: Index, word: i64) -> Result<bool, AllocError>
+        ensures there { IfOk result (λ there. there ≡ is_some (held_at index (get_or (held self.old) slot no_array))) }
+        ensures changes { OnOk result (held self.new ≡ set (held self.old) slot (held_with index word (get_or (held self.old) slot no_array))) };
 
     /// The same at one coordinate.
-    fn put_line(&mut self, slot: usize, i: i64, word: i64) -> bool
-        ensures there { result ≡ is_some (held_at (i ∷ []) (get_or (held self.old) slot no_array)) }
-        ensures changes { held self.new ≡ set (held self.old) slot (held_with (i ∷ []) word (get_or (held self.old) slot no_array)) };
+    fn put_line(&mut self, slot: usize, i: i64, word: i64) -> Result<bool, AllocError>
+        ensures there { IfOk result (λ there. there ≡ is_some (held_at (i ∷ []) (get_or (held self.old) slot no_array))) }
+        ensures changes { OnOk result (held self.new ≡ set (held self.old) slot (held_with (i ∷ []) word (get_or (held self.old) slot no_array))) };
 
     /// The same at two coordinates.
-    fn put_plane(&mut self, slot: usize, i: i64, j: i64, word: i64) -> bool
-        ensures there { result ≡ is_some (held_at (i ∷ j ∷ []) (get_or (held self.old) slot no_array)) }
-        ensures changes { held self.new ≡ set (held self.old) slot (held_with (i ∷ j ∷ []) word (get_or (held self.old) slot no_array)) };
+    fn put_plane(&mut self, slot: usize, i: i64, j: i64, word: i64) -> Result<bool, AllocError>
+        ensures there { IfOk result (λ there. there ≡ is_some (held_at (i ∷ j ∷ []) (get_or (held self.old) slot no_array))) }
+        ensures changes { OnOk result (held self.new ≡ set (held self.old) slot (held_with (i ∷ j ∷ []) word (get_or (held self.old) slot no_array))) };
 
     /// The same at three coordinates.
-    fn put_space(&mut self, slot: usize, i: i64, j: i64, k: i64, word: i64) -> bool
-        ensures there { result ≡ is_some (held_at (i ∷ j ∷ k ∷ []) (get_or (held self.old) slot no_array)) }
-        ensures changes { held self.new ≡ set (held self.old) slot (held_with (i ∷ j ∷ k ∷ []) word (get_or (held self.old) slot no_array)) };
+    fn put_space(
+        &mut self,
+        slot: usize,
+        i: i64,
+        j: i64,
+        k: i64,
+        word: i64,
+    ) -> Result<bool, AllocError>
+        ensures there { IfOk result (λ there. there ≡ is_some (held_at (i ∷ j ∷ k ∷ []) (get_or (held self.old) slot no_array))) }
+        ensures changes { OnOk result (held self.new
+            ≡ set (held self.old) slot (held_with (i ∷ j ∷ k ∷ []) word (get_or (held self.old) slot no_array))) };
 
     /// Puts the first of some words at an index of the array in a slot and at those behind it in its last dimension, as many as stand side by
     /// side, and answers how many were put. There may be none, though the array has the index; they spare a loop the writes one by one.

@@ -5,7 +5,7 @@ ghost use Rattle.std.specs.Prelude.{◌≡◌, ◌≤◌, ◌<◌, ℕ, ℤ, pos
 ghost use Rattle.dpl_array.specs.Elements.{behind, put_in_row};
 ghost use Rattle.dpl_language.specs.Ranges.{indices_in, too_large};
 ghost use Rattle.dpl_language.specs.Distributions.{no_root};
-ghost use Rattle.dpl_memory.specs.Memory.{whole_held, array_at, held_at, held_with, is_some_array, redomained_from, with_array, with_root};
+ghost use Rattle.dpl_memory.specs.Memory.{whole_held, no_array, array_at, held_at, held_with, is_some_array, redomained_from, with_array, with_root};
 ghost use Rattle.dpl_frame.specs.Frames.{with_memory, held_in};
 
 use crate::arrays::Arrays;
@@ -24,6 +24,14 @@ impl Frame<Slots> {
         ensures { held_in (option_map (λ a. a.now) result) ≡ array_at slot self.now.memory }
     {
         self.arrays.array(slot)
+    }
+
+    /// Takes the array out of a slot, if it has one; then it has none.
+    pub fn take_array(&mut self, slot: usize) -> Option<ArrayWords>
+        ensures array { held_in result ≡ array_at slot self.old.memory }
+        ensures leaves { self.new ≡ with_memory (with_array slot no_array self.old.memory) self.old }
+    {
+        self.arrays.take(slot)
     }
 
     /// The arrays of all slots, of a frame that is done with.
@@ -85,37 +93,64 @@ impl<A: Arrays> Frame<A> {
     }
 
     /// Puts a word at one coordinate of the array in a slot. False if the array hasn't got it, and then nothing is changed.
+    ///
+    /// # Errors
+    /// Out of memory for a copy, where the array isn't the frame's own; then nothing is said of the arrays.
     #[inline(always)]
-    pub fn put_line(&mut self, slot: usize, i: i64, word: i64) -> bool
-        ensures there { result ≡ is_some (held_at (i ∷ []) (array_at slot self.old.memory)) }
-        ensures changes { self.new ≡ with_memory (with_array slot (held_with (i ∷ []) word (array_at slot self.old.memory)) self.old.memory) self.old }
+    pub fn put_line(&mut self, slot: usize, i: i64, word: i64) -> Result<bool, AllocError>
+        ensures there { IfOk result (λ there. there ≡ is_some (held_at (i ∷ []) (array_at slot self.old.memory))) }
+        ensures changes { OnOk result (self.new
+            ≡ with_memory (with_array slot (held_with (i ∷ []) word (array_at slot self.old.memory)) self.old.memory) self.old) }
+        ensures limits { self.new.limits ≡ self.old.limits }
     {
         self.arrays.put_line(slot, i, word)
     }
 
     /// Puts a word at two coordinates of the array in a slot. False if the array hasn't got them, and then nothing is changed.
+    ///
+    /// # Errors
+    /// Out of memory for a copy, where the array isn't the frame's own; then nothing is said of the arrays.
     #[inline(always)]
-    pub fn put_plane(&mut self, slot: usize, i: i64, j: i64, word: i64) -> bool
-        ensures there { result ≡ is_some (held_at (i ∷ j ∷ []) (array_at slot self.old.memory)) }
-        ensures changes { self.new ≡ with_memory (with_array slot (held_with (i ∷ j ∷ []) word (array_at slot self.old.memory)) self.old.memory) self.old }
+    pub fn put_plane(&mut self, slot: usize, i: i64, j: i64, word: i64) -> Result<bool, AllocError>
+        ensures there { IfOk result (λ there. there ≡ is_some (held_at (i ∷ j ∷ []) (array_at slot self.old.memory))) }
+        ensures changes { OnOk result (self.new
+            ≡ with_memory (with_array slot (held_with (i ∷ j ∷ []) word (array_at slot self.old.memory)) self.old.memory) self.old) }
+        ensures limits { self.new.limits ≡ self.old.limits }
     {
         self.arrays.put_plane(slot, i, j, word)
     }
 
     /// Puts a word at three coordinates of the array in a slot. False if the array hasn't got them, and then nothing is changed.
+    ///
+    /// # Errors
+    /// Out of memory for a copy, where the array isn't the frame's own; then nothing is said of the arrays.
     #[inline(always)]
-    pub fn put_space(&mut self, slot: usize, i: i64, j: i64, k: i64, word: i64) -> bool
-        ensures there { result ≡ is_some (held_at (i ∷ j ∷ k ∷ []) (array_at slot self.old.memory)) }
-        ensures changes { self.new ≡ with_memory (with_array slot (held_with (i ∷ j ∷ k ∷ []) word (array_at slot self.old.memory)) self.old.memory) self.old }
+    pub fn put_space(
+        &mut self,
+        slot: usize,
+        i: i64,
+        j: i64,
+        k: i64,
+        word: i64,
+    ) -> Result<bool, AllocError>
+        ensures there { IfOk result (λ there. there ≡ is_some (held_at (i ∷ j ∷ k ∷ []) (array_at slot self.old.memory))) }
+        ensures changes { OnOk result (self.new
+            ≡ with_memory (with_array slot (held_with (i ∷ j ∷ k ∷ []) word (array_at slot self.old.memory)) self.old.memory) self.old) }
+        ensures limits { self.new.limits ≡ self.old.limits }
     {
         self.arrays.put_space(slot, i, j, k, word)
     }
 
     /// Puts a word at an index of the array in a slot. False if the array hasn't got it, and then nothing is changed.
+    ///
+    /// # Errors
+    /// Out of memory for a copy, where the array isn't the frame's own; then nothing is said of the arrays.
     #[inline(always)]
-    pub fn put(&mut self, slot: usize, index: Index, word: i64) -> bool
-        ensures there { result ≡ is_some (held_at index (array_at slot self.old.memory)) }
-        ensures changes { self.new ≡ with_memory (with_array slot (held_with index word (array_at slot self.old.memory)) self.old.memory) self.old }
+    pub fn put(&mut self, slot: usize, index: Index, word: i64) -> Result<bool, AllocError>
+        ensures there { IfOk result (λ there. there ≡ is_some (held_at index (array_at slot self.old.memory))) }
+        ensures changes { OnOk result (self.new
+            ≡ with_memory (with_array slot (held_with index word (array_at slot self.old.memory)) self.old.memory) self.old) }
+        ensures limits { self.new.limits ≡ self.old.limits }
     {
         self.arrays.put(slot, index, word)
     }
@@ -141,6 +176,13 @@ impl<A: Arrays> Frame<A> {
         ensures { IfOk result (λ a. a ≡ whole_held domain (map (λ t. pos 0) (indices_in domain))) }
     {
         filled(self.alloc, domain, owner, 0)
+    }
+
+    /// Puts an array into a slot, whose root stays; past the last one it does nothing.
+    pub fn keep_array(&mut self, slot: usize, array: ArrayWords)
+        ensures { self.new ≡ with_memory (with_array slot array self.old.memory) self.old }
+    {
+        self.arrays.keep(slot, array);
     }
 
     /// Declares an array in a slot, which has no root until it is dealt; past the last one it does nothing.

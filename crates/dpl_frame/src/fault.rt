@@ -1,13 +1,14 @@
 // What a walk hands back beside a value: a fault in one word, and a truth value in one word.
 // Results of one word and one tag stay in registers; the turn that a fault names stands beside them.
 
-ghost use Rattle.std.specs.Prelude.{◌≡◌, ◌<◌, ◌/◌, option_map};
-ghost use Rattle.dpl_language.specs.Values.{fault, Fault as FaultValue, InNone, InTurn, in_the_turn};
-ghost use Rattle.dpl_frame.specs.Faults.{code_of, turn_view, fault_view, fault_of, fault_in, Faulted, Refused};
+ghost use Rattle.std.specs.Prelude.{◌≡◌, ◌↔◌, ◌<◌, ◌/◌, Some, option_map, IsTrue};
+ghost use Rattle.dpl_language.specs.Values.{fault, Fault as FaultValue, Index as IndexValue, InNone, InTurn, in_the_turn};
+ghost use Rattle.dpl_frame.specs.Faults.{code_of, turn_view, fault_view, fault_of, fault_in, halt_rank, Faulted, Refused, OutOfMemory};
 
 use dpl_domain::Index;
 use dpl_nodes::Spot;
 use dpl_syntax::{FaultCode, Place};
+use std::alloc::AllocError;
 use std::marker::Model;
 
 // The number of a code in a word.
@@ -66,6 +67,20 @@ impl Turn {
     }
 }
 
+impl Turn {
+    /// The index of the turn, if there is one.
+    pub fn index(&self) -> Option<Index>
+        ensures { (t : IndexValue) → turn_view self.now ≡ InTurn t → result ≡ Some t }
+    {
+        match self {
+            Turn::Absent => None,
+            Turn::Line(i) => Some(Index::new(&[*i]).unwrap()),
+            Turn::Plane(i, j) => Some(Index::new(&[*i, *j]).unwrap()),
+            Turn::Space(i, j, k) => Some(Index::new(&[*i, *j, *k]).unwrap()),
+        }
+    }
+}
+
 /// A fault: which it is, where it arose, and in which turn, if in one.
 #[derive(Clone, Copy, PartialEq, Eq, Debug)]
 pub struct Fault {
@@ -100,8 +115,8 @@ fn unpacked(word: u64, turn: Turn) -> Fault
     }
 }
 
-/// Why a walk ended early, in one word: a fault, by its code, its line and its column, or that a gate refused an entry. The turn that
-/// a fault names stands beside it.
+/// Why a walk ended early, in one word: a fault, by its code, its line and its column; that a gate refused an entry, or that memory ran
+/// out. The turn that a fault names stands beside it.
 #[derive(Drop)]
 pub struct Alarm {
     word: u64,
@@ -138,7 +153,34 @@ impl Alarm {
         Alarm { word: 8 * CODE }
     }
 
-    /// The fault, in the turn that stands beside it; none where a gate refused.
+    /// Memory ran out.
+    #[cold]
+    #[inline(never)]
+    pub fn out_of_memory() -> Alarm
+        ensures { result ≡ OutOfMemory }
+    {
+        Alarm { word: 9 * CODE }
+    }
+
+    /// Whether memory ran out.
+    pub fn is_out_of_memory(&self) -> bool
+        ensures { IsTrue result ↔ (self.now ≡ OutOfMemory) }
+    {
+        9 <= self.word / CODE
+    }
+
+    /// Which of several is told, the least first: 0 where memory ran out, 1 where an entry was refused, and 2 for a fault.
+    pub fn rank(&self) -> u32
+        ensures { result ≡ halt_rank self.now }
+    {
+        match self.word / CODE {
+            0..=7 => 2,
+            8 => 1,
+            _ => 0,
+        }
+    }
+
+    /// The fault, in the turn that stands beside it; none where something was refused.
     #[cold]
     #[inline(never)]
     pub fn fault(self, turn: &Turn) -> Option<Fault>
@@ -151,7 +193,7 @@ impl Alarm {
         }
     }
 
-    /// The fault, in the turn that stands beside it. Nothing is said of what is handed back where a gate refused.
+    /// The fault, in the turn that stands beside it. Nothing is said of what is handed back where something was refused.
     #[cold]
     #[inline(never)]
     pub fn in_turn(self, turn: &Turn) -> Trap
@@ -161,6 +203,17 @@ impl Alarm {
             word: self.word,
             turn: *turn,
         }
+    }
+}
+
+impl From<AllocError> for Alarm {
+    ghost use Rattle.std.specs.Prelude.{◌≡◌};
+    ghost use Rattle.dpl_frame.specs.Faults.{OutOfMemory};
+
+    ghost from_gives = { λ _ e. e ≡ OutOfMemory };
+
+    fn from(_: AllocError) -> Alarm {
+        Alarm::out_of_memory()
     }
 }
 

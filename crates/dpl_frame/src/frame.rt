@@ -35,19 +35,19 @@ fn no_tuple() -> Index
 /// and shows in nothing that it stands for.
 #[derive(Drop)]
 pub struct Frame<A: Arrays = Slots> {
-    numbers: Vec<i64>,
-    ranges: Vec<RangeWord>,
-    domains: Vec<DomainWord>,
-    tuples: Vec<Index>,
+    pub(crate) numbers: Vec<i64>,
+    pub(crate) ranges: Vec<RangeWord>,
+    pub(crate) domains: Vec<DomainWord>,
+    pub(crate) tuples: Vec<Index>,
     pub(crate) alloc: Global,
     pub(crate) arrays: A,
-    intents: Vec<Intent>,
-    sets: Vec<(usize, i64)>,
-    budget: u64,
-    locales: u32,
-    layout: Layout,
-    roots: Vec<Root>,
-    owners: Vec<Map>,
+    pub(crate) intents: Vec<Intent>,
+    pub(crate) sets: Vec<(usize, i64)>,
+    pub(crate) budget: u64,
+    pub(crate) locales: u32,
+    pub(crate) layout: Layout,
+    pub(crate) roots: Vec<Root>,
+    pub(crate) owners: Vec<Map>,
 }
 
 impl<A: Arrays> Model for Frame<A> {

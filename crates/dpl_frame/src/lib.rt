@@ -10,7 +10,10 @@ pub mod fault;
 mod filled;
 pub mod frame;
 pub mod root;
+pub mod share;
+pub mod shares;
 pub mod slots;
+mod worker;
 
 pub use arrays::Arrays;
 pub use dpl_contents::{DomainWord, RangeWord};
@@ -18,4 +21,7 @@ pub use dpl_syntax::FaultCode;
 pub use fault::{Alarm, Fault, Trap, Truth, Turn};
 pub use frame::Frame;
 pub use root::{Distribution, Root};
+pub use share::Share;
+pub use shares::Shares;
 pub use slots::Slots;
+pub use worker::PlainWords;

@@ -159,6 +159,26 @@ impl Slots {
         self.arrays
     }
 
+    /// How many slots there are.
+    pub fn len(&self) -> usize
+        ensures { result ≡ length self.now }
+    {
+        self.arrays.len()
+    }
+
+    /// Takes the array out of a slot, if it has one; then it has none.
+    #[tactic(auto, using(crate::proofs::EmptySlots::put_past, crate::proofs::EmptySlots::none_past, crate::proofs::EmptySlots::held_within, crate::proofs::EmptySlots::held_set))]
+    pub fn take(&mut self, slot: usize) -> Option<ArrayWords>
+        ensures array { held_in result ≡ get_or self.old slot no_array }
+        ensures leaves { self.new ≡ set self.old slot no_array }
+    {
+        if slot < self.arrays.len() {
+            self.arrays[slot].take()
+        } else {
+            None
+        }
+    }
+
     // Gives the array in a slot another domain, if its slot is one of some.
     fn redomain_one(
         &mut self,
@@ -239,7 +259,7 @@ impl Arrays for Slots {
 
     // As for reads.
     #[inline(always)]
-    fn put(&mut self, slot: usize, index: Index, word: i64) -> bool {
+    fn put(&mut self, slot: usize, index: Index, word: i64) -> Result<bool, AllocError> {
         let (outer, middle, inner) = index.numbers();
         match index.rank() {
             1 => self.put_line(slot, inner, word),
@@ -250,31 +270,38 @@ impl Arrays for Slots {
 
     #[tactic(auto, using(crate::proofs::EmptySlots::put_past, crate::proofs::EmptySlots::none_past, crate::proofs::EmptySlots::held_within, crate::proofs::EmptySlots::held_set, crate::proofs::EmptySlots::held_at_none))]
     #[inline(always)]
-    fn put_line(&mut self, slot: usize, i: i64, word: i64) -> bool {
+    fn put_line(&mut self, slot: usize, i: i64, word: i64) -> Result<bool, AllocError> {
         if slot < self.arrays.len() {
-            put_line_in(&mut self.arrays[slot], i, word)
+            Ok(put_line_in(&mut self.arrays[slot], i, word))
         } else {
-            false
+            Ok(false)
         }
     }
 
     #[tactic(auto, using(crate::proofs::EmptySlots::put_past, crate::proofs::EmptySlots::none_past, crate::proofs::EmptySlots::held_within, crate::proofs::EmptySlots::held_set, crate::proofs::EmptySlots::held_at_none))]
     #[inline(always)]
-    fn put_plane(&mut self, slot: usize, i: i64, j: i64, word: i64) -> bool {
+    fn put_plane(&mut self, slot: usize, i: i64, j: i64, word: i64) -> Result<bool, AllocError> {
         if slot < self.arrays.len() {
-            put_plane_in(&mut self.arrays[slot], i, j, word)
+            Ok(put_plane_in(&mut self.arrays[slot], i, j, word))
         } else {
-            false
+            Ok(false)
         }
     }
 
     #[tactic(auto, using(crate::proofs::EmptySlots::put_past, crate::proofs::EmptySlots::none_past, crate::proofs::EmptySlots::held_within, crate::proofs::EmptySlots::held_set, crate::proofs::EmptySlots::held_at_none))]
     #[inline(always)]
-    fn put_space(&mut self, slot: usize, i: i64, j: i64, k: i64, word: i64) -> bool {
+    fn put_space(
+        &mut self,
+        slot: usize,
+        i: i64,
+        j: i64,
+        k: i64,
+        word: i64,
+    ) -> Result<bool, AllocError> {
         if slot < self.arrays.len() {
-            put_space_in(&mut self.arrays[slot], i, j, k, word)
+            Ok(put_space_in(&mut self.arrays[slot], i, j, k, word))
         } else {
-            false
+            Ok(false)
         }
     }
 

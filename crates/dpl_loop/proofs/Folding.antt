@@ -7,7 +7,7 @@ use Rattle.dpl_language.specs.Arithmetic.{combined}
 use Rattle.dpl_language.specs.Outcome.{with_ok}
 use Rattle.dpl_language.specs.Expressions.{folded}
 use Rattle.dpl_frame.specs.declared.fault.Turn.{Turn}
-use Rattle.dpl_frame.specs.Faults.{Halt, Faulted, Refused, Tells}
+use Rattle.dpl_frame.specs.Faults.{Halt, Faulted, Refused, OutOfMemory, Tells}
 use Rattle.dpl_loop.specs.Values.{GoesOn}
 
 -- what would follow a walk that ended early isn't looked at
@@ -15,12 +15,14 @@ pub with_ok-ends : {A B C D : Type 0} (may more : Type 0) (value : A → B) (t :
     → (may → more) → all ≡ with_ok v go → Tells may value t (Err h) v → Tells {A = D} more given t (Err h) all
 with_ok-ends may more value t (Faulted f) v go all given where_more e tells = e ∙ ap (λ r. with_ok r go) tells
 with_ok-ends may more value t Refused v go all given where_more e tells = where_more tells
+with_ok-ends may more value t OutOfMemory v go all given where_more e tells = tt
 
 -- a value that equals another, where more may be refused
 pub tells-as : {A B : Type 0} (may : Type 0) (value : A → B) (t : Turn) (more : Type 0) (r : Result A Halt) (v all : Result B Fault) → (may → more) → all ≡ v → Tells may value t r v → Tells more value t r all
 tells-as may value t more (Ok a) v all go e tells = e ∙ tells
 tells-as may value t more (Err (Faulted f)) v all go e tells = e ∙ tells
 tells-as may value t more (Err Refused) v all go e tells = go tells
+tells-as may value t more (Err OutOfMemory) v all go e tells = tt
 
 module _ (op : Op) (value : Index → Result Value Fault) (ts : List Index) (k : ℕ) (t : Index) (so_far : Value) (at : slice_get ts k ≡ Some t) where
   pub folded-at : folded op value (drop k ts) so_far ≡ with_ok (value t) (λ v. folded op value (drop (k + 1) ts) (combined op so_far v))

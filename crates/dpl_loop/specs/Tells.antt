@@ -2,7 +2,7 @@
 -- That memory ran out tells no fault, and that a gate refused tells none.
 use Rattle.std.specs.Prelude.{◌≡◌, Result, Ok, Err}
 use Rattle.dpl_language.specs.Values.{Index, Turn, Fault, InTurn, in_the_turn}
-use Rattle.dpl_frame.specs.Faults.{Halt, Faulted, Refused, fault_view}
+use Rattle.dpl_frame.specs.Faults.{Halt, Faulted, Refused, OutOfMemory, fault_view}
 use Rattle.dpl_loop.specs.declared.stop.Stop.{Stop}
 use Rattle.dpl_loop.specs.declared.stop.Stop.TheVariants as stop
 
@@ -16,6 +16,7 @@ IsFault f stop.Gate = ⊥
 abbrev pub IsHalt : Turn → Halt → Stop → Type 0
 IsHalt t (Faulted f) h = IsFault (in_the_turn t f) h
 IsHalt t Refused h = h ≡ stop.Gate
+IsHalt t OutOfMemory h = h ≡ stop.Memory
 
 -- both have ended well, or by the same fault
 abbrev pub TellsSame : Result (Unit {0}) Fault → Result (Unit {0}) Stop → Type 0

@@ -12,11 +12,11 @@ use Rattle.dpl_frame.specs.Faults.{Halt, Refused, Tells, fault_view}
 use Rattle.dpl_loop.specs.declared.stop.Stop.{Stop}
 use Rattle.dpl_loop.specs.declared.stop.Stop.TheVariants as stop
 
--- the value itself, or its fault; or an entry was refused, which may be. No memory is taken.
+-- the value itself, or its fault; or an entry was refused, which may be. Where memory ran out nothing is said; no worker is started.
 abbrev pub Gives : {A B : Type 0} → Type 0 → (A → B) → Result A Stop → Result B Fault → Type 0
 Gives may value (Ok a) v = v ≡ Ok (value a)
 Gives may value (Err (stop.Fault f)) v = v ≡ Err (fault_view f)
-Gives may value (Err stop.Memory) v = ⊥
+Gives may value (Err stop.Memory) v = Unit {0}
 Gives may value (Err stop.Thread) v = ⊥
 Gives may value (Err stop.Gate) v = may
 

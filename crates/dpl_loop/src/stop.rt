@@ -70,6 +70,9 @@ impl Stop {
     pub fn of(alarm: Alarm, turn: &Turn) -> Stop
         ensures { IsHalt (turn_view turn.now) alarm result }
     {
+        if alarm.is_out_of_memory() {
+            return Stop::Memory;
+        }
         match alarm.fault(turn) {
             Some(fault) => Stop::Fault(fault),
             None => Stop::Gate,

@@ -1,7 +1,7 @@
 // Domain variables: they are declared, and assigned together with the arrays that are declared over them.
 // What runs over a domain stands elsewhere.
 
-ghost use Rattle.std.specs.Prelude.{◌≡◌};
+ghost use Rattle.std.specs.Prelude.{◌≡◌, OnOk};
 ghost use Rattle.dpl_language.specs.Tree.{Set};
 ghost use Rattle.dpl_language.specs.Ranges.{empty_domain};
 ghost use Rattle.dpl_language.specs.Outcome.{Deeds, Done};
@@ -20,6 +20,7 @@ use dpl_frame::{Arrays, DomainWord, FaultCode, Frame, Trap};
 use dpl_loop::{Gate, Stop};
 use dpl_nodes::{Beginning, DomainExpr, DomainName, Placing, Rank, Spot};
 use dpl_values::domain_value;
+use std::alloc::AllocError;
 
 /// How many elements an array may have.
 const MOST_ELEMENTS: u64 = 16_777_216;
@@ -38,7 +39,7 @@ fn declare_value<A: Arrays, G: Gate>(
     ensures layout { frame.new.layout ≡ frame.old.layout }
 {
     let value = domain_value(e, frame, gate)?;
-    let lineage = with_value(e, value, placing, frame);
+    let lineage = with_value(e, value, placing, frame)?;
     frame.declare_domain(slot, value);
     let root = lineage.root(frame.domain(slot));
     frame.deal(slot, root);
@@ -46,16 +47,22 @@ fn declare_value<A: Arrays, G: Gate>(
 }
 
 // And without one: it has no index.
-fn declare_empty<A: Arrays>(slot: usize, rank: Rank, placing: &Placing<'_>, frame: &mut Frame<A>)
-    ensures ends { (done : Deeds) → exec frame.old.limits in_memory (domain_declared slot (Empty rank) placing.now) frame.old.memory done
-        ≡ Done frame.new.memory done }
+fn declare_empty<A: Arrays>(
+    slot: usize,
+    rank: Rank,
+    placing: &Placing<'_>,
+    frame: &mut Frame<A>,
+) -> Result<(), AllocError>
+    ensures ends { OnOk result ((done : Deeds) → exec frame.old.limits in_memory (domain_declared slot (Empty rank) placing.now) frame.old.memory done
+        ≡ Done frame.new.memory done) }
     ensures limits { frame.new.limits ≡ frame.old.limits }
     ensures layout { frame.new.layout ≡ frame.old.layout }
 {
-    let lineage = without_value(placing, frame);
+    let lineage = without_value(placing, frame)?;
     frame.declare_domain(slot, empty(rank));
     let root = lineage.root(frame.domain(slot));
     frame.deal(slot, root);
+    Ok(())
 }
 
 /// A domain's declaration, by what it begins with, and with its root.
@@ -75,7 +82,7 @@ pub(crate) fn declare_domain<A: Arrays, G: Gate>(
     match beginning {
         Beginning::Value(e) => declare_value(slot, e, placing, frame, gate),
         Beginning::Empty(rank) => {
-            declare_empty(slot, *rank, placing, frame);
+            declare_empty(slot, *rank, placing, frame)?;
             Ok(())
         }
     }

@@ -1,7 +1,7 @@
 // Which root a declared domain or array gets.
 // What tells it is evaluated before the slot is written; the root's domain is the one that the slot then holds.
 
-ghost use Rattle.std.specs.Prelude.{◌≡◌, Ok, List};
+ghost use Rattle.std.specs.Prelude.{◌≡◌, Ok, List, IfOk};
 ghost use Rattle.dpl_sets.specs.TextRanges.{TextRange};
 ghost use Rattle.dpl_language.specs.Values.{Domain as DomainValue};
 ghost use Rattle.dpl_frame.specs.Roots.{root_view};
@@ -11,6 +11,7 @@ ghost use Rattle.dpl_steps.specs.Lineages.{rooted, slot_root, valued_root, empty
 use dpl_frame::{Arrays, Distribution, DomainWord, Frame, Root};
 use dpl_nodes::{DomainExpr, Placing};
 use dpl_values::{from_least, named};
+use std::alloc::AllocError;
 
 /// What tells a root: another root, or what is named for a root of its own.
 #[derive(Clone, Copy)]
@@ -42,33 +43,44 @@ pub(crate) fn derived<A: Arrays>(origin: Option<usize>, frame: &Frame<A>) -> Lin
 }
 
 /// Of a domain that is declared with an initial value.
+///
+/// # Errors
+/// Out of memory.
 pub(crate) fn with_value<A: Arrays>(
     e: &DomainExpr<'_>,
     value: DomainWord,
     placing: &Placing<'_>,
     frame: &Frame<A>,
-) -> Lineage
+) -> Result<Lineage, AllocError>
     requires { domain_in frame.now e.now ≡ Ok (DomainValue value) }
-    ensures { (rs : List TextRange) → rooted result rs ≡ valued_root frame.now.limits e.now placing.now rs frame.now.memory }
+    ensures { IfOk result (λ lineage. (rs : List TextRange) → rooted lineage rs
+        ≡ valued_root frame.now.limits e.now placing.now rs frame.now.memory) }
 {
     match placing {
-        Placing::Derived => derived(e.origin(), frame),
-        Placing::Root => Lineage::Named(Distribution::NoMap),
-        Placing::Mapped(map) => Lineage::Named(named(map, frame)),
-        Placing::BlockCreated => Lineage::Named(Distribution::BlockOver(value)),
-        Placing::CyclicCreated => Lineage::Named(from_least(value)),
+        Placing::Derived => Ok(derived(e.origin(), frame)),
+        Placing::Root => Ok(Lineage::Named(Distribution::NoMap)),
+        Placing::Mapped(map) => Ok(Lineage::Named(named(map, frame)?)),
+        Placing::BlockCreated => Ok(Lineage::Named(Distribution::BlockOver(value))),
+        Placing::CyclicCreated => Ok(Lineage::Named(from_least(value))),
     }
 }
 
 /// Of a domain that is declared without one.
-pub(crate) fn without_value<A: Arrays>(placing: &Placing<'_>, frame: &Frame<A>) -> Lineage
-    ensures { (rs : List TextRange) → rooted result rs ≡ empty_root frame.now.limits placing.now rs frame.now.memory }
+///
+/// # Errors
+/// Out of memory.
+pub(crate) fn without_value<A: Arrays>(
+    placing: &Placing<'_>,
+    frame: &Frame<A>,
+) -> Result<Lineage, AllocError>
+    ensures { IfOk result (λ lineage. (rs : List TextRange) → rooted lineage rs
+        ≡ empty_root frame.now.limits placing.now rs frame.now.memory) }
 {
     match placing {
-        Placing::Mapped(map) => Lineage::Named(named(map, frame)),
-        Placing::Derived => Lineage::Named(Distribution::NoMap),
-        Placing::Root => Lineage::Named(Distribution::NoMap),
-        Placing::BlockCreated => Lineage::Named(Distribution::NoMap),
-        Placing::CyclicCreated => Lineage::Named(Distribution::NoMap),
+        Placing::Mapped(map) => Ok(Lineage::Named(named(map, frame)?)),
+        Placing::Derived => Ok(Lineage::Named(Distribution::NoMap)),
+        Placing::Root => Ok(Lineage::Named(Distribution::NoMap)),
+        Placing::BlockCreated => Ok(Lineage::Named(Distribution::NoMap)),
+        Placing::CyclicCreated => Ok(Lineage::Named(Distribution::NoMap)),
     }
 }

@@ -1,7 +1,7 @@
 // What a text names for a domain or an array, its arguments evaluated.
 // A map is never the cause of a fault: where an argument has no value, no map is named.
 
-ghost use Rattle.std.specs.Prelude.{◌≡◌};
+ghost use Rattle.std.specs.Prelude.{◌≡◌, IfOk};
 ghost use Rattle.dpl_language.specs.Ranges.{least_in};
 ghost use Rattle.dpl_language.specs.Roots.{or_no_map, cyclic_or_none, start_of, map_of};
 ghost use Rattle.dpl_memory.specs.Memory.{in_memory};
@@ -16,17 +16,26 @@ use crate::values::index_value;
 use dpl_domain::Index;
 use dpl_frame::{Arrays, Distribution, DomainWord, Frame, Trap, Turn};
 use dpl_layout::least;
-use dpl_loop::OpenGate;
+use dpl_loop::{OpenGate, Stop};
 use dpl_nodes::{DomainExpr, MapExpr, StartExpr};
+use std::alloc::AllocError;
 
-// A domain that a map names, or its fault. No gate is asked for a map's argument.
-fn domain_argument<A: Arrays>(d: &DomainExpr<'_>, frame: &Frame<A>) -> Result<DomainWord, Trap>
-    ensures { domain_in frame.now d.now ≡ of_domain result }
+// A domain that a map names, or its fault; or memory ran out. No gate is asked for a map's argument.
+fn domain_argument<A: Arrays>(
+    d: &DomainExpr<'_>,
+    frame: &Frame<A>,
+) -> Result<Result<DomainWord, Trap>, AllocError>
+    ensures { IfOk result (λ found. domain_in frame.now d.now ≡ of_domain found) }
 {
     let mut turn = Turn::Absent;
     match domain_value(d, frame, &OpenGate, &mut turn) {
-        Ok(domain) => Ok(domain),
-        Err(alarm) => Err(alarm.in_turn(&turn)),
+        Ok(domain) => Ok(Ok(domain)),
+        Err(alarm) => {
+            if alarm.is_out_of_memory() {
+                return Err(AllocError);
+            }
+            Ok(Err(alarm.in_turn(&turn)))
+        }
     }
 }
 
@@ -37,18 +46,19 @@ fn corner(domain: DomainWord) -> Option<Index>
     least(&domain.domain())
 }
 
-// Where a map starts; none where that has no value.
-fn start<A: Arrays>(e: &StartExpr<'_>, frame: &Frame<A>) -> Option<Index>
-    ensures { result ≡ value_or_none (start_of frame.now.limits in_memory (start_view e.now) frame.now.memory) }
+// Where a map starts; none where that has no value. Or memory ran out.
+fn start<A: Arrays>(e: &StartExpr<'_>, frame: &Frame<A>) -> Result<Option<Index>, AllocError>
+    ensures { IfOk result (λ found. found ≡ value_or_none (start_of frame.now.limits in_memory (start_view e.now) frame.now.memory)) }
 {
     match e {
         StartExpr::Index(t) => match index_value(t, frame, &OpenGate) {
-            Ok(index) => Some(index),
-            Err(_) => None,
+            Ok(index) => Ok(Some(index)),
+            Err(Stop::Fault(_)) => Ok(None),
+            Err(_) => Err(AllocError),
         },
-        StartExpr::Least(d, _, _) => match domain_argument(d, frame) {
-            Ok(domain) => corner(domain),
-            Err(_) => None,
+        StartExpr::Least(d, _, _) => match domain_argument(d, frame)? {
+            Ok(domain) => Ok(corner(domain)),
+            Err(_) => Ok(None),
         },
     }
 }
@@ -75,16 +85,23 @@ fn block_cyclic(start: Option<Index>, sizes: Option<Index>) -> Distribution
 }
 
 /// What a map's expression names.
-pub fn named<A: Arrays>(e: &MapExpr<'_>, frame: &Frame<A>) -> Distribution
-    ensures { distribution_view result ≡ or_no_map (map_of frame.now.limits in_memory (map_view e.now) frame.now.memory) }
+///
+/// # Errors
+/// Out of memory.
+pub fn named<A: Arrays>(e: &MapExpr<'_>, frame: &Frame<A>) -> Result<Distribution, AllocError>
+    ensures { IfOk result (λ named. distribution_view named
+        ≡ or_no_map (map_of frame.now.limits in_memory (map_view e.now) frame.now.memory)) }
 {
     match e {
-        MapExpr::Block(d) => match domain_argument(d, frame) {
-            Ok(domain) => Distribution::BlockOver(domain),
-            Err(_) => Distribution::NoMap,
+        MapExpr::Block(d) => match domain_argument(d, frame)? {
+            Ok(domain) => Ok(Distribution::BlockOver(domain)),
+            Err(_) => Ok(Distribution::NoMap),
         },
-        MapExpr::Cyclic(from) => cyclic(start(from, frame)),
-        MapExpr::BlockCyclic(from, sizes) => block_cyclic(start(from, frame), start(sizes, frame)),
+        MapExpr::Cyclic(from) => Ok(cyclic(start(from, frame)?)),
+        MapExpr::BlockCyclic(from, sizes) => {
+            let from = start(from, frame)?;
+            Ok(block_cyclic(from, start(sizes, frame)?))
+        }
     }
 }
 

@@ -10,9 +10,9 @@ ghost use Rattle.dpl_values.specs.Reductions.{MayRefuseReduction, EachInInt, Eac
 ghost use Rattle.dpl_values.specs.Meanings.{int_in, truth_in, range_in, domain_in, index_in, literal_in, int_at, truth_at};
 
 use crate::expression::operand;
-use crate::{domain, expression, promoted};
+use crate::{expression, promoted};
 use dpl_domain::Index;
-use dpl_frame::{Arrays, DomainWord, Frame, RangeWord, Trap, Truth, Turn};
+use dpl_frame::{Arrays, DomainWord, FaultCode, Frame, RangeWord, Trap, Truth, Turn};
 use dpl_loop::{Gate, Stop};
 use dpl_nodes::{
     BoolExpr, DomainExpr, IndexExpr, IntExpr, PromotedInt, PromotedTruth, RangeExpr, RangesExpr,
@@ -138,10 +138,9 @@ pub fn literal<A: Arrays, G: Gate>(
 pub fn sized(at: &Spot, domain: Option<DomainWord>) -> Result<DomainWord, Trap>
     ensures { result ≡ sized_or at.now domain }
 {
-    let mut turn = Turn::Absent;
-    match domain::sized(at, domain, &mut turn) {
-        Ok(value) => Ok(value),
-        Err(alarm) => Err(alarm.in_turn(&turn)),
+    match domain {
+        Some(domain) => Ok(domain),
+        None => Err(Trap::new(FaultCode::PastLimit, *at)),
     }
 }
 

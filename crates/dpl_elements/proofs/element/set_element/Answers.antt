@@ -1,5 +1,5 @@
 -- The right side goes first, then the index, and then the change; an operator without a use for the old value puts the element.
-use Rattle.std.proofs.Common.{rules, Ok, Err, ◌∙◌, w64, FitsSigned}
+use Rattle.std.proofs.Common.{rules, Ok, Err, w64, FitsSigned}
 use Rattle.std.proofs.lemmas.Int.{to_z-of_z}
 use Rattle.std.proofs.lemmas.Result.{err_from_is_err_and}
 use Rattle.dpl_language.specs.Tree.{IntKind}
@@ -7,7 +7,8 @@ use Rattle.dpl_language.specs.Values.{Int}
 use Rattle.dpl_nodes.specs.Typed.{int_view}
 use Rattle.dpl_nodes.specs.Steps.{array_leaf}
 use Rattle.dpl_nodes.proofs.Unread.{cell_read-int}
-use Rattle.dpl_elements.proofs.Changing.{gives-halts, gives-ends, told-ends}
+use Rattle.dpl_elements.proofs.Changing.{gives-halts, gives-ends}
+use Rattle.dpl_loop.proofs.Ends.{ends-within}
 use Rattle.dpl_elements.proofs.Elements.{exec-element, exec-element-fault, exec-put}
 use Rattle.dpl_elements.proofs.element.set_element.Goals as goal
 
@@ -43,7 +44,7 @@ pub returns-clause-ends : goal.returns-clause-ends
 returns-clause-ends g c done =
     let value_fits : FitsSigned w64 c.in_ok-value.value = search rules in
     let changed = simp to_z-of_z at c.combine.ensures.ends done in
-    told-ends _ c.combine.result c.told.result c.combine.new.frame.memory done _ c.told.ensures
+    ends-within _ c.combine.result c.combine.new.frame.memory done _ _
     (exec-element c.args.frame.now.limits (array_leaf IntKind c.args.name.now) c.args.t.now c.args.op c.args.sign.now (int_view c.args.e.now) c.args.frame.now.memory done (Int c.in_ok-value.value) (Ok c.in_ok-index.index)
-    (cell_read-int c.args.e.now) c.in_ok-value.ensures c.in_ok-index.ensures
-    ∙ changed)
+    (cell_read-int c.args.e.now) c.in_ok-value.ensures c.in_ok-index.ensures)
+    changed

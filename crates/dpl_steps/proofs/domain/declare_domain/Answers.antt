@@ -5,7 +5,7 @@ use Rattle.dpl_memory.specs.Memory.{in_memory}
 use Rattle.dpl_nodes.specs.Steps.{domain_declared}
 use Rattle.dpl_steps.proofs.domain.declare_domain.Goals as goal
 
-pub returns-in-Empty-clause-ends : goal.returns-in-Empty-clause-ends
-returns-in-Empty-clause-ends g c done =
+pub returns-in_ok-declare_empty-in-Empty-clause-ends : goal.returns-in_ok-declare_empty-in-Empty-clause-ends
+returns-in_ok-declare_empty-in-Empty-clause-ends g c done =
     ap (λ b. exec c.args.frame.now.limits in_memory (domain_declared c.args.slot b c.args.placing.now) c.args.frame.now.memory done) c.in-Empty.is
-    ∙ c.declare_empty.ensures.ends done
+    ∙ c.in_ok-declare_empty-in-Empty.ensures.ends done

@@ -15,4 +15,4 @@ returns-clause-ends g c done =
     ∙ ap (λ rs. Done (rooted_memory c.args.slot s root rs) done) (sym c.empty.ensures)
     ∙ ap (λ m. Done m done)
     (dealt-domain c.args.slot root _ c.domain.result c.empty.result c.args.frame.now c.declare_domain.new.self c.deal.new.self
-    c.declare_domain.ensures c.domain.ensures (c.root-root.ensures ∙ c.without_value-lineage.ensures c.domain.result) c.deal.ensures)
+    c.declare_domain.ensures c.domain.ensures (c.root-root.ensures ∙ c.in_ok-lineage.ensures c.domain.result) c.deal.ensures)

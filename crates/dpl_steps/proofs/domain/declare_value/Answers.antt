@@ -33,4 +33,4 @@ returns-clause-ends g c done =
     ∙ ap (λ r. ends_as (with_ok r (λ v. Ok (rooted_memory c.args.slot s root (ranges_in v)))) done) c.in_ok-value.ensures
     ∙ ap (λ m. Done m done)
     (dealt-domain c.args.slot root _ c.domain.result c.in_ok-value.value c.args.frame.now c.declare_domain.new.self c.deal.new.self
-    c.declare_domain.ensures c.domain.ensures (c.root-root.ensures ∙ c.with_value-lineage.ensures c.domain.result) c.deal.ensures)
+    c.declare_domain.ensures c.domain.ensures (c.root-root.ensures ∙ c.in_ok-lineage.ensures c.domain.result) c.deal.ensures)

@@ -15,9 +15,9 @@ returns-in-Derived g c rs =
     ∙ ap (λ o. slot_root o rs s) c.origin.ensures
     ∙ sym (ap (λ p. valued_root limits e p rs s) c.in-Derived.is ∙ derived-slot limits s (derived_from (domain_view e)) rs)
 
-pub returns-in-Mapped : goal.returns-in-Mapped
-returns-in-Mapped g c rs =
-    ap (λ d. root_by d rs) c.named.ensures
+pub returns-in_ok-named-in-Mapped : goal.returns-in_ok-named-in-Mapped
+returns-in_ok-named-in-Mapped g c rs =
+    ap (λ d. root_by d rs) c.in_ok-named-in-Mapped.ensures
     ∙ sym (ap (λ p. valued_root c.args.frame.now.limits c.args.e.now p rs c.args.frame.now.memory) c.in-Mapped.is)
 
 pub returns-in-BlockCreated : goal.returns-in-BlockCreated

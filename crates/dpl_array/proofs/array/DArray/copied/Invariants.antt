@@ -1,9 +1,9 @@
 -- Of the indices that are left the array still has the given value.
--- This is what the loop of `DArray::redomain` keeps.
+-- This is what the loop of `DArray::copied` keeps.
 use Rattle.std.proofs.Common.{◌≡◌, length}
 use Rattle.dpl_sets.specs.Indices.{indices}
 use Rattle.dpl_array.proofs.WalkLemmas.{AreTaken}
-use Rattle.dpl_array.proofs.array.DArray.redomain.Given as goal
+use Rattle.dpl_array.proofs.array.DArray.copied.Given as goal
 
 abbrev pub invariant-loop-index : goal.invariant-loop-index
 invariant-loop-index g l =
