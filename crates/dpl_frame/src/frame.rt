@@ -295,6 +295,13 @@ impl<A: Arrays> Frame<A> {
         None
     }
 
+    /// The reduce variables, each with its operator.
+    pub fn intents(&self) -> &[Intent]
+        ensures { intents_by_slot (map intent_view result.now) ≡ self.now.memory.words.intents }
+    {
+        &self.intents
+    }
+
     /// Makes these the reduce variables.
     ///
     /// # Errors

@@ -1,7 +1,7 @@
 // The frame of a worker: made of the frame of a run, whose arrays it is lent, and taken apart when its turns are over.
 // What a worker hands back has no lifetime: plain words by slots, and what it had of its own.
 
-ghost use Rattle.std.specs.Prelude.{◌≡◌, List, IfOk};
+ghost use Rattle.std.specs.Prelude.{◌≡◌, List, pos, get_or, IfOk};
 ghost use Rattle.dpl_memory.specs.Memory.{Held};
 ghost use Rattle.dpl_frame.specs.Frames.{with_memory};
 ghost use Rattle.dpl_frame.specs.Shares.{own_before, plain_of, with_plain};
@@ -13,7 +13,7 @@ use crate::shares::Shares;
 use crate::slots::Slots;
 use dpl_contents::RangeWord;
 use dpl_domain::Index;
-use std::alloc::AllocError;
+use std::alloc::{AllocError, Global};
 use std::marker::Model;
 
 /// What turns leave besides arrays: numbers, ranges and tuples.
@@ -32,6 +32,18 @@ impl Model for PlainWords {
     ghost Value = { Plain };
 
     ghost view = { λ w. record { numbers = w.numbers.items; ranges = map range_word w.ranges.items; tuples = w.tuples.items } };
+}
+
+impl PlainWords {
+    /// The word in a slot; 0 past the last one.
+    pub fn number(&self, slot: usize) -> i64
+        ensures { result ≡ get_or self.now.numbers slot (pos 0) }
+    {
+        match self.numbers.get(slot) {
+            Some(number) => *number,
+            None => 0,
+        }
+    }
 }
 
 impl Frame<Slots> {
@@ -78,6 +90,11 @@ impl<'w> Frame<Shares<'w>> {
 }
 
 impl<A: Arrays> Frame<A> {
+    /// What memory is taken from.
+    pub fn alloc(&self) -> Global {
+        self.alloc
+    }
+
     /// Has the numbers, ranges and tuples of another frame from here on.
     pub fn take_words(&mut self, words: PlainWords)
         ensures { self.new ≡ with_memory (with_plain words self.old.memory) self.old }
