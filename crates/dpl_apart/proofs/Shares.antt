@@ -5,7 +5,7 @@ use Rattle.std.specs.List.{AllByRecursion, list_any, filter}
 use Rattle.std.proofs.lemmas.Bool.{and_parts}
 use Rattle.std.proofs.lemmas.Bool.Decides.{nat_tests}
 use Rattle.std.proofs.lemmas.List.{length-map, get_or-set_other}
-use Rattle.std.proofs.lemmas.Option.{none-some}
+use Rattle.std.proofs.lemmas.Option.{none-some, same_Some}
 use Rattle.dpl_language.specs.Tree.{Op}
 use Rattle.dpl_language.specs.Values.{Index}
 use Rattle.dpl_language.specs.Ranges.{same_index}
@@ -14,10 +14,29 @@ use Rattle.dpl_apart.specs.Operands.{unit_words, AreExact}
 use Rattle.dpl_apart.specs.Rows.{IsDistinct}
 use Rattle.dpl_apart.specs.Memories.{Changes, IsPiece, IsFormed, IsLike, is_kept, with_words, words_in, operators_of, row_in}
 use Rattle.dpl_apart.specs.Workers.{owned_piece, owned_if, shares_from, worker_memory}
-use Rattle.dpl_apart.proofs.Indices.{same_index-sound}
+use Rattle.dpl_apart.proofs.Indices.{same_index-refl, same_index-sound}
 use Rattle.dpl_apart.proofs.ReduceWords.{reduce_words}
 use Rattle.dpl_apart.proofs.Places.{distinct-rest, distinct-first}
 use Rattle.dpl_apart.proofs.Memories.{word-found, words-length, words-of}
+
+-- ---- lists
+pub each-at : {A : Type 0} (P : A → Type 0) (xs : List A) (k : ℕ) (x : A) → AllByRecursion P xs → slice_get xs k ≡ Some x → P x
+each-at P [] k x h at = absurd (none-some x at)
+each-at P (y ∷ ys) zero x h at = subst P (same_Some y x at) h.0
+each-at P (y ∷ ys) (suc k) x h at = each-at P ys k x h.1 at
+
+-- an index that differs from each of some is none of them, and is listed before them once
+unlisted : (t : Index) (ts : List Index) → AllByRecursion (λ x. same_index x t ≡ false) ts → (k : ℕ) → slice_get ts k ≡ Some t → ⊥
+unlisted t ts other k at = let self : same_index t t ≡ false = each-at (λ x. same_index x t ≡ false) ts k t other at in let no : true ≡ false = sym (same_index-refl t) ∙ self in cc
+
+distinct-more : (t : Index) (ts : List Index) → ((k : ℕ) → slice_get ts k ≡ Some t → ⊥) → IsDistinct ts → IsDistinct (t ∷ ts)
+distinct-more t ts none distinct zero zero x here there = refl
+distinct-more t ts none distinct zero (suc k) x here there = absurd (none k (there ∙ sym here))
+distinct-more t ts none distinct (suc j) zero x here there = absurd (none j (here ∙ sym there))
+distinct-more t ts none distinct (suc j) (suc k) x here there = ap suc (distinct j k x here there)
+
+pub distinct-next : (t : Index) (ts : List Index) → AllByRecursion (λ x. same_index x t ≡ false) ts → IsDistinct ts → IsDistinct (t ∷ ts)
+distinct-next t ts other rest = distinct-more t ts (unlisted t ts other) rest
 
 -- ---- some of the indices of a list
 -- where a filter has an index the list has it too
@@ -32,12 +51,6 @@ filter-from p (x ∷ xs) k t at =
     kept : ((k : ℕ) → slice_get (filter p xs) k ≡ Some t → (j : ℕ) × (slice_get xs j ≡ Some t)) → (k : ℕ) → slice_get (x ∷ filter p xs) k ≡ Some t → (j : ℕ) × (slice_get (x ∷ xs) j ≡ Some t)
     kept rest zero at = (0, at)
     kept rest (suc k) at = let there = rest k at in (suc there.0, there.1)
-
-pub distinct-more : (t : Index) (ts : List Index) → ((k : ℕ) → slice_get ts k ≡ Some t → ⊥) → IsDistinct ts → IsDistinct (t ∷ ts)
-distinct-more t ts none distinct zero zero x here there = refl
-distinct-more t ts none distinct zero (suc k) x here there = absurd (none k (there ∙ sym here))
-distinct-more t ts none distinct (suc j) zero x here there = absurd (none j (here ∙ sym there))
-distinct-more t ts none distinct (suc j) (suc k) x here there = ap suc (distinct j k x here there)
 
 pub distinct-filter : (p : Index → Bool) (ts : List Index) → IsDistinct ts → IsDistinct (filter p ts)
 distinct-filter p [] distinct = distinct

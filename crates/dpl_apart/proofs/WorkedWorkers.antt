@@ -14,17 +14,15 @@ use Rattle.dpl_apart.specs.Apart.{last_index}
 use Rattle.dpl_apart.specs.Rows.{IsDistinct}
 use Rattle.dpl_apart.specs.Memories.{Changes, IsPiece, IsFormed, held_in}
 use Rattle.dpl_apart.specs.Workers.{worker_memory, together}
-use Rattle.dpl_apart.proofs.Indices.{same_index-refl}
-use Rattle.dpl_apart.proofs.Shares.{distinct-more}
+use Rattle.dpl_apart.proofs.Shares.{distinct-next}
 use Rattle.dpl_apart.proofs.SharedForalls.{all-done}
-use Rattle.dpl_apart.proofs.Workers.{each-at}
 use Rattle.dpl_apart.proofs.WorkedForalls.{on_a_line, held_with_keys, memory_with, changes, whole, squares, put_turn, writes, may_be_apart}
 
-abbrev one_two_three : List Index
+abbrev pub one_two_three : List Index
 one_two_three = on_a_line (pos 1) ∷ on_a_line (pos 2) ∷ on_a_line (pos 3) ∷ []
 
 -- locale 1 owns the index 3, and locale 0 the others
-abbrev last_apart : Index → ℕ
+abbrev pub last_apart : Index → ℕ
 last_apart t = if same_index t (on_a_line (pos 3)) then 1 else 0
 
 abbrev before : Memory
@@ -76,16 +74,10 @@ none_left : together changes last_apart [] (last_index None []) before ≡ befor
 none_left = refl
 
 -- ---- the turns of such workers: A[i] = i * i, where there is no sum. So what is asked of workers can be met.
-unlisted : (t : Index) (ts : List Index) → AllByRecursion (λ x. same_index x t ≡ false) ts → (k : ℕ) → slice_get ts k ≡ Some t → ⊥
-unlisted t ts other k at = let self : same_index t t ≡ false = each-at (λ x. same_index x t ≡ false) ts k t other at in let no : true ≡ false = sym (same_index-refl t) ∙ self in cc
-
-apart-distinct : (t : Index) (ts : List Index) → AllByRecursion (λ x. same_index x t ≡ false) ts → IsDistinct ts → IsDistinct (t ∷ ts)
-apart-distinct t ts other rest = distinct-more t ts (unlisted t ts other) rest
-
-distinct : IsDistinct one_two_three
+pub distinct : IsDistinct one_two_three
 distinct =
-    apart-distinct (on_a_line (pos 1)) (on_a_line (pos 2) ∷ on_a_line (pos 3) ∷ []) (refl, (refl, tt))
-    (apart-distinct (on_a_line (pos 2)) (on_a_line (pos 3) ∷ []) (refl, tt) (apart-distinct (on_a_line (pos 3)) [] tt (λ j k t here there. absurd (none-some t here))))
+    distinct-next (on_a_line (pos 1)) (on_a_line (pos 2) ∷ on_a_line (pos 3) ∷ []) (refl, (refl, tt))
+    (distinct-next (on_a_line (pos 2)) (on_a_line (pos 3) ∷ []) (refl, tt) (distinct-next (on_a_line (pos 3)) [] tt (λ j k t here there. absurd (none-some t here))))
 
 module _ (at : Place) where
   abbrev square : Index → ℤ → ℤ

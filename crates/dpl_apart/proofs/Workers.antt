@@ -23,18 +23,13 @@ use Rattle.dpl_apart.specs.Workers.{worker_memory, locales_of, worker_end, toget
 use Rattle.dpl_apart.proofs.Split.{each-filter, each-weaker}
 use Rattle.dpl_apart.proofs.Places.{place_in-at, indices-of-rank}
 use Rattle.dpl_apart.proofs.Foralls.{worker-stopped, stopped-among, named-may, part-owners, each-both}
-use Rattle.dpl_apart.proofs.Shares.{worker-formed, worker-units}
+use Rattle.dpl_apart.proofs.Shares.{each-at, worker-formed, worker-units}
 use Rattle.dpl_apart.proofs.Rejoined.{or-true}
 use Rattle.dpl_apart.proofs.Indices.{same_index-refl, same_index-sound}
 use Rattle.dpl_apart.proofs.Least.{IsLater, merged-least}
 use Rattle.dpl_apart.proofs.SharedForalls.{each-mapped, all-owned, forall-shared, keeps, part-of-rank, share-ended, all-done}
 
 -- ---- lists
-pub each-at : {A : Type 0} (P : A → Type 0) (xs : List A) (k : ℕ) (x : A) → AllByRecursion P xs → slice_get xs k ≡ Some x → P x
-each-at P [] k x h at = absurd (none-some x at)
-each-at P (y ∷ ys) zero x h at = subst P (same_Some y x at) h.0
-each-at P (y ∷ ys) (suc k) x h at = each-at P ys k x h.1 at
-
 among-at : {A : Type 0} (ws : List (ℕ × A)) (k : ℕ) (l : ℕ) (r : A) → slice_get ws k ≡ Some (l, r) → list_any (λ m. l == m) (locales_of ws) ≡ true
 among-at [] k l r at = absurd (none-some (l, r) at)
 among-at {A} (w ∷ ws) zero l r at =

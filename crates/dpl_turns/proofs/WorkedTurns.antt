@@ -14,11 +14,9 @@ use Rattle.dpl_memory.specs.Memory.{Memory, Variable, array_at, int_leaf}
 use Rattle.dpl_nodes.specs.Steps.{assigned_to}
 use Rattle.dpl_apart.specs.Rows.{IsDistinct}
 use Rattle.dpl_apart.specs.Memories.{IsPiece, IsFormed}
-use Rattle.dpl_apart.proofs.Indices.{same_index-refl}
-use Rattle.dpl_apart.proofs.Shares.{distinct-more}
 use Rattle.dpl_apart.proofs.SharedForalls.{all-done}
-use Rattle.dpl_apart.proofs.Workers.{each-at}
 use Rattle.dpl_apart.proofs.WorkedForalls.{on_a_line, held_with_keys, memory_with, changes, whole}
+use Rattle.dpl_apart.proofs.WorkedWorkers.{one_two_three, last_apart, distinct}
 use Rattle.dpl_turns.specs.Bodies.{OneInt, body_turn, KeepsApart}
 use Rattle.dpl_turns.proofs.Bodies.{body-apart}
 use Rattle.dpl_turns.proofs.Worked.{int_named, set_element}
@@ -33,24 +31,6 @@ keeps = record {
   fits = λ t. (((((refl, tt), (λ e. refl), (refl, refl), refl), (refl, tt), tt)), (((refl, (λ i. (tt, tt))), ((λ i. (refl, tt)), tt), tt), tt));
   silent = (refl, (refl, tt));
 }
-
-abbrev one_two_three : List Index
-one_two_three = on_a_line (pos 1) ∷ on_a_line (pos 2) ∷ on_a_line (pos 3) ∷ []
-
--- locale 1 owns the index 3, and locale 0 the others
-abbrev last_apart : Index → ℕ
-last_apart t = if same_index t (on_a_line (pos 3)) then 1 else 0
-
-unlisted : (t : Index) (ts : List Index) → AllByRecursion (λ x. same_index x t ≡ false) ts → (k : ℕ) → slice_get ts k ≡ Some t → ⊥
-unlisted t ts other k at = let self : same_index t t ≡ false = each-at (λ x. same_index x t ≡ false) ts k t other at in let no : true ≡ false = sym (same_index-refl t) ∙ self in cc
-
-apart-distinct : (t : Index) (ts : List Index) → AllByRecursion (λ x. same_index x t ≡ false) ts → IsDistinct ts → IsDistinct (t ∷ ts)
-apart-distinct t ts other rest = distinct-more t ts (unlisted t ts other) rest
-
-distinct : IsDistinct one_two_three
-distinct =
-    apart-distinct (on_a_line (pos 1)) (on_a_line (pos 2) ∷ on_a_line (pos 3) ∷ []) (refl, (refl, tt))
-    (apart-distinct (on_a_line (pos 2)) (on_a_line (pos 3) ∷ []) (refl, tt) (apart-distinct (on_a_line (pos 3)) [] tt (λ j k t here there. absurd (none-some t here))))
 
 -- s was 5, and A held 10, 20 and 30
 abbrev before : Memory

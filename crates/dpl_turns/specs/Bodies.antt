@@ -108,15 +108,10 @@ body_changes rank own along written reduced = record {
 -- REDUCE VARIABLES
 -- The operators that put any value to an operand. Those on bits put ints of 64 bits alone, and are left out.
 abbrev pub is_free : Op → Bool
-is_free Sum = true
-is_free Product = true
-is_free AllOf = true
-is_free AnyOf = true
 is_free BitAnd = false
 is_free BitOr = false
 is_free BitXor = false
-is_free Least = true
-is_free Greatest = true
+is_free _ = true
 
 abbrev pub is_sum : Op → Bool
 is_sum Sum = true
@@ -128,13 +123,10 @@ is_product _ = false
 
 -- an assignment that puts its value to a reduce variable by this operator
 abbrev pub is_addition : Assign → Op → Bool
-is_addition Set p = false
 is_addition SetAdd p = is_sum p
-is_addition SetSubtract p = false
 is_addition SetMultiply p = is_product p
-is_addition SetDivide p = false
-is_addition SetRemainder p = false
 is_addition SetReduce p = is_free p
+is_addition _ p = false
 
 abbrev pub adds_by : LeafKind → Assign → Option Op → Bool
 adds_by k op None = false
