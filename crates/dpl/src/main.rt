@@ -62,33 +62,20 @@ fn by_settings<R: Threads + Wait + Sync>(
     let shown = rt.stderr().is_terminal();
     let mut out = Plain::new(rt.stdout());
     let mut errors = Plain::new(rt.stderr());
-    match asked.file {
+    let read = match asked.file {
         Some(path) if path != "-" => match File::open(rt, path) {
-            Ok(file) => {
-                let read = read_text(rt.alloc(), file);
-                program(
-                    workers,
-                    rt.alloc(),
-                    &read,
-                    asked,
-                    shown,
-                    &mut out,
-                    &mut errors,
-                )
-            }
-            Err(error) => unopened(rt.alloc(), &error, &mut errors),
+            Ok(file) => read_text(rt.alloc(), file),
+            Err(error) => return unopened(rt.alloc(), &error, &mut errors),
         },
-        _ => {
-            let read = read_text(rt.alloc(), rt.stdin());
-            program(
-                workers,
-                rt.alloc(),
-                &read,
-                asked,
-                shown,
-                &mut out,
-                &mut errors,
-            )
-        }
-    }
+        _ => read_text(rt.alloc(), rt.stdin()),
+    };
+    program(
+        workers,
+        rt.alloc(),
+        &read,
+        asked,
+        shown,
+        &mut out,
+        &mut errors,
+    )
 }
