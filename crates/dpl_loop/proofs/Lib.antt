@@ -1,6 +1,8 @@
 -- Runs one after another that end early; and the turns of a loop, one by one.
 pub mod Ends
 pub mod Order
+pub mod Workers
+pub mod FormedMemories
 -- Lists by places, and the indices of a range.
 pub mod Places
 pub mod Lines

@@ -2,5 +2,8 @@
 pub mod Runs
 pub mod Entries
 pub mod Values
+pub mod Workers
+pub mod Formed
+pub mod Joined
 -- What serves contracts and proofs alone.
 pub mod Tells

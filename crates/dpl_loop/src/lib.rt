@@ -7,9 +7,15 @@
 // a fault, or refused (`Tells` of dpl_frame, and `Gives` for callers that have no place for the turn). Within a turn no gate is asked.
 #![tactic(auto)]
 
+mod apart;
 mod crew;
+mod formed;
 pub mod gate;
+mod job;
+mod joined;
+mod level;
 mod loops;
+mod part;
 mod reduction;
 mod rows;
 pub mod stop;
@@ -17,7 +23,9 @@ mod strip;
 mod strips;
 mod together;
 mod turns;
+mod units;
 
+pub use apart::Apart;
 pub use crew::Crew;
 pub use gate::{Gate, OpenGate};
 pub use loops::{forall_here, forall_line};
