@@ -3,6 +3,8 @@ pub mod Runs
 pub mod Entries
 pub mod Values
 pub mod Workers
+pub mod Parts
+pub mod Taken
 pub mod Formed
 pub mod Joined
 -- What serves contracts and proofs alone.

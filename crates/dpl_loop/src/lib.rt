@@ -21,6 +21,7 @@ mod rows;
 pub mod stop;
 mod strip;
 mod strips;
+mod taken;
 mod together;
 mod turns;
 mod units;

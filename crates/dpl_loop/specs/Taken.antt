@@ -1,0 +1,50 @@
+-- Arrays that are taken apart for workers: what stays of a memory, what is left of the pieces, and the arrays that come back.
+use Rattle.std.specs.Prelude.{◌≡◌, ℕ, Some, None, List, [], ◌∷◌, get_or}
+use Rattle.dpl_map.specs.Maps.{AxisValue}
+use Rattle.dpl_memory.specs.Memory.{Memory, no_array, array_at, with_array}
+use Rattle.dpl_contents.specs.Parted.{Parted, parted, whole_of, with_piece}
+use Rattle.dpl_frame.specs.declared.share.Share.{Share}
+use Rattle.dpl_frame.specs.declared.share.Share.TheVariants.{Lent, Piece, Whole}
+use Rattle.dpl_loop.specs.declared.job.Worked.{Worked}
+use Rattle.dpl_loop.specs.declared.taken.Taken.{Taken}
+
+-- BEFORE THE WORKERS
+-- a memory without the arrays in some slots
+abbrev pub emptied : List ℕ → Memory → Memory
+emptied [] m = m
+emptied (slot ∷ slots) m = emptied slots (with_array slot no_array m)
+
+-- the array in a slot, taken apart by a map
+abbrev pub taken_from : List AxisValue → Memory → ℕ → Taken
+taken_from axes m slot = record { slot = slot; pieces = parted axes (array_at slot m) }
+
+-- what is taken apart, without the pieces of some locales
+abbrev pub without : List ℕ → Parted → Parted
+without [] p = p
+without (l ∷ ls) p = without ls (with_piece l None p)
+
+abbrev pub lacking : List ℕ → Taken → Taken
+lacking ls t = record { slot = t.slot; pieces = without ls t.pieces }
+
+-- BEHIND THE WORKERS
+-- what a worker has of its own in a slot is a piece
+abbrev pub IsPieceShare : Share → Type 0
+IsPieceShare Lent = ⊥
+IsPieceShare (Piece p) = Unit {0}
+IsPieceShare (Whole a) = ⊥
+
+-- a share in a locale's place, if it is a piece
+abbrev pub put_in : ℕ → Share → Parted → Parted
+put_in l Lent p = p
+put_in l (Piece q) p = with_piece l (Some (record q { ranges = p.ranges })) p
+put_in l (Whole a) p = p
+
+-- what workers hand back of a slot, in their places
+abbrev pub all_put : ℕ → List Worked → Parted → Parted
+all_put slot [] p = p
+all_put slot (w ∷ ws) p = all_put slot ws (put_in w.locale (get_or w.own.items slot Lent) p)
+
+-- a memory into whose slots the arrays come back
+abbrev pub given_back : List Taken → List Worked → Memory → Memory
+given_back [] ws m = m
+given_back (t ∷ ts) ws m = given_back ts ws (with_array t.slot (whole_of (all_put t.slot ws t.pieces)) m)
