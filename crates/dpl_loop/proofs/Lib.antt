@@ -3,6 +3,8 @@ pub mod Ends
 pub mod Order
 pub mod Workers
 pub mod FormedMemories
+pub mod WorkerEnds
+pub mod Foralls
 -- Lists by places, and the indices of a range.
 pub mod Places
 pub mod Lines

@@ -7,5 +7,7 @@ pub mod Parts
 pub mod Taken
 pub mod Formed
 pub mod Joined
+pub mod Soonest
+pub mod Foralls
 -- What serves contracts and proofs alone.
 pub mod Tells
