@@ -3,8 +3,14 @@ pub mod Ends
 pub mod Order
 pub mod Workers
 pub mod FormedMemories
+<<<<<<< ours
 pub mod WorkerEnds
 pub mod Foralls
+=======
+pub mod SoleParts
+pub mod TakenApart
+pub mod JobShares
+>>>>>>> theirs
 -- Lists by places, and the indices of a range.
 pub mod Places
 pub mod Lines
