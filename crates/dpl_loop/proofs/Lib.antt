@@ -3,19 +3,13 @@ pub mod Ends
 pub mod Order
 pub mod Workers
 pub mod FormedMemories
-<<<<<<< ours
-<<<<<<< ours
 pub mod WorkerEnds
 pub mod Foralls
-=======
 pub mod SoleParts
 pub mod TakenApart
 pub mod JobShares
->>>>>>> theirs
-=======
 pub mod Staying
 pub mod Back
->>>>>>> theirs
 -- Lists by places, and the indices of a range.
 pub mod Places
 pub mod Lines

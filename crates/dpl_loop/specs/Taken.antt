@@ -1,9 +1,5 @@
 -- Arrays that are taken apart for workers: what stays of a memory, what is left of the pieces, and the arrays that come back.
-<<<<<<< ours
 use Rattle.std.specs.Prelude.{◌≡◌, ◌==◌, if◌then◌else◌, ℕ, Option, Some, None, IsSome, List, [], ◌∷◌, map, get_or}
-=======
-use Rattle.std.specs.Prelude.{◌≡◌, ℕ, Some, None, List, [], ◌∷◌, get_or}
->>>>>>> theirs
 use Rattle.std.specs.List.{AllByRecursion}
 use Rattle.dpl_map.specs.Maps.{AxisValue}
 use Rattle.dpl_memory.specs.Memory.{Held, Memory, no_array, array_at, with_array}

@@ -9,6 +9,7 @@
 
 mod apart;
 mod crew;
+mod forall;
 mod formed;
 pub mod gate;
 mod given;
@@ -33,6 +34,7 @@ mod units;
 
 pub use apart::Apart;
 pub use crew::Crew;
+pub use forall::forall;
 pub use gate::{Gate, OpenGate};
 pub use loops::{forall_here, forall_line};
 pub use meeting::Meeting;
