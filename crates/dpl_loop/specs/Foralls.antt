@@ -15,7 +15,7 @@ use Rattle.dpl_apart.specs.Workers.{worker_memory, HaveWorkers}
 use Rattle.dpl_frame.specs.Shares.{plain_of, with_plain}
 use Rattle.dpl_loop.specs.declared.job.Worked.{Worked}
 use Rattle.dpl_loop.specs.declared.taken.Taken.{Taken}
-use Rattle.dpl_loop.specs.declared.forall.Plan.{Plan}
+use Rattle.dpl_loop.specs.declared.plan.Plan.{Plan}
 use Rattle.dpl_loop.specs.Workers.{HasWorked}
 use Rattle.dpl_loop.specs.Parts.{AreSoleParts}
 use Rattle.dpl_loop.specs.Taken.{given_back}

@@ -9,7 +9,6 @@
 
 mod apart;
 mod crew;
-mod forall;
 mod formed;
 pub mod gate;
 mod given;
@@ -21,6 +20,7 @@ mod loops;
 mod meeting;
 mod part;
 mod parts;
+mod plan;
 mod reduction;
 mod rows;
 mod soonest;
@@ -34,10 +34,10 @@ mod units;
 
 pub use apart::Apart;
 pub use crew::Crew;
-pub use forall::forall;
 pub use gate::{Gate, OpenGate};
 pub use loops::{forall_here, forall_line};
 pub use meeting::Meeting;
+pub use plan::forall;
 pub use reduction::{Operator, reduce};
 pub use stop::Stop;
 pub use strip::{STRIP, Strip};

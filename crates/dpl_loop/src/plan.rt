@@ -93,8 +93,21 @@ fn made<T: Turns + Sync, G: Gate + Sync, R: Threads + Wait + Sync>(
     plan: &Plan<'_>,
     taken: &mut Vec<Taken>,
     frame: &Frame<Slots>,
-) -> Result<Vec<Worked>, Stop> {
-    let jobs = jobs(&plan.apart, site.map, &plan.parts, taken, frame)?;
+) -> Result<Vec<Worked>, Stop>
+    ensures made { IfOk result (λ ws. (m : Memory) → IsPlan (T.turn site.now.turns.now) site.now.whole.now site.now.map.now m plan.now
+        → AreTaken site.now.map.now plan.now.apart.written m taken.old.items frame.now.memory
+        → HaveMade (MayRefuseAmong (G.may_refuse site.now.gate.now) site.now.map.now (indices site.now.whole.now))
+        (named_turn (T.turn site.now.turns.now frame.now.limits)) plan.now.apart site.now.whole.now site.now.map.now
+        (length plan.now.parts.items) m ws.items) }
+    ensures well { IfOk result (λ ws. AllByRecursion (λ w. w.end ≡ Ok tt) ws.items) }
+    ensures left { IfOk result (λ ws. taken.new.items ≡ map (lacking (map (λ w. w.locale) ws.items)) taken.old.items) }
+    ensures ends { IfErr result (λ h. (m s : Memory) (done : Deeds)
+        → IsPlan (T.turn site.now.turns.now) site.now.whole.now site.now.map.now m plan.now
+        → AreTaken site.now.map.now plan.now.apart.written m taken.old.items frame.now.memory → AreRanges site.now.whole.now
+        → RunsTo (MayRefuseAmong (G.may_refuse site.now.gate.now) site.now.map.now (indices site.now.whole.now)) (Err h) s done
+        (in_order (named_turn (T.turn site.now.turns.now frame.now.limits)) (indices site.now.whole.now) m done)) }
+{
+    let jobs = jobs(&plan.apart, &plan.parts, taken, frame)?;
     let worked = work_all(rt, site, jobs, Vec::new(frame.alloc()))?;
     ended(site.whole, &worked)?;
     Ok(worked)
