@@ -1,34 +1,90 @@
 -- How a forall ends by how its workers' turns ended: the soonest of their ends is that of the forall.
-use Rattle.std.proofs.Common.{◌≡◌, ◌≤◌, ◌+◌, ℕ, zero, suc, ◌<◌, Bool, true, false, cond, List, [], ◌∷◌, Some, None, Result, Ok, Err, length, slice_get, refl, sym, ap, ◌∙◌, subst, arith}
+use Rattle.std.proofs.Common.{◌≡◌, ◌≤◌, ◌+◌, ◌-◌, ℕ, zero, suc, ◌<◌, ◌==◌, Bool, true, false, cond, List, [], ◌∷◌, ◌++◌, Option, Some, None, Result, Ok, Err, length, take, drop, get_or, slice_get, refl, sym, ap, ◌∙◌, subst, arith}
 use Rattle.std.specs.Prelude.{nat_lt, if◌then◌else◌}
 use Rattle.std.specs.List.{AllByRecursion}
 use Rattle.std.proofs.lemmas.Bool.Decides.{nat_tests}
 use Rattle.std.proofs.lemmas.Option.{none-some, same_Some}
-use Rattle.dpl_language.specs.Values.{Index, Turn, InNone, InTurn}
+use Rattle.dpl_language.specs.Values.{Index, InTurn}
 use Rattle.dpl_language.specs.Ranges.{same_index}
+use Rattle.dpl_apart.specs.Apart.{last_index}
 use Rattle.dpl_apart.specs.Rows.{place_in}
 use Rattle.dpl_apart.proofs.Indices.{same_index-refl, same_index-sound}
+use Rattle.dpl_frame.specs.declared.fault.Turn.{Turn}
+use Rattle.dpl_frame.specs.declared.fault.Turn.TheVariants as turn
+use Rattle.dpl_frame.specs.Faults.{turn_view}
 use Rattle.dpl_loop.specs.declared.stop.Stop.{Stop}
 use Rattle.dpl_loop.specs.declared.job.Worked.{Worked}
-use Rattle.dpl_loop.specs.Soonest.{rank_in, sooner_in, EndsFrom, IsSoonest}
+use Rattle.dpl_frame.specs.Shares.{Plain}
+use Rattle.dpl_loop.specs.Joined.{words_by}
+use Rattle.dpl_loop.specs.Soonest.{spot_in, rank_in, sooner_in, EndsFrom, IsSoonest}
+
+-- ---- lists
+-- a list that isn't empty is its first thing and the others
+take-length : {A : Type 0} (xs : List A) → take (length xs) xs ≡ xs
+take-length [] = refl
+take-length (x ∷ xs) = ap (λ ys. x ∷ ys) (take-length xs)
+
+pub first-rest : {A : Type 0} (xs : List A) (x : A) → 1 ≤ length xs → x ≡ get_or xs 0 x → x ∷ take (length xs - 1) (drop 1 xs) ≡ xs
+first-rest [] x some is = absurd (omega (arith, some))
+first-rest (y ∷ ys) x some is = let e : suc (length ys) - 1 ≡ length ys = omega arith in ap (λ n. x ∷ take n ys) e ∙ (λ i. is i ∷ take-length ys i)
+
+-- one thing more before others
+pub push_on : {A : Type 0} (xs : List A) (y : A) (ys : List A) → (xs ++ y ∷ []) ++ ys ≡ xs ++ y ∷ ys
+push_on [] y ys = refl
+push_on (x ∷ xs) y ys = ap (λ zs. x ∷ zs) (push_on xs y ys)
+
+-- the last index of a list stands at its last place
+last-behind : (before : Option Index) (t : Index) (ts : List Index) → last_index before (t ∷ ts) ≡ slice_get (t ∷ ts) (length ts)
+last-behind before t [] = refl
+last-behind before t (x ∷ xs) = last-behind (Some t) x xs
+
+pub last-at : (ts : List Index) (n : ℕ) → n ≡ length ts → (n ≡ 0 → ⊥) → slice_get ts (n - 1) ≡ last_index None ts
+last-at [] n long some = absurd (some long)
+last-at (t ∷ ts) n long some = let e : n - 1 ≡ length ts = omega (arith, long) in ap (slice_get (t ∷ ts)) e ∙ sym (last-behind None t ts)
+
+-- ---- what the workers of a locale have left
+pub words-last : (l : ℕ) (ws : List Worked) (w : Worked) (p : Plain) → words_by l (ws ++ w ∷ []) p ≡ (if w.locale == l then w.words else words_by l ws p)
+words-last l [] w p = refl
+words-last l (v ∷ ws) w p = words-last l ws w (if v.locale == l then v.words else p)
 
 -- ---- places
 -- an index that stands somewhere is found
 pub place-found : (t : Index) (ts : List Index) (k : ℕ) → slice_get ts k ≡ Some t → slice_get ts (place_in ts t) ≡ Some t
 place-found t [] k at = absurd (none-some t at)
-place-found t (x ∷ xs) k at = by (same_index t x) refl k at where
-  by : (c : Bool) → same_index t x ≡ c → (k : ℕ) → slice_get (x ∷ xs) k ≡ Some t → slice_get (x ∷ xs) (cond c 0 (suc (place_in xs t))) ≡ Some t
-  by true e k at = ap Some (sym (same_index-sound t x e))
-  by false e zero at = absurd (let same : x ≡ t = same_Some x t at in let no : true ≡ false = sym (same_index-refl t) ∙ ap (same_index t) (sym same) ∙ e in cc)
-  by false e (suc k) at = place-found t xs k at
+place-found t (x ∷ xs) k at = by (same_index t x) refl k at (λ k. place-found t xs k) where
+  by : (c : Bool) → same_index t x ≡ c → (k : ℕ) → slice_get (x ∷ xs) k ≡ Some t → ((k : ℕ) → slice_get xs k ≡ Some t → slice_get xs (place_in xs t) ≡ Some t)
+      → slice_get (x ∷ xs) (cond c 0 (suc (place_in xs t))) ≡ Some t
+  by true e k at rest = ap Some (sym (same_index-sound t x e))
+  by false e zero at rest = absurd (let same : x ≡ t = same_Some x t at in let no : true ≡ false = sym (same_index-refl t) ∙ ap (same_index t) (sym same) ∙ e in cc)
+  by false e (suc k) at rest = rest k at
 
 -- and one that stands nowhere is behind all
 pub place-none : (t : Index) (ts : List Index) → ((k : ℕ) → slice_get ts k ≡ Some t → ⊥) → place_in ts t ≡ length ts
 place-none t [] none = refl
-place-none t (x ∷ xs) none = by (same_index t x) refl where
-  by : (c : Bool) → same_index t x ≡ c → cond c 0 (suc (place_in xs t)) ≡ suc (length xs)
-  by true e = absurd (none 0 (ap Some (sym (same_index-sound t x e))))
-  by false e = ap suc (place-none t xs (λ k at. none (suc k) at))
+place-none t (x ∷ xs) none = by (same_index t x) refl (place-none t xs (λ k at. none (suc k) at)) where
+  by : (c : Bool) → same_index t x ≡ c → place_in xs t ≡ length xs → cond c 0 (suc (place_in xs t)) ≡ suc (length xs)
+  by true e rest = absurd (none 0 (ap Some (sym (same_index-sound t x e))))
+  by false e rest = ap suc rest
+
+-- an index of a turn is told, and stands where the turn does
+pub index-told : (u : Turn) (o : Option Index) → (u ≡ turn.Absent → ⊥) → ((t : Index) → turn_view u ≡ InTurn t → o ≡ Some t) → o ≡ None → ⊥
+index-told turn.Absent o some told none = some refl
+index-told (turn.Line i) o some told none = let no = sym (told (i ∷ []) refl) ∙ none in cc
+index-told (turn.Plane i j) o some told none = let no = sym (told (i ∷ j ∷ []) refl) ∙ none in cc
+index-told (turn.Space i j k) o some told none = let no = sym (told (i ∷ j ∷ k ∷ []) refl) ∙ none in cc
+
+pub spot-told : (ts : List Index) (u : Turn) (o : Option Index) → (u ≡ turn.Absent → ⊥) → ((t : Index) → turn_view u ≡ InTurn t → o ≡ Some t) → (t : Index) → o ≡ Some t → place_in ts t ≡ spot_in ts (turn_view u)
+spot-told ts turn.Absent o some told t is = absurd (some refl)
+spot-told ts (turn.Line i) o some told t is = ap (place_in ts) (same_Some t (i ∷ []) (sym is ∙ told (i ∷ []) refl))
+spot-told ts (turn.Plane i j) o some told t is = ap (place_in ts) (same_Some t (i ∷ j ∷ []) (sym is ∙ told (i ∷ j ∷ []) refl))
+spot-told ts (turn.Space i j k) o some told t is = ap (place_in ts) (same_Some t (i ∷ j ∷ k ∷ []) (sym is ∙ told (i ∷ j ∷ k ∷ []) refl))
+
+pub place-within : (t : Index) (ts : List Index) → place_in ts t ≤ length ts
+place-within t [] = omega arith
+place-within t (x ∷ xs) = by (same_index t x) (place-within t xs) where
+  by : (c : Bool) → place_in xs t ≤ length xs → cond c 0 (suc (place_in xs t)) ≤ suc (length xs)
+  by true rest = omega arith
+  by false rest = omega (arith, rest)
 
 -- ---- the soonest of several ends
 ends-later : (ts : List Index) (n k : ℕ) (e : Result (Unit {0}) Stop) → k ≤ n → EndsFrom ts n e → EndsFrom ts k e

@@ -1,7 +1,7 @@
 -- How a forall ends by how the turns of its workers have ended.
 use Rattle.std.specs.Prelude.{◌≡◌, ◌≤◌, ◌+◌, ℕ, nat_lt, if◌then◌else◌, List, Some, slice_get, Result, Ok, Err}
 use Rattle.std.specs.List.{AllByRecursion}
-use Rattle.dpl_language.specs.Values.{Index, Turn, InNone, InTurn}
+use Rattle.dpl_language.specs.Values.{Index, Turn, InTurn}
 use Rattle.dpl_apart.specs.Rows.{place_in}
 use Rattle.dpl_frame.specs.Faults.{turn_view}
 use Rattle.dpl_loop.specs.declared.stop.Stop.{Stop}
@@ -10,8 +10,8 @@ use Rattle.dpl_loop.specs.declared.job.Worked.{Worked}
 
 -- where a turn stands among those of some indices
 abbrev pub spot_in : List Index → Turn → ℕ
-spot_in ts InNone = 0
 spot_in ts (InTurn t) = place_in ts t
+spot_in ts _ = 0
 
 -- Which of several is told, the least first: what was refused, memory before threads and threads before entries; and faults by their turns.
 abbrev pub rank_in : List Index → Stop → ℕ

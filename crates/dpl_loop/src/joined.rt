@@ -45,6 +45,7 @@ fn joined(op: Op, slot: usize, worked: &[Worked], word: i64) -> i64
 ///
 /// # Errors
 /// Out of memory.
+#[tactic(auto, using(crate::proofs::WorkerEnds::push_on))]
 pub(crate) fn words_left(
     intents: &[Intent],
     worked: &[Worked],
@@ -52,7 +53,7 @@ pub(crate) fn words_left(
     mut words: Vec<i64>,
 ) -> Result<Vec<i64>, AllocError>
     ensures { IfOk result (λ ws. ws.items
-        ≡ words.entry.items ++ words_left (intents_by_slot (map intent_view intents.now)) worked.now frame.now.memory) }
+        ≡ words.items ++ words_left (intents_by_slot (map intent_view intents.now)) worked.now frame.now.memory) }
 {
     let [intent, rest @ ..] = intents else {
         return Ok(words);
@@ -78,7 +79,7 @@ pub(crate) fn set_words(intents: &[Intent], words: &[i64], frame: &mut Frame<Slo
 /// Takes the numbers, ranges and tuples that the worker of a locale has left, if it has one.
 pub(crate) fn take_left(locale: u32, mut worked: Vec<Worked>, frame: &mut Frame<Slots>)
     ensures { frame.new
-        ≡ with_memory (with_plain (words_by locale worked.entry.items (plain_of frame.old.memory)) frame.old.memory) frame.old }
+        ≡ with_memory (with_plain (words_by locale worked.items (plain_of frame.old.memory)) frame.old.memory) frame.old }
 {
     let Some(last) = worked.pop() else {
         return;

@@ -1,7 +1,7 @@
 // How a forall ends by how the turns of its workers have ended: what was refused goes before a fault, and of faults the one is told whose turn
 // stands first in the loop's domain.
 
-ghost use Rattle.std.specs.Prelude.{◌≡◌};
+ghost use Rattle.std.specs.Prelude.{◌≡◌, ◌≤◌, ◌^◌};
 ghost use Rattle.dpl_sets.specs.Indices.{indices};
 ghost use Rattle.dpl_frame.specs.Faults.{turn_view};
 ghost use Rattle.dpl_loop.specs.Soonest.{spot_in, rank_in, sooner_in, IsSoonest};
@@ -13,8 +13,10 @@ use dpl_frame::Turn;
 
 // Where a turn stands in a domain; behind all of its turns where it has none of this index.
 fn spot_of(whole: &Domain, turn: &Turn) -> u64
-    ensures { result ≡ spot_in (indices whole.now) (turn_view turn.now) }
+    ensures spot { result ≡ spot_in (indices whole.now) (turn_view turn.now) }
+    ensures small { result ≤ 2 ^ 40 }
 {
+    let size = whole.size();
     if let Turn::Absent = turn {
         return 0;
     }
@@ -23,7 +25,7 @@ fn spot_of(whole: &Domain, turn: &Turn) -> u64
     };
     match whole.place(index) {
         Some(place) => place,
-        None => whole.size(),
+        None => size,
     }
 }
 

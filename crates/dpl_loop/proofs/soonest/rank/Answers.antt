@@ -1,0 +1,1 @@
+use Rattle.dpl_loop.proofs.soonest.rank.Goals as goal
