@@ -3,6 +3,8 @@ pub mod Ends
 pub mod Order
 pub mod Workers
 pub mod FormedMemories
+pub mod Staying
+pub mod Back
 -- Lists by places, and the indices of a range.
 pub mod Places
 pub mod Lines

@@ -1,6 +1,9 @@
 -- Arrays that are taken apart for workers: what stays of a memory, what is left of the pieces, and the arrays that come back.
-use Rattle.std.specs.Prelude.{◌≡◌, ℕ, Some, None, List, [], ◌∷◌, get_or}
-use Rattle.dpl_map.specs.Maps.{AxisValue}
+use Rattle.std.specs.Prelude.{◌≡◌, ◌<◌, ℕ, Some, None, List, [], ◌∷◌, get_or}
+use Rattle.std.specs.List.{AllByRecursion}
+use Rattle.dpl_map.specs.Maps.{AxisValue, owner, locales}
+use Rattle.dpl_language.specs.Values.{Index}
+use Rattle.dpl_language.specs.Ranges.{indices_in}
 use Rattle.dpl_memory.specs.Memory.{Memory, no_array, array_at, with_array}
 use Rattle.dpl_contents.specs.Parted.{Parted, parted, whole_of, with_piece}
 use Rattle.dpl_frame.specs.declared.share.Share.{Share}
@@ -9,6 +12,11 @@ use Rattle.dpl_loop.specs.declared.job.Worked.{Worked}
 use Rattle.dpl_loop.specs.declared.taken.Taken.{Taken}
 
 -- BEFORE THE WORKERS
+-- an array can be taken apart by a map: it has all elements of its domain, and each index has an owner
+pub record IsCut (axes : List AxisValue) (m : Memory) (slot : ℕ) : Type 0 where
+  pub whole : (array_at slot m).keys ≡ indices_in (array_at slot m).ranges
+  pub owners : (t : Index) → owner axes t < locales axes
+
 -- a memory without the arrays in some slots
 abbrev pub emptied : List ℕ → Memory → Memory
 emptied [] m = m
@@ -33,6 +41,10 @@ IsPieceShare Lent = ⊥
 IsPieceShare (Piece p) = Unit {0}
 IsPieceShare (Whole a) = ⊥
 
+-- so it is of each worker
+abbrev pub ArePieces : List Worked → ℕ → Type 0
+ArePieces ws slot = AllByRecursion (λ (w : Worked). IsPieceShare (get_or w.own.items slot Lent)) ws
+
 -- a share in a locale's place, if it is a piece
 abbrev pub put_in : ℕ → Share → Parted → Parted
 put_in l Lent p = p
@@ -48,3 +60,15 @@ all_put slot (w ∷ ws) p = all_put slot ws (put_in w.locale (get_or w.own.items
 abbrev pub given_back : List Taken → List Worked → Memory → Memory
 given_back [] ws m = m
 given_back (t ∷ ts) ws m = given_back ts ws (with_array t.slot (whole_of (all_put t.slot ws t.pieces)) m)
+
+-- what a worker has while its pieces are taken out: all else stays, and a piece that is still there is the one that was
+pub record Stays (w v : Worked) : Type 0 where
+  pub locale : v.locale ≡ w.locale
+  pub words : v.words ≡ w.words
+  pub ended : v.end ≡ w.end
+  pub pieces : (slot : ℕ) → IsPieceShare (get_or v.own.items slot Lent) → get_or v.own.items slot Lent ≡ get_or w.own.items slot Lent
+
+abbrev pub AllStay : List Worked → List Worked → Type 0
+AllStay [] [] = Unit {0}
+AllStay (w ∷ ws) (v ∷ vs) = Stays w v × AllStay ws vs
+AllStay _ _ = ⊥

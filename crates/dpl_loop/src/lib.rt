@@ -11,6 +11,7 @@ mod apart;
 mod crew;
 mod formed;
 pub mod gate;
+mod given;
 mod job;
 mod joined;
 mod level;
