@@ -9,6 +9,7 @@ pub mod SoleParts
 pub mod TakenApart
 pub mod JobShares
 pub mod Staying
+pub mod Back
 -- Lists by places, and the indices of a range.
 pub mod Places
 pub mod Lines

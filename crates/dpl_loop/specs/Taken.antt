@@ -1,7 +1,9 @@
 -- Arrays that are taken apart for workers: what stays of a memory, what is left of the pieces, and the arrays that come back.
-use Rattle.std.specs.Prelude.{◌≡◌, ◌==◌, if◌then◌else◌, ℕ, Option, Some, None, IsSome, List, [], ◌∷◌, map, get_or}
+use Rattle.std.specs.Prelude.{◌≡◌, ◌==◌, ◌<◌, if◌then◌else◌, ℕ, Option, Some, None, IsSome, List, [], ◌∷◌, map, get_or}
 use Rattle.std.specs.List.{AllByRecursion}
-use Rattle.dpl_map.specs.Maps.{AxisValue}
+use Rattle.dpl_map.specs.Maps.{AxisValue, owner, locales}
+use Rattle.dpl_language.specs.Values.{Index}
+use Rattle.dpl_language.specs.Ranges.{indices_in}
 use Rattle.dpl_memory.specs.Memory.{Held, Memory, no_array, array_at, with_array}
 use Rattle.dpl_contents.specs.Parted.{Parted, parted, piece_of, whole_of, with_piece}
 use Rattle.dpl_frame.specs.declared.share.Share.{Share}
@@ -10,6 +12,11 @@ use Rattle.dpl_loop.specs.declared.job.Worked.{Worked}
 use Rattle.dpl_loop.specs.declared.taken.Taken.{Taken}
 
 -- BEFORE THE WORKERS
+-- an array can be taken apart by a map: it has all elements of its domain, and each index has an owner
+pub record IsCut (axes : List AxisValue) (m : Memory) (slot : ℕ) : Type 0 where
+  pub whole : (array_at slot m).keys ≡ indices_in (array_at slot m).ranges
+  pub owners : (t : Index) → owner axes t < locales axes
+
 -- a memory without the arrays in some slots
 abbrev pub emptied : List ℕ → Memory → Memory
 emptied [] m = m
