@@ -3,6 +3,9 @@ pub mod Ends
 pub mod Order
 pub mod Workers
 pub mod FormedMemories
+pub mod SoleParts
+pub mod TakenApart
+pub mod JobShares
 -- Lists by places, and the indices of a range.
 pub mod Places
 pub mod Lines

@@ -1,8 +1,9 @@
 -- Arrays that are taken apart for workers: what stays of a memory, what is left of the pieces, and the arrays that come back.
-use Rattle.std.specs.Prelude.{◌≡◌, ℕ, Some, None, List, [], ◌∷◌, get_or}
+use Rattle.std.specs.Prelude.{◌≡◌, ◌==◌, if◌then◌else◌, ℕ, Option, Some, None, IsSome, List, [], ◌∷◌, map, get_or}
+use Rattle.std.specs.List.{AllByRecursion}
 use Rattle.dpl_map.specs.Maps.{AxisValue}
-use Rattle.dpl_memory.specs.Memory.{Memory, no_array, array_at, with_array}
-use Rattle.dpl_contents.specs.Parted.{Parted, parted, whole_of, with_piece}
+use Rattle.dpl_memory.specs.Memory.{Held, Memory, no_array, array_at, with_array}
+use Rattle.dpl_contents.specs.Parted.{Parted, parted, piece_of, whole_of, with_piece}
 use Rattle.dpl_frame.specs.declared.share.Share.{Share}
 use Rattle.dpl_frame.specs.declared.share.Share.TheVariants.{Lent, Piece, Whole}
 use Rattle.dpl_loop.specs.declared.job.Worked.{Worked}
@@ -17,6 +18,28 @@ emptied (slot ∷ slots) m = emptied slots (with_array slot no_array m)
 -- the array in a slot, taken apart by a map
 abbrev pub taken_from : List AxisValue → Memory → ℕ → Taken
 taken_from axes m slot = record { slot = slot; pieces = parted axes (array_at slot m) }
+
+-- those in some slots
+abbrev pub all_taken : List AxisValue → Memory → List ℕ → List Taken
+all_taken axes m slots = map (taken_from axes m) slots
+
+-- arrays were taken out of some slots of a memory, and apart by a map; another memory is what stays of it
+pub record AreTaken (axes : List AxisValue) (slots : List ℕ) (m : Memory) (ts : List Taken) (n : Memory) : Type 0 where
+  pub taken : ts ≡ all_taken axes m slots
+  pub stays : n ≡ emptied slots m
+
+-- each of them has a locale's piece
+abbrev pub AreThere : ℕ → List Taken → Type 0
+AreThere l ts = AllByRecursion (λ t. IsSome (piece_of l t.pieces)) ts
+
+-- a locale's share in a slot: its piece of the array that was taken from there; where none was, it is lent
+abbrev pub piece_share : Option Held → Share
+piece_share None = Lent
+piece_share (Some p) = Piece p
+
+abbrev pub share_of : ℕ → ℕ → List Taken → Share
+share_of l slot [] = Lent
+share_of l slot (t ∷ ts) = if slot == t.slot then piece_share (piece_of l t.pieces) else share_of l slot ts
 
 -- what is taken apart, without the pieces of some locales
 abbrev pub without : List ℕ → Parted → Parted

@@ -6,6 +6,7 @@ ghost use Rattle.std.specs.List.{AllByRecursion};
 ghost use Rattle.dpl_memory.specs.Memory.{is_among, intents_by_slot};
 ghost use Rattle.dpl_nodes.specs.Steps.{intent_view};
 ghost use Rattle.dpl_apart.specs.Operands.{IsExact, AreExact};
+ghost use Rattle.dpl_apart.specs.Rows.{AreOnce};
 ghost use Rattle.dpl_apart.specs.Memories.{IsFormed, words_in, operators_of};
 ghost use Rattle.dpl_loop.specs.Formed.{HasPiece, IsReduced, AreReduced};
 
@@ -36,6 +37,16 @@ fn have_elements(slots: &[usize], frame: &Frame<Slots>) -> bool
     match slots {
         [] => true,
         [slot, rest @ ..] => has_elements(*slot, frame) && have_elements(rest, frame),
+    }
+}
+
+// Whether each of some slots stands among them once.
+fn are_once(slots: &[usize]) -> bool
+    ensures { result ≡ true → AreOnce slots.now }
+{
+    match slots {
+        [] => true,
+        [slot, rest @ ..] => !rest.contains(slot) && are_once(rest),
     }
 }
 
@@ -124,11 +135,15 @@ fn are_same(intents: &[Intent], others: &[Intent]) -> bool
 pub(crate) fn may_start(apart: &Apart<'_>, frame: &Frame<Slots>) -> bool
     ensures formed { result ≡ true → IsFormed apart.now frame.now.memory }
     ensures exact { result ≡ true → AreExact (operators_of apart.now.reduced) (words_in apart.now.reduced frame.now.memory) }
+    ensures once { result ≡ true → AreOnce apart.now.written }
 {
     if !are_same(frame.intents(), apart.reduced) {
         return false;
     }
     if !have_elements(apart.written, frame) {
+        return false;
+    }
+    if !are_once(apart.written) {
         return false;
     }
     if !are_reduced(apart.reduced, apart.numbers, frame) {
