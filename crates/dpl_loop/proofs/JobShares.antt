@@ -1,5 +1,5 @@
 -- The jobs of locales: their parts, and what each worker begins with.
-use Rattle.std.proofs.Common.{◌≡◌, ℕ, zero, suc, ◌+◌, ◌<◌, Bool, true, false, List, [], ◌∷◌, ◌++◌, length, map, get_or, Option, Some, None, refl, sym, subst, ap, ◌∙◌, arith}
+use Rattle.std.proofs.Common.{◌≡◌, ℕ, zero, suc, ◌+◌, ◌-◌, ◌<◌, ◌≤◌, Bool, true, false, List, [], ◌∷◌, ◌++◌, length, map, take, get_or, Option, Some, None, Result, Ok, Err, IfOk, refl, sym, subst, ap, ◌∙◌, arith}
 use Rattle.std.specs.List.{AllByRecursion}
 use Rattle.dpl_sets.specs.Ranges.{RangeValue}
 use Rattle.dpl_sets.specs.Indices.{indices}
@@ -46,6 +46,16 @@ module _ (axes : List AxisValue) (written : List ℕ) (m : Memory) (l : ℕ) (ow
       ∙ ap (λ (hs : List Held). with_units h.reduced (record m { arrays = hs })) (own-is ∙ ap (λ slots. shares_from 0 slots (owner axes) l m.arrays) (sym same))
 
 -- THE JOBS THAT ARE BEGUN
+-- a list with its last one
+firsts-last : {X : Type 0} (xs : List X) (n : ℕ) (x : X) → length xs ≡ n + 1 → x ≡ get_or xs n x → take n xs ++ x ∷ [] ≡ xs
+firsts-last [] n x long is = absurd (omega (arith, long))
+firsts-last (y ∷ []) zero x long is = ap (λ z. z ∷ []) is
+firsts-last (y ∷ z ∷ zs) zero x long is = absurd (omega (arith, long))
+firsts-last (y ∷ ys) (suc n) x long is = ap (λ zs. y ∷ zs) (firsts-last ys n x (omega (arith, long)) is)
+
+pub with-last : {X : Type 0} (xs : List X) (x : X) → 1 ≤ length xs → x ≡ get_or xs (length xs - 1) x → take (length xs - 1) xs ++ x ∷ [] ≡ xs
+with-last xs x some is = firsts-last xs (length xs - 1) x (omega (arith, some)) is
+
 -- of more parts
 get_or-first : {X : Type 0} (xs : List X) (x : X) (k : ℕ) (d : X) → k < length xs → get_or (xs ++ x ∷ []) k d ≡ get_or xs k d
 get_or-first [] x k d below = absurd (omega (arith, below))
@@ -76,16 +86,20 @@ module _ (ps : List (ℕ × Op)) (parts : List (Option (List RangeValue))) (ts :
   all-still p (j ∷ js) all = (begun-still p j all.0, all-still p js all.1)
 
   -- and one more
-  pub begun-last : (d : List RangeValue) (j : Job) (ls : List ℕ) (own : List Share) → j.locale ≡ length parts → j.part.now ≡ d → ((slot : ℕ) → get_or own slot Lent ≡ share_of j.locale slot (map (lacking ls) ts))
-      → AreThere j.locale (map (lacking ls) ts) → j.frame ≡ with_memory (begun_with ps own f.memory) f → IsBegun ps (parts ++ Some d ∷ []) ts f j
-  begun-last d j ls own last is shares there frame = record {
-    below = let more = longer parts (Some d) in omega (arith, more, last);
-    part = ap (λ l. get_or (parts ++ Some d ∷ []) l None) last ∙ get_or-last parts (Some d) None ∙ ap Some (sym is);
-    own = own;
-    shares = λ slot. shares slot ∙ share-before ls j.locale slot ts there;
-    there = there-before ls j.locale ts there;
-    frame = frame;
-  }
+  pub begun-last : (d : List RangeValue) (j : Job) (ls : List ℕ) (own : List Share) (l : ℕ) (left : List Taken) → j.locale ≡ l → l ≡ length parts → j.part.now ≡ d → left ≡ map (lacking ls) ts
+      → ((slot : ℕ) → get_or own slot Lent ≡ share_of l slot left) → AreThere l left → j.frame ≡ with_memory (begun_with ps own f.memory) f → IsBegun ps (parts ++ Some d ∷ []) ts f j
+  begun-last d j ls own l left here last is same shares there frame =
+      let is_there : AreThere j.locale (map (lacking ls) ts) = subst (λ l. AreThere l (map (lacking ls) ts)) (sym here) (subst (AreThere l) same there) in
+      record {
+        below = let more = longer parts (Some d) in omega (arith, more, here, last);
+        part = ap (λ l. get_or (parts ++ Some d ∷ []) l None) (here ∙ last) ∙ get_or-last parts (Some d) None ∙ ap Some (sym is);
+        own = own;
+        shares = λ slot.
+            shares slot ∙ ap (share_of l slot) same ∙ ap (λ l. share_of l slot (map (lacking ls) ts)) (sym here)
+            ∙ share-before ls j.locale slot ts is_there;
+        there = there-before ls j.locale ts is_there;
+        frame = frame;
+      }
 
 pub all-next : {X : Type 0} (P : X → Type 0) (xs : List X) (x : X) → AllByRecursion P xs → P x → AllByRecursion P (xs ++ x ∷ [])
 all-next P [] x all one = (one, tt)
@@ -142,3 +156,15 @@ module _ (whole : List RangeValue) (axes : List AxisValue) (parts : List (Option
   pub begun-jobs : (h : Changes) (m : Memory) (ts : List Taken) (f : Framed) (js : List Job) → AreTaken axes h.written m ts f.memory → AllByRecursion (IsBegun h.reduced parts ts f) js → AllByRecursion (IsJob h whole axes m f) js
   begun-jobs h m ts f [] taken all = tt
   begun-jobs h m ts f (j ∷ js) taken all = (begun-job h m ts f j taken all.0, begun-jobs h m ts f js taken all.1)
+
+pub jobs-begun : {V E : Type 0} (items : V → List Job) (r : Result V E) (h : Changes) (parts : List (Option (List RangeValue))) (ts : List Taken) (f : Framed)
+    → IfOk r (λ js. AllByRecursion (IsBegun h.reduced parts ts f) (items js))
+    → IfOk r (λ js. (whole : List RangeValue) (axes : List AxisValue) (m : Memory) → AreSoleParts whole axes parts → AreTaken axes h.written m ts f.memory → AllByRecursion (IsJob h whole axes m f) (items js))
+jobs-begun items (Ok js) h parts ts f begun = λ whole axes m sole taken. begun-jobs whole axes parts sole h m ts f (items js) taken begun
+jobs-begun items (Err e) h parts ts f begun = tt
+
+pub jobs-have : {V E : Type 0} (items : V → List Job) (r : Result V E) (parts : List (Option (List RangeValue)))
+    → IfOk r (λ js. HaveWorkers (indices_of parts) (length parts) (map (λ (j : Job). j.locale) (items js)))
+    → IfOk r (λ js. (whole : List RangeValue) (axes : List AxisValue) → AreSoleParts whole axes parts → HaveWorkers (part whole axes) (length parts) (map (λ (j : Job). j.locale) (items js)))
+jobs-have items (Ok js) parts have = λ whole axes sole. parts-have whole axes parts sole (map (λ (j : Job). j.locale) (items js)) have
+jobs-have items (Err e) parts have = tt

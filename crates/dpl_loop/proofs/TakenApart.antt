@@ -1,5 +1,5 @@
 -- Arrays that are taken out of a memory, and apart: what stays of the memory, and what each locale's piece is.
-use Rattle.std.proofs.Common.{◌≡◌, ℕ, zero, suc, ◌+◌, ◌==◌, Bool, true, false, List, [], ◌∷◌, ◌++◌, length, map, set, get_or, Option, Some, None, IsSome, refl, sym, subst, ap, ◌∙◌, slice_index_or, arith, append_assoc}
+use Rattle.std.proofs.Common.{◌≡◌, ℕ, zero, suc, ◌+◌, ◌-◌, ◌≤◌, ◌==◌, Bool, true, false, List, [], ◌∷◌, ◌++◌, length, map, take, drop, get_or, Option, Some, None, IsSome, Result, Ok, Err, IfOk, refl, sym, subst, ap, ◌∙◌, slice_index_or, arith, append_assoc}
 use Rattle.std.specs.Prelude.{◌||◌, if◌then◌else◌, slice_set}
 use Rattle.std.specs.List.{AllByRecursion}
 use Rattle.std.proofs.lemmas.Bool.Decides.{nat_tests}
@@ -14,7 +14,8 @@ use Rattle.dpl_frame.specs.declared.share.Share.{Share}
 use Rattle.dpl_frame.specs.declared.share.Share.TheVariants.{Lent, Piece}
 use Rattle.dpl_frame.specs.Shares.{share_before}
 use Rattle.dpl_loop.specs.declared.taken.Taken.{Taken}
-use Rattle.dpl_loop.specs.Taken.{emptied, taken_from, AreThere, piece_share, share_of, without, lacking}
+use Rattle.dpl_loop.proofs.FormedMemories.{take-whole}
+use Rattle.dpl_loop.specs.Taken.{emptied, taken_from, all_taken, AreThere, piece_share, share_of, without, lacking}
 
 -- WHAT STAYS
 -- only arrays are gone
@@ -56,12 +57,30 @@ taken-beside axes m slot (k ∷ slots) none = by (slot == k) refl none (taken-be
       ap (λ (a : Held). record { slot = k; pieces = parted axes a } ∷ map (taken_from axes (with_array slot no_array m)) slots) (other-array slot k m other)
       ∙ ap (λ ts. taken_from axes m k ∷ ts) (rest none)
 
-pub taken-next : (axes : List AxisValue) (m : Memory) (slot : ℕ) (slots : List ℕ) (before : List Taken) (t : Taken) → AreOnce (slot ∷ slots) → t ≡ taken_from axes m slot
+taken-next : (axes : List AxisValue) (m : Memory) (slot : ℕ) (slots : List ℕ) (before : List Taken) (t : Taken) → AreOnce (slot ∷ slots) → t ≡ taken_from axes m slot
     → (before ++ t ∷ []) ++ map (taken_from axes (with_array slot no_array m)) slots ≡ before ++ map (taken_from axes m) (slot ∷ slots)
 taken-next axes m slot slots before t once is =
     ap (λ ts. (before ++ t ∷ []) ++ ts) (taken-beside axes m slot slots once.0)
     ∙ append_assoc before (t ∷ []) (map (taken_from axes m) slots)
     ∙ ap (λ t. before ++ t ∷ map (taken_from axes m) slots) is
+
+-- what is cut by a map is taken apart by it
+pub cut-taken : (axes : List AxisValue) (p : Parted) (a h : Held) → (own : List AxisValue) × (p ≡ parted own a) → p.axes ≡ axes → a ≡ h → p ≡ parted axes h
+cut-taken axes p a h is cut same = is.1 ∙ ap (λ own. parted own a) (sym (ap (λ (p : Parted). p.axes) is.1) ∙ cut) ∙ ap (parted axes) same
+
+-- and the first of all arrays, before the others
+pub all-taken : {V E : Type 0} (items : V → List Taken) (r : Result V E) (axes : List AxisValue) (m n : Memory) (slots : List ℕ) (before more : List Taken) (t : Taken)
+    → 1 ≤ length slots → AreOnce slots → n ≡ with_array (get_or slots 0 0) no_array m → more ≡ before ++ t ∷ [] → t ≡ taken_from axes m (get_or slots 0 0)
+    → IfOk r (λ ts. items ts ≡ more ++ all_taken axes n (take (length slots - 1) (drop 1 slots))) → IfOk r (λ ts. items ts ≡ before ++ all_taken axes m slots)
+all-taken items r axes m n [] before more t some once left pushed is all = absurd (omega (arith, some))
+all-taken items (Ok ts) axes m n (slot ∷ slots) before more t some once left pushed is all =
+    let behind : take (length (slot ∷ slots) - 1) (drop 1 (slot ∷ slots)) ≡ slots = take-whole slots (length (slot ∷ slots) - 1) (omega arith) in
+    all
+    ∙ ap (λ ts. ts ++ all_taken axes n (take (length (slot ∷ slots) - 1) (drop 1 (slot ∷ slots)))) pushed
+    ∙ ap (λ n. (before ++ t ∷ []) ++ all_taken axes n (take (length (slot ∷ slots) - 1) (drop 1 (slot ∷ slots)))) left
+    ∙ ap (λ slots. (before ++ t ∷ []) ++ all_taken axes (with_array slot no_array m) slots) behind
+    ∙ taken-next axes m slot slots before t once is
+all-taken items (Err e) axes m n (slot ∷ slots) before more t some once left pushed is all = tt
 
 -- THE PIECES OF LOCALES
 -- a piece that is there was there before others were taken out

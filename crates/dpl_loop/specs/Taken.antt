@@ -26,9 +26,13 @@ emptied (slot ∷ slots) m = emptied slots (with_array slot no_array m)
 abbrev pub taken_from : List AxisValue → Memory → ℕ → Taken
 taken_from axes m slot = record { slot = slot; pieces = parted axes (array_at slot m) }
 
+-- those in some slots
+abbrev pub all_taken : List AxisValue → Memory → List ℕ → List Taken
+all_taken axes m slots = map (taken_from axes m) slots
+
 -- arrays were taken out of some slots of a memory, and apart by a map; another memory is what stays of it
 pub record AreTaken (axes : List AxisValue) (slots : List ℕ) (m : Memory) (ts : List Taken) (n : Memory) : Type 0 where
-  pub taken : ts ≡ map (taken_from axes m) slots
+  pub taken : ts ≡ all_taken axes m slots
   pub stays : n ≡ emptied slots m
 
 -- each of them has a locale's piece

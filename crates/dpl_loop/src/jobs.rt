@@ -1,7 +1,7 @@
 // The jobs of a forall's workers, one for each locale that has a part of the loop's domain. A worker owns its locale's pieces of the arrays that
 // were taken apart, and is lent all others.
 
-ghost use Rattle.std.specs.Prelude.{◌≡◌, ◌==◌, if◌then◌else◌, ℕ, List, [], ◌∷◌, map, length, get_or, IsSome, IfOk, OnOk};
+ghost use Rattle.std.specs.Prelude.{◌≡◌, ◌==◌, if◌then◌else◌, ℕ, List, [], ◌∷◌, map, length, get_or, IfOk, OnOk};
 ghost use Rattle.std.specs.List.{AllByRecursion};
 ghost use Rattle.dpl_sets.specs.Ranges.{RangeValue};
 ghost use Rattle.dpl_map.specs.Maps.{AxisValue};

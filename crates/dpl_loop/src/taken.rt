@@ -1,9 +1,9 @@
 // Arrays that are taken apart for the workers of a forall, by the map of the loop.
 
-ghost use Rattle.std.specs.Prelude.{◌≡◌, ◌++◌, map, IfOk, OnOk};
+ghost use Rattle.std.specs.Prelude.{◌≡◌, ◌++◌, IfOk, OnOk};
 ghost use Rattle.dpl_apart.specs.Rows.{AreOnce};
 ghost use Rattle.dpl_frame.specs.Frames.{with_memory};
-ghost use Rattle.dpl_loop.specs.Taken.{emptied, taken_from};
+ghost use Rattle.dpl_loop.specs.Taken.{emptied, all_taken};
 
 use dpl_contents::PiecesWords;
 use dpl_frame::{Frame, Slots};
@@ -38,7 +38,7 @@ pub(crate) fn take_all(
 ) -> Result<Vec<Taken>, AllocError>
     requires once { AreOnce slots.now }
     ensures memory { OnOk result (frame.new ≡ with_memory (emptied slots.now frame.old.memory) frame.old) }
-    ensures taken { IfOk result (λ ts. ts.items ≡ taken.items ++ map (taken_from map.now frame.old.memory) slots.now) }
+    ensures taken { IfOk result (λ ts. ts.items ≡ taken.items ++ all_taken map.now frame.old.memory slots.now) }
 {
     let [slot, rest @ ..] = slots else {
         return Ok(taken);

@@ -4,6 +4,7 @@ use Rattle.dpl_memory.specs.Memory.{intents_by_slot}
 use Rattle.dpl_nodes.specs.Steps.{intent_view}
 use Rattle.dpl_apart.specs.Memories.{IsFormed, words_in, operators_of}
 use Rattle.dpl_apart.specs.Operands.{AreExact}
+use Rattle.dpl_apart.specs.Rows.{AreOnce}
 use Rattle.dpl_loop.proofs.FormedMemories.{memory-formed, reduced-exact}
 use Rattle.dpl_loop.proofs.formed.may_start.Goals as goal
 
@@ -27,3 +28,6 @@ returns-clause-exact c e =
     let a = c.apart.inside in
     subst (λ h. AreExact (operators_of h.reduced) (words_in h.reduced m)) c.apart.view_is
     (reduced-exact a.numbers.now m (intents_by_slot (map intent_view a.reduced.now)) (c.are_reduced.ensures c.if-not-are_reduced.false))
+
+pub returns-clause-once : goal.returns-clause-once
+returns-clause-once c e = subst (λ h. AreOnce h.written) c.apart.view_is (c.are_once.ensures c.if-not-are_once.false)
