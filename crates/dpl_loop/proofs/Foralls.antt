@@ -8,24 +8,27 @@ use Rattle.std.proofs.lemmas.Option.{none-some, same_Some}
 use Rattle.dpl_sets.specs.Ranges.{RangeValue}
 use Rattle.dpl_sets.specs.Indices.{indices}
 use Rattle.dpl_domain.proofs.DistinctLemmas.{AreRanges, indices-distinct}
-use Rattle.dpl_map.specs.Maps.{AxisValue, owner}
+use Rattle.dpl_map.specs.Maps.{AxisValue, owner, locales as locales_in}
 use Rattle.dpl_map.specs.Parts.{part}
 use Rattle.dpl_language.specs.Tree.{Op}
 use Rattle.dpl_language.specs.Values.{Index, Fault, Turn, InTurn}
 use Rattle.dpl_language.specs.Environment.{Limits}
 use Rattle.dpl_language.specs.Outcome.{Deeds, no_deeds, Outcome, Done, Stop as StopAt, Run, in_order}
 use Rattle.dpl_language.specs.Loops.{named_turn}
-use Rattle.dpl_memory.specs.Memory.{Memory, no_array, with_array}
+use Rattle.dpl_memory.specs.Memory.{Held, Memory}
 use Rattle.dpl_apart.specs.Operands.{combined_words, AreExact}
 use Rattle.dpl_apart.specs.Apart.{last_index}
 use Rattle.dpl_apart.specs.Rows.{AreOnce, part_of, place_in}
-use Rattle.dpl_apart.specs.Memories.{Changes, IsFormed, MayBeApart, words_in, operators_of}
-use Rattle.dpl_apart.specs.Workers.{worker_memory, locales_of, HaveWorkers, worker_end, left_by, word_joined, words_joined, rejoined_from, last_left, together}
+use Rattle.dpl_apart.specs.Memories.{Changes, Row, IsFormed, held_in, MayBeApart, words_in, operators_of}
+use Rattle.dpl_apart.specs.Workers.{worker_memory, shares_from, locales_of, HaveWorkers, worker_end, left_by, word_joined, words_joined, rejoined_from, last_left, together}
+use Rattle.dpl_apart.proofs.Foralls.{named-may}
+use Rattle.dpl_apart.proofs.Memories.{element-length}
 use Rattle.dpl_apart.proofs.Places.{indices-of-rank}
+use Rattle.dpl_apart.proofs.SharedForalls.{share-ended}
 use Rattle.dpl_apart.proofs.Shares.{each-at}
 use Rattle.dpl_apart.proofs.Workers.{share-stopped, HasStopped, workers-done, workers-stopped}
 use Rattle.dpl_frame.specs.Faults.{fault_view, turn_view}
-use Rattle.dpl_frame.specs.Frames.{Framed}
+use Rattle.dpl_frame.specs.Frames.{Framed, with_memory}
 use Rattle.dpl_frame.specs.Shares.{Plain, plain_of, with_plain}
 use Rattle.dpl_loop.specs.declared.stop.Stop.{Stop}
 use Rattle.dpl_loop.specs.declared.stop.Stop.TheVariants as stop
@@ -35,18 +38,17 @@ use Rattle.dpl_loop.specs.declared.taken.Taken.{Taken}
 use Rattle.dpl_loop.specs.Runs.{RunsTo}
 use Rattle.dpl_loop.specs.Workers.{HasWorked, HaveDone}
 use Rattle.dpl_loop.specs.Parts.{IsJob}
-use Rattle.dpl_loop.specs.Taken.{emptied, given_back}
+use Rattle.dpl_loop.specs.Formed.{IsWhole}
+use Rattle.dpl_loop.specs.declared.plan.Plan.{Plan}
+use Rattle.dpl_loop.specs.Taken.{IsCut, AreTaken, ArePieces, AllStay, taken_from, lacking, given_back}
 use Rattle.dpl_loop.specs.Joined.{word_left, words_left, words_by, reduced_to}
 use Rattle.dpl_loop.specs.Soonest.{spot_in, rank_in, EndsFrom, IsSoonest}
-use Rattle.dpl_loop.specs.Foralls.{HaveMade, with_last, put_together}
+use Rattle.dpl_loop.specs.Foralls.{IsPlan, HaveMade, with_last, put_together}
+use Rattle.dpl_loop.proofs.TakenApart.{emptied-arrays}
+use Rattle.dpl_loop.proofs.Back.{HaveLeft, given-together}
 
 abbrev locales : List Worked → List ℕ
 locales ws = map (λ (w : Worked). w.locale) ws
-
--- what is taken out of a memory are arrays
-pub emptied-arrays : (slots : List ℕ) (m : Memory) → emptied slots m ≡ record m { arrays = (emptied slots m).arrays }
-emptied-arrays [] m = refl
-emptied-arrays (slot ∷ slots) m = emptied-arrays slots (with_array slot no_array m)
 
 -- what no worker of a locale has left
 words-none : (l : ℕ) (ws : List Worked) (q : Plain) → list_any (λ k. l == k) (locales ws) ≡ false → words_by l ws q ≡ q
@@ -204,6 +206,47 @@ module _ (may : Type 0) (h : Changes) (turn : Index → Run Memory) (whole : Lis
         (subst (λ ls. (l : ℕ) → l < n → (part whole axes l ≡ [] → ⊥) → list_any (λ k. l == k) ls ≡ true) same made.locales.there)
         (All-from_recursion _ (afters ws made.each) (all-well ws made.each well)) done
 
+    -- ---- what they have of arrays
+    shares-long : (l first : ℕ) (written : List ℕ) (hs : List Held) → length (shares_from first written (owner axes) l hs) ≡ length hs
+    shares-long l first written [] = refl
+    shares-long l first written (a ∷ more) = ap suc (shares-long l (first + 1) written more)
+
+    held-long : (b : Memory) (last : Option Index) (rows : Index → Row) (words : List ℤ) → length (held_in h b last rows words).arrays ≡ length b.arrays
+    held-long b None rows words = element-length 0 h.written rows b.arrays
+    held-long b (Some t) rows words = element-length 0 h.written rows b.arrays
+
+    left-long : (w : Worked) (its : HasMade w) → w.end ≡ Ok tt → length its.after.arrays ≡ length m.arrays
+    unfolding part
+    left-long w its well =
+        let b : Memory = worker_memory h (owner axes) w.locale m in
+        let ended = share-ended h (named_turn turn) (named-may h turn apart) m formed exact (owner axes) (indices whole) (indices-distinct whole limits) (indices-of-rank whole h.rank of_rank) w.locale its.after
+        (λ done. subst (λ e. RunsTo may e its.after done (in_order (named_turn turn) (part whole axes w.locale) b done)) well (its.ends done)) in
+        ap (λ (s : Memory). length s.arrays) (sym ended.state)
+        ∙ held-long b (last_index None (part_of (owner axes) w.locale (indices whole))) ended.rows ended.words
+        ∙ shares-long w.locale 0 h.written m.arrays
+
+    have-left : (ws : List Worked) (all : AllByRecursion HasMade ws) → AllByRecursion (λ (w : Worked). w.end ≡ Ok tt) ws → HaveLeft (length m.arrays) ws (afters ws all)
+    have-left [] all well = tt
+    have-left (w ∷ ws) all well = (record { locale = refl; shares = all.0.shares; long = left-long w all.0 well.0 }, have-left ws all.1 well.1)
+
+    all-cut : (slots : List ℕ) → AllByRecursion (IsWhole m) slots → n ≡ locales_in axes → AllByRecursion (IsCut axes m) slots
+    all-cut [] whole count = tt
+    all-cut (slot ∷ slots) whole count = (record { whole = whole.0; owners = λ t. subst (λ k. owner axes t < k) count (below t) }, all-cut slots whole.1 count)
+
+    -- put together, what they have left is the memory after the forall
+    pub made-together : (last : Option Index) (ts before : List Taken) (e : Memory) → AreTaken axes h.written m before e → ts ≡ map (lacking (locales ws)) before → AllByRecursion (λ (t : Taken). ArePieces ws t.slot) ts
+        → AllByRecursion (IsWhole m) h.written → n ≡ locales_in axes → AllByRecursion (λ (w : Worked). w.end ≡ Ok tt) ws
+        → put_together h (owner axes) last ts ws e ≡ together h (owner axes) (afters ws made.each) last m
+    made-together last ts before e taken lacks are whole_arrays count well =
+        let us : List (ℕ × Memory) = afters ws made.each in
+        let same : locales_of us ≡ locales ws = afters-locales ws made.each in
+        let kept : e ≡ record m { arrays = e.arrays } = taken.stays ∙ emptied-arrays h.written m ∙ ap (λ (x : Memory). record m { arrays = x.arrays }) (sym taken.stays) in
+        let is : ts ≡ map (lacking (locales_of us)) (map (taken_from axes m) h.written) = lacks ∙ ap (map (lacking (locales ws))) taken.taken ∙ ap (λ ls. map (lacking ls) (map (taken_from axes m) h.written)) (sym same) in
+        let given = given-together axes m ws us (have-left ws made.each well) (subst AreOnce (sym same) made.locales.once) h formed (all-cut h.written whole_arrays count)
+        (subst (λ ts. AllByRecursion (λ (t : Taken). ArePieces ws t.slot) ts) is are) e (ap (λ (x : Memory). x.arrays) taken.stays) in
+        put-made last ts ws made.each e made.locales.once kept
+        (ap (λ ts. given_back ts ws e) is ∙ given ∙ ap (λ (x : Memory). record x { arrays = rejoined_from 0 h.written (owner axes) us m m.arrays }) kept)
+
     -- or the fault of one of them stands first
     fault-first : (f : _) → IsSoonest (indices whole) ws (Err (stop.Fault f)) → (done : Deeds) → in_order (named_turn turn) (indices whole) m done ≡ StopAt (fault_view f) done
     unfolding part
@@ -231,3 +274,57 @@ module _ (may : Type 0) (h : Changes) (turn : Index → Run Memory) (whole : Lis
     made-ends stop.Gate soonest s done =
         let its = each-at HasMade ws soonest.0.0 soonest.0.1 made.each soonest.0.2 in
         subst (λ e. RunsTo may e its.after no_deeds (in_order (named_turn turn) (part whole axes soonest.0.1.locale) (worker_memory h (owner axes) soonest.0.1.locale m) no_deeds)) soonest.0.3 (its.ends no_deeds)
+
+-- ---- what the calls of a forall say, put together
+done-locales : (may : Type 0) (turn : Limits → Index → Run Memory) (js : List Job) (ws : List Worked) → HaveDone may turn js ws → map (λ (j : Job). j.locale) js ≡ locales ws
+done-locales may turn [] [] done = refl
+done-locales may turn [] (w ∷ ws) done = absurd done
+done-locales may turn (j ∷ js) [] done = absurd done
+done-locales may turn (j ∷ js) (w ∷ ws) done = let rest = done-locales may turn js ws done.1 in (λ i. sym done.0.0 i ∷ rest i)
+
+pub done-lacking : (may : Type 0) (turn : Limits → Index → Run Memory) (js : List Job) (ws : List Worked) (before after : List Taken) → HaveDone may turn js ws
+    → after ≡ map (lacking (map (λ (j : Job). j.locale) js)) before → after ≡ map (lacking (locales ws)) before
+done-lacking may turn js ws before after done lacks = lacks ∙ ap (λ ls. map (lacking ls) before) (done-locales may turn js ws done)
+
+pub made-from : (may : Type 0) (turn : Limits → Index → Run Memory) (h : Changes) (whole : List RangeValue) (axes : List AxisValue) (n : ℕ) (m : Memory) (f : Framed) (js : List Job) (ws : List Worked)
+    → AllByRecursion (IsJob h whole axes m f) js → HaveWorkers (part whole axes) n (map (λ (j : Job). j.locale) js) → HaveDone may (λ limits. named_turn (turn limits)) js ws
+    → HaveMade may (named_turn (turn f.limits)) h whole axes n m ws
+made-from may turn h whole axes n m f js ws jobs workers done =
+    let its = done-made may h (turn f.limits) whole axes m f (λ limits. named_turn (turn limits)) refl js ws jobs done in
+    record { locales = subst (HaveWorkers (part whole axes) n) its.0 workers; each = its.1 }
+
+words-stay : (l : ℕ) (ws vs : List Worked) (p : Plain) → AllStay ws vs → words_by l vs p ≡ words_by l ws p
+words-stay l [] [] p stay = refl
+words-stay l [] (v ∷ vs) p stay = absurd stay
+words-stay l (w ∷ ws) [] p stay = absurd stay
+words-stay l (w ∷ ws) (v ∷ vs) p stay =
+    ap (λ k. words_by l vs (if k == l then v.words else p)) stay.0.locale ∙ ap (λ q. words_by l vs (if w.locale == l then q else p)) stay.0.words
+    ∙ words-stay l ws vs (if w.locale == l then w.words else p) stay.1
+
+-- the worker of the last index
+pub took-last : (owns : Index → ℕ) (last : Option Index) (t : Index) (l : ℕ) (ws vs : List Worked) (f g : Framed) → last ≡ Some t → l ≡ owns t → AllStay ws vs
+    → g ≡ with_memory (with_plain (words_by l vs (plain_of f.memory)) f.memory) f → g ≡ with_memory (with_last owns last ws f.memory) f
+took-last owns last t l ws vs f g is locale stay taken =
+    taken
+    ∙ ap (λ p. with_memory (with_plain p f.memory) f) (words-stay l ws vs (plain_of f.memory) stay ∙ ap (λ l. words_by l ws (plain_of f.memory)) locale)
+    ∙ ap (λ last. with_memory (with_last owns last ws f.memory) f) (sym is)
+
+pub put-steps : (h : Changes) (owns : Index → ℕ) (last : Option Index) (ts : List Taken) (ws : List Worked) (words : List ℤ) (f f1 f2 f3 : Framed) → words ≡ words_left h.reduced ws f.memory
+    → f1 ≡ with_memory (given_back ts ws f.memory) f → f2 ≡ with_memory (with_last owns last ws f1.memory) f1 → f3 ≡ with_memory (reduced_to h.reduced words f2.memory) f2
+    → f3 ≡ with_memory (put_together h owns last ts ws f.memory) f
+put-steps h owns last ts ws words f f1 f2 f3 left given took set =
+    set
+    ∙ (λ i. with_memory (reduced_to h.reduced (left i) (took i).memory) (took i))
+    ∙ (λ i. with_memory (reduced_to h.reduced (words_left h.reduced ws f.memory) (with_last owns last ws (given i).memory)) (given i))
+
+-- A forall whose workers all end well leaves what is put together.
+pub forall-made : (may : Type 0) (turns : Limits → Index → Run Memory) (limits : Limits) (whole : List RangeValue) (axes : List AxisValue) (m e s : Memory) (p : Plan) (before ts : List Taken) (ws : List Worked)
+    → IsPlan turns whole axes m p → AreRanges whole → AreTaken axes p.apart.written m before e → HaveMade may (named_turn (turns limits)) p.apart whole axes (length p.parts.items) m ws
+    → AllByRecursion (λ (w : Worked). w.end ≡ Ok tt) ws → ts ≡ map (lacking (locales ws)) before → AllByRecursion (λ (t : Taken). ArePieces ws t.slot) ts
+    → s ≡ put_together p.apart (owner axes) (last_index None (indices whole)) ts ws e → (done : Deeds)
+    → in_order (named_turn (turns limits)) (indices whole) m done ≡ Done s done
+forall-made may turns limits whole axes m e s p before ts ws plan ranges taken made well lacks are is done =
+    let n = length p.parts.items in
+    made-done may p.apart (turns limits) whole axes m (plan.may limits) plan.formed plan.exact ranges plan.rank n plan.parts.owners ws made well done
+    ∙ ap (λ s. Done s done)
+    (sym (is ∙ made-together may p.apart (turns limits) whole axes m (plan.may limits) plan.formed plan.exact ranges plan.rank n plan.parts.owners ws made (last_index None (indices whole)) ts before e taken lacks are plan.whole_arrays plan.parts.count well))

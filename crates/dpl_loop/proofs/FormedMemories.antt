@@ -20,7 +20,7 @@ use Rattle.dpl_apart.specs.Operands.{IsExact, AreExact}
 use Rattle.dpl_apart.specs.Rows.{AreOnce, IsDistinct}
 use Rattle.dpl_apart.specs.Memories.{Changes, IsPiece, IsFormed, words_in, operators_of}
 use Rattle.dpl_apart.proofs.ReduceWords.{int-exact}
-use Rattle.dpl_loop.specs.Formed.{HasPiece, AreReduced}
+use Rattle.dpl_loop.specs.Formed.{IsWhole, HasPiece, AreReduced}
 
 written-ranges : (ranges : List RangeValue) → AreWritten ranges → AreRanges ranges
 written-ranges [] h = tt
@@ -35,6 +35,7 @@ piece-there m slot a is keys words written some = (
   }),
   by (λ past. let none : a ≡ no_array = is ∙ get_or-eq_default m.arrays no_array past in
       let size : size_in a.ranges ≡ 0 = ap (λ (a : Held). size_in a.ranges) none in omega (arith, size, some)),
+  subst (λ (a : Held). a.keys ≡ indices_in a.ranges) is keys,
 ) where
   by : (length m.arrays ≤ slot → ⊥) → slot < length m.arrays
   by h = grind arith
@@ -58,6 +59,10 @@ among-has P slot (x ∷ xs) all among = by (slot == x) refl among (among-has P s
   by : (c : Bool) → (slot == x) ≡ c → (c || is_among slot xs) ≡ true → (is_among slot xs ≡ true → P slot) → P slot
   by true e h rest = let same : x ≡ slot = grind (arith, nat_tests) in subst P same all.0
   by false e h rest = rest h
+
+pub all-whole : (m : Memory) (slots : List ℕ) → AllByRecursion (HasPiece m) slots → AllByRecursion (IsWhole m) slots
+all-whole m [] all = tt
+all-whole m (slot ∷ slots) all = (all.0.2, all-whole m slots all.1)
 
 module _ (numbers : List ℕ) (m : Memory) where
   reduced-once : (ps : List (ℕ × Op)) → AreReduced numbers m ps → AreOnce (map (λ (p : ℕ × Op). p.0) ps)

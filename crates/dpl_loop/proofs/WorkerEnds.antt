@@ -1,11 +1,13 @@
 -- How a forall ends by how its workers' turns ended: the soonest of their ends is that of the forall.
-use Rattle.std.proofs.Common.{◌≡◌, ◌≤◌, ◌+◌, ◌-◌, ℕ, zero, suc, ◌<◌, ◌==◌, Bool, true, false, cond, List, [], ◌∷◌, ◌++◌, Option, Some, None, Result, Ok, Err, length, take, drop, get_or, slice_get, refl, sym, ap, ◌∙◌, subst, arith}
+use Rattle.std.proofs.Common.{◌≡◌, ◌≤◌, ◌+◌, ◌-◌, ℕ, zero, suc, ◌<◌, ◌==◌, ℤ, pos, Bool, true, false, cond, List, [], ◌∷◌, ◌++◌, Option, Some, None, Result, Ok, Err, length, take, drop, get_or, slice_get, refl, sym, ap, ◌∙◌, subst, arith}
 use Rattle.std.specs.Prelude.{nat_lt, if◌then◌else◌}
 use Rattle.std.specs.List.{AllByRecursion}
 use Rattle.std.proofs.lemmas.Bool.Decides.{nat_tests}
 use Rattle.std.proofs.lemmas.Option.{none-some, same_Some}
+use Rattle.dpl_language.specs.Tree.{Op}
 use Rattle.dpl_language.specs.Values.{Index, InTurn}
 use Rattle.dpl_language.specs.Ranges.{same_index}
+use Rattle.dpl_memory.specs.Memory.{Memory}
 use Rattle.dpl_apart.specs.Apart.{last_index}
 use Rattle.dpl_apart.specs.Rows.{place_in}
 use Rattle.dpl_apart.proofs.Indices.{same_index-refl, same_index-sound}
@@ -15,7 +17,7 @@ use Rattle.dpl_frame.specs.Faults.{turn_view}
 use Rattle.dpl_loop.specs.declared.stop.Stop.{Stop}
 use Rattle.dpl_loop.specs.declared.job.Worked.{Worked}
 use Rattle.dpl_frame.specs.Shares.{Plain}
-use Rattle.dpl_loop.specs.Joined.{words_by}
+use Rattle.dpl_loop.specs.Joined.{word_left, words_left, words_behind, words_by}
 use Rattle.dpl_loop.specs.Soonest.{spot_in, rank_in, sooner_in, EndsFrom, IsSoonest}
 
 -- ---- lists
@@ -28,10 +30,14 @@ pub first-rest : {A : Type 0} (xs : List A) (x : A) → 1 ≤ length xs → x �
 first-rest [] x some is = absurd (omega (arith, some))
 first-rest (y ∷ ys) x some is = let e : suc (length ys) - 1 ≡ length ys = omega arith in ap (λ n. x ∷ take n ys) e ∙ (λ i. is i ∷ take-length ys i)
 
+append-none : {A : Type 0} (xs : List A) → xs ++ [] ≡ xs
+append-none [] = refl
+append-none (x ∷ xs) = ap (λ ys. x ∷ ys) (append-none xs)
+
 -- one thing more before others
-pub push_on : {A : Type 0} (xs : List A) (y : A) (ys : List A) → (xs ++ y ∷ []) ++ ys ≡ xs ++ y ∷ ys
-push_on [] y ys = refl
-push_on (x ∷ xs) y ys = ap (λ zs. x ∷ zs) (push_on xs y ys)
+push-on : {A : Type 0} (xs : List A) (y : A) (ys : List A) → (xs ++ y ∷ []) ++ ys ≡ xs ++ y ∷ ys
+push-on [] y ys = refl
+push-on (x ∷ xs) y ys = ap (λ zs. x ∷ zs) (push-on xs y ys)
 
 -- the last index of a list stands at its last place
 last-behind : (before : Option Index) (t : Index) (ts : List Index) → last_index before (t ∷ ts) ≡ slice_get (t ∷ ts) (length ts)
@@ -42,7 +48,12 @@ pub last-at : (ts : List Index) (n : ℕ) → n ≡ length ts → (n ≡ 0 → �
 last-at [] n long some = absurd (some long)
 last-at (t ∷ ts) n long some = let e : n - 1 ≡ length ts = omega (arith, long) in ap (slice_get (t ∷ ts)) e ∙ sym (last-behind None t ts)
 
--- ---- what the workers of a locale have left
+-- ---- what workers have left
+pub words-behind : (ns : List ℤ) (ps : List (ℕ × Op)) (ws : List Worked) (m : Memory) → words_behind ns ps ws m ≡ ns ++ words_left ps ws m
+words-behind ns [] ws m = sym (append-none ns)
+words-behind ns (p ∷ ps) ws m =
+    words-behind (ns ++ word_left p ws (get_or m.words.numbers p.0 (pos 0)) ∷ []) ps ws m ∙ push-on ns (word_left p ws (get_or m.words.numbers p.0 (pos 0))) (words_left ps ws m)
+
 pub words-last : (l : ℕ) (ws : List Worked) (w : Worked) (p : Plain) → words_by l (ws ++ w ∷ []) p ≡ (if w.locale == l then w.words else words_by l ws p)
 words-last l [] w p = refl
 words-last l (v ∷ ws) w p = words-last l ws w (if v.locale == l then v.words else p)

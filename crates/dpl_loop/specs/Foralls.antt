@@ -16,6 +16,7 @@ use Rattle.dpl_frame.specs.Shares.{plain_of, with_plain}
 use Rattle.dpl_loop.specs.declared.job.Worked.{Worked}
 use Rattle.dpl_loop.specs.declared.taken.Taken.{Taken}
 use Rattle.dpl_loop.specs.declared.plan.Plan.{Plan}
+use Rattle.dpl_loop.specs.Formed.{IsWhole}
 use Rattle.dpl_loop.specs.Workers.{HasWorked}
 use Rattle.dpl_loop.specs.Parts.{AreSoleParts}
 use Rattle.dpl_loop.specs.Taken.{given_back}
@@ -28,6 +29,7 @@ pub record IsPlan (turn : Limits → Index → Run Memory) (whole : List RangeVa
   pub formed : IsFormed p.apart m
   pub exact : AreExact (operators_of p.apart.reduced) (words_in p.apart.reduced m)
   pub once : AreOnce p.apart.written
+  pub whole_arrays : AllByRecursion (IsWhole m) p.apart.written
   pub parts : AreSoleParts whole axes p.parts.items
 
 -- workers have made the turns of a domain: one for each of so many locales whose part isn't empty

@@ -1,15 +1,20 @@
 -- What is asked of a memory, slot by slot, before turns are made apart over it.
 use Rattle.std.specs.Prelude.{◌≡◌, ◌<◌, ℕ, pos, false, List, [], ◌∷◌, length, map, get_or}
 use Rattle.dpl_language.specs.Tree.{Op}
+use Rattle.dpl_language.specs.Ranges.{indices_in}
 use Rattle.dpl_memory.specs.Memory.{Memory, array_at, is_among}
 use Rattle.dpl_apart.specs.Operands.{IsExact, unit_words}
 use Rattle.dpl_apart.specs.Memories.{IsPiece, with_words, operators_of}
 use Rattle.dpl_frame.specs.declared.share.Share.{Share}
 use Rattle.dpl_frame.specs.Shares.{own_before}
 
--- there is an array in a slot, which has each of its indices once
+-- the array in a slot has all indices of its domain
+abbrev pub IsWhole : Memory → ℕ → Type 0
+IsWhole m slot = (array_at slot m).keys ≡ indices_in (array_at slot m).ranges
+
+-- there is a whole array in a slot, which has each of its indices once
 abbrev pub HasPiece : Memory → ℕ → Type 0
-HasPiece m slot = IsPiece (array_at slot m) × (slot < length m.arrays)
+HasPiece m slot = IsPiece (array_at slot m) × (slot < length m.arrays) × IsWhole m slot
 
 -- a reduce variable has a slot of its own, which is there and doesn't begin anew, and in it a word of its kind
 abbrev pub IsReduced : List ℕ → Memory → ℕ × Op → List (ℕ × Op) → Type 0

@@ -1,5 +1,5 @@
 -- What workers leave besides arrays.
-use Rattle.std.specs.Prelude.{ℕ, ◌==◌, ℤ, pos, if◌then◌else◌, List, [], ◌∷◌, map, get_or}
+use Rattle.std.specs.Prelude.{ℕ, ◌==◌, ℤ, pos, if◌then◌else◌, List, [], ◌∷◌, ◌++◌, map, get_or}
 use Rattle.dpl_language.specs.Tree.{Op}
 use Rattle.dpl_memory.specs.Memory.{Memory}
 use Rattle.dpl_apart.specs.Operands.{combined_words}
@@ -15,6 +15,11 @@ word_left p (v ∷ vs) w = word_left p vs (combined_words p.1 w (get_or v.words.
 -- so of all reduce variables of a memory
 abbrev pub words_left : List (ℕ × Op) → List Worked → Memory → List ℤ
 words_left ps ws m = map (λ (p : ℕ × Op). word_left p ws (get_or m.words.numbers p.0 (pos 0))) ps
+
+-- and so behind other words, one after another
+abbrev pub words_behind : List ℤ → List (ℕ × Op) → List Worked → Memory → List ℤ
+words_behind ns [] ws m = ns
+words_behind ns (p ∷ ps) ws m = words_behind (ns ++ word_left p ws (get_or m.words.numbers p.0 (pos 0)) ∷ []) ps ws m
 
 -- a memory with words of reduce variables
 abbrev pub reduced_to : List (ℕ × Op) → List ℤ → Memory → Memory

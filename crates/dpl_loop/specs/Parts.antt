@@ -2,7 +2,7 @@
 use Rattle.std.specs.Prelude.{◌≡◌, ◌<◌, ℕ, Option, Some, None, List, [], get_or, length}
 use Rattle.dpl_sets.specs.Ranges.{RangeValue}
 use Rattle.dpl_sets.specs.Indices.{indices}
-use Rattle.dpl_map.specs.Maps.{AxisValue, owner}
+use Rattle.dpl_map.specs.Maps.{AxisValue, owner, locales}
 use Rattle.dpl_map.specs.Parts.{part}
 use Rattle.dpl_language.specs.Tree.{Op}
 use Rattle.dpl_language.specs.Values.{Index}
@@ -29,6 +29,7 @@ part_in (Some d) = indices d
 
 -- one for each locale of a map
 pub record AreSoleParts (whole : List RangeValue) (axes : List AxisValue) (parts : List (Option (List RangeValue))) : Type 0 where
+  pub count : length parts ≡ locales axes
   pub owners : (t : Index) → owner axes t < length parts
   pub each : (l : ℕ) → l < length parts → IsSolePart (part whole axes l) (get_or parts l None)
 

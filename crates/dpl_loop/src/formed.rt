@@ -8,7 +8,7 @@ ghost use Rattle.dpl_nodes.specs.Steps.{intent_view};
 ghost use Rattle.dpl_apart.specs.Operands.{IsExact, AreExact};
 ghost use Rattle.dpl_apart.specs.Rows.{AreOnce};
 ghost use Rattle.dpl_apart.specs.Memories.{IsFormed, words_in, operators_of};
-ghost use Rattle.dpl_loop.specs.Formed.{HasPiece, IsReduced, AreReduced};
+ghost use Rattle.dpl_loop.specs.Formed.{IsWhole, HasPiece, IsReduced, AreReduced};
 
 use crate::apart::Apart;
 use dpl_frame::{Frame, Slots};
@@ -136,6 +136,7 @@ pub(crate) fn may_start(apart: &Apart<'_>, frame: &Frame<Slots>) -> bool
     ensures formed { result ≡ true → IsFormed apart.now frame.now.memory }
     ensures exact { result ≡ true → AreExact (operators_of apart.now.reduced) (words_in apart.now.reduced frame.now.memory) }
     ensures once { result ≡ true → AreOnce apart.now.written }
+    ensures whole { result ≡ true → AllByRecursion (IsWhole frame.now.memory) apart.now.written }
 {
     if !are_same(frame.intents(), apart.reduced) {
         return false;

@@ -56,6 +56,7 @@ pub(crate) fn give_back(
     ensures memory { OnOk result (frame.new ≡ with_memory (given_back taken.items worked.old frame.old.memory) frame.old) }
     ensures pieces { OnOk result (AllByRecursion (λ t. ArePieces worked.old t.slot) taken.items) }
     ensures stay { OnOk result (AllStay worked.old worked.new) }
+    ensures limits { frame.new.limits ≡ frame.old.limits }
 {
     let mut taken = taken;
     let Some(last) = taken.pop() else {

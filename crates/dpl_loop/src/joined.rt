@@ -1,12 +1,12 @@
 // What workers leave besides arrays: what they have added to reduce variables, put together, and what the last turn has left.
 
-ghost use Rattle.std.specs.Prelude.{◌≡◌, ◌++◌, map, IfOk};
+ghost use Rattle.std.specs.Prelude.{◌≡◌, map, IfOk};
 ghost use Rattle.dpl_memory.specs.Memory.{intents_by_slot};
 ghost use Rattle.dpl_nodes.specs.Steps.{intent_view};
 ghost use Rattle.dpl_apart.specs.Operands.{combined_words};
 ghost use Rattle.dpl_frame.specs.Frames.{with_memory};
 ghost use Rattle.dpl_frame.specs.Shares.{plain_of, with_plain};
-ghost use Rattle.dpl_loop.specs.Joined.{word_left, words_left, words_by, reduced_to};
+ghost use Rattle.dpl_loop.specs.Joined.{word_left, words_behind, words_by, reduced_to};
 
 use crate::job::Worked;
 use dpl_frame::{Frame, Slots};
@@ -45,7 +45,6 @@ fn joined(op: Op, slot: usize, worked: &[Worked], word: i64) -> i64
 ///
 /// # Errors
 /// Out of memory.
-#[tactic(auto, using(crate::proofs::WorkerEnds::push_on))]
 pub(crate) fn words_left(
     intents: &[Intent],
     worked: &[Worked],
@@ -53,7 +52,7 @@ pub(crate) fn words_left(
     mut words: Vec<i64>,
 ) -> Result<Vec<i64>, AllocError>
     ensures { IfOk result (λ ws. ws.items
-        ≡ words.items ++ words_left (intents_by_slot (map intent_view intents.now)) worked.now frame.now.memory) }
+        ≡ words_behind words.items (intents_by_slot (map intent_view intents.now)) worked.now frame.now.memory) }
 {
     let [intent, rest @ ..] = intents else {
         return Ok(words);

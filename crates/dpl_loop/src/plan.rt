@@ -135,6 +135,7 @@ fn put_together<T, G>(
     ensures together { OnOk result (frame.new ≡ with_memory (put_together plan.now.apart (owner site.now.map.now)
         (last_index None (indices site.now.whole.now)) taken.items worked.items frame.old.memory) frame.old) }
     ensures pieces { OnOk result (AllByRecursion (λ t. ArePieces worked.items t.slot) taken.items) }
+    ensures limits { frame.new.limits ≡ frame.old.limits }
 {
     let mut worked = worked;
     let words = words_left(plan.apart.reduced, &worked, frame, Vec::new(frame.alloc()))?;

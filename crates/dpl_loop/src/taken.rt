@@ -38,6 +38,7 @@ pub(crate) fn take_all(
 ) -> Result<Vec<Taken>, AllocError>
     requires once { AreOnce slots.now }
     ensures memory { OnOk result (frame.new ≡ with_memory (emptied slots.now frame.old.memory) frame.old) }
+    ensures limits { frame.new.limits ≡ frame.old.limits }
     ensures taken { IfOk result (λ ts. ts.items ≡ taken.items ++ all_taken map.now frame.old.memory slots.now) }
 {
     let [slot, rest @ ..] = slots else {

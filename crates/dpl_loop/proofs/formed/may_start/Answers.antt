@@ -1,11 +1,13 @@
 -- What was tested is all that the law asks.
 use Rattle.std.proofs.Common.{map, subst, sym, ◌∙◌}
+use Rattle.std.specs.List.{AllByRecursion}
 use Rattle.dpl_memory.specs.Memory.{intents_by_slot}
 use Rattle.dpl_nodes.specs.Steps.{intent_view}
 use Rattle.dpl_apart.specs.Memories.{IsFormed, words_in, operators_of}
 use Rattle.dpl_apart.specs.Operands.{AreExact}
 use Rattle.dpl_apart.specs.Rows.{AreOnce}
-use Rattle.dpl_loop.proofs.FormedMemories.{memory-formed, reduced-exact}
+use Rattle.dpl_loop.proofs.FormedMemories.{memory-formed, reduced-exact, all-whole}
+use Rattle.dpl_loop.specs.Formed.{IsWhole}
 use Rattle.dpl_loop.proofs.formed.may_start.Goals as goal
 
 pub returns-clause-formed : goal.returns-clause-formed
@@ -31,3 +33,8 @@ returns-clause-exact c e =
 
 pub returns-clause-once : goal.returns-clause-once
 returns-clause-once c e = subst (λ h. AreOnce h.written) c.apart.view_is (c.are_once.ensures c.if-not-are_once.false)
+
+pub returns-clause-whole : goal.returns-clause-whole
+returns-clause-whole c e =
+    let m = c.args.frame.now.memory in
+    subst (λ h. AllByRecursion (IsWhole m) h.written) c.apart.view_is (all-whole m c.apart.inside.written.now (c.have_elements.ensures c.if-not-have_elements.false))
