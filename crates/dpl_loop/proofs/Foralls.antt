@@ -115,12 +115,13 @@ module _ (may : Type 0) (h : Changes) (turn : Index → Run Memory) (whole : Lis
 
   plain-left : (l : ℕ) (ws : List Worked) (all : AllByRecursion HasMade ws) → AreOnce (locales ws) → words_by l ws (plain_of m) ≡ plain_of (left_by l (afters ws all) m)
   plain-left l [] all once = refl
-  plain-left l (w ∷ ws) all once = by (w.locale == l) refl where
-    by : (c : Bool) → (w.locale == l) ≡ c → words_by l ws (if c then w.words else plain_of m) ≡ plain_of (if c then all.0.after else left_by l (afters ws all.1) m)
-    by true e =
+  plain-left l (w ∷ ws) all once = by (w.locale == l) refl (plain-left l ws all.1 once.1) where
+    by : (c : Bool) → (w.locale == l) ≡ c → words_by l ws (plain_of m) ≡ plain_of (left_by l (afters ws all.1) m)
+        → words_by l ws (if c then w.words else plain_of m) ≡ plain_of (if c then all.0.after else left_by l (afters ws all.1) m)
+    by true e rest =
         let same : w.locale ≡ l = grind (arith, nat_tests) in
         words-none l ws w.words (subst (λ l. list_any (λ k. l == k) (locales ws) ≡ false) same once.0) ∙ all.0.words
-    by false e = plain-left l ws all.1 once.1
+    by false e rest = rest
 
   pub put-made : (last : Option Index) (ts : List Taken) (ws : List Worked) (all : AllByRecursion HasMade ws) (e : Memory) → AreOnce (locales ws) → e ≡ record m { arrays = e.arrays }
       → given_back ts ws e ≡ record m { arrays = rejoined_from 0 h.written (owner axes) (afters ws all) m m.arrays }
@@ -300,6 +301,12 @@ words-stay l (w ∷ ws) [] p stay = absurd stay
 words-stay l (w ∷ ws) (v ∷ vs) p stay =
     ap (λ k. words_by l vs (if k == l then v.words else p)) stay.0.locale ∙ ap (λ q. words_by l vs (if w.locale == l then q else p)) stay.0.words
     ∙ words-stay l ws vs (if w.locale == l then w.words else p) stay.1
+
+pub stay-long : (ws vs : List Worked) → AllStay ws vs → length vs ≡ length ws
+stay-long [] [] stay = refl
+stay-long [] (v ∷ vs) stay = absurd stay
+stay-long (w ∷ ws) [] stay = absurd stay
+stay-long (w ∷ ws) (v ∷ vs) stay = ap suc (stay-long ws vs stay.1)
 
 -- the worker of the last index
 pub took-last : (owns : Index → ℕ) (last : Option Index) (t : Index) (l : ℕ) (ws vs : List Worked) (f g : Framed) → last ≡ Some t → l ≡ owns t → AllStay ws vs

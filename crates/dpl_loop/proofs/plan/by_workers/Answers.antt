@@ -1,10 +1,13 @@
 -- What was planned, taken, made and put together is the forall.
-use Rattle.std.proofs.Common.{◌≡◌, ◌++◌, [], map, subst, sym, ap, ◌∙◌}
+use Rattle.std.proofs.Common.{◌≡◌, ◌++◌, [], length, subst, sym, ap, ◌∙◌}
 use Rattle.dpl_sets.specs.Indices.{indices}
-use Rattle.dpl_apart.specs.Memories.{Changes}
+use Rattle.dpl_language.specs.Environment.{Limits}
+use Rattle.dpl_language.specs.Loops.{named_turn}
 use Rattle.dpl_frame.specs.Frames.{Framed}
+use Rattle.dpl_loop.specs.declared.plan.Plan.{Plan}
 use Rattle.dpl_loop.specs.Values.{MayRefuseAmong}
 use Rattle.dpl_loop.specs.Taken.{AreTaken, all_taken, emptied}
+use Rattle.dpl_loop.specs.Foralls.{HaveMade}
 use Rattle.dpl_loop.proofs.Foralls.{forall-made}
 use Rattle.dpl_loop.proofs.plan.by_workers.Goals as goal
 
@@ -18,12 +21,13 @@ returns-clause-ends g c =
     let p = c.args.plan.now in
     let before = c.in_ok-taken.taken.items in
     let e = c.take_all.new.frame.memory in
-    let written = c.plan.inside.written.now in
+    let written = c.plan.inside.0.0.written.now in
     let taken : AreTaken axes p.apart.written m before e =
-    subst (λ (h : Changes). AreTaken axes h.written m before e) c.plan.view_is
+    subst (λ (p : Plan). AreTaken axes p.apart.written m before e) c.plan.view_is
     (record {
       taken = c.in_ok-taken.ensures.taken ∙ ap (λ ts. ts ++ all_taken axes m written) c.new.ensures.items;
       stays = ap (λ (f : Framed). f.memory) c.in_ok-taken.ensures.memory;
     }) in
     forall-made may turns c.args.frame.now.limits whole axes m e c.put_together.new.frame.memory p before c.made.new.taken.items c.in_ok-worked.worked.items c.requires.plan c.requires.ranges taken
-    ? c.in_ok-worked.ensures.well c.in_ok-worked.ensures.left c.in_ok-put_together.ensures.pieces (ap (λ (f : Framed). f.memory) c.in_ok-put_together.ensures.together)
+    (subst (λ (l : Limits). HaveMade may (named_turn (turns l)) p.apart whole axes (length p.parts.items) m c.in_ok-worked.worked.items) c.take_all.ensures.limits (c.in_ok-worked.ensures.made m c.requires.plan taken))
+    c.in_ok-worked.ensures.well c.in_ok-worked.ensures.left c.in_ok-put_together.ensures.pieces (ap (λ (f : Framed). f.memory) c.in_ok-put_together.ensures.together)

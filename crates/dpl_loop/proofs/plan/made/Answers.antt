@@ -1,11 +1,12 @@
 -- All workers have ended well, or the soonest of their ends is the forall's.
-use Rattle.std.proofs.Common.{◌≡◌, ℕ, length, subst, sym, ◌∙◌}
+use Rattle.std.proofs.Common.{◌≡◌, ℕ, Err, map, length, subst, sym, ◌∙◌}
 use Rattle.std.specs.List.{AllByRecursion}
 use Rattle.std.proofs.lemmas.Result.{err_from_is_err_and}
 use Rattle.dpl_sets.specs.Indices.{indices}
 use Rattle.dpl_map.specs.Parts.{part}
 use Rattle.dpl_apart.specs.Workers.{HaveWorkers}
 use Rattle.dpl_language.specs.Loops.{named_turn}
+use Rattle.dpl_loop.specs.declared.job.Job.{Job}
 use Rattle.dpl_loop.specs.Values.{MayRefuseAmong}
 use Rattle.dpl_loop.specs.Parts.{AreSoleParts}
 use Rattle.dpl_loop.specs.Soonest.{IsSoonest}
@@ -24,10 +25,10 @@ returns-in_err-ended-clause-ends g c =
     rw (p.1, p.2)
     (λ m s done plan taken ranges.
       let parts = subst (AreSoleParts whole axes) (sym c.deref.ensures.value) plan.parts in
-      let workers = subst (λ ps. HaveWorkers (part whole axes) (length ps) _) c.deref.ensures.value (c.in_ok-jobs.ensures.locales whole axes parts) in
+      let workers = subst (λ ps. HaveWorkers (part whole axes) (length ps) (map (λ (j : Job). j.locale) c.in_ok-jobs.jobs.items)) c.deref.ensures.value (c.in_ok-jobs.ensures.locales whole axes parts) in
       let made = made-from may turns h whole axes n m c.args.frame.now c.in_ok-jobs.jobs.items c.in_ok-worked.worked.items (c.in_ok-jobs.ensures.jobs whole axes m parts taken) workers c.in_ok-worked.ensures.done in
       made-ends may h (turns c.args.frame.now.limits) whole axes m (plan.may c.args.frame.now.limits) plan.formed plan.exact ranges plan.rank n plan.parts.owners c.in_ok-worked.worked.items made
-      c.in_err-ended.field-0.0 (subst (λ ws. IsSoonest (indices whole) ws _) c.deref-2.ensures.value c.in_err-ended.ensures) s done)
+      c.in_err-ended.field-0.0 (subst (λ ws. IsSoonest (indices whole) ws (Err c.in_err-ended.field-0.0)) c.deref-2.ensures.value c.in_err-ended.ensures) s done)
 
 pub returns-clause-made : goal.returns-clause-made
 returns-clause-made g c m plan taken =
@@ -36,7 +37,7 @@ returns-clause-made g c m plan taken =
     let whole = c.args.site.now.whole.now in
     let axes = c.args.site.now.map.now in
     let parts = subst (AreSoleParts whole axes) (sym c.deref.ensures.value) plan.parts in
-    let workers = subst (λ ps. HaveWorkers (part whole axes) (length ps) _) c.deref.ensures.value (c.in_ok-jobs.ensures.locales whole axes parts) in
+    let workers = subst (λ ps. HaveWorkers (part whole axes) (length ps) (map (λ (j : Job). j.locale) c.in_ok-jobs.jobs.items)) c.deref.ensures.value (c.in_ok-jobs.ensures.locales whole axes parts) in
     made-from may turns c.args.plan.now.apart whole axes (length c.args.plan.now.parts.items) m c.args.frame.now c.in_ok-jobs.jobs.items c.in_ok-worked.worked.items
     (c.in_ok-jobs.ensures.jobs whole axes m parts taken) workers c.in_ok-worked.ensures.done
 
