@@ -2,18 +2,17 @@
 use Rattle.std.proofs.Common.{◌≡◌, ℕ, zero, suc, ◌+◌, ◌-◌, ◌<◌, ◌≤◌, Bool, true, false, List, [], ◌∷◌, ◌++◌, length, map, take, get_or, Option, Some, None, Result, Ok, Err, IfOk, refl, sym, subst, ap, ◌∙◌, arith}
 use Rattle.std.specs.List.{AllByRecursion}
 use Rattle.dpl_sets.specs.Ranges.{RangeValue}
-use Rattle.dpl_sets.specs.Indices.{indices}
 use Rattle.dpl_map.specs.Maps.{AxisValue, owner}
 use Rattle.dpl_map.specs.Parts.{part}
 use Rattle.dpl_language.specs.Tree.{Op}
 use Rattle.dpl_language.specs.Values.{Index}
-use Rattle.dpl_memory.specs.Memory.{Held, Memory, no_array, array_at, is_among}
+use Rattle.dpl_memory.specs.Memory.{Held, Memory, no_array, is_among}
 use Rattle.dpl_apart.specs.Memories.{Changes}
-use Rattle.dpl_apart.specs.Workers.{owned_piece, owned_if, shares_from, worker_memory, HaveWorkers}
-use Rattle.dpl_apart.proofs.Collected.{workers-none, workers-skip, workers-next}
+use Rattle.dpl_apart.specs.Workers.{owned_if, shares_from, worker_memory, HaveWorkers}
+use Rattle.dpl_apart.proofs.Collected.{workers-skip, workers-next}
 use Rattle.dpl_frame.specs.Frames.{Framed, with_memory}
 use Rattle.dpl_frame.specs.declared.share.Share.{Share}
-use Rattle.dpl_frame.specs.declared.share.Share.TheVariants.{Lent, Piece}
+use Rattle.dpl_frame.specs.declared.share.Share.TheVariants.{Lent}
 use Rattle.dpl_frame.specs.Shares.{share_in, own_before}
 use Rattle.dpl_frame.proofs.OwnShares.{own_shares}
 use Rattle.dpl_loop.specs.declared.job.Job.{Job}
@@ -21,7 +20,7 @@ use Rattle.dpl_loop.specs.declared.taken.Taken.{Taken}
 use Rattle.dpl_loop.specs.Formed.{begun_with, with_units}
 use Rattle.dpl_loop.specs.Taken.{emptied, taken_from, AreTaken, AreThere, share_of, lacking}
 use Rattle.dpl_loop.specs.Parts.{IsSolePart, AreSoleParts, IsJob, IsBegun, part_in}
-use Rattle.dpl_loop.proofs.TakenApart.{emptied-arrays, emptied-length, emptied-other, there-before, share-before, lacking-next, taken-share, lent-share}
+use Rattle.dpl_loop.proofs.TakenApart.{emptied-arrays, emptied-length, emptied-other, there-before, share-before, taken-share, lent-share}
 
 -- WHAT A WORKER BEGINS WITH
 module _ (axes : List AxisValue) (written : List ℕ) (m : Memory) (l : ℕ) (own : List Share)

@@ -1,5 +1,5 @@
 -- The part of a locale, where it is one domain at most; and a list that becomes longer.
-use Rattle.std.proofs.Common.{◌≡◌, ◌<◌, ◌≤◌, ◌==◌, ◌+◌, ℕ, zero, suc, arith, true, get_or, length, List, [], ◌∷◌, Option, Some, None, slice_get, refl, subst, ◌∙◌}
+use Rattle.std.proofs.Common.{◌≡◌, ◌<◌, ◌≤◌, ◌==◌, ◌+◌, ℕ, zero, suc, arith, true, get_or, length, List, [], ◌∷◌, Option, slice_get, refl, subst, ◌∙◌}
 use Rattle.std.specs.Prelude.{◌++◌}
 use Rattle.std.specs.List.{All, AllByRecursion, filter}
 use Rattle.std.proofs.lemmas.List.Elements.{recursion_from_All}

@@ -1,7 +1,6 @@
 -- Arrays that are taken out of a memory, and apart: what stays of the memory, and what each locale's piece is.
 use Rattle.std.proofs.Common.{◌≡◌, ℕ, zero, suc, ◌+◌, ◌-◌, ◌≤◌, ◌==◌, Bool, true, false, List, [], ◌∷◌, ◌++◌, length, map, take, drop, get_or, Option, Some, None, IsSome, Result, Ok, Err, IfOk, refl, sym, subst, ap, ◌∙◌, slice_index_or, arith, append_assoc}
 use Rattle.std.specs.Prelude.{◌||◌, if◌then◌else◌, slice_set}
-use Rattle.std.specs.List.{AllByRecursion}
 use Rattle.std.proofs.lemmas.Bool.Decides.{nat_tests}
 use Rattle.std.proofs.lemmas.List.{length-set, get_or-set_other}
 use Rattle.dpl_map.specs.Maps.{AxisValue, owner, locales}
@@ -10,9 +9,7 @@ use Rattle.dpl_memory.specs.Memory.{Held, Memory, no_array, array_at, with_array
 use Rattle.dpl_contents.specs.Parted.{Parted, parted, piece_of, with_piece}
 use Rattle.dpl_apart.specs.Workers.{owned_piece}
 use Rattle.dpl_apart.specs.Rows.{AreOnce}
-use Rattle.dpl_frame.specs.declared.share.Share.{Share}
 use Rattle.dpl_frame.specs.declared.share.Share.TheVariants.{Lent, Piece}
-use Rattle.dpl_frame.specs.Shares.{share_before}
 use Rattle.dpl_loop.specs.declared.taken.Taken.{Taken}
 use Rattle.dpl_loop.proofs.FormedMemories.{take-whole}
 use Rattle.dpl_loop.specs.Taken.{emptied, taken_from, all_taken, AreThere, piece_share, share_of, without, lacking}

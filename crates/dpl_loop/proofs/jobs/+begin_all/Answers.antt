@@ -1,5 +1,5 @@
 -- The jobs of the first locales, and that of the last one, if it has a part.
-use Rattle.std.proofs.Common.{◌≡◌, ℕ, ◌-◌, ◌++◌, List, [], ◌∷◌, Option, Some, None, map, length, take, get_or, sym, subst, ap, ◌∙◌}
+use Rattle.std.proofs.Common.{◌≡◌, ℕ, ◌-◌, ◌++◌, List, [], ◌∷◌, Option, Some, map, length, take, sym, subst, ap, ◌∙◌}
 use Rattle.std.specs.List.{AllByRecursion}
 use Rattle.dpl_sets.specs.Ranges.{RangeValue}
 use Rattle.dpl_memory.specs.Memory.{intents_by_slot}

@@ -1,7 +1,6 @@
 -- The next locale's part is one domain, or it has none.
-use Rattle.std.proofs.Common.{◌≡◌, ◌+◌, ◌<◌, ◌≤◌, ℕ, arith, [], ◌∷◌, Option, None, get_or, slice_get, length, sym, subst, ap, ◌∙◌}
+use Rattle.std.proofs.Common.{◌≡◌, ◌+◌, ◌<◌, ◌≤◌, ℕ, arith, [], ◌∷◌, None, get_or, slice_get, length, sym, subst, ap, ◌∙◌}
 use Rattle.std.specs.Prelude.{◌++◌}
-use Rattle.dpl_sets.specs.Ranges.{RangeValue}
 use Rattle.dpl_map.specs.Parts.{part}
 use Rattle.dpl_loop.specs.Parts.{IsSolePart}
 use Rattle.dpl_loop.proofs.SoleParts.{one-longer, one-more, sole-piece}
