@@ -18,5 +18,5 @@ returns-in-len1-up t c =
     to_z-of_z w64 c.joined.result fits
     ∙ c.joined.ensures
     ∙ ap (word_left p (take (length c.args.worked.now - 1) (drop 1 c.args.worked.now))) (to_z-of_z w64 c.combined.result next_fits ∙ c.combined.ensures
-      ∙ (λ i. combined_words c.args.op (to_z-of_z w64 c.args.word word_fits i) ((to_z-of_z w64 c.number.result number_fits ∙ c.number.ensures) i)))
+    ∙ (λ i. combined_words c.args.op (to_z-of_z w64 c.args.word word_fits i) ((to_z-of_z w64 c.number.result number_fits ∙ c.number.ensures) i)))
     ∙ ap (λ ws. word_left p ws c.args.word) (first-rest c.args.worked.now first c.in-len1-up.len_at_least c.first-item.is)

@@ -15,7 +15,7 @@ returns-then-last-locale t c =
     c.take_words.ensures
     ∙ ap (λ (p : Plain). with_memory (with_plain p m) c.args.frame.now)
     (sym (ap (λ ws. words_by c.args.locale ws (plain_of m)) c.in-Some.ensures.items ∙ words-last c.args.locale c.pop.new.self.items c.in-Some.last (plain_of m)
-      ∙ ap (λ b. if b then c.in-Some.last.words else words_by c.args.locale c.pop.new.self.items (plain_of m)) is))
+    ∙ ap (λ b. if b then c.in-Some.last.words else words_by c.args.locale c.pop.new.self.items (plain_of m)) is))
 
 pub returns-else-last-locale : goal.returns-else-last-locale
 returns-else-last-locale t c =
@@ -24,4 +24,4 @@ returns-else-last-locale t c =
     c.take_left.ensures
     ∙ ap (λ (p : Plain). with_memory (with_plain p m) c.args.frame.now)
     (sym (ap (λ ws. words_by c.args.locale ws (plain_of m)) c.in-Some.ensures.items ∙ words-last c.args.locale c.pop.new.self.items c.in-Some.last (plain_of m)
-      ∙ ap (λ b. if b then c.in-Some.last.words else words_by c.args.locale c.pop.new.self.items (plain_of m)) is))
+    ∙ ap (λ b. if b then c.in-Some.last.words else words_by c.args.locale c.pop.new.self.items (plain_of m)) is))

@@ -24,11 +24,11 @@ returns-in_err-ended-clause-ends g c =
     let p = err_from_is_err_and c.from_residual-in_err-ended.result c.from_residual-in_err-ended.ensures.1 in
     rw (p.1, p.2)
     (λ m s done plan taken ranges.
-      let parts = subst (AreSoleParts whole axes) (sym c.deref.ensures.value) plan.parts in
-      let workers = subst (λ ps. HaveWorkers (part whole axes) (length ps) (map (λ (j : Job). j.locale) c.in_ok-jobs.jobs.items)) c.deref.ensures.value (c.in_ok-jobs.ensures.locales whole axes parts) in
-      let made = made-from may turns h whole axes n m c.args.frame.now c.in_ok-jobs.jobs.items c.in_ok-worked.worked.items (c.in_ok-jobs.ensures.jobs whole axes m parts taken) workers c.in_ok-worked.ensures.done in
-      made-ends may h (turns c.args.frame.now.limits) whole axes m (plan.may c.args.frame.now.limits) plan.formed plan.exact ranges plan.rank n plan.parts.owners c.in_ok-worked.worked.items made
-      c.in_err-ended.field-0.0 (subst (λ ws. IsSoonest (indices whole) ws (Err c.in_err-ended.field-0.0)) c.deref-2.ensures.value c.in_err-ended.ensures) s done)
+    let parts = subst (AreSoleParts whole axes) (sym c.deref.ensures.value) plan.parts in
+    let workers = subst (λ ps. HaveWorkers (part whole axes) (length ps) (map (λ (j : Job). j.locale) c.in_ok-jobs.jobs.items)) c.deref.ensures.value (c.in_ok-jobs.ensures.locales whole axes parts) in
+    let made = made-from may turns h whole axes n m c.args.frame.now c.in_ok-jobs.jobs.items c.in_ok-worked.worked.items (c.in_ok-jobs.ensures.jobs whole axes m parts taken) workers c.in_ok-worked.ensures.done in
+    made-ends may h (turns c.args.frame.now.limits) whole axes m (plan.may c.args.frame.now.limits) plan.formed plan.exact ranges plan.rank n plan.parts.owners c.in_ok-worked.worked.items made
+    c.in_err-ended.field-0.0 (subst (λ ws. IsSoonest (indices whole) ws (Err c.in_err-ended.field-0.0)) c.deref-2.ensures.value c.in_err-ended.ensures) s done)
 
 pub returns-clause-made : goal.returns-clause-made
 returns-clause-made g c m plan taken =
