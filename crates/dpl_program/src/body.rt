@@ -3,7 +3,7 @@
 // to whole arrays, which a turn may not have either, are made in order.
 
 ghost use Rattle.dpl_standing.specs.Standing.{InTurn};
-ghost use Rattle.dpl_steps.specs.Readings.{steps_in};
+ghost use Rattle.dpl_readings.specs.Readings.{steps_in};
 ghost use Rattle.dpl_elements.specs.Turns.{index_turn};
 
 use dpl_domain::Index;

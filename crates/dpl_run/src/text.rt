@@ -13,7 +13,7 @@ ghost use Rattle.dpl_memory.specs.Memory.{in_memory};
 ghost use Rattle.dpl_memory.specs.Resolved.{first_memory};
 ghost use Rattle.dpl_standing.specs.Standing.{Outside};
 ghost use Rattle.dpl_loop.specs.Entries.{MayRefuseSome};
-ghost use Rattle.dpl_steps.specs.Readings.{steps_in};
+ghost use Rattle.dpl_readings.specs.Readings.{steps_in};
 ghost use Rattle.dpl_typer.specs.Sights.{AreKnownScopes};
 ghost use Rattle.dpl_run.specs.Leaving.{AreLeft};
 ghost use Rattle.dpl_run.specs.Plans.{start_of};
