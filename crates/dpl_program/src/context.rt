@@ -25,7 +25,7 @@ ghost use Rattle.dpl_print.specs.Texts.{having_printed};
 use crate::body::Body;
 use crate::dealt::dealt;
 use dpl_frame::{Arrays, DomainWord, Frame, RangeWord, Slots};
-use dpl_loop::{Crew, Gate, Stop, Turns, forall_here, forall_line};
+use dpl_loop::{Crew, Gate, Stop, Turns, forall, forall_line};
 use dpl_map::Map;
 use dpl_nodes::{Argument, DomainExpr, Intent, Names, RangeExpr, Spot, Step};
 use dpl_print::write;
@@ -64,8 +64,7 @@ impl<'g, R: Threads + Wait + Sync, G: Gate + Sync> Crew for ProgramContext<'g, R
         map: &Map,
         frame: &mut Frame,
     ) -> Result<(), Stop> {
-        let _ = self.rt;
-        forall_here(turns, over, map, frame, self.gate)
+        forall(self.rt, turns, over, map, frame, self.gate)
     }
 }
 
