@@ -1,7 +1,7 @@
 -- A forall is what its workers have left, put together; or it ends as the soonest of them.
 use Rattle.std.proofs.Common.{◌≡◌, ◌≤◌, ◌+◌, ◌<◌, ◌==◌, ◌||◌, ℕ, zero, suc, Bool, true, false, ℤ, pos, List, [], ◌∷◌, Option, Some, None, Result, Ok, Err, map, length, get_or, slice_get, refl, sym, ap, ◌∙◌, subst, arith}
 use Rattle.std.specs.Prelude.{if◌then◌else◌}
-use Rattle.std.specs.List.{All, AllByRecursion, list_any}
+use Rattle.std.specs.List.{AllByRecursion, list_any}
 use Rattle.std.proofs.lemmas.Bool.Decides.{nat_tests}
 use Rattle.std.proofs.lemmas.List.Elements.{All-from_recursion}
 use Rattle.std.proofs.lemmas.Option.{none-some, same_Some}
@@ -11,7 +11,7 @@ use Rattle.dpl_domain.proofs.DistinctLemmas.{AreRanges, indices-distinct}
 use Rattle.dpl_map.specs.Maps.{AxisValue, owner, locales as locales_in}
 use Rattle.dpl_map.specs.Parts.{part}
 use Rattle.dpl_language.specs.Tree.{Op}
-use Rattle.dpl_language.specs.Values.{Index, Fault, Turn, InTurn}
+use Rattle.dpl_language.specs.Values.{Index, Fault, InTurn}
 use Rattle.dpl_language.specs.Environment.{Limits}
 use Rattle.dpl_language.specs.Outcome.{Deeds, no_deeds, Outcome, Done, Stop as StopAt, Run, in_order}
 use Rattle.dpl_language.specs.Loops.{named_turn}
@@ -20,13 +20,13 @@ use Rattle.dpl_apart.specs.Operands.{combined_words, AreExact}
 use Rattle.dpl_apart.specs.Apart.{last_index}
 use Rattle.dpl_apart.specs.Rows.{AreOnce, part_of, place_in}
 use Rattle.dpl_apart.specs.Memories.{Changes, Row, IsFormed, held_in, MayBeApart, words_in, operators_of}
-use Rattle.dpl_apart.specs.Workers.{worker_memory, shares_from, locales_of, HaveWorkers, worker_end, left_by, word_joined, words_joined, rejoined_from, last_left, together}
+use Rattle.dpl_apart.specs.Workers.{worker_memory, shares_from, locales_of, HaveWorkers, worker_end, left_by, word_joined, words_joined, rejoined_from, together}
 use Rattle.dpl_apart.proofs.Foralls.{named-may}
 use Rattle.dpl_apart.proofs.Memories.{element-length}
 use Rattle.dpl_apart.proofs.Places.{indices-of-rank}
 use Rattle.dpl_apart.proofs.SharedForalls.{share-ended}
 use Rattle.dpl_apart.proofs.Shares.{each-at}
-use Rattle.dpl_apart.proofs.Workers.{share-stopped, HasStopped, workers-done, workers-stopped}
+use Rattle.dpl_apart.proofs.Workers.{share-stopped, workers-done, workers-stopped}
 use Rattle.dpl_frame.specs.Faults.{fault_view, turn_view}
 use Rattle.dpl_frame.specs.Frames.{Framed, with_memory}
 use Rattle.dpl_frame.specs.Shares.{Plain, plain_of, with_plain}

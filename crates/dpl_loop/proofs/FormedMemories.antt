@@ -6,14 +6,11 @@ use Rattle.std.proofs.lemmas.Bool.{cases_eq}
 use Rattle.std.proofs.lemmas.Bool.Decides.{nat_tests}
 use Rattle.std.proofs.Math.ListN.{get_or-eq_default}
 use Rattle.dpl_sets.specs.Ranges.{RangeValue}
-use Rattle.dpl_sets.specs.TextRanges.{TextRange}
 use Rattle.dpl_sets.specs.TextDomains.{values_of}
-use Rattle.dpl_sets.specs.Indices.{indices}
 use Rattle.dpl_domain.proofs.DistinctLemmas.{AreRanges, indices-distinct}
 use Rattle.dpl_contents.specs.Domains.{AreWritten}
 use Rattle.dpl_contents.proofs.Sizes.{size_in-is}
 use Rattle.dpl_language.specs.Tree.{Op, Sum, Product, AllOf, AnyOf, BitAnd, BitOr, BitXor, Least, Greatest}
-use Rattle.dpl_language.specs.Values.{Index}
 use Rattle.dpl_language.specs.Ranges.{indices_in, size_in}
 use Rattle.dpl_memory.specs.Memory.{Held, Memory, no_array, array_at, is_among}
 use Rattle.dpl_apart.specs.Operands.{IsExact, AreExact}

@@ -1,5 +1,5 @@
 -- What the first worker has added is put to the word, and then what the others have.
-use Rattle.std.proofs.Common.{◌≡◌, ℕ, pos, get_or, length, take, drop, ◌-◌, sym, ap, ◌∙◌, to_z, of_z, w64, rules, FitsSigned}
+use Rattle.std.proofs.Common.{ℕ, length, take, drop, ◌-◌, ap, ◌∙◌, w64, rules, FitsSigned}
 use Rattle.std.proofs.lemmas.Int.{to_z-of_z}
 use Rattle.dpl_language.specs.Tree.{Op}
 use Rattle.dpl_apart.specs.Operands.{combined_words}

@@ -1,4 +1,4 @@
-use Rattle.std.proofs.Common.{length, vec_len}
+use Rattle.std.proofs.Common.{vec_len}
 use Rattle.dpl_loop.proofs.joined.+take_left.Given as goal
 
 abbrev pub decreases-take_left : goal.decreases-take_left

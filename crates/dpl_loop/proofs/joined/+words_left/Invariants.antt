@@ -1,4 +1,4 @@
-use Rattle.std.proofs.Common.{length, vec_len}
+use Rattle.std.proofs.Common.{length}
 use Rattle.dpl_loop.proofs.joined.+words_left.Given as goal
 
 abbrev pub decreases-words_left : goal.decreases-words_left

@@ -1,5 +1,5 @@
 -- A sum wraps, as the language's does.
-use Rattle.std.proofs.Common.{rules, ◌≡◌, ap}
+use Rattle.std.proofs.Common.{rules}
 use Rattle.std.proofs.lemmas.Int.{wraps}
 use Rattle.dpl_loop.proofs.joined.combined.Goals as goal
 

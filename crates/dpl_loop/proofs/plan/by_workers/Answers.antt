@@ -1,12 +1,12 @@
 -- What was planned, taken, made and put together is the forall.
-use Rattle.std.proofs.Common.{◌≡◌, ◌++◌, [], length, subst, sym, ap, ◌∙◌}
+use Rattle.std.proofs.Common.{◌++◌, length, subst, ap, ◌∙◌}
 use Rattle.dpl_sets.specs.Indices.{indices}
 use Rattle.dpl_language.specs.Environment.{Limits}
 use Rattle.dpl_language.specs.Loops.{named_turn}
 use Rattle.dpl_frame.specs.Frames.{Framed}
 use Rattle.dpl_loop.specs.declared.plan.Plan.{Plan}
 use Rattle.dpl_loop.specs.Values.{MayRefuseAmong}
-use Rattle.dpl_loop.specs.Taken.{AreTaken, all_taken, emptied}
+use Rattle.dpl_loop.specs.Taken.{AreTaken, all_taken}
 use Rattle.dpl_loop.specs.Foralls.{HaveMade}
 use Rattle.dpl_loop.proofs.Foralls.{forall-made}
 use Rattle.dpl_loop.proofs.plan.by_workers.Goals as goal

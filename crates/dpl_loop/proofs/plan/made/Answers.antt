@@ -1,6 +1,5 @@
 -- All workers have ended well, or the soonest of their ends is the forall's.
-use Rattle.std.proofs.Common.{◌≡◌, ℕ, Err, map, length, subst, sym, ◌∙◌}
-use Rattle.std.specs.List.{AllByRecursion}
+use Rattle.std.proofs.Common.{Err, map, length, subst, sym}
 use Rattle.std.proofs.lemmas.Result.{err_from_is_err_and}
 use Rattle.dpl_sets.specs.Indices.{indices}
 use Rattle.dpl_map.specs.Parts.{part}

@@ -1,5 +1,5 @@
 -- The arrays come back, then what the worker of the last index has left, and then the words of reduce variables.
-use Rattle.std.proofs.Common.{◌≡◌, ◌++◌, [], None, map, subst, sym, ap, ◌∙◌}
+use Rattle.std.proofs.Common.{◌≡◌, [], None, map, subst, sym, ap, ◌∙◌}
 use Rattle.std.specs.List.{AllByRecursion}
 use Rattle.dpl_sets.specs.Indices.{indices}
 use Rattle.dpl_map.specs.Maps.{owner}

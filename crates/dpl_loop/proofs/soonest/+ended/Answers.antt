@@ -1,5 +1,5 @@
 -- Of the end of the first worker and of those of the others together the sooner is told.
-use Rattle.std.proofs.Common.{length, take, drop, ◌-◌, sym, subst, ◌∙◌}
+use Rattle.std.proofs.Common.{length, take, drop, ◌-◌, sym, subst}
 use Rattle.dpl_sets.specs.Indices.{indices}
 use Rattle.dpl_loop.specs.Soonest.{sooner_in, IsSoonest}
 use Rattle.dpl_loop.proofs.WorkerEnds.{first-rest, soonest-next}

@@ -1,5 +1,5 @@
 -- An index of the domain is found at its place, and another one stands behind all.
-use Rattle.std.proofs.Common.{◌≡◌, ◌≤◌, Some, None, length, slice_get, sym, ap, ◌∙◌, subst, arith}
+use Rattle.std.proofs.Common.{◌≡◌, sym, ◌∙◌, arith}
 use Rattle.std.proofs.lemmas.Option.{same_Some}
 use Rattle.dpl_sets.specs.Indices.{indices}
 use Rattle.dpl_apart.specs.Rows.{place_in}

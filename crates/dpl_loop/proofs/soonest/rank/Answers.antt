@@ -1,1 +1,0 @@
-use Rattle.dpl_loop.proofs.soonest.rank.Goals as goal
