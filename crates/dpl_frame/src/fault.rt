@@ -65,9 +65,7 @@ impl Turn {
             _ => Turn::Space(outer, middle, inner),
         }
     }
-}
 
-impl Turn {
     /// The index of the turn, if there is one.
     pub fn index(&self) -> Option<Index>
         ensures { (t : IndexValue) → turn_view self.now ≡ InTurn t → result ≡ Some t }
