@@ -1,21 +1,26 @@
 -- What may stand in each turn of a forall, so that its turns may be made apart.
-use Rattle.std.specs.Prelude.{Some, None, [], map}
+use Rattle.std.specs.Prelude.{Option, Some, None, [], map}
 use Rattle.dpl_language.specs.Tree.{ExprTree, ItemTree, One, Items, Stride, StmtTree, Stmts, Else}
 use Rattle.dpl_language.specs.Values.{Index}
 use Rattle.dpl_memory.specs.Memory.{Variable, intents_by_slot}
 use Rattle.dpl_agreement.specs.Scopes.{Scoping, fits_expr, fits_item, fits_items, fits_stride, fits, fits_all, fits_else}
+use Rattle.dpl_nodes.specs.declared.step.Names.{Names}
 use Rattle.dpl_nodes.specs.declared.tree.IntExpr.{IntExpr}
 use Rattle.dpl_nodes.specs.declared.tree.BoolExpr.{BoolExpr}
 use Rattle.dpl_nodes.specs.Typed.{int_view, truth_view}
 use Rattle.dpl_nodes.specs.Steps.{intent_view}
 use Rattle.dpl_apart.specs.Memories.{Changes}
-use Rattle.dpl_turns.specs.Bodies.{OwnNames, body_changes, turn_scoping, IsSilent, AreSilent, IsSilentElse}
+use Rattle.dpl_turns.specs.Bodies.{OwnNames, NoNames, body_changes, turn_scoping, IsSilent, AreSilent, IsSilentElse}
 use Rattle.dpl_turns.specs.Typed.{own_of}
 use Rattle.dpl_dependence.specs.declared.turn.TurnRules.{TurnRules}
 
 -- the forall's variables, and what its turns change
+abbrev pub own_by : Option Names → OwnNames
+own_by None = NoNames
+own_by (Some names) = own_of names
+
 abbrev pub own_in : TurnRules → OwnNames
-own_in rules = own_of rules.names
+own_in rules = own_by rules.names
 
 abbrev pub changes_by : TurnRules → Changes
 changes_by rules = body_changes rules.rank (own_in rules) [] rules.written.now (intents_by_slot (map intent_view rules.reduced.now))
@@ -31,6 +36,10 @@ module _ (rules : TurnRules) where
 
   abbrev pub MayEvaluateEach : ExprTree Variable → Type 0
   MayEvaluateEach e = (t i : Index) → fits_expr (allowed t) (Some i) e tt
+
+  -- and one that each turn may evaluate at its own index
+  abbrev pub MayEvaluateOwn : ExprTree Variable → Type 0
+  MayEvaluateOwn e = (t : Index) → fits_expr (allowed t) (Some t) e tt
 
   abbrev pub MayEvaluateItem : ItemTree Variable → Type 0
   MayEvaluateItem item = (t : Index) → fits_item (allowed t) None item tt

@@ -1,11 +1,11 @@
 // The variables of a forall: which slots and how many they are, and where an index is theirs.
 
-ghost use Rattle.std.specs.Prelude.{◌≡◌, true};
+ghost use Rattle.std.specs.Prelude.{◌≡◌, true, [], ◌∷◌};
 ghost use Rattle.dpl_memory.specs.Memory.{is_among};
 ghost use Rattle.dpl_nodes.specs.declared.tree.IntExpr.{Local};
 ghost use Rattle.dpl_nodes.specs.Typed.{index_items};
 ghost use Rattle.dpl_apart.specs.Rows.{AreOnce};
-ghost use Rattle.dpl_turns.specs.Bodies.{own_slots, AreOfRank, IsOwn};
+ghost use Rattle.dpl_turns.specs.Bodies.{own_slots, own_numbers, own_tuples, slots_onto, AreOfRank, IsOwn};
 ghost use Rattle.dpl_turns.specs.Typed.{own_of};
 
 use dpl_nodes::{IndexExpr, IntExpr, Names};
@@ -80,5 +80,40 @@ pub(crate) fn are_of_rank(names: &Names<'_>, rank: u32) -> bool
         Names::Each(first, others) => {
             rank as usize == others.len() + 1 && (!is_among(*first, others) && are_once(others))
         }
+    }
+}
+
+// Whether a slot stands alone in a list.
+fn is_one(slot: usize, slots: &[usize]) -> bool
+    ensures { result ≡ true → slots.now ≡ slot ∷ [] }
+{
+    match slots {
+        [other] => slot == *other,
+        _ => false,
+    }
+}
+
+// Whether a list has these slots, the last first.
+fn are_last_first(first: usize, others: &[usize], slots: &[usize]) -> bool
+    ensures { result ≡ true → slots.now ≡ slots_onto others.now (first ∷ []) }
+{
+    match (others, slots) {
+        ([], [a]) => *a == first,
+        ([second], [b, a]) => *b == *second && *a == first,
+        ([second, third], [c, b, a]) => *c == *third && (*b == *second && *a == first),
+        _ => false,
+    }
+}
+
+/// Whether these are the slots of numbers and of tuples in which the variables stand, as a turn's binding of them gives them values: the last
+/// of several first.
+pub fn are_own(names: &Names<'_>, numbers: &[usize], tuples: &[usize]) -> bool
+    ensures numbers { result ≡ true → numbers.now ≡ own_numbers (own_of names.now) [] }
+    ensures tuples { result ≡ true → tuples.now ≡ own_tuples (own_of names.now) [] }
+{
+    match names {
+        Names::Int(slot) => is_one(*slot, numbers) && tuples.is_empty(),
+        Names::Tuple(slot) => is_one(*slot, tuples) && numbers.is_empty(),
+        Names::Each(first, others) => are_last_first(*first, others, numbers) && tuples.is_empty(),
     }
 }

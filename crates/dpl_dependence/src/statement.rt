@@ -125,7 +125,7 @@ pub fn are_independent(
 {
     let rules = TurnRules {
         rank,
-        names: *names,
+        names: Some(*names),
         written,
         reduced,
     };

@@ -7,18 +7,19 @@ ghost use Rattle.dpl_memory.specs.Memory.{PlainKind, is_among, intents_by_slot};
 ghost use Rattle.dpl_nodes.specs.Typed.{index_items};
 ghost use Rattle.dpl_nodes.specs.Steps.{intent_view};
 ghost use Rattle.dpl_turns.specs.Alongside.{slots_of};
-ghost use Rattle.dpl_turns.specs.Bodies.{IsOwn, adds_by, may_assign};
+ghost use Rattle.dpl_turns.specs.Bodies.{own_slots, IsOwn, adds_by, may_assign};
 ghost use Rattle.dpl_dependence.specs.Turns.{own_in, changes_by};
 
 use crate::names::{is_among, is_own, is_variable};
 use dpl_nodes::{IndexExpr, Intent, Names};
 use dpl_tree::{Assign, Op};
 
-/// A forall: the rank of its indices, its variables, the arrays of which its turns may write elements, and its reduce variables.
+/// A forall: the rank of its indices, its variables, the arrays of which its turns may write elements, and its reduce variables. An assignment
+/// to a whole array has no variables.
 #[derive(Clone, Copy)]
 pub(crate) struct TurnRules<'b> {
     pub(crate) rank: u32,
-    pub(crate) names: Names<'b>,
+    pub(crate) names: Option<Names<'b>>,
     pub(crate) written: &'b [usize],
     pub(crate) reduced: &'b [Intent],
 }
@@ -52,6 +53,26 @@ fn adds_ints(op: Assign, by: Op) -> bool
 }
 
 impl<'b> TurnRules<'b> {
+    // Whether a slot is that of one of the variables.
+    fn has_variable(&self, slot: usize) -> bool
+        ensures { result ≡ is_among slot (own_slots (own_in self.now)) }
+    {
+        match &self.names {
+            Some(names) => is_variable(slot, names),
+            None => false,
+        }
+    }
+
+    // Whether an index is told to be the turn's own one: by its variables, in their order.
+    fn tells_own(&self, index: &IndexExpr<'_>) -> bool
+        ensures { result ≡ true → IsOwn (own_in self.now) (index_items index.now) }
+    {
+        match &self.names {
+            Some(names) => is_own(names, index),
+            None => false,
+        }
+    }
+
     /// Whether turns may read the number in a slot: it is no reduce variable.
     pub(crate) fn may_read(&self, slot: usize) -> bool
         ensures { result ≡ true → is_among slot (slots_of (intents_by_slot (map intent_view self.now.reduced.now))) ≡ false }
@@ -70,7 +91,7 @@ impl<'b> TurnRules<'b> {
     pub(crate) fn may_read_at(&self, slot: usize, index: &IndexExpr<'_>) -> bool
         ensures { result ≡ true → is_among slot self.now.written.now ≡ true → IsOwn (own_in self.now) (index_items index.now) }
     {
-        self.may_read_all(slot) || is_own(&self.names, index)
+        self.may_read_all(slot) || self.tells_own(index)
     }
 
     /// Whether turns may write it.
@@ -78,7 +99,7 @@ impl<'b> TurnRules<'b> {
         ensures written { result ≡ true → is_among slot self.now.written.now ≡ true }
         ensures own { result ≡ true → IsOwn (own_in self.now) (index_items index.now) }
     {
-        is_among(slot, self.written) && is_own(&self.names, index)
+        is_among(slot, self.written) && self.tells_own(index)
     }
 
     /// Whether turns may change the int in a slot so: it is a reduce variable, and this adds to it.
@@ -86,7 +107,7 @@ impl<'b> TurnRules<'b> {
         ensures { result ≡ true → may_assign (changes_by self.now) (own_in self.now) (PlainKind IntLeaf) slot op ≡ true }
     {
         match operator_at(slot, self.reduced) {
-            Some(by) => adds_ints(op, by) && !is_variable(slot, &self.names),
+            Some(by) => adds_ints(op, by) && !self.has_variable(slot),
             None => false,
         }
     }
@@ -96,7 +117,7 @@ impl<'b> TurnRules<'b> {
         ensures { result ≡ true → may_assign (changes_by self.now) (own_in self.now) (PlainKind TruthLeaf) slot SetReduce ≡ true }
     {
         match operator_at(slot, self.reduced) {
-            Some(Op::AllOf | Op::AnyOf) => !is_variable(slot, &self.names),
+            Some(Op::AllOf | Op::AnyOf) => !self.has_variable(slot),
             _ => false,
         }
     }

@@ -2,6 +2,7 @@
 // What is assigned is evaluated as the language's meaning has it, and the memory afterwards is that of the meaning.
 #![tactic(auto)]
 
+mod apart;
 mod element;
 mod row;
 mod whole;

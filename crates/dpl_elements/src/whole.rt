@@ -23,11 +23,13 @@ ghost use Rattle.dpl_loop.specs.Entries.{MayRefuse};
 ghost use Rattle.dpl_values.specs.Reductions.{MayRefuseReduction, EachInInts, EachInTruths};
 ghost use Rattle.dpl_elements.specs.Refusals.{MayRefuseWhole};
 
+use crate::apart::whole_apart;
 use crate::element::{change, change_truth};
 use crate::row::put_row;
+use dpl_dependence::{int_reads_own, truth_reads_own};
 use dpl_domain::Index;
 use dpl_frame::{Arrays, DomainWord, Frame};
-use dpl_loop::{Crew, OpenGate, Stop, Turns};
+use dpl_loop::{Apart, Crew, OpenGate, Stop, Turns};
 use dpl_nodes::{ArrayName, PromotedInt, PromotedTruth, Spot};
 use dpl_strips::index::coordinate;
 use dpl_strips::{promoted_strip, repeated};
@@ -42,6 +44,8 @@ struct Fill<'e> {
     op: Assign,
     sign: &'e Spot,
     value: i64,
+    rank: u32,
+    written: [usize; 1],
 }
 
 impl<'e> Turns for Fill<'e> {
@@ -56,6 +60,10 @@ impl<'e> Turns for Fill<'e> {
         let strip = repeated(first, self.value);
         put_row(self.name, self.op, self.sign, first, strip, most, frame)
     }
+
+    fn apart(&self) -> Option<Apart<'_>> {
+        whole_apart(self.rank, self.name.slot, &self.written)
+    }
 }
 
 // An int that is evaluated at each index.
@@ -65,6 +73,8 @@ struct Promote<'e, 'x> {
     op: Assign,
     sign: &'e Spot,
     e: &'e PromotedInt<'x>,
+    rank: u32,
+    written: [usize; 1],
 }
 
 impl<'e, 'x> Turns for Promote<'e, 'x> {
@@ -81,6 +91,13 @@ impl<'e, 'x> Turns for Promote<'e, 'x> {
         let strip = promoted_strip(self.e, first, frame);
         put_row(self.name, self.op, self.sign, first, strip, most, frame)
     }
+
+    fn apart(&self) -> Option<Apart<'_>> {
+        if !int_reads_own(self.rank, self.name.slot, self.e) {
+            return None;
+        }
+        whole_apart(self.rank, self.name.slot, &self.written)
+    }
 }
 
 // One truth value at each index.
@@ -89,6 +106,8 @@ struct FillTruth<'e> {
     name: &'e ArrayName<'e>,
     sign: &'e Spot,
     value: bool,
+    rank: u32,
+    written: [usize; 1],
 }
 
 impl<'e> Turns for FillTruth<'e> {
@@ -98,6 +117,10 @@ impl<'e> Turns for FillTruth<'e> {
     fn make<A: Arrays>(&self, index: Index, frame: &mut Frame<A>) -> Result<(), Stop> {
         change_truth(self.name, index, self.value, frame)
     }
+
+    fn apart(&self) -> Option<Apart<'_>> {
+        whole_apart(self.rank, self.name.slot, &self.written)
+    }
 }
 
 // A truth value that is evaluated at each index.
@@ -106,6 +129,8 @@ struct PromoteTruth<'e, 'x> {
     name: &'e ArrayName<'e>,
     sign: &'e Spot,
     e: &'e PromotedTruth<'x>,
+    rank: u32,
+    written: [usize; 1],
 }
 
 impl<'e, 'x> Turns for PromoteTruth<'e, 'x> {
@@ -116,6 +141,13 @@ impl<'e, 'x> Turns for PromoteTruth<'e, 'x> {
     fn make<A: Arrays>(&self, index: Index, frame: &mut Frame<A>) -> Result<(), Stop> {
         let value = promoted_truth_value(self.e, &index, frame, &OpenGate)?.get();
         change_truth(self.name, index, value, frame)
+    }
+
+    fn apart(&self) -> Option<Apart<'_>> {
+        if !truth_reads_own(self.rank, self.name.slot, self.e) {
+            return None;
+        }
+        whole_apart(self.rank, self.name.slot, &self.written)
     }
 }
 
@@ -160,6 +192,8 @@ fn set_once<C: Crew>(
         op,
         sign,
         value,
+        rank: domain.rank(),
+        written: [name.slot],
     };
     each_within(&turns, sign, name, domain, frame, crew)
 }
@@ -181,7 +215,13 @@ fn set_truth_once<C: Crew>(
     ensures limits { frame.new.limits ≡ frame.old.limits }
 {
     let value = promoted_truth_value(e, &coordinate(0), frame, crew)?.get();
-    let turns = FillTruth { name, sign, value };
+    let turns = FillTruth {
+        name,
+        sign,
+        value,
+        rank: domain.rank(),
+        written: [name.slot],
+    };
     each_within(&turns, sign, name, domain, frame, crew)
 }
 
@@ -200,7 +240,14 @@ fn set_each<C: Crew>(
         (array_set frame.old.limits IntKind name.now op sign.now (promoted_int EachTurn e.now) domain (Some arrays) frame.old.memory done) }
     ensures limits { frame.new.limits ≡ frame.old.limits }
 {
-    let turns = Promote { name, op, sign, e };
+    let turns = Promote {
+        name,
+        op,
+        sign,
+        e,
+        rank: domain.rank(),
+        written: [name.slot],
+    };
     each_within(&turns, sign, name, domain, frame, crew)
 }
 
@@ -218,7 +265,13 @@ fn set_truth_each<C: Crew>(
         (array_set frame.old.limits BoolKind name.now Set sign.now (promoted_truth EachTurn e.now) domain (Some arrays) frame.old.memory done) }
     ensures limits { frame.new.limits ≡ frame.old.limits }
 {
-    let turns = PromoteTruth { name, sign, e };
+    let turns = PromoteTruth {
+        name,
+        sign,
+        e,
+        rank: domain.rank(),
+        written: [name.slot],
+    };
     each_within(&turns, sign, name, domain, frame, crew)
 }
 

@@ -23,6 +23,7 @@ ghost use Rattle.dpl_elements.specs.Turns.{index_turn, intended_turns};
 ghost use Rattle.dpl_print.specs.Texts.{having_printed};
 
 use crate::body::Body;
+use crate::changed::Changed;
 use crate::dealt::dealt;
 use dpl_frame::{Arrays, DomainWord, Frame, RangeWord, Slots};
 use dpl_loop::{Crew, Gate, Stop, Turns, forall, forall_line};
@@ -87,9 +88,17 @@ fn turns_of<'t, C: Crew>(
     ensures limits { frame.new.limits ≡ frame.old.limits }
 {
     let map = dealt(body, over.origin(), frame);
+    let Ok(changed) = Changed::of(names, body, frame.alloc()) else {
+        return Err(Stop::Memory);
+    };
     let turns = Body {
         names: *names,
         steps: body,
+        rank: indices.rank(),
+        reduced: intents,
+        written: changed.written.as_slice(),
+        numbers: changed.numbers.as_slice(),
+        tuples: changed.tuples.as_slice(),
     };
     frame.intend(intents)?;
     crew.forall(&turns, indices, &map, frame)?;
@@ -97,7 +106,7 @@ fn turns_of<'t, C: Crew>(
     Ok(())
 }
 
-// The same of a forall over a range.
+// The same of a forall over a range, whose turns the caller makes: so they tell nothing of how they may be made apart.
 fn turns_of_line<'t, A: Arrays, G: Gate>(
     slot: usize,
     indices: &RangeWord,
@@ -117,6 +126,11 @@ fn turns_of_line<'t, A: Arrays, G: Gate>(
     let turns = Body {
         names: Names::Int(slot),
         steps: body,
+        rank: 1,
+        reduced: intents,
+        written: &[],
+        numbers: &[],
+        tuples: &[],
     };
     frame.intend(intents)?;
     forall_line(&turns, indices, &map, frame, gate)?;
