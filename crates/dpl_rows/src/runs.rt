@@ -25,6 +25,7 @@ fn settings(row: &Row<'_>, layout: usize, maps: Maps) -> Option<Config> {
 }
 
 // A gate that lets all pass, and isn't open.
+#[derive(Clone, Copy)]
 struct Watched;
 
 impl Gate for Watched {
