@@ -1,4 +1,4 @@
-// Which slots the turns of a forall change, as lists that are made once a forall.
+// Which slots the turns of a forall change, as lists that are made at each entry of a forall.
 // Nothing rests on how they are made: whoever tells by them how turns may be made apart tests them (`are_own` and `are_independent` of
 // dpl_dependence).
 
@@ -6,7 +6,7 @@ use dpl_nodes::step::Else;
 use dpl_nodes::{Names, Step, TruthTarget};
 use std::alloc::{AllocError, Global};
 
-/// The arrays of which turns write elements, each once; and the numbers and the tuples in which the variables of the forall stand.
+/// The arrays of which turns write elements outside of loops with variables, each once, since a body with such loops isn't made apart; and the numbers and the tuples in which the variables of the forall stand.
 #[derive(Drop)]
 pub(crate) struct Changed {
     pub(crate) written: Vec<usize>,

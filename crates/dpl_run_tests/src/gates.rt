@@ -218,7 +218,7 @@ fn meeting_nobody(rt: HostRuntime) {
     let config = four_locales(&rt, Maps::AsIs);
     let text =
         "const D = {1..8} dmapped new blockDist(boundingBox={1..8}); var A: [D] int; forall i in D { var x = i; A[i] = x; } writeln(A);";
-    let gate = Meeting::new(1, 1000);
+    let gate = Meeting::new(1, 1_000_000);
     let said = written(&rt, rt.alloc(), text.as_bytes(), &[], &config, &gate);
     assert!(rt; said == Err(Refused::Gate));
 }
