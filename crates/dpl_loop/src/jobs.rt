@@ -52,7 +52,7 @@ fn own_of(locale: u32, taken: &mut [Taken], alloc: Global) -> Result<Vec<Share>,
     Ok(own)
 }
 
-// The jobs of the first locales, those of these parts.
+// The jobs of the locales from 0 on, of which these are the parts.
 fn begin_all<'w>(
     intents: &[Intent],
     parts: &'w [Option<Domain>],

@@ -72,7 +72,8 @@ impl<'a, T: Turns, G: Gate> Promise<Worked> for Working<'a, T, G> {
     ghost use Rattle.dpl_loop.specs.Values.{MayRefuseAmong};
     ghost use Rattle.dpl_loop.specs.Workers.{HasWorked};
 
-    ghost kept_by = { λ p w. (w.locale ≡ p.locale) × HasWorked (MayRefuseAmong (G.may_refuse p.site.now.gate.now) p.site.now.map.now (indices p.site.now.whole.now))
+    ghost kept_by = { λ p w. (w.locale ≡ p.locale)
+        × HasWorked (MayRefuseAmong (G.may_refuse p.site.now.gate.now) p.site.now.map.now (indices p.site.now.whole.now))
         (named_turn (T.turn p.site.now.turns.now p.began.value.limits)) (indices p.part.now) p.began.value.memory w };
 }
 
@@ -119,6 +120,9 @@ fn start_all<'s, E, T: Turns + Sync, G: Gate + Sync, R: Threads + Sync>(
 }
 
 /// Does these jobs in a scope, each by a worker of its own. All that were started are joined.
+///
+/// # Errors
+/// A worker was not started, or there was no memory for what one has left.
 pub(crate) fn work_all<'a, T: Turns + Sync, G: Gate + Sync, R: Threads + Wait + Sync>(
     rt: &R,
     site: &'a Site<'a, T, G>,

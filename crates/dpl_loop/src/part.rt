@@ -6,7 +6,7 @@ ghost use Rattle.dpl_loop.specs.Entries.{MayRefuseIn};
 use crate::gate::Gate;
 use dpl_domain::Domain;
 
-// Who makes a part's turns has their places in the part.
+// A worker counts places in its part; the gate is asked by those in the whole domain.
 #[derive(Drop)]
 pub(crate) struct PartGate<'a, G> {
     pub(crate) gate: &'a G,
