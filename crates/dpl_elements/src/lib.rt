@@ -9,4 +9,4 @@ mod whole;
 
 pub use element::{set_element, set_truth_element};
 pub use row::put_row;
-pub use whole::{set_array, set_truth_array};
+pub use whole::{WholeCrew, WholeTurns, set_array, set_truth_array};
