@@ -7,7 +7,7 @@ use Rattle.std.proofs.lemmas.Bool.Decides.{nat_tests}
 use Rattle.std.proofs.lemmas.Int.{int_wrap-add_left, int_wrap-add_right, int_wrap-mul_left, int_wrap-mul_right}
 use Rattle.std.proofs.lemmas.List.{get_or-set_same, get_or-set_other}
 use Rattle.std.proofs.Math.IntN.{+ℤ_assoc}
-use Rattle.dpl_language.specs.Tree.{Op, Sum, Product, AllOf, AnyOf, BitAnd, BitOr, BitXor, Least, Greatest, Assign, Set, SetAdd, SetSubtract, SetMultiply, SetDivide, SetRemainder, SetReduce}
+use Rattle.dpl_language.specs.Tree.{Op, Sum, Product, AllOf, AnyOf, Least, Greatest, Assign, SetAdd, SetMultiply, SetReduce}
 use Rattle.dpl_language.specs.Values.{Value, Int, Truth, number, truth, kept_number}
 use Rattle.dpl_language.specs.Arithmetic.{combined, assigned}
 use Rattle.dpl_words.specs.Words.{IntLeaf, TruthLeaf, is_true, combines, intent_at}
@@ -37,11 +37,9 @@ free-assoc Product u v w e =
     ap (λ n. Int n) (int_wrap-mul_left w64 (number u *ℤ number v) (number w) ∙ ap (int_wrap w64) (product-assoc (number u) (number v) (number w)) ∙ sym (int_wrap-mul_right w64 (number u) (number v *ℤ number w)))
 free-assoc AllOf u v w e = ap (λ b. Truth b) (and-assoc (truth u) (truth v) (truth w))
 free-assoc AnyOf u v w e = ap (λ b. Truth b) (or-assoc (truth u) (truth v) (truth w))
-free-assoc BitAnd u v w e = absurd cc
-free-assoc BitOr u v w e = absurd cc
-free-assoc BitXor u v w e = absurd cc
 free-assoc Least u v w e = ap (λ n. Int n) (least-assoc (number u) (number v) (number w))
 free-assoc Greatest u v w e = ap (λ n. Int n) (greatest-assoc (number u) (number v) (number w))
+free-assoc _ u v w e = absurd cc
 
 -- the word after a value is put to it
 abbrev pub word_after : Op → ℤ → Value → ℤ
@@ -60,90 +58,46 @@ after-exact p w v h = operand-exact p (combined p (value_of_word p w) v) (combin
 int-reduced : (p : Op) (w : ℤ) (v : Value) → (combines IntLeaf p && is_free p) ≡ true → (number (combined p (Int w) v) ≡ word_after p w v) × (is_free p ≡ true)
 int-reduced Sum w v e = (refl, refl)
 int-reduced Product w v e = (refl, refl)
-int-reduced AllOf w v e = absurd cc
-int-reduced AnyOf w v e = absurd cc
-int-reduced BitAnd w v e = absurd cc
-int-reduced BitOr w v e = absurd cc
-int-reduced BitXor w v e = absurd cc
 int-reduced Least w v e = (refl, refl)
 int-reduced Greatest w v e = (refl, refl)
+int-reduced _ w v e = absurd cc
 
 int-summed : (p : Op) (w : ℤ) (v : Value) → (combines IntLeaf p && is_sum p) ≡ true → (number (assigned SetAdd (Some p) (Int w) v) ≡ word_after p w v) × (is_free p ≡ true)
 int-summed Sum w v e = (refl, refl)
-int-summed Product w v e = absurd cc
-int-summed AllOf w v e = absurd cc
-int-summed AnyOf w v e = absurd cc
-int-summed BitAnd w v e = absurd cc
-int-summed BitOr w v e = absurd cc
-int-summed BitXor w v e = absurd cc
-int-summed Least w v e = absurd cc
-int-summed Greatest w v e = absurd cc
+int-summed _ w v e = absurd cc
 
 int-multiplied : (p : Op) (w : ℤ) (v : Value) → (combines IntLeaf p && is_product p) ≡ true → (number (assigned SetMultiply (Some p) (Int w) v) ≡ word_after p w v) × (is_free p ≡ true)
-int-multiplied Sum w v e = absurd cc
 int-multiplied Product w v e = (refl, refl)
-int-multiplied AllOf w v e = absurd cc
-int-multiplied AnyOf w v e = absurd cc
-int-multiplied BitAnd w v e = absurd cc
-int-multiplied BitOr w v e = absurd cc
-int-multiplied BitXor w v e = absurd cc
-int-multiplied Least w v e = absurd cc
-int-multiplied Greatest w v e = absurd cc
+int-multiplied _ w v e = absurd cc
 
 and-second : (a b : Bool) → (a && b) ≡ true → b ≡ true
 and-second true b e = e
 and-second false b e = absurd cc
 
 pub int-added : (op : Assign) (p : Op) (w : ℤ) (v : Value) → adds_by IntLeaf op (Some p) ≡ true → (number (assigned op (Some p) (Int w) v) ≡ word_after p w v) × (is_free p ≡ true)
-int-added Set p w v e = absurd (let no : false ≡ true = and-second (combines IntLeaf p) false e in cc)
 int-added SetAdd p w v e = int-summed p w v e
-int-added SetSubtract p w v e = absurd (let no : false ≡ true = and-second (combines IntLeaf p) false e in cc)
 int-added SetMultiply p w v e = int-multiplied p w v e
-int-added SetDivide p w v e = absurd (let no : false ≡ true = and-second (combines IntLeaf p) false e in cc)
-int-added SetRemainder p w v e = absurd (let no : false ≡ true = and-second (combines IntLeaf p) false e in cc)
 int-added SetReduce p w v e = int-reduced p w v e
+int-added _ p w v e = absurd (let no : false ≡ true = and-second (combines IntLeaf p) false e in cc)
 
 truth-reduced : (p : Op) (w : ℤ) (v : Value) → (combines TruthLeaf p && is_free p) ≡ true → (kept_number (combined p (is_true w) v) ≡ word_after p w v) × (is_free p ≡ true)
-truth-reduced Sum w v e = absurd cc
-truth-reduced Product w v e = absurd cc
 truth-reduced AllOf w v e = (refl, refl)
 truth-reduced AnyOf w v e = (refl, refl)
-truth-reduced BitAnd w v e = absurd cc
-truth-reduced BitOr w v e = absurd cc
-truth-reduced BitXor w v e = absurd cc
-truth-reduced Least w v e = absurd cc
-truth-reduced Greatest w v e = absurd cc
+truth-reduced _ w v e = absurd cc
 
 no-sum : (p : Op) → (combines TruthLeaf p && is_sum p) ≡ true → ⊥
 no-sum Sum e = cc
-no-sum Product e = cc
-no-sum AllOf e = cc
-no-sum AnyOf e = cc
-no-sum BitAnd e = cc
-no-sum BitOr e = cc
-no-sum BitXor e = cc
-no-sum Least e = cc
-no-sum Greatest e = cc
+no-sum _ e = cc
 
 no-product : (p : Op) → (combines TruthLeaf p && is_product p) ≡ true → ⊥
-no-product Sum e = cc
 no-product Product e = cc
-no-product AllOf e = cc
-no-product AnyOf e = cc
-no-product BitAnd e = cc
-no-product BitOr e = cc
-no-product BitXor e = cc
-no-product Least e = cc
-no-product Greatest e = cc
+no-product _ e = cc
 
 pub truth-added : (op : Assign) (p : Op) (w : ℤ) (v : Value) → adds_by TruthLeaf op (Some p) ≡ true → (kept_number (assigned op (Some p) (is_true w) v) ≡ word_after p w v) × (is_free p ≡ true)
-truth-added Set p w v e = absurd (let no : false ≡ true = and-second (combines TruthLeaf p) false e in cc)
 truth-added SetAdd p w v e = absurd (no-sum p e)
-truth-added SetSubtract p w v e = absurd (let no : false ≡ true = and-second (combines TruthLeaf p) false e in cc)
 truth-added SetMultiply p w v e = absurd (no-product p e)
-truth-added SetDivide p w v e = absurd (let no : false ≡ true = and-second (combines TruthLeaf p) false e in cc)
-truth-added SetRemainder p w v e = absurd (let no : false ≡ true = and-second (combines TruthLeaf p) false e in cc)
 truth-added SetReduce p w v e = truth-reduced p w v e
+truth-added _ p w v e = absurd (let no : false ≡ true = and-second (combines TruthLeaf p) false e in cc)
 
 -- ---- among several
 pub words-unset : (ps : List (ℕ × Op)) (ns : List ℤ) (slot : ℕ) (y : ℤ) → is_among slot (slots_of ps) ≡ false → words_at ps (set ns slot y) ≡ words_at ps ns

@@ -1,18 +1,12 @@
 -- A row of two workers that make real turns: forall i in 1..3 with (+ reduce s) { A[i] = i; s += i; }, of which the one has 1 and 2 and the other 3.
-use Rattle.std.proofs.Common.{eqb-true, ◌≡◌, ℕ, ◌<◌, ◌==◌, ◌||◌, Bool, true, false, pos, List, [], ◌∷◌, Some, slice_get, refl, sym, ◌∙◌, subst, arith}
-use Rattle.std.specs.Prelude.{if◌then◌else◌}
-use Rattle.std.specs.List.{AllByRecursion}
+use Rattle.std.proofs.Common.{eqb-true, ◌≡◌, ℕ, ◌<◌, ◌==◌, ◌||◌, Bool, true, false, pos, [], ◌∷◌, refl, sym, subst, arith}
 use Rattle.std.specs.Int.{int_wrap}
-use Rattle.std.proofs.lemmas.Option.{none-some}
 use Rattle.dpl_language.specs.Tree.{Sum, SetAdd, One, Stmts, NoStmts, Then}
-use Rattle.dpl_language.specs.Values.{Index}
-use Rattle.dpl_language.specs.Ranges.{same_index}
 use Rattle.dpl_language.specs.Environment.{Limits}
 use Rattle.dpl_language.specs.Outcome.{Deeds, Done, in_order}
 use Rattle.dpl_lowered.specs.Shapes.{nowhere}
 use Rattle.dpl_memory.specs.Memory.{Memory, Variable, array_at, int_leaf}
 use Rattle.dpl_nodes.specs.Steps.{assigned_to}
-use Rattle.dpl_apart.specs.Rows.{IsDistinct}
 use Rattle.dpl_apart.specs.Memories.{IsPiece, IsFormed}
 use Rattle.dpl_apart.proofs.SharedForalls.{all-done}
 use Rattle.dpl_apart.proofs.WorkedForalls.{on_a_line, held_with_keys, memory_with, changes, whole}

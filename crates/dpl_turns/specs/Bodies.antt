@@ -1,6 +1,6 @@
 -- What the body of a forall may do, so that its turns may be made apart: which names it may read and assign, and at which indices.
 use Rattle.std.specs.Prelude.{◌≡◌, ℕ, ℤ, pos, Bool, true, false, not, ◌&&◌, ◌||◌, Option, None, Some, List, [], ◌∷◌, length, get_or, map}
-use Rattle.dpl_language.specs.Tree.{Op, Sum, Product, AllOf, AnyOf, BitAnd, BitOr, BitXor, Least, Greatest, Assign, Set, SetAdd, SetSubtract, SetMultiply, SetDivide, SetRemainder, SetReduce, Placed, Named, ItemTree, One, Items, FirstItem, MoreItems, NoItems, NextItem, VariablesTree, OneVariable, ManyVariables, TypeTree, ScalarType, SyncType, DomainType, ArrayType, InitTree, ItemInit, CreateInit, InitialTree, DeclareTree, StmtTree, Nothing, Declare, Assigned, Call, Write, Block, If, While, For, Forall, Coforall, On, Body, WordBody, BlockBody, Stmts, NoStmts, Then, Else, NoElse, ElseDo}
+use Rattle.dpl_language.specs.Tree.{Op, Sum, Product, BitAnd, BitOr, BitXor, Assign, SetAdd, SetMultiply, SetReduce, Placed, Named, ItemTree, One, Items, FirstItem, MoreItems, NoItems, NextItem, VariablesTree, OneVariable, ManyVariables, TypeTree, ScalarType, SyncType, DomainType, ArrayType, InitTree, ItemInit, CreateInit, InitialTree, DeclareTree, StmtTree, Nothing, Declare, Assigned, Call, Write, Block, If, While, For, Forall, Coforall, On, Body, WordBody, BlockBody, Stmts, NoStmts, Then, Else, NoElse, ElseDo}
 use Rattle.dpl_language.specs.Values.{Index, Domain}
 use Rattle.dpl_language.specs.Outcome.{Run}
 use Rattle.dpl_language.specs.Environment.{Limits}
