@@ -2,10 +2,11 @@
 // What is assigned is evaluated as the language's meaning has it, and the memory afterwards is that of the meaning.
 #![tactic(auto)]
 
+mod apart;
 mod element;
 mod row;
 mod whole;
 
 pub use element::{set_element, set_truth_element};
 pub use row::put_row;
-pub use whole::{set_array, set_truth_array};
+pub use whole::{WholeCrew, WholeTurns, set_array, set_truth_array};

@@ -6,7 +6,8 @@ ghost use Rattle.std.specs.Prelude.{◌≡◌, ◌⊎◌, List, Some, None};
 ghost use Rattle.dpl_sets.specs.TextRanges.{TextRange};
 ghost use Rattle.dpl_language.specs.Tree.{IntKind, BoolKind, Set};
 ghost use Rattle.dpl_language.specs.Values.{Int, Truth};
-ghost use Rattle.dpl_language.specs.Outcome.{Deeds, with_value};
+ghost use Rattle.dpl_language.specs.Outcome.{Deeds, with_value, in_order};
+ghost use Rattle.dpl_language.specs.Ranges.{indices_in};
 ghost use Rattle.dpl_language.specs.Loops.{within_budget, named_turn};
 ghost use Rattle.dpl_language.specs.Expressions.{value_of, whole_in};
 ghost use Rattle.dpl_language.specs.Assignments.{change};
@@ -22,12 +23,16 @@ ghost use Rattle.dpl_loop.specs.Runs.{RunsTo};
 ghost use Rattle.dpl_loop.specs.Entries.{MayRefuse};
 ghost use Rattle.dpl_values.specs.Reductions.{MayRefuseReduction, EachInInts, EachInTruths};
 ghost use Rattle.dpl_elements.specs.Refusals.{MayRefuseWhole};
+ghost use Rattle.dpl_elements.specs.Wholes.{whole_turn};
 
+use crate::apart::whole_apart;
 use crate::element::{change, change_truth};
 use crate::row::put_row;
+use dpl_dependence::{int_reads_own, truth_reads_own};
 use dpl_domain::Index;
 use dpl_frame::{Arrays, DomainWord, Frame};
-use dpl_loop::{Crew, OpenGate, Stop, Turns};
+use dpl_loop::{Apart, Crew, OpenGate, Stop, Turns};
+use dpl_map::Map;
 use dpl_nodes::{ArrayName, PromotedInt, PromotedTruth, Spot};
 use dpl_strips::index::coordinate;
 use dpl_strips::{promoted_strip, repeated};
@@ -35,13 +40,15 @@ use dpl_tree::Assign;
 use dpl_values::budget::within_budget;
 use dpl_values::{int_domain, promoted_int_value, promoted_truth_value, truth_domain};
 
-// One int at each index.
+/// One int at each index.
 #[derive(Clone, Copy)]
-struct Fill<'e> {
+pub struct Fill<'e> {
     name: &'e ArrayName<'e>,
     op: Assign,
     sign: &'e Spot,
     value: i64,
+    rank: u32,
+    written: [usize; 1],
 }
 
 impl<'e> Turns for Fill<'e> {
@@ -56,15 +63,21 @@ impl<'e> Turns for Fill<'e> {
         let strip = repeated(first, self.value);
         put_row(self.name, self.op, self.sign, first, strip, most, frame)
     }
+
+    fn apart(&self) -> Option<Apart<'_>> {
+        whole_apart(self.rank, self.name.slot, &self.written)
+    }
 }
 
-// An int that is evaluated at each index.
+/// An int that is evaluated at each index.
 #[derive(Clone, Copy)]
-struct Promote<'e, 'x> {
+pub struct Promote<'e, 'x> {
     name: &'e ArrayName<'e>,
     op: Assign,
     sign: &'e Spot,
     e: &'e PromotedInt<'x>,
+    rank: u32,
+    written: [usize; 1],
 }
 
 impl<'e, 'x> Turns for Promote<'e, 'x> {
@@ -81,14 +94,23 @@ impl<'e, 'x> Turns for Promote<'e, 'x> {
         let strip = promoted_strip(self.e, first, frame);
         put_row(self.name, self.op, self.sign, first, strip, most, frame)
     }
+
+    fn apart(&self) -> Option<Apart<'_>> {
+        if !int_reads_own(self.rank, self.name.slot, self.e) {
+            return None;
+        }
+        whole_apart(self.rank, self.name.slot, &self.written)
+    }
 }
 
-// One truth value at each index.
+/// One truth value at each index.
 #[derive(Clone, Copy)]
-struct FillTruth<'e> {
+pub struct FillTruth<'e> {
     name: &'e ArrayName<'e>,
     sign: &'e Spot,
     value: bool,
+    rank: u32,
+    written: [usize; 1],
 }
 
 impl<'e> Turns for FillTruth<'e> {
@@ -98,14 +120,20 @@ impl<'e> Turns for FillTruth<'e> {
     fn make<A: Arrays>(&self, index: Index, frame: &mut Frame<A>) -> Result<(), Stop> {
         change_truth(self.name, index, self.value, frame)
     }
+
+    fn apart(&self) -> Option<Apart<'_>> {
+        whole_apart(self.rank, self.name.slot, &self.written)
+    }
 }
 
-// A truth value that is evaluated at each index.
+/// A truth value that is evaluated at each index.
 #[derive(Clone, Copy)]
-struct PromoteTruth<'e, 'x> {
+pub struct PromoteTruth<'e, 'x> {
     name: &'e ArrayName<'e>,
     sign: &'e Spot,
     e: &'e PromotedTruth<'x>,
+    rank: u32,
+    written: [usize; 1],
 }
 
 impl<'e, 'x> Turns for PromoteTruth<'e, 'x> {
@@ -117,11 +145,78 @@ impl<'e, 'x> Turns for PromoteTruth<'e, 'x> {
         let value = promoted_truth_value(self.e, &index, frame, &OpenGate)?.get();
         change_truth(self.name, index, value, frame)
     }
+
+    fn apart(&self) -> Option<Apart<'_>> {
+        if !truth_reads_own(self.rank, self.name.slot, self.e) {
+            return None;
+        }
+        whole_apart(self.rank, self.name.slot, &self.written)
+    }
+}
+
+/// The turns of an assignment to a whole array.
+#[derive(Clone, Copy)]
+pub enum WholeTurns<'e, 'x> {
+    Fill(Fill<'e>),
+    Promote(Promote<'e, 'x>),
+    FillTruth(FillTruth<'e>),
+    PromoteTruth(PromoteTruth<'e, 'x>),
+}
+
+impl<'e, 'x> Turns for WholeTurns<'e, 'x> {
+    ghost turn = { whole_turn };
+
+    #[inline(always)]
+    fn make<A: Arrays>(&self, index: Index, frame: &mut Frame<A>) -> Result<(), Stop> {
+        match self {
+            WholeTurns::Fill(turns) => turns.make(index, frame),
+            WholeTurns::Promote(turns) => turns.make(index, frame),
+            WholeTurns::FillTruth(turns) => turns.make(index, frame),
+            WholeTurns::PromoteTruth(turns) => turns.make(index, frame),
+        }
+    }
+
+    fn make_row<A: Arrays>(&self, first: Index, most: usize, frame: &mut Frame<A>) -> usize {
+        match self {
+            WholeTurns::Fill(turns) => turns.make_row(first, most, frame),
+            WholeTurns::Promote(turns) => turns.make_row(first, most, frame),
+            WholeTurns::FillTruth(turns) => turns.make_row(first, most, frame),
+            WholeTurns::PromoteTruth(turns) => turns.make_row(first, most, frame),
+        }
+    }
+
+    fn apart(&self) -> Option<Apart<'_>> {
+        match self {
+            WholeTurns::Fill(turns) => turns.apart(),
+            WholeTurns::Promote(turns) => turns.apart(),
+            WholeTurns::FillTruth(turns) => turns.apart(),
+            WholeTurns::PromoteTruth(turns) => turns.apart(),
+        }
+    }
+}
+
+/// A crew that makes assignments to whole arrays.
+pub trait WholeCrew: Crew {
+    /// Their turns over a domain, dealt out by a map. For each turn the owner of its index enters the gate, unless the gate is open.
+    ///
+    /// # Errors
+    /// The fault of the first turn that has one, with its turn; out of memory; a worker was not started; or the gate refused an entry,
+    /// which it may. Unless it ended well, nothing is said of the frame's memory.
+    fn make_whole(
+        &self,
+        turns: &WholeTurns<'_, '_>,
+        over: DomainWord,
+        map: &Map,
+        frame: &mut Frame<Self::Kept>,
+    ) -> Result<(), Stop>
+        ensures ends { (done : Deeds) → RunsTo (MayRefuse (Self.may_refuse self.now) map.now over) result frame.new.memory done
+            (in_order (named_turn (whole_turn turns.now frame.old.limits)) (indices_in over) frame.old.memory done) }
+        ensures limits { frame.new.limits ≡ frame.old.limits };
 }
 
 // The turns of a domain that has no more indices than the budget, by the map of the array of a name.
-fn each_within<T: Turns + Sync, C: Crew>(
-    turns: &T,
+fn each_within<C: WholeCrew>(
+    turns: &WholeTurns<'_, '_>,
     at: &Spot,
     name: &ArrayName<'_>,
     domain: DomainWord,
@@ -129,16 +224,16 @@ fn each_within<T: Turns + Sync, C: Crew>(
     crew: &C,
 ) -> Result<(), Stop>
     ensures ends { (done : Deeds) → RunsTo (MayRefuse (C.may_refuse crew.now) (owned_by frame.old name.now.slot) domain) result frame.new.memory done
-        (within_budget frame.old.limits at.now domain (named_turn (T.turn turns.now frame.old.limits)) frame.old.memory done) }
+        (within_budget frame.old.limits at.now domain (named_turn (whole_turn turns.now frame.old.limits)) frame.old.memory done) }
     ensures limits { frame.new.limits ≡ frame.old.limits }
 {
     within_budget(&domain, at, frame)?;
     let map = frame.owner(name.slot);
-    crew.forall(turns, domain, &map, frame)
+    crew.make_whole(turns, domain, &map, frame)
 }
 
 // An int without a whole array goes into each element.
-fn set_once<C: Crew>(
+fn set_once<C: WholeCrew>(
     name: &ArrayName<'_>,
     op: Assign,
     sign: &Spot,
@@ -155,17 +250,19 @@ fn set_once<C: Crew>(
     ensures limits { frame.new.limits ≡ frame.old.limits }
 {
     let value = promoted_int_value(e, &coordinate(0), frame, crew)?;
-    let turns = Fill {
+    let turns = WholeTurns::Fill(Fill {
         name,
         op,
         sign,
         value,
-    };
+        rank: domain.rank(),
+        written: [name.slot],
+    });
     each_within(&turns, sign, name, domain, frame, crew)
 }
 
 // The same of truth values.
-fn set_truth_once<C: Crew>(
+fn set_truth_once<C: WholeCrew>(
     name: &ArrayName<'_>,
     sign: &Spot,
     e: &PromotedTruth<'_>,
@@ -181,12 +278,18 @@ fn set_truth_once<C: Crew>(
     ensures limits { frame.new.limits ≡ frame.old.limits }
 {
     let value = promoted_truth_value(e, &coordinate(0), frame, crew)?.get();
-    let turns = FillTruth { name, sign, value };
+    let turns = WholeTurns::FillTruth(FillTruth {
+        name,
+        sign,
+        value,
+        rank: domain.rank(),
+        written: [name.slot],
+    });
     each_within(&turns, sign, name, domain, frame, crew)
 }
 
 // An int with a whole array is evaluated at the index of each element.
-fn set_each<C: Crew>(
+fn set_each<C: WholeCrew>(
     name: &ArrayName<'_>,
     op: Assign,
     sign: &Spot,
@@ -200,12 +303,19 @@ fn set_each<C: Crew>(
         (array_set frame.old.limits IntKind name.now op sign.now (promoted_int EachTurn e.now) domain (Some arrays) frame.old.memory done) }
     ensures limits { frame.new.limits ≡ frame.old.limits }
 {
-    let turns = Promote { name, op, sign, e };
+    let turns = WholeTurns::Promote(Promote {
+        name,
+        op,
+        sign,
+        e,
+        rank: domain.rank(),
+        written: [name.slot],
+    });
     each_within(&turns, sign, name, domain, frame, crew)
 }
 
 // The same of truth values.
-fn set_truth_each<C: Crew>(
+fn set_truth_each<C: WholeCrew>(
     name: &ArrayName<'_>,
     sign: &Spot,
     e: &PromotedTruth<'_>,
@@ -218,7 +328,13 @@ fn set_truth_each<C: Crew>(
         (array_set frame.old.limits BoolKind name.now Set sign.now (promoted_truth EachTurn e.now) domain (Some arrays) frame.old.memory done) }
     ensures limits { frame.new.limits ≡ frame.old.limits }
 {
-    let turns = PromoteTruth { name, sign, e };
+    let turns = WholeTurns::PromoteTruth(PromoteTruth {
+        name,
+        sign,
+        e,
+        rank: domain.rank(),
+        written: [name.slot],
+    });
     each_within(&turns, sign, name, domain, frame, crew)
 }
 
@@ -229,7 +345,7 @@ fn set_truth_each<C: Crew>(
 /// an index, in its turn; or what ends a forall of the crew early: the gate may refuse the entry of an element's owner, or of a reduction
 /// in a right side that is evaluated once.
 #[inline(never)]
-pub fn set_array<C: Crew>(
+pub fn set_array<C: WholeCrew>(
     name: &ArrayName<'_>,
     op: Assign,
     sign: &Spot,
@@ -253,7 +369,7 @@ pub fn set_array<C: Crew>(
 /// # Errors
 /// As for ints.
 #[inline(never)]
-pub fn set_truth_array<C: Crew>(
+pub fn set_truth_array<C: WholeCrew>(
     name: &ArrayName<'_>,
     sign: &Spot,
     e: &PromotedTruth<'_>,

@@ -2,5 +2,12 @@
 pub mod Runs
 pub mod Entries
 pub mod Values
+pub mod Workers
+pub mod Parts
+pub mod Taken
+pub mod Formed
+pub mod Joined
+pub mod Soonest
+pub mod Foralls
 -- What serves contracts and proofs alone.
 pub mod Tells

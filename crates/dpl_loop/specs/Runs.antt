@@ -1,5 +1,5 @@
 -- How a loop, or a run of statements, answers: the language's meaning ends so.
--- Where memory ran out nothing is said of it, and where a gate refused, that it may.
+-- Where memory ran out or a worker was not started nothing is said of it, and where a gate refused, that it may.
 use Rattle.std.specs.Prelude.{◌≡◌, ◌+◌, ◌<◌, ℕ, List, drop, Result, Ok, Err}
 use Rattle.dpl_array.specs.Elements.{behind}
 use Rattle.dpl_language.specs.Values.{Index}

@@ -1,26 +1,46 @@
 // The loops of foralls and of reductions: they go through the indices of a domain, and ask a gate at each unless it is open.
 // Read `forall` of `Crew`, whose contract says that a forall is a plain loop, with `Gate` and `Turns`, which it takes; and then `reduce`.
-// A crew makes the turns of foralls; `forall_here` is what a caller does alone.
+// A crew makes the turns of foralls; `forall_here` is what a caller does alone, and `forall` has workers do it where that serves (plan.rt): the
+// memory is tested (formed.rt) and the domain cut into parts (parts.rt), the arrays that turns write are taken apart (taken.rt), each locale
+// gets a job (jobs.rt, units.rt), which a thread of its own does (level.rt, part.rt); of their ends one is told (soonest.rt), and what they
+// have left is put together (given.rt, joined.rt).
 // A loop over turns asks them for a whole row at its first index and, where that made some, at each next one (together.rt); how many of the
 // next indices lie behind one another, their place tells (rows.rt). A reduction takes the walk of an item as a closure: a cycle of calls
 // may go through one, where it may not go through a trait. A walk is handed the gate that its reductions ask, and so ends by its value, by
 // a fault, or refused (`Tells` of dpl_frame, and `Gives` for callers that have no place for the turn). Within a turn no gate is asked.
 #![tactic(auto)]
 
+mod apart;
 mod crew;
+mod formed;
 pub mod gate;
+mod given;
+mod job;
+mod jobs;
+mod joined;
+mod level;
 mod loops;
+mod meeting;
+mod part;
+mod parts;
+mod plan;
 mod reduction;
 mod rows;
+mod soonest;
 pub mod stop;
 mod strip;
 mod strips;
+mod taken;
 mod together;
 mod turns;
+mod units;
 
+pub use apart::Apart;
 pub use crew::Crew;
 pub use gate::{Gate, OpenGate};
 pub use loops::{forall_here, forall_line};
+pub use meeting::Meeting;
+pub use plan::forall;
 pub use reduction::{Operator, reduce};
 pub use stop::Stop;
 pub use strip::{STRIP, Strip};

@@ -2,6 +2,7 @@
 // worker enters for it as the locale that owns its index. Where the gate is open, the turns of a row may be made at once (together.rt).
 
 ghost use Rattle.std.specs.Prelude.{◌≡◌, [], ◌∷◌};
+ghost use Rattle.dpl_sets.specs.Indices.{indices};
 ghost use Rattle.dpl_language.specs.Ranges.{indices_in};
 ghost use Rattle.dpl_language.specs.Outcome.{Deeds, in_order};
 ghost use Rattle.dpl_language.specs.Loops.{named_turn};
@@ -9,6 +10,7 @@ ghost use Rattle.dpl_map.specs.Maps.{owner};
 ghost use Rattle.dpl_contents.specs.Range.{range_word};
 ghost use Rattle.dpl_loop.specs.Runs.{RunsTo};
 ghost use Rattle.dpl_loop.specs.Entries.{MayRefuse};
+ghost use Rattle.dpl_loop.specs.Values.{MayRefuseAmong};
 
 use crate::gate::{Gate, enters};
 use crate::rows::Places;
@@ -16,7 +18,7 @@ use crate::stop::Stop;
 use crate::together::{begun, together};
 use crate::turns::Turns;
 use dpl_contents::{DomainWord, RangeWord};
-use dpl_domain::Index;
+use dpl_domain::{Domain, Index};
 use dpl_frame::{Arrays, Frame};
 use dpl_map::Map;
 
@@ -43,6 +45,35 @@ pub(crate) fn entered<A: Arrays, T: Turns, G: Gate>(
     }
 }
 
+/// The turns of a domain's indices, made in order on the thread of whoever calls this. For each turn the owner of its index enters the gate, unless the gate is open.
+///
+/// # Errors
+/// As for [`forall_here`].
+pub(crate) fn turns_of<A: Arrays, T: Turns, G: Gate>(
+    turns: &T,
+    domain: &Domain,
+    map: &Map,
+    frame: &mut Frame<A>,
+    gate: &G,
+) -> Result<(), Stop>
+    ensures ends { (done : Deeds) → RunsTo (MayRefuseAmong (G.may_refuse gate.now) map.now (indices domain.now)) result frame.new.memory done
+        (in_order (named_turn (T.turn turns.now frame.old.limits)) (indices domain.now) frame.old.memory done) }
+    ensures limits { frame.new.limits ≡ frame.old.limits }
+{
+    let made = begun(turns, domain, frame, gate);
+    if made != 0 {
+        return together(turns, domain, made, map, frame, gate);
+    }
+    let mut indices = domain.cursor();
+    for place in 0..domain.size() {
+        let Some(index) = indices.next() else {
+            unreachable!()
+        };
+        entered(turns, index, place, map, frame, gate)?;
+    }
+    Ok(())
+}
+
 /// A forall over a domain, whose turns the caller makes. For each turn the owner of its index enters the gate, unless the gate is open.
 ///
 /// # Errors
@@ -60,18 +91,7 @@ pub fn forall_here<A: Arrays, T: Turns, G: Gate>(
     ensures limits { frame.new.limits ≡ frame.old.limits }
 {
     let domain = over.domain();
-    let made = begun(turns, &domain, frame, gate);
-    if made != 0 {
-        return together(turns, &domain, made, map, frame, gate);
-    }
-    let mut indices = domain.cursor();
-    for place in 0..domain.size() {
-        let Some(index) = indices.next() else {
-            unreachable!()
-        };
-        entered(turns, index, place, map, frame, gate)?;
-    }
-    Ok(())
+    turns_of(turns, &domain, map, frame, gate)
 }
 
 /// A forall over a range, as over the domain of this range alone. Ranges may have more members than a domain.

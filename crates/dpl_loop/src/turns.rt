@@ -1,12 +1,14 @@
 // What a forall does at each index of what it runs over.
 
-ghost use Rattle.std.specs.Prelude.{◌≡◌, ◌≤◌};
+ghost use Rattle.std.specs.Prelude.{◌≡◌, ◌≤◌, IfSome};
 ghost use Rattle.dpl_language.specs.Values.{Index as IndexValue};
 ghost use Rattle.dpl_language.specs.Outcome.{Deeds, Run};
 ghost use Rattle.dpl_language.specs.Environment.{Limits};
 ghost use Rattle.dpl_memory.specs.Memory.{Memory};
+ghost use Rattle.dpl_apart.specs.Memories.{MayBeApart};
 ghost use Rattle.dpl_loop.specs.Runs.{AreDone, RunEnds};
 
+use crate::apart::Apart;
 use crate::stop::Stop;
 use dpl_domain::Index;
 use dpl_frame::{Arrays, Frame};
@@ -32,5 +34,12 @@ pub trait Turns {
         ensures limits { frame.new.limits ≡ frame.old.limits }
     {
         0
+    }
+
+    /// How the turns may be made apart, if they may. Turns that don't tell it are made in order.
+    fn apart(&self) -> Option<Apart<'_>>
+        ensures { IfSome result (λ a. (limits : Limits) → MayBeApart a (turn self.now limits)) }
+    {
+        None
     }
 }

@@ -3,12 +3,13 @@
 // to whole arrays, which a turn may not have either, are made in order.
 
 ghost use Rattle.dpl_standing.specs.Standing.{InTurn};
-ghost use Rattle.dpl_steps.specs.Readings.{steps_in};
+ghost use Rattle.dpl_readings.specs.Readings.{steps_in};
 ghost use Rattle.dpl_elements.specs.Turns.{index_turn};
 
+use dpl_dependence::{are_independent, are_own};
 use dpl_domain::Index;
 use dpl_frame::{Arrays, DomainWord, Frame};
-use dpl_loop::{Crew, Gate, Stop, Turns, forall_here};
+use dpl_loop::{Apart, Crew, Gate, Stop, Turns, forall_here};
 use dpl_map::Map;
 use dpl_nodes::{Argument, DomainExpr, Intent, Names, RangeExpr, Spot, Step};
 use dpl_steps::{Context, bind, make_row, run};
@@ -90,11 +91,17 @@ impl<A: Arrays> Context for TurnContext<A> {
     }
 }
 
-/// The turns of a forall: its variables hold the index, and its statements run.
+/// The turns of a forall: its variables hold the index, and its statements run. Beside these, for who makes the turns apart, the rank of its
+/// indices, its reduce variables, the arrays of which its statements write elements, and the numbers and tuples in which its variables stand.
 #[derive(Drop)]
 pub(crate) struct Body<'b, 't> {
     pub(crate) names: Names<'t>,
     pub(crate) steps: &'b [Step<'t>],
+    pub(crate) rank: u32,
+    pub(crate) reduced: &'b [Intent],
+    pub(crate) written: &'b [usize],
+    pub(crate) numbers: &'b [usize],
+    pub(crate) tuples: &'b [usize],
 }
 
 impl<'b, 't> Turns for Body<'b, 't> {
@@ -109,5 +116,28 @@ impl<'b, 't> Turns for Body<'b, 't> {
 
     fn make_row<A: Arrays>(&self, first: Index, most: usize, frame: &mut Frame<A>) -> usize {
         make_row(&self.names, self.steps, first, most, frame)
+    }
+
+    fn apart(&self) -> Option<Apart<'_>> {
+        if !are_own(&self.names, self.numbers, self.tuples) {
+            return None;
+        }
+        if !are_independent(
+            self.rank,
+            &self.names,
+            self.written,
+            self.reduced,
+            self.steps,
+        ) {
+            return None;
+        }
+        Some(Apart {
+            rank: self.rank,
+            written: self.written,
+            reduced: self.reduced,
+            numbers: self.numbers,
+            ranges: &[],
+            tuples: self.tuples,
+        })
     }
 }

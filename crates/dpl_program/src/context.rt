@@ -16,16 +16,17 @@ ghost use Rattle.dpl_nodes.specs.declared.step.Names.TheVariants.{Int as IntName
 ghost use Rattle.dpl_contents.specs.Range.{range_word};
 ghost use Rattle.dpl_loop.specs.Runs.{RunsTo};
 ghost use Rattle.dpl_loop.specs.Entries.{MayRefuse, MayRefuseSome};
-ghost use Rattle.dpl_steps.specs.Readings.{steps_in};
+ghost use Rattle.dpl_readings.specs.Readings.{steps_in};
 ghost use Rattle.dpl_steps.specs.Dealt.{dealt_by};
 ghost use Rattle.dpl_steps.specs.Written.{written_among};
 ghost use Rattle.dpl_elements.specs.Turns.{index_turn, intended_turns};
 ghost use Rattle.dpl_print.specs.Texts.{having_printed};
 
 use crate::body::Body;
+use crate::changed::Changed;
 use crate::dealt::dealt;
 use dpl_frame::{Arrays, DomainWord, Frame, RangeWord, Slots};
-use dpl_loop::{Crew, Gate, Stop, Turns, forall_here, forall_line};
+use dpl_loop::{Crew, Gate, Stop, Turns, forall, forall_line};
 use dpl_map::Map;
 use dpl_nodes::{Argument, DomainExpr, Intent, Names, RangeExpr, Spot, Step};
 use dpl_print::write;
@@ -64,8 +65,7 @@ impl<'g, R: Threads + Wait + Sync, G: Gate + Sync> Crew for ProgramContext<'g, R
         map: &Map,
         frame: &mut Frame,
     ) -> Result<(), Stop> {
-        let _ = self.rt;
-        forall_here(turns, over, map, frame, self.gate)
+        forall(self.rt, turns, over, map, frame, self.gate)
     }
 }
 
@@ -88,9 +88,17 @@ fn turns_of<'t, C: Crew>(
     ensures limits { frame.new.limits ≡ frame.old.limits }
 {
     let map = dealt(body, over.origin(), frame);
+    let Ok(changed) = Changed::of(names, body, frame.alloc()) else {
+        return Err(Stop::Memory);
+    };
     let turns = Body {
         names: *names,
         steps: body,
+        rank: indices.rank(),
+        reduced: intents,
+        written: changed.written.as_slice(),
+        numbers: changed.numbers.as_slice(),
+        tuples: changed.tuples.as_slice(),
     };
     frame.intend(intents)?;
     crew.forall(&turns, indices, &map, frame)?;
@@ -98,7 +106,7 @@ fn turns_of<'t, C: Crew>(
     Ok(())
 }
 
-// The same of a forall over a range.
+// The same of a forall over a range, whose turns the caller makes: so they tell nothing of how they may be made apart.
 fn turns_of_line<'t, A: Arrays, G: Gate>(
     slot: usize,
     indices: &RangeWord,
@@ -118,6 +126,11 @@ fn turns_of_line<'t, A: Arrays, G: Gate>(
     let turns = Body {
         names: Names::Int(slot),
         steps: body,
+        rank: 1,
+        reduced: intents,
+        written: &[],
+        numbers: &[],
+        tuples: &[],
     };
     frame.intend(intents)?;
     forall_line(&turns, indices, &map, frame, gate)?;

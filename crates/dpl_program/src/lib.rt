@@ -7,6 +7,7 @@
 #![tactic(auto)]
 
 mod body;
+mod changed;
 mod context;
 mod dealt;
 mod written;

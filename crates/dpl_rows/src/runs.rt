@@ -1,7 +1,9 @@
 // The runs of rows, by every setting: where all write the same that is told once.
+// Each setting is run by two gates. Where the gate is open the loops of rows are too small for workers; by one that isn't they are made by
+// workers, where they may be.
 
 use crate::row::{Row, row_of};
-use dpl_run::{Config, Maps, OpenGate, Plain, run_text};
+use dpl_run::{Config, Gate, Maps, OpenGate, Plain, Refused, run_text};
 use std::alloc::{AllocError, Global};
 use std::sync::Wait;
 use std::thread::Threads;
@@ -22,26 +24,58 @@ fn settings(row: &Row<'_>, layout: usize, maps: Maps) -> Option<Config> {
     Config::new(locales, row.budget, 9, grid2, grid3, maps).ok()
 }
 
+// A gate that lets all pass, and isn't open.
+#[derive(Clone, Copy)]
+struct Watched;
+
+impl Gate for Watched {
+    ghost may_refuse = { λ _ _ _. ⊥ };
+
+    fn enter(&self, _worker: u32, _place: u64) -> bool {
+        true
+    }
+}
+
+// What a row writes by settings and by a gate.
+fn written<R: Threads + Wait + Sync, G: Gate + Sync>(
+    rt: &R,
+    alloc: Global,
+    row: &Row<'_>,
+    config: &Config,
+    gate: &G,
+) -> Result<Vec<u8>, Refused> {
+    let mut out = Plain::new(Vec::new(alloc));
+    let text = row.text.as_bytes();
+    match run_text(rt, alloc, text, &row.sets, config, gate, &mut out) {
+        Ok(_) => Ok(out.writer),
+        Err(refused) => Err(refused),
+    }
+}
+
 // What a row writes by a layout and by maps, or why it has no run.
 fn answer<R: Threads + Wait + Sync>(
     rt: &R,
     alloc: Global,
     row: &Row<'_>,
     layout: usize,
-    maps: Maps,
+    by: (Maps, bool),
 ) -> Result<Vec<u8>, AllocError> {
-    let mut out = Plain::new(Vec::new(alloc));
+    let (maps, watched) = by;
     let Some(config) = settings(row, layout, maps) else {
         return b"no settings\n".to_vec(alloc);
     };
-    let text = row.text.as_bytes();
-    match run_text(rt, alloc, text, &row.sets, &config, &OpenGate, &mut out) {
-        Ok(_) => Ok(out.writer),
+    let said = if watched {
+        written(rt, alloc, row, &config, &Watched)
+    } else {
+        written(rt, alloc, row, &config, &OpenGate)
+    };
+    match said {
+        Ok(bytes) => Ok(bytes),
         Err(refused) => Ok(format!(in alloc; "{refused}\n")?.into_bytes()),
     }
 }
 
-// Tells what a row writes by a layout, with each of the three maps, where that is something else than what it wrote first.
+// Tells what a row writes by a layout, with each of the three maps and by each gate, where that is something else than what it wrote first.
 fn tell_layout<R: Threads + Wait + Sync>(
     rt: &R,
     alloc: Global,
@@ -50,15 +84,18 @@ fn tell_layout<R: Threads + Wait + Sync>(
     first: &[u8],
     told: &mut Vec<u8>,
 ) -> Result<(), AllocError> {
-    for (name, maps) in [
-        ("the text's", Maps::AsIs),
-        ("block", Maps::Block),
-        ("cyclic", Maps::Cyclic),
+    for (name, by) in [
+        ("the text's", (Maps::AsIs, false)),
+        ("block", (Maps::Block, false)),
+        ("cyclic", (Maps::Cyclic, false)),
+        ("by workers the text's", (Maps::AsIs, true)),
+        ("by workers block", (Maps::Block, true)),
+        ("by workers cyclic", (Maps::Cyclic, true)),
     ] {
-        let now = answer(rt, alloc, row, layout, maps)?;
+        let now = answer(rt, alloc, row, layout, by)?;
         if now.as_slice() != first {
-            let by = format!(in alloc; "by layout {layout} and {name} maps:\n")?;
-            told.extend_from_slice(by.as_bytes())?;
+            let told_by = format!(in alloc; "by layout {layout} and {name} maps:\n")?;
+            told.extend_from_slice(told_by.as_bytes())?;
             told.extend_from_slice(&now)?;
         }
     }
@@ -72,7 +109,7 @@ fn tell_row<R: Threads + Wait + Sync>(
     row: &Row<'_>,
     told: &mut Vec<u8>,
 ) -> Result<(), AllocError> {
-    let first = answer(rt, alloc, row, 0, Maps::AsIs)?;
+    let first = answer(rt, alloc, row, 0, (Maps::AsIs, false))?;
     told.extend_from_slice(&first)?;
     for layout in 0..LAYOUTS.len() {
         tell_layout(rt, alloc, row, layout, &first, told)?;

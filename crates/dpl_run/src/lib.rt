@@ -20,7 +20,7 @@ pub use config::{Config, ConfigFault, MOST_TURNS};
 pub use dpl_contents::ArrayWords;
 pub use dpl_frame::{DomainWord, Fault, FaultCode, RangeWord, Turn};
 pub use dpl_layout::Maps;
-pub use dpl_loop::{Gate, OpenGate};
+pub use dpl_loop::{Gate, Meeting, OpenGate};
 pub use dpl_syntax::{Code, Place, Refusal};
 pub use left::{Left, Value, Variable};
 pub use listing::dump;

@@ -9,7 +9,7 @@ ghost use Rattle.dpl_tree.specs.Statements.{stmts_of};
 ghost use Rattle.dpl_memory.specs.Memory.{in_memory};
 ghost use Rattle.dpl_standing.specs.Standing.{Outside};
 ghost use Rattle.dpl_loop.specs.Entries.{MayRefuseSome};
-ghost use Rattle.dpl_steps.specs.Readings.{steps_in};
+ghost use Rattle.dpl_readings.specs.Readings.{steps_in};
 ghost use Rattle.dpl_typer.specs.Sights.{AreKnownScopes};
 ghost use Rattle.dpl_run.specs.Leaving.{AreLeft};
 ghost use Rattle.dpl_run.specs.Refusing.{IsUnwritten};

@@ -13,7 +13,7 @@ ghost use Rattle.dpl_memory.specs.Memory.{in_memory};
 ghost use Rattle.dpl_memory.specs.Resolved.{first_memory};
 ghost use Rattle.dpl_standing.specs.Standing.{Outside};
 ghost use Rattle.dpl_loop.specs.Entries.{MayRefuseSome};
-ghost use Rattle.dpl_steps.specs.Readings.{steps_in};
+ghost use Rattle.dpl_readings.specs.Readings.{steps_in};
 ghost use Rattle.dpl_typer.specs.Sights.{AreKnownScopes};
 ghost use Rattle.dpl_run.specs.Leaving.{AreLeft};
 ghost use Rattle.dpl_run.specs.Plans.{start_of};
@@ -179,9 +179,9 @@ fn outcome<R: Threads + Wait + Sync, G: Gate + Sync>(
 /// Runs a text: what is written, and the outcome, are those of the language's definition, in which a forall is a plain
 /// loop. Of the settings a data-parallel text sees the budget alone.
 ///
-/// `text` is any bytes. `sets` are words `name=value`, which give values to the program's `config const`s. `rt` serves loops on
-/// workers; here each loop runs on the caller's thread. The gate is asked before each turn of a forall. Output is held until the
-/// run has ended, and goes to `out`, which must not have failed before.
+/// `text` is any bytes. `sets` are words `name=value`, which give values to the program's `config const`s. `rt` starts the
+/// workers of foralls, which are joined before this answers. The gate is asked before each turn of a forall, unless it is open. Output is
+/// held until the run has ended, and goes to `out`, which must not have failed before.
 ///
 /// # Errors
 /// Out of memory, a worker was not started, or the gate refused an entry, and nothing was written; or the writer failed, and it holds the first bytes of

@@ -21,7 +21,7 @@ Statuses:
   0  the program ran to its end
   1  a fault stopped it
   2  the text is no program, or a set doesn't fit it
-  3  out of memory; nothing was written
+  3  out of memory, or a worker was not started; nothing was written
   4  the text can't be read, or the output can't be written
   5  the command line is refused
 
@@ -52,7 +52,7 @@ fn command<'a>(alloc: Global) -> Result<Command<'a>, AllocError>
         .help("The value of a config const of the program, an int, true or false");
     let turns = "How many turns a loop may have, from 1 to 4294967296";
     let budget = option(alloc, "budget", "B", turns).default_value("16777216");
-    let seats = "How many locales there are, from 1 to 64";
+    let seats = "How many locales there are, each a worker thread of foralls, from 1 to 64";
     let locales = option(alloc, "locales", "N", seats).default_value("1");
     let plane = "How the locales are laid out for domains of rank 2 [default: Nx1]";
     let grid2 = option(alloc, "grid2", "RxC", plane);

@@ -155,7 +155,7 @@ Arguments:
 
 Options:
       --budget <B>     How many turns a loop may have, from 1 to 4294967296 [default: 16777216]
-      --locales <N>    How many locales there are, from 1 to 64 [default: 1]
+      --locales <N>    How many locales there are, each a worker thread of foralls, from 1 to 64 [default: 1]
       --grid2 <RxC>    How the locales are laid out for domains of rank 2 [default: Nx1]
       --grid3 <PxRxC>  The same for rank 3 [default: Nx1x1]
       --maps <MAPS>    Which map each root gets: asis, that of the text, or block or cyclic in its place [default: asis]
@@ -167,7 +167,7 @@ Statuses:
   0  the program ran to its end
   1  a fault stopped it
   2  the text is no program, or a set doesn't fit it
-  3  out of memory; nothing was written
+  3  out of memory, or a worker was not started; nothing was written
   4  the text can't be read, or the output can't be written
   5  the command line is refused
 

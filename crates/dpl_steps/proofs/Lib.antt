@@ -1,6 +1,5 @@
 pub mod Looping
 pub mod Rooting
-pub mod Views
 pub mod Standing
 pub mod Tested
 pub mod Gathered

@@ -9,7 +9,7 @@ use Rattle.dpl_nodes.specs.declared.step.Step.{Step, Nothing as NothingStep, Int
 use Rattle.dpl_nodes.specs.declared.step.Else.{Else as ElseNode, Absent, Do'}
 use Rattle.dpl_nodes.specs.Typed.{truth_view, range_item, domain_view}
 use Rattle.dpl_nodes.specs.Steps.{variable_in, names_view, written_as, listed, step_view, else_view, steps_view, steps_of}
-use Rattle.dpl_steps.specs.Readings.{outside, forall_of, step_in, else_in, row_in, steps_in}
+use Rattle.dpl_readings.specs.Readings.{outside, forall_of, step_in, else_in, row_in, steps_in}
 
 outside-itself : (w : Standing) (t : StmtTree Variable) → IsOutside w → outside w t ≡ t
 outside-itself Outside t is = refl

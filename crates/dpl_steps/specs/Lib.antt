@@ -1,5 +1,3 @@
--- What statements are read as where they stand.
-pub mod Readings
 -- How their parts answer, by how the language's meaning ends.
 pub mod Runs
 -- Which root a declared domain or array gets.

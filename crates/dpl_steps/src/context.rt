@@ -11,7 +11,7 @@ ghost use Rattle.dpl_nodes.specs.Typed.{range_item, domain_view};
 ghost use Rattle.dpl_nodes.specs.Steps.{variable_in, names_view, written_as};
 ghost use Rattle.dpl_loop.specs.Runs.{RunsTo};
 ghost use Rattle.dpl_values.specs.Reductions.{MayRefuseReduction};
-ghost use Rattle.dpl_steps.specs.Readings.{outside, forall_of, steps_in};
+ghost use Rattle.dpl_readings.specs.Readings.{outside, forall_of, steps_in};
 ghost use Rattle.dpl_values.specs.Arguments.{EachInArguments};
 ghost use Rattle.dpl_steps.specs.Refusals.{MayRefuseForall, MayRefuseForallLine};
 

@@ -15,7 +15,7 @@ ghost use Rattle.dpl_loop.specs.Runs.{RunsTo};
 ghost use Rattle.dpl_loop.specs.Entries.{MayRefuseSome};
 ghost use Rattle.dpl_loop.specs.Values.{Gives};
 ghost use Rattle.dpl_values.specs.Reductions.{MayRefuseReduction, EachInRange};
-ghost use Rattle.dpl_steps.specs.Readings.{step_in, else_in, steps_in};
+ghost use Rattle.dpl_readings.specs.Readings.{step_in, else_in, steps_in};
 ghost use Rattle.dpl_elements.specs.Turns.{in_turn, turn_in_memory, looped_over};
 
 use crate::change::change_int;

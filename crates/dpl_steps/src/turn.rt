@@ -8,7 +8,7 @@ ghost use Rattle.dpl_standing.specs.Standing.{InTurn};
 ghost use Rattle.dpl_nodes.specs.Typed.{int_view};
 ghost use Rattle.dpl_nodes.specs.Steps.{array_leaf, element_set, int_changed};
 ghost use Rattle.dpl_loop.specs.Runs.{AreDone};
-ghost use Rattle.dpl_steps.specs.Readings.{steps_in};
+ghost use Rattle.dpl_readings.specs.Readings.{steps_in};
 ghost use Rattle.dpl_elements.specs.Turns.{HasRoom, IsApart, index_turn};
 
 use crate::each::bind;

@@ -1,5 +1,4 @@
-//! Gates of tests, and tasks that are made one after another.
-//! At a meeting only tasks that run at once get on, so it tells threads from turns.
+//! A gate of tests, and tasks that are made one after another.
 ghost use Rattle.std.specs.Prelude.{◌≡◌, ◌<◌, length};
 ghost use Rattle.dpl_cell.specs.Seats.{fresh_seat};
 
@@ -7,49 +6,6 @@ use crate::scripts::Scripts;
 use dpl_cell::{Board, Seat};
 use dpl_loop::Gate;
 use dpl_task::{Refusal, TaskEnd, Tasks};
-use std::sync::atomic::{AtomicU64, Ordering};
-use std::thread::yield_now;
-
-/// A gate at which the workers 0 and 1 meet: the j-th entry of one waits for the j-th entry of the other, so often, and is refused then.
-/// All other workers pass.
-#[derive(Drop)]
-pub(crate) struct Meeting {
-    zero: AtomicU64,
-    one: AtomicU64,
-    looks: u64,
-}
-
-impl Meeting {
-    pub(crate) fn new(looks: u64) -> Meeting {
-        Meeting {
-            zero: AtomicU64::new(0),
-            one: AtomicU64::new(0),
-            looks,
-        }
-    }
-}
-
-impl Gate for Meeting {
-    ghost use Rattle.std.specs.Prelude.{◌<◌};
-
-    ghost may_refuse = { λ _ worker _. worker < 2 };
-
-    fn enter(&self, worker: u32, _place: u64) -> bool {
-        let (mine, theirs) = match worker {
-            0 => (&self.zero, &self.one),
-            1 => (&self.one, &self.zero),
-            _ => return true,
-        };
-        let entries = mine.fetch_add(1, Ordering::SeqCst);
-        for _look in 0..self.looks {
-            if entries < theirs.load(Ordering::SeqCst) {
-                return true;
-            }
-            yield_now();
-        }
-        false
-    }
-}
 
 /// A gate that refuses the entry of one worker.
 #[derive(Drop)]

@@ -2,11 +2,11 @@
 //! What the clauses say isn't tested again; the rows show that tasks run at once, get on, and are told as they should be.
 ghost use Rattle.std.specs.Prelude.{◌≡◌, ◌<◌, ◌≤◌, vec_len, IfOk};
 
-use crate::gates::{Meeting, Shut, enter_and_make};
+use crate::gates::{Shut, enter_and_make};
 use crate::scripts::{Deed, Script, Scripts, play_together};
 use dpl_cell::{Board, CellOp, CellState};
 use dpl_frame::{Fault, FaultCode, Turn};
-use dpl_loop::OpenGate;
+use dpl_loop::{Meeting, OpenGate};
 use dpl_syntax::Place;
 use dpl_task::{Gathered, Refusal, TaskEnd};
 use std::alloc::{AllocError, Global};
@@ -219,8 +219,14 @@ fn no_tasks_and_no_cells(rt: HostRuntime) -> Result<(), Fail> {
 fn tasks_that_meet(rt: HostRuntime) -> Result<(), Fail> {
     let all = counters(rt.alloc(), 1)?;
     let cells = Vec::from_slice(rt.alloc(), &[CellState::Full(0)])?;
-    let Ok(gathered) = play_together(&rt, rt.alloc(), all, cells, &Meeting::new(TRIES), TRIES)
-    else {
+    let Ok(gathered) = play_together(
+        &rt,
+        rt.alloc(),
+        all,
+        cells,
+        &Meeting::new(u64::MAX, TRIES),
+        TRIES,
+    ) else {
         panic!(rt; "the two meet")
     };
     assert!(rt; ended(&gathered, 64, &[CellState::Full(64)]));
@@ -241,10 +247,12 @@ fn tasks_that_do_not_meet(rt: HostRuntime) -> Result<(), Fail> {
     let one = board.last_seat(&mut seats);
     let zero = board.last_seat(&mut seats);
     assert!(rt;
-        enter_and_make(&Meeting::new(1000), &scripts, 0, &board, zero, 1) == Err(Refusal::Gate)
+        enter_and_make(&Meeting::new(u64::MAX, 1000), &scripts, 0, &board, zero, 1)
+            == Err(Refusal::Gate)
     );
     assert!(rt;
-        enter_and_make(&Meeting::new(1000), &scripts, 1, &board, one, 1) == Err(Refusal::Gate)
+        enter_and_make(&Meeting::new(u64::MAX, 1000), &scripts, 1, &board, one, 1)
+            == Err(Refusal::Gate)
     );
     Ok(())
 }

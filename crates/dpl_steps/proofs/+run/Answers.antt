@@ -14,7 +14,7 @@ use Rattle.dpl_memory.specs.Memory.{in_memory}
 use Rattle.dpl_nodes.specs.Typed.{int_view, truth_view, range_item, domain_view}
 use Rattle.dpl_contents.specs.Range.{range_word}
 use Rattle.dpl_frame.specs.Frames.{Framed}
-use Rattle.dpl_steps.specs.Readings.{step_in, else_in, steps_in}
+use Rattle.dpl_readings.specs.Readings.{step_in, else_in, steps_in}
 use Rattle.dpl_elements.specs.Turns.{turn_in_memory, index_turn}
 use Rattle.dpl_nodes.proofs.Unread.{cell_read-int, item_read-range}
 use Rattle.dpl_array.proofs.WalkLemmas.{walk-next, walk-end}
@@ -24,7 +24,7 @@ use Rattle.dpl_elements.proofs.Dealing.{ends-wider, some-of-whole}
 use Rattle.dpl_steps.proofs.Refusing.{some-of-forall, some-of-array}
 use Rattle.dpl_elements.proofs.Changing.{gives-halts, gives-ends, exec-declared, exec-assigned, exec-int}
 use Rattle.dpl_steps.proofs.Looping.{in_order-done, in_order-halts, for-domain, scoped-same, in_turn-done, in_turn-halts, for-turns, repeated-fault, repeated-ends, repeated-step, holds-value, holds-fault, if-then, exec-while}
-use Rattle.dpl_steps.proofs.Views.{for_each_in, forall_in, block_in, if_in, while_in, for_in, forall_line_in}
+use Rattle.dpl_readings.proofs.Views.{for_each_in, forall_in, block_in, if_in, while_in, for_in, forall_line_in}
 use Rattle.dpl_steps.proofs.+run.Goals as goal
 
 -- DECLARATIONS AND ASSIGNMENTS

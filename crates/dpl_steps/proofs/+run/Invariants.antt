@@ -5,7 +5,7 @@ use Rattle.dpl_language.specs.Ranges.{indices_in}
 use Rattle.dpl_language.specs.Statements.{exec_all, holds}
 use Rattle.dpl_memory.specs.Memory.{in_memory}
 use Rattle.dpl_nodes.specs.Typed.{truth_view}
-use Rattle.dpl_steps.specs.Readings.{steps_in}
+use Rattle.dpl_readings.specs.Readings.{steps_in}
 use Rattle.dpl_elements.specs.Turns.{in_turn, turn_in_memory, index_turn}
 use Rattle.dpl_steps.proofs.+run.Given as goal
 

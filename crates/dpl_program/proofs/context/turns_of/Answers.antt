@@ -9,7 +9,7 @@ use Rattle.dpl_standing.specs.Standing.{InTurn}
 use Rattle.dpl_frame.specs.Frames.{Framed}
 use Rattle.dpl_loop.specs.Entries.{MayRefuse}
 use Rattle.dpl_loop.proofs.Ends.{halts-where, halts-alike, then_do-halts}
-use Rattle.dpl_steps.specs.Readings.{steps_in}
+use Rattle.dpl_readings.specs.Readings.{steps_in}
 use Rattle.dpl_steps.specs.Dealt.{dealt_by}
 use Rattle.dpl_steps.specs.Written.{written_among}
 use Rattle.dpl_elements.specs.Turns.{index_turn}

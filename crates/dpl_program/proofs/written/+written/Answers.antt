@@ -2,9 +2,9 @@
 use Rattle.std.proofs.Common.{ℕ, Option, sym, ap, ◌∙◌}
 use Rattle.dpl_nodes.specs.declared.step.Step.{Step}
 use Rattle.dpl_standing.specs.Standing.{InTurn}
-use Rattle.dpl_steps.specs.Readings.{step_in, else_in}
+use Rattle.dpl_readings.specs.Readings.{step_in, else_in}
 use Rattle.dpl_steps.specs.Written.{or_written, written_by, written_else}
-use Rattle.dpl_steps.proofs.Views.{block_in, if_in, while_in, for_in, for_each_in}
+use Rattle.dpl_readings.proofs.Views.{block_in, if_in, while_in, for_in, for_each_in}
 use Rattle.dpl_program.proofs.written.+written.Goals as goal
 
 abbrev of_step : Step → Option ℕ

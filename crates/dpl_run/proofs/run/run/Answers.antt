@@ -5,7 +5,7 @@ use Rattle.dpl_frame.specs.Faults.{fault_view}
 use Rattle.dpl_tree.specs.Statements.{stmts_of}
 use Rattle.dpl_standing.specs.Standing.{Outside}
 use Rattle.dpl_loop.specs.Entries.{MayRefuseSome}
-use Rattle.dpl_steps.specs.Readings.{steps_in}
+use Rattle.dpl_readings.specs.Readings.{steps_in}
 use Rattle.dpl_run.specs.Names.{declared_names}
 use Rattle.dpl_run.proofs.Collecting.{held-frame}
 use Rattle.dpl_language.specs.Outcome.{no_deeds}

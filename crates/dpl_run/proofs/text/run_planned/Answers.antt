@@ -7,7 +7,7 @@ use Rattle.dpl_memory.specs.Memory.{in_memory}
 use Rattle.dpl_memory.specs.Resolved.{first_memory}
 use Rattle.dpl_frame.specs.Frames.{Framed}
 use Rattle.dpl_standing.specs.Standing.{Outside}
-use Rattle.dpl_steps.specs.Readings.{steps_in}
+use Rattle.dpl_readings.specs.Readings.{steps_in}
 use Rattle.dpl_typer.proofs.Names.{if_ok}
 use Rattle.dpl_run.specs.Plans.{start_of}
 use Rattle.dpl_run.specs.Runs.{RanTo}

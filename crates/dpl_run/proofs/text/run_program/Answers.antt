@@ -6,7 +6,7 @@ use Rattle.dpl_standing.specs.Standing.{Outside}
 use Rattle.dpl_memory.specs.Memory.{in_memory}
 use Rattle.dpl_memory.specs.Resolved.{first_memory}
 use Rattle.dpl_nodes.specs.Steps.{steps_of}
-use Rattle.dpl_steps.specs.Readings.{steps_in}
+use Rattle.dpl_readings.specs.Readings.{steps_in}
 use Rattle.dpl_tree.specs.Statements.{program_view}
 use Rattle.dpl_typer.proofs.Names.{if_ok}
 use Rattle.dpl_rules.specs.Breaches.{top}

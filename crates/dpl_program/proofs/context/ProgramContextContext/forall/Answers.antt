@@ -5,7 +5,7 @@ use Rattle.dpl_language.specs.Values.{Domain}
 use Rattle.dpl_standing.specs.Standing.{InTurn}
 use Rattle.dpl_nodes.specs.Typed.{domain_view}
 use Rattle.dpl_nodes.specs.Steps.{intent_view}
-use Rattle.dpl_steps.specs.Readings.{steps_in}
+use Rattle.dpl_readings.specs.Readings.{steps_in}
 use Rattle.dpl_elements.proofs.Dealing.{ends-wider}
 use Rattle.dpl_steps.proofs.Looping.{forall-domain}
 use Rattle.dpl_program.proofs.context.ProgramContextContext.forall.Goals as goal

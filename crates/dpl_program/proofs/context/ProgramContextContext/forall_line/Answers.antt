@@ -6,7 +6,7 @@ use Rattle.dpl_nodes.specs.Typed.{range_item}
 use Rattle.dpl_nodes.specs.Steps.{intent_view}
 use Rattle.dpl_nodes.specs.declared.step.Names.TheVariants.{Int as IntName}
 use Rattle.dpl_contents.specs.Range.{range_word}
-use Rattle.dpl_steps.specs.Readings.{steps_in}
+use Rattle.dpl_readings.specs.Readings.{steps_in}
 use Rattle.dpl_elements.proofs.Dealing.{ends-wider}
 use Rattle.dpl_steps.proofs.Looping.{forall-range}
 use Rattle.dpl_program.proofs.context.ProgramContextContext.forall_line.Goals as goal

@@ -1,14 +1,9 @@
 -- Statements that hold lists, by what code that walks them knows of them.
 -- Each lemma has the node's view on its left side.
-use Rattle.std.proofs.Common.{◌≡◌, ℕ, ◌+◌, ◌<◌, Bor, List, length, drop, get_or, Err, refl, sym, ap, ◌∙◌}
-use Rattle.dpl_syntax.proofs.Walks.{drop-at}
-use Rattle.dpl_language.specs.Tree.{One, Block, If, While, For, Then}
-use Rattle.dpl_language.specs.Outcome.{Deeds, Done, then_do}
-use Rattle.dpl_language.specs.Environment.{Limits}
-use Rattle.dpl_language.specs.Statements.{exec, exec_all}
-use Rattle.dpl_lowered.specs.Shapes.{nowhere}
-use Rattle.dpl_memory.specs.Memory.{Memory, in_memory}
+use Rattle.std.proofs.Common.{◌≡◌, ℕ, Bor, List, refl, ap, ◌∙◌}
 use Rattle.dpl_syntax.specs.declared.place.Place.{Place}
+use Rattle.dpl_language.specs.Tree.{One, Block, If, While, For, Then}
+use Rattle.dpl_lowered.specs.Shapes.{nowhere}
 use Rattle.dpl_nodes.specs.declared.tree.BoolExpr.{BoolExpr}
 use Rattle.dpl_nodes.specs.declared.tree.RangeExpr.{RangeExpr}
 use Rattle.dpl_nodes.specs.declared.tree.DomainExpr.{DomainExpr}
@@ -20,10 +15,7 @@ use Rattle.dpl_standing.specs.Standing.{Standing, InTurn}
 use Rattle.dpl_nodes.specs.declared.step.Else.{Else as ElseNode}
 use Rattle.dpl_nodes.specs.Typed.{truth_view, range_item, domain_view}
 use Rattle.dpl_nodes.specs.Steps.{listed, variable_in, names_view}
-use Rattle.dpl_loop.specs.declared.stop.Stop.{Stop}
-use Rattle.dpl_loop.specs.Runs.{RunsTo}
-use Rattle.dpl_loop.proofs.Ends.{halts-alike, then_do-halts}
-use Rattle.dpl_steps.specs.Readings.{outside, forall_of, step_in, else_in, row_in, steps_in}
+use Rattle.dpl_readings.specs.Readings.{outside, forall_of, step_in, else_in, row_in, steps_in}
 
 module _ (w : Standing) where
   row_in-steps : {m : _} (row : Row_of-Step m) → row_in w row ≡ steps_in w (items-the_row-Step m row)
@@ -57,20 +49,3 @@ module _ (w : Standing) where
   pub forall_in : (at : Bor Place) (names : Names) (over : Bor DomainExpr) (intents : Bor (List Intent)) (body : Bor (List Step))
       → step_in w (ForallEachStep at names over intents body) ≡ outside w (forall_of at.now (names_view names) (One (domain_view over.now)) intents.now (steps_in InTurn body.now))
   forall_in at names over intents body = ap (λ ts. outside w (forall_of at.now (names_view names) (One (domain_view over.now)) intents.now ts)) (row_in-row InTurn body.now)
-
--- STATEMENTS ONE AFTER ANOTHER
-module _ (w : Standing) (limits : Limits) where
-  steps-at : (ts : List Step) (k : ℕ) (t : Step) (s : Memory) (done : Deeds) → k < length ts → t ≡ get_or ts k t
-      → exec_all limits in_memory (steps_in w (drop k ts)) s done ≡ then_do (exec limits in_memory (step_in w t) s done) (exec_all limits in_memory (steps_in w (drop (k + 1) ts)))
-  steps-at ts k t s done within is = ap (λ ts. exec_all limits in_memory (steps_in w ts) s done) (drop-at ts k t within is)
-
-  pub steps-done : (ts : List Step) (k : ℕ) (t : Step) (s next : Memory) (done after : Deeds) → k < length ts → t ≡ get_or ts k t → exec limits in_memory (step_in w t) s done ≡ Done next after
-      → exec_all limits in_memory (steps_in w (drop (k + 1) ts)) next after ≡ exec_all limits in_memory (steps_in w (drop k ts)) s done
-  steps-done ts k t s next done after within is e =
-      sym (steps-at ts k t s done within is ∙ ap (λ o. then_do o (exec_all limits in_memory (steps_in w (drop (k + 1) ts)))) e)
-
-  pub steps-halt : (may : Type 0) (ts : List Step) (k : ℕ) (t : Step) (h : Stop) (s next : Memory) (done after : Deeds) → k < length ts → t ≡ get_or ts k t → RunsTo may (Err h) next after (exec limits in_memory (step_in w t) s done)
-      → RunsTo may (Err h) next after (exec_all limits in_memory (steps_in w (drop k ts)) s done)
-  steps-halt may ts k t h s next done after within is e =
-      halts-alike may h next next after (then_do (exec limits in_memory (step_in w t) s done) (exec_all limits in_memory (steps_in w (drop (k + 1) ts)))) (exec_all limits in_memory (steps_in w (drop k ts)) s done)
-      (steps-at ts k t s done within is) (then_do-halts may h next next after (exec limits in_memory (step_in w t) s done) (exec_all limits in_memory (steps_in w (drop (k + 1) ts))) e)

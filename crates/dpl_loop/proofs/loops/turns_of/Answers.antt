@@ -5,24 +5,23 @@ use Rattle.std.proofs.lemmas.Result.{err_from_is_err_and}
 use Rattle.dpl_sets.specs.Indices.{indices}
 use Rattle.dpl_map.specs.Maps.{owner}
 use Rattle.dpl_language.specs.Outcome.{in_order}
-use Rattle.dpl_language.specs.Ranges.{indices_in}
 use Rattle.dpl_language.specs.Loops.{named_turn}
 use Rattle.dpl_loop.proofs.Ends.{halts-where, halts-alike}
 use Rattle.dpl_loop.proofs.Order.{order-done, order-halts}
 use Rattle.dpl_loop.proofs.Places.{slice_get-drop_first, drop-drop_one, within-there}
-use Rattle.dpl_loop.proofs.loops.forall_here.Goals as goal
+use Rattle.dpl_loop.proofs.loops.turns_of.Goals as goal
 
 pub unreachable-requires : goal.unreachable-requires
 unreachable-requires g c =
-    let ts = indices_in c.args.over in
+    let ts = indices c.args.domain.now in
     let none = sym (slice_get-drop_first ts c.loop-place.place) ∙ ap (λ ts. slice_get ts 0) (sym c.loop-place.invariant.left) ∙ sym c.next.ensures.next ∙ c.in_default.is in
-    let size : c.size-place-end.result ≡ length ts = c.size-place-end.ensures.size ∙ ap (λ d. length (indices d)) c.domain-domain.ensures.domain in
+    let size : c.size-place-end.result ≡ length ts = c.size-place-end.ensures.size in
     within-there ts c.loop-place.place (subst (λ n. c.loop-place.place < n) size c.loop-place-test.true) none
 
 pub loop-place-preserved : goal.loop-place-preserved
 loop-place-preserved g c =
     let turn = named_turn (g.T.Turns.turn c.args.turns.now c.args.frame.now.limits) in
-    let ts = indices_in c.args.over in
+    let ts = indices c.args.domain.now in
     let s = c.loop-place.frame.memory in
     let at = sym (slice_get-drop_first ts c.loop-place.place) ∙ ap (λ ts. slice_get ts 0) (sym c.loop-place.invariant.left) ∙ sym c.in-Some.ensures.next in
     record {
@@ -37,7 +36,7 @@ loop-place-preserved g c =
 pub returns-in_err-entered-clause-ends : goal.returns-in_err-entered-clause-ends
 returns-in_err-entered-clause-ends g c done =
     let turn = named_turn (g.T.Turns.turn c.args.turns.now c.args.frame.now.limits) in
-    let ts = indices_in c.args.over in
+    let ts = indices c.args.domain.now in
     let s = c.loop-place.frame.memory in
     let next = c.entered.new.frame.memory in
     let h = c.in_err-entered.field-0.0 in
@@ -53,6 +52,6 @@ returns-in_err-entered-clause-ends g c done =
 pub returns-clause-ends : goal.returns-clause-ends
 returns-clause-ends g c done =
     let turn = named_turn (g.T.Turns.turn c.args.turns.now c.args.frame.now.limits) in
-    let ts = indices_in c.args.over in
-    let past : length ts ≤ c.loop-place.place = let size = c.size-place-end.ensures.size ∙ ap (λ d. length (indices d)) c.domain-domain.ensures.domain in let test = c.loop-place-test.false in omega (arith, size, test) in
+    let ts = indices c.args.domain.now in
+    let past : length ts ≤ c.loop-place.place = let size = c.size-place-end.ensures.size in let test = c.loop-place-test.false in omega (arith, size, test) in
     sym (c.loop-place.invariant.ends done) ∙ ap (λ ts. in_order turn ts c.loop-place.frame.memory done) (drop_all c.loop-place.place ts past)

@@ -1,0 +1,147 @@
+-- Each form of an expression, by its parts.
+use Rattle.std.proofs.Common.{refl, sym, subst}
+use Rattle.dpl_lowered.specs.LoweredExpressions.{EachTurn}
+use Rattle.dpl_nodes.specs.declared.tree.IntExpr.{IntExpr}
+use Rattle.dpl_nodes.specs.declared.tree.PromotedInt.{PromotedInt}
+use Rattle.dpl_nodes.specs.declared.tree.RangeExpr.{RangeExpr}
+use Rattle.dpl_nodes.specs.declared.tree.RangesExpr.{RangesExpr}
+use Rattle.dpl_nodes.specs.declared.tree.Stride.{Stride}
+use Rattle.dpl_nodes.specs.declared.tree.IndexExpr.{IndexExpr}
+use Rattle.dpl_nodes.specs.declared.tree.DomainExpr.{DomainExpr}
+use Rattle.dpl_nodes.specs.Typed.{int_view, range_item, stride_view, ranges_items, index_items, domain_view, promoted_int}
+use Rattle.dpl_turns.proofs.Typed.{int_view-fits}
+use Rattle.dpl_dependence.specs.declared.turn.TurnRules.{TurnRules}
+use Rattle.dpl_dependence.specs.Turns.{own_in, changes_by, MayEvaluate, MayEvaluateEach, MayEvaluateItem, MayEvaluateItems, MayStride}
+use Rattle.dpl_dependence.proofs.Expressions.{range-fits, range-base_fits, domain-base_fits}
+use Rattle.dpl_dependence.proofs.expression.+ints.Goals as goal
+
+abbrev OfInt : TurnRules → IntExpr → Type 0
+OfInt rules e = MayEvaluate rules (int_view e)
+
+abbrev OfInts : TurnRules → PromotedInt → Type 0
+OfInts rules e = MayEvaluateEach rules (promoted_int EachTurn e)
+
+abbrev OfRange : TurnRules → RangeExpr → Type 0
+OfRange rules r = MayEvaluateItem rules (range_item r)
+
+abbrev OfStride : TurnRules → Stride → Type 0
+OfStride rules s = MayStride rules (stride_view s)
+
+abbrev OfRanges : TurnRules → RangesExpr → Type 0
+OfRanges rules rs = MayEvaluateItems rules (ranges_items rs)
+
+abbrev OfIndex : TurnRules → IndexExpr → Type 0
+OfIndex rules x = MayEvaluateItems rules (index_items x)
+
+abbrev OfDomain : TurnRules → DomainExpr → Type 0
+OfDomain rules d = MayEvaluate rules (domain_view d)
+
+pub may_int-returns-in-Negative : goal.may_int-returns-in-Negative
+may_int-returns-in-Negative t c h = subst (OfInt c.args.rules.now) (sym c.in-Negative.is) (c.may_int.ensures h)
+
+pub may_int-returns-then-may_int : goal.may_int-returns-then-may_int
+may_int-returns-then-may_int t c h = subst (OfInt c.args.rules.now) (sym c.in-Sum.is) (λ i. (c.may_int-in-Sum.ensures c.if-may_int.true i, (c.may_int-then-may_int.ensures h i, tt)))
+
+pub may_int-returns-then-may_int-2 : goal.may_int-returns-then-may_int-2
+may_int-returns-then-may_int-2 t c h = subst (OfInt c.args.rules.now) (sym c.in-Difference.is) (λ i. (c.may_int-in-Difference.ensures c.if-may_int-2.true i, (c.may_int-then-may_int-2.ensures h i, tt)))
+
+pub may_int-returns-then-may_int-3 : goal.may_int-returns-then-may_int-3
+may_int-returns-then-may_int-3 t c h = subst (OfInt c.args.rules.now) (sym c.in-Product.is) (λ i. (c.may_int-in-Product.ensures c.if-may_int-3.true i, (c.may_int-then-may_int-3.ensures h i, tt)))
+
+pub may_int-returns-then-may_int-4 : goal.may_int-returns-then-may_int-4
+may_int-returns-then-may_int-4 t c h = subst (OfInt c.args.rules.now) (sym c.in-Quotient.is) (λ i. (c.may_int-in-Quotient.ensures c.if-may_int-4.true i, (c.may_int-then-may_int-4.ensures h i, tt)))
+
+pub may_int-returns-then-may_int-5 : goal.may_int-returns-then-may_int-5
+may_int-returns-then-may_int-5 t c h = subst (OfInt c.args.rules.now) (sym c.in-Remainder.is) (λ i. (c.may_int-in-Remainder.ensures c.if-may_int-5.true i, (c.may_int-then-may_int-5.ensures h i, tt)))
+
+pub may_int-returns-in-Size : goal.may_int-returns-in-Size
+may_int-returns-in-Size t c h = subst (OfInt c.args.rules.now) (sym c.in-Size.is) (λ i. (range-fits (changes_by c.args.rules.now) (own_in c.args.rules.now) i c.in-Size.r.now (c.may_range.ensures h i), (tt, tt)))
+
+pub may_int-returns-in-First : goal.may_int-returns-in-First
+may_int-returns-in-First t c h = subst (OfInt c.args.rules.now) (sym c.in-First.is) (λ i. (range-fits (changes_by c.args.rules.now) (own_in c.args.rules.now) i c.in-First.r.now (c.may_range-in-First.ensures h i), (tt, tt)))
+
+pub may_int-returns-in-Last : goal.may_int-returns-in-Last
+may_int-returns-in-Last t c h = subst (OfInt c.args.rules.now) (sym c.in-Last.is) (λ i. (range-fits (changes_by c.args.rules.now) (own_in c.args.rules.now) i c.in-Last.r.now (c.may_range-in-Last.ensures h i), (tt, tt)))
+
+pub may_int-returns-in-Low : goal.may_int-returns-in-Low
+may_int-returns-in-Low t c h = subst (OfInt c.args.rules.now) (sym c.in-Low.is) (λ i. (range-fits (changes_by c.args.rules.now) (own_in c.args.rules.now) i c.in-Low.r.now (c.may_range-in-Low.ensures h i), (tt, tt)))
+
+pub may_int-returns-in-High : goal.may_int-returns-in-High
+may_int-returns-in-High t c h = subst (OfInt c.args.rules.now) (sym c.in-High.is) (λ i. (range-fits (changes_by c.args.rules.now) (own_in c.args.rules.now) i c.in-High.r.now (c.may_range-in-High.ensures h i), (tt, tt)))
+
+pub may_int-returns-in-Count : goal.may_int-returns-in-Count
+may_int-returns-in-Count t c h = subst (OfInt c.args.rules.now) (sym c.in-Count.is) (λ i. (c.may_domain.ensures h i, (tt, tt)))
+
+pub may_int-returns-then-may_read_at : goal.may_int-returns-then-may_read_at
+may_int-returns-then-may_read_at t c h = subst (OfInt c.args.rules.now) (sym c.in-Element.is) (λ i. (refl, ((c.may_index.ensures h i, c.may_read_at.ensures c.if-may_read_at.true), tt)))
+
+pub may_int-returns-in-Reduced : goal.may_int-returns-in-Reduced
+may_int-returns-in-Reduced t c h = subst (OfInt c.args.rules.now) (sym c.in-Reduced.is) (c.may_ints.ensures h)
+
+pub may_ints-returns-in-Scalar : goal.may_ints-returns-in-Scalar
+may_ints-returns-in-Scalar t c h = subst (OfInts c.args.rules.now) (sym c.in-Scalar.is) (λ i j. int_view-fits (changes_by c.args.rules.now) (own_in c.args.rules.now) i j c.in-Scalar.a.now (c.may_int.ensures h i))
+
+pub may_ints-returns-in-Negative : goal.may_ints-returns-in-Negative
+may_ints-returns-in-Negative t c h = subst (OfInts c.args.rules.now) (sym c.in-Negative.is) (c.may_ints.ensures h)
+
+pub may_ints-returns-then-may_ints : goal.may_ints-returns-then-may_ints
+may_ints-returns-then-may_ints t c h = subst (OfInts c.args.rules.now) (sym c.in-Sum.is) (λ i j. (c.may_ints-in-Sum.ensures c.if-may_ints.true i j, (c.may_ints-then-may_ints.ensures h i j, tt)))
+
+pub may_ints-returns-then-may_ints-2 : goal.may_ints-returns-then-may_ints-2
+may_ints-returns-then-may_ints-2 t c h = subst (OfInts c.args.rules.now) (sym c.in-Difference.is) (λ i j. (c.may_ints-in-Difference.ensures c.if-may_ints-2.true i j, (c.may_ints-then-may_ints-2.ensures h i j, tt)))
+
+pub may_ints-returns-then-may_ints-3 : goal.may_ints-returns-then-may_ints-3
+may_ints-returns-then-may_ints-3 t c h = subst (OfInts c.args.rules.now) (sym c.in-Product.is) (λ i j. (c.may_ints-in-Product.ensures c.if-may_ints-3.true i j, (c.may_ints-then-may_ints-3.ensures h i j, tt)))
+
+pub may_ints-returns-then-may_ints-4 : goal.may_ints-returns-then-may_ints-4
+may_ints-returns-then-may_ints-4 t c h = subst (OfInts c.args.rules.now) (sym c.in-Quotient.is) (λ i j. (c.may_ints-in-Quotient.ensures c.if-may_ints-4.true i j, (c.may_ints-then-may_ints-4.ensures h i j, tt)))
+
+pub may_ints-returns-then-may_ints-5 : goal.may_ints-returns-then-may_ints-5
+may_ints-returns-then-may_ints-5 t c h = subst (OfInts c.args.rules.now) (sym c.in-Remainder.is) (λ i j. (c.may_ints-in-Remainder.ensures c.if-may_ints-5.true i j, (c.may_ints-then-may_ints-5.ensures h i j, tt)))
+
+pub may_range-returns-then-may_range : goal.may_range-returns-then-may_range
+may_range-returns-then-may_range t c h = subst (OfRange c.args.rules.now) (sym c.in-Slice.is) (λ i. (range-fits (changes_by c.args.rules.now) (own_in c.args.rules.now) i c.in-Slice.a.now (c.may_range.ensures c.if-may_range.true i), (((c.may_range-then-may_range.ensures h i, tt), range-base_fits (changes_by c.args.rules.now) (own_in c.args.rules.now) i c.in-Slice.a.now _), tt)))
+
+pub may_range-returns-in-Dimension : goal.may_range-returns-in-Dimension
+may_range-returns-in-Dimension t c h = subst (OfRange c.args.rules.now) (sym c.in-Dimension.is) (λ i. (c.may_domain.ensures h i, (tt, tt)))
+
+pub may_ranges-returns-in-Line : goal.may_ranges-returns-in-Line
+may_ranges-returns-in-Line t c h = subst (OfRanges c.args.rules.now) (sym c.in-Line.is) (λ i. (c.may_range.ensures h i, tt))
+
+pub may_ranges-returns-then-may_range : goal.may_ranges-returns-then-may_range
+may_ranges-returns-then-may_range t c h = subst (OfRanges c.args.rules.now) (sym c.in-Plane.is) (λ i. (c.may_range-in-Plane.ensures c.if-may_range.true i, (c.may_range-then-may_range.ensures h i, tt)))
+
+pub may_stride-returns-in-By : goal.may_stride-returns-in-By
+may_stride-returns-in-By t c h = subst (OfStride c.args.rules.now) (sym c.in-By.is) (c.may_int.ensures h)
+
+pub may_index-returns-in-Line : goal.may_index-returns-in-Line
+may_index-returns-in-Line t c h = subst (OfIndex c.args.rules.now) (sym c.in-Line.is) (λ i. (c.may_int.ensures h i, tt))
+
+pub may_index-returns-then-may_int : goal.may_index-returns-then-may_int
+may_index-returns-then-may_int t c h = subst (OfIndex c.args.rules.now) (sym c.in-Plane.is) (λ i. (c.may_int-in-Plane.ensures c.if-may_int.true i, (c.may_int-then-may_int.ensures h i, tt)))
+
+pub may_domain-returns-in-Literal : goal.may_domain-returns-in-Literal
+may_domain-returns-in-Literal t c h = subst (OfDomain c.args.rules.now) (sym c.in-Literal.is) (c.may_ranges.ensures h)
+
+pub may_domain-returns-then-may_domain : goal.may_domain-returns-then-may_domain
+may_domain-returns-then-may_domain t c h = subst (OfDomain c.args.rules.now) (sym c.in-Slice.is) (λ i. (c.may_domain.ensures c.if-may_domain.true i, ((c.may_ranges-then-may_domain.ensures h i, domain-base_fits (changes_by c.args.rules.now) (own_in c.args.rules.now) i c.in-Slice.a.now _), tt)))
+
+pub may_domain-returns-then-may_domain-2 : goal.may_domain-returns-then-may_domain-2
+may_domain-returns-then-may_domain-2 t c h = subst (OfDomain c.args.rules.now) (sym c.in-Expanded.is) (λ i. (c.may_domain-in-Expanded.ensures c.if-may_domain-2.true i, (c.may_int.ensures h i, tt)))
+
+pub may_domain-returns-in-Created : goal.may_domain-returns-in-Created
+may_domain-returns-in-Created t c h = subst (OfDomain c.args.rules.now) (sym c.in-Created.is) (λ i. (c.may_domain-in-Created.ensures h i, tt))
+
+pub may_index-returns-then-may_int-3 : goal.may_index-returns-then-may_int-3
+may_index-returns-then-may_int-3 t c h =
+    subst (OfIndex c.args.rules.now) (sym c.in-Space.is)
+    (λ i. (c.may_int-in-Space.ensures c.if-may_int-2.true i, (c.may_int-then-may_int-2.ensures c.if-may_int-3.true i, (c.may_int-then-may_int-3.ensures h i, tt))))
+
+pub may_range-returns-then-may_int-2 : goal.may_range-returns-then-may_int-2
+may_range-returns-then-may_int-2 t c h =
+    subst (OfRange c.args.rules.now) (sym c.in-Between.is) (λ i. (c.may_int.ensures c.if-may_int.true i, c.may_int-then-may_int.ensures c.if-may_int-2.true i, c.may_stride.ensures h i))
+
+pub may_ranges-returns-then-may_range-3 : goal.may_ranges-returns-then-may_range-3
+may_ranges-returns-then-may_range-3 t c h =
+    subst (OfRanges c.args.rules.now) (sym c.in-Space.is)
+    (λ i. (c.may_range-in-Space.ensures c.if-may_range-2.true i, (c.may_range-then-may_range-2.ensures c.if-may_range-3.true i, (c.may_range-then-may_range-3.ensures h i, tt))))

@@ -1,0 +1,164 @@
+// Expressions in turns: they read no reduce variable, and of arrays that turns write the elements at their own index alone.
+
+ghost use Rattle.std.specs.Prelude.{◌≡◌, true};
+ghost use Rattle.dpl_lowered.specs.LoweredExpressions.{EachTurn};
+ghost use Rattle.dpl_nodes.specs.Typed.{int_view, truth_view, range_item, stride_view, ranges_items, index_items, domain_view, promoted_int, promoted_truth};
+ghost use Rattle.dpl_dependence.specs.Turns.{MayEvaluate, MayEvaluateEach, MayEvaluateItem, MayEvaluateItems, MayStride};
+
+use crate::turn::TurnRules;
+use dpl_nodes::{
+    BoolExpr, DomainExpr, IndexExpr, IntExpr, PromotedInt, PromotedTruth, RangeExpr, RangesExpr,
+    Stride,
+};
+
+/// Whether each turn may evaluate an int.
+#[cycle(ints)]
+pub(crate) fn may_int(e: &IntExpr<'_>, rules: &TurnRules<'_>) -> bool
+    ensures { result ≡ true → MayEvaluate rules.now (int_view e.now) }
+{
+    match e {
+        IntExpr::Number(_) => true,
+        IntExpr::Local(slot) => rules.may_read(*slot),
+        IntExpr::Negative(a) => may_int(a, rules),
+        IntExpr::Sum(a, b) => may_int(a, rules) && may_int(b, rules),
+        IntExpr::Difference(a, b) => may_int(a, rules) && may_int(b, rules),
+        IntExpr::Product(a, b) => may_int(a, rules) && may_int(b, rules),
+        IntExpr::Quotient(a, b, _) => may_int(a, rules) && may_int(b, rules),
+        IntExpr::Remainder(a, b, _) => may_int(a, rules) && may_int(b, rules),
+        IntExpr::Size(r) => may_range(r, rules),
+        IntExpr::First(r, _) => may_range(r, rules),
+        IntExpr::Last(r, _) => may_range(r, rules),
+        IntExpr::Low(r, _) => may_range(r, rules),
+        IntExpr::High(r, _) => may_range(r, rules),
+        IntExpr::Count(d) => may_domain(d, rules),
+        IntExpr::Element(slot, index, _) => {
+            rules.may_read_at(*slot, index) && may_index(index, rules)
+        }
+        IntExpr::Reduced(_, each, _) => may_ints(each, rules),
+    }
+}
+
+/// Whether each turn may evaluate a promoted int at each index.
+#[cycle(ints)]
+fn may_ints(e: &PromotedInt<'_>, rules: &TurnRules<'_>) -> bool
+    ensures { result ≡ true → MayEvaluateEach rules.now (promoted_int EachTurn e.now) }
+{
+    match e {
+        PromotedInt::Scalar(a) => may_int(a, rules),
+        PromotedInt::Element(slot, _) => rules.may_read_all(*slot),
+        PromotedInt::Negative(a) => may_ints(a, rules),
+        PromotedInt::Sum(a, b) => may_ints(a, rules) && may_ints(b, rules),
+        PromotedInt::Difference(a, b) => may_ints(a, rules) && may_ints(b, rules),
+        PromotedInt::Product(a, b) => may_ints(a, rules) && may_ints(b, rules),
+        PromotedInt::Quotient(a, b, _) => may_ints(a, rules) && may_ints(b, rules),
+        PromotedInt::Remainder(a, b, _) => may_ints(a, rules) && may_ints(b, rules),
+    }
+}
+
+/// Whether each turn may evaluate a range.
+#[cycle(ints)]
+fn may_range(r: &RangeExpr<'_>, rules: &TurnRules<'_>) -> bool
+    ensures { result ≡ true → MayEvaluateItem rules.now (range_item r.now) }
+{
+    match r {
+        RangeExpr::Local(_) => true,
+        RangeExpr::Between(low, _, _, high, stride) => {
+            may_int(low, rules) && (may_int(high, rules) && may_stride(stride, rules))
+        }
+        RangeExpr::Slice(a, b) => may_range(a, rules) && may_range(b, rules),
+        RangeExpr::Dimension(d, _) => may_domain(d, rules),
+    }
+}
+
+// Whether each turn may evaluate a stride.
+#[cycle(ints)]
+fn may_stride(stride: &Stride<'_>, rules: &TurnRules<'_>) -> bool
+    ensures { result ≡ true → MayStride rules.now (stride_view stride.now) }
+{
+    match stride {
+        Stride::Absent => true,
+        Stride::By(_, e) => may_int(e, rules),
+    }
+}
+
+// Whether each turn may evaluate ranges.
+#[cycle(ints)]
+fn may_ranges(ranges: &RangesExpr<'_>, rules: &TurnRules<'_>) -> bool
+    ensures { result ≡ true → MayEvaluateItems rules.now (ranges_items ranges.now) }
+{
+    match ranges {
+        RangesExpr::Line(a) => may_range(a, rules),
+        RangesExpr::Plane(a, b) => may_range(a, rules) && may_range(b, rules),
+        RangesExpr::Space(a, b, c) => {
+            may_range(a, rules) && (may_range(b, rules) && may_range(c, rules))
+        }
+    }
+}
+
+/// Whether each turn may evaluate an index.
+#[cycle(ints)]
+pub(crate) fn may_index(index: &IndexExpr<'_>, rules: &TurnRules<'_>) -> bool
+    ensures { result ≡ true → MayEvaluateItems rules.now (index_items index.now) }
+{
+    match index {
+        IndexExpr::Line(a) => may_int(a, rules),
+        IndexExpr::Plane(a, b) => may_int(a, rules) && may_int(b, rules),
+        IndexExpr::Space(a, b, c) => may_int(a, rules) && (may_int(b, rules) && may_int(c, rules)),
+        IndexExpr::Tuple(_) => true,
+    }
+}
+
+/// Whether each turn may evaluate a domain.
+#[cycle(ints)]
+fn may_domain(d: &DomainExpr<'_>, rules: &TurnRules<'_>) -> bool
+    ensures { result ≡ true → MayEvaluate rules.now (domain_view d.now) }
+{
+    match d {
+        DomainExpr::Local(_) => true,
+        DomainExpr::OfArray(_, _) => true,
+        DomainExpr::Literal(_, ranges) => may_ranges(ranges, rules),
+        DomainExpr::Slice(a, ranges) => may_domain(a, rules) && may_ranges(ranges, rules),
+        DomainExpr::Expanded(a, _, e) => may_domain(a, rules) && may_int(e, rules),
+        DomainExpr::Created(_, a) => may_domain(a, rules),
+    }
+}
+
+/// Whether each turn may evaluate a truth value.
+#[cycle(truths)]
+pub(crate) fn may_truth(e: &BoolExpr<'_>, rules: &TurnRules<'_>) -> bool
+    ensures { result ≡ true → MayEvaluate rules.now (truth_view e.now) }
+{
+    match e {
+        BoolExpr::Truth(_) => true,
+        BoolExpr::Local(slot) => rules.may_read(*slot),
+        BoolExpr::Not(a) => may_truth(a, rules),
+        BoolExpr::And(a, b) => may_truth(a, rules) && may_truth(b, rules),
+        BoolExpr::Or(a, b) => may_truth(a, rules) && may_truth(b, rules),
+        BoolExpr::Same(a, b) => may_truth(a, rules) && may_truth(b, rules),
+        BoolExpr::Differ(a, b) => may_truth(a, rules) && may_truth(b, rules),
+        BoolExpr::Compare(_, a, b) => may_int(a, rules) && may_int(b, rules),
+        BoolExpr::Contains(r, a) => may_range(r, rules) && may_int(a, rules),
+        BoolExpr::HasIndex(d, index) => may_domain(d, rules) && may_index(index, rules),
+        BoolExpr::Element(slot, index, _) => {
+            rules.may_read_at(*slot, index) && may_index(index, rules)
+        }
+        BoolExpr::Reduced(_, each, _) => may_truths(each, rules),
+    }
+}
+
+/// Whether each turn may evaluate a promoted truth value at each index.
+#[cycle(truths)]
+fn may_truths(e: &PromotedTruth<'_>, rules: &TurnRules<'_>) -> bool
+    ensures { result ≡ true → MayEvaluateEach rules.now (promoted_truth EachTurn e.now) }
+{
+    match e {
+        PromotedTruth::Scalar(a) => may_truth(a, rules),
+        PromotedTruth::Element(slot, _) => rules.may_read_all(*slot),
+        PromotedTruth::Not(a) => may_truths(a, rules),
+        PromotedTruth::And(a, b) => may_truths(a, rules) && may_truths(b, rules),
+        PromotedTruth::Or(a, b) => may_truths(a, rules) && may_truths(b, rules),
+        PromotedTruth::Same(a, b) => may_truths(a, rules) && may_truths(b, rules),
+        PromotedTruth::Differ(a, b) => may_truths(a, rules) && may_truths(b, rules),
+        PromotedTruth::Compare(_, a, b) => may_ints(a, rules) && may_ints(b, rules),
+    }
+}

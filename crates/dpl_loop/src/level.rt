@@ -1,0 +1,147 @@
+// The threads of a forall's workers.
+// A level starts the worker of the last job, goes down for those before it, then joins the worker and takes what it has left.
+
+ghost use Rattle.std.specs.Prelude.{◌≡◌, [], IfOk, IfErr};
+ghost use Rattle.dpl_sets.specs.Indices.{indices};
+ghost use Rattle.dpl_language.specs.Loops.{named_turn};
+ghost use Rattle.dpl_loop.specs.Values.{MayRefuseAmong};
+ghost use Rattle.dpl_loop.specs.Workers.{HasWorked, HaveDone, IsUnmade};
+
+use crate::gate::Gate;
+use crate::job::{Job, Worked};
+use crate::loops::turns_of;
+use crate::part::PartGate;
+use crate::stop::Stop;
+use crate::turns::Turns;
+use dpl_domain::Domain;
+use dpl_frame::{Frame, Shares};
+use dpl_map::Map;
+use std::snapshot::Snapshot;
+use std::sync::Wait;
+use std::thread::{self, Promise, Scope, Threads};
+
+// What all workers of a forall share.
+#[derive(Drop)]
+pub(crate) struct Site<'a, T, G> {
+    pub(crate) turns: &'a T,
+    pub(crate) whole: &'a Domain,
+    pub(crate) map: &'a Map,
+    pub(crate) gate: &'a G,
+}
+
+// What a worker does on its thread: the turns of its part, in order.
+fn work<T: Turns, G: Gate>(
+    site: &Site<'_, T, G>,
+    locale: u32,
+    part: &Domain,
+    frame: Frame<Shares<'_>>,
+) -> Worked
+    ensures locale { result.locale ≡ locale }
+    ensures worked { HasWorked (MayRefuseAmong (G.may_refuse site.now.gate.now) site.now.map.now (indices site.now.whole.now))
+        (named_turn (T.turn site.now.turns.now frame.entry.limits)) (indices part.now) frame.entry.memory result }
+{
+    let mut frame = frame;
+    let gate = PartGate {
+        gate: site.gate,
+        part,
+        whole: site.whole,
+    };
+    let end = turns_of(site.turns, part, site.map, &mut frame, &gate);
+    let (words, own) = frame.into_parts();
+    Worked {
+        locale,
+        words,
+        own,
+        end,
+    }
+}
+
+// What a worker's thread promises of what it hands back.
+#[derive(Drop)]
+struct Working<'a, T, G> {
+    site: &'a Site<'a, T, G>,
+    locale: u32,
+    part: &'a Domain,
+    began: Snapshot<Frame<Shares<'a>>>,
+}
+
+impl<'a, T: Turns, G: Gate> Promise<Worked> for Working<'a, T, G> {
+    ghost use Rattle.std.specs.Prelude.{◌≡◌};
+    ghost use Rattle.dpl_sets.specs.Indices.{indices};
+    ghost use Rattle.dpl_language.specs.Loops.{named_turn};
+    ghost use Rattle.dpl_loop.specs.Values.{MayRefuseAmong};
+    ghost use Rattle.dpl_loop.specs.Workers.{HasWorked};
+
+    ghost kept_by = { λ p w. (w.locale ≡ p.locale)
+        × HasWorked (MayRefuseAmong (G.may_refuse p.site.now.gate.now) p.site.now.map.now (indices p.site.now.whole.now))
+        (named_turn (T.turn p.site.now.turns.now p.began.value.limits)) (indices p.part.now) p.began.value.memory w };
+}
+
+// Starts a worker for each job, and takes what they have left, in the order of the jobs.
+fn start_all<'s, E, T: Turns + Sync, G: Gate + Sync, R: Threads + Sync>(
+    rt: &R,
+    scope: &Scope<'s, E>,
+    site: &'s Site<'s, T, G>,
+    mut jobs: Vec<Job<'s>>,
+    done: Vec<Worked>,
+) -> Result<Vec<Worked>, Stop>
+    requires { done.items ≡ [] }
+    ensures done { IfOk result (λ ws. HaveDone (MayRefuseAmong (G.may_refuse site.now.gate.now) site.now.map.now (indices site.now.whole.now))
+        (λ limits. named_turn (T.turn site.now.turns.now limits)) jobs.entry.items ws.items) }
+    ensures refused { IfErr result IsUnmade }
+{
+    let Some(job) = jobs.pop() else {
+        return Ok(done);
+    };
+    let Job {
+        locale,
+        part,
+        frame,
+    } = job;
+    let promise = Working {
+        site,
+        locale,
+        part,
+        began: Snapshot::of(&frame),
+    };
+    let task = move || -> Worked
+        ensures locale { result.locale ≡ locale }
+        ensures worked { HasWorked (MayRefuseAmong (G.may_refuse site.entry.now.gate.now) site.entry.now.map.now (indices site.entry.now.whole.now))
+            (named_turn (T.turn site.entry.now.turns.now frame.entry.limits)) (indices part.entry.now) frame.entry.memory result }
+    { work(site, locale, part, frame) };
+    let Ok(handle) = scope.spawn_with(promise, task) else {
+        return Err(Stop::Thread);
+    };
+    let below = start_all(rt, scope, site, jobs, done);
+    let worked = handle.join(rt);
+    let mut done = below?;
+    done.push(worked)?;
+    Ok(done)
+}
+
+/// Does these jobs in a scope, each by a worker of its own. All that were started are joined.
+///
+/// # Errors
+/// A worker was not started, or there was no memory for what one has left.
+pub(crate) fn work_all<'a, T: Turns + Sync, G: Gate + Sync, R: Threads + Wait + Sync>(
+    rt: &R,
+    site: &'a Site<'a, T, G>,
+    jobs: Vec<Job<'a>>,
+    done: Vec<Worked>,
+) -> Result<Vec<Worked>, Stop>
+    requires { done.items ≡ [] }
+    ensures done { IfOk result (λ ws. HaveDone (MayRefuseAmong (G.may_refuse site.now.gate.now) site.now.map.now (indices site.now.whole.now))
+        (λ limits. named_turn (T.turn site.now.turns.now limits)) jobs.entry.items ws.items) }
+    ensures refused { IfErr result IsUnmade }
+{
+    thread::scope(
+        thread::scope_env(),
+        rt,
+        move |scope| -> Result<Vec<Worked>, Stop>
+            requires { done.items ≡ [] }
+            ensures done { IfOk result (λ ws. HaveDone (MayRefuseAmong (G.may_refuse site.entry.now.gate.now) site.entry.now.map.now
+                (indices site.entry.now.whole.now)) (λ limits. named_turn (T.turn site.entry.now.turns.now limits)) jobs.entry.items ws.items) }
+            ensures refused { IfErr result IsUnmade }
+        { start_all(rt, scope, site, jobs, done) },
+    )
+}

@@ -1,0 +1,2 @@
+-- What statements are read as where they stand.
+pub mod Readings
