@@ -3,10 +3,12 @@
 #![tactic(auto)]
 
 mod apart;
+mod crew;
 mod element;
 mod row;
 mod whole;
 
+pub use crew::Crew;
 pub use element::{set_element, set_truth_element};
 pub use row::put_row;
-pub use whole::{WholeCrew, WholeTurns, set_array, set_truth_array};
+pub use whole::{WholeTurns, set_array, set_truth_array};

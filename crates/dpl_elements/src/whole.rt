@@ -6,8 +6,7 @@ ghost use Rattle.std.specs.Prelude.{◌≡◌, ◌⊎◌, List, Some, None};
 ghost use Rattle.dpl_sets.specs.TextRanges.{TextRange};
 ghost use Rattle.dpl_language.specs.Tree.{IntKind, BoolKind, Set};
 ghost use Rattle.dpl_language.specs.Values.{Int, Truth};
-ghost use Rattle.dpl_language.specs.Outcome.{Deeds, with_value, in_order};
-ghost use Rattle.dpl_language.specs.Ranges.{indices_in};
+ghost use Rattle.dpl_language.specs.Outcome.{Deeds, with_value};
 ghost use Rattle.dpl_language.specs.Loops.{within_budget, named_turn};
 ghost use Rattle.dpl_language.specs.Expressions.{value_of, whole_in};
 ghost use Rattle.dpl_language.specs.Assignments.{change};
@@ -26,13 +25,13 @@ ghost use Rattle.dpl_elements.specs.Refusals.{MayRefuseWhole};
 ghost use Rattle.dpl_elements.specs.Wholes.{whole_turn};
 
 use crate::apart::whole_apart;
+use crate::crew::Crew;
 use crate::element::{change, change_truth};
 use crate::row::put_row;
 use dpl_dependence::{int_reads_own, truth_reads_own};
 use dpl_domain::Index;
 use dpl_frame::{Arrays, DomainWord, Frame};
-use dpl_loop::{Apart, Crew, OpenGate, Stop, Turns};
-use dpl_map::Map;
+use dpl_loop::{Apart, OpenGate, Stop, Turns};
 use dpl_nodes::{ArrayName, PromotedInt, PromotedTruth, Spot};
 use dpl_strips::index::coordinate;
 use dpl_strips::{promoted_strip, repeated};
@@ -195,27 +194,8 @@ impl<'e, 'x> Turns for WholeTurns<'e, 'x> {
     }
 }
 
-/// A crew that makes assignments to whole arrays.
-pub trait WholeCrew: Crew {
-    /// Their turns over a domain, dealt out by a map. For each turn the owner of its index enters the gate, unless the gate is open.
-    ///
-    /// # Errors
-    /// The fault of the first turn that has one, with its turn; out of memory; a worker was not started; or the gate refused an entry,
-    /// which it may. Unless it ended well, nothing is said of the frame's memory.
-    fn make_whole(
-        &self,
-        turns: &WholeTurns<'_, '_>,
-        over: DomainWord,
-        map: &Map,
-        frame: &mut Frame<Self::Kept>,
-    ) -> Result<(), Stop>
-        ensures ends { (done : Deeds) → RunsTo (MayRefuse (Self.may_refuse self.now) map.now over) result frame.new.memory done
-            (in_order (named_turn (whole_turn turns.now frame.old.limits)) (indices_in over) frame.old.memory done) }
-        ensures limits { frame.new.limits ≡ frame.old.limits };
-}
-
 // The turns of a domain that has no more indices than the budget, by the map of the array of a name.
-fn each_within<C: WholeCrew>(
+fn each_within<C: Crew>(
     turns: &WholeTurns<'_, '_>,
     at: &Spot,
     name: &ArrayName<'_>,
@@ -223,6 +203,7 @@ fn each_within<C: WholeCrew>(
     frame: &mut Frame<C::Kept>,
     crew: &C,
 ) -> Result<(), Stop>
+    requires ready { C.is_ready crew.now }
     ensures ends { (done : Deeds) → RunsTo (MayRefuse (C.may_refuse crew.now) (owned_by frame.old name.now.slot) domain) result frame.new.memory done
         (within_budget frame.old.limits at.now domain (named_turn (whole_turn turns.now frame.old.limits)) frame.old.memory done) }
     ensures limits { frame.new.limits ≡ frame.old.limits }
@@ -233,7 +214,7 @@ fn each_within<C: WholeCrew>(
 }
 
 // An int without a whole array goes into each element.
-fn set_once<C: WholeCrew>(
+fn set_once<C: Crew>(
     name: &ArrayName<'_>,
     op: Assign,
     sign: &Spot,
@@ -242,7 +223,8 @@ fn set_once<C: WholeCrew>(
     frame: &mut Frame<C::Kept>,
     crew: &C,
 ) -> Result<(), Stop>
-    requires { whole_in frame.old.limits in_memory (promoted_int EachTurn e.now) frame.old.memory ≡ None }
+    requires ready { C.is_ready crew.now }
+    requires once { whole_in frame.old.limits in_memory (promoted_int EachTurn e.now) frame.old.memory ≡ None }
     ensures ends { (done : Deeds)
         → RunsTo (MayRefuse (C.may_refuse crew.now) (owned_by frame.old name.now.slot) domain ⊎ MayRefuseReduction (C.may_refuse crew.now) frame.old
         (EachInInts e.now)) result frame.new.memory done
@@ -262,7 +244,7 @@ fn set_once<C: WholeCrew>(
 }
 
 // The same of truth values.
-fn set_truth_once<C: WholeCrew>(
+fn set_truth_once<C: Crew>(
     name: &ArrayName<'_>,
     sign: &Spot,
     e: &PromotedTruth<'_>,
@@ -270,7 +252,8 @@ fn set_truth_once<C: WholeCrew>(
     frame: &mut Frame<C::Kept>,
     crew: &C,
 ) -> Result<(), Stop>
-    requires { whole_in frame.old.limits in_memory (promoted_truth EachTurn e.now) frame.old.memory ≡ None }
+    requires ready { C.is_ready crew.now }
+    requires once { whole_in frame.old.limits in_memory (promoted_truth EachTurn e.now) frame.old.memory ≡ None }
     ensures ends { (done : Deeds)
         → RunsTo (MayRefuse (C.may_refuse crew.now) (owned_by frame.old name.now.slot) domain ⊎ MayRefuseReduction (C.may_refuse crew.now) frame.old
         (EachInTruths e.now)) result frame.new.memory done
@@ -289,7 +272,7 @@ fn set_truth_once<C: WholeCrew>(
 }
 
 // An int with a whole array is evaluated at the index of each element.
-fn set_each<C: WholeCrew>(
+fn set_each<C: Crew>(
     name: &ArrayName<'_>,
     op: Assign,
     sign: &Spot,
@@ -298,6 +281,7 @@ fn set_each<C: WholeCrew>(
     frame: &mut Frame<C::Kept>,
     crew: &C,
 ) -> Result<(), Stop>
+    requires ready { C.is_ready crew.now }
     ensures ends { (arrays : List TextRange) (done : Deeds)
         → RunsTo (MayRefuse (C.may_refuse crew.now) (owned_by frame.old name.now.slot) domain) result frame.new.memory done
         (array_set frame.old.limits IntKind name.now op sign.now (promoted_int EachTurn e.now) domain (Some arrays) frame.old.memory done) }
@@ -315,7 +299,7 @@ fn set_each<C: WholeCrew>(
 }
 
 // The same of truth values.
-fn set_truth_each<C: WholeCrew>(
+fn set_truth_each<C: Crew>(
     name: &ArrayName<'_>,
     sign: &Spot,
     e: &PromotedTruth<'_>,
@@ -323,6 +307,7 @@ fn set_truth_each<C: WholeCrew>(
     frame: &mut Frame<C::Kept>,
     crew: &C,
 ) -> Result<(), Stop>
+    requires ready { C.is_ready crew.now }
     ensures ends { (arrays : List TextRange) (done : Deeds)
         → RunsTo (MayRefuse (C.may_refuse crew.now) (owned_by frame.old name.now.slot) domain) result frame.new.memory done
         (array_set frame.old.limits BoolKind name.now Set sign.now (promoted_truth EachTurn e.now) domain (Some arrays) frame.old.memory done) }
@@ -345,7 +330,7 @@ fn set_truth_each<C: WholeCrew>(
 /// an index, in its turn; or what ends a forall of the crew early: the gate may refuse the entry of an element's owner, or of a reduction
 /// in a right side that is evaluated once.
 #[inline(never)]
-pub fn set_array<C: WholeCrew>(
+pub fn set_array<C: Crew>(
     name: &ArrayName<'_>,
     op: Assign,
     sign: &Spot,
@@ -353,6 +338,7 @@ pub fn set_array<C: WholeCrew>(
     frame: &mut Frame<C::Kept>,
     crew: &C,
 ) -> Result<(), Stop>
+    requires ready { C.is_ready crew.now }
     ensures ends { (done : Deeds) → RunsTo (MayRefuseWhole (C.may_refuse crew.now) frame.old name.now.slot (EachInInts e.now)) result frame.new.memory done
         (exec frame.old.limits in_memory (whole_set (array_leaf IntKind name.now) op sign.now (promoted_int EachTurn e.now)) frame.old.memory done) }
     ensures limits { frame.new.limits ≡ frame.old.limits }
@@ -369,13 +355,14 @@ pub fn set_array<C: WholeCrew>(
 /// # Errors
 /// As for ints.
 #[inline(never)]
-pub fn set_truth_array<C: WholeCrew>(
+pub fn set_truth_array<C: Crew>(
     name: &ArrayName<'_>,
     sign: &Spot,
     e: &PromotedTruth<'_>,
     frame: &mut Frame<C::Kept>,
     crew: &C,
 ) -> Result<(), Stop>
+    requires ready { C.is_ready crew.now }
     ensures ends { (done : Deeds) → RunsTo (MayRefuseWhole (C.may_refuse crew.now) frame.old name.now.slot (EachInTruths e.now)) result frame.new.memory done
         (exec frame.old.limits in_memory (whole_set (array_leaf BoolKind name.now) Set sign.now (promoted_truth EachTurn e.now)) frame.old.memory done) }
     ensures limits { frame.new.limits ≡ frame.old.limits }

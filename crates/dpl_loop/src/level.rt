@@ -114,15 +114,22 @@ fn start_all<'s, E, T: Turns + Sync, G: Gate + Sync, R: Threads + Sync>(
     };
     let below = start_all(rt, scope, site, jobs, done);
     let worked = handle.join(rt);
-    let mut done = below?;
-    done.push(worked)?;
-    Ok(done)
+    match below {
+        Ok(mut done) => {
+            done.push(worked)?;
+            Ok(done)
+        }
+        Err(stop) => match worked.end {
+            Err(Stop::Memory) => Err(Stop::Memory),
+            _ => Err(stop),
+        },
+    }
 }
 
 /// Does these jobs in a scope, each by a worker of its own. All that were started are joined.
 ///
 /// # Errors
-/// A worker was not started, or there was no memory for what one has left.
+/// Out of memory, for one of the workers or for what one has left; or else a worker was not started.
 pub(crate) fn work_all<'a, T: Turns + Sync, G: Gate + Sync, R: Threads + Wait + Sync>(
     rt: &R,
     site: &'a Site<'a, T, G>,

@@ -1,6 +1,6 @@
 // The loops of foralls and of reductions: they go through the indices of a domain, and ask a gate at each unless it is open.
-// Read `forall` of `Crew`, whose contract says that a forall is a plain loop, with `Gate` and `Turns`, which it takes; and then `reduce`.
-// A crew makes the turns of foralls; `forall_here` is what a caller does alone, and `forall` has workers do it where that serves (plan.rt): the
+// Read `forall`, whose contract says that a forall is a plain loop, with `Gate` and `Turns`, which it takes; and then `reduce`.
+// `forall_here` is what a caller does alone, and `forall` has workers do it where that serves (plan.rt): the
 // memory is tested (formed.rt) and the domain cut into parts (parts.rt), the arrays that turns write are taken apart (taken.rt), each locale
 // gets a job (jobs.rt, units.rt), which a thread of its own does (level.rt, part.rt); of their ends one is told (soonest.rt), and what they
 // have left is put together (given.rt, joined.rt).
@@ -11,7 +11,6 @@
 #![tactic(auto)]
 
 mod apart;
-mod crew;
 mod formed;
 pub mod gate;
 mod given;
@@ -36,7 +35,6 @@ mod turns;
 mod units;
 
 pub use apart::Apart;
-pub use crew::Crew;
 pub use gate::{Gate, OpenGate};
 pub use loops::{forall_here, forall_line};
 pub use meeting::Meeting;

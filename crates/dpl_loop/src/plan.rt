@@ -172,8 +172,8 @@ fn by_workers<T: Turns + Sync, G: Gate + Sync, R: Threads + Wait + Sync>(
 /// were started are joined before it answers.
 ///
 /// # Errors
-/// A worker was not started, whatever the others came to; out of memory; the gate refused an entry, which it may; or the fault of the first
-/// turn that has one, with its turn. Unless it ended well, nothing is said of the frame's memory.
+/// The first of these that came up in a worker: out of memory; a worker was not started; the gate refused an entry, which it may; or the
+/// fault of the first turn that has one, with its turn. Unless it ended well, nothing is said of the frame's memory.
 pub fn forall<T: Turns + Sync, G: Gate + Sync, R: Threads + Wait + Sync>(
     rt: &R,
     turns: &T,

@@ -8,8 +8,9 @@ ghost use Rattle.dpl_elements.specs.Turns.{index_turn};
 
 use dpl_dependence::{are_independent, are_own};
 use dpl_domain::Index;
+use dpl_elements::{Crew, WholeTurns};
 use dpl_frame::{Arrays, DomainWord, Frame};
-use dpl_loop::{Apart, Crew, Gate, Stop, Turns, forall_here};
+use dpl_loop::{Apart, Gate, Stop, Turns, forall_here};
 use dpl_map::Map;
 use dpl_nodes::{Argument, DomainExpr, Intent, Names, RangeExpr, Spot, Step};
 use dpl_steps::{Context, bind, make_row, run};
@@ -38,9 +39,11 @@ impl<A: Arrays> Gate for TurnContext<A> {
 impl<A: Arrays> Crew for TurnContext<A> {
     type Kept = A;
 
-    fn forall<T: Turns + Sync>(
+    ghost is_ready = { λ _. Unit {0} };
+
+    fn make_whole(
         &self,
-        turns: &T,
+        turns: &WholeTurns<'_, '_>,
         over: DomainWord,
         map: &Map,
         frame: &mut Frame<A>,

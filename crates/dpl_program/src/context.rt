@@ -8,10 +8,7 @@ ghost use Rattle.dpl_language.specs.Ranges.{indices_in};
 ghost use Rattle.dpl_language.specs.Statements.{exec_all};
 ghost use Rattle.dpl_memory.specs.Memory.{in_memory};
 ghost use Rattle.dpl_standing.specs.Standing.{Outside, InTurn};
-ghost use Rattle.dpl_nodes.specs.Typed.{domain_view};
 ghost use Rattle.dpl_nodes.specs.Steps.{intent_view};
-ghost use Rattle.dpl_language.specs.Roots.{derived_from};
-ghost use Rattle.dpl_nodes.specs.Roots.{slot_by};
 ghost use Rattle.dpl_nodes.specs.declared.step.Names.TheVariants.{Int as IntName};
 ghost use Rattle.dpl_contents.specs.Range.{range_word};
 ghost use Rattle.dpl_loop.specs.Runs.{RunsTo};
@@ -21,12 +18,14 @@ ghost use Rattle.dpl_steps.specs.Dealt.{dealt_by};
 ghost use Rattle.dpl_steps.specs.Written.{written_among};
 ghost use Rattle.dpl_elements.specs.Turns.{index_turn, intended_turns};
 ghost use Rattle.dpl_print.specs.Texts.{having_printed};
+ghost use Rattle.dpl_program.specs.Making.{HasMade, HasMadeWhole};
 
 use crate::body::Body;
-use crate::changed::Changed;
 use crate::dealt::dealt;
+use crate::forall::{Forall, make_forall};
+use dpl_elements::{Crew, WholeTurns};
 use dpl_frame::{Arrays, DomainWord, Frame, RangeWord, Slots};
-use dpl_loop::{Crew, Gate, Stop, Turns, forall, forall_line};
+use dpl_loop::{Gate, Stop, forall, forall_line};
 use dpl_map::Map;
 use dpl_nodes::{Argument, DomainExpr, Intent, Names, RangeExpr, Spot, Step};
 use dpl_print::write;
@@ -34,14 +33,20 @@ use dpl_steps::{Context, domain_indices, range_indices, run as run_steps};
 use std::sync::Wait;
 use std::thread::Threads;
 
-// Outside of all foralls, with what starts workers.
+// Outside of all foralls. Two closures make the loops there: what workers share has to be known by its type where they are started, and no
+// method of a trait knows it.
 #[derive(Drop)]
-struct ProgramContext<'g, R, G> {
-    rt: &'g R,
+struct ProgramContext<'g, G, W, M> {
     gate: &'g G,
+    make_whole: &'g W,
+    make: &'g M,
 }
 
-impl<'g, R: Threads + Wait + Sync, G: Gate + Sync> Gate for ProgramContext<'g, R, G> {
+impl<'g, G: Gate, W, M> Gate for ProgramContext<'g, G, W, M>
+where
+    W: Fn(&WholeTurns<'_, '_>, DomainWord, &Map, &mut Frame) -> Result<(), Stop>,
+    M: Fn(&Forall<'_, '_>, &mut Frame) -> Result<(), Stop>,
+{
     ghost may_refuse = { λ context. G.may_refuse context.gate.now };
 
     #[inline(always)]
@@ -55,58 +60,33 @@ impl<'g, R: Threads + Wait + Sync, G: Gate + Sync> Gate for ProgramContext<'g, R
     }
 }
 
-impl<'g, R: Threads + Wait + Sync, G: Gate + Sync> Crew for ProgramContext<'g, R, G> {
+impl<'g, G: Gate, W, M> Crew for ProgramContext<'g, G, W, M>
+where
+    W: Fn(&WholeTurns<'_, '_>, DomainWord, &Map, &mut Frame) -> Result<(), Stop>,
+    M: Fn(&Forall<'_, '_>, &mut Frame) -> Result<(), Stop>,
+{
     type Kept = Slots;
 
-    fn forall<T: Turns + Sync>(
+    ghost is_ready = { λ context. W.IsAlwaysCallable context.make_whole.now
+        × ((turns over map before result after : _) → W.post context.make_whole.now turns over map before result after
+        → HasMadeWhole (G.may_refuse context.gate.now) turns.now over map.now before.now result after.now)
+        × M.IsAlwaysCallable context.make.now
+        × ((made before result after : _) → M.post context.make.now made before result after
+        → HasMade (G.may_refuse context.gate.now) made.now before.now result after.now) };
+
+    fn make_whole(
         &self,
-        turns: &T,
+        turns: &WholeTurns<'_, '_>,
         over: DomainWord,
         map: &Map,
         frame: &mut Frame,
     ) -> Result<(), Stop> {
-        forall(self.rt, turns, over, map, frame, self.gate)
+        (self.make_whole)(turns, over, map, frame)
     }
 }
 
-// The turns of a forall over a domain with its reduce variables, dealt out by the map that its text tells.
-fn turns_of<'t, C: Crew>(
-    names: &Names<'t>,
-    over: &DomainExpr<'_>,
-    indices: DomainWord,
-    intents: &[Intent],
-    body: &[Step<'t>],
-    frame: &mut Frame<C::Kept>,
-    crew: &C,
-) -> Result<(), Stop>
-    ensures ends { (done : Deeds) → RunsTo
-        (MayRefuse (C.may_refuse crew.now)
-        (dealt_by frame.old (slot_by (derived_from (domain_view over.now))) (written_among (steps_in InTurn body.now))) indices)
-        result frame.new.memory done
-        (intended_turns (map intent_view intents.now)
-        (index_turn frame.old.limits names.now (steps_in InTurn body.now)) (indices_in indices) frame.old.memory done) }
-    ensures limits { frame.new.limits ≡ frame.old.limits }
-{
-    let map = dealt(body, over.origin(), frame);
-    let Ok(changed) = Changed::of(names, body, frame.alloc()) else {
-        return Err(Stop::Memory);
-    };
-    let turns = Body {
-        names: *names,
-        steps: body,
-        rank: indices.rank(),
-        reduced: intents,
-        written: changed.written.as_slice(),
-        numbers: changed.numbers.as_slice(),
-        tuples: changed.tuples.as_slice(),
-    };
-    frame.intend(intents)?;
-    crew.forall(&turns, indices, &map, frame)?;
-    frame.intend_none();
-    Ok(())
-}
-
-// The same of a forall over a range, whose turns the caller makes: so they tell nothing of how they may be made apart.
+// The turns of a forall over a range that has more members than a domain, with its reduce variables. The caller makes them: so they tell
+// nothing of how they may be made apart.
 fn turns_of_line<'t, A: Arrays, G: Gate>(
     slot: usize,
     indices: &RangeWord,
@@ -138,7 +118,11 @@ fn turns_of_line<'t, A: Arrays, G: Gate>(
     Ok(())
 }
 
-impl<'g, R: Threads + Wait + Sync, G: Gate + Sync> Context for ProgramContext<'g, R, G> {
+impl<'g, G: Gate, W, M> Context for ProgramContext<'g, G, W, M>
+where
+    W: Fn(&WholeTurns<'_, '_>, DomainWord, &Map, &mut Frame) -> Result<(), Stop>,
+    M: Fn(&Forall<'_, '_>, &mut Frame) -> Result<(), Stop>,
+{
     type Out = Vec<u8>;
 
     ghost standing = { Outside };
@@ -166,8 +150,18 @@ impl<'g, R: Threads + Wait + Sync, G: Gate + Sync> Context for ProgramContext<'g
         body: &[Step<'t>],
         frame: &mut Frame,
     ) -> Result<(), Stop> {
-        let indices = range_indices(at, over, frame, self)?;
-        turns_of_line(slot, &indices, intents, body, frame, self)
+        let range = range_indices(at, over, frame, self)?;
+        let Some(indices) = DomainWord::new(&[range]) else {
+            return turns_of_line(slot, &range, intents, body, frame, self);
+        };
+        let made = Forall {
+            names: Names::Int(slot),
+            origin: None,
+            indices,
+            intents,
+            body,
+        };
+        (self.make)(&made, frame)
     }
 
     #[inline(never)]
@@ -181,7 +175,14 @@ impl<'g, R: Threads + Wait + Sync, G: Gate + Sync> Context for ProgramContext<'g
         frame: &mut Frame,
     ) -> Result<(), Stop> {
         let indices = domain_indices(at, over, frame, self)?;
-        turns_of(names, over, indices, intents, body, frame, self)
+        let made = Forall {
+            names: *names,
+            origin: over.origin(),
+            indices,
+            intents,
+            body,
+        };
+        (self.make)(&made, frame)
     }
 }
 
@@ -201,5 +202,16 @@ pub fn run<'t, R: Threads + Wait + Sync, G: Gate + Sync>(
         (exec_all frame.old.limits in_memory (steps_in Outside steps.now) frame.old.memory (having_printed out.old.items done)) }
     ensures limits { frame.new.limits ≡ frame.old.limits }
 {
-    run_steps(steps, &ProgramContext { rt, gate }, frame, out)
+    let make_whole = move |turns: &WholeTurns<'_, '_>, over: DomainWord, map: &Map, frame: &mut Frame| -> Result<(), Stop>
+        ensures { HasMadeWhole (G.may_refuse gate.entry.now) turns.now over map.now frame.old result frame.new }
+    { forall(rt, turns, over, map, frame, gate) };
+    let make = move |made: &Forall<'_, '_>, frame: &mut Frame| -> Result<(), Stop>
+        ensures { HasMade (G.may_refuse gate.entry.now) made.now frame.old result frame.new }
+    { make_forall(rt, made, frame, gate) };
+    let context = ProgramContext {
+        gate,
+        make_whole: &make_whole,
+        make: &make,
+    };
+    run_steps(steps, &context, frame, out)
 }

@@ -10,6 +10,7 @@ mod body;
 mod changed;
 mod context;
 mod dealt;
+mod forall;
 mod written;
 
 pub use context::run;

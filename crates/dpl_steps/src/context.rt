@@ -15,8 +15,9 @@ ghost use Rattle.dpl_readings.specs.Readings.{outside, forall_of, steps_in};
 ghost use Rattle.dpl_values.specs.Arguments.{EachInArguments};
 ghost use Rattle.dpl_steps.specs.Refusals.{MayRefuseForall, MayRefuseForallLine};
 
+use dpl_elements::Crew;
 use dpl_frame::Frame;
-use dpl_loop::{Crew, Stop};
+use dpl_loop::Stop;
 use dpl_nodes::{Argument, DomainExpr, Intent, Names, RangeExpr, Spot, Step};
 
 /// Where statements stand: outside of all foralls, or in a turn of one; and the gate that reductions there ask.
@@ -59,6 +60,7 @@ pub trait Context: Crew {
         body: &[Step<'t>],
         frame: &mut Frame<Self::Kept>,
     ) -> Result<(), Stop>
+        requires ready { Self.is_ready self.now }
         ensures ends { (done : Deeds)
             → RunsTo (MayRefuseForallLine (Self.may_refuse self.now) frame.old at.now over.now (steps_in InTurn body.now)) result frame.new.memory done
             (exec frame.old.limits in_memory
@@ -79,6 +81,7 @@ pub trait Context: Crew {
         body: &[Step<'t>],
         frame: &mut Frame<Self::Kept>,
     ) -> Result<(), Stop>
+        requires ready { Self.is_ready self.now }
         ensures ends { (done : Deeds)
             → RunsTo (MayRefuseForall (Self.may_refuse self.now) frame.old at.now over.now (steps_in InTurn body.now)) result frame.new.memory done
             (exec frame.old.limits in_memory

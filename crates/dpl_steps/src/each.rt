@@ -111,6 +111,7 @@ fn domain_turn<'t, C: Context>(
     frame: &mut Frame<C::Kept>,
     out: &mut C::Out,
 ) -> Result<(), Stop>
+    requires ready { C.is_ready context.now }
     ensures ends { (done : Deeds) → RunsTo (MayRefuseSome (C.may_refuse context.now)) result frame.new.memory (C.having out.new done)
         (index_turn frame.old.limits names.now (steps_in C.standing body.now) index frame.old.memory (C.having out.old done)) }
     ensures limits { frame.new.limits ≡ frame.old.limits }
@@ -130,6 +131,7 @@ fn domain_turns<'t, C: Context>(
     frame: &mut Frame<C::Kept>,
     out: &mut C::Out,
 ) -> Result<(), Stop>
+    requires ready { C.is_ready context.now }
     ensures ends { (done : Deeds) → RunsTo (MayRefuseSome (C.may_refuse context.now)) result frame.new.memory (C.having out.new done)
         (in_order (index_turn frame.old.limits names.now (steps_in C.standing body.now)) (indices_in domain) frame.old.memory (C.having out.old done)) }
     ensures limits { frame.new.limits ≡ frame.old.limits }
@@ -153,6 +155,7 @@ pub(crate) fn for_each<'t, C: Context>(
     frame: &mut Frame<C::Kept>,
     out: &mut C::Out,
 ) -> Result<(), Stop>
+    requires ready { C.is_ready context.now }
     ensures ends { (done : Deeds) → RunsTo (MayRefuseSome (C.may_refuse context.now)) result frame.new.memory (C.having out.new done)
         (exec frame.old.limits in_memory (ForTree at.now (names_view names.now) nowhere (One (domain_view over.now))
         (listed (steps_in C.standing body.now))) frame.old.memory (C.having out.old done)) }

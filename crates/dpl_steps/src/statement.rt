@@ -65,6 +65,7 @@ pub fn run<'t, C: Context>(
     frame: &mut Frame<C::Kept>,
     out: &mut C::Out,
 ) -> Result<(), Stop>
+    requires ready { C.is_ready context.now }
     ensures ends { (done : Deeds) → RunsTo (MayRefuseSome (C.may_refuse context.now)) result frame.new.memory (C.having out.new done)
         (exec_all frame.old.limits in_memory (steps_in C.standing steps.now) frame.old.memory (C.having out.old done)) }
     ensures limits { frame.new.limits ≡ frame.old.limits }
@@ -83,6 +84,7 @@ fn statement<'t, C: Context>(
     frame: &mut Frame<C::Kept>,
     out: &mut C::Out,
 ) -> Result<(), Stop>
+    requires ready { C.is_ready context.now }
     ensures ends { (done : Deeds) → RunsTo (MayRefuseSome (C.may_refuse context.now)) result frame.new.memory (C.having out.new done)
         (exec frame.old.limits in_memory (step_in C.standing step.now) frame.old.memory (C.having out.old done)) }
     ensures limits { frame.new.limits ≡ frame.old.limits }
@@ -165,6 +167,7 @@ fn for_loop<'t, C: Context>(
     frame: &mut Frame<C::Kept>,
     out: &mut C::Out,
 ) -> Result<(), Stop>
+    requires ready { C.is_ready context.now }
     ensures ends { (done : Deeds) → RunsTo (MayRefuseSome (C.may_refuse context.now)) result frame.new.memory (C.having out.new done)
         (exec frame.old.limits in_memory (ForTree at.now (variable_in slot) nowhere (range_item over.now)
         (listed (steps_in C.standing body.now))) frame.old.memory (C.having out.old done)) }
@@ -182,6 +185,7 @@ fn alternative<'t, C: Context>(
     frame: &mut Frame<C::Kept>,
     out: &mut C::Out,
 ) -> Result<(), Stop>
+    requires ready { C.is_ready context.now }
     ensures ends { (done : Deeds) → RunsTo (MayRefuseSome (C.may_refuse context.now)) result frame.new.memory (C.having out.new done)
         (exec_else frame.old.limits in_memory (else_in C.standing otherwise.now) frame.old.memory (C.having out.old done)) }
     ensures limits { frame.new.limits ≡ frame.old.limits }
@@ -203,6 +207,7 @@ fn while_loop<'t, C: Context>(
     frame: &mut Frame<C::Kept>,
     out: &mut C::Out,
 ) -> Result<(), Stop>
+    requires ready { C.is_ready context.now }
     ensures ends { (done : Deeds) → RunsTo (MayRefuseSome (C.may_refuse context.now)) result frame.new.memory (C.having out.new done)
         (repeated frame.old.limits.budget at.now (holds frame.old.limits in_memory (truth_view condition.now))
         (exec_all frame.old.limits in_memory (steps_in C.standing body.now)) frame.old.memory (C.having out.old done)) }
@@ -231,7 +236,8 @@ fn turn<'t, C: Context>(
     frame: &mut Frame<C::Kept>,
     out: &mut C::Out,
 ) -> Result<(), Stop>
-    requires { k < length (members_of range) }
+    requires ready { C.is_ready context.now }
+    requires place { k < length (members_of range) }
     ensures ends { (i : ℤ) (done : Deeds) → slice_get (members_of range) k ≡ Some i
         → RunsTo (MayRefuseSome (C.may_refuse context.now)) result frame.new.memory (C.having out.new done)
         (turn_in_memory frame.old.limits slot (steps_in C.standing body.now) i frame.old.memory (C.having out.old done)) }
@@ -255,6 +261,7 @@ fn turns<'t, C: Context>(
     frame: &mut Frame<C::Kept>,
     out: &mut C::Out,
 ) -> Result<(), Stop>
+    requires ready { C.is_ready context.now }
     ensures ends { (done : Deeds) → RunsTo (MayRefuseSome (C.may_refuse context.now)) result frame.new.memory (C.having out.new done)
         (in_turn (turn_in_memory frame.old.limits slot (steps_in C.standing body.now)) (members_of range) frame.old.memory (C.having out.old done)) }
     ensures limits { frame.new.limits ≡ frame.old.limits }

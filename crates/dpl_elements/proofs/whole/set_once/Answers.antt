@@ -24,7 +24,7 @@ returns-in_err-value-clause-ends g c done =
     rw (p.1, p.2)
     (gives-halts _ _ Int c.in_err-value.field-0.0 _ s done _ inr
     (λ f is. assign_array-fault limits (array_leaf IntKind c.args.name.now) (signed c.args.op c.args.sign.now) (promoted_int EachTurn c.args.e.now) c.args.domain t s done
-    (cell_read-promoted_int EachTurn c.args.e.now) (promoted_int-once limits s EachTurn c.args.e.now t c.requires) f is)
+    (cell_read-promoted_int EachTurn c.args.e.now) (promoted_int-once limits s EachTurn c.args.e.now t c.requires.once) f is)
     c.in_err-value.ensures)
 
 pub returns-clause-ends : goal.returns-clause-ends
@@ -37,5 +37,5 @@ returns-clause-ends g c done =
     let same : to_z w64 (of_z w64 n) ≡ n = to_z-of_z w64 n fits in
     ends-wider _ _ c.each_within.result c.each_within.new.frame.memory done _ _ inl
     (assign_array-value limits (array_leaf IntKind c.args.name.now) (signed c.args.op c.args.sign.now) (promoted_int EachTurn c.args.e.now) c.args.domain t s done
-    (cell_read-promoted_int EachTurn c.args.e.now) (promoted_int-once limits s EachTurn c.args.e.now t c.requires) (Int (to_z w64 (of_z w64 n))) (c.in_ok-value.ensures ∙ ap (λ n. Ok (Int n)) (sym same)))
+    (cell_read-promoted_int EachTurn c.args.e.now) (promoted_int-once limits s EachTurn c.args.e.now t c.requires.once) (Int (to_z w64 (of_z w64 n))) (c.in_ok-value.ensures ∙ ap (λ n. Ok (Int n)) (sym same)))
     (c.each_within.ensures.ends done)

@@ -22,7 +22,7 @@ returns-in_err-promoted_truth_value-clause-ends g c done =
     rw (p.1, p.2)
     (gives-halts _ _ Truth c.in_err-promoted_truth_value.field-0.0 _ s done _ inr
     (λ f is. assign_array-fault limits (array_leaf BoolKind c.args.name.now) (signed Set c.args.sign.now) (promoted_truth EachTurn c.args.e.now) c.args.domain t s done
-    (cell_read-promoted_truth EachTurn c.args.e.now) (promoted_truth-once limits s EachTurn c.args.e.now t c.requires) f is)
+    (cell_read-promoted_truth EachTurn c.args.e.now) (promoted_truth-once limits s EachTurn c.args.e.now t c.requires.once) f is)
     c.in_err-promoted_truth_value.ensures)
 
 pub returns-clause-ends : goal.returns-clause-ends
@@ -33,5 +33,5 @@ returns-clause-ends g c done =
     let got : c.in_ok-promoted_truth_value.field-0 ≡ c.get-value.result = search rules in
     ends-wider _ _ c.each_within.result c.each_within.new.frame.memory done _ _ inl
     (assign_array-value limits (array_leaf BoolKind c.args.name.now) (signed Set c.args.sign.now) (promoted_truth EachTurn c.args.e.now) c.args.domain t s done
-    (cell_read-promoted_truth EachTurn c.args.e.now) (promoted_truth-once limits s EachTurn c.args.e.now t c.requires) (Truth c.get-value.result) (c.in_ok-promoted_truth_value.ensures ∙ ap (λ b. Ok (Truth b)) got))
+    (cell_read-promoted_truth EachTurn c.args.e.now) (promoted_truth-once limits s EachTurn c.args.e.now t c.requires.once) (Truth c.get-value.result) (c.in_ok-promoted_truth_value.ensures ∙ ap (λ b. Ok (Truth b)) got))
     (c.each_within.ensures.ends done)

@@ -10,31 +10,27 @@ use Rattle.dpl_frame.specs.Frames.{Framed}
 use Rattle.dpl_loop.specs.Entries.{MayRefuse}
 use Rattle.dpl_loop.proofs.Ends.{halts-where, halts-alike, then_do-halts}
 use Rattle.dpl_readings.specs.Readings.{steps_in}
-use Rattle.dpl_steps.specs.Dealt.{dealt_by}
-use Rattle.dpl_steps.specs.Written.{written_among}
 use Rattle.dpl_elements.specs.Turns.{index_turn}
-use Rattle.dpl_program.proofs.context.turns_of.Goals as goal
+use Rattle.dpl_program.proofs.forall.make_forall.Goals as goal
 
 pub returns-clause-ends : goal.returns-clause-ends
 returns-clause-ends g c done =
-    let names = c.args.names.now in
-    let body = steps_in InTurn c.args.body.now in
-    let rs = c.args.indices in
-    ap (λ (f : Framed). then_do (in_order (named_turn (index_turn f.limits names body)) (indices_in rs) f.memory done) (λ s done. Done (in_memory.intend [] s) done)) (sym c.in_ok-intend.ensures.intended)
+    let made = c.args.made.now in
+    let turn = λ limits. named_turn (index_turn limits made.names (steps_in InTurn made.body.now)) in
+    ap (λ (f : Framed). then_do (in_order (turn f.limits) (indices_in made.indices) f.memory done) (λ s done. Done (in_memory.intend [] s) done)) (sym c.in_ok-intend.ensures.intended)
     ∙ ap (λ o. then_do o (λ s done. Done (in_memory.intend [] s) done)) (c.in_ok-forall.ensures.ends done)
     ∙ ap (λ (f : Framed). Done f.memory done) (sym c.intend_none.ensures)
 
 pub returns-in_err-forall-clause-ends : goal.returns-in_err-forall-clause-ends
 returns-in_err-forall-clause-ends g c done =
-    let names = c.args.names.now in
-    let body = steps_in InTurn c.args.body.now in
-    let rs = c.args.indices in
+    let made = c.args.made.now in
+    let turn = λ limits. named_turn (index_turn limits made.names (steps_in InTurn made.body.now)) in
     let next = c.forall.new.frame.memory in
     let h = c.in_err-forall.field-0.0 in
-    let may = g.C.Gate.may_refuse c.args.crew.now in
+    let may = g.G.Gate.may_refuse c.args.gate.now in
     let p = err_from_is_err_and c.from_residual-in_err-forall.result c.from_residual-in_err-forall.ensures.1 in
     rw (p.1, p.2)
-    (halts-where (MayRefuse may c.dealt-map.result rs) _ h next done _ (subst (λ map. MayRefuse may map rs) (c.dealt-map.ensures ∙ ap (λ p. dealt_by c.args.frame.now p (written_among body)) c.origin.ensures))
+    (halts-where (MayRefuse may c.dealt-map.result made.indices) _ h next done _ (subst (λ map. MayRefuse may map made.indices) c.dealt-map.ensures)
     (halts-alike _ h next next done _ _
-    (ap (λ (f : Framed). then_do (in_order (named_turn (index_turn f.limits names body)) (indices_in rs) f.memory done) (λ s done. Done (in_memory.intend [] s) done)) (sym c.in_ok-intend.ensures.intended))
+    (ap (λ (f : Framed). then_do (in_order (turn f.limits) (indices_in made.indices) f.memory done) (λ s done. Done (in_memory.intend [] s) done)) (sym c.in_ok-intend.ensures.intended))
     (then_do-halts _ h next next done _ (λ s done. Done (in_memory.intend [] s) done) (c.in_err-forall.ensures.ends done))))

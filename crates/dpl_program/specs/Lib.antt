@@ -1,0 +1,2 @@
+-- How a program's loops end.
+pub mod Making

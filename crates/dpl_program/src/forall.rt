@@ -1,0 +1,59 @@
+// A forall over a domain, once what it runs over has been evaluated: its turns are dealt out by a map, and made between its reduce variables.
+
+ghost use Rattle.std.specs.Prelude.{◌≡◌};
+ghost use Rattle.dpl_language.specs.Outcome.{Deeds};
+ghost use Rattle.dpl_loop.specs.Runs.{RunsTo};
+ghost use Rattle.dpl_program.specs.Making.{forall_run, MayRefuseTurns};
+
+use crate::body::Body;
+use crate::changed::Changed;
+use crate::dealt::dealt;
+use dpl_frame::{DomainWord, Frame};
+use dpl_loop::{Gate, Stop, forall};
+use dpl_nodes::{Intent, Names, Step};
+use std::sync::Wait;
+use std::thread::Threads;
+
+/// A forall over a domain: its variables, the slot of the name from which the domain is derived, if from one, the domain, its reduce variables
+/// and its body.
+#[derive(Drop)]
+pub(crate) struct Forall<'f, 't> {
+    pub(crate) names: Names<'t>,
+    pub(crate) origin: Option<usize>,
+    pub(crate) indices: DomainWord,
+    pub(crate) intents: &'f [Intent],
+    pub(crate) body: &'f [Step<'t>],
+}
+
+/// Makes its turns, by workers where they serve, dealt out by the map that its text tells.
+///
+/// # Errors
+/// As for `forall` of dpl_loop; and out of memory for the list of what its turns change.
+pub(crate) fn make_forall<R: Threads + Wait + Sync, G: Gate + Sync>(
+    rt: &R,
+    made: &Forall<'_, '_>,
+    frame: &mut Frame,
+    gate: &G,
+) -> Result<(), Stop>
+    ensures ends { (done : Deeds) → RunsTo (MayRefuseTurns (G.may_refuse gate.now) frame.old made.now) result frame.new.memory done
+        (forall_run frame.old.limits made.now frame.old.memory done) }
+    ensures limits { frame.new.limits ≡ frame.old.limits }
+{
+    let map = dealt(made.body, made.origin, frame);
+    let Ok(changed) = Changed::of(&made.names, made.body, frame.alloc()) else {
+        return Err(Stop::Memory);
+    };
+    let turns = Body {
+        names: made.names,
+        steps: made.body,
+        rank: made.indices.rank(),
+        reduced: made.intents,
+        written: changed.written.as_slice(),
+        numbers: changed.numbers.as_slice(),
+        tuples: changed.tuples.as_slice(),
+    };
+    frame.intend(made.intents)?;
+    forall(rt, &turns, made.indices, &map, frame, gate)?;
+    frame.intend_none();
+    Ok(())
+}
