@@ -8,8 +8,8 @@ use Rattle.dpl_loop.specs.Workers.{HasWorked}
 use Rattle.dpl_loop.proofs.Workers.{done-more}
 use Rattle.dpl_loop.proofs.level.+start_all.Goals as goal
 
-pub returns-clause-done : goal.returns-clause-done
-returns-clause-done g t c =
+pub returns-in-Ok-below-clause-done : goal.returns-in-Ok-below-clause-done
+returns-in-Ok-below-clause-done g t c =
     let may = MayRefuseAmong (g.G.Gate.may_refuse c.args.site.now.gate.now) c.args.site.now.map.now (indices c.args.site.now.whole.now) in
     let w = c.join-worked.result in
     let promised = subst
@@ -17,5 +17,5 @@ returns-clause-done g t c =
     (named_turn (g.T.Turns.turn p.site.now.turns.now p.began.value.limits)) (indices p.part.now) p.began.value.memory w)
     c.in-Ok.ensures.ok c.join-worked.ensures in
     let worked = subst (λ f. HasWorked may (named_turn (g.T.Turns.turn c.args.site.now.turns.now f.limits)) (indices c.in-Some.job.part.now) f.memory w) c.of.ensures promised.1 in
-    done-more may (λ limits. named_turn (g.T.Turns.turn c.args.site.now.turns.now limits)) c.pop.new.self.items c.in_ok-done.done.items c.in-Some.job w c.args.jobs.items c.push.new.self.items
-    c.in-Some.ensures.items c.in_ok-push.ensures.items c.in_ok-done.ensures.done (promised.0, worked)
+    done-more may (λ limits. named_turn (g.T.Turns.turn c.args.site.now.turns.now limits)) c.pop.new.self.items c.in-Ok-below.done.items c.in-Some.job w c.args.jobs.items c.push.new.self.items
+    c.in-Some.ensures.items c.in_ok-push-in-Ok-below.ensures.items c.in-Ok-below.ensures.done (promised.0, worked)
