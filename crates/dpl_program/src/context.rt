@@ -186,6 +186,41 @@ where
     }
 }
 
+// Runs statements, whose foralls a closure makes.
+fn run_by<
+    't,
+    M: Fn(&Forall<'_, '_>, &mut Frame) -> Result<(), Stop>,
+    R: Threads + Wait + Sync,
+    G: Gate + Sync,
+>(
+    rt: &R,
+    make: &M,
+    steps: &[Step<'t>],
+    frame: &mut Frame,
+    gate: &G,
+    out: &mut Vec<u8>,
+) -> Result<(), Stop>
+    requires callable { M.IsAlwaysCallable make.now }
+    requires makes { (made before result after : _) → M.post make.now made before result after
+        → HasMade (G.may_refuse gate.now) made.now before.now result after.now }
+    ensures ends { (done : Deeds) → RunsTo (MayRefuseSome (G.may_refuse gate.now)) result frame.new.memory (having_printed out.new.items done)
+        (exec_all frame.old.limits in_memory (steps_in Outside steps.now) frame.old.memory (having_printed out.old.items done)) }
+    ensures limits { frame.new.limits ≡ frame.old.limits }
+{
+    let make_whole = move |turns: &WholeTurns<
+        '_,
+        '_,
+    >, over: DomainWord, map: &Map, frame: &mut Frame| -> Result<(), Stop>
+        ensures { HasMadeWhole (G.may_refuse gate.entry.now) turns.now over map.now frame.old result frame.new }
+    { forall(rt, turns, over, map, frame, gate) };
+    let context = ProgramContext {
+        gate,
+        make_whole: &make_whole,
+        make,
+    };
+    run_steps(steps, &context, frame, out)
+}
+
 /// Runs statements of a program one after another, and appends what they print. `rt` is what workers are started with.
 ///
 /// # Errors
@@ -202,19 +237,8 @@ pub fn run<'t, R: Threads + Wait + Sync, G: Gate + Sync>(
         (exec_all frame.old.limits in_memory (steps_in Outside steps.now) frame.old.memory (having_printed out.old.items done)) }
     ensures limits { frame.new.limits ≡ frame.old.limits }
 {
-    let make_whole = move |turns: &WholeTurns<
-        '_,
-        '_,
-    >, over: DomainWord, map: &Map, frame: &mut Frame| -> Result<(), Stop>
-        ensures { HasMadeWhole (G.may_refuse gate.entry.now) turns.now over map.now frame.old result frame.new }
-    { forall(rt, turns, over, map, frame, gate) };
     let make = move |made: &Forall<'_, '_>, frame: &mut Frame| -> Result<(), Stop>
         ensures { HasMade (G.may_refuse gate.entry.now) made.now frame.old result frame.new }
     { make_forall(rt, made, frame, gate) };
-    let context = ProgramContext {
-        gate,
-        make_whole: &make_whole,
-        make: &make,
-    };
-    run_steps(steps, &context, frame, out)
+    run_by(rt, &make, steps, frame, gate, out)
 }
