@@ -14,6 +14,7 @@ ghost use Rattle.dpl_contents.specs.Range.{range_word};
 ghost use Rattle.dpl_loop.specs.Runs.{RunsTo};
 ghost use Rattle.dpl_loop.specs.Entries.{MayRefuse, MayRefuseSome};
 ghost use Rattle.dpl_readings.specs.Readings.{steps_in};
+ghost use Rattle.dpl_values.specs.Teams.{TellsInts, TellsTruths};
 ghost use Rattle.dpl_steps.specs.Dealt.{dealt_by};
 ghost use Rattle.dpl_steps.specs.Written.{written_among};
 ghost use Rattle.dpl_elements.specs.Turns.{index_turn, intended_turns};
@@ -24,28 +25,36 @@ use crate::body::Body;
 use crate::dealt::dealt;
 use crate::forall::{Forall, make_forall};
 use dpl_elements::{Crew, WholeTurns};
-use dpl_frame::{Arrays, DomainWord, Frame, RangeWord, Slots};
+use dpl_frame::{Alarm, Arrays, DomainWord, Frame, RangeWord, Slots, Truth, Turn};
 use dpl_loop::{Gate, Stop, forall, forall_line};
 use dpl_map::Map;
-use dpl_nodes::{Argument, DomainExpr, Intent, Names, RangeExpr, Spot, Step};
+use dpl_nodes::{
+    Argument, DomainExpr, IntFold, Intent, Names, PromotedInt, PromotedTruth, RangeExpr, Spot, Step,
+    TruthFold,
+};
 use dpl_print::write;
 use dpl_steps::{Context, domain_indices, range_indices, run as run_steps};
+use dpl_values::{Team, reduced_int_by_workers, reduced_truth_by_workers};
 use std::sync::Wait;
 use std::thread::Threads;
 
-// Outside of all foralls. Two closures make the loops there: what workers share has to be known by its type where they are started, and no
-// method of a trait knows it.
+// Outside of all foralls. Four closures make the loops there, of turns and of reductions: what workers share has to be known by its type where
+// they are started, and no method of a trait knows it.
 #[derive(Drop)]
-struct ProgramContext<'g, G, W, M> {
+struct ProgramContext<'g, G, W, M, I, T> {
     gate: &'g G,
     make_whole: &'g W,
     make: &'g M,
+    reduce_ints: &'g I,
+    reduce_truths: &'g T,
 }
 
-impl<'g, G: Gate, W, M> Gate for ProgramContext<'g, G, W, M>
+impl<'g, G: Gate, W, M, I, T> Gate for ProgramContext<'g, G, W, M, I, T>
 where
     W: Fn(&WholeTurns<'_, '_>, DomainWord, &Map, &mut Frame) -> Result<(), Stop>,
     M: Fn(&Forall<'_, '_>, &mut Frame) -> Result<(), Stop>,
+    I: Fn(IntFold, &PromotedInt<'_>, &Spot, &Frame, &mut Turn) -> Result<i64, Alarm>,
+    T: Fn(TruthFold, &PromotedTruth<'_>, &Spot, &Frame, &mut Turn) -> Result<Truth, Alarm>,
 {
     ghost may_refuse = { λ context. G.may_refuse context.gate.now };
 
@@ -60,10 +69,12 @@ where
     }
 }
 
-impl<'g, G: Gate, W, M> Crew for ProgramContext<'g, G, W, M>
+impl<'g, G: Gate, W, M, I, T> Team for ProgramContext<'g, G, W, M, I, T>
 where
     W: Fn(&WholeTurns<'_, '_>, DomainWord, &Map, &mut Frame) -> Result<(), Stop>,
     M: Fn(&Forall<'_, '_>, &mut Frame) -> Result<(), Stop>,
+    I: Fn(IntFold, &PromotedInt<'_>, &Spot, &Frame, &mut Turn) -> Result<i64, Alarm>,
+    T: Fn(TruthFold, &PromotedTruth<'_>, &Spot, &Frame, &mut Turn) -> Result<Truth, Alarm>,
 {
     type Kept = Slots;
 
@@ -72,8 +83,44 @@ where
         → HasMadeWhole (G.may_refuse context.gate.now) turns.now over map.now before.now result after.now)
         × M.IsAlwaysCallable context.make.now
         × ((made before result after : _) → M.post context.make.now made before result after
-        → HasMade (G.may_refuse context.gate.now) made.now before.now result after.now) };
+        → HasMade (G.may_refuse context.gate.now) made.now before.now result after.now)
+        × I.IsAlwaysCallable context.reduce_ints.now
+        × ((fold e at frame before result after : _) → I.post context.reduce_ints.now fold e at frame before result after
+        → TellsInts (G.may_refuse context.gate.now) frame.now fold e.now at.now after.now result)
+        × T.IsAlwaysCallable context.reduce_truths.now
+        × ((fold e at frame before result after : _) → T.post context.reduce_truths.now fold e at frame before result after
+        → TellsTruths (G.may_refuse context.gate.now) frame.now fold e.now at.now after.now result) };
 
+    fn reduced_int(
+        &self,
+        fold: IntFold,
+        e: &PromotedInt<'_>,
+        at: &Spot,
+        frame: &Frame,
+        turn: &mut Turn,
+    ) -> Option<Result<i64, Alarm>> {
+        Some((self.reduce_ints)(fold, e, at, frame, turn))
+    }
+
+    fn reduced_truth(
+        &self,
+        fold: TruthFold,
+        e: &PromotedTruth<'_>,
+        at: &Spot,
+        frame: &Frame,
+        turn: &mut Turn,
+    ) -> Option<Result<Truth, Alarm>> {
+        Some((self.reduce_truths)(fold, e, at, frame, turn))
+    }
+}
+
+impl<'g, G: Gate, W, M, I, T> Crew for ProgramContext<'g, G, W, M, I, T>
+where
+    W: Fn(&WholeTurns<'_, '_>, DomainWord, &Map, &mut Frame) -> Result<(), Stop>,
+    M: Fn(&Forall<'_, '_>, &mut Frame) -> Result<(), Stop>,
+    I: Fn(IntFold, &PromotedInt<'_>, &Spot, &Frame, &mut Turn) -> Result<i64, Alarm>,
+    T: Fn(TruthFold, &PromotedTruth<'_>, &Spot, &Frame, &mut Turn) -> Result<Truth, Alarm>,
+{
     fn make_whole(
         &self,
         turns: &WholeTurns<'_, '_>,
@@ -118,10 +165,12 @@ fn turns_of_line<'t, A: Arrays, G: Gate>(
     Ok(())
 }
 
-impl<'g, G: Gate, W, M> Context for ProgramContext<'g, G, W, M>
+impl<'g, G: Gate, W, M, I, T> Context for ProgramContext<'g, G, W, M, I, T>
 where
     W: Fn(&WholeTurns<'_, '_>, DomainWord, &Map, &mut Frame) -> Result<(), Stop>,
     M: Fn(&Forall<'_, '_>, &mut Frame) -> Result<(), Stop>,
+    I: Fn(IntFold, &PromotedInt<'_>, &Spot, &Frame, &mut Turn) -> Result<i64, Alarm>,
+    T: Fn(TruthFold, &PromotedTruth<'_>, &Spot, &Frame, &mut Turn) -> Result<Truth, Alarm>,
 {
     type Out = Vec<u8>;
 
@@ -208,10 +257,18 @@ pub fn run<'t, R: Threads + Wait + Sync, G: Gate + Sync>(
     let make = move |made: &Forall<'_, '_>, frame: &mut Frame| -> Result<(), Stop>
         ensures { HasMade (G.may_refuse gate.entry.now) made.now frame.old result frame.new }
     { make_forall(rt, made, frame, gate) };
+    let reduce_ints = move |fold: IntFold, e: &PromotedInt<'_>, at: &Spot, frame: &Frame, turn: &mut Turn| -> Result<i64, Alarm>
+        ensures { TellsInts (G.may_refuse gate.entry.now) frame.now fold e.now at.now turn.new result }
+    { reduced_int_by_workers(rt, fold, e, at, frame, gate, turn) };
+    let reduce_truths = move |fold: TruthFold, e: &PromotedTruth<'_>, at: &Spot, frame: &Frame, turn: &mut Turn| -> Result<Truth, Alarm>
+        ensures { TellsTruths (G.may_refuse gate.entry.now) frame.now fold e.now at.now turn.new result }
+    { reduced_truth_by_workers(rt, fold, e, at, frame, gate, turn) };
     let context = ProgramContext {
         gate,
         make_whole: &make_whole,
         make: &make,
+        reduce_ints: &reduce_ints,
+        reduce_truths: &reduce_truths,
     };
     run_steps(steps, &context, frame, out)
 }
