@@ -100,7 +100,7 @@ fn spread<R: Threads + Sync, W: OnWords + Sync, P: Fn(Domain) -> Ended + Sync>(
     };
     let own = move || -> Ended
         requires { P.IsAlwaysCallable shared.now.fold.now }
-        ensures { P.post shared.entry.now.fold.now part.entry result }
+        ensures { P.post shared.entry.now.fold.now part.entry.now result }
     { (shared.fold)(*part) };
     let next = locale + 1;
     let others = move || -> Ended

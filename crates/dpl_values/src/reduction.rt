@@ -153,6 +153,23 @@ pub(crate) fn reduced_int<G: Team>(
     if let Some(reduced) = gate.reduced_int(fold, e, at, frame, turn) {
         return reduced;
     }
+    reduced_int_here(fold, e, at, frame, gate, turn)
+}
+
+// The same by whoever walks.
+#[cycle(walk)]
+#[inline(never)]
+fn reduced_int_here<G: Team>(
+    fold: IntFold,
+    e: &PromotedInt<'_>,
+    at: &Spot,
+    frame: &Frame<G::Kept>,
+    gate: &G,
+    turn: &mut Turn,
+) -> Result<i64, Alarm>
+    requires ready { G.is_ready gate.now }
+    ensures { TellsInts (G.may_refuse gate.now) frame.now fold e.now at.now turn.new result }
+{
     let Some(slot) = int_array(e) else {
         return Ok(int_over_none(fold));
     };
@@ -189,6 +206,23 @@ pub(crate) fn reduced_truth<G: Team>(
     if let Some(reduced) = gate.reduced_truth(fold, e, at, frame, turn) {
         return reduced;
     }
+    reduced_truth_here(fold, e, at, frame, gate, turn)
+}
+
+// The same by whoever walks.
+#[cycle(truth)]
+#[inline(never)]
+fn reduced_truth_here<G: Team>(
+    fold: TruthFold,
+    e: &PromotedTruth<'_>,
+    at: &Spot,
+    frame: &Frame<G::Kept>,
+    gate: &G,
+    turn: &mut Turn,
+) -> Result<Truth, Alarm>
+    requires ready { G.is_ready gate.now }
+    ensures { TellsTruths (G.may_refuse gate.now) frame.now fold e.now at.now turn.new result }
+{
     let Some(slot) = truth_array(e) else {
         return Ok(Truth::new(truth_over_none(fold)));
     };
