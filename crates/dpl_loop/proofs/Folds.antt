@@ -217,6 +217,6 @@ module _ (op : Op) (meaning : Index → Result Value Fault) (whole : List RangeV
       → PartsEnd may as_value (indices whole) (parts_ran op (in_turns meaning) whole axes 0 n) (ArePartOperands op (in_turns meaning) whole axes 0 n) turn r
       → Tells may as_value turn r (folded op (in_turns meaning) (indices whole) (unit_of op))
   all-end limits may as_value turn (Ok a) ends = all-parts limits ends.1 ∙ ap fold_of ends.0
-  all-end limits may as_value turn (Err (Faulted f)) ends = let fails = ends.0 in all-parts limits ends.1 ∙ ap fold_of fails.2
+  all-end limits may as_value turn (Err (Faulted f)) ends = all-parts limits ends.1 ∙ ap fold_of ends.0
   all-end limits may as_value turn (Err Refused) ends = ends
   all-end limits may as_value turn (Err OutOfMemory) ends = tt
