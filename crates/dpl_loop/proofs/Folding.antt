@@ -3,7 +3,7 @@ use Rattle.std.proofs.Common.{◌≡◌, ℕ, ℤ, ◌+◌, List, drop, slice_ge
 use Rattle.dpl_range.proofs.Lists.{drop-slice_get}
 use Rattle.dpl_language.specs.Tree.{Op}
 use Rattle.dpl_language.specs.Values.{Value, Index, Fault}
-use Rattle.dpl_language.specs.Arithmetic.{combined}
+use Rattle.dpl_language.specs.Arithmetic.{combined, unit_of}
 use Rattle.dpl_language.specs.Outcome.{with_ok}
 use Rattle.dpl_sets.specs.TextRanges.{TextRange}
 use Rattle.dpl_sets.specs.Ranges.{RangeValue}
@@ -88,3 +88,12 @@ ends-weaker may more as_value op value ts turn (Ok a) go ends = ends
 ends-weaker may more as_value op value ts turn (Err (Faulted f)) go ends = ends
 ends-weaker may more as_value op value ts turn (Err Refused) go ends = go ends
 ends-weaker may more as_value op value ts turn (Err OutOfMemory) go ends = tt
+
+-- what parts come to together is the reduction; where an answer for one is a refusal, that may be
+pub parts-tell : (may more : Type 0) (value : ℤ → Value) (op : Op) (meaning : Index → Result Value Fault) (answers : List RangeValue → Ended → Type 0) (ts : List Index) (over : List TextRange) (turn : Turn) (r : Result ℤ Halt)
+    → (may → more) → ts ≡ indices_in over → Tells (MayEndRefused answers) value turn r (folded op (in_turns meaning) ts (unit_of op))
+    → ((part : List RangeValue) (e : Ended) → answers part e → FoldEnds may value op (in_turns meaning) (indices part) e.turn e.item) → Tells more value turn r (fold_over op meaning over)
+parts-tell may more value op meaning answers ts over turn r go same tells each =
+    tells-as _ value turn more r (folded op (in_turns meaning) ts (unit_of op)) (fold_over op meaning over)
+    (λ refused. go (subst (λ r. FoldEnds may value op (in_turns meaning) (indices refused.0) refused.1.turn r) refused.3 (each refused.0 refused.1 refused.2)))
+    (ap (λ ts. folded op (in_turns meaning) ts (unit_of op)) (sym same)) tells
