@@ -1,5 +1,5 @@
 -- The parts of a reduction's domain: what each comes to by itself, and what they come to together.
-use Rattle.std.proofs.Common.{◌≡◌, ◌<◌, ◌≤◌, ◌==◌, ◌+◌, ◌-◌, ℕ, suc, ℤ, arith, Bool, true, false, nat_lt, get_or, List, [], ◌∷◌, Option, Some, None, Result, Ok, Err, refl, sym, subst, ap, ◌∙◌}
+use Rattle.std.proofs.Common.{◌≡◌, ◌<◌, ◌≤◌, ◌==◌, ◌+◌, ◌-◌, ℕ, suc, ℤ, arith, Bool, true, false, nat_lt, get_or, List, [], ◌∷◌, Result, Ok, Err, refl, sym, subst, ap, ◌∙◌}
 use Rattle.std.specs.Prelude.{if◌then◌else◌}
 use Rattle.std.specs.List.{AllByRecursion, filter}
 use Rattle.dpl_sets.specs.Ranges.{RangeValue}
@@ -14,7 +14,7 @@ use Rattle.dpl_language.specs.Expressions.{folded}
 use Rattle.dpl_frame.specs.declared.fault.Turn.{Turn}
 use Rattle.dpl_frame.specs.Faults.{Halt, Faulted, Refused, OutOfMemory, Tells, turn_view}
 use Rattle.dpl_apart.specs.Operands.{IsOperand}
-use Rattle.dpl_apart.specs.Rows.{Ran, Finished, Failed, Loop, run, merge, merged, numbered, place_in, is_owned, either, AllAdd}
+use Rattle.dpl_apart.specs.Rows.{Ran, Finished, Failed, Loop, run, merge, numbered, place_in, either, AllAdd}
 use Rattle.dpl_apart.specs.Folds.{adding, fold_loop, no_rows, fold_of}
 use Rattle.dpl_apart.specs.Apart.{named_loop}
 use Rattle.dpl_apart.proofs.Folds.{folded-run, fold-named, reduced-merged}

@@ -1,5 +1,5 @@
 -- The part of a locale, and those of the locales behind it, as one.
-use Rattle.std.proofs.Common.{◌≡◌, ◌<◌, None, length, sym, subst, ◌∙◌}
+use Rattle.std.proofs.Common.{None, length, sym, subst, ◌∙◌}
 use Rattle.dpl_map.specs.Parts.{part}
 use Rattle.dpl_loop.specs.Parts.{IsSolePart}
 use Rattle.dpl_loop.proofs.Folding.{told-or-refused}

@@ -1,10 +1,9 @@
 -- What all parts come to is the fold over the whole domain.
-use Rattle.std.proofs.Common.{◌≡◌, ◌-◌, ◌<◌, length, refl, sym, subst, ap, arith}
+use Rattle.std.proofs.Common.{◌≡◌, ◌-◌, ◌<◌, length, sym, subst, ap, arith}
 use Rattle.std.specs.Option.{IfSome}
 use Rattle.dpl_sets.specs.Indices.{indices}
 use Rattle.dpl_map.specs.Maps.{owner}
 use Rattle.dpl_language.specs.Values.{Index}
-use Rattle.dpl_language.specs.Ranges.{indices_in}
 use Rattle.dpl_contents.specs.Domains.{AreWritten}
 use Rattle.dpl_loop.specs.Parts.{AreSoleParts}
 use Rattle.dpl_loop.specs.Folds.{in_turns, parts_ran, ArePartOperands, PartsEnd}

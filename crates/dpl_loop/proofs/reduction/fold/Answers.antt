@@ -1,5 +1,5 @@
 -- The next index's item is put to the others, or ends the loop; at the end no index is left.
-use Rattle.std.proofs.Common.{◌≡◌, ◌<◌, ◌≤◌, arith, inl, inr, ⊎_elim, drop, length, slice_get, sym, subst, ap, ◌∙◌}
+use Rattle.std.proofs.Common.{◌<◌, ◌≤◌, arith, inl, inr, ⊎_elim, drop, length, slice_get, sym, subst, ap, ◌∙◌}
 use Rattle.std.proofs.lemmas.List.{drop_all}
 use Rattle.std.proofs.lemmas.Result.{err_from_is_err_and}
 use Rattle.dpl_sets.specs.Indices.{indices}
