@@ -1,5 +1,5 @@
 -- What a team tells of a reduction.
-use Rattle.std.specs.Prelude.{ℕ, ℤ, Bool, Result, ◌×◌}
+use Rattle.std.specs.Prelude.{ℕ, ℤ, Bool, Result}
 use Rattle.dpl_syntax.specs.declared.place.Place.{Place}
 use Rattle.dpl_language.specs.Values.{Int, Truth}
 use Rattle.dpl_language.specs.Expressions.{whole_in, reduction}
