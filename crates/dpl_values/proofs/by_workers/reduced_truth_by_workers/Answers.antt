@@ -1,5 +1,5 @@
 -- A reduction by workers is the fold of the items at all indices.
-use Rattle.std.proofs.Common.{◌≡◌, ⊎_elim, arith, rules, Some, Ok, refl, sym, subst, ap, ◌∙◌}
+use Rattle.std.proofs.Common.{⊎_elim, arith, rules, Some, Ok, refl, sym, subst, ap, ◌∙◌}
 use Rattle.std.proofs.lemmas.Result.{err_from_is_err_and}
 use Rattle.std.specs.Option.{option_map}
 use Rattle.dpl_map.specs.Maps.{owner}

@@ -1,6 +1,5 @@
 -- An int is an operand of each operator on ints.
-use Rattle.std.proofs.Common.{◌≡◌, false, refl, FitsSigned, w64, rules}
-use Rattle.dpl_words.specs.Words.{is_logical}
+use Rattle.std.proofs.Common.{FitsSigned, w64, rules}
 use Rattle.dpl_nodes.specs.Typed.{int_fold_view}
 use Rattle.dpl_apart.proofs.Operators.{int-operand}
 use Rattle.dpl_values.proofs.Folds.{of-ints}
