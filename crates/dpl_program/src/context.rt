@@ -251,7 +251,10 @@ pub fn run<'t, R: Threads + Wait + Sync, G: Gate + Sync>(
         (exec_all frame.old.limits in_memory (steps_in Outside steps.now) frame.old.memory (having_printed out.old.items done)) }
     ensures limits { frame.new.limits ≡ frame.old.limits }
 {
-    let make_whole = move |turns: &WholeTurns<'_, '_>, over: DomainWord, map: &Map, frame: &mut Frame| -> Result<(), Stop>
+    let make_whole = move |turns: &WholeTurns<
+        '_,
+        '_,
+    >, over: DomainWord, map: &Map, frame: &mut Frame| -> Result<(), Stop>
         ensures { HasMadeWhole (G.may_refuse gate.entry.now) turns.now over map.now frame.old result frame.new }
     { forall(rt, turns, over, map, frame, gate) };
     let make = move |made: &Forall<'_, '_>, frame: &mut Frame| -> Result<(), Stop>

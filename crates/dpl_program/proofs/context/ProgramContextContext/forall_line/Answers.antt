@@ -1,19 +1,39 @@
--- The turns of the body over the range, between its reduce variables.
-use Rattle.std.proofs.Common.{inl, map}
+-- The turns of the body over the range, between its reduce variables: as the closure makes them over the domain of this range, or by the caller.
+use Rattle.std.proofs.Common.{◌≡◌, None, [], ◌∷◌, inl, map, sym, subst, ap, ◌∙◌}
 use Rattle.dpl_language.specs.Values.{Range}
+use Rattle.dpl_language.specs.Ranges.{indices_in}
 use Rattle.dpl_standing.specs.Standing.{InTurn}
 use Rattle.dpl_nodes.specs.Typed.{range_item}
 use Rattle.dpl_nodes.specs.Steps.{intent_view}
 use Rattle.dpl_nodes.specs.declared.step.Names.TheVariants.{Int as IntName}
 use Rattle.dpl_contents.specs.Range.{range_word}
+use Rattle.dpl_loop.specs.Entries.{MayRefuse}
 use Rattle.dpl_readings.specs.Readings.{steps_in}
+use Rattle.dpl_elements.specs.Turns.{index_turn, intended_turns}
 use Rattle.dpl_elements.proofs.Dealing.{ends-wider}
+use Rattle.dpl_steps.specs.Dealt.{dealt_by}
+use Rattle.dpl_steps.specs.Written.{written_among}
 use Rattle.dpl_steps.proofs.Looping.{forall-range}
 use Rattle.dpl_program.proofs.context.ProgramContextContext.forall_line.Goals as goal
+
+pub returns-in_default-clause-ends : goal.returns-in_default-clause-ends
+returns-in_default-clause-ends g c done =
+    let f = c.args.frame.now in
+    let r = range_word c.in_ok-range.range in
+    ends-wider _ _ c.turns_of_line.result c.turns_of_line.new.frame.memory done _ _ (λ entry. inl (Range r, c.in_ok-range.ensures, entry))
+    (forall-range f.limits (IntName c.args.slot) (steps_in InTurn c.args.body.now) (map intent_view c.args.intents.now) c.args.at.now (range_item c.args.over.now) f.memory done r c.in_ok-range.ensures)
+    (c.turns_of_line.ensures.ends done)
 
 pub returns-clause-ends : goal.returns-clause-ends
 returns-clause-ends g c done =
     let f = c.args.frame.now in
-    ends-wider _ _ c.turns_of_line.result c.turns_of_line.new.frame.memory done _ _ (λ entry. inl (Range (range_word c.in_ok-indices.indices), c.in_ok-indices.ensures, entry))
-    (forall-range f.limits (IntName c.args.slot) (steps_in InTurn c.args.body.now) (map intent_view c.args.intents.now) c.args.at.now (range_item c.args.over.now) f.memory done (range_word c.in_ok-indices.indices) c.in_ok-indices.ensures)
-    (c.turns_of_line.ensures.ends done)
+    let body = steps_in InTurn c.args.body.now in
+    let intents = map intent_view c.args.intents.now in
+    let r = range_word c.in_ok-range.range in
+    let may = g.G.Gate.may_refuse c.args.self.now.gate.now in
+    let same : c.in-Some.indices ≡ r ∷ [] = c.in-Some.ensures.held in
+    ends-wider _ _ c.make.result c.make.new.arg3.memory done _ _
+    (λ entry. inl (Range r, c.in_ok-range.ensures, subst (λ rs. MayRefuse may (dealt_by f None (written_among body)) rs) same entry))
+    (forall-range f.limits (IntName c.args.slot) body intents c.args.at.now (range_item c.args.over.now) f.memory done r c.in_ok-range.ensures
+    ∙ ap (λ rs. intended_turns intents (index_turn f.limits (IntName c.args.slot) body) (indices_in rs) f.memory done) (sym same))
+    ((c.requires.ready.1.1.1 _ _ _ _ c.make.ensures).0 done)

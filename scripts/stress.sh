@@ -1,0 +1,32 @@
+#!/bin/sh
+# Runs loops by workers over and over on two cores: each example on 64 locales by each choice of maps, and the rows of dpl_rows (each under 18 settings, by an open gate and
+# by one that isn't, at which workers make every loop that they may). However the threads are scheduled, there is one answer.
+# usage: scripts/stress.sh [TIMES [DPL [ROWS]]]. ROWS is the executable of dpl_rows as `rt ci` leaves it.
+set -eu
+top=$(cd "$(dirname "$0")/.." && pwd)
+times=${1:-100}
+dpl=${2:-$top/dpl}
+rows=${3:-$top/crates/dpl_rows/out/dpl_rows}
+work=$(mktemp -d)
+trap 'rm -rf "$work"' EXIT
+
+for text in "$top"/examples/*.chpl; do
+    "$dpl" "$text" > "$work/one"
+    for maps in asis block cyclic; do
+        k=0
+        while [ "$k" -lt "$times" ]; do
+            taskset -c 0,1 "$dpl" "$text" --locales 64 --maps "$maps" > "$work/many"
+            cmp "$work/one" "$work/many"
+            k=$((k + 1))
+        done
+    done
+    echo "$(basename "$text"): $times times by each of three maps"
+done
+
+k=0
+while [ "$k" -lt "$times" ]; do
+    taskset -c 0,1 "$rows" < "$top/crates/dpl_rows/stdin" > "$work/rows"
+    cmp "$top/crates/dpl_rows/stdout" "$work/rows"
+    k=$((k + 1))
+done
+echo "rows: $times times"
