@@ -1,7 +1,8 @@
 // The values of typed expressions over a frame: what the language's meaning gives for the plain trees that they stand for.
-// No walk takes memory, and none has an arm for what can't be.
+// No walk takes memory but for a reduction by workers, and none has an arm for what can't be.
 // What a reduction folds is a promoted expression, evaluated at each index of the first whole array in it and dealt out by that one's map
-// (reduction.rt). Whoever walks makes it, unless the team that it is handed (team.rt) has workers for it (by_workers.rt). Ints of several indices are evaluated at once where there are strips (dpl_strips).
+// (reduction.rt). Whoever walks makes it, unless the team that it is handed (team.rt) has workers for it (by_workers.rt). Ints of several
+// indices are evaluated at once where there are strips (dpl_strips).
 #![tactic(auto)]
 
 pub mod budget;

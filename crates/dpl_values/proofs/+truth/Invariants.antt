@@ -1,4 +1,5 @@
--- A walk goes down a tree. Of one tree a reduction comes before what whoever walks does of it, that before the function that gives its items, and that before the walk itself.
+-- A walk goes down a tree. Of one tree a reduction comes before what whoever walks does of it, that before the function that gives its
+-- items, and that before the walk itself.
 use Rattle.std.proofs.Common.{◌+◌, ◌*◌}
 use Rattle.dpl_nodes.specs.declared.tree.PromotedTruth.{size-PromotedTruth}
 use Rattle.dpl_values.proofs.+truth.Given as goal

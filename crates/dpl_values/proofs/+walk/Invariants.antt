@@ -1,5 +1,5 @@
--- A walk goes down a tree. Of one tree a reduction comes before what whoever walks does of it, that before the function that gives its items, that before an operand, and an operand
--- before the walk itself.
+-- A walk goes down a tree. Of one tree a reduction comes before what whoever walks does of it, that before the function that gives its
+-- items, that before an operand, and an operand before the walk itself.
 use Rattle.std.proofs.Common.{◌+◌, ◌*◌}
 use Rattle.dpl_nodes.specs.declared.tree.PromotedInt.{size-PromotedInt}
 use Rattle.dpl_values.proofs.+walk.Given as goal
