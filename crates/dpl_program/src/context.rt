@@ -235,6 +235,121 @@ where
     }
 }
 
+// The closures that make the loops of turns.
+#[derive(Drop)]
+struct Loops<'g, W, M> {
+    make_whole: &'g W,
+    make: &'g M,
+}
+
+// Runs statements, whose loops of turns and whose reductions of ints closures make.
+fn run_ints_by<
+    't,
+    W: Fn(&WholeTurns<'_, '_>, DomainWord, &Map, &mut Frame) -> Result<(), Stop>,
+    M: Fn(&Forall<'_, '_>, &mut Frame) -> Result<(), Stop>,
+    I: Fn(IntFold, &PromotedInt<'_>, &Spot, &Frame, &mut Turn) -> Result<i64, Alarm>,
+    R: Threads + Wait + Sync,
+    G: Gate + Sync,
+>(
+    rt: &R,
+    loops: &Loops<'_, W, M>,
+    reduce_ints: &I,
+    steps: &[Step<'t>],
+    frame: &mut Frame,
+    gate: &G,
+    out: &mut Vec<u8>,
+) -> Result<(), Stop>
+    requires callable { M.IsAlwaysCallable loops.now.make.now }
+    requires makes { (made before result after : _) → M.post loops.now.make.now made before result after
+        → HasMade (G.may_refuse gate.now) made.now before.now result after.now }
+    requires whole_callable { W.IsAlwaysCallable loops.now.make_whole.now }
+    requires makes_whole { (turns over map before result after : _) → W.post loops.now.make_whole.now turns over map before result after
+        → HasMadeWhole (G.may_refuse gate.now) turns.now over map.now before.now result after.now }
+    requires ints_callable { I.IsAlwaysCallable reduce_ints.now }
+    requires reduces_ints { (fold e at frame before result after : _) → I.post reduce_ints.now fold e at frame before result after
+        → TellsInts (G.may_refuse gate.now) frame.now fold e.now at.now after.now result }
+    ensures ends { (done : Deeds) → RunsTo (MayRefuseSome (G.may_refuse gate.now)) result frame.new.memory (having_printed out.new.items done)
+        (exec_all frame.old.limits in_memory (steps_in Outside steps.now) frame.old.memory (having_printed out.old.items done)) }
+    ensures limits { frame.new.limits ≡ frame.old.limits }
+{
+    let reduce_truths = move |fold: TruthFold, e: &PromotedTruth<'_>, at: &Spot, frame: &Frame, turn: &mut Turn| -> Result<Truth, Alarm>
+        ensures { TellsTruths (G.may_refuse gate.entry.now) frame.now fold e.now at.now turn.new result }
+    { reduced_truth_by_workers(rt, fold, e, at, frame, gate, turn) };
+    let context = ProgramContext {
+        gate,
+        make_whole: loops.make_whole,
+        make: loops.make,
+        reduce_ints,
+        reduce_truths: &reduce_truths,
+    };
+    run_steps(steps, &context, frame, out)
+}
+
+// Runs statements, whose loops of turns closures make.
+fn run_wholes_by<
+    't,
+    W: Fn(&WholeTurns<'_, '_>, DomainWord, &Map, &mut Frame) -> Result<(), Stop>,
+    M: Fn(&Forall<'_, '_>, &mut Frame) -> Result<(), Stop>,
+    R: Threads + Wait + Sync,
+    G: Gate + Sync,
+>(
+    rt: &R,
+    loops: &Loops<'_, W, M>,
+    steps: &[Step<'t>],
+    frame: &mut Frame,
+    gate: &G,
+    out: &mut Vec<u8>,
+) -> Result<(), Stop>
+    requires callable { M.IsAlwaysCallable loops.now.make.now }
+    requires makes { (made before result after : _) → M.post loops.now.make.now made before result after
+        → HasMade (G.may_refuse gate.now) made.now before.now result after.now }
+    requires whole_callable { W.IsAlwaysCallable loops.now.make_whole.now }
+    requires makes_whole { (turns over map before result after : _) → W.post loops.now.make_whole.now turns over map before result after
+        → HasMadeWhole (G.may_refuse gate.now) turns.now over map.now before.now result after.now }
+    ensures ends { (done : Deeds) → RunsTo (MayRefuseSome (G.may_refuse gate.now)) result frame.new.memory (having_printed out.new.items done)
+        (exec_all frame.old.limits in_memory (steps_in Outside steps.now) frame.old.memory (having_printed out.old.items done)) }
+    ensures limits { frame.new.limits ≡ frame.old.limits }
+{
+    let reduce_ints = move |fold: IntFold, e: &PromotedInt<'_>, at: &Spot, frame: &Frame, turn: &mut Turn| -> Result<i64, Alarm>
+        ensures { TellsInts (G.may_refuse gate.entry.now) frame.now fold e.now at.now turn.new result }
+    { reduced_int_by_workers(rt, fold, e, at, frame, gate, turn) };
+    run_ints_by(rt, loops, &reduce_ints, steps, frame, gate, out)
+}
+
+// Runs statements, whose foralls a closure makes.
+fn run_by<
+    't,
+    M: Fn(&Forall<'_, '_>, &mut Frame) -> Result<(), Stop>,
+    R: Threads + Wait + Sync,
+    G: Gate + Sync,
+>(
+    rt: &R,
+    make: &M,
+    steps: &[Step<'t>],
+    frame: &mut Frame,
+    gate: &G,
+    out: &mut Vec<u8>,
+) -> Result<(), Stop>
+    requires callable { M.IsAlwaysCallable make.now }
+    requires makes { (made before result after : _) → M.post make.now made before result after
+        → HasMade (G.may_refuse gate.now) made.now before.now result after.now }
+    ensures ends { (done : Deeds) → RunsTo (MayRefuseSome (G.may_refuse gate.now)) result frame.new.memory (having_printed out.new.items done)
+        (exec_all frame.old.limits in_memory (steps_in Outside steps.now) frame.old.memory (having_printed out.old.items done)) }
+    ensures limits { frame.new.limits ≡ frame.old.limits }
+{
+    let make_whole = move |turns: &WholeTurns<
+        '_,
+        '_,
+    >, over: DomainWord, map: &Map, frame: &mut Frame| -> Result<(), Stop>
+        ensures { HasMadeWhole (G.may_refuse gate.entry.now) turns.now over map.now frame.old result frame.new }
+    { forall(rt, turns, over, map, frame, gate) };
+    let loops = Loops {
+        make_whole: &make_whole,
+        make,
+    };
+    run_wholes_by(rt, &loops, steps, frame, gate, out)
+}
+
 /// Runs statements of a program one after another, and appends what they print. `rt` is what workers are started with.
 ///
 /// # Errors
@@ -251,27 +366,8 @@ pub fn run<'t, R: Threads + Wait + Sync, G: Gate + Sync>(
         (exec_all frame.old.limits in_memory (steps_in Outside steps.now) frame.old.memory (having_printed out.old.items done)) }
     ensures limits { frame.new.limits ≡ frame.old.limits }
 {
-    let make_whole = move |turns: &WholeTurns<
-        '_,
-        '_,
-    >, over: DomainWord, map: &Map, frame: &mut Frame| -> Result<(), Stop>
-        ensures { HasMadeWhole (G.may_refuse gate.entry.now) turns.now over map.now frame.old result frame.new }
-    { forall(rt, turns, over, map, frame, gate) };
     let make = move |made: &Forall<'_, '_>, frame: &mut Frame| -> Result<(), Stop>
         ensures { HasMade (G.may_refuse gate.entry.now) made.now frame.old result frame.new }
     { make_forall(rt, made, frame, gate) };
-    let reduce_ints = move |fold: IntFold, e: &PromotedInt<'_>, at: &Spot, frame: &Frame, turn: &mut Turn| -> Result<i64, Alarm>
-        ensures { TellsInts (G.may_refuse gate.entry.now) frame.now fold e.now at.now turn.new result }
-    { reduced_int_by_workers(rt, fold, e, at, frame, gate, turn) };
-    let reduce_truths = move |fold: TruthFold, e: &PromotedTruth<'_>, at: &Spot, frame: &Frame, turn: &mut Turn| -> Result<Truth, Alarm>
-        ensures { TellsTruths (G.may_refuse gate.entry.now) frame.now fold e.now at.now turn.new result }
-    { reduced_truth_by_workers(rt, fold, e, at, frame, gate, turn) };
-    let context = ProgramContext {
-        gate,
-        make_whole: &make_whole,
-        make: &make,
-        reduce_ints: &reduce_ints,
-        reduce_truths: &reduce_truths,
-    };
-    run_steps(steps, &context, frame, out)
+    run_by(rt, &make, steps, frame, gate, out)
 }

@@ -36,4 +36,4 @@ returns-clause-ends g c done =
     (λ entry. inl (Range r, c.in_ok-range.ensures, subst (λ rs. MayRefuse may (dealt_by f None (written_among body)) rs) same entry))
     (forall-range f.limits (IntName c.args.slot) body intents c.args.at.now (range_item c.args.over.now) f.memory done r c.in_ok-range.ensures
     ∙ ap (λ rs. intended_turns intents (index_turn f.limits (IntName c.args.slot) body) (indices_in rs) f.memory done) (sym same))
-    ((c.requires.ready.1.1.1.0 _ _ _ _ c.make.ensures).0 done)
+    ((c.requires.ready.3 _ _ _ _ c.make.ensures).0 done)
