@@ -22,8 +22,8 @@ ghost use Rattle.dpl_elements.specs.Changes.{signed, if_there, put_memory};
 
 use dpl_domain::Index;
 use dpl_frame::{Alarm, Arrays, FaultCode, Frame, Trap, Turn};
-use dpl_loop::stop::told as ended;
 use dpl_loop::Stop;
+use dpl_loop::stop::told as ended;
 use dpl_nodes::{ArrayName, BoolExpr, IndexExpr, IntExpr, Spot};
 use dpl_strips::number::{difference, product, quotient, remainder, sum};
 use dpl_tree::Assign;

@@ -123,10 +123,9 @@ module _ {A : Type 0} (op : Op) (may : Type 0) (as_value : A → Value) (ts : Li
 
   pub first-told : (turn other : Turn) (h i : Halt) → GoesFirst ts turn other h i true → PartsEnd may as_value ts r p turn (Err h) → PartsEnd may as_value ts s q other (Err i) → PartsEnd may as_value ts merged_ran (p × q) turn (Err h)
   first-told turn other (Faulted f) (Faulted g) goes first behind =
-      let less : true ≡ nat_lt (spot_in ts (turn_view turn)) (spot_in ts (turn_view other)) = goes.faults f g refl refl in
-      (
+      let less : true ≡ nat_lt (spot_in ts (turn_view turn)) (spot_in ts (turn_view other)) = goes.faults f g refl refl in (
         faults-merge turn other f g first.0 behind.0
-        ∙ ap (λ c. if c then Failed (spot_in ts (turn_view turn)) (in_the_turn (turn_view turn) f) else Failed (spot_in ts (turn_view other)) (in_the_turn (turn_view other) g)) (sym less),
+            ∙ ap (λ c. if c then Failed (spot_in ts (turn_view turn)) (in_the_turn (turn_view turn) f) else Failed (spot_in ts (turn_view other)) (in_the_turn (turn_view other) g)) (sym less),
         (first.1, behind.1),
       )
   first-told turn other (Faulted f) Refused goes first behind = absurd (let no = goes.no_refusal_behind f refl refl in let is : Refused ≡ Faulted no.0 = no.1 in cc)
@@ -136,10 +135,9 @@ module _ {A : Type 0} (op : Op) (may : Type 0) (as_value : A → Value) (ts : Li
 
   pub behind-told : (turn other : Turn) (h i : Halt) → GoesFirst ts turn other h i false → PartsEnd may as_value ts r p turn (Err h) → PartsEnd may as_value ts s q other (Err i) → PartsEnd may as_value ts merged_ran (p × q) other (Err i)
   behind-told turn other (Faulted f) (Faulted g) goes first behind =
-      let less : false ≡ nat_lt (spot_in ts (turn_view turn)) (spot_in ts (turn_view other)) = goes.faults f g refl refl in
-      (
+      let less : false ≡ nat_lt (spot_in ts (turn_view turn)) (spot_in ts (turn_view other)) = goes.faults f g refl refl in (
         faults-merge turn other f g first.0 behind.0
-        ∙ ap (λ c. if c then Failed (spot_in ts (turn_view turn)) (in_the_turn (turn_view turn) f) else Failed (spot_in ts (turn_view other)) (in_the_turn (turn_view other) g)) (sym less),
+            ∙ ap (λ c. if c then Failed (spot_in ts (turn_view turn)) (in_the_turn (turn_view turn) f) else Failed (spot_in ts (turn_view other)) (in_the_turn (turn_view other) g)) (sym less),
         (first.1, behind.1),
       )
   behind-told turn other Refused (Faulted g) goes first behind = absurd (let no = goes.no_refusal_before g refl refl in let is : Refused ≡ Faulted no.0 = no.1 in cc)

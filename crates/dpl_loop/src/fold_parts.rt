@@ -62,7 +62,9 @@ fn fold_part<
         whole,
     };
     let mut turn = Turn::Absent;
-    let item = fold_strips(operator, part, dealt.map, item_at, strip_at, &gate, &mut turn);
+    let item = fold_strips(
+        operator, part, dealt.map, item_at, strip_at, &gate, &mut turn,
+    );
     Ended { item, turn }
 }
 
@@ -96,7 +98,12 @@ fn spread<R: Threads + Sync, W: OnWords + Sync, P: Fn(Domain) -> Ended + Sync>(
     };
     let Some(part) = part else {
         let behind = spread(rt, shared, locale + 1);
-        return both(shared.operator, shared.whole, Ended::none(shared.operator), behind);
+        return both(
+            shared.operator,
+            shared.whole,
+            Ended::none(shared.operator),
+            behind,
+        );
     };
     let own = move || -> Ended
         requires { P.IsAlwaysCallable shared.now.fold.now }
@@ -165,7 +172,9 @@ pub fn reduce_by_workers<
         return Err(Alarm::out_of_memory());
     };
     let Some(parts) = parts else {
-        return fold_strips(operator, &whole, dealt.map, &item_at, &strip_at, dealt.gate, turn);
+        return fold_strips(
+            operator, &whole, dealt.map, &item_at, &strip_at, dealt.gate, turn,
+        );
     };
     let fold = |part: Domain| -> Ended
         requires items { F.IsAlwaysCallable item_at }

@@ -13,8 +13,8 @@ use dpl_frame::{Alarm, Arrays, DomainWord, Frame, Truth, Turn};
 use dpl_loop::{Apart, Gate, Stop, Turns, forall_here};
 use dpl_map::Map;
 use dpl_nodes::{
-    Argument, DomainExpr, IntFold, Intent, Names, PromotedInt, PromotedTruth, RangeExpr, Spot, Step,
-    TruthFold,
+    Argument, DomainExpr, IntFold, Intent, Names, PromotedInt, PromotedTruth, RangeExpr, Spot,
+    Step, TruthFold,
 };
 use dpl_steps::{Context, bind, make_row, run};
 use dpl_values::Team;

@@ -29,8 +29,8 @@ use dpl_frame::{Alarm, Arrays, DomainWord, Frame, RangeWord, Slots, Truth, Turn}
 use dpl_loop::{Gate, Stop, forall, forall_line};
 use dpl_map::Map;
 use dpl_nodes::{
-    Argument, DomainExpr, IntFold, Intent, Names, PromotedInt, PromotedTruth, RangeExpr, Spot, Step,
-    TruthFold,
+    Argument, DomainExpr, IntFold, Intent, Names, PromotedInt, PromotedTruth, RangeExpr, Spot,
+    Step, TruthFold,
 };
 use dpl_print::write;
 use dpl_steps::{Context, domain_indices, range_indices, run as run_steps};
@@ -272,7 +272,9 @@ fn run_ints_by<
         (exec_all frame.old.limits in_memory (steps_in Outside steps.now) frame.old.memory (having_printed out.old.items done)) }
     ensures limits { frame.new.limits ≡ frame.old.limits }
 {
-    let reduce_truths = move |fold: TruthFold, e: &PromotedTruth<'_>, at: &Spot, frame: &Frame, turn: &mut Turn| -> Result<Truth, Alarm>
+    let reduce_truths = move |fold: TruthFold, e: &PromotedTruth<
+        '_,
+    >, at: &Spot, frame: &Frame, turn: &mut Turn| -> Result<Truth, Alarm>
         ensures { TellsTruths (G.may_refuse gate.entry.now) frame.now fold e.now at.now turn.new result }
     { reduced_truth_by_workers(rt, fold, e, at, frame, gate, turn) };
     let context = ProgramContext {
@@ -310,7 +312,9 @@ fn run_wholes_by<
         (exec_all frame.old.limits in_memory (steps_in Outside steps.now) frame.old.memory (having_printed out.old.items done)) }
     ensures limits { frame.new.limits ≡ frame.old.limits }
 {
-    let reduce_ints = move |fold: IntFold, e: &PromotedInt<'_>, at: &Spot, frame: &Frame, turn: &mut Turn| -> Result<i64, Alarm>
+    let reduce_ints = move |fold: IntFold, e: &PromotedInt<
+        '_,
+    >, at: &Spot, frame: &Frame, turn: &mut Turn| -> Result<i64, Alarm>
         ensures { TellsInts (G.may_refuse gate.entry.now) frame.now fold e.now at.now turn.new result }
     { reduced_int_by_workers(rt, fold, e, at, frame, gate, turn) };
     run_ints_by(rt, loops, &reduce_ints, steps, frame, gate, out)

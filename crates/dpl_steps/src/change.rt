@@ -13,8 +13,8 @@ ghost use Rattle.dpl_elements.specs.Changes.{declared_memory, given_memory, assi
 
 use crate::reduce::{reduced_int, reduced_truth};
 use dpl_frame::{Arrays, FaultCode, Frame, Trap};
-use dpl_loop::stop::told;
 use dpl_loop::Stop;
+use dpl_loop::stop::told;
 use dpl_nodes::{BoolExpr, IntDeed, IntExpr, RangeExpr, Spot, TruthDeed};
 use dpl_strips::number::{difference, product, quotient, remainder, sum};
 use dpl_values::{Team, int_value, range_value, truth_value};

@@ -36,8 +36,8 @@ use dpl_strips::index::coordinate;
 use dpl_values::budget::within_budget;
 use dpl_values::domain::small;
 use dpl_values::{
-    Alone, Team, domain_value, int_domain, literal, promoted_int_value, promoted_truth_value, range_value,
-    sized, truth_domain,
+    Alone, Team, domain_value, int_domain, literal, promoted_int_value, promoted_truth_value,
+    range_value, sized, truth_domain,
 };
 
 // The domain that stands between an array's brackets.

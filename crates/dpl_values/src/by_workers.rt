@@ -82,7 +82,15 @@ pub fn reduced_int_by_workers<R: Threads + Sync, G: Gate + Sync>(
         map: &map,
         gate,
     };
-    reduce_by_workers(rt, frame.alloc(), &Ints { fold }, &dealt, item_at, strip_at, turn)
+    reduce_by_workers(
+        rt,
+        frame.alloc(),
+        &Ints { fold },
+        &dealt,
+        item_at,
+        strip_at,
+        turn,
+    )
 }
 
 /// The truth values of a promoted truth value put together, by workers where they serve.
@@ -123,7 +131,15 @@ pub fn reduced_truth_by_workers<R: Threads + Sync, G: Gate + Sync>(
         map: &map,
         gate,
     };
-    match reduce_by_workers(rt, frame.alloc(), &TruthWords { fold }, &dealt, item_at, strip_at, turn) {
+    match reduce_by_workers(
+        rt,
+        frame.alloc(),
+        &TruthWords { fold },
+        &dealt,
+        item_at,
+        strip_at,
+        turn,
+    ) {
         Ok(word) => Ok(Truth::new(word != 0)),
         Err(alarm) => Err(alarm),
     }

@@ -26,11 +26,7 @@ use dpl_nodes::{
 /// The fault of a part: `F2` at a division by zero, `F4` at an end of an empty range, `F1` at an array's name, `F5` at `reduce`;
 /// or the gate refused an entry of a reduction, as for each value here.
 #[inline(always)]
-pub fn int_value<G: Team>(
-    e: &IntExpr<'_>,
-    frame: &Frame<G::Kept>,
-    gate: &G,
-) -> Result<i64, Stop>
+pub fn int_value<G: Team>(e: &IntExpr<'_>, frame: &Frame<G::Kept>, gate: &G) -> Result<i64, Stop>
     requires ready { G.is_ready gate.now }
     ensures { Gives (MayRefuseReduction (G.may_refuse gate.now) frame.now (EachInInt e.now)) Int result (int_in frame.now e.now) }
 {

@@ -58,8 +58,7 @@ returns g c meaning answers =
     let ts = indices c.args.domain.now in
     let so_far = g.O.Operator.value c.loop-place.so_far in
     let past : length ts ≤ c.loop-place.place = omega (arith, c.size-place-end.ensures.size, c.loop-place-test.false) in
-    let none = drop_all c.loop-place.place ts past in
-    (
+    let none = drop_all c.loop-place.place ts past in (
       sym (c.loop-place.invariant.folds meaning answers) ∙ ap (λ ts. folded op value ts so_far) none,
       c.loop-place.invariant.operands meaning answers (subst (AreOperands op value) (sym none) tt),
     )

@@ -48,8 +48,7 @@ returns g c meaning answers strips =
     let value = in_turns meaning in
     let ts = indices c.args.domain.now in
     let past : length ts ≤ c.loop-place.place = omega (arith, c.size.ensures.size, c.loop-place-test.false) in
-    let none = drop_all c.loop-place.place ts past in
-    (
+    let none = drop_all c.loop-place.place ts past in (
       sym (c.loop-place.invariant.folds meaning answers strips) ∙ ap (λ ts. folded op value ts (g.O.Operator.value (to_z w64 c.loop-place.so_far-bits))) none,
       c.loop-place.invariant.operands meaning answers strips (subst (AreOperands op value) (sym none) tt),
     )

@@ -34,10 +34,9 @@ returns-then-size-eq0-clause-folds g c meaning answers strips =
     let combines = simp to_z-of_z at c.combined.ensures.combined in
     let operand = simp to_z-of_z at c.combined.ensures.operand in
     let at = sym c.in-Some.ensures in
-    let is = c.in_ok-item.ensures value meaning answers in
-    (
+    let is = c.in_ok-item.ensures value meaning answers in (
       folded-next op (in_turns meaning) ts c.args.place c.in-Some.index (value c.args.before) at (value c.in_ok-item.item) (value (to_z w64 (of_z w64 c.combined.result))) is
-      (ap value (to_z-of_z w64 c.combined.result next_fits) ∙ combines),
+          (ap value (to_z-of_z w64 c.combined.result next_fits) ∙ combines),
       operands-next op (in_turns meaning) ts c.args.place c.in-Some.index (value c.args.before) at (value c.in_ok-item.item) is operand,
     )
 
@@ -71,9 +70,8 @@ returns-clause-folds g c meaning answers strips =
     let before_fits : FitsSigned w64 c.args.before = c.ranges.before in
     let together_fits : FitsSigned w64 c.put_together.result = search rules in
     let together = simp to_z-of_z at c.put_together.ensures.folds in
-    let row = λ (k : _) (below : _). c.in_row-size.ensures.row c.in-Some.index (sym c.in-Some.ensures) k below ∙ ap (λ t. Some (behind k t)) (sym tells.0) in
-    (
+    let row = λ (k : _) (below : _). c.in_row-size.ensures.row c.in-Some.index (sym c.in-Some.ensures) k below ∙ ap (λ t. Some (behind k t)) (sym tells.0) in (
       ap (λ n. folded op (in_turns meaning) (drop (c.args.place + c.in_row-size.result) ts) (value n)) (to_z-of_z w64 c.put_together.result together_fits)
-      ∙ together meaning ts c.args.place c.in_row-size.ensures.strip tells.1 row,
+          ∙ together meaning ts c.args.place c.in_row-size.ensures.strip tells.1 row,
       c.put_together.ensures.operands meaning ts c.args.place c.in_row-size.ensures.strip tells.1 row,
     )

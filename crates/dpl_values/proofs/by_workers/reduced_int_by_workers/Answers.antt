@@ -54,9 +54,9 @@ returns g c =
     tells-as _ Int c.reduce_by_workers.new.turn _ c.reduce_by_workers.result _ _
     (⊎_elim
     (λ own.
-        let mine : MayRefuse may (owned_by c.args.frame.now slot) (array_at slot w).ranges =
-        subst (λ m. MayRefuse may m (array_at slot w).ranges) c.owner-map.ensures (subst (λ d. MayRefuse may c.owner-map.result d) c.array_domain-over.ensures own) in
-        ((owner (owned_by c.args.frame.now slot) mine.1, mine.0, mine.3), λ all. subst (λ slot. OfSlot slot (λ slot. MayRefuse may (owned_by c.args.frame.now slot) (array_at slot w).ranges → ⊥)) (sym c.int_array.ensures ∙ c.in-Some.is) all.0 mine))
+    let mine : MayRefuse may (owned_by c.args.frame.now slot) (array_at slot w).ranges =
+    subst (λ m. MayRefuse may m (array_at slot w).ranges) c.owner-map.ensures (subst (λ d. MayRefuse may c.owner-map.result d) c.array_domain-over.ensures own) in
+    ((owner (owned_by c.args.frame.now slot) mine.1, mine.0, mine.3), λ all. subst (λ slot. OfSlot slot (λ slot. MayRefuse may (owned_by c.args.frame.now slot) (array_at slot w).ranges → ⊥)) (sym c.int_array.ensures ∙ c.in-Some.is) all.0 mine))
     (λ said. wider (EachInInts c.args.e.now) (λ Holds. OfSlot (first_of_ints c.args.e.now) Holds × EachInInts c.args.e.now Holds) (λ Holds all. all.1) said.3.1))
     (ap (reduction limits.budget c.args.at.now op value) (ints_whole limits w c.args.e.now ∙ ap (option_map (λ slot. (array_at slot w).ranges)) (sym c.int_array.ensures ∙ c.in-Some.is) ∙ ap (λ rs. Some rs) (sym c.array_domain-over.ensures))
     ∙ reduction-within limits c.args.at.now op value c.array_domain-over.result

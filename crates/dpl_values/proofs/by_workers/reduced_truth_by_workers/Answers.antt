@@ -67,9 +67,9 @@ returns-in-Err g c =
     with_ok-ends _ _ is_true c.reduce_by_workers.new.turn c.in-Err.alarm (fold_over op value c.array_domain-over.result) (λ v. Ok v) _ Truth
     (⊎_elim
     (λ own.
-        let mine : MayRefuse may (owned_by c.args.frame.now slot) (array_at slot w).ranges =
-        subst (λ m. MayRefuse may m (array_at slot w).ranges) c.owner-map.ensures (subst (λ d. MayRefuse may c.owner-map.result d) c.array_domain-over.ensures own) in
-        ((owner (owned_by c.args.frame.now slot) mine.1, mine.0, mine.3), λ all. subst (λ slot. OfSlot slot (λ slot. MayRefuse may (owned_by c.args.frame.now slot) (array_at slot w).ranges → ⊥)) (sym c.truth_array.ensures ∙ c.in-Some.is) all.0 mine))
+    let mine : MayRefuse may (owned_by c.args.frame.now slot) (array_at slot w).ranges =
+    subst (λ m. MayRefuse may m (array_at slot w).ranges) c.owner-map.ensures (subst (λ d. MayRefuse may c.owner-map.result d) c.array_domain-over.ensures own) in
+    ((owner (owned_by c.args.frame.now slot) mine.1, mine.0, mine.3), λ all. subst (λ slot. OfSlot slot (λ slot. MayRefuse may (owned_by c.args.frame.now slot) (array_at slot w).ranges → ⊥)) (sym c.truth_array.ensures ∙ c.in-Some.is) all.0 mine))
     (λ said. wider (EachInTruths c.args.e.now) (λ Holds. OfSlot (first_of_truths c.args.e.now) Holds × EachInTruths c.args.e.now Holds) (λ Holds all. all.1) said.3.1))
     (ap (reduction limits.budget c.args.at.now op value) (truths_whole limits w c.args.e.now ∙ ap (option_map (λ slot. (array_at slot w).ranges)) (sym c.truth_array.ensures ∙ c.in-Some.is) ∙ ap (λ rs. Some rs) (sym c.array_domain-over.ensures))
     ∙ reduction-within limits c.args.at.now op value c.array_domain-over.result
