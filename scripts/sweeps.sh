@@ -1,7 +1,7 @@
 #!/bin/sh
 # Refuses growths of memory and starts of threads, one after another: a run whose k-th growth is refused ends with M1, or goes on as if nothing had happened (an arena
-# whose chunk is refused asks for a smaller one); one whose k-th start is refused ends with M2. Both have status 3, and nothing on standard output. k goes from 1 to the
-# first run of which nothing is left to refuse. The programs have loops that workers make.
+# whose chunk is refused asks for a smaller one); one whose k-th start is refused, for whatever cause, ends with M2. Both have status 3, and nothing on standard output.
+# k goes from 1 to the first run of which nothing is left to refuse. The programs have loops that workers make.
 # usage: scripts/sweeps.sh [EXECUTABLE]. Needs python3 and a C compiler.
 set -eu
 top=$(cd "$(dirname "$0")/.." && pwd)
@@ -77,16 +77,18 @@ bad = 0
 for name, text, locales in ROWS:
     for maps in ("asis", "block", "cyclic"):
         _, whole = run(text, locales, maps, {})
-        for kind, told in (("REFUSED_GROWTH", b"dpl: M1\n"), ("REFUSED_START", b"dpl: M2\n")):
-            k, went_on, was_refused = 0, 0, True
+        for kind, told in (("REFUSED_GROWTH", (b"dpl: M1\n", b"dpl: M2\n")), ("REFUSED_START", (b"dpl: M2\n",))):
+            k, went_on, starts, was_refused = 0, 0, 0, True
             while was_refused:
                 k += 1
                 was_refused, done = run(text, locales, maps, {kind: str(k)})
                 if (done.returncode, done.stdout) == (whole.returncode, whole.stdout) and not (was_refused and kind == "REFUSED_START"):
                     went_on += was_refused
-                elif done.returncode != 3 or done.stdout != b"" or not done.stderr.endswith(told):
+                elif done.returncode == 3 and done.stdout == b"" and done.stderr in told:
+                    starts += done.stderr == b"dpl: M2\n"
+                else:
                     bad += 1
                     print("%s, %s, %s %d: status %d, %r, %r" % (name, maps, kind, k, done.returncode, done.stdout[:60], done.stderr[-60:]))
-            print("%s, %d locales, %s: %s 1 to %d, of which %d went on, and then status %d" % (name, locales, maps, kind, k - 1, went_on, whole.returncode))
+            print("%s, %d locales, %s: %s 1 to %d, of which %d went on and %d were M2, and then status %d" % (name, locales, maps, kind, k - 1, went_on, starts, whole.returncode))
 sys.exit(1 if bad else 0)
 PYTHON

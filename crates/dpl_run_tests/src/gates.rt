@@ -195,6 +195,7 @@ const MEETINGS: &str = "\
 36~ <- const D = {1..8} dmapped new blockDist(boundingBox={1..8}); var s: int; forall i in D with (+ reduce s) do s += i; writeln(s);\n\
 5 5 5 5 5 5 5 5~ <- const D = {1..8} dmapped new cyclicDist(startIdx=1); var A: [D] int; A = 5; writeln(A);\n\
 2 0 4 0 6 0 8 0~ <- const D = {1..8} dmapped new blockDist(boundingBox={1..8}); var A: [D] int; forall i in D { if i % 2 == 1 then A[i] = i + 1; } writeln(A);\n\
+2 4 6 8 10 12 14 16~ <- const D = {1..8} dmapped new blockDist(boundingBox={1..8}); var A: [D] int; forall i in 1..8 do A[i] = 2 * i; writeln(A);\n\
 2 3 4 5~3 4 5 6~ <- const D = {1..2, 1..4} dmapped new blockDist(boundingBox={1..2, 1..4}); var A: [D] int; forall (i, j) in D do A[i, j] = i + j; writeln(A);\n\
 24~ <- const D = {1..8} dmapped new blockDist(boundingBox={1..8}); var A: [D] int = 3; writeln(+ reduce A);\n\
 -5~ <- const D = {1..8} dmapped new cyclicDist(startIdx=1); var A: [D] int = 3; var x = 1 - 2 * (max reduce A); writeln(x);\n\
@@ -213,7 +214,7 @@ fn meetings(rt: HostRuntime) {
         assert!(&rt; said == Ok(bytes_of(&rt, rt.alloc(), bytes)), "{text}");
         rows = rows.saturating_add(1);
     }
-    assert_eq!(rt; rows, 10);
+    assert_eq!(rt; rows, 11);
 }
 
 // What can't be made apart is made by one thread, at which no two workers meet.
