@@ -54,10 +54,10 @@ exec python3 - "$work/refuse.so" "${1:-$top/dpl}" <<'PYTHON'
 import os, subprocess, sys
 
 shim, dpl = sys.argv[1:3]
-SQUARES = "const D = {1..4000} dmapped new blockDist(boundingBox={1..4000}); var A: [D] int; forall i in D do A[i] = i*i; writeln(+ reduce A); writeln(A);"
-FAULTS = "const D = {1..4000} dmapped new blockDist(boundingBox={1..4000});\nvar A: [D] int;\nforall i in D do\n  A[i] = 12 / ((i-1500)*(i-3500));"
-SUMS = "const D = {1..3, 1..900} dmapped new cyclicDist(startIdx=(1, 1)); var A: [D] int; var B: [D] int; var s = 0; forall (i, j) in D with (+ reduce s) { A[i, j] = i * j; s += j; } B = A * 2 + 1; writeln(s, B[3, 900]);"
-RANGES = "var A: [0..2999] bool; var p = 1; forall i in 0..2999 by 3 with (max reduce p) { if i % 2 == 0 then A[i] = true; p reduce= i; } A = !A; writeln(p, A[0], A[3]);"
+SQUARES = "const D = {1..40000} dmapped new blockDist(boundingBox={1..40000}); var A: [D] int; forall i in D do A[i] = i*i; writeln(+ reduce A); writeln(A);"
+FAULTS = "const D = {1..40000} dmapped new blockDist(boundingBox={1..40000});\nvar A: [D] int;\nforall i in D do\n  A[i] = 12 / ((i-15000)*(i-35000));"
+SUMS = "const D = {1..3, 1..12000} dmapped new cyclicDist(startIdx=(1, 1)); var A: [D] int; var B: [D] int; var s = 0; forall (i, j) in D with (+ reduce s) { A[i, j] = i * j; s += j; } B = A * 2 + 1; writeln(s, B[3, 12000]);"
+RANGES = "var A: [0..119999] bool; var p = 1; forall i in 0..119999 by 3 with (max reduce p) { if i % 2 == 0 then A[i] = true; p reduce= i; } A = !A; writeln(p, A[0], A[3]);"
 ROWS = [("squares", SQUARES, 4), ("faults", FAULTS, 3), ("sums and a whole array", SUMS, 4), ("a range, truth values", RANGES, 64)]
 
 

@@ -1,4 +1,5 @@
-// Who makes the loops of statements. A walk of statements is handed a crew, and asks it for its loops and, as a gate, for its entries.
+// Who makes the loops of statements. A walk of statements is handed a crew, and asks it for its loops, as a team for its reductions and, as a
+// gate, for its entries.
 
 ghost use Rattle.std.specs.Prelude.{◌≡◌};
 ghost use Rattle.dpl_language.specs.Outcome.{Deeds, in_order};
@@ -9,19 +10,14 @@ ghost use Rattle.dpl_loop.specs.Entries.{MayRefuse};
 ghost use Rattle.dpl_elements.specs.Wholes.{whole_turn};
 
 use crate::whole::WholeTurns;
-use dpl_frame::{Arrays, DomainWord, Frame};
-use dpl_loop::{Gate, Stop};
+use dpl_frame::{DomainWord, Frame};
+use dpl_loop::Stop;
 use dpl_map::Map;
+use dpl_values::Team;
 
 /// Who makes assignments to whole arrays, and asks the gate for their turns. Where workers are started, what they share has to be known by its
-/// type: so a crew makes the turns of one type, and no method of it takes any turns.
-pub trait Crew: Gate {
-    /// How the arrays of its frames are kept.
-    type Kept: Arrays;
-
-    // What has to hold of a crew where it is asked for a loop. One that hands loops on to closures says by it what these do.
-    ghost is_ready: { Self → Type 0 };
-
+/// type: so a crew makes the turns of one type, and no method of it takes any turns. Where it is asked for a loop, it is ready as a team is.
+pub trait Crew: Team {
     /// Makes the turns of an assignment over its array's domain, dealt out by a map. For each turn the owner of its index enters the gate,
     /// unless the gate is open.
     ///

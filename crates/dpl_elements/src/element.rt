@@ -22,12 +22,12 @@ ghost use Rattle.dpl_elements.specs.Changes.{signed, if_there, put_memory};
 
 use dpl_domain::Index;
 use dpl_frame::{Alarm, Arrays, FaultCode, Frame, Trap, Turn};
+use dpl_loop::Stop;
 use dpl_loop::stop::told as ended;
-use dpl_loop::{Gate, Stop};
 use dpl_nodes::{ArrayName, BoolExpr, IndexExpr, IntExpr, Spot};
 use dpl_strips::number::{difference, product, quotient, remainder, sum};
 use dpl_tree::Assign;
-use dpl_values::{coordinate_value, index_value, int_value, truth_value};
+use dpl_values::{Team, coordinate_value, index_value, int_value, truth_value};
 
 /// Whether an operator divides.
 #[inline(always)]
@@ -174,14 +174,15 @@ fn told_in(name: &ArrayName<'_>, there: bool, turn: &mut Turn) -> Result<(), Ala
 
 // Puts a word at an index, whose coordinates are evaluated from left to right. No index is made of coordinates.
 #[inline(always)]
-fn put_word<A: Arrays, G: Gate>(
+fn put_word<G: Team>(
     name: &ArrayName<'_>,
     t: &IndexExpr<'_>,
     word: i64,
-    frame: &mut Frame<A>,
+    frame: &mut Frame<G::Kept>,
     gate: &G,
     turn: &mut Turn,
 ) -> Result<(), Alarm>
+    requires ready { G.is_ready gate.now }
     ensures ends { Tells (MayRefuseSome (G.may_refuse gate.now)) (λ v. frame.new.memory) turn.new result
         (with_ok (values_of frame.old.limits in_memory (index_exprs t.now) frame.old.memory)
         (λ vs. put_memory name.now.at.now name.now.slot (index_of vs) word frame.old.memory)) }
@@ -216,13 +217,14 @@ fn put_word<A: Arrays, G: Gate>(
 
 // The same, whose fault has its turn.
 #[inline(always)]
-fn put_at<A: Arrays, G: Gate>(
+fn put_at<G: Team>(
     name: &ArrayName<'_>,
     t: &IndexExpr<'_>,
     word: i64,
-    frame: &mut Frame<A>,
+    frame: &mut Frame<G::Kept>,
     gate: &G,
 ) -> Result<(), Stop>
+    requires ready { G.is_ready gate.now }
     ensures ends { Gives (MayRefuseSome (G.may_refuse gate.now)) (λ v. frame.new.memory) result
         (with_ok (values_of frame.old.limits in_memory (index_exprs t.now) frame.old.memory)
         (λ vs. put_memory name.now.at.now name.now.slot (index_of vs) word frame.old.memory)) }
@@ -240,15 +242,16 @@ fn put_at<A: Arrays, G: Gate>(
 /// # Errors
 /// The fault of a part; `F1` at the array's name; `F2` at the operator; or out of memory.
 #[inline(always)]
-pub fn set_element<A: Arrays, G: Gate>(
+pub fn set_element<G: Team>(
     name: &ArrayName<'_>,
     t: &IndexExpr<'_>,
     op: Assign,
     sign: &Spot,
     e: &IntExpr<'_>,
-    frame: &mut Frame<A>,
+    frame: &mut Frame<G::Kept>,
     gate: &G,
 ) -> Result<(), Stop>
+    requires ready { G.is_ready gate.now }
     ensures ends { (done : Deeds)
         → RunsTo (MayRefuseSome (G.may_refuse gate.now)) result frame.new.memory done
         (exec frame.old.limits in_memory (element_set (array_leaf IntKind name.now) t.now op sign.now (int_view e.now)) frame.old.memory done) }
@@ -267,13 +270,14 @@ pub fn set_element<A: Arrays, G: Gate>(
 /// # Errors
 /// The fault of a part; `F1` at the array's name; or out of memory.
 #[inline(always)]
-pub fn set_truth_element<A: Arrays, G: Gate>(
+pub fn set_truth_element<G: Team>(
     name: &ArrayName<'_>,
     t: &IndexExpr<'_>,
     e: &BoolExpr<'_>,
-    frame: &mut Frame<A>,
+    frame: &mut Frame<G::Kept>,
     gate: &G,
 ) -> Result<(), Stop>
+    requires ready { G.is_ready gate.now }
     ensures ends { (done : Deeds)
         → RunsTo (MayRefuseSome (G.may_refuse gate.now)) result frame.new.memory done
         (exec frame.old.limits in_memory (element_set (array_leaf BoolKind name.now) t.now Set nowhere (truth_view e.now)) frame.old.memory done) }

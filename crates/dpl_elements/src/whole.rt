@@ -37,7 +37,7 @@ use dpl_strips::index::coordinate;
 use dpl_strips::{promoted_strip, repeated};
 use dpl_tree::Assign;
 use dpl_values::budget::within_budget;
-use dpl_values::{int_domain, promoted_int_value, promoted_truth_value, truth_domain};
+use dpl_values::{Alone, int_domain, promoted_int_value, promoted_truth_value, truth_domain};
 
 /// One int at each index.
 #[derive(Clone, Copy)]
@@ -85,7 +85,7 @@ impl<'e, 'x> Turns for Promote<'e, 'x> {
 
     #[inline(always)]
     fn make<A: Arrays>(&self, index: Index, frame: &mut Frame<A>) -> Result<(), Stop> {
-        let value = promoted_int_value(self.e, &index, frame, &OpenGate)?;
+        let value = promoted_int_value(self.e, &index, frame, &Alone::at(&OpenGate))?;
         change(self.name, self.op, self.sign, index, value, frame)
     }
 
@@ -141,7 +141,7 @@ impl<'e, 'x> Turns for PromoteTruth<'e, 'x> {
 
     #[inline(always)]
     fn make<A: Arrays>(&self, index: Index, frame: &mut Frame<A>) -> Result<(), Stop> {
-        let value = promoted_truth_value(self.e, &index, frame, &OpenGate)?.get();
+        let value = promoted_truth_value(self.e, &index, frame, &Alone::at(&OpenGate))?.get();
         change_truth(self.name, index, value, frame)
     }
 

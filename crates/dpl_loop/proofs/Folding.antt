@@ -1,14 +1,21 @@
 -- Folds from a place on, by the value at that place; and walks that end early.
-use Rattle.std.proofs.Common.{◌≡◌, ℕ, ◌+◌, ℤ, List, drop, slice_get, Some, Result, Ok, Err, sym, ap, ◌∙◌}
+use Rattle.std.proofs.Common.{◌≡◌, ℕ, ℤ, ◌+◌, List, drop, slice_get, Some, Result, Ok, Err, refl, sym, ap, ◌∙◌, subst}
 use Rattle.dpl_range.proofs.Lists.{drop-slice_get}
 use Rattle.dpl_language.specs.Tree.{Op}
 use Rattle.dpl_language.specs.Values.{Value, Index, Fault}
-use Rattle.dpl_language.specs.Arithmetic.{combined}
+use Rattle.dpl_language.specs.Arithmetic.{combined, unit_of}
 use Rattle.dpl_language.specs.Outcome.{with_ok}
-use Rattle.dpl_language.specs.Expressions.{folded}
+use Rattle.dpl_sets.specs.TextRanges.{TextRange}
+use Rattle.dpl_sets.specs.Ranges.{RangeValue}
+use Rattle.dpl_sets.specs.Indices.{indices}
+use Rattle.dpl_language.specs.Ranges.{indices_in}
+use Rattle.dpl_language.specs.Expressions.{folded, fold_over}
 use Rattle.dpl_frame.specs.declared.fault.Turn.{Turn}
 use Rattle.dpl_frame.specs.Faults.{Halt, Faulted, Refused, OutOfMemory, Tells}
-use Rattle.dpl_loop.specs.Values.{GoesOn}
+use Rattle.dpl_apart.specs.Operands.{IsOperand}
+use Rattle.dpl_loop.specs.declared.ended.Ended.{Ended}
+use Rattle.dpl_loop.specs.Folds.{in_turns, OperandThen, AreOperands, FoldHalts, FoldEnds}
+use Rattle.dpl_loop.specs.Values.{FoldsTell, MayEndRefused}
 
 -- what would follow a walk that ended early isn't looked at
 pub with_ok-ends : {A B C D : Type 0} (may more : Type 0) (value : A → B) (t : Turn) (h : Halt) (v : Result B Fault) (go : B → Result C Fault) (all : Result C Fault) (given : D → C)
@@ -32,7 +39,61 @@ module _ (op : Op) (value : Index → Result Value Fault) (ts : List Index) (k :
   folded-next v next is e =
       ap (folded op value (drop (k + 1) ts)) e ∙ sym (folded-at ∙ ap (λ r. with_ok r (λ v. folded op value (drop (k + 1) ts) (combined op so_far v))) is)
 
+  -- so it is of operands
+  pub operands-next : (v : Value) → value t ≡ Ok v → IsOperand op v → AreOperands op value (drop (k + 1) ts) → AreOperands op value (drop k ts)
+  operands-next v is operand rest =
+      subst (AreOperands op value) (sym (drop-slice_get ts k t at)) (subst (λ r. OperandThen op r (AreOperands op value (drop (k + 1) ts))) (sym is) (operand, rest))
+
+  -- and where the value at the place has a fault, or is refused
+  pub halts-at : {A : Type 0} (may more : Type 0) (as_value : A → Value) (turn : Turn) (h : Halt) → (may → more) → Tells may as_value turn (Err h) (value t) → FoldHalts more op value (drop k ts) so_far turn h
+  halts-at may more as_value turn (Faulted f) go tells = (
+    folded-at ∙ ap (λ r. with_ok r (λ v. folded op value (drop (k + 1) ts) (combined op so_far v))) tells,
+    subst (AreOperands op value) (sym (drop-slice_get ts k t at)) (subst (λ r. OperandThen op r (AreOperands op value (drop (k + 1) ts))) (sym tells) tt),
+  )
+  halts-at may more as_value turn Refused go tells = go tells
+  halts-at may more as_value turn OutOfMemory go tells = tt
+
 -- a fold that ended early on its way, which is that of all
-pub goes-ends : (may more : Type 0) (value : ℤ → Value) (op : Op) (named : Index → Result Value Fault) (ts : List Index) (place : ℕ) (before : ℤ) (turn : Turn) (h : Halt) (all : Result Value Fault)
-    → (may → more) → folded op named (drop place ts) (value before) ≡ all → GoesOn may value op named ts place before turn (Err h) → Tells {A = ℤ} more value turn (Err h) all
-goes-ends may more value op named ts place before turn h all go same ends = tells-as may value turn more (Err h) (folded op named (drop place ts) (value before)) all go (sym same) ends
+pub halts-all : (may more : Type 0) (op : Op) (value : Index → Result Value Fault) (ts rest : List Index) (before unit : Value) (turn : Turn) (h : Halt)
+    → (may → more) → folded op value rest before ≡ folded op value ts unit → (AreOperands op value rest → AreOperands op value ts)
+    → FoldHalts may op value rest before turn h → FoldHalts more op value ts unit turn h
+halts-all may more op value ts rest before unit turn (Faulted f) go same operands halts = (sym same ∙ halts.0, operands halts.1)
+halts-all may more op value ts rest before unit turn Refused go same operands halts = go halts
+halts-all may more op value ts rest before unit turn OutOfMemory go same operands halts = tt
+
+-- the fold over all indices of a domain is a reduction
+pub fold-tells : {A : Type 0} (may more : Type 0) (as_value : A → Value) (op : Op) (meaning : Index → Result Value Fault) (ts : List Index) (over : List TextRange) (turn : Turn) (r : Result A Halt)
+    → (may → more) → ts ≡ indices_in over → FoldEnds may as_value op (in_turns meaning) ts turn r → Tells more as_value turn r (fold_over op meaning over)
+fold-tells may more as_value op meaning ts over turn r go same ends = by r (subst (λ ts. FoldEnds may as_value op (in_turns meaning) ts turn r) same ends) where
+  by : (r : Result _ Halt) → FoldEnds may as_value op (in_turns meaning) (indices_in over) turn r → Tells more as_value turn r (fold_over op meaning over)
+  by (Ok a) ends = ends.0
+  by (Err (Faulted f)) ends = ends.0
+  by (Err Refused) ends = go ends
+  by (Err OutOfMemory) ends = tt
+
+-- a fold of a part, by an answer that is told of it
+pub told-or-refused : (value : ℤ → Value) (op : Op) (meaning : Index → Result Value Fault) (answers : List RangeValue → Ended → Type 0) → FoldsTell value op meaning answers
+    → (part : List RangeValue) (e : Ended) → answers part e → FoldEnds (MayEndRefused answers) value op (in_turns meaning) (indices part) e.turn e.item
+told-or-refused value op meaning answers tell part e answer = by e.item refl (tell part e answer) where
+  by : (r : Result ℤ Halt) → e.item ≡ r → FoldEnds (Unit {0}) value op (in_turns meaning) (indices part) e.turn r → FoldEnds (MayEndRefused answers) value op (in_turns meaning) (indices part) e.turn r
+  by (Ok a) is ends = ends
+  by (Err (Faulted f)) is ends = ends
+  by (Err Refused) is ends = (part, e, answer, is)
+  by (Err OutOfMemory) is ends = tt
+
+-- where more may be refused
+pub ends-weaker : {A : Type 0} (may more : Type 0) (as_value : A → Value) (op : Op) (value : Index → Result Value Fault) (ts : List Index) (turn : Turn) (r : Result A Halt)
+    → (may → more) → FoldEnds may as_value op value ts turn r → FoldEnds more as_value op value ts turn r
+ends-weaker may more as_value op value ts turn (Ok a) go ends = ends
+ends-weaker may more as_value op value ts turn (Err (Faulted f)) go ends = ends
+ends-weaker may more as_value op value ts turn (Err Refused) go ends = go ends
+ends-weaker may more as_value op value ts turn (Err OutOfMemory) go ends = tt
+
+-- what parts come to together is the reduction; where an answer for one is a refusal, that may be
+pub parts-tell : (may more : Type 0) (value : ℤ → Value) (op : Op) (meaning : Index → Result Value Fault) (answers : List RangeValue → Ended → Type 0) (ts : List Index) (over : List TextRange) (turn : Turn) (r : Result ℤ Halt)
+    → (may → more) → ts ≡ indices_in over → Tells (MayEndRefused answers) value turn r (folded op (in_turns meaning) ts (unit_of op))
+    → ((part : List RangeValue) (e : Ended) → answers part e → FoldEnds may value op (in_turns meaning) (indices part) e.turn e.item) → Tells more value turn r (fold_over op meaning over)
+parts-tell may more value op meaning answers ts over turn r go same tells each =
+    tells-as _ value turn more r (folded op (in_turns meaning) ts (unit_of op)) (fold_over op meaning over)
+    (λ refused. go (subst (λ r. FoldEnds may value op (in_turns meaning) (indices refused.0) refused.1.turn r) refused.3 (each refused.0 refused.1 refused.2)))
+    (ap (λ ts. folded op (in_turns meaning) ts (unit_of op)) (sym same)) tells

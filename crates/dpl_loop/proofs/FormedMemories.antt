@@ -19,7 +19,7 @@ use Rattle.dpl_apart.specs.Memories.{Changes, IsPiece, IsFormed, words_in, opera
 use Rattle.dpl_apart.proofs.ReduceWords.{int-exact}
 use Rattle.dpl_loop.specs.Formed.{IsWhole, HasPiece, AreReduced}
 
-written-ranges : (ranges : List RangeValue) → AreWritten ranges → AreRanges ranges
+pub written-ranges : (ranges : List RangeValue) → AreWritten ranges → AreRanges ranges
 written-ranges [] h = tt
 written-ranges (r ∷ rs) h = (h.0, written-ranges rs h.2)
 

@@ -14,6 +14,7 @@ pub mod Back
 pub mod Places
 pub mod Lines
 pub mod Folding
+pub mod Folds
 -- Strips.
 pub mod Behind
 pub mod InRows

@@ -2,6 +2,7 @@
 pub mod Runs
 pub mod Entries
 pub mod Values
+pub mod Folds
 pub mod Workers
 pub mod Parts
 pub mod Taken

@@ -1,5 +1,7 @@
 -- What an evaluation gives, and what a reduction asks of the function that gives its items.
 use Rattle.std.specs.Prelude.{◌≡◌, ◌<◌, ℕ, ℤ, pos, List, drop, get_or, slice_get, Some, Result, Ok, Err}
+use Rattle.dpl_sets.specs.Ranges.{RangeValue}
+use Rattle.dpl_sets.specs.Indices.{indices}
 use Rattle.dpl_map.specs.Maps.{AxisValue, owner}
 use Rattle.dpl_language.specs.Tree.{Op}
 use Rattle.dpl_language.specs.Expressions.{folded}
@@ -11,8 +13,10 @@ use Rattle.dpl_frame.specs.declared.fault.Turn.{Turn}
 use Rattle.dpl_frame.specs.Faults.{Halt, Refused, Tells, fault_view}
 use Rattle.dpl_loop.specs.declared.stop.Stop.{Stop}
 use Rattle.dpl_loop.specs.declared.stop.Stop.TheVariants as stop
+use Rattle.dpl_loop.specs.declared.ended.Ended.{Ended}
+use Rattle.dpl_loop.specs.Folds.{in_turns, AreOperands, FoldHalts, FoldEnds}
 
--- the value itself, or its fault; or an entry was refused, which may be. Where memory ran out nothing is said; no worker is started.
+-- the value itself, or its fault; or an entry was refused, which may be. Where memory ran out nothing is said; no want of a thread is told.
 abbrev pub Gives : {A B : Type 0} → Type 0 → (A → B) → Result A Stop → Result B Fault → Type 0
 Gives may value (Ok a) v = v ≡ Ok (value a)
 Gives may value (Err (stop.Fault f)) v = v ≡ Err (fault_view f)
@@ -30,6 +34,15 @@ module _ {V : Type 0} where
   abbrev pub MayAnswerRefused : (Index → MutBor Turn → Result V Halt → MutBor Turn → Type 0) → Type 0
   MayAnswerRefused answers = (t : Index) × (before : MutBor Turn) × (after : MutBor Turn) × answers t before (Err Refused) after
 
+-- what a function answers of a domain is how the fold over its indices ends; of a refusal nothing is asked
+abbrev pub FoldsTell : (ℤ → Value) → Op → (Index → Result Value Fault) → (List RangeValue → Ended → Type 0) → Type 0
+FoldsTell value op meaning answers =
+    (part : List RangeValue) (e : Ended) → answers part e → FoldEnds (Unit {0}) value op (in_turns meaning) (indices part) e.turn e.item
+
+-- some answer is a refusal
+abbrev pub MayEndRefused : (List RangeValue → Ended → Type 0) → Type 0
+MayEndRefused answers = (part : List RangeValue) × (e : Ended) × answers part e × (e.item ≡ Err Refused)
+
 -- each int of a strip is the value at its index
 abbrev pub HoldsStrip : (ℤ → Value) → (Index → Result Value Fault) → Strip → Type 0
 HoldsStrip value meaning s = (k : ℕ) → k < s.size → k < 64 → meaning (behind k s.first) ≡ Ok (value (get_or s.words k (pos 0)))
@@ -38,10 +51,13 @@ HoldsStrip value meaning s = (k : ℕ) → k < s.size → k < 64 → meaning (be
 abbrev pub StripsTell : (ℤ → Value) → (Index → Strip → Type 0) → (Index → Result Value Fault) → Type 0
 StripsTell value strips meaning = (t : Index) (s : Strip) → strips t s → (s.first ≡ t) × HoldsStrip value meaning s
 
--- what was put together up to a place, with what follows it, is the fold of all: so it goes on from a later place, or ends
+-- what was put together up to a place, with what follows it, is the fold of all: so it goes on from a later place, or ends; and what was put
+-- together are operands
 abbrev pub GoesOn : Type 0 → (ℤ → Value) → Op → (Index → Result Value Fault) → List Index → ℕ → ℤ → Turn → Result (ℤ × ℕ) Halt → Type 0
-GoesOn may value op named ts place before turn (Ok r) = folded op named (drop r.1 ts) (value r.0) ≡ folded op named (drop place ts) (value before)
-GoesOn may value op named ts place before turn (Err h) = Tells {A = ℤ} may value turn (Err h) (folded op named (drop place ts) (value before))
+GoesOn may value op named ts place before turn (Ok r) =
+    (folded op named (drop r.1 ts) (value r.0) ≡ folded op named (drop place ts) (value before))
+    × (AreOperands op named (drop r.1 ts) → AreOperands op named (drop place ts))
+GoesOn may value op named ts place before turn (Err h) = FoldHalts may op named (drop place ts) (value before) turn h
 
 -- a gate may refuse the entry of an index's owner, with its place in a list
 abbrev pub MayRefuseAmong : (ℕ → ℕ → Type 0) → List AxisValue → List Index → Type 0

@@ -4,6 +4,8 @@
 // memory is tested (formed.rt) and the domain cut into parts (parts.rt), the arrays that turns write are taken apart (taken.rt), each locale
 // gets a job (jobs.rt, units.rt), which a thread of its own does (level.rt, part.rt); of their ends one is told (soonest.rt), and what they
 // have left is put together (given.rt, joined.rt).
+// `reduce_ints` is a reduction that the caller makes alone, and `reduce_by_workers` has workers fold the parts of its domain where that serves
+// (fold_parts.rt, ended.rt).
 // A loop over turns asks them for a whole row at its first index and, where that made some, at each next one (together.rt); how many of the
 // next indices lie behind one another, their place tells (rows.rt). A reduction takes the walk of an item as a closure: a cycle of calls
 // may go through one, where it may not go through a trait. A walk is handed the gate that its reductions ask, and so ends by its value, by
@@ -11,6 +13,8 @@
 #![tactic(auto)]
 
 mod apart;
+mod ended;
+mod fold_parts;
 mod formed;
 pub mod gate;
 mod given;
@@ -33,8 +37,10 @@ mod taken;
 mod together;
 mod turns;
 mod units;
+mod words;
 
 pub use apart::Apart;
+pub use fold_parts::{Dealt, reduce_by_workers};
 pub use gate::{Gate, OpenGate};
 pub use loops::{forall_here, forall_line};
 pub use meeting::Meeting;

@@ -45,7 +45,8 @@ pub(crate) fn entered<A: Arrays, T: Turns, G: Gate>(
     }
 }
 
-/// The turns of a domain's indices, made in order on the thread of whoever calls this. For each turn the owner of its index enters the gate, unless the gate is open.
+/// The turns of a domain's indices, made in order on the thread of whoever calls this. For each turn the owner of its index enters the
+/// gate, unless the gate is open.
 ///
 /// # Errors
 /// As for [`forall_here`].

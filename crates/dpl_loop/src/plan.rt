@@ -43,10 +43,10 @@ use std::sync::Wait;
 use std::thread::Threads;
 
 // Below so many turns an open gate's loop is made by its caller: to start and to join workers takes as long as they do.
-const WORTH: u64 = 2_000;
+const WORTH: u64 = 30_000;
 
-// Whether workers serve a loop. A gate that isn't open sees who makes a turn, so there they are always started.
-fn serve<G: Gate>(domain: &Domain, map: &Map, gate: &G) -> bool {
+/// Whether workers serve a loop. A gate that isn't open sees who makes a turn, so there they are always started.
+pub(crate) fn serve<G: Gate>(domain: &Domain, map: &Map, gate: &G) -> bool {
     !gate.is_open() || (1 < map.locales() && WORTH <= domain.size())
 }
 

@@ -11,8 +11,8 @@ use crate::stop::Stop;
 use dpl_domain::Domain;
 use dpl_frame::Turn;
 
-// Where a turn stands in a domain; behind all of its turns where it has none of this index.
-fn spot_of(whole: &Domain, turn: &Turn) -> u64
+/// Where a turn stands in a domain; behind all of its turns where it has none of this index.
+pub(crate) fn spot_of(whole: &Domain, turn: &Turn) -> u64
     ensures spot { result ≡ spot_in (indices whole.now) (turn_view turn.now) }
     ensures small { result ≤ 2 ^ 40 }
 {

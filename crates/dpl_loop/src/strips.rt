@@ -5,14 +5,14 @@ ghost use Rattle.std.specs.Prelude.{◌≡◌, ◌+◌, ◌≤◌, ◌<◌, ◌^
 ghost use Rattle.dpl_sets.specs.Indices.{indices};
 ghost use Rattle.dpl_array.specs.Elements.{behind};
 ghost use Rattle.dpl_language.specs.Values.{Value, Fault, Index as IndexValue};
-ghost use Rattle.dpl_language.specs.Outcome.{naming_value};
 ghost use Rattle.dpl_language.specs.Expressions.{folded, fold_over};
 ghost use Rattle.dpl_frame.specs.Faults.{Tells};
 ghost use Rattle.dpl_loop.specs.Entries.{MayRefuse};
 ghost use Rattle.dpl_loop.specs.Values.{AnswersTell, MayAnswerRefused, HoldsStrip, StripsTell, GoesOn, MayRefuseAmong};
+ghost use Rattle.dpl_loop.specs.Folds.{in_turns, AreOperands, FoldEnds};
 
 use crate::gate::{Gate, enters};
-use crate::reduction::{Operator, entered, reduce};
+use crate::reduction::{Operator, entered, fold};
 use crate::rows::Places;
 use crate::strip::{STRIP, Strip};
 use dpl_contents::DomainWord;
@@ -51,10 +51,14 @@ fn put_together<O: Operator<Item = i64>>(
     size: usize,
 ) -> i64
     requires { size ≤ 64 }
-    ensures { (meaning : IndexValue → Result Value Fault) (ts : List IndexValue) (place : ℕ) → size ≤ strip.now.size → HoldsStrip O.value meaning strip.now
-        → ((k : ℕ) → k < size → slice_get ts (place + k) ≡ Some (behind k strip.now.first))
-        → folded (O.op operator.now) (λ t. naming_value t (meaning t)) (drop (place + size) ts) (O.value result)
-        ≡ folded (O.op operator.now) (λ t. naming_value t (meaning t)) (drop place ts) (O.value before) }
+    ensures folds { (meaning : IndexValue → Result Value Fault) (ts : List IndexValue) (place : ℕ) → size ≤ strip.now.size
+        → HoldsStrip O.value meaning strip.now → ((k : ℕ) → k < size → slice_get ts (place + k) ≡ Some (behind k strip.now.first))
+        → folded (O.op operator.now) (in_turns meaning) (drop (place + size) ts) (O.value result)
+        ≡ folded (O.op operator.now) (in_turns meaning) (drop place ts) (O.value before) }
+    ensures operands { (meaning : IndexValue → Result Value Fault) (ts : List IndexValue) (place : ℕ) → size ≤ strip.now.size
+        → HoldsStrip O.value meaning strip.now → ((k : ℕ) → k < size → slice_get ts (place + k) ≡ Some (behind k strip.now.first))
+        → AreOperands (O.op operator.now) (in_turns meaning) (drop (place + size) ts)
+        → AreOperands (O.op operator.now) (in_turns meaning) (drop place ts) }
 {
     let mut so_far = before;
     for k in 0..size {
@@ -100,7 +104,7 @@ fn gone_on<
     ensures folds { (meaning : IndexValue → Result Value Fault) → AnswersTell O.value (F.post item_at.now) meaning
         → StripsTell O.value (S.post strip_at.now) meaning
         → GoesOn (MayRefuseAmong (G.may_refuse gate.now) map.now (indices domain.now) ⊎ MayAnswerRefused (F.post item_at.now)) O.value (O.op operator.now)
-        (λ t. naming_value t (meaning t)) (indices domain.now) place before turn.new result }
+        (in_turns meaning) (indices domain.now) place before turn.new result }
 {
     let Some(index) = domain.nth(place) else {
         unreachable!()
@@ -118,6 +122,45 @@ fn gone_on<
         put_together(operator, before, &strip, size),
         place + size as u64,
     ))
+}
+
+// The ints of a domain's indices put together, as `fold` does it, with what answers for several at once.
+pub(crate) fn fold_strips<
+    O: Operator<Item = i64>,
+    F: Fn(Index, &mut Turn) -> Result<i64, Alarm>,
+    S: Fn(Index) -> Strip,
+    G: Gate,
+>(
+    operator: &O,
+    domain: &Domain,
+    map: &Map,
+    item_at: &F,
+    strip_at: &S,
+    gate: &G,
+    turn: &mut Turn,
+) -> Result<i64, Alarm>
+    requires items { F.IsAlwaysCallable item_at.now }
+    requires strips { S.IsAlwaysCallable strip_at.now }
+    ensures { (meaning : IndexValue → Result Value Fault) → AnswersTell O.value (F.post item_at.now) meaning
+        → StripsTell O.value (S.post strip_at.now) meaning
+        → FoldEnds (MayRefuseAmong (G.may_refuse gate.now) map.now (indices domain.now) ⊎ MayAnswerRefused (F.post item_at.now)) O.value
+        (O.op operator.now) (in_turns meaning) (indices domain.now) turn.new result }
+{
+    let serves = match domain.nth(0) {
+        Some(first) => FEW <= strip_at(first).size,
+        None => false,
+    };
+    if !serves {
+        return fold(operator, domain, map, item_at, gate, turn);
+    }
+    let mut so_far = operator.over_none();
+    let mut place = 0;
+    while place < domain.size() {
+        (so_far, place) = gone_on(
+            operator, domain, place, so_far, map, item_at, strip_at, gate, turn,
+        )?;
+    }
+    Ok(so_far)
 }
 
 /// The ints of a domain's indices put together, as [`reduce`](crate::reduce) does it. Beside what answers for one index stands what answers
@@ -146,19 +189,5 @@ pub fn reduce_ints<
         (fold_over (O.op operator.now) meaning over) }
 {
     let domain = over.domain();
-    let serves = match domain.nth(0) {
-        Some(first) => FEW <= strip_at(first).size,
-        None => false,
-    };
-    if !serves {
-        return reduce(operator, over, map, item_at, gate, turn);
-    }
-    let mut so_far = operator.over_none();
-    let mut place = 0;
-    while place < domain.size() {
-        (so_far, place) = gone_on(
-            operator, &domain, place, so_far, map, &item_at, &strip_at, gate, turn,
-        )?;
-    }
-    Ok(so_far)
+    fold_strips(operator, &domain, map, &item_at, &strip_at, gate, turn)
 }

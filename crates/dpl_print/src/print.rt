@@ -15,10 +15,10 @@ ghost use Rattle.dpl_print.specs.Texts.{having_printed};
 ghost use Rattle.dpl_print.specs.Texts.{argument_text, arguments_text, GrewBy};
 
 use crate::array_text::show_array;
-use dpl_frame::Frame;
-use dpl_loop::{Gate, Stop};
+use dpl_frame::{Frame, Slots};
+use dpl_loop::Stop;
 use dpl_nodes::Argument;
-use dpl_values::{int_value, truth_value};
+use dpl_values::{Team, int_value, truth_value};
 use itoa::Buffer;
 use std::alloc::AllocError;
 
@@ -33,12 +33,13 @@ fn print(n: i64, out: &mut Vec<u8>) -> Result<(), AllocError>
 
 // Appends the text of an argument.
 #[tactic(auto, using(crate::proofs::Shown::shown_int, crate::proofs::Shown::shown_truth))]
-fn show<G: Gate>(
+fn show<G: Team<Kept = Slots>>(
     argument: &Argument<'_>,
     frame: &Frame,
     gate: &G,
     out: &mut Vec<u8>,
 ) -> Result<(), Stop>
+    requires ready { G.is_ready gate.now }
     ensures { GrewBy (MayRefuseReduction (G.may_refuse gate.now) frame.now (EachInArgument argument.now)) result out.old.items out.new.items
         (argument_text frame.now.limits argument.now frame.now.memory) }
 {
@@ -61,12 +62,13 @@ fn show<G: Gate>(
 }
 
 // Appends the texts of arguments.
-fn show_all<G: Gate>(
+fn show_all<G: Team<Kept = Slots>>(
     arguments: &[Argument<'_>],
     frame: &Frame,
     gate: &G,
     out: &mut Vec<u8>,
 ) -> Result<(), Stop>
+    requires ready { G.is_ready gate.now }
     ensures { GrewBy (MayRefuseReduction (G.may_refuse gate.now) frame.now (EachInArguments arguments.now)) result out.old.items out.new.items
         (arguments_text frame.now.limits arguments.now frame.now.memory) }
 {
@@ -91,13 +93,14 @@ fn end_line(ends_line: bool, out: &mut Vec<u8>) -> Result<(), AllocError>
 /// # Errors
 /// The fault of an argument, which prints nothing; out of memory for what is printed; or the gate refused an entry of a reduction in
 /// an argument, and then nothing is printed.
-pub fn write<G: Gate>(
+pub fn write<G: Team<Kept = Slots>>(
     ends_line: bool,
     arguments: &[Argument<'_>],
     frame: &Frame,
     gate: &G,
     out: &mut Vec<u8>,
 ) -> Result<(), Stop>
+    requires ready { G.is_ready gate.now }
     ensures { (done : Deeds)
         → RunsTo (MayRefuseReduction (G.may_refuse gate.now) frame.now (EachInArguments arguments.now)) result frame.now.memory
         (having_printed out.new.items done)

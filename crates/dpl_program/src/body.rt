@@ -9,11 +9,15 @@ ghost use Rattle.dpl_elements.specs.Turns.{index_turn};
 use dpl_dependence::{are_independent, are_own};
 use dpl_domain::Index;
 use dpl_elements::{Crew, WholeTurns};
-use dpl_frame::{Arrays, DomainWord, Frame};
+use dpl_frame::{Alarm, Arrays, DomainWord, Frame, Truth, Turn};
 use dpl_loop::{Apart, Gate, Stop, Turns, forall_here};
 use dpl_map::Map;
-use dpl_nodes::{Argument, DomainExpr, Intent, Names, RangeExpr, Spot, Step};
+use dpl_nodes::{
+    Argument, DomainExpr, IntFold, Intent, Names, PromotedInt, PromotedTruth, RangeExpr, Spot,
+    Step, TruthFold,
+};
 use dpl_steps::{Context, bind, make_row, run};
+use dpl_values::Team;
 use std::marker::PhantomData;
 
 // In a turn of a forall, over frames with any arrays.
@@ -36,11 +40,37 @@ impl<A: Arrays> Gate for TurnContext<A> {
     }
 }
 
-impl<A: Arrays> Crew for TurnContext<A> {
+impl<A: Arrays> Team for TurnContext<A> {
     type Kept = A;
 
     ghost is_ready = { λ _. Unit {0} };
 
+    #[inline(always)]
+    fn reduced_int(
+        &self,
+        _fold: IntFold,
+        _e: &PromotedInt<'_>,
+        _at: &Spot,
+        _frame: &Frame<A>,
+        _turn: &mut Turn,
+    ) -> Option<Result<i64, Alarm>> {
+        None
+    }
+
+    #[inline(always)]
+    fn reduced_truth(
+        &self,
+        _fold: TruthFold,
+        _e: &PromotedTruth<'_>,
+        _at: &Spot,
+        _frame: &Frame<A>,
+        _turn: &mut Turn,
+    ) -> Option<Result<Truth, Alarm>> {
+        None
+    }
+}
+
+impl<A: Arrays> Crew for TurnContext<A> {
     fn make_whole(
         &self,
         turns: &WholeTurns<'_, '_>,

@@ -14,6 +14,7 @@ ghost use Rattle.dpl_contents.specs.Range.{range_word};
 ghost use Rattle.dpl_loop.specs.Runs.{RunsTo};
 ghost use Rattle.dpl_loop.specs.Entries.{MayRefuse, MayRefuseSome};
 ghost use Rattle.dpl_readings.specs.Readings.{steps_in};
+ghost use Rattle.dpl_values.specs.Teams.{TellsInts, TellsTruths};
 ghost use Rattle.dpl_steps.specs.Dealt.{dealt_by};
 ghost use Rattle.dpl_steps.specs.Written.{written_among};
 ghost use Rattle.dpl_elements.specs.Turns.{index_turn, intended_turns};
@@ -24,28 +25,36 @@ use crate::body::Body;
 use crate::dealt::dealt;
 use crate::forall::{Forall, make_forall};
 use dpl_elements::{Crew, WholeTurns};
-use dpl_frame::{Arrays, DomainWord, Frame, RangeWord, Slots};
+use dpl_frame::{Alarm, Arrays, DomainWord, Frame, RangeWord, Slots, Truth, Turn};
 use dpl_loop::{Gate, Stop, forall, forall_line};
 use dpl_map::Map;
-use dpl_nodes::{Argument, DomainExpr, Intent, Names, RangeExpr, Spot, Step};
+use dpl_nodes::{
+    Argument, DomainExpr, IntFold, Intent, Names, PromotedInt, PromotedTruth, RangeExpr, Spot,
+    Step, TruthFold,
+};
 use dpl_print::write;
 use dpl_steps::{Context, domain_indices, range_indices, run as run_steps};
+use dpl_values::{Team, reduced_int_by_workers, reduced_truth_by_workers};
 use std::sync::Wait;
 use std::thread::Threads;
 
-// Outside of all foralls. Two closures make the loops there: what workers share has to be known by its type where they are started, and no
-// method of a trait knows it.
+// Outside of all foralls. Four closures make the loops there, of turns and of reductions: what workers share has to be known by its type where
+// they are started, and no method of a trait knows it.
 #[derive(Drop)]
-struct ProgramContext<'g, G, W, M> {
+struct ProgramContext<'g, G, W, M, I, T> {
     gate: &'g G,
     make_whole: &'g W,
     make: &'g M,
+    reduce_ints: &'g I,
+    reduce_truths: &'g T,
 }
 
-impl<'g, G: Gate, W, M> Gate for ProgramContext<'g, G, W, M>
+impl<'g, G: Gate, W, M, I, T> Gate for ProgramContext<'g, G, W, M, I, T>
 where
     W: Fn(&WholeTurns<'_, '_>, DomainWord, &Map, &mut Frame) -> Result<(), Stop>,
     M: Fn(&Forall<'_, '_>, &mut Frame) -> Result<(), Stop>,
+    I: Fn(IntFold, &PromotedInt<'_>, &Spot, &Frame, &mut Turn) -> Result<i64, Alarm>,
+    T: Fn(TruthFold, &PromotedTruth<'_>, &Spot, &Frame, &mut Turn) -> Result<Truth, Alarm>,
 {
     ghost may_refuse = { λ context. G.may_refuse context.gate.now };
 
@@ -60,10 +69,12 @@ where
     }
 }
 
-impl<'g, G: Gate, W, M> Crew for ProgramContext<'g, G, W, M>
+impl<'g, G: Gate, W, M, I, T> Team for ProgramContext<'g, G, W, M, I, T>
 where
     W: Fn(&WholeTurns<'_, '_>, DomainWord, &Map, &mut Frame) -> Result<(), Stop>,
     M: Fn(&Forall<'_, '_>, &mut Frame) -> Result<(), Stop>,
+    I: Fn(IntFold, &PromotedInt<'_>, &Spot, &Frame, &mut Turn) -> Result<i64, Alarm>,
+    T: Fn(TruthFold, &PromotedTruth<'_>, &Spot, &Frame, &mut Turn) -> Result<Truth, Alarm>,
 {
     type Kept = Slots;
 
@@ -72,8 +83,44 @@ where
         → HasMadeWhole (G.may_refuse context.gate.now) turns.now over map.now before.now result after.now)
         × M.IsAlwaysCallable context.make.now
         × ((made before result after : _) → M.post context.make.now made before result after
-        → HasMade (G.may_refuse context.gate.now) made.now before.now result after.now) };
+        → HasMade (G.may_refuse context.gate.now) made.now before.now result after.now)
+        × I.IsAlwaysCallable context.reduce_ints.now
+        × ((fold e at frame before result after : _) → I.post context.reduce_ints.now fold e at frame before result after
+        → TellsInts (G.may_refuse context.gate.now) frame.now fold e.now at.now after.now result)
+        × T.IsAlwaysCallable context.reduce_truths.now
+        × ((fold e at frame before result after : _) → T.post context.reduce_truths.now fold e at frame before result after
+        → TellsTruths (G.may_refuse context.gate.now) frame.now fold e.now at.now after.now result) };
 
+    fn reduced_int(
+        &self,
+        fold: IntFold,
+        e: &PromotedInt<'_>,
+        at: &Spot,
+        frame: &Frame,
+        turn: &mut Turn,
+    ) -> Option<Result<i64, Alarm>> {
+        Some((self.reduce_ints)(fold, e, at, frame, turn))
+    }
+
+    fn reduced_truth(
+        &self,
+        fold: TruthFold,
+        e: &PromotedTruth<'_>,
+        at: &Spot,
+        frame: &Frame,
+        turn: &mut Turn,
+    ) -> Option<Result<Truth, Alarm>> {
+        Some((self.reduce_truths)(fold, e, at, frame, turn))
+    }
+}
+
+impl<'g, G: Gate, W, M, I, T> Crew for ProgramContext<'g, G, W, M, I, T>
+where
+    W: Fn(&WholeTurns<'_, '_>, DomainWord, &Map, &mut Frame) -> Result<(), Stop>,
+    M: Fn(&Forall<'_, '_>, &mut Frame) -> Result<(), Stop>,
+    I: Fn(IntFold, &PromotedInt<'_>, &Spot, &Frame, &mut Turn) -> Result<i64, Alarm>,
+    T: Fn(TruthFold, &PromotedTruth<'_>, &Spot, &Frame, &mut Turn) -> Result<Truth, Alarm>,
+{
     fn make_whole(
         &self,
         turns: &WholeTurns<'_, '_>,
@@ -118,10 +165,12 @@ fn turns_of_line<'t, A: Arrays, G: Gate>(
     Ok(())
 }
 
-impl<'g, G: Gate, W, M> Context for ProgramContext<'g, G, W, M>
+impl<'g, G: Gate, W, M, I, T> Context for ProgramContext<'g, G, W, M, I, T>
 where
     W: Fn(&WholeTurns<'_, '_>, DomainWord, &Map, &mut Frame) -> Result<(), Stop>,
     M: Fn(&Forall<'_, '_>, &mut Frame) -> Result<(), Stop>,
+    I: Fn(IntFold, &PromotedInt<'_>, &Spot, &Frame, &mut Turn) -> Result<i64, Alarm>,
+    T: Fn(TruthFold, &PromotedTruth<'_>, &Spot, &Frame, &mut Turn) -> Result<Truth, Alarm>,
 {
     type Out = Vec<u8>;
 
@@ -186,6 +235,91 @@ where
     }
 }
 
+// The closures that make the loops of turns.
+#[derive(Drop)]
+struct Loops<'g, W, M> {
+    make_whole: &'g W,
+    make: &'g M,
+}
+
+// Runs statements, whose loops of turns and whose reductions of ints closures make.
+fn run_ints_by<
+    't,
+    W: Fn(&WholeTurns<'_, '_>, DomainWord, &Map, &mut Frame) -> Result<(), Stop>,
+    M: Fn(&Forall<'_, '_>, &mut Frame) -> Result<(), Stop>,
+    I: Fn(IntFold, &PromotedInt<'_>, &Spot, &Frame, &mut Turn) -> Result<i64, Alarm>,
+    R: Threads + Wait + Sync,
+    G: Gate + Sync,
+>(
+    rt: &R,
+    loops: &Loops<'_, W, M>,
+    reduce_ints: &I,
+    steps: &[Step<'t>],
+    frame: &mut Frame,
+    gate: &G,
+    out: &mut Vec<u8>,
+) -> Result<(), Stop>
+    requires callable { M.IsAlwaysCallable loops.now.make.now }
+    requires makes { (made before result after : _) → M.post loops.now.make.now made before result after
+        → HasMade (G.may_refuse gate.now) made.now before.now result after.now }
+    requires whole_callable { W.IsAlwaysCallable loops.now.make_whole.now }
+    requires makes_whole { (turns over map before result after : _) → W.post loops.now.make_whole.now turns over map before result after
+        → HasMadeWhole (G.may_refuse gate.now) turns.now over map.now before.now result after.now }
+    requires ints_callable { I.IsAlwaysCallable reduce_ints.now }
+    requires reduces_ints { (fold e at frame before result after : _) → I.post reduce_ints.now fold e at frame before result after
+        → TellsInts (G.may_refuse gate.now) frame.now fold e.now at.now after.now result }
+    ensures ends { (done : Deeds) → RunsTo (MayRefuseSome (G.may_refuse gate.now)) result frame.new.memory (having_printed out.new.items done)
+        (exec_all frame.old.limits in_memory (steps_in Outside steps.now) frame.old.memory (having_printed out.old.items done)) }
+    ensures limits { frame.new.limits ≡ frame.old.limits }
+{
+    let reduce_truths = move |fold: TruthFold, e: &PromotedTruth<
+        '_,
+    >, at: &Spot, frame: &Frame, turn: &mut Turn| -> Result<Truth, Alarm>
+        ensures { TellsTruths (G.may_refuse gate.entry.now) frame.now fold e.now at.now turn.new result }
+    { reduced_truth_by_workers(rt, fold, e, at, frame, gate, turn) };
+    let context = ProgramContext {
+        gate,
+        make_whole: loops.make_whole,
+        make: loops.make,
+        reduce_ints,
+        reduce_truths: &reduce_truths,
+    };
+    run_steps(steps, &context, frame, out)
+}
+
+// Runs statements, whose loops of turns closures make.
+fn run_wholes_by<
+    't,
+    W: Fn(&WholeTurns<'_, '_>, DomainWord, &Map, &mut Frame) -> Result<(), Stop>,
+    M: Fn(&Forall<'_, '_>, &mut Frame) -> Result<(), Stop>,
+    R: Threads + Wait + Sync,
+    G: Gate + Sync,
+>(
+    rt: &R,
+    loops: &Loops<'_, W, M>,
+    steps: &[Step<'t>],
+    frame: &mut Frame,
+    gate: &G,
+    out: &mut Vec<u8>,
+) -> Result<(), Stop>
+    requires callable { M.IsAlwaysCallable loops.now.make.now }
+    requires makes { (made before result after : _) → M.post loops.now.make.now made before result after
+        → HasMade (G.may_refuse gate.now) made.now before.now result after.now }
+    requires whole_callable { W.IsAlwaysCallable loops.now.make_whole.now }
+    requires makes_whole { (turns over map before result after : _) → W.post loops.now.make_whole.now turns over map before result after
+        → HasMadeWhole (G.may_refuse gate.now) turns.now over map.now before.now result after.now }
+    ensures ends { (done : Deeds) → RunsTo (MayRefuseSome (G.may_refuse gate.now)) result frame.new.memory (having_printed out.new.items done)
+        (exec_all frame.old.limits in_memory (steps_in Outside steps.now) frame.old.memory (having_printed out.old.items done)) }
+    ensures limits { frame.new.limits ≡ frame.old.limits }
+{
+    let reduce_ints = move |fold: IntFold, e: &PromotedInt<
+        '_,
+    >, at: &Spot, frame: &Frame, turn: &mut Turn| -> Result<i64, Alarm>
+        ensures { TellsInts (G.may_refuse gate.entry.now) frame.now fold e.now at.now turn.new result }
+    { reduced_int_by_workers(rt, fold, e, at, frame, gate, turn) };
+    run_ints_by(rt, loops, &reduce_ints, steps, frame, gate, out)
+}
+
 // Runs statements, whose foralls a closure makes.
 fn run_by<
     't,
@@ -213,12 +347,11 @@ fn run_by<
     >, over: DomainWord, map: &Map, frame: &mut Frame| -> Result<(), Stop>
         ensures { HasMadeWhole (G.may_refuse gate.entry.now) turns.now over map.now frame.old result frame.new }
     { forall(rt, turns, over, map, frame, gate) };
-    let context = ProgramContext {
-        gate,
+    let loops = Loops {
         make_whole: &make_whole,
         make,
     };
-    run_steps(steps, &context, frame, out)
+    run_wholes_by(rt, &loops, steps, frame, gate, out)
 }
 
 /// Runs statements of a program one after another, and appends what they print. `rt` is what workers are started with.

@@ -188,7 +188,7 @@ fn gates_that_count(rt: HostRuntime) {
     assert_eq!(rt; rows, 9);
 }
 
-// Programs in which the workers 0 and 1 of four make two turns each, or more, of one loop.
+// Programs in which the workers 0 and 1 of four make two turns each, or more, of one loop, or fold two items each of one reduction.
 const MEETINGS: &str = "\
 204~1 4 9 16 25 36 49 64~ <- const D = {1..8} dmapped new blockDist(boundingBox={1..8}); var A: [D] int; forall i in D do A[i] = i*i; writeln(+ reduce A); writeln(A);\n\
 1 2 3 4 5 6 7 8~ <- const D = {1..8} dmapped new blockDist(boundingBox={1..8}); var A: [D] int; forall i in D do A[i] = i; writeln(A);\n\
@@ -196,9 +196,13 @@ const MEETINGS: &str = "\
 5 5 5 5 5 5 5 5~ <- const D = {1..8} dmapped new cyclicDist(startIdx=1); var A: [D] int; A = 5; writeln(A);\n\
 2 0 4 0 6 0 8 0~ <- const D = {1..8} dmapped new blockDist(boundingBox={1..8}); var A: [D] int; forall i in D { if i % 2 == 1 then A[i] = i + 1; } writeln(A);\n\
 2 4 6 8 10 12 14 16~ <- const D = {1..8} dmapped new blockDist(boundingBox={1..8}); var A: [D] int; forall i in 1..8 do A[i] = 2 * i; writeln(A);\n\
-2 3 4 5~3 4 5 6~ <- const D = {1..2, 1..4} dmapped new blockDist(boundingBox={1..2, 1..4}); var A: [D] int; forall (i, j) in D do A[i, j] = i + j; writeln(A);";
+2 3 4 5~3 4 5 6~ <- const D = {1..2, 1..4} dmapped new blockDist(boundingBox={1..2, 1..4}); var A: [D] int; forall (i, j) in D do A[i, j] = i + j; writeln(A);\n\
+24~ <- const D = {1..8} dmapped new blockDist(boundingBox={1..8}); var A: [D] int = 3; writeln(+ reduce A);\n\
+-5~ <- const D = {1..8} dmapped new cyclicDist(startIdx=1); var A: [D] int = 3; var x = 1 - 2 * (max reduce A); writeln(x);\n\
+true~ <- const D = {1..8} dmapped new blockDist(boundingBox={1..8}); var A: [D] int = 3; if && reduce (A > 2) then writeln(true);\n\
+false~ <- const D = {1..8} dmapped new blockDist(boundingBox={1..8}); var B: [D] bool; writeln(|| reduce B);";
 
-// Two workers meet twice in the loop of each program, and so make its turns on two threads at once.
+// Two workers meet twice in the loop or the reduction of each program, and so make its turns or its items on two threads at once.
 #[test]
 fn meetings(rt: HostRuntime) {
     let config = four_locales(&rt, Maps::AsIs);
@@ -210,7 +214,7 @@ fn meetings(rt: HostRuntime) {
         assert!(&rt; said == Ok(bytes_of(&rt, rt.alloc(), bytes)), "{text}");
         rows = rows.saturating_add(1);
     }
-    assert_eq!(rt; rows, 7);
+    assert_eq!(rt; rows, 11);
 }
 
 // What can't be made apart is made by one thread, at which no two workers meet.

@@ -13,19 +13,20 @@ ghost use Rattle.dpl_elements.specs.Changes.{declared_memory, given_memory, assi
 
 use crate::reduce::{reduced_int, reduced_truth};
 use dpl_frame::{Arrays, FaultCode, Frame, Trap};
+use dpl_loop::Stop;
 use dpl_loop::stop::told;
-use dpl_loop::{Gate, Stop};
 use dpl_nodes::{BoolExpr, IntDeed, IntExpr, RangeExpr, Spot, TruthDeed};
 use dpl_strips::number::{difference, product, quotient, remainder, sum};
-use dpl_values::{int_value, range_value, truth_value};
+use dpl_values::{Team, int_value, range_value, truth_value};
 
 // A truth value's.
-fn declare_truth<A: Arrays, G: Gate>(
+fn declare_truth<G: Team>(
     slot: usize,
     e: &BoolExpr<'_>,
-    frame: &mut Frame<A>,
+    frame: &mut Frame<G::Kept>,
     gate: &G,
 ) -> Result<(), Stop>
+    requires ready { G.is_ready gate.now }
     ensures memory { Gives (MayRefuseSome (G.may_refuse gate.now)) (λ v. frame.new.memory) result
         (declared_memory frame.old.limits (truth_leaf slot) (One (truth_view e.now)) frame.old.memory) }
     ensures limits { frame.new.limits ≡ frame.old.limits }
@@ -37,12 +38,13 @@ fn declare_truth<A: Arrays, G: Gate>(
 
 /// A range's.
 #[inline(always)]
-pub(crate) fn declare_range<A: Arrays, G: Gate>(
+pub(crate) fn declare_range<G: Team>(
     slot: usize,
     e: &RangeExpr<'_>,
-    frame: &mut Frame<A>,
+    frame: &mut Frame<G::Kept>,
     gate: &G,
 ) -> Result<(), Stop>
+    requires ready { G.is_ready gate.now }
     ensures memory { Gives (MayRefuseSome (G.may_refuse gate.now)) (λ v. frame.new.memory) result
         (declared_memory frame.old.limits (range_leaf slot) (range_item e.now) frame.old.memory) }
     ensures limits { frame.new.limits ≡ frame.old.limits }
@@ -53,12 +55,13 @@ pub(crate) fn declare_range<A: Arrays, G: Gate>(
 }
 
 // A `config const` that is a truth value.
-fn config_truth<A: Arrays, G: Gate>(
+fn config_truth<G: Team>(
     slot: usize,
     e: &BoolExpr<'_>,
-    frame: &mut Frame<A>,
+    frame: &mut Frame<G::Kept>,
     gate: &G,
 ) -> Result<(), Stop>
+    requires ready { G.is_ready gate.now }
     ensures memory { Gives (MayRefuseSome (G.may_refuse gate.now)) (λ v. frame.new.memory) result
         (given_memory frame.old.limits (truth_leaf slot) (One (truth_view e.now)) (in_memory.given (truth_leaf slot) frame.old.memory) frame.old.memory) }
     ensures limits { frame.new.limits ≡ frame.old.limits }
@@ -150,12 +153,13 @@ fn put<A: Arrays>(
 }
 
 // `reduce=` to a truth value
-fn reduce_truth<A: Arrays, G: Gate>(
+fn reduce_truth<G: Team>(
     slot: usize,
     e: &BoolExpr<'_>,
-    frame: &mut Frame<A>,
+    frame: &mut Frame<G::Kept>,
     gate: &G,
 ) -> Result<(), Stop>
+    requires ready { G.is_ready gate.now }
     ensures memory { Gives (MayRefuseSome (G.may_refuse gate.now)) (λ v. frame.new.memory) result
         (assigned_memory frame.old.limits (truth_leaf slot) SetReduce nowhere (One (truth_view e.now)) frame.old.memory) }
     ensures limits { frame.new.limits ≡ frame.old.limits }
@@ -168,13 +172,14 @@ fn reduce_truth<A: Arrays, G: Gate>(
 
 /// What is done to an int: its right side is evaluated in one place, whatever is done with the value.
 #[inline(always)]
-pub(crate) fn change_int<A: Arrays, G: Gate>(
+pub(crate) fn change_int<G: Team>(
     deed: &IntDeed<'_>,
     slot: usize,
     e: &IntExpr<'_>,
-    frame: &mut Frame<A>,
+    frame: &mut Frame<G::Kept>,
     gate: &G,
 ) -> Result<(), Stop>
+    requires ready { G.is_ready gate.now }
     ensures memory { Gives (MayRefuseSome (G.may_refuse gate.now)) (λ v. frame.new.memory) result
         (int_memory frame.old.limits deed.now slot (One (int_view e.now)) frame.old.memory) }
     ensures limits { frame.new.limits ≡ frame.old.limits }
@@ -189,13 +194,14 @@ pub(crate) fn change_int<A: Arrays, G: Gate>(
 
 /// What is done to a truth value.
 #[inline(always)]
-pub(crate) fn change_truth<A: Arrays, G: Gate>(
+pub(crate) fn change_truth<G: Team>(
     deed: TruthDeed,
     slot: usize,
     e: &BoolExpr<'_>,
-    frame: &mut Frame<A>,
+    frame: &mut Frame<G::Kept>,
     gate: &G,
 ) -> Result<(), Stop>
+    requires ready { G.is_ready gate.now }
     ensures memory { Gives (MayRefuseSome (G.may_refuse gate.now)) (λ v. frame.new.memory) result
         (truth_memory frame.old.limits deed slot (One (truth_view e.now)) frame.old.memory) }
     ensures limits { frame.new.limits ≡ frame.old.limits }

@@ -42,6 +42,7 @@ pub trait Context: Crew {
         frame: &Frame<Self::Kept>,
         out: &mut Self::Out,
     ) -> Result<(), Stop>
+        requires ready { Self.is_ready self.now }
         ensures { (done : Deeds)
             → RunsTo (MayRefuseReduction (Self.may_refuse self.now) frame.now (EachInArguments arguments.now)) result frame.now.memory (having out.new done)
             (exec frame.now.limits in_memory (outside standing (written_as ends_line arguments.now)) frame.now.memory (having out.old done)) };

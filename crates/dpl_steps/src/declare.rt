@@ -36,17 +36,18 @@ use dpl_strips::index::coordinate;
 use dpl_values::budget::within_budget;
 use dpl_values::domain::small;
 use dpl_values::{
-    domain_value, int_domain, literal, promoted_int_value, promoted_truth_value, range_value,
-    sized, truth_domain,
+    Alone, Team, domain_value, int_domain, literal, promoted_int_value, promoted_truth_value,
+    range_value, sized, truth_domain,
 };
 
 // The domain that stands between an array's brackets.
-fn domain_over<A: Arrays, G: Gate>(
+fn domain_over<G: Team>(
     over: &DeclaredOver<'_>,
     from: &Spot,
-    frame: &Frame<A>,
+    frame: &Frame<G::Kept>,
     gate: &G,
 ) -> Result<DomainWord, Stop>
+    requires ready { G.is_ready gate.now }
     ensures { Gives (MayRefuseReduction (G.may_refuse gate.now) frame.now (EachInOver over.now)) DomainValue result
         (domain_of frame.now.limits in_memory from.now (over_items over.now) frame.now.memory) }
 {
@@ -81,7 +82,7 @@ impl<'t> Elements for PromotedInt<'t> {
     ghost element = { λ e limits s t. value_of limits in_memory (promoted_int EachTurn e) (Some t) s };
 
     fn word<A: Arrays>(&self, index: &Index, frame: &Frame<A>) -> Result<i64, Stop> {
-        promoted_int_value(self, index, frame, &OpenGate)
+        promoted_int_value(self, index, frame, &Alone::at(&OpenGate))
     }
 }
 
@@ -89,7 +90,7 @@ impl<'t> Elements for PromotedTruth<'t> {
     ghost element = { λ e limits s t. value_of limits in_memory (promoted_truth EachTurn e) (Some t) s };
 
     fn word<A: Arrays>(&self, index: &Index, frame: &Frame<A>) -> Result<i64, Stop> {
-        Ok(i64::from(promoted_truth_value(self, index, frame, &OpenGate)?.get()))
+        Ok(i64::from(promoted_truth_value(self, index, frame, &Alone::at(&OpenGate))?.get()))
     }
 }
 
@@ -139,16 +140,17 @@ fn gathered<A: Arrays, E: Elements, G: Gate>(
 }
 
 // An array of ints with an initial value.
-fn declare_ints<A: Arrays, G: Gate>(
+fn declare_ints<G: Team>(
     d: &ArrayDeclaration<'_>,
     at: &Spot,
     e: &PromotedInt<'_>,
     map: &Map,
     domain: DomainWord,
-    frame: &mut Frame<A>,
+    frame: &mut Frame<G::Kept>,
     gate: &G,
 ) -> Result<(), Stop>
-    requires { too_large domain ≡ false }
+    requires ready { G.is_ready gate.now }
+    requires small { too_large domain ≡ false }
     ensures ends { (done : Deeds) → RunsTo (MayRefuseElements (G.may_refuse gate.now) frame.old map.now domain (EachInInts e.now)) result frame.new.memory done
         (declared_with frame.old.limits d.now IntKind domain at.now (promoted_int EachTurn e.now) frame.old.memory done) }
     ensures limits { frame.new.limits ≡ frame.old.limits }
@@ -171,16 +173,17 @@ fn declare_ints<A: Arrays, G: Gate>(
 }
 
 // The same of truth values.
-fn declare_truths<A: Arrays, G: Gate>(
+fn declare_truths<G: Team>(
     d: &ArrayDeclaration<'_>,
     at: &Spot,
     e: &PromotedTruth<'_>,
     map: &Map,
     domain: DomainWord,
-    frame: &mut Frame<A>,
+    frame: &mut Frame<G::Kept>,
     gate: &G,
 ) -> Result<(), Stop>
-    requires { too_large domain ≡ false }
+    requires ready { G.is_ready gate.now }
+    requires small { too_large domain ≡ false }
     ensures ends { (done : Deeds)
         → RunsTo (MayRefuseElements (G.may_refuse gate.now) frame.old map.now domain (EachInTruths e.now)) result frame.new.memory done
         (declared_with frame.old.limits d.now BoolKind domain at.now (promoted_truth EachTurn e.now) frame.old.memory done) }
@@ -228,14 +231,15 @@ fn sized_for_array(at: &Spot, domain: DomainWord) -> Result<DomainWord, Trap>
 }
 
 // The array over a domain, by its elements; its slot has no root yet.
-fn declare_over<A: Arrays, G: Gate>(
+fn declare_over<G: Team>(
     d: &ArrayDeclaration<'_>,
     map: &Map,
     domain: DomainWord,
-    frame: &mut Frame<A>,
+    frame: &mut Frame<G::Kept>,
     gate: &G,
 ) -> Result<(), Stop>
-    requires { too_large domain ≡ false }
+    requires ready { G.is_ready gate.now }
+    requires small { too_large domain ≡ false }
     ensures ends { (done : Deeds) → RunsTo
         (MayRefuseElements (G.may_refuse gate.now) frame.old map.now domain (EachInInitial d.now.initial)) result frame.new.memory done
         (declared_over frame.old.limits d.now domain frame.old.memory done) }
@@ -257,11 +261,12 @@ fn declare_over<A: Arrays, G: Gate>(
 /// once; `F5` at `=` for more elements than the budget; the fault of an index, in its turn; out of memory; or the gate refused
 /// the entry of an index's owner, by the map of the root that the array gets, or of a reduction in its domain or its initial value.
 #[inline(never)]
-pub(crate) fn declare_array<A: Arrays, G: Gate>(
+pub(crate) fn declare_array<G: Team>(
     d: &ArrayDeclaration<'_>,
-    frame: &mut Frame<A>,
+    frame: &mut Frame<G::Kept>,
     gate: &G,
 ) -> Result<(), Stop>
+    requires ready { G.is_ready gate.now }
     ensures ends { (done : Deeds) → RunsTo (MayRefuseArray (G.may_refuse gate.now) frame.old d.now) result frame.new.memory done
         (exec frame.old.limits in_memory (array_declared d.now) frame.old.memory done) }
     ensures limits { frame.new.limits ≡ frame.old.limits }

@@ -17,22 +17,23 @@ ghost use Rattle.dpl_loop.specs.Runs.{RunsTo};
 
 use crate::lineage::{with_value, without_value};
 use dpl_frame::{Arrays, DomainWord, FaultCode, Frame, Trap};
-use dpl_loop::{Gate, Stop};
+use dpl_loop::Stop;
 use dpl_nodes::{Beginning, DomainExpr, DomainName, Placing, Rank, Spot};
-use dpl_values::domain_value;
+use dpl_values::{Team, domain_value};
 use std::alloc::AllocError;
 
 /// How many elements an array may have.
 const MOST_ELEMENTS: u64 = 16_777_216;
 
 // A domain's declaration with its initial value.
-fn declare_value<A: Arrays, G: Gate>(
+fn declare_value<G: Team>(
     slot: usize,
     e: &DomainExpr<'_>,
     placing: &Placing<'_>,
-    frame: &mut Frame<A>,
+    frame: &mut Frame<G::Kept>,
     gate: &G,
 ) -> Result<(), Stop>
+    requires ready { G.is_ready gate.now }
     ensures ends { (done : Deeds) → RunsTo (MayRefuseSome (G.may_refuse gate.now)) result frame.new.memory done
         (exec frame.old.limits in_memory (domain_declared slot (Value e.entry) placing.now) frame.old.memory done) }
     ensures limits { frame.new.limits ≡ frame.old.limits }
@@ -67,13 +68,14 @@ fn declare_empty<A: Arrays>(
 
 /// A domain's declaration, by what it begins with, and with its root.
 #[inline(never)]
-pub(crate) fn declare_domain<A: Arrays, G: Gate>(
+pub(crate) fn declare_domain<G: Team>(
     slot: usize,
     beginning: &Beginning<'_>,
     placing: &Placing<'_>,
-    frame: &mut Frame<A>,
+    frame: &mut Frame<G::Kept>,
     gate: &G,
 ) -> Result<(), Stop>
+    requires ready { G.is_ready gate.now }
     ensures ends { (done : Deeds) → RunsTo (MayRefuseSome (G.may_refuse gate.now)) result frame.new.memory done
         (exec frame.old.limits in_memory (domain_declared slot beginning.now placing.now) frame.old.memory done) }
     ensures limits { frame.new.limits ≡ frame.old.limits }
@@ -117,12 +119,13 @@ pub(crate) fn for_array(at: &Spot, domain: DomainWord) -> Result<DomainWord, Tra
 /// # Errors
 /// `F8` at the domain's name, where there are such arrays; out of memory for them.
 #[inline(never)]
-pub(crate) fn set_domain<A: Arrays, G: Gate>(
+pub(crate) fn set_domain<G: Team>(
     name: &DomainName<'_>,
     e: &DomainExpr<'_>,
-    frame: &mut Frame<A>,
+    frame: &mut Frame<G::Kept>,
     gate: &G,
 ) -> Result<(), Stop>
+    requires ready { G.is_ready gate.now }
     ensures ends { (done : Deeds)
         → RunsTo (MayRefuseSome (G.may_refuse gate.now)) result frame.new.memory done
         (exec frame.old.limits in_memory (whole_set (domain_leaf name.now) Set nowhere (domain_view e.now)) frame.old.memory done) }

@@ -23,10 +23,10 @@ use crate::context::Context;
 use crate::statement::run;
 use dpl_domain::Index;
 use dpl_frame::{Arrays, DomainWord, Frame, Trap};
-use dpl_loop::{Gate, Stop};
+use dpl_loop::Stop;
 use dpl_nodes::{DomainExpr, Names, Spot, Step};
 use dpl_values::budget::within_budget;
-use dpl_values::domain_value;
+use dpl_values::{Team, domain_value};
 
 /// What a loop runs over: its domain is evaluated once, and its size is tested against the budget.
 ///
@@ -34,12 +34,13 @@ use dpl_values::domain_value;
 /// The fault of the domain; `F5` at the loop where it has more indices than the budget; or the gate refused an entry of a reduction
 /// in the domain.
 #[tactic(auto, using(crate::proofs::Tested::within_domain))]
-pub fn domain_indices<A: Arrays, G: Gate>(
+pub fn domain_indices<G: Team>(
     at: &Spot,
     over: &DomainExpr<'_>,
-    frame: &Frame<A>,
+    frame: &Frame<G::Kept>,
     gate: &G,
 ) -> Result<DomainWord, Stop>
+    requires ready { G.is_ready gate.now }
     ensures { Gives (MayRefuseReduction (G.may_refuse gate.now) frame.now (EachInDomain over.now)) DomainValue result
         (looped_over frame.now.limits at.now (One (domain_view over.now)) frame.now.memory) }
 {

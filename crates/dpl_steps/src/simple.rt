@@ -14,19 +14,21 @@ ghost use Rattle.dpl_loop.specs.Runs.{RunsTo};
 
 use crate::change::{change_truth, declare_range};
 use dpl_elements::{set_element, set_truth_element};
-use dpl_frame::{Arrays, Frame};
-use dpl_loop::{Gate, Stop};
+use dpl_frame::Frame;
+use dpl_loop::Stop;
 use dpl_nodes::{ArrayName, BoolExpr, IndexExpr, IntExpr, RangeExpr, Spot, TruthTarget};
 use dpl_tree::Assign;
+use dpl_values::Team;
 
 /// A range's declaration, or an assignment to it.
 #[inline(never)]
-pub(crate) fn range<A: Arrays, G: Gate>(
+pub(crate) fn range<G: Team>(
     slot: usize,
     e: &RangeExpr<'_>,
-    frame: &mut Frame<A>,
+    frame: &mut Frame<G::Kept>,
     gate: &G,
 ) -> Result<(), Stop>
+    requires ready { G.is_ready gate.now }
     ensures ends { (done : Deeds)
         → RunsTo (MayRefuseSome (G.may_refuse gate.now)) result frame.new.memory done
         (ends_as (declared_memory frame.old.limits (range_leaf slot) (range_item e.now) frame.old.memory) done) }
@@ -37,12 +39,13 @@ pub(crate) fn range<A: Arrays, G: Gate>(
 
 /// What is done to a truth value, or to an element that is one.
 #[inline(never)]
-pub(crate) fn truth<A: Arrays, G: Gate>(
+pub(crate) fn truth<G: Team>(
     target: &TruthTarget<'_>,
     e: &BoolExpr<'_>,
-    frame: &mut Frame<A>,
+    frame: &mut Frame<G::Kept>,
     gate: &G,
 ) -> Result<(), Stop>
+    requires ready { G.is_ready gate.now }
     ensures ends { (done : Deeds) → RunsTo (MayRefuseSome (G.may_refuse gate.now)) result frame.new.memory done
         (exec frame.old.limits in_memory (truth_stated target.now (truth_view e.now)) frame.old.memory done) }
     ensures limits { frame.new.limits ≡ frame.old.limits }
@@ -55,15 +58,16 @@ pub(crate) fn truth<A: Arrays, G: Gate>(
 
 /// An assignment to an element.
 #[inline(never)]
-pub(crate) fn element<A: Arrays, G: Gate>(
+pub(crate) fn element<G: Team>(
     name: &ArrayName<'_>,
     t: &IndexExpr<'_>,
     op: Assign,
     sign: &Spot,
     e: &IntExpr<'_>,
-    frame: &mut Frame<A>,
+    frame: &mut Frame<G::Kept>,
     gate: &G,
 ) -> Result<(), Stop>
+    requires ready { G.is_ready gate.now }
     ensures ends { (done : Deeds)
         → RunsTo (MayRefuseSome (G.may_refuse gate.now)) result frame.new.memory done
         (exec frame.old.limits in_memory (element_set (array_leaf IntKind name.now) t.now op sign.now (int_view e.now)) frame.old.memory done) }

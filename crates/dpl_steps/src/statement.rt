@@ -25,24 +25,25 @@ use crate::domain::{declare_domain, set_domain};
 use crate::each::for_each;
 use crate::simple;
 use dpl_elements::{set_array, set_truth_array};
-use dpl_frame::{Arrays, FaultCode, Frame, RangeWord, Trap};
+use dpl_frame::{FaultCode, Frame, RangeWord, Trap};
+use dpl_loop::Stop;
 use dpl_loop::stop::told;
-use dpl_loop::{Gate, Stop};
 use dpl_nodes::{BoolExpr, Else, RangeExpr, Spot, Step};
 use dpl_range::Range;
-use dpl_values::{range_value, truth_value};
+use dpl_values::{Team, range_value, truth_value};
 
 /// What a loop runs over: its range is evaluated once, and its size is tested against the budget.
 ///
 /// # Errors
 /// The fault of the range; `F5` at the loop where it has more members than the budget; or the gate refused an entry of a reduction
 /// in the range.
-pub fn range_indices<A: Arrays, G: Gate>(
+pub fn range_indices<G: Team>(
     at: &Spot,
     over: &RangeExpr<'_>,
-    frame: &Frame<A>,
+    frame: &Frame<G::Kept>,
     gate: &G,
 ) -> Result<RangeWord, Stop>
+    requires ready { G.is_ready gate.now }
     ensures { Gives (MayRefuseReduction (G.may_refuse gate.now) frame.now (EachInRange over.now)) as_range result
         (looped_over frame.now.limits at.now (range_item over.now) frame.now.memory) }
 {

@@ -6,6 +6,8 @@ pub mod Reductions
 pub mod Arguments
 -- The meanings of expressions, which contracts name.
 pub mod Meanings
+-- What a team tells of a reduction.
+pub mod Teams
 -- What serves contracts and proofs alone.
 pub mod Bounds
 pub mod Elements

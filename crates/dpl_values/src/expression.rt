@@ -14,9 +14,9 @@ use crate::comparison::holds;
 use crate::domain::{found, sized, small};
 use crate::range::{Written, bounded, contains, first, high, last, low, size, strided_by};
 use crate::reduction::{reduced_int, reduced_truth};
+use crate::team::Team;
 use dpl_domain::Index;
-use dpl_frame::{Alarm, Arrays, DomainWord, FaultCode, Frame, RangeWord, Truth, Turn};
-use dpl_loop::Gate;
+use dpl_frame::{Alarm, DomainWord, FaultCode, Frame, RangeWord, Truth, Turn};
 use dpl_nodes::{BoolExpr, DomainExpr, IndexExpr, IntExpr, RangeExpr, RangesExpr, Spot, Stride};
 use dpl_strips::index::{coordinate, plane, space};
 use dpl_strips::number::{difference, negative, product, quotient, remainder, sum};
@@ -24,12 +24,13 @@ use dpl_strips::number::{difference, negative, product, quotient, remainder, sum
 // An operand: a leaf at once, and else by a walk.
 #[cycle(walk)]
 #[inline(always)]
-pub(crate) fn operand<A: Arrays, G: Gate>(
+pub(crate) fn operand<G: Team>(
     e: &IntExpr<'_>,
-    frame: &Frame<A>,
+    frame: &Frame<G::Kept>,
     gate: &G,
     turn: &mut Turn,
 ) -> Result<i64, Alarm>
+    requires ready { G.is_ready gate.now }
     ensures { Tells (MayRefuseReduction (G.may_refuse gate.now) frame.now (EachInInt e.now)) Int turn.new result (int_in frame.now e.now) }
 {
     match e {
@@ -46,12 +47,13 @@ pub(crate) fn operand<A: Arrays, G: Gate>(
 /// The fault of a part.
 #[cycle(walk)]
 #[inline(always)]
-pub fn coordinate_value<A: Arrays, G: Gate>(
+pub fn coordinate_value<G: Team>(
     e: &IntExpr<'_>,
-    frame: &Frame<A>,
+    frame: &Frame<G::Kept>,
     gate: &G,
     turn: &mut Turn,
 ) -> Result<i64, Alarm>
+    requires ready { G.is_ready gate.now }
     ensures { Tells (MayRefuseReduction (G.may_refuse gate.now) frame.now (EachInInt e.now)) Int turn.new result (int_in frame.now e.now) }
 {
     match e {
@@ -71,12 +73,13 @@ pub fn coordinate_value<A: Arrays, G: Gate>(
 /// # Errors
 /// `F2` at a division by zero; the fault of a part.
 #[cycle(walk)]
-pub(crate) fn int_value<A: Arrays, G: Gate>(
+pub(crate) fn int_value<G: Team>(
     e: &IntExpr<'_>,
-    frame: &Frame<A>,
+    frame: &Frame<G::Kept>,
     gate: &G,
     turn: &mut Turn,
 ) -> Result<i64, Alarm>
+    requires ready { G.is_ready gate.now }
     ensures { Tells (MayRefuseReduction (G.may_refuse gate.now) frame.now (EachInInt e.now)) Int turn.new result (int_in frame.now e.now) }
 {
     match e {
@@ -130,12 +133,13 @@ pub(crate) fn int_value<A: Arrays, G: Gate>(
 // `size`
 #[cycle(walk)]
 #[inline(never)]
-fn size_of<A: Arrays, G: Gate>(
+fn size_of<G: Team>(
     r: &RangeExpr<'_>,
-    frame: &Frame<A>,
+    frame: &Frame<G::Kept>,
     gate: &G,
     turn: &mut Turn,
 ) -> Result<i64, Alarm>
+    requires ready { G.is_ready gate.now }
     ensures { Tells (MayRefuseReduction (G.may_refuse gate.now) frame.now (EachInRange r.now)) Int turn.new result (range_end frame.now r.now nowhere Size) }
 {
     Ok(size(range_value(r, frame, gate, turn)?))
@@ -144,13 +148,14 @@ fn size_of<A: Arrays, G: Gate>(
 // `first`
 #[cycle(walk)]
 #[inline(never)]
-fn first_of<A: Arrays, G: Gate>(
+fn first_of<G: Team>(
     r: &RangeExpr<'_>,
     at: &Spot,
-    frame: &Frame<A>,
+    frame: &Frame<G::Kept>,
     gate: &G,
     turn: &mut Turn,
 ) -> Result<i64, Alarm>
+    requires ready { G.is_ready gate.now }
     ensures { Tells (MayRefuseReduction (G.may_refuse gate.now) frame.now (EachInRange r.now)) Int turn.new result (range_end frame.now r.now at.now First) }
 {
     let range = range_value(r, frame, gate, turn)?;
@@ -160,13 +165,14 @@ fn first_of<A: Arrays, G: Gate>(
 // `last`
 #[cycle(walk)]
 #[inline(never)]
-fn last_of<A: Arrays, G: Gate>(
+fn last_of<G: Team>(
     r: &RangeExpr<'_>,
     at: &Spot,
-    frame: &Frame<A>,
+    frame: &Frame<G::Kept>,
     gate: &G,
     turn: &mut Turn,
 ) -> Result<i64, Alarm>
+    requires ready { G.is_ready gate.now }
     ensures { Tells (MayRefuseReduction (G.may_refuse gate.now) frame.now (EachInRange r.now)) Int turn.new result (range_end frame.now r.now at.now Last) }
 {
     let range = range_value(r, frame, gate, turn)?;
@@ -176,13 +182,14 @@ fn last_of<A: Arrays, G: Gate>(
 // `low`
 #[cycle(walk)]
 #[inline(never)]
-fn low_of<A: Arrays, G: Gate>(
+fn low_of<G: Team>(
     r: &RangeExpr<'_>,
     at: &Spot,
-    frame: &Frame<A>,
+    frame: &Frame<G::Kept>,
     gate: &G,
     turn: &mut Turn,
 ) -> Result<i64, Alarm>
+    requires ready { G.is_ready gate.now }
     ensures { Tells (MayRefuseReduction (G.may_refuse gate.now) frame.now (EachInRange r.now)) Int turn.new result (range_end frame.now r.now at.now Low) }
 {
     let range = range_value(r, frame, gate, turn)?;
@@ -192,13 +199,14 @@ fn low_of<A: Arrays, G: Gate>(
 // `high`
 #[cycle(walk)]
 #[inline(never)]
-fn high_of<A: Arrays, G: Gate>(
+fn high_of<G: Team>(
     r: &RangeExpr<'_>,
     at: &Spot,
-    frame: &Frame<A>,
+    frame: &Frame<G::Kept>,
     gate: &G,
     turn: &mut Turn,
 ) -> Result<i64, Alarm>
+    requires ready { G.is_ready gate.now }
     ensures { Tells (MayRefuseReduction (G.may_refuse gate.now) frame.now (EachInRange r.now)) Int turn.new result (range_end frame.now r.now at.now High) }
 {
     let range = range_value(r, frame, gate, turn)?;
@@ -208,12 +216,13 @@ fn high_of<A: Arrays, G: Gate>(
 // `size` of a domain
 #[cycle(walk)]
 #[inline(never)]
-fn count_of<A: Arrays, G: Gate>(
+fn count_of<G: Team>(
     d: &DomainExpr<'_>,
-    frame: &Frame<A>,
+    frame: &Frame<G::Kept>,
     gate: &G,
     turn: &mut Turn,
 ) -> Result<i64, Alarm>
+    requires ready { G.is_ready gate.now }
     ensures { Tells (MayRefuseReduction (G.may_refuse gate.now) frame.now (EachInDomain d.now)) Int turn.new result (domain_size frame.now d.now) }
 {
     Ok(domain_value(d, frame, gate, turn)?.size() as i64)
@@ -224,14 +233,15 @@ fn count_of<A: Arrays, G: Gate>(
 /// # Errors
 /// `F1` at the array's name for an index outside it.
 #[cycle(walk)]
-pub(crate) fn element<A: Arrays, G: Gate>(
+pub(crate) fn element<G: Team>(
     slot: usize,
     t: &IndexExpr<'_>,
     at: &Spot,
-    frame: &Frame<A>,
+    frame: &Frame<G::Kept>,
     gate: &G,
     turn: &mut Turn,
 ) -> Result<i64, Alarm>
+    requires ready { G.is_ready gate.now }
     ensures { Tells (MayRefuseReduction (G.may_refuse gate.now) frame.now (EachInIndex t.now)) (λ v. v) turn.new result
         (element_in frame.now slot t.now at.now) }
 {
@@ -259,12 +269,13 @@ pub(crate) fn element<A: Arrays, G: Gate>(
 ///
 /// # Errors
 /// The fault of a coordinate.
-pub(crate) fn index_value<A: Arrays, G: Gate>(
+pub(crate) fn index_value<G: Team>(
     t: &IndexExpr<'_>,
-    frame: &Frame<A>,
+    frame: &Frame<G::Kept>,
     gate: &G,
     turn: &mut Turn,
 ) -> Result<Index, Alarm>
+    requires ready { G.is_ready gate.now }
     ensures { Tells (MayRefuseReduction (G.may_refuse gate.now) frame.now (EachInIndex t.now)) (λ v. v) turn.new result (index_in frame.now t.now) }
 {
     match t {
@@ -289,13 +300,14 @@ pub(crate) fn index_value<A: Arrays, G: Gate>(
 /// # Errors
 /// The fault of a range; `F3` at the opening bracket for too many indices.
 #[cycle(walk)]
-pub(crate) fn literal<A: Arrays, G: Gate>(
+pub(crate) fn literal<G: Team>(
     at: &Spot,
     ranges: &RangesExpr<'_>,
-    frame: &Frame<A>,
+    frame: &Frame<G::Kept>,
     gate: &G,
     turn: &mut Turn,
 ) -> Result<DomainWord, Alarm>
+    requires ready { G.is_ready gate.now }
     ensures { Tells (MayRefuseReduction (G.may_refuse gate.now) frame.now (EachInRanges ranges.now)) DomainValue turn.new result
         (literal_in frame.now at.now ranges.now) }
 {
@@ -320,13 +332,14 @@ pub(crate) fn literal<A: Arrays, G: Gate>(
 
 // A domain with each dimension between the bounds of its range.
 #[cycle(walk)]
-fn cut<A: Arrays, G: Gate>(
+fn cut<G: Team>(
     domain: DomainWord,
     ranges: &RangesExpr<'_>,
-    frame: &Frame<A>,
+    frame: &Frame<G::Kept>,
     gate: &G,
     turn: &mut Turn,
 ) -> Result<DomainWord, Alarm>
+    requires ready { G.is_ready gate.now }
     ensures { Tells (MayRefuseReduction (G.may_refuse gate.now) frame.now (EachInRanges ranges.now)) DomainValue turn.new result
         (sliced_in frame.now domain ranges.now) }
 {
@@ -354,12 +367,13 @@ fn cut<A: Arrays, G: Gate>(
 /// # Errors
 /// `F3` at the opening bracket for too many indices, and at `expand` for these or for a bound past its limit.
 #[cycle(walk)]
-pub(crate) fn domain_value<A: Arrays, G: Gate>(
+pub(crate) fn domain_value<G: Team>(
     e: &DomainExpr<'_>,
-    frame: &Frame<A>,
+    frame: &Frame<G::Kept>,
     gate: &G,
     turn: &mut Turn,
 ) -> Result<DomainWord, Alarm>
+    requires ready { G.is_ready gate.now }
     ensures { Tells (MayRefuseReduction (G.may_refuse gate.now) frame.now (EachInDomain e.now)) DomainValue turn.new result (domain_in frame.now e.now) }
 {
     match e {
@@ -387,13 +401,14 @@ pub(crate) fn domain_value<A: Arrays, G: Gate>(
 
 // A range by its bounds, with the stride that is written, which is evaluated before the fault of its bounds is told.
 #[cycle(walk)]
-fn stridden<A: Arrays, G: Gate>(
+fn stridden<G: Team>(
     stride: &Stride<'_>,
     written: Written,
-    frame: &Frame<A>,
+    frame: &Frame<G::Kept>,
     gate: &G,
     turn: &mut Turn,
 ) -> Result<RangeWord, Alarm>
+    requires ready { G.is_ready gate.now }
     ensures { Tells (MayRefuseReduction (G.may_refuse gate.now) frame.now (EachInStride stride.now)) as_range turn.new result
         (strided_in frame.now stride.now (bounds_of written)) }
 {
@@ -412,12 +427,13 @@ fn stridden<A: Arrays, G: Gate>(
 /// # Errors
 /// `F3` at the dots for a bound or a count past its limit, and at `by` for a stride.
 #[cycle(walk)]
-pub(crate) fn range_value<A: Arrays, G: Gate>(
+pub(crate) fn range_value<G: Team>(
     e: &RangeExpr<'_>,
-    frame: &Frame<A>,
+    frame: &Frame<G::Kept>,
     gate: &G,
     turn: &mut Turn,
 ) -> Result<RangeWord, Alarm>
+    requires ready { G.is_ready gate.now }
     ensures { Tells (MayRefuseReduction (G.may_refuse gate.now) frame.now (EachInRange e.now)) as_range turn.new result (range_in frame.now e.now) }
 {
     match e {
@@ -447,12 +463,13 @@ pub(crate) fn range_value<A: Arrays, G: Gate>(
 /// # Errors
 /// The fault of an operand.
 #[cycle(truth)]
-pub(crate) fn truth_value<A: Arrays, G: Gate>(
+pub(crate) fn truth_value<G: Team>(
     e: &BoolExpr<'_>,
-    frame: &Frame<A>,
+    frame: &Frame<G::Kept>,
     gate: &G,
     turn: &mut Turn,
 ) -> Result<Truth, Alarm>
+    requires ready { G.is_ready gate.now }
     ensures { Tells (MayRefuseReduction (G.may_refuse gate.now) frame.now (EachInTruth e.now)) TruthValue turn.new result (truth_in frame.now e.now) }
 {
     match e {

@@ -15,22 +15,23 @@ ghost use Rattle.dpl_values.specs.Meanings.{int_at, truth_at};
 use crate::comparison::holds;
 use crate::domain::found;
 use crate::expression::{operand as scalar_operand, truth_value};
+use crate::team::Team;
 use dpl_domain::Index;
 use dpl_frame::{Alarm, Arrays, DomainWord, FaultCode, Frame, Truth, Turn};
-use dpl_loop::Gate;
 use dpl_nodes::{PromotedInt, PromotedTruth};
 use dpl_strips::number::{difference, negative, product, quotient, remainder, sum};
 
 // An operand: an element or a scalar at once, and else by a walk.
 #[cycle(walk)]
 #[inline(always)]
-pub(crate) fn operand<A: Arrays, G: Gate>(
+pub(crate) fn operand<G: Team>(
     e: &PromotedInt<'_>,
     index: &Index,
-    frame: &Frame<A>,
+    frame: &Frame<G::Kept>,
     gate: &G,
     turn: &mut Turn,
 ) -> Result<i64, Alarm>
+    requires ready { G.is_ready gate.now }
     ensures { Tells (MayRefuseReduction (G.may_refuse gate.now) frame.now (EachInInts e.now)) Int turn.new result (int_at frame.now e.now index.now) }
 {
     match e {
@@ -50,13 +51,14 @@ pub(crate) fn operand<A: Arrays, G: Gate>(
 /// # Errors
 /// `F1` at the name of an array that hasn't the index, and `F2` at a division by zero.
 #[cycle(walk)]
-pub(crate) fn promoted_int_value<A: Arrays, G: Gate>(
+pub(crate) fn promoted_int_value<G: Team>(
     e: &PromotedInt<'_>,
     index: &Index,
-    frame: &Frame<A>,
+    frame: &Frame<G::Kept>,
     gate: &G,
     turn: &mut Turn,
 ) -> Result<i64, Alarm>
+    requires ready { G.is_ready gate.now }
     ensures { Tells (MayRefuseReduction (G.may_refuse gate.now) frame.now (EachInInts e.now)) Int turn.new result (int_at frame.now e.now index.now) }
 {
     match e {
@@ -102,13 +104,14 @@ pub(crate) fn promoted_int_value<A: Arrays, G: Gate>(
 /// # Errors
 /// The fault of an operand, and `F1` at the name of an array that hasn't the index.
 #[cycle(truth)]
-pub(crate) fn promoted_truth_value<A: Arrays, G: Gate>(
+pub(crate) fn promoted_truth_value<G: Team>(
     e: &PromotedTruth<'_>,
     index: &Index,
-    frame: &Frame<A>,
+    frame: &Frame<G::Kept>,
     gate: &G,
     turn: &mut Turn,
 ) -> Result<Truth, Alarm>
+    requires ready { G.is_ready gate.now }
     ensures { Tells (MayRefuseReduction (G.may_refuse gate.now) frame.now (EachInTruths e.now)) TruthValue turn.new result
         (truth_at frame.now e.now index.now) }
 {

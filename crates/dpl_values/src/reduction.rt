@@ -1,33 +1,33 @@
-// Reductions: the values of a promoted expression at all indices of its domain, put together in their order by the loop of reductions.
-// The domain and the map are those of the first whole array in the expression.
+// Reductions: the values of a promoted expression at all indices of its domain, put together by a team that has workers, and else in their
+// order by the loop of reductions. The domain and the map are those of the first whole array in the expression.
 
 ghost use Rattle.std.specs.Prelude.{◌≡◌, ◌⊎◌, Some, Result};
 ghost use Rattle.dpl_language.specs.Values.{Value, Fault, Index as IndexValue, Int, Truth as TruthValue};
-ghost use Rattle.dpl_language.specs.Expressions.{whole_in, fold_over, reduction};
-ghost use Rattle.dpl_lowered.specs.LoweredExpressions.{EachTurn};
-ghost use Rattle.dpl_memory.specs.Memory.{array_at, in_memory};
-ghost use Rattle.dpl_nodes.specs.Typed.{promoted_int, promoted_truth, int_fold_view, truth_fold_view};
+ghost use Rattle.dpl_language.specs.Expressions.{fold_over};
+ghost use Rattle.dpl_memory.specs.Memory.{array_at};
+ghost use Rattle.dpl_nodes.specs.Typed.{int_fold_view, truth_fold_view};
 ghost use Rattle.dpl_frame.specs.Frames.{owned_by};
 ghost use Rattle.dpl_frame.specs.Faults.{Tells};
 ghost use Rattle.dpl_loop.specs.Entries.{MayRefuse};
 ghost use Rattle.dpl_loop.specs.Values.{AnswersTell, MayAnswerRefused, HoldsStrip, StripsTell};
-ghost use Rattle.dpl_values.specs.Reducing.{first_of_ints, first_of_truths};
-ghost use Rattle.dpl_values.specs.Reductions.{MayRefuseReduction, OfSlot, EachInInts, EachInTruths};
+ghost use Rattle.dpl_values.specs.Reductions.{MayRefuseReduction, EachInInts, EachInTruths};
 ghost use Rattle.dpl_values.specs.Meanings.{int_at, truth_at};
+ghost use Rattle.dpl_values.specs.Teams.{TellsInts, TellsTruths};
 
 use crate::budget::within_turns;
 use crate::fold::{combined_ints, combined_truths, int_over_none, truth_over_none};
 use crate::promoted::{int_array, operand, promoted_truth_value, truth_array};
+use crate::team::Team;
 use dpl_domain::Index;
 use dpl_frame::{Alarm, Arrays, Frame, Truth, Turn};
 use dpl_loop::{Gate, Operator, Strip, reduce, reduce_ints};
 use dpl_nodes::{IntFold, PromotedInt, PromotedTruth, Spot, TruthFold};
 use dpl_strips::promoted_strip;
 
-// An operator on ints.
+/// An operator on ints.
 #[derive(Clone, Copy)]
-struct Ints {
-    fold: IntFold,
+pub(crate) struct Ints {
+    pub(crate) fold: IntFold,
 }
 
 impl Operator for Ints {
@@ -139,18 +139,36 @@ fn folded_ints<
 /// gate refused the entry of an index's owner. No gate is asked for the value at an index.
 #[cycle(walk)]
 #[inline(never)]
-pub(crate) fn reduced_int<A: Arrays, G: Gate>(
+pub(crate) fn reduced_int<G: Team>(
     fold: IntFold,
     e: &PromotedInt<'_>,
     at: &Spot,
-    frame: &Frame<A>,
+    frame: &Frame<G::Kept>,
     gate: &G,
     turn: &mut Turn,
 ) -> Result<i64, Alarm>
-    ensures { Tells (MayRefuseReduction (G.may_refuse gate.now) frame.now (λ Holds. OfSlot (first_of_ints e.now) Holds
-        × EachInInts e.now Holds)) Int turn.new result
-        (reduction frame.now.limits.budget at.now (int_fold_view fold) (λ i. int_at frame.now e.now i)
-        (whole_in frame.now.limits in_memory (promoted_int EachTurn e.now) frame.now.memory)) }
+    requires ready { G.is_ready gate.now }
+    ensures { TellsInts (G.may_refuse gate.now) frame.now fold e.now at.now turn.new result }
+{
+    if let Some(reduced) = gate.reduced_int(fold, e, at, frame, turn) {
+        return reduced;
+    }
+    reduced_int_here(fold, e, at, frame, gate, turn)
+}
+
+// The same by whoever walks.
+#[cycle(walk)]
+#[inline(never)]
+fn reduced_int_here<G: Team>(
+    fold: IntFold,
+    e: &PromotedInt<'_>,
+    at: &Spot,
+    frame: &Frame<G::Kept>,
+    gate: &G,
+    turn: &mut Turn,
+) -> Result<i64, Alarm>
+    requires ready { G.is_ready gate.now }
+    ensures { TellsInts (G.may_refuse gate.now) frame.now fold e.now at.now turn.new result }
 {
     let Some(slot) = int_array(e) else {
         return Ok(int_over_none(fold));
@@ -158,6 +176,7 @@ pub(crate) fn reduced_int<A: Arrays, G: Gate>(
     let domain = frame.array_domain(slot);
     within_turns(&domain, at, frame, turn)?;
     let item_at = |index: Index, turn: &mut Turn| -> Result<i64, Alarm>
+        requires { G.is_ready gate.now }
         ensures { Tells (MayRefuseReduction (G.may_refuse gate.entry.now) frame.entry.now (EachInInts e.entry.now)) Int turn.new result
             (int_at frame.entry.now e.entry.now index) }
     { operand(e, &index, frame, gate, turn) };
@@ -173,18 +192,36 @@ pub(crate) fn reduced_int<A: Arrays, G: Gate>(
 /// As for ints.
 #[cycle(truth)]
 #[inline(never)]
-pub(crate) fn reduced_truth<A: Arrays, G: Gate>(
+pub(crate) fn reduced_truth<G: Team>(
     fold: TruthFold,
     e: &PromotedTruth<'_>,
     at: &Spot,
-    frame: &Frame<A>,
+    frame: &Frame<G::Kept>,
     gate: &G,
     turn: &mut Turn,
 ) -> Result<Truth, Alarm>
-    ensures { Tells (MayRefuseReduction (G.may_refuse gate.now) frame.now (λ Holds. OfSlot (first_of_truths e.now) Holds
-        × EachInTruths e.now Holds)) TruthValue turn.new result
-        (reduction frame.now.limits.budget at.now (truth_fold_view fold) (λ i. truth_at frame.now e.now i)
-        (whole_in frame.now.limits in_memory (promoted_truth EachTurn e.now) frame.now.memory)) }
+    requires ready { G.is_ready gate.now }
+    ensures { TellsTruths (G.may_refuse gate.now) frame.now fold e.now at.now turn.new result }
+{
+    if let Some(reduced) = gate.reduced_truth(fold, e, at, frame, turn) {
+        return reduced;
+    }
+    reduced_truth_here(fold, e, at, frame, gate, turn)
+}
+
+// The same by whoever walks.
+#[cycle(truth)]
+#[inline(never)]
+fn reduced_truth_here<G: Team>(
+    fold: TruthFold,
+    e: &PromotedTruth<'_>,
+    at: &Spot,
+    frame: &Frame<G::Kept>,
+    gate: &G,
+    turn: &mut Turn,
+) -> Result<Truth, Alarm>
+    requires ready { G.is_ready gate.now }
+    ensures { TellsTruths (G.may_refuse gate.now) frame.now fold e.now at.now turn.new result }
 {
     let Some(slot) = truth_array(e) else {
         return Ok(Truth::new(truth_over_none(fold)));
@@ -192,6 +229,7 @@ pub(crate) fn reduced_truth<A: Arrays, G: Gate>(
     let domain = frame.array_domain(slot);
     within_turns(&domain, at, frame, turn)?;
     let item_at = |index: Index, turn: &mut Turn| -> Result<Truth, Alarm>
+        requires { G.is_ready gate.now }
         ensures { Tells (MayRefuseReduction (G.may_refuse gate.entry.now) frame.entry.now (EachInTruths e.entry.now)) TruthValue turn.new result
             (truth_at frame.entry.now e.entry.now index) }
     { promoted_truth_value(e, &index, frame, gate, turn) };

@@ -12,6 +12,7 @@ ghost use Rattle.dpl_values.specs.Starts.{value_or_none, blocks_or_none};
 ghost use Rattle.dpl_values.specs.Meanings.{domain_in};
 
 use crate::expression::domain_value;
+use crate::team::Alone;
 use crate::values::index_value;
 use dpl_domain::Index;
 use dpl_frame::{Arrays, Distribution, DomainWord, Frame, Trap, Turn};
@@ -28,7 +29,7 @@ fn domain_argument<A: Arrays>(
     ensures { IfOk result (λ found. domain_in frame.now d.now ≡ of_domain found) }
 {
     let mut turn = Turn::Absent;
-    match domain_value(d, frame, &OpenGate, &mut turn) {
+    match domain_value(d, frame, &Alone::at(&OpenGate), &mut turn) {
         Ok(domain) => Ok(Ok(domain)),
         Err(alarm) => {
             if alarm.is_out_of_memory() {
@@ -51,7 +52,7 @@ fn start<A: Arrays>(e: &StartExpr<'_>, frame: &Frame<A>) -> Result<Option<Index>
     ensures { IfOk result (λ found. found ≡ value_or_none (start_of frame.now.limits in_memory (start_view e.now) frame.now.memory)) }
 {
     match e {
-        StartExpr::Index(t) => match index_value(t, frame, &OpenGate) {
+        StartExpr::Index(t) => match index_value(t, frame, &Alone::at(&OpenGate)) {
             Ok(index) => Ok(Some(index)),
             Err(Stop::Fault(_)) => Ok(None),
             Err(_) => Err(AllocError),

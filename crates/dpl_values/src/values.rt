@@ -10,10 +10,11 @@ ghost use Rattle.dpl_values.specs.Reductions.{MayRefuseReduction, EachInInt, Eac
 ghost use Rattle.dpl_values.specs.Meanings.{int_in, truth_in, range_in, domain_in, index_in, literal_in, int_at, truth_at};
 
 use crate::expression::operand;
+use crate::team::Team;
 use crate::{expression, promoted};
 use dpl_domain::Index;
-use dpl_frame::{Arrays, DomainWord, FaultCode, Frame, RangeWord, Trap, Truth, Turn};
-use dpl_loop::{Gate, Stop};
+use dpl_frame::{DomainWord, FaultCode, Frame, RangeWord, Trap, Truth, Turn};
+use dpl_loop::Stop;
 use dpl_nodes::{
     BoolExpr, DomainExpr, IndexExpr, IntExpr, PromotedInt, PromotedTruth, RangeExpr, RangesExpr,
     Spot,
@@ -25,11 +26,8 @@ use dpl_nodes::{
 /// The fault of a part: `F2` at a division by zero, `F4` at an end of an empty range, `F1` at an array's name, `F5` at `reduce`;
 /// or the gate refused an entry of a reduction, as for each value here.
 #[inline(always)]
-pub fn int_value<A: Arrays, G: Gate>(
-    e: &IntExpr<'_>,
-    frame: &Frame<A>,
-    gate: &G,
-) -> Result<i64, Stop>
+pub fn int_value<G: Team>(e: &IntExpr<'_>, frame: &Frame<G::Kept>, gate: &G) -> Result<i64, Stop>
+    requires ready { G.is_ready gate.now }
     ensures { Gives (MayRefuseReduction (G.may_refuse gate.now) frame.now (EachInInt e.now)) Int result (int_in frame.now e.now) }
 {
     let mut turn = Turn::Absent;
@@ -43,11 +41,12 @@ pub fn int_value<A: Arrays, G: Gate>(
 ///
 /// # Errors
 /// The fault of an operand.
-pub fn truth_value<A: Arrays, G: Gate>(
+pub fn truth_value<G: Team>(
     e: &BoolExpr<'_>,
-    frame: &Frame<A>,
+    frame: &Frame<G::Kept>,
     gate: &G,
 ) -> Result<Truth, Stop>
+    requires ready { G.is_ready gate.now }
     ensures { Gives (MayRefuseReduction (G.may_refuse gate.now) frame.now (EachInTruth e.now)) TruthValue result (truth_in frame.now e.now) }
 {
     let mut turn = Turn::Absent;
@@ -61,11 +60,12 @@ pub fn truth_value<A: Arrays, G: Gate>(
 ///
 /// # Errors
 /// `F3` at the dots for a bound or a count past its limit, and at `by` for a stride; the fault of a part.
-pub fn range_value<A: Arrays, G: Gate>(
+pub fn range_value<G: Team>(
     e: &RangeExpr<'_>,
-    frame: &Frame<A>,
+    frame: &Frame<G::Kept>,
     gate: &G,
 ) -> Result<RangeWord, Stop>
+    requires ready { G.is_ready gate.now }
     ensures { Gives (MayRefuseReduction (G.may_refuse gate.now) frame.now (EachInRange e.now)) as_range result (range_in frame.now e.now) }
 {
     let mut turn = Turn::Absent;
@@ -79,11 +79,12 @@ pub fn range_value<A: Arrays, G: Gate>(
 ///
 /// # Errors
 /// `F3` at the opening bracket for too many indices, and at `expand` for these or for a bound past its limit; the fault of a part.
-pub fn domain_value<A: Arrays, G: Gate>(
+pub fn domain_value<G: Team>(
     e: &DomainExpr<'_>,
-    frame: &Frame<A>,
+    frame: &Frame<G::Kept>,
     gate: &G,
 ) -> Result<DomainWord, Stop>
+    requires ready { G.is_ready gate.now }
     ensures { Gives (MayRefuseReduction (G.may_refuse gate.now) frame.now (EachInDomain e.now)) DomainValue result (domain_in frame.now e.now) }
 {
     let mut turn = Turn::Absent;
@@ -97,11 +98,12 @@ pub fn domain_value<A: Arrays, G: Gate>(
 ///
 /// # Errors
 /// The fault of a coordinate.
-pub fn index_value<A: Arrays, G: Gate>(
+pub fn index_value<G: Team>(
     t: &IndexExpr<'_>,
-    frame: &Frame<A>,
+    frame: &Frame<G::Kept>,
     gate: &G,
 ) -> Result<Index, Stop>
+    requires ready { G.is_ready gate.now }
     ensures { Gives (MayRefuseReduction (G.may_refuse gate.now) frame.now (EachInIndex t.now)) (λ t. t) result (index_in frame.now t.now) }
 {
     let mut turn = Turn::Absent;
@@ -115,12 +117,13 @@ pub fn index_value<A: Arrays, G: Gate>(
 ///
 /// # Errors
 /// The fault of a range; `F3` at the opening bracket for too many indices.
-pub fn literal<A: Arrays, G: Gate>(
+pub fn literal<G: Team>(
     at: &Spot,
     ranges: &RangesExpr<'_>,
-    frame: &Frame<A>,
+    frame: &Frame<G::Kept>,
     gate: &G,
 ) -> Result<DomainWord, Stop>
+    requires ready { G.is_ready gate.now }
     ensures { Gives (MayRefuseReduction (G.may_refuse gate.now) frame.now (EachInRanges ranges.now)) DomainValue result
         (literal_in frame.now at.now ranges.now) }
 {
@@ -148,12 +151,13 @@ pub fn sized(at: &Spot, domain: Option<DomainWord>) -> Result<DomainWord, Trap>
 ///
 /// # Errors
 /// `F1` at the name of an array that hasn't the index; the fault of a part.
-pub fn promoted_int_value<A: Arrays, G: Gate>(
+pub fn promoted_int_value<G: Team>(
     e: &PromotedInt<'_>,
     index: &Index,
-    frame: &Frame<A>,
+    frame: &Frame<G::Kept>,
     gate: &G,
 ) -> Result<i64, Stop>
+    requires ready { G.is_ready gate.now }
     ensures { Gives (MayRefuseReduction (G.may_refuse gate.now) frame.now (EachInInts e.now)) Int result (int_at frame.now e.now index.now) }
 {
     let mut turn = Turn::Absent;
@@ -167,12 +171,13 @@ pub fn promoted_int_value<A: Arrays, G: Gate>(
 ///
 /// # Errors
 /// `F1` at the name of an array that hasn't the index; the fault of a part.
-pub fn promoted_truth_value<A: Arrays, G: Gate>(
+pub fn promoted_truth_value<G: Team>(
     e: &PromotedTruth<'_>,
     index: &Index,
-    frame: &Frame<A>,
+    frame: &Frame<G::Kept>,
     gate: &G,
 ) -> Result<Truth, Stop>
+    requires ready { G.is_ready gate.now }
     ensures { Gives (MayRefuseReduction (G.may_refuse gate.now) frame.now (EachInTruths e.now)) TruthValue result (truth_at frame.now e.now index.now) }
 {
     let mut turn = Turn::Absent;

@@ -98,8 +98,8 @@ expression::truth_value-returns-in-Reduced g t c =
     (wider (λ Holds. OfSlot (first_of_truths c.in-Reduced.e.now) Holds × EachInTruths c.in-Reduced.e.now Holds) (EachInTruth c.args.e.now) (λ Holds all. subst (λ e. EachInTruth e Holds) c.in-Reduced.is all))
     (ap (λ e. value_of limits in_memory (truth_view e) None w) c.in-Reduced.is) c.reduced_truth.ensures
 
-pub reduction::reduced_truth-returns-in_default : goal.reduction::reduced_truth-returns-in_default
-reduction::reduced_truth-returns-in_default g t c =
+pub reduction::reduced_truth_here-returns-in_default : goal.reduction::reduced_truth_here-returns-in_default
+reduction::reduced_truth_here-returns-in_default g t c =
     let limits = c.args.frame.now.limits in
     let w = c.args.frame.now.memory in
     let op = truth_fold_view c.args.fold in
@@ -107,8 +107,8 @@ reduction::reduced_truth-returns-in_default g t c =
     ap (reduction limits.budget c.args.at.now op value) (truths_whole limits w c.args.e.now ∙ ap (option_map (λ slot. (array_at slot w).ranges)) (sym c.truth_array.ensures ∙ c.in_default.is))
     ∙ ap (λ v. Ok v) (sym c.truth_over_none.ensures) ∙ search rules
 
-pub reduction::reduced_truth-returns-in_err-within_turns : goal.reduction::reduced_truth-returns-in_err-within_turns
-reduction::reduced_truth-returns-in_err-within_turns g t c =
+pub reduction::reduced_truth_here-returns-in_err-within_turns : goal.reduction::reduced_truth_here-returns-in_err-within_turns
+reduction::reduced_truth_here-returns-in_err-within_turns g t c =
     let limits = c.args.frame.now.limits in
     let w = c.args.frame.now.memory in
     let op = truth_fold_view c.args.fold in
@@ -120,8 +120,8 @@ reduction::reduced_truth-returns-in_err-within_turns g t c =
     ∙ reduction-within limits c.args.at.now op value c.array_domain-domain.result)
     c.in_err-within_turns.ensures)
 
-pub reduction::reduced_truth-returns : goal.reduction::reduced_truth-returns
-reduction::reduced_truth-returns g t c =
+pub reduction::reduced_truth_here-returns : goal.reduction::reduced_truth_here-returns
+reduction::reduced_truth_here-returns g t c =
     let wider = refused-within (g.G.Gate.may_refuse c.args.gate.now) c.args.frame.now in
     let limits = c.args.frame.now.limits in
     let w = c.args.frame.now.memory in

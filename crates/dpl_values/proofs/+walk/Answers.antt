@@ -192,8 +192,8 @@ promoted::promoted_int_value-returns-in-Scalar g t c =
     c.operand.ensures
 
 -- ---- reductions
-pub reduction::reduced_int-returns-in_default : goal.reduction::reduced_int-returns-in_default
-reduction::reduced_int-returns-in_default g t c =
+pub reduction::reduced_int_here-returns-in_default : goal.reduction::reduced_int_here-returns-in_default
+reduction::reduced_int_here-returns-in_default g t c =
     let limits = c.args.frame.now.limits in
     let w = c.args.frame.now.memory in
     let op = int_fold_view c.args.fold in
@@ -201,8 +201,8 @@ reduction::reduced_int-returns-in_default g t c =
     ap (reduction limits.budget c.args.at.now op value) (ints_whole limits w c.args.e.now ∙ ap (option_map (λ slot. (array_at slot w).ranges)) (sym c.int_array.ensures ∙ c.in_default.is))
     ∙ ap (λ v. Ok v) (sym c.int_over_none.ensures) ∙ search rules
 
-pub reduction::reduced_int-returns-in_err-within_turns : goal.reduction::reduced_int-returns-in_err-within_turns
-reduction::reduced_int-returns-in_err-within_turns g t c =
+pub reduction::reduced_int_here-returns-in_err-within_turns : goal.reduction::reduced_int_here-returns-in_err-within_turns
+reduction::reduced_int_here-returns-in_err-within_turns g t c =
     let limits = c.args.frame.now.limits in
     let w = c.args.frame.now.memory in
     let op = int_fold_view c.args.fold in
@@ -214,8 +214,8 @@ reduction::reduced_int-returns-in_err-within_turns g t c =
     ∙ reduction-within limits c.args.at.now op value c.array_domain-domain.result)
     c.in_err-within_turns.ensures)
 
-pub reduction::reduced_int-returns : goal.reduction::reduced_int-returns
-reduction::reduced_int-returns g t c =
+pub reduction::reduced_int_here-returns : goal.reduction::reduced_int_here-returns
+reduction::reduced_int_here-returns g t c =
     let wider = refused-within (g.G.Gate.may_refuse c.args.gate.now) c.args.frame.now in
     let limits = c.args.frame.now.limits in
     let w = c.args.frame.now.memory in

@@ -1,62 +1,65 @@
--- A walk goes down a tree. Of one tree a reduction comes before the function that gives its items, that before an operand, and an operand
--- before the walk itself.
+-- A walk goes down a tree. Of one tree a reduction comes before what whoever walks does of it, that before the function that gives its
+-- items, that before an operand, and an operand before the walk itself.
 use Rattle.std.proofs.Common.{◌+◌, ◌*◌}
 use Rattle.dpl_nodes.specs.declared.tree.PromotedInt.{size-PromotedInt}
 use Rattle.dpl_values.proofs.+walk.Given as goal
 
 abbrev pub decreases-expression::coordinate_value : goal.decreases-expression::coordinate_value
-decreases-expression::coordinate_value g l = 4 * goal.size-expression::coordinate_value g l + 1
+decreases-expression::coordinate_value g l = 5 * goal.size-expression::coordinate_value g l + 1
 
 abbrev pub decreases-expression::count_of : goal.decreases-expression::count_of
-decreases-expression::count_of g l = 4 * goal.size-expression::count_of g l + 1
+decreases-expression::count_of g l = 5 * goal.size-expression::count_of g l + 1
 
 abbrev pub decreases-expression::cut : goal.decreases-expression::cut
-decreases-expression::cut g l = 4 * goal.size-expression::cut g l
+decreases-expression::cut g l = 5 * goal.size-expression::cut g l
 
 abbrev pub decreases-expression::domain_value : goal.decreases-expression::domain_value
-decreases-expression::domain_value g l = 4 * goal.size-expression::domain_value g l
+decreases-expression::domain_value g l = 5 * goal.size-expression::domain_value g l
 
 abbrev pub decreases-expression::element : goal.decreases-expression::element
-decreases-expression::element g l = 4 * goal.size-expression::element g l
+decreases-expression::element g l = 5 * goal.size-expression::element g l
 
 abbrev pub decreases-expression::first_of : goal.decreases-expression::first_of
-decreases-expression::first_of g l = 4 * goal.size-expression::first_of g l + 1
+decreases-expression::first_of g l = 5 * goal.size-expression::first_of g l + 1
 
 abbrev pub decreases-expression::high_of : goal.decreases-expression::high_of
-decreases-expression::high_of g l = 4 * goal.size-expression::high_of g l + 1
+decreases-expression::high_of g l = 5 * goal.size-expression::high_of g l + 1
 
 abbrev pub decreases-expression::int_value : goal.decreases-expression::int_value
-decreases-expression::int_value g l = 4 * goal.size-expression::int_value g l
+decreases-expression::int_value g l = 5 * goal.size-expression::int_value g l
 
 abbrev pub decreases-expression::last_of : goal.decreases-expression::last_of
-decreases-expression::last_of g l = 4 * goal.size-expression::last_of g l + 1
+decreases-expression::last_of g l = 5 * goal.size-expression::last_of g l + 1
 
 abbrev pub decreases-expression::literal : goal.decreases-expression::literal
-decreases-expression::literal g l = 4 * goal.size-expression::literal g l
+decreases-expression::literal g l = 5 * goal.size-expression::literal g l
 
 abbrev pub decreases-expression::low_of : goal.decreases-expression::low_of
-decreases-expression::low_of g l = 4 * goal.size-expression::low_of g l + 1
+decreases-expression::low_of g l = 5 * goal.size-expression::low_of g l + 1
 
 abbrev pub decreases-expression::operand : goal.decreases-expression::operand
-decreases-expression::operand g l = 4 * goal.size-expression::operand g l + 1
+decreases-expression::operand g l = 5 * goal.size-expression::operand g l + 1
 
 abbrev pub decreases-expression::range_value : goal.decreases-expression::range_value
-decreases-expression::range_value g l = 4 * goal.size-expression::range_value g l
+decreases-expression::range_value g l = 5 * goal.size-expression::range_value g l
 
 abbrev pub decreases-expression::size_of : goal.decreases-expression::size_of
-decreases-expression::size_of g l = 4 * goal.size-expression::size_of g l + 1
+decreases-expression::size_of g l = 5 * goal.size-expression::size_of g l + 1
 
 abbrev pub decreases-expression::stridden : goal.decreases-expression::stridden
-decreases-expression::stridden g l = 4 * goal.size-expression::stridden g l
+decreases-expression::stridden g l = 5 * goal.size-expression::stridden g l
 
 abbrev pub decreases-promoted::operand : goal.decreases-promoted::operand
-decreases-promoted::operand g l = 4 * goal.size-promoted::operand g l + 1
+decreases-promoted::operand g l = 5 * goal.size-promoted::operand g l + 1
 
 abbrev pub decreases-promoted::promoted_int_value : goal.decreases-promoted::promoted_int_value
-decreases-promoted::promoted_int_value g l = 4 * goal.size-promoted::promoted_int_value g l
+decreases-promoted::promoted_int_value g l = 5 * goal.size-promoted::promoted_int_value g l
 
 abbrev pub decreases-reduction::reduced_int : goal.decreases-reduction::reduced_int
-decreases-reduction::reduced_int g l = 4 * goal.size-reduction::reduced_int g l + 3
+decreases-reduction::reduced_int g l = 5 * goal.size-reduction::reduced_int g l + 4
 
-abbrev pub decreases-reduction::reduced_int-item_at : goal.decreases-reduction::reduced_int-item_at
-decreases-reduction::reduced_int-item_at g l = 4 * size-PromotedInt l.e.now + 2
+abbrev pub decreases-reduction::reduced_int_here : goal.decreases-reduction::reduced_int_here
+decreases-reduction::reduced_int_here g l = 5 * goal.size-reduction::reduced_int_here g l + 3
+
+abbrev pub decreases-reduction::reduced_int_here-item_at : goal.decreases-reduction::reduced_int_here-item_at
+decreases-reduction::reduced_int_here-item_at g l = 5 * size-PromotedInt l.e.now + 2

@@ -5,11 +5,9 @@ use Rattle.std.proofs.lemmas.Int.{to_z-of_z}
 use Rattle.std.proofs.lemmas.Result.{err_from_is_err_and}
 use Rattle.dpl_sets.specs.Indices.{indices}
 use Rattle.dpl_array.specs.Elements.{behind}
-use Rattle.dpl_language.specs.Values.{Index}
-use Rattle.dpl_language.specs.Arithmetic.{combined}
-use Rattle.dpl_language.specs.Outcome.{naming_value}
 use Rattle.dpl_language.specs.Expressions.{folded}
-use Rattle.dpl_loop.proofs.Folding.{with_ok-ends, folded-at, folded-next}
+use Rattle.dpl_loop.specs.Folds.{in_turns}
+use Rattle.dpl_loop.proofs.Folding.{folded-next, operands-next, halts-at}
 use Rattle.dpl_loop.proofs.Order.{run-within}
 use Rattle.dpl_loop.proofs.strips.gone_on.Goals as goal
 
@@ -17,15 +15,12 @@ pub returns-in_err-item-clause-folds : goal.returns-in_err-item-clause-folds
 returns-in_err-item-clause-folds g c meaning answers strips =
     let op = g.O.Operator.op c.args.operator.now in
     let value = g.O.Operator.value in
-    let ts = indices c.args.domain.now in
     let k = c.args.place in
     let t = c.in-Some.index in
-    let named = λ (t : Index). naming_value t (meaning t) in
     let p = err_from_is_err_and c.from_residual.result c.from_residual.ensures.1 in
     rw (p.1, p.2)
-    (with_ok-ends _ _ value c.entered.new.turn c.in_err-item.field-0.0 (named t) (λ v. folded op named (drop (k + 1) ts) (combined op (value c.args.before) v)) _ value
+    (halts-at op (in_turns meaning) (indices c.args.domain.now) k t (value c.args.before) (sym c.in-Some.ensures) _ _ value c.entered.new.turn c.in_err-item.field-0.0
     (λ refused. ⊎_elim (λ may. inl (k, t, sym c.in-Some.ensures, may)) (λ answered. inr answered) refused)
-    (folded-at op named ts k t (value c.args.before) (sym c.in-Some.ensures))
     (c.in_err-item.ensures value meaning answers))
 
 pub returns-then-size-eq0-clause-folds : goal.returns-then-size-eq0-clause-folds
@@ -36,9 +31,14 @@ returns-then-size-eq0-clause-folds g c meaning answers strips =
     let item_fits : FitsSigned w64 c.in_ok-item.item = search rules in
     let before_fits : FitsSigned w64 c.args.before = c.ranges.before in
     let next_fits : FitsSigned w64 c.combined.result = search rules in
-    let combines = simp to_z-of_z at c.combined.ensures in
-    folded-next op (λ t. naming_value t (meaning t)) ts c.args.place c.in-Some.index (value c.args.before) (sym c.in-Some.ensures) (value c.in_ok-item.item) (value (to_z w64 (of_z w64 c.combined.result)))
-    (c.in_ok-item.ensures value meaning answers) (ap value (to_z-of_z w64 c.combined.result next_fits) ∙ combines)
+    let combines = simp to_z-of_z at c.combined.ensures.combined in
+    let operand = simp to_z-of_z at c.combined.ensures.operand in
+    let at = sym c.in-Some.ensures in
+    let is = c.in_ok-item.ensures value meaning answers in (
+      folded-next op (in_turns meaning) ts c.args.place c.in-Some.index (value c.args.before) at (value c.in_ok-item.item) (value (to_z w64 (of_z w64 c.combined.result))) is
+          (ap value (to_z-of_z w64 c.combined.result next_fits) ∙ combines),
+      operands-next op (in_turns meaning) ts c.args.place c.in-Some.index (value c.args.before) at (value c.in_ok-item.item) is operand,
+    )
 
 pub all_enter-requires-clause-within : goal.all_enter-requires-clause-within
 all_enter-requires-clause-within g c =
@@ -69,7 +69,9 @@ returns-clause-folds g c meaning answers strips =
     let tells = strips c.in-Some.index strip c.strip_at-strip.ensures in
     let before_fits : FitsSigned w64 c.args.before = c.ranges.before in
     let together_fits : FitsSigned w64 c.put_together.result = search rules in
-    let together = simp to_z-of_z at c.put_together.ensures in
-    ap (λ n. folded op (λ t. naming_value t (meaning t)) (drop (c.args.place + c.in_row-size.result) ts) (value n)) (to_z-of_z w64 c.put_together.result together_fits)
-    ∙ together meaning ts c.args.place c.in_row-size.ensures.strip tells.1
-    (λ k below. c.in_row-size.ensures.row c.in-Some.index (sym c.in-Some.ensures) k below ∙ ap (λ t. Some (behind k t)) (sym tells.0))
+    let together = simp to_z-of_z at c.put_together.ensures.folds in
+    let row = λ (k : _) (below : _). c.in_row-size.ensures.row c.in-Some.index (sym c.in-Some.ensures) k below ∙ ap (λ t. Some (behind k t)) (sym tells.0) in (
+      ap (λ n. folded op (in_turns meaning) (drop (c.args.place + c.in_row-size.result) ts) (value n)) (to_z-of_z w64 c.put_together.result together_fits)
+          ∙ together meaning ts c.args.place c.in_row-size.ensures.strip tells.1 row,
+      c.put_together.ensures.operands meaning ts c.args.place c.in_row-size.ensures.strip tells.1 row,
+    )
