@@ -6,7 +6,8 @@ use dpl_nodes::step::Else;
 use dpl_nodes::{Names, Step, TruthTarget};
 use std::alloc::{AllocError, Global};
 
-/// The arrays of which turns write elements outside of loops with variables, each once, since a body with such loops isn't made apart; and the numbers and the tuples in which the variables of the forall stand.
+/// The arrays of which turns write elements outside of loops with variables, each once, since a body with such loops isn't made apart; and
+/// the numbers and the tuples in which the variables of the forall stand.
 #[derive(Drop)]
 pub(crate) struct Changed {
     pub(crate) written: Vec<usize>,

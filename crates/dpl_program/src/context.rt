@@ -1,6 +1,7 @@
 // Statements outside of all foralls.
-// A forall is evaluated and tested here; its turns are made by the loop of foralls. None of these calls is inlined, so that the walk
-// of statements keeps no room for them: the compiler clears it at each statement.
+// What a forall runs over is evaluated and tested here; its turns, those of whole arrays and reductions are made by closures over the
+// runtime, by workers where they serve. None of these calls is inlined, so that the walk of statements keeps no room for them: the compiler
+// clears it at each statement.
 
 ghost use Rattle.std.specs.Prelude.{◌≡◌, None, [], ◌∷◌, map};
 ghost use Rattle.dpl_language.specs.Outcome.{Deeds};

@@ -91,8 +91,8 @@ fn run_planned<'t, R: Threads + Wait + Sync, G: Gate + Sync>(
     config: &Config,
     gate: &G,
 ) -> Result<Ended, Refused>
-    ensures ends { IfOk result (λ ended. AreKnownScopes planned.entry.scopes → AreLeft planned.entry.scopes → RanTo planned.entry.scopes (stmts_of stmts.now)
-        (exec_all (limits_of config.now) in_memory (steps_in Outside planned.entry.steps.now)
+    ensures ends { IfOk result (λ ended. AreKnownScopes planned.entry.scopes → AreLeft planned.entry.scopes
+        → RanTo planned.entry.scopes (stmts_of stmts.now) (exec_all (limits_of config.now) in_memory (steps_in Outside planned.entry.steps.now)
         (first_memory (start_of planned.entry.slots planned.entry.scopes (map (λ set. set.now) sets.now))) no_deeds) ended.outcome ended.text.items) }
     ensures unwritten { IfErr result (IsUnwritten (MayRefuseSome (G.may_refuse gate.now))) }
 {
